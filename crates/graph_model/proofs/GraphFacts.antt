@@ -1,0 +1,166 @@
+-- What holds of a graph whose items fit: its edges are between its lines, and its accesses are over spaces with points.
+use Rattle.std.proofs.Common.{◌≡◌, ℕ, zero, suc, ◌+◌, ◌-◌, ◌<◌, ◌≤◌, Bool, true, false, cond, ◌⊎◌, inl, inr, List, [], ◌∷◌, ◌++◌, length, map, refl, sym, ◌∙◌, ap, subst, length-append, arith}
+use Rattle.std.specs.Prelude.{Contains, filter_map, Option, Some, None, nat_le, is_some, slice_get, option_map}
+use Rattle.std.specs.Option.{option_map_or}
+use Rattle.std.specs.List.{list_any, slice_index_or}
+use Rattle.std.proofs.lemmas.Bool.{true≢false, or_parts, false_from_ne_true, leb-false}
+use Rattle.std.proofs.lemmas.Option.{none-some, same_Some, slice_get-get_or}
+use Rattle.std.proofs.lemmas.List.Elements.{Contains-append_left, Contains-append_right, Contains-append_cases, Contains-get_or}
+use Rattle.index_spaces.specs.Space.{points, interval_points, space_size, IsSpace}
+use Rattle.graph_model.specs.declared.decl.Decl.{Decl}
+use Rattle.graph_model.specs.declared.decl.Decl.TheVariants.{Space, Inst, Lock, Barrier}
+use Rattle.graph_model.specs.declared.verb.Edge.{Edge}
+use Rattle.graph_model.specs.declared.verb.EdgeKind.{EdgeKind}
+use Rattle.graph_model.specs.declared.verb.EdgeKind.TheVariants.{Passes, Ignores, Faults}
+use Rattle.graph_model.specs.declared.verb.Line.{Line}
+use Rattle.graph_model.specs.declared.verb.Why.{Why}
+use Rattle.graph_model.specs.declared.verb.Why.TheVariants as why
+use Rattle.graph_model.specs.declared.verb.Verb.{Verb}
+use Rattle.graph_model.specs.declared.verb.Verb.TheVariants.{User, Trigger, Cancel, Merge, MergeIgnore, Phase, Arrive, Acquire, Release, Fill, Copy, Reduce, Task}
+use Rattle.graph_model.specs.Graph.{GraphValue, is_phase_of, space_of, named_spaces, space_at}
+use Rattle.graph_model.specs.Access.{accesses, verb_accesses}
+use Rattle.graph_model.specs.Edges.{edge, last_place, edges_from_some, verb_edges, line_edges, edges_after, edges}
+use Rattle.graph_model.specs.Fits.{first_reason, line_tests, line_fault, line_unknown, named_lines, on_lines, access_unknown, DeclsFit, LinesFit, IsGraph}
+use Rattle.graph_model.proofs.ListFacts.{contains_none, contains_cases, contains_here, contains_from, passes_some, map_contains}
+use Rattle.graph_model.proofs.Changes.{HavePoints}
+
+no_first_by : (b : Bool) (w : Why) (ts : List (Bool × Why)) → cond b (Some w) (first_reason ts) ≡ None → (b ≡ false) × (first_reason ts ≡ None)
+no_first_by true w ts h = absurd (true≢false (ap is_some h))
+no_first_by false w ts h = (refl, h)
+
+-- where no reason refuses, each test fails
+pub none_first : (ts : List (Bool × Why)) → first_reason ts ≡ None → (t : Bool × Why) → Contains ts t → t.0 ≡ false
+none_first [] h t c = absurd (contains_none t c)
+none_first (s ∷ ts) h t c =
+    let p = no_first_by s.0 s.1 ts h in
+    elim (contains_cases s ts t c) [ inl e ↦ ap (λ (x : Bool × Why). x.0) (sym e) ∙ p.0 | inr r ↦ none_first ts p.1 t r ]
+
+-- a line that fits names lines that are there
+pub fits_known : (g : GraphValue) (l : Line) → line_fault g l ≡ None → line_unknown g l ≡ false
+fits_known g l h = none_first (line_tests g l) h (line_unknown g l, why.Unknown) (1, omega arith, refl)
+
+none_of : {X : Type 0} (t : X → Bool) (xs : List X) → list_any t xs ≡ false → (x : X) → Contains xs x → t x ≡ false
+none_of t xs h x c = false_from_ne_true (t x) (λ e. true≢false (sym (passes_some t xs x c e) ∙ h))
+
+pub named_below : (g : GraphValue) (l : Line) → line_fault g l ≡ None → (k : ℕ) → Contains (named_lines l.verb ++ on_lines l.on) k → k < length g.lines
+named_below g l h k c =
+    let parts = or_parts _ _ (fits_known g l h) in
+    leb-false (length g.lines) k (none_of (λ i. nat_le (length g.lines) i) (named_lines l.verb ++ on_lines l.on) parts.0 k c)
+
+-- the last place of a line that passes is below the number of lines
+last_place_below : (test : Verb → Bool) (n : ℕ) (ls : List Line) (found : Option ℕ) (k : ℕ) → last_place test n ls found ≡ Some k → (found ≡ Some k) ⊎ (k < n + length ls)
+last_place_below test n [] found k h = inl h
+last_place_below test n (l ∷ ls) found k h = elim (last_place_below test (n + 1) ls (cond (test l.verb) (Some n) found) k h) [
+  | inl e ↦ chosen (test l.verb) n (length ls) found k e
+  | inr b ↦ inr (let c : k < (n + 1) + length ls = b in omega arith)
+]
+  where
+    chosen : (b : Bool) (n m : ℕ) (found : Option ℕ) (k : ℕ) → cond b (Some n) found ≡ Some k → (found ≡ Some k) ⊎ (k < n + suc m)
+    chosen true n m found k e = inr (let s : n ≡ k = same_Some n k e in omega arith)
+    chosen false n m found k e = inl e
+
+-- both ends of an edge are at most a number
+abbrev pub EndsUpTo : ℕ → Edge → Type 0
+EndsUpTo n e = (e.from ≤ n) × (e.to ≤ n)
+
+one_edge : (n : ℕ) (e x : Edge) → EndsUpTo n e → Contains (e ∷ []) x → EndsUpTo n x
+one_edge n e x h c = elim (contains_cases e [] x c) [ inl s ↦ subst (EndsUpTo n) s h | inr r ↦ absurd (contains_none x r) ]
+
+some_edge : (n : ℕ) (kind : EdgeKind) (o : Option ℕ) (x : Edge) → ((k : ℕ) → o ≡ Some k → k ≤ n) → Contains (edges_from_some kind o n) x → EndsUpTo n x
+some_edge n kind None x h c = absurd (contains_none x c)
+some_edge n kind (Some k) x h c = one_edge n (edge k n kind) x (h k refl, omega arith) c
+
+map_edges : (n : ℕ) (kind : EdgeKind) (es : List ℕ) (x : Edge) → ((k : ℕ) → Contains es k → k ≤ n) → Contains (map (λ e. edge e n kind) es) x → EndsUpTo n x
+map_edges n kind es x h c = let m = map_contains (λ e. edge e n kind) es x c in subst (EndsUpTo n) m.2 (h m.0 m.1, (let r : n ≤ n = omega arith in r))
+
+verb_ends : (before : List Line) (v : Verb) → ((k : ℕ) → Contains (named_lines v) k → k ≤ length before) → (x : Edge) → Contains (verb_edges before (length before) v) x → EndsUpTo (length before) x
+verb_ends before (Merge events) h x c = map_edges (length before) Passes events x h c
+verb_ends before (MergeIgnore events) h x c = map_edges (length before) Ignores events x h c
+verb_ends before (Trigger u) h x c = one_edge (length before) (edge (length before) u Passes) x (omega arith, h u (contains_here u [])) c
+verb_ends before (Cancel u) h x c = one_edge (length before) (edge (length before) u Faults) x (omega arith, h u (contains_here u [])) c
+verb_ends before (Arrive p value) h x c = one_edge (length before) (edge (length before) p Passes) x (omega arith, h p (contains_here p [])) c
+verb_ends before (Phase b) h x c = some_edge (length before) Ignores (last_place (is_phase_of b) 0 before None) x
+    (λ k e. elim (last_place_below (is_phase_of b) 0 before None k e) [ inl n ↦ absurd (none-some k n) | inr l ↦ (let b : k < 0 + length before = l in omega arith) ]) c
+verb_ends before User h x c = absurd (contains_none x c)
+verb_ends before (Acquire l) h x c = absurd (contains_none x c)
+verb_ends before (Release q) h x c = absurd (contains_none x c)
+verb_ends before (Fill t s v) h x c = absurd (contains_none x c)
+verb_ends before (Copy a b s) h x c = absurd (contains_none x c)
+verb_ends before (Reduce o a b s) h x c = absurd (contains_none x c)
+verb_ends before (Task kernel) h x c = absurd (contains_none x c)
+
+pub line_ends : (decls : List Decl) (before : List Line) (l : Line) → line_fault (record { decls = decls; lines = before }) l ≡ None → (x : Edge) → Contains (line_edges before l) x → EndsUpTo (length before) x
+line_ends decls before l h x c =
+    let known : (k : ℕ) → Contains (named_lines l.verb ++ on_lines l.on) k → k ≤ length before = λ k m. (let b : k < length before = named_below (record { decls = decls; lines = before }) l h k m in omega arith) in
+    elim (Contains-append_cases (edges_from_some Passes l.on (length before)) (verb_edges before (length before) l.verb) x c) [
+      | inl a ↦ some_edge (length before) Passes l.on x (λ k e. known k (Contains-append_right (named_lines l.verb) (on_lines l.on) k (on_listed l.on k e))) a
+      | inr b ↦ verb_ends before l.verb (λ k m. known k (Contains-append_left (named_lines l.verb) (on_lines l.on) k m)) x b
+    ]
+  where
+    on_listed : (o : Option ℕ) (k : ℕ) → o ≡ Some k → Contains (on_lines o) k
+    on_listed None k e = absurd (none-some k e)
+    on_listed (Some j) k e = subst (λ z. Contains (j ∷ []) z) (same_Some j k e) (contains_here j [])
+
+after_ends : (decls : List Decl) (before ls : List Line) → LinesFit decls before ls → (x : Edge) → Contains (edges_after before ls) x → (x.from < length before + length ls) × (x.to < length before + length ls)
+after_ends decls before [] f x c = absurd (contains_none x c)
+after_ends decls before (l ∷ ls) f x c = elim (Contains-append_cases (line_edges before l) (edges_after (before ++ l ∷ []) ls) x c) [
+  | inl a ↦ (let e = line_ends decls before l f.1 x a in let from : x.from ≤ length before = e.0 in let to : x.to ≤ length before = e.1 in (omega arith, omega arith))
+  | inr b ↦ (let e = after_ends decls (before ++ l ∷ []) ls f.2 x b in
+      let more : length (before ++ l ∷ []) ≡ length before + 1 = length-append before (l ∷ []) in
+      let from : x.from < length (before ++ l ∷ []) + length ls = e.0 in let to : x.to < length (before ++ l ∷ []) + length ls = e.1 in (omega arith, omega arith))
+]
+
+-- the edges of a graph are between its lines
+pub edges_in_range : (g : GraphValue) → IsGraph g → (x : Edge) → Contains (edges g) x → (x.from < length g.lines) × (x.to < length g.lines)
+edges_in_range g f x c =
+    let e = after_ends g.decls [] g.lines f.lines x c in
+    let from : x.from < 0 + length g.lines = e.0 in let to : x.to < 0 + length g.lines = e.1 in (omega arith, omega arith)
+
+-- a space has a point
+pub space_has_points : (s : List (ℕ × ℕ)) → IsSpace s → 0 < space_size s
+space_has_points [] h = absurd (let l : 0 < 0 = h.0 in omega arith)
+space_has_points (i ∷ is) h =
+    let ordered : i.0 ≤ i.1 = h.1.1 in
+    let some : Contains (interval_points i) i.0 = subst (λ z. Contains (interval_points i) z) (let e : i.0 + 0 ≡ i.0 = omega arith in e) (contains_from i.0 (i.1 + 1 - i.0) 0 (omega arith)) in
+    let all : Contains (points (i ∷ is)) i.0 = Contains-append_left (interval_points i) (points is) i.0 some in
+    let at : all.0 < length (points (i ∷ is)) = all.1 in omega arith
+
+-- the declared spaces of declarations that fit are spaces
+spaces_are : (before ds : List Decl) → DeclsFit before ds → (x : List ℕ × List (ℕ × ℕ)) → Contains (filter_map space_of ds) x → IsSpace x.1
+spaces_are before [] f x c = absurd (contains_none x c)
+spaces_are before (Space name space ∷ ds) f x c = elim (contains_cases (name, space) (filter_map space_of ds) x c) [
+  | inl e ↦ subst (λ (y : List ℕ × List (ℕ × ℕ)). IsSpace y.1) e f.0.1
+  | inr r ↦ spaces_are (before ++ Space name space ∷ []) ds f.2 x r
+]
+spaces_are before (Inst name space fields ∷ ds) f x c = spaces_are (before ++ Inst name space fields ∷ []) ds f.2 x c
+spaces_are before (Lock name ∷ ds) f x c = spaces_are (before ++ Lock name ∷ []) ds f.2 x c
+spaces_are before (Barrier name count op first ∷ ds) f x c = spaces_are (before ++ Barrier name count op first ∷ []) ds f.2 x c
+
+-- a line of lines that fit fits after some of them
+pub fit_at : (decls : List Decl) (before ls : List Line) → LinesFit decls before ls → (k : ℕ) (l : Line) → slice_get ls k ≡ Some l → (b : List Line) × (line_fault (record { decls = decls; lines = b }) l ≡ None)
+fit_at decls before [] f k l h = absurd (none-some l h)
+fit_at decls before (m ∷ ls) f zero l h = (before, subst (λ x. line_fault (record { decls = decls; lines = before }) x ≡ None) (same_Some m l h) f.1)
+fit_at decls before (m ∷ ls) f (suc k) l h = fit_at decls (before ++ m ∷ []) ls f.2 k l h
+
+points_at : (g : GraphValue) → IsGraph g → (s : ℕ) → s < length (named_spaces g) → 0 < space_size (space_at g s)
+points_at g f s h =
+    let x = slice_index_or (named_spaces g) s ([], []) in
+    let at : slice_get (named_spaces g) s ≡ Some x = slice_get-get_or (named_spaces g) s ([], []) h in
+    let is : IsSpace x.1 = spaces_are [] g.decls f.decls x (Contains-get_or (named_spaces g) s ([], []) h) in
+    let same : x.1 ≡ space_at g s = sym (ap (λ (o : Option (List ℕ × List (ℕ × ℕ))). option_map_or (λ (y : List ℕ × List (ℕ × ℕ)). y.1) o []) at) in
+    subst (λ y. 0 < space_size y) same (space_has_points x.1 is)
+
+points_by : (g : GraphValue) → IsGraph g → (i : ℕ) (o : Option Line) → slice_get g.lines i ≡ o → HavePoints (space_at g) (option_map_or verb_accesses (option_map (λ (l : Line). l.verb) o) [])
+points_by g f i None e = λ a c. absurd (contains_none a c)
+points_by g f i (Some l) e = λ a c.
+    let b = fit_at g.decls [] g.lines f.lines i l e in
+    let g' : GraphValue = record { decls = g.decls; lines = b.0 } in
+    let parts = or_parts _ _ (fits_known g' l b.1) in
+    let more = or_parts _ _ parts.1 in
+    let known : access_unknown g' a ≡ false = none_of (access_unknown g') (verb_accesses l.verb) more.1 a c in
+    let ends = or_parts _ _ known in
+    points_at g f a.space (leb-false (length (named_spaces g)) a.space ends.1)
+
+-- the accesses of a line are over spaces with points
+pub accesses_have_points : (g : GraphValue) → IsGraph g → (i : ℕ) → HavePoints (space_at g) (accesses g i)
+accesses_have_points g f i = points_by g f i (slice_get g.lines i) refl

@@ -1,0 +1,120 @@
+-- The edges and the rows of a graph with one more line.
+use Rattle.std.proofs.Common.{◌≡◌, ℕ, suc, ◌+◌, ◌*◌, zero-add, ◌<◌, ◌≤◌, Bool, true, false, cond, ◌||◌, inl, inr, List, [], ◌∷◌, ◌++◌, length, map, refl, sym, ◌∙◌, ap, subst, append-nil, append_assoc, length-append, arith, get_or}
+use Rattle.std.specs.Prelude.{◌==◌, Contains, filter, sum_by, slice_index_or, Some, None}
+use Rattle.std.specs.List.{list_any}
+use Rattle.std.proofs.lemmas.List.Elements.{filter-append, Contains-append_left}
+use Rattle.std.proofs.lemmas.List.Folds.{list_any-append}
+use Rattle.std.proofs.lemmas.List.Sums.{sum_by-append, sum_by-le}
+use Rattle.graph_model.specs.declared.decl.Decl.{Decl}
+use Rattle.graph_model.specs.declared.mark.Mark.{Mark}
+use Rattle.graph_model.specs.declared.side.Side.TheVariants.{From, To}
+use Rattle.graph_model.specs.declared.verb.Edge.{Edge}
+use Rattle.graph_model.specs.declared.verb.Line.{Line}
+use Rattle.graph_model.specs.declared.verb.Verb.{Verb}
+use Rattle.graph_model.specs.declared.verb.Verb.TheVariants.{User, Trigger, Cancel, Merge, MergeIgnore, Phase, Arrive, Acquire, Release, Fill, Copy, Reduce, Task}
+use Rattle.graph_model.specs.Graph.{GraphValue, ends_user, is_release_of, arrival_weight, arrivals}
+use Rattle.graph_model.specs.Edges.{line_edges, edges_after, edges, edges_into, edges_out_of}
+use Rattle.graph_model.specs.Fits.{named_lines, on_lines, line_fault, with_decl, with_line}
+use Rattle.graph_model.specs.Rows.{RowsValue, NamesBelow, EndsBelow, mark_at, mark_after, mark_of, AddsRow, AreRowsOf}
+use Rattle.graph_model.proofs.GraphFacts.{line_ends, named_below}
+use Rattle.graph_model.proofs.ListFacts.{contains_here}
+
+edges_after_push : (before ls : List Line) (l : Line) → edges_after before (ls ++ l ∷ []) ≡ edges_after before ls ++ line_edges (before ++ ls) l
+edges_after_push before [] l = append-nil (line_edges before l) ∙ ap (λ xs. line_edges xs l) (sym (append-nil before))
+edges_after_push before (k ∷ ls) l =
+    ap (λ es. line_edges before k ++ es) (edges_after_push (before ++ k ∷ []) ls l ∙ ap (λ xs. edges_after (before ++ k ∷ []) ls ++ line_edges xs l) (append_assoc before (k ∷ []) ls))
+    ∙ sym (append_assoc (line_edges before k) (edges_after (before ++ k ∷ []) ls) (line_edges (before ++ k ∷ ls) l))
+
+-- the edges of one more line come last
+pub edges_push : (g : GraphValue) (l : Line) → edges (with_line g l) ≡ edges g ++ line_edges g.lines l
+edges_push g l = edges_after_push [] g.lines l
+
+into_push : (g : GraphValue) (l : Line) (i : ℕ) → edges_into (with_line g l) i ≡ edges_into g i ++ filter (λ e. e.to == i) (line_edges g.lines l)
+into_push g l i = ap (filter (λ (e : Edge). e.to == i)) (edges_push g l) ∙ filter-append (λ (e : Edge). e.to == i) (edges g) (line_edges g.lines l)
+
+from_push : (g : GraphValue) (l : Line) (i : ℕ) → edges_out_of (with_line g l) i ≡ edges_out_of g i ++ filter (λ e. e.from == i) (line_edges g.lines l)
+from_push g l i = ap (filter (λ (e : Edge). e.from == i)) (edges_push g l) ∙ filter-append (λ (e : Edge). e.from == i) (edges g) (line_edges g.lines l)
+
+any_push : (t : Line → Bool) (ls : List Line) (l : Line) → list_any t (ls ++ l ∷ []) ≡ (list_any t ls || t l)
+any_push t ls l = list_any-append t ls (l ∷ []) ∙ ap (λ b. list_any t ls || b) (last (t l))
+  where
+    last : (b : Bool) → (b || false) ≡ b
+    last true = refl
+    last false = refl
+
+abbrev mark_value : ℕ → Bool → Bool → Mark
+mark_value n e r = record { arrivals = n; ended = e; released = r }
+
+same_mark : (n n' : ℕ) (e e' r r' : Bool) → n ≡ n' → e ≡ e' → r ≡ r' → mark_value n e r ≡ mark_value n' e' r'
+same_mark n n' e e' r r' p q s = ap (λ x. mark_value x e r) p ∙ (ap (λ x. mark_value n' x r) q ∙ ap (λ x. mark_value n' e' x) s)
+
+mark_push : (g : GraphValue) (l : Line) (i : ℕ) → mark_of (with_line g l) i ≡ mark_after (mark_of g i) i l.verb
+mark_push g l i = same_mark _ _ _ _ _ _
+    (sum_by-append (λ (x : Line). arrival_weight i x.verb) g.lines (l ∷ []) ∙ ap (λ n. arrivals g i + n) (zero-add (arrival_weight i l.verb)))
+    (any_push (λ (x : Line). ends_user i x.verb) g.lines l)
+    (any_push (λ (x : Line). is_release_of i x.verb) g.lines l)
+
+-- the rows of a graph with one more line
+pub rows_push : (g : GraphValue) (l : Line) (old new : RowsValue) → AreRowsOf g old → AddsRow old new l.verb (line_edges g.lines l) → AreRowsOf (with_line g l) new
+rows_push g l old new a h =
+    let more : length (g.lines ++ l ∷ []) ≡ length g.lines + 1 = length-append g.lines (l ∷ []) in
+    record {
+      into_count = h.into_count ∙ (ap (λ n. n + 1) a.into_count ∙ sym more);
+      from_count = h.from_count ∙ (ap (λ n. n + 1) a.from_count ∙ sym more);
+      mark_count = h.mark_count ∙ (ap (λ n. n + 1) a.mark_count ∙ sym more);
+      into = λ i. h.into i ∙ (ap (λ es. es ++ filter (λ (e : Edge). e.to == i) (line_edges g.lines l)) (a.into i) ∙ sym (into_push g l i));
+      from = λ i. h.from i ∙ (ap (λ es. es ++ filter (λ (e : Edge). e.from == i) (line_edges g.lines l)) (a.from i) ∙ sym (from_push g l i));
+      mark = λ i. h.mark i ∙ (ap (λ m. mark_after m i l.verb) (a.mark i) ∙ sym (mark_push g l i));
+    }
+
+-- one more declaration changes no row
+pub rows_decl : (g : GraphValue) (d : Decl) (rows : RowsValue) → AreRowsOf g rows → AreRowsOf (with_decl g d) rows
+rows_decl g d rows a = record { into_count = a.into_count; from_count = a.from_count; mark_count = a.mark_count; into = a.into; from = a.from; mark = a.mark }
+
+-- what the rows ask of a line that fits
+pub from_below : (g : GraphValue) (l : Line) → line_fault g l ≡ None → EndsBelow From (line_edges g.lines l) (length g.lines + 1)
+from_below g l h = record { below = λ e c. (let b : e.from ≤ length g.lines = (line_ends g.decls g.lines l h e c).0 in omega arith) }
+
+pub to_below : (g : GraphValue) (l : Line) → line_fault g l ≡ None → EndsBelow To (line_edges g.lines l) (length g.lines + 1)
+to_below g l h = record { below = λ e c. (let b : e.to ≤ length g.lines = (line_ends g.decls g.lines l h e c).1 in omega arith) }
+
+names_below_by : (v : Verb) (n : ℕ) → ((k : ℕ) → Contains (named_lines v) k → k < n) → NamesBelow n v
+names_below_by User n h = tt
+names_below_by (Trigger u) n h = h u (contains_here u [])
+names_below_by (Cancel u) n h = h u (contains_here u [])
+names_below_by (Merge es) n h = tt
+names_below_by (MergeIgnore es) n h = tt
+names_below_by (Phase b) n h = tt
+names_below_by (Arrive p v) n h = h p (contains_here p [])
+names_below_by (Acquire l) n h = tt
+names_below_by (Release q) n h = h q (contains_here q [])
+names_below_by (Fill t s v) n h = tt
+names_below_by (Copy a b s) n h = tt
+names_below_by (Reduce o a b s) n h = tt
+names_below_by (Task k) n h = tt
+
+pub names_below : (g : GraphValue) (l : Line) → line_fault g l ≡ None → NamesBelow (length g.lines) l.verb
+names_below g l h = names_below_by l.verb (length g.lines) (λ k c. named_below g l h k (Contains-append_left (named_lines l.verb) (on_lines l.on) k c))
+
+one_or_none : (b : Bool) → cond b 1 0 ≤ 1
+one_or_none true = omega arith
+one_or_none false = omega arith
+
+weight_few : (p : ℕ) (v : Verb) → arrival_weight p v ≤ 1
+weight_few p User = omega arith
+weight_few p (Trigger u) = omega arith
+weight_few p (Cancel u) = omega arith
+weight_few p (Merge es) = omega arith
+weight_few p (MergeIgnore es) = omega arith
+weight_few p (Phase b) = omega arith
+weight_few p (Arrive q v) = one_or_none (q == p)
+weight_few p (Acquire l) = omega arith
+weight_few p (Release q) = omega arith
+weight_few p (Fill t s v) = omega arith
+weight_few p (Copy a b s) = omega arith
+weight_few p (Reduce o a b s) = omega arith
+weight_few p (Task k) = omega arith
+
+-- there are no more arrivals than lines
+pub few_arrivals : (p : ℕ) (ls : List Line) → sum_by (λ l. arrival_weight p l.verb) ls ≤ length ls
+few_arrivals p ls = let b : sum_by (λ (l : Line). arrival_weight p l.verb) ls ≤ length ls * 1 = sum_by-le (λ (l : Line). arrival_weight p l.verb) 1 ls (λ k d below. weight_few p (get_or ls k d).verb) in omega arith

@@ -1,0 +1,194 @@
+-- What the tables of a graph give, and that its numbers are within the limits.
+use Rattle.std.proofs.Common.{◌≡◌, ℕ, zero, suc, ◌+◌, ◌<◌, ◌≤◌, Bool, false, ◌||◌, inl, inr, List, [], ◌∷◌, ◌++◌, length, refl, sym, ◌∙◌, ap, subst, append_assoc, length-append, arith, get_or}
+use Rattle.std.specs.Prelude.{Contains, filter, filter_map, flat_map, Option, Some, None, option_map, slice_get, nat_lt}
+use Rattle.std.specs.List.{cons_option}
+use Rattle.std.specs.Option.{option_map_or}
+use Rattle.std.proofs.lemmas.Bool.{or_parts, ltb-false, leb-false}
+use Rattle.std.proofs.lemmas.Option.{none-some, same_Some, slice_get_within, get_or_from_slice_get, slice_get_read}
+use Rattle.std.proofs.lemmas.Grind.{flat_map-append}
+use Rattle.std.proofs.lemmas.List.{append-nil}
+use Rattle.std.proofs.lemmas.List.Elements.{filter_map-append, Contains-append_cases}
+use Rattle.graph_model.specs.declared.decl.Decl.{Decl}
+use Rattle.graph_model.specs.declared.decl.Decl.TheVariants.{Space, Inst, Lock, Barrier}
+use Rattle.graph_model.specs.declared.verb.Line.{Line}
+use Rattle.graph_model.specs.declared.verb.Why.TheVariants as why
+use Rattle.graph_model.specs.Graph.{GraphValue, ColumnInfo, BarrierInfo, space_of, columns_of, lock_of, barrier_of, named_spaces, columns, locks, barriers, space_at}
+use Rattle.graph_model.specs.Fits.{is_inst, is_large, is_beyond, cell_count, merges_many, decl_unknown, decl_tests, decl_fault, line_tests, line_fault, with_decl, with_line, DeclsFit, IsGraph}
+use Rattle.graph_model.specs.Edges.{edges}
+use Rattle.graph_model.specs.Spelling.{head}
+use Rattle.graph_model.specs.Tables.{TablesValue, places_of, tables_of, tables_with, IsWithinLimits}
+use Rattle.graph_model.proofs.GraphPush.{long_head}
+use Rattle.graph_model.proofs.GraphFacts.{none_first}
+use Rattle.graph_model.proofs.ListFacts.{contains_none, map_contains}
+
+cons_before : (o : Option ℕ) (a b c : List ℕ) → a ≡ b ++ c → cons_option o a ≡ cons_option o b ++ c
+cons_before None a b c e = e
+cons_before (Some k) a b c e = ap (λ l. k ∷ l) e
+
+-- one more item
+places_push : {X Y : Type 0} (f : X → Option Y) (n : ℕ) (xs : List X) (x : X) → places_of f n (xs ++ x ∷ []) ≡ places_of f n xs ++ places_of f (n + length xs) (x ∷ [])
+places_push f n [] x = ap (λ k. places_of f k (x ∷ [])) (let e : n ≡ n + 0 = omega arith in e)
+places_push f n (y ∷ ys) x = cons_before (option_map (λ z. n) (f y)) _ _ _ (places_push f (n + 1) ys x ∙ ap (λ k. places_of f (n + 1) ys ++ places_of f k (x ∷ [])) (let e : (n + 1) + length ys ≡ n + suc (length ys) = omega arith in e))
+
+made : List ℕ → List ColumnInfo → List (List ℕ) → List BarrierInfo → TablesValue
+made s c l b = record { space_places = s; column_infos = c; lock_names = l; barrier_infos = b }
+
+-- the tables with one more declaration
+pub tables_push : (ds : List Decl) (d : Decl) → tables_of (ds ++ d ∷ []) ≡ tables_with (tables_of ds) d (length ds)
+tables_push ds d =
+    let s : places_of space_of 0 (ds ++ d ∷ []) ≡ places_of space_of 0 ds ++ places_of space_of (length ds) (d ∷ []) =
+    places_push space_of 0 ds d ∙ ap (λ k. places_of space_of 0 ds ++ places_of space_of k (d ∷ [])) (omega arith) in
+    let c : flat_map columns_of (ds ++ d ∷ []) ≡ flat_map columns_of ds ++ columns_of d =
+    flat_map-append columns_of ds (d ∷ []) ∙ ap (λ l. flat_map columns_of ds ++ l) (append-nil (columns_of d)) in
+    let l : filter_map lock_of (ds ++ d ∷ []) ≡ filter_map lock_of ds ++ filter_map lock_of (d ∷ []) = filter_map-append lock_of ds (d ∷ []) in
+    let b : filter_map barrier_of (ds ++ d ∷ []) ≡ filter_map barrier_of ds ++ filter_map barrier_of (d ∷ []) = filter_map-append barrier_of ds (d ∷ []) in
+    cc
+
+-- the item of a place, and what f gives of it
+pub record IsPlace {X Y : Type 0} (f : X → Option Y) (n : ℕ) (xs : List X) (s : ℕ) : Type 0 where
+  pub place : ℕ
+  pub item : X
+  pub value : Y
+  pub listed : slice_get (places_of f n xs) s ≡ Some (n + place)
+  pub at : slice_get xs place ≡ Some item
+  pub gives : f item ≡ Some value
+  pub found : slice_get (filter_map f xs) s ≡ Some value
+
+place_found_none : {X Y : Type 0} (f : X → Option Y) (n : ℕ) (x : X) (xs : List X) (s : ℕ) → f x ≡ None → IsPlace f (n + 1) xs s → IsPlace f n (x ∷ xs) s
+place_found_none f n x xs s e p = record {
+  place = suc p.place;
+  item = p.item;
+  value = p.value;
+  listed = ap (λ o. slice_get (cons_option (option_map (λ y. n) o) (places_of f (n + 1) xs)) s) e ∙ (p.listed ∙ ap (λ k. Some k) (let m : (n + 1) + p.place ≡ n + suc p.place = omega arith in m));
+  at = p.at;
+  gives = p.gives;
+  found = ap (λ o. slice_get (cons_option o (filter_map f xs)) s) e ∙ p.found;
+}
+
+place_found_later : {X Y : Type 0} (f : X → Option Y) (n : ℕ) (x : X) (xs : List X) (y : Y) (s : ℕ) → f x ≡ Some y → IsPlace f (n + 1) xs s → IsPlace f n (x ∷ xs) (suc s)
+place_found_later f n x xs y s e p = record {
+  place = suc p.place;
+  item = p.item;
+  value = p.value;
+  listed = ap (λ o. slice_get (cons_option (option_map (λ y. n) o) (places_of f (n + 1) xs)) (suc s)) e ∙ (p.listed ∙ ap (λ k. Some k) (let m : (n + 1) + p.place ≡ n + suc p.place = omega arith in m));
+  at = p.at;
+  gives = p.gives;
+  found = ap (λ o. slice_get (cons_option o (filter_map f xs)) (suc s)) e ∙ p.found;
+}
+
+place_found_here : {X Y : Type 0} (f : X → Option Y) (n : ℕ) (x : X) (xs : List X) (y : Y) → f x ≡ Some y → IsPlace f n (x ∷ xs) 0
+place_found_here f n x xs y e = record {
+  place = 0;
+  item = x;
+  value = y;
+  listed = ap (λ o. slice_get (cons_option (option_map (λ y. n) o) (places_of f (n + 1) xs)) 0) e ∙ ap (λ k. Some k) (let m : n ≡ n + 0 = omega arith in m);
+  at = refl;
+  gives = e;
+  found = ap (λ o. slice_get (cons_option o (filter_map f xs)) 0) e;
+}
+
+place_found_by : {X Y : Type 0} (f : X → Option Y) (n : ℕ) (x : X) (xs : List X) (o : Option Y) (s : ℕ) → f x ≡ o → s < length (cons_option o (filter_map f xs)) → ((k : ℕ) → k < length (filter_map f xs) → IsPlace f (n + 1) xs k) → IsPlace f n (x ∷ xs) s
+place_found_by f n x xs None s e h again = place_found_none f n x xs s e (again s h)
+place_found_by f n x xs (Some y) zero e h again = place_found_here f n x xs y e
+place_found_by f n x xs (Some y) (suc s) e h again = place_found_later f n x xs y s e (again s (let b : suc s < suc (length (filter_map f xs)) = h in omega arith))
+
+pub place_found : {X Y : Type 0} (f : X → Option Y) (n : ℕ) (xs : List X) (s : ℕ) → s < length (filter_map f xs) → IsPlace f n xs s
+place_found f n [] s h = absurd (let b : s < 0 = h in omega arith)
+place_found f n (x ∷ xs) s h = place_found_by f n x xs (f x) s refl h (λ k b. place_found f (n + 1) xs k b)
+
+-- one place a value
+length-places_by : {Y : Type 0} (n : ℕ) (o : Option Y) (ps : List ℕ) (ys : List Y) → length ps ≡ length ys → length (cons_option (option_map (λ (y : Y). n) o) ps) ≡ length (cons_option o ys)
+length-places_by n None ps ys e = e
+length-places_by n (Some y) ps ys e = ap suc e
+
+pub length-places : {X Y : Type 0} (f : X → Option Y) (n : ℕ) (xs : List X) → length (places_of f n xs) ≡ length (filter_map f xs)
+length-places f n [] = refl
+length-places f n (x ∷ xs) = length-places_by n (f x) (places_of f (n + 1) xs) (filter_map f xs) (length-places f (n + 1) xs)
+
+length-cons_option : {Y : Type 0} (o : Option Y) (ys : List Y) → length (cons_option o ys) ≤ suc (length ys)
+length-cons_option None ys = omega arith
+length-cons_option (Some y) ys = omega arith
+
+length-filter_map : {X Y : Type 0} (f : X → Option Y) (xs : List X) → length (filter_map f xs) ≤ length xs
+length-filter_map f [] = omega arith
+length-filter_map f (x ∷ xs) = let h : length (filter_map f xs) ≤ length xs = length-filter_map f xs in let k : length (cons_option (f x) (filter_map f xs)) ≤ suc (length (filter_map f xs)) = length-cons_option (f x) (filter_map f xs) in omega arith
+
+-- a graph of which no quantity is too great
+pub within_limits : (g : GraphValue) → is_beyond g ≡ false → IsWithinLimits g
+within_limits g h =
+    let text = or_parts (nat_lt 1048576 (length (head g))) _ h in
+    let short : length (head g) ≤ 1048576 = ltb-false 1048576 (length (head g)) text.0 in
+    let insts = or_parts (nat_lt 64 (length (filter is_inst g.decls))) _ text.1 in
+    let cols = or_parts (nat_lt 256 (length (columns g))) _ insts.1 in
+    let cells = or_parts (nat_lt 4194304 (cell_count g)) _ cols.1 in
+    let ls = or_parts (nat_lt 64 (length (locks g))) _ cells.1 in
+    let bs = or_parts (nat_lt 64 (length (barriers g))) _ ls.1 in
+    let lines = or_parts (nat_lt 8192 (length g.lines)) _ bs.1 in
+    limits_by g short (ltb-false 256 (length (columns g)) cols.0) (ltb-false 64 (length (locks g)) ls.0) (ltb-false 64 (length (barriers g)) bs.0) (ltb-false 8192 (length g.lines) lines.0)
+  where
+    limits_by : (g : GraphValue) → length (head g) ≤ 1048576 → length (columns g) ≤ 256 → length (locks g) ≤ 64 → length (barriers g) ≤ 64 → length g.lines ≤ 8192 → IsWithinLimits g
+    limits_by g text c l b n =
+        let long : 1 + length g.decls + length g.lines ≤ length (head g) = long_head g in
+        let some : length (named_spaces g) ≤ length g.decls = length-filter_map space_of g.decls in
+        let ds : length g.decls ≤ 1048576 = omega arith in
+        record { few_decls = ds; few_lines = n; few_spaces = omega arith; few_columns = c; few_locks = l; few_barriers = b }
+
+-- the table gives the place of each space
+space_of_is : (d : Decl) (x : List ℕ × List (ℕ × ℕ)) → space_of d ≡ Some x → d ≡ Space x.0 x.1
+space_of_is (Space name space) x e = cc
+space_of_is (Inst name space fields) x e = absurd (none-some x e)
+space_of_is (Lock name) x e = absurd (none-some x e)
+space_of_is (Barrier name count op first) x e = absurd (none-some x e)
+
+pub space_place_below : (g : GraphValue) (t : TablesValue) → t ≡ tables_of g.decls → (s : ℕ) → s < length (named_spaces g) → (k : ℕ) → slice_get t.space_places s ≡ Some k → k < length g.decls
+space_place_below g t e s h k at =
+    let p = place_found space_of 0 g.decls s h in
+    let same : k ≡ 0 + p.place = same_Some k (0 + p.place) (sym at ∙ (ap (λ (x : TablesValue). slice_get x.space_places s) e ∙ p.listed)) in
+    let below : p.place < length g.decls = slice_get_within g.decls p.place p.item p.at in
+    omega arith
+
+pub space_place_is : (g : GraphValue) (t : TablesValue) → t ≡ tables_of g.decls → (s : ℕ) → s < length (named_spaces g) → (k : ℕ) → slice_get t.space_places s ≡ Some k → (d : Decl) → slice_get g.decls k ≡ Some d → (name : List ℕ) × (d ≡ Space name (space_at g s)) × (option_map (λ (x : List ℕ × List (ℕ × ℕ)). x.0) (slice_get (named_spaces g) s) ≡ Some name)
+space_place_is g t e s h k at d got =
+    let p = place_found space_of 0 g.decls s h in
+    let same : k ≡ p.place = (let q : k ≡ 0 + p.place = same_Some k (0 + p.place) (sym at ∙ (ap (λ (x : TablesValue). slice_get x.space_places s) e ∙ p.listed)) in omega arith) in
+    let item : d ≡ p.item = same_Some d p.item (sym got ∙ (ap (λ i. slice_get g.decls i) same ∙ p.at)) in
+    let here : space_at g s ≡ p.value.1 = ap (λ (o : Option (List ℕ × List (ℕ × ℕ))). option_map_or (λ (y : List ℕ × List (ℕ × ℕ)). y.1) o []) p.found in
+    (p.value.0, item ∙ (space_of_is p.item p.value p.gives ∙ ap (λ z. Space p.value.0 z) (sym here)), ap (option_map (λ (x : List ℕ × List (ℕ × ℕ)). x.0)) p.found)
+
+-- what is read there is that space
+pub space_read : (g now : GraphValue) (t : TablesValue) (s k : ℕ) (d : Decl) → g ≡ now → t ≡ tables_of g.decls → s < length (named_spaces now) → slice_get t.space_places s ≡ Some k → d ≡ get_or g.decls k d → (name : List ℕ) × (d ≡ Space name (space_at now s)) × (option_map (λ (x : List ℕ × List (ℕ × ℕ)). x.0) (slice_get (named_spaces now) s) ≡ Some name)
+space_read g now t s k d same e h at read =
+    let known : s < length (named_spaces g) = subst (λ (x : GraphValue). s < length (named_spaces x)) (sym same) h in
+    let got : slice_get g.decls k ≡ Some d = slice_get_read g.decls (length g.decls) k d refl (space_place_below g t e s known k at) read in
+    let is = space_place_is g t e s known k at d got in
+    (is.0, subst (λ (x : GraphValue). d ≡ Space is.0 (space_at x s)) same is.1, subst (λ (x : GraphValue). option_map (λ (y : List ℕ × List (ℕ × ℕ)). y.0) (slice_get (named_spaces x) s) ≡ Some is.0) same is.2)
+
+-- the space of a column is declared
+columns_known : (before ds : List Decl) → DeclsFit before ds → (x : ColumnInfo) → Contains (flat_map columns_of ds) x → x.space < length (filter_map space_of (before ++ ds))
+columns_known before [] f x c = absurd (contains_none x c)
+columns_known before (d ∷ ds) f x c = elim (Contains-append_cases (columns_of d) (flat_map columns_of ds) x c) [
+  | inl here ↦ (let k : x.space < length (filter_map space_of before) = known_here before d f.1 x here in
+      let e : length (filter_map space_of (before ++ d ∷ ds)) ≡ length (filter_map space_of before) + length (filter_map space_of (d ∷ ds)) =
+      ap length (filter_map-append space_of before (d ∷ ds)) ∙ length-append (filter_map space_of before) (filter_map space_of (d ∷ ds)) in omega arith)
+  | inr there ↦ subst (λ l. x.space < length (filter_map space_of l)) (append_assoc before (d ∷ []) ds) (columns_known (before ++ d ∷ []) ds f.2 x there)
+]
+  where
+    known_here : (before : List Decl) (d : Decl) → decl_fault (record { decls = before; lines = [] }) d ≡ None → (x : ColumnInfo) → Contains (columns_of d) x → x.space < length (filter_map space_of before)
+    known_here before (Space name space) h x c = absurd (contains_none x c)
+    known_here before (Inst name space fields) h x c =
+        let g : GraphValue = record { decls = before; lines = [] } in
+        let m = map_contains (λ f. record { inst = name; field = f; space = space }) fields x c in
+        let known : decl_unknown g (Inst name space fields) ≡ false = none_first (decl_tests g (Inst name space fields)) h (decl_unknown g (Inst name space fields), why.Unknown) (1, omega arith, refl) in
+        subst (λ (y : ColumnInfo). y.space < length (filter_map space_of before)) m.2 (leb-false (length (filter_map space_of before)) space known)
+    known_here before (Lock name) h x c = absurd (contains_none x c)
+    known_here before (Barrier name count op first) h x c = absurd (contains_none x c)
+
+pub column_space_known : (g : GraphValue) → IsGraph g → (c : ℕ) (x : ColumnInfo) → slice_get (columns g) c ≡ Some x → x.space < length (named_spaces g)
+column_space_known g f c x e = columns_known [] g.decls f.decls x (c, slice_get_within (columns g) c x e, get_or_from_slice_get (columns g) c x x e)
+
+-- a graph with one more declaration, and with one more line, is within the limits
+pub limits_decl : (g : GraphValue) (d : Decl) → decl_fault g d ≡ None → IsWithinLimits (with_decl g d)
+limits_decl g d h = within_limits (with_decl g d) (or_parts (is_large d) _ (none_first (decl_tests g d) h (is_large d || is_beyond (with_decl g d), why.Limit) (3, omega arith, refl))).1
+
+pub limits_line : (g : GraphValue) (l : Line) → line_fault g l ≡ None → IsWithinLimits (with_line g l)
+limits_line g l h = within_limits (with_line g l) (or_parts (merges_many l.verb) _ (none_first (line_tests g l) h (merges_many l.verb || is_beyond (with_line g l), why.Limit) (6, omega arith, refl))).1

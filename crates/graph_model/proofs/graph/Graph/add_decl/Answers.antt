@@ -1,0 +1,36 @@
+use Rattle.std.proofs.Common.{◌≡◌, ◌<◌, cond, ℕ, [], ◌∷◌, ◌++◌, List, None, Some, refl, sym, subst, ap, ◌∙◌, length, arith}
+use Rattle.std.specs.Str.{bytes_eq}
+use Rattle.graph_model.specs.declared.decl.Decl.{Decl}
+use Rattle.graph_model.specs.declared.found.Found.{Found}
+use Rattle.graph_model.specs.Graph.{GraphValue, decl_name}
+use Rattle.graph_model.specs.Names.{AreNamesOf, found_decl, named}
+use Rattle.graph_model.specs.Tables.{tables_of, tables_with, IsWithinLimits}
+use Rattle.graph_model.specs.Rows.{AreRowsOf}
+use Rattle.graph_model.specs.Fits.{IsGraph, decl_fault, with_decl}
+use Rattle.graph_model.proofs.GraphPush.{push_decl}
+use Rattle.graph_model.proofs.Naming.{names_decl, names_back, unused_decl_name}
+use Rattle.graph_model.proofs.TableLaws.{limits_decl, tables_push}
+use Rattle.graph_model.proofs.RowLaws.{rows_decl}
+use Rattle.graph_model.proofs.graph.Graph.add_decl.Goals as goal
+
+pub invariant_of-self-2 : goal.invariant_of-self-2
+invariant_of-self-2 c =
+    let g : GraphValue = record { decls = c.self.inside.decls.items; lines = c.self.inside.lines.items } in
+    let d : Decl = c.args.decl in
+    let fits : decl_fault g d ≡ None = subst (λ h. decl_fault h d ≡ None) (sym c.self.view_is) c.requires.fits in
+    let first : g.lines ≡ [] = subst (λ (h : GraphValue). h.lines ≡ []) (sym c.self.view_is) c.requires.first in
+    let pushed : c.push_within.new.items.items ≡ g.decls ++ d ∷ [] = c.push_within.ensures.items ∙ ap (λ (ds : List Decl). ds ++ d ∷ []) c.reserve.ensures.items in
+    let place : c.len-place.result ≡ length g.decls = omega arith in
+    let added : c.add.new.self ≡ tables_with (tables_of g.decls) d (length g.decls) =
+    c.in_default.ensures.ok ∙ (ap (λ t. tables_with t d c.len-place.result) c.self.invariant.tables ∙ ap (λ n. tables_with (tables_of g.decls) d n) place) in
+    let name : c.name.result.now ≡ decl_name d = c.name.ensures in
+    let what : c.found_decl-found.result ≡ found_decl g d = c.found_decl-found.ensures ∙ ap (λ h. found_decl h d) (sym c.self.view_is) in
+    let named_so : (q : List ℕ) → named c.insert.new.self q ≡ cond (bytes_eq (decl_name d) q) (Some (found_decl g d)) (named c.self.inside.names q) =
+    λ q. c.in_ok-insert.ensures.ok q ∙ (ap (λ n. cond (bytes_eq n q) (Some c.found_decl-found.result) (named c.self.inside.names q)) name ∙ ap (λ f. cond (bytes_eq (decl_name d) q) (Some f) (named c.self.inside.names q)) what) in
+    record {
+      fits = subst (λ (ds : List Decl). IsGraph (record { decls = ds; lines = g.lines })) (sym pushed) (push_decl g d c.self.invariant.fits c.requires.is_decl first fits);
+      tables = added ∙ (sym (tables_push g.decls d) ∙ ap tables_of (sym pushed));
+      limits = subst (λ (ds : List Decl). IsWithinLimits (record { decls = ds; lines = g.lines })) (sym pushed) (limits_decl g d fits);
+      names = subst (λ (ds : List Decl). AreNamesOf (record { decls = ds; lines = g.lines }) c.insert.new.self) (sym pushed) (names_decl g d c.self.inside.names c.insert.new.self c.self.invariant.names (unused_decl_name g d fits) named_so);
+      rows = subst (λ (ds : List Decl). AreRowsOf (record { decls = ds; lines = g.lines }) c.self.inside.rows) (sym pushed) (rows_decl g d c.self.inside.rows c.self.invariant.rows);
+    }

@@ -1,0 +1,12 @@
+use Rattle.std.proofs.Common.{◌≡◌, ◌<◌, length, subst, sym, ◌∙◌, ap}
+use Rattle.std.specs.Prelude.{slice_get}
+use Rattle.graph_model.specs.Graph.{GraphValue, named_spaces, columns}
+use Rattle.graph_model.specs.Tables.{TablesValue}
+use Rattle.graph_model.proofs.TableLaws.{column_space_known}
+use Rattle.graph_model.proofs.graph.Graph.column_space.Goals as goal
+
+pub space-requires : goal.space-requires
+space-requires c =
+    let g : GraphValue = record { decls = c.self.inside.decls.items; lines = c.self.inside.lines.items } in
+    subst (λ x. c.column-column.result.now.space < length (named_spaces x)) c.self.view_is
+    (column_space_known g c.self.invariant.fits c.args.c c.column-column.result.now (sym (ap (λ (t : TablesValue). slice_get t.column_infos c.args.c) c.self.invariant.tables) ∙ c.column-column.ensures))

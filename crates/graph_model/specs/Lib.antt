@@ -1,0 +1,15 @@
+pub mod Name
+pub mod NameLaws
+pub mod Graph
+pub mod Edges
+pub mod Path
+pub mod Access
+pub mod Rules
+pub mod Effect
+pub mod Evaluation
+pub mod Need
+pub mod Spelling
+pub mod Fits
+pub mod Tables
+pub mod Names
+pub mod Rows

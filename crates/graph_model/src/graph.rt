@@ -1,0 +1,298 @@
+//! Graphs.
+
+use crate::access::verb_access;
+use crate::decl::{BarrierInfo, Decl};
+use crate::edges::edges_of_line;
+use crate::found::Found;
+use crate::name::Name;
+use crate::names::Names;
+use crate::room::{push_within, reserve};
+use crate::rows::Rows;
+use crate::tables::Tables;
+use crate::verb::{Access, Edge, Line, Verb};
+use index_spaces::NoMemory;
+use index_spaces::space::Space;
+use std::alloc::Global;
+use std::marker::Model;
+
+/// A graph, seen as its declarations and its lines.
+#[derive(Drop)]
+pub struct Graph {
+    alloc: Global,
+    decls: Vec<Decl>,
+    lines: Vec<Line>,
+    tables: Tables,
+    names: Names,
+    rows: Rows,
+}
+
+impl Model for Graph {
+    ghost use Rattle.std.specs.Prelude.{◌≡◌};
+    ghost use Rattle.graph_model.specs.Graph.{GraphValue};
+
+    ghost Value = { GraphValue };
+
+    ghost use Rattle.graph_model.specs.Fits.{IsGraph};
+    ghost use Rattle.graph_model.specs.Tables.{tables_of, IsWithinLimits};
+    ghost use Rattle.graph_model.specs.Names.{AreNamesOf};
+    ghost use Rattle.graph_model.specs.Rows.{AreRowsOf};
+
+    ghost view = { λ a. record { decls = a.decls.items; lines = a.lines.items } };
+
+    ghost invariant = { λ a. record {
+      fits : IsGraph (record { decls = a.decls.items; lines = a.lines.items });
+      tables : a.tables ≡ tables_of a.decls.items;
+      limits : IsWithinLimits (record { decls = a.decls.items; lines = a.lines.items });
+      names : AreNamesOf (record { decls = a.decls.items; lines = a.lines.items }) a.names;
+      rows : AreRowsOf (record { decls = a.decls.items; lines = a.lines.items }) a.rows;
+    } };
+}
+
+impl Graph {
+    ghost use Rattle.std.specs.Prelude.{◌≡◌, [], length, ◌<◌, ◌≤◌, slice_get, position, false, None, OnOk, OnErr, MatchOption, option_map};
+    ghost use Rattle.graph_model.specs.Graph.{named_spaces, columns, locks, barriers, space_at, column_space, never_comes};
+    ghost use Rattle.graph_model.specs.Edges.{edges_into, edges_out_of};
+    ghost use Rattle.graph_model.specs.Access.{accesses};
+    ghost use Rattle.graph_model.specs.Names.{StandsFor, found_decl, is_column_named};
+    ghost use Rattle.graph_model.specs.Fits.{IsGraph, IsDecl, IsLine, decl_fault, line_fault, with_decl, with_line, is_used};
+
+    /// The graph with no declaration and no line. It takes no memory.
+    pub fn new(alloc: Global) -> Graph
+        ensures { result ≡ record { decls = []; lines = [] } }
+    {
+        Graph {
+            alloc,
+            decls: Vec::new(alloc),
+            lines: Vec::new(alloc),
+            tables: Tables::new(alloc),
+            names: Names::new(alloc),
+            rows: Rows::new(alloc),
+        }
+    }
+
+    /// Puts a declaration at the end, before any line. `NoMemory` leaves the graph as it was.
+    pub fn add_decl(&mut self, decl: Decl) -> Result<(), NoMemory>
+        requires is_decl { IsDecl decl }
+        requires fits { decl_fault self.old decl ≡ None }
+        requires first { self.old.lines ≡ [] }
+        ensures ok { OnOk result (self.new ≡ with_decl self.old decl) }
+        ensures err { OnErr result (self.new ≡ self.old) }
+    {
+        let found = self.found_decl(&decl);
+        let name = *decl.name();
+        let place = self.decls.len() as u32;
+        reserve(&mut self.decls, 1)?;
+        self.names.insert(name, found)?;
+        if let Err(error) = self.tables.add(&decl, place) {
+            self.names.remove(&name);
+            return Err(error);
+        }
+        push_within(&mut self.decls, decl);
+        Ok(())
+    }
+
+    /// Puts a line at the end. `NoMemory` leaves the graph as it was.
+    pub fn add_line(&mut self, line: Line) -> Result<(), NoMemory>
+        requires is_line { IsLine line }
+        requires fits { line_fault self.old line ≡ None }
+        ensures ok { OnOk result (self.new ≡ with_line self.old line) }
+        ensures err { OnErr result (self.new ≡ self.old) }
+    {
+        let given = edges_of_line(self.alloc, &self.lines, &line)?;
+        let name = line.name;
+        let found = Found::Line(self.lines.len() as u32);
+        reserve(&mut self.lines, 1)?;
+        self.names.insert(name, found)?;
+        if let Err(error) = self.rows.add(&line.verb, &given) {
+            self.names.remove(&name);
+            return Err(error);
+        }
+        push_within(&mut self.lines, line);
+        Ok(())
+    }
+
+    /// How many declarations there are.
+    pub fn decls(&self) -> u32
+        ensures number { result ≡ length self.now.decls }
+        ensures is_graph { IsGraph self.now }
+    {
+        self.decls.len() as u32
+    }
+
+    /// A declaration by its number.
+    pub fn decl(&self, d: u32) -> &Decl
+        requires { d < length self.now.decls }
+        ensures decl { slice_get self.now.decls d ≡ Some result.now }
+        ensures is_graph { IsGraph self.now }
+    {
+        &self.decls[d as usize]
+    }
+
+    /// How many lines there are.
+    pub fn lines(&self) -> u32
+        ensures number { result ≡ length self.now.lines }
+        ensures few { result ≤ 8192 }
+        ensures is_graph { IsGraph self.now }
+    {
+        self.lines.len() as u32
+    }
+
+    /// The name, the verb and the precondition of a line.
+    pub fn line(&self, i: u32) -> &Line
+        requires { i < length self.now.lines }
+        ensures line { slice_get self.now.lines i ≡ Some result.now }
+        ensures is_graph { IsGraph self.now }
+    {
+        &self.lines[i as usize]
+    }
+
+    /// How many spaces are declared.
+    pub fn spaces(&self) -> u32
+        ensures { result ≡ length (named_spaces self.now) }
+    {
+        self.tables.spaces() as u32
+    }
+
+    /// A space by its number.
+    pub fn space(&self, s: u32) -> &Space
+        requires { s < length (named_spaces self.now) }
+        ensures { result.now ≡ space_at self.now s }
+    {
+        match &self.decls[self.tables.space_place(s) as usize] {
+            Decl::Space { space, .. } => space,
+            _ => unreachable!(),
+        }
+    }
+
+    /// How many columns there are: the fields of all instances.
+    pub fn columns(&self) -> u32
+        ensures number { result ≡ length (columns self.now) }
+        ensures few { result ≤ 256 }
+    {
+        self.tables.columns() as u32
+    }
+
+    /// The space of a column.
+    pub fn column_space(&self, c: u32) -> &Space
+        requires { c < length (columns self.now) }
+        ensures { result.now ≡ column_space self.now c }
+    {
+        let column = self.tables.column(c);
+        self.space(column.space)
+    }
+
+    /// The names of the instance and the field of a column.
+    pub fn column_name(&self, c: u32) -> (Name, Name)
+        requires { c < length (columns self.now) }
+        ensures inst { option_map (λ x. x.inst) (slice_get (columns self.now) c) ≡ Some result.0 }
+        ensures field { option_map (λ x. x.field) (slice_get (columns self.now) c) ≡ Some result.1 }
+    {
+        let column = self.tables.column(c);
+        (column.inst, column.field)
+    }
+
+    /// How many reservations are declared.
+    pub fn locks(&self) -> u32
+        ensures number { result ≡ length (locks self.now) }
+        ensures few { result ≤ 64 }
+    {
+        self.tables.locks() as u32
+    }
+
+    /// How many barriers are declared.
+    pub fn barriers(&self) -> u32
+        ensures number { result ≡ length (barriers self.now) }
+        ensures few { result ≤ 64 }
+    {
+        self.tables.barriers() as u32
+    }
+
+    /// The name of a space.
+    pub fn space_name(&self, s: u32) -> Name
+        requires { s < length (named_spaces self.now) }
+        ensures { option_map (λ x. x.0) (slice_get (named_spaces self.now) s) ≡ Some result }
+    {
+        *self.decls[self.tables.space_place(s) as usize].name()
+    }
+
+    /// The name of a reservation.
+    pub fn lock_name(&self, l: u32) -> Name
+        requires { l < length (locks self.now) }
+        ensures { slice_get (locks self.now) l ≡ Some result }
+    {
+        self.tables.lock_name(l)
+    }
+
+    /// A barrier by its number.
+    pub fn barrier(&self, b: u32) -> &BarrierInfo
+        requires { b < length (barriers self.now) }
+        ensures { slice_get (barriers self.now) b ≡ Some result.now }
+    {
+        self.tables.barrier(b)
+    }
+
+    /// What a name stands for. `None` exactly where no item has the name.
+    pub fn find(&self, name: &Name) -> Option<Found>
+        ensures { MatchOption result (is_used self.now name.now ≡ false) (StandsFor self.now name.now) }
+    {
+        self.names.get(name)
+    }
+
+    /// The number of the column of this field of this instance. `None` exactly where no instance of
+    /// this name has such a field.
+    pub fn find_column(&self, inst: &Name, field: &Name) -> Option<u32>
+        ensures { result ≡ position (is_column_named inst.now field.now) (columns self.now) }
+    {
+        self.tables.find_column(inst, field)
+    }
+
+    /// The edges that enter a line, by the lines that give them.
+    pub fn edges_into(&self, i: u32) -> &[Edge]
+        requires { i < length self.now.lines }
+        ensures { result.now ≡ edges_into self.now i }
+    {
+        self.rows.edges_into(i)
+    }
+
+    /// The edges that leave a line, by the lines that give them.
+    pub fn edges_from(&self, i: u32) -> &[Edge]
+        requires { i < length self.now.lines }
+        ensures { result.now ≡ edges_out_of self.now i }
+    {
+        self.rows.edges_from(i)
+    }
+
+    /// The access of number `k` of a line. `None` exactly where it has at most `k`.
+    pub fn access(&self, i: u32, k: u32) -> Option<Access>
+        requires { i < length self.now.lines }
+        ensures { result ≡ slice_get (accesses self.now i) k }
+    {
+        verb_access(&self.lines[i as usize].verb, k)
+    }
+
+    /// Whether a line never comes: a user event that no line triggers or cancels, or a phase that
+    /// is short of arrivals.
+    pub fn never_comes(&self, i: u32) -> bool
+        requires { i < length self.now.lines }
+        ensures { result ≡ never_comes self.now i }
+    {
+        match &self.lines[i as usize].verb {
+            Verb::User => !self.rows.mark(i).ended,
+            Verb::Phase { barrier } => self.rows.mark(i).arrivals
+                < self.tables.barrier(*barrier).count,
+            _ => false,
+        }
+    }
+
+    /// What the name of the next declaration stands for.
+    fn found_decl(&self, decl: &Decl) -> Found
+        ensures { result ≡ found_decl self.now decl.now }
+    {
+        match decl {
+            Decl::Space { .. } => Found::Space(self.spaces()),
+            Decl::Inst { .. } => Found::Inst(self.decls()),
+            Decl::Lock { .. } => Found::Lock(self.locks()),
+            Decl::Barrier { .. } => Found::Barrier(self.barriers()),
+        }
+    }
+}

@@ -1,0 +1,5 @@
+pub mod ExampleSpaces
+pub mod PointFacts
+pub mod FaultFacts
+pub mod MergeFacts
+pub mod LawFacts

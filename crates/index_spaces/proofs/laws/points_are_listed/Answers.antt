@@ -1,0 +1,5 @@
+use Rattle.index_spaces.proofs.LawFacts as laws
+use Rattle.index_spaces.proofs.laws.points_are_listed.Goals as goal
+
+pub returns : goal.returns
+returns c = laws.points_are_listed

@@ -1,0 +1,48 @@
+-- What holds of all spaces.
+use Rattle.std.specs.Prelude.{◌≡◌, ℕ, ◌+◌, ◌-◌, ◌^◌, ◌<◌, ◌≤◌, ◌↔◌, List, length, slice_index_or, All, Contains, Some, None, IsTrue}
+use Rattle.std.specs.List.Sorted.{IsStrictlyIncreasing}
+use Rattle.index_spaces.specs.declared.space.SpaceFault.TheVariants.{Reversed, Order}
+use Rattle.index_spaces.specs.Space.{has_point, points, space_size, rank, point_at, IsSpace}
+use Rattle.index_spaces.specs.SpaceFault.{space_fault}
+
+-- a point is listed exactly where an interval has it
+abbrev pub PointsAreListed : Type 0
+PointsAreListed = (s : List (ℕ × ℕ)) (p : ℕ) → Contains (points s) p ↔ IsTrue (has_point s p)
+
+-- each listed point is below the next
+abbrev pub PointsAscend : Type 0
+PointsAscend = (s : List (ℕ × ℕ)) → IsSpace s → IsStrictlyIncreasing (points s)
+
+-- a point has a rank below the size, and is the point of that rank
+abbrev pub PointOfRank : Type 0
+PointOfRank = (s : List (ℕ × ℕ)) (p : ℕ) → IsSpace s → IsTrue (has_point s p) → (rank s p < space_size s) × (point_at s (rank s p) ≡ p)
+
+-- the point of a rank is in the space, and has that rank
+abbrev pub RankOfPoint : Type 0
+RankOfPoint = (s : List (ℕ × ℕ)) (r : ℕ) → IsSpace s → r < space_size s → IsTrue (has_point s (point_at s r)) × (rank s (point_at s r) ≡ r)
+
+-- two spaces with the same points have the same intervals
+abbrev pub SamePointsSameIntervals : Type 0
+SamePointsSameIntervals = (s t : List (ℕ × ℕ)) → IsSpace s → IsSpace t → ((p : ℕ) → p < 2 ^ 32 → has_point s p ≡ has_point t p) → s ≡ t
+
+-- pairs have no fault exactly where they make a space of at most 64 intervals and 1,048,576 points
+abbrev pub FaultlessPairs : Type 0
+FaultlessPairs = (pairs : List (ℕ × ℕ)) → All (λ (i : ℕ × ℕ). i.1 < 2 ^ 32) pairs → (space_fault pairs ≡ None) ↔ (IsSpace pairs × (length pairs ≤ 64) × (space_size pairs ≤ 1048576))
+
+-- the pair at a place
+abbrev pub pair_at : List (ℕ × ℕ) → ℕ → ℕ × ℕ
+pair_at pairs k = slice_index_or pairs k (0, 0)
+
+-- a pair is not reversed, and begins at least two above the end of the one before
+abbrev pub IsInPlace : List (ℕ × ℕ) → ℕ → Type 0
+IsInPlace pairs k = ((pair_at pairs k).0 ≤ (pair_at pairs k).1) × (0 < k → (pair_at pairs (k - 1)).1 + 2 ≤ (pair_at pairs k).0)
+
+-- the pair that is reported as reversed is so, and all before it are in place
+abbrev pub ReversedIsFirst : Type 0
+ReversedIsFirst = (pairs : List (ℕ × ℕ)) (k : ℕ) → space_fault pairs ≡ Some (Reversed k) →
+    (k < length pairs) × ((j : ℕ) → j < k → IsInPlace pairs j) × ((pair_at pairs k).1 < (pair_at pairs k).0)
+
+-- the pair that is reported out of order is not reversed, begins too low, and all before it are in place
+abbrev pub OrderIsFirst : Type 0
+OrderIsFirst = (pairs : List (ℕ × ℕ)) (k : ℕ) → space_fault pairs ≡ Some (Order k) →
+    (k < length pairs) × ((j : ℕ) → j < k → IsInPlace pairs j) × ((pair_at pairs k).0 ≤ (pair_at pairs k).1) × (0 < k) × ((pair_at pairs k).0 < (pair_at pairs (k - 1)).1 + 2)

@@ -1,0 +1,5 @@
+pub mod Space
+pub mod SpaceFault
+pub mod Counted
+pub mod Column
+pub mod Laws

@@ -1,0 +1,24 @@
+-- Why pairs of numbers make no space, the first reason first.
+use Rattle.std.specs.Prelude.{ℕ, ◌+◌, nat_lt, cond, List, [], ◌∷◌, length, Option, Some, None}
+use Rattle.index_spaces.specs.declared.space.SpaceFault.{SpaceFault}
+use Rattle.index_spaces.specs.declared.space.SpaceFault.TheVariants.{Empty, Reversed, Order, Many, Large}
+use Rattle.index_spaces.specs.Space.{space_size}
+
+-- the first pair, the next having number k, that is reversed or begins below low
+abbrev pub first_misplaced : ℕ → ℕ → List (ℕ × ℕ) → Option SpaceFault
+first_misplaced k low [] = None
+first_misplaced k low (i ∷ is) = cond (nat_lt i.1 i.0) (Some (Reversed k)) (cond (nat_lt i.0 low) (Some (Order k)) (first_misplaced (k + 1) (i.1 + 2) is))
+
+-- too many pairs, or too many points, the pairs first
+abbrev pub too_large : List (ℕ × ℕ) → Option SpaceFault
+too_large is = cond (nat_lt 64 (length is)) (Some Many) (cond (nat_lt 1048576 (space_size is)) (Some Large) None)
+
+-- the fault that was found, or else too many pairs or points
+abbrev pub or_too_large : Option SpaceFault → List (ℕ × ℕ) → Option SpaceFault
+or_too_large (Some fault) is = Some fault
+or_too_large None is = too_large is
+
+-- the first reason that pairs make no space
+abbrev pub space_fault : List (ℕ × ℕ) → Option SpaceFault
+space_fault [] = Some Empty
+space_fault (i ∷ is) = or_too_large (first_misplaced 0 0 (i ∷ is)) (i ∷ is)

@@ -1,0 +1,27 @@
+//! Where bytes come from and go to: sources, sinks, and the calls that read and write whole texts.
+#![tactic(auto)]
+
+pub mod adapters;
+pub mod gates;
+mod listed;
+pub mod memory_sink;
+pub mod memory_source;
+pub mod reading;
+mod room;
+pub mod sinks;
+pub mod sources;
+pub mod sure;
+pub mod writing;
+
+pub use adapters::{StdSink, StdSource};
+pub use gates::{Gate, OpenGate};
+pub use memory_sink::MemorySink;
+pub use memory_source::MemorySource;
+pub use reading::{ReadEnd, read_all};
+pub use sinks::Sink;
+pub use sources::{Failed, Source};
+pub use sure::{SureSink, SureSource};
+pub use writing::{WriteFault, put, put_number};
+
+#[cfg(test)]
+mod tests;

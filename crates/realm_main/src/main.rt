@@ -1,0 +1,98 @@
+//! The program `realm`: it reads a graph from the standard input and writes its report to the standard output.
+#![tactic(auto)]
+
+ghost use Rattle.std.specs.Prelude.{◌≡◌, is_some};
+ghost use Rattle.realm_main.specs.Message.{has_message};
+
+use realm_io::{OpenGate, StdSink, StdSource};
+use realm_top::realm;
+use realm_top::status::Status;
+use std::env::{self, Env};
+use std::io::{self, BufWriter};
+use std::process::ExitCode;
+
+/// The line for the standard error, where the standard output has no text for this status.
+fn message(status: Status) -> Option<&'static str>
+    ensures { is_some result ≡ has_message status }
+{
+    match status {
+        Status::Usage => Some("usage: realm run < GRAPH"),
+        Status::ReadFault => Some("realm: the standard input can't be read"),
+        Status::WriteFault => Some("realm: the standard output can't be written"),
+        Status::NoMemory => Some("realm: out of memory"),
+        _ => None,
+    }
+}
+
+/// The program's name and its words, or the status where they can't be had: a word that is not UTF-8 is a usage fault.
+fn words<R: Env + AllocGlobal>(rt: &R) -> Result<Vec<String>, Status> {
+    let args = match env::args(rt) {
+        Ok(args) => args,
+        Err(error) if error.kind() == io::ErrorKind::OutOfMemory => return Err(Status::NoMemory),
+        Err(_) => return Err(Status::Usage),
+    };
+    let mut words = Vec::new(rt.alloc());
+    for word in args {
+        if words.push(word).is_err() {
+            return Err(Status::NoMemory);
+        }
+    }
+    Ok(words)
+}
+
+/// Runs what the words ask for over the standard streams.
+fn run<R: Env + AllocGlobal + Input + Print>(rt: &R) -> Status {
+    let words = match words(rt) {
+        Ok(words) => words,
+        Err(status) => return status,
+    };
+    let Ok(writer) = BufWriter::new(rt.alloc(), io::writer(rt)) else {
+        return Status::NoMemory;
+    };
+    let mut source = StdSource::new(rt.reader());
+    let mut sink = StdSink::new(writer);
+    realm(
+        rt,
+        rt.alloc(),
+        words.as_slice(),
+        &mut source,
+        &mut sink,
+        &OpenGate,
+    )
+}
+
+fn main(rt: HostRuntime) -> ExitCode {
+    let status = run(&rt);
+    if let Some(line) = message(status) {
+        let _ = rt.eprintln(line);
+    }
+    ExitCode::from(status.number())
+}
+
+#[cfg(test)]
+mod tests {
+    use super::*;
+    use std::test::Fail;
+
+    #[test]
+    fn says_what_failed(rt: HostRuntime) -> Result<(), Fail> {
+        for (status, line) in [
+            (Status::Done, None),
+            (Status::Usage, Some("usage: realm run < GRAPH")),
+            (Status::Unread, None),
+            (
+                Status::ReadFault,
+                Some("realm: the standard input can't be read"),
+            ),
+            (
+                Status::WriteFault,
+                Some("realm: the standard output can't be written"),
+            ),
+            (Status::NoMemory, Some("realm: out of memory")),
+            (Status::TooLong, None),
+        ] {
+            assert_eq!(rt; message(status).unwrap_or(""), line.unwrap_or(""));
+        }
+        Ok(())
+    }
+}

@@ -1,0 +1,16 @@
+-- The exit statuses.
+use Rattle.std.specs.Prelude.{ℕ}
+use Rattle.realm_top.specs.declared.status.Status.{Status}
+use Rattle.realm_top.specs.declared.status.Status.TheVariants.{Done, Usage, Unread, Unfit, ReadFault, WriteFault, NoMemory, Slots, TooLong}
+
+-- the exit status for a status
+abbrev pub exit_number : Status → ℕ
+exit_number Done = 0
+exit_number Usage = 2
+exit_number Unread = 3
+exit_number Unfit = 4
+exit_number ReadFault = 5
+exit_number WriteFault = 6
+exit_number NoMemory = 7
+exit_number Slots = 8
+exit_number TooLong = 9

@@ -1,0 +1,46 @@
+//! How the top call ends.
+
+ghost use Rattle.std.specs.Prelude.{◌≡◌};
+ghost use Rattle.realm_top.specs.Status.{exit_number};
+
+/// How the top call ended.
+#[derive(Clone, Copy, Debug, PartialEq, Eq)]
+pub enum Status {
+    /// The action was done, and its text was written and flushed.
+    Done,
+    /// The words name no action.
+    Usage,
+    /// The input is no text that is read.
+    Unread,
+    /// The graph breaks a rule.
+    Unfit,
+    /// A read failed.
+    ReadFault,
+    /// A write or a flush failed.
+    WriteFault,
+    /// Memory ran out, before anything was written.
+    NoMemory,
+    /// The run was given too few slots.
+    Slots,
+    /// The input has more than 1,048,576 bytes.
+    TooLong,
+}
+
+impl Status {
+    /// The exit status of the program.
+    pub fn number(&self) -> u8
+        ensures { result ≡ exit_number self.now }
+    {
+        match self {
+            Status::Done => 0,
+            Status::Usage => 2,
+            Status::Unread => 3,
+            Status::Unfit => 4,
+            Status::ReadFault => 5,
+            Status::WriteFault => 6,
+            Status::NoMemory => 7,
+            Status::Slots => 8,
+            Status::TooLong => 9,
+        }
+    }
+}
