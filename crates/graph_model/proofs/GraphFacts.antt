@@ -126,7 +126,7 @@ space_has_points (i ∷ is) h =
     let at : all.0 < length (points (i ∷ is)) = all.1 in omega arith
 
 -- the declared spaces of declarations that fit are spaces
-spaces_are : (before ds : List Decl) → DeclsFit before ds → (x : List ℕ × List (ℕ × ℕ)) → Contains (filter_map space_of ds) x → IsSpace x.1
+pub spaces_are : (before ds : List Decl) → DeclsFit before ds → (x : List ℕ × List (ℕ × ℕ)) → Contains (filter_map space_of ds) x → IsSpace x.1
 spaces_are before [] f x c = absurd (contains_none x c)
 spaces_are before (Space name space ∷ ds) f x c = elim (contains_cases (name, space) (filter_map space_of ds) x c) [
   | inl e ↦ subst (λ (y : List ℕ × List (ℕ × ℕ)). IsSpace y.1) e f.0.1
@@ -142,13 +142,17 @@ fit_at decls before [] f k l h = absurd (none-some l h)
 fit_at decls before (m ∷ ls) f zero l h = (before, subst (λ x. line_fault (record { decls = decls; lines = before }) x ≡ None) (same_Some m l h) f.1)
 fit_at decls before (m ∷ ls) f (suc k) l h = fit_at decls (before ++ m ∷ []) ls f.2 k l h
 
-points_at : (g : GraphValue) → IsGraph g → (s : ℕ) → s < length (named_spaces g) → 0 < space_size (space_at g s)
-points_at g f s h =
+-- the space of each number is one
+pub space_is : (g : GraphValue) → IsGraph g → (s : ℕ) → s < length (named_spaces g) → IsSpace (space_at g s)
+space_is g f s h =
     let x = slice_index_or (named_spaces g) s ([], []) in
     let at : slice_get (named_spaces g) s ≡ Some x = slice_get-get_or (named_spaces g) s ([], []) h in
     let is : IsSpace x.1 = spaces_are [] g.decls f.decls x (Contains-get_or (named_spaces g) s ([], []) h) in
     let same : x.1 ≡ space_at g s = sym (ap (λ (o : Option (List ℕ × List (ℕ × ℕ))). option_map_or (λ (y : List ℕ × List (ℕ × ℕ)). y.1) o []) at) in
-    subst (λ y. 0 < space_size y) same (space_has_points x.1 is)
+    subst (λ y. IsSpace y) same is
+
+points_at : (g : GraphValue) → IsGraph g → (s : ℕ) → s < length (named_spaces g) → 0 < space_size (space_at g s)
+points_at g f s h = space_has_points (space_at g s) (space_is g f s h)
 
 points_by : (g : GraphValue) → IsGraph g → (i : ℕ) (o : Option Line) → slice_get g.lines i ≡ o → HavePoints (space_at g) (option_map_or verb_accesses (option_map (λ (l : Line). l.verb) o) [])
 points_by g f i None e = λ a c. absurd (contains_none a c)

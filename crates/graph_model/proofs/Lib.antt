@@ -25,3 +25,9 @@ pub mod StockLaws
 pub mod LastPlace
 pub mod RowLaws
 pub mod RowReads
+pub mod CountLaws
+pub mod FaultLaws
+pub mod ExampleFaults
+pub mod OrderLaws
+pub mod LineFacts
+pub mod HeldCellsLaws

@@ -1,9 +1,9 @@
 -- The names of a graph with one more item.
-use Rattle.std.proofs.Common.{◌≡◌, ℕ, ◌+◌, ◌<◌, ◌≤◌, Bool, true, false, cond, ◌&&◌, ◌||◌, inl, inr, List, [], ◌∷◌, ◌++◌, length, map, refl, sym, ◌∙◌, ap, subst, append-nil, append_assoc, length-append, arith, get_or}
-use Rattle.std.specs.Prelude.{filter_map, Option, Some, None, position, nat_lt, nat_eq, MatchOption}
+use Rattle.std.proofs.Common.{◌≡◌, ℕ, ◌+◌, ◌<◌, Bool, true, false, cond, ◌||◌, List, [], ◌∷◌, ◌++◌, length, map, refl, sym, ◌∙◌, ap, subst, append-nil, length-append, arith, get_or}
+use Rattle.std.specs.Prelude.{filter_map, Option, Some, None, position, nat_lt, nat_eq, is_some, MatchOption}
 use Rattle.std.specs.List.{list_any, cons_option, position_or_len}
 use Rattle.std.specs.Str.{bytes_eq}
-use Rattle.std.proofs.lemmas.Bool.{true≢false, false≢true, cond-true, cond-false, lt-ltb, or_parts, or_from, and_parts, and_from, false_from_ne_true, cases_Bool}
+use Rattle.std.proofs.lemmas.Bool.{true≢false, cond-true, lt-ltb, or_parts, or_from, and_parts, false_from_ne_true}
 use Rattle.std.proofs.lemmas.List.{get_or_append_left, get_or_push, map-append}
 use Rattle.std.proofs.lemmas.List.Elements.{filter_map-append}
 use Rattle.std.proofs.lemmas.List.Folds.{list_any-append, list_any_at}
@@ -15,7 +15,9 @@ use Rattle.graph_model.specs.declared.decl.Decl.{Decl}
 use Rattle.graph_model.specs.declared.decl.Decl.TheVariants.{Space, Inst, Lock, Barrier}
 use Rattle.graph_model.specs.declared.found.Found.{Found}
 use Rattle.graph_model.specs.declared.found.Found.TheVariants as found
+use Rattle.index_spaces.specs.declared.Op.TheVariants as op
 use Rattle.graph_model.specs.declared.verb.Line.{Line}
+use Rattle.graph_model.specs.declared.verb.Verb.TheVariants.{User}
 use Rattle.graph_model.specs.Graph.{GraphValue, BarrierInfo, decl_name, space_of, lock_of, barrier_of, named_spaces, locks, barriers}
 use Rattle.graph_model.specs.Fits.{is_inst, is_used, repeats, decl_repeats, verb_repeats, decl_tests, decl_fault, line_tests, line_fault, with_decl, with_line}
 use Rattle.graph_model.specs.declared.verb.Access.{Access}
@@ -218,3 +220,22 @@ unused_decl_name g d h = (or_parts _ _ (none_first (decl_tests g d) h (is_used g
 
 pub unused_line_name : (g : GraphValue) (l : Line) → line_fault g l ≡ None → is_used g l.name ≡ false
 unused_line_name g l h = (or_parts (is_used g l.name) _ (none_first (line_tests g l) h (is_used g l.name || (verb_repeats g l.verb || repeats nat_eq (map (λ (a : Access). a.column) (verb_accesses l.verb))), why.Twice) (0, omega arith, refl))).0
+
+-- what stands for a name has it
+at_some : {X : Type 0} (p : X → Bool) (xs : List X) (k : ℕ) (d : X) → position p xs ≡ Some k → list_any p xs ≡ false → ⊥
+at_some p xs k d e none = let s = position-Some p xs k d e in true≢false (sym (list_any_at p xs k d s.0 s.1) ∙ none)
+
+pub stands_not_unused : (g : GraphValue) (q : List ℕ) (x : Found) → StandsFor g q x → is_used g q ≡ false → ⊥
+stands_not_unused g q (found.Space s) h n = at_some (λ (x : List ℕ × List (ℕ × ℕ)). bytes_eq x.0 q) (named_spaces g) s ([], []) h (unused_in space_of (λ (x : List ℕ × List (ℕ × ℕ)). x.0) space_key q g.decls (decls_unused g q n))
+stands_not_unused g q (found.Inst d) h n = at_some (is_inst_named q) g.decls d (Lock []) h (unused_inst q g.decls (decls_unused g q n))
+stands_not_unused g q (found.Lock l) h n = at_some (bytes_eq q) (locks g) l [] h (flipped_lock q (locks g) (unused_in lock_of (λ (x : List ℕ). x) lock_key q g.decls (decls_unused g q n)))
+stands_not_unused g q (found.Barrier b) h n = at_some (λ (x : BarrierInfo). bytes_eq x.name q) (barriers g) b (record { name = []; count = 0; op = op.Sum; first = 0 }) h (unused_in barrier_of (λ (x : BarrierInfo). x.name) barrier_key q g.decls (decls_unused g q n))
+stands_not_unused g q (found.Line i) h n = at_some (λ (x : Line). bytes_eq x.name q) g.lines i (record { name = []; verb = User; on = None }) h (unused_lines q g.lines (lines_unused g q n))
+
+pub found_is_used : (g : GraphValue) (q : List ℕ) (o : Option Found) → MatchOption o (is_used g q ≡ false) (StandsFor g q) → is_some o ≡ is_used g q
+found_is_used g q None m = sym m
+found_is_used g q (Some x) m = used_by (is_used g q) (stands_not_unused g q x m)
+  where
+    used_by : (b : Bool) → (b ≡ false → ⊥) → true ≡ b
+    used_by true h = refl
+    used_by false h = absurd (h refl)

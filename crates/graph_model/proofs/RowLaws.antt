@@ -1,6 +1,6 @@
 -- The edges and the rows of a graph with one more line.
-use Rattle.std.proofs.Common.{◌≡◌, ℕ, suc, ◌+◌, ◌*◌, zero-add, ◌<◌, ◌≤◌, Bool, true, false, cond, ◌||◌, inl, inr, List, [], ◌∷◌, ◌++◌, length, map, refl, sym, ◌∙◌, ap, subst, append-nil, append_assoc, length-append, arith, get_or}
-use Rattle.std.specs.Prelude.{◌==◌, Contains, filter, sum_by, slice_index_or, Some, None}
+use Rattle.std.proofs.Common.{◌≡◌, ℕ, ◌+◌, ◌*◌, zero-add, ◌<◌, ◌≤◌, Bool, true, false, cond, ◌||◌, List, [], ◌∷◌, ◌++◌, length, refl, sym, ◌∙◌, ap, append-nil, append_assoc, length-append, arith, get_or}
+use Rattle.std.specs.Prelude.{◌==◌, Contains, filter, sum_by, None}
 use Rattle.std.specs.List.{list_any}
 use Rattle.std.proofs.lemmas.List.Elements.{filter-append, Contains-append_left}
 use Rattle.std.proofs.lemmas.List.Folds.{list_any-append}
@@ -15,7 +15,7 @@ use Rattle.graph_model.specs.declared.verb.Verb.TheVariants.{User, Trigger, Canc
 use Rattle.graph_model.specs.Graph.{GraphValue, ends_user, is_release_of, arrival_weight, arrivals}
 use Rattle.graph_model.specs.Edges.{line_edges, edges_after, edges, edges_into, edges_out_of}
 use Rattle.graph_model.specs.Fits.{named_lines, on_lines, line_fault, with_decl, with_line}
-use Rattle.graph_model.specs.Rows.{RowsValue, NamesBelow, EndsBelow, mark_at, mark_after, mark_of, AddsRow, AreRowsOf}
+use Rattle.graph_model.specs.Rows.{RowsValue, NamesBelow, EndsBelow, mark_after, mark_of, AddsRow, AreRowsOf}
 use Rattle.graph_model.proofs.GraphFacts.{line_ends, named_below}
 use Rattle.graph_model.proofs.ListFacts.{contains_here}
 

@@ -4,15 +4,15 @@ use Rattle.std.specs.Prelude.{Contains, filter}
 use Rattle.std.proofs.lemmas.List.{take_more, same_lists, map-append, take-map, get_or_default}
 use Rattle.std.proofs.Math.ListN.{get_or-map}
 use Rattle.std.proofs.Math.Seq.{take-append_seam}
-use Rattle.std.proofs.lemmas.List.Elements.{Contains-append_cases, Contains-get_or, filter-append}
+use Rattle.std.proofs.lemmas.List.Elements.{Contains-append_cases, filter-append}
 use Rattle.graph_model.specs.declared.verb.Edge.{Edge}
 use Rattle.graph_model.specs.declared.verb.EdgeKind.TheVariants.{Passes}
 use Rattle.graph_model.specs.declared.mark.Mark.{Mark}
 use Rattle.graph_model.specs.declared.side.Side.{Side}
 use Rattle.graph_model.specs.declared.side.Side.TheVariants.{From, To}
 use Rattle.graph_model.specs.declared.verb.Verb.{Verb}
-use Rattle.graph_model.specs.Rows.{Stock, stock_at, edges_at, room_at, KeepsEdges, end_of, EndsBelow, HasRoom, AddsEdge, AddsEdges, mark_at, fresh_mark, Marks, RowsValue, AddsRow}
-use Rattle.graph_model.proofs.ListFacts.{contains_none, contains_cases, contains_there, contains_here}
+use Rattle.graph_model.specs.Rows.{Stock, edges_at, room_at, KeepsEdges, end_of, HasRoom, AddsEdge, AddsEdges, mark_at, fresh_mark, Marks, RowsValue, AddsRow}
+use Rattle.graph_model.proofs.ListFacts.{contains_none, contains_cases, contains_there}
 
 -- what is read past the end of a list of edges
 abbrev pub no_edge : Edge

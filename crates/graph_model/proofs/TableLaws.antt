@@ -1,5 +1,5 @@
 -- What the tables of a graph give, and that its numbers are within the limits.
-use Rattle.std.proofs.Common.{◌≡◌, ℕ, zero, suc, ◌+◌, ◌<◌, ◌≤◌, Bool, false, ◌||◌, inl, inr, List, [], ◌∷◌, ◌++◌, length, refl, sym, ◌∙◌, ap, subst, append_assoc, length-append, arith, get_or}
+use Rattle.std.proofs.Common.{◌≡◌, ℕ, zero, suc, ◌+◌, ◌<◌, ◌≤◌, false, ◌||◌, inl, inr, List, [], ◌∷◌, ◌++◌, length, refl, sym, ◌∙◌, ap, subst, append_assoc, length-append, arith, get_or}
 use Rattle.std.specs.Prelude.{Contains, filter, filter_map, flat_map, Option, Some, None, option_map, slice_get, nat_lt}
 use Rattle.std.specs.List.{cons_option}
 use Rattle.std.specs.Option.{option_map_or}
@@ -124,14 +124,16 @@ within_limits g h =
     let ls = or_parts (nat_lt 64 (length (locks g))) _ cells.1 in
     let bs = or_parts (nat_lt 64 (length (barriers g))) _ ls.1 in
     let lines = or_parts (nat_lt 8192 (length g.lines)) _ bs.1 in
-    limits_by g short (ltb-false 256 (length (columns g)) cols.0) (ltb-false 64 (length (locks g)) ls.0) (ltb-false 64 (length (barriers g)) bs.0) (ltb-false 8192 (length g.lines) lines.0)
+    limits_by g short (ltb-false 64 (length (filter is_inst g.decls)) insts.0) (ltb-false 256 (length (columns g)) cols.0) (ltb-false 4194304 (cell_count g) cells.0)
+    (ltb-false 64 (length (locks g)) ls.0) (ltb-false 64 (length (barriers g)) bs.0) (ltb-false 8192 (length g.lines) lines.0) (ltb-false 65536 (length (edges g)) lines.1)
   where
-    limits_by : (g : GraphValue) → length (head g) ≤ 1048576 → length (columns g) ≤ 256 → length (locks g) ≤ 64 → length (barriers g) ≤ 64 → length g.lines ≤ 8192 → IsWithinLimits g
-    limits_by g text c l b n =
+    limits_by : (g : GraphValue) → length (head g) ≤ 1048576 → length (filter is_inst g.decls) ≤ 64 → length (columns g) ≤ 256 → cell_count g ≤ 4194304 →
+        length (locks g) ≤ 64 → length (barriers g) ≤ 64 → length g.lines ≤ 8192 → length (edges g) ≤ 65536 → IsWithinLimits g
+    limits_by g text i c m l b n e =
         let long : 1 + length g.decls + length g.lines ≤ length (head g) = long_head g in
         let some : length (named_spaces g) ≤ length g.decls = length-filter_map space_of g.decls in
         let ds : length g.decls ≤ 1048576 = omega arith in
-        record { few_decls = ds; few_lines = n; few_spaces = omega arith; few_columns = c; few_locks = l; few_barriers = b }
+        record { few_decls = ds; few_lines = n; few_spaces = omega arith; few_columns = c; few_locks = l; few_barriers = b; short_text = text; few_insts = i; few_cells = m; few_edges = e }
 
 -- the table gives the place of each space
 space_of_is : (d : Decl) (x : List ℕ × List (ℕ × ℕ)) → space_of d ≡ Some x → d ≡ Space x.0 x.1
@@ -164,7 +166,7 @@ space_read g now t s k d same e h at read =
     (is.0, subst (λ (x : GraphValue). d ≡ Space is.0 (space_at x s)) same is.1, subst (λ (x : GraphValue). option_map (λ (y : List ℕ × List (ℕ × ℕ)). y.0) (slice_get (named_spaces x) s) ≡ Some is.0) same is.2)
 
 -- the space of a column is declared
-columns_known : (before ds : List Decl) → DeclsFit before ds → (x : ColumnInfo) → Contains (flat_map columns_of ds) x → x.space < length (filter_map space_of (before ++ ds))
+pub columns_known : (before ds : List Decl) → DeclsFit before ds → (x : ColumnInfo) → Contains (flat_map columns_of ds) x → x.space < length (filter_map space_of (before ++ ds))
 columns_known before [] f x c = absurd (contains_none x c)
 columns_known before (d ∷ ds) f x c = elim (Contains-append_cases (columns_of d) (flat_map columns_of ds) x c) [
   | inl here ↦ (let k : x.space < length (filter_map space_of before) = known_here before d f.1 x here in

@@ -3,7 +3,6 @@
 use Rattle.std.specs.Prelude.{ℕ, ◌==◌, Bool, true, false, cond, not, nat_lt, sum_by, List, [], map, flat_map, filter_map, Option, Some, None, option_map, slice_get}
 use Rattle.std.specs.Option.{option_map_or}
 use Rattle.std.specs.List.{list_any}
-use Rattle.index_spaces.specs.declared.Op.{Op}
 pub use Rattle.graph_model.specs.declared.decl.ColumnInfo.{ColumnInfo}
 pub use Rattle.graph_model.specs.declared.decl.BarrierInfo.{BarrierInfo}
 use Rattle.graph_model.specs.declared.decl.Decl.{Decl}

@@ -13,3 +13,8 @@ pub mod Fits
 pub mod Tables
 pub mod Names
 pub mod Rows
+pub mod Counts
+pub mod Trace
+pub mod Laws
+pub mod LineLaws
+pub mod HeldCells

@@ -1,8 +1,7 @@
 -- What a graph keeps for each of its lines.
-use Rattle.std.specs.Prelude.{Contains, ◌≡◌, ℕ, ◌+◌, ◌<◌, ◌≤◌, ◌==◌, Bool, false, cond, ◌||◌, List, [], ◌∷◌, ◌++◌, length, map, filter, slice_index_or}
+use Rattle.std.specs.Prelude.{Contains, ◌≡◌, ℕ, ◌+◌, ◌<◌, ◌≤◌, ◌==◌, false, cond, ◌||◌, List, [], ◌∷◌, ◌++◌, length, filter, slice_index_or}
 use Rattle.std.specs.List.{list_any}
 use Rattle.graph_model.specs.declared.verb.Edge.{Edge}
-use Rattle.graph_model.specs.declared.verb.Line.{Line}
 use Rattle.graph_model.specs.declared.verb.Verb.{Verb}
 use Rattle.graph_model.specs.declared.verb.Verb.TheVariants.{Trigger, Cancel, Arrive, Release}
 use Rattle.graph_model.specs.declared.mark.Mark.{Mark}

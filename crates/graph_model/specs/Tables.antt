@@ -1,8 +1,11 @@
 -- What a graph keeps beside its declarations to answer by number.
-use Rattle.std.specs.Prelude.{ℕ, ◌+◌, ◌≤◌, List, [], ◌∷◌, ◌++◌, length, filter_map, flat_map, Option, option_map}
+use Rattle.std.specs.Prelude.{ℕ, ◌+◌, ◌≤◌, List, [], ◌∷◌, ◌++◌, length, filter, filter_map, flat_map, Option, option_map}
 use Rattle.std.specs.List.{cons_option}
 use Rattle.graph_model.specs.declared.decl.Decl.{Decl}
 use Rattle.graph_model.specs.Graph.{GraphValue, ColumnInfo, BarrierInfo, space_of, columns_of, lock_of, barrier_of, named_spaces, columns, locks, barriers}
+use Rattle.graph_model.specs.Edges.{edges}
+use Rattle.graph_model.specs.Fits.{is_inst, cell_count}
+use Rattle.graph_model.specs.Spelling.{head}
 
 -- where the spaces stand among the declarations, and the columns, the reservations and the barriers
 pub record TablesValue : Type 0 where
@@ -42,3 +45,7 @@ pub record IsWithinLimits (g : GraphValue) : Type 0 where
   pub few_columns : length (columns g) ≤ 256
   pub few_locks : length (locks g) ≤ 64
   pub few_barriers : length (barriers g) ≤ 64
+  pub short_text : length (head g) ≤ 1048576
+  pub few_insts : length (filter is_inst g.decls) ≤ 64
+  pub few_cells : cell_count g ≤ 4194304
+  pub few_edges : length (edges g) ≤ 65536

@@ -1,6 +1,8 @@
 //! Declarations.
 
-ghost use Rattle.std.specs.Prelude.{◌≡◌};
+ghost use Rattle.std.specs.Prelude.{◌≡◌, IsTrue};
+ghost use Rattle.std.specs.List.{AllByRecursion};
+ghost use Rattle.graph_model.specs.Name.{is_name};
 ghost use Rattle.graph_model.specs.Graph.{decl_name};
 
 use crate::lists::NameList;
@@ -32,6 +34,28 @@ pub enum Decl {
 }
 
 impl Decl {
+    ghost use Rattle.graph_model.specs.Fits.{IsDecl};
+
+    /// What its type says of it, for callers to cite.
+    pub fn is_well_formed(&self)
+        ensures { IsDecl self.now }
+    {
+        let _ = self.name().bytes();
+        match self {
+            Decl::Space { space, .. } => {
+                let _ = space.intervals();
+            }
+            Decl::Inst { space, fields, .. } => {
+                let _space = *space;
+                are_names(fields.items.as_slice());
+            }
+            Decl::Lock { .. } => {}
+            Decl::Barrier { count, first, .. } => {
+                let _numbers = (*count, *first);
+            }
+        }
+    }
+
     /// The name that it gives.
     pub fn name(&self) -> &Name
         ensures { result.now ≡ decl_name self.now }
@@ -42,6 +66,17 @@ impl Decl {
             Decl::Lock { name } => name,
             Decl::Barrier { name, .. } => name,
         }
+    }
+}
+
+/// Each of these names is one.
+fn are_names(names: &[Name])
+    ensures { AllByRecursion (λ f. IsTrue (is_name f)) names.now }
+{
+    let mut rest = names;
+    while let [first, others @ ..] = rest {
+        let _ = first.bytes();
+        rest = others;
     }
 }
 

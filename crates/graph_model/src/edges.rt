@@ -29,7 +29,8 @@ pub(crate) fn edges_of_line(
 /// How many edges a line gives after these lines.
 pub(crate) fn count_edges(lines: &[Line], line: &Line) -> usize
     requires { length lines.now ≤ 8192 }
-    ensures { result ≡ length (line_edges lines.now line.now) }
+    ensures number { result ≡ length (line_edges lines.now line.now) }
+    ensures few { result ≤ 4294967297 }
 {
     let on = if line.on.is_some() { 1 } else { 0 };
     on + count_verb_edges(lines, &line.verb)

@@ -1,9 +1,15 @@
 //! Graphs.
 
+mod faults;
+mod quantities;
+mod sizes;
+
 use crate::access::verb_access;
+use crate::counts::Counts;
 use crate::decl::{BarrierInfo, Decl};
 use crate::edges::edges_of_line;
 use crate::found::Found;
+use crate::mark::Mark;
 use crate::name::Name;
 use crate::names::Names;
 use crate::room::{push_within, reserve};
@@ -15,6 +21,18 @@ use index_spaces::space::Space;
 use std::alloc::Global;
 use std::marker::Model;
 
+/// The quantities of the graph without items: its text is the first line.
+const EMPTY: Counts = Counts {
+    text: 8,
+    insts: 0,
+    columns: 0,
+    cells: 0,
+    locks: 0,
+    barriers: 0,
+    lines: 0,
+    edges: 0,
+};
+
 /// A graph, seen as its declarations and its lines.
 #[derive(Drop)]
 pub struct Graph {
@@ -24,6 +42,7 @@ pub struct Graph {
     tables: Tables,
     names: Names,
     rows: Rows,
+    counts: Counts,
 }
 
 impl Model for Graph {
@@ -36,6 +55,7 @@ impl Model for Graph {
     ghost use Rattle.graph_model.specs.Tables.{tables_of, IsWithinLimits};
     ghost use Rattle.graph_model.specs.Names.{AreNamesOf};
     ghost use Rattle.graph_model.specs.Rows.{AreRowsOf};
+    ghost use Rattle.graph_model.specs.Counts.{counts_of};
 
     ghost view = { λ a. record { decls = a.decls.items; lines = a.lines.items } };
 
@@ -45,12 +65,15 @@ impl Model for Graph {
       limits : IsWithinLimits (record { decls = a.decls.items; lines = a.lines.items });
       names : AreNamesOf (record { decls = a.decls.items; lines = a.lines.items }) a.names;
       rows : AreRowsOf (record { decls = a.decls.items; lines = a.lines.items }) a.rows;
+      counts : a.counts ≡ counts_of (record { decls = a.decls.items; lines = a.lines.items });
     } };
 }
 
 impl Graph {
     ghost use Rattle.std.specs.Prelude.{◌≡◌, [], length, ◌<◌, ◌≤◌, slice_get, position, false, None, OnOk, OnErr, MatchOption, option_map};
-    ghost use Rattle.graph_model.specs.Graph.{named_spaces, columns, locks, barriers, space_at, column_space, never_comes};
+    ghost use Rattle.graph_model.specs.Graph.{named_spaces, columns, locks, barriers, space_at, column_space, never_comes, ends_user, is_release_of};
+    ghost use Rattle.std.specs.List.{list_any};
+    ghost use Rattle.graph_model.specs.Rows.{mark_of};
     ghost use Rattle.graph_model.specs.Edges.{edges_into, edges_out_of};
     ghost use Rattle.graph_model.specs.Access.{accesses};
     ghost use Rattle.graph_model.specs.Names.{StandsFor, found_decl, is_column_named};
@@ -67,6 +90,7 @@ impl Graph {
             tables: Tables::new(alloc),
             names: Names::new(alloc),
             rows: Rows::new(alloc),
+            counts: EMPTY,
         }
     }
 
@@ -81,6 +105,7 @@ impl Graph {
         let found = self.found_decl(&decl);
         let name = *decl.name();
         let place = self.decls.len() as u32;
+        let counts = self.counts_with_decl(&decl);
         reserve(&mut self.decls, 1)?;
         self.names.insert(name, found)?;
         if let Err(error) = self.tables.add(&decl, place) {
@@ -88,6 +113,7 @@ impl Graph {
             return Err(error);
         }
         push_within(&mut self.decls, decl);
+        self.counts = counts;
         Ok(())
     }
 
@@ -101,6 +127,7 @@ impl Graph {
         let given = edges_of_line(self.alloc, &self.lines, &line)?;
         let name = line.name;
         let found = Found::Line(self.lines.len() as u32);
+        let counts = self.counts_with_line(&line);
         reserve(&mut self.lines, 1)?;
         self.names.insert(name, found)?;
         if let Err(error) = self.rows.add(&line.verb, &given) {
@@ -108,6 +135,7 @@ impl Graph {
             return Err(error);
         }
         push_within(&mut self.lines, line);
+        self.counts = counts;
         Ok(())
     }
 
@@ -282,6 +310,29 @@ impl Graph {
                 < self.tables.barrier(*barrier).count,
             _ => false,
         }
+    }
+
+    /// Whether a line triggers or cancels this user event.
+    pub fn is_ended(&self, i: u32) -> bool
+        requires { i < length self.now.lines }
+        ensures { result ≡ list_any (λ l. ends_user i l.verb) self.now.lines }
+    {
+        self.mark(i).ended
+    }
+
+    /// Whether a line releases what this line acquires.
+    pub fn is_released(&self, i: u32) -> bool
+        requires { i < length self.now.lines }
+        ensures { result ≡ list_any (λ l. is_release_of i l.verb) self.now.lines }
+    {
+        self.mark(i).released
+    }
+
+    /// What later lines have done to a line.
+    fn mark(&self, i: u32) -> Mark
+        ensures { result ≡ mark_of self.now i }
+    {
+        self.rows.mark(i)
     }
 
     /// What the name of the next declaration stands for.

@@ -2,18 +2,26 @@
 #![tactic(auto)]
 
 mod access;
+mod counts;
 pub mod decl;
 mod edges;
 pub mod found;
 pub mod graph;
+pub mod held_cells;
+pub mod laws;
+pub mod line_laws;
 pub mod lists;
 mod mark;
 pub mod name;
 mod names;
 pub mod outcome;
+mod repeats;
 mod room;
 mod rows;
 mod side;
 mod stock;
 mod tables;
+#[cfg(test)]
+mod tests;
 pub mod verb;
+mod words;

@@ -14,6 +14,13 @@ pub(crate) struct Mark {
     pub(crate) released: bool,
 }
 
+/// The mark of a line that no later line names.
+pub(crate) const FRESH: Mark = Mark {
+    arrivals: 0,
+    ended: false,
+    released: false,
+};
+
 /// Marks what a line does to the line that it names.
 pub(crate) fn mark_named(marks: &mut [Mark], verb: &Verb)
     requires below { NamesBelow (length marks.old) verb.now }

@@ -4,7 +4,7 @@ ghost use Rattle.std.specs.Prelude.{◌≡◌, ℕ, ◌<◌, ◌^◌, ◌+◌, [
 ghost use Rattle.graph_model.specs.declared.side.Side.TheVariants.{From, To};
 ghost use Rattle.graph_model.specs.Rows.{mark_at, NamesBelow, EndsBelow, HasRoom, AddsRow};
 
-use crate::mark::{Mark, mark_named};
+use crate::mark::{FRESH, Mark, mark_named};
 use crate::room::{push, push_within, reserve};
 use crate::side::Side;
 use crate::stock::{Stock, add_all, make_room};
@@ -68,11 +68,14 @@ impl Rows {
         stock.edges()
     }
 
+    /// The mark of a line, and that of one that no line names where there is no such line.
     pub(crate) fn mark(&self, i: u32) -> Mark
-        requires { i < length self.now.marks }
         ensures { result ≡ mark_at self.now.marks i }
     {
-        self.marks[i as usize]
+        match self.marks.get(i as usize) {
+            Some(mark) => *mark,
+            None => FRESH,
+        }
     }
 
     /// Adds a row for a line that does this and gives these edges. `NoMemory` leaves the rows as
@@ -94,12 +97,7 @@ impl Rows {
         add_all(&mut self.into, Side::To, given);
         add_all(&mut self.from, Side::From, given);
         mark_named(&mut self.marks, verb);
-        let mark = Mark {
-            arrivals: 0,
-            ended: false,
-            released: false,
-        };
-        push_within(&mut self.marks, mark);
+        push_within(&mut self.marks, FRESH);
         Ok(())
     }
 }

@@ -27,7 +27,7 @@ rank_place (i ∷ s) r h =
     ]
 
 -- the interval that has a point
-interval_place : (s : List (ℕ × ℕ)) (p : ℕ) → has_point s p ≡ true → (k : ℕ) × (k < length s) × (interval_has (get_or s k (0, 0)) p ≡ true)
+pub interval_place : (s : List (ℕ × ℕ)) (p : ℕ) → has_point s p ≡ true → (k : ℕ) × (k < length s) × (interval_has (get_or s k (0, 0)) p ≡ true)
 interval_place [] p h = absurd (false≢true h)
 interval_place (i ∷ s) p h =
     elim (or_cases (interval_has i p) (has_point s p) h) [

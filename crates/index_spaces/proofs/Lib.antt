@@ -3,3 +3,5 @@ pub mod PointFacts
 pub mod FaultFacts
 pub mod MergeFacts
 pub mod LawFacts
+pub mod RunFacts
+pub mod HeldFacts

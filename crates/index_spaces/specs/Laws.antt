@@ -1,8 +1,10 @@
 -- What holds of all spaces.
-use Rattle.std.specs.Prelude.{◌≡◌, ℕ, ◌+◌, ◌-◌, ◌^◌, ◌<◌, ◌≤◌, ◌↔◌, List, length, slice_index_or, All, Contains, Some, None, IsTrue}
+use Rattle.std.specs.Prelude.{◌≡◌, ℕ, ◌==◌, cond, false, ◌+◌, ◌-◌, ◌^◌, ◌<◌, ◌≤◌, ◌↔◌, List, ◌++◌, length, take, drop, slice_index, slice_index_or, All, Contains, Some, None, IsTrue}
 use Rattle.std.specs.List.Sorted.{IsStrictlyIncreasing}
 use Rattle.index_spaces.specs.declared.space.SpaceFault.TheVariants.{Reversed, Order}
-use Rattle.index_spaces.specs.Space.{has_point, points, space_size, rank, point_at, IsSpace}
+use Rattle.index_spaces.specs.Space.{interval_has, has_point, points, space_size, rank, point_at, IsSpace, IsWithin}
+use Rattle.index_spaces.specs.Column.{ColumnValue, cell_of, with_cell}
+use Rattle.index_spaces.specs.Run.{interval_size, IsRun, IsRunAt, WritesRun, WritesPoints}
 use Rattle.index_spaces.specs.SpaceFault.{space_fault}
 
 -- a point is listed exactly where an interval has it
@@ -46,3 +48,31 @@ ReversedIsFirst = (pairs : List (ℕ × ℕ)) (k : ℕ) → space_fault pairs �
 abbrev pub OrderIsFirst : Type 0
 OrderIsFirst = (pairs : List (ℕ × ℕ)) (k : ℕ) → space_fault pairs ≡ Some (Order k) →
     (k < length pairs) × ((j : ℕ) → j < k → IsInPlace pairs j) × ((pair_at pairs k).0 ≤ (pair_at pairs k).1) × (0 < k) × ((pair_at pairs k).0 < (pair_at pairs (k - 1)).1 + 2)
+
+-- each interval begins at least two above the end of one before it
+abbrev pub IntervalsAscend : Type 0
+IntervalsAscend = (s : List (ℕ × ℕ)) (j k : ℕ) (d : ℕ × ℕ) → IsSpace s → j < k → k < length s → (slice_index_or s j d).1 + 2 ≤ (slice_index_or s k d).0
+
+-- an interval of a space is a run of each space that has its points
+abbrev pub RunsOfSpaces : Type 0
+RunsOfSpaces = (s t : List (ℕ × ℕ)) (k : ℕ) (d : ℕ × ℕ) → IsSpace s → IsWithin s t → k < length s → IsRun t (slice_index_or s k d)
+
+-- a write of the cells at the ranks of a run is a write at its points
+abbrev pub RunsAreWritten : Type 0
+RunsAreWritten = (s : List (ℕ × ℕ)) (i : ℕ × ℕ) (start : ℕ) (cells ys : List ℕ) (value : ℕ → ℕ) → IsRunAt s i start → length cells ≡ space_size s → length ys ≡ interval_size i →
+    ((p : ℕ) → IsTrue (interval_has i p) → slice_index ys (p - i.0) ≡ value p) →
+    WritesRun (record { space = s; cells = cells }) (record { space = s; cells = take start cells ++ (ys ++ drop (interval_size i) (drop start cells)) }) i value
+
+-- a write of the cell at the rank of a point is a write at the point
+abbrev pub CellsAreWritten : Type 0
+CellsAreWritten = (c : ColumnValue) (p q v : ℕ) → IsSpace c.space → length c.cells ≡ space_size c.space → IsTrue (has_point c.space p) → IsTrue (has_point c.space q) →
+    cell_of (with_cell c p v) q ≡ cond (q == p) v (cell_of c q)
+
+-- the points of an interval lie in none of the intervals before it
+abbrev pub EarlierPoints : Type 0
+EarlierPoints = (s : List (ℕ × ℕ)) (k : ℕ) (d : ℕ × ℕ) (p : ℕ) → IsSpace s → k < length s → IsTrue (interval_has (slice_index_or s k d) p) → has_point (take k s) p ≡ false
+
+-- a write of the first intervals of a space, and then of the next, is a write of one interval more
+abbrev pub SpacesAreWritten : Type 0
+SpacesAreWritten = (old now new : ColumnValue) (s : List (ℕ × ℕ)) (k : ℕ) (d : ℕ × ℕ) (value next : ℕ → ℕ) → IsWithin s old.space → k < length s → WritesPoints old now (take k s) value →
+    WritesRun now new (slice_index_or s k d) next → ((p : ℕ) → IsTrue (interval_has (slice_index_or s k d) p) → next p ≡ value p) → WritesPoints old new (take (k + 1) s) value

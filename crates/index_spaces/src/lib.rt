@@ -2,6 +2,7 @@
 #![tactic(auto)]
 
 pub mod column;
+pub mod held;
 pub mod laws;
 pub mod space;
 

@@ -55,6 +55,7 @@ impl Space {
     ghost use Rattle.std.specs.List.{HoldsAt};
     ghost use Rattle.index_spaces.specs.Space.{interval_has, has_point, space_size, rank, point_at, IsSpace, IsWithin, Meet};
     ghost use Rattle.index_spaces.specs.SpaceFault.{space_fault};
+    ghost use Rattle.index_spaces.specs.Run.{IsRun, IsRunAt};
 
     /// The space of these closed intervals, each a pair of its least and its greatest point. What
     /// is wrong comes in this order: there is no pair, the first pair that is reversed or out of
@@ -141,6 +142,16 @@ impl Space {
     {
         let k = count_up_to(&self.ranks, r) - 1;
         self.intervals[k].0 + (r - self.ranks[k])
+    }
+
+    /// The rank of the first point of an interval that lies in the space. The other points of the
+    /// interval have the ranks after it.
+    pub fn start_of(&self, interval: (u32, u32)) -> u32
+        requires { IsRun self.now interval }
+        ensures { IsRunAt self.now interval result }
+    {
+        let _ = self.intervals();
+        self.rank(interval.0).unwrap()
     }
 
     /// Whether each of its points is in the other.

@@ -1,11 +1,5 @@
-pub mod WordLaws
-pub mod DigitLoop
-pub mod Reading
-pub mod LinesRead
-pub mod PlainGraph
 pub mod WrittenLaws
 pub mod WordLines
-pub mod PlainRead
-pub mod PlainOutcome
 pub mod ReportRest
+pub mod Fitting
 pub mod Delivering

@@ -8,6 +8,8 @@ use Rattle.graph_model.specs.declared.outcome.End.TheVariants.{Done, Faulted, Ca
 use Rattle.graph_model.specs.declared.outcome.Answer.{Answer}
 use Rattle.graph_model.specs.declared.outcome.Answer.TheVariants.{Triggered, Poisoned, Pending}
 use Rattle.graph_model.specs.declared.verb.Line.{Line}
+use Rattle.graph_model.specs.declared.verb.Why.{Why}
+use Rattle.graph_model.specs.declared.verb.Why.TheVariants.{Header, Syntax, Name, Twice, Unknown, Kind, Number, Space, Outside, Arrivals, Limit, Missing, Rest}
 use Rattle.graph_model.specs.Graph.{GraphValue, is_phase, columns}
 use Rattle.graph_model.specs.Spelling.{spelled, column_name, interval_word}
 
@@ -72,9 +74,25 @@ pub record FitsGraph (g : GraphValue) (o : Outcome) : Type 0 where
   pub phases : length o.phases ≡ length g.lines
   pub columns : length o.columns ≡ length (columns g)
 
--- the line for bytes that are the text of no graph that is run so far
-abbrev pub unbuilt_text : List ℕ
-unbuilt_text = codes "refused unbuilt\n"
+-- the word for a reason
+abbrev pub why_word : Why → List ℕ
+why_word Header = codes "header"
+why_word Syntax = codes "syntax"
+why_word Name = codes "name"
+why_word Twice = codes "twice"
+why_word Unknown = codes "unknown"
+why_word Kind = codes "kind"
+why_word Number = codes "number"
+why_word Space = codes "space"
+why_word Outside = codes "outside"
+why_word Arrivals = codes "arrivals"
+why_word Limit = codes "limit"
+why_word Missing = codes "missing"
+why_word Rest = codes "rest"
+
+-- the line for a text whose line of this number is refused
+abbrev pub unread_text : ℕ → Why → List ℕ
+unread_text number why = spelled (codes "refused" ∷ codes "line" ∷ decimal number ∷ why_word why ∷ [])
 
 -- the line for an input that is too long
 abbrev pub too_long_text : List ℕ

@@ -1,11 +1,9 @@
 //! The top call: from the bytes of a graph to the bytes of its report.
 #![tactic(auto)]
 
-mod numbers;
-mod plain;
-mod plain_lines;
-mod plain_reader;
-mod plain_run;
+#[cfg(test)]
+mod limits;
+mod refusal;
 pub mod report;
 pub mod status;
 #[cfg(test)]
@@ -15,17 +13,23 @@ ghost use Rattle.std.specs.Prelude.{◌≡◌, ◌≢◌, ℕ, ◌<◌, ◌≤�
 ghost use Rattle.realm_io.specs.Counts.{Rose};
 ghost use Rattle.realm_top.specs.Written.{sink_state};
 ghost use Rattle.graph_model.specs.Graph.{GraphValue};
-ghost use Rattle.graph_model.specs.Fits.{IsGraph};
-ghost use Rattle.realm_top.specs.Plain.{plain_graph};
-ghost use Rattle.realm_top.specs.Texts.{unbuilt_text, too_long_text};
-ghost use Rattle.realm_top.specs.Answer.{is_run, IsPlainText, evaluation_report, Answers, Answered, Delivered, BrokenOff, Delivers};
+ghost use Rattle.graph_reader.specs.Text.{GraphText};
+ghost use Rattle.graph_reader.specs.FirstFault.{FirstFault};
+ghost use Rattle.graph_reader.specs.declared.ReadRefusal.TheVariants.{Line};
+ghost use Rattle.graph_model.specs.declared.verb.Why.{Why};
+ghost use Rattle.realm_top.specs.Texts.{unread_text, too_long_text};
+ghost use Rattle.realm_top.specs.Answer.{is_run, IsRefused, EndsByPaths, evaluation_report, Answers, Answered, Delivered, BrokenOff, Delivers};
 ghost use Rattle.realm_top.specs.declared.status.Status.{Status};
 
-use crate::plain::Plain;
-use crate::plain_reader::read_plain;
-use crate::plain_run::{evaluate, make_graph};
+use crate::refusal::put_unread;
 use crate::report::put_report;
 use crate::status::Status;
+use graph_model::graph::Graph;
+use graph_model::laws::{cancelled_where_unbroken, waits_where_reached};
+use graph_model::verb::Why;
+use graph_reader::laws::bytes_have_one_reading;
+use graph_reader::{ReadRefusal, read_graph};
+use plain_eval::evaluation::eval;
 use realm_io::{Gate, ReadEnd, Sink, Source, put, read_all};
 use std::alloc::Global;
 
@@ -45,16 +49,19 @@ pub fn realm<R, S: Source, K: Sink, G: Gate>(
     _gate: &G,
 ) -> Status
     // Done: the input is the one text of a graph, and its evaluation's report was written and flushed.
-    ensures done { result ≡ Status.Done → IfSome (S.left source.old) (λ bytes. (g : GraphValue) × IsPlainText bytes g
+    ensures done { result ≡ Status.Done → IfSome (S.left source.old) (λ bytes. (g : GraphValue) × GraphText bytes g
         × Delivered (sink_state K.taken K.flushed K.faults sink.old) (sink_state K.taken K.flushed K.faults sink.new) (evaluation_report g)) }
+
+    // Of that graph: without a cycle a line waits exactly where one that never comes reaches it, and a line is cancelled exactly where an unbroken path from a fault reaches it.
+    ensures paths { result ≡ Status.Done → IfSome (S.left source.old) (λ bytes. (g : GraphValue) → GraphText bytes g → EndsByPaths g) }
 
     // Usage: exactly where the words are not the program's name and `run`; nothing is read or written.
     ensures usage { (result ≡ Status.Usage) ↔ (is_run (map (λ word. string_bytes word) words.now) ≡ false) }
     ensures untouched { result ≡ Status.Usage → (source.new ≡ source.old) × (sink.new ≡ sink.old) }
 
-    // Unread: the input is the text of no graph that is run so far, and that was written and flushed.
-    ensures unread { result ≡ Status.Unread → IfSome (S.left source.old) (λ bytes. ((g : GraphValue) → IsPlainText bytes g → ⊥)
-        × Delivered (sink_state K.taken K.flushed K.faults sink.old) (sink_state K.taken K.flushed K.faults sink.new) unbuilt_text) }
+    // Unread: the input is the text of no graph; its first refused line and the reason were written and flushed.
+    ensures unread { result ≡ Status.Unread → IfSome (S.left source.old) (λ bytes. (out : List ℕ) × IsRefused bytes out
+        × Delivered (sink_state K.taken K.flushed K.faults sink.old) (sink_state K.taken K.flushed K.faults sink.new) out) }
 
     // TooLong: more than 1,048,576 bytes were left, and that was written and flushed.
     ensures too_long { result ≡ Status.TooLong → IfSome (S.left source.old) (λ bytes. (1048576 < length bytes)
@@ -78,6 +85,9 @@ pub fn realm<R, S: Source, K: Sink, G: Gate>(
     ensures others { (result ≢ Status.Unfit) × (result ≢ Status.Slots) }
     ensures counts { (S.faults source.old ≤ S.faults source.new) × (K.faults sink.old ≤ K.faults sink.new) }
 {
+    bytes_have_one_reading();
+    waits_where_reached();
+    cancelled_where_unbroken();
     if !asks_to_run(words) {
         return Status::Usage;
     }
@@ -105,26 +115,44 @@ fn run<K: Sink>(alloc: Global, bytes: &[u8], sink: &mut K) -> Status
     ensures answered { Answered (sink_state K.taken K.flushed K.faults sink.old) (sink_state K.taken K.flushed K.faults sink.new) bytes.now result }
     ensures no_memory { result ≡ Status.NoMemory → sink.new ≡ sink.old }
 {
-    match read_plain(bytes) {
-        None => put_text(sink, b"refused unbuilt\n", Status::Unread),
-        Some(plain) => run_plain(alloc, &plain, sink),
+    match read_graph(alloc, bytes) {
+        Ok(graph) => run_graph(alloc, &graph, sink),
+        Err(refusal) => refuse(sink, refusal),
     }
 }
 
-/// Evaluates a plain graph, and writes its report.
-fn run_plain<K: Sink>(alloc: Global, plain: &Plain, sink: &mut K) -> Status
-    requires { IsGraph (plain_graph plain.now) }
-    ensures done { (result ≡ Status.NoMemory) ⊎ Delivers (sink_state K.taken K.flushed K.faults sink.old) (sink_state K.taken K.flushed K.faults sink.new) Status.Done result (evaluation_report (plain_graph plain.now)) }
+/// Evaluates a graph, and writes its report.
+fn run_graph<K: Sink>(alloc: Global, graph: &Graph, sink: &mut K) -> Status
+    ensures done { (result ≡ Status.NoMemory) ⊎ Delivers (sink_state K.taken K.flushed K.faults sink.old) (sink_state K.taken K.flushed K.faults sink.new) Status.Done result (evaluation_report graph.now) }
     ensures no_memory { result ≡ Status.NoMemory → sink.new ≡ sink.old }
 {
-    let Ok(graph) = make_graph(alloc, plain) else {
+    let Ok(outcome) = eval(alloc, graph) else {
         return Status::NoMemory;
     };
-    let Ok(outcome) = evaluate(alloc, plain, &graph) else {
-        return Status::NoMemory;
-    };
-    match put_report(sink, &graph, &outcome) {
+    match put_report(sink, graph, &outcome) {
         Ok(()) => flush(sink, Status::Done),
+        Err(_) => Status::WriteFault,
+    }
+}
+
+/// Answers bytes that are the text of no graph.
+fn refuse<K: Sink>(sink: &mut K, refusal: ReadRefusal) -> Status
+    ensures answered { (bytes : List ℕ) → length bytes ≤ 1048576 → ((number : ℕ) (why : Why) → refusal ≡ Line number why → FirstFault bytes number why)
+        → Answered (sink_state K.taken K.flushed K.faults sink.old) (sink_state K.taken K.flushed K.faults sink.new) bytes result }
+    ensures no_memory { result ≡ Status.NoMemory → sink.new ≡ sink.old }
+{
+    match refusal {
+        ReadRefusal::Line { number, why } => put_refusal(sink, number, why),
+        ReadRefusal::NoMemory => Status::NoMemory,
+    }
+}
+
+/// Writes which line is refused and why, and flushes it.
+fn put_refusal<K: Sink>(sink: &mut K, number: u32, why: Why) -> Status
+    ensures { Delivers (sink_state K.taken K.flushed K.faults sink.old) (sink_state K.taken K.flushed K.faults sink.new) Status.Unread result (unread_text number why) }
+{
+    match put_unread(sink, number, why) {
+        Ok(()) => flush(sink, Status::Unread),
         Err(_) => Status::WriteFault,
     }
 }

@@ -55,7 +55,7 @@ fn put_three<'a, K: Sink>(
 }
 
 /// Writes a line of four words.
-fn put_four<'a, K: Sink>(
+pub(crate) fn put_four<'a, K: Sink>(
     sink: &mut K,
     first: &'a [u8],
     second: &'a [u8],

@@ -10,8 +10,6 @@ const GRAPH: &[u8] = b"realm 1\nspace s 0..3\ninst a s x\nf = fill a.x s 7\nend\
 
 const REPORT: &[u8] = b"realm-report 1\nop f done triggered\ncells a.x 0..3 7 7 7 7\ndone\n";
 
-const UNBUILT: &[u8] = b"refused unbuilt\n";
-
 /// The words of a command line.
 fn words(alloc: Global, line: &str) -> Result<Vec<String>, Fail> {
     let mut words = Vec::new(alloc);
@@ -60,22 +58,119 @@ fn answers_inputs(rt: HostRuntime) -> Result<(), Fail> {
     let long = vec![in rt.alloc(); b'a'; 1_048_577]?;
     let rows = [
         (GRAPH, Status::Done, REPORT),
+        // no line
         (
-            b"realm 1\nspace s 0..3\ninst a s x\nend\n".as_slice(),
+            b"realm 1\nend\n".as_slice(),
             Status::Done,
-            b"realm-report 1\ncells a.x 0..3 0 0 0 0\ndone\n".as_slice(),
+            b"realm-report 1\ndone\n".as_slice(),
+        ),
+        // a waiter above its trigger
+        (
+            b"realm 1\nspace s 0..1\ninst a s x,y\nu = user\nf = fill a.x s 5 on u\ng = fill a.y s 6\nt = trigger u on g\nend\n".as_slice(),
+            Status::Done,
+            b"realm-report 1\nop u done triggered\nop f done triggered\nop g done triggered\nop t done triggered\ncells a.x 0..1 5 5\ncells a.y 0..1 6 6\ndone\n".as_slice(),
+        ),
+        // no trigger
+        (
+            b"realm 1\nspace s 0..1\ninst a s x,y\nu = user\nf = fill a.x s 5 on u\ng = fill a.y s 6\nend\n".as_slice(),
+            Status::Done,
+            b"realm-report 1\nop u waiting pending\nop f waiting pending\nop g done triggered\ncells a.x 0..1 0 0\ncells a.y 0..1 6 6\ndone\n".as_slice(),
+        ),
+        // a cancelled user event and a barrier
+        (
+            b"realm 1\nbarrier b 1 sum 10\nu = user\np0 = phase b\np1 = phase b\na0 = arrive p0 5 on u\na1 = arrive p1 6\nc = cancel u\nend\n".as_slice(),
+            Status::Done,
+            b"realm-report 1\nop u cancelled poisoned\nop p0 cancelled poisoned\nop p1 done triggered\nop a0 cancelled poisoned\nop a1 done triggered\nop c done triggered\nphase p0 -\nphase p1 16\ndone\n".as_slice(),
+        ),
+        // a sum that wraps
+        (
+            b"realm 1\nbarrier b 2 sum 18446744073709551615\np = phase b\nv = arrive p 1\nw = arrive p 5\nend\n".as_slice(),
+            Status::Done,
+            b"realm-report 1\nop p done triggered\nop v done triggered\nop w done triggered\nphase p 5\ndone\n".as_slice(),
+        ),
+        // a short phase
+        (
+            b"realm 1\nbarrier b 2 sum 0\np0 = phase b\np1 = phase b\nv = arrive p0 1\nw = arrive p1 1\nx = arrive p1 1\nend\n".as_slice(),
+            Status::Done,
+            b"realm-report 1\nop p0 waiting pending\nop p1 waiting pending\nop v done triggered\nop w done triggered\nop x done triggered\nphase p0 -\nphase p1 -\ndone\n".as_slice(),
+        ),
+        // a fill on another
+        (
+            b"realm 1\nspace s 0..3\ninst a s x\nf = fill a.x s 7\ng = fill a.x s 8 on f\nend\n".as_slice(),
+            Status::Done,
+            b"realm-report 1\nop f done triggered\nop g done triggered\ncells a.x 0..3 8 8 8 8\ndone\n".as_slice(),
+        ),
+        // the greatest value
+        (
+            b"realm 1\nspace s 0..0\ninst a s x\nf = fill a.x s 18446744073709551615\nend\n".as_slice(),
+            Status::Done,
+            b"realm-report 1\nop f done triggered\ncells a.x 0..0 18446744073709551615\ndone\n".as_slice(),
+        ),
+        // sums under one reservation
+        (
+            b"realm 1\nspace s 0..1\ninst a s x,y,z\nlock l\nf = fill a.x s 3\ng = fill a.y s 4\nq = acquire l on f\nd = reduce sum a.x a.z s on q\nm = mergei d\nr = release q on m\nk = acquire l on g\ne = reduce sum a.y a.z s on k\nn = mergei e\nt = release k on n\nend\n".as_slice(),
+            Status::Done,
+            b"realm-report 1\nop f done triggered\nop g done triggered\nop q done triggered\nop d done triggered\nop m done triggered\nop r done triggered\nop k done triggered\nop e done triggered\nop n done triggered\nop t done triggered\ncells a.x 0..1 3 3\ncells a.y 0..1 4 4\ncells a.z 0..1 7 7\ndone\n".as_slice(),
+        ),
+        // kernels
+        (
+            b"realm 1\nspace s 0..3\nspace t 0..1\nspace o 0..0\ninst a s x,y,z\ninst b o d\ne1 = task iota a.x s 1\ne2 = task scan a.x a.y s on e1\ne3 = task stencil a.x a.z s s on e2\ne4 = task axpy a.y a.z s 10 on e3\ne5 = task hist a.z a.y s t on e4\ne6 = task dot a.x a.y b.d s o on e5\ne7 = task gather a.x a.y a.z s t on e6\ne8 = reduce max a.x a.z s on e7\ne9 = reduce min a.x a.y s on e8\nend\n".as_slice(),
+            Status::Done,
+            b"realm-report 1\nop e1 done triggered\nop e2 done triggered\nop e3 done triggered\nop e4 done triggered\nop e5 done triggered\nop e6 done triggered\nop e7 done triggered\nop e8 done triggered\nop e9 done triggered\ncells a.x 0..3 1 2 3 4\ncells a.y 0..3 1 2 3 4\ncells a.z 0..3 6 2 6 4\ncells b.d 0..0 72\ndone\n".as_slice(),
+        ),
+        // a missing last line
+        (
+            b"realm 1\nu = user\n".as_slice(),
+            Status::Unread,
+            b"refused line 3 missing\n".as_slice(),
+        ),
+        // too great a value
+        (
+            b"realm 1\nspace s 0..3\ninst a s x\nf = fill a.x s 18446744073709551616\nend\n".as_slice(),
+            Status::Unread,
+            b"refused line 4 number\n".as_slice(),
+        ),
+        // a line after the last
+        (
+            b"realm 1\nspace s 0..3\ninst a s x\nf = fill a.x s 7\nend\nu = user\n".as_slice(),
+            Status::Unread,
+            b"refused line 6 rest\n".as_slice(),
+        ),
+        // a third arrival of two
+        (
+            b"realm 1\nbarrier b 2 sum 18446744073709551615\np = phase b\nv = arrive p 1\nw = arrive p 5\nz = arrive p 1\nend\n".as_slice(),
+            Status::Unread,
+            b"refused line 6 arrivals\n".as_slice(),
+        ),
+        // a user event ended twice
+        (
+            b"realm 1\nu = user\nt = trigger u\nc = cancel u\nend\n".as_slice(),
+            Status::Unread,
+            b"refused line 4 twice\n".as_slice(),
+        ),
+        // a fill outside its column
+        (
+            b"realm 1\nspace p 0..1,4..5\nspace q 1..4\ninst a p x\nf = fill a.x q 1\nend\n".as_slice(),
+            Status::Unread,
+            b"refused line 5 outside\n".as_slice(),
+        ),
+        // several intervals
+        (
+            b"realm 1\nspace p 0..1,4..5\ninst a p x\nf = task iota a.x p 10\nend\n".as_slice(),
+            Status::Done,
+            b"realm-report 1\nop f done triggered\ncells a.x 0..1 10 11\ncells a.x 4..5 12 13\ndone\n".as_slice(),
+        ),
+        // broken and unbroken paths
+        (
+            b"realm 1\nspace s 0..1\ninst a s x,y\nf = fill a.x s 7\nk = task expect a.x s 0 5 on f\nc = copy a.x a.y s on k\nm = merge k c\nn = mergei k c\ng = fill a.y s 9 on n\nend\n".as_slice(),
+            Status::Done,
+            b"realm-report 1\nop f done triggered\nop k faulted poisoned\nop c cancelled poisoned\nop m cancelled poisoned\nop n done triggered\nop g done triggered\ncells a.x 0..1 7 7\ncells a.y 0..1 9 9\ndone\n".as_slice(),
         ),
         (
-            b"realm 1\nspace s 0..3\ninst a s x\nf = fill a.x s 7\ng = fill a.x s 8\nend\n".as_slice(),
+            b"".as_slice(),
             Status::Unread,
-            UNBUILT,
+            b"refused line 1 header\n".as_slice(),
         ),
-        (
-            b"realm 1\nspace s 0..3\ninst a s x\nf = fill a.x s 07\nend\n".as_slice(),
-            Status::Unread,
-            UNBUILT,
-        ),
-        (b"".as_slice(), Status::Unread, UNBUILT),
         (
             long.as_slice(),
             Status::TooLong,
@@ -112,11 +207,6 @@ fn survives_faults(rt: HostRuntime) -> Result<(), Fail> {
     let (found, written) = answer(rt.alloc(), run.as_slice(), GRAPH, &four)?;
     assert_eq!(rt; found, Status::ReadFault);
     assert_eq!(rt; written.as_slice(), b"".as_slice());
-    for k in 0..GRAPH.len() {
-        let (found, written) = answer(rt.alloc(), run.as_slice(), &GRAPH[..k], &SURE)?;
-        assert_eq!(rt; found, Status::Unread);
-        assert_eq!(rt; written.as_slice(), UNBUILT);
-    }
     for k in 0..54u32 {
         let one = Outside {
             piece: 1,
@@ -139,6 +229,24 @@ fn survives_faults(rt: HostRuntime) -> Result<(), Fail> {
             written.as_slice(),
             &REPORT[..(k as usize).min(REPORT.len())]
         );
+    }
+    Ok(())
+}
+
+#[test]
+fn refuses_cut_texts(rt: HostRuntime) -> Result<(), Fail> {
+    let run = words(rt.alloc(), "realm run")?;
+    for k in 0..GRAPH.len() {
+        let cut = &GRAPH[..k];
+        let newlines = cut.iter().filter(|byte| **byte == b'\n').count();
+        let expected = if k < 8 {
+            String::from_str(rt.alloc(), "refused line 1 header\n")?
+        } else {
+            format!(in rt.alloc(); "refused line {} missing\n", newlines + 1)?
+        };
+        let (found, written) = answer(rt.alloc(), run.as_slice(), cut, &SURE)?;
+        assert_eq!(rt; found, Status::Unread);
+        assert_eq!(rt; written.as_slice(), expected.as_bytes());
     }
     Ok(())
 }

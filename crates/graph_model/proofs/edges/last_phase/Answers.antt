@@ -1,4 +1,4 @@
-use Rattle.std.proofs.Common.{◌≡◌, ◌-◌, ◌≤◌, length, sym, ◌∙◌, arith}
+use Rattle.std.proofs.Common.{◌≤◌, length, sym, ◌∙◌, arith}
 use Rattle.graph_model.specs.Graph.{is_phase_of}
 use Rattle.graph_model.proofs.LastPlace.{last_place_here, last_place_below}
 use Rattle.graph_model.proofs.edges.last_phase.Goals as goal

@@ -1,5 +1,4 @@
-use Rattle.std.proofs.Common.{◌≡◌, ap, ◌∙◌, length, subst, arith}
-use Rattle.std.specs.Vec.{vec_len}
+use Rattle.std.proofs.Common.{ap, ◌∙◌, subst, arith}
 use Rattle.graph_model.specs.Rows.{KeepsEdges}
 use Rattle.graph_model.proofs.StockLaws.{edge_lists, opened_lists, closed_lists}
 use Rattle.graph_model.proofs.rows.open.Goals as goal

@@ -1,4 +1,4 @@
-use Rattle.std.proofs.Common.{◌≡◌, subst, get_or}
+use Rattle.std.proofs.Common.{subst, get_or}
 use Rattle.graph_model.specs.Rows.{AddsEdge}
 use Rattle.graph_model.proofs.StockLaws.{no_edge, adds_more, room_left}
 use Rattle.graph_model.proofs.stock.add_all.Goals as goal

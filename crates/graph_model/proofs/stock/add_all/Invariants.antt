@@ -1,7 +1,7 @@
-use Rattle.std.proofs.Common.{◌≡◌, ℕ, ◌+◌, ◌≤◌, length, take, drop}
+use Rattle.std.proofs.Common.{◌+◌, ◌≤◌, length, take, drop}
 use Rattle.std.specs.Prelude.{Contains}
 use Rattle.graph_model.specs.declared.verb.Edge.{Edge}
-use Rattle.graph_model.specs.Rows.{room_at, end_of, KeepsEdges, HasRoom, AddsEdges}
+use Rattle.graph_model.specs.Rows.{room_at, end_of, AddsEdges}
 use Rattle.graph_model.proofs.stock.add_all.Given as goal
 
 abbrev pub invariant-loop-edge : goal.invariant-loop-edge

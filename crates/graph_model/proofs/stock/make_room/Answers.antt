@@ -1,4 +1,4 @@
-use Rattle.std.proofs.Common.{◌≡◌, ◌≤◌, length, subst}
+use Rattle.std.proofs.Common.{◌≤◌, length, subst}
 use Rattle.graph_model.specs.Rows.{room_at}
 use Rattle.graph_model.proofs.StockLaws.{room_more, keeps_both}
 use Rattle.graph_model.proofs.stock.make_room.Goals as goal

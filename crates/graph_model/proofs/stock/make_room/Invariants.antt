@@ -1,7 +1,5 @@
-use Rattle.std.proofs.Common.{◌≡◌, ℕ, ◌+◌, ◌≤◌, length, take, drop}
-use Rattle.std.specs.Prelude.{Contains}
-use Rattle.graph_model.specs.declared.verb.Edge.{Edge}
-use Rattle.graph_model.specs.Rows.{room_at, end_of, KeepsEdges, HasRoom, AddsEdges}
+use Rattle.std.proofs.Common.{length, take}
+use Rattle.graph_model.specs.Rows.{KeepsEdges, HasRoom}
 use Rattle.graph_model.proofs.stock.make_room.Given as goal
 
 abbrev pub invariant-loop-edge : goal.invariant-loop-edge

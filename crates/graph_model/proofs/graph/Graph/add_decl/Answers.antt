@@ -1,14 +1,14 @@
-use Rattle.std.proofs.Common.{◌≡◌, ◌<◌, cond, ℕ, [], ◌∷◌, ◌++◌, List, None, Some, refl, sym, subst, ap, ◌∙◌, length, arith}
+use Rattle.std.proofs.Common.{◌≡◌, cond, ℕ, [], ◌∷◌, ◌++◌, List, None, Some, sym, subst, ap, ◌∙◌, length, arith}
 use Rattle.std.specs.Str.{bytes_eq}
 use Rattle.graph_model.specs.declared.decl.Decl.{Decl}
-use Rattle.graph_model.specs.declared.found.Found.{Found}
 use Rattle.graph_model.specs.Graph.{GraphValue, decl_name}
 use Rattle.graph_model.specs.Names.{AreNamesOf, found_decl, named}
 use Rattle.graph_model.specs.Tables.{tables_of, tables_with, IsWithinLimits}
 use Rattle.graph_model.specs.Rows.{AreRowsOf}
+use Rattle.graph_model.specs.Counts.{counts_of}
 use Rattle.graph_model.specs.Fits.{IsGraph, decl_fault, with_decl}
 use Rattle.graph_model.proofs.GraphPush.{push_decl}
-use Rattle.graph_model.proofs.Naming.{names_decl, names_back, unused_decl_name}
+use Rattle.graph_model.proofs.Naming.{names_decl, unused_decl_name}
 use Rattle.graph_model.proofs.TableLaws.{limits_decl, tables_push}
 use Rattle.graph_model.proofs.RowLaws.{rows_decl}
 use Rattle.graph_model.proofs.graph.Graph.add_decl.Goals as goal
@@ -33,4 +33,5 @@ invariant_of-self-2 c =
       limits = subst (λ (ds : List Decl). IsWithinLimits (record { decls = ds; lines = g.lines })) (sym pushed) (limits_decl g d fits);
       names = subst (λ (ds : List Decl). AreNamesOf (record { decls = ds; lines = g.lines }) c.insert.new.self) (sym pushed) (names_decl g d c.self.inside.names c.insert.new.self c.self.invariant.names (unused_decl_name g d fits) named_so);
       rows = subst (λ (ds : List Decl). AreRowsOf (record { decls = ds; lines = g.lines }) c.self.inside.rows) (sym pushed) (rows_decl g d c.self.inside.rows c.self.invariant.rows);
+      counts = c.counts_with_decl-counts.ensures ∙ (ap (λ h. counts_of (with_decl h d)) (sym c.self.view_is) ∙ ap (λ ds. counts_of (record { decls = ds; lines = g.lines })) (sym pushed));
     }

@@ -1,18 +1,17 @@
-use Rattle.std.proofs.Common.{◌≡◌, ◌+◌, ◌<◌, ◌≤◌, cond, ℕ, [], ◌∷◌, ◌++◌, List, None, Some, sym, subst, ap, ◌∙◌, length, arith}
+use Rattle.std.proofs.Common.{◌≡◌, ◌+◌, cond, ℕ, [], ◌∷◌, ◌++◌, List, None, Some, sym, subst, ap, ◌∙◌, length, arith}
 use Rattle.std.specs.Str.{bytes_eq}
 use Rattle.graph_model.specs.declared.side.Side.TheVariants.{From, To}
-use Rattle.graph_model.specs.declared.found.Found.{Found}
 use Rattle.graph_model.specs.declared.found.Found.TheVariants as found
-use Rattle.graph_model.specs.declared.verb.Edge.{Edge}
 use Rattle.graph_model.specs.declared.verb.Line.{Line}
 use Rattle.graph_model.specs.Graph.{GraphValue}
 use Rattle.graph_model.specs.Edges.{line_edges}
 use Rattle.graph_model.specs.Names.{AreNamesOf, named}
 use Rattle.graph_model.specs.Tables.{IsWithinLimits}
 use Rattle.graph_model.specs.Rows.{EndsBelow, NamesBelow, AddsRow, AreRowsOf}
+use Rattle.graph_model.specs.Counts.{counts_of}
 use Rattle.graph_model.specs.Fits.{IsGraph, line_fault, with_line}
 use Rattle.graph_model.proofs.GraphPush.{push_line}
-use Rattle.graph_model.proofs.Naming.{names_line, names_back, unused_line_name}
+use Rattle.graph_model.proofs.Naming.{names_line, unused_line_name}
 use Rattle.graph_model.proofs.TableLaws.{limits_line}
 use Rattle.graph_model.proofs.RowLaws.{rows_push, from_below, to_below, names_below}
 use Rattle.graph_model.proofs.RowReads.{few_marked}
@@ -60,4 +59,5 @@ invariant_of-self-2 c =
       limits = subst (λ (ls : List Line). IsWithinLimits (record { decls = g.decls; lines = ls })) (sym pushed) (limits_line g l fits);
       names = subst (λ (ls : List Line). AreNamesOf (record { decls = g.decls; lines = ls }) c.insert.new.self) (sym pushed) (names_line g l c.self.inside.names c.insert.new.self c.self.invariant.names (unused_line_name g l fits) named_so);
       rows = subst (λ (ls : List Line). AreRowsOf (record { decls = g.decls; lines = ls }) c.add.new.self) (sym pushed) (rows_push g l c.self.inside.rows c.add.new.self c.self.invariant.rows added);
+      counts = c.counts_with_line-counts.ensures ∙ (ap (λ h. counts_of (with_line h l)) (sym c.self.view_is) ∙ ap (λ ls. counts_of (record { decls = g.decls; lines = ls })) (sym pushed));
     }

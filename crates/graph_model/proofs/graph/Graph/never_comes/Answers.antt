@@ -1,23 +1,9 @@
-use Rattle.std.proofs.Common.{◌≡◌, ◌<◌, length, refl, sym, ◌∙◌, ap, subst}
-use Rattle.std.specs.Prelude.{Some, not, nat_lt, slice_get}
-use Rattle.std.proofs.lemmas.Option.{slice_get_read}
-use Rattle.graph_model.specs.declared.mark.Mark.{Mark}
-use Rattle.graph_model.specs.declared.verb.Verb.TheVariants.{User, Phase}
-use Rattle.graph_model.specs.Graph.{GraphValue, verb_at, never_comes}
+use Rattle.std.proofs.Common.{◌<◌, length, sym, ◌∙◌, ap, subst}
+use Rattle.std.specs.Prelude.{slice_get}
+use Rattle.graph_model.specs.Graph.{GraphValue}
 use Rattle.graph_model.specs.Tables.{TablesValue}
-use Rattle.graph_model.specs.Rows.{mark_at}
-use Rattle.graph_model.proofs.RowReads.{row_is, never_user, never_phase, never_other, phase_known}
+use Rattle.graph_model.proofs.RowReads.{never_user, never_phase, never_other, phase_known}
 use Rattle.graph_model.proofs.graph.Graph.never_comes.Goals as goal
-
-pub mark-requires : goal.mark-requires
-mark-requires c =
-    let g : GraphValue = record { decls = c.self.inside.decls.items; lines = c.self.inside.lines.items } in
-    row_is g c.args.self.now c.self.inside.rows c.args.i c.self.view_is c.self.invariant.rows c.requires
-
-pub mark-requires-in-Phase : goal.mark-requires-in-Phase
-mark-requires-in-Phase c =
-    let g : GraphValue = record { decls = c.self.inside.decls.items; lines = c.self.inside.lines.items } in
-    row_is g c.args.self.now c.self.inside.rows c.args.i c.self.view_is c.self.invariant.rows c.requires
 
 pub barrier-requires : goal.barrier-requires
 barrier-requires c =

@@ -1,10 +1,7 @@
-use Rattle.std.proofs.Common.{◌≡◌, ℕ, ◌<◌, List, length, refl, sym, ◌∙◌, ap, subst, arith}
-use Rattle.std.specs.Prelude.{Some, slice_get}
-use Rattle.std.proofs.lemmas.Option.{slice_get_read}
-use Rattle.graph_model.specs.declared.decl.Decl.{Decl}
+use Rattle.std.proofs.Common.{◌≡◌, ◌<◌, length, sym, ◌∙◌, ap, subst, arith}
 use Rattle.graph_model.specs.declared.decl.Decl.TheVariants.{Space}
 use Rattle.graph_model.specs.Graph.{GraphValue, named_spaces, space_at, space_of}
-use Rattle.graph_model.specs.Tables.{TablesValue, tables_of}
+use Rattle.graph_model.specs.Tables.{TablesValue}
 use Rattle.graph_model.proofs.TableLaws.{length-places, space_place_below, space_read}
 use Rattle.graph_model.proofs.graph.Graph.space.Goals as goal
 

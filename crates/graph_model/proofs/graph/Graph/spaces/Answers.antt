@@ -1,4 +1,4 @@
-use Rattle.std.proofs.Common.{◌≡◌, ◌<◌, ◌≤◌, length, subst, ap, ◌∙◌, arith}
+use Rattle.std.proofs.Common.{◌≡◌, ◌≤◌, length, subst, ap, ◌∙◌, arith}
 use Rattle.graph_model.specs.Graph.{GraphValue, named_spaces, space_of}
 use Rattle.graph_model.specs.Tables.{TablesValue}
 use Rattle.graph_model.proofs.TableLaws.{length-places}

@@ -1,4 +1,4 @@
-use Rattle.std.proofs.Common.{◌≡◌, ◌∙◌, ap}
+use Rattle.std.proofs.Common.{◌∙◌, ap}
 use Rattle.graph_model.specs.Names.{named}
 use Rattle.graph_model.proofs.names.Names.get.Goals as goal
 

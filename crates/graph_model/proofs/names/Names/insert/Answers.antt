@@ -1,5 +1,5 @@
-use Rattle.std.proofs.Common.{◌≡◌, sym, ◌∙◌, ap, cond, List, ℕ, Bool, false, true}
-use Rattle.std.specs.Prelude.{Option, Some, Result, Ok, Err, OnOk, is_err}
+use Rattle.std.proofs.Common.{◌≡◌, sym, ◌∙◌, ap, cond, List, ℕ, false}
+use Rattle.std.specs.Prelude.{Some, Result, Ok, Err, OnOk, is_err}
 use Rattle.std.specs.Cmp.Lexicographic.{slice_cmp}
 use Rattle.std.specs.Ordering.{nat_cmp, is_eq}
 use Rattle.std.proofs.lemmas.Bool.{true≢false}

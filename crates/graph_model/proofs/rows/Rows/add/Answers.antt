@@ -1,8 +1,6 @@
-use Rattle.std.proofs.Common.{◌≡◌, ◌+◌, ℕ, List, [], ◌∷◌, ◌++◌, length, take, drop, refl, sym, ◌∙◌, ap, subst, length-append, arith}
-use Rattle.graph_model.specs.declared.verb.Edge.{Edge}
-use Rattle.graph_model.specs.declared.mark.Mark.{Mark}
+use Rattle.std.proofs.Common.{◌≡◌, [], ◌∷◌, ◌++◌, length, take, drop, ◌∙◌, ap, subst, arith}
 use Rattle.graph_model.specs.declared.side.Side.TheVariants.{From, To}
-use Rattle.graph_model.specs.Rows.{Stock, AddsEdges, AddsRow, Marks, RowsValue, mark_at, mark_after, fresh_mark}
+use Rattle.graph_model.specs.Rows.{AddsEdges, Marks, fresh_mark}
 use Rattle.graph_model.proofs.StockLaws.{edge_lists, written_all, adds_row_as}
 use Rattle.graph_model.proofs.rows.Rows.add.Goals as goal
 

@@ -1,0 +1,20 @@
+use Rattle.std.proofs.Common.{◌≡◌, ◌∙◌, Some, length, sym, arith}
+use Rattle.index_spaces.specs.Space.{IsSpace, IsWithin}
+use Rattle.index_spaces.specs.Column.{cell_of}
+use Rattle.index_spaces.specs.Held.{held_at}
+use Rattle.graph_model.specs.Effect.{Set}
+use Rattle.copy_engine.proofs.PointWrites.{held_again, holds_over}
+use Rattle.copy_engine.proofs.copy.Goals as goal
+
+pub returns : goal.returns
+returns c = λ spaces s e.
+    let old = c.args.held.now in
+    let from = c.unwrap-from.result.now in
+    let held = held_again old c.take-to.new.self c.add.new.self c.args.target c.copy_points.new.to c.take-to.ensures.held c.add.ensures.held in
+    let number : length c.add.new.self ≡ length old = omega (arith, c.take-to.ensures.number, c.add.ensures.number) in
+    let source : held_at old c.args.source ≡ Some from = sym (c.take-to.ensures.held.others c.args.source c.requires.distinct) ∙ sym (rw c.unwrap-from.ensures at c.column.ensures) in
+    let within : IsWithin c.args.space.now from.space = holds_over (held_at old c.args.source) (λ x. IsWithin c.args.space.now x.space) from source c.requires.source in
+    let over : IsSpace from.space = rw (sym c.space-2.ensures.space) c.intervals-3.ensures.is_space in
+    rw e (c.changes_by_point.ensures old c.add.new.self c.args.target c.take-to.result c.copy_points.new.to c.args.space.now (λ p. cell_of from p) (λ cells p. Set (cells c.args.source p))
+    c.intervals.ensures.is_space (rw (sym c.space.ensures.space) c.intervals-2.ensures.is_space) c.take-to.ensures.column held number c.space-3.ensures.full c.copy_points.ensures
+    (λ cells has p h. c.cells_by_point.ensures old cells c.args.source from p has source over (within p h)))

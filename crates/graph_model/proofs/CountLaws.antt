@@ -1,0 +1,337 @@
+-- The quantities of a graph with one more item.
+use Rattle.std.proofs.Common.{◌≡◌, ℕ, zero, suc, ◌+◌, ◌*◌, ◌^◌, ◌<◌, ◌≤◌, false, List, [], ◌∷◌, ◌++◌, length, map, refl, sym, ◌∙◌, ap, subst, append-nil, length-append, arith}
+use Rattle.std.specs.Prelude.{max, take, Contains, filter, filter_map, flat_map, sum_by, Option, None, slice_get, codes, decimal}
+use Rattle.std.specs.Option.{option_map_or}
+use Rattle.std.specs.List.{list_any, join_with_byte}
+use Rattle.std.proofs.lemmas.Bool.{or_parts, leb-false}
+use Rattle.std.proofs.lemmas.Grind.{flat_map-append}
+use Rattle.std.proofs.lemmas.List.{take_all}
+use Rattle.std.proofs.lemmas.List.Elements.{filter-append, filter_map-append}
+use Rattle.std.proofs.lemmas.List.Sums.{sum_by-append, sum_by-cons}
+use Rattle.index_spaces.specs.Space.{space_size, AscendAbove, IsSpace}
+use Rattle.graph_model.specs.declared.counts.Counts.{Counts}
+use Rattle.graph_model.specs.declared.decl.Decl.{Decl}
+use Rattle.graph_model.specs.declared.decl.Decl.TheVariants.{Space, Inst, Lock, Barrier}
+use Rattle.graph_model.specs.declared.verb.Access.{Access}
+use Rattle.graph_model.specs.declared.verb.Line.{Line}
+use Rattle.graph_model.specs.declared.verb.Verb.{Verb}
+use Rattle.graph_model.specs.declared.verb.Verb.TheVariants.{User, Trigger, Cancel, Merge, MergeIgnore, Phase, Arrive, Acquire, Release, Fill, Copy, Reduce, Task}
+use Rattle.graph_model.specs.declared.verb.Kernel.{Kernel}
+use Rattle.graph_model.specs.declared.verb.Kernel.TheVariants.{Iota, Axpy, Stencil, Scan, Hist, Dot, Expect, Gather}
+use Rattle.graph_model.specs.Graph.{GraphValue, ColumnInfo, BarrierInfo, space_of, columns_of, lock_of, barrier_of, named_spaces, columns, locks, barriers, space_at}
+use Rattle.graph_model.specs.declared.verb.Mode.TheVariants.{Read, Write, Sum}
+use Rattle.graph_model.specs.Access.{access, target_mode, kernel_accesses, verb_accesses}
+use Rattle.graph_model.specs.Edges.{edges, line_edges}
+use Rattle.graph_model.specs.Fits.{is_inst, cell_count, with_decl, with_line, access_unknown, verb_unknown, line_fault, LinesFit, IsGraph}
+use Rattle.graph_model.specs.Spelling.{spelled, space_name, column_name, decl_words, kernel_words, verb_words, on_words, line_words, header, decls_text, lines_text, head, comma_word, interval_word}
+use Rattle.graph_model.specs.Counts.{words_size, cells_of_decl, counts_of}
+use Rattle.graph_model.proofs.GraphFacts.{fits_known}
+use Rattle.graph_model.proofs.GraphPush.{head_with_line, decls_text_push}
+use Rattle.graph_model.proofs.ListFacts.{contains_here, contains_there}
+use Rattle.graph_model.proofs.RowLaws.{edges_push}
+use Rattle.graph_model.proofs.TableLaws.{columns_known}
+
+-- the length of words
+words_cons : (w : List ℕ) (ws : List (List ℕ)) → words_size (w ∷ ws) ≡ (length w + 1) + words_size ws
+words_cons w ws = sum_by-cons (λ (x : List ℕ). length x + 1) w ws
+
+-- the length of words that are joined, with a byte behind
+joined_size : (c : ℕ) (w : List ℕ) (ws : List (List ℕ)) → length (join_with_byte c (w ∷ ws)) + 1 ≡ words_size (w ∷ ws)
+joined_size c w [] = let e : words_size (w ∷ []) ≡ (length w + 1) + 0 = words_cons w [] in omega arith
+joined_size c w (v ∷ ws) =
+    let more : length (join_with_byte c (v ∷ ws)) + 1 ≡ words_size (v ∷ ws) = joined_size c v ws in
+    let both : length (join_with_byte c (w ∷ v ∷ ws)) ≡ length w + suc (length (join_with_byte c (v ∷ ws))) = length-append w (c ∷ join_with_byte c (v ∷ ws)) in
+    let all : words_size (w ∷ v ∷ ws) ≡ (length w + 1) + words_size (v ∷ ws) = words_cons w (v ∷ ws) in
+    omega arith
+
+pub spelled_size : (w : List ℕ) (ws : List (List ℕ)) → length (spelled (w ∷ ws)) ≡ words_size (w ∷ ws)
+spelled_size w ws =
+    let one : length (spelled (w ∷ ws)) ≡ length (join_with_byte 32 (w ∷ ws)) + 1 = length-append (join_with_byte 32 (w ∷ ws)) (10 ∷ []) in
+    one ∙ joined_size 32 w ws
+
+pub comma_size : (pieces : List (List ℕ)) → length (comma_word pieces) + 1 ≡ max (words_size pieces) 1
+comma_size [] = refl
+comma_size (w ∷ ws) =
+    let e : length (comma_word (w ∷ ws)) + 1 ≡ words_size (w ∷ ws) = joined_size 44 w ws in
+    let f : words_size (w ∷ ws) ≡ (length w + 1) + words_size ws = words_cons w ws in
+    omega arith
+
+-- an item of a list is there in a longer one
+get_before : {X : Type 0} (xs ys : List X) (k : ℕ) → k < length xs → slice_get (xs ++ ys) k ≡ slice_get xs k
+get_before [] ys k h = absurd (omega arith)
+get_before (x ∷ xs) ys zero h = refl
+get_before (x ∷ xs) ys (suc k) h = get_before xs ys k (omega arith)
+
+-- the graph of declarations and more
+abbrev of_items : List Decl → List Line → GraphValue
+of_items ds ls = record { decls = ds; lines = ls }
+
+spaces_before : (ds : List Decl) (d : Decl) (ls : List Line) (s : ℕ) → s < length (filter_map space_of ds) → slice_get (named_spaces (of_items (ds ++ d ∷ []) ls)) s ≡ slice_get (named_spaces (of_items ds ls)) s
+spaces_before ds d ls s h = ap (λ xs. slice_get xs s) (filter_map-append space_of ds (d ∷ [])) ∙ get_before (filter_map space_of ds) (filter_map space_of (d ∷ [])) s h
+
+columns_before : (ds : List Decl) (d : Decl) (ls : List Line) (c : ℕ) → c < length (flat_map columns_of ds) → slice_get (columns (of_items (ds ++ d ∷ []) ls)) c ≡ slice_get (columns (of_items ds ls)) c
+columns_before ds d ls c h = ap (λ xs. slice_get xs c) (flat_map-append columns_of ds (d ∷ [])) ∙ get_before (flat_map columns_of ds) (flat_map columns_of (d ∷ [])) c h
+
+locks_before : (ds : List Decl) (d : Decl) (ls : List Line) (l : ℕ) → l < length (filter_map lock_of ds) → slice_get (locks (of_items (ds ++ d ∷ []) ls)) l ≡ slice_get (locks (of_items ds ls)) l
+locks_before ds d ls l h = ap (λ xs. slice_get xs l) (filter_map-append lock_of ds (d ∷ [])) ∙ get_before (filter_map lock_of ds) (filter_map lock_of (d ∷ [])) l h
+
+barriers_before : (ds : List Decl) (d : Decl) (ls : List Line) (b : ℕ) → b < length (filter_map barrier_of ds) → slice_get (barriers (of_items (ds ++ d ∷ []) ls)) b ≡ slice_get (barriers (of_items ds ls)) b
+barriers_before ds d ls b h = ap (λ xs. slice_get xs b) (filter_map-append barrier_of ds (d ∷ [])) ∙ get_before (filter_map barrier_of ds) (filter_map barrier_of (d ∷ [])) b h
+
+-- one more declaration changes no name of what is declared
+abbrev NamesKept : GraphValue → GraphValue → Access → Type 0
+NamesKept g h a = (column_name h a.column ≡ column_name g a.column) × (space_name h a.space ≡ space_name g a.space)
+
+names_kept : (ds : List Decl) (d : Decl) (ls : List Line) (a : Access) → access_unknown (of_items ds ls) a ≡ false → NamesKept (of_items ds ls) (of_items (ds ++ d ∷ []) ls) a
+names_kept ds d ls a h =
+    let parts = or_parts _ _ h in (
+      ap (λ (o : Option ColumnInfo). option_map_or (λ (x : ColumnInfo). x.inst ++ 46 ∷ x.field) o []) (columns_before ds d ls a.column (leb-false (length (flat_map columns_of ds)) a.column parts.0)),
+      ap (λ (o : Option (List ℕ × List (ℕ × ℕ))). option_map_or (λ (x : List ℕ × List (ℕ × ℕ)). x.0) o []) (spaces_before ds d ls a.space (leb-false (length (filter_map space_of ds)) a.space parts.1)),
+    )
+
+-- of one, two or three accesses
+kept_one : (ds : List Decl) (d : Decl) (ls : List Line) (a : Access) → list_any (access_unknown (of_items ds ls)) (a ∷ []) ≡ false → NamesKept (of_items ds ls) (of_items (ds ++ d ∷ []) ls) a
+kept_one ds d ls a h = names_kept ds d ls a (or_parts _ _ h).0
+
+kept_two : (ds : List Decl) (d : Decl) (ls : List Line) (a b : Access) → list_any (access_unknown (of_items ds ls)) (a ∷ b ∷ []) ≡ false →
+    NamesKept (of_items ds ls) (of_items (ds ++ d ∷ []) ls) a × NamesKept (of_items ds ls) (of_items (ds ++ d ∷ []) ls) b
+kept_two ds d ls a b h = let p = or_parts (access_unknown (of_items ds ls) a) (list_any (access_unknown (of_items ds ls)) (b ∷ [])) h in (names_kept ds d ls a p.0, kept_one ds d ls b p.1)
+
+kept_three : (ds : List Decl) (d : Decl) (ls : List Line) (a b c : Access) → list_any (access_unknown (of_items ds ls)) (a ∷ b ∷ c ∷ []) ≡ false →
+    NamesKept (of_items ds ls) (of_items (ds ++ d ∷ []) ls) a × (NamesKept (of_items ds ls) (of_items (ds ++ d ∷ []) ls) b × NamesKept (of_items ds ls) (of_items (ds ++ d ∷ []) ls) c)
+kept_three ds d ls a b c h = let p = or_parts (access_unknown (of_items ds ls) a) (list_any (access_unknown (of_items ds ls)) (b ∷ c ∷ [])) h in (names_kept ds d ls a p.0, kept_two ds d ls b c p.1)
+
+-- words that are the same one by one
+cons_same : (v w : List ℕ) (vs ws : List (List ℕ)) → v ≡ w → vs ≡ ws → v ∷ vs ≡ w ∷ ws
+cons_same v w vs ws e f = ap (λ x. x ∷ vs) e ∙ ap (λ x. w ∷ x) f
+
+tail_same : (v : List ℕ) (vs ws : List (List ℕ)) → vs ≡ ws → v ∷ vs ≡ v ∷ ws
+tail_same v vs ws f = ap (λ x. v ∷ x) f
+
+kernel_words_kept : (ds : List Decl) (d : Decl) (ls : List Line) (k : Kernel) → list_any (access_unknown (of_items ds ls)) (kernel_accesses k) ≡ false → kernel_words (of_items (ds ++ d ∷ []) ls) k ≡ kernel_words (of_items ds ls) k
+kernel_words_kept ds d ls (Iota x s value) h =
+    let e = kept_one ds d ls (access x s Write) h in
+    tail_same _ _ _ (cons_same _ _ _ _ e.0 (cons_same _ _ _ _ e.1 refl))
+kernel_words_kept ds d ls (Axpy x y s factor) h =
+    let e = kept_two ds d ls (access x s Read) (access y s Sum) h in
+    tail_same _ _ _ (cons_same _ _ _ _ e.0.0 (cons_same _ _ _ _ e.1.0 (cons_same _ _ _ _ e.0.1 refl)))
+kernel_words_kept ds d ls (Stencil x y r s) h =
+    let e = kept_two ds d ls (access x r Read) (access y s Write) h in
+    tail_same _ _ _ (cons_same _ _ _ _ e.0.0 (cons_same _ _ _ _ e.1.0 (cons_same _ _ _ _ e.0.1 (cons_same _ _ _ _ e.1.1 refl))))
+kernel_words_kept ds d ls (Scan x y s) h =
+    let e = kept_two ds d ls (access x s Read) (access y s Write) h in
+    tail_same _ _ _ (cons_same _ _ _ _ e.0.0 (cons_same _ _ _ _ e.1.0 (cons_same _ _ _ _ e.0.1 refl)))
+kernel_words_kept ds d ls (Hist x y s t) h =
+    let e = kept_two ds d ls (access x s Read) (access y t Sum) h in
+    tail_same _ _ _ (cons_same _ _ _ _ e.0.0 (cons_same _ _ _ _ e.1.0 (cons_same _ _ _ _ e.0.1 (cons_same _ _ _ _ e.1.1 refl))))
+kernel_words_kept ds d ls (Dot x y z s t) h =
+    let e = kept_three ds d ls (access x s Read) (access y s Read) (access z t Sum) h in
+    tail_same _ _ _ (cons_same _ _ _ _ e.0.0 (cons_same _ _ _ _ e.1.0.0 (cons_same _ _ _ _ e.1.1.0 (cons_same _ _ _ _ e.0.1 (cons_same _ _ _ _ e.1.1.1 refl)))))
+kernel_words_kept ds d ls (Expect x s low high) h =
+    let e = kept_one ds d ls (access x s Read) h in
+    tail_same _ _ _ (cons_same _ _ _ _ e.0 (cons_same _ _ _ _ e.1 refl))
+kernel_words_kept ds d ls (Gather x y z s t) h =
+    let e = kept_three ds d ls (access x s Read) (access y t Read) (access z s Write) h in
+    tail_same _ _ _ (cons_same _ _ _ _ e.0.0 (cons_same _ _ _ _ e.1.0.0 (cons_same _ _ _ _ e.1.1.0 (cons_same _ _ _ _ e.0.1 (cons_same _ _ _ _ e.1.0.1 refl)))))
+
+verb_words_kept : (ds : List Decl) (d : Decl) (ls : List Line) (v : Verb) → verb_unknown (of_items ds ls) v ≡ false → list_any (access_unknown (of_items ds ls)) (verb_accesses v) ≡ false → verb_words (of_items (ds ++ d ∷ []) ls) v ≡ verb_words (of_items ds ls) v
+verb_words_kept ds d ls User u h = refl
+verb_words_kept ds d ls (Trigger user) u h = refl
+verb_words_kept ds d ls (Cancel user) u h = refl
+verb_words_kept ds d ls (Merge events) u h = refl
+verb_words_kept ds d ls (MergeIgnore events) u h = refl
+verb_words_kept ds d ls (Phase b) u h =
+    tail_same _ _ _ (cons_same _ _ _ _ (ap (λ (o : Option BarrierInfo). option_map_or (λ (x : BarrierInfo). x.name) o []) (barriers_before ds d ls b (leb-false (length (filter_map barrier_of ds)) b u))) refl)
+verb_words_kept ds d ls (Arrive phase value) u h = refl
+verb_words_kept ds d ls (Acquire l) u h =
+    tail_same _ _ _ (cons_same _ _ _ _ (ap (λ (o : Option (List ℕ)). option_map_or (λ (x : List ℕ). x) o []) (locks_before ds d ls l (leb-false (length (filter_map lock_of ds)) l u))) refl)
+verb_words_kept ds d ls (Release acquire) u h = refl
+verb_words_kept ds d ls (Fill t s value) u h =
+    let e = kept_one ds d ls (access t s Write) h in
+    tail_same _ _ _ (cons_same _ _ _ _ e.0 (cons_same _ _ _ _ e.1 refl))
+verb_words_kept ds d ls (Copy a b s) u h =
+    let e = kept_two ds d ls (access a s Read) (access b s Write) h in
+    tail_same _ _ _ (cons_same _ _ _ _ e.0.0 (cons_same _ _ _ _ e.1.0 (cons_same _ _ _ _ e.0.1 refl)))
+verb_words_kept ds d ls (Reduce op a b s) u h =
+    let e = kept_two ds d ls (access a s Read) (access b s (target_mode op)) h in
+    tail_same _ _ _ (tail_same _ _ _ (cons_same _ _ _ _ e.0.0 (cons_same _ _ _ _ e.1.0 (cons_same _ _ _ _ e.0.1 refl))))
+verb_words_kept ds d ls (Task kernel) u h = tail_same _ _ _ (kernel_words_kept ds d ls kernel h)
+
+line_words_kept : (ds : List Decl) (d : Decl) (ls : List Line) (l : Line) → line_fault (of_items ds ls) l ≡ None → line_words (of_items (ds ++ d ∷ []) ls) l ≡ line_words (of_items ds ls) l
+line_words_kept ds d ls l h =
+    let known = or_parts _ _ (or_parts _ _ (fits_known (of_items ds ls) l h)).1 in
+    ap (λ ws. l.name ∷ codes "=" ∷ ws ++ on_words (of_items ds ls) l.on) (verb_words_kept ds d ls l.verb known.0 known.1)
+
+lines_text_kept : (ds : List Decl) (d : Decl) (b ls : List Line) → LinesFit ds b ls → lines_text (ds ++ d ∷ []) b ls ≡ lines_text ds b ls
+lines_text_kept ds d b [] f = refl
+lines_text_kept ds d b (l ∷ ls) f =
+    ap (λ ws. spelled ws ++ lines_text (ds ++ d ∷ []) (b ++ l ∷ []) ls) (line_words_kept ds d b l f.1)
+    ∙ ap (λ t. spelled (line_words (of_items ds b) l) ++ t) (lines_text_kept ds d (b ++ l ∷ []) ls f.2)
+
+decl_words_lines : (ds : List Decl) (ls : List Line) (d : Decl) → decl_words (of_items ds []) d ≡ decl_words (of_items ds ls) d
+decl_words_lines ds ls (Space name space) = refl
+decl_words_lines ds ls (Inst name space fields) = refl
+decl_words_lines ds ls (Lock name) = refl
+decl_words_lines ds ls (Barrier name count op first) = refl
+
+-- the text has one line more
+pub text_with_decl : (g : GraphValue) (d : Decl) → IsGraph g → length (head (with_decl g d)) ≡ length (head g) + length (spelled (decl_words g d))
+text_with_decl g d f =
+    let a : List ℕ = decls_text [] g.decls in
+    let b : List ℕ = lines_text g.decls [] g.lines in
+    let w : List ℕ = spelled (decl_words g d) in
+    let e : decls_text [] (g.decls ++ d ∷ []) ≡ a ++ w = decls_text_push [] g.decls d ∙ ap (λ ws. a ++ spelled ws) (decl_words_lines g.decls g.lines d) in
+    let k : lines_text (g.decls ++ d ∷ []) [] g.lines ≡ b = lines_text_kept g.decls d [] g.lines f.lines in
+    let new : length (head (with_decl g d)) ≡ length (header ++ ((a ++ w) ++ b)) = ap (λ x. length (header ++ (x ++ lines_text (g.decls ++ d ∷ []) [] g.lines))) e ∙ ap (λ y. length (header ++ ((a ++ w) ++ y))) k in
+    new ∙ lengths header a w b
+  where
+    lengths : (h a w b : List ℕ) → length (h ++ ((a ++ w) ++ b)) ≡ length (h ++ (a ++ b)) + length w
+    lengths h a w b =
+        let p : length (h ++ ((a ++ w) ++ b)) ≡ length h + length ((a ++ w) ++ b) = length-append h ((a ++ w) ++ b) in
+        let q : length ((a ++ w) ++ b) ≡ length (a ++ w) + length b = length-append (a ++ w) b in
+        let r : length (a ++ w) ≡ length a + length w = length-append a w in
+        let s : length (h ++ (a ++ b)) ≡ length h + length (a ++ b) = length-append h (a ++ b) in
+        let t : length (a ++ b) ≡ length a + length b = length-append a b in
+        omega arith
+
+sum_same : {X : Type 0} (f h : X → ℕ) (xs : List X) → ((x : X) → Contains xs x → f x ≡ h x) → sum_by f xs ≡ sum_by h xs
+sum_same f h [] e = refl
+sum_same f h (x ∷ xs) e =
+    sum_by-cons f x xs ∙ (ap (λ n. n + sum_by f xs) (e x (contains_here x xs)) ∙ (ap (λ n. h x + n) (sum_same f h xs (λ y c. e y (contains_there x xs y c))) ∙ sym (sum_by-cons h x xs)))
+
+abbrev column_cells : GraphValue → ColumnInfo → ℕ
+column_cells g c = space_size (space_at g c.space)
+
+-- the columns of a declaration have the cells that they have before it
+decl_cells : (ds : List Decl) (ls : List Line) (d : Decl) → sum_by (column_cells (of_items (ds ++ d ∷ []) ls)) (columns_of d) ≡ cells_of_decl (of_items ds ls) d
+decl_cells ds ls (Space name space) = refl
+decl_cells ds ls (Inst name space fields) =
+    let e : filter_map space_of (ds ++ Inst name space fields ∷ []) ≡ filter_map space_of ds = filter_map-append space_of ds (Inst name space fields ∷ []) ∙ append-nil (filter_map space_of ds) in
+    ap (λ xs. sum_by (λ (c : ColumnInfo). space_size (option_map_or (λ (x : List ℕ × List (ℕ × ℕ)). x.1) (slice_get xs c.space) [])) (columns_of (Inst name space fields))) e
+decl_cells ds ls (Lock name) = refl
+decl_cells ds ls (Barrier name count op first) = refl
+
+pub cells_with_decl : (g : GraphValue) (d : Decl) → IsGraph g → cell_count (with_decl g d) ≡ cell_count g + cells_of_decl g d
+cells_with_decl g d f =
+    let split : columns (with_decl g d) ≡ columns g ++ columns_of d = flat_map-append columns_of g.decls (d ∷ []) ∙ ap (λ l. columns g ++ l) (append-nil (columns_of d)) in
+    let old : sum_by (column_cells (with_decl g d)) (columns g) ≡ cell_count g =
+    sum_same (column_cells (with_decl g d)) (column_cells g) (columns g) (λ x c. ap (λ (o : Option (List ℕ × List (ℕ × ℕ))). space_size (option_map_or (λ (x : List ℕ × List (ℕ × ℕ)). x.1) o [])) (spaces_before g.decls d g.lines x.space (columns_known [] g.decls f.decls x c))) in
+    let new : sum_by (column_cells (with_decl g d)) (columns_of d) ≡ cells_of_decl g d = decl_cells g.decls g.lines d in
+    let both : sum_by (column_cells (with_decl g d)) (columns g ++ columns_of d) ≡ sum_by (column_cells (with_decl g d)) (columns g) + sum_by (column_cells (with_decl g d)) (columns_of d) = sum_by-append (column_cells (with_decl g d)) (columns g) (columns_of d) in
+    let all : cell_count (with_decl g d) ≡ sum_by (column_cells (with_decl g d)) (columns g ++ columns_of d) = ap (sum_by (column_cells (with_decl g d))) split in
+    omega arith
+
+-- quantities that are the same one by one
+abbrev counts : ℕ → ℕ → ℕ → ℕ → ℕ → ℕ → ℕ → ℕ → Counts
+counts t i c m l b n e = record { text = t; insts = i; columns = c; cells = m; locks = l; barriers = b; lines = n; edges = e }
+
+pub counts_with_decl : (g : GraphValue) (d : Decl) → IsGraph g → counts_of (with_decl g d) ≡
+    counts (length (head g) + length (spelled (decl_words g d))) (length (filter is_inst g.decls) + length (filter is_inst (d ∷ []))) (length (columns g) + length (columns_of d)) (cell_count g + cells_of_decl g d)
+    (length (locks g) + length (filter_map lock_of (d ∷ []))) (length (barriers g) + length (filter_map barrier_of (d ∷ []))) (length g.lines) (length (edges g))
+counts_with_decl g d f =
+    let t : length (head (with_decl g d)) ≡ length (head g) + length (spelled (decl_words g d)) = text_with_decl g d f in
+    let i : length (filter is_inst (g.decls ++ d ∷ [])) ≡ length (filter is_inst g.decls) + length (filter is_inst (d ∷ [])) = ap length (filter-append is_inst g.decls (d ∷ [])) ∙ length-append (filter is_inst g.decls) (filter is_inst (d ∷ [])) in
+    let c : length (columns (with_decl g d)) ≡ length (columns g) + length (columns_of d) = ap length (flat_map-append columns_of g.decls (d ∷ []) ∙ ap (λ l. columns g ++ l) (append-nil (columns_of d))) ∙ length-append (columns g) (columns_of d) in
+    let m : cell_count (with_decl g d) ≡ cell_count g + cells_of_decl g d = cells_with_decl g d f in
+    let l : length (locks (with_decl g d)) ≡ length (locks g) + length (filter_map lock_of (d ∷ [])) = ap length (filter_map-append lock_of g.decls (d ∷ [])) ∙ length-append (locks g) (filter_map lock_of (d ∷ [])) in
+    let b : length (barriers (with_decl g d)) ≡ length (barriers g) + length (filter_map barrier_of (d ∷ [])) = ap length (filter_map-append barrier_of g.decls (d ∷ [])) ∙ length-append (barriers g) (filter_map barrier_of (d ∷ [])) in
+    cc
+
+pub counts_with_line : (g : GraphValue) (l : Line) → counts_of (with_line g l) ≡
+    counts (length (head g) + length (spelled (line_words g l))) (length (filter is_inst g.decls)) (length (columns g)) (cell_count g) (length (locks g)) (length (barriers g)) (length g.lines + 1) (length (edges g) + length (line_edges g.lines l))
+counts_with_line g l =
+    let t : length (head (with_line g l)) ≡ length (head g) + length (spelled (line_words g l)) = ap length (head_with_line g l) ∙ length-append (head g) (spelled (line_words g l)) in
+    let n : length (g.lines ++ l ∷ []) ≡ length g.lines + 1 = length-append g.lines (l ∷ []) in
+    let e : length (edges (with_line g l)) ≡ length (edges g) + length (line_edges g.lines l) = ap length (edges_push g l) ∙ length-append (edges g) (line_edges g.lines l) in
+    cc
+
+-- the sums of the loops that measure words
+pub sum_words : {X : Type 0} (f : X → List ℕ) (xs : List X) → words_size (map f xs) ≡ sum_by (λ x. length (f x) + 1) xs
+sum_words f [] = refl
+sum_words f (x ∷ xs) = words_cons (f x) (map f xs) ∙ (ap (λ n. (length (f x) + 1) + n) (sum_words f xs) ∙ sym (sum_by-cons (λ x. length (f x) + 1) x xs))
+
+pub interval_size : (i : ℕ × ℕ) → length (interval_word i) + 1 ≡ (length (decimal i.0) + 1) + (length (decimal i.1) + 1) + 1
+interval_size i =
+    let e : length (interval_word i) ≡ length (decimal i.0) + suc (suc (length (decimal i.1))) = length-append (decimal i.0) (46 ∷ 46 ∷ decimal i.1) in
+    omega arith
+
+-- a space has few intervals
+few_above : (low : ℕ) (s : List (ℕ × ℕ)) → AscendAbove low s → 0 < length s → low + 2 * length s ≤ 2 ^ 32 + 1
+few_above low [] h k = absurd (omega arith)
+few_above low (i ∷ []) h k = let a : low ≤ i.0 = h.0 in let b : i.0 ≤ i.1 = h.1 in let c : i.1 < 2 ^ 32 = h.2 in omega arith
+few_above low (i ∷ j ∷ s) h k =
+    let a : low ≤ i.0 = h.0 in
+    let b : i.0 ≤ i.1 = h.1 in
+    let more : (i.1 + 2) + 2 * length (j ∷ s) ≤ 2 ^ 32 + 1 = few_above (i.1 + 2) (j ∷ s) h.3 (omega arith) in
+    let n : length (i ∷ j ∷ s) ≡ suc (length (j ∷ s)) = refl in
+    omega arith
+
+pub few_intervals : (s : List (ℕ × ℕ)) → IsSpace s → length s < 2 ^ 32
+few_intervals s h = let e : 0 + 2 * length s ≤ 2 ^ 32 + 1 = few_above 0 s h.1 h.0 in omega arith
+
+-- the columns of an instance have the points of its space each
+pub cells_of_fields : (g : GraphValue) (name : List ℕ) (space : ℕ) (fields : List (List ℕ)) → cells_of_decl g (Inst name space fields) ≡ length fields * space_size (space_at g space)
+cells_of_fields g name space [] = let e : 0 ≡ 0 * space_size (space_at g space) = omega arith in e
+cells_of_fields g name space (f ∷ fs) =
+    sum_by-cons (column_cells g) (record { inst = name; field = f; space = space }) (columns_of (Inst name space fs))
+    ∙ (let more : cells_of_decl g (Inst name space fs) ≡ length fs * space_size (space_at g space) = cells_of_fields g name space fs in
+    ap (λ n. space_size (space_at g space) + n) more ∙ one_more (length fs) (space_size (space_at g space)))
+  where
+    one_more : (n m : ℕ) → m + n * m ≡ suc n * m
+    one_more n m = grind arith
+
+-- what the loops leave: the sizes of all words
+pub measured_names : (xs : List (List ℕ)) (n size r : ℕ) → length xs ≤ n → size ≡ sum_by (λ w. length w + 1) (take n xs) → r ≡ max size 1 → r ≡ length (comma_word xs) + 1
+measured_names xs n size r h e m = m ∙ (ap (λ x. max x 1) (e ∙ ap words_size (take_all n xs h)) ∙ sym (comma_size xs))
+
+pub measured_words : {X : Type 0} (f : X → List ℕ) (xs : List X) (n size r : ℕ) → length xs ≤ n → size ≡ sum_by (λ x. length (f x) + 1) (take n xs) → r ≡ max size 1 → r ≡ length (comma_word (map f xs)) + 1
+measured_words f xs n size r h e m = m ∙ (ap (λ x. max x 1) (e ∙ (ap (sum_by (λ x. length (f x) + 1)) (take_all n xs h) ∙ sym (sum_words f xs))) ∙ sym (comma_size (map f xs)))
+
+pub words_append : (xs ys : List (List ℕ)) → words_size (xs ++ ys) ≡ words_size xs + words_size ys
+words_append xs ys = sum_by-append (λ (w : List ℕ). length w + 1) xs ys
+
+pub line_words_size : (g : GraphValue) (l : Line) → length (spelled (line_words g l)) ≡ (length l.name + 1) + 2 + words_size (verb_words g l.verb) + words_size (on_words g l.on)
+line_words_size g l =
+    let ws : List (List ℕ) = verb_words g l.verb ++ on_words g l.on in
+    let all : length (spelled (line_words g l)) ≡ words_size (l.name ∷ codes "=" ∷ ws) = spelled_size l.name (codes "=" ∷ ws) in
+    let one : words_size (l.name ∷ codes "=" ∷ ws) ≡ (length l.name + 1) + words_size (codes "=" ∷ ws) = words_cons l.name (codes "=" ∷ ws) in
+    let two : words_size (codes "=" ∷ ws) ≡ (length (codes "=") + 1) + words_size ws = words_cons (codes "=") ws in
+    let three : length (codes "=") ≡ 1 = refl in
+    let rest : words_size ws ≡ words_size (verb_words g l.verb) + words_size (on_words g l.on) = words_append (verb_words g l.verb) (on_words g l.on) in
+    omega arith
+
+-- quantities read, with those of one more item
+same_counts : (t t' i i' c c' m m' l l' b b' n n' e e' : ℕ) → t ≡ t' → i ≡ i' → c ≡ c' → m ≡ m' → l ≡ l' → b ≡ b' → n ≡ n' → e ≡ e' → counts t i c m l b n e ≡ counts t' i' c' m' l' b' n' e'
+same_counts t t' i i' c c' m m' l l' b b' n n' e e' p1 p2 p3 p4 p5 p6 p7 p8 = cc
+
+pub decl_counts_read : (g now : GraphValue) (d : Decl) (c : Counts) (t i k m l b : ℕ) → g ≡ now → IsGraph g → c ≡ counts_of g →
+    t ≡ length (spelled (decl_words now d)) → i ≡ length (filter is_inst (d ∷ [])) → k ≡ length (columns_of d) → m ≡ cells_of_decl now d → l ≡ length (filter_map lock_of (d ∷ [])) → b ≡ length (filter_map barrier_of (d ∷ [])) →
+    counts (c.text + t) (c.insts + i) (c.columns + k) (c.cells + m) (c.locks + l) (c.barriers + b) c.lines c.edges ≡ counts_of (with_decl now d)
+decl_counts_read g now d c t i k m l b same f e t_is i_is k_is m_is l_is b_is =
+    subst (λ (x : GraphValue). t ≡ length (spelled (decl_words x d)) → m ≡ cells_of_decl x d → counts (c.text + t) (c.insts + i) (c.columns + k) (c.cells + m) (c.locks + l) (c.barriers + b) c.lines c.edges ≡ counts_of (with_decl x d)) same
+    (λ t_here m_here. same_counts _ _ _ _ _ _ _ _ _ _ _ _ _ _ _ _
+    (sums c.text (length (head g)) t _ (ap (λ (x : Counts). x.text) e) t_here)
+    (sums c.insts (length (filter is_inst g.decls)) i _ (ap (λ (x : Counts). x.insts) e) i_is)
+    (sums c.columns (length (columns g)) k _ (ap (λ (x : Counts). x.columns) e) k_is)
+    (sums c.cells (cell_count g) m _ (ap (λ (x : Counts). x.cells) e) m_here)
+    (sums c.locks (length (locks g)) l _ (ap (λ (x : Counts). x.locks) e) l_is)
+    (sums c.barriers (length (barriers g)) b _ (ap (λ (x : Counts). x.barriers) e) b_is)
+    (ap (λ (x : Counts). x.lines) e) (ap (λ (x : Counts). x.edges) e)
+    ∙ sym (counts_with_decl g d f)) t_is m_is
+  where
+    sums : (a a' b b' : ℕ) → a ≡ a' → b ≡ b' → a + b ≡ a' + b'
+    sums a a' b b' p q = ap (λ x. x + b) p ∙ ap (λ x. a' + x) q
+
+pub line_counts_read : (g now : GraphValue) (l : Line) (c : Counts) (t n : ℕ) → g ≡ now → c ≡ counts_of g → t ≡ length (spelled (line_words now l)) → n ≡ length (line_edges g.lines l) →
+    counts (c.text + t) c.insts c.columns c.cells c.locks c.barriers (c.lines + 1) (c.edges + n) ≡ counts_of (with_line now l)
+line_counts_read g now l c t n same e t_is n_is =
+    subst (λ (x : GraphValue). t ≡ length (spelled (line_words x l)) → counts (c.text + t) c.insts c.columns c.cells c.locks c.barriers (c.lines + 1) (c.edges + n) ≡ counts_of (with_line x l)) same
+    (λ t_here. same_counts _ _ _ _ _ _ _ _ _ _ _ _ _ _ _ _
+    (sums c.text (length (head g)) t _ (ap (λ (x : Counts). x.text) e) t_here)
+    (ap (λ (x : Counts). x.insts) e) (ap (λ (x : Counts). x.columns) e) (ap (λ (x : Counts). x.cells) e) (ap (λ (x : Counts). x.locks) e) (ap (λ (x : Counts). x.barriers) e)
+    (ap (λ (x : Counts). x.lines + 1) e)
+    (sums c.edges (length (edges g)) n _ (ap (λ (x : Counts). x.edges) e) n_is)
+    ∙ sym (counts_with_line g l)) t_is
+  where
+    sums : (a a' b b' : ℕ) → a ≡ a' → b ≡ b' → a + b ≡ a' + b'
+    sums a a' b b' p q = ap (λ x. x + b) p ∙ ap (λ x. a' + x) q

@@ -1,0 +1,115 @@
+-- What the tests of a fault give.
+use Rattle.std.proofs.Common.{rules, ◌≡◌, ℕ, zero, suc, ◌≤◌, Bool, true, false, not, ◌&&◌, ◌||◌, List, [], ◌∷◌, length, refl, sym, ◌∙◌, ap, arith}
+use Rattle.std.specs.Prelude.{Contains, ◌↔◌, IsTrue, Option, Some, None, nat_le, nat_lt, slice_get}
+use Rattle.std.specs.Option.{option_map_or}
+use Rattle.std.specs.List.{list_any, list_all}
+use Rattle.std.proofs.lemmas.Bool.{true≢false, or_parts}
+use Rattle.index_spaces.specs.Laws.{PointsAreListed}
+use Rattle.index_spaces.specs.Space.{has_point, points, IsWithin}
+use Rattle.graph_model.specs.declared.verb.Access.{Access}
+use Rattle.graph_model.specs.declared.verb.Kernel.{Kernel}
+use Rattle.graph_model.specs.declared.verb.Kernel.TheVariants.{Iota, Axpy, Stencil, Scan, Hist, Dot, Expect, Gather}
+use Rattle.graph_model.specs.declared.verb.Verb.{Verb}
+use Rattle.graph_model.specs.declared.verb.Verb.TheVariants.{User, Trigger, Cancel, Merge, MergeIgnore, Phase, Arrive, Acquire, Release, Fill, Copy, Reduce, Task}
+use Rattle.graph_model.specs.Graph.{GraphValue, space_at, column_space, verb_at, is_phase, line_passes, arrivals, barrier_count, never_comes, never_comes_as}
+use Rattle.graph_model.specs.Access.{kernel_accesses, verb_accesses}
+use Rattle.graph_model.specs.Fits.{access_outside, phase_count, barrier_of_phase}
+use Rattle.graph_model.proofs.ListFacts.{contains_here, contains_there, passes_each}
+
+-- a line has three accesses at most
+few_kernel : (k : Kernel) → length (kernel_accesses k) ≤ 3
+few_kernel (Iota x s value) = omega arith
+few_kernel (Axpy x y s factor) = omega arith
+few_kernel (Stencil x y r s) = omega arith
+few_kernel (Scan x y s) = omega arith
+few_kernel (Hist x y s t) = omega arith
+few_kernel (Dot x y z s t) = omega arith
+few_kernel (Expect x s low high) = omega arith
+few_kernel (Gather x y z s t) = omega arith
+
+pub few_accesses : (v : Verb) → length (verb_accesses v) ≤ 3
+few_accesses User = omega arith
+few_accesses (Trigger u) = omega arith
+few_accesses (Cancel u) = omega arith
+few_accesses (Merge es) = omega arith
+few_accesses (MergeIgnore es) = omega arith
+few_accesses (Phase b) = omega arith
+few_accesses (Arrive p v) = omega arith
+few_accesses (Acquire l) = omega arith
+few_accesses (Release q) = omega arith
+few_accesses (Fill t s v) = omega arith
+few_accesses (Copy a b s) = omega arith
+few_accesses (Reduce o a b s) = omega arith
+few_accesses (Task k) = few_kernel k
+
+-- a test of three elements at most, one after another
+abbrev pub passes_at : {X : Type 0} → (X → Bool) → List X → ℕ → Bool
+passes_at t xs k = option_map_or t (slice_get xs k) false
+
+pub any_of_three : {X : Type 0} (t : X → Bool) (xs : List X) → length xs ≤ 3 → (passes_at t xs 0 || (passes_at t xs 1 || passes_at t xs 2)) ≡ list_any t xs
+any_of_three t [] h = refl
+any_of_three t (a ∷ []) h = refl
+any_of_three t (a ∷ b ∷ []) h = refl
+any_of_three t (a ∷ b ∷ c ∷ []) h = ap (λ x. t a || (t b || x)) (last (t c))
+  where
+    last : (x : Bool) → x ≡ (x || false)
+    last true = refl
+    last false = refl
+any_of_three t (a ∷ b ∷ c ∷ d ∷ xs) h = absurd (omega arith)
+
+-- an element that is there
+pub fails_at : {X : Type 0} (t : X → Bool) (xs : List X) (k : ℕ) (x : X) → list_any t xs ≡ false → slice_get xs k ≡ Some x → t x ≡ false
+fails_at t [] k x h e = absurd (none e)
+  where
+    none : None ≡ Some x → ⊥
+    none e = cc
+fails_at t (y ∷ ys) zero x h e = ap t (some e) ∙ (or_parts (t y) (list_any t ys) h).0
+  where
+    some : Some y ≡ Some x → x ≡ y
+    some e = cc
+fails_at t (y ∷ ys) (suc k) x h e = fails_at t ys k x (or_parts (t y) (list_any t ys) h).1 e
+
+-- each element passes
+all_pass : {X : Type 0} (t : X → Bool) (xs : List X) → ((x : X) → Contains xs x → t x ≡ true) → list_all t xs ≡ true
+all_pass t [] h = refl
+all_pass t (x ∷ xs) h = ap (λ b. b && list_all t xs) (h x (contains_here x xs)) ∙ all_pass t xs (λ y c. h y (contains_there x xs y c))
+
+-- the points of a space lie in another
+within_by : (l : PointsAreListed) (s t : List (ℕ × ℕ)) (b a : Bool) → list_all (has_point t) (points s) ≡ a → IsTrue b ↔ IsWithin s t → b ≡ a
+within_by l s t true true e w = refl
+within_by l s t false false e w = refl
+within_by l s t true false e w = absurd (true≢false (sym (all_pass (has_point t) (points s) (λ p c. w.0 refl p ((l s p).0 c))) ∙ e))
+within_by l s t false true e w = absurd (true≢false (sym (w.1 (λ p h. passes_each (has_point t) (points s) e p ((l s p).1 h)))))
+
+pub outside_is : PointsAreListed → (g : GraphValue) (a : Access) (b : Bool) → IsTrue b ↔ IsWithin (space_at g a.space) (column_space g a.column) → not b ≡ access_outside g a
+outside_is l g a b w = ap not (within_by l (space_at g a.space) (column_space g a.column) b _ refl w)
+
+-- a phase has as many arrivals as it takes where it comes
+late_by : (g : GraphValue) (p : ℕ) (v : Verb) → is_phase v ≡ true → not (never_comes_as g p v) ≡ nat_le (barrier_count g (barrier_of_phase v)) (arrivals g p)
+late_by g p User e = absurd (true≢false (sym e))
+late_by g p (Trigger u) e = absurd (true≢false (sym e))
+late_by g p (Cancel u) e = absurd (true≢false (sym e))
+late_by g p (Merge es) e = absurd (true≢false (sym e))
+late_by g p (MergeIgnore es) e = absurd (true≢false (sym e))
+late_by g p (Phase b) e = not_below (arrivals g p) (barrier_count g b)
+  where
+    not_below : (m n : ℕ) → not (nat_lt m n) ≡ nat_le n m
+    not_below m n = search rules
+late_by g p (Arrive q v) e = absurd (true≢false (sym e))
+late_by g p (Acquire l) e = absurd (true≢false (sym e))
+late_by g p (Release q) e = absurd (true≢false (sym e))
+late_by g p (Fill t s v) e = absurd (true≢false (sym e))
+late_by g p (Copy a b s) e = absurd (true≢false (sym e))
+late_by g p (Reduce o a b s) e = absurd (true≢false (sym e))
+late_by g p (Task k) e = absurd (true≢false (sym e))
+
+late_at : (g : GraphValue) (p : ℕ) (o : Option Verb) → option_map_or is_phase o false ≡ true → not (option_map_or (never_comes_as g p) o false) ≡ nat_le (option_map_or (λ v. barrier_count g (barrier_of_phase v)) o 0) (arrivals g p)
+late_at g p None e = absurd (true≢false (sym e))
+late_at g p (Some v) e = late_by g p v e
+
+pub late_is : (g : GraphValue) (p : ℕ) → line_passes is_phase g p ≡ true → not (never_comes g p) ≡ nat_le (phase_count g p) (arrivals g p)
+late_is g p e = late_at g p (verb_at g p) e
+
+pub not_false : (b : Bool) → not b ≡ false → b ≡ true
+not_false true e = refl
+not_false false e = absurd (true≢false e)

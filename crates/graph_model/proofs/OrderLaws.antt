@@ -1,0 +1,77 @@
+-- The order of the evaluation lists the lines that end, each once and after its sources.
+use Rattle.std.proofs.Common.{◌≡◌, ℕ, zero, suc, ◌<◌, true, inl, inr, List, [], ◌∷◌, ◌++◌, length, map, refl, sym, ◌∙◌, ap, subst, arith}
+use Rattle.std.specs.Prelude.{Contains, Some, IsTrue, ◌==◌, slice_get, ◌↔◌}
+use Rattle.std.proofs.lemmas.Bool.{true≢false, eq-eqb, eqb-true, true_from_ne_false}
+use Rattle.std.proofs.lemmas.Option.{none-some, same_Some}
+use Rattle.graph_model.specs.declared.verb.Edge.{Edge}
+use Rattle.graph_model.specs.Graph.{GraphValue}
+use Rattle.graph_model.specs.Edges.{edges}
+use Rattle.graph_model.specs.Evaluation.{Step, has_ended, eval_end, is_ended, evaluation, order}
+use Rattle.graph_model.proofs.ListFacts.{contains_none, contains_cases, contains_here, contains_there, some_passes, passes_some, map_contains, contains_map}
+use Rattle.graph_model.proofs.Waiting.{end_in_left, end_in_ended, steps_end}
+use Rattle.graph_model.proofs.Turns.{turns_after}
+use Rattle.graph_model.proofs.Confluence.{Fresh, steps_fresh, order_round}
+use Rattle.graph_model.specs.Laws.{OrderListsEnded}
+use Rattle.graph_model.specs.Trace.{StandsBefore}
+
+-- the lines of steps
+abbrev lines_of : List Step → List ℕ
+lines_of ss = map (λ (s : Step). s.line) ss
+
+listed_ended : (ss : List Step) (i : ℕ) → Contains (lines_of ss) i → has_ended ss i ≡ true
+listed_ended ss i c = let m = map_contains (λ (s : Step). s.line) ss i c in passes_some (λ (s : Step). s.line == i) ss m.0 m.1 (eq-eqb m.0.line i m.2)
+
+ended_listed : (ss : List Step) (i : ℕ) → has_ended ss i ≡ true → Contains (lines_of ss) i
+ended_listed ss i h = let s = some_passes (λ (s : Step). s.line == i) ss h in subst (λ k. Contains (lines_of ss) k) (eqb-true s.0.line i s.2) (contains_map (λ (s : Step). s.line) ss s.0 s.1)
+
+pub listed_iff_ended : (g : GraphValue) (i : ℕ) → Contains (order g) i ↔ IsTrue (is_ended (eval_end g i))
+listed_iff_ended g i = (
+  λ c. end_in_ended (evaluation g) i (steps_end g (length g.lines)) (listed_ended (evaluation g) i c),
+  λ h. ended_listed (evaluation g) i (true_from_ne_false (has_ended (evaluation g) i) (λ f. true≢false (sym h ∙ ap is_ended (end_in_left (evaluation g) i f)))),
+)
+
+-- an item of a list is listed
+got_is_listed : (xs : List ℕ) (k i : ℕ) → slice_get xs k ≡ Some i → Contains xs i
+got_is_listed [] k i h = absurd (none-some i h)
+got_is_listed (x ∷ xs) zero i h = subst (λ z. Contains (x ∷ xs) z) (same_Some x i h) (contains_here x xs)
+got_is_listed (x ∷ xs) (suc k) i h = contains_there x xs i (got_is_listed xs k i h)
+
+listed_is_got : (xs : List ℕ) (i : ℕ) → Contains xs i → (k : ℕ) × (k < length xs) × (slice_get xs k ≡ Some i)
+listed_is_got [] i c = absurd (contains_none i c)
+listed_is_got (x ∷ xs) i c = elim (contains_cases x xs i c) [
+  | inl e ↦ (0, omega arith, ap Some e)
+  | inr r ↦ (let g = listed_is_got xs i r in (suc g.0, (let h : g.0 < length xs = g.1 in omega arith), g.2))
+]
+
+once_in : (ss : List Step) → Fresh ss → (k m i : ℕ) → slice_get (lines_of ss) k ≡ Some i → slice_get (lines_of ss) m ≡ Some i → k ≡ m
+once_in [] f k m i hk hm = absurd (none-some i hk)
+once_in (s ∷ ss) f zero zero i hk hm = refl
+once_in (s ∷ ss) f zero (suc m) i hk hm = absurd (true≢false (sym (listed_ended ss i (got_is_listed (lines_of ss) m i hm)) ∙ (ap (has_ended ss) (sym (same_Some s.line i hk)) ∙ f.0)))
+once_in (s ∷ ss) f (suc k) zero i hk hm = absurd (true≢false (sym (listed_ended ss i (got_is_listed (lines_of ss) k i hk)) ∙ (ap (has_ended ss) (sym (same_Some s.line i hm)) ∙ f.0)))
+once_in (s ∷ ss) f (suc k) (suc m) i hk hm = ap suc (once_in ss f.1 k m i hk hm)
+
+-- places before a line, and its own
+got_before : (xs ys : List ℕ) (k i : ℕ) → k < length xs → slice_get xs k ≡ Some i → slice_get (xs ++ ys) k ≡ Some i
+got_before [] ys k i h g = absurd (omega arith)
+got_before (x ∷ xs) ys zero i h g = g
+got_before (x ∷ xs) ys (suc k) i h g = got_before xs ys k i (omega arith) g
+
+got_at : (xs : List ℕ) (y : ℕ) (ys : List ℕ) → slice_get (xs ++ y ∷ ys) (length xs) ≡ Some y
+got_at [] y ys = refl
+got_at (x ∷ xs) y ys = got_at xs y ys
+
+-- each source of a line stands before it
+pub source_before : (g : GraphValue) (e : Edge) → Contains (edges g) e → Contains (order g) e.to → StandsBefore (order g) e.from e.to
+source_before g e c to =
+    let t = turns_after g (length g.lines) e.to (listed_ended (evaluation g) e.to to) in
+    let there : Contains (lines_of t.0) e.from = ended_listed t.0 e.from (t.1.ready.sources e c refl) in
+    let k = listed_is_got (lines_of t.0) e.from there in
+    subst (λ xs. StandsBefore xs e.from e.to) (sym (order_round g e.to t.0 t.1))
+    (k.0, length (lines_of t.0), got_before (lines_of t.0) (e.to ∷ lines_of t.1.after) k.0 e.from k.1 k.2, got_at (lines_of t.0) e.to (lines_of t.1.after), k.1)
+
+pub order_lists_ended : OrderListsEnded
+order_lists_ended g = record {
+  ended = listed_iff_ended g;
+  once = once_in (evaluation g) (steps_fresh g (length g.lines));
+  sources = λ e c to. source_before g e c to;
+}

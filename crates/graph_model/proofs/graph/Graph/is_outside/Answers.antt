@@ -1,0 +1,12 @@
+use Rattle.std.proofs.Common.{subst}
+use Rattle.std.specs.Prelude.{◌↔◌, IsTrue}
+use Rattle.index_spaces.specs.Space.{IsWithin}
+use Rattle.graph_model.specs.Graph.{space_at}
+use Rattle.graph_model.proofs.FaultLaws.{outside_is}
+use Rattle.graph_model.proofs.graph.Graph.is_outside.Goals as goal
+
+pub returns : goal.returns
+returns c =
+    outside_is c.points_are_listed.ensures c.args.self.now c.args.access.now c.is_within.result
+    (subst (λ t. IsTrue c.is_within.result ↔ IsWithin (space_at c.args.self.now c.args.access.now.space) t) c.column_space-column.ensures
+    (subst (λ s. IsTrue c.is_within.result ↔ IsWithin s c.column_space-column.result.now) c.space.ensures c.is_within.ensures))

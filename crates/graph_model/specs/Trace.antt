@@ -1,0 +1,24 @@
+-- Traces: lists of lines in an order in which they may have ended.
+use Rattle.std.specs.Prelude.{◌≡◌, ◌≢◌, ℕ, ◌<◌, ◌⊎◌, ◌↔◌, List, Contains, IsTrue, slice_get, Some}
+use Rattle.graph_model.specs.declared.outcome.End.TheVariants.{Done}
+use Rattle.graph_model.specs.declared.verb.Edge.{Edge}
+use Rattle.graph_model.specs.Graph.{GraphValue}
+use Rattle.graph_model.specs.Edges.{edges}
+use Rattle.graph_model.specs.Rules.{Acquires, Releases}
+use Rattle.graph_model.specs.Evaluation.{eval_end, is_ended}
+
+-- i stands in the trace at a place before one of j
+abbrev pub StandsBefore : List ℕ → ℕ → ℕ → Type 0
+StandsBefore trace i j = (k m : ℕ) × (slice_get trace k ≡ Some i) × (slice_get trace m ≡ Some j) × (k < m)
+
+-- a trace lists the lines that end in the evaluation, each once, each after its sources
+pub record ListsEnded (g : GraphValue) (trace : List ℕ) : Type 0 where
+  pub ended : (i : ℕ) → Contains trace i ↔ IsTrue (is_ended (eval_end g i))
+  pub once : (k m i : ℕ) → slice_get trace k ≡ Some i → slice_get trace m ≡ Some i → k ≡ m
+  pub sources : (e : Edge) → Contains (edges g) e → Contains trace e.to → StandsBefore trace e.from e.to
+
+-- and the sections of one reservation stand one after the other
+pub record IsLawful (g : GraphValue) (trace : List ℕ) : Type 0 where
+  pub lists : ListsEnded g trace
+  pub sections : (l q k : ℕ) → Acquires g q l → Acquires g k l → q ≢ k → eval_end g q ≡ Done → eval_end g k ≡ Done →
+      ((r : ℕ) × Releases g r q × StandsBefore trace r k) ⊎ ((r : ℕ) × Releases g r k × StandsBefore trace r q)

@@ -1,0 +1,332 @@
+//! The reasons that refuse an item after a graph.
+
+ghost use Rattle.std.specs.Prelude.{◌≡◌, map, nat_eq, nat_le};
+ghost use Rattle.std.specs.List.{list_any};
+ghost use Rattle.graph_model.specs.declared.verb.Access.{Access};
+ghost use Rattle.graph_model.specs.Access.{verb_accesses, kernel_accesses};
+ghost use Rattle.graph_model.specs.Fits.{repeats, decl_repeats, decl_misnumbered, is_large, named_lines, on_lines, takes_no_on, verb_misnumbered, merges_many};
+
+use super::Graph;
+use crate::access::verb_access;
+use crate::decl::Decl;
+use crate::name::Name;
+use crate::repeats::{names_repeat, numbers_repeat};
+use crate::verb::{Access, Kernel, Line, Verb, Why};
+use index_spaces::laws::points_are_listed;
+
+const MAX_INTERVALS: usize = 64;
+
+const MAX_POINTS: u32 = 1_048_576;
+
+const MAX_COUNT: u32 = 8_192;
+
+const MAX_EVENTS: u32 = 64;
+
+impl Graph {
+    ghost use Rattle.std.specs.Prelude.{◌≡◌, false, slice_get};
+    ghost use Rattle.std.specs.Option.{option_map_or};
+    ghost use Rattle.std.specs.List.{list_any};
+    ghost use Rattle.graph_model.specs.Graph.{line_passes, is_user, is_phase, is_acquire};
+    ghost use Rattle.graph_model.specs.Access.{verb_accesses};
+    ghost use Rattle.graph_model.specs.Fits.{decl_fault, line_fault, is_used, decl_unknown, verb_repeats, verb_unknown, access_unknown, line_unknown, verb_unlike, access_outside, arrives_late};
+
+    /// The first reason that refuses a declaration after this graph. `None` exactly where it fits.
+    pub fn decl_fault(&self, decl: &Decl) -> Option<Why>
+        ensures { result ≡ decl_fault self.now decl.now }
+    {
+        if self.is_used(decl.name()) || decl_repeats(decl) {
+            return Some(Why::Twice);
+        }
+        if self.decl_unknown(decl) {
+            return Some(Why::Unknown);
+        }
+        if decl_misnumbered(decl) {
+            return Some(Why::Number);
+        }
+        if is_large(decl) || self.counts_with_decl(decl).is_above() {
+            return Some(Why::Limit);
+        }
+        None
+    }
+
+    /// The first reason that refuses a line after this graph. `None` exactly where it fits.
+    pub fn line_fault(&self, line: &Line) -> Option<Why>
+        ensures { result ≡ line_fault self.now line.now }
+    {
+        if self.is_used(&line.name) || self.verb_repeats(&line.verb) || columns_repeat(&line.verb) {
+            return Some(Why::Twice);
+        }
+        if self.line_unknown(line) {
+            return Some(Why::Unknown);
+        }
+        if self.verb_unlike(&line.verb) || takes_no_on(&line.verb) && line.on.is_some() {
+            return Some(Why::Kind);
+        }
+        if verb_misnumbered(&line.verb) {
+            return Some(Why::Number);
+        }
+        if self.reaches_outside(&line.verb) {
+            return Some(Why::Outside);
+        }
+        if self.arrives_late(&line.verb) {
+            return Some(Why::Arrivals);
+        }
+        if merges_many(&line.verb) || self.counts_with_line(line).is_above() {
+            return Some(Why::Limit);
+        }
+        None
+    }
+
+    fn is_used(&self, name: &Name) -> bool
+        ensures { result ≡ is_used self.now name.now }
+    {
+        self.find(name).is_some()
+    }
+
+    fn decl_unknown(&self, decl: &Decl) -> bool
+        ensures { result ≡ decl_unknown self.now decl.now }
+    {
+        match decl {
+            Decl::Inst { space, .. } => *space >= self.spaces(),
+            _ => false,
+        }
+    }
+
+    /// Whether a merge names a line twice, or a line names one that is ended or released already.
+    fn verb_repeats(&self, verb: &Verb) -> bool
+        ensures { result ≡ verb_repeats self.now verb.now }
+    {
+        match verb {
+            Verb::Merge { events } => numbers_repeat(events.items.as_slice()),
+            Verb::MergeIgnore { events } => numbers_repeat(events.items.as_slice()),
+            Verb::Trigger { user } => self.mark(*user).ended,
+            Verb::Cancel { user } => self.mark(*user).ended,
+            Verb::Release { acquire } => self.mark(*acquire).released,
+            _ => false,
+        }
+    }
+
+    fn line_unknown(&self, line: &Line) -> bool
+        ensures { result ≡ line_unknown self.now line.now }
+    {
+        let lines = self.lines();
+        names_past(&line.verb, lines)
+            || is_past(line.on, lines)
+            || self.verb_unknown(&line.verb)
+            || self.reaches_unknown(&line.verb)
+    }
+
+    fn verb_unknown(&self, verb: &Verb) -> bool
+        ensures { result ≡ verb_unknown self.now verb.now }
+    {
+        match verb {
+            Verb::Phase { barrier } => *barrier >= self.barriers(),
+            Verb::Acquire { lock } => *lock >= self.locks(),
+            _ => false,
+        }
+    }
+
+    /// Whether an access is of a column or over a space that is not declared.
+    fn reaches_unknown(&self, verb: &Verb) -> bool
+        ensures { result ≡ list_any (access_unknown self.now) (verb_accesses verb.now) }
+    {
+        self.is_unknown_at(verb, 0) || self.is_unknown_at(verb, 1) || self.is_unknown_at(verb, 2)
+    }
+
+    fn is_unknown_at(&self, verb: &Verb, k: u32) -> bool
+        ensures { result ≡ option_map_or (access_unknown self.now) (slice_get (verb_accesses verb.now) k) false }
+    {
+        match verb_access(verb, k) {
+            Some(access) => access.column >= self.columns() || access.space >= self.spaces(),
+            None => false,
+        }
+    }
+
+    fn verb_unlike(&self, verb: &Verb) -> bool
+        ensures { result ≡ verb_unlike self.now verb.now }
+    {
+        match verb {
+            Verb::Trigger { user } => !self.is_user(*user),
+            Verb::Cancel { user } => !self.is_user(*user),
+            Verb::Arrive { phase, .. } => !self.is_phase(*phase),
+            Verb::Release { acquire } => !self.is_acquire(*acquire),
+            _ => false,
+        }
+    }
+
+    fn is_user(&self, i: u32) -> bool
+        ensures { result ≡ line_passes is_user self.now i }
+    {
+        i < self.lines() && matches!(&self.line(i).verb, Verb::User)
+    }
+
+    fn is_phase(&self, i: u32) -> bool
+        ensures { result ≡ line_passes is_phase self.now i }
+    {
+        i < self.lines() && matches!(&self.line(i).verb, Verb::Phase { .. })
+    }
+
+    fn is_acquire(&self, i: u32) -> bool
+        ensures { result ≡ line_passes is_acquire self.now i }
+    {
+        i < self.lines() && matches!(&self.line(i).verb, Verb::Acquire { .. })
+    }
+
+    /// Whether an access is over a space that does not lie within its column.
+    fn reaches_outside(&self, verb: &Verb) -> bool
+        requires { list_any (access_unknown self.now) (verb_accesses verb.now) ≡ false }
+        ensures { result ≡ list_any (access_outside self.now) (verb_accesses verb.now) }
+    {
+        self.is_outside_at(verb, 0) || self.is_outside_at(verb, 1) || self.is_outside_at(verb, 2)
+    }
+
+    fn is_outside_at(&self, verb: &Verb, k: u32) -> bool
+        requires { list_any (access_unknown self.now) (verb_accesses verb.now) ≡ false }
+        ensures { result ≡ option_map_or (access_outside self.now) (slice_get (verb_accesses verb.now) k) false }
+    {
+        match verb_access(verb, k) {
+            Some(access) => self.is_outside(&access),
+            None => false,
+        }
+    }
+
+    fn is_outside(&self, access: &Access) -> bool
+        requires { access_unknown self.now access.now ≡ false }
+        ensures { result ≡ access_outside self.now access.now }
+    {
+        points_are_listed();
+        let column = self.column_space(access.column);
+        !self.space(access.space).is_within(column)
+    }
+
+    /// Whether it arrives at a phase that has as many arrivals as it takes.
+    fn arrives_late(&self, verb: &Verb) -> bool
+        requires { verb_unlike self.now verb.now ≡ false }
+        ensures { result ≡ arrives_late self.now verb.now }
+    {
+        match verb {
+            Verb::Arrive { phase, .. } => !self.never_comes(*phase),
+            _ => false,
+        }
+    }
+}
+
+fn decl_repeats(decl: &Decl) -> bool
+    ensures { result ≡ decl_repeats decl.now }
+{
+    match decl {
+        Decl::Inst { fields, .. } => names_repeat(fields.items.as_slice()),
+        _ => false,
+    }
+}
+
+fn decl_misnumbered(decl: &Decl) -> bool
+    ensures { result ≡ decl_misnumbered decl.now }
+{
+    match decl {
+        Decl::Inst { fields, .. } => fields.len() < 1,
+        Decl::Barrier { count, .. } => *count < 1 || *count > MAX_COUNT,
+        _ => false,
+    }
+}
+
+/// Whether a declared space has too many intervals or points.
+fn is_large(decl: &Decl) -> bool
+    ensures { result ≡ is_large decl.now }
+{
+    match decl {
+        Decl::Space { space, .. } => {
+            space.intervals().len() > MAX_INTERVALS || space.size() > MAX_POINTS
+        }
+        _ => false,
+    }
+}
+
+/// Whether a line names one column twice.
+fn columns_repeat(verb: &Verb) -> bool
+    ensures { result ≡ repeats nat_eq (map (λ (a : Access). a.column) (verb_accesses verb.now)) }
+{
+    match verb {
+        Verb::Copy { source, target, .. } => numbers_repeat(&[*source, *target]),
+        Verb::Reduce { source, target, .. } => numbers_repeat(&[*source, *target]),
+        Verb::Task { kernel } => kernel_columns_repeat(kernel),
+        _ => false,
+    }
+}
+
+fn kernel_columns_repeat(kernel: &Kernel) -> bool
+    ensures { result ≡ repeats nat_eq (map (λ (a : Access). a.column) (kernel_accesses kernel.now)) }
+{
+    match kernel {
+        Kernel::Axpy { x, y, .. } => numbers_repeat(&[*x, *y]),
+        Kernel::Stencil { x, y, .. } => numbers_repeat(&[*x, *y]),
+        Kernel::Scan { x, y, .. } => numbers_repeat(&[*x, *y]),
+        Kernel::Hist { x, y, .. } => numbers_repeat(&[*x, *y]),
+        Kernel::Dot { x, y, z, .. } => numbers_repeat(&[*x, *y, *z]),
+        Kernel::Gather { x, y, z, .. } => numbers_repeat(&[*x, *y, *z]),
+        Kernel::Iota { .. } => false,
+        Kernel::Expect { .. } => false,
+    }
+}
+
+/// Whether a line that it names has this number or a greater one.
+fn names_past(verb: &Verb, lines: u32) -> bool
+    ensures { result ≡ list_any (λ i. nat_le lines i) (named_lines verb.now) }
+{
+    match verb {
+        Verb::Trigger { user } => *user >= lines,
+        Verb::Cancel { user } => *user >= lines,
+        Verb::Merge { events } => any_past(events.items.as_slice(), lines),
+        Verb::MergeIgnore { events } => any_past(events.items.as_slice(), lines),
+        Verb::Arrive { phase, .. } => *phase >= lines,
+        Verb::Release { acquire } => *acquire >= lines,
+        _ => false,
+    }
+}
+
+fn any_past(events: &[u32], lines: u32) -> bool
+    ensures { result ≡ list_any (λ i. nat_le lines i) events.now }
+{
+    events.iter().any(|event| *event >= lines)
+}
+
+fn is_past(on: Option<u32>, lines: u32) -> bool
+    ensures { result ≡ list_any (λ i. nat_le lines i) (on_lines on) }
+{
+    match on {
+        Some(i) => i >= lines,
+        None => false,
+    }
+}
+
+fn takes_no_on(verb: &Verb) -> bool
+    ensures { result ≡ takes_no_on verb.now }
+{
+    match verb {
+        Verb::User => true,
+        Verb::Merge { .. } => true,
+        Verb::MergeIgnore { .. } => true,
+        Verb::Phase { .. } => true,
+        _ => false,
+    }
+}
+
+fn verb_misnumbered(verb: &Verb) -> bool
+    ensures { result ≡ verb_misnumbered verb.now }
+{
+    match verb {
+        Verb::Merge { events } => events.len() < 1,
+        Verb::MergeIgnore { events } => events.len() < 1,
+        _ => false,
+    }
+}
+
+fn merges_many(verb: &Verb) -> bool
+    ensures { result ≡ merges_many verb.now }
+{
+    match verb {
+        Verb::Merge { events } => events.len() > MAX_EVENTS,
+        Verb::MergeIgnore { events } => events.len() > MAX_EVENTS,
+        _ => false,
+    }
+}

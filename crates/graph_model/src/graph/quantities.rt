@@ -1,0 +1,69 @@
+//! The quantities of a graph with one more item.
+
+use super::Graph;
+use crate::counts::{Counts, barriers_of, columns_of, insts_of, locks_of};
+use crate::decl::Decl;
+use crate::edges::count_edges;
+use crate::verb::Line;
+
+impl Graph {
+    ghost use Rattle.std.specs.Prelude.{◌≡◌, ◌≤◌};
+    ghost use Rattle.index_spaces.specs.Space.{space_size};
+    ghost use Rattle.graph_model.specs.Graph.{space_at};
+    ghost use Rattle.graph_model.specs.Fits.{with_decl, with_line};
+    ghost use Rattle.graph_model.specs.Counts.{counts_of, cells_of_decl};
+
+    /// The quantities with a declaration at the end.
+    pub(super) fn counts_with_decl(&self, decl: &Decl) -> Counts
+        ensures { result ≡ counts_of (with_decl self.now decl.now) }
+    {
+        Counts {
+            text: self.counts.text + self.decl_size(decl),
+            insts: self.counts.insts + insts_of(decl),
+            columns: self.counts.columns + columns_of(decl),
+            cells: self.counts.cells + self.cells_of(decl),
+            locks: self.counts.locks + locks_of(decl),
+            barriers: self.counts.barriers + barriers_of(decl),
+            lines: self.counts.lines,
+            edges: self.counts.edges,
+        }
+    }
+
+    /// The quantities with a line at the end.
+    pub(super) fn counts_with_line(&self, line: &Line) -> Counts
+        ensures { result ≡ counts_of (with_line self.now line.now) }
+    {
+        Counts {
+            text: self.counts.text + self.line_size(line),
+            insts: self.counts.insts,
+            columns: self.counts.columns,
+            cells: self.counts.cells,
+            locks: self.counts.locks,
+            barriers: self.counts.barriers,
+            lines: self.counts.lines + 1,
+            edges: self.counts.edges + count_edges(&self.lines, line) as u64,
+        }
+    }
+
+    /// How many cells the columns of a declaration have.
+    fn cells_of(&self, decl: &Decl) -> u64
+        ensures cells { result ≡ cells_of_decl self.now decl.now }
+        ensures few { result ≤ 4503599627370496 }
+    {
+        match decl {
+            Decl::Inst { space, fields, .. } => { u64::from(fields.len()) * self.points_of(*space) }
+            _ => 0,
+        }
+    }
+
+    /// How many points a space has: none where it is not declared.
+    fn points_of(&self, s: u32) -> u64
+        ensures points { result ≡ space_size (space_at self.now s) }
+        ensures few { result ≤ 1048576 }
+    {
+        if s >= self.spaces() {
+            return 0;
+        }
+        u64::from(self.space(s).size())
+    }
+}

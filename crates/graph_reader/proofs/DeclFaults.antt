@@ -1,0 +1,299 @@
+-- What refuses the words of a declaration.
+use Rattle.std.proofs.Common.{append-nil, length-append, inr, ◌⊎◌, ◌≡◌, ℕ, ◌+◌, ◌<◌, Bool, true, false, cond, not, ◌&&◌, ◌||◌, List, [], ◌∷◌, length, refl, sym, ◌∙◌, ap, subst, inl, arith}
+use Rattle.std.specs.Prelude.{Option, Some, None, Result, Ok, Err, is_some, unwrap_or, position, bytes_eq, nat_lt, nat_le, flat_map}
+use Rattle.std.specs.Option.{option_map_or}
+use Rattle.std.specs.List.{list_all}
+use Rattle.std.proofs.lemmas.Bool.{lt-ltb, le-ltb, or_right, or_left, ltb-true, ltb-false, le-leb, lt-leb, cond-true, cond-false}
+use Rattle.index_spaces.specs.declared.Op.{Op}
+use Rattle.graph_model.specs.declared.decl.Decl.{Decl}
+use Rattle.graph_model.specs.declared.decl.Decl.TheVariants as decl
+use Rattle.graph_model.specs.declared.verb.Line.{Line}
+use Rattle.graph_model.specs.declared.verb.Why.{Why}
+use Rattle.graph_model.specs.declared.verb.Why.TheVariants as why
+use Rattle.graph_model.specs.Graph.{GraphValue, named_spaces, columns, columns_of}
+use Rattle.index_spaces.specs.Space.{space_size}
+use Rattle.std.proofs.lemmas.Option.{none-some, same_Some}
+use Rattle.std.proofs.lemmas.Grind.{flat_map-append}
+use Rattle.std.proofs.lemmas.List.{length-map}
+use Rattle.graph_model.specs.Name.{is_name}
+use Rattle.graph_model.specs.Fits.{first_reason, repeats, is_used, decl_fault, is_beyond, with_decl}
+use Rattle.graph_reader.specs.Words.{pieces, count_of, value_of, intervals_of, ascend_from, is_fields}
+use Rattle.graph_reader.specs.Draft.{Draft, NewName, SpaceName, space_with, inst_with, lock_with, barrier_with, space_number}
+use Rattle.graph_reader.specs.FirstFault.{draft_tests, draft_fault, or_else, unlike, item_fault}
+use Rattle.index_spaces.specs.declared.space.SpaceFault.{SpaceFault}
+use Rattle.index_spaces.specs.declared.space.SpaceFault.TheVariants as spaces
+use Rattle.index_spaces.specs.SpaceFault.{first_misplaced, space_fault, or_too_large}
+use Rattle.graph_reader.proofs.Places.{IsFine}
+use Rattle.graph_reader.proofs.Drafts.{fine_words}
+use Rattle.graph_reader.proofs.Owners.{position_any, position_below}
+use Rattle.graph_reader.specs.declared.item.ItemError.{ItemError}
+use Rattle.graph_reader.specs.declared.item.ItemError.TheVariants as errors
+use Rattle.graph_reader.specs.Reading.{IsDeclBy, IsDeclRead, space_error, space_reason, inst_reason, inst_decl}
+
+-- what is left for the declaration that the words spell
+pub read_by : (g : GraphValue) (d : Draft) (x : Decl) (r : Option Why) (result : Result Decl ItemError) → draft_fault g d ≡ r → d.item ≡ inl x → IsDeclBy r x result → IsDeclRead g d result
+read_by g d x r (Ok y) h i k = (h ∙ k.0, i ∙ ap inl (sym k.1))
+read_by g d x r (Err (errors.Refused w)) h i k = h ∙ k
+read_by g d x r (Err errors.NoMemory) h i k = tt
+
+-- a name that is spelled so, and new
+lock_by : (u : Bool) (rest : Option Why) (more : Option Why) → rest ≡ cond (u || false) (Some why.Twice) more → or_else (first_reason ((false, why.Name) ∷ ((u || false) || (false || false), why.Twice) ∷ (false, why.Unknown) ∷ (false, why.Kind) ∷ (false, why.Number) ∷ (false, why.Space) ∷ [])) rest ≡ rest
+lock_by true rest more h = sym h
+lock_by false rest more h = refl
+
+pub lock_is : (g : GraphValue) (name new : List ℕ) → is_name name ≡ true → new ≡ name → draft_fault g (lock_with name) ≡ decl_fault g (decl.Lock new)
+lock_is g name new h e =
+    ap (λ b. or_else (first_reason ((not b || false, why.Name) ∷ ((is_used g name || false) || (false || false), why.Twice) ∷ (false, why.Unknown) ∷ (false, why.Kind) ∷ (false, why.Number) ∷ (false, why.Space) ∷ [])) (decl_fault g (decl.Lock name))) h
+    ∙ (lock_by (is_used g name) (decl_fault g (decl.Lock name)) _ refl ∙ ap (λ n. decl_fault g (decl.Lock n)) (sym e))
+
+abbrev as_barrier : List ℕ → ℕ → Op → ℕ → Decl ⊎ Line
+as_barrier name count op first = inl (decl.Barrier name count op first)
+
+and_no : (b : Bool) → (b && false) ≡ false
+and_no true = refl
+and_no false = refl
+
+pub fine_name : (g : GraphValue) (name : List ℕ) → is_name name ≡ true → is_used g name ≡ false → IsFine g NewName name
+fine_name g name h u = record { named = ap not h; once = u; known = refl; alike = refl; numbered = refl; ordered = refl }
+
+pub barrier_is : (g : GraphValue) (name new arrivals first : List ℕ) (op : Op) (count value : ℕ) → is_name name ≡ true → new ≡ name → is_used g name ≡ false → count_of arrivals ≡ Some count → value_of first ≡ Some value →
+    (draft_fault g (barrier_with name arrivals op first) ≡ decl_fault g (decl.Barrier new count op value)) × ((barrier_with name arrivals op first).item ≡ inl (decl.Barrier new count op value))
+barrier_is g name new arrivals first op count value h e u c v =
+    let i : (barrier_with name arrivals op first).item ≡ inl (decl.Barrier new count op value) =
+    ap (λ o. as_barrier name (unwrap_or o 0) op (unwrap_or (value_of first) 0)) c ∙ (ap (λ o. as_barrier name count op (unwrap_or o 0)) v ∙ ap (λ n. as_barrier n count op value) (sym e)) in (
+      fine_words g (barrier_with name arrivals op first) (
+        fine_name g name h u,
+        (
+          record { named = refl; once = refl; known = refl; alike = refl; numbered = ap (λ o. not (is_some o)) c; ordered = refl },
+          (record { named = refl; once = refl; known = refl; alike = refl; numbered = ap (λ o. not (is_some o)) v; ordered = refl }, tt),
+        ),
+      ) refl refl
+          ∙ ap (item_fault g) i,
+      i,
+    )
+
+-- spaces
+placed_by : (k low : ℕ) (is : List (ℕ × ℕ)) (i : ℕ × ℕ) (a b : Bool) (e : Option SpaceFault) → nat_lt i.1 i.0 ≡ a → nat_lt i.0 low ≡ b → cond a (Some (spaces.Reversed k)) (cond b (Some (spaces.Order k)) (first_misplaced (k + 1) (i.1 + 2) is)) ≡ e →
+    (first_misplaced (k + 1) (i.1 + 2) is ≡ e → ascend_from (i.1 + 2) is ≡ not (is_some e)) → ascend_from low (i ∷ is) ≡ not (is_some e)
+placed_by k low is i true b e ha hb h again =
+    ap (λ x. nat_le low i.0 && (x && ascend_from (i.1 + 2) is)) (lt-leb i.0 i.1 (ltb-true i.1 i.0 ha)) ∙ (and_no (nat_le low i.0) ∙ ap (λ x. not (is_some x)) h)
+placed_by k low is i false true e ha hb h again = ap (λ x. x && (nat_le i.0 i.1 && ascend_from (i.1 + 2) is)) (lt-leb low i.0 (ltb-true i.0 low hb)) ∙ ap (λ x. not (is_some x)) h
+placed_by k low is i false false e ha hb h again =
+    ap (λ x. x && (nat_le i.0 i.1 && ascend_from (i.1 + 2) is)) (le-leb low i.0 (ltb-false i.0 low hb)) ∙ (ap (λ x. x && ascend_from (i.1 + 2) is) (le-leb i.0 i.1 (ltb-false i.1 i.0 ha)) ∙ again h)
+
+pub ascends_where : (k low : ℕ) (is : List (ℕ × ℕ)) (e : Option SpaceFault) → first_misplaced k low is ≡ e → ascend_from low is ≡ not (is_some e)
+ascends_where k low [] e h = ap (λ x. not (is_some x)) h
+ascends_where k low (i ∷ is) e h = placed_by k low is i (nat_lt i.1 i.0) (nat_lt i.0 low) e refl refl h (ascends_where (k + 1) (i.1 + 2) is e)
+
+-- the kinds of faults: of order, of size, and others
+abbrev kind : SpaceFault → ℕ
+kind (spaces.Reversed k) = 0
+kind (spaces.Order k) = 0
+kind spaces.Many = 1
+kind spaces.Large = 1
+kind spaces.Empty = 2
+kind spaces.NoMemory = 3
+
+order_by : (k low : ℕ) (is : List (ℕ × ℕ)) (a b : Bool) (e : SpaceFault) → cond a (Some (spaces.Reversed k)) (cond b (Some (spaces.Order k)) (first_misplaced (k + 1) low is)) ≡ Some e → (first_misplaced (k + 1) low is ≡ Some e → kind e ≡ 0) → kind e ≡ 0
+order_by k low is true b e h again = ap kind (sym (same_Some (spaces.Reversed k) e h))
+order_by k low is false true e h again = ap kind (sym (same_Some (spaces.Order k) e h))
+order_by k low is false false e h again = again h
+
+of_order : (k low : ℕ) (is : List (ℕ × ℕ)) (e : SpaceFault) → first_misplaced k low is ≡ Some e → kind e ≡ 0
+of_order k low [] e h = absurd (none-some e h)
+of_order k low (i ∷ is) e h = order_by k (i.1 + 2) is (nat_lt i.1 i.0) (nat_lt i.0 low) e h (of_order (k + 1) (i.1 + 2) is e)
+
+abbrev has_large : List (ℕ × ℕ) → Bool
+has_large is = nat_lt 64 (length is) || nat_lt 1048576 (space_size is)
+
+large_by : (a b : Bool) (e : SpaceFault) → cond a (Some spaces.Many) (cond b (Some spaces.Large) None) ≡ Some e → (kind e ≡ 1) × ((a || b) ≡ true)
+large_by true b e h = (ap kind (sym (same_Some spaces.Many e h)), refl)
+large_by false true e h = (ap kind (sym (same_Some spaces.Large e h)), refl)
+large_by false false e h = absurd (none-some e h)
+
+-- what a fault of intervals says
+abbrev Faulty : List (ℕ × ℕ) → SpaceFault → Type 0
+Faulty is e = ((kind e ≡ 0) × (ascend_from 0 is ≡ false)) ⊎ ((kind e ≡ 1) × (ascend_from 0 is ≡ true) × (has_large is ≡ true))
+
+faulty_by : (is : List (ℕ × ℕ)) (o : Option SpaceFault) (e : SpaceFault) → first_misplaced 0 0 is ≡ o → or_too_large o is ≡ Some e → Faulty is e
+faulty_by is (Some f) e h k = inl (of_order 0 0 is e (h ∙ k), ascends_where 0 0 is (Some f) h)
+faulty_by is None e h k = let l = large_by (nat_lt 64 (length is)) (nat_lt 1048576 (space_size is)) e k in inr (l.0, ascends_where 0 0 is None h, l.1)
+
+faulty : (is : List (ℕ × ℕ)) (e : SpaceFault) → (is ≡ [] → ⊥) → space_fault is ≡ Some e → Faulty is e
+faulty [] e some h = absurd (some refl)
+faulty (i ∷ is) e some h = faulty_by (i ∷ is) (first_misplaced 0 0 (i ∷ is)) e refl h
+
+faultless_by : (is : List (ℕ × ℕ)) (o : Option SpaceFault) → first_misplaced 0 0 is ≡ o → or_too_large o is ≡ None → ascend_from 0 is ≡ true
+faultless_by is (Some f) h k = absurd (none-some f (sym k))
+faultless_by is None h k = ascends_where 0 0 is None h
+
+faultless : (is : List (ℕ × ℕ)) → space_fault is ≡ None → ascend_from 0 is ≡ true
+faultless [] h = absurd (none-some spaces.Empty (sym h))
+faultless (i ∷ is) h = faultless_by (i ∷ is) (first_misplaced 0 0 (i ∷ is)) refl h
+
+-- a space that is too large is above its limit
+abbrev beyond_with : GraphValue → Decl → Bool
+beyond_with g d = is_beyond (with_decl g d)
+
+space_limit : (g : GraphValue) (name : List ℕ) (is : List (ℕ × ℕ)) → is_used g name ≡ false → has_large is ≡ true → decl_fault g (decl.Space name is) ≡ Some why.Limit
+space_limit g name is u l =
+    ap (λ b. first_reason ((b || false, why.Twice) ∷ (false, why.Unknown) ∷ (false, why.Number) ∷ (has_large is || beyond_with g (decl.Space name is), why.Limit) ∷ [])) u
+    ∙ ap (λ b. first_reason ((false, why.Twice) ∷ (false, why.Unknown) ∷ (false, why.Number) ∷ (b || beyond_with g (decl.Space name is), why.Limit) ∷ [])) l
+
+reason_false : (g : GraphValue) (name : List ℕ) (is : List (ℕ × ℕ)) → ascend_from 0 is ≡ false → space_reason g name is ≡ Some why.Space
+reason_false g name is h = cond-false (ascend_from 0 is) (decl_fault g (decl.Space name is)) (Some why.Space) h
+
+reason_true : (g : GraphValue) (name : List ℕ) (is : List (ℕ × ℕ)) → ascend_from 0 is ≡ true → space_reason g name is ≡ decl_fault g (decl.Space name is)
+reason_true g name is h = cond-true (ascend_from 0 is) (decl_fault g (decl.Space name is)) (Some why.Space) h
+
+space_err_by : (g : GraphValue) (name : List ℕ) (is : List (ℕ × ℕ)) (e : SpaceFault) → is_used g name ≡ false → Faulty is e → IsDeclBy (space_reason g name is) (decl.Space name is) (Err (space_error e))
+space_err_by g name is (spaces.Reversed k) u (inl f) = reason_false g name is f.1
+space_err_by g name is (spaces.Order k) u (inl f) = reason_false g name is f.1
+space_err_by g name is spaces.Many u (inl f) = absurd (omega (arith, f.0))
+space_err_by g name is spaces.Large u (inl f) = absurd (omega (arith, f.0))
+space_err_by g name is spaces.Empty u (inl f) = absurd (omega (arith, f.0))
+space_err_by g name is spaces.NoMemory u (inl f) = tt
+space_err_by g name is (spaces.Reversed k) u (inr f) = absurd (omega (arith, f.0))
+space_err_by g name is (spaces.Order k) u (inr f) = absurd (omega (arith, f.0))
+space_err_by g name is spaces.Many u (inr f) = reason_true g name is f.1 ∙ space_limit g name is u f.2
+space_err_by g name is spaces.Large u (inr f) = reason_true g name is f.1 ∙ space_limit g name is u f.2
+space_err_by g name is spaces.Empty u (inr f) = absurd (omega (arith, f.0))
+space_err_by g name is spaces.NoMemory u (inr f) = tt
+
+unlike_memory : (e : SpaceFault) → 3 ≡ kind e ⊎ (e ≡ spaces.NoMemory → ⊥)
+unlike_memory (spaces.Reversed k) = inr (λ h. absurd (let n : 0 ≡ 3 = ap kind h in omega arith))
+unlike_memory (spaces.Order k) = inr (λ h. absurd (let n : 0 ≡ 3 = ap kind h in omega arith))
+unlike_memory spaces.Many = inr (λ h. absurd (let n : 1 ≡ 3 = ap kind h in omega arith))
+unlike_memory spaces.Large = inr (λ h. absurd (let n : 1 ≡ 3 = ap kind h in omega arith))
+unlike_memory spaces.Empty = inr (λ h. absurd (let n : 2 ≡ 3 = ap kind h in omega arith))
+unlike_memory spaces.NoMemory = inl refl
+
+memory_err : (g : GraphValue) (name : List ℕ) (is : List (ℕ × ℕ)) (e : SpaceFault) → 3 ≡ kind e → IsDeclBy (space_reason g name is) (decl.Space name is) (Err (space_error e))
+memory_err g name is (spaces.Reversed k) h = absurd (omega (arith, h))
+memory_err g name is (spaces.Order k) h = absurd (omega (arith, h))
+memory_err g name is spaces.Many h = absurd (omega (arith, h))
+memory_err g name is spaces.Large h = absurd (omega (arith, h))
+memory_err g name is spaces.Empty h = absurd (omega (arith, h))
+memory_err g name is spaces.NoMemory h = tt
+
+pub space_err : (g : GraphValue) (name : List ℕ) (is : List (ℕ × ℕ)) (e : SpaceFault) → is_used g name ≡ false → (is ≡ [] → ⊥) → ((e ≡ spaces.NoMemory → ⊥) → space_fault is ≡ Some e) → IsDeclBy (space_reason g name is) (decl.Space name is) (Err (space_error e))
+space_err g name is e u some h = elim (unlike_memory e) [ inl m ↦ memory_err g name is e m | inr n ↦ space_err_by g name is e u (faulty is e some (h n)) ]
+
+pub space_ok : (g : GraphValue) (name : List ℕ) (is s : List (ℕ × ℕ)) (result : Result Decl ItemError) → s ≡ is → space_fault is ≡ None → IsDeclBy (decl_fault g (decl.Space name s)) (decl.Space name s) result → IsDeclBy (space_reason g name is) (decl.Space name is) result
+space_ok g name is s result e f h = subst (λ r. IsDeclBy r (decl.Space name is) result) (sym (reason_true g name is (faultless is f))) (subst (λ x. IsDeclBy (decl_fault g (decl.Space name x)) (decl.Space name x) result) e h)
+
+abbrev as_space : List ℕ → List (ℕ × ℕ) → Decl ⊎ Line
+as_space name is = inl (decl.Space name is)
+
+space_six : (g : GraphValue) (name w : List ℕ) (rest : Option Why) (is : List (ℕ × ℕ)) → is_name name ≡ true → is_used g name ≡ false → intervals_of w ≡ Some is → ascend_from 0 is ≡ false →
+    or_else (first_reason (draft_tests g (space_with name w))) rest ≡ Some why.Space
+space_six g name w rest is n u i a =
+    ap (λ b. or_else (first_reason ((not b || (false || false), why.Name) ∷ ((is_used g name || (false || false)) || (false || false), why.Twice) ∷ (false, why.Unknown) ∷ (false, why.Kind) ∷ (not (is_some (intervals_of w)) || false, why.Number)
+    ∷ (not (option_map_or (ascend_from 0) (intervals_of w) true) || false, why.Space) ∷ [])) rest) n
+    ∙ (ap (λ b. or_else (first_reason ((false, why.Name) ∷ ((b || (false || false)) || (false || false), why.Twice) ∷ (false, why.Unknown) ∷ (false, why.Kind) ∷ (not (is_some (intervals_of w)) || false, why.Number)
+    ∷ (not (option_map_or (ascend_from 0) (intervals_of w) true) || false, why.Space) ∷ [])) rest) u
+    ∙ (ap (λ o. or_else (first_reason ((false, why.Name) ∷ (false, why.Twice) ∷ (false, why.Unknown) ∷ (false, why.Kind) ∷ (not (is_some o) || false, why.Number) ∷ (not (option_map_or (ascend_from 0) o true) || false, why.Space) ∷ [])) rest) i
+    ∙ ap (λ b. or_else (first_reason ((false, why.Name) ∷ (false, why.Twice) ∷ (false, why.Unknown) ∷ (false, why.Kind) ∷ (false, why.Number) ∷ (not b || false, why.Space) ∷ [])) rest) a))
+
+space_by : (g : GraphValue) (name w : List ℕ) (is : List (ℕ × ℕ)) (b : Bool) → ascend_from 0 is ≡ b → is_name name ≡ true → is_used g name ≡ false → intervals_of w ≡ Some is → (space_with name w).item ≡ inl (decl.Space name is) → draft_fault g (space_with name w) ≡ space_reason g name is
+space_by g name w is true a n u i e =
+    fine_words g (space_with name w) (
+      fine_name g name n u,
+      (
+        record {
+          named = refl;
+          once = refl;
+          known = refl;
+          alike = refl;
+          numbered = ap (λ o. not (is_some o)) i;
+          ordered = ap (λ o. not (option_map_or (ascend_from 0) o true)) i ∙ ap not a;
+        },
+        tt,
+      ),
+    ) refl refl
+    ∙ (ap (item_fault g) e ∙ sym (reason_true g name is a))
+space_by g name w is false a n u i e = space_six g name w (item_fault g (space_with name w).item) is n u i a ∙ sym (reason_false g name is a)
+
+pub space_is : (g : GraphValue) (name new w : List ℕ) (is : List (ℕ × ℕ)) → is_name name ≡ true → new ≡ name → is_used g name ≡ false → intervals_of w ≡ Some is →
+    (draft_fault g (space_with name w) ≡ space_reason g new is) × ((space_with name w).item ≡ inl (decl.Space new is))
+space_is g name new w is n e u i =
+    let item : (space_with name w).item ≡ as_space name is = ap (λ o. as_space name (unwrap_or o [])) i in (
+      space_by g name w is (ascend_from 0 is) refl n u i item ∙ ap (λ x. space_reason g x is) (sym e),
+      item ∙ ap (λ x. as_space x is) (sym e),
+    )
+
+-- instances
+pub inst_reason_is : (g : GraphValue) (name space : List ℕ) (fields : List (List ℕ)) (r k l : Bool) → repeats bytes_eq fields ≡ r → is_used g space ≡ k → unlike g SpaceName space ≡ l →
+    inst_reason g name space fields ≡ or_else (first_reason ((r, why.Twice) ∷ (not k, why.Unknown) ∷ (l, why.Kind) ∷ [])) (decl_fault g (inst_decl g name space fields))
+inst_reason_is g name space fields r k l a b c =
+    ap (λ x. or_else (first_reason ((x, why.Twice) ∷ (not (is_used g space), why.Unknown) ∷ (unlike g SpaceName space, why.Kind) ∷ [])) (decl_fault g (inst_decl g name space fields))) a
+    ∙ (ap (λ x. or_else (first_reason ((r, why.Twice) ∷ (not x, why.Unknown) ∷ (unlike g SpaceName space, why.Kind) ∷ [])) (decl_fault g (inst_decl g name space fields))) b
+    ∙ ap (λ x. or_else (first_reason ((r, why.Twice) ∷ (not k, why.Unknown) ∷ (x, why.Kind) ∷ [])) (decl_fault g (inst_decl g name space fields))) c)
+
+inst_six : (r k l : Bool) (rest : Option Why) → or_else (first_reason ((false, why.Name) ∷ ((false || (false || (r || false))) || (false || false), why.Twice) ∷ (false || (k || (false || false)), why.Unknown) ∷ (false || (l || (false || false)), why.Kind) ∷ (false, why.Number) ∷ (false, why.Space) ∷ [])) rest
+    ≡ or_else (first_reason ((r, why.Twice) ∷ (k, why.Unknown) ∷ (l, why.Kind) ∷ [])) rest
+inst_six true k l rest = refl
+inst_six false true l rest = refl
+inst_six false false true rest = refl
+inst_six false false false rest = refl
+
+abbrev as_inst : GraphValue → List ℕ → List ℕ → List (List ℕ) → Decl ⊎ Line
+as_inst g name space fields = inl (inst_decl g name space fields)
+
+pub inst_is : (g : GraphValue) (name new space w : List ℕ) (fields : List (List ℕ)) → is_name name ≡ true → new ≡ name → is_name space ≡ true → list_all is_name (pieces 44 w) ≡ true → fields ≡ pieces 44 w → is_used g name ≡ false →
+    (draft_fault g (inst_with g name space w) ≡ inst_reason g new space fields) × ((inst_with g name space w).item ≡ as_inst g new space fields)
+inst_is g name new space w fields n e s f is u = (
+  ap (λ b. or_else (first_reason ((not b || (not (is_name space) || (not (is_fields w) || false)), why.Name) ∷ ((is_used g name || (false || (repeats bytes_eq (pieces 44 w) || false))) || (false || false), why.Twice)
+      ∷ (false || (not (is_used g space) || (false || false)), why.Unknown) ∷ (false || (unlike g SpaceName space || (false || false)), why.Kind) ∷ (false, why.Number) ∷ (false, why.Space) ∷ [])) (decl_fault g (inst_decl g name space (pieces 44 w)))) n
+      ∙ (ap (λ b. or_else (first_reason ((not b || (not (is_fields w) || false), why.Name) ∷ ((is_used g name || (false || (repeats bytes_eq (pieces 44 w) || false))) || (false || false), why.Twice)
+      ∷ (false || (not (is_used g space) || (false || false)), why.Unknown) ∷ (false || (unlike g SpaceName space || (false || false)), why.Kind) ∷ (false, why.Number) ∷ (false, why.Space) ∷ [])) (decl_fault g (inst_decl g name space (pieces 44 w)))) s
+      ∙ (ap (λ b. or_else (first_reason ((not b || false, why.Name) ∷ ((is_used g name || (false || (repeats bytes_eq (pieces 44 w) || false))) || (false || false), why.Twice)
+      ∷ (false || (not (is_used g space) || (false || false)), why.Unknown) ∷ (false || (unlike g SpaceName space || (false || false)), why.Kind) ∷ (false, why.Number) ∷ (false, why.Space) ∷ [])) (decl_fault g (inst_decl g name space (pieces 44 w)))) f
+      ∙ (ap (λ b. or_else (first_reason ((false, why.Name) ∷ ((b || (false || (repeats bytes_eq (pieces 44 w) || false))) || (false || false), why.Twice)
+      ∷ (false || (not (is_used g space) || (false || false)), why.Unknown) ∷ (false || (unlike g SpaceName space || (false || false)), why.Kind) ∷ (false, why.Number) ∷ (false, why.Space) ∷ [])) (decl_fault g (inst_decl g name space (pieces 44 w)))) u
+      ∙ (inst_six (repeats bytes_eq (pieces 44 w)) (not (is_used g space)) (unlike g SpaceName space) (decl_fault g (inst_decl g name space (pieces 44 w)))
+      ∙ (ap (λ x. inst_reason g x space (pieces 44 w)) (sym e) ∙ ap (inst_reason g new space) (sym is)))))),
+  ap (λ x. as_inst g x space (pieces 44 w)) (sym e) ∙ ap (as_inst g new space) (sym is),
+)
+
+column_count : (g : GraphValue) (name : List ℕ) (space : ℕ) (fields : List (List ℕ)) → length (columns (with_decl g (decl.Inst name space fields))) ≡ length (columns g) + length fields
+column_count g name space fields =
+    ap length (flat_map-append columns_of g.decls (decl.Inst name space fields ∷ []))
+    ∙ (length-append (columns g) (flat_map columns_of (decl.Inst name space fields ∷ []))
+    ∙ ap (λ n. length (columns g) + n) (ap length (append-nil (columns_of (decl.Inst name space fields))) ∙ length-map fields _))
+
+-- more fields than a graph may have columns
+pub fields_limit : (g : GraphValue) (name : List ℕ) (space : List ℕ) (fields : List (List ℕ)) → is_used g name ≡ false → repeats bytes_eq fields ≡ false → space_number g space < length (named_spaces g) → 256 < length fields → decl_fault g (inst_decl g name space fields) ≡ Some why.Limit
+fields_limit g name space fields u r s l =
+    ap (λ b. first_reason ((b || repeats bytes_eq fields, why.Twice) ∷ (nat_le (length (named_spaces g)) (space_number g space), why.Unknown) ∷ (nat_lt (length fields) 1, why.Number) ∷ (beyond_with g (inst_decl g name space fields), why.Limit) ∷ [])) u
+    ∙ (ap (λ b. first_reason ((b, why.Twice) ∷ (nat_le (length (named_spaces g)) (space_number g space), why.Unknown) ∷ (nat_lt (length fields) 1, why.Number) ∷ (beyond_with g (inst_decl g name space fields), why.Limit) ∷ [])) r
+    ∙ (ap (λ b. first_reason ((false, why.Twice) ∷ (b, why.Unknown) ∷ (nat_lt (length fields) 1, why.Number) ∷ (beyond_with g (inst_decl g name space fields), why.Limit) ∷ [])) (lt-leb (length (named_spaces g)) (space_number g space) s)
+    ∙ (ap (λ b. first_reason ((false, why.Twice) ∷ (false, why.Unknown) ∷ (b, why.Number) ∷ (beyond_with g (inst_decl g name space fields), why.Limit) ∷ [])) (le-ltb (length fields) 1 (omega arith))
+    ∙ ap (λ b. first_reason ((false, why.Twice) ∷ (false, why.Unknown) ∷ (false, why.Number) ∷ (b, why.Limit) ∷ [])) many_columns)))
+  where
+    many_columns : beyond_with g (inst_decl g name space fields) ≡ true
+    many_columns = or_right _ _ (or_right _ _ (or_left _ _ (lt-ltb 256 (length (columns (with_decl g (inst_decl g name space fields)))) (let n : length (columns (with_decl g (inst_decl g name space fields))) ≡ length (columns g) + length fields = column_count g name (space_number g space) fields in omega arith))))
+
+abbrev space_place : GraphValue → List ℕ → Option ℕ
+space_place g w = position (λ (x : List ℕ × List (ℕ × ℕ)). bytes_eq x.0 w) (named_spaces g)
+
+unlike_space : (g : GraphValue) (space : List ℕ) (o : Option ℕ) → space_place g space ≡ o → unlike g SpaceName space ≡ not (is_some o)
+unlike_space g space o h = ap not (position_any (λ (x : List ℕ × List (ℕ × ℕ)). bytes_eq x.0 space) (named_spaces g) ∙ ap is_some h)
+
+pub inst_unlike : (g : GraphValue) (name space : List ℕ) (fields : List (List ℕ)) → repeats bytes_eq fields ≡ false → is_used g space ≡ true → space_place g space ≡ None → inst_reason g name space fields ≡ Some why.Kind
+inst_unlike g name space fields r u p = inst_reason_is g name space fields false true true r u (unlike_space g space None p)
+
+pub inst_left : (g : GraphValue) (name space : List ℕ) (fields : List (List ℕ)) (s : ℕ) → repeats bytes_eq fields ≡ false → is_used g space ≡ true → space_place g space ≡ Some s → inst_reason g name space fields ≡ decl_fault g (inst_decl g name space fields)
+inst_left g name space fields s r u p = inst_reason_is g name space fields false true false r u (unlike_space g space (Some s) p)
+
+pub inst_number : (g : GraphValue) (space : List ℕ) (s : ℕ) → space_place g space ≡ Some s → space_number g space ≡ s
+inst_number g space s p = ap (λ o. unwrap_or o 0) p
+
+pub inst_ok : (g : GraphValue) (name space : List ℕ) (fields : List (List ℕ)) (s : ℕ) (result : Result Decl ItemError) → repeats bytes_eq fields ≡ false → is_used g space ≡ true → space_place g space ≡ Some s →
+    IsDeclBy (decl_fault g (decl.Inst name s fields)) (decl.Inst name s fields) result → IsDeclBy (inst_reason g name space fields) (inst_decl g name space fields) result
+inst_ok g name space fields s result r u p h = subst (λ x. IsDeclBy x (inst_decl g name space fields) result) (sym (inst_left g name space fields s r u p))
+    (subst (λ n. IsDeclBy (decl_fault g (decl.Inst name n fields)) (decl.Inst name n fields) result) (sym (inst_number g space s p)) h)
+
+pub inst_many : (g : GraphValue) (name space : List ℕ) (fields : List (List ℕ)) (s : ℕ) → is_used g name ≡ false → repeats bytes_eq fields ≡ false → is_used g space ≡ true → space_place g space ≡ Some s → 256 < length fields → inst_reason g name space fields ≡ Some why.Limit
+inst_many g name space fields s n r u p l = inst_left g name space fields s r u p ∙ fields_limit g name space fields n r
+    (let e : space_number g space ≡ s = inst_number g space s p in let b : s < length (named_spaces g) = position_below (λ (x : List ℕ × List (ℕ × ℕ)). bytes_eq x.0 space) (named_spaces g) s p in omega arith) l

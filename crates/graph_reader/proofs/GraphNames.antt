@@ -1,0 +1,291 @@
+-- The names of a graph: each stands once, and is found again by its word.
+use Rattle.std.proofs.Common.{◌≡◌, ℕ, zero, suc, ◌<◌, Bool, true, false, cond, ◌&&◌, ◌||◌, List, [], ◌∷◌, ◌++◌, length, map, refl, sym, ◌∙◌, ap, subst, append_assoc, append-nil, arith}
+use Rattle.std.specs.Prelude.{Contains, Option, Some, None, is_some, position, bytes_eq, filter_map, flat_map, slice_get, unwrap_or}
+use Rattle.std.specs.List.{list_any, AllByRecursion, cons_option}
+use Rattle.std.proofs.lemmas.Bool.{true≢false, or_parts, or_from, and_left, and_right, cond-false}
+use Rattle.std.proofs.lemmas.Option.{none-some, same_Some}
+use Rattle.std.proofs.lemmas.List.{map-append}
+use Rattle.std.proofs.lemmas.List.Elements.{Contains-append_left, Contains-append_right}
+use Rattle.graph_model.specs.declared.decl.Decl.{Decl}
+use Rattle.graph_model.specs.declared.decl.Decl.TheVariants as decl
+use Rattle.graph_model.specs.declared.verb.Line.{Line}
+use Rattle.graph_model.specs.declared.verb.Why.{Why}
+use Rattle.graph_model.specs.Name.{is_name}
+use Rattle.graph_model.specs.declared.decl.ColumnInfo.{ColumnInfo}
+use Rattle.graph_model.specs.declared.decl.BarrierInfo.{BarrierInfo}
+use Rattle.graph_model.specs.Graph.{GraphValue, decl_name, space_of, columns_of, lock_of, barrier_of, named_spaces, columns, locks, barriers}
+use Rattle.graph_model.specs.Fits.{first_reason, repeats, names, is_used, decl_repeats, decl_tests, line_tests, IsDecl, DeclsFit, LinesFit, IsGraph}
+use Rattle.graph_model.proofs.ListFacts.{passes_some, contains_map, contains_here, contains_there}
+use Rattle.graph_reader.proofs.TextLists.{same_bytes, bytes_same, any_left, any_append, each_contained, each_append, repeats_left, repeats_right, repeats_append, repeats_map, repeats_push, found_of, found_is, mapped_from}
+
+-- the first reason is none
+no_first_by : (b : Bool) (w : Why) (ts : List (Bool × Why)) → cond b (Some w) (first_reason ts) ≡ None → (b ≡ false) × (first_reason ts ≡ None)
+no_first_by true w ts h = absurd (true≢false (ap is_some h))
+no_first_by false w ts h = (refl, h)
+
+-- where no reason refuses, each test fails
+pub each_fails : (ts : List (Bool × Why)) → first_reason ts ≡ None → AllByRecursion (λ (t : Bool × Why). t.0 ≡ false) ts
+each_fails [] h = tt
+each_fails (t ∷ ts) h = let p = no_first_by t.0 t.1 ts h in (p.0, each_fails ts p.1)
+
+pub none_where_each_fails : (ts : List (Bool × Why)) → AllByRecursion (λ (t : Bool × Why). t.0 ≡ false) ts → first_reason ts ≡ None
+none_where_each_fails [] h = refl
+none_where_each_fails (t ∷ ts) h = cond-false t.0 (Some t.1) (first_reason ts) h.0 ∙ none_where_each_fails ts h.1
+
+-- a declaration with names, no field twice
+abbrev pub IsNamedDecl : Decl → Type 0
+IsNamedDecl d = IsDecl d × (decl_repeats d ≡ false)
+
+pub record IsNamed (g : GraphValue) : Type 0 where
+  pub apart : repeats bytes_eq (names g) ≡ false
+  pub decls : AllByRecursion IsNamedDecl g.decls
+  pub lines : AllByRecursion (λ (l : Line). is_name l.name ≡ true) g.lines
+
+abbrev pub line_names : List Line → List (List ℕ)
+line_names ls = map (λ (l : Line). l.name) ls
+
+named_decls : (before ds : List Decl) → repeats bytes_eq (map decl_name before) ≡ false → DeclsFit before ds →
+    (repeats bytes_eq (map decl_name (before ++ ds)) ≡ false) × AllByRecursion IsNamedDecl ds
+named_decls before [] r f = (subst (λ xs. repeats bytes_eq (map decl_name xs) ≡ false) (sym (append-nil before)) r, tt)
+named_decls before (d ∷ ds) r f =
+    let t = each_fails (decl_tests (record { decls = before; lines = [] }) d) f.1 in
+    let u = or_parts (list_any (bytes_eq (decl_name d)) (map decl_name before ++ [])) (decl_repeats d) t.0 in
+    let more : repeats bytes_eq (map decl_name (before ++ d ∷ [])) ≡ false = ap (repeats bytes_eq) (map-append decl_name before (d ∷ [])) ∙ repeats_push (map decl_name before) (decl_name d) r (any_left (bytes_eq (decl_name d)) (map decl_name before) [] u.0) in
+    let rest = named_decls (before ++ d ∷ []) ds more f.2 in
+    (subst (λ xs. repeats bytes_eq (map decl_name xs) ≡ false) (append_assoc before (d ∷ []) ds) rest.0, ((f.0, u.1), rest.1))
+
+named_lines : (decls : List Decl) (before ls : List Line) → repeats bytes_eq (map decl_name decls ++ line_names before) ≡ false → LinesFit decls before ls →
+    (repeats bytes_eq (map decl_name decls ++ line_names (before ++ ls)) ≡ false) × AllByRecursion (λ (l : Line). is_name l.name ≡ true) ls
+named_lines decls before [] r f = (subst (λ xs. repeats bytes_eq (map decl_name decls ++ line_names xs) ≡ false) (sym (append-nil before)) r, tt)
+named_lines decls before (l ∷ ls) r f =
+    let t = each_fails (line_tests (record { decls = decls; lines = before }) l) f.1 in
+    let u = or_parts (list_any (bytes_eq l.name) (map decl_name decls ++ line_names before)) _ t.0 in
+    let joined : map decl_name decls ++ line_names (before ++ l ∷ []) ≡ (map decl_name decls ++ line_names before) ++ l.name ∷ [] =
+    ap (λ xs. map decl_name decls ++ xs) (map-append (λ (x : Line). x.name) before (l ∷ [])) ∙ sym (append_assoc (map decl_name decls) (line_names before) (l.name ∷ [])) in
+    let more : repeats bytes_eq (map decl_name decls ++ line_names (before ++ l ∷ [])) ≡ false = ap (repeats bytes_eq) joined ∙ repeats_push (map decl_name decls ++ line_names before) l.name r u.0 in
+    let rest = named_lines decls (before ++ l ∷ []) ls more f.2 in
+    (subst (λ xs. repeats bytes_eq (map decl_name decls ++ line_names xs) ≡ false) (append_assoc before (l ∷ []) ls) rest.0, (f.0.named, rest.1))
+
+-- the names of a graph whose items fit
+pub is_named : (g : GraphValue) → IsGraph g → IsNamed g
+is_named g f =
+    let d = named_decls [] g.decls refl f.decls in
+    let l = named_lines g.decls [] g.lines (subst (λ xs. repeats bytes_eq xs ≡ false) (sym (append-nil (map decl_name g.decls))) d.0) f.lines in
+    record { apart = l.0; decls = d.1; lines = l.1 }
+
+-- the names of one kind
+unlisted_by : {X Y : Type 0} (name : X → List ℕ) (f : X → Option Y) (key : Y → List ℕ) (w : List ℕ) (x : X) (xs : List X) (o : Option Y) → f x ≡ o → ((y : Y) → f x ≡ Some y → key y ≡ name x) → bytes_eq w (name x) ≡ false →
+    list_any (λ y. bytes_eq w (key y)) (filter_map f xs) ≡ false → list_any (λ y. bytes_eq w (key y)) (cons_option o (filter_map f xs)) ≡ false
+unlisted_by name f key w x xs None e agree here rest = rest
+unlisted_by name f key w x xs (Some y) e agree here rest = or_from (bytes_eq w (key y)) (list_any (λ z. bytes_eq w (key z)) (filter_map f xs)) (ap (bytes_eq w) (agree y e) ∙ here) rest
+
+pub unlisted : {X Y : Type 0} (name : X → List ℕ) (f : X → Option Y) (key : Y → List ℕ) → ((x : X) (y : Y) → f x ≡ Some y → key y ≡ name x) → (w : List ℕ) (xs : List X) → list_any (bytes_eq w) (map name xs) ≡ false →
+    list_any (λ y. bytes_eq w (key y)) (filter_map f xs) ≡ false
+unlisted name f key agree w [] h = refl
+unlisted name f key agree w (x ∷ xs) h = let p = or_parts (bytes_eq w (name x)) (list_any (bytes_eq w) (map name xs)) h in
+    unlisted_by name f key w x xs (f x) refl (agree x) p.0 (unlisted name f key agree w xs p.1)
+
+apart_by : {X Y : Type 0} (name : X → List ℕ) (f : X → Option Y) (key : Y → List ℕ) → ((x : X) (y : Y) → f x ≡ Some y → key y ≡ name x) → (x : X) (xs : List X) (o : Option Y) → f x ≡ o → list_any (bytes_eq (name x)) (map name xs) ≡ false →
+    repeats (λ a b. bytes_eq (key a) (key b)) (filter_map f xs) ≡ false → repeats (λ a b. bytes_eq (key a) (key b)) (cons_option o (filter_map f xs)) ≡ false
+apart_by name f key agree x xs None e here rest = rest
+apart_by name f key agree x xs (Some y) e here rest =
+    or_from (list_any (λ b. bytes_eq (key y) (key b)) (filter_map f xs)) (repeats (λ a b. bytes_eq (key a) (key b)) (filter_map f xs))
+    (subst (λ w. list_any (λ b. bytes_eq w (key b)) (filter_map f xs) ≡ false) (sym (agree x y e)) (unlisted name f key agree (name x) xs here)) rest
+
+apart_map : {X Y : Type 0} (name : X → List ℕ) (f : X → Option Y) (key : Y → List ℕ) → ((x : X) (y : Y) → f x ≡ Some y → key y ≡ name x) → (xs : List X) → repeats bytes_eq (map name xs) ≡ false →
+    repeats (λ a b. bytes_eq (key a) (key b)) (filter_map f xs) ≡ false
+apart_map name f key agree [] h = refl
+apart_map name f key agree (x ∷ xs) h = let p = or_parts (list_any (bytes_eq (name x)) (map name xs)) (repeats bytes_eq (map name xs)) h in
+    apart_by name f key agree x xs (f x) refl p.0 (apart_map name f key agree xs p.1)
+
+pub decls_apart : (g : GraphValue) → IsNamed g → repeats bytes_eq (map decl_name g.decls) ≡ false
+decls_apart g n = repeats_left bytes_eq (map decl_name g.decls) (line_names g.lines) n.apart
+
+-- what a word of one kind has: its element, whose name is spelled as a name and is in use
+abbrev pub KnownAs : {X : Type 0} → GraphValue → (X → List ℕ) → List X → ℕ → Type 0
+KnownAs {X} g key xs n = (x : X) × (slice_get xs n ≡ Some x) × (is_name (key x) ≡ true) × (is_used g (key x) ≡ true)
+
+element : {X : Type 0} (xs : List X) (n : ℕ) → n < length xs → (x : X) × (slice_get xs n ≡ Some x)
+element [] n h = absurd (omega arith)
+element (x ∷ xs) zero h = (x, refl)
+element (x ∷ xs) (suc n) h = element xs n (omega arith)
+
+pub used_decl : (g : GraphValue) (d : Decl) (w : List ℕ) → Contains g.decls d → w ≡ decl_name d → is_used g w ≡ true
+used_decl g d w c e = passes_some (bytes_eq w) (names g) (decl_name d) (Contains-append_left (map decl_name g.decls) (line_names g.lines) (decl_name d) (contains_map decl_name g.decls d c)) (bytes_same w (decl_name d) e)
+
+-- a name stands for its number, and a word that is listed for the number of its name
+pub read_name : {X : Type 0} (key : X → List ℕ) (xs : List X) (n : ℕ) (x : X) → repeats (λ a b. bytes_eq (key a) (key b)) xs ≡ false → slice_get xs n ≡ Some x →
+    unwrap_or (position (λ y. bytes_eq (key y) (key x)) xs) 0 ≡ n
+read_name key xs n x r e = found_of (λ a b. bytes_eq (key a) (key b)) xs n x r e (bytes_same (key x) (key x) refl)
+
+pub spelled_name : {X : Type 0} (key : X → List ℕ) (xs : List X) (w : List ℕ) → list_any (λ y. bytes_eq (key y) w) xs ≡ true →
+    (x : X) × (slice_get xs (unwrap_or (position (λ y. bytes_eq (key y) w) xs) 0) ≡ Some x) × (key x ≡ w)
+spelled_name key xs w h = let f = found_is (λ y. bytes_eq (key y) w) xs h in (f.0, f.1, same_bytes (key f.0) w f.2)
+
+pub listed_name : {X : Type 0} (key : X → List ℕ) (xs : List X) (n : ℕ) (x : X) → slice_get xs n ≡ Some x → list_any (λ y. bytes_eq (key y) (key x)) xs ≡ true
+listed_name key [] n x e = absurd (none-some x e)
+listed_name key (y ∷ ys) zero x e = ap (λ b. b || list_any (λ z. bytes_eq (key z) (key x)) ys) (bytes_same (key y) (key x) (ap key (same_Some y x e)))
+listed_name key (y ∷ ys) (suc n) x e = ap (λ b. bytes_eq (key y) (key x) || b) (listed_name key ys n x e) ∙ or_true (bytes_eq (key y) (key x))
+  where
+    or_true : (b : Bool) → (b || true) ≡ true
+    or_true true = refl
+    or_true false = refl
+
+-- spaces
+pub space_agrees : (d : Decl) (y : List ℕ × List (ℕ × ℕ)) → space_of d ≡ Some y → y.0 ≡ decl_name d
+space_agrees (decl.Space name space) y e = ap (λ (x : List ℕ × List (ℕ × ℕ)). x.0) (sym (same_Some (name, space) y e))
+space_agrees (decl.Inst name space fields) y e = absurd (none-some y e)
+space_agrees (decl.Lock name) y e = absurd (none-some y e)
+space_agrees (decl.Barrier name count op first) y e = absurd (none-some y e)
+
+pub named_is : (d : Decl) → IsNamedDecl d → is_name (decl_name d) ≡ true
+named_is (decl.Space name space) h = h.0.0
+named_is (decl.Inst name space fields) h = h.0.0
+named_is (decl.Lock name) h = h.0
+named_is (decl.Barrier name count op first) h = h.0.0
+
+pub spaces_apart : (g : GraphValue) → IsNamed g → repeats (λ (a b : List ℕ × List (ℕ × ℕ)). bytes_eq a.0 b.0) (named_spaces g) ≡ false
+spaces_apart g n = apart_map decl_name space_of (λ (x : List ℕ × List (ℕ × ℕ)). x.0) space_agrees g.decls (decls_apart g n)
+
+pub known_space : (g : GraphValue) → IsNamed g → (n : ℕ) → n < length (named_spaces g) → KnownAs g (λ (x : List ℕ × List (ℕ × ℕ)). x.0) (named_spaces g) n
+known_space g h n l =
+    let x = element (named_spaces g) n l in
+    let m = mapped_from IsNamedDecl space_of g.decls h.decls n x.0 x.1 in
+    let e : x.0.0 ≡ decl_name m.0 = space_agrees m.0 x.0 m.2 in
+    (x.0, x.1, ap is_name e ∙ named_is m.0 m.1, used_decl g m.0 x.0.0 m.3 e)
+
+-- reservations
+pub lock_agrees : (d : Decl) (y : List ℕ) → lock_of d ≡ Some y → y ≡ decl_name d
+lock_agrees (decl.Lock name) y e = sym (same_Some name y e)
+lock_agrees (decl.Space name space) y e = absurd (none-some y e)
+lock_agrees (decl.Inst name space fields) y e = absurd (none-some y e)
+lock_agrees (decl.Barrier name count op first) y e = absurd (none-some y e)
+
+pub locks_apart : (g : GraphValue) → IsNamed g → repeats (λ (a b : List ℕ). bytes_eq a b) (locks g) ≡ false
+locks_apart g n = apart_map decl_name lock_of (λ (x : List ℕ). x) lock_agrees g.decls (decls_apart g n)
+
+pub known_lock : (g : GraphValue) → IsNamed g → (n : ℕ) → n < length (locks g) → KnownAs g (λ (x : List ℕ). x) (locks g) n
+known_lock g h n l =
+    let x = element (locks g) n l in
+    let m = mapped_from IsNamedDecl lock_of g.decls h.decls n x.0 x.1 in
+    let e : x.0 ≡ decl_name m.0 = lock_agrees m.0 x.0 m.2 in
+    (x.0, x.1, ap is_name e ∙ named_is m.0 m.1, used_decl g m.0 x.0 m.3 e)
+
+-- barriers
+pub barrier_agrees : (d : Decl) (y : BarrierInfo) → barrier_of d ≡ Some y → y.name ≡ decl_name d
+barrier_agrees (decl.Barrier name count op first) y e = ap (λ (x : BarrierInfo). x.name) (sym (same_Some (record { name = name; count = count; op = op; first = first }) y e))
+barrier_agrees (decl.Lock name) y e = absurd (none-some y e)
+barrier_agrees (decl.Space name space) y e = absurd (none-some y e)
+barrier_agrees (decl.Inst name space fields) y e = absurd (none-some y e)
+
+pub barriers_apart : (g : GraphValue) → IsNamed g → repeats (λ (a b : BarrierInfo). bytes_eq a.name b.name) (barriers g) ≡ false
+barriers_apart g n = apart_map decl_name barrier_of (λ (x : BarrierInfo). x.name) barrier_agrees g.decls (decls_apart g n)
+
+pub known_barrier : (g : GraphValue) → IsNamed g → (n : ℕ) → n < length (barriers g) → KnownAs g (λ (x : BarrierInfo). x.name) (barriers g) n
+known_barrier g h n l =
+    let x = element (barriers g) n l in
+    let m = mapped_from IsNamedDecl barrier_of g.decls h.decls n x.0 x.1 in
+    let e : x.0.name ≡ decl_name m.0 = barrier_agrees m.0 x.0 m.2 in
+    (x.0, x.1, ap is_name e ∙ named_is m.0 m.1, used_decl g m.0 x.0.name m.3 e)
+
+-- lines
+pub lines_apart : (g : GraphValue) → IsNamed g → repeats (λ (a b : Line). bytes_eq a.name b.name) g.lines ≡ false
+lines_apart g n = sym (repeats_map bytes_eq (λ (l : Line). l.name) g.lines) ∙ repeats_right bytes_eq (map decl_name g.decls) (line_names g.lines) n.apart
+
+line_contained : (ls : List Line) (n : ℕ) (x : Line) → slice_get ls n ≡ Some x → Contains ls x
+line_contained [] n x e = absurd (none-some x e)
+line_contained (l ∷ ls) zero x e = subst (λ y. Contains (l ∷ ls) y) (same_Some l x e) (contains_here l ls)
+line_contained (l ∷ ls) (suc n) x e = let c = line_contained ls n x e in (suc c.0, (let h : c.0 < length ls = c.1 in omega arith), c.2)
+
+pub known_line_at : (g : GraphValue) → IsNamed g → (n : ℕ) (x : Line) → slice_get g.lines n ≡ Some x → (is_name x.name ≡ true) × (is_used g x.name ≡ true)
+known_line_at g h n x e = (
+  each_contained (λ (l : Line). is_name l.name ≡ true) g.lines h.lines n x e,
+  passes_some (bytes_eq x.name) (names g) x.name (Contains-append_right (map decl_name g.decls) (line_names g.lines) x.name (contains_map (λ (l : Line). l.name) g.lines x (line_contained g.lines n x e))) (bytes_same x.name x.name refl),
+)
+
+pub known_line : (g : GraphValue) → IsNamed g → (n : ℕ) → n < length g.lines → KnownAs g (λ (x : Line). x.name) g.lines n
+known_line g h n l = let x = element g.lines n l in let k = known_line_at g h n x.0 x.1 in (x.0, x.1, k.0, k.1)
+
+-- columns
+abbrev pub same_column : ColumnInfo → ColumnInfo → Bool
+same_column a b = bytes_eq a.inst b.inst && bytes_eq a.field b.field
+
+abbrev column_of : List ℕ → ℕ → List ℕ → ColumnInfo
+column_of name space f = record { inst = name; field = f; space = space }
+
+fields_unlisted : (w f name : List ℕ) (space : ℕ) (fields : List (List ℕ)) → bytes_eq w name ≡ false → list_any (λ (y : ColumnInfo). bytes_eq w y.inst && bytes_eq f y.field) (map (column_of name space) fields) ≡ false
+fields_unlisted w f name space [] h = refl
+fields_unlisted w f name space (e ∷ es) h = or_from (bytes_eq w name && bytes_eq f e) _ (and_left (bytes_eq w name) (bytes_eq f e) h) (fields_unlisted w f name space es h)
+
+decl_unlisted : (w f : List ℕ) (d : Decl) → bytes_eq w (decl_name d) ≡ false → list_any (λ (y : ColumnInfo). bytes_eq w y.inst && bytes_eq f y.field) (columns_of d) ≡ false
+decl_unlisted w f (decl.Inst name space fields) h = fields_unlisted w f name space fields h
+decl_unlisted w f (decl.Space name space) h = refl
+decl_unlisted w f (decl.Lock name) h = refl
+decl_unlisted w f (decl.Barrier name count op first) h = refl
+
+columns_unlisted : (w f : List ℕ) (ds : List Decl) → list_any (bytes_eq w) (map decl_name ds) ≡ false → list_any (λ (y : ColumnInfo). bytes_eq w y.inst && bytes_eq f y.field) (flat_map columns_of ds) ≡ false
+columns_unlisted w f [] h = refl
+columns_unlisted w f (d ∷ ds) h = let p = or_parts (bytes_eq w (decl_name d)) (list_any (bytes_eq w) (map decl_name ds)) h in
+    any_append (λ (y : ColumnInfo). bytes_eq w y.inst && bytes_eq f y.field) (columns_of d) (flat_map columns_of ds) (decl_unlisted w f d p.0) (columns_unlisted w f ds p.1)
+
+field_apart : (name : List ℕ) (space : ℕ) (f : List ℕ) (fs : List (List ℕ)) → list_any (bytes_eq f) fs ≡ false → list_any (same_column (column_of name space f)) (map (column_of name space) fs) ≡ false
+field_apart name space f [] h = refl
+field_apart name space f (e ∷ es) h = let p = or_parts (bytes_eq f e) (list_any (bytes_eq f) es) h in
+    or_from (bytes_eq name name && bytes_eq f e) _ (and_right (bytes_eq name name) (bytes_eq f e) p.0) (field_apart name space f es p.1)
+
+fields_apart : (name : List ℕ) (space : ℕ) (fields : List (List ℕ)) → repeats bytes_eq fields ≡ false → repeats same_column (map (column_of name space) fields) ≡ false
+fields_apart name space [] h = refl
+fields_apart name space (f ∷ fs) h = let p = or_parts (list_any (bytes_eq f) fs) (repeats bytes_eq fs) h in
+    or_from (list_any (same_column (column_of name space f)) (map (column_of name space) fs)) _ (field_apart name space f fs p.0) (fields_apart name space fs p.1)
+
+each_field : (P : ColumnInfo → Type 0) (name : List ℕ) (space : ℕ) (fields : List (List ℕ)) → ((f : List ℕ) → P (column_of name space f)) → AllByRecursion P (map (column_of name space) fields)
+each_field P name space [] h = tt
+each_field P name space (f ∷ fs) h = (h f, each_field P name space fs h)
+
+decl_columns_apart : (d : Decl) (ds : List Decl) → IsNamedDecl d → list_any (bytes_eq (decl_name d)) (map decl_name ds) ≡ false →
+    (repeats same_column (columns_of d) ≡ false) × AllByRecursion (λ x. list_any (same_column x) (flat_map columns_of ds) ≡ false) (columns_of d)
+decl_columns_apart (decl.Inst name space fields) ds h u = (fields_apart name space fields h.1, each_field (λ x. list_any (same_column x) (flat_map columns_of ds) ≡ false) name space fields (λ f. columns_unlisted name f ds u))
+decl_columns_apart (decl.Space name space) ds h u = (refl, tt)
+decl_columns_apart (decl.Lock name) ds h u = (refl, tt)
+decl_columns_apart (decl.Barrier name count op first) ds h u = (refl, tt)
+
+columns_apart_of : (ds : List Decl) → AllByRecursion IsNamedDecl ds → repeats bytes_eq (map decl_name ds) ≡ false → repeats same_column (flat_map columns_of ds) ≡ false
+columns_apart_of [] h r = refl
+columns_apart_of (d ∷ ds) h r =
+    let p = or_parts (list_any (bytes_eq (decl_name d)) (map decl_name ds)) (repeats bytes_eq (map decl_name ds)) r in
+    let c = decl_columns_apart d ds h.0 p.0 in
+    repeats_append same_column (columns_of d) (flat_map columns_of ds) c.0 (columns_apart_of ds h.1 p.1) c.1
+
+pub columns_apart : (g : GraphValue) → IsNamed g → repeats same_column (columns g) ≡ false
+columns_apart g n = columns_apart_of g.decls n.decls (decls_apart g n)
+
+-- a column's instance and field are names
+abbrev IsNamedColumn : List Decl → ColumnInfo → Type 0
+IsNamedColumn ds x = (is_name x.inst ≡ true) × (is_name x.field ≡ true) × (d : Decl) × Contains ds d × (x.inst ≡ decl_name d)
+
+fields_named : (d : Decl) (ds : List Decl) (name : List ℕ) (space : ℕ) (fields : List (List ℕ)) → is_name name ≡ true → name ≡ decl_name d → Contains ds d → AllByRecursion (λ f. is_name f ≡ true) fields → AllByRecursion (IsNamedColumn ds) (map (column_of name space) fields)
+fields_named d ds name space [] h e c a = tt
+fields_named d ds name space (f ∷ fs) h e c a = ((h, a.0, d, c, e), fields_named d ds name space fs h e c a.1)
+
+decl_columns_named : (d : Decl) (ds : List Decl) → IsNamedDecl d → Contains ds d → AllByRecursion (IsNamedColumn ds) (columns_of d)
+decl_columns_named (decl.Inst name space fields) ds h c = fields_named (decl.Inst name space fields) ds name space fields h.0.0 refl c h.0.2
+decl_columns_named (decl.Space name space) ds h c = tt
+decl_columns_named (decl.Lock name) ds h c = tt
+decl_columns_named (decl.Barrier name count op first) ds h c = tt
+
+columns_named : (all ds : List Decl) → AllByRecursion IsNamedDecl ds → ((d : Decl) → Contains ds d → Contains all d) → AllByRecursion (IsNamedColumn all) (flat_map columns_of ds)
+columns_named all [] h f = tt
+columns_named all (d ∷ ds) h f = each_append (IsNamedColumn all) (columns_of d) (flat_map columns_of ds) (decl_columns_named d all h.0 (f d (contains_here d ds)))
+    (columns_named all ds h.1 (λ e c. f e (contains_there d ds e c)))
+
+pub record IsColumnAt (g : GraphValue) (n : ℕ) (x : ColumnInfo) : Type 0 where
+  pub at : slice_get (columns g) n ≡ Some x
+  pub inst : is_name x.inst ≡ true
+  pub field : is_name x.field ≡ true
+  pub used : is_used g x.inst ≡ true
+
+pub known_column : (g : GraphValue) → IsNamed g → (n : ℕ) → n < length (columns g) → (x : ColumnInfo) × IsColumnAt g n x
+known_column g h n l =
+    let x = element (columns g) n l in
+    let c = each_contained (IsNamedColumn g.decls) (columns g) (columns_named g.decls g.decls h.decls (λ d c. c)) n x.0 x.1 in
+    (x.0, record { at = x.1; inst = c.0; field = c.1; used = used_decl g c.2 x.0.inst c.3 c.4 })

@@ -1,0 +1,248 @@
+-- Words by their number.
+use Rattle.std.proofs.Common.{◌⊎◌, inl, inr, ◌≡◌, ℕ, ◌+◌, ◌<◌, ◌≤◌, Bool, true, false, cond, ◌&&◌, ◌||◌, List, [], ◌∷◌, length, drop, map, refl, sym, ◌∙◌, ap, subst, arith}
+use Rattle.std.specs.Prelude.{Option, Some, None, Result, Ok, Err, option_map, slice_index_or, codes, find, bytes_eq, nat_le, ◌==◌}
+use Rattle.std.specs.List.{starts_with, list_any}
+use Rattle.std.specs.Option.{option_map_or}
+use Rattle.std.proofs.lemmas.Bool.{true≢false, and_parts, ne_eqb, le-leb, leb-true, cond-true, cond-false, eqb-true}
+use Rattle.std.proofs.lemmas.Option.{none-some, same_Some}
+use Rattle.index_spaces.specs.declared.Op.{Op}
+use Rattle.graph_model.specs.declared.decl.Decl.{Decl}
+use Rattle.graph_model.specs.declared.verb.Line.{Line}
+use Rattle.graph_model.specs.declared.verb.Verb.{Verb}
+use Rattle.graph_model.specs.declared.verb.Why.TheVariants as why
+use Rattle.graph_reader.specs.declared.item.ItemError.TheVariants as errors
+use Rattle.graph_reader.specs.FirstFault.{is_empty, words_fault, draft_fault}
+use Rattle.graph_model.specs.declared.verb.Verb.TheVariants.{Merge, MergeIgnore}
+use Rattle.graph_model.specs.Graph.{GraphValue}
+use Rattle.graph_reader.specs.declared.item.ItemError.{ItemError}
+use Rattle.graph_reader.specs.declared.kind.Kind.{Kind}
+use Rattle.graph_reader.specs.declared.kind.Kind.TheVariants as kinds
+use Rattle.graph_reader.specs.Kinds.{kind_form, kind_draft, HasPlaces}
+use Rattle.graph_reader.specs.Reading.{IsDeclRead, IsDeclOf, IsLineOf, IsWordsError, is_operation}
+use Rattle.graph_reader.specs.Draft.{Draft, draft, merge_with, decl_draft_after, forms, form_draft, is_of_form, same_word, merge_draft, line_draft, decl_draft, space_draft, inst_draft, lock_draft, barrier_draft, space_with, inst_with, lock_with, barrier_with, op_of}
+
+abbrev at : List (List ℕ) → ℕ → List ℕ
+at ws i = slice_index_or ws i []
+
+pub space_shape : (g : GraphValue) (ws : List (List ℕ)) → length ws ≡ 3 → space_draft g (drop 1 ws) ≡ Some (space_with (at ws 1) (at ws 2))
+space_shape g [] h = absurd (omega (arith, h))
+space_shape g (a ∷ []) h = absurd (omega (arith, h))
+space_shape g (a ∷ b ∷ []) h = absurd (omega (arith, h))
+space_shape g (a ∷ b ∷ c ∷ []) h = refl
+space_shape g (a ∷ b ∷ c ∷ d ∷ ds) h = absurd (omega (arith, h))
+
+pub no_space_shape : (g : GraphValue) (ws : List (List ℕ)) → (length ws ≡ 3 → ⊥) → space_draft g (drop 1 ws) ≡ None
+no_space_shape g [] h = refl
+no_space_shape g (a ∷ []) h = refl
+no_space_shape g (a ∷ b ∷ []) h = refl
+no_space_shape g (a ∷ b ∷ c ∷ []) h = absurd (h refl)
+no_space_shape g (a ∷ b ∷ c ∷ d ∷ ds) h = refl
+
+pub inst_shape : (g : GraphValue) (ws : List (List ℕ)) → length ws ≡ 4 → inst_draft g (drop 1 ws) ≡ Some (inst_with g (at ws 1) (at ws 2) (at ws 3))
+inst_shape g [] h = absurd (omega (arith, h))
+inst_shape g (a ∷ []) h = absurd (omega (arith, h))
+inst_shape g (a ∷ b ∷ []) h = absurd (omega (arith, h))
+inst_shape g (a ∷ b ∷ c ∷ []) h = absurd (omega (arith, h))
+inst_shape g (a ∷ b ∷ c ∷ d ∷ []) h = refl
+inst_shape g (a ∷ b ∷ c ∷ d ∷ e ∷ es) h = absurd (omega (arith, h))
+
+pub no_inst_shape : (g : GraphValue) (ws : List (List ℕ)) → (length ws ≡ 4 → ⊥) → inst_draft g (drop 1 ws) ≡ None
+no_inst_shape g [] h = refl
+no_inst_shape g (a ∷ []) h = refl
+no_inst_shape g (a ∷ b ∷ []) h = refl
+no_inst_shape g (a ∷ b ∷ c ∷ []) h = refl
+no_inst_shape g (a ∷ b ∷ c ∷ d ∷ []) h = absurd (h refl)
+no_inst_shape g (a ∷ b ∷ c ∷ d ∷ e ∷ es) h = refl
+
+pub lock_shape : (g : GraphValue) (ws : List (List ℕ)) → length ws ≡ 2 → lock_draft g (drop 1 ws) ≡ Some (lock_with (at ws 1))
+lock_shape g [] h = absurd (omega (arith, h))
+lock_shape g (a ∷ []) h = absurd (omega (arith, h))
+lock_shape g (a ∷ b ∷ []) h = refl
+lock_shape g (a ∷ b ∷ c ∷ cs) h = absurd (omega (arith, h))
+
+pub no_lock_shape : (g : GraphValue) (ws : List (List ℕ)) → (length ws ≡ 2 → ⊥) → lock_draft g (drop 1 ws) ≡ None
+no_lock_shape g [] h = refl
+no_lock_shape g (a ∷ []) h = refl
+no_lock_shape g (a ∷ b ∷ []) h = absurd (h refl)
+no_lock_shape g (a ∷ b ∷ c ∷ cs) h = refl
+
+pub barrier_shape : (g : GraphValue) (ws : List (List ℕ)) → length ws ≡ 5 → barrier_draft g (drop 1 ws) ≡ option_map (λ o. barrier_with (at ws 1) (at ws 2) o (at ws 4)) (op_of (at ws 3))
+barrier_shape g [] h = absurd (omega (arith, h))
+barrier_shape g (a ∷ []) h = absurd (omega (arith, h))
+barrier_shape g (a ∷ b ∷ []) h = absurd (omega (arith, h))
+barrier_shape g (a ∷ b ∷ c ∷ []) h = absurd (omega (arith, h))
+barrier_shape g (a ∷ b ∷ c ∷ d ∷ []) h = absurd (omega (arith, h))
+barrier_shape g (a ∷ b ∷ c ∷ d ∷ e ∷ []) h = refl
+barrier_shape g (a ∷ b ∷ c ∷ d ∷ e ∷ f ∷ fs) h = absurd (omega (arith, h))
+
+pub no_barrier_shape : (g : GraphValue) (ws : List (List ℕ)) → (length ws ≡ 5 → ⊥) → barrier_draft g (drop 1 ws) ≡ None
+no_barrier_shape g [] h = refl
+no_barrier_shape g (a ∷ []) h = refl
+no_barrier_shape g (a ∷ b ∷ []) h = refl
+no_barrier_shape g (a ∷ b ∷ c ∷ []) h = refl
+no_barrier_shape g (a ∷ b ∷ c ∷ d ∷ []) h = refl
+no_barrier_shape g (a ∷ b ∷ c ∷ d ∷ e ∷ []) h = absurd (h refl)
+no_barrier_shape g (a ∷ b ∷ c ∷ d ∷ e ∷ f ∷ fs) h = refl
+
+pub inst_read : (g : GraphValue) (ws : List (List ℕ)) (a b c : List ℕ) (r : Result Decl ItemError) → length ws ≡ 4 → a ≡ at ws 1 → b ≡ at ws 2 → c ≡ at ws 3 → IsDeclRead g (inst_with g a b c) r → IsDeclOf g (inst_draft g (drop 1 ws)) r
+inst_read g ws a b c r l p q s h = subst (λ x. IsDeclOf g x r) (sym (inst_shape g ws l))
+    (subst (λ x. IsDeclRead g (inst_with g x (at ws 2) (at ws 3)) r) p (subst (λ x. IsDeclRead g (inst_with g a x (at ws 3)) r) q (subst (λ x. IsDeclRead g (inst_with g a b x) r) s h)))
+
+pub barrier_read : (g : GraphValue) (ws : List (List ℕ)) (a b c d : List ℕ) (op : Op) (r : Result Decl ItemError) → length ws ≡ 5 → a ≡ at ws 1 → b ≡ at ws 2 → c ≡ at ws 3 → d ≡ at ws 4 → op_of c ≡ Some op →
+    IsDeclRead g (barrier_with a b op d) r → IsDeclOf g (barrier_draft g (drop 1 ws)) r
+barrier_read g ws a b c d op r l p q s t o h = subst (λ x. IsDeclOf g x r) (sym (barrier_shape g ws l ∙ ap (option_map (λ x. barrier_with (at ws 1) (at ws 2) x (at ws 4))) (ap op_of (sym s) ∙ o)))
+    (subst (λ x. IsDeclRead g (barrier_with x (at ws 2) op (at ws 4)) r) p (subst (λ x. IsDeclRead g (barrier_with a x op (at ws 4)) r) q (subst (λ x. IsDeclRead g (barrier_with a b op x) r) t h)))
+
+pub decl_barrier : (g : GraphValue) (ws : List (List ℕ)) (k : List ℕ) → k ≡ at ws 0 → bytes_eq k (codes "space") ≡ false → bytes_eq k (codes "inst") ≡ false → bytes_eq k (codes "lock") ≡ false → bytes_eq k (codes "barrier") ≡ true →
+    decl_draft g ws ≡ barrier_draft g (drop 1 ws)
+decl_barrier g [] k e a b c d = absurd (true≢false (sym d ∙ ap (λ x. bytes_eq x (codes "barrier")) e))
+decl_barrier g (w ∷ ws) k e a b c d =
+    cond-false (bytes_eq w (codes "space")) (space_draft g ws) _ (ap (λ x. bytes_eq x (codes "space")) (sym e) ∙ a)
+    ∙ (cond-false (bytes_eq w (codes "inst")) (inst_draft g ws) _ (ap (λ x. bytes_eq x (codes "inst")) (sym e) ∙ b)
+    ∙ (cond-false (bytes_eq w (codes "lock")) (lock_draft g ws) _ (ap (λ x. bytes_eq x (codes "lock")) (sym e) ∙ c)
+    ∙ cond-true (bytes_eq w (codes "barrier")) (barrier_draft g ws) None (ap (λ x. bytes_eq x (codes "barrier")) (sym e) ∙ d)))
+
+-- the kind that is found, and the form
+pub found_passes : {X : Type 0} (p : X → Bool) (xs : List X) (x : X) → find p xs ≡ Some x → p x ≡ true
+found_passes p [] x h = absurd (none-some x h)
+found_passes p (y ∷ ys) x h = found_by p y ys x (p y) refl h (found_passes p ys x)
+  where
+    found_by : {X : Type 0} (p : X → Bool) (y : X) (ys : List X) (x : X) (b : Bool) → p y ≡ b → cond b (Some y) (find p ys) ≡ Some x → (find p ys ≡ Some x → p x ≡ true) → p x ≡ true
+    found_by p y ys x true e h again = ap p (sym (same_Some y x h)) ∙ e
+    found_by p y ys x false e h again = again h
+
+find_by : {X Y : Type 0} (f : X → Y) (x : X) (o : Option X) (b : Bool) → cond b (Some (f x)) (option_map f o) ≡ option_map f (cond b (Some x) o)
+find_by f x o true = refl
+find_by f x o false = refl
+
+find_mapped : {X Y : Type 0} (p : Y → Bool) (f : X → Y) (xs : List X) → find p (map f xs) ≡ option_map f (find (λ x. p (f x)) xs)
+find_mapped p f [] = refl
+find_mapped p f (x ∷ xs) = ap (cond (p (f x)) (Some (f x))) (find_mapped p f xs) ∙ find_by f x (find (λ y. p (f y)) xs) (p (f x))
+
+abbrev found_kind : List Kind → List (List ℕ) → Option Kind
+found_kind ks ws = find (λ k. is_of_form ws (kind_form k)) ks
+
+no_words : (k : Kind) → is_of_form [] (kind_form k) ≡ false
+no_words kinds.User = refl
+no_words kinds.Trigger = refl
+no_words kinds.Cancel = refl
+no_words kinds.Phase = refl
+no_words kinds.Arrive = refl
+no_words kinds.Acquire = refl
+no_words kinds.Release = refl
+no_words kinds.Fill = refl
+no_words kinds.Copy = refl
+no_words kinds.ReduceSum = refl
+no_words kinds.ReduceMin = refl
+no_words kinds.ReduceMax = refl
+no_words kinds.Iota = refl
+no_words kinds.Axpy = refl
+no_words kinds.Stencil = refl
+no_words kinds.Scan = refl
+no_words kinds.Hist = refl
+no_words kinds.Dot = refl
+no_words kinds.Expect = refl
+no_words kinds.Gather = refl
+
+none_there : (ks : List Kind) → found_kind ks [] ≡ None
+none_there [] = refl
+none_there (k ∷ ks) = cond-false (is_of_form [] (kind_form k)) (Some k) (found_kind ks []) (no_words k) ∙ none_there ks
+
+pub line_kind : (g : GraphValue) (name : List ℕ) (ws : List (List ℕ)) (v : List ℕ) (ks : List Kind) (o : Option Kind) → map kind_form ks ≡ forms → v ≡ at ws 0 → bytes_eq v (codes "merge") ≡ false → bytes_eq v (codes "mergei") ≡ false → found_kind ks ws ≡ o →
+    line_draft g name ws ≡ option_map (λ k. kind_draft g k name (drop (length (kind_form k).words) ws)) o
+line_kind g name [] v ks o f e a b h = sym (ap (option_map (λ k. kind_draft g k name (drop (length (kind_form k).words) []))) (sym h ∙ none_there ks))
+line_kind g name (w ∷ ws) v ks o f e a b h =
+    cond-false (bytes_eq w (codes "merge")) (merge_draft g name Merge ws) _ (ap (λ x. bytes_eq x (codes "merge")) (sym e) ∙ a)
+    ∙ (cond-false (bytes_eq w (codes "mergei")) (merge_draft g name MergeIgnore ws) _ (ap (λ x. bytes_eq x (codes "mergei")) (sym e) ∙ b)
+    ∙ (ap (λ fs. option_map (λ f. form_draft g name (drop (length f.words) (w ∷ ws)) f) (find (is_of_form (w ∷ ws)) fs)) (sym f)
+    ∙ (ap (option_map (λ f. form_draft g name (drop (length f.words) (w ∷ ws)) f)) (find_mapped (is_of_form (w ∷ ws)) kind_form ks ∙ ap (option_map kind_form) h) ∙ option_twice o)))
+  where
+    option_twice : (o : Option Kind) → option_map (λ f. form_draft g name (drop (length f.words) (w ∷ ws)) f) (option_map kind_form o) ≡ option_map (λ k. kind_draft g k name (drop (length (kind_form k).words) (w ∷ ws))) o
+    option_twice None = refl
+    option_twice (Some k) = refl
+
+-- as many words stand behind the fixed ones as the places ask for, or two more
+room_by : (t : Bool) (n m : ℕ) (b : Bool) → (n == m || (t && (n == m + 2 && b))) ≡ true → m ≤ n
+room_by t n m b h = by_first (n == m) refl h
+  where
+    by_first : (c : Bool) → (n == m) ≡ c → (c || (t && (n == m + 2 && b))) ≡ true → m ≤ n
+    by_first true e h = let k : n ≡ m = eqb-true n m e in omega arith
+    by_first false e h = let p = and_parts t (n == m + 2 && b) h in let q = and_parts (n == m + 2) b p.1 in let k : n ≡ m + 2 = eqb-true n (m + 2) q.0 in omega arith
+
+pub places_there : (kind : Kind) (ws : List (List ℕ)) → is_of_form ws (kind_form kind) ≡ true → HasPlaces kind (drop (length (kind_form kind).words) ws)
+places_there kind ws h = let p = and_parts (starts_with same_word ws (kind_form kind).words) _ h in
+    room_by (kind_form kind).takes_on (length (drop (length (kind_form kind).words) ws)) (length (kind_form kind).places) _ p.1
+
+pub merge_shape : (g : GraphValue) (name : List ℕ) (verb : List ℕ → Verb) (ws : List (List ℕ)) → 2 ≤ length ws → merge_draft g name verb (drop 1 ws) ≡ Some (merge_with g name verb (drop 1 ws))
+merge_shape g name verb [] h = absurd (omega arith)
+merge_shape g name verb (a ∷ []) h = absurd (omega arith)
+merge_shape g name verb (a ∷ b ∷ bs) h = refl
+
+-- a line is an operation line by its second word
+pub line_by_sign : (g : GraphValue) (ws : List (List ℕ)) → is_operation ws ≡ true → draft g ws ≡ line_draft g (at ws 0) (drop 2 ws)
+line_by_sign g [] h = absurd (true≢false (sym h))
+line_by_sign g (x ∷ []) h = absurd (true≢false (sym h))
+line_by_sign g (x ∷ y ∷ ws) h = cond-true (bytes_eq y (codes "=")) (line_draft g x ws) _ (and_parts (nat_le 2 (length (x ∷ y ∷ ws))) (bytes_eq y (codes "=")) h).1
+
+sign_by : (a b : Bool) → a ≡ true → (a && b) ≡ false → b ≡ false
+sign_by true b e h = h
+sign_by false b e h = absurd (true≢false (sym e))
+
+pub decl_by_sign : (g : GraphValue) (ws : List (List ℕ)) → is_operation ws ≡ false → draft g ws ≡ decl_draft_after g g.lines ws
+decl_by_sign g [] h = refl
+decl_by_sign g (x ∷ []) h = refl
+decl_by_sign g (x ∷ y ∷ ws) h = cond-false (bytes_eq y (codes "=")) (line_draft g x ws) _ (sign_by (nat_le 2 (length (x ∷ y ∷ ws))) (bytes_eq y (codes "=")) (le-leb 2 (length (x ∷ y ∷ ws)) (omega arith)) h)
+
+pub operation_long : (ws : List (List ℕ)) → is_operation ws ≡ true → 2 ≤ length ws
+operation_long ws h = leb-true 2 (length ws) (and_parts (nat_le 2 (length ws)) (bytes_eq (at ws 1) (codes "=")) h).0
+
+pub decl_after_line : (g : GraphValue) (ls : List Line) (ws : List (List ℕ)) → 0 < length ls → decl_draft_after g ls ws ≡ None
+decl_after_line g [] ws h = absurd (omega arith)
+decl_after_line g (l ∷ ls) ws h = refl
+
+pub decl_first : (g : GraphValue) (ls : List Line) (ws : List (List ℕ)) → length ls ≡ 0 → decl_draft_after g ls ws ≡ decl_draft g ws
+decl_first g [] ws h = refl
+decl_first g (l ∷ ls) ws h = absurd (omega (arith, h))
+
+-- what words without an empty one are read as
+filled : (g : GraphValue) (ws : List (List ℕ)) → list_any is_empty ws ≡ false → words_fault g ws ≡ option_map_or (draft_fault g) (draft g ws) (Some why.Syntax)
+filled g ws h = cond-false (list_any is_empty ws) (Some why.Syntax) _ h
+
+pub words_empty : (g : GraphValue) (ws : List (List ℕ)) → list_any is_empty ws ≡ true → words_fault g ws ≡ Some why.Syntax
+words_empty g ws h = cond-true (list_any is_empty ws) (Some why.Syntax) _ h
+
+abbrev pub decl_item : Result Decl ItemError → Result (Decl ⊎ Line) ItemError
+decl_item (Ok d) = Ok (inl d)
+decl_item (Err e) = Err e
+
+-- an item, by its value
+abbrev pub IsItemRead : GraphValue → List (List ℕ) → Result (Decl ⊎ Line) ItemError → Type 0
+IsItemRead g ws (Ok i) = (words_fault g ws ≡ None) × (drafted : Draft) × (draft g ws ≡ Some drafted) × (drafted.item ≡ i)
+IsItemRead g ws (Err e) = IsWordsError g ws e
+
+pub syntax_fault : (g : GraphValue) (ws : List (List ℕ)) → list_any is_empty ws ≡ false → draft g ws ≡ None → words_fault g ws ≡ Some why.Syntax
+syntax_fault g ws f h = filled g ws f ∙ ap (λ o. option_map_or (draft_fault g) o (Some why.Syntax)) h
+
+pub decl_read : (g : GraphValue) (ws : List (List ℕ)) (o : Option Draft) (r : Result Decl ItemError) → list_any is_empty ws ≡ false → draft g ws ≡ o → IsDeclOf g o r → IsItemRead g ws (decl_item r)
+decl_read g ws None (Ok x) f e h = absurd h
+decl_read g ws None (Err (errors.Refused w)) f e h = syntax_fault g ws f e ∙ ap Some (sym h)
+decl_read g ws None (Err errors.NoMemory) f e h = tt
+decl_read g ws (Some d) (Ok x) f e h = (filled g ws f ∙ (ap (λ o. option_map_or (draft_fault g) o (Some why.Syntax)) e ∙ h.0), d, e, h.1)
+decl_read g ws (Some d) (Err (errors.Refused w)) f e h = filled g ws f ∙ (ap (λ o. option_map_or (draft_fault g) o (Some why.Syntax)) e ∙ h)
+decl_read g ws (Some d) (Err errors.NoMemory) f e h = tt
+
+abbrev pub line_item : Result Line ItemError → Result (Decl ⊎ Line) ItemError
+line_item (Ok l) = Ok (inr l)
+line_item (Err e) = Err e
+
+pub line_read : (g : GraphValue) (ws : List (List ℕ)) (o : Option Draft) (r : Result Line ItemError) → list_any is_empty ws ≡ false → draft g ws ≡ o → IsLineOf g o r → IsItemRead g ws (line_item r)
+line_read g ws None (Ok x) f e h = absurd h
+line_read g ws None (Err (errors.Refused w)) f e h = syntax_fault g ws f e ∙ ap Some (sym h)
+line_read g ws None (Err errors.NoMemory) f e h = tt
+line_read g ws (Some d) (Ok x) f e h = (filled g ws f ∙ (ap (λ o. option_map_or (draft_fault g) o (Some why.Syntax)) e ∙ h.0), d, e, h.1)
+line_read g ws (Some d) (Err (errors.Refused w)) f e h = filled g ws f ∙ (ap (λ o. option_map_or (draft_fault g) o (Some why.Syntax)) e ∙ h)
+line_read g ws (Some d) (Err errors.NoMemory) f e h = tt
+
+pub empty_is : (w : List ℕ) → (length w == 0) ≡ is_empty w
+empty_is [] = refl
+empty_is (b ∷ bs) = ne_eqb (length (b ∷ bs)) 0 (λ e. absurd (omega (arith, e)))

@@ -1,0 +1,97 @@
+-- The text of a graph by the names of the whole graph: what a writer puts, line by line.
+use Rattle.std.proofs.Common.{◌≡◌, ℕ, zero, suc, ◌<◌, false, List, [], ◌∷◌, ◌++◌, length, map, refl, sym, ◌∙◌, ap, append_assoc, arith}
+use Rattle.std.specs.Prelude.{Option, Some, None, filter_map, flat_map, slice_get, codes, decimal}
+use Rattle.std.specs.Option.{option_map_or}
+use Rattle.std.specs.List.{AllByRecursion}
+use Rattle.std.proofs.lemmas.Bool.{leb-false}
+use Rattle.std.proofs.lemmas.List.Elements.{filter_map-append}
+use Rattle.graph_model.specs.declared.decl.Decl.{Decl}
+use Rattle.graph_model.specs.declared.decl.Decl.TheVariants as decl
+use Rattle.graph_model.specs.declared.verb.Line.{Line}
+use Rattle.graph_model.specs.declared.verb.Verb.{Verb}
+use Rattle.graph_model.specs.declared.verb.Verb.TheVariants.{User, Trigger, Cancel, Merge, MergeIgnore, Phase, Arrive, Acquire, Release, Fill, Copy, Reduce, Task}
+use Rattle.graph_model.specs.declared.verb.Kernel.{Kernel}
+use Rattle.graph_model.specs.declared.verb.Kernel.TheVariants.{Iota, Axpy, Stencil, Scan, Hist, Dot, Expect, Gather}
+use Rattle.graph_model.specs.Graph.{GraphValue, space_of, named_spaces}
+use Rattle.graph_model.specs.Spelling.{space_name, line_name, comma_word, spelled, decl_words, verb_words, kernel_words, on_words, line_words, header, decls_text, lines_text, head}
+use Rattle.graph_model.specs.Fits.{decl_unknown, named_lines, on_lines, DeclsFit, LinesFit, IsGraph}
+use Rattle.graph_reader.proofs.ReadBack.{known_decl_of}
+use Rattle.graph_reader.proofs.VerbForms.{known_line_of}
+
+get_left : {X : Type 0} (xs ys : List X) (n : ℕ) → n < length xs → slice_get (xs ++ ys) n ≡ slice_get xs n
+get_left [] ys n h = absurd (omega arith)
+get_left (x ∷ xs) ys zero h = refl
+get_left (x ∷ xs) ys (suc n) h = get_left xs ys n (omega arith)
+
+abbrev graph_of : List Decl → List Line → GraphValue
+graph_of decls lines = record { decls = decls; lines = lines }
+
+space_kept : (ds es : List Decl) (ks ls : List Line) (n : ℕ) → n < length (named_spaces (graph_of ds ks)) → space_name (graph_of ds ks) n ≡ space_name (graph_of (ds ++ es) ls) n
+space_kept ds es ks ls n h = ap (λ (o : Option (List ℕ × List (ℕ × ℕ))). option_map_or (λ (x : List ℕ × List (ℕ × ℕ)). x.0) o [])
+    (sym (ap (λ (xs : List (List ℕ × List (ℕ × ℕ))). slice_get xs n) (filter_map-append space_of ds es) ∙ get_left (filter_map space_of ds) (filter_map space_of es) n h))
+
+-- the words of a declaration stay the same when items follow
+pub decl_words_kept : (ds es : List Decl) (ks ls : List Line) (d : Decl) → decl_unknown (graph_of ds ks) d ≡ false → decl_words (graph_of ds ks) d ≡ decl_words (graph_of (ds ++ es) ls) d
+decl_words_kept ds es ks ls (decl.Inst name space fields) h = ap (λ x. codes "inst" ∷ name ∷ x ∷ comma_word fields ∷ []) (space_kept ds es ks ls space (leb-false (length (named_spaces (graph_of ds ks))) space h))
+decl_words_kept ds es ks ls (decl.Space name space) h = refl
+decl_words_kept ds es ks ls (decl.Lock name) h = refl
+decl_words_kept ds es ks ls (decl.Barrier name count o first) h = refl
+
+line_kept : (ds : List Decl) (ks ls : List Line) (n : ℕ) → n < length ks → line_name (graph_of ds ks) n ≡ line_name (graph_of ds (ks ++ ls)) n
+line_kept ds ks ls n h = ap (λ (o : Option Line). option_map_or (λ (x : Line). x.name) o []) (sym (get_left ks ls n h))
+
+lines_kept : (ds : List Decl) (ks ls : List Line) (ns : List ℕ) → AllByRecursion (λ i. i < length ks) ns → map (line_name (graph_of ds ks)) ns ≡ map (line_name (graph_of ds (ks ++ ls))) ns
+lines_kept ds ks ls [] h = refl
+lines_kept ds ks ls (n ∷ ns) h = ap (λ x. x ∷ map (line_name (graph_of ds ks)) ns) (line_kept ds ks ls n h.0) ∙ ap (λ xs. line_name (graph_of ds (ks ++ ls)) n ∷ xs) (lines_kept ds ks ls ns h.1)
+
+verb_kept : (ds : List Decl) (ks ls : List Line) (v : Verb) → AllByRecursion (λ i. i < length ks) (named_lines v) → verb_words (graph_of ds ks) v ≡ verb_words (graph_of ds (ks ++ ls)) v
+verb_kept ds ks ls User h = refl
+verb_kept ds ks ls (Trigger u) h = ap (λ x. codes "trigger" ∷ x ∷ []) (line_kept ds ks ls u h.0)
+verb_kept ds ks ls (Cancel u) h = ap (λ x. codes "cancel" ∷ x ∷ []) (line_kept ds ks ls u h.0)
+verb_kept ds ks ls (Merge events) h = ap (λ xs. codes "merge" ∷ xs) (lines_kept ds ks ls events h)
+verb_kept ds ks ls (MergeIgnore events) h = ap (λ xs. codes "mergei" ∷ xs) (lines_kept ds ks ls events h)
+verb_kept ds ks ls (Phase b) h = refl
+verb_kept ds ks ls (Arrive p v) h = ap (λ x. codes "arrive" ∷ x ∷ decimal v ∷ []) (line_kept ds ks ls p h.0)
+verb_kept ds ks ls (Acquire l) h = refl
+verb_kept ds ks ls (Release q) h = ap (λ x. codes "release" ∷ x ∷ []) (line_kept ds ks ls q h.0)
+verb_kept ds ks ls (Fill t s v) h = refl
+verb_kept ds ks ls (Copy a b s) h = refl
+verb_kept ds ks ls (Reduce o a b s) h = refl
+verb_kept ds ks ls (Task kernel) h = ap (λ xs. codes "task" ∷ xs) (kernel_kept kernel)
+  where
+    kernel_kept : (k : Kernel) → kernel_words (graph_of ds ks) k ≡ kernel_words (graph_of ds (ks ++ ls)) k
+    kernel_kept (Iota x s v) = refl
+    kernel_kept (Axpy x y s k) = refl
+    kernel_kept (Stencil x y r s) = refl
+    kernel_kept (Scan x y s) = refl
+    kernel_kept (Hist x y s t) = refl
+    kernel_kept (Dot x y z s t) = refl
+    kernel_kept (Expect x s low high) = refl
+    kernel_kept (Gather x y z s t) = refl
+
+on_kept : (ds : List Decl) (ks ls : List Line) (o : Option ℕ) → AllByRecursion (λ i. i < length ks) (on_lines o) → on_words (graph_of ds ks) o ≡ on_words (graph_of ds (ks ++ ls)) o
+on_kept ds ks ls None h = refl
+on_kept ds ks ls (Some e) h = ap (λ x. codes "on" ∷ x ∷ []) (line_kept ds ks ls e h.0)
+
+-- the words of a line stay the same when lines follow
+pub line_words_kept : (ds : List Decl) (ks ls : List Line) (l : Line) → AllByRecursion (λ i. i < length ks) (named_lines l.verb) → AllByRecursion (λ i. i < length ks) (on_lines l.on) → line_words (graph_of ds ks) l ≡ line_words (graph_of ds (ks ++ ls)) l
+line_words_kept ds ks ls l h k = ap (λ xs. l.name ∷ codes "=" ∷ xs ++ on_words (graph_of ds ks) l.on) (verb_kept ds ks ls l.verb h) ∙ ap (λ ys. l.name ∷ codes "=" ∷ verb_words (graph_of ds (ks ++ ls)) l.verb ++ ys) (on_kept ds ks ls l.on k)
+
+decls_flat : (all : List Decl) (lines : List Line) (before ds : List Decl) → before ++ ds ≡ all → DeclsFit before ds → decls_text before ds ≡ flat_map (λ d. spelled (decl_words (graph_of all lines) d)) ds
+decls_flat all lines before [] e f = refl
+decls_flat all lines before (d ∷ ds) e f =
+    let k = known_decl_of (graph_of before []) d f.1 in
+    let here : decl_words (graph_of before []) d ≡ decl_words (graph_of all lines) d = decl_words_kept before (d ∷ ds) [] lines d k.known ∙ ap (λ xs. decl_words (graph_of xs lines) d) e in
+    ap (λ ws. spelled ws ++ decls_text (before ++ d ∷ []) ds) here ∙ ap (λ xs. spelled (decl_words (graph_of all lines) d) ++ xs) (decls_flat all lines (before ++ d ∷ []) ds (append_assoc before (d ∷ []) ds ∙ e) f.2)
+
+lines_flat : (decls : List Decl) (all before ls : List Line) → before ++ ls ≡ all → LinesFit decls before ls → lines_text decls before ls ≡ flat_map (λ l. spelled (line_words (graph_of decls all) l)) ls
+lines_flat decls all before [] e f = refl
+lines_flat decls all before (l ∷ ls) e f =
+    let k = known_line_of (graph_of decls before) l f.0 f.1 in
+    let here : line_words (graph_of decls before) l ≡ line_words (graph_of decls all) l = line_words_kept decls before (l ∷ ls) l k.verb.events k.on_below ∙ ap (λ xs. line_words (graph_of decls xs) l) e in
+    ap (λ ws. spelled ws ++ lines_text decls (before ++ l ∷ []) ls) here ∙ ap (λ xs. spelled (line_words (graph_of decls all) l) ++ xs) (lines_flat decls all (before ++ l ∷ []) ls (append_assoc before (l ∷ []) ls ∙ e) f.2)
+
+-- each item in its spelling after the whole graph
+pub head_flat : (g : GraphValue) → IsGraph g → head g ≡ header ++ (flat_map (λ d. spelled (decl_words g d)) g.decls ++ flat_map (λ l. spelled (line_words g l)) g.lines)
+head_flat g h = ap (λ xs. header ++ (xs ++ lines_text g.decls [] g.lines)) (decls_flat g.decls g.lines [] g.decls refl h.decls)
+    ∙ ap (λ xs. header ++ (flat_map (λ d. spelled (decl_words g d)) g.decls ++ xs)) (lines_flat g.decls g.lines [] g.lines refl h.lines)

@@ -1,0 +1,13 @@
+use Rattle.std.proofs.Common.{◌≡◌, false, None, subst}
+use Rattle.std.specs.Prelude.{MatchOption}
+use Rattle.graph_model.specs.Fits.{is_used}
+use Rattle.graph_model.specs.Names.{StandsFor}
+use Rattle.graph_reader.proofs.Owners.{is_found, unused_misnamed}
+use Rattle.graph_reader.proofs.lookup.look_up.Goals as goal
+
+pub returns-in-Some : goal.returns-in-Some
+returns-in-Some c = is_found c.args.graph.now c.args.word.now c.decls.ensures.is_graph c.find.result
+    (subst (λ w. MatchOption c.find.result (is_used c.args.graph.now w ≡ false) (StandsFor c.args.graph.now w)) c.in-Some.ensures.0 c.find.ensures)
+
+pub returns-in-None : goal.returns-in-None
+returns-in-None c = is_found c.args.graph.now c.args.word.now c.decls.ensures.is_graph None (unused_misnamed c.args.graph.now c.args.word.now c.decls.ensures.is_graph c.in-None.ensures)

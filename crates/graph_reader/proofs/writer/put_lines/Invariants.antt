@@ -1,0 +1,10 @@
+use Rattle.std.proofs.Common.{drop}
+use Rattle.std.specs.List.{flat_map}
+use Rattle.graph_model.specs.Spelling.{spelled, line_words}
+use Rattle.graph_reader.specs.Written.{sink_state}
+use Rattle.graph_reader.proofs.WrittenLaws.{Progress}
+use Rattle.graph_reader.proofs.writer.put_lines.Given as goal
+
+abbrev pub invariant-loop-i : goal.invariant-loop-i
+invariant-loop-i g l = Progress (sink_state g.K.Sink.taken g.K.Sink.flushed g.K.Sink.faults l.initial.sink) (sink_state g.K.Sink.taken g.K.Sink.flushed g.K.Sink.faults l.sink)
+    (flat_map (λ x. spelled (line_words l.graph x)) l.graph.lines) (flat_map (λ x. spelled (line_words l.graph x)) (drop l.i l.graph.lines))

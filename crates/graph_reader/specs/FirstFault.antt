@@ -1,0 +1,182 @@
+-- The first line that is refused, and the first reason that refuses it.
+use Rattle.std.specs.Prelude.{◌≡◌, ◌≢◌, ℕ, ◌+◌, ◌≤◌, ◌==◌, ◌⊎◌, nat_lt, Bool, true, false, cond, not, ◌&&◌, ◌||◌, List, [], ◌∷◌, ◌++◌, length, filter_map, Option, Some, None, is_some, codes}
+use Rattle.std.specs.Option.{option_map_or}
+use Rattle.std.specs.List.{list_any, before_first}
+use Rattle.std.specs.Str.{bytes_eq}
+use Rattle.std.proofs.Common.{inl, inr}
+use Rattle.graph_model.specs.declared.decl.Decl.{Decl}
+use Rattle.graph_model.specs.declared.verb.Line.{Line}
+use Rattle.graph_model.specs.declared.verb.Why.{Why}
+use Rattle.graph_model.specs.declared.verb.Why.TheVariants as why
+use Rattle.graph_model.specs.Name.{is_name}
+use Rattle.graph_model.specs.declared.decl.ColumnInfo.{ColumnInfo}
+use Rattle.graph_model.specs.declared.decl.BarrierInfo.{BarrierInfo}
+use Rattle.graph_model.specs.Graph.{GraphValue, named_spaces, columns, locks, barriers, line_passes, is_user, is_phase, is_acquire, is_release_of, ends_user}
+use Rattle.graph_model.specs.Spelling.{head, header}
+use Rattle.graph_model.specs.Fits.{IsGraph, first_reason, is_used, repeats, decl_fault, line_fault}
+use Rattle.graph_reader.specs.Words.{pieces, value_of, count_of, intervals_of, ascend_from, is_fields, is_column}
+use Rattle.graph_reader.specs.Draft.{Place, NewName, SpaceName, LockName, BarrierName, UserName, PhaseName, AcquireName, EventName, Column, Fields, Value, Count, Intervals, Draft, draft, line_number}
+use Rattle.graph_reader.specs.Text.{text}
+
+-- a word that is not spelled as a name, as fields or as a column, in the place of one
+abbrev pub misnamed : Place → List ℕ → Bool
+misnamed Column w = not (is_column w)
+misnamed Fields w = not (is_fields w)
+misnamed Value w = false
+misnamed Count w = false
+misnamed Intervals w = false
+misnamed _ w = not (is_name w)
+
+-- the instances' names
+abbrev pub is_inst_name : GraphValue → List ℕ → Bool
+is_inst_name g w = list_any (λ (x : ColumnInfo). bytes_eq x.inst w) (columns g)
+
+abbrev pub has_column : GraphValue → List (List ℕ) → Bool
+has_column g (inst ∷ field ∷ []) = list_any (λ (x : ColumnInfo). bytes_eq x.inst inst && bytes_eq x.field field) (columns g)
+has_column g _ = false
+
+abbrev pub first_piece : List (List ℕ) → List ℕ
+first_piece [] = []
+first_piece (p ∷ ps) = p
+
+-- a name that is not declared, or a field that its instance has not
+abbrev pub unknown : GraphValue → Place → List ℕ → Bool
+unknown g NewName w = false
+unknown g Fields w = false
+unknown g Value w = false
+unknown g Count w = false
+unknown g Intervals w = false
+unknown g Column w = not (is_used g (first_piece (pieces 46 w))) || (is_inst_name g (first_piece (pieces 46 w)) && not (has_column g (pieces 46 w)))
+unknown g _ w = not (is_used g w)
+
+abbrev pub is_line_name : GraphValue → List ℕ → Bool
+is_line_name g w = list_any (λ (l : Line). bytes_eq l.name w) g.lines
+
+-- a new name that is in use, one field twice, a user event that is ended already, or an acquire that is released already
+abbrev pub twice : GraphValue → Place → List ℕ → Bool
+twice g NewName w = is_used g w
+twice g Fields w = repeats bytes_eq (pieces 44 w)
+twice g UserName w = is_line_name g w && list_any (λ (l : Line). ends_user (line_number g w) l.verb) g.lines
+twice g AcquireName w = is_line_name g w && list_any (λ (l : Line). is_release_of (line_number g w) l.verb) g.lines
+twice g _ w = false
+
+-- a name that was declared as another kind than its place takes
+abbrev pub unlike : GraphValue → Place → List ℕ → Bool
+unlike g SpaceName w = not (list_any (λ (x : List ℕ × List (ℕ × ℕ)). bytes_eq x.0 w) (named_spaces g))
+unlike g LockName w = not (list_any (bytes_eq w) (locks g))
+unlike g BarrierName w = not (list_any (λ (x : BarrierInfo). bytes_eq x.name w) (barriers g))
+unlike g UserName w = not (is_line_name g w && line_passes is_user g (line_number g w))
+unlike g PhaseName w = not (is_line_name g w && line_passes is_phase g (line_number g w))
+unlike g AcquireName w = not (is_line_name g w && line_passes is_acquire g (line_number g w))
+unlike g EventName w = not (is_line_name g w)
+unlike g Column w = not (is_inst_name g (first_piece (pieces 46 w)))
+unlike g _ w = false
+
+-- a word that is not spelled as the number, the count or the intervals that its place takes
+abbrev pub misnumbered : Place → List ℕ → Bool
+misnumbered Value w = not (is_some (value_of w))
+misnumbered Count w = not (is_some (count_of w))
+misnumbered Intervals w = not (is_some (intervals_of w))
+misnumbered _ w = false
+
+-- intervals that are reversed, that touch or that do not ascend
+abbrev pub misordered : Place → List ℕ → Bool
+misordered Intervals w = not (option_map_or (ascend_from 0) (intervals_of w) true)
+misordered _ w = false
+
+-- the words of a kind of place
+abbrev pub event_word : Place → List ℕ → Option (List ℕ)
+event_word EventName w = Some w
+event_word _ w = None
+
+abbrev pub column_word : Place → List ℕ → Option (List ℕ)
+column_word Column w = Some w
+column_word _ w = None
+
+-- the reason that is left, of the declaration or the line itself
+abbrev pub item_fault : GraphValue → Decl ⊎ Line → Option Why
+item_fault g (inl d) = decl_fault g d
+item_fault g (inr l) = line_fault g l
+
+abbrev pub or_else : Option Why → Option Why → Option Why
+or_else None r = r
+or_else (Some w) r = Some w
+
+-- the reasons that may refuse the words in their places
+abbrev pub draft_tests : GraphValue → Draft → List (Bool × Why)
+draft_tests g d =
+    (list_any (λ (p : Place × List ℕ). misnamed p.0 p.1) d.placed, why.Name)
+    ∷ (
+      list_any (λ (p : Place × List ℕ). twice g p.0 p.1) d.placed
+          || (repeats bytes_eq (filter_map (λ (p : Place × List ℕ). event_word p.0 p.1) d.placed) || repeats bytes_eq (filter_map (λ (p : Place × List ℕ). column_word p.0 p.1) d.placed)),
+      why.Twice,
+    )
+    ∷ (list_any (λ (p : Place × List ℕ). unknown g p.0 p.1) d.placed, why.Unknown)
+    ∷ (list_any (λ (p : Place × List ℕ). unlike g p.0 p.1) d.placed, why.Kind)
+    ∷ (list_any (λ (p : Place × List ℕ). misnumbered p.0 p.1) d.placed, why.Number)
+    ∷ (list_any (λ (p : Place × List ℕ). misordered p.0 p.1) d.placed, why.Space)
+    ∷ []
+
+-- the first reason that refuses the words in their places and what they spell
+abbrev pub draft_fault : GraphValue → Draft → Option Why
+draft_fault g d = or_else (first_reason (draft_tests g d)) (item_fault g d.item)
+
+abbrev pub is_empty : List ℕ → Bool
+is_empty [] = true
+is_empty (b ∷ bs) = false
+
+-- the first reason that refuses a line of words, an empty word or a form that is none first
+abbrev pub words_fault : GraphValue → List (List ℕ) → Option Why
+words_fault g ws = cond (list_any is_empty ws) (Some why.Syntax) (option_map_or (draft_fault g) (draft g ws) (Some why.Syntax))
+
+-- the first reason that refuses the line with these bytes, after the text of a graph that is not closed
+abbrev pub line_reason : GraphValue → List ℕ → Option Why
+line_reason g line = cond (bytes_eq line (codes "end"))
+    (cond (nat_lt 1048576 (length (text g))) (Some why.Limit) None)
+    (words_fault g (pieces 32 line))
+
+-- whether a line has a newline
+abbrev pub has_newline : List ℕ → Bool
+has_newline bs = list_any (λ b. b == 10) bs
+
+-- the bytes up to the first newline
+abbrev pub first_line : List ℕ → List ℕ
+first_line bs = before_first (λ b. b == 10) bs
+
+-- the first reason that refuses the first line of these bytes, after the text of a graph that is not closed
+abbrev pub next_reason : GraphValue → List ℕ → Option Why
+next_reason g rest = cond (has_newline rest) (line_reason g (first_line rest)) (Some why.Missing)
+
+-- how many lines the text of a graph has before it is closed
+abbrev pub line_count : GraphValue → ℕ
+line_count g = 1 + length g.decls + length g.lines
+
+-- the bytes do not begin with the first line of a graph's text
+pub record IsHeaderFault (bytes : List ℕ) (number : ℕ) (reason : Why) : Type 0 where
+  pub first : number ≡ 1
+  pub reason_is : reason ≡ why.Header
+  pub no_header : (rest : List ℕ) → bytes ≡ header ++ rest → ⊥
+
+-- the lines before this one are the text of a graph that is not closed, and this one is refused after it
+pub record IsLineFault (bytes : List ℕ) (number : ℕ) (reason : Why) : Type 0 where
+  pub before : GraphValue
+  pub rest : List ℕ
+  pub is_graph : IsGraph before
+  pub begins : bytes ≡ head before ++ rest
+  pub number_is : number ≡ line_count before + 1
+  pub refused : next_reason before rest ≡ Some reason
+
+-- bytes follow the text of a graph
+pub record IsRestFault (bytes : List ℕ) (number : ℕ) (reason : Why) : Type 0 where
+  pub before : GraphValue
+  pub rest : List ℕ
+  pub is_graph : IsGraph before
+  pub begins : bytes ≡ text before ++ rest
+  pub short : length (text before) ≤ 1048576
+  pub follows : rest ≢ []
+  pub number_is : number ≡ line_count before + 2
+  pub reason_is : reason ≡ why.Rest
+
+-- the first refused line of these bytes, from 1, and its first reason
+abbrev pub FirstFault : List ℕ → ℕ → Why → Type 0
+FirstFault bytes number reason = IsHeaderFault bytes number reason ⊎ (IsLineFault bytes number reason ⊎ IsRestFault bytes number reason)

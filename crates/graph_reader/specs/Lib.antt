@@ -1,0 +1,12 @@
+pub mod Text
+pub mod Words
+pub mod Draft
+pub mod FirstFault
+pub mod Laws
+pub mod Reading
+pub mod Kinds
+pub mod Lookups
+pub mod Cuts
+pub mod Merges
+pub mod Written
+pub mod WrittenWords

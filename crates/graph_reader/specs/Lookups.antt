@@ -1,0 +1,78 @@
+-- What a word stands for in a graph.
+use Rattle.std.specs.Prelude.{◌≡◌, ℕ, Bool, true, false, cond, ◌&&◌, List, [], ◌∷◌, Option, Some, None, is_some, position}
+use Rattle.std.specs.Str.{bytes_eq}
+use Rattle.graph_model.specs.declared.decl.ColumnInfo.{ColumnInfo}
+use Rattle.graph_model.specs.declared.decl.BarrierInfo.{BarrierInfo}
+use Rattle.graph_model.specs.declared.found.Found.{Found}
+use Rattle.graph_model.specs.declared.found.Found.TheVariants as found
+use Rattle.graph_model.specs.declared.verb.Line.{Line}
+use Rattle.graph_model.specs.Graph.{GraphValue, named_spaces, columns, locks, barriers}
+use Rattle.graph_model.specs.Fits.{is_used}
+use Rattle.graph_model.specs.Name.{is_name}
+use Rattle.graph_reader.specs.FirstFault.{is_inst_name}
+use Rattle.graph_reader.specs.Words.{pieces}
+use Rattle.graph_reader.specs.Cuts.{two_pieces}
+
+-- the number of the thing that was found, where it is of one kind
+abbrev pub found_space : Option Found → Option ℕ
+found_space None = None
+found_space (Some (found.Space s)) = Some s
+found_space (Some (found.Inst d)) = None
+found_space (Some (found.Lock l)) = None
+found_space (Some (found.Barrier b)) = None
+found_space (Some (found.Line i)) = None
+
+abbrev pub found_lock : Option Found → Option ℕ
+found_lock None = None
+found_lock (Some (found.Space s)) = None
+found_lock (Some (found.Inst d)) = None
+found_lock (Some (found.Lock l)) = Some l
+found_lock (Some (found.Barrier b)) = None
+found_lock (Some (found.Line i)) = None
+
+abbrev pub found_barrier : Option Found → Option ℕ
+found_barrier None = None
+found_barrier (Some (found.Space s)) = None
+found_barrier (Some (found.Inst d)) = None
+found_barrier (Some (found.Lock l)) = None
+found_barrier (Some (found.Barrier b)) = Some b
+found_barrier (Some (found.Line i)) = None
+
+abbrev pub found_line : Option Found → Option ℕ
+found_line None = None
+found_line (Some (found.Space s)) = None
+found_line (Some (found.Inst d)) = None
+found_line (Some (found.Lock l)) = None
+found_line (Some (found.Barrier b)) = None
+found_line (Some (found.Line i)) = Some i
+
+abbrev pub is_found_inst : Option Found → Bool
+is_found_inst None = false
+is_found_inst (Some (found.Space s)) = false
+is_found_inst (Some (found.Inst d)) = true
+is_found_inst (Some (found.Lock l)) = false
+is_found_inst (Some (found.Barrier b)) = false
+is_found_inst (Some (found.Line i)) = false
+
+-- what a word stands for: one thing of one kind at most
+pub record IsFound (g : GraphValue) (w : List ℕ) (o : Option Found) : Type 0 where
+  pub used : is_used g w ≡ is_some o
+  pub space : position (λ (x : List ℕ × List (ℕ × ℕ)). bytes_eq x.0 w) (named_spaces g) ≡ found_space o
+  pub lock : position (bytes_eq w) (locks g) ≡ found_lock o
+  pub barrier : position (λ (x : BarrierInfo). bytes_eq x.name w) (barriers g) ≡ found_barrier o
+  pub line : position (λ (x : Line). bytes_eq x.name w) g.lines ≡ found_line o
+  pub inst : is_inst_name g w ≡ is_found_inst o
+
+-- the column that two names stand for
+abbrev pub column_place : GraphValue → List (List ℕ) → Option ℕ
+column_place g (inst ∷ field ∷ []) = position (λ (x : ColumnInfo). bytes_eq x.inst inst && bytes_eq x.field field) (columns g)
+column_place g _ = None
+
+-- two words that are names
+abbrev pub named_pair : Option (List ℕ × List ℕ) → Option (List ℕ × List ℕ)
+named_pair None = None
+named_pair (Some (a, b)) = cond (is_name a && is_name b) (Some (a, b)) None
+
+-- the names that a word in the place of a column has
+unfoldable pub column_names : List ℕ → Option (List ℕ × List ℕ)
+column_names w = named_pair (two_pieces (pieces 46 w))

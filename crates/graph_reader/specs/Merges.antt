@@ -1,0 +1,32 @@
+-- Merges of the lines that words name.
+use Rattle.std.specs.Prelude.{ℕ, Bool, true, false, not, ◌||◌, List, [], ◌∷◌, map, Option, None}
+use Rattle.std.specs.List.{list_any, list_all}
+use Rattle.std.specs.Str.{bytes_eq}
+use Rattle.graph_model.specs.declared.verb.Line.{Line}
+use Rattle.graph_model.specs.declared.verb.Verb.{Verb}
+use Rattle.graph_model.specs.declared.verb.Verb.TheVariants.{Merge, MergeIgnore}
+use Rattle.graph_model.specs.declared.verb.Why.{Why}
+use Rattle.graph_model.specs.declared.verb.Why.TheVariants as why
+use Rattle.graph_model.specs.Graph.{GraphValue}
+use Rattle.graph_model.specs.Name.{is_name}
+use Rattle.graph_model.specs.Fits.{first_reason, repeats, is_used}
+use Rattle.graph_reader.specs.Draft.{line_number}
+use Rattle.graph_reader.specs.FirstFault.{is_line_name}
+
+-- a merge, or one that ignores faults
+abbrev pub merge_verb : Bool → List ℕ → Verb
+merge_verb true events = MergeIgnore events
+merge_verb false events = Merge events
+
+-- the line of a merge
+abbrev pub merge_line : GraphValue → Bool → List ℕ → List (List ℕ) → Line
+merge_line g ignores name es = record { name = name; verb = merge_verb ignores (map (line_number g) es); on = None }
+
+-- the first reason that refuses the words of a merge, whose name is spelled as one
+unfoldable pub merge_reason : GraphValue → List ℕ → List (List ℕ) → Option Why
+merge_reason g name es = first_reason (
+    (not (list_all is_name es), why.Name)
+    ∷ (is_used g name || repeats bytes_eq es, why.Twice)
+    ∷ (list_any (λ w. not (is_used g w)) es, why.Unknown)
+    ∷ (list_any (λ w. not (is_line_name g w)) es, why.Kind)
+    ∷ [])

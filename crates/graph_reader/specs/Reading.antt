@@ -1,0 +1,128 @@
+-- What the reader of one line gives.
+use Rattle.std.specs.Prelude.{Bool, nat_le, ◌&&◌, length, slice_index_or, codes, cond, not, Option, Result, Ok, Err, ◌≡◌, ℕ, List, Some, None, ◌⊎◌, ◌==◌, [], ◌∷◌, true, false}
+use Rattle.std.specs.List.{after_first}
+use Rattle.std.proofs.Common.{inl, inr}
+use Rattle.graph_model.specs.declared.decl.Decl.{Decl}
+use Rattle.graph_model.specs.declared.verb.Line.{Line}
+use Rattle.graph_model.specs.Graph.{GraphValue}
+use Rattle.graph_model.specs.Fits.{first_reason, repeats, is_used, with_decl, with_line, decl_fault, line_fault, IsDecl, IsLine}
+use Rattle.graph_model.specs.declared.decl.Decl.TheVariants as decl
+use Rattle.graph_model.specs.declared.verb.Why.{Why}
+use Rattle.graph_model.specs.declared.verb.Why.TheVariants as why
+use Rattle.graph_model.specs.Name.{is_name}
+use Rattle.index_spaces.specs.declared.space.SpaceFault.{SpaceFault}
+use Rattle.index_spaces.specs.declared.space.SpaceFault.TheVariants as spaces
+use Rattle.std.specs.List.{list_all}
+use Rattle.std.specs.Str.{bytes_eq}
+use Rattle.graph_reader.specs.Words.{pieces, ascend_from}
+use Rattle.graph_reader.specs.Draft.{Draft, draft, SpaceName, space_number}
+use Rattle.graph_reader.specs.FirstFault.{words_fault, draft_fault, unlike, or_else, FirstFault}
+use Rattle.graph_reader.specs.declared.item.Item.{Item}
+use Rattle.graph_reader.specs.declared.item.Item.TheVariants as items
+use Rattle.graph_reader.specs.declared.item.ItemError.{ItemError}
+use Rattle.graph_reader.specs.declared.item.ItemError.TheVariants as errors
+use Rattle.graph_reader.specs.declared.ReadRefusal.{ReadRefusal}
+use Rattle.graph_reader.specs.declared.ReadRefusal.TheVariants as refusals
+
+-- an item as a declaration or a line
+abbrev pub item_value : Item → Decl ⊎ Line
+item_value (items.Decl d) = inl d
+item_value (items.Line l) = inr l
+
+-- the refusal names the first refused line and its first reason
+abbrev pub IsRefusal : List ℕ → ReadRefusal → Type 0
+IsRefusal bytes (refusals.Line number reason) = FirstFault bytes number reason
+IsRefusal bytes refusals.NoMemory = Unit {0}
+
+-- the bytes behind the first newline
+abbrev pub after_line : List ℕ → List ℕ
+after_line bs = after_first (λ b. b == 10) bs
+
+-- the graph with an item at its end
+abbrev pub with_value : GraphValue → Decl ⊎ Line → GraphValue
+with_value g (inl d) = with_decl g d
+with_value g (inr l) = with_line g l
+
+-- the item fits after this graph
+abbrev pub FitsAfter : GraphValue → Decl ⊎ Line → Type 0
+FitsAfter g (inl d) = IsDecl d × (g.lines ≡ []) × (decl_fault g d ≡ None)
+FitsAfter g (inr l) = IsLine l × (line_fault g l ≡ None)
+
+-- what the words of a declaration in their places are read as
+abbrev pub IsDeclRead : GraphValue → Draft → Result Decl ItemError → Type 0
+IsDeclRead g d (Ok x) = (draft_fault g d ≡ None) × (d.item ≡ inl x)
+IsDeclRead g d (Err (errors.Refused w)) = draft_fault g d ≡ Some w
+IsDeclRead g d (Err errors.NoMemory) = Unit {0}
+
+-- what the words of a line in their places are read as
+abbrev pub IsLineRead : GraphValue → Draft → Result Line ItemError → Type 0
+IsLineRead g d (Ok l) = (draft_fault g d ≡ None) × (d.item ≡ inr l)
+IsLineRead g d (Err (errors.Refused w)) = draft_fault g d ≡ Some w
+IsLineRead g d (Err errors.NoMemory) = Unit {0}
+
+-- a declaration where this reason is none, or else this reason
+abbrev pub IsDeclBy : Option Why → Decl → Result Decl ItemError → Type 0
+IsDeclBy r d (Ok x) = (r ≡ None) × (x ≡ d)
+IsDeclBy r d (Err (errors.Refused w)) = r ≡ Some w
+IsDeclBy r d (Err errors.NoMemory) = Unit {0}
+
+-- the reasons that are left for a space whose name is new
+abbrev pub space_reason : GraphValue → List ℕ → List (ℕ × ℕ) → Option Why
+space_reason g name is = cond (ascend_from 0 is) (decl_fault g (decl.Space name is)) (Some why.Space)
+
+-- the reasons that are left for an instance whose name is new and whose words are names
+abbrev pub inst_reason : GraphValue → List ℕ → List ℕ → List (List ℕ) → Option Why
+inst_reason g name space fields = or_else (first_reason (
+    (repeats bytes_eq fields, why.Twice)
+    ∷ (not (is_used g space), why.Unknown)
+    ∷ (unlike g SpaceName space, why.Kind)
+    ∷ [])) (decl_fault g (decl.Inst name (space_number g space) fields))
+
+-- the declaration of an instance with these words
+abbrev pub inst_decl : GraphValue → List ℕ → List ℕ → List (List ℕ) → Decl
+inst_decl g name space fields = decl.Inst name (space_number g space) fields
+
+-- the fields that a word spells, or that it spells none
+abbrev pub AreFields : List ℕ → List (List ℕ) → Type 0
+AreFields w fields = (fields ≡ pieces 44 w) × (list_all is_name (pieces 44 w) ≡ true)
+
+abbrev pub AreNoFields : List ℕ → ItemError → Type 0
+AreNoFields w (errors.Refused x) = (x ≡ why.Name) × (list_all is_name (pieces 44 w) ≡ false)
+AreNoFields w errors.NoMemory = Unit {0}
+
+-- what a fault of a space is for the line that declares it
+abbrev pub space_error : SpaceFault → ItemError
+space_error spaces.Empty = errors.Refused why.Space
+space_error (spaces.Reversed k) = errors.Refused why.Space
+space_error (spaces.Order k) = errors.Refused why.Space
+space_error spaces.Many = errors.Refused why.Limit
+space_error spaces.Large = errors.Refused why.Limit
+space_error spaces.NoMemory = errors.NoMemory
+
+-- what the words of a declaration are read as: words of no form are refused
+abbrev pub IsDeclOf : GraphValue → Option Draft → Result Decl ItemError → Type 0
+IsDeclOf g (Some d) r = IsDeclRead g d r
+IsDeclOf g None (Ok x) = ⊥
+IsDeclOf g None (Err (errors.Refused w)) = w ≡ why.Syntax
+IsDeclOf g None (Err errors.NoMemory) = Unit {0}
+
+-- what the words of a line are read as
+abbrev pub IsLineOf : GraphValue → Option Draft → Result Line ItemError → Type 0
+IsLineOf g (Some d) r = IsLineRead g d r
+IsLineOf g None (Ok x) = ⊥
+IsLineOf g None (Err (errors.Refused w)) = w ≡ why.Syntax
+IsLineOf g None (Err errors.NoMemory) = Unit {0}
+
+-- the reason is the first that refuses these words
+abbrev pub IsWordsError : GraphValue → List (List ℕ) → ItemError → Type 0
+IsWordsError g ws (errors.Refused w) = words_fault g ws ≡ Some w
+IsWordsError g ws errors.NoMemory = Unit {0}
+
+-- what words are read as
+abbrev pub IsWordsItem : GraphValue → List (List ℕ) → Result Item ItemError → Type 0
+IsWordsItem g ws (Ok i) = (words_fault g ws ≡ None) × (drafted : Draft) × (draft g ws ≡ Some drafted) × (drafted.item ≡ item_value i)
+IsWordsItem g ws (Err e) = IsWordsError g ws e
+
+-- the words are those of an operation line
+abbrev pub is_operation : List (List ℕ) → Bool
+is_operation ws = nat_le 2 (length ws) && bytes_eq (slice_index_or ws 1 []) (codes "=")

@@ -1,0 +1,207 @@
+//! Lines of declarations.
+
+ghost use Rattle.std.specs.Prelude.{◌≡◌, map, false, [], MatchResult};
+ghost use Rattle.graph_model.specs.Fits.{decl_fault, is_used};
+ghost use Rattle.graph_reader.specs.Draft.{space_with, inst_with, lock_with, barrier_with};
+ghost use Rattle.graph_reader.specs.Reading.{IsDeclBy, IsDeclRead, space_error, space_reason, inst_reason, inst_decl, AreFields, AreNoFields};
+
+use crate::checks::is_name;
+use crate::intervals::intervals;
+use crate::item::ItemError;
+use crate::lookup::{look_up, space};
+use crate::names::{has_repeat, names_of};
+use crate::numbers::{count, value};
+use crate::words::split;
+use graph_model::decl::Decl;
+use graph_model::graph::Graph;
+use graph_model::lists::NameList;
+use graph_model::name::Name;
+use graph_model::verb::Why;
+use index_spaces::Op;
+use index_spaces::space::{Space, SpaceFault};
+use std::alloc::Global;
+
+/// The declaration, where it fits after the graph.
+fn fitting_decl(graph: &Graph, decl: Decl) -> Result<Decl, ItemError>
+    ensures { IsDeclBy (decl_fault graph.now decl) decl result }
+{
+    match graph.decl_fault(&decl) {
+        Some(why) => Err(ItemError::Refused(why)),
+        None => Ok(decl),
+    }
+}
+
+/// The declaration of a reservation.
+pub(crate) fn read_lock(graph: &Graph, name: &[u8]) -> Result<Decl, ItemError>
+    ensures { IsDeclRead graph.now (lock_with name.now) result }
+{
+    let Some(name) = Name::new(name) else {
+        return Err(ItemError::Refused(Why::Name));
+    };
+    fitting_decl(graph, Decl::Lock { name })
+}
+
+/// The declaration of a barrier.
+pub(crate) fn read_barrier(
+    graph: &Graph,
+    name: &[u8],
+    arrivals: &[u8],
+    op: Op,
+    first: &[u8],
+) -> Result<Decl, ItemError>
+    ensures { IsDeclRead graph.now (barrier_with name.now arrivals.now op first.now) result }
+{
+    let Some(new) = Name::new(name) else {
+        return Err(ItemError::Refused(Why::Name));
+    };
+    if look_up(graph, name).is_some() {
+        return Err(ItemError::Refused(Why::Twice));
+    }
+    let Some(count) = count(arrivals) else {
+        return Err(ItemError::Refused(Why::Number));
+    };
+    let Some(first) = value(first) else {
+        return Err(ItemError::Refused(Why::Number));
+    };
+    fitting_decl(
+        graph,
+        Decl::Barrier {
+            name: new,
+            count,
+            op,
+            first,
+        },
+    )
+}
+
+/// What a fault of a space is for the line that declares it.
+fn space_error(fault: SpaceFault) -> ItemError
+    ensures { result ≡ space_error fault }
+{
+    match fault {
+        SpaceFault::Empty => ItemError::Refused(Why::Space),
+        SpaceFault::Reversed(_) => ItemError::Refused(Why::Space),
+        SpaceFault::Order(_) => ItemError::Refused(Why::Space),
+        SpaceFault::Many => ItemError::Refused(Why::Limit),
+        SpaceFault::Large => ItemError::Refused(Why::Limit),
+        SpaceFault::NoMemory => ItemError::NoMemory,
+    }
+}
+
+/// The declaration of a space with these intervals.
+fn read_intervals(
+    alloc: Global,
+    graph: &Graph,
+    name: Name,
+    pairs: &[(u32, u32)],
+) -> Result<Decl, ItemError>
+    requires new { is_used graph.now name ≡ false }
+    requires some { pairs.now ≡ [] → ⊥ }
+    ensures { IsDeclBy (space_reason graph.now name pairs.now) (Decl.Space name pairs.now) result }
+{
+    // A space numbers its intervals by 32 bits.
+    if pairs.len() > 4294967295 {
+        return Err(ItemError::NoMemory);
+    }
+    match Space::new(alloc, pairs) {
+        Ok(space) => fitting_decl(graph, Decl::Space { name, space }),
+        Err(fault) => Err(space_error(fault)),
+    }
+}
+
+/// The declaration of a space.
+pub(crate) fn read_space(
+    alloc: Global,
+    graph: &Graph,
+    name: &[u8],
+    word: &[u8],
+) -> Result<Decl, ItemError>
+    ensures { IsDeclRead graph.now (space_with name.now word.now) result }
+{
+    let Some(new) = Name::new(name) else {
+        return Err(ItemError::Refused(Why::Name));
+    };
+    if look_up(graph, name).is_some() {
+        return Err(ItemError::Refused(Why::Twice));
+    }
+    match intervals(alloc, word) {
+        Ok(Some(pairs)) => read_intervals(alloc, graph, new, &pairs),
+        Ok(None) => Err(ItemError::Refused(Why::Number)),
+        Err(_) => Err(ItemError::NoMemory),
+    }
+}
+
+/// The fields that a word spells, with a comma between each two.
+fn read_fields(alloc: Global, word: &[u8]) -> Result<Vec<Name>, ItemError>
+    ensures { MatchResult result (λ v. AreFields word.now v.items) (AreNoFields word.now) }
+{
+    let Ok(words) = split(alloc, word, b',') else {
+        return Err(ItemError::NoMemory);
+    };
+    match names_of(alloc, &words) {
+        Ok(Some(names)) => Ok(names),
+        Ok(None) => Err(ItemError::Refused(Why::Name)),
+        Err(_) => Err(ItemError::NoMemory),
+    }
+}
+
+/// The declaration of an instance with these fields.
+fn read_named(
+    alloc: Global,
+    graph: &Graph,
+    name: Name,
+    space_word: &[u8],
+    fields: Vec<Name>,
+) -> Result<Decl, ItemError>
+    requires new { is_used graph.now name ≡ false }
+    requires some { fields.items ≡ [] → ⊥ }
+    ensures { IsDeclBy (inst_reason graph.now name space_word.now fields.items) (inst_decl graph.now name space_word.now fields.items) result }
+{
+    match has_repeat(alloc, &fields) {
+        Ok(false) => {}
+        Ok(true) => return Err(ItemError::Refused(Why::Twice)),
+        Err(_) => return Err(ItemError::NoMemory),
+    }
+    if look_up(graph, space_word).is_none() {
+        return Err(ItemError::Refused(Why::Unknown));
+    }
+    let Some(space) = space(graph, space_word) else {
+        return Err(ItemError::Refused(Why::Kind));
+    };
+    // More columns than a graph may have: no need to compare the fields again.
+    if fields.len() > 256 {
+        return Err(ItemError::Refused(Why::Limit));
+    }
+    let fields = NameList { items: fields };
+    fitting_decl(
+        graph,
+        Decl::Inst {
+            name,
+            space,
+            fields,
+        },
+    )
+}
+
+/// The declaration of an instance.
+pub(crate) fn read_inst(
+    alloc: Global,
+    graph: &Graph,
+    name: &[u8],
+    space_word: &[u8],
+    word: &[u8],
+) -> Result<Decl, ItemError>
+    ensures { IsDeclRead graph.now (inst_with graph.now name.now space_word.now word.now) result }
+{
+    let Some(new) = Name::new(name) else {
+        return Err(ItemError::Refused(Why::Name));
+    };
+    if !is_name(space_word) {
+        return Err(ItemError::Refused(Why::Name));
+    }
+    let fields = read_fields(alloc, word)?;
+    if look_up(graph, name).is_some() {
+        return Err(ItemError::Refused(Why::Twice));
+    }
+    read_named(alloc, graph, new, space_word, fields)
+}

@@ -1,0 +1,35 @@
+//! From the text of a graph to the graph, and back.
+#![tactic(auto)]
+
+mod checks;
+mod cuts;
+mod decls;
+mod forms;
+mod intervals;
+mod item;
+mod kind;
+pub mod laws;
+mod lines;
+mod lookup;
+mod merges;
+mod names;
+mod numbers;
+mod place;
+mod reader;
+mod word_kinds;
+mod words;
+mod writer;
+
+use graph_model::verb::Why;
+pub use reader::read_graph;
+pub use writer::put_graph;
+
+/// Why bytes are not read as a graph.
+#[derive(Clone, Copy, Debug, PartialEq, Eq)]
+pub enum ReadRefusal {
+    Line { number: u32, why: Why },
+    NoMemory,
+}
+
+#[cfg(test)]
+mod tests;

@@ -1,0 +1,212 @@
+//! Lines between the first and the closing one.
+
+ghost use Rattle.std.specs.Prelude.{◌≡◌, ℕ, ◌<◌, map, [], false, true, MatchResult, drop, length, find, codes};
+ghost use Rattle.std.specs.List.{list_any};
+ghost use Rattle.std.specs.Str.{bytes_eq};
+ghost use Rattle.graph_reader.specs.Words.{pieces};
+ghost use Rattle.graph_reader.specs.Draft.{op_of, line_draft, decl_draft, space_draft, inst_draft, lock_draft, barrier_draft, merge_draft, is_of_form};
+ghost use Rattle.graph_reader.specs.FirstFault.{is_empty};
+ghost use Rattle.graph_reader.specs.Kinds.{kind_form, kind_draft};
+ghost use Rattle.graph_reader.specs.Merges.{merge_verb};
+ghost use Rattle.graph_reader.specs.Reading.{IsDeclOf, IsLineOf, IsLineRead, IsWordsItem, is_operation};
+
+use crate::decls::{read_barrier, read_inst, read_lock, read_space};
+use crate::forms::read_form;
+use crate::item::{Item, ItemError};
+use crate::kind::Kind;
+use crate::merges::read_merge;
+use crate::words::{behind, kind_of, split, word};
+use graph_model::decl::Decl;
+use graph_model::graph::Graph;
+use graph_model::verb::{Line, Why};
+use index_spaces::Op;
+use std::alloc::Global;
+
+/// The reduction that a word names.
+fn op_of(word: &[u8]) -> Option<Op>
+    ensures { result ≡ op_of word.now }
+{
+    if word == b"sum".as_slice() {
+        Some(Op::Sum)
+    } else if word == b"min".as_slice() {
+        Some(Op::Min)
+    } else if word == b"max".as_slice() {
+        Some(Op::Max)
+    } else {
+        None
+    }
+}
+
+/// The declaration of a space by its words, of which the first says so.
+#[tactic(auto, using(crate::proofs::LineShapes::space_shape, crate::proofs::LineShapes::no_space_shape))]
+fn space_line(alloc: Global, graph: &Graph, words: &[&[u8]]) -> Result<Decl, ItemError>
+    ensures { IsDeclOf graph.now (space_draft graph.now (drop 1 (map (λ w. w.now) words.now))) result }
+{
+    if words.len() != 3 {
+        return Err(ItemError::Refused(Why::Syntax));
+    }
+    read_space(alloc, graph, word(words, 1), word(words, 2))
+}
+
+/// The declaration of an instance by its words, of which the first says so.
+#[tactic(auto, using(crate::proofs::LineShapes::inst_shape, crate::proofs::LineShapes::no_inst_shape))]
+fn inst_line(alloc: Global, graph: &Graph, words: &[&[u8]]) -> Result<Decl, ItemError>
+    ensures { IsDeclOf graph.now (inst_draft graph.now (drop 1 (map (λ w. w.now) words.now))) result }
+{
+    if words.len() != 4 {
+        return Err(ItemError::Refused(Why::Syntax));
+    }
+    read_inst(alloc, graph, word(words, 1), word(words, 2), word(words, 3))
+}
+
+/// The declaration of a reservation by its words, of which the first says so.
+#[tactic(auto, using(crate::proofs::LineShapes::lock_shape, crate::proofs::LineShapes::no_lock_shape))]
+fn lock_line(graph: &Graph, words: &[&[u8]]) -> Result<Decl, ItemError>
+    ensures { IsDeclOf graph.now (lock_draft graph.now (drop 1 (map (λ w. w.now) words.now))) result }
+{
+    if words.len() != 2 {
+        return Err(ItemError::Refused(Why::Syntax));
+    }
+    read_lock(graph, word(words, 1))
+}
+
+/// The declaration of a barrier by its words, of which the first says so.
+#[tactic(auto, using(crate::proofs::LineShapes::barrier_shape, crate::proofs::LineShapes::no_barrier_shape))]
+fn barrier_line(graph: &Graph, words: &[&[u8]]) -> Result<Decl, ItemError>
+    ensures { IsDeclOf graph.now (barrier_draft graph.now (drop 1 (map (λ w. w.now) words.now))) result }
+{
+    if words.len() != 5 {
+        return Err(ItemError::Refused(Why::Syntax));
+    }
+    match op_of(word(words, 3)) {
+        Some(op) => read_barrier(graph, word(words, 1), word(words, 2), op, word(words, 4)),
+        None => Err(ItemError::Refused(Why::Syntax)),
+    }
+}
+
+/// The declaration that words spell.
+fn read_decl(alloc: Global, graph: &Graph, words: &[&[u8]]) -> Result<Decl, ItemError>
+    ensures { IsDeclOf graph.now (decl_draft graph.now (map (λ w. w.now) words.now)) result }
+{
+    let kind = word(words, 0);
+    if kind == b"space".as_slice() {
+        return space_line(alloc, graph, words);
+    }
+    if kind == b"inst".as_slice() {
+        return inst_line(alloc, graph, words);
+    }
+    if kind == b"lock".as_slice() {
+        return lock_line(graph, words);
+    }
+    if kind == b"barrier".as_slice() {
+        return barrier_line(graph, words);
+    }
+    Err(ItemError::Refused(Why::Syntax))
+}
+
+/// The merge that words spell, of which the first says so.
+fn merge_line(
+    alloc: Global,
+    graph: &Graph,
+    ignores: bool,
+    name: &[u8],
+    words: &[&[u8]],
+) -> Result<Line, ItemError>
+    ensures { IsLineOf graph.now (merge_draft graph.now name.now (merge_verb ignores) (drop 1 (map (λ w. w.now) words.now))) result }
+{
+    if words.len() < 2 {
+        return Err(ItemError::Refused(Why::Syntax));
+    }
+    read_merge(alloc, graph, ignores, name, behind(words, 1))
+}
+
+/// The line of a kind that words spell.
+fn kind_line(graph: &Graph, kind: Kind, name: &[u8], words: &[&[u8]]) -> Result<Line, ItemError>
+    requires { is_of_form (map (λ w. w.now) words.now) (kind_form kind) ≡ true }
+    ensures { IsLineRead graph.now (kind_draft graph.now kind name.now (drop (length (kind_form kind).words) (map (λ w. w.now) words.now))) result }
+{
+    match read_form(graph, kind, name, behind(words, kind.words().len())) {
+        Ok(line) => Ok(line),
+        Err(why) => Err(ItemError::Refused(why)),
+    }
+}
+
+/// The operation line with this name that the words behind the sign spell.
+fn read_line(alloc: Global, graph: &Graph, name: &[u8], words: &[&[u8]]) -> Result<Line, ItemError>
+    ensures { IsLineOf graph.now (line_draft graph.now name.now (map (λ w. w.now) words.now)) result }
+{
+    let verb = word(words, 0);
+    if verb == b"merge".as_slice() {
+        return merge_line(alloc, graph, false, name, words);
+    }
+    if verb == b"mergei".as_slice() {
+        return merge_line(alloc, graph, true, name, words);
+    }
+    match kind_of(words) {
+        Some(kind) => kind_line(graph, kind, name, words),
+        None => Err(ItemError::Refused(Why::Syntax)),
+    }
+}
+
+fn any_empty(words: &[&[u8]]) -> bool
+    ensures { result ≡ list_any is_empty (map (λ w. w.now) words.now) }
+{
+    words.iter().any(|word| word.is_empty())
+}
+
+/// Whether the words are those of an operation line.
+fn is_operation(words: &[&[u8]]) -> bool
+    ensures { result ≡ is_operation (map (λ w. w.now) words.now) }
+{
+    words.len() >= 2 && word(words, 1) == b"=".as_slice()
+}
+
+/// The operation line that words spell, of which none is empty.
+fn operation(alloc: Global, graph: &Graph, words: &[&[u8]]) -> Result<Item, ItemError>
+    requires filled { list_any is_empty (map (λ w. w.now) words.now) ≡ false }
+    requires operation { is_operation (map (λ w. w.now) words.now) ≡ true }
+    ensures { IsWordsItem graph.now (map (λ w. w.now) words.now) result }
+{
+    match read_line(alloc, graph, word(words, 0), behind(words, 2)) {
+        Ok(line) => Ok(Item::Line(line)),
+        Err(error) => Err(error),
+    }
+}
+
+/// The declaration that words spell, of which none is empty.
+fn declaration(alloc: Global, graph: &Graph, words: &[&[u8]]) -> Result<Item, ItemError>
+    requires filled { list_any is_empty (map (λ w. w.now) words.now) ≡ false }
+    requires declaration { is_operation (map (λ w. w.now) words.now) ≡ false }
+    ensures { IsWordsItem graph.now (map (λ w. w.now) words.now) result }
+{
+    if graph.lines() > 0 {
+        return Err(ItemError::Refused(Why::Syntax));
+    }
+    match read_decl(alloc, graph, words) {
+        Ok(decl) => Ok(Item::Decl(decl)),
+        Err(error) => Err(error),
+    }
+}
+
+/// The item that words spell.
+fn read_words(alloc: Global, graph: &Graph, words: &[&[u8]]) -> Result<Item, ItemError>
+    ensures { IsWordsItem graph.now (map (λ w. w.now) words.now) result }
+{
+    if any_empty(words) {
+        return Err(ItemError::Refused(Why::Syntax));
+    }
+    if is_operation(words) {
+        return operation(alloc, graph, words);
+    }
+    declaration(alloc, graph, words)
+}
+
+/// The item that a line spells.
+pub(crate) fn read_item(alloc: Global, graph: &Graph, line: &[u8]) -> Result<Item, ItemError>
+    ensures { IsWordsItem graph.now (pieces 32 line.now) result }
+{
+    let Ok(words) = split(alloc, line, b' ') else {
+        return Err(ItemError::NoMemory);
+    };
+    read_words(alloc, graph, &words)
+}

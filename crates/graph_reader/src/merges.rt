@@ -1,0 +1,148 @@
+//! Lines of merges.
+
+ghost use Rattle.std.specs.Prelude.{◌≡◌, map, not, false, true, IfOk};
+ghost use Rattle.std.specs.List.{list_any};
+ghost use Rattle.std.specs.Str.{bytes_eq};
+ghost use Rattle.graph_model.specs.Fits.{repeats, is_used};
+ghost use Rattle.graph_model.specs.Name.{is_name};
+ghost use Rattle.graph_reader.specs.Draft.{line_number, merge_with};
+ghost use Rattle.graph_reader.specs.FirstFault.{is_line_name};
+ghost use Rattle.graph_reader.specs.Merges.{merge_verb, merge_reason, merge_line};
+ghost use Rattle.graph_reader.specs.Reading.{IsLineRead};
+
+use crate::forms::fitting_line;
+use crate::item::ItemError;
+use crate::lookup::{line, look_up};
+use crate::names::{has_repeat, names_of};
+use graph_model::graph::Graph;
+use graph_model::lists::LineList;
+use graph_model::name::Name;
+use graph_model::verb::{Line, Verb, Why};
+use index_spaces::NoMemory;
+use std::alloc::Global;
+
+/// Whether a word names no item.
+fn any_unknown(graph: &Graph, words: &[&[u8]]) -> bool
+    ensures { result ≡ list_any (λ w. not (is_used graph.now w)) (map (λ w. w.now) words.now) }
+{
+    words.iter().any(|word| look_up(graph, word).is_none())
+}
+
+#[tactic(auto, using(crate::proofs::Owners::position_any))]
+fn is_no_line(graph: &Graph, word: &[u8]) -> bool
+    ensures { result ≡ not (is_line_name graph.now word.now) }
+{
+    line(graph, word).is_none()
+}
+
+/// Whether a word names no line.
+fn any_unlike(graph: &Graph, words: &[&[u8]]) -> bool
+    ensures { result ≡ list_any (λ w. not (is_line_name graph.now w)) (map (λ w. w.now) words.now) }
+{
+    words.iter().any(|word| is_no_line(graph, word))
+}
+
+/// The number of the line that a word names.
+fn number_of(graph: &Graph, word: &[u8]) -> u32
+    ensures { result ≡ line_number graph.now word.now }
+{
+    line(graph, word).unwrap_or(0)
+}
+
+/// The numbers of the lines that words name.
+fn numbers_of(alloc: Global, graph: &Graph, words: &[&[u8]]) -> Result<Vec<u32>, NoMemory>
+    ensures { IfOk result (λ v. v.items ≡ map (line_number graph.now) (map (λ w. w.now) words.now)) }
+{
+    match words
+        .iter()
+        .map(|word| number_of(graph, word))
+        .collect(alloc)
+    {
+        Ok(numbers) => Ok(numbers),
+        Err(_) => Err(NoMemory),
+    }
+}
+
+/// The first reason that refuses the words of a merge, whose name is spelled as one.
+#[tactic(auto, unfolding(crate::specs::Merges::merge_reason))]
+fn merge_fault(
+    alloc: Global,
+    graph: &Graph,
+    name: &[u8],
+    words: &[&[u8]],
+) -> Result<Option<Why>, NoMemory>
+    ensures { IfOk result (λ r. r ≡ merge_reason graph.now name.now (map (λ w. w.now) words.now)) }
+{
+    let Ok(found) = names_of(alloc, words) else {
+        return Err(NoMemory);
+    };
+    let Some(names) = found else {
+        return Ok(Some(Why::Name));
+    };
+    let repeated = has_repeat(alloc, &names)?;
+    if repeated || look_up(graph, name).is_some() {
+        return Ok(Some(Why::Twice));
+    }
+    if any_unknown(graph, words) {
+        return Ok(Some(Why::Unknown));
+    }
+    if any_unlike(graph, words) {
+        return Ok(Some(Why::Kind));
+    }
+    Ok(None)
+}
+
+/// The line of a merge, where its words stand for lines.
+fn merged(
+    alloc: Global,
+    graph: &Graph,
+    ignores: bool,
+    name: Name,
+    words: &[&[u8]],
+) -> Result<Line, NoMemory>
+    ensures { IfOk result (λ l. l ≡ merge_line graph.now ignores name (map (λ w. w.now) words.now)) }
+{
+    let numbers = numbers_of(alloc, graph, words)?;
+    // More numbers than a list of lines holds.
+    if numbers.len() > 4294967295 {
+        return Err(NoMemory);
+    }
+    let events = LineList { items: numbers };
+    let verb = if ignores {
+        Verb::MergeIgnore { events }
+    } else {
+        Verb::Merge { events }
+    };
+    Ok(Line {
+        name,
+        verb,
+        on: None,
+    })
+}
+
+/// The line of a merge with this name and these words.
+pub(crate) fn read_merge(
+    alloc: Global,
+    graph: &Graph,
+    ignores: bool,
+    name: &[u8],
+    words: &[&[u8]],
+) -> Result<Line, ItemError>
+    ensures { IsLineRead graph.now (merge_with graph.now name.now (merge_verb ignores) (map (λ w. w.now) words.now)) result }
+{
+    let Some(new) = Name::new(name) else {
+        return Err(ItemError::Refused(Why::Name));
+    };
+    match merge_fault(alloc, graph, name, words) {
+        Ok(None) => {}
+        Ok(Some(why)) => return Err(ItemError::Refused(why)),
+        Err(_) => return Err(ItemError::NoMemory),
+    }
+    let Ok(line) = merged(alloc, graph, ignores, new, words) else {
+        return Err(ItemError::NoMemory);
+    };
+    match fitting_line(graph, line) {
+        Ok(line) => Ok(line),
+        Err(why) => Err(ItemError::Refused(why)),
+    }
+}

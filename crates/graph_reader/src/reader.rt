@@ -1,0 +1,80 @@
+//! Reading a graph from its text.
+
+ghost use Rattle.std.specs.Prelude.{◌≡◌, OnOk, OnErr, IfOk, IfErr};
+ghost use Rattle.graph_reader.specs.Text.{GraphText};
+ghost use Rattle.graph_reader.specs.Reading.{item_value, with_value, FitsAfter, IsRefusal};
+
+use crate::ReadRefusal;
+use crate::cuts::cut;
+use crate::item::{Item, ItemError};
+use crate::lines::read_item;
+use graph_model::graph::Graph;
+use graph_model::verb::Why;
+use index_spaces::NoMemory;
+use std::alloc::Global;
+
+/// The bytes that a text may have.
+const MAX_BYTES: usize = 1_048_576;
+
+/// Puts an item that fits at the end.
+fn add_item(graph: &mut Graph, item: Item) -> Result<(), NoMemory>
+    requires { FitsAfter graph.old (item_value item) }
+    ensures { OnOk result (graph.new ≡ with_value graph.old (item_value item)) }
+{
+    match item {
+        Item::Decl(decl) => graph.add_decl(decl),
+        Item::Line(line) => graph.add_line(line),
+    }
+}
+
+/// The graph whose text the bytes are. `Line` exactly where they are no graph's text: the first
+/// refused line, counted from 1, and the first reason that refuses it. `NoMemory` where memory
+/// ran out.
+pub fn read_graph(alloc: Global, bytes: &[u8]) -> Result<Graph, ReadRefusal>
+    ensures text { IfOk result (λ g. GraphText bytes.now g) }
+    ensures refusal { IfErr result (λ e. IsRefusal bytes.now e) }
+{
+    let Some(mut rest) = bytes.strip_prefix(b"realm 1\n".as_slice()) else {
+        return Err(ReadRefusal::Line {
+            number: 1,
+            why: Why::Header,
+        });
+    };
+    let mut graph = Graph::new(alloc);
+    let mut number: u32 = 2;
+    while let Some((line, after)) = cut(rest, b'\n') {
+        if line == b"end".as_slice() {
+            if bytes.len() - after.len() > MAX_BYTES {
+                return Err(ReadRefusal::Line {
+                    number,
+                    why: Why::Limit,
+                });
+            }
+            if !after.is_empty() {
+                return Err(ReadRefusal::Line {
+                    number: number + 1,
+                    why: Why::Rest,
+                });
+            }
+            return Ok(graph);
+        }
+        match read_item(alloc, &graph, line) {
+            Ok(item) => match add_item(&mut graph, item) {
+                Ok(()) => {}
+                Err(_) => return Err(ReadRefusal::NoMemory),
+            },
+            Err(ItemError::Refused(why)) => {
+                return Err(ReadRefusal::Line { number, why });
+            }
+            Err(ItemError::NoMemory) => {
+                return Err(ReadRefusal::NoMemory);
+            }
+        }
+        rest = after;
+        number += 1;
+    }
+    Err(ReadRefusal::Line {
+        number,
+        why: Why::Missing,
+    })
+}

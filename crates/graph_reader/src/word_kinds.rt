@@ -1,0 +1,155 @@
+//! Words of a text that is written.
+
+ghost use Rattle.std.specs.Prelude.{◌≡◌, ◌++◌, ◌∷◌, decimal, flat_map, [], OnOk, OnErr};
+ghost use Rattle.graph_model.specs.Spelling.{interval_word, space_name, column_name, lock_name, barrier_name, line_name, op_word};
+ghost use Rattle.graph_reader.specs.Written.{sink_state, Writes};
+ghost use Rattle.graph_reader.specs.WrittenWords.{word_text};
+
+use graph_model::graph::Graph;
+use graph_model::name::Name;
+use index_spaces::Op;
+use realm_io::{Sink, WriteFault, put, put_number};
+
+/// A word of a line.
+#[derive(Clone, Copy)]
+pub(crate) enum Word {
+    Fixed(&'static [u8]),
+    Name(Name),
+    Column(Name, Name),
+    Number(u64),
+    Interval(u32, u32),
+}
+
+/// Writes bytes.
+pub(crate) fn put_bytes<K: Sink>(sink: &mut K, bytes: &[u8]) -> Result<(), WriteFault>
+    ensures { Writes (sink_state K.taken K.flushed K.faults sink.old) (sink_state K.taken K.flushed K.faults sink.new) result bytes.now }
+{
+    put(sink, bytes)
+}
+
+/// Writes a number.
+fn put_decimal<K: Sink>(sink: &mut K, n: u64) -> Result<(), WriteFault>
+    ensures { Writes (sink_state K.taken K.flushed K.faults sink.old) (sink_state K.taken K.flushed K.faults sink.new) result (decimal n) }
+{
+    put_number(sink, n)
+}
+
+/// Writes the name of a column.
+fn put_column_name<K: Sink>(sink: &mut K, inst: &Name, field: &Name) -> Result<(), WriteFault>
+    ensures { Writes (sink_state K.taken K.flushed K.faults sink.old) (sink_state K.taken K.flushed K.faults sink.new) result (inst.now ++ 46 ∷ field.now) }
+{
+    put_bytes(sink, inst.bytes())?;
+    put_bytes(sink, b".")?;
+    put_bytes(sink, field.bytes())
+}
+
+/// Writes an interval.
+fn put_interval<K: Sink>(sink: &mut K, low: u32, high: u32) -> Result<(), WriteFault>
+    ensures { Writes (sink_state K.taken K.flushed K.faults sink.old) (sink_state K.taken K.flushed K.faults sink.new) result (interval_word (low, high)) }
+{
+    put_decimal(sink, u64::from(low))?;
+    put_bytes(sink, b"..")?;
+    put_decimal(sink, u64::from(high))
+}
+
+/// Writes a word.
+fn put_word<K: Sink>(sink: &mut K, word: &Word) -> Result<(), WriteFault>
+    ensures { Writes (sink_state K.taken K.flushed K.faults sink.old) (sink_state K.taken K.flushed K.faults sink.new) result (word_text word.now) }
+{
+    match word {
+        Word::Fixed(bytes) => put_bytes(sink, bytes),
+        Word::Name(name) => put_bytes(sink, name.bytes()),
+        Word::Column(inst, field) => put_column_name(sink, inst, field),
+        Word::Number(n) => put_decimal(sink, *n),
+        Word::Interval(low, high) => put_interval(sink, *low, *high),
+    }
+}
+
+/// Writes a word behind a separator.
+pub(crate) fn put_behind<K: Sink>(
+    sink: &mut K,
+    separator: &[u8],
+    word: &Word,
+) -> Result<(), WriteFault>
+    ensures { Writes (sink_state K.taken K.flushed K.faults sink.old) (sink_state K.taken K.flushed K.faults sink.new) result (separator.now ++ word_text word.now) }
+{
+    put_bytes(sink, separator)?;
+    put_word(sink, word)
+}
+
+/// Writes words, each behind a space.
+pub(crate) fn put_spaced<K: Sink>(sink: &mut K, words: &[Word]) -> Result<(), WriteFault>
+    ensures { Writes (sink_state K.taken K.flushed K.faults sink.old) (sink_state K.taken K.flushed K.faults sink.new) result (flat_map (λ w. 32 ∷ word_text w) words.now) }
+{
+    for word in words {
+        put_behind(sink, b" ", word)?;
+    }
+    Ok(())
+}
+
+/// The name of a space, or no byte where there is none of this number.
+pub(crate) fn space_word(graph: &Graph, s: u32) -> Word
+    ensures { word_text result ≡ space_name graph.now s }
+{
+    if s < graph.spaces() {
+        Word::Name(graph.space_name(s))
+    } else {
+        Word::Fixed(b"")
+    }
+}
+
+/// The name of a column, or no byte where there is none of this number.
+pub(crate) fn column_word(graph: &Graph, c: u32) -> Word
+    ensures { word_text result ≡ column_name graph.now c }
+{
+    if c < graph.columns() {
+        let (inst, field) = graph.column_name(c);
+        Word::Column(inst, field)
+    } else {
+        Word::Fixed(b"")
+    }
+}
+
+/// The name of a reservation, or no byte where there is none of this number.
+pub(crate) fn lock_word(graph: &Graph, l: u32) -> Word
+    ensures { word_text result ≡ lock_name graph.now l }
+{
+    if l < graph.locks() {
+        Word::Name(graph.lock_name(l))
+    } else {
+        Word::Fixed(b"")
+    }
+}
+
+/// The name of a barrier, or no byte where there is none of this number.
+pub(crate) fn barrier_word(graph: &Graph, b: u32) -> Word
+    ensures { word_text result ≡ barrier_name graph.now b }
+{
+    if b < graph.barriers() {
+        Word::Name(graph.barrier(b).name)
+    } else {
+        Word::Fixed(b"")
+    }
+}
+
+/// The name of a line, or no byte where there is none of this number.
+pub(crate) fn line_word(graph: &Graph, i: u32) -> Word
+    ensures { word_text result ≡ line_name graph.now i }
+{
+    if i < graph.lines() {
+        Word::Name(graph.line(i).name)
+    } else {
+        Word::Fixed(b"")
+    }
+}
+
+/// The word of a reduction.
+pub(crate) fn op_word(op: Op) -> Word
+    ensures { word_text result ≡ op_word op }
+{
+    match op {
+        Op::Sum => Word::Fixed(b"sum"),
+        Op::Min => Word::Fixed(b"min"),
+        Op::Max => Word::Fixed(b"max"),
+    }
+}

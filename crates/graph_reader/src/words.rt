@@ -1,0 +1,98 @@
+//! Words of a line.
+
+ghost use Rattle.std.specs.Prelude.{◌≡◌, ◌≤◌, length, drop, map, ◌==◌, find, IfOk, IfSome, MatchOption, [], slice_index_or, option_map, option_copied};
+ghost use Rattle.graph_reader.specs.Words.{pieces};
+ghost use Rattle.graph_reader.specs.Kinds.{kind_form};
+ghost use Rattle.graph_reader.specs.Draft.{is_of_form, same_word, has_on};
+ghost use Rattle.std.specs.List.{list_any, starts_with};
+
+use crate::kind::Kind;
+use index_spaces::NoMemory;
+use std::alloc::Global;
+
+/// The pieces of bytes between the separators.
+pub(crate) fn split(alloc: Global, bytes: &[u8], separator: u8) -> Result<Vec<&[u8]>, NoMemory>
+    ensures { IfOk result (λ v. map (λ w. w.now) v.items ≡ pieces separator bytes.now) }
+{
+    match bytes.split(|b| *b == separator).collect(alloc) {
+        Ok(words) => Ok(words),
+        Err(_) => Err(NoMemory),
+    }
+}
+
+/// The word at a place, or no byte where there is none.
+pub(crate) fn word<'a>(words: &[&'a [u8]], i: usize) -> &'a [u8]
+    ensures { result.now ≡ slice_index_or (map (λ w. w.now) words.now) i [] }
+{
+    match words.get(i) {
+        Some(word) => word,
+        None => b"",
+    }
+}
+
+/// The words behind the first `n`.
+pub(crate) fn behind<'a, 'b>(words: &'b [&'a [u8]], n: usize) -> &'b [&'a [u8]]
+    requires { n ≤ length words.now }
+    ensures { map (λ w. w.now) result.now ≡ drop n (map (λ w. w.now) words.now) }
+{
+    &words[n..]
+}
+
+/// Whether the words begin with the fixed ones.
+fn begins(words: &[&[u8]], fixed: &[&[u8]]) -> bool
+    ensures { result ≡ starts_with same_word (map (λ w. w.now) words.now) (map (λ w. w.now) fixed.now) }
+{
+    if words.len() < fixed.len() {
+        return false;
+    }
+    words.iter().zip(fixed).all(|(word, fixed)| fixed == word)
+}
+
+/// The kinds, in the order in which they are tried.
+const KINDS: [Kind; 20] = [
+    Kind::User,
+    Kind::Trigger,
+    Kind::Cancel,
+    Kind::Phase,
+    Kind::Arrive,
+    Kind::Acquire,
+    Kind::Release,
+    Kind::Fill,
+    Kind::Copy,
+    Kind::ReduceSum,
+    Kind::ReduceMin,
+    Kind::ReduceMax,
+    Kind::Iota,
+    Kind::Axpy,
+    Kind::Stencil,
+    Kind::Scan,
+    Kind::Hist,
+    Kind::Dot,
+    Kind::Expect,
+    Kind::Gather,
+];
+
+/// Whether `on` and a word follow the words of a kind.
+pub(crate) fn has_on(kind: Kind, rest: &[&[u8]]) -> bool
+    ensures { result ≡ has_on (kind_form kind) (map (λ w. w.now) rest.now) }
+{
+    let places = kind.places().len();
+    kind.takes_on() && rest.len() == places + 2 && word(rest, places) == b"on".as_slice()
+}
+
+/// Whether the words behind the sign have the form of a kind.
+fn is_of_kind(words: &[&[u8]], kind: Kind) -> bool
+    ensures { result ≡ is_of_form (map (λ w. w.now) words.now) (kind_form kind) }
+{
+    let fixed = kind.words();
+    let places = kind.places().len();
+    begins(words, fixed)
+        && (words.len() == fixed.len() + places || has_on(kind, &words[fixed.len()..]))
+}
+
+/// The kind of the words behind the sign.
+pub(crate) fn kind_of(words: &[&[u8]]) -> Option<Kind>
+    ensures { result ≡ find (λ k. is_of_form (map (λ w. w.now) words.now) (kind_form k)) KINDS }
+{
+    KINDS.iter().copied().find(|kind| is_of_kind(words, *kind))
+}

@@ -1,0 +1,386 @@
+//! Writing the text of a graph.
+
+ghost use Rattle.std.specs.Prelude.{◌≡◌, ◌≤◌, [], ◌∷◌, ◌++◌, flat_map, map, length, codes, OnOk, OnErr};
+ghost use Rattle.realm_io.specs.Counts.{Rose};
+ghost use Rattle.realm_io.specs.Told.{with_more, TookPrefix};
+ghost use Rattle.graph_model.specs.Spelling.{spelled, space_name, interval_word, kernel_words, verb_words, on_words, line_words, decl_words, line_name};
+ghost use Rattle.graph_reader.specs.Text.{text};
+ghost use Rattle.graph_reader.specs.Written.{sink_state, Writes};
+ghost use Rattle.graph_reader.specs.WrittenWords.{word_text, spaced, comma_before, comma_from};
+
+use crate::word_kinds::{
+    Word, barrier_word, column_word, line_word, lock_word, op_word, put_behind, put_bytes,
+    put_spaced, space_word,
+};
+use graph_model::decl::Decl;
+use graph_model::graph::Graph;
+use graph_model::lists::{LineList, NameList};
+use graph_model::name::Name;
+use graph_model::verb::{Kernel, Line, Verb};
+use index_spaces::space::Space;
+use realm_io::{Sink, WriteFault};
+
+/// Writes the words of a kernel, each behind a space.
+fn put_kernel<K: Sink>(sink: &mut K, graph: &Graph, kernel: &Kernel) -> Result<(), WriteFault>
+    ensures { Writes (sink_state K.taken K.flushed K.faults sink.old) (sink_state K.taken K.flushed K.faults sink.new) result (spaced (kernel_words graph.now kernel.now)) }
+{
+    match *kernel {
+        Kernel::Iota { x, s, value } => put_spaced(
+            sink,
+            &[
+                Word::Fixed(b"iota"),
+                column_word(graph, x),
+                space_word(graph, s),
+                Word::Number(value),
+            ],
+        ),
+        Kernel::Axpy { x, y, s, factor } => put_spaced(
+            sink,
+            &[
+                Word::Fixed(b"axpy"),
+                column_word(graph, x),
+                column_word(graph, y),
+                space_word(graph, s),
+                Word::Number(factor),
+            ],
+        ),
+        Kernel::Stencil { x, y, r, s } => put_spaced(
+            sink,
+            &[
+                Word::Fixed(b"stencil"),
+                column_word(graph, x),
+                column_word(graph, y),
+                space_word(graph, r),
+                space_word(graph, s),
+            ],
+        ),
+        Kernel::Scan { x, y, s } => put_spaced(
+            sink,
+            &[
+                Word::Fixed(b"scan"),
+                column_word(graph, x),
+                column_word(graph, y),
+                space_word(graph, s),
+            ],
+        ),
+        Kernel::Hist { x, y, s, t } => put_spaced(
+            sink,
+            &[
+                Word::Fixed(b"hist"),
+                column_word(graph, x),
+                column_word(graph, y),
+                space_word(graph, s),
+                space_word(graph, t),
+            ],
+        ),
+        Kernel::Dot { x, y, z, s, t } => put_spaced(
+            sink,
+            &[
+                Word::Fixed(b"dot"),
+                column_word(graph, x),
+                column_word(graph, y),
+                column_word(graph, z),
+                space_word(graph, s),
+                space_word(graph, t),
+            ],
+        ),
+        Kernel::Expect { x, s, low, high } => put_spaced(
+            sink,
+            &[
+                Word::Fixed(b"expect"),
+                column_word(graph, x),
+                space_word(graph, s),
+                Word::Number(low),
+                Word::Number(high),
+            ],
+        ),
+        Kernel::Gather { x, y, z, s, t } => put_spaced(
+            sink,
+            &[
+                Word::Fixed(b"gather"),
+                column_word(graph, x),
+                column_word(graph, y),
+                column_word(graph, z),
+                space_word(graph, s),
+                space_word(graph, t),
+            ],
+        ),
+    }
+}
+
+/// Writes the names of lines, each behind a space.
+fn put_events<K: Sink>(sink: &mut K, graph: &Graph, events: &LineList) -> Result<(), WriteFault>
+    ensures { Writes (sink_state K.taken K.flushed K.faults sink.old) (sink_state K.taken K.flushed K.faults sink.new) result (flat_map (λ n. 32 ∷ line_name graph.now n) events.now) }
+{
+    for i in 0..events.len() {
+        put_behind(sink, b" ", &line_word(graph, events.at(i)))?;
+    }
+    Ok(())
+}
+
+/// Writes the words of a merge, each behind a space.
+fn put_merge<K: Sink>(
+    sink: &mut K,
+    graph: &Graph,
+    verb: &'static [u8],
+    events: &LineList,
+) -> Result<(), WriteFault>
+    ensures { Writes (sink_state K.taken K.flushed K.faults sink.old) (sink_state K.taken K.flushed K.faults sink.new) result (spaced (verb.now ∷ map (line_name graph.now) events.now)) }
+{
+    put_behind(sink, b" ", &Word::Fixed(verb))?;
+    put_events(sink, graph, events)
+}
+
+/// Writes the words of a task, each behind a space.
+fn put_task<K: Sink>(sink: &mut K, graph: &Graph, kernel: &Kernel) -> Result<(), WriteFault>
+    ensures { Writes (sink_state K.taken K.flushed K.faults sink.old) (sink_state K.taken K.flushed K.faults sink.new) result (spaced (verb_words graph.now (Verb.Task kernel.now))) }
+{
+    put_bytes(sink, b" task")?;
+    put_kernel(sink, graph, kernel)
+}
+
+/// Writes the words of a verb, each behind a space.
+fn put_verb<K: Sink>(sink: &mut K, graph: &Graph, verb: &Verb) -> Result<(), WriteFault>
+    ensures { Writes (sink_state K.taken K.flushed K.faults sink.old) (sink_state K.taken K.flushed K.faults sink.new) result (spaced (verb_words graph.now verb.now)) }
+{
+    match verb {
+        Verb::User => put_spaced(sink, &[Word::Fixed(b"user")]),
+        Verb::Trigger { user } => {
+            put_spaced(sink, &[Word::Fixed(b"trigger"), line_word(graph, *user)])
+        }
+        Verb::Cancel { user } => {
+            put_spaced(sink, &[Word::Fixed(b"cancel"), line_word(graph, *user)])
+        }
+        Verb::Merge { events } => put_merge(sink, graph, b"merge", events),
+        Verb::MergeIgnore { events } => put_merge(sink, graph, b"mergei", events),
+        Verb::Phase { barrier } => {
+            put_spaced(
+                sink,
+                &[Word::Fixed(b"phase"), barrier_word(graph, *barrier)],
+            )
+        }
+        Verb::Arrive { phase, value } => put_spaced(
+            sink,
+            &[
+                Word::Fixed(b"arrive"),
+                line_word(graph, *phase),
+                Word::Number(*value),
+            ],
+        ),
+        Verb::Acquire { lock } => {
+            put_spaced(sink, &[Word::Fixed(b"acquire"), lock_word(graph, *lock)])
+        }
+        Verb::Release { acquire } => {
+            put_spaced(sink, &[Word::Fixed(b"release"), line_word(graph, *acquire)])
+        }
+        Verb::Fill {
+            target,
+            space,
+            value,
+        } => put_spaced(
+            sink,
+            &[
+                Word::Fixed(b"fill"),
+                column_word(graph, *target),
+                space_word(graph, *space),
+                Word::Number(*value),
+            ],
+        ),
+        Verb::Copy {
+            source,
+            target,
+            space,
+        } => put_spaced(
+            sink,
+            &[
+                Word::Fixed(b"copy"),
+                column_word(graph, *source),
+                column_word(graph, *target),
+                space_word(graph, *space),
+            ],
+        ),
+        Verb::Reduce {
+            op,
+            source,
+            target,
+            space,
+        } => put_spaced(
+            sink,
+            &[
+                Word::Fixed(b"reduce"),
+                op_word(*op),
+                column_word(graph, *source),
+                column_word(graph, *target),
+                space_word(graph, *space),
+            ],
+        ),
+        Verb::Task { kernel } => put_task(sink, graph, kernel),
+    }
+}
+
+/// Writes the words of a precondition, each behind a space, or nothing.
+fn put_on<K: Sink>(sink: &mut K, graph: &Graph, on: Option<u32>) -> Result<(), WriteFault>
+    ensures { Writes (sink_state K.taken K.flushed K.faults sink.old) (sink_state K.taken K.flushed K.faults sink.new) result (spaced (on_words graph.now on)) }
+{
+    match on {
+        Some(event) => put_spaced(sink, &[Word::Fixed(b"on"), line_word(graph, event)]),
+        None => put_bytes(sink, b""),
+    }
+}
+
+/// Writes an operation line.
+fn put_line<K: Sink>(sink: &mut K, graph: &Graph, line: &Line) -> Result<(), WriteFault>
+    ensures { Writes (sink_state K.taken K.flushed K.faults sink.old) (sink_state K.taken K.flushed K.faults sink.new) result (spelled (line_words graph.now line.now)) }
+{
+    put_bytes(sink, line.name.bytes())?;
+    put_bytes(sink, b" =")?;
+    put_verb(sink, graph, &line.verb)?;
+    put_on(sink, graph, line.on)?;
+    put_bytes(sink, b"\n")
+}
+
+/// What stands before the item of this number in a list with commas.
+fn comma(i: usize) -> &'static [u8]
+    ensures { result.now ≡ comma_before i }
+{
+    if i == 0 { b"" } else { b"," }
+}
+
+/// Writes intervals with a comma between each two.
+fn put_intervals<K: Sink>(sink: &mut K, intervals: &[(u32, u32)]) -> Result<(), WriteFault>
+    ensures { Writes (sink_state K.taken K.flushed K.faults sink.old) (sink_state K.taken K.flushed K.faults sink.new) result (comma_from interval_word 0 intervals.now) }
+{
+    for i in 0..intervals.len() {
+        let interval = Word::Interval(intervals[i].0, intervals[i].1);
+        put_behind(sink, comma(i), &interval)?;
+    }
+    Ok(())
+}
+
+/// Writes names with a comma between each two.
+fn put_fields<K: Sink>(sink: &mut K, fields: &NameList) -> Result<(), WriteFault>
+    ensures { Writes (sink_state K.taken K.flushed K.faults sink.old) (sink_state K.taken K.flushed K.faults sink.new) result (comma_from (λ w. w) 0 fields.now) }
+{
+    for i in 0..fields.len() {
+        let field = Word::Name(fields.at(i));
+        put_behind(sink, comma(i as usize), &field)?;
+    }
+    Ok(())
+}
+
+/// Writes a word, words behind a space each, and what comes last.
+fn put_plain<K: Sink>(
+    sink: &mut K,
+    first: &'static [u8],
+    words: &[Word],
+    last: &'static [u8],
+) -> Result<(), WriteFault>
+    ensures { Writes (sink_state K.taken K.flushed K.faults sink.old) (sink_state K.taken K.flushed K.faults sink.new) result (first.now ++ (flat_map (λ w. 32 ∷ word_text w) words.now ++ last.now)) }
+{
+    put_bytes(sink, first)?;
+    put_spaced(sink, words)?;
+    put_bytes(sink, last)
+}
+
+/// Writes the line of a space.
+fn put_space<K: Sink>(sink: &mut K, name: &Name, space: &Space) -> Result<(), WriteFault>
+    ensures { Writes (sink_state K.taken K.flushed K.faults sink.old) (sink_state K.taken K.flushed K.faults sink.new) result (codes "space " ++ (name.now ++ (32 ∷ (comma_from interval_word 0 space.now ++ 10 ∷ [])))) }
+{
+    put_plain(sink, b"space", &[Word::Name(*name)], b" ")?;
+    put_intervals(sink, space.intervals())?;
+    put_bytes(sink, b"\n")
+}
+
+/// Writes the line of an instance.
+fn put_inst<K: Sink>(
+    sink: &mut K,
+    graph: &Graph,
+    name: &Name,
+    space: u32,
+    fields: &NameList,
+) -> Result<(), WriteFault>
+    ensures { Writes (sink_state K.taken K.flushed K.faults sink.old) (sink_state K.taken K.flushed K.faults sink.new) result (codes "inst " ++ (name.now ++ (32 ∷ (space_name graph.now space ++ (32 ∷ (comma_from (λ w. w) 0 fields.now ++ 10 ∷ [])))))) }
+{
+    put_plain(
+        sink,
+        b"inst",
+        &[Word::Name(*name), space_word(graph, space)],
+        b" ",
+    )?;
+    put_fields(sink, fields)?;
+    put_bytes(sink, b"\n")
+}
+
+/// Writes the line of a declaration.
+fn put_decl<K: Sink>(sink: &mut K, graph: &Graph, decl: &Decl) -> Result<(), WriteFault>
+    ensures { Writes (sink_state K.taken K.flushed K.faults sink.old) (sink_state K.taken K.flushed K.faults sink.new) result (spelled (decl_words graph.now decl.now)) }
+{
+    match decl {
+        Decl::Space { name, space } => put_space(sink, name, space),
+        Decl::Inst {
+            name,
+            space,
+            fields,
+        } => put_inst(sink, graph, name, *space, fields),
+        Decl::Lock { name } => put_plain(sink, b"lock", &[Word::Name(*name)], b"\n"),
+        Decl::Barrier {
+            name,
+            count,
+            op,
+            first,
+        } => put_plain(
+            sink,
+            b"barrier",
+            &[
+                Word::Name(*name),
+                Word::Number(u64::from(*count)),
+                op_word(*op),
+                Word::Number(*first),
+            ],
+            b"\n",
+        ),
+    }
+}
+
+/// Writes the lines of the declarations.
+fn put_decls<K: Sink>(sink: &mut K, graph: &Graph) -> Result<(), WriteFault>
+    ensures { Writes (sink_state K.taken K.flushed K.faults sink.old) (sink_state K.taken K.flushed K.faults sink.new) result (flat_map (λ d. spelled (decl_words graph.now d)) graph.now.decls) }
+{
+    for d in 0..graph.decls() {
+        put_decl(sink, graph, graph.decl(d))?;
+    }
+    Ok(())
+}
+
+/// Writes the operation lines.
+fn put_lines<K: Sink>(sink: &mut K, graph: &Graph) -> Result<(), WriteFault>
+    ensures { Writes (sink_state K.taken K.flushed K.faults sink.old) (sink_state K.taken K.flushed K.faults sink.new) result (flat_map (λ l. spelled (line_words graph.now l)) graph.now.lines) }
+{
+    for i in 0..graph.lines() {
+        put_line(sink, graph, graph.line(i))?;
+    }
+    Ok(())
+}
+
+/// Writes the parts of the text.
+fn put_parts<K: Sink>(sink: &mut K, graph: &Graph) -> Result<(), WriteFault>
+    ensures { Writes (sink_state K.taken K.flushed K.faults sink.old) (sink_state K.taken K.flushed K.faults sink.new) result (text graph.now) }
+{
+    let _ = graph.decls();
+    put_bytes(sink, b"realm 1\n")?;
+    put_decls(sink, graph)?;
+    put_lines(sink, graph)?;
+    put_bytes(sink, b"end\n")
+}
+
+/// Writes the one text of a graph. After a fault the sink has taken a prefix of it. It takes no
+/// memory.
+pub fn put_graph<K: Sink>(sink: &mut K, graph: &Graph) -> Result<(), WriteFault>
+    ensures ok { OnOk result (K.taken sink.new ≡ with_more (K.taken sink.old) (text graph.now)) }
+    ensures fault { OnErr result (Rose (K.faults sink.old) (K.faults sink.new)) }
+    ensures took { OnErr result (TookPrefix (K.taken sink.old) (K.taken sink.new) (text graph.now)) }
+    ensures flushed { K.flushed sink.new ≡ K.flushed sink.old }
+    ensures count { K.faults sink.old ≤ K.faults sink.new }
+{
+    put_parts(sink, graph)
+}

@@ -1,0 +1,109 @@
+//! The columns of a graph, each at home or moved out for an operation.
+#![tactic(auto)]
+
+ghost use Rattle.std.specs.Prelude.{◌≡◌, ◌<◌, ◌≤◌, ◌++◌, [], ◌∷◌, vec_len, IfOk};
+ghost use Rattle.std.specs.Vec.{vec_capacity};
+
+use graph_model::graph::Graph;
+use graph_model::lists::ColumnList;
+use index_spaces::NoMemory;
+use index_spaces::column::Column;
+use std::alloc::Global;
+use std::marker::Model;
+
+/// The columns of a graph by their numbers, each at home or out.
+#[derive(Drop)]
+pub struct Homes {
+    places: Vec<Option<Column>>,
+    /// Room for the list that the columns end in.
+    room: Vec<Column>,
+}
+
+impl Model for Homes {
+    ghost use Rattle.std.specs.Prelude.{◌≡◌, ◌<◌, ◌≤◌, ◌^◌, List, [], Option, length, vec_len};
+    ghost use Rattle.std.specs.Vec.{vec_capacity};
+    ghost use Rattle.index_spaces.specs.Column.{ColumnValue};
+
+    ghost Value = { List (Option ColumnValue) };
+
+    ghost view = { λ a. a.places.items };
+
+    ghost invariant = { λ a. (a.room.items ≡ []) × (length a.places.items ≤ vec_capacity a.room) × (length a.places.items < 2 ^ 32) };
+}
+
+impl Homes {
+    ghost use Rattle.std.specs.Prelude.{◌≡◌, ◌<◌, length, map, Some, None, slice_get, slice_index_or, slice_set, All, IsSome, IfOk};
+    ghost use Rattle.graph_model.specs.Effect.{zero_cells};
+    ghost use Rattle.instances.specs.Homes.{all_home};
+
+    /// The columns of a graph, all at home, each cell 0.
+    pub fn zeroed(alloc: Global, graph: &Graph) -> Result<Homes, NoMemory>
+        ensures { IfOk result (λ homes. homes ≡ all_home graph.now zero_cells) }
+    {
+        let count = graph.columns();
+        let room = with_room(alloc, count as usize)?;
+        let mut places = with_room(alloc, count as usize)?;
+        for c in 0..count {
+            let column = Column::zeroed(alloc, graph.column_space(c))?;
+            push_within(&mut places, Some(column));
+        }
+        Ok(Homes { places, room })
+    }
+
+    /// Moves a column out. None exactly where it is out.
+    pub fn take(&mut self, c: u32) -> Option<Column>
+        requires { c < length self.old }
+        ensures column { result ≡ slice_index_or self.old c None }
+        ensures homes { self.new ≡ slice_set self.old c None }
+    {
+        self.places[c as usize].take()
+    }
+
+    /// Puts a column at home that is out.
+    pub fn give(&mut self, c: u32, column: Column)
+        requires { slice_get self.old c ≡ Some None }
+        ensures { self.new ≡ slice_set self.old c (Some column) }
+    {
+        self.places[c as usize] = Some(column);
+    }
+
+    /// The columns, which are all at home, by their numbers. It takes no memory.
+    pub fn into_columns(self) -> ColumnList
+        requires { All (λ place. IsSome place) self }
+        ensures { self ≡ map (λ column. Some column) result }
+    {
+        let Homes { places, mut room } = self;
+        for place in places {
+            if let Some(column) = place {
+                push_within(&mut room, column);
+            }
+        }
+        ColumnList { items: room }
+    }
+}
+
+/// A vector without items, and with room for so many.
+fn with_room<T: Drop>(alloc: Global, count: usize) -> Result<Vec<T>, NoMemory>
+    ensures items { IfOk result (λ v. v.items ≡ []) }
+    ensures room { IfOk result (λ v. vec_capacity v ≡ count) }
+{
+    match Vec::with_capacity(alloc, count) {
+        Ok(items) => Ok(items),
+        Err(_) => Err(NoMemory),
+    }
+}
+
+/// Puts an item at the end of a vector that has room for it.
+fn push_within<T: Drop>(items: &mut Vec<T>, item: T)
+    requires { vec_len items.old < vec_capacity items.old }
+    ensures items { items.new.items ≡ items.old.items ++ item ∷ [] }
+    ensures capacity { vec_capacity items.old ≤ vec_capacity items.new }
+{
+    match items.push(item) {
+        Ok(()) => {}
+        Err(_) => unreachable!(),
+    }
+}
+
+#[cfg(test)]
+mod tests;

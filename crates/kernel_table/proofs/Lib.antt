@@ -1,0 +1,5 @@
+pub mod Runs
+pub mod Windows
+pub mod Sums
+pub mod Counts
+pub mod Fitting

@@ -1,0 +1,89 @@
+//! Gather: cells picked by the numbers in another column.
+
+ghost use Rattle.std.specs.Prelude.{ℕ, ◌≡◌, ◌≢◌, ◌<◌, ◌%◌, [], ◌∷◌, length, slice_index};
+ghost use Rattle.index_spaces.specs.Space.{IsWithin, point_at, space_size};
+ghost use Rattle.index_spaces.specs.Column.{cell_of};
+ghost use Rattle.index_spaces.specs.Run.{WritesPoints};
+ghost use Rattle.graph_model.specs.declared.verb.Kernel.TheVariants.{Gather};
+ghost use Rattle.graph_model.specs.HeldCells.{HoldsOver};
+ghost use Rattle.kernel_table.specs.Kernels.{MakesKernel};
+
+use graph_model::held_cells::{cells_by_point, changes_by_point};
+use index_spaces::column::Column;
+use index_spaces::held::Held;
+use index_spaces::laws::{rank_of_point, runs_are_written, runs_of_spaces, spaces_are_written};
+use index_spaces::space::Space;
+
+/// Sets each cell of `z` to the cell of `y` at the point whose rank in `picks` is the cell of `x`,
+/// modulo the number of points there.
+pub(crate) fn run_gather(held: &mut Held, x: u32, y: u32, z: u32, space: &Space, picks: &Space)
+    requires numbers { HoldsOver held.old x space.now }
+    requires source { HoldsOver held.old y picks.now }
+    requires target { HoldsOver held.old z space.now }
+    requires first { x ≢ z }
+    requires second { y ≢ z }
+    ensures { MakesKernel held.old held.new (space.now ∷ picks.now ∷ []) (Gather x y z 0 1) }
+{
+    cells_by_point();
+    changes_by_point();
+    rank_of_point();
+    let _ = space.intervals();
+    let _ = picks.intervals();
+    let _ = picks.size();
+    let before = held.take(z);
+    let _ = before.space().intervals();
+    let numbers = held.column(x).unwrap();
+    let _ = numbers.space().intervals();
+    let from = held.column(y).unwrap();
+    let _ = from.space().intervals();
+    let after = gather_points(numbers, from, before, space, picks);
+    let _ = after.space();
+    held.add(z, after);
+}
+
+pub(crate) fn gather_points(
+    x: &Column,
+    y: &Column,
+    z: Column,
+    space: &Space,
+    picks: &Space,
+) -> Column
+    requires here { IsWithin space.now z.space }
+    requires numbers { IsWithin space.now x.now.space }
+    requires there { IsWithin picks.now y.now.space }
+    ensures { WritesPoints z result space.now (λ p. cell_of y.now (point_at picks.now (cell_of x.now p % space_size picks.now))) }
+{
+    runs_of_spaces();
+    runs_are_written();
+    spaces_are_written();
+    let (over, mut cells) = z.into_parts();
+    for interval in space.intervals() {
+        let start = over.start_of(*interval) as usize;
+        let size = (interval.1 - interval.0) as usize + 1;
+        pick_all(&mut cells[start..start + size], x.run(*interval), y, picks);
+    }
+    Column::from_parts(over, cells)
+}
+
+/// Writes for each number the cell that it picks.
+fn pick_all(cells: &mut [u64], numbers: &[u64], y: &Column, picks: &Space)
+    requires size { length cells.old ≡ length numbers.now }
+    requires within { IsWithin picks.now y.now.space }
+    ensures { (k : ℕ) → k < length cells.old → slice_index cells.new k
+        ≡ cell_of y.now (point_at picks.now (slice_index numbers.now k % space_size picks.now)) }
+{
+    for k in 0..cells.len() {
+        cells[k] = pick(numbers[k], y, picks);
+    }
+}
+
+/// The cell of the point whose rank is a number modulo the number of points.
+fn pick(number: u64, y: &Column, picks: &Space) -> u64
+    requires { IsWithin picks.now y.now.space }
+    ensures { result ≡ cell_of y.now (point_at picks.now (number % space_size picks.now)) }
+{
+    rank_of_point();
+    let _ = picks.intervals();
+    let rank = number % u64::from(picks.size());
+    y.get(picks.point(rank as u32)).unwrap()
+}

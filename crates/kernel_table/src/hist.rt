@@ -1,0 +1,96 @@
+//! Hist: how often each rank comes among the numbers of a column.
+
+ghost use Rattle.std.specs.Prelude.{◌≡◌, ◌≢◌, ◌+◌, ◌%◌, ◌==◌, cond, [], ◌∷◌, length, count_by};
+ghost use Rattle.index_spaces.specs.Space.{IsWithin, points, rank, space_size};
+ghost use Rattle.index_spaces.specs.Column.{cell_of};
+ghost use Rattle.index_spaces.specs.Run.{WritesPoints};
+ghost use Rattle.graph_model.specs.declared.verb.Kernel.TheVariants.{Hist};
+ghost use Rattle.graph_model.specs.Effect.{wrapped};
+ghost use Rattle.graph_model.specs.HeldCells.{HoldsOver};
+ghost use Rattle.kernel_table.specs.Kernels.{MakesKernel, column_over};
+
+use graph_model::held_cells::{cells_by_point, changes_by_point};
+use index_spaces::column::Column;
+use index_spaces::held::Held;
+use index_spaces::laws::{
+    cells_are_written, point_of_rank, points_are_listed, rank_of_point, runs_of_spaces,
+};
+use index_spaces::space::Space;
+
+/// Adds to the cell of each point of `bins` how many of the other column's numbers are its rank,
+/// modulo the number of points there.
+pub(crate) fn run_hist(held: &mut Held, x: u32, y: u32, space: &Space, bins: &Space)
+    requires source { HoldsOver held.old x space.now }
+    requires target { HoldsOver held.old y bins.now }
+    requires distinct { x ≢ y }
+    ensures { MakesKernel held.old held.new (space.now ∷ bins.now ∷ []) (Hist x y 0 1) }
+{
+    cells_by_point();
+    changes_by_point();
+    points_are_listed();
+    let _ = bins.intervals();
+    let before = held.take(y);
+    let _ = before.space().intervals();
+    let from = held.column(x).unwrap();
+    let _ = from.space().intervals();
+    let after = hist_points(from, before, space, bins);
+    let _ = after.space();
+    held.add(y, after);
+}
+
+pub(crate) fn hist_points(x: &Column, y: Column, space: &Space, bins: &Space) -> Column
+    requires here { IsWithin bins.now y.space }
+    requires there { IsWithin space.now x.now.space }
+    ensures { WritesPoints y result bins.now (λ q. wrapped (cell_of y q
+        + count_by (λ p. cell_of x.now p % space_size bins.now == rank bins.now q) (points space.now))) }
+{
+    let (over, mut cells) = y.into_parts();
+    hist_cells(x, &mut cells, &over, space, bins);
+    Column::from_parts(over, cells)
+}
+
+/// Counts the numbers of a column over `space` in the cells over `over`.
+fn hist_cells(x: &Column, cells: &mut [u64], over: &Space, space: &Space, bins: &Space)
+    requires full { length cells.old ≡ space_size over.now }
+    requires here { IsWithin bins.now over.now }
+    requires there { IsWithin space.now x.now.space }
+    ensures { WritesPoints (column_over over.now cells.old) (column_over over.now cells.new) bins.now
+        (λ q. wrapped (cell_of (column_over over.now cells.old) q
+        + count_by (λ p. cell_of x.now p % space_size bins.now == rank bins.now q) (points space.now))) }
+{
+    runs_of_spaces();
+    for interval in space.intervals() {
+        count_all(x.run(*interval), cells, over, bins);
+    }
+}
+
+/// Counts each number at the point whose rank it is.
+fn count_all(numbers: &[u64], cells: &mut [u64], over: &Space, bins: &Space)
+    requires full { length cells.old ≡ space_size over.now }
+    requires within { IsWithin bins.now over.now }
+    ensures { WritesPoints (column_over over.now cells.old) (column_over over.now cells.new) bins.now
+        (λ q. wrapped (cell_of (column_over over.now cells.old) q
+        + count_by (λ n. n % space_size bins.now == rank bins.now q) numbers.now)) }
+{
+    for number in numbers {
+        count_one(*number, cells, over, bins);
+    }
+}
+
+/// Counts a number at the point whose rank it is.
+fn count_one(number: u64, cells: &mut [u64], over: &Space, bins: &Space)
+    requires full { length cells.old ≡ space_size over.now }
+    requires within { IsWithin bins.now over.now }
+    ensures { WritesPoints (column_over over.now cells.old) (column_over over.now cells.new) bins.now
+        (λ q. cond (number % space_size bins.now == rank bins.now q)
+        (wrapped (cell_of (column_over over.now cells.old) q + 1)) (cell_of (column_over over.now cells.old) q)) }
+{
+    cells_are_written();
+    point_of_rank();
+    rank_of_point();
+    let _ = bins.intervals();
+    let _ = over.intervals();
+    let rank = number % u64::from(bins.size());
+    let place = over.rank(bins.point(rank as u32)).unwrap() as usize;
+    cells[place] = cells[place].wrapping_add(1);
+}

@@ -1,0 +1,98 @@
+//! Stencil: the sum over a point and its two neighbors.
+
+ghost use Rattle.std.specs.Prelude.{ℕ, ◌≡◌, ◌≢◌, ◌+◌, ◌<◌, ◌≤◌, ◌^◌, cond, [], ◌∷◌, length, filter, slice_index};
+ghost use Rattle.index_spaces.specs.Space.{IsWithin, has_point};
+ghost use Rattle.index_spaces.specs.Column.{cell_of};
+ghost use Rattle.index_spaces.specs.Run.{WritesPoints};
+ghost use Rattle.graph_model.specs.declared.verb.Kernel.TheVariants.{Stencil};
+ghost use Rattle.graph_model.specs.Effect.{around, wrapped_sum};
+ghost use Rattle.graph_model.specs.HeldCells.{HoldsOver};
+ghost use Rattle.kernel_table.specs.Kernels.{MakesKernel};
+
+use graph_model::held_cells::{cells_by_point, changes_by_point};
+use index_spaces::column::Column;
+use index_spaces::held::Held;
+use index_spaces::laws::{runs_are_written, runs_of_spaces, spaces_are_written};
+use index_spaces::space::Space;
+
+/// Sets each cell to the sum of the other column's cells at its point and the two beside it, as far
+/// as these lie in the space that is read.
+pub(crate) fn run_stencil(held: &mut Held, x: u32, y: u32, read: &Space, space: &Space)
+    requires source { HoldsOver held.old x read.now }
+    requires target { HoldsOver held.old y space.now }
+    requires distinct { x ≢ y }
+    ensures { MakesKernel held.old held.new (read.now ∷ space.now ∷ []) (Stencil x y 0 1) }
+{
+    cells_by_point();
+    changes_by_point();
+    let _ = space.intervals();
+    let before = held.take(y);
+    let _ = before.space().intervals();
+    let from = held.column(x).unwrap();
+    let _ = from.space().intervals();
+    let after = stencil_points(from, before, read, space);
+    let _ = after.space();
+    held.add(y, after);
+}
+
+pub(crate) fn stencil_points(x: &Column, y: Column, read: &Space, space: &Space) -> Column
+    requires here { IsWithin space.now y.space }
+    requires there { IsWithin read.now x.now.space }
+    ensures { WritesPoints y result space.now (λ p. wrapped_sum (cell_of x.now) (filter (has_point read.now) (around p))) }
+{
+    runs_of_spaces();
+    runs_are_written();
+    spaces_are_written();
+    let (over, mut cells) = y.into_parts();
+    for interval in space.intervals() {
+        let start = over.start_of(*interval) as usize;
+        let size = (interval.1 - interval.0) as usize + 1;
+        sum_windows(&mut cells[start..start + size], interval.0, x, read);
+    }
+    Column::from_parts(over, cells)
+}
+
+/// Writes the sums for the points from the first on.
+fn sum_windows(cells: &mut [u64], first: u32, x: &Column, read: &Space)
+    requires fits { first + length cells.old ≤ 2 ^ 32 }
+    requires within { IsWithin read.now x.now.space }
+    ensures { (k : ℕ) → k < length cells.old → slice_index cells.new k
+        ≡ wrapped_sum (cell_of x.now) (filter (has_point read.now) (around (first + k))) }
+{
+    let first = u64::from(first);
+    let mut left = if first == 0 {
+        0
+    } else {
+        cell_or_zero(x, read, first - 1)
+    };
+    let mut here = cell_or_zero(x, read, first);
+    for k in 0..cells.len() {
+        let right = cell_or_zero(x, read, first + k as u64 + 1);
+        cells[k] = left.wrapping_add(here).wrapping_add(right);
+        left = here;
+        here = right;
+    }
+}
+
+/// The cell of a point that is in the space, and 0 for any other number.
+fn cell_or_zero(x: &Column, read: &Space, q: u64) -> u64
+    requires { IsWithin read.now x.now.space }
+    ensures { result ≡ cond (has_point read.now q) (cell_of x.now q) 0 }
+{
+    let _ = read.intervals();
+    match u32::try_from(q) {
+        Ok(p) => cell_of_point(x, read, p),
+        Err(_) => 0,
+    }
+}
+
+fn cell_of_point(x: &Column, read: &Space, p: u32) -> u64
+    requires { IsWithin read.now x.now.space }
+    ensures { result ≡ cond (has_point read.now p) (cell_of x.now p) 0 }
+{
+    if read.contains(p) {
+        x.get(p).unwrap()
+    } else {
+        0
+    }
+}

@@ -1,0 +1,6 @@
+pub mod WaitingFacts
+pub mod CellFacts
+pub mod EffectFacts
+pub mod MovedFacts
+pub mod TurnFacts
+pub mod PhaseFacts

@@ -1,0 +1,7 @@
+use Rattle.std.proofs.Common.{◌≡◌, map}
+use Rattle.index_spaces.specs.Space.{numbers_below}
+use Rattle.plain_eval.specs.Phases.{first_reduction}
+use Rattle.plain_eval.proofs.phases.first_reductions.Given as goal
+
+abbrev pub invariant-loop-line : goal.invariant-loop-line
+invariant-loop-line l = record { so_far : l.reductions.items ≡ map (first_reduction l.graph) (numbers_below l.line) }

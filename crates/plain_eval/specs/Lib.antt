@@ -1,0 +1,4 @@
+pub mod Waiting
+pub mod Moved
+pub mod Run
+pub mod Phases

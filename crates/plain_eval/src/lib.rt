@@ -1,0 +1,12 @@
+//! The evaluation of a graph on one thread: again and again the lowest line that is ready ends.
+#![tactic(auto)]
+
+pub mod evaluation;
+mod moved;
+mod perform;
+mod phases;
+mod room;
+mod run;
+#[cfg(test)]
+mod tests;
+mod waiting;

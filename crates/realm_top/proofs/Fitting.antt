@@ -1,0 +1,27 @@
+-- The outcome of an evaluation fits its graph.
+use Rattle.std.proofs.Common.{◌≡◌, ℕ, List, [], ◌∷◌, length, sym, ◌∙◌, ap, subst, map}
+use Rattle.std.specs.Prelude.{codes, decimal}
+use Rattle.std.proofs.lemmas.List.FromFn.{length-map-range_with_len}
+use Rattle.graph_model.specs.Graph.{GraphValue, columns}
+use Rattle.graph_model.specs.declared.outcome.Outcome.{Outcome}
+use Rattle.graph_model.specs.Evaluation.{eval_end, answer_of, phase_value, column_of, cells_of, evaluation, outcome, order}
+use Rattle.graph_model.specs.Spelling.{spelled}
+use Rattle.graph_model.specs.declared.verb.Why.{Why}
+use Rattle.realm_top.specs.Texts.{FitsGraph, report, why_word, unread_text}
+use Rattle.realm_top.specs.Answer.{evaluation_report}
+
+pub outcome_fits : (g : GraphValue) (o : Outcome) → o ≡ outcome g (order g) → FitsGraph g o
+outcome_fits g o e = subst (FitsGraph g) (sym e) (record {
+  ends = length-map-range_with_len (eval_end g) 0 (length g.lines);
+  answers = length-map-range_with_len (λ i. answer_of (eval_end g i)) 0 (length g.lines);
+  phases = length-map-range_with_len (phase_value g) 0 (length g.lines);
+  columns = length-map-range_with_len (column_of g (cells_of (evaluation g))) 0 (length (columns g));
+})
+
+-- a line of words, where two of them are known
+pub words_are : (digits word : List ℕ) (number : ℕ) (why : Why) → digits ≡ decimal number → word ≡ why_word why → spelled (codes "refused" ∷ codes "line" ∷ digits ∷ word ∷ []) ≡ unread_text number why
+words_are digits word number why d w = ap (λ x. spelled (codes "refused" ∷ codes "line" ∷ x ∷ word ∷ [])) d ∙ ap (λ x. spelled (codes "refused" ∷ codes "line" ∷ decimal number ∷ x ∷ [])) w
+
+-- the report that was written is the evaluation's
+pub report_is : (g : GraphValue) (o : Outcome) → o ≡ outcome g (order g) → report g o ≡ evaluation_report g
+report_is g o e = ap (report g) e
