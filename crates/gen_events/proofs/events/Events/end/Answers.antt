@@ -1,0 +1,54 @@
+use Rattle.std.proofs.Common.{rules, arith, ◌∙◌, ap, sym, subst, [], refl, ◌<◌, ◌≤◌}
+use Rattle.gen_events.specs.declared.handle.Shape.{Shape}
+use Rattle.gen_events.specs.Rule.{Follows}
+use Rattle.gen_events.specs.Seats.{slots_of, last_gen_of}
+use Rattle.gen_events.proofs.Cuts.{joins, splits, receipts, chases}
+use Rattle.gen_events.proofs.Ends.{took, arms, all_ends, receipt_of, catches}
+use Rattle.gen_events.proofs.End.{ends}
+use Rattle.gen_events.proofs.Takes.{alone}
+use Rattle.gen_events.proofs.Growing.{end_keeps}
+use Rattle.gen_events.proofs.events.Events.end.Goals as goal
+
+pub join_seat-requires : goal.join_seat-requires
+join_seat-requires c = let e = c.args.self.now.sized in (search rules, search rules, search rules, omega (arith, e.1, e.2), joins _ _ _ _ _ c.args.pending.pending.1)
+
+pub mark-requires-clause-made : goal.mark-requires-clause-made
+mark-requires-clause-made c = let p = c.args.pending.pending in let x : Shape = c.args.self.now.shape in
+    (subst (λ l. c.args.pending.handle.slot < slots_of l) c.requires.pending.1 p.2, subst (λ l. c.args.pending.handle.gen_ ≤ last_gen_of l) c.requires.pending.1 p.3)
+
+pub mark-requires-clause-right : goal.mark-requires-clause-right
+mark-requires-clause-right c = (took c.args.seat.now.inner.me c.args.pending.inner.me c.join_seat.new.seat.me c.args.pending.handle c.args.seat.now.plain c.args.pending.pending c.join_seat.ensures.2).0.2
+
+pub swap-found-requires : goal.swap-found-requires
+swap-found-requires c = let e = c.args.self.now.sized in let p = c.args.pending.pending in let x : Shape = c.args.self.now.shape in
+    let t = took c.args.seat.now.inner.me c.args.pending.inner.me c.join_seat.new.seat.me c.args.pending.handle c.args.seat.now.plain p c.join_seat.ensures.2 in
+    let a = arms c.join_seat.new.seat.me c.mark.new.inner.me c.args.pending.handle c.args.fate t.0 t.1 c.mark.ensures.marked in
+    let low : c.args.pending.handle.slot < x.slots = subst (λ l. c.args.pending.handle.slot < slots_of l) c.requires.pending.1 p.2 in (
+      c.mark.ensures.at ∙ (c.join_seat.ensures.0 ∙ c.requires.at.0),
+      omega (arith, e.1, c.word_of-at.ensures.slot),
+      ends _ _ _ _ _ _ c.args.pending.handle [] a.rights (sym (c.word_of-at.ensures.same low)) a.caught a.marked (subst (λ (y : Shape). Follows y.last_gen c.args.pending.handle.gen_ c.next_word-next.result) (sym e.0) c.next_word-next.ensures),
+    )
+
+pub split_seat-told-requires : goal.split_seat-told-requires
+split_seat-told-requires c = let e = c.args.self.now.sized in (c.swap-found.ensures.0 ∙ (c.mark.ensures.at ∙ (c.join_seat.ensures.0 ∙ c.requires.at.0)), omega (arith, e.1, e.2), splits _ _ _ _ _ (receipts _))
+
+pub split_seat-chain-requires : goal.split_seat-chain-requires
+split_seat-chain-requires c = let e = c.args.self.now.sized in (c.split_seat-told.ensures.0 ∙ (c.swap-found.ensures.0 ∙ (c.mark.ensures.at ∙ (c.join_seat.ensures.0 ∙ c.requires.at.0))), omega (arith, e.1, e.2), splits _ _ _ _ _ (chases _))
+
+pub overflow_sub-caught : goal.overflow_sub-caught
+overflow_sub-caught c = (all_ends c.args.seat.now.inner.me c.args.pending.inner.me c.join_seat.new.seat.me c.mark.new.inner.me c.swap-found.new.seat.me c.args.pending.handle c.args.fate c.swap-found.result c.args.self.now.shape c.args.seat.now.plain c.args.pending.pending c.requires.at.1 c.args.self.now.sized.3 c.join_seat.ensures.2 c.mark.ensures.marked c.swap-found.ensures.2).0.some
+
+pub invariant_of-receipt : goal.invariant_of-receipt
+invariant_of-receipt c = let e = all_ends c.args.seat.now.inner.me c.args.pending.inner.me c.join_seat.new.seat.me c.mark.new.inner.me c.swap-found.new.seat.me c.args.pending.handle c.args.fate c.swap-found.result c.args.self.now.shape c.args.seat.now.plain c.args.pending.pending c.requires.at.1 c.args.self.now.sized.3 c.join_seat.ensures.2 c.mark.ensures.marked c.swap-found.ensures.2 in
+    record { receipt = receipt_of c.swap-found.new.seat.me c.split_seat-told.result.me c.args.pending.handle c.args.fate c.mark.new.inner.me.0.known e.0.known c.split_seat-told.ensures.4 }
+
+pub invariant_of-caught : goal.invariant_of-caught
+invariant_of-caught c = let e = all_ends c.args.seat.now.inner.me c.args.pending.inner.me c.join_seat.new.seat.me c.mark.new.inner.me c.swap-found.new.seat.me c.args.pending.handle c.args.fate c.swap-found.result c.args.self.now.shape c.args.seat.now.plain c.args.pending.pending c.requires.at.1 c.args.self.now.sized.3 c.join_seat.ensures.2 c.mark.ensures.marked c.swap-found.ensures.2 in
+    record { caught = catches c.mark.new.inner.me c.swap-found.new.seat.me c.split_seat-told.new.seat.me c.split_seat-chain.result.me c.args.pending.handle c.args.fate c.swap-found.result c.args.self.now.shape e.0 e.1 e.2 c.args.self.now.sized.3 c.split_seat-told.ensures.2 c.split_seat-chain.ensures.4 }
+
+pub returns-clause-known : goal.returns-clause-known
+returns-clause-known c = let e = all_ends c.args.seat.now.inner.me c.args.pending.inner.me c.join_seat.new.seat.me c.mark.new.inner.me c.swap-found.new.seat.me c.args.pending.handle c.args.fate c.swap-found.result c.args.self.now.shape c.args.seat.now.plain c.args.pending.pending c.requires.at.1 c.args.self.now.sized.3 c.join_seat.ensures.2 c.mark.ensures.marked c.swap-found.ensures.2 in
+    record { known = alone _ _ _ _ (ap (λ m. m.0.known) c.split_seat-chain.ensures.2 ∙ (ap (λ m. m.0.known) c.split_seat-told.ensures.2 ∙ e.0.known)) refl }
+
+pub returns-clause-kept : goal.returns-clause-kept
+returns-clause-kept c = end_keeps c.args.seat.now.inner.me c.args.pending.inner.me c.join_seat.new.seat.me c.mark.new.inner.me c.swap-found.new.seat.me c.split_seat-told.new.seat.me c.split_seat-chain.new.seat.me c.args.fate c.swap-found.result c.join_seat.ensures.2 c.mark.ensures.marked c.swap-found.ensures.2 c.split_seat-told.ensures.2 c.split_seat-chain.ensures.2

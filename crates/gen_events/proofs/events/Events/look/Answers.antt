@@ -1,0 +1,62 @@
+use Rattle.std.proofs.Common.{rules, arith, ap, sym, subst, ◌<◌}
+use Rattle.std.specs.Prelude.{Contains}
+use Rattle.gen_events.specs.declared.handle.Shape.{Shape}
+use Rattle.gen_events.proofs.Looks.{found_ended, found_pending, really_seen, at_slot}
+use Rattle.gen_events.proofs.Takes.{has_key}
+use Rattle.gen_events.specs.Views.{answer_of}
+use Rattle.gen_events.proofs.Growing.{begins_has, grows_look, keeps, keeps_on}
+use Rattle.gen_events.proofs.Steps.{looks}
+use Rattle.gen_events.proofs.events.Events.look.Goals as goal
+
+pub load-found-requires : goal.load-found-requires
+load-found-requires c = let e = c.args.self.now.sized in let low = c.word_of-at.ensures.slot in
+    (search rules, omega (arith, e.1), looks c.args.self.now.table.shared.key _ _ _ _ (subst (λ (x : Shape). c.word_of-at.result < x.slots) (sym e.0) low))
+
+pub returns-then-turns-handle-clause-pending : goal.returns-then-turns-handle-clause-pending
+returns-then-turns-handle-clause-pending c = λ _. let t = c.load-found.ensures.2 in let m = c.args.seat.now.inner.me in
+    let seen = really_seen m c.args.handle (c.is_no_event.ensures.some c.if-is_no_event.false) c.requires.seen in
+    found_pending _ m _ _ c.args.handle t (at_slot m c.args.handle c.args.self.now.shape _ t.2 c.requires.at.1 seen c.word_of-at.ensures.same) seen (omega (arith, c.turns.ensures, c.if-turns-handle.true))
+
+pub fate_of-requires-clause-made : goal.fate_of-requires-clause-made
+fate_of-requires-clause-made c = let t = c.load-found.ensures.2 in let m = c.args.seat.now.inner.me in
+    let seen = really_seen m c.args.handle (c.is_no_event.ensures.some c.if-is_no_event.false) c.requires.seen in
+    t.2 c.args.self.now.shape c.args.handle (has_key _ _ c.requires.at.1) seen
+
+pub fate_of-requires-clause-past : goal.fate_of-requires-clause-past
+fate_of-requires-clause-past c = let t = c.load-found.ensures.2 in let m = c.args.seat.now.inner.me in
+    let seen = really_seen m c.args.handle (c.is_no_event.ensures.some c.if-is_no_event.false) c.requires.seen in
+    found_ended _ m _ _ c.args.handle t (at_slot m c.args.handle c.args.self.now.shape _ t.2 c.requires.at.1 seen c.word_of-at.ensures.same) seen (omega (arith, c.turns.ensures, c.if-turns-handle.false))
+
+pub returns-in-Ok-clause-left : goal.returns-in-Ok-clause-left
+returns-in-Ok-clause-left c = λ some left. let t = c.load-found.ensures.2 in let m = c.args.seat.now.inner.me in
+    let seen = really_seen m c.args.handle some c.requires.seen in
+    let past = found_ended _ m _ _ c.args.handle t (at_slot m c.args.handle c.args.self.now.shape _ t.2 c.requires.at.1 seen c.word_of-at.ensures.same) seen (omega (arith, c.turns.ensures, c.if-turns-handle.false)) in
+    absurd (t.3.left_not_past c.args.handle (subst (λ l. Contains l c.args.handle) (sym (ap (λ n. n.0.left) t.0)) left) past)
+
+pub returns-in-Poison-clause-left : goal.returns-in-Poison-clause-left
+returns-in-Poison-clause-left c = λ some left. let t = c.load-found.ensures.2 in let m = c.args.seat.now.inner.me in
+    let seen = really_seen m c.args.handle some c.requires.seen in
+    let past = found_ended _ m _ _ c.args.handle t (at_slot m c.args.handle c.args.self.now.shape _ t.2 c.requires.at.1 seen c.word_of-at.ensures.same) seen (omega (arith, c.turns.ensures, c.if-turns-handle.false)) in
+    absurd (t.3.left_not_past c.args.handle (subst (λ l. Contains l c.args.handle) (sym (ap (λ n. n.0.left) t.0)) left) past)
+
+pub returns-in-Ok-clause-known : goal.returns-in-Ok-clause-known
+returns-in-Ok-clause-known c = λ f some known. let t = c.load-found.ensures.2 in let e = c.in-Ok.ensures in
+    ap answer_of (e.coherent.one_fate c.args.handle _ f e.known.known (begins_has _ _ (c.args.handle, f) e.grows.1 (begins_has _ _ (c.args.handle, f) (grows_look _ _ _ _ t).1 known.known)))
+
+pub returns-in-Poison-clause-known : goal.returns-in-Poison-clause-known
+returns-in-Poison-clause-known c = λ f some known. let t = c.load-found.ensures.2 in let e = c.in-Poison.ensures in
+    ap answer_of (e.coherent.one_fate c.args.handle _ f e.known.known (begins_has _ _ (c.args.handle, f) e.grows.1 (begins_has _ _ (c.args.handle, f) (grows_look _ _ _ _ t).1 known.known)))
+
+pub returns-then-turns-handle-clause-known : goal.returns-then-turns-handle-clause-known
+returns-then-turns-handle-clause-known c = λ f some known. let t = c.load-found.ensures.2 in let m = c.args.seat.now.inner.me in
+    let seen = really_seen m c.args.handle some c.requires.seen in
+    absurd ((found_pending _ m _ _ c.args.handle t (at_slot m c.args.handle c.args.self.now.shape _ t.2 c.requires.at.1 seen c.word_of-at.ensures.same) seen (omega (arith, c.turns.ensures, c.if-turns-handle.true))).1 f known)
+
+pub returns-then-turns-handle-clause-kept : goal.returns-then-turns-handle-clause-kept
+returns-then-turns-handle-clause-kept c = keeps c.args.seat.now.inner.me.0 c.load-found.new.seat.me.0 (grows_look _ _ _ _ c.load-found.ensures.2)
+
+pub returns-in-Ok-clause-kept : goal.returns-in-Ok-clause-kept
+returns-in-Ok-clause-kept c = keeps_on _ _ _ (keeps c.args.seat.now.inner.me.0 c.load-found.new.seat.me.0 (grows_look _ _ _ _ c.load-found.ensures.2)) c.in-Ok.ensures.kept
+
+pub returns-in-Poison-clause-kept : goal.returns-in-Poison-clause-kept
+returns-in-Poison-clause-kept c = keeps_on _ _ _ (keeps c.args.seat.now.inner.me.0 c.load-found.new.seat.me.0 (grows_look _ _ _ _ c.load-found.ensures.2)) c.in-Poison.ensures.kept

@@ -1,0 +1,115 @@
+-- Tokens at their table, and what a call tells by them.
+use Rattle.std.specs.Prelude.{◌≡◌, ◌≢◌, ℕ, ◌+◌, ◌*◌, ◌<◌, ◌⊎◌, List, [], ◌∷◌, ◌++◌, Contains, slice_index}
+use Rattle.atomic_table.specs.declared.shared.Seat as table
+use Rattle.gen_events.specs.Rule.{turns_of, mark}
+use Rattle.gen_events.specs.declared.handle.Answer.{Answer}
+use Rattle.gen_events.specs.declared.handle.Answer.TheVariants.{Triggered, Poisoned}
+use Rattle.gen_events.specs.Seats.{Knows, FoundPending, no_event}
+use Rattle.gen_events.specs.declared.handle.Handle.{Handle}
+use Rattle.gen_events.specs.declared.handle.Fate.{Fate}
+use Rattle.gen_events.specs.declared.handle.Fate.TheVariants.{Ok, Poison}
+use Rattle.gen_events.specs.declared.handle.Shape.{Shape}
+use Rattle.gen_events.specs.declared.view.View.{View}
+use Rattle.gen_events.specs.declared.tokens.Seat.{Seat}
+use Rattle.gen_events.specs.declared.tokens.Maker.{Maker}
+use Rattle.gen_events.specs.declared.tokens.Pending.{Pending}
+use Rattle.gen_events.specs.declared.tokens.Waiter.{Waiter}
+use Rattle.gen_events.specs.declared.tokens.Receipt.{Receipt}
+use Rattle.gen_events.specs.declared.tokens.Caught.{Caught}
+use Rattle.gen_events.specs.declared.tokens.WaiterSet.{WaiterSet}
+use Rattle.gen_events.specs.declared.tokens.Watch.{Watch}
+use Rattle.gen_events.specs.declared.tokens.Watch.TheVariants.{Placed, Over, Moved}
+use Rattle.gen_events.specs.declared.events.Events.{Events}
+use Rattle.gen_events.specs.declared.left.Left.{Left}
+use Rattle.std.specs.Slots.{slots_items}
+
+abbrev pub IsOf : Events → table.Seat (Unit {0}) View → Type 0
+IsOf e s = (s.table_id ≡ e.table.shared.table_id) × (s.me.0.keys ≡ e.shape ∷ [])
+
+abbrev pub lists : Seat → View
+lists s = s.inner.me.0
+
+abbrev pub IsAt : Events → Seat → Type 0
+IsAt e s = IsOf e s.inner
+
+abbrev pub IsMakerOf : Events → Maker → Type 0
+IsMakerOf e s = IsOf e s.inner
+
+abbrev pub IsPendingOf : Events → Pending → Type 0
+IsPendingOf e s = IsOf e s.inner
+
+abbrev pub IsWaiterOf : Events → Waiter → Type 0
+IsWaiterOf e s = IsOf e s.inner
+
+abbrev pub IsReceiptOf : Events → Receipt → Type 0
+IsReceiptOf e s = IsOf e s.inner
+
+abbrev pub IsCaughtOf : Events → Caught → Type 0
+IsCaughtOf e s = IsOf e s.inner
+
+abbrev pub IsSetOf : Events → WaiterSet → Type 0
+IsSetOf e s = IsOf e s.inner
+
+-- what a chain has given, in order
+abbrev pub given_by : Caught → List (ℕ × Handle)
+given_by s = s.inner.me.0.given
+
+-- what the Maker made, in order
+abbrev pub made_by : Maker → List Handle
+made_by s = s.inner.me.0.made
+
+abbrev pub maker_lists : Maker → View
+maker_lists s = s.inner.me.0
+
+-- the handle stands at the end of the Maker's list, and was not there before
+abbrev pub IsNew : List Handle → List Handle → Handle → Type 0
+IsNew old new h = (new ≡ old ++ h ∷ []) × (Contains old h → ⊥)
+
+-- the word of the slot i showed that the slot is retired, or that a handle of the list is pending there
+abbrev pub IsTaken : Shape → List Handle → ℕ → ℕ → Type 0
+IsTaken shape made i r = (turns_of r ≡ 2 * shape.last_gen + 2) ⊎ ((h : Handle) × (h.slot ≡ i) × (turns_of r ≡ 2 * h.gen_ + 1) × Contains made h)
+
+-- in between, the Maker looked at each slot below n, and found it taken
+abbrev pub Scanned : Shape → View → View → ℕ → Type 0
+Scanned shape v w n = (found : List (ℕ × ℕ)) × (w.saw ≡ v.saw ++ found) × ((i : ℕ) → i < n → (r : ℕ) × Contains found (i, r) × IsTaken shape w.made i r)
+
+abbrev pub IsFull : Shape → View → View → Type 0
+IsFull shape v w = Scanned shape v w shape.slots
+
+-- the waiters that stood on the handle and were not given yet, in the order in which they will be
+abbrev pub rest_of : Caught → List ℕ
+rest_of s = s.inner.me.0.caught
+
+-- it is the same waiter again
+abbrev pub IsSame : Events → Waiter → Waiter → Type 0
+IsSame e k l = (l.number ≡ k.number) × IsWaiterOf e l
+
+-- the seat found the handle pending twice, under two words
+abbrev pub FoundMoved : View → View → Handle → Type 0
+FoundMoved v w h = (r r' : ℕ) × (w.saw ≡ v.saw ++ (h.slot, r) ∷ (h.slot, r') ∷ []) × (turns_of r ≡ 2 * h.gen_ + 1) × (turns_of r' ≡ 2 * h.gen_ + 1) × (r ≢ r')
+
+abbrev pub Watched : Events → View → View → Handle → Waiter → Watch → Type 0
+Watched e v w h k Placed = FoundPending v w h × (w.placed ≡ v.placed ++ (k.number, h) ∷ [])
+Watched e v w h k (Over f l) = (((h ≡ no_event) × (f ≡ Ok)) ⊎ Knows w h f) × (w.placed ≡ v.placed) × IsSame e k l
+Watched e v w h k (Moved l) = FoundMoved v w h × (w.placed ≡ v.placed) × IsSame e k l
+
+-- the same, once the handle was found pending under the word r
+abbrev pub Attached : Events → View → View → Handle → ℕ → Waiter → Watch → Type 0
+Attached e v w h r k Placed = (w.saw ≡ v.saw) × (w.placed ≡ v.placed ++ (k.number, h) ∷ [])
+Attached e v w h r k (Over f l) = Knows w h f × (w.placed ≡ v.placed) × IsSame e k l
+Attached e v w h r k (Moved l) = (r' : ℕ) × (w.saw ≡ v.saw ++ (h.slot, r') ∷ []) × (turns_of r' ≡ 2 * h.gen_ + 1) × (r ≢ r') × (w.placed ≡ v.placed) × IsSame e k l
+
+-- how often a slot of a closed table was created and ended
+abbrev pub turns_left : Left → ℕ → ℕ
+turns_left l i = turns_of (slice_index (slots_items l.closed.words) i)
+
+abbrev pub words_left : Left → List ℕ
+words_left l = slots_items l.closed.words
+
+-- the poison bit of a handle
+abbrev pub mark_left : Left → Handle → ℕ
+mark_left l h = mark l.shape (slots_items l.closed.words) h
+
+abbrev pub answer_of : Fate → Answer
+answer_of Ok = Triggered
+answer_of Poison = Poisoned

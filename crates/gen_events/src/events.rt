@@ -1,0 +1,197 @@
+//! The table of events that threads share.
+
+ghost use Rattle.gen_events.specs.Rule.{mark_words, mark_word, place_of};
+ghost use Rattle.gen_events.specs.declared.handle.Handle.{Handle as TheHandle};
+ghost use Rattle.std.specs.Prelude.{◌≡◌, ℕ, ◌+◌, ◌*◌, ◌<◌, ◌≤◌, ◌++◌, [], Contains, IfOk};
+
+use crate::NoMemory;
+use crate::handle::{Handle, Shape};
+use crate::left::Left;
+use crate::plays::{Appoints, Both, Copies, DealsAll, Forsakes, Gathers, Heed, Order};
+use crate::tokens::{Maker, Pending, Receipt, Seat, WaiterSet};
+use crate::view::View;
+use atomic_table::Table;
+use std::alloc::{AllocError, Global};
+use std::snapshot::Snapshot;
+
+/// A table of events that threads share. Each call but `new` is a few single steps on words, of
+/// which none waits for another thread.
+#[derive(Drop)]
+pub struct Events {
+    pub(crate) table: Table<(), View, Shape, Order, Global>,
+    pub(crate) shape: Shape,
+    ghost sized: { (table.shared.key ≡ shape) × (table.shared.table_id.words ≡ shape.slots + shape.waiters + mark_words shape) × (0 < shape.slots) × (shape.waiters ≤ 8192) × (shape.slots ≤ 8192) × (table.shared.table_id.slots ≡ 0) × (shape.slots * (shape.last_gen + 1) ≤ 67108864) },
+}
+
+impl Events {
+    ghost use Rattle.gen_events.specs.Left.{IsLeft};
+    ghost use Rattle.gen_events.specs.Plays.{Coherent};
+    ghost use Rattle.gen_events.specs.Seats.{HasSeen, Knows, Grows, Keeps};
+    ghost use Rattle.gen_events.specs.Views.{lists, IsAt, IsMakerOf, IsPendingOf, IsReceiptOf, IsSetOf, made_by, turns_left, words_left};
+
+    /// A table in which nothing was created, with the right to create, a seat that has seen
+    /// nothing, and all waiters. `NoMemory` comes where memory ran out.
+    pub fn new(
+        alloc: Global,
+        slots: u32,
+        waiters: u32,
+        last_gen: u32,
+    ) -> Result<(Events, Maker, Seat, WaiterSet), NoMemory>
+        requires slots { (0 < slots) × (slots ≤ 8192) }
+        requires waiters { waiters ≤ 8192 }
+        requires gens { slots * (last_gen + 1) ≤ 67108864 }
+        ensures shape { IfOk result (λ r. (r.0.shape.slots ≡ slots) × (r.0.shape.waiters ≡ waiters) × (r.0.shape.last_gen ≡ last_gen)) }
+        ensures at { IfOk result (λ r. IsMakerOf r.0 r.1 × IsAt r.0 r.2 × IsSetOf r.0 r.3) }
+        ensures none { IfOk result (λ r. (made_by r.1 ≡ []) × (r.3.next ≡ 0) × (r.3.count ≡ waiters)) }
+    {
+        let shape = Shape {
+            slots,
+            waiters,
+            last_gen,
+        };
+        Events::of_shape(alloc, shape).map_err(|_| NoMemory)
+    }
+
+    fn of_shape(alloc: Global, shape: Shape) -> Result<(Events, Maker, Seat, WaiterSet), AllocError>
+        requires slots { (0 < shape.slots) × (shape.slots ≤ 8192) }
+        requires waiters { shape.waiters ≤ 8192 }
+        requires gens { shape.slots * (shape.last_gen + 1) ≤ 67108864 }
+        ensures shape { IfOk result (λ r. r.0.shape ≡ shape) }
+        ensures at { IfOk result (λ r. IsMakerOf r.0 r.1 × IsAt r.0 r.2 × IsSetOf r.0 r.3) }
+        ensures none { IfOk result (λ r. (made_by r.1 ≡ []) × (r.3.next ≡ 0) × (r.3.count ≡ shape.waiters)) }
+    {
+        let marks = (shape.slots as usize * (shape.last_gen as usize + 1) + 63) / 64;
+        let words = vec![in alloc; 0u64; shape.slots as usize + shape.waiters as usize + marks]?;
+        let (table, mut first) = Table::of_words(alloc, words.as_slice(), &shape)?;
+        let maker = table.shared.split_seat::<Appoints>(&mut first);
+        let set = table.shared.split_seat::<DealsAll>(&mut first);
+        let events = Events { table, shape };
+        let maker = Maker { inner: maker };
+        let seat = Seat { inner: first };
+        let set = WaiterSet {
+            next: 0,
+            count: shape.waiters,
+            inner: set,
+        };
+        Ok((events, maker, seat, set))
+    }
+
+    /// A second seat, which has seen, knows and has left what the first has.
+    pub fn split(&self, seat: &mut Seat) -> Seat
+        requires at { IsAt self.now seat.old }
+        ensures at { IsAt self.now seat.new × IsAt self.now result }
+        ensures kept { Keeps (lists seat.old) (lists seat.new) × Keeps (lists seat.old) (lists result) }
+        ensures same { lists seat.new ≡ lists seat.old }
+        ensures copied { ((lists result).seen ≡ (lists seat.old).seen) × ((lists result).known ≡ (lists seat.old).known) × ((lists result).left ≡ (lists seat.old).left) }
+    {
+        let inner = self.table.shared.split_seat::<Copies>(&mut seat.inner);
+        Seat { inner }
+    }
+
+    /// Gives the first seat all that both have, and uses up the other.
+    pub fn join(&self, seat: &mut Seat, other: Seat)
+        requires at { IsAt self.now seat.old }
+        requires other { IsAt self.now other }
+        ensures at { IsAt self.now seat.new }
+        ensures coherent { Coherent (lists seat.new) }
+        ensures kept { Keeps (lists seat.old) (lists seat.new) × Keeps (lists other) (lists seat.new) }
+        ensures seen { (lists seat.new).seen ≡ (lists seat.old).seen ++ (lists other).seen }
+        ensures known { (lists seat.new).known ≡ (lists seat.old).known ++ (lists other).known }
+        ensures placed { (lists seat.new).placed ≡ (lists seat.old).placed ++ (lists other).placed }
+        ensures given { (lists seat.new).given ≡ (lists seat.old).given ++ (lists other).given }
+        ensures emptied { (lists seat.new).emptied ≡ (lists seat.old).emptied ++ (lists other).emptied }
+        ensures left { (lists seat.new).left ≡ (lists seat.old).left ++ (lists other).left }
+    {
+        let Seat { inner } = other;
+        self.table.shared.join_seat::<Both>(&mut seat.inner, inner);
+        self.table.shared.load::<Heed>(&mut seat.inner, 0);
+    }
+
+    /// From then on the seat has seen the handle of the receipt and knows its fate, for good.
+    pub fn learn(&self, seat: &mut Seat, receipt: Receipt)
+        requires at { IsAt self.now seat.old }
+        requires receipt { IsReceiptOf self.now receipt }
+        ensures at { IsAt self.now seat.new }
+        ensures grows { Grows (lists seat.old) (lists seat.new) }
+        ensures kept { Keeps (lists seat.old) (lists seat.new) }
+        ensures seen { HasSeen (lists seat.new) receipt.handle }
+        ensures known { Knows (lists seat.new) receipt.handle receipt.fate }
+    {
+        let Receipt {
+            handle: _,
+            fate: _,
+            inner,
+        } = receipt;
+        self.table.shared.join_seat::<Both>(&mut seat.inner, inner);
+    }
+
+    /// Gives up the right to end the handle, which stays pending for good.
+    pub fn leave(&self, seat: &mut Seat, pending: Pending) -> Handle
+        requires at { IsAt self.now seat.old }
+        requires pending { IsPendingOf self.now pending }
+        ensures at { IsAt self.now seat.new }
+        ensures grows { Grows (lists seat.old) (lists seat.new) }
+        ensures kept { Keeps (lists seat.old) (lists seat.new) }
+        ensures handle { result ≡ pending.handle }
+        ensures left { Contains (lists seat.new).left result }
+    {
+        let Pending { handle, inner } = pending;
+        self.table
+            .shared
+            .join_seat::<Forsakes>(&mut seat.inner, inner);
+        handle
+    }
+
+    /// The table at the end, with what the seat and the Maker had. No other seat can step any more.
+    pub fn close(self, maker: Maker, seat: Seat) -> Left
+        requires maker { IsMakerOf self maker }
+        requires at { IsAt self seat }
+        ensures shape { result.shape ≡ self.shape }
+        ensures lists { (result.seat.value ≡ seat) × (result.maker.value ≡ maker) }
+        ensures placed { (k : ℕ) (h : TheHandle) → Contains (lists seat).placed (k, h) → IsLeft self.shape (words_left result) k h }
+        ensures made { (h : TheHandle) → h.slot < self.shape.slots → 2 * h.gen_ + 1 ≤ turns_left result h.slot → Contains (made_by maker) h }
+    {
+        let at_end = Snapshot::of(&seat);
+        let list = Snapshot::of(&maker);
+        let Maker { inner: mut all } = maker;
+        let Seat { inner } = seat;
+        self.table.shared.join_seat::<Gathers>(&mut all, inner);
+        let Events { table, shape } = self;
+        let closed = table.close_with(all);
+        Left {
+            closed,
+            shape,
+            seat: at_end,
+            maker: list,
+        }
+    }
+
+    // The number of the word of the handle's slot; 0 for a handle that no table has.
+    pub(crate) fn word_of(&self, handle: Handle) -> usize
+        ensures slot { result < self.now.shape.slots }
+        ensures same { handle.slot < self.now.shape.slots → result ≡ handle.slot }
+    {
+        if handle.slot < self.shape.slots {
+            handle.slot as usize
+        } else {
+            0
+        }
+    }
+
+    // The number of the poison word of a handle.
+    pub(crate) fn mark_at(&self, handle: Handle) -> usize
+        requires { (handle.slot < self.now.shape.slots) × (handle.gen_ ≤ self.now.shape.last_gen) }
+        ensures { (result ≡ mark_word self.now.shape handle) × (result < self.now.table.shared.table_id.words) }
+    {
+        let place = self.place(handle);
+        self.shape.slots as usize + self.shape.waiters as usize + (place / 64) as usize
+    }
+
+    // The place of a handle among the poison bits.
+    pub(crate) fn place(&self, handle: Handle) -> u64
+        requires { (handle.slot < self.now.shape.slots) × (handle.gen_ ≤ self.now.shape.last_gen) }
+        ensures { result ≡ place_of self.now.shape.last_gen handle }
+    {
+        handle.slot as u64 * (self.shape.last_gen as u64 + 1) + handle.gen_ as u64
+    }
+}

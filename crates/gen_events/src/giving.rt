@@ -1,0 +1,75 @@
+//! Giving out waiters and receipts.
+
+ghost use Rattle.gen_events.specs.Plays.{Coherent};
+ghost use Rattle.gen_events.specs.Seats.{Grows, Keeps};
+ghost use Rattle.gen_events.specs.Views.{lists, IsAt, IsWaiterOf, IsReceiptOf, IsCaughtOf, IsSetOf, rest_of, given_by};
+ghost use Rattle.std.specs.Prelude.{◌≡◌, ◌+◌, ◌∷◌, ◌++◌, [], Contains, IfSome, IfNone};
+
+use crate::events::Events;
+use crate::plays::{Both, Copies, Deals, Empties, Heed, Walk};
+use crate::tokens::{Caught, Receipt, Seat, Waiter, WaiterSet};
+
+impl Caught {
+    /// A waiter that stood on the handle, each once.
+    pub fn next(&mut self, events: &Events, seat: &mut Seat) -> Option<Waiter>
+        requires chain { IsCaughtOf events.now self.old }
+        requires at { IsAt events.now seat.old }
+        ensures chain { IsCaughtOf events.now self.new × (self.new.handle ≡ self.old.handle) }
+        ensures at { IsAt events.now seat.new }
+        ensures grows { Grows (lists seat.old) (lists seat.new) }
+        ensures kept { Keeps (lists seat.old) (lists seat.new) }
+        ensures some { IfSome result (λ w. (rest_of self.old ≡ w.number ∷ rest_of self.new) × IsWaiterOf events.now w) }
+        ensures given { IfSome result (λ w. given_by self.new ≡ given_by self.old ++ (w.number, self.old.handle) ∷ []) }
+        ensures none { IfNone result ((rest_of self.old ≡ []) × Contains (lists seat.new).emptied self.old.handle × Coherent (lists seat.new)) }
+    {
+        if self.next == 0 {
+            let news = events.table.shared.split_seat::<Empties>(&mut self.inner);
+            events.table.shared.join_seat::<Both>(&mut seat.inner, news);
+            events.table.shared.load::<Heed>(&mut seat.inner, 0);
+            return None;
+        }
+        let number = self.next - 1;
+        let at = events.shape.slots as usize + number as usize;
+        let link = events.table.shared.load::<Walk>(&mut self.inner, at);
+        let inner = events.table.shared.split_seat::<Deals>(&mut self.inner);
+        self.next = link;
+        Some(Waiter {
+            number: number as u32,
+            inner,
+        })
+    }
+}
+
+impl WaiterSet {
+    /// The next waiter, numbered from 0.
+    pub fn take(&mut self, events: &Events) -> Option<Waiter>
+        requires { IsSetOf events.now self.old }
+        ensures set { IsSetOf events.now self.new × (self.new.count ≡ self.old.count) }
+        ensures some { IfSome result (λ w. (w.number ≡ self.old.next) × (self.new.next ≡ self.old.next + 1) × IsWaiterOf events.now w) }
+        ensures none { IfNone result ((self.old.next ≡ self.old.count) × (self.new.next ≡ self.old.next)) }
+    {
+        if self.next == self.count {
+            return None;
+        }
+        let number = self.next;
+        let inner = events.table.shared.split_seat::<Deals>(&mut self.inner);
+        self.next += 1;
+        Some(Waiter { number, inner })
+    }
+}
+
+impl Receipt {
+    /// A second receipt of the same handle and fate.
+    pub fn again(&mut self, events: &Events) -> Receipt
+        requires { IsReceiptOf events.now self.old }
+        ensures first { IsReceiptOf events.now self.new × (self.new.handle ≡ self.old.handle) × (self.new.fate ≡ self.old.fate) }
+        ensures second { IsReceiptOf events.now result × (result.handle ≡ self.old.handle) × (result.fate ≡ self.old.fate) }
+    {
+        let inner = events.table.shared.split_seat::<Copies>(&mut self.inner);
+        Receipt {
+            handle: self.handle,
+            fate: self.fate,
+            inner,
+        }
+    }
+}

@@ -1,0 +1,65 @@
+//! Looking at events.
+
+ghost use Rattle.gen_events.specs.Plays.{Coherent};
+ghost use Rattle.gen_events.specs.Seats.{HasSeen, IsPast, Knows, Grows, Keeps, FoundPending, no_event};
+ghost use Rattle.gen_events.specs.Views.{lists, IsAt, answer_of};
+ghost use Rattle.std.specs.Prelude.{◌≡◌, ◌≢◌, ◌<◌, ◌≤◌, ◌⊎◌, Contains};
+
+use crate::events::Events;
+use crate::handle::{Answer, Fate, Handle};
+use crate::plays::{Look, Read};
+use crate::tokens::Seat;
+use crate::word::{is_no_event, turns};
+
+impl Events {
+    /// What becomes of a handle that the seat has seen: Pending only where its slot's word, loaded
+    /// in this call, showed it pending; otherwise its fate, which the seat then knows.
+    pub fn look(&self, seat: &mut Seat, handle: Handle) -> Answer
+        requires at { IsAt self.now seat.old }
+        requires seen { HasSeen (lists seat.old) handle }
+        ensures at { IsAt self.now seat.new }
+        ensures grows { Grows (lists seat.old) (lists seat.new) }
+        ensures kept { Keeps (lists seat.old) (lists seat.new) }
+        ensures pending { result ≡ Answer.Pending → FoundPending (lists seat.old) (lists seat.new) handle × ((f : Fate) → Knows (lists seat.old) handle f → ⊥) }
+        ensures triggered { result ≡ Answer.Triggered → (handle ≡ no_event) ⊎ Knows (lists seat.new) handle Fate.Ok }
+        ensures poisoned { result ≡ Answer.Poisoned → Knows (lists seat.new) handle Fate.Poison }
+        ensures left { handle ≢ no_event → Contains (lists seat.old).left handle → result ≡ Answer.Pending }
+        ensures none { handle ≡ no_event → result ≡ Answer.Triggered }
+        ensures known { (f : Fate) → handle ≢ no_event → Knows (lists seat.old) handle f → result ≡ answer_of f }
+    {
+        if is_no_event(handle) {
+            return Answer::Triggered;
+        }
+        let at = self.word_of(handle);
+        let found = self.table.shared.load::<Look>(&mut seat.inner, at);
+        if turns(found) < 2 * handle.gen_ as u64 + 2 {
+            return Answer::Pending;
+        }
+        match self.fate_of(seat, handle) {
+            Fate::Ok => Answer::Triggered,
+            Fate::Poison => Answer::Poisoned,
+        }
+    }
+
+    // The fate of a handle that was found to have ended.
+    pub(crate) fn fate_of(&self, seat: &mut Seat, handle: Handle) -> Fate
+        requires at { IsAt self.now seat.old }
+        requires made { (handle.slot < self.now.shape.slots) × (handle.gen_ ≤ self.now.shape.last_gen) }
+        requires past { IsPast (lists seat.old) handle }
+        ensures at { IsAt self.now seat.new }
+        ensures known { Knows (lists seat.new) handle result }
+        ensures grows { Grows (lists seat.old) (lists seat.new) }
+        ensures kept { Keeps (lists seat.old) (lists seat.new) }
+        ensures coherent { Coherent (lists seat.new) }
+        ensures same { ((lists seat.new).saw ≡ (lists seat.old).saw) × ((lists seat.new).placed ≡ (lists seat.old).placed) × ((lists seat.new).left ≡ (lists seat.old).left) }
+    {
+        let at = self.mark_at(handle);
+        let bit = self.place(handle) % 64;
+        let found = self.table.shared.load::<Read>(&mut seat.inner, at);
+        if found >> bit & 1 == 0 {
+            Fate::Ok
+        } else {
+            Fate::Poison
+        }
+    }
+}

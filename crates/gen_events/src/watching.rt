@@ -1,0 +1,79 @@
+//! Watching events.
+
+ghost use Rattle.gen_events.specs.Rule.{turns_of};
+ghost use Rattle.gen_events.specs.Seats.{HasSeen, Grows, Keeps};
+ghost use Rattle.gen_events.specs.Views.{lists, IsAt, IsWaiterOf, Watched, Attached};
+ghost use Rattle.std.specs.Prelude.{◌≡◌, ◌+◌, ◌*◌, ◌<◌, ◌≤◌, Contains};
+
+use crate::events::Events;
+use crate::handle::{Fate, Handle};
+use crate::plays::{Both, Deals, Link, Look, Put};
+use crate::tokens::{Seat, Waiter, Watch};
+use crate::word::{is_no_event, turns};
+
+impl Events {
+    /// Places the waiter on a handle that the seat has seen. Over comes where the handle has ended,
+    /// with its fate, which the seat then knows; Moved where the handle is pending and its slot's
+    /// word changed after this call loaded it.
+    pub fn watch(&self, seat: &mut Seat, handle: Handle, waiter: Waiter) -> Watch
+        requires at { IsAt self.now seat.old }
+        requires waiter { IsWaiterOf self.now waiter }
+        requires seen { HasSeen (lists seat.old) handle }
+        ensures at { IsAt self.now seat.new }
+        ensures grows { Grows (lists seat.old) (lists seat.new) }
+        ensures kept { Keeps (lists seat.old) (lists seat.new) }
+        ensures told { Watched self.now (lists seat.old) (lists seat.new) handle waiter result }
+    {
+        if is_no_event(handle) {
+            return Watch::Over(Fate::Ok, waiter);
+        }
+        let at = self.word_of(handle);
+        let found = self.table.shared.load::<Look>(&mut seat.inner, at);
+        if turns(found) >= 2 * handle.gen_ as u64 + 2 {
+            let fate = self.fate_of(seat, handle);
+            return Watch::Over(fate, waiter);
+        }
+        self.attach(seat, handle, found, waiter)
+    }
+
+    // The handle was found pending under this word.
+    fn attach(&self, seat: &mut Seat, handle: Handle, found: u64, waiter: Waiter) -> Watch
+        requires at { IsAt self.now seat.old }
+        requires waiter { IsWaiterOf self.now waiter }
+        requires seen { Contains (lists seat.old).seen handle }
+        requires slot { (handle.slot < self.now.shape.slots) × (handle.gen_ ≤ self.now.shape.last_gen) }
+        requires found { turns_of found ≡ 2 * handle.gen_ + 1 }
+        ensures at { IsAt self.now seat.new }
+        ensures grows { Grows (lists seat.old) (lists seat.new) }
+        ensures told { Attached self.now (lists seat.old) (lists seat.new) handle found waiter result }
+    {
+        let at = handle.slot as usize;
+        let low = found % 4294967296;
+        let Waiter { number, inner } = waiter;
+        let new = found - low + (number as u64 + 2);
+        self.table.shared.join_seat::<Both>(&mut seat.inner, inner);
+        self.table.shared.store::<Link>(
+            &mut seat.inner,
+            self.shape.slots as usize + number as usize,
+            low - 1,
+        );
+        let again = self
+            .table
+            .shared
+            .compare_exchange::<Put>(&mut seat.inner, at, found, new);
+        if again == found {
+            return Watch::Placed;
+        }
+        let back = self.table.shared.split_seat::<Deals>(&mut seat.inner);
+        let waiter = Waiter {
+            number,
+            inner: back,
+        };
+        if turns(again) >= 2 * handle.gen_ as u64 + 2 {
+            let fate = self.fate_of(seat, handle);
+            Watch::Over(fate, waiter)
+        } else {
+            Watch::Moved(waiter)
+        }
+    }
+}
