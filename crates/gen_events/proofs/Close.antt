@@ -1,78 +1,121 @@
 -- The table at the end.
-use Rattle.std.proofs.Common.{◌≡◌, ℕ, zero, suc, ◌+◌, ◌-◌, ◌*◌, ◌%◌, ◌<◌, ◌≤◌, List, [], ◌∷◌, length, get_or, sym, refl, ap, ◌∙◌, subst, inl, inr, ⊎_elim, arith}
+use Rattle.std.proofs.Common.{◌≡◌, ℕ, ◌+◌, ◌-◌, ◌*◌, ◌%◌, ◌<◌, ◌≤◌, ◌⊎◌, List, [], cond, length, get_or, sym, refl, ap, ◌∙◌, subst, inl, inr, arith, eqb, eqb-true, Some}
 use Rattle.std.specs.Prelude.{Contains}
+use Rattle.std.proofs.lemmas.Nat.Bits.{bit_at-lt}
+use Rattle.std.proofs.lemmas.Bool.{eqb-false}
 use Rattle.std.proofs.lemmas.List.Elements.{Contains-append_right}
 use mathlib.Core.Logic.{dite}
 use native.Mathlib.Decide.{ℕ_discrete}
 use Rattle.gen_events.specs.declared.handle.Handle.{Handle}
+use Rattle.gen_events.specs.declared.handle.Fate.{Fate}
+use Rattle.gen_events.specs.declared.handle.Answer.{Answer}
+use Rattle.gen_events.specs.declared.handle.Answer.TheVariants.{Pending}
 use Rattle.gen_events.specs.declared.handle.Shape.{Shape}
 use Rattle.gen_events.specs.declared.view.View.{View}
-use Rattle.gen_events.specs.Lists.{total, below}
-use Rattle.gen_events.specs.Rule.{turns_of, mark, fate_code, IsMade, code, Linked, Fits, Orderly}
+use Rattle.gen_events.specs.Lists.{total}
+use Rattle.gen_events.specs.Rule.{turns_of, mark, mark_word, place_of, fate_code, IsMade, code, Linked, Shows, Fits, Orderly}
 use Rattle.atomic_table.specs.Table.{Final, Seen}
-use Rattle.gen_events.specs.Plays.{gathered}
-use Rattle.gen_events.specs.Left.{Remains, IsLeft, AllLinked, chain_in, chain_at}
-use Rattle.gen_events.proofs.Sums.{entry_le, Contains-cases, Contains-none}
-use Rattle.gen_events.proofs.Words.{code_le}
+use Rattle.gen_events.specs.Plays.{gathered, fate_by}
+use Rattle.gen_events.specs.Chains.{chain_in, chain_at}
+use Rattle.gen_events.specs.EventMap.{SlotLife, unused, answer, answer_of, IsPlaced}
+use Rattle.gen_events.specs.Kept.{read, life_in, map_in, IsSlot, AreShown}
+use Rattle.gen_events.proofs.Sums.{entry_le, total-one, below-one}
+use Rattle.gen_events.proofs.ChainSteps.{follows}
+use Rattle.gen_events.proofs.Words.{by_test, code_le}
 use Rattle.gen_events.proofs.Apart.{St}
-use Rattle.gen_events.proofs.Steps.{shown, made_in, made_low}
+use Rattle.gen_events.proofs.Steps.{shown, made_in}
+use Rattle.gen_events.proofs.Marks.{coded}
+use Rattle.gen_events.proofs.Reading.{read_length, read_from_start, read_total, slot_read}
+use Rattle.gen_events.proofs.TableLook.{shown_pending, shown_ended, shown_made}
 
-pub total-one : (l : List ℕ) → total (λ _. 1) l ≡ length l
-total-one [] = refl
-total-one (x ∷ xs) = omega (arith, total-one xs)
+module _ (key : Shape) (s : St) (o : Orderly key s) (words : List ℕ) (is : s.words ≡ words) where
+  word_at : (i : ℕ) → get_or s.words i 0 ≡ get_or words i 0
+  word_at i = ap (λ l. get_or l i 0) is
 
-below-one : (n : ℕ) → below (λ _. 1) n ≡ n
-below-one zero = refl
-below-one (suc n) = omega (arith, below-one n)
+  turns_at_end : (i : ℕ) → i < key.slots → turns_of (get_or words i 0) ≡ get_or o.turns i 0
+  turns_at_end i l = ap turns_of (sym (word_at i)) ∙ shown key s o i l
 
--- the words give the chain back
-follows : (key : Shape) (ws c : List ℕ) (n : ℕ) → Linked key ws c → length c ≤ n → chain_in n key.slots ws (code c) ≡ c
-follows key ws [] zero l h = refl
-follows key ws [] (suc n) l h = refl
-follows key ws (k ∷ ks) zero l h = absurd (omega arith)
-follows key ws (k ∷ ks) (suc n) l h = let e : k + 1 ≡ suc k = omega arith in ap (chain_in (suc n) key.slots ws) e ∙ ap (λ l. k ∷ l) (ap (chain_in n key.slots ws) l.1 ∙ follows key ws ks n l.2 (omega arith))
+  -- the words give each chain back
+  waits : (i : ℕ) → i < key.slots → (life_in key words i).waiting ≡ get_or o.chains i []
+  waits i near =
+      let slot = o.each_slot i near in
+      let ch : List ℕ = get_or o.chains i [] in
+      let t = turns_at_end i near in
+      by_test (eqb (turns_of (get_or words i 0) % 2) 1)
+      (λ e. let shows = slot.0.pending (let odd = eqb-true (turns_of (get_or words i 0) % 2) 1 e in omega arith) in
+      let few = code_le key s.words ch slot.1 in
+      let small = o.small in
+      let low : get_or s.words i 0 % 4294967296 - 1 ≡ code ch = omega arith in
+      let long : length ch ≤ key.waiters = omega (arith, total-one ch, entry_le (total (λ _. 1)) o.chains i [] (omega (arith, near, o.rows)), o.once (λ _. 1), below-one key.waiters) in
+      ap (λ b. cond b (chain_at key words i) []) e ∙ ap (λ l. chain_at key l i) (sym is) ∙ ap (chain_in key.waiters key.slots s.words) low ∙ follows key s.words ch key.waiters slot.1 long)
+      (λ e. let even : get_or o.turns i 0 % 2 ≡ 0 = let odd = eqb-false (turns_of (get_or words i 0) % 2) 1 e in omega arith in
+      ap (λ b. cond b (chain_at key words i) []) e ∙ sym (slot.0.bare even))
 
-linked_all : (key : Shape) (ws c : List ℕ) → Linked key ws c → (k : ℕ) → Contains c k → k < key.waiters
-linked_all key ws [] l k d = absurd (Contains-none k d)
-linked_all key ws (j ∷ js) l k d = ⊎_elim (λ e. subst (λ x. x < key.waiters) e l.0) (λ z. linked_all key ws js l.2 k z) (Contains-cases j k js d)
+  slot_at_end : (i : ℕ) → i < key.slots → IsSlot key words i (life_in key words i)
+  slot_at_end i near =
+      let slot = o.each_slot i near in
+      let w = sym (waits i near) in
+      slot_read key words i
+      (subst (λ c. Shows key.last_gen (turns_of (get_or words i 0)) c (get_or words i 0)) w
+      (subst (λ t. Shows key.last_gen t (get_or o.chains i []) (get_or words i 0)) (sym (turns_at_end i near))
+      (subst (Shows key.last_gen (get_or o.turns i 0) (get_or o.chains i [])) (word_at i) slot.0)))
+      (subst (Linked key words) w (subst (λ ws. Linked key ws (get_or o.chains i [])) is slot.1))
+
+  pub shown_at_end : AreShown key words [] (map_in key words [])
+  shown_at_end = record {
+    waiters = refl;
+    last = refl;
+    wide = ap length (sym is) ∙ o.wide;
+    high = read_length (life_in key words) 0 key.slots;
+    each = λ i l. subst (IsSlot key words i) (sym (read_from_start (life_in key words) key.slots i unused l)) (slot_at_end i l);
+    chains = refl;
+    once = λ f. let same : total (λ (l : SlotLife). total f l.waiting) (read (life_in key words) 0 key.slots) ≡ total (total f) o.chains =
+        ap (λ n. total (λ (l : SlotLife). total f l.waiting) (read (life_in key words) 0 n)) (sym o.rows) ∙ read_total (life_in key words) (λ (l : SlotLife). total f l.waiting) (total f) 0 o.chains []
+        (λ k l. let at : 0 + k ≡ k = omega arith in ap (λ j. total f (life_in key words j).waiting) at ∙ ap (total f) (waits k (omega (arith, o.rows)))) in
+        omega (arith, o.once f);
+  }
 
 -- what the words say once the last seat has the Maker's view v and the view u
 pub record Closes (key : Shape) (words : List ℕ) (v u : View) : Type 0 where
-  pub remains : Remains key words v u
-  pub linked : AllLinked key words
-  pub placed : (k : ℕ) (h : Handle) → Contains u.placed (k, h) → IsLeft key words k h
-  pub made : (h : Handle) → h.slot < key.slots → 2 * h.gen_ + 1 ≤ turns_of (get_or words h.slot 0) → Contains v.made h
+  pub shown : AreShown key words [] (map_in key words [])
+  pub made : (h : Handle) → Contains v.made h → (a : Answer) × (answer (map_in key words []) h ≡ Some a)
+  pub only : (h : Handle) (a : Answer) → answer (map_in key words []) h ≡ Some a → Contains v.made h
+  pub seen : (h : Handle) → Contains u.seen h → (a : Answer) × (answer (map_in key words []) h ≡ Some a)
+  pub known : (h : Handle) (f : Fate) → Contains u.known (h, f) → answer (map_in key words []) h ≡ Some (answer_of f)
+  pub placed : (k : ℕ) (h : Handle) → Contains u.placed (k, h) → IsPlaced (map_in key words []) k h ⊎ ((f : Fate) × (answer (map_in key words []) h ≡ Some (answer_of f)))
+  pub left : (h : Handle) → Contains u.left h → answer (map_in key words []) h ≡ Some Pending
 
 pub closes : (key : Shape) (id : ℕ) (v u w : View) (words : List ℕ) (xs : List (Unit {0})) → v.makes ≡ 1 → u.makes ≡ 0 → w ≡ gathered v u → Final (Seen (Orderly key) id w) words xs → Closes key words v u
 closes key id v u w words xs m z is t =
     let s : St = t.0 in
     let o : Orderly key s = t.1.0 in
     let f : Fits key s.words o.turns o.log (gathered v u) = subst (Fits key s.words o.turns o.log) is (o.each_view id w t.1.1) in
-    let word : (i : ℕ) → get_or s.words i 0 ≡ get_or words i 0 = λ i. ap (λ l. get_or l i 0) t.2 in
-    let turns : (i : ℕ) → i < key.slots → turns_of (get_or words i 0) ≡ get_or o.turns i 0 = λ i l. ap turns_of (sym (word i)) ∙ shown key s o i l in
-    let here : (h : Handle) → IsMade o.turns h → (h.slot < key.slots) × (turns_of (get_or words h.slot 0) ≡ get_or o.turns h.slot 0) = λ h y. let l = made_in key s o h y in (l, turns h.slot l) in
-    let found : (i : ℕ) → i < key.slots → get_or o.turns i 0 % 2 ≡ 1 → chain_at key words i ≡ get_or o.chains i [] = λ i near odd.
-    let slot = o.each_slot i near in let shows = slot.0.pending odd in let ch : List ℕ = get_or o.chains i [] in
-    let few = code_le key s.words ch slot.1 in let small = o.small in
-    let low : get_or s.words i 0 % 4294967296 - 1 ≡ code ch = omega arith in
-    let long : length ch ≤ key.waiters = omega (arith, total-one ch, entry_le (total (λ _. 1)) o.chains i [] (omega (arith, near, o.rows)), o.once (λ _. 1), below-one key.waiters) in
-    let chain : chain_at key words i ≡ ch = ap (λ l. chain_at key l i) (sym t.2) ∙ (ap (chain_in key.waiters key.slots s.words) low ∙ follows key s.words ch key.waiters slot.1 long) in
-    chain in
+    let small = o.small in
+    let shown : AreShown key words [] (map_in key words []) = shown_at_end key s o words t.2 in
+    let turns = turns_at_end key s o words t.2 in
+    let marks : (h : Handle) → mark key s.words h ≡ mark key words h = λ h. ap (λ ws. mark key ws h) t.2 in
+    let pending : (h : Handle) → IsMade o.turns h → get_or o.turns h.slot 0 ≡ 2 * h.gen_ + 1 → answer (map_in key words []) h ≡ Some Pending = λ h y p.
+    let l = made_in key s o h y in shown_pending key words [] (map_in key words []) small shown h l (turns h.slot l ∙ p) in
+    let ended : (h : Handle) → IsMade o.turns h → 2 * h.gen_ + 2 ≤ get_or o.turns h.slot 0 → (f : Fate) → mark key words h ≡ fate_code f → answer (map_in key words []) h ≡ Some (answer_of f) = λ h y p g e.
+    let l = made_in key s o h y in let n = turns h.slot l in shown_ended key words [] (map_in key words []) small shown h l g (omega arith) e in
+    let over : (h : Handle) → IsMade o.turns h → 2 * h.gen_ + 2 ≤ get_or o.turns h.slot 0 → (f : Fate) × (answer (map_in key words []) h ≡ Some (answer_of f)) = λ h y p.
+    let g : Fate = fate_by (mark key words h) in (g, ended h y p g (coded (mark key words h) (bit_at-lt (get_or words (mark_word key h) 0) (place_of key.last_gen h % 64)))) in
+    let some : (h : Handle) → IsMade o.turns h → (a : Answer) × (answer (map_in key words []) h ≡ Some a) = λ h y.
+    dite (ℕ_discrete (get_or o.turns h.slot 0) (2 * h.gen_ + 1)) (λ p. (Pending, pending h y p)) (λ n. let r = over h y (omega arith) in (answer_of r.0, r.1)) in
     record {
-      linked = λ i l odd k c. let e = turns i l in let up : get_or o.turns i 0 % 2 ≡ 1 = ap (λ (n : ℕ). n % 2) (sym e) ∙ odd in
-          linked_all key s.words (get_or o.chains i []) (o.each_slot i l).1 k (subst (λ x. Contains x k) (found i l up) c);
-      remains = (
-        (λ h c. let y = f.own h c in let q = here h y in let a = q.1 in (q.0, made_low key s o h y, omega arith)),
-        (λ h g c. let y = f.known h g (Contains-append_right v.known u.known (h, g) c) in let over = y.0 in let q = (here h (omega arith)).1 in (omega arith, subst (λ ws. mark key ws h ≡ fate_code g) t.2 y.1)),
-        (λ h c. let y = f.left h (Contains-append_right v.left u.left h c) in let q = (here h (omega arith)).1 in q ∙ y),
-      );
+      shown = shown;
+      made = λ h c. some h (f.own h c);
+      only = λ h a e. let r = shown_made key words [] (map_in key words []) small shown h a e in let q = turns h.slot r.0 in f.made (omega arith) h (omega (arith, r.1));
+      seen = λ h c. some h (f.seen h (Contains-append_right v.seen u.seen h c));
+      known = λ h g c. let y = f.known h g (Contains-append_right v.known u.known (h, g) c) in ended h (omega (arith, y.0)) y.0 g (sym (marks h) ∙ y.1);
       placed = λ k h c.
           let old = o.stands k h (f.placed (k, h) (Contains-append_right v.placed u.placed (k, h) c)) in
-          let q = here h old.0 in let now = q.1 in let near = q.0 in let is = old.0 in
+          let near = made_in key s o h old.0 in
           dite (ℕ_discrete (get_or o.turns h.slot 0) (2 * h.gen_ + 1))
-          (λ p. let slot = o.each_slot h.slot near in let ch : List ℕ = get_or o.chains h.slot [] in
-          let chain : chain_at key words h.slot ≡ ch = found h.slot near (omega arith) in
-          inr (now ∙ p, subst (λ l. Contains l k) (sym chain) (old.1 p)))
-          (λ n. inl (omega arith));
-      made = λ h l c. let q = turns h.slot l in f.made (omega arith) h (omega arith);
+          (λ p. inl (record {
+            pending = pending h old.0 p;
+            stands = subst (λ (l : SlotLife). Contains l.waiting k) (sym (read_from_start (life_in key words) key.slots h.slot unused near)) (subst (λ l. Contains l k) (sym (waits key s o words t.2 h.slot near)) (old.1 p));
+          }))
+          (λ n. let y = old.0 in inr (over h old.0 (omega arith)));
+      left = λ h c. let y = f.left h (Contains-append_right v.left u.left h c) in pending h (omega arith) y;
     }

@@ -7,7 +7,8 @@ use Rattle.gen_events.specs.declared.handle.Fate.{Fate}
 use Rattle.gen_events.specs.declared.handle.Fate.TheVariants.{Ok, Poison}
 use Rattle.gen_events.specs.declared.view.View.{View}
 use Rattle.gen_events.specs.Plays.{Sat, looked, reads, fates_of, fate_now, marking, ended, joined, unchased}
-use Rattle.gen_events.specs.Seats.{Begins, Grows, Keeps}
+use Rattle.gen_events.specs.Seats.{HasSeen, Begins, Grows, Keeps}
+use Rattle.gen_events.proofs.Takes.{alone}
 
 pub same_begins : {X : Type 0} (xs ys : List X) → ys ≡ xs → Begins xs ys
 same_begins xs ys e = ([], e ∙ sym (append-nil xs))
@@ -55,3 +56,9 @@ end_keeps v u m m' n n₁ n₂ f r a b t d e =
     let over : Keeps m'.0 n.0 = keeps_by m'.0 n.0 (same_begins m'.0.seen n.0.seen (ap (λ (x : Sat). x.0.seen) t.5)) ((t.0, fate_now m'.0.marked) ∷ [], ap (λ (x : Sat). x.0.known) t.5) in
     let last : Keeps n.0 n₂.0 = keeps_by n.0 n₂.0 (same_begins n.0.seen n₂.0.seen (ap (λ (x : Sat). x.0.seen) e ∙ ap (λ (x : Sat). x.0.seen) d)) (same_begins n.0.known n₂.0.known (ap (λ (x : Sat). x.0.known) e ∙ ap (λ (x : Sat). x.0.known) d)) in
     keeps_on v.0 m.0 n₂.0 first (keeps_on m.0 m'.0 n₂.0 marked (keeps_on m'.0 n.0 n₂.0 over last))
+
+-- and the seat has then seen the handle of the token
+pub end_sees : (v u m m' n n₁ n₂ : Sat) (h : Handle) (f : Fate) (r : ℕ) → u.0.seen ≡ h ∷ [] → m ≡ (joined v.0 u.0, v.1) → m' ≡ (marking f m.0, m.1) → ended m' r n → n₁ ≡ (n.0, n.1) → n₂ ≡ (unchased n₁.0, n₁.1) → HasSeen n₂.0 h
+end_sees v u m m' n n₁ n₂ h f r s a b t d e =
+    let all : n₂.0.seen ≡ v.0.seen ++ u.0.seen = ap (λ (x : Sat). x.0.seen) e ∙ ap (λ (x : Sat). x.0.seen) d ∙ ap (λ (x : Sat). x.0.seen) t.5 ∙ ap (λ (x : Sat). x.0.seen) b ∙ (marking_same f m.0).0 ∙ ap (λ (x : Sat). x.0.seen) a in
+    record { seen = inr (alone v.0.seen u.0.seen n₂.0.seen h all s) }

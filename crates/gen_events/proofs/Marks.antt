@@ -79,7 +79,7 @@ fates_has x w r (y ∷ ys) h c at =
     (λ d. let l = fates_has x w r ys h d at in by_test (eqb (mark_word x y) w) (λ e. subst C (sym e) (Contains-tail {A = Handle × Fate} (y, g y) (h, g h) rest l)) (λ e. subst C (sym e) l))
     (Contains-cases y h ys c)
 
-fate_pos : (n : ℕ) → n ≢ 0 → fate_by n ≡ Poison
+pub fate_pos : (n : ℕ) → n ≢ 0 → fate_by n ≡ Poison
 fate_pos zero e = absurd (e refl)
 fate_pos (suc n) e = refl
 

@@ -1,16 +1,13 @@
 -- What holds of a table at each moment, since the rule holds then.
-use Rattle.std.specs.Prelude.{◌≡◌, ℕ, ◌+◌, ◌*◌, ◌<◌, Contains, cond, ◌==◌, slice_index}
+use Rattle.std.specs.Prelude.{◌≡◌, ℕ, ◌+◌, ◌*◌, ◌<◌, Contains, slice_index}
 use mathlib.Core.Option.{some}
 use lib.ListN.{get_elem?}
 use Rattle.atomic_table.specs.Table.{State}
-use Rattle.gen_events.specs.Lists.{total}
+use Rattle.gen_events.specs.Lists.{total, only}
 use Rattle.gen_events.specs.Rule.{Orderly, held, turns_of}
 use Rattle.gen_events.specs.declared.handle.Handle.{Handle}
 use Rattle.gen_events.specs.declared.handle.Shape.{Shape}
 use Rattle.gen_events.specs.declared.view.View.{View}
-
-abbrev pub only : ℕ → ℕ → ℕ
-only k x = cond (x == k) 1 0
 
 -- a waiter is in one place: in a hand, on a pending handle, or caught
 abbrev pub OnePlace : Type 0

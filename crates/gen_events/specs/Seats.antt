@@ -2,6 +2,7 @@
 use Rattle.std.specs.Prelude.{◌≡◌, ℕ, ◌+◌, ◌-◌, ◌*◌, ◌<◌, ◌≤◌, ◌⊎◌, List, [], ◌∷◌, ◌++◌, map, Contains}
 use Rattle.atomic_table.specs.Table.{Me}
 use Rattle.gen_events.specs.Rule.{turns_of, code, undealt}
+pub use Rattle.gen_events.specs.EventMap.{no_event}
 use Rattle.gen_events.specs.declared.handle.Handle.{Handle}
 use Rattle.gen_events.specs.declared.handle.Fate.{Fate}
 use Rattle.gen_events.specs.declared.handle.Shape.{Shape}
@@ -31,7 +32,7 @@ last_gen_of [] = 0
 last_gen_of (x ∷ xs) = x.last_gen
 
 abbrev pub IsPending : Me Unit View → Handle → Type 0
-IsPending m h = Rights m 0 (h ∷ []) [] [] × (m.0.caught ≡ []) × (h.slot < slots_of m.0.keys) × (h.gen_ ≤ last_gen_of m.0.keys)
+IsPending m h = Rights m 0 (h ∷ []) [] [] × (m.0.caught ≡ []) × (h.slot < slots_of m.0.keys) × (h.gen_ ≤ last_gen_of m.0.keys) × (m.0.seen ≡ h ∷ [])
 
 abbrev pub IsWaiter : Me Unit View → ℕ → Type 0
 IsWaiter m k = Rights m 0 [] (k ∷ []) [] × (m.0.caught ≡ []) × (k < waiters_of m.0.keys) × (waiters_of m.0.keys ≤ 8192) × (m.0.placed ≡ [])
@@ -47,9 +48,6 @@ abbrev pub IsSet : Me Unit View → ℕ → ℕ → Type 0
 IsSet m next count = (m.1 ≡ []) × (m.0.makes ≡ 0) × (m.0.rights ≡ []) × (m.0.hand ≡ undealt next (count - next)) × (m.0.chased ≡ []) × (m.0.marked ≡ []) × (m.0.caught ≡ []) × (next ≤ count) × (waiters_of m.0.keys ≡ count) × (count ≤ 8192)
 
 -- The lists of a seat
-abbrev pub no_event : Handle
-no_event = record { slot = 4294967295; gen_ = 0 }
-
 -- the seat has seen the handle. NO_EVENT counts as seen by all
 pub record HasSeen (v : View) (h : Handle) : Type 0 where
   pub seen : (h ≡ no_event) ⊎ Contains v.seen h

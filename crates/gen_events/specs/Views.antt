@@ -1,13 +1,12 @@
 -- Tokens at their table, and what a call tells by them.
-use Rattle.std.specs.Prelude.{◌≡◌, ◌≢◌, ℕ, ◌+◌, ◌*◌, ◌<◌, ◌⊎◌, List, [], ◌∷◌, ◌++◌, Contains, slice_index}
+use Rattle.std.specs.Prelude.{◌≡◌, ◌≢◌, ℕ, ◌+◌, ◌*◌, ◌<◌, ◌⊎◌, List, [], ◌∷◌, ◌++◌, Contains}
 use Rattle.atomic_table.specs.declared.shared.Seat as table
-use Rattle.gen_events.specs.Rule.{turns_of, mark}
-use Rattle.gen_events.specs.declared.handle.Answer.{Answer}
-use Rattle.gen_events.specs.declared.handle.Answer.TheVariants.{Triggered, Poisoned}
+use Rattle.gen_events.specs.Rule.{turns_of}
 use Rattle.gen_events.specs.Seats.{Knows, FoundPending, no_event}
+pub use Rattle.gen_events.specs.EventMap.{answer_of}
 use Rattle.gen_events.specs.declared.handle.Handle.{Handle}
 use Rattle.gen_events.specs.declared.handle.Fate.{Fate}
-use Rattle.gen_events.specs.declared.handle.Fate.TheVariants.{Ok, Poison}
+use Rattle.gen_events.specs.declared.handle.Fate.TheVariants.{Ok}
 use Rattle.gen_events.specs.declared.handle.Shape.{Shape}
 use Rattle.gen_events.specs.declared.view.View.{View}
 use Rattle.gen_events.specs.declared.tokens.Seat.{Seat}
@@ -20,8 +19,6 @@ use Rattle.gen_events.specs.declared.tokens.WaiterSet.{WaiterSet}
 use Rattle.gen_events.specs.declared.tokens.Watch.{Watch}
 use Rattle.gen_events.specs.declared.tokens.Watch.TheVariants.{Placed, Over, Moved}
 use Rattle.gen_events.specs.declared.events.Events.{Events}
-use Rattle.gen_events.specs.declared.left.Left.{Left}
-use Rattle.std.specs.Slots.{slots_items}
 
 abbrev pub IsOf : Events → table.Seat (Unit {0}) View → Type 0
 IsOf e s = (s.table_id ≡ e.table.shared.table_id) × (s.me.0.keys ≡ e.shape ∷ [])
@@ -49,6 +46,32 @@ IsCaughtOf e s = IsOf e s.inner
 
 abbrev pub IsSetOf : Events → WaiterSet → Type 0
 IsSetOf e s = IsOf e s.inner
+
+-- what the tokens name
+abbrev pub shape_of : Events → Shape
+shape_of e = e.shape
+
+abbrev pub handle_of : Pending → Handle
+handle_of s = s.handle
+
+abbrev pub number_of : Waiter → ℕ
+number_of s = s.number
+
+abbrev pub ended_by : Receipt → Handle
+ended_by s = s.handle
+
+abbrev pub fate_of : Receipt → Fate
+fate_of s = s.fate
+
+abbrev pub caught_on : Caught → Handle
+caught_on s = s.handle
+
+-- how many waiters were taken of a set, and how many there are in all
+abbrev pub taken_of : WaiterSet → ℕ
+taken_of s = s.next
+
+abbrev pub size_of : WaiterSet → ℕ
+size_of s = s.count
 
 -- what a chain has given, in order
 abbrev pub given_by : Caught → List (ℕ × Handle)
@@ -82,34 +105,19 @@ rest_of s = s.inner.me.0.caught
 
 -- it is the same waiter again
 abbrev pub IsSame : Events → Waiter → Waiter → Type 0
-IsSame e k l = (l.number ≡ k.number) × IsWaiterOf e l
+IsSame e k l = (number_of l ≡ number_of k) × IsWaiterOf e l
 
 -- the seat found the handle pending twice, under two words
 abbrev pub FoundMoved : View → View → Handle → Type 0
 FoundMoved v w h = (r r' : ℕ) × (w.saw ≡ v.saw ++ (h.slot, r) ∷ (h.slot, r') ∷ []) × (turns_of r ≡ 2 * h.gen_ + 1) × (turns_of r' ≡ 2 * h.gen_ + 1) × (r ≢ r')
 
 abbrev pub Watched : Events → View → View → Handle → Waiter → Watch → Type 0
-Watched e v w h k Placed = FoundPending v w h × (w.placed ≡ v.placed ++ (k.number, h) ∷ [])
+Watched e v w h k Placed = FoundPending v w h × (w.placed ≡ v.placed ++ (number_of k, h) ∷ [])
 Watched e v w h k (Over f l) = (((h ≡ no_event) × (f ≡ Ok)) ⊎ Knows w h f) × (w.placed ≡ v.placed) × IsSame e k l
 Watched e v w h k (Moved l) = FoundMoved v w h × (w.placed ≡ v.placed) × IsSame e k l
 
 -- the same, once the handle was found pending under the word r
 abbrev pub Attached : Events → View → View → Handle → ℕ → Waiter → Watch → Type 0
-Attached e v w h r k Placed = (w.saw ≡ v.saw) × (w.placed ≡ v.placed ++ (k.number, h) ∷ [])
+Attached e v w h r k Placed = (w.saw ≡ v.saw) × (w.placed ≡ v.placed ++ (number_of k, h) ∷ [])
 Attached e v w h r k (Over f l) = Knows w h f × (w.placed ≡ v.placed) × IsSame e k l
 Attached e v w h r k (Moved l) = (r' : ℕ) × (w.saw ≡ v.saw ++ (h.slot, r') ∷ []) × (turns_of r' ≡ 2 * h.gen_ + 1) × (r ≢ r') × (w.placed ≡ v.placed) × IsSame e k l
-
--- how often a slot of a closed table was created and ended
-abbrev pub turns_left : Left → ℕ → ℕ
-turns_left l i = turns_of (slice_index (slots_items l.closed.words) i)
-
-abbrev pub words_left : Left → List ℕ
-words_left l = slots_items l.closed.words
-
--- the poison bit of a handle
-abbrev pub mark_left : Left → Handle → ℕ
-mark_left l h = mark l.shape (slots_items l.closed.words) h
-
-abbrev pub answer_of : Fate → Answer
-answer_of Ok = Triggered
-answer_of Poison = Poisoned

@@ -1,18 +1,17 @@
 //! The table of events that threads share.
 
-ghost use Rattle.gen_events.specs.Rule.{mark_words, mark_word, place_of};
+ghost use Rattle.gen_events.specs.Rule.{mark_words};
 ghost use Rattle.gen_events.specs.declared.handle.Handle.{Handle as TheHandle};
 ghost use Rattle.std.specs.Prelude.{◌≡◌, ℕ, ◌+◌, ◌*◌, ◌<◌, ◌≤◌, ◌++◌, [], Contains, IfOk};
 
 use crate::NoMemory;
-use crate::handle::{Handle, Shape};
+use crate::handle::{Answer, Fate, Handle, Shape};
 use crate::left::Left;
 use crate::plays::{Appoints, Both, Copies, DealsAll, Forsakes, Gathers, Heed, Order};
 use crate::tokens::{Maker, Pending, Receipt, Seat, WaiterSet};
 use crate::view::View;
 use atomic_table::Table;
 use std::alloc::{AllocError, Global};
-use std::snapshot::Snapshot;
 
 /// A table of events that threads share. Each call but `new` is a few single steps on words, of
 /// which none waits for another thread.
@@ -24,10 +23,11 @@ pub struct Events {
 }
 
 impl Events {
-    ghost use Rattle.gen_events.specs.Left.{IsLeft};
+    ghost use Rattle.std.specs.Prelude.{◌⊎◌, Some, length};
+    ghost use Rattle.gen_events.specs.EventMap.{answer, answer_of, IsEventMap, IsCreated, IsPlaced};
     ghost use Rattle.gen_events.specs.Plays.{Coherent};
     ghost use Rattle.gen_events.specs.Seats.{HasSeen, Knows, Grows, Keeps};
-    ghost use Rattle.gen_events.specs.Views.{lists, IsAt, IsMakerOf, IsPendingOf, IsReceiptOf, IsSetOf, made_by, turns_left, words_left};
+    ghost use Rattle.gen_events.specs.Views.{lists, IsAt, IsMakerOf, IsPendingOf, IsReceiptOf, IsSetOf, made_by, shape_of, handle_of, ended_by, fate_of, taken_of, size_of};
 
     /// A table in which nothing was created, with the right to create, a seat that has seen
     /// nothing, and all waiters. `NoMemory` comes where memory ran out.
@@ -40,9 +40,9 @@ impl Events {
         requires slots { (0 < slots) × (slots ≤ 8192) }
         requires waiters { waiters ≤ 8192 }
         requires gens { slots * (last_gen + 1) ≤ 67108864 }
-        ensures shape { IfOk result (λ r. (r.0.shape.slots ≡ slots) × (r.0.shape.waiters ≡ waiters) × (r.0.shape.last_gen ≡ last_gen)) }
+        ensures shape { IfOk result (λ r. ((shape_of r.0).slots ≡ slots) × ((shape_of r.0).waiters ≡ waiters) × ((shape_of r.0).last_gen ≡ last_gen)) }
         ensures at { IfOk result (λ r. IsMakerOf r.0 r.1 × IsAt r.0 r.2 × IsSetOf r.0 r.3) }
-        ensures none { IfOk result (λ r. (made_by r.1 ≡ []) × (r.3.next ≡ 0) × (r.3.count ≡ waiters)) }
+        ensures none { IfOk result (λ r. (made_by r.1 ≡ []) × (taken_of r.3 ≡ 0) × (size_of r.3 ≡ waiters)) }
     {
         let shape = Shape {
             slots,
@@ -56,9 +56,9 @@ impl Events {
         requires slots { (0 < shape.slots) × (shape.slots ≤ 8192) }
         requires waiters { shape.waiters ≤ 8192 }
         requires gens { shape.slots * (shape.last_gen + 1) ≤ 67108864 }
-        ensures shape { IfOk result (λ r. r.0.shape ≡ shape) }
+        ensures shape { IfOk result (λ r. shape_of r.0 ≡ shape) }
         ensures at { IfOk result (λ r. IsMakerOf r.0 r.1 × IsAt r.0 r.2 × IsSetOf r.0 r.3) }
-        ensures none { IfOk result (λ r. (made_by r.1 ≡ []) × (r.3.next ≡ 0) × (r.3.count ≡ shape.waiters)) }
+        ensures none { IfOk result (λ r. (made_by r.1 ≡ []) × (taken_of r.3 ≡ 0) × (size_of r.3 ≡ shape.waiters)) }
     {
         let marks = (shape.slots as usize * (shape.last_gen as usize + 1) + 63) / 64;
         let words = vec![in alloc; 0u64; shape.slots as usize + shape.waiters as usize + marks]?;
@@ -114,8 +114,8 @@ impl Events {
         ensures at { IsAt self.now seat.new }
         ensures grows { Grows (lists seat.old) (lists seat.new) }
         ensures kept { Keeps (lists seat.old) (lists seat.new) }
-        ensures seen { HasSeen (lists seat.new) receipt.handle }
-        ensures known { Knows (lists seat.new) receipt.handle receipt.fate }
+        ensures seen { HasSeen (lists seat.new) (ended_by receipt) }
+        ensures known { Knows (lists seat.new) (ended_by receipt) (fate_of receipt) }
     {
         let Receipt {
             handle: _,
@@ -132,7 +132,8 @@ impl Events {
         ensures at { IsAt self.now seat.new }
         ensures grows { Grows (lists seat.old) (lists seat.new) }
         ensures kept { Keeps (lists seat.old) (lists seat.new) }
-        ensures handle { result ≡ pending.handle }
+        ensures handle { result ≡ handle_of pending }
+        ensures seen { HasSeen (lists seat.new) result }
         ensures left { Contains (lists seat.new).left result }
     {
         let Pending { handle, inner } = pending;
@@ -142,56 +143,37 @@ impl Events {
         handle
     }
 
-    /// The table at the end, with what the seat and the Maker had. No other seat can step any more.
+    /// The map of the table at the end, whose handles are those of the Maker's list. No other seat
+    /// can step any more.
     pub fn close(self, maker: Maker, seat: Seat) -> Left
         requires maker { IsMakerOf self maker }
         requires at { IsAt self seat }
-        ensures shape { result.shape ≡ self.shape }
-        ensures lists { (result.seat.value ≡ seat) × (result.maker.value ≡ maker) }
-        ensures placed { (k : ℕ) (h : TheHandle) → Contains (lists seat).placed (k, h) → IsLeft self.shape (words_left result) k h }
-        ensures made { (h : TheHandle) → h.slot < self.shape.slots → 2 * h.gen_ + 1 ≤ turns_left result h.slot → Contains (made_by maker) h }
+        ensures map { IsEventMap result × (result.caught ≡ []) }
+        ensures shape { (length result.slots ≡ (shape_of self).slots) × (result.waiters ≡ (shape_of self).waiters) × (result.last_gen ≡ (shape_of self).last_gen) }
+        ensures made { (h : TheHandle) → Contains (made_by maker) h → (a : Answer) × (answer result h ≡ Some a) }
+        ensures only { (h : TheHandle) (a : Answer) → answer result h ≡ Some a → Contains (made_by maker) h }
+        ensures seen { (h : TheHandle) → HasSeen (lists seat) h → IsCreated result h }
+        ensures known { (h : TheHandle) (f : Fate) → Knows (lists seat) h f → answer result h ≡ Some (answer_of f) }
+        ensures placed { (k : ℕ) (h : TheHandle) → Contains (lists seat).placed (k, h) → IsPlaced result k h ⊎ ((f : Fate) × (answer result h ≡ Some (answer_of f))) }
+        ensures left { (h : TheHandle) → Contains (lists seat).left h → answer result h ≡ Some Answer.Pending }
     {
-        let at_end = Snapshot::of(&seat);
-        let list = Snapshot::of(&maker);
         let Maker { inner: mut all } = maker;
         let Seat { inner } = seat;
         self.table.shared.join_seat::<Gathers>(&mut all, inner);
         let Events { table, shape } = self;
         let closed = table.close_with(all);
-        Left {
-            closed,
-            shape,
-            seat: at_end,
-            maker: list,
-        }
+        Left { closed, shape }
     }
 
     // The number of the word of the handle's slot; 0 for a handle that no table has.
     pub(crate) fn word_of(&self, handle: Handle) -> usize
-        ensures slot { result < self.now.shape.slots }
-        ensures same { handle.slot < self.now.shape.slots → result ≡ handle.slot }
+        ensures slot { result < (shape_of self.now).slots }
+        ensures same { handle.slot < (shape_of self.now).slots → result ≡ handle.slot }
     {
         if handle.slot < self.shape.slots {
             handle.slot as usize
         } else {
             0
         }
-    }
-
-    // The number of the poison word of a handle.
-    pub(crate) fn mark_at(&self, handle: Handle) -> usize
-        requires { (handle.slot < self.now.shape.slots) × (handle.gen_ ≤ self.now.shape.last_gen) }
-        ensures { (result ≡ mark_word self.now.shape handle) × (result < self.now.table.shared.table_id.words) }
-    {
-        let place = self.place(handle);
-        self.shape.slots as usize + self.shape.waiters as usize + (place / 64) as usize
-    }
-
-    // The place of a handle among the poison bits.
-    pub(crate) fn place(&self, handle: Handle) -> u64
-        requires { (handle.slot < self.now.shape.slots) × (handle.gen_ ≤ self.now.shape.last_gen) }
-        ensures { result ≡ place_of self.now.shape.last_gen handle }
-    {
-        handle.slot as u64 * (self.shape.last_gen as u64 + 1) + handle.gen_ as u64
     }
 }

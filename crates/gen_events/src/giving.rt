@@ -2,7 +2,7 @@
 
 ghost use Rattle.gen_events.specs.Plays.{Coherent};
 ghost use Rattle.gen_events.specs.Seats.{Grows, Keeps};
-ghost use Rattle.gen_events.specs.Views.{lists, IsAt, IsWaiterOf, IsReceiptOf, IsCaughtOf, IsSetOf, rest_of, given_by};
+ghost use Rattle.gen_events.specs.Views.{lists, IsAt, IsWaiterOf, IsReceiptOf, IsCaughtOf, IsSetOf, rest_of, given_by, number_of, ended_by, fate_of, caught_on, taken_of, size_of};
 ghost use Rattle.std.specs.Prelude.{◌≡◌, ◌+◌, ◌∷◌, ◌++◌, [], Contains, IfSome, IfNone};
 
 use crate::events::Events;
@@ -14,13 +14,13 @@ impl Caught {
     pub fn next(&mut self, events: &Events, seat: &mut Seat) -> Option<Waiter>
         requires chain { IsCaughtOf events.now self.old }
         requires at { IsAt events.now seat.old }
-        ensures chain { IsCaughtOf events.now self.new × (self.new.handle ≡ self.old.handle) }
+        ensures chain { IsCaughtOf events.now self.new × (caught_on self.new ≡ caught_on self.old) }
         ensures at { IsAt events.now seat.new }
         ensures grows { Grows (lists seat.old) (lists seat.new) }
         ensures kept { Keeps (lists seat.old) (lists seat.new) }
-        ensures some { IfSome result (λ w. (rest_of self.old ≡ w.number ∷ rest_of self.new) × IsWaiterOf events.now w) }
-        ensures given { IfSome result (λ w. given_by self.new ≡ given_by self.old ++ (w.number, self.old.handle) ∷ []) }
-        ensures none { IfNone result ((rest_of self.old ≡ []) × Contains (lists seat.new).emptied self.old.handle × Coherent (lists seat.new)) }
+        ensures some { IfSome result (λ w. (rest_of self.old ≡ number_of w ∷ rest_of self.new) × IsWaiterOf events.now w) }
+        ensures given { IfSome result (λ w. given_by self.new ≡ given_by self.old ++ (number_of w, caught_on self.old) ∷ []) }
+        ensures none { IfNone result ((rest_of self.old ≡ []) × Contains (lists seat.new).emptied (caught_on self.old) × Coherent (lists seat.new)) }
     {
         if self.next == 0 {
             let news = events.table.shared.split_seat::<Empties>(&mut self.inner);
@@ -44,9 +44,9 @@ impl WaiterSet {
     /// The next waiter, numbered from 0.
     pub fn take(&mut self, events: &Events) -> Option<Waiter>
         requires { IsSetOf events.now self.old }
-        ensures set { IsSetOf events.now self.new × (self.new.count ≡ self.old.count) }
-        ensures some { IfSome result (λ w. (w.number ≡ self.old.next) × (self.new.next ≡ self.old.next + 1) × IsWaiterOf events.now w) }
-        ensures none { IfNone result ((self.old.next ≡ self.old.count) × (self.new.next ≡ self.old.next)) }
+        ensures set { IsSetOf events.now self.new × (size_of self.new ≡ size_of self.old) }
+        ensures some { IfSome result (λ w. (number_of w ≡ taken_of self.old) × (taken_of self.new ≡ taken_of self.old + 1) × IsWaiterOf events.now w) }
+        ensures none { IfNone result ((taken_of self.old ≡ size_of self.old) × (taken_of self.new ≡ taken_of self.old)) }
     {
         if self.next == self.count {
             return None;
@@ -62,8 +62,8 @@ impl Receipt {
     /// A second receipt of the same handle and fate.
     pub fn again(&mut self, events: &Events) -> Receipt
         requires { IsReceiptOf events.now self.old }
-        ensures first { IsReceiptOf events.now self.new × (self.new.handle ≡ self.old.handle) × (self.new.fate ≡ self.old.fate) }
-        ensures second { IsReceiptOf events.now result × (result.handle ≡ self.old.handle) × (result.fate ≡ self.old.fate) }
+        ensures first { IsReceiptOf events.now self.new × (ended_by self.new ≡ ended_by self.old) × (fate_of self.new ≡ fate_of self.old) }
+        ensures second { IsReceiptOf events.now result × (ended_by result ≡ ended_by self.old) × (fate_of result ≡ fate_of self.old) }
     {
         let inner = events.table.shared.split_seat::<Copies>(&mut self.inner);
         Receipt {

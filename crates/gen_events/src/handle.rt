@@ -28,6 +28,13 @@ pub enum Answer {
     Poisoned,
 }
 
+/// What `EventTable::watch` did: it placed the waiter, or the handle had ended with this fate.
+#[derive(Clone, Copy, Debug, PartialEq, Eq)]
+pub enum WatchNow {
+    Placed,
+    Over(Fate),
+}
+
 /// The size of a table: 1 to 8,192 slots, at most 8,192 waiters, and the last generation of a slot,
 /// with at most 67,108,864 generations in all.
 #[derive(Clone, Copy)]
@@ -35,4 +42,36 @@ pub struct Shape {
     pub slots: u32,
     pub waiters: u32,
     pub last_gen: u32,
+}
+
+impl Shape {
+    ghost use Rattle.std.specs.Prelude.{◌≡◌, ◌+◌, ◌*◌, ◌<◌, ◌≤◌};
+    ghost use Rattle.gen_events.specs.Rule.{mark_words, mark_word, place_of};
+
+    // The number of words of a table.
+    pub(crate) fn words(&self) -> usize
+        requires { (self.now.slots ≤ 8192) × (self.now.waiters ≤ 8192) × (self.now.slots * (self.now.last_gen + 1) ≤ 67108864) }
+        ensures { result ≡ self.now.slots + self.now.waiters + mark_words self.now }
+    {
+        let marks = (self.slots as usize * (self.last_gen as usize + 1) + 63) / 64;
+        self.slots as usize + self.waiters as usize + marks
+    }
+
+    // The place of a handle among the poison bits.
+    pub(crate) fn place(&self, handle: Handle) -> u64
+        requires { (handle.slot < self.now.slots) × (handle.gen_ ≤ self.now.last_gen) × (self.now.slots * (self.now.last_gen + 1) ≤ 67108864) }
+        ensures { result ≡ place_of self.now.last_gen handle }
+    {
+        handle.slot as u64 * (self.last_gen as u64 + 1) + handle.gen_ as u64
+    }
+
+    // The number of the poison word of a handle.
+    pub(crate) fn mark_at(&self, handle: Handle) -> usize
+        requires { (handle.slot < self.now.slots) × (handle.gen_ ≤ self.now.last_gen) × (self.now.slots * (self.now.last_gen + 1) ≤ 67108864) }
+        ensures at { result ≡ mark_word self.now handle }
+        ensures within { result < self.now.slots + self.now.waiters + mark_words self.now }
+    {
+        let place = self.place(handle);
+        self.slots as usize + self.waiters as usize + (place / 64) as usize
+    }
 }

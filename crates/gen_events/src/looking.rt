@@ -2,14 +2,14 @@
 
 ghost use Rattle.gen_events.specs.Plays.{Coherent};
 ghost use Rattle.gen_events.specs.Seats.{HasSeen, IsPast, Knows, Grows, Keeps, FoundPending, no_event};
-ghost use Rattle.gen_events.specs.Views.{lists, IsAt, answer_of};
+ghost use Rattle.gen_events.specs.Views.{lists, shape_of, IsAt, answer_of};
 ghost use Rattle.std.specs.Prelude.{◌≡◌, ◌≢◌, ◌<◌, ◌≤◌, ◌⊎◌, Contains};
 
 use crate::events::Events;
 use crate::handle::{Answer, Fate, Handle};
 use crate::plays::{Look, Read};
 use crate::tokens::Seat;
-use crate::word::{is_no_event, turns};
+use crate::word::{fate_shown, is_no_event, turns};
 
 impl Events {
     /// What becomes of a handle that the seat has seen: Pending only where its slot's word, loaded
@@ -44,7 +44,7 @@ impl Events {
     // The fate of a handle that was found to have ended.
     pub(crate) fn fate_of(&self, seat: &mut Seat, handle: Handle) -> Fate
         requires at { IsAt self.now seat.old }
-        requires made { (handle.slot < self.now.shape.slots) × (handle.gen_ ≤ self.now.shape.last_gen) }
+        requires made { (handle.slot < (shape_of self.now).slots) × (handle.gen_ ≤ (shape_of self.now).last_gen) }
         requires past { IsPast (lists seat.old) handle }
         ensures at { IsAt self.now seat.new }
         ensures known { Knows (lists seat.new) handle result }
@@ -53,13 +53,9 @@ impl Events {
         ensures coherent { Coherent (lists seat.new) }
         ensures same { ((lists seat.new).saw ≡ (lists seat.old).saw) × ((lists seat.new).placed ≡ (lists seat.old).placed) × ((lists seat.new).left ≡ (lists seat.old).left) }
     {
-        let at = self.mark_at(handle);
-        let bit = self.place(handle) % 64;
+        let at = self.shape.mark_at(handle);
+        let bit = self.shape.place(handle) % 64;
         let found = self.table.shared.load::<Read>(&mut seat.inner, at);
-        if found >> bit & 1 == 0 {
-            Fate::Ok
-        } else {
-            Fate::Poison
-        }
+        fate_shown(found, bit)
     }
 }

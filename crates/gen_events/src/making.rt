@@ -1,7 +1,7 @@
 //! Creating events, which the one Maker does.
 
 ghost use Rattle.gen_events.specs.Seats.{HasSeen, Grows, Keeps, no_event};
-ghost use Rattle.gen_events.specs.Views.{lists, IsAt, IsMakerOf, IsPendingOf, made_by, maker_lists, IsNew, IsFull};
+ghost use Rattle.gen_events.specs.Views.{lists, IsAt, IsMakerOf, IsPendingOf, made_by, maker_lists, shape_of, handle_of, IsNew, IsFull};
 ghost use Rattle.std.specs.Prelude.{◌≡◌, ◌≢◌, ◌%◌, ◌<◌, Contains, IfSome, IfNone};
 
 use crate::events::Events;
@@ -19,8 +19,8 @@ impl Events {
         ensures at { IsAt self.now seat.new }
         ensures grows { Grows (lists seat.old) (lists seat.new) }
         ensures kept { Keeps (lists seat.old) (lists seat.new) }
-        ensures some { IfSome result (λ p. IsPendingOf self.now p × IsNew (made_by maker.old) (made_by maker.new) p.handle × HasSeen (lists seat.new) p.handle × (p.handle ≢ no_event)) }
-        ensures none { IfNone result ((made_by maker.new ≡ made_by maker.old) × IsFull self.now.shape (maker_lists maker.old) (maker_lists maker.new)) }
+        ensures some { IfSome result (λ p. IsPendingOf self.now p × IsNew (made_by maker.old) (made_by maker.new) (handle_of p) × HasSeen (lists seat.new) (handle_of p) × (handle_of p ≢ no_event)) }
+        ensures none { IfNone result ((made_by maker.new ≡ made_by maker.old) × IsFull (shape_of self.now) (maker_lists maker.old) (maker_lists maker.new)) }
     {
         let mut slot = 0;
         while slot < self.shape.slots {
@@ -40,16 +40,16 @@ impl Events {
     fn make(&self, maker: &mut Maker, seat: &mut Seat, slot: u32, found: u64) -> Pending
         requires maker { IsMakerOf self.now maker.old }
         requires at { IsAt self.now seat.old }
-        requires slot { slot < self.now.shape.slots }
+        requires slot { slot < (shape_of self.now).slots }
         requires free { (found % 4294967296 ≡ 0) × Contains (maker_lists maker.old).spare (slot, found) }
         ensures maker { IsMakerOf self.now maker.new }
         ensures at { IsAt self.now seat.new }
         ensures grows { Grows (lists seat.old) (lists seat.new) }
         ensures kept { Keeps (lists seat.old) (lists seat.new) }
         ensures pending { IsPendingOf self.now result }
-        ensures new { IsNew (made_by maker.old) (made_by maker.new) result.handle }
-        ensures seen { HasSeen (lists seat.new) result.handle }
-        ensures real { result.handle ≢ no_event }
+        ensures new { IsNew (made_by maker.old) (made_by maker.new) (handle_of result) }
+        ensures seen { HasSeen (lists seat.new) (handle_of result) }
+        ensures real { handle_of result ≢ no_event }
     {
         let gen_ = (found / 4294967296) as u32;
         self.table

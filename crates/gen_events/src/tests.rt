@@ -1,35 +1,44 @@
-//! Tables of a few slots, on one thread.
+//! Tables that threads share, of a few slots.
 
-ghost use Rattle.std.specs.Prelude.{IfSome};
-ghost use Rattle.gen_events.specs.Views.{IsAt, IsMakerOf, IsReceiptOf};
+ghost use Rattle.std.specs.Prelude.{◌≡◌, [], All, Contains, IfSome};
+ghost use Rattle.gen_events.specs.EventMap.{fresh};
+ghost use Rattle.gen_events.specs.Seats.{HasSeen, Keeps};
+ghost use Rattle.gen_events.specs.Views.{lists, shape_of, ended_by, IsAt, IsMakerOf, IsReceiptOf, IsWaiterOf};
 
-use crate::{Answer, Events, Fate, Handle, Maker, NO_EVENT, Receipt, Seat, Watch};
+use crate::{
+    Answer, EventTable, Events, Fate, Handle, Maker, NO_EVENT, Receipt, Seat, Waiter, Watch,
+};
 use std::test::Fail;
 
 // Creates a handle and ends it.
-fn serve(events: &Events, maker: &mut Maker, seat: &mut Seat, fate: Fate) -> Option<Receipt>
+pub(crate) fn serve(
+    events: &Events,
+    maker: &mut Maker,
+    seat: &mut Seat,
+    fate: Fate,
+) -> Option<Receipt>
     requires maker { IsMakerOf events.now maker.old }
     requires at { IsAt events.now seat.old }
     ensures maker { IsMakerOf events.now maker.new }
     ensures at { IsAt events.now seat.new }
+    ensures kept { Keeps (lists seat.old) (lists seat.new) }
     ensures some { IfSome result (λ r. IsReceiptOf events.now r) }
+    ensures seen { IfSome result (λ r. HasSeen (lists seat.new) (ended_by r)) }
 {
-    let Some(pending) = events.create(maker, seat) else {
-        return None;
-    };
+    let pending = events.create(maker, seat)?;
     let (receipt, _caught) = events.end(seat, pending, fate);
     Some(receipt)
 }
 
 // What the seat is answered for the handle of a receipt.
-fn ask(events: &Events, seat: &mut Seat, receipt: Receipt) -> Answer
+fn ask(events: &Events, seat: &mut Seat, receipt: Receipt) -> (Handle, Answer)
     requires at { IsAt events.now seat.old }
     requires receipt { IsReceiptOf events.now receipt }
     ensures at { IsAt events.now seat.new }
 {
     let handle = receipt.handle();
     events.learn(seat, receipt);
-    events.look(seat, handle)
+    (handle, events.look(seat, handle))
 }
 
 #[test]
@@ -41,12 +50,96 @@ fn a_slot_serves_until_its_last_generation(rt: HostRuntime) -> Result<(), Fail> 
     let second = serve(&events, &mut maker, &mut seat, Fate::Ok).ok_or("the second")?;
     let third = serve(&events, &mut maker, &mut seat, Fate::Ok).ok_or("the third")?;
     assert!(rt; serve(&events, &mut maker, &mut seat, Fate::Ok).is_none());
-    assert_eq!(rt; first.handle(), Handle { slot: 0, gen_: 0 });
-    assert_eq!(rt; second.handle(), Handle { slot: 0, gen_: 1 });
-    assert_eq!(rt; third.handle(), Handle { slot: 0, gen_: 2 });
-    assert_eq!(rt; ask(&events, &mut seat, first), Answer::Poisoned);
-    assert_eq!(rt; ask(&events, &mut seat, second), Answer::Triggered);
-    assert_eq!(rt; ask(&events, &mut seat, third), Answer::Triggered);
+    let first = ask(&events, &mut seat, first);
+    let second = ask(&events, &mut seat, second);
+    let third = ask(&events, &mut seat, third);
+    assert_eq!(rt; first, (Handle { slot: 0, gen_: 0 }, Answer::Poisoned));
+    assert_eq!(rt; second, (Handle { slot: 0, gen_: 1 }, Answer::Triggered));
+    assert_eq!(rt; third, (Handle { slot: 0, gen_: 2 }, Answer::Triggered));
+    assert_eq!(rt; events.look(&mut seat, NO_EVENT), Answer::Triggered);
+    Ok(())
+}
+
+// So many handles, each ended before the next, every third of them with Poison.
+fn serve_many(
+    events: &Events,
+    maker: &mut Maker,
+    seat: &mut Seat,
+    handles: &mut Vec<Handle>,
+    count: u32,
+) -> bool
+    requires maker { IsMakerOf events.now maker.old }
+    requires at { IsAt events.now seat.old }
+    requires seen { All (HasSeen (lists seat.old)) handles.old.items }
+    ensures maker { IsMakerOf events.now maker.new }
+    ensures at { IsAt events.now seat.new }
+    ensures seen { All (HasSeen (lists seat.new)) handles.new.items }
+{
+    for turn in 0..count {
+        let fate = if turn % 3 == 0 {
+            Fate::Poison
+        } else {
+            Fate::Ok
+        };
+        let Some(receipt) = serve(events, maker, seat, fate) else {
+            return false;
+        };
+        if handles.push(receipt.handle()).is_err() {
+            return false;
+        }
+    }
+    true
+}
+
+// How many of the handles have this answer.
+fn count(events: &Events, seat: &mut Seat, handles: &[Handle], answer: Answer) -> usize
+    requires at { IsAt events.now seat.old }
+    requires seen { All (HasSeen (lists seat.old)) handles.now }
+    ensures at { IsAt events.now seat.new }
+    ensures kept { Keeps (lists seat.old) (lists seat.new) }
+{
+    let mut found = 0;
+    for handle in handles {
+        if events.look(seat, *handle) == answer {
+            found += 1;
+        }
+    }
+    found
+}
+
+// Serves a slot until it is retired, and counts the handles by their answers, which are asked by a
+// seat that was split off before the first of them.
+fn ask_other(
+    events: &Events,
+    mut maker: Maker,
+    mut seat: Seat,
+    mut handles: Vec<Handle>,
+) -> Option<[usize; 2]>
+    requires maker { IsMakerOf events.now maker }
+    requires at { IsAt events.now seat }
+    requires empty { handles.items ≡ [] }
+{
+    let mut other = events.split(&mut seat);
+    if !serve_many(events, &mut maker, &mut seat, &mut handles, 101) {
+        return None;
+    }
+    let news = events.split(&mut seat);
+    events.join(&mut other, news);
+    if serve(events, &mut maker, &mut seat, Fate::Ok).is_some() {
+        return None;
+    }
+    let poisoned = count(events, &mut other, handles.as_slice(), Answer::Poisoned);
+    let triggered = count(events, &mut other, handles.as_slice(), Answer::Triggered);
+    Some([poisoned, triggered])
+}
+
+#[test]
+fn every_third_of_many_is_poisoned(rt: HostRuntime) -> Result<(), Fail> {
+    let Ok((events, maker, seat, _set)) = Events::new(rt.alloc(), 1, 1, 100) else {
+        return Err("no memory".into());
+    };
+    let handles = Vec::new(rt.alloc());
+    assert_eq!(rt; ask_other(&events, maker, seat, handles), Some([34, 67]));
     Ok(())
 }
 
@@ -65,7 +158,7 @@ fn two_slots_of_one_generation(rt: HostRuntime) -> Result<(), Fail> {
     assert!(rt; serve(&events, &mut maker, &mut seat, Fate::Ok).is_none());
     let (receipt, _caught) = events.end(&mut seat, one, Fate::Poison);
     assert!(rt; serve(&events, &mut maker, &mut seat, Fate::Ok).is_none());
-    assert_eq!(rt; ask(&events, &mut other, receipt), Answer::Poisoned);
+    assert_eq!(rt; ask(&events, &mut other, receipt).1, Answer::Poisoned);
     events.join(&mut seat, other);
     Ok(())
 }
@@ -101,27 +194,73 @@ fn waiters_are_caught_once(rt: HostRuntime) -> Result<(), Fail> {
     Ok(())
 }
 
+// A handle that ended with Poison, and one that is left with a waiter on it.
+fn end_and_leave(
+    events: &Events,
+    maker: &mut Maker,
+    seat: &mut Seat,
+    waiter: Waiter,
+) -> Option<(Handle, Handle)>
+    requires maker { IsMakerOf events.now maker.old }
+    requires at { IsAt events.now seat.old }
+    requires waiter { IsWaiterOf events.now waiter }
+    ensures maker { IsMakerOf events.now maker.new }
+    ensures at { IsAt events.now seat.new }
+    ensures seen { IfSome result (λ h. HasSeen (lists seat.new) h.0 × HasSeen (lists seat.new) h.1) }
+    ensures left { IfSome result (λ h. Contains (lists seat.new).left h.1) }
+{
+    let past = serve(events, maker, seat, Fate::Poison)?.handle();
+    let pending = events.create(maker, seat)?;
+    events.watch(seat, pending.handle(), waiter);
+    Some((past, events.leave(seat, pending)))
+}
+
+// What is left of a table with one ended handle and one that is pending, and what becomes of it as
+// a table of one thread: the two handles' answers, where the waiter is, and whether it can be placed.
+fn leave_and_take_over(
+    events: Events,
+    mut maker: Maker,
+    mut seat: Seat,
+    waiter: Waiter,
+    spare: EventTable,
+) -> Option<[(Answer, Answer, bool); 2]>
+    requires maker { IsMakerOf events maker }
+    requires at { IsAt events seat }
+    requires waiter { IsWaiterOf events waiter }
+    requires spare { spare ≡ fresh (shape_of events).slots (shape_of events).waiters (shape_of events).last_gen }
+{
+    let (past, now) = end_and_leave(&events, &mut maker, &mut seat, waiter)?;
+    let left = events.close(maker, seat);
+    let before = (
+        left.look(past),
+        left.look(now),
+        left.place_of(0) == Some(now),
+    );
+    let mut table = left.into_table(spare);
+    table.end(now, Fate::Ok);
+    let after = (
+        table.look(past),
+        table.look(now),
+        table.next_caught().is_some(),
+    );
+    Some([before, after])
+}
+
 #[test]
-fn a_closed_table_answers_for_each_handle(rt: HostRuntime) -> Result<(), Fail> {
-    let Ok((events, mut maker, mut seat, mut set)) = Events::new(rt.alloc(), 1, 2, 2) else {
+fn a_closed_table_moves_into_one_of_one_thread(rt: HostRuntime) -> Result<(), Fail> {
+    let Ok((events, maker, seat, mut set)) = Events::new(rt.alloc(), 1, 2, 2) else {
+        return Err("no memory".into());
+    };
+    let Ok(spare) = EventTable::new(rt.alloc(), 1, 2, 2) else {
         return Err("no memory".into());
     };
     let waiter = set.take(&events).ok_or("a waiter")?;
-    let past = serve(&events, &mut maker, &mut seat, Fate::Ok)
-        .ok_or("the first")?
-        .handle();
-    let Some(pending) = events.create(&mut maker, &mut seat) else {
-        return Err("the second".into());
-    };
-    let placed = matches!(
-        events.watch(&mut seat, pending.handle(), waiter),
-        Watch::Placed
+    assert_eq!(rt;
+        leave_and_take_over(events, maker, seat, waiter, spare),
+        Some([
+            (Answer::Poisoned, Answer::Pending, true),
+            (Answer::Poisoned, Answer::Triggered, false),
+        ])
     );
-    let handle = events.leave(&mut seat, pending);
-    let left = events.close(maker, seat);
-    assert!(rt; placed);
-    assert_eq!(rt; left.place_of(0), Some(handle));
-    assert_eq!(rt; left.place_of(1), None);
-    assert_eq!(rt; (past.gen_, handle.gen_), (0, 1));
     Ok(())
 }

@@ -74,34 +74,40 @@ pub struct WaiterSet {
 }
 
 impl Waiter {
+    ghost use Rattle.gen_events.specs.Views.{number_of};
+
     /// The number of the waiter, from 0.
     pub fn number(&self) -> u32
-        ensures { result ≡ self.now.number }
+        ensures { result ≡ number_of self.now }
     {
         self.number
     }
 }
 
 impl Pending {
+    ghost use Rattle.gen_events.specs.Views.{handle_of};
+
     /// The handle.
     pub fn handle(&self) -> Handle
-        ensures { result ≡ self.now.handle }
+        ensures { result ≡ handle_of self.now }
     {
         self.handle
     }
 }
 
 impl Receipt {
+    ghost use Rattle.gen_events.specs.Views.{ended_by, fate_of};
+
     /// The handle.
     pub fn handle(&self) -> Handle
-        ensures { result ≡ self.now.handle }
+        ensures { result ≡ ended_by self.now }
     {
         self.handle
     }
 
     /// The fate with which the handle ended.
     pub fn fate(&self) -> Fate
-        ensures { result ≡ self.now.fate }
+        ensures { result ≡ fate_of self.now }
     {
         self.fate
     }

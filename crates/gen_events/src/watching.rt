@@ -2,7 +2,7 @@
 
 ghost use Rattle.gen_events.specs.Rule.{turns_of};
 ghost use Rattle.gen_events.specs.Seats.{HasSeen, Grows, Keeps};
-ghost use Rattle.gen_events.specs.Views.{lists, IsAt, IsWaiterOf, Watched, Attached};
+ghost use Rattle.gen_events.specs.Views.{lists, shape_of, IsAt, IsWaiterOf, Watched, Attached};
 ghost use Rattle.std.specs.Prelude.{◌≡◌, ◌+◌, ◌*◌, ◌<◌, ◌≤◌, Contains};
 
 use crate::events::Events;
@@ -41,7 +41,7 @@ impl Events {
         requires at { IsAt self.now seat.old }
         requires waiter { IsWaiterOf self.now waiter }
         requires seen { Contains (lists seat.old).seen handle }
-        requires slot { (handle.slot < self.now.shape.slots) × (handle.gen_ ≤ self.now.shape.last_gen) }
+        requires slot { (handle.slot < (shape_of self.now).slots) × (handle.gen_ ≤ (shape_of self.now).last_gen) }
         requires found { turns_of found ≡ 2 * handle.gen_ + 1 }
         ensures at { IsAt self.now seat.new }
         ensures grows { Grows (lists seat.old) (lists seat.new) }

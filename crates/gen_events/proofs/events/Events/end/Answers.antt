@@ -6,7 +6,7 @@ use Rattle.gen_events.proofs.Cuts.{joins, splits, receipts, chases}
 use Rattle.gen_events.proofs.Ends.{took, arms, all_ends, receipt_of, catches}
 use Rattle.gen_events.proofs.End.{ends}
 use Rattle.gen_events.proofs.Takes.{alone}
-use Rattle.gen_events.proofs.Growing.{end_keeps}
+use Rattle.gen_events.proofs.Growing.{end_keeps, end_sees}
 use Rattle.gen_events.proofs.events.Events.end.Goals as goal
 
 pub join_seat-requires : goal.join_seat-requires
@@ -52,3 +52,6 @@ returns-clause-known c = let e = all_ends c.args.seat.now.inner.me c.args.pendin
 
 pub returns-clause-kept : goal.returns-clause-kept
 returns-clause-kept c = end_keeps c.args.seat.now.inner.me c.args.pending.inner.me c.join_seat.new.seat.me c.mark.new.inner.me c.swap-found.new.seat.me c.split_seat-told.new.seat.me c.split_seat-chain.new.seat.me c.args.fate c.swap-found.result c.join_seat.ensures.2 c.mark.ensures.marked c.swap-found.ensures.2 c.split_seat-told.ensures.2 c.split_seat-chain.ensures.2
+
+pub returns-clause-seen : goal.returns-clause-seen
+returns-clause-seen c = end_sees c.args.seat.now.inner.me c.args.pending.inner.me c.join_seat.new.seat.me c.mark.new.inner.me c.swap-found.new.seat.me c.split_seat-told.new.seat.me c.split_seat-chain.new.seat.me c.args.pending.handle c.args.fate c.swap-found.result c.args.pending.pending.4 c.join_seat.ensures.2 c.mark.ensures.marked c.swap-found.ensures.2 c.split_seat-told.ensures.2 c.split_seat-chain.ensures.2

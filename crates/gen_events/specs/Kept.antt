@@ -1,0 +1,88 @@
+-- How the words of a one-thread table show its map.
+use Rattle.std.specs.Prelude.{◌≡◌, ℕ, zero, suc, ◌+◌, ◌-◌, ◌*◌, ◌/◌, ◌%◌, ◌<◌, ◌≤◌, ◌==◌, nat_lt, cond, List, [], ◌∷◌, ◌++◌, length, slice_index, slice_index_or, Contains}
+use Rattle.gen_events.specs.Lists.{total, below}
+use Rattle.gen_events.specs.Rule.{turns_of, mark, mark_words, fate_code, Linked, Shows}
+use Rattle.gen_events.specs.Plays.{fate_by, handle_at}
+use Rattle.gen_events.specs.Chains.{chain_in, chain_at}
+use Rattle.gen_events.specs.EventMap.{EventMap, SlotLife, life_at, MayServe, all_on, weight}
+use Rattle.gen_events.specs.declared.handle.Handle.{Handle}
+use Rattle.gen_events.specs.declared.handle.Fate.{Fate}
+use Rattle.gen_events.specs.declared.handle.Fate.TheVariants.{Ok}
+use Rattle.gen_events.specs.declared.handle.Shape.{Shape}
+use Rattle.gen_events.specs.declared.chain.Chain.{Chain}
+
+-- f of the n numbers from i on
+abbrev pub read : {X : Type 0} → (ℕ → X) → ℕ → ℕ → List X
+read f i zero = []
+read f i (suc n) = f i ∷ read f (i + 1) n
+
+abbrev pub fate_in : Shape → List ℕ → ℕ → ℕ → Fate
+fate_in shape words i g = fate_by (mark shape words (handle_at i g))
+
+-- what the words show of a slot
+abbrev pub life_in : Shape → List ℕ → ℕ → SlotLife
+life_in shape words i = record {
+  fates = read (fate_in shape words i) 0 (turns_of (slice_index words i) / 2);
+  is_pending = turns_of (slice_index words i) % 2 == 1;
+  waiting = cond (turns_of (slice_index words i) % 2 == 1) (chain_at shape words i) [];
+}
+
+-- what they show of the chains that were caught, of which the last is given first
+abbrev pub caught_in : Shape → List ℕ → List Chain → List (ℕ × Handle)
+caught_in shape words [] = []
+caught_in shape words (c ∷ cs) = caught_in shape words cs ++ all_on c.handle (chain_in shape.waiters shape.slots words (c.first + 1))
+
+abbrev pub map_in : Shape → List ℕ → List Chain → EventMap
+map_in shape words caught = record {
+  waiters = shape.waiters;
+  last_gen = shape.last_gen;
+  slots = read (life_in shape words) 0 shape.slots;
+  caught = caught_in shape words caught;
+}
+
+-- how often a slot with this life was created and ended
+abbrev pub turns_in : SlotLife → ℕ
+turns_in life = 2 * length life.fates + cond life.is_pending 1 0
+
+-- the words show this life of the slot i
+pub record IsSlot (shape : Shape) (words : List ℕ) (i : ℕ) (life : SlotLife) : Type 0 where
+  pub word : Shows shape.last_gen (turns_in life) life.waiting (slice_index words i)
+  pub linked : Linked shape words life.waiting
+  pub marks : (g : ℕ) → g < length life.fates → mark shape words (handle_at i g) ≡ fate_code (slice_index_or life.fates g Ok)
+
+-- they show these waiters as caught
+abbrev pub AreCaught : Shape → List ℕ → List Chain → List (ℕ × Handle) → Type 0
+AreCaught shape words [] ps = ps ≡ []
+AreCaught shape words (c ∷ cs) ps = (ks : List ℕ) × (rest : List (ℕ × Handle)) × (ps ≡ rest ++ all_on c.handle (c.first ∷ ks)) × Linked shape words (c.first ∷ ks) × AreCaught shape words cs rest
+
+-- the words and the chains that were caught show the map
+pub record AreShown (shape : Shape) (words : List ℕ) (caught : List Chain) (m : EventMap) : Type 0 where
+  pub waiters : m.waiters ≡ shape.waiters
+  pub last : m.last_gen ≡ shape.last_gen
+  pub wide : length words ≡ shape.slots + shape.waiters + mark_words shape
+  pub high : length m.slots ≡ shape.slots
+  pub each : (i : ℕ) → i < shape.slots → IsSlot shape words i (life_at m i)
+  pub chains : AreCaught shape words caught m.caught
+  -- each waiter is placed or caught at most once
+  pub once : (f : ℕ → ℕ) → weight f m ≤ below f shape.waiters
+
+-- the slots that may serve stand in the list, each once
+pub record AreFree (slots : ℕ) (m : EventMap) (free : List ℕ) : Type 0 where
+  pub served : (i : ℕ) → Contains free i → MayServe m i
+  pub spare : (i : ℕ) → MayServe m i → Contains free i
+  pub apart : (f : ℕ → ℕ) → total f free ≤ below f slots
+
+pub record AreKept (shape : Shape) (words free : List ℕ) (caught : List Chain) (m : EventMap) : Type 0 where
+  pub shown : AreShown shape words caught m
+  pub frees : AreFree shape.slots m free
+
+abbrev pub IsSized : Shape → Type 0
+IsSized shape = (0 < shape.slots) × (shape.slots ≤ 8192) × (shape.waiters ≤ 8192) × (shape.slots * (shape.last_gen + 1) ≤ 67108864)
+
+-- the word of a slot without its waiters
+abbrev pub alone_word : ℕ → ℕ
+alone_word w = cond (w % 4294967296 == 0) w (cond (w % 4294967296 == 4294967295) w (w - w % 4294967296 + 1))
+
+-- the word i of a table whose waiters are free
+abbrev pub freed_word : ℕ → ℕ → ℕ → ℕ
+freed_word slots i w = cond (nat_lt i slots) (alone_word w) w
