@@ -26,5 +26,4 @@ pub mod DeclFaults
 pub mod MergeFaults
 pub mod LineShapes
 pub mod ItemReads
-pub mod WrittenLaws
 pub mod WrittenLists

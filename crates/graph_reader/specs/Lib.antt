@@ -8,5 +8,4 @@ pub mod Kinds
 pub mod Lookups
 pub mod Cuts
 pub mod Merges
-pub mod Written
 pub mod WrittenWords

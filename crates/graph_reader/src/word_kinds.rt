@@ -2,7 +2,7 @@
 
 ghost use Rattle.std.specs.Prelude.{◌≡◌, ◌++◌, ◌∷◌, decimal, flat_map, [], OnOk, OnErr};
 ghost use Rattle.graph_model.specs.Spelling.{interval_word, space_name, column_name, lock_name, barrier_name, line_name, op_word};
-ghost use Rattle.graph_reader.specs.Written.{sink_state, Writes};
+ghost use Rattle.realm_io.specs.Written.{sink_state, Writes};
 ghost use Rattle.graph_reader.specs.WrittenWords.{word_text};
 
 use graph_model::graph::Graph;

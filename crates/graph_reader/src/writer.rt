@@ -5,7 +5,7 @@ ghost use Rattle.realm_io.specs.Counts.{Rose};
 ghost use Rattle.realm_io.specs.Told.{with_more, TookPrefix};
 ghost use Rattle.graph_model.specs.Spelling.{spelled, space_name, interval_word, kernel_words, verb_words, on_words, line_words, decl_words, line_name};
 ghost use Rattle.graph_reader.specs.Text.{text};
-ghost use Rattle.graph_reader.specs.Written.{sink_state, Writes};
+ghost use Rattle.realm_io.specs.Written.{sink_state, Writes};
 ghost use Rattle.graph_reader.specs.WrittenWords.{word_text, spaced, comma_before, comma_from};
 
 use crate::word_kinds::{

@@ -4,3 +4,4 @@ pub mod EffectFacts
 pub mod MovedFacts
 pub mod TurnFacts
 pub mod PhaseFacts
+pub mod OrderFacts

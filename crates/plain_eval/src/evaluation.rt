@@ -2,7 +2,6 @@
 
 ghost use Rattle.std.specs.Prelude.{◌≡◌, ℕ, ◌<◌, ◌↔◌, length, map, slice_get, Some, IfOk, OnOk};
 ghost use Rattle.graph_model.specs.Path.{Reached};
-ghost use Rattle.graph_model.specs.Rules.{Everywhere, NoCycleAt};
 ghost use Rattle.graph_model.specs.Evaluation.{evaluation, outcome, order, answer_of, Unbroken};
 ghost use Rattle.plain_eval.specs.Run.{IsRun};
 
@@ -14,21 +13,26 @@ use graph_model::laws::{cancelled_where_unbroken, waits_where_reached};
 use graph_model::lists::{AnswerList, EndList, LineList, ValueList};
 use graph_model::outcome::{Answer, End, Outcome};
 use index_spaces::NoMemory;
+use race_check::checked::Checked;
 use std::alloc::Global;
 
-/// Evaluates a graph, and gives its outcome with the order
+/// Evaluates a graph that is accepted, and gives its outcome with the order
 /// of the evaluation as the trace.
-pub fn eval(alloc: Global, graph: &Graph) -> Result<Outcome, NoMemory>
-    ensures outcome { IfOk result (λ o. o ≡ outcome graph.now (order graph.now)) }
+pub fn eval(alloc: Global, checked: &Checked) -> Result<Outcome, NoMemory>
+    ensures outcome { IfOk result (λ o. o ≡ outcome checked.now.graph (order checked.now.graph)) }
 
-    // Without a cycle a line waits exactly where one that never comes reaches it, itself included.
-    ensures waiting { IfOk result (λ o. (i : ℕ) → i < length graph.now.lines → Everywhere (NoCycleAt graph.now) → (slice_get o.ends i ≡ Some End.Waiting) ↔ Reached graph.now i) }
+    // A line waits exactly where one that never comes reaches it, itself included.
+    ensures waiting { IfOk result (λ o. (i : ℕ) → i < length checked.now.graph.lines → (slice_get o.ends i ≡ Some End.Waiting) ↔ Reached checked.now.graph i) }
+
+    // Each item of the trace is a line.
+    ensures lines { IfOk result (λ o. (k i : ℕ) → slice_get o.trace k ≡ Some i → i < length checked.now.graph.lines) }
 
     // A line is cancelled exactly where an unbroken path from a fault reaches it.
-    ensures cancelled { IfOk result (λ o. (i : ℕ) → i < length graph.now.lines → (slice_get o.ends i ≡ Some End.Cancelled) ↔ Unbroken graph.now i) }
+    ensures cancelled { IfOk result (λ o. (i : ℕ) → i < length checked.now.graph.lines → (slice_get o.ends i ≡ Some End.Cancelled) ↔ Unbroken checked.now.graph i) }
 {
     waits_where_reached();
     cancelled_where_unbroken();
+    let graph = checked.graph();
     let _ = graph.lines();
     let run = end_all(alloc, graph)?;
     outcome_of(alloc, graph, run)

@@ -1,3 +1,4 @@
 pub mod Counts
 pub mod Told
 pub mod Memory
+pub mod Written

@@ -1,4 +1,4 @@
-//! The program `realm`: it reads a graph from the standard input and writes its report to the standard output.
+//! The program `realm`: it reads a graph from the standard input and writes what is asked for to the standard output.
 #![tactic(auto)]
 
 ghost use Rattle.std.specs.Prelude.{◌≡◌, is_some};
@@ -16,7 +16,7 @@ fn message(status: Status) -> Option<&'static str>
     ensures { is_some result ≡ has_message status }
 {
     match status {
-        Status::Usage => Some("usage: realm run < GRAPH"),
+        Status::Usage => Some("usage: realm run|check|eval [OPTIONS] < GRAPH"),
         Status::ReadFault => Some("realm: the standard input can't be read"),
         Status::WriteFault => Some("realm: the standard output can't be written"),
         Status::NoMemory => Some("realm: out of memory"),
@@ -78,8 +78,13 @@ mod tests {
     fn says_what_failed(rt: HostRuntime) -> Result<(), Fail> {
         for (status, line) in [
             (Status::Done, None),
-            (Status::Usage, Some("usage: realm run < GRAPH")),
+            (
+                Status::Usage,
+                Some("usage: realm run|check|eval [OPTIONS] < GRAPH"),
+            ),
             (Status::Unread, None),
+            (Status::Unfit, None),
+            (Status::Slots, None),
             (
                 Status::ReadFault,
                 Some("realm: the standard input can't be read"),

@@ -1,19 +1,27 @@
 -- A text that is written and then flushed, and what follows for the answers of the top call.
-use Rattle.std.proofs.Common.{◌≡◌, ℕ, ◌+◌, ◌≤◌, List, [], ◌++◌, length, refl, sym, ◌∙◌, ap, subst, inl, inr, append-nil, length-append, ◌<◌, arith}
-use Rattle.std.specs.Prelude.{Option, Some, None, ◌⊎◌, IfSome}
+use Rattle.std.proofs.Common.{◌≡◌, ◌≢◌, ℕ, ◌+◌, ◌≤◌, List, [], ◌++◌, length, refl, sym, ◌∙◌, ap, subst, inl, inr, append-nil, length-append, ◌<◌, arith}
+use Rattle.std.specs.Prelude.{Bool, true, false, Option, Some, None, ◌⊎◌, IfSome}
 use Rattle.realm_io.specs.Counts.{Rose}
 use Rattle.realm_io.specs.Told.{TookPrefix, Lost}
 use Rattle.realm_io.proofs.ToldFacts.{with_more-nil, took_after, rose_later}
+use Rattle.command_line.specs.declared.request.Request.{Request}
 use Rattle.realm_top.specs.declared.status.Status.{Status}
-use Rattle.realm_top.specs.declared.status.Status.TheVariants.{Done, Unread, WriteFault, NoMemory, TooLong}
-use Rattle.realm_top.specs.Written.{SinkState, Wrote, Stopped}
+use Rattle.realm_top.specs.declared.status.Status.TheVariants.{Done, Unread, Unfit, WriteFault, NoMemory, Slots, TooLong}
+use Rattle.realm_io.specs.Written.{SinkState, Wrote, Stopped}
 use Rattle.graph_reader.specs.Text.{GraphText}
 use Rattle.graph_reader.specs.Laws.{OneReading}
-use Rattle.realm_top.specs.Answer.{IsRefused, EndsByPaths, evaluation_report, Answers, Answered, Delivered, BrokenOff, Delivers}
-use Rattle.realm_top.specs.Texts.{too_long_text}
+use Rattle.race_check.specs.Refusal.{IsRefusal}
+use Rattle.race_check.specs.declared.checked.CheckRefusal.{CheckRefusal}
+use Rattle.race_check.specs.declared.checked.CheckRefusal.TheVariants as refusal
+use Rattle.realm_top.specs.Answer.{IsRefused, IsUnfit, evaluation_text, says, is_short, EndsByPaths, Answers, Settled, Answered, Delivered, BrokenOff, Delivers}
+use Rattle.realm_top.specs.Texts.{too_long_text, unfit_text, slots_text}
 use Rattle.graph_model.specs.Graph.{GraphValue}
+use Rattle.graph_model.specs.Rules.{Accepted}
+use Rattle.graph_model.specs.Need.{IsNeed}
+use Rattle.race_check.specs.Laws.{OneNeed}
 use Rattle.graph_model.specs.Laws.{WaitsWhereReached, CancelledWhereUnbroken}
 use Rattle.std.specs.Io.KnownBytes.{Consumes, IsAtEnd}
+use Rattle.std.proofs.lemmas.Bool.{true≢false}
 use Rattle.std.proofs.lemmas.Option.{none-some, same_Some}
 
 -- a text that was written, and then a flush
@@ -40,24 +48,81 @@ pub stopped_is_broken : (r s : SinkState) (out : List ℕ) → Stopped r s out �
 stopped_is_broken r s out h = record { took = h.took; flushed = h.flushed; count = h.count; rose = h.rose }
 
 -- bytes are not both a text and refused
-done_or_refused : (bytes out : List ℕ) → OneReading bytes → (g : GraphValue) → GraphText bytes g → IsRefused bytes out → ⊥
-done_or_refused bytes out one g t r = one.not_both (g, t) (r.number, r.why, r.fault)
+text_or_refused : (bytes out : List ℕ) → OneReading bytes → (g : GraphValue) → GraphText bytes g → IsRefused bytes out → ⊥
+text_or_refused bytes out one g t r = one.not_both (g, t) (r.number, r.why, r.fault)
+
+-- a rule fails at some lines, and so not for all
+broken_by : (g : GraphValue) (why : CheckRefusal) (out : List ℕ) → IsRefusal g why → unfit_text g why ≡ Some out → Accepted g → ⊥
+broken_by g (refusal.Cycle i) out r e a = r.here (a.acyclic i)
+broken_by g (refusal.Unreleased i) out r e a = (r.1).here (a.released i)
+broken_by g (refusal.Section i j) out r e a = (r.2).here (a.sections i j)
+broken_by g (refusal.Descends i j) out r e a = (r.3).here (a.descends i j)
+broken_by g (refusal.ReleaseFault i) out r e a = (r.4).here (a.release_faults i)
+broken_by g (refusal.Race i j) out r e a = (r.5).here (a.races i j)
+broken_by g refusal.NoMemory out r e a = absurd (none-some out e)
+
+-- a rule that fails has a text
+pub broken_text : (g : GraphValue) (why : CheckRefusal) → why ≢ refusal.NoMemory → (out : List ℕ) × (unfit_text g why ≡ Some out)
+broken_text g (refusal.Cycle i) n = (_, refl)
+broken_text g (refusal.Unreleased i) n = (_, refl)
+broken_text g (refusal.Section i j) n = (_, refl)
+broken_text g (refusal.Descends i j) n = (_, refl)
+broken_text g (refusal.ReleaseFault i) n = (_, refl)
+broken_text g (refusal.Race i j) n = (_, refl)
+broken_text g refusal.NoMemory n = absurd (n refl)
+
+-- a graph is not both accepted and unfit
+accepted_or_unfit : (g : GraphValue) (out : List ℕ) → Accepted g → IsUnfit g out → ⊥
+accepted_or_unfit g out a u = broken_by g u.why out u.refused u.says a
+
+-- two graphs of one text are one
+judged_both : (bytes o p : List ℕ) → OneReading bytes → (g h : GraphValue) → GraphText bytes g → GraphText bytes h → Accepted g → IsUnfit h p → ⊥
+judged_both bytes o p one g h t u a b = accepted_or_unfit h p (subst Accepted (one.one_graph g h t u) a) b
+
+too_short : (bytes : List ℕ) → length bytes ≤ 1048576 → 1048576 < length bytes → ⊥
+too_short bytes x y = omega arith
+
+true_false : (b : Bool) → b ≡ true → b ≡ false → ⊥
+true_false b t f = true≢false (sym t ∙ f)
+
+-- a run is not both given enough slots and too few
+short_or_not : (request : Request) → OneNeed → (bytes o p : List ℕ) → OneReading bytes → Answers request bytes Done o → Answers request bytes Slots p → ⊥
+short_or_not request needs bytes o p one (g, t, (a, n, i, e, x)) (h, u, (b, m, j, f, y)) =
+    true_false (is_short request n) (subst (λ k. is_short request k ≡ true) (needs h m n j (subst (λ k. IsNeed k n) (one.one_graph g h t u) i)) f) e
 
 -- an input has one answer
-pub one_answer : (bytes : List ℕ) → OneReading bytes → (s t : Status) (o p : List ℕ) → Answers bytes s o → Answers bytes t p → s ≡ t
-one_answer bytes one Done Done o p a b = refl
-one_answer bytes one Done Unread o p a b = absurd (done_or_refused bytes p one a.0 a.1 b.1)
-one_answer bytes one Done TooLong o p a b = absurd (let x : length bytes ≤ 1048576 = (a.1).short in let y : 1048576 < length bytes = b.0 in omega arith)
-one_answer bytes one Done _ o p a b = absurd b
-one_answer bytes one Unread Done o p a b = absurd (done_or_refused bytes o one b.0 b.1 a.1)
-one_answer bytes one Unread Unread o p a b = refl
-one_answer bytes one Unread TooLong o p a b = absurd (let x : length bytes ≤ 1048576 = a.0 in let y : 1048576 < length bytes = b.0 in omega arith)
-one_answer bytes one Unread _ o p a b = absurd b
-one_answer bytes one TooLong Done o p a b = absurd (let x : length bytes ≤ 1048576 = (b.1).short in let y : 1048576 < length bytes = a.0 in omega arith)
-one_answer bytes one TooLong Unread o p a b = absurd (let x : length bytes ≤ 1048576 = b.0 in let y : 1048576 < length bytes = a.0 in omega arith)
-one_answer bytes one TooLong TooLong o p a b = refl
-one_answer bytes one TooLong _ o p a b = absurd b
-one_answer bytes one _ t o p a b = absurd a
+pub one_answer : (request : Request) → OneNeed → (bytes : List ℕ) → OneReading bytes → (s t : Status) (o p : List ℕ) → Answers request bytes s o → Answers request bytes t p → s ≡ t
+one_answer request needs bytes one Done Done o p a b = refl
+one_answer request needs bytes one Done Unread o p a b = absurd (text_or_refused bytes p one a.0 a.1 b.1)
+one_answer request needs bytes one Done Unfit o p a b = absurd (judged_both bytes o p one a.0 b.0 a.1 b.1 (a.2).0 b.2)
+one_answer request needs bytes one Done Slots o p a b = absurd (short_or_not request needs bytes o p one a b)
+one_answer request needs bytes one Done TooLong o p a b = absurd (too_short bytes (a.1).short b.0)
+one_answer request needs bytes one Done _ o p a b = absurd b.2
+one_answer request needs bytes one Unread Done o p a b = absurd (text_or_refused bytes o one b.0 b.1 a.1)
+one_answer request needs bytes one Unread Unread o p a b = refl
+one_answer request needs bytes one Unread Unfit o p a b = absurd (text_or_refused bytes o one b.0 b.1 a.1)
+one_answer request needs bytes one Unread Slots o p a b = absurd (text_or_refused bytes o one b.0 b.1 a.1)
+one_answer request needs bytes one Unread TooLong o p a b = absurd (too_short bytes a.0 b.0)
+one_answer request needs bytes one Unread _ o p a b = absurd b.2
+one_answer request needs bytes one Unfit Done o p a b = absurd (judged_both bytes p o one b.0 a.0 b.1 a.1 (b.2).0 a.2)
+one_answer request needs bytes one Unfit Unread o p a b = absurd (text_or_refused bytes p one a.0 a.1 b.1)
+one_answer request needs bytes one Unfit Unfit o p a b = refl
+one_answer request needs bytes one Unfit Slots o p a b = absurd (judged_both bytes p o one b.0 a.0 b.1 a.1 (b.2).0 a.2)
+one_answer request needs bytes one Unfit TooLong o p a b = absurd (too_short bytes (a.1).short b.0)
+one_answer request needs bytes one Unfit _ o p a b = absurd b.2
+one_answer request needs bytes one Slots Done o p a b = absurd (short_or_not request needs bytes p o one b a)
+one_answer request needs bytes one Slots Unread o p a b = absurd (text_or_refused bytes p one a.0 a.1 b.1)
+one_answer request needs bytes one Slots Unfit o p a b = absurd (judged_both bytes o p one a.0 b.0 a.1 b.1 (a.2).0 b.2)
+one_answer request needs bytes one Slots Slots o p a b = refl
+one_answer request needs bytes one Slots TooLong o p a b = absurd (too_short bytes (a.1).short b.0)
+one_answer request needs bytes one Slots _ o p a b = absurd b.2
+one_answer request needs bytes one TooLong Done o p a b = absurd (too_short bytes (b.1).short a.0)
+one_answer request needs bytes one TooLong Unread o p a b = absurd (too_short bytes b.0 a.0)
+one_answer request needs bytes one TooLong Unfit o p a b = absurd (too_short bytes (b.1).short a.0)
+one_answer request needs bytes one TooLong Slots o p a b = absurd (too_short bytes (b.1).short a.0)
+one_answer request needs bytes one TooLong TooLong o p a b = refl
+one_answer request needs bytes one TooLong _ o p a b = absurd b.2
+one_answer request needs bytes one _ t o p a b = absurd a.2
 
 -- all that was left was read
 pub all_read : (old new : Option (List ℕ)) (bs : List ℕ) → Consumes old new bs → IsAtEnd new → (xs : List ℕ) → old ≡ Some xs → xs ≡ bs
@@ -81,63 +146,78 @@ if_some None P h = tt
 if_some (Some xs) P h = h xs refl
 
 -- what was answered, by the status
-done_by : (bs : List ℕ) (s t : SinkState) (wanted result : Status) (out : List ℕ) → Answers bs wanted out → Delivered s t out → wanted ≡ Done → (g : GraphValue) × GraphText bs g × Delivered s t (evaluation_report g)
-done_by bs s t wanted result out a d e = let b = subst (λ w. Answers bs w out) e a in (b.0, b.1, subst (Delivered s t) b.2 d)
+answered_as : (request : Request) (bs : List ℕ) (s t : SinkState) (result status : Status) → Answered request bs s t result → result ≡ status → (status ≢ NoMemory) → (status ≢ WriteFault) → (out : List ℕ) × Answers request bs status out × Delivered s t out
+answered_as request bs s t result status (inl n) e a b = absurd (a (sym e ∙ n))
+answered_as request bs s t result status (inr (wanted, out, w, inl d)) e a b = (out, subst (λ x. Answers request bs x out) (sym d.0 ∙ e) w, d.1)
+answered_as request bs s t result status (inr (wanted, out, w, inr d)) e a b = absurd (b (sym e ∙ d.0))
 
-pub answered_done : (bs : List ℕ) (s t : SinkState) (result : Status) → Answered s t bs result → result ≡ Done → (g : GraphValue) × GraphText bs g × Delivered s t (evaluation_report g)
-answered_done bs s t result (inl n) e = absurd (let x : NoMemory ≡ Done = sym n ∙ e in cc)
-answered_done bs s t result (inr (wanted, out, a, inl d)) e = done_by bs s t wanted result out a d.1 (sym d.0 ∙ e)
-answered_done bs s t result (inr (wanted, out, a, inr b)) e = absurd (let x : WriteFault ≡ Done = sym b.0 ∙ e in cc)
+pub answered_done : (request : Request) (bs : List ℕ) (s t : SinkState) (result : Status) → Answered request bs s t result → result ≡ Done →
+    (g : GraphValue) × GraphText bs g × Accepted g × (need : ℕ) × IsNeed g need × (is_short request need ≡ false) × Delivered s t (says request.action request g need)
+answered_done request bs s t result h e =
+    let a = answered_as request bs s t result Done h e (λ x. cc) (λ x. cc) in
+    let j = (a.1).2 in
+    ((a.1).0, (a.1).1, j.0, j.1, j.2, j.3, subst (Delivered s t) j.4 a.2)
 
-unread_by : (bs : List ℕ) (s t : SinkState) (wanted : Status) (out : List ℕ) → Answers bs wanted out → Delivered s t out → wanted ≡ Unread → (text : List ℕ) × IsRefused bs text × Delivered s t text
-unread_by bs s t wanted out a d e = (out, (subst (λ w. Answers bs w out) e a).1, d)
+pub answered_slots : (request : Request) (bs : List ℕ) (s t : SinkState) (result : Status) → Answered request bs s t result → result ≡ Slots →
+    (g : GraphValue) × GraphText bs g × Accepted g × (need : ℕ) × IsNeed g need × (is_short request need ≡ true) × Delivered s t (slots_text need)
+answered_slots request bs s t result h e =
+    let a = answered_as request bs s t result Slots h e (λ x. cc) (λ x. cc) in
+    let j = (a.1).2 in
+    ((a.1).0, (a.1).1, j.0, j.1, j.2, j.3, subst (Delivered s t) j.4 a.2)
 
-pub answered_unread : (bs : List ℕ) (s t : SinkState) (result : Status) → Answered s t bs result → result ≡ Unread → (text : List ℕ) × IsRefused bs text × Delivered s t text
-answered_unread bs s t result (inl n) e = absurd (let x : NoMemory ≡ Unread = sym n ∙ e in cc)
-answered_unread bs s t result (inr (wanted, out, a, inl d)) e = unread_by bs s t wanted out a d.1 (sym d.0 ∙ e)
-answered_unread bs s t result (inr (wanted, out, a, inr b)) e = absurd (let x : WriteFault ≡ Unread = sym b.0 ∙ e in cc)
+pub answered_unread : (request : Request) (bs : List ℕ) (s t : SinkState) (result : Status) → Answered request bs s t result → result ≡ Unread → (out : List ℕ) × IsRefused bs out × Delivered s t out
+answered_unread request bs s t result h e = let a = answered_as request bs s t result Unread h e (λ x. cc) (λ x. cc) in (a.0, (a.1).1, a.2)
 
-pub answered_cut_off : (bs : List ℕ) (s t : SinkState) (result : Status) → Answered s t bs result → result ≡ WriteFault → (status : Status) × (out : List ℕ) × Answers bs status out × BrokenOff s t out
-answered_cut_off bs s t result (inl n) e = absurd (let x : NoMemory ≡ WriteFault = sym n ∙ e in cc)
-answered_cut_off bs s t result (inr (wanted, out, a, inl d)) e = absurd (subst (λ w. Answers bs w out) (sym d.0 ∙ e) a)
-answered_cut_off bs s t result (inr (wanted, out, a, inr b)) e = (wanted, out, a, b.1)
+pub answered_unfit : (request : Request) (bs : List ℕ) (s t : SinkState) (result : Status) → Answered request bs s t result → result ≡ Unfit → (g : GraphValue) × GraphText bs g × (out : List ℕ) × IsUnfit g out × Delivered s t out
+answered_unfit request bs s t result h e = let a = answered_as request bs s t result Unfit h e (λ x. cc) (λ x. cc) in ((a.1).0, (a.1).1, a.0, (a.1).2, a.2)
 
-pub answered_complete : (bs : List ℕ) → OneReading bs → (s t : SinkState) (result status : Status) (out : List ℕ) → Answered s t bs result → Answers bs status out → (Rose s.faults t.faults → ⊥) → (result ≡ status) ⊎ (result ≡ NoMemory)
-answered_complete bs one s t result status out (inl n) a h = inr n
-answered_complete bs one s t result status out (inr (wanted, text, b, inl d)) a h = inl (d.0 ∙ one_answer bs one wanted status text out b a)
-answered_complete bs one s t result status out (inr (wanted, text, b, inr c)) a h = absurd (h (c.1).rose)
+-- a write that failed broke off the text of the answer
+pub answered_cut_off : (request : Request) (bs : List ℕ) (s t : SinkState) (result : Status) → Answered request bs s t result → result ≡ WriteFault → (status : Status) × (out : List ℕ) × Answers request bs status out × BrokenOff s t out
+answered_cut_off request bs s t result (inl n) e = absurd (let x : NoMemory ≡ WriteFault = sym n ∙ e in cc)
+answered_cut_off request bs s t result (inr (wanted, out, a, inl d)) e = absurd ((subst (λ w. Answers request bs w out) (sym d.0 ∙ e) a).2)
+answered_cut_off request bs s t result (inr (wanted, out, a, inr b)) e = (wanted, out, a, b.1)
 
-pub too_long_cut_off : (xs : List ℕ) (s t : SinkState) (result : Status) → 1048576 < length xs → Delivers s t TooLong result too_long_text → result ≡ WriteFault → (status : Status) × (out : List ℕ) × Answers xs status out × BrokenOff s t out
-too_long_cut_off xs s t result l (inl d) e = absurd (let x : TooLong ≡ WriteFault = sym d.0 ∙ e in cc)
-too_long_cut_off xs s t result l (inr b) e = (TooLong, too_long_text, (l, refl), b.1)
+pub answered_complete : (request : Request) → OneNeed → (bs : List ℕ) → OneReading bs → (s t : SinkState) (result status : Status) (out : List ℕ) → Answered request bs s t result → Answers request bs status out → (Rose s.faults t.faults → ⊥) → (result ≡ status) ⊎ (result ≡ NoMemory)
+answered_complete request needs bs one s t result status out (inl n) a h = inr n
+answered_complete request needs bs one s t result status out (inr (wanted, text, b, inl d)) a h = inl (d.0 ∙ one_answer request needs bs one wanted status text out b a)
+answered_complete request needs bs one s t result status out (inr (wanted, text, b, inr c)) a h = absurd (h (c.1).rose)
 
-pub too_long_complete : (xs : List ℕ) → OneReading xs → (s t : SinkState) (result status : Status) (out : List ℕ) → 1048576 < length xs → Delivers s t TooLong result too_long_text → Answers xs status out → (Rose s.faults t.faults → ⊥) → (result ≡ status) ⊎ (result ≡ NoMemory)
-too_long_complete xs one s t result status out l (inl d) a h = inl (d.0 ∙ one_answer xs one TooLong status too_long_text out (l, refl) a)
-too_long_complete xs one s t result status out l (inr b) a h = absurd (h (b.1).rose)
+-- an input that is too long was answered
+pub too_long_answered : (request : Request) (xs : List ℕ) (s t : SinkState) (result : Status) → 1048576 < length xs → Delivers s t TooLong result too_long_text → Answered request xs s t result
+too_long_answered request xs s t result l d = inr (TooLong, too_long_text, (l, refl), d)
 
--- the same of an input that was read to its end
-pub read_done : (old new : Option (List ℕ)) (bs b : List ℕ) (s t : SinkState) (result : Status) → Consumes old new bs → IsAtEnd new → b ≡ bs → Answered s t b result → result ≡ Done →
-    IfSome old (λ xs. (g : GraphValue) × GraphText xs g × Delivered s t (evaluation_report g))
-read_done old new bs b s t result c e same a d = if_some old (λ xs. (g : GraphValue) × GraphText xs g × Delivered s t (evaluation_report g)) (λ xs h.
-    answered_done xs s t result (subst (λ x. Answered s t x result) (same ∙ sym (all_read old new bs c e xs h)) a) d)
+-- the answer to an input that was read to its end
+pub answered_input : (request : Request) (old new : Option (List ℕ)) (bs b : List ℕ) (s t : SinkState) (result : Status) → Consumes old new bs → IsAtEnd new → b ≡ bs → Answered request b s t result → (xs : List ℕ) → old ≡ Some xs → Answered request xs s t result
+answered_input request old new bs b s t result c e same a xs h = subst (λ x. Answered request x s t result) (same ∙ sym (all_read old new bs c e xs h)) a
 
-pub read_unread : (old new : Option (List ℕ)) (bs b : List ℕ) (s t : SinkState) (result : Status) → Consumes old new bs → IsAtEnd new → b ≡ bs → Answered s t b result → result ≡ Unread →
-    IfSome old (λ xs. (text : List ℕ) × IsRefused xs text × Delivered s t text)
-read_unread old new bs b s t result c e same a d = if_some old (λ xs. (text : List ℕ) × IsRefused xs text × Delivered s t text) (λ xs h.
-    answered_unread xs s t result (subst (λ x. Answered s t x result) (same ∙ sym (all_read old new bs c e xs h)) a) d)
+-- what becomes of the graph of a text is the answer to the text
+pub settled_input : (request : Request) (bytes : List ℕ) (g : GraphValue) (s t : SinkState) (result : Status) → GraphText bytes g → Settled request g s t result → Answered request bytes s t result
+settled_input request bytes g s t result h (inl n) = inl n
+settled_input request bytes g s t result h (inr (Done, out, j, d)) = inr (Done, out, (g, h, j), d)
+settled_input request bytes g s t result h (inr (Unfit, out, j, d)) = inr (Unfit, out, (g, h, j), d)
+settled_input request bytes g s t result h (inr (Slots, out, j, d)) = inr (Slots, out, (g, h, j), d)
+settled_input request bytes g s t result h (inr (_, out, j, d)) = absurd j
 
-pub read_cut_off : (old new : Option (List ℕ)) (bs b : List ℕ) (s t : SinkState) (result : Status) → Consumes old new bs → IsAtEnd new → b ≡ bs → Answered s t b result → result ≡ WriteFault →
-    IfSome old (λ xs. (status : Status) × (out : List ℕ) × Answers xs status out × BrokenOff s t out)
-read_cut_off old new bs b s t result c e same a d = if_some old (λ xs. (status : Status) × (out : List ℕ) × Answers xs status out × BrokenOff s t out) (λ xs h.
-    answered_cut_off xs s t result (subst (λ x. Answered s t x result) (same ∙ sym (all_read old new bs c e xs h)) a) d)
+-- how lines end by paths, of the graph that was answered
+pub ends_by_paths : WaitsWhereReached → CancelledWhereUnbroken → (bytes : List ℕ) → OneReading bytes → (g : GraphValue) → GraphText bytes g → Accepted g → (h : GraphValue) → GraphText bytes h → EndsByPaths h
+ends_by_paths waits cancelled bytes one g t a h u = record {
+  waiting = λ i b. waits h i u.is_graph ((subst Accepted (one.one_graph g h t u) a).acyclic) b;
+  cancelled = λ i. cancelled h i;
+}
 
-pub read_complete : (old new : Option (List ℕ)) (bs b xs : List ℕ) → OneReading xs → (s t : SinkState) (result status : Status) (out : List ℕ) → Consumes old new bs → IsAtEnd new → b ≡ bs → Answered s t b result → old ≡ Some xs → Answers xs status out →
-    (Rose s.faults t.faults → ⊥) → (result ≡ status) ⊎ (result ≡ NoMemory)
-read_complete old new bs b xs one s t result status out c e same a h w q = answered_complete xs one s t result status out (subst (λ x. Answered s t x result) (same ∙ sym (all_read old new bs c e xs h)) a) w q
+-- a graph that breaks a rule was answered
+pub unfit_settled : (request : Request) (g : GraphValue) (s t : SinkState) (result : Status) (why : CheckRefusal) (out : List ℕ) → IsRefusal g why → unfit_text g why ≡ Some out → Delivers s t Unfit result out → Settled request g s t result
+unfit_settled request g s t result why out r e d = inr (Unfit, out, record { «why» = why; refused = r; says = e }, d)
 
--- how lines end by paths, of whatever graph was left as text
-pub ends_by_paths : WaitsWhereReached → CancelledWhereUnbroken → (left : Option (List ℕ)) → IfSome left (λ bytes. (g : GraphValue) → GraphText bytes g → EndsByPaths g)
-ends_by_paths waits cancelled left = if_some left (λ bytes. (g : GraphValue) → GraphText bytes g → EndsByPaths g) (λ bytes h g t. record {
-  waiting = λ acyclic i b. waits g i t.is_graph acyclic b;
-  cancelled = λ i. cancelled g i;
-})
+-- the same of a graph or a request that is the same
+pub wrote_of : (s t : SinkState) (traced : Bool) (g h : GraphValue) → g ≡ h → Wrote s t (evaluation_text traced g) → Wrote s t (evaluation_text traced h)
+wrote_of s t traced g h e w = subst (λ x. Wrote s t (evaluation_text traced x)) e w
+
+pub stopped_of : (s t : SinkState) (traced : Bool) (g h : GraphValue) → g ≡ h → Stopped s t (evaluation_text traced g) → Stopped s t (evaluation_text traced h)
+stopped_of s t traced g h e w = subst (λ x. Stopped s t (evaluation_text traced x)) e w
+
+pub settled_of : (request : Request) (s t : SinkState) (result : Status) (g h : GraphValue) → g ≡ h → Settled request g s t result → Settled request h s t result
+settled_of request s t result g h e w = subst (λ x. Settled request x s t result) e w
+
+pub answered_for : (xs : List ℕ) (s t : SinkState) (result : Status) (r q : Request) → r ≡ q → Answered r xs s t result → Answered q xs s t result
+answered_for xs s t result r q e w = subst (λ x. Answered x xs s t result) e w

@@ -1,34 +1,35 @@
--- What a run is to answer, and what it is to write, by its words and the bytes of its input.
-use Rattle.std.specs.Prelude.{◌≡◌, ℕ, ◌<◌, ◌≤◌, Bool, false, List, [], ◌∷◌, length, codes, ◌⊎◌, ◌↔◌}
-use Rattle.std.specs.Str.{bytes_eq}
+-- What a request is to answer, and what it is to write, by the bytes of its input.
+use Rattle.std.specs.Prelude.{◌≡◌, ℕ, ◌<◌, ◌≤◌, nat_lt, Bool, true, false, List, [], ◌++◌, length, Option, Some, ◌⊎◌, ◌↔◌}
 use Rattle.std.specs.Option.{option_map}
 use Rattle.realm_io.specs.Counts.{Rose}
 use Rattle.realm_io.specs.Told.{with_more, TookPrefix}
 use Rattle.graph_model.specs.Graph.{GraphValue}
 use Rattle.graph_model.specs.declared.outcome.End.TheVariants.{Cancelled, Waiting}
 use Rattle.graph_model.specs.Path.{Reached}
-use Rattle.graph_model.specs.Rules.{Everywhere, NoCycleAt}
+use Rattle.graph_model.specs.Rules.{Accepted}
+use Rattle.graph_model.specs.Need.{IsNeed}
 use Rattle.graph_model.specs.Evaluation.{eval_end, outcome, order, Unbroken}
+use Rattle.race_check.specs.declared.checked.CheckRefusal.{CheckRefusal}
+use Rattle.race_check.specs.Refusal.{IsRefusal}
+use Rattle.command_line.specs.declared.request.Action.{Action}
+use Rattle.command_line.specs.declared.request.Action.TheVariants.{Run, Check, Eval}
+use Rattle.command_line.specs.declared.request.Request.{Request}
+use Rattle.realm_trace.specs.Text.{trace_text}
 use Rattle.realm_top.specs.declared.status.Status.{Status}
-use Rattle.realm_top.specs.declared.status.Status.TheVariants.{Done, Unread, WriteFault, NoMemory, TooLong}
+use Rattle.realm_top.specs.declared.status.Status.TheVariants.{Done, Unread, Unfit, WriteFault, NoMemory, Slots, TooLong}
 use Rattle.graph_model.specs.declared.verb.Why.{Why}
 use Rattle.graph_reader.specs.Text.{GraphText}
 use Rattle.graph_reader.specs.FirstFault.{FirstFault}
-use Rattle.realm_top.specs.Texts.{report, unread_text, too_long_text}
-use Rattle.realm_top.specs.Written.{SinkState}
-
--- the program's name, and one word that names the action
-abbrev pub is_run : List (List ℕ) → Bool
-is_run (name ∷ action ∷ []) = bytes_eq action (codes "run")
-is_run _ = false
+use Rattle.realm_top.specs.Texts.{report, unread_text, too_long_text, accepted_text, unfit_text, slots_text}
+use Rattle.realm_io.specs.Written.{SinkState}
 
 -- the text that is the report of the one-thread evaluation of a graph
 abbrev pub evaluation_report : GraphValue → List ℕ
 evaluation_report g = report g (outcome g (order g))
 
--- how lines end in the evaluation, by paths: without a cycle a line waits exactly where one that never comes reaches it, itself included, and a line is cancelled exactly where an unbroken path from a fault reaches it
+-- how lines end in the evaluation, by paths: a line waits exactly where one that never comes reaches it, itself included, and a line is cancelled exactly where an unbroken path from a fault reaches it
 pub record EndsByPaths (g : GraphValue) : Type 0 where
-  pub waiting : Everywhere (NoCycleAt g) → (i : ℕ) → i < length g.lines → (eval_end g i ≡ Waiting) ↔ Reached g i
+  pub waiting : (i : ℕ) → i < length g.lines → (eval_end g i ≡ Waiting) ↔ Reached g i
   pub cancelled : (i : ℕ) → (eval_end g i ≡ Cancelled) ↔ Unbroken g i
 
 -- the bytes are the text of no graph: the line of this number is the first that is refused, for this reason
@@ -38,12 +39,47 @@ pub record IsRefused (bytes out : List ℕ) : Type 0 where
   pub fault : FirstFault bytes number why
   pub says : out ≡ unread_text number why
 
+-- a rule that the graph breaks, with the least lines at which it does and after rules that hold
+pub record IsUnfit (g : GraphValue) (out : List ℕ) : Type 0 where
+  pub why : CheckRefusal
+  pub refused : IsRefusal g why
+  pub says : unfit_text g why ≡ Some out
+
+-- the trace's text, where it is asked for
+abbrev pub trace_part : Bool → GraphValue → List ℕ
+trace_part true g = trace_text g (order g)
+trace_part false g = []
+
+-- the report of the one-thread evaluation, followed by its order as the trace where it is asked for
+abbrev pub evaluation_text : Bool → GraphValue → List ℕ
+evaluation_text traced g = evaluation_report g ++ trace_part traced g
+
+-- the text of an action on an accepted graph with this need
+abbrev pub says : Action → Request → GraphValue → ℕ → List ℕ
+says Run request g need = evaluation_text request.trace g
+says Eval request g need = evaluation_text request.trace g
+says Check request g need = accepted_text need
+
+-- a run that is given fewer slots than the need
+abbrev pub is_short_by : Action → Option ℕ → ℕ → Bool
+is_short_by Run (Some slots) need = nat_lt slots need
+is_short_by _ _ need = false
+
+abbrev pub is_short : Request → ℕ → Bool
+is_short request need = is_short_by request.action request.slots need
+
+-- what becomes of a graph, and the text that goes with it
+abbrev pub Judged : Request → GraphValue → Status → List ℕ → Type 0
+Judged request g Done out = Accepted g × (need : ℕ) × IsNeed g need × (is_short request need ≡ false) × (out ≡ says request.action request g need)
+Judged request g Slots out = Accepted g × (need : ℕ) × IsNeed g need × (is_short request need ≡ true) × (out ≡ slots_text need)
+Judged request g Unfit out = IsUnfit g out
+Judged request g _ out = ⊥
+
 -- the answer to an input of these bytes, and the text that goes with it
-abbrev pub Answers : List ℕ → Status → List ℕ → Type 0
-Answers bytes Done out = (g : GraphValue) × GraphText bytes g × (out ≡ evaluation_report g)
-Answers bytes Unread out = (length bytes ≤ 1048576) × IsRefused bytes out
-Answers bytes TooLong out = (1048576 < length bytes) × (out ≡ too_long_text)
-Answers bytes _ out = ⊥
+abbrev pub Answers : Request → List ℕ → Status → List ℕ → Type 0
+Answers request bytes Unread out = (length bytes ≤ 1048576) × IsRefused bytes out
+Answers request bytes TooLong out = (1048576 < length bytes) × (out ≡ too_long_text)
+Answers request bytes status out = (g : GraphValue) × GraphText bytes g × Judged request g status out
 
 -- all of the text was taken, and all that was taken is flushed
 pub record Delivered (old new : SinkState) (out : List ℕ) : Type 0 where
@@ -62,6 +98,10 @@ pub record BrokenOff (old new : SinkState) (out : List ℕ) : Type 0 where
 abbrev pub Delivers : SinkState → SinkState → Status → Status → List ℕ → Type 0
 Delivers old new wanted result out = ((result ≡ wanted) × Delivered old new out) ⊎ ((result ≡ WriteFault) × BrokenOff old new out)
 
+-- a graph was answered, unless memory ran out
+abbrev pub Settled : Request → GraphValue → SinkState → SinkState → Status → Type 0
+Settled request g old new result = (result ≡ NoMemory) ⊎ ((wanted : Status) × (out : List ℕ) × Judged request g wanted out × Delivers old new wanted result out)
+
 -- an input of these bytes was answered, unless memory ran out
-abbrev pub Answered : SinkState → SinkState → List ℕ → Status → Type 0
-Answered old new bytes result = (result ≡ NoMemory) ⊎ ((wanted : Status) × (out : List ℕ) × Answers bytes wanted out × Delivers old new wanted result out)
+abbrev pub Answered : Request → List ℕ → SinkState → SinkState → Status → Type 0
+Answered request bytes old new result = (result ≡ NoMemory) ⊎ ((wanted : Status) × (out : List ℕ) × Answers request bytes wanted out × Delivers old new wanted result out)

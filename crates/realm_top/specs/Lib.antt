@@ -1,4 +1,3 @@
 pub mod Texts
-pub mod Written
 pub mod Status
 pub mod Answer

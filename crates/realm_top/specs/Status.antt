@@ -1,5 +1,7 @@
 -- The exit statuses.
 use Rattle.std.specs.Prelude.{ℕ}
+use Rattle.command_line.specs.declared.WordsFault.{WordsFault}
+use Rattle.command_line.specs.declared.WordsFault.TheVariants as fault
 use Rattle.realm_top.specs.declared.status.Status.{Status}
 use Rattle.realm_top.specs.declared.status.Status.TheVariants.{Done, Usage, Unread, Unfit, ReadFault, WriteFault, NoMemory, Slots, TooLong}
 
@@ -14,3 +16,8 @@ exit_number WriteFault = 6
 exit_number NoMemory = 7
 exit_number Slots = 8
 exit_number TooLong = 9
+
+-- the status for words that ask for nothing
+abbrev pub words_status : WordsFault → Status
+words_status fault.Usage = Usage
+words_status fault.NoMemory = NoMemory

@@ -11,7 +11,9 @@ use Rattle.graph_model.specs.declared.verb.Line.{Line}
 use Rattle.graph_model.specs.declared.verb.Why.{Why}
 use Rattle.graph_model.specs.declared.verb.Why.TheVariants.{Header, Syntax, Name, Twice, Unknown, Kind, Number, Space, Outside, Arrivals, Limit, Missing, Rest}
 use Rattle.graph_model.specs.Graph.{GraphValue, is_phase, columns}
-use Rattle.graph_model.specs.Spelling.{spelled, column_name, interval_word}
+use Rattle.graph_model.specs.Spelling.{spelled, column_name, line_name, interval_word}
+use Rattle.race_check.specs.declared.checked.CheckRefusal.{CheckRefusal}
+use Rattle.race_check.specs.declared.checked.CheckRefusal.TheVariants as refusal
 
 abbrev pub end_word : End → List ℕ
 end_word Done = codes "done"
@@ -97,3 +99,28 @@ unread_text number why = spelled (codes "refused" ∷ codes "line" ∷ decimal n
 -- the line for an input that is too long
 abbrev pub too_long_text : List ℕ
 too_long_text = codes "input too long\n"
+
+-- the line for a graph that is accepted, with its need
+abbrev pub accepted_text : ℕ → List ℕ
+accepted_text need = spelled (codes "accepted" ∷ codes "need" ∷ decimal need ∷ [])
+
+-- the line for a run that is given fewer slots than this need
+abbrev pub slots_text : ℕ → List ℕ
+slots_text need = spelled (codes "needs" ∷ decimal need ∷ codes "slots" ∷ [])
+
+-- the line for a rule that one line of a graph breaks, and for a rule that two lines break
+abbrev pub broken_by_one : GraphValue → List ℕ → ℕ → List ℕ
+broken_by_one g rule i = spelled (codes "refused" ∷ rule ∷ line_name g i ∷ [])
+
+abbrev pub broken_by_two : GraphValue → List ℕ → ℕ → ℕ → List ℕ
+broken_by_two g rule i j = spelled (codes "refused" ∷ rule ∷ line_name g i ∷ line_name g j ∷ [])
+
+-- the line for a graph that breaks a rule; want of memory has none
+abbrev pub unfit_text : GraphValue → CheckRefusal → Option (List ℕ)
+unfit_text g (refusal.Cycle i) = Some (broken_by_one g (codes "cycle") i)
+unfit_text g (refusal.Unreleased i) = Some (broken_by_one g (codes "unreleased") i)
+unfit_text g (refusal.Section i j) = Some (broken_by_two g (codes "section") i j)
+unfit_text g (refusal.Descends i j) = Some (broken_by_two g (codes "descends") i j)
+unfit_text g (refusal.ReleaseFault i) = Some (broken_by_one g (codes "release") i)
+unfit_text g (refusal.Race i j) = Some (broken_by_two g (codes "race") i j)
+unfit_text g refusal.NoMemory = None

@@ -1,8 +1,7 @@
 //! Texts at the limits of a graph and one item past them.
 
-use crate::realm;
 use crate::status::Status;
-use realm_io::{MemorySink, MemorySource, OpenGate};
+use crate::support::answer;
 use std::alloc::Global;
 use std::test::Fail;
 
@@ -24,28 +23,9 @@ fn text(
     Ok(text)
 }
 
-/// The status and the bytes that `realm run` writes for this text.
-fn answer(alloc: Global, text: &str, room: usize) -> Result<(Status, Vec<u8>), Fail> {
-    let mut words = Vec::new(alloc);
-    words.push(String::from_str(alloc, "realm")?)?;
-    words.push(String::from_str(alloc, "run")?)?;
-    let bytes = Vec::from_slice(alloc, text.as_bytes())?;
-    let mut source = MemorySource::new(bytes, 65536, Vec::new(alloc));
-    let mut sink = MemorySink::new(vec![in alloc; 0; room]?, 65536, Vec::new(alloc));
-    let status = realm(
-        &(),
-        alloc,
-        words.as_slice(),
-        &mut source,
-        &mut sink,
-        &OpenGate,
-    );
-    Ok((status, Vec::from_slice(alloc, sink.taken())?))
-}
-
 /// One item past a limit is refused at this line, and the text before it is read.
 fn is_limit(alloc: Global, text: &str, refused: &str) -> Result<bool, Fail> {
-    let (status, written) = answer(alloc, text, 64)?;
+    let (status, written) = answer(alloc, "realm run", text.as_bytes(), 64)?;
     Ok(status == Status::Unread && written.as_slice() == refused.as_bytes())
 }
 
@@ -114,11 +94,11 @@ fn long_texts(rt: HostRuntime) -> Result<(), Fail> {
     }
     spaces.push_str("space t000000000000000 0..0\nend\n")?;
     assert_eq!(rt; spaces.len(), 1_048_576);
-    let (status, written) = answer(alloc, spaces.as_str(), 64)?;
+    let (status, written) = answer(alloc, "realm run", spaces.as_bytes(), 64)?;
     assert_eq!(rt; status, Status::Done);
     assert_eq!(rt; written.as_slice(), b"realm-report 1\ndone\n".as_slice());
     spaces.push_str("\n")?;
-    let (status, written) = answer(alloc, spaces.as_str(), 64)?;
+    let (status, written) = answer(alloc, "realm run", spaces.as_bytes(), 64)?;
     assert_eq!(rt; status, Status::TooLong);
     assert_eq!(rt; written.as_slice(), b"input too long\n".as_slice());
     Ok(())
@@ -140,7 +120,7 @@ fn chain(rt: HostRuntime) -> Result<(), Fail> {
     }
     fills.push_str("end\n")?;
     report.push_str("cells a.x 0..0 8191\ndone\n")?;
-    let (status, written) = answer(alloc, fills.as_str(), 524_288)?;
+    let (status, written) = answer(alloc, "realm run", fills.as_bytes(), 524_288)?;
     assert_eq!(rt; status, Status::Done);
     assert_eq!(rt; written.as_slice(), report.as_bytes());
     Ok(())

@@ -1,12 +1,16 @@
-//! The line that says why a text is refused.
+//! The lines that say why a text or a graph is refused, or that a graph is accepted.
 
-ghost use Rattle.std.specs.Prelude.{◌≡◌};
-ghost use Rattle.realm_top.specs.Texts.{why_word, unread_text};
-ghost use Rattle.realm_top.specs.Written.{sink_state, Writes};
+ghost use Rattle.std.specs.Prelude.{◌≡◌, ◌≢◌, ◌<◌, ℕ, List, Some, length};
+ghost use Rattle.race_check.specs.Refusal.{NamesLines};
+ghost use Rattle.race_check.specs.declared.checked.CheckRefusal.{CheckRefusal};
+ghost use Rattle.realm_top.specs.Texts.{why_word, unread_text, accepted_text, slots_text, broken_by_one, broken_by_two, unfit_text};
+ghost use Rattle.realm_io.specs.Written.{sink_state, Writes};
 
-use crate::report::put_four;
+use crate::report::{put_four, put_three};
+use graph_model::graph::Graph;
 use graph_model::verb::Why;
 use itoa::Buffer;
+use race_check::checked::CheckRefusal;
 use realm_io::{Sink, WriteFault};
 
 /// The word for a reason.
@@ -37,4 +41,69 @@ pub(crate) fn put_unread<K: Sink>(sink: &mut K, number: u32, why: Why) -> Result
     let mut buffer = Buffer::new();
     let digits = buffer.format(number).as_bytes();
     put_four(sink, b"refused", b"line", digits, why_word(why))
+}
+
+/// Writes that a graph is accepted, with its need.
+pub(crate) fn put_accepted<K: Sink>(sink: &mut K, need: u32) -> Result<(), WriteFault>
+    ensures { Writes (sink_state K.taken K.flushed K.faults sink.old) (sink_state K.taken K.flushed K.faults sink.new) result (accepted_text need) }
+{
+    let mut buffer = Buffer::new();
+    put_three(sink, b"accepted", b"need", buffer.format(need).as_bytes())
+}
+
+/// Writes how many slots a run needs.
+pub(crate) fn put_slots<K: Sink>(sink: &mut K, need: u32) -> Result<(), WriteFault>
+    ensures { Writes (sink_state K.taken K.flushed K.faults sink.old) (sink_state K.taken K.flushed K.faults sink.new) result (slots_text need) }
+{
+    let mut buffer = Buffer::new();
+    put_three(sink, b"needs", buffer.format(need).as_bytes(), b"slots")
+}
+
+/// Writes that one line breaks a rule.
+fn put_one<K: Sink>(sink: &mut K, graph: &Graph, rule: &[u8], i: u32) -> Result<(), WriteFault>
+    requires { i < length graph.now.lines }
+    ensures { Writes (sink_state K.taken K.flushed K.faults sink.old) (sink_state K.taken K.flushed K.faults sink.new) result (broken_by_one graph.now rule.now i) }
+{
+    put_three(sink, b"refused", rule, graph.line(i).name.bytes())
+}
+
+/// Writes that two lines break a rule.
+fn put_two<K: Sink>(
+    sink: &mut K,
+    graph: &Graph,
+    rule: &[u8],
+    i: u32,
+    j: u32,
+) -> Result<(), WriteFault>
+    requires { (i < length graph.now.lines) × (j < length graph.now.lines) }
+    ensures { Writes (sink_state K.taken K.flushed K.faults sink.old) (sink_state K.taken K.flushed K.faults sink.new) result (broken_by_two graph.now rule.now i j) }
+{
+    put_four(
+        sink,
+        b"refused",
+        rule,
+        graph.line(i).name.bytes(),
+        graph.line(j).name.bytes(),
+    )
+}
+
+/// Writes which rule a graph breaks, and at which lines.
+pub(crate) fn put_broken<K: Sink>(
+    sink: &mut K,
+    graph: &Graph,
+    why: CheckRefusal,
+) -> Result<(), WriteFault>
+    requires a_rule { why ≢ CheckRefusal.NoMemory }
+    requires lines { NamesLines graph.now why }
+    ensures { (out : List ℕ) → unfit_text graph.now why ≡ Some out → Writes (sink_state K.taken K.flushed K.faults sink.old) (sink_state K.taken K.flushed K.faults sink.new) result out }
+{
+    match why {
+        CheckRefusal::Cycle(i) => put_one(sink, graph, b"cycle", i),
+        CheckRefusal::Unreleased(i) => put_one(sink, graph, b"unreleased", i),
+        CheckRefusal::Section(i, j) => put_two(sink, graph, b"section", i, j),
+        CheckRefusal::Descends(i, j) => put_two(sink, graph, b"descends", i, j),
+        CheckRefusal::ReleaseFault(i) => put_one(sink, graph, b"release", i),
+        CheckRefusal::Race(i, j) => put_two(sink, graph, b"race", i, j),
+        CheckRefusal::NoMemory => Ok(()),
+    }
 }

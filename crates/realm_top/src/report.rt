@@ -7,7 +7,7 @@ ghost use Rattle.graph_model.specs.Spelling.{spelled, interval_word};
 ghost use Rattle.realm_top.specs.Texts.{FitsGraph, end_word, answer_word, op_text, op_texts, phase_text, phase_texts, interval_front, interval_text, cells_texts, column_texts, report};
 ghost use Rattle.index_spaces.specs.Space.{space_size, IsSpace};
 ghost use Rattle.graph_model.specs.Graph.{is_phase};
-ghost use Rattle.realm_top.specs.Written.{sink_state, Writes};
+ghost use Rattle.realm_io.specs.Written.{sink_state, Writes};
 
 use graph_model::graph::Graph;
 use graph_model::name::Name;
@@ -43,7 +43,7 @@ fn put_words<K: Sink>(sink: &mut K, words: &[&[u8]]) -> Result<(), WriteFault>
 }
 
 /// Writes a line of three words.
-fn put_three<'a, K: Sink>(
+pub(crate) fn put_three<'a, K: Sink>(
     sink: &mut K,
     first: &'a [u8],
     second: &'a [u8],
@@ -300,7 +300,11 @@ pub fn put_report<K: Sink>(sink: &mut K, graph: &Graph, outcome: &Outcome) -> Re
 }
 
 /// Writes the parts of the report.
-fn put_parts<K: Sink>(sink: &mut K, graph: &Graph, outcome: &Outcome) -> Result<(), WriteFault>
+pub(crate) fn put_parts<K: Sink>(
+    sink: &mut K,
+    graph: &Graph,
+    outcome: &Outcome,
+) -> Result<(), WriteFault>
     requires { FitsGraph graph.now outcome.now }
     ensures { Writes (sink_state K.taken K.flushed K.faults sink.old) (sink_state K.taken K.flushed K.faults sink.new) result (report graph.now outcome.now) }
 {

@@ -2,6 +2,7 @@
 
 use crate::realm;
 use crate::status::Status;
+use crate::support::words;
 use realm_io::{MemorySink, MemorySource, OpenGate};
 use std::alloc::Global;
 use std::test::Fail;
@@ -9,17 +10,6 @@ use std::test::Fail;
 const GRAPH: &[u8] = b"realm 1\nspace s 0..3\ninst a s x\nf = fill a.x s 7\nend\n";
 
 const REPORT: &[u8] = b"realm-report 1\nop f done triggered\ncells a.x 0..3 7 7 7 7\ndone\n";
-
-/// The words of a command line.
-fn words(alloc: Global, line: &str) -> Result<Vec<String>, Fail> {
-    let mut words = Vec::new(alloc);
-    for word in line.split(' ') {
-        if !word.is_empty() {
-            words.push(String::from_str(alloc, word)?)?;
-        }
-    }
-    Ok(words)
-}
 
 /// Where calls fail, and how many bytes a read and a write handle at most.
 #[derive(Clone, Copy)]
@@ -55,6 +45,7 @@ fn answer(
 #[test]
 fn answers_inputs(rt: HostRuntime) -> Result<(), Fail> {
     let run = words(rt.alloc(), "realm run")?;
+    let eval = words(rt.alloc(), "realm eval")?;
     let long = vec![in rt.alloc(); b'a'; 1_048_577]?;
     let rows = [
         (GRAPH, Status::Done, REPORT),
@@ -178,16 +169,26 @@ fn answers_inputs(rt: HostRuntime) -> Result<(), Fail> {
         ),
     ];
     for (input, status, text) in rows {
-        let (found, written) = answer(rt.alloc(), run.as_slice(), input, &SURE)?;
-        assert_eq!(rt; found, status);
-        assert_eq!(rt; written.as_slice(), text);
+        for line in [run.as_slice(), eval.as_slice()] {
+            let (found, written) = answer(rt.alloc(), line, input, &SURE)?;
+            assert_eq!(rt; found, status);
+            assert_eq!(rt; written.as_slice(), text);
+        }
     }
     Ok(())
 }
 
 #[test]
 fn refuses_words(rt: HostRuntime) -> Result<(), Fail> {
-    for line in ["", "realm", "realm walk", "realm run run"] {
+    for line in [
+        "",
+        "realm",
+        "realm walk",
+        "realm run run",
+        "realm run --workers 9",
+        "realm run --slots 0",
+        "realm run --slots 01",
+    ] {
         let words = words(rt.alloc(), line)?;
         let (found, written) = answer(rt.alloc(), words.as_slice(), GRAPH, &SURE)?;
         assert_eq!(rt; found, Status::Usage);

@@ -1,6 +1,6 @@
 use Rattle.std.proofs.Common.{◌∷◌, [], subst}
-use Rattle.graph_reader.specs.Written.{Writes, Wrote}
-use Rattle.graph_reader.proofs.WrittenLaws.{then_writes, stops, stopped_early, stopped_later}
+use Rattle.realm_io.specs.Written.{Writes, Wrote}
+use Rattle.realm_io.proofs.WrittenLaws.{then_writes, stops, stopped_early, stopped_later}
 use Rattle.graph_reader.proofs.word_kinds.put_column_name.Goals as goal
 
 pub returns-in_err-put_bytes-2 : goal.returns-in_err-put_bytes-2

@@ -1,6 +1,6 @@
 use Rattle.std.proofs.Common.{◌∷◌}
 use Rattle.graph_reader.specs.WrittenWords.{word_text}
-use Rattle.graph_reader.proofs.WrittenLaws.{stops, goes_on, breaks_off}
+use Rattle.realm_io.proofs.WrittenLaws.{stops, goes_on, breaks_off}
 use Rattle.graph_reader.proofs.WrittenLists.{flat_item}
 use Rattle.graph_reader.proofs.word_kinds.put_spaced.Goals as goal
 

@@ -1,8 +1,8 @@
 use Rattle.std.proofs.Common.{◌∷◌, drop}
 use Rattle.std.specs.List.{flat_map}
-use Rattle.graph_reader.specs.Written.{sink_state}
+use Rattle.realm_io.specs.Written.{sink_state}
 use Rattle.graph_reader.specs.WrittenWords.{word_text}
-use Rattle.graph_reader.proofs.WrittenLaws.{Progress}
+use Rattle.realm_io.proofs.WrittenLaws.{Progress}
 use Rattle.graph_reader.proofs.word_kinds.put_spaced.Given as goal
 
 abbrev pub invariant-loop-word : goal.invariant-loop-word

@@ -2,7 +2,7 @@ use Rattle.std.proofs.Common.{◌∷◌, ◌++◌, ◌+◌, drop, sym, ap, ◌�
 use Rattle.std.specs.List.{flat_map}
 use Rattle.graph_model.specs.Spelling.{line_name}
 use Rattle.graph_reader.specs.WrittenWords.{word_text}
-use Rattle.graph_reader.proofs.WrittenLaws.{stops, goes_on, breaks_off}
+use Rattle.realm_io.proofs.WrittenLaws.{stops, goes_on, breaks_off}
 use Rattle.graph_reader.proofs.WrittenLists.{flat_at}
 use Rattle.graph_reader.proofs.writer.put_events.Goals as goal
 

@@ -1,7 +1,7 @@
 use Rattle.std.proofs.Common.{drop}
-use Rattle.graph_reader.specs.Written.{sink_state}
+use Rattle.realm_io.specs.Written.{sink_state}
 use Rattle.graph_reader.specs.WrittenWords.{comma_from}
-use Rattle.graph_reader.proofs.WrittenLaws.{Progress}
+use Rattle.realm_io.proofs.WrittenLaws.{Progress}
 use Rattle.graph_reader.proofs.writer.put_fields.Given as goal
 
 abbrev pub invariant-loop-i : goal.invariant-loop-i

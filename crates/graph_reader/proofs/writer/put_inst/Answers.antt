@@ -2,7 +2,7 @@ use Rattle.std.proofs.Common.{List, ℕ, [], ◌∷◌, ◌++◌, ◌∙◌, ap}
 use Rattle.std.specs.Prelude.{codes}
 use Rattle.graph_reader.specs.WrittenWords.{word_text, comma_from}
 use Rattle.graph_reader.proofs.WrittenLists.{front_two}
-use Rattle.graph_reader.proofs.WrittenLaws.{then_writes, writes_as, stops, stopped_as, stopped_early, stopped_later}
+use Rattle.realm_io.proofs.WrittenLaws.{then_writes, writes_as, stops, stopped_as, stopped_early, stopped_later}
 use Rattle.graph_reader.proofs.writer.put_inst.Goals as goal
 
 pub returns-in_err-put_plain : goal.returns-in_err-put_plain

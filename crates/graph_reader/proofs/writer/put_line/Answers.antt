@@ -2,7 +2,7 @@ use Rattle.std.proofs.Common.{[], ◌∷◌, ◌++◌, ◌∙◌, ap, sym}
 use Rattle.graph_model.specs.Spelling.{verb_words, on_words}
 use Rattle.graph_reader.specs.WrittenWords.{spaced}
 use Rattle.graph_reader.proofs.WrittenLists.{line_text}
-use Rattle.graph_reader.proofs.WrittenLaws.{then_writes, writes_as, stops, stopped_as, stopped_early, stopped_later}
+use Rattle.realm_io.proofs.WrittenLaws.{then_writes, writes_as, stops, stopped_as, stopped_early, stopped_later}
 use Rattle.graph_reader.proofs.writer.put_line.Goals as goal
 
 pub returns-in_err-put_bytes : goal.returns-in_err-put_bytes

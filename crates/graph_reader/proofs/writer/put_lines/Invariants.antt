@@ -1,8 +1,8 @@
 use Rattle.std.proofs.Common.{drop}
 use Rattle.std.specs.List.{flat_map}
 use Rattle.graph_model.specs.Spelling.{spelled, line_words}
-use Rattle.graph_reader.specs.Written.{sink_state}
-use Rattle.graph_reader.proofs.WrittenLaws.{Progress}
+use Rattle.realm_io.specs.Written.{sink_state}
+use Rattle.realm_io.proofs.WrittenLaws.{Progress}
 use Rattle.graph_reader.proofs.writer.put_lines.Given as goal
 
 abbrev pub invariant-loop-i : goal.invariant-loop-i

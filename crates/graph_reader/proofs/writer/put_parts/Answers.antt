@@ -4,7 +4,7 @@ use Rattle.std.specs.List.{flat_map}
 use Rattle.graph_model.specs.Spelling.{spelled, header, decl_words, line_words}
 use Rattle.graph_reader.specs.Text.{closing}
 use Rattle.graph_reader.proofs.WholeText.{head_flat}
-use Rattle.graph_reader.proofs.WrittenLaws.{then_writes, writes_as, stops, stopped_as, stopped_early, stopped_later}
+use Rattle.realm_io.proofs.WrittenLaws.{then_writes, writes_as, stops, stopped_as, stopped_early, stopped_later}
 use Rattle.graph_reader.proofs.writer.put_parts.Goals as goal
 
 pub returns-in_err-put_bytes : goal.returns-in_err-put_bytes

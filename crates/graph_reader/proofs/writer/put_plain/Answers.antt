@@ -1,4 +1,4 @@
-use Rattle.graph_reader.proofs.WrittenLaws.{then_writes, stops, stopped_early, stopped_later}
+use Rattle.realm_io.proofs.WrittenLaws.{then_writes, stops, stopped_early, stopped_later}
 use Rattle.graph_reader.proofs.writer.put_plain.Goals as goal
 
 pub returns-in_err-put_bytes : goal.returns-in_err-put_bytes

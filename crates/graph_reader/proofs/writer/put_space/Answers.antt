@@ -3,7 +3,7 @@ use Rattle.std.specs.Prelude.{codes}
 use Rattle.graph_model.specs.Spelling.{interval_word}
 use Rattle.graph_reader.specs.WrittenWords.{comma_from}
 use Rattle.graph_reader.proofs.WrittenLists.{front_one}
-use Rattle.graph_reader.proofs.WrittenLaws.{then_writes, writes_as, stops, stopped_as, stopped_early, stopped_later}
+use Rattle.realm_io.proofs.WrittenLaws.{then_writes, writes_as, stops, stopped_as, stopped_early, stopped_later}
 use Rattle.graph_reader.proofs.writer.put_space.Goals as goal
 
 pub returns-in_err-put_plain : goal.returns-in_err-put_plain

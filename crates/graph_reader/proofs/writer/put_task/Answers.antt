@@ -1,5 +1,5 @@
 use Rattle.std.specs.Prelude.{codes}
-use Rattle.graph_reader.proofs.WrittenLaws.{then_writes, stops, stopped_early}
+use Rattle.realm_io.proofs.WrittenLaws.{then_writes, stops, stopped_early}
 use Rattle.graph_reader.proofs.writer.put_task.Goals as goal
 
 pub returns-in_err-put_bytes : goal.returns-in_err-put_bytes

@@ -1,5 +1,5 @@
 use Rattle.std.proofs.Common.{◌≡◌, ◌∙◌, subst}
-use Rattle.realm_top.specs.Written.{Writes}
+use Rattle.realm_io.specs.Written.{Writes}
 use Rattle.realm_top.proofs.Fitting.{words_are}
 use Rattle.realm_top.proofs.refusal.put_unread.Goals as goal
 

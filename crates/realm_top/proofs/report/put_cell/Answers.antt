@@ -1,5 +1,5 @@
 use Rattle.std.proofs.Common.{◌∷◌, []}
-use Rattle.realm_top.proofs.WrittenLaws.{then_writes}
+use Rattle.realm_io.proofs.WrittenLaws.{then_writes}
 use Rattle.realm_top.proofs.report.put_cell.Goals as goal
 
 pub returns : goal.returns

@@ -1,4 +1,4 @@
-use Rattle.realm_top.proofs.WrittenLaws.{stops, goes_on, breaks_off}
+use Rattle.realm_io.proofs.WrittenLaws.{stops, goes_on, breaks_off}
 use Rattle.realm_top.proofs.ReportRest.{cells_next}
 use Rattle.realm_top.proofs.report.put_cells.Goals as goal
 

@@ -1,8 +1,8 @@
 use Rattle.std.proofs.Common.{◌-◌, ◌∷◌, take, drop}
 use Rattle.std.specs.Prelude.{decimal}
 use Rattle.std.specs.List.{flat_map}
-use Rattle.realm_top.specs.Written.{sink_state}
-use Rattle.realm_top.proofs.WrittenLaws.{Progress}
+use Rattle.realm_io.specs.Written.{sink_state}
+use Rattle.realm_io.proofs.WrittenLaws.{Progress}
 use Rattle.realm_top.proofs.report.put_cells.Given as goal
 
 abbrev pub invariant-loop-rank : goal.invariant-loop-rank

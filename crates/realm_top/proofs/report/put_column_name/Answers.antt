@@ -1,6 +1,6 @@
 use Rattle.std.proofs.Common.{◌∷◌, [], subst}
-use Rattle.realm_top.specs.Written.{Writes, Wrote}
-use Rattle.realm_top.proofs.WrittenLaws.{then_writes, stops, stopped_early, stopped_later}
+use Rattle.realm_io.specs.Written.{Writes, Wrote}
+use Rattle.realm_io.proofs.WrittenLaws.{then_writes, stops, stopped_early, stopped_later}
 use Rattle.realm_top.proofs.report.put_column_name.Goals as goal
 
 pub returns-in_err-put_bytes-2 : goal.returns-in_err-put_bytes-2

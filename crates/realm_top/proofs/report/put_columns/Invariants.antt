@@ -1,7 +1,7 @@
 use Rattle.std.proofs.Common.{drop}
-use Rattle.realm_top.specs.Written.{sink_state}
+use Rattle.realm_io.specs.Written.{sink_state}
 use Rattle.realm_top.specs.Texts.{column_texts}
-use Rattle.realm_top.proofs.WrittenLaws.{Progress}
+use Rattle.realm_io.proofs.WrittenLaws.{Progress}
 use Rattle.realm_top.proofs.report.put_columns.Given as goal
 
 abbrev pub invariant-loop-c : goal.invariant-loop-c

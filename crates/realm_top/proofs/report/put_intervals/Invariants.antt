@@ -1,8 +1,8 @@
 use Rattle.std.proofs.Common.{◌≡◌, ◌+◌, ◌∷◌, ◌++◌, drop}
 use Rattle.index_spaces.specs.Space.{space_size}
 use Rattle.realm_top.specs.Texts.{cells_texts}
-use Rattle.realm_top.specs.Written.{sink_state}
-use Rattle.realm_top.proofs.WrittenLaws.{Progress}
+use Rattle.realm_io.specs.Written.{sink_state}
+use Rattle.realm_io.proofs.WrittenLaws.{Progress}
 use Rattle.realm_top.proofs.report.put_intervals.Given as goal
 
 abbrev pub invariant-loop-interval : goal.invariant-loop-interval

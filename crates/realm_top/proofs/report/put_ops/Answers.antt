@@ -1,4 +1,4 @@
-use Rattle.realm_top.proofs.WrittenLaws.{goes_on, breaks_off, stops}
+use Rattle.realm_io.proofs.WrittenLaws.{goes_on, breaks_off, stops}
 use Rattle.realm_top.proofs.ReportRest.{ops_left}
 use Rattle.realm_top.proofs.report.put_ops.Goals as goal
 

@@ -1,4 +1,4 @@
-use Rattle.realm_top.proofs.WrittenLaws.{then_writes, stops, stopped_early, stopped_later}
+use Rattle.realm_io.proofs.WrittenLaws.{then_writes, stops, stopped_early, stopped_later}
 use Rattle.std.specs.Prelude.{codes}
 use Rattle.realm_top.proofs.report.put_parts.Goals as goal
 

@@ -1,0 +1,3 @@
+pub mod CommandFacts
+pub mod NumberFacts
+pub mod RequestFacts

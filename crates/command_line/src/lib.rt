@@ -1,0 +1,87 @@
+//! The words of the command line, and what they ask for.
+#![tactic(auto)]
+
+mod matched;
+mod number;
+pub mod request;
+#[cfg(test)]
+mod tests;
+
+ghost use Rattle.std.specs.Prelude.{◌≡◌, ◌⊎◌, List, Some, None, false, map, string_bytes, MatchResult, IfOk};
+ghost use Rattle.clap.specs.Words.{app_of, rule_of, kind_of};
+ghost use Rattle.command_line.specs.Request.{realm_command, option_rule, flag_rule, request_of};
+ghost use Rattle.command_line.specs.Faults.{fault_by_kind};
+ghost use Rattle.command_line.specs.declared.WordsFault.{WordsFault};
+
+use crate::matched::request_in;
+use crate::request::Request;
+use clap::error::ErrorKind;
+use clap::{Arg, ArgAction, Command, Error};
+use std::alloc::{AllocError, Global};
+
+/// Why words ask for nothing.
+#[derive(Clone, Copy, Debug, PartialEq, Eq)]
+pub enum WordsFault {
+    /// They are no command line of the program.
+    Usage,
+    /// Memory was refused.
+    NoMemory,
+}
+
+/// What the words ask for. `words[0]` is the program's name.
+pub fn read_words<'a>(alloc: Global, words: &'a [String]) -> Result<Request, WordsFault>
+    ensures { MatchResult result (λ request. request_of (map (λ word. string_bytes word) words.now) ≡ Some request)
+        (λ fault. (fault ≡ WordsFault.NoMemory) ⊎ (request_of (map (λ word. string_bytes word) words.now) ≡ None)) }
+{
+    let Ok(command) = command(alloc) else {
+        return Err(WordsFault::NoMemory);
+    };
+    match command.try_get_matches_from(words) {
+        Ok(matches) => request_in(&matches).ok_or(WordsFault::Usage),
+        Err(error) => Err(fault_of(&error)),
+    }
+}
+
+/// What kept a command line from being matched.
+fn fault_of(error: &Error) -> WordsFault
+    ensures { result ≡ fault_by_kind (kind_of error.now) }
+{
+    match error.kind() {
+        ErrorKind::OutOfMemory => WordsFault::NoMemory,
+        _ => WordsFault::Usage,
+    }
+}
+
+/// The command: an action, five options with a value each, and two flags.
+fn command<'a>(alloc: Global) -> Result<Command<'a>, AllocError>
+    ensures { IfOk result (λ c. app_of c ≡ realm_command) }
+{
+    let action = Arg::new(alloc, "ACTION").required(true);
+    Command::new(alloc, "realm")
+        .disable_help_flag(true)
+        .disable_version_flag(true)
+        .arg(action)?
+        .arg(option(alloc, "workers"))?
+        .arg(option(alloc, "slots"))?
+        .arg(option(alloc, "engine"))?
+        .arg(option(alloc, "seed"))?
+        .arg(option(alloc, "size"))?
+        .arg(flag(alloc, "trace"))?
+        .arg(flag(alloc, "text"))
+}
+
+/// An option with one value.
+fn option<'a>(alloc: Global, name: &'a str) -> Arg<'a>
+    ensures rule { rule_of result ≡ option_rule name.entry.now }
+    ensures local { result.global ≡ false }
+{
+    Arg::new(alloc, name).long(name)
+}
+
+/// A flag.
+fn flag<'a>(alloc: Global, name: &'a str) -> Arg<'a>
+    ensures rule { rule_of result ≡ flag_rule name.entry.now }
+    ensures local { result.global ≡ false }
+{
+    Arg::new(alloc, name).long(name).action(ArgAction::SetTrue)
+}

@@ -1,0 +1,105 @@
+//! What the matches of a command line ask for.
+
+ghost use Rattle.std.specs.Prelude.{◌≡◌, List, Option, Some, None, option_map, option_and_then, codes};
+ghost use Rattle.clap.specs.Words.{Text, first_of, rows_of, found_of};
+ghost use Rattle.command_line.specs.Number.{number_of, number_between};
+ghost use Rattle.command_line.specs.Request.{action_by_word, engine_by_word, value_or, is_set, request_in};
+
+use crate::number::{number, number_between};
+use crate::request::{Action, Engine, Request};
+use clap::ArgMatches;
+
+/// The action that a word names.
+fn action_by_word(word: &str) -> Option<Action>
+    ensures { result ≡ action_by_word word.now }
+{
+    match word.as_bytes() {
+        b"run" => Some(Action::Run),
+        b"check" => Some(Action::Check),
+        b"eval" => Some(Action::Eval),
+        _ => None,
+    }
+}
+
+/// The engine that a word names.
+fn engine_by_word(word: &str) -> Option<Engine>
+    ensures { result ≡ engine_by_word word.now }
+{
+    match word.as_bytes() {
+        b"lock" => Some(Engine::Lock),
+        _ => None,
+    }
+}
+
+/// The text that was given for an argument.
+fn given<'a>(matches: &ArgMatches<'a>, id: &str) -> Option<&'a str>
+    ensures { option_map (λ s. s.now) result ≡ first_of id.now (rows_of (found_of matches.now)) }
+{
+    matches.get_str(id)
+}
+
+/// Whether a flag was given.
+fn is_set(matches: &ArgMatches, id: &str) -> bool
+    ensures { result ≡ is_set (first_of id.now (rows_of (found_of matches.now))) }
+{
+    match given(matches, id) {
+        None => false,
+        Some(word) => word == "true",
+    }
+}
+
+/// The number that was given for an option, or its default; none where the text is no number of its range.
+fn number_or(matches: &ArgMatches, id: &str, default: u32, least: u32, most: u32) -> Option<u32>
+    ensures { result ≡ value_or default (number_between least most) (first_of id.now (rows_of (found_of matches.now))) }
+{
+    match given(matches, id) {
+        None => Some(default),
+        Some(word) => number_between(word, least, most),
+    }
+}
+
+/// The number of slots, if it is given; none where the text is no number of its range.
+fn slots(matches: &ArgMatches) -> Option<Option<u32>>
+    ensures { result ≡ value_or None (λ word. option_map (λ n. Some n) (number_between 1 8192 word)) (first_of (codes "slots") (rows_of (found_of matches.now))) }
+{
+    match given(matches, "slots") {
+        None => Some(None),
+        Some(word) => number_between(word, 1, 8192).map(Some),
+    }
+}
+
+/// The engine; none where the text names none.
+fn engine(matches: &ArgMatches) -> Option<Engine>
+    ensures { result ≡ value_or Engine.Lock engine_by_word (first_of (codes "engine") (rows_of (found_of matches.now))) }
+{
+    match given(matches, "engine") {
+        None => Some(Engine::Lock),
+        Some(word) => engine_by_word(word),
+    }
+}
+
+/// The seed; none where the text is no number.
+fn seed(matches: &ArgMatches) -> Option<u64>
+    ensures { result ≡ value_or 1 number_of (first_of (codes "seed") (rows_of (found_of matches.now))) }
+{
+    match given(matches, "seed") {
+        None => Some(1),
+        Some(word) => number(word),
+    }
+}
+
+/// What the matches ask for; none where a value is out of its range.
+pub(crate) fn request_in(matches: &ArgMatches) -> Option<Request>
+    ensures { result ≡ request_in (rows_of (found_of matches.now)) }
+{
+    Some(Request {
+        action: action_by_word(given(matches, "ACTION")?)?,
+        workers: number_or(matches, "workers", 4, 0, 8)?,
+        slots: slots(matches)?,
+        engine: engine(matches)?,
+        seed: seed(matches)?,
+        size: number_or(matches, "size", 100, 1, 8192)?,
+        trace: is_set(matches, "trace"),
+        text: is_set(matches, "text"),
+    })
+}

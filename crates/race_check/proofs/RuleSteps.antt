@@ -1,0 +1,95 @@
+-- The rules of single lines, line by line.
+use Rattle.std.proofs.Common.{◌≡◌, ℕ, ◌+◌, ◌<◌, ◌≤◌, Bool, true, false, inl, inr, List, [], length, refl, sym, ◌∙◌, ap, subst, arith}
+use Rattle.std.specs.Prelude.{Option, Some, None, IsTrue, ◌↔◌, slice_get, slice_set, Contains}
+use Rattle.std.proofs.lemmas.Bool.{true≢false, cases_lt, eq-eqb}
+use Rattle.std.proofs.lemmas.Option.{none-some, same_Some}
+use Rattle.std.proofs.lemmas.List.{get_or-set_same, get_or-set_other}
+use Rattle.std.proofs.lemmas.List.Elements.{Contains-append_right}
+use Rattle.graph_model.specs.declared.verb.Line.{Line}
+use Rattle.graph_model.specs.Graph.{GraphValue, line_passes, is_merge_ignore, is_release_of}
+use Rattle.graph_model.specs.Fits.{IsGraph, on_lines, named_lines}
+use Rattle.graph_model.specs.Rules.{Acquires, Releases, ReleasedAt, ReleaseFaultAt, Everywhere}
+use Rattle.graph_model.proofs.GraphFacts.{named_below}
+use Rattle.graph_model.proofs.ListFacts.{contains_here}
+use Rattle.race_check.specs.Paths.{PathsValue, path_in, IsPathTable}
+use Rattle.race_check.specs.Releases.{release_in, AreReleases}
+use Rattle.race_check.proofs.VerbFacts.{line_below, release_is, is_release_from, release_of_is}
+use Rattle.race_check.proofs.ReservationFacts.{verb_of}
+use Rattle.race_check.proofs.FittingLines.{cut_at}
+use Rattle.graph_model.specs.declared.verb.Verb.TheVariants.{Release}
+use Rattle.graph_model.specs.Path.{HasPath}
+use Rattle.race_check.proofs.RuleWords.{IsReleaseTableTo, table_release, table_done}
+
+-- a rule that holds below a number and from it on
+pub everywhere_by : (R : ℕ → Type 0) (n : ℕ) → ((i : ℕ) → n ≤ i → R i) → ((i : ℕ) → i < n → R i) → Everywhere R
+everywhere_by R n beyond below i = elim (cases_lt i n) [ inl l ↦ below i l | inr up ↦ beyond i up ]
+
+pub below_with : (R : ℕ → Type 0) (n : ℕ) → ((k : ℕ) → k < n → R k) → R n → (k : ℕ) → k < n + 1 → R k
+below_with R n below here k h = elim (cases_lt k n) [ inl l ↦ below k l | inr up ↦ subst R (let e : n ≡ k = omega arith in e) here ]
+
+-- an acquire and its release
+pub released_none : (g : GraphValue) (i : ℕ) → ((l : ℕ) → Acquires g i l → ⊥) → IsTrue true ↔ ReleasedAt g i
+released_none g i none = ((λ h l a. absurd (none l a)), (λ r. refl))
+
+pub release_known : (g : GraphValue) (releases : List (Option ℕ)) → AreReleases g releases → (i r : ℕ) → release_in releases i ≡ Some r → r < length g.lines
+release_known g releases are i r e = line_below (is_release_of i) g r (are.table.0 i r e)
+
+pub released_by_path : (g : GraphValue) (t : PathsValue) (releases : List (Option ℕ)) → IsPathTable g t → AreReleases g releases → (i l r : ℕ) (b : Bool) → Acquires g i l → b ≡ path_in t i r → release_in releases i ≡ Some r → IsTrue b ↔ ReleasedAt g i
+released_by_path g t releases paths are i l r b a is e = (
+  (λ h k x. (r, are.table.0 i r e, paths.is_test.holds i r (sym is ∙ h))),
+  (λ rule. (let k = rule l a in
+      let same : r ≡ k.0 = same_Some r k.0 (sym e ∙ are.table.1 i k.0 k.1) in
+      is ∙ paths.is_test.passes i r (subst (λ z. HasPath g i z) (sym same) k.2))),
+)
+
+pub released_missing : (g : GraphValue) (releases : List (Option ℕ)) → AreReleases g releases → (i l : ℕ) → Acquires g i l → release_in releases i ≡ None → IsTrue false ↔ ReleasedAt g i
+released_missing g releases are i l a e = (
+  (λ h. absurd (true≢false (sym h))),
+  (λ rule. (let r = rule l a in absurd (none-some r.0 (sym e ∙ are.table.1 i r.0 r.1)))),
+)
+
+-- a release and what it stands on
+release_verb : (g : GraphValue) (i q : ℕ) (l : Line) → Releases g i q → slice_get g.lines i ≡ Some l → is_release_of q l.verb ≡ true
+release_verb g i q l rel at = ap (is_release_of q) (same_Some l.verb (Release q) (sym (verb_of g i l at) ∙ release_is g i q rel)) ∙ eq-eqb q q refl
+
+releases_of : (g : GraphValue) (i q : ℕ) (l : Line) → slice_get g.lines i ≡ Some l → is_release_of q l.verb ≡ true → Releases g i q
+releases_of g i q l at r = is_release_from g i q (verb_of g i l at ∙ ap Some (release_of_is q l.verb r))
+
+pub stands_none : (g : GraphValue) (i : ℕ) → ((q : ℕ) → Releases g i q → ⊥) → IsTrue true ↔ ReleaseFaultAt g i
+stands_none g i none = ((λ h q l at r. absurd (none q (releases_of g i q l at r))), (λ r. refl))
+
+pub stands_by : (g : GraphValue) (i q m : ℕ) (l : Line) (b : Bool) → Releases g i q → slice_get g.lines i ≡ Some l → l.on ≡ Some m → b ≡ line_passes is_merge_ignore g m → IsTrue b ↔ ReleaseFaultAt g i
+stands_by g i q m l b rel at on is = (
+  (λ h p k e r. (m, ap (λ (x : Line). x.on) (same_Some k l (sym e ∙ at)) ∙ on, sym is ∙ h)),
+  (λ rule. (let k = rule q l at (release_verb g i q l rel at) in
+      let same : m ≡ k.0 = same_Some m k.0 (sym on ∙ k.1) in
+      is ∙ subst (λ z. line_passes is_merge_ignore g z ≡ true) (sym same) k.2)),
+)
+
+pub stands_on_none : (g : GraphValue) (i q : ℕ) (l : Line) → Releases g i q → slice_get g.lines i ≡ Some l → l.on ≡ None → IsTrue false ↔ ReleaseFaultAt g i
+stands_on_none g i q l rel at on = (
+  (λ h. absurd (true≢false (sym h))),
+  (λ rule. (let k = rule q l at (release_verb g i q l rel at) in absurd (none-some k.0 (sym on ∙ k.1)))),
+)
+
+-- what a line stands on is a line
+pub on_known : (g : GraphValue) → IsGraph g → (i m : ℕ) (l : Line) → i < length g.lines → slice_get g.lines i ≡ Some l → l.on ≡ Some m → m < length g.lines
+on_known g f i m l below at on =
+    let c = cut_at g.decls [] g.lines f.lines i l at in
+    let b : m < length c.0 = named_below (record { decls = g.decls; lines = c.0 }) l c.2.fits m
+    (Contains-append_right (named_lines l.verb) (on_lines l.on) m (subst (λ o. Contains (on_lines o) m) (sym on) (contains_here m []))) in
+    let size : length c.0 ≡ 0 + i = c.3 in omega arith
+
+-- the table of releases after one more line
+pub releases_begun : (g : GraphValue) (releases : List (Option ℕ)) → ((q : ℕ) → release_in releases q ≡ None) → IsReleaseTableTo g (release_in releases) 0
+releases_begun g releases nones = record {
+  is = λ q r h. absurd (none-some r (sym (nones q) ∙ h));
+  listed = λ q r h. absurd (omega arith);
+}
+
+pub releases_more : (g : GraphValue) → IsGraph g → (releases : List (Option ℕ)) (i q : ℕ) → q < length releases → IsReleaseTableTo g (release_in releases) i → Releases g i q → IsReleaseTableTo g (release_in (slice_set releases q (Some i))) (i + 1)
+releases_more g f releases i q below t rel = table_release g f (release_in releases) (release_in (slice_set releases q (Some i))) i q t rel
+    (get_or-set_same releases q (Some i) None below) (λ k apart. get_or-set_other releases q k (Some i) None apart)
+
+pub releases_done : (g : GraphValue) (releases : List (Option ℕ)) (n : ℕ) → n ≡ length g.lines → length releases ≡ length g.lines → IsReleaseTableTo g (release_in releases) n → AreReleases g releases
+releases_done g releases n all size t = record { size = size; table = table_done g (release_in releases) (subst (λ k. IsReleaseTableTo g (release_in releases) k) all t) }

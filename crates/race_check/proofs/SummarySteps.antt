@@ -1,0 +1,116 @@
+-- The summaries of sections, acquire by acquire and line by line.
+use Rattle.std.proofs.Common.{◌≡◌, ℕ, ◌+◌, ◌<◌, ◌≤◌, Bool, true, false, inl, inr, List, length, refl, sym, ◌∙◌, subst, arith}
+use Rattle.std.specs.Prelude.{◌≢◌, Option, Some, None, slice_get}
+use Rattle.std.specs.List.{slice_index_or}
+use Rattle.std.proofs.lemmas.Bool.{cases_lt, cases_eq}
+use Rattle.std.proofs.lemmas.Option.{none-some, same_Some}
+use Rattle.graph_model.specs.Graph.{GraphValue, locks, is_acquire_of}
+use Rattle.graph_model.specs.Fits.{IsGraph}
+use Rattle.graph_model.specs.Path.{HasPath}
+use Rattle.graph_model.specs.Rules.{Acquires, Section}
+use Rattle.race_check.specs.Paths.{PathsValue, path_in, IsPathTable}
+use Rattle.race_check.specs.Releases.{release_in, AreReleases}
+use Rattle.race_check.specs.Summaries.{IsSummaryTo, AreSummaries, AreSummed, ApartIn, MayBeApartBy, IsNoted}
+use Rattle.race_check.specs.declared.summaries.Summary.{Summary}
+use Rattle.race_check.proofs.VerbFacts.{line_below}
+use Rattle.race_check.proofs.ReservationFacts.{acquired_lock_known}
+use Rattle.race_check.proofs.ExemptSummary.{summary_none, summary_skips, summary_first, summary_more, apart_is, apart_found}
+
+-- no acquire is summed
+pub sums_begun : (g : GraphValue) (first : List (Option ℕ)) (more : List Bool) → length first ≡ length g.lines → length more ≡ length g.lines → ((i : ℕ) → slice_index_or first i None ≡ None) → ((i : ℕ) → slice_index_or more i false ≡ false) →
+    (l : ℕ) → AreSummaries g l 0 first more
+sums_begun g first more a b nones falses l = record {
+  firsts = a;
+  mores = b;
+  each = λ i h. subst (λ o. IsSummaryTo g l i 0 o (slice_index_or more i false)) (sym (nones i)) (subst (λ m. IsSummaryTo g l i 0 None m) (sym (falses i)) (summary_none g l i));
+}
+
+-- an acquire of another reservation, or without a release, has no section
+pub sums_skip : (g : GraphValue) (l q : ℕ) (first : List (Option ℕ)) (more : List Bool) → ((i : ℕ) → Section g l q i → ⊥) → AreSummaries g l q first more → AreSummaries g l (q + 1) first more
+sums_skip g l q first more none s = record {
+  firsts = s.firsts;
+  mores = s.mores;
+  each = λ i h. summary_skips g l i q (slice_index_or first i None) (slice_index_or more i false) (s.each i h) (none i);
+}
+
+pub no_release_no_section : (g : GraphValue) (releases : List (Option ℕ)) → AreReleases g releases → (l q : ℕ) → release_in releases q ≡ None → (i : ℕ) → Section g l q i → ⊥
+no_release_no_section g releases are l q e i s = none-some s.release (sym e ∙ are.table.1 q s.release s.releases)
+
+pub not_acquire_no_section : (g : GraphValue) (l q : ℕ) → (Acquires g q l → ⊥) → (i : ℕ) → Section g l q i → ⊥
+not_acquire_no_section g l q none i s = none s.acquires
+
+-- the lines below a number have the acquire summed, the others not yet
+pub record AreSummedTo (g : GraphValue) (l q n : ℕ) (first : List (Option ℕ)) (more : List Bool) : Type 0 where
+  pub firsts : length first ≡ length g.lines
+  pub mores : length more ≡ length g.lines
+  pub low : (i : ℕ) → i < n → i < length g.lines → IsSummaryTo g l i (q + 1) (slice_index_or first i None) (slice_index_or more i false)
+  pub high : (i : ℕ) → n ≤ i → i < length g.lines → IsSummaryTo g l i q (slice_index_or first i None) (slice_index_or more i false)
+
+pub summing_done : (g : GraphValue) (l q n : ℕ) (first : List (Option ℕ)) (more : List Bool) → n ≡ length g.lines → AreSummedTo g l q n first more → AreSummaries g l (q + 1) first more
+summing_done g l q n first more all s = record { firsts = s.firsts; mores = s.mores; each = λ i b. s.low i (omega arith) b }
+
+-- one more line, which lies not in the section
+pub summing_skips : (g : GraphValue) (l q n : ℕ) (first : List (Option ℕ)) (more : List Bool) → (Section g l q n → ⊥) → AreSummedTo g l q n first more → AreSummedTo g l q (n + 1) first more
+summing_skips g l q n first more out s = record {
+  firsts = s.firsts;
+  mores = s.mores;
+  low = λ i h b. elim (cases_lt i n) [
+    | inl l ↦ s.low i l b
+    | inr up ↦ summary_skips g l i q (slice_index_or first i None) (slice_index_or more i false) (s.high i up b) (λ x. out (subst (Section g l q) (let e : i ≡ n = omega arith in e) x))
+  ];
+  high = λ i h b. s.high i (omega arith) b;
+}
+
+-- or which does
+pub summing_notes : (g : GraphValue) (l q n : ℕ) (first : List (Option ℕ)) (more : List Bool) (first_after : List (Option ℕ)) (more_after : List Bool) → n < length g.lines → Section g l q n → IsNoted q n first more first_after more_after →
+    AreSummedTo g l q n first more → AreSummedTo g l q (n + 1) first_after more_after
+summing_notes g l q n first more first_after more_after below here noted s = record {
+  firsts = noted.firsts ∙ s.firsts;
+  mores = noted.mores ∙ s.mores;
+  low = λ i h b. elim (cases_eq i n) [
+    | inl same ↦ subst (λ z. IsSummaryTo g l z (q + 1) (slice_index_or first_after z None) (slice_index_or more_after z false)) (sym same) (at_line (slice_index_or first n None) (slice_index_or more n false) refl refl)
+    | inr apart ↦ moved i apart (q + 1) (s.low i (omega (arith, apart)) b)
+  ];
+  high = λ i h b. moved i (λ e. absurd (omega arith)) q (s.high i (omega arith) b);
+}
+  where
+    moved : (i : ℕ) → i ≢ n → (m : ℕ) → IsSummaryTo g l i m (slice_index_or first i None) (slice_index_or more i false) → IsSummaryTo g l i m (slice_index_or first_after i None) (slice_index_or more_after i false)
+    moved i apart m x = subst (λ o. IsSummaryTo g l i m o (slice_index_or more_after i false)) (sym (noted.other_first i apart)) (subst (λ b. IsSummaryTo g l i m (slice_index_or first i None) b) (sym (noted.other_more i apart)) x)
+
+    at_line : (o : Option ℕ) (m : Bool) → slice_index_or first n None ≡ o → slice_index_or more n false ≡ m → IsSummaryTo g l n (q + 1) (slice_index_or first_after n None) (slice_index_or more_after n false)
+    at_line None m e f =
+        let w = noted.was_none e in
+        let now : IsSummaryTo g l n q (slice_index_or first n None) (slice_index_or more n false) = s.high n (omega arith) below in
+        let single : slice_index_or more n false ≡ false = now.marked e in
+        subst (λ z. IsSummaryTo g l n (q + 1) z (slice_index_or more_after n false)) (sym w.0) (subst (λ b. IsSummaryTo g l n (q + 1) (Some q) b) (sym (w.1 ∙ single))
+        (summary_first g l n q (subst (λ b. IsSummaryTo g l n q None b) single (subst (λ z. IsSummaryTo g l n q z (slice_index_or more n false)) e now)) here))
+    at_line (Some k) m e f =
+        let w = noted.was_some k e in
+        subst (λ z. IsSummaryTo g l n (q + 1) z (slice_index_or more_after n false)) (sym w.0) (subst (λ b. IsSummaryTo g l n (q + 1) (Some k) b) (sym w.1)
+        (summary_more g l n q k (slice_index_or more n false) (subst (λ z. IsSummaryTo g l n q z (slice_index_or more n false)) e (s.high n (omega arith) below)) here))
+
+-- whether a line lies in a section, by its paths
+pub section_by_paths : (g : GraphValue) (t : PathsValue) (releases : List (Option ℕ)) → IsPathTable g t → AreReleases g releases → (l q r i : ℕ) → Acquires g q l → release_in releases q ≡ Some r → path_in t q i ≡ true → path_in t i r ≡ true → Section g l q i
+section_by_paths g t releases table are l q r i a e p s = record { acquires = a; entered = table.is_test.holds q i p; release = r; releases = are.table.0 q r e; left = table.is_test.holds i r s }
+
+pub paths_of_section : (g : GraphValue) (t : PathsValue) (releases : List (Option ℕ)) → IsPathTable g t → AreReleases g releases → (l q r i : ℕ) → release_in releases q ≡ Some r → Section g l q i → (path_in t q i ≡ true) × (path_in t i r ≡ true)
+paths_of_section g t releases table are l q r i e s =
+    let same : s.release ≡ r = same_Some s.release r (sym (are.table.1 q s.release s.releases) ∙ e) in
+    (table.is_test.passes q i s.entered, table.is_test.passes i r (subst (HasPath g i) same s.left))
+
+-- two lines are apart in a reservation by their summaries
+module _ (g : GraphValue) (fits : IsGraph g) (summaries : List Summary) (summed : AreSummed g summaries) (i j : ℕ) (i_line : i < length g.lines) (j_line : j < length g.lines) where
+  pub apart_by : (l : ℕ) (s : Summary) → slice_get summaries l ≡ Some s → MayBeApartBy s.first.items s.more.items i j → ApartIn g l i j
+  apart_by l s at m = let each = (summed.each l s at).each in
+      apart_is g l i j (length g.lines) (length g.lines) (slice_index_or s.first.items i None) (slice_index_or s.first.items j None) (slice_index_or s.more.items i false) (slice_index_or s.more.items j false) (each i i_line) (each j j_line) m
+
+  pub by_apart : (l : ℕ) (s : Summary) → slice_get summaries l ≡ Some s → ApartIn g l i j → MayBeApartBy s.first.items s.more.items i j
+  by_apart l s at a = let each = (summed.each l s at).each in
+      apart_found g l i j (length g.lines) (slice_index_or s.first.items i None) (slice_index_or s.first.items j None) (slice_index_or s.more.items i false) (slice_index_or s.more.items j false) (each i i_line) (each j j_line) a.0 a.1
+      (line_below (is_acquire_of l) g a.0 a.3.acquires) (line_below (is_acquire_of l) g a.1 a.4.acquires) a.2 a.3 a.4
+
+  pub apart_known : (l : ℕ) → ApartIn g l i j → l < length summaries
+  apart_known l a = let b : l < length (locks g) = acquired_lock_known g fits a.0 l a.3.acquires in let c : length summaries ≡ length (locks g) = summed.count in omega arith
+
+pub none_apart_more : (g : GraphValue) (i j n : ℕ) → ((k : ℕ) → k < n → ApartIn g k i j → ⊥) → (ApartIn g n i j → ⊥) → (k : ℕ) → k < n + 1 → ApartIn g k i j → ⊥
+none_apart_more g i j n none here k h a = elim (cases_lt k n) [ inl l ↦ none k l a | inr up ↦ here (subst (λ z. ApartIn g z i j) (let e : k ≡ n = omega arith in e) a) ]

@@ -1,0 +1,6 @@
+use Rattle.std.proofs.Common.{◌≡◌, take}
+use Rattle.graph_model.specs.Access.{accesses}
+use Rattle.race_check.proofs.conflicts.accesses_of.Given as goal
+
+abbrev pub invariant-loop-k : goal.invariant-loop-k
+invariant-loop-k l = l.list.items ≡ take l.k (accesses l.graph l.line)

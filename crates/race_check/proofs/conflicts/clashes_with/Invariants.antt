@@ -1,0 +1,6 @@
+use Rattle.race_check.specs.Races.{Clash}
+use Rattle.race_check.proofs.AccessSteps.{NoneAmong}
+use Rattle.race_check.proofs.conflicts.clashes_with.Given as goal
+
+abbrev pub invariant-loop-other : goal.invariant-loop-other
+invariant-loop-other l = NoneAmong (Clash l.graph l.sums l.one) l.others l.other-index

@@ -1,0 +1,8 @@
+use Rattle.std.specs.Prelude.{Contains}
+use Rattle.graph_model.specs.declared.verb.Access.{Access}
+use Rattle.race_check.specs.Races.{Clash}
+use Rattle.race_check.proofs.AccessSteps.{NoneAmong}
+use Rattle.race_check.proofs.conflicts.some_clash.Given as goal
+
+abbrev pub invariant-loop-one : goal.invariant-loop-one
+invariant-loop-one l = NoneAmong (λ a. (b : Access) × Contains l.others b × Clash l.graph l.sums a b) l.ones l.one-index

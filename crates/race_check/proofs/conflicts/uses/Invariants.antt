@@ -1,0 +1,8 @@
+use Rattle.std.proofs.Common.{◌≡◌}
+use Rattle.graph_model.specs.declared.verb.Access.{Access}
+use Rattle.graph_model.specs.Access.{accesses}
+use Rattle.race_check.proofs.AccessSteps.{NoneAmong}
+use Rattle.race_check.proofs.conflicts.uses.Given as goal
+
+abbrev pub invariant-loop-k : goal.invariant-loop-k
+invariant-loop-k l = NoneAmong (λ (a : Access). l.column ≡ a.column) (accesses l.graph l.line) l.k

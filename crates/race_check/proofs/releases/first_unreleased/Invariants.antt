@@ -1,0 +1,6 @@
+use Rattle.std.proofs.Common.{ℕ, ◌<◌}
+use Rattle.graph_model.specs.Rules.{ReleasedAt}
+use Rattle.race_check.proofs.releases.first_unreleased.Given as goal
+
+abbrev pub invariant-loop-line : goal.invariant-loop-line
+invariant-loop-line l = record { before : (k : ℕ) → k < l.line → ReleasedAt l.graph k }

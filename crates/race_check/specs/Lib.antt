@@ -1,0 +1,14 @@
+pub mod Paths
+pub mod Order
+pub mod Search
+pub mod Checked
+pub mod Refusal
+pub mod High
+pub mod Sweep
+pub mod Releases
+pub mod Words
+pub mod RuleWords
+pub mod Races
+pub mod Summaries
+pub mod Rivals
+pub mod Laws

@@ -1,0 +1,113 @@
+//! Which lines use a column, and which conflict.
+
+ghost use Rattle.std.specs.Prelude.{◌≡◌, ◌<◌, ◌||◌, ◌↔◌, not, length, Contains, IsTrue, IfOk};
+ghost use Rattle.graph_model.specs.declared.verb.Access.{Access};
+ghost use Rattle.graph_model.specs.Graph.{named_spaces};
+ghost use Rattle.graph_model.specs.Access.{accesses, modes_clash};
+ghost use Rattle.graph_model.specs.Rules.{modes_commute};
+ghost use Rattle.race_check.specs.Races.{AreAccesses, AreSpacesKnown, Clash, ListsClash, uses};
+
+use crate::room::push;
+use graph_model::graph::Graph;
+use graph_model::verb::{Access, Mode};
+use index_spaces::NoMemory;
+use std::alloc::Global;
+
+/// A line has at most three accesses.
+pub(crate) const MOST_ACCESSES: u32 = 3;
+
+/// For each line its accesses, in order.
+pub(crate) fn accesses_of_lines(alloc: Global, graph: &Graph) -> Result<Vec<Vec<Access>>, NoMemory>
+    ensures { IfOk result (λ v. AreAccesses graph.now v.items) }
+{
+    let mut lists = Vec::new(alloc);
+    for line in 0..graph.lines() {
+        let list = accesses_of(alloc, graph, line)?;
+        push(&mut lists, list)?;
+    }
+    Ok(lists)
+}
+
+/// The accesses of a line, in order.
+fn accesses_of(alloc: Global, graph: &Graph, line: u32) -> Result<Vec<Access>, NoMemory>
+    requires { line < length graph.now.lines }
+    ensures { IfOk result (λ v. v.items ≡ accesses graph.now line) }
+{
+    let mut list = Vec::new(alloc);
+    for k in 0..MOST_ACCESSES {
+        let Some(access) = graph.access(line, k) else {
+            return Ok(list);
+        };
+        push(&mut list, access)?;
+    }
+    Ok(list)
+}
+
+/// Whether some of these accesses and some of the others are of one column at a shared point and
+/// are not both reads, and, unless sums count too, not both sums.
+pub(crate) fn some_clash(graph: &Graph, ones: &[Access], others: &[Access], sums: bool) -> bool
+    requires ones { AreSpacesKnown graph.now ones.now }
+    requires others { AreSpacesKnown graph.now others.now }
+    ensures { IsTrue result ↔ ListsClash graph.now sums ones.now others.now }
+{
+    for one in ones {
+        if clashes_with(graph, *one, others, sums) {
+            return true;
+        }
+    }
+    false
+}
+
+/// Whether some of these accesses clashes with this one.
+fn clashes_with(graph: &Graph, one: Access, others: &[Access], sums: bool) -> bool
+    requires one { one.space < length (named_spaces graph.now) }
+    requires others { AreSpacesKnown graph.now others.now }
+    ensures { IsTrue result ↔ ((b : Access) × Contains others.now b × Clash graph.now sums one b) }
+{
+    for other in others {
+        if clash(graph, one, *other, sums) {
+            return true;
+        }
+    }
+    false
+}
+
+/// Whether two accesses clash.
+fn clash(graph: &Graph, one: Access, other: Access, sums: bool) -> bool
+    requires one { one.space < length (named_spaces graph.now) }
+    requires other { other.space < length (named_spaces graph.now) }
+    ensures { IsTrue result ↔ Clash graph.now sums one other }
+{
+    one.column == other.column
+        && modes_clash(one.mode, other.mode)
+        && (sums || !modes_commute(one.mode, other.mode))
+        && graph.space(one.space).meets(graph.space(other.space))
+}
+
+fn modes_clash(one: Mode, other: Mode) -> bool
+    ensures { result ≡ modes_clash one other }
+{
+    !matches!((one, other), (Mode::Read, Mode::Read))
+}
+
+fn modes_commute(one: Mode, other: Mode) -> bool
+    ensures { result ≡ modes_commute one other }
+{
+    matches!((one, other), (Mode::Sum, Mode::Sum))
+}
+
+/// Whether a line uses a column.
+pub(crate) fn uses(graph: &Graph, line: u32, column: u32) -> bool
+    requires { line < length graph.now.lines }
+    ensures { result ≡ uses graph.now column line }
+{
+    for k in 0..MOST_ACCESSES {
+        let Some(access) = graph.access(line, k) else {
+            return false;
+        };
+        if column == access.column {
+            return true;
+        }
+    }
+    false
+}

@@ -1,0 +1,114 @@
+//! Paths that lead from a line to itself.
+
+ghost use Rattle.std.specs.Prelude.{◌≡◌, ℕ, ◌+◌, ◌<◌, ◌≤◌, ◌↔◌, true, false, cond, [], ◌∷◌, ◌++◌, length, slice_set, IsTrue, OnOk, IfOk, MatchOption};
+ghost use Rattle.graph_model.specs.Edges.{edges, edges_out_of};
+ghost use Rattle.graph_model.specs.Path.{HasPath};
+ghost use Rattle.graph_model.specs.Rules.{Everywhere, NoCycleAt, IsCycle};
+ghost use Rattle.race_check.specs.Order.{IsOrdered};
+ghost use Rattle.race_check.specs.Search.{IsMarking, IsSearching, marked_in, unmarked};
+
+use crate::order::Order;
+use crate::room::push;
+use graph_model::graph::Graph;
+use graph_model::laws::edges_between_lines;
+use index_spaces::NoMemory;
+use std::alloc::Global;
+
+/// The least line that has a path to itself.
+pub(crate) fn first_cycle(
+    alloc: Global,
+    graph: &Graph,
+    order: &Order,
+) -> Result<Option<u32>, NoMemory>
+    requires { IsOrdered graph.now order.now.lines.items order.now.left.items }
+    ensures { IfOk result (λ o. MatchOption o (Everywhere (NoCycleAt graph.now)) (λ i. (i < length graph.now.lines) × IsCycle graph.now i)) }
+{
+    edges_between_lines();
+    for line in 0..graph.lines() {
+        if is_on_cycle(alloc, graph, order, line)? {
+            return Ok(Some(line));
+        }
+    }
+    Ok(None)
+}
+
+/// Whether a line has a path to itself. A line of the order has none, so no search is made for it.
+fn is_on_cycle(alloc: Global, graph: &Graph, order: &Order, line: u32) -> Result<bool, NoMemory>
+    requires known { line < length graph.now.lines }
+    requires ordered { IsOrdered graph.now order.now.lines.items order.now.left.items }
+    ensures { IfOk result (λ b. IsTrue b ↔ HasPath graph.now line line) }
+{
+    if order.left[line as usize] == 0 {
+        return Ok(false);
+    }
+    has_path_to_itself(alloc, graph, line)
+}
+
+/// Whether a search from a line finds that line.
+fn has_path_to_itself(alloc: Global, graph: &Graph, line: u32) -> Result<bool, NoMemory>
+    requires { line < length graph.now.lines }
+    ensures { IfOk result (λ b. IsTrue b ↔ HasPath graph.now line line) }
+{
+    let mut search = Search::new(alloc, graph)?;
+    search.pass_all(graph, line)?;
+    while let Some(next) = search.stack.pop() {
+        search.pass_all(graph, next)?;
+    }
+    Ok(search.marked[line as usize])
+}
+
+/// A search for the lines to which paths lead: those found, and of these the ones whose edges are
+/// still to be followed.
+#[derive(Drop)]
+struct Search {
+    marked: Vec<bool>,
+    stack: Vec<u32>,
+}
+
+impl Search {
+    /// No line is found yet.
+    fn new(alloc: Global, graph: &Graph) -> Result<Search, NoMemory>
+        ensures size { IfOk result (λ s. length s.marked.items ≡ length graph.now.lines) }
+        ensures none { IfOk result (λ s. (j : ℕ) → marked_in s.marked.items j ≡ false) }
+        ensures stack { IfOk result (λ s. s.stack.items ≡ []) }
+    {
+        let mut marked = Vec::new(alloc);
+        for _line in 0..graph.lines() {
+            push(&mut marked, false)?;
+        }
+        Ok(Search {
+            marked,
+            stack: Vec::new(alloc),
+        })
+    }
+
+    /// Follows the edges out of a line.
+    fn pass_all(&mut self, graph: &Graph, line: u32) -> Result<(), NoMemory>
+        requires known { line < length graph.now.lines }
+        requires size { length self.old.marked.items ≡ length graph.now.lines }
+        ensures size { OnOk result (length self.new.marked.items ≡ length graph.now.lines) }
+        ensures marking { OnOk result (IsMarking (edges_out_of graph.now line) self.old.marked.items self.old.stack.items self.new.marked.items self.new.stack.items) }
+        ensures work { OnOk result (unmarked self.new.marked.items + length self.new.stack.items ≤ unmarked self.old.marked.items + length self.old.stack.items) }
+    {
+        edges_between_lines();
+        let _ = graph.lines();
+        let edges = graph.edges_from(line);
+        for edge in edges {
+            self.mark(edge.to)?;
+        }
+        Ok(())
+    }
+
+    /// Marks a line, and puts it on the stack where it was not marked.
+    fn mark(&mut self, line: u32) -> Result<(), NoMemory>
+        requires { line < length self.old.marked.items }
+        ensures marked { OnOk result (self.new.marked.items ≡ slice_set self.old.marked.items line true) }
+        ensures stack { OnOk result (self.new.stack.items ≡ cond (marked_in self.old.marked.items line) self.old.stack.items (self.old.stack.items ++ line ∷ [])) }
+    {
+        if !self.marked[line as usize] {
+            self.marked[line as usize] = true;
+            push(&mut self.stack, line)?;
+        }
+        Ok(())
+    }
+}

@@ -1,0 +1,74 @@
+//! The release of each acquire, and the rule that each has one.
+
+ghost use Rattle.std.specs.Prelude.{◌≡◌, ℕ, ◌<◌, ◌↔◌, length, Option, None, IsTrue, IfOk, MatchOption};
+ghost use Rattle.std.specs.List.{slice_index_or};
+ghost use Rattle.graph_model.specs.Rules.{Everywhere, FailsFirst, ReleasedAt};
+ghost use Rattle.race_check.specs.Paths.{IsPathTable};
+ghost use Rattle.race_check.specs.Releases.{AreReleases};
+
+use crate::paths::PathTable;
+use crate::reservations::{acquired, released};
+use crate::room::push;
+use graph_model::graph::Graph;
+use index_spaces::NoMemory;
+use std::alloc::Global;
+
+/// The release of each line that is an acquire and has one.
+pub(crate) fn releases(alloc: Global, graph: &Graph) -> Result<Vec<Option<u32>>, NoMemory>
+    ensures { IfOk result (λ v. AreReleases graph.now v.items) }
+{
+    let lines = graph.lines();
+    let mut releases = nones(alloc, lines)?;
+    for line in 0..lines {
+        if let Some(acquire) = released(graph, line) {
+            releases[acquire as usize] = Some(line);
+        }
+    }
+    Ok(releases)
+}
+
+/// So many times `None`.
+pub(crate) fn nones(alloc: Global, count: u32) -> Result<Vec<Option<u32>>, NoMemory>
+    ensures size { IfOk result (λ v. length v.items ≡ count) }
+    ensures nones { IfOk result (λ v. (i : ℕ) → slice_index_or v.items i None ≡ None) }
+{
+    let mut items = Vec::new(alloc);
+    for _item in 0..count {
+        push(&mut items, None)?;
+    }
+    Ok(items)
+}
+
+/// The least acquire that has no release with a path from it.
+pub(crate) fn first_unreleased(
+    graph: &Graph,
+    paths: &PathTable,
+    releases: &[Option<u32>],
+) -> Option<u32>
+    requires table { IsPathTable graph.now paths.now }
+    requires releases { AreReleases graph.now releases.now }
+    ensures { MatchOption result (Everywhere (ReleasedAt graph.now)) (λ i. (i < length graph.now.lines) × FailsFirst (ReleasedAt graph.now) i) }
+{
+    for line in 0..graph.lines() {
+        if !is_released(graph, paths, releases, line) {
+            return Some(line);
+        }
+    }
+    None
+}
+
+/// Whether a line has a path to its release, if it is an acquire.
+fn is_released(graph: &Graph, paths: &PathTable, releases: &[Option<u32>], line: u32) -> bool
+    requires known { line < length graph.now.lines }
+    requires table { IsPathTable graph.now paths.now }
+    requires releases { AreReleases graph.now releases.now }
+    ensures { IsTrue result ↔ ReleasedAt graph.now line }
+{
+    let Some(_lock) = acquired(graph, line) else {
+        return true;
+    };
+    match releases[line as usize] {
+        Some(release) => paths.has_path(line, release),
+        None => false,
+    }
+}

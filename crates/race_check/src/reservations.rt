@@ -1,0 +1,52 @@
+//! The reservations of acquires and releases.
+
+ghost use Rattle.std.specs.Prelude.{◌≡◌, ℕ, ◌<◌, length, MatchOption};
+ghost use Rattle.graph_model.specs.Graph.{locks, line_passes, is_acquire_of};
+ghost use Rattle.graph_model.specs.Rules.{Acquires, Releases};
+
+use graph_model::graph::Graph;
+use graph_model::verb::Verb;
+
+/// The reservation that a line acquires.
+pub(crate) fn acquired(graph: &Graph, line: u32) -> Option<u32>
+    requires { line < length graph.now.lines }
+    ensures { MatchOption result ((l : ℕ) → Acquires graph.now line l → ⊥) (λ l. Acquires graph.now line l × (l < length (locks graph.now))) }
+{
+    match &graph.line(line).verb {
+        Verb::Acquire { lock } => Some(*lock),
+        _ => None,
+    }
+}
+
+/// Whether a line acquires this reservation.
+pub(crate) fn acquires(graph: &Graph, line: u32, wanted: u32) -> bool
+    requires { line < length graph.now.lines }
+    ensures { result ≡ line_passes (is_acquire_of wanted) graph.now line }
+{
+    match &graph.line(line).verb {
+        Verb::Acquire { lock } => *lock == wanted,
+        _ => false,
+    }
+}
+
+/// The acquire that a line releases.
+pub(crate) fn released(graph: &Graph, line: u32) -> Option<u32>
+    requires { line < length graph.now.lines }
+    ensures { MatchOption result ((q : ℕ) → Releases graph.now line q → ⊥) (λ q. Releases graph.now line q × (q < length graph.now.lines)) }
+{
+    match &graph.line(line).verb {
+        Verb::Release { acquire } => Some(*acquire),
+        _ => None,
+    }
+}
+
+/// The reservation that a release frees.
+pub(crate) fn freed(graph: &Graph, line: u32) -> Option<u32>
+    requires { line < length graph.now.lines }
+    ensures { MatchOption result ((q : ℕ) → Releases graph.now line q → ⊥)
+        (λ l. (q : ℕ) × Releases graph.now line q × Acquires graph.now q l × (l < length (locks graph.now))) }
+{
+    let _ = graph.lines();
+    let acquire = released(graph, line)?;
+    acquired(graph, acquire)
+}

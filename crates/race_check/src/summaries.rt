@@ -1,0 +1,155 @@
+//! In which sections of each reservation a line lies: one acquire, and whether there is another.
+
+ghost use Rattle.std.specs.Prelude.{◌≡◌, ℕ, ◌+◌, ◌<◌, ◌↔◌, ◌&&◌, length, IsTrue, IfOk};
+ghost use Rattle.std.specs.List.{slice_index_or};
+ghost use Rattle.graph_model.specs.Graph.{locks};
+ghost use Rattle.graph_model.specs.Rules.{Acquires};
+ghost use Rattle.race_check.specs.Paths.{IsPathTable, path_in};
+ghost use Rattle.race_check.specs.Releases.{AreReleases};
+ghost use Rattle.race_check.specs.Summaries.{AreSummaries, AreSummed, ApartIn, IsNoted, MayBeApartBy};
+
+use crate::paths::PathTable;
+use crate::releases::nones;
+use crate::reservations::acquires;
+use crate::room::push;
+use graph_model::graph::Graph;
+use index_spaces::NoMemory;
+use std::alloc::Global;
+
+/// For each line the first acquire of a reservation in whose section it lies, and whether it lies
+/// in another's.
+#[derive(Drop)]
+pub(crate) struct Summary {
+    first: Vec<Option<u32>>,
+    more: Vec<bool>,
+}
+
+/// The summaries of all reservations.
+pub(crate) fn summaries(
+    alloc: Global,
+    graph: &Graph,
+    paths: &PathTable,
+    releases: &[Option<u32>],
+) -> Result<Vec<Summary>, NoMemory>
+    requires table { IsPathTable graph.now paths.now }
+    requires releases { AreReleases graph.now releases.now }
+    ensures { IfOk result (λ v. AreSummed graph.now v.items) }
+{
+    let mut summaries = Vec::new(alloc);
+    for lock in 0..graph.locks() {
+        let summary = summary_of(alloc, graph, paths, releases, lock)?;
+        push(&mut summaries, summary)?;
+    }
+    Ok(summaries)
+}
+
+/// The summary of a reservation.
+fn summary_of(
+    alloc: Global,
+    graph: &Graph,
+    paths: &PathTable,
+    releases: &[Option<u32>],
+    lock: u32,
+) -> Result<Summary, NoMemory>
+    requires table { IsPathTable graph.now paths.now }
+    requires releases { AreReleases graph.now releases.now }
+    ensures { IfOk result (λ s. AreSummaries graph.now lock (length graph.now.lines) s.first.items s.more.items) }
+{
+    let mut summary = Summary::new(alloc, graph)?;
+    for acquire in 0..graph.lines() {
+        if acquires(graph, acquire, lock) {
+            summary.add(graph, paths, releases, acquire);
+        }
+    }
+    Ok(summary)
+}
+
+impl Summary {
+    /// No acquire is summed.
+    fn new(alloc: Global, graph: &Graph) -> Result<Summary, NoMemory>
+        ensures { IfOk result (λ s. (l : ℕ) → AreSummaries graph.now l 0 s.first.items s.more.items) }
+    {
+        let lines = graph.lines();
+        let first = nones(alloc, lines)?;
+        let mut more = Vec::new(alloc);
+        for _line in 0..lines {
+            push(&mut more, false)?;
+        }
+        Ok(Summary { first, more })
+    }
+
+    /// Adds an acquire, after those before it.
+    fn add(&mut self, graph: &Graph, paths: &PathTable, releases: &[Option<u32>], acquire: u32)
+        requires known { acquire < length graph.now.lines }
+        requires table { IsPathTable graph.now paths.now }
+        requires releases { AreReleases graph.now releases.now }
+        requires acquires { (l : ℕ) × Acquires graph.now acquire l × AreSummaries graph.now l acquire self.old.first.items self.old.more.items }
+        ensures { (l : ℕ) → Acquires graph.now acquire l → AreSummaries graph.now l acquire self.old.first.items self.old.more.items
+            → AreSummaries graph.now l (acquire + 1) self.new.first.items self.new.more.items }
+    {
+        let Some(release) = releases[acquire as usize] else {
+            return;
+        };
+        for line in 0..graph.lines() {
+            if is_between(paths, acquire, line, release) {
+                self.note(acquire, line);
+            }
+        }
+    }
+
+    /// Notes that a line lies in the section of an acquire.
+    fn note(&mut self, acquire: u32, line: u32)
+        requires first { line < length self.old.first.items }
+        requires more { line < length self.old.more.items }
+        ensures { IsNoted acquire line self.old.first.items self.old.more.items self.new.first.items self.new.more.items }
+    {
+        if self.first[line as usize].is_none() {
+            self.first[line as usize] = Some(acquire);
+        } else {
+            self.more[line as usize] = true;
+        }
+    }
+
+    /// Whether two lines lie in sections of two different acquires.
+    fn are_apart(&self, one: u32, other: u32) -> bool
+        requires one_first { one < length self.now.first.items }
+        requires one_more { one < length self.now.more.items }
+        requires other_first { other < length self.now.first.items }
+        requires other_more { other < length self.now.more.items }
+        ensures { IsTrue result ↔ MayBeApartBy self.now.first.items self.now.more.items one other }
+    {
+        let Some(first) = self.first[one as usize] else {
+            return false;
+        };
+        let Some(second) = self.first[other as usize] else {
+            return false;
+        };
+        first != second || self.more[one as usize] || self.more[other as usize]
+    }
+}
+
+/// Whether two lines lie in sections of two different acquires of one reservation.
+pub(crate) fn are_apart(graph: &Graph, summaries: &[Summary], one: u32, other: u32) -> bool
+    requires one { one < length graph.now.lines }
+    requires other { other < length graph.now.lines }
+    requires summed { AreSummed graph.now summaries.now }
+    ensures { IsTrue result ↔ ((l : ℕ) × ApartIn graph.now l one other) }
+{
+    let _ = graph.lines();
+    for summary in summaries {
+        if summary.are_apart(one, other) {
+            return true;
+        }
+    }
+    false
+}
+
+/// Whether a line lies on a path from one line to another.
+fn is_between(paths: &PathTable, start: u32, line: u32, target: u32) -> bool
+    requires start { start < paths.now.lines }
+    requires line { line < paths.now.lines }
+    requires target { target < paths.now.lines }
+    ensures { result ≡ (path_in paths.now start line && path_in paths.now line target) }
+{
+    paths.has_path(start, line) && paths.has_path(line, target)
+}

@@ -1,0 +1,192 @@
+//! What is done with an input that was read to its end.
+
+ghost use Rattle.std.specs.Prelude.{◌≡◌, ℕ, ◌<◌, ◌≤◌, ◌⊎◌, List, [], length, Some, slice_get};
+ghost use Rattle.graph_model.specs.Evaluation.{outcome, order};
+ghost use Rattle.graph_model.specs.declared.verb.Why.{Why};
+ghost use Rattle.graph_reader.specs.FirstFault.{FirstFault};
+ghost use Rattle.graph_reader.specs.declared.ReadRefusal.TheVariants.{Line};
+ghost use Rattle.race_check.specs.Refusal.{IsRefusal, NamesLines};
+ghost use Rattle.realm_io.specs.Written.{sink_state, Writes};
+ghost use Rattle.realm_top.specs.Texts.{unread_text, accepted_text, slots_text};
+ghost use Rattle.realm_top.specs.Answer.{evaluation_text, is_short, Answered, Settled, Delivers};
+
+use crate::refusal::{put_accepted, put_broken, put_slots, put_unread};
+use crate::report::put_parts;
+use crate::status::Status;
+use command_line::request::{Action, Request};
+use graph_model::graph::Graph;
+use graph_model::outcome::Outcome;
+use graph_model::verb::Why;
+use graph_reader::{ReadRefusal, read_graph};
+use plain_eval::evaluation::eval;
+use race_check::check;
+use race_check::checked::{CheckRefusal, Checked, Unfit};
+use realm_io::{Sink, WriteFault, put};
+use realm_trace::put_trace;
+use std::alloc::Global;
+
+/// Does what is asked for with the graph whose text the bytes are.
+pub(crate) fn answer<K: Sink>(alloc: Global, request: Request, bytes: &[u8], sink: &mut K) -> Status
+    requires { length bytes.now ≤ 1048576 }
+    ensures answered { Answered request bytes.now (sink_state K.taken K.flushed K.faults sink.old) (sink_state K.taken K.flushed K.faults sink.new) result }
+    ensures no_memory { result ≡ Status.NoMemory → sink.new ≡ sink.old }
+{
+    match read_graph(alloc, bytes) {
+        Ok(graph) => judge(alloc, request, graph, sink),
+        Err(refusal) => refuse(request, sink, refusal),
+    }
+}
+
+/// Checks a graph, and does what is asked for where it is accepted.
+fn judge<K: Sink>(alloc: Global, request: Request, graph: Graph, sink: &mut K) -> Status
+    ensures settled { Settled request graph (sink_state K.taken K.flushed K.faults sink.old) (sink_state K.taken K.flushed K.faults sink.new) result }
+    ensures no_memory { result ≡ Status.NoMemory → sink.new ≡ sink.old }
+{
+    match check(alloc, graph) {
+        Ok(checked) => serve(alloc, request, &checked, sink),
+        Err(unfit) => reject(request, sink, &unfit),
+    }
+}
+
+/// Does what is asked for with a graph that is accepted.
+fn serve<K: Sink>(alloc: Global, request: Request, checked: &Checked, sink: &mut K) -> Status
+    ensures settled { Settled request checked.now.graph (sink_state K.taken K.flushed K.faults sink.old) (sink_state K.taken K.flushed K.faults sink.new) result }
+    ensures no_memory { result ≡ Status.NoMemory → sink.new ≡ sink.old }
+{
+    let _ = checked.graph();
+    if is_short(&request, checked.need()) {
+        return put_short(sink, checked.need());
+    }
+    match request.action {
+        Action::Run => evaluate(alloc, request.trace, checked, sink),
+        Action::Eval => evaluate(alloc, request.trace, checked, sink),
+        Action::Check => put_need(sink, checked.need()),
+    }
+}
+
+/// Whether a run is given fewer slots than this need.
+fn is_short(request: &Request, need: u32) -> bool
+    ensures { result ≡ is_short request.now need }
+{
+    match (request.action, request.slots) {
+        (Action::Run, Some(slots)) => slots < need,
+        _ => false,
+    }
+}
+
+/// Evaluates a graph, and writes its report, and its trace where it is asked for.
+fn evaluate<K: Sink>(alloc: Global, trace: bool, checked: &Checked, sink: &mut K) -> Status
+    ensures done { (result ≡ Status.NoMemory) ⊎ Delivers (sink_state K.taken K.flushed K.faults sink.old) (sink_state K.taken K.flushed K.faults sink.new) Status.Done result (evaluation_text trace checked.now.graph) }
+    ensures no_memory { result ≡ Status.NoMemory → sink.new ≡ sink.old }
+{
+    let Ok(outcome) = eval(alloc, checked) else {
+        return Status::NoMemory;
+    };
+    match put_evaluation(sink, checked.graph(), &outcome, trace) {
+        Ok(()) => flush(sink, Status::Done),
+        Err(_) => Status::WriteFault,
+    }
+}
+
+/// Writes the report of an evaluation, and its trace where it is asked for.
+fn put_evaluation<K: Sink>(
+    sink: &mut K,
+    graph: &Graph,
+    found: &Outcome,
+    trace: bool,
+) -> Result<(), WriteFault>
+    requires outcome { found.now ≡ outcome graph.now (order graph.now) }
+    requires lines { (k i : ℕ) → slice_get found.now.trace k ≡ Some i → i < length graph.now.lines }
+    ensures { Writes (sink_state K.taken K.flushed K.faults sink.old) (sink_state K.taken K.flushed K.faults sink.new) result (evaluation_text trace graph.now) }
+{
+    put_parts(sink, graph, found)?;
+    if trace {
+        put_trace(sink, graph, &found.trace)
+    } else {
+        put_nothing(sink)
+    }
+}
+
+/// Writes nothing.
+fn put_nothing<K: Sink>(sink: &mut K) -> Result<(), WriteFault>
+    ensures { Writes (sink_state K.taken K.flushed K.faults sink.old) (sink_state K.taken K.flushed K.faults sink.new) result [] }
+{
+    put(sink, b"")
+}
+
+/// Writes that a graph is accepted, with its need.
+fn put_need<K: Sink>(sink: &mut K, need: u32) -> Status
+    ensures { Delivers (sink_state K.taken K.flushed K.faults sink.old) (sink_state K.taken K.flushed K.faults sink.new) Status.Done result (accepted_text need) }
+{
+    match put_accepted(sink, need) {
+        Ok(()) => flush(sink, Status::Done),
+        Err(_) => Status::WriteFault,
+    }
+}
+
+/// Writes how many slots a run needs that was given fewer.
+fn put_short<K: Sink>(sink: &mut K, need: u32) -> Status
+    ensures { Delivers (sink_state K.taken K.flushed K.faults sink.old) (sink_state K.taken K.flushed K.faults sink.new) Status.Slots result (slots_text need) }
+{
+    match put_slots(sink, need) {
+        Ok(()) => flush(sink, Status::Slots),
+        Err(_) => Status::WriteFault,
+    }
+}
+
+/// Answers a graph that is not accepted.
+fn reject<K: Sink>(request: Request, sink: &mut K, unfit: &Unfit) -> Status
+    requires { IsRefusal unfit.now.graph unfit.now.why × NamesLines unfit.now.graph unfit.now.why }
+    ensures settled { Settled request unfit.now.graph (sink_state K.taken K.flushed K.faults sink.old) (sink_state K.taken K.flushed K.faults sink.new) result }
+    ensures no_memory { result ≡ Status.NoMemory → sink.new ≡ sink.old }
+{
+    if unfit.why == CheckRefusal::NoMemory {
+        return Status::NoMemory;
+    }
+    match put_broken(sink, &unfit.graph, unfit.why) {
+        Ok(()) => flush(sink, Status::Unfit),
+        Err(_) => Status::WriteFault,
+    }
+}
+
+/// Answers bytes that are the text of no graph.
+fn refuse<K: Sink>(request: Request, sink: &mut K, refusal: ReadRefusal) -> Status
+    ensures answered { (bytes : List ℕ) → length bytes ≤ 1048576 → ((number : ℕ) (why : Why) → refusal ≡ Line number why → FirstFault bytes number why)
+        → Answered request bytes (sink_state K.taken K.flushed K.faults sink.old) (sink_state K.taken K.flushed K.faults sink.new) result }
+    ensures no_memory { result ≡ Status.NoMemory → sink.new ≡ sink.old }
+{
+    match refusal {
+        ReadRefusal::Line { number, why } => put_refusal(sink, number, why),
+        ReadRefusal::NoMemory => Status::NoMemory,
+    }
+}
+
+/// Writes which line is refused and why, and flushes it.
+fn put_refusal<K: Sink>(sink: &mut K, number: u32, why: Why) -> Status
+    ensures { Delivers (sink_state K.taken K.flushed K.faults sink.old) (sink_state K.taken K.flushed K.faults sink.new) Status.Unread result (unread_text number why) }
+{
+    match put_unread(sink, number, why) {
+        Ok(()) => flush(sink, Status::Unread),
+        Err(_) => Status::WriteFault,
+    }
+}
+
+/// Writes a text and flushes it.
+pub(crate) fn put_text<K: Sink>(sink: &mut K, text: &[u8], status: Status) -> Status
+    ensures { Delivers (sink_state K.taken K.flushed K.faults sink.old) (sink_state K.taken K.flushed K.faults sink.new) status result text.now }
+{
+    match put(sink, text) {
+        Ok(()) => flush(sink, status),
+        Err(_) => Status::WriteFault,
+    }
+}
+
+/// Flushes a text that was written.
+fn flush<K: Sink>(sink: &mut K, status: Status) -> Status
+    ensures { Delivers (sink_state K.taken K.flushed K.faults sink.old) (sink_state K.taken K.flushed K.faults sink.new) status result [] }
+{
+    match sink.flush() {
+        Ok(()) => status,
+        Err(_) => Status::WriteFault,
+    }
+}
