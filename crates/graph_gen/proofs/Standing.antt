@@ -1,0 +1,191 @@
+-- What stands while a graph is made, and a line more.
+use Rattle.std.proofs.Common.{◌≡◌, ℕ, zero, suc, ◌+◌, ◌*◌, ◌^◌, ◌<◌, ◌≤◌, Bool, true, false, cond, ◌&&◌, ◌||◌, List, [], ◌∷◌, ◌++◌, length, map, refl, sym, ◌∙◌, ap, subst, append_assoc, append-nil, length-append, arith, lit≤}
+use Rattle.std.specs.Prelude.{Option, Some, None, nat_eq, nat_lt, is_some, slice_get}
+use Rattle.std.specs.Option.{option_map_or}
+use Rattle.std.specs.List.{list_any}
+use Rattle.std.specs.Str.{bytes_eq}
+use Rattle.std.proofs.lemmas.Bool.{false_from_ne_true, ltb-true}
+use Rattle.std.proofs.lemmas.List.Folds.{list_any-append}
+use Rattle.std.proofs.lemmas.List.Sums.{sum_by-cons}
+use Rattle.graph_model.specs.declared.verb.Access.{Access}
+use Rattle.graph_model.specs.declared.verb.Line.{Line}
+use Rattle.graph_model.specs.declared.verb.Why.{Why}
+use Rattle.graph_model.specs.declared.verb.Why.TheVariants as why
+use Rattle.graph_model.specs.declared.verb.Verb.{Verb}
+use Rattle.graph_model.specs.Graph.{GraphValue, ends_user, is_release_of}
+use Rattle.graph_model.specs.Access.{verb_accesses}
+use Rattle.graph_model.specs.Counts.{words_size}
+use Rattle.graph_model.specs.Edges.{edges, line_edges}
+use Rattle.graph_model.specs.Fits.{first_reason, repeats, is_used, with_line, is_beyond, verb_repeats, line_unknown, verb_unlike, takes_no_on, verb_misnumbered, access_outside, arrives_late, merges_many, line_fault, IsVerb, IsLine, LinesFit}
+use Rattle.graph_model.specs.Spelling.{spelled, verb_words, on_words, line_words, line_name, head}
+use Rattle.graph_model.proofs.CountLaws.{spelled_size}
+use Rattle.graph_model.proofs.GraphPush.{head_with_line}
+use Rattle.graph_model.proofs.RowLaws.{edges_push}
+use Rattle.graph_gen.specs.MadeGraph.{made_decls, made_name, made_line}
+use Rattle.graph_gen.proofs.LineNames.{made_is_name, made_differ, made_short}
+
+-- a generated graph with these lines
+abbrev pub lined : List Line → GraphValue
+lined ls = record { decls = made_decls; lines = ls }
+
+pub both_false : (a b : Bool) → a ≡ false → b ≡ false → (a || b) ≡ false
+both_false a b e f = ap (λ x. x || b) e ∙ f
+
+pub not_less : (a b : ℕ) → b ≤ a → nat_lt a b ≡ false
+not_less a b h = false_from_ne_true (nat_lt a b) (λ e. let l : a < b = ltb-true a b e in omega arith)
+
+-- the lines are named by their numbers, the first of which is n
+abbrev pub Numbered : ℕ → List Line → Type 0
+Numbered n [] = Unit {0}
+Numbered n (l ∷ ls) = (l.name ≡ made_name n) × Numbered (n + 1) ls
+
+numbered_push : (n : ℕ) (ls : List Line) (l : Line) → Numbered n ls → l.name ≡ made_name (n + length ls) → Numbered n (ls ++ l ∷ [])
+numbered_push n [] l h e = (e ∙ ap made_name (let x : n + 0 ≡ n = omega arith in x), tt)
+numbered_push n (k ∷ ls) l h e = (h.0, numbered_push (n + 1) ls l h.1 (e ∙ ap made_name (let x : n + suc (length ls) ≡ n + 1 + length ls = omega arith in x)))
+
+unused : (n m : ℕ) (ls : List Line) → Numbered n ls → n + length ls ≤ m → m < 2 ^ 64 → list_any (bytes_eq (made_name m)) (map (λ (l : Line). l.name) ls) ≡ false
+unused n m [] h b s = refl
+unused n m (l ∷ ls) h b s =
+    let c : n + suc (length ls) ≤ m = b in
+    both_false (bytes_eq (made_name m) l.name) (list_any (bytes_eq (made_name m)) (map (λ (l : Line). l.name) ls)) (ap (bytes_eq (made_name m)) h.0 ∙ made_differ m n s (omega arith) (omega arith)) (unused (n + 1) m ls h.1 (omega arith) s)
+
+name_at : (n : ℕ) (ls : List Line) → Numbered n ls → (i : ℕ) → i < length ls → option_map_or (λ (x : Line). x.name) (slice_get ls i) [] ≡ made_name (n + i)
+name_at n [] h i b = absurd (omega arith)
+name_at n (l ∷ ls) h zero b = h.0 ∙ ap made_name (let x : n ≡ n + 0 = omega arith in x)
+name_at n (l ∷ ls) h (suc i) b = name_at (n + 1) ls h.1 i (let c : suc i < suc (length ls) = b in omega arith) ∙ ap made_name (let x : n + 1 + i ≡ n + suc i = omega arith in x)
+
+-- what holds of the lines that stand
+pub record Standing (ls : List Line) : Type 0 where
+  pub numbered : Numbered 0 ls
+  pub ended : (k : ℕ) → length ls ≤ k → list_any (λ (l : Line). ends_user k l.verb) ls ≡ false
+  pub released : (k : ℕ) → length ls ≤ k → list_any (λ (l : Line). is_release_of k l.verb) ls ≡ false
+  pub text : length (head (lined ls)) ≤ 1000 + 100 * length ls
+  pub few_edges : length (edges (lined ls)) ≤ 2 * length ls
+
+-- the words, each with a byte behind it, are at most so long
+pub record Sized (ws : List (List ℕ)) (n : ℕ) : Type 0 where
+  pub size : words_size ws ≤ n
+
+-- what holds of a line that may come next
+pub record NextFits (ls : List Line) (v : Verb) (on : Option ℕ) : Type 0 where
+  pub fresh : verb_repeats (lined ls) v ≡ false
+  pub apart : repeats nat_eq (map (λ (a : Access). a.column) (verb_accesses v)) ≡ false
+  pub known : line_unknown (lined ls) (made_line 0 v on) ≡ false
+  pub like : verb_unlike (lined ls) v ≡ false
+  pub bare : (takes_no_on v && is_some on) ≡ false
+  pub counted : verb_misnumbered v ≡ false
+  pub within : list_any (access_outside (lined ls)) (verb_accesses v) ≡ false
+  pub early : arrives_late (lined ls) v ≡ false
+  pub few : merges_many v ≡ false
+  pub words : Sized (verb_words (lined ls) v ++ on_words (lined ls) on) 60
+  pub few_edges : length (line_edges ls (made_line 0 v on)) ≤ 2
+  pub values : IsVerb v
+  pub ends : (k : ℕ) → length ls < k → ends_user k v ≡ false
+  pub releases : (k : ℕ) → length ls < k → is_release_of k v ≡ false
+
+words_cons : (w : List ℕ) (ws : List (List ℕ)) → words_size (w ∷ ws) ≡ (length w + 1) + words_size ws
+words_cons w ws = sum_by-cons (λ (x : List ℕ). length x + 1) w ws
+
+pub size_cons : (w : List ℕ) (ws : List (List ℕ)) (a b : ℕ) → length w ≤ a → Sized ws b → Sized (w ∷ ws) (suc a + b)
+size_cons w ws a b h k = record { size = bound _ _ _ a b (words_cons w ws) h k.size }
+  where
+    bound : (x y z a b : ℕ) → x ≡ (y + 1) + z → y ≤ a → z ≤ b → x ≤ suc a + b
+    bound x y z a b e h k = omega arith
+
+pub size_none : Sized [] 0
+size_none = record { size = lit≤ tt }
+
+pub within_sixty : (ws : List (List ℕ)) (n : ℕ) → Sized ws n → n ≤ 60 → Sized ws 60
+within_sixty ws n h k = record { size = bound (words_size ws) n h.size k }
+  where
+    bound : (x n : ℕ) → x ≤ n → n ≤ 60 → x ≤ 60
+    bound x n h k = omega arith
+
+-- the name of a line that stands is short
+pub name_size : (ls : List Line) (e : ℕ) → Standing ls → e < length ls → length ls ≤ 8192 → length (line_name (lined ls) e) ≤ 6
+name_size ls e st b few =
+    let is : line_name (lined ls) e ≡ made_name (0 + e) = name_at 0 ls st.numbered e b in
+    let same : 0 + e ≡ e = omega arith in
+    subst (λ w. length w ≤ 6) (sym (is ∙ ap made_name same)) (made_short e (omega arith))
+
+seven_false : (a b c d e f g : Bool) → a ≡ false → b ≡ false → c ≡ false → d ≡ false → e ≡ false → f ≡ false → g ≡ false
+    → first_reason ((a, why.Twice) ∷ (b, why.Unknown) ∷ (c, why.Kind) ∷ (d, why.Number) ∷ (e, why.Outside) ∷ (f, why.Arrivals) ∷ (g, why.Limit) ∷ []) ≡ None
+seven_false a b c d e f g h1 h2 h3 h4 h5 h6 h7 = rw (h1, h2, h3, h4, h5, h6, h7) refl
+
+module _ (ls : List Line) (n : ℕ) (v : Verb) (on : Option ℕ) (count : length ls ≡ n) (room : n < 8192) (st : Standing ls) (fits : NextFits ls v on) where
+  abbrev next : Line
+  next = made_line n v on
+
+  line_size : length (spelled (line_words (lined ls) next)) ≤ 100
+  line_size =
+      let rest : List (List ℕ) = verb_words (lined ls) v ++ on_words (lined ls) on in
+      let all : length (spelled (line_words (lined ls) next)) ≡ words_size (line_words (lined ls) next) = spelled_size (made_name n) ((61 ∷ []) ∷ rest) in
+      let sized : Sized (made_name n ∷ (61 ∷ []) ∷ rest) (suc 6 + (suc 1 + 60)) = size_cons (made_name n) ((61 ∷ []) ∷ rest) 6 (suc 1 + 60) (made_short n (omega arith)) (size_cons (61 ∷ []) rest 1 60 (lit≤ tt) fits.words) in
+      subst (λ x. x ≤ 100) (sym all) (within_hundred (words_size (made_name n ∷ (61 ∷ []) ∷ rest)) (suc 6 + (suc 1 + 60)) sized.size (lit≤ tt))
+    where
+      within_hundred : (x n : ℕ) → x ≤ n → n ≤ 100 → x ≤ 100
+      within_hundred x n h k = omega arith
+
+  longer : length (ls ++ next ∷ []) ≡ length ls + 1
+  longer = length-append ls (next ∷ [])
+
+  text_more : length (head (lined (ls ++ next ∷ []))) ≤ 1000 + 100 * length (ls ++ next ∷ [])
+  text_more =
+      let more : length (head (lined (ls ++ next ∷ []))) ≡ length (head (lined ls) ++ spelled (line_words (lined ls) next)) = ap length (head_with_line (lined ls) next) in
+      let sum : length (head (lined ls) ++ spelled (line_words (lined ls) next)) ≡ length (head (lined ls)) + length (spelled (line_words (lined ls) next)) = length-append (head (lined ls)) (spelled (line_words (lined ls) next)) in
+      bound _ _ _ _ _ (more ∙ sum) st.text line_size longer
+    where
+      bound : (x a b m k : ℕ) → x ≡ a + b → a ≤ 1000 + 100 * m → b ≤ 100 → k ≡ m + 1 → x ≤ 1000 + 100 * k
+      bound x a b m k e h f g = omega arith
+
+  edges_more : length (edges (lined (ls ++ next ∷ []))) ≤ 2 * length (ls ++ next ∷ [])
+  edges_more =
+      let more : length (edges (lined (ls ++ next ∷ []))) ≡ length (edges (lined ls) ++ line_edges ls next) = ap length (edges_push (lined ls) next) in
+      let sum : length (edges (lined ls) ++ line_edges ls next) ≡ length (edges (lined ls)) + length (line_edges ls next) = length-append (edges (lined ls)) (line_edges ls next) in
+      bound _ _ _ _ _ (more ∙ sum) st.few_edges fits.few_edges longer
+    where
+      bound : (x a b m k : ℕ) → x ≡ a + b → a ≤ 2 * m → b ≤ 2 → k ≡ m + 1 → x ≤ 2 * k
+      bound x a b m k e h f g = omega arith
+
+  pub next_stands : Standing (ls ++ next ∷ [])
+  next_stands = record {
+    numbered = numbered_push 0 ls next st.numbered (ap made_name (let e : n ≡ 0 + length ls = omega arith in e));
+    ended = λ k b. list_any-append (λ (l : Line). ends_user k l.verb) ls (next ∷ []) ∙ both_false (list_any (λ (l : Line). ends_user k l.verb) ls) (ends_user k v || false) (st.ended k (omega (arith, longer))) (both_false (ends_user k v) false (fits.ends k (omega (arith, longer))) refl);
+    released = λ k b. list_any-append (λ (l : Line). is_release_of k l.verb) ls (next ∷ []) ∙ both_false (list_any (λ (l : Line). is_release_of k l.verb) ls) (is_release_of k v || false) (st.released k (omega (arith, longer))) (both_false (is_release_of k v) false (fits.releases k (omega (arith, longer))) refl);
+    text = text_more;
+    few_edges = edges_more;
+  }
+
+  beyond_not : is_beyond (with_line (lined ls) next) ≡ false
+  beyond_not = both_false (nat_lt 1048576 (length (head (lined (ls ++ next ∷ []))))) (nat_lt 8192 (length (ls ++ next ∷ [])) || nat_lt 65536 (length (edges (lined (ls ++ next ∷ [])))))
+      (not_less 1048576 (length (head (lined (ls ++ next ∷ [])))) (omega (arith, text_more, longer)))
+      (both_false (nat_lt 8192 (length (ls ++ next ∷ []))) (nat_lt 65536 (length (edges (lined (ls ++ next ∷ [])))))
+      (not_less 8192 (length (ls ++ next ∷ [])) (omega (arith, longer)))
+      (not_less 65536 (length (edges (lined (ls ++ next ∷ [])))) (omega (arith, edges_more, longer))))
+
+  unused_name : is_used (lined ls) (made_name n) ≡ false
+  unused_name = unused 0 n ls st.numbered (let e : 0 + length ls ≤ n = omega arith in e) (omega arith)
+
+  pub next_faultless : line_fault (lined ls) next ≡ None
+  next_faultless =
+      seven_false (is_used (lined ls) (made_name n) || (verb_repeats (lined ls) v || repeats nat_eq (map (λ (a : Access). a.column) (verb_accesses v)))) (line_unknown (lined ls) next) (verb_unlike (lined ls) v || (takes_no_on v && is_some on)) (verb_misnumbered v)
+      (list_any (access_outside (lined ls)) (verb_accesses v)) (arrives_late (lined ls) v) (merges_many v || is_beyond (with_line (lined ls) next))
+      (both_false (is_used (lined ls) (made_name n)) (verb_repeats (lined ls) v || repeats nat_eq (map (λ (a : Access). a.column) (verb_accesses v))) unused_name (both_false (verb_repeats (lined ls) v) (repeats nat_eq (map (λ (a : Access). a.column) (verb_accesses v))) fits.fresh fits.apart))
+      fits.known (both_false (verb_unlike (lined ls) v) (takes_no_on v && is_some on) fits.like fits.bare) fits.counted fits.within fits.early (both_false (merges_many v) (is_beyond (with_line (lined ls) next)) fits.few beyond_not)
+
+  next_is_line : IsLine next
+  next_is_line = record { named = made_is_name n (omega arith); values = fits.values }
+
+-- lines that fit one after the other, and what holds of all then
+pub record RowFits (ls row : List Line) : Type 0 where
+  pub lines : LinesFit made_decls ls row
+  pub standing : Standing (ls ++ row)
+
+pub row_end : (ls : List Line) → Standing ls → RowFits ls []
+row_end ls st = record { lines = tt; standing = subst Standing (sym (append-nil ls)) st }
+
+pub row_more : (ls rest : List Line) (n : ℕ) (v : Verb) (on : Option ℕ) → length ls ≡ n → n < 8192 → Standing ls → NextFits ls v on → RowFits (ls ++ made_line n v on ∷ []) rest → RowFits ls (made_line n v on ∷ rest)
+row_more ls rest n v on count room st fits more = record {
+  lines = (next_is_line ls n v on count room st fits, next_faultless ls n v on count room st fits, more.lines);
+  standing = subst Standing (append_assoc ls (made_line n v on ∷ []) rest) more.standing;
+}

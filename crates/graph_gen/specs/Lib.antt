@@ -1,0 +1,2 @@
+pub mod MadeGraph
+pub mod Laws

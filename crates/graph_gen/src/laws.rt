@@ -1,0 +1,8 @@
+//! What holds of all generated graphs, for callers to cite. No function here does anything.
+
+ghost use Rattle.graph_gen.specs.Laws.{HaveTheirSize};
+
+/// A generated graph is a graph, and has as many lines as its size says.
+pub fn made_graphs_have_their_size()
+    ensures { HaveTheirSize }
+{}

@@ -1,0 +1,13 @@
+//! Graphs that are generated from a seed.
+#![tactic(auto)]
+
+mod declarations;
+mod draw;
+mod lasts;
+pub mod laws;
+mod line;
+pub mod make;
+mod room;
+mod row;
+#[cfg(test)]
+mod tests;

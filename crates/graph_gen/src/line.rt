@@ -1,0 +1,34 @@
+//! Lines with their names.
+
+ghost use Rattle.std.specs.Prelude.{◌≡◌, ◌++◌, [], ◌∷◌, OnOk, IfOk};
+ghost use Rattle.graph_gen.specs.MadeGraph.{made_name, made_line};
+
+use crate::room::push;
+use graph_model::name::Name;
+use graph_model::verb::{Line, Verb};
+use index_spaces::NoMemory;
+use std::alloc::Global;
+
+/// Puts the line of this number at the end.
+pub(crate) fn put_line(
+    alloc: Global,
+    lines: &mut Vec<Line>,
+    number: u32,
+    verb: Verb,
+    on: Option<u32>,
+) -> Result<(), NoMemory>
+    ensures { OnOk result (lines.new.items ≡ lines.old.items ++ made_line number verb on ∷ []) }
+{
+    let name = made_name(alloc, number)?;
+    push(lines, Line { name, verb, on })
+}
+
+/// The name of the line of this number.
+fn made_name(alloc: Global, number: u32) -> Result<Name, NoMemory>
+    ensures { IfOk result (λ name. name ≡ made_name number) }
+{
+    match format!(in alloc; "o{number}") {
+        Ok(text) => Ok(Name::new(text.as_bytes()).unwrap()),
+        Err(_) => Err(NoMemory),
+    }
+}
