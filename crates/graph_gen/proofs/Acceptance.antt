@@ -1,6 +1,6 @@
 -- A generated graph is accepted.
-use Rattle.std.proofs.Common.{◌≡◌, ℕ, zero, suc, ◌+◌, ◌-◌, ◌^◌, ◌<◌, ◌≤◌, Bool, true, false, ◌⊎◌, inl, inr, List, [], ◌∷◌, ◌++◌, length, refl, sym, ◌∙◌, ap, ap₂, subst, arith}
-use Rattle.std.specs.Prelude.{Contains, Option, Some, None, IsTrue, slice_get, option_map}
+use Rattle.std.proofs.Common.{◌≡◌, ℕ, zero, suc, ◌+◌, ◌-◌, ◌^◌, ◌<◌, ◌≤◌, true, false, ◌⊎◌, inl, inr, List, [], ◌∷◌, length, refl, sym, ◌∙◌, ap, ap₂, subst, arith}
+use Rattle.std.specs.Prelude.{Contains, Option, Some, slice_get, option_map}
 use Rattle.std.specs.Option.{option_map_or}
 use Rattle.std.proofs.lemmas.Bool.{true≢false, eq-eqb}
 use Rattle.std.proofs.lemmas.Option.{same_Some}
@@ -12,9 +12,9 @@ use Rattle.graph_model.specs.declared.verb.Mode.TheVariants as mode
 use Rattle.graph_model.specs.declared.verb.Verb.TheVariants as verb
 use Rattle.graph_model.specs.Graph.{GraphValue, is_phase, is_acquire_of, is_release_of, is_merge_ignore, line_passes}
 use Rattle.graph_model.specs.Path.{Path, HasPath, last, first}
-use Rattle.graph_model.specs.Access.{accesses, access, verb_accesses, modes_clash, AccessesConflict, Conflict}
+use Rattle.graph_model.specs.Access.{access, verb_accesses, modes_clash, AccessesConflict}
 use Rattle.graph_model.specs.Edges.{edge}
-use Rattle.graph_model.specs.Rules.{Acquires, Releases, Section, modes_commute, Exempt, NoCycleAt, ReleasedAt, SectionAt, DescendsAt, ReleaseFaultAt, RaceAt, Everywhere, EverywhereTwice, Accepted}
+use Rattle.graph_model.specs.Rules.{Releases, Section, modes_commute, Exempt, NoCycleAt, ReleasedAt, SectionAt, DescendsAt, ReleaseFaultAt, RaceAt, Everywhere, EverywhereTwice, Accepted}
 use Rattle.graph_model.proofs.ListFacts.{contains_cases, contains_none}
 use Rattle.graph_model.proofs.PathLaws.{path_append}
 use Rattle.graph_gen.specs.declared.draw.Row.{Row}
@@ -25,7 +25,7 @@ use Rattle.graph_gen.proofs.Draws.{Kept, kept_draws, one_more_is, stays}
 use Rattle.graph_gen.proofs.AddedLines.{verb_in, uses_in, edges_in, old_or_new, UpTo, last_edge}
 use Rattle.graph_gen.proofs.Shapes.{weight, Held, Shape, shape_more}
 use Rattle.graph_gen.proofs.RowShapes.{row_shape}
-use Rattle.graph_gen.proofs.Columns.{Touches, Ordered, row_ordered}
+use Rattle.graph_gen.proofs.Columns.{Ordered, row_ordered}
 
 module _ (ls : List Line) (shape : Shape ls) where
   abbrev g : GraphValue
@@ -50,9 +50,9 @@ module _ (ls : List Line) (shape : Shape ls) where
   before_release q j h p = elim (back_one (q + 2) (q + 3) j h.into_release p) [
     | inl e ↦ inr (inr (inr e))
     | inr r ↦ elim (back_one (q + 1) (q + 2) j h.into_merge r) [
-        | inl e ↦ inr (inr (inl e))
-        | inr s ↦ elim (back_one q (q + 1) j h.into_sum s) [ inl e ↦ inl e | inr t ↦ inr (inl t) ]
-      ]
+      | inl e ↦ inr (inr (inl e))
+      | inr s ↦ elim (back_one q (q + 1) j h.into_sum s) [ inl e ↦ inl e | inr t ↦ inr (inl t) ]
+    ]
   ]
 
   path_to_sum : (q : ℕ) → Held ls q → HasPath g q (q + 1)
@@ -121,13 +121,13 @@ module _ (ls : List Line) (shape : Shape ls) where
       let same : a.column ≡ b.column = x.column in
       elim (sum_uses q i a h e c) [
         | inl m ↦ elim (sum_uses r j b k f d) [
-            | inl n ↦ absurd (true≢false (sym x.clash ∙ ap₂ modes_clash m.0 n.0))
-            | inr n ↦ absurd (let p : a.column < 8 = m.1 in let s : b.column ≡ 8 = n.1 in omega arith)
-          ]
+          | inl n ↦ absurd (true≢false (sym x.clash ∙ ap₂ modes_clash m.0 n.0))
+          | inr n ↦ absurd (let p : a.column < 8 = m.1 in let s : b.column ≡ 8 = n.1 in omega arith)
+        ]
         | inr m ↦ elim (sum_uses r j b k f d) [
-            | inl n ↦ absurd (let p : a.column ≡ 8 = m.1 in let s : b.column < 8 = n.1 in omega arith)
-            | inr n ↦ ap₂ modes_commute m.0 n.0
-          ]
+          | inl n ↦ absurd (let p : a.column ≡ 8 = m.1 in let s : b.column < 8 = n.1 in omega arith)
+          | inr n ↦ ap₂ modes_commute m.0 n.0
+        ]
       ]
 
   exempt : (q r i j : ℕ) → Held ls q → i ≡ q + 1 → Held ls r → j ≡ r + 1 → i < j → Exempt g i j
@@ -146,9 +146,9 @@ module _ (ls : List Line) (shape : Shape ls) where
     races i j less c = elim (shape.uses i c.one c.one_in) [
       | inl small ↦ inl (ordered.paths c.one.column i j small (c.one, c.one_in, refl) (c.other, c.other_in, sym c.conflict.column) less)
       | inr one ↦ elim (shape.uses j c.other c.other_in) [
-          | inl small ↦ inl (ordered.paths c.other.column i j small (c.one, c.one_in, c.conflict.column) (c.other, c.other_in, refl) less)
-          | inr other ↦ inr (inr (exempt one.0 other.0 i j one.2 one.1 other.2 other.1 less))
-        ]
+        | inl small ↦ inl (ordered.paths c.other.column i j small (c.one, c.one_in, c.conflict.column) (c.other, c.other_in, refl) less)
+        | inr other ↦ inr (inr (exempt one.0 other.0 i j one.2 one.1 other.2 other.1 less))
+      ]
     ]
 
     pub accepted_lines : Accepted g

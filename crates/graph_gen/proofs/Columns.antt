@@ -1,12 +1,11 @@
 -- The lines that use a column stand on one chain, at whose end its last line is.
-use Rattle.std.proofs.Common.{◌≡◌, ℕ, zero, suc, ◌+◌, ◌<◌, ◌≤◌, Bool, true, false, cond, ◌⊎◌, inl, inr, List, [], ◌∷◌, ◌++◌, length, refl, sym, ◌∙◌, ap, subst, arith}
+use Rattle.std.proofs.Common.{◌≡◌, ℕ, zero, suc, ◌+◌, ◌<◌, Bool, true, false, cond, ◌⊎◌, inl, inr, List, [], ◌∷◌, ◌++◌, length, refl, sym, ◌∙◌, ap, subst, arith}
 use Rattle.std.specs.Prelude.{◌≢◌, ◌==◌, Contains, Option, Some, None, IsTrue, slice_set}
 use Rattle.std.specs.Option.{option_map_or}
-use Rattle.std.proofs.lemmas.Bool.{true≢false, cases_Bool, cases_order, eqb-true, eqb-false}
+use Rattle.std.proofs.lemmas.Bool.{true≢false, cases_Bool, cases_order, eqb-true}
 use Rattle.std.proofs.lemmas.Option.{none-some, same_Some}
 use Rattle.std.proofs.lemmas.List.{get_or-set_other, length-set}
 use Rattle.std.proofs.lemmas.Grind.{get_or-set_at}
-use Rattle.index_spaces.specs.declared.Op.TheVariants as op
 use Rattle.graph_model.specs.declared.verb.Access.{Access}
 use Rattle.graph_model.specs.declared.verb.Edge.{Edge}
 use Rattle.graph_model.specs.declared.verb.EdgeKind.TheVariants.{Passes, Ignores}
@@ -22,8 +21,8 @@ use Rattle.graph_gen.specs.declared.draw.Row.{Row}
 use Rattle.graph_gen.specs.declared.draw.Row.TheVariants.{Fill, Iota, Expect, Settle, Copy, Sum, Event, Section}
 use Rattle.graph_gen.specs.declared.draw.Draw.{Draw}
 use Rattle.graph_gen.specs.MadeGraph.{last_of, merged, row_lines, lasts_after, total_column}
-use Rattle.graph_gen.proofs.AddedLines.{verb_in, uses_in, edges_in, old_or_new, verb_old, verb_new, edge_old, path_more, UpTo}
-use Rattle.graph_gen.proofs.RowEdges.{row_sources, row_waits, row_kind, inner_edges, inner_edge, waits_edge}
+use Rattle.graph_gen.proofs.AddedLines.{uses_in, edges_in, old_or_new, verb_old, verb_new, edge_old, path_more, UpTo}
+use Rattle.graph_gen.proofs.RowEdges.{row_sources, row_waits, row_kind, inner_edge, waits_edge}
 
 -- a line uses a column
 abbrev pub Touches : List Line → ℕ → ℕ → Type 0
@@ -79,9 +78,9 @@ moves_or_not : (row : Row) (d : Draw) (c : ℕ) → Moves row d c ⊎ (Moves row
 moves_or_not row d c = elim (same_or_other c d.column) [
   | inl e ↦ inl (inl e)
   | inr ne ↦ elim (same_or_other c d.other) [
-      | inl e ↦ elim (cases_Bool (is_joined row)) [ inl j ↦ inl (inr (j, e)) | inr f ↦ inr (λ m. elim m [ inl s ↦ ne s | inr j ↦ true≢false (sym j.0 ∙ f) ]) ]
-      | inr still ↦ inr (λ m. elim m [ inl s ↦ ne s | inr j ↦ still j.1 ])
-    ]
+    | inl e ↦ elim (cases_Bool (is_joined row)) [ inl j ↦ inl (inr (j, e)) | inr f ↦ inr (λ m. elim m [ inl s ↦ ne s | inr j ↦ true≢false (sym j.0 ∙ f) ]) ]
+    | inr still ↦ inr (λ m. elim m [ inl s ↦ ne s | inr j ↦ still j.1 ])
+  ]
 ]
 
 merged_has : (o p : Option ℕ) (s : ℕ) → (o ≡ Some s) ⊎ (p ≡ Some s) → Contains (merged o p) s
@@ -218,7 +217,7 @@ module _ (d : Draw) (column : d.column < 8) (other : d.other < 8) (lasts : List 
       let two : Edge = edge (n + 1) (n + 2) Ignores in
       let three : Edge = edge (n + 2) (n + 3) Passes in
       inr (first two (inner_edge Section d lasts ls two (contains_there one (two ∷ three ∷ []) two (contains_here two (three ∷ [])))) refl
-        (last three (inner_edge Section d lasts ls three (contains_there one (two ∷ three ∷ []) three (contains_there two (three ∷ []) three (contains_here three [])))) refl refl))
+      (last three (inner_edge Section d lasts ls three (contains_there one (two ∷ three ∷ []) three (contains_there two (three ∷ []) three (contains_here three [])))) refl refl))
 
   -- from the last line of a column that a row moves a path leads to the line of the row that uses it
   source_path : (row : Row) (c s : ℕ) → Moves row d c → last_of lasts c ≡ Some s → Path (edges_in (all row)) s (row_touch row n)

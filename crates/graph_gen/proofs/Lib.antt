@@ -11,3 +11,4 @@ pub mod RowEdges
 pub mod RowShapes
 pub mod Columns
 pub mod Acceptance
+pub mod ExampleSections

@@ -1,9 +1,8 @@
 -- The edges that a row gives: from last lines to one of its lines, and between its own lines.
-use Rattle.std.proofs.Common.{◌≡◌, ℕ, zero, suc, ◌+◌, ◌<◌, Bool, true, false, cond, ◌⊎◌, inl, inr, List, [], ◌∷◌, ◌++◌, length, map, refl, sym, ◌∙◌, ap, ap₂, subst, append-nil, length-append, arith}
+use Rattle.std.proofs.Common.{◌≡◌, ℕ, ◌+◌, Bool, true, false, cond, ◌⊎◌, inl, inr, List, [], ◌∷◌, ◌++◌, length, map, refl, sym, ◌∙◌, ap, subst, append-nil, length-append, arith}
 use Rattle.std.specs.Prelude.{◌==◌, Contains, Option, Some, None}
 use Rattle.std.proofs.lemmas.List.Elements.{Contains-append_left, Contains-append_right, Contains-append_cases}
-use Rattle.std.proofs.lemmas.Bool.{eqb-true}
-use Rattle.std.proofs.lemmas.Option.{none-some, same_Some}
+use Rattle.std.proofs.lemmas.Option.{none-some}
 use Rattle.index_spaces.specs.declared.Op.TheVariants as op
 use Rattle.graph_model.specs.declared.verb.Edge.{Edge}
 use Rattle.graph_model.specs.declared.verb.EdgeKind.{EdgeKind}
@@ -14,7 +13,7 @@ use Rattle.graph_model.specs.declared.verb.Verb.TheVariants as verb
 use Rattle.graph_model.specs.declared.verb.Kernel.TheVariants as kernel
 use Rattle.graph_model.specs.Edges.{edge, edges_from_some, verb_edges, edges_after}
 use Rattle.graph_model.specs.Fits.{on_lines}
-use Rattle.graph_model.proofs.ListFacts.{contains_cases, contains_none, contains_here, contains_there, contains_map, map_contains}
+use Rattle.graph_model.proofs.ListFacts.{contains_cases, contains_none, contains_map, map_contains}
 use Rattle.graph_gen.specs.declared.draw.Row.{Row}
 use Rattle.graph_gen.specs.declared.draw.Row.TheVariants.{Fill, Iota, Expect, Settle, Copy, Sum, Event, Section}
 use Rattle.graph_gen.specs.declared.draw.Draw.{Draw}
@@ -143,7 +142,7 @@ pub waits_edge : (row : Row) (d : Draw) (lasts : List (Option ℕ)) (ls : List L
 waits_edge row d lasts ls s c =
     let kind : EdgeKind = row_kind row in
     edge_new ls (row_lines row d lasts (length ls)) (edge s (row_waits row (length ls)) kind) (subst (λ es. Contains es (edge s (row_waits row (length ls)) kind)) (sym (row_edges row d lasts ls))
-        (Contains-append_left (map (λ x. edge x (row_waits row (length ls)) kind) (row_sources row d lasts)) (inner_edges row (length ls)) (edge s (row_waits row (length ls)) kind) (contains_map (λ x. edge x (row_waits row (length ls)) kind) (row_sources row d lasts) s c)))
+    (Contains-append_left (map (λ x. edge x (row_waits row (length ls)) kind) (row_sources row d lasts)) (inner_edges row (length ls)) (edge s (row_waits row (length ls)) kind) (contains_map (λ x. edge x (row_waits row (length ls)) kind) (row_sources row d lasts) s c)))
 
 pub inner_edge : (row : Row) (d : Draw) (lasts : List (Option ℕ)) (ls : List Line) (e : Edge) → Contains (inner_edges row (length ls)) e → Contains (edges_in (ls ++ row_lines row d lasts (length ls))) e
 inner_edge row d lasts ls e c =

@@ -1,20 +1,18 @@
 -- The lines of a row keep the shape of the lines that stand.
-use Rattle.std.proofs.Common.{◌≡◌, ℕ, zero, suc, ◌+◌, ◌*◌, ◌<◌, ◌≤◌, Bool, true, false, cond, ◌||◌, ◌⊎◌, inl, inr, List, [], ◌∷◌, ◌++◌, length, refl, sym, ◌∙◌, ap, subst, arith}
-use Rattle.std.specs.Prelude.{Contains, Option, Some, None}
+use Rattle.std.proofs.Common.{◌≡◌, ℕ, zero, suc, ◌+◌, ◌*◌, ◌<◌, ◌≤◌, Bool, true, false, cond, ◌⊎◌, inl, inr, List, [], ◌∷◌, ◌++◌, length, refl, sym, ◌∙◌, ap, subst, arith}
+use Rattle.std.specs.Prelude.{Contains, Option}
 use Rattle.std.specs.Option.{option_map_or}
 use Rattle.std.specs.List.{list_any, AllByRecursion}
 use Rattle.std.proofs.lemmas.Bool.{true≢false, eqb-true, or_parts}
 use Rattle.std.proofs.lemmas.List.Elements.{All-from_recursion, All-contains}
-use Rattle.index_spaces.specs.declared.Op.TheVariants as op
 use Rattle.graph_model.specs.declared.verb.Access.{Access}
 use Rattle.graph_model.specs.declared.verb.Edge.{Edge}
 use Rattle.graph_model.specs.declared.verb.EdgeKind.TheVariants.{Passes, Ignores}
 use Rattle.graph_model.specs.declared.verb.Line.{Line}
 use Rattle.graph_model.specs.declared.verb.Verb.{Verb}
-use Rattle.graph_model.specs.declared.verb.Verb.TheVariants as verb
 use Rattle.graph_model.specs.Graph.{is_user, is_acquire_of, is_release_of}
 use Rattle.graph_model.specs.Access.{verb_accesses}
-use Rattle.graph_model.specs.Edges.{edge, edges_after}
+use Rattle.graph_model.specs.Edges.{edge}
 use Rattle.graph_model.proofs.ListFacts.{contains_cases, contains_none, contains_here, contains_there}
 use Rattle.graph_gen.specs.declared.draw.Row.{Row}
 use Rattle.graph_gen.specs.declared.draw.Row.TheVariants.{Fill, Iota, Expect, Settle, Copy, Sum, Event, Section}
@@ -97,9 +95,11 @@ module _ (d : Draw) (column : d.column < 8) (other : d.other < 8) (lasts : List 
   inner_all Sum = (record { enters = omega arith; starts = omega arith; ends = omega arith; rises = rises_at Sum n (n + 1) 0 1 (omega arith) (omega arith) (omega arith) }, tt)
   inner_all Event = (record { enters = omega arith; starts = omega arith; ends = omega arith; rises = rises_at Event (n + 1) n 1 0 (omega arith) (omega arith) (omega arith) }, tt)
   inner_all Section = (
-      record { enters = omega arith; starts = omega arith; ends = omega arith; rises = rises_at Section n (n + 1) 0 1 (omega arith) (omega arith) (omega arith) },
-      (record { enters = omega arith; starts = omega arith; ends = omega arith; rises = rises_at Section (n + 1) (n + 2) 1 2 (omega arith) (omega arith) (omega arith) },
-      (record { enters = omega arith; starts = omega arith; ends = omega arith; rises = rises_at Section (n + 2) (n + 3) 2 3 (omega arith) (omega arith) (omega arith) }, tt)),
+    record { enters = omega arith; starts = omega arith; ends = omega arith; rises = rises_at Section n (n + 1) 0 1 (omega arith) (omega arith) (omega arith) },
+    (
+      record { enters = omega arith; starts = omega arith; ends = omega arith; rises = rises_at Section (n + 1) (n + 2) 1 2 (omega arith) (omega arith) (omega arith) },
+      (record { enters = omega arith; starts = omega arith; ends = omega arith; rises = rises_at Section (n + 2) (n + 3) 2 3 (omega arith) (omega arith) (omega arith) }, tt),
+    ),
   )
 
   is_inner : (row : Row) (e : Edge) → Contains (inner_edges row n) e → IsInner row e
@@ -121,18 +121,18 @@ module _ (d : Draw) (column : d.column < 8) (other : d.other < 8) (lasts : List 
   section_into e c h = elim (edge_cases ls (lines Section) e c) [
     | inl old ↦ absurd (let b : e.to < n = (shape.within e old).1 in omega arith)
     | inr new ↦ elim (row_edge_cases Section d lasts ls e new) [
-        | inl from_last ↦ absurd (let b : e.to ≡ n = from_last.2 in omega arith)
-        | inr inner ↦ elim (contains_cases (edge n (n + 1) Passes) (edge (n + 1) (n + 2) Ignores ∷ edge (n + 2) (n + 3) Passes ∷ []) e inner) [
-            | inl x ↦ steps n (n + 1) e (ap (λ (y : Edge). y.from) x) (ap (λ (y : Edge). y.to) x) refl
-            | inr more ↦ elim (contains_cases (edge (n + 1) (n + 2) Ignores) (edge (n + 2) (n + 3) Passes ∷ []) e more) [
-                | inl x ↦ steps (n + 1) (n + 2) e (ap (λ (y : Edge). y.from) x) (ap (λ (y : Edge). y.to) x) (omega arith)
-                | inr most ↦ elim (contains_cases (edge (n + 2) (n + 3) Passes) [] e most) [
-                    | inl x ↦ steps (n + 2) (n + 3) e (ap (λ (y : Edge). y.from) x) (ap (λ (y : Edge). y.to) x) (omega arith)
-                    | inr none ↦ absurd (contains_none e none)
-                  ]
-              ]
+      | inl from_last ↦ absurd (let b : e.to ≡ n = from_last.2 in omega arith)
+      | inr inner ↦ elim (contains_cases (edge n (n + 1) Passes) (edge (n + 1) (n + 2) Ignores ∷ edge (n + 2) (n + 3) Passes ∷ []) e inner) [
+        | inl x ↦ steps n (n + 1) e (ap (λ (y : Edge). y.from) x) (ap (λ (y : Edge). y.to) x) refl
+        | inr more ↦ elim (contains_cases (edge (n + 1) (n + 2) Ignores) (edge (n + 2) (n + 3) Passes ∷ []) e more) [
+          | inl x ↦ steps (n + 1) (n + 2) e (ap (λ (y : Edge). y.from) x) (ap (λ (y : Edge). y.to) x) (omega arith)
+          | inr most ↦ elim (contains_cases (edge (n + 2) (n + 3) Passes) [] e most) [
+            | inl x ↦ steps (n + 2) (n + 3) e (ap (λ (y : Edge). y.from) x) (ap (λ (y : Edge). y.to) x) (omega arith)
+            | inr none ↦ absurd (contains_none e none)
           ]
+        ]
       ]
+    ]
   ]
     where
       steps : (a b : ℕ) (e : Edge) → a ≡ e.from → b ≡ e.to → b ≡ a + 1 → e.to ≡ e.from + 1
