@@ -1,5 +1,5 @@
 -- A generated graph of two sections: by computing it is accepted, and its sums conflict with no path either way, so that they have to be exempt.
-use Rattle.std.proofs.Common.{◌<◌, ◌^◌, inl, inr, refl, arith, lit<, lit≤}
+use Rattle.std.proofs.Common.{inl, inr, refl, arith, lit<, lit≤}
 use Rattle.graph_model.specs.declared.verb.Mode.TheVariants.{Sum}
 use Rattle.graph_model.specs.Graph.{GraphValue}
 use Rattle.graph_model.specs.Access.{access, Conflict}

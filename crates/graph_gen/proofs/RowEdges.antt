@@ -1,5 +1,5 @@
 -- The edges that a row gives: from last lines to one of its lines, and between its own lines.
-use Rattle.std.proofs.Common.{◌≡◌, ℕ, ◌+◌, Bool, true, false, cond, ◌⊎◌, inl, inr, List, [], ◌∷◌, ◌++◌, length, map, refl, sym, ◌∙◌, ap, subst, append-nil, length-append, arith}
+use Rattle.std.proofs.Common.{◌≡◌, ℕ, ◌+◌, Bool, true, false, cond, ◌⊎◌, inl, inr, List, [], ◌∷◌, ◌++◌, length, map, refl, sym, ◌∙◌, ap, subst, append-nil, arith}
 use Rattle.std.specs.Prelude.{◌==◌, Contains, Option, Some, None}
 use Rattle.std.proofs.lemmas.List.Elements.{Contains-append_left, Contains-append_right, Contains-append_cases}
 use Rattle.std.proofs.lemmas.Option.{none-some}
@@ -19,6 +19,7 @@ use Rattle.graph_gen.specs.declared.draw.Row.TheVariants.{Fill, Iota, Expect, Se
 use Rattle.graph_gen.specs.declared.draw.Draw.{Draw}
 use Rattle.graph_gen.specs.MadeGraph.{last_of, merged, made_line, row_lines, total_column}
 use Rattle.graph_gen.proofs.AddedLines.{edges_in, edge_new}
+use Rattle.graph_gen.proofs.Rows.{one_longer}
 
 -- the last lines that a row waits for, the line that waits, and by which kind of edge
 abbrev pub row_sources : Row → Draw → List (Option ℕ) → List ℕ
@@ -47,14 +48,11 @@ from_lines : (kind : EdgeKind) (o : Option ℕ) (n : ℕ) → edges_from_some ki
 from_lines kind None n = refl
 from_lines kind (Some e) n = refl
 
-longer : (ls : List Line) (l : Line) → length (ls ++ l ∷ []) ≡ length ls + 1
-longer ls l = length-append ls (l ∷ [])
-
 longer_twice : (ls : List Line) (k l : Line) → length ((ls ++ k ∷ []) ++ l ∷ []) ≡ length ls + 2
-longer_twice ls k l = let e = longer ls k in let f = longer (ls ++ k ∷ []) l in omega arith
+longer_twice ls k l = let e = one_longer ls k in let f = one_longer (ls ++ k ∷ []) l in omega arith
 
 longer_thrice : (ls : List Line) (j k l : Line) → length (((ls ++ j ∷ []) ++ k ∷ []) ++ l ∷ []) ≡ length ls + 3
-longer_thrice ls j k l = let e = longer_twice ls j k in let f = longer ((ls ++ j ∷ []) ++ k ∷ []) l in omega arith
+longer_thrice ls j k l = let e = longer_twice ls j k in let f = one_longer ((ls ++ j ∷ []) ++ k ∷ []) l in omega arith
 
 one_edges : (ls : List Line) (v : Verb) (o : Option ℕ) → verb_edges ls (length ls) v ≡ [] → edges_after ls (made_line (length ls) v o ∷ []) ≡ map (λ e. edge e (length ls) Passes) (on_lines o) ++ []
 one_edges ls v o h =
@@ -69,13 +67,13 @@ joined_edges ls v es h =
     let one : edges_after ls (m ∷ made_line (length ls + 1) v (Some (length ls)) ∷ []) ≡ map (λ e. edge e (length ls) Passes) es ++ edge (length ls) (length b) Passes ∷ [] =
     ap (λ xs. map (λ e. edge e (length ls) Passes) es ++ (((edge (length ls) (length b) Passes ∷ []) ++ xs) ++ [])) (h b (length b)) in
     let two : map (λ e. edge e (length ls) Passes) es ++ edge (length ls) (length b) Passes ∷ [] ≡ map (λ e. edge e (length ls) Passes) es ++ edge (length ls) (length ls + 1) Passes ∷ [] =
-    ap (λ k. map (λ e. edge e (length ls) Passes) es ++ edge (length ls) k Passes ∷ []) (longer ls m) in
+    ap (λ k. map (λ e. edge e (length ls) Passes) es ++ edge (length ls) k Passes ∷ []) (one_longer ls m) in
     one ∙ two
 
 event_edges : (ls : List Line) (o : Option ℕ) → edges_after ls (made_line (length ls) verb.User None ∷ made_line (length ls + 1) (verb.Trigger (length ls)) o ∷ []) ≡ map (λ e. edge e (length ls + 1) Passes) (on_lines o) ++ edge (length ls + 1) (length ls) Passes ∷ []
 event_edges ls o =
     append-nil (edges_from_some Passes o (length (ls ++ made_line (length ls) verb.User None ∷ [])) ++ edge (length (ls ++ made_line (length ls) verb.User None ∷ [])) (length ls) Passes ∷ [])
-    ∙ (ap (λ k. edges_from_some Passes o k ++ edge k (length ls) Passes ∷ []) (longer ls (made_line (length ls) verb.User None))
+    ∙ (ap (λ k. edges_from_some Passes o k ++ edge k (length ls) Passes ∷ []) (one_longer ls (made_line (length ls) verb.User None))
     ∙ ap (λ es. es ++ edge (length ls + 1) (length ls) Passes ∷ []) (from_lines Passes o (length ls + 1)))
 
 section_edges : (ls : List Line) (d : Draw) (lasts : List (Option ℕ)) → edges_after ls (row_lines Section d lasts (length ls)) ≡ map (λ e. edge e (length ls) Passes) (on_lines (last_of lasts d.column)) ++ inner_edges Section (length ls)
@@ -86,7 +84,7 @@ section_edges ls d lasts =
     let s : Line = made_line (n + 1) (verb.Reduce op.Sum d.column total_column 0) (Some n) in
     let m : Line = made_line (n + 2) (verb.MergeIgnore ((n + 1) ∷ [])) None in
     ap (λ es. es ++ edge n (length (ls ++ a ∷ [])) Passes ∷ edge (n + 1) (length ((ls ++ a ∷ []) ++ s ∷ [])) Ignores ∷ edge (n + 2) (length (((ls ++ a ∷ []) ++ s ∷ []) ++ m ∷ [])) Passes ∷ []) (append-nil (edges_from_some Passes o n) ∙ from_lines Passes o n)
-    ∙ (ap (λ k. map (λ e. edge e n Passes) (on_lines o) ++ edge n k Passes ∷ edge (n + 1) (length ((ls ++ a ∷ []) ++ s ∷ [])) Ignores ∷ edge (n + 2) (length (((ls ++ a ∷ []) ++ s ∷ []) ++ m ∷ [])) Passes ∷ []) (longer ls a)
+    ∙ (ap (λ k. map (λ e. edge e n Passes) (on_lines o) ++ edge n k Passes ∷ edge (n + 1) (length ((ls ++ a ∷ []) ++ s ∷ [])) Ignores ∷ edge (n + 2) (length (((ls ++ a ∷ []) ++ s ∷ []) ++ m ∷ [])) Passes ∷ []) (one_longer ls a)
     ∙ (ap (λ k. map (λ e. edge e n Passes) (on_lines o) ++ edge n (n + 1) Passes ∷ edge (n + 1) k Ignores ∷ edge (n + 2) (length (((ls ++ a ∷ []) ++ s ∷ []) ++ m ∷ [])) Passes ∷ []) (longer_twice ls a s)
     ∙ ap (λ k. map (λ e. edge e n Passes) (on_lines o) ++ edge n (n + 1) Passes ∷ edge (n + 1) (n + 2) Ignores ∷ edge (n + 2) k Passes ∷ []) (longer_thrice ls a s m)))
 
