@@ -1,5 +1,5 @@
 -- What is kept from draw to draw, and the graph that comes of as many draws as lines.
-use Rattle.std.proofs.Common.{◌≡◌, ℕ, zero, suc, ◌+◌, ◌-◌, ◌/◌, ◌%◌, ◌^◌, ◌<◌, ◌≤◌, Bool, true, false, cond, ◌⊎◌, inl, inr, List, [], ◌∷◌, ◌++◌, length, refl, sym, ◌∙◌, ap, subst, append_assoc, append-nil, length-append, arith, lit≤, lit<}
+use Rattle.std.proofs.Common.{◌≡◌, ℕ, zero, suc, ◌+◌, ◌-◌, ◌^◌, ◌<◌, ◌≤◌, Bool, true, false, cond, ◌⊎◌, inl, inr, List, [], ◌∷◌, ◌++◌, length, refl, sym, ◌∙◌, ap, subst, append_assoc, append-nil, length-append, arith, lit≤, lit<}
 use Rattle.std.specs.Prelude.{Option, Some, None, nat_lt, replicate}
 use Rattle.std.specs.Fmt.{digits}
 use Rattle.std.proofs.lemmas.Bool.{lt-ltb, ltb-true, ltb-false}
@@ -10,8 +10,8 @@ use Rattle.graph_model.specs.Fits.{DeclsFit, LinesFit, IsGraph}
 use Rattle.graph_gen.specs.declared.draw.Row.{Row}
 use Rattle.graph_gen.specs.declared.draw.Row.TheVariants.{Fill}
 use Rattle.graph_gen.specs.declared.draw.Draw.{Draw}
-use Rattle.graph_gen.specs.MadeGraph.{made_decls, next_state, draw_of, last_of, is_open, row_taken, row_lines, Made, unmade, with_row, drawn, one_more, after_draws, made_graph}
-use Rattle.graph_gen.proofs.Standing.{lined, not_less, Standing, RowFits}
+use Rattle.graph_gen.specs.MadeGraph.{made_decls, next_state, draw_of, last_of, is_open, row_taken, row_lines, Made, unmade, drawn, one_more, after_draws, made_graph}
+use Rattle.graph_gen.proofs.Standing.{not_less, Standing, RowFits}
 use Rattle.graph_gen.proofs.Rows.{LastsStand, row_size, row_fits, row_lasts}
 
 -- what holds between two draws

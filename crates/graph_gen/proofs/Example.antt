@@ -1,10 +1,10 @@
 -- The worked example: seed 1 and size 1.
-use Rattle.std.specs.Prelude.{◌≡◌, ◌/◌, ◌^◌, [], ◌∷◌, Some, None, codes}
+use Rattle.std.specs.Prelude.{◌≡◌, ◌/◌, ◌^◌, [], ◌∷◌, None, codes}
 use Rattle.std.proofs.Common.{refl}
 use Rattle.std.specs.Fmt.{digits}
 use Rattle.graph_model.specs.declared.verb.Verb.TheVariants.{Fill}
 use Rattle.graph_gen.specs.declared.draw.Row.TheVariants.{Copy}
-use Rattle.graph_gen.specs.MadeGraph.{made_decls, next_state, draw_of, after_draws, made_graph}
+use Rattle.graph_gen.specs.MadeGraph.{made_decls, next_state, draw_of, made_graph}
 
 -- the first state, and what it tells
 first_state : next_state 1 ≡ 7806831264735756412

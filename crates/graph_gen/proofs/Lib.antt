@@ -5,3 +5,10 @@ pub mod NextLines
 pub mod Rows
 pub mod Draws
 pub mod MakeSteps
+pub mod AddedLines
+pub mod Shapes
+pub mod RowEdges
+pub mod RowShapes
+pub mod Columns
+pub mod Acceptance
+pub mod ExampleSections

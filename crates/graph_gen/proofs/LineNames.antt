@@ -1,6 +1,6 @@
 -- The names of the lines are names, differ, and are short.
-use Rattle.std.proofs.Common.{◌≡◌, ℕ, ◌+◌, ◌^◌, ◌<◌, ◌≤◌, true, false, ◌&&◌, ◌||◌, List, [], ◌∷◌, length, drop, refl, sym, ◌∙◌, ap, arith}
-use Rattle.std.specs.Prelude.{◌≢◌, ◌==◌, nat_le, decimal}
+use Rattle.std.proofs.Common.{◌≡◌, ℕ, ◌+◌, ◌^◌, ◌<◌, ◌≤◌, true, false, ◌&&◌, ◌||◌, List, [], ◌∷◌, length, drop, refl, ◌∙◌, ap, arith}
+use Rattle.std.specs.Prelude.{◌≢◌, ◌==◌, decimal}
 use Rattle.std.specs.List.{list_all}
 use Rattle.std.specs.Char.{is_ascii_digit, is_ascii_lowercase}
 use Rattle.std.specs.Str.{all_ascii_digits, bytes_eq}

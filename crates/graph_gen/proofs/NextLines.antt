@@ -1,26 +1,23 @@
 -- Each line that a row adds fits after the lines that stand.
-use Rattle.std.proofs.Common.{◌≡◌, ℕ, zero, suc, ◌+◌, ◌^◌, ◌<◌, ◌≤◌, Bool, true, false, cond, not, ◌&&◌, ◌||◌, List, [], ◌∷◌, ◌++◌, length, map, refl, sym, ◌∙◌, ap, subst, append-nil, length-append, arith, lit≤, lit<}
-use Rattle.std.specs.Prelude.{◌≢◌, Option, Some, None, nat_eq, nat_lt, nat_le, is_some, slice_get, codes, decimal, option_map}
+use Rattle.std.proofs.Common.{◌≡◌, ℕ, zero, suc, ◌+◌, ◌<◌, ◌≤◌, true, false, not, ◌||◌, List, [], ◌∷◌, length, refl, ap, length-append, arith, lit≤, lit<}
+use Rattle.std.specs.Prelude.{◌≢◌, Option, Some, None, nat_eq, nat_le, slice_get, codes, decimal, option_map}
 use Rattle.std.specs.Option.{option_map_or}
 use Rattle.std.specs.List.{list_any}
 use Rattle.std.proofs.lemmas.Bool.{false_from_ne_true, leb-true, eqb-true}
-use Rattle.std.proofs.lemmas.Option.{none-some, same_Some}
-use Rattle.std.proofs.lemmas.List.Folds.{list_any-append}
 use Rattle.index_spaces.specs.declared.Op.TheVariants as op
 use Rattle.graph_model.specs.declared.verb.Line.{Line}
 use Rattle.graph_model.specs.declared.verb.Mode.{Mode}
 use Rattle.graph_model.specs.declared.verb.Mode.TheVariants.{Read, Write, Sum}
 use Rattle.graph_model.specs.declared.verb.EdgeKind.{EdgeKind}
-use Rattle.graph_model.specs.declared.verb.EdgeKind.TheVariants.{Passes, Ignores}
+use Rattle.graph_model.specs.declared.verb.EdgeKind.TheVariants.{Passes}
 use Rattle.graph_model.specs.declared.verb.Verb.{Verb}
 use Rattle.graph_model.specs.declared.verb.Verb.TheVariants.{User, Trigger, Merge, MergeIgnore, Acquire, Release, Fill, Copy, Reduce, Task}
 use Rattle.graph_model.specs.declared.verb.Kernel.TheVariants.{Iota, Expect}
 use Rattle.graph_model.specs.Graph.{is_user, is_acquire, ends_user, is_release_of}
-use Rattle.graph_model.specs.Access.{access, verb_accesses}
-use Rattle.graph_model.specs.Counts.{words_size}
+use Rattle.graph_model.specs.Access.{access}
 use Rattle.graph_model.specs.Edges.{edges_from_some, verb_edges, line_edges}
 use Rattle.graph_model.specs.Fits.{on_lines, access_unknown, access_outside}
-use Rattle.graph_model.specs.Spelling.{column_name, space_name, line_name, on_words}
+use Rattle.graph_model.specs.Spelling.{column_name, line_name, on_words}
 use Rattle.graph_gen.specs.MadeGraph.{made_line}
 use Rattle.graph_gen.proofs.LineNames.{decimal_short}
 use Rattle.graph_gen.proofs.Standing.{lined, both_false, Standing, NextFits, Sized, size_cons, size_none, within_sixty, name_size}

@@ -1,10 +1,10 @@
 -- The lines of each row fit, and what stands is kept from draw to draw.
-use Rattle.std.proofs.Common.{◌≡◌, ℕ, zero, suc, ◌+◌, ◌-◌, ◌*◌, ◌/◌, ◌%◌, ◌^◌, ◌<◌, ◌≤◌, Bool, true, false, cond, not, ◌&&◌, ◌||◌, ◌⊎◌, inl, inr, List, [], ◌∷◌, ◌++◌, length, refl, sym, ◌∙◌, ap, subst, length-append, arith, lit≤, lit<}
-use Rattle.std.specs.Prelude.{◌≢◌, ◌==◌, Option, Some, None, nat_lt, nat_le, is_some, slice_get, slice_index_or, slice_set, replicate, option_map}
+use Rattle.std.proofs.Common.{◌≡◌, ℕ, ◌+◌, ◌<◌, ◌≤◌, Bool, true, false, cond, not, ◌&&◌, ◌||◌, inl, inr, List, [], ◌∷◌, ◌++◌, length, refl, sym, ◌∙◌, ap, subst, length-append, arith, lit≤, lit<}
+use Rattle.std.specs.Prelude.{◌≢◌, ◌==◌, Option, Some, None, nat_le, is_some, slice_get, slice_set, option_map}
 use Rattle.std.specs.Option.{option_map_or}
 use Rattle.std.specs.List.{list_any}
-use Rattle.std.proofs.lemmas.Bool.{true≢false, and_parts, not-true, eq-eqb, leb-true, ltb-true, ltb-false, cases_order}
-use Rattle.std.proofs.lemmas.Option.{none-some, same_Some}
+use Rattle.std.proofs.lemmas.Bool.{true≢false, and_parts, not-true, eq-eqb, leb-true, cases_order}
+use Rattle.std.proofs.lemmas.Option.{same_Some}
 use Rattle.std.proofs.lemmas.List.{get_or-set_other, length-set}
 use Rattle.std.proofs.lemmas.List.Folds.{list_any-append}
 use Rattle.std.proofs.lemmas.Grind.{get_or-set_at}
@@ -17,22 +17,18 @@ use Rattle.graph_model.specs.Graph.{is_user, is_acquire, ends_user, is_release_o
 use Rattle.graph_gen.specs.declared.draw.Row.{Row}
 use Rattle.graph_gen.specs.declared.draw.Row.TheVariants.{Fill, Iota, Expect, Settle, Copy, Sum, Event, Section}
 use Rattle.graph_gen.specs.declared.draw.Draw.{Draw}
-use Rattle.graph_gen.specs.MadeGraph.{last_of, is_open, row_taken, merged, made_line, row_lines, lasts_after}
+use Rattle.graph_gen.specs.MadeGraph.{last_of, is_open, merged, made_line, row_lines, lasts_after}
+use Rattle.graph_gen.proofs.AddedLines.{got_old}
 use Rattle.graph_gen.proofs.Standing.{both_false, Standing, NextFits, next_stands, RowFits, row_end, row_more}
 use Rattle.graph_gen.proofs.NextLines.{Before, fill_fits, iota_fits, expect_fits, copy_fits, sum_fits, acquire_fits, trigger_fits, release_fits, user_fits, settle_fits, one_fits, two_fit}
 
 -- a line after lines is one more, and stands at their end
-one_longer : (ls : List Line) (l : Line) → length (ls ++ l ∷ []) ≡ length ls + 1
+pub one_longer : (ls : List Line) (l : Line) → length (ls ++ l ∷ []) ≡ length ls + 1
 one_longer ls l = length-append ls (l ∷ [])
 
 at_end : (ls : List Line) (l : Line) → slice_get (ls ++ l ∷ []) (length ls) ≡ Some l
 at_end [] l = refl
 at_end (x ∷ ls) l = at_end ls l
-
-get_before : (ls : List Line) (l : Line) (k : ℕ) → k < length ls → slice_get (ls ++ l ∷ []) k ≡ slice_get ls k
-get_before [] l k h = absurd (omega arith)
-get_before (x ∷ ls) l zero h = refl
-get_before (x ∷ ls) l (suc k) h = get_before ls l k (let g : suc k < suc (length ls) = h in omega arith)
 
 none_more : (t : Line → Bool) (ls : List Line) (l : Line) → list_any t ls ≡ false → t l ≡ false → list_any t (ls ++ l ∷ []) ≡ false
 none_more t ls l h k = list_any-append t ls (l ∷ []) ∙ both_false (list_any t ls) (t l || false) h (both_false (t l) false k refl)
@@ -130,7 +126,7 @@ module _ (d : Draw) (column : d.column < 8) (other : d.other < 8) (value : d.val
         let longer_three : length (((ls ++ a ∷ []) ++ s ∷ []) ++ m ∷ []) ≡ length ((ls ++ a ∷ []) ++ s ∷ []) + 1 = one_longer ((ls ++ a ∷ []) ++ s ∷ []) m in
         let count_three : length (((ls ++ a ∷ []) ++ s ∷ []) ++ m ∷ []) ≡ n + 3 = omega arith in
         let unreleased = none_more (λ (x : Line). is_release_of n x.verb) ((ls ++ a ∷ []) ++ s ∷ []) m (none_more (λ (x : Line). is_release_of n x.verb) (ls ++ a ∷ []) s (none_more (λ (x : Line). is_release_of n x.verb) ls a (st.released n (omega arith)) refl) refl) refl in
-        let there : slice_get (((ls ++ a ∷ []) ++ s ∷ []) ++ m ∷ []) n ≡ Some a = get_before ((ls ++ a ∷ []) ++ s ∷ []) m n (omega arith) ∙ (get_before (ls ++ a ∷ []) s n (omega arith) ∙ at_end ls a) in
+        let there : slice_get (((ls ++ a ∷ []) ++ s ∷ []) ++ m ∷ []) n ≡ Some a = got_old ((ls ++ a ∷ []) ++ s ∷ []) (m ∷ []) n (omega arith) ∙ (got_old (ls ++ a ∷ []) (s ∷ []) n (omega arith) ∙ at_end ls a) in
         let fits_r : NextFits (((ls ++ a ∷ []) ++ s ∷ []) ++ m ∷ []) (verb.Release n) (Some (n + 2)) = release_fits (((ls ++ a ∷ []) ++ s ∷ []) ++ m ∷ []) three (omega arith) (Some (n + 2)) (before_some (length (((ls ++ a ∷ []) ++ s ∷ []) ++ m ∷ [])) (n + 2) (omega arith)) n (omega arith) unreleased (ap (λ o. option_map_or is_acquire (option_map (λ (x : Line). x.verb) o) false) there) in
         let r : Line = made_line (n + 3) (verb.Release n) (Some (n + 2)) in
         row_more ls (s ∷ m ∷ r ∷ []) n (verb.Acquire 0) on refl (omega arith) st fits_a

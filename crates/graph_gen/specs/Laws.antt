@@ -1,8 +1,13 @@
 -- What holds of all generated graphs.
 use Rattle.std.specs.Prelude.{◌≡◌, ℕ, ◌<◌, ◌≤◌, ◌^◌, length}
 use Rattle.graph_model.specs.Fits.{IsGraph}
+use Rattle.graph_model.specs.Rules.{Accepted}
 use Rattle.graph_gen.specs.MadeGraph.{made_graph}
 
 -- a generated graph is a graph of as many lines as its size says
 abbrev pub HaveTheirSize : Type 0
 HaveTheirSize = (seed size : ℕ) → seed < 2 ^ 64 → 1 ≤ size → size ≤ 8192 → IsGraph (made_graph seed size) × (length (made_graph seed size).lines ≡ size)
+
+-- a generated graph is accepted
+abbrev pub AreAccepted : Type 0
+AreAccepted = (seed size : ℕ) → seed < 2 ^ 64 → 1 ≤ size → size ≤ 8192 → Accepted (made_graph seed size)

@@ -1,4 +1,4 @@
-use Rattle.std.proofs.Common.{◌≡◌, ◌++◌, [], ◌∷◌, codes, map}
+use Rattle.std.proofs.Common.{◌≡◌, [], ◌∷◌, codes, map}
 use Rattle.index_spaces.specs.Space.{numbers_below}
 use Rattle.graph_model.specs.declared.decl.Decl.TheVariants.{Space}
 use Rattle.graph_gen.specs.MadeGraph.{column_decl}

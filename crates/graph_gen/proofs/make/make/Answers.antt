@@ -1,4 +1,4 @@
-use Rattle.std.proofs.Common.{◌≡◌, ◌+◌, ◌-◌, ◌<◌, ◌≤◌, ◌^◌, suc, rules, length, refl, ◌∙◌, ap, arith}
+use Rattle.std.proofs.Common.{◌-◌, ◌<◌, ◌≤◌, ◌^◌, suc, rules, length, refl, ◌∙◌, ap, arith}
 use Rattle.graph_gen.specs.MadeGraph.{made_of, one_more}
 use Rattle.graph_gen.proofs.MakeSteps.{kept_by, grows, whole}
 use Rattle.graph_gen.proofs.make.make.Goals as goal

@@ -1,0 +1,45 @@
+-- A generated graph of two sections: by computing it is accepted, and its sums conflict with no path either way, so that they have to be exempt.
+use Rattle.std.proofs.Common.{inl, inr, refl, arith, lit<, lit≤}
+use Rattle.graph_model.specs.declared.verb.Mode.TheVariants.{Sum}
+use Rattle.graph_model.specs.Graph.{GraphValue}
+use Rattle.graph_model.specs.Access.{access, Conflict}
+use Rattle.graph_model.specs.Edges.{edges}
+use Rattle.graph_model.specs.Path.{HasPath}
+use Rattle.graph_model.specs.Rules.{Exempt, Accepted}
+use Rattle.graph_model.proofs.PathTable.{no_path_by_table}
+use Rattle.graph_model.proofs.RulesTable.{accepted_by_tests}
+use Rattle.graph_gen.specs.MadeGraph.{made_graph}
+use Rattle.graph_gen.proofs.Acceptance.{made_accepted}
+
+abbrev two_sections : GraphValue
+two_sections = made_graph 59 8
+
+accepted_by_computing : Accepted two_sections
+accepted_by_computing = accepted_by_tests two_sections (record { range = refl; acyclic = refl; released = refl; sections = refl; descends = refl; release_faults = refl; races = refl })
+
+-- the premises of the law are met
+pub accepted_by_law : Accepted two_sections
+accepted_by_law = made_accepted 59 8 (lit< tt) (lit≤ tt)
+
+sums_conflict : Conflict two_sections 1 5
+sums_conflict = record {
+  different = λ e. absurd (omega arith);
+  one = access 8 0 Sum;
+  other = access 8 0 Sum;
+  one_in = (1, omega arith, refl);
+  other_in = (1, omega arith, refl);
+  conflict = record { column = refl; meet = (0, refl, refl); clash = refl };
+}
+
+no_path : HasPath two_sections 1 5 → ⊥
+no_path = no_path_by_table (edges two_sections) 8 1 5 refl refl
+
+no_path_back : HasPath two_sections 5 1 → ⊥
+no_path_back = no_path_by_table (edges two_sections) 8 5 1 refl refl
+
+pub sums_are_exempt : Exempt two_sections 1 5
+sums_are_exempt = elim (accepted_by_law.races 1 5 (omega arith) sums_conflict) [
+  | inl p ↦ absurd (no_path p)
+  | inr (inl p) ↦ absurd (no_path_back p)
+  | inr (inr x) ↦ x
+]
