@@ -6,7 +6,7 @@ use Rattle.clap.specs.Words.{App, Row, Rule, Text, new_app, new_rule, with_rule,
 use Rattle.clap.specs.declared.builder.action.ArgAction.TheVariants.{SetTrue}
 use Rattle.command_line.specs.Number.{number_of, number_between}
 use Rattle.command_line.specs.declared.request.Action.{Action}
-use Rattle.command_line.specs.declared.request.Action.TheVariants.{Run, Check, Eval}
+use Rattle.command_line.specs.declared.request.Action.TheVariants.{Run, Check, Eval, Make}
 use Rattle.command_line.specs.declared.request.Engine.{Engine}
 use Rattle.command_line.specs.declared.request.Engine.TheVariants.{Lock}
 use Rattle.command_line.specs.declared.request.Request.{Request}
@@ -40,6 +40,7 @@ action_by_word word =
     if bytes_eq word (codes "run") then Some Run
     else if bytes_eq word (codes "check") then Some Check
     else if bytes_eq word (codes "eval") then Some Eval
+    else if bytes_eq word (codes "make") then Some Make
     else None
 
 -- the engine that a word names

@@ -1,6 +1,6 @@
 //! What the matches of a command line ask for.
 
-ghost use Rattle.std.specs.Prelude.{◌≡◌, List, Option, Some, None, option_map, option_and_then, codes};
+ghost use Rattle.std.specs.Prelude.{◌≡◌, ◌≤◌, IfSome, List, Option, Some, None, option_map, option_and_then, codes};
 ghost use Rattle.clap.specs.Words.{Text, first_of, rows_of, found_of};
 ghost use Rattle.command_line.specs.Number.{number_of, number_between};
 ghost use Rattle.command_line.specs.Request.{action_by_word, engine_by_word, value_or, is_set, request_in};
@@ -17,6 +17,7 @@ fn action_by_word(word: &str) -> Option<Action>
         b"run" => Some(Action::Run),
         b"check" => Some(Action::Check),
         b"eval" => Some(Action::Eval),
+        b"make" => Some(Action::Make),
         _ => None,
     }
 }
@@ -50,7 +51,9 @@ fn is_set(matches: &ArgMatches, id: &str) -> bool
 
 /// The number that was given for an option, or its default; none where the text is no number of its range.
 fn number_or(matches: &ArgMatches, id: &str, default: u32, least: u32, most: u32) -> Option<u32>
-    ensures { result ≡ value_or default (number_between least most) (first_of id.now (rows_of (found_of matches.now))) }
+    requires { (least ≤ default) × (default ≤ most) }
+    ensures value { result ≡ value_or default (number_between least most) (first_of id.now (rows_of (found_of matches.now))) }
+    ensures within { IfSome result (λ n. (least ≤ n) × (n ≤ most)) }
 {
     match given(matches, id) {
         None => Some(default),
@@ -90,7 +93,8 @@ fn seed(matches: &ArgMatches) -> Option<u64>
 
 /// What the matches ask for; none where a value is out of its range.
 pub(crate) fn request_in(matches: &ArgMatches) -> Option<Request>
-    ensures { result ≡ request_in (rows_of (found_of matches.now)) }
+    ensures request { result ≡ request_in (rows_of (found_of matches.now)) }
+    ensures size { IfSome result (λ request. (1 ≤ request.size) × (request.size ≤ 8192)) }
 {
     Some(Request {
         action: action_by_word(given(matches, "ACTION")?)?,

@@ -14,7 +14,8 @@ pub(crate) fn number(word: &str) -> Option<u64>
 
 /// The number from `least` to `most` that a word spells.
 pub(crate) fn number_between(word: &str, least: u32, most: u32) -> Option<u32>
-    ensures { result ≡ number_between least most word.now }
+    ensures value { result ≡ number_between least most word.now }
+    ensures within { IfSome result (λ n. (least ≤ n) × (n ≤ most)) }
 {
     let number = number(word)?;
     if number < u64::from(least) || number > u64::from(most) {

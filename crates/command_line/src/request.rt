@@ -9,6 +9,9 @@ pub enum Action {
     Check,
     /// A graph is read, checked and evaluated on one thread, and its report is written.
     Eval,
+    /// A graph is made of a seed and a size, checked and run, and a line that sums it up is
+    /// written; or its text is written, and nothing is run.
+    Make,
 }
 
 /// What runs a graph.

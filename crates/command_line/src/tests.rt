@@ -56,6 +56,16 @@ fn takes_options(rt: HostRuntime) -> Result<(), Fail> {
             },
         ),
         (
+            "realm make --seed 7 --size 12 --slots 3",
+            Request {
+                action: Action::Make,
+                seed: 7,
+                size: 12,
+                slots: Some(3),
+                ..RUN
+            },
+        ),
+        (
             "realm run --seed 18446744073709551615 --size 8192 --text",
             Request {
                 seed: 18446744073709551615,
@@ -75,7 +85,8 @@ fn refuses_words(rt: HostRuntime) -> Result<(), Fail> {
     for line in [
         "realm",
         "realm walk",
-        "realm make",
+        "realm make make",
+        "realm make --seed 01",
         "realm run run",
         "realm run --workers 9",
         "realm run --workers 2 --workers 3",

@@ -13,7 +13,7 @@ use Rattle.graph_reader.specs.Laws.{OneReading}
 use Rattle.race_check.specs.Refusal.{IsRefusal}
 use Rattle.race_check.specs.declared.checked.CheckRefusal.{CheckRefusal}
 use Rattle.race_check.specs.declared.checked.CheckRefusal.TheVariants as refusal
-use Rattle.realm_top.specs.Answer.{IsRefused, IsUnfit, evaluation_text, says, is_short, EndsByPaths, Answers, Settled, Answered, Delivered, BrokenOff, Delivers}
+use Rattle.realm_top.specs.Answer.{IsRefused, IsUnfit, evaluation_text, Says, is_short, EndsByPaths, Served, InputAnswers, Serves, Settled, Answered, Delivered, BrokenOff, Delivers}
 use Rattle.realm_top.specs.Texts.{too_long_text, unfit_text, slots_text}
 use Rattle.graph_model.specs.Graph.{GraphValue}
 use Rattle.graph_model.specs.Rules.{Accepted}
@@ -86,43 +86,43 @@ true_false : (b : Bool) → b ≡ true → b ≡ false → ⊥
 true_false b t f = true≢false (sym t ∙ f)
 
 -- a run is not both given enough slots and too few
-short_or_not : (request : Request) → OneNeed → (bytes o p : List ℕ) → OneReading bytes → Answers request bytes Done o → Answers request bytes Slots p → ⊥
+short_or_not : (request : Request) → OneNeed → (bytes o p : List ℕ) → OneReading bytes → InputAnswers request bytes Done o → InputAnswers request bytes Slots p → ⊥
 short_or_not request needs bytes o p one (g, t, (a, n, i, e, x)) (h, u, (b, m, j, f, y)) =
     true_false (is_short request n) (subst (λ k. is_short request k ≡ true) (needs h m n j (subst (λ k. IsNeed k n) (one.one_graph g h t u) i)) f) e
 
 -- an input has one answer
-pub one_answer : (request : Request) → OneNeed → (bytes : List ℕ) → OneReading bytes → (s t : Status) (o p : List ℕ) → Answers request bytes s o → Answers request bytes t p → s ≡ t
+pub one_answer : (request : Request) → OneNeed → (bytes : List ℕ) → OneReading bytes → (s t : Status) (o p : List ℕ) → InputAnswers request bytes s o → InputAnswers request bytes t p → s ≡ t
 one_answer request needs bytes one Done Done o p a b = refl
 one_answer request needs bytes one Done Unread o p a b = absurd (text_or_refused bytes p one a.0 a.1 b.1)
 one_answer request needs bytes one Done Unfit o p a b = absurd (judged_both bytes o p one a.0 b.0 a.1 b.1 (a.2).0 b.2)
 one_answer request needs bytes one Done Slots o p a b = absurd (short_or_not request needs bytes o p one a b)
 one_answer request needs bytes one Done TooLong o p a b = absurd (too_short bytes (a.1).short b.0)
-one_answer request needs bytes one Done _ o p a b = absurd b.2
+one_answer request needs bytes one Done _ o p a b = absurd (b.2).1
 one_answer request needs bytes one Unread Done o p a b = absurd (text_or_refused bytes o one b.0 b.1 a.1)
 one_answer request needs bytes one Unread Unread o p a b = refl
 one_answer request needs bytes one Unread Unfit o p a b = absurd (text_or_refused bytes o one b.0 b.1 a.1)
 one_answer request needs bytes one Unread Slots o p a b = absurd (text_or_refused bytes o one b.0 b.1 a.1)
 one_answer request needs bytes one Unread TooLong o p a b = absurd (too_short bytes a.0 b.0)
-one_answer request needs bytes one Unread _ o p a b = absurd b.2
+one_answer request needs bytes one Unread _ o p a b = absurd (b.2).1
 one_answer request needs bytes one Unfit Done o p a b = absurd (judged_both bytes p o one b.0 a.0 b.1 a.1 (b.2).0 a.2)
 one_answer request needs bytes one Unfit Unread o p a b = absurd (text_or_refused bytes p one a.0 a.1 b.1)
 one_answer request needs bytes one Unfit Unfit o p a b = refl
 one_answer request needs bytes one Unfit Slots o p a b = absurd (judged_both bytes p o one b.0 a.0 b.1 a.1 (b.2).0 a.2)
 one_answer request needs bytes one Unfit TooLong o p a b = absurd (too_short bytes (a.1).short b.0)
-one_answer request needs bytes one Unfit _ o p a b = absurd b.2
+one_answer request needs bytes one Unfit _ o p a b = absurd (b.2).1
 one_answer request needs bytes one Slots Done o p a b = absurd (short_or_not request needs bytes p o one b a)
 one_answer request needs bytes one Slots Unread o p a b = absurd (text_or_refused bytes p one a.0 a.1 b.1)
 one_answer request needs bytes one Slots Unfit o p a b = absurd (judged_both bytes o p one a.0 b.0 a.1 b.1 (a.2).0 b.2)
 one_answer request needs bytes one Slots Slots o p a b = refl
 one_answer request needs bytes one Slots TooLong o p a b = absurd (too_short bytes (a.1).short b.0)
-one_answer request needs bytes one Slots _ o p a b = absurd b.2
+one_answer request needs bytes one Slots _ o p a b = absurd (b.2).1
 one_answer request needs bytes one TooLong Done o p a b = absurd (too_short bytes (b.1).short a.0)
 one_answer request needs bytes one TooLong Unread o p a b = absurd (too_short bytes b.0 a.0)
 one_answer request needs bytes one TooLong Unfit o p a b = absurd (too_short bytes (b.1).short a.0)
 one_answer request needs bytes one TooLong Slots o p a b = absurd (too_short bytes (b.1).short a.0)
 one_answer request needs bytes one TooLong TooLong o p a b = refl
-one_answer request needs bytes one TooLong _ o p a b = absurd b.2
-one_answer request needs bytes one _ t o p a b = absurd a.2
+one_answer request needs bytes one TooLong _ o p a b = absurd (b.2).1
+one_answer request needs bytes one _ t o p a b = absurd (a.2).1
 
 -- all that was left was read
 pub all_read : (old new : Option (List ℕ)) (bs : List ℕ) → Consumes old new bs → IsAtEnd new → (xs : List ℕ) → old ≡ Some xs → xs ≡ bs
@@ -146,17 +146,17 @@ if_some None P h = tt
 if_some (Some xs) P h = h xs refl
 
 -- what was answered, by the status
-answered_as : (request : Request) (bs : List ℕ) (s t : SinkState) (result status : Status) → Answered request bs s t result → result ≡ status → (status ≢ NoMemory) → (status ≢ WriteFault) → (out : List ℕ) × Answers request bs status out × Delivered s t out
+answered_as : (request : Request) (bs : List ℕ) (s t : SinkState) (result status : Status) → Answered request bs s t result → result ≡ status → (status ≢ NoMemory) → (status ≢ WriteFault) → (out : List ℕ) × InputAnswers request bs status out × Delivered s t out
 answered_as request bs s t result status (inl n) e a b = absurd (a (sym e ∙ n))
-answered_as request bs s t result status (inr (wanted, out, w, inl d)) e a b = (out, subst (λ x. Answers request bs x out) (sym d.0 ∙ e) w, d.1)
+answered_as request bs s t result status (inr (wanted, out, w, inl d)) e a b = (out, subst (λ x. InputAnswers request bs x out) (sym d.0 ∙ e) w, d.1)
 answered_as request bs s t result status (inr (wanted, out, w, inr d)) e a b = absurd (b (sym e ∙ d.0))
 
 pub answered_done : (request : Request) (bs : List ℕ) (s t : SinkState) (result : Status) → Answered request bs s t result → result ≡ Done →
-    (g : GraphValue) × GraphText bs g × Accepted g × (need : ℕ) × IsNeed g need × (is_short request need ≡ false) × Delivered s t (says request.action request g need)
+    (g : GraphValue) × GraphText bs g × Accepted g × (need : ℕ) × IsNeed g need × (is_short request need ≡ false) × (out : List ℕ) × Says request.action request g need out × Delivered s t out
 answered_done request bs s t result h e =
     let a = answered_as request bs s t result Done h e (λ x. cc) (λ x. cc) in
     let j = (a.1).2 in
-    ((a.1).0, (a.1).1, j.0, j.1, j.2, j.3, subst (Delivered s t) j.4 a.2)
+    ((a.1).0, (a.1).1, j.0, j.1, j.2, j.3, a.0, j.4, a.2)
 
 pub answered_slots : (request : Request) (bs : List ℕ) (s t : SinkState) (result : Status) → Answered request bs s t result → result ≡ Slots →
     (g : GraphValue) × GraphText bs g × Accepted g × (need : ℕ) × IsNeed g need × (is_short request need ≡ true) × Delivered s t (slots_text need)
@@ -172,12 +172,12 @@ pub answered_unfit : (request : Request) (bs : List ℕ) (s t : SinkState) (resu
 answered_unfit request bs s t result h e = let a = answered_as request bs s t result Unfit h e (λ x. cc) (λ x. cc) in ((a.1).0, (a.1).1, a.0, (a.1).2, a.2)
 
 -- a write that failed broke off the text of the answer
-pub answered_cut_off : (request : Request) (bs : List ℕ) (s t : SinkState) (result : Status) → Answered request bs s t result → result ≡ WriteFault → (status : Status) × (out : List ℕ) × Answers request bs status out × BrokenOff s t out
+pub answered_cut_off : (request : Request) (bs : List ℕ) (s t : SinkState) (result : Status) → Answered request bs s t result → result ≡ WriteFault → (status : Status) × (out : List ℕ) × InputAnswers request bs status out × BrokenOff s t out
 answered_cut_off request bs s t result (inl n) e = absurd (let x : NoMemory ≡ WriteFault = sym n ∙ e in cc)
-answered_cut_off request bs s t result (inr (wanted, out, a, inl d)) e = absurd ((subst (λ w. Answers request bs w out) (sym d.0 ∙ e) a).2)
+answered_cut_off request bs s t result (inr (wanted, out, a, inl d)) e = absurd ((subst (λ w. InputAnswers request bs w out) (sym d.0 ∙ e) a).3)
 answered_cut_off request bs s t result (inr (wanted, out, a, inr b)) e = (wanted, out, a, b.1)
 
-pub answered_complete : (request : Request) → OneNeed → (bs : List ℕ) → OneReading bs → (s t : SinkState) (result status : Status) (out : List ℕ) → Answered request bs s t result → Answers request bs status out → (Rose s.faults t.faults → ⊥) → (result ≡ status) ⊎ (result ≡ NoMemory)
+pub answered_complete : (request : Request) → OneNeed → (bs : List ℕ) → OneReading bs → (s t : SinkState) (result status : Status) (out : List ℕ) → Answered request bs s t result → InputAnswers request bs status out → (Rose s.faults t.faults → ⊥) → (result ≡ status) ⊎ (result ≡ NoMemory)
 answered_complete request needs bs one s t result status out (inl n) a h = inr n
 answered_complete request needs bs one s t result status out (inr (wanted, text, b, inl d)) a h = inl (d.0 ∙ one_answer request needs bs one wanted status text out b a)
 answered_complete request needs bs one s t result status out (inr (wanted, text, b, inr c)) a h = absurd (h (c.1).rose)
@@ -196,7 +196,14 @@ settled_input request bytes g s t result h (inl n) = inl n
 settled_input request bytes g s t result h (inr (Done, out, j, d)) = inr (Done, out, (g, h, j), d)
 settled_input request bytes g s t result h (inr (Unfit, out, j, d)) = inr (Unfit, out, (g, h, j), d)
 settled_input request bytes g s t result h (inr (Slots, out, j, d)) = inr (Slots, out, (g, h, j), d)
-settled_input request bytes g s t result h (inr (_, out, j, d)) = absurd j
+settled_input request bytes g s t result h (inr (_, out, j, d)) = absurd j.1
+
+-- what becomes of a graph that was read and is accepted
+pub served_settled : (request : Request) (g h : GraphValue) (s t : SinkState) (result : Status) → g ≡ h → Accepted h → Serves request g s t result → Settled request h s t result
+served_settled request g h s t result e a (inl n) = inl n
+served_settled request g h s t result e a (inr (Done, out, w, d)) = inr (Done, out, (a, subst (λ x. Served request x Done out) e w), d)
+served_settled request g h s t result e a (inr (Slots, out, w, d)) = inr (Slots, out, (a, subst (λ x. Served request x Slots out) e w), d)
+served_settled request g h s t result e a (inr (_, out, w, d)) = absurd w
 
 -- how lines end by paths, of the graph that was answered
 pub ends_by_paths : WaitsWhereReached → CancelledWhereUnbroken → (bytes : List ℕ) → OneReading bytes → (g : GraphValue) → GraphText bytes g → Accepted g → (h : GraphValue) → GraphText bytes h → EndsByPaths h

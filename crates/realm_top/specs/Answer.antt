@@ -1,5 +1,5 @@
--- What a request is to answer, and what it is to write, by the bytes of its input.
-use Rattle.std.specs.Prelude.{◌≡◌, ℕ, ◌<◌, ◌≤◌, nat_lt, Bool, true, false, List, [], ◌++◌, length, Option, Some, ◌⊎◌, ◌↔◌}
+-- What a request is to answer, and what it is to write, by the bytes of its input where it has one.
+use Rattle.std.specs.Prelude.{◌≡◌, ℕ, ◌<◌, ◌≤◌, nat_lt, Bool, true, false, not, List, [], ◌++◌, length, Option, Some, ◌⊎◌, ◌↔◌}
 use Rattle.std.specs.Option.{option_map}
 use Rattle.realm_io.specs.Counts.{Rose}
 use Rattle.realm_io.specs.Told.{with_more, TookPrefix}
@@ -12,15 +12,16 @@ use Rattle.graph_model.specs.Evaluation.{eval_end, outcome, order, Unbroken}
 use Rattle.race_check.specs.declared.checked.CheckRefusal.{CheckRefusal}
 use Rattle.race_check.specs.Refusal.{IsRefusal}
 use Rattle.command_line.specs.declared.request.Action.{Action}
-use Rattle.command_line.specs.declared.request.Action.TheVariants.{Run, Check, Eval}
+use Rattle.command_line.specs.declared.request.Action.TheVariants.{Run, Check, Eval, Make}
 use Rattle.command_line.specs.declared.request.Request.{Request}
 use Rattle.realm_trace.specs.Text.{trace_text}
 use Rattle.realm_top.specs.declared.status.Status.{Status}
 use Rattle.realm_top.specs.declared.status.Status.TheVariants.{Done, Unread, Unfit, WriteFault, NoMemory, Slots, TooLong}
 use Rattle.graph_model.specs.declared.verb.Why.{Why}
-use Rattle.graph_reader.specs.Text.{GraphText}
+use Rattle.graph_reader.specs.Text.{GraphText, text}
 use Rattle.graph_reader.specs.FirstFault.{FirstFault}
-use Rattle.realm_top.specs.Texts.{report, unread_text, too_long_text, accepted_text, unfit_text, slots_text}
+use Rattle.graph_gen.specs.MadeGraph.{made_graph}
+use Rattle.realm_top.specs.Texts.{report, made_text, unread_text, too_long_text, accepted_text, unfit_text, slots_text}
 use Rattle.realm_io.specs.Written.{SinkState}
 
 -- the text that is the report of the one-thread evaluation of a graph
@@ -54,32 +55,72 @@ trace_part false g = []
 abbrev pub evaluation_text : Bool → GraphValue → List ℕ
 evaluation_text traced g = evaluation_report g ++ trace_part traced g
 
--- the text of an action on an accepted graph with this need
-abbrev pub says : Action → Request → GraphValue → ℕ → List ℕ
-says Run request g need = evaluation_text request.trace g
-says Eval request g need = evaluation_text request.trace g
-says Check request g need = accepted_text need
+-- whether an action reads a graph
+abbrev pub reads : Action → Bool
+reads Make = false
+reads _ = true
+
+-- whether a graph is run: by `run`, and by `make` where the graph's text is not asked for
+abbrev pub runs : Action → Bool → Bool
+runs Run texted = true
+runs Make texted = not texted
+runs _ texted = false
 
 -- a run that is given fewer slots than the need
-abbrev pub is_short_by : Action → Option ℕ → ℕ → Bool
-is_short_by Run (Some slots) need = nat_lt slots need
+abbrev pub is_short_by : Bool → Option ℕ → ℕ → Bool
+is_short_by true (Some slots) need = nat_lt slots need
 is_short_by _ _ need = false
 
 abbrev pub is_short : Request → ℕ → Bool
-is_short request need = is_short_by request.action request.slots need
+is_short request need = is_short_by (runs request.action request.text) request.slots need
 
--- what becomes of a graph, and the text that goes with it
+-- what is written of a graph that was made: its text where that is asked for, else the line that sums up its evaluation
+abbrev pub made_says : Bool → GraphValue → List ℕ
+made_says true g = text g
+made_says false g = made_text g (outcome g (order g))
+
+-- what an action writes of an accepted graph with this need
+abbrev pub Says : Action → Request → GraphValue → ℕ → List ℕ → Type 0
+Says Run request g need out = out ≡ evaluation_text request.trace g
+Says Eval request g need out = out ≡ evaluation_text request.trace g
+Says Check request g need out = out ≡ accepted_text need
+Says Make request g need out = out ≡ made_says false g
+
+-- what becomes of an accepted graph, and the text that goes with it
+abbrev pub Served : Request → GraphValue → Status → List ℕ → Type 0
+Served request g Done out = (need : ℕ) × IsNeed g need × (is_short request need ≡ false) × Says request.action request g need out
+Served request g Slots out = (need : ℕ) × IsNeed g need × (is_short request need ≡ true) × (out ≡ slots_text need)
+Served request g _ out = ⊥
+
+-- what becomes of a graph that was read, and the text that goes with it
 abbrev pub Judged : Request → GraphValue → Status → List ℕ → Type 0
-Judged request g Done out = Accepted g × (need : ℕ) × IsNeed g need × (is_short request need ≡ false) × (out ≡ says request.action request g need)
-Judged request g Slots out = Accepted g × (need : ℕ) × IsNeed g need × (is_short request need ≡ true) × (out ≡ slots_text need)
 Judged request g Unfit out = IsUnfit g out
-Judged request g _ out = ⊥
+Judged request g status out = Accepted g × Served request g status out
 
 -- the answer to an input of these bytes, and the text that goes with it
+abbrev pub InputAnswers : Request → List ℕ → Status → List ℕ → Type 0
+InputAnswers request bytes Unread out = (length bytes ≤ 1048576) × IsRefused bytes out
+InputAnswers request bytes TooLong out = (1048576 < length bytes) × (out ≡ too_long_text)
+InputAnswers request bytes status out = (g : GraphValue) × GraphText bytes g × Judged request g status out
+
+-- the answer where a graph is made, and the text that goes with it: the graph's text is written where that is asked for, and nothing is checked or run then
+abbrev pub MadeAnswers : Bool → Request → GraphValue → Status → List ℕ → Type 0
+MadeAnswers true request g Done out = out ≡ made_says true g
+MadeAnswers true request g _ out = ⊥
+MadeAnswers false request g status out = Served request g status out
+
+-- the bytes that an action works on: all that the source has left, or none where nothing is read
+abbrev pub IsInput : Action → Option (List ℕ) → List ℕ → Type 0
+IsInput Make left bytes = bytes ≡ []
+IsInput _ left bytes = left ≡ Some bytes
+
+-- the answer to a request with these bytes, and the text that goes with it
+abbrev pub AnswersBy : Action → Request → List ℕ → Status → List ℕ → Type 0
+AnswersBy Make request bytes status out = MadeAnswers request.text request (made_graph request.seed request.size) status out
+AnswersBy _ request bytes status out = InputAnswers request bytes status out
+
 abbrev pub Answers : Request → List ℕ → Status → List ℕ → Type 0
-Answers request bytes Unread out = (length bytes ≤ 1048576) × IsRefused bytes out
-Answers request bytes TooLong out = (1048576 < length bytes) × (out ≡ too_long_text)
-Answers request bytes status out = (g : GraphValue) × GraphText bytes g × Judged request g status out
+Answers request bytes status out = AnswersBy request.action request bytes status out
 
 -- all of the text was taken, and all that was taken is flushed
 pub record Delivered (old new : SinkState) (out : List ℕ) : Type 0 where
@@ -98,10 +139,19 @@ pub record BrokenOff (old new : SinkState) (out : List ℕ) : Type 0 where
 abbrev pub Delivers : SinkState → SinkState → Status → Status → List ℕ → Type 0
 Delivers old new wanted result out = ((result ≡ wanted) × Delivered old new out) ⊎ ((result ≡ WriteFault) × BrokenOff old new out)
 
--- a graph was answered, unless memory ran out
+-- an accepted graph was answered, unless memory ran out
+abbrev pub Serves : Request → GraphValue → SinkState → SinkState → Status → Type 0
+Serves request g old new result = (result ≡ NoMemory) ⊎ ((wanted : Status) × (out : List ℕ) × Served request g wanted out × Delivers old new wanted result out)
+
+-- a graph that was read was answered, unless memory ran out
 abbrev pub Settled : Request → GraphValue → SinkState → SinkState → Status → Type 0
 Settled request g old new result = (result ≡ NoMemory) ⊎ ((wanted : Status) × (out : List ℕ) × Judged request g wanted out × Delivers old new wanted result out)
 
 -- an input of these bytes was answered, unless memory ran out
 abbrev pub Answered : Request → List ℕ → SinkState → SinkState → Status → Type 0
-Answered request bytes old new result = (result ≡ NoMemory) ⊎ ((wanted : Status) × (out : List ℕ) × Answers request bytes wanted out × Delivers old new wanted result out)
+Answered request bytes old new result = (result ≡ NoMemory) ⊎ ((wanted : Status) × (out : List ℕ) × InputAnswers request bytes wanted out × Delivers old new wanted result out)
+
+-- a request to make a graph was answered, unless memory ran out
+abbrev pub MadeAnswered : Request → SinkState → SinkState → Status → Type 0
+MadeAnswered request old new result = (result ≡ NoMemory)
+    ⊎ ((wanted : Status) × (out : List ℕ) × MadeAnswers request.text request (made_graph request.seed request.size) wanted out × Delivers old new wanted result out)

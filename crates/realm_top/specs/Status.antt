@@ -1,5 +1,5 @@
 -- The exit statuses.
-use Rattle.std.specs.Prelude.{ℕ}
+use Rattle.std.specs.Prelude.{ℕ, Bool, true, false}
 use Rattle.command_line.specs.declared.WordsFault.{WordsFault}
 use Rattle.command_line.specs.declared.WordsFault.TheVariants as fault
 use Rattle.realm_top.specs.declared.status.Status.{Status}
@@ -21,3 +21,11 @@ exit_number TooLong = 9
 abbrev pub words_status : WordsFault → Status
 words_status fault.Usage = Usage
 words_status fault.NoMemory = NoMemory
+
+-- the statuses that speak of an input
+abbrev pub is_of_input : Status → Bool
+is_of_input Unread = true
+is_of_input Unfit = true
+is_of_input ReadFault = true
+is_of_input TooLong = true
+is_of_input _ = false

@@ -1,5 +1,5 @@
 -- The texts that are written.
-use Rattle.std.specs.Prelude.{◌≡◌, ℕ, ◌+◌, Bool, true, false, List, [], ◌∷◌, ◌++◌, length, map, take, drop, Option, Some, None, codes, decimal}
+use Rattle.std.specs.Prelude.{◌≡◌, ℕ, ◌+◌, Bool, true, false, List, [], ◌∷◌, ◌++◌, length, map, take, drop, count_by, sum, sum_by, Option, Some, None, codes, decimal}
 use Rattle.index_spaces.specs.Space.{interval_points}
 use Rattle.index_spaces.specs.Column.{ColumnValue}
 use Rattle.graph_model.specs.declared.outcome.Outcome.{Outcome}
@@ -10,6 +10,7 @@ use Rattle.graph_model.specs.declared.outcome.Answer.TheVariants.{Triggered, Poi
 use Rattle.graph_model.specs.declared.verb.Line.{Line}
 use Rattle.graph_model.specs.declared.verb.Why.{Why}
 use Rattle.graph_model.specs.declared.verb.Why.TheVariants.{Header, Syntax, Name, Twice, Unknown, Kind, Number, Space, Outside, Arrivals, Limit, Missing, Rest}
+use Rattle.graph_model.specs.Effect.{wrapped}
 use Rattle.graph_model.specs.Graph.{GraphValue, is_phase, columns}
 use Rattle.graph_model.specs.Spelling.{spelled, column_name, line_name, interval_word}
 use Rattle.race_check.specs.declared.checked.CheckRefusal.{CheckRefusal}
@@ -68,6 +69,27 @@ column_texts g c (x ∷ xs) = cells_texts (column_name g c) x.space x.cells ++ c
 -- the report of an outcome
 abbrev pub report : GraphValue → Outcome → List ℕ
 report g o = codes "realm-report 1\n" ++ (op_texts g.lines o.ends o.answers ++ (phase_texts g.lines o.phases ++ (column_texts g 0 o.columns ++ codes "done\n")))
+
+-- whether two ends are one
+abbrev pub same_end : End → End → Bool
+same_end Done Done = true
+same_end Faulted Faulted = true
+same_end Cancelled Cancelled = true
+same_end Waiting Waiting = true
+same_end _ _ = false
+
+-- how many lines of an outcome ended so
+abbrev pub ended_so : End → Outcome → ℕ
+ended_so end o = count_by (same_end end) o.ends
+
+-- the sum of all cells of columns, modulo 2^64
+abbrev pub cell_sum : List ColumnValue → ℕ
+cell_sum cs = wrapped (sum_by (λ (c : ColumnValue). sum c.cells) cs)
+
+-- the line that sums up the outcome of a graph that was made: how many lines it has, how many of them ended in each way, and the sum of the cells
+abbrev pub made_text : GraphValue → Outcome → List ℕ
+made_text g o = spelled (codes "made" ∷ codes "ops" ∷ decimal (length g.lines) ∷ codes "done" ∷ decimal (ended_so Done o) ∷ codes "faulted" ∷ decimal (ended_so Faulted o)
+    ∷ codes "cancelled" ∷ decimal (ended_so Cancelled o) ∷ codes "waiting" ∷ decimal (ended_so Waiting o) ∷ codes "sum" ∷ decimal (cell_sum o.columns) ∷ [])
 
 -- the lists of an outcome are as long as the graph's
 pub record FitsGraph (g : GraphValue) (o : Outcome) : Type 0 where

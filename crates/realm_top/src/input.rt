@@ -8,11 +8,12 @@ ghost use Rattle.graph_reader.specs.declared.ReadRefusal.TheVariants.{Line};
 ghost use Rattle.race_check.specs.Refusal.{IsRefusal, NamesLines};
 ghost use Rattle.realm_io.specs.Written.{sink_state, Writes};
 ghost use Rattle.realm_top.specs.Texts.{unread_text, accepted_text, slots_text};
-ghost use Rattle.realm_top.specs.Answer.{evaluation_text, is_short, Answered, Settled, Delivers};
+ghost use Rattle.realm_top.specs.Answer.{evaluation_text, made_says, runs, is_short, Answered, Serves, Settled, Delivers};
 
 use crate::refusal::{put_accepted, put_broken, put_slots, put_unread};
 use crate::report::put_parts;
 use crate::status::Status;
+use crate::summary::put_summary;
 use command_line::request::{Action, Request};
 use graph_model::graph::Graph;
 use graph_model::outcome::Outcome;
@@ -49,8 +50,13 @@ fn judge<K: Sink>(alloc: Global, request: Request, graph: Graph, sink: &mut K) -
 }
 
 /// Does what is asked for with a graph that is accepted.
-fn serve<K: Sink>(alloc: Global, request: Request, checked: &Checked, sink: &mut K) -> Status
-    ensures settled { Settled request checked.now.graph (sink_state K.taken K.flushed K.faults sink.old) (sink_state K.taken K.flushed K.faults sink.new) result }
+pub(crate) fn serve<K: Sink>(
+    alloc: Global,
+    request: Request,
+    checked: &Checked,
+    sink: &mut K,
+) -> Status
+    ensures served { Serves request checked.now.graph (sink_state K.taken K.flushed K.faults sink.old) (sink_state K.taken K.flushed K.faults sink.new) result }
     ensures no_memory { result ≡ Status.NoMemory → sink.new ≡ sink.old }
 {
     let _ = checked.graph();
@@ -61,6 +67,18 @@ fn serve<K: Sink>(alloc: Global, request: Request, checked: &Checked, sink: &mut
         Action::Run => evaluate(alloc, request.trace, checked, sink),
         Action::Eval => evaluate(alloc, request.trace, checked, sink),
         Action::Check => put_need(sink, checked.need()),
+        Action::Make => sum_up(alloc, checked, sink),
+    }
+}
+
+/// Whether a graph is run.
+fn is_run(request: &Request) -> bool
+    ensures { result ≡ runs request.now.action request.now.text }
+{
+    match request.action {
+        Action::Run => true,
+        Action::Make => !request.text,
+        Action::Check | Action::Eval => false,
     }
 }
 
@@ -68,9 +86,23 @@ fn serve<K: Sink>(alloc: Global, request: Request, checked: &Checked, sink: &mut
 fn is_short(request: &Request, need: u32) -> bool
     ensures { result ≡ is_short request.now need }
 {
-    match (request.action, request.slots) {
-        (Action::Run, Some(slots)) => slots < need,
+    match (is_run(request), request.slots) {
+        (true, Some(slots)) => slots < need,
         _ => false,
+    }
+}
+
+/// Evaluates a graph that was made, and writes the line that sums that up.
+fn sum_up<K: Sink>(alloc: Global, checked: &Checked, sink: &mut K) -> Status
+    ensures done { (result ≡ Status.NoMemory) ⊎ Delivers (sink_state K.taken K.flushed K.faults sink.old) (sink_state K.taken K.flushed K.faults sink.new) Status.Done result (made_says false checked.now.graph) }
+    ensures no_memory { result ≡ Status.NoMemory → sink.new ≡ sink.old }
+{
+    let Ok(outcome) = eval(alloc, checked) else {
+        return Status::NoMemory;
+    };
+    match put_summary(sink, checked.graph(), &outcome) {
+        Ok(()) => flush(sink, Status::Done),
+        Err(_) => Status::WriteFault,
     }
 }
 
@@ -182,7 +214,7 @@ pub(crate) fn put_text<K: Sink>(sink: &mut K, text: &[u8], status: Status) -> St
 }
 
 /// Flushes a text that was written.
-fn flush<K: Sink>(sink: &mut K, status: Status) -> Status
+pub(crate) fn flush<K: Sink>(sink: &mut K, status: Status) -> Status
     ensures { Delivers (sink_state K.taken K.flushed K.faults sink.old) (sink_state K.taken K.flushed K.faults sink.new) status result [] }
 {
     match sink.flush() {

@@ -1,4 +1,4 @@
-//! The top call: from the bytes of a graph to the bytes of its report.
+//! The top call: from the words of the command line, and the bytes of a graph, to the bytes of the answer.
 #![tactic(auto)]
 
 #[cfg(test)]
@@ -6,9 +6,13 @@ mod checks;
 mod input;
 #[cfg(test)]
 mod limits;
+#[cfg(test)]
+mod makes;
+mod making;
 mod refusal;
 pub mod report;
 pub mod status;
+mod summary;
 #[cfg(test)]
 mod support;
 #[cfg(test)]
@@ -25,13 +29,16 @@ ghost use Rattle.command_line.specs.Request.{request_of};
 ghost use Rattle.command_line.specs.declared.request.Request.{Request};
 ghost use Rattle.graph_model.specs.Need.{IsNeed};
 ghost use Rattle.realm_top.specs.Texts.{too_long_text, slots_text};
-ghost use Rattle.realm_top.specs.Answer.{IsRefused, IsUnfit, says, is_short, EndsByPaths, Answers, Delivered, BrokenOff};
-ghost use Rattle.realm_top.specs.Status.{words_status};
+ghost use Rattle.graph_gen.specs.MadeGraph.{made_graph};
+ghost use Rattle.realm_top.specs.Answer.{IsRefused, IsUnfit, reads, Says, made_says, is_short, EndsByPaths, IsInput, Answers, Delivered, BrokenOff};
+ghost use Rattle.realm_top.specs.Status.{words_status, is_of_input};
 ghost use Rattle.realm_io.specs.Written.{sink_state};
 ghost use Rattle.realm_top.specs.declared.status.Status.{Status};
 
 use crate::input::{answer, put_text};
+use crate::making::answer_made;
 use crate::status::Status;
+use command_line::request::Action;
 use command_line::{WordsFault, read_words};
 use graph_model::laws::{cancelled_where_unbroken, waits_where_reached};
 use graph_reader::laws::bytes_have_one_reading;
@@ -42,7 +49,8 @@ use std::alloc::Global;
 // The most bytes that an input may have.
 const INPUT_LIMIT: u32 = 1_048_576;
 
-/// Does what the words ask for: it reads a graph, checks it, and writes its report or its need.
+/// Does what the words ask for. `run`, `check` and `eval` read a graph and check it; `make` reads
+/// nothing and makes a graph of the seed and the size.
 ///
 /// `words` are the program's name, the word of the action, and options. The runtime and the gate are for the workers that
 /// later run a graph; they have no effect yet.
@@ -54,18 +62,27 @@ pub fn realm<R, S: Source, K: Sink, G: Gate>(
     sink: &mut K,
     _gate: &G,
 ) -> Status
-    // Done: the input is the one text of a graph that is accepted, and the text of the action was written and flushed: for `run` and `eval` the report of the graph's one-thread evaluation, followed by its order as the trace where that is asked for, for `check` its need.
-    ensures done { result ≡ Status.Done → IfSome (S.left source.old) (λ bytes. (request : Request) × (request_of (map (λ word. string_bytes word) words.now) ≡ Some request)
-        × (g : GraphValue) × GraphText bytes g × Accepted g × (need : ℕ) × IsNeed g need × (is_short request need ≡ false)
-        × Delivered (sink_state K.taken K.flushed K.faults sink.old) (sink_state K.taken K.flushed K.faults sink.new) (says request.action request g need)) }
+    // Done, of an action that reads: the input is the one text of a graph that is accepted, and the text of the action was written and flushed: for `run` and `eval` the report of the graph's one-thread evaluation, followed by its order as the trace where that is asked for, for `check` its need.
+    ensures done { result ≡ Status.Done → (request : Request) × (request_of (map (λ word. string_bytes word) words.now) ≡ Some request) × (reads request.action ≡ true → IfSome (S.left source.old) (λ bytes.
+        (g : GraphValue) × GraphText bytes g × Accepted g × (need : ℕ) × IsNeed g need × (is_short request need ≡ false)
+        × (out : List ℕ) × Says request.action request g need out × Delivered (sink_state K.taken K.flushed K.faults sink.old) (sink_state K.taken K.flushed K.faults sink.new) out)) }
 
     // Of that graph: a line waits exactly where one that never comes reaches it, and a line is cancelled exactly where an unbroken path from a fault reaches it.
-    ensures paths { result ≡ Status.Done → IfSome (S.left source.old) (λ bytes. (g : GraphValue) → GraphText bytes g → EndsByPaths g) }
+    ensures paths { result ≡ Status.Done → (request : Request) × (request_of (map (λ word. string_bytes word) words.now) ≡ Some request) × (reads request.action ≡ true → IfSome (S.left source.old) (λ bytes. (g : GraphValue) → GraphText bytes g → EndsByPaths g)) }
+
+    // Done, of `make`: of the generated graph of the seed and the size the line that sums up its evaluation was written and flushed, or its text where that is asked for.
+    ensures made { result ≡ Status.Done → (request : Request) × (request_of (map (λ word. string_bytes word) words.now) ≡ Some request) × (reads request.action ≡ false → Delivered (sink_state K.taken K.flushed K.faults sink.old) (sink_state K.taken K.flushed K.faults sink.new) (made_says request.text (made_graph request.seed request.size))) }
+
+    // `make` leaves the source as it was.
+    ensures source { (request : Request) → request_of (map (λ word. string_bytes word) words.now) ≡ Some request → reads request.action ≡ false → source.new ≡ source.old }
 
     // Usage: exactly where the words are no command line of the program, want of memory aside; nothing is read or written.
     ensures usage { result ≡ Status.Usage → request_of (map (λ word. string_bytes word) words.now) ≡ None }
     ensures refused_words { request_of (map (λ word. string_bytes word) words.now) ≡ None → (result ≡ Status.Usage) ⊎ (result ≡ Status.NoMemory) }
     ensures untouched { result ≡ Status.Usage → (source.new ≡ source.old) × (sink.new ≡ sink.old) }
+
+    // Unread, Unfit, TooLong and ReadFault: only where the action reads.
+    ensures of_input { is_of_input result ≡ true → (request : Request) × (request_of (map (λ word. string_bytes word) words.now) ≡ Some request) × (reads request.action ≡ true) }
 
     // Unread: the input is the text of no graph; its first refused line and the reason were written and flushed.
     ensures unread { result ≡ Status.Unread → IfSome (S.left source.old) (λ bytes. (out : List ℕ) × IsRefused bytes out
@@ -75,10 +92,11 @@ pub fn realm<R, S: Source, K: Sink, G: Gate>(
     ensures unfit { result ≡ Status.Unfit → IfSome (S.left source.old) (λ bytes. (g : GraphValue) × GraphText bytes g × (out : List ℕ) × IsUnfit g out
         × Delivered (sink_state K.taken K.flushed K.faults sink.old) (sink_state K.taken K.flushed K.faults sink.new) out) }
 
-    // Slots: the action is `run`, and fewer slots were given than the graph needs; the need was written and flushed.
-    ensures slots { result ≡ Status.Slots → IfSome (S.left source.old) (λ bytes. (request : Request) × (request_of (map (λ word. string_bytes word) words.now) ≡ Some request)
-        × (g : GraphValue) × GraphText bytes g × Accepted g × (need : ℕ) × IsNeed g need × (is_short request need ≡ true)
-        × Delivered (sink_state K.taken K.flushed K.faults sink.old) (sink_state K.taken K.flushed K.faults sink.new) (slots_text need)) }
+    // Slots: a graph that was read is to be run, or one that was made, and fewer slots were given than it needs; the need was written and flushed.
+    ensures slots { result ≡ Status.Slots → (request : Request) × (request_of (map (λ word. string_bytes word) words.now) ≡ Some request) × (reads request.action ≡ true → IfSome (S.left source.old) (λ bytes.
+        (g : GraphValue) × GraphText bytes g × Accepted g × (need : ℕ) × IsNeed g need × (is_short request need ≡ true) × Delivered (sink_state K.taken K.flushed K.faults sink.old) (sink_state K.taken K.flushed K.faults sink.new) (slots_text need))) }
+    ensures made_slots { result ≡ Status.Slots → (request : Request) × (request_of (map (λ word. string_bytes word) words.now) ≡ Some request) × (reads request.action ≡ false →
+        (need : ℕ) × IsNeed (made_graph request.seed request.size) need × (is_short request need ≡ true) × Delivered (sink_state K.taken K.flushed K.faults sink.old) (sink_state K.taken K.flushed K.faults sink.new) (slots_text need)) }
 
     // TooLong: more than 1,048,576 bytes were left, and that was written and flushed.
     ensures too_long { result ≡ Status.TooLong → IfSome (S.left source.old) (λ bytes. (1048576 < length bytes)
@@ -87,17 +105,16 @@ pub fn realm<R, S: Source, K: Sink, G: Gate>(
     // ReadFault: a fault of reading was counted in this call, and nothing was written.
     ensures read_fault { result ≡ Status.ReadFault → Rose (S.faults source.old) (S.faults source.new) × (sink.new ≡ sink.old) }
 
-    // WriteFault: a fault of writing was counted in this call, and a prefix was taken of the text that the input gives without it.
+    // WriteFault: a fault of writing was counted in this call, and a prefix was taken of the text that is written without it.
     ensures write_fault { result ≡ Status.WriteFault → Rose (K.faults sink.old) (K.faults sink.new) }
-    ensures cut_off { result ≡ Status.WriteFault → IfSome (S.left source.old) (λ bytes. (request : Request) × (request_of (map (λ word. string_bytes word) words.now) ≡ Some request)
-        × (status : Status) × (out : List ℕ) × Answers request bytes status out
-        × BrokenOff (sink_state K.taken K.flushed K.faults sink.old) (sink_state K.taken K.flushed K.faults sink.new) out) }
+    ensures cut_off { result ≡ Status.WriteFault → (request : Request) × (request_of (map (λ word. string_bytes word) words.now) ≡ Some request) × ((bytes : List ℕ) → IsInput request.action (S.left source.old) bytes
+        → (status : Status) × (out : List ℕ) × Answers request bytes status out × BrokenOff (sink_state K.taken K.flushed K.faults sink.old) (sink_state K.taken K.flushed K.faults sink.new) out) }
 
     // NoMemory: before anything was written.
     ensures no_memory { result ≡ Status.NoMemory → sink.new ≡ sink.old }
 
-    // What the words ask of the input is done, unless a fault was counted or memory ran out.
-    ensures complete { (request : Request) (bytes out : List ℕ) (status : Status) → request_of (map (λ word. string_bytes word) words.now) ≡ Some request → S.left source.old ≡ Some bytes → Answers request bytes status out
+    // What the words ask for is done, unless a fault was counted or memory ran out.
+    ensures complete { (request : Request) (bytes out : List ℕ) (status : Status) → request_of (map (λ word. string_bytes word) words.now) ≡ Some request → IsInput request.action (S.left source.old) bytes → Answers request bytes status out
         → ¬ (Rose (S.faults source.old) (S.faults source.new)) → ¬ (Rose (K.faults sink.old) (K.faults sink.new)) → (result ≡ status) ⊎ (result ≡ Status.NoMemory) }
 
     ensures counts { (S.faults source.old ≤ S.faults source.new) × (K.faults sink.old ≤ K.faults sink.new) }
@@ -110,6 +127,9 @@ pub fn realm<R, S: Source, K: Sink, G: Gate>(
         Ok(request) => request,
         Err(fault) => return words_status(fault),
     };
+    if !reads(request.action) {
+        return answer_made(alloc, request, sink);
+    }
     match read_all(alloc, source, INPUT_LIMIT) {
         Ok(bytes) => answer(alloc, request, bytes.as_slice(), sink),
         Err(ReadEnd::TooLong) => put_text(sink, b"input too long\n", Status::TooLong),
@@ -125,5 +145,15 @@ fn words_status(fault: WordsFault) -> Status
     match fault {
         WordsFault::Usage => Status::Usage,
         WordsFault::NoMemory => Status::NoMemory,
+    }
+}
+
+/// Whether an action reads a graph.
+fn reads(action: Action) -> bool
+    ensures { result ≡ reads action }
+{
+    match action {
+        Action::Run | Action::Check | Action::Eval => true,
+        Action::Make => false,
     }
 }

@@ -1,0 +1,169 @@
+-- What follows for the answers where a graph is made, and for those where one is read.
+use Rattle.std.proofs.Common.{◌≡◌, ◌≢◌, ℕ, List, [], refl, sym, ◌∙◌, ap, subst, inl, inr}
+use Rattle.std.specs.Prelude.{Bool, true, false, Option, Some, None, ◌⊎◌}
+use Rattle.std.proofs.lemmas.Bool.{true≢false, false≢true}
+use Rattle.realm_io.specs.Counts.{Rose}
+use Rattle.realm_io.specs.Written.{SinkState}
+use Rattle.command_line.specs.declared.request.Request.{Request}
+use Rattle.command_line.specs.declared.request.Action.{Action}
+use Rattle.command_line.specs.declared.request.Action.TheVariants.{Run, Check, Eval, Make}
+use Rattle.graph_model.specs.Graph.{GraphValue}
+use Rattle.graph_model.specs.Need.{IsNeed}
+use Rattle.graph_model.specs.Evaluation.{outcome, order}
+use Rattle.graph_model.specs.declared.outcome.Outcome.{Outcome}
+use Rattle.graph_reader.specs.Text.{text}
+use Rattle.race_check.specs.Laws.{OneNeed}
+use Rattle.graph_gen.specs.MadeGraph.{made_graph}
+use Rattle.realm_top.specs.declared.status.Status.{Status}
+use Rattle.realm_top.specs.declared.status.Status.TheVariants.{Done, Usage, Unread, Unfit, ReadFault, WriteFault, NoMemory, Slots, TooLong}
+use Rattle.realm_top.specs.Status.{is_of_input}
+use Rattle.realm_top.specs.Texts.{slots_text, made_text}
+use Rattle.realm_top.specs.Answer.{reads, is_short, made_says, Says, Served, InputAnswers, MadeAnswers, IsInput, AnswersBy, Answers, Serves, Answered, MadeAnswered, Delivered, BrokenOff, Delivers}
+
+-- an action that reads answers its input
+input_by : (x : Action) (request : Request) → reads x ≡ true → (bytes : List ℕ) (status : Status) (out : List ℕ) → AnswersBy x request bytes status out → InputAnswers request bytes status out
+input_by Run request r bytes status out a = a
+input_by Check request r bytes status out a = a
+input_by Eval request r bytes status out a = a
+input_by Make request r bytes status out a = absurd (false≢true r)
+
+by_input : (x : Action) (request : Request) → reads x ≡ true → (bytes : List ℕ) (status : Status) (out : List ℕ) → InputAnswers request bytes status out → AnswersBy x request bytes status out
+by_input Run request r bytes status out a = a
+by_input Check request r bytes status out a = a
+by_input Eval request r bytes status out a = a
+by_input Make request r bytes status out a = absurd (false≢true r)
+
+pub of_input : (request : Request) → reads request.action ≡ true → (bytes : List ℕ) (status : Status) (out : List ℕ) → Answers request bytes status out → InputAnswers request bytes status out
+of_input request = input_by request.action request
+
+pub to_input : (request : Request) → reads request.action ≡ true → (bytes : List ℕ) (status : Status) (out : List ℕ) → InputAnswers request bytes status out → Answers request bytes status out
+to_input request = by_input request.action request
+
+-- and its input is what was left
+pub told : (x : Action) (left : Option (List ℕ)) (bytes : List ℕ) → reads x ≡ true → IsInput x left bytes → left ≡ Some bytes
+told Run left bytes r h = h
+told Check left bytes r h = h
+told Eval left bytes r h = h
+told Make left bytes r h = absurd (false≢true r)
+
+-- an action that reads nothing answers by what is made
+made_by : (x : Action) (request : Request) → reads x ≡ false → (bytes : List ℕ) (status : Status) (out : List ℕ) → AnswersBy x request bytes status out → MadeAnswers request.text request (made_graph request.seed request.size) status out
+made_by Run request r bytes status out a = absurd (true≢false r)
+made_by Check request r bytes status out a = absurd (true≢false r)
+made_by Eval request r bytes status out a = absurd (true≢false r)
+made_by Make request r bytes status out a = a
+
+by_made : (x : Action) (request : Request) → reads x ≡ false → (bytes : List ℕ) (status : Status) (out : List ℕ) → MadeAnswers request.text request (made_graph request.seed request.size) status out → AnswersBy x request bytes status out
+by_made Run request r bytes status out a = absurd (true≢false r)
+by_made Check request r bytes status out a = absurd (true≢false r)
+by_made Eval request r bytes status out a = absurd (true≢false r)
+by_made Make request r bytes status out a = a
+
+-- what it writes
+says_made : (x : Action) (request : Request) (g : GraphValue) (need : ℕ) (out : List ℕ) → reads x ≡ false → Says x request g need out → out ≡ made_says false g
+says_made Run request g need out r e = absurd (true≢false r)
+says_made Check request g need out r e = absurd (true≢false r)
+says_made Eval request g need out r e = absurd (true≢false r)
+says_made Make request g need out r e = e
+
+done_says : (texted : Bool) (request : Request) (g : GraphValue) (out : List ℕ) → reads request.action ≡ false → MadeAnswers texted request g Done out → out ≡ made_says texted g
+done_says true request g out r a = a
+done_says false request g out r a = says_made request.action request g a.0 out r a.3
+
+slots_says : (texted : Bool) (request : Request) (g : GraphValue) (out : List ℕ) → MadeAnswers texted request g Slots out → (need : ℕ) × IsNeed g need × (is_short request need ≡ true) × (out ≡ slots_text need)
+slots_says true request g out a = absurd a
+slots_says false request g out a = a
+
+true_false : (b : Bool) → b ≡ true → b ≡ false → ⊥
+true_false b t f = true≢false (sym t ∙ f)
+
+-- a graph that is made has one answer
+made_one : (texted : Bool) (request : Request) (g : GraphValue) → OneNeed → (s t : Status) (o p : List ℕ) → MadeAnswers texted request g s o → MadeAnswers texted request g t p → s ≡ t
+made_one true request g needs Done Done o p a b = refl
+made_one true request g needs Done _ o p a b = absurd b
+made_one true request g needs _ t o p a b = absurd a
+made_one false request g needs Done Done o p a b = refl
+made_one false request g needs Done Slots o p a b = absurd (true_false (is_short request a.0) (subst (λ k. is_short request k ≡ true) (needs g b.0 a.0 b.1 a.1) b.2) a.2)
+made_one false request g needs Done _ o p a b = absurd b
+made_one false request g needs Slots Done o p a b = absurd (true_false (is_short request b.0) (subst (λ k. is_short request k ≡ true) (needs g a.0 b.0 a.1 b.1) a.2) b.2)
+made_one false request g needs Slots Slots o p a b = refl
+made_one false request g needs Slots _ o p a b = absurd b
+made_one false request g needs _ t o p a b = absurd a
+
+-- it is answered by few statuses
+not_made : (texted : Bool) (request : Request) (g : GraphValue) (status : Status) (out : List ℕ) → (status ≢ Done) → (status ≢ Slots) → MadeAnswers texted request g status out → ⊥
+not_made true request g Done out d s a = d refl
+not_made true request g _ out d s a = a
+not_made false request g Done out d s a = d refl
+not_made false request g Slots out d s a = s refl
+not_made false request g _ out d s a = a
+
+made_as : (request : Request) (s t : SinkState) (result status : Status) → MadeAnswered request s t result → result ≡ status → (status ≢ NoMemory) → (status ≢ WriteFault) →
+    (out : List ℕ) × MadeAnswers request.text request (made_graph request.seed request.size) status out × Delivered s t out
+made_as request s t result status (inl n) e a b = absurd (a (sym e ∙ n))
+made_as request s t result status (inr (wanted, out, w, inl d)) e a b =
+    (out, subst (λ x. MadeAnswers request.text request (made_graph request.seed request.size) x out) (sym d.0 ∙ e) w, d.1)
+made_as request s t result status (inr (wanted, out, w, inr d)) e a b = absurd (b (sym e ∙ d.0))
+
+pub made_done : (request : Request) (s t : SinkState) (result : Status) → reads request.action ≡ false → MadeAnswered request s t result → result ≡ Done → Delivered s t (made_says request.text (made_graph request.seed request.size))
+made_done request s t result r h e =
+    let a = made_as request s t result Done h e (λ x. cc) (λ x. cc) in
+    subst (Delivered s t) (done_says request.text request (made_graph request.seed request.size) a.0 r a.1) a.2
+
+pub made_slots : (request : Request) (s t : SinkState) (result : Status) → MadeAnswered request s t result → result ≡ Slots →
+    (need : ℕ) × IsNeed (made_graph request.seed request.size) need × (is_short request need ≡ true) × Delivered s t (slots_text need)
+made_slots request s t result h e =
+    let a = made_as request s t result Slots h e (λ x. cc) (λ x. cc) in
+    let w = slots_says request.text request (made_graph request.seed request.size) a.0 a.1 in
+    (w.0, w.1, w.2, subst (Delivered s t) w.3 a.2)
+
+pub made_cut_off : (request : Request) (s t : SinkState) (result : Status) → reads request.action ≡ false → MadeAnswered request s t result → result ≡ WriteFault → (bytes : List ℕ) →
+    (status : Status) × (out : List ℕ) × Answers request bytes status out × BrokenOff s t out
+made_cut_off request s t result r (inl n) e bytes = absurd (let x : NoMemory ≡ WriteFault = sym n ∙ e in cc)
+made_cut_off request s t result r (inr (wanted, out, a, inl d)) e bytes =
+    absurd (not_made request.text request (made_graph request.seed request.size) WriteFault out (λ x. cc) (λ x. cc) (subst (λ w. MadeAnswers request.text request (made_graph request.seed request.size) w out) (sym d.0 ∙ e) a))
+made_cut_off request s t result r (inr (wanted, out, a, inr b)) e bytes = (wanted, out, by_made request.action request r bytes wanted out a, b.1)
+
+pub made_complete : (request : Request) → OneNeed → (bytes : List ℕ) (s t : SinkState) (result status : Status) (out : List ℕ) → reads request.action ≡ false → MadeAnswered request s t result → Answers request bytes status out →
+    (Rose s.faults t.faults → ⊥) → (result ≡ status) ⊎ (result ≡ NoMemory)
+made_complete request needs bytes s t result status out r (inl n) a h = inr n
+made_complete request needs bytes s t result status out r (inr (wanted, text, b, inl d)) a h =
+    inl (d.0 ∙ made_one request.text request (made_graph request.seed request.size) needs wanted status text out b (made_by request.action request r bytes status out a))
+made_complete request needs bytes s t result status out r (inr (wanted, text, b, inr c)) a h = absurd (h (c.1).rose)
+
+pub made_for : (s t : SinkState) (result : Status) (r q : Request) → r ≡ q → MadeAnswered r s t result → MadeAnswered q s t result
+made_for s t result r q e w = subst (λ x. MadeAnswered x s t result) e w
+
+-- and none of these statuses speaks of an input
+made_kind : (texted : Bool) (request : Request) (g : GraphValue) (status : Status) (out : List ℕ) → MadeAnswers texted request g status out → is_of_input status ≡ false
+made_kind true request g Done out a = refl
+made_kind true request g _ out a = absurd a
+made_kind false request g Done out a = refl
+made_kind false request g Slots out a = refl
+made_kind false request g _ out a = absurd a
+
+pub made_no_input : (request : Request) (s t : SinkState) (result : Status) → MadeAnswered request s t result → is_of_input result ≡ true → ⊥
+made_no_input request s t result (inl n) i = false≢true (sym (ap is_of_input n) ∙ i)
+made_no_input request s t result (inr (wanted, out, a, inl d)) i = false≢true (sym (ap is_of_input d.0 ∙ made_kind request.text request (made_graph request.seed request.size) wanted out a) ∙ i)
+made_no_input request s t result (inr (wanted, out, a, inr b)) i = false≢true (sym (ap is_of_input b.0) ∙ i)
+
+pub made_no_usage : (request : Request) (s t : SinkState) (result : Status) → MadeAnswered request s t result → result ≡ Usage → ⊥
+made_no_usage request s t result h e =
+    let a = made_as request s t result Usage h e (λ x. cc) (λ x. cc) in
+    not_made request.text request (made_graph request.seed request.size) Usage a.0 (λ x. cc) (λ x. cc) a.1
+
+-- the text of the graph that is made was written, or the graph was served
+pub text_answered : (request : Request) (s t : SinkState) (result : Status) (g : GraphValue) → request.text ≡ true → g ≡ made_graph request.seed request.size → Delivers s t Done result (text g) → MadeAnswered request s t result
+text_answered request s t result g r e d = inr (Done, text g, subst (λ b. MadeAnswers b request (made_graph request.seed request.size) Done (text g)) (sym r) (ap text e), d)
+
+pub serve_answered : (request : Request) (s t : SinkState) (result : Status) (g : GraphValue) → request.text ≡ false → g ≡ made_graph request.seed request.size → Serves request g s t result → MadeAnswered request s t result
+serve_answered request s t result g r e (inl n) = inl n
+serve_answered request s t result g r e (inr (wanted, out, w, d)) =
+    inr (wanted, out, subst (λ b. MadeAnswers b request (made_graph request.seed request.size) wanted out) (sym r) (subst (λ x. Served request x wanted out) e w), d)
+
+pub serves_of : (request : Request) (s t : SinkState) (result : Status) (g h : GraphValue) → g ≡ h → Serves request g s t result → Serves request h s t result
+serves_of request s t result g h e w = subst (λ x. Serves request x s t result) e w
+
+-- the line that sums up an outcome that is the evaluation's
+pub summed_up : (g : GraphValue) (o : Outcome) → o ≡ outcome g (order g) → made_text g o ≡ made_says false g
+summed_up g o e = ap (made_text g) e

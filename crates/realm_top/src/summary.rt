@@ -1,0 +1,124 @@
+//! The line that sums up how a graph that was made ran.
+
+ghost use Rattle.std.specs.Prelude.{◌≡◌, ◌++◌, ◌∷◌, length, count_by, sum, sum_by, decimal, flat_map};
+ghost use Rattle.index_spaces.specs.Column.{ColumnValue};
+ghost use Rattle.graph_model.specs.Effect.{wrapped};
+ghost use Rattle.realm_io.specs.Written.{sink_state, Writes};
+ghost use Rattle.realm_top.specs.Texts.{same_end, cell_sum, made_text};
+
+use graph_model::graph::Graph;
+use graph_model::outcome::{End, Outcome};
+use index_spaces::column::Column;
+use realm_io::{Sink, WriteFault, put_bytes, put_decimal};
+
+/// Whether two ends are one.
+fn same_end(one: End, other: End) -> bool
+    ensures { result ≡ same_end one other }
+{
+    match (one, other) {
+        (End::Done, End::Done) => true,
+        (End::Faulted, End::Faulted) => true,
+        (End::Cancelled, End::Cancelled) => true,
+        (End::Waiting, End::Waiting) => true,
+        _ => false,
+    }
+}
+
+/// How many of these ends are this one.
+fn ended_so(ends: &[End], end: End) -> u64
+    ensures { result ≡ count_by (same_end end) ends.now }
+{
+    let mut count = 0;
+    for found in ends {
+        if same_end(end, *found) {
+            count += 1;
+        }
+    }
+    count
+}
+
+/// The sum of the cells of a column, modulo 2^64.
+fn column_sum(column: &Column) -> u64
+    ensures { result ≡ wrapped (sum column.now.cells) }
+{
+    let mut so_far: u64 = 0;
+    for rank in 0..column.space().size() {
+        so_far = so_far.wrapping_add(column.at(rank));
+    }
+    so_far
+}
+
+/// The sum of the cells of all columns, modulo 2^64.
+fn cell_sum(columns: &[Column]) -> u64
+    ensures { result ≡ cell_sum columns.now }
+{
+    let mut so_far: u64 = 0;
+    for column in columns {
+        so_far = so_far.wrapping_add(column_sum(column));
+    }
+    so_far
+}
+
+/// Words with their spaces, and the number behind them.
+#[derive(Clone, Copy)]
+struct Count {
+    words: &'static [u8],
+    number: u64,
+}
+
+/// Writes words and numbers.
+fn put_counts<K: Sink>(sink: &mut K, counts: &[Count]) -> Result<(), WriteFault>
+    ensures { Writes (sink_state K.taken K.flushed K.faults sink.old) (sink_state K.taken K.flushed K.faults sink.new) result (flat_map (λ (c : Count). c.words.now ++ decimal c.number) counts.now) }
+{
+    for count in counts {
+        put_count(sink, count)?;
+    }
+    Ok(())
+}
+
+/// Writes words and the number behind them.
+fn put_count<K: Sink>(sink: &mut K, count: &Count) -> Result<(), WriteFault>
+    ensures { Writes (sink_state K.taken K.flushed K.faults sink.old) (sink_state K.taken K.flushed K.faults sink.new) result (count.now.words.now ++ decimal count.now.number) }
+{
+    put_bytes(sink, count.words)?;
+    put_decimal(sink, count.number)
+}
+
+/// How many lines ended so, with words.
+fn ended(words: &'static [u8], outcome: &Outcome, end: End) -> Count
+    ensures words { result.words.now ≡ words.now }
+    ensures number { result.number ≡ count_by (same_end end) outcome.now.ends }
+{
+    let number = ended_so(outcome.ends.items.as_slice(), end);
+    Count { words, number }
+}
+
+/// Writes the line that sums up the outcome of a graph that was made.
+pub(crate) fn put_summary<K: Sink>(
+    sink: &mut K,
+    graph: &Graph,
+    outcome: &Outcome,
+) -> Result<(), WriteFault>
+    ensures { Writes (sink_state K.taken K.flushed K.faults sink.old) (sink_state K.taken K.flushed K.faults sink.new) result (made_text graph.now outcome.now) }
+{
+    let ops = Count {
+        words: b"made ops ",
+        number: u64::from(graph.lines()),
+    };
+    let sum = Count {
+        words: b" sum ",
+        number: cell_sum(outcome.columns.items.as_slice()),
+    };
+    put_counts(
+        sink,
+        &[
+            ops,
+            ended(b" done ", outcome, End::Done),
+            ended(b" faulted ", outcome, End::Faulted),
+            ended(b" cancelled ", outcome, End::Cancelled),
+            ended(b" waiting ", outcome, End::Waiting),
+            sum,
+        ],
+    )?;
+    put_bytes(sink, b"\n")
+}
