@@ -1,6 +1,6 @@
 -- What a parse of the command gives.
-use Rattle.std.proofs.Common.{◌≡◌, ◌⊎◌, List, [], ◌∷◌, Option, Some, None, Result, refl, sym, ◌∙◌, ap, ap₂, subst, inl, inr, true}
-use Rattle.std.specs.Prelude.{MatchResult}
+use Rattle.std.proofs.Common.{◌≡◌, ◌⊎◌, List, [], ◌∷◌, Option, Some, None, Result, refl, sym, ◌∙◌, ap, subst, inl, inr}
+use Rattle.std.specs.Prelude.{MatchResult, IfSome, IfOk, ◌≤◌}
 use Rattle.std.specs.Option.{ok_or}
 use Rattle.clap.specs.Words.{App, Text, HasMatchesOf, found_of, rows_of, matches_of, fault_of, is_simple, Kinds, HasKind, IsAmong, kind_of}
 use Rattle.clap.specs.declared.error.Error.{Error}
@@ -23,6 +23,11 @@ pub requested : (r : Result Request WordsFault) (o : Option Request) (words : Li
     MatchResult r (λ q. request_of words ≡ Some q) (λ fault. (fault ≡ NoMemory) ⊎ (request_of words ≡ None))
 requested r (Some q) words e f = subst (λ x. MatchResult x (λ q. request_of words ≡ Some q) (λ fault. (fault ≡ NoMemory) ⊎ (request_of words ≡ None))) (sym e) (sym f)
 requested r None words e f = subst (λ x. MatchResult x (λ q. request_of words ≡ Some q) (λ fault. (fault ≡ NoMemory) ⊎ (request_of words ≡ None))) (sym e) (inr (sym f))
+
+-- whose size is in its range
+pub sized : (r : Result Request WordsFault) (o : Option Request) → r ≡ ok_or o Usage → IfSome o (λ q. (1 ≤ q.size) × (q.size ≤ 8192)) → IfOk r (λ q. (1 ≤ q.size) × (q.size ≤ 8192))
+sized r (Some q) e h = subst (λ x. IfOk x (λ q. (1 ≤ q.size) × (q.size ≤ 8192))) (sym e) h
+sized r None e h = subst (λ x. IfOk x (λ q. (1 ≤ q.size) × (q.size ≤ 8192))) (sym e) tt
 
 among : (k : ErrorKind) (ks : Kinds) (o : Option Request) → IsAmong k ks → if_faultless ks o ≡ None
 among k [] o a = absurd a

@@ -141,10 +141,11 @@ fn put_task<K: Sink>(sink: &mut K, graph: &Graph, kernel: &Kernel) -> Result<(),
 }
 
 /// Writes a word and the name of what it is done with, each behind a space.
-fn put_with<K: Sink>(sink: &mut K, verb: &'static [u8], name: Word) -> Result<(), WriteFault>
-    ensures { Writes (sink_state K.taken K.flushed K.faults sink.old) (sink_state K.taken K.flushed K.faults sink.new) result (spaced (verb.now ∷ word_text name ∷ [])) }
+fn put_with<K: Sink>(sink: &mut K, verb: &'static [u8], name: &Word) -> Result<(), WriteFault>
+    ensures { Writes (sink_state K.taken K.flushed K.faults sink.old) (sink_state K.taken K.flushed K.faults sink.new) result (spaced (verb.now ∷ word_text name.now ∷ [])) }
 {
-    put_spaced(sink, &[Word::Fixed(verb), name])
+    put_behind(sink, b" ", &Word::Fixed(verb))?;
+    put_behind(sink, b" ", name)
 }
 
 /// Writes the words of an arrival, each behind a space.
@@ -177,7 +178,7 @@ fn put_reduce<K: Sink>(
 ) -> Result<(), WriteFault>
     ensures { Writes (sink_state K.taken K.flushed K.faults sink.old) (sink_state K.taken K.flushed K.faults sink.new) result (spaced (verb_words graph.now (Verb.Reduce op source target space))) }
 {
-    put_with(sink, b"reduce", op_word(op))?;
+    put_with(sink, b"reduce", &op_word(op))?;
     put_places(sink, graph, &[source, target], &[space], &[])
 }
 
@@ -187,14 +188,14 @@ fn put_verb<K: Sink>(sink: &mut K, graph: &Graph, verb: &Verb) -> Result<(), Wri
 {
     match verb {
         Verb::User => put_spaced(sink, &[Word::Fixed(b"user")]),
-        Verb::Trigger { user } => put_with(sink, b"trigger", line_word(graph, *user)),
-        Verb::Cancel { user } => put_with(sink, b"cancel", line_word(graph, *user)),
+        Verb::Trigger { user } => put_with(sink, b"trigger", &line_word(graph, *user)),
+        Verb::Cancel { user } => put_with(sink, b"cancel", &line_word(graph, *user)),
         Verb::Merge { events } => put_merge(sink, graph, b"merge", events),
         Verb::MergeIgnore { events } => put_merge(sink, graph, b"mergei", events),
-        Verb::Phase { barrier } => put_with(sink, b"phase", barrier_word(graph, *barrier)),
+        Verb::Phase { barrier } => put_with(sink, b"phase", &barrier_word(graph, *barrier)),
         Verb::Arrive { phase, value } => put_arrive(sink, graph, *phase, *value),
-        Verb::Acquire { lock } => put_with(sink, b"acquire", lock_word(graph, *lock)),
-        Verb::Release { acquire } => put_with(sink, b"release", line_word(graph, *acquire)),
+        Verb::Acquire { lock } => put_with(sink, b"acquire", &lock_word(graph, *lock)),
+        Verb::Release { acquire } => put_with(sink, b"release", &line_word(graph, *acquire)),
         Verb::Fill {
             target,
             space,

@@ -1,16 +1,19 @@
 use Rattle.std.proofs.Common.{◌∙◌, ap, map}
 use Rattle.std.specs.String.{string_bytes}
 use Rattle.clap.specs.Words.{app_of, is_simple_and_free}
-use Rattle.command_line.proofs.RequestFacts.{matched, requested, refused}
+use Rattle.command_line.proofs.RequestFacts.{matched, requested, sized, refused}
 use Rattle.command_line.proofs.read_words.Goals as goal
 
-pub returns-in-Ok-try_get_matches_from : goal.returns-in-Ok-try_get_matches_from
-returns-in-Ok-try_get_matches_from c =
+pub returns-in-Ok-try_get_matches_from-clause-request : goal.returns-in-Ok-try_get_matches_from-clause-request
+returns-in-Ok-try_get_matches_from-clause-request c =
     let words = map (λ word. string_bytes word) c.args.words.now in
     requested c.ok_or.result c.request_in.result words c.ok_or.ensures.value
-    (c.request_in.ensures ∙ matched (app_of c.in-Ok.command) words c.in-Ok-try_get_matches_from.matches c.in-Ok.ensures c.in-Ok-try_get_matches_from.ensures.matches (c.in-Ok-try_get_matches_from.ensures.kinds (ap is_simple_and_free c.in-Ok.ensures)))
+    (c.request_in.ensures.request ∙ matched (app_of c.in-Ok.command) words c.in-Ok-try_get_matches_from.matches c.in-Ok.ensures c.in-Ok-try_get_matches_from.ensures.matches (c.in-Ok-try_get_matches_from.ensures.kinds (ap is_simple_and_free c.in-Ok.ensures)))
 
-pub returns-in-Err : goal.returns-in-Err
-returns-in-Err c =
+pub returns-in-Ok-try_get_matches_from-clause-size : goal.returns-in-Ok-try_get_matches_from-clause-size
+returns-in-Ok-try_get_matches_from-clause-size c = sized c.ok_or.result c.request_in.result c.ok_or.ensures.value c.request_in.ensures.size
+
+pub returns-in-Err-clause-request : goal.returns-in-Err-clause-request
+returns-in-Err-clause-request c =
     let words = map (λ word. string_bytes word) c.args.words.now in
     refused (app_of c.in-Ok.command) words c.in-Err.error c.fault_of.result c.in-Ok.ensures c.fault_of.ensures (c.in-Err.ensures.kinds (ap is_simple_and_free c.in-Ok.ensures))
