@@ -102,7 +102,7 @@ pub record DoesAsEvaluated (g : GraphValue) (i : ℕ) (cells : Cells) : Type 0 w
   pub changes : (step_on g i cells).changes ≡ eval_changes g i
 
 -- in an accepted graph a line does as in the evaluation, whatever ready lines came before it, and its changes put back give the cells in the order of the evaluation
-abbrev pub AnyOrder : Type 0
-AnyOrder = (g : GraphValue) (i : ℕ) (ended : ℕ → Bool) (put : ℕ → ℕ → Bool) → IsGraph g → Accepted g → IsTrue (is_ended (eval_end g i)) → IsReadyAmong g i ended put →
+abbrev pub OrderIrrelevant : Type 0
+OrderIrrelevant = (g : GraphValue) (i : ℕ) (ended : ℕ → Bool) (put : ℕ → ℕ → Bool) → IsGraph g → Accepted g → IsTrue (is_ended (eval_end g i)) → IsReadyAmong g i ended put →
     ((cells : Cells) → AgreeWhereUsed g i cells (cells_put g put) → DoesAsEvaluated g i cells)
     × ((c p : ℕ) → cells_after (cells_put g put) (eval_changes g i) c p ≡ cells_put g (put_with i put) c p)

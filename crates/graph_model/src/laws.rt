@@ -1,6 +1,6 @@
 //! What holds of all graphs, for callers to cite. No function here does anything.
 
-ghost use Rattle.graph_model.specs.Laws.{PathsCompose, EdgesBetweenLines, ChangesWithinAccesses, ReadyWhereUnreached, WaitsWhereReached, CancelledWhereUnbroken, OrderListsEnded, ChangesNameEachCellOnce, AnyOrder};
+ghost use Rattle.graph_model.specs.Laws.{PathsCompose, EdgesBetweenLines, ChangesWithinAccesses, ReadyWhereUnreached, WaitsWhereReached, CancelledWhereUnbroken, OrderListsEnded, ChangesNameEachCellOnce, OrderIrrelevant};
 
 use index_spaces::laws::points_ascend;
 
@@ -50,6 +50,6 @@ pub fn changes_name_each_cell_once()
 
 /// In an accepted graph a line ends and changes the cells as in the evaluation, whatever ready
 /// lines came before it.
-pub fn any_order()
-    ensures { AnyOrder }
+pub fn order_is_irrelevant()
+    ensures { OrderIrrelevant }
 {}

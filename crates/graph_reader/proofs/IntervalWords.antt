@@ -1,7 +1,8 @@
 -- Words that spell intervals.
 use Rattle.std.proofs.Common.{true, false, true≢false, eqb-true, ◌≡◌, ℕ, zero, suc, ◌+◌, ◌<◌, List, [], ◌∷◌, ◌++◌, length, take, get_or, refl, sym, ◌∙◌, ap, arith, Bor}
 use Rattle.std.specs.Prelude.{Option, Some, None, ◌==◌}
-use Rattle.graph_reader.specs.Words.{pieces, number_of, both_numbers, interval_of, with_interval, all_intervals, intervals_of}
+use Rattle.graph_reader.specs.Words.{pieces, both_numbers, interval_of, with_interval, all_intervals, intervals_of}
+use Rattle.realm_io.specs.Numbers.{number_up_to}
 use Rattle.graph_reader.specs.Cuts.{IsCut, two_pieces, behind_two, dotted}
 use Rattle.std.proofs.lemmas.Option.{none-some, same_Some}
 use Rattle.graph_reader.proofs.CutBytes.{pieces_cut, some_pieces}
@@ -13,7 +14,7 @@ dots_behind w low rest h = ap dotted (pieces_cut 46 w low rest h)
 
 abbrev pub interval_from : Option (List ℕ × List ℕ) → Option (ℕ × ℕ)
 interval_from None = None
-interval_from (Some (low, high)) = both_numbers (number_of 4294967295 low) (number_of 4294967295 high)
+interval_from (Some (low, high)) = both_numbers (number_up_to 4294967295 low) (number_up_to 4294967295 high)
 
 pub interval_is : (ps : List (List ℕ)) → interval_of ps ≡ interval_from (dotted ps)
 interval_is [] = refl

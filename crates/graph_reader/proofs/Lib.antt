@@ -15,7 +15,6 @@ pub mod Prefixes
 pub mod WholeText
 pub mod ExampleReadings
 pub mod CutBytes
-pub mod DigitLoop
 pub mod WordLists
 pub mod Owners
 pub mod ColumnWords

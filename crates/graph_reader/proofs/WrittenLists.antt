@@ -112,3 +112,17 @@ space_line name is = ap (λ c. codes "space " ++ (name ++ (32 ∷ (c ++ 10 ∷ [
 
 pub inst_line : (name space : List ℕ) (fields : List (List ℕ)) → codes "inst " ++ (name ++ (32 ∷ (space ++ (32 ∷ (comma_from (λ w. w) 0 fields ++ 10 ∷ []))))) ≡ spelled (codes "inst" ∷ name ∷ space ∷ comma_word fields ∷ [])
 inst_line name space fields = ap (λ c. codes "inst " ++ (name ++ (32 ∷ (space ++ (32 ∷ (c ++ 10 ∷ [])))))) (commas (λ w. w) fields ∙ ap comma_word (same_items fields)) ∙ sym (inst_text name space (comma_word fields))
+
+-- columns, spaces and numbers, each behind a space
+pub places_text : (f g h : ℕ → List ℕ) (cs ss ns : List ℕ) →
+    spaced (map f cs ++ (map g ss ++ map h ns)) ≡ flat_map (λ c. 32 ∷ f c) cs ++ (flat_map (λ s. 32 ∷ g s) ss ++ flat_map (λ n. 32 ∷ h n) ns)
+places_text f g h cs ss ns =
+    flat_map-append (λ w. 32 ∷ w) (map f cs) (map g ss ++ map h ns)
+    ∙ (ap (λ x. x ++ spaced (map g ss ++ map h ns)) (flat_mapped f cs)
+    ∙ ap (λ x. flat_map (λ c. 32 ∷ f c) cs ++ x)
+    (flat_map-append (λ w. 32 ∷ w) (map g ss) (map h ns)
+    ∙ (ap (λ x. x ++ spaced (map h ns)) (flat_mapped g ss) ∙ ap (λ x. flat_map (λ s. 32 ∷ g s) ss ++ x) (flat_mapped h ns))))
+
+-- words behind two others
+pub two_before : (v w : List ℕ) (ws : List (List ℕ)) → spaced (v ∷ w ∷ []) ++ spaced ws ≡ spaced (v ∷ w ∷ ws)
+two_before v w ws = sym (flat_map-append (λ x. 32 ∷ x) (v ∷ w ∷ []) ws)

@@ -4,176 +4,19 @@ ghost use Rattle.std.specs.Prelude.{◌≡◌, map, zip, length, List, ℕ, [], 
 ghost use Rattle.std.specs.List.{list_any};
 ghost use Rattle.std.specs.Str.{bytes_eq};
 ghost use Rattle.graph_model.specs.Fits.{repeats, first_reason};
-ghost use Rattle.graph_reader.specs.Words.{pieces, value_of};
 ghost use Rattle.graph_reader.specs.Draft.{Placed, has_on, space_number, lock_number, barrier_number, line_number, column_number_of};
 ghost use Rattle.graph_reader.specs.FirstFault.{misnamed, twice, unknown, unlike, misnumbered, draft_tests};
 ghost use Rattle.graph_reader.specs.Kinds.{as_place, kind_form, kind_verb, kind_placed, column_words, kind_draft, kind_on, columns_twice, form_reason, form_fails, HasPlaces, kind_line, IsReading, IsJudged};
 
 use crate::checks::{is_name, misnamed, misnumbered, twice, unknown, unlike};
 use crate::kind::Kind;
-use crate::lookup::{barrier, column, line, lock, look_up, space};
-use crate::numbers::value;
+use crate::lookup::look_up;
 use crate::place::Place;
+use crate::verbs::{line_at, verb_of};
 use crate::words::{has_on, word};
 use graph_model::graph::Graph;
 use graph_model::name::Name;
-use graph_model::verb::{Kernel, Line, Verb, Why};
-use index_spaces::Op;
-
-fn space_at(graph: &Graph, words: &[&[u8]], i: usize) -> u32
-    ensures { result ≡ space_number graph.now (slice_index_or (map (λ w. w.now) words.now) i []) }
-{
-    space(graph, word(words, i)).unwrap_or(0)
-}
-
-fn lock_at(graph: &Graph, words: &[&[u8]], i: usize) -> u32
-    ensures { result ≡ lock_number graph.now (slice_index_or (map (λ w. w.now) words.now) i []) }
-{
-    lock(graph, word(words, i)).unwrap_or(0)
-}
-
-fn barrier_at(graph: &Graph, words: &[&[u8]], i: usize) -> u32
-    ensures { result ≡ barrier_number graph.now (slice_index_or (map (λ w. w.now) words.now) i []) }
-{
-    barrier(graph, word(words, i)).unwrap_or(0)
-}
-
-fn line_at(graph: &Graph, words: &[&[u8]], i: usize) -> u32
-    ensures { result ≡ line_number graph.now (slice_index_or (map (λ w. w.now) words.now) i []) }
-{
-    line(graph, word(words, i)).unwrap_or(0)
-}
-
-#[tactic(auto, using(crate::proofs::ColumnWords::column_number_is))]
-fn column_at(graph: &Graph, words: &[&[u8]], i: usize) -> u32
-    ensures { result ≡ column_number_of graph.now (pieces 46 (slice_index_or (map (λ w. w.now) words.now) i [])) }
-{
-    column(graph, word(words, i)).unwrap_or(0)
-}
-
-fn value_at(words: &[&[u8]], i: usize) -> u64
-    ensures { result ≡ unwrap_or (value_of (slice_index_or (map (λ w. w.now) words.now) i [])) 0 }
-{
-    value(word(words, i)).unwrap_or(0)
-}
-
-fn reduce(graph: &Graph, op: Op, words: &[&[u8]]) -> Verb
-    ensures { result ≡ Verb.Reduce op (column_number_of graph.now (pieces 46 (slice_index_or (map (λ w. w.now) words.now) 0 [])))
-        (column_number_of graph.now (pieces 46 (slice_index_or (map (λ w. w.now) words.now) 1 [])))
-        (space_number graph.now (slice_index_or (map (λ w. w.now) words.now) 2 [])) }
-{
-    Verb::Reduce {
-        op,
-        source: column_at(graph, words, 0),
-        target: column_at(graph, words, 1),
-        space: space_at(graph, words, 2),
-    }
-}
-
-/// The verb that words spell in their places, where each stands for something.
-fn verb_of(graph: &Graph, kind: Kind, words: &[&[u8]]) -> Verb
-    ensures { result ≡ kind_verb graph.now kind (map (λ w. w.now) words.now) }
-{
-    match kind {
-        Kind::User => Verb::User,
-        Kind::Trigger => Verb::Trigger {
-            user: line_at(graph, words, 0),
-        },
-        Kind::Cancel => Verb::Cancel {
-            user: line_at(graph, words, 0),
-        },
-        Kind::Phase => Verb::Phase {
-            barrier: barrier_at(graph, words, 0),
-        },
-        Kind::Arrive => Verb::Arrive {
-            phase: line_at(graph, words, 0),
-            value: value_at(words, 1),
-        },
-        Kind::Acquire => Verb::Acquire {
-            lock: lock_at(graph, words, 0),
-        },
-        Kind::Release => Verb::Release {
-            acquire: line_at(graph, words, 0),
-        },
-        Kind::Fill => Verb::Fill {
-            target: column_at(graph, words, 0),
-            space: space_at(graph, words, 1),
-            value: value_at(words, 2),
-        },
-        Kind::Copy => Verb::Copy {
-            source: column_at(graph, words, 0),
-            target: column_at(graph, words, 1),
-            space: space_at(graph, words, 2),
-        },
-        Kind::ReduceSum => reduce(graph, Op::Sum, words),
-        Kind::ReduceMin => reduce(graph, Op::Min, words),
-        Kind::ReduceMax => reduce(graph, Op::Max, words),
-        Kind::Iota => Verb::Task {
-            kernel: Kernel::Iota {
-                x: column_at(graph, words, 0),
-                s: space_at(graph, words, 1),
-                value: value_at(words, 2),
-            },
-        },
-        Kind::Axpy => Verb::Task {
-            kernel: Kernel::Axpy {
-                x: column_at(graph, words, 0),
-                y: column_at(graph, words, 1),
-                s: space_at(graph, words, 2),
-                factor: value_at(words, 3),
-            },
-        },
-        Kind::Stencil => Verb::Task {
-            kernel: Kernel::Stencil {
-                x: column_at(graph, words, 0),
-                y: column_at(graph, words, 1),
-                r: space_at(graph, words, 2),
-                s: space_at(graph, words, 3),
-            },
-        },
-        Kind::Scan => Verb::Task {
-            kernel: Kernel::Scan {
-                x: column_at(graph, words, 0),
-                y: column_at(graph, words, 1),
-                s: space_at(graph, words, 2),
-            },
-        },
-        Kind::Hist => Verb::Task {
-            kernel: Kernel::Hist {
-                x: column_at(graph, words, 0),
-                y: column_at(graph, words, 1),
-                s: space_at(graph, words, 2),
-                t: space_at(graph, words, 3),
-            },
-        },
-        Kind::Dot => Verb::Task {
-            kernel: Kernel::Dot {
-                x: column_at(graph, words, 0),
-                y: column_at(graph, words, 1),
-                z: column_at(graph, words, 2),
-                s: space_at(graph, words, 3),
-                t: space_at(graph, words, 4),
-            },
-        },
-        Kind::Expect => Verb::Task {
-            kernel: Kernel::Expect {
-                x: column_at(graph, words, 0),
-                s: space_at(graph, words, 1),
-                low: value_at(words, 2),
-                high: value_at(words, 3),
-            },
-        },
-        Kind::Gather => Verb::Task {
-            kernel: Kernel::Gather {
-                x: column_at(graph, words, 0),
-                y: column_at(graph, words, 1),
-                z: column_at(graph, words, 2),
-                s: space_at(graph, words, 3),
-                t: space_at(graph, words, 4),
-            },
-        },
-    }
-}
+use graph_model::verb::{Line, Why};
 
 fn any_misnamed(places: &[Place], words: &[&[u8]]) -> bool
     ensures { result ≡ list_any (λ (p : Placed). misnamed p.0 p.1) (zip (map as_place places.now) (map (λ w. w.now) words.now)) }

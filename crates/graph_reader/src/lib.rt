@@ -16,6 +16,7 @@ mod names;
 mod numbers;
 mod place;
 mod reader;
+mod verbs;
 mod word_kinds;
 mod words;
 mod writer;

@@ -1,72 +1,23 @@
 //! Numbers that words spell.
 
-ghost use Rattle.std.specs.Prelude.{◌≡◌, ℕ, ◌<◌, ◌≤◌, true, MatchOption, IfSome};
-ghost use Rattle.std.specs.Str.{all_ascii_digits};
-ghost use Rattle.std.specs.Str.Parse.{digits_value};
-ghost use Rattle.graph_reader.specs.Words.{is_misspelled, number_of, value_of, count_of};
+ghost use Rattle.std.specs.Prelude.{◌≡◌};
+ghost use Rattle.realm_io.specs.Numbers.{number_up_to};
+ghost use Rattle.graph_reader.specs.Words.{value_of, count_of};
 
-/// Whether each byte is a digit.
-fn all_digits(word: &[u8]) -> bool
-    ensures { result ≡ all_ascii_digits word.now }
-{
-    for b in word {
-        if !b.is_ascii_digit() {
-            return false;
-        }
-    }
-    true
-}
-
-/// No byte, or a zero before other digits.
-fn misspelled(word: &[u8]) -> bool
-    ensures { result ≡ is_misspelled word.now }
-{
-    word.is_empty() || (word.len() > 1 && word[0] == b'0')
-}
-
-/// The number that digits write, where it is at most `most`.
-fn digits_up_to(word: &[u8], most: u64) -> Option<u64>
-    requires { all_ascii_digits word.now ≡ true }
-    ensures { MatchOption result (most < digits_value 10 word.now) (λ n. (n ≡ digits_value 10 word.now) × (n ≤ most)) }
-{
-    let mut value: u64 = 0;
-    for b in word {
-        let digit = u64::from(*b - b'0');
-        if value > most / 10 {
-            return None;
-        }
-        if digit > most - value * 10 {
-            return None;
-        }
-        value = value * 10 + digit;
-    }
-    Some(value)
-}
-
-/// The number that a word spells, where it is at most `most`.
-pub(crate) fn number_in(word: &[u8], most: u64) -> Option<u64>
-    ensures number { result ≡ number_of most word.now }
-    ensures within { IfSome result (λ n. n ≤ most) }
-{
-    if all_digits(word) && !misspelled(word) {
-        digits_up_to(word, most)
-    } else {
-        None
-    }
-}
+use realm_io::number_up_to;
 
 /// The value that a word spells.
 pub(crate) fn value(word: &[u8]) -> Option<u64>
     ensures { result ≡ value_of word.now }
 {
-    number_in(word, u64::MAX)
+    number_up_to(word, u64::MAX)
 }
 
 /// The number of arrivals that a word spells, from 1 to 8,192.
 pub(crate) fn count(word: &[u8]) -> Option<u32>
     ensures { result ≡ count_of word.now }
 {
-    match number_in(word, 8192) {
+    match number_up_to(word, 8192) {
         Some(0) => None,
         Some(n) => Some(n as u32),
         None => None,
@@ -75,8 +26,8 @@ pub(crate) fn count(word: &[u8]) -> Option<u32>
 
 /// The point that a word spells.
 pub(crate) fn point(word: &[u8]) -> Option<u32>
-    ensures { result ≡ number_of 4294967295 word.now }
+    ensures { result ≡ number_up_to 4294967295 word.now }
 {
-    let n = number_in(word, 4294967295)?;
+    let n = number_up_to(word, 4294967295)?;
     Some(n as u32)
 }

@@ -1,6 +1,6 @@
 //! Words of a text that is written.
 
-ghost use Rattle.std.specs.Prelude.{◌≡◌, ◌++◌, ◌∷◌, decimal, flat_map, [], OnOk, OnErr};
+ghost use Rattle.std.specs.Prelude.{◌≡◌, ◌++◌, ◌∷◌, flat_map, []};
 ghost use Rattle.graph_model.specs.Spelling.{interval_word, space_name, column_name, lock_name, barrier_name, line_name, op_word};
 ghost use Rattle.realm_io.specs.Written.{sink_state, Writes};
 ghost use Rattle.graph_reader.specs.WrittenWords.{word_text};
@@ -8,7 +8,7 @@ ghost use Rattle.graph_reader.specs.WrittenWords.{word_text};
 use graph_model::graph::Graph;
 use graph_model::name::Name;
 use index_spaces::Op;
-use realm_io::{Sink, WriteFault, put, put_number};
+use realm_io::{Sink, WriteFault, put_bytes, put_decimal};
 
 /// A word of a line.
 #[derive(Clone, Copy)]
@@ -18,20 +18,6 @@ pub(crate) enum Word {
     Column(Name, Name),
     Number(u64),
     Interval(u32, u32),
-}
-
-/// Writes bytes.
-pub(crate) fn put_bytes<K: Sink>(sink: &mut K, bytes: &[u8]) -> Result<(), WriteFault>
-    ensures { Writes (sink_state K.taken K.flushed K.faults sink.old) (sink_state K.taken K.flushed K.faults sink.new) result bytes.now }
-{
-    put(sink, bytes)
-}
-
-/// Writes a number.
-fn put_decimal<K: Sink>(sink: &mut K, n: u64) -> Result<(), WriteFault>
-    ensures { Writes (sink_state K.taken K.flushed K.faults sink.old) (sink_state K.taken K.flushed K.faults sink.new) result (decimal n) }
-{
-    put_number(sink, n)
 }
 
 /// Writes the name of a column.

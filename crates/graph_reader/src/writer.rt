@@ -1,110 +1,111 @@
 //! Writing the text of a graph.
 
-ghost use Rattle.std.specs.Prelude.{◌≡◌, ◌≤◌, [], ◌∷◌, ◌++◌, flat_map, map, length, codes, OnOk, OnErr};
+ghost use Rattle.std.specs.Prelude.{◌≡◌, ◌≤◌, [], ◌∷◌, ◌++◌, flat_map, map, length, codes, decimal, OnOk, OnErr};
 ghost use Rattle.realm_io.specs.Counts.{Rose};
 ghost use Rattle.realm_io.specs.Told.{with_more, TookPrefix};
-ghost use Rattle.graph_model.specs.Spelling.{spelled, space_name, interval_word, kernel_words, verb_words, on_words, line_words, decl_words, line_name};
+ghost use Rattle.graph_model.specs.Spelling.{spelled, space_name, column_name, interval_word, kernel_words, verb_words, on_words, line_words, decl_words, line_name};
 ghost use Rattle.graph_reader.specs.Text.{text};
 ghost use Rattle.realm_io.specs.Written.{sink_state, Writes};
 ghost use Rattle.graph_reader.specs.WrittenWords.{word_text, spaced, comma_before, comma_from};
 
 use crate::word_kinds::{
-    Word, barrier_word, column_word, line_word, lock_word, op_word, put_behind, put_bytes,
-    put_spaced, space_word,
+    Word, barrier_word, column_word, line_word, lock_word, op_word, put_behind, put_spaced,
+    space_word,
 };
 use graph_model::decl::Decl;
 use graph_model::graph::Graph;
 use graph_model::lists::{LineList, NameList};
 use graph_model::name::Name;
 use graph_model::verb::{Kernel, Line, Verb};
+use index_spaces::Op;
 use index_spaces::space::Space;
-use realm_io::{Sink, WriteFault};
+use realm_io::{Sink, WriteFault, put_bytes};
+
+/// Writes the names of columns, each behind a space.
+fn put_columns<K: Sink>(sink: &mut K, graph: &Graph, columns: &[u32]) -> Result<(), WriteFault>
+    ensures { Writes (sink_state K.taken K.flushed K.faults sink.old) (sink_state K.taken K.flushed K.faults sink.new) result (flat_map (λ c. 32 ∷ column_name graph.now c) columns.now) }
+{
+    for column in columns {
+        put_behind(sink, b" ", &column_word(graph, *column))?;
+    }
+    Ok(())
+}
+
+/// Writes the names of spaces, each behind a space.
+fn put_spaces<K: Sink>(sink: &mut K, graph: &Graph, spaces: &[u32]) -> Result<(), WriteFault>
+    ensures { Writes (sink_state K.taken K.flushed K.faults sink.old) (sink_state K.taken K.flushed K.faults sink.new) result (flat_map (λ s. 32 ∷ space_name graph.now s) spaces.now) }
+{
+    for space in spaces {
+        put_behind(sink, b" ", &space_word(graph, *space))?;
+    }
+    Ok(())
+}
+
+/// Writes numbers, each behind a space.
+fn put_numbers<K: Sink>(sink: &mut K, numbers: &[u64]) -> Result<(), WriteFault>
+    ensures { Writes (sink_state K.taken K.flushed K.faults sink.old) (sink_state K.taken K.flushed K.faults sink.new) result (flat_map (λ n. 32 ∷ decimal n) numbers.now) }
+{
+    for number in numbers {
+        put_behind(sink, b" ", &Word::Number(*number))?;
+    }
+    Ok(())
+}
+
+/// Writes columns, then spaces, then numbers, each behind a space.
+fn put_places<K: Sink>(
+    sink: &mut K,
+    graph: &Graph,
+    columns: &[u32],
+    spaces: &[u32],
+    numbers: &[u64],
+) -> Result<(), WriteFault>
+    ensures { Writes (sink_state K.taken K.flushed K.faults sink.old) (sink_state K.taken K.flushed K.faults sink.new) result
+        (spaced (map (λ c. column_name graph.now c) columns.now ++ (map (λ s. space_name graph.now s) spaces.now ++ map (λ n. decimal n) numbers.now))) }
+{
+    put_columns(sink, graph, columns)?;
+    put_spaces(sink, graph, spaces)?;
+    put_numbers(sink, numbers)
+}
+
+/// Writes a word, and columns, spaces and numbers behind it, each behind a space.
+fn put_on_cells<K: Sink>(
+    sink: &mut K,
+    graph: &Graph,
+    word: &'static [u8],
+    columns: &[u32],
+    spaces: &[u32],
+    numbers: &[u64],
+) -> Result<(), WriteFault>
+    ensures { Writes (sink_state K.taken K.flushed K.faults sink.old) (sink_state K.taken K.flushed K.faults sink.new) result
+        (spaced (word.now ∷ (map (λ c. column_name graph.now c) columns.now ++ (map (λ s. space_name graph.now s) spaces.now ++ map (λ n. decimal n) numbers.now)))) }
+{
+    put_behind(sink, b" ", &Word::Fixed(word))?;
+    put_places(sink, graph, columns, spaces, numbers)
+}
 
 /// Writes the words of a kernel, each behind a space.
 fn put_kernel<K: Sink>(sink: &mut K, graph: &Graph, kernel: &Kernel) -> Result<(), WriteFault>
     ensures { Writes (sink_state K.taken K.flushed K.faults sink.old) (sink_state K.taken K.flushed K.faults sink.new) result (spaced (kernel_words graph.now kernel.now)) }
 {
     match *kernel {
-        Kernel::Iota { x, s, value } => put_spaced(
-            sink,
-            &[
-                Word::Fixed(b"iota"),
-                column_word(graph, x),
-                space_word(graph, s),
-                Word::Number(value),
-            ],
-        ),
-        Kernel::Axpy { x, y, s, factor } => put_spaced(
-            sink,
-            &[
-                Word::Fixed(b"axpy"),
-                column_word(graph, x),
-                column_word(graph, y),
-                space_word(graph, s),
-                Word::Number(factor),
-            ],
-        ),
-        Kernel::Stencil { x, y, r, s } => put_spaced(
-            sink,
-            &[
-                Word::Fixed(b"stencil"),
-                column_word(graph, x),
-                column_word(graph, y),
-                space_word(graph, r),
-                space_word(graph, s),
-            ],
-        ),
-        Kernel::Scan { x, y, s } => put_spaced(
-            sink,
-            &[
-                Word::Fixed(b"scan"),
-                column_word(graph, x),
-                column_word(graph, y),
-                space_word(graph, s),
-            ],
-        ),
-        Kernel::Hist { x, y, s, t } => put_spaced(
-            sink,
-            &[
-                Word::Fixed(b"hist"),
-                column_word(graph, x),
-                column_word(graph, y),
-                space_word(graph, s),
-                space_word(graph, t),
-            ],
-        ),
-        Kernel::Dot { x, y, z, s, t } => put_spaced(
-            sink,
-            &[
-                Word::Fixed(b"dot"),
-                column_word(graph, x),
-                column_word(graph, y),
-                column_word(graph, z),
-                space_word(graph, s),
-                space_word(graph, t),
-            ],
-        ),
-        Kernel::Expect { x, s, low, high } => put_spaced(
-            sink,
-            &[
-                Word::Fixed(b"expect"),
-                column_word(graph, x),
-                space_word(graph, s),
-                Word::Number(low),
-                Word::Number(high),
-            ],
-        ),
-        Kernel::Gather { x, y, z, s, t } => put_spaced(
-            sink,
-            &[
-                Word::Fixed(b"gather"),
-                column_word(graph, x),
-                column_word(graph, y),
-                column_word(graph, z),
-                space_word(graph, s),
-                space_word(graph, t),
-            ],
-        ),
+        Kernel::Iota { x, s, value } => put_on_cells(sink, graph, b"iota", &[x], &[s], &[value]),
+        Kernel::Axpy { x, y, s, factor } => {
+            put_on_cells(sink, graph, b"axpy", &[x, y], &[s], &[factor])
+        }
+        Kernel::Stencil { x, y, r, s } => {
+            put_on_cells(sink, graph, b"stencil", &[x, y], &[r, s], &[])
+        }
+        Kernel::Scan { x, y, s } => put_on_cells(sink, graph, b"scan", &[x, y], &[s], &[]),
+        Kernel::Hist { x, y, s, t } => put_on_cells(sink, graph, b"hist", &[x, y], &[s, t], &[]),
+        Kernel::Dot { x, y, z, s, t } => {
+            put_on_cells(sink, graph, b"dot", &[x, y, z], &[s, t], &[])
+        }
+        Kernel::Expect { x, s, low, high } => {
+            put_on_cells(sink, graph, b"expect", &[x], &[s], &[low, high])
+        }
+        Kernel::Gather { x, y, z, s, t } => {
+            put_on_cells(sink, graph, b"gather", &[x, y, z], &[s, t], &[])
+        }
     }
 }
 
@@ -139,81 +140,78 @@ fn put_task<K: Sink>(sink: &mut K, graph: &Graph, kernel: &Kernel) -> Result<(),
     put_kernel(sink, graph, kernel)
 }
 
+/// Writes a word and the name of what it is done with, each behind a space.
+fn put_with<K: Sink>(sink: &mut K, verb: &'static [u8], name: &Word) -> Result<(), WriteFault>
+    ensures { Writes (sink_state K.taken K.flushed K.faults sink.old) (sink_state K.taken K.flushed K.faults sink.new) result (spaced (verb.now ∷ word_text name.now ∷ [])) }
+{
+    put_behind(sink, b" ", &Word::Fixed(verb))?;
+    put_behind(sink, b" ", name)
+}
+
+/// Writes the words of an arrival, each behind a space.
+fn put_arrive<K: Sink>(
+    sink: &mut K,
+    graph: &Graph,
+    phase: u32,
+    value: u64,
+) -> Result<(), WriteFault>
+    ensures { Writes (sink_state K.taken K.flushed K.faults sink.old) (sink_state K.taken K.flushed K.faults sink.new) result (spaced (verb_words graph.now (Verb.Arrive phase value))) }
+{
+    put_spaced(
+        sink,
+        &[
+            Word::Fixed(b"arrive"),
+            line_word(graph, phase),
+            Word::Number(value),
+        ],
+    )
+}
+
+/// Writes the words of a reduction, each behind a space.
+fn put_reduce<K: Sink>(
+    sink: &mut K,
+    graph: &Graph,
+    op: Op,
+    source: u32,
+    target: u32,
+    space: u32,
+) -> Result<(), WriteFault>
+    ensures { Writes (sink_state K.taken K.flushed K.faults sink.old) (sink_state K.taken K.flushed K.faults sink.new) result (spaced (verb_words graph.now (Verb.Reduce op source target space))) }
+{
+    put_with(sink, b"reduce", &op_word(op))?;
+    put_places(sink, graph, &[source, target], &[space], &[])
+}
+
 /// Writes the words of a verb, each behind a space.
 fn put_verb<K: Sink>(sink: &mut K, graph: &Graph, verb: &Verb) -> Result<(), WriteFault>
     ensures { Writes (sink_state K.taken K.flushed K.faults sink.old) (sink_state K.taken K.flushed K.faults sink.new) result (spaced (verb_words graph.now verb.now)) }
 {
     match verb {
         Verb::User => put_spaced(sink, &[Word::Fixed(b"user")]),
-        Verb::Trigger { user } => {
-            put_spaced(sink, &[Word::Fixed(b"trigger"), line_word(graph, *user)])
-        }
-        Verb::Cancel { user } => {
-            put_spaced(sink, &[Word::Fixed(b"cancel"), line_word(graph, *user)])
-        }
+        Verb::Trigger { user } => put_with(sink, b"trigger", &line_word(graph, *user)),
+        Verb::Cancel { user } => put_with(sink, b"cancel", &line_word(graph, *user)),
         Verb::Merge { events } => put_merge(sink, graph, b"merge", events),
         Verb::MergeIgnore { events } => put_merge(sink, graph, b"mergei", events),
-        Verb::Phase { barrier } => {
-            put_spaced(
-                sink,
-                &[Word::Fixed(b"phase"), barrier_word(graph, *barrier)],
-            )
-        }
-        Verb::Arrive { phase, value } => put_spaced(
-            sink,
-            &[
-                Word::Fixed(b"arrive"),
-                line_word(graph, *phase),
-                Word::Number(*value),
-            ],
-        ),
-        Verb::Acquire { lock } => {
-            put_spaced(sink, &[Word::Fixed(b"acquire"), lock_word(graph, *lock)])
-        }
-        Verb::Release { acquire } => {
-            put_spaced(sink, &[Word::Fixed(b"release"), line_word(graph, *acquire)])
-        }
+        Verb::Phase { barrier } => put_with(sink, b"phase", &barrier_word(graph, *barrier)),
+        Verb::Arrive { phase, value } => put_arrive(sink, graph, *phase, *value),
+        Verb::Acquire { lock } => put_with(sink, b"acquire", &lock_word(graph, *lock)),
+        Verb::Release { acquire } => put_with(sink, b"release", &line_word(graph, *acquire)),
         Verb::Fill {
             target,
             space,
             value,
-        } => put_spaced(
-            sink,
-            &[
-                Word::Fixed(b"fill"),
-                column_word(graph, *target),
-                space_word(graph, *space),
-                Word::Number(*value),
-            ],
-        ),
+        } => put_on_cells(sink, graph, b"fill", &[*target], &[*space], &[*value]),
         Verb::Copy {
             source,
             target,
             space,
-        } => put_spaced(
-            sink,
-            &[
-                Word::Fixed(b"copy"),
-                column_word(graph, *source),
-                column_word(graph, *target),
-                space_word(graph, *space),
-            ],
-        ),
+        } => put_on_cells(sink, graph, b"copy", &[*source, *target], &[*space], &[]),
         Verb::Reduce {
             op,
             source,
             target,
             space,
-        } => put_spaced(
-            sink,
-            &[
-                Word::Fixed(b"reduce"),
-                op_word(*op),
-                column_word(graph, *source),
-                column_word(graph, *target),
-                space_word(graph, *space),
-            ],
-        ),
+        } => put_reduce(sink, graph, *op, *source, *target, *space),
         Verb::Task { kernel } => put_task(sink, graph, kernel),
     }
 }

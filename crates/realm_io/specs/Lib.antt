@@ -2,3 +2,4 @@ pub mod Counts
 pub mod Told
 pub mod Memory
 pub mod Written
+pub mod Numbers

@@ -6,6 +6,7 @@ pub mod gates;
 mod listed;
 pub mod memory_sink;
 pub mod memory_source;
+pub mod numbers;
 pub mod reading;
 mod room;
 pub mod sinks;
@@ -17,11 +18,12 @@ pub use adapters::{StdSink, StdSource};
 pub use gates::{Gate, OpenGate};
 pub use memory_sink::MemorySink;
 pub use memory_source::MemorySource;
+pub use numbers::number_up_to;
 pub use reading::{ReadEnd, read_all};
 pub use sinks::Sink;
 pub use sources::{Failed, Source};
 pub use sure::{SureSink, SureSource};
-pub use writing::{WriteFault, put, put_number};
+pub use writing::{WriteFault, put, put_bytes, put_decimal, put_number};
 
 #[cfg(test)]
 mod tests;

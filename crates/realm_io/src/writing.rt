@@ -2,6 +2,7 @@
 ghost use Rattle.std.specs.Prelude.{◌≡◌, ◌≤◌, length, decimal, OnOk, OnErr};
 ghost use Rattle.realm_io.specs.Counts.{Rose, MadeAtMost};
 ghost use Rattle.realm_io.specs.Told.{with_more, TookPrefix, TookPrefixInSteps};
+ghost use Rattle.realm_io.specs.Written.{sink_state, Writes};
 
 use crate::sinks::Sink;
 use itoa::Buffer;
@@ -48,4 +49,18 @@ pub fn put_number<K: Sink>(sink: &mut K, n: u64) -> Result<(), WriteFault>
 {
     let mut buffer = Buffer::new();
     put(sink, buffer.format(n).as_bytes())
+}
+
+/// As `put`, for callers that write a text part by part: one clause says what each answer leaves.
+pub fn put_bytes<K: Sink>(sink: &mut K, bytes: &[u8]) -> Result<(), WriteFault>
+    ensures { Writes (sink_state K.taken K.flushed K.faults sink.old) (sink_state K.taken K.flushed K.faults sink.new) result bytes.now }
+{
+    put(sink, bytes)
+}
+
+/// As `put_number`, for callers that write a text part by part.
+pub fn put_decimal<K: Sink>(sink: &mut K, n: u64) -> Result<(), WriteFault>
+    ensures { Writes (sink_state K.taken K.flushed K.faults sink.old) (sink_state K.taken K.flushed K.faults sink.new) result (decimal n) }
+{
+    put_number(sink, n)
 }

@@ -11,7 +11,7 @@ use crate::words::{fields_size, intervals_size, name_size, number_size, word_siz
 use index_spaces::Op;
 
 impl Graph {
-    ghost use Rattle.std.specs.Prelude.{◌≡◌, ◌+◌, ◌≤◌, length, map};
+    ghost use Rattle.std.specs.Prelude.{◌≡◌, ◌+◌, ◌≤◌, [], ◌∷◌, length, map};
     ghost use Rattle.graph_model.specs.Counts.{words_size};
     ghost use Rattle.graph_model.specs.Spelling.{spelled, space_name, column_name, lock_name, barrier_name, line_name, op_word, decl_words, kernel_words, verb_words, on_words, line_words};
 
@@ -85,100 +85,84 @@ impl Graph {
                 target,
                 space,
                 value,
-            } => {
-                word_size(b"fill")
-                    + self.column_size(*target)
-                    + self.space_size(*space)
-                    + number_size(*value)
-            }
+            } => word_size(b"fill") + self.one_column_size(*target, *space) + number_size(*value),
             Verb::Copy {
                 source,
                 target,
                 space,
-            } => {
-                word_size(b"copy")
-                    + self.column_size(*source)
-                    + self.column_size(*target)
-                    + self.space_size(*space)
-            }
+            } => word_size(b"copy") + self.two_columns_size(*source, *target, *space),
             Verb::Reduce {
                 op,
                 source,
                 target,
                 space,
-            } => {
-                word_size(b"reduce")
-                    + op_size(*op)
-                    + self.column_size(*source)
-                    + self.column_size(*target)
-                    + self.space_size(*space)
-            }
+            } => self.reduce_size(*op, *source, *target, *space),
             Verb::Task { kernel } => word_size(b"task") + self.kernel_size(kernel),
         }
+    }
+
+    fn reduce_size(&self, op: Op, source: u32, target: u32, space: u32) -> u64
+        ensures size { result ≡ words_size (verb_words self.now (Verb.Reduce op source target space)) }
+        ensures few { result ≤ 300 }
+    {
+        word_size(b"reduce") + op_size(op) + self.two_columns_size(source, target, space)
     }
 
     fn kernel_size(&self, kernel: &Kernel) -> u64
         ensures size { result ≡ words_size (kernel_words self.now kernel.now) }
         ensures few { result ≤ 300 }
     {
-        match kernel {
+        match *kernel {
             Kernel::Iota { x, s, value } => {
-                word_size(b"iota")
-                    + self.column_size(*x)
-                    + self.space_size(*s)
-                    + number_size(*value)
+                word_size(b"iota") + self.one_column_size(x, s) + number_size(value)
             }
             Kernel::Axpy { x, y, s, factor } => {
-                word_size(b"axpy")
-                    + self.column_size(*x)
-                    + self.column_size(*y)
-                    + self.space_size(*s)
-                    + number_size(*factor)
+                word_size(b"axpy") + self.two_columns_size(x, y, s) + number_size(factor)
             }
             Kernel::Stencil { x, y, r, s } => {
-                word_size(b"stencil")
-                    + self.column_size(*x)
-                    + self.column_size(*y)
-                    + self.space_size(*r)
-                    + self.space_size(*s)
+                word_size(b"stencil") + self.two_columns_size(x, y, r) + self.space_size(s)
             }
-            Kernel::Scan { x, y, s } => {
-                word_size(b"scan")
-                    + self.column_size(*x)
-                    + self.column_size(*y)
-                    + self.space_size(*s)
-            }
+            Kernel::Scan { x, y, s } => word_size(b"scan") + self.two_columns_size(x, y, s),
             Kernel::Hist { x, y, s, t } => {
-                word_size(b"hist")
-                    + self.column_size(*x)
-                    + self.column_size(*y)
-                    + self.space_size(*s)
-                    + self.space_size(*t)
+                word_size(b"hist") + self.two_columns_size(x, y, s) + self.space_size(t)
             }
             Kernel::Dot { x, y, z, s, t } => {
-                word_size(b"dot")
-                    + self.column_size(*x)
-                    + self.column_size(*y)
-                    + self.column_size(*z)
-                    + self.space_size(*s)
-                    + self.space_size(*t)
+                word_size(b"dot") + self.three_columns_size(x, y, z, s) + self.space_size(t)
             }
             Kernel::Expect { x, s, low, high } => {
                 word_size(b"expect")
-                    + self.column_size(*x)
-                    + self.space_size(*s)
-                    + number_size(*low)
-                    + number_size(*high)
+                    + self.one_column_size(x, s)
+                    + number_size(low)
+                    + number_size(high)
             }
             Kernel::Gather { x, y, z, s, t } => {
-                word_size(b"gather")
-                    + self.column_size(*x)
-                    + self.column_size(*y)
-                    + self.column_size(*z)
-                    + self.space_size(*s)
-                    + self.space_size(*t)
+                word_size(b"gather") + self.three_columns_size(x, y, z, s) + self.space_size(t)
             }
         }
+    }
+
+    /// The words of a column and a space.
+    fn one_column_size(&self, x: u32, s: u32) -> u64
+        ensures size { result ≡ words_size (column_name self.now x ∷ space_name self.now s ∷ []) }
+        ensures few { result ≤ 96 }
+    {
+        self.column_size(x) + self.space_size(s)
+    }
+
+    /// The words of two columns and a space.
+    fn two_columns_size(&self, x: u32, y: u32, s: u32) -> u64
+        ensures size { result ≡ words_size (column_name self.now x ∷ column_name self.now y ∷ space_name self.now s ∷ []) }
+        ensures few { result ≤ 160 }
+    {
+        self.column_size(x) + self.one_column_size(y, s)
+    }
+
+    /// The words of three columns and a space.
+    fn three_columns_size(&self, x: u32, y: u32, z: u32, s: u32) -> u64
+        ensures size { result ≡ words_size (column_name self.now x ∷ column_name self.now y ∷ column_name self.now z ∷ space_name self.now s ∷ []) }
+        ensures few { result ≤ 224 }
+    {
+        self.column_size(x) + self.two_columns_size(y, z, s)
     }
 
     fn events_size(&self, events: &LineList) -> u64
