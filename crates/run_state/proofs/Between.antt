@@ -10,7 +10,7 @@ use Rattle.graph_model.specs.Rules.{Acquires, Accepted}
 use Rattle.graph_model.specs.Effect.{Cells}
 use Rattle.graph_model.specs.Evaluation.{eval_end, cells_of_lines}
 use Rattle.graph_model.specs.Fits.{IsGraph}
-use Rattle.run_state.specs.Run.{LineStage, Unissued, Issued, Out, Ending, Ended, Home, Had, Run, is_listed, stage_at, place_at, list_at, stage_out, stage_over, stage_ended, out, ended, timed}
+use Rattle.run_state.specs.Run.{LineStage, Unissued, Issued, Out, Ending, Ended, Home, Had, Run, is_listed, place_at, list_at, stage_out, stage_over, stage_ended, out, ended, timed}
 use Rattle.run_state.specs.Sound.{AccessesColumn, Sound}
 use Rattle.run_state.specs.Moves.{staged, issue, column_out, column_unused, column_back}
 use Rattle.run_state.specs.Work.{HoldsAll, put_cells}

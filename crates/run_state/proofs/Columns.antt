@@ -1,6 +1,6 @@
 -- The steps of columns keep the state sound.
 use Rattle.std.proofs.Common.{◌≡◌, ℕ, ◌<◌, true, false, ◌⊎◌, inl, inr, List, [], ◌∷◌, length, refl, sym, ◌∙◌, ap, subst, length-set}
-use Rattle.std.specs.Prelude.{◌≢◌, IsTrue, slice_set}
+use Rattle.std.specs.Prelude.{◌≢◌, slice_set}
 use Rattle.std.proofs.lemmas.List.{get_or-set_same, get_or-set_other}
 use Rattle.index_spaces.specs.Space.{points}
 use Rattle.graph_model.specs.declared.outcome.End.TheVariants.{Cancelled}

@@ -1,20 +1,14 @@
 -- What a line of a graph that fits names is declared.
-use Rattle.std.proofs.Common.{◌≡◌, ℕ, ◌<◌, Bool, true, false, List, [], ◌∷◌, ◌++◌, zero, suc, length, refl, sym, ◌∙◌, subst}
-use Rattle.std.specs.Prelude.{Contains, Option, Some, None, slice_get, option_map}
+use Rattle.std.proofs.Common.{◌≡◌, ℕ, ◌<◌, true, false, [], length, refl, sym, ◌∙◌, subst}
+use Rattle.std.specs.Prelude.{Option, Some, None, slice_get, option_map}
 use Rattle.std.specs.Option.{option_map_or}
-use Rattle.std.specs.List.{list_any}
-use Rattle.std.proofs.lemmas.Bool.{true≢false, or_parts, false_from_ne_true, leb-false, eqb-true}
-use Rattle.std.proofs.lemmas.Option.{none-some, same_Some}
-use Rattle.graph_model.specs.declared.decl.Decl.{Decl}
-use Rattle.graph_model.specs.declared.verb.Access.{Access}
+use Rattle.std.proofs.lemmas.Bool.{true≢false, or_parts, leb-false, eqb-true}
 use Rattle.graph_model.specs.declared.verb.Line.{Line}
 use Rattle.graph_model.specs.declared.verb.Verb.{Verb}
 use Rattle.graph_model.specs.declared.verb.Verb.TheVariants.{User, Trigger, Cancel, Merge, MergeIgnore, Phase, Arrive, Acquire, Release, Fill, Copy, Reduce, Task}
 use Rattle.graph_model.specs.Graph.{GraphValue, columns, locks, verb_at, is_acquire_of, is_release_of}
-use Rattle.graph_model.specs.Access.{verb_accesses}
 use Rattle.graph_model.specs.Rules.{Acquires, Releases}
-use Rattle.graph_model.specs.Fits.{line_fault, access_unknown, verb_unknown, LinesFit, IsGraph}
-use Rattle.graph_model.proofs.ListFacts.{contains_none, passes_some}
+use Rattle.graph_model.specs.Fits.{verb_unknown, IsGraph}
 use Rattle.graph_model.proofs.GraphFacts.{fit_at, fits_known}
 use Rattle.graph_model.proofs.LineFacts.{accesses_fit}
 use Rattle.run_state.specs.Sound.{AccessesColumn}

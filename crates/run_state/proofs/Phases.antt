@@ -1,19 +1,17 @@
 -- An arrival put in keeps the state sound.
 use Rattle.std.proofs.Common.{◌≡◌, ℕ, zero, suc, ◌<◌, true, false, cond, ◌⊎◌, inl, inr, List, [], ◌∷◌, ◌++◌, length, refl, sym, ◌∙◌, ap, subst, length-set, append-nil, arith}
-use Rattle.std.specs.Prelude.{◌≢◌, IsTrue, Option, Some, None, filter_map, slice_get, slice_index, slice_set, option_map}
+use Rattle.std.specs.Prelude.{◌≢◌, Option, Some, None, filter_map, slice_get, slice_index, slice_set}
 use Rattle.std.specs.Option.{option_map_or}
 use Rattle.std.proofs.lemmas.List.{get_or-set_same, get_or-set_other}
 use Rattle.std.proofs.lemmas.Bool.{true≢false, cases_eq, eq-eqb, ne_eqb}
 use Rattle.std.proofs.lemmas.Option.{none-some, same_Some}
 use Rattle.index_spaces.specs.declared.Op.{Op}
 use Rattle.graph_model.specs.declared.outcome.End.TheVariants.{Cancelled}
-use Rattle.graph_model.specs.declared.verb.Line.{Line}
 use Rattle.graph_model.specs.declared.verb.Verb.{Verb}
 use Rattle.graph_model.specs.declared.verb.Verb.TheVariants.{Phase, Arrive}
-use Rattle.graph_model.specs.declared.decl.BarrierInfo.{BarrierInfo}
-use Rattle.graph_model.specs.Graph.{GraphValue, barriers, verb_at, line_passes}
+use Rattle.graph_model.specs.Graph.{GraphValue, verb_at, line_passes}
 use Rattle.graph_model.specs.Evaluation.{eval_end, combined, reduced_with, arrival_value}
-use Rattle.run_state.specs.Run.{Run, is_listed, stage_at, out, started}
+use Rattle.run_state.specs.Run.{Run, is_listed, stage_at, started}
 use Rattle.run_state.specs.Sound.{is_arrive, value_for, Once, SoundPhases, Sound}
 use Rattle.run_state.specs.Moves.{arrive}
 use Rattle.std.proofs.lemmas.List.Sums.{fold_push}

@@ -11,7 +11,6 @@ use Rattle.graph_model.specs.declared.verb.Verb.{Verb}
 use Rattle.graph_model.specs.declared.verb.Verb.TheVariants.{User, Trigger, Cancel, Merge, MergeIgnore, Phase, Arrive, Acquire, Release, Fill, Copy, Reduce, Task}
 use Rattle.graph_model.specs.Graph.{GraphValue, columns, column_space, verb_at}
 use Rattle.graph_model.specs.Evaluation.{cells_of, column_of, evaluation, eval_end, answer_of, reduced_value, phase_value, phase_value_by, outcome}
-use Rattle.graph_model.specs.Trace.{IsLawful}
 use Rattle.run_state.specs.Run.{Run, stage_at, place_at, end_so_far}
 use Rattle.run_state.specs.Sound.{Sound}
 use Rattle.run_state.specs.Quiet.{Quiet, ByTimes, phase_so_far_by, phase_so_far, cells_at, outcome_of, GivesOutcome}

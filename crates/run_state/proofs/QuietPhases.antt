@@ -1,9 +1,9 @@
 -- In a quiet state the phases are those of the evaluation, and with them the whole outcome.
-use Rattle.std.proofs.Common.{◌≡◌, ℕ, ◌+◌, ◌<◌, true, false, [], length, refl, sym, ◌∙◌, ap, subst, arith}
+use Rattle.std.proofs.Common.{◌≡◌, ℕ, ◌+◌, true, false, [], length, refl, sym, ◌∙◌, ap, subst, arith}
 use Rattle.std.specs.Prelude.{Contains, ◌≢◌, ◌==◌, Option, Some, None, filter_map, slice_get, slice_index, option_map}
 use Rattle.std.specs.Option.{option_map_or}
 use Rattle.std.specs.List.{slice_index_or}
-use Rattle.std.proofs.lemmas.Bool.{true≢false, or_parts, leb-false, eq-eqb}
+use Rattle.std.proofs.lemmas.Bool.{true≢false, eq-eqb}
 use Rattle.std.proofs.lemmas.Option.{none-some, slice_get-get_or}
 use Rattle.index_spaces.specs.declared.Op.TheVariants as op
 use Rattle.index_spaces.specs.Space.{numbers_below}
@@ -18,7 +18,6 @@ use Rattle.graph_model.specs.declared.decl.BarrierInfo.{BarrierInfo}
 use Rattle.graph_model.specs.Graph.{GraphValue, barriers, verb_at}
 use Rattle.graph_model.specs.Edges.{edge, edges, edges_into}
 use Rattle.graph_model.specs.Evaluation.{is_ended, is_cancelled, cancels, evaluation, eval_end, arrival_value, reduced_with, reduced_value}
-use Rattle.graph_model.specs.Fits.{verb_unknown, IsGraph}
 use Rattle.graph_model.proofs.ListFacts.{passes_some, contains_filter, contains_below}
 use Rattle.graph_model.proofs.LineFacts.{phases_fit}
 use Rattle.run_state.specs.Run.{Run, is_listed, stage_at, started, ended}
@@ -26,7 +25,7 @@ use Rattle.run_state.specs.Sound.{is_arrive, value_for, Sound}
 use Rattle.run_state.specs.Quiet.{Quiet}
 use Rattle.run_state.proofs.Lists.{ended_over, contains_listed}
 use Rattle.run_state.proofs.Started.{ended_started, started_ends, cancelled_iff}
-use Rattle.run_state.proofs.Verbs.{verb_passes, verb_line, verb_below, arrival_is}
+use Rattle.run_state.proofs.Verbs.{verb_passes, verb_below, arrival_is}
 use Rattle.run_state.proofs.EdgesOf.{arrival_edge}
 use Rattle.run_state.proofs.Reductions.{once_fresh, numbers_fresh, same_reduced, by_number}
 use Rattle.run_state.proofs.Quiet.{evaluation_ended}

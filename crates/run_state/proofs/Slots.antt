@@ -1,6 +1,6 @@
 -- Where nothing can be taken, and lines are left to issue, fewer handles are pending than the need.
 use Rattle.std.proofs.Common.{◌≡◌, ℕ, zero, suc, ◌+◌, ◌<◌, ◌≤◌, Bool, true, false, cond, not, ◌⊎◌, inl, inr, List, [], ◌∷◌, ◌++◌, length, map, take, refl, sym, ◌∙◌, ap, subst, arith}
-use Rattle.std.specs.Prelude.{Contains, ◌≢◌, nat_lt, Option, Some, None, flat_map, fold, count_by, slice_get, slice_index, option_map}
+use Rattle.std.specs.Prelude.{Contains, ◌≢◌, nat_lt, Option, Some, None, flat_map, count_by, slice_get, slice_index, option_map}
 use Rattle.std.specs.Option.{option_map_or}
 use Rattle.std.proofs.Math.Seq.{take-suc}
 use Rattle.std.proofs.lemmas.Bool.{true≢false, cases_lt, lt-ltb, eq-eqb, false_from_ne_true, not-true}

@@ -1,7 +1,6 @@
 -- What follows for a line that was taken: it ends in the evaluation, and it is ready among the lines put back.
 use Rattle.std.proofs.Common.{◌≡◌, ℕ, ◌<◌, Bool, true, false, inl, inr, List, [], length, refl, sym, ◌∙◌, ap, subst}
 use Rattle.std.specs.Prelude.{Contains, ◌==◌}
-use Rattle.std.specs.List.{list_any}
 use Rattle.std.proofs.lemmas.Bool.{true≢false, true_from_ne_false, eqb-true, and_parts}
 use Rattle.graph_model.specs.declared.outcome.Verdict.{Verdict}
 use Rattle.graph_model.specs.declared.outcome.Verdict.TheVariants.{Fine, Fault}

@@ -1,29 +1,19 @@
 -- A line that was taken whole holds its columns with the cells that they had at home.
-use Rattle.std.proofs.Common.{◌≡◌, ℕ, ◌+◌, ◌<◌, true, false, inl, inr, List, [], ◌∷◌, ◌++◌, length, refl, sym, ◌∙◌, ap, subst, append_assoc, length-append, arith}
-use Rattle.std.specs.Prelude.{Contains, ◌≢◌, Option, Some, filter_map, flat_map, slice_get, slice_index_or}
-use Rattle.std.specs.Option.{option_map_or}
-use Rattle.std.proofs.lemmas.Bool.{leb-false}
-use Rattle.std.proofs.lemmas.Option.{slice_get-get_or}
+use Rattle.std.proofs.Common.{◌≡◌, ℕ, true, inl, inr, List, sym, ◌∙◌, ap, subst}
+use Rattle.std.specs.Prelude.{◌≢◌}
 use Rattle.std.proofs.lemmas.List.{get_or-set_same}
-use Rattle.std.proofs.lemmas.List.Elements.{Contains-append_cases, Contains-get_or, filter_map-append}
 use Rattle.index_spaces.specs.Space.{IsSpace}
 use Rattle.graph_model.specs.declared.outcome.End.TheVariants.{Cancelled}
-use Rattle.graph_model.specs.declared.decl.Decl.{Decl}
-use Rattle.graph_model.specs.declared.decl.Decl.TheVariants.{Space, Inst, Lock, Barrier}
-use Rattle.graph_model.specs.declared.verb.Why.TheVariants as why
-use Rattle.graph_model.specs.declared.decl.ColumnInfo.{ColumnInfo}
-use Rattle.graph_model.specs.Graph.{GraphValue, space_of, columns_of, named_spaces, columns, space_at, column_space}
+use Rattle.graph_model.specs.Graph.{GraphValue, column_space}
 use Rattle.graph_model.specs.Evaluation.{eval_end, end_by, cells_of_lines, column_of}
 use Rattle.graph_model.specs.Effect.{Cells, effect}
-use Rattle.graph_model.specs.Fits.{decl_unknown, decl_tests, DeclsFit, IsGraph}
-use Rattle.graph_model.proofs.ListFacts.{contains_none, contains_cases, map_contains}
+use Rattle.graph_model.specs.Fits.{IsGraph}
 use Rattle.graph_model.proofs.LineFacts.{accesses_fit}
 use Rattle.run_state.specs.Run.{Unissued, Out, Home, Had, Run, is_listed, stage_at, place_at, list_at, stage_issued, stage_out}
 use Rattle.run_state.specs.Sound.{AccessesColumn, home_cells, Sound}
 use Rattle.run_state.specs.Work.{HoldsAll, cells_from, performed}
 use Rattle.run_state.specs.Quiet.{CanTake}
 use Rattle.run_state.specs.WholeLine.{take_whole}
-use Rattle.run_state.proofs.Known.{column_there}
 use Rattle.run_state.proofs.Lists.{stage_there, out_is}
 use Rattle.run_state.proofs.Work.{work_does, work_cells}
 use Rattle.run_state.proofs.Ranks.{cell_of_point}

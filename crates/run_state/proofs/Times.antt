@@ -1,6 +1,6 @@
 -- A line that draws its time keeps the state sound.
 use Rattle.std.proofs.Common.{◌≡◌, ℕ, ◌+◌, ◌<◌, true, ◌⊎◌, inl, inr, List, length, refl, sym, ◌∙◌, ap, subst, length-set, arith}
-use Rattle.std.specs.Prelude.{◌≢◌, IsTrue, Option, Some, None, is_some, slice_set}
+use Rattle.std.specs.Prelude.{◌≢◌, Option, Some, None, is_some, slice_set}
 use Rattle.std.proofs.lemmas.List.{get_or-set_same, get_or-set_other}
 use Rattle.std.proofs.lemmas.Bool.{true≢false, cases_order}
 use Rattle.std.proofs.lemmas.Option.{none-some, same_Some}
@@ -9,7 +9,7 @@ use Rattle.graph_model.specs.Graph.{GraphValue}
 use Rattle.graph_model.specs.Path.{last}
 use Rattle.graph_model.specs.Rules.{Acquires, Releases}
 use Rattle.graph_model.specs.Evaluation.{eval_end}
-use Rattle.run_state.specs.Run.{Run, is_listed, stage_at, time_at, list_at, out, started, over, ended, timed}
+use Rattle.run_state.specs.Run.{Run, is_listed, stage_at, time_at, list_at, started, over, ended, timed}
 use Rattle.run_state.specs.Sound.{SoundLocks, SoundTimes, Sound}
 use Rattle.run_state.specs.Moves.{draw}
 use Rattle.run_state.proofs.Counts.{one_more_counted}

@@ -1,30 +1,19 @@
 -- A line that was taken does what it does in the evaluation.
-use Rattle.std.proofs.Common.{◌≡◌, ℕ, Bool, true, false, List, [], length, refl, sym, ◌∙◌, ap, arith}
-use Rattle.std.specs.Prelude.{Contains, ◌≢◌, Option, Some, None, slice_get, option_map}
-use Rattle.std.specs.Option.{option_map_or}
-use Rattle.std.specs.List.{list_any, list_all}
-use Rattle.std.proofs.lemmas.Bool.{true≢false, false_from_ne_true, not-false}
-use Rattle.index_spaces.specs.Space.{has_point, points}
-use Rattle.graph_model.specs.declared.outcome.Verdict.TheVariants.{Fine}
+use Rattle.std.proofs.Common.{◌≡◌, ℕ, Bool, true, false, length, refl, sym, ◌∙◌, ap}
+use Rattle.std.specs.Prelude.{◌≢◌}
+use Rattle.std.proofs.lemmas.Bool.{true≢false, false_from_ne_true}
+use Rattle.index_spaces.specs.Space.{points}
 use Rattle.graph_model.specs.declared.outcome.End.TheVariants.{Cancelled}
-use Rattle.graph_model.specs.declared.verb.Access.{Access}
-use Rattle.graph_model.specs.declared.verb.Line.{Line}
-use Rattle.graph_model.specs.declared.verb.Verb.{Verb}
-use Rattle.graph_model.specs.declared.verb.Why.TheVariants as why
 use Rattle.graph_model.specs.Graph.{GraphValue, column_space, space_at, verb_at}
-use Rattle.graph_model.specs.Access.{accesses, verb_accesses}
-use Rattle.graph_model.specs.Effect.{Cells, Effect, cells_after, effect, verb_changes, verb_verdict}
-use Rattle.graph_model.specs.Evaluation.{has_ended, is_cancelled, end_by, made_by, step_by, evaluation, eval_end, eval_changes, cells_of, cells_of_lines, column_of}
-use Rattle.graph_model.specs.Fits.{line_tests, access_outside, IsGraph}
-use Rattle.graph_model.proofs.ListFacts.{passes_some, passes_each}
+use Rattle.graph_model.specs.Access.{accesses}
+use Rattle.graph_model.specs.Effect.{Cells, Effect, cells_after, effect}
+use Rattle.graph_model.specs.Evaluation.{has_ended, is_cancelled, end_by, made_by, step_by, evaluation, eval_changes, cells_of, cells_of_lines, column_of}
 use Rattle.graph_model.proofs.Turns.{turns_after}
 use Rattle.graph_model.proofs.Changes.{HavePoints, cells_after_at, listed_point, map_agree}
 use Rattle.graph_model.proofs.Confluence.{effect_same, same_effect}
 use Rattle.graph_model.proofs.LineFacts.{accesses_fit}
-use Rattle.graph_model.proofs.RulesTable.{point_listed}
-use Rattle.graph_model.proofs.GraphFacts.{accesses_have_points, none_first}
+use Rattle.graph_model.proofs.GraphFacts.{accesses_have_points}
 use Rattle.run_state.specs.Run.{Run, is_listed, stage_at, list_at, ended}
-use Prim.Native.Nat.{◌<◌}
 use Rattle.run_state.specs.Sound.{AccessesColumn, Sound}
 use Rattle.run_state.specs.Work.{cells_now, HoldsAll, performed, PerformsAsEvaluated}
 use Rattle.run_state.proofs.Lists.{out_started}

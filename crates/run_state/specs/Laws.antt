@@ -11,7 +11,7 @@ use Rattle.graph_model.specs.Effect.{Cells, effect}
 use Rattle.graph_model.specs.Evaluation.{eval_end, end_by, column_of}
 use Rattle.graph_model.specs.Fits.{IsGraph}
 use Rattle.graph_model.specs.Need.{IsNeed}
-use Rattle.run_state.specs.Run.{LineStage, Run, Issued, Out, Home, Had, is_listed, stage_at, time_at, place_at, list_at, out, ended}
+use Rattle.run_state.specs.Run.{LineStage, Run, Out, Home, Had, is_listed, stage_at, time_at, place_at, list_at, out, ended}
 use Rattle.run_state.specs.Sound.{AccessesColumn, is_arrive, home_cells, Sound}
 use Rattle.run_state.specs.Moves.{staged, issue, claim, unclaim, ending, close, column_out, column_unused, column_back, arrive, hold, let_go, free, draw}
 use Rattle.run_state.specs.Work.{HoldsAll, cells_from, performed, put_cells, PerformsAsEvaluated}

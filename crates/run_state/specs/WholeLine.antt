@@ -1,24 +1,19 @@
 -- The steps of an engine that takes or puts back a whole line in one call.
-use Rattle.std.specs.Prelude.{◌≡◌, ◌≢◌, ℕ, false, List, [], ◌∷◌, ◌++◌, map, Option, Some, None, IsTrue, Contains, slice_get, slice_index, slice_set}
+use Rattle.std.specs.Prelude.{ℕ, List, [], ◌∷◌, ◌++◌, map, Option, Some, None, slice_get, slice_index, slice_set}
 use Rattle.std.specs.Option.{option_map_or}
 use Rattle.index_spaces.specs.declared.Op.{Op}
 use Rattle.index_spaces.specs.declared.Op.TheVariants as op
 use Rattle.graph_model.specs.declared.outcome.End.{End}
 use Rattle.graph_model.specs.declared.outcome.End.TheVariants.{Done, Faulted, Cancelled, Waiting}
 use Rattle.graph_model.specs.declared.verb.Access.{Access}
-use Rattle.graph_model.specs.declared.verb.Edge.{Edge}
 use Rattle.graph_model.specs.declared.verb.Verb.{Verb}
 use Rattle.graph_model.specs.declared.verb.Verb.TheVariants.{Phase, Arrive, Acquire, Release}
 use Rattle.graph_model.specs.declared.decl.BarrierInfo.{BarrierInfo}
-use Rattle.graph_model.specs.Graph.{GraphValue, barriers, never_comes, verb_at}
-use Rattle.graph_model.specs.Edges.{edges}
+use Rattle.graph_model.specs.Graph.{GraphValue, barriers, verb_at}
 use Rattle.graph_model.specs.Access.{accesses}
-use Rattle.graph_model.specs.Rules.{Acquires}
-use Rattle.graph_model.specs.Evaluation.{eval_end, combined}
-use Rattle.run_state.specs.Run.{Issued, Out, Place, Home, Had, Run, is_listed, stage_at, place_at, list_at, end_so_far, out, over, ended, timed}
-use Rattle.run_state.specs.Sound.{AccessesColumn}
+use Rattle.graph_model.specs.Evaluation.{combined}
+use Rattle.run_state.specs.Run.{Place, Home, Had, Run, stage_at, list_at, end_so_far}
 use Rattle.run_state.specs.Moves.{claim, without, draw, ending, close}
-use Rattle.run_state.specs.Work.{put_cells}
 
 -- the columns of a line, and its reservation
 abbrev pub column_list : GraphValue → ℕ → List ℕ
