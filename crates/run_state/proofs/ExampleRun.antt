@@ -187,7 +187,7 @@ ended_stages Unissued h = (refl, λ e. e, λ e. cc)
 
 quiet_by_tests : (g : GraphValue) (run : Run) → Between g run → is_all_ended run ≡ true → ((i : ℕ) → i < length g.lines → issued run.stages i ≡ true) → Quiet g run
 quiet_by_tests g run b h all = record {
-  all_issued = all;
+  first_issued = all;
   none_out = λ i. (ended_stages (stage_at run.stages i) (all_ended_stage run.stages h i)).0;
   none_ending = λ i. (ended_stages (stage_at run.stages i) (all_ended_stage run.stages h i)).1;
   none_taken = λ i c. (ended_stages (stage_at run.stages i) (all_ended_stage run.stages h i)).2 c.is_issued;

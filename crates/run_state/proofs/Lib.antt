@@ -10,6 +10,7 @@ pub mod Phases
 pub mod Work
 pub mod Verbs
 pub mod EdgesOf
+pub mod Stuck
 pub mod Quiet
 pub mod QuietColumns
 pub mod QuietTrace

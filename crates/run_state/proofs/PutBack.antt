@@ -15,12 +15,12 @@ use Rattle.graph_model.specs.declared.decl.BarrierInfo.{BarrierInfo}
 use Rattle.graph_model.specs.Graph.{GraphValue, barriers, verb_at, is_release_of}
 use Rattle.graph_model.specs.Rules.{Acquires, Releases}
 use Rattle.graph_model.specs.Evaluation.{eval_end}
-use Rattle.run_state.specs.Run.{LineStage, Unissued, Issued, Out, Ending, Ended, Place, Home, Had, Run, is_listed, stage_at, time_at, place_at, list_at, stage_issued, stage_out, stage_started, stage_over, stage_ended, end_so_far, out, started, ended}
+use Rattle.run_state.specs.Run.{LineStage, Unissued, Ending, Ended, Place, Home, Had, Run, is_listed, stage_at, time_at, place_at, list_at, stage_issued, stage_out, stage_started, stage_over, stage_ended, end_so_far, out, started, ended}
 use Rattle.run_state.specs.Sound.{AccessesColumn, is_arrive, Sound}
 use Rattle.run_state.specs.Moves.{draw, ending}
 use Rattle.run_state.specs.Work.{put_cells}
 use Rattle.run_state.specs.WholeLine.{column_list, lock_of, all_home, all_back, columns_back, arrived_with, arrive_some, holders_without, freed_with, free_some, columns_for, op_by, phase_op, arrival_by, arrival_for, freed_lock, frees_by, frees_for, put_back_whole}
-use Rattle.run_state.proofs.Lists.{ended_over, each_set, listed_here, listed_there, listed_cases, none_listed, stage_there, is_some_of}
+use Rattle.run_state.proofs.Lists.{ended_over, out_not_ended, each_set, listed_here, listed_there, listed_cases, none_listed, stage_there, is_some_of}
 use Rattle.run_state.proofs.Known.{column_there, lock_there}
 use Rattle.run_state.proofs.Started.{path_ended, kept_is}
 use Rattle.run_state.proofs.Columns.{had_one, with_one, one_more, one_new, one_cases, column_back-sound}
@@ -301,18 +301,11 @@ module _ (g : GraphValue) (run : Run) (s : Sound g run) (rest : AtRest g run) (i
       let v = passes_verb (is_release_of q) g i rel in
       let a = release_of_acquire g s.graph i q rel in
       let e : ended run.stages q ≡ true = acquire_is_ended s i q rel begun in
-      let ends : end_so_far (stage_at run.stages q) ≡ Done = kept_is s.on_lines q (over_of (stage_at run.stages q) e) ∙ done in (
+      let ends : end_so_far (stage_at run.stages q) ≡ Done = kept_is s.on_lines q (ended_over (stage_at run.stages q) e) ∙ done in (
         a.0,
         ap (λ (o : Option Verb). option_map_or (frees_by g run) o None) v.1 ∙ (ap (frees_by g run) (release_is q v.0 v.2)
             ∙ (ap (λ y. freed_lock q y (lock_of g q)) ends ∙ ap (freed_lock q Done) (acquires_lock g q a.0 a.1))),
       )
-    where
-      over_of : (y : LineStage) → stage_ended y ≡ true → stage_over y ≡ true
-      over_of (Ended z) h = refl
-      over_of (Ending z) h = refl
-      over_of Out h = h
-      over_of Issued h = h
-      over_of Unissued h = h
 
   -- a line that is put back
   pub put_back_is_sound : Sound g (put_back_whole g run i x xs)
@@ -341,16 +334,9 @@ module _ (g : GraphValue) (run : Run) (s : Sound g run) (rest : AtRest g run) (i
 
   last_out : (k : ℕ) → out last_stages k ≡ true → (k ≡ i → ⊥) × (out run.stages k ≡ true)
   last_out k h = elim (cases_eq k i) [
-    | inl e ↦ absurd (not_out (stage_at last_stages i) last_here (ap (out last_stages) (sym e) ∙ h))
+    | inl e ↦ absurd (true≢false (sym last_here ∙ out_not_ended (stage_at last_stages i) (ap (out last_stages) (sym e) ∙ h)))
     | inr ne ↦ (ne, ap stage_out (sym (last_other k ne)) ∙ h)
   ]
-    where
-      not_out : (y : LineStage) → stage_ended y ≡ true → stage_out y ≡ true → ⊥
-      not_out (Ended z) a b = true≢false (sym b)
-      not_out (Ending z) a b = true≢false (sym a)
-      not_out Out a b = true≢false (sym a)
-      not_out Issued a b = true≢false (sym a)
-      not_out Unissued a b = true≢false (sym a)
 
   ended_or_kept : (k : ℕ) → (k ≡ i) ⊎ (ended run.stages k ≡ true) → ended last_stages k ≡ true
   ended_or_kept k (inl e) = ap (ended last_stages) e ∙ last_here
@@ -371,13 +357,6 @@ module _ (g : GraphValue) (run : Run) (s : Sound g run) (rest : AtRest g run) (i
         o.0 (had_one k i (sym had ∙ rest.out_has i c is_out (not_cancelled f.0) f.1))) ∙ had);
     out_holds = λ k l h n a. (let o = last_out k h in
         holders_stay run.holders (frees_for g run i) (λ b e. let f = frees_found b e in subst (λ z. b.0 < z) (sym s.on_locks.each_lock) (lock_there s.graph b.1 b.0 f.1)) l k (rest.out_holds k l o.1 n a)
-        (λ b e same. (let f = frees_found b e in both_ways (stage_at run.stages k) o.1 (ap (ended run.stages) same ∙ f.2))));
+        (λ b e same. (let f = frees_found b e in true≢false (sym (ap (ended run.stages) same ∙ f.2) ∙ out_not_ended (stage_at run.stages k) o.1))));
     out_untimed = λ k h. (let o = last_out k h in ap is_some (get_or-set_other run.times i k (Some run.clock) None o.0) ∙ rest.out_untimed k o.1);
   }
-    where
-      both_ways : (y : LineStage) → stage_out y ≡ true → stage_ended y ≡ true → ⊥
-      both_ways Out a b = true≢false (sym b)
-      both_ways (Ended z) a b = true≢false (sym a)
-      both_ways (Ending z) a b = true≢false (sym a)
-      both_ways Issued a b = true≢false (sym a)
-      both_ways Unissued a b = true≢false (sym a)

@@ -1,9 +1,8 @@
 -- In a quiet state no reservation is held, each line that is left waits in the evaluation, and the ends are those of the evaluation.
-use Rattle.std.proofs.Common.{◌≡◌, ℕ, zero, suc, ◌+◌, ◌<◌, ◌≤◌, true, false, ◌⊎◌, inl, inr, List, [], ◌∷◌, length, refl, sym, ◌∙◌, ap, subst, arith}
-use Rattle.std.specs.Prelude.{◌≢◌, Option, Some, None}
+use Rattle.std.proofs.Common.{◌≡◌, ℕ, zero, suc, ◌+◌, ◌<◌, ◌≤◌, true, false, inl, inr, List, length, refl, sym, ◌∙◌, ap, subst, arith}
+use Rattle.std.specs.Prelude.{◌≢◌, Option, Some}
 use Rattle.std.specs.Option.{option_map_or}
-use Rattle.std.proofs.lemmas.Bool.{true≢false, cases_Bool, cases_lt, eq-eqb, false_from_ne_true}
-use Rattle.std.proofs.lemmas.Option.{none-some}
+use Rattle.std.proofs.lemmas.Bool.{true≢false, cases_Bool, cases_lt, false_from_ne_true}
 use Rattle.std.proofs.lemmas.List.{get_or_past}
 use Rattle.graph_model.specs.declared.outcome.Verdict.TheVariants.{Fine}
 use Rattle.graph_model.specs.declared.outcome.End.TheVariants.{Done, Cancelled, Waiting}
@@ -19,14 +18,15 @@ use Rattle.graph_model.proofs.Waiting.{waits_if_reached, end_in_left, end_in_end
 use Rattle.graph_model.proofs.Turns.{turns_after}
 use Rattle.graph_model.proofs.RulesTable.{passes_below}
 use Rattle.graph_model.proofs.GraphFacts.{edges_in_range}
-use Rattle.run_state.specs.Run.{LineStage, Unissued, Issued, Out, Ending, Ended, Run, Had, is_listed, stage_at, place_at, list_at, stage_issued, stage_out, stage_over, stage_ended, end_so_far, started, ended}
+use Rattle.run_state.specs.Run.{LineStage, Unissued, Issued, Out, Ending, Ended, Run, is_listed, stage_at, list_at, stage_out, stage_over, stage_ended, end_so_far, started, ended}
 use Rattle.run_state.specs.Sound.{Sound}
-use Rattle.run_state.specs.Quiet.{IsFree, Quiet}
-use Rattle.run_state.proofs.Lists.{listed_here, started_cases, ended_over}
-use Rattle.run_state.proofs.Known.{lock_there, acquire_one}
+use Rattle.run_state.specs.Quiet.{Quiet}
+use Rattle.run_state.proofs.Lists.{ended_over}
+use Rattle.run_state.proofs.Known.{lock_there}
 use Rattle.run_state.proofs.Started.{ended_started, path_ended, started_ends, kept_is}
 use Rattle.run_state.proofs.Work.{step_parts}
-use Rattle.run_state.proofs.Verbs.{passes_verb, verb_passes, acquire_is, release_is, acquire_some}
+use Rattle.run_state.proofs.Stuck.{Blocked, stuck_ended, stuck_issued, blocked}
+use Rattle.run_state.proofs.Verbs.{passes_verb, verb_passes, acquire_is, release_is}
 use Rattle.run_state.proofs.EdgesOf.{never_with_path}
 
 -- the end of an acquire that is not cancelled
@@ -57,50 +57,15 @@ release_comes g r q rel =
     let v = passes_verb (is_release_of q) g r rel in
     verb_passes (never_comes_as g r) g r v.0 v.1 ∙ ap (never_comes_as g r) (release_is q v.0 v.2)
 
--- what is left of the stages in a quiet state
-pub issued_only : (s : LineStage) → stage_issued s ≡ true → stage_out s ≡ false → (stage_over s ≡ true → stage_ended s ≡ true) → stage_ended s ≡ false → s ≡ Issued
-issued_only Unissued i o e l = absurd (true≢false (sym i))
-issued_only Issued i o e l = refl
-issued_only Out i o e l = absurd (true≢false o)
-issued_only (Ending x) i o e l = absurd (true≢false (sym (e refl)))
-issued_only (Ended x) i o e l = absurd (true≢false l)
-
 module _ (g : GraphValue) (run : Run) (s : Sound g run) (q : Quiet g run) where
   -- a line that was taken is ended
   pub quiet_ended : (i : ℕ) → started run.stages i ≡ true → ended run.stages i ≡ true
-  quiet_ended i h = elim (started_cases (stage_at run.stages i) h) [
-    | inl o ↦ absurd (true≢false (sym o ∙ q.none_out i))
-    | inr o ↦ q.none_ending i o
-  ]
+  quiet_ended = stuck_ended g run s (length g.lines) q
 
-  -- a line that is left is issued
-  pub quiet_issued : (i : ℕ) → i < length g.lines → ended run.stages i ≡ false → stage_at run.stages i ≡ Issued
-  quiet_issued i h left = issued_only (stage_at run.stages i) (q.all_issued i h) (q.none_out i) (q.none_ending i) left
-
-  -- all columns are at home
-  pub quiet_home : (c k : ℕ) → place_at run.places c ≢ Had k
-  quiet_home c k e = true≢false (sym (s.on_columns.had_out c k e) ∙ q.none_out k)
-
-  -- a line that is ready and was not taken acquires a reservation that is held
-  blocked_by : (k l : ℕ) → Acquires g k l → (ks : List ℕ) → list_at run.holders l ≡ ks → (list_at run.holders l ≡ [] → ⊥) → (h : ℕ) × (is_listed (list_at run.holders l) h ≡ true)
-  blocked_by k l a [] e ne = absurd (ne e)
-  blocked_by k l a (h ∷ hs) e ne = (h, ap (λ ks. is_listed ks h) e ∙ listed_here h hs)
-
-  ready_blocked : (k : ℕ) → IsReadyLine (edges g) (length g.lines) (never_comes g) (ended run.stages) k → (l : ℕ) × Acquires g k l × ((h : ℕ) × (is_listed (list_at run.holders l) h ≡ true))
-  ready_blocked k r =
-      let is : stage_at run.stages k ≡ Issued = quiet_issued k r.below r.left in
-      let no : IsFree g run k → ⊥ = λ f. q.none_taken k (record { is_issued = is; comes = r.comes; sources = r.sources; is_free = f }) in
-      elim (acquires_or_not (verb_at g k) refl) [
-        | inl a ↦ (a.0, a.1, blocked_by k a.0 a.1 (list_at run.holders a.0) refl (λ e. no (inr ((λ l b. ap (list_at run.holders) (acquire_one g k l a.0 b a.1) ∙ e), λ c x j. quiet_home c j))))
-        | inr n ↦ absurd (no (inr ((λ l b. absurd (n l b)), λ c x j. quiet_home c j)))
-      ]
-    where
-      acquires_or_not : (o : Option Verb) → verb_at g k ≡ o → ((l : ℕ) × Acquires g k l) ⊎ ((l : ℕ) → Acquires g k l → ⊥)
-      acquires_or_not None e = inr (λ l a. let v = passes_verb (is_acquire_of l) g k a in none-some v.0 (sym e ∙ v.1))
-      acquires_or_not (Some v) e = elim (acquire_some v) [
-        | inl a ↦ inl (a.0, verb_passes (is_acquire_of a.0) g k v e ∙ (ap (is_acquire_of a.0) a.1 ∙ eq-eqb a.0 a.0 refl))
-        | inr n ↦ inr (λ l a. n l (sym (verb_passes (is_acquire_of l) g k v e) ∙ a))
-      ]
+  -- a line that is ready acquires a reservation that is held
+  ready_blocked : (k : ℕ) → IsReadyLine (edges g) (length g.lines) (never_comes g) (ended run.stages) k → Blocked g run k
+  ready_blocked k r = blocked g run s (length g.lines) q k
+      (λ f. q.none_taken k (record { is_issued = stuck_issued g run s (length g.lines) q k r.below r.left; comes = r.comes; sources = r.sources; is_free = f }))
 
   -- no reservation is held: each holder's release is before a line that waits for a later reservation
   nobody_holds_from : (m l h : ℕ) → length (locks g) ≤ l + m → is_listed (list_at run.holders l) h ≡ true → ⊥
@@ -147,7 +112,7 @@ module _ (g : GraphValue) (run : Run) (s : Sound g run) (q : Quiet g run) where
   quiet_end i = elim (cases_Bool (ended run.stages i)) [
     | inl e ↦ kept_is s.on_lines i (ended_over (stage_at run.stages i) e)
     | inr left ↦ elim (cases_lt i (length g.lines)) [
-      | inl h ↦ ap end_so_far (quiet_issued i h left) ∙ sym (left_waits i h left)
+      | inl h ↦ ap end_so_far (stuck_issued g run s (length g.lines) q i h left) ∙ sym (left_waits i h left)
       | inr past ↦ (
           let none : stage_at run.stages i ≡ Unissued = get_or_past run.stages i Unissued (subst (λ n. n ≤ i) (sym s.on_lines.each_line) past) in
           ap end_so_far none ∙ sym (end_in_left (evaluation g) i (false_from_ne_true (has_ended (evaluation g) i) (λ e. let b : i < length g.lines = ((ends_in_order g).each i e).0 in absurd (omega arith)))))

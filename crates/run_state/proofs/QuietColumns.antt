@@ -15,7 +15,8 @@ use Rattle.run_state.specs.Sound.{home_cells, Sound}
 use Rattle.run_state.specs.Quiet.{Quiet}
 use Rattle.run_state.proofs.Lists.{ended_over, map_same}
 use Rattle.run_state.proofs.Started.{changed_back}
-use Rattle.run_state.proofs.Quiet.{evaluation_ended, quiet_home}
+use Rattle.run_state.proofs.Quiet.{evaluation_ended}
+use Rattle.run_state.proofs.Stuck.{stuck_home}
 
 -- the cells of the evaluation are those by all its lines
 changes_by_lines : (g : GraphValue) (ss : List Step) → ((s : Step) → Contains ss s → eval_changes g s.line ≡ s.changes) → flat_map (λ (s : Step). s.changes) ss ≡ flat_map (eval_changes g) (map (λ (s : Step). s.line) ss)
@@ -47,7 +48,7 @@ place_home (Had k) h = absurd (h k refl)
 -- each column is at home, with the cells of the evaluation
 pub quiet_column : (g : GraphValue) (run : Run) → Sound g run → Quiet g run → (c : ℕ) → place_at run.places c ≡ Home (column_of g (cells_of (evaluation g)) c).cells
 quiet_column g run s q c =
-    let at = place_home (place_at run.places c) (quiet_home g run s q c) in
+    let at = place_home (place_at run.places c) (stuck_home g run s (length g.lines) q c) in
     let same : home_cells g (list_at run.back c) c ≡ (column_of g (cells_of (evaluation g)) c).cells =
     map_same (cells_of_lines g (is_listed (list_at run.back c)) c) (cells_of (evaluation g) c) (points (column_space g c))
     (λ p. left_out g (is_listed (list_at run.back c)) c p (order g)

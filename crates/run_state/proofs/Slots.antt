@@ -1,10 +1,9 @@
 -- Where nothing can be taken, and lines are left to issue, fewer handles are pending than the need.
 use Rattle.std.proofs.Common.{◌≡◌, ℕ, zero, suc, ◌+◌, ◌<◌, ◌≤◌, Bool, true, false, cond, not, ◌⊎◌, inl, inr, List, [], ◌∷◌, ◌++◌, length, map, take, refl, sym, ◌∙◌, ap, subst, arith}
-use Rattle.std.specs.Prelude.{Contains, ◌≢◌, nat_lt, Option, Some, None, flat_map, count_by, slice_get, slice_index, option_map}
+use Rattle.std.specs.Prelude.{Contains, nat_lt, Option, Some, flat_map, count_by, slice_get, slice_index, option_map}
 use Rattle.std.specs.Option.{option_map_or}
 use Rattle.std.proofs.Math.Seq.{take-suc}
-use Rattle.std.proofs.lemmas.Bool.{true≢false, cases_lt, lt-ltb, eq-eqb, false_from_ne_true, not-true}
-use Rattle.std.proofs.lemmas.Option.{none-some}
+use Rattle.std.proofs.lemmas.Bool.{true≢false, cases_lt, lt-ltb, false_from_ne_true, not-true}
 use Rattle.std.proofs.lemmas.List.Sums.{fold_push}
 use Rattle.std.proofs.lemmas.List.Elements.{Contains-append_left, Contains-append_right}
 use Rattle.index_spaces.specs.Space.{numbers_below}
@@ -25,14 +24,14 @@ use Rattle.graph_model.proofs.ReadyLine.{IsReadyLine, ready_or_never}
 use Rattle.graph_model.proofs.NeedTable.{largest_above}
 use Rattle.graph_model.proofs.RulesTable.{passes_below}
 use Rattle.graph_model.proofs.GraphFacts.{edges_in_range}
-use Rattle.run_state.specs.Run.{Issued, Run, Had, is_listed, stage_at, place_at, list_at, started, ended}
+use Rattle.run_state.specs.Run.{Run, is_listed, list_at, started, ended}
 use Rattle.run_state.specs.Sound.{Sound}
-use Rattle.run_state.specs.Quiet.{IsFree, Stuck, left_among}
-use Rattle.run_state.proofs.Lists.{listed_here, started_cases}
-use Rattle.run_state.proofs.Known.{lock_there, acquire_one}
+use Rattle.run_state.specs.Quiet.{Stuck, left_among}
+use Rattle.run_state.proofs.Known.{lock_there}
 use Rattle.run_state.proofs.Started.{path_ended, started_ends}
-use Rattle.run_state.proofs.Verbs.{passes_verb, verb_passes, acquire_is, release_is, acquire_some}
-use Rattle.run_state.proofs.Quiet.{acquire_done, release_no_acquire, issued_only}
+use Rattle.run_state.proofs.Verbs.{passes_verb, acquire_is, release_is}
+use Rattle.run_state.proofs.Quiet.{acquire_done, release_no_acquire}
+use Rattle.run_state.proofs.Stuck.{Blocked, stuck_ended, stuck_issued, blocked}
 
 -- the edges of the need: those of the graph, and from each release to each acquire of its reservation
 wider : (g : GraphValue) {i j : ℕ} → Path (edges g) i j → Path (need_edges g) i j
@@ -88,40 +87,15 @@ open_at_same g k o (inl e) = subst (OpenEnd g k) e o
 open_at_same g k o (inr p) = open_on g k o (wider g p)
 
 module _ (g : GraphValue) (run : Run) (s : Sound g run) (k : ℕ) (q : Stuck g run k) where
-  was_ended : (i : ℕ) → started run.stages i ≡ true → ended run.stages i ≡ true
-  was_ended i h = elim (started_cases (stage_at run.stages i) h) [ inl o ↦ absurd (true≢false (sym o ∙ q.none_out i)) | inr o ↦ q.none_ending i o ]
-
-  all_home : (c i : ℕ) → place_at run.places c ≢ Had i
-  all_home c i e = true≢false (sym (s.on_columns.had_out c i e) ∙ q.none_out i)
-
-  Blocked : ℕ → Type 0
-  Blocked m = (l : ℕ) × Acquires g m l × ((h : ℕ) × (is_listed (list_at run.holders l) h ≡ true))
-
-  holder_of : (l : ℕ) (ks : List ℕ) → list_at run.holders l ≡ ks → (list_at run.holders l ≡ [] → ⊥) → (h : ℕ) × (is_listed (list_at run.holders l) h ≡ true)
-  holder_of l [] e ne = absurd (ne e)
-  holder_of l (h ∷ hs) e ne = (h, ap (λ ks. is_listed ks h) e ∙ listed_here h hs)
-
-  blocked_if : (m : ℕ) → (IsFree g run m → ⊥) → (o : Option Verb) → verb_at g m ≡ o → Blocked m
-  unfolding Blocked
-  blocked_if m not_free None e = absurd (not_free (inr ((λ l b. let v = passes_verb (is_acquire_of l) g m b in absurd (none-some v.0 (sym e ∙ v.1))), λ c x j. all_home c j)))
-  blocked_if m not_free (Some v) e = elim (acquire_some v) [
-    | inl a ↦ (
-        let own : Acquires g m a.0 = verb_passes (is_acquire_of a.0) g m v e ∙ (ap (is_acquire_of a.0) a.1 ∙ eq-eqb a.0 a.0 refl) in
-        (a.0, own, holder_of a.0 (list_at run.holders a.0) refl (λ z. not_free (inr ((λ l b. ap (list_at run.holders) (acquire_one g m l a.0 b own) ∙ z), λ c x j. all_home c j)))))
-    | inr n ↦ absurd (not_free (inr ((λ l b. absurd (n l (sym (verb_passes (is_acquire_of l) g m v e) ∙ b))), λ c x j. all_home c j)))
-  ]
-
-  unissued_or_blocked : (m : ℕ) → IsReadyLine (edges g) (length g.lines) (never_comes g) (ended run.stages) m → (k ≤ m) ⊎ Blocked m
+  unissued_or_blocked : (m : ℕ) → IsReadyLine (edges g) (length g.lines) (never_comes g) (ended run.stages) m → (k ≤ m) ⊎ Blocked g run m
   unissued_or_blocked m r = elim (cases_lt m k) [
-    | inl below ↦ (
-        let is : stage_at run.stages m ≡ Issued = issued_only (stage_at run.stages m) (q.first_issued m below) (q.none_out m) (q.none_ending m) r.left in
-        inr (blocked_if m (λ f. q.none_taken m (record { is_issued = is; comes = r.comes; sources = r.sources; is_free = f })) (verb_at g m) refl))
+    | inl below ↦ inr (blocked g run s k q m
+        (λ f. q.none_taken m (record { is_issued = stuck_issued g run s k q m below r.left; comes = r.comes; sources = r.sources; is_free = f })))
     | inr above ↦ inl above
   ]
 
   -- the release of an acquire that holds
   holder_open : (n l h : ℕ) → length (locks g) ≤ l + n → is_listed (list_at run.holders l) h ≡ true → (r : ℕ) × Releases g r h × OpenEnd g k r
-  unfolding Blocked
   holder_open zero l h few held = (let b : l < length (locks g) = lock_there s.graph h l (s.on_locks.holder_acquires l h held) in absurd (omega arith))
   holder_open (suc n) l h few held =
       let acquires : Acquires g h l = s.on_locks.holder_acquires l h held in
@@ -137,7 +111,7 @@ module _ (g : GraphValue) (run : Run) (s : Sound g run) (k : ℕ) (q : Stuck g r
             | inr b ↦ elim ready.2 [
               | inl same ↦ absurd (release_no_acquire g r.0 h b.0 r.1 (subst (λ x. Acquires g x b.0) same b.1))
               | inr path ↦ elim (s.accepted.sections r.0 ready.0 h r.1 path) [
-                | inl is ↦ absurd (true≢false (sym (was_ended h begun) ∙ (ap (ended run.stages) (sym is) ∙ ready.1.left)))
+                | inl is ↦ absurd (true≢false (sym (stuck_ended g run s k q h begun) ∙ (ap (ended run.stages) (sym is) ∙ ready.1.left)))
                 | inr (inl before) ↦ absurd (true≢false (sym (path_ended s.on_lines ready.0 h before begun) ∙ ready.1.left))
                 | inr (inr within) ↦ (
                     let above : l < b.0 = s.accepted.descends h ready.0 l b.0 (record { acquires = acquires; entered = within.0; release = r.0; releases = r.1; left = path }) b.1 in
@@ -153,7 +127,6 @@ module _ (g : GraphValue) (run : Run) (s : Sound g run) (k : ℕ) (q : Stuck g r
 
   -- each line that is left has an open end
   left_open : (i : ℕ) → i < length g.lines → ended run.stages i ≡ false → OpenEnd g k i
-  unfolding Blocked
   left_open i h left = elim (ready_or_never (edges g) (length g.lines) (never_comes g) (ended run.stages) (λ e c. (edges_in_range g s.graph e c).0) s.accepted.acyclic i h left) [
     | inl ready ↦ elim (unissued_or_blocked ready.0 ready.1) [
       | inl above ↦ open_at_same g k (ready.0, inl refl, inl above) ready.2

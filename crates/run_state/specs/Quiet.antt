@@ -33,19 +33,16 @@ pub record CanTake (g : GraphValue) (run : Run) (i : ℕ) : Type 0 where
 abbrev pub kept_cancels : GraphValue → List LineStage → ℕ → Bool
 kept_cancels g stages i = list_any (λ (e : Edge). cancels e.kind (end_so_far (stage_at stages e.from))) (edges_into g i)
 
--- no line is out or ending, every line is issued, and none can be taken
-pub record Quiet (g : GraphValue) (run : Run) : Type 0 where
-  pub all_issued : (i : ℕ) → i < length g.lines → IsTrue (issued run.stages i)
-  pub none_out : (i : ℕ) → out run.stages i ≡ false
-  pub none_ending : (i : ℕ) → IsTrue (over run.stages i) → IsTrue (ended run.stages i)
-  pub none_taken : (i : ℕ) → CanTake g run i → ⊥
-
 -- the first k lines are issued, no line is out or ending, and none can be taken
 pub record Stuck (g : GraphValue) (run : Run) (k : ℕ) : Type 0 where
   pub first_issued : (i : ℕ) → i < k → IsTrue (issued run.stages i)
   pub none_out : (i : ℕ) → out run.stages i ≡ false
   pub none_ending : (i : ℕ) → IsTrue (over run.stages i) → IsTrue (ended run.stages i)
   pub none_taken : (i : ℕ) → CanTake g run i → ⊥
+
+-- all lines are issued, no line is out or ending, and none can be taken
+abbrev pub Quiet : GraphValue → Run → Type 0
+Quiet g run = Stuck g run (length g.lines)
 
 -- how many issued lines are not ended: each of their handles is pending
 abbrev pub left_among : Run → ℕ → ℕ
