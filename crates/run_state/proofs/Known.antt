@@ -1,44 +1,37 @@
--- What a line of a graph that fits names is declared.
-use Rattle.std.proofs.Common.{◌≡◌, ℕ, ◌<◌, false, [], length, sym, ◌∙◌, subst}
-use Rattle.std.proofs.lemmas.Bool.{or_parts, leb-false}
-use Rattle.graph_model.specs.declared.verb.Verb.TheVariants.{Acquire, Release}
-use Rattle.graph_model.specs.Graph.{GraphValue, columns, locks, is_acquire_of, is_release_of}
-use Rattle.graph_model.specs.Rules.{Acquires, Releases}
-use Rattle.graph_model.specs.Fits.{verb_unknown, IsGraph}
-use Rattle.graph_model.proofs.GraphFacts.{fit_at, fits_known}
-use Rattle.graph_model.proofs.LineFacts.{accesses_fit}
-use Rattle.run_state.specs.Sound.{AccessesColumn}
-use Rattle.run_state.proofs.Verbs.{passes_verb, verb_passes, verb_line, acquire_is, release_is}
+-- The columns that a line of a graph that fits accesses: each is one of the graph, and none is named twice.
+use Rattle.std.proofs.Common.{◌≡◌, ℕ, ◌<◌, length, sym, ◌∙◌, subst, inl, inr, List, map, refl}
+use Rattle.graph_model.specs.Graph.{GraphValue, columns}
+use Rattle.graph_model.specs.Fits.{IsGraph}
+use Rattle.graph_model.proofs.LineFacts.{accesses_fit, columns_differ}
+use Rattle.run_state.specs.Sound.{AccessesColumn, Once}
+use Rattle.std.specs.Prelude.{Option, Some, None, slice_get, option_map}
+use Rattle.std.proofs.lemmas.Option.{none-some, same_Some, slice_get-map}
+use Rattle.graph_model.specs.declared.verb.Access.{Access}
+use Rattle.graph_model.specs.Access.{accesses}
+use Rattle.run_state.proofs.Reductions.{Fresh, once_fresh}
+use Rattle.std.proofs.lemmas.Bool.{cases_order}
 
 -- a column that a line accesses is one of the graph
 pub column_there : {g : GraphValue} → IsGraph g → (i c : ℕ) → AccessesColumn g i c → c < length (columns g)
 column_there {g} f i c a = subst (λ x. x < length (columns g)) a.2 (accesses_fit g i a.0 f a.1).column
 
--- a reservation that a line acquires is one of the graph
-pub lock_there : {g : GraphValue} → IsGraph g → (q l : ℕ) → Acquires g q l → l < length (locks g)
-lock_there {g} f q l a =
-    let v = passes_verb (is_acquire_of l) g q a in
-    let x = verb_line g q v.0 v.1 in
-    let b = fit_at g.decls [] g.lines f.lines q x.0 x.1 in
-    let g' : GraphValue = record { decls = g.decls; lines = b.0 } in
-    let parts = or_parts _ _ (fits_known g' x.0 b.1) in
-    let more = or_parts _ _ parts.1 in
-    let known : verb_unknown g' (Acquire l) ≡ false = subst (λ w. verb_unknown g' w ≡ false) (x.2 ∙ acquire_is l v.0 v.2) more.0 in
-    leb-false (length (locks g)) l known
+-- a line accesses no column twice
+column_got : (accessed : List Access) (k c : ℕ) → slice_get (map (λ (a : Access). a.column) accessed) k ≡ Some c → (a : Access) × (slice_get accessed k ≡ Some a) × (a.column ≡ c)
+column_got accessed k c h = got (slice_get accessed k) refl (sym (slice_get-map (λ (a : Access). a.column) accessed k) ∙ h)
+  where
+    got : (o : Option Access) → slice_get accessed k ≡ o → option_map (λ (a : Access). a.column) o ≡ Some c → (a : Access) × (slice_get accessed k ≡ Some a) × (a.column ≡ c)
+    got None e h = absurd (none-some c h)
+    got (Some a) e h = (a, e, same_Some a.column c h)
 
--- a line releases one acquire, and acquires one reservation
-release_same : (a b : ℕ) → Release a ≡ Release b → a ≡ b
-release_same a b e = cc
+columns_once : (g : GraphValue) → IsGraph g → (i : ℕ) → Once (map (λ (a : Access). a.column) (accesses g i))
+columns_once g f i j k c hj hk =
+    let a = column_got (accesses g i) j c hj in
+    let b = column_got (accesses g i) k c hk in
+    elim (cases_order j k) [
+      | inl e ↦ e
+      | inr (inl below) ↦ absurd (columns_differ g i j k a.0 b.0 f below a.1 b.1 (a.2 ∙ sym b.2))
+      | inr (inr above) ↦ absurd (columns_differ g i k j b.0 a.0 f above b.1 a.1 (b.2 ∙ sym a.2))
+    ]
 
-pub release_one : (g : GraphValue) (r a b : ℕ) → Releases g r a → Releases g r b → a ≡ b
-release_one g r a b h l =
-    let v = passes_verb (is_release_of a) g r h in
-    release_same a b (sym (release_is a v.0 v.2) ∙ release_is b v.0 (sym (verb_passes (is_release_of b) g r v.0 v.1) ∙ l))
-
-acquire_same : (a b : ℕ) → Acquire a ≡ Acquire b → a ≡ b
-acquire_same a b e = cc
-
-pub acquire_one : (g : GraphValue) (q a b : ℕ) → Acquires g q a → Acquires g q b → a ≡ b
-acquire_one g q a b h l =
-    let v = passes_verb (is_acquire_of a) g q h in
-    acquire_same a b (sym (acquire_is a v.0 v.2) ∙ acquire_is b v.0 (sym (verb_passes (is_acquire_of b) g q v.0 v.1) ∙ l))
+pub columns_fresh : (g : GraphValue) → IsGraph g → (i : ℕ) → Fresh (map (λ (a : Access). a.column) (accesses g i))
+columns_fresh g f i = once_fresh (map (λ (a : Access). a.column) (accesses g i)) (columns_once g f i)

@@ -8,8 +8,6 @@ pub mod Stages
 pub mod Locks
 pub mod Phases
 pub mod Work
-pub mod Verbs
-pub mod EdgesOf
 pub mod Stuck
 pub mod Quiet
 pub mod QuietColumns
@@ -18,7 +16,6 @@ pub mod Reductions
 pub mod QuietPhases
 pub mod QuietOutcome
 pub mod Start
-pub mod Releases
 pub mod WholeLine
 pub mod PutBack
 pub mod Between

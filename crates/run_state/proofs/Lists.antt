@@ -1,8 +1,7 @@
 -- Facts about lists of entries, and about stages.
 use Rattle.std.proofs.Common.{◌≡◌, ℕ, ◌<◌, true, false, not, ◌⊎◌, inl, inr, List, [], ◌∷◌, length, map, refl, sym, ◌∙◌, ap, subst}
 use Rattle.std.specs.Prelude.{Contains, Option, Some, None, ◌==◌, is_some, slice_index_or, slice_set}
-use Rattle.std.proofs.lemmas.List.{get_or-set_same, get_or-set_other}
-use Rattle.std.proofs.lemmas.List.{get_or_past}
+use Rattle.std.proofs.lemmas.List.{get_or-set_same, get_or-set_other, get_or_past}
 use Rattle.std.proofs.lemmas.Bool.{true≢false, cases_eq, cases_lt, eq-eqb, eqb-true, ne_eqb, or_cases, or_left, or_right, not_from_true, not_from_false}
 use Rattle.graph_model.specs.declared.outcome.End.{End}
 use Rattle.graph_model.proofs.ListFacts.{passes_some, some_passes, filter_contains, contains_filter}

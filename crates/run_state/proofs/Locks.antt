@@ -10,7 +10,8 @@ use Rattle.run_state.specs.Run.{Run, is_listed, stage_at, list_at, started, over
 use Rattle.run_state.specs.Sound.{SoundLocks, Sound}
 use Rattle.run_state.specs.Moves.{hold, without, let_go, free}
 use Rattle.run_state.proofs.Lists.{each_set, listed_here, listed_there, listed_cases, listed_without, without_listed, none_listed, out_started, out_not_ended}
-use Rattle.run_state.proofs.Known.{lock_there, release_one, acquire_one}
+use Rattle.graph_model.proofs.ReleaseFacts.{acquired_lock_known}
+use Rattle.graph_model.proofs.VerbFacts.{release_one, acquire_one}
 use Rattle.run_state.proofs.Columns.{with_one, one_more, one_cases}
 use Rattle.run_state.specs.Premises.{MayHold, MayLetGo, MayFree}
 
@@ -33,7 +34,7 @@ hold_locks : {g : GraphValue} {run : Run} → Sound g run → (l q : ℕ) → Ma
 unfolding with_one
 hold_locks {g} {run} s l q m =
     let t = s.on_locks in
-    let there : l < length run.holders = subst (λ n. l < n) (sym t.each_lock) (lock_there s.graph q l m.acquires) in
+    let there : l < length run.holders = subst (λ n. l < n) (sym t.each_lock) (acquired_lock_known g s.graph q l m.acquires) in
     let nobody : (k : ℕ) → is_listed (list_at run.holders l) k ≡ true → ⊥ = λ k h. none_listed k (subst (λ ks. is_listed ks k ≡ true) m.is_free h) in
     record {
       each_lock = length-set run.holders l (q ∷ list_at run.holders l) ∙ t.each_lock;
@@ -77,7 +78,7 @@ let_go_locks : {g : GraphValue} {run : Run} → Sound g run → (l q : ℕ) → 
 unfolding less_one
 let_go_locks {g} {run} s l q m =
     let t = s.on_locks in
-    let there : l < length run.holders = subst (λ n. l < n) (sym t.each_lock) (lock_there s.graph q l m.acquires) in
+    let there : l < length run.holders = subst (λ n. l < n) (sym t.each_lock) (acquired_lock_known g s.graph q l m.acquires) in
     record {
       each_lock = length-set run.holders l (without q (list_at run.holders l)) ∙ t.each_lock;
       holder_acquires = λ j k h. t.holder_acquires j k (one_less run.holders l q there j k h).0;
@@ -111,7 +112,7 @@ free_locks : {g : GraphValue} {run : Run} → Sound g run → (r l q : ℕ) → 
 unfolding less_one
 free_locks {g} {run} s r l q m =
     let t = s.on_locks in
-    let there : l < length run.holders = subst (λ n. l < n) (sym t.each_lock) (lock_there s.graph q l m.acquires) in
+    let there : l < length run.holders = subst (λ n. l < n) (sym t.each_lock) (acquired_lock_known g s.graph q l m.acquires) in
     record {
       each_lock = length-set run.holders l (without q (list_at run.holders l)) ∙ t.each_lock;
       holder_acquires = λ j k h. t.holder_acquires j k (one_less run.holders l q there j k h).0;

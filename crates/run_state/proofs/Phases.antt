@@ -15,7 +15,7 @@ use Rattle.run_state.specs.Run.{Run, is_listed, stage_at, started}
 use Rattle.run_state.specs.Sound.{is_arrive, value_for, Once, SoundPhases, Sound}
 use Rattle.run_state.specs.Moves.{arrive}
 use Rattle.std.proofs.lemmas.List.Sums.{fold_push}
-use Rattle.run_state.proofs.Verbs.{verb_below}
+use Rattle.graph_model.proofs.VerbFacts.{verb_below}
 use Rattle.run_state.proofs.Lists.{listed_there, listed_contains, contains_listed, out_started}
 use Rattle.std.proofs.lemmas.List.Elements.{Contains-push_cases, Contains-append_left, filter_map-append}
 use Rattle.run_state.specs.Premises.{MayArrive}

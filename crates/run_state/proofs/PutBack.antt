@@ -21,16 +21,16 @@ use Rattle.run_state.specs.Moves.{draw, ending}
 use Rattle.run_state.specs.Work.{put_cells}
 use Rattle.run_state.specs.WholeLine.{column_list, lock_of, all_home, all_back, columns_back, arrived_with, arrive_some, holders_without, freed_with, free_some, columns_for, op_by, phase_op, arrival_by, arrival_for, freed_lock, frees_by, frees_for, put_back_whole}
 use Rattle.run_state.proofs.Lists.{ended_over, out_not_ended, each_set, listed_here, listed_there, listed_cases, none_listed, stage_there, is_some_of}
-use Rattle.run_state.proofs.Known.{column_there, lock_there}
+use Rattle.run_state.proofs.Known.{column_there, columns_fresh}
+use Rattle.graph_model.proofs.ReleaseFacts.{acquired_lock_known, one_release, release_names}
 use Rattle.run_state.proofs.Started.{path_ended, kept_is}
 use Rattle.run_state.proofs.Columns.{had_one, with_one, one_more, one_new, one_cases, column_back-sound}
 use Rattle.run_state.proofs.Times.{draw-sound}
 use Rattle.run_state.proofs.Stages.{ending-sound, close-sound}
 use Rattle.run_state.proofs.Locks.{less_one, one_stays, free-sound}
 use Rattle.run_state.proofs.Phases.{arrive-sound, listed_push}
-use Rattle.run_state.proofs.Verbs.{passes_verb, verb_passes, release_is}
+use Rattle.graph_model.proofs.VerbFacts.{passes_verb, verb_passes, release_of_is}
 use Rattle.run_state.proofs.Reductions.{Fresh}
-use Rattle.run_state.proofs.Releases.{release_unique, release_of_acquire, columns_fresh}
 use Rattle.run_state.proofs.WholeLine.{listed_accessed, accessed_listed, not_the_first, lock_acquires, acquires_lock}
 use Rattle.run_state.specs.AtRest.{AtRest, MayPutBack}
 use Rattle.run_state.specs.Premises.{MayPutBackColumn, MayArrive, MayFree}
@@ -210,9 +210,9 @@ holders_stay holders (Some a) there l k h ne = one_stays holders a.0 a.1 (there 
 -- a release that is taken: its acquire is ended
 pub acquire_is_ended : {g : GraphValue} {run : Run} → Sound g run → (r q : ℕ) → Releases g r q → started run.stages r ≡ true → ended run.stages q ≡ true
 acquire_is_ended {g} {run} s r q rel h =
-    let a = release_of_acquire g s.graph r q rel in
+    let a = release_names g s.graph r q rel in
     let p = s.accepted.released q a.0 a.1 in
-    path_ended s.on_lines q p.0 p.2 (ap (started run.stages) (release_unique g s.graph p.0 r q p.1 rel) ∙ h)
+    path_ended s.on_lines q p.0 p.2 (ap (started run.stages) (one_release g s.graph q p.0 r p.1 rel) ∙ h)
 
 module _ (g : GraphValue) (run : Run) (s : Sound g run) (rest : AtRest g run) (i : ℕ) (x : End) (xs : ℕ → List ℕ) (m : MayPutBack g run i x xs) where
   is_out : out run.stages i ≡ true
@@ -299,11 +299,11 @@ module _ (g : GraphValue) (run : Run) (s : Sound g run) (rest : AtRest g run) (i
   frees_some : (q : ℕ) → Releases g i q → eval_end g q ≡ Done → (l : ℕ) × (frees_for g run i ≡ Some (l, q))
   frees_some q rel done =
       let v = passes_verb (is_release_of q) g i rel in
-      let a = release_of_acquire g s.graph i q rel in
+      let a = release_names g s.graph i q rel in
       let e : ended run.stages q ≡ true = acquire_is_ended s i q rel begun in
       let ends : end_so_far (stage_at run.stages q) ≡ Done = kept_is s.on_lines q (ended_over (stage_at run.stages q) e) ∙ done in (
         a.0,
-        ap (λ (o : Option Verb). option_map_or (frees_by g run) o None) v.1 ∙ (ap (frees_by g run) (release_is q v.0 v.2)
+        ap (λ (o : Option Verb). option_map_or (frees_by g run) o None) v.1 ∙ (ap (frees_by g run) (release_of_is q v.0 v.2)
             ∙ (ap (λ y. freed_lock q y (lock_of g q)) ends ∙ ap (freed_lock q Done) (acquires_lock g q a.0 a.1))),
       )
 
@@ -356,7 +356,7 @@ module _ (g : GraphValue) (run : Run) (s : Sound g run) (rest : AtRest g run) (i
         all_home_other run.places xs (columns_for g i x) c (λ l. let f = for_listed g i x c l in
         o.0 (had_one k i (sym had ∙ rest.out_has i c is_out (not_cancelled f.0) f.1))) ∙ had);
     out_holds = λ k l h n a. (let o = last_out k h in
-        holders_stay run.holders (frees_for g run i) (λ b e. let f = frees_found b e in subst (λ z. b.0 < z) (sym s.on_locks.each_lock) (lock_there s.graph b.1 b.0 f.1)) l k (rest.out_holds k l o.1 n a)
+        holders_stay run.holders (frees_for g run i) (λ b e. let f = frees_found b e in subst (λ z. b.0 < z) (sym s.on_locks.each_lock) (acquired_lock_known g s.graph b.1 b.0 f.1)) l k (rest.out_holds k l o.1 n a)
         (λ b e same. (let f = frees_found b e in true≢false (sym (ap (ended run.stages) same ∙ f.2) ∙ out_not_ended (stage_at run.stages k) o.1))));
     out_untimed = λ k h. (let o = last_out k h in ap is_some (get_or-set_other run.times i k (Some run.clock) None o.0) ∙ rest.out_untimed k o.1);
   }

@@ -16,18 +16,17 @@ use Rattle.graph_model.specs.Evaluation.{has_ended, is_ended, is_cancelled, cell
 use Rattle.graph_model.proofs.ReadyLine.{IsReadyLine, ready_or_never}
 use Rattle.graph_model.proofs.Waiting.{waits_if_reached, end_in_left, end_in_ended, steps_end, ends_in_order}
 use Rattle.graph_model.proofs.Turns.{turns_after}
-use Rattle.graph_model.proofs.RulesTable.{passes_below}
+use Rattle.graph_model.proofs.VerbFacts.{passes_below, passes_verb, verb_passes, acquire_of_is, release_of_is}
 use Rattle.graph_model.proofs.GraphFacts.{edges_in_range}
 use Rattle.run_state.specs.Run.{LineStage, Unissued, Issued, Out, Ending, Ended, Run, is_listed, stage_at, list_at, stage_out, stage_over, stage_ended, end_so_far, started, ended}
 use Rattle.run_state.specs.Sound.{Sound}
 use Rattle.run_state.specs.Quiet.{Quiet}
 use Rattle.run_state.proofs.Lists.{ended_over}
-use Rattle.run_state.proofs.Known.{lock_there}
+use Rattle.graph_model.proofs.ReleaseFacts.{acquired_lock_known}
 use Rattle.run_state.proofs.Started.{ended_started, path_ended, started_ends, kept_is}
 use Rattle.run_state.proofs.Work.{step_parts}
 use Rattle.run_state.proofs.Stuck.{Blocked, stuck_ended, stuck_issued, blocked}
-use Rattle.run_state.proofs.Verbs.{passes_verb, verb_passes, acquire_is, release_is}
-use Rattle.run_state.proofs.EdgesOf.{never_with_path}
+use Rattle.graph_model.proofs.EdgeFacts.{never_with_path}
 
 -- the end of an acquire that is not cancelled
 verdict_of : (space : ℕ → List (ℕ × ℕ)) (cells : Cells) (o : Option Verb) (l : ℕ) → o ≡ Some (Acquire l) → option_map_or (verb_verdict space cells) o Fine ≡ Fine
@@ -42,20 +41,20 @@ fine_done g i fine h ne =
 pub acquire_done : (g : GraphValue) (q l : ℕ) → Acquires g q l → has_ended (evaluation g) q ≡ true → eval_end g q ≢ Cancelled → eval_end g q ≡ Done
 acquire_done g q l a h ne =
     let v = passes_verb (is_acquire_of l) g q a in
-    fine_done g q (λ cells. verdict_of (space_at g) cells (verb_at g q) l (v.1 ∙ ap Some (acquire_is l v.0 v.2))) h ne
+    fine_done g q (λ cells. verdict_of (space_at g) cells (verb_at g q) l (v.1 ∙ ap Some (acquire_of_is l v.0 v.2))) h ne
 
 -- a line that releases acquires nothing and comes
 pub release_no_acquire : (g : GraphValue) (r q l : ℕ) → Releases g r q → Acquires g r l → ⊥
 release_no_acquire g r q l rel acq =
     let v = passes_verb (is_release_of q) g r rel in
     let a : is_acquire_of l v.0 ≡ true = sym (verb_passes (is_acquire_of l) g r v.0 v.1) ∙ acq in
-    let both : Acquire l ≡ Release q = sym (acquire_is l v.0 a) ∙ release_is q v.0 v.2 in
+    let both : Acquire l ≡ Release q = sym (acquire_of_is l v.0 a) ∙ release_of_is q v.0 v.2 in
     cc
 
 pub release_comes : (g : GraphValue) (r q : ℕ) → Releases g r q → never_comes g r ≡ false
 release_comes g r q rel =
     let v = passes_verb (is_release_of q) g r rel in
-    verb_passes (never_comes_as g r) g r v.0 v.1 ∙ ap (never_comes_as g r) (release_is q v.0 v.2)
+    verb_passes (never_comes_as g r) g r v.0 v.1 ∙ ap (never_comes_as g r) (release_of_is q v.0 v.2)
 
 module _ (g : GraphValue) (run : Run) (s : Sound g run) (q : Quiet g run) where
   -- a line that was taken is ended
@@ -69,7 +68,7 @@ module _ (g : GraphValue) (run : Run) (s : Sound g run) (q : Quiet g run) where
 
   -- no reservation is held: each holder's release is before a line that waits for a later reservation
   nobody_holds_from : (m l h : ℕ) → length (locks g) ≤ l + m → is_listed (list_at run.holders l) h ≡ true → ⊥
-  nobody_holds_from zero l h few held = (let b : l < length (locks g) = lock_there s.graph h l (s.on_locks.holder_acquires l h held) in absurd (omega arith))
+  nobody_holds_from zero l h few held = (let b : l < length (locks g) = acquired_lock_known g s.graph h l (s.on_locks.holder_acquires l h held) in absurd (omega arith))
   nobody_holds_from (suc m) l h few held =
       let acquires : Acquires g h l = s.on_locks.holder_acquires l h held in
       let begun : started run.stages h ≡ true = s.on_locks.holder_started l h held in

@@ -1,14 +1,14 @@
 -- In a quiet state the columns are those of the evaluation.
-use Rattle.std.proofs.Common.{◌≡◌, ℕ, Bool, true, false, cond, List, [], ◌∷◌, ◌++◌, length, map, refl, sym, ◌∙◌, ap}
+use Rattle.std.proofs.Common.{◌≡◌, ℕ, Bool, true, false, cond, List, [], ◌∷◌, ◌++◌, length, refl, sym, ◌∙◌, ap}
 use Rattle.std.specs.Prelude.{Contains, filter, flat_map}
 use Rattle.std.proofs.lemmas.Bool.{true≢false, false_from_ne_true}
 use Rattle.index_spaces.specs.Space.{points}
 use Rattle.graph_model.specs.Graph.{GraphValue, column_space}
 use Rattle.graph_model.specs.Effect.{Cells, zero_cells, cells_after}
-use Rattle.graph_model.specs.Evaluation.{Step, evaluation, order, eval_changes, cells_of, cells_by, cells_of_lines, column_of}
+use Rattle.graph_model.specs.Evaluation.{evaluation, order, eval_changes, cells_of, cells_by, cells_of_lines, column_of}
 use Rattle.graph_model.proofs.ListFacts.{contains_here, contains_there}
 use Rattle.graph_model.proofs.Changes.{touches, Untouched, cells_after-append, cells_after_at, cells_after_untouched}
-use Rattle.graph_model.proofs.Confluence.{steps_found}
+use Rattle.graph_model.proofs.Confluence.{steps_found, flat_map_lines}
 use Rattle.graph_model.proofs.OrderLaws.{listed_iff_ended}
 use Rattle.run_state.specs.Run.{Run, Place, Home, Had, is_listed, stage_at, place_at, list_at}
 use Rattle.run_state.specs.Sound.{home_cells, Sound}
@@ -19,12 +19,8 @@ use Rattle.run_state.proofs.Quiet.{evaluation_ended}
 use Rattle.run_state.proofs.Stuck.{stuck_home}
 
 -- the cells of the evaluation are those by all its lines
-changes_by_lines : (g : GraphValue) (ss : List Step) → ((s : Step) → Contains ss s → eval_changes g s.line ≡ s.changes) → flat_map (λ (s : Step). s.changes) ss ≡ flat_map (eval_changes g) (map (λ (s : Step). s.line) ss)
-changes_by_lines g [] h = refl
-changes_by_lines g (s ∷ ss) h = ap (λ x. x ++ flat_map (λ (s : Step). s.changes) ss) (sym (h s (contains_here s ss))) ∙ ap (λ x. eval_changes g s.line ++ x) (changes_by_lines g ss (λ t c. h t (contains_there s ss t c)))
-
 pub cells_of_evaluation : (g : GraphValue) → cells_of (evaluation g) ≡ cells_by g (order g)
-cells_of_evaluation g = ap (cells_after zero_cells) (changes_by_lines g (evaluation g) (λ s c. steps_found g (length g.lines) s c))
+cells_of_evaluation g = ap (cells_after zero_cells) (flat_map_lines g (evaluation g) (λ s c. steps_found g (length g.lines) s c))
 
 -- lines left out that do not change a cell may as well be in
 left_out_by : (g : GraphValue) (put : ℕ → Bool) (c p : ℕ) (cells : Cells) (k : ℕ) (ks : List ℕ) (b : Bool) → put k ≡ b → (put k ≡ false → Untouched c p (eval_changes g k)) →

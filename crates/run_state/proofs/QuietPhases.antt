@@ -25,8 +25,8 @@ use Rattle.run_state.specs.Sound.{is_arrive, value_for, Sound}
 use Rattle.run_state.specs.Quiet.{Quiet}
 use Rattle.run_state.proofs.Lists.{ended_over, contains_listed}
 use Rattle.run_state.proofs.Started.{ended_started, started_ends, cancelled_iff}
-use Rattle.run_state.proofs.Verbs.{verb_passes, verb_below, arrival_is}
-use Rattle.run_state.proofs.EdgesOf.{arrival_edge}
+use Rattle.graph_model.proofs.VerbFacts.{verb_passes, verb_below, arrival_is}
+use Rattle.graph_model.proofs.EdgeFacts.{arrival_edge}
 use Rattle.run_state.proofs.Reductions.{once_fresh, numbers_fresh, same_reduced, by_number}
 use Rattle.run_state.proofs.Quiet.{evaluation_ended}
 

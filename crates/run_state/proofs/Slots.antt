@@ -22,14 +22,13 @@ use Rattle.graph_model.proofs.ListFacts.{count_below, contains_none, contains_ca
 use Rattle.graph_model.proofs.PathLaws.{path_append}
 use Rattle.graph_model.proofs.ReadyLine.{IsReadyLine, ready_or_never}
 use Rattle.graph_model.proofs.NeedTable.{largest_above}
-use Rattle.graph_model.proofs.RulesTable.{passes_below}
+use Rattle.graph_model.proofs.VerbFacts.{passes_below, passes_verb, acquire_of_is, release_of_is}
 use Rattle.graph_model.proofs.GraphFacts.{edges_in_range}
 use Rattle.run_state.specs.Run.{Run, is_listed, list_at, started, ended}
 use Rattle.run_state.specs.Sound.{Sound}
 use Rattle.run_state.specs.Quiet.{Stuck, left_among}
-use Rattle.run_state.proofs.Known.{lock_there}
+use Rattle.graph_model.proofs.ReleaseFacts.{acquired_lock_known}
 use Rattle.run_state.proofs.Started.{path_ended, started_ends}
-use Rattle.run_state.proofs.Verbs.{passes_verb, acquire_is, release_is}
 use Rattle.run_state.proofs.Quiet.{acquire_done, release_no_acquire}
 use Rattle.run_state.proofs.Stuck.{Blocked, stuck_ended, stuck_issued, blocked}
 
@@ -64,7 +63,7 @@ release_edge g r h l m rel ah am =
     let vh = passes_verb (is_acquire_of l) g h ah in
     let all : List ℕ = option_map_or (acquires_after g) (verb_at g r) [] in
     let is : places (is_acquire_of l) 0 g.lines ≡ option_map_or (acquires_after g) (verb_at g r) [] =
-    sym (ap (λ (o : Option Verb). option_map_or (acquires_after g) o []) (vr.1 ∙ ap Some (release_is h vr.0 vr.2)) ∙ ap (λ (o : Option Verb). option_map_or (rivals g) o []) (vh.1 ∙ ap Some (acquire_is l vh.0 vh.2))) in
+    sym (ap (λ (o : Option Verb). option_map_or (acquires_after g) o []) (vr.1 ∙ ap Some (release_of_is h vr.0 vr.2)) ∙ ap (λ (o : Option Verb). option_map_or (rivals g) o []) (vh.1 ∙ ap Some (acquire_of_is l vh.0 vh.2))) in
     let listed : Contains (places (is_acquire_of l) 0 g.lines) m = subst (λ z. Contains (places (is_acquire_of l) 0 g.lines) z) (let e : 0 + m ≡ m = omega arith in e) (place_in (is_acquire_of l) 0 g.lines m am) in
     Contains-append_right (edges g) (release_edges g) (edge r m Passes)
     (contains_flat_map (λ r. map (λ k. edge r k Passes) (option_map_or (acquires_after g) (verb_at g r) [])) (numbers_below (length g.lines)) r (edge r m Passes)
@@ -96,7 +95,7 @@ module _ (g : GraphValue) (run : Run) (s : Sound g run) (k : ℕ) (q : Stuck g r
 
   -- the release of an acquire that holds
   holder_open : (n l h : ℕ) → length (locks g) ≤ l + n → is_listed (list_at run.holders l) h ≡ true → (r : ℕ) × Releases g r h × OpenEnd g k r
-  holder_open zero l h few held = (let b : l < length (locks g) = lock_there s.graph h l (s.on_locks.holder_acquires l h held) in absurd (omega arith))
+  holder_open zero l h few held = (let b : l < length (locks g) = acquired_lock_known g s.graph h l (s.on_locks.holder_acquires l h held) in absurd (omega arith))
   holder_open (suc n) l h few held =
       let acquires : Acquires g h l = s.on_locks.holder_acquires l h held in
       let begun : started run.stages h ≡ true = s.on_locks.holder_started l h held in

@@ -21,7 +21,7 @@ use Rattle.run_state.specs.Sound.{home_cells, Sound}
 use Rattle.run_state.specs.Start.{first_by, first_value, zeros, start}
 use Rattle.run_state.proofs.Lists.{map_same, none_listed}
 use Rattle.run_state.proofs.Counts.{none_counted}
-use Rattle.run_state.proofs.Verbs.{verb_below}
+use Rattle.graph_model.proofs.VerbFacts.{verb_below}
 use Rattle.run_state.proofs.Columns.{had_not_home, home_one}
 
 -- the entries of a list of one thing

@@ -2,8 +2,6 @@
 use Rattle.std.proofs.Common.{◌≡◌, ℕ, ◌<◌, Bool, true, false, inl, inr, List, [], length, refl, sym, ◌∙◌, ap, subst}
 use Rattle.std.specs.Prelude.{Contains, ◌==◌}
 use Rattle.std.proofs.lemmas.Bool.{true≢false, true_from_ne_false, eqb-true, and_parts}
-use Rattle.graph_model.specs.declared.outcome.Verdict.{Verdict}
-use Rattle.graph_model.specs.declared.outcome.Verdict.TheVariants.{Fine, Fault}
 use Rattle.graph_model.specs.declared.outcome.End.TheVariants.{Cancelled}
 use Rattle.graph_model.specs.declared.verb.Edge.{Edge}
 use Rattle.graph_model.specs.Graph.{GraphValue, never_comes}
@@ -11,8 +9,9 @@ use Rattle.graph_model.specs.Edges.{edges, edges_into}
 use Rattle.graph_model.specs.Path.{HasPath}
 use Rattle.graph_model.specs.Rules.{Accepted}
 use Rattle.graph_model.specs.Effect.{CellChange, Effect, effect}
-use Rattle.graph_model.specs.Evaluation.{has_ended, cells_of, cancels, is_cancelled, end_by, step_by, evaluation, eval_end, eval_changes}
+use Rattle.graph_model.specs.Evaluation.{has_ended, cells_of, cancels, is_cancelled, step_by, evaluation, eval_end, eval_changes}
 use Rattle.graph_model.specs.Fits.{IsGraph}
+use Rattle.graph_model.proofs.Cancelled.{not_cancelled_of}
 use Rattle.graph_model.proofs.ListFacts.{contains_none, filter_contains}
 use Rattle.graph_model.proofs.Races.{before_ended}
 use Rattle.graph_model.proofs.Waiting.{left_is_reached}
@@ -53,10 +52,6 @@ pub kept_is : {g : GraphValue} {stages : List LineStage} → SoundLines g stages
 kept_is {g} {stages} s i h = sym (s.ends i (end_so_far (stage_at stages i)) (over_keeps (stage_at stages i) h))
 
 -- a line is cancelled exactly where its sources' ends cancel it
-not_cancelled_of : (v : Verdict) → end_by v ≡ Cancelled → ⊥
-not_cancelled_of Fine h = cc
-not_cancelled_of Fault h = cc
-
 pub cancelled_changes : (i : ℕ) (b : Bool) (e : Effect) → (step_by i b e).ends ≡ Cancelled → (step_by i b e).changes ≡ []
 cancelled_changes i true e h = refl
 cancelled_changes i false e h = absurd (not_cancelled_of e.verdict h)

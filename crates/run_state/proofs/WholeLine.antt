@@ -19,13 +19,13 @@ use Rattle.run_state.specs.Sound.{AccessesColumn, Sound}
 use Rattle.run_state.specs.Moves.{claim, column_out}
 use Rattle.run_state.specs.WholeLine.{column_list, lock_by, lock_of, all_had, columns_out, holders_with, hold_some, take_whole}
 use Rattle.run_state.proofs.Lists.{each_set, listed_contains, contains_listed, listed_here, listed_there, listed_cases, none_listed, stage_there}
-use Rattle.run_state.proofs.Known.{column_there, lock_there}
+use Rattle.run_state.proofs.Known.{column_there, columns_fresh}
+use Rattle.graph_model.proofs.ReleaseFacts.{acquired_lock_known}
 use Rattle.run_state.proofs.Columns.{with_one, one_more, one_new, column_out-sound}
 use Rattle.run_state.proofs.Stages.{claim-sound}
 use Rattle.run_state.proofs.Locks.{hold-sound}
-use Rattle.run_state.proofs.Verbs.{passes_verb, acquire_is}
+use Rattle.graph_model.proofs.VerbFacts.{passes_verb, acquire_of_is}
 use Rattle.run_state.proofs.Reductions.{Fresh}
-use Rattle.run_state.proofs.Releases.{columns_fresh}
 use Rattle.run_state.specs.AtRest.{AtRest, MayTakeWhole}
 use Rattle.run_state.specs.Premises.{MayTakeColumn, MayHold}
 
@@ -93,7 +93,7 @@ lock_acquires g q l h = by_option (verb_at g q) h
     by_option (Some v) h = lock_is l v h
 
 pub acquires_lock : (g : GraphValue) (q l : ℕ) → Acquires g q l → lock_of g q ≡ Some l
-acquires_lock g q l a = let v = passes_verb (is_acquire_of l) g q a in ap (λ (o : Option Verb). option_map_or lock_by o None) v.1 ∙ ap lock_by (acquire_is l v.0 v.2)
+acquires_lock g q l a = let v = passes_verb (is_acquire_of l) g q a in ap (λ (o : Option Verb). option_map_or lock_by o None) v.1 ∙ ap lock_by (acquire_of_is l v.0 v.2)
 
 hold_some-sound : {g : GraphValue} {run : Run} → Sound g run → (i : ℕ) (o : Option ℕ) → ((l : ℕ) → o ≡ Some l → MayHold g run l i) → Sound g (hold_some run i o)
 hold_some-sound s i None m = s
@@ -146,7 +146,7 @@ module _ {g : GraphValue} {run : Run} (s : Sound g run) (rest : AtRest g run) (i
   })
 
   lock_below : (l : ℕ) → lock_of g i ≡ Some l → l < length run.holders
-  lock_below l e = subst (λ n. l < n) (sym s.on_locks.each_lock) (lock_there s.graph i l (lock_acquires g i l e))
+  lock_below l e = subst (λ n. l < n) (sym s.on_locks.each_lock) (acquired_lock_known g s.graph i l (lock_acquires g i l e))
 
   place_kept : (k c : ℕ) → place_at run.places c ≡ Had k → place_at (all_had run.places i (column_list g i)) c ≡ Had k
   place_kept k c e = all_had_other run.places i (column_list g i) c (λ h. m.at_home c (listed_accessed g i c h) k e) ∙ e

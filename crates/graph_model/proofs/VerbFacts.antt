@@ -1,20 +1,68 @@
--- Facts about lines by the kind of what they do.
-use Rattle.std.proofs.Common.{◌≡◌, ℕ, ◌<◌, Bool, true, false, cond, ◌⊎◌, inl, inr, List, [], ◌∷◌, length, refl, sym, ◌∙◌, ap}
-use Rattle.std.specs.Prelude.{Contains, ◌==◌, Option, Some, None, slice_get, option_map}
+-- What a line is that passes a test of verbs, and where the edges lead that it gives.
+use Rattle.std.proofs.Common.{◌≡◌, ℕ, ◌<◌, Bool, true, false, List, [], ◌∷◌, length, refl, sym, ◌∙◌, ap, cond, ◌⊎◌, inl, inr}
+use Rattle.std.specs.Prelude.{Option, Some, None, option_map, slice_get, Contains, ◌==◌}
 use Rattle.std.specs.Option.{option_map_or}
-use Rattle.std.specs.List.{list_any}
 use Rattle.std.proofs.lemmas.Bool.{true≢false, eq-eqb, eqb-true, not-true}
+use Rattle.graph_model.specs.declared.verb.Line.{Line}
+use Rattle.graph_model.specs.declared.verb.Verb.{Verb}
+use Rattle.graph_model.specs.declared.verb.Verb.TheVariants.{User, Trigger, Cancel, Merge, MergeIgnore, Phase, Arrive, Acquire, Release, Fill, Copy, Reduce, Task}
+use Rattle.graph_model.specs.Graph.{GraphValue, verb_at, line_passes, is_acquire_of, is_release_of, is_user, is_phase, is_phase_of, ends_user, never_comes_as}
+use Rattle.graph_model.specs.Rules.{Acquires, Releases}
+use Rattle.std.specs.List.{list_any}
 use Rattle.std.proofs.lemmas.Option.{none-some, same_Some, slice_get_within}
 use Rattle.graph_model.specs.declared.verb.Edge.{Edge}
 use Rattle.graph_model.specs.declared.verb.EdgeKind.{EdgeKind}
 use Rattle.graph_model.specs.declared.verb.EdgeKind.TheVariants.{Passes, Ignores, Faults}
-use Rattle.graph_model.specs.declared.verb.Line.{Line}
-use Rattle.graph_model.specs.declared.verb.Verb.{Verb}
-use Rattle.graph_model.specs.declared.verb.Verb.TheVariants.{User, Trigger, Cancel, Merge, MergeIgnore, Phase, Arrive, Acquire, Release, Fill, Copy, Reduce, Task}
-use Rattle.graph_model.specs.Graph.{GraphValue, verb_at, line_passes, is_user, is_phase, is_phase_of, is_acquire_of, is_release_of, ends_user, never_comes_as}
 use Rattle.graph_model.specs.Edges.{edge, last_place, edges_from_some, verb_edges}
 use Rattle.graph_model.specs.Evaluation.{arrival_value}
 use Rattle.graph_model.proofs.ListFacts.{contains_none, contains_cases, map_contains}
+
+pub acquire_of_is : (l : ℕ) (v : Verb) → is_acquire_of l v ≡ true → v ≡ Acquire l
+acquire_of_is l (Acquire k) h = ap Acquire (eqb-true k l h)
+acquire_of_is l User h = absurd (true≢false (sym h))
+acquire_of_is l (Trigger u) h = absurd (true≢false (sym h))
+acquire_of_is l (Cancel u) h = absurd (true≢false (sym h))
+acquire_of_is l (Merge es) h = absurd (true≢false (sym h))
+acquire_of_is l (MergeIgnore es) h = absurd (true≢false (sym h))
+acquire_of_is l (Phase b) h = absurd (true≢false (sym h))
+acquire_of_is l (Arrive p v) h = absurd (true≢false (sym h))
+acquire_of_is l (Release q) h = absurd (true≢false (sym h))
+acquire_of_is l (Fill t s v) h = absurd (true≢false (sym h))
+acquire_of_is l (Copy a b s) h = absurd (true≢false (sym h))
+acquire_of_is l (Reduce o a b s) h = absurd (true≢false (sym h))
+acquire_of_is l (Task k) h = absurd (true≢false (sym h))
+
+pub release_of_is : (q : ℕ) (v : Verb) → is_release_of q v ≡ true → v ≡ Release q
+release_of_is q (Release k) h = ap Release (eqb-true k q h)
+release_of_is q User h = absurd (true≢false (sym h))
+release_of_is q (Trigger u) h = absurd (true≢false (sym h))
+release_of_is q (Cancel u) h = absurd (true≢false (sym h))
+release_of_is q (Merge es) h = absurd (true≢false (sym h))
+release_of_is q (MergeIgnore es) h = absurd (true≢false (sym h))
+release_of_is q (Phase b) h = absurd (true≢false (sym h))
+release_of_is q (Arrive p v) h = absurd (true≢false (sym h))
+release_of_is q (Acquire l) h = absurd (true≢false (sym h))
+release_of_is q (Fill t s v) h = absurd (true≢false (sym h))
+release_of_is q (Copy a b s) h = absurd (true≢false (sym h))
+release_of_is q (Reduce o a b s) h = absurd (true≢false (sym h))
+release_of_is q (Task k) h = absurd (true≢false (sym h))
+
+verb_is : (t : Verb → Bool) (w : Verb) → ((v : Verb) → t v ≡ true → v ≡ w) → (o : Option Verb) → option_map_or t o false ≡ true → o ≡ Some w
+verb_is t w f None h = absurd (true≢false (sym h))
+verb_is t w f (Some v) h = ap Some (f v h)
+
+-- the verb of an acquire, and of a release
+pub acquire_is : (g : GraphValue) (q l : ℕ) → Acquires g q l → verb_at g q ≡ Some (Acquire l)
+acquire_is g q l h = verb_is (is_acquire_of l) (Acquire l) (acquire_of_is l) (verb_at g q) h
+
+pub release_is : (g : GraphValue) (r q : ℕ) → Releases g r q → verb_at g r ≡ Some (Release q)
+release_is g r q h = verb_is (is_release_of q) (Release q) (release_of_is q) (verb_at g r) h
+
+pub is_acquire_from : (g : GraphValue) (q l : ℕ) → verb_at g q ≡ Some (Acquire l) → Acquires g q l
+is_acquire_from g q l e = ap (λ o. option_map_or (is_acquire_of l) o false) e ∙ eq-eqb l l refl
+
+pub is_release_from : (g : GraphValue) (r q : ℕ) → verb_at g r ≡ Some (Release q) → Releases g r q
+is_release_from g r q e = ap (λ o. option_map_or (is_release_of q) o false) e ∙ eq-eqb q q refl
 
 -- what a line does that passes a test
 passes_some_of : (t : Verb → Bool) (o : Option Verb) → option_map_or t o false ≡ true → (v : Verb) × (o ≡ Some v) × (t v ≡ true)
@@ -37,37 +85,24 @@ verb_line g i v h = verb_line_of (slice_get g.lines i) v h
 pub verb_below : (g : GraphValue) (i : ℕ) (v : Verb) → verb_at g i ≡ Some v → i < length g.lines
 verb_below g i v h = let l = verb_line g i v h in slice_get_within g.lines i l.0 l.1
 
--- an acquire, a release, a user event, a phase, an arrival
-pub acquire_is : (l : ℕ) (v : Verb) → is_acquire_of l v ≡ true → v ≡ Acquire l
-acquire_is l User h = absurd (true≢false (sym h))
-acquire_is l (Trigger k) h = absurd (true≢false (sym h))
-acquire_is l (Cancel k) h = absurd (true≢false (sym h))
-acquire_is l (Merge ks) h = absurd (true≢false (sym h))
-acquire_is l (MergeIgnore ks) h = absurd (true≢false (sym h))
-acquire_is l (Phase k) h = absurd (true≢false (sym h))
-acquire_is l (Arrive k w) h = absurd (true≢false (sym h))
-acquire_is l (Acquire k) h = ap Acquire (eqb-true k l h)
-acquire_is l (Release k) h = absurd (true≢false (sym h))
-acquire_is l (Fill t s w) h = absurd (true≢false (sym h))
-acquire_is l (Copy x y s) h = absurd (true≢false (sym h))
-acquire_is l (Reduce o x y s) h = absurd (true≢false (sym h))
-acquire_is l (Task k) h = absurd (true≢false (sym h))
+-- a line that passes is a line of the graph
+pub passes_below : (t : Verb → Bool) (g : GraphValue) (i : ℕ) → line_passes t g i ≡ true → i < length g.lines
+passes_below t g i h = let v = passes_verb t g i h in verb_below g i v.0 v.1
 
-pub release_is : (q : ℕ) (v : Verb) → is_release_of q v ≡ true → v ≡ Release q
-release_is q User h = absurd (true≢false (sym h))
-release_is q (Trigger k) h = absurd (true≢false (sym h))
-release_is q (Cancel k) h = absurd (true≢false (sym h))
-release_is q (Merge ks) h = absurd (true≢false (sym h))
-release_is q (MergeIgnore ks) h = absurd (true≢false (sym h))
-release_is q (Phase k) h = absurd (true≢false (sym h))
-release_is q (Arrive k w) h = absurd (true≢false (sym h))
-release_is q (Acquire k) h = absurd (true≢false (sym h))
-release_is q (Release k) h = ap Release (eqb-true k q h)
-release_is q (Fill t s w) h = absurd (true≢false (sym h))
-release_is q (Copy x y s) h = absurd (true≢false (sym h))
-release_is q (Reduce o x y s) h = absurd (true≢false (sym h))
-release_is q (Task k) h = absurd (true≢false (sym h))
+-- a line releases one acquire, and acquires one reservation
+release_same : (a b : ℕ) → Release a ≡ Release b → a ≡ b
+release_same a b e = cc
 
+pub release_one : (g : GraphValue) (r a b : ℕ) → Releases g r a → Releases g r b → a ≡ b
+release_one g r a b h l = release_same a b (same_Some (Release a) (Release b) (sym (release_is g r a h) ∙ release_is g r b l))
+
+acquire_same : (a b : ℕ) → Acquire a ≡ Acquire b → a ≡ b
+acquire_same a b e = cc
+
+pub acquire_one : (g : GraphValue) (q a b : ℕ) → Acquires g q a → Acquires g q b → a ≡ b
+acquire_one g q a b h l = acquire_same a b (same_Some (Acquire a) (Acquire b) (sym (acquire_is g q a h) ∙ acquire_is g q b l))
+
+-- a user event, a phase, an arrival
 pub user_is : (v : Verb) → is_user v ≡ true → v ≡ User
 user_is User h = refl
 user_is (Trigger k) h = absurd (true≢false (sym h))

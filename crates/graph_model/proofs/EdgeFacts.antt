@@ -16,7 +16,7 @@ use Rattle.graph_model.specs.Path.{Path, HasPath, last, first}
 use Rattle.graph_model.specs.Fits.{line_fault, line_tests, takes_no_on, verb_unlike, LinesFit, IsGraph}
 use Rattle.graph_model.proofs.ListFacts.{contains_none, contains_here, passes_some}
 use Rattle.graph_model.proofs.GraphFacts.{none_first}
-use Rattle.run_state.proofs.Verbs.{passes_verb, verb_passes, verb_line, user_is, phase_is, never_as, from_some_to, from_some_has, verb_edge_to}
+use Rattle.graph_model.proofs.VerbFacts.{passes_verb, verb_passes, verb_line, user_is, phase_is, never_as, from_some_to, from_some_has, verb_edge_to}
 
 -- places in lists
 got_behind : {X : Type 0} (xs : List X) (y : X) (ys : List X) → slice_get (xs ++ y ∷ ys) (length xs) ≡ Some y
