@@ -1,22 +1,38 @@
--- What holds of the releases of a graph whose items fit: each names an acquire, and an acquire has one.
+-- What holds of the acquires and releases of a graph whose items fit: an acquire's reservation is declared, a release names an acquire, and an acquire has one release.
 use Rattle.std.proofs.Common.{◌≡◌, ℕ, zero, suc, ◌+◌, ◌<◌, Bool, true, false, not, ◌&&◌, ◌||◌, inl, inr, List, [], ◌∷◌, ◌++◌, length, map, refl, sym, ◌∙◌, ap, subst, append_assoc, length-append, arith}
 use Rattle.std.specs.Prelude.{nat_eq, Option, Some, None, is_some, slice_get, option_map}
 use Rattle.std.specs.Option.{option_map_or}
 use Rattle.std.specs.List.{list_any}
-use Rattle.std.proofs.lemmas.Bool.{true≢false, or_parts, or_left, or_right, not-false, cases_order}
+use Rattle.std.proofs.lemmas.Bool.{true≢false, or_parts, or_left, or_right, not-false, cases_order, leb-false}
 use Rattle.std.proofs.lemmas.Option.{none-some, same_Some}
 use Rattle.graph_model.specs.declared.decl.Decl.{Decl}
 use Rattle.graph_model.specs.declared.verb.Line.{Line}
-use Rattle.graph_model.specs.declared.verb.Why.TheVariants as why
 use Rattle.graph_model.specs.declared.verb.Verb.{Verb}
 use Rattle.graph_model.specs.declared.verb.Verb.TheVariants.{User, Trigger, Cancel, Merge, MergeIgnore, Phase, Arrive, Acquire, Release, Fill, Copy, Reduce, Task}
-use Rattle.graph_model.specs.Graph.{GraphValue, verb_at, line_passes, is_acquire, is_release_of}
+use Rattle.graph_model.specs.Graph.{GraphValue, verb_at, line_passes, is_acquire, is_release_of, locks}
 use Rattle.graph_model.specs.Rules.{Acquires, Releases}
 use Rattle.graph_model.specs.declared.verb.Access.{Access}
 use Rattle.graph_model.specs.Access.{verb_accesses}
-use Rattle.graph_model.specs.Fits.{is_used, repeats, line_tests, line_fault, verb_repeats, verb_unlike, takes_no_on, LinesFit, IsGraph}
-use Rattle.graph_model.proofs.GraphFacts.{none_first}
-use Rattle.race_check.proofs.VerbFacts.{release_is, is_acquire_from}
+use Rattle.graph_model.specs.Fits.{is_used, repeats, line_tests, line_fault, verb_repeats, verb_unlike, takes_no_on, LinesFit, IsGraph, verb_unknown}
+use Rattle.graph_model.proofs.GraphFacts.{none_first, fit_at, fits_known}
+use Rattle.graph_model.proofs.VerbFacts.{verb_line, acquire_is, release_is, is_acquire_from}
+use Rattle.graph_model.specs.declared.verb.Why.TheVariants as why
+
+-- the reservation of an acquire is declared
+pub lock_known : (g : GraphValue) → IsGraph g → (i k : ℕ) (l : Line) → slice_get g.lines i ≡ Some l → l.verb ≡ Acquire k → k < length (locks g)
+lock_known g f i k l at is =
+    let fit = fit_at g.decls [] g.lines f.lines i l at in
+    let g' : GraphValue = record { decls = g.decls; lines = fit.0 } in
+    let parts = or_parts _ _ (fits_known g' l fit.1) in
+    let more = or_parts _ _ parts.1 in
+    let known : verb_unknown g' (Acquire k) ≡ false = subst (λ v. verb_unknown g' v ≡ false) is more.0 in
+    leb-false (length (locks g)) k known
+
+-- the same for any line that acquires it
+pub acquired_lock_known : (g : GraphValue) → IsGraph g → (i k : ℕ) → Acquires g i k → k < length (locks g)
+acquired_lock_known g f i k a =
+    let l = verb_line g i (Acquire k) (acquire_is g i k a) in
+    lock_known g f i k l.0 l.1 l.2
 
 -- the lines of a graph before one of them, that line, and those after it
 pub record IsCut (decls : List Decl) (all before : List Line) (l : Line) (behind : List Line) : Type 0 where
@@ -56,11 +72,6 @@ passes_before t [] more i h p = absurd (omega arith)
 passes_before t (x ∷ b) more zero h p = or_left (t x.verb) (list_any (λ (l : Line). t l.verb) b) p
 passes_before t (x ∷ b) more (suc i) h p = or_right (t x.verb) (list_any (λ (l : Line). t l.verb) b) (passes_before t b more i (omega arith) p)
 
--- the line of a verb
-pub line_of : (ls : List Line) (i : ℕ) (o : Option Line) (v : Verb) → slice_get ls i ≡ o → option_map (λ (l : Line). l.verb) o ≡ Some v → (l : Line) × (slice_get ls i ≡ Some l) × (l.verb ≡ v)
-line_of ls i None v e h = absurd (none-some v h)
-line_of ls i (Some l) v e h = (l, e, same_Some l.verb v h)
-
 acquire_by : (v : Verb) → is_acquire v ≡ true → (l : ℕ) × (v ≡ Acquire l)
 acquire_by (Acquire l) h = (l, refl)
 acquire_by User h = absurd (true≢false (sym h))
@@ -83,7 +94,7 @@ some_acquire (Some v) h = let a = acquire_by v h in (a.0, ap Some a.1)
 -- the cut at a release
 release_cut : (g : GraphValue) → IsGraph g → (r q : ℕ) → Releases g r q → (b : List Line) × (l : Line) × (behind : List Line) × IsCut g.decls g.lines b l behind × (length b ≡ r) × (l.verb ≡ Release q)
 release_cut g f r q h =
-    let l = line_of g.lines r (slice_get g.lines r) (Release q) refl (release_is g r q h) in
+    let l = verb_line g r (Release q) (release_is g r q h) in
     let c = cut_at g.decls [] g.lines f.lines r l.0 l.1 in
     let at : length c.0 ≡ 0 + r = c.3 in
     (c.0, l.0, c.1, c.2, (let e : length c.0 ≡ r = omega arith in e), l.2)
