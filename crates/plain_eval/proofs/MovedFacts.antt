@@ -24,9 +24,10 @@ use Rattle.graph_model.specs.Effect.{Cells, CellChange, effect, cells_after, ver
 use Rattle.graph_model.specs.Evaluation.{column_of, made_by}
 use Rattle.graph_model.specs.Laws.{ChangesWithinAccesses}
 use Rattle.instances.specs.Homes.{all_home}
-use Rattle.plain_eval.specs.Moved.{moves, home_unless, HeldShow, AreParted}
+use Rattle.plain_eval.specs.Moved.{home_unless, AreParted}
+use Rattle.line_effects.specs.Moved.{moves, HeldShow}
 use Rattle.plain_eval.proofs.CellFacts.{other_cells, map_agree}
-use Rattle.plain_eval.proofs.EffectFacts.{move_at, access_moved}
+use Rattle.line_effects.proofs.EffectFacts.{move_at, access_moved}
 
 -- all at home
 pub parted_none : (g : GraphValue) (cells : Cells) (homes : List (Option ColumnValue)) (held : List (ℕ × ColumnValue)) → homes ≡ all_home g cells → held ≡ [] → AreParted g cells homes held

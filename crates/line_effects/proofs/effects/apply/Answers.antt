@@ -5,8 +5,8 @@ use Rattle.graph_model.specs.declared.outcome.Verdict.TheVariants.{Fine}
 use Rattle.graph_model.specs.Graph.{space_at}
 use Rattle.graph_model.specs.Access.{access, target_mode}
 use Rattle.graph_model.specs.Effect.{verb_changes}
-use Rattle.plain_eval.proofs.EffectFacts.{space_known, over_access, columns_apart, made, same_held, unchanged, fits_held, has_cells}
-use Rattle.plain_eval.proofs.perform.act.Goals as goal
+use Rattle.line_effects.proofs.EffectFacts.{space_known, over_access, columns_apart, made, same_held, unchanged, fits_held, has_cells}
+use Rattle.line_effects.proofs.effects.apply.Goals as goal
 
 pub space-requires : goal.space-requires
 space-requires c = space_known c.accesses_fit.ensures c.args.graph.now c.line.ensures.is_graph c.args.line 0 c.line.result.now (Fill c.in-Fill.target c.in-Fill.space c.in-Fill.value) (access c.in-Fill.target c.in-Fill.space Write) c.line.ensures.line c.in-Fill.is refl

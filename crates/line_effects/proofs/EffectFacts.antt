@@ -18,7 +18,7 @@ use Rattle.graph_model.specs.Fits.{IsGraph, repeats}
 use Rattle.graph_model.specs.LineLaws.{AccessFits, AccessesFit, ColumnsDiffer}
 use Rattle.index_spaces.specs.declared.Op.{Op}
 use Rattle.index_spaces.specs.Held.{held_at}
-use Rattle.plain_eval.specs.Moved.{moves, HeldShow}
+use Rattle.line_effects.specs.Moved.{moves, HeldShow}
 use Rattle.graph_model.specs.Access.{accesses, verb_accesses, kernel_accesses}
 use Rattle.graph_model.specs.Effect.{Cells, CellChange, Effect, effect, cells_after, verb_changes, verb_verdict}
 use Rattle.index_spaces.specs.Space.{points, IsWithin}
