@@ -31,3 +31,6 @@ pub mod ExampleFaults
 pub mod OrderLaws
 pub mod LineFacts
 pub mod HeldCellsLaws
+pub mod VerbFacts
+pub mod ReleaseFacts
+pub mod EdgeFacts

@@ -32,7 +32,7 @@ impl Model for Homes {
 }
 
 impl Homes {
-    ghost use Rattle.std.specs.Prelude.{◌≡◌, ◌<◌, length, map, Some, None, slice_get, slice_index_or, slice_set, All, IsSome, IfOk};
+    ghost use Rattle.std.specs.Prelude.{◌≡◌, ◌<◌, length, map, not, is_some, Some, None, slice_get, slice_index_or, slice_set, All, IsSome, IfOk};
     ghost use Rattle.graph_model.specs.Effect.{zero_cells};
     ghost use Rattle.instances.specs.Homes.{all_home};
 
@@ -48,6 +48,14 @@ impl Homes {
             push_within(&mut places, Some(column));
         }
         Ok(Homes { places, room })
+    }
+
+    /// Whether a column is out.
+    pub fn is_out(&self, c: u32) -> bool
+        requires { c < length self.now }
+        ensures { result ≡ not (is_some (slice_index_or self.now c None)) }
+    {
+        self.places[c as usize].is_none()
     }
 
     /// Moves a column out. None exactly where it is out.

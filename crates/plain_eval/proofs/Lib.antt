@@ -1,6 +1,5 @@
 pub mod WaitingFacts
 pub mod CellFacts
-pub mod EffectFacts
 pub mod MovedFacts
 pub mod TurnFacts
 pub mod PhaseFacts

@@ -5,7 +5,8 @@ ghost use Rattle.index_spaces.specs.Held.{held_at, HoldsOtherwise};
 ghost use Rattle.graph_model.specs.Effect.{Cells};
 ghost use Rattle.instances.specs.Homes.{all_home};
 ghost use Rattle.graph_model.specs.Graph.{GraphValue};
-ghost use Rattle.plain_eval.specs.Moved.{AreParted, moves};
+ghost use Rattle.plain_eval.specs.Moved.{AreParted};
+ghost use Rattle.line_effects.specs.Moved.{moves};
 
 use graph_model::graph::Graph;
 use graph_model::line_laws::{accesses_fit, columns_differ};

@@ -11,6 +11,7 @@ use graph_model::line_laws::phases_fit;
 use graph_model::outcome::End;
 use graph_model::verb::Verb;
 use index_spaces::{NoMemory, Op};
+use line_effects::passing::combined;
 use std::alloc::Global;
 
 /// How the values of the arrivals at a phase are reduced, and what they are reduced to so far.
@@ -119,15 +120,5 @@ fn reduced(reduction: Option<Reduction>, value: u64) -> Option<Reduction>
             total: combined(reduction.op, reduction.total, value),
         }),
         None => None,
-    }
-}
-
-fn combined(op: Op, one: u64, other: u64) -> u64
-    ensures { result ≡ combined op one other }
-{
-    match op {
-        Op::Sum => one.wrapping_add(other),
-        Op::Min => one.min(other),
-        Op::Max => one.max(other),
     }
 }

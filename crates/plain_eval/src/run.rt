@@ -3,7 +3,7 @@
 ghost use Rattle.std.specs.Prelude.{◌≡◌, ◌<◌, List, [], length, map, OnOk, IfOk};
 ghost use Rattle.index_spaces.specs.Space.{numbers_below};
 ghost use Rattle.graph_model.specs.declared.verb.Edge.{Edge};
-ghost use Rattle.graph_model.specs.Evaluation.{Step, advance, end_in, is_cancelled, cancels, step_of, cells_of};
+ghost use Rattle.graph_model.specs.Evaluation.{Step, advance, end_in, is_cancelled, step_of, cells_of};
 ghost use Rattle.graph_model.specs.Effect.{cells_after};
 ghost use Rattle.instances.specs.Homes.{all_home};
 ghost use Rattle.plain_eval.specs.Run.{IsRun};
@@ -14,9 +14,9 @@ use crate::waiting::Waiting;
 use graph_model::graph::Graph;
 use graph_model::laws::edges_between_lines;
 use graph_model::outcome::{End, Verdict};
-use graph_model::verb::EdgeKind;
 use index_spaces::NoMemory;
 use instances::Homes;
+use line_effects::passing::cancels;
 use std::alloc::Global;
 
 /// What is known of the lines and the cells after some turns.
@@ -101,19 +101,4 @@ fn is_cancelled(graph: &Graph, line: u32, ends: &[End]) -> bool
         }
     }
     false
-}
-
-/// Whether an edge of this kind cancels its target, by the end of its source.
-fn cancels(kind: EdgeKind, end: End) -> bool
-    ensures { result ≡ cancels kind end }
-{
-    match kind {
-        EdgeKind::Faults => true,
-        EdgeKind::Passes => match end {
-            End::Faulted => true,
-            End::Cancelled => true,
-            _ => false,
-        },
-        EdgeKind::Ignores => false,
-    }
 }

@@ -12,7 +12,7 @@ use Rattle.graph_model.specs.Access.{verb_accesses}
 use Rattle.graph_model.specs.Rules.{ReleasedAt, SectionAt, DescendsAt, ReleaseFaultAt, RaceAt}
 use Rattle.graph_model.proofs.ListFacts.{contains_none}
 use Rattle.graph_model.proofs.PathTable.{path_below}
-use Rattle.race_check.proofs.VerbFacts.{line_below}
+use Rattle.graph_model.proofs.VerbFacts.{passes_below}
 use Rattle.race_check.specs.Paths.{EdgesBetween}
 
 line_there : (ls : List Line) (i : ℕ) (l : Line) → slice_get ls i ≡ Some l → i < length ls
@@ -27,7 +27,7 @@ access_there (l ∷ ls) (suc i) a c = let b : i < length ls = access_there ls i 
 
 -- at numbers that are no lines each rule holds
 pub released_beyond : (g : GraphValue) (i : ℕ) → length g.lines ≤ i → ReleasedAt g i
-released_beyond g i h l a = (let b : i < length g.lines = line_below (is_acquire_of l) g i a in absurd (omega arith))
+released_beyond g i h l a = (let b : i < length g.lines = passes_below (is_acquire_of l) g i a in absurd (omega arith))
 
 pub fault_beyond : (g : GraphValue) (i : ℕ) → length g.lines ≤ i → ReleaseFaultAt g i
 fault_beyond g i h q l at r = (let b : i < length g.lines = line_there g.lines i l at in absurd (omega arith))

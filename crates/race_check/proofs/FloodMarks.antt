@@ -15,7 +15,7 @@ use Rattle.graph_model.proofs.ListFacts.{filter_contains}
 use Rattle.race_check.specs.High.{unmarked, IsMarking, IsTarget}
 use Rattle.graph_model.specs.Laws.{EdgesBetweenLines}
 use Rattle.graph_model.specs.Fits.{IsGraph}
-use Rattle.race_check.proofs.VerbFacts.{line_below}
+use Rattle.graph_model.proofs.VerbFacts.{passes_below}
 use Rattle.race_check.proofs.NeedLaws.{no_one, one_more}
 use Rattle.race_check.proofs.HighFlood.{zero_or}
 
@@ -120,7 +120,7 @@ acquires_more g l n mark old waiting mid between new stack acq a b = marks_more 
 
 pub acquires_done : (g : GraphValue) (l mark : ℕ) (old waiting new stack : List ℕ) → IsMarking (IsAcquireBelow g l (length g.lines)) mark old waiting new stack → IsMarking (λ i. Acquires g i l) mark old waiting new stack
 acquires_done g l mark old waiting new stack a = marks_as (IsAcquireBelow g l (length g.lines)) (λ i. Acquires g i l) mark old waiting new stack (λ i t. t.0)
-    (λ i t. (t, line_below (is_acquire_of l) g i t)) a
+    (λ i t. (t, passes_below (is_acquire_of l) g i t)) a
 
 -- the target of an edge out of a line is a line
 pub target_known : EdgesBetweenLines → (g : GraphValue) → IsGraph g → (x k : ℕ) (es : List Edge) → es ≡ edges_out_of g x → k < length es → (slice_index_or es k no_edge).to < length g.lines

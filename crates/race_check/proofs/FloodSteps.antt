@@ -15,7 +15,7 @@ use Rattle.graph_model.specs.Fits.{IsGraph}
 use Rattle.graph_model.specs.Laws.{EdgesBetweenLines}
 use Rattle.graph_model.proofs.ListFacts.{contains_none, contains_cases, contains_here, contains_there, filter_contains, contains_filter}
 use Rattle.race_check.specs.High.{IsMarking, IsTarget, IsNext, AreAcquiresMarked, IsFlooded, IsFlooding, IsFlood, weight_of}
-use Rattle.race_check.proofs.VerbFacts.{acquire_is, release_is, line_below}
+use Rattle.graph_model.proofs.VerbFacts.{acquire_is, release_is, passes_below}
 use Rattle.race_check.proofs.FloodMarks.{marks_as, marks_more}
 use Rattle.race_check.proofs.HighFlood.{release_edge, release_edge_is, zero_or, flooding_begins, flooding_more, flooding_ends, flood_passed_over, flooded_is_high, flooding_as, flooded_as, never_is_heaviest, later_is_heavier}
 
@@ -170,7 +170,7 @@ never_skip g n highs stack noted comes f = flood_as g (never_below g n) (never_b
 pub never_done : (g : GraphValue) (highs stack : List ℕ) (noted : List Bool) → IsFlood g (never_below g (length g.lines)) highs stack noted → IsFlood g (never_comes g) highs stack noted
 never_done g highs stack noted f = flood_as g (never_below g (length g.lines)) (never_comes g) highs stack noted
     (λ m h. (and_parts (nat_lt m (length g.lines)) (never_comes g m) h).1)
-    (λ m h. and_from (nat_lt m (length g.lines)) (never_comes g m) (lt-ltb m (length g.lines) (line_below (never_comes_as g m) g m h)) h) f
+    (λ m h. and_from (nat_lt m (length g.lines)) (never_comes g m) (lt-ltb m (length g.lines) (passes_below (never_comes_as g m) g m h)) h) f
 
 -- the lines from a number on, and those that never come
 abbrev pub done_from : GraphValue → ℕ → ℕ → Bool

@@ -20,7 +20,7 @@ use Rattle.graph_model.proofs.PathLaws.{path_append, along_path}
 use Rattle.graph_model.proofs.PathTable.{path_below}
 use Rattle.race_check.specs.Paths.{EdgesBetween}
 use Rattle.race_check.specs.High.{weight_of, IsFlooded, IsFlooding}
-use Rattle.race_check.proofs.VerbFacts.{acquire_is, release_is, is_acquire_from, is_release_from, line_below}
+use Rattle.graph_model.proofs.VerbFacts.{acquire_is, release_is, is_acquire_from, is_release_from, passes_below}
 
 weight_cases : (g : GraphValue) (m : ℕ) → ((never_comes g m ≡ true) × (weight_of g m ≡ length g.lines + 1)) ⊎ (weight_of g m ≡ m + 1)
 weight_cases g m = by (never_comes g m)
@@ -222,7 +222,7 @@ release_edge_is g e c =
 pub need_edges_between : (g : GraphValue) → EdgesBetween g → (e : Edge) → Contains (need_edges g) e → (e.from < length g.lines) × (e.to < length g.lines)
 need_edges_between g between e c = elim (Contains-append_cases (edges g) (release_edges g) e c) [
   | inl a ↦ between e a
-  | inr b ↦ (let k = release_edge_is g e b in (line_below (is_release_of k.0) g e.from k.2, line_below (is_acquire_of k.1) g e.to k.4))
+  | inr b ↦ (let k = release_edge_is g e b in (passes_below (is_release_of k.0) g e.from k.2, passes_below (is_acquire_of k.1) g e.to k.4))
 ]
 
 -- once all lines are done the numbers are the high numbers
@@ -285,7 +285,7 @@ release_edge g y l q r a b rel =
     contains_map (λ k. edge r k Passes) (option_map_or (acquires_after g) (verb_at g r) []) y (subst (λ z. Contains z y) (sym rivals_are) place) in
     Contains-append_right (edges g) (release_edges g) (edge r y Passes)
     (contains_flat (λ r. map (λ k. edge r k Passes) (option_map_or (acquires_after g) (verb_at g r) [])) (numbers_below (length g.lines)) r (edge r y Passes)
-    (contains_below (length g.lines) r (line_below (is_release_of q) g r rel)) own)
+    (contains_below (length g.lines) r (passes_below (is_release_of q) g r rel)) own)
 
 -- the lines that never come are the heaviest, and the others weigh by their number
 pub never_is_heaviest : (g : GraphValue) (m d : ℕ) → m < length g.lines → never_comes g d ≡ true → weight_of g m ≤ weight_of g d

@@ -1,6 +1,4 @@
-pub mod VerbFacts
 pub mod Held
-pub mod FittingLines
 pub mod NeedLaws
 pub mod RuleFacts
 pub mod RuleTests

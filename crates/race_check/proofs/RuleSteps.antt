@@ -13,9 +13,9 @@ use Rattle.graph_model.proofs.GraphFacts.{named_below}
 use Rattle.graph_model.proofs.ListFacts.{contains_here}
 use Rattle.race_check.specs.Paths.{PathsValue, path_in, IsPathTable}
 use Rattle.race_check.specs.Releases.{release_in, AreReleases}
-use Rattle.race_check.proofs.VerbFacts.{line_below, release_is, is_release_from, release_of_is}
+use Rattle.graph_model.proofs.VerbFacts.{passes_below, release_is, is_release_from, release_of_is}
 use Rattle.race_check.proofs.ReservationFacts.{verb_of}
-use Rattle.race_check.proofs.FittingLines.{cut_at}
+use Rattle.graph_model.proofs.ReleaseFacts.{cut_at}
 use Rattle.graph_model.specs.declared.verb.Verb.TheVariants.{Release}
 use Rattle.graph_model.specs.Path.{HasPath}
 use Rattle.race_check.proofs.RuleWords.{IsReleaseTableTo, table_release, table_done}
@@ -32,7 +32,7 @@ pub released_none : (g : GraphValue) (i : ℕ) → ((l : ℕ) → Acquires g i l
 released_none g i none = ((λ h l a. absurd (none l a)), (λ r. refl))
 
 pub release_known : (g : GraphValue) (releases : List (Option ℕ)) → AreReleases g releases → (i r : ℕ) → release_in releases i ≡ Some r → r < length g.lines
-release_known g releases are i r e = line_below (is_release_of i) g r (are.table.0 i r e)
+release_known g releases are i r e = passes_below (is_release_of i) g r (are.table.0 i r e)
 
 pub released_by_path : (g : GraphValue) (t : PathsValue) (releases : List (Option ℕ)) → IsPathTable g t → AreReleases g releases → (i l r : ℕ) (b : Bool) → Acquires g i l → b ≡ path_in t i r → release_in releases i ≡ Some r → IsTrue b ↔ ReleasedAt g i
 released_by_path g t releases paths are i l r b a is e = (

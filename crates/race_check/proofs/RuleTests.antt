@@ -17,7 +17,7 @@ use Rattle.graph_model.proofs.RulesTable.{freed_by, lock_at, acquire_at, implies
 use Rattle.race_check.proofs.RuleFacts.{releases_acquire}
 use Rattle.race_check.specs.Paths.{IsPairTestOf}
 use Rattle.race_check.specs.Releases.{IsReleaseTable}
-use Rattle.race_check.proofs.VerbFacts.{is_release_from}
+use Rattle.graph_model.proofs.VerbFacts.{is_release_from}
 use Rattle.race_check.proofs.Held.{lock_is, acquires_from}
 
 pub implies_from : (a b : Bool) → (a ≡ true → b ≡ true) → implies a b ≡ true

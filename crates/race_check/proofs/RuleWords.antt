@@ -16,8 +16,8 @@ use Rattle.graph_model.specs.Fits.{IsGraph}
 use Rattle.graph_model.proofs.ListFacts.{find_is, find_none, contains_below, passes_some}
 use Rattle.graph_model.proofs.RulesTable.{implies, lock_at, acquire_at, is_lower}
 use Rattle.race_check.specs.Releases.{IsReleaseTable}
-use Rattle.race_check.proofs.VerbFacts.{line_below, release_is}
-use Rattle.race_check.proofs.FittingLines.{one_release}
+use Rattle.graph_model.proofs.VerbFacts.{passes_below, release_is}
+use Rattle.graph_model.proofs.ReleaseFacts.{one_release}
 use Rattle.race_check.proofs.RuleTests.{AccessConflict, placed_by, section_of, section_by, inside, leaves_by, descends_by}
 use Rattle.race_check.proofs.WordScan.{word_same, word_or}
 use Rattle.race_check.specs.Races.{uses, shares_column}
@@ -79,14 +79,14 @@ table_other g release i t none = record {
 }
 
 pub table_done : (g : GraphValue) (release : ℕ → Option ℕ) → IsReleaseTableTo g release (length g.lines) → IsReleaseTable g release
-table_done g release t = (t.is, λ q r h. t.listed q r (line_below (is_release_of q) g r h) h)
+table_done g release t = (t.is, λ q r h. t.listed q r (passes_below (is_release_of q) g r h) h)
 
 -- the same table by a look over all lines
 abbrev pub release_found : GraphValue → ℕ → Option ℕ
 release_found g q = find (λ r. line_passes (is_release_of q) g r) (numbers_below (length g.lines))
 
 found_by : (g : GraphValue) → IsGraph g → (q r : ℕ) → Releases g r q → (o : Option ℕ) → release_found g q ≡ o → o ≡ Some r
-found_by g f q r h None e = absurd (true≢false (sym h ∙ find_none (λ r. line_passes (is_release_of q) g r) (numbers_below (length g.lines)) e r (contains_below (length g.lines) r (line_below (is_release_of q) g r h))))
+found_by g f q r h None e = absurd (true≢false (sym h ∙ find_none (λ r. line_passes (is_release_of q) g r) (numbers_below (length g.lines)) e r (contains_below (length g.lines) r (passes_below (is_release_of q) g r h))))
 found_by g f q r h (Some s) e = ap Some (one_release g f q s r (find_is (λ r. line_passes (is_release_of q) g r) (numbers_below (length g.lines)) s e).1 h)
 
 pub release_found_is : (g : GraphValue) → IsGraph g → IsReleaseTable g (release_found g)

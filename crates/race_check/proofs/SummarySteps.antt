@@ -12,8 +12,8 @@ use Rattle.race_check.specs.Paths.{PathsValue, path_in, IsPathTable}
 use Rattle.race_check.specs.Releases.{release_in, AreReleases}
 use Rattle.race_check.specs.Summaries.{IsSummaryTo, AreSummaries, AreSummed, ApartIn, MayBeApartBy, IsNoted}
 use Rattle.race_check.specs.declared.summaries.Summary.{Summary}
-use Rattle.race_check.proofs.VerbFacts.{line_below}
-use Rattle.race_check.proofs.ReservationFacts.{acquired_lock_known}
+use Rattle.graph_model.proofs.VerbFacts.{passes_below}
+use Rattle.graph_model.proofs.ReleaseFacts.{acquired_lock_known}
 use Rattle.race_check.proofs.ExemptSummary.{summary_none, summary_skips, summary_first, summary_more, apart_is, apart_found}
 
 -- no acquire is summed
@@ -107,7 +107,7 @@ module _ (g : GraphValue) (fits : IsGraph g) (summaries : List Summary) (summed 
   pub by_apart : (l : ℕ) (s : Summary) → slice_get summaries l ≡ Some s → ApartIn g l i j → MayBeApartBy s.first.items s.more.items i j
   by_apart l s at a = let each = (summed.each l s at).each in
       apart_found g l i j (length g.lines) (slice_index_or s.first.items i None) (slice_index_or s.first.items j None) (slice_index_or s.more.items i false) (slice_index_or s.more.items j false) (each i i_line) (each j j_line) a.0 a.1
-      (line_below (is_acquire_of l) g a.0 a.3.acquires) (line_below (is_acquire_of l) g a.1 a.4.acquires) a.2 a.3 a.4
+      (passes_below (is_acquire_of l) g a.0 a.3.acquires) (passes_below (is_acquire_of l) g a.1 a.4.acquires) a.2 a.3 a.4
 
   pub apart_known : (l : ℕ) → ApartIn g l i j → l < length summaries
   apart_known l a = let b : l < length (locks g) = acquired_lock_known g fits a.0 l a.3.acquires in let c : length summaries ≡ length (locks g) = summed.count in omega arith

@@ -1,6 +1,6 @@
 use Rattle.std.proofs.Common.{◌∙◌, ap}
 use Rattle.std.specs.Prelude.{Some}
-use Rattle.plain_eval.proofs.EffectFacts.{verb_is}
+use Rattle.line_effects.proofs.EffectFacts.{verb_is}
 use Rattle.plain_eval.proofs.phases.first_reduction.Goals as goal
 
 pub barrier-info-requires : goal.barrier-info-requires

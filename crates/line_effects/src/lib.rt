@@ -1,0 +1,5 @@
+//! What a line does to the columns that are held for it, and how ends and arrivals pass on.
+#![tactic(auto)]
+
+pub mod effects;
+pub mod passing;
