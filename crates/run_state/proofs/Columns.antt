@@ -1,0 +1,165 @@
+-- The steps of columns keep the state sound.
+use Rattle.std.proofs.Common.{◌≡◌, ℕ, ◌<◌, true, false, ◌⊎◌, inl, inr, List, [], ◌∷◌, length, refl, sym, ◌∙◌, ap, subst, length-set}
+use Rattle.std.specs.Prelude.{◌≢◌, slice_set}
+use Rattle.std.proofs.lemmas.List.{get_or-set_same, get_or-set_other}
+use Rattle.index_spaces.specs.Space.{points}
+use Rattle.graph_model.specs.declared.outcome.End.TheVariants.{Cancelled}
+use Rattle.graph_model.specs.Graph.{GraphValue, column_space}
+use Rattle.graph_model.specs.Effect.{cells_after}
+use Rattle.graph_model.specs.Evaluation.{eval_end, eval_changes, cells_of_lines, column_of}
+use Rattle.graph_model.proofs.Turns.{turns_after}
+use Rattle.graph_model.proofs.Confluence.{cell_is_put_back}
+use Rattle.run_state.specs.Run.{Place, Home, Had, Run, is_listed, stage_at, place_at, list_at, out, started, ended}
+use Rattle.run_state.specs.Sound.{AccessesColumn, home_cells, SoundColumns, Sound}
+use Rattle.run_state.specs.Moves.{column_out, column_unused, column_back}
+use Rattle.run_state.proofs.Lists.{each_set, is_there, listed_here, listed_there, listed_cases, out_started, out_not_ended, ended_over, map_same}
+use Rattle.run_state.proofs.Known.{column_there}
+use Rattle.run_state.proofs.Started.{sources_closed, started_ends, changed_back}
+use Rattle.run_state.specs.Premises.{MayTakeColumn, MayReturnColumn, MayPutBackColumn}
+
+-- a column that is had, or at home
+pub had_not_home : (p : Place) (k : ℕ) (xs : List ℕ) → p ≡ Had k → p ≡ Home xs → ⊥
+had_not_home p k xs a b = cc
+
+pub had_one : (i k : ℕ) → Had i ≡ Had k → i ≡ k
+had_one i k e = cc
+
+pub home_one : (xs ys : List ℕ) → Home xs ≡ Home ys → xs ≡ ys
+home_one xs ys e = cc
+
+-- one more number in one of the lists
+module _ (lists : List (List ℕ)) (c i : ℕ) (there : c < length lists) where
+  unfoldable pub with_one : List (List ℕ)
+  with_one = slice_set lists c (i ∷ list_at lists c)
+
+  pub one_more : (d k : ℕ) → is_listed (list_at lists d) k ≡ true → is_listed (list_at with_one d) k ≡ true
+  unfolding with_one
+  one_more = each_set (λ d ks. (k : ℕ) → is_listed (list_at lists d) k ≡ true → is_listed ks k ≡ true) lists [] c (i ∷ list_at lists c) there
+      (λ k h. listed_there i k (list_at lists c) h) (λ d ne k h. h)
+
+  pub one_new : is_listed (list_at with_one c) i ≡ true
+  unfolding with_one
+  one_new = subst (λ ks. is_listed ks i ≡ true) (sym (get_or-set_same lists c (i ∷ list_at lists c) [] there)) (listed_here i (list_at lists c))
+
+  pub one_cases : (d k : ℕ) → is_listed (list_at with_one d) k ≡ true → ((d ≡ c) × (k ≡ i)) ⊎ (is_listed (list_at lists d) k ≡ true)
+  unfolding with_one
+  one_cases = each_set (λ d ks. (k : ℕ) → is_listed ks k ≡ true → ((d ≡ c) × (k ≡ i)) ⊎ (is_listed (list_at lists d) k ≡ true)) lists [] c (i ∷ list_at lists c) there
+      (λ k h. elim (listed_cases i k (list_at lists c) h) [ inl e ↦ inl (refl, e) | inr r ↦ inr r ]) (λ d ne k h. inr h)
+
+-- the cells of a column on which a line is put back are those of the lines put back and this one, in the evaluation's order
+pub put_back_cells : {g : GraphValue} {run : Run} → Sound g run → (c i : ℕ) → out run.stages i ≡ true → is_listed (list_at run.back c) i ≡ false →
+    (column_of g (cells_after (cells_of_lines g (is_listed (list_at run.back c))) (eval_changes g i)) c).cells ≡ home_cells g (i ∷ list_at run.back c) c
+put_back_cells {g} {run} s c i h none =
+    let begun : started run.stages i ≡ true = out_started (stage_at run.stages i) h in
+    let t = turns_after g (length g.lines) i (started_ends s.graph s.accepted s.on_lines i begun) in
+    map_same (λ p. cells_after (cells_of_lines g (is_listed (list_at run.back c))) (eval_changes g i) c p) (λ p. cells_of_lines g (is_listed (i ∷ list_at run.back c)) c p) (points (column_space g c))
+    (λ p. cell_is_put_back g s.accepted i t.0 t.1 (ended run.stages) (is_listed (list_at run.back c)) c p
+    (sources_closed s.on_lines)
+    (λ e ce to. s.on_lines.sources e ce (ap (started run.stages) to ∙ begun))
+    (out_not_ended (stage_at run.stages i) h)
+    none
+    (λ k listed e ce to. s.on_lines.sources e ce (ap (started run.stages) to ∙ s.on_columns.back_started c k listed))
+    (λ k e x hx touched. changed_back s c p k (ended_over (stage_at run.stages k) e) x hx touched))
+
+out_columns : {g : GraphValue} {run : Run} → Sound g run → (c i : ℕ) → MayTakeColumn g run c i → SoundColumns g run.stages (slice_set run.places c (Had i)) run.back
+out_columns {g} {run} s c i m =
+    let t = s.on_columns in
+    let there : c < length run.places = subst (λ n. c < n) (sym t.each_column) (column_there s.graph i c m.accessed) in
+    record {
+      each_column = length-set run.places c (Had i) ∙ t.each_column;
+      each_back = t.each_back;
+      had_out = each_set (λ d p. (k : ℕ) → p ≡ Had k → out run.stages k ≡ true) run.places (Home []) c (Had i) there (λ k e. subst (λ x. out run.stages x ≡ true) (had_one i k e) m.is_out) (λ d ne. t.had_out d);
+      had_accessed = each_set (λ d p. (k : ℕ) → p ≡ Had k → AccessesColumn g k d) run.places (Home []) c (Had i) there (λ k e. subst (λ x. AccessesColumn g x c) (had_one i k e) m.accessed) (λ d ne. t.had_accessed d);
+      had_not_cancelled = each_set (λ d p. (k : ℕ) → p ≡ Had k → eval_end g k ≢ Cancelled) run.places (Home []) c (Had i) there (λ k e. subst (λ x. eval_end g x ≢ Cancelled) (had_one i k e) m.not_cancelled) (λ d ne. t.had_not_cancelled d);
+      had_not_back = each_set (λ d p. (k : ℕ) → p ≡ Had k → is_listed (list_at run.back d) k ≡ false) run.places (Home []) c (Had i) there (λ k e. subst (λ x. is_listed (list_at run.back c) x ≡ false) (had_one i k e) m.not_back) (λ d ne. t.had_not_back d);
+      over_back = t.over_back;
+      back_started = t.back_started;
+      back_accessed = t.back_accessed;
+      back_not_cancelled = t.back_not_cancelled;
+      cells = each_set (λ d p. (xs : List ℕ) → p ≡ Home xs → xs ≡ home_cells g (list_at run.back d) d) run.places (Home []) c (Had i) there (λ xs e. absurd (had_not_home (Had i) i xs refl e)) (λ d ne. t.cells d);
+    }
+
+-- a column out
+pub column_out-sound : {g : GraphValue} {run : Run} → Sound g run → (c i : ℕ) → MayTakeColumn g run c i → Sound g (column_out run c i)
+column_out-sound {g} {run} s c i m = record {
+  graph = s.graph;
+  accepted = s.accepted;
+  on_lines = s.on_lines;
+  on_columns = out_columns s c i m;
+  on_phases = s.on_phases;
+  on_locks = s.on_locks;
+  on_times = s.on_times;
+}
+
+pub had_there : {g : GraphValue} {run : Run} → Sound g run → (c i : ℕ) → place_at run.places c ≡ Had i → c < length run.places
+had_there {g} {run} s c i h = is_there run.places (Home []) c (λ e. had_not_home (place_at run.places c) i [] h e)
+
+home_columns : {g : GraphValue} {run : Run} → Sound g run → (c i : ℕ) → place_at run.places c ≡ Had i → (xs : List ℕ) → xs ≡ home_cells g (list_at run.back c) c → SoundColumns g run.stages (slice_set run.places c (Home xs)) run.back
+home_columns {g} {run} s c i h xs same =
+    let t = s.on_columns in
+    let there : c < length run.places = had_there s c i h in
+    record {
+      each_column = length-set run.places c (Home xs) ∙ t.each_column;
+      each_back = t.each_back;
+      had_out = each_set (λ d p. (k : ℕ) → p ≡ Had k → out run.stages k ≡ true) run.places (Home []) c (Home xs) there (λ k e. absurd (had_not_home (Home xs) k xs e refl)) (λ d ne. t.had_out d);
+      had_accessed = each_set (λ d p. (k : ℕ) → p ≡ Had k → AccessesColumn g k d) run.places (Home []) c (Home xs) there (λ k e. absurd (had_not_home (Home xs) k xs e refl)) (λ d ne. t.had_accessed d);
+      had_not_cancelled = each_set (λ d p. (k : ℕ) → p ≡ Had k → eval_end g k ≢ Cancelled) run.places (Home []) c (Home xs) there (λ k e. absurd (had_not_home (Home xs) k xs e refl)) (λ d ne. t.had_not_cancelled d);
+      had_not_back = each_set (λ d p. (k : ℕ) → p ≡ Had k → is_listed (list_at run.back d) k ≡ false) run.places (Home []) c (Home xs) there (λ k e. absurd (had_not_home (Home xs) k xs e refl)) (λ d ne. t.had_not_back d);
+      over_back = t.over_back;
+      back_started = t.back_started;
+      back_accessed = t.back_accessed;
+      back_not_cancelled = t.back_not_cancelled;
+      cells = each_set (λ d p. (ys : List ℕ) → p ≡ Home ys → ys ≡ home_cells g (list_at run.back d) d) run.places (Home []) c (Home xs) there (λ ys e. sym (home_one xs ys e) ∙ same) (λ d ne. t.cells d);
+    }
+
+-- a column given back unchanged
+pub column_unused-sound : {g : GraphValue} {run : Run} → Sound g run → (c i : ℕ) (xs : List ℕ) → MayReturnColumn g run c i xs → Sound g (column_unused run c xs)
+column_unused-sound {g} {run} s c i xs m = record {
+  graph = s.graph;
+  accepted = s.accepted;
+  on_lines = s.on_lines;
+  on_columns = home_columns s c i m.has xs m.unchanged;
+  on_phases = s.on_phases;
+  on_locks = s.on_locks;
+  on_times = s.on_times;
+}
+
+back_columns : {g : GraphValue} {run : Run} → Sound g run → (c i : ℕ) → place_at run.places c ≡ Had i → (xs : List ℕ) →
+    xs ≡ (column_of g (cells_after (cells_of_lines g (is_listed (list_at run.back c))) (eval_changes g i)) c).cells →
+    SoundColumns g run.stages (slice_set run.places c (Home xs)) (slice_set run.back c (i ∷ list_at run.back c))
+unfolding with_one
+back_columns {g} {run} s c i h xs made =
+    let t = s.on_columns in
+    let there : c < length run.places = had_there s c i h in
+    let lists_there : c < length run.back = subst (λ n. c < n) (t.each_column ∙ sym t.each_back) there in
+    let is_out : out run.stages i ≡ true = t.had_out c i h in
+    let same : xs ≡ home_cells g (i ∷ list_at run.back c) c = made ∙ put_back_cells s c i is_out (t.had_not_back c i h) in
+    let lists : List (List ℕ) = with_one run.back c i lists_there in
+    record {
+      each_column = length-set run.places c (Home xs) ∙ t.each_column;
+      each_back = length-set run.back c (i ∷ list_at run.back c) ∙ t.each_back;
+      had_out = each_set (λ d p. (k : ℕ) → p ≡ Had k → out run.stages k ≡ true) run.places (Home []) c (Home xs) there (λ k e. absurd (had_not_home (Home xs) k xs e refl)) (λ d ne. t.had_out d);
+      had_accessed = each_set (λ d p. (k : ℕ) → p ≡ Had k → AccessesColumn g k d) run.places (Home []) c (Home xs) there (λ k e. absurd (had_not_home (Home xs) k xs e refl)) (λ d ne. t.had_accessed d);
+      had_not_cancelled = each_set (λ d p. (k : ℕ) → p ≡ Had k → eval_end g k ≢ Cancelled) run.places (Home []) c (Home xs) there (λ k e. absurd (had_not_home (Home xs) k xs e refl)) (λ d ne. t.had_not_cancelled d);
+      had_not_back = each_set (λ d p. (k : ℕ) → p ≡ Had k → is_listed (list_at (slice_set run.back c (i ∷ list_at run.back c)) d) k ≡ false) run.places (Home []) c (Home xs) there (λ k e. absurd (had_not_home (Home xs) k xs e refl))
+          (λ d ne k e. ap (λ ks. is_listed ks k) (get_or-set_other run.back c d (i ∷ list_at run.back c) [] ne) ∙ t.had_not_back d k e);
+      over_back = λ d k o a n. one_more run.back c i lists_there d k (t.over_back d k o a n);
+      back_started = λ d k l. elim (one_cases run.back c i lists_there d k l) [ inl e ↦ ap (started run.stages) e.1 ∙ out_started (stage_at run.stages i) is_out | inr r ↦ t.back_started d k r ];
+      back_accessed = λ d k l. elim (one_cases run.back c i lists_there d k l) [ inl e ↦ subst (λ x. AccessesColumn g k x) (sym e.0) (subst (λ x. AccessesColumn g x c) (sym e.1) (t.had_accessed c i h)) | inr r ↦ t.back_accessed d k r ];
+      back_not_cancelled = λ d k l. elim (one_cases run.back c i lists_there d k l) [ inl e ↦ subst (λ x. eval_end g x ≢ Cancelled) (sym e.1) (t.had_not_cancelled c i h) | inr r ↦ t.back_not_cancelled d k r ];
+      cells = each_set (λ d p. (ys : List ℕ) → p ≡ Home ys → ys ≡ home_cells g (list_at (slice_set run.back c (i ∷ list_at run.back c)) d) d) run.places (Home []) c (Home xs) there
+          (λ ys e. sym (home_one xs ys e) ∙ (same ∙ ap (λ ks. home_cells g ks c) (sym (get_or-set_same run.back c (i ∷ list_at run.back c) [] lists_there))))
+          (λ d ne ys e. t.cells d ys e ∙ ap (λ ks. home_cells g ks d) (sym (get_or-set_other run.back c d (i ∷ list_at run.back c) [] ne)));
+    }
+
+-- a line put back on a column that it has: its cells are those that it had, changed as in the evaluation
+pub column_back-sound : {g : GraphValue} {run : Run} → Sound g run → (c i : ℕ) (xs : List ℕ) → MayPutBackColumn g run c i xs → Sound g (column_back run c i xs)
+column_back-sound {g} {run} s c i xs m = record {
+  graph = s.graph;
+  accepted = s.accepted;
+  on_lines = s.on_lines;
+  on_columns = back_columns s c i m.has xs m.changed;
+  on_phases = s.on_phases;
+  on_locks = s.on_locks;
+  on_times = s.on_times;
+}

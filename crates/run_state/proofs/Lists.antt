@@ -1,0 +1,136 @@
+-- Facts about lists of entries, and about stages.
+use Rattle.std.proofs.Common.{◌≡◌, ℕ, ◌<◌, true, false, not, ◌⊎◌, inl, inr, List, [], ◌∷◌, length, map, refl, sym, ◌∙◌, ap, subst}
+use Rattle.std.specs.Prelude.{Contains, Option, Some, None, ◌==◌, is_some, slice_index_or, slice_set}
+use Rattle.std.proofs.lemmas.List.{get_or-set_same, get_or-set_other}
+use Rattle.std.proofs.lemmas.List.{get_or_past}
+use Rattle.std.proofs.lemmas.Bool.{true≢false, cases_eq, cases_lt, eq-eqb, eqb-true, ne_eqb, or_cases, or_left, or_right, not_from_true, not_from_false}
+use Rattle.graph_model.specs.declared.outcome.End.{End}
+use Rattle.graph_model.proofs.ListFacts.{passes_some, some_passes, filter_contains, contains_filter}
+use Rattle.run_state.specs.Run.{LineStage, Unissued, Issued, Out, Ending, Ended, is_listed, stage_at, stage_issued, stage_out, stage_started, stage_over, stage_ended, kept_end, end_so_far}
+use Rattle.run_state.specs.Moves.{without}
+
+-- what holds of each entry, where one is set
+pub each_set : {X : Type 0} (P : ℕ → X → Type 0) (xs : List X) (d : X) (i : ℕ) (x : X) → i < length xs → P i x → ((k : ℕ) → (k ≡ i → ⊥) → P k (slice_index_or xs k d)) →
+    (k : ℕ) → P k (slice_index_or (slice_set xs i x) k d)
+each_set P xs d i x h here there k = elim (cases_eq k i) [
+  | inl e ↦ subst (λ m. P m (slice_index_or (slice_set xs i x) m d)) (sym e) (subst (P i) (sym (get_or-set_same xs i x d h)) here)
+  | inr ne ↦ subst (P k) (sym (get_or-set_other xs i k x d ne)) (there k ne)
+]
+
+-- an entry that is not the default is there
+pub is_there : {X : Type 0} (xs : List X) (d : X) (i : ℕ) → (slice_index_or xs i d ≡ d → ⊥) → i < length xs
+is_there xs d i ne = elim (cases_lt i (length xs)) [ inl h ↦ h | inr h ↦ absurd (ne (get_or_past xs i d h)) ]
+
+-- lists of numbers
+pub listed_contains : (ks : List ℕ) (i : ℕ) → is_listed ks i ≡ true → Contains ks i
+listed_contains ks i h = let s = some_passes (λ k. i == k) ks h in subst (Contains ks) (sym (eqb-true i s.0 s.2)) s.1
+
+pub contains_listed : (ks : List ℕ) (i : ℕ) → Contains ks i → is_listed ks i ≡ true
+contains_listed ks i c = passes_some (λ k. i == k) ks i c (eq-eqb i i refl)
+
+pub listed_here : (i : ℕ) (ks : List ℕ) → is_listed (i ∷ ks) i ≡ true
+listed_here i ks = or_left (i == i) (is_listed ks i) (eq-eqb i i refl)
+
+pub listed_there : (i k : ℕ) (ks : List ℕ) → is_listed ks k ≡ true → is_listed (i ∷ ks) k ≡ true
+listed_there i k ks h = or_right (k == i) (is_listed ks k) h
+
+pub listed_cases : (i k : ℕ) (ks : List ℕ) → is_listed (i ∷ ks) k ≡ true → (k ≡ i) ⊎ (is_listed ks k ≡ true)
+listed_cases i k ks h = elim (or_cases (k == i) (is_listed ks k) h) [ inl e ↦ inl (eqb-true k i e) | inr r ↦ inr r ]
+
+pub none_listed : (k : ℕ) → is_listed [] k ≡ true → ⊥
+none_listed k h = true≢false (sym h)
+
+pub listed_without : (q k : ℕ) (ks : List ℕ) → is_listed (without q ks) k ≡ true → (is_listed ks k ≡ true) × (k ≡ q → ⊥)
+listed_without q k ks h =
+    let f = filter_contains (λ k. not (k == q)) ks k (listed_contains (without q ks) k h) in
+    (contains_listed ks k f.0, λ e. true≢false (sym f.1 ∙ not_from_true (k == q) (eq-eqb k q e)))
+
+pub without_listed : (q k : ℕ) (ks : List ℕ) → is_listed ks k ≡ true → (k ≡ q → ⊥) → is_listed (without q ks) k ≡ true
+without_listed q k ks h ne = contains_listed (without q ks) k (contains_filter (λ k. not (k == q)) ks k (listed_contains ks k h) (not_from_false (k == q) (ne_eqb k q ne)))
+
+pub map_same : {X Y : Type 0} (f h : X → Y) (xs : List X) → ((x : X) → f x ≡ h x) → map f xs ≡ map h xs
+map_same f h [] e = refl
+map_same f h (x ∷ xs) e = ap (λ y. y ∷ map f xs) (e x) ∙ ap (λ ys. h x ∷ ys) (map_same f h xs e)
+
+-- tests of stages
+pub out_started : (s : LineStage) → stage_out s ≡ true → stage_started s ≡ true
+out_started Out h = refl
+out_started (Ending x) h = refl
+out_started (Ended x) h = refl
+out_started Unissued h = h
+out_started Issued h = h
+
+pub over_started : (s : LineStage) → stage_over s ≡ true → stage_started s ≡ true
+over_started Out h = refl
+over_started (Ending x) h = refl
+over_started (Ended x) h = refl
+over_started Unissued h = h
+over_started Issued h = h
+
+pub ended_over : (s : LineStage) → stage_ended s ≡ true → stage_over s ≡ true
+ended_over (Ending x) h = refl
+ended_over (Ended x) h = refl
+ended_over Out h = h
+ended_over Unissued h = h
+ended_over Issued h = h
+
+pub started_cases : (s : LineStage) → stage_started s ≡ true → (stage_out s ≡ true) ⊎ (stage_over s ≡ true)
+started_cases Out h = inl refl
+started_cases (Ending x) h = inr refl
+started_cases (Ended x) h = inr refl
+started_cases Unissued h = inl h
+started_cases Issued h = inl h
+
+pub ended_keeps : (s : LineStage) → stage_ended s ≡ true → (x : End) × (s ≡ Ended x)
+ended_keeps (Ended x) h = (x, refl)
+ended_keeps (Ending x) h = absurd (true≢false (sym h))
+ended_keeps Out h = absurd (true≢false (sym h))
+ended_keeps Issued h = absurd (true≢false (sym h))
+ended_keeps Unissued h = absurd (true≢false (sym h))
+
+pub over_keeps : (s : LineStage) → stage_over s ≡ true → kept_end s ≡ Some (end_so_far s)
+over_keeps (Ended x) h = refl
+over_keeps (Ending x) h = refl
+over_keeps Out h = absurd (true≢false (sym h))
+over_keeps Issued h = absurd (true≢false (sym h))
+over_keeps Unissued h = absurd (true≢false (sym h))
+
+pub out_not_over : (s : LineStage) → stage_out s ≡ true → stage_over s ≡ false
+out_not_over Out h = refl
+out_not_over (Ending x) h = absurd (true≢false (sym h))
+out_not_over (Ended x) h = absurd (true≢false (sym h))
+out_not_over Issued h = refl
+out_not_over Unissued h = refl
+
+pub out_not_ended : (s : LineStage) → stage_out s ≡ true → stage_ended s ≡ false
+out_not_ended Out h = refl
+out_not_ended (Ending x) h = refl
+out_not_ended (Ended x) h = absurd (true≢false (sym h))
+out_not_ended Issued h = refl
+out_not_ended Unissued h = refl
+
+pub out_is : (s : LineStage) → stage_out s ≡ true → s ≡ Out
+out_is Out h = refl
+out_is (Ending x) h = absurd (true≢false (sym h))
+out_is (Ended x) h = absurd (true≢false (sym h))
+out_is Issued h = absurd (true≢false (sym h))
+out_is Unissued h = absurd (true≢false (sym h))
+
+-- a line that has a stage besides unissued is there
+pub stage_there : (stages : List LineStage) (i : ℕ) → stage_issued (stage_at stages i) ≡ true → i < length stages
+stage_there stages i h = is_there stages Unissued i (λ e. true≢false (sym h ∙ ap stage_issued e))
+
+pub started_issued : (s : LineStage) → stage_started s ≡ true → stage_issued s ≡ true
+started_issued Out h = refl
+started_issued (Ending x) h = refl
+started_issued (Ended x) h = refl
+started_issued Issued h = refl
+started_issued Unissued h = h
+
+-- an option that is some
+pub some_is : {X : Type 0} (o : Option X) → is_some o ≡ true → (x : X) × (o ≡ Some x)
+some_is (Some x) h = (x, refl)
+some_is None h = absurd (true≢false (sym h))
+
+pub is_some_of : {X : Type 0} (o : Option X) (x : X) → o ≡ Some x → is_some o ≡ true
+is_some_of o x e = ap is_some e

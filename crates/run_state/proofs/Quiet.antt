@@ -1,0 +1,172 @@
+-- In a quiet state no reservation is held, each line that is left waits in the evaluation, and the ends are those of the evaluation.
+use Rattle.std.proofs.Common.{◌≡◌, ℕ, zero, suc, ◌+◌, ◌<◌, ◌≤◌, true, false, ◌⊎◌, inl, inr, List, [], ◌∷◌, length, refl, sym, ◌∙◌, ap, subst, arith}
+use Rattle.std.specs.Prelude.{◌≢◌, Option, Some, None}
+use Rattle.std.specs.Option.{option_map_or}
+use Rattle.std.proofs.lemmas.Bool.{true≢false, cases_Bool, cases_lt, eq-eqb, false_from_ne_true}
+use Rattle.std.proofs.lemmas.Option.{none-some}
+use Rattle.std.proofs.lemmas.List.{get_or_past}
+use Rattle.graph_model.specs.declared.outcome.Verdict.TheVariants.{Fine}
+use Rattle.graph_model.specs.declared.outcome.End.TheVariants.{Done, Cancelled, Waiting}
+use Rattle.graph_model.specs.declared.verb.Verb.{Verb}
+use Rattle.graph_model.specs.declared.verb.Verb.TheVariants.{Acquire, Release}
+use Rattle.graph_model.specs.Graph.{GraphValue, space_at, never_comes, never_comes_as, verb_at, locks, is_acquire_of, is_release_of}
+use Rattle.graph_model.specs.Edges.{edges}
+use Rattle.graph_model.specs.Rules.{Acquires, Releases}
+use Rattle.graph_model.specs.Effect.{Cells, effect, verb_verdict}
+use Rattle.graph_model.specs.Evaluation.{has_ended, is_ended, is_cancelled, cells_of, end_by, evaluation, eval_end}
+use Rattle.graph_model.proofs.ReadyLine.{IsReadyLine, ready_or_never}
+use Rattle.graph_model.proofs.Waiting.{waits_if_reached, end_in_left, end_in_ended, steps_end, ends_in_order}
+use Rattle.graph_model.proofs.Turns.{turns_after}
+use Rattle.graph_model.proofs.RulesTable.{passes_below}
+use Rattle.graph_model.proofs.GraphFacts.{edges_in_range}
+use Rattle.run_state.specs.Run.{LineStage, Unissued, Issued, Out, Ending, Ended, Run, Had, is_listed, stage_at, place_at, list_at, stage_issued, stage_out, stage_over, stage_ended, end_so_far, started, ended}
+use Rattle.run_state.specs.Sound.{Sound}
+use Rattle.run_state.specs.Quiet.{IsFree, Quiet}
+use Rattle.run_state.proofs.Lists.{listed_here, started_cases, ended_over}
+use Rattle.run_state.proofs.Known.{lock_there, acquire_one}
+use Rattle.run_state.proofs.Started.{ended_started, path_ended, started_ends, kept_is}
+use Rattle.run_state.proofs.Work.{step_parts}
+use Rattle.run_state.proofs.Verbs.{passes_verb, verb_passes, acquire_is, release_is, acquire_some}
+use Rattle.run_state.proofs.EdgesOf.{never_with_path}
+
+-- the end of an acquire that is not cancelled
+verdict_of : (space : ℕ → List (ℕ × ℕ)) (cells : Cells) (o : Option Verb) (l : ℕ) → o ≡ Some (Acquire l) → option_map_or (verb_verdict space cells) o Fine ≡ Fine
+verdict_of space cells o l e = ap (λ (x : Option Verb). option_map_or (verb_verdict space cells) x Fine) e
+
+pub fine_done : (g : GraphValue) (i : ℕ) → ((cells : Cells) → (effect g i cells).verdict ≡ Fine) → has_ended (evaluation g) i ≡ true → eval_end g i ≢ Cancelled → eval_end g i ≡ Done
+fine_done g i fine h ne =
+    let t = turns_after g (length g.lines) i h in
+    let parts = step_parts i (is_cancelled g t.0 i) (effect g i (cells_of t.0)) (λ e. ne (t.1.end_is ∙ e)) in
+    t.1.end_is ∙ (parts.0 ∙ ap end_by (fine (cells_of t.0)))
+
+pub acquire_done : (g : GraphValue) (q l : ℕ) → Acquires g q l → has_ended (evaluation g) q ≡ true → eval_end g q ≢ Cancelled → eval_end g q ≡ Done
+acquire_done g q l a h ne =
+    let v = passes_verb (is_acquire_of l) g q a in
+    fine_done g q (λ cells. verdict_of (space_at g) cells (verb_at g q) l (v.1 ∙ ap Some (acquire_is l v.0 v.2))) h ne
+
+-- a line that releases acquires nothing and comes
+pub release_no_acquire : (g : GraphValue) (r q l : ℕ) → Releases g r q → Acquires g r l → ⊥
+release_no_acquire g r q l rel acq =
+    let v = passes_verb (is_release_of q) g r rel in
+    let a : is_acquire_of l v.0 ≡ true = sym (verb_passes (is_acquire_of l) g r v.0 v.1) ∙ acq in
+    let both : Acquire l ≡ Release q = sym (acquire_is l v.0 a) ∙ release_is q v.0 v.2 in
+    cc
+
+pub release_comes : (g : GraphValue) (r q : ℕ) → Releases g r q → never_comes g r ≡ false
+release_comes g r q rel =
+    let v = passes_verb (is_release_of q) g r rel in
+    verb_passes (never_comes_as g r) g r v.0 v.1 ∙ ap (never_comes_as g r) (release_is q v.0 v.2)
+
+-- what is left of the stages in a quiet state
+pub issued_only : (s : LineStage) → stage_issued s ≡ true → stage_out s ≡ false → (stage_over s ≡ true → stage_ended s ≡ true) → stage_ended s ≡ false → s ≡ Issued
+issued_only Unissued i o e l = absurd (true≢false (sym i))
+issued_only Issued i o e l = refl
+issued_only Out i o e l = absurd (true≢false o)
+issued_only (Ending x) i o e l = absurd (true≢false (sym (e refl)))
+issued_only (Ended x) i o e l = absurd (true≢false l)
+
+module _ (g : GraphValue) (run : Run) (s : Sound g run) (q : Quiet g run) where
+  -- a line that was taken is ended
+  pub quiet_ended : (i : ℕ) → started run.stages i ≡ true → ended run.stages i ≡ true
+  quiet_ended i h = elim (started_cases (stage_at run.stages i) h) [
+    | inl o ↦ absurd (true≢false (sym o ∙ q.none_out i))
+    | inr o ↦ q.none_ending i o
+  ]
+
+  -- a line that is left is issued
+  pub quiet_issued : (i : ℕ) → i < length g.lines → ended run.stages i ≡ false → stage_at run.stages i ≡ Issued
+  quiet_issued i h left = issued_only (stage_at run.stages i) (q.all_issued i h) (q.none_out i) (q.none_ending i) left
+
+  -- all columns are at home
+  pub quiet_home : (c k : ℕ) → place_at run.places c ≢ Had k
+  quiet_home c k e = true≢false (sym (s.on_columns.had_out c k e) ∙ q.none_out k)
+
+  -- a line that is ready and was not taken acquires a reservation that is held
+  blocked_by : (k l : ℕ) → Acquires g k l → (ks : List ℕ) → list_at run.holders l ≡ ks → (list_at run.holders l ≡ [] → ⊥) → (h : ℕ) × (is_listed (list_at run.holders l) h ≡ true)
+  blocked_by k l a [] e ne = absurd (ne e)
+  blocked_by k l a (h ∷ hs) e ne = (h, ap (λ ks. is_listed ks h) e ∙ listed_here h hs)
+
+  ready_blocked : (k : ℕ) → IsReadyLine (edges g) (length g.lines) (never_comes g) (ended run.stages) k → (l : ℕ) × Acquires g k l × ((h : ℕ) × (is_listed (list_at run.holders l) h ≡ true))
+  ready_blocked k r =
+      let is : stage_at run.stages k ≡ Issued = quiet_issued k r.below r.left in
+      let no : IsFree g run k → ⊥ = λ f. q.none_taken k (record { is_issued = is; comes = r.comes; sources = r.sources; is_free = f }) in
+      elim (acquires_or_not (verb_at g k) refl) [
+        | inl a ↦ (a.0, a.1, blocked_by k a.0 a.1 (list_at run.holders a.0) refl (λ e. no (inr ((λ l b. ap (list_at run.holders) (acquire_one g k l a.0 b a.1) ∙ e), λ c x j. quiet_home c j))))
+        | inr n ↦ absurd (no (inr ((λ l b. absurd (n l b)), λ c x j. quiet_home c j)))
+      ]
+    where
+      acquires_or_not : (o : Option Verb) → verb_at g k ≡ o → ((l : ℕ) × Acquires g k l) ⊎ ((l : ℕ) → Acquires g k l → ⊥)
+      acquires_or_not None e = inr (λ l a. let v = passes_verb (is_acquire_of l) g k a in none-some v.0 (sym e ∙ v.1))
+      acquires_or_not (Some v) e = elim (acquire_some v) [
+        | inl a ↦ inl (a.0, verb_passes (is_acquire_of a.0) g k v e ∙ (ap (is_acquire_of a.0) a.1 ∙ eq-eqb a.0 a.0 refl))
+        | inr n ↦ inr (λ l a. n l (sym (verb_passes (is_acquire_of l) g k v e) ∙ a))
+      ]
+
+  -- no reservation is held: each holder's release is before a line that waits for a later reservation
+  nobody_holds_from : (m l h : ℕ) → length (locks g) ≤ l + m → is_listed (list_at run.holders l) h ≡ true → ⊥
+  nobody_holds_from zero l h few held = (let b : l < length (locks g) = lock_there s.graph h l (s.on_locks.holder_acquires l h held) in absurd (omega arith))
+  nobody_holds_from (suc m) l h few held =
+      let acquires : Acquires g h l = s.on_locks.holder_acquires l h held in
+      let begun : started run.stages h ≡ true = s.on_locks.holder_started l h held in
+      let done : eval_end g h ≡ Done = acquire_done g h l acquires (started_ends s.graph s.accepted s.on_lines h begun) (s.on_locks.holder_not_cancelled l h held) in
+      let r = s.accepted.released h l acquires in
+      let left : ended run.stages r.0 ≡ false = false_from_ne_true (ended run.stages r.0) (λ e. s.on_locks.freed_gone l h r.0 r.1 (s.on_locks.ended_freed r.0 h r.1 e done) held) in
+      elim (ready_or_never (edges g) (length g.lines) (never_comes g) (ended run.stages) (λ e c. (edges_in_range g s.graph e c).0) s.accepted.acyclic r.0 (passes_below (is_release_of h) g r.0 r.1) left) [
+        | inl ready ↦ (
+            let b = ready_blocked ready.0 ready.1 in
+            elim ready.2 [
+              | inl same ↦ release_no_acquire g r.0 h b.0 r.1 (subst (λ x. Acquires g x b.0) same b.1)
+              | inr path ↦ elim (s.accepted.sections r.0 ready.0 h r.1 path) [
+                | inl is ↦ true≢false (sym (quiet_ended h begun) ∙ (ap (ended run.stages) (sym is) ∙ ready.1.left))
+                | inr (inl before) ↦ true≢false (sym (path_ended s.on_lines ready.0 h before begun) ∙ ready.1.left)
+                | inr (inr within) ↦ (
+                    let above : l < b.0 = s.accepted.descends h ready.0 l b.0 (record { acquires = acquires; entered = within.0; release = r.0; releases = r.1; left = path }) b.1 in
+                    nobody_holds_from m b.0 b.2.0 (omega arith) b.2.1)
+              ]
+            ])
+        | inr (inl never) ↦ true≢false (sym never ∙ release_comes g r.0 h r.1)
+        | inr (inr some) ↦ elim (s.accepted.sections r.0 some.0 h r.1 some.2) [
+          | inl is ↦ true≢false (sym some.1 ∙ (ap (never_comes g) is ∙ s.on_lines.comes h begun))
+          | inr (inl before) ↦ true≢false (sym some.1 ∙ s.on_lines.comes some.0 (ended_started run.stages some.0 (path_ended s.on_lines some.0 h before begun)))
+          | inr (inr within) ↦ within.1 (never_with_path g s.graph h some.0 within.0 some.1) some.1
+        ]
+      ]
+
+  pub nobody_holds : (l h : ℕ) → is_listed (list_at run.holders l) h ≡ true → ⊥
+  nobody_holds l h held = nobody_holds_from (length (locks g)) l h (omega arith) held
+
+  -- a line that is left waits in the evaluation
+  pub left_waits : (i : ℕ) → i < length g.lines → ended run.stages i ≡ false → eval_end g i ≡ Waiting
+  left_waits i h left = elim (ready_or_never (edges g) (length g.lines) (never_comes g) (ended run.stages) (λ e c. (edges_in_range g s.graph e c).0) s.accepted.acyclic i h left) [
+    | inl ready ↦ (let b = ready_blocked ready.0 ready.1 in absurd (nobody_holds b.0 b.2.0 b.2.1))
+    | inr reached ↦ waits_if_reached g i reached
+  ]
+
+  -- the end of each line is that of the evaluation
+  pub quiet_end : (i : ℕ) → end_so_far (stage_at run.stages i) ≡ eval_end g i
+  quiet_end i = elim (cases_Bool (ended run.stages i)) [
+    | inl e ↦ kept_is s.on_lines i (ended_over (stage_at run.stages i) e)
+    | inr left ↦ elim (cases_lt i (length g.lines)) [
+      | inl h ↦ ap end_so_far (quiet_issued i h left) ∙ sym (left_waits i h left)
+      | inr past ↦ (
+          let none : stage_at run.stages i ≡ Unissued = get_or_past run.stages i Unissued (subst (λ n. n ≤ i) (sym s.on_lines.each_line) past) in
+          ap end_so_far none ∙ sym (end_in_left (evaluation g) i (false_from_ne_true (has_ended (evaluation g) i) (λ e. let b : i < length g.lines = ((ends_in_order g).each i e).0 in absurd (omega arith)))))
+    ]
+  ]
+
+  -- the ended lines are those of the evaluation
+  pub ended_in_evaluation : (i : ℕ) → ended run.stages i ≡ true → is_ended (eval_end g i) ≡ true
+  ended_in_evaluation i e = end_in_ended (evaluation g) i (steps_end g (length g.lines)) (started_ends s.graph s.accepted s.on_lines i (ended_started run.stages i e))
+
+  pub evaluation_ended : (i : ℕ) → is_ended (eval_end g i) ≡ true → ended run.stages i ≡ true
+  evaluation_ended i e = elim (cases_Bool (ended run.stages i)) [
+    | inl h ↦ h
+    | inr left ↦ absurd (true≢false (sym e ∙ (ap is_ended (sym (quiet_end i)) ∙ waits_so_far (stage_at run.stages i) (q.none_out i) (q.none_ending i) left)))
+  ]
+    where
+      waits_so_far : (s : LineStage) → stage_out s ≡ false → (stage_over s ≡ true → stage_ended s ≡ true) → stage_ended s ≡ false → is_ended (end_so_far s) ≡ false
+      waits_so_far Unissued o f l = refl
+      waits_so_far Issued o f l = refl
+      waits_so_far Out o f l = refl
+      waits_so_far (Ending x) o f l = absurd (true≢false (sym (f refl)))
+      waits_so_far (Ended x) o f l = absurd (true≢false l)

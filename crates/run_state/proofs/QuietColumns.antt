@@ -1,0 +1,58 @@
+-- In a quiet state the columns are those of the evaluation.
+use Rattle.std.proofs.Common.{◌≡◌, ℕ, Bool, true, false, cond, List, [], ◌∷◌, ◌++◌, length, map, refl, sym, ◌∙◌, ap}
+use Rattle.std.specs.Prelude.{Contains, filter, flat_map}
+use Rattle.std.proofs.lemmas.Bool.{true≢false, false_from_ne_true}
+use Rattle.index_spaces.specs.Space.{points}
+use Rattle.graph_model.specs.Graph.{GraphValue, column_space}
+use Rattle.graph_model.specs.Effect.{Cells, zero_cells, cells_after}
+use Rattle.graph_model.specs.Evaluation.{Step, evaluation, order, eval_changes, cells_of, cells_by, cells_of_lines, column_of}
+use Rattle.graph_model.proofs.ListFacts.{contains_here, contains_there}
+use Rattle.graph_model.proofs.Changes.{touches, Untouched, cells_after-append, cells_after_at, cells_after_untouched}
+use Rattle.graph_model.proofs.Confluence.{steps_found}
+use Rattle.graph_model.proofs.OrderLaws.{listed_iff_ended}
+use Rattle.run_state.specs.Run.{Run, Place, Home, Had, is_listed, stage_at, place_at, list_at}
+use Rattle.run_state.specs.Sound.{home_cells, Sound}
+use Rattle.run_state.specs.Quiet.{Quiet}
+use Rattle.run_state.proofs.Lists.{ended_over, map_same}
+use Rattle.run_state.proofs.Started.{changed_back}
+use Rattle.run_state.proofs.Quiet.{evaluation_ended, quiet_home}
+
+-- the cells of the evaluation are those by all its lines
+changes_by_lines : (g : GraphValue) (ss : List Step) → ((s : Step) → Contains ss s → eval_changes g s.line ≡ s.changes) → flat_map (λ (s : Step). s.changes) ss ≡ flat_map (eval_changes g) (map (λ (s : Step). s.line) ss)
+changes_by_lines g [] h = refl
+changes_by_lines g (s ∷ ss) h = ap (λ x. x ++ flat_map (λ (s : Step). s.changes) ss) (sym (h s (contains_here s ss))) ∙ ap (λ x. eval_changes g s.line ++ x) (changes_by_lines g ss (λ t c. h t (contains_there s ss t c)))
+
+pub cells_of_evaluation : (g : GraphValue) → cells_of (evaluation g) ≡ cells_by g (order g)
+cells_of_evaluation g = ap (cells_after zero_cells) (changes_by_lines g (evaluation g) (λ s c. steps_found g (length g.lines) s c))
+
+-- lines left out that do not change a cell may as well be in
+left_out_by : (g : GraphValue) (put : ℕ → Bool) (c p : ℕ) (cells : Cells) (k : ℕ) (ks : List ℕ) (b : Bool) → put k ≡ b → (put k ≡ false → Untouched c p (eval_changes g k)) →
+    ((cells : Cells) → cells_after cells (flat_map (eval_changes g) (filter put ks)) c p ≡ cells_after cells (flat_map (eval_changes g) ks) c p) →
+    cells_after cells (flat_map (eval_changes g) (cond b (k ∷ filter put ks) (filter put ks))) c p ≡ cells_after cells (eval_changes g k ++ flat_map (eval_changes g) ks) c p
+left_out_by g put c p cells k ks true e h again = ap (λ (f : Cells). f c p) (cells_after-append cells (eval_changes g k) (flat_map (eval_changes g) (filter put ks)))
+    ∙ (again (cells_after cells (eval_changes g k)) ∙ ap (λ (f : Cells). f c p) (sym (cells_after-append cells (eval_changes g k) (flat_map (eval_changes g) ks))))
+left_out_by g put c p cells k ks false e h again = again cells
+    ∙ (cells_after_at cells (cells_after cells (eval_changes g k)) (flat_map (eval_changes g) ks) c p (sym (cells_after_untouched cells (eval_changes g k) c p (h e)))
+    ∙ ap (λ (f : Cells). f c p) (sym (cells_after-append cells (eval_changes g k) (flat_map (eval_changes g) ks))))
+
+pub left_out : (g : GraphValue) (put : ℕ → Bool) (c p : ℕ) (ks : List ℕ) → ((k : ℕ) → Contains ks k → put k ≡ false → Untouched c p (eval_changes g k)) → (cells : Cells) →
+    cells_after cells (flat_map (eval_changes g) (filter put ks)) c p ≡ cells_after cells (flat_map (eval_changes g) ks) c p
+left_out g put c p [] h cells = refl
+left_out g put c p (k ∷ ks) h cells = left_out_by g put c p cells k ks (put k) refl (h k (contains_here k ks)) (left_out g put c p ks (λ m r. h m (contains_there k ks m r)))
+
+place_home : (p : Place) → ((k : ℕ) → p ≡ Had k → ⊥) → (xs : List ℕ) × (p ≡ Home xs)
+place_home (Home xs) h = (xs, refl)
+place_home (Had k) h = absurd (h k refl)
+
+-- each column is at home, with the cells of the evaluation
+pub quiet_column : (g : GraphValue) (run : Run) → Sound g run → Quiet g run → (c : ℕ) → place_at run.places c ≡ Home (column_of g (cells_of (evaluation g)) c).cells
+quiet_column g run s q c =
+    let at = place_home (place_at run.places c) (quiet_home g run s q c) in
+    let same : home_cells g (list_at run.back c) c ≡ (column_of g (cells_of (evaluation g)) c).cells =
+    map_same (cells_of_lines g (is_listed (list_at run.back c)) c) (cells_of (evaluation g) c) (points (column_space g c))
+    (λ p. left_out g (is_listed (list_at run.back c)) c p (order g)
+    (λ k hk out x hx. false_from_ne_true (touches c p x) (λ t. true≢false (sym
+    (changed_back s c p k (ended_over (stage_at run.stages k) (evaluation_ended g run s q k ((listed_iff_ended g k).0 hk))) x hx t) ∙ out)))
+    zero_cells
+    ∙ ap (λ (f : Cells). f c p) (sym (cells_of_evaluation g))) in
+    at.1 ∙ ap Home (s.on_columns.cells c at.0 at.1 ∙ same)

@@ -1,0 +1,177 @@
+-- Facts about lines by the kind of what they do.
+use Rattle.std.proofs.Common.{◌≡◌, ℕ, ◌<◌, Bool, true, false, cond, ◌⊎◌, inl, inr, List, [], ◌∷◌, length, refl, sym, ◌∙◌, ap}
+use Rattle.std.specs.Prelude.{Contains, ◌==◌, Option, Some, None, slice_get, option_map}
+use Rattle.std.specs.Option.{option_map_or}
+use Rattle.std.specs.List.{list_any}
+use Rattle.std.proofs.lemmas.Bool.{true≢false, eq-eqb, eqb-true, not-true}
+use Rattle.std.proofs.lemmas.Option.{none-some, same_Some, slice_get_within}
+use Rattle.graph_model.specs.declared.verb.Edge.{Edge}
+use Rattle.graph_model.specs.declared.verb.EdgeKind.{EdgeKind}
+use Rattle.graph_model.specs.declared.verb.EdgeKind.TheVariants.{Passes, Ignores, Faults}
+use Rattle.graph_model.specs.declared.verb.Line.{Line}
+use Rattle.graph_model.specs.declared.verb.Verb.{Verb}
+use Rattle.graph_model.specs.declared.verb.Verb.TheVariants.{User, Trigger, Cancel, Merge, MergeIgnore, Phase, Arrive, Acquire, Release, Fill, Copy, Reduce, Task}
+use Rattle.graph_model.specs.Graph.{GraphValue, verb_at, line_passes, is_user, is_phase, is_phase_of, is_acquire_of, is_release_of, ends_user, never_comes_as}
+use Rattle.graph_model.specs.Edges.{edge, last_place, edges_from_some, verb_edges}
+use Rattle.graph_model.specs.Evaluation.{arrival_value}
+use Rattle.graph_model.proofs.ListFacts.{contains_none, contains_cases, map_contains}
+
+-- what a line does that passes a test
+passes_some_of : (t : Verb → Bool) (o : Option Verb) → option_map_or t o false ≡ true → (v : Verb) × (o ≡ Some v) × (t v ≡ true)
+passes_some_of t None h = absurd (true≢false (sym h))
+passes_some_of t (Some v) h = (v, refl, h)
+
+pub passes_verb : (t : Verb → Bool) (g : GraphValue) (i : ℕ) → line_passes t g i ≡ true → (v : Verb) × (verb_at g i ≡ Some v) × (t v ≡ true)
+passes_verb t g i h = passes_some_of t (verb_at g i) h
+
+pub verb_passes : (t : Verb → Bool) (g : GraphValue) (i : ℕ) (v : Verb) → verb_at g i ≡ Some v → line_passes t g i ≡ t v
+verb_passes t g i v e = ap (λ (o : Option Verb). option_map_or t o false) e
+
+verb_line_of : (o : Option Line) (v : Verb) → option_map (λ (l : Line). l.verb) o ≡ Some v → (l : Line) × (o ≡ Some l) × (l.verb ≡ v)
+verb_line_of None v h = absurd (none-some v h)
+verb_line_of (Some l) v h = (l, refl, same_Some l.verb v h)
+
+pub verb_line : (g : GraphValue) (i : ℕ) (v : Verb) → verb_at g i ≡ Some v → (l : Line) × (slice_get g.lines i ≡ Some l) × (l.verb ≡ v)
+verb_line g i v h = verb_line_of (slice_get g.lines i) v h
+
+pub verb_below : (g : GraphValue) (i : ℕ) (v : Verb) → verb_at g i ≡ Some v → i < length g.lines
+verb_below g i v h = let l = verb_line g i v h in slice_get_within g.lines i l.0 l.1
+
+-- an acquire, a release, a user event, a phase, an arrival
+pub acquire_is : (l : ℕ) (v : Verb) → is_acquire_of l v ≡ true → v ≡ Acquire l
+acquire_is l User h = absurd (true≢false (sym h))
+acquire_is l (Trigger k) h = absurd (true≢false (sym h))
+acquire_is l (Cancel k) h = absurd (true≢false (sym h))
+acquire_is l (Merge ks) h = absurd (true≢false (sym h))
+acquire_is l (MergeIgnore ks) h = absurd (true≢false (sym h))
+acquire_is l (Phase k) h = absurd (true≢false (sym h))
+acquire_is l (Arrive k w) h = absurd (true≢false (sym h))
+acquire_is l (Acquire k) h = ap Acquire (eqb-true k l h)
+acquire_is l (Release k) h = absurd (true≢false (sym h))
+acquire_is l (Fill t s w) h = absurd (true≢false (sym h))
+acquire_is l (Copy x y s) h = absurd (true≢false (sym h))
+acquire_is l (Reduce o x y s) h = absurd (true≢false (sym h))
+acquire_is l (Task k) h = absurd (true≢false (sym h))
+
+pub release_is : (q : ℕ) (v : Verb) → is_release_of q v ≡ true → v ≡ Release q
+release_is q User h = absurd (true≢false (sym h))
+release_is q (Trigger k) h = absurd (true≢false (sym h))
+release_is q (Cancel k) h = absurd (true≢false (sym h))
+release_is q (Merge ks) h = absurd (true≢false (sym h))
+release_is q (MergeIgnore ks) h = absurd (true≢false (sym h))
+release_is q (Phase k) h = absurd (true≢false (sym h))
+release_is q (Arrive k w) h = absurd (true≢false (sym h))
+release_is q (Acquire k) h = absurd (true≢false (sym h))
+release_is q (Release k) h = ap Release (eqb-true k q h)
+release_is q (Fill t s w) h = absurd (true≢false (sym h))
+release_is q (Copy x y s) h = absurd (true≢false (sym h))
+release_is q (Reduce o x y s) h = absurd (true≢false (sym h))
+release_is q (Task k) h = absurd (true≢false (sym h))
+
+pub user_is : (v : Verb) → is_user v ≡ true → v ≡ User
+user_is User h = refl
+user_is (Trigger k) h = absurd (true≢false (sym h))
+user_is (Cancel k) h = absurd (true≢false (sym h))
+user_is (Merge ks) h = absurd (true≢false (sym h))
+user_is (MergeIgnore ks) h = absurd (true≢false (sym h))
+user_is (Phase k) h = absurd (true≢false (sym h))
+user_is (Arrive k w) h = absurd (true≢false (sym h))
+user_is (Acquire k) h = absurd (true≢false (sym h))
+user_is (Release k) h = absurd (true≢false (sym h))
+user_is (Fill t s w) h = absurd (true≢false (sym h))
+user_is (Copy x y s) h = absurd (true≢false (sym h))
+user_is (Reduce o x y s) h = absurd (true≢false (sym h))
+user_is (Task k) h = absurd (true≢false (sym h))
+
+pub phase_is : (v : Verb) → is_phase v ≡ true → (b : ℕ) × (v ≡ Phase b)
+phase_is User h = absurd (true≢false (sym h))
+phase_is (Trigger k) h = absurd (true≢false (sym h))
+phase_is (Cancel k) h = absurd (true≢false (sym h))
+phase_is (Merge ks) h = absurd (true≢false (sym h))
+phase_is (MergeIgnore ks) h = absurd (true≢false (sym h))
+phase_is (Phase k) h = (k, refl)
+phase_is (Arrive k w) h = absurd (true≢false (sym h))
+phase_is (Acquire k) h = absurd (true≢false (sym h))
+phase_is (Release k) h = absurd (true≢false (sym h))
+phase_is (Fill t s w) h = absurd (true≢false (sym h))
+phase_is (Copy x y s) h = absurd (true≢false (sym h))
+phase_is (Reduce o x y s) h = absurd (true≢false (sym h))
+phase_is (Task k) h = absurd (true≢false (sym h))
+
+pub arrival_is : (p : ℕ) (v : Verb) (n : ℕ) → arrival_value p v ≡ Some n → v ≡ Arrive p n
+arrival_is p User n h = absurd (none-some n h)
+arrival_is p (Trigger k) n h = absurd (none-some n h)
+arrival_is p (Cancel k) n h = absurd (none-some n h)
+arrival_is p (Merge ks) n h = absurd (none-some n h)
+arrival_is p (MergeIgnore ks) n h = absurd (none-some n h)
+arrival_is p (Phase k) n h = absurd (none-some n h)
+arrival_is p (Arrive k w) n h = arrival_cases k p w n (k == p) refl h
+  where
+    arrival_cases : (k p w n : ℕ) (b : Bool) → (k == p) ≡ b → cond b (Some w) None ≡ Some n → Arrive k w ≡ Arrive p n
+    arrival_cases k p w n true e h = ap (λ z. Arrive z w) (eqb-true k p e) ∙ ap (Arrive p) (same_Some w n h)
+    arrival_cases k p w n false e h = absurd (none-some n h)
+arrival_is p (Acquire k) n h = absurd (none-some n h)
+arrival_is p (Release k) n h = absurd (none-some n h)
+arrival_is p (Fill t s w) n h = absurd (none-some n h)
+arrival_is p (Copy x y s) n h = absurd (none-some n h)
+arrival_is p (Reduce o x y s) n h = absurd (none-some n h)
+arrival_is p (Task k) n h = absurd (none-some n h)
+
+-- whether a line acquires a reservation
+pub acquire_some : (v : Verb) → ((l : ℕ) × (v ≡ Acquire l)) ⊎ ((l : ℕ) → is_acquire_of l v ≡ true → ⊥)
+acquire_some User = inr (λ l h. true≢false (sym h))
+acquire_some (Trigger k) = inr (λ l h. true≢false (sym h))
+acquire_some (Cancel k) = inr (λ l h. true≢false (sym h))
+acquire_some (Merge ks) = inr (λ l h. true≢false (sym h))
+acquire_some (MergeIgnore ks) = inr (λ l h. true≢false (sym h))
+acquire_some (Phase k) = inr (λ l h. true≢false (sym h))
+acquire_some (Arrive k w) = inr (λ l h. true≢false (sym h))
+acquire_some (Acquire k) = inl (k, refl)
+acquire_some (Release k) = inr (λ l h. true≢false (sym h))
+acquire_some (Fill t s w) = inr (λ l h. true≢false (sym h))
+acquire_some (Copy x y s) = inr (λ l h. true≢false (sym h))
+acquire_some (Reduce o x y s) = inr (λ l h. true≢false (sym h))
+acquire_some (Task k) = inr (λ l h. true≢false (sym h))
+
+-- a line that never comes is a phase, or a user event that no line ends
+pub never_as : (g : GraphValue) (i : ℕ) (v : Verb) → never_comes_as g i v ≡ true → (is_phase v ≡ true) ⊎ ((v ≡ User) × (list_any (λ (l : Line). ends_user i l.verb) g.lines ≡ false))
+never_as g i User h = inr (refl, not-true _ h)
+never_as g i (Trigger k) h = absurd (true≢false (sym h))
+never_as g i (Cancel k) h = absurd (true≢false (sym h))
+never_as g i (Merge ks) h = absurd (true≢false (sym h))
+never_as g i (MergeIgnore ks) h = absurd (true≢false (sym h))
+never_as g i (Phase k) h = inl refl
+never_as g i (Arrive k w) h = absurd (true≢false (sym h))
+never_as g i (Acquire k) h = absurd (true≢false (sym h))
+never_as g i (Release k) h = absurd (true≢false (sym h))
+never_as g i (Fill t s w) h = absurd (true≢false (sym h))
+never_as g i (Copy x y s) h = absurd (true≢false (sym h))
+never_as g i (Reduce o x y s) h = absurd (true≢false (sym h))
+never_as g i (Task k) h = absurd (true≢false (sym h))
+
+one_is : (x e : Edge) → Contains (x ∷ []) e → x ≡ e
+one_is x e c = elim (contains_cases x [] e c) [ inl s ↦ s | inr r ↦ absurd (contains_none e r) ]
+
+pub from_some_to : (kind : EdgeKind) (o : Option ℕ) (n : ℕ) (e : Edge) → Contains (edges_from_some kind o n) e → e.to ≡ n
+from_some_to kind None n e c = absurd (contains_none e c)
+from_some_to kind (Some k) n e c = sym (ap (λ (x : Edge). x.to) (one_is (edge k n kind) e c))
+
+pub from_some_has : (kind : EdgeKind) (o : Option ℕ) (n : ℕ) (e : Edge) → Contains (edges_from_some kind o n) e → (k : ℕ) × (o ≡ Some k)
+from_some_has kind None n e c = absurd (contains_none e c)
+from_some_has kind (Some k) n e c = (k, refl)
+
+-- where the edges lead that a line gives: to itself, which is no user event, to the user event that it ends, or to the phase at which it arrives
+pub verb_edge_to : (before : List Line) (v : Verb) (e : Edge) → Contains (verb_edges before (length before) v) e → ((e.to ≡ length before) × (is_user v ≡ false)) ⊎ ((ends_user e.to v ≡ true) ⊎ ((p w : ℕ) × (v ≡ Arrive p w) × (e.to ≡ p)))
+verb_edge_to before User e c = absurd (contains_none e c)
+verb_edge_to before (Trigger k) e c = inr (inl (let s = one_is (edge (length before) k Passes) e c in eq-eqb k e.to (ap (λ (x : Edge). x.to) s)))
+verb_edge_to before (Cancel k) e c = inr (inl (let s = one_is (edge (length before) k Faults) e c in eq-eqb k e.to (ap (λ (x : Edge). x.to) s)))
+verb_edge_to before (Merge ks) e c = inl (let m = map_contains (λ e. edge e (length before) Passes) ks e c in (sym (ap (λ (x : Edge). x.to) m.2), refl))
+verb_edge_to before (MergeIgnore ks) e c = inl (let m = map_contains (λ e. edge e (length before) Ignores) ks e c in (sym (ap (λ (x : Edge). x.to) m.2), refl))
+verb_edge_to before (Phase k) e c = inl (from_some_to Ignores (last_place (is_phase_of k) 0 before None) (length before) e c, refl)
+verb_edge_to before (Arrive k w) e c = inr (inr (k, w, refl, (let s = one_is (edge (length before) k Passes) e c in sym (ap (λ (x : Edge). x.to) s))))
+verb_edge_to before (Acquire k) e c = absurd (contains_none e c)
+verb_edge_to before (Release k) e c = absurd (contains_none e c)
+verb_edge_to before (Fill t s w) e c = absurd (contains_none e c)
+verb_edge_to before (Copy x y s) e c = absurd (contains_none e c)
+verb_edge_to before (Reduce o x y s) e c = absurd (contains_none e c)
+verb_edge_to before (Task k) e c = absurd (contains_none e c)

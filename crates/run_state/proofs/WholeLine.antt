@@ -1,0 +1,188 @@
+-- A line taken or put back whole keeps the state sound and at rest.
+use Rattle.std.proofs.Common.{◌≡◌, ℕ, ◌<◌, true, false, inl, inr, List, [], ◌∷◌, length, refl, sym, ◌∙◌, ap, subst, length-set}
+use Rattle.std.specs.Prelude.{Contains, ◌≢◌, Option, Some, None, slice_set}
+use Rattle.std.specs.Option.{option_map_or}
+use Rattle.std.proofs.lemmas.List.{get_or-set_same, get_or-set_other}
+use Rattle.std.proofs.lemmas.Bool.{true≢false, eq-eqb, false_from_ne_true}
+use Rattle.std.proofs.lemmas.Option.{none-some, same_Some}
+use Rattle.graph_model.specs.declared.outcome.End.TheVariants.{Cancelled}
+use Rattle.graph_model.specs.declared.verb.Access.{Access}
+use Rattle.graph_model.specs.declared.verb.Verb.{Verb}
+use Rattle.graph_model.specs.declared.verb.Verb.TheVariants.{User, Trigger, Cancel, Merge, MergeIgnore, Phase, Arrive, Acquire, Release, Fill, Copy, Reduce, Task}
+use Rattle.graph_model.specs.Graph.{GraphValue, verb_at, is_acquire_of}
+use Rattle.graph_model.specs.Access.{accesses}
+use Rattle.graph_model.specs.Rules.{Acquires}
+use Rattle.graph_model.specs.Evaluation.{eval_end}
+use Rattle.graph_model.proofs.ListFacts.{contains_map, map_contains}
+use Rattle.run_state.specs.Run.{Unissued, Issued, Out, Place, Home, Had, Run, is_listed, stage_at, place_at, list_at, stage_issued, stage_out, stage_started, stage_over, stage_ended, started, ended, timed}
+use Rattle.run_state.specs.Sound.{AccessesColumn, Sound}
+use Rattle.run_state.specs.Moves.{claim, column_out}
+use Rattle.run_state.specs.WholeLine.{column_list, lock_by, lock_of, all_had, columns_out, holders_with, hold_some, take_whole}
+use Rattle.run_state.proofs.Lists.{each_set, listed_contains, contains_listed, listed_here, listed_there, listed_cases, none_listed, stage_there}
+use Rattle.run_state.proofs.Known.{column_there, lock_there}
+use Rattle.run_state.proofs.Columns.{with_one, one_more, one_new, column_out-sound}
+use Rattle.run_state.proofs.Stages.{claim-sound}
+use Rattle.run_state.proofs.Locks.{hold-sound}
+use Rattle.run_state.proofs.Verbs.{passes_verb, acquire_is}
+use Rattle.run_state.proofs.Reductions.{Fresh}
+use Rattle.run_state.proofs.Releases.{columns_fresh}
+use Rattle.run_state.specs.AtRest.{AtRest, MayTakeWhole}
+use Rattle.run_state.specs.Premises.{MayTakeColumn, MayHold}
+
+-- the columns of a line by their numbers
+pub listed_accessed : (g : GraphValue) (i c : ℕ) → is_listed (column_list g i) c ≡ true → AccessesColumn g i c
+listed_accessed g i c h = map_contains (λ (a : Access). a.column) (accesses g i) c (listed_contains (column_list g i) c h)
+
+pub accessed_listed : (g : GraphValue) (i c : ℕ) → AccessesColumn g i c → is_listed (column_list g i) c ≡ true
+accessed_listed g i c a = contains_listed (column_list g i) c (subst (λ z. Contains (column_list g i) z) a.2 (contains_map (λ (x : Access). x.column) (accesses g i) a.0 a.1))
+
+pub not_the_first : (c d : ℕ) (cs : List ℕ) → Fresh (c ∷ cs) → is_listed cs d ≡ true → d ≡ c → ⊥
+not_the_first c d cs f h e = true≢false (sym h ∙ (ap (is_listed cs) e ∙ f.0))
+
+-- several columns out
+may_take_later : {g : GraphValue} {run : Run} → (c d i : ℕ) → (d ≡ c → ⊥) → MayTakeColumn g run d i → MayTakeColumn g (column_out run c i) d i
+may_take_later {g} {run} c d i ne m = record {
+  is_out = m.is_out;
+  accessed = m.accessed;
+  not_cancelled = m.not_cancelled;
+  not_back = m.not_back;
+  at_home = λ k e. m.at_home k (sym (get_or-set_other run.places c d (Had i) (Home []) ne) ∙ e);
+}
+
+pub columns_out-sound : {g : GraphValue} {run : Run} → Sound g run → (i : ℕ) (cs : List ℕ) → Fresh cs → ((c : ℕ) → is_listed cs c ≡ true → MayTakeColumn g run c i) → Sound g (columns_out run i cs)
+columns_out-sound {g} {run} s i [] f m = s
+columns_out-sound {g} {run} s i (c ∷ cs) f m = columns_out-sound (column_out-sound s c i (m c (listed_here c cs))) i cs f.1
+    (λ d h. may_take_later c d i (not_the_first c d cs f h) (m d (listed_there c d cs h)))
+
+pub all_had_other : (places : List Place) (i : ℕ) (cs : List ℕ) (c : ℕ) → (is_listed cs c ≡ true → ⊥) → place_at (all_had places i cs) c ≡ place_at places c
+all_had_other places i [] c none = refl
+all_had_other places i (d ∷ cs) c none = all_had_other (slice_set places d (Had i)) i cs c (λ h. none (listed_there d c cs h))
+    ∙ get_or-set_other places d c (Had i) (Home []) (λ e. none (subst (λ z. is_listed (z ∷ cs) c ≡ true) e (listed_here c cs)))
+
+all_had_listed : (places : List Place) (i : ℕ) (cs : List ℕ) (c : ℕ) → c < length places → Fresh cs → is_listed cs c ≡ true → place_at (all_had places i cs) c ≡ Had i
+all_had_listed places i [] c there f h = absurd (none_listed c h)
+all_had_listed places i (d ∷ cs) c there f h = elim (listed_cases d c cs h) [
+  | inl e ↦ all_had_other (slice_set places d (Had i)) i cs c (λ l. not_the_first d c cs f l e) ∙ (ap (λ z. place_at (slice_set places z (Had i)) c) (sym e) ∙ get_or-set_same places c (Had i) (Home []) there)
+  | inr r ↦ all_had_listed (slice_set places d (Had i)) i cs c (subst (λ n. c < n) (sym (same_length d)) there) f.1 r
+]
+  where
+    same_length : (d : ℕ) → length (slice_set places d (Had i)) ≡ length places
+    same_length d = length-set places d (Had i)
+
+-- a reservation where there is one
+lock_is : (l : ℕ) (v : Verb) → lock_by v ≡ Some l → is_acquire_of l v ≡ true
+lock_is l User h = absurd (none-some l h)
+lock_is l (Trigger k) h = absurd (none-some l h)
+lock_is l (Cancel k) h = absurd (none-some l h)
+lock_is l (Merge ks) h = absurd (none-some l h)
+lock_is l (MergeIgnore ks) h = absurd (none-some l h)
+lock_is l (Phase k) h = absurd (none-some l h)
+lock_is l (Arrive k w) h = absurd (none-some l h)
+lock_is l (Acquire k) h = eq-eqb k l (same_Some k l h)
+lock_is l (Release k) h = absurd (none-some l h)
+lock_is l (Fill t s w) h = absurd (none-some l h)
+lock_is l (Copy x y s) h = absurd (none-some l h)
+lock_is l (Reduce o x y s) h = absurd (none-some l h)
+lock_is l (Task k) h = absurd (none-some l h)
+
+pub lock_acquires : (g : GraphValue) (q l : ℕ) → lock_of g q ≡ Some l → Acquires g q l
+lock_acquires g q l h = by_option (verb_at g q) h
+  where
+    by_option : (o : Option Verb) → option_map_or lock_by o None ≡ Some l → option_map_or (is_acquire_of l) o false ≡ true
+    by_option None h = absurd (none-some l h)
+    by_option (Some v) h = lock_is l v h
+
+pub acquires_lock : (g : GraphValue) (q l : ℕ) → Acquires g q l → lock_of g q ≡ Some l
+acquires_lock g q l a = let v = passes_verb (is_acquire_of l) g q a in ap (λ (o : Option Verb). option_map_or lock_by o None) v.1 ∙ ap lock_by (acquire_is l v.0 v.2)
+
+hold_some-sound : {g : GraphValue} {run : Run} → Sound g run → (i : ℕ) (o : Option ℕ) → ((l : ℕ) → o ≡ Some l → MayHold g run l i) → Sound g (hold_some run i o)
+hold_some-sound s i None m = s
+hold_some-sound s i (Some l) m = hold-sound s l i (m l refl)
+
+held_more : (holders : List (List ℕ)) (i : ℕ) (o : Option ℕ) → ((l : ℕ) → o ≡ Some l → l < length holders) → (l k : ℕ) → is_listed (list_at holders l) k ≡ true → is_listed (list_at (holders_with holders i o) l) k ≡ true
+unfolding with_one
+held_more holders i None there l k h = h
+held_more holders i (Some j) there l k h = one_more holders j i (there j refl) l k h
+
+held_new : (holders : List (List ℕ)) (i l : ℕ) (o : Option ℕ) → o ≡ Some l → l < length holders → is_listed (list_at (holders_with holders i o) l) i ≡ true
+unfolding with_one
+held_new holders i l None e there = absurd (none-some l e)
+held_new holders i l (Some j) e there = let same : j ≡ l = same_Some j l e in
+    subst (λ z. is_listed (list_at (slice_set holders z (i ∷ list_at holders z)) l) i ≡ true) (sym same) (one_new holders l i there)
+
+-- a claim and what follows it
+module _ {g : GraphValue} {run : Run} (s : Sound g run) (rest : AtRest g run) (i : ℕ) (m : MayTakeWhole g run i) where
+  is_there : i < length run.stages
+  is_there = stage_there run.stages i (ap stage_issued m.is_issued)
+
+  claimed : stage_at (slice_set run.stages i Out) i ≡ Out
+  claimed = get_or-set_same run.stages i Out Unissued is_there
+
+  stage_kept : (k : ℕ) → ended run.stages k ≡ true → ended (slice_set run.stages i Out) k ≡ true
+  stage_kept = each_set (λ k x. ended run.stages k ≡ true → stage_ended x ≡ true) run.stages Unissued i Out is_there (λ h. absurd (true≢false (sym h ∙ ap stage_ended m.is_issued))) (λ k ne h. h)
+
+  begun_not : started run.stages i ≡ true → ⊥
+  begun_not h = true≢false (sym h ∙ ap stage_started m.is_issued)
+
+  s_claimed : Sound g (claim run i)
+  s_claimed = claim-sound s i (record { is_issued = m.is_issued; comes = m.comes; sources = m.sources })
+
+  s_held : Sound g (hold_some (claim run i) i (lock_of g i))
+  s_held = hold_some-sound s_claimed i (lock_of g i) (λ l e. record {
+    is_out = ap stage_out claimed;
+    acquires = lock_acquires g i l e;
+    not_cancelled = m.not_cancelled;
+    is_free = m.lock_free l (lock_acquires g i l e);
+  })
+
+  -- a line that is taken
+  pub taken_is_sound : Sound g (take_whole g run i)
+  taken_is_sound = columns_out-sound s_held i (column_list g i) (columns_fresh g s.graph i) (λ c h. record {
+    is_out = ap stage_out claimed;
+    accessed = listed_accessed g i c h;
+    not_cancelled = m.not_cancelled;
+    not_back = false_from_ne_true (is_listed (list_at run.back c) i) (λ l. begun_not (s.on_columns.back_started c i l));
+    at_home = m.at_home c (listed_accessed g i c h);
+  })
+
+  lock_below : (l : ℕ) → lock_of g i ≡ Some l → l < length run.holders
+  lock_below l e = subst (λ n. l < n) (sym s.on_locks.each_lock) (lock_there s.graph i l (lock_acquires g i l e))
+
+  place_kept : (k c : ℕ) → place_at run.places c ≡ Had k → place_at (all_had run.places i (column_list g i)) c ≡ Had k
+  place_kept k c e = all_had_other run.places i (column_list g i) c (λ h. m.at_home c (listed_accessed g i c h) k e) ∙ e
+
+  place_new : (c : ℕ) → AccessesColumn g i c → place_at (all_had run.places i (column_list g i)) c ≡ Had i
+  place_new c a = all_had_listed run.places i (column_list g i) c (subst (λ n. c < n) (sym s.on_columns.each_column) (column_there s.graph i c a)) (columns_fresh g s.graph i) (accessed_listed g i c a)
+
+  pub taken_is_at_rest : AtRest g (take_whole g run i)
+  taken_is_at_rest = record {
+    none_ending = each_set (λ k x. stage_over x ≡ true → stage_ended x ≡ true) run.stages Unissued i Out is_there (λ h. absurd (true≢false (sym h))) (λ k ne. rest.none_ending k);
+    back_ended = λ c k h. stage_kept k (rest.back_ended c k h);
+    arrived_ended = λ k h. stage_kept k (rest.arrived_ended k h);
+    freed_ended = λ k h. stage_kept k (rest.freed_ended k h);
+    out_has = λ k c. each_set (λ k x. stage_out x ≡ true → eval_end g k ≢ Cancelled → AccessesColumn g k c → place_at (all_had run.places i (column_list g i)) c ≡ Had k) run.stages Unissued i Out is_there
+        (λ h n a. place_new c a) (λ k ne h n a. place_kept k c (rest.out_has k c h n a)) k;
+    out_holds = λ k l. each_set (λ k x. stage_out x ≡ true → eval_end g k ≢ Cancelled → Acquires g k l → is_listed (list_at (holders_with run.holders i (lock_of g i)) l) k ≡ true) run.stages Unissued i Out is_there
+        (λ h n a. held_new run.holders i l (lock_of g i) (acquires_lock g i l a) (lock_below l (acquires_lock g i l a))) (λ k ne h n a. held_more run.holders i (lock_of g i) lock_below l k (rest.out_holds k l h n a)) k;
+    out_untimed = each_set (λ k x. stage_out x ≡ true → timed run.times k ≡ false) run.stages Unissued i Out is_there
+        (λ h. false_from_ne_true (timed run.times i) (λ t. begun_not (s.on_times.timed_started i t))) (λ k ne. rest.out_untimed k);
+  }
+
+-- a line that is cancelled is only claimed
+pub claim_is_at_rest : {g : GraphValue} {run : Run} → Sound g run → AtRest g run → (i : ℕ) → stage_at run.stages i ≡ Issued → eval_end g i ≡ Cancelled → AtRest g (claim run i)
+claim_is_at_rest {g} {run} s rest i is cancelled =
+    let there : i < length run.stages = stage_there run.stages i (ap stage_issued is) in
+    let kept : (k : ℕ) → ended run.stages k ≡ true → ended (slice_set run.stages i Out) k ≡ true =
+    each_set (λ k x. ended run.stages k ≡ true → stage_ended x ≡ true) run.stages Unissued i Out there (λ h. absurd (true≢false (sym h ∙ ap stage_ended is))) (λ k ne h. h) in
+    record {
+      none_ending = each_set (λ k x. stage_over x ≡ true → stage_ended x ≡ true) run.stages Unissued i Out there (λ h. absurd (true≢false (sym h))) (λ k ne. rest.none_ending k);
+      back_ended = λ c k h. kept k (rest.back_ended c k h);
+      arrived_ended = λ k h. kept k (rest.arrived_ended k h);
+      freed_ended = λ k h. kept k (rest.freed_ended k h);
+      out_has = λ k c. each_set (λ k x. stage_out x ≡ true → eval_end g k ≢ Cancelled → AccessesColumn g k c → place_at run.places c ≡ Had k) run.stages Unissued i Out there
+          (λ h n. absurd (n cancelled)) (λ k ne. rest.out_has k c) k;
+      out_holds = λ k l. each_set (λ k x. stage_out x ≡ true → eval_end g k ≢ Cancelled → Acquires g k l → is_listed (list_at run.holders l) k ≡ true) run.stages Unissued i Out there
+          (λ h n. absurd (n cancelled)) (λ k ne. rest.out_holds k l) k;
+      out_untimed = each_set (λ k x. stage_out x ≡ true → timed run.times k ≡ false) run.stages Unissued i Out there
+          (λ h. false_from_ne_true (timed run.times i) (λ t. true≢false (sym (s.on_times.timed_started i t) ∙ ap stage_started is))) (λ k ne. rest.out_untimed k);
+    }

@@ -1,0 +1,10 @@
+pub mod Run
+pub mod Sound
+pub mod Moves
+pub mod Work
+pub mod Premises
+pub mod WholeLine
+pub mod AtRest
+pub mod Quiet
+pub mod Start
+pub mod Laws

@@ -1,0 +1,85 @@
+-- A run in which nothing is out and nothing can be taken.
+use Rattle.std.specs.Prelude.{◌≡◌, ◌≢◌, ℕ, ◌<◌, ◌⊎◌, ◌↔◌, Bool, false, not, List, [], length, map, Contains, IsTrue, Option, Some, None, slice_get, slice_index}
+use Rattle.std.specs.List.{list_any}
+use Rattle.index_spaces.specs.Space.{numbers_below}
+use Rattle.graph_model.specs.declared.outcome.End.{End}
+use Rattle.graph_model.specs.declared.outcome.End.TheVariants.{Done, Cancelled}
+use Rattle.graph_model.specs.declared.outcome.Outcome.{Outcome}
+use Rattle.graph_model.specs.declared.verb.Verb.{Verb}
+use Rattle.graph_model.specs.declared.verb.Verb.TheVariants.{Phase}
+use Rattle.graph_model.specs.declared.verb.Edge.{Edge}
+use Rattle.graph_model.specs.Graph.{GraphValue, columns, column_space, verb_at, never_comes}
+use Rattle.graph_model.specs.Edges.{edges, edges_into}
+use Rattle.graph_model.specs.Rules.{Acquires}
+use Rattle.graph_model.specs.Evaluation.{cancels, eval_end, answer_of, outcome}
+use Rattle.graph_model.specs.Trace.{IsLawful}
+use Rattle.graph_model.proofs.ListFacts.{count_below}
+use Rattle.run_state.specs.Run.{LineStage, Run, Issued, Place, Home, Had, stage_at, time_at, place_at, list_at, end_so_far, issued, ended, over, out}
+use Rattle.run_state.specs.Sound.{AccessesColumn}
+
+-- what a line needs besides its sources: it is cancelled, or its reservation is free and its columns are at home
+abbrev pub IsFree : GraphValue → Run → ℕ → Type 0
+IsFree g run i = (eval_end g i ≡ Cancelled)
+    ⊎ (((l : ℕ) → Acquires g i l → list_at run.holders l ≡ []) × ((c : ℕ) → AccessesColumn g i c → (k : ℕ) → place_at run.places c ≢ Had k))
+
+-- a line that can be taken
+pub record CanTake (g : GraphValue) (run : Run) (i : ℕ) : Type 0 where
+  pub is_issued : stage_at run.stages i ≡ Issued
+  pub comes : never_comes g i ≡ false
+  pub sources : (e : Edge) → Contains (edges g) e → e.to ≡ i → IsTrue (ended run.stages e.from)
+  pub is_free : IsFree g run i
+
+-- whether an edge into a line cancels it, by the ends that are kept
+abbrev pub kept_cancels : GraphValue → List LineStage → ℕ → Bool
+kept_cancels g stages i = list_any (λ (e : Edge). cancels e.kind (end_so_far (stage_at stages e.from))) (edges_into g i)
+
+-- no line is out or ending, every line is issued, and none can be taken
+pub record Quiet (g : GraphValue) (run : Run) : Type 0 where
+  pub all_issued : (i : ℕ) → i < length g.lines → IsTrue (issued run.stages i)
+  pub none_out : (i : ℕ) → out run.stages i ≡ false
+  pub none_ending : (i : ℕ) → IsTrue (over run.stages i) → IsTrue (ended run.stages i)
+  pub none_taken : (i : ℕ) → CanTake g run i → ⊥
+
+-- the first k lines are issued, no line is out or ending, and none can be taken
+pub record Stuck (g : GraphValue) (run : Run) (k : ℕ) : Type 0 where
+  pub first_issued : (i : ℕ) → i < k → IsTrue (issued run.stages i)
+  pub none_out : (i : ℕ) → out run.stages i ≡ false
+  pub none_ending : (i : ℕ) → IsTrue (over run.stages i) → IsTrue (ended run.stages i)
+  pub none_taken : (i : ℕ) → CanTake g run i → ⊥
+
+-- how many issued lines are not ended: each of their handles is pending
+abbrev pub left_among : Run → ℕ → ℕ
+left_among run k = count_below (λ i. not (ended run.stages i)) k
+
+-- the ended lines by their times
+pub record ByTimes (run : Run) (trace : List ℕ) : Type 0 where
+  pub listed : (i : ℕ) → Contains trace i ↔ IsTrue (ended run.stages i)
+  pub ascending : (k m i j s t : ℕ) → slice_get trace k ≡ Some i → slice_get trace m ≡ Some j → k < m → time_at run.times i ≡ Some s → time_at run.times j ≡ Some t → s < t
+
+-- the value of a phase that is done, and none for any other line
+abbrev pub phase_so_far_by : Run → ℕ → End → Option Verb → Option ℕ
+phase_so_far_by run p Done (Some (Phase b)) = Some (slice_index run.values p)
+phase_so_far_by run p _ _ = None
+
+abbrev pub phase_so_far : GraphValue → Run → ℕ → Option ℕ
+phase_so_far g run p = phase_so_far_by run p (end_so_far (stage_at run.stages p)) (verb_at g p)
+
+-- the cells of a column at home
+abbrev pub cells_at : Place → List ℕ
+cells_at (Home xs) = xs
+cells_at (Had k) = []
+
+-- what a state gives, with a trace
+abbrev pub outcome_of : GraphValue → Run → List ℕ → Outcome
+outcome_of g run trace = record {
+  ends = map (λ i. end_so_far (stage_at run.stages i)) (numbers_below (length g.lines));
+  answers = map (λ i. answer_of (end_so_far (stage_at run.stages i))) (numbers_below (length g.lines));
+  phases = map (phase_so_far g run) (numbers_below (length g.lines));
+  columns = map (λ c. record { space = column_space g c; cells = cells_at (place_at run.places c) }) (numbers_below (length (columns g)));
+  trace = trace;
+}
+
+-- a state gives the outcome of the evaluation, with a lawful trace
+pub record GivesOutcome (g : GraphValue) (run : Run) (trace : List ℕ) : Type 0 where
+  pub outcome_is : outcome_of g run trace ≡ outcome g trace
+  pub lawful : IsLawful g trace
