@@ -1,0 +1,6 @@
+pub mod PlaceFacts
+pub mod PastFacts
+pub mod EventFacts
+pub mod CoreFacts
+pub mod WorkFacts
+pub mod TakenFacts

@@ -1,0 +1,28 @@
+//! Lines are issued in file order.
+
+use crate::answers::Issue;
+use crate::progress::Progress;
+use crate::run::Core;
+
+impl<'g> Core<'g> {
+    ghost use Rattle.run_core.specs.Steps.{Issues};
+    ghost use Rattle.run_core.specs.Works.{KeepsWork};
+    ghost use Rattle.std.specs.Prelude.{ℕ};
+
+    /// Gives the next line in file order its handle. All comes exactly where all lines are issued,
+    /// NoSlot exactly where a line is left and no slot is free.
+    pub fn issue(&mut self) -> Issue
+        ensures answer { Issues self.old self.new result }
+        ensures works { (i : ℕ) → KeepsWork self.old self.new i }
+    {
+        let next = self.events.issued();
+        if next as usize == self.stages.len() {
+            return Issue::All;
+        }
+        if !self.events.create() {
+            return Issue::NoSlot;
+        }
+        self.stages[next as usize] = Progress::Issued;
+        Issue::Issued(next)
+    }
+}
