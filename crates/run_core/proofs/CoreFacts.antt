@@ -78,7 +78,7 @@ line_near c core i h = elim (cases_lt i (length c.run.stages)) [
   | inr far ↦ absurd (false≢true (sym (ap stage_issued (get_or_past c.run.stages i Unissued far)) ∙ h))
 ]
 
-sources_of : (c : CoreValue) (i : ℕ) → IsDue c.graph c.run i → (e : Edge) → Contains (edges c.graph) e → e.to ≡ i → ended c.run.stages e.from ≡ true
+pub sources_of : (c : CoreValue) (i : ℕ) → IsDue c.graph c.run i → (e : Edge) → Contains (edges c.graph) e → e.to ≡ i → ended c.run.stages e.from ≡ true
 sources_of c i due e in_graph to = due.sources e.from (e, in_graph, refl, to)
 
 pub may_claim : (c : CoreValue) (i : ℕ) → IsDue c.graph c.run i → MayClaim c.graph c.run i

@@ -4,3 +4,5 @@ pub mod EventFacts
 pub mod CoreFacts
 pub mod WorkFacts
 pub mod TakenFacts
+pub mod EndedFacts
+pub mod FindFacts

@@ -276,7 +276,7 @@ module _ (g : GraphValue) (run : Run) (s : Sound g run) (rest : AtRest g run) (i
   ended_stays : (k : ℕ) → ended run.stages k ≡ true → ended (slice_set run.stages i (Ending x)) k ≡ true
   ended_stays = each_set (λ k y. ended run.stages k ≡ true → stage_ended y ≡ true) run.stages Unissued i (Ending x) there (λ h. absurd (not_ended h)) (λ k ne h. h)
 
-  frees_found : (a : ℕ × ℕ) → frees_for g run i ≡ Some a → Releases g i a.1 × Acquires g a.1 a.0 × (ended run.stages a.1 ≡ true) × (eval_end g a.1 ≡ Done)
+  pub frees_found : (a : ℕ × ℕ) → frees_for g run i ≡ Some a → Releases g i a.1 × Acquires g a.1 a.0 × (ended run.stages a.1 ≡ true) × (eval_end g a.1 ≡ Done)
   frees_found a e =
       let v = by_option (verb_at g i) refl e in
       let f = freed_lock_is a.1 (end_so_far (stage_at run.stages a.1)) (lock_of g a.1) a v.1 in

@@ -10,6 +10,7 @@ use crate::holders::busy_lock;
 use crate::progress::Progress;
 use crate::run::Core;
 use crate::sources::{is_cancelled, least_left};
+use run_state::laws::cancelled_by_kept_ends;
 
 /// What is found of a line that is to be taken.
 #[derive(Clone, Copy)]
@@ -56,12 +57,13 @@ impl<'g> Core<'g> {
         requires { i < length self.now.graph.lines }
         ensures { IsFound self.now i result }
     {
+        cancelled_by_kept_ends();
         let graph = self.checked.graph();
         let _ = graph.lines();
         let progress = self.stages[i as usize];
-        if progress != Progress::Issued {
+        let Progress::Issued = progress else {
             return Finding::Over(stage_of(progress));
-        }
+        };
         if graph.never_comes(i) {
             return Finding::Never;
         }

@@ -1,9 +1,17 @@
 //! Lines are put back, and those that waited for them are woken.
 
-ghost use Rattle.std.specs.Prelude.{◌≡◌};
+ghost use Rattle.std.specs.Prelude.{◌≡◌, ◌≢◌, ◌<◌, ◌⊎◌, ℕ, length, Some, None, slice_get, slice_index_or, IsSome};
+ghost use Rattle.index_spaces.specs.Column.{ColumnValue};
+ghost use Rattle.index_spaces.specs.Held.{held_at};
+ghost use Rattle.graph_model.specs.Graph.{columns as graph_columns};
+ghost use Rattle.graph_model.specs.declared.outcome.End.TheVariants.{Cancelled};
+ghost use Rattle.run_state.specs.Sound.{AccessesColumn};
+ghost use Rattle.run_state.specs.WholeLine.{all_home, columns_for, values_with, arrival_for};
+ghost use Rattle.run_core.specs.Works.{cells_in};
+ghost use Rattle.run_core.specs.Kept.{places_of};
 ghost use Rattle.run_core.specs.Steps.{fate_for};
 
-use crate::columns::give_columns;
+use crate::columns::{Columns, give_columns};
 use crate::holders::free;
 use crate::phases::arrive;
 use crate::progress::Progress;
@@ -11,7 +19,10 @@ use crate::room::push_within;
 use crate::run::Core;
 use crate::work::Finished;
 use gen_events::{Fate, Handle};
+use graph_model::graph::Graph;
 use graph_model::outcome::End;
+use index_spaces::held::Held;
+use run_state::laws::{put_back_keeps_rest, put_back_leaves};
 
 impl<'g> Core<'g> {
     ghost use Rattle.std.specs.Prelude.{◌≡◌, ◌≢◌, ℕ, ◌<◌, [], length, slice_get, IfSome, IfNone};
@@ -26,12 +37,11 @@ impl<'g> Core<'g> {
         ensures put { self.new ≡ with_end self.old finished }
         ensures works { (k : ℕ) → k ≢ finished.line → KeepsWork self.old self.new k }
     {
+        put_back_keeps_rest();
+        put_back_leaves();
         let (line, end, held) = finished.into_parts();
         let graph = self.checked.graph();
-        if end != End::Cancelled {
-            give_columns(graph, line, held, &mut self.columns);
-            arrive(graph, line, &mut self.values);
-        }
+        settle(graph, line, end, held, &mut self.columns, &mut self.values);
         free(graph, line, self.stages.as_slice(), &mut self.holders);
         self.stages[line as usize] = Progress::Ended(end);
         push_within(&mut self.trace, line);
@@ -54,6 +64,31 @@ impl<'g> Core<'g> {
     {
         self.events.handle(i)
     }
+}
+
+/// Puts the columns of a line back and its value into its phase, unless it is cancelled.
+fn settle(
+    graph: &Graph,
+    line: u32,
+    end: End,
+    held: Held,
+    columns: &mut Columns,
+    values: &mut Vec<u64>,
+)
+    requires known { line < length graph.now.lines }
+    requires each { (length columns.old.homes ≡ length (graph_columns graph.now)) × (length columns.old.takers.items ≡ length (graph_columns graph.now)) × (length values.old.items ≡ length graph.now.lines) }
+    requires out { end ≢ Cancelled → (c : ℕ) → AccessesColumn graph.now line c → slice_get columns.old.homes c ≡ Some None }
+    requires has { end ≢ Cancelled → (c : ℕ) → AccessesColumn graph.now line c → IsSome (held_at held c) }
+    ensures each { (length columns.new.homes ≡ length (graph_columns graph.now)) × (length columns.new.takers.items ≡ length (graph_columns graph.now)) }
+    ensures places { places_of columns.new.homes columns.new.takers.items ≡ all_home (places_of columns.old.homes columns.old.takers.items) (cells_in held) (columns_for graph.now line end) }
+    ensures kept { (c : ℕ) (x : ColumnValue) → slice_index_or columns.new.homes c None ≡ Some x → (slice_index_or columns.old.homes c None ≡ Some x) ⊎ (held_at held c ≡ Some x) }
+    ensures values { values.new.items ≡ values_with values.old.items (arrival_for graph.now line end) }
+{
+    if end == End::Cancelled {
+        return;
+    }
+    give_columns(graph, line, held, columns);
+    arrive(graph, line, values);
 }
 
 /// The fate of the handle of a line that ends so.
