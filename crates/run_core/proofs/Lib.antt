@@ -4,3 +4,4 @@ pub mod EventFacts
 pub mod CoreFacts
 pub mod WorkFacts
 pub mod TakenFacts
+pub mod MarkFacts
