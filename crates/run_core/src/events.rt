@@ -96,7 +96,7 @@ impl LineEvents {
         if self.busy[line as usize] || source as usize >= self.handles.len() {
             return;
         }
-        if self.table.watch(self.handles[source as usize], line) == WatchNow::Placed {
+        if let WatchNow::Placed = self.table.watch(self.handles[source as usize], line) {
             self.busy[line as usize] = true;
         }
     }
