@@ -5,3 +5,4 @@ pub mod CoreFacts
 pub mod WorkFacts
 pub mod TakenFacts
 pub mod MarkFacts
+pub mod IssueFacts

@@ -38,7 +38,7 @@ impl Model for LineEvents {
 }
 
 impl LineEvents {
-    ghost use Rattle.std.specs.Prelude.{◌≡◌, ◌≢◌, ◌<◌, ◌≤◌, ◌*◌, ◌++◌, [], ◌∷◌, length, true, false, Some, None, slice_get, slice_index_or, IfOk, IfSome, IfNone, IsSome};
+    ghost use Rattle.std.specs.Prelude.{◌≡◌, ◌≢◌, ◌<◌, ◌≤◌, ◌⊎◌, ◌*◌, ◌++◌, [], ◌∷◌, length, true, false, Some, None, slice_get, slice_index_or, IfOk, IfSome, IfNone, IsSome};
     ghost use Rattle.gen_events.specs.declared.handle.Handle.{Handle as TheHandle};
     ghost use Rattle.gen_events.specs.declared.handle.Answer.TheVariants.{Pending};
     ghost use Rattle.gen_events.specs.EventMap.{IsEventMap, answer, answer_of, fresh, created_at, placed_on, ended_with, next_handle, no_event, MayServe, IsFull, IsFree, Gives};
@@ -92,6 +92,7 @@ impl LineEvents {
         ensures unissued { slice_get self.old.handles source ≡ None → self.new ≡ self.old }
         ensures busy { (IsFree self.old.table line → ⊥) → self.new ≡ self.old }
         ensures answers { (h : TheHandle) → answer self.new.table h ≡ answer self.old.table h }
+        ensures either { (self.new ≡ self.old) ⊎ ((h : TheHandle) × (slice_get self.old.handles source ≡ Some h) × (self.new ≡ record { handles = self.old.handles; table = placed_on self.old.table h line })) }
     {
         if self.busy[line as usize] || source as usize >= self.handles.len() {
             return;
