@@ -1,8 +1,8 @@
 -- A line is issued, stands by, and is woken, as the code does it.
-use Rattle.std.proofs.Common.{◌≡◌, ℕ, ◌+◌, ◌<◌, ◌≤◌, true, false, ◌⊎◌, inl, inr, List, [], ◌∷◌, ◌++◌, length, refl, sym, ◌∙◌, ap, subst, arith}
+use Rattle.std.proofs.Common.{◌≡◌, ℕ, ◌+◌, ◌<◌, ◌≤◌, true, false, ◌⊎◌, inl, inr, List, [], ◌∷◌, ◌++◌, length, map, refl, sym, ◌∙◌, ap, subst, arith}
 use Rattle.std.specs.Prelude.{◌≢◌, ◌↔◌, Bool, Option, Some, None, IfSome, IfNone, slice_get, slice_set}
 use Rattle.std.proofs.lemmas.Bool.{true≢false, false≢true, cases_eq, cases_lt}
-use Rattle.std.proofs.lemmas.List.{get_or_past}
+use Rattle.std.proofs.lemmas.List.{get_or_past, length-map}
 use Rattle.graph_model.specs.declared.outcome.End.{End}
 use Rattle.graph_model.specs.declared.outcome.End.TheVariants.{Waiting}
 use Rattle.graph_model.specs.Graph.{GraphValue}
@@ -15,6 +15,8 @@ use Rattle.run_state.specs.Moves.{staged, issue}
 use Rattle.run_state.specs.Laws.{IssueKeepsRest, StageLeaves}
 use Rattle.run_core.specs.Core.{CoreValue, IsCore, answer_for}
 use Rattle.run_core.specs.Events.{EventsValue}
+use Rattle.run_core.specs.Kept.{shown_stage}
+use Rattle.run_core.specs.declared.progress.Progress.{Progress}
 use Rattle.run_core.specs.Works.{KeepsWork}
 use Rattle.run_core.specs.Steps.{with_issue, IsLeft, IsLeastLeft}
 use Rattle.run_core.proofs.EventFacts.{TellsNew}
@@ -45,6 +47,10 @@ left_to_issue c core differ =
   where
     more_unless : (n m : ℕ) → n ≤ m → m ≢ n → n < m
     more_unless n m l ne = elim (cases_lt n m) [ inl b ↦ b | inr a ↦ absurd (ne (let z : m ≡ n = omega (arith, a, l) in z)) ]
+
+-- the stages as they are shown are as many as those that the code keeps
+pub stages_differ : (stages : List Progress) (n i len : ℕ) → i ≡ n → len ≡ length stages → (i ≡ len → ⊥) → n ≢ length (map shown_stage stages)
+stages_differ stages n i len next all differ same = differ (next ∙ (same ∙ (length-map stages shown_stage ∙ sym all)))
 
 -- the events once a line has a new handle
 abbrev pub with_handle : EventsValue → Handle → EventsValue
