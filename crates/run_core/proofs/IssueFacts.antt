@@ -1,16 +1,15 @@
 -- A line is issued, stands by, and is woken, as the code does it.
-use Rattle.std.proofs.Common.{◌≡◌, ℕ, ◌+◌, ◌<◌, ◌≤◌, true, false, ◌⊎◌, inl, inr, List, [], ◌∷◌, ◌++◌, length, map, refl, sym, ◌∙◌, ap, subst, arith}
-use Rattle.std.specs.Prelude.{◌≢◌, ◌↔◌, Bool, Option, Some, None, IfSome, IfNone, slice_get, slice_set}
-use Rattle.std.proofs.lemmas.Bool.{true≢false, false≢true, cases_eq, cases_lt}
+use Rattle.std.proofs.Common.{◌≡◌, ℕ, ◌<◌, true, false, ◌⊎◌, inl, inr, List, [], ◌∷◌, ◌++◌, length, map, refl, sym, ◌∙◌, ap, subst, arith}
+use Rattle.std.specs.Prelude.{◌≢◌, Option, Some, None, IfSome, IfNone, slice_get}
+use Rattle.std.proofs.lemmas.Bool.{true≢false, false≢true, cases_lt, false_from_ne_true}
 use Rattle.std.proofs.lemmas.List.{get_or_past, length-map}
-use Rattle.graph_model.specs.declared.outcome.End.{End}
 use Rattle.graph_model.specs.declared.outcome.End.TheVariants.{Waiting}
 use Rattle.graph_model.specs.Graph.{GraphValue}
 use Rattle.gen_events.specs.declared.handle.Handle.{Handle}
 use Rattle.gen_events.specs.declared.handle.Answer.TheVariants.{Pending}
-use Rattle.gen_events.specs.EventMap.{EventMap, answer, created_at, placed_on, next_handle, MayServe, IsFull, IsEventMap, Gives}
+use Rattle.gen_events.specs.EventMap.{answer, created_at, placed_on, next_handle, MayServe, IsFull, IsEventMap, Gives}
 use Rattle.gen_events.proofs.MapAnswers.{create_tells}
-use Rattle.run_state.specs.Run.{LineStage, Unissued, Issued, Out, Ending, Ended, Run, stage_at, stage_issued, stage_over, stage_out, stage_ended, end_so_far, out, over, ended}
+use Rattle.run_state.specs.Run.{LineStage, Unissued, Issued, Out, Ending, Ended, Run, stage_at, stage_issued, stage_over, stage_out, end_so_far, out, over, ended}
 use Rattle.run_state.specs.Moves.{staged, issue}
 use Rattle.run_state.specs.Laws.{IssueKeepsRest, StageLeaves}
 use Rattle.run_core.specs.Core.{CoreValue, IsCore, answer_for}
@@ -19,7 +18,6 @@ use Rattle.run_core.specs.Kept.{shown_stage}
 use Rattle.run_core.specs.declared.progress.Progress.{Progress}
 use Rattle.run_core.specs.Works.{KeepsWork}
 use Rattle.run_core.specs.Steps.{with_issue, IsLeft, IsLeastLeft}
-use Rattle.run_core.proofs.EventFacts.{TellsNew}
 use Rattle.run_core.proofs.CoreFacts.{may_issue, core_issued, core_placed, core_woken}
 use Rattle.run_core.proofs.WorkFacts.{keeps_work, keeps_run}
 
@@ -37,16 +35,11 @@ left_to_issue c core differ =
     let each : length c.run.stages ≡ length c.graph.lines = core.sound.on_lines.each_line in
     elim (cases_lt (length c.handles) (length c.graph.lines)) [
       | inl left ↦ left
-      | inr full ↦ (elim (cases_eq (length c.handles) (length c.graph.lines)) [
-          | inl same ↦ absurd (differ (same ∙ sym each))
-          | inr other ↦ (
-              let more : length c.graph.lines < length c.handles = more_unless (length c.graph.lines) (length c.handles) full other in
-              absurd (false≢true (sym (ap stage_issued (get_or_past c.run.stages (length c.graph.lines) Unissued (omega (arith, each)))) ∙ (core.events.each_issued (length c.graph.lines)).1 more)))
-        ])
+      | inr full ↦ (elim (cases_lt (length c.graph.lines) (length c.handles)) [
+        | inl more ↦ absurd (false≢true (sym (ap stage_issued (get_or_past c.run.stages (length c.graph.lines) Unissued (omega (arith, each)))) ∙ (core.events.each_issued (length c.graph.lines)).1 more))
+        | inr less ↦ absurd (differ (let same : length c.handles ≡ length c.run.stages = omega (arith, full, less, each) in same))
+      ])
     ]
-  where
-    more_unless : (n m : ℕ) → n ≤ m → m ≢ n → n < m
-    more_unless n m l ne = elim (cases_lt n m) [ inl b ↦ b | inr a ↦ absurd (ne (let z : m ≡ n = omega (arith, a, l) in z)) ]
 
 -- the stages as they are shown are as many as those that the code keeps
 pub stages_differ : (stages : List Progress) (n i len : ℕ) → i ≡ n → len ≡ length stages → (i ≡ len → ⊥) → n ≢ length (map shown_stage stages)
@@ -99,13 +92,9 @@ not_over Out e = refl
 not_over (Ending x) e = absurd (true≢false e)
 not_over (Ended x) e = absurd (true≢false e)
 
-false_unless : (b : Bool) → (b ≡ true → ⊥) → b ≡ false
-false_unless true n = absurd (n refl)
-false_unless false n = refl
-
 left_pending : (c : CoreValue) → IsCore c → (j : ℕ) → ended c.run.stages j ≡ false → (h : Handle) → slice_get c.handles j ≡ Some h → answer c.table h ≡ Some Pending
 left_pending c core j left h at =
-    let open_yet = false_unless (over c.run.stages j) (λ o. true≢false (sym (core.at_rest.none_ending j o) ∙ left)) in
+    let open_yet = false_from_ne_true (over c.run.stages j) (λ o. true≢false (sym (core.at_rest.none_ending j o) ∙ left)) in
     core.events.answers j h at ∙ ap (λ x. Some (answer_for x)) (not_over (stage_at c.run.stages j) open_yet)
 
 pub source_pending : (before now : CoreValue) → before ≡ now → IsCore before → (i j : ℕ) → IsLeastLeft now.graph now.run.stages i j → (h : Handle) → slice_get before.handles j ≡ Some h → answer before.table h ≡ Some Pending

@@ -1,48 +1,32 @@
 -- The waiters that are busy go with the table.
-use Rattle.std.proofs.Common.{◌≡◌, ℕ, Bool, zero, suc, ◌+◌, ◌<◌, ◌≤◌, true, false, ◌⊎◌, inl, inr, List, [], ◌∷◌, ◌++◌, length, replicate, refl, sym, ◌∙◌, ap, subst, arith}
+use Rattle.std.proofs.Common.{◌≡◌, ℕ, Bool, zero, suc, ◌<◌, ◌≤◌, true, false, inl, inr, List, [], ◌∷◌, ◌++◌, length, replicate, refl, sym, ◌∙◌, ap, subst, arith}
 use Rattle.std.specs.Prelude.{◌≢◌, Option, Some, None, IsSome, Contains, slice_get, slice_index_or, slice_set}
-use Rattle.std.proofs.lemmas.Bool.{true≢false, false≢true, cases_eq, cases_lt}
-use Rattle.std.proofs.lemmas.List.{get_or_past, get_or-set_same, get_or-set_other, length-set}
-use Rattle.std.proofs.lemmas.Option.{none-some, same_Some, slice_get_within, slice_get-get_or, get_or_from_slice_get}
+use Rattle.std.proofs.lemmas.Bool.{true≢false, false≢true, cases_eq}
+use Rattle.std.proofs.lemmas.List.{get_or-set_same, get_or-set_other, get_or-replicate, length-set, length-replicate}
+use Rattle.std.proofs.lemmas.Option.{same_Some, slice_get_within, slice_get-get_or, get_or_from_slice_get}
 use Rattle.std.proofs.lemmas.List.Elements.{Contains-append_left, Contains-append_right}
 use Rattle.gen_events.specs.declared.handle.Handle.{Handle}
 use Rattle.gen_events.specs.declared.handle.Fate.{Fate}
 use Rattle.gen_events.specs.declared.handle.Answer.{Answer}
 use Rattle.gen_events.specs.declared.handle.Answer.TheVariants.{Pending}
-use Rattle.gen_events.specs.EventMap.{EventMap, SlotLife, unused, life_at, fresh, created_at, placed_on, ended_with, MayServe, IsFree, Gives, KeepsFree}
+use Rattle.gen_events.specs.EventMap.{EventMap, SlotLife, unused, life_at, fresh, created_at, placed_on, ended_with, IsFree, Gives, KeepsFree}
 use Rattle.gen_events.specs.EventMap.{with_life, answer, all_on, no_event, IsCreated, IsPlaced, WatchedNow, answer_of}
-use Rattle.gen_events.specs.declared.handle.WatchNow.{WatchNow}
-use Rattle.gen_events.specs.declared.handle.WatchNow.TheVariants.{Placed, Over}
-use Rattle.gen_events.proofs.Sums.{Contains-head, Contains-tail}
+use Rattle.gen_events.specs.declared.handle.WatchNow.TheVariants.{Over}
+use Rattle.gen_events.proofs.Sums.{Contains-tail}
 use Rattle.gen_events.proofs.MapAnswers.{near_some, answer_apart}
 use Rattle.run_core.specs.Events.{EventsValue, IsBusy, AreMarked}
+use Rattle.run_core.proofs.EventFacts.{replicate_at}
 use Rattle.graph_model.proofs.ListFacts.{contains_none, contains_cases, contains_map}
 
--- one item, so many times, and once more
-pub replicate_snoc : {X : Type 0} (n : ℕ) (x : X) → replicate n x ++ x ∷ [] ≡ replicate (suc n) x
-replicate_snoc zero x = refl
-replicate_snoc (suc n) x = ap (λ l. x ∷ l) (replicate_snoc n x)
-
-pub replicate_length : {X : Type 0} (n : ℕ) (x : X) → length (replicate n x) ≡ n
-replicate_length zero x = refl
-replicate_length (suc n) x = ap suc (replicate_length n x)
-
-replicate_at : {X : Type 0} (n i : ℕ) (x : X) → slice_index_or (replicate n x) i x ≡ x
-replicate_at zero i x = refl
-replicate_at (suc n) zero x = refl
-replicate_at (suc n) (suc i) x = replicate_at n i x
-
 replicate_get : {X : Type 0} (n i : ℕ) (x y : X) → slice_get (replicate n x) i ≡ Some y → x ≡ y
-replicate_get zero i x y e = absurd (none-some y e)
-replicate_get (suc n) zero x y e = same_Some x y e
-replicate_get (suc n) (suc i) x y e = replicate_get n i x y e
+replicate_get n i x y e = sym (get_or-replicate n i x x (subst (λ k. i < k) (length-replicate n x) (slice_get_within (replicate n x) i y e))) ∙ get_or_from_slice_get (replicate n x) i y x e
 
 -- NOBODY IS BUSY at first
 marked_fresh : (slots waiters last : ℕ) → AreMarked (fresh slots waiters last) (replicate waiters false)
 marked_fresh slots waiters last = record {
-  each = replicate_length waiters false;
+  each = length-replicate waiters false;
   free = λ k at. record {
-    number = subst (λ n. k < n) (replicate_length waiters false) (slice_get_within (replicate waiters false) k false at);
+    number = subst (λ n. k < n) (length-replicate waiters false) (slice_get_within (replicate waiters false) k false at);
     unplaced = λ i c. contains_none k (subst (λ (l : SlotLife). Contains l.waiting k) (replicate_at slots i unused) c);
     uncaught = λ h c. contains_none {X = ℕ × Handle} (k, h) c;
   };
@@ -80,9 +64,9 @@ marked_created m n busy i is near free marked = marked_kept m n busy (ap (λ (t 
 busy_ended : (m : EventMap) (h : Handle) (f : Fate) (k : ℕ) → IsBusy m k → IsBusy (ended_with m h f) k
 busy_ended m h f k b = elim b [
   | inl waits ↦ (elim (cases_eq waits.0 h.slot) [
-      | inl same ↦ inr (h, Contains-append_left {X = ℕ × Handle} (all_on h (life_at m h.slot).waiting) m.caught (k, h) (contains_map (λ (j : ℕ). (j, h)) (life_at m h.slot).waiting k (subst (λ x. Contains (life_at m x).waiting k) same waits.1)))
-      | inr other ↦ inl (waits.0, subst (λ (l : SlotLife). Contains l.waiting k) (sym (get_or-set_other m.slots h.slot waits.0 (record { fates = (life_at m h.slot).fates ++ f ∷ []; is_pending = false; waiting = [] }) unused other)) waits.1)
-    ])
+    | inl same ↦ inr (h, Contains-append_left {X = ℕ × Handle} (all_on h (life_at m h.slot).waiting) m.caught (k, h) (contains_map (λ (j : ℕ). (j, h)) (life_at m h.slot).waiting k (subst (λ x. Contains (life_at m x).waiting k) same waits.1)))
+    | inr other ↦ inl (waits.0, subst (λ (l : SlotLife). Contains l.waiting k) (sym (get_or-set_other m.slots h.slot waits.0 (record { fates = (life_at m h.slot).fates ++ f ∷ []; is_pending = false; waiting = [] }) unused other)) waits.1)
+  ])
   | inr caught ↦ inr (caught.0, Contains-append_right {X = ℕ × Handle} (all_on h (life_at m h.slot).waiting) m.caught (k, caught.0) caught.1)
 ]
 
@@ -91,9 +75,7 @@ marked_ended m n busy h f is free marked = marked_kept m n busy (ap (λ (t : Eve
 
 -- A WAITER IS MARKED. What stands in a list of marks where one is set
 set_get : {X : Type 0} (xs : List X) (i : ℕ) (x : X) → i < length xs → slice_get (slice_set xs i x) i ≡ Some x
-set_get [] i x near = absurd (omega (arith, near))
-set_get (y ∷ ys) zero x near = refl
-set_get (y ∷ ys) (suc i) x near = set_get ys i x (omega (arith, near))
+set_get xs i x near = slice_get-get_or (slice_set xs i x) i x (subst (λ n. i < n) (sym (length-set xs i x)) near) ∙ ap Some (get_or-set_same xs i x x near)
 
 set_get_other : {X : Type 0} (xs : List X) (i j : ℕ) (x : X) → j ≢ i → slice_get (slice_set xs i x) j ≡ slice_get xs j
 set_get_other [] i j x ne = refl
@@ -132,9 +114,9 @@ busy_given : (m n : EventMap) (k j : ℕ) → Gives m k n → j ≢ k → IsBusy
 busy_given m n k j gives other b = elim b [
   | inl waits ↦ inl (waits.0, subst (λ (ls : List SlotLife). Contains (slice_index_or ls waits.0 unused).waiting j) (sym gives.4) waits.1)
   | inr caught ↦ (elim (contains_cases {X = ℕ × Handle} (k, gives.0) n.caught (j, caught.0) (subst (λ (l : List (ℕ × Handle)). Contains l (j, caught.0)) gives.1 caught.1)) [
-      | inl first ↦ absurd (other (sym (ap (λ (p : ℕ × Handle). p.0) first)))
-      | inr rest ↦ inr (caught.0, rest)
-    ])
+    | inl first ↦ absurd (other (sym (ap (λ (p : ℕ × Handle). p.0) first)))
+    | inr rest ↦ inr (caught.0, rest)
+  ])
 ]
 
 pub marked_given : (m n : EventMap) (busy : List Bool) (k : ℕ) → Gives m k n → IsFree n k → KeepsFree m n → AreMarked m busy → AreMarked n (slice_set busy k false)

@@ -1,4 +1,4 @@
-use Rattle.std.proofs.Common.{◌≡◌, ◌<◌, length, inr, refl, sym, ◌∙◌, ap, subst, arith}
+use Rattle.std.proofs.Common.{◌≡◌, ◌<◌, length, refl, ap, arith}
 use Rattle.std.specs.Prelude.{Some, slice_get}
 use Rattle.run_core.specs.Events.{EventsValue}
 use Rattle.run_core.proofs.MarkFacts.{read_at, created_shown, answer_shown_at}

@@ -1,4 +1,4 @@
-use Rattle.std.proofs.Common.{◌≡◌, ◌+◌, ◌++◌, [], ◌∷◌, List, length, length-append, ◌∙◌, sym, ap, arith}
+use Rattle.std.proofs.Common.{[], ◌∷◌, List, length, length-append, ◌∙◌, ap, arith}
 use Rattle.std.proofs.lemmas.List.{length-set}
 use Rattle.gen_events.specs.declared.handle.Handle.{Handle}
 use Rattle.gen_events.specs.EventMap.{EventMap}

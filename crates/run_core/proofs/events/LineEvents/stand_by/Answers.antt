@@ -1,10 +1,9 @@
-use Rattle.std.proofs.Common.{◌≡◌, ◌<◌, ◌≤◌, true, false, List, length, inr, refl, sym, ◌∙◌, ap, subst, arith}
+use Rattle.std.proofs.Common.{◌≡◌, ◌<◌, true, false, length, inr, refl, sym, ◌∙◌, ap, subst, arith}
 use Rattle.std.specs.Prelude.{Some, None, slice_get}
 use Rattle.std.proofs.lemmas.List.{length-set}
 use Rattle.std.proofs.lemmas.Option.{none-some, slice_get_past}
-use Rattle.gen_events.specs.declared.handle.Handle.{Handle}
 use Rattle.gen_events.specs.declared.handle.Answer.TheVariants.{Pending}
-use Rattle.gen_events.specs.EventMap.{EventMap, IsFree, answer}
+use Rattle.gen_events.specs.EventMap.{EventMap, IsFree}
 use Rattle.run_core.specs.Events.{EventsValue}
 use Rattle.run_core.proofs.MarkFacts.{marked_placed, busy_or_free, never_over, read_at, pending_shown, placed_shown}
 use Rattle.run_core.proofs.events.LineEvents.stand_by.Goals as goal
