@@ -24,7 +24,7 @@ use Rattle.graph_model.proofs.ListFacts.{contains_none, contains_cases}
 use Rattle.run_core.specs.Core.{answer_for, created_in, pending_in, count_left, WaitsFor, AreEvents}
 
 -- BEFORE ANY LINE IS ISSUED
-replicate_at : {X : Type 0} (n i : ℕ) (x : X) → slice_index_or (replicate n x) i x ≡ x
+pub replicate_at : {X : Type 0} (n i : ℕ) (x : X) → slice_index_or (replicate n x) i x ≡ x
 replicate_at zero i x = refl
 replicate_at (suc n) zero x = refl
 replicate_at (suc n) (suc i) x = replicate_at n i x

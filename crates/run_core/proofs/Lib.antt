@@ -6,3 +6,5 @@ pub mod WorkFacts
 pub mod TakenFacts
 pub mod EndedFacts
 pub mod FindFacts
+pub mod MarkFacts
+pub mod IssueFacts

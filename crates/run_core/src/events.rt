@@ -20,7 +20,7 @@ pub(crate) struct LineEvents {
 }
 
 impl Model for LineEvents {
-    ghost use Rattle.std.specs.Prelude.{◌≤◌};
+    ghost use Rattle.std.specs.Prelude.{◌≤◌, length};
     ghost use Rattle.std.specs.Vec.{vec_capacity};
     ghost use Rattle.run_core.specs.Events.{EventsValue, AreMarked};
 
@@ -31,14 +31,17 @@ impl Model for LineEvents {
     ghost invariant = { λ a. record {
       marked : AreMarked a.table a.busy.items;
       room : a.table.waiters ≤ vec_capacity a.handles;
+      each : length a.handles.items ≤ a.table.waiters;
+      waiters : a.table.waiters ≤ 8192;
+      slots : length a.table.slots ≤ 8192;
     } };
 }
 
 impl LineEvents {
-    ghost use Rattle.std.specs.Prelude.{◌≡◌, ◌<◌, ◌≤◌, ◌*◌, ◌++◌, [], ◌∷◌, length, true, false, Some, None, slice_get, slice_index_or, IfOk, IfSome, IfNone, IsSome};
+    ghost use Rattle.std.specs.Prelude.{◌≡◌, ◌≢◌, ◌<◌, ◌≤◌, ◌⊎◌, ◌*◌, ◌++◌, [], ◌∷◌, length, true, false, Some, None, slice_get, slice_index_or, IfOk, IfSome, IfNone, IsSome};
     ghost use Rattle.gen_events.specs.declared.handle.Handle.{Handle as TheHandle};
     ghost use Rattle.gen_events.specs.declared.handle.Answer.TheVariants.{Pending};
-    ghost use Rattle.gen_events.specs.EventMap.{answer, fresh, created_at, placed_on, ended_with, next_handle, no_event, MayServe, IsFull, IsFree, Gives};
+    ghost use Rattle.gen_events.specs.EventMap.{IsEventMap, answer, answer_of, fresh, created_at, placed_on, ended_with, next_handle, no_event, MayServe, IsFull, IsFree, Gives};
     ghost use Rattle.run_core.specs.Events.{EventsValue};
 
     /// Before any line is issued.
@@ -88,11 +91,13 @@ impl LineEvents {
         ensures placed { (h : TheHandle) → slice_get self.old.handles source ≡ Some h → IsFree self.old.table line → self.new ≡ record { handles = self.old.handles; table = placed_on self.old.table h line } }
         ensures unissued { slice_get self.old.handles source ≡ None → self.new ≡ self.old }
         ensures busy { (IsFree self.old.table line → ⊥) → self.new ≡ self.old }
+        ensures answers { (h : TheHandle) → answer self.new.table h ≡ answer self.old.table h }
+        ensures either { (self.new ≡ self.old) ⊎ ((h : TheHandle) × (slice_get self.old.handles source ≡ Some h) × (self.new ≡ record { handles = self.old.handles; table = placed_on self.old.table h line })) }
     {
         if self.busy[line as usize] || source as usize >= self.handles.len() {
             return;
         }
-        if self.table.watch(self.handles[source as usize], line) == WatchNow::Placed {
+        if let WatchNow::Placed = self.table.watch(self.handles[source as usize], line) {
             self.busy[line as usize] = true;
         }
     }
@@ -101,7 +106,9 @@ impl LineEvents {
     pub(crate) fn end(&mut self, line: u32, fate: Fate)
         requires issued { line < length self.old.handles }
         requires pending { answer self.old.table (slice_index_or self.old.handles line no_event) ≡ Some Pending }
-        ensures { self.new ≡ record { handles = self.old.handles; table = ended_with self.old.table (slice_index_or self.old.handles line no_event) fate } }
+        ensures map { self.new ≡ record { handles = self.old.handles; table = ended_with self.old.table (slice_index_or self.old.handles line no_event) fate } }
+        ensures ended { answer self.new.table (slice_index_or self.old.handles line no_event) ≡ Some (answer_of fate) }
+        ensures others { (h : TheHandle) → h ≢ slice_index_or self.old.handles line no_event → answer self.new.table h ≡ answer self.old.table h }
     {
         self.table.end(self.handles[line as usize], fate);
     }
@@ -138,5 +145,12 @@ impl LineEvents {
         ensures { (h : TheHandle) → slice_get self.now.handles line ≡ Some h → answer self.now.table h ≡ Some result }
     {
         self.table.look(self.handles[line as usize])
+    }
+
+    /// What holds of the table at every moment.
+    pub(crate) fn holds_a_map(&self)
+        ensures { IsEventMap self.now.table }
+    {
+        self.table.holds_a_map();
     }
 }

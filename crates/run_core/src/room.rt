@@ -21,10 +21,11 @@ pub(crate) fn with_room<T: Drop>(alloc: Global, count: usize) -> Result<Vec<T>, 
 pub(crate) fn filled<T: Copy>(alloc: Global, item: T, count: usize) -> Result<Vec<T>, NoMemory>
     ensures items { IfOk result (λ v. v.items ≡ replicate count item) }
 {
-    match vec![in alloc; item; count] {
-        Ok(items) => Ok(items),
-        Err(_) => Err(NoMemory),
+    let mut items = with_room(alloc, count)?;
+    for _turn in 0..count {
+        push_within(&mut items, item);
     }
+    Ok(items)
 }
 
 /// Puts an item at the end of a vector that has room for it.

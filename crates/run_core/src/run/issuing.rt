@@ -3,6 +3,7 @@
 use crate::answers::Issue;
 use crate::progress::Progress;
 use crate::run::Core;
+use run_state::laws::{issue_keeps_rest, stage_leaves};
 
 impl<'g> Core<'g> {
     ghost use Rattle.run_core.specs.Steps.{Issues};
@@ -15,6 +16,9 @@ impl<'g> Core<'g> {
         ensures answer { Issues self.old self.new result }
         ensures works { (i : ℕ) → KeepsWork self.old self.new i }
     {
+        issue_keeps_rest();
+        stage_leaves();
+        self.events.holds_a_map();
         let next = self.events.issued();
         if next as usize == self.stages.len() {
             return Issue::All;
