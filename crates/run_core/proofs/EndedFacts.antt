@@ -1,40 +1,45 @@
 -- A line that is put back, as the code puts it back.
-use Rattle.std.proofs.Common.{◌≡◌, ℕ, zero, suc, ◌+◌, ◌<◌, true, false, ◌⊎◌, inl, inr, List, [], ◌∷◌, ◌++◌, map, length, refl, sym, ◌∙◌, ap, subst, arith}
-use Rattle.std.specs.Prelude.{◌≢◌, ◌↔◌, Option, Some, None, slice_get, slice_index, slice_index_or, slice_set}
+use Rattle.std.proofs.Common.{◌≡◌, ℕ, zero, suc, ◌+◌, ◌<◌, ◌≤◌, true, false, ◌⊎◌, inl, inr, List, [], ◌∷◌, ◌++◌, map, length, refl, sym, ◌∙◌, ap, subst, arith}
+use Rattle.std.specs.Prelude.{◌≢◌, ◌↔◌, Option, Some, None, IsSome, slice_get, slice_index, slice_index_or, slice_set}
 use Rattle.std.specs.Option.{option_map_or}
 use Rattle.std.proofs.lemmas.Bool.{true≢false, false≢true, eq-eqb}
 use Rattle.std.proofs.lemmas.List.{map-set, get_or-set_same, get_or_past, set-set}
-use Rattle.std.proofs.lemmas.Option.{none-some, same_Some}
+use Rattle.std.proofs.lemmas.Option.{none-some, same_Some, slice_get-get_or}
 use Rattle.index_spaces.specs.Column.{ColumnValue}
 use Rattle.index_spaces.specs.declared.Op.{Op}
 use Rattle.graph_model.specs.declared.outcome.End.{End}
 use Rattle.graph_model.specs.declared.outcome.End.TheVariants.{Done, Faulted, Cancelled, Waiting}
 use Rattle.graph_model.specs.declared.verb.Verb.{Verb}
 use Rattle.graph_model.specs.declared.verb.Verb.TheVariants.{User, Trigger, Cancel, Merge, MergeIgnore, Phase, Arrive, Acquire, Release, Fill, Copy, Reduce, Task}
-use Rattle.graph_model.specs.Graph.{GraphValue, columns, verb_at, is_release_of}
+use Rattle.graph_model.specs.Graph.{GraphValue, columns, column_space, verb_at, is_release_of}
 use Rattle.graph_model.specs.Rules.{Acquires, Releases}
-use Rattle.graph_model.specs.Evaluation.{eval_end}
+use Rattle.graph_model.specs.Evaluation.{is_ended, evaluation, eval_end}
+use Rattle.graph_model.proofs.ListFacts.{count_below, count_below-max, fewer_below}
+use Rattle.graph_model.proofs.Waiting.{end_in_ended, steps_end}
+use Rattle.index_spaces.specs.Held.{held_at}
 use Rattle.gen_events.specs.declared.handle.Handle.{Handle}
-use Rattle.gen_events.specs.EventMap.{EventMap, ended_with}
-use Rattle.run_state.specs.Run.{LineStage, Unissued, Out, Ending, Ended, Place, Run, is_listed, stage_at, time_at, list_at, end_so_far, stage_out, stage_started, stage_over, stage_ended, out, started, over, ended, timed}
+use Rattle.gen_events.specs.EventMap.{EventMap, answer, answer_of, ended_with}
+use Rattle.run_state.specs.Run.{LineStage, Unissued, Out, Ending, Ended, Place, Home, Had, Run, is_listed, stage_at, time_at, place_at, list_at, end_so_far, stage_out, stage_started, stage_over, stage_ended, out, started, over, ended, timed}
 use Rattle.run_state.specs.Sound.{AccessesColumn, Sound}
 use Rattle.run_state.specs.WholeLine.{column_list, lock_of, all_home, all_back, columns_for, values_with, arrived_with, arrival_by, arrival_for, holders_without, freed_with, freed_lock, frees_by, frees_for, put_back_whole}
 use Rattle.run_state.specs.AtRest.{AtRest, MayPutBack, Undisturbed}
 use Rattle.run_state.specs.Laws.{PutBackKeepsRest, PutBackLeaves}
 use Rattle.run_state.proofs.Lists.{ended_over, listed_cases}
 use Rattle.run_state.proofs.Verbs.{verb_passes}
-use Rattle.run_state.proofs.Started.{kept_is}
+use Rattle.run_state.proofs.Started.{kept_is, started_below, started_ends}
+use Rattle.run_state.proofs.Known.{column_there}
 use Rattle.run_state.proofs.Releases.{release_unique}
 use Rattle.run_state.proofs.PutBack.{acquire_is_ended, frees_found}
 use Rattle.run_core.specs.Core.{CoreValue, IsCore}
 use Rattle.run_core.specs.Events.{EventsValue}
 use Rattle.run_core.specs.Works.{FinishedValue, IsFinished, KeepsWork, cells_in}
 use Rattle.run_core.specs.Steps.{with_end, handle_at, fate_for}
-use Rattle.run_core.specs.Kept.{shown_stage, places_of, holding, Past, with_line, past_of, frees_as, frees_so_far, frees_in, frees, arrival_of, run_by, shown_core}
+use Rattle.run_core.specs.Kept.{shown_stage, place_of, places_of, holding, Past, no_past, with_line, past_of, frees_as, frees_so_far, frees_in, frees, arrival_of, run_by, shown_core, AreKept}
 use Rattle.run_core.specs.declared.progress.Progress.{Progress}
 use Rattle.run_core.specs.declared.progress.Progress.TheVariants as progress
-use Rattle.run_core.proofs.PastFacts.{past_more}
-use Rattle.run_core.proofs.CoreFacts.{may_put}
+use Rattle.run_core.proofs.PastFacts.{past_more, clock_from}
+use Rattle.run_core.proofs.PlaceFacts.{place_is}
+use Rattle.run_core.proofs.CoreFacts.{may_put, core_ended}
 use Rattle.run_core.proofs.WorkFacts.{core_of, keeps_work}
 
 -- WHAT A LINE FREES: by the ends that are kept, and by those of the evaluation
@@ -137,13 +142,13 @@ module _ (g : GraphValue) (stages : List Progress) (events : EventsValue) (homes
     (arrives : values' ≡ values_with values (arrival_for g f.line f.ends))
     (frees_now : map holding holders' ≡ holders_without (map holding holders) (frees_in g (map shown_stage stages) f.line))
   where
-    abbrev before : CoreValue
-    before = shown_core g stages events homes takers values holders trace
+    abbrev shown_before : CoreValue
+    shown_before = shown_core g stages events homes takers values holders trace
 
-    freed_is : frees_for g before.run f.line ≡ frees_in g (map shown_stage stages) f.line
-    freed_is = frees_kept g before.run f.line
+    freed_is : frees_for g shown_before.run f.line ≡ frees_in g (map shown_stage stages) f.line
+    freed_is = frees_kept g shown_before.run f.line
 
-    begun : started before.run.stages f.line ≡ true
+    begun : started shown_before.run.stages f.line ≡ true
     begun = ap stage_started is.is_out
 
     past_is : past_of g (trace ++ f.line ∷ []) ≡ record {
@@ -151,22 +156,22 @@ module _ (g : GraphValue) (stages : List Progress) (events : EventsValue) (homes
       clock = (past_of g trace).clock + 1;
       back = all_back (past_of g trace).back f.line (columns_for g f.line f.ends);
       arrived = arrived_with (past_of g trace).arrived f.line (arrival_for g f.line f.ends);
-      freed = freed_with (past_of g trace).freed f.line (frees_for g before.run f.line);
+      freed = freed_with (past_of g trace).freed f.line (frees_for g shown_before.run f.line);
     }
-    past_is = past_more g _ trace f.line ∙ past_with g (past_of g trace) f.line f.ends (frees_for g before.run f.line) is.is_end (frees_evaluated core.sound f.line begun)
+    past_is = past_more g _ trace f.line ∙ past_with g (past_of g trace) f.line f.ends (frees_for g shown_before.run f.line) is.is_end (frees_evaluated core.sound f.line begun)
 
     stages_are : map shown_stage (slice_set stages f.line (progress.Ended f.ends)) ≡ slice_set (slice_set (map shown_stage stages) f.line (Ending f.ends)) f.line (Ended f.ends)
     stages_are = map-set shown_stage stages f.line (progress.Ended f.ends) ∙ sym (set-set (map shown_stage stages) f.line (Ending f.ends) (Ended f.ends))
 
-    holders_are : map holding holders' ≡ holders_without (map holding holders) (frees_for g before.run f.line)
+    holders_are : map holding holders' ≡ holders_without (map holding holders) (frees_for g shown_before.run f.line)
     holders_are = frees_now ∙ ap (holders_without (map holding holders)) (sym freed_is)
 
-    pub ended_shown : (events' : EventsValue) → events' ≡ record { handles = events.handles; table = ended_with events.table (handle_at before f.line) (fate_for f.ends) } →
-        shown_core g (slice_set stages f.line (progress.Ended f.ends)) events' homes' takers' values' holders' (trace ++ f.line ∷ []) ≡ with_end before f
+    pub ended_shown : (events' : EventsValue) → events' ≡ record { handles = events.handles; table = ended_with events.table (handle_at shown_before f.line) (fate_for f.ends) } →
+        shown_core g (slice_set stages f.line (progress.Ended f.ends)) events' homes' takers' values' holders' (trace ++ f.line ∷ []) ≡ with_end shown_before f
     ended_shown events' e =
         ap (λ (ev : EventsValue). core_of g (run_by (past_of g (trace ++ f.line ∷ [])) (map shown_stage (slice_set stages f.line (progress.Ended f.ends))) (places_of homes' takers') values' (map holding holders')) ev.handles ev.table) e
-        ∙ (ap (λ p. core_of g (run_by p (map shown_stage (slice_set stages f.line (progress.Ended f.ends))) (places_of homes' takers') values' (map holding holders')) events.handles (ended_with events.table (handle_at before f.line) (fate_for f.ends))) past_is
-        ∙ ap (λ (r : List LineStage × List Place × List ℕ × List (List ℕ)). core_of g (run_by (past_after before) r.0 r.1 r.2 r.3) events.handles (ended_with events.table (handle_at before f.line) (fate_for f.ends)))
+        ∙ (ap (λ p. core_of g (run_by p (map shown_stage (slice_set stages f.line (progress.Ended f.ends))) (places_of homes' takers') values' (map holding holders')) events.handles (ended_with events.table (handle_at shown_before f.line) (fate_for f.ends))) past_is
+        ∙ ap (λ (r : List LineStage × List Place × List ℕ × List (List ℕ)). core_of g (run_by (past_after shown_before) r.0 r.1 r.2 r.3) events.handles (ended_with events.table (handle_at shown_before f.line) (fate_for f.ends)))
           (λ t. (stages_are t, places t, arrives t, holders_are t)))
       where
         past_after : CoreValue → Past
@@ -177,3 +182,74 @@ module _ (g : GraphValue) (stages : List Progress) (events : EventsValue) (homes
           arrived = arrived_with c.run.arrived f.line (arrival_for g f.line f.ends);
           freed = freed_with c.run.freed f.line (frees_for g c.run f.line);
         }
+
+-- A LINE THAT IS OUT ends, has its columns out, and has no time yet
+not_waiting : (g : GraphValue) (run : Run) → Sound g run → (i : ℕ) → started run.stages i ≡ true → eval_end g i ≡ Waiting → ⊥
+not_waiting g run s i begun e = false≢true (ap is_ended (sym e) ∙ end_in_ended (evaluation g) i (steps_end g _) (started_ends s.graph s.accepted s.on_lines i begun))
+
+none_by_place : (o : Option ColumnValue) (t k : ℕ) → place_of o t ≡ Had k → o ≡ None
+none_by_place None t k e = refl
+none_by_place (Some x) t k e = absurd (home_not_had x.cells k e)
+  where
+    home_not_had : (xs : List ℕ) (k : ℕ) → Home xs ≡ Had k → ⊥
+    home_not_had xs k e = cc
+
+pub column_is_out : (before : CoreValue) (homes : List (Option ColumnValue)) (takers : List ℕ) → before.run.places ≡ places_of homes takers → IsCore before → AreKept before.graph homes takers → (f : FinishedValue) → IsFinished before f → f.ends ≢ Cancelled →
+    (k : ℕ) → AccessesColumn before.graph f.line k → slice_get homes k ≡ Some None
+column_is_out before homes takers shows core kept f is runs k a =
+    let near : k < length homes = subst (λ n. k < n) (sym kept.each_home) (column_there core.sound.graph f.line k a) in
+    let had : place_at before.run.places k ≡ Had f.line = core.at_rest.out_has f.line k (ap stage_out is.is_out) (λ e. runs (sym is.is_end ∙ e)) a in
+    slice_get-get_or homes k None near ∙ ap Some (none_by_place (slice_index_or homes k None) (slice_index takers k) f.line (sym (place_is homes takers k (kept.each_home ∙ sym kept.each_taker) near) ∙ (ap (λ ps. place_at ps k) (sym shows) ∙ had)))
+
+pub column_is_held : (before : CoreValue) (f : FinishedValue) → IsFinished before f → f.ends ≢ Cancelled → (k : ℕ) → AccessesColumn before.graph f.line k → IsSome (held_at f.held k)
+column_is_held before f is runs k a = subst IsSome (sym ((is.holds runs).has k a)) refl
+
+-- there is room in the trace for one line more
+pub trace_is_short : (before : CoreValue) (trace : List ℕ) → before.run.clock ≡ (past_of before.graph trace).clock → IsCore before → (f : FinishedValue) → IsFinished before f → length trace < length before.graph.lines
+trace_is_short before trace shows core f is =
+    let s = core.sound in
+    let clock : (past_of before.graph trace).clock ≡ 0 + length trace = clock_from before.graph (no_past before.graph) trace in
+    let counts : before.run.clock ≡ count_below (timed before.run.times) (length before.graph.lines) = s.on_times.clock_counts in
+    let below : f.line < length before.graph.lines = started_below s.on_lines f.line (ap stage_started is.is_out) in
+    let fewer : count_below (timed before.run.times) (length before.graph.lines) + 1 ≤ count_below (λ k. true) (length before.graph.lines) =
+    fewer_below (timed before.run.times) (λ k. true) (λ k h. refl) (length before.graph.lines) f.line below (core.at_rest.out_untimed f.line (ap stage_out is.is_out)) refl in
+    let most : count_below (λ k. true) (length before.graph.lines) ≤ length before.graph.lines = count_below-max (λ k. true) (length before.graph.lines) in
+    omega (arith, shows, clock, counts, fewer, most)
+
+-- what is kept of the columns that come home
+pub ended_kept : (h : GraphValue) (before : CoreValue) → h ≡ before.graph → (homes : List (Option ColumnValue)) (takers : List ℕ) (homes' : List (Option ColumnValue)) (takers' : List ℕ) → AreKept before.graph homes takers → (f : FinishedValue) → IsFinished before f →
+    length homes' ≡ length (columns h) → length takers' ≡ length (columns h) → ((k : ℕ) (x : ColumnValue) → slice_index_or homes' k None ≡ Some x → (slice_index_or homes k None ≡ Some x) ⊎ (held_at f.held k ≡ Some x)) → AreKept before.graph homes' takers'
+ended_kept h before e homes takers homes' takers' kept f is long wide same = record {
+  each_home = long ∙ ap (λ x. length (columns x)) e;
+  each_taker = wide ∙ ap (λ x. length (columns x)) e;
+  spaces = λ k x at. (elim (same k x at) [ inl old ↦ kept.spaces k x old | inr new ↦ by_end f.ends refl k x new ]);
+}
+  where
+    of_line : f.ends ≢ Cancelled → (k : ℕ) (x : ColumnValue) → held_at f.held k ≡ Some x → x.space ≡ column_space before.graph k
+    of_line runs k x at =
+        let holds = is.holds runs in
+        ap (λ (y : ColumnValue). y.space) (same_Some x _ (sym at ∙ holds.has k (holds.only k x at)))
+
+    by_end : (x : End) → f.ends ≡ x → (k : ℕ) (y : ColumnValue) → held_at f.held k ≡ Some y → y.space ≡ column_space before.graph k
+    by_end Cancelled e k y at = absurd (none-some y (sym (is.nothing e k) ∙ at))
+    by_end Done e k y at = of_line (λ c. (let d : Done ≡ Cancelled = sym e ∙ c in cc)) k y at
+    by_end Faulted e k y at = of_line (λ c. (let d : Faulted ≡ Cancelled = sym e ∙ c in cc)) k y at
+    by_end Waiting e k y at = of_line (λ c. (let d : Waiting ≡ Cancelled = sym e ∙ c in cc)) k y at
+
+-- THE CALL, over values
+pub finished_is : (before now : CoreValue) (f f' : FinishedValue) → before ≡ now → f ≡ f' → IsFinished now f' → IsFinished before f
+finished_is before now f f' same e is = subst (λ (c : CoreValue). IsFinished c f) (sym same) (subst (IsFinished now) (sym e) is)
+
+pub ended_core : PutBackKeepsRest → (before after : CoreValue) (f : FinishedValue) → after ≡ with_end before f → IsCore before → IsFinished before f →
+    answer (with_end before f).table (handle_at before f.line) ≡ Some (answer_of (fate_for f.ends)) → ((k : Handle) → k ≢ handle_at before f.line → answer (with_end before f).table k ≡ answer before.table k) → IsCore after
+ended_core law before after f eq core is here others =
+    subst IsCore (sym eq) (core_ended law before core f is (λ e. not_waiting before.graph before.run core.sound f.line (ap stage_started is.is_out) (is.is_end ∙ e)) here others)
+
+pub ended_is : (before now after : CoreValue) (f f' : FinishedValue) → before ≡ now → f ≡ f' → after ≡ with_end before f → after ≡ with_end now f'
+ended_is before now after f f' same e eq = eq ∙ (ap (λ c. with_end c f) same ∙ ap (with_end now) e)
+
+pub ended_works : PutBackLeaves → (before now after : CoreValue) (f f' : FinishedValue) → before ≡ now → f ≡ f' → after ≡ with_end before f → IsCore before → IsFinished before f → (k : ℕ) → k ≢ f'.line → KeepsWork now after k
+ended_works law before now after f f' same e eq core is k ne =
+    subst (λ (v : CoreValue). KeepsWork v after k) same (subst (λ (v : CoreValue). KeepsWork before v k) (sym eq)
+    (keeps_work before core (put_back_whole before.graph before.run f.line f.ends (cells_in f.held)) before.handles (ended_with before.table (handle_at before f.line) (fate_for f.ends)) k
+    (λ _. law before.graph before.run k f.line f.ends (cells_in f.held) (λ q. ne (q ∙ ap (λ (x : FinishedValue). x.line) e)) core.at_rest (may_put before f is))))
