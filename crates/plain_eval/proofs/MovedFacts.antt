@@ -10,18 +10,15 @@ use Rattle.index_spaces.specs.Space.{points}
 use Rattle.index_spaces.specs.Column.{ColumnValue}
 use Rattle.index_spaces.specs.Held.{held_at, HoldsOtherwise}
 use Rattle.graph_model.specs.declared.verb.Access.{Access}
-use Rattle.graph_model.specs.declared.verb.Kernel.{Kernel}
 use Rattle.graph_model.specs.declared.verb.Kernel.TheVariants.{Iota, Axpy, Stencil, Scan, Hist, Dot, Expect, Gather}
 use Rattle.graph_model.specs.declared.verb.Verb.{Verb}
 use Rattle.graph_model.specs.declared.verb.Verb.TheVariants.{User, Trigger, Cancel, Merge, MergeIgnore, Phase, Arrive, Acquire, Release, Fill, Copy, Reduce, Task}
-use Rattle.graph_model.specs.declared.outcome.Verdict.{Verdict}
-use Rattle.graph_model.specs.declared.outcome.Verdict.TheVariants.{Fine, Fault}
 use Rattle.graph_model.specs.Fits.{IsGraph}
 use Rattle.graph_model.specs.LineLaws.{ColumnsDiffer}
-use Rattle.graph_model.specs.Graph.{GraphValue, columns, column_space, space_at, verb_at}
+use Rattle.graph_model.specs.Graph.{GraphValue, columns, column_space, verb_at}
 use Rattle.graph_model.specs.Access.{accesses, verb_accesses}
-use Rattle.graph_model.specs.Effect.{Cells, CellChange, effect, cells_after, verb_verdict, verb_changes, kernel_verdict, kernel_changes}
-use Rattle.graph_model.specs.Evaluation.{column_of, made_by}
+use Rattle.graph_model.specs.Effect.{Cells, CellChange, effect, cells_after}
+use Rattle.graph_model.specs.Evaluation.{column_of}
 use Rattle.graph_model.specs.Laws.{ChangesWithinAccesses}
 use Rattle.instances.specs.Homes.{all_home}
 use Rattle.plain_eval.specs.Moved.{home_unless, AreParted}
@@ -214,40 +211,3 @@ parted_after law g i cells homes old new p moved same shown =
     held_before None None c x e h s = absurd (none-some x h)
     held_before None (Some y) c x e h s = absurd (true≢false (sym s))
     held_before (Some z) n c x e h s = p.are_columns c z e
-
--- only an expectation faults, and it changes nothing
-made_by_kernel : (space : ℕ → List (ℕ × ℕ)) (cells : Cells) (k : Kernel) → made_by (kernel_verdict space cells k) (kernel_changes space cells k) ≡ kernel_changes space cells k
-made_by_kernel space cells (Iota x s v) = refl
-made_by_kernel space cells (Axpy x y s v) = refl
-made_by_kernel space cells (Stencil x y r s) = refl
-made_by_kernel space cells (Scan x y s) = refl
-made_by_kernel space cells (Hist x y s t) = refl
-made_by_kernel space cells (Dot x y z s t) = refl
-made_by_kernel space cells (Expect x s l h) = by_verdict (kernel_verdict space cells (Expect x s l h))
-  where
-    by_verdict : (v : Verdict) → made_by v [] ≡ []
-    by_verdict Fine = refl
-    by_verdict Fault = refl
-made_by_kernel space cells (Gather x y z s t) = refl
-
-made_by_verb : (space : ℕ → List (ℕ × ℕ)) (cells : Cells) (v : Verb) → made_by (verb_verdict space cells v) (verb_changes space cells v) ≡ verb_changes space cells v
-made_by_verb space cells (Task k) = made_by_kernel space cells k
-made_by_verb space cells User = refl
-made_by_verb space cells (Trigger u) = refl
-made_by_verb space cells (Cancel u) = refl
-made_by_verb space cells (Merge es) = refl
-made_by_verb space cells (MergeIgnore es) = refl
-made_by_verb space cells (Phase b) = refl
-made_by_verb space cells (Arrive q v) = refl
-made_by_verb space cells (Acquire l) = refl
-made_by_verb space cells (Release q) = refl
-made_by_verb space cells (Fill t s v) = refl
-made_by_verb space cells (Copy a b s) = refl
-made_by_verb space cells (Reduce o a b s) = refl
-
-made_of : (g : GraphValue) (cells : Cells) (o : Option Verb) → made_by (option_map_or (verb_verdict (space_at g) cells) o Fine) (option_map_or (verb_changes (space_at g) cells) o []) ≡ option_map_or (verb_changes (space_at g) cells) o []
-made_of g cells None = refl
-made_of g cells (Some v) = made_by_verb (space_at g) cells v
-
-pub all_made : (g : GraphValue) (i : ℕ) (cells : Cells) (verdict : Verdict) → verdict ≡ (effect g i cells).verdict → made_by verdict (effect g i cells).changes ≡ (effect g i cells).changes
-all_made g i cells verdict e = ap (λ v. made_by v (effect g i cells).changes) e ∙ made_of g cells (verb_at g i)

@@ -6,5 +6,6 @@ pub mod WorkFacts
 pub mod TakenFacts
 pub mod EndedFacts
 pub mod FindFacts
+pub mod PerformFacts
 pub mod MarkFacts
 pub mod IssueFacts

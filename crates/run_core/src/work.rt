@@ -8,6 +8,7 @@ use graph_model::graph::Graph;
 use graph_model::outcome::{End, Verdict};
 use index_spaces::held::Held;
 use line_effects::effects::apply;
+use run_state::laws::{work_gives_cells, work_is_as_evaluated};
 use std::marker::Model;
 
 /// A line that was taken, with the columns that it accesses, moved out of the core. A line that is
@@ -75,6 +76,8 @@ impl Work {
         ensures line { result.line ≡ self.line }
         ensures finished { (c : CoreValue) → IsCore c → c.graph ≡ graph.now → IsWork c self → IsFinished c result }
     {
+        work_is_as_evaluated();
+        work_gives_cells();
         let Work {
             line,
             is_cancelled,

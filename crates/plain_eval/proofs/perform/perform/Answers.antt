@@ -1,7 +1,8 @@
 use Rattle.std.proofs.Common.{◌∙◌, ap, sym}
 use Rattle.graph_model.specs.Effect.{cells_after, effect}
 use Rattle.instances.specs.Homes.{all_home}
-use Rattle.plain_eval.proofs.MovedFacts.{parted_after, all_made}
+use Rattle.line_effects.proofs.MadeFacts.{all_made}
+use Rattle.plain_eval.proofs.MovedFacts.{parted_after}
 use Rattle.plain_eval.proofs.perform.perform.Goals as goal
 
 pub give_back-requires : goal.give_back-requires
