@@ -4,3 +4,7 @@ pub mod EventFacts
 pub mod CoreFacts
 pub mod WorkFacts
 pub mod TakenFacts
+pub mod SourceFacts
+pub mod ListsOfLines
+pub mod PhaseFacts
+pub mod HolderFacts
