@@ -1,1 +1,2 @@
 pub mod EffectFacts
+pub mod MoveFacts

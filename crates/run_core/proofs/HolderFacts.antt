@@ -10,7 +10,7 @@ use Rattle.graph_model.specs.Graph.{GraphValue, locks, verb_at, is_acquire_of, i
 use Rattle.graph_model.specs.Fits.{IsGraph}
 use Rattle.graph_model.specs.Rules.{Acquires, Releases}
 use Rattle.line_effects.proofs.EffectFacts.{verb_is}
-use Rattle.run_state.specs.Run.{LineStage, Ended, stage_at, list_at, end_so_far}
+use Rattle.run_state.specs.Run.{LineStage, stage_at, list_at, end_so_far}
 use Rattle.run_state.specs.Moves.{without}
 use Rattle.run_state.specs.WholeLine.{lock_by, lock_of, holders_with, holders_without, freed_lock}
 use Rattle.run_state.proofs.Known.{lock_there}
@@ -30,7 +30,7 @@ line_releases g i q line h e = verb_passes (is_release_of q) g i (Release q) (ve
 
 -- its reservation is declared, and what it releases is a line
 pub lock_known : (g : GraphValue) → IsGraph g → (i l : ℕ) (line : Line) → slice_get g.lines i ≡ Some line → line.verb ≡ Acquire l → l < length (locks g)
-lock_known g is i l line h e = lock_there {g} is i l (line_acquires g i l line h e)
+lock_known g is i l line h e = lock_there is i l (line_acquires g i l line h e)
 
 pub acquire_known : (g : GraphValue) → IsGraph g → (i q : ℕ) (line : Line) → slice_get g.lines i ≡ Some line → line.verb ≡ Release q → q < length g.lines
 acquire_known g is i q line h e =
@@ -46,16 +46,16 @@ holds_shown g holders i l line h e free =
     ∙ ap (λ o. holders_with (map holding holders) i (option_map_or lock_by o None)) (sym (verb_is g i line h ∙ ap (λ v. Some v) e)))
 
 -- and one that is freed
-frees_shown : (g : GraphValue) (stages : List LineStage) (i q l : ℕ) (line acquire : Line) → slice_get g.lines i ≡ Some line → line.verb ≡ Release q → slice_get g.lines q ≡ Some acquire → acquire.verb ≡ Acquire l → stage_at stages q ≡ Ended Done → frees_in g stages i ≡ Some (l, q)
+frees_shown : (g : GraphValue) (stages : List LineStage) (i q l : ℕ) (line acquire : Line) → slice_get g.lines i ≡ Some line → line.verb ≡ Release q → slice_get g.lines q ≡ Some acquire → acquire.verb ≡ Acquire l → end_so_far (stage_at stages q) ≡ Done → frees_in g stages i ≡ Some (l, q)
 frees_shown g stages i q l line acquire h e a f done =
     ap (λ o. option_map_or (frees_so_far g stages) o None) (verb_is g i line h ∙ ap (λ v. Some v) e)
-    ∙ (ap (λ s. freed_lock q (end_so_far s) (lock_of g q)) done
+    ∙ (ap (λ e. freed_lock q e (lock_of g q)) done
     ∙ ap (λ o. freed_lock q Done (option_map_or lock_by o None)) (verb_is g q acquire a ∙ ap (λ v. Some v) f))
 
 without_last : (q : ℕ) → without q (q ∷ []) ≡ []
-without_last q = ?
+without_last q = ap (λ b. cond (not b) (q ∷ []) []) (eq-eqb q q refl)
 
-pub freed_shown : (g : GraphValue) (stages : List LineStage) (holders : List (Option ℕ)) (i q l : ℕ) (line acquire : Line) → slice_get g.lines i ≡ Some line → line.verb ≡ Release q → slice_get g.lines q ≡ Some acquire → acquire.verb ≡ Acquire l → stage_at stages q ≡ Ended Done →
+pub freed_shown : (g : GraphValue) (stages : List LineStage) (holders : List (Option ℕ)) (i q l : ℕ) (line acquire : Line) → slice_get g.lines i ≡ Some line → line.verb ≡ Release q → slice_get g.lines q ≡ Some acquire → acquire.verb ≡ Acquire l → end_so_far (stage_at stages q) ≡ Done →
     ((l q : ℕ) → frees_in g stages i ≡ Some (l, q) → list_at (map holding holders) l ≡ q ∷ []) → map holding (slice_set holders l None) ≡ holders_without (map holding holders) (frees_in g stages i)
 freed_shown g stages holders i q l line acquire h e a f done held =
     let frees = frees_shown g stages i q l line acquire h e a f done in

@@ -8,3 +8,4 @@ pub mod SourceFacts
 pub mod ListsOfLines
 pub mod PhaseFacts
 pub mod HolderFacts
+pub mod ColumnFacts

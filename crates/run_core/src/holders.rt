@@ -9,6 +9,7 @@ ghost use Rattle.run_core.specs.Kept.{holding, shown_stage, frees_in};
 ghost use Rattle.run_core.specs.Steps.{HasLock};
 
 use crate::progress::Progress;
+use crate::sources::end_of;
 use graph_model::graph::Graph;
 use graph_model::outcome::End;
 use graph_model::verb::Verb;
@@ -52,9 +53,9 @@ pub(crate) fn free(
     let Verb::Release { acquire } = &graph.line(line).verb else {
         return;
     };
-    if stages[*acquire as usize] != Progress::Ended(End::Done) {
+    let End::Done = end_of(stages[*acquire as usize]) else {
         return;
-    }
+    };
     if let Verb::Acquire { lock } = &graph.line(*acquire).verb {
         holders[*lock as usize] = None;
     }
