@@ -1,25 +1,21 @@
 -- How columns move out of their homes and back.
-use Rattle.std.proofs.Common.{◌≡◌, ℕ, ◌+◌, ◌<◌, ◌≤◌, true, ◌⊎◌, inl, inr, List, [], length, set, refl, sym, ◌∙◌, ap, subst, arith, get_or, length-set}
-use Rattle.std.specs.Prelude.{◌≢◌, Option, Some, None, IsSome, is_some, slice_get, slice_index_or, option_map, Contains}
+use Rattle.std.proofs.Common.{◌≡◌, ℕ, ◌<◌, true, inl, inr, List, [], length, set, refl, sym, ◌∙◌, ap, subst, arith, get_or, length-set}
+use Rattle.std.specs.Prelude.{◌≢◌, Option, Some, None, IsSome, is_some, slice_get, slice_index_or, Contains}
 use Rattle.std.specs.Option.{option_map_or}
-use Rattle.std.proofs.lemmas.Bool.{true≢false, false≢true, cases_eq, cases_lt}
-use Rattle.std.proofs.lemmas.Option.{none-some, same_Some, slice_get-get_or, slice_get-map, slice_get_within}
-use Rattle.std.proofs.lemmas.List.{get_or-set_same, get_or-set_other, length-map}
+use Rattle.std.proofs.lemmas.Bool.{true≢false, false≢true, cases_eq}
+use Rattle.std.proofs.lemmas.Option.{none-some, same_Some, slice_get-get_or}
+use Rattle.std.proofs.lemmas.List.{get_or-set_same, get_or-set_other}
 use Rattle.std.proofs.lemmas.List.FromFn.{fill_by_all, get_or-map-range_with_len, length-map-range_with_len}
 use Rattle.index_spaces.specs.Space.{points}
 use Rattle.index_spaces.specs.Column.{ColumnValue}
 use Rattle.index_spaces.specs.Held.{held_at, HoldsOtherwise}
-use Rattle.graph_model.specs.declared.verb.Access.{Access}
 use Rattle.graph_model.specs.declared.verb.Kernel.{Kernel}
 use Rattle.graph_model.specs.declared.verb.Kernel.TheVariants.{Iota, Axpy, Stencil, Scan, Hist, Dot, Expect, Gather}
 use Rattle.graph_model.specs.declared.verb.Verb.{Verb}
 use Rattle.graph_model.specs.declared.verb.Verb.TheVariants.{User, Trigger, Cancel, Merge, MergeIgnore, Phase, Arrive, Acquire, Release, Fill, Copy, Reduce, Task}
 use Rattle.graph_model.specs.declared.outcome.Verdict.{Verdict}
 use Rattle.graph_model.specs.declared.outcome.Verdict.TheVariants.{Fine, Fault}
-use Rattle.graph_model.specs.Fits.{IsGraph}
-use Rattle.graph_model.specs.LineLaws.{ColumnsDiffer}
 use Rattle.graph_model.specs.Graph.{GraphValue, columns, column_space, space_at, verb_at}
-use Rattle.graph_model.specs.Access.{accesses, verb_accesses}
 use Rattle.graph_model.specs.Effect.{Cells, CellChange, effect, cells_after, verb_verdict, verb_changes, kernel_verdict, kernel_changes}
 use Rattle.graph_model.specs.Evaluation.{column_of, made_by}
 use Rattle.graph_model.specs.Laws.{ChangesWithinAccesses}

@@ -1,5 +1,5 @@
 -- The columns of a line, moved out and put back one after another.
-use Rattle.std.proofs.Common.{◌≡◌, ℕ, ◌+◌, ◌<◌, ◌≤◌, Bool, true, false, ◌⊎◌, inl, inr, List, [], ◌∷◌, ◌++◌, length, take, refl, sym, ◌∙◌, ap, subst, arith, get_or, length-set}
+use Rattle.std.proofs.Common.{◌≡◌, ℕ, ◌+◌, ◌<◌, ◌≤◌, true, false, ◌⊎◌, inl, inr, List, [], ◌∷◌, ◌++◌, length, take, refl, sym, ◌∙◌, ap, subst, arith, get_or, length-set}
 use Rattle.std.specs.Prelude.{◌≢◌, not, Option, Some, None, IsSome, is_some, slice_get, slice_index_or, slice_set}
 use Rattle.std.specs.Option.{option_map_or}
 use Rattle.std.proofs.lemmas.Bool.{true≢false, false≢true, cases_eq, cases_lt, not-true, not-false}
@@ -13,7 +13,7 @@ use Rattle.graph_model.specs.Graph.{GraphValue, columns}
 use Rattle.graph_model.specs.LineLaws.{ColumnsDiffer}
 use Rattle.graph_model.specs.Access.{accesses}
 use Rattle.line_effects.proofs.EffectFacts.{access_listed, access_moved, move_at, moves_apart}
-use Rattle.line_effects.proofs.MoveFacts.{HeldSoFar, so_far_none, so_far_take, so_far_skip, move_none, is_new, moves_few, move_of}
+use Rattle.line_effects.proofs.MoveFacts.{HeldSoFar, so_far_none, so_far_take, so_far_skip, move_none, moves_few, move_of}
 use Rattle.run_state.specs.Run.{Place, Home, Had}
 use Rattle.run_state.specs.Sound.{AccessesColumn}
 use Rattle.run_state.specs.WholeLine.{column_list, all_had, all_home}
@@ -96,9 +96,9 @@ taken_one g i k old takers homes after now next held more a s at below home free
       ]);
       moved = λ d x h. (elim (cases_eq d c) [
         | inl same ↦ (
-            ap (λ xs. slice_index_or xs d None) w ∙ (ap (λ j. slice_index_or (slice_set homes c None) j None) same ∙ get_or-set_same homes c None None (subst (λ m. c < m) (sym s.each_home) below)),
-            ap (λ j. slice_index_or old j None) same ∙ (sym (s.left c free) ∙ (sym o.here ∙ (ap (held_at more) (sym same) ∙ h))),
-          )
+          ap (λ xs. slice_index_or xs d None) w ∙ (ap (λ j. slice_index_or (slice_set homes c None) j None) same ∙ get_or-set_same homes c None None (subst (λ m. c < m) (sym s.each_home) below)),
+          ap (λ j. slice_index_or old j None) same ∙ (sym (s.left c free) ∙ (sym o.here ∙ (ap (held_at more) (sym same) ∙ h))),
+        )
         | inr other ↦ (
             let m = s.moved d x (sym (o.others d other) ∙ h) in
             (ap (λ xs. slice_index_or xs d None) w ∙ (get_or-set_other homes c d None None other ∙ m.0), m.1))
@@ -154,15 +154,6 @@ pub record GivenSoFar (g : GraphValue) (i k : ℕ) (old : List (Option ColumnVal
   pub left : (j c : ℕ) → k ≤ j → slice_get (column_list g i) j ≡ Some c → (held_at held c ≡ held_at had c) × (slice_index_or homes c None ≡ slice_index_or old c None)
   pub kept : (c : ℕ) (x : ColumnValue) → slice_index_or homes c None ≡ Some x → (slice_index_or old c None ≡ Some x) ⊎ (held_at had c ≡ Some x)
 
-pub given_none : (g : GraphValue) (i : ℕ) (old : List (Option ColumnValue)) (takers : List ℕ) (had : List (ℕ × ColumnValue)) → length old ≡ length (columns g) → GivenSoFar g i 0 old takers had old takers had
-given_none g i old takers had e = record {
-  each_home = e;
-  same_takers = refl;
-  places = refl;
-  left = λ j c h at. (refl, refl);
-  kept = λ c x h. inl h;
-}
-
 pub given_one : ColumnsDiffer → (g : GraphValue) → IsGraph g → (i k : ℕ) (old : List (Option ColumnValue)) (takers : List ℕ) (had : List (ℕ × ColumnValue)) (homes after : List (Option ColumnValue)) (now : List ℕ) (held less : List (ℕ × ColumnValue)) (a : Access) (column : ColumnValue) →
     length takers ≡ length (columns g) → GivenSoFar g i k old takers had homes now held → slice_get (accesses g i) k ≡ Some a → a.column < length (columns g) → held_at held a.column ≡ Some column → HoldsOtherwise held less a.column None → after ≡ slice_set homes a.column (Some column) → GivenSoFar g i (k + 1) old takers had after now less
 given_one differ g is i k old takers had homes after now held less a column et s access below here o w =
@@ -194,11 +185,6 @@ given_skip g i k old takers had homes now held s none = record {
   left = λ j c h at. s.left j c (let z : k ≤ j = omega arith in z) at;
   kept = s.kept;
 }
-
--- the next column is held, and its place is empty
-pub next_held : (g : GraphValue) (i k : ℕ) (old : List (Option ColumnValue)) (takers : List ℕ) (had : List (ℕ × ColumnValue)) (homes : List (Option ColumnValue)) (now : List ℕ) (held : List (ℕ × ColumnValue)) (a : Access) → GivenSoFar g i k old takers had homes now held → slice_get (accesses g i) k ≡ Some a →
-    ((c : ℕ) → AccessesColumn g i c → IsSome (held_at had c)) → IsSome (held_at held a.column)
-next_held g i k old takers had homes now held a s at has = subst IsSome (sym (s.left k a.column (omega arith) (move_at g i k a at)).0) (has a.column (accesses_at g i k a at))
 
 pub next_out : (g : GraphValue) (i k : ℕ) (old : List (Option ColumnValue)) (takers : List ℕ) (had : List (ℕ × ColumnValue)) (homes : List (Option ColumnValue)) (now : List ℕ) (held : List (ℕ × ColumnValue)) (a : Access) → GivenSoFar g i k old takers had homes now held → slice_get (accesses g i) k ≡ Some a → a.column < length (columns g) →
     ((c : ℕ) → AccessesColumn g i c → slice_get old c ≡ Some None) → slice_get homes a.column ≡ Some None

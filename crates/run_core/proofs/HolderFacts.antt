@@ -1,12 +1,12 @@
 -- Who holds a reservation, as it is shown.
-use Rattle.std.proofs.Common.{◌≡◌, ℕ, ◌<◌, true, false, cond, List, [], ◌∷◌, length, map, refl, sym, ◌∙◌, ap, subst}
-use Rattle.std.specs.Prelude.{◌==◌, not, Option, Some, None, slice_get, slice_set}
+use Rattle.std.proofs.Common.{◌≡◌, ℕ, ◌<◌, cond, List, [], ◌∷◌, length, map, refl, sym, ◌∙◌, ap}
+use Rattle.std.specs.Prelude.{not, Option, Some, None, slice_get, slice_set}
 use Rattle.std.proofs.lemmas.Bool.{eq-eqb}
 use Rattle.std.proofs.lemmas.List.{map-set}
 use Rattle.graph_model.specs.declared.verb.Line.{Line}
 use Rattle.graph_model.specs.declared.verb.Verb.TheVariants.{Acquire, Release}
 use Rattle.graph_model.specs.declared.outcome.End.TheVariants.{Done}
-use Rattle.graph_model.specs.Graph.{GraphValue, locks, verb_at, is_acquire_of, is_release_of}
+use Rattle.graph_model.specs.Graph.{GraphValue, locks, is_acquire_of, is_release_of}
 use Rattle.graph_model.specs.Fits.{IsGraph}
 use Rattle.graph_model.specs.Rules.{Acquires, Releases}
 use Rattle.line_effects.proofs.EffectFacts.{verb_is}
@@ -17,9 +17,8 @@ use Rattle.run_state.proofs.Known.{lock_there}
 use Rattle.run_state.proofs.Releases.{release_of_acquire}
 use Rattle.run_state.proofs.Verbs.{passes_verb, verb_passes, verb_below}
 use Rattle.std.specs.Option.{option_map_or}
-use Rattle.run_core.specs.Kept.{holding, shown_stage, frees_so_far, frees_in}
+use Rattle.run_core.specs.Kept.{holding, frees_so_far, frees_in}
 use Rattle.run_core.specs.Steps.{HasLock}
-use Rattle.run_core.specs.declared.progress.Progress.{Progress}
 
 -- the verb of a line that acquires or releases
 line_acquires : (g : GraphValue) (i l : ℕ) (line : Line) → slice_get g.lines i ≡ Some line → line.verb ≡ Acquire l → Acquires g i l

@@ -1,5 +1,5 @@
 -- Lists that are made line by line.
-use Rattle.std.proofs.Common.{◌≡◌, ℕ, ◌+◌, ◌<◌, ◌≤◌, ◌⊎◌, inl, inr, List, [], ◌∷◌, ◌++◌, length, map, refl, sym, ◌∙◌, ap, subst, arith}
+use Rattle.std.proofs.Common.{◌≡◌, ℕ, ◌+◌, ◌<◌, inl, inr, List, [], ◌∷◌, ◌++◌, length, map, sym, ◌∙◌, ap, subst, arith, get_or}
 use Rattle.std.specs.Prelude.{Some, slice_get}
 use Rattle.std.proofs.lemmas.Bool.{cases_lt}
 use Rattle.std.proofs.lemmas.Option.{same_Some, slice_get-get_or, slice_get_within}
@@ -12,9 +12,8 @@ use Rattle.gen_events.specs.declared.handle.Handle.{Handle}
 use Rattle.gen_events.specs.declared.handle.Answer.{Answer as EventAnswer}
 use Rattle.gen_events.specs.EventMap.{EventMap, answer}
 use Rattle.run_state.proofs.EdgesOf.{got_in}
-use Rattle.std.proofs.Common.{get_or}
 use Rattle.graph_model.specs.Graph.{GraphValue, verb_at}
-use Rattle.run_state.specs.Run.{end_so_far, stage_at}
+use Rattle.run_state.specs.Run.{end_so_far}
 use Rattle.run_core.specs.Answers.{answer_shown, phase_for, phase_of_line, AsksHandles}
 use Rattle.run_core.specs.Kept.{shown_stage}
 use Rattle.run_core.specs.declared.progress.Progress.{Progress}
@@ -50,9 +49,6 @@ answers_more handles table k old new x y s w shown asks = record {
         ap (slice_get (old ++ y ∷ [])) (same ∙ sym s.each) ∙ (last_got old y ∙ (ap (λ z. Some z) shown ∙ ap (λ z. Some (answer_shown z)) (same_Some x a (sym (asks h (ap (slice_get handles) (sym same) ∙ at)) ∙ is)))))
   ]);
 }
-
-pub answers_none : (handles : List Handle) (table : EventMap) (answers : List Answer) → answers ≡ [] → AnswersSoFar handles table 0 answers
-answers_none handles table answers e = record { each = ap length e; asked = λ i h a b at is. absurd (omega arith) }
 
 pub answers_all : (handles : List Handle) (table : EventMap) (k : ℕ) (answers : List Answer) → length handles ≡ k → AnswersSoFar handles table k answers → AsksHandles handles table answers
 answers_all handles table k answers e s = record { each = s.each ∙ sym e; asked = λ i h a at is. s.asked i h a (subst (λ n. i < n) e (slice_get_within handles i h at)) at is }

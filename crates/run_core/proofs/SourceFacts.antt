@@ -1,21 +1,18 @@
 -- What the edges into a line say of it, read one after another.
-use Rattle.std.proofs.Common.{◌≡◌, ℕ, ◌+◌, ◌<◌, ◌≤◌, Bool, true, false, cond, ◌||◌, ◌⊎◌, inl, inr, List, [], ◌∷◌, ◌++◌, length, map, take, refl, sym, ◌∙◌, ap, subst, arith, get_or}
-use Rattle.std.specs.Prelude.{◌==◌, nat_lt, not, Option, Some, None, Contains, MatchOption}
-use Rattle.std.specs.List.{list_any}
-use Rattle.std.proofs.lemmas.Bool.{true≢false, or_from, ltb-true, ltb-false, eqb-true, eq-eqb}
+use Rattle.std.proofs.Common.{◌≡◌, ℕ, ◌+◌, ◌<◌, ◌≤◌, Bool, true, false, cond, ◌⊎◌, inl, inr, List, [], ◌∷◌, ◌++◌, length, map, take, refl, sym, ◌∙◌, ap, subst, arith, get_or}
+use Rattle.std.specs.Prelude.{◌==◌, nat_lt, Option, Some, None, Contains, MatchOption}
+use Rattle.std.proofs.lemmas.Bool.{true≢false, ltb-true, ltb-false, eqb-true, eq-eqb}
 use Rattle.std.proofs.lemmas.List.{take_more, take_all, get_or-map}
-use Rattle.std.proofs.lemmas.List.Folds.{list_any_at, list_any_more}
 use Rattle.std.proofs.lemmas.List.Elements.{Contains-append_left, Contains-append_right, Contains-append_cases, Contains-get_or}
 use Rattle.graph_model.specs.declared.verb.Edge.{Edge}
 use Rattle.graph_model.specs.declared.verb.EdgeKind.TheVariants.{Passes}
-use Rattle.graph_model.specs.declared.outcome.End.{End}
 use Rattle.graph_model.specs.Graph.{GraphValue}
 use Rattle.graph_model.specs.Edges.{edges, edges_into}
 use Rattle.graph_model.specs.Evaluation.{cancels}
 use Rattle.graph_model.specs.Fits.{IsGraph}
 use Rattle.graph_model.specs.Laws.{EdgesBetweenLines}
 use Rattle.graph_model.proofs.ListFacts.{contains_cases, contains_here, contains_none, filter_contains, contains_filter}
-use Rattle.run_state.specs.Run.{LineStage, Unissued, stage_at, end_so_far, stage_ended, ended}
+use Rattle.run_state.specs.Run.{LineStage, Unissued, stage_at, end_so_far, ended}
 use Rattle.run_core.specs.Core.{WaitsFor}
 use Rattle.run_core.specs.Kept.{shown_stage}
 use Rattle.run_core.specs.Sources.{lesser}
@@ -40,9 +37,6 @@ stage_read stages j d h = sym (get_or-map shown_stage stages j d Unissued h)
 abbrev pub LeastOf : List LineStage → List Edge → Option ℕ → Type 0
 LeastOf stages es None = (e : Edge) → Contains es e → ended stages e.from ≡ true
 LeastOf stages es (Some m) = ((e : Edge) × Contains es e × (e.from ≡ m)) × (ended stages m ≡ false) × ((e : Edge) → Contains es e → ended stages e.from ≡ false → m ≤ e.from)
-
-pub least_none : (stages : List LineStage) (es : List Edge) → LeastOf stages (take 0 es) None
-least_none stages es e c = absurd (contains_none e c)
 
 last_is : (es : List Edge) (x e : Edge) → Contains (es ++ x ∷ []) e → Contains es e ⊎ (x ≡ e)
 last_is es x e c = elim (Contains-append_cases es (x ∷ []) e c) [

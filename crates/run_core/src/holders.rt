@@ -39,12 +39,7 @@ pub(crate) fn hold(graph: &Graph, line: u32, holders: &mut Vec<Option<u32>>)
 }
 
 /// Frees the reservation of a release whose acquire is done.
-pub(crate) fn free(
-    graph: &Graph,
-    line: u32,
-    stages: &[Progress],
-    holders: &mut Vec<Option<u32>>,
-)
+pub(crate) fn free(graph: &Graph, line: u32, stages: &[Progress], holders: &mut Vec<Option<u32>>)
     requires known { line < length graph.now.lines }
     requires each { (length holders.old.items ≡ length (locks graph.now)) × (length stages.now ≡ length graph.now.lines) }
     requires held { (l q : ℕ) → frees_in graph.now (map shown_stage stages.now) line ≡ Some (l, q) → list_at (map holding holders.old.items) l ≡ q ∷ [] }

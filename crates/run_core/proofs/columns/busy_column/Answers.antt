@@ -1,4 +1,4 @@
-use Rattle.std.proofs.Common.{◌<◌, ◌∙◌, sym, subst, length}
+use Rattle.std.proofs.Common.{◌<◌, ◌∙◌, sym, subst}
 use Rattle.line_effects.proofs.EffectFacts.{access_listed}
 use Rattle.run_core.specs.Kept.{places_of}
 use Rattle.run_core.proofs.ColumnFacts.{home_one, home_skip, home_all, first_out}

@@ -1,7 +1,7 @@
-use Rattle.std.proofs.Common.{◌+◌, ◌∙◌, ap, sym, subst}
+use Rattle.std.proofs.Common.{◌+◌, ◌∙◌, sym, subst}
 use Rattle.line_effects.proofs.EffectFacts.{access_listed}
 use Rattle.run_core.specs.declared.columns.Columns.{Columns}
-use Rattle.run_core.proofs.ColumnFacts.{GivenSoFar, given_one, given_skip, next_out, given_places}
+use Rattle.run_core.proofs.ColumnFacts.{GivenSoFar, given_one, given_skip, next_out}
 use Rattle.run_core.proofs.columns.give_columns.Goals as goal
 use Rattle.run_core.proofs.columns.give_columns.Goals.{in-Some, in_default}
 
@@ -32,7 +32,7 @@ loop-k-preserved c =
                 w.take-column.ensures.column w.take-column.ensures.held w.give.ensures));
           })
       | in_default w ↦ record {
-          given = subst (λ (cs : Columns). GivenSoFar g i (k + 1) old takers c.args.held cs.homes cs.takers.items c.match-access.held) (sym w.columns-is) (subst (GivenSoFar g i (k + 1) old takers c.args.held c.loop-k.columns.homes c.loop-k.columns.takers.items) (sym w.held-is)
-              (given_skip g i k old takers c.args.held c.loop-k.columns.homes c.loop-k.columns.takers.items c.loop-k.held s (sym w.in_default.ensures)));
-        }
+        given = subst (λ (cs : Columns). GivenSoFar g i (k + 1) old takers c.args.held cs.homes cs.takers.items c.match-access.held) (sym w.columns-is) (subst (GivenSoFar g i (k + 1) old takers c.args.held c.loop-k.columns.homes c.loop-k.columns.takers.items) (sym w.held-is)
+            (given_skip g i k old takers c.args.held c.loop-k.columns.homes c.loop-k.columns.takers.items c.loop-k.held s (sym w.in_default.ensures)));
+      }
     ]

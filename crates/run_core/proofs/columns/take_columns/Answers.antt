@@ -1,6 +1,4 @@
-use Rattle.std.proofs.Common.{◌≡◌, ◌<◌, ◌+◌, ◌∙◌, ap, sym, subst, List, length}
-use Rattle.index_spaces.specs.Column.{ColumnValue}
-use Rattle.graph_model.specs.Graph.{columns}
+use Rattle.std.proofs.Common.{◌<◌, ◌+◌, ◌∙◌, sym, subst}
 use Rattle.line_effects.proofs.EffectFacts.{access_listed}
 use Rattle.line_effects.proofs.MoveFacts.{is_new}
 use Rattle.run_core.specs.declared.columns.Columns.{Columns}
@@ -53,9 +51,9 @@ loop-k-preserved c =
                 w.take_column.ensures.homes w.take_column.ensures.takers w.take_column.ensures.held w.take_column.ensures.number));
           })
       | in_default w ↦ record {
-          taken = subst (λ (cs : Columns). TakenSoFar g i (k + 1) old takers cs.homes cs.takers.items c.match-access.held) (sym w.columns-is) (subst (TakenSoFar g i (k + 1) old takers c.loop-k.columns.homes c.loop-k.columns.takers.items) (sym w.held-is)
-              (taken_skip g i k old takers c.loop-k.columns.homes c.loop-k.columns.takers.items c.loop-k.held t (sym w.in_default.ensures)));
-        }
+        taken = subst (λ (cs : Columns). TakenSoFar g i (k + 1) old takers cs.homes cs.takers.items c.match-access.held) (sym w.columns-is) (subst (TakenSoFar g i (k + 1) old takers c.loop-k.columns.homes c.loop-k.columns.takers.items) (sym w.held-is)
+            (taken_skip g i k old takers c.loop-k.columns.homes c.loop-k.columns.takers.items c.loop-k.held t (sym w.in_default.ensures)));
+      }
     ]
 
 pub returns-clause-places : goal.returns-clause-places

@@ -1,4 +1,4 @@
-use Rattle.std.proofs.Common.{◌≡◌, ◌<◌, ◌∙◌, length, map, sym, subst, arith}
+use Rattle.std.proofs.Common.{◌<◌, ◌∙◌, length, map, arith}
 use Rattle.run_core.specs.Kept.{shown_stage}
 use Rattle.run_core.specs.Answers.{phase_of_line}
 use Rattle.run_core.specs.declared.progress.Progress.TheVariants.{Unissued}
