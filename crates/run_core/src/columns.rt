@@ -3,7 +3,7 @@
 ghost use Rattle.std.specs.Prelude.{◌≡◌, ◌<◌, ◌+◌, ◌⊎◌, ℕ, length, Some, None, slice_get, slice_index_or, slice_set, IsSome, MatchOption};
 ghost use Rattle.index_spaces.specs.Column.{ColumnValue};
 ghost use Rattle.index_spaces.specs.Held.{held_at, HoldsOtherwise};
-ghost use Rattle.graph_model.specs.Graph.{columns as all_columns};
+ghost use Rattle.graph_model.specs.Graph.{columns as graph_columns};
 ghost use Rattle.run_state.specs.Sound.{AccessesColumn};
 ghost use Rattle.run_state.specs.WholeLine.{column_list, all_had, all_home};
 ghost use Rattle.run_core.specs.Works.{cells_in};
@@ -53,9 +53,9 @@ impl Columns {
 /// Moves out the columns of a line.
 pub(crate) fn take_columns(graph: &Graph, line: u32, columns: &mut Columns) -> Held
     requires known { line < length graph.now.lines }
-    requires each { (length columns.old.homes ≡ length (all_columns graph.now)) × (length columns.old.takers.items ≡ length (all_columns graph.now)) }
+    requires each { (length columns.old.homes ≡ length (graph_columns graph.now)) × (length columns.old.takers.items ≡ length (graph_columns graph.now)) }
     requires home { (c : ℕ) → AccessesColumn graph.now line c → IsSome (slice_index_or columns.old.homes c None) }
-    ensures each { (length columns.new.homes ≡ length (all_columns graph.now)) × (length columns.new.takers.items ≡ length (all_columns graph.now)) }
+    ensures each { (length columns.new.homes ≡ length (graph_columns graph.now)) × (length columns.new.takers.items ≡ length (graph_columns graph.now)) }
     ensures places { places_of columns.new.homes columns.new.takers.items ≡ all_had (places_of columns.old.homes columns.old.takers.items) line (column_list graph.now line) }
     ensures kept { (c : ℕ) (x : ColumnValue) → slice_index_or columns.new.homes c None ≡ Some x → slice_index_or columns.old.homes c None ≡ Some x }
     ensures has { (c : ℕ) → AccessesColumn graph.now line c → held_at result c ≡ slice_index_or columns.old.homes c None }
@@ -91,10 +91,10 @@ fn take_column(columns: &mut Columns, held: &mut Held, c: u32, line: u32)
 /// Puts the columns of a line back at home.
 pub(crate) fn give_columns(graph: &Graph, line: u32, mut held: Held, columns: &mut Columns)
     requires known { line < length graph.now.lines }
-    requires each { (length columns.old.homes ≡ length (all_columns graph.now)) × (length columns.old.takers.items ≡ length (all_columns graph.now)) }
+    requires each { (length columns.old.homes ≡ length (graph_columns graph.now)) × (length columns.old.takers.items ≡ length (graph_columns graph.now)) }
     requires out { (c : ℕ) → AccessesColumn graph.now line c → slice_get columns.old.homes c ≡ Some None }
     requires has { (c : ℕ) → AccessesColumn graph.now line c → IsSome (held_at held c) }
-    ensures each { (length columns.new.homes ≡ length (all_columns graph.now)) × (length columns.new.takers.items ≡ length (all_columns graph.now)) }
+    ensures each { (length columns.new.homes ≡ length (graph_columns graph.now)) × (length columns.new.takers.items ≡ length (graph_columns graph.now)) }
     ensures places { places_of columns.new.homes columns.new.takers.items ≡ all_home (places_of columns.old.homes columns.old.takers.items) (cells_in held) (column_list graph.now line) }
     ensures kept { (c : ℕ) (x : ColumnValue) → slice_index_or columns.new.homes c None ≡ Some x → (slice_index_or columns.old.homes c None ≡ Some x) ⊎ (held_at held c ≡ Some x) }
 {
@@ -112,7 +112,7 @@ pub(crate) fn give_columns(graph: &Graph, line: u32, mut held: Held, columns: &m
 /// The first column of a line that is out.
 pub(crate) fn busy_column(graph: &Graph, line: u32, columns: &Columns) -> Option<u32>
     requires known { line < length graph.now.lines }
-    requires each { (length columns.now.homes ≡ length (all_columns graph.now)) × (length columns.now.takers.items ≡ length (all_columns graph.now)) }
+    requires each { (length columns.now.homes ≡ length (graph_columns graph.now)) × (length columns.now.takers.items ≡ length (graph_columns graph.now)) }
     ensures { MatchOption result (HasColumns graph.now (places_of columns.now.homes columns.now.takers.items) line) (IsFirstOut graph.now (places_of columns.now.homes columns.now.takers.items) line) }
 {
     accesses_fit();
