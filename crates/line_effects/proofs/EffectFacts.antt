@@ -128,6 +128,12 @@ access_moved g i k c h = by_access (slice_get (accesses g i) k) refl (sym (slice
     by_access None e m = absurd (none-some c m)
     by_access (Some a) e m = (a, e, same_Some a.column c m)
 
+-- a line moves no column twice
+pub moves_apart : ColumnsDiffer → (g : GraphValue) → IsGraph g → (i j m x y : ℕ) → j < m → slice_get (moves g i) j ≡ Some x → slice_get (moves g i) m ≡ Some y → x ≢ y
+moves_apart differ g is i j m x y b p q =
+    let a = access_moved g i j x p in let c = access_moved g i m y q in
+    λ e. differ g i j m a.0 c.0 is b a.1 c.1 (a.2 ∙ (e ∙ sym c.2))
+
 -- a kernel may run on the columns of its line
 pub fits_held : AccessesFit → ColumnsDiffer → (g : GraphValue) → IsGraph g → (i : ℕ) (l : Line) (k : Kernel) (cells : Cells) (held : List (ℕ × ColumnValue)) → slice_get g.lines i ≡ Some l → l.verb ≡ Task k → HeldShow g cells held →
     ((j c : ℕ) → slice_get (moves g i) j ≡ Some c → IsSome (held_at held c)) → FitsHeld g held k
@@ -137,10 +143,5 @@ fits_held law differ g is i l k cells held h e shown moved =
       declared = λ a c. (law g i a is (subst (λ xs. Contains xs a) (sym same) c)).space;
       columns = λ a c. (let listed = subst (λ xs. Contains xs a) (sym same) c in
           over g cells held a (space_at g a.space) shown (moved listed.0 a.column (move_at g i listed.0 a (slice_get-get_or (accesses g i) listed.0 a listed.1 ∙ ap (λ x. Some x) listed.2))) (law g i a is listed) refl);
-      distinct = subst (λ xs. repeats nat_eq (map (λ (a : Access). a.column) xs) ≡ false) same (none_repeats (moves g i) (λ j m x y b p q. apart_moves differ g is i j m x y b p q));
+      distinct = subst (λ xs. repeats nat_eq (map (λ (a : Access). a.column) xs) ≡ false) same (none_repeats (moves g i) (λ j m x y b p q. moves_apart differ g is i j m x y b p q));
     }
-  where
-    apart_moves : ColumnsDiffer → (g : GraphValue) → IsGraph g → (i j m x y : ℕ) → j < m → slice_get (moves g i) j ≡ Some x → slice_get (moves g i) m ≡ Some y → x ≢ y
-    apart_moves differ g is i j m x y b p q =
-        let a = access_moved g i j x p in let c = access_moved g i m y q in
-        λ e. differ g i j m a.0 c.0 is b a.1 c.1 (a.2 ∙ (e ∙ sym c.2))

@@ -1,2 +1,3 @@
 pub mod EffectFacts
 pub mod MadeFacts
+pub mod MoveFacts

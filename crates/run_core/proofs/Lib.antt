@@ -9,3 +9,8 @@ pub mod FindFacts
 pub mod PerformFacts
 pub mod MarkFacts
 pub mod IssueFacts
+pub mod SourceFacts
+pub mod ListsOfLines
+pub mod PhaseFacts
+pub mod HolderFacts
+pub mod ColumnFacts

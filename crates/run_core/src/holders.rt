@@ -9,6 +9,7 @@ ghost use Rattle.run_core.specs.Kept.{holding, shown_stage, frees_in};
 ghost use Rattle.run_core.specs.Steps.{HasLock};
 
 use crate::progress::Progress;
+use crate::sources::end_of;
 use graph_model::graph::Graph;
 use graph_model::outcome::End;
 use graph_model::verb::Verb;
@@ -38,12 +39,7 @@ pub(crate) fn hold(graph: &Graph, line: u32, holders: &mut Vec<Option<u32>>)
 }
 
 /// Frees the reservation of a release whose acquire is done.
-pub(crate) fn free(
-    graph: &Graph,
-    line: u32,
-    stages: &[Progress],
-    holders: &mut Vec<Option<u32>>,
-)
+pub(crate) fn free(graph: &Graph, line: u32, stages: &[Progress], holders: &mut Vec<Option<u32>>)
     requires known { line < length graph.now.lines }
     requires each { (length holders.old.items ≡ length (locks graph.now)) × (length stages.now ≡ length graph.now.lines) }
     requires held { (l q : ℕ) → frees_in graph.now (map shown_stage stages.now) line ≡ Some (l, q) → list_at (map holding holders.old.items) l ≡ q ∷ [] }
@@ -52,9 +48,9 @@ pub(crate) fn free(
     let Verb::Release { acquire } = &graph.line(line).verb else {
         return;
     };
-    if stages[*acquire as usize] != Progress::Ended(End::Done) {
+    let End::Done = end_of(stages[*acquire as usize]) else {
         return;
-    }
+    };
     if let Verb::Acquire { lock } = &graph.line(*acquire).verb {
         holders[*lock as usize] = None;
     }

@@ -8,6 +8,7 @@ ghost use Rattle.run_core.specs.Kept.{arrival_of};
 
 use crate::room::{push_within, with_room};
 use graph_model::graph::Graph;
+use graph_model::laws::edges_between_lines;
 use graph_model::line_laws::phases_fit;
 use graph_model::verb::Verb;
 use index_spaces::{NoMemory, Op};
@@ -43,12 +44,11 @@ pub(crate) fn arrive(graph: &Graph, line: u32, values: &mut Vec<u64>)
     requires each { length values.old.items ≡ length graph.now.lines }
     ensures { values.new.items ≡ values_with values.old.items (arrival_of graph.now line) }
 {
+    edges_between_lines();
     if let Verb::Arrive { phase, value } = &graph.line(line).verb {
         let place = *phase as usize;
-        if place < values.len() {
-            let op = phase_op(graph, *phase);
-            values[place] = combined(op, values[place], *value);
-        }
+        let op = phase_op(graph, *phase);
+        values[place] = combined(op, values[place], *value);
     }
 }
 

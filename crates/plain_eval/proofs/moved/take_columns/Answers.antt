@@ -2,7 +2,8 @@ use Rattle.std.proofs.Common.{◌<◌, ◌+◌, sym, subst, ◌∙◌, arith}
 use Rattle.std.specs.Prelude.{slice_index_or, None}
 use Rattle.plain_eval.specs.Moved.{AreParted}
 use Rattle.line_effects.proofs.EffectFacts.{access_listed, move_at}
-use Rattle.plain_eval.proofs.MovedFacts.{HeldSoFar, parted_none, parted_take, is_home, is_new, so_far_none, so_far_take, so_far_skip, move_none, few_moves}
+use Rattle.line_effects.proofs.MoveFacts.{HeldSoFar, is_new, so_far_none, so_far_take, so_far_skip, move_none, few_moves}
+use Rattle.plain_eval.proofs.MovedFacts.{parted_none, parted_take, is_home}
 use Rattle.plain_eval.proofs.moved.take_columns.Goals as goal
 use Rattle.plain_eval.proofs.moved.take_columns.Goals.{in-Some, in_default}
 

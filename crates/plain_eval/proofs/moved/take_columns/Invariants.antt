@@ -2,7 +2,7 @@ use Rattle.std.proofs.Common.{◌≡◌}
 use Rattle.graph_model.specs.Effect.{Cells}
 use Rattle.instances.specs.Homes.{all_home}
 use Rattle.plain_eval.specs.Moved.{AreParted}
-use Rattle.plain_eval.proofs.MovedFacts.{HeldSoFar}
+use Rattle.line_effects.proofs.MoveFacts.{HeldSoFar}
 use Rattle.plain_eval.proofs.moved.take_columns.Given as goal
 
 abbrev pub invariant-loop-k : goal.invariant-loop-k

@@ -1,10 +1,7 @@
-use Rattle.std.proofs.Common.{rules, ◌≡◌, ◌<◌, length, map, IfOk, ℕ, ◌+◌, ◌-◌, ◌*◌, ◌≤◌, ◌/◌, ◌%◌, Bool, true, false, nat_eq, nat_lt, List, [], ◌∷◌, ◌++◌, slice_index_or, slice_set, bit_and, bit_or, Fits, w8, w32, w64, Bor, MutBor}
-use Rattle.index_spaces.specs.Space.{numbers_below}
-use Rattle.run_state.specs.Start.{first_value}
-use Rattle.run_state.specs.WholeLine.{values_with, phase_op}
-use Rattle.run_core.specs.Kept.{arrival_of}
+use Rattle.std.proofs.Common.{◌∙◌, ap}
+use Rattle.std.specs.Prelude.{Some}
+use Rattle.line_effects.proofs.EffectFacts.{verb_is}
 use Rattle.run_core.proofs.phases.phase_op.Goals as goal
 
--- src/phases.rt:62:36
 pub barrier-requires : goal.barrier-requires
-barrier-requires c = ?
+barrier-requires c = c.phases_fit.ensures c.args.graph.now c.args.phase c.in-Phase.barrier c.line.ensures.is_graph (verb_is c.args.graph.now c.args.phase c.line.result.now c.line.ensures.line ∙ ap (λ v. Some v) c.in-Phase.is)

@@ -1,26 +1,28 @@
-use Rattle.std.proofs.Common.{rules, ◌≡◌, ◌<◌, List, length, map, nat_lt, cond, Option, Some, None, MatchOption, ℕ, ◌+◌, ◌-◌, ◌*◌, ◌≤◌, ◌/◌, ◌%◌, Bool, true, false, nat_eq, [], ◌∷◌, ◌++◌, slice_index_or, slice_set, bit_and, bit_or, Fits, w8, w32, w64, Bor, MutBor}
-use Rattle.std.specs.List.{list_any}
-use Rattle.graph_model.specs.declared.verb.Edge.{Edge as TheEdge}
-use Rattle.graph_model.specs.Edges.{edges_into}
-use Rattle.graph_model.specs.Evaluation.{cancels}
-use Rattle.run_state.specs.Run.{end_so_far, stage_at, stage_ended}
+use Rattle.std.proofs.Common.{◌<◌, ◌+◌, sym, ◌∙◌, ap, subst, length, get_or, map, take}
+use Rattle.std.specs.Prelude.{Some}
+use Rattle.run_state.specs.Run.{stage_ended}
 use Rattle.run_core.specs.Kept.{shown_stage}
-use Rattle.run_core.specs.Steps.{HasSources, IsLeastLeft}
-use Rattle.run_core.specs.Sources.{lesser}
+use Rattle.run_core.specs.declared.progress.Progress.TheVariants.{Unissued}
+use Rattle.run_core.proofs.SourceFacts.{LeastOf, no_edge, source_known, stage_read, least_passed, least_found, least_is}
 use Rattle.run_core.proofs.sources.least_left.Goals as goal
+use Rattle.run_core.proofs.sources.least_left.Goals.{then-not-has_ended, else-not-has_ended}
 
--- src/sources.rt:28:5
-pub loop-edge-init : goal.loop-edge-init
-loop-edge-init c = ?
-
--- src/sources.rt:29:23
 pub bounds-stages-edge : goal.bounds-stages-edge
-bounds-stages-edge c = ?
+bounds-stages-edge c =
+    let es = c.edges_into-edge-items.result.now in
+    subst (λ n. (get_or es c.loop-edge.edge-index no_edge).from < n) (sym c.requires.each) (source_known c.edges_between_lines.ensures c.args.graph.now c.lines.ensures.is_graph c.args.line c.loop-edge.edge-index es no_edge c.edges_into-edge-items.ensures c.loop-edge-test.true)
 
--- src/sources.rt:28:5
 pub loop-edge-preserved : goal.loop-edge-preserved
-loop-edge-preserved c = ?
+loop-edge-preserved c =
+    let es = c.edges_into-edge-items.result.now in
+    let k = c.loop-edge.edge-index in
+    let stages = map shown_stage c.args.stages.now in
+    let known : (get_or es k no_edge).from < length c.args.stages.now = subst (λ n. (get_or es k no_edge).from < n) (sym c.requires.each) (source_known c.edges_between_lines.ensures c.args.graph.now c.lines.ensures.is_graph c.args.line k es no_edge c.edges_into-edge-items.ensures c.loop-edge-test.true) in
+    let is = ap stage_ended (sym (stage_read c.args.stages.now (get_or es k no_edge).from Unissued known)) ∙ sym c.has_ended.ensures in
+    elim c.if-not-has_ended.branch [
+      | then-not-has_ended w ↦ record { so_far = subst (LeastOf stages (take (k + 1) es)) (sym (w.least-is ∙ ap Some w.lesser.ensures)) (least_found stages es k no_edge c.loop-edge.least c.loop-edge-test.true (is ∙ w.if-not-has_ended.true) c.loop-edge.invariant.so_far) }
+      | else-not-has_ended w ↦ record { so_far = subst (LeastOf stages (take (k + 1) es)) (sym w.least-is) (least_passed stages es k no_edge c.loop-edge.least c.loop-edge-test.true (is ∙ w.if-not-has_ended.false) c.loop-edge.invariant.so_far) }
+    ]
 
--- src/sources.rt:20:1
 pub returns : goal.returns
-returns c = ?
+returns c = least_is c.args.graph.now (map shown_stage c.args.stages.now) c.args.line c.loop-edge.edge-index c.edges_into-edge-items.result.now c.loop-edge.least c.edges_into-edge-items.ensures c.loop-edge-test.false c.loop-edge.invariant.so_far

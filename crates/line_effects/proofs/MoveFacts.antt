@@ -1,0 +1,115 @@
+-- The columns of a line, held one after another.
+use Rattle.std.proofs.Common.{◌≡◌, ℕ, ◌+◌, ◌<◌, ◌≤◌, true, ◌⊎◌, inl, inr, List, [], length, refl, sym, ◌∙◌, ap, subst, arith}
+use Rattle.std.specs.Prelude.{Option, Some, None, IsSome, is_some, slice_get, option_map, Contains}
+use Rattle.std.specs.Option.{option_map_or}
+use Rattle.std.proofs.lemmas.Bool.{false≢true, cases_eq, cases_lt}
+use Rattle.std.proofs.lemmas.Option.{none-some, same_Some, slice_get-get_or, slice_get-map, slice_get_within}
+use Rattle.std.proofs.lemmas.List.{length-map}
+use Rattle.index_spaces.specs.Column.{ColumnValue}
+use Rattle.index_spaces.specs.Held.{held_at, HoldsOtherwise}
+use Rattle.graph_model.specs.declared.verb.Access.{Access}
+use Rattle.graph_model.specs.declared.verb.Kernel.TheVariants.{Iota, Axpy, Stencil, Scan, Hist, Dot, Expect, Gather}
+use Rattle.graph_model.specs.declared.verb.Verb.{Verb}
+use Rattle.graph_model.specs.declared.verb.Verb.TheVariants.{User, Trigger, Cancel, Merge, MergeIgnore, Phase, Arrive, Acquire, Release, Fill, Copy, Reduce, Task}
+use Rattle.graph_model.specs.Fits.{IsGraph}
+use Rattle.graph_model.specs.LineLaws.{ColumnsDiffer}
+use Rattle.graph_model.specs.Graph.{GraphValue, verb_at}
+use Rattle.graph_model.specs.Access.{accesses, verb_accesses}
+use Rattle.line_effects.specs.Moved.{moves}
+use Rattle.line_effects.proofs.EffectFacts.{access_moved, move_at}
+
+-- the columns of the accesses so far are held, and no others
+pub record HeldSoFar (g : GraphValue) (i k : ℕ) (held : List (ℕ × ColumnValue)) : Type 0 where
+  pub each : (j c : ℕ) → j < k → slice_get (moves g i) j ≡ Some c → IsSome (held_at held c)
+  pub only : (c : ℕ) → is_some (held_at held c) ≡ true → (j : ℕ) × (j < k) × (slice_get (moves g i) j ≡ Some c)
+  pub few : length held ≤ k
+
+pub so_far_none : (g : GraphValue) (i : ℕ) (held : List (ℕ × ColumnValue)) → held ≡ [] → HeldSoFar g i 0 held
+so_far_none g i held n = record {
+  each = λ j c b h. absurd (omega arith);
+  only = λ c h. absurd (false≢true (ap (λ x. is_some (held_at x c)) (sym n) ∙ h));
+  few = (let z : length held ≡ 0 = ap length n in omega arith);
+}
+
+-- a list of numbers up to the one before, and that one
+up_to : (j k : ℕ) → j < k + 1 → (j < k) ⊎ (j ≡ k)
+up_to j k h = elim (cases_lt j k) [ inl l ↦ inl l | inr m ↦ inr (omega arith) ]
+
+pub so_far_take : (g : GraphValue) (i k : ℕ) (held more : List (ℕ × ColumnValue)) (c : ℕ) (column : Option ColumnValue) → HeldSoFar g i k held → slice_get (moves g i) k ≡ Some c → IsSome column → HoldsOtherwise held more c column → length more ≡ length held + 1 → HeldSoFar g i (k + 1) more
+so_far_take g i k held more c column s at some o n =
+    let here : IsSome (held_at more c) = subst IsSome (sym o.here) some in
+    record {
+      each = λ j d b h. (elim (cases_eq d c) [
+        | inl same ↦ subst (λ x. IsSome (held_at more x)) (sym same) here
+        | inr other ↦ (elim (up_to j k b) [
+          | inl before ↦ subst IsSome (sym (o.others d other)) (s.each j d before h)
+          | inr last ↦ absurd (other (same_Some d c (sym h ∙ (ap (slice_get (moves g i)) last ∙ at))))
+        ])
+      ]);
+      only = λ d h. (elim (cases_eq d c) [
+        | inl same ↦ (k, (let z : k < k + 1 = omega arith in z), at ∙ ap (λ x. Some x) (sym same))
+        | inr other ↦ (let r = s.only d (ap is_some (sym (o.others d other)) ∙ h) in (r.0, (let b : r.0 < k = r.1 in let z : r.0 < k + 1 = omega arith in z), r.2))
+      ]);
+      few = (let f = s.few in omega (arith, f, n));
+    }
+
+pub so_far_skip : (g : GraphValue) (i k : ℕ) (held : List (ℕ × ColumnValue)) → HeldSoFar g i k held → slice_get (moves g i) k ≡ None → HeldSoFar g i (k + 1) held
+so_far_skip g i k held s none = record {
+  each = λ j d b h. (elim (up_to j k b) [ inl before ↦ s.each j d before h | inr last ↦ absurd (none-some d (sym (sym h ∙ (ap (slice_get (moves g i)) last ∙ none)))) ]);
+  only = λ d h. (let r = s.only d h in (r.0, (let b : r.0 < k = r.1 in let z : r.0 < k + 1 = omega arith in z), r.2));
+  few = (let f = s.few in omega (arith, f));
+}
+
+pub move_none : (g : GraphValue) (i k : ℕ) → slice_get (accesses g i) k ≡ None → slice_get (moves g i) k ≡ None
+move_none g i k h = slice_get-map (λ (x : Access). x.column) (accesses g i) k ∙ ap (option_map (λ (x : Access). x.column)) h
+
+-- the column of the next access is not held yet
+pub is_new : ColumnsDiffer → (g : GraphValue) → IsGraph g → (i k : ℕ) (a : Access) (held : List (ℕ × ColumnValue)) → HeldSoFar g i k held → slice_get (accesses g i) k ≡ Some a → held_at held a.column ≡ None
+is_new law g is i k a held s at = none_when (held_at held a.column) (λ some. (let r = s.only a.column some in let b = access_moved g i r.0 a.column r.2 in law g i r.0 k b.0 a is r.1 b.1 at b.2))
+  where
+    none_when : (o : Option ColumnValue) → (is_some o ≡ true → ⊥) → o ≡ None
+    none_when None n = refl
+    none_when (Some x) n = absurd (n refl)
+
+-- a line moves at most three columns
+few_accesses : (v : Verb) → length (verb_accesses v) ≤ 3
+few_accesses User = omega arith
+few_accesses (Trigger u) = omega arith
+few_accesses (Cancel u) = omega arith
+few_accesses (Merge es) = omega arith
+few_accesses (MergeIgnore es) = omega arith
+few_accesses (Phase b) = omega arith
+few_accesses (Arrive q v) = omega arith
+few_accesses (Acquire l) = omega arith
+few_accesses (Release q) = omega arith
+few_accesses (Fill t s v) = omega arith
+few_accesses (Copy a b s) = omega arith
+few_accesses (Reduce o a b s) = omega arith
+few_accesses (Task (Iota x s v)) = omega arith
+few_accesses (Task (Axpy x y s v)) = omega arith
+few_accesses (Task (Stencil x y r s)) = omega arith
+few_accesses (Task (Scan x y s)) = omega arith
+few_accesses (Task (Hist x y s t)) = omega arith
+few_accesses (Task (Dot x y z s t)) = omega arith
+few_accesses (Task (Expect x s l h)) = omega arith
+few_accesses (Task (Gather x y z s t)) = omega arith
+
+few_of : (o : Option Verb) → length (option_map_or verb_accesses o []) ≤ 3
+few_of None = omega arith
+few_of (Some v) = few_accesses v
+
+pub moves_few : (g : GraphValue) (i : ℕ) → length (moves g i) ≤ 3
+moves_few g i =
+    let same : length (moves g i) ≡ length (accesses g i) = length-map (accesses g i) (λ (x : Access). x.column) in
+    let few : length (accesses g i) ≤ 3 = few_of (verb_at g i) in
+    omega arith
+
+pub few_moves : (g : GraphValue) (i k c : ℕ) → slice_get (moves g i) k ≡ Some c → k < 3
+few_moves g i k c h =
+    let within : k < length (moves g i) = slice_get_within (moves g i) k c h in
+    let few = moves_few g i in
+    omega (arith, within, few)
+
+-- the column of an access is moved
+pub move_of : (g : GraphValue) (i : ℕ) (a : Access) → Contains (accesses g i) a → (k : ℕ) × (slice_get (moves g i) k ≡ Some a.column)
+move_of g i a m = (m.0, move_at g i m.0 a (slice_get-get_or (accesses g i) m.0 a m.1 ∙ ap (λ x. Some x) m.2))
