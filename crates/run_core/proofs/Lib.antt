@@ -8,3 +8,5 @@ pub mod EndedFacts
 pub mod FindFacts
 pub mod MarkFacts
 pub mod IssueFacts
+pub mod SlotFacts
+pub mod FinishFacts
