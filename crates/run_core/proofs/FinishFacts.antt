@@ -168,7 +168,7 @@ goes_out old mid w takes = elim (cancelled_or_not (eval_end old.graph w.line)) [
       slots = ap (λ (c : CoreValue). length c.table.slots) is;
     }
 
-module _ (old mid new : CoreValue) (w : WorkValue) (f : FinishedValue) (core : IsCore old) (nothing : NothingOut old) (i : ℕ) (near : i < length old.graph.lines) (this : w.line ≡ i) (takes : Takes old mid w) (same : f.line ≡ w.line) (put : new ≡ with_end mid f) where
+module _ (old mid new : CoreValue) (w : WorkValue) (f : FinishedValue) (core : IsCore mid) (nothing : NothingOut old) (i : ℕ) (near : i < length old.graph.lines) (this : w.line ≡ i) (takes : Takes old mid w) (same : f.line ≡ w.line) (put : new ≡ with_end mid f) where
   gone : GoesOut old mid w.line
   gone = goes_out old mid w takes
 
@@ -187,7 +187,10 @@ module _ (old mid new : CoreValue) (w : WorkValue) (f : FinishedValue) (core : I
   was_issued = ap (stage_at old.run.stages) (sym this) ∙ takes.due.is_issued
 
   within : i < length old.run.stages
-  within = line_near old core i (ap stage_issued was_issued)
+  within =
+      let out_near : w.line < length mid.run.stages = line_near mid core w.line (ap stage_issued takes.work.is_out) in
+      let long : length mid.run.stages ≡ length old.run.stages = ap length gone.stages ∙ length-set old.run.stages w.line Out in
+      omega (arith, out_near, long, this)
 
   less : left_in (slice_set old.run.stages i (Ended f.ends)) (length old.graph.lines) < left_to_do old
   less = less_by_end old.run.stages i (Ended f.ends) within refl refl (ap stage_ended was_issued) (length old.graph.lines) near refl
@@ -224,3 +227,10 @@ module _ (old new : CoreValue) (h : Handle) (core : IsCore old) (nothing : Nothi
   issued_goes = goes_by_stages old new (ap (λ (c : CoreValue). c.graph) is) (ap (λ (c : CoreValue). length c.table.slots) is ∙ length-set old.table.slots h.slot _) (slice_set old.run.stages (length old.handles) Issued) (ap (λ (c : CoreValue). c.run.stages) is)
       (none_out_after old.run.stages (length old.handles) Issued place refl refl (ap stage_ended was_unissued) nothing)
       (let l : left_in (slice_set old.run.stages (length old.handles) Issued) (length old.graph.lines) < left_to_do old = issue_less in omega (arith, l))
+
+-- A SCAN. So far nothing moved, and none of the first lines can be taken, or less is left
+pub record Scanned (old new : CoreValue) (moved : Bool) (line : ℕ) : Type 0 where
+  pub goes_on : GoesOn old new
+  pub is_less : moved ≡ true → left_to_do new < left_to_do old
+  pub still : moved ≡ false → IsStill old new
+  pub none : moved ≡ false → (i : ℕ) → i < line → CanTake new.graph new.run i → ⊥
