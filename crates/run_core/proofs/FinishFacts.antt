@@ -25,6 +25,8 @@ use Rattle.run_core.specs.Steps.{with_issue, IsLeft, IsLeastLeft, IsDue, HasLock
 use Rattle.run_core.specs.Finishing.{NothingOut, left_to_do, GoesOn, IsStill}
 use Rattle.run_core.specs.declared.answers.Attempt.{Attempt}
 use Rattle.run_core.specs.declared.answers.Attempt.TheVariants as attempts
+use Rattle.run_core.specs.declared.answers.Issue.{Issue}
+use Rattle.run_core.specs.declared.answers.Issue.TheVariants as issues
 use Rattle.run_core.specs.declared.answers.Thing.{Thing}
 use Rattle.run_core.specs.declared.answers.Thing.TheVariants as things
 use Rattle.run_core.proofs.CoreFacts.{may_issue, line_near}
@@ -234,3 +236,77 @@ pub record Scanned (old new : CoreValue) (moved : Bool) (line : ℕ) : Type 0 wh
   pub is_less : moved ≡ true → left_to_do new < left_to_do old
   pub still : moved ≡ false → IsStill old new
   pub none : moved ≡ false → (i : ℕ) → i < line → CanTake new.graph new.run i → ⊥
+
+pub scan_moved : (old now ran after : CoreValue) (moved : Bool) (line n : ℕ) → Scanned old now moved line → GoesOn now ran → left_to_do ran < left_to_do now → GoesOn ran after → Scanned old after true n
+scan_moved old now ran after moved line n so_far goes less follows = record {
+  goes_on = goes_further old now after so_far.goes_on (goes_further now ran after goes follows);
+  is_less = λ _. (let one : left_to_do after ≤ left_to_do ran = follows.left in let other : left_to_do now ≤ left_to_do old = so_far.goes_on.left in let l : left_to_do ran < left_to_do now = less in omega (arith, one, other, l));
+  still = λ e. absurd (true≢false e);
+  none = λ e. absurd (true≢false e);
+}
+
+taken_back : (g h : GraphValue) (run after : Run) (i : ℕ) → h ≡ g → after ≡ run → CanTake h after i → CanTake g run i
+taken_back g h run after i same runs can = subst (λ k. CanTake k run i) same (subst (λ r. CanTake h r i) runs can)
+
+lt_unless : (i n : ℕ) → i < n + 1 → i ≢ n → i < n
+lt_unless i n l ne = elim (cases_lt i n) [ inl b ↦ b | inr a ↦ absurd (ne (let z : i ≡ n = omega (arith, a, l) in z)) ]
+
+pub scan_stays : (old now ran : CoreValue) (moved : Bool) (line : ℕ) → Scanned old now moved line → GoesOn now ran → IsStill now ran → (CanTake now.graph now.run line → ⊥) → Scanned old ran moved (line + 1)
+scan_stays old now ran moved line so_far goes still refused = record {
+  goes_on = goes_further old now ran so_far.goes_on goes;
+  is_less = λ e. (let one : left_to_do ran ≤ left_to_do now = goes.left in let other : left_to_do now < left_to_do old = so_far.is_less e in omega (arith, one, other));
+  still = λ e. still_further old now ran (so_far.still e) still;
+  none = λ e i l can. (
+      let before : CanTake now.graph now.run i = taken_back now.graph ran.graph now.run ran.run i still.graph still.run can in
+      elim (cases_eq i line) [
+        | inl same ↦ refused (subst (CanTake now.graph now.run) same before)
+        | inr other ↦ so_far.none e i (lt_unless i line l other) before
+      ]);
+}
+
+pub scan_begins : (c : CoreValue) → NothingOut c → Scanned c c false 0
+scan_begins c nothing = record {
+  goes_on = goes_nowhere c nothing;
+  is_less = λ e. absurd (true≢false (sym e));
+  still = λ _. is_still c;
+  none = λ e i l. absurd (omega (arith, l));
+}
+
+pub scan_ends : (old now : CoreValue) (moved : Bool) (line : ℕ) → IsCore now → Scanned old now moved line → length old.graph.lines ≤ line → moved ≡ false → IsStill old now × ((i : ℕ) → CanTake now.graph now.run i → ⊥)
+scan_ends old now moved line core so_far all e = (so_far.still e, λ i can. so_far.none e i (
+    let near : i < length now.run.stages = line_near now core i (ap stage_issued can.is_issued) in
+    let each : length now.run.stages ≡ length now.graph.lines = core.sound.on_lines.each_line in
+    let graph : length now.graph.lines ≡ length old.graph.lines = ap (λ (g : GraphValue). length g.lines) so_far.goes_on.graph in
+    omega (arith, near, each, graph, all)) can)
+
+-- WHERE NO LINE WAS ISSUED
+pub kept_by_issue : (old new : CoreValue) (a : Issue) → Issues old new a → ((i : ℕ) → a ≢ issues.Issued i) → new ≡ old
+kept_by_issue old new (issues.Issued i) h none = absurd (none i refl)
+kept_by_issue old new issues.NoSlot h none = h.2
+kept_by_issue old new issues.All h none = h.1
+kept_by_issue old new issues.Other h none = absurd h
+
+all_quiet : (c : CoreValue) → IsCore c → NothingOut c → ((i : ℕ) → CanTake c.graph c.run i → ⊥) → length c.handles ≡ length c.graph.lines → Quiet c.graph c.run
+all_quiet c core nothing none all = record {
+  all_issued = λ i l. (core.events.each_issued i).1 (omega (arith, l, all));
+  none_out = nothing;
+  none_ending = core.at_rest.none_ending;
+  none_taken = none;
+}
+
+quiet_then : (g h : GraphValue) (run after : Run) → h ≡ g → after ≡ run → Quiet g run → Quiet h after
+quiet_then g h run after same runs quiet = subst (λ k. Quiet k after) (sym same) (subst (λ r. Quiet g r) (sym runs) quiet)
+
+quiet_by : (old new : CoreValue) (a : Issue) → IsCore old → NothingOut old → (IsLeft old → IsFull old.table → ⊥) → ((i : ℕ) → CanTake old.graph old.run i → ⊥) → Issues old new a → ((i : ℕ) → a ≢ issues.Issued i) → Quiet old.graph old.run
+quiet_by old new (issues.Issued i) core nothing free none h other = absurd (other i refl)
+quiet_by old new issues.NoSlot core nothing free none h other = absurd (free h.0 h.1)
+quiet_by old new issues.All core nothing free none h other = all_quiet old core nothing none h.0
+quiet_by old new issues.Other core nothing free none h other = absurd h
+
+pub quiet_after : (old mid new : CoreValue) (a : Issue) → IsCore old → NothingOut old → (NothingOut old → ((i : ℕ) → CanTake old.graph old.run i → ⊥) → IsLeft old → IsFull old.table → ⊥) → Issues old mid a → ((i : ℕ) → a ≢ issues.Issued i) →
+    IsStill mid new → ((i : ℕ) → CanTake new.graph new.run i → ⊥) → Quiet new.graph new.run
+quiet_after old mid new a core nothing free h other still none =
+    let same : mid ≡ old = kept_by_issue old mid a h other in
+    let kept : IsStill old new = subst (λ (c : CoreValue). IsStill c new) same still in
+    let not_yet : (i : ℕ) → CanTake old.graph old.run i → ⊥ = λ i can. none i (taken_back new.graph old.graph new.run old.run i (sym kept.graph) (sym kept.run) can) in
+    quiet_then old.graph new.graph old.run new.run kept.graph kept.run (quiet_by old mid a core nothing (free nothing not_yet) not_yet h other)
