@@ -14,3 +14,5 @@ pub mod ListsOfLines
 pub mod PhaseFacts
 pub mod HolderFacts
 pub mod ColumnFacts
+pub mod SlotFacts
+pub mod FinishFacts

@@ -98,6 +98,7 @@ pub record StandsBy (old new : CoreValue) (i j : ℕ) : Type 0 where
   pub placed : (h : Handle) → slice_get old.handles j ≡ Some h → IsFree old.table i → new ≡ record old { table = placed_on old.table h i }
   pub unissued : slice_get old.handles j ≡ None → new ≡ old
   pub busy : (IsFree old.table i → ⊥) → new ≡ old
+  pub either : (new ≡ old) ⊎ ((h : Handle) × (slice_get old.handles j ≡ Some h) × (new ≡ record old { table = placed_on old.table h i }))
 
 -- the line is out, and this is its work. One that is cancelled takes nothing
 abbrev pub with_run : CoreValue → Run → CoreValue

@@ -29,6 +29,8 @@ impl<'g> Core<'g> {
         ensures moved { result ≡ true → left_to_do self.new < left_to_do self.old }
         ensures unmoved { result ≡ false → Quiet self.new.graph self.new.run }
     {
+        self.is_sound();
+        self.slots_suffice();
         match self.issue() {
             Issue::Issued(line) => {
                 self.start(line);
@@ -80,6 +82,7 @@ impl<'g> Core<'g> {
                 self.follow_woken();
             }
         }
+        self.is_sound();
         moved
     }
 

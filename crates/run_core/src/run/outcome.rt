@@ -62,11 +62,11 @@ impl<'g> Core<'g> {
     /// which they ended as the trace. Each answer is asked of the line's handle.
     pub fn outcome(self) -> Outcome
         requires quiet { Quiet self.graph self.run }
-        ensures outcome { result ≡ outcome self.graph result.trace }
-        ensures lawful { IsLawful self.graph result.trace }
-        ensures times { ByTimes self.run result.trace }
-        ensures asked { AsksHandles self.handles self.table result.answers }
-        ensures lines { (k i : ℕ) → slice_get result.trace k ≡ Some i → i < length self.graph.lines }
+        ensures outcome { result ≡ outcome self.entry.graph result.trace }
+        ensures lawful { IsLawful self.entry.graph result.trace }
+        ensures times { ByTimes self.entry.run result.trace }
+        ensures asked { AsksHandles self.entry.handles self.entry.table result.answers }
+        ensures lines { (k i : ℕ) → slice_get result.trace k ≡ Some i → i < length self.entry.graph.lines }
     {
         let Core {
             checked,

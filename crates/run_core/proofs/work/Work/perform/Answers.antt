@@ -34,5 +34,10 @@ pub returns-clause-finished : goal.returns-clause-finished
 returns-clause-finished c = λ core is_core graph is. (elim c.if-is_cancelled.branch [
   | then-is_cancelled w ↦ subst (λ (h : List (ℕ × ColumnValue)). IsFinished core (finished_with c.self.inside.line c.if-is_cancelled.end h)) (sym w.held-is) (subst (λ (x : End). IsFinished core (finished_with c.self.inside.line x c.self.inside.held)) (sym w.end-is)
       (cancelled_finished core _ (subst (IsWork core) (sym c.self.view_is) is) w.if-is_cancelled.true))
-  | else-is_cancelled w ↦ ?
+  | else-is_cancelled w ↦
+      let work = subst (IsWork core) (sym c.self.view_is) is in
+      let made = w.apply.ensures.effect (cells_now core.graph core.run) (subst (λ (g : GraphValue). HeldShow g (cells_now core.graph core.run) c.self.inside.held) graph (work_shows core _ work w.if-is_cancelled.false)) in
+      let made_here = subst (λ (g : GraphValue). (w.apply.result ≡ (effect g c.self.inside.line (cells_now core.graph core.run)).verdict) × HeldShow g (cells_after (cells_now core.graph core.run) (effect g c.self.inside.line (cells_now core.graph core.run)).changes) w.apply.new.held) (sym graph) made in
+      subst (λ (h : List (ℕ × ColumnValue)). IsFinished core (finished_with c.self.inside.line c.if-is_cancelled.end h)) (sym w.held-is) (subst (λ (x : End). IsFinished core (finished_with c.self.inside.line x w.apply.new.held)) (sym (w.end-is ∙ w.end_by-end.ensures))
+      (run_finished c.work_is_as_evaluated.ensures c.work_gives_cells.ensures core is_core _ work w.if-is_cancelled.false w.apply.result w.apply.new.held w.apply.ensures.same made_here))
 ])
