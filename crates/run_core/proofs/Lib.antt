@@ -7,6 +7,7 @@ pub mod TakenFacts
 pub mod EndedFacts
 pub mod FindFacts
 pub mod PerformFacts
+pub mod OutcomeFacts
 pub mod MarkFacts
 pub mod IssueFacts
 pub mod SourceFacts

@@ -12,6 +12,8 @@ use graph_model::graph::Graph;
 use index_spaces::NoMemory;
 use instances::Homes;
 use race_check::checked::Checked;
+use race_check::laws::needs_are_one;
+use run_state::laws::{start_is_at_rest, start_is_sound};
 use std::alloc::Global;
 use std::marker::Model;
 
@@ -77,6 +79,9 @@ impl<'g> Core<'g> {
         requires most { slots ≤ 8192 }
         ensures { IfOk result (λ core. core ≡ unissued checked.now.graph slots) }
     {
+        start_is_sound();
+        start_is_at_rest();
+        needs_are_one();
         let graph = checked.graph();
         let _ = checked.need();
         let lines = graph.lines();

@@ -21,6 +21,7 @@ use graph_model::lists::{AnswerList, EndList, LineList, ValueList};
 use graph_model::outcome::{Answer, End, Outcome};
 use graph_model::verb::Verb;
 use index_spaces::NoMemory;
+use run_state::laws::{clock_is_small, quiet_gives_outcome, slots_are_by_times};
 use std::alloc::Global;
 
 /// Room for the lists of the outcome.
@@ -68,6 +69,9 @@ impl<'g> Core<'g> {
         ensures asked { AsksHandles self.entry.handles self.entry.table result.answers }
         ensures lines { (k i : ℕ) → slice_get result.trace k ≡ Some i → i < length self.entry.graph.lines }
     {
+        quiet_gives_outcome();
+        slots_are_by_times();
+        clock_is_small();
         let Core {
             checked,
             stages,
