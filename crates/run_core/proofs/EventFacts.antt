@@ -78,7 +78,7 @@ snoc_length (z ∷ xs) x = (let e : length (xs ++ x ∷ []) ≡ length xs + 1 = 
 contains_at : {X : Type 0} (xs : List X) (x : X) → Contains xs x → (k : ℕ) × (slice_get xs k ≡ Some x)
 contains_at xs x c = (c.0, slice_get-get_or xs c.0 x c.1 ∙ ap Some c.2)
 
-at_contains : {X : Type 0} (xs : List X) (k : ℕ) (x : X) → slice_get xs k ≡ Some x → Contains xs x
+pub at_contains : {X : Type 0} (xs : List X) (k : ℕ) (x : X) → slice_get xs k ≡ Some x → Contains xs x
 at_contains xs k x e = (k, slice_get_within xs k x e, get_or_from_slice_get xs k x x e)
 
 -- A NEW HANDLE. The counts of a slot
@@ -92,7 +92,7 @@ opened life = record { fates = life.fates; is_pending = true; waiting = life.wai
 handle_cases : (k h : Handle) → (k ≡ h) ⊎ (k ≢ h)
 handle_cases k h = split_handle k h inl (λ ne. inr (λ e. ne (ap (λ (x : Handle). x.slot) e))) (λ s ne. inr (λ e. ne (ap (λ (x : Handle). x.gen_) e)))
 
-lt_unless : (i n : ℕ) → i < n + 1 → i ≢ n → i < n
+pub lt_unless : (i n : ℕ) → i < n + 1 → i ≢ n → i < n
 lt_unless i n l ne = elim (cases_lt i n) [ inl b ↦ b | inr a ↦ absurd (ne (let z : i ≡ n = omega (arith, a, l) in z)) ]
 
 -- a test as a number

@@ -1,27 +1,24 @@
 -- What a run on one thread keeps.
-use Rattle.std.proofs.Common.{◌≡◌, ℕ, zero, suc, ◌+◌, ◌<◌, ◌≤◌, Bool, true, false, not, ◌⊎◌, inl, inr, List, [], ◌∷◌, length, length-set, refl, sym, ◌∙◌, ap, subst, arith}
-use Rattle.std.specs.Prelude.{◌≢◌, Option, Some, None, Contains, slice_get, slice_set}
-use Rattle.std.proofs.lemmas.Bool.{true≢false, false≢true, cases_eq, cases_lt}
+use Rattle.std.proofs.Common.{◌≡◌, ℕ, ◌+◌, ◌<◌, ◌≤◌, Bool, true, false, not, ◌⊎◌, inl, inr, List, length, length-set, refl, sym, ◌∙◌, ap, subst, arith}
+use Rattle.std.specs.Prelude.{◌≢◌, Some, slice_get, slice_set}
+use Rattle.std.proofs.lemmas.Bool.{true≢false, cases_eq}
 use Rattle.std.proofs.lemmas.List.{get_or-set_same, get_or-set_other, set-set}
-use Rattle.std.proofs.lemmas.Option.{slice_get_within, get_or_from_slice_get}
 use Rattle.graph_model.specs.declared.outcome.End.{End}
 use Rattle.graph_model.specs.declared.outcome.End.TheVariants.{Done, Faulted, Cancelled, Waiting}
 use Rattle.graph_model.specs.declared.verb.Access.{Access}
-use Rattle.graph_model.specs.declared.verb.Edge.{Edge}
 use Rattle.graph_model.specs.Graph.{GraphValue}
 use Rattle.graph_model.specs.Access.{accesses}
 use Rattle.graph_model.specs.Evaluation.{eval_end}
 use Rattle.graph_model.proofs.ListFacts.{count_below, count_below-le, fewer_below, map_contains}
 use Rattle.gen_events.specs.declared.handle.Handle.{Handle}
-use Rattle.gen_events.specs.EventMap.{EventMap, SlotLife, IsFull, MayServe, next_handle}
-use Rattle.run_state.specs.Run.{LineStage, Unissued, Issued, Out, Ending, Ended, Run, stage_at, place_at, list_at, stage_issued, stage_ended, stage_out, issued, out, ended}
-use Rattle.run_state.specs.Sound.{AccessesColumn}
+use Rattle.gen_events.specs.EventMap.{SlotLife, IsFull}
+use Rattle.run_state.specs.Run.{LineStage, Unissued, Issued, Out, Ending, Ended, Run, stage_at, stage_issued, stage_ended, stage_out, issued, out, ended}
 use Rattle.run_state.specs.Quiet.{CanTake, IsFree, Quiet}
 use Rattle.run_state.specs.Moves.{claim}
-use Rattle.run_state.specs.WholeLine.{column_list, take_whole, put_back_whole}
-use Rattle.run_core.specs.Core.{CoreValue, WaitsFor, IsCore}
-use Rattle.run_core.specs.Works.{WorkValue, FinishedValue, IsWork, IsFinished, cells_in}
-use Rattle.run_core.specs.Steps.{with_issue, IsLeft, IsLeastLeft, IsDue, HasLock, HasColumns, IsAtHome, IsFirstOut, IsHeldBy, StandsBy, with_run, Takes, Attempts, with_end, handle_at, fate_for, Wakes, Issues}
+use Rattle.run_state.specs.WholeLine.{column_list, take_whole}
+use Rattle.run_core.specs.Core.{CoreValue, IsCore}
+use Rattle.run_core.specs.Works.{WorkValue, FinishedValue}
+use Rattle.run_core.specs.Steps.{with_issue, IsLeft, IsHeldBy, StandsBy, with_run, Takes, Attempts, with_end, handle_at, Wakes, Issues}
 use Rattle.run_core.specs.Finishing.{NothingOut, left_to_do, GoesOn, IsStill}
 use Rattle.run_core.specs.declared.answers.Attempt.{Attempt}
 use Rattle.run_core.specs.declared.answers.Attempt.TheVariants as attempts
@@ -30,6 +27,7 @@ use Rattle.run_core.specs.declared.answers.Issue.TheVariants as issues
 use Rattle.run_core.specs.declared.answers.Thing.{Thing}
 use Rattle.run_core.specs.declared.answers.Thing.TheVariants as things
 use Rattle.run_core.proofs.CoreFacts.{may_issue, line_near}
+use Rattle.run_core.proofs.EventFacts.{at_contains, lt_unless}
 
 -- ONE STEP AFTER ANOTHER
 pub goes_nowhere : (c : CoreValue) → NothingOut c → GoesOn c c
@@ -103,13 +101,13 @@ module _ (stages : List LineStage) (i : ℕ) (s : LineStage) (near : i < length 
   less_by_end n l ends =
       let one : count_below (λ k. not (issued (slice_set stages i s) k)) n ≤ count_below (λ k. not (issued stages k)) n = unissued_le n in
       let other : count_below (λ k. not (ended (slice_set stages i s) k)) n + 1 ≤ count_below (λ k. not (ended stages k)) n =
-          fewer_below (λ k. not (ended (slice_set stages i s) k)) (λ k. not (ended stages k)) left_before n i l (ap (λ x. not (stage_ended x)) here ∙ ap not ends) (ap not left) in
+      fewer_below (λ k. not (ended (slice_set stages i s) k)) (λ k. not (ended stages k)) left_before n i l (ap (λ x. not (stage_ended x)) here ∙ ap not ends) (ap not left) in
       omega (arith, one, other)
 
   pub less_by_issue : (n : ℕ) → i < n → issued stages i ≡ false → left_in (slice_set stages i s) n < left_in stages n
   less_by_issue n l was =
       let one : count_below (λ k. not (issued (slice_set stages i s) k)) n + 1 ≤ count_below (λ k. not (issued stages k)) n =
-          fewer_below (λ k. not (issued (slice_set stages i s) k)) (λ k. not (issued stages k)) unissued_before n i l (ap (λ x. not (stage_issued x)) here ∙ ap not goes) (ap not was) in
+      fewer_below (λ k. not (issued (slice_set stages i s) k)) (λ k. not (issued stages k)) unissued_before n i l (ap (λ x. not (stage_issued x)) here ∙ ap not goes) (ap not was) in
       let other : count_below (λ k. not (ended (slice_set stages i s) k)) n ≤ count_below (λ k. not (ended stages k)) n = left_le n in
       omega (arith, one, other)
 
@@ -117,18 +115,17 @@ module _ (stages : List LineStage) (i : ℕ) (s : LineStage) (near : i < length 
 same_still : (old new : CoreValue) → new ≡ old → IsStill old new × (length new.table.slots ≡ length old.table.slots)
 same_still old new same = (
   record { graph = ap (λ (c : CoreValue). c.graph) same; run = ap (λ (c : CoreValue). c.run) same; handles = ap (λ (c : CoreValue). c.handles) same },
-  ap (λ (c : CoreValue). length c.table.slots) same)
+  ap (λ (c : CoreValue). length c.table.slots) same,
+)
 
 stood : (old new : CoreValue) (i j : ℕ) → StandsBy old new i j → IsStill old new × (length new.table.slots ≡ length old.table.slots)
 stood old new i j stands = elim stands.either [
   | inl same ↦ same_still old new same
   | inr (h, at, is) ↦ (
-      record { graph = ap (λ (c : CoreValue). c.graph) is; run = ap (λ (c : CoreValue). c.run) is; handles = ap (λ (c : CoreValue). c.handles) is },
-      ap (λ (c : CoreValue). length c.table.slots) is ∙ length-set old.table.slots h.slot _)
+    record { graph = ap (λ (c : CoreValue). c.graph) is; run = ap (λ (c : CoreValue). c.run) is; handles = ap (λ (c : CoreValue). c.handles) is },
+    ap (λ (c : CoreValue). length c.table.slots) is ∙ length-set old.table.slots h.slot _,
+  )
 ]
-
-at_contains : {X : Type 0} (xs : List X) (k : ℕ) (x : X) → slice_get xs k ≡ Some x → Contains xs x
-at_contains xs k x e = (k, slice_get_within xs k x e, get_or_from_slice_get xs k x x e)
 
 held_not_free : (g : GraphValue) (run : Run) (i : ℕ) (thing : Thing) → eval_end g i ≢ Cancelled → IsHeldBy g run i thing → IsFree g run i → ⊥
 held_not_free g run i thing runs held (inl cancelled) = runs cancelled
@@ -248,9 +245,6 @@ scan_moved old now ran after moved line n so_far goes less follows = record {
 taken_back : (g h : GraphValue) (run after : Run) (i : ℕ) → h ≡ g → after ≡ run → CanTake h after i → CanTake g run i
 taken_back g h run after i same runs can = subst (λ k. CanTake k run i) same (subst (λ r. CanTake h r i) runs can)
 
-lt_unless : (i n : ℕ) → i < n + 1 → i ≢ n → i < n
-lt_unless i n l ne = elim (cases_lt i n) [ inl b ↦ b | inr a ↦ absurd (ne (let z : i ≡ n = omega (arith, a, l) in z)) ]
-
 pub scan_stays : (old now ran : CoreValue) (moved : Bool) (line : ℕ) → Scanned old now moved line → GoesOn now ran → IsStill now ran → (CanTake now.graph now.run line → ⊥) → Scanned old ran moved (line + 1)
 scan_stays old now ran moved line so_far goes still refused = record {
   goes_on = goes_further old now ran so_far.goes_on goes;
@@ -273,11 +267,14 @@ scan_begins c nothing = record {
 }
 
 pub scan_ends : (old now : CoreValue) (moved : Bool) (line : ℕ) → IsCore now → Scanned old now moved line → length old.graph.lines ≤ line → moved ≡ false → IsStill old now × ((i : ℕ) → CanTake now.graph now.run i → ⊥)
-scan_ends old now moved line core so_far all e = (so_far.still e, λ i can. so_far.none e i (
-    let near : i < length now.run.stages = line_near now core i (ap stage_issued can.is_issued) in
-    let each : length now.run.stages ≡ length now.graph.lines = core.sound.on_lines.each_line in
-    let graph : length now.graph.lines ≡ length old.graph.lines = ap (λ (g : GraphValue). length g.lines) so_far.goes_on.graph in
-    omega (arith, near, each, graph, all)) can)
+scan_ends old now moved line core so_far all e = (
+  so_far.still e,
+  λ i can. so_far.none e i (
+      let near : i < length now.run.stages = line_near now core i (ap stage_issued can.is_issued) in
+      let each : length now.run.stages ≡ length now.graph.lines = core.sound.on_lines.each_line in
+      let graph : length now.graph.lines ≡ length old.graph.lines = ap (λ (g : GraphValue). length g.lines) so_far.goes_on.graph in
+      omega (arith, near, each, graph, all)) can,
+)
 
 -- WHERE NO LINE WAS ISSUED
 pub kept_by_issue : (old new : CoreValue) (a : Issue) → Issues old new a → ((i : ℕ) → a ≢ issues.Issued i) → new ≡ old

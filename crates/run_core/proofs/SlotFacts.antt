@@ -1,10 +1,9 @@
 -- A slot is free where a line is left and none of the others can be taken.
-use Rattle.std.proofs.Common.{◌≡◌, ℕ, zero, suc, ◌+◌, ◌<◌, ◌≤◌, Bool, true, false, cond, ◌⊎◌, inl, inr, List, [], ◌∷◌, length, refl, sym, ◌∙◌, ap, subst, arith}
+use Rattle.std.proofs.Common.{◌≡◌, ℕ, suc, ◌+◌, ◌<◌, ◌≤◌, Bool, true, false, cond, List, [], ◌∷◌, length, refl, ap, arith}
 use Rattle.std.specs.Prelude.{slice_index_or}
-use Rattle.std.proofs.lemmas.Bool.{cases_lt}
 use Rattle.graph_model.specs.Need.{IsNeed}
 use Rattle.gen_events.specs.Lists.{total}
-use Rattle.gen_events.specs.EventMap.{EventMap, SlotLife, unused, life_at, MayServe, IsFull}
+use Rattle.gen_events.specs.EventMap.{EventMap, SlotLife, unused, life_at, IsFull}
 use Rattle.gen_events.proofs.Sums.{entry_le}
 use Rattle.run_state.specs.Quiet.{CanTake, Stuck, left_among}
 use Rattle.run_state.specs.Laws.{LeftBelowNeed}
@@ -47,9 +46,9 @@ free_slot law c core nothing none left few n need full =
     let slots : n ≤ length c.table.slots = core.slots n need in
     let pending : total pending_in c.table.slots ≡ count_left c.run.stages (length c.handles) = core.events.all_pending in
     let each : total pending_in c.table.slots ≡ length c.table.slots =
-        total_pending c.table.slots (λ i near. idle_or_pending c.table i (life_at c.table i).is_pending refl near
-            (let fates : length (life_at c.table i).fates ≤ length c.handles = created_few c.table (length c.handles) i core.events.all_created near in
-             let last : c.table.last_gen ≡ 8191 = core.events.last in
-             let short : length c.handles < length c.graph.lines = left in
-             omega (arith, fates, last, short, few)) full) in
+    total_pending c.table.slots (λ i near. idle_or_pending c.table i (life_at c.table i).is_pending refl near
+    (let fates : length (life_at c.table i).fates ≤ length c.handles = created_few c.table (length c.handles) i core.events.all_created near in
+    let last : c.table.last_gen ≡ 8191 = core.events.last in
+    let short : length c.handles < length c.graph.lines = left in
+    omega (arith, fates, last, short, few)) full) in
     omega (arith, below, slots, pending, each)

@@ -1,4 +1,4 @@
-use Rattle.std.proofs.Common.{◌≡◌, ◌≤◌, ◌<◌, true, false, subst, arith}
+use Rattle.std.proofs.Common.{◌≤◌, ◌<◌, subst, arith}
 use Rattle.run_core.specs.Core.{CoreValue}
 use Rattle.run_core.specs.Finishing.{GoesOn, left_to_do}
 use Rattle.run_core.proofs.FinishFacts.{goes_further, issued_goes, issued_less, kept_by_issue, quiet_after}

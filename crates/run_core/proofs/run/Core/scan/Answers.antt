@@ -1,4 +1,4 @@
-use Rattle.std.proofs.Common.{◌≡◌, ◌≤◌, ◌<◌, ◌+◌, Bool, true, false, length, sym, ◌∙◌, ap, subst, arith}
+use Rattle.std.proofs.Common.{◌≡◌, ◌≤◌, ◌+◌, true, false, length, sym, ap, subst, arith}
 use Rattle.graph_model.specs.Graph.{GraphValue}
 use Rattle.run_core.specs.Core.{CoreValue}
 use Rattle.run_core.proofs.FinishFacts.{Scanned, scan_begins, scan_moved, scan_stays, scan_ends}
@@ -26,6 +26,6 @@ loop-line-preserved c =
 pub returns-clause-unmoved : goal.returns-clause-unmoved
 returns-clause-unmoved c =
     let all : length c.args.self.now.graph.lines ≤ c.loop-line.line =
-        let lines : length c.graph.result.now.lines ≡ length c.args.self.now.graph.lines = ap (λ (g : GraphValue). length g.lines) c.graph.ensures in
-        omega (arith, lines, c.lines-line-end.ensures.number) in
+    let lines : length c.graph.result.now.lines ≡ length c.args.self.now.graph.lines = ap (λ (g : GraphValue). length g.lines) c.graph.ensures in
+    omega (arith, lines, c.lines-line-end.ensures.number) in
     scan_ends c.args.self.now c.loop-line.self c.loop-line.moved c.loop-line.line c.is_sound.ensures c.loop-line.invariant all

@@ -1,4 +1,4 @@
-use Rattle.std.proofs.Common.{◌≡◌, ◌≤◌, length, subst}
+use Rattle.std.proofs.Common.{◌≤◌, length, subst}
 use Rattle.graph_model.specs.Graph.{GraphValue}
 use Rattle.graph_model.specs.Need.{IsNeed}
 use Rattle.run_core.specs.Core.{CoreValue, IsCore}
