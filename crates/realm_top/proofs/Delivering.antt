@@ -13,7 +13,7 @@ use Rattle.graph_reader.specs.Laws.{OneReading}
 use Rattle.race_check.specs.Refusal.{IsRefusal}
 use Rattle.race_check.specs.declared.checked.CheckRefusal.{CheckRefusal}
 use Rattle.race_check.specs.declared.checked.CheckRefusal.TheVariants as refusal
-use Rattle.realm_top.specs.Answer.{IsRefused, IsUnfit, evaluation_text, Says, is_short, EndsByPaths, Served, InputAnswers, Serves, Settled, Answered, Delivered, BrokenOff, Delivers}
+use Rattle.realm_top.specs.Answer.{IsRefused, IsUnfit, report_with, Says, is_short, EndsByPaths, Served, InputAnswers, Serves, Settled, Answered, Delivered, BrokenOff, Delivers}
 use Rattle.realm_top.specs.Texts.{too_long_text, unfit_text, slots_text}
 use Rattle.graph_model.specs.Graph.{GraphValue}
 use Rattle.graph_model.specs.Rules.{Accepted}
@@ -217,11 +217,11 @@ pub unfit_settled : (request : Request) (g : GraphValue) (s t : SinkState) (resu
 unfit_settled request g s t result why out r e d = inr (Unfit, out, record { «why» = why; refused = r; says = e }, d)
 
 -- the same of a graph or a request that is the same
-pub wrote_of : (s t : SinkState) (traced : Bool) (g h : GraphValue) → g ≡ h → Wrote s t (evaluation_text traced g) → Wrote s t (evaluation_text traced h)
-wrote_of s t traced g h e w = subst (λ x. Wrote s t (evaluation_text traced x)) e w
+pub wrote_of : (s t : SinkState) (traced : Bool) (g h : GraphValue) (trace other : List ℕ) → g ≡ h → trace ≡ other → Wrote s t (report_with traced g trace) → Wrote s t (report_with traced h other)
+wrote_of s t traced g h trace other e f w = subst (λ x. Wrote s t (report_with traced h x)) f (subst (λ x. Wrote s t (report_with traced x trace)) e w)
 
-pub stopped_of : (s t : SinkState) (traced : Bool) (g h : GraphValue) → g ≡ h → Stopped s t (evaluation_text traced g) → Stopped s t (evaluation_text traced h)
-stopped_of s t traced g h e w = subst (λ x. Stopped s t (evaluation_text traced x)) e w
+pub stopped_of : (s t : SinkState) (traced : Bool) (g h : GraphValue) (trace other : List ℕ) → g ≡ h → trace ≡ other → Stopped s t (report_with traced g trace) → Stopped s t (report_with traced h other)
+stopped_of s t traced g h trace other e f w = subst (λ x. Stopped s t (report_with traced h x)) f (subst (λ x. Stopped s t (report_with traced x trace)) e w)
 
 pub settled_of : (request : Request) (s t : SinkState) (result : Status) (g h : GraphValue) → g ≡ h → Settled request g s t result → Settled request h s t result
 settled_of request s t result g h e w = subst (λ x. Settled request x s t result) e w

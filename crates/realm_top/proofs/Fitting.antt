@@ -4,14 +4,14 @@ use Rattle.std.specs.Prelude.{codes, decimal}
 use Rattle.std.proofs.lemmas.List.FromFn.{length-map-range_with_len}
 use Rattle.graph_model.specs.Graph.{GraphValue, columns}
 use Rattle.graph_model.specs.declared.outcome.Outcome.{Outcome}
-use Rattle.graph_model.specs.Evaluation.{eval_end, answer_of, phase_value, column_of, cells_of, evaluation, outcome, order}
+use Rattle.graph_model.specs.Evaluation.{eval_end, answer_of, phase_value, column_of, cells_of, evaluation, outcome}
 use Rattle.graph_model.specs.Spelling.{spelled}
 use Rattle.graph_model.specs.declared.verb.Why.{Why}
 use Rattle.realm_top.specs.Texts.{FitsGraph, report, why_word, unread_text}
 use Rattle.realm_top.specs.Answer.{evaluation_report}
 
-pub outcome_fits : (g : GraphValue) (o : Outcome) → o ≡ outcome g (order g) → FitsGraph g o
-outcome_fits g o e = subst (FitsGraph g) (sym e) (record {
+pub outcome_fits : (g : GraphValue) (o : Outcome) (trace : List ℕ) → o ≡ outcome g trace → FitsGraph g o
+outcome_fits g o trace e = subst (FitsGraph g) (sym e) (record {
   ends = length-map-range_with_len (eval_end g) 0 (length g.lines);
   answers = length-map-range_with_len (λ i. answer_of (eval_end g i)) 0 (length g.lines);
   phases = length-map-range_with_len (phase_value g) 0 (length g.lines);
@@ -23,5 +23,9 @@ pub words_are : (digits word : List ℕ) (number : ℕ) (why : Why) → digits �
 words_are digits word number why d w = ap (λ x. spelled (codes "refused" ∷ codes "line" ∷ x ∷ word ∷ [])) d ∙ ap (λ x. spelled (codes "refused" ∷ codes "line" ∷ decimal number ∷ x ∷ [])) w
 
 -- the report that was written is the evaluation's
-pub report_is : (g : GraphValue) (o : Outcome) → o ≡ outcome g (order g) → report g o ≡ evaluation_report g
-report_is g o e = ap (report g) e
+pub report_is : (g : GraphValue) (o : Outcome) (trace : List ℕ) → o ≡ outcome g trace → report g o ≡ evaluation_report g
+report_is g o trace e = ap (report g) e
+
+-- an outcome with its own trace
+pub own_trace : (g : GraphValue) (o : Outcome) (trace : List ℕ) → o ≡ outcome g trace → o ≡ outcome g o.trace
+own_trace g o trace e = e ∙ ap (outcome g) (sym (ap (λ (x : Outcome). x.trace) e))

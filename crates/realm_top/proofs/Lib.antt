@@ -4,3 +4,4 @@ pub mod Fitting
 pub mod Delivering
 pub mod MadeRequests
 pub mod Sums
+pub mod RunFacts

@@ -8,6 +8,7 @@ use Rattle.graph_model.specs.declared.outcome.End.TheVariants.{Cancelled, Waitin
 use Rattle.graph_model.specs.Path.{Reached}
 use Rattle.graph_model.specs.Rules.{Accepted}
 use Rattle.graph_model.specs.Need.{IsNeed}
+use Rattle.graph_model.specs.Trace.{IsLawful}
 use Rattle.graph_model.specs.Evaluation.{eval_end, outcome, order, Unbroken}
 use Rattle.race_check.specs.declared.checked.CheckRefusal.{CheckRefusal}
 use Rattle.race_check.specs.Refusal.{IsRefusal}
@@ -46,14 +47,22 @@ pub record IsUnfit (g : GraphValue) (out : List ℕ) : Type 0 where
   pub refused : IsRefusal g why
   pub says : unfit_text g why ≡ Some out
 
--- the trace's text, where it is asked for
-abbrev pub trace_part : Bool → GraphValue → List ℕ
-trace_part true g = trace_text g (order g)
-trace_part false g = []
+-- the text of a trace, where it is asked for
+abbrev pub trace_part : Bool → GraphValue → List ℕ → List ℕ
+trace_part true g trace = trace_text g trace
+trace_part false g trace = []
 
--- the report of the one-thread evaluation, followed by its order as the trace where it is asked for
+-- the report of the one-thread evaluation, followed by this trace where it is asked for
+abbrev pub report_with : Bool → GraphValue → List ℕ → List ℕ
+report_with traced g trace = evaluation_report g ++ trace_part traced g trace
+
+-- the same with the order of the evaluation
 abbrev pub evaluation_text : Bool → GraphValue → List ℕ
-evaluation_text traced g = evaluation_report g ++ trace_part traced g
+evaluation_text traced g = report_with traced g (order g)
+
+-- the same with some lawful trace
+abbrev pub IsRunText : Bool → GraphValue → List ℕ → Type 0
+IsRunText traced g out = (trace : List ℕ) × IsLawful g trace × (out ≡ report_with traced g trace)
 
 -- whether an action reads a graph
 abbrev pub reads : Action → Bool
@@ -81,7 +90,7 @@ made_says false g = made_text g (outcome g (order g))
 
 -- what an action writes of an accepted graph with this need
 abbrev pub Says : Action → Request → GraphValue → ℕ → List ℕ → Type 0
-Says Run request g need out = out ≡ evaluation_text request.trace g
+Says Run request g need out = IsRunText request.trace g out
 Says Eval request g need out = out ≡ evaluation_text request.trace g
 Says Check request g need out = out ≡ accepted_text need
 Says Make request g need out = out ≡ made_says false g

@@ -1,14 +1,15 @@
 //! What is done with an input that was read to its end.
 
-ghost use Rattle.std.specs.Prelude.{◌≡◌, ℕ, ◌<◌, ◌≤◌, ◌⊎◌, List, [], false, length, Some, slice_get};
-ghost use Rattle.graph_model.specs.Evaluation.{outcome, order};
+ghost use Rattle.std.specs.Prelude.{◌≡◌, ℕ, ◌<◌, ◌≤◌, ◌⊎◌, List, [], false, length, Some, slice_get, IfOk};
+ghost use Rattle.graph_model.specs.Evaluation.{outcome};
+ghost use Rattle.graph_model.specs.Trace.{IsLawful};
 ghost use Rattle.graph_model.specs.declared.verb.Why.{Why};
 ghost use Rattle.graph_reader.specs.FirstFault.{FirstFault};
 ghost use Rattle.graph_reader.specs.declared.ReadRefusal.TheVariants.{Line};
 ghost use Rattle.race_check.specs.Refusal.{IsRefusal, NamesLines};
 ghost use Rattle.realm_io.specs.Written.{sink_state, Writes};
 ghost use Rattle.realm_top.specs.Texts.{unread_text, accepted_text, slots_text};
-ghost use Rattle.realm_top.specs.Answer.{evaluation_text, made_says, runs, is_short, Answered, Serves, Settled, Delivers};
+ghost use Rattle.realm_top.specs.Answer.{evaluation_text, report_with, IsRunText, made_says, runs, is_short, Answered, Serves, Settled, Delivers};
 
 use crate::refusal::{put_accepted, put_broken, put_slots, put_unread};
 use crate::report::put_parts;
@@ -20,11 +21,17 @@ use graph_model::outcome::Outcome;
 use graph_model::verb::Why;
 use graph_reader::{ReadRefusal, read_graph};
 use plain_eval::evaluation::eval;
+use index_spaces::NoMemory;
 use race_check::check;
 use race_check::checked::{CheckRefusal, Checked, Unfit};
 use realm_io::{Sink, WriteFault, put};
 use realm_trace::put_trace;
+use run_core::Core;
 use std::alloc::Global;
+
+// The slots of a run where none are given, and the most that a table of events has.
+const DEFAULT_SLOTS: u32 = 256;
+const MOST_SLOTS: u32 = 8192;
 
 /// Does what is asked for with the graph whose text the bytes are.
 pub(crate) fn answer<K: Sink>(alloc: Global, request: Request, bytes: &[u8], sink: &mut K) -> Status
@@ -64,10 +71,10 @@ pub(crate) fn serve<K: Sink>(
         return put_short(sink, checked.need());
     }
     match request.action {
-        Action::Run => evaluate(alloc, request.trace, checked, sink),
+        Action::Run => run(alloc, &request, checked, sink),
         Action::Eval => evaluate(alloc, request.trace, checked, sink),
         Action::Check => put_need(sink, checked.need()),
-        Action::Make => sum_up(alloc, checked, sink),
+        Action::Make => sum_up(alloc, &request, checked, sink),
     }
 }
 
@@ -92,12 +99,38 @@ fn is_short(request: &Request, need: u32) -> bool
     }
 }
 
-/// Evaluates a graph that was made, and writes the line that sums that up.
-fn sum_up<K: Sink>(alloc: Global, checked: &Checked, sink: &mut K) -> Status
+/// How many slots a run has: those that are given, or 256, but not fewer than its need.
+fn slots_for(given: Option<u32>, need: u32) -> u32
+    requires { need ≤ 8192 }
+    ensures enough { need ≤ result }
+    ensures most { result ≤ 8192 }
+{
+    let slots = match given {
+        Some(slots) => slots,
+        None => DEFAULT_SLOTS,
+    };
+    slots.max(need).min(MOST_SLOTS)
+}
+
+/// Runs a graph.
+fn run_graph(alloc: Global, request: &Request, checked: &Checked) -> Result<Outcome, NoMemory>
+    ensures outcome { IfOk result (λ o. o ≡ outcome checked.now.graph o.trace) }
+    ensures lawful { IfOk result (λ o. IsLawful checked.now.graph o.trace) }
+    ensures lines { IfOk result (λ o. (k i : ℕ) → slice_get o.trace k ≡ Some i → i < length checked.now.graph.lines) }
+{
+    let _ = checked.graph().lines();
+    let slots = slots_for(request.slots, checked.need());
+    let mut core = Core::prepare(alloc, checked, slots)?;
+    core.finish();
+    Ok(core.outcome())
+}
+
+/// Runs a graph that was made, and writes the line that sums that up.
+fn sum_up<K: Sink>(alloc: Global, request: &Request, checked: &Checked, sink: &mut K) -> Status
     ensures done { (result ≡ Status.NoMemory) ⊎ Delivers (sink_state K.taken K.flushed K.faults sink.old) (sink_state K.taken K.flushed K.faults sink.new) Status.Done result (made_says false checked.now.graph) }
     ensures no_memory { result ≡ Status.NoMemory → sink.new ≡ sink.old }
 {
-    let Ok(outcome) = eval(alloc, checked) else {
+    let Ok(outcome) = run_graph(alloc, request, checked) else {
         return Status::NoMemory;
     };
     match put_summary(sink, checked.graph(), &outcome) {
@@ -106,7 +139,21 @@ fn sum_up<K: Sink>(alloc: Global, checked: &Checked, sink: &mut K) -> Status
     }
 }
 
-/// Evaluates a graph, and writes its report, and its trace where it is asked for.
+/// Runs a graph, and writes its report, and the trace of the run where it is asked for.
+fn run<K: Sink>(alloc: Global, request: &Request, checked: &Checked, sink: &mut K) -> Status
+    ensures done { (result ≡ Status.NoMemory) ⊎ ((out : List ℕ) × IsRunText request.now.trace checked.now.graph out × Delivers (sink_state K.taken K.flushed K.faults sink.old) (sink_state K.taken K.flushed K.faults sink.new) Status.Done result out) }
+    ensures no_memory { result ≡ Status.NoMemory → sink.new ≡ sink.old }
+{
+    let Ok(outcome) = run_graph(alloc, request, checked) else {
+        return Status::NoMemory;
+    };
+    match put_outcome(sink, checked.graph(), &outcome, request.trace) {
+        Ok(()) => flush(sink, Status::Done),
+        Err(_) => Status::WriteFault,
+    }
+}
+
+/// Evaluates a graph, and writes its report, and its order as the trace where it is asked for.
 fn evaluate<K: Sink>(alloc: Global, trace: bool, checked: &Checked, sink: &mut K) -> Status
     ensures done { (result ≡ Status.NoMemory) ⊎ Delivers (sink_state K.taken K.flushed K.faults sink.old) (sink_state K.taken K.flushed K.faults sink.new) Status.Done result (evaluation_text trace checked.now.graph) }
     ensures no_memory { result ≡ Status.NoMemory → sink.new ≡ sink.old }
@@ -114,22 +161,22 @@ fn evaluate<K: Sink>(alloc: Global, trace: bool, checked: &Checked, sink: &mut K
     let Ok(outcome) = eval(alloc, checked) else {
         return Status::NoMemory;
     };
-    match put_evaluation(sink, checked.graph(), &outcome, trace) {
+    match put_outcome(sink, checked.graph(), &outcome, trace) {
         Ok(()) => flush(sink, Status::Done),
         Err(_) => Status::WriteFault,
     }
 }
 
-/// Writes the report of an evaluation, and its trace where it is asked for.
-fn put_evaluation<K: Sink>(
+/// Writes the report of an outcome, and its trace where it is asked for.
+fn put_outcome<K: Sink>(
     sink: &mut K,
     graph: &Graph,
     found: &Outcome,
     trace: bool,
 ) -> Result<(), WriteFault>
-    requires outcome { found.now ≡ outcome graph.now (order graph.now) }
+    requires outcome { found.now ≡ outcome graph.now found.now.trace }
     requires lines { (k i : ℕ) → slice_get found.now.trace k ≡ Some i → i < length graph.now.lines }
-    ensures { Writes (sink_state K.taken K.flushed K.faults sink.old) (sink_state K.taken K.flushed K.faults sink.new) result (evaluation_text trace graph.now) }
+    ensures { Writes (sink_state K.taken K.flushed K.faults sink.old) (sink_state K.taken K.flushed K.faults sink.new) result (report_with trace graph.now found.now.trace) }
 {
     put_parts(sink, graph, found)?;
     if trace {

@@ -25,10 +25,10 @@ use Rattle.run_state.specs.WholeLine.{column_list, lock_of, all_home, all_back, 
 use Rattle.run_state.specs.AtRest.{AtRest, MayPutBack, Undisturbed}
 use Rattle.run_state.specs.Laws.{PutBackKeepsRest, PutBackLeaves}
 use Rattle.run_state.proofs.Lists.{ended_over, listed_cases}
-use Rattle.run_state.proofs.Verbs.{verb_passes}
+use Rattle.graph_model.proofs.VerbFacts.{verb_passes}
 use Rattle.run_state.proofs.Started.{kept_is, started_below, started_ends}
 use Rattle.run_state.proofs.Known.{column_there}
-use Rattle.run_state.proofs.Releases.{release_unique}
+use Rattle.graph_model.proofs.ReleaseFacts.{one_release}
 use Rattle.run_state.proofs.PutBack.{acquire_is_ended, frees_found}
 use Rattle.run_core.specs.Core.{CoreValue, IsCore}
 use Rattle.run_core.specs.Events.{EventsValue}
@@ -107,7 +107,7 @@ held_alone before holders shows core f is l q frees =
     let over_q = ended_over (stage_at before.run.stages q) found.2 in
     let listed : is_listed (list_at before.run.holders l) q ≡ true = elim (s.on_locks.timed_holds l q found.1 (s.on_times.over_timed q over_q) (λ e. done_apart (eval_end before.graph q) found.3 e)) [
       | inl held ↦ held
-      | inr freed ↦ absurd (true≢false (sym (s.on_locks.freed_over f.line (subst (λ r. is_listed before.run.freed r ≡ true) (release_unique before.graph s.graph freed.0 f.line q freed.1 found.0) freed.2)) ∙ ap stage_over is.is_out))
+      | inr freed ↦ absurd (true≢false (sym (s.on_locks.freed_over f.line (subst (λ r. is_listed before.run.freed r ≡ true) (one_release before.graph s.graph q freed.0 f.line freed.1 found.0) freed.2)) ∙ ap stage_over is.is_out))
     ] in
     list_of_holding holders l ∙ holding_one (slice_index_or holders l None) q (ap (λ ks. is_listed ks q) (sym (list_of_holding holders l)) ∙ (ap (λ hs. is_listed (list_at hs l) q) (sym shows) ∙ listed))
   where

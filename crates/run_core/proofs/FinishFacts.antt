@@ -285,7 +285,7 @@ kept_by_issue old new issues.Other h none = absurd h
 
 all_quiet : (c : CoreValue) → IsCore c → NothingOut c → ((i : ℕ) → CanTake c.graph c.run i → ⊥) → length c.handles ≡ length c.graph.lines → Quiet c.graph c.run
 all_quiet c core nothing none all = record {
-  all_issued = λ i l. (core.events.each_issued i).1 (omega (arith, l, all));
+  first_issued = λ i l. (core.events.each_issued i).1 (omega (arith, l, all));
   none_out = nothing;
   none_ending = core.at_rest.none_ending;
   none_taken = none;

@@ -13,9 +13,8 @@ use Rattle.line_effects.proofs.EffectFacts.{verb_is}
 use Rattle.run_state.specs.Run.{LineStage, stage_at, list_at, end_so_far}
 use Rattle.run_state.specs.Moves.{without}
 use Rattle.run_state.specs.WholeLine.{lock_by, lock_of, holders_with, holders_without, freed_lock}
-use Rattle.run_state.proofs.Known.{lock_there}
-use Rattle.run_state.proofs.Releases.{release_of_acquire}
-use Rattle.run_state.proofs.Verbs.{passes_verb, verb_passes, verb_below}
+use Rattle.graph_model.proofs.ReleaseFacts.{acquired_lock_known, release_names}
+use Rattle.graph_model.proofs.VerbFacts.{passes_verb, verb_passes, verb_below}
 use Rattle.std.specs.Option.{option_map_or}
 use Rattle.run_core.specs.Kept.{holding, frees_so_far, frees_in}
 use Rattle.run_core.specs.Steps.{HasLock}
@@ -29,11 +28,11 @@ line_releases g i q line h e = verb_passes (is_release_of q) g i (Release q) (ve
 
 -- its reservation is declared, and what it releases is a line
 pub lock_known : (g : GraphValue) → IsGraph g → (i l : ℕ) (line : Line) → slice_get g.lines i ≡ Some line → line.verb ≡ Acquire l → l < length (locks g)
-lock_known g is i l line h e = lock_there is i l (line_acquires g i l line h e)
+lock_known g is i l line h e = acquired_lock_known g is i l (line_acquires g i l line h e)
 
 pub acquire_known : (g : GraphValue) → IsGraph g → (i q : ℕ) (line : Line) → slice_get g.lines i ≡ Some line → line.verb ≡ Release q → q < length g.lines
 acquire_known g is i q line h e =
-    let a = release_of_acquire g is i q (line_releases g i q line h e) in
+    let a = release_names g is i q (line_releases g i q line h e) in
     let v = passes_verb (is_acquire_of a.0) g q a.1 in
     verb_below g q v.0 v.1
 

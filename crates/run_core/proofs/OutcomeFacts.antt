@@ -28,7 +28,7 @@ use Rattle.run_state.specs.Start.{start, zeros, first_value}
 use Rattle.run_state.specs.Quiet.{Quiet, ByTimes, phase_so_far_by, phase_so_far, cells_at, outcome_of, GivesOutcome}
 use Rattle.run_state.specs.Laws.{QuietGivesOutcome, SlotsAreByTimes, ClockIsSmall}
 use Rattle.run_state.proofs.Started.{ended_started, started_below}
-use Rattle.run_state.proofs.EdgesOf.{got_contains}
+use Rattle.graph_model.proofs.EdgeFacts.{got_contains}
 use Rattle.run_core.specs.Core.{CoreValue, unissued, answer_for, IsCore}
 use Rattle.run_core.specs.Events.{EventsValue}
 use Rattle.run_core.specs.Answers.{answer_shown, AsksHandles, phase_for, phase_of_line}
@@ -75,7 +75,7 @@ kept_first g homes takers h t = record {
 all_handles : (c : CoreValue) → IsCore c → Quiet c.graph c.run → length c.handles ≡ length c.graph.lines
 all_handles c core quiet = elim (cases_order (length c.handles) (length c.graph.lines)) [
   | inl same ↦ same
-  | inr (inl below) ↦ absurd (let z : length c.handles < length c.handles = (core.events.each_issued (length c.handles)).0 (quiet.all_issued (length c.handles) below) in omega arith)
+  | inr (inl below) ↦ absurd (let z : length c.handles < length c.handles = (core.events.each_issued (length c.handles)).0 (quiet.first_issued (length c.handles) below) in omega arith)
   | inr (inr above) ↦ absurd (let z : length c.graph.lines < length c.graph.lines = subst (λ n. length c.graph.lines < n) core.sound.on_lines.each_line
       (line_near c core (length c.graph.lines) ((core.events.each_issued (length c.graph.lines)).1 above)) in omega arith)
 ]

@@ -21,7 +21,7 @@ use Rattle.run_state.specs.Run.{Run, stage_at, list_at, stage_out}
 use Rattle.run_state.specs.Sound.{AccessesColumn}
 use Rattle.run_state.specs.Work.{HoldsAll, cells_now, put_cells, performed}
 use Rattle.run_state.specs.Laws.{WorkIsAsEvaluated, WorkGivesCells}
-use Rattle.run_state.proofs.EdgesOf.{got_contains}
+use Rattle.graph_model.proofs.EdgeFacts.{got_contains}
 use Rattle.run_core.specs.Core.{CoreValue, IsCore}
 use Rattle.run_core.specs.Works.{WorkValue, FinishedValue, HoldsColumns, column_now, column_left, IsWork, IsFinished}
 

@@ -9,7 +9,7 @@ use Rattle.graph_model.specs.Edges.{edge}
 use Rattle.graph_model.specs.Fits.{IsGraph}
 use Rattle.graph_model.specs.Laws.{EdgesBetweenLines}
 use Rattle.line_effects.proofs.EffectFacts.{verb_is}
-use Rattle.run_state.proofs.EdgesOf.{arrival_edge}
+use Rattle.graph_model.proofs.EdgeFacts.{arrival_edge}
 
 -- the phase of an arrival is a line
 pub phase_there : EdgesBetweenLines → (g : GraphValue) → IsGraph g → (i p v : ℕ) (l : Line) → slice_get g.lines i ≡ Some l → l.verb ≡ Arrive p v → p < length g.lines
