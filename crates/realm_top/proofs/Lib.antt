@@ -2,5 +2,5 @@ pub mod WordLines
 pub mod ReportRest
 pub mod Fitting
 pub mod Delivering
-pub mod Making
+pub mod MadeRequests
 pub mod Sums

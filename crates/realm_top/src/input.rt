@@ -1,6 +1,6 @@
 //! What is done with an input that was read to its end.
 
-ghost use Rattle.std.specs.Prelude.{◌≡◌, ℕ, ◌<◌, ◌≤◌, ◌⊎◌, List, [], length, Some, slice_get};
+ghost use Rattle.std.specs.Prelude.{◌≡◌, ℕ, ◌<◌, ◌≤◌, ◌⊎◌, List, [], false, length, Some, slice_get};
 ghost use Rattle.graph_model.specs.Evaluation.{outcome, order};
 ghost use Rattle.graph_model.specs.declared.verb.Why.{Why};
 ghost use Rattle.graph_reader.specs.FirstFault.{FirstFault};
