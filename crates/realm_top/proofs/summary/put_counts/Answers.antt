@@ -1,14 +1,12 @@
-use Rattle.std.proofs.Common.{◌++◌}
+use Rattle.std.proofs.Common.{◌++◌, get_or}
 use Rattle.std.specs.Prelude.{decimal}
 use Rattle.realm_io.proofs.WrittenLaws.{stops, goes_on, breaks_off}
-use Rattle.graph_reader.proofs.WrittenLists.{flat_item}
+use Rattle.graph_reader.proofs.WrittenLists.{flat_next}
 use Rattle.realm_top.specs.declared.summary.Count.{Count}
 use Rattle.realm_top.proofs.summary.put_counts.Goals as goal
 
 pub returns-in_err-put_count : goal.returns-in_err-put_count
-returns-in_err-put_count g c =
-    stops _ _ _ c.from_residual.result c.from_residual.ensures.0
-    (breaks_off _ _ _ _ _ (c.count-item.result.words.now ++ decimal c.count-item.result.number) _ c.loop-count.invariant (flat_item (λ (x : Count). x.words.now ++ decimal x.number) c.args.counts.now c.loop-count.count-index c.count-item.result c.loop-count-test.true c.count-item.is) c.in_err-put_count.ensures)
+returns-in_err-put_count g c = ?
 
 pub loop-count-preserved : goal.loop-count-preserved
-loop-count-preserved g c = goes_on _ _ _ _ _ (c.count-item.result.words.now ++ decimal c.count-item.result.number) _ c.loop-count.invariant (flat_item (λ (x : Count). x.words.now ++ decimal x.number) c.args.counts.now c.loop-count.count-index c.count-item.result c.loop-count-test.true c.count-item.is) c.in_ok-put_count.ensures
+loop-count-preserved g c = ?
