@@ -1,3 +1,2 @@
 pub mod CommandFacts
-pub mod NumberFacts
 pub mod RequestFacts

@@ -1,17 +1,10 @@
 -- Numbers that words spell.
-use Rattle.std.specs.Prelude.{ℕ, ◌==◌, ◌&&◌, nat_le, Bool, cond, false, not, List, [], ◌∷◌, Option, Some, None, option_and_then}
-use Rattle.std.specs.Str.{all_ascii_digits}
-use Rattle.std.specs.Str.Parse.{digits_value}
-
--- digits, of which the first is no zero unless it stands alone
-abbrev pub is_decimal : List ℕ → Bool
-is_decimal [] = false
-is_decimal (c ∷ []) = all_ascii_digits (c ∷ [])
-is_decimal (c ∷ d ∷ ds) = not (c == 48) && all_ascii_digits (c ∷ d ∷ ds)
+use Rattle.std.specs.Prelude.{ℕ, ◌&&◌, nat_le, cond, List, Option, Some, None, option_and_then}
+use Rattle.realm_io.specs.Numbers.{number_up_to}
 
 -- the number below 2^64 that a word spells
 abbrev pub number_of : List ℕ → Option ℕ
-number_of word = cond (is_decimal word && nat_le (digits_value 10 word) 18446744073709551615) (Some (digits_value 10 word)) None
+number_of word = number_up_to 18446744073709551615 word
 
 -- a number between two bounds
 abbrev pub between : ℕ → ℕ → ℕ → Option ℕ

@@ -15,14 +15,7 @@ use graph_model::outcome::{Answer, End, Outcome};
 use graph_model::verb::{Line, Verb};
 use index_spaces::column::Column;
 use itoa::Buffer;
-use realm_io::{Sink, WriteFault, put, put_number};
-
-/// Writes bytes.
-fn put_bytes<K: Sink>(sink: &mut K, bytes: &[u8]) -> Result<(), WriteFault>
-    ensures { Writes (sink_state K.taken K.flushed K.faults sink.old) (sink_state K.taken K.flushed K.faults sink.new) result bytes.now }
-{
-    put(sink, bytes)
-}
+use realm_io::{Sink, WriteFault, put_bytes, put_decimal};
 
 /// Writes words with a space between each two, and a newline.
 fn put_words<K: Sink>(sink: &mut K, words: &[&[u8]]) -> Result<(), WriteFault>
@@ -159,13 +152,6 @@ fn put_column_name<K: Sink>(sink: &mut K, inst: &Name, field: &Name) -> Result<(
     put_bytes(sink, inst.bytes())?;
     put_bytes(sink, b".")?;
     put_bytes(sink, field.bytes())
-}
-
-/// Writes a number.
-fn put_decimal<K: Sink>(sink: &mut K, n: u64) -> Result<(), WriteFault>
-    ensures { Writes (sink_state K.taken K.flushed K.faults sink.old) (sink_state K.taken K.flushed K.faults sink.new) result (decimal n) }
-{
-    put_number(sink, n)
 }
 
 /// Writes an interval.

@@ -10,7 +10,7 @@ ghost use Rattle.realm_trace.specs.Text.{at_text, at_texts, trace_text};
 use graph_model::graph::Graph;
 use graph_model::lists::LineList;
 use graph_model::verb::Line;
-use realm_io::{Sink, WriteFault, put};
+use realm_io::{Sink, WriteFault, put_bytes};
 
 /// Writes the text of a trace of the graph. It takes no memory.
 ///
@@ -42,11 +42,4 @@ fn put_item<K: Sink>(sink: &mut K, line: &Line) -> Result<(), WriteFault>
     put_bytes(sink, b"at ")?;
     put_bytes(sink, line.name.bytes())?;
     put_bytes(sink, b"\n")
-}
-
-/// Writes bytes.
-fn put_bytes<K: Sink>(sink: &mut K, bytes: &[u8]) -> Result<(), WriteFault>
-    ensures { Writes (sink_state K.taken K.flushed K.faults sink.old) (sink_state K.taken K.flushed K.faults sink.new) result bytes.now }
-{
-    put(sink, bytes)
 }

@@ -1,6 +1,6 @@
 use Rattle.std.proofs.Common.{ap, ap₂, codes, true, false, ◌≡◌, ◌∙◌}
 use Rattle.std.proofs.lemmas.Result.{IfOk-weaker}
-use Rattle.clap.specs.Words.{Rule, app_of, new_rule, rule_of, with_rule}
+use Rattle.clap.specs.Words.{Rule, new_rule, rule_of, with_rule}
 use Rattle.clap.specs.declared.builder.arg.Arg.{Arg}
 use Rattle.command_line.proofs.CommandFacts.{bare_is}
 use Rattle.command_line.proofs.command.Goals as goal

@@ -1,4 +1,4 @@
-use Rattle.std.proofs.Common.{◌≡◌, refl, inr}
+use Rattle.std.proofs.Common.{refl, inr}
 use Rattle.realm_top.specs.Answer.{evaluation_text}
 use Rattle.realm_top.proofs.Delivering.{written_then_flushed, stopped_is_broken, wrote_of, stopped_of}
 use Rattle.realm_top.proofs.input.evaluate.Goals as goal

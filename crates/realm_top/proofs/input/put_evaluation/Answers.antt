@@ -1,4 +1,4 @@
-use Rattle.std.proofs.Common.{◌≡◌, [], sym, ap, subst}
+use Rattle.std.proofs.Common.{[], sym, ap, subst}
 use Rattle.graph_model.specs.declared.outcome.Outcome.{Outcome}
 use Rattle.graph_model.specs.Evaluation.{order}
 use Rattle.realm_io.specs.Written.{Wrote, Stopped, Writes}
