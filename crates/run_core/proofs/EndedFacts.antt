@@ -1,0 +1,255 @@
+-- A line that is put back, as the code puts it back.
+use Rattle.std.proofs.Common.{◌≡◌, ℕ, zero, suc, ◌+◌, ◌<◌, ◌≤◌, true, false, ◌⊎◌, inl, inr, List, [], ◌∷◌, ◌++◌, map, length, refl, sym, ◌∙◌, ap, subst, arith}
+use Rattle.std.specs.Prelude.{◌≢◌, ◌↔◌, Option, Some, None, IsSome, slice_get, slice_index, slice_index_or, slice_set}
+use Rattle.std.specs.Option.{option_map_or}
+use Rattle.std.proofs.lemmas.Bool.{true≢false, false≢true, eq-eqb}
+use Rattle.std.proofs.lemmas.List.{map-set, get_or-set_same, get_or_past, set-set}
+use Rattle.std.proofs.lemmas.Option.{none-some, same_Some, slice_get-get_or}
+use Rattle.index_spaces.specs.Column.{ColumnValue}
+use Rattle.index_spaces.specs.declared.Op.{Op}
+use Rattle.graph_model.specs.declared.outcome.End.{End}
+use Rattle.graph_model.specs.declared.outcome.End.TheVariants.{Done, Faulted, Cancelled, Waiting}
+use Rattle.graph_model.specs.declared.verb.Verb.{Verb}
+use Rattle.graph_model.specs.declared.verb.Verb.TheVariants.{User, Trigger, Cancel, Merge, MergeIgnore, Phase, Arrive, Acquire, Release, Fill, Copy, Reduce, Task}
+use Rattle.graph_model.specs.Graph.{GraphValue, columns, column_space, verb_at, is_release_of}
+use Rattle.graph_model.specs.Rules.{Acquires, Releases}
+use Rattle.graph_model.specs.Evaluation.{is_ended, evaluation, eval_end}
+use Rattle.graph_model.proofs.ListFacts.{count_below, count_below-max, fewer_below}
+use Rattle.graph_model.proofs.Waiting.{end_in_ended, steps_end}
+use Rattle.index_spaces.specs.Held.{held_at}
+use Rattle.gen_events.specs.declared.handle.Handle.{Handle}
+use Rattle.gen_events.specs.EventMap.{EventMap, answer, answer_of, ended_with}
+use Rattle.run_state.specs.Run.{LineStage, Unissued, Out, Ending, Ended, Place, Home, Had, Run, is_listed, stage_at, time_at, place_at, list_at, end_so_far, stage_out, stage_started, stage_over, stage_ended, out, started, over, ended, timed}
+use Rattle.run_state.specs.Sound.{AccessesColumn, Sound}
+use Rattle.run_state.specs.WholeLine.{column_list, lock_of, all_home, all_back, columns_for, values_with, arrived_with, arrival_by, arrival_for, holders_without, freed_with, freed_lock, frees_by, frees_for, put_back_whole}
+use Rattle.run_state.specs.AtRest.{AtRest, MayPutBack, Undisturbed}
+use Rattle.run_state.specs.Laws.{PutBackKeepsRest, PutBackLeaves}
+use Rattle.run_state.proofs.Lists.{ended_over, listed_cases}
+use Rattle.graph_model.proofs.VerbFacts.{verb_passes}
+use Rattle.run_state.proofs.Started.{kept_is, started_below, started_ends}
+use Rattle.run_state.proofs.Known.{column_there}
+use Rattle.graph_model.proofs.ReleaseFacts.{one_release}
+use Rattle.run_state.proofs.PutBack.{acquire_is_ended, frees_found}
+use Rattle.run_core.specs.Core.{CoreValue, IsCore}
+use Rattle.run_core.specs.Events.{EventsValue}
+use Rattle.run_core.specs.Works.{FinishedValue, IsFinished, KeepsWork, cells_in}
+use Rattle.run_core.specs.Steps.{with_end, handle_at, fate_for}
+use Rattle.run_core.specs.Kept.{shown_stage, place_of, places_of, holding, Past, no_past, with_line, past_of, frees_as, frees_so_far, frees_in, frees, arrival_of, run_by, shown_core, AreKept}
+use Rattle.run_core.specs.declared.progress.Progress.{Progress}
+use Rattle.run_core.specs.declared.progress.Progress.TheVariants as progress
+use Rattle.run_core.proofs.PastFacts.{past_more, clock_from}
+use Rattle.run_core.proofs.PlaceFacts.{place_is}
+use Rattle.run_core.proofs.CoreFacts.{may_put, core_ended}
+use Rattle.run_core.proofs.WorkFacts.{core_of, keeps_work}
+
+-- WHAT A LINE FREES: by the ends that are kept, and by those of the evaluation
+frees_same : (g : GraphValue) (run : Run) (v : Verb) → frees_by g run v ≡ frees_so_far g run.stages v
+frees_same g run User = refl
+frees_same g run (Trigger k) = refl
+frees_same g run (Cancel k) = refl
+frees_same g run (Merge ks) = refl
+frees_same g run (MergeIgnore ks) = refl
+frees_same g run (Phase b) = refl
+frees_same g run (Arrive p v) = refl
+frees_same g run (Acquire l) = refl
+frees_same g run (Release q) = refl
+frees_same g run (Fill t s v) = refl
+frees_same g run (Copy x y s) = refl
+frees_same g run (Reduce o x y s) = refl
+frees_same g run (Task k) = refl
+
+pub frees_kept : (g : GraphValue) (run : Run) (i : ℕ) → frees_for g run i ≡ frees_in g run.stages i
+frees_kept g run i = by_option (verb_at g i)
+  where
+    by_option : (o : Option Verb) → option_map_or (frees_by g run) o None ≡ option_map_or (frees_so_far g run.stages) o None
+    by_option None = refl
+    by_option (Some v) = frees_same g run v
+
+frees_agree : (g : GraphValue) (run : Run) (v : Verb) → ((q : ℕ) → v ≡ Release q → end_so_far (stage_at run.stages q) ≡ eval_end g q) → frees_as g v ≡ frees_by g run v
+frees_agree g run User h = refl
+frees_agree g run (Trigger k) h = refl
+frees_agree g run (Cancel k) h = refl
+frees_agree g run (Merge ks) h = refl
+frees_agree g run (MergeIgnore ks) h = refl
+frees_agree g run (Phase b) h = refl
+frees_agree g run (Arrive p v) h = refl
+frees_agree g run (Acquire l) h = refl
+frees_agree g run (Release q) h = ap (λ x. freed_lock q x (lock_of g q)) (sym (h q refl))
+frees_agree g run (Fill t s v) h = refl
+frees_agree g run (Copy x y s) h = refl
+frees_agree g run (Reduce o x y s) h = refl
+frees_agree g run (Task k) h = refl
+
+pub frees_evaluated : {g : GraphValue} {run : Run} → Sound g run → (i : ℕ) → started run.stages i ≡ true → frees g i ≡ frees_for g run i
+frees_evaluated {g} {run} s i begun = by_option (verb_at g i) refl
+  where
+    by_option : (o : Option Verb) → verb_at g i ≡ o → option_map_or (frees_as g) o None ≡ option_map_or (frees_by g run) o None
+    by_option None e = refl
+    by_option (Some v) e = frees_agree g run v (λ q is.
+        let rel : Releases g i q = verb_passes (is_release_of q) g i (Release q) (e ∙ ap Some is) ∙ eq-eqb q q refl in
+        kept_is s.on_lines q (ended_over (stage_at run.stages q) (acquire_is_ended s i q rel begun)))
+
+-- WHO HOLDS the reservation that is freed
+holding_one : (o : Option ℕ) (q : ℕ) → is_listed (holding o) q ≡ true → holding o ≡ q ∷ []
+holding_one None q h = absurd (false≢true h)
+holding_one (Some k) q h = ap (λ j. j ∷ []) (sym (elim (listed_cases k q [] h) [ inl e ↦ e | inr r ↦ absurd (false≢true r) ]))
+
+list_of_holding : (holders : List (Option ℕ)) (l : ℕ) → list_at (map holding holders) l ≡ holding (slice_index_or holders l None)
+list_of_holding [] l = refl
+list_of_holding (o ∷ os) zero = refl
+list_of_holding (o ∷ os) (suc l) = list_of_holding os l
+
+pub held_alone : (before : CoreValue) (holders : List (Option ℕ)) → before.run.holders ≡ map holding holders → IsCore before → (f : FinishedValue) → IsFinished before f →
+    (l q : ℕ) → frees_in before.graph before.run.stages f.line ≡ Some (l, q) → list_at (map holding holders) l ≡ q ∷ []
+held_alone before holders shows core f is l q frees =
+    let s = core.sound in
+    let found = frees_found before.graph before.run s core.at_rest f.line f.ends (cells_in f.held) (may_put before f is) (l, q) (frees_kept before.graph before.run f.line ∙ frees) in
+    let over_q = ended_over (stage_at before.run.stages q) found.2 in
+    let listed : is_listed (list_at before.run.holders l) q ≡ true = elim (s.on_locks.timed_holds l q found.1 (s.on_times.over_timed q over_q) (λ e. done_apart (eval_end before.graph q) found.3 e)) [
+      | inl held ↦ held
+      | inr freed ↦ absurd (true≢false (sym (s.on_locks.freed_over f.line (subst (λ r. is_listed before.run.freed r ≡ true) (one_release before.graph s.graph q freed.0 f.line freed.1 found.0) freed.2)) ∙ ap stage_over is.is_out))
+    ] in
+    list_of_holding holders l ∙ holding_one (slice_index_or holders l None) q (ap (λ ks. is_listed ks q) (sym (list_of_holding holders l)) ∙ (ap (λ hs. is_listed (list_at hs l) q) (sym shows) ∙ listed))
+  where
+    done_apart : (x : End) → x ≡ Done → x ≡ Cancelled → ⊥
+    done_apart x a b = cc
+
+-- THE WHOLE STEP, as it is shown
+past_with : (g : GraphValue) (past : Past) (i : ℕ) (x : End) (o : Option (ℕ × ℕ)) → eval_end g i ≡ x → frees g i ≡ o → with_line g past i ≡ record {
+  times = slice_set past.times i (Some past.clock);
+  clock = past.clock + 1;
+  back = all_back past.back i (columns_for g i x);
+  arrived = arrived_with past.arrived i (arrival_for g i x);
+  freed = freed_with past.freed i o;
+}
+past_with g past i x o e f = ap (λ y. record {
+  times = slice_set past.times i (Some past.clock);
+  clock = past.clock + 1;
+  back = all_back past.back i (columns_for g i y);
+  arrived = arrived_with past.arrived i (arrival_for g i y);
+  freed = freed_with past.freed i (frees g i);
+}) e ∙ ap (λ y. record {
+  times = slice_set past.times i (Some past.clock);
+  clock = past.clock + 1;
+  back = all_back past.back i (columns_for g i x);
+  arrived = arrived_with past.arrived i (arrival_for g i x);
+  freed = freed_with past.freed i y;
+}) f
+
+module _ (g : GraphValue) (stages : List Progress) (events : EventsValue) (homes homes' : List (Option ColumnValue)) (takers takers' values values' : List ℕ) (holders holders' : List (Option ℕ)) (trace : List ℕ)
+    (f : FinishedValue) (core : IsCore (shown_core g stages events homes takers values holders trace)) (is : IsFinished (shown_core g stages events homes takers values holders trace) f)
+    (places : places_of homes' takers' ≡ all_home (places_of homes takers) (cells_in f.held) (columns_for g f.line f.ends))
+    (arrives : values' ≡ values_with values (arrival_for g f.line f.ends))
+    (frees_now : map holding holders' ≡ holders_without (map holding holders) (frees_in g (map shown_stage stages) f.line))
+  where
+    abbrev shown_before : CoreValue
+    shown_before = shown_core g stages events homes takers values holders trace
+
+    freed_is : frees_for g shown_before.run f.line ≡ frees_in g (map shown_stage stages) f.line
+    freed_is = frees_kept g shown_before.run f.line
+
+    begun : started shown_before.run.stages f.line ≡ true
+    begun = ap stage_started is.is_out
+
+    past_is : past_of g (trace ++ f.line ∷ []) ≡ record {
+      times = slice_set (past_of g trace).times f.line (Some (past_of g trace).clock);
+      clock = (past_of g trace).clock + 1;
+      back = all_back (past_of g trace).back f.line (columns_for g f.line f.ends);
+      arrived = arrived_with (past_of g trace).arrived f.line (arrival_for g f.line f.ends);
+      freed = freed_with (past_of g trace).freed f.line (frees_for g shown_before.run f.line);
+    }
+    past_is = past_more g _ trace f.line ∙ past_with g (past_of g trace) f.line f.ends (frees_for g shown_before.run f.line) is.is_end (frees_evaluated core.sound f.line begun)
+
+    stages_are : map shown_stage (slice_set stages f.line (progress.Ended f.ends)) ≡ slice_set (slice_set (map shown_stage stages) f.line (Ending f.ends)) f.line (Ended f.ends)
+    stages_are = map-set shown_stage stages f.line (progress.Ended f.ends) ∙ sym (set-set (map shown_stage stages) f.line (Ending f.ends) (Ended f.ends))
+
+    holders_are : map holding holders' ≡ holders_without (map holding holders) (frees_for g shown_before.run f.line)
+    holders_are = frees_now ∙ ap (holders_without (map holding holders)) (sym freed_is)
+
+    pub ended_shown : (events' : EventsValue) → events' ≡ record { handles = events.handles; table = ended_with events.table (handle_at shown_before f.line) (fate_for f.ends) } →
+        shown_core g (slice_set stages f.line (progress.Ended f.ends)) events' homes' takers' values' holders' (trace ++ f.line ∷ []) ≡ with_end shown_before f
+    ended_shown events' e =
+        ap (λ (ev : EventsValue). core_of g (run_by (past_of g (trace ++ f.line ∷ [])) (map shown_stage (slice_set stages f.line (progress.Ended f.ends))) (places_of homes' takers') values' (map holding holders')) ev.handles ev.table) e
+        ∙ (ap (λ p. core_of g (run_by p (map shown_stage (slice_set stages f.line (progress.Ended f.ends))) (places_of homes' takers') values' (map holding holders')) events.handles (ended_with events.table (handle_at shown_before f.line) (fate_for f.ends))) past_is
+        ∙ ap (λ (r : List LineStage × List Place × List ℕ × List (List ℕ)). core_of g (run_by (past_after shown_before) r.0 r.1 r.2 r.3) events.handles (ended_with events.table (handle_at shown_before f.line) (fate_for f.ends)))
+          (λ t. (stages_are t, places t, arrives t, holders_are t)))
+      where
+        past_after : CoreValue → Past
+        past_after c = record {
+          times = slice_set c.run.times f.line (Some c.run.clock);
+          clock = c.run.clock + 1;
+          back = all_back c.run.back f.line (columns_for g f.line f.ends);
+          arrived = arrived_with c.run.arrived f.line (arrival_for g f.line f.ends);
+          freed = freed_with c.run.freed f.line (frees_for g c.run f.line);
+        }
+
+-- A LINE THAT IS OUT ends, has its columns out, and has no time yet
+not_waiting : (g : GraphValue) (run : Run) → Sound g run → (i : ℕ) → started run.stages i ≡ true → eval_end g i ≡ Waiting → ⊥
+not_waiting g run s i begun e = false≢true (ap is_ended (sym e) ∙ end_in_ended (evaluation g) i (steps_end g _) (started_ends s.graph s.accepted s.on_lines i begun))
+
+none_by_place : (o : Option ColumnValue) (t k : ℕ) → place_of o t ≡ Had k → o ≡ None
+none_by_place None t k e = refl
+none_by_place (Some x) t k e = absurd (home_not_had x.cells k e)
+  where
+    home_not_had : (xs : List ℕ) (k : ℕ) → Home xs ≡ Had k → ⊥
+    home_not_had xs k e = cc
+
+pub column_is_out : (before : CoreValue) (homes : List (Option ColumnValue)) (takers : List ℕ) → before.run.places ≡ places_of homes takers → IsCore before → AreKept before.graph homes takers → (f : FinishedValue) → IsFinished before f → f.ends ≢ Cancelled →
+    (k : ℕ) → AccessesColumn before.graph f.line k → slice_get homes k ≡ Some None
+column_is_out before homes takers shows core kept f is runs k a =
+    let near : k < length homes = subst (λ n. k < n) (sym kept.each_home) (column_there core.sound.graph f.line k a) in
+    let had : place_at before.run.places k ≡ Had f.line = core.at_rest.out_has f.line k (ap stage_out is.is_out) (λ e. runs (sym is.is_end ∙ e)) a in
+    slice_get-get_or homes k None near ∙ ap Some (none_by_place (slice_index_or homes k None) (slice_index takers k) f.line (sym (place_is homes takers k (kept.each_home ∙ sym kept.each_taker) near) ∙ (ap (λ ps. place_at ps k) (sym shows) ∙ had)))
+
+pub column_is_held : (before : CoreValue) (f : FinishedValue) → IsFinished before f → f.ends ≢ Cancelled → (k : ℕ) → AccessesColumn before.graph f.line k → IsSome (held_at f.held k)
+column_is_held before f is runs k a = subst IsSome (sym ((is.holds runs).has k a)) refl
+
+-- there is room in the trace for one line more
+pub trace_is_short : (before : CoreValue) (trace : List ℕ) → before.run.clock ≡ (past_of before.graph trace).clock → IsCore before → (f : FinishedValue) → IsFinished before f → length trace < length before.graph.lines
+trace_is_short before trace shows core f is =
+    let s = core.sound in
+    let clock : (past_of before.graph trace).clock ≡ 0 + length trace = clock_from before.graph (no_past before.graph) trace in
+    let counts : before.run.clock ≡ count_below (timed before.run.times) (length before.graph.lines) = s.on_times.clock_counts in
+    let below : f.line < length before.graph.lines = started_below s.on_lines f.line (ap stage_started is.is_out) in
+    let fewer : count_below (timed before.run.times) (length before.graph.lines) + 1 ≤ count_below (λ k. true) (length before.graph.lines) =
+    fewer_below (timed before.run.times) (λ k. true) (λ k h. refl) (length before.graph.lines) f.line below (core.at_rest.out_untimed f.line (ap stage_out is.is_out)) refl in
+    let most : count_below (λ k. true) (length before.graph.lines) ≤ length before.graph.lines = count_below-max (λ k. true) (length before.graph.lines) in
+    omega (arith, shows, clock, counts, fewer, most)
+
+-- what is kept of the columns that come home
+pub ended_kept : (h : GraphValue) (before : CoreValue) → h ≡ before.graph → (homes : List (Option ColumnValue)) (takers : List ℕ) (homes' : List (Option ColumnValue)) (takers' : List ℕ) → AreKept before.graph homes takers → (f : FinishedValue) → IsFinished before f →
+    length homes' ≡ length (columns h) → length takers' ≡ length (columns h) → ((k : ℕ) (x : ColumnValue) → slice_index_or homes' k None ≡ Some x → (slice_index_or homes k None ≡ Some x) ⊎ (held_at f.held k ≡ Some x)) → AreKept before.graph homes' takers'
+ended_kept h before e homes takers homes' takers' kept f is long wide same = record {
+  each_home = long ∙ ap (λ x. length (columns x)) e;
+  each_taker = wide ∙ ap (λ x. length (columns x)) e;
+  spaces = λ k x at. (elim (same k x at) [ inl old ↦ kept.spaces k x old | inr new ↦ by_end f.ends refl k x new ]);
+}
+  where
+    of_line : f.ends ≢ Cancelled → (k : ℕ) (x : ColumnValue) → held_at f.held k ≡ Some x → x.space ≡ column_space before.graph k
+    of_line runs k x at =
+        let holds = is.holds runs in
+        ap (λ (y : ColumnValue). y.space) (same_Some x _ (sym at ∙ holds.has k (holds.only k x at)))
+
+    by_end : (x : End) → f.ends ≡ x → (k : ℕ) (y : ColumnValue) → held_at f.held k ≡ Some y → y.space ≡ column_space before.graph k
+    by_end Cancelled e k y at = absurd (none-some y (sym (is.nothing e k) ∙ at))
+    by_end Done e k y at = of_line (λ c. (let d : Done ≡ Cancelled = sym e ∙ c in cc)) k y at
+    by_end Faulted e k y at = of_line (λ c. (let d : Faulted ≡ Cancelled = sym e ∙ c in cc)) k y at
+    by_end Waiting e k y at = of_line (λ c. (let d : Waiting ≡ Cancelled = sym e ∙ c in cc)) k y at
+
+-- THE CALL, over values
+pub finished_is : (before now : CoreValue) (f f' : FinishedValue) → before ≡ now → f ≡ f' → IsFinished now f' → IsFinished before f
+finished_is before now f f' same e is = subst (λ (c : CoreValue). IsFinished c f) (sym same) (subst (IsFinished now) (sym e) is)
+
+pub ended_core : PutBackKeepsRest → (before after : CoreValue) (f : FinishedValue) → after ≡ with_end before f → IsCore before → IsFinished before f →
+    answer (with_end before f).table (handle_at before f.line) ≡ Some (answer_of (fate_for f.ends)) → ((k : Handle) → k ≢ handle_at before f.line → answer (with_end before f).table k ≡ answer before.table k) → IsCore after
+ended_core law before after f eq core is here others =
+    subst IsCore (sym eq) (core_ended law before core f is (λ e. not_waiting before.graph before.run core.sound f.line (ap stage_started is.is_out) (is.is_end ∙ e)) here others)
+
+pub ended_is : (before now after : CoreValue) (f f' : FinishedValue) → before ≡ now → f ≡ f' → after ≡ with_end before f → after ≡ with_end now f'
+ended_is before now after f f' same e eq = eq ∙ (ap (λ c. with_end c f) same ∙ ap (with_end now) e)
+
+pub ended_works : PutBackLeaves → (before now after : CoreValue) (f f' : FinishedValue) → before ≡ now → f ≡ f' → after ≡ with_end before f → IsCore before → IsFinished before f → (k : ℕ) → k ≢ f'.line → KeepsWork now after k
+ended_works law before now after f f' same e eq core is k ne =
+    subst (λ (v : CoreValue). KeepsWork v after k) same (subst (λ (v : CoreValue). KeepsWork before v k) (sym eq)
+    (keeps_work before core (put_back_whole before.graph before.run f.line f.ends (cells_in f.held)) before.handles (ended_with before.table (handle_at before f.line) (fate_for f.ends)) k
+    (λ _. law before.graph before.run k f.line f.ends (cells_in f.held) (λ q. ne (q ∙ ap (λ (x : FinishedValue). x.line) e)) core.at_rest (may_put before f is))))

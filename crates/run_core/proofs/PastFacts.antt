@@ -1,0 +1,53 @@
+-- What has happened, with one more line that has ended.
+use Rattle.std.proofs.Common.{◌≡◌, ℕ, suc, ◌+◌, ◌<◌, ◌⊎◌, inl, inr, List, [], ◌∷◌, ◌++◌, length, refl, sym, ◌∙◌, ap, arith}
+use Rattle.std.specs.Prelude.{Option, Some, None, slice_get, slice_index_or, slice_set}
+use Rattle.std.proofs.lemmas.Bool.{cases_eq, cases_lt}
+use Rattle.std.proofs.lemmas.List.{get_or-set_same, get_or-set_other, set_past}
+use Rattle.std.proofs.lemmas.Option.{none-some, same_Some}
+use Rattle.graph_model.specs.Graph.{GraphValue}
+use Rattle.run_state.specs.Run.{time_at}
+use Rattle.run_state.proofs.Start.{same_at}
+use Rattle.run_core.specs.Kept.{Past, no_past, with_line, past_from, past_of}
+
+pub past_more : (g : GraphValue) (past : Past) (is : List ℕ) (i : ℕ) → past_from g past (is ++ i ∷ []) ≡ with_line g (past_from g past is) i
+past_more g past [] i = refl
+past_more g past (k ∷ is) i = past_more g (with_line g past k) is i
+
+pub clock_from : (g : GraphValue) (past : Past) (is : List ℕ) → (past_from g past is).clock ≡ past.clock + length is
+clock_from g past [] = (let z : past.clock ≡ past.clock + 0 = omega arith in z)
+clock_from g past (k ∷ is) = clock_from g (with_line g past k) is ∙ (let z : past.clock + 1 + length is ≡ past.clock + suc (length is) = omega arith in z)
+
+-- a line that has a time ended at that place
+times_more : (times : List (Option ℕ)) (j i t clock : ℕ) → time_at (slice_set times j (Some clock)) i ≡ Some t → ((i ≡ j) × (t ≡ clock)) ⊎ (time_at times i ≡ Some t)
+times_more times j i t clock h = elim (cases_eq i j) [
+  | inl same ↦ (elim (cases_lt j (length times)) [
+    | inl near ↦ inl (same, same_Some t clock (sym h ∙ (ap (λ k. slice_index_or (slice_set times j (Some clock)) k None) same ∙ get_or-set_same times j (Some clock) None near)))
+    | inr far ↦ inr (ap (λ ts. slice_index_or ts i None) (sym (set_past times j (Some clock) far)) ∙ h)
+  ])
+  | inr other ↦ inr (sym (get_or-set_other times j i (Some clock) None other) ∙ h)
+]
+
+pub record EndedAt (past : Past) (is : List ℕ) (i t : ℕ) : Type 0 where
+  pub place : ℕ
+  pub time : t ≡ past.clock + place
+  pub stands : slice_get is place ≡ Some i
+
+pub times_from : (g : GraphValue) (past : Past) (is : List ℕ) (i t : ℕ) → time_at (past_from g past is).times i ≡ Some t → EndedAt past is i t ⊎ (time_at past.times i ≡ Some t)
+times_from g past [] i t h = inr h
+times_from g past (j ∷ is) i t h = elim (times_from g (with_line g past j) is i t h) [
+  | inl later ↦ inl (record { place = suc later.place; time = (let e : t ≡ past.clock + 1 + later.place = later.time in omega (arith, e)); stands = later.stands })
+  | inr before ↦ (elim (times_more past.times j i t past.clock before) [
+    | inl here ↦ inl (record { place = 0; time = (let e : t ≡ past.clock = here.1 in omega (arith, e)); stands = ap Some (sym here.0) })
+    | inr old ↦ inr old
+  ])
+]
+
+-- none had a time before
+pub no_times : (g : GraphValue) (i : ℕ) → time_at (no_past g).times i ≡ None
+no_times g i = same_at None (length g.lines) i
+
+pub at_time : (g : GraphValue) (trace : List ℕ) (i t : ℕ) → time_at (past_of g trace).times i ≡ Some t → slice_get trace t ≡ Some i
+at_time g trace i t h = elim (times_from g (no_past g) trace i t h) [
+  | inl e ↦ (let z : t ≡ e.place = omega (arith, e.time) in ap (slice_get trace) z ∙ e.stands)
+  | inr old ↦ absurd (none-some t (sym (no_times g i) ∙ old))
+]

@@ -1,0 +1,54 @@
+-- A slot is free where a line is left and none of the others can be taken.
+use Rattle.std.proofs.Common.{◌≡◌, ℕ, suc, ◌+◌, ◌<◌, ◌≤◌, Bool, true, false, cond, List, [], ◌∷◌, length, refl, ap, arith}
+use Rattle.std.specs.Prelude.{slice_index_or}
+use Rattle.graph_model.specs.Need.{IsNeed}
+use Rattle.gen_events.specs.Lists.{total}
+use Rattle.gen_events.specs.EventMap.{EventMap, SlotLife, unused, life_at, IsFull}
+use Rattle.gen_events.proofs.Sums.{entry_le}
+use Rattle.run_state.specs.Quiet.{CanTake, Stuck, left_among}
+use Rattle.run_state.specs.Laws.{LeftBelowNeed}
+use Rattle.run_core.specs.Core.{CoreValue, IsCore, created_in, pending_in, count_left}
+use Rattle.run_core.specs.Steps.{IsLeft}
+use Rattle.run_core.specs.Finishing.{NothingOut}
+
+abbrev one_if : Bool → ℕ
+one_if b = cond b 1 0
+
+-- a table in which each slot is pending
+total_pending : (slots : List SlotLife) → ((i : ℕ) → i < length slots → (slice_index_or slots i unused).is_pending ≡ true) → total pending_in slots ≡ length slots
+total_pending [] h = refl
+total_pending (l ∷ ls) h =
+    let here : one_if l.is_pending ≡ 1 = ap (λ b. one_if b) (h 0 (omega arith)) in
+    let rest : total pending_in ls ≡ length ls = total_pending ls (λ i near. h (suc i) (omega (arith, near))) in
+    omega (arith, here, rest)
+
+-- a slot that is idle has served less often than lines are issued
+idle_or_pending : (m : EventMap) (i : ℕ) (b : Bool) → (life_at m i).is_pending ≡ b → (i < length m.slots) → length (life_at m i).fates ≤ m.last_gen → IsFull m → b ≡ true
+idle_or_pending m i true is near left full = refl
+idle_or_pending m i false is near left full = absurd (full i (record { «near» = near; idle = is; «left» = left }))
+
+created_few : (m : EventMap) (n i : ℕ) → total created_in m.slots ≡ n → i < length m.slots → length (life_at m i).fates ≤ n
+created_few m n i all near =
+    let part : length (life_at m i).fates + one_if (life_at m i).is_pending ≤ total created_in m.slots = entry_le created_in m.slots i unused near in
+    omega (arith, part, all)
+
+pub stuck_at : (c : CoreValue) → IsCore c → NothingOut c → ((i : ℕ) → CanTake c.graph c.run i → ⊥) → Stuck c.graph c.run (length c.handles)
+stuck_at c core nothing none = record {
+  first_issued = λ i l. (core.events.each_issued i).1 l;
+  none_out = nothing;
+  none_ending = core.at_rest.none_ending;
+  none_taken = none;
+}
+
+pub free_slot : LeftBelowNeed → (c : CoreValue) → IsCore c → NothingOut c → ((i : ℕ) → CanTake c.graph c.run i → ⊥) → IsLeft c → length c.graph.lines ≤ 8192 → (n : ℕ) → IsNeed c.graph n → IsFull c.table → ⊥
+free_slot law c core nothing none left few n need full =
+    let below : left_among c.run (length c.handles) < n = law c.graph c.run (length c.handles) n core.sound (stuck_at c core nothing none) left need in
+    let slots : n ≤ length c.table.slots = core.slots n need in
+    let pending : total pending_in c.table.slots ≡ count_left c.run.stages (length c.handles) = core.events.all_pending in
+    let each : total pending_in c.table.slots ≡ length c.table.slots =
+    total_pending c.table.slots (λ i near. idle_or_pending c.table i (life_at c.table i).is_pending refl near
+    (let fates : length (life_at c.table i).fates ≤ length c.handles = created_few c.table (length c.handles) i core.events.all_created near in
+    let last : c.table.last_gen ≡ 8191 = core.events.last in
+    let short : length c.handles < length c.graph.lines = left in
+    omega (arith, fates, last, short, few)) full) in
+    omega (arith, below, slots, pending, each)

@@ -1,0 +1,149 @@
+-- A line that is taken, as the code takes it.
+use Rattle.std.proofs.Common.{◌≡◌, ℕ, ◌<◌, true, false, List, [], map, length, refl, sym, ◌∙◌, ap, subst}
+use Rattle.std.specs.Prelude.{◌≢◌, ◌↔◌, Option, Some, None, IsSome, slice_index, slice_index_or, slice_set}
+use Rattle.std.proofs.lemmas.Bool.{true≢false, false≢true}
+use Rattle.std.proofs.lemmas.List.{map-set, get_or-set_same}
+use Rattle.index_spaces.specs.Column.{ColumnValue}
+use Rattle.graph_model.specs.declared.outcome.End.TheVariants.{Cancelled}
+use Rattle.graph_model.specs.Graph.{GraphValue, columns}
+use Rattle.graph_model.specs.Fits.{IsGraph}
+use Rattle.graph_model.specs.Evaluation.{eval_end}
+use Rattle.index_spaces.specs.Held.{held_at}
+use Rattle.run_state.specs.Run.{Run, Unissued, Issued, Out, Home, stage_at, place_at, stage_issued, stage_out, out}
+use Rattle.run_state.specs.Sound.{AccessesColumn}
+use Rattle.run_state.specs.WholeLine.{column_list, lock_of, all_had, holders_with, take_whole}
+use Rattle.run_state.proofs.Known.{column_there}
+use Rattle.run_state.specs.Moves.{staged, claim}
+use Rattle.run_state.specs.AtRest.{MayTakeWhole, Undisturbed}
+use Rattle.run_state.specs.Laws.{ClaimOfCancelledKeepsRest, TakeKeepsRest, StageLeaves, TakeLeaves}
+use Rattle.run_core.specs.Core.{CoreValue, IsCore}
+use Rattle.run_core.specs.Events.{EventsValue}
+use Rattle.run_core.specs.Works.{WorkValue, column_now, IsWork, KeepsWork}
+use Rattle.run_core.specs.Steps.{IsDue, IsAtHome, HasLock, HasColumns, with_run, Takes}
+use Rattle.run_core.specs.Kept.{shown_stage, place_of, places_of, holding, past_of, run_by, shown_core, AreKept}
+use Rattle.run_core.specs.declared.progress.Progress.{Progress}
+use Rattle.run_core.specs.declared.progress.Progress.TheVariants as progress
+use Rattle.run_core.proofs.CoreFacts.{core_claimed, core_taken, may_take, line_near}
+use Rattle.run_core.proofs.WorkFacts.{core_of, keeps_work}
+use Rattle.run_core.proofs.PlaceFacts.{place_is, is_there}
+
+-- another stage of a line, as it is shown
+pub staged_shown : (g : GraphValue) (stages : List Progress) (events : EventsValue) (homes : List (Option ColumnValue)) (takers values : List ℕ) (holders : List (Option ℕ)) (trace : List ℕ) (i : ℕ) (p : Progress) →
+    shown_core g (slice_set stages i p) events homes takers values holders trace
+    ≡ with_run (shown_core g stages events homes takers values holders trace) (staged (shown_core g stages events homes takers values holders trace).run i (shown_stage p))
+staged_shown g stages events homes takers values holders trace i p =
+    ap (λ ss. with_run (shown_core g stages events homes takers values holders trace) (record (shown_core g stages events homes takers values holders trace).run { stages = ss })) (map-set shown_stage stages i p)
+
+-- the claim of a line that is cancelled
+pub claimed_core : ClaimOfCancelledKeepsRest → (before after now : CoreValue) (i : ℕ) → before ≡ now → after ≡ with_run before (claim before.run i) → IsCore before → IsDue now.graph now.run i → eval_end now.graph i ≡ Cancelled → IsCore after
+claimed_core law before after now i same is core due cancelled =
+    subst IsCore (sym is) (core_claimed law before core i (subst (λ (c : CoreValue). IsDue c.graph c.run i) (sym same) due) (subst (λ (c : CoreValue). eval_end c.graph i ≡ Cancelled) (sym same) cancelled))
+
+claim_works : (c : CoreValue) → IsCore c → (i : ℕ) → IsDue c.graph c.run i → eval_end c.graph i ≡ Cancelled → IsWork (with_run c (claim c.run i)) (record { line = i; is_cancelled = true; held = [] })
+claim_works c core i due cancelled = record {
+  is_out = get_or-set_same c.run.stages i Out Unissued (line_near c core i (ap stage_issued due.is_issued));
+  cancelled = (λ _. cancelled, λ _. refl);
+  nothing = λ _ k. refl;
+  holds = λ e. absurd (true≢false e);
+}
+
+claim_takes : (c : CoreValue) → IsCore c → (i : ℕ) → IsDue c.graph c.run i → eval_end c.graph i ≡ Cancelled → Takes c (with_run c (claim c.run i)) (record { line = i; is_cancelled = true; held = [] })
+claim_takes c core i due cancelled = record {
+  «due» = due;
+  claimed = λ _. refl;
+  taken = λ runs. absurd (runs cancelled);
+  work = claim_works c core i due cancelled;
+}
+
+-- a claimed line leaves the others as they are
+out_apart : (c : CoreValue) (i k : ℕ) → stage_at c.run.stages i ≡ Issued → out c.run.stages k ≡ true → k ≢ i
+out_apart c i k is h e = true≢false (sym h ∙ (ap (out c.run.stages) e ∙ ap stage_out is))
+
+pub claimed_takes : (before after now : CoreValue) (i : ℕ) (w : WorkValue) → before ≡ now → after ≡ with_run before (claim before.run i) → IsCore before → IsDue now.graph now.run i → eval_end now.graph i ≡ Cancelled → w ≡ record { line = i; is_cancelled = true; held = [] } → Takes now after w
+claimed_takes before after now i w same is core due cancelled work =
+    subst (λ (v : CoreValue). Takes v after w) same (subst (λ (v : CoreValue). Takes before v w) (sym is) (subst (Takes before (with_run before (claim before.run i))) (sym work)
+    (claim_takes before core i (subst (λ (c : CoreValue). IsDue c.graph c.run i) (sym same) due) (subst (λ (c : CoreValue). eval_end c.graph i ≡ Cancelled) (sym same) cancelled))))
+
+pub claimed_works : StageLeaves → (before after now : CoreValue) (i : ℕ) → before ≡ now → after ≡ with_run before (claim before.run i) → IsCore before → IsDue now.graph now.run i → (k : ℕ) → KeepsWork now after k
+claimed_works law before after now i same is core due k =
+    let is_issued : stage_at before.run.stages i ≡ Issued = subst (λ (c : CoreValue). stage_at c.run.stages i ≡ Issued) (sym same) due.is_issued in
+    subst (λ (v : CoreValue). KeepsWork v after k) same (subst (λ (v : CoreValue). KeepsWork before v k) (sym is)
+    (keeps_work before core (claim before.run i) before.handles before.table k (λ h. law before.run k i Out (out_apart before i k is_issued h))))
+
+-- A LINE WITH ITS COLUMNS, as it is shown
+pub taken_shown : (g : GraphValue) (stages : List Progress) (events : EventsValue) (homes homes' : List (Option ColumnValue)) (takers takers' values : List ℕ) (holders holders' : List (Option ℕ)) (trace : List ℕ) (i : ℕ) →
+    places_of homes' takers' ≡ all_had (places_of homes takers) i (column_list g i) → map holding holders' ≡ holders_with (map holding holders) i (lock_of g i) →
+    shown_core g (slice_set stages i progress.Out) events homes' takers' values holders' trace
+    ≡ with_run (shown_core g stages events homes takers values holders trace) (take_whole g (shown_core g stages events homes takers values holders trace).run i)
+taken_shown g stages events homes homes' takers takers' values holders holders' trace i places held =
+    ap (λ ss. core_of g (run_by (past_of g trace) ss (places_of homes' takers') values (map holding holders')) events.handles events.table) (map-set shown_stage stages i progress.Out)
+    ∙ (ap (λ ps. core_of g (run_by (past_of g trace) (slice_set (map shown_stage stages) i Out) ps values (map holding holders')) events.handles events.table) places
+    ∙ ap (λ hs. core_of g (run_by (past_of g trace) (slice_set (map shown_stage stages) i Out) (all_had (places_of homes takers) i (column_list g i)) values hs) events.handles events.table) held)
+
+-- what is asked of the run before is asked of the value
+pub may_take_now : (before now : CoreValue) (i : ℕ) → before ≡ now → IsDue now.graph now.run i → eval_end now.graph i ≢ Cancelled → HasLock now.graph now.run.holders i → HasColumns now.graph now.run.places i → MayTakeWhole before.graph before.run i
+may_take_now before now i same due runs lock columns = subst (λ (c : CoreValue). MayTakeWhole c.graph c.run i) (sym same) (may_take now i due runs lock columns)
+
+pub taken_core : TakeKeepsRest → (before after : CoreValue) (i : ℕ) → after ≡ with_run before (take_whole before.graph before.run i) → IsCore before → MayTakeWhole before.graph before.run i → IsCore after
+taken_core law before after i is core may = subst IsCore (sym is) (core_taken law before core i may)
+
+column_eq : (x y : ColumnValue) → x.space ≡ y.space → x.cells ≡ y.cells → x ≡ y
+column_eq x y a b = λ t. record { space = a t; cells = b t }
+
+-- what a line holds of the columns that it took
+pub taken_works : TakeKeepsRest → (c : CoreValue) → IsCore c → (i : ℕ) → MayTakeWhole c.graph c.run i → (homes : List (Option ColumnValue)) (takers : List ℕ) → c.run.places ≡ places_of homes takers → AreKept c.graph homes takers → (held : List (ℕ × ColumnValue)) →
+    ((k : ℕ) → AccessesColumn c.graph i k → held_at held k ≡ slice_index_or homes k None) → ((k : ℕ) (x : ColumnValue) → held_at held k ≡ Some x → AccessesColumn c.graph i k) →
+    IsWork (with_run c (take_whole c.graph c.run i)) (record { line = i; is_cancelled = false; «held» = held })
+taken_works law c core i may homes takers shows kept held has only = record {
+  is_out = get_or-set_same c.run.stages i Out Unissued (line_near c core i (ap stage_issued may.is_issued));
+  cancelled = (λ e. absurd (false≢true e), λ e. absurd (may.not_cancelled e));
+  nothing = λ e. absurd (false≢true e);
+  holds = λ _. record { has = λ k a. has k a ∙ column_is k a; only = only };
+}
+  where
+    near : (k : ℕ) → AccessesColumn c.graph i k → k < length homes
+    near k a = subst (λ n. k < n) (sym kept.each_home) (column_there core.sound.graph i k a)
+
+    same_length : length homes ≡ length takers
+    same_length = kept.each_home ∙ sym kept.each_taker
+
+    by_place : (k : ℕ) (o : Option ColumnValue) → slice_index_or homes k None ≡ o → IsSome o → AccessesColumn c.graph i k → o ≡ Some (column_now c k)
+    by_place k None e s a = absurd (true≢false (sym s))
+    by_place k (Some x) e s a =
+        let at : place_at c.run.places k ≡ Home x.cells = ap (λ ps. place_at ps k) shows ∙ (place_is homes takers k same_length (near k a) ∙ ap (λ o. place_of o (slice_index takers k)) e) in
+        ap Some (column_eq x (column_now c k) (kept.spaces k x e) (core.sound.on_columns.cells k x.cells at))
+
+    column_is : (k : ℕ) → AccessesColumn c.graph i k → slice_index_or homes k None ≡ Some (column_now c k)
+    column_is k a = by_place k (slice_index_or homes k None) refl (is_there homes takers k same_length (near k a) (subst (λ ps. IsAtHome ps k) shows (may.at_home k a))) a
+
+pub taken_takes : (before after now : CoreValue) (i : ℕ) (w : WorkValue) → before ≡ now → after ≡ with_run before (take_whole before.graph before.run i) → IsDue now.graph now.run i → eval_end now.graph i ≢ Cancelled →
+    HasLock now.graph now.run.holders i → HasColumns now.graph now.run.places i → w.line ≡ i → IsWork (with_run before (take_whole before.graph before.run i)) w → Takes now after w
+taken_takes before after now i w same is due runs lock columns line works =
+    subst (λ (v : CoreValue). Takes v after w) same (subst (λ (v : CoreValue). Takes before v w) (sym is) (record {
+      due = subst (IsDue before.graph before.run) (sym line) (subst (λ (c : CoreValue). IsDue c.graph c.run i) (sym same) due);
+      claimed = λ e. absurd (runs (subst (λ (c : CoreValue). eval_end c.graph i ≡ Cancelled) same (ap (eval_end before.graph) (sym line) ∙ e)));
+      taken = λ _. (
+        subst (HasLock before.graph before.run.holders) (sym line) (subst (λ (c : CoreValue). HasLock c.graph c.run.holders i) (sym same) lock),
+        subst (HasColumns before.graph before.run.places) (sym line) (subst (λ (c : CoreValue). HasColumns c.graph c.run.places i) (sym same) columns),
+        ap (λ j. with_run before (take_whole before.graph before.run j)) (sym line));
+      work = works;
+    }))
+
+pub taken_keeps : TakeLeaves → (before after now : CoreValue) (i : ℕ) → before ≡ now → after ≡ with_run before (take_whole before.graph before.run i) → IsCore before → MayTakeWhole before.graph before.run i → (k : ℕ) → KeepsWork now after k
+taken_keeps law before after now i same is core may k =
+    subst (λ (v : CoreValue). KeepsWork v after k) same (subst (λ (v : CoreValue). KeepsWork before v k) (sym is)
+    (keeps_work before core (take_whole before.graph before.run i) before.handles before.table k (λ h. law before.graph before.run k i h may)))
+
+-- the columns of a line that can be taken are there
+pub home_columns : (g : GraphValue) (homes : List (Option ColumnValue)) (takers : List ℕ) → IsGraph g → AreKept g homes takers → (i : ℕ) → HasColumns g (places_of homes takers) i → (k : ℕ) → AccessesColumn g i k → IsSome (slice_index_or homes k None)
+home_columns g homes takers f kept i columns k a =
+    is_there homes takers k (kept.each_home ∙ sym kept.each_taker) (subst (λ n. k < n) (sym kept.each_home) (column_there f i k a)) (columns k a)
+
+-- what is kept of the columns where some are taken
+pub taken_kept : (h g : GraphValue) → h ≡ g → (homes : List (Option ColumnValue)) (takers : List ℕ) (homes' : List (Option ColumnValue)) (takers' : List ℕ) → AreKept g homes takers → length homes' ≡ length (columns h) → length takers' ≡ length (columns h) →
+    ((k : ℕ) (x : ColumnValue) → slice_index_or homes' k None ≡ Some x → slice_index_or homes k None ≡ Some x) → AreKept g homes' takers'
+taken_kept h g e homes takers homes' takers' kept long wide same = record {
+  each_home = long ∙ ap (λ x. length (columns x)) e;
+  each_taker = wide ∙ ap (λ x. length (columns x)) e;
+  spaces = λ k x at. kept.spaces k x (same k x at);
+}

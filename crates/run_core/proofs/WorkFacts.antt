@@ -1,0 +1,77 @@
+-- What a line holds is kept by the steps of others.
+use Rattle.std.proofs.Common.{◌≡◌, ℕ, true, false, List, refl, sym, ◌∙◌, ap, subst}
+use Rattle.std.specs.Prelude.{◌≢◌, ◌↔◌, Bool, Option, Some, None}
+use Rattle.std.proofs.lemmas.Bool.{true≢false, false≢true}
+use Rattle.index_spaces.specs.Column.{ColumnValue}
+use Rattle.index_spaces.specs.Held.{held_at}
+use Rattle.graph_model.specs.declared.outcome.End.TheVariants.{Cancelled}
+use Rattle.graph_model.specs.Graph.{GraphValue, column_space}
+use Rattle.graph_model.specs.Evaluation.{eval_end, column_of, cells_of_lines}
+use Rattle.gen_events.specs.declared.handle.Handle.{Handle}
+use Rattle.gen_events.specs.EventMap.{EventMap}
+use Rattle.run_state.specs.Run.{Run, Out, Had, is_listed, stage_at, place_at, list_at, stage_out, out}
+use Rattle.run_state.specs.Sound.{AccessesColumn}
+use Rattle.run_state.specs.Work.{put_cells}
+use Rattle.run_state.specs.AtRest.{AtRest, Undisturbed}
+use Rattle.run_core.specs.Core.{CoreValue, IsCore}
+use Rattle.run_core.specs.Works.{WorkValue, FinishedValue, HoldsColumns, column_now, column_left, IsWork, IsFinished, KeepsWork}
+
+-- a core with another run, handles and table
+abbrev pub core_of : GraphValue → Run → List Handle → EventMap → CoreValue
+core_of g run handles table = record { graph = g; «run» = run; «handles» = handles; «table» = table }
+
+false_when : (b : Bool) → (b ≡ true → ⊥) → b ≡ false
+false_when true n = absurd (n refl)
+false_when false n = refl
+
+module _ (old : CoreValue) (core : IsCore old) (after : Run) (handles : List Handle) (table : EventMap) (i : ℕ) (u : out old.run.stages i ≡ true → Undisturbed i old.run after) where
+  abbrev new : CoreValue
+  new = core_of old.graph after handles table
+
+  stays_out : stage_at old.run.stages i ≡ Out → stage_at after.stages i ≡ Out
+  stays_out is = (u (ap stage_out is)).stage ∙ is
+
+  same_list : stage_at old.run.stages i ≡ Out → eval_end old.graph i ≢ Cancelled → (k : ℕ) → AccessesColumn old.graph i k → list_at after.back k ≡ list_at old.run.back k
+  same_list is runs k a = (u (ap stage_out is)).back k (core.at_rest.out_has i k (ap stage_out is) runs a)
+
+  work_stays : (w : WorkValue) → w.line ≡ i → IsWork old w → IsWork new w
+  work_stays w line is =
+      let is_out : stage_at old.run.stages i ≡ Out = ap (stage_at old.run.stages) (sym line) ∙ is.is_out in
+      record {
+        is_out = ap (stage_at after.stages) line ∙ stays_out is_out;
+        cancelled = is.cancelled;
+        nothing = is.nothing;
+        holds = λ runs. (let old_holds = is.holds runs in record {
+          has = λ k a. old_holds.has k a ∙ ap (λ ks. Some (column_of old.graph (λ c p. cells_of_lines old.graph (is_listed ks) c p) k))
+              (sym (same_list is_out (λ e. true≢false (sym (is.cancelled.1 (ap (eval_end old.graph) line ∙ e)) ∙ runs)) k (subst (λ j. AccessesColumn old.graph j k) line a)));
+          only = old_holds.only;
+        });
+      }
+
+  finished_stays : (f : FinishedValue) → f.line ≡ i → IsFinished old f → IsFinished new f
+  finished_stays f line is =
+      let is_out : stage_at old.run.stages i ≡ Out = ap (stage_at old.run.stages) (sym line) ∙ is.is_out in
+      record {
+        is_out = ap (stage_at after.stages) line ∙ stays_out is_out;
+        is_end = is.is_end;
+        nothing = is.nothing;
+        holds = λ runs. (let old_holds = is.holds runs in record {
+          has = λ k a. old_holds.has k a ∙ ap (λ ks. Some (record { space = column_space old.graph k; cells = put_cells old.graph f.line ks k }))
+              (sym (same_list is_out (λ e. runs (sym is.is_end ∙ (ap (eval_end old.graph) line ∙ e))) k (subst (λ j. AccessesColumn old.graph j k) line a)));
+          only = old_holds.only;
+        });
+      }
+
+  pub keeps_work : KeepsWork old new i
+  keeps_work = record { work = work_stays; finished = finished_stays }
+
+-- where nothing changes
+pub keeps_same : (old next : CoreValue) → next ≡ old → (i : ℕ) → KeepsWork old next i
+keeps_same old next same i = subst (λ c. KeepsWork old c i) (sym same) (record { work = λ w line is. is; finished = λ f line is. is })
+
+-- where the run doesn't
+pub keeps_run : (old : CoreValue) (handles : List Handle) (table : EventMap) (i : ℕ) → KeepsWork old (core_of old.graph old.run handles table) i
+keeps_run old handles table i = record {
+  work = λ w line is. record { is_out = is.is_out; cancelled = is.cancelled; nothing = is.nothing; holds = λ r. record { has = (is.holds r).has; only = (is.holds r).only } };
+  finished = λ f line is. record { is_out = is.is_out; is_end = is.is_end; nothing = is.nothing; holds = λ r. record { has = (is.holds r).has; only = (is.holds r).only } };
+}

@@ -1,0 +1,5 @@
+use Rattle.run_core.specs.Finishing.{GoesOn}
+use Rattle.run_core.proofs.run.Core.follow_woken.Given as goal
+
+abbrev pub invariant-loop-turn : goal.invariant-loop-turn
+invariant-loop-turn l = GoesOn l.initial.self l.self

@@ -1,0 +1,120 @@
+-- How what the code keeps shows a core.
+use Rattle.std.specs.Prelude.{◌≡◌, ℕ, ◌+◌, ◌<◌, ◌≤◌, ◌↔◌, Bool, true, false, List, [], ◌∷◌, length, map, Contains, IsTrue, Option, Some, None, slice_get, slice_index_or, slice_set}
+use Rattle.std.specs.Option.{option_map_or}
+use Rattle.index_spaces.specs.declared.Op.{Op}
+use Rattle.index_spaces.specs.Space.{numbers_below}
+use Rattle.index_spaces.specs.Column.{ColumnValue}
+use Rattle.graph_model.specs.declared.outcome.End.{End}
+use Rattle.graph_model.specs.declared.verb.Verb.{Verb}
+use Rattle.graph_model.specs.declared.verb.Verb.TheVariants.{Release}
+use Rattle.graph_model.specs.Graph.{GraphValue, columns, column_space, verb_at}
+use Rattle.graph_model.specs.Evaluation.{eval_end}
+use Rattle.run_state.specs.Run.{LineStage, Unissued, Issued, Out, Ended, Place, Home, Had, Run, stage_at, end_so_far}
+use Rattle.run_state.specs.WholeLine.{lock_of, all_back, columns_for, arrived_with, arrival_by, arrival_for, freed_lock, freed_with}
+use Rattle.run_core.specs.Core.{CoreValue, IsCore}
+use Rattle.run_core.specs.Events.{EventsValue}
+use Rattle.run_core.specs.declared.progress.Progress.{Progress}
+use Rattle.run_core.specs.declared.progress.Progress.TheVariants as progress
+
+-- how far a line has come
+abbrev pub shown_stage : Progress → LineStage
+shown_stage progress.Unissued = Unissued
+shown_stage progress.Issued = Issued
+shown_stage progress.Out = Out
+shown_stage (progress.Ended x) = Ended x
+
+-- where the columns are
+abbrev pub place_of : Option ColumnValue → ℕ → Place
+place_of (Some x) taker = Home x.cells
+place_of None taker = Had taker
+
+abbrev pub places_of : List (Option ColumnValue) → List ℕ → List Place
+places_of [] takers = []
+places_of (x ∷ xs) [] = []
+places_of (x ∷ xs) (t ∷ ts) = place_of x t ∷ places_of xs ts
+
+-- the acquire that holds a reservation, as a list
+abbrev pub holding : Option ℕ → List ℕ
+holding None = []
+holding (Some q) = q ∷ []
+
+-- WHAT HAS HAPPENED, by the lines that have ended, in the order in which they did: their times, on which columns they were put back, which of them arrived, and which freed a reservation
+pub record Past : Type 0 where
+  pub times : List (Option ℕ)
+  pub clock : ℕ
+  pub back : List (List ℕ)
+  pub arrived : List ℕ
+  pub freed : List ℕ
+
+abbrev pub no_past : GraphValue → Past
+no_past g = record {
+  times = map (λ i. None) (numbers_below (length g.lines));
+  clock = 0;
+  back = map (λ c. []) (numbers_below (length (columns g)));
+  arrived = [];
+  freed = [];
+}
+
+-- what a release frees, by the end of its acquire in the evaluation
+abbrev pub frees_as : GraphValue → Verb → Option (ℕ × ℕ)
+frees_as g (Release q) = freed_lock q (eval_end g q) (lock_of g q)
+frees_as g _ = None
+
+-- and by the end that the run keeps of it
+abbrev pub frees_so_far : GraphValue → List LineStage → Verb → Option (ℕ × ℕ)
+frees_so_far g stages (Release q) = freed_lock q (end_so_far (stage_at stages q)) (lock_of g q)
+frees_so_far g stages _ = None
+
+abbrev pub frees_in : GraphValue → List LineStage → ℕ → Option (ℕ × ℕ)
+frees_in g stages i = option_map_or (frees_so_far g stages) (verb_at g i) None
+
+abbrev pub frees : GraphValue → ℕ → Option (ℕ × ℕ)
+frees g i = option_map_or (frees_as g) (verb_at g i) None
+
+abbrev pub with_line : GraphValue → Past → ℕ → Past
+with_line g past i = record {
+  times = slice_set past.times i (Some past.clock);
+  clock = past.clock + 1;
+  back = all_back past.back i (columns_for g i (eval_end g i));
+  arrived = arrived_with past.arrived i (arrival_for g i (eval_end g i));
+  freed = freed_with past.freed i (frees g i);
+}
+
+abbrev pub past_from : GraphValue → Past → List ℕ → Past
+past_from g past [] = past
+past_from g past (i ∷ is) = past_from g (with_line g past i) is
+
+abbrev pub past_of : GraphValue → List ℕ → Past
+past_of g trace = past_from g (no_past g) trace
+
+abbrev pub run_by : Past → List LineStage → List Place → List ℕ → List (List ℕ) → Run
+run_by past stages places values holders = record {
+  «stages» = stages;
+  times = past.times;
+  clock = past.clock;
+  «places» = places;
+  back = past.back;
+  «values» = values;
+  arrived = past.arrived;
+  «holders» = holders;
+  freed = past.freed;
+}
+
+-- what a line brings to a phase, if it is an arrival
+abbrev pub arrival_of : GraphValue → ℕ → Option (Op × ℕ × ℕ)
+arrival_of g i = option_map_or (arrival_by g) (verb_at g i) None
+
+-- the core that is shown
+abbrev pub shown_core : GraphValue → List Progress → EventsValue → List (Option ColumnValue) → List ℕ → List ℕ → List (Option ℕ) → List ℕ → CoreValue
+shown_core g stages events homes takers values holders trace = record {
+  graph = g;
+  run = run_by (past_of g trace) (map shown_stage stages) (places_of homes takers) values (map holding holders);
+  handles = events.handles;
+  table = events.table;
+}
+
+-- what holds besides of the columns
+pub record AreKept (g : GraphValue) (homes : List (Option ColumnValue)) (takers : List ℕ) : Type 0 where
+  pub each_home : length homes ≡ length (columns g)
+  pub each_taker : length takers ≡ length (columns g)
+  pub spaces : (c : ℕ) (x : ColumnValue) → slice_index_or homes c None ≡ Some x → x.space ≡ column_space g c

@@ -1,0 +1,9 @@
+pub mod Events
+pub mod Core
+pub mod Works
+pub mod Sources
+pub mod Kept
+pub mod Steps
+pub mod Findings
+pub mod Finishing
+pub mod Answers

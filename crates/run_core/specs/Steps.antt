@@ -1,0 +1,142 @@
+-- What each call of a core does.
+use Rattle.std.specs.Prelude.{◌≡◌, ◌≢◌, ℕ, ◌<◌, ◌≤◌, ◌⊎◌, true, false, List, [], ◌∷◌, ◌++◌, length, Contains, Option, Some, None, slice_get, slice_index_or}
+use Rattle.graph_model.specs.declared.outcome.End.{End}
+use Rattle.graph_model.specs.declared.outcome.End.TheVariants.{Done, Faulted, Cancelled, Waiting}
+use Rattle.graph_model.specs.declared.verb.Edge.{Edge}
+use Rattle.graph_model.specs.Graph.{GraphValue, never_comes}
+use Rattle.graph_model.specs.Edges.{edges}
+use Rattle.graph_model.specs.Rules.{Acquires}
+use Rattle.graph_model.specs.Evaluation.{eval_end}
+use Rattle.gen_events.specs.declared.handle.Handle.{Handle}
+use Rattle.gen_events.specs.declared.handle.Fate.{Fate}
+use Rattle.gen_events.specs.declared.handle.Fate.TheVariants.{Ok, Poison}
+use Rattle.gen_events.specs.EventMap.{EventMap, no_event, created_at, placed_on, ended_with, next_handle, MayServe, IsFull, IsFree, Gives}
+use Rattle.run_state.specs.Run.{LineStage, Unissued, Issued, Out, Ending, Ended, Place, Had, Run, stage_at, place_at, list_at, ended}
+use Rattle.run_state.specs.Sound.{AccessesColumn}
+use Rattle.run_state.specs.Moves.{issue, claim}
+use Rattle.run_state.specs.WholeLine.{column_list, take_whole, put_back_whole}
+use Rattle.run_core.specs.Core.{CoreValue, WaitsFor}
+use Rattle.run_core.specs.Works.{WorkValue, FinishedValue, IsWork, cells_in}
+use Rattle.run_core.specs.declared.answers.Issue.{Issue as IssueAnswer}
+use Rattle.run_core.specs.declared.answers.Issue.TheVariants as issues
+use Rattle.run_core.specs.declared.answers.Stage.{Stage}
+use Rattle.run_core.specs.declared.answers.Stage.TheVariants as stages
+use Rattle.run_core.specs.declared.answers.Thing.{Thing}
+use Rattle.run_core.specs.declared.answers.Thing.TheVariants as things
+use Rattle.run_core.specs.declared.answers.Attempt.{Attempt}
+use Rattle.run_core.specs.declared.answers.Attempt.TheVariants as attempts
+
+-- ISSUING. The next line gets this new handle
+abbrev pub with_issue : CoreValue → Handle → CoreValue
+with_issue c h = record {
+  graph = c.graph;
+  run = issue c.run (length c.handles);
+  handles = c.handles ++ h ∷ [];
+  table = created_at c.table h.slot;
+}
+
+-- a line is left to issue
+abbrev pub IsLeft : CoreValue → Type 0
+IsLeft c = length c.handles < length c.graph.lines
+
+-- what an issue answers, and what it does
+abbrev pub Issues : CoreValue → CoreValue → IssueAnswer → Type 0
+Issues old new (issues.Issued i) = IsLeft old × (i ≡ length old.handles) × (h : Handle) × MayServe old.table h.slot × (h ≡ next_handle old.table h.slot) × (new ≡ with_issue old h)
+Issues old new issues.NoSlot = IsLeft old × IsFull old.table × (new ≡ old)
+Issues old new issues.All = (length old.handles ≡ length old.graph.lines) × (new ≡ old)
+Issues old new issues.Other = ⊥
+
+-- ATTEMPTING. How far a line has come
+abbrev pub stage_of : LineStage → Stage
+stage_of Unissued = stages.Unissued
+stage_of Issued = stages.Issued
+stage_of Out = stages.Out
+stage_of (Ending x) = stages.Out
+stage_of (Ended x) = stages.Ended
+
+-- j is the least line that i waits for and that has not ended
+pub record IsLeastLeft (g : GraphValue) (stages : List LineStage) (i j : ℕ) : Type 0 where
+  pub waits : WaitsFor g i j
+  pub left : ended stages j ≡ false
+  pub least : (k : ℕ) → WaitsFor g i k → ended stages k ≡ false → j ≤ k
+
+-- all lines that i waits for have ended
+abbrev pub HasSources : GraphValue → List LineStage → ℕ → Type 0
+HasSources g stages i = (j : ℕ) → WaitsFor g i j → ended stages j ≡ true
+
+-- an issued line that comes and whose sources have ended
+pub record IsDue (g : GraphValue) (run : Run) (i : ℕ) : Type 0 where
+  pub is_issued : stage_at run.stages i ≡ Issued
+  pub comes : never_comes g i ≡ false
+  pub sources : HasSources g run.stages i
+
+-- its reservation, where it acquires one, is free
+abbrev pub HasLock : GraphValue → List (List ℕ) → ℕ → Type 0
+HasLock g holders i = (l : ℕ) → Acquires g i l → list_at holders l ≡ []
+
+-- its columns are at home
+abbrev pub IsAtHome : List Place → ℕ → Type 0
+IsAtHome places c = (taker : ℕ) → place_at places c ≢ Had taker
+
+abbrev pub HasColumns : GraphValue → List Place → ℕ → Type 0
+HasColumns g places i = (c : ℕ) → AccessesColumn g i c → IsAtHome places c
+
+-- c is the first of its columns that is out
+pub record IsFirstOut (g : GraphValue) (places : List Place) (i c : ℕ) : Type 0 where
+  pub place : ℕ
+  pub column : slice_get (column_list g i) place ≡ Some c
+  pub is_out : IsAtHome places c → ⊥
+  pub before : (k d : ℕ) → k < place → slice_get (column_list g i) k ≡ Some d → IsAtHome places d
+
+-- why a line that is due and won't be cancelled can't be taken
+abbrev pub IsHeldBy : GraphValue → Run → ℕ → Thing → Type 0
+IsHeldBy g run i (things.Lock l) = Acquires g i l × (list_at run.holders l ≢ [])
+IsHeldBy g run i (things.Column c) = HasLock g run.holders i × IsFirstOut g run.places i c
+
+-- nothing changes but that the line is placed on the handle of j, where j has one and the line is free
+pub record StandsBy (old new : CoreValue) (i j : ℕ) : Type 0 where
+  pub placed : (h : Handle) → slice_get old.handles j ≡ Some h → IsFree old.table i → new ≡ record old { table = placed_on old.table h i }
+  pub unissued : slice_get old.handles j ≡ None → new ≡ old
+  pub busy : (IsFree old.table i → ⊥) → new ≡ old
+  pub either : (new ≡ old) ⊎ ((h : Handle) × (slice_get old.handles j ≡ Some h) × (new ≡ record old { table = placed_on old.table h i }))
+
+-- the line is out, and this is its work. One that is cancelled takes nothing
+abbrev pub with_run : CoreValue → Run → CoreValue
+with_run c run = record { graph = c.graph; «run» = run; handles = c.handles; table = c.table }
+
+pub record Takes (old new : CoreValue) (w : WorkValue) : Type 0 where
+  pub due : IsDue old.graph old.run w.line
+  pub claimed : eval_end old.graph w.line ≡ Cancelled → new ≡ with_run old (claim old.run w.line)
+  pub taken : eval_end old.graph w.line ≢ Cancelled → HasLock old.graph old.run.holders w.line × HasColumns old.graph old.run.places w.line × (new ≡ with_run old (take_whole old.graph old.run w.line))
+  pub work : IsWork new w
+
+-- what an attempt answers, and what it does
+abbrev pub Attempts : CoreValue → CoreValue → ℕ → Attempt → Type 0
+Attempts old new i (attempts.Over s) = (stage_at old.run.stages i ≢ Issued) × (s ≡ stage_of (stage_at old.run.stages i)) × (new ≡ old)
+Attempts old new i attempts.Never = (stage_at old.run.stages i ≡ Issued) × (never_comes old.graph i ≡ true) × (new ≡ old)
+Attempts old new i (attempts.NotYet j) = (stage_at old.run.stages i ≡ Issued) × (never_comes old.graph i ≡ false) × IsLeastLeft old.graph old.run.stages i j × StandsBy old new i j
+Attempts old new i (attempts.Busy thing) = IsDue old.graph old.run i × (eval_end old.graph i ≢ Cancelled) × IsHeldBy old.graph old.run i thing × (new ≡ old)
+Attempts old new i (attempts.Taken w) = (w.line ≡ i) × Takes old new w
+
+-- PUTTING BACK. The fate of the handle of a line that ends so
+abbrev pub fate_for : End → Fate
+fate_for Done = Ok
+fate_for Faulted = Poison
+fate_for Cancelled = Poison
+fate_for Waiting = Poison
+
+abbrev pub handle_at : CoreValue → ℕ → Handle
+handle_at c i = slice_index_or c.handles i no_event
+
+-- the line has ended, and so has its handle
+abbrev pub with_end : CoreValue → FinishedValue → CoreValue
+with_end c f = record {
+  graph = c.graph;
+  run = put_back_whole c.graph c.run f.line f.ends (cells_in f.held);
+  handles = c.handles;
+  table = ended_with c.table (handle_at c f.line) (fate_for f.ends);
+}
+
+-- WAKING. A line that was caught is given, and is free again
+abbrev pub Wakes : CoreValue → ℕ → CoreValue → Type 0
+Wakes old i new = Gives old.table i new.table × (new.graph ≡ old.graph) × (new.run ≡ old.run) × (new.handles ≡ old.handles)

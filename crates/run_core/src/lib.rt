@@ -1,0 +1,18 @@
+//! The core of a run: its lines may be taken and put back in any order, with any amount of work
+//! out, and where nothing is out and nothing can be taken it is the evaluation of the graph.
+#![tactic(auto)]
+
+mod answers;
+mod columns;
+mod events;
+mod holders;
+mod phases;
+mod progress;
+mod room;
+mod run;
+mod sources;
+mod work;
+
+pub use answers::{Attempt, Issue, Stage, Thing};
+pub use run::Core;
+pub use work::{Finished, Work};

@@ -1,0 +1,65 @@
+//! The values of phases so far.
+
+ghost use Rattle.std.specs.Prelude.{◌≡◌, ◌<◌, length, map, IfOk};
+ghost use Rattle.index_spaces.specs.Space.{numbers_below};
+ghost use Rattle.run_state.specs.Start.{first_value};
+ghost use Rattle.run_state.specs.WholeLine.{values_with, phase_op};
+ghost use Rattle.run_core.specs.Kept.{arrival_of};
+
+use crate::room::{push_within, with_room};
+use graph_model::graph::Graph;
+use graph_model::laws::edges_between_lines;
+use graph_model::line_laws::phases_fit;
+use graph_model::verb::Verb;
+use index_spaces::{NoMemory, Op};
+use line_effects::passing::combined;
+use std::alloc::Global;
+
+/// The values before any arrival: the first value of its barrier for a phase, and 0 for other lines.
+pub(crate) fn first_values(alloc: Global, graph: &Graph) -> Result<Vec<u64>, NoMemory>
+    ensures { IfOk result (λ v. v.items ≡ map (first_value graph.now) (numbers_below (length graph.now.lines))) }
+{
+    let mut values = with_room(alloc, graph.lines() as usize)?;
+    for line in 0..graph.lines() {
+        push_within(&mut values, first_value(graph, line));
+    }
+    Ok(values)
+}
+
+/// The first value of the barrier of a phase, and 0 for another line.
+fn first_value(graph: &Graph, line: u32) -> u64
+    requires { line < length graph.now.lines }
+    ensures { result ≡ first_value graph.now line }
+{
+    phases_fit();
+    match &graph.line(line).verb {
+        Verb::Phase { barrier } => graph.barrier(*barrier).first,
+        _ => 0,
+    }
+}
+
+/// Adds the value of an arrival to that of its phase, if the line is an arrival.
+pub(crate) fn arrive(graph: &Graph, line: u32, values: &mut Vec<u64>)
+    requires known { line < length graph.now.lines }
+    requires each { length values.old.items ≡ length graph.now.lines }
+    ensures { values.new.items ≡ values_with values.old.items (arrival_of graph.now line) }
+{
+    edges_between_lines();
+    if let Verb::Arrive { phase, value } = &graph.line(line).verb {
+        let place = *phase as usize;
+        let op = phase_op(graph, *phase);
+        values[place] = combined(op, values[place], *value);
+    }
+}
+
+/// How the values of arrivals at a phase are reduced.
+fn phase_op(graph: &Graph, phase: u32) -> Op
+    requires { phase < length graph.now.lines }
+    ensures { result ≡ phase_op graph.now phase }
+{
+    phases_fit();
+    match &graph.line(phase).verb {
+        Verb::Phase { barrier } => graph.barrier(*barrier).op,
+        _ => Op::Sum,
+    }
+}

@@ -1,0 +1,12 @@
+//! How far lines have come.
+
+use graph_model::outcome::End;
+
+/// How far a line has come, with its end where it has one.
+#[derive(Clone, Copy, Debug, PartialEq, Eq)]
+pub(crate) enum Progress {
+    Unissued,
+    Issued,
+    Out,
+    Ended(End),
+}

@@ -1,0 +1,118 @@
+//! The core of a run.
+
+ghost use Rattle.std.specs.Prelude.{◌≡◌, ◌≤◌, IfOk};
+
+use crate::columns::Columns;
+use crate::events::LineEvents;
+use crate::phases::first_values;
+use crate::progress::Progress;
+use crate::room::{filled, with_room};
+use crate::run::outcome::Room;
+use graph_model::graph::Graph;
+use index_spaces::NoMemory;
+use instances::Homes;
+use race_check::checked::Checked;
+use race_check::laws::needs_are_one;
+use run_state::laws::{start_is_at_rest, start_is_sound};
+use std::alloc::Global;
+use std::marker::Model;
+
+pub(crate) mod attempting;
+mod ending;
+mod finishing;
+mod issuing;
+mod outcome;
+mod taking;
+
+/// The last generation of a slot. A slot retires only after 8,192 lines have ended on it, and then
+/// no line is left.
+const LAST_GEN: u32 = 8191;
+
+/// The core of a run of a graph that was accepted. Nothing but `prepare` takes memory.
+#[derive(Drop)]
+pub struct Core<'g> {
+    checked: &'g Checked,
+    stages: Vec<Progress>,
+    events: LineEvents,
+    columns: Columns,
+    // By line: the value of a phase so far, and 0 for other lines.
+    values: Vec<u64>,
+    // By reservation: the acquire that holds it.
+    holders: Vec<Option<u32>>,
+    // The ended lines, in the order in which they ended.
+    trace: Vec<u32>,
+    room: Room,
+}
+
+impl<'g> Model for Core<'g> {
+    ghost use Rattle.std.specs.Prelude.{◌≡◌, ◌≤◌, [], length};
+    ghost use Rattle.std.specs.Vec.{vec_capacity};
+    ghost use Rattle.run_core.specs.Core.{CoreValue, IsCore};
+    ghost use Rattle.run_core.specs.Kept.{shown_core, AreKept};
+
+    ghost Value = { CoreValue };
+
+    ghost view = { λ a. shown_core a.checked.now.graph a.stages.items a.events a.columns.homes a.columns.takers.items a.values.items a.holders.items a.trace.items };
+
+    ghost invariant = { λ a. record {
+      core : IsCore (shown_core a.checked.now.graph a.stages.items a.events a.columns.homes a.columns.takers.items a.values.items a.holders.items a.trace.items);
+      kept : AreKept a.checked.now.graph a.columns.homes a.columns.takers.items;
+      trace : length a.checked.now.graph.lines ≤ vec_capacity a.trace;
+      ends : (a.room.ends.items ≡ []) × (length a.checked.now.graph.lines ≤ vec_capacity a.room.ends);
+      answers : (a.room.answers.items ≡ []) × (length a.checked.now.graph.lines ≤ vec_capacity a.room.answers);
+      phases : (a.room.phases.items ≡ []) × (length a.checked.now.graph.lines ≤ vec_capacity a.room.phases);
+    } };
+}
+
+impl<'g> Core<'g> {
+    ghost use Rattle.std.specs.Prelude.{◌≡◌, ◌≤◌, IfOk};
+    ghost use Rattle.run_core.specs.Core.{unissued, IsCore};
+
+    /// A core in which no line is issued, with this many event slots. Slots go from the graph's need
+    /// to 8,192. `NoMemory` comes where memory ran out.
+    pub fn prepare(
+        alloc: Global,
+        checked: &'g Checked,
+        slots: u32,
+    ) -> Result<Core<'g>, NoMemory>
+        requires enough { checked.now.need ≤ slots }
+        requires most { slots ≤ 8192 }
+        ensures { IfOk result (λ core. core ≡ unissued checked.now.graph slots) }
+    {
+        start_is_sound();
+        start_is_at_rest();
+        needs_are_one();
+        let graph = checked.graph();
+        let _ = checked.need();
+        let lines = graph.lines();
+        let columns = graph.columns();
+        let events = LineEvents::new(alloc, slots, lines, LAST_GEN)?;
+        let homes = Homes::zeroed(alloc, graph)?;
+        let takers = filled(alloc, 0, columns as usize)?;
+        Ok(Core {
+            checked,
+            stages: filled(alloc, Progress::Unissued, lines as usize)?,
+            events,
+            columns: Columns { homes, takers },
+            values: first_values(alloc, graph)?,
+            holders: filled(alloc, None, graph.locks() as usize)?,
+            trace: with_room(alloc, lines as usize)?,
+            room: Room::new(alloc, lines as usize)?,
+        })
+    }
+
+    /// The graph of the run.
+    pub fn graph(&self) -> &'g Graph
+        ensures { result.now ≡ self.now.graph }
+    {
+        self.checked.graph()
+    }
+
+    /// What holds of each core: its run is sound, nothing is half done, its handles are those of its
+    /// table, and it has slots enough.
+    pub fn is_sound(&self)
+        ensures { IsCore self.now }
+    {
+        let _trace = &self.trace;
+    }
+}

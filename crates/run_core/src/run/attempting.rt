@@ -1,0 +1,96 @@
+//! What keeps a line from being taken.
+
+ghost use Rattle.std.specs.Prelude.{◌≡◌};
+ghost use Rattle.run_core.specs.Kept.{shown_stage};
+ghost use Rattle.run_core.specs.Steps.{stage_of};
+
+use crate::answers::{Attempt, Stage, Thing};
+use crate::columns::busy_column;
+use crate::holders::busy_lock;
+use crate::progress::Progress;
+use crate::run::Core;
+use crate::sources::{is_cancelled, least_left};
+use run_state::laws::cancelled_by_kept_ends;
+
+/// What is found of a line that is to be taken.
+#[derive(Clone, Copy)]
+pub(crate) enum Finding {
+    Over(Stage),
+    Never,
+    NotYet(u32),
+    Cancelled,
+    Busy(Thing),
+    Free,
+}
+
+impl<'g> Core<'g> {
+    ghost use Rattle.std.specs.Prelude.{◌≡◌, ◌≢◌, ℕ, ◌<◌, length};
+    ghost use Rattle.run_core.specs.Steps.{Attempts, StandsBy, IsLeastLeft};
+    ghost use Rattle.run_core.specs.Findings.{IsFound};
+    ghost use Rattle.run_core.specs.Works.{KeepsWork};
+    ghost use Rattle.graph_model.specs.Graph.{never_comes};
+
+    /// Tries to take a line. What is answered is the first that holds of the answers in the order of
+    /// their enum's documentation. NotYet also places the line on the handle of its source, where
+    /// that is issued and the line's waiter is free; it isn't free while it is placed, or caught and
+    /// not yet given by `next_woken`.
+    pub fn attempt(&mut self, i: u32) -> Attempt
+        requires { i < length self.old.graph.lines }
+        ensures answer { Attempts self.old self.new i result }
+        ensures works { (k : ℕ) → KeepsWork self.old self.new k }
+    {
+        match self.finding(i) {
+            Finding::Over(stage) => Attempt::Over(stage),
+            Finding::Never => Attempt::Never,
+            Finding::NotYet(source) => {
+                self.stand_by(i, source);
+                Attempt::NotYet(source)
+            }
+            Finding::Cancelled => Attempt::Taken(self.claim(i)),
+            Finding::Busy(thing) => Attempt::Busy(thing),
+            Finding::Free => Attempt::Taken(self.take(i)),
+        }
+    }
+
+    /// What is found of a line.
+    fn finding(&self, i: u32) -> Finding
+        requires { i < length self.now.graph.lines }
+        ensures { IsFound self.now i result }
+    {
+        cancelled_by_kept_ends();
+        let graph = self.checked.graph();
+        let _ = graph.lines();
+        let progress = self.stages[i as usize];
+        let Progress::Issued = progress else {
+            return Finding::Over(stage_of(progress));
+        };
+        if graph.never_comes(i) {
+            return Finding::Never;
+        }
+        if let Some(source) = least_left(graph, i, self.stages.as_slice()) {
+            return Finding::NotYet(source);
+        }
+        if is_cancelled(graph, i, self.stages.as_slice()) {
+            return Finding::Cancelled;
+        }
+        if let Some(lock) = busy_lock(graph, i, self.holders.as_slice()) {
+            return Finding::Busy(Thing::Lock(lock));
+        }
+        match busy_column(graph, i, &self.columns) {
+            Some(column) => Finding::Busy(Thing::Column(column)),
+            None => Finding::Free,
+        }
+    }
+}
+
+/// How far a line has come.
+fn stage_of(progress: Progress) -> Stage
+    ensures { result ≡ stage_of (shown_stage progress) }
+{
+    match progress {
+        Progress::Unissued => Stage::Unissued,
+        Progress::Issued => Stage::Issued,
+        Progress::Out => Stage::Out,
+        Progress::Ended(_) => Stage::Ended,
+    }
+}

@@ -1,0 +1,165 @@
+//! What a run that is quiet gives.
+
+ghost use Rattle.std.specs.Prelude.{◌≡◌, ◌≤◌, ◌<◌, ◌++◌, ℕ, [], length, map, IfOk, Some, slice_get, IsSome};
+ghost use Rattle.std.specs.Vec.{vec_capacity};
+ghost use Rattle.index_spaces.specs.Space.{numbers_below};
+ghost use Rattle.gen_events.specs.EventMap.{answer};
+ghost use Rattle.gen_events.specs.declared.handle.Handle.{Handle as TheHandle};
+ghost use Rattle.run_state.specs.Run.{end_so_far, stage_at};
+ghost use Rattle.run_state.specs.Quiet.{Quiet};
+ghost use Rattle.graph_model.specs.Graph.{verb_at};
+ghost use Rattle.run_core.specs.Kept.{shown_stage};
+ghost use Rattle.run_core.specs.Answers.{answer_shown, phase_for, phase_of_line, AsksHandles};
+
+use crate::events::LineEvents;
+use crate::progress::Progress;
+use crate::room::{push_within, with_room};
+use crate::run::Core;
+use crate::sources::end_of;
+use graph_model::graph::Graph;
+use graph_model::lists::{AnswerList, EndList, LineList, ValueList};
+use graph_model::outcome::{Answer, End, Outcome};
+use graph_model::verb::Verb;
+use index_spaces::NoMemory;
+use run_state::laws::{clock_is_small, quiet_gives_outcome, slots_are_by_times};
+use std::alloc::Global;
+
+/// Room for the lists of the outcome.
+#[derive(Drop)]
+pub(crate) struct Room {
+    pub(crate) ends: Vec<End>,
+    pub(crate) answers: Vec<Answer>,
+    pub(crate) phases: Vec<Option<u64>>,
+}
+
+impl Room {
+    ghost use Rattle.std.specs.Prelude.{◌≡◌, [], IfOk};
+    ghost use Rattle.std.specs.Vec.{vec_capacity};
+
+    /// Room for so many lines.
+    pub(crate) fn new(alloc: Global, lines: usize) -> Result<Room, NoMemory>
+        ensures ends { IfOk result (λ r. (r.ends.items ≡ []) × (vec_capacity r.ends ≡ lines)) }
+        ensures answers { IfOk result (λ r. (r.answers.items ≡ []) × (vec_capacity r.answers ≡ lines)) }
+        ensures phases { IfOk result (λ r. (r.phases.items ≡ []) × (vec_capacity r.phases ≡ lines)) }
+    {
+        Ok(Room {
+            ends: with_room(alloc, lines)?,
+            answers: with_room(alloc, lines)?,
+            phases: with_room(alloc, lines)?,
+        })
+    }
+}
+
+impl<'g> Core<'g> {
+    ghost use Rattle.std.specs.Prelude.{◌≡◌, ℕ, ◌<◌, length, Some, slice_get};
+    ghost use Rattle.gen_events.specs.EventMap.{answer};
+    ghost use Rattle.gen_events.specs.declared.handle.Handle.{Handle as TheHandle};
+    ghost use Rattle.graph_model.specs.Evaluation.{outcome};
+    ghost use Rattle.graph_model.specs.Trace.{IsLawful};
+    ghost use Rattle.run_state.specs.Quiet.{Quiet, ByTimes};
+    ghost use Rattle.run_core.specs.Answers.{AsksHandles};
+
+    /// What a quiet run gives: the outcome of the evaluation, with the ended lines in the order in
+    /// which they ended as the trace. Each answer is asked of the line's handle.
+    pub fn outcome(self) -> Outcome
+        requires quiet { Quiet self.graph self.run }
+        ensures outcome { result ≡ outcome self.entry.graph result.trace }
+        ensures lawful { IsLawful self.entry.graph result.trace }
+        ensures times { ByTimes self.entry.run result.trace }
+        ensures asked { AsksHandles self.entry.handles self.entry.table result.answers }
+        ensures lines { (k i : ℕ) → slice_get result.trace k ≡ Some i → i < length self.entry.graph.lines }
+    {
+        quiet_gives_outcome();
+        slots_are_by_times();
+        clock_is_small();
+        let Core {
+            checked,
+            stages,
+            events,
+            columns,
+            values,
+            trace,
+            room,
+            ..
+        } = self;
+        let graph = checked.graph();
+        let _ = graph.lines();
+        let _ = graph.columns();
+        Outcome {
+            ends: ends_of(stages.as_slice(), room.ends),
+            answers: answers_of(&events, stages.as_slice(), room.answers),
+            phases: phases_of(graph, stages.as_slice(), values.as_slice(), room.phases),
+            columns: columns.homes.into_columns(),
+            trace: LineList { items: trace },
+        }
+    }
+}
+
+/// The end of each line.
+fn ends_of(stages: &[Progress], mut ends: Vec<End>) -> EndList
+    requires few { length stages.now ≤ 8192 }
+    requires empty { ends.items ≡ [] }
+    requires room { length stages.now ≤ vec_capacity ends }
+    ensures { result ≡ map (λ p. end_so_far (shown_stage p)) stages.now }
+{
+    for progress in stages {
+        push_within(&mut ends, end_of(*progress));
+    }
+    EndList { items: ends }
+}
+
+/// What the handle of each line answers.
+fn answers_of(events: &LineEvents, stages: &[Progress], mut answers: Vec<Answer>) -> AnswerList
+    requires few { length stages.now ≤ 8192 }
+    requires issued { length events.now.handles ≡ length stages.now }
+    requires created { (i : ℕ) (h : TheHandle) → slice_get events.now.handles i ≡ Some h → IsSome (answer events.now.table h) }
+    requires empty { answers.items ≡ [] }
+    requires room { length stages.now ≤ vec_capacity answers }
+    ensures { AsksHandles events.now.handles events.now.table result }
+{
+    for line in 0..stages.len() as u32 {
+        push_within(&mut answers, shown(events.answer(line)));
+    }
+    AnswerList { items: answers }
+}
+
+/// The answer of an event, as the outcome has it.
+fn shown(answer: gen_events::Answer) -> Answer
+    ensures { result ≡ answer_shown answer }
+{
+    match answer {
+        gen_events::Answer::Pending => Answer::Pending,
+        gen_events::Answer::Triggered => Answer::Triggered,
+        gen_events::Answer::Poisoned => Answer::Poisoned,
+    }
+}
+
+/// The value of each phase that is done, and none for any other line.
+fn phases_of(
+    graph: &Graph,
+    stages: &[Progress],
+    values: &[u64],
+    mut phases: Vec<Option<u64>>,
+) -> ValueList
+    requires each { (length stages.now ≡ length graph.now.lines) × (length values.now ≡ length graph.now.lines) }
+    requires empty { phases.items ≡ [] }
+    requires room { length graph.now.lines ≤ vec_capacity phases }
+    ensures { result ≡ map (phase_of_line graph.now (map shown_stage stages.now) values.now) (numbers_below (length graph.now.lines)) }
+{
+    for line in 0..graph.lines() {
+        let value = phase_value(graph, line, stages[line as usize], values[line as usize]);
+        push_within(&mut phases, value);
+    }
+    ValueList { items: phases }
+}
+
+/// The value of a phase that is done, and none for any other line.
+fn phase_value(graph: &Graph, line: u32, progress: Progress, value: u64) -> Option<u64>
+    requires { line < length graph.now.lines }
+    ensures { result ≡ phase_for (end_so_far (shown_stage progress)) (verb_at graph.now line) value }
+{
+    match (&graph.line(line).verb, end_of(progress)) {
+        (Verb::Phase { .. }, End::Done) => Some(value),
+        _ => None,
+    }
+}

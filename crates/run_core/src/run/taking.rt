@@ -1,0 +1,60 @@
+//! Lines are taken.
+
+use crate::columns::take_columns;
+use crate::holders::hold;
+use crate::progress::Progress;
+use crate::run::Core;
+use crate::work::Work;
+use index_spaces::held::Held;
+use run_state::laws::{claim_of_cancelled_keeps_rest, stage_leaves, take_keeps_rest, take_leaves};
+
+impl<'g> Core<'g> {
+    ghost use Rattle.std.specs.Prelude.{◌≡◌, ◌≢◌, ℕ, ◌<◌, length};
+    ghost use Rattle.graph_model.specs.declared.outcome.End.TheVariants.{Cancelled};
+    ghost use Rattle.graph_model.specs.Evaluation.{eval_end};
+    ghost use Rattle.run_core.specs.Steps.{Takes, StandsBy, IsDue, IsLeastLeft, HasLock, HasColumns};
+    ghost use Rattle.run_core.specs.Works.{KeepsWork};
+
+    /// Places a line on the handle of the least source that it waits for.
+    pub(crate) fn stand_by(&mut self, i: u32, source: u32)
+        requires line { i < length self.old.graph.lines }
+        requires waits { IsLeastLeft self.old.graph self.old.run.stages i source }
+        ensures placed { StandsBy self.old self.new i source }
+        ensures works { (k : ℕ) → KeepsWork self.old self.new k }
+    {
+        self.events.stand_by(i, source);
+    }
+
+    /// Takes a line that is cancelled, which needs nothing.
+    pub(crate) fn claim(&mut self, i: u32) -> Work
+        requires due { IsDue self.old.graph self.old.run i }
+        requires cancelled { eval_end self.old.graph i ≡ Cancelled }
+        ensures line { result.line ≡ i }
+        ensures taken { Takes self.old self.new result }
+        ensures works { (k : ℕ) → KeepsWork self.old self.new k }
+    {
+        claim_of_cancelled_keeps_rest();
+        stage_leaves();
+        self.stages[i as usize] = Progress::Out;
+        Work::of(i, true, Held::none())
+    }
+
+    /// Takes a line with its columns and its reservation.
+    pub(crate) fn take(&mut self, i: u32) -> Work
+        requires due { IsDue self.old.graph self.old.run i }
+        requires runs { eval_end self.old.graph i ≢ Cancelled }
+        requires lock { HasLock self.old.graph self.old.run.holders i }
+        requires columns { HasColumns self.old.graph self.old.run.places i }
+        ensures line { result.line ≡ i }
+        ensures taken { Takes self.old self.new result }
+        ensures works { (k : ℕ) → KeepsWork self.old self.new k }
+    {
+        take_keeps_rest();
+        take_leaves();
+        let graph = self.checked.graph();
+        self.stages[i as usize] = Progress::Out;
+        hold(graph, i, &mut self.holders);
+        let held = take_columns(graph, i, &mut self.columns);
+        Work::of(i, false, held)
+    }
+}

@@ -1,0 +1,132 @@
+//! The work of a line that was taken.
+
+ghost use Rattle.std.specs.Prelude.{◌≡◌, true};
+ghost use Rattle.graph_model.specs.Effect.{effect};
+ghost use Rattle.graph_model.specs.Evaluation.{end_by};
+
+use graph_model::graph::Graph;
+use graph_model::outcome::{End, Verdict};
+use index_spaces::held::Held;
+use line_effects::effects::apply;
+use run_state::laws::{work_gives_cells, work_is_as_evaluated};
+use std::marker::Model;
+
+/// A line that was taken, with the columns that it accesses, moved out of the core. A line that is
+/// cancelled has none.
+#[derive(Drop)]
+pub struct Work {
+    line: u32,
+    is_cancelled: bool,
+    held: Held,
+}
+
+impl Model for Work {
+    ghost use Rattle.run_core.specs.Works.{WorkValue};
+
+    ghost Value = { WorkValue };
+
+    ghost view = { λ a. record { line = a.line; is_cancelled = a.is_cancelled; held = a.held } };
+}
+
+/// A line that was performed, with its end and the columns as it leaves them.
+#[derive(Drop)]
+pub struct Finished {
+    line: u32,
+    end: End,
+    held: Held,
+}
+
+impl Model for Finished {
+    ghost use Rattle.run_core.specs.Works.{FinishedValue};
+
+    ghost Value = { FinishedValue };
+
+    ghost view = { λ a. record { line = a.line; ends = a.end; held = a.held } };
+}
+
+impl Work {
+    ghost use Rattle.std.specs.Prelude.{◌≡◌, ◌≢◌, Bool, List};
+    ghost use Rattle.graph_model.specs.declared.outcome.End.TheVariants.{Cancelled};
+    ghost use Rattle.graph_model.specs.Evaluation.{eval_end};
+    ghost use Rattle.run_core.specs.Core.{CoreValue, IsCore};
+    ghost use Rattle.run_core.specs.Works.{IsWork, IsFinished, verdict_of};
+
+    /// The work of a line.
+    pub(crate) fn of(line: u32, is_cancelled: bool, held: Held) -> Work
+        ensures { result ≡ record { «line» = line; «is_cancelled» = is_cancelled; «held» = held } }
+    {
+        Work {
+            line,
+            is_cancelled,
+            held,
+        }
+    }
+
+    /// The number of the line.
+    pub fn line(&self) -> u32
+        ensures { result ≡ self.now.line }
+    {
+        self.line
+    }
+
+    /// Does the line's effect on the columns that it holds. The graph is that of the core from which
+    /// the work was taken.
+    pub fn perform(self, graph: &Graph) -> Finished
+        requires work { (c : CoreValue) × IsCore c × (c.graph ≡ graph.now) × IsWork c self }
+        ensures line { result.line ≡ self.line }
+        ensures finished { (c : CoreValue) → IsCore c → c.graph ≡ graph.now → IsWork c self → IsFinished c result }
+    {
+        work_is_as_evaluated();
+        work_gives_cells();
+        let Work {
+            line,
+            is_cancelled,
+            mut held,
+        } = self;
+        let end = if is_cancelled {
+            End::Cancelled
+        } else {
+            end_by(apply(graph, line, &mut held))
+        };
+        Finished { line, end, held }
+    }
+}
+
+/// The end of a line whose effect says this of itself.
+fn end_by(verdict: Verdict) -> End
+    ensures { result ≡ end_by verdict }
+{
+    match verdict {
+        Verdict::Fine => End::Done,
+        Verdict::Fault => End::Faulted,
+    }
+}
+
+impl Finished {
+    ghost use Rattle.std.specs.Prelude.{◌≡◌};
+    ghost use Rattle.run_core.specs.Works.{verdict_of};
+
+    /// The number of the line.
+    pub fn line(&self) -> u32
+        ensures { result ≡ self.now.line }
+    {
+        self.line
+    }
+
+    /// What the line's effect says of itself, and Fine for a line that is cancelled.
+    pub fn verdict(&self) -> Verdict
+        ensures { result ≡ verdict_of self.now.ends }
+    {
+        match self.end {
+            End::Faulted => Verdict::Fault,
+            _ => Verdict::Fine,
+        }
+    }
+
+    /// The line, its end and its columns.
+    pub(crate) fn into_parts(self) -> (u32, End, Held)
+        ensures { (result.0 ≡ self.line) × (result.1 ≡ self.ends) × (result.2 ≡ self.held) }
+    {
+        (self.line, self.end, self.held)
+    }
+}
