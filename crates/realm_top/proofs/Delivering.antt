@@ -87,7 +87,7 @@ true_false b t f = true≢false (sym t ∙ f)
 
 -- a run is not both given enough slots and too few
 short_or_not : (request : Request) → OneNeed → (bytes o p : List ℕ) → OneReading bytes → InputAnswers request bytes Done o → InputAnswers request bytes Slots p → ⊥
-short_or_not request needs bytes o p one (g, t, (a, n, i, e, x)) (h, u, (b, m, j, f, y)) =
+short_or_not request needs bytes o p one (g, t, (a, (n, i, e, x))) (h, u, (b, (m, j, f, y))) =
     true_false (is_short request n) (subst (λ k. is_short request k ≡ true) (needs h m n j (subst (λ k. IsNeed k n) (one.one_graph g h t u) i)) f) e
 
 -- an input has one answer
@@ -156,14 +156,16 @@ pub answered_done : (request : Request) (bs : List ℕ) (s t : SinkState) (resul
 answered_done request bs s t result h e =
     let a = answered_as request bs s t result Done h e (λ x. cc) (λ x. cc) in
     let j = (a.1).2 in
-    ((a.1).0, (a.1).1, j.0, j.1, j.2, j.3, a.0, j.4, a.2)
+    let w = j.1 in
+    ((a.1).0, (a.1).1, j.0, w.0, w.1, w.2, a.0, w.3, a.2)
 
 pub answered_slots : (request : Request) (bs : List ℕ) (s t : SinkState) (result : Status) → Answered request bs s t result → result ≡ Slots →
     (g : GraphValue) × GraphText bs g × Accepted g × (need : ℕ) × IsNeed g need × (is_short request need ≡ true) × Delivered s t (slots_text need)
 answered_slots request bs s t result h e =
     let a = answered_as request bs s t result Slots h e (λ x. cc) (λ x. cc) in
     let j = (a.1).2 in
-    ((a.1).0, (a.1).1, j.0, j.1, j.2, j.3, subst (Delivered s t) j.4 a.2)
+    let w = j.1 in
+    ((a.1).0, (a.1).1, j.0, w.0, w.1, w.2, subst (Delivered s t) w.3 a.2)
 
 pub answered_unread : (request : Request) (bs : List ℕ) (s t : SinkState) (result : Status) → Answered request bs s t result → result ≡ Unread → (out : List ℕ) × IsRefused bs out × Delivered s t out
 answered_unread request bs s t result h e = let a = answered_as request bs s t result Unread h e (λ x. cc) (λ x. cc) in (a.0, (a.1).1, a.2)
@@ -174,7 +176,7 @@ answered_unfit request bs s t result h e = let a = answered_as request bs s t re
 -- a write that failed broke off the text of the answer
 pub answered_cut_off : (request : Request) (bs : List ℕ) (s t : SinkState) (result : Status) → Answered request bs s t result → result ≡ WriteFault → (status : Status) × (out : List ℕ) × InputAnswers request bs status out × BrokenOff s t out
 answered_cut_off request bs s t result (inl n) e = absurd (let x : NoMemory ≡ WriteFault = sym n ∙ e in cc)
-answered_cut_off request bs s t result (inr (wanted, out, a, inl d)) e = absurd ((subst (λ w. InputAnswers request bs w out) (sym d.0 ∙ e) a).3)
+answered_cut_off request bs s t result (inr (wanted, out, a, inl d)) e = absurd (((subst (λ w. InputAnswers request bs w out) (sym d.0 ∙ e) a).2).1)
 answered_cut_off request bs s t result (inr (wanted, out, a, inr b)) e = (wanted, out, a, b.1)
 
 pub answered_complete : (request : Request) → OneNeed → (bs : List ℕ) → OneReading bs → (s t : SinkState) (result status : Status) (out : List ℕ) → Answered request bs s t result → InputAnswers request bs status out → (Rose s.faults t.faults → ⊥) → (result ≡ status) ⊎ (result ≡ NoMemory)

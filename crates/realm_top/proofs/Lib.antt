@@ -3,5 +3,5 @@ pub mod ReportRest
 pub mod Fitting
 pub mod Delivering
 pub mod MadeRequests
-pub mod Sums
+pub mod SummaryLines
 pub mod RunFacts

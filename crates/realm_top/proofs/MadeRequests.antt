@@ -1,6 +1,6 @@
 -- What follows for the answers where a graph is made, and for those where one is read.
-use Rattle.std.proofs.Common.{◌≡◌, ◌≢◌, ℕ, List, [], refl, sym, ◌∙◌, ap, subst, inl, inr}
-use Rattle.std.specs.Prelude.{Bool, true, false, Option, Some, None, ◌⊎◌}
+use Rattle.std.proofs.Common.{◌≡◌, ◌≢◌, ℕ, List, refl, sym, ◌∙◌, ap, subst, inl, inr}
+use Rattle.std.specs.Prelude.{Bool, true, false, Option, Some, ◌⊎◌}
 use Rattle.std.proofs.lemmas.Bool.{true≢false, false≢true}
 use Rattle.realm_io.specs.Counts.{Rose}
 use Rattle.realm_io.specs.Written.{SinkState}
@@ -9,16 +9,16 @@ use Rattle.command_line.specs.declared.request.Action.{Action}
 use Rattle.command_line.specs.declared.request.Action.TheVariants.{Run, Check, Eval, Make}
 use Rattle.graph_model.specs.Graph.{GraphValue}
 use Rattle.graph_model.specs.Need.{IsNeed}
-use Rattle.graph_model.specs.Evaluation.{outcome, order}
+use Rattle.graph_model.specs.Evaluation.{outcome}
 use Rattle.graph_model.specs.declared.outcome.Outcome.{Outcome}
 use Rattle.graph_reader.specs.Text.{text}
 use Rattle.race_check.specs.Laws.{OneNeed}
 use Rattle.graph_gen.specs.MadeGraph.{made_graph}
 use Rattle.realm_top.specs.declared.status.Status.{Status}
-use Rattle.realm_top.specs.declared.status.Status.TheVariants.{Done, Usage, Unread, Unfit, ReadFault, WriteFault, NoMemory, Slots, TooLong}
+use Rattle.realm_top.specs.declared.status.Status.TheVariants.{Done, Usage, WriteFault, NoMemory, Slots}
 use Rattle.realm_top.specs.Status.{is_of_input}
 use Rattle.realm_top.specs.Texts.{slots_text, made_text}
-use Rattle.realm_top.specs.Answer.{reads, is_short, made_says, Says, Served, InputAnswers, MadeAnswers, IsInput, AnswersBy, Answers, Serves, Answered, MadeAnswered, Delivered, BrokenOff, Delivers}
+use Rattle.realm_top.specs.Answer.{reads, is_short, made_says, Says, Served, InputAnswers, MadeAnswers, IsInput, AnswersBy, Answers, Serves, MadeAnswered, Delivered, BrokenOff, Delivers}
 
 -- an action that reads answers its input
 input_by : (x : Action) (request : Request) → reads x ≡ true → (bytes : List ℕ) (status : Status) (out : List ℕ) → AnswersBy x request bytes status out → InputAnswers request bytes status out
@@ -165,5 +165,5 @@ pub serves_of : (request : Request) (s t : SinkState) (result : Status) (g h : G
 serves_of request s t result g h e w = subst (λ x. Serves request x s t result) e w
 
 -- the line that sums up an outcome that is the evaluation's
-pub summed_up : (g : GraphValue) (o : Outcome) → o ≡ outcome g (order g) → made_text g o ≡ made_says false g
-summed_up g o e = ap (made_text g) e
+pub summed_up : (g h : GraphValue) (o : Outcome) (trace : List ℕ) → g ≡ h → o ≡ outcome h trace → made_text g o ≡ made_says false h
+summed_up g h o trace e f = ap (λ x. made_text x o) e ∙ ap (made_text h) f

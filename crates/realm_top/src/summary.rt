@@ -59,6 +59,13 @@ fn cell_sum(columns: &[Column]) -> u64
     so_far
 }
 
+/// The sum of all cells of an outcome, modulo 2^64.
+fn total(outcome: &Outcome) -> u64
+    ensures { result ≡ cell_sum outcome.now.columns }
+{
+    cell_sum(outcome.columns.items.as_slice())
+}
+
 /// Words with their spaces, and the number behind them.
 #[derive(Clone, Copy)]
 struct Count {
@@ -84,13 +91,20 @@ fn put_count<K: Sink>(sink: &mut K, count: &Count) -> Result<(), WriteFault>
     put_decimal(sink, count.number)
 }
 
+/// A number with words.
+fn counted(words: &'static [u8], number: u64) -> Count
+    ensures words { result.words.now ≡ words.now }
+    ensures number { result.number ≡ number }
+{
+    Count { words, number }
+}
+
 /// How many lines ended so, with words.
 fn ended(words: &'static [u8], outcome: &Outcome, end: End) -> Count
     ensures words { result.words.now ≡ words.now }
     ensures number { result.number ≡ count_by (same_end end) outcome.now.ends }
 {
-    let number = ended_so(outcome.ends.items.as_slice(), end);
-    Count { words, number }
+    counted(words, ended_so(outcome.ends.items.as_slice(), end))
 }
 
 /// Writes the line that sums up the outcome of a graph that was made.
@@ -101,23 +115,15 @@ pub(crate) fn put_summary<K: Sink>(
 ) -> Result<(), WriteFault>
     ensures { Writes (sink_state K.taken K.flushed K.faults sink.old) (sink_state K.taken K.flushed K.faults sink.new) result (made_text graph.now outcome.now) }
 {
-    let ops = Count {
-        words: b"made ops ",
-        number: u64::from(graph.lines()),
-    };
-    let sum = Count {
-        words: b" sum ",
-        number: cell_sum(outcome.columns.items.as_slice()),
-    };
     put_counts(
         sink,
         &[
-            ops,
+            counted(b"made ops ", u64::from(graph.lines())),
             ended(b" done ", outcome, End::Done),
             ended(b" faulted ", outcome, End::Faulted),
             ended(b" cancelled ", outcome, End::Cancelled),
             ended(b" waiting ", outcome, End::Waiting),
-            sum,
+            counted(b" sum ", total(outcome)),
         ],
     )?;
     put_bytes(sink, b"\n")

@@ -1,4 +1,4 @@
-use Rattle.std.proofs.Common.{◌≡◌, refl, inr}
+use Rattle.std.proofs.Common.{refl, inr}
 use Rattle.realm_top.specs.declared.status.Status.TheVariants.{Unread}
 use Rattle.realm_top.specs.Texts.{unread_text}
 use Rattle.realm_top.proofs.input.refuse.Goals as goal

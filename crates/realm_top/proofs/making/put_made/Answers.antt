@@ -1,4 +1,3 @@
-use Rattle.std.proofs.Common.{refl, inr}
 use Rattle.graph_reader.specs.Text.{text}
 use Rattle.realm_top.specs.declared.status.Status.TheVariants.{Done}
 use Rattle.realm_top.proofs.Delivering.{written_then_flushed}

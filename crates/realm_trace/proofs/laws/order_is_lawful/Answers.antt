@@ -1,4 +1,3 @@
-use Rattle.std.proofs.Common.{◌≡◌}
 use Rattle.realm_trace.proofs.laws.order_is_lawful.Goals as goal
 
 pub returns : goal.returns
