@@ -16,7 +16,7 @@ fn message(status: Status) -> Option<&'static str>
     ensures { is_some result ≡ has_message status }
 {
     match status {
-        Status::Usage => Some("usage: realm run|check|eval [OPTIONS] < GRAPH"),
+        Status::Usage => Some("usage: realm run|check|eval|make [OPTIONS] < GRAPH"),
         Status::ReadFault => Some("realm: the standard input can't be read"),
         Status::WriteFault => Some("realm: the standard output can't be written"),
         Status::NoMemory => Some("realm: out of memory"),
@@ -80,7 +80,7 @@ mod tests {
             (Status::Done, None),
             (
                 Status::Usage,
-                Some("usage: realm run|check|eval [OPTIONS] < GRAPH"),
+                Some("usage: realm run|check|eval|make [OPTIONS] < GRAPH"),
             ),
             (Status::Unread, None),
             (Status::Unfit, None),

@@ -20,8 +20,8 @@ use graph_model::graph::Graph;
 use graph_model::outcome::Outcome;
 use graph_model::verb::Why;
 use graph_reader::{ReadRefusal, read_graph};
-use plain_eval::evaluation::eval;
 use index_spaces::NoMemory;
+use plain_eval::evaluation::eval;
 use race_check::check;
 use race_check::checked::{CheckRefusal, Checked, Unfit};
 use realm_io::{Sink, WriteFault, put};
@@ -31,6 +31,7 @@ use std::alloc::Global;
 
 // The slots of a run where none are given, and the most that a table of events has.
 const DEFAULT_SLOTS: u32 = 256;
+
 const MOST_SLOTS: u32 = 8192;
 
 /// Does what is asked for with the graph whose text the bytes are.

@@ -86,6 +86,13 @@ fn writes_texts(rt: HostRuntime) -> Result<(), Fail> {
     ] {
         assert!(rt; is_made(rt.alloc(), line, Status::Done, text)?);
     }
-    assert!(rt; is_made(rt.alloc(), "realm make --seed 18446744073709551616", Status::Usage, "")?);
+    assert!(rt;
+        is_made(
+            rt.alloc(),
+            "realm make --seed 18446744073709551616",
+            Status::Usage,
+            ""
+        )?
+    );
     Ok(())
 }

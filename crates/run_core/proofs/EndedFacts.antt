@@ -172,7 +172,7 @@ module _ (g : GraphValue) (stages : List Progress) (events : EventsValue) (homes
         ap (λ (ev : EventsValue). core_of g (run_by (past_of g (trace ++ f.line ∷ [])) (map shown_stage (slice_set stages f.line (progress.Ended f.ends))) (places_of homes' takers') values' (map holding holders')) ev.handles ev.table) e
         ∙ (ap (λ p. core_of g (run_by p (map shown_stage (slice_set stages f.line (progress.Ended f.ends))) (places_of homes' takers') values' (map holding holders')) events.handles (ended_with events.table (handle_at shown_before f.line) (fate_for f.ends))) past_is
         ∙ ap (λ (r : List LineStage × List Place × List ℕ × List (List ℕ)). core_of g (run_by (past_after shown_before) r.0 r.1 r.2 r.3) events.handles (ended_with events.table (handle_at shown_before f.line) (fate_for f.ends)))
-          (λ t. (stages_are t, places t, arrives t, holders_are t)))
+        (λ t. (stages_are t, places t, arrives t, holders_are t)))
       where
         past_after : CoreValue → Past
         past_after c = record {

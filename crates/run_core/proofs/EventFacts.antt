@@ -131,9 +131,9 @@ module _ (g : GraphValue) (stages : List LineStage) (handles : List Handle) (tab
         elim (cases_eq i (length handles)) [
           | inl same ↦ (λ _. (let s : i ≡ length handles = same in omega arith), λ _. ap (issued (slice_set stages (length handles) Issued)) same ∙ ap stage_issued (get_or-set_same stages (length handles) Issued Unissued near))
           | inr other ↦ (
-              λ a. (let b : i < length handles = (e.each_issued i).0 (sym (ap stage_issued (get_or-set_other stages (length handles) i Issued Unissued other)) ∙ a) in omega arith),
-              λ b. ap stage_issued (get_or-set_other stages (length handles) i Issued Unissued other) ∙ (e.each_issued i).1 (lt_unless i (length handles) (subst (λ n. i < n) long b) other),
-            )
+            λ a. (let b : i < length handles = (e.each_issued i).0 (sym (ap stage_issued (get_or-set_other stages (length handles) i Issued Unissued other)) ∙ a) in omega arith),
+            λ b. ap stage_issued (get_or-set_other stages (length handles) i Issued Unissued other) ∙ (e.each_issued i).1 (lt_unless i (length handles) (subst (λ n. i < n) long b) other),
+          )
         ]
 
     stage_before : (i : ℕ) → i < length handles → stage_at (slice_set stages (length handles) Issued) i ≡ stage_at stages i
@@ -284,9 +284,9 @@ module _ (g : GraphValue) (stages : List LineStage) (handles : List Handle) (tab
       | inr other ↦ (elim (cases_eq w.slot h.slot) [
         | inl slot ↦ absurd (contains_none k (subst (λ (ws : List ℕ). Contains ws k) (ap (λ (m : EventMap). (life_at m w.slot).waiting) is ∙ (ap (λ s. (life_at (ended_with table h f) s).waiting) slot ∙ ap (λ (l : SlotLife). l.waiting) (get_or-set_same table.slots h.slot (closed (life_at table h.slot)) unused is_pending_now.near))) p.stands))
         | inr slots ↦ e.waits k w (record {
-            pending = sym (others w other) ∙ p.pending;
-            stands = subst (λ (ws : List ℕ). Contains ws k) (ap (λ (m : EventMap). (life_at m w.slot).waiting) is ∙ ap (λ (l : SlotLife). l.waiting) (get_or-set_other table.slots h.slot w.slot (closed (life_at table h.slot)) unused slots)) p.stands;
-          })
+          pending = sym (others w other) ∙ p.pending;
+          stands = subst (λ (ws : List ℕ). Contains ws k) (ap (λ (m : EventMap). (life_at m w.slot).waiting) is ∙ ap (λ (l : SlotLife). l.waiting) (get_or-set_other table.slots h.slot w.slot (closed (life_at table h.slot)) unused slots)) p.stands;
+        })
       ])
     ]
 
@@ -344,9 +344,9 @@ module _ (g : GraphValue) (stages : List LineStage) (handles : List Handle) (tab
     waits_placed k w p = elim (cases_eq w.slot h.slot) [
       | inl slot ↦ (elim (contains_cases i (life_at table w.slot).waiting k (subst (λ (ws : List ℕ). Contains ws k) (ap (λ (m : EventMap). (life_at m w.slot).waiting) is
           ∙ (ap (λ s. (life_at (placed_on table h i) s).waiting) slot ∙ (ap (λ (l : SlotLife). l.waiting) (get_or-set_same table.slots h.slot (joined (life_at table h.slot)) unused here_now.near) ∙ ap (λ s. i ∷ (life_at table s).waiting) (sym slot)))) p.stands)) [
-        | inl first ↦ (j, at ∙ ap Some (sym (only_pending w slot p.pending)), subst (λ m. WaitsFor g m j) first waits_for)
-        | inr rest ↦ old_waits k w p.pending rest
-      ])
+            | inl first ↦ (j, at ∙ ap Some (sym (only_pending w slot p.pending)), subst (λ m. WaitsFor g m j) first waits_for)
+            | inr rest ↦ old_waits k w p.pending rest
+          ])
       | inr slots ↦ old_waits k w p.pending (subst (λ (ws : List ℕ). Contains ws k) (ap (λ (m : EventMap). (life_at m w.slot).waiting) is ∙ ap (λ (l : SlotLife). l.waiting) (get_or-set_other table.slots h.slot w.slot (joined (life_at table h.slot)) unused slots)) p.stands)
     ]
 

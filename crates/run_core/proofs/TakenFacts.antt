@@ -125,7 +125,8 @@ taken_takes before after now i w same is due runs lock columns line works =
       taken = λ _. (
         subst (HasLock before.graph before.run.holders) (sym line) (subst (λ (c : CoreValue). HasLock c.graph c.run.holders i) (sym same) lock),
         subst (HasColumns before.graph before.run.places) (sym line) (subst (λ (c : CoreValue). HasColumns c.graph c.run.places i) (sym same) columns),
-        ap (λ j. with_run before (take_whole before.graph before.run j)) (sym line));
+        ap (λ j. with_run before (take_whole before.graph before.run j)) (sym line),
+      );
       work = works;
     }))
 

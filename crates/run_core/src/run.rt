@@ -70,11 +70,7 @@ impl<'g> Core<'g> {
 
     /// A core in which no line is issued, with this many event slots. Slots go from the graph's need
     /// to 8,192. `NoMemory` comes where memory ran out.
-    pub fn prepare(
-        alloc: Global,
-        checked: &'g Checked,
-        slots: u32,
-    ) -> Result<Core<'g>, NoMemory>
+    pub fn prepare(alloc: Global, checked: &'g Checked, slots: u32) -> Result<Core<'g>, NoMemory>
         requires enough { checked.now.need ≤ slots }
         requires most { slots ≤ 8192 }
         ensures { IfOk result (λ core. core ≡ unissued checked.now.graph slots) }

@@ -18,18 +18,26 @@ returns-then-not-reads-clause-complete g c = λ request bytes out status w i a q
     made_complete request c.needs_are_one.ensures bytes _ _ c.answer_made.result status out (subst (λ (q : Request). reads q.action ≡ false) same (sym c.if-not-reads.ensures)) (made_for _ _ c.answer_made.result c.in-Ok.request request same c.answer_made.ensures.answered) a silent
 
 pub returns-in-Ok-read_all-clause-paths : goal.returns-in-Ok-read_all-clause-paths
-returns-in-Ok-read_all-clause-paths g c = λ e. (c.in-Ok.request, c.in-Ok.ensures.request, λ r. if_some (g.S.Source.left c.args.source.now) _ (λ xs h.
-    let d = answered_done c.in-Ok.request xs _ _ c.answer.result (answered_input c.in-Ok.request _ _ c.in-Ok-read_all.bytes.items _ _ _ c.answer.result c.in-Ok-read_all.ensures.all c.in-Ok-read_all.ensures.end c.as_slice.ensures.value c.answer.ensures.answered xs h) e in
-    ends_by_paths c.waits_where_reached.ensures c.cancelled_where_unbroken.ensures xs (c.bytes_have_one_reading.ensures xs) d.0 d.1 d.2))
+returns-in-Ok-read_all-clause-paths g c = λ e. (
+  c.in-Ok.request,
+  c.in-Ok.ensures.request,
+  λ r. if_some (g.S.Source.left c.args.source.now) _ (λ xs h.
+      let d = answered_done c.in-Ok.request xs _ _ c.answer.result (answered_input c.in-Ok.request _ _ c.in-Ok-read_all.bytes.items _ _ _ c.answer.result c.in-Ok-read_all.ensures.all c.in-Ok-read_all.ensures.end c.as_slice.ensures.value c.answer.ensures.answered xs h) e in
+      ends_by_paths c.waits_where_reached.ensures c.cancelled_where_unbroken.ensures xs (c.bytes_have_one_reading.ensures xs) d.0 d.1 d.2),
+)
 
 pub returns-in-Ok-read_all-clause-unfit : goal.returns-in-Ok-read_all-clause-unfit
 returns-in-Ok-read_all-clause-unfit g c = λ e. if_some (g.S.Source.left c.args.source.now) _ (λ xs h. answered_unfit c.in-Ok.request xs _ _ c.answer.result (answered_input c.in-Ok.request _ _ c.in-Ok-read_all.bytes.items _ _ _ c.answer.result c.in-Ok-read_all.ensures.all c.in-Ok-read_all.ensures.end c.as_slice.ensures.value c.answer.ensures.answered xs h) e)
 
 pub returns-in-Ok-read_all-clause-cut_off : goal.returns-in-Ok-read_all-clause-cut_off
-returns-in-Ok-read_all-clause-cut_off g c = λ e. (c.in-Ok.request, c.in-Ok.ensures.request, λ xs i.
-    let h = told c.in-Ok.request.action (g.S.Source.left c.args.source.now) xs (sym c.if-not-reads.ensures) i in
-    let d = answered_cut_off c.in-Ok.request xs _ _ c.answer.result (answered_input c.in-Ok.request _ _ c.in-Ok-read_all.bytes.items _ _ _ c.answer.result c.in-Ok-read_all.ensures.all c.in-Ok-read_all.ensures.end c.as_slice.ensures.value c.answer.ensures.answered xs h) e in
-    (d.0, d.1, to_input c.in-Ok.request (sym c.if-not-reads.ensures) xs d.0 d.1 d.2, d.3))
+returns-in-Ok-read_all-clause-cut_off g c = λ e. (
+  c.in-Ok.request,
+  c.in-Ok.ensures.request,
+  λ xs i.
+      let h = told c.in-Ok.request.action (g.S.Source.left c.args.source.now) xs (sym c.if-not-reads.ensures) i in
+      let d = answered_cut_off c.in-Ok.request xs _ _ c.answer.result (answered_input c.in-Ok.request _ _ c.in-Ok-read_all.bytes.items _ _ _ c.answer.result c.in-Ok-read_all.ensures.all c.in-Ok-read_all.ensures.end c.as_slice.ensures.value c.answer.ensures.answered xs h) e in
+      (d.0, d.1, to_input c.in-Ok.request (sym c.if-not-reads.ensures) xs d.0 d.1 d.2, d.3),
+)
 
 pub returns-in-Ok-read_all-clause-complete : goal.returns-in-Ok-read_all-clause-complete
 returns-in-Ok-read_all-clause-complete g c = λ request xs out status w i a quiet silent.
@@ -39,10 +47,14 @@ returns-in-Ok-read_all-clause-complete g c = λ request xs out status w i a quie
     answered_complete request c.needs_are_one.ensures xs (c.bytes_have_one_reading.ensures xs) _ _ c.answer.result status out (answered_for xs _ _ c.answer.result c.in-Ok.request request same (answered_input c.in-Ok.request _ _ c.in-Ok-read_all.bytes.items _ _ _ c.answer.result c.in-Ok-read_all.ensures.all c.in-Ok-read_all.ensures.end c.as_slice.ensures.value c.answer.ensures.answered xs h)) (of_input request r xs status out a) silent
 
 pub returns-in-Err-TooLong-clause-cut_off : goal.returns-in-Err-TooLong-clause-cut_off
-returns-in-Err-TooLong-clause-cut_off g c = λ e. (c.in-Ok.request, c.in-Ok.ensures.request, λ xs i.
-    let h = told c.in-Ok.request.action (g.S.Source.left c.args.source.now) xs (sym c.if-not-reads.ensures) i in
-    let d = answered_cut_off c.in-Ok.request xs _ _ c.put_text.result (too_long_answered c.in-Ok.request xs _ _ c.put_text.result (more_left _ _ 1048576 (c.in-Err-TooLong.ensures.too_long (ap (λ e. Err e) c.in-Err-TooLong.field-0-is)) xs h) c.put_text.ensures) e in
-    (d.0, d.1, to_input c.in-Ok.request (sym c.if-not-reads.ensures) xs d.0 d.1 d.2, d.3))
+returns-in-Err-TooLong-clause-cut_off g c = λ e. (
+  c.in-Ok.request,
+  c.in-Ok.ensures.request,
+  λ xs i.
+      let h = told c.in-Ok.request.action (g.S.Source.left c.args.source.now) xs (sym c.if-not-reads.ensures) i in
+      let d = answered_cut_off c.in-Ok.request xs _ _ c.put_text.result (too_long_answered c.in-Ok.request xs _ _ c.put_text.result (more_left _ _ 1048576 (c.in-Err-TooLong.ensures.too_long (ap (λ e. Err e) c.in-Err-TooLong.field-0-is)) xs h) c.put_text.ensures) e in
+      (d.0, d.1, to_input c.in-Ok.request (sym c.if-not-reads.ensures) xs d.0 d.1 d.2, d.3),
+)
 
 pub returns-in-Err-TooLong-clause-complete : goal.returns-in-Err-TooLong-clause-complete
 returns-in-Err-TooLong-clause-complete g c = λ request xs out status w i a quiet silent.

@@ -10,5 +10,8 @@ returns-in-Ok-put_summary-clause-done g c = inr (written_then_flushed _ _ _ _ c.
     (subst (Wrote _ _) (summed_up c.graph.result.now c.args.checked.now.graph c.in-Ok.outcome c.in-Ok.outcome.trace c.graph.ensures.graph c.in-Ok.ensures.outcome) c.in-Ok-put_summary.ensures) c.flush.ensures)
 
 pub returns-clause-done : goal.returns-clause-done
-returns-clause-done g c = inr (inr (refl, stopped_is_broken _ _ (made_says false c.args.checked.now.graph)
-    (subst (Stopped _ _) (summed_up c.graph.result.now c.args.checked.now.graph c.in-Ok.outcome c.in-Ok.outcome.trace c.graph.ensures.graph c.in-Ok.ensures.outcome) c.in-Err.ensures)))
+returns-clause-done g c = inr (inr (
+  refl,
+  stopped_is_broken _ _ (made_says false c.args.checked.now.graph)
+      (subst (Stopped _ _) (summed_up c.graph.result.now c.args.checked.now.graph c.in-Ok.outcome c.in-Ok.outcome.trace c.graph.ensures.graph c.in-Ok.ensures.outcome) c.in-Err.ensures),
+))
