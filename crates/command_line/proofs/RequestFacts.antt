@@ -24,10 +24,10 @@ pub requested : (r : Result Request WordsFault) (o : Option Request) (words : Li
 requested r (Some q) words e f = subst (λ x. MatchResult x (λ q. request_of words ≡ Some q) (λ fault. (fault ≡ NoMemory) ⊎ (request_of words ≡ None))) (sym e) (sym f)
 requested r None words e f = subst (λ x. MatchResult x (λ q. request_of words ≡ Some q) (λ fault. (fault ≡ NoMemory) ⊎ (request_of words ≡ None))) (sym e) (inr (sym f))
 
--- whose size is in its range
-pub sized : (r : Result Request WordsFault) (o : Option Request) → r ≡ ok_or o Usage → IfSome o (λ q. (1 ≤ q.size) × (q.size ≤ 8192)) → IfOk r (λ q. (1 ≤ q.size) × (q.size ≤ 8192))
-sized r (Some q) e h = subst (λ x. IfOk x (λ q. (1 ≤ q.size) × (q.size ≤ 8192))) (sym e) h
-sized r None e h = subst (λ x. IfOk x (λ q. (1 ≤ q.size) × (q.size ≤ 8192))) (sym e) tt
+-- of which holds what holds of what was found
+pub ranged : (P : Request → Type 0) (r : Result Request WordsFault) (o : Option Request) → r ≡ ok_or o Usage → IfSome o P → IfOk r P
+ranged P r (Some q) e h = subst (λ x. IfOk x P) (sym e) h
+ranged P r None e h = subst (λ x. IfOk x P) (sym e) tt
 
 among : (k : ErrorKind) (ks : Kinds) (o : Option Request) → IsAmong k ks → if_faultless ks o ≡ None
 among k [] o a = absurd a

@@ -33,6 +33,7 @@ pub fn read_words<'a>(alloc: Global, words: &'a [String]) -> Result<Request, Wor
     ensures request { MatchResult result (λ request. request_of (map (λ word. string_bytes word) words.now) ≡ Some request)
         (λ fault. (fault ≡ WordsFault.NoMemory) ⊎ (request_of (map (λ word. string_bytes word) words.now) ≡ None)) }
     ensures size { IfOk result (λ request. (1 ≤ request.size) × (request.size ≤ 8192)) }
+    ensures workers { IfOk result (λ request. request.workers ≤ 8) }
 {
     let Ok(command) = command(alloc) else {
         return Err(WordsFault::NoMemory);

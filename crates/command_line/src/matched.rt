@@ -95,6 +95,7 @@ fn seed(matches: &ArgMatches) -> Option<u64>
 pub(crate) fn request_in(matches: &ArgMatches) -> Option<Request>
     ensures request { result ≡ request_in (rows_of (found_of matches.now)) }
     ensures size { IfSome result (λ request. (1 ≤ request.size) × (request.size ≤ 8192)) }
+    ensures workers { IfSome result (λ request. request.workers ≤ 8) }
 {
     Some(Request {
         action: action_by_word(given(matches, "ACTION")?)?,

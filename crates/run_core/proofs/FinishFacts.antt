@@ -149,12 +149,12 @@ cancelled_or_not Faulted = inr (λ e. cc)
 cancelled_or_not Cancelled = inl refl
 cancelled_or_not Waiting = inr (λ e. cc)
 
-record GoesOut (old mid : CoreValue) (i : ℕ) : Type 0 where
-  graph : mid.graph ≡ old.graph
-  stages : mid.run.stages ≡ slice_set old.run.stages i Out
-  slots : length mid.table.slots ≡ length old.table.slots
+pub record GoesOut (old mid : CoreValue) (i : ℕ) : Type 0 where
+  pub graph : mid.graph ≡ old.graph
+  pub stages : mid.run.stages ≡ slice_set old.run.stages i Out
+  pub slots : length mid.table.slots ≡ length old.table.slots
 
-goes_out : (old mid : CoreValue) (w : WorkValue) → Takes old mid w → GoesOut old mid w.line
+pub goes_out : (old mid : CoreValue) (w : WorkValue) → Takes old mid w → GoesOut old mid w.line
 goes_out old mid w takes = elim (cancelled_or_not (eval_end old.graph w.line)) [
   | inl cancelled ↦ by_run (claim old.run w.line) (takes.claimed cancelled) refl
   | inr runs ↦ by_run (take_whole old.graph old.run w.line) (takes.taken runs).2 refl

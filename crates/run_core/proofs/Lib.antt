@@ -17,3 +17,4 @@ pub mod HolderFacts
 pub mod ColumnFacts
 pub mod SlotFacts
 pub mod FinishFacts
+pub mod OutFacts

@@ -5,5 +5,6 @@ pub mod Sources
 pub mod Kept
 pub mod Steps
 pub mod Findings
+pub mod WhatIsOut
 pub mod Finishing
 pub mod Answers

@@ -67,13 +67,15 @@ impl<'g> Model for Core<'g> {
 impl<'g> Core<'g> {
     ghost use Rattle.std.specs.Prelude.{◌≡◌, ◌≤◌, IfOk};
     ghost use Rattle.run_core.specs.Core.{unissued, IsCore};
+    ghost use Rattle.run_core.specs.Finishing.{NothingOut};
 
     /// A core in which no line is issued, with this many event slots. Slots go from the graph's need
     /// to 8,192. `NoMemory` comes where memory ran out.
     pub fn prepare(alloc: Global, checked: &'g Checked, slots: u32) -> Result<Core<'g>, NoMemory>
         requires enough { checked.now.need ≤ slots }
         requires most { slots ≤ 8192 }
-        ensures { IfOk result (λ core. core ≡ unissued checked.now.graph slots) }
+        ensures core { IfOk result (λ core. core ≡ unissued checked.now.graph slots) }
+        ensures nothing_out { IfOk result (λ core. NothingOut core) }
     {
         start_is_sound();
         start_is_at_rest();

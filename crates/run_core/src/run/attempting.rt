@@ -28,6 +28,7 @@ impl<'g> Core<'g> {
     ghost use Rattle.run_core.specs.Steps.{Attempts, StandsBy, IsLeastLeft};
     ghost use Rattle.run_core.specs.Findings.{IsFound};
     ghost use Rattle.run_core.specs.Works.{KeepsWork};
+    ghost use Rattle.run_core.specs.WhatIsOut.{OutAfter};
     ghost use Rattle.graph_model.specs.Graph.{never_comes};
 
     /// Tries to take a line. What is answered is the first that holds of the answers in the order of
@@ -38,6 +39,7 @@ impl<'g> Core<'g> {
         requires { i < length self.old.graph.lines }
         ensures answer { Attempts self.old self.new i result }
         ensures works { (k : ℕ) → KeepsWork self.old self.new k }
+        ensures out { OutAfter self.old self.new result }
     {
         match self.finding(i) {
             Finding::Over(stage) => Attempt::Over(stage),

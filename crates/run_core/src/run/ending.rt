@@ -28,6 +28,7 @@ impl<'g> Core<'g> {
     ghost use Rattle.std.specs.Prelude.{◌≡◌, ◌≢◌, ℕ, ◌<◌, [], length, slice_get, IfSome, IfNone};
     ghost use Rattle.run_core.specs.Steps.{with_end, Wakes};
     ghost use Rattle.run_core.specs.Works.{IsFinished, KeepsWork};
+    ghost use Rattle.run_core.specs.WhatIsOut.{SameOut, OneMoreOut};
 
     /// Ends a line whose work was taken from this core, and its handle. Its columns come home, the
     /// value of an arrival goes to its phase, and a release whose acquire is done frees the
@@ -36,6 +37,7 @@ impl<'g> Core<'g> {
         requires { IsFinished self.old finished }
         ensures put { self.new ≡ with_end self.old finished }
         ensures works { (k : ℕ) → k ≢ finished.line → KeepsWork self.old self.new k }
+        ensures out { OneMoreOut self.new self.old finished.line }
     {
         put_back_keeps_rest();
         put_back_leaves();
@@ -54,6 +56,7 @@ impl<'g> Core<'g> {
         ensures some { IfSome result (λ i. Wakes self.old i self.new × (i < length self.old.graph.lines)) }
         ensures none { IfNone result ((self.old.table.caught ≡ []) × (self.new ≡ self.old)) }
         ensures works { (k : ℕ) → KeepsWork self.old self.new k }
+        ensures out { SameOut self.old self.new }
     {
         self.events.next_woken()
     }

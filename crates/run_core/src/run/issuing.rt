@@ -8,6 +8,7 @@ use run_state::laws::{issue_keeps_rest, left_below_need, stage_leaves};
 impl<'g> Core<'g> {
     ghost use Rattle.run_core.specs.Steps.{Issues, IsLeft};
     ghost use Rattle.run_core.specs.Works.{KeepsWork};
+    ghost use Rattle.run_core.specs.WhatIsOut.{SameOut};
     ghost use Rattle.run_core.specs.Finishing.{NothingOut};
     ghost use Rattle.run_state.specs.Quiet.{CanTake};
     ghost use Rattle.gen_events.specs.EventMap.{IsFull};
@@ -18,6 +19,7 @@ impl<'g> Core<'g> {
     pub fn issue(&mut self) -> Issue
         ensures answer { Issues self.old self.new result }
         ensures works { (i : ℕ) → KeepsWork self.old self.new i }
+        ensures out { SameOut self.old self.new }
     {
         issue_keeps_rest();
         stage_leaves();

@@ -4,6 +4,8 @@ use Rattle.run_core.specs.Kept.{shown_stage}
 use Rattle.run_core.specs.declared.progress.Progress.TheVariants as progress
 use Rattle.run_core.proofs.TakenFacts.{staged_shown}
 use Rattle.run_core.proofs.IssueFacts.{stages_differ, left_to_issue, issued_core, issued_answer, issued_works, full_answer}
+use Rattle.run_core.specs.Core.{IsCore}
+use Rattle.run_core.proofs.OutFacts.{out_by_answer}
 use Rattle.run_core.proofs.run.Core.issue.Goals as goal
 
 pub create-requires : goal.create-requires
@@ -53,3 +55,6 @@ returns-clause-works c =
     let differ = stages_differ s.stages.items (length s.events.handles) c.issued-next.result c.len.result c.issued-next.ensures (omega (arith, c.len.ensures, s.stages.ok.0)) c.if-next-len.false in
     let is = staged_shown s.checked.now.graph s.stages.items c.create.new.self s.columns.homes s.columns.takers.items s.values.items s.holders.items s.trace.items c.issued-next.result progress.Issued in
     issued_works c.stage_leaves.ensures _ _ _ s.events c.create.new.self c.args.self.now c.issued-next.result c.self.view_is is c.issued-next.ensures c.self.invariant.core differ
+
+pub returns-clause-out : goal.returns-clause-out
+returns-clause-out c = out_by_answer c.args.self.now _ c.issued-next.result (subst IsCore c.self.view_is c.self.invariant.core) (returns-clause-answer c)

@@ -15,6 +15,7 @@ use Rattle.run_core.specs.Events.{EventsValue}
 use Rattle.run_core.specs.declared.progress.Progress.TheVariants.{Unissued}
 use Rattle.run_core.proofs.CoreFacts.{core_unissued}
 use Rattle.run_core.proofs.OutcomeFacts.{shown_first, kept_first}
+use Rattle.run_core.proofs.OutFacts.{none_out_at_first}
 use Rattle.run_core.proofs.run.Core.prepare.Goals as goal
 
 abbrev first_events : ℕ → ℕ → EventsValue
@@ -47,8 +48,8 @@ invariant_of-result-2 c =
       phases = (c.in_ok-new.ensures.phases.0, room_is g c.graph-graph.result.now c.lines-lines.result _ e c.lines-lines.ensures.number c.in_ok-new.ensures.phases.1);
     }
 
-pub returns : goal.returns
-returns c =
+pub returns-clause-core : goal.returns-clause-core
+returns-clause-core c =
     let g = c.args.checked.now.graph in
     let e = c.graph-graph.ensures.graph in
     let n = c.lines-lines.ensures.number ∙ ap (λ (x : GraphValue). length x.lines) e in
@@ -60,3 +61,6 @@ returns c =
     let none : Option ℕ = None in
     let holders = c.in_ok-filled-2.ensures.items ∙ ap (λ k. replicate k none) (c.locks.ensures.number ∙ ap (λ x. length (locks x)) e) in
     shown_first g c.in_ok-filled.field-0.items _ c.in_ok-homes.homes c.in_ok-takers.takers.items c.in_ok-first_values.field-0.items c.in_ok-filled-2.field-0.items c.in_ok-with_room.field-0.items c.args.slots stages events homes takers values holders c.in_ok-with_room.ensures.items
+
+pub returns-clause-nothing_out : goal.returns-clause-nothing_out
+returns-clause-nothing_out c = none_out_at_first _ c.args.checked.now.graph c.args.slots (returns-clause-core c)

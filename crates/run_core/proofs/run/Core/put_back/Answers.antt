@@ -9,7 +9,7 @@ use Rattle.gen_events.specs.declared.handle.Fate.{Fate}
 use Rattle.gen_events.specs.EventMap.{answer, answer_of, ended_with}
 use Rattle.run_state.specs.Sound.{AccessesColumn}
 use Rattle.run_state.specs.WholeLine.{all_home, columns_for, values_with, arrival_for, holders_without}
-use Rattle.run_core.specs.Core.{CoreValue}
+use Rattle.run_core.specs.Core.{CoreValue, IsCore}
 use Rattle.run_core.specs.Events.{EventsValue}
 use Rattle.run_core.specs.Steps.{handle_at, fate_for}
 use Rattle.run_core.specs.declared.progress.Progress.TheVariants.{Ended}
@@ -17,6 +17,7 @@ use Rattle.run_core.specs.Kept.{shown_stage, places_of, holding, frees_in, shown
 use Rattle.run_core.specs.Works.{FinishedValue, cells_in}
 use Rattle.run_core.proofs.CoreFacts.{handle_pending}
 use Rattle.run_core.proofs.EndedFacts.{held_alone, ended_shown, column_is_out, column_is_held, trace_is_short, ended_kept, finished_is, ended_core, ended_is, ended_works}
+use Rattle.run_core.proofs.OutFacts.{out_put}
 use Rattle.run_core.proofs.run.Core.put_back.Goals as goal
 
 abbrev ended_events : EventsValue → Handle → Fate → EventsValue
@@ -114,3 +115,6 @@ returns-clause-works c =
     let shown = ap (shown_core s.checked.now.graph (slice_set s.stages.items r.0 (Ended r.1)) c.end.new.self c.settle.new.columns.homes c.settle.new.columns.takers.items c.settle.new.values.items c.free.new.holders.items) c.push_within.ensures.items
     ∙ ended_shown s.checked.now.graph s.stages.items s.events s.columns.homes c.settle.new.columns.homes s.columns.takers.items c.settle.new.columns.takers.items s.values.items c.settle.new.values.items s.holders.items c.free.new.holders.items s.trace.items (finished_of r) c.self.invariant.core is places arrives frees c.end.new.self events in
     ended_works c.put_back_leaves.ensures _ c.args.self.now _ (finished_of r) c.args.finished c.self.view_is same shown c.self.invariant.core is
+
+pub returns-clause-out : goal.returns-clause-out
+returns-clause-out c = out_put c.args.self.now _ c.args.finished (subst IsCore c.self.view_is c.self.invariant.core) c.requires (returns-clause-put c)

@@ -1,0 +1,78 @@
+-- Which lines are out of a core after each call.
+use Rattle.std.proofs.Common.{◌≡◌, ℕ, ◌<◌, false, inl, inr, List, length, sym, ◌∙◌, ap, subst}
+use Rattle.std.specs.Prelude.{◌≢◌, slice_set}
+use Rattle.std.proofs.lemmas.Bool.{cases_eq}
+use Rattle.std.proofs.lemmas.List.{get_or-set_same, get_or-set_other, set-set}
+use Rattle.graph_model.specs.Graph.{GraphValue}
+use Rattle.gen_events.specs.declared.handle.Handle.{Handle}
+use Rattle.run_state.specs.Run.{LineStage, Unissued, Issued, Out, Ending, Ended, stage_out, stage_issued, out}
+use Rattle.run_state.proofs.Start.{same_at}
+use Rattle.run_core.specs.Core.{CoreValue, IsCore, unissued}
+use Rattle.run_core.specs.Works.{WorkValue, FinishedValue, IsFinished}
+use Rattle.run_core.specs.Steps.{Issues, Takes, with_end, with_issue, IsLeft}
+use Rattle.run_core.specs.WhatIsOut.{SameOut, OneMoreOut}
+use Rattle.run_core.specs.Finishing.{NothingOut}
+use Rattle.run_core.specs.declared.answers.Issue.TheVariants as issues
+use Rattle.run_core.proofs.CoreFacts.{may_issue, line_near}
+use Rattle.run_core.proofs.FinishFacts.{GoesOut, goes_out}
+
+-- A LINE AT ANOTHER STAGE
+module _ (stages : List LineStage) (i : ℕ) (s : LineStage) where
+  out_else : (k : ℕ) → k ≢ i → out (slice_set stages i s) k ≡ out stages k
+  out_else k other = ap stage_out (get_or-set_other stages i k s Unissued other)
+
+  out_here : i < length stages → out (slice_set stages i s) i ≡ stage_out s
+  out_here near = ap stage_out (get_or-set_same stages i s Unissued near)
+
+-- NO LINE IS ISSUED
+pub none_out_at_first : (c : CoreValue) (g : GraphValue) (slots : ℕ) → c ≡ unissued g slots → NothingOut c
+none_out_at_first c g slots is i = ap (λ (x : CoreValue). out x.run.stages i) is ∙ ap stage_out (same_at Unissued (length g.lines) i)
+
+-- A LINE IS ISSUED
+out_issued : (old new : CoreValue) → IsCore old → (h : Handle) → IsLeft old → new ≡ with_issue old h → SameOut old new
+out_issued old new core h left is = record { graph = ap (λ (c : CoreValue). c.graph) is; «same» = same }
+  where
+    line : ℕ
+    line = length old.handles
+
+    near : line < length old.run.stages
+    near = subst (λ n. line < n) (sym core.sound.on_lines.each_line) left
+
+    before : out old.run.stages line ≡ false
+    before = ap stage_out (may_issue old core left).unissued
+
+    same : (k : ℕ) → out new.run.stages k ≡ out old.run.stages k
+    same k = ap (λ (c : CoreValue). out c.run.stages k) is ∙ elim (cases_eq k line) [
+      | inl here ↦ ap (out (slice_set old.run.stages line Issued)) here ∙ (out_here old.run.stages line Issued near ∙ (sym before ∙ ap (out old.run.stages) (sym here)))
+      | inr other ↦ out_else old.run.stages line Issued k other
+    ]
+
+pub out_by_answer : (old new : CoreValue) (i : ℕ) → IsCore old → Issues old new (issues.Issued i) → SameOut old new
+out_by_answer old new i core h = out_issued old new core h.2 h.0 h.5
+
+-- A LINE IS TAKEN
+pub out_taken : (old new : CoreValue) (w : WorkValue) → Takes old new w → OneMoreOut old new w.line
+out_taken old new w takes = record {
+  graph = gone.graph;
+  before = ap stage_out takes.due.is_issued;
+  after = ap stage_out takes.work.is_out;
+  others = λ k other. ap (λ ss. out ss k) gone.stages ∙ out_else old.run.stages w.line Out k other;
+}
+  where
+    gone : GoesOut old new w.line
+    gone = goes_out old new w takes
+
+-- A LINE IS PUT BACK
+pub out_put : (old new : CoreValue) (f : FinishedValue) → IsCore old → IsFinished old f → new ≡ with_end old f → OneMoreOut new old f.line
+out_put old new f core finished put = record {
+  graph = sym (ap (λ (c : CoreValue). c.graph) put);
+  before = ap (λ ss. out ss f.line) stages ∙ out_here old.run.stages f.line (Ended f.ends) near;
+  after = ap stage_out finished.is_out;
+  others = λ k other. sym (ap (λ ss. out ss k) stages ∙ out_else old.run.stages f.line (Ended f.ends) k other);
+}
+  where
+    stages : new.run.stages ≡ slice_set old.run.stages f.line (Ended f.ends)
+    stages = ap (λ (c : CoreValue). c.run.stages) put ∙ set-set old.run.stages f.line (Ending f.ends) (Ended f.ends)
+
+    near : f.line < length old.run.stages
+    near = line_near old core f.line (ap stage_issued finished.is_out)

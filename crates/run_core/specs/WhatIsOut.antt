@@ -1,0 +1,23 @@
+-- Which lines are out of a core after a call.
+use Rattle.std.specs.Prelude.{◌≡◌, ◌≢◌, ℕ, true, false}
+use Rattle.run_state.specs.Run.{out}
+use Rattle.run_core.specs.Core.{CoreValue}
+use Rattle.run_core.specs.declared.answers.Attempt.{Attempt}
+use Rattle.run_core.specs.declared.answers.Attempt.TheVariants as attempts
+
+-- the same lines as before, and of the same graph
+pub record SameOut (old new : CoreValue) : Type 0 where
+  pub graph : new.graph ≡ old.graph
+  pub same : (k : ℕ) → out new.run.stages k ≡ out old.run.stages k
+
+-- this line, and those that were out before
+pub record OneMoreOut (old new : CoreValue) (i : ℕ) : Type 0 where
+  pub graph : new.graph ≡ old.graph
+  pub before : out old.run.stages i ≡ false
+  pub after : out new.run.stages i ≡ true
+  pub others : (k : ℕ) → k ≢ i → out new.run.stages k ≡ out old.run.stages k
+
+-- by what an attempt answers
+abbrev pub OutAfter : CoreValue → CoreValue → Attempt → Type 0
+OutAfter old new (attempts.Taken w) = OneMoreOut old new w.line
+OutAfter old new _ = SameOut old new
