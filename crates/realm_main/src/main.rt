@@ -10,6 +10,8 @@ use realm_top::status::Status;
 use std::env::{self, Env};
 use std::io::{self, BufWriter};
 use std::process::ExitCode;
+use std::sync::Wait;
+use std::thread::Threads;
 
 /// The line for the standard error, where the standard output has no text for this status.
 fn message(status: Status) -> Option<&'static str>
@@ -41,7 +43,7 @@ fn words<R: Env + AllocGlobal>(rt: &R) -> Result<Vec<String>, Status> {
 }
 
 /// Runs what the words ask for over the standard streams.
-fn run<R: Env + AllocGlobal + Input + Print>(rt: &R) -> Status {
+fn run<R: Env + AllocGlobal + Input + Print + Threads + Wait + Sync>(rt: &R) -> Status {
     let words = match words(rt) {
         Ok(words) => words,
         Err(status) => return status,

@@ -1,6 +1,6 @@
 -- That a need is no more than the slots that a table may have.
 use Rattle.std.proofs.Common.{◌≡◌, ℕ, zero, suc, ◌+◌, ◌<◌, ◌≤◌, List, [], ◌∷◌, map, length, take, arith}
-use Rattle.std.specs.Prelude.{Contains, nat_lt, count_by}
+use Rattle.std.specs.Prelude.{Contains, nat_lt}
 use Rattle.std.proofs.lemmas.List.Sums.{count_by-le-length}
 use Rattle.index_spaces.specs.Space.{numbers_below}
 use Rattle.graph_model.specs.Graph.{GraphValue}

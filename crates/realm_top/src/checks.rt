@@ -2,8 +2,9 @@
 
 use crate::status::Status;
 use crate::support::is_answered;
-use std::alloc::Global;
+use std::sync::Wait;
 use std::test::Fail;
+use std::thread::Threads;
 
 const LOCKED: &str = "space s 0..1\ninst a s x,y,z\nlock l\n";
 
@@ -20,15 +21,15 @@ const TRIGGERED_TRACE: &str =
     "realm-report 1\nop u done triggered\nop f done triggered\nop g done triggered\nop t done triggered\ncells a.x 0..1 5 5\ncells a.y 0..1 6 6\ndone\nrealm-trace 1\nat g\nat t\nat u\nat f\ndone\n";
 
 /// Whether a command line over the graph of these lines ends so.
-fn is_done(
-    alloc: Global,
+fn is_done<R: Threads + Wait + Sync + AllocGlobal>(
+    rt: &R,
     line: &str,
     lines: &str,
     status: Status,
     text: &str,
 ) -> Result<bool, Fail> {
-    let graph = format!(in alloc; "realm 1\n{lines}end\n")?;
-    is_answered(alloc, line, graph.as_bytes(), status, text.as_bytes())
+    let graph = format!(in rt.alloc(); "realm 1\n{lines}end\n")?;
+    is_answered(rt, line, graph.as_bytes(), status, text.as_bytes())
 }
 
 #[test]
@@ -49,7 +50,7 @@ fn needs(rt: HostRuntime) -> Result<(), Fail> {
         // nine fills that wait for a trigger below them
         (FEW_SLOTS, "accepted need 11\n"),
     ] {
-        assert!(rt; is_done(rt.alloc(), "realm check", lines, Status::Done, text)?);
+        assert!(rt; is_done(&rt, "realm check", lines, Status::Done, text)?);
     }
     Ok(())
 }
@@ -88,7 +89,7 @@ fn broken_rules(rt: HostRuntime) -> Result<(), Fail> {
         ),
     ] {
         for line in ["realm check", "realm run", "realm eval --trace"] {
-            assert!(rt; is_done(rt.alloc(), line, lines, Status::Unfit, text)?);
+            assert!(rt; is_done(&rt, line, lines, Status::Unfit, text)?);
         }
     }
     Ok(())
@@ -153,7 +154,7 @@ fn uses(rt: HostRuntime) -> Result<(), Fail> {
         ),
     ] {
         let graph = format!(in rt.alloc(); "space s 0..1\ninst a s x,y,z\n{lines}")?;
-        assert!(rt; is_done(rt.alloc(), "realm check", graph.as_str(), status, text)?);
+        assert!(rt; is_done(&rt, "realm check", graph.as_str(), status, text)?);
     }
     Ok(())
 }
@@ -166,7 +167,7 @@ fn slots(rt: HostRuntime) -> Result<(), Fail> {
         ("realm eval --slots 10", Status::Done, FEW_SLOTS_REPORT),
         ("realm check --slots 10", Status::Done, "accepted need 11\n"),
     ] {
-        assert!(rt; is_done(rt.alloc(), line, FEW_SLOTS, status, text)?);
+        assert!(rt; is_done(&rt, line, FEW_SLOTS, status, text)?);
     }
     Ok(())
 }
@@ -178,7 +179,7 @@ fn traces(rt: HostRuntime) -> Result<(), Fail> {
         "realm eval --trace",
         "realm --trace run",
     ] {
-        assert!(rt; is_done(rt.alloc(), line, TRIGGERED, Status::Done, TRIGGERED_TRACE)?);
+        assert!(rt; is_done(&rt, line, TRIGGERED, Status::Done, TRIGGERED_TRACE)?);
     }
     Ok(())
 }

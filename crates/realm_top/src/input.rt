@@ -21,13 +21,15 @@ use graph_model::outcome::Outcome;
 use graph_model::verb::Why;
 use graph_reader::{ReadRefusal, read_graph};
 use index_spaces::NoMemory;
+use lock_engine::{Turn, run_turn};
 use plain_eval::evaluation::eval;
 use race_check::check;
 use race_check::checked::{CheckRefusal, Checked, Unfit};
-use realm_io::{Sink, WriteFault, put};
+use realm_io::{Gate, Sink, WriteFault, put};
 use realm_trace::put_trace;
-use run_core::Core;
 use std::alloc::Global;
+use std::sync::Wait;
+use std::thread::Threads;
 
 // The slots of a run where none are given, and the most that a table of events has.
 const DEFAULT_SLOTS: u32 = 256;
@@ -35,35 +37,54 @@ const DEFAULT_SLOTS: u32 = 256;
 const MOST_SLOTS: u32 = 8192;
 
 /// Does what is asked for with the graph whose text the bytes are.
-pub(crate) fn answer<K: Sink>(alloc: Global, request: Request, bytes: &[u8], sink: &mut K) -> Status
-    requires { length bytes.now ≤ 1048576 }
+pub(crate) fn answer<R: Threads + Wait + Sync, K: Sink, G: Gate>(
+    rt: &R,
+    alloc: Global,
+    request: Request,
+    bytes: &[u8],
+    sink: &mut K,
+    gate: &G,
+) -> Status
+    requires short { length bytes.now ≤ 1048576 }
+    requires workers { request.workers ≤ 8 }
     ensures answered { Answered request bytes.now (sink_state K.taken K.flushed K.faults sink.old) (sink_state K.taken K.flushed K.faults sink.new) result }
     ensures no_memory { result ≡ Status.NoMemory → sink.new ≡ sink.old }
 {
     match read_graph(alloc, bytes) {
-        Ok(graph) => judge(alloc, request, graph, sink),
+        Ok(graph) => judge(rt, alloc, request, graph, sink, gate),
         Err(refusal) => refuse(request, sink, refusal),
     }
 }
 
 /// Checks a graph, and does what is asked for where it is accepted.
-fn judge<K: Sink>(alloc: Global, request: Request, graph: Graph, sink: &mut K) -> Status
+fn judge<R: Threads + Wait + Sync, K: Sink, G: Gate>(
+    rt: &R,
+    alloc: Global,
+    request: Request,
+    graph: Graph,
+    sink: &mut K,
+    gate: &G,
+) -> Status
+    requires workers { request.workers ≤ 8 }
     ensures settled { Settled request graph (sink_state K.taken K.flushed K.faults sink.old) (sink_state K.taken K.flushed K.faults sink.new) result }
     ensures no_memory { result ≡ Status.NoMemory → sink.new ≡ sink.old }
 {
     match check(alloc, graph) {
-        Ok(checked) => serve(alloc, request, &checked, sink),
+        Ok(checked) => serve(rt, alloc, request, &checked, sink, gate),
         Err(unfit) => reject(request, sink, &unfit),
     }
 }
 
 /// Does what is asked for with a graph that is accepted.
-pub(crate) fn serve<K: Sink>(
+pub(crate) fn serve<R: Threads + Wait + Sync, K: Sink, G: Gate>(
+    rt: &R,
     alloc: Global,
     request: Request,
     checked: &Checked,
     sink: &mut K,
+    gate: &G,
 ) -> Status
+    requires workers { request.workers ≤ 8 }
     ensures served { Serves request checked.now.graph (sink_state K.taken K.flushed K.faults sink.old) (sink_state K.taken K.flushed K.faults sink.new) result }
     ensures no_memory { result ≡ Status.NoMemory → sink.new ≡ sink.old }
 {
@@ -72,10 +93,10 @@ pub(crate) fn serve<K: Sink>(
         return put_short(sink, checked.need());
     }
     match request.action {
-        Action::Run => run(alloc, &request, checked, sink),
+        Action::Run => run(rt, alloc, &request, checked, sink, gate),
         Action::Eval => evaluate(alloc, request.trace, checked, sink),
         Action::Check => put_need(sink, checked.need()),
-        Action::Make => sum_up(alloc, &request, checked, sink),
+        Action::Make => sum_up(rt, alloc, &request, checked, sink, gate),
     }
 }
 
@@ -113,25 +134,39 @@ fn slots_for(given: Option<u32>, need: u32) -> u32
     slots.max(need).min(MOST_SLOTS)
 }
 
-/// Runs a graph.
-fn run_graph(alloc: Global, request: &Request, checked: &Checked) -> Result<Outcome, NoMemory>
+/// Runs a graph by as many workers as the request says.
+fn run_graph<R: Threads + Wait + Sync, G: Gate>(
+    rt: &R,
+    alloc: Global,
+    request: &Request,
+    checked: &Checked,
+    gate: &G,
+) -> Result<Outcome, NoMemory>
+    requires workers { request.now.workers ≤ 8 }
     ensures outcome { IfOk result (λ o. o ≡ outcome checked.now.graph o.trace) }
     ensures lawful { IfOk result (λ o. IsLawful checked.now.graph o.trace) }
     ensures lines { IfOk result (λ o. (k i : ℕ) → slice_get o.trace k ≡ Some i → i < length checked.now.graph.lines) }
 {
     let _ = checked.graph().lines();
     let slots = slots_for(request.slots, checked.need());
-    let mut core = Core::prepare(alloc, checked, slots)?;
-    core.finish();
-    Ok(core.outcome())
+    let turn = Turn::prepare(alloc, checked, slots)?;
+    Ok(run_turn(rt, turn, request.workers, gate))
 }
 
 /// Runs a graph that was made, and writes the line that sums that up.
-fn sum_up<K: Sink>(alloc: Global, request: &Request, checked: &Checked, sink: &mut K) -> Status
+fn sum_up<R: Threads + Wait + Sync, K: Sink, G: Gate>(
+    rt: &R,
+    alloc: Global,
+    request: &Request,
+    checked: &Checked,
+    sink: &mut K,
+    gate: &G,
+) -> Status
+    requires workers { request.now.workers ≤ 8 }
     ensures done { (result ≡ Status.NoMemory) ⊎ Delivers (sink_state K.taken K.flushed K.faults sink.old) (sink_state K.taken K.flushed K.faults sink.new) Status.Done result (made_says false checked.now.graph) }
     ensures no_memory { result ≡ Status.NoMemory → sink.new ≡ sink.old }
 {
-    let Ok(outcome) = run_graph(alloc, request, checked) else {
+    let Ok(outcome) = run_graph(rt, alloc, request, checked, gate) else {
         return Status::NoMemory;
     };
     match put_summary(sink, checked.graph(), &outcome) {
@@ -141,11 +176,19 @@ fn sum_up<K: Sink>(alloc: Global, request: &Request, checked: &Checked, sink: &m
 }
 
 /// Runs a graph, and writes its report, and the trace of the run where it is asked for.
-fn run<K: Sink>(alloc: Global, request: &Request, checked: &Checked, sink: &mut K) -> Status
+fn run<R: Threads + Wait + Sync, K: Sink, G: Gate>(
+    rt: &R,
+    alloc: Global,
+    request: &Request,
+    checked: &Checked,
+    sink: &mut K,
+    gate: &G,
+) -> Status
+    requires workers { request.now.workers ≤ 8 }
     ensures done { (result ≡ Status.NoMemory) ⊎ ((out : List ℕ) × IsRunText request.now.trace checked.now.graph out × Delivers (sink_state K.taken K.flushed K.faults sink.old) (sink_state K.taken K.flushed K.faults sink.new) Status.Done result out) }
     ensures no_memory { result ≡ Status.NoMemory → sink.new ≡ sink.old }
 {
-    let Ok(outcome) = run_graph(alloc, request, checked) else {
+    let Ok(outcome) = run_graph(rt, alloc, request, checked, gate) else {
         return Status::NoMemory;
     };
     match put_outcome(sink, checked.graph(), &outcome, request.trace) {

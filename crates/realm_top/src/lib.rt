@@ -11,6 +11,8 @@ mod makes;
 mod making;
 mod refusal;
 pub mod report;
+#[cfg(test)]
+mod rows;
 pub mod status;
 mod summary;
 #[cfg(test)]
@@ -19,6 +21,8 @@ mod support;
 mod tests;
 #[cfg(test)]
 mod tiles;
+#[cfg(test)]
+mod workers;
 
 ghost use Rattle.std.specs.Prelude.{◌≡◌, ℕ, ◌<◌, ◌≤◌, ◌⊎◌, List, Some, None, true, false, length, map, string_bytes, IfSome};
 ghost use Rattle.realm_io.specs.Counts.{Rose};
@@ -45,6 +49,8 @@ use graph_reader::laws::bytes_have_one_reading;
 use race_check::laws::needs_are_one;
 use realm_io::{Gate, ReadEnd, Sink, Source, read_all};
 use std::alloc::Global;
+use std::sync::Wait;
+use std::thread::Threads;
 
 // The most bytes that an input may have.
 const INPUT_LIMIT: u32 = 1_048_576;
@@ -52,15 +58,16 @@ const INPUT_LIMIT: u32 = 1_048_576;
 /// Does what the words ask for. `run`, `check` and `eval` read a graph and check it; `make` reads
 /// nothing and makes a graph of the seed and the size.
 ///
-/// `words` are the program's name, the word of the action, and options. The runtime and the gate are for the workers that
-/// later run a graph; they have no effect yet.
-pub fn realm<R, S: Source, K: Sink, G: Gate>(
-    _rt: &R,
+/// `words` are the program's name, the word of the action, and options. A graph is run by as many
+/// workers as they say. A worker passes the gate before it performs a line, and may wait there and at
+/// the lock, so nothing says that a run returns.
+pub fn realm<R: Threads + Wait + Sync, S: Source, K: Sink, G: Gate>(
+    rt: &R,
     alloc: Global,
     words: &[String],
     source: &mut S,
     sink: &mut K,
-    _gate: &G,
+    gate: &G,
 ) -> Status
     // Done, of an action that reads: the input is the one text of a graph that is accepted, and the text of the action was written and flushed: for `run` and `eval` the report of the graph's one-thread evaluation, followed by its order as the trace where that is asked for, for `check` its need.
     ensures done { result ≡ Status.Done → (request : Request) × (request_of (map (λ word. string_bytes word) words.now) ≡ Some request) × (reads request.action ≡ true → IfSome (S.left source.old) (λ bytes.
@@ -128,10 +135,10 @@ pub fn realm<R, S: Source, K: Sink, G: Gate>(
         Err(fault) => return words_status(fault),
     };
     if !reads(request.action) {
-        return answer_made(alloc, request, sink);
+        return answer_made(rt, alloc, request, sink, gate);
     }
     match read_all(alloc, source, INPUT_LIMIT) {
-        Ok(bytes) => answer(alloc, request, bytes.as_slice(), sink),
+        Ok(bytes) => answer(rt, alloc, request, bytes.as_slice(), sink, gate),
         Err(ReadEnd::TooLong) => put_text(sink, b"input too long\n", Status::TooLong),
         Err(ReadEnd::ReadFault) => Status::ReadFault,
         Err(ReadEnd::NoMemory) => Status::NoMemory,

@@ -4,8 +4,9 @@ use crate::realm;
 use crate::status::Status;
 use crate::support::words;
 use realm_io::{MemorySink, MemorySource, OpenGate};
-use std::alloc::Global;
+use std::sync::Wait;
 use std::test::Fail;
+use std::thread::Threads;
 
 const ONE_LINE: &str =
     "realm 1\nspace s 0..63\ninst a0 s v\ninst a1 s v\ninst a2 s v\ninst a3 s v\ninst a4 s v\ninst a5 s v\ninst a6 s v\ninst a7 s v\ninst z s v\nlock l\no0 = fill a5.v s 27735\nend\n";
@@ -14,12 +15,18 @@ const TRIGGERED: &str =
     "realm 1\nspace s 0..63\ninst a0 s v\ninst a1 s v\ninst a2 s v\ninst a3 s v\ninst a4 s v\ninst a5 s v\ninst a6 s v\ninst a7 s v\ninst z s v\nlock l\no0 = user\no1 = trigger o0\nend\n";
 
 /// Whether a command line ends with this status and this text, and its source was not read.
-fn is_made(alloc: Global, line: &str, status: Status, text: &str) -> Result<bool, Fail> {
+fn is_made<R: Threads + Wait + Sync + AllocGlobal>(
+    rt: &R,
+    line: &str,
+    status: Status,
+    text: &str,
+) -> Result<bool, Fail> {
+    let alloc = rt.alloc();
     let words = words(alloc, line)?;
     let mut source = MemorySource::new(Vec::new(alloc), 1, vec![in alloc; 0]?);
     let mut sink = MemorySink::new(vec![in alloc; 0; 4096]?, 4096, Vec::new(alloc));
     let found = realm(
-        &(),
+        rt,
         alloc,
         words.as_slice(),
         &mut source,
@@ -49,7 +56,7 @@ fn sums_up(rt: HostRuntime) -> Result<(), Fail> {
             "made ops 8192 done 5111 faulted 91 cancelled 2990 waiting 0 sum 993645152\n",
         ),
     ] {
-        assert!(rt; is_made(rt.alloc(), line, Status::Done, text)?);
+        assert!(rt; is_made(&rt, line, Status::Done, text)?);
     }
     Ok(())
 }
@@ -73,7 +80,7 @@ fn asks_for_slots(rt: HostRuntime) -> Result<(), Fail> {
             "needs 4 slots\n",
         ),
     ] {
-        assert!(rt; is_made(rt.alloc(), line, status, text)?);
+        assert!(rt; is_made(&rt, line, status, text)?);
     }
     Ok(())
 }
@@ -84,11 +91,11 @@ fn writes_texts(rt: HostRuntime) -> Result<(), Fail> {
         ("realm make --seed 1 --size 1 --text", ONE_LINE),
         ("realm make --seed 3 --size 2 --text --slots 1", TRIGGERED),
     ] {
-        assert!(rt; is_made(rt.alloc(), line, Status::Done, text)?);
+        assert!(rt; is_made(&rt, line, Status::Done, text)?);
     }
     assert!(rt;
         is_made(
-            rt.alloc(),
+            &rt,
             "realm make --seed 18446744073709551616",
             Status::Usage,
             ""

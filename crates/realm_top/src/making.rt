@@ -16,12 +16,21 @@ use graph_model::graph::Graph;
 use graph_reader::put_graph;
 use race_check::check;
 use race_check::checked::CheckRefusal;
-use realm_io::Sink;
+use realm_io::{Gate, Sink};
 use std::alloc::Global;
+use std::sync::Wait;
+use std::thread::Threads;
 
 /// Makes the graph of the request's seed and size, and does what is asked for with it.
-pub(crate) fn answer_made<K: Sink>(alloc: Global, request: Request, sink: &mut K) -> Status
+pub(crate) fn answer_made<R: Threads + Wait + Sync, K: Sink, G: Gate>(
+    rt: &R,
+    alloc: Global,
+    request: Request,
+    sink: &mut K,
+    gate: &G,
+) -> Status
     requires size { (1 ≤ request.size) × (request.size ≤ 8192) }
+    requires workers { request.workers ≤ 8 }
     ensures answered { MadeAnswered request (sink_state K.taken K.flushed K.faults sink.old) (sink_state K.taken K.flushed K.faults sink.new) result }
     ensures no_memory { result ≡ Status.NoMemory → sink.new ≡ sink.old }
 {
@@ -32,7 +41,7 @@ pub(crate) fn answer_made<K: Sink>(alloc: Global, request: Request, sink: &mut K
     if request.text {
         put_made(sink, &graph)
     } else {
-        serve_made(alloc, request, graph, sink)
+        serve_made(rt, alloc, request, graph, sink, gate)
     }
 }
 
@@ -47,13 +56,21 @@ fn put_made<K: Sink>(sink: &mut K, graph: &Graph) -> Status
 }
 
 /// Checks a graph that is accepted, for its need, and does what is asked for with it.
-fn serve_made<K: Sink>(alloc: Global, request: Request, graph: Graph, sink: &mut K) -> Status
-    requires { Accepted graph }
+fn serve_made<R: Threads + Wait + Sync, K: Sink, G: Gate>(
+    rt: &R,
+    alloc: Global,
+    request: Request,
+    graph: Graph,
+    sink: &mut K,
+    gate: &G,
+) -> Status
+    requires accepted { Accepted graph }
+    requires workers { request.workers ≤ 8 }
     ensures served { Serves request graph (sink_state K.taken K.flushed K.faults sink.old) (sink_state K.taken K.flushed K.faults sink.new) result }
     ensures no_memory { result ≡ Status.NoMemory → sink.new ≡ sink.old }
 {
     match check(alloc, graph) {
-        Ok(checked) => serve(alloc, request, &checked, sink),
+        Ok(checked) => serve(rt, alloc, request, &checked, sink, gate),
         Err(unfit) => out_of_memory(unfit.why),
     }
 }

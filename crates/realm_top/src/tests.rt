@@ -1,11 +1,13 @@
 //! Worked rows of the top call, over sources and sinks in memory.
 
 use crate::realm;
+use crate::rows::{FAULTY_PATHS, KERNELS, LOCKED_SUMS};
 use crate::status::Status;
 use crate::support::words;
 use realm_io::{MemorySink, MemorySource, OpenGate};
-use std::alloc::Global;
+use std::sync::Wait;
 use std::test::Fail;
+use std::thread::Threads;
 
 const GRAPH: &[u8] = b"realm 1\nspace s 0..3\ninst a s x\nf = fill a.x s 7\nend\n";
 
@@ -26,19 +28,20 @@ const SURE: Outside<'static> = Outside {
 };
 
 /// The status and the bytes that were written for an input.
-fn answer(
-    alloc: Global,
+fn answer<R: Threads + Wait + Sync + AllocGlobal>(
+    rt: &R,
     words: &[String],
     input: &[u8],
     outside: &Outside,
 ) -> Result<(Status, Vec<u8>), Fail> {
+    let alloc = rt.alloc();
     let bytes = Vec::from_slice(alloc, input)?;
     let reads = Vec::from_slice(alloc, outside.failing_reads)?;
     let calls = Vec::from_slice(alloc, outside.failing_calls)?;
     let piece = outside.piece.max(1);
     let mut source = MemorySource::new(bytes, piece, reads);
     let mut sink = MemorySink::new(vec![in alloc; 0; 4096]?, piece, calls);
-    let status = realm(&(), alloc, words, &mut source, &mut sink, &OpenGate);
+    let status = realm(rt, alloc, words, &mut source, &mut sink, &OpenGate);
     Ok((status, Vec::from_slice(alloc, sink.taken())?))
 }
 
@@ -97,18 +100,8 @@ fn answers_inputs(rt: HostRuntime) -> Result<(), Fail> {
             Status::Done,
             b"realm-report 1\nop f done triggered\ncells a.x 0..0 18446744073709551615\ndone\n".as_slice(),
         ),
-        // sums under one reservation
-        (
-            b"realm 1\nspace s 0..1\ninst a s x,y,z\nlock l\nf = fill a.x s 3\ng = fill a.y s 4\nq = acquire l on f\nd = reduce sum a.x a.z s on q\nm = mergei d\nr = release q on m\nk = acquire l on g\ne = reduce sum a.y a.z s on k\nn = mergei e\nt = release k on n\nend\n".as_slice(),
-            Status::Done,
-            b"realm-report 1\nop f done triggered\nop g done triggered\nop q done triggered\nop d done triggered\nop m done triggered\nop r done triggered\nop k done triggered\nop e done triggered\nop n done triggered\nop t done triggered\ncells a.x 0..1 3 3\ncells a.y 0..1 4 4\ncells a.z 0..1 7 7\ndone\n".as_slice(),
-        ),
-        // kernels
-        (
-            b"realm 1\nspace s 0..3\nspace t 0..1\nspace o 0..0\ninst a s x,y,z\ninst b o d\ne1 = task iota a.x s 1\ne2 = task scan a.x a.y s on e1\ne3 = task stencil a.x a.z s s on e2\ne4 = task axpy a.y a.z s 10 on e3\ne5 = task hist a.z a.y s t on e4\ne6 = task dot a.x a.y b.d s o on e5\ne7 = task gather a.x a.y a.z s t on e6\ne8 = reduce max a.x a.z s on e7\ne9 = reduce min a.x a.y s on e8\nend\n".as_slice(),
-            Status::Done,
-            b"realm-report 1\nop e1 done triggered\nop e2 done triggered\nop e3 done triggered\nop e4 done triggered\nop e5 done triggered\nop e6 done triggered\nop e7 done triggered\nop e8 done triggered\nop e9 done triggered\ncells a.x 0..3 1 2 3 4\ncells a.y 0..3 1 2 3 4\ncells a.z 0..3 6 2 6 4\ncells b.d 0..0 72\ndone\n".as_slice(),
-        ),
+        (LOCKED_SUMS.text, Status::Done, LOCKED_SUMS.report),
+        (KERNELS.text, Status::Done, KERNELS.report),
         // a missing last line
         (
             b"realm 1\nu = user\n".as_slice(),
@@ -151,12 +144,7 @@ fn answers_inputs(rt: HostRuntime) -> Result<(), Fail> {
             Status::Done,
             b"realm-report 1\nop f done triggered\ncells a.x 0..1 10 11\ncells a.x 4..5 12 13\ndone\n".as_slice(),
         ),
-        // broken and unbroken paths
-        (
-            b"realm 1\nspace s 0..1\ninst a s x,y\nf = fill a.x s 7\nk = task expect a.x s 0 5 on f\nc = copy a.x a.y s on k\nm = merge k c\nn = mergei k c\ng = fill a.y s 9 on n\nend\n".as_slice(),
-            Status::Done,
-            b"realm-report 1\nop f done triggered\nop k faulted poisoned\nop c cancelled poisoned\nop m cancelled poisoned\nop n done triggered\nop g done triggered\ncells a.x 0..1 7 7\ncells a.y 0..1 9 9\ndone\n".as_slice(),
-        ),
+        (FAULTY_PATHS.text, Status::Done, FAULTY_PATHS.report),
         (
             b"".as_slice(),
             Status::Unread,
@@ -170,7 +158,7 @@ fn answers_inputs(rt: HostRuntime) -> Result<(), Fail> {
     ];
     for (input, status, text) in rows {
         for line in [run.as_slice(), eval.as_slice()] {
-            let (found, written) = answer(rt.alloc(), line, input, &SURE)?;
+            let (found, written) = answer(&rt, line, input, &SURE)?;
             assert_eq!(rt; found, status);
             assert_eq!(rt; written.as_slice(), text);
         }
@@ -190,7 +178,7 @@ fn refuses_words(rt: HostRuntime) -> Result<(), Fail> {
         "realm run --slots 01",
     ] {
         let words = words(rt.alloc(), line)?;
-        let (found, written) = answer(rt.alloc(), words.as_slice(), GRAPH, &SURE)?;
+        let (found, written) = answer(&rt, words.as_slice(), GRAPH, &SURE)?;
         assert_eq!(rt; found, Status::Usage);
         assert_eq!(rt; written.as_slice(), b"".as_slice());
     }
@@ -205,7 +193,7 @@ fn survives_faults(rt: HostRuntime) -> Result<(), Fail> {
         failing_reads: &[1],
         failing_calls: &[],
     };
-    let (found, written) = answer(rt.alloc(), run.as_slice(), GRAPH, &four)?;
+    let (found, written) = answer(&rt, run.as_slice(), GRAPH, &four)?;
     assert_eq!(rt; found, Status::ReadFault);
     assert_eq!(rt; written.as_slice(), b"".as_slice());
     for k in 0..54u32 {
@@ -214,7 +202,7 @@ fn survives_faults(rt: HostRuntime) -> Result<(), Fail> {
             failing_reads: &[k],
             failing_calls: &[],
         };
-        let (found, written) = answer(rt.alloc(), run.as_slice(), GRAPH, &one)?;
+        let (found, written) = answer(&rt, run.as_slice(), GRAPH, &one)?;
         assert_eq!(rt; found, Status::ReadFault);
         assert_eq!(rt; written.as_slice(), b"".as_slice());
     }
@@ -224,7 +212,7 @@ fn survives_faults(rt: HostRuntime) -> Result<(), Fail> {
             failing_reads: &[],
             failing_calls: &[k],
         };
-        let (found, written) = answer(rt.alloc(), run.as_slice(), GRAPH, &one)?;
+        let (found, written) = answer(&rt, run.as_slice(), GRAPH, &one)?;
         assert_eq!(rt; found, Status::WriteFault);
         assert_eq!(rt;
             written.as_slice(),
@@ -245,7 +233,7 @@ fn refuses_cut_texts(rt: HostRuntime) -> Result<(), Fail> {
         } else {
             format!(in rt.alloc(); "refused line {} missing\n", newlines + 1)?
         };
-        let (found, written) = answer(rt.alloc(), run.as_slice(), cut, &SURE)?;
+        let (found, written) = answer(&rt, run.as_slice(), cut, &SURE)?;
         assert_eq!(rt; found, Status::Unread);
         assert_eq!(rt; written.as_slice(), expected.as_bytes());
     }

@@ -95,7 +95,7 @@ fn phase(alloc: Global, s: u32) -> Result<String, Fail> {
 }
 
 /// The whole graph.
-fn graph(alloc: Global) -> Result<String, Fail> {
+pub(crate) fn graph(alloc: Global) -> Result<String, Fail> {
     let mut text = declarations(alloc)?;
     text.push_str(first_fills(alloc)?.as_str())?;
     let mut event = String::from_str(alloc, "s0")?;
@@ -123,7 +123,7 @@ fn all_done(alloc: Global, text: &str) -> Result<String, Fail> {
 }
 
 /// The report of the whole graph.
-fn report(alloc: Global, text: &str) -> Result<String, Fail> {
+pub(crate) fn report(alloc: Global, text: &str) -> Result<String, Fail> {
     let mut report = all_done(alloc, text)?;
     for s in 1..11u32 {
         report.push_str(format!(in alloc; "phase p{s} 8\n")?.as_str())?;
@@ -150,21 +150,13 @@ fn tiled_stencil(rt: HostRuntime) -> Result<(), Fail> {
         ("realm run --workers 4", report.as_str()),
         ("realm eval", report.as_str()),
     ] {
-        assert!(rt;
-            is_answered(
-                alloc,
-                line,
-                text.as_bytes(),
-                Status::Done,
-                wanted.as_bytes()
-            )?
-        );
+        assert!(rt; is_answered(&rt, line, text.as_bytes(), Status::Done, wanted.as_bytes())?);
     }
     Ok(())
 }
 
 /// A thousand fills of one cell, each on the one before it.
-fn chain(alloc: Global) -> Result<String, Fail> {
+pub(crate) fn chain(alloc: Global) -> Result<String, Fail> {
     let mut text = String::from_str(
         alloc,
         "realm 1\nspace s 0..0\ninst a s x\nf1 = fill a.x s 1\n",
@@ -187,15 +179,7 @@ fn one_slot(rt: HostRuntime) -> Result<(), Fail> {
         ("realm check", "accepted need 1\n"),
         ("realm run --slots 1", report.as_str()),
     ] {
-        assert!(rt;
-            is_answered(
-                alloc,
-                line,
-                text.as_bytes(),
-                Status::Done,
-                wanted.as_bytes()
-            )?
-        );
+        assert!(rt; is_answered(&rt, line, text.as_bytes(), Status::Done, wanted.as_bytes())?);
     }
     Ok(())
 }

@@ -1,4 +1,4 @@
-use Rattle.std.proofs.Common.{◌≡◌, inr, ap}
+use Rattle.std.proofs.Common.{inr, ap}
 use Rattle.graph_model.specs.declared.outcome.Outcome.{Outcome}
 use Rattle.graph_model.specs.Evaluation.{order}
 use Rattle.realm_top.specs.Answer.{evaluation_text}

@@ -1,4 +1,4 @@
-use Rattle.std.proofs.Common.{◌≡◌, [], sym, ap, subst}
+use Rattle.std.proofs.Common.{[], sym, ap, subst}
 use Rattle.realm_io.specs.Written.{Wrote, Stopped, Writes}
 use Rattle.realm_io.proofs.WrittenLaws.{then_writes, stops, stopped_early}
 use Rattle.realm_trace.specs.Text.{trace_text}

@@ -1,4 +1,4 @@
-use Rattle.std.proofs.Common.{◌≡◌, inr, refl}
+use Rattle.std.proofs.Common.{inr, refl}
 use Rattle.realm_top.specs.Answer.{report_with}
 use Rattle.realm_top.proofs.Delivering.{written_then_flushed, stopped_is_broken, wrote_of, stopped_of}
 use Rattle.realm_top.proofs.input.run.Goals as goal

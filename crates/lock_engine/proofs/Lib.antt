@@ -1,0 +1,3 @@
+pub mod TurnFacts
+pub mod RuleFacts
+pub mod SeatFacts

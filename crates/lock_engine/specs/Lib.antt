@@ -1,0 +1,4 @@
+pub mod Turns
+pub mod Rule
+pub mod Plays
+pub mod Seats

@@ -1,0 +1,13 @@
+//! A run by several workers, which take turns at one core.
+#![tactic(auto)]
+
+mod plays;
+mod serving;
+#[cfg(test)]
+mod tests;
+mod turn;
+mod turning;
+mod view;
+mod workers;
+
+pub use turn::{Turn, run_turn};
