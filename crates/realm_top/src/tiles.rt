@@ -95,7 +95,7 @@ fn phase(alloc: Global, s: u32) -> Result<String, Fail> {
 }
 
 /// The whole graph.
-fn graph(alloc: Global) -> Result<String, Fail> {
+pub(crate) fn graph(alloc: Global) -> Result<String, Fail> {
     let mut text = declarations(alloc)?;
     text.push_str(first_fills(alloc)?.as_str())?;
     let mut event = String::from_str(alloc, "s0")?;
@@ -164,7 +164,7 @@ fn tiled_stencil(rt: HostRuntime) -> Result<(), Fail> {
 }
 
 /// A thousand fills of one cell, each on the one before it.
-fn chain(alloc: Global) -> Result<String, Fail> {
+pub(crate) fn chain(alloc: Global) -> Result<String, Fail> {
     let mut text = String::from_str(
         alloc,
         "realm 1\nspace s 0..0\ninst a s x\nf1 = fill a.x s 1\n",
