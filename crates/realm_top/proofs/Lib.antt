@@ -1,3 +1,4 @@
+pub mod Driving
 pub mod WordLines
 pub mod ReportRest
 pub mod Fitting

@@ -3,6 +3,8 @@
 
 #[cfg(test)]
 mod checks;
+#[cfg(test)]
+mod cores;
 mod input;
 #[cfg(test)]
 mod limits;
