@@ -7,6 +7,9 @@ ghost use Rattle.run_core.specs.Works.{WorkValue, IsWork};
 ghost use Rattle.realm_top.specs.Texts.{FitsGraph};
 
 use crate::report::put_report;
+use crate::rows::{
+    CANCELLED_BARRIER, FAULTY_PATHS, KERNELS, LOCKED_SUMS, NO_TRIGGER, WAITER_ABOVE_TRIGGER,
+};
 use crate::tiles;
 use graph_model::graph::Graph;
 use graph_model::outcome::{End, Outcome};
@@ -155,36 +158,12 @@ fn is_evaluated(alloc: Global, text: &[u8], slots: u32) -> Result<bool, Fail> {
 #[test]
 fn small_graphs_by_a_core(rt: HostRuntime) -> Result<(), Fail> {
     let rows = [
-        // a waiter above its trigger
-        (
-            b"realm 1\nspace s 0..1\ninst a s x,y\nu = user\nf = fill a.x s 5 on u\ng = fill a.y s 6\nt = trigger u on g\nend\n".as_slice(),
-            4,
-        ),
-        // broken and unbroken paths
-        (
-            b"realm 1\nspace s 0..1\ninst a s x,y\nf = fill a.x s 7\nk = task expect a.x s 0 5 on f\nc = copy a.x a.y s on k\nm = merge k c\nn = mergei k c\ng = fill a.y s 9 on n\nend\n".as_slice(),
-            6,
-        ),
-        // a cancelled user event and a barrier
-        (
-            b"realm 1\nbarrier b 1 sum 10\nu = user\np0 = phase b\np1 = phase b\na0 = arrive p0 5 on u\na1 = arrive p1 6\nc = cancel u\nend\n".as_slice(),
-            6,
-        ),
-        // a user event without a trigger
-        (
-            b"realm 1\nspace s 0..1\ninst a s x,y\nu = user\nf = fill a.x s 5 on u\ng = fill a.y s 6\nend\n".as_slice(),
-            3,
-        ),
-        // kernels
-        (
-            b"realm 1\nspace s 0..3\nspace t 0..1\nspace o 0..0\ninst a s x,y,z\ninst b o d\ne1 = task iota a.x s 1\ne2 = task scan a.x a.y s on e1\ne3 = task stencil a.x a.z s s on e2\ne4 = task axpy a.y a.z s 10 on e3\ne5 = task hist a.z a.y s t on e4\ne6 = task dot a.x a.y b.d s o on e5\ne7 = task gather a.x a.y a.z s t on e6\ne8 = reduce max a.x a.z s on e7\ne9 = reduce min a.x a.y s on e8\nend\n".as_slice(),
-            9,
-        ),
-        // sums under one reservation
-        (
-            b"realm 1\nspace s 0..1\ninst a s x,y,z\nlock l\nf = fill a.x s 3\ng = fill a.y s 4\nq = acquire l on f\nd = reduce sum a.x a.z s on q\nm = mergei d\nr = release q on m\nk = acquire l on g\ne = reduce sum a.y a.z s on k\nn = mergei e\nt = release k on n\nend\n".as_slice(),
-            10,
-        ),
+        (WAITER_ABOVE_TRIGGER.text, 4),
+        (FAULTY_PATHS.text, 6),
+        (CANCELLED_BARRIER.text, 6),
+        (NO_TRIGGER.text, 3),
+        (KERNELS.text, 9),
+        (LOCKED_SUMS.text, 10),
         // two sections of one reservation
         (
             b"realm 1\nlock l\nq = acquire l\nm = mergei q\nr = release q on m\nk = acquire l\nn = mergei k\nt = release k on n\nend\n".as_slice(),

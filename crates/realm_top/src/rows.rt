@@ -24,3 +24,21 @@ pub(crate) const FAULTY_PATHS: Row = Row {
     text: b"realm 1\nspace s 0..1\ninst a s x,y\nf = fill a.x s 7\nk = task expect a.x s 0 5 on f\nc = copy a.x a.y s on k\nm = merge k c\nn = mergei k c\ng = fill a.y s 9 on n\nend\n",
     report: b"realm-report 1\nop f done triggered\nop k faulted poisoned\nop c cancelled poisoned\nop m cancelled poisoned\nop n done triggered\nop g done triggered\ncells a.x 0..1 7 7\ncells a.y 0..1 9 9\ndone\n",
 };
+
+/// A waiter above its trigger.
+pub(crate) const WAITER_ABOVE_TRIGGER: Row = Row {
+    text: b"realm 1\nspace s 0..1\ninst a s x,y\nu = user\nf = fill a.x s 5 on u\ng = fill a.y s 6\nt = trigger u on g\nend\n",
+    report: b"realm-report 1\nop u done triggered\nop f done triggered\nop g done triggered\nop t done triggered\ncells a.x 0..1 5 5\ncells a.y 0..1 6 6\ndone\n",
+};
+
+/// A user event without a trigger, and a line that waits for it.
+pub(crate) const NO_TRIGGER: Row = Row {
+    text: b"realm 1\nspace s 0..1\ninst a s x,y\nu = user\nf = fill a.x s 5 on u\ng = fill a.y s 6\nend\n",
+    report: b"realm-report 1\nop u waiting pending\nop f waiting pending\nop g done triggered\ncells a.x 0..1 0 0\ncells a.y 0..1 6 6\ndone\n",
+};
+
+/// A cancelled user event, and a barrier whose first phase it cancels.
+pub(crate) const CANCELLED_BARRIER: Row = Row {
+    text: b"realm 1\nbarrier b 1 sum 10\nu = user\np0 = phase b\np1 = phase b\na0 = arrive p0 5 on u\na1 = arrive p1 6\nc = cancel u\nend\n",
+    report: b"realm-report 1\nop u cancelled poisoned\nop p0 cancelled poisoned\nop p1 done triggered\nop a0 cancelled poisoned\nop a1 done triggered\nop c done triggered\nphase p0 -\nphase p1 16\ndone\n",
+};

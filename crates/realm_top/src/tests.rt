@@ -1,7 +1,9 @@
 //! Worked rows of the top call, over sources and sinks in memory.
 
 use crate::realm;
-use crate::rows::{FAULTY_PATHS, KERNELS, LOCKED_SUMS};
+use crate::rows::{
+    CANCELLED_BARRIER, FAULTY_PATHS, KERNELS, LOCKED_SUMS, NO_TRIGGER, WAITER_ABOVE_TRIGGER,
+};
 use crate::status::Status;
 use crate::support::words;
 use realm_io::{MemorySink, MemorySource, OpenGate};
@@ -58,23 +60,16 @@ fn answers_inputs(rt: HostRuntime) -> Result<(), Fail> {
             Status::Done,
             b"realm-report 1\ndone\n".as_slice(),
         ),
-        // a waiter above its trigger
         (
-            b"realm 1\nspace s 0..1\ninst a s x,y\nu = user\nf = fill a.x s 5 on u\ng = fill a.y s 6\nt = trigger u on g\nend\n".as_slice(),
+            WAITER_ABOVE_TRIGGER.text,
             Status::Done,
-            b"realm-report 1\nop u done triggered\nop f done triggered\nop g done triggered\nop t done triggered\ncells a.x 0..1 5 5\ncells a.y 0..1 6 6\ndone\n".as_slice(),
+            WAITER_ABOVE_TRIGGER.report,
         ),
-        // no trigger
+        (NO_TRIGGER.text, Status::Done, NO_TRIGGER.report),
         (
-            b"realm 1\nspace s 0..1\ninst a s x,y\nu = user\nf = fill a.x s 5 on u\ng = fill a.y s 6\nend\n".as_slice(),
+            CANCELLED_BARRIER.text,
             Status::Done,
-            b"realm-report 1\nop u waiting pending\nop f waiting pending\nop g done triggered\ncells a.x 0..1 0 0\ncells a.y 0..1 6 6\ndone\n".as_slice(),
-        ),
-        // a cancelled user event and a barrier
-        (
-            b"realm 1\nbarrier b 1 sum 10\nu = user\np0 = phase b\np1 = phase b\na0 = arrive p0 5 on u\na1 = arrive p1 6\nc = cancel u\nend\n".as_slice(),
-            Status::Done,
-            b"realm-report 1\nop u cancelled poisoned\nop p0 cancelled poisoned\nop p1 done triggered\nop a0 cancelled poisoned\nop a1 done triggered\nop c done triggered\nphase p0 -\nphase p1 16\ndone\n".as_slice(),
+            CANCELLED_BARRIER.report,
         ),
         // a sum that wraps
         (
