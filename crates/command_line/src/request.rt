@@ -25,9 +25,9 @@ pub enum Engine {
 #[derive(Clone, Copy, Debug, PartialEq, Eq)]
 pub struct Request {
     pub action: Action,
-    /// How many threads run a graph beside the caller's, from 0 to 8.
+    /// How many workers run a graph, from 0 to 8; with 0 the caller does all.
     pub workers: u32,
-    /// How many event slots a run has, from 1 to 8,192; where it isn't given, as many as are needed.
+    /// How many event slots a run has, from 1 to 8,192, where it is given.
     pub slots: Option<u32>,
     pub engine: Engine,
     /// What a generated graph is drawn from.

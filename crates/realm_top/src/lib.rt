@@ -71,7 +71,7 @@ pub fn realm<R: Threads + Wait + Sync, S: Source, K: Sink, G: Gate>(
     sink: &mut K,
     gate: &G,
 ) -> Status
-    // Done, of an action that reads: the input is the one text of a graph that is accepted, and the text of the action was written and flushed: for `run` and `eval` the report of the graph's one-thread evaluation, followed by its order as the trace where that is asked for, for `check` its need.
+    // Done, of an action that reads, for every input, number of workers, gate and schedule: the input is the one text of a graph that is accepted, and the text of the action was written and flushed: for `run` and `eval` the report of the graph's one-thread evaluation, followed where it is asked for by a trace, for `run` a lawful one and for `eval` the evaluation's order; for `check` its need.
     ensures done { result ≡ Status.Done → (request : Request) × (request_of (map (λ word. string_bytes word) words.now) ≡ Some request) × (reads request.action ≡ true → IfSome (S.left source.old) (λ bytes.
         (g : GraphValue) × GraphText bytes g × Accepted g × (need : ℕ) × IsNeed g need × (is_short request need ≡ false)
         × (out : List ℕ) × Says request.action request g need out × Delivered (sink_state K.taken K.flushed K.faults sink.old) (sink_state K.taken K.flushed K.faults sink.new) out)) }
