@@ -1,6 +1,6 @@
 -- What a parse of the command gives.
 use Rattle.std.proofs.Common.{◌≡◌, ◌⊎◌, List, [], ◌∷◌, Option, Some, None, Result, refl, sym, ◌∙◌, ap, subst, inl, inr}
-use Rattle.std.specs.Prelude.{MatchResult, IfSome, IfOk, ◌≤◌}
+use Rattle.std.specs.Prelude.{MatchResult, IfSome, IfOk}
 use Rattle.std.specs.Option.{ok_or}
 use Rattle.clap.specs.Words.{App, Text, HasMatchesOf, found_of, rows_of, matches_of, fault_of, is_simple, Kinds, HasKind, IsAmong, kind_of}
 use Rattle.clap.specs.declared.error.Error.{Error}

@@ -1,9 +1,9 @@
 -- Each step leads from a core to a core.
-use Rattle.std.proofs.Common.{◌≡◌, ℕ, ◌+◌, ◌<◌, ◌≤◌, true, false, not, ◌⊎◌, inl, inr, List, [], ◌∷◌, ◌++◌, length, length-set, refl, sym, ◌∙◌, ap, subst, arith}
-use Rattle.std.specs.Prelude.{◌≢◌, ◌↔◌, Bool, Option, Some, None, Contains, slice_get, slice_index_or, slice_set}
-use Rattle.std.proofs.lemmas.Bool.{true≢false, false≢true, cases_eq, cases_lt}
-use Rattle.std.proofs.lemmas.List.{get_or-set_same, get_or-set_other, get_or_past, set-set}
-use Rattle.std.proofs.lemmas.Option.{none-some, same_Some, slice_get_within, slice_get-get_or, get_or_from_slice_get}
+use Rattle.std.proofs.Common.{◌≡◌, ℕ, ◌<◌, ◌≤◌, true, false, inl, inr, List, [], length, length-set, refl, sym, ◌∙◌, ap, subst, arith}
+use Rattle.std.specs.Prelude.{◌≢◌, Bool, Option, Some, Contains, slice_get, slice_set}
+use Rattle.std.proofs.lemmas.Bool.{true≢false, false≢true, cases_lt}
+use Rattle.std.proofs.lemmas.List.{get_or_past, set-set}
+use Rattle.std.proofs.lemmas.Option.{slice_get-get_or}
 use Rattle.std.specs.Option.{option_map_or}
 use Rattle.index_spaces.specs.Column.{ColumnValue}
 use Rattle.graph_model.specs.declared.outcome.End.{End}
@@ -16,20 +16,16 @@ use Rattle.graph_model.specs.Need.{IsNeed}
 use Rattle.graph_model.specs.Rules.{Accepted}
 use Rattle.graph_model.specs.Fits.{IsGraph}
 use Rattle.gen_events.specs.declared.handle.Handle.{Handle}
-use Rattle.gen_events.specs.declared.handle.Answer.{Answer}
 use Rattle.gen_events.specs.declared.handle.Answer.TheVariants.{Pending}
-use Rattle.gen_events.specs.declared.handle.Fate.{Fate}
-use Rattle.gen_events.specs.EventMap.{EventMap, SlotLife, answer, answer_of, fresh, created_at, placed_on, ended_with, next_handle, no_event, MayServe, IsEventMap, Gives}
-use Rattle.run_state.specs.Run.{LineStage, Unissued, Issued, Out, Ending, Ended, Run, stage_at, place_at, list_at, stage_issued, stage_ended, stage_out, issued, out, ended, end_so_far}
-use Rattle.run_state.specs.Sound.{AccessesColumn, Sound}
-use Rattle.run_state.specs.Moves.{issue, claim}
-use Rattle.run_state.specs.WholeLine.{take_whole, put_back_whole}
-use Rattle.run_state.specs.Start.{start}
+use Rattle.gen_events.specs.EventMap.{EventMap, SlotLife, answer, answer_of, fresh, created_at, placed_on, next_handle, no_event, MayServe, IsEventMap, Gives}
+use Rattle.run_state.specs.Run.{LineStage, Unissued, Issued, Out, Ending, Ended, stage_at, stage_issued, stage_ended, issued, ended, end_so_far}
+use Rattle.run_state.specs.Moves.{claim}
+use Rattle.run_state.specs.WholeLine.{take_whole}
 use Rattle.run_state.specs.Premises.{MayIssue, MayClaim}
-use Rattle.run_state.specs.AtRest.{AtRest, MayTakeWhole, MayPutBack, Undisturbed}
+use Rattle.run_state.specs.AtRest.{MayTakeWhole, MayPutBack}
 use Rattle.run_state.specs.Laws.{StartIsSound, StartIsAtRest, IssueKeepsRest, ClaimOfCancelledKeepsRest, TakeKeepsRest, PutBackKeepsRest}
-use Rattle.run_core.specs.Core.{CoreValue, unissued, answer_for, count_left, WaitsFor, AreEvents, IsCore}
-use Rattle.run_core.specs.Works.{FinishedValue, HoldsColumns, column_left, IsFinished, cells_in}
+use Rattle.run_core.specs.Core.{CoreValue, unissued, answer_for, WaitsFor, AreEvents, IsCore}
+use Rattle.run_core.specs.Works.{FinishedValue, IsFinished, cells_in}
 use Rattle.run_core.specs.Steps.{with_issue, IsLeft, IsDue, HasLock, HasColumns, with_run, with_end, handle_at, fate_for}
 use Rattle.run_core.proofs.EventFacts.{TellsNew, GoesOnIssued, events_started, events_issued, events_gone, events_ended, events_placed, events_woken}
 

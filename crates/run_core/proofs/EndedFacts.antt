@@ -1,28 +1,26 @@
 -- A line that is put back, as the code puts it back.
-use Rattle.std.proofs.Common.{◌≡◌, ℕ, zero, suc, ◌+◌, ◌<◌, ◌≤◌, true, false, ◌⊎◌, inl, inr, List, [], ◌∷◌, ◌++◌, map, length, refl, sym, ◌∙◌, ap, subst, arith}
-use Rattle.std.specs.Prelude.{◌≢◌, ◌↔◌, Option, Some, None, IsSome, slice_get, slice_index, slice_index_or, slice_set}
+use Rattle.std.proofs.Common.{◌≡◌, ℕ, zero, suc, ◌+◌, ◌<◌, ◌≤◌, true, ◌⊎◌, inl, inr, List, [], ◌∷◌, ◌++◌, map, length, refl, sym, ◌∙◌, ap, subst, arith}
+use Rattle.std.specs.Prelude.{◌≢◌, Option, Some, None, IsSome, slice_get, slice_index, slice_index_or, slice_set}
 use Rattle.std.specs.Option.{option_map_or}
 use Rattle.std.proofs.lemmas.Bool.{true≢false, false≢true, eq-eqb}
-use Rattle.std.proofs.lemmas.List.{map-set, get_or-set_same, get_or_past, set-set}
+use Rattle.std.proofs.lemmas.List.{map-set, set-set}
 use Rattle.std.proofs.lemmas.Option.{none-some, same_Some, slice_get-get_or}
 use Rattle.index_spaces.specs.Column.{ColumnValue}
-use Rattle.index_spaces.specs.declared.Op.{Op}
 use Rattle.graph_model.specs.declared.outcome.End.{End}
 use Rattle.graph_model.specs.declared.outcome.End.TheVariants.{Done, Faulted, Cancelled, Waiting}
 use Rattle.graph_model.specs.declared.verb.Verb.{Verb}
 use Rattle.graph_model.specs.declared.verb.Verb.TheVariants.{User, Trigger, Cancel, Merge, MergeIgnore, Phase, Arrive, Acquire, Release, Fill, Copy, Reduce, Task}
 use Rattle.graph_model.specs.Graph.{GraphValue, columns, column_space, verb_at, is_release_of}
-use Rattle.graph_model.specs.Rules.{Acquires, Releases}
+use Rattle.graph_model.specs.Rules.{Releases}
 use Rattle.graph_model.specs.Evaluation.{is_ended, evaluation, eval_end}
 use Rattle.graph_model.proofs.ListFacts.{count_below, count_below-max, fewer_below}
 use Rattle.graph_model.proofs.Waiting.{end_in_ended, steps_end}
 use Rattle.index_spaces.specs.Held.{held_at}
 use Rattle.gen_events.specs.declared.handle.Handle.{Handle}
-use Rattle.gen_events.specs.EventMap.{EventMap, answer, answer_of, ended_with}
-use Rattle.run_state.specs.Run.{LineStage, Unissued, Out, Ending, Ended, Place, Home, Had, Run, is_listed, stage_at, time_at, place_at, list_at, end_so_far, stage_out, stage_started, stage_over, stage_ended, out, started, over, ended, timed}
+use Rattle.gen_events.specs.EventMap.{answer, answer_of, ended_with}
+use Rattle.run_state.specs.Run.{LineStage, Ending, Ended, Place, Home, Had, Run, is_listed, stage_at, place_at, list_at, end_so_far, stage_out, stage_started, stage_over, started, timed}
 use Rattle.run_state.specs.Sound.{AccessesColumn, Sound}
-use Rattle.run_state.specs.WholeLine.{column_list, lock_of, all_home, all_back, columns_for, values_with, arrived_with, arrival_by, arrival_for, holders_without, freed_with, freed_lock, frees_by, frees_for, put_back_whole}
-use Rattle.run_state.specs.AtRest.{AtRest, MayPutBack, Undisturbed}
+use Rattle.run_state.specs.WholeLine.{lock_of, all_home, all_back, columns_for, values_with, arrived_with, arrival_for, holders_without, freed_with, freed_lock, frees_by, frees_for, put_back_whole}
 use Rattle.run_state.specs.Laws.{PutBackKeepsRest, PutBackLeaves}
 use Rattle.run_state.proofs.Lists.{ended_over, listed_cases}
 use Rattle.graph_model.proofs.VerbFacts.{verb_passes}
@@ -34,7 +32,7 @@ use Rattle.run_core.specs.Core.{CoreValue, IsCore}
 use Rattle.run_core.specs.Events.{EventsValue}
 use Rattle.run_core.specs.Works.{FinishedValue, IsFinished, KeepsWork, cells_in}
 use Rattle.run_core.specs.Steps.{with_end, handle_at, fate_for}
-use Rattle.run_core.specs.Kept.{shown_stage, place_of, places_of, holding, Past, no_past, with_line, past_of, frees_as, frees_so_far, frees_in, frees, arrival_of, run_by, shown_core, AreKept}
+use Rattle.run_core.specs.Kept.{shown_stage, place_of, places_of, holding, Past, no_past, with_line, past_of, frees_as, frees_so_far, frees_in, frees, run_by, shown_core, AreKept}
 use Rattle.run_core.specs.declared.progress.Progress.{Progress}
 use Rattle.run_core.specs.declared.progress.Progress.TheVariants as progress
 use Rattle.run_core.proofs.PastFacts.{past_more, clock_from}

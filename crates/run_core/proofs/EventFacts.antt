@@ -1,23 +1,20 @@
 -- The events of the lines go with the stages of the run.
-use Rattle.std.proofs.Common.{◌≡◌, ℕ, Bool, zero, suc, ◌+◌, ◌<◌, ◌≤◌, true, false, not, cond, ◌⊎◌, inl, inr, List, [], ◌∷◌, ◌++◌, length, map, replicate, refl, sym, ◌∙◌, ap, subst, add-one, arith}
-use Rattle.std.specs.Prelude.{◌≢◌, ◌↔◌, Option, Some, None, Contains, slice_get, slice_index_or, slice_set}
-use Rattle.std.proofs.lemmas.Bool.{true≢false, false≢true, cases_eq, cases_lt}
+use Rattle.std.proofs.Common.{◌≡◌, ℕ, Bool, zero, suc, ◌+◌, ◌<◌, true, false, not, cond, ◌⊎◌, inl, inr, List, [], ◌∷◌, ◌++◌, length, replicate, refl, sym, ◌∙◌, ap, subst, add-one, arith}
+use Rattle.std.specs.Prelude.{◌≢◌, ◌↔◌, Some, None, Contains, slice_get, slice_index_or, slice_set}
+use Rattle.std.proofs.lemmas.Bool.{true≢false, cases_eq, cases_lt}
 use Rattle.std.proofs.lemmas.List.{get_or-set_same, get_or-set_other}
 use Rattle.std.proofs.lemmas.Option.{none-some, same_Some, slice_get_within, slice_get-get_or, get_or_from_slice_get}
-use Rattle.index_spaces.specs.Space.{numbers_below}
 use Rattle.graph_model.specs.declared.outcome.End.{End}
-use Rattle.graph_model.specs.declared.outcome.End.TheVariants.{Waiting}
 use Rattle.graph_model.specs.Graph.{GraphValue}
 use Rattle.graph_model.proofs.ListFacts.{count_below}
 use Rattle.gen_events.specs.declared.handle.Handle.{Handle}
 use Rattle.gen_events.specs.declared.handle.Fate.{Fate}
-use Rattle.gen_events.specs.declared.handle.Answer.{Answer}
 use Rattle.gen_events.specs.declared.handle.Answer.TheVariants.{Pending}
 use Rattle.gen_events.specs.Lists.{total}
 use Rattle.gen_events.specs.EventMap.{EventMap, SlotLife, unused, life_at, answer, answer_in, answer_of, fresh, with_life, created_at, placed_on, ended_with, next_handle, MayServe, IsPlaced, IsEventMap, Gives}
 use Rattle.gen_events.proofs.Sums.{total-put}
 use Rattle.gen_events.proofs.MapAnswers.{in_idle, is_now, IsNow, life_here, life_there, split_handle, handle_eq, answer_apart}
-use Rattle.run_state.specs.Run.{LineStage, Unissued, Issued, Out, Ended, stage_at, stage_issued, stage_ended, end_so_far, issued, ended}
+use Rattle.run_state.specs.Run.{LineStage, Unissued, Issued, Ended, stage_at, stage_issued, stage_ended, end_so_far, issued, ended}
 use Rattle.run_state.specs.Start.{start}
 use Rattle.run_state.proofs.Start.{same_at}
 use Rattle.graph_model.proofs.ListFacts.{contains_none, contains_cases}

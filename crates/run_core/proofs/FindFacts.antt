@@ -1,19 +1,16 @@
 -- What is found of a line says what the definitions say.
 use Rattle.std.proofs.Common.{◌≡◌, ℕ, zero, suc, ◌<◌, true, false, List, [], ◌∷◌, map, length, refl, sym, ◌∙◌, ap, subst, arith}
-use Rattle.std.specs.Prelude.{◌≢◌, ◌↔◌, Bool, Some, None, Contains, slice_get, slice_index_or}
-use Rattle.std.proofs.lemmas.Bool.{true≢false, false≢true}
+use Rattle.std.specs.Prelude.{◌≢◌, Bool, slice_index_or}
+use Rattle.std.proofs.lemmas.Bool.{true≢false}
 use Rattle.std.proofs.lemmas.List.{length-map}
-use Rattle.graph_model.specs.declared.outcome.End.{End}
 use Rattle.graph_model.specs.declared.outcome.End.TheVariants.{Cancelled}
-use Rattle.graph_model.specs.declared.verb.Edge.{Edge}
 use Rattle.graph_model.specs.Graph.{GraphValue, never_comes}
-use Rattle.graph_model.specs.Edges.{edges}
 use Rattle.graph_model.specs.Evaluation.{eval_end}
-use Rattle.run_state.specs.Run.{LineStage, Unissued, Issued, Out, Ended, Run, stage_at, ended}
+use Rattle.run_state.specs.Run.{Issued, stage_at}
 use Rattle.run_state.specs.Laws.{CancelledByKeptEnds}
 use Rattle.run_state.specs.Quiet.{kept_cancels}
-use Rattle.run_core.specs.Core.{CoreValue, WaitsFor, IsCore}
-use Rattle.run_core.specs.Steps.{HasSources, IsLeastLeft, IsDue, HasLock, HasColumns, IsHeldBy}
+use Rattle.run_core.specs.Core.{CoreValue, IsCore}
+use Rattle.run_core.specs.Steps.{HasSources, IsDue, HasLock, HasColumns, IsHeldBy}
 use Rattle.run_core.specs.Findings.{IsFound}
 use Rattle.run_core.specs.Kept.{shown_stage}
 use Rattle.run_core.specs.declared.answers.Thing.{Thing}

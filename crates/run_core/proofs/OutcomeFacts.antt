@@ -1,11 +1,11 @@
 -- How a core begins, and what it gives when it is quiet.
-use Rattle.std.proofs.Common.{◌≡◌, ℕ, zero, suc, ◌+◌, ◌<◌, ◌≤◌, true, false, ◌⊎◌, inl, inr, List, [], ◌∷◌, map, length, replicate, refl, sym, ◌∙◌, ap, subst, arith}
-use Rattle.std.specs.Prelude.{◌≢◌, Option, Some, None, IsSome, Contains, slice_get, slice_index, slice_index_or}
+use Rattle.std.proofs.Common.{◌≡◌, ℕ, zero, suc, ◌+◌, ◌<◌, ◌≤◌, inl, inr, List, [], ◌∷◌, map, length, replicate, refl, sym, ◌∙◌, ap, subst, arith}
+use Rattle.std.specs.Prelude.{◌≢◌, Option, Some, None, IsSome, slice_get, slice_index, slice_index_or}
 use Rattle.std.specs.List.{range_with_len}
-use Rattle.std.proofs.lemmas.Bool.{true≢false, false≢true, cases_lt, cases_order}
+use Rattle.std.proofs.lemmas.Bool.{true≢false, cases_lt, cases_order}
 use Rattle.std.proofs.lemmas.List.{length-map, length-replicate, get_or_past, get_or-map}
 use Rattle.std.proofs.lemmas.List.FromFn.{fill_by_all, get_or-map-range_with_len, length-map-range_with_len}
-use Rattle.std.proofs.lemmas.Option.{none-some, same_Some, slice_get_within, slice_get-get_or, get_or_from_slice_get}
+use Rattle.std.proofs.lemmas.Option.{none-some, same_Some, slice_get-get_or, get_or_from_slice_get}
 use Rattle.index_spaces.specs.Space.{numbers_below}
 use Rattle.index_spaces.specs.Column.{ColumnValue}
 use Rattle.graph_model.specs.declared.outcome.End.{End}
@@ -20,12 +20,11 @@ use Rattle.graph_model.specs.Effect.{zero_cells}
 use Rattle.graph_model.specs.Evaluation.{answer_of, column_of, outcome}
 use Rattle.graph_model.specs.Trace.{IsLawful}
 use Rattle.gen_events.specs.declared.handle.Handle.{Handle}
-use Rattle.gen_events.specs.EventMap.{EventMap, answer, fresh, no_event}
+use Rattle.gen_events.specs.EventMap.{answer, fresh, no_event}
 use Rattle.instances.specs.Homes.{all_home}
-use Rattle.run_state.specs.Run.{LineStage, Unissued, Place, Home, Had, Run, stage_at, time_at, place_at, end_so_far, stage_issued, issued, ended}
-use Rattle.run_state.specs.Sound.{Sound}
-use Rattle.run_state.specs.Start.{start, zeros, first_value}
-use Rattle.run_state.specs.Quiet.{Quiet, ByTimes, phase_so_far_by, phase_so_far, cells_at, outcome_of, GivesOutcome}
+use Rattle.run_state.specs.Run.{Home, Had, Run, stage_at, time_at, place_at, end_so_far}
+use Rattle.run_state.specs.Start.{first_value}
+use Rattle.run_state.specs.Quiet.{Quiet, ByTimes, phase_so_far_by, phase_so_far, cells_at}
 use Rattle.run_state.specs.Laws.{QuietGivesOutcome, SlotsAreByTimes, ClockIsSmall}
 use Rattle.run_state.proofs.Started.{ended_started, started_below}
 use Rattle.graph_model.proofs.EdgeFacts.{got_contains}

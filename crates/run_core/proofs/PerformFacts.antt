@@ -1,29 +1,27 @@
 -- What a line leaves that is performed on the columns that it holds.
-use Rattle.std.proofs.Common.{◌≡◌, ℕ, true, false, List, map, refl, sym, ◌∙◌, ap, subst}
-use Rattle.std.specs.Prelude.{◌≢◌, Bool, Option, Some, None, IsSome, is_some, slice_get}
+use Rattle.std.proofs.Common.{◌≡◌, ℕ, true, false, List, refl, sym, ◌∙◌, ap, subst}
+use Rattle.std.specs.Prelude.{◌≢◌, Option, Some, None, IsSome, is_some, slice_get}
 use Rattle.std.proofs.lemmas.Bool.{true≢false, false≢true}
-use Rattle.std.proofs.lemmas.Option.{none-some, same_Some}
+use Rattle.std.proofs.lemmas.Option.{same_Some}
 use Rattle.index_spaces.specs.Column.{ColumnValue}
 use Rattle.index_spaces.specs.Held.{held_at}
-use Rattle.graph_model.specs.declared.outcome.End.{End}
 use Rattle.graph_model.specs.declared.outcome.End.TheVariants.{Done, Faulted, Cancelled}
 use Rattle.graph_model.specs.declared.outcome.Verdict.{Verdict}
 use Rattle.graph_model.specs.declared.outcome.Verdict.TheVariants.{Fine, Fault}
 use Rattle.graph_model.specs.declared.verb.Access.{Access}
-use Rattle.graph_model.specs.Graph.{GraphValue, column_space}
 use Rattle.graph_model.specs.Access.{accesses}
 use Rattle.graph_model.specs.Effect.{Cells, CellChange, effect, cells_after}
 use Rattle.graph_model.specs.Evaluation.{eval_end, end_by, made_by, column_of}
 use Rattle.graph_model.proofs.ListFacts.{map_contains}
 use Rattle.line_effects.specs.Moved.{moves, HeldShow}
 use Rattle.line_effects.proofs.MadeFacts.{all_made}
-use Rattle.run_state.specs.Run.{Run, stage_at, list_at, stage_out}
+use Rattle.run_state.specs.Run.{stage_out}
 use Rattle.run_state.specs.Sound.{AccessesColumn}
-use Rattle.run_state.specs.Work.{HoldsAll, cells_now, put_cells, performed}
+use Rattle.run_state.specs.Work.{HoldsAll, cells_now}
 use Rattle.run_state.specs.Laws.{WorkIsAsEvaluated, WorkGivesCells}
 use Rattle.graph_model.proofs.EdgeFacts.{got_contains}
 use Rattle.run_core.specs.Core.{CoreValue, IsCore}
-use Rattle.run_core.specs.Works.{WorkValue, FinishedValue, HoldsColumns, column_now, column_left, IsWork, IsFinished}
+use Rattle.run_core.specs.Works.{WorkValue, column_now, column_left, IsWork, IsFinished}
 
 -- the columns that are held are those of the core
 pub work_shows : (c : CoreValue) (w : WorkValue) → IsWork c w → w.is_cancelled ≡ false → HeldShow c.graph (cells_now c.graph c.run) w.held

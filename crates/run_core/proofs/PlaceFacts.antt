@@ -1,9 +1,9 @@
 -- Where the columns are shown to be.
-use Rattle.std.proofs.Common.{◌≡◌, ℕ, zero, suc, ◌+◌, ◌<◌, true, false, List, [], ◌∷◌, length, refl, sym, ◌∙◌, ap, subst, arith}
-use Rattle.std.specs.Prelude.{◌≢◌, Option, Some, None, IsSome, is_some, slice_index, slice_index_or, slice_set}
+use Rattle.std.proofs.Common.{◌≡◌, ℕ, zero, suc, ◌<◌, List, [], ◌∷◌, length, refl, sym, ◌∙◌, ap, arith}
+use Rattle.std.specs.Prelude.{◌≢◌, Option, Some, None, IsSome, slice_index, slice_index_or, slice_set}
 use Rattle.std.proofs.lemmas.Bool.{true≢false}
 use Rattle.index_spaces.specs.Column.{ColumnValue}
-use Rattle.run_state.specs.Run.{Place, Home, Had, place_at}
+use Rattle.run_state.specs.Run.{Home, Had, place_at}
 use Rattle.run_core.specs.Kept.{place_of, places_of}
 use Rattle.run_core.specs.Steps.{IsAtHome}
 

@@ -1,6 +1,6 @@
 -- A line that is taken, as the code takes it.
 use Rattle.std.proofs.Common.{◌≡◌, ℕ, ◌<◌, true, false, List, [], map, length, refl, sym, ◌∙◌, ap, subst}
-use Rattle.std.specs.Prelude.{◌≢◌, ◌↔◌, Option, Some, None, IsSome, slice_index, slice_index_or, slice_set}
+use Rattle.std.specs.Prelude.{◌≢◌, Option, Some, None, IsSome, slice_index, slice_index_or, slice_set}
 use Rattle.std.proofs.lemmas.Bool.{true≢false, false≢true}
 use Rattle.std.proofs.lemmas.List.{map-set, get_or-set_same}
 use Rattle.index_spaces.specs.Column.{ColumnValue}
@@ -9,12 +9,12 @@ use Rattle.graph_model.specs.Graph.{GraphValue, columns}
 use Rattle.graph_model.specs.Fits.{IsGraph}
 use Rattle.graph_model.specs.Evaluation.{eval_end}
 use Rattle.index_spaces.specs.Held.{held_at}
-use Rattle.run_state.specs.Run.{Run, Unissued, Issued, Out, Home, stage_at, place_at, stage_issued, stage_out, out}
+use Rattle.run_state.specs.Run.{Unissued, Issued, Out, Home, stage_at, place_at, stage_issued, stage_out, out}
 use Rattle.run_state.specs.Sound.{AccessesColumn}
 use Rattle.run_state.specs.WholeLine.{column_list, lock_of, all_had, holders_with, take_whole}
 use Rattle.run_state.proofs.Known.{column_there}
 use Rattle.run_state.specs.Moves.{staged, claim}
-use Rattle.run_state.specs.AtRest.{MayTakeWhole, Undisturbed}
+use Rattle.run_state.specs.AtRest.{MayTakeWhole}
 use Rattle.run_state.specs.Laws.{ClaimOfCancelledKeepsRest, TakeKeepsRest, StageLeaves, TakeLeaves}
 use Rattle.run_core.specs.Core.{CoreValue, IsCore}
 use Rattle.run_core.specs.Events.{EventsValue}

@@ -1,20 +1,18 @@
 -- What a line holds is kept by the steps of others.
 use Rattle.std.proofs.Common.{◌≡◌, ℕ, true, false, List, refl, sym, ◌∙◌, ap, subst}
-use Rattle.std.specs.Prelude.{◌≢◌, ◌↔◌, Bool, Option, Some, None}
-use Rattle.std.proofs.lemmas.Bool.{true≢false, false≢true}
-use Rattle.index_spaces.specs.Column.{ColumnValue}
-use Rattle.index_spaces.specs.Held.{held_at}
+use Rattle.std.specs.Prelude.{◌≢◌, Bool, Some}
+use Rattle.std.proofs.lemmas.Bool.{true≢false}
 use Rattle.graph_model.specs.declared.outcome.End.TheVariants.{Cancelled}
 use Rattle.graph_model.specs.Graph.{GraphValue, column_space}
 use Rattle.graph_model.specs.Evaluation.{eval_end, column_of, cells_of_lines}
 use Rattle.gen_events.specs.declared.handle.Handle.{Handle}
 use Rattle.gen_events.specs.EventMap.{EventMap}
-use Rattle.run_state.specs.Run.{Run, Out, Had, is_listed, stage_at, place_at, list_at, stage_out, out}
+use Rattle.run_state.specs.Run.{Run, Out, is_listed, stage_at, list_at, stage_out, out}
 use Rattle.run_state.specs.Sound.{AccessesColumn}
 use Rattle.run_state.specs.Work.{put_cells}
-use Rattle.run_state.specs.AtRest.{AtRest, Undisturbed}
+use Rattle.run_state.specs.AtRest.{Undisturbed}
 use Rattle.run_core.specs.Core.{CoreValue, IsCore}
-use Rattle.run_core.specs.Works.{WorkValue, FinishedValue, HoldsColumns, column_now, column_left, IsWork, IsFinished, KeepsWork}
+use Rattle.run_core.specs.Works.{WorkValue, FinishedValue, IsWork, IsFinished, KeepsWork}
 
 -- a core with another run, handles and table
 abbrev pub core_of : GraphValue → Run → List Handle → EventMap → CoreValue

@@ -1,7 +1,7 @@
 -- What a quiet run answers for each line.
 use Rattle.std.specs.Prelude.{◌≡◌, ℕ, List, length, Option, Some, None, slice_get, slice_index}
 use Rattle.graph_model.specs.declared.outcome.End.{End}
-use Rattle.graph_model.specs.declared.outcome.End.TheVariants.{Done, Faulted, Cancelled, Waiting}
+use Rattle.graph_model.specs.declared.outcome.End.TheVariants.{Done}
 use Rattle.graph_model.specs.declared.outcome.Answer.{Answer}
 use Rattle.graph_model.specs.declared.outcome.Answer.TheVariants as outcomes
 use Rattle.graph_model.specs.declared.verb.Verb.{Verb}

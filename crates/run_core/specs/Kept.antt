@@ -1,17 +1,16 @@
 -- How what the code keeps shows a core.
-use Rattle.std.specs.Prelude.{◌≡◌, ℕ, ◌+◌, ◌<◌, ◌≤◌, ◌↔◌, Bool, true, false, List, [], ◌∷◌, length, map, Contains, IsTrue, Option, Some, None, slice_get, slice_index_or, slice_set}
+use Rattle.std.specs.Prelude.{◌≡◌, ℕ, ◌+◌, List, [], ◌∷◌, length, map, Option, Some, None, slice_index_or, slice_set}
 use Rattle.std.specs.Option.{option_map_or}
 use Rattle.index_spaces.specs.declared.Op.{Op}
 use Rattle.index_spaces.specs.Space.{numbers_below}
 use Rattle.index_spaces.specs.Column.{ColumnValue}
-use Rattle.graph_model.specs.declared.outcome.End.{End}
 use Rattle.graph_model.specs.declared.verb.Verb.{Verb}
 use Rattle.graph_model.specs.declared.verb.Verb.TheVariants.{Release}
 use Rattle.graph_model.specs.Graph.{GraphValue, columns, column_space, verb_at}
 use Rattle.graph_model.specs.Evaluation.{eval_end}
 use Rattle.run_state.specs.Run.{LineStage, Unissued, Issued, Out, Ended, Place, Home, Had, Run, stage_at, end_so_far}
 use Rattle.run_state.specs.WholeLine.{lock_of, all_back, columns_for, arrived_with, arrival_by, arrival_for, freed_lock, freed_with}
-use Rattle.run_core.specs.Core.{CoreValue, IsCore}
+use Rattle.run_core.specs.Core.{CoreValue}
 use Rattle.run_core.specs.Events.{EventsValue}
 use Rattle.run_core.specs.declared.progress.Progress.{Progress}
 use Rattle.run_core.specs.declared.progress.Progress.TheVariants as progress

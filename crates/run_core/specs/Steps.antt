@@ -1,16 +1,14 @@
 -- What each call of a core does.
-use Rattle.std.specs.Prelude.{◌≡◌, ◌≢◌, ℕ, ◌<◌, ◌≤◌, ◌⊎◌, true, false, List, [], ◌∷◌, ◌++◌, length, Contains, Option, Some, None, slice_get, slice_index_or}
+use Rattle.std.specs.Prelude.{◌≡◌, ◌≢◌, ℕ, ◌<◌, ◌≤◌, ◌⊎◌, true, false, List, [], ◌∷◌, ◌++◌, length, Some, None, slice_get, slice_index_or}
 use Rattle.graph_model.specs.declared.outcome.End.{End}
 use Rattle.graph_model.specs.declared.outcome.End.TheVariants.{Done, Faulted, Cancelled, Waiting}
-use Rattle.graph_model.specs.declared.verb.Edge.{Edge}
 use Rattle.graph_model.specs.Graph.{GraphValue, never_comes}
-use Rattle.graph_model.specs.Edges.{edges}
 use Rattle.graph_model.specs.Rules.{Acquires}
 use Rattle.graph_model.specs.Evaluation.{eval_end}
 use Rattle.gen_events.specs.declared.handle.Handle.{Handle}
 use Rattle.gen_events.specs.declared.handle.Fate.{Fate}
 use Rattle.gen_events.specs.declared.handle.Fate.TheVariants.{Ok, Poison}
-use Rattle.gen_events.specs.EventMap.{EventMap, no_event, created_at, placed_on, ended_with, next_handle, MayServe, IsFull, IsFree, Gives}
+use Rattle.gen_events.specs.EventMap.{no_event, created_at, placed_on, ended_with, next_handle, MayServe, IsFull, IsFree, Gives}
 use Rattle.run_state.specs.Run.{LineStage, Unissued, Issued, Out, Ending, Ended, Place, Had, Run, stage_at, place_at, list_at, ended}
 use Rattle.run_state.specs.Sound.{AccessesColumn}
 use Rattle.run_state.specs.Moves.{issue, claim}

@@ -1,6 +1,6 @@
 use Rattle.std.specs.Prelude.{◌≢◌}
 use Rattle.run_state.specs.Run.{list_at}
-use Rattle.std.proofs.Common.{◌≡◌, ℕ, List, [], map, refl, sym, ◌∙◌, ap, subst}
+use Rattle.std.proofs.Common.{[], map, refl, ◌∙◌, ap, subst}
 use Rattle.run_state.specs.Quiet.{kept_cancels}
 use Rattle.run_core.specs.Steps.{HasSources, HasLock}
 use Rattle.run_core.specs.Kept.{shown_stage, holding}

@@ -5,7 +5,7 @@ use Rattle.graph_model.specs.Trace.{IsLawful}
 use Rattle.run_state.specs.Run.{end_so_far}
 use Rattle.run_core.specs.Answers.{phase_of_line}
 use Rattle.run_core.specs.Kept.{shown_stage}
-use Rattle.std.proofs.Common.{◌≡◌, ◌≤◌, ◌<◌, ℕ, List, map, length, refl, sym, ◌∙◌, ap, subst, arith}
+use Rattle.std.proofs.Common.{◌≡◌, ◌≤◌, ◌<◌, ℕ, map, length, refl, sym, ◌∙◌, ap, subst, arith}
 use Rattle.graph_model.specs.Graph.{GraphValue}
 use Rattle.run_state.specs.Quiet.{Quiet, ByTimes}
 use Rattle.run_core.specs.Core.{CoreValue}

@@ -1,11 +1,9 @@
-use Rattle.std.proofs.Common.{◌≡◌, ◌≤◌, ℕ, List, [], map, length, replicate, sym, ◌∙◌, ap, subst, arith}
+use Rattle.std.proofs.Common.{◌≡◌, ◌≤◌, ℕ, [], map, length, replicate, sym, ◌∙◌, ap, subst, arith}
 use Rattle.std.specs.Prelude.{Option, None}
 use Rattle.index_spaces.specs.Space.{numbers_below}
 use Rattle.graph_model.specs.Graph.{GraphValue, columns, locks}
 use Rattle.graph_model.specs.Effect.{zero_cells}
-use Rattle.graph_model.specs.Need.{IsNeed}
 use Rattle.graph_model.specs.Fits.{IsGraph}
-use Rattle.graph_model.specs.Rules.{Accepted}
 use Rattle.std.proofs.lemmas.List.{length-replicate}
 use Rattle.gen_events.specs.EventMap.{fresh, unused}
 use Rattle.instances.specs.Homes.{all_home}

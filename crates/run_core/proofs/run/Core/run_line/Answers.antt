@@ -1,4 +1,4 @@
-use Rattle.std.proofs.Common.{true, sym}
+use Rattle.std.proofs.Common.{sym}
 use Rattle.std.proofs.lemmas.Bool.{true≢false}
 use Rattle.run_core.proofs.FinishFacts.{not_taken, still_goes, ran_on, ran_less}
 use Rattle.run_core.proofs.run.Core.run_line.Goals as goal

@@ -1,10 +1,6 @@
-use Rattle.std.proofs.Common.{◌≡◌, ◌≢◌, ℕ, false, List, map, sym, ◌∙◌, ap, subst}
-use Rattle.index_spaces.specs.Column.{ColumnValue}
-use Rattle.index_spaces.specs.Held.{held_at}
-use Rattle.graph_model.specs.Graph.{GraphValue}
+use Rattle.std.proofs.Common.{map, sym, ◌∙◌, ap, subst}
 use Rattle.run_state.specs.Sound.{AccessesColumn}
 use Rattle.run_state.specs.WholeLine.{column_list, lock_of, all_had, holders_with}
-use Rattle.run_core.specs.Core.{CoreValue}
 use Rattle.run_core.specs.Kept.{places_of, holding}
 use Rattle.run_core.specs.Works.{WorkValue, IsWork}
 use Rattle.run_core.proofs.TakenFacts.{taken_shown, may_take_now, taken_core, taken_kept, home_columns, taken_works, taken_takes, taken_keeps}

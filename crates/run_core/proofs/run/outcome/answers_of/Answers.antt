@@ -1,4 +1,4 @@
-use Rattle.std.proofs.Common.{◌≡◌, ◌≤◌, ◌∙◌, length, arith, vec_len}
+use Rattle.std.proofs.Common.{◌≡◌, ◌∙◌, length, arith}
 use Rattle.run_core.proofs.ListsOfLines.{count_pushed, answers_more, answers_all}
 use Rattle.run_core.proofs.run.outcome.answers_of.Goals as goal
 

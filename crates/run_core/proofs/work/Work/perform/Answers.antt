@@ -1,16 +1,13 @@
-use Rattle.std.proofs.Common.{◌≡◌, ℕ, Bool, false, List, sym, ◌∙◌, ap, subst}
-use Rattle.std.specs.Prelude.{is_some, Some, IsSome, slice_get}
+use Rattle.std.proofs.Common.{◌≡◌, ℕ, List, sym, ◌∙◌, subst}
+use Rattle.std.specs.Prelude.{Some, IsSome, slice_get}
 use Rattle.index_spaces.specs.Column.{ColumnValue}
 use Rattle.index_spaces.specs.Held.{held_at}
 use Rattle.graph_model.specs.declared.outcome.End.{End}
-use Rattle.graph_model.specs.declared.outcome.Verdict.{Verdict}
 use Rattle.graph_model.specs.Graph.{GraphValue}
-use Rattle.graph_model.specs.Effect.{Cells, effect, cells_after}
-use Rattle.graph_model.specs.Evaluation.{end_by, column_of}
+use Rattle.graph_model.specs.Effect.{effect, cells_after}
 use Rattle.line_effects.specs.Moved.{moves, HeldShow}
 use Rattle.run_state.specs.Work.{cells_now}
-use Rattle.run_core.specs.Core.{CoreValue}
-use Rattle.run_core.specs.Works.{WorkValue, FinishedValue, IsWork, IsFinished}
+use Rattle.run_core.specs.Works.{FinishedValue, IsWork, IsFinished}
 use Rattle.run_core.proofs.PerformFacts.{work_shows, work_moves, cancelled_finished, run_finished}
 use Rattle.run_core.proofs.work.Work.perform.Goals as goal
 use Rattle.run_core.proofs.work.Work.perform.Goals.{then-is_cancelled, else-is_cancelled}
