@@ -1,6 +1,8 @@
 //! A run by several workers, which take turns at one core.
 #![tactic(auto)]
 
+mod changes;
+mod hints;
 mod plays;
 mod serving;
 #[cfg(test)]

@@ -4,17 +4,23 @@ ghost use Rattle.std.specs.Prelude.{◌≡◌, ◌<◌, length, None, IfSome};
 ghost use Rattle.run_core.specs.Works.{IsWork, IsFinished};
 ghost use Rattle.lock_engine.specs.Turns.{Serves, line_given, line_taken};
 
+use crate::hints::Hints;
 use run_core::{Attempt, Core, Finished, Issue, Work};
 
-/// Puts a line back, and takes another where one can be taken. Where all lines are tried, the first
-/// is the line `from`; it is left at the line after the last that was tried.
-pub(crate) fn serve<'g>(core: &mut Core<'g>, done: Option<Finished>, from: &mut u32) -> Option<Work>
+/// Puts a line back, and takes another where one can be taken. `from` is the word of the hints at
+/// which busy lines are tried first; it is left behind the last word that was tried.
+pub(crate) fn serve<'g>(
+    core: &mut Core<'g>,
+    done: Option<Finished>,
+    hints: &Hints,
+    from: &mut u32,
+) -> Option<Work>
     requires done { IfSome done (λ f. IsFinished core.old f) }
     ensures serves { Serves core.old core.new (line_given done) (line_taken result) }
     ensures work { IfSome result (λ w. IsWork core.new w) }
 {
     give_back(core, done);
-    find(core, from)
+    find(core, hints, from)
 }
 
 /// Puts a line back.
@@ -27,29 +33,28 @@ fn give_back<'g>(core: &mut Core<'g>, done: Option<Finished>)
     }
 }
 
-/// Takes a line: one that was woken, else one that is new, else any. None comes where no line was
-/// found that can be taken, and none that can be issued.
-fn find<'g>(core: &mut Core<'g>, from: &mut u32) -> Option<Work>
+/// Takes a line: one that was woken, else one that is new, else one that was found busy before.
+fn find<'g>(core: &mut Core<'g>, hints: &Hints, from: &mut u32) -> Option<Work>
     ensures serves { Serves core.old core.new None (line_taken result) }
     ensures work { IfSome result (λ w. IsWork core.new w) }
 {
-    if let Some(work) = take_woken(core) {
+    if let Some(work) = take_woken(core, hints) {
         return Some(work);
     }
-    if let Some(work) = take_new(core) {
+    if let Some(work) = take_new(core, hints) {
         return Some(work);
     }
-    take_any(core, from)
+    take_busy(core, hints, from)
 }
 
 /// Tries the lines that were woken.
-fn take_woken<'g>(core: &mut Core<'g>) -> Option<Work>
+fn take_woken<'g>(core: &mut Core<'g>, hints: &Hints) -> Option<Work>
     ensures serves { Serves core.old core.new None (line_taken result) }
     ensures work { IfSome result (λ w. IsWork core.new w) }
 {
     for _turn in 0..core.graph().lines() {
         let line = core.next_woken()?;
-        if let Some(work) = take(core, line) {
+        if let Some(work) = take(core, hints, line) {
             return Some(work);
         }
     }
@@ -57,46 +62,76 @@ fn take_woken<'g>(core: &mut Core<'g>) -> Option<Work>
 }
 
 /// Issues lines, and tries each.
-fn take_new<'g>(core: &mut Core<'g>) -> Option<Work>
+fn take_new<'g>(core: &mut Core<'g>, hints: &Hints) -> Option<Work>
     ensures serves { Serves core.old core.new None (line_taken result) }
     ensures work { IfSome result (λ w. IsWork core.new w) }
 {
     for _turn in 0..core.graph().lines() {
-        let Issue::Issued(line) = core.issue() else {
+        let issue = core.issue();
+        let Issue::Issued(line) = issue else {
+            hints.set_wants_slot(matches!(issue, Issue::NoSlot));
             return None;
         };
-        if let Some(work) = take(core, line) {
+        if let Some(work) = take(core, hints, line) {
             return Some(work);
         }
     }
     None
 }
 
-/// Tries each line once. It goes on where the last scan ended, so that lines that were busy and are
-/// free now aren't sought among those that have ended since.
-fn take_any<'g>(core: &mut Core<'g>, from: &mut u32) -> Option<Work>
+/// Tries the lines that were found busy, word by word.
+fn take_busy<'g>(core: &mut Core<'g>, hints: &Hints, from: &mut u32) -> Option<Work>
     ensures serves { Serves core.old core.new None (line_taken result) }
     ensures work { IfSome result (λ w. IsWork core.new w) }
 {
-    let lines = core.graph().lines();
-    for _turn in 0..lines {
-        let line = if *from < lines { *from } else { 0 };
-        *from = line + 1;
-        if let Some(work) = take(core, line) {
+    let words = core.graph().lines().div_ceil(64);
+    for _turn in 0..words {
+        let word = if *from < words { *from } else { 0 };
+        *from = word + 1;
+        if let Some(work) = take_noted(core, hints, word) {
             return Some(work);
         }
     }
     None
 }
 
-/// Tries a line.
-fn take<'g>(core: &mut Core<'g>, line: u32) -> Option<Work>
+/// Tries the lines of a word that were found busy.
+fn take_noted<'g>(core: &mut Core<'g>, hints: &Hints, word: u32) -> Option<Work>
+    requires word { word < 128 }
+    ensures serves { Serves core.old core.new None (line_taken result) }
+    ensures work { IfSome result (λ w. IsWork core.new w) }
+{
+    let mut noted = hints.take(word);
+    let lines = core.graph().lines();
+    for _turn in 0..64u32 {
+        if noted == 0 {
+            return None;
+        }
+        let line = 64 * word + noted.trailing_zeros();
+        noted &= noted - 1;
+        if line >= lines {
+            continue;
+        }
+        if let Some(work) = take(core, hints, line) {
+            hints.add_all(word, noted);
+            return Some(work);
+        }
+    }
+    None
+}
+
+/// Tries a line, and notes it where it is busy.
+fn take<'g>(core: &mut Core<'g>, hints: &Hints, line: u32) -> Option<Work>
     requires line { line < length core.old.graph.lines }
     ensures serves { Serves core.old core.new None (line_taken result) }
     ensures work { IfSome result (λ w. IsWork core.new w) }
 {
     match core.attempt(line) {
         Attempt::Taken(work) => Some(work),
+        Attempt::Busy(_) => {
+            hints.add(line);
+            None
+        }
         _ => None,
     }
 }

@@ -7,6 +7,8 @@ ghost use Rattle.run_core.specs.Finishing.{NothingOut};
 ghost use Rattle.lock_engine.specs.Seats.{IsResting, view_of};
 ghost use Rattle.lock_engine.specs.Rule.{all_parts};
 
+use crate::changes::Changes;
+use crate::hints::Hints;
 use crate::plays::Law;
 use crate::turning::sit;
 use crate::view::View;
@@ -29,6 +31,7 @@ pub struct Turn<'g> {
     graph: &'g Graph,
     table: Table<Option<Core<'g>>, View, Graph, Law, Global>,
     badge: Badge<View>,
+    hints: Hints,
 }
 
 impl<'g> Model for Turn<'g> {
@@ -59,6 +62,7 @@ impl<'g> Turn<'g> {
         ensures { IfOk result (λ turn. turn ≡ checked.now.graph) }
     {
         let graph = checked.graph();
+        let hints = Hints::new(alloc, graph.lines())?;
         let core = Core::prepare(alloc, checked, slots)?;
         let Ok(cores) = vec![in alloc; Some(core)] else {
             return Err(NoMemory);
@@ -70,6 +74,7 @@ impl<'g> Turn<'g> {
                     graph,
                     table,
                     badge,
+                    hints,
                 })
             }
             Err(_) => Err(NoMemory),
@@ -95,8 +100,19 @@ pub fn run_turn<'g, R: Threads + Wait + Sync, G: Gate>(
         graph,
         table,
         badge,
+        hints,
     } = turn;
-    let badge = run_workers(rt, &table.shared, graph, gate, badge, workers);
+    let changes = Changes::new();
+    let badge = run_workers(
+        rt,
+        &table.shared,
+        graph,
+        gate,
+        &changes,
+        &hints,
+        badge,
+        workers,
+    );
     let mut core = last_core(table, badge);
     core.finish();
     core.outcome()

@@ -7,6 +7,7 @@ ghost use Rattle.lock_engine.specs.Turns.{Serves};
 ghost use Rattle.lock_engine.specs.Plays.{with_turn, with_line};
 ghost use Rattle.lock_engine.specs.Seats.{IsWaiting, IsServing, IsResting, HasWork, HasDone, view_of};
 
+use crate::hints::Hints;
 use crate::plays::{Gives, Law, Takes};
 use crate::serving::serve;
 use crate::view::View;
@@ -39,13 +40,14 @@ pub(crate) fn rise<'g>(seat: Place<'g>) -> Badge<View>
     seat.into_badge()
 }
 
-/// In one turn puts a line back and takes another, with `from` as for `serve`. None comes where none
-/// was found.
+/// In one turn puts a line back and takes another, with `hints` and `from` as for `serve`. None comes
+/// where none was found.
 pub(crate) fn next_work<'g, R: Wait>(
     rt: &R,
     lock: &Lock<'g>,
     seat: &mut Place<'g>,
     done: Option<Finished>,
+    hints: &Hints,
     from: &mut u32,
 ) -> Option<Work>
     requires waiting { IsWaiting lock.now.table_id seat.old }
@@ -56,7 +58,7 @@ pub(crate) fn next_work<'g, R: Wait>(
     ensures work { HasWork seat.new.me.0 result }
 {
     let mut core = take_turn(rt, lock, seat);
-    let work = serve(&mut core, done, from);
+    let work = serve(&mut core, done, hints, from);
     core.is_sound();
     give_turn(lock, seat, core);
     work

@@ -5,6 +5,8 @@ ghost use Rattle.std.specs.Thread.{IsSync};
 ghost use Rattle.atomic_table.specs.Seated.{TableId};
 ghost use Rattle.lock_engine.specs.Seats.{IsResting, IsWaiting, view_of};
 
+use crate::changes::Changes;
+use crate::hints::Hints;
 use crate::plays::{Cuts, Joins};
 use crate::turning::{Lock, next_work, rise, sit};
 use crate::view::View;
@@ -20,12 +22,14 @@ pub(crate) trait Workplace: Sync {
     // Which table it is.
     ghost name: { Self → TableId };
 
-    /// One worker: takes lines and performs them until it finds none.
+    /// One worker: takes lines and performs them until it finds none and no other worker has one.
     fn work<R: Wait, G: Gate>(
         &self,
         rt: &R,
         graph: &Graph,
         gate: &G,
+        changes: &Changes,
+        hints: &Hints,
         badge: Badge<View>,
     ) -> Badge<View>
         requires resting { IsResting (name self.now) badge }
@@ -62,17 +66,33 @@ impl<'g> Workplace for Lock<'g> {
         rt: &R,
         graph: &Graph,
         gate: &G,
+        changes: &Changes,
+        hints: &Hints,
         badge: Badge<View>,
     ) -> Badge<View> {
+        changes.enter();
         let mut seat = sit(badge);
         let mut done = None;
         let mut from = 0;
+        // Whether the line that is put back in the next turn may let more run than this worker takes.
+        let mut lets_more_run = true;
         for _turn in rt.forever() {
-            let Some(work) = next_work(rt, self, &mut seat, done, &mut from) else {
-                return rise(seat);
+            let seen = changes.count();
+            let Some(work) = next_work(rt, self, &mut seat, done, hints, &mut from) else {
+                if !changes.wait(rt, seen) {
+                    return rise(seat);
+                }
+                done = None;
+                lets_more_run = true;
+                continue;
             };
-            gate.pass(rt, work.line());
+            if lets_more_run || hints.wants_slot() {
+                changes.tell();
+            }
+            let line = work.line();
+            gate.pass(rt, line);
             done = Some(work.perform(graph));
+            lets_more_run = has_many_targets(graph, line);
         }
         unreachable!()
     }
@@ -86,12 +106,19 @@ impl<'g> Workplace for Lock<'g> {
     }
 }
 
+/// Whether two lines at least wait for this one.
+fn has_many_targets(graph: &Graph, line: u32) -> bool {
+    line < graph.lines() && graph.edges_from(line).len() > 1
+}
+
 /// Runs so many workers, and waits for all of them.
 pub(crate) fn run_workers<R: Threads + Wait + Sync, P: Workplace, G: Gate>(
     rt: &R,
     place: &P,
     graph: &Graph,
     gate: &G,
+    changes: &Changes,
+    hints: &Hints,
     badge: Badge<View>,
     workers: u32,
 ) -> Badge<View>
@@ -107,7 +134,7 @@ pub(crate) fn run_workers<R: Threads + Wait + Sync, P: Workplace, G: Gate>(
         return badge;
     }
     if workers == 1 {
-        return place.work(rt, graph, gate, badge);
+        return place.work(rt, graph, gate, changes, hints, badge);
     }
     let (first, rest) = place.cut(badge);
     let (first, rest) = join(
@@ -115,11 +142,11 @@ pub(crate) fn run_workers<R: Threads + Wait + Sync, P: Workplace, G: Gate>(
         || -> Badge<View>
             requires { IsResting (P.name place.now) first × ((view_of first).line ≡ None) × ((view_of first).core.graph ≡ graph.now) }
             ensures { IsResting (P.name place.entry.now) result × ((view_of result).line ≡ None) × ((view_of result).parts ≡ (view_of first).parts) }
-        { place.work(rt, graph, gate, first) },
+        { place.work(rt, graph, gate, changes, hints, first) },
         || -> Badge<View>
             requires { IsSync R.row × IsResting (P.name place.now) rest × ((view_of rest).line ≡ None) × ((view_of rest).core.graph ≡ graph.now) × (1 < workers) × (workers < (view_of rest).parts + 1) }
             ensures { IsResting (P.name place.entry.now) result × ((view_of result).line ≡ None) × ((view_of result).parts ≡ (view_of rest).parts) }
-        { run_workers(rt, place, graph, gate, rest, workers - 1) },
+        { run_workers(rt, place, graph, gate, changes, hints, rest, workers - 1) },
     );
     place.joined(first, rest)
 }

@@ -14,5 +14,5 @@ pub returns-clause-serves : goal.returns-clause-serves
 returns-clause-serves c =
     let woken = c.take_woken.new.core in
     let issued = c.take_new.new.core in
-    serves_on c.args.core.now woken c.take_any.new.core None (line_taken c.take_any.result) (subst (λ o. Serves c.args.core.now woken None (line_taken o)) c.in_default.is c.take_woken.ensures.serves)
-    (serves_on woken issued c.take_any.new.core None (line_taken c.take_any.result) (subst (λ o. Serves woken issued None (line_taken o)) c.in_default-take_new.is c.take_new.ensures.serves) c.take_any.ensures.serves)
+    serves_on c.args.core.now woken c.take_busy.new.core None (line_taken c.take_busy.result) (subst (λ o. Serves c.args.core.now woken None (line_taken o)) c.in_default.is c.take_woken.ensures.serves)
+    (serves_on woken issued c.take_busy.new.core None (line_taken c.take_busy.result) (subst (λ o. Serves woken issued None (line_taken o)) c.in_default-take_new.is c.take_new.ensures.serves) c.take_busy.ensures.serves)
