@@ -3,14 +3,13 @@
 
 use index_spaces::NoMemory;
 use std::alloc::Global;
-use std::sync::atomic::{AtomicBool, AtomicU64, Ordering};
+use std::sync::atomic::{AtomicU64, Ordering};
 
-/// Lines that were found busy, and whether a line was left unissued for want of a slot.
+/// Lines that were found busy.
 #[derive(Drop)]
 pub(crate) struct Hints {
     // Bit k of word w is line 64 w + k.
     busy: Vec<AtomicU64>,
-    wants_slot: AtomicBool,
 }
 
 impl Hints {
@@ -22,10 +21,7 @@ impl Hints {
                 return Err(NoMemory);
             }
         }
-        Ok(Hints {
-            busy,
-            wants_slot: AtomicBool::new(false),
-        })
+        Ok(Hints { busy })
     }
 
     /// Notes lines of a word.
@@ -46,15 +42,5 @@ impl Hints {
             Some(noted) => noted.swap(0, Ordering::SeqCst),
             None => 0,
         }
-    }
-
-    /// Says whether a line was left unissued for want of a slot.
-    pub(crate) fn set_wants_slot(&self, wants_slot: bool) {
-        self.wants_slot.store(wants_slot, Ordering::SeqCst);
-    }
-
-    /// Whether a line was left unissued for want of a slot, as far as was said.
-    pub(crate) fn wants_slot(&self) -> bool {
-        self.wants_slot.load(Ordering::SeqCst)
     }
 }

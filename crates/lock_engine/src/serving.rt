@@ -33,15 +33,16 @@ fn give_back<'g>(core: &mut Core<'g>, done: Option<Finished>)
     }
 }
 
-/// Takes a line: one that was woken, else one that is new, else one that was found busy before.
+/// Takes a line: one that is new, else one that was woken, else one that was found busy before. New
+/// lines come first so that a slot that came free is used at once.
 fn find<'g>(core: &mut Core<'g>, hints: &Hints, from: &mut u32) -> Option<Work>
     ensures serves { Serves core.old core.new None (line_taken result) }
     ensures work { IfSome result (λ w. IsWork core.new w) }
 {
-    if let Some(work) = take_woken(core, hints) {
+    if let Some(work) = take_new(core, hints) {
         return Some(work);
     }
-    if let Some(work) = take_new(core, hints) {
+    if let Some(work) = take_woken(core, hints) {
         return Some(work);
     }
     take_busy(core, hints, from)
@@ -67,9 +68,7 @@ fn take_new<'g>(core: &mut Core<'g>, hints: &Hints) -> Option<Work>
     ensures work { IfSome result (λ w. IsWork core.new w) }
 {
     for _turn in 0..core.graph().lines() {
-        let issue = core.issue();
-        let Issue::Issued(line) = issue else {
-            hints.set_wants_slot(matches!(issue, Issue::NoSlot));
+        let Issue::Issued(line) = core.issue() else {
             return None;
         };
         if let Some(work) = take(core, hints, line) {

@@ -74,8 +74,7 @@ impl<'g> Workplace for Lock<'g> {
         let mut seat = sit(badge);
         let mut done = None;
         let mut from = 0;
-        // Whether the line that is put back in the next turn may let more run than this worker takes.
-        let mut lets_more_run = true;
+        let mut before = None;
         for _turn in rt.forever() {
             let seen = changes.count();
             let Some(work) = next_work(rt, self, &mut seat, done, hints, &mut from) else {
@@ -83,16 +82,16 @@ impl<'g> Workplace for Lock<'g> {
                     return rise(seat);
                 }
                 done = None;
-                lets_more_run = true;
+                before = None;
                 continue;
             };
-            if lets_more_run || hints.wants_slot() {
+            let line = work.line();
+            if may_let_more_run(graph, before, line) {
                 changes.tell();
             }
-            let line = work.line();
             gate.pass(rt, line);
             done = Some(work.perform(graph));
-            lets_more_run = has_many_targets(graph, line);
+            before = Some(line);
         }
         unreachable!()
     }
@@ -106,9 +105,15 @@ impl<'g> Workplace for Lock<'g> {
     }
 }
 
-/// Whether two lines at least wait for this one.
-fn has_many_targets(graph: &Graph, line: u32) -> bool {
-    line < graph.lines() && graph.edges_from(line).len() > 1
+/// Whether more lines may run than the one that was taken, by the line that was put back before it:
+/// where another line waited for that one, and where none was put back.
+fn may_let_more_run(graph: &Graph, before: Option<u32>, taken: u32) -> bool {
+    match before {
+        Some(line) if line < graph.lines() => {
+            graph.edges_from(line).iter().any(|edge| edge.to != taken)
+        }
+        _ => true,
+    }
 }
 
 /// Runs so many workers, and waits for all of them.
