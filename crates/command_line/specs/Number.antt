@@ -1,6 +1,6 @@
 -- Numbers that words spell.
 use Rattle.std.specs.Prelude.{ℕ, ◌&&◌, nat_le, cond, List, Option, Some, None, option_and_then}
-use Rattle.realm_io.specs.Numbers.{number_up_to}
+use Rattle.basics.specs.Numbers.{number_up_to}
 
 -- the number below 2^64 that a word spells
 abbrev pub number_of : List ℕ → Option ℕ

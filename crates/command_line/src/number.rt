@@ -3,7 +3,7 @@
 ghost use Rattle.std.specs.Prelude.{◌≡◌, ℕ, ◌≤◌, IfSome};
 ghost use Rattle.command_line.specs.Number.{number_of, number_between};
 
-use realm_io::number_up_to;
+use basics::number_up_to;
 
 /// The number below 2^64 that a word spells.
 pub(crate) fn number(word: &str) -> Option<u64>

@@ -15,7 +15,7 @@ use Rattle.graph_model.specs.Path.{Path, HasPath, last, first}
 use Rattle.graph_model.specs.Access.{access, verb_accesses, modes_clash, AccessesConflict}
 use Rattle.graph_model.specs.Edges.{edge}
 use Rattle.graph_model.specs.Rules.{Releases, Section, modes_commute, Exempt, NoCycleAt, ReleasedAt, SectionAt, DescendsAt, ReleaseFaultAt, RaceAt, Everywhere, EverywhereTwice, Accepted}
-use Rattle.graph_model.proofs.ListFacts.{contains_cases, contains_none}
+use Rattle.basics.proofs.ListFacts.{contains_cases, contains_none}
 use Rattle.graph_model.proofs.PathLaws.{path_append}
 use Rattle.graph_gen.specs.declared.draw.Row.{Row}
 use Rattle.graph_gen.specs.declared.draw.Draw.{Draw}

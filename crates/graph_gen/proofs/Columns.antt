@@ -15,7 +15,7 @@ use Rattle.graph_model.specs.Access.{access, verb_accesses}
 use Rattle.graph_model.specs.Edges.{edge}
 use Rattle.graph_model.specs.Fits.{on_lines}
 use Rattle.graph_model.specs.Path.{Path, last, first}
-use Rattle.graph_model.proofs.ListFacts.{contains_cases, contains_none, contains_here, contains_there}
+use Rattle.basics.proofs.ListFacts.{contains_cases, contains_none, contains_here, contains_there}
 use Rattle.graph_model.proofs.PathLaws.{path_append}
 use Rattle.graph_gen.specs.declared.draw.Row.{Row}
 use Rattle.graph_gen.specs.declared.draw.Row.TheVariants.{Fill, Iota, Expect, Settle, Copy, Sum, Event, Section}

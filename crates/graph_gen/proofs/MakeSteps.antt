@@ -1,7 +1,7 @@
 -- What each step of the making leaves.
 use Rattle.std.proofs.Common.{◌≡◌, ℕ, ◌+◌, ◌-◌, ◌<◌, ◌≤◌, ◌^◌, List, [], ◌∷◌, ◌++◌, length, map, sym, ◌∙◌, ap, ap₂, subst, codes, arith}
 use Rattle.std.proofs.lemmas.List.FromFn.{map-range_with_len_more}
-use Rattle.index_spaces.specs.Space.{numbers_below}
+use Rattle.basics.specs.Lists.{numbers_below}
 use Rattle.graph_model.specs.declared.decl.Decl.{Decl}
 use Rattle.graph_model.specs.declared.decl.Decl.TheVariants.{Space}
 use Rattle.graph_model.specs.declared.verb.Line.{Line}

@@ -13,7 +13,7 @@ use Rattle.graph_model.specs.declared.verb.Verb.TheVariants as verb
 use Rattle.graph_model.specs.declared.verb.Kernel.TheVariants as kernel
 use Rattle.graph_model.specs.Edges.{edge, edges_from_some, verb_edges, edges_after}
 use Rattle.graph_model.specs.Fits.{on_lines}
-use Rattle.graph_model.proofs.ListFacts.{contains_cases, contains_none, contains_map, map_contains}
+use Rattle.basics.proofs.ListFacts.{contains_cases, contains_none, contains_map, map_contains}
 use Rattle.graph_gen.specs.declared.draw.Row.{Row}
 use Rattle.graph_gen.specs.declared.draw.Row.TheVariants.{Fill, Iota, Expect, Settle, Copy, Sum, Event, Section}
 use Rattle.graph_gen.specs.declared.draw.Draw.{Draw}

@@ -13,7 +13,7 @@ use Rattle.graph_model.specs.declared.verb.Verb.{Verb}
 use Rattle.graph_model.specs.Graph.{is_user, is_acquire_of, is_release_of}
 use Rattle.graph_model.specs.Access.{verb_accesses}
 use Rattle.graph_model.specs.Edges.{edge}
-use Rattle.graph_model.proofs.ListFacts.{contains_cases, contains_none, contains_here, contains_there}
+use Rattle.basics.proofs.ListFacts.{contains_cases, contains_none, contains_here, contains_there}
 use Rattle.graph_gen.specs.declared.draw.Row.{Row}
 use Rattle.graph_gen.specs.declared.draw.Row.TheVariants.{Fill, Iota, Expect, Settle, Copy, Sum, Event, Section}
 use Rattle.graph_gen.specs.declared.draw.Draw.{Draw}

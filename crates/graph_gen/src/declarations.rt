@@ -4,7 +4,7 @@ ghost use Rattle.std.specs.Prelude.{◌≡◌, ◌++◌, [], ◌∷◌, OnOk, If
 ghost use Rattle.graph_model.specs.Name.{is_name};
 ghost use Rattle.graph_gen.specs.MadeGraph.{made_decls};
 
-use crate::room::push;
+use index_spaces::room::push;
 use graph_model::decl::Decl;
 use graph_model::graph::Graph;
 use graph_model::lists::NameList;

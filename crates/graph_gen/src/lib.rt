@@ -7,7 +7,6 @@ mod lasts;
 pub mod laws;
 mod line;
 pub mod make;
-mod room;
 mod row;
 #[cfg(test)]
 mod tests;

@@ -3,7 +3,7 @@
 ghost use Rattle.std.specs.Prelude.{◌≡◌, ◌++◌, [], ◌∷◌, OnOk, IfOk};
 ghost use Rattle.graph_gen.specs.MadeGraph.{made_name, made_line};
 
-use crate::room::push;
+use index_spaces::room::push;
 use graph_model::name::Name;
 use graph_model::verb::{Line, Verb};
 use index_spaces::NoMemory;

@@ -27,7 +27,7 @@ use Rattle.graph_model.specs.Spelling.{spelled, space_name, column_name, decl_wo
 use Rattle.graph_model.specs.Counts.{words_size, cells_of_decl, counts_of}
 use Rattle.graph_model.proofs.GraphFacts.{fits_known}
 use Rattle.graph_model.proofs.GraphPush.{head_with_line, decls_text_push}
-use Rattle.graph_model.proofs.ListFacts.{contains_here, contains_there}
+use Rattle.basics.proofs.ListFacts.{contains_here, contains_there}
 use Rattle.graph_model.proofs.RowLaws.{edges_push}
 use Rattle.graph_model.proofs.TableLaws.{columns_known}
 

@@ -14,7 +14,7 @@ use Rattle.graph_model.specs.Graph.{GraphValue, verb_at, line_passes, is_user, i
 use Rattle.graph_model.specs.Edges.{edge, edges_from_some, verb_edges, line_edges, edges_after, edges}
 use Rattle.graph_model.specs.Path.{Path, HasPath, last, first}
 use Rattle.graph_model.specs.Fits.{line_fault, line_tests, takes_no_on, verb_unlike, LinesFit, IsGraph}
-use Rattle.graph_model.proofs.ListFacts.{contains_none, contains_here, passes_some}
+use Rattle.basics.proofs.ListFacts.{contains_none, contains_here, passes_some}
 use Rattle.graph_model.proofs.GraphFacts.{none_first}
 use Rattle.graph_model.proofs.VerbFacts.{passes_verb, verb_passes, verb_line, user_is, phase_is, never_as, from_some_to, from_some_has, verb_edge_to}
 

@@ -14,7 +14,7 @@ use Rattle.graph_model.specs.declared.verb.Verb.TheVariants.{User, Trigger, Canc
 use Rattle.graph_model.specs.Graph.{GraphValue, space_at, column_space, verb_at, is_phase, line_passes, arrivals, barrier_count, never_comes, never_comes_as}
 use Rattle.graph_model.specs.Access.{kernel_accesses, verb_accesses}
 use Rattle.graph_model.specs.Fits.{access_outside, phase_count, barrier_of_phase}
-use Rattle.graph_model.proofs.ListFacts.{contains_here, contains_there, passes_each}
+use Rattle.basics.proofs.ListFacts.{contains_here, contains_there, passes_each}
 
 -- a line has three accesses at most
 few_kernel : (k : Kernel) → length (kernel_accesses k) ≤ 3

@@ -21,7 +21,7 @@ use Rattle.graph_model.specs.Graph.{GraphValue, is_phase_of, space_of, named_spa
 use Rattle.graph_model.specs.Access.{accesses, verb_accesses}
 use Rattle.graph_model.specs.Edges.{edge, last_place, edges_from_some, verb_edges, line_edges, edges_after, edges}
 use Rattle.graph_model.specs.Fits.{first_reason, line_tests, line_fault, line_unknown, named_lines, on_lines, access_unknown, DeclsFit, LinesFit, IsGraph}
-use Rattle.graph_model.proofs.ListFacts.{contains_none, contains_cases, contains_here, contains_from, passes_some, map_contains}
+use Rattle.basics.proofs.ListFacts.{contains_none, contains_cases, contains_here, contains_from, passes_some, map_contains}
 use Rattle.graph_model.proofs.Changes.{HavePoints}
 
 no_first_by : (b : Bool) (w : Why) (ts : List (Bool × Why)) → cond b (Some w) (first_reason ts) ≡ None → (b ≡ false) × (first_reason ts ≡ None)

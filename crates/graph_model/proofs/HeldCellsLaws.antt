@@ -13,7 +13,7 @@ use Rattle.graph_model.specs.Graph.{GraphValue, column_space}
 use Rattle.graph_model.specs.Effect.{Cells, Change, CellChange, cell_after, cell_after_if, cells_after_one, cells_after, changes_at}
 use Rattle.graph_model.specs.Evaluation.{column_of}
 use Rattle.graph_model.specs.HeldCells.{HasCells, MakesChanges, CellsByPoint, ChangesByPoint, ColumnsOfChanges}
-use Rattle.graph_model.proofs.ListFacts.{contains_none, contains_cases, map_contains}
+use Rattle.basics.proofs.ListFacts.{contains_none, contains_cases, map_contains}
 use Rattle.graph_model.proofs.Changes.{Untouched, cells_after_untouched, map_agree}
 
 -- points that ascend from low

@@ -1,6 +1,5 @@
 pub mod Examples
 pub mod ExampleRuns
-pub mod ListFacts
 pub mod PathLaws
 pub mod ReadyLine
 pub mod Waiting
@@ -8,6 +7,7 @@ pub mod Turns
 pub mod Races
 pub mod PathTable
 pub mod NeedTable
+pub mod NeedLaws
 pub mod ExampleRules
 pub mod Cancelled
 pub mod Changes

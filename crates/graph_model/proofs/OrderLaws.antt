@@ -7,7 +7,7 @@ use Rattle.graph_model.specs.declared.verb.Edge.{Edge}
 use Rattle.graph_model.specs.Graph.{GraphValue}
 use Rattle.graph_model.specs.Edges.{edges}
 use Rattle.graph_model.specs.Evaluation.{Step, has_ended, eval_end, is_ended, evaluation, order}
-use Rattle.graph_model.proofs.ListFacts.{contains_none, contains_cases, contains_here, contains_there, some_passes, passes_some, map_contains, contains_map}
+use Rattle.basics.proofs.ListFacts.{contains_none, contains_cases, contains_here, contains_there, some_passes, passes_some, map_contains, contains_map}
 use Rattle.graph_model.proofs.Waiting.{end_in_left, end_in_ended, steps_end}
 use Rattle.graph_model.proofs.Turns.{turns_after}
 use Rattle.graph_model.proofs.Confluence.{Fresh, steps_fresh, order_round}

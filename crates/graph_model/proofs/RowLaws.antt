@@ -17,7 +17,7 @@ use Rattle.graph_model.specs.Edges.{line_edges, edges_after, edges, edges_into, 
 use Rattle.graph_model.specs.Fits.{named_lines, on_lines, line_fault, with_decl, with_line}
 use Rattle.graph_model.specs.Rows.{RowsValue, NamesBelow, EndsBelow, mark_after, mark_of, AddsRow, AreRowsOf}
 use Rattle.graph_model.proofs.GraphFacts.{line_ends, named_below}
-use Rattle.graph_model.proofs.ListFacts.{contains_here}
+use Rattle.basics.proofs.ListFacts.{contains_here}
 
 edges_after_push : (before ls : List Line) (l : Line) → edges_after before (ls ++ l ∷ []) ≡ edges_after before ls ++ line_edges (before ++ ls) l
 edges_after_push before [] l = append-nil (line_edges before l) ∙ ap (λ xs. line_edges xs l) (sym (append-nil before))

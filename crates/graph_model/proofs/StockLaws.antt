@@ -12,7 +12,7 @@ use Rattle.graph_model.specs.declared.side.Side.{Side}
 use Rattle.graph_model.specs.declared.side.Side.TheVariants.{From, To}
 use Rattle.graph_model.specs.declared.verb.Verb.{Verb}
 use Rattle.graph_model.specs.Rows.{Stock, edges_at, room_at, KeepsEdges, end_of, HasRoom, AddsEdge, AddsEdges, mark_at, fresh_mark, Marks, RowsValue, AddsRow}
-use Rattle.graph_model.proofs.ListFacts.{contains_none, contains_cases, contains_there}
+use Rattle.basics.proofs.ListFacts.{contains_none, contains_cases, contains_there}
 
 -- what is read past the end of a list of edges
 abbrev pub no_edge : Edge

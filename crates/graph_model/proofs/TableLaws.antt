@@ -19,7 +19,7 @@ use Rattle.graph_model.specs.Spelling.{head}
 use Rattle.graph_model.specs.Tables.{TablesValue, places_of, tables_of, tables_with, IsWithinLimits}
 use Rattle.graph_model.proofs.GraphPush.{long_head}
 use Rattle.graph_model.proofs.GraphFacts.{none_first}
-use Rattle.graph_model.proofs.ListFacts.{contains_none, map_contains}
+use Rattle.basics.proofs.ListFacts.{contains_none, map_contains}
 
 cons_before : (o : Option ℕ) (a b c : List ℕ) → a ≡ b ++ c → cons_option o a ≡ cons_option o b ++ c
 cons_before None a b c e = e

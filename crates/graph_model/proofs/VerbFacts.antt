@@ -15,7 +15,7 @@ use Rattle.graph_model.specs.declared.verb.EdgeKind.{EdgeKind}
 use Rattle.graph_model.specs.declared.verb.EdgeKind.TheVariants.{Passes, Ignores, Faults}
 use Rattle.graph_model.specs.Edges.{edge, last_place, edges_from_some, verb_edges}
 use Rattle.graph_model.specs.Evaluation.{arrival_value}
-use Rattle.graph_model.proofs.ListFacts.{contains_none, contains_cases, map_contains}
+use Rattle.basics.proofs.ListFacts.{contains_none, contains_cases, map_contains}
 
 pub acquire_of_is : (l : ℕ) (v : Verb) → is_acquire_of l v ≡ true → v ≡ Acquire l
 acquire_of_is l (Acquire k) h = ap Acquire (eqb-true k l h)

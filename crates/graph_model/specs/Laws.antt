@@ -14,6 +14,7 @@ use Rattle.graph_model.specs.Rules.{NoCycleAt, Everywhere, Accepted}
 use Rattle.graph_model.specs.Effect.{Cells, Change, Set, Add, CellChange, cells_after, effect}
 use Rattle.graph_model.specs.Evaluation.{Step, is_ended, is_cancelled, step_by, evaluation, order, eval_end, eval_changes, cells_of_lines, Unbroken}
 use Rattle.graph_model.specs.Fits.{IsGraph}
+use Rattle.graph_model.specs.Need.{IsNeed}
 use Rattle.graph_model.specs.Trace.{ListsEnded}
 
 -- one path after another is a path
@@ -106,3 +107,7 @@ abbrev pub OrderIrrelevant : Type 0
 OrderIrrelevant = (g : GraphValue) (i : ℕ) (ended : ℕ → Bool) (put : ℕ → ℕ → Bool) → IsGraph g → Accepted g → IsTrue (is_ended (eval_end g i)) → IsReadyAmong g i ended put →
     ((cells : Cells) → AgreeWhereUsed g i cells (cells_put g put) → DoesAsEvaluated g i cells)
     × ((c p : ℕ) → cells_after (cells_put g put) (eval_changes g i) c p ≡ cells_put g (put_with i put) c p)
+
+-- a graph has one need
+abbrev pub OneNeed : Type 0
+OneNeed = (g : GraphValue) (n m : ℕ) → IsNeed g n → IsNeed g m → n ≡ m

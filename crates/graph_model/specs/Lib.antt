@@ -5,9 +5,11 @@ pub mod Edges
 pub mod Path
 pub mod Access
 pub mod Rules
+pub mod Reservations
 pub mod Effect
 pub mod Evaluation
 pub mod Need
+pub mod Checked
 pub mod Spelling
 pub mod Fits
 pub mod Tables

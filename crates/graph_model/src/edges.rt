@@ -5,9 +5,9 @@ ghost use Rattle.graph_model.specs.Graph.{is_phase_of};
 ghost use Rattle.graph_model.specs.Edges.{edge, last_place, edges_from_some, verb_edges, line_edges};
 
 use crate::lists::LineList;
-use crate::room::{push, push_within, reserve};
 use crate::verb::{Edge, EdgeKind, Line, Verb};
 use index_spaces::NoMemory;
+use index_spaces::room::{push, push_within, reserve};
 use std::alloc::Global;
 
 /// The edges that a line gives after these lines, in order.

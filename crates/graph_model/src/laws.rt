@@ -1,6 +1,6 @@
 //! What holds of all graphs, for callers to cite. No function here does anything.
 
-ghost use Rattle.graph_model.specs.Laws.{PathsCompose, EdgesBetweenLines, ChangesWithinAccesses, ReadyWhereUnreached, WaitsWhereReached, CancelledWhereUnbroken, OrderListsEnded, ChangesNameEachCellOnce, OrderIrrelevant};
+ghost use Rattle.graph_model.specs.Laws.{PathsCompose, EdgesBetweenLines, ChangesWithinAccesses, ReadyWhereUnreached, WaitsWhereReached, CancelledWhereUnbroken, OrderListsEnded, ChangesNameEachCellOnce, OrderIrrelevant, OneNeed};
 
 use index_spaces::laws::points_ascend;
 
@@ -52,4 +52,9 @@ pub fn changes_name_each_cell_once()
 /// lines came before it.
 pub fn order_is_irrelevant()
     ensures { OrderIrrelevant }
+{}
+
+/// A graph has one need.
+pub fn needs_are_one()
+    ensures { OneNeed }
 {}

@@ -2,6 +2,7 @@
 #![tactic(auto)]
 
 mod access;
+pub mod checked;
 mod counts;
 pub mod decl;
 mod edges;
@@ -16,7 +17,6 @@ pub mod name;
 mod names;
 pub mod outcome;
 mod repeats;
-mod room;
 mod rows;
 mod side;
 mod stock;

@@ -4,9 +4,9 @@ ghost use Rattle.std.specs.Prelude.{◌≡◌, ◌<◌, [], ◌∷◌, ◌++◌,
 
 use crate::name::Name;
 use crate::outcome::{Answer, End};
-use crate::room::push;
 use index_spaces::NoMemory;
 use index_spaces::column::Column;
+use index_spaces::room::push;
 use std::alloc::Global;
 use std::marker::Model;
 

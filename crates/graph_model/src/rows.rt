@@ -5,11 +5,11 @@ ghost use Rattle.graph_model.specs.declared.side.Side.TheVariants.{From, To};
 ghost use Rattle.graph_model.specs.Rows.{mark_at, NamesBelow, EndsBelow, HasRoom, AddsRow};
 
 use crate::mark::{FRESH, Mark, mark_named};
-use crate::room::{push, push_within, reserve};
 use crate::side::Side;
 use crate::stock::{Stock, add_all, make_room};
 use crate::verb::{Edge, Verb};
 use index_spaces::NoMemory;
+use index_spaces::room::{push, push_within, reserve};
 use std::alloc::Global;
 use std::marker::Model;
 

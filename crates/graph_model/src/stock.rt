@@ -3,10 +3,10 @@
 ghost use Rattle.std.specs.Prelude.{◌≡◌, ◌<◌, ◌≤◌, ◌+◌, [], ◌∷◌, ◌++◌, length, OnOk};
 ghost use Rattle.graph_model.specs.Rows.{room_at, KeepsEdges, EndsBelow, HasRoom, AddsEdge, AddsEdges};
 
-use crate::room::{push_within, reserve};
 use crate::side::Side;
 use crate::verb::Edge;
 use index_spaces::NoMemory;
+use index_spaces::room::{push_within, reserve};
 use std::alloc::Global;
 use std::marker::Model;
 

@@ -7,8 +7,8 @@ ghost use Rattle.graph_model.specs.Tables.{tables_of, tables_with};
 use crate::decl::{BarrierInfo, ColumnInfo, Decl};
 use crate::lists::NameList;
 use crate::name::Name;
-use crate::room::{push, push_within, reserve};
 use index_spaces::NoMemory;
+use index_spaces::room::{push, push_within, reserve};
 use std::alloc::Global;
 use std::marker::Model;
 

@@ -15,7 +15,7 @@ use Rattle.graph_model.specs.declared.decl.ColumnInfo.{ColumnInfo}
 use Rattle.graph_model.specs.declared.decl.BarrierInfo.{BarrierInfo}
 use Rattle.graph_model.specs.Graph.{GraphValue, decl_name, space_of, columns_of, lock_of, barrier_of, named_spaces, columns, locks, barriers}
 use Rattle.graph_model.specs.Fits.{first_reason, repeats, names, is_used, decl_repeats, decl_tests, line_tests, IsDecl, DeclsFit, LinesFit, IsGraph}
-use Rattle.graph_model.proofs.ListFacts.{passes_some, contains_map, contains_here, contains_there}
+use Rattle.basics.proofs.ListFacts.{passes_some, contains_map, contains_here, contains_there}
 use Rattle.graph_reader.proofs.TextLists.{same_bytes, bytes_same, any_left, any_append, each_contained, each_append, repeats_left, repeats_right, repeats_append, repeats_map, repeats_push, found_of, found_is, mapped_from}
 
 -- the first reason is none

@@ -2,7 +2,7 @@
 use Rattle.std.proofs.Common.{true, false, true≢false, eqb-true, ◌≡◌, ℕ, zero, suc, ◌+◌, ◌<◌, List, [], ◌∷◌, ◌++◌, length, take, get_or, refl, sym, ◌∙◌, ap, arith, Bor}
 use Rattle.std.specs.Prelude.{Option, Some, None, ◌==◌}
 use Rattle.graph_reader.specs.Words.{pieces, both_numbers, interval_of, with_interval, all_intervals, intervals_of}
-use Rattle.realm_io.specs.Numbers.{number_up_to}
+use Rattle.basics.specs.Numbers.{number_up_to}
 use Rattle.graph_reader.specs.Cuts.{IsCut, two_pieces, behind_two, dotted}
 use Rattle.std.proofs.lemmas.Option.{none-some, same_Some}
 use Rattle.graph_reader.proofs.CutBytes.{pieces_cut, some_pieces}

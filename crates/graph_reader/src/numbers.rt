@@ -1,10 +1,10 @@
 //! Numbers that words spell.
 
 ghost use Rattle.std.specs.Prelude.{◌≡◌};
-ghost use Rattle.realm_io.specs.Numbers.{number_up_to};
+ghost use Rattle.basics.specs.Numbers.{number_up_to};
 ghost use Rattle.graph_reader.specs.Words.{value_of, count_of};
 
-use realm_io::number_up_to;
+use basics::number_up_to;
 
 /// The value that a word spells.
 pub(crate) fn value(word: &[u8]) -> Option<u64>

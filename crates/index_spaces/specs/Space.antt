@@ -3,10 +3,6 @@
 use Rattle.std.specs.Prelude.{ℕ, ◌+◌, ◌-◌, ◌^◌, ◌<◌, ◌≤◌, Bool, ◌&&◌, List, [], ◌∷◌, length, nat_lt, nat_le, flat_map, count_by, slice_index, IsTrue}
 use Rattle.std.specs.List.{list_any, range_with_len}
 
--- the numbers below n
-abbrev pub numbers_below : ℕ → List ℕ
-numbers_below n = range_with_len 0 n
-
 -- whether a point lies in an interval
 abbrev pub interval_has : ℕ × ℕ → ℕ → Bool
 interval_has i p = nat_le i.0 p && nat_le p i.1

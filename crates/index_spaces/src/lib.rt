@@ -4,6 +4,7 @@
 pub mod column;
 pub mod held;
 pub mod laws;
+pub mod room;
 pub mod space;
 
 /// How two values become one.

@@ -4,7 +4,8 @@ use Rattle.std.specs.List.{filter_map}
 use Rattle.std.proofs.lemmas.List.FromFn.{map-range_with_len_more}
 use Rattle.std.proofs.lemmas.Bool.{false≢true}
 use Rattle.std.proofs.lemmas.List.Elements.{filter_map-append}
-use Rattle.index_spaces.specs.Space.{numbers_below, points, space_size}
+use Rattle.index_spaces.specs.Space.{points, space_size}
+use Rattle.basics.specs.Lists.{numbers_below}
 use Rattle.index_spaces.specs.Column.{ColumnValue}
 use Rattle.graph_model.specs.Graph.{GraphValue, column_space}
 use Rattle.graph_model.specs.Effect.{zero_cells}

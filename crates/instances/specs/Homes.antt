@@ -1,6 +1,6 @@
 -- The columns of a graph by their numbers, each at home or out.
 use Rattle.std.specs.Prelude.{List, [], ◌∷◌, length, map, Option, Some, codes}
-use Rattle.index_spaces.specs.Space.{numbers_below}
+use Rattle.basics.specs.Lists.{numbers_below}
 use Rattle.index_spaces.specs.Column.{ColumnValue}
 use Rattle.graph_model.specs.declared.decl.Decl.TheVariants.{Space, Inst}
 use Rattle.graph_model.specs.Graph.{GraphValue, columns}

@@ -8,6 +8,7 @@ use graph_model::graph::Graph;
 use graph_model::lists::ColumnList;
 use index_spaces::NoMemory;
 use index_spaces::column::Column;
+use index_spaces::room::{push_within, with_room};
 use std::alloc::Global;
 use std::marker::Model;
 
@@ -87,29 +88,6 @@ impl Homes {
             }
         }
         ColumnList { items: room }
-    }
-}
-
-/// A vector without items, and with room for so many.
-fn with_room<T: Drop>(alloc: Global, count: usize) -> Result<Vec<T>, NoMemory>
-    ensures items { IfOk result (λ v. v.items ≡ []) }
-    ensures room { IfOk result (λ v. vec_capacity v ≡ count) }
-{
-    match Vec::with_capacity(alloc, count) {
-        Ok(items) => Ok(items),
-        Err(_) => Err(NoMemory),
-    }
-}
-
-/// Puts an item at the end of a vector that has room for it.
-fn push_within<T: Drop>(items: &mut Vec<T>, item: T)
-    requires { vec_len items.old < vec_capacity items.old }
-    ensures items { items.new.items ≡ items.old.items ++ item ∷ [] }
-    ensures capacity { vec_capacity items.old ≤ vec_capacity items.new }
-{
-    match items.push(item) {
-        Ok(()) => {}
-        Err(_) => unreachable!(),
     }
 }
 

@@ -1,7 +1,8 @@
 //! Dot: the sum of the products of two columns.
 
 ghost use Rattle.std.specs.Prelude.{ℕ, ◌≡◌, ◌≢◌, ◌+◌, ◌*◌, ◌<◌, [], ◌∷◌, length, map, sum, slice_index};
-ghost use Rattle.index_spaces.specs.Space.{IsWithin, numbers_below, points};
+ghost use Rattle.index_spaces.specs.Space.{IsWithin, points};
+ghost use Rattle.basics.specs.Lists.{numbers_below};
 ghost use Rattle.index_spaces.specs.Column.{cell_of};
 ghost use Rattle.index_spaces.specs.Run.{WritesPoints};
 ghost use Rattle.graph_model.specs.declared.verb.Kernel.TheVariants.{Dot};

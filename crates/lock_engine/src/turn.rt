@@ -17,7 +17,7 @@ use atomic_table::{Badge, Table};
 use graph_model::graph::Graph;
 use graph_model::outcome::Outcome;
 use index_spaces::NoMemory;
-use race_check::checked::Checked;
+use graph_model::checked::Checked;
 use realm_io::Gate;
 use run_core::Core;
 use std::alloc::Global;

@@ -9,7 +9,7 @@ use Rattle.std.proofs.lemmas.List.{take_more, take_all, get_or-set_same, get_or-
 use Rattle.std.proofs.lemmas.List.Elements.{filter_map-append}
 use Rattle.std.proofs.lemmas.List.FromFn.{fill_by_all, get_or-map-range_with_len, length-map-range_with_len, map-range_with_len_more}
 use Rattle.std.proofs.lemmas.List.Sums.{fold_push}
-use Rattle.index_spaces.specs.Space.{numbers_below}
+use Rattle.basics.specs.Lists.{numbers_below}
 use Rattle.index_spaces.specs.declared.Op.{Op}
 use Rattle.index_spaces.specs.declared.Op.TheVariants.{Min}
 use Rattle.graph_model.specs.declared.decl.BarrierInfo.{BarrierInfo}

@@ -10,7 +10,7 @@ use Rattle.std.proofs.lemmas.List.Concat.{flat_map-append}
 use Rattle.std.proofs.lemmas.List.Folds.{list_any-append, list_any_at, list_any_more}
 use Rattle.std.proofs.lemmas.List.Elements.{All-filter, Contains-get_or}
 use Rattle.std.proofs.lemmas.List.FromFn.{fill_by_all, get_or-map-range_with_len, length-map-range_with_len}
-use Rattle.index_spaces.specs.Space.{numbers_below}
+use Rattle.basics.specs.Lists.{numbers_below}
 use Rattle.graph_model.specs.declared.verb.Edge.{Edge}
 use Rattle.graph_model.specs.declared.outcome.End.{End}
 use Rattle.graph_model.specs.declared.outcome.End.TheVariants.{Waiting}

@@ -7,7 +7,7 @@ use Rattle.std.proofs.lemmas.List.{take_all, get_or-set_same, get_or-set_other}
 use Rattle.std.proofs.lemmas.List.Elements.{All-filter, Contains-get_or}
 use Rattle.std.proofs.lemmas.List.Filters.{length-filter_more}
 use Rattle.std.proofs.lemmas.List.FromFn.{length-map-range_with_len, get_or-map-range_with_len, map-range_with_len_more}
-use Rattle.index_spaces.specs.Space.{numbers_below}
+use Rattle.basics.specs.Lists.{numbers_below}
 use Rattle.graph_model.specs.declared.verb.Edge.{Edge}
 use Rattle.graph_model.specs.declared.verb.EdgeKind.TheVariants.{Passes}
 use Rattle.graph_model.specs.Laws.{EdgesBetweenLines}

@@ -2,7 +2,7 @@
 use Rattle.std.specs.Prelude.{◌≡◌, List, length, map}
 use Rattle.std.specs.BTreeSet.{contains}
 use Rattle.std.specs.Ordering.{nat_cmp}
-use Rattle.index_spaces.specs.Space.{numbers_below}
+use Rattle.basics.specs.Lists.{numbers_below}
 use Rattle.graph_model.specs.Graph.{GraphValue}
 use Rattle.graph_model.specs.Evaluation.{Step, end_in, has_ended, cells_of}
 use Rattle.instances.specs.Homes.{all_home}

@@ -5,7 +5,7 @@ pub mod evaluation;
 mod moved;
 mod perform;
 mod phases;
-mod room;
+mod numbers;
 mod run;
 #[cfg(test)]
 mod tests;

@@ -1,11 +1,11 @@
 //! The values of phases.
 
 ghost use Rattle.std.specs.Prelude.{◌≡◌, ◌<◌, length, map, option_map, None, slice_index_or, slice_set, IfOk};
-ghost use Rattle.index_spaces.specs.Space.{numbers_below};
+ghost use Rattle.basics.specs.Lists.{numbers_below};
 ghost use Rattle.graph_model.specs.Evaluation.{eval_end, combined, phase_value};
 ghost use Rattle.plain_eval.specs.Phases.{with_arrival, first_reduction, reduction_after};
 
-use crate::room::push;
+use index_spaces::room::push;
 use graph_model::graph::Graph;
 use graph_model::line_laws::phases_fit;
 use graph_model::outcome::End;

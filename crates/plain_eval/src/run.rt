@@ -1,7 +1,7 @@
 //! The state of an evaluation, and its turns.
 
 ghost use Rattle.std.specs.Prelude.{◌≡◌, ◌<◌, List, [], length, map, OnOk, IfOk};
-ghost use Rattle.index_spaces.specs.Space.{numbers_below};
+ghost use Rattle.basics.specs.Lists.{numbers_below};
 ghost use Rattle.graph_model.specs.declared.verb.Edge.{Edge};
 ghost use Rattle.graph_model.specs.Evaluation.{Step, advance, end_in, is_cancelled, step_of, cells_of};
 ghost use Rattle.graph_model.specs.Effect.{cells_after};
@@ -9,7 +9,7 @@ ghost use Rattle.instances.specs.Homes.{all_home};
 ghost use Rattle.plain_eval.specs.Run.{IsRun};
 
 use crate::perform::perform;
-use crate::room::push;
+use index_spaces::room::push;
 use crate::waiting::Waiting;
 use graph_model::graph::Graph;
 use graph_model::laws::edges_between_lines;

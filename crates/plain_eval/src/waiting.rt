@@ -7,7 +7,8 @@ ghost use Rattle.graph_model.specs.Graph.{never_comes};
 ghost use Rattle.graph_model.specs.Edges.{edges_into};
 ghost use Rattle.plain_eval.specs.Waiting.{IsWaiting, IsFree, and_ended, starts_ready};
 
-use crate::room::{insert, push};
+use crate::numbers::insert;
+use index_spaces::room::push;
 use graph_model::graph::Graph;
 use graph_model::laws::edges_between_lines;
 use index_spaces::NoMemory;

@@ -16,7 +16,7 @@ use Rattle.graph_model.specs.Graph.{GraphValue, verb_at, columns}
 use Rattle.graph_model.specs.Access.{accesses, verb_accesses, kernel_accesses}
 use Rattle.graph_model.specs.Fits.{IsGraph}
 use Rattle.graph_model.specs.LineLaws.{AccessesFit}
-use Rattle.graph_model.proofs.ListFacts.{some_passes}
+use Rattle.basics.proofs.ListFacts.{some_passes}
 use Rattle.race_check.specs.Races.{uses, AreSpacesKnown}
 
 -- a line has at most three accesses

@@ -10,7 +10,7 @@ use Rattle.graph_model.specs.Edges.{edges}
 use Rattle.graph_model.specs.Path.{HasPath}
 use Rattle.graph_model.specs.Access.{verb_accesses}
 use Rattle.graph_model.specs.Rules.{ReleasedAt, SectionAt, DescendsAt, ReleaseFaultAt, RaceAt}
-use Rattle.graph_model.proofs.ListFacts.{contains_none}
+use Rattle.basics.proofs.ListFacts.{contains_none}
 use Rattle.graph_model.proofs.PathTable.{path_below}
 use Rattle.graph_model.proofs.VerbFacts.{passes_below}
 use Rattle.race_check.specs.Paths.{EdgesBetween}

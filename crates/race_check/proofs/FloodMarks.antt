@@ -11,7 +11,7 @@ use Rattle.graph_model.specs.declared.verb.EdgeKind.TheVariants.{Passes}
 use Rattle.graph_model.specs.Graph.{GraphValue, is_acquire_of}
 use Rattle.graph_model.specs.Edges.{edges, edges_out_of}
 use Rattle.graph_model.specs.Rules.{Acquires}
-use Rattle.graph_model.proofs.ListFacts.{filter_contains}
+use Rattle.basics.proofs.ListFacts.{filter_contains}
 use Rattle.race_check.specs.High.{unmarked, IsMarking, IsTarget}
 use Rattle.graph_model.specs.Laws.{EdgesBetweenLines}
 use Rattle.graph_model.specs.Fits.{IsGraph}

@@ -13,7 +13,7 @@ use Rattle.graph_model.specs.Need.{release_edges, IsHigh}
 use Rattle.graph_model.specs.Rules.{Acquires, Releases}
 use Rattle.graph_model.specs.Fits.{IsGraph}
 use Rattle.graph_model.specs.Laws.{EdgesBetweenLines}
-use Rattle.graph_model.proofs.ListFacts.{contains_none, contains_cases, contains_here, contains_there, filter_contains, contains_filter}
+use Rattle.basics.proofs.ListFacts.{contains_none, contains_cases, contains_here, contains_there, filter_contains, contains_filter}
 use Rattle.race_check.specs.High.{IsMarking, IsTarget, IsNext, AreAcquiresMarked, IsFlooded, IsFlooding, IsFlood, weight_of}
 use Rattle.graph_model.proofs.VerbFacts.{acquire_is, release_is, passes_below}
 use Rattle.race_check.proofs.FloodMarks.{marks_as, marks_more}

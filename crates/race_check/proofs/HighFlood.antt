@@ -4,7 +4,7 @@ use Rattle.std.specs.Prelude.{Contains, Option, Some, None, ◌==◌, flat_map, 
 use Rattle.std.specs.Option.{option_map_or}
 use Rattle.std.proofs.lemmas.Bool.{true≢false, or_cases, or_left, or_right, eq-eqb, eqb-true, cases_lt, cond-true, cond-false, cond_both}
 use Rattle.std.proofs.lemmas.List.Elements.{Contains-append_cases, Contains-append_left, Contains-append_right}
-use Rattle.index_spaces.specs.Space.{numbers_below}
+use Rattle.basics.specs.Lists.{numbers_below}
 use Rattle.graph_model.specs.declared.verb.Edge.{Edge}
 use Rattle.graph_model.specs.declared.verb.EdgeKind.TheVariants.{Passes}
 use Rattle.graph_model.specs.declared.verb.Line.{Line}
@@ -15,7 +15,7 @@ use Rattle.graph_model.specs.Edges.{edge, edges}
 use Rattle.graph_model.specs.Path.{last}
 use Rattle.graph_model.specs.Rules.{Acquires, Releases}
 use Rattle.graph_model.specs.Need.{places, rivals, acquires_after, release_edges, need_edges, Precedes, IsHigh}
-use Rattle.graph_model.proofs.ListFacts.{contains_none, contains_cases, contains_here, contains_there, map_contains, contains_map, contains_below}
+use Rattle.basics.proofs.ListFacts.{contains_none, contains_cases, contains_here, contains_there, map_contains, contains_map, contains_below}
 use Rattle.graph_model.proofs.PathLaws.{path_append, along_path}
 use Rattle.graph_model.proofs.PathTable.{path_below}
 use Rattle.race_check.specs.Paths.{EdgesBetween}

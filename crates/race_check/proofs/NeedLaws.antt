@@ -1,14 +1,14 @@
--- A graph has one need, and the need is found in one sweep over a tally of the high numbers.
+-- The need is found in one sweep over a tally of the high numbers.
 use Rattle.std.proofs.Common.{◌≡◌, ℕ, zero, suc, ◌+◌, ◌-◌, ◌<◌, ◌≤◌, max, Bool, true, false, cond, inl, inr, List, [], ◌∷◌, ◌++◌, length, take, map, refl, sym, ◌∙◌, ap, subst, arith}
 use Rattle.std.specs.Prelude.{◌==◌, nat_lt, slice_index, count_by}
 use Rattle.std.proofs.lemmas.Bool.{true≢false, lt-ltb, le-ltb, eq-eqb, ne_eqb, cases_order, cases_eq}
 use Rattle.std.proofs.lemmas.List.{length-take}
-use Rattle.std.proofs.lemmas.List.FromFn.{fill_by_all, map-range_with_len_more}
+use Rattle.std.proofs.lemmas.List.FromFn.{map-range_with_len_more}
 use Rattle.std.proofs.lemmas.List.Sums.{count_by_more_yes, count_by_more_no, count_by-le-length}
-use Rattle.index_spaces.specs.Space.{numbers_below}
+use Rattle.basics.specs.Lists.{numbers_below}
 use Rattle.graph_model.specs.Graph.{GraphValue}
 use Rattle.graph_model.specs.Need.{IsHigh, IsNeed, open_at, largest}
-use Rattle.graph_model.proofs.ListFacts.{count_below}
+use Rattle.basics.specs.Lists.{count_below}
 use Rattle.race_check.specs.Sweep.{open_after, most_open, sweep, IsTally, AreAbove}
 
 -- how many of the first k elements pass, by their places
@@ -21,25 +21,6 @@ count_of_first p xs zero h = refl
 count_of_first p xs (suc k) h =
     let one : suc k ≡ k + 1 = omega arith in
     ap (λ j. count_by p (take j xs)) one ∙ (count_suc p xs k (p (slice_index xs k)) (omega arith) refl ∙ ap (λ c. cond (p (slice_index xs k)) 1 0 + c) (count_of_first p xs k (omega arith)))
-
-high_up : (g : GraphValue) (i h k : ℕ) → IsHigh g i h → IsHigh g i k → h ≤ k
-high_up g i h k a b = elim a.attained.2 [
-  | inl e ↦ (let m : a.attained.0 < k = b.above a.attained.0 a.attained.1 in omega arith)
-  | inr never ↦ (let all : k ≡ length g.lines + 1 = b.above_all a.attained.0 a.attained.1 never.0 in let own : h ≡ length g.lines + 1 = never.1 in omega arith)
-]
-
--- a line has one high number
-pub one_high : (g : GraphValue) (i h k : ℕ) → IsHigh g i h → IsHigh g i k → h ≡ k
-one_high g i h k a b = let up : h ≤ k = high_up g i h k a b in let down : k ≤ h = high_up g i k h b a in omega arith
-
-same_lists : (xs ys : List ℕ) (n : ℕ) → length xs ≡ n → length ys ≡ n → ((i : ℕ) → i < n → slice_index xs i ≡ slice_index ys i) → xs ≡ ys
-same_lists xs ys n a b same = fill_by_all (slice_index ys) xs n 0 a same ∙ sym (fill_by_all (slice_index ys) ys n 0 b (λ k h. refl))
-
--- a graph has one need
-pub one_need : (g : GraphValue) (n m : ℕ) → IsNeed g n → IsNeed g m → n ≡ m
-one_need g n m a b =
-    let same : a.highs ≡ b.highs = same_lists a.highs b.highs (length g.lines) a.each_line b.each_line (λ i h. one_high g i (slice_index a.highs i) (slice_index b.highs i) (a.high i h) (b.high i h)) in
-    a.most ∙ (ap (λ hs. 1 + largest (map (open_at hs) (numbers_below (length g.lines)))) same ∙ sym b.most)
 
 split_by : (h k : ℕ) → cond (nat_lt (k + 1) h) 1 0 + cond (h == k + 1) 1 0 ≡ cond (nat_lt k h) 1 0
 split_by h k = elim (cases_order h (k + 1)) [

@@ -12,7 +12,7 @@ use Rattle.graph_model.specs.Graph.{GraphValue}
 use Rattle.graph_model.specs.Edges.{edges, edges_into, edges_out_of}
 use Rattle.graph_model.specs.Path.{HasPath}
 use Rattle.graph_model.specs.Rules.{NoCycleAt, Everywhere}
-use Rattle.graph_model.proofs.ListFacts.{contains_none, filter_contains}
+use Rattle.basics.proofs.ListFacts.{contains_none, filter_contains}
 use Rattle.graph_model.proofs.PathTable.{path_below}
 use Rattle.race_check.specs.Paths.{EdgesBetween}
 use Rattle.race_check.specs.Order.{is_in, IsTaking, IsOrdered, IsCounted, HasRoom}

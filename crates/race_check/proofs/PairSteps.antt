@@ -13,7 +13,7 @@ use Rattle.graph_model.specs.Graph.{GraphValue}
 use Rattle.graph_model.specs.Fits.{IsGraph}
 use Rattle.graph_model.specs.Laws.{EdgesBetweenLines}
 use Rattle.graph_model.specs.Rules.{Acquires, Releases, SectionAt, DescendsAt, Everywhere, EverywhereTwice, FailsFirst, FailsFirstTwice}
-use Rattle.graph_model.proofs.RulesTable.{lock_at, is_lower}
+use Rattle.graph_model.specs.Reservations.{lock_at, is_lower}
 use Rattle.race_check.specs.Paths.{PathsValue, path_in, word_bit, IsPathTable}
 use Rattle.race_check.specs.Words.{IsWordOf, NoneBelow}
 use Rattle.race_check.specs.RuleWords.{lies_outside, AreNeverPhases, lies_inside, acquires_up_to, IsLowRow}

@@ -10,7 +10,7 @@ use Rattle.graph_model.specs.Graph.{GraphValue}
 use Rattle.graph_model.specs.Edges.{edges, edges_into, edges_out_of}
 use Rattle.graph_model.specs.Path.{HasPath}
 use Rattle.graph_model.specs.Rules.{NoCycleAt, Everywhere}
-use Rattle.graph_model.proofs.ListFacts.{filter_contains}
+use Rattle.basics.proofs.ListFacts.{filter_contains}
 use Rattle.graph_model.proofs.PathTable.{path_below}
 use Rattle.race_check.specs.Paths.{EdgesBetween, IsPairTestOf, PathsValue, IsPathTable, AreTurned, IsFilled, IsRow, IsBack, word_bit, words_for}
 use Rattle.race_check.specs.Order.{is_in, IsOrdered}

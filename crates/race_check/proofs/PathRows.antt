@@ -14,7 +14,7 @@ use Rattle.graph_model.specs.Graph.{GraphValue}
 use Rattle.graph_model.specs.Edges.{edges, edges_out_of, edges_into}
 use Rattle.graph_model.specs.Path.{Path, last, first, HasPath}
 use Rattle.graph_model.specs.Rules.{NoCycleAt, Everywhere, IsCycle}
-use Rattle.graph_model.proofs.ListFacts.{contains_none, contains_cases, contains_here, filter_contains, contains_filter}
+use Rattle.basics.proofs.ListFacts.{contains_none, contains_cases, contains_here, filter_contains, contains_filter}
 use Rattle.graph_model.proofs.PathLaws.{along_path, path_append}
 use Rattle.race_check.specs.Paths.{IsPairTestOf, word_bit, IsRow, IsBack}
 use Rattle.race_check.specs.Search.{IsSearching}

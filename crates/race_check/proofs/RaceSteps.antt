@@ -17,7 +17,7 @@ use Rattle.graph_model.specs.Graph.{GraphValue}
 use Rattle.graph_model.specs.Path.{HasPath}
 use Rattle.graph_model.specs.Access.{accesses, AccessesConflict, Conflict}
 use Rattle.graph_model.specs.Rules.{RaceAt, Exempt, modes_commute, Everywhere, FailsFirst}
-use Rattle.graph_model.proofs.ListFacts.{some_passes}
+use Rattle.basics.proofs.ListFacts.{some_passes}
 use Rattle.race_check.specs.Paths.{PathsValue, path_in, IsPathTable}
 use Rattle.race_check.specs.Races.{AreAccesses, ListsClash, LinesClash, uses, shares_column, is_suspect}
 use Rattle.race_check.specs.Summaries.{ApartIn}

@@ -10,7 +10,7 @@ use Rattle.graph_model.specs.Graph.{GraphValue, line_passes, is_merge_ignore, is
 use Rattle.graph_model.specs.Fits.{IsGraph, on_lines, named_lines}
 use Rattle.graph_model.specs.Rules.{Acquires, Releases, ReleasedAt, ReleaseFaultAt, Everywhere}
 use Rattle.graph_model.proofs.GraphFacts.{named_below}
-use Rattle.graph_model.proofs.ListFacts.{contains_here}
+use Rattle.basics.proofs.ListFacts.{contains_here}
 use Rattle.race_check.specs.Paths.{PathsValue, path_in, IsPathTable}
 use Rattle.race_check.specs.Releases.{release_in, AreReleases}
 use Rattle.graph_model.proofs.VerbFacts.{passes_below, release_is, is_release_from, release_of_is}

@@ -12,8 +12,9 @@ use Rattle.graph_model.specs.Graph.{GraphValue, verb_at, line_passes, is_phase, 
 use Rattle.graph_model.specs.Path.{HasPath}
 use Rattle.graph_model.specs.Access.{accesses, AccessesConflict}
 use Rattle.graph_model.specs.Rules.{Acquires, Releases, Section, SectionAt, DescendsAt}
-use Rattle.graph_model.proofs.ListFacts.{contains_here, contains_there}
-use Rattle.graph_model.proofs.RulesTable.{freed_by, lock_at, acquire_at, implies, implied, is_lower}
+use Rattle.basics.proofs.ListFacts.{contains_here, contains_there}
+use Rattle.graph_model.proofs.RulesTable.{implies, implied}
+use Rattle.graph_model.specs.Reservations.{freed_by, lock_at, acquire_at, is_lower}
 use Rattle.race_check.proofs.RuleFacts.{releases_acquire}
 use Rattle.race_check.specs.Paths.{IsPairTestOf}
 use Rattle.race_check.specs.Releases.{IsReleaseTable}

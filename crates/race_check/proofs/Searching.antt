@@ -10,7 +10,7 @@ use Rattle.graph_model.specs.declared.verb.Edge.{Edge}
 use Rattle.graph_model.specs.Graph.{GraphValue}
 use Rattle.graph_model.specs.Edges.{edges, edges_out_of}
 use Rattle.graph_model.specs.Path.{HasPath}
-use Rattle.graph_model.proofs.ListFacts.{contains_none, contains_cases, contains_here, contains_there, filter_contains, contains_filter}
+use Rattle.basics.proofs.ListFacts.{contains_none, contains_cases, contains_here, contains_there, filter_contains, contains_filter}
 use Rattle.race_check.specs.Paths.{EdgesBetween}
 use Rattle.race_check.specs.Search.{IsSearching, IsMarking, marked_in, unmarked}
 use Rattle.race_check.proofs.PathRows.{search_begins, search_more, search_is}

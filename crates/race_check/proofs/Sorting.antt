@@ -10,7 +10,8 @@ use Rattle.graph_model.specs.declared.verb.Edge.{Edge}
 use Rattle.graph_model.specs.Graph.{GraphValue}
 use Rattle.graph_model.specs.Edges.{edges, edges_out_of}
 use Rattle.graph_model.specs.Rules.{NoCycleAt, Everywhere}
-use Rattle.graph_model.proofs.ListFacts.{contains_none, contains_cases, contains_here, contains_there, some_passes, passes_some, count_below, count_below-max, fewer_below}
+use Rattle.basics.proofs.ListFacts.{contains_none, contains_cases, contains_here, contains_there, some_passes, passes_some, count_below-max, fewer_below}
+use Rattle.basics.specs.Lists.{count_below}
 use Rattle.graph_model.proofs.ReadyLine.{ready_or_never}
 use Rattle.race_check.specs.Paths.{EdgesBetween}
 use Rattle.race_check.specs.Order.{is_in, awaits, IsTaking, HasRoom}

@@ -1,7 +1,6 @@
 pub mod Paths
 pub mod Order
 pub mod Search
-pub mod Checked
 pub mod Refusal
 pub mod High
 pub mod Sweep
@@ -11,4 +10,3 @@ pub mod RuleWords
 pub mod Races
 pub mod Summaries
 pub mod Rivals
-pub mod Laws

@@ -4,7 +4,7 @@ use Rattle.std.specs.List.{list_any}
 use Rattle.graph_model.specs.declared.verb.Edge.{Edge}
 use Rattle.graph_model.specs.Graph.{GraphValue}
 use Rattle.graph_model.specs.Edges.{edges, edges_into}
-use Rattle.graph_model.proofs.ListFacts.{count_below}
+use Rattle.basics.specs.Lists.{count_below}
 
 -- a number is in a list
 abbrev pub is_in : List ℕ → ℕ → Bool

@@ -7,7 +7,7 @@ ghost use Rattle.graph_model.specs.Access.{accesses, modes_clash};
 ghost use Rattle.graph_model.specs.Rules.{modes_commute};
 ghost use Rattle.race_check.specs.Races.{AreAccesses, AreSpacesKnown, Clash, ListsClash, uses};
 
-use crate::room::push;
+use index_spaces::room::push;
 use graph_model::graph::Graph;
 use graph_model::verb::{Access, Mode};
 use index_spaces::NoMemory;

@@ -10,7 +10,7 @@ ghost use Rattle.race_check.specs.RuleWords.{lies_inside, acquires_up_to, IsLowR
 
 use crate::paths::PathTable;
 use crate::reservations::acquired;
-use crate::room::push;
+use index_spaces::room::push;
 use crate::rows::{add_line, empty_row, word_at};
 use graph_model::graph::Graph;
 use graph_model::laws::edges_between_lines;

@@ -8,7 +8,7 @@ ghost use Rattle.graph_model.specs.Need.{IsHigh};
 ghost use Rattle.race_check.specs.High.{IsMarking, IsTarget, IsNext, AreAcquiresMarked, weight_of, IsFlooding, IsFlood};
 
 use crate::reservations::{acquires, freed};
-use crate::room::{push, zeros};
+use index_spaces::room::{filled, push};
 use graph_model::graph::Graph;
 use graph_model::laws::edges_between_lines;
 use index_spaces::NoMemory;
@@ -53,7 +53,7 @@ impl Marks {
         ensures none { IfOk result (λ m. (i : ℕ) → slice_index m.highs.items i ≡ 0) }
         ensures stack { IfOk result (λ m. m.stack.items ≡ []) }
     {
-        let highs = zeros(alloc, graph.lines() as usize)?;
+        let highs = filled(alloc, 0, graph.lines() as usize)?;
         Ok(Marks {
             highs,
             stack: Vec::new(alloc),

@@ -5,7 +5,7 @@ ghost use Rattle.graph_model.specs.Need.{IsNeed};
 ghost use Rattle.race_check.specs.Sweep.{AreAbove, IsTally, most_open};
 
 use crate::high::high_numbers;
-use crate::room::zeros;
+use index_spaces::room::filled;
 use graph_model::graph::Graph;
 use graph_model::laws::edges_between_lines;
 use index_spaces::NoMemory;
@@ -29,7 +29,7 @@ fn tally(alloc: Global, highs: &[u32]) -> Result<Vec<u32>, NoMemory>
     ensures size { IfOk result (λ t. length t.items ≡ length highs.now + 2) }
     ensures tallied { IfOk result (λ t. IsTally t.items highs.now (length highs.now + 1) (length highs.now)) }
 {
-    let mut tally = zeros(alloc, highs.len() + 2)?;
+    let mut tally = filled(alloc, 0, highs.len() + 2)?;
     for high in highs {
         tally[*high as usize] += 1;
     }

@@ -4,7 +4,7 @@ ghost use Rattle.std.specs.Prelude.{◌≡◌, ℕ, ◌+◌, ◌-◌, ◌<◌, �
 ghost use Rattle.graph_model.specs.Edges.{edges_into, edges_out_of};
 ghost use Rattle.race_check.specs.Order.{IsTaking, IsOrdered, IsCounted, HasRoom};
 
-use crate::room::push;
+use index_spaces::room::push;
 use graph_model::graph::Graph;
 use graph_model::laws::edges_between_lines;
 use index_spaces::NoMemory;

@@ -9,7 +9,7 @@ ghost use Rattle.race_check.specs.Paths.{IsPathTable, IsFilled, IsRow, IsBack, p
 
 use crate::bits::Bits;
 use crate::order::Order;
-use crate::room::push;
+use index_spaces::room::push;
 use graph_model::graph::Graph;
 use graph_model::laws::edges_between_lines;
 use index_spaces::NoMemory;

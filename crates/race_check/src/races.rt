@@ -11,7 +11,7 @@ ghost use Rattle.race_check.specs.Rivals.{AreRivals};
 
 use crate::conflicts::{MOST_ACCESSES, accesses_of_lines, some_clash, uses};
 use crate::paths::PathTable;
-use crate::room::push;
+use index_spaces::room::push;
 use crate::rows::{add_line, empty_row, has_bit, word_at};
 use crate::summaries::{Summary, are_apart, summaries};
 use graph_model::graph::Graph;

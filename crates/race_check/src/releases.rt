@@ -8,7 +8,7 @@ ghost use Rattle.race_check.specs.Releases.{AreReleases};
 
 use crate::paths::PathTable;
 use crate::reservations::{acquired, released};
-use crate::room::push;
+use index_spaces::room::filled;
 use graph_model::graph::Graph;
 use index_spaces::NoMemory;
 use std::alloc::Global;
@@ -18,25 +18,13 @@ pub(crate) fn releases(alloc: Global, graph: &Graph) -> Result<Vec<Option<u32>>,
     ensures { IfOk result (λ v. AreReleases graph.now v.items) }
 {
     let lines = graph.lines();
-    let mut releases = nones(alloc, lines)?;
+    let mut releases = filled(alloc, None, lines as usize)?;
     for line in 0..lines {
         if let Some(acquire) = released(graph, line) {
             releases[acquire as usize] = Some(line);
         }
     }
     Ok(releases)
-}
-
-/// So many times `None`.
-pub(crate) fn nones(alloc: Global, count: u32) -> Result<Vec<Option<u32>>, NoMemory>
-    ensures size { IfOk result (λ v. length v.items ≡ count) }
-    ensures nones { IfOk result (λ v. (i : ℕ) → slice_index_or v.items i None ≡ None) }
-{
-    let mut items = Vec::new(alloc);
-    for _item in 0..count {
-        push(&mut items, None)?;
-    }
-    Ok(items)
 }
 
 /// The least acquire that has no release with a path from it.

@@ -4,7 +4,7 @@ ghost use Rattle.std.specs.Prelude.{◌≡◌, ℕ, ◌<◌, ◌/◌, ◌==◌, 
 ghost use Rattle.race_check.specs.Paths.{word_bit};
 ghost use Rattle.race_check.specs.Words.{IsWordOf, bit_in};
 
-use crate::room::push;
+use index_spaces::room::push;
 use index_spaces::NoMemory;
 use std::alloc::Global;
 

@@ -9,9 +9,8 @@ ghost use Rattle.race_check.specs.Releases.{AreReleases};
 ghost use Rattle.race_check.specs.Summaries.{AreSummaries, AreSummed, ApartIn, IsNoted, MayBeApartBy};
 
 use crate::paths::PathTable;
-use crate::releases::nones;
 use crate::reservations::acquires;
-use crate::room::push;
+use index_spaces::room::{filled, push};
 use graph_model::graph::Graph;
 use index_spaces::NoMemory;
 use std::alloc::Global;
@@ -70,7 +69,7 @@ impl Summary {
         ensures { IfOk result (λ s. (l : ℕ) → AreSummaries graph.now l 0 s.first.items s.more.items) }
     {
         let lines = graph.lines();
-        let first = nones(alloc, lines)?;
+        let first = filled(alloc, None, lines as usize)?;
         let mut more = Vec::new(alloc);
         for _line in 0..lines {
             push(&mut more, false)?;

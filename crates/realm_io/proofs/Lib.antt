@@ -1,3 +1,2 @@
 pub mod ToldFacts
 pub mod WrittenLaws
-pub mod DigitLoop

@@ -2,4 +2,3 @@ pub mod Counts
 pub mod Told
 pub mod Memory
 pub mod Written
-pub mod Numbers

@@ -12,7 +12,7 @@ use Rattle.graph_model.specs.Need.{IsNeed}
 use Rattle.graph_model.specs.Evaluation.{outcome}
 use Rattle.graph_model.specs.declared.outcome.Outcome.{Outcome}
 use Rattle.graph_reader.specs.Text.{text}
-use Rattle.race_check.specs.Laws.{OneNeed}
+use Rattle.graph_model.specs.Laws.{OneNeed}
 use Rattle.graph_gen.specs.MadeGraph.{made_graph}
 use Rattle.realm_top.specs.declared.status.Status.{Status}
 use Rattle.realm_top.specs.declared.status.Status.TheVariants.{Done, Usage, WriteFault, NoMemory, Slots}

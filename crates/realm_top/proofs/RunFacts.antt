@@ -2,10 +2,10 @@
 use Rattle.std.proofs.Common.{◌≡◌, ℕ, zero, suc, ◌+◌, ◌<◌, ◌≤◌, List, [], ◌∷◌, map, length, take, arith}
 use Rattle.std.specs.Prelude.{Contains, nat_lt}
 use Rattle.std.proofs.lemmas.List.Sums.{count_by-le-length}
-use Rattle.index_spaces.specs.Space.{numbers_below}
+use Rattle.basics.specs.Lists.{numbers_below}
 use Rattle.graph_model.specs.Graph.{GraphValue}
 use Rattle.graph_model.specs.Need.{open_at, largest, IsNeed}
-use Rattle.graph_model.proofs.ListFacts.{contains_here, contains_there, map_contains, below_contains}
+use Rattle.basics.proofs.ListFacts.{contains_here, contains_there, map_contains, below_contains}
 
 largest_at_most : (xs : List ℕ) (m : ℕ) → ((x : ℕ) → Contains xs x → x ≤ m) → largest xs ≤ m
 largest_at_most [] m h = omega arith

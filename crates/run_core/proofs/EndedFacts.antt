@@ -13,7 +13,8 @@ use Rattle.graph_model.specs.declared.verb.Verb.TheVariants.{User, Trigger, Canc
 use Rattle.graph_model.specs.Graph.{GraphValue, columns, column_space, verb_at, is_release_of}
 use Rattle.graph_model.specs.Rules.{Releases}
 use Rattle.graph_model.specs.Evaluation.{is_ended, evaluation, eval_end}
-use Rattle.graph_model.proofs.ListFacts.{count_below, count_below-max, fewer_below}
+use Rattle.basics.proofs.ListFacts.{count_below-max, fewer_below}
+use Rattle.basics.specs.Lists.{count_below}
 use Rattle.graph_model.proofs.Waiting.{end_in_ended, steps_end}
 use Rattle.index_spaces.specs.Held.{held_at}
 use Rattle.gen_events.specs.declared.handle.Handle.{Handle}

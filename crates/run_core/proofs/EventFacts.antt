@@ -6,7 +6,7 @@ use Rattle.std.proofs.lemmas.List.{get_or-set_same, get_or-set_other}
 use Rattle.std.proofs.lemmas.Option.{none-some, same_Some, slice_get_within, slice_get-get_or, get_or_from_slice_get}
 use Rattle.graph_model.specs.declared.outcome.End.{End}
 use Rattle.graph_model.specs.Graph.{GraphValue}
-use Rattle.graph_model.proofs.ListFacts.{count_below}
+use Rattle.basics.specs.Lists.{count_below}
 use Rattle.gen_events.specs.declared.handle.Handle.{Handle}
 use Rattle.gen_events.specs.declared.handle.Fate.{Fate}
 use Rattle.gen_events.specs.declared.handle.Answer.TheVariants.{Pending}
@@ -17,7 +17,7 @@ use Rattle.gen_events.proofs.MapAnswers.{in_idle, is_now, IsNow, life_here, life
 use Rattle.run_state.specs.Run.{LineStage, Unissued, Issued, Ended, stage_at, stage_issued, stage_ended, end_so_far, issued, ended}
 use Rattle.run_state.specs.Start.{start}
 use Rattle.run_state.proofs.Start.{same_at}
-use Rattle.graph_model.proofs.ListFacts.{contains_none, contains_cases}
+use Rattle.basics.proofs.ListFacts.{contains_none, contains_cases}
 use Rattle.run_core.specs.Core.{answer_for, created_in, pending_in, count_left, WaitsFor, AreEvents}
 
 -- BEFORE ANY LINE IS ISSUED

@@ -9,7 +9,8 @@ use Rattle.graph_model.specs.declared.verb.Access.{Access}
 use Rattle.graph_model.specs.Graph.{GraphValue}
 use Rattle.graph_model.specs.Access.{accesses}
 use Rattle.graph_model.specs.Evaluation.{eval_end}
-use Rattle.graph_model.proofs.ListFacts.{count_below, count_below-le, fewer_below, map_contains}
+use Rattle.basics.proofs.ListFacts.{count_below-le, fewer_below, map_contains}
+use Rattle.basics.specs.Lists.{count_below}
 use Rattle.gen_events.specs.declared.handle.Handle.{Handle}
 use Rattle.gen_events.specs.EventMap.{SlotLife, IsFull}
 use Rattle.run_state.specs.Run.{LineStage, Unissued, Issued, Out, Ending, Ended, Run, stage_at, stage_issued, stage_ended, stage_out, issued, out, ended}

@@ -16,7 +16,7 @@ use Rattle.gen_events.proofs.Sums.{Contains-tail}
 use Rattle.gen_events.proofs.MapAnswers.{near_some, answer_apart}
 use Rattle.run_core.specs.Events.{EventsValue, IsBusy, AreMarked}
 use Rattle.run_core.proofs.EventFacts.{replicate_at}
-use Rattle.graph_model.proofs.ListFacts.{contains_none, contains_cases, contains_map}
+use Rattle.basics.proofs.ListFacts.{contains_none, contains_cases, contains_map}
 
 replicate_get : {X : Type 0} (n i : ℕ) (x y : X) → slice_get (replicate n x) i ≡ Some y → x ≡ y
 replicate_get n i x y e = sym (get_or-replicate n i x x (subst (λ k. i < k) (length-replicate n x) (slice_get_within (replicate n x) i y e))) ∙ get_or_from_slice_get (replicate n x) i y x e

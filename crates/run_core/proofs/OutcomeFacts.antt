@@ -6,7 +6,7 @@ use Rattle.std.proofs.lemmas.Bool.{true≢false, cases_lt, cases_order}
 use Rattle.std.proofs.lemmas.List.{length-map, length-replicate, get_or_past, get_or-map}
 use Rattle.std.proofs.lemmas.List.FromFn.{fill_by_all, get_or-map-range_with_len, length-map-range_with_len}
 use Rattle.std.proofs.lemmas.Option.{none-some, same_Some, slice_get-get_or, get_or_from_slice_get}
-use Rattle.index_spaces.specs.Space.{numbers_below}
+use Rattle.basics.specs.Lists.{numbers_below}
 use Rattle.index_spaces.specs.Column.{ColumnValue}
 use Rattle.graph_model.specs.declared.outcome.End.{End}
 use Rattle.graph_model.specs.declared.outcome.End.TheVariants.{Done, Faulted, Cancelled, Waiting}

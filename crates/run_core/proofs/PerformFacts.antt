@@ -12,7 +12,7 @@ use Rattle.graph_model.specs.declared.verb.Access.{Access}
 use Rattle.graph_model.specs.Access.{accesses}
 use Rattle.graph_model.specs.Effect.{Cells, CellChange, effect, cells_after}
 use Rattle.graph_model.specs.Evaluation.{eval_end, end_by, made_by, column_of}
-use Rattle.graph_model.proofs.ListFacts.{map_contains}
+use Rattle.basics.proofs.ListFacts.{map_contains}
 use Rattle.line_effects.specs.Moved.{moves, HeldShow}
 use Rattle.line_effects.proofs.MadeFacts.{all_made}
 use Rattle.run_state.specs.Run.{stage_out}

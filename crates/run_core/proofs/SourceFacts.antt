@@ -11,7 +11,7 @@ use Rattle.graph_model.specs.Edges.{edges, edges_into}
 use Rattle.graph_model.specs.Evaluation.{cancels}
 use Rattle.graph_model.specs.Fits.{IsGraph}
 use Rattle.graph_model.specs.Laws.{EdgesBetweenLines}
-use Rattle.graph_model.proofs.ListFacts.{contains_cases, contains_here, contains_none, filter_contains, contains_filter}
+use Rattle.basics.proofs.ListFacts.{contains_cases, contains_here, contains_none, filter_contains, contains_filter}
 use Rattle.run_state.specs.Run.{LineStage, Unissued, stage_at, end_so_far, ended}
 use Rattle.run_core.specs.Core.{WaitsFor}
 use Rattle.run_core.specs.Kept.{shown_stage}

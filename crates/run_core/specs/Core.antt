@@ -15,7 +15,7 @@ use Rattle.run_state.specs.Run.{LineStage, Run, stage_at, end_so_far, issued, en
 use Rattle.run_state.specs.Sound.{Sound}
 use Rattle.run_state.specs.AtRest.{AtRest}
 use Rattle.run_state.specs.Start.{start}
-use Rattle.graph_model.proofs.ListFacts.{count_below}
+use Rattle.basics.specs.Lists.{count_below}
 
 -- a graph, the state of its run, the handles of the issued lines in file order, and the table of events
 pub record CoreValue : Type 0 where

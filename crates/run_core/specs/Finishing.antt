@@ -1,6 +1,6 @@
 -- What a run on one thread keeps until nothing moves.
 use Rattle.std.specs.Prelude.{◌≡◌, ℕ, ◌+◌, ◌≤◌, false, not, length}
-use Rattle.graph_model.proofs.ListFacts.{count_below}
+use Rattle.basics.specs.Lists.{count_below}
 use Rattle.run_state.specs.Run.{out, issued, ended}
 use Rattle.run_core.specs.Core.{CoreValue}
 

@@ -3,7 +3,7 @@
 ghost use Rattle.std.specs.Prelude.{◌≡◌, ◌≤◌};
 ghost use Rattle.gen_events.specs.EventMap.{EventMap};
 
-use crate::room::{filled, push_within, with_room};
+use index_spaces::room::{filled, push_within, with_room};
 use gen_events::{Answer, EventTable, Fate, Handle, WatchNow};
 use index_spaces::NoMemory;
 use std::alloc::Global;

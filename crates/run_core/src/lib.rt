@@ -8,7 +8,6 @@ mod events;
 mod holders;
 mod phases;
 mod progress;
-mod room;
 mod run;
 mod sources;
 #[cfg(test)]

@@ -1,12 +1,12 @@
 //! The values of phases so far.
 
 ghost use Rattle.std.specs.Prelude.{◌≡◌, ◌<◌, length, map, IfOk};
-ghost use Rattle.index_spaces.specs.Space.{numbers_below};
+ghost use Rattle.basics.specs.Lists.{numbers_below};
 ghost use Rattle.run_state.specs.Start.{first_value};
 ghost use Rattle.run_state.specs.WholeLine.{values_with, phase_op};
 ghost use Rattle.run_core.specs.Kept.{arrival_of};
 
-use crate::room::{push_within, with_room};
+use index_spaces::room::{push_within, with_room};
 use graph_model::graph::Graph;
 use graph_model::laws::edges_between_lines;
 use graph_model::line_laws::phases_fit;

@@ -1,7 +1,7 @@
 -- Counts of the numbers that pass a test.
 use Rattle.std.proofs.Common.{◌≡◌, ℕ, zero, suc, ◌+◌, ◌<◌, ◌≤◌, Bool, true, false, cond, inl, inr, refl, ◌∙◌, ap, arith}
 use Rattle.std.proofs.lemmas.Bool.{cases_eq, false_from_ne_true}
-use Rattle.graph_model.proofs.ListFacts.{count_below}
+use Rattle.basics.specs.Lists.{count_below}
 
 abbrev one_if : Bool → ℕ
 one_if b = cond b 1 0

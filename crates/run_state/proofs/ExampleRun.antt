@@ -15,7 +15,7 @@ use Rattle.graph_model.specs.Rules.{Accepted}
 use Rattle.graph_model.specs.Evaluation.{eval_end, order}
 use Rattle.graph_model.specs.Fits.{IsGraph}
 use Rattle.graph_model.proofs.Examples.{one_fill, two_sections, reserved_sums}
-use Rattle.graph_model.proofs.ListFacts.{passes_each}
+use Rattle.basics.proofs.ListFacts.{passes_each}
 use Rattle.graph_model.proofs.RulesTable.{implies, implied, accepted_by_tests}
 use Rattle.graph_model.proofs.ExampleAccepted.{reserved_sums-accepted}
 use Rattle.run_state.specs.Run.{LineStage, Unissued, Issued, Out, Ending, Ended, Place, Home, Had, Run, stage_at, time_at, place_at, list_at, stage_issued, stage_out, stage_over, stage_ended, ended, issued}

@@ -1,7 +1,7 @@
 -- A quiet state gives the outcome of the evaluation.
 use Rattle.std.proofs.Common.{◌≡◌, ℕ, List, length, map, refl, ◌∙◌, ap}
 use Rattle.std.specs.Prelude.{Option, Some, None, slice_index}
-use Rattle.index_spaces.specs.Space.{numbers_below}
+use Rattle.basics.specs.Lists.{numbers_below}
 use Rattle.index_spaces.specs.Column.{ColumnValue}
 use Rattle.graph_model.specs.declared.outcome.End.{End}
 use Rattle.graph_model.specs.declared.outcome.End.TheVariants.{Done, Faulted, Cancelled, Waiting}

@@ -8,7 +8,7 @@ use Rattle.graph_model.specs.declared.outcome.End.TheVariants.{Done, Cancelled}
 use Rattle.graph_model.specs.Graph.{GraphValue}
 use Rattle.graph_model.specs.Rules.{Acquires, Releases}
 use Rattle.graph_model.specs.Evaluation.{is_ended, eval_end}
-use Rattle.graph_model.proofs.ListFacts.{count_below-max}
+use Rattle.basics.proofs.ListFacts.{count_below-max}
 use Rattle.graph_model.specs.Trace.{StandsBefore, IsLawful}
 use Rattle.run_state.specs.Run.{Run, stage_at, time_at, ended, timed}
 use Rattle.run_state.specs.Sound.{Sound}

@@ -6,7 +6,8 @@ use Rattle.std.proofs.lemmas.Bool.{true≢false, cases_lt}
 use Rattle.std.proofs.lemmas.Option.{none-some, slice_get_past}
 use Rattle.std.proofs.lemmas.List.{get_or_past}
 use Rattle.std.proofs.lemmas.List.FromFn.{get_or-map-range_with_len, length-map-range_with_len}
-use Rattle.index_spaces.specs.Space.{numbers_below, points}
+use Rattle.index_spaces.specs.Space.{points}
+use Rattle.basics.specs.Lists.{numbers_below}
 use Rattle.graph_model.specs.declared.verb.Verb.{Verb}
 use Rattle.graph_model.specs.declared.verb.Verb.TheVariants.{Phase}
 use Rattle.graph_model.specs.declared.decl.BarrierInfo.{BarrierInfo}

@@ -12,7 +12,7 @@ use Rattle.graph_model.specs.Effect.{CellChange, Effect, effect}
 use Rattle.graph_model.specs.Evaluation.{has_ended, cells_of, cancels, is_cancelled, step_by, evaluation, eval_end, eval_changes}
 use Rattle.graph_model.specs.Fits.{IsGraph}
 use Rattle.graph_model.proofs.Cancelled.{not_cancelled_of}
-use Rattle.graph_model.proofs.ListFacts.{contains_none, filter_contains}
+use Rattle.basics.proofs.ListFacts.{contains_none, filter_contains}
 use Rattle.graph_model.proofs.Races.{before_ended}
 use Rattle.graph_model.proofs.Waiting.{left_is_reached}
 use Rattle.graph_model.proofs.Turns.{ends_by_turn, list_any_agree}

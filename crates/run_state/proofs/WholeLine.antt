@@ -13,7 +13,7 @@ use Rattle.graph_model.specs.Graph.{GraphValue, verb_at, is_acquire_of}
 use Rattle.graph_model.specs.Access.{accesses}
 use Rattle.graph_model.specs.Rules.{Acquires}
 use Rattle.graph_model.specs.Evaluation.{eval_end}
-use Rattle.graph_model.proofs.ListFacts.{contains_map, map_contains}
+use Rattle.basics.proofs.ListFacts.{contains_map, map_contains}
 use Rattle.run_state.specs.Run.{Unissued, Issued, Out, Place, Home, Had, Run, is_listed, stage_at, place_at, list_at, stage_issued, stage_out, stage_started, stage_over, stage_ended, started, ended, timed}
 use Rattle.run_state.specs.Sound.{AccessesColumn, Sound}
 use Rattle.run_state.specs.Moves.{claim, column_out}

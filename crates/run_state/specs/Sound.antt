@@ -14,7 +14,7 @@ use Rattle.graph_model.specs.Access.{accesses}
 use Rattle.graph_model.specs.Rules.{Acquires, Releases, Accepted}
 use Rattle.graph_model.specs.Evaluation.{eval_end, cells_of_lines, column_of, reduced_with, arrival_value}
 use Rattle.graph_model.specs.Fits.{IsGraph}
-use Rattle.graph_model.proofs.ListFacts.{count_below}
+use Rattle.basics.specs.Lists.{count_below}
 use Rattle.run_state.specs.Run.{LineStage, Place, Home, Had, Run, is_listed, stage_at, time_at, place_at, list_at, kept_end, issued, out, started, over, ended, timed}
 
 -- a line accesses a column

@@ -1,7 +1,8 @@
 -- The state in which a run begins: no line is issued, and all cells are 0.
 use Rattle.std.specs.Prelude.{ℕ, List, [], length, map, None, slice_get}
 use Rattle.std.specs.Option.{option_map_or}
-use Rattle.index_spaces.specs.Space.{numbers_below, points}
+use Rattle.index_spaces.specs.Space.{points}
+use Rattle.basics.specs.Lists.{numbers_below}
 use Rattle.graph_model.specs.declared.verb.Verb.{Verb}
 use Rattle.graph_model.specs.declared.verb.Verb.TheVariants.{Phase}
 use Rattle.graph_model.specs.declared.decl.BarrierInfo.{BarrierInfo}

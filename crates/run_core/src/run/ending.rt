@@ -15,7 +15,7 @@ use crate::columns::{Columns, give_columns};
 use crate::holders::free;
 use crate::phases::arrive;
 use crate::progress::Progress;
-use crate::room::push_within;
+use index_spaces::room::push_within;
 use crate::run::Core;
 use crate::work::Finished;
 use gen_events::{Fate, Handle};

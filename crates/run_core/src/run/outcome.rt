@@ -2,7 +2,7 @@
 
 ghost use Rattle.std.specs.Prelude.{◌≡◌, ◌≤◌, ◌<◌, ◌++◌, ℕ, [], length, map, IfOk, Some, slice_get, IsSome};
 ghost use Rattle.std.specs.Vec.{vec_capacity};
-ghost use Rattle.index_spaces.specs.Space.{numbers_below};
+ghost use Rattle.basics.specs.Lists.{numbers_below};
 ghost use Rattle.gen_events.specs.EventMap.{answer};
 ghost use Rattle.gen_events.specs.declared.handle.Handle.{Handle as TheHandle};
 ghost use Rattle.run_state.specs.Run.{end_so_far, stage_at};
@@ -13,7 +13,7 @@ ghost use Rattle.run_core.specs.Answers.{answer_shown, phase_for, phase_of_line,
 
 use crate::events::LineEvents;
 use crate::progress::Progress;
-use crate::room::{push_within, with_room};
+use index_spaces::room::{push_within, with_room};
 use crate::run::Core;
 use crate::sources::end_of;
 use graph_model::graph::Graph;

@@ -1,6 +1,6 @@
 use Rattle.std.proofs.Common.{◌≡◌, ◌+◌, ◌*◌, get_or, map}
 use Rattle.std.specs.Prelude.{sum}
-use Rattle.index_spaces.specs.Space.{numbers_below}
+use Rattle.basics.specs.Lists.{numbers_below}
 use Rattle.graph_model.specs.Effect.{wrapped}
 use Rattle.kernel_table.proofs.dot.add_products.Given as goal
 

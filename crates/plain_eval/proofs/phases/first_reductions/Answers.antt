@@ -16,5 +16,5 @@ first_reduction-first-requires-clause-end c =
 
 pub loop-line-preserved : goal.loop-line-preserved
 loop-line-preserved c = record {
-  so_far = first_more c.args.graph.now c.loop-line.line c.first_reduction-first.result c.loop-line.reductions.items c.push.new.items.items c.loop-line.invariant.so_far c.first_reduction-first.ensures c.in_ok-push.ensures;
+  so_far = first_more c.args.graph.now c.loop-line.line c.first_reduction-first.result c.loop-line.reductions.items c.push.new.items.items c.loop-line.invariant.so_far c.first_reduction-first.ensures c.in_ok-push.ensures.ok;
 }

@@ -1,5 +1,5 @@
 use Rattle.std.proofs.Common.{◌≡◌, map}
-use Rattle.index_spaces.specs.Space.{numbers_below}
+use Rattle.basics.specs.Lists.{numbers_below}
 use Rattle.plain_eval.specs.Phases.{first_reduction}
 use Rattle.plain_eval.proofs.phases.first_reductions.Given as goal
 

@@ -1,6 +1,6 @@
 use Rattle.std.proofs.Common.{◌≡◌, ap, ◌∙◌, ◌+◌, length, map, arith}
 use Rattle.std.proofs.lemmas.List.FromFn.{length-map-range_with_len}
-use Rattle.index_spaces.specs.Space.{numbers_below}
+use Rattle.basics.specs.Lists.{numbers_below}
 use Rattle.plain_eval.specs.Phases.{with_arrival, reduction_after}
 use Rattle.plain_eval.proofs.CellFacts.{written_whole}
 use Rattle.plain_eval.proofs.PhaseFacts.{reduced_more}

@@ -1,5 +1,5 @@
 use Rattle.std.proofs.Common.{◌≡◌, length, map}
-use Rattle.index_spaces.specs.Space.{numbers_below}
+use Rattle.basics.specs.Lists.{numbers_below}
 use Rattle.plain_eval.specs.Phases.{reduction_after}
 use Rattle.plain_eval.proofs.phases.reduce.Given as goal
 

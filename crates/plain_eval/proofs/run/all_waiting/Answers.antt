@@ -6,5 +6,5 @@ use Rattle.plain_eval.proofs.run.all_waiting.Goals as goal
 
 pub loop-line-preserved : goal.loop-line-preserved
 loop-line-preserved c = record {
-  made = c.in_ok-push.ensures ∙ (ap (λ xs. xs ++ Waiting ∷ []) c.loop-line.invariant.made ∙ sym (map-range_with_len_more (end_in []) 0 c.loop-line._line c.loop-line._line (omega arith)));
+  made = c.in_ok-push.ensures.ok ∙ (ap (λ xs. xs ++ Waiting ∷ []) c.loop-line.invariant.made ∙ sym (map-range_with_len_more (end_in []) 0 c.loop-line._line c.loop-line._line (omega arith)));
 }

@@ -1,5 +1,5 @@
 use Rattle.std.proofs.Common.{◌≡◌, map, []}
-use Rattle.index_spaces.specs.Space.{numbers_below}
+use Rattle.basics.specs.Lists.{numbers_below}
 use Rattle.graph_model.specs.Evaluation.{end_in}
 use Rattle.plain_eval.proofs.run.all_waiting.Given as goal
 

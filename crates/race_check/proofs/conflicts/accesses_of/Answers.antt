@@ -4,7 +4,7 @@ use Rattle.race_check.proofs.AccessSteps.{first_more, first_all, no_more, few_ac
 use Rattle.race_check.proofs.conflicts.accesses_of.Goals as goal
 
 pub loop-k-preserved : goal.loop-k-preserved
-loop-k-preserved c = first_more (accesses c.args.graph.now c.args.line) c.loop-k.list.items c.push.new.items.items c.loop-k.k c.in-Some.access (sym c.in-Some.ensures) c.loop-k.invariant c.in_ok-push.ensures
+loop-k-preserved c = first_more (accesses c.args.graph.now c.args.line) c.loop-k.list.items c.push.new.items.items c.loop-k.k c.in-Some.access (sym c.in-Some.ensures) c.loop-k.invariant c.in_ok-push.ensures.ok
 
 pub returns-in_default : goal.returns-in_default
 returns-in_default c = first_all (accesses c.args.graph.now c.args.line) c.loop-k.list.items c.loop-k.k (no_more c.args.graph.now c.args.line c.loop-k.k (sym c.access.ensures ∙ c.in_default.is)) c.loop-k.invariant

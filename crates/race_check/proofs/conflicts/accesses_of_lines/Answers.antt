@@ -12,7 +12,7 @@ loop-line-preserved c =
     let before = c.loop-line.lists.items in
     let added = c.in_ok-list.list in
     record {
-      count = ap length c.in_ok-push.ensures ∙ (length-append before (added ∷ []) ∙ ap (λ n. n + 1) c.loop-line.invariant.count);
-      each = subst (λ (xs : List (Vec Access Global)). (k : ℕ) (v : Vec Access Global) → slice_get xs k ≡ Some v → v.items ≡ accesses g k) (sym c.in_ok-push.ensures)
+      count = ap length c.in_ok-push.ensures.ok ∙ (length-append before (added ∷ []) ∙ ap (λ n. n + 1) c.loop-line.invariant.count);
+      each = subst (λ (xs : List (Vec Access Global)). (k : ℕ) (v : Vec Access Global) → slice_get xs k ≡ Some v → v.items ≡ accesses g k) (sym c.in_ok-push.ensures.ok)
           (each_pushed (λ k (v : Vec Access Global). v.items ≡ accesses g k) before added c.loop-line.line c.loop-line.invariant.count c.loop-line.invariant.each c.in_ok-list.ensures);
     }

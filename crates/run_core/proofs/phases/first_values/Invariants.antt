@@ -1,6 +1,6 @@
 use Rattle.std.proofs.Common.{◌≡◌, ◌≤◌, length, map, vec_len}
 use Rattle.std.specs.Vec.{vec_capacity}
-use Rattle.index_spaces.specs.Space.{numbers_below}
+use Rattle.basics.specs.Lists.{numbers_below}
 use Rattle.run_state.specs.Start.{first_value}
 use Rattle.run_core.proofs.phases.first_values.Given as goal
 

@@ -25,4 +25,4 @@ returns c = on_ok_weaker c.release.result (λ passed ss run.
     (let g = c.args.graph.now in
     let free = lowest_free g ss c.args.self.now c.in-Some.line c.take_lowest.new.self.left.items (contains nat_cmp c.take_lowest.new.self.ready) run c.in-Some.ensures.lowest.0 c.take_lowest.ensures.left c.in-Some.ensures.lowest.2 in
     let ended = c.end_line-end.ensures ss (c.as_slice.ensures.value ∙ run.ends) run.homes in
-    turned g ss c.args.self.now (record { waiting = c.release.new.self; ends = with_item c.args.self.now.ends c.in-Some.line c.end_line-end.result; order = c.push.new.items; homes = c.end_line-end.new.homes }) c.in-Some.line c.end_line-end.result run c.in-Some.ensures.lowest.0 c.in-Some.ensures.lowest.1 (passed (has_ended ss) free) free.was_left ended.0 refl c.in_ok-push.ensures ended.1)) c.release.ensures
+    turned g ss c.args.self.now (record { waiting = c.release.new.self; ends = with_item c.args.self.now.ends c.in-Some.line c.end_line-end.result; order = c.push.new.items; homes = c.end_line-end.new.homes }) c.in-Some.line c.end_line-end.result run c.in-Some.ensures.lowest.0 c.in-Some.ensures.lowest.1 (passed (has_ended ss) free) free.was_left ended.0 refl c.in_ok-push.ensures.ok ended.1)) c.release.ensures

@@ -1,5 +1,5 @@
 use Rattle.std.specs.Prelude.{Some, slice_get}
-use Rattle.index_spaces.specs.Space.{numbers_below}
+use Rattle.basics.specs.Lists.{numbers_below}
 use Rattle.graph_model.specs.Evaluation.{outcome}
 use Rattle.graph_model.specs.Trace.{IsLawful}
 use Rattle.run_state.specs.Run.{end_so_far}

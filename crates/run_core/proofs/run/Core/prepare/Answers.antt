@@ -1,6 +1,6 @@
 use Rattle.std.proofs.Common.{◌≡◌, ◌≤◌, ℕ, [], map, length, replicate, sym, ◌∙◌, ap, subst, arith}
 use Rattle.std.specs.Prelude.{Option, None}
-use Rattle.index_spaces.specs.Space.{numbers_below}
+use Rattle.basics.specs.Lists.{numbers_below}
 use Rattle.graph_model.specs.Graph.{GraphValue, columns, locks}
 use Rattle.graph_model.specs.Effect.{zero_cells}
 use Rattle.graph_model.specs.Fits.{IsGraph}

@@ -3,7 +3,7 @@
 ghost use Rattle.std.specs.Prelude.{◌≡◌, ℕ, ◌<◌, ◌≤◌, true, MatchOption, IfSome};
 ghost use Rattle.std.specs.Str.{all_ascii_digits};
 ghost use Rattle.std.specs.Str.Parse.{digits_value};
-ghost use Rattle.realm_io.specs.Numbers.{is_misspelled, number_up_to};
+ghost use Rattle.basics.specs.Numbers.{is_misspelled, number_up_to};
 
 /// Whether each byte is a digit.
 fn all_digits(word: &[u8]) -> bool

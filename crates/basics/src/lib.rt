@@ -1,0 +1,6 @@
+//! What crates of several layers share: numbers that words spell, and facts on lists and counts.
+#![tactic(auto)]
+
+mod numbers;
+
+pub use numbers::number_up_to;
