@@ -2,7 +2,7 @@
 
 ghost use Rattle.std.specs.Prelude.{◌≡◌, ◌++◌, ◌∷◌, flat_map, []};
 ghost use Rattle.graph_model.specs.Spelling.{interval_word, space_name, column_name, lock_name, barrier_name, line_name, op_word};
-ghost use Rattle.realm_io.specs.Written.{sink_state, Writes};
+ghost use Rattle.realm_io.specs.Written.{Writes};
 ghost use Rattle.graph_reader.specs.WrittenWords.{word_text};
 
 use graph_model::graph::Graph;
@@ -22,7 +22,7 @@ pub(crate) enum Word {
 
 /// Writes the name of a column.
 fn put_column_name<K: Sink>(sink: &mut K, inst: &Name, field: &Name) -> Result<(), WriteFault>
-    ensures { Writes (sink_state K.taken K.flushed K.faults sink.old) (sink_state K.taken K.flushed K.faults sink.new) result (inst.now ++ 46 ∷ field.now) }
+    ensures { Writes (K.state sink.old) (K.state sink.new) result (inst.now ++ 46 ∷ field.now) }
 {
     put_bytes(sink, inst.bytes())?;
     put_bytes(sink, b".")?;
@@ -31,7 +31,7 @@ fn put_column_name<K: Sink>(sink: &mut K, inst: &Name, field: &Name) -> Result<(
 
 /// Writes an interval.
 fn put_interval<K: Sink>(sink: &mut K, low: u32, high: u32) -> Result<(), WriteFault>
-    ensures { Writes (sink_state K.taken K.flushed K.faults sink.old) (sink_state K.taken K.flushed K.faults sink.new) result (interval_word (low, high)) }
+    ensures { Writes (K.state sink.old) (K.state sink.new) result (interval_word (low, high)) }
 {
     put_decimal(sink, u64::from(low))?;
     put_bytes(sink, b"..")?;
@@ -40,7 +40,7 @@ fn put_interval<K: Sink>(sink: &mut K, low: u32, high: u32) -> Result<(), WriteF
 
 /// Writes a word.
 fn put_word<K: Sink>(sink: &mut K, word: &Word) -> Result<(), WriteFault>
-    ensures { Writes (sink_state K.taken K.flushed K.faults sink.old) (sink_state K.taken K.flushed K.faults sink.new) result (word_text word.now) }
+    ensures { Writes (K.state sink.old) (K.state sink.new) result (word_text word.now) }
 {
     match word {
         Word::Fixed(bytes) => put_bytes(sink, bytes),
@@ -57,7 +57,7 @@ pub(crate) fn put_behind<K: Sink>(
     separator: &[u8],
     word: &Word,
 ) -> Result<(), WriteFault>
-    ensures { Writes (sink_state K.taken K.flushed K.faults sink.old) (sink_state K.taken K.flushed K.faults sink.new) result (separator.now ++ word_text word.now) }
+    ensures { Writes (K.state sink.old) (K.state sink.new) result (separator.now ++ word_text word.now) }
 {
     put_bytes(sink, separator)?;
     put_word(sink, word)
@@ -65,7 +65,7 @@ pub(crate) fn put_behind<K: Sink>(
 
 /// Writes words, each behind a space.
 pub(crate) fn put_spaced<K: Sink>(sink: &mut K, words: &[Word]) -> Result<(), WriteFault>
-    ensures { Writes (sink_state K.taken K.flushed K.faults sink.old) (sink_state K.taken K.flushed K.faults sink.new) result (flat_map (λ w. 32 ∷ word_text w) words.now) }
+    ensures { Writes (K.state sink.old) (K.state sink.new) result (flat_map (λ w. 32 ∷ word_text w) words.now) }
 {
     for word in words {
         put_behind(sink, b" ", word)?;

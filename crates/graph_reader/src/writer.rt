@@ -5,7 +5,7 @@ ghost use Rattle.realm_io.specs.Counts.{Rose};
 ghost use Rattle.realm_io.specs.Told.{with_more, TookPrefix};
 ghost use Rattle.graph_model.specs.Spelling.{spelled, space_name, column_name, interval_word, kernel_words, verb_words, on_words, line_words, decl_words, line_name};
 ghost use Rattle.graph_reader.specs.Text.{text};
-ghost use Rattle.realm_io.specs.Written.{sink_state, Writes};
+ghost use Rattle.realm_io.specs.Written.{Writes};
 ghost use Rattle.graph_reader.specs.WrittenWords.{word_text, spaced, comma_before, comma_from};
 
 use crate::word_kinds::{
@@ -23,7 +23,7 @@ use realm_io::{Sink, WriteFault, put_bytes};
 
 /// Writes the names of columns, each behind a space.
 fn put_columns<K: Sink>(sink: &mut K, graph: &Graph, columns: &[u32]) -> Result<(), WriteFault>
-    ensures { Writes (sink_state K.taken K.flushed K.faults sink.old) (sink_state K.taken K.flushed K.faults sink.new) result (flat_map (λ c. 32 ∷ column_name graph.now c) columns.now) }
+    ensures { Writes (K.state sink.old) (K.state sink.new) result (flat_map (λ c. 32 ∷ column_name graph.now c) columns.now) }
 {
     for column in columns {
         put_behind(sink, b" ", &column_word(graph, *column))?;
@@ -33,7 +33,7 @@ fn put_columns<K: Sink>(sink: &mut K, graph: &Graph, columns: &[u32]) -> Result<
 
 /// Writes the names of spaces, each behind a space.
 fn put_spaces<K: Sink>(sink: &mut K, graph: &Graph, spaces: &[u32]) -> Result<(), WriteFault>
-    ensures { Writes (sink_state K.taken K.flushed K.faults sink.old) (sink_state K.taken K.flushed K.faults sink.new) result (flat_map (λ s. 32 ∷ space_name graph.now s) spaces.now) }
+    ensures { Writes (K.state sink.old) (K.state sink.new) result (flat_map (λ s. 32 ∷ space_name graph.now s) spaces.now) }
 {
     for space in spaces {
         put_behind(sink, b" ", &space_word(graph, *space))?;
@@ -43,7 +43,7 @@ fn put_spaces<K: Sink>(sink: &mut K, graph: &Graph, spaces: &[u32]) -> Result<()
 
 /// Writes numbers, each behind a space.
 fn put_numbers<K: Sink>(sink: &mut K, numbers: &[u64]) -> Result<(), WriteFault>
-    ensures { Writes (sink_state K.taken K.flushed K.faults sink.old) (sink_state K.taken K.flushed K.faults sink.new) result (flat_map (λ n. 32 ∷ decimal n) numbers.now) }
+    ensures { Writes (K.state sink.old) (K.state sink.new) result (flat_map (λ n. 32 ∷ decimal n) numbers.now) }
 {
     for number in numbers {
         put_behind(sink, b" ", &Word::Number(*number))?;
@@ -59,7 +59,7 @@ fn put_places<K: Sink>(
     spaces: &[u32],
     numbers: &[u64],
 ) -> Result<(), WriteFault>
-    ensures { Writes (sink_state K.taken K.flushed K.faults sink.old) (sink_state K.taken K.flushed K.faults sink.new) result
+    ensures { Writes (K.state sink.old) (K.state sink.new) result
         (spaced (map (λ c. column_name graph.now c) columns.now ++ (map (λ s. space_name graph.now s) spaces.now ++ map (λ n. decimal n) numbers.now))) }
 {
     put_columns(sink, graph, columns)?;
@@ -76,7 +76,7 @@ fn put_on_cells<K: Sink>(
     spaces: &[u32],
     numbers: &[u64],
 ) -> Result<(), WriteFault>
-    ensures { Writes (sink_state K.taken K.flushed K.faults sink.old) (sink_state K.taken K.flushed K.faults sink.new) result
+    ensures { Writes (K.state sink.old) (K.state sink.new) result
         (spaced (word.now ∷ (map (λ c. column_name graph.now c) columns.now ++ (map (λ s. space_name graph.now s) spaces.now ++ map (λ n. decimal n) numbers.now)))) }
 {
     put_behind(sink, b" ", &Word::Fixed(word))?;
@@ -85,7 +85,7 @@ fn put_on_cells<K: Sink>(
 
 /// Writes the words of a kernel, each behind a space.
 fn put_kernel<K: Sink>(sink: &mut K, graph: &Graph, kernel: &Kernel) -> Result<(), WriteFault>
-    ensures { Writes (sink_state K.taken K.flushed K.faults sink.old) (sink_state K.taken K.flushed K.faults sink.new) result (spaced (kernel_words graph.now kernel.now)) }
+    ensures { Writes (K.state sink.old) (K.state sink.new) result (spaced (kernel_words graph.now kernel.now)) }
 {
     match *kernel {
         Kernel::Iota { x, s, value } => put_on_cells(sink, graph, b"iota", &[x], &[s], &[value]),
@@ -111,7 +111,7 @@ fn put_kernel<K: Sink>(sink: &mut K, graph: &Graph, kernel: &Kernel) -> Result<(
 
 /// Writes the names of lines, each behind a space.
 fn put_events<K: Sink>(sink: &mut K, graph: &Graph, events: &LineList) -> Result<(), WriteFault>
-    ensures { Writes (sink_state K.taken K.flushed K.faults sink.old) (sink_state K.taken K.flushed K.faults sink.new) result (flat_map (λ n. 32 ∷ line_name graph.now n) events.now) }
+    ensures { Writes (K.state sink.old) (K.state sink.new) result (flat_map (λ n. 32 ∷ line_name graph.now n) events.now) }
 {
     for i in 0..events.len() {
         put_behind(sink, b" ", &line_word(graph, events.at(i)))?;
@@ -126,7 +126,7 @@ fn put_merge<K: Sink>(
     verb: &'static [u8],
     events: &LineList,
 ) -> Result<(), WriteFault>
-    ensures { Writes (sink_state K.taken K.flushed K.faults sink.old) (sink_state K.taken K.flushed K.faults sink.new) result (spaced (verb.now ∷ map (line_name graph.now) events.now)) }
+    ensures { Writes (K.state sink.old) (K.state sink.new) result (spaced (verb.now ∷ map (line_name graph.now) events.now)) }
 {
     put_behind(sink, b" ", &Word::Fixed(verb))?;
     put_events(sink, graph, events)
@@ -134,7 +134,7 @@ fn put_merge<K: Sink>(
 
 /// Writes the words of a task, each behind a space.
 fn put_task<K: Sink>(sink: &mut K, graph: &Graph, kernel: &Kernel) -> Result<(), WriteFault>
-    ensures { Writes (sink_state K.taken K.flushed K.faults sink.old) (sink_state K.taken K.flushed K.faults sink.new) result (spaced (verb_words graph.now (Verb.Task kernel.now))) }
+    ensures { Writes (K.state sink.old) (K.state sink.new) result (spaced (verb_words graph.now (Verb.Task kernel.now))) }
 {
     put_bytes(sink, b" task")?;
     put_kernel(sink, graph, kernel)
@@ -142,7 +142,7 @@ fn put_task<K: Sink>(sink: &mut K, graph: &Graph, kernel: &Kernel) -> Result<(),
 
 /// Writes a word and the name of what it is done with, each behind a space.
 fn put_with<K: Sink>(sink: &mut K, verb: &'static [u8], name: &Word) -> Result<(), WriteFault>
-    ensures { Writes (sink_state K.taken K.flushed K.faults sink.old) (sink_state K.taken K.flushed K.faults sink.new) result (spaced (verb.now ∷ word_text name.now ∷ [])) }
+    ensures { Writes (K.state sink.old) (K.state sink.new) result (spaced (verb.now ∷ word_text name.now ∷ [])) }
 {
     put_behind(sink, b" ", &Word::Fixed(verb))?;
     put_behind(sink, b" ", name)
@@ -155,7 +155,7 @@ fn put_arrive<K: Sink>(
     phase: u32,
     value: u64,
 ) -> Result<(), WriteFault>
-    ensures { Writes (sink_state K.taken K.flushed K.faults sink.old) (sink_state K.taken K.flushed K.faults sink.new) result (spaced (verb_words graph.now (Verb.Arrive phase value))) }
+    ensures { Writes (K.state sink.old) (K.state sink.new) result (spaced (verb_words graph.now (Verb.Arrive phase value))) }
 {
     put_spaced(
         sink,
@@ -176,7 +176,7 @@ fn put_reduce<K: Sink>(
     target: u32,
     space: u32,
 ) -> Result<(), WriteFault>
-    ensures { Writes (sink_state K.taken K.flushed K.faults sink.old) (sink_state K.taken K.flushed K.faults sink.new) result (spaced (verb_words graph.now (Verb.Reduce op source target space))) }
+    ensures { Writes (K.state sink.old) (K.state sink.new) result (spaced (verb_words graph.now (Verb.Reduce op source target space))) }
 {
     put_with(sink, b"reduce", &op_word(op))?;
     put_places(sink, graph, &[source, target], &[space], &[])
@@ -184,7 +184,7 @@ fn put_reduce<K: Sink>(
 
 /// Writes the words of a verb, each behind a space.
 fn put_verb<K: Sink>(sink: &mut K, graph: &Graph, verb: &Verb) -> Result<(), WriteFault>
-    ensures { Writes (sink_state K.taken K.flushed K.faults sink.old) (sink_state K.taken K.flushed K.faults sink.new) result (spaced (verb_words graph.now verb.now)) }
+    ensures { Writes (K.state sink.old) (K.state sink.new) result (spaced (verb_words graph.now verb.now)) }
 {
     match verb {
         Verb::User => put_spaced(sink, &[Word::Fixed(b"user")]),
@@ -218,7 +218,7 @@ fn put_verb<K: Sink>(sink: &mut K, graph: &Graph, verb: &Verb) -> Result<(), Wri
 
 /// Writes the words of a precondition, each behind a space, or nothing.
 fn put_on<K: Sink>(sink: &mut K, graph: &Graph, on: Option<u32>) -> Result<(), WriteFault>
-    ensures { Writes (sink_state K.taken K.flushed K.faults sink.old) (sink_state K.taken K.flushed K.faults sink.new) result (spaced (on_words graph.now on)) }
+    ensures { Writes (K.state sink.old) (K.state sink.new) result (spaced (on_words graph.now on)) }
 {
     match on {
         Some(event) => put_spaced(sink, &[Word::Fixed(b"on"), line_word(graph, event)]),
@@ -228,7 +228,7 @@ fn put_on<K: Sink>(sink: &mut K, graph: &Graph, on: Option<u32>) -> Result<(), W
 
 /// Writes an operation line.
 fn put_line<K: Sink>(sink: &mut K, graph: &Graph, line: &Line) -> Result<(), WriteFault>
-    ensures { Writes (sink_state K.taken K.flushed K.faults sink.old) (sink_state K.taken K.flushed K.faults sink.new) result (spelled (line_words graph.now line.now)) }
+    ensures { Writes (K.state sink.old) (K.state sink.new) result (spelled (line_words graph.now line.now)) }
 {
     put_bytes(sink, line.name.bytes())?;
     put_bytes(sink, b" =")?;
@@ -246,7 +246,7 @@ fn comma(i: usize) -> &'static [u8]
 
 /// Writes intervals with a comma between each two.
 fn put_intervals<K: Sink>(sink: &mut K, intervals: &[(u32, u32)]) -> Result<(), WriteFault>
-    ensures { Writes (sink_state K.taken K.flushed K.faults sink.old) (sink_state K.taken K.flushed K.faults sink.new) result (comma_from interval_word 0 intervals.now) }
+    ensures { Writes (K.state sink.old) (K.state sink.new) result (comma_from interval_word 0 intervals.now) }
 {
     for i in 0..intervals.len() {
         let interval = Word::Interval(intervals[i].0, intervals[i].1);
@@ -257,7 +257,7 @@ fn put_intervals<K: Sink>(sink: &mut K, intervals: &[(u32, u32)]) -> Result<(), 
 
 /// Writes names with a comma between each two.
 fn put_fields<K: Sink>(sink: &mut K, fields: &NameList) -> Result<(), WriteFault>
-    ensures { Writes (sink_state K.taken K.flushed K.faults sink.old) (sink_state K.taken K.flushed K.faults sink.new) result (comma_from (λ w. w) 0 fields.now) }
+    ensures { Writes (K.state sink.old) (K.state sink.new) result (comma_from (λ w. w) 0 fields.now) }
 {
     for i in 0..fields.len() {
         let field = Word::Name(fields.at(i));
@@ -273,7 +273,7 @@ fn put_plain<K: Sink>(
     words: &[Word],
     last: &'static [u8],
 ) -> Result<(), WriteFault>
-    ensures { Writes (sink_state K.taken K.flushed K.faults sink.old) (sink_state K.taken K.flushed K.faults sink.new) result (first.now ++ (flat_map (λ w. 32 ∷ word_text w) words.now ++ last.now)) }
+    ensures { Writes (K.state sink.old) (K.state sink.new) result (first.now ++ (flat_map (λ w. 32 ∷ word_text w) words.now ++ last.now)) }
 {
     put_bytes(sink, first)?;
     put_spaced(sink, words)?;
@@ -282,7 +282,7 @@ fn put_plain<K: Sink>(
 
 /// Writes the line of a space.
 fn put_space<K: Sink>(sink: &mut K, name: &Name, space: &Space) -> Result<(), WriteFault>
-    ensures { Writes (sink_state K.taken K.flushed K.faults sink.old) (sink_state K.taken K.flushed K.faults sink.new) result (codes "space " ++ (name.now ++ (32 ∷ (comma_from interval_word 0 space.now ++ 10 ∷ [])))) }
+    ensures { Writes (K.state sink.old) (K.state sink.new) result (codes "space " ++ (name.now ++ (32 ∷ (comma_from interval_word 0 space.now ++ 10 ∷ [])))) }
 {
     put_plain(sink, b"space", &[Word::Name(*name)], b" ")?;
     put_intervals(sink, space.intervals())?;
@@ -297,7 +297,7 @@ fn put_inst<K: Sink>(
     space: u32,
     fields: &NameList,
 ) -> Result<(), WriteFault>
-    ensures { Writes (sink_state K.taken K.flushed K.faults sink.old) (sink_state K.taken K.flushed K.faults sink.new) result (codes "inst " ++ (name.now ++ (32 ∷ (space_name graph.now space ++ (32 ∷ (comma_from (λ w. w) 0 fields.now ++ 10 ∷ [])))))) }
+    ensures { Writes (K.state sink.old) (K.state sink.new) result (codes "inst " ++ (name.now ++ (32 ∷ (space_name graph.now space ++ (32 ∷ (comma_from (λ w. w) 0 fields.now ++ 10 ∷ [])))))) }
 {
     put_plain(
         sink,
@@ -311,7 +311,7 @@ fn put_inst<K: Sink>(
 
 /// Writes the line of a declaration.
 fn put_decl<K: Sink>(sink: &mut K, graph: &Graph, decl: &Decl) -> Result<(), WriteFault>
-    ensures { Writes (sink_state K.taken K.flushed K.faults sink.old) (sink_state K.taken K.flushed K.faults sink.new) result (spelled (decl_words graph.now decl.now)) }
+    ensures { Writes (K.state sink.old) (K.state sink.new) result (spelled (decl_words graph.now decl.now)) }
 {
     match decl {
         Decl::Space { name, space } => put_space(sink, name, space),
@@ -342,7 +342,7 @@ fn put_decl<K: Sink>(sink: &mut K, graph: &Graph, decl: &Decl) -> Result<(), Wri
 
 /// Writes the lines of the declarations.
 fn put_decls<K: Sink>(sink: &mut K, graph: &Graph) -> Result<(), WriteFault>
-    ensures { Writes (sink_state K.taken K.flushed K.faults sink.old) (sink_state K.taken K.flushed K.faults sink.new) result (flat_map (λ d. spelled (decl_words graph.now d)) graph.now.decls) }
+    ensures { Writes (K.state sink.old) (K.state sink.new) result (flat_map (λ d. spelled (decl_words graph.now d)) graph.now.decls) }
 {
     for d in 0..graph.decls() {
         put_decl(sink, graph, graph.decl(d))?;
@@ -352,7 +352,7 @@ fn put_decls<K: Sink>(sink: &mut K, graph: &Graph) -> Result<(), WriteFault>
 
 /// Writes the operation lines.
 fn put_lines<K: Sink>(sink: &mut K, graph: &Graph) -> Result<(), WriteFault>
-    ensures { Writes (sink_state K.taken K.flushed K.faults sink.old) (sink_state K.taken K.flushed K.faults sink.new) result (flat_map (λ l. spelled (line_words graph.now l)) graph.now.lines) }
+    ensures { Writes (K.state sink.old) (K.state sink.new) result (flat_map (λ l. spelled (line_words graph.now l)) graph.now.lines) }
 {
     for i in 0..graph.lines() {
         put_line(sink, graph, graph.line(i))?;
@@ -362,7 +362,7 @@ fn put_lines<K: Sink>(sink: &mut K, graph: &Graph) -> Result<(), WriteFault>
 
 /// Writes the parts of the text.
 fn put_parts<K: Sink>(sink: &mut K, graph: &Graph) -> Result<(), WriteFault>
-    ensures { Writes (sink_state K.taken K.flushed K.faults sink.old) (sink_state K.taken K.flushed K.faults sink.new) result (text graph.now) }
+    ensures { Writes (K.state sink.old) (K.state sink.new) result (text graph.now) }
 {
     let _ = graph.decls();
     put_bytes(sink, b"realm 1\n")?;
@@ -374,11 +374,11 @@ fn put_parts<K: Sink>(sink: &mut K, graph: &Graph) -> Result<(), WriteFault>
 /// Writes the one text of a graph. After a fault the sink has taken a prefix of it. It takes no
 /// memory.
 pub fn put_graph<K: Sink>(sink: &mut K, graph: &Graph) -> Result<(), WriteFault>
-    ensures ok { OnOk result (K.taken sink.new ≡ with_more (K.taken sink.old) (text graph.now)) }
-    ensures fault { OnErr result (Rose (K.faults sink.old) (K.faults sink.new)) }
-    ensures took { OnErr result (TookPrefix (K.taken sink.old) (K.taken sink.new) (text graph.now)) }
-    ensures flushed { K.flushed sink.new ≡ K.flushed sink.old }
-    ensures count { K.faults sink.old ≤ K.faults sink.new }
+    ensures ok { OnOk result ((K.state sink.new).taken ≡ with_more (K.state sink.old).taken (text graph.now)) }
+    ensures fault { OnErr result (Rose (K.state sink.old).faults (K.state sink.new).faults) }
+    ensures took { OnErr result (TookPrefix (K.state sink.old).taken (K.state sink.new).taken (text graph.now)) }
+    ensures flushed { (K.state sink.new).flushed ≡ (K.state sink.old).flushed }
+    ensures count { (K.state sink.old).faults ≤ (K.state sink.new).faults }
 {
     put_parts(sink, graph)
 }

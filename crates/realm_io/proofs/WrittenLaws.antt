@@ -4,7 +4,8 @@ use Rattle.std.specs.Prelude.{Result, Ok, Err, IsErr}
 use Rattle.std.proofs.lemmas.Bool.{true≢false}
 use Rattle.realm_io.specs.Told.{with_more}
 use Rattle.realm_io.proofs.ToldFacts.{with_more-nil, with_more-with_more, took_after, took_within, rose_later}
-use Rattle.realm_io.specs.Written.{SinkState, Wrote, Stopped, Writes}
+use Rattle.realm_io.specs.SinkState.{SinkState}
+use Rattle.realm_io.specs.Written.{Wrote, Stopped, Writes}
 
 pub wrote_nothing : (s : SinkState) → Wrote s s []
 wrote_nothing s = record { taken = sym (with_more-nil s.taken); flushed = refl; count = omega arith }

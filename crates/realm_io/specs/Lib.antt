@@ -1,4 +1,5 @@
 pub mod Counts
 pub mod Told
 pub mod Memory
+pub mod SinkState
 pub mod Written

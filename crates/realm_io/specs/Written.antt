@@ -1,17 +1,8 @@
 -- What writing part of a text leaves: all of it written, or a prefix of it and a fault.
-use Rattle.std.specs.Prelude.{◌≡◌, ℕ, ◌≤◌, List, Option, Result, MatchResult}
+use Rattle.std.specs.Prelude.{◌≡◌, ℕ, ◌≤◌, List, Result, MatchResult}
+use Rattle.realm_io.specs.SinkState.{SinkState}
 use Rattle.realm_io.specs.Counts.{Rose}
 use Rattle.realm_io.specs.Told.{with_more, TookPrefix}
-
--- what a sink tells, and its count of faults
-pub record SinkState : Type 0 where
-  pub taken : Option (List ℕ)
-  pub flushed : Option ℕ
-  pub faults : ℕ
-
--- the state of a sink, by what its type tells
-abbrev pub sink_state : {S : Type 0} → (S → Option (List ℕ)) → (S → Option ℕ) → (S → ℕ) → S → SinkState
-sink_state taken flushed faults sink = record { «taken» = taken sink; «flushed» = flushed sink; «faults» = faults sink }
 
 -- the bytes were taken, and none was flushed
 pub record Wrote (old new : SinkState) (bytes : List ℕ) : Type 0 where

@@ -79,7 +79,9 @@ impl<W: Write> StdSink<W> {
 }
 
 impl<W: Write> Sink for StdSink<W> {
-    ghost faults = { λ s. s };
+    ghost use Rattle.realm_io.specs.SinkState.{untold};
+
+    ghost state = { λ s. untold s };
 
     fn write(&mut self, piece: &[u8]) -> Result<usize, Failed>
         ensures ok { OnOk result (self.new ≡ self.old) }

@@ -2,6 +2,7 @@
 #![tactic(auto)]
 
 pub mod adapters;
+mod counts;
 pub mod gates;
 mod listed;
 pub mod memory_sink;

@@ -1,9 +1,10 @@
 //! A sink over memory that fails at stated calls.
-ghost use Rattle.std.specs.Prelude.{◌≡◌, ◌+◌, ◌-◌, ◌<◌, ◌≤◌, ◌⊎◌, ◌↔◌, ◌++◌, [], Some, length, take, min, vec_len, IfOk, OnOk, OnErr, IsErr, Contains};
+ghost use Rattle.std.specs.Prelude.{◌≡◌, ◌==◌, ◌+◌, ◌-◌, ◌<◌, ◌≤◌, ◌⊎◌, ◌↔◌, ◌++◌, [], Some, length, take, min, vec_len, IfOk, OnOk, OnErr, IsErr, IsTrue, Contains};
 ghost use Rattle.std.specs.Option.{option_map};
-ghost use Rattle.realm_io.specs.Counts.{Rose, next_count};
+ghost use Rattle.realm_io.specs.Counts.{Rose, next_count, count_if};
 ghost use Rattle.realm_io.specs.Told.{with_more};
 
+use crate::counts::count_if;
 use crate::listed::is_listed;
 use crate::room::Room;
 use crate::sinks::Sink;
@@ -18,6 +19,7 @@ pub struct MemorySink {
     piece: usize,
     fails: Vec<u32>,
     calls: u64,
+    empty_writes: u64,
     faults: u64,
 }
 
@@ -34,6 +36,7 @@ impl Model for MemorySink {
       piece = a.piece;
       fails = a.fails.items;
       calls = a.calls;
+      empty_writes = a.empty_writes;
       faults = a.faults;
     } };
 
@@ -52,6 +55,7 @@ impl MemorySink {
           piece = piece;
           fails = fails.items;
           calls = 0;
+          empty_writes = 0;
           faults = 0;
         } }
     {
@@ -61,6 +65,7 @@ impl MemorySink {
             piece,
             fails,
             calls: 0,
+            empty_writes: 0,
             faults: 0,
         }
     }
@@ -79,16 +84,20 @@ impl MemorySink {
     {
         self.flushed
     }
+
+    // Whether the next write fails, of this piece: its number is listed, or there is a byte to take and no room for it.
+    fn fails_at(&self, piece: &[u8]) -> bool
+        ensures { IsTrue result ↔ (Contains self.now.fails self.now.calls
+            ⊎ ((0 < length piece.now) × (self.now.free ≡ 0))) }
+    {
+        is_listed(&self.fails, self.calls) || (self.room.free() == 0 && !piece.is_empty())
+    }
 }
 
 impl Sink for MemorySink {
-    ghost taken = { λ s. Some s.taken };
+    ghost use Rattle.realm_io.specs.Memory.{told_of};
 
-    ghost flushed = { λ s. Some s.flushed };
-
-    ghost calls = { λ s. Some s.calls };
-
-    ghost faults = { λ s. s.faults };
+    ghost state = { λ s. told_of s };
 
     fn write(&mut self, piece: &[u8]) -> Result<usize, Failed>
         // It fails exactly where its number is listed, or there is a byte to take and no room for it.
@@ -96,6 +105,7 @@ impl Sink for MemorySink {
             ⊎ ((0 < length piece.now) × (self.old.free ≡ 0))) }
         ensures err { OnErr result (self.new ≡ record self.old {
           calls = next_count self.old.calls;
+          empty_writes = count_if (length piece.now == 0) self.old.empty_writes;
           faults = next_count self.old.faults;
         }) }
 
@@ -104,6 +114,7 @@ impl Sink for MemorySink {
           taken = self.old.taken ++ take n piece.now;
           free = self.old.free - n;
           calls = next_count self.old.calls;
+          empty_writes = count_if (length piece.now == 0) self.old.empty_writes;
         }) }
 
         // As for every sink.
@@ -116,15 +127,18 @@ impl Sink for MemorySink {
         ensures flushed { Some self.new.flushed ≡ Some self.old.flushed }
         ensures count { self.old.faults ≤ self.new.faults }
         ensures counted { Some self.new.calls ≡ option_map next_count (Some self.old.calls) }
+        ensures empty { length piece.now ≡ 0
+            → Some self.new.empty_writes ≡ option_map next_count (Some self.old.empty_writes) }
+        ensures not_empty { 0 < length piece.now → Some self.new.empty_writes ≡ Some self.old.empty_writes }
     {
-        let number = self.calls;
-        self.calls = number.saturating_add(1);
-        let free = self.room.free();
-        if is_listed(&self.fails, number) || (free == 0 && !piece.is_empty()) {
+        let fails = self.fails_at(piece);
+        self.calls = self.calls.saturating_add(1);
+        self.empty_writes = count_if(piece.is_empty(), self.empty_writes);
+        if fails {
             self.faults = self.faults.saturating_add(1);
             return Err(Failed);
         }
-        let n = self.piece.min(piece.len()).min(free);
+        let n = self.piece.min(piece.len()).min(self.room.free());
         self.room.add(&piece[..n]);
         Ok(n)
     }
@@ -148,6 +162,7 @@ impl Sink for MemorySink {
         ensures failed { OnErr result (Rose self.old.faults self.new.faults) }
         ensures count { self.old.faults ≤ self.new.faults }
         ensures counted { Some self.new.calls ≡ option_map next_count (Some self.old.calls) }
+        ensures not_empty { Some self.new.empty_writes ≡ Some self.old.empty_writes }
     {
         let number = self.calls;
         self.calls = number.saturating_add(1);

@@ -1,9 +1,10 @@
 //! A source over memory that fails at stated reads.
-ghost use Rattle.std.specs.Prelude.{◌≡◌, ◌+◌, ◌^◌, ◌<◌, ◌≤◌, ◌↔◌, [], Some, length, take, drop, min, IfOk, OnErr, IsErr, Contains};
+ghost use Rattle.std.specs.Prelude.{◌≡◌, ◌==◌, ◌+◌, ◌^◌, ◌<◌, ◌≤◌, ◌↔◌, [], Some, length, take, drop, min, IfOk, OnErr, IsErr, Contains};
 ghost use Rattle.std.specs.Option.{option_map};
 ghost use Rattle.std.specs.Io.KnownBytes.{Consumes, IsAtEnd};
-ghost use Rattle.realm_io.specs.Counts.{Rose, next_count};
+ghost use Rattle.realm_io.specs.Counts.{Rose, next_count, count_if};
 
+use crate::counts::count_if;
 use crate::listed::is_listed;
 use crate::sources::{Failed, Source};
 use crate::sure::SureSource;
@@ -16,6 +17,7 @@ pub struct MemorySource {
     piece: usize,
     fails: Vec<u32>,
     reads: u64,
+    empty_reads: u64,
     faults: u64,
 }
 
@@ -30,6 +32,7 @@ impl Model for MemorySource {
       piece = a.piece;
       fails = a.fails.items;
       reads = a.reads;
+      empty_reads = a.empty_reads;
       faults = a.faults;
     } };
 
@@ -47,6 +50,7 @@ impl MemorySource {
           piece = piece;
           fails = fails.items;
           reads = 0;
+          empty_reads = 0;
           faults = 0;
         } }
     {
@@ -55,6 +59,7 @@ impl MemorySource {
             piece,
             fails,
             reads: 0,
+            empty_reads: 0,
             faults: 0,
         }
     }
@@ -64,6 +69,8 @@ impl Source for MemorySource {
     ghost left = { λ s. Some s.left };
 
     ghost reads = { λ s. Some s.reads };
+
+    ghost empty_reads = { λ s. Some s.empty_reads };
 
     ghost faults = { λ s. s.faults };
 
@@ -81,6 +88,7 @@ impl Source for MemorySource {
         ensures ok { IfOk result (λ n. self.new ≡ record self.old {
           left = drop n self.old.left;
           reads = next_count self.old.reads;
+          empty_reads = count_if (n == 0) self.old.empty_reads;
         }) }
 
         // The count never reaches the last value of its type.
@@ -94,6 +102,10 @@ impl Source for MemorySource {
         ensures failed { OnErr result (Rose self.old.faults self.new.faults) }
         ensures count { self.old.faults ≤ self.new.faults }
         ensures counted { Some self.new.reads ≡ option_map next_count (Some self.old.reads) }
+        ensures empty { IfOk result (λ n. n ≡ 0
+            → Some self.new.empty_reads ≡ option_map next_count (Some self.old.empty_reads)) }
+        ensures not_empty { IfOk result (λ n. 0 < n → Some self.new.empty_reads ≡ Some self.old.empty_reads) }
+        ensures failed_not_empty { OnErr result (Some self.new.empty_reads ≡ Some self.old.empty_reads) }
     {
         let number = self.reads;
         self.reads = number.saturating_add(1);
@@ -102,6 +114,8 @@ impl Source for MemorySource {
             return Err(Failed);
         }
         let most = self.piece.min(into.len());
-        Ok(self.source.give(&mut into[..most]))
+        let n = self.source.give(&mut into[..most]);
+        self.empty_reads = count_if(n == 0, self.empty_reads);
+        Ok(n)
     }
 }

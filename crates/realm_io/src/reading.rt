@@ -1,7 +1,8 @@
 //! Reading all of a source.
-ghost use Rattle.std.specs.Prelude.{◌≡◌, ℕ, ◌+◌, ◌<◌, ◌≤◌, List, Some, length, vec_len, IfOk, OnOk, IsErr, IsErrOf};
+ghost use Rattle.std.specs.Prelude.{◌≡◌, ℕ, ◌+◌, ◌<◌, ◌≤◌, List, Some, length, vec_len, IfOk, OnOk, OnErr, IsErr, IsErrOf};
+ghost use Rattle.std.specs.Option.{option_map};
 ghost use Rattle.std.specs.Io.KnownBytes.{Consumes, IsAtEnd};
-ghost use Rattle.realm_io.specs.Counts.{Rose, MadeAtMost};
+ghost use Rattle.realm_io.specs.Counts.{Rose, MadeAtMost, next_count};
 ghost use Rattle.realm_io.specs.Told.{LostAtMost, Lost};
 
 use crate::sources::Source;
@@ -37,7 +38,9 @@ pub fn read_all<S: Source>(alloc: Global, source: &mut S, limit: u32) -> Result<
     ensures short { (xs : List ℕ) → S.left source.old ≡ Some xs → limit < length xs → IsErr result }
     ensures count { S.faults source.old ≤ S.faults source.new }
 
-    // Each read that did not end it gave at least one byte.
+    // Each read that did not end it and did not fail gave at least one byte: no other read was empty.
+    ensures ended { OnOk result (S.empty_reads source.new ≡ option_map next_count (S.empty_reads source.old)) }
+    ensures not_empty { OnErr result (S.empty_reads source.new ≡ S.empty_reads source.old) }
     ensures steps { IfOk result (λ v.
         MadeAtMost (S.reads source.old) (S.reads source.new) (vec_len v + 1)) }
     ensures most_steps { MadeAtMost (S.reads source.old) (S.reads source.new) (limit + 1) }

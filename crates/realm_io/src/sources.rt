@@ -16,6 +16,9 @@ pub trait Source {
     // How many reads were made, where that is told.
     ghost reads: { Self → Option ℕ } = { λ _. None };
 
+    // How many reads gave no byte and did not fail, where that is told.
+    ghost empty_reads: { Self → Option ℕ } = { λ _. None };
+
     // How many faults there were. The count never falls.
     ghost faults: { Self → ℕ };
 
@@ -27,5 +30,8 @@ pub trait Source {
         ensures end { IfOk result (λ n. n ≡ 0 → 0 < length into.new → IsAtEnd (left self.new)) }
         ensures failed { OnErr result (Rose (faults self.old) (faults self.new)) }
         ensures count { faults self.old ≤ faults self.new }
-        ensures counted { reads self.new ≡ option_map next_count (reads self.old) };
+        ensures counted { reads self.new ≡ option_map next_count (reads self.old) }
+        ensures empty { IfOk result (λ n. n ≡ 0 → empty_reads self.new ≡ option_map next_count (empty_reads self.old)) }
+        ensures not_empty { IfOk result (λ n. 0 < n → empty_reads self.new ≡ empty_reads self.old) }
+        ensures failed_not_empty { OnErr result (empty_reads self.new ≡ empty_reads self.old) };
 }

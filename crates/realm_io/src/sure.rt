@@ -108,7 +108,9 @@ impl SureSink {
 }
 
 impl Sink for SureSink {
-    ghost faults = { λ _. 0 };
+    ghost use Rattle.realm_io.specs.SinkState.{untold};
+
+    ghost state = { λ _. untold 0 };
 
     fn write(&mut self, piece: &[u8]) -> Result<usize, Failed>
         ensures exact { result ≡ Ok (length piece.now) }

@@ -1,13 +1,14 @@
 -- A text that is written and then flushed, and what follows for the answers of the top call.
 use Rattle.std.proofs.Common.{◌≡◌, ◌≢◌, ℕ, ◌+◌, ◌≤◌, List, [], ◌++◌, length, refl, sym, ◌∙◌, ap, subst, inl, inr, append-nil, length-append, ◌<◌, arith}
 use Rattle.std.specs.Prelude.{Bool, true, false, Option, Some, None, ◌⊎◌, IfSome}
+use Rattle.realm_io.specs.SinkState.{SinkState}
 use Rattle.realm_io.specs.Counts.{Rose}
 use Rattle.realm_io.specs.Told.{TookPrefix, Lost}
 use Rattle.realm_io.proofs.ToldFacts.{with_more-nil, took_after, rose_later}
 use Rattle.command_line.specs.declared.request.Request.{Request}
 use Rattle.realm_top.specs.declared.status.Status.{Status}
 use Rattle.realm_top.specs.declared.status.Status.TheVariants.{Done, Unread, Unfit, WriteFault, NoMemory, Slots, TooLong}
-use Rattle.realm_io.specs.Written.{SinkState, Wrote, Stopped}
+use Rattle.realm_io.specs.Written.{Wrote, Stopped}
 use Rattle.graph_reader.specs.Text.{GraphText}
 use Rattle.graph_reader.specs.Laws.{OneReading}
 use Rattle.race_check.specs.Refusal.{IsRefusal}

@@ -1,6 +1,7 @@
 -- What a request is to answer, and what it is to write, by the bytes of its input where it has one.
 use Rattle.std.specs.Prelude.{◌≡◌, ℕ, ◌<◌, ◌≤◌, nat_lt, Bool, true, false, not, List, [], ◌++◌, length, Option, Some, ◌⊎◌, ◌↔◌}
 use Rattle.std.specs.Option.{option_map}
+use Rattle.realm_io.specs.SinkState.{SinkState}
 use Rattle.realm_io.specs.Counts.{Rose}
 use Rattle.realm_io.specs.Told.{with_more, TookPrefix}
 use Rattle.graph_model.specs.Graph.{GraphValue}
@@ -23,7 +24,6 @@ use Rattle.graph_reader.specs.Text.{GraphText, text}
 use Rattle.graph_reader.specs.FirstFault.{FirstFault}
 use Rattle.graph_gen.specs.MadeGraph.{made_graph}
 use Rattle.realm_top.specs.Texts.{report, made_text, unread_text, too_long_text, accepted_text, unfit_text, slots_text}
-use Rattle.realm_io.specs.Written.{SinkState}
 
 -- the text that is the report of the one-thread evaluation of a graph
 abbrev pub evaluation_report : GraphValue → List ℕ

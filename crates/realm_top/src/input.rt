@@ -7,7 +7,7 @@ ghost use Rattle.graph_model.specs.declared.verb.Why.{Why};
 ghost use Rattle.graph_reader.specs.FirstFault.{FirstFault};
 ghost use Rattle.graph_reader.specs.declared.ReadRefusal.TheVariants.{Line};
 ghost use Rattle.race_check.specs.Refusal.{IsRefusal, NamesLines};
-ghost use Rattle.realm_io.specs.Written.{sink_state, Writes};
+ghost use Rattle.realm_io.specs.Written.{Writes};
 ghost use Rattle.realm_top.specs.Texts.{unread_text, accepted_text, slots_text};
 ghost use Rattle.realm_top.specs.Answer.{evaluation_text, report_with, IsRunText, made_says, runs, is_short, Answered, Serves, Settled, Delivers};
 
@@ -47,7 +47,7 @@ pub(crate) fn answer<R: Threads + Wait + Sync, K: Sink, G: Gate>(
 ) -> Status
     requires short { length bytes.now ≤ 1048576 }
     requires workers { request.workers ≤ 8 }
-    ensures answered { Answered request bytes.now (sink_state K.taken K.flushed K.faults sink.old) (sink_state K.taken K.flushed K.faults sink.new) result }
+    ensures answered { Answered request bytes.now (K.state sink.old) (K.state sink.new) result }
     ensures no_memory { result ≡ Status.NoMemory → sink.new ≡ sink.old }
 {
     match read_graph(alloc, bytes) {
@@ -66,7 +66,7 @@ fn judge<R: Threads + Wait + Sync, K: Sink, G: Gate>(
     gate: &G,
 ) -> Status
     requires workers { request.workers ≤ 8 }
-    ensures settled { Settled request graph (sink_state K.taken K.flushed K.faults sink.old) (sink_state K.taken K.flushed K.faults sink.new) result }
+    ensures settled { Settled request graph (K.state sink.old) (K.state sink.new) result }
     ensures no_memory { result ≡ Status.NoMemory → sink.new ≡ sink.old }
 {
     match check(alloc, graph) {
@@ -85,7 +85,7 @@ pub(crate) fn serve<R: Threads + Wait + Sync, K: Sink, G: Gate>(
     gate: &G,
 ) -> Status
     requires workers { request.workers ≤ 8 }
-    ensures served { Serves request checked.now.graph (sink_state K.taken K.flushed K.faults sink.old) (sink_state K.taken K.flushed K.faults sink.new) result }
+    ensures served { Serves request checked.now.graph (K.state sink.old) (K.state sink.new) result }
     ensures no_memory { result ≡ Status.NoMemory → sink.new ≡ sink.old }
 {
     let _ = checked.graph();
@@ -163,7 +163,7 @@ fn sum_up<R: Threads + Wait + Sync, K: Sink, G: Gate>(
     gate: &G,
 ) -> Status
     requires workers { request.now.workers ≤ 8 }
-    ensures done { (result ≡ Status.NoMemory) ⊎ Delivers (sink_state K.taken K.flushed K.faults sink.old) (sink_state K.taken K.flushed K.faults sink.new) Status.Done result (made_says false checked.now.graph) }
+    ensures done { (result ≡ Status.NoMemory) ⊎ Delivers (K.state sink.old) (K.state sink.new) Status.Done result (made_says false checked.now.graph) }
     ensures no_memory { result ≡ Status.NoMemory → sink.new ≡ sink.old }
 {
     let Ok(outcome) = run_graph(rt, alloc, request, checked, gate) else {
@@ -185,7 +185,7 @@ fn run<R: Threads + Wait + Sync, K: Sink, G: Gate>(
     gate: &G,
 ) -> Status
     requires workers { request.now.workers ≤ 8 }
-    ensures done { (result ≡ Status.NoMemory) ⊎ ((out : List ℕ) × IsRunText request.now.trace checked.now.graph out × Delivers (sink_state K.taken K.flushed K.faults sink.old) (sink_state K.taken K.flushed K.faults sink.new) Status.Done result out) }
+    ensures done { (result ≡ Status.NoMemory) ⊎ ((out : List ℕ) × IsRunText request.now.trace checked.now.graph out × Delivers (K.state sink.old) (K.state sink.new) Status.Done result out) }
     ensures no_memory { result ≡ Status.NoMemory → sink.new ≡ sink.old }
 {
     let Ok(outcome) = run_graph(rt, alloc, request, checked, gate) else {
@@ -199,7 +199,7 @@ fn run<R: Threads + Wait + Sync, K: Sink, G: Gate>(
 
 /// Evaluates a graph, and writes its report, and its order as the trace where it is asked for.
 fn evaluate<K: Sink>(alloc: Global, trace: bool, checked: &Checked, sink: &mut K) -> Status
-    ensures done { (result ≡ Status.NoMemory) ⊎ Delivers (sink_state K.taken K.flushed K.faults sink.old) (sink_state K.taken K.flushed K.faults sink.new) Status.Done result (evaluation_text trace checked.now.graph) }
+    ensures done { (result ≡ Status.NoMemory) ⊎ Delivers (K.state sink.old) (K.state sink.new) Status.Done result (evaluation_text trace checked.now.graph) }
     ensures no_memory { result ≡ Status.NoMemory → sink.new ≡ sink.old }
 {
     let Ok(outcome) = eval(alloc, checked) else {
@@ -220,7 +220,7 @@ fn put_outcome<K: Sink>(
 ) -> Result<(), WriteFault>
     requires outcome { found.now ≡ outcome graph.now found.now.trace }
     requires lines { (k i : ℕ) → slice_get found.now.trace k ≡ Some i → i < length graph.now.lines }
-    ensures { Writes (sink_state K.taken K.flushed K.faults sink.old) (sink_state K.taken K.flushed K.faults sink.new) result (report_with trace graph.now found.now.trace) }
+    ensures { Writes (K.state sink.old) (K.state sink.new) result (report_with trace graph.now found.now.trace) }
 {
     put_parts(sink, graph, found)?;
     if trace {
@@ -232,14 +232,14 @@ fn put_outcome<K: Sink>(
 
 /// Writes nothing.
 fn put_nothing<K: Sink>(sink: &mut K) -> Result<(), WriteFault>
-    ensures { Writes (sink_state K.taken K.flushed K.faults sink.old) (sink_state K.taken K.flushed K.faults sink.new) result [] }
+    ensures { Writes (K.state sink.old) (K.state sink.new) result [] }
 {
     put(sink, b"")
 }
 
 /// Writes that a graph is accepted, with its need.
 fn put_need<K: Sink>(sink: &mut K, need: u32) -> Status
-    ensures { Delivers (sink_state K.taken K.flushed K.faults sink.old) (sink_state K.taken K.flushed K.faults sink.new) Status.Done result (accepted_text need) }
+    ensures { Delivers (K.state sink.old) (K.state sink.new) Status.Done result (accepted_text need) }
 {
     match put_accepted(sink, need) {
         Ok(()) => flush(sink, Status::Done),
@@ -249,7 +249,7 @@ fn put_need<K: Sink>(sink: &mut K, need: u32) -> Status
 
 /// Writes how many slots a run needs that was given fewer.
 fn put_short<K: Sink>(sink: &mut K, need: u32) -> Status
-    ensures { Delivers (sink_state K.taken K.flushed K.faults sink.old) (sink_state K.taken K.flushed K.faults sink.new) Status.Slots result (slots_text need) }
+    ensures { Delivers (K.state sink.old) (K.state sink.new) Status.Slots result (slots_text need) }
 {
     match put_slots(sink, need) {
         Ok(()) => flush(sink, Status::Slots),
@@ -260,7 +260,7 @@ fn put_short<K: Sink>(sink: &mut K, need: u32) -> Status
 /// Answers a graph that is not accepted.
 fn reject<K: Sink>(request: Request, sink: &mut K, unfit: &Unfit) -> Status
     requires { IsRefusal unfit.now.graph unfit.now.why × NamesLines unfit.now.graph unfit.now.why }
-    ensures settled { Settled request unfit.now.graph (sink_state K.taken K.flushed K.faults sink.old) (sink_state K.taken K.flushed K.faults sink.new) result }
+    ensures settled { Settled request unfit.now.graph (K.state sink.old) (K.state sink.new) result }
     ensures no_memory { result ≡ Status.NoMemory → sink.new ≡ sink.old }
 {
     if unfit.why == CheckRefusal::NoMemory {
@@ -275,7 +275,7 @@ fn reject<K: Sink>(request: Request, sink: &mut K, unfit: &Unfit) -> Status
 /// Answers bytes that are the text of no graph.
 fn refuse<K: Sink>(request: Request, sink: &mut K, refusal: ReadRefusal) -> Status
     ensures answered { (bytes : List ℕ) → length bytes ≤ 1048576 → ((number : ℕ) (why : Why) → refusal ≡ Line number why → FirstFault bytes number why)
-        → Answered request bytes (sink_state K.taken K.flushed K.faults sink.old) (sink_state K.taken K.flushed K.faults sink.new) result }
+        → Answered request bytes (K.state sink.old) (K.state sink.new) result }
     ensures no_memory { result ≡ Status.NoMemory → sink.new ≡ sink.old }
 {
     match refusal {
@@ -286,7 +286,7 @@ fn refuse<K: Sink>(request: Request, sink: &mut K, refusal: ReadRefusal) -> Stat
 
 /// Writes which line is refused and why, and flushes it.
 fn put_refusal<K: Sink>(sink: &mut K, number: u32, why: Why) -> Status
-    ensures { Delivers (sink_state K.taken K.flushed K.faults sink.old) (sink_state K.taken K.flushed K.faults sink.new) Status.Unread result (unread_text number why) }
+    ensures { Delivers (K.state sink.old) (K.state sink.new) Status.Unread result (unread_text number why) }
 {
     match put_unread(sink, number, why) {
         Ok(()) => flush(sink, Status::Unread),
@@ -296,7 +296,7 @@ fn put_refusal<K: Sink>(sink: &mut K, number: u32, why: Why) -> Status
 
 /// Writes a text and flushes it.
 pub(crate) fn put_text<K: Sink>(sink: &mut K, text: &[u8], status: Status) -> Status
-    ensures { Delivers (sink_state K.taken K.flushed K.faults sink.old) (sink_state K.taken K.flushed K.faults sink.new) status result text.now }
+    ensures { Delivers (K.state sink.old) (K.state sink.new) status result text.now }
 {
     match put(sink, text) {
         Ok(()) => flush(sink, status),
@@ -306,7 +306,7 @@ pub(crate) fn put_text<K: Sink>(sink: &mut K, text: &[u8], status: Status) -> St
 
 /// Flushes a text that was written.
 pub(crate) fn flush<K: Sink>(sink: &mut K, status: Status) -> Status
-    ensures { Delivers (sink_state K.taken K.flushed K.faults sink.old) (sink_state K.taken K.flushed K.faults sink.new) status result [] }
+    ensures { Delivers (K.state sink.old) (K.state sink.new) status result [] }
 {
     match sink.flush() {
         Ok(()) => status,

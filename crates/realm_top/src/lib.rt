@@ -38,7 +38,6 @@ ghost use Rattle.realm_top.specs.Texts.{too_long_text, slots_text};
 ghost use Rattle.graph_gen.specs.MadeGraph.{made_graph};
 ghost use Rattle.realm_top.specs.Answer.{IsRefused, IsUnfit, reads, Says, made_says, is_short, EndsByPaths, IsInput, Answers, Delivered, BrokenOff};
 ghost use Rattle.realm_top.specs.Status.{words_status, is_of_input};
-ghost use Rattle.realm_io.specs.Written.{sink_state};
 ghost use Rattle.realm_top.specs.declared.status.Status.{Status};
 
 use crate::input::{answer, put_text};
@@ -73,13 +72,13 @@ pub fn realm<R: Threads + Wait + Sync, S: Source, K: Sink, G: Gate>(
     // Done, of an action that reads, for every input, number of workers, gate and schedule: the input is the one text of a graph that is accepted, and the text of the action was written and flushed: for `run` and `eval` the report of the graph's one-thread evaluation, followed where it is asked for by a trace, for `run` a lawful one and for `eval` the evaluation's order; for `check` its need.
     ensures done { result ≡ Status.Done → (request : Request) × (request_of (map (λ word. string_bytes word) words.now) ≡ Some request) × (reads request.action ≡ true → IfSome (S.left source.old) (λ bytes.
         (g : GraphValue) × GraphText bytes g × Accepted g × (need : ℕ) × IsNeed g need × (is_short request need ≡ false)
-        × (out : List ℕ) × Says request.action request g need out × Delivered (sink_state K.taken K.flushed K.faults sink.old) (sink_state K.taken K.flushed K.faults sink.new) out)) }
+        × (out : List ℕ) × Says request.action request g need out × Delivered (K.state sink.old) (K.state sink.new) out)) }
 
     // Of that graph: a line waits exactly where one that never comes reaches it, and a line is cancelled exactly where an unbroken path from a fault reaches it.
     ensures paths { result ≡ Status.Done → (request : Request) × (request_of (map (λ word. string_bytes word) words.now) ≡ Some request) × (reads request.action ≡ true → IfSome (S.left source.old) (λ bytes. (g : GraphValue) → GraphText bytes g → EndsByPaths g)) }
 
     // Done, of `make`: of the generated graph of the seed and the size the line that sums up its evaluation was written and flushed, or its text where that is asked for.
-    ensures made { result ≡ Status.Done → (request : Request) × (request_of (map (λ word. string_bytes word) words.now) ≡ Some request) × (reads request.action ≡ false → Delivered (sink_state K.taken K.flushed K.faults sink.old) (sink_state K.taken K.flushed K.faults sink.new) (made_says request.text (made_graph request.seed request.size))) }
+    ensures made { result ≡ Status.Done → (request : Request) × (request_of (map (λ word. string_bytes word) words.now) ≡ Some request) × (reads request.action ≡ false → Delivered (K.state sink.old) (K.state sink.new) (made_says request.text (made_graph request.seed request.size))) }
 
     // `make` leaves the source as it was.
     ensures source { (request : Request) → request_of (map (λ word. string_bytes word) words.now) ≡ Some request → reads request.action ≡ false → source.new ≡ source.old }
@@ -94,38 +93,38 @@ pub fn realm<R: Threads + Wait + Sync, S: Source, K: Sink, G: Gate>(
 
     // Unread: the input is the text of no graph; its first refused line and the reason were written and flushed.
     ensures unread { result ≡ Status.Unread → IfSome (S.left source.old) (λ bytes. (out : List ℕ) × IsRefused bytes out
-        × Delivered (sink_state K.taken K.flushed K.faults sink.old) (sink_state K.taken K.flushed K.faults sink.new) out) }
+        × Delivered (K.state sink.old) (K.state sink.new) out) }
 
     // Unfit: the input is the text of a graph that is not accepted; the first rule that fails and the least lines were written and flushed.
     ensures unfit { result ≡ Status.Unfit → IfSome (S.left source.old) (λ bytes. (g : GraphValue) × GraphText bytes g × (out : List ℕ) × IsUnfit g out
-        × Delivered (sink_state K.taken K.flushed K.faults sink.old) (sink_state K.taken K.flushed K.faults sink.new) out) }
+        × Delivered (K.state sink.old) (K.state sink.new) out) }
 
     // Slots: a graph that was read is to be run, or one that was made, and fewer slots were given than it needs; the need was written and flushed.
     ensures slots { result ≡ Status.Slots → (request : Request) × (request_of (map (λ word. string_bytes word) words.now) ≡ Some request) × (reads request.action ≡ true → IfSome (S.left source.old) (λ bytes.
-        (g : GraphValue) × GraphText bytes g × Accepted g × (need : ℕ) × IsNeed g need × (is_short request need ≡ true) × Delivered (sink_state K.taken K.flushed K.faults sink.old) (sink_state K.taken K.flushed K.faults sink.new) (slots_text need))) }
+        (g : GraphValue) × GraphText bytes g × Accepted g × (need : ℕ) × IsNeed g need × (is_short request need ≡ true) × Delivered (K.state sink.old) (K.state sink.new) (slots_text need))) }
     ensures made_slots { result ≡ Status.Slots → (request : Request) × (request_of (map (λ word. string_bytes word) words.now) ≡ Some request) × (reads request.action ≡ false →
-        (need : ℕ) × IsNeed (made_graph request.seed request.size) need × (is_short request need ≡ true) × Delivered (sink_state K.taken K.flushed K.faults sink.old) (sink_state K.taken K.flushed K.faults sink.new) (slots_text need)) }
+        (need : ℕ) × IsNeed (made_graph request.seed request.size) need × (is_short request need ≡ true) × Delivered (K.state sink.old) (K.state sink.new) (slots_text need)) }
 
     // TooLong: more than 1,048,576 bytes were left, and that was written and flushed.
     ensures too_long { result ≡ Status.TooLong → IfSome (S.left source.old) (λ bytes. (1048576 < length bytes)
-        × Delivered (sink_state K.taken K.flushed K.faults sink.old) (sink_state K.taken K.flushed K.faults sink.new) too_long_text) }
+        × Delivered (K.state sink.old) (K.state sink.new) too_long_text) }
 
     // ReadFault: a fault of reading was counted in this call, and nothing was written.
     ensures read_fault { result ≡ Status.ReadFault → Rose (S.faults source.old) (S.faults source.new) × (sink.new ≡ sink.old) }
 
     // WriteFault: a fault of writing was counted in this call, and a prefix was taken of the text that is written without it.
-    ensures write_fault { result ≡ Status.WriteFault → Rose (K.faults sink.old) (K.faults sink.new) }
+    ensures write_fault { result ≡ Status.WriteFault → Rose (K.state sink.old).faults (K.state sink.new).faults }
     ensures cut_off { result ≡ Status.WriteFault → (request : Request) × (request_of (map (λ word. string_bytes word) words.now) ≡ Some request) × ((bytes : List ℕ) → IsInput request.action (S.left source.old) bytes
-        → (status : Status) × (out : List ℕ) × Answers request bytes status out × BrokenOff (sink_state K.taken K.flushed K.faults sink.old) (sink_state K.taken K.flushed K.faults sink.new) out) }
+        → (status : Status) × (out : List ℕ) × Answers request bytes status out × BrokenOff (K.state sink.old) (K.state sink.new) out) }
 
     // NoMemory: before anything was written.
     ensures no_memory { result ≡ Status.NoMemory → sink.new ≡ sink.old }
 
     // What the words ask for is done, unless a fault was counted or memory ran out.
     ensures complete { (request : Request) (bytes out : List ℕ) (status : Status) → request_of (map (λ word. string_bytes word) words.now) ≡ Some request → IsInput request.action (S.left source.old) bytes → Answers request bytes status out
-        → ¬ (Rose (S.faults source.old) (S.faults source.new)) → ¬ (Rose (K.faults sink.old) (K.faults sink.new)) → (result ≡ status) ⊎ (result ≡ Status.NoMemory) }
+        → ¬ (Rose (S.faults source.old) (S.faults source.new)) → ¬ (Rose (K.state sink.old).faults (K.state sink.new).faults) → (result ≡ status) ⊎ (result ≡ Status.NoMemory) }
 
-    ensures counts { (S.faults source.old ≤ S.faults source.new) × (K.faults sink.old ≤ K.faults sink.new) }
+    ensures counts { (S.faults source.old ≤ S.faults source.new) × ((K.state sink.old).faults ≤ (K.state sink.new).faults) }
 {
     bytes_have_one_reading();
     waits_where_reached();

@@ -4,7 +4,6 @@ ghost use Rattle.std.specs.Prelude.{◌≡◌, ℕ, ◌≤◌, ◌⊎◌, List};
 ghost use Rattle.graph_model.specs.Rules.{Accepted};
 ghost use Rattle.graph_reader.specs.Text.{text};
 ghost use Rattle.graph_gen.specs.MadeGraph.{made_graph};
-ghost use Rattle.realm_io.specs.Written.{sink_state};
 ghost use Rattle.realm_top.specs.Answer.{MadeAnswered, Serves, Delivers};
 
 use crate::input::{flush, serve};
@@ -31,7 +30,7 @@ pub(crate) fn answer_made<R: Threads + Wait + Sync, K: Sink, G: Gate>(
 ) -> Status
     requires size { (1 ≤ request.size) × (request.size ≤ 8192) }
     requires workers { request.workers ≤ 8 }
-    ensures answered { MadeAnswered request (sink_state K.taken K.flushed K.faults sink.old) (sink_state K.taken K.flushed K.faults sink.new) result }
+    ensures answered { MadeAnswered request (K.state sink.old) (K.state sink.new) result }
     ensures no_memory { result ≡ Status.NoMemory → sink.new ≡ sink.old }
 {
     made_graphs_are_accepted();
@@ -47,7 +46,7 @@ pub(crate) fn answer_made<R: Threads + Wait + Sync, K: Sink, G: Gate>(
 
 /// Writes the text of a graph, and flushes it.
 fn put_made<K: Sink>(sink: &mut K, graph: &Graph) -> Status
-    ensures { Delivers (sink_state K.taken K.flushed K.faults sink.old) (sink_state K.taken K.flushed K.faults sink.new) Status.Done result (text graph.now) }
+    ensures { Delivers (K.state sink.old) (K.state sink.new) Status.Done result (text graph.now) }
 {
     match put_graph(sink, graph) {
         Ok(()) => flush(sink, Status::Done),
@@ -66,7 +65,7 @@ fn serve_made<R: Threads + Wait + Sync, K: Sink, G: Gate>(
 ) -> Status
     requires accepted { Accepted graph }
     requires workers { request.workers ≤ 8 }
-    ensures served { Serves request graph (sink_state K.taken K.flushed K.faults sink.old) (sink_state K.taken K.flushed K.faults sink.new) result }
+    ensures served { Serves request graph (K.state sink.old) (K.state sink.new) result }
     ensures no_memory { result ≡ Status.NoMemory → sink.new ≡ sink.old }
 {
     match check(alloc, graph) {

@@ -4,7 +4,7 @@ ghost use Rattle.std.specs.Prelude.{◌≡◌, ◌≢◌, ◌<◌, ℕ, List, So
 ghost use Rattle.race_check.specs.Refusal.{NamesLines};
 ghost use Rattle.race_check.specs.declared.checked.CheckRefusal.{CheckRefusal};
 ghost use Rattle.realm_top.specs.Texts.{why_word, unread_text, accepted_text, slots_text, broken_by_one, broken_by_two, unfit_text};
-ghost use Rattle.realm_io.specs.Written.{sink_state, Writes};
+ghost use Rattle.realm_io.specs.Written.{Writes};
 
 use crate::report::{put_four, put_three};
 use graph_model::graph::Graph;
@@ -36,7 +36,7 @@ fn why_word(why: Why) -> &'static [u8]
 
 /// Writes that the line of this number, counted from 1, is refused for this reason.
 pub(crate) fn put_unread<K: Sink>(sink: &mut K, number: u32, why: Why) -> Result<(), WriteFault>
-    ensures { Writes (sink_state K.taken K.flushed K.faults sink.old) (sink_state K.taken K.flushed K.faults sink.new) result (unread_text number why) }
+    ensures { Writes (K.state sink.old) (K.state sink.new) result (unread_text number why) }
 {
     let mut buffer = Buffer::new();
     let digits = buffer.format(number).as_bytes();
@@ -45,7 +45,7 @@ pub(crate) fn put_unread<K: Sink>(sink: &mut K, number: u32, why: Why) -> Result
 
 /// Writes that a graph is accepted, with its need.
 pub(crate) fn put_accepted<K: Sink>(sink: &mut K, need: u32) -> Result<(), WriteFault>
-    ensures { Writes (sink_state K.taken K.flushed K.faults sink.old) (sink_state K.taken K.flushed K.faults sink.new) result (accepted_text need) }
+    ensures { Writes (K.state sink.old) (K.state sink.new) result (accepted_text need) }
 {
     let mut buffer = Buffer::new();
     put_three(sink, b"accepted", b"need", buffer.format(need).as_bytes())
@@ -53,7 +53,7 @@ pub(crate) fn put_accepted<K: Sink>(sink: &mut K, need: u32) -> Result<(), Write
 
 /// Writes how many slots a run needs.
 pub(crate) fn put_slots<K: Sink>(sink: &mut K, need: u32) -> Result<(), WriteFault>
-    ensures { Writes (sink_state K.taken K.flushed K.faults sink.old) (sink_state K.taken K.flushed K.faults sink.new) result (slots_text need) }
+    ensures { Writes (K.state sink.old) (K.state sink.new) result (slots_text need) }
 {
     let mut buffer = Buffer::new();
     put_three(sink, b"needs", buffer.format(need).as_bytes(), b"slots")
@@ -62,7 +62,7 @@ pub(crate) fn put_slots<K: Sink>(sink: &mut K, need: u32) -> Result<(), WriteFau
 /// Writes that one line breaks a rule.
 fn put_one<K: Sink>(sink: &mut K, graph: &Graph, rule: &[u8], i: u32) -> Result<(), WriteFault>
     requires { i < length graph.now.lines }
-    ensures { Writes (sink_state K.taken K.flushed K.faults sink.old) (sink_state K.taken K.flushed K.faults sink.new) result (broken_by_one graph.now rule.now i) }
+    ensures { Writes (K.state sink.old) (K.state sink.new) result (broken_by_one graph.now rule.now i) }
 {
     put_three(sink, b"refused", rule, graph.line(i).name.bytes())
 }
@@ -76,7 +76,7 @@ fn put_two<K: Sink>(
     j: u32,
 ) -> Result<(), WriteFault>
     requires { (i < length graph.now.lines) × (j < length graph.now.lines) }
-    ensures { Writes (sink_state K.taken K.flushed K.faults sink.old) (sink_state K.taken K.flushed K.faults sink.new) result (broken_by_two graph.now rule.now i j) }
+    ensures { Writes (K.state sink.old) (K.state sink.new) result (broken_by_two graph.now rule.now i j) }
 {
     put_four(
         sink,
@@ -95,7 +95,7 @@ pub(crate) fn put_broken<K: Sink>(
 ) -> Result<(), WriteFault>
     requires a_rule { why ≢ CheckRefusal.NoMemory }
     requires lines { NamesLines graph.now why }
-    ensures { (out : List ℕ) → unfit_text graph.now why ≡ Some out → Writes (sink_state K.taken K.flushed K.faults sink.old) (sink_state K.taken K.flushed K.faults sink.new) result out }
+    ensures { (out : List ℕ) → unfit_text graph.now why ≡ Some out → Writes (K.state sink.old) (K.state sink.new) result out }
 {
     match why {
         CheckRefusal::Cycle(i) => put_one(sink, graph, b"cycle", i),

@@ -7,7 +7,7 @@ ghost use Rattle.graph_model.specs.Spelling.{spelled, interval_word};
 ghost use Rattle.realm_top.specs.Texts.{FitsGraph, end_word, answer_word, op_text, op_texts, phase_text, phase_texts, interval_front, interval_text, cells_texts, column_texts, report};
 ghost use Rattle.index_spaces.specs.Space.{space_size, IsSpace};
 ghost use Rattle.graph_model.specs.Graph.{is_phase};
-ghost use Rattle.realm_io.specs.Written.{sink_state, Writes};
+ghost use Rattle.realm_io.specs.Written.{Writes};
 
 use graph_model::graph::Graph;
 use graph_model::name::Name;
@@ -19,7 +19,7 @@ use realm_io::{Sink, WriteFault, put_bytes, put_decimal};
 
 /// Writes words with a space between each two, and a newline.
 fn put_words<K: Sink>(sink: &mut K, words: &[&[u8]]) -> Result<(), WriteFault>
-    ensures { Writes (sink_state K.taken K.flushed K.faults sink.old) (sink_state K.taken K.flushed K.faults sink.new) result (spelled (map (λ w. w.now) words.now)) }
+    ensures { Writes (K.state sink.old) (K.state sink.new) result (spelled (map (λ w. w.now) words.now)) }
 {
     match words {
         [] => put_bytes(sink, b"\n"),
@@ -42,7 +42,7 @@ pub(crate) fn put_three<'a, K: Sink>(
     second: &'a [u8],
     third: &'a [u8],
 ) -> Result<(), WriteFault>
-    ensures { Writes (sink_state K.taken K.flushed K.faults sink.old) (sink_state K.taken K.flushed K.faults sink.new) result (spelled (first.now ∷ second.now ∷ third.now ∷ [])) }
+    ensures { Writes (K.state sink.old) (K.state sink.new) result (spelled (first.now ∷ second.now ∷ third.now ∷ [])) }
 {
     put_words(sink, &[first, second, third])
 }
@@ -55,7 +55,7 @@ pub(crate) fn put_four<'a, K: Sink>(
     third: &'a [u8],
     fourth: &'a [u8],
 ) -> Result<(), WriteFault>
-    ensures { Writes (sink_state K.taken K.flushed K.faults sink.old) (sink_state K.taken K.flushed K.faults sink.new) result (spelled (first.now ∷ second.now ∷ third.now ∷ fourth.now ∷ [])) }
+    ensures { Writes (K.state sink.old) (K.state sink.new) result (spelled (first.now ∷ second.now ∷ third.now ∷ fourth.now ∷ [])) }
 {
     put_words(sink, &[first, second, third, fourth])
 }
@@ -83,7 +83,7 @@ fn answer_word(answer: Answer) -> &'static [u8]
 
 /// Writes the line of an operation.
 fn put_op<K: Sink>(sink: &mut K, line: &Line, end: End, answer: Answer) -> Result<(), WriteFault>
-    ensures { Writes (sink_state K.taken K.flushed K.faults sink.old) (sink_state K.taken K.flushed K.faults sink.new) result (op_text line.now end answer) }
+    ensures { Writes (K.state sink.old) (K.state sink.new) result (op_text line.now end answer) }
 {
     put_four(
         sink,
@@ -97,7 +97,7 @@ fn put_op<K: Sink>(sink: &mut K, line: &Line, end: End, answer: Answer) -> Resul
 /// Writes the lines of the operations.
 fn put_ops<K: Sink>(sink: &mut K, graph: &Graph, outcome: &Outcome) -> Result<(), WriteFault>
     requires { FitsGraph graph.now outcome.now }
-    ensures { Writes (sink_state K.taken K.flushed K.faults sink.old) (sink_state K.taken K.flushed K.faults sink.new) result (op_texts graph.now.lines outcome.now.ends outcome.now.answers) }
+    ensures { Writes (K.state sink.old) (K.state sink.new) result (op_texts graph.now.lines outcome.now.ends outcome.now.answers) }
 {
     for i in 0..graph.lines() {
         put_op(
@@ -112,7 +112,7 @@ fn put_ops<K: Sink>(sink: &mut K, graph: &Graph, outcome: &Outcome) -> Result<()
 
 /// Writes the line of a phase with its value.
 fn put_phase<K: Sink>(sink: &mut K, line: &Line, value: Option<u64>) -> Result<(), WriteFault>
-    ensures { Writes (sink_state K.taken K.flushed K.faults sink.old) (sink_state K.taken K.flushed K.faults sink.new) result (phase_text line.now true value) }
+    ensures { Writes (K.state sink.old) (K.state sink.new) result (phase_text line.now true value) }
 {
     match value {
         None => put_three(sink, b"phase", line.name.bytes(), b"-"),
@@ -126,7 +126,7 @@ fn put_phase<K: Sink>(sink: &mut K, line: &Line, value: Option<u64>) -> Result<(
 
 /// Writes the line of a phase, and nothing for another line.
 fn put_if_phase<K: Sink>(sink: &mut K, line: &Line, value: Option<u64>) -> Result<(), WriteFault>
-    ensures { Writes (sink_state K.taken K.flushed K.faults sink.old) (sink_state K.taken K.flushed K.faults sink.new) result (phase_text line.now (is_phase line.now.verb) value) }
+    ensures { Writes (K.state sink.old) (K.state sink.new) result (phase_text line.now (is_phase line.now.verb) value) }
 {
     match line.verb {
         Verb::Phase { .. } => put_phase(sink, line, value),
@@ -137,7 +137,7 @@ fn put_if_phase<K: Sink>(sink: &mut K, line: &Line, value: Option<u64>) -> Resul
 /// Writes the lines of the phases.
 fn put_phases<K: Sink>(sink: &mut K, graph: &Graph, outcome: &Outcome) -> Result<(), WriteFault>
     requires { FitsGraph graph.now outcome.now }
-    ensures { Writes (sink_state K.taken K.flushed K.faults sink.old) (sink_state K.taken K.flushed K.faults sink.new) result (phase_texts graph.now.lines outcome.now.phases) }
+    ensures { Writes (K.state sink.old) (K.state sink.new) result (phase_texts graph.now.lines outcome.now.phases) }
 {
     for i in 0..graph.lines() {
         put_if_phase(sink, graph.line(i), outcome.phases.at(i))?;
@@ -147,7 +147,7 @@ fn put_phases<K: Sink>(sink: &mut K, graph: &Graph, outcome: &Outcome) -> Result
 
 /// Writes the name of a column.
 fn put_column_name<K: Sink>(sink: &mut K, inst: &Name, field: &Name) -> Result<(), WriteFault>
-    ensures { Writes (sink_state K.taken K.flushed K.faults sink.old) (sink_state K.taken K.flushed K.faults sink.new) result (inst.now ++ 46 ∷ field.now) }
+    ensures { Writes (K.state sink.old) (K.state sink.new) result (inst.now ++ 46 ∷ field.now) }
 {
     put_bytes(sink, inst.bytes())?;
     put_bytes(sink, b".")?;
@@ -156,7 +156,7 @@ fn put_column_name<K: Sink>(sink: &mut K, inst: &Name, field: &Name) -> Result<(
 
 /// Writes an interval.
 fn put_interval<K: Sink>(sink: &mut K, interval: (u32, u32)) -> Result<(), WriteFault>
-    ensures { Writes (sink_state K.taken K.flushed K.faults sink.old) (sink_state K.taken K.flushed K.faults sink.new) result (interval_word interval) }
+    ensures { Writes (K.state sink.old) (K.state sink.new) result (interval_word interval) }
 {
     put_decimal(sink, u64::from(interval.0))?;
     put_bytes(sink, b"..")?;
@@ -170,7 +170,7 @@ fn put_interval_front<K: Sink>(
     field: &Name,
     interval: (u32, u32),
 ) -> Result<(), WriteFault>
-    ensures { Writes (sink_state K.taken K.flushed K.faults sink.old) (sink_state K.taken K.flushed K.faults sink.new) result (interval_front (inst.now ++ 46 ∷ field.now) interval) }
+    ensures { Writes (K.state sink.old) (K.state sink.new) result (interval_front (inst.now ++ 46 ∷ field.now) interval) }
 {
     put_bytes(sink, b"cells ")?;
     put_column_name(sink, inst, field)?;
@@ -180,7 +180,7 @@ fn put_interval_front<K: Sink>(
 
 /// Writes a cell and the space before it.
 fn put_cell<K: Sink>(sink: &mut K, cell: u64) -> Result<(), WriteFault>
-    ensures { Writes (sink_state K.taken K.flushed K.faults sink.old) (sink_state K.taken K.flushed K.faults sink.new) result (32 ∷ decimal cell) }
+    ensures { Writes (K.state sink.old) (K.state sink.new) result (32 ∷ decimal cell) }
 {
     put_bytes(sink, b" ")?;
     put_decimal(sink, cell)
@@ -191,7 +191,7 @@ fn put_cells<K: Sink>(sink: &mut K, column: &Column, first: u32, end: u32) -> Re
     requires ordered { first ≤ end }
     requires within { end ≤ length column.now.cells }
     requires full { length column.now.cells ≡ space_size column.now.space }
-    ensures { Writes (sink_state K.taken K.flushed K.faults sink.old) (sink_state K.taken K.flushed K.faults sink.new) result (flat_map (λ v. 32 ∷ decimal v) (take (end - first) (drop first column.now.cells))) }
+    ensures { Writes (K.state sink.old) (K.state sink.new) result (flat_map (λ v. 32 ∷ decimal v) (take (end - first) (drop first column.now.cells))) }
 {
     for rank in first..end {
         put_cell(sink, column.at(rank))?;
@@ -212,7 +212,7 @@ fn put_interval_line<K: Sink>(
     requires long { end ≡ first + (interval.1 + 1 - interval.0) }
     requires within { end ≤ length column.now.cells }
     requires full { length column.now.cells ≡ space_size column.now.space }
-    ensures { Writes (sink_state K.taken K.flushed K.faults sink.old) (sink_state K.taken K.flushed K.faults sink.new) result
+    ensures { Writes (K.state sink.old) (K.state sink.new) result
         (interval_text (inst.now ++ 46 ∷ field.now) interval (take (interval.1 + 1 - interval.0) (drop first column.now.cells))) }
 {
     put_interval_front(sink, inst, field, interval)?;
@@ -232,7 +232,7 @@ fn put_intervals<K: Sink>(
     requires small { space_size intervals.now ≤ 1048576 }
     requires full { length column.now.cells ≡ space_size intervals.now }
     requires over { column.now.space ≡ intervals.now }
-    ensures { Writes (sink_state K.taken K.flushed K.faults sink.old) (sink_state K.taken K.flushed K.faults sink.new) result
+    ensures { Writes (K.state sink.old) (K.state sink.new) result
         (cells_texts (inst.now ++ 46 ∷ field.now) intervals.now column.now.cells) }
 {
     let mut first = 0;
@@ -251,7 +251,7 @@ fn put_column<K: Sink>(
     field: &Name,
     column: &Column,
 ) -> Result<(), WriteFault>
-    ensures { Writes (sink_state K.taken K.flushed K.faults sink.old) (sink_state K.taken K.flushed K.faults sink.new) result
+    ensures { Writes (K.state sink.old) (K.state sink.new) result
         (cells_texts (inst.now ++ 46 ∷ field.now) column.now.space column.now.cells) }
 {
     let space = column.space();
@@ -262,7 +262,7 @@ fn put_column<K: Sink>(
 /// Writes the lines of the columns.
 fn put_columns<K: Sink>(sink: &mut K, graph: &Graph, outcome: &Outcome) -> Result<(), WriteFault>
     requires { FitsGraph graph.now outcome.now }
-    ensures { Writes (sink_state K.taken K.flushed K.faults sink.old) (sink_state K.taken K.flushed K.faults sink.new) result (column_texts graph.now 0 outcome.now.columns) }
+    ensures { Writes (K.state sink.old) (K.state sink.new) result (column_texts graph.now 0 outcome.now.columns) }
 {
     for c in 0..graph.columns() {
         let (inst, field) = graph.column_name(c);
@@ -276,11 +276,11 @@ fn put_columns<K: Sink>(sink: &mut K, graph: &Graph, outcome: &Outcome) -> Resul
 /// taken a prefix of it.
 pub fn put_report<K: Sink>(sink: &mut K, graph: &Graph, outcome: &Outcome) -> Result<(), WriteFault>
     requires { FitsGraph graph.now outcome.now }
-    ensures ok { OnOk result (K.taken sink.new ≡ with_more (K.taken sink.old) (report graph.now outcome.now)) }
-    ensures fault { OnErr result (Rose (K.faults sink.old) (K.faults sink.new)) }
-    ensures took { OnErr result (TookPrefix (K.taken sink.old) (K.taken sink.new) (report graph.now outcome.now)) }
-    ensures flushed { K.flushed sink.new ≡ K.flushed sink.old }
-    ensures count { K.faults sink.old ≤ K.faults sink.new }
+    ensures ok { OnOk result ((K.state sink.new).taken ≡ with_more (K.state sink.old).taken (report graph.now outcome.now)) }
+    ensures fault { OnErr result (Rose (K.state sink.old).faults (K.state sink.new).faults) }
+    ensures took { OnErr result (TookPrefix (K.state sink.old).taken (K.state sink.new).taken (report graph.now outcome.now)) }
+    ensures flushed { (K.state sink.new).flushed ≡ (K.state sink.old).flushed }
+    ensures count { (K.state sink.old).faults ≤ (K.state sink.new).faults }
 {
     put_parts(sink, graph, outcome)
 }
@@ -292,7 +292,7 @@ pub(crate) fn put_parts<K: Sink>(
     outcome: &Outcome,
 ) -> Result<(), WriteFault>
     requires { FitsGraph graph.now outcome.now }
-    ensures { Writes (sink_state K.taken K.flushed K.faults sink.old) (sink_state K.taken K.flushed K.faults sink.new) result (report graph.now outcome.now) }
+    ensures { Writes (K.state sink.old) (K.state sink.new) result (report graph.now outcome.now) }
 {
     put_bytes(sink, b"realm-report 1\n")?;
     put_ops(sink, graph, outcome)?;

@@ -3,7 +3,7 @@
 ghost use Rattle.std.specs.Prelude.{◌≡◌, ◌++◌, ◌∷◌, length, count_by, sum, sum_by, decimal, flat_map};
 ghost use Rattle.index_spaces.specs.Column.{ColumnValue};
 ghost use Rattle.graph_model.specs.Effect.{wrapped};
-ghost use Rattle.realm_io.specs.Written.{sink_state, Writes};
+ghost use Rattle.realm_io.specs.Written.{Writes};
 ghost use Rattle.realm_top.specs.Texts.{same_end, cell_sum, made_text};
 
 use graph_model::graph::Graph;
@@ -75,7 +75,7 @@ struct Count {
 
 /// Writes words and numbers.
 fn put_counts<K: Sink>(sink: &mut K, counts: &[Count]) -> Result<(), WriteFault>
-    ensures { Writes (sink_state K.taken K.flushed K.faults sink.old) (sink_state K.taken K.flushed K.faults sink.new) result (flat_map (λ (c : Count). c.words.now ++ decimal c.number) counts.now) }
+    ensures { Writes (K.state sink.old) (K.state sink.new) result (flat_map (λ (c : Count). c.words.now ++ decimal c.number) counts.now) }
 {
     for count in counts {
         put_count(sink, count)?;
@@ -85,7 +85,7 @@ fn put_counts<K: Sink>(sink: &mut K, counts: &[Count]) -> Result<(), WriteFault>
 
 /// Writes words and the number behind them.
 fn put_count<K: Sink>(sink: &mut K, count: &Count) -> Result<(), WriteFault>
-    ensures { Writes (sink_state K.taken K.flushed K.faults sink.old) (sink_state K.taken K.flushed K.faults sink.new) result (count.now.words.now ++ decimal count.now.number) }
+    ensures { Writes (K.state sink.old) (K.state sink.new) result (count.now.words.now ++ decimal count.now.number) }
 {
     put_bytes(sink, count.words)?;
     put_decimal(sink, count.number)
@@ -113,7 +113,7 @@ pub(crate) fn put_summary<K: Sink>(
     graph: &Graph,
     outcome: &Outcome,
 ) -> Result<(), WriteFault>
-    ensures { Writes (sink_state K.taken K.flushed K.faults sink.old) (sink_state K.taken K.flushed K.faults sink.new) result (made_text graph.now outcome.now) }
+    ensures { Writes (K.state sink.old) (K.state sink.new) result (made_text graph.now outcome.now) }
 {
     put_counts(
         sink,

@@ -4,7 +4,7 @@
 pub mod laws;
 
 ghost use Rattle.std.specs.Prelude.{◌≡◌, ℕ, ◌<◌, length, Some, slice_get};
-ghost use Rattle.realm_io.specs.Written.{sink_state, Writes};
+ghost use Rattle.realm_io.specs.Written.{Writes};
 ghost use Rattle.realm_trace.specs.Text.{at_text, at_texts, trace_text};
 
 use graph_model::graph::Graph;
@@ -17,7 +17,7 @@ use realm_io::{Sink, WriteFault, put_bytes};
 /// `WriteFault`: a fault of the sink was counted, and a prefix of the text was taken.
 pub fn put_trace<K: Sink>(sink: &mut K, graph: &Graph, trace: &LineList) -> Result<(), WriteFault>
     requires lines { (k i : ℕ) → slice_get trace.now k ≡ Some i → i < length graph.now.lines }
-    ensures { Writes (sink_state K.taken K.flushed K.faults sink.old) (sink_state K.taken K.flushed K.faults sink.new) result (trace_text graph.now trace.now) }
+    ensures { Writes (K.state sink.old) (K.state sink.new) result (trace_text graph.now trace.now) }
 {
     put_bytes(sink, b"realm-trace 1\n")?;
     put_items(sink, graph, trace)?;
@@ -27,7 +27,7 @@ pub fn put_trace<K: Sink>(sink: &mut K, graph: &Graph, trace: &LineList) -> Resu
 /// Writes the lines of the items.
 fn put_items<K: Sink>(sink: &mut K, graph: &Graph, trace: &LineList) -> Result<(), WriteFault>
     requires lines { (k i : ℕ) → slice_get trace.now k ≡ Some i → i < length graph.now.lines }
-    ensures { Writes (sink_state K.taken K.flushed K.faults sink.old) (sink_state K.taken K.flushed K.faults sink.new) result (at_texts graph.now trace.now) }
+    ensures { Writes (K.state sink.old) (K.state sink.new) result (at_texts graph.now trace.now) }
 {
     for k in 0..trace.len() {
         put_item(sink, graph.line(trace.at(k)))?;
@@ -37,7 +37,7 @@ fn put_items<K: Sink>(sink: &mut K, graph: &Graph, trace: &LineList) -> Result<(
 
 /// Writes that a line has ended.
 fn put_item<K: Sink>(sink: &mut K, line: &Line) -> Result<(), WriteFault>
-    ensures { Writes (sink_state K.taken K.flushed K.faults sink.old) (sink_state K.taken K.flushed K.faults sink.new) result (at_text line.now.name) }
+    ensures { Writes (K.state sink.old) (K.state sink.new) result (at_text line.now.name) }
 {
     put_bytes(sink, b"at ")?;
     put_bytes(sink, line.name.bytes())?;

@@ -9,6 +9,7 @@ invariant-loop-n g l = record {
   within : vec_len l.all ≤ l.most;
   came : Consumes (g.S.Source.left l.fn.source) (g.S.Source.left l.source) l.all.items;
   count : g.S.Source.faults l.fn.source ≤ g.S.Source.faults l.source;
+  not_empty : g.S.Source.empty_reads l.source ≡ g.S.Source.empty_reads l.fn.source;
   made : MadeAtMost (g.S.Source.reads l.fn.source) (g.S.Source.reads l.source) (vec_len l.all);
 }
 

@@ -18,5 +18,6 @@ loop-at-preserved g c =
       took = took_next _ _ _ bytes rest at c.in-Ok.n is_rest before.took write.took;
       flushed = write.flushed ∙ before.flushed;
       count = omega arith;
+      not_empty = write.not_empty some ∙ before.not_empty;
       made = made_next _ _ _ at _ before.made write.counted (omega (arith, write.some some));
     }

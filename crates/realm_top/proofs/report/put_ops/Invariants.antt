@@ -1,10 +1,9 @@
 use Rattle.std.proofs.Common.{drop}
-use Rattle.realm_io.specs.Written.{sink_state}
 use Rattle.realm_top.specs.Texts.{op_texts}
 use Rattle.realm_io.proofs.WrittenLaws.{Progress}
 use Rattle.realm_top.proofs.report.put_ops.Given as goal
 
 abbrev pub invariant-loop-i : goal.invariant-loop-i
 invariant-loop-i g l =
-    Progress (sink_state g.K.Sink.taken g.K.Sink.flushed g.K.Sink.faults l.initial.sink) (sink_state g.K.Sink.taken g.K.Sink.flushed g.K.Sink.faults l.sink)
+    Progress (g.K.Sink.state l.initial.sink) (g.K.Sink.state l.sink)
     (op_texts l.graph.lines l.outcome.ends l.outcome.answers) (op_texts (drop l.i l.graph.lines) (drop l.i l.outcome.ends) (drop l.i l.outcome.answers))
