@@ -4,12 +4,12 @@ ghost use Rattle.std.specs.Prelude.{◌≡◌, ◌++◌, [], ◌∷◌, OnOk, If
 ghost use Rattle.graph_model.specs.Name.{is_name};
 ghost use Rattle.graph_gen.specs.MadeGraph.{made_decls};
 
-use index_spaces::room::push;
 use graph_model::decl::Decl;
 use graph_model::graph::Graph;
 use graph_model::lists::NameList;
 use graph_model::name::Name;
 use index_spaces::NoMemory;
+use index_spaces::room::push;
 use index_spaces::space::Space;
 use std::alloc::Global;
 

@@ -3,10 +3,10 @@
 ghost use Rattle.std.specs.Prelude.{◌≡◌, ◌++◌, [], ◌∷◌, OnOk, IfOk};
 ghost use Rattle.graph_gen.specs.MadeGraph.{made_name, made_line};
 
-use index_spaces::room::push;
 use graph_model::name::Name;
 use graph_model::verb::{Line, Verb};
 use index_spaces::NoMemory;
+use index_spaces::room::push;
 use std::alloc::Global;
 
 /// Puts the line of this number at the end.

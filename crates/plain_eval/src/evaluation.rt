@@ -6,14 +6,14 @@ ghost use Rattle.graph_model.specs.Evaluation.{evaluation, outcome, order, answe
 ghost use Rattle.plain_eval.specs.Run.{IsRun};
 
 use crate::phases::phase_values;
-use index_spaces::room::push;
 use crate::run::Run;
+use graph_model::checked::Checked;
 use graph_model::graph::Graph;
 use graph_model::laws::{cancelled_where_unbroken, waits_where_reached};
 use graph_model::lists::{AnswerList, EndList, LineList, ValueList};
 use graph_model::outcome::{Answer, End, Outcome};
 use index_spaces::NoMemory;
-use graph_model::checked::Checked;
+use index_spaces::room::push;
 use std::alloc::Global;
 
 /// Evaluates a graph that is accepted, and gives its outcome with the order

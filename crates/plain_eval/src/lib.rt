@@ -3,9 +3,9 @@
 
 pub mod evaluation;
 mod moved;
+mod numbers;
 mod perform;
 mod phases;
-mod numbers;
 mod run;
 #[cfg(test)]
 mod tests;

@@ -5,11 +5,11 @@ ghost use Rattle.basics.specs.Lists.{numbers_below};
 ghost use Rattle.graph_model.specs.Evaluation.{eval_end, combined, phase_value};
 ghost use Rattle.plain_eval.specs.Phases.{with_arrival, first_reduction, reduction_after};
 
-use index_spaces::room::push;
 use graph_model::graph::Graph;
 use graph_model::line_laws::phases_fit;
 use graph_model::outcome::End;
 use graph_model::verb::Verb;
+use index_spaces::room::push;
 use index_spaces::{NoMemory, Op};
 use line_effects::passing::combined;
 use std::alloc::Global;

@@ -9,12 +9,12 @@ ghost use Rattle.instances.specs.Homes.{all_home};
 ghost use Rattle.plain_eval.specs.Run.{IsRun};
 
 use crate::perform::perform;
-use index_spaces::room::push;
 use crate::waiting::Waiting;
 use graph_model::graph::Graph;
 use graph_model::laws::edges_between_lines;
 use graph_model::outcome::{End, Verdict};
 use index_spaces::NoMemory;
+use index_spaces::room::push;
 use instances::Homes;
 use line_effects::passing::cancels;
 use std::alloc::Global;

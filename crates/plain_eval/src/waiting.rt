@@ -8,10 +8,10 @@ ghost use Rattle.graph_model.specs.Edges.{edges_into};
 ghost use Rattle.plain_eval.specs.Waiting.{IsWaiting, IsFree, and_ended, starts_ready};
 
 use crate::numbers::insert;
-use index_spaces::room::push;
 use graph_model::graph::Graph;
 use graph_model::laws::edges_between_lines;
 use index_spaces::NoMemory;
+use index_spaces::room::push;
 use std::alloc::Global;
 use std::collections::BTreeSet;
 

@@ -7,10 +7,10 @@ ghost use Rattle.graph_model.specs.Access.{accesses, modes_clash};
 ghost use Rattle.graph_model.specs.Rules.{modes_commute};
 ghost use Rattle.race_check.specs.Races.{AreAccesses, AreSpacesKnown, Clash, ListsClash, uses};
 
-use index_spaces::room::push;
 use graph_model::graph::Graph;
 use graph_model::verb::{Access, Mode};
 use index_spaces::NoMemory;
+use index_spaces::room::push;
 use std::alloc::Global;
 
 /// A line has at most three accesses.

@@ -8,10 +8,10 @@ ghost use Rattle.race_check.specs.Order.{IsOrdered};
 ghost use Rattle.race_check.specs.Search.{IsMarking, IsSearching, marked_in, unmarked};
 
 use crate::order::Order;
-use index_spaces::room::push;
 use graph_model::graph::Graph;
 use graph_model::laws::edges_between_lines;
 use index_spaces::NoMemory;
+use index_spaces::room::push;
 use std::alloc::Global;
 
 /// The least line that has a path to itself.

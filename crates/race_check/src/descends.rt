@@ -10,11 +10,11 @@ ghost use Rattle.race_check.specs.RuleWords.{lies_inside, acquires_up_to, IsLowR
 
 use crate::paths::PathTable;
 use crate::reservations::acquired;
-use index_spaces::room::push;
 use crate::rows::{add_line, empty_row, word_at};
 use graph_model::graph::Graph;
 use graph_model::laws::edges_between_lines;
 use index_spaces::NoMemory;
+use index_spaces::room::push;
 use std::alloc::Global;
 
 /// The least acquire and the least acquire in its section whose reservation is not declared later.

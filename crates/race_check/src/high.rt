@@ -8,10 +8,10 @@ ghost use Rattle.graph_model.specs.Need.{IsHigh};
 ghost use Rattle.race_check.specs.High.{IsMarking, IsTarget, IsNext, AreAcquiresMarked, weight_of, IsFlooding, IsFlood};
 
 use crate::reservations::{acquires, freed};
-use index_spaces::room::{filled, push};
 use graph_model::graph::Graph;
 use graph_model::laws::edges_between_lines;
 use index_spaces::NoMemory;
+use index_spaces::room::{filled, push};
 use std::alloc::Global;
 
 /// The high number of each line: the largest count of the lines that precede it, and one more than

@@ -5,10 +5,10 @@ ghost use Rattle.graph_model.specs.Need.{IsNeed};
 ghost use Rattle.race_check.specs.Sweep.{AreAbove, IsTally, most_open};
 
 use crate::high::high_numbers;
-use index_spaces::room::filled;
 use graph_model::graph::Graph;
 use graph_model::laws::edges_between_lines;
 use index_spaces::NoMemory;
+use index_spaces::room::filled;
 use std::alloc::Global;
 
 /// The need of a graph.

@@ -4,10 +4,10 @@ ghost use Rattle.std.specs.Prelude.{◌≡◌, ℕ, ◌+◌, ◌-◌, ◌<◌, �
 ghost use Rattle.graph_model.specs.Edges.{edges_into, edges_out_of};
 ghost use Rattle.race_check.specs.Order.{IsTaking, IsOrdered, IsCounted, HasRoom};
 
-use index_spaces::room::push;
 use graph_model::graph::Graph;
 use graph_model::laws::edges_between_lines;
 use index_spaces::NoMemory;
+use index_spaces::room::push;
 use std::alloc::Global;
 
 /// Lines of which each stands behind its sources, and for each line of the graph how many edges

@@ -9,10 +9,10 @@ ghost use Rattle.race_check.specs.Paths.{IsPathTable, IsFilled, IsRow, IsBack, p
 
 use crate::bits::Bits;
 use crate::order::Order;
-use index_spaces::room::push;
 use graph_model::graph::Graph;
 use graph_model::laws::edges_between_lines;
 use index_spaces::NoMemory;
+use index_spaces::room::push;
 use std::alloc::Global;
 use std::marker::Model;
 

@@ -11,7 +11,6 @@ ghost use Rattle.race_check.specs.Rivals.{AreRivals};
 
 use crate::conflicts::{MOST_ACCESSES, accesses_of_lines, some_clash, uses};
 use crate::paths::PathTable;
-use index_spaces::room::push;
 use crate::rows::{add_line, empty_row, has_bit, word_at};
 use crate::summaries::{Summary, are_apart, summaries};
 use graph_model::graph::Graph;
@@ -19,6 +18,7 @@ use graph_model::laws::edges_between_lines;
 use graph_model::line_laws::accesses_fit;
 use graph_model::verb::Access;
 use index_spaces::NoMemory;
+use index_spaces::room::push;
 use std::alloc::Global;
 
 /// The least line and the least line after it that conflict, have no path either way and are not

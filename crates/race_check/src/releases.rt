@@ -8,9 +8,9 @@ ghost use Rattle.race_check.specs.Releases.{AreReleases};
 
 use crate::paths::PathTable;
 use crate::reservations::{acquired, released};
-use index_spaces::room::filled;
 use graph_model::graph::Graph;
 use index_spaces::NoMemory;
+use index_spaces::room::filled;
 use std::alloc::Global;
 
 /// The release of each line that is an acquire and has one.

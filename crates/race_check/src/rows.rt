@@ -4,8 +4,8 @@ ghost use Rattle.std.specs.Prelude.{◌≡◌, ℕ, ◌<◌, ◌/◌, ◌==◌, 
 ghost use Rattle.race_check.specs.Paths.{word_bit};
 ghost use Rattle.race_check.specs.Words.{IsWordOf, bit_in};
 
-use index_spaces::room::push;
 use index_spaces::NoMemory;
+use index_spaces::room::push;
 use std::alloc::Global;
 
 /// A row of so many words without a line.

@@ -10,9 +10,9 @@ ghost use Rattle.race_check.specs.Summaries.{AreSummaries, AreSummed, ApartIn, I
 
 use crate::paths::PathTable;
 use crate::reservations::acquires;
-use index_spaces::room::{filled, push};
 use graph_model::graph::Graph;
 use index_spaces::NoMemory;
+use index_spaces::room::{filled, push};
 use std::alloc::Global;
 
 /// For each line the first acquire of a reservation in whose section it lies, and whether it lies

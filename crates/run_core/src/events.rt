@@ -3,9 +3,9 @@
 ghost use Rattle.std.specs.Prelude.{◌≡◌, ◌≤◌};
 ghost use Rattle.gen_events.specs.EventMap.{EventMap};
 
-use index_spaces::room::{filled, push_within, with_room};
 use gen_events::{Answer, EventTable, Fate, Handle, WatchNow};
 use index_spaces::NoMemory;
+use index_spaces::room::{filled, push_within, with_room};
 use std::alloc::Global;
 use std::marker::Model;
 

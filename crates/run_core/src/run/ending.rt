@@ -15,13 +15,13 @@ use crate::columns::{Columns, give_columns};
 use crate::holders::free;
 use crate::phases::arrive;
 use crate::progress::Progress;
-use index_spaces::room::push_within;
 use crate::run::Core;
 use crate::work::Finished;
 use gen_events::{Fate, Handle};
 use graph_model::graph::Graph;
 use graph_model::outcome::End;
 use index_spaces::held::Held;
+use index_spaces::room::push_within;
 use run_state::laws::{put_back_keeps_rest, put_back_leaves};
 
 impl<'g> Core<'g> {

@@ -13,7 +13,6 @@ ghost use Rattle.run_core.specs.Answers.{answer_shown, phase_for, phase_of_line,
 
 use crate::events::LineEvents;
 use crate::progress::Progress;
-use index_spaces::room::{push_within, with_room};
 use crate::run::Core;
 use crate::sources::end_of;
 use graph_model::graph::Graph;
@@ -21,6 +20,7 @@ use graph_model::lists::{AnswerList, EndList, LineList, ValueList};
 use graph_model::outcome::{Answer, End, Outcome};
 use graph_model::verb::Verb;
 use index_spaces::NoMemory;
+use index_spaces::room::{push_within, with_room};
 use run_state::laws::{clock_is_small, quiet_gives_outcome, slots_are_by_times};
 use std::alloc::Global;
 

@@ -9,7 +9,7 @@ use Rattle.race_check.proofs.releases.releases.Goals as goal
 use Rattle.race_check.proofs.releases.releases.Goals.{in-Some, in_default}
 
 pub loop-line-init : goal.loop-line-init
-loop-line-init c = record { size = omega (arith, c.in_ok-releases.ensures.size); table = releases_begun c.args.graph.now c.in_ok-releases.releases.items c.in_ok-releases.ensures.nones }
+loop-line-init c = record { size = omega (arith, c.in_ok-releases.ensures.size); table = releases_begun c.args.graph.now c.in_ok-releases.releases.items c.in_ok-releases.ensures.each }
 
 pub loop-line-preserved : goal.loop-line-preserved
 loop-line-preserved c =
