@@ -1,6 +1,7 @@
 -- What a command line asks for: the matches of one simple command, and what its values mean.
-use Rattle.std.specs.Prelude.{Bool, List, [], ◌∷◌, Option, Some, None, option_map, option_and_then, codes, if◌then◌else◌}
+use Rattle.std.specs.Prelude.{◌≡◌, Bool, List, [], String, string_bytes, map, ◌∷◌, Option, Some, None, option_map, option_and_then, codes, if◌then◌else◌}
 use Rattle.std.specs.Option.{option_map_or}
+use Rattle.std.specs.Global.{Global}
 use Rattle.std.specs.Str.{bytes_eq}
 use Rattle.clap.specs.Words.{App, Row, Rule, Text, new_app, new_rule, with_rule, matches_of, first_of, fault_of, Kinds}
 use Rattle.clap.specs.declared.builder.action.ArgAction.TheVariants.{SetTrue}
@@ -88,3 +89,11 @@ if_faultless (kind ∷ kinds) request = None
 -- what the words ask for: nothing where the command refuses them or a value is out of the table
 abbrev pub request_of : List Text → Option Request
 request_of words = if_faultless (fault_of realm_command words) (request_in (matches_of realm_command words))
+
+-- the same of words as the code has them
+abbrev pub request_of_words : List (String Global) → Option Request
+request_of_words words = request_of (map (λ word. string_bytes word) words)
+
+-- the words ask for this
+abbrev pub Asks : List (String Global) → Request → Type 0
+Asks words request = request_of_words words ≡ Some request

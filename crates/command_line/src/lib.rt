@@ -7,9 +7,9 @@ pub mod request;
 #[cfg(test)]
 mod tests;
 
-ghost use Rattle.std.specs.Prelude.{◌≡◌, ◌≤◌, ◌⊎◌, List, Some, None, false, map, string_bytes, MatchResult, IfOk};
+ghost use Rattle.std.specs.Prelude.{◌≡◌, ◌≤◌, ◌⊎◌, List, None, false, MatchResult, IfOk};
 ghost use Rattle.clap.specs.Words.{app_of, rule_of, kind_of};
-ghost use Rattle.command_line.specs.Request.{realm_command, option_rule, flag_rule, request_of};
+ghost use Rattle.command_line.specs.Request.{realm_command, option_rule, flag_rule, request_of_words, Asks};
 ghost use Rattle.command_line.specs.Faults.{fault_by_kind};
 ghost use Rattle.command_line.specs.declared.WordsFault.{WordsFault};
 
@@ -30,8 +30,8 @@ pub enum WordsFault {
 
 /// What the words ask for. `words[0]` is the program's name.
 pub fn read_words<'a>(alloc: Global, words: &'a [String]) -> Result<Request, WordsFault>
-    ensures request { MatchResult result (λ request. request_of (map (λ word. string_bytes word) words.now) ≡ Some request)
-        (λ fault. (fault ≡ WordsFault.NoMemory) ⊎ (request_of (map (λ word. string_bytes word) words.now) ≡ None)) }
+    ensures request { MatchResult result (λ request. Asks words.now request)
+        (λ fault. (fault ≡ WordsFault.NoMemory) ⊎ (request_of_words words.now ≡ None)) }
     ensures size { IfOk result (λ request. (1 ≤ request.size) × (request.size ≤ 8192)) }
     ensures workers { IfOk result (λ request. request.workers ≤ 8) }
 {

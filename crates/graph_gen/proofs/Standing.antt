@@ -9,7 +9,7 @@ use Rattle.std.proofs.lemmas.List.Folds.{list_any-append}
 use Rattle.std.proofs.lemmas.List.Sums.{sum_by-cons}
 use Rattle.graph_model.specs.declared.verb.Access.{Access}
 use Rattle.graph_model.specs.declared.verb.Line.{Line}
-use Rattle.graph_model.specs.declared.verb.Why.TheVariants as why
+use Rattle.graph_model.specs.declared.why.Why.TheVariants as why
 use Rattle.graph_model.specs.declared.verb.Verb.{Verb}
 use Rattle.graph_model.specs.Graph.{GraphValue, ends_user, is_release_of}
 use Rattle.graph_model.specs.Access.{verb_accesses}

@@ -8,7 +8,7 @@ use Rattle.std.proofs.lemmas.List.Elements.{Contains-append_cases, Contains-appe
 use Rattle.graph_model.specs.declared.verb.Edge.{Edge}
 use Rattle.graph_model.specs.declared.verb.EdgeKind.TheVariants.{Passes}
 use Rattle.graph_model.specs.declared.verb.Line.{Line}
-use Rattle.graph_model.specs.declared.verb.Why.TheVariants as why
+use Rattle.graph_model.specs.declared.why.Why.TheVariants as why
 use Rattle.graph_model.specs.declared.verb.Verb.TheVariants.{User, Phase, Arrive}
 use Rattle.graph_model.specs.Graph.{GraphValue, verb_at, line_passes, is_user, is_phase, ends_user, never_comes}
 use Rattle.graph_model.specs.Edges.{edge, edges_from_some, verb_edges, line_edges, edges_after, edges}
@@ -27,9 +27,6 @@ pub got_in : {X : Type 0} (xs ys : List X) (k : ℕ) (x : X) → slice_get xs k 
 got_in [] ys k x h = absurd (none-some x h)
 got_in (y ∷ xs) ys zero x h = h
 got_in (y ∷ xs) ys (suc k) x h = got_in xs ys k x h
-
-pub got_contains : {X : Type 0} (xs : List X) (k : ℕ) (x : X) → slice_get xs k ≡ Some x → Contains xs x
-got_contains xs k x h = (k, slice_get_within xs k x h, get_or_from_slice_get xs k x x h)
 
 -- the edges of each line are among those of the graph
 pub line_edges_in : (before ls : List Line) (k : ℕ) (l : Line) → slice_get ls k ≡ Some l → (b : List Line) × (length b ≡ length before + k) × ((e : Edge) → Contains (line_edges b l) e → Contains (edges_after before ls) e)

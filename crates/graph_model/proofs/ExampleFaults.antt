@@ -3,7 +3,7 @@ use Rattle.std.specs.Prelude.{◌≡◌, [], ◌∷◌, Some, None, codes, refl}
 use Rattle.std.specs.Fmt.{digits}
 use Rattle.graph_model.specs.declared.decl.Decl.TheVariants.{Space, Inst}
 use Rattle.graph_model.specs.declared.verb.Verb.TheVariants.{User, Trigger, Cancel, Arrive, Fill}
-use Rattle.graph_model.specs.declared.verb.Why.TheVariants as why
+use Rattle.graph_model.specs.declared.why.Why.TheVariants as why
 use Rattle.graph_model.specs.Graph.{GraphValue}
 use Rattle.graph_model.specs.Fits.{line_fault}
 use Rattle.graph_model.proofs.Examples.{graph, line, wrapping_sum}

@@ -33,4 +33,5 @@ pub mod LineFacts
 pub mod HeldCellsLaws
 pub mod VerbFacts
 pub mod ReleaseFacts
+pub mod SectionLaws
 pub mod EdgeFacts

@@ -14,7 +14,7 @@ use Rattle.graph_model.specs.declared.verb.Verb.TheVariants.{Phase}
 use Rattle.graph_model.specs.Graph.{GraphValue, ColumnInfo, columns, column_space, named_spaces, space_at, barriers, verb_at}
 use Rattle.graph_model.specs.Access.{accesses, verb_accesses}
 use Rattle.graph_model.specs.Fits.{first_reason, line_tests, line_fault, access_unknown, access_outside, is_used, verb_repeats, repeats, IsGraph}
-use Rattle.graph_model.specs.declared.verb.Why.TheVariants as why
+use Rattle.graph_model.specs.declared.why.Why.TheVariants as why
 use Rattle.graph_model.specs.LineLaws.{AccessFits, AccessesFit, ColumnsDiffer, PhasesFit}
 use Rattle.basics.proofs.ListFacts.{contains_none, passes_some, passes_each}
 use Rattle.graph_model.proofs.GraphFacts.{fit_at, fits_known, none_first, spaces_are}

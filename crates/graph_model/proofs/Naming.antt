@@ -21,7 +21,7 @@ use Rattle.graph_model.specs.declared.verb.Verb.TheVariants.{User}
 use Rattle.graph_model.specs.Graph.{GraphValue, BarrierInfo, decl_name, space_of, lock_of, barrier_of, named_spaces, locks, barriers}
 use Rattle.graph_model.specs.Fits.{is_inst, is_used, repeats, decl_repeats, verb_repeats, decl_tests, decl_fault, line_tests, line_fault, with_decl, with_line}
 use Rattle.graph_model.specs.declared.verb.Access.{Access}
-use Rattle.graph_model.specs.declared.verb.Why.TheVariants as why
+use Rattle.graph_model.specs.declared.why.Why.TheVariants as why
 use Rattle.graph_model.specs.Access.{verb_accesses}
 use Rattle.graph_model.proofs.GraphFacts.{none_first}
 use Rattle.graph_model.specs.Names.{is_inst_named, StandsFor, found_decl, named, AreNamesOf}

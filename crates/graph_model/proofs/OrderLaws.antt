@@ -7,7 +7,7 @@ use Rattle.graph_model.specs.declared.verb.Edge.{Edge}
 use Rattle.graph_model.specs.Graph.{GraphValue}
 use Rattle.graph_model.specs.Edges.{edges}
 use Rattle.graph_model.specs.Evaluation.{Step, has_ended, eval_end, is_ended, evaluation, order}
-use Rattle.basics.proofs.ListFacts.{contains_none, contains_cases, contains_here, contains_there, some_passes, passes_some, map_contains, contains_map}
+use Rattle.basics.proofs.ListFacts.{got_contains, contains_none, contains_cases, contains_here, contains_there, some_passes, passes_some, map_contains, contains_map}
 use Rattle.graph_model.proofs.Waiting.{end_in_left, end_in_ended, steps_end}
 use Rattle.graph_model.proofs.Turns.{turns_after}
 use Rattle.graph_model.proofs.Confluence.{Fresh, steps_fresh, order_round}
@@ -30,12 +30,7 @@ listed_iff_ended g i = (
   λ h. ended_listed (evaluation g) i (true_from_ne_false (has_ended (evaluation g) i) (λ f. true≢false (sym h ∙ ap is_ended (end_in_left (evaluation g) i f)))),
 )
 
--- an item of a list is listed
-got_is_listed : (xs : List ℕ) (k i : ℕ) → slice_get xs k ≡ Some i → Contains xs i
-got_is_listed [] k i h = absurd (none-some i h)
-got_is_listed (x ∷ xs) zero i h = subst (λ z. Contains (x ∷ xs) z) (same_Some x i h) (contains_here x xs)
-got_is_listed (x ∷ xs) (suc k) i h = contains_there x xs i (got_is_listed xs k i h)
-
+-- a listed item has a place
 listed_is_got : (xs : List ℕ) (i : ℕ) → Contains xs i → (k : ℕ) × (k < length xs) × (slice_get xs k ≡ Some i)
 listed_is_got [] i c = absurd (contains_none i c)
 listed_is_got (x ∷ xs) i c = elim (contains_cases x xs i c) [
@@ -46,8 +41,8 @@ listed_is_got (x ∷ xs) i c = elim (contains_cases x xs i c) [
 once_in : (ss : List Step) → Fresh ss → (k m i : ℕ) → slice_get (lines_of ss) k ≡ Some i → slice_get (lines_of ss) m ≡ Some i → k ≡ m
 once_in [] f k m i hk hm = absurd (none-some i hk)
 once_in (s ∷ ss) f zero zero i hk hm = refl
-once_in (s ∷ ss) f zero (suc m) i hk hm = absurd (true≢false (sym (listed_ended ss i (got_is_listed (lines_of ss) m i hm)) ∙ (ap (has_ended ss) (sym (same_Some s.line i hk)) ∙ f.0)))
-once_in (s ∷ ss) f (suc k) zero i hk hm = absurd (true≢false (sym (listed_ended ss i (got_is_listed (lines_of ss) k i hk)) ∙ (ap (has_ended ss) (sym (same_Some s.line i hm)) ∙ f.0)))
+once_in (s ∷ ss) f zero (suc m) i hk hm = absurd (true≢false (sym (listed_ended ss i (got_contains (lines_of ss) m i hm)) ∙ (ap (has_ended ss) (sym (same_Some s.line i hk)) ∙ f.0)))
+once_in (s ∷ ss) f (suc k) zero i hk hm = absurd (true≢false (sym (listed_ended ss i (got_contains (lines_of ss) k i hk)) ∙ (ap (has_ended ss) (sym (same_Some s.line i hm)) ∙ f.0)))
 once_in (s ∷ ss) f (suc k) (suc m) i hk hm = ap suc (once_in ss f.1 k m i hk hm)
 
 -- places before a line, and its own

@@ -16,7 +16,7 @@ use Rattle.graph_model.specs.Access.{verb_accesses}
 use Rattle.graph_model.specs.Fits.{is_used, repeats, line_tests, line_fault, verb_repeats, verb_unlike, takes_no_on, LinesFit, IsGraph, verb_unknown}
 use Rattle.graph_model.proofs.GraphFacts.{none_first, fit_at, fits_known}
 use Rattle.graph_model.proofs.VerbFacts.{verb_line, acquire_is, release_is, is_acquire_from}
-use Rattle.graph_model.specs.declared.verb.Why.TheVariants as why
+use Rattle.graph_model.specs.declared.why.Why.TheVariants as why
 
 -- the reservation of an acquire is declared
 pub lock_known : (g : GraphValue) → IsGraph g → (i k : ℕ) (l : Line) → slice_get g.lines i ≡ Some l → l.verb ≡ Acquire k → k < length (locks g)

@@ -11,7 +11,7 @@ use Rattle.std.proofs.lemmas.List.Elements.{filter_map-append, Contains-append_c
 use Rattle.graph_model.specs.declared.decl.Decl.{Decl}
 use Rattle.graph_model.specs.declared.decl.Decl.TheVariants.{Space, Inst, Lock, Barrier}
 use Rattle.graph_model.specs.declared.verb.Line.{Line}
-use Rattle.graph_model.specs.declared.verb.Why.TheVariants as why
+use Rattle.graph_model.specs.declared.why.Why.TheVariants as why
 use Rattle.graph_model.specs.Graph.{GraphValue, ColumnInfo, BarrierInfo, space_of, columns_of, lock_of, barrier_of, named_spaces, columns, locks, barriers, space_at}
 use Rattle.graph_model.specs.Fits.{is_inst, is_large, is_beyond, cell_count, merges_many, decl_unknown, decl_tests, decl_fault, line_tests, line_fault, with_decl, with_line, DeclsFit, IsGraph}
 use Rattle.graph_model.specs.Edges.{edges}

@@ -15,7 +15,7 @@ use Rattle.graph_model.specs.Effect.{Cells, Change, Set, Add, CellChange, cells_
 use Rattle.graph_model.specs.Evaluation.{Step, is_ended, is_cancelled, step_by, evaluation, order, eval_end, eval_changes, cells_of_lines, Unbroken}
 use Rattle.graph_model.specs.Fits.{IsGraph}
 use Rattle.graph_model.specs.Need.{IsNeed}
-use Rattle.graph_model.specs.Trace.{ListsEnded}
+use Rattle.graph_model.specs.Trace.{ListsEnded, IsLawful, SectionsApart}
 
 -- one path after another is a path
 abbrev pub PathsCompose : Type 0
@@ -111,3 +111,7 @@ OrderIrrelevant = (g : GraphValue) (i : ℕ) (ended : ℕ → Bool) (put : ℕ �
 -- a graph has one need
 abbrev pub OneNeed : Type 0
 OneNeed = (g : GraphValue) (n m : ℕ) → IsNeed g n → IsNeed g m → n ≡ m
+
+-- in a lawful trace of an accepted graph the sections of one reservation never overlap
+abbrev pub SectionsNeverOverlap : Type 0
+SectionsNeverOverlap = (g : GraphValue) (trace : List ℕ) → IsGraph g → Accepted g → IsLawful g trace → SectionsApart g trace

@@ -22,3 +22,8 @@ pub record IsLawful (g : GraphValue) (trace : List ℕ) : Type 0 where
   pub lists : ListsEnded g trace
   pub sections : (l q k : ℕ) → Acquires g q l → Acquires g k l → q ≢ k → eval_end g q ≡ Done → eval_end g k ≡ Done →
       ((r : ℕ) × Releases g r q × StandsBefore trace r k) ⊎ ((r : ℕ) × Releases g r k × StandsBefore trace r q)
+
+-- between an acquire that ended Done and its release stands no other acquire of that reservation that ended Done
+abbrev pub SectionsApart : GraphValue → List ℕ → Type 0
+SectionsApart g trace = (l q k r : ℕ) → Acquires g q l → Acquires g k l → q ≢ k → eval_end g q ≡ Done → eval_end g k ≡ Done →
+    Releases g r q → StandsBefore trace q k → StandsBefore trace k r → ⊥

@@ -1,6 +1,6 @@
 //! What holds of all graphs, for callers to cite. No function here does anything.
 
-ghost use Rattle.graph_model.specs.Laws.{PathsCompose, EdgesBetweenLines, ChangesWithinAccesses, ReadyWhereUnreached, WaitsWhereReached, CancelledWhereUnbroken, OrderListsEnded, ChangesNameEachCellOnce, OrderIrrelevant, OneNeed};
+ghost use Rattle.graph_model.specs.Laws.{PathsCompose, EdgesBetweenLines, ChangesWithinAccesses, ReadyWhereUnreached, WaitsWhereReached, CancelledWhereUnbroken, OrderListsEnded, ChangesNameEachCellOnce, OrderIrrelevant, OneNeed, SectionsNeverOverlap};
 
 use index_spaces::laws::points_ascend;
 
@@ -57,4 +57,10 @@ pub fn order_is_irrelevant()
 /// A graph has one need.
 pub fn needs_are_one()
     ensures { OneNeed }
+{}
+
+/// In a lawful trace of an accepted graph the sections of one reservation never overlap: between an
+/// acquire that is done and its release stands no other acquire of that reservation that is done.
+pub fn sections_never_overlap()
+    ensures { SectionsNeverOverlap }
 {}

@@ -24,4 +24,5 @@ mod tables;
 #[cfg(test)]
 mod tests;
 pub mod verb;
+pub mod why;
 mod words;

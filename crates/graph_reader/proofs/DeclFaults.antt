@@ -8,8 +8,8 @@ use Rattle.index_spaces.specs.declared.Op.{Op}
 use Rattle.graph_model.specs.declared.decl.Decl.{Decl}
 use Rattle.graph_model.specs.declared.decl.Decl.TheVariants as decl
 use Rattle.graph_model.specs.declared.verb.Line.{Line}
-use Rattle.graph_model.specs.declared.verb.Why.{Why}
-use Rattle.graph_model.specs.declared.verb.Why.TheVariants as why
+use Rattle.graph_model.specs.declared.why.Why.{Why}
+use Rattle.graph_model.specs.declared.why.Why.TheVariants as why
 use Rattle.graph_model.specs.Graph.{GraphValue, named_spaces, columns, columns_of}
 use Rattle.index_spaces.specs.Space.{space_size}
 use Rattle.std.proofs.lemmas.Option.{none-some, same_Some}

@@ -4,7 +4,7 @@ use Rattle.std.specs.Prelude.{Option, Some, None, bytes_eq, nat_eq, filter_map, 
 use Rattle.std.specs.List.{list_any, list_all, AllByRecursion, cons_option}
 use Rattle.std.proofs.lemmas.Bool.{or_parts, or_from, and_parts, false_from_ne_true, eqb-false, not-true, leb-true}
 use Rattle.std.proofs.lemmas.Option.{none-some}
-use Rattle.graph_model.specs.declared.verb.Why.{Why}
+use Rattle.graph_model.specs.declared.why.Why.{Why}
 use Rattle.graph_model.specs.Graph.{GraphValue}
 use Rattle.graph_model.specs.Spelling.{column_name}
 use Rattle.graph_model.specs.Fits.{first_reason, repeats}

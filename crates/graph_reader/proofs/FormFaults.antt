@@ -7,8 +7,8 @@ use Rattle.std.proofs.lemmas.Bool.{cond-true}
 use Rattle.graph_model.specs.declared.decl.Decl.{Decl}
 use Rattle.graph_model.specs.declared.verb.Line.{Line}
 use Rattle.graph_model.specs.declared.verb.Verb.{Verb}
-use Rattle.graph_model.specs.declared.verb.Why.{Why}
-use Rattle.graph_model.specs.declared.verb.Why.TheVariants as why
+use Rattle.graph_model.specs.declared.why.Why.{Why}
+use Rattle.graph_model.specs.declared.why.Why.TheVariants as why
 use Rattle.graph_model.specs.Graph.{GraphValue}
 use Rattle.graph_model.specs.Name.{is_name}
 use Rattle.graph_model.specs.Fits.{repeats, first_reason, is_used}

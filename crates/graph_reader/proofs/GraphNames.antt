@@ -9,7 +9,7 @@ use Rattle.std.proofs.lemmas.List.Elements.{Contains-append_left, Contains-appen
 use Rattle.graph_model.specs.declared.decl.Decl.{Decl}
 use Rattle.graph_model.specs.declared.decl.Decl.TheVariants as decl
 use Rattle.graph_model.specs.declared.verb.Line.{Line}
-use Rattle.graph_model.specs.declared.verb.Why.{Why}
+use Rattle.graph_model.specs.declared.why.Why.{Why}
 use Rattle.graph_model.specs.Name.{is_name}
 use Rattle.graph_model.specs.declared.decl.ColumnInfo.{ColumnInfo}
 use Rattle.graph_model.specs.declared.decl.BarrierInfo.{BarrierInfo}

@@ -9,7 +9,7 @@ use Rattle.index_spaces.specs.declared.Op.{Op}
 use Rattle.graph_model.specs.declared.decl.Decl.{Decl}
 use Rattle.graph_model.specs.declared.verb.Line.{Line}
 use Rattle.graph_model.specs.declared.verb.Verb.{Verb}
-use Rattle.graph_model.specs.declared.verb.Why.TheVariants as why
+use Rattle.graph_model.specs.declared.why.Why.TheVariants as why
 use Rattle.graph_reader.specs.declared.item.ItemError.TheVariants as errors
 use Rattle.graph_reader.specs.FirstFault.{is_empty, words_fault, draft_fault}
 use Rattle.graph_model.specs.declared.verb.Verb.TheVariants.{Merge, MergeIgnore}

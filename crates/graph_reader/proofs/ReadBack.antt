@@ -12,7 +12,7 @@ use Rattle.graph_model.specs.declared.decl.Decl.TheVariants as decl
 use Rattle.graph_model.specs.declared.verb.Line.{Line}
 use Rattle.graph_model.specs.declared.verb.Verb.{Verb}
 use Rattle.graph_model.specs.declared.verb.Verb.TheVariants.{User, Trigger, Cancel, Merge, MergeIgnore, Phase, Arrive, Acquire, Release, Fill, Copy, Reduce, Task}
-use Rattle.graph_model.specs.declared.verb.Why.TheVariants.{Syntax}
+use Rattle.graph_model.specs.declared.why.Why.TheVariants.{Syntax}
 use Rattle.graph_model.specs.Name.{is_name}
 use Rattle.graph_model.specs.Graph.{GraphValue, decl_name, named_spaces}
 use Rattle.graph_model.specs.Spelling.{space_name, line_name, column_name, op_word, interval_word, comma_word, decl_words, verb_words, on_words, line_words}

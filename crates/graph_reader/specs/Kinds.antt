@@ -5,11 +5,11 @@ use Rattle.std.proofs.Common.{inr}
 use Rattle.graph_model.specs.declared.verb.Line.{Line}
 use Rattle.graph_model.specs.declared.verb.Verb.{Verb}
 use Rattle.graph_model.specs.declared.verb.Verb.TheVariants.{User}
-use Rattle.graph_model.specs.declared.verb.Why.{Why}
+use Rattle.graph_model.specs.declared.why.Why.{Why}
 use Rattle.graph_model.specs.Graph.{GraphValue}
 use Rattle.graph_reader.specs.Draft.{Form, forms, form_without_on, form_draft, has_on, on_placed, line_number, Draft, Placed, number_in}
 use Rattle.graph_reader.specs.Draft as draft
-use Rattle.graph_model.specs.declared.verb.Why.TheVariants as why
+use Rattle.graph_model.specs.declared.why.Why.TheVariants as why
 use Rattle.graph_model.specs.Name.{is_name}
 use Rattle.graph_model.specs.Fits.{first_reason, is_used, repeats, line_fault}
 use Rattle.std.specs.Str.{bytes_eq}

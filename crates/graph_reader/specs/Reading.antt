@@ -7,8 +7,8 @@ use Rattle.graph_model.specs.declared.verb.Line.{Line}
 use Rattle.graph_model.specs.Graph.{GraphValue}
 use Rattle.graph_model.specs.Fits.{first_reason, repeats, is_used, with_decl, with_line, decl_fault, line_fault, IsDecl, IsLine}
 use Rattle.graph_model.specs.declared.decl.Decl.TheVariants as decl
-use Rattle.graph_model.specs.declared.verb.Why.{Why}
-use Rattle.graph_model.specs.declared.verb.Why.TheVariants as why
+use Rattle.graph_model.specs.declared.why.Why.{Why}
+use Rattle.graph_model.specs.declared.why.Why.TheVariants as why
 use Rattle.graph_model.specs.Name.{is_name}
 use Rattle.index_spaces.specs.declared.space.SpaceFault.{SpaceFault}
 use Rattle.index_spaces.specs.declared.space.SpaceFault.TheVariants as spaces

@@ -16,7 +16,7 @@ use graph_model::decl::Decl;
 use graph_model::graph::Graph;
 use graph_model::lists::NameList;
 use graph_model::name::Name;
-use graph_model::verb::Why;
+use graph_model::why::Why;
 use index_spaces::Op;
 use index_spaces::space::{Space, SpaceFault};
 use std::alloc::Global;

@@ -1,5 +1,6 @@
 //! Operation lines but for merges.
 
+ghost use Rattle.basics.specs.Words.{contents};
 ghost use Rattle.std.specs.Prelude.{◌≡◌, map, zip, length, List, ℕ, [], ◌∷◌, ◌+◌, slice_index_or, unwrap_or, None, Some};
 ghost use Rattle.std.specs.List.{list_any};
 ghost use Rattle.std.specs.Str.{bytes_eq};
@@ -16,10 +17,11 @@ use crate::verbs::{line_at, verb_of};
 use crate::words::{has_on, word};
 use graph_model::graph::Graph;
 use graph_model::name::Name;
-use graph_model::verb::{Line, Why};
+use graph_model::verb::Line;
+use graph_model::why::Why;
 
 fn any_misnamed(places: &[Place], words: &[&[u8]]) -> bool
-    ensures { result ≡ list_any (λ (p : Placed). misnamed p.0 p.1) (zip (map as_place places.now) (map (λ w. w.now) words.now)) }
+    ensures { result ≡ list_any (λ (p : Placed). misnamed p.0 p.1) (zip (map as_place places.now) (contents words.now)) }
 {
     places
         .iter()
@@ -28,7 +30,7 @@ fn any_misnamed(places: &[Place], words: &[&[u8]]) -> bool
 }
 
 fn any_twice(graph: &Graph, places: &[Place], words: &[&[u8]]) -> bool
-    ensures { result ≡ list_any (λ (p : Placed). twice graph.now p.0 p.1) (zip (map as_place places.now) (map (λ w. w.now) words.now)) }
+    ensures { result ≡ list_any (λ (p : Placed). twice graph.now p.0 p.1) (zip (map as_place places.now) (contents words.now)) }
 {
     places
         .iter()
@@ -37,7 +39,7 @@ fn any_twice(graph: &Graph, places: &[Place], words: &[&[u8]]) -> bool
 }
 
 fn any_unknown(graph: &Graph, places: &[Place], words: &[&[u8]]) -> bool
-    ensures { result ≡ list_any (λ (p : Placed). unknown graph.now p.0 p.1) (zip (map as_place places.now) (map (λ w. w.now) words.now)) }
+    ensures { result ≡ list_any (λ (p : Placed). unknown graph.now p.0 p.1) (zip (map as_place places.now) (contents words.now)) }
 {
     places
         .iter()
@@ -46,7 +48,7 @@ fn any_unknown(graph: &Graph, places: &[Place], words: &[&[u8]]) -> bool
 }
 
 fn any_unlike(graph: &Graph, places: &[Place], words: &[&[u8]]) -> bool
-    ensures { result ≡ list_any (λ (p : Placed). unlike graph.now p.0 p.1) (zip (map as_place places.now) (map (λ w. w.now) words.now)) }
+    ensures { result ≡ list_any (λ (p : Placed). unlike graph.now p.0 p.1) (zip (map as_place places.now) (contents words.now)) }
 {
     places
         .iter()
@@ -55,7 +57,7 @@ fn any_unlike(graph: &Graph, places: &[Place], words: &[&[u8]]) -> bool
 }
 
 fn any_misnumbered(places: &[Place], words: &[&[u8]]) -> bool
-    ensures { result ≡ list_any (λ (p : Placed). misnumbered p.0 p.1) (zip (map as_place places.now) (map (λ w. w.now) words.now)) }
+    ensures { result ≡ list_any (λ (p : Placed). misnumbered p.0 p.1) (zip (map as_place places.now) (contents words.now)) }
 {
     places
         .iter()
@@ -66,7 +68,7 @@ fn any_misnumbered(places: &[Place], words: &[&[u8]]) -> bool
 /// Whether one column stands there twice.
 #[tactic(auto, unfolding(crate::specs::Kinds::columns_twice))]
 fn columns_repeat(kind: Kind, words: &[&[u8]]) -> bool
-    ensures { result ≡ columns_twice kind (map (λ w. w.now) words.now) }
+    ensures { result ≡ columns_twice kind (contents words.now) }
 {
     match kind {
         Kind::Copy
@@ -88,7 +90,7 @@ fn columns_repeat(kind: Kind, words: &[&[u8]]) -> bool
 
 /// The word behind `on`.
 fn event_behind<'a>(kind: Kind, words: &[&'a [u8]]) -> &'a [u8]
-    ensures { result.now ≡ slice_index_or (map (λ w. w.now) words.now) (length (kind_form kind).places + 1) [] }
+    ensures { result.now ≡ slice_index_or (contents words.now) (length (kind_form kind).places + 1) [] }
 {
     word(words, kind.places().len() + 1)
 }
@@ -96,7 +98,7 @@ fn event_behind<'a>(kind: Kind, words: &[&'a [u8]]) -> &'a [u8]
 /// Whether a word of a line is not spelled as its place asks, where it asks for names.
 #[tactic(auto, using(crate::proofs::FormFaults::fails_is))]
 fn form_misnamed(kind: Kind, words: &[&[u8]]) -> bool
-    ensures { result ≡ form_fails misnamed kind (map (λ w. w.now) words.now) }
+    ensures { result ≡ form_fails misnamed kind (contents words.now) }
 {
     let places = kind.places();
     any_misnamed(places, words)
@@ -106,7 +108,7 @@ fn form_misnamed(kind: Kind, words: &[&[u8]]) -> bool
 /// Whether a word of a line names what was ended or released already.
 #[tactic(auto, using(crate::proofs::FormFaults::fails_is))]
 fn form_twice(graph: &Graph, kind: Kind, words: &[&[u8]]) -> bool
-    ensures { result ≡ form_fails (twice graph.now) kind (map (λ w. w.now) words.now) }
+    ensures { result ≡ form_fails (twice graph.now) kind (contents words.now) }
 {
     any_twice(graph, kind.places(), words)
 }
@@ -114,7 +116,7 @@ fn form_twice(graph: &Graph, kind: Kind, words: &[&[u8]]) -> bool
 /// Whether a word of a line names what is not declared.
 #[tactic(auto, using(crate::proofs::FormFaults::fails_is))]
 fn form_unknown(graph: &Graph, kind: Kind, words: &[&[u8]]) -> bool
-    ensures { result ≡ form_fails (unknown graph.now) kind (map (λ w. w.now) words.now) }
+    ensures { result ≡ form_fails (unknown graph.now) kind (contents words.now) }
 {
     let places = kind.places();
     any_unknown(graph, places, words)
@@ -124,7 +126,7 @@ fn form_unknown(graph: &Graph, kind: Kind, words: &[&[u8]]) -> bool
 /// Whether a word of a line names a thing of another kind than its place takes.
 #[tactic(auto, using(crate::proofs::FormFaults::fails_is))]
 fn form_unlike(graph: &Graph, kind: Kind, words: &[&[u8]]) -> bool
-    ensures { result ≡ form_fails (unlike graph.now) kind (map (λ w. w.now) words.now) }
+    ensures { result ≡ form_fails (unlike graph.now) kind (contents words.now) }
 {
     let places = kind.places();
     any_unlike(graph, places, words)
@@ -134,7 +136,7 @@ fn form_unlike(graph: &Graph, kind: Kind, words: &[&[u8]]) -> bool
 /// Whether a word of a line is not spelled as the number that its place asks for.
 #[tactic(auto, using(crate::proofs::FormFaults::fails_is))]
 fn form_misnumbered(kind: Kind, words: &[&[u8]]) -> bool
-    ensures { result ≡ form_fails misnumbered kind (map (λ w. w.now) words.now) }
+    ensures { result ≡ form_fails misnumbered kind (contents words.now) }
 {
     any_misnumbered(kind.places(), words)
 }
@@ -142,7 +144,7 @@ fn form_misnumbered(kind: Kind, words: &[&[u8]]) -> bool
 /// The first reason that refuses a word of a line.
 #[tactic(auto, unfolding(crate::specs::Kinds::form_reason))]
 fn form_fault(graph: &Graph, kind: Kind, name: &[u8], words: &[&[u8]]) -> Option<Why>
-    ensures { result ≡ form_reason graph.now kind name.now (map (λ w. w.now) words.now) }
+    ensures { result ≡ form_reason graph.now kind name.now (contents words.now) }
 {
     if !is_name(name) || form_misnamed(kind, words) {
         return Some(Why::Name);
@@ -167,7 +169,7 @@ fn form_fault(graph: &Graph, kind: Kind, name: &[u8], words: &[&[u8]]) -> Option
 
 /// The line that a word has `on` before it waits for.
 fn on_of(graph: &Graph, kind: Kind, words: &[&[u8]]) -> Option<u32>
-    ensures { result ≡ kind_on graph.now kind (map (λ w. w.now) words.now) }
+    ensures { result ≡ kind_on graph.now kind (contents words.now) }
 {
     if has_on(kind, words) {
         Some(line_at(graph, words, kind.places().len() + 1))
@@ -178,7 +180,7 @@ fn on_of(graph: &Graph, kind: Kind, words: &[&[u8]]) -> Option<u32>
 
 /// The line that words spell in their places, where each stands for something.
 fn line_of(graph: &Graph, kind: Kind, name: Name, words: &[&[u8]]) -> Line
-    ensures { result ≡ kind_line graph.now kind name (map (λ w. w.now) words.now) }
+    ensures { result ≡ kind_line graph.now kind name (contents words.now) }
 {
     Line {
         name,
@@ -204,8 +206,8 @@ pub(crate) fn read_form(
     name: &[u8],
     words: &[&[u8]],
 ) -> Result<Line, Why>
-    requires { HasPlaces kind (map (λ w. w.now) words.now) }
-    ensures { IsReading graph.now (kind_draft graph.now kind name.now (map (λ w. w.now) words.now)) result }
+    requires { HasPlaces kind (contents words.now) }
+    ensures { IsReading graph.now (kind_draft graph.now kind name.now (contents words.now)) result }
 {
     let Some(new) = Name::new(name) else {
         return Err(Why::Name);

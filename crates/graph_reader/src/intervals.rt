@@ -1,5 +1,6 @@
 //! Intervals that words spell.
 
+ghost use Rattle.basics.specs.Words.{contents};
 ghost use Rattle.std.specs.Prelude.{◌≡◌, map, IfOk};
 ghost use Rattle.graph_reader.specs.Words.{pieces, interval_of, all_intervals, intervals_of};
 ghost use Rattle.graph_reader.specs.Cuts.{dotted, Gives};
@@ -42,7 +43,7 @@ fn interval(word: &[u8]) -> Option<(u32, u32)>
 
 /// The intervals that words spell, one each.
 fn each_interval(alloc: Global, words: &[&[u8]]) -> Result<Option<Vec<(u32, u32)>>, NoMemory>
-    ensures { IfOk result (λ o. Gives (λ v. v.items) o (all_intervals (map (λ w. w.now) words.now))) }
+    ensures { IfOk result (λ o. Gives (λ v. v.items) o (all_intervals (contents words.now))) }
 {
     let mut pairs = Vec::new(alloc);
     for word in words {

@@ -1,7 +1,8 @@
 //! What a line of text is read as.
 
 use graph_model::decl::Decl;
-use graph_model::verb::{Line, Why};
+use graph_model::verb::Line;
+use graph_model::why::Why;
 
 /// A declaration or an operation line.
 #[derive(Drop)]

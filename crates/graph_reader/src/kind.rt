@@ -1,5 +1,6 @@
 //! Kinds of operation lines.
 
+ghost use Rattle.basics.specs.Words.{contents};
 ghost use Rattle.std.specs.Prelude.{◌≡◌, map, length};
 ghost use Rattle.graph_reader.specs.Kinds.{kind_words, kind_form, as_place, kind_takes_on};
 
@@ -33,7 +34,7 @@ pub(crate) enum Kind {
 impl Kind {
     /// The fixed words behind the sign.
     pub(crate) fn words(self) -> &'static [&'static [u8]]
-        ensures { map (λ w. w.now) result.now ≡ kind_words self }
+        ensures { contents result.now ≡ kind_words self }
     {
         match self {
             Kind::User => &[b"user"],

@@ -21,8 +21,9 @@ mod word_kinds;
 mod words;
 mod writer;
 
-use graph_model::verb::Why;
+use graph_model::why::Why;
 pub use reader::read_graph;
+pub use word_kinds::{put_column_name, put_interval};
 pub use writer::put_graph;
 
 /// Why bytes are not read as a graph.

@@ -1,5 +1,6 @@
 //! Lines between the first and the closing one.
 
+ghost use Rattle.basics.specs.Words.{contents};
 ghost use Rattle.std.specs.Prelude.{◌≡◌, ℕ, ◌<◌, map, [], false, true, MatchResult, drop, length, find, codes};
 ghost use Rattle.std.specs.List.{list_any};
 ghost use Rattle.std.specs.Str.{bytes_eq};
@@ -18,7 +19,8 @@ use crate::merges::read_merge;
 use crate::words::{behind, kind_of, split, word};
 use graph_model::decl::Decl;
 use graph_model::graph::Graph;
-use graph_model::verb::{Line, Why};
+use graph_model::verb::Line;
+use graph_model::why::Why;
 use index_spaces::Op;
 use std::alloc::Global;
 
@@ -40,7 +42,7 @@ fn op_of(word: &[u8]) -> Option<Op>
 /// The declaration of a space by its words, of which the first says so.
 #[tactic(auto, using(crate::proofs::LineShapes::space_shape, crate::proofs::LineShapes::no_space_shape))]
 fn space_line(alloc: Global, graph: &Graph, words: &[&[u8]]) -> Result<Decl, ItemError>
-    ensures { IsDeclOf graph.now (space_draft graph.now (drop 1 (map (λ w. w.now) words.now))) result }
+    ensures { IsDeclOf graph.now (space_draft graph.now (drop 1 (contents words.now))) result }
 {
     if words.len() != 3 {
         return Err(ItemError::Refused(Why::Syntax));
@@ -51,7 +53,7 @@ fn space_line(alloc: Global, graph: &Graph, words: &[&[u8]]) -> Result<Decl, Ite
 /// The declaration of an instance by its words, of which the first says so.
 #[tactic(auto, using(crate::proofs::LineShapes::inst_shape, crate::proofs::LineShapes::no_inst_shape))]
 fn inst_line(alloc: Global, graph: &Graph, words: &[&[u8]]) -> Result<Decl, ItemError>
-    ensures { IsDeclOf graph.now (inst_draft graph.now (drop 1 (map (λ w. w.now) words.now))) result }
+    ensures { IsDeclOf graph.now (inst_draft graph.now (drop 1 (contents words.now))) result }
 {
     if words.len() != 4 {
         return Err(ItemError::Refused(Why::Syntax));
@@ -62,7 +64,7 @@ fn inst_line(alloc: Global, graph: &Graph, words: &[&[u8]]) -> Result<Decl, Item
 /// The declaration of a reservation by its words, of which the first says so.
 #[tactic(auto, using(crate::proofs::LineShapes::lock_shape, crate::proofs::LineShapes::no_lock_shape))]
 fn lock_line(graph: &Graph, words: &[&[u8]]) -> Result<Decl, ItemError>
-    ensures { IsDeclOf graph.now (lock_draft graph.now (drop 1 (map (λ w. w.now) words.now))) result }
+    ensures { IsDeclOf graph.now (lock_draft graph.now (drop 1 (contents words.now))) result }
 {
     if words.len() != 2 {
         return Err(ItemError::Refused(Why::Syntax));
@@ -73,7 +75,7 @@ fn lock_line(graph: &Graph, words: &[&[u8]]) -> Result<Decl, ItemError>
 /// The declaration of a barrier by its words, of which the first says so.
 #[tactic(auto, using(crate::proofs::LineShapes::barrier_shape, crate::proofs::LineShapes::no_barrier_shape))]
 fn barrier_line(graph: &Graph, words: &[&[u8]]) -> Result<Decl, ItemError>
-    ensures { IsDeclOf graph.now (barrier_draft graph.now (drop 1 (map (λ w. w.now) words.now))) result }
+    ensures { IsDeclOf graph.now (barrier_draft graph.now (drop 1 (contents words.now))) result }
 {
     if words.len() != 5 {
         return Err(ItemError::Refused(Why::Syntax));
@@ -86,7 +88,7 @@ fn barrier_line(graph: &Graph, words: &[&[u8]]) -> Result<Decl, ItemError>
 
 /// The declaration that words spell.
 fn read_decl(alloc: Global, graph: &Graph, words: &[&[u8]]) -> Result<Decl, ItemError>
-    ensures { IsDeclOf graph.now (decl_draft graph.now (map (λ w. w.now) words.now)) result }
+    ensures { IsDeclOf graph.now (decl_draft graph.now (contents words.now)) result }
 {
     let kind = word(words, 0);
     if kind == b"space".as_slice() {
@@ -112,7 +114,7 @@ fn merge_line(
     name: &[u8],
     words: &[&[u8]],
 ) -> Result<Line, ItemError>
-    ensures { IsLineOf graph.now (merge_draft graph.now name.now (merge_verb ignores) (drop 1 (map (λ w. w.now) words.now))) result }
+    ensures { IsLineOf graph.now (merge_draft graph.now name.now (merge_verb ignores) (drop 1 (contents words.now))) result }
 {
     if words.len() < 2 {
         return Err(ItemError::Refused(Why::Syntax));
@@ -122,8 +124,8 @@ fn merge_line(
 
 /// The line of a kind that words spell.
 fn kind_line(graph: &Graph, kind: Kind, name: &[u8], words: &[&[u8]]) -> Result<Line, ItemError>
-    requires { is_of_form (map (λ w. w.now) words.now) (kind_form kind) ≡ true }
-    ensures { IsLineRead graph.now (kind_draft graph.now kind name.now (drop (length (kind_form kind).words) (map (λ w. w.now) words.now))) result }
+    requires { is_of_form (contents words.now) (kind_form kind) ≡ true }
+    ensures { IsLineRead graph.now (kind_draft graph.now kind name.now (drop (length (kind_form kind).words) (contents words.now))) result }
 {
     match read_form(graph, kind, name, behind(words, kind.words().len())) {
         Ok(line) => Ok(line),
@@ -133,7 +135,7 @@ fn kind_line(graph: &Graph, kind: Kind, name: &[u8], words: &[&[u8]]) -> Result<
 
 /// The operation line with this name that the words behind the sign spell.
 fn read_line(alloc: Global, graph: &Graph, name: &[u8], words: &[&[u8]]) -> Result<Line, ItemError>
-    ensures { IsLineOf graph.now (line_draft graph.now name.now (map (λ w. w.now) words.now)) result }
+    ensures { IsLineOf graph.now (line_draft graph.now name.now (contents words.now)) result }
 {
     let verb = word(words, 0);
     if verb == b"merge".as_slice() {
@@ -149,23 +151,23 @@ fn read_line(alloc: Global, graph: &Graph, name: &[u8], words: &[&[u8]]) -> Resu
 }
 
 fn any_empty(words: &[&[u8]]) -> bool
-    ensures { result ≡ list_any is_empty (map (λ w. w.now) words.now) }
+    ensures { result ≡ list_any is_empty (contents words.now) }
 {
     words.iter().any(|word| word.is_empty())
 }
 
 /// Whether the words are those of an operation line.
 fn is_operation(words: &[&[u8]]) -> bool
-    ensures { result ≡ is_operation (map (λ w. w.now) words.now) }
+    ensures { result ≡ is_operation (contents words.now) }
 {
     words.len() >= 2 && word(words, 1) == b"=".as_slice()
 }
 
 /// The operation line that words spell, of which none is empty.
 fn operation(alloc: Global, graph: &Graph, words: &[&[u8]]) -> Result<Item, ItemError>
-    requires filled { list_any is_empty (map (λ w. w.now) words.now) ≡ false }
-    requires operation { is_operation (map (λ w. w.now) words.now) ≡ true }
-    ensures { IsWordsItem graph.now (map (λ w. w.now) words.now) result }
+    requires filled { list_any is_empty (contents words.now) ≡ false }
+    requires operation { is_operation (contents words.now) ≡ true }
+    ensures { IsWordsItem graph.now (contents words.now) result }
 {
     match read_line(alloc, graph, word(words, 0), behind(words, 2)) {
         Ok(line) => Ok(Item::Line(line)),
@@ -175,9 +177,9 @@ fn operation(alloc: Global, graph: &Graph, words: &[&[u8]]) -> Result<Item, Item
 
 /// The declaration that words spell, of which none is empty.
 fn declaration(alloc: Global, graph: &Graph, words: &[&[u8]]) -> Result<Item, ItemError>
-    requires filled { list_any is_empty (map (λ w. w.now) words.now) ≡ false }
-    requires declaration { is_operation (map (λ w. w.now) words.now) ≡ false }
-    ensures { IsWordsItem graph.now (map (λ w. w.now) words.now) result }
+    requires filled { list_any is_empty (contents words.now) ≡ false }
+    requires declaration { is_operation (contents words.now) ≡ false }
+    ensures { IsWordsItem graph.now (contents words.now) result }
 {
     if graph.lines() > 0 {
         return Err(ItemError::Refused(Why::Syntax));
@@ -190,7 +192,7 @@ fn declaration(alloc: Global, graph: &Graph, words: &[&[u8]]) -> Result<Item, It
 
 /// The item that words spell.
 fn read_words(alloc: Global, graph: &Graph, words: &[&[u8]]) -> Result<Item, ItemError>
-    ensures { IsWordsItem graph.now (map (λ w. w.now) words.now) result }
+    ensures { IsWordsItem graph.now (contents words.now) result }
 {
     if any_empty(words) {
         return Err(ItemError::Refused(Why::Syntax));

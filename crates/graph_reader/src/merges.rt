@@ -1,5 +1,6 @@
 //! Lines of merges.
 
+ghost use Rattle.basics.specs.Words.{contents};
 ghost use Rattle.std.specs.Prelude.{◌≡◌, map, not, false, true, IfOk};
 ghost use Rattle.std.specs.List.{list_any};
 ghost use Rattle.std.specs.Str.{bytes_eq};
@@ -17,13 +18,14 @@ use crate::names::{has_repeat, names_of};
 use graph_model::graph::Graph;
 use graph_model::lists::LineList;
 use graph_model::name::Name;
-use graph_model::verb::{Line, Verb, Why};
+use graph_model::verb::{Line, Verb};
+use graph_model::why::Why;
 use index_spaces::NoMemory;
 use std::alloc::Global;
 
 /// Whether a word names no item.
 fn any_unknown(graph: &Graph, words: &[&[u8]]) -> bool
-    ensures { result ≡ list_any (λ w. not (is_used graph.now w)) (map (λ w. w.now) words.now) }
+    ensures { result ≡ list_any (λ w. not (is_used graph.now w)) (contents words.now) }
 {
     words.iter().any(|word| look_up(graph, word).is_none())
 }
@@ -37,7 +39,7 @@ fn is_no_line(graph: &Graph, word: &[u8]) -> bool
 
 /// Whether a word names no line.
 fn any_unlike(graph: &Graph, words: &[&[u8]]) -> bool
-    ensures { result ≡ list_any (λ w. not (is_line_name graph.now w)) (map (λ w. w.now) words.now) }
+    ensures { result ≡ list_any (λ w. not (is_line_name graph.now w)) (contents words.now) }
 {
     words.iter().any(|word| is_no_line(graph, word))
 }
@@ -51,7 +53,7 @@ fn number_of(graph: &Graph, word: &[u8]) -> u32
 
 /// The numbers of the lines that words name.
 fn numbers_of(alloc: Global, graph: &Graph, words: &[&[u8]]) -> Result<Vec<u32>, NoMemory>
-    ensures { IfOk result (λ v. v.items ≡ map (line_number graph.now) (map (λ w. w.now) words.now)) }
+    ensures { IfOk result (λ v. v.items ≡ map (line_number graph.now) (contents words.now)) }
 {
     match words
         .iter()
@@ -71,7 +73,7 @@ fn merge_fault(
     name: &[u8],
     words: &[&[u8]],
 ) -> Result<Option<Why>, NoMemory>
-    ensures { IfOk result (λ r. r ≡ merge_reason graph.now name.now (map (λ w. w.now) words.now)) }
+    ensures { IfOk result (λ r. r ≡ merge_reason graph.now name.now (contents words.now)) }
 {
     let Ok(found) = names_of(alloc, words) else {
         return Err(NoMemory);
@@ -100,7 +102,7 @@ fn merged(
     name: Name,
     words: &[&[u8]],
 ) -> Result<Line, NoMemory>
-    ensures { IfOk result (λ l. l ≡ merge_line graph.now ignores name (map (λ w. w.now) words.now)) }
+    ensures { IfOk result (λ l. l ≡ merge_line graph.now ignores name (contents words.now)) }
 {
     let numbers = numbers_of(alloc, graph, words)?;
     // More numbers than a list of lines holds.
@@ -128,7 +130,7 @@ pub(crate) fn read_merge(
     name: &[u8],
     words: &[&[u8]],
 ) -> Result<Line, ItemError>
-    ensures { IsLineRead graph.now (merge_with graph.now name.now (merge_verb ignores) (map (λ w. w.now) words.now)) result }
+    ensures { IsLineRead graph.now (merge_with graph.now name.now (merge_verb ignores) (contents words.now)) result }
 {
     let Some(new) = Name::new(name) else {
         return Err(ItemError::Refused(Why::Name));

@@ -1,5 +1,6 @@
 //! Words as names.
 
+ghost use Rattle.basics.specs.Words.{contents};
 ghost use Rattle.std.specs.Prelude.{◌≡◌, map, false, true, IfOk, MatchOption};
 ghost use Rattle.std.specs.List.{list_all};
 ghost use Rattle.std.specs.Str.{bytes_eq};
@@ -13,8 +14,8 @@ use std::collections::BTreeSet;
 
 /// The words as names. `None` exactly where one of them is spelled otherwise.
 pub(crate) fn names_of(alloc: Global, words: &[&[u8]]) -> Result<Option<Vec<Name>>, NoMemory>
-    ensures { IfOk result (λ o. MatchOption o (list_all is_name (map (λ w. w.now) words.now) ≡ false)
-        (λ v. (v.items ≡ map (λ w. w.now) words.now) × (list_all is_name (map (λ w. w.now) words.now) ≡ true))) }
+    ensures { IfOk result (λ o. MatchOption o (list_all is_name (contents words.now) ≡ false)
+        (λ v. (v.items ≡ contents words.now) × (list_all is_name (contents words.now) ≡ true))) }
 {
     let mut names = Vec::new(alloc);
     for word in words {

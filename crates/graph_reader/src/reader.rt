@@ -9,7 +9,7 @@ use crate::cuts::cut;
 use crate::item::{Item, ItemError};
 use crate::lines::read_item;
 use graph_model::graph::Graph;
-use graph_model::verb::Why;
+use graph_model::why::Why;
 use index_spaces::NoMemory;
 use std::alloc::Global;
 

@@ -2,7 +2,7 @@
 
 use crate::{ReadRefusal, put_graph, read_graph};
 use graph_model::graph::Graph;
-use graph_model::verb::Why;
+use graph_model::why::Why;
 use realm_io::SureSink;
 use std::alloc::Global;
 use std::test::Fail;

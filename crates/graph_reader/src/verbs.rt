@@ -1,5 +1,6 @@
 //! The verbs that words spell in their places.
 
+ghost use Rattle.basics.specs.Words.{contents};
 ghost use Rattle.std.specs.Prelude.{◌≡◌, map, slice_index_or, unwrap_or, []};
 ghost use Rattle.graph_reader.specs.Words.{pieces, value_of};
 ghost use Rattle.graph_reader.specs.Draft.{space_number, lock_number, barrier_number, line_number, column_number_of};
@@ -14,47 +15,47 @@ use graph_model::verb::{Kernel, Verb};
 use index_spaces::Op;
 
 fn space_at(graph: &Graph, words: &[&[u8]], i: usize) -> u32
-    ensures { result ≡ space_number graph.now (slice_index_or (map (λ w. w.now) words.now) i []) }
+    ensures { result ≡ space_number graph.now (slice_index_or (contents words.now) i []) }
 {
     space(graph, word(words, i)).unwrap_or(0)
 }
 
 fn lock_at(graph: &Graph, words: &[&[u8]], i: usize) -> u32
-    ensures { result ≡ lock_number graph.now (slice_index_or (map (λ w. w.now) words.now) i []) }
+    ensures { result ≡ lock_number graph.now (slice_index_or (contents words.now) i []) }
 {
     lock(graph, word(words, i)).unwrap_or(0)
 }
 
 fn barrier_at(graph: &Graph, words: &[&[u8]], i: usize) -> u32
-    ensures { result ≡ barrier_number graph.now (slice_index_or (map (λ w. w.now) words.now) i []) }
+    ensures { result ≡ barrier_number graph.now (slice_index_or (contents words.now) i []) }
 {
     barrier(graph, word(words, i)).unwrap_or(0)
 }
 
 /// The number of the line that a word names.
 pub(crate) fn line_at(graph: &Graph, words: &[&[u8]], i: usize) -> u32
-    ensures { result ≡ line_number graph.now (slice_index_or (map (λ w. w.now) words.now) i []) }
+    ensures { result ≡ line_number graph.now (slice_index_or (contents words.now) i []) }
 {
     line(graph, word(words, i)).unwrap_or(0)
 }
 
 #[tactic(auto, using(crate::proofs::ColumnWords::column_number_is))]
 fn column_at(graph: &Graph, words: &[&[u8]], i: usize) -> u32
-    ensures { result ≡ column_number_of graph.now (pieces 46 (slice_index_or (map (λ w. w.now) words.now) i [])) }
+    ensures { result ≡ column_number_of graph.now (pieces 46 (slice_index_or (contents words.now) i [])) }
 {
     column(graph, word(words, i)).unwrap_or(0)
 }
 
 fn value_at(words: &[&[u8]], i: usize) -> u64
-    ensures { result ≡ unwrap_or (value_of (slice_index_or (map (λ w. w.now) words.now) i [])) 0 }
+    ensures { result ≡ unwrap_or (value_of (slice_index_or (contents words.now) i [])) 0 }
 {
     value(word(words, i)).unwrap_or(0)
 }
 
 fn reduce(graph: &Graph, op: Op, words: &[&[u8]]) -> Verb
-    ensures { result ≡ Verb.Reduce op (column_number_of graph.now (pieces 46 (slice_index_or (map (λ w. w.now) words.now) 0 [])))
-        (column_number_of graph.now (pieces 46 (slice_index_or (map (λ w. w.now) words.now) 1 [])))
-        (space_number graph.now (slice_index_or (map (λ w. w.now) words.now) 2 [])) }
+    ensures { result ≡ Verb.Reduce op (column_number_of graph.now (pieces 46 (slice_index_or (contents words.now) 0 [])))
+        (column_number_of graph.now (pieces 46 (slice_index_or (contents words.now) 1 [])))
+        (space_number graph.now (slice_index_or (contents words.now) 2 [])) }
 {
     Verb::Reduce {
         op,
@@ -65,7 +66,7 @@ fn reduce(graph: &Graph, op: Op, words: &[&[u8]]) -> Verb
 }
 
 fn fill(graph: &Graph, words: &[&[u8]]) -> Verb
-    ensures { result ≡ kind_verb graph.now Kind.Fill (map (λ w. w.now) words.now) }
+    ensures { result ≡ kind_verb graph.now Kind.Fill (contents words.now) }
 {
     Verb::Fill {
         target: column_at(graph, words, 0),
@@ -75,7 +76,7 @@ fn fill(graph: &Graph, words: &[&[u8]]) -> Verb
 }
 
 fn copy(graph: &Graph, words: &[&[u8]]) -> Verb
-    ensures { result ≡ kind_verb graph.now Kind.Copy (map (λ w. w.now) words.now) }
+    ensures { result ≡ kind_verb graph.now Kind.Copy (contents words.now) }
 {
     Verb::Copy {
         source: column_at(graph, words, 0),
@@ -85,7 +86,7 @@ fn copy(graph: &Graph, words: &[&[u8]]) -> Verb
 }
 
 fn iota(graph: &Graph, words: &[&[u8]]) -> Verb
-    ensures { result ≡ kind_verb graph.now Kind.Iota (map (λ w. w.now) words.now) }
+    ensures { result ≡ kind_verb graph.now Kind.Iota (contents words.now) }
 {
     Verb::Task {
         kernel: Kernel::Iota {
@@ -97,7 +98,7 @@ fn iota(graph: &Graph, words: &[&[u8]]) -> Verb
 }
 
 fn axpy(graph: &Graph, words: &[&[u8]]) -> Verb
-    ensures { result ≡ kind_verb graph.now Kind.Axpy (map (λ w. w.now) words.now) }
+    ensures { result ≡ kind_verb graph.now Kind.Axpy (contents words.now) }
 {
     Verb::Task {
         kernel: Kernel::Axpy {
@@ -110,7 +111,7 @@ fn axpy(graph: &Graph, words: &[&[u8]]) -> Verb
 }
 
 fn stencil(graph: &Graph, words: &[&[u8]]) -> Verb
-    ensures { result ≡ kind_verb graph.now Kind.Stencil (map (λ w. w.now) words.now) }
+    ensures { result ≡ kind_verb graph.now Kind.Stencil (contents words.now) }
 {
     Verb::Task {
         kernel: Kernel::Stencil {
@@ -123,7 +124,7 @@ fn stencil(graph: &Graph, words: &[&[u8]]) -> Verb
 }
 
 fn scan(graph: &Graph, words: &[&[u8]]) -> Verb
-    ensures { result ≡ kind_verb graph.now Kind.Scan (map (λ w. w.now) words.now) }
+    ensures { result ≡ kind_verb graph.now Kind.Scan (contents words.now) }
 {
     Verb::Task {
         kernel: Kernel::Scan {
@@ -135,7 +136,7 @@ fn scan(graph: &Graph, words: &[&[u8]]) -> Verb
 }
 
 fn hist(graph: &Graph, words: &[&[u8]]) -> Verb
-    ensures { result ≡ kind_verb graph.now Kind.Hist (map (λ w. w.now) words.now) }
+    ensures { result ≡ kind_verb graph.now Kind.Hist (contents words.now) }
 {
     Verb::Task {
         kernel: Kernel::Hist {
@@ -148,7 +149,7 @@ fn hist(graph: &Graph, words: &[&[u8]]) -> Verb
 }
 
 fn dot(graph: &Graph, words: &[&[u8]]) -> Verb
-    ensures { result ≡ kind_verb graph.now Kind.Dot (map (λ w. w.now) words.now) }
+    ensures { result ≡ kind_verb graph.now Kind.Dot (contents words.now) }
 {
     Verb::Task {
         kernel: Kernel::Dot {
@@ -162,7 +163,7 @@ fn dot(graph: &Graph, words: &[&[u8]]) -> Verb
 }
 
 fn expect(graph: &Graph, words: &[&[u8]]) -> Verb
-    ensures { result ≡ kind_verb graph.now Kind.Expect (map (λ w. w.now) words.now) }
+    ensures { result ≡ kind_verb graph.now Kind.Expect (contents words.now) }
 {
     Verb::Task {
         kernel: Kernel::Expect {
@@ -175,7 +176,7 @@ fn expect(graph: &Graph, words: &[&[u8]]) -> Verb
 }
 
 fn gather(graph: &Graph, words: &[&[u8]]) -> Verb
-    ensures { result ≡ kind_verb graph.now Kind.Gather (map (λ w. w.now) words.now) }
+    ensures { result ≡ kind_verb graph.now Kind.Gather (contents words.now) }
 {
     Verb::Task {
         kernel: Kernel::Gather {
@@ -190,7 +191,7 @@ fn gather(graph: &Graph, words: &[&[u8]]) -> Verb
 
 /// The verb that words spell in their places, where each stands for something.
 pub(crate) fn verb_of(graph: &Graph, kind: Kind, words: &[&[u8]]) -> Verb
-    ensures { result ≡ kind_verb graph.now kind (map (λ w. w.now) words.now) }
+    ensures { result ≡ kind_verb graph.now kind (contents words.now) }
 {
     match kind {
         Kind::User => Verb::User,

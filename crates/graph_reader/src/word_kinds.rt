@@ -20,8 +20,8 @@ pub(crate) enum Word {
     Interval(u32, u32),
 }
 
-/// Writes the name of a column.
-fn put_column_name<K: Sink>(sink: &mut K, inst: &Name, field: &Name) -> Result<(), WriteFault>
+/// Writes the name of a column: its instance, a dot and its field. It takes no memory.
+pub fn put_column_name<K: Sink>(sink: &mut K, inst: &Name, field: &Name) -> Result<(), WriteFault>
     ensures { Writes (K.state sink.old) (K.state sink.new) result (inst.now ++ 46 ∷ field.now) }
 {
     put_bytes(sink, inst.bytes())?;
@@ -29,8 +29,8 @@ fn put_column_name<K: Sink>(sink: &mut K, inst: &Name, field: &Name) -> Result<(
     put_bytes(sink, field.bytes())
 }
 
-/// Writes an interval.
-fn put_interval<K: Sink>(sink: &mut K, low: u32, high: u32) -> Result<(), WriteFault>
+/// Writes an interval: its least and its greatest point, with two dots between. It takes no memory.
+pub fn put_interval<K: Sink>(sink: &mut K, low: u32, high: u32) -> Result<(), WriteFault>
     ensures { Writes (K.state sink.old) (K.state sink.new) result (interval_word (low, high)) }
 {
     put_decimal(sink, u64::from(low))?;

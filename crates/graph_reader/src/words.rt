@@ -1,5 +1,6 @@
 //! Words of a line.
 
+ghost use Rattle.basics.specs.Words.{contents};
 ghost use Rattle.std.specs.Prelude.{◌≡◌, ◌≤◌, length, drop, map, ◌==◌, find, IfOk, IfSome, MatchOption, [], slice_index_or, option_map, option_copied};
 ghost use Rattle.graph_reader.specs.Words.{pieces};
 ghost use Rattle.graph_reader.specs.Kinds.{kind_form};
@@ -12,7 +13,7 @@ use std::alloc::Global;
 
 /// The pieces of bytes between the separators.
 pub(crate) fn split(alloc: Global, bytes: &[u8], separator: u8) -> Result<Vec<&[u8]>, NoMemory>
-    ensures { IfOk result (λ v. map (λ w. w.now) v.items ≡ pieces separator bytes.now) }
+    ensures { IfOk result (λ v. contents v.items ≡ pieces separator bytes.now) }
 {
     match bytes.split(|b| *b == separator).collect(alloc) {
         Ok(words) => Ok(words),
@@ -22,7 +23,7 @@ pub(crate) fn split(alloc: Global, bytes: &[u8], separator: u8) -> Result<Vec<&[
 
 /// The word at a place, or no byte where there is none.
 pub(crate) fn word<'a>(words: &[&'a [u8]], i: usize) -> &'a [u8]
-    ensures { result.now ≡ slice_index_or (map (λ w. w.now) words.now) i [] }
+    ensures { result.now ≡ slice_index_or (contents words.now) i [] }
 {
     match words.get(i) {
         Some(word) => word,
@@ -33,14 +34,14 @@ pub(crate) fn word<'a>(words: &[&'a [u8]], i: usize) -> &'a [u8]
 /// The words behind the first `n`.
 pub(crate) fn behind<'a, 'b>(words: &'b [&'a [u8]], n: usize) -> &'b [&'a [u8]]
     requires { n ≤ length words.now }
-    ensures { map (λ w. w.now) result.now ≡ drop n (map (λ w. w.now) words.now) }
+    ensures { contents result.now ≡ drop n (contents words.now) }
 {
     &words[n..]
 }
 
 /// Whether the words begin with the fixed ones.
 fn begins(words: &[&[u8]], fixed: &[&[u8]]) -> bool
-    ensures { result ≡ starts_with same_word (map (λ w. w.now) words.now) (map (λ w. w.now) fixed.now) }
+    ensures { result ≡ starts_with same_word (contents words.now) (contents fixed.now) }
 {
     if words.len() < fixed.len() {
         return false;
@@ -74,7 +75,7 @@ const KINDS: [Kind; 20] = [
 
 /// Whether `on` and a word follow the words of a kind.
 pub(crate) fn has_on(kind: Kind, rest: &[&[u8]]) -> bool
-    ensures { result ≡ has_on (kind_form kind) (map (λ w. w.now) rest.now) }
+    ensures { result ≡ has_on (kind_form kind) (contents rest.now) }
 {
     let places = kind.places().len();
     kind.takes_on() && rest.len() == places + 2 && word(rest, places) == b"on".as_slice()
@@ -82,7 +83,7 @@ pub(crate) fn has_on(kind: Kind, rest: &[&[u8]]) -> bool
 
 /// Whether the words behind the sign have the form of a kind.
 fn is_of_kind(words: &[&[u8]], kind: Kind) -> bool
-    ensures { result ≡ is_of_form (map (λ w. w.now) words.now) (kind_form kind) }
+    ensures { result ≡ is_of_form (contents words.now) (kind_form kind) }
 {
     let fixed = kind.words();
     let places = kind.places().len();
@@ -92,7 +93,7 @@ fn is_of_kind(words: &[&[u8]], kind: Kind) -> bool
 
 /// The kind of the words behind the sign.
 pub(crate) fn kind_of(words: &[&[u8]]) -> Option<Kind>
-    ensures { result ≡ find (λ k. is_of_form (map (λ w. w.now) words.now) (kind_form k)) KINDS }
+    ensures { result ≡ find (λ k. is_of_form (contents words.now) (kind_form k)) KINDS }
 {
     KINDS.iter().copied().find(|kind| is_of_kind(words, *kind))
 }

@@ -14,7 +14,8 @@ use Rattle.graph_reader.specs.Laws.{OneReading}
 use Rattle.race_check.specs.Refusal.{IsRefusal}
 use Rattle.race_check.specs.declared.checked.CheckRefusal.{CheckRefusal}
 use Rattle.race_check.specs.declared.checked.CheckRefusal.TheVariants as refusal
-use Rattle.realm_top.specs.Answer.{IsRefused, IsUnfit, report_with, Says, is_short, EndsByPaths, Served, InputAnswers, Serves, Settled, Answered, Delivered, BrokenOff, Delivers}
+use Rattle.realm_top.specs.Answer.{IsRefused, IsUnfit, IsDone, report_with, is_short, EndsByPaths, Served, InputAnswers, ServedAsks, InputAsks, Serves, Settled, Answered, Delivered, BrokenOff, Delivers}
+use Rattle.realm_top.specs.Status.{is_refusal}
 use Rattle.realm_top.specs.Texts.{too_long_text, unfit_text, slots_text}
 use Rattle.graph_model.specs.Graph.{GraphValue}
 use Rattle.graph_model.specs.Rules.{Accepted}
@@ -76,54 +77,50 @@ broken_text g refusal.NoMemory n = absurd (n refl)
 accepted_or_unfit : (g : GraphValue) (out : List ℕ) → Accepted g → IsUnfit g out → ⊥
 accepted_or_unfit g out a u = broken_by g u.why out u.refused u.says a
 
--- two graphs of one text are one
-judged_both : (bytes o p : List ℕ) → OneReading bytes → (g h : GraphValue) → GraphText bytes g → GraphText bytes h → Accepted g → IsUnfit h p → ⊥
-judged_both bytes o p one g h t u a b = accepted_or_unfit h p (subst Accepted (one.one_graph g h t u) a) b
+-- two graphs of one text are one: it is not both accepted and not, nor both given enough slots and too few
+both_judged : (bytes : List ℕ) → OneReading bytes → (g h : GraphValue) → GraphText bytes g → GraphText bytes h → Accepted g → (Accepted h → ⊥) → ⊥
+both_judged bytes one g h t u a b = b (subst Accepted (one.one_graph g h t u) a)
 
 too_short : (bytes : List ℕ) → length bytes ≤ 1048576 → 1048576 < length bytes → ⊥
 too_short bytes x y = omega arith
 
-true_false : (b : Bool) → b ≡ true → b ≡ false → ⊥
-true_false b t f = true≢false (sym t ∙ f)
+short_or_not : (request : Request) → OneNeed → (bytes : List ℕ) → OneReading bytes → (g h : GraphValue) → GraphText bytes g → GraphText bytes h → ServedAsks request g true → ServedAsks request h false → ⊥
+short_or_not request needs bytes one g h t u (n, i, e) (m, j, f) =
+    true≢false (sym (subst (λ k. is_short request k ≡ true) (needs h n m (subst (λ k. IsNeed k n) (one.one_graph g h t u) i) j) e) ∙ f)
 
--- a run is not both given enough slots and too few
-short_or_not : (request : Request) → OneNeed → (bytes o p : List ℕ) → OneReading bytes → InputAnswers request bytes Done o → InputAnswers request bytes Slots p → ⊥
-short_or_not request needs bytes o p one (g, t, (a, (n, i, e, x))) (h, u, (b, (m, j, f, y))) =
-    true_false (is_short request n) (subst (λ k. is_short request k ≡ true) (needs h m n j (subst (λ k. IsNeed k n) (one.one_graph g h t u) i)) f) e
-
--- an input has one answer
-pub one_answer : (request : Request) → OneNeed → (bytes : List ℕ) → OneReading bytes → (s t : Status) (o p : List ℕ) → InputAnswers request bytes s o → InputAnswers request bytes t p → s ≡ t
-one_answer request needs bytes one Done Done o p a b = refl
-one_answer request needs bytes one Done Unread o p a b = absurd (text_or_refused bytes p one a.0 a.1 b.1)
-one_answer request needs bytes one Done Unfit o p a b = absurd (judged_both bytes o p one a.0 b.0 a.1 b.1 (a.2).0 b.2)
-one_answer request needs bytes one Done Slots o p a b = absurd (short_or_not request needs bytes o p one a b)
-one_answer request needs bytes one Done TooLong o p a b = absurd (too_short bytes (a.1).short b.0)
-one_answer request needs bytes one Done _ o p a b = absurd (b.2).1
-one_answer request needs bytes one Unread Done o p a b = absurd (text_or_refused bytes o one b.0 b.1 a.1)
-one_answer request needs bytes one Unread Unread o p a b = refl
-one_answer request needs bytes one Unread Unfit o p a b = absurd (text_or_refused bytes o one b.0 b.1 a.1)
-one_answer request needs bytes one Unread Slots o p a b = absurd (text_or_refused bytes o one b.0 b.1 a.1)
-one_answer request needs bytes one Unread TooLong o p a b = absurd (too_short bytes a.0 b.0)
-one_answer request needs bytes one Unread _ o p a b = absurd (b.2).1
-one_answer request needs bytes one Unfit Done o p a b = absurd (judged_both bytes p o one b.0 a.0 b.1 a.1 (b.2).0 a.2)
-one_answer request needs bytes one Unfit Unread o p a b = absurd (text_or_refused bytes p one a.0 a.1 b.1)
-one_answer request needs bytes one Unfit Unfit o p a b = refl
-one_answer request needs bytes one Unfit Slots o p a b = absurd (judged_both bytes p o one b.0 a.0 b.1 a.1 (b.2).0 a.2)
-one_answer request needs bytes one Unfit TooLong o p a b = absurd (too_short bytes (a.1).short b.0)
-one_answer request needs bytes one Unfit _ o p a b = absurd (b.2).1
-one_answer request needs bytes one Slots Done o p a b = absurd (short_or_not request needs bytes p o one b a)
-one_answer request needs bytes one Slots Unread o p a b = absurd (text_or_refused bytes p one a.0 a.1 b.1)
-one_answer request needs bytes one Slots Unfit o p a b = absurd (judged_both bytes o p one a.0 b.0 a.1 b.1 (a.2).0 b.2)
-one_answer request needs bytes one Slots Slots o p a b = refl
-one_answer request needs bytes one Slots TooLong o p a b = absurd (too_short bytes (a.1).short b.0)
-one_answer request needs bytes one Slots _ o p a b = absurd (b.2).1
-one_answer request needs bytes one TooLong Done o p a b = absurd (too_short bytes (b.1).short a.0)
-one_answer request needs bytes one TooLong Unread o p a b = absurd (too_short bytes b.0 a.0)
-one_answer request needs bytes one TooLong Unfit o p a b = absurd (too_short bytes (b.1).short a.0)
-one_answer request needs bytes one TooLong Slots o p a b = absurd (too_short bytes (b.1).short a.0)
-one_answer request needs bytes one TooLong TooLong o p a b = refl
-one_answer request needs bytes one TooLong _ o p a b = absurd (b.2).1
-one_answer request needs bytes one _ t o p a b = absurd (a.2).1
+-- the answer to an input is the one that it asks for
+pub one_answer : (request : Request) → OneNeed → (bytes : List ℕ) → OneReading bytes → (s t : Status) (o : List ℕ) → InputAnswers request bytes s o → InputAsks request bytes t → s ≡ t
+one_answer request needs bytes one Done Done o a b = refl
+one_answer request needs bytes one Done Unread o a b = absurd (b.1 a.0 a.1)
+one_answer request needs bytes one Done Unfit o a b = absurd (both_judged bytes one a.0 b.0 a.1 b.1 (a.2).0 b.2)
+one_answer request needs bytes one Done Slots o a b = let w = (a.2).1 in absurd (short_or_not request needs bytes one b.0 a.0 b.1 a.1 b.3 (w.0, w.1, w.2))
+one_answer request needs bytes one Done TooLong o a b = absurd (too_short bytes (a.1).short b)
+one_answer request needs bytes one Done _ o a b = absurd b
+one_answer request needs bytes one Unread Done o a b = absurd (text_or_refused bytes o one b.0 b.1 a.1)
+one_answer request needs bytes one Unread Unread o a b = refl
+one_answer request needs bytes one Unread Unfit o a b = absurd (text_or_refused bytes o one b.0 b.1 a.1)
+one_answer request needs bytes one Unread Slots o a b = absurd (text_or_refused bytes o one b.0 b.1 a.1)
+one_answer request needs bytes one Unread TooLong o a b = absurd (too_short bytes a.0 b)
+one_answer request needs bytes one Unread _ o a b = absurd b
+one_answer request needs bytes one Unfit Done o a b = absurd (both_judged bytes one b.0 a.0 b.1 a.1 b.2 (λ x. accepted_or_unfit a.0 o x a.2))
+one_answer request needs bytes one Unfit Unread o a b = absurd (b.1 a.0 a.1)
+one_answer request needs bytes one Unfit Unfit o a b = refl
+one_answer request needs bytes one Unfit Slots o a b = absurd (both_judged bytes one b.0 a.0 b.1 a.1 b.2 (λ x. accepted_or_unfit a.0 o x a.2))
+one_answer request needs bytes one Unfit TooLong o a b = absurd (too_short bytes (a.1).short b)
+one_answer request needs bytes one Unfit _ o a b = absurd b
+one_answer request needs bytes one Slots Done o a b = let w = (a.2).1 in absurd (short_or_not request needs bytes one a.0 b.0 a.1 b.1 (w.0, w.1, w.2) b.3)
+one_answer request needs bytes one Slots Unread o a b = absurd (b.1 a.0 a.1)
+one_answer request needs bytes one Slots Unfit o a b = absurd (both_judged bytes one a.0 b.0 a.1 b.1 (a.2).0 b.2)
+one_answer request needs bytes one Slots Slots o a b = refl
+one_answer request needs bytes one Slots TooLong o a b = absurd (too_short bytes (a.1).short b)
+one_answer request needs bytes one Slots _ o a b = absurd b
+one_answer request needs bytes one TooLong Done o a b = absurd (too_short bytes (b.1).short a.0)
+one_answer request needs bytes one TooLong Unread o a b = absurd (too_short bytes b.0 a.0)
+one_answer request needs bytes one TooLong Unfit o a b = absurd (too_short bytes (b.1).short a.0)
+one_answer request needs bytes one TooLong Slots o a b = absurd (too_short bytes (b.1).short a.0)
+one_answer request needs bytes one TooLong TooLong o a b = refl
+one_answer request needs bytes one TooLong _ o a b = absurd b
+one_answer request needs bytes one _ t o a b = absurd (a.2).1
 
 -- all that was left was read
 pub all_read : (old new : Option (List ℕ)) (bs : List ℕ) → Consumes old new bs → IsAtEnd new → (xs : List ℕ) → old ≡ Some xs → xs ≡ bs
@@ -152,27 +149,16 @@ answered_as request bs s t result status (inl n) e a b = absurd (a (sym e ∙ n)
 answered_as request bs s t result status (inr (wanted, out, w, inl d)) e a b = (out, subst (λ x. InputAnswers request bs x out) (sym d.0 ∙ e) w, d.1)
 answered_as request bs s t result status (inr (wanted, out, w, inr d)) e a b = absurd (b (sym e ∙ d.0))
 
-pub answered_done : (request : Request) (bs : List ℕ) (s t : SinkState) (result : Status) → Answered request bs s t result → result ≡ Done →
-    (g : GraphValue) × GraphText bs g × Accepted g × (need : ℕ) × IsNeed g need × (is_short request need ≡ false) × (out : List ℕ) × Says request.action request g need out × Delivered s t out
+pub answered_done : (request : Request) (bs : List ℕ) (s t : SinkState) (result : Status) → Answered request bs s t result → result ≡ Done → IsDone request bs s t
 answered_done request bs s t result h e =
     let a = answered_as request bs s t result Done h e (λ x. cc) (λ x. cc) in
     let j = (a.1).2 in
     let w = j.1 in
-    ((a.1).0, (a.1).1, j.0, w.0, w.1, w.2, a.0, w.3, a.2)
+    record { graph = (a.1).0; text = (a.1).1; accepted = j.0; need = w.0; is_need = w.1; enough = w.2; out = a.0; says = w.3; delivered = a.2 }
 
-pub answered_slots : (request : Request) (bs : List ℕ) (s t : SinkState) (result : Status) → Answered request bs s t result → result ≡ Slots →
-    (g : GraphValue) × GraphText bs g × Accepted g × (need : ℕ) × IsNeed g need × (is_short request need ≡ true) × Delivered s t (slots_text need)
-answered_slots request bs s t result h e =
-    let a = answered_as request bs s t result Slots h e (λ x. cc) (λ x. cc) in
-    let j = (a.1).2 in
-    let w = j.1 in
-    ((a.1).0, (a.1).1, j.0, w.0, w.1, w.2, subst (Delivered s t) w.3 a.2)
-
-pub answered_unread : (request : Request) (bs : List ℕ) (s t : SinkState) (result : Status) → Answered request bs s t result → result ≡ Unread → (out : List ℕ) × IsRefused bs out × Delivered s t out
-answered_unread request bs s t result h e = let a = answered_as request bs s t result Unread h e (λ x. cc) (λ x. cc) in (a.0, (a.1).1, a.2)
-
-pub answered_unfit : (request : Request) (bs : List ℕ) (s t : SinkState) (result : Status) → Answered request bs s t result → result ≡ Unfit → (g : GraphValue) × GraphText bs g × (out : List ℕ) × IsUnfit g out × Delivered s t out
-answered_unfit request bs s t result h e = let a = answered_as request bs s t result Unfit h e (λ x. cc) (λ x. cc) in ((a.1).0, (a.1).1, a.0, (a.1).2, a.2)
+-- a refusal goes with its text
+pub answered_refused : (request : Request) (bs : List ℕ) (s t : SinkState) (result : Status) → Answered request bs s t result → is_refusal result ≡ true → (out : List ℕ) × InputAnswers request bs result out × Delivered s t out
+answered_refused request bs s t result h r = answered_as request bs s t result result h refl (λ e. true≢false (sym r ∙ ap is_refusal e)) (λ e. true≢false (sym r ∙ ap is_refusal e))
 
 -- a write that failed broke off the text of the answer
 pub answered_cut_off : (request : Request) (bs : List ℕ) (s t : SinkState) (result : Status) → Answered request bs s t result → result ≡ WriteFault → (status : Status) × (out : List ℕ) × InputAnswers request bs status out × BrokenOff s t out
@@ -180,10 +166,10 @@ answered_cut_off request bs s t result (inl n) e = absurd (let x : NoMemory ≡ 
 answered_cut_off request bs s t result (inr (wanted, out, a, inl d)) e = absurd (((subst (λ w. InputAnswers request bs w out) (sym d.0 ∙ e) a).2).1)
 answered_cut_off request bs s t result (inr (wanted, out, a, inr b)) e = (wanted, out, a, b.1)
 
-pub answered_complete : (request : Request) → OneNeed → (bs : List ℕ) → OneReading bs → (s t : SinkState) (result status : Status) (out : List ℕ) → Answered request bs s t result → InputAnswers request bs status out → (Rose s.faults t.faults → ⊥) → (result ≡ status) ⊎ (result ≡ NoMemory)
-answered_complete request needs bs one s t result status out (inl n) a h = inr n
-answered_complete request needs bs one s t result status out (inr (wanted, text, b, inl d)) a h = inl (d.0 ∙ one_answer request needs bs one wanted status text out b a)
-answered_complete request needs bs one s t result status out (inr (wanted, text, b, inr c)) a h = absurd (h (c.1).rose)
+pub answered_complete : (request : Request) → OneNeed → (bs : List ℕ) → OneReading bs → (s t : SinkState) (result status : Status) → Answered request bs s t result → InputAsks request bs status → (Rose s.faults t.faults → ⊥) → (result ≡ status) ⊎ (result ≡ NoMemory)
+answered_complete request needs bs one s t result status (inl n) a h = inr n
+answered_complete request needs bs one s t result status (inr (wanted, text, b, inl d)) a h = inl (d.0 ∙ one_answer request needs bs one wanted status text b a)
+answered_complete request needs bs one s t result status (inr (wanted, text, b, inr c)) a h = absurd (h (c.1).rose)
 
 -- an input that is too long was answered
 pub too_long_answered : (request : Request) (xs : List ℕ) (s t : SinkState) (result : Status) → 1048576 < length xs → Delivers s t TooLong result too_long_text → Answered request xs s t result

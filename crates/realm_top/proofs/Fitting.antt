@@ -6,7 +6,7 @@ use Rattle.graph_model.specs.Graph.{GraphValue, columns}
 use Rattle.graph_model.specs.declared.outcome.Outcome.{Outcome}
 use Rattle.graph_model.specs.Evaluation.{eval_end, answer_of, phase_value, column_of, cells_of, evaluation, outcome}
 use Rattle.graph_model.specs.Spelling.{spelled}
-use Rattle.graph_model.specs.declared.verb.Why.{Why}
+use Rattle.graph_model.specs.declared.why.Why.{Why}
 use Rattle.realm_top.specs.Texts.{FitsGraph, report, why_word, unread_text}
 use Rattle.realm_top.specs.Answer.{evaluation_report}
 

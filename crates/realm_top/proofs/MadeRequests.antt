@@ -16,9 +16,9 @@ use Rattle.graph_model.specs.Laws.{OneNeed}
 use Rattle.graph_gen.specs.MadeGraph.{made_graph}
 use Rattle.realm_top.specs.declared.status.Status.{Status}
 use Rattle.realm_top.specs.declared.status.Status.TheVariants.{Done, Usage, WriteFault, NoMemory, Slots}
-use Rattle.realm_top.specs.Status.{is_of_input}
+use Rattle.realm_top.specs.Status.{is_of_input, is_refusal}
 use Rattle.realm_top.specs.Texts.{slots_text, made_text}
-use Rattle.realm_top.specs.Answer.{reads, is_short, made_says, Says, Served, InputAnswers, MadeAnswers, IsInput, AnswersBy, Answers, Serves, MadeAnswered, Delivered, BrokenOff, Delivers}
+use Rattle.realm_top.specs.Answer.{reads, is_short, made_says, Says, Served, InputAnswers, MadeAnswers, IsInput, AnswersBy, Answers, InputAsks, MadeAsks, AsksBy, AsksStatus, Serves, MadeAnswered, Delivered, BrokenOff, Delivers}
 
 -- an action that reads answers its input
 input_by : (x : Action) (request : Request) → reads x ≡ true → (bytes : List ℕ) (status : Status) (out : List ℕ) → AnswersBy x request bytes status out → InputAnswers request bytes status out
@@ -47,12 +47,6 @@ told Eval left bytes r h = h
 told Make left bytes r h = absurd (false≢true r)
 
 -- an action that reads nothing answers by what is made
-made_by : (x : Action) (request : Request) → reads x ≡ false → (bytes : List ℕ) (status : Status) (out : List ℕ) → AnswersBy x request bytes status out → MadeAnswers request.text request (made_graph request.seed request.size) status out
-made_by Run request r bytes status out a = absurd (true≢false r)
-made_by Check request r bytes status out a = absurd (true≢false r)
-made_by Eval request r bytes status out a = absurd (true≢false r)
-made_by Make request r bytes status out a = a
-
 by_made : (x : Action) (request : Request) → reads x ≡ false → (bytes : List ℕ) (status : Status) (out : List ℕ) → MadeAnswers request.text request (made_graph request.seed request.size) status out → AnswersBy x request bytes status out
 by_made Run request r bytes status out a = absurd (true≢false r)
 by_made Check request r bytes status out a = absurd (true≢false r)
@@ -70,25 +64,37 @@ done_says : (texted : Bool) (request : Request) (g : GraphValue) (out : List ℕ
 done_says true request g out r a = a
 done_says false request g out r a = says_made request.action request g a.0 out r a.3
 
-slots_says : (texted : Bool) (request : Request) (g : GraphValue) (out : List ℕ) → MadeAnswers texted request g Slots out → (need : ℕ) × IsNeed g need × (is_short request need ≡ true) × (out ≡ slots_text need)
-slots_says true request g out a = absurd a
-slots_says false request g out a = a
+-- an action that reads asks by its input, another by what is made
+input_asks_by : (x : Action) (request : Request) → reads x ≡ true → (bytes : List ℕ) (status : Status) → AsksBy x request bytes status → InputAsks request bytes status
+input_asks_by Run request r bytes status a = a
+input_asks_by Check request r bytes status a = a
+input_asks_by Eval request r bytes status a = a
+input_asks_by Make request r bytes status a = absurd (false≢true r)
 
-true_false : (b : Bool) → b ≡ true → b ≡ false → ⊥
-true_false b t f = true≢false (sym t ∙ f)
+pub input_asks : (request : Request) → reads request.action ≡ true → (bytes : List ℕ) (status : Status) → AsksStatus request bytes status → InputAsks request bytes status
+input_asks request = input_asks_by request.action request
 
--- a graph that is made has one answer
-made_one : (texted : Bool) (request : Request) (g : GraphValue) → OneNeed → (s t : Status) (o p : List ℕ) → MadeAnswers texted request g s o → MadeAnswers texted request g t p → s ≡ t
-made_one true request g needs Done Done o p a b = refl
-made_one true request g needs Done _ o p a b = absurd b
-made_one true request g needs _ t o p a b = absurd a
-made_one false request g needs Done Done o p a b = refl
-made_one false request g needs Done Slots o p a b = absurd (true_false (is_short request a.0) (subst (λ k. is_short request k ≡ true) (needs g b.0 a.0 b.1 a.1) b.2) a.2)
-made_one false request g needs Done _ o p a b = absurd b
-made_one false request g needs Slots Done o p a b = absurd (true_false (is_short request b.0) (subst (λ k. is_short request k ≡ true) (needs g a.0 b.0 a.1 b.1) a.2) b.2)
-made_one false request g needs Slots Slots o p a b = refl
-made_one false request g needs Slots _ o p a b = absurd b
-made_one false request g needs _ t o p a b = absurd a
+made_asks : (x : Action) (request : Request) → reads x ≡ false → (bytes : List ℕ) (status : Status) → AsksBy x request bytes status → MadeAsks request.text request (made_graph request.seed request.size) status
+made_asks Run request r bytes status a = absurd (true≢false r)
+made_asks Check request r bytes status a = absurd (true≢false r)
+made_asks Eval request r bytes status a = absurd (true≢false r)
+made_asks Make request r bytes status a = a
+
+short_or_not : (request : Request) (g : GraphValue) → OneNeed → (n m : ℕ) → IsNeed g n → IsNeed g m → is_short request n ≡ true → is_short request m ≡ false → ⊥
+short_or_not request g needs n m i j e f = true≢false (sym (subst (λ k. is_short request k ≡ true) (needs g n m i j) e) ∙ f)
+
+-- the answer where a graph is made is the one that it asks for
+made_one : (texted : Bool) (request : Request) (g : GraphValue) → OneNeed → (s t : Status) (o : List ℕ) → MadeAnswers texted request g s o → MadeAsks texted request g t → s ≡ t
+made_one true request g needs Done Done o a b = refl
+made_one true request g needs Done _ o a b = absurd b
+made_one true request g needs _ t o a b = absurd a
+made_one false request g needs Done Done o a b = refl
+made_one false request g needs Done Slots o a b = absurd (short_or_not request g needs b.0 a.0 b.1 a.1 b.2 a.2)
+made_one false request g needs Done _ o a b = absurd b
+made_one false request g needs Slots Done o a b = absurd (short_or_not request g needs a.0 b.0 a.1 b.1 a.2 b.2)
+made_one false request g needs Slots Slots o a b = refl
+made_one false request g needs Slots _ o a b = absurd b
+made_one false request g needs _ t o a b = absurd a
 
 -- it is answered by few statuses
 not_made : (texted : Bool) (request : Request) (g : GraphValue) (status : Status) (out : List ℕ) → (status ≢ Done) → (status ≢ Slots) → MadeAnswers texted request g status out → ⊥
@@ -110,12 +116,11 @@ made_done request s t result r h e =
     let a = made_as request s t result Done h e (λ x. cc) (λ x. cc) in
     subst (Delivered s t) (done_says request.text request (made_graph request.seed request.size) a.0 r a.1) a.2
 
-pub made_slots : (request : Request) (s t : SinkState) (result : Status) → MadeAnswered request s t result → result ≡ Slots →
-    (need : ℕ) × IsNeed (made_graph request.seed request.size) need × (is_short request need ≡ true) × Delivered s t (slots_text need)
-made_slots request s t result h e =
-    let a = made_as request s t result Slots h e (λ x. cc) (λ x. cc) in
-    let w = slots_says request.text request (made_graph request.seed request.size) a.0 a.1 in
-    (w.0, w.1, w.2, subst (Delivered s t) w.3 a.2)
+pub made_refused : (request : Request) (s t : SinkState) (result : Status) → reads request.action ≡ false → MadeAnswered request s t result → is_refusal result ≡ true → (bytes : List ℕ) →
+    (out : List ℕ) × Answers request bytes result out × Delivered s t out
+made_refused request s t result r h e bytes =
+    let a = made_as request s t result result h refl (λ x. true≢false (sym e ∙ ap is_refusal x)) (λ x. true≢false (sym e ∙ ap is_refusal x)) in
+    (a.0, by_made request.action request r bytes result a.0 a.1, a.2)
 
 pub made_cut_off : (request : Request) (s t : SinkState) (result : Status) → reads request.action ≡ false → MadeAnswered request s t result → result ≡ WriteFault → (bytes : List ℕ) →
     (status : Status) × (out : List ℕ) × Answers request bytes status out × BrokenOff s t out
@@ -124,12 +129,12 @@ made_cut_off request s t result r (inr (wanted, out, a, inl d)) e bytes =
     absurd (not_made request.text request (made_graph request.seed request.size) WriteFault out (λ x. cc) (λ x. cc) (subst (λ w. MadeAnswers request.text request (made_graph request.seed request.size) w out) (sym d.0 ∙ e) a))
 made_cut_off request s t result r (inr (wanted, out, a, inr b)) e bytes = (wanted, out, by_made request.action request r bytes wanted out a, b.1)
 
-pub made_complete : (request : Request) → OneNeed → (bytes : List ℕ) (s t : SinkState) (result status : Status) (out : List ℕ) → reads request.action ≡ false → MadeAnswered request s t result → Answers request bytes status out →
+pub made_complete : (request : Request) → OneNeed → (bytes : List ℕ) (s t : SinkState) (result status : Status) → reads request.action ≡ false → MadeAnswered request s t result → AsksStatus request bytes status →
     (Rose s.faults t.faults → ⊥) → (result ≡ status) ⊎ (result ≡ NoMemory)
-made_complete request needs bytes s t result status out r (inl n) a h = inr n
-made_complete request needs bytes s t result status out r (inr (wanted, text, b, inl d)) a h =
-    inl (d.0 ∙ made_one request.text request (made_graph request.seed request.size) needs wanted status text out b (made_by request.action request r bytes status out a))
-made_complete request needs bytes s t result status out r (inr (wanted, text, b, inr c)) a h = absurd (h (c.1).rose)
+made_complete request needs bytes s t result status r (inl n) a h = inr n
+made_complete request needs bytes s t result status r (inr (wanted, text, b, inl d)) a h =
+    inl (d.0 ∙ made_one request.text request (made_graph request.seed request.size) needs wanted status text b (made_asks request.action request r bytes status a))
+made_complete request needs bytes s t result status r (inr (wanted, text, b, inr c)) a h = absurd (h (c.1).rose)
 
 pub made_for : (s t : SinkState) (result : Status) (r q : Request) → r ≡ q → MadeAnswered r s t result → MadeAnswered q s t result
 made_for s t result r q e w = subst (λ x. MadeAnswered x s t result) e w

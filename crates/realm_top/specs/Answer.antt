@@ -19,7 +19,7 @@ use Rattle.command_line.specs.declared.request.Request.{Request}
 use Rattle.realm_trace.specs.Text.{trace_text}
 use Rattle.realm_top.specs.declared.status.Status.{Status}
 use Rattle.realm_top.specs.declared.status.Status.TheVariants.{Done, Unread, Unfit, WriteFault, NoMemory, Slots, TooLong}
-use Rattle.graph_model.specs.declared.verb.Why.{Why}
+use Rattle.graph_model.specs.declared.why.Why.{Why}
 use Rattle.graph_reader.specs.Text.{GraphText, text}
 use Rattle.graph_reader.specs.FirstFault.{FirstFault}
 use Rattle.graph_gen.specs.MadeGraph.{made_graph}
@@ -131,11 +131,51 @@ AnswersBy _ request bytes status out = InputAnswers request bytes status out
 abbrev pub Answers : Request → List ℕ → Status → List ℕ → Type 0
 Answers request bytes status out = AnswersBy request.action request bytes status out
 
+-- what an accepted graph asks for
+abbrev pub ServedAsks : Request → GraphValue → Bool → Type 0
+ServedAsks request g short = (need : ℕ) × IsNeed g need × (is_short request need ≡ short)
+
+-- the status that an input of these bytes asks for
+abbrev pub InputAsks : Request → List ℕ → Status → Type 0
+InputAsks request bytes Done = (g : GraphValue) × GraphText bytes g × Accepted g × ServedAsks request g false
+InputAsks request bytes Slots = (g : GraphValue) × GraphText bytes g × Accepted g × ServedAsks request g true
+InputAsks request bytes Unfit = (g : GraphValue) × GraphText bytes g × (Accepted g → ⊥)
+InputAsks request bytes Unread = (length bytes ≤ 1048576) × ((g : GraphValue) → GraphText bytes g → ⊥)
+InputAsks request bytes TooLong = 1048576 < length bytes
+InputAsks request bytes status = ⊥
+
+-- the status that a graph which is made asks for
+abbrev pub MadeAsks : Bool → Request → GraphValue → Status → Type 0
+MadeAsks true request g Done = Unit {0}
+MadeAsks false request g Done = ServedAsks request g false
+MadeAsks false request g Slots = ServedAsks request g true
+MadeAsks texted request g status = ⊥
+
+-- the status that a request asks for with these bytes
+abbrev pub AsksBy : Action → Request → List ℕ → Status → Type 0
+AsksBy Make request bytes status = MadeAsks request.text request (made_graph request.seed request.size) status
+AsksBy _ request bytes status = InputAsks request bytes status
+
+abbrev pub AsksStatus : Request → List ℕ → Status → Type 0
+AsksStatus request bytes status = AsksBy request.action request bytes status
+
 -- all of the text was taken, and all that was taken is flushed
 pub record Delivered (old new : SinkState) (out : List ℕ) : Type 0 where
   pub took : new.taken ≡ with_more old.taken out
   pub flushed : new.flushed ≡ option_map length new.taken
   pub count : old.faults ≤ new.faults
+
+-- an action that reads was done with these bytes: they are the one text of an accepted graph, a run was given enough slots, and the text of the action was written and flushed
+pub record IsDone (request : Request) (bytes : List ℕ) (old new : SinkState) : Type 0 where
+  pub graph : GraphValue
+  pub text : GraphText bytes graph
+  pub accepted : Accepted graph
+  pub need : ℕ
+  pub is_need : IsNeed graph need
+  pub enough : is_short request need ≡ false
+  pub out : List ℕ
+  pub says : Says request.action request graph need out
+  pub delivered : Delivered old new out
 
 -- a prefix of the text was taken, no more is flushed than before, and a fault was counted
 pub record BrokenOff (old new : SinkState) (out : List ℕ) : Type 0 where

@@ -29,3 +29,11 @@ is_of_input Unfit = true
 is_of_input ReadFault = true
 is_of_input TooLong = true
 is_of_input _ = false
+
+-- the statuses that refuse a request, with a text that says why
+abbrev pub is_refusal : Status → Bool
+is_refusal Unread = true
+is_refusal Unfit = true
+is_refusal Slots = true
+is_refusal TooLong = true
+is_refusal _ = false

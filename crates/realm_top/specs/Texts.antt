@@ -8,8 +8,8 @@ use Rattle.graph_model.specs.declared.outcome.End.TheVariants.{Done, Faulted, Ca
 use Rattle.graph_model.specs.declared.outcome.Answer.{Answer}
 use Rattle.graph_model.specs.declared.outcome.Answer.TheVariants.{Triggered, Poisoned, Pending}
 use Rattle.graph_model.specs.declared.verb.Line.{Line}
-use Rattle.graph_model.specs.declared.verb.Why.{Why}
-use Rattle.graph_model.specs.declared.verb.Why.TheVariants.{Header, Syntax, Name, Twice, Unknown, Kind, Number, Space, Outside, Arrivals, Limit, Missing, Rest}
+use Rattle.graph_model.specs.declared.why.Why.{Why}
+use Rattle.graph_model.specs.declared.why.Why.TheVariants.{Header, Syntax, Name, Twice, Unknown, Kind, Number, Space, Outside, Arrivals, Limit, Missing, Rest}
 use Rattle.graph_model.specs.Effect.{wrapped}
 use Rattle.graph_model.specs.Graph.{GraphValue, is_phase, columns}
 use Rattle.graph_model.specs.Spelling.{spelled, column_name, line_name, interval_word}

@@ -3,7 +3,7 @@
 ghost use Rattle.std.specs.Prelude.{◌≡◌, ℕ, ◌<◌, ◌≤◌, ◌⊎◌, List, [], false, length, Some, slice_get, IfOk};
 ghost use Rattle.graph_model.specs.Evaluation.{outcome};
 ghost use Rattle.graph_model.specs.Trace.{IsLawful};
-ghost use Rattle.graph_model.specs.declared.verb.Why.{Why};
+ghost use Rattle.graph_model.specs.declared.why.Why.{Why};
 ghost use Rattle.graph_reader.specs.FirstFault.{FirstFault};
 ghost use Rattle.graph_reader.specs.declared.ReadRefusal.TheVariants.{Line};
 ghost use Rattle.race_check.specs.Refusal.{IsRefusal, NamesLines};
@@ -18,7 +18,7 @@ use crate::summary::put_summary;
 use command_line::request::{Action, Request};
 use graph_model::graph::Graph;
 use graph_model::outcome::Outcome;
-use graph_model::verb::Why;
+use graph_model::why::Why;
 use graph_reader::{ReadRefusal, read_graph};
 use index_spaces::NoMemory;
 use lock_engine::{Turn, run_turn};

@@ -26,18 +26,16 @@ mod tiles;
 #[cfg(test)]
 mod workers;
 
-ghost use Rattle.std.specs.Prelude.{◌≡◌, ℕ, ◌<◌, ◌≤◌, ◌⊎◌, List, Some, None, true, false, length, map, string_bytes, IfSome};
+ghost use Rattle.std.specs.Prelude.{◌≡◌, ℕ, ◌≤◌, ◌⊎◌, List, None, true, false, IfSome};
+ghost use Rattle.std.specs.Io.KnownBytes.{IsAtEnd};
 ghost use Rattle.realm_io.specs.Counts.{Rose};
 ghost use Rattle.graph_model.specs.Graph.{GraphValue};
-ghost use Rattle.graph_model.specs.Rules.{Accepted};
 ghost use Rattle.graph_reader.specs.Text.{GraphText};
-ghost use Rattle.command_line.specs.Request.{request_of};
-ghost use Rattle.command_line.specs.declared.request.Request.{Request};
-ghost use Rattle.graph_model.specs.Need.{IsNeed};
-ghost use Rattle.realm_top.specs.Texts.{too_long_text, slots_text};
 ghost use Rattle.graph_gen.specs.MadeGraph.{made_graph};
-ghost use Rattle.realm_top.specs.Answer.{IsRefused, IsUnfit, reads, Says, made_says, is_short, EndsByPaths, IsInput, Answers, Delivered, BrokenOff};
-ghost use Rattle.realm_top.specs.Status.{words_status, is_of_input};
+ghost use Rattle.command_line.specs.Request.{request_of_words, Asks};
+ghost use Rattle.command_line.specs.declared.request.Request.{Request};
+ghost use Rattle.realm_top.specs.Answer.{reads, made_says, EndsByPaths, IsInput, Answers, AsksStatus, Delivered, IsDone, BrokenOff};
+ghost use Rattle.realm_top.specs.Status.{words_status, is_of_input, is_refusal};
 ghost use Rattle.realm_top.specs.declared.status.Status.{Status};
 
 use crate::input::{answer, put_text};
@@ -69,61 +67,63 @@ pub fn realm<R: Threads + Wait + Sync, S: Source, K: Sink, G: Gate>(
     sink: &mut K,
     gate: &G,
 ) -> Status
-    // Done, of an action that reads, for every input, number of workers, gate and schedule: the input is the one text of a graph that is accepted, and the text of the action was written and flushed: for `run` and `eval` the report of the graph's one-thread evaluation, followed where it is asked for by a trace, for `run` a lawful one and for `eval` the evaluation's order; for `check` its need.
-    ensures done { result ≡ Status.Done → (request : Request) × (request_of (map (λ word. string_bytes word) words.now) ≡ Some request) × (reads request.action ≡ true → IfSome (S.left source.old) (λ bytes.
-        (g : GraphValue) × GraphText bytes g × Accepted g × (need : ℕ) × IsNeed g need × (is_short request need ≡ false)
-        × (out : List ℕ) × Says request.action request g need out × Delivered (K.state sink.old) (K.state sink.new) out)) }
+    // Done, of an action that reads, for every input, number of workers, gate and schedule: the input is the one
+    // text of an accepted graph, and the text of the action was written and flushed: for `run` and `eval` the report
+    // of the graph's one-thread evaluation, followed where it is asked for by a trace, for `run` a lawful one and
+    // for `eval` the evaluation's order; for `check` its need.
+    ensures done { result ≡ Status.Done → (request : Request) × Asks words.now request × (reads request.action ≡ true
+        → IfSome (S.left source.old) (λ bytes. IsDone request bytes (K.state sink.old) (K.state sink.new))) }
 
-    // Of that graph: a line waits exactly where one that never comes reaches it, and a line is cancelled exactly where an unbroken path from a fault reaches it.
-    ensures paths { result ≡ Status.Done → (request : Request) × (request_of (map (λ word. string_bytes word) words.now) ≡ Some request) × (reads request.action ≡ true → IfSome (S.left source.old) (λ bytes. (g : GraphValue) → GraphText bytes g → EndsByPaths g)) }
+    // Of that graph: a line waits exactly where one that never comes reaches it, and a line is cancelled exactly
+    // where an unbroken path from a fault reaches it.
+    ensures paths { result ≡ Status.Done → (request : Request) × Asks words.now request × (reads request.action ≡ true
+        → IfSome (S.left source.old) (λ bytes. (g : GraphValue) → GraphText bytes g → EndsByPaths g)) }
 
-    // Done, of `make`: of the generated graph of the seed and the size the line that sums up its evaluation was written and flushed, or its text where that is asked for.
-    ensures made { result ≡ Status.Done → (request : Request) × (request_of (map (λ word. string_bytes word) words.now) ≡ Some request) × (reads request.action ≡ false → Delivered (K.state sink.old) (K.state sink.new) (made_says request.text (made_graph request.seed request.size))) }
+    // And all of the input was read.
+    ensures at_end { result ≡ Status.Done → (request : Request) × Asks words.now request × (reads request.action ≡ true
+        → IsAtEnd (S.left source.new)) }
 
-    // `make` leaves the source as it was.
-    ensures source { (request : Request) → request_of (map (λ word. string_bytes word) words.now) ≡ Some request → reads request.action ≡ false → source.new ≡ source.old }
+    // Done, of `make`: of the generated graph of the seed and the size the line that sums up its evaluation was
+    // written and flushed, or its text where that is asked for. The source stays as it was, whatever the answer.
+    ensures made { result ≡ Status.Done → (request : Request) × Asks words.now request × (reads request.action ≡ false
+        → Delivered (K.state sink.old) (K.state sink.new) (made_says request.text (made_graph request.seed request.size))) }
+    ensures source { (request : Request) → Asks words.now request → reads request.action ≡ false → source.new ≡ source.old }
 
     // Usage: exactly where the words are no command line of the program, want of memory aside; nothing is read or written.
-    ensures usage { result ≡ Status.Usage → request_of (map (λ word. string_bytes word) words.now) ≡ None }
-    ensures refused_words { request_of (map (λ word. string_bytes word) words.now) ≡ None → (result ≡ Status.Usage) ⊎ (result ≡ Status.NoMemory) }
+    ensures usage { result ≡ Status.Usage → request_of_words words.now ≡ None }
+    ensures refused_words { request_of_words words.now ≡ None → (result ≡ Status.Usage) ⊎ (result ≡ Status.NoMemory) }
     ensures untouched { result ≡ Status.Usage → (source.new ≡ source.old) × (sink.new ≡ sink.old) }
 
+    // Unread, Unfit, Slots and TooLong: the input, or the graph that was made, asks for that status, and the text that
+    // says why was written and flushed: the first refused line with its first reason, the first rule that fails with
+    // the least lines, the need, or that more than 1,048,576 bytes were left.
+    ensures refused { is_refusal result ≡ true → (request : Request) × Asks words.now request
+        × ((bytes : List ℕ) → IsInput request.action (S.left source.old) bytes
+            → (out : List ℕ) × Answers request bytes result out × Delivered (K.state sink.old) (K.state sink.new) out) }
+
     // Unread, Unfit, TooLong and ReadFault: only where the action reads.
-    ensures of_input { is_of_input result ≡ true → (request : Request) × (request_of (map (λ word. string_bytes word) words.now) ≡ Some request) × (reads request.action ≡ true) }
-
-    // Unread: the input is the text of no graph; its first refused line and the reason were written and flushed.
-    ensures unread { result ≡ Status.Unread → IfSome (S.left source.old) (λ bytes. (out : List ℕ) × IsRefused bytes out
-        × Delivered (K.state sink.old) (K.state sink.new) out) }
-
-    // Unfit: the input is the text of a graph that is not accepted; the first rule that fails and the least lines were written and flushed.
-    ensures unfit { result ≡ Status.Unfit → IfSome (S.left source.old) (λ bytes. (g : GraphValue) × GraphText bytes g × (out : List ℕ) × IsUnfit g out
-        × Delivered (K.state sink.old) (K.state sink.new) out) }
-
-    // Slots: a graph that was read is to be run, or one that was made, and fewer slots were given than it needs; the need was written and flushed.
-    ensures slots { result ≡ Status.Slots → (request : Request) × (request_of (map (λ word. string_bytes word) words.now) ≡ Some request) × (reads request.action ≡ true → IfSome (S.left source.old) (λ bytes.
-        (g : GraphValue) × GraphText bytes g × Accepted g × (need : ℕ) × IsNeed g need × (is_short request need ≡ true) × Delivered (K.state sink.old) (K.state sink.new) (slots_text need))) }
-    ensures made_slots { result ≡ Status.Slots → (request : Request) × (request_of (map (λ word. string_bytes word) words.now) ≡ Some request) × (reads request.action ≡ false →
-        (need : ℕ) × IsNeed (made_graph request.seed request.size) need × (is_short request need ≡ true) × Delivered (K.state sink.old) (K.state sink.new) (slots_text need)) }
-
-    // TooLong: more than 1,048,576 bytes were left, and that was written and flushed.
-    ensures too_long { result ≡ Status.TooLong → IfSome (S.left source.old) (λ bytes. (1048576 < length bytes)
-        × Delivered (K.state sink.old) (K.state sink.new) too_long_text) }
+    ensures of_input { is_of_input result ≡ true
+        → (request : Request) × Asks words.now request × (reads request.action ≡ true) }
 
     // ReadFault: a fault of reading was counted in this call, and nothing was written.
     ensures read_fault { result ≡ Status.ReadFault → Rose (S.faults source.old) (S.faults source.new) × (sink.new ≡ sink.old) }
 
     // WriteFault: a fault of writing was counted in this call, and a prefix was taken of the text that is written without it.
     ensures write_fault { result ≡ Status.WriteFault → Rose (K.state sink.old).faults (K.state sink.new).faults }
-    ensures cut_off { result ≡ Status.WriteFault → (request : Request) × (request_of (map (λ word. string_bytes word) words.now) ≡ Some request) × ((bytes : List ℕ) → IsInput request.action (S.left source.old) bytes
-        → (status : Status) × (out : List ℕ) × Answers request bytes status out × BrokenOff (K.state sink.old) (K.state sink.new) out) }
+    ensures cut_off { result ≡ Status.WriteFault → (request : Request) × Asks words.now request
+        × ((bytes : List ℕ) → IsInput request.action (S.left source.old) bytes → (status : Status) × (out : List ℕ)
+            × Answers request bytes status out × BrokenOff (K.state sink.old) (K.state sink.new) out) }
 
     // NoMemory: before anything was written.
     ensures no_memory { result ≡ Status.NoMemory → sink.new ≡ sink.old }
 
     // What the words ask for is done, unless a fault was counted or memory ran out.
-    ensures complete { (request : Request) (bytes out : List ℕ) (status : Status) → request_of (map (λ word. string_bytes word) words.now) ≡ Some request → IsInput request.action (S.left source.old) bytes → Answers request bytes status out
-        → ¬ (Rose (S.faults source.old) (S.faults source.new)) → ¬ (Rose (K.state sink.old).faults (K.state sink.new).faults) → (result ≡ status) ⊎ (result ≡ Status.NoMemory) }
+    ensures complete { (request : Request) (bytes : List ℕ) (status : Status) → Asks words.now request
+        → IsInput request.action (S.left source.old) bytes → AsksStatus request bytes status
+        → ¬ (Rose (S.faults source.old) (S.faults source.new)) → ¬ (Rose (K.state sink.old).faults (K.state sink.new).faults)
+        → (result ≡ status) ⊎ (result ≡ Status.NoMemory) }
 
+    // No count falls.
     ensures counts { (S.faults source.old ≤ S.faults source.new) × ((K.state sink.old).faults ≤ (K.state sink.new).faults) }
 {
     bytes_have_one_reading();

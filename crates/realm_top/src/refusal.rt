@@ -8,7 +8,7 @@ ghost use Rattle.realm_io.specs.Written.{Writes};
 
 use crate::report::{put_four, put_three};
 use graph_model::graph::Graph;
-use graph_model::verb::Why;
+use graph_model::why::Why;
 use itoa::Buffer;
 use race_check::checked::CheckRefusal;
 use realm_io::{Sink, WriteFault};

@@ -1,5 +1,6 @@
 //! The report of an outcome.
 
+ghost use Rattle.basics.specs.Words.{contents};
 ghost use Rattle.std.specs.Prelude.{◌≡◌, ℕ, ◌<◌, ◌≤◌, length, ◌+◌, ◌-◌, true, map, take, drop, flat_map, [], ◌∷◌, ◌++◌, decimal, OnOk, OnErr};
 ghost use Rattle.realm_io.specs.Counts.{Rose};
 ghost use Rattle.realm_io.specs.Told.{with_more, TookPrefix};
@@ -13,13 +14,14 @@ use graph_model::graph::Graph;
 use graph_model::name::Name;
 use graph_model::outcome::{Answer, End, Outcome};
 use graph_model::verb::{Line, Verb};
+use graph_reader::{put_column_name, put_interval};
 use index_spaces::column::Column;
 use itoa::Buffer;
 use realm_io::{Sink, WriteFault, put_bytes, put_decimal};
 
 /// Writes words with a space between each two, and a newline.
 fn put_words<K: Sink>(sink: &mut K, words: &[&[u8]]) -> Result<(), WriteFault>
-    ensures { Writes (K.state sink.old) (K.state sink.new) result (spelled (map (λ w. w.now) words.now)) }
+    ensures { Writes (K.state sink.old) (K.state sink.new) result (spelled (contents words.now)) }
 {
     match words {
         [] => put_bytes(sink, b"\n"),
@@ -145,24 +147,6 @@ fn put_phases<K: Sink>(sink: &mut K, graph: &Graph, outcome: &Outcome) -> Result
     Ok(())
 }
 
-/// Writes the name of a column.
-fn put_column_name<K: Sink>(sink: &mut K, inst: &Name, field: &Name) -> Result<(), WriteFault>
-    ensures { Writes (K.state sink.old) (K.state sink.new) result (inst.now ++ 46 ∷ field.now) }
-{
-    put_bytes(sink, inst.bytes())?;
-    put_bytes(sink, b".")?;
-    put_bytes(sink, field.bytes())
-}
-
-/// Writes an interval.
-fn put_interval<K: Sink>(sink: &mut K, interval: (u32, u32)) -> Result<(), WriteFault>
-    ensures { Writes (K.state sink.old) (K.state sink.new) result (interval_word interval) }
-{
-    put_decimal(sink, u64::from(interval.0))?;
-    put_bytes(sink, b"..")?;
-    put_decimal(sink, u64::from(interval.1))
-}
-
 /// Writes what stands before the cells of an interval.
 fn put_interval_front<K: Sink>(
     sink: &mut K,
@@ -175,7 +159,7 @@ fn put_interval_front<K: Sink>(
     put_bytes(sink, b"cells ")?;
     put_column_name(sink, inst, field)?;
     put_bytes(sink, b" ")?;
-    put_interval(sink, interval)
+    put_interval(sink, interval.0, interval.1)
 }
 
 /// Writes a cell and the space before it.

@@ -27,7 +27,7 @@ use Rattle.run_state.specs.Start.{first_value}
 use Rattle.run_state.specs.Quiet.{Quiet, ByTimes, phase_so_far_by, phase_so_far, cells_at}
 use Rattle.run_state.specs.Laws.{QuietGivesOutcome, SlotsAreByTimes, ClockIsSmall}
 use Rattle.run_state.proofs.Started.{ended_started, started_below}
-use Rattle.graph_model.proofs.EdgeFacts.{got_contains}
+use Rattle.basics.proofs.ListFacts.{got_contains}
 use Rattle.run_core.specs.Core.{CoreValue, unissued, answer_for, IsCore}
 use Rattle.run_core.specs.Events.{EventsValue}
 use Rattle.run_core.specs.Answers.{answer_shown, AsksHandles, phase_for, phase_of_line}

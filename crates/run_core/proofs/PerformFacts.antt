@@ -19,7 +19,7 @@ use Rattle.run_state.specs.Run.{stage_out}
 use Rattle.run_state.specs.Sound.{AccessesColumn}
 use Rattle.run_state.specs.Work.{HoldsAll, cells_now}
 use Rattle.run_state.specs.Laws.{WorkIsAsEvaluated, WorkGivesCells}
-use Rattle.graph_model.proofs.EdgeFacts.{got_contains}
+use Rattle.basics.proofs.ListFacts.{got_contains}
 use Rattle.run_core.specs.Core.{CoreValue, IsCore}
 use Rattle.run_core.specs.Works.{WorkValue, column_now, column_left, IsWork, IsFinished}
 

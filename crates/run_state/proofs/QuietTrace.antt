@@ -13,7 +13,7 @@ use Rattle.graph_model.specs.Trace.{StandsBefore, IsLawful}
 use Rattle.run_state.specs.Run.{Run, stage_at, time_at, ended, timed}
 use Rattle.run_state.specs.Sound.{Sound}
 use Rattle.run_state.specs.Quiet.{Quiet, ByTimes}
-use Rattle.graph_model.proofs.EdgeFacts.{got_contains}
+use Rattle.basics.proofs.ListFacts.{got_contains}
 use Rattle.run_state.proofs.Lists.{ended_over, some_is, is_some_of}
 use Rattle.run_state.proofs.Started.{sources_closed}
 use Rattle.run_state.proofs.Quiet.{quiet_ended, ended_in_evaluation, evaluation_ended}

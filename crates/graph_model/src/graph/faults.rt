@@ -11,7 +11,8 @@ use crate::access::verb_access;
 use crate::decl::Decl;
 use crate::name::Name;
 use crate::repeats::{names_repeat, numbers_repeat};
-use crate::verb::{Access, Kernel, Line, Verb, Why};
+use crate::verb::{Access, Kernel, Line, Verb};
+use crate::why::Why;
 use index_spaces::laws::points_are_listed;
 
 const MAX_INTERVALS: usize = 64;
