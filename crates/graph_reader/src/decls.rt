@@ -14,7 +14,7 @@ use crate::numbers::{count, value};
 use crate::words::split;
 use graph_model::decl::Decl;
 use graph_model::graph::Graph;
-use graph_model::lists::NameList;
+use graph_model::lists::{ItemList, NameList};
 use graph_model::name::Name;
 use graph_model::why::Why;
 use index_spaces::Op;
@@ -172,7 +172,7 @@ fn read_named(
     if fields.len() > 256 {
         return Err(ItemError::Refused(Why::Limit));
     }
-    let fields = NameList { items: fields };
+    let fields = ItemList { items: fields };
     fitting_decl(
         graph,
         Decl::Inst {
