@@ -9,5 +9,3 @@ mod line;
 pub mod make;
 mod room;
 mod row;
-#[cfg(test)]
-mod tests;

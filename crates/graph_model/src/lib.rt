@@ -21,7 +21,5 @@ mod rows;
 mod side;
 mod stock;
 mod tables;
-#[cfg(test)]
-mod tests;
 pub mod verb;
 mod words;

@@ -31,6 +31,3 @@ pub enum ReadRefusal {
     Line { number: u32, why: Why },
     NoMemory,
 }
-
-#[cfg(test)]
-mod tests;

@@ -112,6 +112,3 @@ fn push_within<T: Drop>(items: &mut Vec<T>, item: T)
         Err(_) => unreachable!(),
     }
 }
-
-#[cfg(test)]
-mod tests;

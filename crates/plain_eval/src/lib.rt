@@ -7,6 +7,4 @@ mod perform;
 mod phases;
 mod room;
 mod run;
-#[cfg(test)]
-mod tests;
 mod waiting;

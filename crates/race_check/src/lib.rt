@@ -20,8 +20,6 @@ mod room;
 mod rows;
 mod sections;
 mod summaries;
-#[cfg(test)]
-mod tests;
 
 ghost use Rattle.std.specs.Prelude.{◌≡◌, IfOk, IfErr};
 ghost use Rattle.graph_model.specs.Need.{IsNeed};

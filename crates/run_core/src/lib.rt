@@ -11,8 +11,6 @@ mod progress;
 mod room;
 mod run;
 mod sources;
-#[cfg(test)]
-mod tests;
 mod work;
 
 pub use answers::{Attempt, Issue, Stage, Thing};
