@@ -41,30 +41,49 @@ fn effect(
     Ok((*end, has_cells(column, points, cells)))
 }
 
+/// The value of `a.y` at first, a kernel, how it ends, and the cells of `a.y` then.
+const KERNELS: [(u64, &str, End, [u64; 6]); 11] = [
+    (9, "task iota a.y s 10", End::Done, [10, 11, 9, 9, 12, 13]),
+    (
+        9,
+        "task iota a.y s 18446744073709551615",
+        End::Done,
+        [u64::MAX, 0, 9, 9, 1, 2],
+    ),
+    (
+        u64::MAX,
+        "task axpy a.x a.y s 3",
+        End::Done,
+        [2, 5, u64::MAX, u64::MAX, 14, 17],
+    ),
+    (
+        9,
+        "task stencil a.x a.y s i",
+        End::Done,
+        [9, 3, 9, 9, 11, 9],
+    ),
+    (9, "task scan a.x a.y s", End::Done, [1, 3, 9, 9, 8, 14]),
+    (9, "task hist a.x a.y s t", End::Done, [11, 9, 9, 11, 9, 9]),
+    (
+        9,
+        "task dot a.x a.z a.y s t",
+        End::Done,
+        [75, 9, 9, 75, 9, 9],
+    ),
+    (
+        9,
+        "task gather a.x a.z a.y s t",
+        End::Done,
+        [4, 1, 9, 9, 4, 1],
+    ),
+    (9, "task expect a.x t 1 4", End::Done, [9; 6]),
+    (9, "task expect a.x t 2 4", End::Faulted, [9; 6]),
+    (9, "task expect a.x t 1 3", End::Faulted, [9; 6]),
+];
+
 #[test]
 fn kernels_over_two_intervals(rt: HostRuntime) -> Result<(), Fail> {
-    let max = u64::MAX;
-    let done = End::Done;
-    // the value at first, the line, how it ends, the cells
-    let rows = [
-        (9, "task iota a.y s 10", done, [10, 11, 9, 9, 12, 13]),
-        (
-            9,
-            "task iota a.y s 18446744073709551615",
-            done,
-            [max, 0, 9, 9, 1, 2],
-        ),
-        (max, "task axpy a.x a.y s 3", done, [2, 5, max, max, 14, 17]),
-        (9, "task stencil a.x a.y s i", done, [9, 3, 9, 9, 11, 9]),
-        (9, "task scan a.x a.y s", done, [1, 3, 9, 9, 8, 14]),
-        (9, "task hist a.x a.y s t", done, [11, 9, 9, 11, 9, 9]),
-        (9, "task dot a.x a.z a.y s t", done, [75, 9, 9, 75, 9, 9]),
-        (9, "task gather a.x a.z a.y s t", done, [4, 1, 9, 9, 4, 1]),
-        (9, "task expect a.x t 1 4", done, [9; 6]),
-        (9, "task expect a.x t 2 4", End::Faulted, [9; 6]),
-        (9, "task expect a.x t 1 3", End::Faulted, [9; 6]),
-    ];
-    for (value, line, end, cells) in rows {
+    for (value, line, end, cells) in KERNELS {
         let alloc = rt.alloc();
         let before = format!(in alloc; "{SIX}m = fill a.y w {value} on f\n")?;
         let found = effect(alloc, before.as_str(), line, &[0, 1, 2, 3, 4, 5], &cells)?;
@@ -73,19 +92,21 @@ fn kernels_over_two_intervals(rt: HostRuntime) -> Result<(), Fail> {
     Ok(())
 }
 
+/// A line, and the cells of `a.y` after it.
+const COPIES: [(&str, [u64; 8]); 5] = [
+    ("copy b.x a.y s", [1, 2, 10, u64::MAX, 30, 2, 7, 8]),
+    ("reduce sum b.x a.y s", [1, 2, 13, 3, 35, 8, 7, 8]),
+    ("reduce min b.x a.y s", [1, 2, 3, 4, 5, 2, 7, 8]),
+    ("reduce max b.x a.y s", [1, 2, 10, u64::MAX, 30, 6, 7, 8]),
+    ("fill a.y t 9", [1, 9, 3, 9, 9, 9, 9, 8]),
+];
+
 #[test]
 fn copies_over_shared_points(rt: HostRuntime) -> Result<(), Fail> {
     let alloc = rt.alloc();
-    let max = u64::MAX;
+    let points = [0, 1, 2, 3, 8, 9, 10, 11];
     let before = format!(in alloc; "{EIGHT}m = fill b.x g 2 on j\n")?;
-    for (line, cells) in [
-        ("copy b.x a.y s", [1, 2, 10, max, 30, 2, 7, 8]),
-        ("reduce sum b.x a.y s", [1, 2, 13, 3, 35, 8, 7, 8]),
-        ("reduce min b.x a.y s", [1, 2, 3, 4, 5, 2, 7, 8]),
-        ("reduce max b.x a.y s", [1, 2, 10, max, 30, 6, 7, 8]),
-        ("fill a.y t 9", [1, 9, 3, 9, 9, 9, 9, 8]),
-    ] {
-        let points = [0, 1, 2, 3, 8, 9, 10, 11];
+    for (line, cells) in COPIES {
         let found = effect(alloc, before.as_str(), line, &points, &cells)?;
         assert_eq!(rt; found, (End::Done, true), "{line}");
     }
