@@ -4,8 +4,6 @@
 mod matched;
 mod number;
 pub mod request;
-#[cfg(test)]
-mod tests;
 
 ghost use Rattle.std.specs.Prelude.{◌≡◌, ◌≤◌, ◌⊎◌, List, None, false, MatchResult, IfOk};
 ghost use Rattle.clap.specs.Words.{app_of, rule_of, kind_of};

@@ -102,6 +102,3 @@ fn reduce_points(op: Op, to: &mut Column, from: &Column, space: &Space)
         to.reduce_run(op, from, *interval);
     }
 }
-
-#[cfg(test)]
-mod tests;

@@ -36,12 +36,3 @@ pub use view::View;
 /// Memory ran out.
 #[derive(Clone, Copy, Debug, PartialEq, Eq)]
 pub struct NoMemory;
-
-#[cfg(test)]
-mod example_tests;
-#[cfg(test)]
-mod table_tests;
-#[cfg(test)]
-mod tests;
-#[cfg(test)]
-mod thread_tests;

@@ -8,5 +8,3 @@ pub mod laws;
 mod line;
 pub mod make;
 mod row;
-#[cfg(test)]
-mod tests;

@@ -21,8 +21,6 @@ mod rows;
 mod side;
 mod stock;
 mod tables;
-#[cfg(test)]
-mod tests;
 pub mod verb;
 pub mod why;
 mod words;

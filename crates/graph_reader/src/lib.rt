@@ -32,6 +32,3 @@ pub enum ReadRefusal {
     Line { number: u32, why: Why },
     NoMemory,
 }
-
-#[cfg(test)]
-mod tests;

@@ -18,6 +18,3 @@ pub enum Op {
 /// Memory ran out.
 #[derive(Clone, Copy, Debug, PartialEq, Eq)]
 pub struct NoMemory;
-
-#[cfg(test)]
-mod tests;

@@ -1,8 +1,7 @@
 -- The columns of a graph by their numbers, each at home or out.
-use Rattle.std.specs.Prelude.{List, [], ◌∷◌, length, map, Option, Some, codes}
+use Rattle.std.specs.Prelude.{List, length, map, Option, Some}
 use Rattle.basics.specs.Lists.{numbers_below}
 use Rattle.index_spaces.specs.Column.{ColumnValue}
-use Rattle.graph_model.specs.declared.decl.Decl.TheVariants.{Space, Inst}
 use Rattle.graph_model.specs.Graph.{GraphValue, columns}
 use Rattle.graph_model.specs.Effect.{Cells}
 use Rattle.graph_model.specs.Evaluation.{column_of}
@@ -10,7 +9,3 @@ use Rattle.graph_model.specs.Evaluation.{column_of}
 -- all columns of a graph at home, with these cells
 abbrev pub all_home : GraphValue → Cells → List (Option ColumnValue)
 all_home g cells = map (λ c. Some (column_of g cells c)) (numbers_below (length (columns g)))
-
--- the graph of one instance with the fields x and y over 0 to 3
-abbrev pub pair_graph : GraphValue
-pair_graph = record { decls = Space (codes "s") ((0, 3) ∷ []) ∷ Inst (codes "a") 0 (codes "x" ∷ codes "y" ∷ []) ∷ []; lines = [] }

@@ -90,6 +90,3 @@ impl Homes {
         ColumnList { items: room }
     }
 }
-
-#[cfg(test)]
-mod tests;

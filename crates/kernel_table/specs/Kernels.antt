@@ -1,10 +1,9 @@
 -- When a kernel may run on the columns that are held, and what it leaves.
-use Rattle.std.specs.Prelude.{◌≡◌, ◌≢◌, ℕ, ◌<◌, false, nat_eq, List, [], ◌∷◌, codes, length, map, slice_index_or, Contains}
+use Rattle.std.specs.Prelude.{◌≡◌, ◌≢◌, ℕ, ◌<◌, false, nat_eq, List, [], length, map, slice_index_or, Contains}
 use Rattle.index_spaces.specs.Column.{ColumnValue}
 use Rattle.graph_model.specs.declared.verb.Access.{Access}
 use Rattle.graph_model.specs.declared.verb.Kernel.{Kernel}
 use Rattle.graph_model.specs.declared.verb.Kernel.TheVariants.{Iota, Axpy, Stencil, Scan, Hist, Dot, Expect, Gather}
-use Rattle.graph_model.specs.declared.decl.Decl.TheVariants.{Space}
 use Rattle.graph_model.specs.Graph.{GraphValue, named_spaces, space_at}
 use Rattle.graph_model.specs.Access.{kernel_accesses}
 use Rattle.graph_model.specs.Effect.{kernel_changes}
@@ -39,7 +38,3 @@ MakesKernel old new spaces kernel = MakesChanges old new (λ cells. kernel_chang
 -- the column of a space and of these cells
 abbrev pub column_over : List (ℕ × ℕ) → List ℕ → ColumnValue
 column_over space cells = record { space = space; cells = cells }
-
--- the graph of one space, 0 to 3
-abbrev pub spaced_graph : GraphValue
-spaced_graph = record { decls = Space (codes "s") ((0, 3) ∷ []) ∷ []; lines = [] }

@@ -76,6 +76,3 @@ fn run_fitting(graph: &Graph, kernel: &Kernel, held: &mut Held) -> Verdict
         }
     }
 }
-
-#[cfg(test)]
-mod tests;

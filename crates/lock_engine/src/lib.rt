@@ -5,8 +5,6 @@ mod changes;
 mod hints;
 mod plays;
 mod serving;
-#[cfg(test)]
-mod tests;
 mod turn;
 mod turning;
 mod view;

@@ -7,6 +7,4 @@ mod numbers;
 mod perform;
 mod phases;
 mod run;
-#[cfg(test)]
-mod tests;
 mod waiting;

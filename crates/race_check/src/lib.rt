@@ -18,8 +18,6 @@ mod reservations;
 mod rows;
 mod sections;
 mod summaries;
-#[cfg(test)]
-mod tests;
 
 ghost use Rattle.std.specs.Prelude.{◌≡◌, IfOk, IfErr};
 ghost use Rattle.graph_model.specs.Need.{IsNeed};

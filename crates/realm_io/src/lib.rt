@@ -23,6 +23,3 @@ pub use sinks::Sink;
 pub use sources::{Failed, Source};
 pub use sure::{SureSink, SureSource};
 pub use writing::{WriteFault, put, put_bytes, put_decimal, put_number};
-
-#[cfg(test)]
-mod tests;

@@ -10,8 +10,6 @@ mod phases;
 mod progress;
 mod run;
 mod sources;
-#[cfg(test)]
-mod tests;
 mod work;
 
 pub use answers::{Attempt, Issue, Stage, Thing};

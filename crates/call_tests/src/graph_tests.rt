@@ -1,0 +1,90 @@
+//! What a graph says of its items, and refusals that no text meets.
+
+use graph_model::decl::Decl;
+use graph_model::found::Found;
+use graph_model::graph::Graph;
+use graph_model::lists::{LineList, NameList};
+use graph_model::name::Name;
+use graph_model::verb::{Access, Edge, EdgeKind, Line, Mode, Verb, Why};
+use graph_reader::read_graph;
+use std::alloc::Global;
+use std::test::Fail;
+
+/// The graph of two spaces, an instance, a reservation, a barrier and seven lines.
+fn seven_lines(alloc: Global) -> Result<Graph, Fail> {
+    let text =
+        b"realm 1\nspace s 0..3\nspace w 2..7\ninst a s x,y\nlock l\nbarrier b 1 sum 10\nu = user\np = phase b\nv = arrive p 5 on u\nc = cancel u\nd = copy a.x a.y s on p\nq = acquire l on d\nr = release q on q\nend\n";
+    Ok(read_graph(alloc, text.as_slice())?)
+}
+
+fn name(text: &[u8]) -> Result<Name, Fail> {
+    Ok(Name::new(text).ok_or("a name")?)
+}
+
+#[test]
+fn answers(rt: HostRuntime) -> Result<(), Fail> {
+    let graph = seven_lines(rt.alloc())?;
+    assert_eq!(rt; graph.decls(), 5);
+    assert_eq!(rt; graph.lines(), 7);
+    let into = Edge {
+        from: 3,
+        to: 0,
+        kind: EdgeKind::Faults,
+    };
+    assert_eq!(rt; graph.edges_into(0), [into].as_slice());
+    let out = Edge {
+        from: 0,
+        to: 2,
+        kind: EdgeKind::Passes,
+    };
+    assert_eq!(rt; graph.edges_from(0), [out].as_slice());
+    assert_eq!(rt; graph.edges_into(2), [out].as_slice());
+    let target = Access {
+        column: 1,
+        space: 0,
+        mode: Mode::Write,
+    };
+    assert_eq!(rt; graph.access(4, 1), Some(target));
+    assert_eq!(rt; graph.access(4, 2), None);
+    assert!(rt; graph.is_ended(0));
+    assert!(rt; graph.is_released(5));
+    assert!(rt; !graph.never_comes(1));
+    Ok(())
+}
+
+#[test]
+fn finds_names(rt: HostRuntime) -> Result<(), Fail> {
+    let graph = seven_lines(rt.alloc())?;
+    assert_eq!(rt; graph.find(&name(b"d")?), Some(Found::Line(4)));
+    assert_eq!(rt; graph.find(&name(b"a")?), Some(Found::Inst(2)));
+    assert_eq!(rt; graph.find(&name(b"x")?), None);
+    assert_eq!(rt; graph.find_column(&name(b"a")?, &name(b"y")?), Some(1));
+    Ok(())
+}
+
+#[test]
+fn refuses_items(rt: HostRuntime) -> Result<(), Fail> {
+    let alloc = rt.alloc();
+    let graph = seven_lines(alloc)?;
+    let phase = Line {
+        name: name(b"m")?,
+        verb: Verb::Phase { barrier: 0 },
+        on: Some(0),
+    };
+    assert_eq!(rt; graph.line_fault(&phase), Some(Why::Kind));
+    let merge = Line {
+        name: name(b"m")?,
+        verb: Verb::Merge {
+            events: LineList::new(alloc),
+        },
+        on: None,
+    };
+    assert_eq!(rt; graph.line_fault(&merge), Some(Why::Number));
+    let inst = Decl::Inst {
+        name: name(b"m")?,
+        space: 0,
+        fields: NameList::new(alloc),
+    };
+    assert_eq!(rt; graph.decl_fault(&inst), Some(Why::Number));
+    Ok(())
+}

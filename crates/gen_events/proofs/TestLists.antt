@@ -1,9 +1,0 @@
--- A list of handles to which one is added, where memory is there.
-use Rattle.std.proofs.Common.{◌≡◌, Bool, true, false, cond, List, [], ◌∷◌, ◌++◌, sym, subst}
-use Rattle.std.specs.Prelude.{All}
-use Rattle.std.proofs.lemmas.List.Elements.{All-push}
-use Rattle.gen_events.specs.declared.handle.Handle.{Handle}
-
-pub pushed : (P : Handle → Type 0) (xs ys : List Handle) (h : Handle) (b : Bool) → ys ≡ cond b (xs ++ h ∷ []) xs → All P xs → P h → All P ys
-pushed P xs ys h true e a p = subst (All P) (sym e) (All-push P xs h a p)
-pushed P xs ys h false e a p = subst (All P) (sym e) a

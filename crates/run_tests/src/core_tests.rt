@@ -1,0 +1,180 @@
+//! Graphs run through a core in orders unlike the evaluation's, with as much work out as is taken:
+//! each gives the outcome of the evaluation.
+
+ghost use Rattle.std.specs.Prelude.{◌+◌, ◌<◌, ◌≤◌, length};
+ghost use Rattle.run_core.specs.WhatIsOut.{SameOut};
+ghost use Rattle.run_core.specs.Works.{WorkValue, IsWork};
+
+use crate::graphs::checked;
+use crate::outcomes::{has_trace, is_same};
+use crate::{texts, tiles};
+use graph_model::outcome::Outcome;
+use plain_eval::evaluation::eval;
+use race_check::checked::Checked;
+use run_core::{Attempt, Core, Thing};
+use std::alloc::Global;
+use std::test::Fail;
+
+/// In which order lines are attempted.
+#[derive(Clone, Copy)]
+enum Order {
+    Ascending,
+    Descending,
+    /// The first, the last, the second, the last but one, and so on.
+    Alternating,
+}
+
+/// The line at a place of this order of so many lines.
+fn line_at(order: Order, place: u32, lines: u32) -> u32
+    requires { place < lines }
+    ensures { result < lines }
+{
+    let last = lines - 1;
+    match order {
+        Order::Ascending => place,
+        Order::Descending => last - place,
+        Order::Alternating if place % 2 == 0 => place / 2,
+        Order::Alternating => last - place / 2,
+    }
+}
+
+/// Issues as many lines as there is room for.
+fn issue_all(core: &mut Core)
+    ensures { SameOut core.old core.new }
+{
+    for _turn in 0..core.graph().lines() {
+        core.issue();
+    }
+}
+
+/// Takes what can be taken from this place of the order on: how many lines. Each is put back after
+/// those that were taken after it, so as much as can be is out at one time.
+fn take_from(core: &mut Core, order: Order, place: u32) -> u32
+    requires { place ≤ length core.old.graph.lines }
+    ensures few { place + result ≤ length core.old.graph.lines }
+    ensures out { SameOut core.old core.new }
+    ensures works { (w : WorkValue) → IsWork core.old w → IsWork core.new w }
+{
+    let lines = core.graph().lines();
+    if place == lines {
+        return 0;
+    }
+    let Attempt::Taken(work) = core.attempt(line_at(order, place, lines)) else {
+        return take_from(core, order, place + 1);
+    };
+    let others = take_from(core, order, place + 1);
+    core.is_sound();
+    let finished = work.perform(core.graph());
+    core.put_back(finished);
+    others + 1
+}
+
+/// Gives all waiters that were caught, which are then free.
+fn wake_all(core: &mut Core)
+    ensures { SameOut core.old core.new }
+{
+    for _turn in 0..core.graph().lines() {
+        core.next_woken();
+    }
+}
+
+/// Issues lines, takes all that can be taken, and wakes those that waited, as many times as there
+/// are lines, since one at least ends each time while any can: how many have ended.
+fn drive(core: &mut Core, order: Order) -> u32
+    ensures { SameOut core.old core.new }
+{
+    let mut ended = 0;
+    for _turn in 0..core.graph().lines() {
+        issue_all(core);
+        ended += take_from(core, order, 0);
+        wake_all(core);
+    }
+    ended
+}
+
+/// The outcome of a core that is driven in this order, with how many lines the drive ended.
+fn driven(
+    alloc: Global,
+    checked: &Checked,
+    slots: u32,
+    order: Order,
+) -> Result<(Outcome, u32), Fail> {
+    if checked.need() > slots || slots > 8192 {
+        return Err("slots".into());
+    }
+    let mut core = Core::prepare(alloc, checked, slots)?;
+    let ended = drive(&mut core, order);
+    core.finish();
+    Ok((core.outcome(), ended))
+}
+
+/// Whether a graph that is driven in each order gives the outcome of the evaluation, and ends by
+/// the drive alone.
+fn is_evaluated(alloc: Global, text: &[u8], slots: u32) -> Result<bool, Fail> {
+    let checked = checked(alloc, text)?;
+    let wanted = eval(alloc, &checked)?;
+    for order in [Order::Ascending, Order::Descending, Order::Alternating] {
+        let (outcome, ended) = driven(alloc, &checked, slots, order)?;
+        if !is_same(&outcome, &wanted) || !has_trace(&outcome, ended) {
+            return Ok(false);
+        }
+    }
+    Ok(true)
+}
+
+#[test]
+fn small_graphs(rt: HostRuntime) -> Result<(), Fail> {
+    for (text, slots) in [
+        (texts::EMPTY, 1),
+        (texts::WAITER_ABOVE_TRIGGER, 4),
+        (texts::FAULTY_PATHS, 6),
+        (texts::CANCELLED_BARRIER, 6),
+        (texts::NO_TRIGGER, 3),
+        (texts::KERNELS, 9),
+        (texts::LOCKED_SUMS, 10),
+        (texts::TWO_SECTIONS, 6),
+        (texts::NINE_WAITERS, 11),
+    ] {
+        assert!(rt; is_evaluated(rt.alloc(), text, slots)?);
+    }
+    Ok(())
+}
+
+#[test]
+fn tiled_stencil(rt: HostRuntime) -> Result<(), Fail> {
+    let text = tiles::graph(rt.alloc())?;
+    assert!(rt; is_evaluated(rt.alloc(), text.as_bytes(), 427)?);
+    Ok(())
+}
+
+#[test]
+fn one_slot(rt: HostRuntime) -> Result<(), Fail> {
+    let text = tiles::chain(rt.alloc())?;
+    assert!(rt; is_evaluated(rt.alloc(), text.as_bytes(), 1)?);
+    Ok(())
+}
+
+/// What an attempt on a line answers where all are issued and the first one is out.
+fn second_attempt(alloc: Global, text: &[u8], second: u32) -> Result<Attempt, Fail> {
+    let checked = checked(alloc, text)?;
+    if checked.need() > 8192 || checked.graph().lines() <= second {
+        return Err("graph".into());
+    }
+    let mut core = Core::prepare(alloc, &checked, 8192)?;
+    issue_all(&mut core);
+    if !matches!(core.attempt(0), Attempt::Taken(_)) {
+        return Err("first".into());
+    }
+    Ok(core.attempt(second))
+}
+
+#[test]
+fn second_line_waits(rt: HostRuntime) -> Result<(), Fail> {
+    let reader = second_attempt(rt.alloc(), texts::TWO_READERS, 1)?;
+    assert!(rt; matches!(reader, Attempt::Busy(Thing::Column(0))));
+    let acquire = second_attempt(rt.alloc(), texts::TWO_SECTIONS, 3)?;
+    assert!(rt; matches!(acquire, Attempt::Busy(Thing::Lock(0))));
+    let merge = second_attempt(rt.alloc(), texts::TWO_SECTIONS, 1)?;
+    assert!(rt; matches!(merge, Attempt::NotYet(0)));
+    Ok(())
+}

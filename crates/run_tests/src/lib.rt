@@ -1,0 +1,16 @@
+//! Tests of runs by a core and by workers, by public calls alone. It has no code of its own, so that
+//! its tests are proved once, and the crates below are proved without them.
+#![tactic(auto)]
+
+#[cfg(test)]
+mod core_tests;
+#[cfg(test)]
+mod graphs;
+#[cfg(test)]
+mod outcomes;
+#[cfg(test)]
+mod texts;
+#[cfg(test)]
+mod tiles;
+#[cfg(test)]
+mod worker_tests;
