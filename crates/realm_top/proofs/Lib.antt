@@ -1,4 +1,3 @@
-pub mod Driving
 pub mod WordLines
 pub mod ReportRest
 pub mod Fitting

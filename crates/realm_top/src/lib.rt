@@ -1,30 +1,12 @@
 //! The top call: from the words of the command line, and the bytes of a graph, to the bytes of the answer.
 #![tactic(auto)]
 
-#[cfg(test)]
-mod checks;
-#[cfg(test)]
-mod cores;
 mod input;
-#[cfg(test)]
-mod limits;
-#[cfg(test)]
-mod makes;
 mod making;
 mod refusal;
 pub mod report;
-#[cfg(test)]
-mod rows;
 pub mod status;
 mod summary;
-#[cfg(test)]
-mod support;
-#[cfg(test)]
-mod tests;
-#[cfg(test)]
-mod tiles;
-#[cfg(test)]
-mod workers;
 
 ghost use Rattle.std.specs.Prelude.{◌≡◌, ℕ, ◌≤◌, ◌⊎◌, List, None, true, false, IfSome};
 ghost use Rattle.std.specs.Io.KnownBytes.{IsAtEnd};

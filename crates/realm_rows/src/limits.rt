@@ -1,0 +1,206 @@
+//! Texts with one item more than a limit allows, texts as great as a limit allows, and the least slots.
+
+use crate::generated::{all_done, chain, numbered};
+use crate::graphs::EMPTY_REPORT;
+use crate::row::Row;
+use realm_top::status::Status;
+use std::alloc::Global;
+use std::test::Fail;
+
+/// A part of a text.
+#[derive(Clone, Copy)]
+enum Part {
+    Once(&'static str),
+    /// So many copies, each with its number, from 0, in place of each `#`.
+    Each(u32, &'static str),
+}
+
+/// Texts with one item too many, each with its refused line.
+const PAST: &[(&[Part], &str)] = &[
+    // intervals of a space
+    (
+        &[
+            Part::Once("realm 1\nspace s 0..0"),
+            Part::Each(64, ",1#0..1#0"),
+            Part::Once("\nend\n"),
+        ],
+        "refused line 2 limit\n",
+    ),
+    // instances
+    (
+        &[
+            Part::Once("realm 1\nspace s 0..0\n"),
+            Part::Each(65, "inst a# s x\n"),
+            Part::Once("end\n"),
+        ],
+        "refused line 67 limit\n",
+    ),
+    // columns
+    (
+        &[
+            Part::Once("realm 1\nspace s 0..0\ninst a s x"),
+            Part::Each(256, ",x#"),
+            Part::Once("\nend\n"),
+        ],
+        "refused line 3 limit\n",
+    ),
+    // cells
+    (
+        &[
+            Part::Once("realm 1\nspace s 0..1048575\n"),
+            Part::Each(5, "inst a# s x\n"),
+            Part::Once("end\n"),
+        ],
+        "refused line 7 limit\n",
+    ),
+    // reservations
+    (
+        &[
+            Part::Once("realm 1\n"),
+            Part::Each(65, "lock l#\n"),
+            Part::Once("end\n"),
+        ],
+        "refused line 66 limit\n",
+    ),
+    // barriers
+    (
+        &[
+            Part::Once("realm 1\n"),
+            Part::Each(65, "barrier b# 1 sum 0\n"),
+            Part::Once("end\n"),
+        ],
+        "refused line 66 limit\n",
+    ),
+    // lines
+    (
+        &[
+            Part::Once("realm 1\n"),
+            Part::Each(8193, "u# = user\n"),
+            Part::Once("end\n"),
+        ],
+        "refused line 8194 limit\n",
+    ),
+    // names in a merge
+    (
+        &[
+            Part::Once("realm 1\n"),
+            Part::Each(65, "u# = user\n"),
+            Part::Once("m = merge"),
+            Part::Each(65, " u#"),
+            Part::Once("\nend\n"),
+        ],
+        "refused line 67 limit\n",
+    ),
+    // edges: 1,024 merges of 64 names each, and one edge more
+    (
+        &[
+            Part::Once("realm 1\n"),
+            Part::Each(64, "u# = user\n"),
+            Part::Each(1024, MERGE_OF_64),
+            Part::Once("n = merge u0\nend\n"),
+        ],
+        "refused line 1090 limit\n",
+    ),
+];
+
+const MERGE_OF_64: &str =
+    "m# = merge u0 u1 u2 u3 u4 u5 u6 u7 u8 u9 u10 u11 u12 u13 u14 u15 u16 u17 u18 u19 \
+    u20 u21 u22 u23 u24 u25 u26 u27 u28 u29 u30 u31 u32 u33 u34 u35 u36 u37 u38 u39 \
+    u40 u41 u42 u43 u44 u45 u46 u47 u48 u49 u50 u51 u52 u53 u54 u55 u56 u57 u58 u59 \
+    u60 u61 u62 u63\n";
+
+/// The text of these parts.
+fn text_of(alloc: Global, parts: &[Part]) -> Result<String, Fail> {
+    let mut text = String::new(alloc);
+    for part in parts {
+        match *part {
+            Part::Once(once) => text.push_str(once)?,
+            Part::Each(copies, each) => text.push_str(numbered(alloc, copies, each)?.as_str())?,
+        }
+    }
+    Ok(text)
+}
+
+#[test]
+fn one_item_past(rt: HostRuntime) -> Result<(), Fail> {
+    for (parts, output) in PAST {
+        let text = text_of(rt.alloc(), parts)?;
+        let row = Row {
+            commands: &["run"],
+            text: text.as_str(),
+            status: Status::Unread,
+            output,
+        };
+        row.run(&rt)?;
+    }
+    Ok(())
+}
+
+/// A text of 1,048,576 bytes that declares spaces alone.
+fn greatest_text(alloc: Global) -> Result<String, Fail> {
+    let mut text = String::from_str(alloc, "realm 1\n")?;
+    for number in 0..58252u32 {
+        text.push_str(format!(in alloc; "space s{number:05} 0..0\n")?.as_str())?;
+    }
+    text.push_str("space t000000000000000 0..0\nend\n")?;
+    Ok(text)
+}
+
+#[test]
+fn bytes(rt: HostRuntime) -> Result<(), Fail> {
+    let mut text = greatest_text(rt.alloc())?;
+    assert_eq!(rt; text.len(), 1_048_576);
+    let row = Row {
+        commands: &["run"],
+        text: text.as_str(),
+        status: Status::Done,
+        output: EMPTY_REPORT,
+    };
+    row.run(&rt)?;
+    text.push('\n')?;
+    let longer = Row {
+        commands: &["run", "check", "eval"],
+        text: text.as_str(),
+        status: Status::TooLong,
+        output: "input too long\n",
+    };
+    longer.run(&rt)
+}
+
+/// A chain of so many fills, and its report.
+fn chain_with_report(alloc: Global, fills: u32) -> Result<(String, String), Fail> {
+    let text = chain(alloc, fills)?;
+    let ends = all_done(alloc, text.as_str())?;
+    let report = format!(in alloc; "{ends}cells a.x 0..0 {fills}\ndone\n")?;
+    Ok((text, report))
+}
+
+#[test]
+fn lines(rt: HostRuntime) -> Result<(), Fail> {
+    let (text, report) = chain_with_report(rt.alloc(), 8192)?;
+    let row = Row {
+        commands: &["run"],
+        text: text.as_str(),
+        status: Status::Done,
+        output: report.as_str(),
+    };
+    row.run(&rt)
+}
+
+#[test]
+fn one_slot(rt: HostRuntime) -> Result<(), Fail> {
+    let (text, report) = chain_with_report(rt.alloc(), 1000)?;
+    for (command, output) in [
+        ("check", "accepted need 1\n"),
+        ("run --slots 1", report.as_str()),
+    ] {
+        let row = Row {
+            commands: &[command],
+            text: text.as_str(),
+            status: Status::Done,
+            output,
+        };
+        row.run(&rt)?;
+    }
+    Ok(())
+}

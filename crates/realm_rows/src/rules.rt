@@ -1,0 +1,206 @@
+//! Graphs that break a rule, and the needs of graphs that break none.
+
+use crate::graphs::{EMPTY, FILL};
+use crate::row::Row;
+use realm_top::status::Status;
+use std::test::Fail;
+
+/// Texts with the rule that is broken.
+const BROKEN: &[(&str, &str)] = &[
+    (
+        "realm 1\nu = user\nx = merge u\nt = trigger u on x\nend\n",
+        "refused cycle u\n",
+    ),
+    (
+        "realm 1\nlock l\nq = acquire l\nend\n",
+        "refused unreleased q\n",
+    ),
+    (
+        "realm 1\n\
+         lock l\n\
+         u = user\n\
+         q = acquire l\n\
+         m = mergei q u\n\
+         r = release q on m\n\
+         t = trigger u\n\
+         end\n",
+        "refused section r u\n",
+    ),
+    (
+        "realm 1\n\
+         lock l\n\
+         lock k\n\
+         q = acquire k\n\
+         p = acquire l on q\n\
+         m = mergei p\n\
+         r = release p on m\n\
+         n = mergei r\n\
+         t = release q on n\n\
+         end\n",
+        "refused descends q p\n",
+    ),
+    (
+        "realm 1\nlock l\nq = acquire l\nm = merge q\nr = release q on m\nend\n",
+        "refused release r\n",
+    ),
+    // two sums in one section
+    (
+        "realm 1\n\
+         space s 0..1\n\
+         inst a s x,y,z\n\
+         lock l\n\
+         q = acquire l\n\
+         d = reduce sum a.x a.z s on q\n\
+         e = reduce sum a.y a.z s on q\n\
+         m = mergei d e\n\
+         r = release q on m\n\
+         end\n",
+        "refused race d e\n",
+    ),
+    // two sums outside any section
+    (
+        "realm 1\n\
+         space s 0..1\n\
+         inst a s x,y,z\n\
+         f = reduce sum a.x a.z s\n\
+         g = reduce sum a.y a.z s\n\
+         end\n",
+        "refused race f g\n",
+    ),
+    // two writes
+    (
+        "realm 1\nspace s 0..3\ninst a s x\nf = fill a.x s 7\ng = fill a.x s 8\nend\n",
+        "refused race f g\n",
+    ),
+    // three writes: the least two are named
+    (
+        "realm 1\n\
+         space s 0..3\n\
+         inst a s x\n\
+         f = fill a.x s 7\n\
+         g = fill a.x s 8\n\
+         h = fill a.x s 9\n\
+         end\n",
+        "refused race f g\n",
+    ),
+    // two writes of one value
+    (
+        "realm 1\nspace s 0..1\ninst a s x\nf = fill a.x s 1\ng = fill a.x s 1\nend\n",
+        "refused race f g\n",
+    ),
+    // a read and a write
+    (
+        "realm 1\nspace s 0..1\ninst a s x,y\nf = copy a.x a.y s\ng = fill a.x s 1\nend\n",
+        "refused race f g\n",
+    ),
+    // a write and a sum
+    (
+        "realm 1\nspace s 0..1\ninst a s y,z\nf = fill a.z s 1\ng = reduce sum a.y a.z s\nend\n",
+        "refused race f g\n",
+    ),
+    // a read and a sum
+    (
+        "realm 1\n\
+         space s 0..1\n\
+         inst a s x,y,z\n\
+         f = copy a.z a.y s\n\
+         g = reduce sum a.x a.z s\n\
+         end\n",
+        "refused race f g\n",
+    ),
+    // a conflict on the second access alone
+    (
+        "realm 1\n\
+         space s 0..1\n\
+         inst a s x,y,z\n\
+         f = copy a.x a.y s\n\
+         g = copy a.z a.y s\n\
+         end\n",
+        "refused race f g\n",
+    ),
+];
+
+/// Texts of graphs that are accepted, with their needs.
+const ACCEPTED: &[(&str, &str)] = &[
+    (EMPTY, "accepted need 1\n"),
+    (FILL, "accepted need 1\n"),
+    // two fills of one column that share no point
+    (
+        "realm 1\n\
+         space s 0..3\n\
+         space p 0..1\n\
+         space q 2..3\n\
+         inst a s x\n\
+         f = fill a.x p 7\n\
+         g = fill a.x q 8\n\
+         end\n",
+        "accepted need 1\n",
+    ),
+    // two reads
+    (
+        "realm 1\n\
+         space s 0..1\n\
+         inst a s x,y,z\n\
+         f = copy a.x a.y s\n\
+         g = copy a.x a.z s\n\
+         end\n",
+        "accepted need 1\n",
+    ),
+    // two columns
+    (
+        "realm 1\nspace s 0..1\ninst a s x,z\nf = fill a.x s 1\ng = fill a.z s 1\nend\n",
+        "accepted need 1\n",
+    ),
+    // a path through a merge that ignores faults
+    (
+        "realm 1\n\
+         space s 0..1\n\
+         inst a s x\n\
+         f = fill a.x s 1\n\
+         m = mergei f\n\
+         g = fill a.x s 1 on m\n\
+         end\n",
+        "accepted need 1\n",
+    ),
+    // two sections of one reservation: each release may let either acquire go on
+    (
+        "realm 1\n\
+         lock l\n\
+         q = acquire l\n\
+         m = mergei q\n\
+         r = release q on m\n\
+         k = acquire l\n\
+         n = mergei k\n\
+         t = release k on n\n\
+         end\n",
+        "accepted need 6\n",
+    ),
+];
+
+#[test]
+fn broken(rt: HostRuntime) -> Result<(), Fail> {
+    for (text, output) in BROKEN {
+        let row = Row {
+            commands: &["check", "run", "eval --trace"],
+            text,
+            status: Status::Unfit,
+            output,
+        };
+        row.run(&rt)?;
+    }
+    Ok(())
+}
+
+#[test]
+fn accepted(rt: HostRuntime) -> Result<(), Fail> {
+    for (text, output) in ACCEPTED {
+        let row = Row {
+            commands: &["check", "check --trace --slots 1"],
+            text,
+            status: Status::Done,
+            output,
+        };
+        row.run(&rt)?;
+    }
+    Ok(())
+}

@@ -1,0 +1,150 @@
+//! Ten steps of a stencil over eight tiles with halos, each step behind a barrier.
+
+ghost use Rattle.std.specs.Prelude.{◌<◌};
+
+use crate::generated::{all_done, numbered};
+use crate::row::Row;
+use realm_top::status::Status;
+use std::alloc::Global;
+use std::test::Fail;
+
+/// A space for each tile, of points that are counted from its left halo.
+fn spaces(alloc: Global, name: &str, low: u32, high: u32) -> Result<String, Fail>
+    requires { (low < 10) × (high < 10) }
+{
+    let mut text = String::new(alloc);
+    for k in 0..8u32 {
+        let line = format!(in alloc; "space {name}{k} {}..{}\n", 8 * k + low, 8 * k + high)?;
+        text.push_str(line.as_str())?;
+    }
+    Ok(text)
+}
+
+/// The declarations: of each tile its own points, those with its halos, and each halo.
+fn declarations(alloc: Global) -> Result<String, Fail> {
+    let own = spaces(alloc, "o", 1, 8)?;
+    let with_halos = spaces(alloc, "w", 0, 9)?;
+    let left = spaces(alloc, "l", 0, 0)?;
+    let right = spaces(alloc, "r", 9, 9)?;
+    let tiles = numbered(alloc, 8, "inst t# w# x,y\n")?;
+    Ok(format!(in alloc;
+        "realm 1\n{own}{with_halos}{left}{right}space one 0..0\n{tiles}inst acc one d\nlock gate\nbarrier b 8 sum 0\n"
+    )?)
+}
+
+/// The first values of all tiles.
+fn first_fills(alloc: Global) -> Result<String, Fail> {
+    let fills = numbered(alloc, 8, "i# = fill t#.x o# 1\n")?;
+    let all = numbered(alloc, 8, " i#")?;
+    Ok(format!(in alloc; "{fills}s0 = merge{all}\n")?)
+}
+
+/// The left halos of step `@`, on an event. The first tile's gets a value.
+fn left_halos(alloc: Global, event: &str, value: u64) -> Result<String, Fail> {
+    let mut text = format!(in alloc; "a@_0 = fill t0.x l0 {value} on {event}\n")?;
+    for k in 1..8u32 {
+        let line = format!(in alloc; "a@_{k} = copy t{}.x t{k}.x l{k} on {event}\n", k - 1)?;
+        text.push_str(line.as_str())?;
+    }
+    Ok(text)
+}
+
+/// The right halos of step `@`, on an event. The last tile's gets a value.
+fn right_halos(alloc: Global, event: &str, value: u64) -> Result<String, Fail> {
+    let mut text = String::new(alloc);
+    for k in 0..7u32 {
+        let line = format!(in alloc; "c@_{k} = copy t{}.x t{k}.x r{k} on {event}\n", k + 1)?;
+        text.push_str(line.as_str())?;
+    }
+    text.push_str(format!(in alloc; "c@_7 = fill t7.x r7 {value} on {event}\n")?.as_str())?;
+    Ok(text)
+}
+
+/// The lines of step `@` below its halos: the stencils, a dot under the reservation, and the phase at
+/// which each tile arrives once its values are copied back.
+fn below_halos(alloc: Global) -> Result<String, Fail> {
+    let left = numbered(alloc, 8, " a@_#")?;
+    let right = numbered(alloc, 8, " c@_#")?;
+    let stencils = numbered(alloc, 8, "y@_# = task stencil t#.x t#.y w# o# on h@\n")?;
+    let all = numbered(alloc, 8, " y@_#")?;
+    let copies = numbered(alloc, 8, "b@_# = copy t#.y t#.x o# on z@\n")?;
+    let arrivals = numbered(alloc, 8, "v@_# = arrive p@ 1 on b@_#\n")?;
+    let dot = "q@ = acquire gate on m@\n\
+        d@ = task dot t0.x t0.y acc.d o0 one on q@\n\
+        g@ = mergei d@\n\
+        z@ = release q@ on g@\n";
+    Ok(format!(in alloc;
+        "h@ = merge{left}{right}\n{stencils}m@ = merge{all}\n{dot}{copies}p@ = phase b\n{arrivals}"
+    )?)
+}
+
+/// The whole graph.
+fn graph(alloc: Global) -> Result<String, Fail> {
+    let mut text = declarations(alloc)?;
+    text.push_str(first_fills(alloc)?.as_str())?;
+    let below = below_halos(alloc)?;
+    let mut event = String::from_str(alloc, "s0")?;
+    let mut value = 1u64;
+    for step in 1..11u32 {
+        let number = format!(in alloc; "{step}")?;
+        let left = left_halos(alloc, event.as_str(), value)?;
+        let right = right_halos(alloc, event.as_str(), value)?;
+        let lines = format!(in alloc; "{left}{right}{below}")?;
+        text.push_str(lines.replace(alloc, '@', number.as_str())?.as_str())?;
+        event = format!(in alloc; "p{step}")?;
+        value = value.wrapping_mul(3);
+    }
+    text.push_str("end\n")?;
+    Ok(text)
+}
+
+/// The cells of all tiles after the last step.
+fn cells(alloc: Global) -> Result<String, Fail> {
+    let mut text = String::new(alloc);
+    let tripled = "59049 59049 59049 59049 59049 59049 59049 59049";
+    for k in 0..8u32 {
+        let (low, high) = (8 * k, 8 * k + 9);
+        let tile = format!(in alloc;
+            "cells t{k}.x {low}..{high} 19683 {tripled} 19683\ncells t{k}.y {low}..{high} 0 {tripled} 0\n"
+        )?;
+        text.push_str(tile.as_str())?;
+    }
+    Ok(text)
+}
+
+/// The report of the whole graph.
+fn report(alloc: Global, text: &str) -> Result<String, Fail> {
+    let ends = all_done(alloc, text)?;
+    let phases = "phase p1 8\n\
+        phase p2 8\n\
+        phase p3 8\n\
+        phase p4 8\n\
+        phase p5 8\n\
+        phase p6 8\n\
+        phase p7 8\n\
+        phase p8 8\n\
+        phase p9 8\n\
+        phase p10 8\n";
+    let cells = cells(alloc)?;
+    Ok(format!(in alloc; "{ends}{phases}{cells}cells acc.d 0..0 10460353200\ndone\n")?)
+}
+
+#[test]
+fn tiled_stencil(rt: HostRuntime) -> Result<(), Fail> {
+    let text = graph(rt.alloc())?;
+    let report = report(rt.alloc(), text.as_str())?;
+    for (command, output) in [
+        ("check", "accepted need 427\n"),
+        ("run --workers 4", report.as_str()),
+        ("eval", report.as_str()),
+    ] {
+        let row = Row {
+            commands: &[command],
+            text: text.as_str(),
+            status: Status::Done,
+            output,
+        };
+        row.run(&rt)?;
+    }
+    Ok(())
+}
