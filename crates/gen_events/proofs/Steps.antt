@@ -1,5 +1,5 @@
 -- Each step keeps the rule.
-use Rattle.std.proofs.Common.{◌≡◌, ℕ, zero, suc, ◌-◌, ◌%◌, ◌<◌, ◌≤◌, ◌≢◌, List, [], ◌∷◌, length, get_or, set, sym, refl, ap, ◌∙◌, subst, ⊎_elim, arith}
+use Rattle.std.proofs.Common.{◌≡◌, ℕ, zero, suc, ◌-◌, ◌%◌, ◌<◌, ◌≤◌, ◌≢◌, List, [], ◌∷◌, length, get_or, set, sym, refl, ap, ◌∙◌, subst, ⊎_elim, arith, cond, eq-eqb}
 use Rattle.std.specs.Prelude.{Contains}
 use Rattle.std.proofs.lemmas.List.Elements.{Contains-append_cases, Contains-push_cases}
 use mathlib.Core.Logic.{dite}
@@ -14,10 +14,10 @@ use Rattle.gen_events.specs.declared.handle.Fate.{Fate}
 use Rattle.gen_events.specs.declared.handle.Shape.{Shape}
 use Rattle.gen_events.specs.declared.view.View.{View}
 use Rattle.gen_events.specs.Lists.{total}
-use Rattle.gen_events.specs.Rule.{turns_of, place_of, mark_words, mark_word, mark, fate_code, IsMade, IsPending, IsEnded, code, Linked, Shows, held, rights_at, maker, Fits, Orderly}
-use Rattle.gen_events.specs.Plays.{Sat, found_at, ends_of, Agrees, InRange, Coherent, looked, heeded, fated, fates_of, fates_by, reads, fate_by}
+use Rattle.gen_events.specs.Rule.{turns_of, place_of, mark_words, mark_word, mark, fate_code, IsMade, IsPending, IsEnded, code, Linked, Shows, held, ends_at, rights_at, maker, Fits, Orderly}
+use Rattle.gen_events.specs.Plays.{Sat, found_at, ends_of, Agrees, InRange, Coherent, Rightless, looked, heeded, fated, fates_of, fates_by, reads, fate_by}
 use Rattle.std.specs.Int.{bit_at}
-use Rattle.gen_events.proofs.Sums.{total-set, Contains-none, Contains-head}
+use Rattle.gen_events.proofs.Sums.{total-set, term_le, item_le, Contains-none, Contains-head}
 use Rattle.gen_events.proofs.Marks.{one_code, coded, fates_in}
 use Rattle.gen_events.proofs.Words.{code_le, turns_shown, ends_in}
 
@@ -88,6 +88,8 @@ pub agrees : (key : Shape) (ws ts : List ℕ) (log : List (ℕ × Handle)) (v : 
 agrees key ws ts log v i r e o = (
   (λ h c at. let a = o.seen h c in let b : get_or ts h.slot 0 ≡ turns_of r = ap (λ j. get_or ts j 0) at ∙ sym e in omega arith),
   (λ h f c at. let a = (o.known h f c).0 in let b : get_or ts h.slot 0 ≡ turns_of r = ap (λ j. get_or ts j 0) at ∙ sym e in omega arith),
+  (λ h c at. let a = o.past h c in let b : get_or ts h.slot 0 ≡ turns_of r = ap (λ j. get_or ts j 0) at ∙ sym e in omega arith),
+  (λ h c at. let a = o.rights h c in let b : get_or ts h.slot 0 ≡ turns_of r = ap (λ j. get_or ts j 0) at ∙ sym e in omega arith),
 )
 
 get_or_past : (xs : List ℕ) (i n : ℕ) → length xs ≡ n → n ≤ i → get_or xs i 0 ≡ 0
@@ -112,6 +114,11 @@ coherent key ws ts log v o = record {
   left_pending = λ h f c d. let a = o.left h c in let b = (o.known h f d).0 in omega arith;
   left_not_past = λ h c d. let a = o.left h c in let b = o.past h d in omega arith;
 }
+
+pub rightless : (key : Shape) (s : St) (o : Orderly key s) (id : ℕ) (v : View) → get_elem? s.views id ≡ some v → Rightless v
+rightless key s o id v me h left right =
+    let one : ends_at h.slot h ≡ 1 = ap (λ b. cond b 1 0) (eq-eqb h.slot h.slot refl) in
+    omega (arith, o.no_right id v h me left, term_le (rights_at h.slot) s.views id v me, item_le (ends_at h.slot) v.rights h right, one)
 
 -- what a poison word tells
 told : (key : Shape) (s : St) (o : Orderly key s) (v : View) → Fits key s.words o.turns o.log v → (w : ℕ) (ks : List Shape) → ((x : Shape) → Contains ks x → x ≡ key) → (h : Handle) (f : Fate) → Contains (fates_of ks w (get_or s.words w 0) v.past) (h, f) → IsEnded o.turns h × (mark key s.words h ≡ fate_code f)
@@ -163,7 +170,7 @@ looks key n id i m near s o wide me _ = let r : ℕ = get_or s.words i 0 in let 
   keeps,
   tt,
   kept_word key s i s.homes (set s.views id (found_at v i r)) (own key s o id v (found_at v i r) me (found_fits key s.words o.turns o.log v i r e fits) (λ f. refl) refl refl refl),
-  (refl, agrees key s.words o.turns o.log v i r e fits, in_range key s o v fits, coherent key s.words o.turns o.log (found_at v i r) (found_fits key s.words o.turns o.log v i r e fits)),
+  (refl, agrees key s.words o.turns o.log v i r e fits, in_range key s o v fits, coherent key s.words o.turns o.log (found_at v i r) (found_fits key s.words o.turns o.log v i r e fits), rightless key s o id v me),
 )
 
 pub heeds : (key : Shape) (n id i : ℕ) (m : Sat) → Allows (Orderly key) n id m i (λ x. x) (λ _. heeded m)

@@ -1,7 +1,7 @@
 //! Looking at events.
 
 ghost use Rattle.gen_events.specs.Plays.{Coherent};
-ghost use Rattle.gen_events.specs.Seats.{HasSeen, IsPast, Knows, Grows, Keeps, FoundPending, no_event};
+ghost use Rattle.gen_events.specs.Seats.{HasSeen, IsPast, Knows, Grows, Keeps, SamePlacings, FoundPending, no_event};
 ghost use Rattle.gen_events.specs.Views.{lists, shape_of, IsAt, answer_of};
 ghost use Rattle.std.specs.Prelude.{◌≡◌, ◌≢◌, ◌<◌, ◌≤◌, ◌⊎◌, Contains};
 
@@ -26,6 +26,11 @@ impl Events {
         ensures left { handle ≢ no_event → Contains (lists seat.old).left handle → result ≡ Answer.Pending }
         ensures none { handle ≡ no_event → result ≡ Answer.Triggered }
         ensures known { (f : Fate) → handle ≢ no_event → Knows (lists seat.old) handle f → result ≡ answer_of f }
+        ensures past { handle ≢ no_event → IsPast (lists seat.old) handle → result ≢ Answer.Pending }
+        ensures still { handle ≡ no_event → lists seat.new ≡ lists seat.old }
+        ensures same_seen { (lists seat.new).seen ≡ (lists seat.old).seen }
+        ensures same_placings { SamePlacings (lists seat.old) (lists seat.new) }
+        ensures same_left { (lists seat.new).left ≡ (lists seat.old).left }
     {
         if is_no_event(handle) {
             return Answer::Triggered;
@@ -52,6 +57,8 @@ impl Events {
         ensures kept { Keeps (lists seat.old) (lists seat.new) }
         ensures coherent { Coherent (lists seat.new) }
         ensures same { ((lists seat.new).saw ≡ (lists seat.old).saw) × ((lists seat.new).placed ≡ (lists seat.old).placed) × ((lists seat.new).left ≡ (lists seat.old).left) }
+        ensures same_seen { (lists seat.new).seen ≡ (lists seat.old).seen }
+        ensures same_placings { SamePlacings (lists seat.old) (lists seat.new) }
     {
         let at = self.shape.mark_at(handle);
         let bit = self.shape.place(handle) % 64;
