@@ -3,7 +3,7 @@
 ghost use Rattle.gen_events.specs.Plays.{Coherent};
 ghost use Rattle.gen_events.specs.Seats.{Grows, Keeps};
 ghost use Rattle.gen_events.specs.Views.{lists, IsAt, IsWaiterOf, IsReceiptOf, IsCaughtOf, IsSetOf, rest_of, given_by, caught_lists, number_of, ended_by, fate_of, caught_on, taken_of, size_of};
-ghost use Rattle.std.specs.Prelude.{◌≡◌, ◌+◌, ◌∷◌, ◌++◌, [], Contains, IfSome, IfNone};
+ghost use Rattle.std.specs.Prelude.{◌≡◌, ◌+◌, ◌<◌, ◌∷◌, ◌++◌, [], Contains, IfSome, IfNone};
 
 use crate::events::Events;
 use crate::plays::{Both, Copies, Deals, Empties, Heed, Walk};
@@ -57,6 +57,7 @@ impl WaiterSet {
         requires { IsSetOf events.now self.old }
         ensures set { IsSetOf events.now self.new × (size_of self.new ≡ size_of self.old) }
         ensures some { IfSome result (λ w. (number_of w ≡ taken_of self.old) × (taken_of self.new ≡ taken_of self.old + 1) × IsWaiterOf events.now w) }
+        ensures within { IfSome result (λ w. number_of w < size_of self.old) }
         ensures none { IfNone result ((taken_of self.old ≡ size_of self.old) × (taken_of self.new ≡ taken_of self.old)) }
     {
         if self.next == self.count {
