@@ -28,6 +28,7 @@ idle v = record v { makes = 0 }
 pub idle_fits : (key : Shape) (ws ts : List ℕ) (log : Placings) (v : View) → Fits key ws ts log v → Fits key ws ts log (idle v)
 idle_fits key ws ts log v o = record {
   keys = o.keys;
+  all_seen = o.all_seen;
   seen = o.seen;
   known = o.known;
   placed = o.placed;
@@ -149,6 +150,12 @@ module _ (key : Shape) (s : St) (o : Orderly key s) (id i old : ℕ) (v : View) 
       let this : IsPending ts' h = let a = turn_here in let b = half in let ev = even in omega arith in
       let this_made : IsMade ts' h = omega arith in record {
         keys = f.keys;
+        all_seen = (
+          (λ x y c. Contains-append_left v.seen (h ∷ []) x (f.all_seen.0 x y c)),
+          (λ x c. Contains-append_left v.seen (h ∷ []) x (f.all_seen.1 x c)),
+          (λ x c. Contains-append_left v.seen (h ∷ []) x (f.all_seen.2 x c)),
+          (λ x c. ⊎_elim (λ (e : h ≡ x). subst (Contains (v.seen ++ h ∷ [])) e (Contains-push v.seen h)) (λ d. Contains-append_left v.seen (h ∷ []) x (f.all_seen.3 x d)) (Contains-cases h x v.rights c)),
+        );
         seen = λ x c. ⊎_elim (λ d. f.seen x d) (λ (e : h ≡ x). subst (IsMade ts') e this_made) (Contains-push_cases v.seen h x c);
         known = f.known;
         placed = f.placed;

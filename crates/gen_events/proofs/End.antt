@@ -113,6 +113,7 @@ module _ (key : Shape) (s : St) (o : Orderly key s) (id next : ℕ) (v : View) (
   fits₀ : Fits key s.words o.turns o.log v₀
   fits₀ = record {
     keys = fits.keys;
+    all_seen = (fits.all_seen.0, fits.all_seen.1, fits.all_seen.2, λ x d. fits.all_seen.3 x (subst (λ l. Contains l x) (sym rights) (Contains-tail h x rest d)));
     seen = fits.seen;
     known = fits.known;
     placed = fits.placed;
@@ -144,6 +145,12 @@ module _ (key : Shape) (s : St) (o : Orderly key s) (id next : ℕ) (v : View) (
   mine = let f = steady key s.words ws' o.turns ts' o.log o.log v₀ fits₀ (leaves id v v₀ me fits₀ (λ x d. ⊎_elim (λ y. my_rest x y) (λ y. left_apart key s o id id v v h x me me has y) d)) in
       let over : IsEnded ts' h = let a = th in omega arith in record {
         keys = f.keys;
+        all_seen = (
+          (λ x y d. ⊎_elim (λ z. f.all_seen.0 x y z) (λ (e : (h, fate_now v.marked) ≡ (x, y)). subst (λ (q : Handle × Fate). Contains v.seen q.0) e (fits.all_seen.3 h has)) (Contains-push_cases v.known (h, fate_now v.marked) (x, y) d)),
+          f.all_seen.1,
+          f.all_seen.2,
+          (λ x d. f.all_seen.3 x (subst (λ l. Contains l x) but_first_is d)),
+        );
         seen = f.seen;
         known = λ x y d. ⊎_elim (λ z. f.known x y z) (λ (e : (h, fate_now v.marked) ≡ (x, y)). subst (λ (q : Handle × Fate). IsEnded ts' q.0 × (mark key ws' q.0 ≡ fate_code q.1)) e (over, low_bit h ∙ its_fate)) (Contains-push_cases v.known (h, fate_now v.marked) (x, y) d);
         placed = f.placed;

@@ -45,6 +45,9 @@ pub record Coherent (v : View) : Type 0 where
   pub all_given : (k : ℕ) (h : Handle) → Contains v.placed (k, h) → Contains v.emptied h → Contains v.given (k, h)
   pub left_pending : (h : Handle) (f : Fate) → Contains v.left h → Contains v.known (h, f) → ⊥
   pub left_not_past : (h : Handle) → Contains v.left h → Contains v.past h → ⊥
+  pub known_seen : (h : Handle) (f : Fate) → Contains v.known (h, f) → Contains v.seen h
+  pub left_seen : (h : Handle) → Contains v.left h → Contains v.seen h
+  pub past_seen : (h : Handle) → Contains v.past h → Contains v.seen h
 
 -- a load of a poison word
 abbrev pub fated : View → ℕ → ℕ → View
@@ -64,12 +67,13 @@ marking Poison v = marked_at v
 abbrev pub marks : Sat → Sat → Type 0
 marks m n = n ≡ (marked_at m.0, m.1)
 
--- what the slot i had gone through: a handle that was seen had been created, one that is known or was found to have ended had ended, and one that the seat may end was pending
+-- what the slot i had gone through: a handle that was seen had been created, one that is known, was found to have ended or was emptied had ended, and one that the seat may end was pending
 abbrev pub Agrees : View → ℕ → ℕ → Type 0
 Agrees v i r = ((h : Handle) → Contains v.seen h → h.slot ≡ i → 2 * h.gen_ + 1 ≤ turns_of r)
     × ((h : Handle) (f : Fate) → Contains v.known (h, f) → h.slot ≡ i → 2 * h.gen_ + 2 ≤ turns_of r)
     × ((h : Handle) → Contains v.past h → h.slot ≡ i → 2 * h.gen_ + 2 ≤ turns_of r)
     × ((h : Handle) → Contains v.rights h → h.slot ≡ i → turns_of r ≡ 2 * h.gen_ + 1)
+    × ((h : Handle) → Contains v.emptied h → h.slot ≡ i → 2 * h.gen_ + 2 ≤ turns_of r)
 
 -- nobody has the right to end a handle that was left
 abbrev pub Rightless : View → Type 0

@@ -27,6 +27,8 @@ impl Events {
         ensures none { handle ≡ no_event → result ≡ Answer.Triggered }
         ensures known { (f : Fate) → handle ≢ no_event → Knows (lists seat.old) handle f → result ≡ answer_of f }
         ensures past { handle ≢ no_event → IsPast (lists seat.old) handle → result ≢ Answer.Pending }
+        ensures emptied { handle ≢ no_event → Contains (lists seat.old).emptied handle → result ≢ Answer.Pending }
+        ensures coherent { handle ≢ no_event → Coherent (lists seat.new) }
         ensures still { handle ≡ no_event → lists seat.new ≡ lists seat.old }
         ensures same_seen { (lists seat.new).seen ≡ (lists seat.old).seen }
         ensures same_placings { SamePlacings (lists seat.old) (lists seat.new) }

@@ -66,3 +66,9 @@ returns-then-turns-handle-clause-past c = λ some past _. let t = c.load-found.e
     let seen = really_seen m c.args.handle some c.requires.seen in
     let a = t.1.2 c.args.handle past (sym (at_slot m c.args.handle c.args.self.now.shape _ t.2 c.requires.at.1 seen c.word_of-at.ensures.same)) in
     omega (arith, c.turns.ensures, c.if-turns-handle.true)
+
+pub returns-then-turns-handle-clause-emptied : goal.returns-then-turns-handle-clause-emptied
+returns-then-turns-handle-clause-emptied c = λ some emptied _. let t = c.load-found.ensures.2 in let m = c.args.seat.now.inner.me in
+    let seen = really_seen m c.args.handle some c.requires.seen in
+    let a = t.1.4 c.args.handle emptied (sym (at_slot m c.args.handle c.args.self.now.shape _ t.2 c.requires.at.1 seen c.word_of-at.ensures.same)) in
+    omega (arith, c.turns.ensures, c.if-turns-handle.true)
