@@ -1,5 +1,5 @@
 -- What `attach` leaves.
-use Rattle.std.proofs.Common.{◌≡◌, ◌≢◌, ℕ, ◌+◌, ◌*◌, ◌/◌, ◌%◌, ◌<◌, ◌≤◌, List, [], ◌∷◌, ◌++◌, sym, refl, ap, ◌∙◌, subst, arith, map, append-nil}
+use Rattle.std.proofs.Common.{◌≡◌, ◌≢◌, ℕ, ◌+◌, ◌*◌, ◌/◌, ◌%◌, ◌<◌, ◌≤◌, List, [], ◌∷◌, ◌++◌, sym, refl, ap, ◌∙◌, subst, arith, map}
 use Rattle.std.specs.Prelude.{Contains}
 use Rattle.std.proofs.lemmas.List.Elements.{Contains-append_left, Contains-append_right}
 use mathlib.Core.Logic.{dite}
@@ -8,11 +8,11 @@ use Rattle.gen_events.specs.declared.handle.Handle.{Handle}
 use Rattle.gen_events.specs.declared.handle.Shape.{Shape}
 use Rattle.gen_events.specs.Rule.{turns_of}
 use Rattle.gen_events.specs.Plays.{Sat, handle_at, first_to, first_of, but_first, relinked, with_first, placed_on, looked, found_at, ends_of, joined, dealt, dealer}
-use Rattle.gen_events.specs.Seats.{Rights, IsPlain, IsWaiter, Grows, waiters_of}
+use Rattle.gen_events.specs.Seats.{Rights, IsPlain, IsWaiter, SameGiven, Grows, waiters_of}
 use Rattle.gen_events.proofs.Words.{turns_if, ends_has}
 use Rattle.gen_events.proofs.Growing.{same_begins, grows_on}
 use Rattle.gen_events.proofs.Apart.{same_handle}
-use Rattle.gen_events.proofs.Takes.{map_nil, one_in_hand}
+use Rattle.gen_events.proofs.Takes.{map_nil, one_in_hand, adds_none}
 
 -- a word that shows an odd number of turns
 pub odd_word : (w g : ℕ) → turns_of w ≡ 2 * g + 1 → (w / 4294967296 ≡ g) × (w % 4294967296 ≢ 0) × (w % 4294967296 ≢ 4294967295)
@@ -34,6 +34,8 @@ pub record Ready (k d : ℕ) (v n : Sat) : Type 0 where
   pub saw : n.0.saw ≡ v.0.saw
   pub keys : n.0.keys ≡ v.0.keys
   pub seen : (h : Handle) → Contains v.0.seen h → Contains n.0.seen h
+  pub same_seen : n.0.seen ≡ v.0.seen
+  pub same_given : SameGiven v.0 n.0
   pub grows : Grows v.0 n.0
 
 pub in_hand : (k : ℕ) (v u m : Sat) → IsPlain v → IsWaiter u k → m ≡ (joined v.0 u.0, v.1) → (c : ℕ) × Ready k c v m
@@ -47,11 +49,13 @@ in_hand k v u m p q e =
         hand = hand;
         rights = (p.0.0, (let a = p.0.1 in let b = q.0.1 in omega arith), (λ t. p.0.2 t ++ q.0.2 t), ap (map (λ (p : ℕ × ℕ). p.0)) hand, p.0.4, (λ t. p.0.5 t ++ q.0.5 t));
         caught = p.1;
-        placed = ap (λ l. v.0.placed ++ l) q.4 ∙ append-nil v.0.placed;
-        saw = refl;
+        placed = adds_none v.0.placed u.0.placed q.4.0;
+        saw = adds_none v.0.saw u.0.saw q.4.3;
         keys = refl;
         seen = λ h c. Contains-append_left v.0.seen u.0.seen h c;
-        grows = ((u.0.seen, refl), (u.0.known, refl), (u.0.placed, refl), (u.0.given, refl), (u.0.emptied, refl), (u.0.left, refl), same_begins v.0.saw v.0.saw refl);
+        same_seen = adds_none v.0.seen u.0.seen q.5;
+        same_given = (adds_none v.0.given u.0.given q.4.1, adds_none v.0.emptied u.0.emptied q.4.2, adds_none v.0.left u.0.left q.7);
+        grows = ((u.0.seen, refl), (u.0.known, refl), (u.0.placed, refl), (u.0.given, refl), (u.0.emptied, refl), (u.0.left, refl), (u.0.saw, refl), (u.0.past, refl));
       }),
     )
 
@@ -66,19 +70,23 @@ linked_now k c d v m n r t =
       saw = r.saw;
       keys = r.keys;
       seen = r.seen;
+      same_seen = r.same_seen;
+      same_given = r.same_given;
       grows = r.grows;
     })
 
 -- the waiter was placed
 pub placed_now : (k d : ℕ) (h : Handle) (found : ℕ) (v m n : Sat) → Ready k d v m → turns_of found ≡ 2 * h.gen_ + 1 → n ≡ (placed_on m.0 (handle_at h.slot (found / 4294967296)), m.1)
-    → IsPlain n × (n.0.placed ≡ v.0.placed ++ (k, h) ∷ []) × (n.0.saw ≡ v.0.saw)
+    → IsPlain n × (n.0.placed ≡ v.0.placed ++ (k, h) ∷ []) × (n.0.saw ≡ v.0.saw) × (n.0.seen ≡ v.0.seen) × SameGiven v.0 n.0
 placed_now k d h found v m n r odd e =
     let h' : Handle = handle_at h.slot (found / 4294967296) in
     let firsts : with_first h' m.0.hand ≡ (k, h) ∷ [] = ap (with_first h') r.hand ∙ ap (λ (x : Handle). (k, x) ∷ []) (handle_is h found odd) in
-    subst (λ (x : Sat). IsPlain x × (x.0.placed ≡ v.0.placed ++ (k, h) ∷ []) × (x.0.saw ≡ v.0.saw)) (sym e) (
+    subst (λ (x : Sat). IsPlain x × (x.0.placed ≡ v.0.placed ++ (k, h) ∷ []) × (x.0.saw ≡ v.0.saw) × (x.0.seen ≡ v.0.seen) × SameGiven v.0 x.0) (sym e) (
       ((r.rights.0, r.rights.1, r.rights.2, ap (λ (l : List (ℕ × ℕ)). map (λ (p : ℕ × ℕ). p.0) (but_first l)) r.hand, r.rights.4, r.rights.5), r.caught),
       (λ t. r.placed t ++ firsts t),
       r.saw,
+      r.same_seen,
+      r.same_given,
     )
 
 -- the waiter comes back
@@ -89,6 +97,8 @@ pub record Back (k : ℕ) (h : Handle) (again : ℕ) (v n q : Sat) : Type 0 wher
   pub keys : q.0.keys ≡ v.0.keys
   pub placed : n.0.placed ≡ v.0.placed
   pub saw : n.0.saw ≡ v.0.saw ++ (h.slot, again) ∷ []
+  pub same_seen : n.0.seen ≡ v.0.seen
+  pub same_given : SameGiven v.0 n.0
   pub ended : 2 * h.gen_ + 2 ≤ turns_of again → Contains n.0.past h
   pub pending : turns_of again < 2 * h.gen_ + 2 → turns_of again ≡ 2 * h.gen_ + 1
 
@@ -101,11 +111,13 @@ comes_back k d h again v m n n' q x r seen keys few small t left right =
     let all : waiters_of m.0.keys ≡ x.waiters = ap waiters_of (r.keys ∙ keys) in
     let base : Back k h again v (dealer w.0, w.1) (dealt w.0, []) = record {
       plain = ((r.rights.0, r.rights.1, r.rights.2, ap (λ (l : List (ℕ × ℕ)). map (λ (p : ℕ × ℕ). p.0) (but_first l)) r.hand, r.rights.4, r.rights.5), r.caught);
-      waiter = ((refl, refl, refl, ap (λ (l : List (ℕ × ℕ)). map (λ (p : ℕ × ℕ). p.0) (first_of l)) r.hand, refl, refl), refl, omega arith, omega arith, refl);
-      grows = grows_on v.0 m.0 w.0 r.grows (same_begins m.0.seen m.0.seen refl, same_begins m.0.known m.0.known refl, same_begins m.0.placed m.0.placed refl, same_begins m.0.given m.0.given refl, same_begins m.0.emptied m.0.emptied refl, same_begins m.0.left m.0.left refl, ((h.slot, again) ∷ [], refl));
+      waiter = ((refl, refl, refl, ap (λ (l : List (ℕ × ℕ)). map (λ (p : ℕ × ℕ). p.0) (first_of l)) r.hand, refl, refl), refl, omega arith, omega arith, (refl, refl, refl, refl), refl, refl, refl);
+      grows = grows_on v.0 m.0 w.0 r.grows (same_begins m.0.seen m.0.seen refl, same_begins m.0.known m.0.known refl, same_begins m.0.placed m.0.placed refl, same_begins m.0.given m.0.given refl, same_begins m.0.emptied m.0.emptied refl, same_begins m.0.left m.0.left refl, ((h.slot, again) ∷ [], refl), (ends_of h.slot (turns_of again) m.0.seen, refl));
       keys = r.keys;
       placed = r.placed;
       saw = ap (λ l. l ++ (h.slot, again) ∷ []) r.saw;
+      same_seen = r.same_seen;
+      same_given = r.same_given;
       ended = λ past. Contains-append_right m.0.past (ends_of h.slot (turns_of again) m.0.seen) h (ends_has h.slot (turns_of again) m.0.seen h seen' refl past);
       pending = λ l. omega arith;
     } in

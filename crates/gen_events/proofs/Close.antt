@@ -17,7 +17,7 @@ use Rattle.gen_events.specs.Rule.{turns_of, mark, mark_word, place_of, fate_code
 use Rattle.atomic_table.specs.Table.{Final, Seen}
 use Rattle.gen_events.specs.Plays.{gathered, fate_by}
 use Rattle.gen_events.specs.Chains.{chain_in, chain_at}
-use Rattle.gen_events.specs.EventMap.{SlotLife, unused, answer, answer_of, IsPlaced}
+use Rattle.gen_events.specs.EventMap.{SlotLife, unused, answer, answer_of, IsPlaced, HasEnded}
 use Rattle.gen_events.specs.Kept.{read, life_in, map_in, IsSlot, AreShown}
 use Rattle.gen_events.proofs.Sums.{entry_le, total-one, below-one}
 use Rattle.gen_events.proofs.ChainSteps.{follows}
@@ -83,6 +83,8 @@ pub record Closes (key : Shape) (words : List ℕ) (v u : View) : Type 0 where
   pub seen : (h : Handle) → Contains u.seen h → (a : Answer) × (answer (map_in key words []) h ≡ Some a)
   pub known : (h : Handle) (f : Fate) → Contains u.known (h, f) → answer (map_in key words []) h ≡ Some (answer_of f)
   pub placed : (k : ℕ) (h : Handle) → Contains u.placed (k, h) → IsPlaced (map_in key words []) k h ⊎ ((f : Fate) × (answer (map_in key words []) h ≡ Some (answer_of f)))
+  pub given : (k : ℕ) (h : Handle) → Contains u.given (k, h) → HasEnded (map_in key words []) h
+  pub emptied : (h : Handle) → Contains u.emptied h → HasEnded (map_in key words []) h
   pub left : (h : Handle) → Contains u.left h → answer (map_in key words []) h ≡ Some Pending
 
 pub closes : (key : Shape) (id : ℕ) (v u w : View) (words : List ℕ) (xs : List (Unit {0})) → v.makes ≡ 1 → u.makes ≡ 0 → w ≡ gathered v u → Final (Seen (Orderly key) id w) words xs → Closes key words v u
@@ -117,5 +119,7 @@ closes key id v u w words xs m z is t =
             stands = subst (λ (l : SlotLife). Contains l.waiting k) (sym (read_from_start (life_in key words) key.slots h.slot unused near)) (subst (λ l. Contains l k) (sym (waits key s o words t.2 h.slot near)) (old.1 p));
           }))
           (λ n. let y = old.0 in inr (over h old.0 (omega arith)));
+      given = λ k h c. let y = (f.given (k, h) (Contains-append_right v.given u.given (k, h) c)).1 in over h (omega arith) y;
+      emptied = λ h c. let y = (f.emptied h (Contains-append_right v.emptied u.emptied h c)).0 in over h (omega arith) y;
       left = λ h c. let y = f.left h (Contains-append_right v.left u.left h c) in pending h (omega arith) y;
     }

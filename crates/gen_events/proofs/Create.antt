@@ -14,7 +14,7 @@ use Rattle.gen_events.specs.declared.handle.Shape.{Shape}
 use Rattle.gen_events.specs.declared.view.View.{View}
 use Rattle.gen_events.specs.Lists.{total}
 use Rattle.gen_events.specs.Rule.{mark, IsMade, IsPending, Linked, Shows, held, ends_at, rights_at, maker, Fits, Orderly}
-use Rattle.gen_events.specs.Plays.{Sat, handle_at, made_at, created}
+use Rattle.gen_events.specs.Plays.{Sat, handle_at, made_at, AreBelow, created}
 use Rattle.gen_events.proofs.Sums.{total-set, Contains-cases, Contains-none}
 use Rattle.gen_events.proofs.Frames.{Placings, Leaves, steady}
 use Rattle.gen_events.proofs.Marks.{marks_low}
@@ -28,6 +28,7 @@ idle v = record v { makes = 0 }
 pub idle_fits : (key : Shape) (ws ts : List ℕ) (log : Placings) (v : View) → Fits key ws ts log v → Fits key ws ts log (idle v)
 idle_fits key ws ts log v o = record {
   keys = o.keys;
+  all_seen = o.all_seen;
   seen = o.seen;
   known = o.known;
   placed = o.placed;
@@ -149,6 +150,12 @@ module _ (key : Shape) (s : St) (o : Orderly key s) (id i old : ℕ) (v : View) 
       let this : IsPending ts' h = let a = turn_here in let b = half in let ev = even in omega arith in
       let this_made : IsMade ts' h = omega arith in record {
         keys = f.keys;
+        all_seen = (
+          (λ x y c. Contains-append_left v.seen (h ∷ []) x (f.all_seen.0 x y c)),
+          (λ x c. Contains-append_left v.seen (h ∷ []) x (f.all_seen.1 x c)),
+          (λ x c. Contains-append_left v.seen (h ∷ []) x (f.all_seen.2 x c)),
+          (λ x c. ⊎_elim (λ (e : h ≡ x). subst (Contains (v.seen ++ h ∷ [])) e (Contains-push v.seen h)) (λ d. Contains-append_left v.seen (h ∷ []) x (f.all_seen.3 x d)) (Contains-cases h x v.rights c)),
+        );
         seen = λ x c. ⊎_elim (λ d. f.seen x d) (λ (e : h ≡ x). subst (IsMade ts') e this_made) (Contains-push_cases v.seen h x c);
         known = f.known;
         placed = f.placed;
@@ -225,6 +232,12 @@ module _ (key : Shape) (s : St) (o : Orderly key s) (id i old : ℕ) (v : View) 
   pub was_not_made : Contains v.made h → ⊥
   was_not_made c = let a = fits.own h c in let b = half in let ev = even in omega arith
 
+  pub are_below : AreBelow v.made i (old / 4294967296)
+  are_below = (
+    (λ x c e. let a = fits.own x c in let b = half in let ev = even in let same : get_or o.turns x.slot 0 ≡ get_or o.turns i 0 = ap (λ y. get_or o.turns y 0) e in omega arith),
+    (λ k l. fits.made maker' (handle_at i k) (let b = half in let ev = even in omega arith)),
+  )
+
   pub no_later : old / 4294967296 ≤ key.last_gen
   no_later = let a = half in let b = not_last in omega arith
 
@@ -238,5 +251,5 @@ creates key n id i old m makes noted low s o wide me _ =
       keeps,
       tt,
       subst (λ b. Orderly key (board (set s.words i (either b (old + 1) (get_or s.words i 0))) s.homes (set s.views id w))) (sym (eq-eqb (get_or s.words i 0) old is)) (creates_rule key s o id i old v me makes noted low),
-      (is, refl, was_not_made key s o id i old v me makes noted low, λ x c. subst (λ (y : Shape). old / 4294967296 ≤ y.last_gen) (sym ((o.each_view id v me).keys x c)) (no_later key s o id i old v me makes noted low)),
+      (is, refl, was_not_made key s o id i old v me makes noted low, λ x c. subst (λ (y : Shape). old / 4294967296 ≤ y.last_gen) (sym ((o.each_view id v me).keys x c)) (no_later key s o id i old v me makes noted low), are_below key s o id i old v me makes noted low),
     )

@@ -12,10 +12,10 @@ use Rattle.gen_events.specs.declared.handle.Handle.{Handle}
 use Rattle.gen_events.specs.declared.handle.Fate.{Fate}
 use Rattle.gen_events.specs.declared.handle.Shape.{Shape}
 use Rattle.gen_events.specs.declared.view.View.{View}
-use Rattle.gen_events.specs.Lists.{total}
+use Rattle.gen_events.specs.Lists.{total, below}
 use Rattle.gen_events.specs.Rule.{mark, fate_code, IsMade, IsEnded, code, Linked, Shows, held, ends_at, rights_at, maker, Fits, Orderly, Follows}
-use Rattle.gen_events.specs.Plays.{Sat, ended_with, ended, fate_now}
-use Rattle.gen_events.proofs.Sums.{total-set, total-put, term_le, Contains-one, Contains-none, Contains-head, Contains-tail}
+use Rattle.gen_events.specs.Plays.{Sat, ended_with, HasPlaced, IsOnce, ended, fate_now}
+use Rattle.gen_events.proofs.Sums.{total-set, total-put, term_le, entry_le, Contains-one, Contains-none, Contains-head, Contains-tail}
 use Rattle.gen_events.proofs.Frames.{Leaves, steady}
 use Rattle.gen_events.proofs.Words.{code_le}
 use Rattle.gen_events.proofs.Marks.{marks_low}
@@ -113,6 +113,7 @@ module _ (key : Shape) (s : St) (o : Orderly key s) (id next : ℕ) (v : View) (
   fits₀ : Fits key s.words o.turns o.log v₀
   fits₀ = record {
     keys = fits.keys;
+    all_seen = (fits.all_seen.0, fits.all_seen.1, fits.all_seen.2, λ x d. fits.all_seen.3 x (subst (λ l. Contains l x) (sym rights) (Contains-tail h x rest d)));
     seen = fits.seen;
     known = fits.known;
     placed = fits.placed;
@@ -144,6 +145,12 @@ module _ (key : Shape) (s : St) (o : Orderly key s) (id next : ℕ) (v : View) (
   mine = let f = steady key s.words ws' o.turns ts' o.log o.log v₀ fits₀ (leaves id v v₀ me fits₀ (λ x d. ⊎_elim (λ y. my_rest x y) (λ y. left_apart key s o id id v v h x me me has y) d)) in
       let over : IsEnded ts' h = let a = th in omega arith in record {
         keys = f.keys;
+        all_seen = (
+          (λ x y d. ⊎_elim (λ z. f.all_seen.0 x y z) (λ (e : (h, fate_now v.marked) ≡ (x, y)). subst (λ (q : Handle × Fate). Contains v.seen q.0) e (fits.all_seen.3 h has)) (Contains-push_cases v.known (h, fate_now v.marked) (x, y) d)),
+          f.all_seen.1,
+          f.all_seen.2,
+          (λ x d. f.all_seen.3 x (subst (λ l. Contains l x) but_first_is d)),
+        );
         seen = f.seen;
         known = λ x y d. ⊎_elim (λ z. f.known x y z) (λ (e : (h, fate_now v.marked) ≡ (x, y)). subst (λ (q : Handle × Fate). IsEnded ts' q.0 × (mark key ws' q.0 ≡ fate_code q.1)) e (over, low_bit h ∙ its_fate)) (Contains-push_cases v.known (h, fate_now v.marked) (x, y) d);
         placed = f.placed;
@@ -182,6 +189,12 @@ module _ (key : Shape) (s : St) (o : Orderly key s) (id next : ℕ) (v : View) (
             (subst (λ y. Shows key.last_gen (get_or ts' j 0) (get_or o.chains j []) y) (sym (word_there key s o h.slot next t' near j n)) (subst (λ y. Shows key.last_gen y (get_or o.chains j []) (get_or s.words j 0)) (sym (tt' j n)) z.0)),
         subst (λ y. Linked key ws' y) (sym (chain_there key s o h.slot [] near j n)) (linked_low key s.words (get_or o.chains j []) h.slot next near z.1),
       ))
+
+  pub has_placed : HasPlaced v h c
+  has_placed k d = (o.stands k h (fits.placed (k, h) d)).1 is
+
+  pub is_once : IsOnce v c
+  is_once x d f = subst (λ (y : Shape). total f c ≤ below f y.waiters) (sym (fits.keys x d)) (omega (arith, o.once f, entry_le (total f) o.chains h.slot [] (omega (arith, near, o.rows))))
 
   abbrev views' : List View
   views' = set s.views id w
@@ -235,5 +248,7 @@ ends key n id i next m h rest rights at none-caught marks follows s o wide me _ 
     ap (λ j. get_or s.words j 0) (sym at) ∙ found_word key s o id next m.0 h rest me rights none-caught marks follows,
     refl,
     λ x d. subst (λ (y : Shape). code (get_or o.chains h.slot []) ≤ y.waiters) (sym ((o.each_view id m.0 me).keys x d)) (code_le key s.words (get_or o.chains h.slot []) (o.each_slot h.slot (near key s o id next m.0 h rest me rights none-caught marks follows)).1),
+    has_placed key s o id next m.0 h rest me rights none-caught marks follows,
+    is_once key s o id next m.0 h rest me rights none-caught marks follows,
   ),
 )

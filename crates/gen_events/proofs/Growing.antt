@@ -6,7 +6,8 @@ use Rattle.gen_events.specs.declared.handle.Handle.{Handle}
 use Rattle.gen_events.specs.declared.handle.Fate.{Fate}
 use Rattle.gen_events.specs.declared.handle.Fate.TheVariants.{Ok, Poison}
 use Rattle.gen_events.specs.declared.view.View.{View}
-use Rattle.gen_events.specs.Plays.{Sat, looked, reads, fates_of, fate_now, marking, ended, joined, unchased}
+use Rattle.gen_events.specs.Rule.{turns_of}
+use Rattle.gen_events.specs.Plays.{Sat, ends_of, looked, reads, fates_of, fate_now, marking, ended, joined, unchased}
 use Rattle.gen_events.specs.Seats.{HasSeen, Begins, Grows, Keeps}
 use Rattle.gen_events.proofs.Takes.{alone}
 
@@ -17,13 +18,13 @@ pub begins_on : {X : Type 0} (xs ys zs : List X) → Begins xs ys → Begins ys 
 begins_on xs ys zs a b = (a.0 ++ b.0, b.1 ∙ (ap (λ l. l ++ b.0) a.1 ∙ append_assoc xs a.0 b.0))
 
 pub grows_on : (v u w : View) → Grows v u → Grows u w → Grows v w
-grows_on v u w a b = (begins_on v.seen u.seen w.seen a.0 b.0, begins_on v.known u.known w.known a.1 b.1, begins_on v.placed u.placed w.placed a.2 b.2, begins_on v.given u.given w.given a.3 b.3, begins_on v.emptied u.emptied w.emptied a.4 b.4, begins_on v.left u.left w.left a.5 b.5, begins_on v.saw u.saw w.saw a.6 b.6)
+grows_on v u w a b = (begins_on v.seen u.seen w.seen a.0 b.0, begins_on v.known u.known w.known a.1 b.1, begins_on v.placed u.placed w.placed a.2 b.2, begins_on v.given u.given w.given a.3 b.3, begins_on v.emptied u.emptied w.emptied a.4 b.4, begins_on v.left u.left w.left a.5 b.5, begins_on v.saw u.saw w.saw a.6 b.6, begins_on v.past u.past w.past a.7 b.7)
 
 pub grows_read : (w : ℕ) (m n : Sat) (r : ℕ) → reads w m r n → Grows m.0 n.0
-grows_read w m n r t = subst (λ (y : Sat). Grows m.0 y.0) (sym t.0) (same_begins m.0.seen m.0.seen refl, (fates_of m.0.keys w r m.0.past, refl), same_begins m.0.placed m.0.placed refl, same_begins m.0.given m.0.given refl, same_begins m.0.emptied m.0.emptied refl, same_begins m.0.left m.0.left refl, same_begins m.0.saw m.0.saw refl)
+grows_read w m n r t = subst (λ (y : Sat). Grows m.0 y.0) (sym t.0) (same_begins m.0.seen m.0.seen refl, (fates_of m.0.keys w r m.0.past, refl), same_begins m.0.placed m.0.placed refl, same_begins m.0.given m.0.given refl, same_begins m.0.emptied m.0.emptied refl, same_begins m.0.left m.0.left refl, same_begins m.0.saw m.0.saw refl, same_begins m.0.past m.0.past refl)
 
 pub grows_look : (i : ℕ) (m n : Sat) (r : ℕ) → looked i m r n → Grows m.0 n.0
-grows_look i m n r t = subst (λ (y : Sat). Grows m.0 y.0) (sym t.0) (same_begins m.0.seen m.0.seen refl, same_begins m.0.known m.0.known refl, same_begins m.0.placed m.0.placed refl, same_begins m.0.given m.0.given refl, same_begins m.0.emptied m.0.emptied refl, same_begins m.0.left m.0.left refl, ((i, r) ∷ [], refl))
+grows_look i m n r t = subst (λ (y : Sat). Grows m.0 y.0) (sym t.0) (same_begins m.0.seen m.0.seen refl, same_begins m.0.known m.0.known refl, same_begins m.0.placed m.0.placed refl, same_begins m.0.given m.0.given refl, same_begins m.0.emptied m.0.emptied refl, same_begins m.0.left m.0.left refl, ((i, r) ∷ [], refl), (ends_of i (turns_of r) m.0.seen, refl))
 
 pub begins_has : {X : Type 0} (xs ys : List X) (x : X) → Begins xs ys → Contains xs x → Contains ys x
 begins_has xs ys x b c = subst (λ l. Contains l x) (sym b.1) (Contains-append_left xs b.0 x c)

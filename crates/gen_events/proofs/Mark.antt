@@ -97,6 +97,7 @@ module _ (key : Shape) (s : St) (o : Orderly key s) (id : ℕ) (v : View) (h : H
       let v₀ : View = record v { rights = [] } in
       let f₀ : Fits key s.words o.turns o.log v₀ = record {
         keys = fits.keys;
+        all_seen = (fits.all_seen.0, fits.all_seen.1, fits.all_seen.2, λ x d. absurd (Contains-none x d));
         seen = fits.seen;
         known = fits.known;
         placed = fits.placed;
@@ -131,6 +132,7 @@ module _ (key : Shape) (s : St) (o : Orderly key s) (id : ℕ) (v : View) (h : H
       let f = steady key s.words ws' o.turns o.turns o.log o.log v₀ f₀ l in
       record {
         keys = f.keys;
+        all_seen = fits.all_seen;
         seen = f.seen;
         known = f.known;
         placed = f.placed;

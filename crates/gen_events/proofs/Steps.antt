@@ -1,5 +1,5 @@
 -- Each step keeps the rule.
-use Rattle.std.proofs.Common.{◌≡◌, ℕ, zero, suc, ◌-◌, ◌%◌, ◌<◌, ◌≤◌, ◌≢◌, List, [], ◌∷◌, length, get_or, set, sym, refl, ap, ◌∙◌, subst, ⊎_elim, arith}
+use Rattle.std.proofs.Common.{◌≡◌, ℕ, zero, suc, ◌-◌, ◌%◌, ◌<◌, ◌≤◌, ◌≢◌, List, [], ◌∷◌, length, get_or, set, sym, refl, ap, ◌∙◌, subst, ⊎_elim, arith, cond, eq-eqb}
 use Rattle.std.specs.Prelude.{Contains}
 use Rattle.std.proofs.lemmas.List.Elements.{Contains-append_cases, Contains-push_cases}
 use mathlib.Core.Logic.{dite}
@@ -14,10 +14,10 @@ use Rattle.gen_events.specs.declared.handle.Fate.{Fate}
 use Rattle.gen_events.specs.declared.handle.Shape.{Shape}
 use Rattle.gen_events.specs.declared.view.View.{View}
 use Rattle.gen_events.specs.Lists.{total}
-use Rattle.gen_events.specs.Rule.{turns_of, place_of, mark_words, mark_word, mark, fate_code, IsMade, IsPending, IsEnded, code, Linked, Shows, held, rights_at, maker, Fits, Orderly}
-use Rattle.gen_events.specs.Plays.{Sat, found_at, ends_of, Agrees, InRange, Coherent, looked, heeded, fated, fates_of, fates_by, reads, fate_by}
+use Rattle.gen_events.specs.Rule.{turns_of, place_of, mark_words, mark_word, mark, fate_code, IsMade, IsPending, IsEnded, code, Linked, Shows, held, ends_at, rights_at, maker, Fits, Orderly}
+use Rattle.gen_events.specs.Plays.{Sat, found_at, ends_of, Agrees, InRange, Coherent, Rightless, looked, heeded, fated, fates_of, fates_by, reads, fate_by}
 use Rattle.std.specs.Int.{bit_at}
-use Rattle.gen_events.proofs.Sums.{total-set, Contains-none, Contains-head}
+use Rattle.gen_events.proofs.Sums.{total-set, term_le, item_le, Contains-none, Contains-head}
 use Rattle.gen_events.proofs.Marks.{one_code, coded, fates_in}
 use Rattle.gen_events.proofs.Words.{code_le, turns_shown, ends_in}
 
@@ -63,6 +63,7 @@ shown key s o i near = let t = o.each_slot i near in let a = code_le key s.words
 pub found_fits : (key : Shape) (ws ts : List ℕ) (log : List (ℕ × Handle)) (v : View) (i r : ℕ) → turns_of r ≡ get_or ts i 0 → Fits key ws ts log v → Fits key ws ts log (found_at v i r)
 found_fits key ws ts log v i r e o = record {
   keys = o.keys;
+  all_seen = (o.all_seen.0, o.all_seen.1, (λ h c. ⊎_elim (λ d. o.all_seen.2 h d) (λ d. (ends_in i (turns_of r) v.seen h d).0) (Contains-append_cases v.past (ends_of i (turns_of r) v.seen) h c)), o.all_seen.3);
   seen = o.seen;
   known = o.known;
   past = λ h c. ⊎_elim (λ d. o.past h d)
@@ -88,6 +89,9 @@ pub agrees : (key : Shape) (ws ts : List ℕ) (log : List (ℕ × Handle)) (v : 
 agrees key ws ts log v i r e o = (
   (λ h c at. let a = o.seen h c in let b : get_or ts h.slot 0 ≡ turns_of r = ap (λ j. get_or ts j 0) at ∙ sym e in omega arith),
   (λ h f c at. let a = (o.known h f c).0 in let b : get_or ts h.slot 0 ≡ turns_of r = ap (λ j. get_or ts j 0) at ∙ sym e in omega arith),
+  (λ h c at. let a = o.past h c in let b : get_or ts h.slot 0 ≡ turns_of r = ap (λ j. get_or ts j 0) at ∙ sym e in omega arith),
+  (λ h c at. let a = o.rights h c in let b : get_or ts h.slot 0 ≡ turns_of r = ap (λ j. get_or ts j 0) at ∙ sym e in omega arith),
+  (λ h c at. let a = (o.emptied h c).0 in let b : get_or ts h.slot 0 ≡ turns_of r = ap (λ j. get_or ts j 0) at ∙ sym e in omega arith),
 )
 
 get_or_past : (xs : List ℕ) (i n : ℕ) → length xs ≡ n → n ≤ i → get_or xs i 0 ≡ 0
@@ -111,7 +115,15 @@ coherent key ws ts log v o = record {
   all_given = λ k h c d. (o.emptied h d).1 k (o.placed (k, h) c);
   left_pending = λ h f c d. let a = o.left h c in let b = (o.known h f d).0 in omega arith;
   left_not_past = λ h c d. let a = o.left h c in let b = o.past h d in omega arith;
+  known_seen = o.all_seen.0;
+  left_seen = o.all_seen.1;
+  past_seen = o.all_seen.2;
 }
+
+pub rightless : (key : Shape) (s : St) (o : Orderly key s) (id : ℕ) (v : View) → get_elem? s.views id ≡ some v → Rightless v
+rightless key s o id v me h left right =
+    let one : ends_at h.slot h ≡ 1 = ap (λ b. cond b 1 0) (eq-eqb h.slot h.slot refl) in
+    omega (arith, o.no_right id v h me left, term_le (rights_at h.slot) s.views id v me, item_le (ends_at h.slot) v.rights h right, one)
 
 -- what a poison word tells
 told : (key : Shape) (s : St) (o : Orderly key s) (v : View) → Fits key s.words o.turns o.log v → (w : ℕ) (ks : List Shape) → ((x : Shape) → Contains ks x → x ≡ key) → (h : Handle) (f : Fate) → Contains (fates_of ks w (get_or s.words w 0) v.past) (h, f) → IsEnded o.turns h × (mark key s.words h ≡ fate_code f)
@@ -123,6 +135,10 @@ told key s o v fits w (x ∷ xs) keys h f c =
     let there : bit_at (get_or s.words w 0) (place_of key.last_gen h % 64) ≡ bit = ap (λ i. bit_at (get_or s.words i 0) (place_of key.last_gen h % 64)) (sym q.1) in
     (fits.past h q.0, (coded bit (omega arith) ∙ ap (λ n. fate_code (fate_by n)) (sym there)) ∙ ap fate_code (sym q.2))
 
+fates_past : (ks : List Shape) (w r : ℕ) (hs : List Handle) (h : Handle) (f : Fate) → Contains (fates_of ks w r hs) (h, f) → Contains hs h
+fates_past [] w r hs h f c = absurd (Contains-none {A = Handle × Fate} (h, f) c)
+fates_past (x ∷ xs) w r hs h f c = (fates_in x w r hs h f c).0
+
 pub reads_mark : (key : Shape) (n id w : ℕ) (m : Sat) → Allows (Orderly key) n id m w (λ x. x) (reads w m)
 reads_mark key n id w m s o wide me _ =
     let r : ℕ = get_or s.words w 0 in
@@ -131,6 +147,7 @@ reads_mark key n id w m s o wide me _ =
     let f = o.each_view id v me in
     let fits : Fits key s.words o.turns o.log u = record {
       keys = f.keys;
+      all_seen = ((λ h g c. ⊎_elim (λ d. f.all_seen.0 h g d) (λ d. f.all_seen.2 h (fates_past v.keys w r v.past h g d)) (Contains-append_cases v.known (fates_of v.keys w r v.past) (h, g) c)), f.all_seen.1, f.all_seen.2, f.all_seen.3);
       seen = f.seen;
       known = λ h g c. ⊎_elim (λ d. f.known h g d) (λ d. told key s o v f w v.keys f.keys h g d) (Contains-append_cases v.known (fates_of v.keys w r v.past) (h, g) c);
       placed = f.placed;
@@ -163,7 +180,7 @@ looks key n id i m near s o wide me _ = let r : ℕ = get_or s.words i 0 in let 
   keeps,
   tt,
   kept_word key s i s.homes (set s.views id (found_at v i r)) (own key s o id v (found_at v i r) me (found_fits key s.words o.turns o.log v i r e fits) (λ f. refl) refl refl refl),
-  (refl, agrees key s.words o.turns o.log v i r e fits, in_range key s o v fits, coherent key s.words o.turns o.log (found_at v i r) (found_fits key s.words o.turns o.log v i r e fits)),
+  (refl, agrees key s.words o.turns o.log v i r e fits, in_range key s o v fits, coherent key s.words o.turns o.log (found_at v i r) (found_fits key s.words o.turns o.log v i r e fits), rightless key s o id v me),
 )
 
 pub heeds : (key : Shape) (n id i : ℕ) (m : Sat) → Allows (Orderly key) n id m i (λ x. x) (λ _. heeded m)

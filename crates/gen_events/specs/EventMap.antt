@@ -44,6 +44,9 @@ answer_in life g = cond (nat_lt g (length life.fates)) (Some (answer_of (slice_i
 abbrev pub answer : EventMap → Handle → Option Answer
 answer m h = answer_in (life_at m h.slot) h.gen_
 
+abbrev pub HasEnded : EventMap → Handle → Type 0
+HasEnded m h = (f : Fate) × (answer m h ≡ Some (answer_of f))
+
 -- the handle was created. NO_EVENT counts as created
 pub record IsCreated (m : EventMap) (h : Handle) : Type 0 where
   pub created : (h ≡ no_event) ⊎ ((a : Answer) × (answer m h ≡ Some a))

@@ -1,6 +1,7 @@
 -- What each step tells: of the step, the seat before, the number found and the seat after.
 use Rattle.std.specs.Prelude.{◌≡◌, ◌≢◌, ℕ, zero, suc, ◌+◌, ◌*◌, ◌/◌, ◌%◌, ◌<◌, ◌≤◌, List, [], ◌∷◌, ◌++◌, Contains, cond, ◌==◌, nat_lt, map, slice_index}
 use Rattle.atomic_table.specs.Table.{Me}
+use Rattle.gen_events.specs.Lists.{total, below}
 use Rattle.gen_events.specs.Rule.{turns_of, code, mark_word, place_of}
 use Rattle.gen_events.specs.declared.handle.Handle.{Handle}
 use Rattle.gen_events.specs.declared.handle.Fate.{Fate}
@@ -44,6 +45,9 @@ pub record Coherent (v : View) : Type 0 where
   pub all_given : (k : ℕ) (h : Handle) → Contains v.placed (k, h) → Contains v.emptied h → Contains v.given (k, h)
   pub left_pending : (h : Handle) (f : Fate) → Contains v.left h → Contains v.known (h, f) → ⊥
   pub left_not_past : (h : Handle) → Contains v.left h → Contains v.past h → ⊥
+  pub known_seen : (h : Handle) (f : Fate) → Contains v.known (h, f) → Contains v.seen h
+  pub left_seen : (h : Handle) → Contains v.left h → Contains v.seen h
+  pub past_seen : (h : Handle) → Contains v.past h → Contains v.seen h
 
 -- a load of a poison word
 abbrev pub fated : View → ℕ → ℕ → View
@@ -63,9 +67,17 @@ marking Poison v = marked_at v
 abbrev pub marks : Sat → Sat → Type 0
 marks m n = n ≡ (marked_at m.0, m.1)
 
--- what the slot i had gone through
+-- what the slot i had gone through: a handle that was seen had been created, one that is known, was found to have ended or was emptied had ended, and one that the seat may end was pending
 abbrev pub Agrees : View → ℕ → ℕ → Type 0
-Agrees v i r = ((h : Handle) → Contains v.seen h → h.slot ≡ i → 2 * h.gen_ + 1 ≤ turns_of r) × ((h : Handle) (f : Fate) → Contains v.known (h, f) → h.slot ≡ i → 2 * h.gen_ + 2 ≤ turns_of r)
+Agrees v i r = ((h : Handle) → Contains v.seen h → h.slot ≡ i → 2 * h.gen_ + 1 ≤ turns_of r)
+    × ((h : Handle) (f : Fate) → Contains v.known (h, f) → h.slot ≡ i → 2 * h.gen_ + 2 ≤ turns_of r)
+    × ((h : Handle) → Contains v.past h → h.slot ≡ i → 2 * h.gen_ + 2 ≤ turns_of r)
+    × ((h : Handle) → Contains v.rights h → h.slot ≡ i → turns_of r ≡ 2 * h.gen_ + 1)
+    × ((h : Handle) → Contains v.emptied h → h.slot ≡ i → 2 * h.gen_ + 2 ≤ turns_of r)
+
+-- nobody has the right to end a handle that was left
+abbrev pub Rightless : View → Type 0
+Rightless v = (h : Handle) → Contains v.left h → Contains v.rights h → ⊥
 
 -- the handles that it has seen are of the table's slots
 abbrev pub InRange : View → Type 0
@@ -73,7 +85,7 @@ InRange v = (x : Shape) (h : Handle) → Contains v.keys x → Contains v.seen h
 
 -- a load of the word i found r
 abbrev pub looked : ℕ → Sat → ℕ → Sat → Type 0
-looked i m r n = (n ≡ (found_at m.0 i r, m.1)) × Agrees m.0 i r × InRange m.0 × Coherent n.0
+looked i m r n = (n ≡ (found_at m.0 i r, m.1)) × Agrees m.0 i r × InRange m.0 × Coherent n.0 × Rightless m.0
 
 abbrev pub handle_at : ℕ → ℕ → Handle
 handle_at i g = record { slot = i; gen_ = g }
@@ -97,8 +109,13 @@ scouted i m r n = (n ≡ (scouted_at m.0 i r, m.1)) × Accounts m.0 i r
 abbrev pub made_at : View → Handle → View
 made_at v h = record v { made = v.made ++ h ∷ []; seen = v.seen ++ h ∷ []; rights = h ∷ v.rights; spare = [] }
 
+-- the handles of the list at the slot i are those of the generations below g
+abbrev pub AreBelow : List Handle → ℕ → ℕ → Type 0
+AreBelow hs i g = ((h : Handle) → Contains hs h → h.slot ≡ i → h.gen_ < g) × ((k : ℕ) → k < g → Contains hs (handle_at i k))
+
 abbrev pub created : ℕ → ℕ → Sat → ℕ → Sat → Type 0
-created i old m r n = (r ≡ old) × (n ≡ (made_at m.0 (handle_at i (old / 4294967296)), m.1)) × (Contains m.0.made (handle_at i (old / 4294967296)) → ⊥) × ((x : Shape) → Contains m.0.keys x → old / 4294967296 ≤ x.last_gen)
+created i old m r n = (r ≡ old) × (n ≡ (made_at m.0 (handle_at i (old / 4294967296)), m.1)) × (Contains m.0.made (handle_at i (old / 4294967296)) → ⊥)
+    × ((x : Shape) → Contains m.0.keys x → old / 4294967296 ≤ x.last_gen) × AreBelow m.0.made i (old / 4294967296)
 
 -- The first waiter in hand is linked to another, or to none
 abbrev pub first_to : List (ℕ × ℕ) → ℕ → List (ℕ × ℕ)
@@ -138,8 +155,16 @@ ended_with v h c = record v { known = v.known ++ (h, fate_now v.marked) ∷ []; 
 abbrev pub IsHead : View → ℕ → Type 0
 IsHead v c = (x : Shape) → Contains v.keys x → c ≤ x.waiters
 
+-- each waiter that the seat placed on the handle stands in the chain
+abbrev pub HasPlaced : View → Handle → List ℕ → Type 0
+HasPlaced v h c = (k : ℕ) → Contains v.placed (k, h) → Contains c k
+
+-- the chain has numbers of waiters alone, each at most once
+abbrev pub IsOnce : View → List ℕ → Type 0
+IsOnce v c = (x : Shape) → Contains v.keys x → (f : ℕ → ℕ) → total f c ≤ below f x.waiters
+
 abbrev pub ended : Sat → ℕ → Sat → Type 0
-ended m r n = (h : Handle) × (rest : List Handle) × (c : List ℕ) × (m.0.rights ≡ h ∷ rest) × (r ≡ h.gen_ * 4294967296 + 1 + code c) × (n ≡ (ended_with m.0 h c, m.1)) × IsHead m.0 (code c)
+ended m r n = (h : Handle) × (rest : List Handle) × (c : List ℕ) × (m.0.rights ≡ h ∷ rest) × (r ≡ h.gen_ * 4294967296 + 1 + code c) × (n ≡ (ended_with m.0 h c, m.1)) × IsHead m.0 (code c) × HasPlaced m.0 h c × IsOnce m.0 c
 
 -- The first waiter that was caught is taken in hand
 abbrev pub gave : View → View
@@ -191,6 +216,13 @@ maker_of v = record no_view { keys = v.keys; seen = v.seen; makes = v.makes; mad
 abbrev pub no_maker : View → View
 no_maker v = record v { makes = 0; made = []; spare = [] }
 
+-- what the Maker has made and found
+abbrev pub report : View → View
+report v = record no_view { keys = v.keys; seen = v.seen; known = v.known; left = v.left; past = v.past; saw = v.saw }
+
+abbrev pub reporter : View → View
+reporter v = record v { saw = [] }
+
 -- the chain that was taken
 abbrev pub chaser : View → View
 chaser v = record no_view { keys = v.keys; seen = v.seen; known = v.known; given = v.given; chased = v.chased; caught = v.caught }
@@ -212,7 +244,7 @@ joined v w = record {
   emptied = v.emptied ++ w.emptied;
   left = v.left ++ w.left;
   past = v.past ++ w.past;
-  saw = v.saw;
+  saw = v.saw ++ w.saw;
   makes = v.makes + w.makes;
   made = v.made ++ w.made;
   spare = [];
@@ -234,7 +266,7 @@ forsaken v w = record {
   emptied = v.emptied ++ w.emptied;
   left = (v.left ++ w.left) ++ w.rights;
   past = v.past ++ w.past;
-  saw = v.saw;
+  saw = v.saw ++ w.saw;
   makes = v.makes + w.makes;
   made = v.made ++ w.made;
   spare = [];

@@ -78,9 +78,17 @@ rights_at i v = total (ends_at i) v.rights
 abbrev pub maker : View → ℕ
 maker v = v.makes
 
+-- the seat has seen each handle of which it knows a fate, and each that it left, found to have ended or may end
+abbrev pub AllSeen : View → Type 0
+AllSeen v = ((h : Handle) (f : Fate) → Contains v.known (h, f) → Contains v.seen h)
+    × ((h : Handle) → Contains v.left h → Contains v.seen h)
+    × ((h : Handle) → Contains v.past h → Contains v.seen h)
+    × ((h : Handle) → Contains v.rights h → Contains v.seen h)
+
 -- what holds of a view where the slots have had these turns, and these are all placings that were made
 pub record Fits (key : Shape) (words turns : List ℕ) (log : List (ℕ × Handle)) (v : View) : Type 0 where
   pub keys : (x : Shape) → Contains v.keys x → x ≡ key
+  pub all_seen : AllSeen v
   pub seen : (h : Handle) → Contains v.seen h → IsMade turns h
   pub known : (h : Handle) (f : Fate) → Contains v.known (h, f) → IsEnded turns h × (mark key words h ≡ fate_code f)
   pub placed : (p : ℕ × Handle) → Contains v.placed p → Contains log p

@@ -16,8 +16,17 @@ Rights m makes rights waiters chased = (m.1 ≡ []) × (m.0.makes ≡ makes) × 
 abbrev pub IsPlain : Me Unit View → Type 0
 IsPlain m = Rights m 0 [] [] [] × (m.0.caught ≡ [])
 
+-- it has placed nothing, was given nothing, has emptied nothing and found nothing
+abbrev pub IsBare : View → Type 0
+IsBare v = (v.placed ≡ []) × (v.given ≡ []) × (v.emptied ≡ []) × (v.saw ≡ [])
+
+-- its lists are empty
+abbrev pub HasNothing : View → Type 0
+HasNothing v = (v.seen ≡ []) × (v.known ≡ []) × (v.left ≡ []) × IsBare v
+
+-- it has seen what it made
 abbrev pub IsMaker : Me Unit View → Type 0
-IsMaker m = Rights m 1 [] [] [] × (m.0.caught ≡ [])
+IsMaker m = Rights m 1 [] [] [] × (m.0.caught ≡ []) × (m.0.seen ≡ m.0.made) × (m.0.known ≡ []) × (m.0.left ≡ [])
 
 abbrev pub slots_of : List Shape → ℕ
 slots_of [] = 0
@@ -32,13 +41,13 @@ last_gen_of [] = 0
 last_gen_of (x ∷ xs) = x.last_gen
 
 abbrev pub IsPending : Me Unit View → Handle → Type 0
-IsPending m h = Rights m 0 (h ∷ []) [] [] × (m.0.caught ≡ []) × (h.slot < slots_of m.0.keys) × (h.gen_ ≤ last_gen_of m.0.keys) × (m.0.seen ≡ h ∷ [])
+IsPending m h = Rights m 0 (h ∷ []) [] [] × (m.0.caught ≡ []) × (h.slot < slots_of m.0.keys) × (h.gen_ ≤ last_gen_of m.0.keys) × (m.0.seen ≡ h ∷ []) × (m.0.known ≡ []) × (m.0.left ≡ []) × IsBare m.0
 
 abbrev pub IsWaiter : Me Unit View → ℕ → Type 0
-IsWaiter m k = Rights m 0 [] (k ∷ []) [] × (m.0.caught ≡ []) × (k < waiters_of m.0.keys) × (waiters_of m.0.keys ≤ 8192) × (m.0.placed ≡ [])
+IsWaiter m k = Rights m 0 [] (k ∷ []) [] × (m.0.caught ≡ []) × (k < waiters_of m.0.keys) × (waiters_of m.0.keys ≤ 8192) × IsBare m.0 × (m.0.seen ≡ []) × (m.0.known ≡ []) × (m.0.left ≡ [])
 
 abbrev pub IsReceipt : Me Unit View → Handle → Fate → Type 0
-IsReceipt m h f = Rights m 0 [] [] [] × (m.0.caught ≡ []) × (m.0.seen ≡ h ∷ []) × (m.0.known ≡ (h, f) ∷ [])
+IsReceipt m h f = Rights m 0 [] [] [] × (m.0.caught ≡ []) × (m.0.seen ≡ h ∷ []) × (m.0.known ≡ (h, f) ∷ []) × (m.0.left ≡ []) × IsBare m.0
 
 abbrev pub IsCaught : Me Unit View → Handle → ℕ → Type 0
 IsCaught m h next = Rights m 0 [] [] (h ∷ []) × (code m.0.caught ≡ next) × (next ≤ waiters_of m.0.keys) × (waiters_of m.0.keys ≤ 8192)
@@ -61,7 +70,15 @@ Begins {X} xs ys = (more : List X) × (ys ≡ xs ++ more)
 
 -- none of the lists has lost anything
 abbrev pub Grows : View → View → Type 0
-Grows v w = Begins v.seen w.seen × Begins v.known w.known × Begins v.placed w.placed × Begins v.given w.given × Begins v.emptied w.emptied × Begins v.left w.left × Begins v.saw w.saw
+Grows v w = Begins v.seen w.seen × Begins v.known w.known × Begins v.placed w.placed × Begins v.given w.given × Begins v.emptied w.emptied × Begins v.left w.left × Begins v.saw w.saw × Begins v.past w.past
+
+-- nothing was placed, given or emptied
+abbrev pub SamePlacings : View → View → Type 0
+SamePlacings v w = (w.placed ≡ v.placed) × (w.given ≡ v.given) × (w.emptied ≡ v.emptied)
+
+-- nothing was given, emptied or left
+abbrev pub SameGiven : View → View → Type 0
+SameGiven v w = (w.given ≡ v.given) × (w.emptied ≡ v.emptied) × (w.left ≡ v.left)
 
 -- what was seen and known before still is
 abbrev pub Keeps : View → View → Type 0

@@ -1,8 +1,8 @@
 -- Tokens at their table, and what a call tells by them.
-use Rattle.std.specs.Prelude.{◌≡◌, ◌≢◌, ℕ, ◌+◌, ◌*◌, ◌<◌, ◌⊎◌, List, [], ◌∷◌, ◌++◌, Contains}
+use Rattle.std.specs.Prelude.{◌≡◌, ◌≢◌, ℕ, ◌+◌, ◌*◌, ◌<◌, ◌≤◌, ◌⊎◌, List, [], ◌∷◌, ◌++◌, Contains}
 use Rattle.atomic_table.specs.declared.shared.Seat as table
 use Rattle.gen_events.specs.Rule.{turns_of}
-use Rattle.gen_events.specs.Seats.{Knows, FoundPending, no_event}
+use Rattle.gen_events.specs.Seats.{Knows, IsPast, FoundPending, no_event}
 pub use Rattle.gen_events.specs.EventMap.{answer_of}
 use Rattle.gen_events.specs.declared.handle.Handle.{Handle}
 use Rattle.gen_events.specs.declared.handle.Fate.{Fate}
@@ -29,8 +29,9 @@ lists s = s.inner.me.0
 abbrev pub IsAt : Events → Seat → Type 0
 IsAt e s = IsOf e s.inner
 
+-- between two calls it has told all that it found
 abbrev pub IsMakerOf : Events → Maker → Type 0
-IsMakerOf e s = IsOf e s.inner
+IsMakerOf e s = IsOf e s.inner × (s.inner.me.0.saw ≡ [])
 
 abbrev pub IsPendingOf : Events → Pending → Type 0
 IsPendingOf e s = IsOf e s.inner
@@ -73,6 +74,10 @@ taken_of s = s.next
 abbrev pub size_of : WaiterSet → ℕ
 size_of s = s.count
 
+-- what the seat of a chain has seen, knows and was given
+abbrev pub caught_lists : Caught → View
+caught_lists s = s.inner.me.0
+
 -- what a chain has given, in order
 abbrev pub given_by : Caught → List (ℕ × Handle)
 given_by s = s.inner.me.0.given
@@ -84,6 +89,13 @@ made_by s = s.inner.me.0.made
 abbrev pub maker_lists : Maker → View
 maker_lists s = s.inner.me.0
 
+abbrev pub IsWithin : Shape → Handle → Type 0
+IsWithin shape h = (h.slot < shape.slots) × (h.gen_ ≤ shape.last_gen)
+
+-- the handles of the list at the slot i, of generations below g, were found to have ended
+abbrev pub ArePast : List Handle → View → ℕ → ℕ → Type 0
+ArePast made w i g = (h : Handle) → Contains made h → h.slot ≡ i → h.gen_ < g → IsPast w h
+
 -- the handle stands at the end of the Maker's list, and was not there before
 abbrev pub IsNew : List Handle → List Handle → Handle → Type 0
 IsNew old new h = (new ≡ old ++ h ∷ []) × (Contains old h → ⊥)
@@ -92,12 +104,17 @@ IsNew old new h = (new ≡ old ++ h ∷ []) × (Contains old h → ⊥)
 abbrev pub IsTaken : Shape → List Handle → ℕ → ℕ → Type 0
 IsTaken shape made i r = (turns_of r ≡ 2 * shape.last_gen + 2) ⊎ ((h : Handle) × (h.slot ≡ i) × (turns_of r ≡ 2 * h.gen_ + 1) × Contains made h)
 
--- in between, the Maker looked at each slot below n, and found it taken
-abbrev pub Scanned : Shape → View → View → ℕ → Type 0
-Scanned shape v w n = (found : List (ℕ × ℕ)) × (w.saw ≡ v.saw ++ found) × ((i : ℕ) → i < n → (r : ℕ) × Contains found (i, r) × IsTaken shape w.made i r)
+-- in between, each slot below n was looked at, and found taken
+abbrev pub Scanned : Shape → List Handle → View → View → ℕ → Type 0
+Scanned shape made v w n = (found : List (ℕ × ℕ)) × (w.saw ≡ v.saw ++ found) × ((i : ℕ) → i < n → (r : ℕ) × Contains found (i, r) × IsTaken shape made i r)
 
-abbrev pub IsFull : Shape → View → View → Type 0
-IsFull shape v w = Scanned shape v w shape.slots
+abbrev pub IsFull : Shape → List Handle → View → View → Type 0
+IsFull shape made v w = Scanned shape made v w shape.slots
+
+-- the older handles of its slot are those of the generations below, and the seat has found each of them past
+pub record ComesAfter (made : List Handle) (w : View) (h : Handle) : Type 0 where
+  pub older : (x : Handle) → Contains made x → x.slot ≡ h.slot → (x.gen_ < h.gen_) × IsPast w x
+  pub whole : (g : ℕ) → g < h.gen_ → Contains made (record { slot = h.slot; gen_ = g })
 
 -- the waiters that stood on the handle and were not given yet, in the order in which they will be
 abbrev pub rest_of : Caught → List ℕ
@@ -110,6 +127,10 @@ IsSame e k l = (number_of l ≡ number_of k) × IsWaiterOf e l
 -- the seat found the handle pending twice, under two words
 abbrev pub FoundMoved : View → View → Handle → Type 0
 FoundMoved v w h = (r r' : ℕ) × (w.saw ≡ v.saw ++ (h.slot, r) ∷ (h.slot, r') ∷ []) × (turns_of r ≡ 2 * h.gen_ + 1) × (turns_of r' ≡ 2 * h.gen_ + 1) × (r ≢ r')
+
+-- the handle was over, with this fate, and the waiter came back
+abbrev pub IsOver : Fate → Watch → Type 0
+IsOver f watch = (l : Waiter) × (watch ≡ Over f l)
 
 abbrev pub Watched : Events → View → View → Handle → Waiter → Watch → Type 0
 Watched e v w h k Placed = FoundPending v w h × (w.placed ≡ v.placed ++ (number_of k, h) ∷ [])

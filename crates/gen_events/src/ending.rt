@@ -1,9 +1,10 @@
 //! Ending events.
 
 ghost use Rattle.gen_events.specs.Plays.{marking};
-ghost use Rattle.gen_events.specs.Seats.{HasSeen, Knows, Grows, Keeps};
-ghost use Rattle.gen_events.specs.Views.{lists, IsOf, IsAt, IsPendingOf, IsReceiptOf, IsCaughtOf, shape_of, handle_of, ended_by, fate_of, caught_on};
-ghost use Rattle.std.specs.Prelude.{◌≡◌, ◌<◌, ◌≤◌, ◌∷◌, []};
+ghost use Rattle.gen_events.specs.Lists.{total, below};
+ghost use Rattle.gen_events.specs.Seats.{HasSeen, Knows, Grows, Keeps, SamePlacings};
+ghost use Rattle.gen_events.specs.Views.{lists, IsOf, IsAt, IsPendingOf, IsReceiptOf, IsCaughtOf, shape_of, handle_of, ended_by, fate_of, caught_on, caught_lists, given_by, rest_of};
+ghost use Rattle.std.specs.Prelude.{◌≡◌, ℕ, ◌<◌, ◌≤◌, ◌++◌, ◌∷◌, [], Contains};
 
 use crate::events::Events;
 use crate::handle::{Fate, Handle};
@@ -25,6 +26,16 @@ impl Events {
         ensures known { Knows (lists seat.new) (handle_of pending) fate }
         ensures receipt { IsReceiptOf self.now result.0 × (ended_by result.0 ≡ handle_of pending) × (fate_of result.0 ≡ fate) }
         ensures caught { IsCaughtOf self.now result.1 × (caught_on result.1 ≡ handle_of pending) }
+        ensures waiters { (k : ℕ) → Contains (lists seat.new).placed (k, handle_of pending) → Contains (rest_of result.1) k }
+        ensures once { (f : ℕ → ℕ) → total f (rest_of result.1) ≤ below f (shape_of self.now).waiters }
+        ensures given { given_by result.1 ≡ (lists seat.old).given }
+        ensures caught_seen { (caught_lists result.1).seen ≡ (lists seat.new).seen }
+        ensures caught_known { (caught_lists result.1).known ≡ (lists seat.new).known }
+        ensures more_seen { (lists seat.new).seen ≡ (lists seat.old).seen ++ handle_of pending ∷ [] }
+        ensures more_known { (lists seat.new).known ≡ (lists seat.old).known ++ (handle_of pending, fate) ∷ [] }
+        ensures same_placings { SamePlacings (lists seat.old) (lists seat.new) }
+        ensures same_left { (lists seat.new).left ≡ (lists seat.old).left }
+        ensures same_saw { (lists seat.new).saw ≡ (lists seat.old).saw }
     {
         let Pending { handle, inner } = pending;
         self.table.shared.join_seat::<Both>(&mut seat.inner, inner);

@@ -2,7 +2,7 @@
 
 ghost use Rattle.gen_events.specs.Rule.{mark_words};
 ghost use Rattle.gen_events.specs.declared.handle.Handle.{Handle as TheHandle};
-ghost use Rattle.std.specs.Prelude.{◌≡◌, ℕ, ◌+◌, ◌*◌, ◌<◌, ◌≤◌, ◌++◌, [], Contains, IfOk};
+ghost use Rattle.std.specs.Prelude.{◌≡◌, ℕ, ◌+◌, ◌*◌, ◌<◌, ◌≤◌, ◌++◌, ◌∷◌, [], Contains, IfOk};
 
 use crate::NoMemory;
 use crate::handle::{Answer, Fate, Handle, Shape};
@@ -24,9 +24,9 @@ pub struct Events {
 
 impl Events {
     ghost use Rattle.std.specs.Prelude.{◌⊎◌, Some, length};
-    ghost use Rattle.gen_events.specs.EventMap.{answer, answer_of, IsEventMap, IsCreated, IsPlaced};
+    ghost use Rattle.gen_events.specs.EventMap.{answer, answer_of, IsEventMap, IsCreated, IsPlaced, HasEnded};
     ghost use Rattle.gen_events.specs.Plays.{Coherent};
-    ghost use Rattle.gen_events.specs.Seats.{HasSeen, Knows, Grows, Keeps};
+    ghost use Rattle.gen_events.specs.Seats.{HasSeen, Knows, Grows, Keeps, IsBare, HasNothing, SamePlacings};
     ghost use Rattle.gen_events.specs.Views.{lists, IsAt, IsMakerOf, IsPendingOf, IsReceiptOf, IsSetOf, made_by, shape_of, handle_of, ended_by, fate_of, taken_of, size_of};
 
     /// A table in which nothing was created, with the right to create, a seat that has seen
@@ -43,6 +43,7 @@ impl Events {
         ensures shape { IfOk result (λ r. ((shape_of r.0).slots ≡ slots) × ((shape_of r.0).waiters ≡ waiters) × ((shape_of r.0).last_gen ≡ last_gen)) }
         ensures at { IfOk result (λ r. IsMakerOf r.0 r.1 × IsAt r.0 r.2 × IsSetOf r.0 r.3) }
         ensures none { IfOk result (λ r. (made_by r.1 ≡ []) × (taken_of r.3 ≡ 0) × (size_of r.3 ≡ waiters)) }
+        ensures seat { IfOk result (λ r. HasNothing (lists r.2)) }
     {
         let shape = Shape {
             slots,
@@ -59,6 +60,7 @@ impl Events {
         ensures shape { IfOk result (λ r. shape_of r.0 ≡ shape) }
         ensures at { IfOk result (λ r. IsMakerOf r.0 r.1 × IsAt r.0 r.2 × IsSetOf r.0 r.3) }
         ensures none { IfOk result (λ r. (made_by r.1 ≡ []) × (taken_of r.3 ≡ 0) × (size_of r.3 ≡ shape.waiters)) }
+        ensures seat { IfOk result (λ r. HasNothing (lists r.2)) }
     {
         let marks = (shape.slots as usize * (shape.last_gen as usize + 1) + 63) / 64;
         let words = vec![in alloc; 0u64; shape.slots as usize + shape.waiters as usize + marks]?;
@@ -83,6 +85,8 @@ impl Events {
         ensures kept { Keeps (lists seat.old) (lists seat.new) × Keeps (lists seat.old) (lists result) }
         ensures same { lists seat.new ≡ lists seat.old }
         ensures copied { ((lists result).seen ≡ (lists seat.old).seen) × ((lists result).known ≡ (lists seat.old).known) × ((lists result).left ≡ (lists seat.old).left) }
+        ensures past { (lists result).past ≡ (lists seat.old).past }
+        ensures bare { IsBare (lists result) }
     {
         let inner = self.table.shared.split_seat::<Copies>(&mut seat.inner);
         Seat { inner }
@@ -101,6 +105,8 @@ impl Events {
         ensures given { (lists seat.new).given ≡ (lists seat.old).given ++ (lists other).given }
         ensures emptied { (lists seat.new).emptied ≡ (lists seat.old).emptied ++ (lists other).emptied }
         ensures left { (lists seat.new).left ≡ (lists seat.old).left ++ (lists other).left }
+        ensures past { (lists seat.new).past ≡ (lists seat.old).past ++ (lists other).past }
+        ensures saw { (lists seat.new).saw ≡ (lists seat.old).saw ++ (lists other).saw }
     {
         let Seat { inner } = other;
         self.table.shared.join_seat::<Both>(&mut seat.inner, inner);
@@ -116,6 +122,11 @@ impl Events {
         ensures kept { Keeps (lists seat.old) (lists seat.new) }
         ensures seen { HasSeen (lists seat.new) (ended_by receipt) }
         ensures known { Knows (lists seat.new) (ended_by receipt) (fate_of receipt) }
+        ensures more_seen { (lists seat.new).seen ≡ (lists seat.old).seen ++ ended_by receipt ∷ [] }
+        ensures more_known { (lists seat.new).known ≡ (lists seat.old).known ++ (ended_by receipt, fate_of receipt) ∷ [] }
+        ensures same_placings { SamePlacings (lists seat.old) (lists seat.new) }
+        ensures same_left { (lists seat.new).left ≡ (lists seat.old).left }
+        ensures same_saw { (lists seat.new).saw ≡ (lists seat.old).saw }
     {
         let Receipt {
             handle: _,
@@ -135,6 +146,11 @@ impl Events {
         ensures handle { result ≡ handle_of pending }
         ensures seen { HasSeen (lists seat.new) result }
         ensures left { Contains (lists seat.new).left result }
+        ensures more_seen { (lists seat.new).seen ≡ (lists seat.old).seen ++ result ∷ [] }
+        ensures more_left { (lists seat.new).left ≡ (lists seat.old).left ++ result ∷ [] }
+        ensures same_known { (lists seat.new).known ≡ (lists seat.old).known }
+        ensures same_placings { SamePlacings (lists seat.old) (lists seat.new) }
+        ensures same_saw { (lists seat.new).saw ≡ (lists seat.old).saw }
     {
         let Pending { handle, inner } = pending;
         self.table
@@ -155,6 +171,8 @@ impl Events {
         ensures seen { (h : TheHandle) → HasSeen (lists seat) h → IsCreated result h }
         ensures known { (h : TheHandle) (f : Fate) → Knows (lists seat) h f → answer result h ≡ Some (answer_of f) }
         ensures placed { (k : ℕ) (h : TheHandle) → Contains (lists seat).placed (k, h) → IsPlaced result k h ⊎ ((f : Fate) × (answer result h ≡ Some (answer_of f))) }
+        ensures given { (k : ℕ) (h : TheHandle) → Contains (lists seat).given (k, h) → HasEnded result h }
+        ensures emptied { (h : TheHandle) → Contains (lists seat).emptied h → HasEnded result h }
         ensures left { (h : TheHandle) → Contains (lists seat).left h → answer result h ≡ Some Answer.Pending }
     {
         let Maker { inner: mut all } = maker;

@@ -1,17 +1,18 @@
 //! Creating events, which the one Maker does.
 
-ghost use Rattle.gen_events.specs.Seats.{HasSeen, Grows, Keeps, no_event};
-ghost use Rattle.gen_events.specs.Views.{lists, IsAt, IsMakerOf, IsPendingOf, made_by, maker_lists, shape_of, handle_of, IsNew, IsFull};
-ghost use Rattle.std.specs.Prelude.{◌≡◌, ◌≢◌, ◌%◌, ◌<◌, Contains, IfSome, IfNone};
+ghost use Rattle.gen_events.specs.Seats.{HasSeen, Grows, Keeps, SamePlacings, no_event};
+ghost use Rattle.gen_events.specs.Views.{lists, IsOf, IsAt, IsMakerOf, IsPendingOf, made_by, maker_lists, shape_of, handle_of, IsNew, IsFull, IsWithin, ArePast, ComesAfter};
+ghost use Rattle.std.specs.Prelude.{◌≡◌, ◌≢◌, ◌%◌, ◌/◌, ◌<◌, ◌++◌, Contains, IfSome, IfNone};
 
 use crate::events::Events;
 use crate::handle::Handle;
-use crate::plays::{Both, Copies, Create, Grants, Scout};
+use crate::plays::{Both, Create, Grants, Reports, Scout};
 use crate::tokens::{Maker, Pending, Seat};
 
 impl Events {
-    /// A new pending handle, which then stands at the end of the Maker's list and which the seat
-    /// has then seen. None comes where the Maker found each slot retired or pending.
+    /// A new pending handle, which then stands at the end of the Maker's list, all of which the seat
+    /// has then seen. Each older handle of its slot was found to have ended. None comes where each
+    /// slot was found retired or pending, as the seat then shows.
     pub fn create(&self, maker: &mut Maker, seat: &mut Seat) -> Option<Pending>
         requires maker { IsMakerOf self.now maker.old }
         requires at { IsAt self.now seat.old }
@@ -20,7 +21,14 @@ impl Events {
         ensures grows { Grows (lists seat.old) (lists seat.new) }
         ensures kept { Keeps (lists seat.old) (lists seat.new) }
         ensures some { IfSome result (λ p. IsPendingOf self.now p × IsNew (made_by maker.old) (made_by maker.new) (handle_of p) × HasSeen (lists seat.new) (handle_of p) × (handle_of p ≢ no_event)) }
-        ensures none { IfNone result ((made_by maker.new ≡ made_by maker.old) × IsFull (shape_of self.now) (maker_lists maker.old) (maker_lists maker.new)) }
+        ensures within { IfSome result (λ p. IsWithin (shape_of self.now) (handle_of p)) }
+        ensures after { IfSome result (λ p. ComesAfter (made_by maker.old) (lists seat.new) (handle_of p)) }
+        ensures none { IfNone result (made_by maker.new ≡ made_by maker.old) }
+        ensures full { IfNone result (IsFull (shape_of self.now) (made_by maker.old) (lists seat.old) (lists seat.new)) }
+        ensures more_seen { (lists seat.new).seen ≡ (lists seat.old).seen ++ made_by maker.new }
+        ensures same_known { (lists seat.new).known ≡ (lists seat.old).known }
+        ensures same_placings { SamePlacings (lists seat.old) (lists seat.new) }
+        ensures same_left { (lists seat.new).left ≡ (lists seat.old).left }
     {
         let mut slot = 0;
         while slot < self.shape.slots {
@@ -33,15 +41,17 @@ impl Events {
             }
             slot += 1;
         }
+        self.report(maker, seat);
         None
     }
 
     // Creates at a slot that the Maker found free.
     fn make(&self, maker: &mut Maker, seat: &mut Seat, slot: u32, found: u64) -> Pending
-        requires maker { IsMakerOf self.now maker.old }
+        requires maker { IsOf self.now maker.old.inner }
         requires at { IsAt self.now seat.old }
         requires slot { slot < (shape_of self.now).slots }
         requires free { (found % 4294967296 ≡ 0) × Contains (maker_lists maker.old).spare (slot, found) }
+        requires past { ArePast (made_by maker.old) (maker_lists maker.old) slot (found / 4294967296) }
         ensures maker { IsMakerOf self.now maker.new }
         ensures at { IsAt self.now seat.new }
         ensures grows { Grows (lists seat.old) (lists seat.new) }
@@ -50,17 +60,42 @@ impl Events {
         ensures new { IsNew (made_by maker.old) (made_by maker.new) (handle_of result) }
         ensures seen { HasSeen (lists seat.new) (handle_of result) }
         ensures real { handle_of result ≢ no_event }
+        ensures within { IsWithin (shape_of self.now) (handle_of result) }
+        ensures after { ComesAfter (made_by maker.old) (lists seat.new) (handle_of result) }
+        ensures more_seen { (lists seat.new).seen ≡ (lists seat.old).seen ++ made_by maker.new }
+        ensures same_known { (lists seat.new).known ≡ (lists seat.old).known }
+        ensures same_placings { SamePlacings (lists seat.old) (lists seat.new) }
+        ensures same_left { (lists seat.new).left ≡ (lists seat.old).left }
     {
         let gen_ = (found / 4294967296) as u32;
         self.table
             .shared
             .compare_exchange::<Create>(&mut maker.inner, slot as usize, found, found + 1);
         let inner = self.table.shared.split_seat::<Grants>(&mut maker.inner);
-        let news = self.table.shared.split_seat::<Copies>(&mut maker.inner);
-        self.table.shared.join_seat::<Both>(&mut seat.inner, news);
+        self.report(maker, seat);
         Pending {
             handle: Handle { slot, gen_ },
             inner,
         }
+    }
+
+    // Gives the seat what the Maker has made and found.
+    fn report(&self, maker: &mut Maker, seat: &mut Seat)
+        requires maker { IsOf self.now maker.old.inner }
+        requires at { IsAt self.now seat.old }
+        ensures maker { IsMakerOf self.now maker.new }
+        ensures made { made_by maker.new ≡ made_by maker.old }
+        ensures at { IsAt self.now seat.new }
+        ensures grows { Grows (lists seat.old) (lists seat.new) }
+        ensures kept { Keeps (lists seat.old) (lists seat.new) }
+        ensures more_seen { (lists seat.new).seen ≡ (lists seat.old).seen ++ made_by maker.old }
+        ensures more_saw { (lists seat.new).saw ≡ (lists seat.old).saw ++ (maker_lists maker.old).saw }
+        ensures more_past { (lists seat.new).past ≡ (lists seat.old).past ++ (maker_lists maker.old).past }
+        ensures same_known { (lists seat.new).known ≡ (lists seat.old).known }
+        ensures same_placings { SamePlacings (lists seat.old) (lists seat.new) }
+        ensures same_left { (lists seat.new).left ≡ (lists seat.old).left }
+    {
+        let news = self.table.shared.split_seat::<Reports>(&mut maker.inner);
+        self.table.shared.join_seat::<Both>(&mut seat.inner, news);
     }
 }

@@ -1,7 +1,7 @@
 //! The rule of the table, and the names of its steps, cuts and joins.
 
 ghost use Rattle.gen_events.specs.Rule.{Orderly, opener};
-ghost use Rattle.gen_events.specs.Plays.{looked, reads, marks, heeded, scouted, created, relinked, put, ended, walked, copy_of, dealt, dealer, all_dealt, none_left, granted, granter, receipted, maker_of, no_maker, chaser, unchased, emptier, joined, forsaken, gathered, no_view};
+ghost use Rattle.gen_events.specs.Plays.{looked, reads, marks, heeded, scouted, created, relinked, put, ended, walked, copy_of, dealt, dealer, all_dealt, none_left, granted, granter, receipted, maker_of, no_maker, report, reporter, chaser, unchased, emptier, joined, forsaken, gathered, no_view};
 
 use crate::handle::Shape;
 use crate::view::View;
@@ -109,6 +109,14 @@ impl Split<View> for Appoints {
     ghost left = { no_maker };
 
     ghost right = { maker_of };
+}
+
+pub struct Reports;
+
+impl Split<View> for Reports {
+    ghost left = { reporter };
+
+    ghost right = { report };
 }
 
 pub struct Chases;

@@ -1,9 +1,9 @@
 //! Watching events.
 
 ghost use Rattle.gen_events.specs.Rule.{turns_of};
-ghost use Rattle.gen_events.specs.Seats.{HasSeen, Grows, Keeps};
-ghost use Rattle.gen_events.specs.Views.{lists, shape_of, IsAt, IsWaiterOf, Watched, Attached};
-ghost use Rattle.std.specs.Prelude.{◌≡◌, ◌+◌, ◌*◌, ◌<◌, ◌≤◌, Contains};
+ghost use Rattle.gen_events.specs.Seats.{HasSeen, IsPast, Knows, Grows, Keeps, SameGiven, no_event};
+ghost use Rattle.gen_events.specs.Views.{lists, shape_of, IsAt, IsWaiterOf, IsOver, Watched, Attached};
+ghost use Rattle.std.specs.Prelude.{◌≡◌, ◌≢◌, ◌+◌, ◌*◌, ◌<◌, ◌≤◌, Contains};
 
 use crate::events::Events;
 use crate::handle::{Fate, Handle};
@@ -23,6 +23,13 @@ impl Events {
         ensures grows { Grows (lists seat.old) (lists seat.new) }
         ensures kept { Keeps (lists seat.old) (lists seat.new) }
         ensures told { Watched self.now (lists seat.old) (lists seat.new) handle waiter result }
+        ensures none { handle ≡ no_event → result ≡ Watch.Over Fate.Ok waiter }
+        ensures still { handle ≡ no_event → lists seat.new ≡ lists seat.old }
+        ensures known { (f : Fate) → handle ≢ no_event → Knows (lists seat.old) handle f → IsOver f result }
+        ensures past { handle ≢ no_event → IsPast (lists seat.old) handle → (f : Fate) × IsOver f result }
+        ensures left { (f : Fate) → handle ≢ no_event → Contains (lists seat.old).left handle → IsOver f result → ⊥ }
+        ensures same_seen { (lists seat.new).seen ≡ (lists seat.old).seen }
+        ensures same_given { SameGiven (lists seat.old) (lists seat.new) }
     {
         if is_no_event(handle) {
             return Watch::Over(Fate::Ok, waiter);
@@ -46,6 +53,9 @@ impl Events {
         ensures at { IsAt self.now seat.new }
         ensures grows { Grows (lists seat.old) (lists seat.new) }
         ensures told { Attached self.now (lists seat.old) (lists seat.new) handle found waiter result }
+        ensures left { (f : Fate) → Contains (lists seat.old).left handle → IsOver f result → ⊥ }
+        ensures same_seen { (lists seat.new).seen ≡ (lists seat.old).seen }
+        ensures same_given { SameGiven (lists seat.old) (lists seat.new) }
     {
         let at = handle.slot as usize;
         let low = found % 4294967296;

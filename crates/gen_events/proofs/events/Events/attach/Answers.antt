@@ -1,4 +1,5 @@
 use Rattle.std.proofs.Common.{rules, arith, ◌≡◌, ◌∙◌, ap, sym, subst, [], refl, ◌<◌, ◌+◌, ◌-◌, ◌%◌}
+use Rattle.std.specs.Prelude.{Contains}
 use Rattle.gen_events.specs.declared.handle.Shape.{Shape}
 use Rattle.gen_events.specs.Seats.{waiters_of}
 use Rattle.gen_events.proofs.Cuts.{joins, splits, deals}
@@ -48,3 +49,7 @@ returns-else-turns-handle-clause-told c = let r₁ = in_hand c.args.waiter.numbe
 
 pub returns-then-turns-handle-clause-grows : goal.returns-then-turns-handle-clause-grows
 returns-then-turns-handle-clause-grows c = let r₁ = in_hand c.args.waiter.number c.args.seat.now.inner.me c.args.waiter.inner.me c.join_seat.new.seat.me c.args.seat.now.plain c.args.waiter.waiter c.join_seat.ensures.2 in let r = linked_now c.args.waiter.number r₁.0 (c.args.found % 4294967296 - 1) c.args.seat.now.inner.me c.join_seat.new.seat.me c.store.new.seat.me r₁.1 c.store.ensures.2 in let all : waiters_of c.args.waiter.inner.me.0.keys ≡ c.args.self.now.shape.waiters = ap waiters_of c.requires.waiter.1 in let few = c.args.waiter.waiter.2 in let b = comes_back c.args.waiter.number (c.args.found % 4294967296 - 1) c.args.handle c.compare_exchange-again.result c.args.seat.now.inner.me c.store.new.seat.me c.compare_exchange-again.new.seat.me c.split_seat-back.new.seat.me c.split_seat-back.result.me c.args.self.now.shape r c.requires.seen c.requires.at.1 (omega arith) c.args.self.now.sized.3 (c.compare_exchange-again.ensures.2.1 c.if-again-found.false) c.split_seat-back.ensures.2 c.split_seat-back.ensures.4 in grows_on c.args.seat.now.inner.me.0 c.split_seat-back.new.seat.me.0 c.fate_of-fate.new.seat.inner.me.0 b.grows c.fate_of-fate.ensures.grows
+
+pub returns-then-turns-handle-clause-left : goal.returns-then-turns-handle-clause-left
+returns-then-turns-handle-clause-left c = λ f left over. let r₁ = in_hand c.args.waiter.number c.args.seat.now.inner.me c.args.waiter.inner.me c.join_seat.new.seat.me c.args.seat.now.plain c.args.waiter.waiter c.join_seat.ensures.2 in let r = linked_now c.args.waiter.number r₁.0 (c.args.found % 4294967296 - 1) c.args.seat.now.inner.me c.join_seat.new.seat.me c.store.new.seat.me r₁.1 c.store.ensures.2 in let all : waiters_of c.args.waiter.inner.me.0.keys ≡ c.args.self.now.shape.waiters = ap waiters_of c.requires.waiter.1 in let few = c.args.waiter.waiter.2 in let b = comes_back c.args.waiter.number (c.args.found % 4294967296 - 1) c.args.handle c.compare_exchange-again.result c.args.seat.now.inner.me c.store.new.seat.me c.compare_exchange-again.new.seat.me c.split_seat-back.new.seat.me c.split_seat-back.result.me c.args.self.now.shape r c.requires.seen c.requires.at.1 (omega arith) c.args.self.now.sized.3 (c.compare_exchange-again.ensures.2.1 c.if-again-found.false) c.split_seat-back.ensures.2 c.split_seat-back.ensures.4 in
+    c.fate_of-fate.ensures.coherent.left_pending c.args.handle _ (subst (λ l. Contains l c.args.handle) (sym (c.fate_of-fate.ensures.same.2 ∙ b.same_given.2)) left) c.fate_of-fate.ensures.known.known

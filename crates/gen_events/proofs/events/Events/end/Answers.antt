@@ -1,11 +1,13 @@
-use Rattle.std.proofs.Common.{rules, arith, ◌∙◌, ap, sym, subst, [], refl, ◌<◌, ◌≤◌}
+use Rattle.std.proofs.Common.{rules, arith, ◌≡◌, ◌∙◌, ap, sym, subst, [], refl, ◌<◌, ◌≤◌}
+use Rattle.std.specs.Prelude.{Contains}
+use Rattle.gen_events.specs.Lists.{total, below}
 use Rattle.gen_events.specs.declared.handle.Shape.{Shape}
 use Rattle.gen_events.specs.Rule.{Follows}
 use Rattle.gen_events.specs.Seats.{slots_of, last_gen_of}
 use Rattle.gen_events.proofs.Cuts.{joins, splits, receipts, chases}
 use Rattle.gen_events.proofs.Ends.{took, arms, all_ends, receipt_of, catches}
 use Rattle.gen_events.proofs.End.{ends}
-use Rattle.gen_events.proofs.Takes.{alone}
+use Rattle.gen_events.proofs.Takes.{alone, has_key}
 use Rattle.gen_events.proofs.Growing.{end_keeps, end_sees}
 use Rattle.gen_events.proofs.events.Events.end.Goals as goal
 
@@ -49,6 +51,15 @@ invariant_of-caught c = let e = all_ends c.args.seat.now.inner.me c.args.pending
 pub returns-clause-known : goal.returns-clause-known
 returns-clause-known c = let e = all_ends c.args.seat.now.inner.me c.args.pending.inner.me c.join_seat.new.seat.me c.mark.new.inner.me c.swap-found.new.seat.me c.args.pending.handle c.args.fate c.swap-found.result c.args.self.now.shape c.args.seat.now.plain c.args.pending.pending c.requires.at.1 c.args.self.now.sized.3 c.join_seat.ensures.2 c.mark.ensures.marked c.swap-found.ensures.2 in
     record { known = alone _ _ _ _ (ap (λ m. m.0.known) c.split_seat-chain.ensures.2 ∙ (ap (λ m. m.0.known) c.split_seat-told.ensures.2 ∙ e.0.known)) refl }
+
+pub returns-clause-waiters : goal.returns-clause-waiters
+returns-clause-waiters c = λ k d. let t = c.swap-found.ensures.2 in let e = all_ends c.args.seat.now.inner.me c.args.pending.inner.me c.join_seat.new.seat.me c.mark.new.inner.me c.swap-found.new.seat.me c.args.pending.handle c.args.fate c.swap-found.result c.args.self.now.shape c.args.seat.now.plain c.args.pending.pending c.requires.at.1 c.args.self.now.sized.3 c.join_seat.ensures.2 c.mark.ensures.marked t in
+    let placed : c.split_seat-chain.new.seat.me.0.placed ≡ c.mark.new.inner.me.0.placed = ap (λ m. m.0.placed) c.split_seat-chain.ensures.2 ∙ ap (λ m. m.0.placed) c.split_seat-told.ensures.2 ∙ ap (λ m. m.0.placed) t.5 in
+    subst (λ l. Contains l k) (sym (ap (λ m. m.0.caught) c.split_seat-chain.ensures.4 ∙ ap (λ m. m.0.caught) c.split_seat-told.ensures.2)) (e.0.chased k (subst (λ l. Contains l (k, c.args.pending.handle)) placed d))
+
+pub returns-clause-once : goal.returns-clause-once
+returns-clause-once c = λ f. let e = all_ends c.args.seat.now.inner.me c.args.pending.inner.me c.join_seat.new.seat.me c.mark.new.inner.me c.swap-found.new.seat.me c.args.pending.handle c.args.fate c.swap-found.result c.args.self.now.shape c.args.seat.now.plain c.args.pending.pending c.requires.at.1 c.args.self.now.sized.3 c.join_seat.ensures.2 c.mark.ensures.marked c.swap-found.ensures.2 in
+    subst (λ l. total f l ≤ below f c.args.self.now.shape.waiters) (sym (ap (λ m. m.0.caught) c.split_seat-chain.ensures.4 ∙ ap (λ m. m.0.caught) c.split_seat-told.ensures.2)) (e.0.once c.args.self.now.shape (has_key _ _ e.2) f)
 
 pub returns-clause-kept : goal.returns-clause-kept
 returns-clause-kept c = end_keeps c.args.seat.now.inner.me c.args.pending.inner.me c.join_seat.new.seat.me c.mark.new.inner.me c.swap-found.new.seat.me c.split_seat-told.new.seat.me c.split_seat-chain.new.seat.me c.args.fate c.swap-found.result c.join_seat.ensures.2 c.mark.ensures.marked c.swap-found.ensures.2 c.split_seat-told.ensures.2 c.split_seat-chain.ensures.2

@@ -60,3 +60,15 @@ returns-in-Ok-clause-kept c = keeps_on _ _ _ (keeps c.args.seat.now.inner.me.0 c
 
 pub returns-in-Poison-clause-kept : goal.returns-in-Poison-clause-kept
 returns-in-Poison-clause-kept c = keeps_on _ _ _ (keeps c.args.seat.now.inner.me.0 c.load-found.new.seat.me.0 (grows_look _ _ _ _ c.load-found.ensures.2)) c.in-Poison.ensures.kept
+
+pub returns-then-turns-handle-clause-past : goal.returns-then-turns-handle-clause-past
+returns-then-turns-handle-clause-past c = λ some past _. let t = c.load-found.ensures.2 in let m = c.args.seat.now.inner.me in
+    let seen = really_seen m c.args.handle some c.requires.seen in
+    let a = t.1.2 c.args.handle past (sym (at_slot m c.args.handle c.args.self.now.shape _ t.2 c.requires.at.1 seen c.word_of-at.ensures.same)) in
+    omega (arith, c.turns.ensures, c.if-turns-handle.true)
+
+pub returns-then-turns-handle-clause-emptied : goal.returns-then-turns-handle-clause-emptied
+returns-then-turns-handle-clause-emptied c = λ some emptied _. let t = c.load-found.ensures.2 in let m = c.args.seat.now.inner.me in
+    let seen = really_seen m c.args.handle some c.requires.seen in
+    let a = t.1.4 c.args.handle emptied (sym (at_slot m c.args.handle c.args.self.now.shape _ t.2 c.requires.at.1 seen c.word_of-at.ensures.same)) in
+    omega (arith, c.turns.ensures, c.if-turns-handle.true)
