@@ -7,9 +7,10 @@ use Rattle.atomic_table.specs.Table.{State}
 use Rattle.gen_events.specs.declared.handle.Handle.{Handle}
 use Rattle.gen_events.specs.declared.handle.Shape.{Shape}
 use Rattle.gen_events.specs.declared.view.View.{View}
-use Rattle.gen_events.specs.Lists.{total}
+use Rattle.basics.specs.Sums.{total}
 use Rattle.gen_events.specs.Rule.{IsPending, Linked, held, ends_at, rights_at, maker, Orderly}
-use Rattle.gen_events.proofs.Sums.{Contains-head, Contains-tail, term_le, terms_le, entry_le, item_le, only, only-same, below-once}
+use Rattle.basics.proofs.Sums.{term_le, terms_le, entry_le, item_le, only, only-same, below-once}
+use Rattle.gen_events.proofs.Members.{Contains-head, Contains-tail}
 
 abbrev pub St : Type 0
 St = State Unit View

@@ -12,14 +12,14 @@ use Rattle.gen_events.specs.declared.handle.Answer.{Answer}
 use Rattle.gen_events.specs.declared.handle.Answer.TheVariants.{Pending}
 use Rattle.gen_events.specs.declared.handle.Shape.{Shape}
 use Rattle.gen_events.specs.declared.view.View.{View}
-use Rattle.gen_events.specs.Lists.{total}
+use Rattle.basics.specs.Sums.{total}
 use Rattle.gen_events.specs.Rule.{turns_of, mark, mark_word, place_of, fate_code, IsMade, code, Linked, Shows, Fits, Orderly}
 use Rattle.atomic_table.specs.Table.{Final, Seen}
 use Rattle.gen_events.specs.Plays.{gathered, fate_by}
 use Rattle.gen_events.specs.Chains.{chain_in, chain_at}
 use Rattle.gen_events.specs.EventMap.{SlotLife, unused, answer, answer_of, IsPlaced, HasEnded}
 use Rattle.gen_events.specs.Kept.{read, life_in, map_in, IsSlot, AreShown}
-use Rattle.gen_events.proofs.Sums.{entry_le, total-one, below-one}
+use Rattle.basics.proofs.Sums.{entry_le, total-one, below-one}
 use Rattle.gen_events.proofs.ChainSteps.{follows}
 use Rattle.gen_events.proofs.Words.{by_test, code_le}
 use Rattle.gen_events.proofs.Apart.{St}

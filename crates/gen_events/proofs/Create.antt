@@ -12,10 +12,11 @@ use Rattle.atomic_table.proofs.Lists.{at_set}
 use Rattle.gen_events.specs.declared.handle.Handle.{Handle}
 use Rattle.gen_events.specs.declared.handle.Shape.{Shape}
 use Rattle.gen_events.specs.declared.view.View.{View}
-use Rattle.gen_events.specs.Lists.{total}
+use Rattle.basics.specs.Sums.{total}
 use Rattle.gen_events.specs.Rule.{mark, IsMade, IsPending, Linked, Shows, held, ends_at, rights_at, maker, Fits, Orderly}
 use Rattle.gen_events.specs.Plays.{Sat, handle_at, made_at, AreBelow, created}
-use Rattle.gen_events.proofs.Sums.{total-set, Contains-cases, Contains-none}
+use Rattle.basics.proofs.Sums.{total-set}
+use Rattle.gen_events.proofs.Members.{Contains-cases, Contains-none}
 use Rattle.gen_events.proofs.Frames.{Placings, Leaves, steady}
 use Rattle.gen_events.proofs.Marks.{marks_low}
 use Rattle.gen_events.proofs.Apart.{St, same_handle, ends_there, even_apart, no_right_at, other_maker, linked_low}

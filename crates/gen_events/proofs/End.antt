@@ -12,10 +12,11 @@ use Rattle.gen_events.specs.declared.handle.Handle.{Handle}
 use Rattle.gen_events.specs.declared.handle.Fate.{Fate}
 use Rattle.gen_events.specs.declared.handle.Shape.{Shape}
 use Rattle.gen_events.specs.declared.view.View.{View}
-use Rattle.gen_events.specs.Lists.{total, below}
+use Rattle.basics.specs.Sums.{total, below}
 use Rattle.gen_events.specs.Rule.{mark, fate_code, IsMade, IsEnded, code, Linked, Shows, held, ends_at, rights_at, maker, Fits, Orderly, Follows}
 use Rattle.gen_events.specs.Plays.{Sat, ended_with, HasPlaced, IsOnce, ended, fate_now}
-use Rattle.gen_events.proofs.Sums.{total-set, total-put, term_le, entry_le, Contains-one, Contains-none, Contains-head, Contains-tail}
+use Rattle.basics.proofs.Sums.{total-set, total-put, term_le, entry_le}
+use Rattle.gen_events.proofs.Members.{Contains-one, Contains-none, Contains-head, Contains-tail}
 use Rattle.gen_events.proofs.Frames.{Leaves, steady}
 use Rattle.gen_events.proofs.Words.{code_le}
 use Rattle.gen_events.proofs.Marks.{marks_low}

@@ -4,8 +4,9 @@ use Rattle.std.specs.Prelude.{Contains}
 use Rattle.std.proofs.lemmas.List.Elements.{Contains-append_left, Contains-append_right, Contains-append_cases}
 use mathlib.Core.Logic.{dite}
 use native.Mathlib.Decide.{ℕ_discrete}
-use Rattle.gen_events.specs.Lists.{total, below}
-use Rattle.gen_events.proofs.Sums.{Contains-one, Contains-none, Contains-head, total-append, total-one, below-one}
+use Rattle.basics.specs.Sums.{total, below}
+use Rattle.basics.proofs.Sums.{total-append, total-one, below-one}
+use Rattle.gen_events.proofs.Members.{Contains-one, Contains-none, Contains-head}
 
 -- the free ones of the slots from n on are in the list, each once
 pub record Fills (slots : ℕ) (words : List ℕ) (n : ℕ) (items : List ℕ) : Type 0 where

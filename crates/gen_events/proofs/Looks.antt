@@ -11,7 +11,7 @@ use Rattle.gen_events.proofs.Marks.{fates_has}
 use Rattle.gen_events.specs.Plays.{Sat, ends_of, InRange, looked, reads, fate_by, fates_by, fates_of}
 use Rattle.gen_events.specs.Seats.{HasSeen, Knows, no_event, FoundPending}
 use Rattle.gen_events.proofs.Words.{ends_has}
-use Rattle.gen_events.proofs.Sums.{Contains-head}
+use Rattle.gen_events.proofs.Members.{Contains-head}
 
 -- a handle that was seen and is not NO_EVENT lies at the word that is loaded
 pub at_slot : (m : Sat) (h : Handle) (x : Shape) (at : ℕ) → InRange m.0 → m.0.keys ≡ x ∷ [] → Contains m.0.seen h → (h.slot < x.slots → at ≡ h.slot) → at ≡ h.slot

@@ -13,7 +13,7 @@ use Rattle.gen_events.specs.declared.handle.Fate.{Fate}
 use Rattle.gen_events.specs.declared.handle.Fate.TheVariants.{Ok, Poison}
 use Rattle.gen_events.specs.declared.handle.Answer.{Answer}
 use Rattle.gen_events.specs.declared.handle.Answer.TheVariants.{Pending, Triggered, Poisoned}
-use Rattle.gen_events.proofs.Sums.{Contains-cases, Contains-none, Contains-head, Contains-tail}
+use Rattle.gen_events.proofs.Members.{Contains-cases, Contains-none, Contains-head, Contains-tail}
 use Rattle.gen_events.proofs.Words.{by_test}
 
 abbrev some_in : Option Answer → Answer

@@ -1,5 +1,5 @@
 -- The step that marks a handle as poisoned, before it ends.
-use Rattle.std.proofs.Common.{◌≡◌, ℕ, ◌+◌, ◌*◌, ◌/◌, ◌%◌, ◌<◌, ◌≤◌, ◌≢◌, List, [], ◌∷◌, ◌++◌, length, get_or, set, sym, refl, ap, ◌∙◌, subst, ⊎_elim, arith, length-set, get_or-set_other}
+use Rattle.std.proofs.Common.{◌≡◌, ℕ, ◌+◌, ◌*◌, ◌/◌, ◌%◌, ◌<◌, ◌≤◌, ◌≢◌, List, [], ◌∷◌, ◌++◌, length, get_or, set, sym, refl, ap, ◌∙◌, subst, ⊎_elim, arith, length-set, get_or-set_other, bit_or, ◌^◌}
 use Rattle.std.specs.Prelude.{Contains}
 use mathlib.Core.Logic.{dite}
 use mathlib.Core.Option.{some}
@@ -10,12 +10,12 @@ use Rattle.atomic_table.proofs.Lists.{at_set}
 use Rattle.gen_events.specs.declared.handle.Handle.{Handle}
 use Rattle.gen_events.specs.declared.handle.Shape.{Shape}
 use Rattle.gen_events.specs.declared.view.View.{View}
-use Rattle.gen_events.specs.Lists.{total}
+use Rattle.basics.specs.Sums.{total}
 use Rattle.gen_events.specs.Rule.{place_of, mark_word, mark, IsMade, IsPending, IsEnded, Linked, Shows, held, rights_at, maker, Fits, Orderly}
-use Rattle.std.proofs.Common.{bit_or, ◌^◌}
 use Rattle.std.specs.Int.{bit_at}
 use Rattle.gen_events.specs.Plays.{Sat, first_of, marked_at, marks}
-use Rattle.gen_events.proofs.Sums.{total-set, Contains-head, Contains-cases, Contains-none}
+use Rattle.basics.proofs.Sums.{total-set}
+use Rattle.gen_events.proofs.Members.{Contains-head, Contains-cases, Contains-none}
 use Rattle.gen_events.proofs.Frames.{Leaves, steady}
 use Rattle.gen_events.proofs.Marks.{places_apart, word_in, mark_here, mark_there}
 use Rattle.gen_events.proofs.Apart.{St, same_handle, right_apart}
@@ -144,7 +144,7 @@ module _ (key : Shape) (s : St) (o : Orderly key s) (id : ℕ) (v : View) (h : H
         rights = fits.rights;
         marked = λ x c. ⊎_elim (λ (e : h ≡ x). subst (λ y. mark key ws' y ≡ 1) e here) (λ d. stays x (fits.marked x d)) (Contains-cases h x v.marked (subst (λ z. Contains z x) all c));
         clear = λ x c n. let p = fits.rights x c in let apart : x ≡ h → ⊥ = λ e. n (subst (λ z. Contains z x) (sym all) (subst (Contains (h ∷ v.marked)) (sym e) (Contains-head h v.marked))) in
-            there x (omega arith) apart ∙ fits.clear x c (λ d. n (subst (λ z. Contains z x) (sym all) (Rattle.gen_events.proofs.Sums.Contains-tail h x v.marked d)));
+            there x (omega arith) apart ∙ fits.clear x c (λ d. n (subst (λ z. Contains z x) (sym all) (Rattle.gen_events.proofs.Members.Contains-tail h x v.marked d)));
         hand = f.hand;
         caught = f.caught;
         chased = f.chased;

@@ -12,7 +12,7 @@ use Rattle.gen_events.specs.declared.handle.Fate.TheVariants.{Ok, Poison}
 use Rattle.gen_events.specs.declared.handle.Shape.{Shape}
 use Rattle.gen_events.specs.Rule.{place_of, mark_words, mark_word, mark, fate_code}
 use Rattle.gen_events.specs.Plays.{fate_by, fates_by}
-use Rattle.gen_events.proofs.Sums.{Contains-cases, Contains-none, Contains-head, Contains-tail}
+use Rattle.gen_events.proofs.Members.{Contains-cases, Contains-none, Contains-head, Contains-tail}
 use Rattle.gen_events.proofs.Words.{by_test}
 
 -- places of handles of one table do not meet

@@ -2,7 +2,7 @@
 use Rattle.std.proofs.Common.{◌≡◌, ℕ, zero, suc, ◌+◌, ◌-◌, ◌*◌, ◌/◌, ◌%◌, ◌<◌, ◌≤◌, Bool, true, false, cond, List, [], ◌∷◌, ◌++◌, length, get_or, sym, refl, ap, ◌∙◌, subst, arith, eqb, eq-eqb, ne_eqb, eqb-true}
 use Rattle.std.proofs.lemmas.Nat.Bits.{bit_at-lt}
 use Rattle.std.proofs.lemmas.Bool.{eqb-false}
-use Rattle.gen_events.specs.Lists.{total}
+use Rattle.basics.specs.Sums.{total}
 use Rattle.gen_events.specs.Rule.{turns_of, place_of, mark_word, mark, fate_code, code, Linked, Shows}
 use Rattle.gen_events.specs.Plays.{handle_at}
 use Rattle.gen_events.specs.Chains.{chain_in, chain_at}
@@ -12,7 +12,7 @@ use Rattle.gen_events.specs.declared.handle.Handle.{Handle}
 use Rattle.gen_events.specs.declared.handle.Fate.TheVariants.{Ok}
 use Rattle.gen_events.specs.declared.handle.Shape.{Shape}
 use Rattle.gen_events.specs.declared.chain.Chain.{Chain}
-use Rattle.gen_events.proofs.Sums.{total-append, total-one, below-one, entry_le}
+use Rattle.basics.proofs.Sums.{total-append, total-one, below-one, entry_le}
 use Rattle.gen_events.proofs.Words.{by_test, code_le, turns_shown}
 use Rattle.gen_events.proofs.Marks.{coded, code_answer}
 use Rattle.gen_events.proofs.ChainSteps.{follows}

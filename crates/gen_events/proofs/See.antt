@@ -7,7 +7,7 @@ use Rattle.gen_events.specs.declared.handle.Fate.{Fate}
 use Rattle.gen_events.specs.Rule.{turns_of}
 use Rattle.gen_events.specs.Plays.{Sat, first_of, looked, joined, granted, granter}
 use Rattle.gen_events.specs.Seats.{IsPlain, IsPending, Knows, IsPast, FoundPending}
-use Rattle.gen_events.proofs.Sums.{Contains-head}
+use Rattle.gen_events.proofs.Members.{Contains-head}
 
 -- the seat v has looked, as w, with the right that a Pending's seat had
 pub record Sees (h : Handle) (v w : Sat) : Type 0 where

@@ -13,11 +13,12 @@ use Rattle.gen_events.specs.declared.handle.Handle.{Handle}
 use Rattle.gen_events.specs.declared.handle.Fate.{Fate}
 use Rattle.gen_events.specs.declared.handle.Shape.{Shape}
 use Rattle.gen_events.specs.declared.view.View.{View}
-use Rattle.gen_events.specs.Lists.{total}
+use Rattle.basics.specs.Sums.{total}
 use Rattle.gen_events.specs.Rule.{turns_of, place_of, mark_words, mark_word, mark, fate_code, IsMade, IsPending, IsEnded, code, Linked, Shows, held, ends_at, rights_at, maker, Fits, Orderly}
 use Rattle.gen_events.specs.Plays.{Sat, found_at, ends_of, Agrees, InRange, Coherent, Rightless, looked, heeded, fated, fates_of, fates_by, reads, fate_by}
 use Rattle.std.specs.Int.{bit_at}
-use Rattle.gen_events.proofs.Sums.{total-set, term_le, item_le, Contains-none, Contains-head}
+use Rattle.basics.proofs.Sums.{total-set, term_le, item_le}
+use Rattle.gen_events.proofs.Members.{Contains-none, Contains-head}
 use Rattle.gen_events.proofs.Marks.{one_code, coded, fates_in}
 use Rattle.gen_events.proofs.Words.{code_le, turns_shown, ends_in}
 

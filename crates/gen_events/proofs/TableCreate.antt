@@ -2,7 +2,7 @@
 use Rattle.std.proofs.Common.{◌≡◌, ℕ, ◌+◌, ◌*◌, ◌/◌, ◌<◌, ◌≤◌, true, false, cond, List, [], ◌∷◌, ◌++◌, length, get_or, set, sym, refl, ap, ◌∙◌, subst, arith, get_or-set_same, get_or-set_other, mul-le-mul_right}
 use Rattle.std.proofs.lemmas.List.{length-set}
 use Rattle.std.proofs.lemmas.List.Elements.{Contains-append_right}
-use Rattle.gen_events.specs.Lists.{total}
+use Rattle.basics.specs.Sums.{total}
 use Rattle.gen_events.specs.Rule.{mark, code, Shows}
 use Rattle.gen_events.specs.Plays.{handle_at}
 use Rattle.gen_events.specs.EventMap.{EventMap, SlotLife, unused, life_at, with_life, next_handle, created_at, no_event, MayServe}
@@ -10,7 +10,8 @@ use Rattle.gen_events.specs.Kept.{turns_in, map_in, IsSlot, AreFree, AreKept, Is
 use Rattle.gen_events.specs.declared.handle.Handle.{Handle}
 use Rattle.gen_events.specs.declared.handle.Shape.{Shape}
 use Rattle.gen_events.specs.declared.chain.Chain.{Chain}
-use Rattle.gen_events.proofs.Sums.{Contains-head, total-put}
+use Rattle.basics.proofs.Sums.{total-put}
+use Rattle.gen_events.proofs.Members.{Contains-head}
 use Rattle.gen_events.proofs.Apart.{linked_low}
 use Rattle.gen_events.proofs.Marks.{marks_low}
 use Rattle.gen_events.proofs.Reading.{map_read, as_read}

@@ -7,7 +7,7 @@ use Rattle.std.proofs.lemmas.List.{get_or_append_left, length-set}
 use Rattle.std.proofs.Math.Seq.{get_or-append_seam}
 use mathlib.Core.Logic.{dite}
 use native.Mathlib.Decide.{ℕ_discrete, dec_le}
-use Rattle.gen_events.specs.Lists.{total}
+use Rattle.basics.specs.Sums.{total}
 use Rattle.gen_events.specs.Rule.{mark, mark_word, place_of, fate_code, code, Shows, Follows}
 use Rattle.gen_events.specs.Plays.{handle_at}
 use Rattle.gen_events.specs.EventMap.{EventMap, SlotLife, unused, life_at, with_life, answer, ended_with, all_on, MayServe}
@@ -18,7 +18,7 @@ use Rattle.gen_events.specs.declared.handle.Fate.TheVariants.{Ok}
 use Rattle.gen_events.specs.declared.handle.Answer.TheVariants.{Pending}
 use Rattle.gen_events.specs.declared.handle.Shape.{Shape}
 use Rattle.gen_events.specs.declared.chain.Chain.{Chain}
-use Rattle.gen_events.proofs.Sums.{total-put, total-append, entry_le, below-one}
+use Rattle.basics.proofs.Sums.{total-put, total-append, entry_le, below-one}
 use Rattle.gen_events.proofs.Marks.{marks_low, places_apart, word_in}
 use Rattle.gen_events.proofs.ChainSteps.{linked_all, at_default}
 use Rattle.gen_events.proofs.Reading.{total-all_on, map_read, as_read}

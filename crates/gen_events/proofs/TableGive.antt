@@ -4,14 +4,15 @@ use Rattle.std.specs.Prelude.{Contains, nat_lt}
 use Rattle.std.proofs.lemmas.List.{get_or_past}
 use mathlib.Core.Logic.{dite}
 use native.Mathlib.Decide.{dec_le}
-use Rattle.gen_events.specs.Lists.{total, below, only}
+use Rattle.basics.specs.Sums.{total, below, only}
 use Rattle.gen_events.specs.Rule.{code}
 use Rattle.gen_events.specs.EventMap.{EventMap, SlotLife, unused, life_at, answer, all_on, weight, IsFree, KeepsCreated, KeepsFree, Gives}
 use Rattle.gen_events.specs.Kept.{map_in, AreKept, IsSized}
 use Rattle.gen_events.specs.declared.handle.Handle.{Handle}
 use Rattle.gen_events.specs.declared.handle.Shape.{Shape}
 use Rattle.gen_events.specs.declared.chain.Chain.{Chain}
-use Rattle.gen_events.proofs.Sums.{Contains-none, Contains-tail, below-only, item_le, only-same, below-once, entry_le}
+use Rattle.basics.proofs.Sums.{below-only, item_le, only-same, below-once, entry_le}
+use Rattle.gen_events.proofs.Members.{Contains-none, Contains-tail}
 use Rattle.gen_events.proofs.Apart.{in_list}
 use Rattle.gen_events.proofs.Words.{code_le}
 use Rattle.gen_events.proofs.ChainSteps.{at_default}

@@ -4,7 +4,7 @@ use Rattle.std.specs.Prelude.{Contains, replicate}
 use Rattle.std.proofs.lemmas.List.{get_or_past, length-replicate}
 use mathlib.Core.Logic.{dite}
 use native.Mathlib.Decide.{dec_le}
-use Rattle.gen_events.specs.Lists.{total, below, only}
+use Rattle.basics.specs.Sums.{total, below, only}
 use Rattle.gen_events.specs.Rule.{turns_of, mark, mark_words, fate_code}
 use Rattle.gen_events.specs.Plays.{fate_by}
 use Rattle.gen_events.specs.EventMap.{EventMap, SlotLife, unused, life_at, answer_in, answer, answer_of, fresh, no_event, weight, IsCreated, IsEventMap}
@@ -16,7 +16,8 @@ use Rattle.gen_events.specs.declared.handle.Answer.{Answer}
 use Rattle.gen_events.specs.declared.handle.Answer.TheVariants.{Pending}
 use Rattle.gen_events.specs.declared.handle.Shape.{Shape}
 use Rattle.gen_events.specs.declared.chain.Chain.{Chain}
-use Rattle.gen_events.proofs.Sums.{Contains-none, below-once, below-only, below-one, total-one, entry_le}
+use Rattle.basics.proofs.Sums.{below-once, below-only, below-one, total-one, entry_le}
+use Rattle.gen_events.proofs.Members.{Contains-none}
 use Rattle.gen_events.proofs.Words.{by_test}
 use Rattle.gen_events.proofs.Marks.{code_answer, one_code}
 use Rattle.gen_events.proofs.Open.{zero_at}

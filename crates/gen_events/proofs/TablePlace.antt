@@ -3,7 +3,7 @@ use Rattle.std.proofs.Common.{◌≡◌, ◌≢◌, ℕ, ◌+◌, ◌-◌, ◌*�
 use Rattle.std.specs.Prelude.{Contains}
 use Rattle.std.proofs.lemmas.Bool.{false≢true}
 use Rattle.std.proofs.lemmas.List.{length-set}
-use Rattle.gen_events.specs.Lists.{total}
+use Rattle.basics.specs.Sums.{total}
 use Rattle.gen_events.specs.Rule.{mark, code, Shows}
 use Rattle.gen_events.specs.Plays.{handle_at}
 use Rattle.gen_events.specs.EventMap.{EventMap, SlotLife, unused, life_at, with_life, answer, placed_on, IsFree, MayServe}
@@ -12,7 +12,7 @@ use Rattle.gen_events.specs.declared.handle.Handle.{Handle}
 use Rattle.gen_events.specs.declared.handle.Answer.TheVariants.{Pending}
 use Rattle.gen_events.specs.declared.handle.Shape.{Shape}
 use Rattle.gen_events.specs.declared.chain.Chain.{Chain}
-use Rattle.gen_events.proofs.Sums.{total-put}
+use Rattle.basics.proofs.Sums.{total-put}
 use Rattle.gen_events.proofs.Words.{code_le}
 use Rattle.gen_events.proofs.Marks.{marks_low}
 use Rattle.gen_events.proofs.Reading.{map_read, as_read}

@@ -6,7 +6,7 @@ use Rattle.std.proofs.lemmas.List.{length-set, append-nil}
 use Rattle.std.proofs.lemmas.List.Elements.{Contains-append_left, Contains-append_right, Contains-append_cases}
 use mathlib.Core.Logic.{dite}
 use native.Mathlib.Decide.{ℕ_discrete}
-use Rattle.gen_events.specs.Lists.{total, below, only}
+use Rattle.basics.specs.Sums.{total, below, only}
 use Rattle.gen_events.specs.Rule.{mark, code, Linked, Shows}
 use Rattle.gen_events.specs.Plays.{handle_at}
 use Rattle.gen_events.specs.EventMap.{EventMap, SlotLife, unused, with_life, all_on, weight, IsFree, MayServe}
@@ -14,7 +14,8 @@ use Rattle.gen_events.specs.Kept.{turns_in, IsSlot, AreCaught, AreFree}
 use Rattle.gen_events.specs.declared.handle.Handle.{Handle}
 use Rattle.gen_events.specs.declared.handle.Shape.{Shape}
 use Rattle.gen_events.specs.declared.chain.Chain.{Chain}
-use Rattle.gen_events.proofs.Sums.{Contains-one, Contains-none, Contains-head, Contains-tail, Contains-cases, total-append, total-one, below-one, below-once, item_le, only-same}
+use Rattle.basics.proofs.Sums.{total-append, total-one, below-one, below-once, item_le, only-same}
+use Rattle.gen_events.proofs.Members.{Contains-one, Contains-none, Contains-head, Contains-tail, Contains-cases}
 use Rattle.gen_events.proofs.ChainSteps.{linked_all}
 use Rattle.gen_events.proofs.MapAnswers.{all_in, life_here, life_there}
 

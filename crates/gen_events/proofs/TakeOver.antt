@@ -6,7 +6,7 @@ use Rattle.std.proofs.lemmas.Bool.{lt-ltb, le-ltb}
 use Rattle.std.proofs.lemmas.List.{length-replicate}
 use mathlib.Core.Logic.{dite}
 use native.Mathlib.Decide.{dec_le}
-use Rattle.gen_events.specs.Lists.{total, below}
+use Rattle.basics.specs.Sums.{total, below}
 use Rattle.gen_events.specs.Rule.{mark, mark_words, mark_word, place_of, code, Shows}
 use Rattle.gen_events.specs.Plays.{handle_at}
 use Rattle.gen_events.specs.EventMap.{EventMap, SlotLife, unused, life_at, answer, answer_in, without_waiters, all_free, fresh, IsFree, KeepsCreated, MayServe}
@@ -14,7 +14,7 @@ use Rattle.gen_events.specs.Kept.{turns_in, life_in, map_in, IsSlot, AreShown, A
 use Rattle.gen_events.specs.declared.handle.Handle.{Handle}
 use Rattle.gen_events.specs.declared.handle.Shape.{Shape}
 use Rattle.gen_events.specs.declared.chain.Chain.{Chain}
-use Rattle.gen_events.proofs.Sums.{Contains-none}
+use Rattle.gen_events.proofs.Members.{Contains-none}
 use Rattle.gen_events.proofs.Words.{by_test, code_le}
 use Rattle.gen_events.proofs.MapAnswers.{keeps_answers}
 use Rattle.gen_events.proofs.Marks.{word_in}

@@ -8,7 +8,7 @@ use Rattle.gen_events.specs.declared.handle.Handle.{Handle}
 use Rattle.gen_events.specs.declared.handle.Shape.{Shape}
 use Rattle.gen_events.specs.Rule.{turns_of, code, Linked, Shows}
 use Rattle.gen_events.specs.Plays.{ends_of}
-use Rattle.gen_events.proofs.Sums.{Contains-cases, Contains-none, Contains-head, Contains-tail}
+use Rattle.gen_events.proofs.Members.{Contains-cases, Contains-none, Contains-head, Contains-tail}
 
 pub by_test : {P : Type 0} (b : Bool) → (b ≡ true → P) → (b ≡ false → P) → P
 by_test true y n = y refl

@@ -1,6 +1,6 @@
 -- A table of events as a finite map from handles to answers, with the waiters that are placed and caught.
 use Rattle.std.specs.Prelude.{◌≡◌, ℕ, ◌+◌, ◌<◌, ◌≤◌, ◌⊎◌, Bool, true, false, ◌&&◌, ◌==◌, nat_lt, cond, List, [], ◌∷◌, ◌++◌, length, map, replicate, slice_index_or, slice_set, Contains, Option, Some, None}
-use Rattle.gen_events.specs.Lists.{total, only}
+use Rattle.basics.specs.Sums.{total, only}
 use Rattle.gen_events.specs.declared.handle.Handle.{Handle}
 use Rattle.gen_events.specs.declared.handle.Fate.{Fate}
 use Rattle.gen_events.specs.declared.handle.Fate.TheVariants.{Ok, Poison}

@@ -1,6 +1,6 @@
 -- How the words of a one-thread table show its map.
 use Rattle.std.specs.Prelude.{◌≡◌, ℕ, zero, suc, ◌+◌, ◌-◌, ◌*◌, ◌/◌, ◌%◌, ◌<◌, ◌≤◌, ◌==◌, nat_lt, cond, List, [], ◌∷◌, ◌++◌, length, slice_index, slice_index_or, Contains}
-use Rattle.gen_events.specs.Lists.{total, below}
+use Rattle.basics.specs.Sums.{total, below}
 use Rattle.gen_events.specs.Rule.{turns_of, mark, mark_words, fate_code, Linked, Shows}
 use Rattle.gen_events.specs.Plays.{fate_by, handle_at}
 use Rattle.gen_events.specs.Chains.{chain_in, chain_at}

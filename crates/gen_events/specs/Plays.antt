@@ -1,7 +1,7 @@
 -- What each step tells: of the step, the seat before, the number found and the seat after.
 use Rattle.std.specs.Prelude.{◌≡◌, ◌≢◌, ℕ, zero, suc, ◌+◌, ◌*◌, ◌/◌, ◌%◌, ◌<◌, ◌≤◌, List, [], ◌∷◌, ◌++◌, Contains, cond, ◌==◌, nat_lt, map, slice_index}
 use Rattle.atomic_table.specs.Table.{Me}
-use Rattle.gen_events.specs.Lists.{total, below}
+use Rattle.basics.specs.Sums.{total, below}
 use Rattle.gen_events.specs.Rule.{turns_of, code, mark_word, place_of}
 use Rattle.gen_events.specs.declared.handle.Handle.{Handle}
 use Rattle.gen_events.specs.declared.handle.Fate.{Fate}

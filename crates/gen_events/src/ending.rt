@@ -1,7 +1,7 @@
 //! Ending events.
 
 ghost use Rattle.gen_events.specs.Plays.{marking};
-ghost use Rattle.gen_events.specs.Lists.{total, below};
+ghost use Rattle.basics.specs.Sums.{total, below};
 ghost use Rattle.gen_events.specs.Seats.{HasSeen, Knows, Grows, Keeps, SamePlacings};
 ghost use Rattle.gen_events.specs.Views.{lists, IsOf, IsAt, IsPendingOf, IsReceiptOf, IsCaughtOf, shape_of, handle_of, ended_by, fate_of, caught_on, caught_lists, given_by, rest_of};
 ghost use Rattle.std.specs.Prelude.{◌≡◌, ℕ, ◌<◌, ◌≤◌, ◌++◌, ◌∷◌, [], Contains};

@@ -3,7 +3,7 @@
 ghost use Rattle.std.specs.Prelude.{◌≡◌, ◌≢◌, ℕ, ◌%◌, ◌<◌, ◌≤◌, ◌++◌, ◌∷◌, [], true, false, cond, nat_lt, length, slice_index, vec_len, Contains};
 ghost use Rattle.std.specs.Int.{bit_at};
 ghost use Rattle.std.specs.Vec.{vec_capacity};
-ghost use Rattle.gen_events.specs.Lists.{total, below};
+ghost use Rattle.basics.specs.Sums.{total, below};
 ghost use Rattle.gen_events.specs.Rule.{turns_of, fate_code, Follows};
 ghost use Rattle.gen_events.specs.Plays.{fate_by};
 ghost use Rattle.gen_events.specs.EventMap.{no_event, answer_of};

@@ -1,6 +1,6 @@
 -- What the reader of one line gives.
 use Rattle.std.specs.Prelude.{Bool, nat_le, ◌&&◌, length, slice_index_or, codes, cond, not, Option, Result, Ok, Err, ◌≡◌, ℕ, List, Some, None, ◌⊎◌, ◌==◌, [], ◌∷◌, true, false}
-use Rattle.std.specs.List.{after_first}
+use Rattle.std.specs.List.{after_first, list_all}
 use Rattle.std.proofs.Common.{inl, inr}
 use Rattle.graph_model.specs.declared.decl.Decl.{Decl}
 use Rattle.graph_model.specs.declared.verb.Line.{Line}
@@ -12,7 +12,6 @@ use Rattle.graph_model.specs.declared.why.Why.TheVariants as why
 use Rattle.graph_model.specs.Name.{is_name}
 use Rattle.index_spaces.specs.declared.space.SpaceFault.{SpaceFault}
 use Rattle.index_spaces.specs.declared.space.SpaceFault.TheVariants as spaces
-use Rattle.std.specs.List.{list_all}
 use Rattle.std.specs.Str.{bytes_eq}
 use Rattle.graph_reader.specs.Words.{pieces, ascend_from}
 use Rattle.graph_reader.specs.Draft.{Draft, draft, SpaceName, space_number}

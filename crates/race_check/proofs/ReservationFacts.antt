@@ -3,10 +3,9 @@ use Rattle.std.proofs.Common.{◌≡◌, ℕ, ◌<◌, length, ap, ◌∙◌}
 use Rattle.std.specs.Prelude.{Some, MatchOption, Option, None, option_map, slice_get}
 use Rattle.graph_model.specs.declared.verb.Line.{Line}
 use Rattle.graph_model.specs.declared.verb.Verb.TheVariants.{Acquire, Release}
-use Rattle.graph_model.specs.Graph.{GraphValue, verb_at, locks}
+use Rattle.graph_model.specs.Graph.{GraphValue, verb_at, locks, is_acquire_of}
 use Rattle.graph_model.specs.Fits.{IsGraph}
 use Rattle.graph_model.specs.Rules.{Acquires, Releases}
-use Rattle.graph_model.specs.Graph.{is_acquire_of}
 use Rattle.graph_model.proofs.VerbFacts.{is_acquire_from, is_release_from, passes_below}
 use Rattle.graph_model.proofs.ReleaseFacts.{lock_known, release_names}
 

@@ -20,8 +20,7 @@ use Rattle.realm_top.specs.Texts.{too_long_text, unfit_text, slots_text}
 use Rattle.graph_model.specs.Graph.{GraphValue}
 use Rattle.graph_model.specs.Rules.{Accepted}
 use Rattle.graph_model.specs.Need.{IsNeed}
-use Rattle.graph_model.specs.Laws.{OneNeed}
-use Rattle.graph_model.specs.Laws.{WaitsWhereReached, CancelledWhereUnbroken}
+use Rattle.graph_model.specs.Laws.{OneNeed, WaitsWhereReached, CancelledWhereUnbroken}
 use Rattle.std.specs.Io.KnownBytes.{Consumes, IsAtEnd}
 use Rattle.std.proofs.lemmas.Bool.{true≢false}
 use Rattle.std.proofs.lemmas.Option.{none-some, same_Some}

@@ -10,9 +10,9 @@ use Rattle.basics.specs.Lists.{count_below}
 use Rattle.gen_events.specs.declared.handle.Handle.{Handle}
 use Rattle.gen_events.specs.declared.handle.Fate.{Fate}
 use Rattle.gen_events.specs.declared.handle.Answer.TheVariants.{Pending}
-use Rattle.gen_events.specs.Lists.{total}
+use Rattle.basics.specs.Sums.{total}
 use Rattle.gen_events.specs.EventMap.{EventMap, SlotLife, unused, life_at, answer, answer_in, answer_of, fresh, with_life, created_at, placed_on, ended_with, next_handle, MayServe, IsPlaced, IsEventMap, Gives}
-use Rattle.gen_events.proofs.Sums.{total-put}
+use Rattle.basics.proofs.Sums.{total-put}
 use Rattle.gen_events.proofs.MapAnswers.{in_idle, is_now, IsNow, life_here, life_there, split_handle, handle_eq, answer_apart}
 use Rattle.run_state.specs.Run.{LineStage, Unissued, Issued, Ended, stage_at, stage_issued, stage_ended, end_so_far, issued, ended}
 use Rattle.run_state.specs.Start.{start}

@@ -9,14 +9,12 @@ use Rattle.gen_events.specs.declared.handle.Handle.{Handle}
 use Rattle.gen_events.specs.declared.handle.Fate.{Fate}
 use Rattle.gen_events.specs.declared.handle.Answer.{Answer}
 use Rattle.gen_events.specs.declared.handle.Answer.TheVariants.{Pending}
-use Rattle.gen_events.specs.EventMap.{EventMap, SlotLife, unused, life_at, fresh, created_at, placed_on, ended_with, IsFree, Gives, KeepsFree}
-use Rattle.gen_events.specs.EventMap.{with_life, answer, all_on, no_event, IsCreated, IsPlaced, WatchedNow, answer_of}
+use Rattle.gen_events.specs.EventMap.{EventMap, SlotLife, unused, life_at, fresh, created_at, placed_on, ended_with, IsFree, Gives, KeepsFree, with_life, answer, all_on, no_event, IsCreated, IsPlaced, WatchedNow, answer_of}
 use Rattle.gen_events.specs.declared.handle.WatchNow.TheVariants.{Over}
-use Rattle.gen_events.proofs.Sums.{Contains-tail}
+use Rattle.basics.proofs.ListFacts.{contains_there, contains_none, contains_cases, contains_map}
 use Rattle.gen_events.proofs.MapAnswers.{near_some, answer_apart}
 use Rattle.run_core.specs.Events.{EventsValue, IsBusy, AreMarked}
 use Rattle.run_core.proofs.EventFacts.{replicate_at}
-use Rattle.basics.proofs.ListFacts.{contains_none, contains_cases, contains_map}
 
 replicate_get : {X : Type 0} (n i : ℕ) (x y : X) → slice_get (replicate n x) i ≡ Some y → x ≡ y
 replicate_get n i x y e = sym (get_or-replicate n i x x (subst (λ k. i < k) (length-replicate n x) (slice_get_within (replicate n x) i y e))) ∙ get_or_from_slice_get (replicate n x) i y x e
@@ -92,7 +90,7 @@ old_mark busy k b near j a differ at =
 
 busy_placed : (m : EventMap) (h : Handle) (i : ℕ) → h.slot < length m.slots → (k : ℕ) → IsBusy m k → IsBusy (placed_on m h i) k
 busy_placed m h i near k b = elim b [
-  | inl waits ↦ inl (waits.0, waits_stay m h.slot (record { fates = (life_at m h.slot).fates; is_pending = (life_at m h.slot).is_pending; waiting = i ∷ (life_at m h.slot).waiting }) near (λ j c. Contains-tail i j (life_at m h.slot).waiting c) waits.0 k waits.1)
+  | inl waits ↦ inl (waits.0, waits_stay m h.slot (record { fates = (life_at m h.slot).fates; is_pending = (life_at m h.slot).is_pending; waiting = i ∷ (life_at m h.slot).waiting }) near (λ j c. contains_there i (life_at m h.slot).waiting j c) waits.0 k waits.1)
   | inr caught ↦ inr caught
 ]
 

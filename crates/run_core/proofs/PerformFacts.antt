@@ -12,14 +12,13 @@ use Rattle.graph_model.specs.declared.verb.Access.{Access}
 use Rattle.graph_model.specs.Access.{accesses}
 use Rattle.graph_model.specs.Effect.{Cells, CellChange, effect, cells_after}
 use Rattle.graph_model.specs.Evaluation.{eval_end, end_by, made_by, column_of}
-use Rattle.basics.proofs.ListFacts.{map_contains}
+use Rattle.basics.proofs.ListFacts.{map_contains, got_contains}
 use Rattle.line_effects.specs.Moved.{moves, HeldShow}
 use Rattle.line_effects.proofs.MadeFacts.{all_made}
 use Rattle.run_state.specs.Run.{stage_out}
 use Rattle.run_state.specs.Sound.{AccessesColumn}
 use Rattle.run_state.specs.Work.{HoldsAll, cells_now}
 use Rattle.run_state.specs.Laws.{WorkIsAsEvaluated, WorkGivesCells}
-use Rattle.basics.proofs.ListFacts.{got_contains}
 use Rattle.run_core.specs.Core.{CoreValue, IsCore}
 use Rattle.run_core.specs.Works.{WorkValue, column_now, column_left, IsWork, IsFinished}
 

@@ -2,9 +2,9 @@
 use Rattle.std.proofs.Common.{◌≡◌, ℕ, suc, ◌+◌, ◌<◌, ◌≤◌, Bool, true, false, cond, List, [], ◌∷◌, length, refl, ap, arith}
 use Rattle.std.specs.Prelude.{slice_index_or}
 use Rattle.graph_model.specs.Need.{IsNeed}
-use Rattle.gen_events.specs.Lists.{total}
+use Rattle.basics.specs.Sums.{total}
 use Rattle.gen_events.specs.EventMap.{EventMap, SlotLife, unused, life_at, IsFull}
-use Rattle.gen_events.proofs.Sums.{entry_le}
+use Rattle.basics.proofs.Sums.{entry_le}
 use Rattle.run_state.specs.Quiet.{CanTake, Stuck, left_among}
 use Rattle.run_state.specs.Laws.{LeftBelowNeed}
 use Rattle.run_core.specs.Core.{CoreValue, IsCore, created_in, pending_in, count_left}

@@ -9,7 +9,7 @@ use Rattle.graph_model.specs.Need.{IsNeed}
 use Rattle.gen_events.specs.declared.handle.Handle.{Handle}
 use Rattle.gen_events.specs.declared.handle.Answer.{Answer}
 use Rattle.gen_events.specs.declared.handle.Answer.TheVariants.{Pending, Triggered, Poisoned}
-use Rattle.gen_events.specs.Lists.{total}
+use Rattle.basics.specs.Sums.{total}
 use Rattle.gen_events.specs.EventMap.{EventMap, SlotLife, answer, fresh, IsPlaced}
 use Rattle.run_state.specs.Run.{LineStage, Run, stage_at, end_so_far, issued, ended}
 use Rattle.run_state.specs.Sound.{Sound}

@@ -8,12 +8,11 @@ use Rattle.graph_model.specs.declared.outcome.End.TheVariants.{Done, Cancelled}
 use Rattle.graph_model.specs.Graph.{GraphValue}
 use Rattle.graph_model.specs.Rules.{Acquires, Releases}
 use Rattle.graph_model.specs.Evaluation.{is_ended, eval_end}
-use Rattle.basics.proofs.ListFacts.{count_below-max}
+use Rattle.basics.proofs.ListFacts.{count_below-max, got_contains}
 use Rattle.graph_model.specs.Trace.{StandsBefore, IsLawful}
 use Rattle.run_state.specs.Run.{Run, stage_at, time_at, ended, timed}
 use Rattle.run_state.specs.Sound.{Sound}
 use Rattle.run_state.specs.Quiet.{Quiet, ByTimes}
-use Rattle.basics.proofs.ListFacts.{got_contains}
 use Rattle.run_state.proofs.Lists.{ended_over, some_is, is_some_of}
 use Rattle.run_state.proofs.Started.{sources_closed}
 use Rattle.run_state.proofs.Quiet.{quiet_ended, ended_in_evaluation, evaluation_ended}

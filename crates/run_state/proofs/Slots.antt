@@ -6,7 +6,7 @@ use Rattle.std.proofs.Math.Seq.{take-suc}
 use Rattle.std.proofs.lemmas.Bool.{true≢false, cases_lt, lt-ltb, false_from_ne_true, not-true}
 use Rattle.std.proofs.lemmas.List.Sums.{fold_push}
 use Rattle.std.proofs.lemmas.List.Elements.{Contains-append_left, Contains-append_right}
-use Rattle.basics.specs.Lists.{numbers_below}
+use Rattle.basics.specs.Lists.{numbers_below, count_below}
 use Rattle.graph_model.specs.declared.outcome.End.TheVariants.{Done}
 use Rattle.graph_model.specs.declared.verb.Edge.{Edge}
 use Rattle.graph_model.specs.declared.verb.EdgeKind.TheVariants.{Passes}
@@ -19,7 +19,6 @@ use Rattle.graph_model.specs.Rules.{Acquires, Releases}
 use Rattle.graph_model.specs.Evaluation.{eval_end}
 use Rattle.graph_model.specs.Need.{places, rivals, acquires_after, release_edges, need_edges, Precedes, IsHigh, largest, open_at, IsNeed}
 use Rattle.basics.proofs.ListFacts.{contains_none, contains_cases, contains_here, contains_there, contains_map, contains_below}
-use Rattle.basics.specs.Lists.{count_below}
 use Rattle.graph_model.proofs.PathLaws.{path_append}
 use Rattle.graph_model.proofs.ReadyLine.{IsReadyLine, ready_or_never}
 use Rattle.graph_model.proofs.NeedTable.{largest_above}

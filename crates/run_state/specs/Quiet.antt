@@ -1,7 +1,7 @@
 -- A run in which nothing is out and nothing can be taken.
 use Rattle.std.specs.Prelude.{◌≡◌, ◌≢◌, ℕ, ◌<◌, ◌⊎◌, ◌↔◌, Bool, false, not, List, [], length, map, Contains, IsTrue, Option, Some, None, slice_get, slice_index}
 use Rattle.std.specs.List.{list_any}
-use Rattle.basics.specs.Lists.{numbers_below}
+use Rattle.basics.specs.Lists.{numbers_below, count_below}
 use Rattle.graph_model.specs.declared.outcome.End.{End}
 use Rattle.graph_model.specs.declared.outcome.End.TheVariants.{Done, Cancelled}
 use Rattle.graph_model.specs.declared.outcome.Outcome.{Outcome}
@@ -13,7 +13,6 @@ use Rattle.graph_model.specs.Edges.{edges, edges_into}
 use Rattle.graph_model.specs.Rules.{Acquires}
 use Rattle.graph_model.specs.Evaluation.{cancels, eval_end, answer_of, outcome}
 use Rattle.graph_model.specs.Trace.{IsLawful}
-use Rattle.basics.specs.Lists.{count_below}
 use Rattle.run_state.specs.Run.{LineStage, Run, Issued, Place, Home, Had, stage_at, time_at, place_at, list_at, end_so_far, issued, ended, over, out}
 use Rattle.run_state.specs.Sound.{AccessesColumn}
 

@@ -1,6 +1,5 @@
-use Rattle.std.proofs.Common.{◌+◌, length, subst, sym}
+use Rattle.std.proofs.Common.{◌+◌, length, subst, sym, ◌≡◌, ℕ, ◌<◌, ◌≤◌, List}
 use Rattle.race_check.specs.Sweep.{IsTally, most_open}
-use Rattle.std.proofs.Common.{◌≡◌, ℕ, ◌<◌, ◌≤◌, List}
 use Rattle.std.specs.Prelude.{slice_index}
 use Rattle.race_check.proofs.NeedSteps.{highs_small, highs_tallied, need_is, IsTallyOf}
 use Rattle.race_check.proofs.need.need_of.Goals as goal

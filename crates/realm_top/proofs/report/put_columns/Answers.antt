@@ -1,6 +1,5 @@
-use Rattle.std.proofs.Common.{◌++◌, ap, ◌∙◌}
+use Rattle.std.proofs.Common.{◌++◌, ap, ◌∙◌, ◌+◌, drop}
 use Rattle.realm_io.proofs.WrittenLaws.{stops, goes_on, breaks_off}
-use Rattle.std.proofs.Common.{◌+◌, drop}
 use Rattle.realm_top.specs.Texts.{cells_texts, column_texts}
 use Rattle.realm_top.proofs.ReportRest.{columns_left, column_named}
 use Rattle.realm_top.proofs.report.put_columns.Goals as goal

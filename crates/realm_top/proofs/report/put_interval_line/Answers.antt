@@ -1,7 +1,6 @@
-use Rattle.std.proofs.Common.{◌∷◌, ◌++◌, sym, subst}
+use Rattle.std.proofs.Common.{◌∷◌, ◌++◌, sym, subst, ◌≡◌, ◌+◌, ◌-◌, take, drop, ap, arith}
 use Rattle.realm_io.specs.Written.{Writes}
 use Rattle.realm_io.proofs.WrittenLaws.{then_writes, stops, stopped_early, stopped_later}
-use Rattle.std.proofs.Common.{◌≡◌, ◌+◌, ◌-◌, take, drop, ap, arith}
 use Rattle.realm_top.specs.Texts.{interval_text}
 use Rattle.realm_top.proofs.ReportRest.{interval_parts}
 use Rattle.realm_top.proofs.report.put_interval_line.Goals as goal

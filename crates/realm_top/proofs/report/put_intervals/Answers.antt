@@ -1,7 +1,6 @@
-use Rattle.std.proofs.Common.{◌∷◌, ◌++◌, sym, subst, ap, arith}
+use Rattle.std.proofs.Common.{◌∷◌, ◌++◌, sym, subst, ap, arith, ◌≡◌, ◌+◌, ◌-◌, ℕ, get_or, drop}
 use Rattle.realm_io.proofs.WrittenLaws.{stops, goes_on, breaks_off, Progress}
 use Rattle.realm_top.specs.Texts.{cells_texts}
-use Rattle.std.proofs.Common.{◌≡◌, ◌+◌, ◌-◌, ℕ, get_or, drop}
 use Rattle.realm_top.proofs.ReportRest.{interval_here, cells_left}
 use Rattle.realm_top.proofs.report.put_intervals.Goals as goal
 

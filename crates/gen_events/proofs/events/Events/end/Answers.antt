@@ -1,6 +1,6 @@
 use Rattle.std.proofs.Common.{rules, arith, ◌≡◌, ◌∙◌, ap, sym, subst, [], refl, ◌<◌, ◌≤◌}
 use Rattle.std.specs.Prelude.{Contains}
-use Rattle.gen_events.specs.Lists.{total, below}
+use Rattle.basics.specs.Sums.{total, below}
 use Rattle.gen_events.specs.declared.handle.Shape.{Shape}
 use Rattle.gen_events.specs.Rule.{Follows}
 use Rattle.gen_events.specs.Seats.{slots_of, last_gen_of}
