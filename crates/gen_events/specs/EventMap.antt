@@ -76,6 +76,11 @@ pub record MayServe (m : EventMap) (i : ℕ) : Type 0 where
   pub idle : (life_at m i).is_pending ≡ false
   pub left : length (life_at m i).fates ≤ m.last_gen
 
+-- the slot is retired: its last generation has ended
+pub record IsRetired (m : EventMap) (i : ℕ) : Type 0 where
+  pub near : i < length m.slots
+  pub over : m.last_gen < length (life_at m i).fates
+
 -- each slot is pending or retired
 abbrev pub IsFull : EventMap → Type 0
 IsFull m = (i : ℕ) → MayServe m i → ⊥

@@ -13,20 +13,10 @@ use Rattle.graph_model.specs.declared.verb.Verb.TheVariants.{User, Phase, Arrive
 use Rattle.graph_model.specs.Graph.{GraphValue, verb_at, line_passes, is_user, is_phase, ends_user, never_comes}
 use Rattle.graph_model.specs.Edges.{edge, edges_from_some, verb_edges, line_edges, edges_after, edges}
 use Rattle.graph_model.specs.Path.{Path, HasPath, last, first}
+use Rattle.basics.proofs.ListFacts.{got_behind, got_in, contains_none, contains_here, passes_some}
 use Rattle.graph_model.specs.Fits.{line_fault, line_tests, takes_no_on, verb_unlike, LinesFit, IsGraph}
-use Rattle.basics.proofs.ListFacts.{contains_none, contains_here, passes_some}
 use Rattle.graph_model.proofs.GraphFacts.{none_first}
 use Rattle.graph_model.proofs.VerbFacts.{passes_verb, verb_passes, verb_line, user_is, phase_is, never_as, from_some_to, from_some_has, verb_edge_to}
-
--- places in lists
-got_behind : {X : Type 0} (xs : List X) (y : X) (ys : List X) → slice_get (xs ++ y ∷ ys) (length xs) ≡ Some y
-got_behind [] y ys = refl
-got_behind (x ∷ xs) y ys = got_behind xs y ys
-
-pub got_in : {X : Type 0} (xs ys : List X) (k : ℕ) (x : X) → slice_get xs k ≡ Some x → slice_get (xs ++ ys) k ≡ Some x
-got_in [] ys k x h = absurd (none-some x h)
-got_in (y ∷ xs) ys zero x h = h
-got_in (y ∷ xs) ys (suc k) x h = got_in xs ys k x h
 
 -- the edges of each line are among those of the graph
 pub line_edges_in : (before ls : List Line) (k : ℕ) (l : Line) → slice_get ls k ≡ Some l → (b : List Line) × (length b ≡ length before + k) × ((e : Edge) → Contains (line_edges b l) e → Contains (edges_after before ls) e)

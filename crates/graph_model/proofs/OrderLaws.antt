@@ -7,7 +7,7 @@ use Rattle.graph_model.specs.declared.verb.Edge.{Edge}
 use Rattle.graph_model.specs.Graph.{GraphValue}
 use Rattle.graph_model.specs.Edges.{edges}
 use Rattle.graph_model.specs.Evaluation.{Step, has_ended, eval_end, is_ended, evaluation, order}
-use Rattle.basics.proofs.ListFacts.{got_contains, contains_none, contains_cases, contains_here, contains_there, some_passes, passes_some, map_contains, contains_map}
+use Rattle.basics.proofs.ListFacts.{got_contains, got_in, got_behind, contains_none, contains_cases, contains_here, contains_there, some_passes, passes_some, map_contains, contains_map}
 use Rattle.graph_model.proofs.Waiting.{end_in_left, end_in_ended, steps_end}
 use Rattle.graph_model.proofs.Turns.{turns_after}
 use Rattle.graph_model.proofs.Confluence.{Fresh, steps_fresh, order_round}
@@ -45,16 +45,6 @@ once_in (s ∷ ss) f zero (suc m) i hk hm = absurd (true≢false (sym (listed_en
 once_in (s ∷ ss) f (suc k) zero i hk hm = absurd (true≢false (sym (listed_ended ss i (got_contains (lines_of ss) k i hk)) ∙ (ap (has_ended ss) (sym (same_Some s.line i hm)) ∙ f.0)))
 once_in (s ∷ ss) f (suc k) (suc m) i hk hm = ap suc (once_in ss f.1 k m i hk hm)
 
--- places before a line, and its own
-got_before : (xs ys : List ℕ) (k i : ℕ) → k < length xs → slice_get xs k ≡ Some i → slice_get (xs ++ ys) k ≡ Some i
-got_before [] ys k i h g = absurd (omega arith)
-got_before (x ∷ xs) ys zero i h g = g
-got_before (x ∷ xs) ys (suc k) i h g = got_before xs ys k i (omega arith) g
-
-got_at : (xs : List ℕ) (y : ℕ) (ys : List ℕ) → slice_get (xs ++ y ∷ ys) (length xs) ≡ Some y
-got_at [] y ys = refl
-got_at (x ∷ xs) y ys = got_at xs y ys
-
 -- each source of a line stands before it
 pub source_before : (g : GraphValue) (e : Edge) → Contains (edges g) e → Contains (order g) e.to → StandsBefore (order g) e.from e.to
 source_before g e c to =
@@ -62,7 +52,7 @@ source_before g e c to =
     let there : Contains (lines_of t.0) e.from = ended_listed t.0 e.from (t.1.ready.sources e c refl) in
     let k = listed_is_got (lines_of t.0) e.from there in
     subst (λ xs. StandsBefore xs e.from e.to) (sym (order_round g e.to t.0 t.1))
-    (k.0, length (lines_of t.0), got_before (lines_of t.0) (e.to ∷ lines_of t.1.after) k.0 e.from k.1 k.2, got_at (lines_of t.0) e.to (lines_of t.1.after), k.1)
+    (k.0, length (lines_of t.0), got_in (lines_of t.0) (e.to ∷ lines_of t.1.after) k.0 e.from k.2, got_behind (lines_of t.0) e.to (lines_of t.1.after), k.1)
 
 pub order_lists_ended : OrderListsEnded
 order_lists_ended g = record {

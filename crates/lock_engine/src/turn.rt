@@ -2,7 +2,7 @@
 
 ghost use Rattle.std.specs.Prelude.{◌≡◌, ◌≤◌, ◌<◌, ℕ, None, Some, IfOk, length, slice_get};
 ghost use Rattle.graph_model.specs.Evaluation.{outcome as evaluated};
-ghost use Rattle.graph_model.specs.Trace.{IsLawful};
+ghost use Rattle.graph_model.specs.Trace.{IsLawful, SectionsApart};
 ghost use Rattle.run_core.specs.Finishing.{NothingOut};
 ghost use Rattle.lock_engine.specs.Seats.{IsResting, view_of};
 ghost use Rattle.lock_engine.specs.Rule.{all_parts};
@@ -84,7 +84,8 @@ impl<'g> Turn<'g> {
 
 /// Runs a graph by so many workers, at most eight, and answers the outcome of its evaluation, with
 /// the ended lines in the order in which they ended. A worker passes the gate before it performs a
-/// line. What the workers leave is done at the end, without the gate.
+/// line. What the workers leave is done at the end, without the gate. In the trace, between an acquire
+/// that is done and its release no other acquire of that reservation that is done stands.
 pub fn run_turn<'g, R: Threads + Wait + Sync, G: Gate>(
     rt: &R,
     turn: Turn<'g>,
@@ -94,6 +95,7 @@ pub fn run_turn<'g, R: Threads + Wait + Sync, G: Gate>(
     requires workers { workers ≤ 8 }
     ensures outcome { result ≡ evaluated turn.entry result.trace }
     ensures lawful { IsLawful turn.entry result.trace }
+    ensures sections { SectionsApart turn.entry result.trace }
     ensures lines { (k i : ℕ) → slice_get result.trace k ≡ Some i → i < length turn.entry.lines }
 {
     let Turn {

@@ -1,6 +1,6 @@
 -- What a run on one thread keeps.
 use Rattle.std.proofs.Common.{◌≡◌, ℕ, ◌+◌, ◌<◌, ◌≤◌, Bool, true, false, not, ◌⊎◌, inl, inr, List, length, length-set, refl, sym, ◌∙◌, ap, subst, arith}
-use Rattle.std.specs.Prelude.{◌≢◌, slice_set}
+use Rattle.std.specs.Prelude.{◌≢◌, Some, None, is_some, slice_get, slice_set, [], ◌∷◌}
 use Rattle.std.proofs.lemmas.Bool.{true≢false, cases_eq}
 use Rattle.std.proofs.lemmas.List.{get_or-set_same, get_or-set_other, set-set}
 use Rattle.graph_model.specs.declared.outcome.End.{End}
@@ -9,18 +9,18 @@ use Rattle.graph_model.specs.declared.verb.Access.{Access}
 use Rattle.graph_model.specs.Graph.{GraphValue}
 use Rattle.graph_model.specs.Access.{accesses}
 use Rattle.graph_model.specs.Evaluation.{eval_end}
-use Rattle.basics.proofs.ListFacts.{count_below-le, fewer_below, map_contains}
+use Rattle.basics.proofs.ListFacts.{count_below-le, fewer_below, map_contains, got_in}
 use Rattle.basics.specs.Lists.{count_below}
 use Rattle.gen_events.specs.declared.handle.Handle.{Handle}
 use Rattle.gen_events.specs.EventMap.{SlotLife, IsFull}
-use Rattle.run_state.specs.Run.{LineStage, Unissued, Issued, Out, Ending, Ended, Run, stage_at, stage_issued, stage_ended, stage_out, issued, out, ended}
+use Rattle.run_state.specs.Run.{LineStage, Unissued, Issued, Out, Ending, Ended, Run, stage_at, time_at, stage_issued, stage_ended, stage_out, issued, out, ended, timed}
 use Rattle.run_state.specs.Quiet.{CanTake, IsFree, Quiet}
 use Rattle.run_state.specs.Moves.{claim}
 use Rattle.run_state.specs.WholeLine.{column_list, take_whole}
 use Rattle.run_core.specs.Core.{CoreValue, IsCore}
 use Rattle.run_core.specs.Works.{WorkValue, FinishedValue}
 use Rattle.run_core.specs.Steps.{with_issue, IsLeft, IsHeldBy, StandsBy, with_run, Takes, Attempts, with_end, handle_at, Wakes, Issues}
-use Rattle.run_core.specs.Finishing.{NothingOut, left_to_do, GoesOn, IsStill}
+use Rattle.run_core.specs.Finishing.{NothingOut, left_to_do, Stays, GoesOn, IsStill}
 use Rattle.run_core.specs.declared.answers.Attempt.{Attempt}
 use Rattle.run_core.specs.declared.answers.Attempt.TheVariants as attempts
 use Rattle.run_core.specs.declared.answers.Issue.{Issue}
@@ -30,15 +30,40 @@ use Rattle.run_core.specs.declared.answers.Thing.TheVariants as things
 use Rattle.run_core.proofs.CoreFacts.{may_issue, line_near}
 use Rattle.run_core.proofs.EventFacts.{at_contains, lt_unless}
 
+-- WHAT STAYS
+stays_same : (c : CoreValue) → Stays c c
+stays_same c = record { handles = λ i h e. e; ends = λ i x e. e; times = λ i t e. e }
+
+stays_further : (a b c : CoreValue) → Stays a b → Stays b c → Stays a c
+stays_further a b c x y = record {
+  handles = λ i h e. y.handles i h (x.handles i h e);
+  ends = λ i z e. y.ends i z (x.ends i z e);
+  times = λ i t e. y.times i t (x.times i t e);
+}
+
+-- where the handles go on, and one line that had not ended and had no time goes on
+stays_by_line : (old new : CoreValue) (k : ℕ) (s : LineStage) → ((i : ℕ) (h : Handle) → slice_get old.handles i ≡ Some h → slice_get new.handles i ≡ Some h)
+    → new.run.stages ≡ slice_set old.run.stages k s → ((x : End) → stage_at old.run.stages k ≡ Ended x → ⊥)
+    → ((i t : ℕ) → time_at old.run.times i ≡ Some t → time_at new.run.times i ≡ Some t) → Stays old new
+stays_by_line old new k s handles stages going times = record {
+  «handles» = handles;
+  ends = λ i x e. elim (cases_eq i k) [
+    | inl same ↦ absurd (going x (subst (λ j. stage_at old.run.stages j ≡ Ended x) same e))
+    | inr other ↦ ap (λ ss. stage_at ss i) stages ∙ (get_or-set_other old.run.stages k i s Unissued other ∙ e)
+  ];
+  «times» = times;
+}
+
 -- ONE STEP AFTER ANOTHER
 pub goes_nowhere : (c : CoreValue) → NothingOut c → GoesOn c c
-goes_nowhere c nothing = record { graph = refl; slots = refl; nothing_out = nothing; left = omega arith }
+goes_nowhere c nothing = record { graph = refl; slots = refl; nothing_out = nothing; stays = stays_same c; left = omega arith }
 
 pub goes_further : (a b c : CoreValue) → GoesOn a b → GoesOn b c → GoesOn a c
 goes_further a b c x y = record {
   graph = y.graph ∙ x.graph;
   slots = y.slots ∙ x.slots;
   nothing_out = y.nothing_out;
+  stays = stays_further a b c x.stays y.stays;
   left = (let one : left_to_do b ≤ left_to_do a = x.left in let other : left_to_do c ≤ left_to_do b = y.left in omega (arith, one, other));
 }
 
@@ -52,11 +77,12 @@ still_further a b c x y = record { graph = y.graph ∙ x.graph; run = y.run ∙ 
 abbrev pub left_in : List LineStage → ℕ → ℕ
 left_in stages n = count_below (λ i. not (issued stages i)) n + count_below (λ i. not (ended stages i)) n
 
-pub goes_by_stages : (old new : CoreValue) → new.graph ≡ old.graph → length new.table.slots ≡ length old.table.slots → (stages : List LineStage) → new.run.stages ≡ stages → ((i : ℕ) → out stages i ≡ false) → left_in stages (length old.graph.lines) ≤ left_to_do old → GoesOn old new
-goes_by_stages old new graph slots stages is nothing left = record {
+pub goes_by_stages : (old new : CoreValue) → new.graph ≡ old.graph → length new.table.slots ≡ length old.table.slots → (stages : List LineStage) → new.run.stages ≡ stages → ((i : ℕ) → out stages i ≡ false) → Stays old new → left_in stages (length old.graph.lines) ≤ left_to_do old → GoesOn old new
+goes_by_stages old new graph slots stages is nothing stays left = record {
   «graph» = graph;
   «slots» = slots;
   nothing_out = λ i. ap (λ ss. out ss i) is ∙ nothing i;
+  «stays» = stays;
   «left» = subst (λ n. n ≤ left_to_do old) (sym (ap (λ ss. left_in ss (length new.graph.lines)) is ∙ ap (λ (g : GraphValue). left_in stages (length g.lines)) graph)) left;
 }
 
@@ -64,7 +90,12 @@ pub fewer_by_stages : (old new : CoreValue) → new.graph ≡ old.graph → (sta
 fewer_by_stages old new graph stages is left = subst (λ n. n < left_to_do old) (sym (ap (λ ss. left_in ss (length new.graph.lines)) is ∙ ap (λ (g : GraphValue). left_in stages (length g.lines)) graph)) left
 
 pub still_goes : (old new : CoreValue) → NothingOut old → IsStill old new → length new.table.slots ≡ length old.table.slots → GoesOn old new
-still_goes old new nothing still slots = goes_by_stages old new still.graph slots old.run.stages (ap (λ (r : Run). r.stages) still.run) nothing (omega arith)
+still_goes old new nothing still slots = goes_by_stages old new still.graph slots old.run.stages (ap (λ (r : Run). r.stages) still.run) nothing
+    (record {
+      handles = λ i h e. ap (λ hs. slice_get hs i) still.handles ∙ e;
+      ends = λ i x e. ap (λ (r : Run). stage_at r.stages i) still.run ∙ e;
+      times = λ i t e. ap (λ (r : Run). time_at r.times i) still.run ∙ e;
+    }) (omega arith)
 
 -- A LINE AT ANOTHER STAGE, which is issued and not out
 module _ (stages : List LineStage) (i : ℕ) (s : LineStage) (near : i < length stages) (goes : stage_issued s ≡ true) (back : stage_out s ≡ false) (left : ended stages i ≡ false) where
@@ -153,18 +184,22 @@ cancelled_or_not Waiting = inr (λ e. cc)
 pub record GoesOut (old mid : CoreValue) (i : ℕ) : Type 0 where
   pub graph : mid.graph ≡ old.graph
   pub stages : mid.run.stages ≡ slice_set old.run.stages i Out
+  pub times : mid.run.times ≡ old.run.times
+  pub handles : mid.handles ≡ old.handles
   pub slots : length mid.table.slots ≡ length old.table.slots
 
 pub goes_out : (old mid : CoreValue) (w : WorkValue) → Takes old mid w → GoesOut old mid w.line
 goes_out old mid w takes = elim (cancelled_or_not (eval_end old.graph w.line)) [
-  | inl cancelled ↦ by_run (claim old.run w.line) (takes.claimed cancelled) refl
-  | inr runs ↦ by_run (take_whole old.graph old.run w.line) (takes.taken runs).2 refl
+  | inl cancelled ↦ by_run (claim old.run w.line) (takes.claimed cancelled) refl refl
+  | inr runs ↦ by_run (take_whole old.graph old.run w.line) (takes.taken runs).2 refl refl
 ]
   where
-    by_run : (run : Run) → mid ≡ with_run old run → run.stages ≡ slice_set old.run.stages w.line Out → GoesOut old mid w.line
-    by_run run is shape = record {
+    by_run : (run : Run) → mid ≡ with_run old run → run.stages ≡ slice_set old.run.stages w.line Out → run.times ≡ old.run.times → GoesOut old mid w.line
+    by_run run is shape timed = record {
       graph = ap (λ (c : CoreValue). c.graph) is;
       stages = ap (λ (c : CoreValue). c.run.stages) is ∙ shape;
+      times = ap (λ (c : CoreValue). c.run.times) is ∙ timed;
+      handles = ap (λ (c : CoreValue). c.handles) is;
       slots = ap (λ (c : CoreValue). length c.table.slots) is;
     }
 
@@ -198,8 +233,26 @@ module _ (old mid new : CoreValue) (w : WorkValue) (f : FinishedValue) (core : I
   pub ran_less : left_to_do new < left_to_do old
   ran_less = fewer_by_stages old new graph_after (slice_set old.run.stages i (Ended f.ends)) stages_after less
 
+  -- the line that ends had no time before
+  untimed : (t : ℕ) → time_at old.run.times i ≡ Some t → ⊥
+  untimed t e =
+      let out : stage_at mid.run.stages w.line ≡ Out = takes.work.is_out in
+      let none : timed mid.run.times w.line ≡ false = core.at_rest.out_untimed w.line (ap stage_out out) in
+      true≢false (sym (ap is_some (ap (λ ts. time_at ts w.line) gone.times ∙ (ap (time_at old.run.times) this ∙ e))) ∙ none)
+
+  times_after : (j t : ℕ) → time_at old.run.times j ≡ Some t → time_at new.run.times j ≡ Some t
+  times_after j t e = elim (cases_eq j i) [
+    | inl same_line ↦ absurd (untimed t (subst (λ k. time_at old.run.times k ≡ Some t) same_line e))
+    | inr other ↦ ap (λ (c : CoreValue). time_at c.run.times j) put
+        ∙ (get_or-set_other mid.run.times f.line j (Some mid.run.clock) None (λ k. other (k ∙ (same ∙ this))) ∙ (ap (λ ts. time_at ts j) gone.times ∙ e))
+  ]
+
+  stays_after : Stays old new
+  stays_after = stays_by_line old new i (Ended f.ends) (λ j h e. ap (λ (c : CoreValue). slice_get c.handles j) put ∙ (ap (λ hs. slice_get hs j) gone.handles ∙ e)) stages_after
+      (λ x e. true≢false (sym (ap stage_ended e) ∙ ap stage_ended was_issued)) times_after
+
   pub ran_on : GoesOn old new
-  ran_on = goes_by_stages old new graph_after slots_after (slice_set old.run.stages i (Ended f.ends)) stages_after (none_out_after old.run.stages i (Ended f.ends) within refl refl (ap stage_ended was_issued) nothing)
+  ran_on = goes_by_stages old new graph_after slots_after (slice_set old.run.stages i (Ended f.ends)) stages_after (none_out_after old.run.stages i (Ended f.ends) within refl refl (ap stage_ended was_issued) nothing) stays_after
       (let l : left_in (slice_set old.run.stages i (Ended f.ends)) (length old.graph.lines) < left_to_do old = less in omega (arith, l))
 
   pub graph_out : mid.graph ≡ old.graph
@@ -226,6 +279,8 @@ module _ (old new : CoreValue) (h : Handle) (core : IsCore old) (nothing : Nothi
   pub issued_goes : GoesOn old new
   issued_goes = goes_by_stages old new (ap (λ (c : CoreValue). c.graph) is) (ap (λ (c : CoreValue). length c.table.slots) is ∙ length-set old.table.slots h.slot _) (slice_set old.run.stages (length old.handles) Issued) (ap (λ (c : CoreValue). c.run.stages) is)
       (none_out_after old.run.stages (length old.handles) Issued place refl refl (ap stage_ended was_unissued) nothing)
+      (stays_by_line old new (length old.handles) Issued (λ i k e. ap (λ (c : CoreValue). slice_get c.handles i) is ∙ got_in old.handles (h ∷ []) i k e) (ap (λ (c : CoreValue). c.run.stages) is)
+      (λ x e. true≢false (sym (ap stage_ended e) ∙ ap stage_ended was_unissued)) (λ i t e. ap (λ (c : CoreValue). time_at c.run.times i) is ∙ e))
       (let l : left_in (slice_set old.run.stages (length old.handles) Issued) (length old.graph.lines) < left_to_do old = issue_less in omega (arith, l))
 
 -- A SCAN. So far nothing moved, and none of the first lines can be taken, or less is left

@@ -11,7 +11,7 @@ use Rattle.graph_model.specs.declared.outcome.Answer.{Answer}
 use Rattle.gen_events.specs.declared.handle.Handle.{Handle}
 use Rattle.gen_events.specs.declared.handle.Answer.{Answer as EventAnswer}
 use Rattle.gen_events.specs.EventMap.{EventMap, answer}
-use Rattle.graph_model.proofs.EdgeFacts.{got_in}
+use Rattle.basics.proofs.ListFacts.{got_in}
 use Rattle.graph_model.specs.Graph.{GraphValue, verb_at}
 use Rattle.run_state.specs.Run.{end_so_far}
 use Rattle.run_core.specs.Answers.{answer_shown, phase_for, phase_of_line, AsksHandles}

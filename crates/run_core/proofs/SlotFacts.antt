@@ -3,7 +3,7 @@ use Rattle.std.proofs.Common.{◌≡◌, ℕ, suc, ◌+◌, ◌<◌, ◌≤◌, 
 use Rattle.std.specs.Prelude.{slice_index_or}
 use Rattle.graph_model.specs.Need.{IsNeed}
 use Rattle.basics.specs.Sums.{total}
-use Rattle.gen_events.specs.EventMap.{EventMap, SlotLife, unused, life_at, IsFull}
+use Rattle.gen_events.specs.EventMap.{EventMap, SlotLife, unused, life_at, IsRetired, IsFull}
 use Rattle.basics.proofs.Sums.{entry_le}
 use Rattle.run_state.specs.Quiet.{CanTake, Stuck, left_among}
 use Rattle.run_state.specs.Laws.{LeftBelowNeed}
@@ -52,3 +52,12 @@ free_slot law c core nothing none left few n need full =
     let short : length c.handles < length c.graph.lines = left in
     omega (arith, fates, last, short, few)) full) in
     omega (arith, below, slots, pending, each)
+
+-- no slot is retired while a line is left to issue: it has served less often than lines were issued
+pub none_retired : (c : CoreValue) → IsCore c → length c.graph.lines ≤ 8192 → IsLeft c → (i : ℕ) → IsRetired c.table i → ⊥
+none_retired c core few left i retired =
+    let fates : length (life_at c.table i).fates ≤ length c.handles = created_few c.table (length c.handles) i core.events.all_created retired.near in
+    let last : c.table.last_gen ≡ 8191 = core.events.last in
+    let over : c.table.last_gen < length (life_at c.table i).fates = retired.over in
+    let short : length c.handles < length c.graph.lines = left in
+    absurd (omega (arith, fates, last, over, short, few))

@@ -66,9 +66,13 @@ pub record AreEvents (g : GraphValue) (stages : List LineStage) (handles : List 
   -- a line stands on the handle of one that it waits for
   pub waits : (i : ℕ) (h : Handle) → IsPlaced table i h → (j : ℕ) × (slice_get handles j ≡ Some h) × WaitsFor g i j
 
+-- how many slots were given to the run: its table has just so many
+abbrev pub slots_given : CoreValue → ℕ
+slots_given c = length c.table.slots
+
 -- a core: its run is sound, nothing is half done, and there are slots enough
 pub record IsCore (c : CoreValue) : Type 0 where
   pub sound : Sound c.graph c.run
   pub at_rest : AtRest c.graph c.run
   pub events : AreEvents c.graph c.run.stages c.handles c.table
-  pub slots : (n : ℕ) → IsNeed c.graph n → n ≤ length c.table.slots
+  pub slots : (n : ℕ) → IsNeed c.graph n → n ≤ slots_given c

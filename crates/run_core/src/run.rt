@@ -65,8 +65,10 @@ impl<'g> Model for Core<'g> {
 }
 
 impl<'g> Core<'g> {
-    ghost use Rattle.std.specs.Prelude.{◌≡◌, ◌≤◌, IfOk};
-    ghost use Rattle.run_core.specs.Core.{unissued, IsCore};
+    ghost use Rattle.std.specs.Prelude.{◌≡◌, ℕ, ◌≤◌, IfOk};
+    ghost use Rattle.run_core.specs.Core.{unissued, slots_given, IsCore};
+    ghost use Rattle.run_core.specs.Steps.{IsLeft};
+    ghost use Rattle.gen_events.specs.EventMap.{IsRetired};
     ghost use Rattle.run_core.specs.Finishing.{NothingOut};
 
     /// A core in which no line is issued, with this many event slots. Slots go from the graph's need
@@ -75,6 +77,7 @@ impl<'g> Core<'g> {
         requires enough { checked.now.need ≤ slots }
         requires most { slots ≤ 8192 }
         ensures core { IfOk result (λ core. core ≡ unissued checked.now.graph slots) }
+        ensures slots { IfOk result (λ core. slots_given core ≡ slots) }
         ensures nothing_out { IfOk result (λ core. NothingOut core) }
     {
         start_is_sound();
@@ -107,10 +110,12 @@ impl<'g> Core<'g> {
     }
 
     /// What holds of each core: its run is sound, nothing is half done, its handles are those of its
-    /// table, and it has slots enough.
+    /// table, and its slots are those that were given, at least as many as the graph needs. No slot
+    /// retires while a line is left to issue.
     pub fn is_sound(&self)
-        ensures { IsCore self.now }
+        ensures sound { IsCore self.now }
+        ensures none_retired { IsLeft self.now → (i : ℕ) → IsRetired self.now.table i → ⊥ }
     {
-        let _trace = &self.trace;
+        let _ = self.checked.graph().lines();
     }
 }

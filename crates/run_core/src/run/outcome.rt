@@ -16,6 +16,7 @@ use crate::progress::Progress;
 use crate::run::Core;
 use crate::sources::end_of;
 use graph_model::graph::Graph;
+use graph_model::laws::sections_never_overlap;
 use graph_model::lists::{AnswerList, EndList, LineList, ValueList};
 use graph_model::outcome::{Answer, End, Outcome};
 use graph_model::verb::Verb;
@@ -55,21 +56,24 @@ impl<'g> Core<'g> {
     ghost use Rattle.gen_events.specs.EventMap.{answer};
     ghost use Rattle.gen_events.specs.declared.handle.Handle.{Handle as TheHandle};
     ghost use Rattle.graph_model.specs.Evaluation.{outcome};
-    ghost use Rattle.graph_model.specs.Trace.{IsLawful};
+    ghost use Rattle.graph_model.specs.Trace.{IsLawful, SectionsApart};
     ghost use Rattle.run_state.specs.Quiet.{Quiet, ByTimes};
     ghost use Rattle.run_core.specs.Answers.{AsksHandles};
 
     /// What a quiet run gives: the outcome of the evaluation, with the ended lines in the order in
-    /// which they ended as the trace. Each answer is asked of the line's handle.
+    /// which they ended as the trace. Each answer is asked of the line's handle. Between an acquire that
+    /// is done and its release no other acquire of that reservation that is done stands in the trace.
     pub fn outcome(self) -> Outcome
         requires quiet { Quiet self.graph self.run }
         ensures outcome { result ≡ outcome self.entry.graph result.trace }
         ensures lawful { IsLawful self.entry.graph result.trace }
+        ensures sections { SectionsApart self.entry.graph result.trace }
         ensures times { ByTimes self.entry.run result.trace }
         ensures asked { AsksHandles self.entry.handles self.entry.table result.answers }
         ensures lines { (k i : ℕ) → slice_get result.trace k ≡ Some i → i < length self.entry.graph.lines }
     {
         quiet_gives_outcome();
+        sections_never_overlap();
         slots_are_by_times();
         clock_is_small();
         let Core {

@@ -1,9 +1,15 @@
 use Rattle.std.proofs.Common.{◌≡◌, ◌<◌, ℕ, Some, length, ◌∙◌, subst}
 use Rattle.std.specs.Prelude.{slice_get}
 use Rattle.graph_model.specs.Graph.{GraphValue}
+use Rattle.graph_model.specs.Trace.{SectionsApart}
 use Rattle.lock_engine.proofs.turn.run_turn.Goals as goal
 
 pub returns-clause-lines : goal.returns-clause-lines
 returns-clause-lines g c =
     subst (λ (h : GraphValue). (k i : ℕ) → slice_get c.outcome.result.trace k ≡ Some i → i < length h.lines)
     (c.finish.ensures.goes_on.graph ∙ (c.last_core-core.ensures.graph ∙ (c.turn.invariant.key ∙ c.turn.view_is))) c.outcome.ensures.lines
+
+pub returns-clause-sections : goal.returns-clause-sections
+returns-clause-sections g c =
+    subst (λ (h : GraphValue). SectionsApart h c.outcome.result.trace)
+    (c.finish.ensures.goes_on.graph ∙ (c.last_core-core.ensures.graph ∙ (c.turn.invariant.key ∙ c.turn.view_is))) c.outcome.ensures.sections

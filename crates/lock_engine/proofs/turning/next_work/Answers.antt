@@ -30,4 +30,4 @@ pub returns-clause-work : goal.returns-clause-work
 returns-clause-work g c =
     let taken = line_taken c.serve-work.result in
     let served = served_from c.args.seat.now.me.0 c.take_turn-core.new.seat.me.0 c.take_turn-core.result c.serve-work.new.core c.args.done taken c.requires.done c.take_turn-core.ensures.view c.serve-work.ensures.serves in
-    subst (λ (v : View). HasWork v c.serve-work.result) (sym (c.give_turn.ensures.view taken served)) (has_work c.take_turn-core.new.seat.me.0 c.serve-work.new.core c.serve-work.result c.is_sound.ensures c.serve-work.ensures.work)
+    subst (λ (v : View). HasWork v c.serve-work.result) (sym (c.give_turn.ensures.view taken served)) (has_work c.take_turn-core.new.seat.me.0 c.serve-work.new.core c.serve-work.result c.is_sound.ensures.sound c.serve-work.ensures.work)

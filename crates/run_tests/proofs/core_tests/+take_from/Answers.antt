@@ -17,7 +17,7 @@ returns-in_default t c =
 
 -- the work of the line that was taken is still its work
 pub put_back-requires : goal.put_back-requires
-put_back-requires t c = c.perform-finished.ensures.finished c.take_from-others.new.core c.is_sound.ensures (sym c.graph-2.ensures) (c.take_from-others.ensures.works c.in-Taken.work c.in-Taken.ensures.answer.1.work)
+put_back-requires t c = c.perform-finished.ensures.finished c.take_from-others.new.core c.is_sound.ensures.sound (sym c.graph-2.ensures) (c.take_from-others.ensures.works c.in-Taken.work c.in-Taken.ensures.answer.1.work)
 
 pub returns-clause-out : goal.returns-clause-out
 returns-clause-out t c =

@@ -1,7 +1,7 @@
 use Rattle.std.specs.Prelude.{Some, slice_get}
 use Rattle.basics.specs.Lists.{numbers_below}
 use Rattle.graph_model.specs.Evaluation.{outcome}
-use Rattle.graph_model.specs.Trace.{IsLawful}
+use Rattle.graph_model.specs.Trace.{IsLawful, SectionsApart}
 use Rattle.run_state.specs.Run.{end_so_far}
 use Rattle.run_core.specs.Answers.{phase_of_line}
 use Rattle.run_core.specs.Kept.{shown_stage}
@@ -52,6 +52,15 @@ returns-clause-lawful c =
     let quiet = subst (λ (v : CoreValue). Quiet v.graph v.run) (sym c.self.view_is) c.requires.quiet in
     let by = trace_by_times c.slots_are_by_times.ensures _ s.trace.items refl refl c.self.invariant.core quiet in
     subst (λ (v : CoreValue). IsLawful v.graph s.trace.items) c.self.view_is (trace_lawful _ c.self.invariant.core quiet s.stages.items s.columns.homes s.columns.takers.items refl refl c.self.invariant.kept c.quiet_gives_outcome.ensures s.trace.items by)
+
+pub returns-clause-sections : goal.returns-clause-sections
+returns-clause-sections c =
+    let s = c.self.inside in
+    let core = c.self.invariant.core in
+    let quiet = subst (λ (v : CoreValue). Quiet v.graph v.run) (sym c.self.view_is) c.requires.quiet in
+    let by = trace_by_times c.slots_are_by_times.ensures _ s.trace.items refl refl core quiet in
+    subst (λ (v : CoreValue). SectionsApart v.graph s.trace.items) c.self.view_is
+    (c.sections_never_overlap.ensures s.checked.now.graph s.trace.items core.sound.graph core.sound.accepted (trace_lawful _ core quiet s.stages.items s.columns.homes s.columns.takers.items refl refl c.self.invariant.kept c.quiet_gives_outcome.ensures s.trace.items by))
 
 pub returns-clause-times : goal.returns-clause-times
 returns-clause-times c =

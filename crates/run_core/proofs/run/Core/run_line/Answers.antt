@@ -14,7 +14,7 @@ returns-in_default c =
     }
 
 pub put_back-requires : goal.put_back-requires
-put_back-requires c = c.perform-finished.ensures.finished c.attempt.new.self c.is_sound.ensures (sym c.graph.ensures) c.in-Taken.ensures.answer.1.work
+put_back-requires c = c.perform-finished.ensures.finished c.attempt.new.self c.is_sound.ensures.sound (sym c.graph.ensures) c.in-Taken.ensures.answer.1.work
 
 pub returns : goal.returns
 returns c =
@@ -22,7 +22,7 @@ returns c =
     let a = c.in-Taken.ensures.answer in
     let f = c.perform-finished in
     record {
-      goes_on = ran_on old c.attempt.new.self c.put_back.new.self c.in-Taken.work f.result c.is_sound.ensures c.requires.nothing_out c.args.line c.requires.line a.0 a.1 f.ensures.line c.put_back.ensures.put;
-      moved = λ _. ran_less old c.attempt.new.self c.put_back.new.self c.in-Taken.work f.result c.is_sound.ensures c.requires.nothing_out c.args.line c.requires.line a.0 a.1 f.ensures.line c.put_back.ensures.put;
+      goes_on = ran_on old c.attempt.new.self c.put_back.new.self c.in-Taken.work f.result c.is_sound.ensures.sound c.requires.nothing_out c.args.line c.requires.line a.0 a.1 f.ensures.line c.put_back.ensures.put;
+      moved = λ _. ran_less old c.attempt.new.self c.put_back.new.self c.in-Taken.work f.result c.is_sound.ensures.sound c.requires.nothing_out c.args.line c.requires.line a.0 a.1 f.ensures.line c.put_back.ensures.put;
       unmoved = λ e. absurd (true≢false e);
     }

@@ -28,4 +28,4 @@ returns-clause-unmoved c =
     let all : length c.args.self.now.graph.lines ≤ c.loop-line.line =
     let lines : length c.graph.result.now.lines ≡ length c.args.self.now.graph.lines = ap (λ (g : GraphValue). length g.lines) c.graph.ensures in
     omega (arith, lines, c.lines-line-end.ensures.number) in
-    scan_ends c.args.self.now c.loop-line.self c.loop-line.moved c.loop-line.line c.is_sound.ensures c.loop-line.invariant all
+    scan_ends c.args.self.now c.loop-line.self c.loop-line.moved c.loop-line.line c.is_sound.ensures.sound c.loop-line.invariant all
