@@ -98,10 +98,12 @@ fn rounds<R: Threads + Sync>(
             rt,
             || -> (Writer, Option<Receipt>)
                 requires { IsMakerOf events.now writer.maker × IsAt events.now writer.seat }
-                ensures { IsMakerOf events.entry.now result.0.maker × IsAt events.entry.now result.0.seat × IfSome result.1 (λ r. IsReceiptOf events.entry.now r) }
+                ensures { IsMakerOf events.entry.now result.0.maker × IsAt events.entry.now result.0.seat
+                    × IfSome result.1 (λ r. IsReceiptOf events.entry.now r) }
             { write(events, writer, round) },
             || -> Reader
-                requires { IsAt events.now reader.seat × All (HasSeen (lists reader.seat)) reader.handles.items × IsReceiptOf events.now receipt }
+                requires { IsAt events.now reader.seat × All (HasSeen (lists reader.seat)) reader.handles.items
+                    × IsReceiptOf events.now receipt }
                 ensures { IsAt events.entry.now result.seat × All (HasSeen (lists result.seat)) result.handles.items }
             { read(events, reader, receipt) },
         );

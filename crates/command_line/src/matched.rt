@@ -63,7 +63,8 @@ fn number_or(matches: &ArgMatches, id: &str, default: u32, least: u32, most: u32
 
 /// The number of slots, if it is given; none where the text is no number of its range.
 fn slots(matches: &ArgMatches) -> Option<Option<u32>>
-    ensures { result ≡ value_or None (λ word. option_map (λ n. Some n) (number_between 1 8192 word)) (first_of (codes "slots") (rows_of (found_of matches.now))) }
+    ensures { result ≡ value_or None (λ word. option_map (λ n. Some n) (number_between 1 8192 word))
+        (first_of (codes "slots") (rows_of (found_of matches.now))) }
 {
     match given(matches, "slots") {
         None => Some(None),

@@ -19,7 +19,8 @@ pub(crate) struct Chain {
 pub(crate) fn catch(caught: &mut Vec<Chain>, handle: Handle, next: u64)
     requires room { 0 < next → vec_len caught.old < vec_capacity caught.old }
     requires number { next < 4294967296 }
-    ensures items { caught.new.items ≡ cond (nat_lt 0 next) (caught.old.items ++ record { handle = handle; first = next - 1 } ∷ []) caught.old.items }
+    ensures items { caught.new.items ≡ cond (nat_lt 0 next)
+        (caught.old.items ++ record { handle = handle; first = next - 1 } ∷ []) caught.old.items }
     ensures room { vec_capacity caught.old ≤ vec_capacity caught.new }
 {
     if next > 0 {

@@ -19,7 +19,9 @@ use std::alloc::{AllocError, Global};
 pub struct Events {
     pub(crate) table: Table<(), View, Shape, Order, Global>,
     pub(crate) shape: Shape,
-    ghost sized: { (table.shared.key ≡ shape) × (table.shared.table_id.words ≡ shape.slots + shape.waiters + mark_words shape) × (0 < shape.slots) × (shape.waiters ≤ 8192) × (shape.slots ≤ 8192) × (table.shared.table_id.slots ≡ 0) × (shape.slots * (shape.last_gen + 1) ≤ 67108864) },
+    ghost sized: { (table.shared.key ≡ shape) × (table.shared.table_id.words ≡ shape.slots + shape.waiters + mark_words shape)
+        × (0 < shape.slots) × (shape.waiters ≤ 8192) × (shape.slots ≤ 8192) × (table.shared.table_id.slots ≡ 0)
+        × (shape.slots * (shape.last_gen + 1) ≤ 67108864) },
 }
 
 impl Events {
@@ -40,7 +42,8 @@ impl Events {
         requires slots { (0 < slots) × (slots ≤ 8192) }
         requires waiters { waiters ≤ 8192 }
         requires gens { slots * (last_gen + 1) ≤ 67108864 }
-        ensures shape { IfOk result (λ r. ((shape_of r.0).slots ≡ slots) × ((shape_of r.0).waiters ≡ waiters) × ((shape_of r.0).last_gen ≡ last_gen)) }
+        ensures shape { IfOk result (λ r. ((shape_of r.0).slots ≡ slots) × ((shape_of r.0).waiters ≡ waiters)
+            × ((shape_of r.0).last_gen ≡ last_gen)) }
         ensures at { IfOk result (λ r. IsMakerOf r.0 r.1 × IsAt r.0 r.2 × IsSetOf r.0 r.3) }
         ensures none { IfOk result (λ r. (made_by r.1 ≡ []) × (taken_of r.3 ≡ 0) × (size_of r.3 ≡ waiters)) }
         ensures seat { IfOk result (λ r. HasNothing (lists r.2)) }
@@ -84,7 +87,8 @@ impl Events {
         ensures at { IsAt self.now seat.new × IsAt self.now result }
         ensures kept { Keeps (lists seat.old) (lists seat.new) × Keeps (lists seat.old) (lists result) }
         ensures same { lists seat.new ≡ lists seat.old }
-        ensures copied { ((lists result).seen ≡ (lists seat.old).seen) × ((lists result).known ≡ (lists seat.old).known) × ((lists result).left ≡ (lists seat.old).left) }
+        ensures copied { ((lists result).seen ≡ (lists seat.old).seen) × ((lists result).known ≡ (lists seat.old).known)
+            × ((lists result).left ≡ (lists seat.old).left) }
         ensures past { (lists result).past ≡ (lists seat.old).past }
         ensures bare { IsBare (lists result) }
     {
@@ -165,12 +169,14 @@ impl Events {
         requires maker { IsMakerOf self maker }
         requires at { IsAt self seat }
         ensures map { IsEventMap result × (result.caught ≡ []) }
-        ensures shape { (length result.slots ≡ (shape_of self).slots) × (result.waiters ≡ (shape_of self).waiters) × (result.last_gen ≡ (shape_of self).last_gen) }
+        ensures shape { (length result.slots ≡ (shape_of self).slots) × (result.waiters ≡ (shape_of self).waiters)
+            × (result.last_gen ≡ (shape_of self).last_gen) }
         ensures made { (h : TheHandle) → Contains (made_by maker) h → (a : Answer) × (answer result h ≡ Some a) }
         ensures only { (h : TheHandle) (a : Answer) → answer result h ≡ Some a → Contains (made_by maker) h }
         ensures seen { (h : TheHandle) → HasSeen (lists seat) h → IsCreated result h }
         ensures known { (h : TheHandle) (f : Fate) → Knows (lists seat) h f → answer result h ≡ Some (answer_of f) }
-        ensures placed { (k : ℕ) (h : TheHandle) → Contains (lists seat).placed (k, h) → IsPlaced result k h ⊎ ((f : Fate) × (answer result h ≡ Some (answer_of f))) }
+        ensures placed { (k : ℕ) (h : TheHandle) → Contains (lists seat).placed (k, h) → IsPlaced result k h
+            ⊎ ((f : Fate) × (answer result h ≡ Some (answer_of f))) }
         ensures given { (k : ℕ) (h : TheHandle) → Contains (lists seat).given (k, h) → HasEnded result h }
         ensures emptied { (h : TheHandle) → Contains (lists seat).emptied h → HasEnded result h }
         ensures left { (h : TheHandle) → Contains (lists seat).left h → answer result h ≡ Some Answer.Pending }

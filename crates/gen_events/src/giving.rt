@@ -23,7 +23,8 @@ impl Caught {
         ensures still { IfSome result (λ _. lists seat.new ≡ lists seat.old) }
         ensures same_seen { (caught_lists self.new).seen ≡ (caught_lists self.old).seen }
         ensures same_known { (caught_lists self.new).known ≡ (caught_lists self.old).known }
-        ensures none { IfNone result ((rest_of self.old ≡ []) × Contains (lists seat.new).emptied (caught_on self.old) × Coherent (lists seat.new)) }
+        ensures none { IfNone result ((rest_of self.old ≡ []) × Contains (lists seat.new).emptied (caught_on self.old)
+            × Coherent (lists seat.new)) }
         ensures same { IfNone result (caught_lists self.new ≡ caught_lists self.old) }
         ensures more_given { IfNone result ((lists seat.new).given ≡ (lists seat.old).given ++ given_by self.old) }
         ensures more_emptied { IfNone result ((lists seat.new).emptied ≡ (lists seat.old).emptied ++ caught_on self.old ∷ []) }
@@ -56,7 +57,8 @@ impl WaiterSet {
     pub fn take(&mut self, events: &Events) -> Option<Waiter>
         requires { IsSetOf events.now self.old }
         ensures set { IsSetOf events.now self.new × (size_of self.new ≡ size_of self.old) }
-        ensures some { IfSome result (λ w. (number_of w ≡ taken_of self.old) × (taken_of self.new ≡ taken_of self.old + 1) × IsWaiterOf events.now w) }
+        ensures some { IfSome result (λ w. (number_of w ≡ taken_of self.old) × (taken_of self.new ≡ taken_of self.old + 1)
+            × IsWaiterOf events.now w) }
         ensures within { IfSome result (λ w. number_of w < size_of self.old) }
         ensures none { IfNone result ((taken_of self.old ≡ size_of self.old) × (taken_of self.new ≡ taken_of self.old)) }
     {

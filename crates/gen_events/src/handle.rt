@@ -59,7 +59,8 @@ impl Shape {
 
     // The place of a handle among the poison bits.
     pub(crate) fn place(&self, handle: Handle) -> u64
-        requires { (handle.slot < self.now.slots) × (handle.gen_ ≤ self.now.last_gen) × (self.now.slots * (self.now.last_gen + 1) ≤ 67108864) }
+        requires { (handle.slot < self.now.slots) × (handle.gen_ ≤ self.now.last_gen)
+            × (self.now.slots * (self.now.last_gen + 1) ≤ 67108864) }
         ensures { result ≡ place_of self.now.last_gen handle }
     {
         handle.slot as u64 * (self.last_gen as u64 + 1) + handle.gen_ as u64
@@ -67,7 +68,8 @@ impl Shape {
 
     // The number of the poison word of a handle.
     pub(crate) fn mark_at(&self, handle: Handle) -> usize
-        requires { (handle.slot < self.now.slots) × (handle.gen_ ≤ self.now.last_gen) × (self.now.slots * (self.now.last_gen + 1) ≤ 67108864) }
+        requires { (handle.slot < self.now.slots) × (handle.gen_ ≤ self.now.last_gen)
+            × (self.now.slots * (self.now.last_gen + 1) ≤ 67108864) }
         ensures at { result ≡ mark_word self.now handle }
         ensures within { result < self.now.slots + self.now.waiters + mark_words self.now }
     {

@@ -88,7 +88,8 @@ pub(crate) fn copy_words(to: &mut Vec<u64>, closed: &Closed<(), Global>, slots: 
     requires full { IsFull closed.now.words }
     requires size { vec_len to.old ≡ slots_len closed.now.words }
     ensures size { length to.new.items ≡ length to.old.items }
-    ensures words { (i : ℕ) → i < length to.new.items → slice_index to.new.items i ≡ freed_word slots i (slice_index (slots_items closed.now.words) i) }
+    ensures words { (i : ℕ) → i < length to.new.items → slice_index to.new.items i ≡ freed_word slots i
+        (slice_index (slots_items closed.now.words) i) }
 {
     let mut i = 0;
     while i < to.len() {

@@ -20,7 +20,8 @@ impl Events {
         ensures at { IsAt self.now seat.new }
         ensures grows { Grows (lists seat.old) (lists seat.new) }
         ensures kept { Keeps (lists seat.old) (lists seat.new) }
-        ensures pending { result ≡ Answer.Pending → FoundPending (lists seat.old) (lists seat.new) handle × ((f : Fate) → Knows (lists seat.old) handle f → ⊥) }
+        ensures pending { result ≡ Answer.Pending → FoundPending (lists seat.old) (lists seat.new) handle
+            × ((f : Fate) → Knows (lists seat.old) handle f → ⊥) }
         ensures triggered { result ≡ Answer.Triggered → (handle ≡ no_event) ⊎ Knows (lists seat.new) handle Fate.Ok }
         ensures poisoned { result ≡ Answer.Poisoned → Knows (lists seat.new) handle Fate.Poison }
         ensures left { handle ≢ no_event → Contains (lists seat.old).left handle → result ≡ Answer.Pending }
@@ -86,7 +87,8 @@ impl Events {
         ensures grows { Grows (lists seat.old) (lists seat.new) }
         ensures kept { Keeps (lists seat.old) (lists seat.new) }
         ensures coherent { Coherent (lists seat.new) }
-        ensures same { ((lists seat.new).saw ≡ (lists seat.old).saw) × ((lists seat.new).placed ≡ (lists seat.old).placed) × ((lists seat.new).left ≡ (lists seat.old).left) }
+        ensures same { ((lists seat.new).saw ≡ (lists seat.old).saw) × ((lists seat.new).placed ≡ (lists seat.old).placed)
+            × ((lists seat.new).left ≡ (lists seat.old).left) }
         ensures same_seen { (lists seat.new).seen ≡ (lists seat.old).seen }
         ensures same_placings { SamePlacings (lists seat.old) (lists seat.new) }
     {

@@ -20,7 +20,8 @@ impl Events {
         ensures at { IsAt self.now seat.new }
         ensures grows { Grows (lists seat.old) (lists seat.new) }
         ensures kept { Keeps (lists seat.old) (lists seat.new) }
-        ensures some { IfSome result (λ p. IsPendingOf self.now p × IsNew (made_by maker.old) (made_by maker.new) (handle_of p) × HasSeen (lists seat.new) (handle_of p) × (handle_of p ≢ no_event)) }
+        ensures some { IfSome result (λ p. IsPendingOf self.now p × IsNew (made_by maker.old) (made_by maker.new) (handle_of p)
+            × HasSeen (lists seat.new) (handle_of p) × (handle_of p ≢ no_event)) }
         ensures within { IfSome result (λ p. IsWithin (shape_of self.now) (handle_of p)) }
         ensures after { IfSome result (λ p. ComesAfter (made_by maker.old) (lists seat.new) (handle_of p)) }
         ensures none { IfNone result (made_by maker.new ≡ made_by maker.old) }

@@ -95,7 +95,8 @@ impl EventTable {
     /// A new pending handle, which was not created before. None comes exactly where each slot is
     /// pending or retired.
     pub fn create(&mut self) -> Option<Handle>
-        ensures map { IfSome result (λ h. (self.new ≡ created_at self.old h.slot) × (h ≡ next_handle self.old h.slot) × MayServe self.old h.slot) }
+        ensures map { IfSome result (λ h. (self.new ≡ created_at self.old h.slot) × (h ≡ next_handle self.old h.slot)
+            × MayServe self.old h.slot) }
         ensures pending { IfSome result (λ h. (answer self.new h ≡ Some Answer.Pending) × (answer self.old h ≡ None) × (h ≢ no_event)) }
         ensures others { IfSome result (λ h. (k : TheHandle) → k ≢ h → answer self.new k ≡ answer self.old k) }
         ensures none { IfNone result ((self.new ≡ self.old) × IsFull self.old) }

@@ -158,7 +158,8 @@ fn joined(
     verb: Verb,
 ) -> Result<Vec<Line>, NoMemory>
     requires { first < 8192 }
-    ensures { IfOk result (λ v. v.items ≡ made_line first (Verb.Merge (merged last other)) None ∷ made_line (first + 1) verb (Some first) ∷ []) }
+    ensures { IfOk result (λ v. v.items ≡ made_line first (Verb.Merge (merged last other)) None ∷ made_line (first + 1) verb
+        (Some first) ∷ []) }
 {
     let events = merged(alloc, last, other)?;
     let mut lines = one_line(alloc, first, Verb::Merge { events }, None)?;

@@ -155,7 +155,8 @@ fn read_named(
 ) -> Result<Decl, ItemError>
     requires new { is_used graph.now name ≡ false }
     requires some { fields.items ≡ [] → ⊥ }
-    ensures { IsDeclBy (inst_reason graph.now name space_word.now fields.items) (inst_decl graph.now name space_word.now fields.items) result }
+    ensures { IsDeclBy (inst_reason graph.now name space_word.now fields.items)
+        (inst_decl graph.now name space_word.now fields.items) result }
 {
     match has_repeat(alloc, &fields) {
         Ok(false) => {}

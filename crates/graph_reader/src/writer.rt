@@ -60,7 +60,8 @@ fn put_places<K: Sink>(
     numbers: &[u64],
 ) -> Result<(), WriteFault>
     ensures { Writes (K.state sink.old) (K.state sink.new) result
-        (spaced (map (λ c. column_name graph.now c) columns.now ++ (map (λ s. space_name graph.now s) spaces.now ++ map (λ n. decimal n) numbers.now))) }
+        (spaced (map (λ c. column_name graph.now c) columns.now ++
+            (map (λ s. space_name graph.now s) spaces.now ++ map (λ n. decimal n) numbers.now))) }
 {
     put_columns(sink, graph, columns)?;
     put_spaces(sink, graph, spaces)?;
@@ -77,7 +78,8 @@ fn put_on_cells<K: Sink>(
     numbers: &[u64],
 ) -> Result<(), WriteFault>
     ensures { Writes (K.state sink.old) (K.state sink.new) result
-        (spaced (word.now ∷ (map (λ c. column_name graph.now c) columns.now ++ (map (λ s. space_name graph.now s) spaces.now ++ map (λ n. decimal n) numbers.now)))) }
+        (spaced (word.now ∷ (map (λ c. column_name graph.now c) columns.now ++
+            (map (λ s. space_name graph.now s) spaces.now ++ map (λ n. decimal n) numbers.now)))) }
 {
     put_behind(sink, b" ", &Word::Fixed(word))?;
     put_places(sink, graph, columns, spaces, numbers)
@@ -282,7 +284,8 @@ fn put_plain<K: Sink>(
 
 /// Writes the line of a space.
 fn put_space<K: Sink>(sink: &mut K, name: &Name, space: &Space) -> Result<(), WriteFault>
-    ensures { Writes (K.state sink.old) (K.state sink.new) result (codes "space " ++ (name.now ++ (32 ∷ (comma_from interval_word 0 space.now ++ 10 ∷ [])))) }
+    ensures { Writes (K.state sink.old) (K.state sink.new) result
+        (codes "space " ++ (name.now ++ (32 ∷ (comma_from interval_word 0 space.now ++ 10 ∷ [])))) }
 {
     put_plain(sink, b"space", &[Word::Name(*name)], b" ")?;
     put_intervals(sink, space.intervals())?;
@@ -297,7 +300,8 @@ fn put_inst<K: Sink>(
     space: u32,
     fields: &NameList,
 ) -> Result<(), WriteFault>
-    ensures { Writes (K.state sink.old) (K.state sink.new) result (codes "inst " ++ (name.now ++ (32 ∷ (space_name graph.now space ++ (32 ∷ (comma_from (λ w. w) 0 fields.now ++ 10 ∷ [])))))) }
+    ensures { Writes (K.state sink.old) (K.state sink.new) result
+        (codes "inst " ++ (name.now ++ (32 ∷ (space_name graph.now space ++ (32 ∷ (comma_from (λ w. w) 0 fields.now ++ 10 ∷ [])))))) }
 {
     put_plain(
         sink,

@@ -99,7 +99,8 @@ impl Held {
     pub fn add_to(&mut self, c: u32, p: u32, v: u64)
         requires in_space { IfSome (held_at self.old c) (λ x. IsTrue (has_point x.space p)) }
         requires is_held { IsSome (held_at self.old c) }
-        ensures held { HoldsOtherwise self.old self.new c (option_map (λ x. with_cell x p ((cell_of x p + v) % 2 ^ 64)) (held_at self.old c)) }
+        ensures held { HoldsOtherwise self.old self.new c
+            (option_map (λ x. with_cell x p ((cell_of x p + v) % 2 ^ 64)) (held_at self.old c)) }
         ensures number { length self.new ≡ length self.old }
     {
         let mut column = self.take(c);

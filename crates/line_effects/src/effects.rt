@@ -22,7 +22,8 @@ pub fn apply(graph: &Graph, line: u32, held: &mut Held) -> Verdict
     requires moved { (k c : ℕ) → slice_get (moves graph.now line) k ≡ Some c → IsSome (held_at held.old c) }
     ensures same { (c : ℕ) → is_some (held_at held.new c) ≡ is_some (held_at held.old c) }
     ensures effect { (cells : Cells) → HeldShow graph.now cells held.old
-        → (result ≡ (effect graph.now line cells).verdict) × HeldShow graph.now (cells_after cells (effect graph.now line cells).changes) held.new }
+        → (result ≡ (effect graph.now line cells).verdict)
+            × HeldShow graph.now (cells_after cells (effect graph.now line cells).changes) held.new }
 {
     accesses_fit();
     columns_differ();

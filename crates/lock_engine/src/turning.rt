@@ -101,7 +101,8 @@ fn give_turn<'g>(lock: &Lock<'g>, seat: &mut Place<'g>, core: Core<'g>)
     requires serving { IsServing lock.now.table_id seat.old }
     requires served { (taken : Option ℕ) × Serves seat.old.me.0.core core seat.old.me.0.line taken }
     ensures waiting { IsWaiting lock.now.table_id seat.new }
-    ensures view { (taken : Option ℕ) → Serves seat.old.me.0.core core.entry seat.old.me.0.line taken → seat.new.me.0 ≡ with_line seat.old.me.0 core.entry taken }
+    ensures view { (taken : Option ℕ) → Serves seat.old.me.0.core core.entry seat.old.me.0.line taken
+        → seat.new.me.0 ≡ with_line seat.old.me.0 core.entry taken }
 {
     lock.exchange(seat, 0, Some(core));
     lock.store::<Gives>(seat, 0, 0);

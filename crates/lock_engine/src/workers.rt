@@ -46,7 +46,8 @@ pub(crate) trait Workplace: Sync {
         requires enough { 1 < (view_of badge).parts }
         ensures resting { IsResting (name self.now) result.0 × IsResting (name self.now) result.1 }
         ensures idle { ((view_of result.0).line ≡ None) × ((view_of result.1).line ≡ None) }
-        ensures graph { ((view_of result.0).core.graph ≡ (view_of badge).core.graph) × ((view_of result.1).core.graph ≡ (view_of badge).core.graph) }
+        ensures graph { ((view_of result.0).core.graph ≡ (view_of badge).core.graph)
+            × ((view_of result.1).core.graph ≡ (view_of badge).core.graph) }
         ensures parts { ((view_of result.0).parts ≡ 1) × ((view_of result.1).parts + 1 ≡ (view_of badge).parts) };
 
     /// Puts two together.
@@ -146,11 +147,14 @@ pub(crate) fn run_workers<R: Threads + Wait + Sync, P: Workplace, G: Gate>(
         rt,
         || -> Badge<View>
             requires { IsResting (P.name place.now) first × ((view_of first).line ≡ None) × ((view_of first).core.graph ≡ graph.now) }
-            ensures { IsResting (P.name place.entry.now) result × ((view_of result).line ≡ None) × ((view_of result).parts ≡ (view_of first).parts) }
+            ensures { IsResting (P.name place.entry.now) result × ((view_of result).line ≡ None)
+                × ((view_of result).parts ≡ (view_of first).parts) }
         { place.work(rt, graph, gate, changes, hints, first) },
         || -> Badge<View>
-            requires { IsSync R.row × IsResting (P.name place.now) rest × ((view_of rest).line ≡ None) × ((view_of rest).core.graph ≡ graph.now) × (1 < workers) × (workers < (view_of rest).parts + 1) }
-            ensures { IsResting (P.name place.entry.now) result × ((view_of result).line ≡ None) × ((view_of result).parts ≡ (view_of rest).parts) }
+            requires { IsSync R.row × IsResting (P.name place.now) rest × ((view_of rest).line ≡ None)
+                × ((view_of rest).core.graph ≡ graph.now) × (1 < workers) × (workers < (view_of rest).parts + 1) }
+            ensures { IsResting (P.name place.entry.now) result × ((view_of result).line ≡ None)
+                × ((view_of result).parts ≡ (view_of rest).parts) }
         { run_workers(rt, place, graph, gate, changes, hints, rest, workers - 1) },
     );
     place.joined(first, rest)
@@ -163,7 +167,8 @@ fn cut<'g>(lock: &Lock<'g>, badge: Badge<View>) -> (Badge<View>, Badge<View>)
     requires enough { 1 < (view_of badge).parts }
     ensures resting { IsResting lock.now.table_id result.0 × IsResting lock.now.table_id result.1 }
     ensures idle { ((view_of result.0).line ≡ None) × ((view_of result.1).line ≡ None) }
-    ensures graph { ((view_of result.0).core.graph ≡ (view_of badge).core.graph) × ((view_of result.1).core.graph ≡ (view_of badge).core.graph) }
+    ensures graph { ((view_of result.0).core.graph ≡ (view_of badge).core.graph)
+        × ((view_of result.1).core.graph ≡ (view_of badge).core.graph) }
     ensures parts { ((view_of result.0).parts ≡ 1) × ((view_of result.1).parts + 1 ≡ (view_of badge).parts) }
 {
     let mut seat = sit(badge);

@@ -22,13 +22,15 @@ pub fn eval(alloc: Global, checked: &Checked) -> Result<Outcome, NoMemory>
     ensures outcome { IfOk result (λ o. o ≡ outcome checked.now.graph (order checked.now.graph)) }
 
     // A line waits exactly where one that never comes reaches it, itself included.
-    ensures waiting { IfOk result (λ o. (i : ℕ) → i < length checked.now.graph.lines → (slice_get o.ends i ≡ Some End.Waiting) ↔ Reached checked.now.graph i) }
+    ensures waiting { IfOk result (λ o. (i : ℕ) → i < length checked.now.graph.lines → (slice_get o.ends i ≡ Some End.Waiting)
+        ↔ Reached checked.now.graph i) }
 
     // Each item of the trace is a line.
     ensures lines { IfOk result (λ o. (k i : ℕ) → slice_get o.trace k ≡ Some i → i < length checked.now.graph.lines) }
 
     // A line is cancelled exactly where an unbroken path from a fault reaches it.
-    ensures cancelled { IfOk result (λ o. (i : ℕ) → i < length checked.now.graph.lines → (slice_get o.ends i ≡ Some End.Cancelled) ↔ Unbroken checked.now.graph i) }
+    ensures cancelled { IfOk result (λ o. (i : ℕ) → i < length checked.now.graph.lines → (slice_get o.ends i ≡ Some End.Cancelled)
+        ↔ Unbroken checked.now.graph i) }
 {
     waits_where_reached();
     cancelled_where_unbroken();

@@ -52,7 +52,8 @@ fn total_of(reduction: &Option<Reduction>) -> Option<u64>
 /// The reductions after all arrivals.
 fn reduce(alloc: Global, graph: &Graph, ends: &[End]) -> Result<Vec<Option<Reduction>>, NoMemory>
     requires { ends.now ≡ map (eval_end graph.now) (numbers_below (length graph.now.lines)) }
-    ensures { IfOk result (λ v. v.items ≡ map (reduction_after graph.now (length graph.now.lines)) (numbers_below (length graph.now.lines))) }
+    ensures { IfOk result (λ v. v.items ≡ map (reduction_after graph.now (length graph.now.lines))
+        (numbers_below (length graph.now.lines))) }
 {
     let mut reductions = first_reductions(alloc, graph, ends)?;
     for line in 0..graph.lines() {

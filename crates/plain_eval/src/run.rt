@@ -73,9 +73,12 @@ fn all_waiting(alloc: Global, graph: &Graph) -> Result<Vec<End>, NoMemory>
 /// Ends a line that is ready, by the ends of the lines that it waited for.
 fn end_line(graph: &Graph, line: u32, ends: &[End], homes: &mut Homes) -> End
     requires known { line < length graph.now.lines }
-    requires shown { (ss : List Step) × (ends.now ≡ map (end_in ss) (numbers_below (length graph.now.lines))) × (homes.old ≡ all_home graph.now (cells_of ss)) }
-    ensures { (ss : List Step) → ends.now ≡ map (end_in ss) (numbers_below (length graph.now.lines)) → homes.old ≡ all_home graph.now (cells_of ss)
-        → (result ≡ (step_of graph.now ss line).ends) × (homes.new ≡ all_home graph.now (cells_after (cells_of ss) (step_of graph.now ss line).changes)) }
+    requires shown { (ss : List Step) × (ends.now ≡ map (end_in ss) (numbers_below (length graph.now.lines)))
+        × (homes.old ≡ all_home graph.now (cells_of ss)) }
+    ensures { (ss : List Step) → ends.now ≡ map (end_in ss) (numbers_below (length graph.now.lines))
+        → homes.old ≡ all_home graph.now (cells_of ss)
+        → (result ≡ (step_of graph.now ss line).ends) × (homes.new ≡ all_home graph.now
+            (cells_after (cells_of ss) (step_of graph.now ss line).changes)) }
 {
     if is_cancelled(graph, line, ends) {
         return End::Cancelled;
@@ -90,7 +93,8 @@ fn end_line(graph: &Graph, line: u32, ends: &[End], homes: &mut Homes) -> End
 fn is_cancelled(graph: &Graph, line: u32, ends: &[End]) -> bool
     requires known { line < length graph.now.lines }
     requires count { length ends.now ≡ length graph.now.lines }
-    ensures { (ss : List Step) → ends.now ≡ map (end_in ss) (numbers_below (length graph.now.lines)) → result ≡ is_cancelled graph.now ss line }
+    ensures { (ss : List Step) → ends.now ≡ map (end_in ss) (numbers_below (length graph.now.lines))
+        → result ≡ is_cancelled graph.now ss line }
 {
     edges_between_lines();
     let _ = graph.lines();

@@ -41,7 +41,8 @@ impl Waiting {
     fn add(&mut self, graph: &Graph, line: u32) -> Result<(), NoMemory>
         requires { line < length graph.now.lines }
         ensures left { OnOk result (self.new.left.items ≡ self.old.left.items ++ length (edges_into graph.now line) ∷ []) }
-        ensures ready { OnOk result ((i : ℕ) → contains nat_cmp self.new.ready i ≡ (contains nat_cmp self.old.ready i || ((line == i) && starts_ready graph.now line))) }
+        ensures ready { OnOk result ((i : ℕ) → contains nat_cmp self.new.ready i ≡
+            (contains nat_cmp self.old.ready i || ((line == i) && starts_ready graph.now line))) }
     {
         let left = graph.edges_into(line).len();
         push(&mut self.left, left)?;
@@ -51,7 +52,8 @@ impl Waiting {
     /// Takes out the lowest line that is ready.
     pub(crate) fn take_lowest(&mut self) -> Option<u32>
         ensures left { self.new.left.items ≡ self.old.left.items }
-        ensures lowest { MatchOption result ((i : ℕ) → (contains nat_cmp self.old.ready i ≡ false) × (contains nat_cmp self.new.ready i ≡ false))
+        ensures lowest { MatchOption result ((i : ℕ) → (contains nat_cmp self.old.ready i ≡ false)
+            × (contains nat_cmp self.new.ready i ≡ false))
             (λ k. (contains nat_cmp self.old.ready k ≡ true) × ((i : ℕ) → contains nat_cmp self.old.ready i ≡ true → k ≤ i)
             × ((i : ℕ) → contains nat_cmp self.new.ready i ≡ (contains nat_cmp self.old.ready i && not (k == i)))) }
     {
@@ -81,7 +83,8 @@ impl Waiting {
         requires waits { 0 < slice_index self.old.left.items line }
         ensures left { OnOk result (self.new.left.items ≡ slice_set self.old.left.items line (slice_index self.old.left.items line - 1)) }
         ensures ready { OnOk result ((i : ℕ) → contains nat_cmp self.new.ready i
-            ≡ (contains nat_cmp self.old.ready i || ((line == i) && (not (never_comes graph.now line) && (slice_index self.old.left.items line - 1 == 0))))) }
+            ≡ (contains nat_cmp self.old.ready i || ((line == i) &&
+                (not (never_comes graph.now line) && (slice_index self.old.left.items line - 1 == 0))))) }
     {
         let left = self.left[line as usize] - 1;
         self.left[line as usize] = left;

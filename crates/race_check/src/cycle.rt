@@ -21,7 +21,8 @@ pub(crate) fn first_cycle(
     order: &Order,
 ) -> Result<Option<u32>, NoMemory>
     requires { IsOrdered graph.now order.now.lines.items order.now.left.items }
-    ensures { IfOk result (λ o. MatchOption o (Everywhere (NoCycleAt graph.now)) (λ i. (i < length graph.now.lines) × IsCycle graph.now i)) }
+    ensures { IfOk result (λ o. MatchOption o (Everywhere (NoCycleAt graph.now)) (λ i. (i < length graph.now.lines)
+        × IsCycle graph.now i)) }
 {
     edges_between_lines();
     for line in 0..graph.lines() {
@@ -87,8 +88,11 @@ impl Search {
         requires known { line < length graph.now.lines }
         requires size { length self.old.marked.items ≡ length graph.now.lines }
         ensures size { OnOk result (length self.new.marked.items ≡ length graph.now.lines) }
-        ensures marking { OnOk result (IsMarking (edges_out_of graph.now line) self.old.marked.items self.old.stack.items self.new.marked.items self.new.stack.items) }
-        ensures work { OnOk result (unmarked self.new.marked.items + length self.new.stack.items ≤ unmarked self.old.marked.items + length self.old.stack.items) }
+        ensures marking { OnOk result
+            (IsMarking (edges_out_of graph.now line) self.old.marked.items self.old.stack.items
+                self.new.marked.items self.new.stack.items) }
+        ensures work { OnOk result
+            (unmarked self.new.marked.items + length self.new.stack.items ≤ unmarked self.old.marked.items + length self.old.stack.items) }
     {
         edges_between_lines();
         let _ = graph.lines();
@@ -103,7 +107,8 @@ impl Search {
     fn mark(&mut self, line: u32) -> Result<(), NoMemory>
         requires { line < length self.old.marked.items }
         ensures marked { OnOk result (self.new.marked.items ≡ slice_set self.old.marked.items line true) }
-        ensures stack { OnOk result (self.new.stack.items ≡ cond (marked_in self.old.marked.items line) self.old.stack.items (self.old.stack.items ++ line ∷ [])) }
+        ensures stack { OnOk result (self.new.stack.items ≡ cond (marked_in self.old.marked.items line) self.old.stack.items
+            (self.old.stack.items ++ line ∷ [])) }
     {
         if !self.marked[line as usize] {
             self.marked[line as usize] = true;

@@ -89,7 +89,8 @@ fn first_climbing_in(
     requires table { IsPathTable graph.now paths.now }
     requires releases { AreReleases graph.now releases.now }
     requires rows { AreLowRows graph.now rows.now }
-    ensures { MatchOption result (Everywhere (DescendsAt graph.now acquire)) (λ j. (j < length graph.now.lines) × FailsFirst (DescendsAt graph.now acquire) j) }
+    ensures { MatchOption result (Everywhere (DescendsAt graph.now acquire)) (λ j. (j < length graph.now.lines)
+        × FailsFirst (DescendsAt graph.now acquire) j) }
 {
     edges_between_lines();
     let _ = graph.lines();

@@ -64,7 +64,8 @@ impl Marks {
     fn mark(&mut self, line: u32, mark: u32) -> Result<(), NoMemory>
         requires known { line < length self.old.highs.items }
         requires some { 0 < mark }
-        ensures { OnOk result (IsMarking (λ i. i ≡ line) mark self.old.highs.items self.old.stack.items self.new.highs.items self.new.stack.items) }
+        ensures { OnOk result
+            (IsMarking (λ i. i ≡ line) mark self.old.highs.items self.old.stack.items self.new.highs.items self.new.stack.items) }
     {
         if self.highs[line as usize] == 0 {
             push(&mut self.stack, line)?;
@@ -78,7 +79,9 @@ impl Marks {
         requires known { line < length graph.now.lines }
         requires size { length self.old.highs.items ≡ length graph.now.lines }
         requires some { 0 < mark }
-        ensures { OnOk result (IsMarking (IsTarget (edges_out_of graph.now line)) mark self.old.highs.items self.old.stack.items self.new.highs.items self.new.stack.items) }
+        ensures { OnOk result
+            (IsMarking (IsTarget (edges_out_of graph.now line)) mark self.old.highs.items self.old.stack.items
+                self.new.highs.items self.new.stack.items) }
     {
         edges_between_lines();
         let _ = graph.lines();
@@ -93,7 +96,9 @@ impl Marks {
     fn mark_acquires(&mut self, graph: &Graph, lock: u32, mark: u32) -> Result<(), NoMemory>
         requires size { length self.old.highs.items ≡ length graph.now.lines }
         requires some { 0 < mark }
-        ensures { OnOk result (IsMarking (λ i. Acquires graph.now i lock) mark self.old.highs.items self.old.stack.items self.new.highs.items self.new.stack.items) }
+        ensures { OnOk result
+            (IsMarking (λ i. Acquires graph.now i lock) mark self.old.highs.items self.old.stack.items
+                self.new.highs.items self.new.stack.items) }
     {
         for line in 0..graph.lines() {
             if acquires(graph, line, lock) {
@@ -127,7 +132,8 @@ impl Flood {
     /// Floods from the lines that never come.
     fn reach_from_unended(&mut self, graph: &Graph) -> Result<(), NoMemory>
         requires { IsFlood graph.now (λ m. false) self.old.marks.highs.items self.old.marks.stack.items self.old.noted.items }
-        ensures { OnOk result (IsFlood graph.now (never_comes graph.now) self.new.marks.highs.items self.new.marks.stack.items self.new.noted.items) }
+        ensures { OnOk result
+            (IsFlood graph.now (never_comes graph.now) self.new.marks.highs.items self.new.marks.stack.items self.new.noted.items) }
     {
         for line in 0..graph.lines() {
             if graph.never_comes(line) {
@@ -157,8 +163,10 @@ impl Flood {
     /// Floods from a line that is no heavier than those done.
     fn reach(&mut self, graph: &Graph, line: u32) -> Result<(), NoMemory>
         requires known { line < length graph.now.lines }
-        requires flood { (done : ℕ → Bool) × IsFlood graph.now done self.old.marks.highs.items self.old.marks.stack.items self.old.noted.items }
-        ensures { OnOk result ((done : ℕ → Bool) → IsFlood graph.now done self.old.marks.highs.items self.old.marks.stack.items self.old.noted.items
+        requires flood { (done : ℕ → Bool)
+            × IsFlood graph.now done self.old.marks.highs.items self.old.marks.stack.items self.old.noted.items }
+        ensures { OnOk result ((done : ℕ → Bool)
+            → IsFlood graph.now done self.old.marks.highs.items self.old.marks.stack.items self.old.noted.items
             → ((d : ℕ) → done d ≡ true → weight_of graph.now line ≤ weight_of graph.now d)
             → IsFlood graph.now (λ d. (d == line) || done d) self.new.marks.highs.items self.new.marks.stack.items self.new.noted.items) }
     {
@@ -181,7 +189,8 @@ impl Flood {
         ensures locks_noted { OnOk result (length self.new.noted.items ≡ length (locks graph.now)) }
         ensures acquires { OnOk result (AreAcquiresMarked graph.now self.new.marks.highs.items self.new.noted.items) }
         ensures empty { OnOk result (self.new.marks.stack.items ≡ []) }
-        ensures flooded { OnOk result ((old : ℕ → ℕ) (m : ℕ) → mark ≡ weight_of graph.now m → IsFlooding graph.now old (slice_index self.old.marks.highs.items) m self.old.marks.stack.items
+        ensures flooded { OnOk result ((old : ℕ → ℕ) (m : ℕ) → mark ≡ weight_of graph.now m
+            → IsFlooding graph.now old (slice_index self.old.marks.highs.items) m self.old.marks.stack.items
             → IsFlooding graph.now old (slice_index self.new.marks.highs.items) m []) }
     {
         while let Some(line) = self.marks.stack.pop() {
@@ -197,7 +206,9 @@ impl Flood {
         requires size { length self.old.marks.highs.items ≡ length graph.now.lines }
         requires locks_noted { length self.old.noted.items ≡ length (locks graph.now) }
         requires acquires { AreAcquiresMarked graph.now self.old.marks.highs.items self.old.noted.items }
-        ensures marking { OnOk result (IsMarking (IsNext graph.now line) mark self.old.marks.highs.items self.old.marks.stack.items self.new.marks.highs.items self.new.marks.stack.items) }
+        ensures marking { OnOk result
+            (IsMarking (IsNext graph.now line) mark self.old.marks.highs.items self.old.marks.stack.items
+                self.new.marks.highs.items self.new.marks.stack.items) }
         ensures locks_noted { OnOk result (length self.new.noted.items ≡ length (locks graph.now)) }
         ensures acquires { OnOk result (AreAcquiresMarked graph.now self.new.marks.highs.items self.new.noted.items) }
     {
@@ -215,7 +226,9 @@ impl Flood {
         requires size { length self.old.marks.highs.items ≡ length graph.now.lines }
         requires locks_noted { length self.old.noted.items ≡ length (locks graph.now) }
         requires acquires { AreAcquiresMarked graph.now self.old.marks.highs.items self.old.noted.items }
-        ensures marking { OnOk result (IsMarking (λ i. Acquires graph.now i lock) mark self.old.marks.highs.items self.old.marks.stack.items self.new.marks.highs.items self.new.marks.stack.items) }
+        ensures marking { OnOk result
+            (IsMarking (λ i. Acquires graph.now i lock) mark self.old.marks.highs.items self.old.marks.stack.items
+                self.new.marks.highs.items self.new.marks.stack.items) }
         ensures locks_noted { OnOk result (length self.new.noted.items ≡ length (locks graph.now)) }
         ensures acquires { OnOk result (AreAcquiresMarked graph.now self.new.marks.highs.items self.new.noted.items) }
     {

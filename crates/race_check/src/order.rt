@@ -48,7 +48,8 @@ impl Order {
     fn count(&mut self, graph: &Graph, line: u32) -> Result<(), NoMemory>
         requires { line < length graph.now.lines }
         ensures left { OnOk result (self.new.left.items ≡ self.old.left.items ++ length (edges_into graph.now line) ∷ []) }
-        ensures lines { OnOk result (self.new.lines.items ≡ cond (length (edges_into graph.now line) == 0) (self.old.lines.items ++ line ∷ []) self.old.lines.items) }
+        ensures lines { OnOk result (self.new.lines.items ≡ cond (length (edges_into graph.now line) == 0)
+            (self.old.lines.items ++ line ∷ []) self.old.lines.items) }
     {
         let left = graph.edges_into(line).len();
         push(&mut self.left, left)?;
@@ -96,7 +97,8 @@ impl Order {
         requires known { line < length self.old.left.items }
         requires waits { 0 < slice_index self.old.left.items line }
         ensures left { OnOk result (self.new.left.items ≡ slice_set self.old.left.items line (slice_index self.old.left.items line - 1)) }
-        ensures lines { OnOk result (self.new.lines.items ≡ cond (slice_index self.old.left.items line - 1 == 0) (self.old.lines.items ++ line ∷ []) self.old.lines.items) }
+        ensures lines { OnOk result (self.new.lines.items ≡ cond (slice_index self.old.left.items line - 1 == 0)
+            (self.old.lines.items ++ line ∷ []) self.old.lines.items) }
     {
         let left = self.left[line as usize] - 1;
         self.left[line as usize] = left;

@@ -76,7 +76,8 @@ impl Rivals {
         requires known { line < length graph.now.lines }
         requires table { IsPathTable graph.now paths.now }
         requires rivals { AreRivals graph.now self.now }
-        ensures { MatchOption result (Everywhere (RaceAt graph.now line)) (λ j. (j < length graph.now.lines) × FailsFirst (RaceAt graph.now line) j) }
+        ensures { MatchOption result (Everywhere (RaceAt graph.now line)) (λ j. (j < length graph.now.lines)
+            × FailsFirst (RaceAt graph.now line) j) }
     {
         edges_between_lines();
         let _ = graph.lines();
@@ -110,7 +111,8 @@ impl Rivals {
         requires rivals { AreRivals graph.now self.now }
         requires suspects { (t : PathsValue) × IsPathTable graph.now t × IsWordOf (is_suspect graph.now t line) word suspects }
         ensures { MatchOption result ((j : ℕ) → word * 64 ≤ j → j < word * 64 + 64 → RaceAt graph.now line j)
-            (λ j. (j < length graph.now.lines) × (RaceAt graph.now line j → ⊥) × ((k : ℕ) → word * 64 ≤ k → k < j → RaceAt graph.now line k)) }
+            (λ j. (j < length graph.now.lines) × (RaceAt graph.now line j → ⊥)
+                × ((k : ℕ) → word * 64 ≤ k → k < j → RaceAt graph.now line k)) }
     {
         if suspects == 0 {
             return None;

@@ -10,7 +10,8 @@ use graph_model::verb::Verb;
 
 /// The least release that stands on no merge that ignores faults.
 pub(crate) fn first_release_fault(graph: &Graph) -> Option<u32>
-    ensures { MatchOption result (Everywhere (ReleaseFaultAt graph.now)) (λ i. (i < length graph.now.lines) × FailsFirst (ReleaseFaultAt graph.now) i) }
+    ensures { MatchOption result (Everywhere (ReleaseFaultAt graph.now)) (λ i. (i < length graph.now.lines)
+        × FailsFirst (ReleaseFaultAt graph.now) i) }
 {
     for line in 0..graph.lines() {
         if !stands_on_merge(graph, line) {

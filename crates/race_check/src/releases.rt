@@ -35,7 +35,8 @@ pub(crate) fn first_unreleased(
 ) -> Option<u32>
     requires table { IsPathTable graph.now paths.now }
     requires releases { AreReleases graph.now releases.now }
-    ensures { MatchOption result (Everywhere (ReleasedAt graph.now)) (λ i. (i < length graph.now.lines) × FailsFirst (ReleasedAt graph.now) i) }
+    ensures { MatchOption result (Everywhere (ReleasedAt graph.now)) (λ i. (i < length graph.now.lines)
+        × FailsFirst (ReleasedAt graph.now) i) }
 {
     for line in 0..graph.lines() {
         if !is_released(graph, paths, releases, line) {

@@ -10,7 +10,8 @@ use graph_model::verb::Verb;
 /// The reservation that a line acquires.
 pub(crate) fn acquired(graph: &Graph, line: u32) -> Option<u32>
     requires { line < length graph.now.lines }
-    ensures { MatchOption result ((l : ℕ) → Acquires graph.now line l → ⊥) (λ l. Acquires graph.now line l × (l < length (locks graph.now))) }
+    ensures { MatchOption result ((l : ℕ) → Acquires graph.now line l → ⊥) (λ l. Acquires graph.now line l
+        × (l < length (locks graph.now))) }
 {
     match &graph.line(line).verb {
         Verb::Acquire { lock } => Some(*lock),

@@ -67,7 +67,8 @@ fn first_outside_of(graph: &Graph, paths: &PathTable, dead: &[u64], release: u32
     requires known { release < length graph.now.lines }
     requires table { IsPathTable graph.now paths.now }
     requires dead { AreNeverPhases graph.now dead.now }
-    ensures { MatchOption result (Everywhere (SectionAt graph.now release)) (λ j. (j < length graph.now.lines) × FailsFirst (SectionAt graph.now release) j) }
+    ensures { MatchOption result (Everywhere (SectionAt graph.now release)) (λ j. (j < length graph.now.lines)
+        × FailsFirst (SectionAt graph.now release) j) }
 {
     edges_between_lines();
     let _ = graph.lines();

@@ -82,7 +82,8 @@ impl Summary {
         requires known { acquire < length graph.now.lines }
         requires table { IsPathTable graph.now paths.now }
         requires releases { AreReleases graph.now releases.now }
-        requires acquires { (l : ℕ) × Acquires graph.now acquire l × AreSummaries graph.now l acquire self.old.first.items self.old.more.items }
+        requires acquires { (l : ℕ) × Acquires graph.now acquire l
+            × AreSummaries graph.now l acquire self.old.first.items self.old.more.items }
         ensures { (l : ℕ) → Acquires graph.now acquire l → AreSummaries graph.now l acquire self.old.first.items self.old.more.items
             → AreSummaries graph.now l (acquire + 1) self.new.first.items self.new.more.items }
     {

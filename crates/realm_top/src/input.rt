@@ -163,7 +163,8 @@ fn sum_up<R: Threads + Wait + Sync, K: Sink, G: Gate>(
     gate: &G,
 ) -> Status
     requires workers { request.now.workers ≤ 8 }
-    ensures done { (result ≡ Status.NoMemory) ⊎ Delivers (K.state sink.old) (K.state sink.new) Status.Done result (made_says false checked.now.graph) }
+    ensures done { (result ≡ Status.NoMemory) ⊎ Delivers (K.state sink.old) (K.state sink.new) Status.Done result
+        (made_says false checked.now.graph) }
     ensures no_memory { result ≡ Status.NoMemory → sink.new ≡ sink.old }
 {
     let Ok(outcome) = run_graph(rt, alloc, request, checked, gate) else {
@@ -185,7 +186,8 @@ fn run<R: Threads + Wait + Sync, K: Sink, G: Gate>(
     gate: &G,
 ) -> Status
     requires workers { request.now.workers ≤ 8 }
-    ensures done { (result ≡ Status.NoMemory) ⊎ ((out : List ℕ) × IsRunText request.now.trace checked.now.graph out × Delivers (K.state sink.old) (K.state sink.new) Status.Done result out) }
+    ensures done { (result ≡ Status.NoMemory) ⊎ ((out : List ℕ) × IsRunText request.now.trace checked.now.graph out
+        × Delivers (K.state sink.old) (K.state sink.new) Status.Done result out) }
     ensures no_memory { result ≡ Status.NoMemory → sink.new ≡ sink.old }
 {
     let Ok(outcome) = run_graph(rt, alloc, request, checked, gate) else {
@@ -199,7 +201,8 @@ fn run<R: Threads + Wait + Sync, K: Sink, G: Gate>(
 
 /// Evaluates a graph, and writes its report, and its order as the trace where it is asked for.
 fn evaluate<K: Sink>(alloc: Global, trace: bool, checked: &Checked, sink: &mut K) -> Status
-    ensures done { (result ≡ Status.NoMemory) ⊎ Delivers (K.state sink.old) (K.state sink.new) Status.Done result (evaluation_text trace checked.now.graph) }
+    ensures done { (result ≡ Status.NoMemory) ⊎ Delivers (K.state sink.old) (K.state sink.new) Status.Done result
+        (evaluation_text trace checked.now.graph) }
     ensures no_memory { result ≡ Status.NoMemory → sink.new ≡ sink.old }
 {
     let Ok(outcome) = eval(alloc, checked) else {
@@ -274,7 +277,8 @@ fn reject<K: Sink>(request: Request, sink: &mut K, unfit: &Unfit) -> Status
 
 /// Answers bytes that are the text of no graph.
 fn refuse<K: Sink>(request: Request, sink: &mut K, refusal: ReadRefusal) -> Status
-    ensures answered { (bytes : List ℕ) → length bytes ≤ 1048576 → ((number : ℕ) (why : Why) → refusal ≡ Line number why → FirstFault bytes number why)
+    ensures answered { (bytes : List ℕ) → length bytes ≤ 1048576
+        → ((number : ℕ) (why : Why) → refusal ≡ Line number why → FirstFault bytes number why)
         → Answered request bytes (K.state sink.old) (K.state sink.new) result }
     ensures no_memory { result ≡ Status.NoMemory → sink.new ≡ sink.old }
 {

@@ -175,7 +175,8 @@ fn put_cells<K: Sink>(sink: &mut K, column: &Column, first: u32, end: u32) -> Re
     requires ordered { first ≤ end }
     requires within { end ≤ length column.now.cells }
     requires full { length column.now.cells ≡ space_size column.now.space }
-    ensures { Writes (K.state sink.old) (K.state sink.new) result (flat_map (λ v. 32 ∷ decimal v) (take (end - first) (drop first column.now.cells))) }
+    ensures { Writes (K.state sink.old) (K.state sink.new) result
+        (flat_map (λ v. 32 ∷ decimal v) (take (end - first) (drop first column.now.cells))) }
 {
     for rank in first..end {
         put_cell(sink, column.at(rank))?;

@@ -53,11 +53,15 @@ impl Columns {
 /// Moves out the columns of a line.
 pub(crate) fn take_columns(graph: &Graph, line: u32, columns: &mut Columns) -> Held
     requires known { line < length graph.now.lines }
-    requires each { (length columns.old.homes ≡ length (graph_columns graph.now)) × (length columns.old.takers.items ≡ length (graph_columns graph.now)) }
+    requires each { (length columns.old.homes ≡ length (graph_columns graph.now))
+        × (length columns.old.takers.items ≡ length (graph_columns graph.now)) }
     requires home { (c : ℕ) → AccessesColumn graph.now line c → IsSome (slice_index_or columns.old.homes c None) }
-    ensures each { (length columns.new.homes ≡ length (graph_columns graph.now)) × (length columns.new.takers.items ≡ length (graph_columns graph.now)) }
-    ensures places { places_of columns.new.homes columns.new.takers.items ≡ all_had (places_of columns.old.homes columns.old.takers.items) line (column_list graph.now line) }
-    ensures kept { (c : ℕ) (x : ColumnValue) → slice_index_or columns.new.homes c None ≡ Some x → slice_index_or columns.old.homes c None ≡ Some x }
+    ensures each { (length columns.new.homes ≡ length (graph_columns graph.now))
+        × (length columns.new.takers.items ≡ length (graph_columns graph.now)) }
+    ensures places { places_of columns.new.homes columns.new.takers.items ≡ all_had
+        (places_of columns.old.homes columns.old.takers.items) line (column_list graph.now line) }
+    ensures kept { (c : ℕ) (x : ColumnValue) → slice_index_or columns.new.homes c None ≡ Some x
+        → slice_index_or columns.old.homes c None ≡ Some x }
     ensures has { (c : ℕ) → AccessesColumn graph.now line c → held_at result c ≡ slice_index_or columns.old.homes c None }
     ensures only { (c : ℕ) (x : ColumnValue) → held_at result c ≡ Some x → AccessesColumn graph.now line c }
 {
@@ -91,12 +95,16 @@ fn take_column(columns: &mut Columns, held: &mut Held, c: u32, line: u32)
 /// Puts the columns of a line back at home.
 pub(crate) fn give_columns(graph: &Graph, line: u32, mut held: Held, columns: &mut Columns)
     requires known { line < length graph.now.lines }
-    requires each { (length columns.old.homes ≡ length (graph_columns graph.now)) × (length columns.old.takers.items ≡ length (graph_columns graph.now)) }
+    requires each { (length columns.old.homes ≡ length (graph_columns graph.now))
+        × (length columns.old.takers.items ≡ length (graph_columns graph.now)) }
     requires out { (c : ℕ) → AccessesColumn graph.now line c → slice_get columns.old.homes c ≡ Some None }
     requires has { (c : ℕ) → AccessesColumn graph.now line c → IsSome (held_at held c) }
-    ensures each { (length columns.new.homes ≡ length (graph_columns graph.now)) × (length columns.new.takers.items ≡ length (graph_columns graph.now)) }
-    ensures places { places_of columns.new.homes columns.new.takers.items ≡ all_home (places_of columns.old.homes columns.old.takers.items) (cells_in held) (column_list graph.now line) }
-    ensures kept { (c : ℕ) (x : ColumnValue) → slice_index_or columns.new.homes c None ≡ Some x → (slice_index_or columns.old.homes c None ≡ Some x) ⊎ (held_at held c ≡ Some x) }
+    ensures each { (length columns.new.homes ≡ length (graph_columns graph.now))
+        × (length columns.new.takers.items ≡ length (graph_columns graph.now)) }
+    ensures places { places_of columns.new.homes columns.new.takers.items ≡ all_home (places_of columns.old.homes columns.old.takers.items)
+        (cells_in held) (column_list graph.now line) }
+    ensures kept { (c : ℕ) (x : ColumnValue) → slice_index_or columns.new.homes c None ≡ Some x
+        → (slice_index_or columns.old.homes c None ≡ Some x) ⊎ (held_at held c ≡ Some x) }
 {
     accesses_fit();
     columns_differ();
@@ -112,8 +120,10 @@ pub(crate) fn give_columns(graph: &Graph, line: u32, mut held: Held, columns: &m
 /// The first column of a line that is out.
 pub(crate) fn busy_column(graph: &Graph, line: u32, columns: &Columns) -> Option<u32>
     requires known { line < length graph.now.lines }
-    requires each { (length columns.now.homes ≡ length (graph_columns graph.now)) × (length columns.now.takers.items ≡ length (graph_columns graph.now)) }
-    ensures { MatchOption result (HasColumns graph.now (places_of columns.now.homes columns.now.takers.items) line) (IsFirstOut graph.now (places_of columns.now.homes columns.now.takers.items) line) }
+    requires each { (length columns.now.homes ≡ length (graph_columns graph.now))
+        × (length columns.now.takers.items ≡ length (graph_columns graph.now)) }
+    ensures { MatchOption result (HasColumns graph.now (places_of columns.now.homes columns.now.takers.items) line)
+        (IsFirstOut graph.now (places_of columns.now.homes columns.now.takers.items) line) }
 {
     accesses_fit();
     let _ = graph.lines();

@@ -88,11 +88,13 @@ impl LineEvents {
     pub(crate) fn stand_by(&mut self, line: u32, source: u32)
         requires line { line < self.old.table.waiters }
         requires pending { (h : TheHandle) → slice_get self.old.handles source ≡ Some h → answer self.old.table h ≡ Some Pending }
-        ensures placed { (h : TheHandle) → slice_get self.old.handles source ≡ Some h → IsFree self.old.table line → self.new ≡ record { handles = self.old.handles; table = placed_on self.old.table h line } }
+        ensures placed { (h : TheHandle) → slice_get self.old.handles source ≡ Some h → IsFree self.old.table line
+            → self.new ≡ record { handles = self.old.handles; table = placed_on self.old.table h line } }
         ensures unissued { slice_get self.old.handles source ≡ None → self.new ≡ self.old }
         ensures busy { (IsFree self.old.table line → ⊥) → self.new ≡ self.old }
         ensures answers { (h : TheHandle) → answer self.new.table h ≡ answer self.old.table h }
-        ensures either { (self.new ≡ self.old) ⊎ ((h : TheHandle) × (slice_get self.old.handles source ≡ Some h) × (self.new ≡ record { handles = self.old.handles; table = placed_on self.old.table h line })) }
+        ensures either { (self.new ≡ self.old) ⊎ ((h : TheHandle) × (slice_get self.old.handles source ≡ Some h)
+            × (self.new ≡ record { handles = self.old.handles; table = placed_on self.old.table h line })) }
     {
         if self.busy[line as usize] || source as usize >= self.handles.len() {
             return;
@@ -106,9 +108,11 @@ impl LineEvents {
     pub(crate) fn end(&mut self, line: u32, fate: Fate)
         requires issued { line < length self.old.handles }
         requires pending { answer self.old.table (slice_index_or self.old.handles line no_event) ≡ Some Pending }
-        ensures map { self.new ≡ record { handles = self.old.handles; table = ended_with self.old.table (slice_index_or self.old.handles line no_event) fate } }
+        ensures map { self.new ≡ record { handles = self.old.handles; table = ended_with self.old.table
+            (slice_index_or self.old.handles line no_event) fate } }
         ensures ended { answer self.new.table (slice_index_or self.old.handles line no_event) ≡ Some (answer_of fate) }
-        ensures others { (h : TheHandle) → h ≢ slice_index_or self.old.handles line no_event → answer self.new.table h ≡ answer self.old.table h }
+        ensures others { (h : TheHandle) → h ≢ slice_index_or self.old.handles line no_event
+            → answer self.new.table h ≡ answer self.old.table h }
     {
         self.table.end(self.handles[line as usize], fate);
     }

@@ -18,7 +18,8 @@ use graph_model::verb::Verb;
 pub(crate) fn busy_lock(graph: &Graph, line: u32, holders: &[Option<u32>]) -> Option<u32>
     requires known { line < length graph.now.lines }
     requires each { length holders.now ≡ length (locks graph.now) }
-    ensures { MatchOption result (HasLock graph.now (map holding holders.now) line) (λ l. Acquires graph.now line l × (list_at (map holding holders.now) l ≢ [])) }
+    ensures { MatchOption result (HasLock graph.now (map holding holders.now) line) (λ l. Acquires graph.now line l
+        × (list_at (map holding holders.now) l ≢ [])) }
 {
     match &graph.line(line).verb {
         Verb::Acquire { lock } if holders[*lock as usize].is_some() => Some(*lock),
@@ -42,8 +43,10 @@ pub(crate) fn hold(graph: &Graph, line: u32, holders: &mut Vec<Option<u32>>)
 pub(crate) fn free(graph: &Graph, line: u32, stages: &[Progress], holders: &mut Vec<Option<u32>>)
     requires known { line < length graph.now.lines }
     requires each { (length holders.old.items ≡ length (locks graph.now)) × (length stages.now ≡ length graph.now.lines) }
-    requires held { (l q : ℕ) → frees_in graph.now (map shown_stage stages.now) line ≡ Some (l, q) → list_at (map holding holders.old.items) l ≡ q ∷ [] }
-    ensures { map holding holders.new.items ≡ holders_without (map holding holders.old.items) (frees_in graph.now (map shown_stage stages.now) line) }
+    requires held { (l q : ℕ) → frees_in graph.now (map shown_stage stages.now) line ≡ Some (l, q)
+        → list_at (map holding holders.old.items) l ≡ q ∷ [] }
+    ensures { map holding holders.new.items ≡ holders_without (map holding holders.old.items)
+        (frees_in graph.now (map shown_stage stages.now) line) }
 {
     let Verb::Release { acquire } = &graph.line(line).verb else {
         return;

@@ -52,10 +52,12 @@ impl<'g> Model for Core<'g> {
 
     ghost Value = { CoreValue };
 
-    ghost view = { λ a. shown_core a.checked.now.graph a.stages.items a.events a.columns.homes a.columns.takers.items a.values.items a.holders.items a.trace.items };
+    ghost view = { λ a. shown_core a.checked.now.graph a.stages.items a.events a.columns.homes
+        a.columns.takers.items a.values.items a.holders.items a.trace.items };
 
     ghost invariant = { λ a. record {
-      core : IsCore (shown_core a.checked.now.graph a.stages.items a.events a.columns.homes a.columns.takers.items a.values.items a.holders.items a.trace.items);
+      core : IsCore (shown_core a.checked.now.graph a.stages.items a.events a.columns.homes
+          a.columns.takers.items a.values.items a.holders.items a.trace.items);
       kept : AreKept a.checked.now.graph a.columns.homes a.columns.takers.items;
       trace : length a.checked.now.graph.lines ≤ vec_capacity a.trace;
       ends : (a.room.ends.items ≡ []) × (length a.checked.now.graph.lines ≤ vec_capacity a.room.ends);

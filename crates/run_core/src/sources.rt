@@ -20,7 +20,8 @@ use line_effects::passing::cancels;
 pub(crate) fn least_left(graph: &Graph, line: u32, stages: &[Progress]) -> Option<u32>
     requires known { line < length graph.now.lines }
     requires each { length stages.now ≡ length graph.now.lines }
-    ensures { MatchOption result (HasSources graph.now (map shown_stage stages.now) line) (IsLeastLeft graph.now (map shown_stage stages.now) line) }
+    ensures { MatchOption result (HasSources graph.now (map shown_stage stages.now) line)
+        (IsLeastLeft graph.now (map shown_stage stages.now) line) }
 {
     edges_between_lines();
     let _ = graph.lines();
@@ -57,7 +58,8 @@ fn lesser(one: Option<u32>, other: u32) -> u32
 pub(crate) fn is_cancelled(graph: &Graph, line: u32, stages: &[Progress]) -> bool
     requires known { line < length graph.now.lines }
     requires each { length stages.now ≡ length graph.now.lines }
-    ensures { result ≡ list_any (λ (e : TheEdge). cancels e.kind (end_so_far (stage_at (map shown_stage stages.now) e.from))) (edges_into graph.now line) }
+    ensures { result ≡ list_any (λ (e : TheEdge). cancels e.kind (end_so_far (stage_at (map shown_stage stages.now) e.from)))
+        (edges_into graph.now line) }
 {
     edges_between_lines();
     let _ = graph.lines();

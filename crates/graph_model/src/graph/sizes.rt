@@ -159,7 +159,8 @@ impl Graph {
 
     /// The words of three columns and a space.
     fn three_columns_size(&self, x: u32, y: u32, z: u32, s: u32) -> u64
-        ensures size { result ≡ words_size (column_name self.now x ∷ column_name self.now y ∷ column_name self.now z ∷ space_name self.now s ∷ []) }
+        ensures size { result ≡ words_size
+            (column_name self.now x ∷ column_name self.now y ∷ column_name self.now z ∷ space_name self.now s ∷ []) }
         ensures few { result ≤ 224 }
     {
         self.column_size(x) + self.two_columns_size(y, z, s)

@@ -79,12 +79,16 @@ fn settle(
     values: &mut Vec<u64>,
 )
     requires known { line < length graph.now.lines }
-    requires each { (length columns.old.homes ≡ length (graph_columns graph.now)) × (length columns.old.takers.items ≡ length (graph_columns graph.now)) × (length values.old.items ≡ length graph.now.lines) }
+    requires each { (length columns.old.homes ≡ length (graph_columns graph.now))
+        × (length columns.old.takers.items ≡ length (graph_columns graph.now)) × (length values.old.items ≡ length graph.now.lines) }
     requires out { end ≢ Cancelled → (c : ℕ) → AccessesColumn graph.now line c → slice_get columns.old.homes c ≡ Some None }
     requires has { end ≢ Cancelled → (c : ℕ) → AccessesColumn graph.now line c → IsSome (held_at held c) }
-    ensures each { (length columns.new.homes ≡ length (graph_columns graph.now)) × (length columns.new.takers.items ≡ length (graph_columns graph.now)) }
-    ensures places { places_of columns.new.homes columns.new.takers.items ≡ all_home (places_of columns.old.homes columns.old.takers.items) (cells_in held) (columns_for graph.now line end) }
-    ensures kept { (c : ℕ) (x : ColumnValue) → slice_index_or columns.new.homes c None ≡ Some x → (slice_index_or columns.old.homes c None ≡ Some x) ⊎ (held_at held c ≡ Some x) }
+    ensures each { (length columns.new.homes ≡ length (graph_columns graph.now))
+        × (length columns.new.takers.items ≡ length (graph_columns graph.now)) }
+    ensures places { places_of columns.new.homes columns.new.takers.items ≡ all_home (places_of columns.old.homes columns.old.takers.items)
+        (cells_in held) (columns_for graph.now line end) }
+    ensures kept { (c : ℕ) (x : ColumnValue) → slice_index_or columns.new.homes c None ≡ Some x
+        → (slice_index_or columns.old.homes c None ≡ Some x) ⊎ (held_at held c ≡ Some x) }
     ensures values { values.new.items ≡ values_with values.old.items (arrival_for graph.now line end) }
 {
     if end == End::Cancelled {

@@ -47,7 +47,8 @@ impl<'g> Core<'g> {
 
     /// The same, before it is known whether a line can be taken or is left.
     pub(crate) fn slots_suffice(&self)
-        ensures { NothingOut self.now → ((i : ℕ) → CanTake self.now.graph self.now.run i → ⊥) → IsLeft self.now → IsFull self.now.table → ⊥ }
+        ensures { NothingOut self.now → ((i : ℕ) → CanTake self.now.graph self.now.run i → ⊥) → IsLeft self.now → IsFull self.now.table
+            → ⊥ }
     {
         left_below_need();
         let _ = self.checked.need();
