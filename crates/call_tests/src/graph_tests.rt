@@ -18,8 +18,31 @@ fn seven_lines(alloc: Global) -> Result<Graph, Fail> {
     Ok(read_graph(alloc, text.as_slice())?)
 }
 
-fn name(text: &[u8]) -> Result<Name, Fail> {
-    Ok(Name::new(text).ok_or("a name")?)
+/// What a name stands for.
+fn found(graph: &Graph, text: &[u8]) -> Option<Found> {
+    graph.find(&Name::new(text)?)
+}
+
+/// The column of a field of an instance.
+fn found_column(graph: &Graph, inst: &[u8], field: &[u8]) -> Option<u32> {
+    graph.find_column(&Name::new(inst)?, &Name::new(field)?)
+}
+
+/// Why a line of this verb does not fit.
+fn line_fault(graph: &Graph, verb: Verb, on: Option<u32>) -> Option<Why> {
+    let name = Name::new(b"m")?;
+    graph.line_fault(&Line { name, verb, on })
+}
+
+/// Why an instance without fields does not fit.
+fn bare_fault(alloc: Global, graph: &Graph) -> Option<Why> {
+    let name = Name::new(b"m")?;
+    let fields = NameList::new(alloc);
+    graph.decl_fault(&Decl::Inst {
+        name,
+        space: 0,
+        fields,
+    })
 }
 
 #[test]
@@ -56,10 +79,10 @@ fn answers(rt: HostRuntime) -> Result<(), Fail> {
 #[test]
 fn finds_names(rt: HostRuntime) -> Result<(), Fail> {
     let graph = seven_lines(rt.alloc())?;
-    assert_eq!(rt; graph.find(&name(b"d")?), Some(Found::Line(4)));
-    assert_eq!(rt; graph.find(&name(b"a")?), Some(Found::Inst(2)));
-    assert_eq!(rt; graph.find(&name(b"x")?), None);
-    assert_eq!(rt; graph.find_column(&name(b"a")?, &name(b"y")?), Some(1));
+    assert_eq!(rt; found(&graph, b"d"), Some(Found::Line(4)));
+    assert_eq!(rt; found(&graph, b"a"), Some(Found::Inst(2)));
+    assert_eq!(rt; found(&graph, b"x"), None);
+    assert_eq!(rt; found_column(&graph, b"a", b"y"), Some(1));
     Ok(())
 }
 
@@ -67,25 +90,11 @@ fn finds_names(rt: HostRuntime) -> Result<(), Fail> {
 fn refuses_items(rt: HostRuntime) -> Result<(), Fail> {
     let alloc = rt.alloc();
     let graph = seven_lines(alloc)?;
-    let phase = Line {
-        name: name(b"m")?,
-        verb: Verb::Phase { barrier: 0 },
-        on: Some(0),
-    };
-    assert_eq!(rt; graph.line_fault(&phase), Some(Why::Kind));
-    let merge = Line {
-        name: name(b"m")?,
-        verb: Verb::Merge {
-            events: LineList::new(alloc),
-        },
-        on: None,
-    };
-    assert_eq!(rt; graph.line_fault(&merge), Some(Why::Number));
-    let inst = Decl::Inst {
-        name: name(b"m")?,
-        space: 0,
-        fields: NameList::new(alloc),
-    };
-    assert_eq!(rt; graph.decl_fault(&inst), Some(Why::Number));
+    let phase = Verb::Phase { barrier: 0 };
+    assert_eq!(rt; line_fault(&graph, phase, Some(0)), Some(Why::Kind));
+    let events = LineList::new(alloc);
+    let merge = Verb::Merge { events };
+    assert_eq!(rt; line_fault(&graph, merge, None), Some(Why::Number));
+    assert_eq!(rt; bare_fault(alloc, &graph), Some(Why::Number));
     Ok(())
 }

@@ -154,8 +154,8 @@ fn one_slot(rt: HostRuntime) -> Result<(), Fail> {
     Ok(())
 }
 
-/// What an attempt on a line answers where all are issued and the first one is out.
-fn second_attempt(alloc: Global, text: &[u8], second: u32) -> Result<Attempt, Fail> {
+/// What keeps a line from being taken where all are issued and the first one is out.
+fn second_waits_for(alloc: Global, text: &[u8], second: u32) -> Result<Option<Thing>, Fail> {
     let checked = checked(alloc, text)?;
     if checked.need() > 8192 || checked.graph().lines() <= second {
         return Err("graph".into());
@@ -165,16 +165,20 @@ fn second_attempt(alloc: Global, text: &[u8], second: u32) -> Result<Attempt, Fa
     if !matches!(core.attempt(0), Attempt::Taken(_)) {
         return Err("first".into());
     }
-    Ok(core.attempt(second))
+    match core.attempt(second) {
+        Attempt::Busy(thing) => Ok(Some(thing)),
+        _ => Ok(None),
+    }
 }
 
 #[test]
 fn second_line_waits(rt: HostRuntime) -> Result<(), Fail> {
-    let reader = second_attempt(rt.alloc(), texts::TWO_READERS, 1)?;
-    assert!(rt; matches!(reader, Attempt::Busy(Thing::Column(0))));
-    let acquire = second_attempt(rt.alloc(), texts::TWO_SECTIONS, 3)?;
-    assert!(rt; matches!(acquire, Attempt::Busy(Thing::Lock(0))));
-    let merge = second_attempt(rt.alloc(), texts::TWO_SECTIONS, 1)?;
-    assert!(rt; matches!(merge, Attempt::NotYet(0)));
+    for (text, second, thing) in [
+        (texts::TWO_READERS, 1, Thing::Column(0)),
+        (texts::TWO_SECTIONS, 3, Thing::Lock(0)),
+    ] {
+        let found = second_waits_for(rt.alloc(), text, second)?;
+        assert_eq!(rt; found, Some(thing));
+    }
     Ok(())
 }
