@@ -39,26 +39,23 @@ fn first_fills(alloc: Global) -> Result<String, Fail> {
     Ok(format!(in alloc; "{fills}s0 = merge{all}\n")?)
 }
 
-/// The left halos of step `@`, on an event. The first tile's gets a value.
-fn left_halos(alloc: Global, event: &str, value: u64) -> Result<String, Fail> {
-    let mut text = format!(in alloc; "a@_0 = fill t0.x l0 {value} on {event}\n")?;
-    for k in 1..8u32 {
-        let line = format!(in alloc; "a@_{k} = copy t{}.x t{k}.x l{k} on {event}\n", k - 1)?;
-        text.push_str(line.as_str())?;
-    }
-    Ok(text)
-}
-
-/// The right halos of step `@`, on an event. The last tile's gets a value.
-fn right_halos(alloc: Global, event: &str, value: u64) -> Result<String, Fail> {
-    let mut text = String::new(alloc);
-    for k in 0..7u32 {
-        let line = format!(in alloc; "c@_{k} = copy t{}.x t{k}.x r{k} on {event}\n", k + 1)?;
-        text.push_str(line.as_str())?;
-    }
-    text.push_str(format!(in alloc; "c@_7 = fill t7.x r7 {value} on {event}\n")?.as_str())?;
-    Ok(text)
-}
+/// The halos of step `@`, on the event `%`. Those at both ends get the value `$`.
+const HALOS: &str = "a@_0 = fill t0.x l0 $ on %\n\
+    a@_1 = copy t0.x t1.x l1 on %\n\
+    a@_2 = copy t1.x t2.x l2 on %\n\
+    a@_3 = copy t2.x t3.x l3 on %\n\
+    a@_4 = copy t3.x t4.x l4 on %\n\
+    a@_5 = copy t4.x t5.x l5 on %\n\
+    a@_6 = copy t5.x t6.x l6 on %\n\
+    a@_7 = copy t6.x t7.x l7 on %\n\
+    c@_0 = copy t1.x t0.x r0 on %\n\
+    c@_1 = copy t2.x t1.x r1 on %\n\
+    c@_2 = copy t3.x t2.x r2 on %\n\
+    c@_3 = copy t4.x t3.x r3 on %\n\
+    c@_4 = copy t5.x t4.x r4 on %\n\
+    c@_5 = copy t6.x t5.x r5 on %\n\
+    c@_6 = copy t7.x t6.x r6 on %\n\
+    c@_7 = fill t7.x r7 $ on %\n";
 
 /// The lines of step `@` below its halos: the stencils, a dot under the reservation, and the phase at
 /// which each tile arrives once its values are copied back.
@@ -87,10 +84,12 @@ fn graph(alloc: Global) -> Result<String, Fail> {
     let mut value = 1u64;
     for step in 1..11u32 {
         let number = format!(in alloc; "{step}")?;
-        let left = left_halos(alloc, event.as_str(), value)?;
-        let right = right_halos(alloc, event.as_str(), value)?;
-        let lines = format!(in alloc; "{left}{right}{below}")?;
-        text.push_str(lines.replace(alloc, '@', number.as_str())?.as_str())?;
+        let ends = format!(in alloc; "{value}")?;
+        let halos = HALOS
+            .replace(alloc, '%', event.as_str())?
+            .replace(alloc, '$', ends.as_str())?;
+        text.push_str(halos.replace(alloc, '@', number.as_str())?.as_str())?;
+        text.push_str(below.replace(alloc, '@', number.as_str())?.as_str())?;
         event = format!(in alloc; "p{step}")?;
         value = value.wrapping_mul(3);
     }
