@@ -1,13 +1,13 @@
 //! A run by several workers, which take turns at one core.
 #![tactic(auto)]
 
-mod changes;
-mod hints;
+mod busy_lines;
+mod lock;
 mod plays;
-mod serving;
+mod search;
 mod turn;
-mod turning;
 mod view;
+mod waiting;
 mod workers;
 
 pub use turn::{Turn, run_turn};

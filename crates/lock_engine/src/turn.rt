@@ -7,10 +7,10 @@ ghost use Rattle.run_core.specs.Finishing.{NothingOut};
 ghost use Rattle.lock_engine.specs.Seats.{IsResting, view_of};
 ghost use Rattle.lock_engine.specs.Rule.{all_parts};
 
-use crate::changes::Changes;
-use crate::hints::Hints;
+use crate::waiting::Waiting;
+use crate::busy_lines::BusyLines;
 use crate::plays::Law;
-use crate::turning::sit;
+use crate::lock::take_seat;
 use crate::view::View;
 use crate::workers::run_workers;
 use atomic_table::{Badge, Table};
@@ -31,7 +31,7 @@ pub struct Turn<'g> {
     graph: &'g Graph,
     table: Table<Option<Core<'g>>, View, Graph, Law, Global>,
     badge: Badge<View>,
-    hints: Hints,
+    busy: BusyLines,
 }
 
 impl<'g> Model for Turn<'g> {
@@ -62,7 +62,7 @@ impl<'g> Turn<'g> {
         ensures { IfOk result (λ turn. turn ≡ checked.now.graph) }
     {
         let graph = checked.graph();
-        let hints = Hints::new(alloc, graph.lines())?;
+        let busy = BusyLines::new(alloc, graph.lines())?;
         let core = Core::prepare(alloc, checked, slots)?;
         let Ok(cores) = vec![in alloc; Some(core)] else {
             return Err(NoMemory);
@@ -74,7 +74,7 @@ impl<'g> Turn<'g> {
                     graph,
                     table,
                     badge,
-                    hints,
+                    busy,
                 })
             }
             Err(_) => Err(NoMemory),
@@ -102,16 +102,16 @@ pub fn run_turn<'g, R: Threads + Wait + Sync, G: Gate>(
         graph,
         table,
         badge,
-        hints,
+        busy,
     } = turn;
-    let changes = Changes::new();
+    let waiting = Waiting::new();
     let badge = run_workers(
         rt,
         &table.shared,
         graph,
         gate,
-        &changes,
-        &hints,
+        &waiting,
+        &busy,
         badge,
         workers,
     );
@@ -131,7 +131,7 @@ fn last_core<'g>(
     ensures graph { result.graph ≡ table.entry.shared.key }
     ensures nothing_out { NothingOut result }
 {
-    let seat = sit(badge);
+    let seat = take_seat(badge);
     let mut closed = table.close_with(seat);
     let Some(core) = closed.take(0) else {
         unreachable!()

@@ -5,10 +5,10 @@ ghost use Rattle.std.specs.Thread.{IsSync};
 ghost use Rattle.atomic_table.specs.Seated.{TableId};
 ghost use Rattle.lock_engine.specs.Seats.{IsResting, IsWaiting, view_of};
 
-use crate::changes::Changes;
-use crate::hints::Hints;
+use crate::waiting::Waiting;
+use crate::busy_lines::BusyLines;
 use crate::plays::{Cuts, Joins};
-use crate::turning::{Lock, next_work, rise, sit};
+use crate::lock::{Lock, next_work, leave_seat, take_seat};
 use crate::view::View;
 use atomic_table::Badge;
 use graph_model::graph::Graph;
@@ -18,7 +18,7 @@ use std::thread::{Threads, join};
 
 /// Where workers take turns. It hides the lifetime of the core, since a closure that captures a type
 /// with a lifetime of its own tells `join` nothing.
-pub(crate) trait Workplace: Sync {
+pub(crate) trait SharedLock: Sync {
     // Which table it is.
     ghost name: { Self → TableId };
 
@@ -28,8 +28,8 @@ pub(crate) trait Workplace: Sync {
         rt: &R,
         graph: &Graph,
         gate: &G,
-        changes: &Changes,
-        hints: &Hints,
+        waiting: &Waiting,
+        busy: &BusyLines,
         badge: Badge<View>,
     ) -> Badge<View>
         requires resting { IsResting (name self.now) badge }
@@ -59,7 +59,7 @@ pub(crate) trait Workplace: Sync {
         ensures parts { (view_of result).parts ≡ (view_of first).parts + (view_of rest).parts };
 }
 
-impl<'g> Workplace for Lock<'g> {
+impl<'g> SharedLock for Lock<'g> {
     ghost name = { λ lock. lock.table_id };
 
     fn work<R: Wait, G: Gate>(
@@ -67,20 +67,20 @@ impl<'g> Workplace for Lock<'g> {
         rt: &R,
         graph: &Graph,
         gate: &G,
-        changes: &Changes,
-        hints: &Hints,
+        waiting: &Waiting,
+        busy: &BusyLines,
         badge: Badge<View>,
     ) -> Badge<View> {
-        changes.enter();
-        let mut seat = sit(badge);
+        waiting.enter();
+        let mut seat = take_seat(badge);
         let mut done = None;
         let mut from = 0;
         let mut before = None;
         for _turn in rt.forever() {
-            let seen = changes.count();
-            let Some(work) = next_work(rt, self, &mut seat, done, hints, &mut from) else {
-                if !changes.wait(rt, seen) {
-                    return rise(seat);
+            let seen = waiting.count();
+            let Some(work) = next_work(rt, self, &mut seat, done, busy, &mut from) else {
+                if !waiting.wait(rt, seen) {
+                    return leave_seat(seat);
                 }
                 done = None;
                 before = None;
@@ -88,7 +88,7 @@ impl<'g> Workplace for Lock<'g> {
             };
             let line = work.line();
             if may_let_more_run(graph, before, line) {
-                changes.tell();
+                waiting.tell();
             }
             gate.pass(rt, line);
             done = Some(work.perform(graph));
@@ -118,13 +118,13 @@ fn may_let_more_run(graph: &Graph, before: Option<u32>, taken: u32) -> bool {
 }
 
 /// Runs so many workers, and waits for all of them.
-pub(crate) fn run_workers<R: Threads + Wait + Sync, P: Workplace, G: Gate>(
+pub(crate) fn run_workers<R: Threads + Wait + Sync, P: SharedLock, G: Gate>(
     rt: &R,
     place: &P,
     graph: &Graph,
     gate: &G,
-    changes: &Changes,
-    hints: &Hints,
+    waiting: &Waiting,
+    busy: &BusyLines,
     badge: Badge<View>,
     workers: u32,
 ) -> Badge<View>
@@ -140,7 +140,7 @@ pub(crate) fn run_workers<R: Threads + Wait + Sync, P: Workplace, G: Gate>(
         return badge;
     }
     if workers == 1 {
-        return place.work(rt, graph, gate, changes, hints, badge);
+        return place.work(rt, graph, gate, waiting, busy, badge);
     }
     let (first, rest) = place.cut(badge);
     let (first, rest) = join(
@@ -149,13 +149,13 @@ pub(crate) fn run_workers<R: Threads + Wait + Sync, P: Workplace, G: Gate>(
             requires { IsResting (P.name place.now) first × ((view_of first).line ≡ None) × ((view_of first).core.graph ≡ graph.now) }
             ensures { IsResting (P.name place.entry.now) result × ((view_of result).line ≡ None)
                 × ((view_of result).parts ≡ (view_of first).parts) }
-        { place.work(rt, graph, gate, changes, hints, first) },
+        { place.work(rt, graph, gate, waiting, busy, first) },
         || -> Badge<View>
             requires { IsSync R.row × IsResting (P.name place.now) rest × ((view_of rest).line ≡ None)
                 × ((view_of rest).core.graph ≡ graph.now) × (1 < workers) × (workers < (view_of rest).parts + 1) }
             ensures { IsResting (P.name place.entry.now) result × ((view_of result).line ≡ None)
                 × ((view_of result).parts ≡ (view_of rest).parts) }
-        { run_workers(rt, place, graph, gate, changes, hints, rest, workers - 1) },
+        { run_workers(rt, place, graph, gate, waiting, busy, rest, workers - 1) },
     );
     place.joined(first, rest)
 }
@@ -171,9 +171,9 @@ fn cut<'g>(lock: &Lock<'g>, badge: Badge<View>) -> (Badge<View>, Badge<View>)
         × ((view_of result.1).core.graph ≡ (view_of badge).core.graph) }
     ensures parts { ((view_of result.0).parts ≡ 1) × ((view_of result.1).parts + 1 ≡ (view_of badge).parts) }
 {
-    let mut seat = sit(badge);
+    let mut seat = take_seat(badge);
     let other = lock.split_seat::<Cuts>(&mut seat);
-    (rise(other), rise(seat))
+    (leave_seat(other), leave_seat(seat))
 }
 
 /// Puts two together.
@@ -184,8 +184,8 @@ fn joined<'g>(lock: &Lock<'g>, first: Badge<View>, rest: Badge<View>) -> Badge<V
     ensures idle { (view_of result).line ≡ None }
     ensures parts { (view_of result).parts ≡ (view_of first).parts + (view_of rest).parts }
 {
-    let mut seat = sit(first);
-    let other = sit(rest);
+    let mut seat = take_seat(first);
+    let other = take_seat(rest);
     lock.join_seat::<Joins>(&mut seat, other);
-    rise(seat)
+    leave_seat(seat)
 }

@@ -14,7 +14,7 @@ use Rattle.run_core.specs.Steps.{HasSources, IsDue, HasLock, HasColumns, IsHeldB
 use Rattle.run_core.specs.Findings.{IsFound}
 use Rattle.run_core.specs.Kept.{shown_stage}
 use Rattle.run_core.specs.declared.answers.Thing.{Thing}
-use Rattle.run_core.specs.declared.run.attempting.Finding.TheVariants as finding
+use Rattle.run_core.specs.declared.run.attempt.Finding.TheVariants as finding
 use Rattle.run_core.specs.declared.progress.Progress.{Progress}
 use Rattle.run_core.specs.declared.progress.Progress.TheVariants as progress
 use Rattle.run_core.proofs.CoreFacts.{sources_of}

@@ -6,8 +6,8 @@ use Rattle.graph_model.specs.Evaluation.{eval_end}
 use Rattle.run_state.specs.Run.{Issued, stage_at}
 use Rattle.run_core.specs.Core.{CoreValue}
 use Rattle.run_core.specs.Steps.{stage_of, IsLeastLeft, IsDue, IsHeldBy, HasLock, HasColumns}
-use Rattle.run_core.specs.declared.run.attempting.Finding.{Finding}
-use Rattle.run_core.specs.declared.run.attempting.Finding.TheVariants as finding
+use Rattle.run_core.specs.declared.run.attempt.Finding.{Finding}
+use Rattle.run_core.specs.declared.run.attempt.Finding.TheVariants as finding
 
 abbrev pub IsFound : CoreValue → ℕ → Finding → Type 0
 IsFound c i (finding.Over s) = (stage_at c.run.stages i ≢ Issued) × (s ≡ stage_of (stage_at c.run.stages i))

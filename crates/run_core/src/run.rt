@@ -17,12 +17,12 @@ use run_state::laws::{start_is_at_rest, start_is_sound};
 use std::alloc::Global;
 use std::marker::Model;
 
-pub(crate) mod attempting;
-mod ending;
-mod finishing;
-mod issuing;
+pub(crate) mod attempt;
+mod put_back;
+mod finish;
+mod issue;
 mod outcome;
-mod taking;
+mod take;
 
 /// The last generation of a slot. A slot retires only after 8,192 lines have ended on it, and then
 /// no line is left.

@@ -9,15 +9,15 @@ use Rattle.lock_engine.proofs.turn.last_core.Goals as goal
 
 pub unreachable-requires : goal.unreachable-requires
 unreachable-requires c =
-    let e = closes c.args.table.shared.key c.sit-seat.result.id c.sit-seat.result.me.0 (view_of c.args.badge) (slots_items c.close_with-closed.result.words) (slots_items c.close_with-closed.result.slots) c.take.result c.sit-seat.ensures.view c.requires.all c.requires.idle c.requires.resting.turn c.close_with-closed.ensures.values.2 c.take.ensures.value in
+    let e = closes c.args.table.shared.key c.take_seat-seat.result.id c.take_seat-seat.result.me.0 (view_of c.args.badge) (slots_items c.close_with-closed.result.words) (slots_items c.close_with-closed.result.slots) c.take.result c.take_seat-seat.ensures.view c.requires.all c.requires.idle c.requires.resting.turn c.close_with-closed.ensures.values.2 c.take.ensures.value in
     none-some e.0 (sym c.in_default.is ∙ e.3)
 
 pub returns-clause-graph : goal.returns-clause-graph
 returns-clause-graph c =
-    let e = closes c.args.table.shared.key c.sit-seat.result.id c.sit-seat.result.me.0 (view_of c.args.badge) (slots_items c.close_with-closed.result.words) (slots_items c.close_with-closed.result.slots) c.take.result c.sit-seat.ensures.view c.requires.all c.requires.idle c.requires.resting.turn c.close_with-closed.ensures.values.2 c.take.ensures.value in
+    let e = closes c.args.table.shared.key c.take_seat-seat.result.id c.take_seat-seat.result.me.0 (view_of c.args.badge) (slots_items c.close_with-closed.result.words) (slots_items c.close_with-closed.result.slots) c.take.result c.take_seat-seat.ensures.view c.requires.all c.requires.idle c.requires.resting.turn c.close_with-closed.ensures.values.2 c.take.ensures.value in
     ap (λ (x : CoreValue). x.graph) (same_Some c.in-Some.core e.0 (sym c.in-Some.is ∙ e.3)) ∙ e.1
 
 pub returns-clause-nothing_out : goal.returns-clause-nothing_out
 returns-clause-nothing_out c =
-    let e = closes c.args.table.shared.key c.sit-seat.result.id c.sit-seat.result.me.0 (view_of c.args.badge) (slots_items c.close_with-closed.result.words) (slots_items c.close_with-closed.result.slots) c.take.result c.sit-seat.ensures.view c.requires.all c.requires.idle c.requires.resting.turn c.close_with-closed.ensures.values.2 c.take.ensures.value in
+    let e = closes c.args.table.shared.key c.take_seat-seat.result.id c.take_seat-seat.result.me.0 (view_of c.args.badge) (slots_items c.close_with-closed.result.words) (slots_items c.close_with-closed.result.slots) c.take.result c.take_seat-seat.ensures.view c.requires.all c.requires.idle c.requires.resting.turn c.close_with-closed.ensures.values.2 c.take.ensures.value in
     subst NothingOut (sym (same_Some c.in-Some.core e.0 (sym c.in-Some.is ∙ e.3))) e.2
