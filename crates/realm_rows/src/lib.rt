@@ -3,22 +3,22 @@
 #![tactic(auto)]
 
 #[cfg(test)]
-mod faults;
+mod fault_tests;
 #[cfg(test)]
 mod generated;
 #[cfg(test)]
-mod graphs;
+mod graph_tests;
 #[cfg(test)]
-mod limits;
+mod limit_tests;
 #[cfg(test)]
-mod made;
+mod made_tests;
 #[cfg(test)]
 mod row;
 #[cfg(test)]
-mod rules;
+mod rule_tests;
 #[cfg(test)]
-mod texts;
+mod text_tests;
 #[cfg(test)]
-mod tiles;
+mod tile_tests;
 #[cfg(test)]
-mod words;
+mod word_tests;

@@ -1,6 +1,6 @@
 //! Sources and sinks that fail.
 
-use crate::graphs::{FILL, FILL_REPORT};
+use crate::graph_tests::{FILL, FILL_REPORT};
 use crate::row::{Outside, Row};
 use realm_top::status::Status;
 use std::sync::Wait;

@@ -1,6 +1,6 @@
 //! Texts that are refused.
 
-use crate::graphs::FILL;
+use crate::graph_tests::FILL;
 use crate::row::Row;
 use realm_top::status::Status;
 use std::alloc::Global;

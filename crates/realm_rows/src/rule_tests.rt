@@ -1,6 +1,6 @@
 //! Graphs that break a rule, and the needs of graphs that break none.
 
-use crate::graphs::{EMPTY, FILL};
+use crate::graph_tests::{EMPTY, FILL};
 use crate::row::Row;
 use realm_top::status::Status;
 use std::test::Fail;

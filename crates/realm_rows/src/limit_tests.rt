@@ -1,7 +1,7 @@
 //! Texts with one item more than a limit allows, texts as great as a limit allows, and the least slots.
 
 use crate::generated::{all_done, chain, numbered};
-use crate::graphs::EMPTY_REPORT;
+use crate::graph_tests::EMPTY_REPORT;
 use crate::row::Row;
 use realm_top::status::Status;
 use std::alloc::Global;

@@ -1,6 +1,6 @@
 //! Command lines that are taken and that are refused.
 
-use crate::graphs::{FILL, FILL_REPORT};
+use crate::graph_tests::{FILL, FILL_REPORT};
 use crate::row::{Row, SURE};
 use realm_top::status::Status;
 use std::test::Fail;
