@@ -2,7 +2,7 @@ use Rattle.std.specs.Prelude.{ℕ, List, Some}
 use Rattle.realm_io.specs.SinkState.{SinkState}
 
 -- bytes kept in memory, and how many more there is room for
-pub record RoomValue : Type 0 where
+pub record FixedBufferValue : Type 0 where
   pub taken : List ℕ
   pub free : ℕ
 

@@ -3,12 +3,12 @@
 
 pub mod adapters;
 mod counts;
+mod fixed_buffer;
 pub mod gates;
 mod listed;
 pub mod memory_sink;
 pub mod memory_source;
 pub mod reading;
-mod room;
 pub mod sinks;
 pub mod sources;
 pub mod sure;

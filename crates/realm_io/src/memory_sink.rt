@@ -6,7 +6,7 @@ ghost use Rattle.realm_io.specs.Told.{with_more};
 
 use crate::counts::count_if;
 use crate::listed::is_listed;
-use crate::room::Room;
+use crate::fixed_buffer::FixedBuffer;
 use crate::sinks::Sink;
 use crate::sources::Failed;
 use std::marker::Model;
@@ -14,7 +14,7 @@ use std::marker::Model;
 /// A sink over memory, whose faults come at stated calls and where its room is full. No call takes memory.
 #[derive(Drop)]
 pub struct MemorySink {
-    room: Room,
+    room: FixedBuffer,
     flushed: usize,
     piece: usize,
     fails: Vec<u32>,
@@ -60,7 +60,7 @@ impl MemorySink {
         } }
     {
         MemorySink {
-            room: Room::new(room),
+            room: FixedBuffer::new(room),
             flushed: 0,
             piece,
             fails,

@@ -2,7 +2,7 @@
 ghost use Rattle.std.specs.Prelude.{◌≡◌, ◌+◌, ◌-◌, ◌^◌, ◌<◌, ◌≤◌, ◌++◌, [], Some, Ok, length, take, drop, min, vec_len, IfOk, IsOk};
 ghost use Rattle.std.specs.Io.KnownBytes.{Consumes, IsAtEnd};
 
-use crate::room::Room;
+use crate::fixed_buffer::FixedBuffer;
 use crate::sinks::Sink;
 use crate::sources::{Failed, Source};
 use std::marker::Model;
@@ -69,7 +69,7 @@ impl Source for SureSource {
 /// No call fails, and none takes memory.
 #[derive(Drop)]
 pub struct SureSink {
-    room: Room,
+    room: FixedBuffer,
     taken: u64,
 }
 
@@ -87,7 +87,7 @@ impl SureSink {
         ensures { result ≡ record { taken = 0; kept = []; free = vec_len room } }
     {
         SureSink {
-            room: Room::new(room),
+            room: FixedBuffer::new(room),
             taken: 0,
         }
     }

@@ -6,7 +6,7 @@ use crate::columns::Columns;
 use crate::events::LineEvents;
 use crate::phases::first_values;
 use crate::progress::Progress;
-use crate::run::outcome::Room;
+use crate::run::outcome::OutcomeRoom;
 use graph_model::checked::Checked;
 use graph_model::graph::Graph;
 use graph_model::laws::needs_are_one;
@@ -41,7 +41,7 @@ pub struct Core<'g> {
     holders: Vec<Option<u32>>,
     // The ended lines, in the order in which they ended.
     trace: Vec<u32>,
-    room: Room,
+    room: OutcomeRoom,
 }
 
 impl<'g> Model for Core<'g> {
@@ -100,7 +100,7 @@ impl<'g> Core<'g> {
             values: first_values(alloc, graph)?,
             holders: filled(alloc, None, graph.locks() as usize)?,
             trace: with_room(alloc, lines as usize)?,
-            room: Room::new(alloc, lines as usize)?,
+            room: OutcomeRoom::new(alloc, lines as usize)?,
         })
     }
 

@@ -27,23 +27,23 @@ use std::alloc::Global;
 
 /// Room for the lists of the outcome.
 #[derive(Drop)]
-pub(crate) struct Room {
+pub(crate) struct OutcomeRoom {
     pub(crate) ends: Vec<End>,
     pub(crate) answers: Vec<Answer>,
     pub(crate) phases: Vec<Option<u64>>,
 }
 
-impl Room {
+impl OutcomeRoom {
     ghost use Rattle.std.specs.Prelude.{◌≡◌, [], IfOk};
     ghost use Rattle.std.specs.Vec.{vec_capacity};
 
     /// Room for so many lines.
-    pub(crate) fn new(alloc: Global, lines: usize) -> Result<Room, NoMemory>
+    pub(crate) fn new(alloc: Global, lines: usize) -> Result<OutcomeRoom, NoMemory>
         ensures ends { IfOk result (λ r. (r.ends.items ≡ []) × (vec_capacity r.ends ≡ lines)) }
         ensures answers { IfOk result (λ r. (r.answers.items ≡ []) × (vec_capacity r.answers ≡ lines)) }
         ensures phases { IfOk result (λ r. (r.phases.items ≡ []) × (vec_capacity r.phases ≡ lines)) }
     {
-        Ok(Room {
+        Ok(OutcomeRoom {
             ends: with_room(alloc, lines)?,
             answers: with_room(alloc, lines)?,
             phases: with_room(alloc, lines)?,

@@ -5,16 +5,16 @@ use std::marker::Model;
 
 /// Bytes kept in memory that was made before, seen as the bytes and how many more fit.
 #[derive(Drop)]
-pub(crate) struct Room {
+pub(crate) struct FixedBuffer {
     bytes: Vec<u8>,
     used: usize,
 }
 
-impl Model for Room {
+impl Model for FixedBuffer {
     ghost use Rattle.std.specs.Prelude.{◌-◌, ◌≤◌, length, take};
-    ghost use Rattle.realm_io.specs.Memory.{RoomValue};
+    ghost use Rattle.realm_io.specs.Memory.{FixedBufferValue};
 
-    ghost Value = { RoomValue };
+    ghost Value = { FixedBufferValue };
 
     ghost view = { λ a. record {
       taken = take a.used a.bytes.items;
@@ -24,13 +24,13 @@ impl Model for Room {
     ghost invariant = { λ a. a.used ≤ length a.bytes.items };
 }
 
-impl Room {
+impl FixedBuffer {
     /// An empty room, as large as `bytes` is long.
     pub(crate) fn new(bytes: Vec<u8>) -> Self
         ensures taken { result.taken ≡ [] }
         ensures free { result.free ≡ vec_len bytes }
     {
-        Room { bytes, used: 0 }
+        FixedBuffer { bytes, used: 0 }
     }
 
     /// How many more bytes fit.
