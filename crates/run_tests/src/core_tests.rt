@@ -8,6 +8,7 @@ ghost use Rattle.run_core.specs.Works.{WorkValue, IsWork};
 use crate::graphs::checked;
 use crate::outcomes::{has_trace, is_same};
 use crate::{texts, tiles};
+use gen_events::Handle;
 use graph_model::outcome::Outcome;
 use plain_eval::evaluation::eval;
 use race_check::checked::Checked;
@@ -151,7 +152,24 @@ fn tiled_stencil(rt: HostRuntime) -> Result<(), Fail> {
 fn one_slot(rt: HostRuntime) -> Result<(), Fail> {
     let text = tiles::chain(rt.alloc())?;
     assert!(rt; is_evaluated(rt.alloc(), text.as_bytes(), 1)?);
+    assert!(rt; shares_one_slot(rt.alloc(), text.as_bytes())?);
     Ok(())
+}
+
+/// Whether each line of a finished run with one slot has the slot's generation of its number.
+fn shares_one_slot(alloc: Global, text: &[u8]) -> Result<bool, Fail> {
+    let checked = checked(alloc, text)?;
+    if checked.need() > 1 {
+        return Err("slots".into());
+    }
+    let mut core = Core::prepare(alloc, &checked, 1)?;
+    core.finish();
+    for line in 0..core.graph().lines() {
+        if core.handle_of(line) != Some(Handle { slot: 0, gen_: line }) {
+            return Ok(false);
+        }
+    }
+    Ok(true)
 }
 
 /// What keeps a line from being taken where all are issued and the first one is out.
