@@ -1,4 +1,4 @@
-use Rattle.std.proofs.Common.{rules, arith, ◌∙◌, ap, sym, subst, ◌<◌, ◌≤◌, ◌++◌}
+use Rattle.std.proofs.Common.{rules, arith, ◌∙◌, ap, sym, subst, ◌<◌, ◌++◌}
 use Rattle.gen_events.specs.declared.handle.Shape.{Shape}
 use Rattle.gen_events.proofs.Scout.{scouts, scout_past, scans_more, full_shown}
 use Rattle.gen_events.specs.declared.tokens.Seat.{Seat}

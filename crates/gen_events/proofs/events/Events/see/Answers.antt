@@ -1,4 +1,4 @@
-use Rattle.std.proofs.Common.{rules, arith, ap, subst, sym, ◌∙◌, ◌<◌}
+use Rattle.std.proofs.Common.{rules, arith, ap, subst, sym, ◌<◌}
 use Rattle.gen_events.specs.declared.handle.Shape.{Shape}
 use Rattle.gen_events.specs.Seats.{slots_of}
 use Rattle.gen_events.proofs.Cuts.{joins, splits, grants}
