@@ -66,11 +66,11 @@ fn two_slots_of_one_generation(rt: HostRuntime) -> Result<(), Fail> {
         return Err("no memory".into());
     };
     let mut other = events.split(&mut seat);
-    let Some(one) = events.create(&mut maker, &mut seat) else {
+    let Some(mut one) = events.create(&mut maker, &mut seat) else {
         return Err("the first".into());
     };
-    let handle = one.handle();
-    assert_eq!(rt; events.look(&mut seat, handle), Answer::Pending);
+    let handle = events.see(&mut other, &mut one);
+    assert_eq!(rt; events.look(&mut other, handle), Answer::Pending);
     assert!(rt; serve(&events, &mut maker, &mut seat, Fate::Ok).is_some());
     assert!(rt; serve(&events, &mut maker, &mut seat, Fate::Ok).is_none());
     let (receipt, _caught) = events.end(&mut seat, one, Fate::Poison);

@@ -25,6 +25,7 @@ pub(crate) enum Finding {
 
 impl<'g> Core<'g> {
     ghost use Rattle.std.specs.Prelude.{◌≡◌, ◌≢◌, ℕ, ◌<◌, length};
+    ghost use Rattle.run_core.specs.Core.{slots_given};
     ghost use Rattle.run_core.specs.Steps.{Attempts, StandsBy, IsLeastLeft};
     ghost use Rattle.run_core.specs.Findings.{IsFound};
     ghost use Rattle.run_core.specs.Works.{KeepsWork};
@@ -40,6 +41,7 @@ impl<'g> Core<'g> {
         ensures answer { Attempts self.old self.new i result }
         ensures works { (k : ℕ) → KeepsWork self.old self.new k }
         ensures out { OutAfter self.old self.new result }
+        ensures slots { slots_given self.new ≡ slots_given self.old }
     {
         match self.finding(i) {
             Finding::Over(stage) => Attempt::Over(stage),

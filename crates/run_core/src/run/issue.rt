@@ -6,13 +6,14 @@ use crate::run::Core;
 use run_state::laws::{issue_keeps_rest, left_below_need, stage_leaves};
 
 impl<'g> Core<'g> {
+    ghost use Rattle.run_core.specs.Core.{slots_given};
     ghost use Rattle.run_core.specs.Steps.{Issues, IsLeft};
     ghost use Rattle.run_core.specs.Works.{KeepsWork};
     ghost use Rattle.run_core.specs.WhatIsOut.{SameOut};
     ghost use Rattle.run_core.specs.Finishing.{NothingOut};
     ghost use Rattle.run_state.specs.Quiet.{CanTake};
     ghost use Rattle.gen_events.specs.EventMap.{IsFull};
-    ghost use Rattle.std.specs.Prelude.{ℕ};
+    ghost use Rattle.std.specs.Prelude.{◌≡◌, ℕ};
 
     /// Gives the next line in file order its handle. All comes exactly where all lines are issued,
     /// NoSlot exactly where a line is left and no slot is free.
@@ -20,6 +21,7 @@ impl<'g> Core<'g> {
         ensures answer { Issues self.old self.new result }
         ensures works { (i : ℕ) → KeepsWork self.old self.new i }
         ensures out { SameOut self.old self.new }
+        ensures slots { slots_given self.new ≡ slots_given self.old }
     {
         issue_keeps_rest();
         stage_leaves();

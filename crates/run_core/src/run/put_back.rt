@@ -26,6 +26,7 @@ use run_state::laws::{put_back_keeps_rest, put_back_leaves};
 
 impl<'g> Core<'g> {
     ghost use Rattle.std.specs.Prelude.{◌≡◌, ◌≢◌, ℕ, ◌<◌, [], length, slice_get, IfSome, IfNone};
+    ghost use Rattle.run_core.specs.Core.{slots_given};
     ghost use Rattle.run_core.specs.Steps.{with_end, Wakes};
     ghost use Rattle.run_core.specs.Works.{IsFinished, KeepsWork};
     ghost use Rattle.run_core.specs.WhatIsOut.{SameOut, OneMoreOut};
@@ -38,6 +39,7 @@ impl<'g> Core<'g> {
         ensures put { self.new ≡ with_end self.old finished }
         ensures works { (k : ℕ) → k ≢ finished.line → KeepsWork self.old self.new k }
         ensures out { OneMoreOut self.new self.old finished.line }
+        ensures slots { slots_given self.new ≡ slots_given self.old }
     {
         put_back_keeps_rest();
         put_back_leaves();
@@ -57,6 +59,7 @@ impl<'g> Core<'g> {
         ensures none { IfNone result ((self.old.table.caught ≡ []) × (self.new ≡ self.old)) }
         ensures works { (k : ℕ) → KeepsWork self.old self.new k }
         ensures out { SameOut self.old self.new }
+        ensures slots { slots_given self.new ≡ slots_given self.old }
     {
         self.events.next_woken()
     }

@@ -6,6 +6,7 @@ use Rattle.run_core.proofs.TakenFacts.{staged_shown}
 use Rattle.run_core.proofs.IssueFacts.{stages_differ, left_to_issue, issued_core, issued_answer, issued_works, full_answer}
 use Rattle.run_core.specs.Core.{IsCore}
 use Rattle.run_core.proofs.OutFacts.{out_by_answer}
+use Rattle.run_core.proofs.SlotsGiven.{issued_slots}
 use Rattle.run_core.proofs.run.Core.issue.Goals as goal
 
 pub create-requires : goal.create-requires
@@ -58,3 +59,6 @@ returns-clause-works c =
 
 pub returns-clause-out : goal.returns-clause-out
 returns-clause-out c = out_by_answer c.args.self.now _ c.issued-next.result (subst IsCore c.self.view_is c.self.invariant.core) (returns-clause-answer c)
+
+pub returns-clause-slots : goal.returns-clause-slots
+returns-clause-slots c = issued_slots c.args.self.now _ _ (returns-clause-answer c)

@@ -16,6 +16,7 @@ use Rattle.run_core.specs.Works.{FinishedValue, cells_in}
 use Rattle.run_core.proofs.CoreFacts.{handle_pending}
 use Rattle.run_core.proofs.EndedFacts.{held_alone, ended_shown, column_is_out, column_is_held, trace_is_short, ended_kept, finished_is, ended_core, ended_is, ended_works}
 use Rattle.run_core.proofs.OutFacts.{out_put}
+use Rattle.run_core.proofs.SlotsGiven.{ended_slots}
 use Rattle.run_core.proofs.run.Core.put_back.Goals as goal
 
 abbrev ended_events : EventsValue → Handle → Fate → EventsValue
@@ -116,3 +117,6 @@ returns-clause-works c =
 
 pub returns-clause-out : goal.returns-clause-out
 returns-clause-out c = out_put c.args.self.now _ c.args.finished (subst IsCore c.self.view_is c.self.invariant.core) c.requires (returns-clause-put c)
+
+pub returns-clause-slots : goal.returns-clause-slots
+returns-clause-slots c = ended_slots c.args.self.now _ c.args.finished (returns-clause-put c)
