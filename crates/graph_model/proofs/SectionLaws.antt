@@ -7,7 +7,7 @@ use Rattle.graph_model.specs.Edges.{edges}
 use Rattle.graph_model.specs.Path.{Path, last, first, HasPath}
 use Rattle.graph_model.specs.Rules.{Acquires, Releases, Accepted}
 use Rattle.graph_model.specs.Fits.{IsGraph}
-use Rattle.graph_model.specs.Trace.{StandsBefore, ListsEnded, IsLawful, SectionsApart}
+use Rattle.graph_model.specs.Trace.{StandsBefore, ListsEnded, IsLawful, HaveSections, SectionsApart}
 use Rattle.graph_model.proofs.ReleaseFacts.{one_release}
 
 -- what stands before a line that stands before a third one stands before that one
@@ -34,13 +34,19 @@ path_before g trace t {i} {j} (first e c p rest) h =
     let here = t.sources e c (got_contains trace after.0 e.to after.2) in
     subst (λ x. StandsBefore trace x j) p (before_trans g trace t e.from e.to j here after)
 
-pub sections_apart : (g : GraphValue) (trace : List ℕ) → IsGraph g → Accepted g → IsLawful g trace → SectionsApart g trace
-sections_apart g trace fits ok t l q k r acquires other different done other_done releases before behind = elim (t.sections l q k acquires other different done other_done) [
-  | inl free ↦
-      never_before g trace t.lists k (before_trans g trace t.lists k r k behind (subst (λ z. StandsBefore trace z k) (one_release g fits q free.0 r free.1 releases) free.2))
-  | inr free ↦ (
-      let own = ok.released k l other in
-      let path : HasPath g k free.0 = subst (λ z. HasPath g k z) (one_release g fits k own.0 free.0 own.1 free.1) own.2 in
-      let first_release = path_before g trace t.lists path (got_contains trace free.2.0 free.0 free.2.2) in
-      never_before g trace t.lists q (before_trans g trace t.lists q k q before (before_trans g trace t.lists k free.0 q first_release free.2)))
-]
+module _ (g : GraphValue) (trace : List ℕ) (fits : IsGraph g) (ok : Accepted g) (t : IsLawful g trace) where
+  released_first : (l q k r : ℕ) → HaveSections g l q k → Releases g r q → StandsBefore trace q k → StandsBefore trace r k
+  released_first l q k r h releases before = elim (t.sections l q k h.acquires.0 h.acquires.1 h.differ h.done.0 h.done.1) [
+    | inl free ↦ subst (λ z. StandsBefore trace z k) (one_release g fits q free.0 r free.1 releases) free.2
+    | inr free ↦ absurd (
+        let own = ok.released k l h.acquires.1 in
+        let path : HasPath g k free.0 = subst (λ z. HasPath g k z) (one_release g fits k own.0 free.0 own.1 free.1) own.2 in
+        let first_release = path_before g trace t.lists path (got_contains trace free.2.0 free.0 free.2.2) in
+        never_before g trace t.lists q (before_trans g trace t.lists q k q before (before_trans g trace t.lists k free.0 q first_release free.2)))
+  ]
+
+  pub sections_apart : SectionsApart g trace
+  sections_apart = record {
+    released = released_first;
+    between = λ l q k r h releases before behind. never_before g trace t.lists k (before_trans g trace t.lists k r k behind (released_first l q k r h releases before));
+  }

@@ -23,7 +23,13 @@ pub record IsLawful (g : GraphValue) (trace : List ℕ) : Type 0 where
   pub sections : (l q k : ℕ) → Acquires g q l → Acquires g k l → q ≢ k → eval_end g q ≡ Done → eval_end g k ≡ Done →
       ((r : ℕ) × Releases g r q × StandsBefore trace r k) ⊎ ((r : ℕ) × Releases g r k × StandsBefore trace r q)
 
--- between an acquire that ended Done and its release stands no other acquire of that reservation that ended Done
-abbrev pub SectionsApart : GraphValue → List ℕ → Type 0
-SectionsApart g trace = (l q k r : ℕ) → Acquires g q l → Acquires g k l → q ≢ k → eval_end g q ≡ Done → eval_end g k ≡ Done →
-    Releases g r q → StandsBefore trace q k → StandsBefore trace k r → ⊥
+-- q and k are two acquires of one reservation that ended Done
+pub record HaveSections (g : GraphValue) (l q k : ℕ) : Type 0 where
+  pub acquires : Acquires g q l × Acquires g k l
+  pub differ : q ≢ k
+  pub done : (eval_end g q ≡ Done) × (eval_end g k ≡ Done)
+
+-- the release of the one that stands first stands before the other: so between an acquire and its release stands no other acquire
+pub record SectionsApart (g : GraphValue) (trace : List ℕ) : Type 0 where
+  pub released : (l q k r : ℕ) → HaveSections g l q k → Releases g r q → StandsBefore trace q k → StandsBefore trace r k
+  pub between : (l q k r : ℕ) → HaveSections g l q k → Releases g r q → StandsBefore trace q k → StandsBefore trace k r → ⊥

@@ -61,7 +61,7 @@ fn put_places<K: Sink>(
 ) -> Result<(), WriteFault>
     ensures { Writes (K.state sink.old) (K.state sink.new) result
         (spaced (map (λ c. column_name graph.now c) columns.now ++
-            (map (λ s. space_name graph.now s) spaces.now ++ map (λ n. decimal n) numbers.now))) }
+        (map (λ s. space_name graph.now s) spaces.now ++ map (λ n. decimal n) numbers.now))) }
 {
     put_columns(sink, graph, columns)?;
     put_spaces(sink, graph, spaces)?;
@@ -79,7 +79,7 @@ fn put_on_cells<K: Sink>(
 ) -> Result<(), WriteFault>
     ensures { Writes (K.state sink.old) (K.state sink.new) result
         (spaced (word.now ∷ (map (λ c. column_name graph.now c) columns.now ++
-            (map (λ s. space_name graph.now s) spaces.now ++ map (λ n. decimal n) numbers.now)))) }
+        (map (λ s. space_name graph.now s) spaces.now ++ map (λ n. decimal n) numbers.now)))) }
 {
     put_behind(sink, b" ", &Word::Fixed(word))?;
     put_places(sink, graph, columns, spaces, numbers)

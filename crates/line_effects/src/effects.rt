@@ -23,7 +23,7 @@ pub fn apply(graph: &Graph, line: u32, held: &mut Held) -> Verdict
     ensures same { (c : ℕ) → is_some (held_at held.new c) ≡ is_some (held_at held.old c) }
     ensures effect { (cells : Cells) → HeldShow graph.now cells held.old
         → (result ≡ (effect graph.now line cells).verdict)
-            × HeldShow graph.now (cells_after cells (effect graph.now line cells).changes) held.new }
+        × HeldShow graph.now (cells_after cells (effect graph.now line cells).changes) held.new }
 {
     accesses_fit();
     columns_differ();

@@ -7,11 +7,11 @@ ghost use Rattle.run_core.specs.Finishing.{NothingOut};
 ghost use Rattle.lock_engine.specs.Seats.{IsResting, view_of};
 ghost use Rattle.lock_engine.specs.Rule.{all_parts};
 
-use crate::waiting::Waiting;
 use crate::busy_lines::BusyLines;
-use crate::plays::Law;
 use crate::lock::take_seat;
+use crate::plays::Law;
 use crate::view::View;
+use crate::waiting::Waiting;
 use crate::workers::run_workers;
 use atomic_table::{Badge, Table};
 use graph_model::checked::Checked;

@@ -5,11 +5,11 @@ ghost use Rattle.std.specs.Thread.{IsSync};
 ghost use Rattle.atomic_table.specs.Seated.{TableId};
 ghost use Rattle.lock_engine.specs.Seats.{IsResting, IsWaiting, view_of};
 
-use crate::waiting::Waiting;
 use crate::busy_lines::BusyLines;
+use crate::lock::{Lock, leave_seat, next_work, take_seat};
 use crate::plays::{Cuts, Joins};
-use crate::lock::{Lock, next_work, leave_seat, take_seat};
 use crate::view::View;
+use crate::waiting::Waiting;
 use atomic_table::Badge;
 use graph_model::graph::Graph;
 use realm_io::Gate;

@@ -18,7 +18,7 @@ pub(crate) fn perform(graph: &Graph, line: u32, homes: &mut Homes) -> Verdict
     requires home { (cells : Cells) × (homes.old ≡ all_home graph.now cells) }
     ensures { (cells : Cells) → homes.old ≡ all_home graph.now cells
         → (result ≡ (effect graph.now line cells).verdict)
-            × (homes.new ≡ all_home graph.now (cells_after cells (made_by result (effect graph.now line cells).changes))) }
+        × (homes.new ≡ all_home graph.now (cells_after cells (made_by result (effect graph.now line cells).changes))) }
 {
     changes_within_accesses();
     let mut held = take_columns(graph, line, homes);

@@ -78,7 +78,7 @@ fn end_line(graph: &Graph, line: u32, ends: &[End], homes: &mut Homes) -> End
     ensures { (ss : List Step) → ends.now ≡ map (end_in ss) (numbers_below (length graph.now.lines))
         → homes.old ≡ all_home graph.now (cells_of ss)
         → (result ≡ (step_of graph.now ss line).ends) × (homes.new ≡ all_home graph.now
-            (cells_after (cells_of ss) (step_of graph.now ss line).changes)) }
+        (cells_after (cells_of ss) (step_of graph.now ss line).changes)) }
 {
     if is_cancelled(graph, line, ends) {
         return End::Cancelled;

@@ -84,7 +84,7 @@ impl Waiting {
         ensures left { OnOk result (self.new.left.items ≡ slice_set self.old.left.items line (slice_index self.old.left.items line - 1)) }
         ensures ready { OnOk result ((i : ℕ) → contains nat_cmp self.new.ready i
             ≡ (contains nat_cmp self.old.ready i || ((line == i) &&
-                (not (never_comes graph.now line) && (slice_index self.old.left.items line - 1 == 0))))) }
+            (not (never_comes graph.now line) && (slice_index self.old.left.items line - 1 == 0))))) }
     {
         let left = self.left[line as usize] - 1;
         self.left[line as usize] = left;

@@ -90,7 +90,7 @@ impl Search {
         ensures size { OnOk result (length self.new.marked.items ≡ length graph.now.lines) }
         ensures marking { OnOk result
             (IsMarking (edges_out_of graph.now line) self.old.marked.items self.old.stack.items
-                self.new.marked.items self.new.stack.items) }
+            self.new.marked.items self.new.stack.items) }
         ensures work { OnOk result
             (unmarked self.new.marked.items + length self.new.stack.items ≤ unmarked self.old.marked.items + length self.old.stack.items) }
     {

@@ -81,7 +81,7 @@ impl Marks {
         requires some { 0 < mark }
         ensures { OnOk result
             (IsMarking (IsTarget (edges_out_of graph.now line)) mark self.old.highs.items self.old.stack.items
-                self.new.highs.items self.new.stack.items) }
+            self.new.highs.items self.new.stack.items) }
     {
         edges_between_lines();
         let _ = graph.lines();
@@ -98,7 +98,7 @@ impl Marks {
         requires some { 0 < mark }
         ensures { OnOk result
             (IsMarking (λ i. Acquires graph.now i lock) mark self.old.highs.items self.old.stack.items
-                self.new.highs.items self.new.stack.items) }
+            self.new.highs.items self.new.stack.items) }
     {
         for line in 0..graph.lines() {
             if acquires(graph, line, lock) {
@@ -208,7 +208,7 @@ impl Flood {
         requires acquires { AreAcquiresMarked graph.now self.old.marks.highs.items self.old.noted.items }
         ensures marking { OnOk result
             (IsMarking (IsNext graph.now line) mark self.old.marks.highs.items self.old.marks.stack.items
-                self.new.marks.highs.items self.new.marks.stack.items) }
+            self.new.marks.highs.items self.new.marks.stack.items) }
         ensures locks_noted { OnOk result (length self.new.noted.items ≡ length (locks graph.now)) }
         ensures acquires { OnOk result (AreAcquiresMarked graph.now self.new.marks.highs.items self.new.noted.items) }
     {
@@ -228,7 +228,7 @@ impl Flood {
         requires acquires { AreAcquiresMarked graph.now self.old.marks.highs.items self.old.noted.items }
         ensures marking { OnOk result
             (IsMarking (λ i. Acquires graph.now i lock) mark self.old.marks.highs.items self.old.marks.stack.items
-                self.new.marks.highs.items self.new.marks.stack.items) }
+            self.new.marks.highs.items self.new.marks.stack.items) }
         ensures locks_noted { OnOk result (length self.new.noted.items ≡ length (locks graph.now)) }
         ensures acquires { OnOk result (AreAcquiresMarked graph.now self.new.marks.highs.items self.new.noted.items) }
     {

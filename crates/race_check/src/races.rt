@@ -112,7 +112,7 @@ impl Rivals {
         requires suspects { (t : PathsValue) × IsPathTable graph.now t × IsWordOf (is_suspect graph.now t line) word suspects }
         ensures { MatchOption result ((j : ℕ) → word * 64 ≤ j → j < word * 64 + 64 → RaceAt graph.now line j)
             (λ j. (j < length graph.now.lines) × (RaceAt graph.now line j → ⊥)
-                × ((k : ℕ) → word * 64 ≤ k → k < j → RaceAt graph.now line k)) }
+            × ((k : ℕ) → word * 64 ≤ k → k < j → RaceAt graph.now line k)) }
     {
         if suspects == 0 {
             return None;

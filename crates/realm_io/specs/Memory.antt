@@ -29,7 +29,11 @@ pub record MemorySinkValue : Type 0 where
 -- what a sink over memory tells: everything
 abbrev pub told_of : MemorySinkValue → SinkState
 told_of s = record {
-  taken = Some s.taken; flushed = Some s.flushed; calls = Some s.calls; empty_writes = Some s.empty_writes; faults = s.faults
+  taken = Some s.taken;
+  flushed = Some s.flushed;
+  calls = Some s.calls;
+  empty_writes = Some s.empty_writes;
+  faults = s.faults;
 }
 
 -- a sink that takes everything: how many bytes it took, the first of them, and how many more it can keep

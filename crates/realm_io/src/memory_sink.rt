@@ -5,8 +5,8 @@ ghost use Rattle.realm_io.specs.Counts.{Rose, next_count, count_if};
 ghost use Rattle.realm_io.specs.Told.{with_more};
 
 use crate::counts::count_if;
-use crate::listed::is_listed;
 use crate::fixed_buffer::FixedBuffer;
+use crate::listed::is_listed;
 use crate::sinks::Sink;
 use crate::sources::Failed;
 use std::marker::Model;

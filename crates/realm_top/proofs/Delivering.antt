@@ -14,7 +14,7 @@ use Rattle.graph_reader.specs.Laws.{OneReading}
 use Rattle.race_check.specs.Refusal.{IsRefusal}
 use Rattle.race_check.specs.declared.checked.CheckRefusal.{CheckRefusal}
 use Rattle.race_check.specs.declared.checked.CheckRefusal.TheVariants as refusal
-use Rattle.realm_top.specs.Answer.{IsRefused, IsUnfit, IsDone, report_with, is_short, EndsByPaths, Served, InputAnswers, ServedAsks, InputAsks, Serves, Settled, Answered, Delivered, BrokenOff, Delivers}
+use Rattle.realm_top.specs.Answer.{IsRefused, IsUnfit, IsDone, report_with, is_short, EndsByPaths, Served, InputAnswers, EnoughSlots, TooFewSlots, InputAsks, Serves, Settled, Answered, Delivered, BrokenOff, Delivers}
 use Rattle.realm_top.specs.Status.{is_refusal}
 use Rattle.realm_top.specs.Texts.{too_long_text, unfit_text, slots_text}
 use Rattle.graph_model.specs.Graph.{GraphValue}
@@ -76,23 +76,29 @@ broken_text g refusal.NoMemory n = absurd (n refl)
 accepted_or_unfit : (g : GraphValue) (out : List ℕ) → Accepted g → IsUnfit g out → ⊥
 accepted_or_unfit g out a u = broken_by g u.why out u.refused u.says a
 
--- two graphs of one text are one: it is not both accepted and not, nor both given enough slots and too few
+-- two graphs of one text are one: it is not both accepted and not
 both_judged : (bytes : List ℕ) → OneReading bytes → (g h : GraphValue) → GraphText bytes g → GraphText bytes h → Accepted g → (Accepted h → ⊥) → ⊥
 both_judged bytes one g h t u a b = b (subst Accepted (one.one_graph g h t u) a)
 
 too_short : (bytes : List ℕ) → length bytes ≤ 1048576 → 1048576 < length bytes → ⊥
 too_short bytes x y = omega arith
 
-short_or_not : (request : Request) → OneNeed → (bytes : List ℕ) → OneReading bytes → (g h : GraphValue) → GraphText bytes g → GraphText bytes h → ServedAsks request g true → ServedAsks request h false → ⊥
-short_or_not request needs bytes one g h t u (n, i, e) (m, j, f) =
-    true≢false (sym (subst (λ k. is_short request k ≡ true) (needs h n m (subst (λ k. IsNeed k n) (one.one_graph g h t u) i) j) e) ∙ f)
+-- a graph is not given both slots enough and too few, nor are two graphs of one text
+pub enough_by_need : (request : Request) → OneNeed → (g : GraphValue) (need : ℕ) → IsNeed g need → is_short request need ≡ false → EnoughSlots request g
+enough_by_need request needs g need i e m j = subst (λ k. is_short request k ≡ false) (needs g need m i j) e
+
+pub few_or_enough : (request : Request) (g : GraphValue) → TooFewSlots request g → EnoughSlots request g → ⊥
+few_or_enough request g (n, i, e) enough = true≢false (sym e ∙ enough n i)
+
+short_or_not : (request : Request) (bytes : List ℕ) → OneReading bytes → (g h : GraphValue) → GraphText bytes g → GraphText bytes h → TooFewSlots request g → EnoughSlots request h → ⊥
+short_or_not request bytes one g h t u few = few_or_enough request h (subst (TooFewSlots request) (one.one_graph g h t u) few)
 
 -- the answer to an input is the one that it asks for
 pub one_answer : (request : Request) → OneNeed → (bytes : List ℕ) → OneReading bytes → (s t : Status) (o : List ℕ) → InputAnswers request bytes s o → InputAsks request bytes t → s ≡ t
 one_answer request needs bytes one Done Done o a b = refl
 one_answer request needs bytes one Done Unread o a b = absurd (b.1 a.0 a.1)
 one_answer request needs bytes one Done Unfit o a b = absurd (both_judged bytes one a.0 b.0 a.1 b.1 (a.2).0 b.2)
-one_answer request needs bytes one Done Slots o a b = let w = (a.2).1 in absurd (short_or_not request needs bytes one b.0 a.0 b.1 a.1 b.3 (w.0, w.1, w.2))
+one_answer request needs bytes one Done Slots o a b = let w = (a.2).1 in absurd (short_or_not request bytes one b.0 a.0 b.1 a.1 b.3 (enough_by_need request needs a.0 w.0 w.1 w.2))
 one_answer request needs bytes one Done TooLong o a b = absurd (too_short bytes (a.1).short b)
 one_answer request needs bytes one Done _ o a b = absurd b
 one_answer request needs bytes one Unread Done o a b = absurd (text_or_refused bytes o one b.0 b.1 a.1)
@@ -107,7 +113,7 @@ one_answer request needs bytes one Unfit Unfit o a b = refl
 one_answer request needs bytes one Unfit Slots o a b = absurd (both_judged bytes one b.0 a.0 b.1 a.1 b.2 (λ x. accepted_or_unfit a.0 o x a.2))
 one_answer request needs bytes one Unfit TooLong o a b = absurd (too_short bytes (a.1).short b)
 one_answer request needs bytes one Unfit _ o a b = absurd b
-one_answer request needs bytes one Slots Done o a b = let w = (a.2).1 in absurd (short_or_not request needs bytes one a.0 b.0 a.1 b.1 (w.0, w.1, w.2) b.3)
+one_answer request needs bytes one Slots Done o a b = let w = (a.2).1 in absurd (short_or_not request bytes one a.0 b.0 a.1 b.1 (w.0, w.1, w.2) b.3)
 one_answer request needs bytes one Slots Unread o a b = absurd (b.1 a.0 a.1)
 one_answer request needs bytes one Slots Unfit o a b = absurd (both_judged bytes one a.0 b.0 a.1 b.1 (a.2).0 b.2)
 one_answer request needs bytes one Slots Slots o a b = refl

@@ -19,6 +19,7 @@ use Rattle.realm_top.specs.declared.status.Status.TheVariants.{Done, Usage, Writ
 use Rattle.realm_top.specs.Status.{is_of_input, is_refusal}
 use Rattle.realm_top.specs.Texts.{slots_text, made_text}
 use Rattle.realm_top.specs.Answer.{reads, is_short, made_says, Says, Served, InputAnswers, MadeAnswers, IsInput, AnswersBy, Answers, InputAsks, MadeAsks, AsksBy, AsksStatus, Serves, MadeAnswered, Delivered, BrokenOff, Delivers}
+use Rattle.realm_top.proofs.Delivering.{enough_by_need, few_or_enough}
 
 -- an action that reads answers its input
 input_by : (x : Action) (request : Request) → reads x ≡ true → (bytes : List ℕ) (status : Status) (out : List ℕ) → AnswersBy x request bytes status out → InputAnswers request bytes status out
@@ -80,18 +81,15 @@ made_asks Check request r bytes status a = absurd (true≢false r)
 made_asks Eval request r bytes status a = absurd (true≢false r)
 made_asks Make request r bytes status a = a
 
-short_or_not : (request : Request) (g : GraphValue) → OneNeed → (n m : ℕ) → IsNeed g n → IsNeed g m → is_short request n ≡ true → is_short request m ≡ false → ⊥
-short_or_not request g needs n m i j e f = true≢false (sym (subst (λ k. is_short request k ≡ true) (needs g n m i j) e) ∙ f)
-
 -- the answer where a graph is made is the one that it asks for
 made_one : (texted : Bool) (request : Request) (g : GraphValue) → OneNeed → (s t : Status) (o : List ℕ) → MadeAnswers texted request g s o → MadeAsks texted request g t → s ≡ t
 made_one true request g needs Done Done o a b = refl
 made_one true request g needs Done _ o a b = absurd b
 made_one true request g needs _ t o a b = absurd a
 made_one false request g needs Done Done o a b = refl
-made_one false request g needs Done Slots o a b = absurd (short_or_not request g needs b.0 a.0 b.1 a.1 b.2 a.2)
+made_one false request g needs Done Slots o a b = absurd (few_or_enough request g b (enough_by_need request needs g a.0 a.1 a.2))
 made_one false request g needs Done _ o a b = absurd b
-made_one false request g needs Slots Done o a b = absurd (short_or_not request g needs a.0 b.0 a.1 b.1 a.2 b.2)
+made_one false request g needs Slots Done o a b = absurd (few_or_enough request g (a.0, a.1, a.2) b)
 made_one false request g needs Slots Slots o a b = refl
 made_one false request g needs Slots _ o a b = absurd b
 made_one false request g needs _ t o a b = absurd a

@@ -131,14 +131,17 @@ AnswersBy _ request bytes status out = InputAnswers request bytes status out
 abbrev pub Answers : Request → List ℕ → Status → List ℕ → Type 0
 Answers request bytes status out = AnswersBy request.action request bytes status out
 
--- what an accepted graph asks for
-abbrev pub ServedAsks : Request → GraphValue → Bool → Type 0
-ServedAsks request g short = (need : ℕ) × IsNeed g need × (is_short request need ≡ short)
+-- an accepted graph is given slots enough, or too few. A graph has one need at most
+abbrev pub EnoughSlots : Request → GraphValue → Type 0
+EnoughSlots request g = (need : ℕ) → IsNeed g need → is_short request need ≡ false
+
+abbrev pub TooFewSlots : Request → GraphValue → Type 0
+TooFewSlots request g = (need : ℕ) × IsNeed g need × (is_short request need ≡ true)
 
 -- the status that an input of these bytes asks for
 abbrev pub InputAsks : Request → List ℕ → Status → Type 0
-InputAsks request bytes Done = (g : GraphValue) × GraphText bytes g × Accepted g × ServedAsks request g false
-InputAsks request bytes Slots = (g : GraphValue) × GraphText bytes g × Accepted g × ServedAsks request g true
+InputAsks request bytes Done = (g : GraphValue) × GraphText bytes g × Accepted g × EnoughSlots request g
+InputAsks request bytes Slots = (g : GraphValue) × GraphText bytes g × Accepted g × TooFewSlots request g
 InputAsks request bytes Unfit = (g : GraphValue) × GraphText bytes g × (Accepted g → ⊥)
 InputAsks request bytes Unread = (length bytes ≤ 1048576) × ((g : GraphValue) → GraphText bytes g → ⊥)
 InputAsks request bytes TooLong = 1048576 < length bytes
@@ -147,8 +150,8 @@ InputAsks request bytes status = ⊥
 -- the status that a graph which is made asks for
 abbrev pub MadeAsks : Bool → Request → GraphValue → Status → Type 0
 MadeAsks true request g Done = Unit {0}
-MadeAsks false request g Done = ServedAsks request g false
-MadeAsks false request g Slots = ServedAsks request g true
+MadeAsks false request g Done = EnoughSlots request g
+MadeAsks false request g Slots = TooFewSlots request g
 MadeAsks texted request g status = ⊥
 
 -- the status that a request asks for with these bytes

@@ -81,7 +81,7 @@ pub fn realm<R: Threads + Wait + Sync, S: Source, K: Sink, G: Gate>(
     // the least lines, the need, or that more than 1,048,576 bytes were left.
     ensures refused { is_refusal result ≡ true → (request : Request) × Asks words.now request
         × ((bytes : List ℕ) → IsInput request.action (S.left source.old) bytes
-            → (out : List ℕ) × Answers request bytes result out × Delivered (K.state sink.old) (K.state sink.new) out) }
+        → (out : List ℕ) × Answers request bytes result out × Delivered (K.state sink.old) (K.state sink.new) out) }
 
     // Unread, Unfit, TooLong and ReadFault: only where the action reads.
     ensures of_input { is_of_input result ≡ true
@@ -94,7 +94,7 @@ pub fn realm<R: Threads + Wait + Sync, S: Source, K: Sink, G: Gate>(
     ensures write_fault { result ≡ Status.WriteFault → Rose (K.state sink.old).faults (K.state sink.new).faults }
     ensures cut_off { result ≡ Status.WriteFault → (request : Request) × Asks words.now request
         × ((bytes : List ℕ) → IsInput request.action (S.left source.old) bytes → (status : Status) × (out : List ℕ)
-            × Answers request bytes status out × BrokenOff (K.state sink.old) (K.state sink.new) out) }
+        × Answers request bytes status out × BrokenOff (K.state sink.old) (K.state sink.new) out) }
 
     // NoMemory: before anything was written.
     ensures no_memory { result ≡ Status.NoMemory → sink.new ≡ sink.old }

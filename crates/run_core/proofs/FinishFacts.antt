@@ -150,7 +150,7 @@ same_still old new same = (
   ap (λ (c : CoreValue). length c.table.slots) same,
 )
 
-pub stood : (old new : CoreValue) (i j : ℕ) → StandsBy old new i j → IsStill old new × (length new.table.slots ≡ length old.table.slots)
+stood : (old new : CoreValue) (i j : ℕ) → StandsBy old new i j → IsStill old new × (length new.table.slots ≡ length old.table.slots)
 stood old new i j stands = elim stands.either [
   | inl same ↦ same_still old new same
   | inr (h, at, is) ↦ (

@@ -10,6 +10,7 @@ pub mod PerformFacts
 pub mod OutcomeFacts
 pub mod MarkFacts
 pub mod IssueFacts
+pub mod SlotsGiven
 pub mod SourceFacts
 pub mod ListsOfLines
 pub mod PhaseFacts

@@ -108,8 +108,11 @@ impl LineEvents {
     pub(crate) fn end(&mut self, line: u32, fate: Fate)
         requires issued { line < length self.old.handles }
         requires pending { answer self.old.table (slice_index_or self.old.handles line no_event) ≡ Some Pending }
-        ensures map { self.new ≡ record { handles = self.old.handles; table = ended_with self.old.table
-            (slice_index_or self.old.handles line no_event) fate } }
+        ensures map { self.new ≡ record {
+          handles = self.old.handles;
+          table = ended_with self.old.table
+              (slice_index_or self.old.handles line no_event) fate;
+        } }
         ensures ended { answer self.new.table (slice_index_or self.old.handles line no_event) ≡ Some (answer_of fate) }
         ensures others { (h : TheHandle) → h ≢ slice_index_or self.old.handles line no_event
             → answer self.new.table h ≡ answer self.old.table h }

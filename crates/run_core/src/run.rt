@@ -18,10 +18,10 @@ use std::alloc::Global;
 use std::marker::Model;
 
 pub(crate) mod attempt;
-mod put_back;
 mod finish;
 mod issue;
 mod outcome;
+mod put_back;
 mod take;
 
 /// The last generation of a slot. A slot retires only after 8,192 lines have ended on it, and then

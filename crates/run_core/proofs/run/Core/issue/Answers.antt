@@ -61,4 +61,4 @@ pub returns-clause-out : goal.returns-clause-out
 returns-clause-out c = out_by_answer c.args.self.now _ c.issued-next.result (subst IsCore c.self.view_is c.self.invariant.core) (returns-clause-answer c)
 
 pub returns-clause-slots : goal.returns-clause-slots
-returns-clause-slots c = issued_slots c.args.self.now _ _ (returns-clause-answer c)
+returns-clause-slots c = issued_slots c.args.self.now _ c.issued-next.result (returns-clause-answer c)
