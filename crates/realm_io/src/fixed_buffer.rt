@@ -25,7 +25,7 @@ impl Model for FixedBuffer {
 }
 
 impl FixedBuffer {
-    /// An empty room, as large as `bytes` is long.
+    /// An empty buffer, as large as `bytes` is long.
     pub(crate) fn new(bytes: Vec<u8>) -> Self
         ensures taken { result.taken ≡ [] }
         ensures free { result.free ≡ vec_len bytes }
