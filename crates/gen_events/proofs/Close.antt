@@ -18,6 +18,7 @@ use Rattle.atomic_table.specs.Table.{Final, Seen}
 use Rattle.gen_events.specs.Plays.{gathered, fate_by}
 use Rattle.gen_events.specs.Chains.{chain_in, chain_at}
 use Rattle.gen_events.specs.EventMap.{SlotLife, unused, answer, answer_of, IsPlaced, HasEnded}
+use Rattle.gen_events.specs.Seats.{IsPast}
 use Rattle.gen_events.specs.Kept.{read, life_in, map_in, IsSlot, AreShown}
 use Rattle.basics.proofs.Sums.{entry_le, total-one, below-one}
 use Rattle.gen_events.proofs.ChainSteps.{follows}
@@ -85,6 +86,7 @@ pub record Closes (key : Shape) (words : List ℕ) (v u : View) : Type 0 where
   pub placed : (k : ℕ) (h : Handle) → Contains u.placed (k, h) → IsPlaced (map_in key words []) k h ⊎ ((f : Fate) × (answer (map_in key words []) h ≡ Some (answer_of f)))
   pub given : (k : ℕ) (h : Handle) → Contains u.given (k, h) → HasEnded (map_in key words []) h
   pub emptied : (h : Handle) → Contains u.emptied h → HasEnded (map_in key words []) h
+  pub past : (h : Handle) → IsPast u h → HasEnded (map_in key words []) h
   pub left : (h : Handle) → Contains u.left h → answer (map_in key words []) h ≡ Some Pending
 
 pub closes : (key : Shape) (id : ℕ) (v u w : View) (words : List ℕ) (xs : List (Unit {0})) → v.makes ≡ 1 → u.makes ≡ 0 → w ≡ gathered v u → Final (Seen (Orderly key) id w) words xs → Closes key words v u
@@ -121,5 +123,6 @@ closes key id v u w words xs m z is t =
           (λ n. let y = old.0 in inr (over h old.0 (omega arith)));
       given = λ k h c. let y = (f.given (k, h) (Contains-append_right v.given u.given (k, h) c)).1 in over h (omega arith) y;
       emptied = λ h c. let y = (f.emptied h (Contains-append_right v.emptied u.emptied h c)).0 in over h (omega arith) y;
+      past = λ h c. let y = f.past h (Contains-append_right v.past u.past h c) in over h (omega arith) y;
       left = λ h c. let y = f.left h (Contains-append_right v.left u.left h c) in pending h (omega arith) y;
     }

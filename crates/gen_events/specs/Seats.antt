@@ -22,7 +22,7 @@ IsBare v = (v.placed ≡ []) × (v.given ≡ []) × (v.emptied ≡ []) × (v.saw
 
 -- its lists are empty
 abbrev pub HasNothing : View → Type 0
-HasNothing v = (v.seen ≡ []) × (v.known ≡ []) × (v.left ≡ []) × IsBare v
+HasNothing v = (v.seen ≡ []) × (v.known ≡ []) × (v.left ≡ []) × (v.past ≡ []) × IsBare v
 
 -- it has seen what it made
 abbrev pub IsMaker : Me Unit View → Type 0

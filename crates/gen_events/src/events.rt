@@ -28,7 +28,7 @@ impl Events {
     ghost use Rattle.std.specs.Prelude.{◌⊎◌, Some, length};
     ghost use Rattle.gen_events.specs.EventMap.{answer, answer_of, IsEventMap, IsCreated, IsPlaced, HasEnded};
     ghost use Rattle.gen_events.specs.Plays.{Coherent};
-    ghost use Rattle.gen_events.specs.Seats.{HasSeen, Knows, Grows, Keeps, IsBare, HasNothing, SamePlacings};
+    ghost use Rattle.gen_events.specs.Seats.{HasSeen, Knows, IsPast, Grows, Keeps, IsBare, HasNothing, SamePlacings};
     ghost use Rattle.gen_events.specs.Views.{lists, IsAt, IsMakerOf, IsPendingOf, IsReceiptOf, IsSetOf, made_by, shape_of, handle_of, ended_by, fate_of, taken_of, size_of};
 
     /// A table in which nothing was created, with the right to create, a seat that has seen
@@ -179,6 +179,7 @@ impl Events {
             ⊎ ((f : Fate) × (answer result h ≡ Some (answer_of f))) }
         ensures given { (k : ℕ) (h : TheHandle) → Contains (lists seat).given (k, h) → HasEnded result h }
         ensures emptied { (h : TheHandle) → Contains (lists seat).emptied h → HasEnded result h }
+        ensures past { (h : TheHandle) → IsPast (lists seat) h → HasEnded result h }
         ensures left { (h : TheHandle) → Contains (lists seat).left h → answer result h ≡ Some Answer.Pending }
     {
         let Maker { inner: mut all } = maker;

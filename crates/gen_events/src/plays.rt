@@ -7,6 +7,7 @@ use crate::handle::Shape;
 use crate::view::View;
 use atomic_table::{Join, Play, Split, TableRule};
 
+/// The rule of the table, and what its first seat has, in `new`.
 pub struct Order;
 
 impl TableRule<(), View, Shape> for Order {
@@ -15,54 +16,63 @@ impl TableRule<(), View, Shape> for Order {
     ghost first = { opener };
 }
 
+/// The load of a slot's word in `look`, `see` and `watch`.
 pub struct Look;
 
 impl Play<(), View> for Look {
     ghost then = { λ st. looked st.word };
 }
 
+/// The load in `join` and in a None of `next` that tells how the seat's lists go together.
 pub struct Heed;
 
 impl Play<(), View> for Heed {
     ghost then = { λ _ m _ n. heeded m n };
 }
 
+/// The Maker's load of a slot's word in `create`.
 pub struct Scout;
 
 impl Play<(), View> for Scout {
     ghost then = { λ st. scouted st.word };
 }
 
+/// The compare-exchange in `create` that makes a free slot pending.
 pub struct Create;
 
 impl Play<(), View> for Create {
     ghost then = { λ st. created st.word st.first };
 }
 
+/// The store of the waiter's link word in `watch`.
 pub struct Link;
 
 impl Play<(), View> for Link {
     ghost then = { λ st m _ n. relinked st.first m n };
 }
 
+/// The compare-exchange in `watch` that places the waiter.
 pub struct Put;
 
 impl Play<(), View> for Put {
     ghost then = { λ st. put st.word st.first };
 }
 
+/// The swap of a slot's word in `end`.
 pub struct End;
 
 impl Play<(), View> for End {
     ghost then = { λ _. ended };
 }
 
+/// The load of a waiter's link word in a Some of `next`.
 pub struct Walk;
 
 impl Play<(), View> for Walk {
     ghost then = { λ _. walked };
 }
 
+/// The cut in `split`, and in `again` of a receipt.
 pub struct Copies;
 
 impl Split<View> for Copies {
@@ -71,6 +81,7 @@ impl Split<View> for Copies {
     ghost right = { copy_of };
 }
 
+/// The cut of one waiter in `take` and in a Some of `next`, and in `watch` where it comes back.
 pub struct Deals;
 
 impl Split<View> for Deals {
@@ -79,6 +90,7 @@ impl Split<View> for Deals {
     ghost right = { dealt };
 }
 
+/// The cut of all waiters in `new`.
 pub struct DealsAll;
 
 impl Split<View> for DealsAll {
@@ -87,6 +99,7 @@ impl Split<View> for DealsAll {
     ghost right = { all_dealt };
 }
 
+/// The cut of the right to end a handle in `create`, and in `see` off the Pending and back.
 pub struct Grants;
 
 impl Split<View> for Grants {
@@ -95,6 +108,7 @@ impl Split<View> for Grants {
     ghost right = { granted };
 }
 
+/// The cut of the receipt in `end`.
 pub struct Receipts;
 
 impl Split<View> for Receipts {
@@ -103,6 +117,7 @@ impl Split<View> for Receipts {
     ghost right = { receipted };
 }
 
+/// The cut of the right to create in `new`.
 pub struct Appoints;
 
 impl Split<View> for Appoints {
@@ -111,6 +126,7 @@ impl Split<View> for Appoints {
     ghost right = { maker_of };
 }
 
+/// The cut of what the Maker has made and found in `create`.
 pub struct Reports;
 
 impl Split<View> for Reports {
@@ -119,6 +135,7 @@ impl Split<View> for Reports {
     ghost right = { report };
 }
 
+/// The cut of the handle's chain of waiters in `end`.
 pub struct Chases;
 
 impl Split<View> for Chases {
@@ -127,6 +144,7 @@ impl Split<View> for Chases {
     ghost right = { chaser };
 }
 
+/// The cut of what a chain that was given whole tells, in a None of `next`.
 pub struct Empties;
 
 impl Split<View> for Empties {
@@ -135,6 +153,7 @@ impl Split<View> for Empties {
     ghost right = { emptier };
 }
 
+/// The join in `join` and `learn`, and of a cut or a token in `create`, `see`, `watch`, `end` and a None of `next`.
 pub struct Both;
 
 impl Join<View> for Both {
@@ -143,6 +162,7 @@ impl Join<View> for Both {
     ghost spent = { no_view };
 }
 
+/// The join with the Pending in `leave`.
 pub struct Forsakes;
 
 impl Join<View> for Forsakes {
@@ -151,6 +171,7 @@ impl Join<View> for Forsakes {
     ghost spent = { no_view };
 }
 
+/// The join of the Maker's seat with the last one in `close`.
 pub struct Gathers;
 
 impl Join<View> for Gathers {
@@ -159,12 +180,14 @@ impl Join<View> for Gathers {
     ghost spent = { no_view };
 }
 
+/// The load of a poison word in `look` and `watch`, where the handle has ended.
 pub struct Read;
 
 impl Play<(), View> for Read {
     ghost then = { λ st. reads st.word };
 }
 
+/// The fetch-or of a poison word in an `end` with Poison.
 pub struct Mark;
 
 impl Play<(), View> for Mark {

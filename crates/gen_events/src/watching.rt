@@ -27,6 +27,7 @@ impl Events {
         ensures still { handle ≡ no_event → lists seat.new ≡ lists seat.old }
         ensures known { (f : Fate) → handle ≢ no_event → Knows (lists seat.old) handle f → IsOver f result }
         ensures past { handle ≢ no_event → IsPast (lists seat.old) handle → (f : Fate) × IsOver f result }
+        ensures emptied { handle ≢ no_event → Contains (lists seat.old).emptied handle → (f : Fate) × IsOver f result }
         ensures left { (f : Fate) → handle ≢ no_event → Contains (lists seat.old).left handle → IsOver f result → ⊥ }
         ensures same_seen { (lists seat.new).seen ≡ (lists seat.old).seen }
         ensures same_given { SameGiven (lists seat.old) (lists seat.new) }
