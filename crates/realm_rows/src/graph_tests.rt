@@ -18,6 +18,29 @@ pub(crate) const EMPTY: &str = "realm 1\nend\n";
 
 pub(crate) const EMPTY_REPORT: &str = "realm-report 1\ndone\n";
 
+/// Broken and unbroken paths from a fault.
+pub(crate) const FAULTY_PATHS: &str = "realm 1\n\
+    space s 0..1\n\
+    inst a s x,y\n\
+    f = fill a.x s 7\n\
+    k = task expect a.x s 0 5 on f\n\
+    c = copy a.x a.y s on k\n\
+    m = merge k c\n\
+    n = mergei k c\n\
+    g = fill a.y s 9 on n\n\
+    end\n";
+
+pub(crate) const FAULTY_PATHS_REPORT: &str = "realm-report 1\n\
+    op f done triggered\n\
+    op k faulted poisoned\n\
+    op c cancelled poisoned\n\
+    op m cancelled poisoned\n\
+    op n done triggered\n\
+    op g done triggered\n\
+    cells a.x 0..1 7 7\n\
+    cells a.y 0..1 9 9\n\
+    done\n";
+
 /// Texts with their reports.
 const REPORTS: &[(&str, &str)] = &[
     (FILL, FILL_REPORT),
@@ -39,29 +62,7 @@ const REPORTS: &[(&str, &str)] = &[
          cells a.y 0..1 6 6\n\
          done\n",
     ),
-    // broken and unbroken paths from a fault
-    (
-        "realm 1\n\
-         space s 0..1\n\
-         inst a s x,y\n\
-         f = fill a.x s 7\n\
-         k = task expect a.x s 0 5 on f\n\
-         c = copy a.x a.y s on k\n\
-         m = merge k c\n\
-         n = mergei k c\n\
-         g = fill a.y s 9 on n\n\
-         end\n",
-        "realm-report 1\n\
-         op f done triggered\n\
-         op k faulted poisoned\n\
-         op c cancelled poisoned\n\
-         op m cancelled poisoned\n\
-         op n done triggered\n\
-         op g done triggered\n\
-         cells a.x 0..1 7 7\n\
-         cells a.y 0..1 9 9\n\
-         done\n",
-    ),
+    (FAULTY_PATHS, FAULTY_PATHS_REPORT),
     // a cancelled user event, and a barrier whose first phase it cancels
     (
         "realm 1\n\

@@ -165,7 +165,12 @@ fn shares_one_slot(alloc: Global, text: &[u8]) -> Result<bool, Fail> {
     let mut core = Core::prepare(alloc, &checked, 1)?;
     core.finish();
     for line in 0..core.graph().lines() {
-        if core.handle_of(line) != Some(Handle { slot: 0, gen_: line }) {
+        if core.handle_of(line)
+            != Some(Handle {
+                slot: 0,
+                gen_: line,
+            })
+        {
             return Ok(false);
         }
     }

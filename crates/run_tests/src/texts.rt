@@ -3,10 +3,6 @@
 /// A graph without lines.
 pub(crate) const EMPTY: &[u8] = b"realm 1\nend\n";
 
-/// Two fills of one cell each, of two columns.
-pub(crate) const TWO_IOTAS: &[u8] =
-    b"realm 1\nspace s 0..0\ninst a s x,y\nf = task iota a.x s 1\ng = task iota a.y s 2\nend\n";
-
 /// Sums under one reservation.
 pub(crate) const LOCKED_SUMS: &[u8] =
     b"realm 1\nspace s 0..1\ninst a s x,y,z\nlock l\nf = fill a.x s 3\ng = fill a.y s 4\nq = acquire l on f\nd = reduce sum a.x a.z s on q\nm = mergei d\nr = release q on m\nk = acquire l on g\ne = reduce sum a.y a.z s on k\nn = mergei e\nt = release k on n\nend\n";
