@@ -1,7 +1,7 @@
 //! Runs through gates that look at the workers. That two workers share the work is shown here alone;
 //! no clause says it.
 
-use crate::graph_tests::{FAULTY_PATHS, FAULTY_PATHS_REPORT};
+use crate::graph_tests::FAULTY_PATHS_REPORT;
 use crate::row::{Row, SURE, answer, words};
 use realm_io::Gate;
 use realm_top::status::Status;
@@ -10,6 +10,7 @@ use std::sync::Wait;
 use std::sync::atomic::{AtomicU64, Ordering};
 use std::test::Fail;
 use std::thread;
+use test_texts::graphs::FAULTY_PATHS;
 
 /// A gate that holds each of two lines until the other one is there, but not for ever.
 #[derive(Drop)]

@@ -4,7 +4,6 @@ ghost use Rattle.std.specs.Prelude.{◌≤◌};
 
 use crate::graphs::checked;
 use crate::outcomes::is_same;
-use crate::{texts, tiles};
 use graph_model::outcome::Outcome;
 use lock_engine::{Turn, run_turn};
 use plain_eval::evaluation::eval;
@@ -13,6 +12,8 @@ use realm_io::OpenGate;
 use std::sync::Wait;
 use std::test::Fail;
 use std::thread::Threads;
+use test_texts::graphs::{EMPTY, FAULTY_PATHS, KERNELS, LOCKED_SUMS, NO_TRIGGER};
+use test_texts::tiles;
 
 /// How often each graph is run by each number of workers.
 const RUNS: u32 = 100;
@@ -34,7 +35,7 @@ fn ran<R: Threads + Wait + Sync + AllocGlobal>(
 }
 
 /// Whether each of many runs by 0, 1, 3 and 8 workers gives the outcome of the evaluation.
-fn is_steady<R: Threads + Wait + Sync + AllocGlobal>(rt: &R, text: &[u8]) -> Result<bool, Fail> {
+fn is_steady<R: Threads + Wait + Sync + AllocGlobal>(rt: &R, text: &str) -> Result<bool, Fail> {
     let checked = checked(rt.alloc(), text)?;
     let wanted = eval(rt.alloc(), &checked)?;
     for run in 0..4 * RUNS {
@@ -53,13 +54,7 @@ fn is_steady<R: Threads + Wait + Sync + AllocGlobal>(rt: &R, text: &[u8]) -> Res
 
 #[test]
 fn same_outcomes(rt: HostRuntime) -> Result<(), Fail> {
-    for text in [
-        texts::EMPTY,
-        texts::NO_TRIGGER,
-        texts::FAULTY_PATHS,
-        texts::KERNELS,
-        texts::LOCKED_SUMS,
-    ] {
+    for text in [EMPTY, NO_TRIGGER, FAULTY_PATHS, KERNELS, LOCKED_SUMS] {
         assert!(rt; is_steady(&rt, text)?);
     }
     Ok(())
@@ -68,6 +63,6 @@ fn same_outcomes(rt: HostRuntime) -> Result<(), Fail> {
 #[test]
 fn same_outcomes_of_tiles(rt: HostRuntime) -> Result<(), Fail> {
     let text = tiles::graph(rt.alloc())?;
-    assert!(rt; is_steady(&rt, text.as_bytes())?);
+    assert!(rt; is_steady(&rt, text.as_str())?);
     Ok(())
 }
