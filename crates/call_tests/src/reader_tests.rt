@@ -7,133 +7,19 @@ use realm_io::SureSink;
 use std::alloc::Global;
 use std::test::Fail;
 
-/// Texts that are refused, each with its first refused line and the first reason.
-const REFUSED: [(&[u8], u32, Why); 50] = [
+/// Texts that are refused, each with its first refused line and the first reason. More are in `realm_rows`.
+const REFUSED: [(&[u8], u32, Why); 3] = [
     (b"", 1, Why::Header),
-    (b"realm 1", 1, Why::Header),
-    (b"realm 1\r\nend\n", 1, Why::Header),
-    (b"realm 1\nu = user\n", 3, Why::Missing),
-    (b"realm 1\nend", 2, Why::Missing),
-    (
-        b"realm 1\nspace s 0..3\ninst a s x\nf = fill a.x s 18446744073709551616\nend\n",
-        4,
-        Why::Number,
-    ),
-    (
-        b"realm 1\nspace s 0..3\ninst a s x\nf = fill a.x s 07\nend\n",
-        4,
-        Why::Number,
-    ),
-    (
-        b"realm 1\nspace s 0..3\ninst a s x\nf = fill a.x s 7\nend\n\n",
-        6,
-        Why::Rest,
-    ),
-    (b"realm 1\nspace  s 0..3\nend\n", 2, Why::Syntax),
-    (b"realm 1\n\nend\n", 2, Why::Syntax),
-    (b"realm 1\nend \n", 2, Why::Syntax),
-    (b"realm 1\nu = user on u\nend\n", 2, Why::Syntax),
-    (b"realm 1\nu = user\nlock l\nend\n", 3, Why::Syntax),
-    (b"realm 1\nm = merge\nend\n", 2, Why::Syntax),
-    (b"realm 1\nbarrier b 1 avg 0\nend\n", 2, Why::Syntax),
+    // no `str`, so it is no row of `realm_rows`
     (
         b"realm 1\nspace s 0..3\ninst a s x\n\xff = fill a.x s 7\nend\n",
         4,
         Why::Name,
     ),
     (
-        b"realm 1\nspace abcdefghijklmnopqrstuvwxyzabcdef 0..3\nend\n",
-        2,
-        Why::Name,
-    ),
-    (b"realm 1\nlock L\nend\n", 2, Why::Name),
-    (b"realm 1\nspace s 0..3\ninst a s x,,y\nend\n", 3, Why::Name),
-    (
-        b"realm 1\nspace s 0..3\ninst a s x\nf = fill a s 7\nend\n",
-        4,
-        Why::Name,
-    ),
-    (b"realm 1\nspace s 0..3\nspace s 0..3\nend\n", 3, Why::Twice),
-    (b"realm 1\nspace s 0..3\ninst a s x,x\nend\n", 3, Why::Twice),
-    (
-        b"realm 1\nu = user\nt = trigger u\nc = cancel u\nend\n",
-        4,
-        Why::Twice,
-    ),
-    (b"realm 1\nlock l\nl = user\nend\n", 3, Why::Twice),
-    (b"realm 1\nm = merge v v\nend\n", 2, Why::Twice),
-    (
-        b"realm 1\nspace s 0..3\nc = copy b.x b.x s\nend\n",
-        3,
-        Why::Twice,
-    ),
-    (
-        b"realm 1\nlock l\nq = acquire l\nr = release q\nt = release q\nend\n",
-        5,
-        Why::Twice,
-    ),
-    (b"realm 1\nm = merge v\nend\n", 2, Why::Unknown),
-    (b"realm 1\ninst a s x\nend\n", 2, Why::Unknown),
-    (
-        b"realm 1\nspace s 0..3\ninst a s x\nf = fill a.y s 7\nend\n",
-        4,
-        Why::Unknown,
-    ),
-    (
-        b"realm 1\nu = user\nt = trigger u on v\nend\n",
-        3,
-        Why::Unknown,
-    ),
-    (b"realm 1\nt = trigger u\nu = user\nend\n", 2, Why::Unknown),
-    (b"realm 1\nlock l\nm = merge l\nend\n", 3, Why::Kind),
-    (
-        b"realm 1\nbarrier b 1 sum 0\np = phase b\nt = trigger p\nend\n",
-        4,
-        Why::Kind,
-    ),
-    (b"realm 1\nlock l\ninst a l x\nend\n", 3, Why::Kind),
-    (
-        b"realm 1\nlock l\nq = acquire l\nt = trigger q\nend\n",
-        4,
-        Why::Kind,
-    ),
-    (
-        b"realm 1\nlock l\nspace s 0..3\nf = fill l.x s 7\nend\n",
-        4,
-        Why::Kind,
-    ),
-    (
-        b"realm 1\nspace s 0..1\ninst a s x\nlock l\nf = fill a.x l 7\nend\n",
-        5,
-        Why::Kind,
-    ),
-    (b"realm 1\nbarrier b 0 sum 0\nend\n", 2, Why::Number),
-    (b"realm 1\nbarrier b 8193 sum 0\nend\n", 2, Why::Number),
-    (b"realm 1\nspace s 0.3\nend\n", 2, Why::Number),
-    (b"realm 1\nspace s 0..3,\nend\n", 2, Why::Number),
-    (b"realm 1\nspace s 0..4294967296\nend\n", 2, Why::Number),
-    (b"realm 1\nspace s 3..0\nend\n", 2, Why::Space),
-    (b"realm 1\nspace s 0..3,4..5\nend\n", 2, Why::Space),
-    (
-        b"realm 1\nspace p 0..1,4..5\nspace q 1..4\ninst a p x\nf = fill a.x q 1\nend\n",
-        5,
-        Why::Outside,
-    ),
-    (
-        b"realm 1\nbarrier b 1 sum 0\np = phase b\na = arrive p 1\nc = arrive p 1\nend\n",
-        5,
-        Why::Arrivals,
-    ),
-    (b"realm 1\nspace s 0..1048576\nend\n", 2, Why::Limit),
-    (
-        b"realm 1\nspace s 0..1048575\ninst a s b,c,d,e,f\nend\n",
-        3,
-        Why::Limit,
-    ),
-    (
-        b"realm 1\nspace s 0..3\ninst a s x\nf = fill a.x s 7\nen",
-        5,
-        Why::Missing,
+        b"realm 1\nspace s 0..3\ninst a s x\nf = fill a.x s 7\nend\n\n",
+        6,
+        Why::Rest,
     ),
 ];
 

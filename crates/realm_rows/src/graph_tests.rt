@@ -3,6 +3,10 @@
 use crate::row::Row;
 use realm_top::status::Status;
 use std::test::Fail;
+use test_texts::graphs::{
+    CANCELLED_BARRIER, EMPTY, FAULTY_PATHS, KERNELS, LOCKED_SUMS, NINE_WAITERS, NO_TRIGGER,
+    WAITER_ABOVE_TRIGGER,
+};
 
 /// The actions that write a report.
 const RUNS: &[&str] = &["run", "eval"];
@@ -13,24 +17,26 @@ pub(crate) const FILL: &str = "realm 1\nspace s 0..3\ninst a s x\nf = fill a.x s
 pub(crate) const FILL_REPORT: &str =
     "realm-report 1\nop f done triggered\ncells a.x 0..3 7 7 7 7\ndone\n";
 
-/// No line.
-pub(crate) const EMPTY: &str = "realm 1\nend\n";
-
+/// The report of a graph with no line.
 pub(crate) const EMPTY_REPORT: &str = "realm-report 1\ndone\n";
+
+pub(crate) const FAULTY_PATHS_REPORT: &str = "realm-report 1\n\
+    op f done triggered\n\
+    op k faulted poisoned\n\
+    op c cancelled poisoned\n\
+    op m cancelled poisoned\n\
+    op n done triggered\n\
+    op g done triggered\n\
+    cells a.x 0..1 7 7\n\
+    cells a.y 0..1 9 9\n\
+    done\n";
 
 /// Texts with their reports.
 const REPORTS: &[(&str, &str)] = &[
     (FILL, FILL_REPORT),
     (EMPTY, EMPTY_REPORT),
-    // a user event without a trigger, and a line that waits for it
     (
-        "realm 1\n\
-         space s 0..1\n\
-         inst a s x,y\n\
-         u = user\n\
-         f = fill a.x s 5 on u\n\
-         g = fill a.y s 6\n\
-         end\n",
+        NO_TRIGGER,
         "realm-report 1\n\
          op u waiting pending\n\
          op f waiting pending\n\
@@ -39,40 +45,9 @@ const REPORTS: &[(&str, &str)] = &[
          cells a.y 0..1 6 6\n\
          done\n",
     ),
-    // broken and unbroken paths from a fault
+    (FAULTY_PATHS, FAULTY_PATHS_REPORT),
     (
-        "realm 1\n\
-         space s 0..1\n\
-         inst a s x,y\n\
-         f = fill a.x s 7\n\
-         k = task expect a.x s 0 5 on f\n\
-         c = copy a.x a.y s on k\n\
-         m = merge k c\n\
-         n = mergei k c\n\
-         g = fill a.y s 9 on n\n\
-         end\n",
-        "realm-report 1\n\
-         op f done triggered\n\
-         op k faulted poisoned\n\
-         op c cancelled poisoned\n\
-         op m cancelled poisoned\n\
-         op n done triggered\n\
-         op g done triggered\n\
-         cells a.x 0..1 7 7\n\
-         cells a.y 0..1 9 9\n\
-         done\n",
-    ),
-    // a cancelled user event, and a barrier whose first phase it cancels
-    (
-        "realm 1\n\
-         barrier b 1 sum 10\n\
-         u = user\n\
-         p0 = phase b\n\
-         p1 = phase b\n\
-         a0 = arrive p0 5 on u\n\
-         a1 = arrive p1 6\n\
-         c = cancel u\n\
-         end\n",
+        CANCELLED_BARRIER,
         "realm-report 1\n\
          op u cancelled poisoned\n\
          op p0 cancelled poisoned\n\
@@ -145,24 +120,8 @@ const REPORTS: &[(&str, &str)] = &[
          cells a.x 0..3 18446744073709551615 18446744073709551615 18446744073709551615 18446744073709551615\n\
          done\n",
     ),
-    // each kernel once, and two reductions
     (
-        "realm 1\n\
-         space s 0..3\n\
-         space t 0..1\n\
-         space o 0..0\n\
-         inst a s x,y,z\n\
-         inst b o d\n\
-         e1 = task iota a.x s 1\n\
-         e2 = task scan a.x a.y s on e1\n\
-         e3 = task stencil a.x a.z s s on e2\n\
-         e4 = task axpy a.y a.z s 10 on e3\n\
-         e5 = task hist a.z a.y s t on e4\n\
-         e6 = task dot a.x a.y b.d s o on e5\n\
-         e7 = task gather a.x a.y a.z s t on e6\n\
-         e8 = reduce max a.x a.z s on e7\n\
-         e9 = reduce min a.x a.y s on e8\n\
-         end\n",
+        KERNELS,
         "realm-report 1\n\
          op e1 done triggered\n\
          op e2 done triggered\n\
@@ -179,7 +138,7 @@ const REPORTS: &[(&str, &str)] = &[
          cells b.d 0..0 72\n\
          done\n",
     ),
-    // its first five lines alone
+    // the first five lines of those alone
     (
         "realm 1\n\
          space s 0..3\n\
@@ -217,45 +176,11 @@ const REPORTS: &[(&str, &str)] = &[
     ),
 ];
 
-/// Nine fills that wait for one user event, whose trigger stands below them.
-const NINE_WAITERS: &str = "realm 1\n\
-    space s1 1..1\n\
-    space s2 2..2\n\
-    space s3 3..3\n\
-    space s4 4..4\n\
-    space s5 5..5\n\
-    space s6 6..6\n\
-    space s7 7..7\n\
-    space s8 8..8\n\
-    space s9 9..9\n\
-    space w 1..9\n\
-    inst a w x\n\
-    u = user\n\
-    f1 = fill a.x s1 1 on u\n\
-    f2 = fill a.x s2 2 on u\n\
-    f3 = fill a.x s3 3 on u\n\
-    f4 = fill a.x s4 4 on u\n\
-    f5 = fill a.x s5 5 on u\n\
-    f6 = fill a.x s6 6 on u\n\
-    f7 = fill a.x s7 7 on u\n\
-    f8 = fill a.x s8 8 on u\n\
-    f9 = fill a.x s9 9 on u\n\
-    t = trigger u\n\
-    end\n";
-
 /// Command lines over graphs.
 const COMMANDS: &[Row] = &[
-    // a waiter above its trigger: only one order is lawful
     Row {
         commands: &["run --trace", "eval --trace", "--trace run"],
-        text: "realm 1\n\
-            space s 0..1\n\
-            inst a s x,y\n\
-            u = user\n\
-            f = fill a.x s 5 on u\n\
-            g = fill a.y s 6\n\
-            t = trigger u on g\n\
-            end\n",
+        text: WAITER_ABOVE_TRIGGER,
         status: Status::Done,
         output: "realm-report 1\n\
             op u done triggered\n\
@@ -272,24 +197,9 @@ const COMMANDS: &[Row] = &[
             at f\n\
             done\n",
     },
-    // sums under one reservation
     Row {
         commands: &["run --workers 3", "run", "eval"],
-        text: "realm 1\n\
-            space s 0..1\n\
-            inst a s x,y,z\n\
-            lock l\n\
-            f = fill a.x s 3\n\
-            g = fill a.y s 4\n\
-            q = acquire l on f\n\
-            d = reduce sum a.x a.z s on q\n\
-            m = mergei d\n\
-            r = release q on m\n\
-            k = acquire l on g\n\
-            e = reduce sum a.y a.z s on k\n\
-            n = mergei e\n\
-            t = release k on n\n\
-            end\n",
+        text: LOCKED_SUMS,
         status: Status::Done,
         output: "realm-report 1\n\
             op f done triggered\n\

@@ -5,6 +5,8 @@
 #[cfg(test)]
 mod fault_tests;
 #[cfg(test)]
+mod gate_tests;
+#[cfg(test)]
 mod generated;
 #[cfg(test)]
 mod graph_tests;

@@ -1,11 +1,12 @@
 //! Texts with one item more than a limit allows, texts as great as a limit allows, and the least slots.
 
-use crate::generated::{all_done, chain, numbered};
+use crate::generated::all_done;
 use crate::graph_tests::EMPTY_REPORT;
 use crate::row::Row;
 use realm_top::status::Status;
 use std::alloc::Global;
 use std::test::Fail;
+use test_texts::generated::{chain, numbered};
 
 /// A part of a text.
 #[derive(Clone, Copy)]

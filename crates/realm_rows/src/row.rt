@@ -2,7 +2,7 @@
 
 ghost use Rattle.std.specs.Prelude.{◌≤◌};
 
-use realm_io::{MemorySink, MemorySource, OpenGate};
+use realm_io::{Gate, MemorySink, MemorySource, OpenGate};
 use realm_top::realm;
 use realm_top::status::Status;
 use std::alloc::Global;
@@ -53,28 +53,43 @@ impl Row<'_> {
         rt: &R,
         outside: &Outside,
     ) -> Result<(), Fail> {
+        self.run_through(rt, outside, &OpenGate)
+    }
+
+    /// The same, where workers pass this gate.
+    pub(crate) fn run_through<R: Threads + Wait + Sync + AllocGlobal, G: Gate>(
+        &self,
+        rt: &R,
+        outside: &Outside,
+        gate: &G,
+    ) -> Result<(), Fail> {
         for command in self.commands {
             let words = words(rt.alloc(), command)?;
-            self.call(rt, words.as_slice(), outside)?;
+            self.call_through(rt, words.as_slice(), outside, gate)?;
         }
         Ok(())
     }
 
-    /// Calls `realm` with these words, and compares the status, the bytes that were taken and how many
-    /// of them were flushed: all, and none where writing failed.
+    /// Calls `realm` with these words, and fails where it ends otherwise than the row says.
     pub(crate) fn call<R: Threads + Wait + Sync + AllocGlobal>(
         &self,
         rt: &R,
         words: &[String],
         outside: &Outside,
     ) -> Result<(), Fail> {
-        let alloc = rt.alloc();
-        let text = Vec::from_slice(alloc, self.text.as_bytes())?;
-        let reads = Vec::from_slice(alloc, outside.failing_reads)?;
-        let writes = Vec::from_slice(alloc, outside.failing_writes)?;
-        let mut source = MemorySource::new(text, outside.piece, reads);
-        let mut sink = MemorySink::new(vec![in alloc; 0; ROOM]?, outside.piece, writes);
-        let status = realm(rt, alloc, words, &mut source, &mut sink, &OpenGate);
+        self.call_through(rt, words, outside, &OpenGate)
+    }
+
+    /// The same, where workers pass this gate. It compares the status, the bytes that were taken and how
+    /// many of them were flushed: all, and none where writing failed.
+    pub(crate) fn call_through<R: Threads + Wait + Sync + AllocGlobal, G: Gate>(
+        &self,
+        rt: &R,
+        words: &[String],
+        outside: &Outside,
+        gate: &G,
+    ) -> Result<(), Fail> {
+        let (status, sink) = answer(rt, words, self.text, outside, gate)?;
         let flushed = match self.status {
             Status::WriteFault => 0,
             _ => self.output.len(),
@@ -89,8 +104,26 @@ impl Row<'_> {
     }
 }
 
+/// How `realm` ends with these words over this text, and the sink that it wrote to.
+pub(crate) fn answer<R: Threads + Wait + Sync + AllocGlobal, G: Gate>(
+    rt: &R,
+    words: &[String],
+    text: &str,
+    outside: &Outside,
+    gate: &G,
+) -> Result<(Status, MemorySink), Fail> {
+    let alloc = rt.alloc();
+    let bytes = Vec::from_slice(alloc, text.as_bytes())?;
+    let reads = Vec::from_slice(alloc, outside.failing_reads)?;
+    let writes = Vec::from_slice(alloc, outside.failing_writes)?;
+    let mut source = MemorySource::new(bytes, outside.piece, reads);
+    let mut sink = MemorySink::new(vec![in alloc; 0; ROOM]?, outside.piece, writes);
+    let status = realm(rt, alloc, words, &mut source, &mut sink, gate);
+    Ok((status, sink))
+}
+
 /// The program's name and the words of a command line.
-fn words(alloc: Global, command: &str) -> Result<Vec<String>, Fail> {
+pub(crate) fn words(alloc: Global, command: &str) -> Result<Vec<String>, Fail> {
     let mut words = Vec::new(alloc);
     words.push(String::from_str(alloc, "realm")?)?;
     for word in command.split_ascii_whitespace() {

@@ -1,9 +1,10 @@
 //! Graphs that break a rule, and the needs of graphs that break none.
 
-use crate::graph_tests::{EMPTY, FILL};
+use crate::graph_tests::FILL;
 use crate::row::Row;
 use realm_top::status::Status;
 use std::test::Fail;
+use test_texts::graphs::{EMPTY, TWO_READERS, TWO_SECTIONS};
 
 /// Texts with the rule that is broken.
 const BROKEN: &[(&str, &str)] = &[
@@ -136,16 +137,7 @@ const ACCEPTED: &[(&str, &str)] = &[
          end\n",
         "accepted need 1\n",
     ),
-    // two reads
-    (
-        "realm 1\n\
-         space s 0..1\n\
-         inst a s x,y,z\n\
-         f = copy a.x a.y s\n\
-         g = copy a.x a.z s\n\
-         end\n",
-        "accepted need 1\n",
-    ),
+    (TWO_READERS, "accepted need 1\n"),
     // two columns
     (
         "realm 1\nspace s 0..1\ninst a s x,z\nf = fill a.x s 1\ng = fill a.z s 1\nend\n",
@@ -162,19 +154,7 @@ const ACCEPTED: &[(&str, &str)] = &[
          end\n",
         "accepted need 1\n",
     ),
-    // two sections of one reservation: each release may let either acquire go on
-    (
-        "realm 1\n\
-         lock l\n\
-         q = acquire l\n\
-         m = mergei q\n\
-         r = release q on m\n\
-         k = acquire l\n\
-         n = mergei k\n\
-         t = release k on n\n\
-         end\n",
-        "accepted need 6\n",
-    ),
+    (TWO_SECTIONS, "accepted need 6\n"),
 ];
 
 #[test]

@@ -7,7 +7,6 @@ ghost use Rattle.run_core.specs.Works.{WorkValue, IsWork};
 
 use crate::graphs::checked;
 use crate::outcomes::{has_trace, is_same};
-use crate::{texts, tiles};
 use gen_events::Handle;
 use graph_model::outcome::Outcome;
 use plain_eval::evaluation::eval;
@@ -15,6 +14,12 @@ use race_check::checked::Checked;
 use run_core::{Attempt, Core, Thing};
 use std::alloc::Global;
 use std::test::Fail;
+use test_texts::generated::chain;
+use test_texts::graphs::{
+    CANCELLED_BARRIER, EMPTY, FAULTY_PATHS, KERNELS, LOCKED_SUMS, NINE_WAITERS, NO_TRIGGER,
+    TWO_READERS, TWO_SECTIONS, WAITER_ABOVE_TRIGGER,
+};
+use test_texts::tiles;
 
 /// In which order lines are attempted.
 #[derive(Clone, Copy)]
@@ -111,7 +116,7 @@ fn driven(
 
 /// Whether a graph that is driven in each order gives the outcome of the evaluation, and ends by
 /// the drive alone.
-fn is_evaluated(alloc: Global, text: &[u8], slots: u32) -> Result<bool, Fail> {
+fn is_evaluated(alloc: Global, text: &str, slots: u32) -> Result<bool, Fail> {
     let checked = checked(alloc, text)?;
     let wanted = eval(alloc, &checked)?;
     for order in [Order::Ascending, Order::Descending, Order::Alternating] {
@@ -126,15 +131,15 @@ fn is_evaluated(alloc: Global, text: &[u8], slots: u32) -> Result<bool, Fail> {
 #[test]
 fn small_graphs(rt: HostRuntime) -> Result<(), Fail> {
     for (text, slots) in [
-        (texts::EMPTY, 1),
-        (texts::WAITER_ABOVE_TRIGGER, 4),
-        (texts::FAULTY_PATHS, 6),
-        (texts::CANCELLED_BARRIER, 6),
-        (texts::NO_TRIGGER, 3),
-        (texts::KERNELS, 9),
-        (texts::LOCKED_SUMS, 10),
-        (texts::TWO_SECTIONS, 6),
-        (texts::NINE_WAITERS, 11),
+        (EMPTY, 1),
+        (WAITER_ABOVE_TRIGGER, 4),
+        (FAULTY_PATHS, 6),
+        (CANCELLED_BARRIER, 6),
+        (NO_TRIGGER, 3),
+        (KERNELS, 9),
+        (LOCKED_SUMS, 10),
+        (TWO_SECTIONS, 6),
+        (NINE_WAITERS, 11),
     ] {
         assert!(rt; is_evaluated(rt.alloc(), text, slots)?);
     }
@@ -144,20 +149,20 @@ fn small_graphs(rt: HostRuntime) -> Result<(), Fail> {
 #[test]
 fn tiled_stencil(rt: HostRuntime) -> Result<(), Fail> {
     let text = tiles::graph(rt.alloc())?;
-    assert!(rt; is_evaluated(rt.alloc(), text.as_bytes(), 427)?);
+    assert!(rt; is_evaluated(rt.alloc(), text.as_str(), 427)?);
     Ok(())
 }
 
 #[test]
 fn one_slot(rt: HostRuntime) -> Result<(), Fail> {
-    let text = tiles::chain(rt.alloc())?;
-    assert!(rt; is_evaluated(rt.alloc(), text.as_bytes(), 1)?);
-    assert!(rt; shares_one_slot(rt.alloc(), text.as_bytes())?);
+    let text = chain(rt.alloc(), 1000)?;
+    assert!(rt; is_evaluated(rt.alloc(), text.as_str(), 1)?);
+    assert!(rt; shares_one_slot(rt.alloc(), text.as_str())?);
     Ok(())
 }
 
 /// Whether each line of a finished run with one slot has the slot's generation of its number.
-fn shares_one_slot(alloc: Global, text: &[u8]) -> Result<bool, Fail> {
+fn shares_one_slot(alloc: Global, text: &str) -> Result<bool, Fail> {
     let checked = checked(alloc, text)?;
     if checked.need() > 1 {
         return Err("slots".into());
@@ -178,7 +183,7 @@ fn shares_one_slot(alloc: Global, text: &[u8]) -> Result<bool, Fail> {
 }
 
 /// What keeps a line from being taken where all are issued and the first one is out.
-fn second_waits_for(alloc: Global, text: &[u8], second: u32) -> Result<Option<Thing>, Fail> {
+fn second_waits_for(alloc: Global, text: &str, second: u32) -> Result<Option<Thing>, Fail> {
     let checked = checked(alloc, text)?;
     if checked.need() > 8192 || checked.graph().lines() <= second {
         return Err("graph".into());
@@ -197,8 +202,8 @@ fn second_waits_for(alloc: Global, text: &[u8], second: u32) -> Result<Option<Th
 #[test]
 fn second_line_waits(rt: HostRuntime) -> Result<(), Fail> {
     for (text, second, thing) in [
-        (texts::TWO_READERS, 1, Thing::Column(0)),
-        (texts::TWO_SECTIONS, 3, Thing::Lock(0)),
+        (TWO_READERS, 1, Thing::Column(0)),
+        (TWO_SECTIONS, 3, Thing::Lock(0)),
     ] {
         let found = second_waits_for(rt.alloc(), text, second)?;
         assert_eq!(rt; found, Some(thing));

@@ -7,8 +7,8 @@ use std::alloc::Global;
 use std::test::Fail;
 
 /// The graph of a text, where it is accepted.
-pub(crate) fn checked(alloc: Global, text: &[u8]) -> Result<Checked, Fail> {
-    match check(alloc, read_graph(alloc, text)?) {
+pub(crate) fn checked(alloc: Global, text: &str) -> Result<Checked, Fail> {
+    match check(alloc, read_graph(alloc, text.as_bytes())?) {
         Ok(checked) => Ok(checked),
         Err(_) => Err("refused".into()),
     }

@@ -9,8 +9,4 @@ mod graphs;
 #[cfg(test)]
 mod outcomes;
 #[cfg(test)]
-mod texts;
-#[cfg(test)]
-mod tiles;
-#[cfg(test)]
 mod worker_tests;

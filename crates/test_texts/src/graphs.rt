@@ -1,0 +1,126 @@
+//! Texts of graphs.
+
+/// No line.
+pub const EMPTY: &str = "realm 1\nend\n";
+
+/// A user event without a trigger, and a line that waits for it.
+pub const NO_TRIGGER: &str = "realm 1\n\
+    space s 0..1\n\
+    inst a s x,y\n\
+    u = user\n\
+    f = fill a.x s 5 on u\n\
+    g = fill a.y s 6\n\
+    end\n";
+
+/// Broken and unbroken paths from a fault.
+pub const FAULTY_PATHS: &str = "realm 1\n\
+    space s 0..1\n\
+    inst a s x,y\n\
+    f = fill a.x s 7\n\
+    k = task expect a.x s 0 5 on f\n\
+    c = copy a.x a.y s on k\n\
+    m = merge k c\n\
+    n = mergei k c\n\
+    g = fill a.y s 9 on n\n\
+    end\n";
+
+/// A cancelled user event, and a barrier whose first phase it cancels.
+pub const CANCELLED_BARRIER: &str = "realm 1\n\
+    barrier b 1 sum 10\n\
+    u = user\n\
+    p0 = phase b\n\
+    p1 = phase b\n\
+    a0 = arrive p0 5 on u\n\
+    a1 = arrive p1 6\n\
+    c = cancel u\n\
+    end\n";
+
+/// Each kernel once, and two reductions.
+pub const KERNELS: &str = "realm 1\n\
+    space s 0..3\n\
+    space t 0..1\n\
+    space o 0..0\n\
+    inst a s x,y,z\n\
+    inst b o d\n\
+    e1 = task iota a.x s 1\n\
+    e2 = task scan a.x a.y s on e1\n\
+    e3 = task stencil a.x a.z s s on e2\n\
+    e4 = task axpy a.y a.z s 10 on e3\n\
+    e5 = task hist a.z a.y s t on e4\n\
+    e6 = task dot a.x a.y b.d s o on e5\n\
+    e7 = task gather a.x a.y a.z s t on e6\n\
+    e8 = reduce max a.x a.z s on e7\n\
+    e9 = reduce min a.x a.y s on e8\n\
+    end\n";
+
+/// A waiter above its trigger: only one order is lawful.
+pub const WAITER_ABOVE_TRIGGER: &str = "realm 1\n\
+    space s 0..1\n\
+    inst a s x,y\n\
+    u = user\n\
+    f = fill a.x s 5 on u\n\
+    g = fill a.y s 6\n\
+    t = trigger u on g\n\
+    end\n";
+
+/// Sums under one reservation.
+pub const LOCKED_SUMS: &str = "realm 1\n\
+    space s 0..1\n\
+    inst a s x,y,z\n\
+    lock l\n\
+    f = fill a.x s 3\n\
+    g = fill a.y s 4\n\
+    q = acquire l on f\n\
+    d = reduce sum a.x a.z s on q\n\
+    m = mergei d\n\
+    r = release q on m\n\
+    k = acquire l on g\n\
+    e = reduce sum a.y a.z s on k\n\
+    n = mergei e\n\
+    t = release k on n\n\
+    end\n";
+
+/// Two sections of one reservation: each release may let either acquire go on.
+pub const TWO_SECTIONS: &str = "realm 1\n\
+    lock l\n\
+    q = acquire l\n\
+    m = mergei q\n\
+    r = release q on m\n\
+    k = acquire l\n\
+    n = mergei k\n\
+    t = release k on n\n\
+    end\n";
+
+/// Two copies that read the same column.
+pub const TWO_READERS: &str = "realm 1\n\
+    space s 0..1\n\
+    inst a s x,y,z\n\
+    f = copy a.x a.y s\n\
+    g = copy a.x a.z s\n\
+    end\n";
+
+/// Nine fills that wait for one user event, whose trigger stands below them.
+pub const NINE_WAITERS: &str = "realm 1\n\
+    space s1 1..1\n\
+    space s2 2..2\n\
+    space s3 3..3\n\
+    space s4 4..4\n\
+    space s5 5..5\n\
+    space s6 6..6\n\
+    space s7 7..7\n\
+    space s8 8..8\n\
+    space s9 9..9\n\
+    space w 1..9\n\
+    inst a w x\n\
+    u = user\n\
+    f1 = fill a.x s1 1 on u\n\
+    f2 = fill a.x s2 2 on u\n\
+    f3 = fill a.x s3 3 on u\n\
+    f4 = fill a.x s4 4 on u\n\
+    f5 = fill a.x s5 5 on u\n\
+    f6 = fill a.x s6 6 on u\n\
+    f7 = fill a.x s7 7 on u\n\
+    f8 = fill a.x s8 8 on u\n\
+    f9 = fill a.x s9 9 on u\n\
+    t = trigger u\n\
+    end\n";
