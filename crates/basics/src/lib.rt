@@ -1,4 +1,5 @@
-//! What crates of several layers share: numbers that words spell, and facts on lists and counts.
+//! What crates of several layers share: numbers that words spell, and facts on lists, counts
+//! and sums.
 #![tactic(auto)]
 
 mod numbers;

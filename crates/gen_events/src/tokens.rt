@@ -7,7 +7,8 @@ ghost use Rattle.gen_events.specs.Seats.{IsPlain, IsMaker, IsPending, IsWaiter, 
 use crate::handle::{Fate, Handle};
 use crate::view::View;
 
-/// What a thread has seen, knows, has placed, was given, has emptied and has left. It only grows.
+/// What a thread has seen, knows, has placed, was given, has emptied, has left and has found to have
+/// ended. It only grows.
 #[derive(Drop)]
 pub struct Seat {
     pub(crate) inner: atomic_table::Seat<(), View>,
