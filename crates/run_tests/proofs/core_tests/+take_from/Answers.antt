@@ -16,6 +16,11 @@ returns-in_default t c =
     }
 
 -- the work of the line that was taken is still its work
+pub perform-finished-requires : goal.perform-finished-requires
+perform-finished-requires t c = record {
+  work = (c.take_from-others.new.core, c.is_sound.ensures.sound, sym c.graph-2.ensures, c.take_from-others.ensures.works c.in-Taken.work c.in-Taken.ensures.answer.1.work);
+}
+
 pub put_back-requires : goal.put_back-requires
 put_back-requires t c = c.perform-finished.ensures.finished c.take_from-others.new.core c.is_sound.ensures.sound (sym c.graph-2.ensures) (c.take_from-others.ensures.works c.in-Taken.work c.in-Taken.ensures.answer.1.work)
 
