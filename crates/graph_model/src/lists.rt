@@ -1,12 +1,12 @@
 //! Lists that are fields of graphs and outcomes.
 
-ghost use Rattle.std.specs.Prelude.{◌≡◌, ◌<◌, [], ◌∷◌, ◌++◌, length, slice_get, OnOk, OnErr};
+ghost use Rattle.std.specs.Prelude.{◌≡◌, ◌<◌, [], ◌∷◌, ◌++◌, length, slice_get, slice_set, replicate, Some, None, IfOk, OnOk, OnErr};
 
 use crate::name::Name;
 use crate::outcome::{Answer, End};
 use index_spaces::NoMemory;
 use index_spaces::column::Column;
-use index_spaces::room::push;
+use index_spaces::room::{filled, push};
 use std::alloc::Global;
 use std::marker::Model;
 
@@ -75,6 +75,25 @@ impl<T: Copy> ItemList<T> {
         ensures { slice_get self.now i ≡ Some result }
     {
         self.items[i as usize]
+    }
+
+    /// Puts an item at place `i`, counted from 0, in the place of the one there.
+    pub fn set(&mut self, i: u32, item: T)
+        requires { i < length self.old }
+        ensures { self.new ≡ slice_set self.old i item }
+    {
+        self.items[i as usize] = item;
+    }
+}
+
+impl ItemList<Option<u64>> {
+    /// So many lines without a value.
+    pub fn blank(alloc: Global, lines: u32) -> Result<ValueList, NoMemory>
+        ensures { IfOk result (λ values. values ≡ replicate lines None) }
+    {
+        Ok(ItemList {
+            items: filled(alloc, None, lines as usize)?,
+        })
     }
 }
 

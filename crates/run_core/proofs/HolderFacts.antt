@@ -20,10 +20,10 @@ use Rattle.run_core.specs.Kept.{holding, frees_so_far, frees_in}
 use Rattle.run_core.specs.Steps.{HasLock}
 
 -- the verb of a line that acquires or releases
-line_acquires : (g : GraphValue) (i l : ℕ) (line : Line) → slice_get g.lines i ≡ Some line → line.verb ≡ Acquire l → Acquires g i l
+pub line_acquires : (g : GraphValue) (i l : ℕ) (line : Line) → slice_get g.lines i ≡ Some line → line.verb ≡ Acquire l → Acquires g i l
 line_acquires g i l line h e = verb_passes (is_acquire_of l) g i (Acquire l) (verb_is g i line h ∙ ap (λ v. Some v) e) ∙ eq-eqb l l refl
 
-line_releases : (g : GraphValue) (i q : ℕ) (line : Line) → slice_get g.lines i ≡ Some line → line.verb ≡ Release q → Releases g i q
+pub line_releases : (g : GraphValue) (i q : ℕ) (line : Line) → slice_get g.lines i ≡ Some line → line.verb ≡ Release q → Releases g i q
 line_releases g i q line h e = verb_passes (is_release_of q) g i (Release q) (verb_is g i line h ∙ ap (λ v. Some v) e) ∙ eq-eqb q q refl
 
 -- its reservation is declared, and what it releases is a line

@@ -19,3 +19,11 @@ pub mod ColumnFacts
 pub mod SlotFacts
 pub mod FinishFacts
 pub mod OutFacts
+pub mod PastLists
+pub mod ResumeFacts
+pub mod HoldFacts
+pub mod ResumeLists
+pub mod ResumeCore
+pub mod HandleCounts
+pub mod CreatedCounts
+pub mod PendingCounts

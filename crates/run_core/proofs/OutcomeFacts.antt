@@ -89,7 +89,7 @@ handle_answers c core i h at = subst IsSome (sym (core.events.answers i h at)) r
 home_when_quiet : (c : CoreValue) → IsCore c → Quiet c.graph c.run → (k taker : ℕ) → place_at c.run.places k ≢ Had taker
 home_when_quiet c core quiet k taker at = true≢false (sym (core.sound.on_columns.had_out k taker at) ∙ quiet.none_out taker)
 
-any_default : {X : Type 0} (xs : List X) (k : ℕ) (d e : X) → k < length xs → slice_index_or xs k d ≡ slice_index_or xs k e
+pub any_default : {X : Type 0} (xs : List X) (k : ℕ) (d e : X) → k < length xs → slice_index_or xs k d ≡ slice_index_or xs k e
 any_default [] k d e h = absurd (omega (arith, h))
 any_default (x ∷ xs) zero d e h = refl
 any_default (x ∷ xs) (suc k) d e h = any_default xs k d e (omega (arith, h))

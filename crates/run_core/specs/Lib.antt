@@ -8,3 +8,4 @@ pub mod Findings
 pub mod WhatIsOut
 pub mod Finishing
 pub mod Answers
+pub mod Resumed

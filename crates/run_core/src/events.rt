@@ -1,8 +1,12 @@
 //! The events of the lines.
 
-ghost use Rattle.std.specs.Prelude.{◌≡◌, ◌≤◌};
+ghost use Rattle.std.specs.Prelude.{◌≡◌, ◌<◌, ◌≤◌, ◌++◌, [], ◌∷◌, vec_len};
+ghost use Rattle.std.specs.Vec.{vec_capacity};
+ghost use Rattle.run_core.specs.Resumed.{issued_handles};
 ghost use Rattle.gen_events.specs.EventMap.{EventMap};
 
+use crate::answers::Stage;
+use crate::states::LineState;
 use gen_events::{Answer, EventTable, Fate, Handle, WatchNow};
 use index_spaces::NoMemory;
 use index_spaces::room::{filled, push_within, with_room};
@@ -37,12 +41,25 @@ impl Model for LineEvents {
     } };
 }
 
+/// Puts the handle of a line behind those of the lines before it, where it is issued.
+fn push_handle(state: LineState, handles: &mut Vec<Handle>)
+    requires { vec_len handles.old < vec_capacity handles.old }
+    ensures items { handles.new.items ≡ handles.old.items ++ issued_handles (state ∷ []) }
+    ensures room { vec_capacity handles.old ≤ vec_capacity handles.new }
+{
+    match state.stage {
+        Stage::Unissued => {}
+        _ => push_within(handles, state.handle),
+    }
+}
+
 impl LineEvents {
-    ghost use Rattle.std.specs.Prelude.{◌≡◌, ◌≢◌, ◌<◌, ◌≤◌, ◌⊎◌, ◌*◌, ◌++◌, [], ◌∷◌, length, true, false, Some, None, slice_get, slice_index_or, IfOk, IfSome, IfNone, IsSome};
+    ghost use Rattle.std.specs.Prelude.{◌≡◌, ◌≢◌, ◌<◌, ◌≤◌, ◌⊎◌, ◌*◌, ◌++◌, ℕ, [], ◌∷◌, length, true, false, Some, None, slice_get, slice_index_or, IfOk, IfSome, IfNone, IsSome};
     ghost use Rattle.gen_events.specs.declared.handle.Handle.{Handle as TheHandle};
     ghost use Rattle.gen_events.specs.declared.handle.Answer.TheVariants.{Pending};
     ghost use Rattle.gen_events.specs.EventMap.{IsEventMap, answer, answer_of, fresh, created_at, placed_on, ended_with, next_handle, no_event, MayServe, IsFull, IsFree, Gives};
     ghost use Rattle.run_core.specs.Events.{EventsValue};
+    ghost use Rattle.run_core.specs.Resumed.{issued_handles};
 
     /// Before any line is issued.
     pub(crate) fn new(
@@ -66,6 +83,35 @@ impl LineEvents {
             handles,
             busy,
         })
+    }
+
+    /// The handles of the issued lines, with this table, in the place of events of which none was
+    /// created. Each waiter is free.
+    pub(crate) fn resumed(self, lines: &[LineState], table: EventTable) -> LineEvents
+        requires empty { self.handles ≡ [] }
+        requires each { (length lines.now ≡ self.table.waiters) × (table.waiters ≡ self.table.waiters) }
+        requires slots { length table.slots ≡ length self.table.slots }
+        requires free { (k : ℕ) → k < table.waiters → IsFree table k }
+        ensures { result ≡ record { handles = issued_handles lines.now; table = table } }
+    {
+        let LineEvents {
+            table: _,
+            mut handles,
+            mut busy,
+        } = self;
+        let count = lines.len();
+        busy.clear();
+        for _line in 0..count {
+            push_within(&mut busy, false);
+        }
+        for state in lines {
+            push_handle(*state, &mut handles);
+        }
+        LineEvents {
+            table,
+            handles,
+            busy,
+        }
     }
 
     /// Gives the next line a new handle. False comes where no slot is free.

@@ -10,8 +10,10 @@ mod phases;
 mod progress;
 mod run;
 mod sources;
+mod states;
 mod work;
 
 pub use answers::{Attempt, Issue, Stage, Thing};
 pub use run::Core;
+pub use states::{LineState, StateList};
 pub use work::{Finished, Work};

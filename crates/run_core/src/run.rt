@@ -22,6 +22,7 @@ mod finish;
 mod issue;
 mod outcome;
 mod put_back;
+mod resume;
 mod take;
 
 /// The last generation of a slot. A slot retires only after 8,192 lines have ended on it, and then

@@ -23,7 +23,7 @@ column_got accessed k c h = got (slice_get accessed k) refl (sym (slice_get-map 
     got None e h = absurd (none-some c h)
     got (Some a) e h = (a, e, same_Some a.column c h)
 
-columns_once : (g : GraphValue) → IsGraph g → (i : ℕ) → Once (map (λ (a : Access). a.column) (accesses g i))
+pub columns_once : (g : GraphValue) → IsGraph g → (i : ℕ) → Once (map (λ (a : Access). a.column) (accesses g i))
 columns_once g f i j k c hj hk =
     let a = column_got (accesses g i) j c hj in
     let b = column_got (accesses g i) k c hk in

@@ -1,0 +1,113 @@
+-- The state from which a core is resumed: what the states of the lines show, and the core that is in it.
+use Rattle.std.specs.Prelude.{◌≡◌, ◌<◌, ℕ, Bool, true, false, List, length, IsTrue, Option, Some, None, slice_get, slice_index, slice_index_or, filter_map}
+use Rattle.index_spaces.specs.Column.{ColumnValue}
+use Rattle.graph_model.specs.declared.outcome.End.{End}
+use Rattle.graph_model.specs.declared.outcome.End.TheVariants.{Done, Waiting}
+use Rattle.graph_model.specs.declared.verb.Verb.TheVariants.{Phase}
+use Rattle.graph_model.specs.Graph.{GraphValue, columns, column_space, verb_at}
+use Rattle.graph_model.specs.Rules.{Acquires, Releases}
+use Rattle.gen_events.specs.declared.handle.Handle.{Handle}
+use Rattle.gen_events.specs.EventMap.{EventMap, no_event, IsFree}
+use Rattle.run_state.specs.Run.{Home, Run, is_listed, stage_at, time_at, place_at, list_at, end_so_far, started, ended}
+use Rattle.run_state.specs.Sound.{Sound}
+use Rattle.run_core.specs.declared.answers.Stage.{Stage}
+use Rattle.run_core.specs.declared.answers.Stage.TheVariants as stages
+use Rattle.run_core.specs.declared.progress.Progress.{Progress}
+use Rattle.run_core.specs.declared.progress.Progress.TheVariants as progress
+use Rattle.run_core.specs.declared.states.LineState.{LineState}
+use Rattle.run_core.specs.Core.{CoreValue, AreEvents}
+use Rattle.run_core.specs.Steps.{stage_of}
+
+-- the state of a line that isn't issued
+abbrev pub blank_state : LineState
+blank_state = record { stage = stages.Unissued; end = Waiting; handle = no_event; time = 0 }
+
+abbrev pub state_at : List LineState → ℕ → LineState
+state_at lines i = slice_index_or lines i blank_state
+
+-- WHAT IS READ OF A STATE: how far the line has come, whether it has ended, its handle where it is issued
+abbrev pub progress_by : Stage → End → Progress
+progress_by stages.Unissued x = progress.Unissued
+progress_by stages.Issued x = progress.Issued
+progress_by stages.Out x = progress.Out
+progress_by stages.Ended x = progress.Ended x
+
+abbrev pub progress_for : LineState → Progress
+progress_for s = progress_by s.stage s.end
+
+abbrev pub stage_is_over : Stage → Bool
+stage_is_over stages.Unissued = false
+stage_is_over stages.Issued = false
+stage_is_over stages.Out = false
+stage_is_over stages.Ended = true
+
+abbrev pub over_at : List LineState → ℕ → Bool
+over_at lines i = stage_is_over (state_at lines i).stage
+
+abbrev pub handle_by : Stage → Handle → Option Handle
+handle_by stages.Unissued h = None
+handle_by stages.Issued h = Some h
+handle_by stages.Out h = Some h
+handle_by stages.Ended h = Some h
+
+abbrev pub handle_of_issued : LineState → Option Handle
+handle_of_issued s = handle_by s.stage s.handle
+
+abbrev pub issued_handles : List LineState → List Handle
+issued_handles lines = filter_map handle_of_issued lines
+
+abbrev pub value_or_zero : Option ℕ → ℕ
+value_or_zero None = 0
+value_or_zero (Some v) = v
+
+-- an acquire that has ended with Done and whose release has not ended holds its reservation
+pub record HoldsNow (g : GraphValue) (lines : List LineState) (q l : ℕ) : Type 0 where
+  pub acquires : Acquires g q l
+  pub over : over_at lines q ≡ true
+  pub is_done : (state_at lines q).end ≡ Done
+  pub kept : (r : ℕ) → Releases g r q → over_at lines r ≡ true → ⊥
+
+-- THE STATE THAT IS SHOWN. A run, and the handles of its issued lines
+pub record LinesShow (g : GraphValue) (run : Run) (handles : List Handle) (lines : List LineState) : Type 0 where
+  pub each_line : length lines ≡ length g.lines
+  pub stage : (i : ℕ) (s : LineState) → slice_get lines i ≡ Some s → s.stage ≡ stage_of (stage_at run.stages i)
+  pub is_end : (i : ℕ) (s : LineState) → slice_get lines i ≡ Some s → s.end ≡ end_so_far (stage_at run.stages i)
+  pub named : (i : ℕ) (s : LineState) → slice_get lines i ≡ Some s → s.handle ≡ slice_index_or handles i no_event
+  pub timed : (i t : ℕ) (s : LineState) → slice_get lines i ≡ Some s → time_at run.times i ≡ Some t → s.time ≡ t
+
+-- each column is at home
+pub record HomesShow (g : GraphValue) (run : Run) (homes : List (Option ColumnValue)) : Type 0 where
+  pub each_home : length homes ≡ length (columns g)
+  pub at_home : (c : ℕ) → c < length (columns g) → (x : ColumnValue) × (slice_get homes c ≡ Some (Some x)) × (x.space ≡ column_space g c) × (place_at run.places c ≡ Home x.cells)
+
+-- a value for each phase, and none for another line
+pub record PhasesShow (g : GraphValue) (run : Run) (phases : List (Option ℕ)) : Type 0 where
+  pub each_line : length phases ≡ length g.lines
+  pub value : (p b : ℕ) → verb_at g p ≡ Some (Phase b) → slice_get phases p ≡ Some (Some (slice_index run.values p))
+  pub none : (p : ℕ) → p < length g.lines → ((b : ℕ) → verb_at g p ≡ Some (Phase b) → ⊥) → slice_get phases p ≡ Some None
+
+-- the four show a sound state in which no work is out, with a table as large as this core's in which each waiter is free
+pub record ShowState (c : CoreValue) (run : Run) (handles : List Handle) (lines : List LineState) (table : EventMap) (homes : List (Option ColumnValue)) (phases : List (Option ℕ)) : Type 0 where
+  pub sound : Sound c.graph run
+  pub quiet : (i : ℕ) → IsTrue (started run.stages i) → IsTrue (ended run.stages i)
+  pub lines_show : LinesShow c.graph run handles lines
+  pub homes_show : HomesShow c.graph run homes
+  pub phases_show : PhasesShow c.graph run phases
+  pub events : AreEvents c.graph run.stages handles table
+  pub slots : length table.slots ≡ length c.table.slots
+  pub free : (k : ℕ) → k < table.waiters → IsFree table k
+
+-- THE CORE THAT IS IN IT. What it lists may stand in another order
+pub record InState (g : GraphValue) (run : Run) (handles : List Handle) (table : EventMap) (c : CoreValue) : Type 0 where
+  pub graph : c.graph ≡ g
+  pub handled : c.handles ≡ handles
+  pub tabled : c.table ≡ table
+  pub stages : c.run.stages ≡ run.stages
+  pub times : c.run.times ≡ run.times
+  pub clock : c.run.clock ≡ run.clock
+  pub places : c.run.places ≡ run.places
+  pub values : (p b : ℕ) → verb_at g p ≡ Some (Phase b) → slice_index c.run.values p ≡ slice_index run.values p
+  pub back : (k i : ℕ) → is_listed (list_at c.run.back k) i ≡ is_listed (list_at run.back k) i
+  pub arrived : (i : ℕ) → is_listed c.run.arrived i ≡ is_listed run.arrived i
+  pub holders : (l q : ℕ) → is_listed (list_at c.run.holders l) q ≡ is_listed (list_at run.holders l) q
+  pub freed : (r q : ℕ) → Releases g r q → is_listed c.run.freed r ≡ is_listed run.freed r

@@ -1,0 +1,254 @@
+//! A core that goes on from a state.
+
+ghost use Rattle.std.specs.Prelude.{◌≡◌, ◌<◌, ◌≤◌, ◌+◌, ℕ, length, vec_len, map, cond, true, false, IfSome, IfNone, Some, slice_get, slice_set};
+ghost use Rattle.std.specs.Vec.{vec_capacity};
+ghost use Rattle.graph_model.specs.Graph.{locks};
+ghost use Rattle.graph_model.specs.declared.outcome.End.TheVariants.{Done};
+ghost use Rattle.basics.specs.Lists.{count_below};
+ghost use Rattle.graph_model.specs.Rules.{Accepted, Releases};
+ghost use Rattle.run_state.specs.Run.{is_listed, list_at};
+ghost use Rattle.run_core.specs.declared.states.LineState.{LineState as TheState};
+ghost use Rattle.run_core.specs.declared.answers.Stage.{Stage as TheStage};
+ghost use Rattle.run_core.specs.Kept.{holding};
+ghost use Rattle.run_core.specs.Resumed.{progress_for, stage_is_over, over_at, value_or_zero, HoldsNow};
+
+use crate::answers::Stage;
+use crate::columns::Columns;
+use crate::progress::Progress;
+use crate::run::Core;
+use crate::states::{LineState, StateList};
+use gen_events::EventTable;
+use graph_model::graph::Graph;
+use graph_model::lists::ValueList;
+use graph_model::outcome::End;
+use graph_model::verb::Verb;
+use index_spaces::room::push_within;
+use instances::Homes;
+
+/// How far a line has come, as a core keeps it.
+#[tactic(auto, unfolding(crate::specs::Resumed::progress_by))]
+fn progress_for(state: LineState) -> Progress
+    ensures { result ≡ progress_for state }
+{
+    match state.stage {
+        Stage::Unissued => Progress::Unissued,
+        Stage::Issued => Progress::Issued,
+        Stage::Out => Progress::Out,
+        Stage::Ended => Progress::Ended(state.end),
+    }
+}
+
+/// Whether a line has ended.
+fn is_over(state: LineState) -> bool
+    ensures { result ≡ stage_is_over state.stage }
+{
+    match state.stage {
+        Stage::Ended => true,
+        _ => false,
+    }
+}
+
+/// Whether a line has ended with Done.
+fn is_done(state: LineState) -> bool
+    ensures yes { result ≡ true → (stage_is_over state.stage ≡ true) × (state.end ≡ Done) }
+    ensures no { result ≡ false → stage_is_over state.stage ≡ true → state.end ≡ Done → ⊥ }
+{
+    match (state.stage, state.end) {
+        (Stage::Ended, End::Done) => true,
+        _ => false,
+    }
+}
+
+/// How far each line has come.
+fn stages_of(lines: &[LineState], mut stages: Vec<Progress>) -> Vec<Progress>
+    requires few { length lines.now ≤ 8192 }
+    requires each { length stages.items ≡ length lines.now }
+    ensures { result.items ≡ map progress_for lines.now }
+{
+    stages.clear();
+    for state in lines {
+        push_within(&mut stages, progress_for(*state));
+    }
+    stages
+}
+
+/// The value of a phase, and 0 for another line.
+fn value_or_zero(value: Option<u64>) -> u64
+    ensures { result ≡ value_or_zero value }
+{
+    match value {
+        Some(value) => value,
+        None => 0,
+    }
+}
+
+/// The values of the phases, and 0 for other lines.
+fn values_of(phases: &[Option<u64>], mut values: Vec<u64>) -> Vec<u64>
+    requires few { length phases.now ≤ 8192 }
+    requires each { length values.items ≡ length phases.now }
+    ensures { result.items ≡ map value_or_zero phases.now }
+{
+    values.clear();
+    for value in phases {
+        push_within(&mut values, value_or_zero(*value));
+    }
+    values
+}
+
+/// One item more for a line that has ended.
+fn place_for(state: LineState, trace: &mut Vec<u32>)
+    requires { vec_len trace.old < vec_capacity trace.old }
+    ensures count { length trace.new.items ≡ cond (stage_is_over state.stage) 1 0 + length trace.old.items }
+    ensures room { vec_capacity trace.old ≤ vec_capacity trace.new }
+{
+    if is_over(state) {
+        push_within(trace, 0);
+    }
+}
+
+/// Puts a line that has ended at the place of its time.
+fn put_at_time(state: LineState, line: u32, trace: &mut Vec<u32>)
+    requires { stage_is_over state.stage ≡ true → state.time < length trace.old.items }
+    ensures items { trace.new.items ≡ cond (stage_is_over state.stage) (slice_set trace.old.items state.time line) trace.old.items }
+    ensures room { vec_capacity trace.old ≤ vec_capacity trace.new }
+{
+    if is_over(state) {
+        trace[state.time as usize] = line;
+    }
+}
+
+/// As many items as lines that have ended.
+fn places_for(lines: &[LineState], mut trace: Vec<u32>) -> Vec<u32>
+    requires few { length lines.now ≤ 8192 }
+    requires room { length lines.now ≤ vec_capacity trace }
+    ensures count { length result.items ≡ count_below (over_at lines.now) (length lines.now) }
+    ensures room { vec_capacity trace ≤ vec_capacity result }
+{
+    trace.clear();
+    for line in 0..lines.len() {
+        place_for(lines[line], &mut trace);
+    }
+    trace
+}
+
+/// The lines that have ended, each at the place of its time.
+fn trace_of(lines: &[LineState], trace: Vec<u32>) -> Vec<u32>
+    requires few { length lines.now ≤ 8192 }
+    requires room { length lines.now ≤ vec_capacity trace }
+    requires times { (i : ℕ) (s : TheState) → slice_get lines.now i ≡ Some s → stage_is_over s.stage ≡ true
+        → s.time < count_below (over_at lines.now) (length lines.now) }
+    requires once { (i j : ℕ) (s t : TheState) → slice_get lines.now i ≡ Some s → slice_get lines.now j ≡ Some t
+        → stage_is_over s.stage ≡ true → stage_is_over t.stage ≡ true → s.time ≡ t.time → i ≡ j }
+    ensures count { length result.items ≡ count_below (over_at lines.now) (length lines.now) }
+    ensures room { vec_capacity trace ≤ vec_capacity result }
+    ensures at { (i : ℕ) (s : TheState) → slice_get lines.now i ≡ Some s → stage_is_over s.stage ≡ true
+        → slice_get result.items s.time ≡ Some i }
+{
+    let mut trace = places_for(lines, trace);
+    for line in 0..lines.len() {
+        put_at_time(lines[line], line as u32, &mut trace);
+    }
+    trace
+}
+
+/// The acquire that holds a reservation until this line, and the reservation: where the line is a
+/// release that has not ended, of an acquire that is done.
+fn held_until(graph: &Graph, lines: &[LineState], release: u32) -> Option<(u32, u32)>
+    requires known { release < length graph.now.lines }
+    requires each { length lines.now ≡ length graph.now.lines }
+    ensures some { IfSome result (λ h. Releases graph.now release h.0 × HoldsNow graph.now lines.now h.0 h.1
+        × (h.1 < length (locks graph.now))) }
+    ensures none { IfNone result ((q l : ℕ) → Releases graph.now release q → HoldsNow graph.now lines.now q l → ⊥) }
+{
+    let Verb::Release { acquire } = &graph.line(release).verb else {
+        return None;
+    };
+    if is_over(lines[release as usize]) {
+        return None;
+    }
+    if !is_done(lines[*acquire as usize]) {
+        return None;
+    }
+    match &graph.line(*acquire).verb {
+        Verb::Acquire { lock } => Some((*acquire, *lock)),
+        _ => None,
+    }
+}
+
+/// Lets an acquire hold a reservation, where there is one.
+fn hold_at(held: Option<(u32, u32)>, holders: &mut Vec<Option<u32>>)
+    requires { IfSome held (λ h. h.1 < length holders.old.items) }
+    ensures some { IfSome held (λ h. holders.new.items ≡ slice_set holders.old.items h.1 (Some h.0)) }
+    ensures none { IfNone held (holders.new.items ≡ holders.old.items) }
+    ensures each { length holders.new.items ≡ length holders.old.items }
+{
+    if let Some((acquire, lock)) = held {
+        holders[lock as usize] = Some(acquire);
+    }
+}
+
+/// The acquires that are done and not released, each at its reservation, where none stood before.
+/// Each acquire has its release, so one pass over the releases finds them.
+fn holders_of(graph: &Graph, lines: &[LineState], mut holders: Vec<Option<u32>>) -> Vec<Option<u32>>
+    requires accepted { Accepted graph.now }
+    requires each { (length lines.now ≡ length graph.now.lines) × (length holders.items ≡ length (locks graph.now)) }
+    requires free { (l q : ℕ) → is_listed (list_at (map holding holders.items) l) q ≡ true → ⊥ }
+    requires alone { (l q k : ℕ) → HoldsNow graph.now lines.now q l → HoldsNow graph.now lines.now k l → q ≡ k }
+    ensures each { length result.items ≡ length holders.items }
+    ensures only { (l q : ℕ) → is_listed (list_at (map holding result.items) l) q ≡ true → HoldsNow graph.now lines.now q l }
+    ensures all { (l q : ℕ) → HoldsNow graph.now lines.now q l → is_listed (list_at (map holding result.items) l) q ≡ true }
+{
+    for line in 0..graph.lines() {
+        hold_at(held_until(graph, lines, line), &mut holders);
+    }
+    holders
+}
+
+impl<'g> Core<'g> {
+    ghost use Rattle.std.specs.Prelude.{◌≡◌, ℕ, List, []};
+    ghost use Rattle.gen_events.specs.declared.handle.Handle.{Handle as TheHandle};
+    ghost use Rattle.run_state.specs.Run.{Run};
+    ghost use Rattle.run_core.specs.Resumed.{ShowState, InState};
+
+    /// The core in the state that is shown, in which no work is out. Nothing was issued in this
+    /// core, whose lists it takes over. It takes no memory.
+    pub fn resume(
+        self,
+        lines: StateList,
+        table: EventTable,
+        homes: Homes,
+        phases: ValueList,
+    ) -> Core<'g>
+        requires fresh { self.handles ≡ [] }
+        requires shown { (run : Run) × (handles : List TheHandle) × ShowState self run handles lines table homes phases }
+        ensures state { (run : Run) (handles : List TheHandle) → ShowState self.entry run handles lines table homes phases
+            → InState self.entry.graph run handles table result }
+    {
+        let Core {
+            checked,
+            stages,
+            events,
+            columns,
+            values,
+            holders,
+            trace,
+            room,
+        } = self;
+        let graph = checked.graph();
+        let _ = graph.lines();
+        let states = lines.items.as_slice();
+        Core {
+            checked,
+            stages: stages_of(states, stages),
+            events: events.resumed(states, table),
+            columns: Columns {
+                homes,
+                takers: columns.takers,
+            },
+            values: values_of(phases.items.as_slice(), values),
+            holders: holders_of(graph, states, holders),
+            trace: trace_of(states, trace),
+            room,
+        }
+    }
+}
