@@ -14,6 +14,7 @@ use Rattle.run_state.specs.Sound.{AccessesColumn, home_cells, SoundColumns, Soun
 use Rattle.run_state.specs.Moves.{column_out, column_unused, column_back}
 use Rattle.run_state.proofs.Lists.{each_set, is_there, listed_here, listed_there, listed_cases, out_started, out_not_ended, ended_over, map_same}
 use Rattle.run_state.proofs.Known.{column_there}
+use Rattle.run_state.proofs.SoundParts.{with_columns}
 use Rattle.run_state.proofs.Started.{sources_closed, started_ends, changed_back}
 use Rattle.run_state.specs.Premises.{MayTakeColumn, MayReturnColumn, MayPutBackColumn}
 
@@ -81,15 +82,7 @@ out_columns {g} {run} s c i m =
 
 -- a column out
 pub column_out-sound : {g : GraphValue} {run : Run} → Sound g run → (c i : ℕ) → MayTakeColumn g run c i → Sound g (column_out run c i)
-column_out-sound {g} {run} s c i m = record {
-  graph = s.graph;
-  accepted = s.accepted;
-  on_lines = s.on_lines;
-  on_columns = out_columns s c i m;
-  on_phases = s.on_phases;
-  on_locks = s.on_locks;
-  on_times = s.on_times;
-}
+column_out-sound {g} {run} s c i m = with_columns s (slice_set run.places c (Had i)) run.back (out_columns s c i m)
 
 pub had_there : {g : GraphValue} {run : Run} → Sound g run → (c i : ℕ) → place_at run.places c ≡ Had i → c < length run.places
 had_there {g} {run} s c i h = is_there run.places (Home []) c (λ e. had_not_home (place_at run.places c) i [] h e)
@@ -114,15 +107,7 @@ home_columns {g} {run} s c i h xs same =
 
 -- a column given back unchanged
 pub column_unused-sound : {g : GraphValue} {run : Run} → Sound g run → (c i : ℕ) (xs : List ℕ) → MayReturnColumn g run c i xs → Sound g (column_unused run c xs)
-column_unused-sound {g} {run} s c i xs m = record {
-  graph = s.graph;
-  accepted = s.accepted;
-  on_lines = s.on_lines;
-  on_columns = home_columns s c i m.has xs m.unchanged;
-  on_phases = s.on_phases;
-  on_locks = s.on_locks;
-  on_times = s.on_times;
-}
+column_unused-sound {g} {run} s c i xs m = with_columns s (slice_set run.places c (Home xs)) run.back (home_columns s c i m.has xs m.unchanged)
 
 back_columns : {g : GraphValue} {run : Run} → Sound g run → (c i : ℕ) → place_at run.places c ≡ Had i → (xs : List ℕ) →
     xs ≡ (column_of g (cells_after (cells_of_lines g (is_listed (list_at run.back c))) (eval_changes g i)) c).cells →
@@ -154,12 +139,4 @@ back_columns {g} {run} s c i h xs made =
 
 -- a line put back on a column that it has: its cells are those that it had, changed as in the evaluation
 pub column_back-sound : {g : GraphValue} {run : Run} → Sound g run → (c i : ℕ) (xs : List ℕ) → MayPutBackColumn g run c i xs → Sound g (column_back run c i xs)
-column_back-sound {g} {run} s c i xs m = record {
-  graph = s.graph;
-  accepted = s.accepted;
-  on_lines = s.on_lines;
-  on_columns = back_columns s c i m.has xs m.changed;
-  on_phases = s.on_phases;
-  on_locks = s.on_locks;
-  on_times = s.on_times;
-}
+column_back-sound {g} {run} s c i xs m = with_columns s (slice_set run.places c (Home xs)) (slice_set run.back c (i ∷ list_at run.back c)) (back_columns s c i m.has xs m.changed)

@@ -124,19 +124,8 @@ arrival_found g i Faulted a h = let r = arrival_is_of g (verb_at g i) a h in (λ
 arrival_found g i Waiting a h = let r = arrival_is_of g (verb_at g i) a h in (λ e. cc, r.0, r.1)
 
 arrives_by : (v : Verb) → is_arrive v ≡ true → (p w : ℕ) × (v ≡ Arrive p w)
-arrives_by User h = absurd (true≢false (sym h))
-arrives_by (Trigger k) h = absurd (true≢false (sym h))
-arrives_by (Cancel k) h = absurd (true≢false (sym h))
-arrives_by (Merge ks) h = absurd (true≢false (sym h))
-arrives_by (MergeIgnore ks) h = absurd (true≢false (sym h))
-arrives_by (Phase k) h = absurd (true≢false (sym h))
 arrives_by (Arrive k w) h = (k, w, refl)
-arrives_by (Acquire k) h = absurd (true≢false (sym h))
-arrives_by (Release k) h = absurd (true≢false (sym h))
-arrives_by (Fill t s w) h = absurd (true≢false (sym h))
-arrives_by (Copy x y s) h = absurd (true≢false (sym h))
-arrives_by (Reduce o x y s) h = absurd (true≢false (sym h))
-arrives_by (Task k) h = absurd (true≢false (sym h))
+arrives_by _ h = absurd (true≢false (sym h))
 
 some_arrival_of : (g : GraphValue) (o : Option Verb) (p w : ℕ) → o ≡ Some (Arrive p w) → option_map_or (arrival_by g) o None ≡ Some (phase_op g p, p, w)
 some_arrival_of g o p w e = ap (λ (x : Option Verb). option_map_or (arrival_by g) x None) e
