@@ -99,19 +99,8 @@ for_fresh g i Waiting f = f
 
 -- an arrival by its end
 arrival_is_by : (g : GraphValue) (v : Verb) (a : Op × ℕ × ℕ) → arrival_by g v ≡ Some a → (v ≡ Arrive a.1 a.2) × (phase_op g a.1 ≡ a.0)
-arrival_is_by g User a h = absurd (none-some a h)
-arrival_is_by g (Trigger k) a h = absurd (none-some a h)
-arrival_is_by g (Cancel k) a h = absurd (none-some a h)
-arrival_is_by g (Merge ks) a h = absurd (none-some a h)
-arrival_is_by g (MergeIgnore ks) a h = absurd (none-some a h)
-arrival_is_by g (Phase k) a h = absurd (none-some a h)
 arrival_is_by g (Arrive k w) a h = (let e : (phase_op g k, k, w) ≡ a = same_Some (phase_op g k, k, w) a h in (ap (λ (y : Op × ℕ × ℕ). Arrive y.1 y.2) e, ap (λ (y : Op × ℕ × ℕ). phase_op g y.1) (sym e) ∙ ap (λ (y : Op × ℕ × ℕ). y.0) e))
-arrival_is_by g (Acquire k) a h = absurd (none-some a h)
-arrival_is_by g (Release k) a h = absurd (none-some a h)
-arrival_is_by g (Fill t s w) a h = absurd (none-some a h)
-arrival_is_by g (Copy x y s) a h = absurd (none-some a h)
-arrival_is_by g (Reduce o x y s) a h = absurd (none-some a h)
-arrival_is_by g (Task k) a h = absurd (none-some a h)
+arrival_is_by g _ a h = absurd (none-some a h)
 
 arrival_is_of : (g : GraphValue) (o : Option Verb) (a : Op × ℕ × ℕ) → option_map_or (arrival_by g) o None ≡ Some a → (o ≡ Some (Arrive a.1 a.2)) × (phase_op g a.1 ≡ a.0)
 arrival_is_of g None a h = absurd (none-some a h)
