@@ -1,8 +1,7 @@
 -- The premises are met: whole runs of small graphs, from the start to a quiet state, in another order than the evaluation's.
-use Rattle.std.proofs.Common.{◌≡◌, ℕ, zero, suc, ◌<◌, ◌≤◌, Bool, true, false, not, ◌&&◌, ◌⊎◌, inl, inr, List, [], ◌∷◌, length, refl, sym, ◌∙◌, ap, subst, lit<, lit≤, arith}
+use Rattle.std.proofs.Common.{◌≡◌, ℕ, zero, suc, ◌<◌, ◌≤◌, Bool, true, false, not, ◌&&◌, ◌⊎◌, inl, inr, List, [], ◌∷◌, length, refl, sym, ◌∙◌, ap, subst, lit≤, arith}
 use Rattle.std.specs.Prelude.{◌≢◌, ◌==◌, Option, Some, None, slice_get}
 use Rattle.std.specs.List.{list_all}
-use Rattle.std.specs.Fmt.{digits}
 use Rattle.std.proofs.lemmas.Bool.{true≢false, cases_lt, eq-eqb, and_parts, not-true}
 use Rattle.std.proofs.lemmas.Option.{none-some, same_Some}
 use Rattle.std.proofs.lemmas.List.{get_or-set_same}
@@ -17,7 +16,7 @@ use Rattle.graph_model.specs.Fits.{IsGraph}
 use Rattle.graph_model.proofs.Examples.{one_fill, two_sections, reserved_sums}
 use Rattle.basics.proofs.ListFacts.{passes_each}
 use Rattle.graph_model.proofs.RulesTable.{implies, implied, accepted_by_tests}
-use Rattle.graph_model.proofs.ExampleGraphs.{two_sections-fits}
+use Rattle.graph_model.proofs.ExampleGraphs.{one_fill-fits, two_sections-fits}
 use Rattle.graph_model.proofs.ExampleAccepted.{two_sections-accepted, reserved_sums-accepted}
 use Rattle.graph_model.proofs.ExampleOrder.{reserved_sums-fits}
 use Rattle.run_state.specs.Run.{LineStage, Unissued, Issued, Out, Ending, Ended, Place, Home, Had, Run, stage_at, time_at, place_at, list_at, stage_issued, stage_out, stage_over, stage_ended, ended, issued}
@@ -196,13 +195,6 @@ quiet_by_tests g run b h all = record {
 }
 
 -- one fill
-one_fill-fits : IsGraph one_fill
-unfolding digits
-one_fill-fits = record {
-  decls = ((refl, (lit< tt, (lit≤ tt, lit≤ tt, lit< tt, tt))), refl, ((refl, lit< tt, (refl, tt)), refl, tt));
-  lines = (record { named = refl; values = lit< tt }, refl, tt);
-}
-
 one_fill-accepted : Accepted one_fill
 one_fill-accepted = accepted_by_tests one_fill (record { range = refl; acyclic = refl; released = refl; sections = refl; descends = refl; release_faults = refl; races = refl })
 
