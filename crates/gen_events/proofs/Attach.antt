@@ -72,6 +72,10 @@ linked_now k c d v m n r t =
     let hand : first_to m.0.hand d ≡ (k, d) ∷ [] = ap (λ l. first_to l d) r.hand in
     subst (Ready k d v) (sym t) (record { hand = hand; rights = (r.rights.0, r.rights.1, r.rights.2, ap (map (λ (p : ℕ × ℕ). p.0)) hand, r.rights.4, r.rights.5); kept = r.kept })
 
+-- the waiter was joined in and linked
+pub ready_now : (k d : ℕ) (v u m n : Sat) → IsPlain v → IsWaiter u k → m ≡ (joined v.0 u.0, v.1) → relinked d m n → Ready k d v n
+ready_now k d v u m n p q e t = let r = in_hand k v u m p q e in linked_now k r.0 d v m n r.1 t
+
 -- the waiter was placed
 pub placed_now : (k d : ℕ) (h : Handle) (found : ℕ) (v m n : Sat) → Ready k d v m → turns_of found ≡ 2 * h.gen_ + 1 → n ≡ (placed_on m.0 (handle_at h.slot (found / 4294967296)), m.1)
     → IsPlain n × (n.0.placed ≡ v.0.placed ++ (k, h) ∷ []) × (n.0.saw ≡ v.0.saw) × (n.0.seen ≡ v.0.seen) × SameGiven v.0 n.0
@@ -119,6 +123,14 @@ comes_back k d h again v m n n' q x r seen keys few small t left right =
       pending = λ l. omega arith;
     } in
     subst (λ (y : Sat). Back k h again v y q) (sym (left ∙ ap (λ (y : Sat). (dealer y.0, y.1)) t.0)) (subst (λ (y : Sat). Back k h again v (dealer w.0, w.1) y) (sym (right ∙ ap (λ (y : Sat). (dealt y.0, [])) t.0)) base)
+
+-- the same from the call's beginning
+pub came_back : (k d : ℕ) (h : Handle) (again : ℕ) (v u m l n n' q : Sat) (x : Shape) → IsPlain v → IsWaiter u k → v.0.keys ≡ x ∷ [] → u.0.keys ≡ x ∷ [] → x.waiters ≤ 8192 → m ≡ (joined v.0 u.0, v.1) → relinked d m l → Contains v.0.seen h
+    → looked h.slot l again n → n' ≡ (dealer n.0, n.1) → q ≡ (dealt n.0, []) → Back k h again v n' q
+came_back k d h again v u m l n n' q x plain waiter keys keys' small join link seen t left right =
+    let all : waiters_of u.0.keys ≡ x.waiters = ap waiters_of keys' in
+    let few = waiter.2 in
+    comes_back k d h again v l n n' q x (ready_now k d v u m l plain waiter join link) seen keys (omega arith) small t left right
 
 pub odd_turns : (w : ℕ) → turns_of w % 2 ≡ 1 → turns_of w ≡ 2 * (w / 4294967296) + 1
 odd_turns w e = dite (ℕ_discrete (w % 4294967296) 0)
