@@ -8,7 +8,6 @@ use native.Mathlib.Decide.{ℕ_discrete}
 use lib.ListN.{get_elem?}
 use prog.Atomic.{either}
 use Rattle.atomic_table.specs.Table.{keeps, Allows}
-use Rattle.atomic_table.proofs.Lists.{at_set}
 use Rattle.gen_events.specs.declared.handle.Handle.{Handle}
 use Rattle.gen_events.specs.declared.handle.Shape.{Shape}
 use Rattle.gen_events.specs.declared.view.View.{View}
@@ -16,7 +15,7 @@ use Rattle.basics.specs.Sums.{total}
 use Rattle.gen_events.specs.Rule.{mark, IsMade, IsPending, Linked, Shows, held, ends_at, rights_at, maker, Fits, Orderly}
 use Rattle.gen_events.specs.Plays.{Sat, handle_at, made_at, AreBelow, created}
 use Rattle.basics.proofs.Sums.{total-set}
-use Rattle.gen_events.proofs.Members.{Contains-cases, Contains-none}
+use Rattle.gen_events.proofs.Members.{Contains-cases, Contains-none, set_cases}
 use Rattle.gen_events.proofs.Frames.{Placings, Leaves, steady}
 use Rattle.gen_events.proofs.Marks.{marks_low}
 use Rattle.gen_events.proofs.Apart.{St, same_handle, ends_there, even_apart, no_right_at, other_maker, linked_low}
@@ -189,9 +188,9 @@ module _ (key : Shape) (s : St) (o : Orderly key s) (id i old : ℕ) (v : View) 
     one_right = λ j. by_slot (λ x. total (rights_at x) views' ≤ 1) j
         (let one : ends_at i h ≡ 1 = ap {B = ℕ} (λ (b : Bool). cond b 1 0) (eq-eqb i i refl) in omega (arith, no_right_at key s o i even, total-set (rights_at i) s.views id v (made_at v h) me))
         (λ n. omega (arith, o.one_right j, rights_after j n));
-    no_right = λ j u x e c. ⊎_elim (λ (q : (j ≡ id) × (made_at v h ≡ u)). let d : Contains v.left x = subst (λ (y : View). Contains y.left x) (sym q.1) c in
-        rights_after x.slot (even_apart key s o id v i x even me (inr d)) ∙ o.no_right id v x me d)
-        (λ (q : (j ≢ id) × (get_elem? s.views j ≡ some u)). rights_after x.slot (even_apart key s o j u i x even q.1 (inr c)) ∙ o.no_right j u x q.1 c) (at_set s.views id j (made_at v h) u e);
+    no_right = λ j u x e. set_cases (λ (y : View). Contains y.left x → total (rights_at x.slot) views' ≡ 0) s.views id (made_at v h) j u e
+        (λ c. rights_after x.slot (even_apart key s o id v i x even me (inr c)) ∙ o.no_right id v x me c)
+        (λ _ at c. rights_after x.slot (even_apart key s o j u i x even at (inr c)) ∙ o.no_right j u x at c);
     stands = λ k x c. let old' = o.stands k x c in (
       let a = old'.0 in let b = rises x.slot in omega arith,
       λ p. dite (ℕ_discrete x.slot i) (λ e. let m = old'.0 in let a : get_or ts' x.slot 0 ≡ get_or o.turns i 0 + 1 = ap (λ y. get_or ts' y 0) e ∙ turn_here in let same : get_or o.turns x.slot 0 ≡ get_or o.turns i 0 = ap (λ y. get_or o.turns y 0) e in absurd (omega arith))

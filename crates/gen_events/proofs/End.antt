@@ -7,7 +7,6 @@ use mathlib.Core.Option.{some}
 use native.Mathlib.Decide.{ℕ_discrete}
 use lib.ListN.{get_elem?}
 use Rattle.atomic_table.specs.Table.{keeps, Allows}
-use Rattle.atomic_table.proofs.Lists.{at_set}
 use Rattle.gen_events.specs.declared.handle.Handle.{Handle}
 use Rattle.gen_events.specs.declared.handle.Fate.{Fate}
 use Rattle.gen_events.specs.declared.handle.Shape.{Shape}
@@ -16,7 +15,7 @@ use Rattle.basics.specs.Sums.{total, below}
 use Rattle.gen_events.specs.Rule.{mark, fate_code, IsMade, IsEnded, code, Linked, Shows, held, ends_at, rights_at, maker, Fits, Orderly, Follows}
 use Rattle.gen_events.specs.Plays.{Sat, ended_with, HasPlaced, IsOnce, ended, fate_now}
 use Rattle.basics.proofs.Sums.{total-set, total-put, term_le, entry_le}
-use Rattle.gen_events.proofs.Members.{Contains-one, Contains-none, Contains-head, Contains-tail}
+use Rattle.gen_events.proofs.Members.{Contains-one, Contains-none, Contains-head, Contains-tail, set_cases}
 use Rattle.gen_events.proofs.Frames.{Leaves, steady}
 use Rattle.gen_events.proofs.Words.{code_le}
 use Rattle.gen_events.proofs.Marks.{marks_low}
@@ -193,8 +192,8 @@ module _ (key : Shape) (s : St) (o : Orderly key s) (id next : ℕ) (v : View) (
     once = λ f. omega (arith, o.once f, total-set (held f) s.views id v w me, total-put (total f) o.chains h.slot [] [] (omega (arith, near, o.rows)), ap (total f) no_chase);
     one_maker = omega (arith, o.one_maker, total-set maker s.views id v w me);
     one_right = λ j. omega (arith, o.one_right j, fewer j, ap (total (ends_at j)) rights);
-    no_right = λ j u x e d. ⊎_elim (λ (q : (j ≡ id) × (w ≡ u)). still_none x.slot (o.no_right id v x me (subst (λ (y : View). Contains y.left x) (sym q.1) d)))
-        (λ (q : (j ≢ id) × (get_elem? s.views j ≡ some u)). still_none x.slot (o.no_right j u x q.1 d)) (at_set s.views id j w u e);
+    no_right = λ j u x e. set_cases (λ (y : View). Contains y.left x → total (rights_at x.slot) views' ≡ 0) s.views id w j u e
+        (λ d. still_none x.slot (o.no_right id v x me d)) (λ _ at d. still_none x.slot (o.no_right j u x at d));
     stands = λ k x d. let z = o.stands k x d in (
       let a = z.0 in let b = rises x.slot in omega arith,
       λ p. dite (ℕ_discrete x.slot h.slot) (λ e. let a = turn_at key s o h.slot next t' near x.slot e in absurd (omega arith))

@@ -8,7 +8,6 @@ use native.Mathlib.Decide.{dec_le}
 use lib.ListN.{get_elem?}
 use lib.Seq.{set-get_or}
 use Rattle.atomic_table.specs.Table.{State, keeps, Allows}
-use Rattle.atomic_table.proofs.Lists.{at_set}
 use Rattle.gen_events.specs.declared.handle.Handle.{Handle}
 use Rattle.gen_events.specs.declared.handle.Fate.{Fate}
 use Rattle.gen_events.specs.declared.handle.Shape.{Shape}
@@ -18,7 +17,7 @@ use Rattle.gen_events.specs.Rule.{turns_of, place_of, mark, fate_code, IsMade, I
 use Rattle.gen_events.specs.Plays.{Sat, found_at, ends_of, Agrees, InRange, Coherent, Rightless, looked, heeded, fated, fates_of, fates_by, reads, fate_by}
 use Rattle.std.specs.Int.{bit_at}
 use Rattle.basics.proofs.Sums.{total-set, term_le, item_le}
-use Rattle.gen_events.proofs.Members.{Contains-none, Contains-head}
+use Rattle.gen_events.proofs.Members.{Contains-none, Contains-head, set_cases}
 use Rattle.gen_events.proofs.Marks.{one_code, coded, fates_in}
 use Rattle.gen_events.proofs.Words.{code_le, turns_shown, ends_in}
 use Rattle.gen_events.proofs.Frames.{Placings, Leaves, steady}
@@ -62,8 +61,7 @@ other_views key s o vs = rewritten key s o s.words vs refl (λ h a b n. refl) (�
 -- each view fits once the seat id has the view w, where the step left the others as they were
 pub each_after : (key : Shape) (s : St) (o : Orderly key s) (id : ℕ) (w : View) (ws ts : List ℕ) (log : Placings) → Fits key ws ts log w → ((j : ℕ) (u : View) → j ≢ id → get_elem? s.views j ≡ some u → Leaves key s.words ws o.turns ts o.log log u)
     → (j : ℕ) (u : View) → get_elem? (set s.views id w) j ≡ some u → Fits key ws ts log u
-each_after key s o id w ws ts log fits leaves j u e = ⊎_elim (λ (q : (j ≡ id) × (w ≡ u)). subst (Fits key ws ts log) q.1 fits)
-    (λ (q : (j ≢ id) × (get_elem? s.views j ≡ some u)). steady key s.words ws o.turns ts o.log log u (o.each_view j u q.1) (leaves j u q.0 q.1)) (at_set s.views id j w u e)
+each_after key s o id w ws ts log fits leaves j u e = set_cases (Fits key ws ts log) s.views id w j u e fits (λ apart at. steady key s.words ws o.turns ts o.log log u (o.each_view j u at) (leaves j u apart at))
 
 -- the seat keeps its rights, and has left no more
 module _ (key : Shape) (s : St) (o : Orderly key s) (id : ℕ) (v w : View) (me : get_elem? s.views id ≡ some v) (rights : w.rights ≡ v.rights) (left : w.left ≡ v.left) where
@@ -74,7 +72,8 @@ module _ (key : Shape) (s : St) (o : Orderly key s) (id : ℕ) (v w : View) (me 
   one_right_after i = omega (arith, o.one_right i, same_rights i)
 
   pub no_right_after : (j : ℕ) (u : View) (h : Handle) → get_elem? (set s.views id w) j ≡ some u → Contains u.left h → total (rights_at h.slot) (set s.views id w) ≡ 0
-  no_right_after j u h e c = same_rights h.slot ∙ ⊎_elim (λ (t : (j ≡ id) × (w ≡ u)). o.no_right id v h me (subst (λ l. Contains l h) (ap (λ (x : View). x.left) (sym t.1) ∙ left) c)) (λ (t : (j ≢ id) × (get_elem? s.views j ≡ some u)). o.no_right j u h t.1 c) (at_set s.views id j w u e)
+  no_right_after j u h e = set_cases (λ (x : View). Contains x.left h → total (rights_at h.slot) (set s.views id w) ≡ 0) s.views id w j u e
+      (λ c. same_rights h.slot ∙ o.no_right id v h me (subst (λ l. Contains l h) left c)) (λ _ at c. same_rights h.slot ∙ o.no_right j u h at c)
 
   -- it writes words as `rewritten` has them
   pub writes : (ws : List ℕ) → length ws ≡ length s.words → ((h : Handle) → h.slot < key.slots → h.gen_ ≤ key.last_gen → (IsMade o.turns h → ⊥) → mark key ws h ≡ mark key s.words h)
@@ -86,7 +85,7 @@ module _ (key : Shape) (s : St) (o : Orderly key s) (id : ℕ) (v w : View) (me 
 pub own : (key : Shape) (s : St) (o : Orderly key s) (id : ℕ) (v w : View) → get_elem? s.views id ≡ some v → Fits key s.words o.turns o.log w
     → ((f : ℕ → ℕ) → held f w ≡ held f v) → w.makes ≡ v.makes → w.rights ≡ v.rights → w.left ≡ v.left → Orderly key (board s.words s.homes (set s.views id w))
 own key s o id v w me fits weighs makes rights left = writes key s o id v w me rights left s.words refl (λ h a b n. refl) (λ i l. (refl, (o.each_slot i l).1))
-    (λ j u e. ⊎_elim (λ (t : (j ≡ id) × (w ≡ u)). subst (Fits key s.words o.turns o.log) t.1 fits) (λ (t : (j ≢ id) × (get_elem? s.views j ≡ some u)). o.each_view j u t.1) (at_set s.views id j w u e)) weighs makes
+    (λ j u e. set_cases (Fits key s.words o.turns o.log) s.views id w j u e fits (λ _ at. o.each_view j u at)) weighs makes
 
 -- after a load
 pub kept_word : (key : Shape) (s : St) (i : ℕ) (hs : List (Option (Unit {0}))) (vs : List View) → Orderly key (board s.words hs vs) → Orderly key (board (set s.words i (get_or s.words i 0)) hs vs)
