@@ -73,7 +73,6 @@ module _ (g : GraphValue) (run : Run) (sound : Sound g run) (i : ℕ) (s : LineS
       }
 
   gone_columns : SoundColumns g gone run.places run.back
-  unfolding gone
   gone_columns =
       let t = sound.on_columns in
       record {
@@ -91,7 +90,6 @@ module _ (g : GraphValue) (run : Run) (sound : Sound g run) (i : ℕ) (s : LineS
       }
 
   gone_phases : SoundPhases g gone run.values run.arrived
-  unfolding gone
   gone_phases =
       let t = sound.on_phases in
       record {
@@ -105,7 +103,6 @@ module _ (g : GraphValue) (run : Run) (sound : Sound g run) (i : ℕ) (s : LineS
       }
 
   gone_locks : SoundLocks g gone run.times run.holders run.freed
-  unfolding gone
   gone_locks =
       let t = sound.on_locks in
       record {
@@ -123,7 +120,6 @@ module _ (g : GraphValue) (run : Run) (sound : Sound g run) (i : ℕ) (s : LineS
       }
 
   gone_times : SoundTimes g gone run.times run.clock
-  unfolding gone
   gone_times =
       let t = sound.on_times in
       record {
