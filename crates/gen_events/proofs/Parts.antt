@@ -96,7 +96,7 @@ module _ {key : Shape} {ws ts : List ℕ} {log : Placings} where
   making_fits o = record { own = o.own; made = o.made; spare = o.spare }
 
 module _ {key : Shape} {ws ts : List ℕ} {ks : List Shape} {hs : List Handle} {fs : List (Handle × Fate)} {ls ps : List Handle} where
-  -- other handles were left, or have ended, or are known with their fates
+  -- another list in the place of one
   pub with_known : (fs' : List (Handle × Fate)) → ((h : Handle) (f : Fate) → Contains fs' (h, f) → Contains hs h × IsEnded ts h × (mark key ws h ≡ fate_code f)) → FactsFit key ws ts ks hs fs ls ps → FactsFit key ws ts ks hs fs' ls ps
   with_known fs' is f = record { keys = f.keys; seen = f.seen; known_seen = λ h y c. (is h y c).0; known = λ h y c. let a = is h y c in (a.1, a.2); left_seen = f.left_seen; left = f.left; past_seen = f.past_seen; past = f.past }
 

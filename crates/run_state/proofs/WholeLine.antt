@@ -99,7 +99,7 @@ held_new holders i l None e there = absurd (none-some l e)
 held_new holders i l (Some j) e there = let same : j ≡ l = same_Some j l e in
     subst (λ z. is_listed (list_at (slice_set holders z (i ∷ list_at holders z)) l) i ≡ true) (sym same) (one_new holders l i there)
 
--- a line that goes on to a stage of none that is over leaves the run at rest, where no line has less than before
+-- a line that goes on to a stage before its end leaves the run at rest, where each line keeps what it had
 pub goes_at_rest : {g : GraphValue} {run : Run} → AtRest g run → (i : ℕ) (s : LineStage) (places : List Place) (holders : List (List ℕ)) → i < length run.stages → stage_over s ≡ false → ended run.stages i ≡ false
     → ((k c : ℕ) → place_at run.places c ≡ Had k → place_at places c ≡ Had k) → ((l k : ℕ) → is_listed (list_at run.holders l) k ≡ true → is_listed (list_at holders l) k ≡ true)
     → ((c : ℕ) → stage_out s ≡ true → eval_end g i ≢ Cancelled → AccessesColumn g i c → place_at places c ≡ Had i) → ((l : ℕ) → stage_out s ≡ true → eval_end g i ≢ Cancelled → Acquires g i l → is_listed (list_at holders l) i ≡ true)
