@@ -17,3 +17,4 @@ s/sink_state K\.taken K\.flushed K\.faults \(sink\.[a-z]*\)/K.state \1/g
 s/Rattle\.realm_io\.specs\.Written\.{SinkState}/Rattle.realm_io.specs.SinkState.{SinkState}/g
 s/is_sound\.ensures\b/is_sound.ensures.sound/g
 s/Rattle\.basics\.proofs\.ListFacts\.{count_below}/Rattle.basics.specs.Lists.{count_below}/g
+s/Rattle\.gen_events\.proofs\.Cuts\.{blank}/Rattle.gen_events.proofs.Parts.{blank}/g

@@ -8,7 +8,6 @@ use native.Mathlib.Decide.{ℕ_discrete}
 use lib.ListN.{get_elem?}
 use prog.Atomic.{either}
 use Rattle.atomic_table.specs.Table.{keeps, Allows}
-use Rattle.atomic_table.proofs.Lists.{at_set}
 use Rattle.gen_events.specs.declared.handle.Handle.{Handle}
 use Rattle.gen_events.specs.declared.handle.Shape.{Shape}
 use Rattle.gen_events.specs.declared.view.View.{View}
@@ -16,39 +15,19 @@ use Rattle.basics.specs.Sums.{total}
 use Rattle.gen_events.specs.Rule.{mark, IsMade, IsPending, Linked, Shows, held, ends_at, rights_at, maker, Fits, Orderly}
 use Rattle.gen_events.specs.Plays.{Sat, handle_at, made_at, AreBelow, created}
 use Rattle.basics.proofs.Sums.{total-set}
-use Rattle.gen_events.proofs.Members.{Contains-cases, Contains-none}
+use Rattle.gen_events.proofs.Members.{Contains-cases, Contains-none, set_cases}
 use Rattle.gen_events.proofs.Frames.{Placings, Leaves, steady}
 use Rattle.gen_events.proofs.Marks.{marks_low}
 use Rattle.gen_events.proofs.Apart.{St, same_handle, ends_there, even_apart, no_right_at, other_maker, linked_low}
-use Rattle.gen_events.proofs.Steps.{board}
+use Rattle.gen_events.proofs.Parts.{whole, facts_fit, placings_fit, rights_fit, chase_fits}
+use Rattle.gen_events.proofs.Steps.{board, each_after}
 
 -- a view without the right to create
 abbrev idle : View → View
 idle v = record v { makes = 0 }
 
 pub idle_fits : (key : Shape) (ws ts : List ℕ) (log : Placings) (v : View) → Fits key ws ts log v → Fits key ws ts log (idle v)
-idle_fits key ws ts log v o = record {
-  keys = o.keys;
-  all_seen = o.all_seen;
-  seen = o.seen;
-  known = o.known;
-  placed = o.placed;
-  given = o.given;
-  emptied = o.emptied;
-  left = o.left;
-  past = o.past;
-  saw = o.saw;
-  rights = o.rights;
-  marked = o.marked;
-  clear = o.clear;
-  hand = o.hand;
-  caught = o.caught;
-  chased = o.chased;
-  chain = o.chain;
-  own = o.own;
-  made = λ e. absurd (omega arith);
-  spare = λ e. absurd (omega arith);
-}
+idle_fits key ws ts log v o = whole (idle v) (facts_fit o) o.saw (placings_fit o) (rights_fit o) o.hand (chase_fits o) (record { own = o.own; made = λ e. absurd (omega arith); spare = λ e. absurd (omega arith) })
 
 module _ (key : Shape) (s : St) (o : Orderly key s) (id i old : ℕ) (v : View) (me : get_elem? s.views id ≡ some v) (maker' : v.makes ≡ 1) (noted : Contains v.spare (i, old)) (low : old % 4294967296 ≡ 0) where
   fits : Fits key s.words o.turns o.log v
@@ -114,12 +93,12 @@ module _ (key : Shape) (s : St) (o : Orderly key s) (id i old : ℕ) (v : View) 
       dite (ℕ_discrete x.gen_ (old / 4294967296)) (λ g. inr (sym (same_handle x i (old / 4294967296) e g))) (λ g. inl (omega arith)))
       (λ n. inl (no_more x m n))
 
-  leaves : (j : ℕ) (u : View) → get_elem? s.views j ≡ some u → (u.makes ≡ 1 → ⊥) → Leaves key s.words ws' o.turns ts' o.log o.log u
-  leaves j u at idles = let f = o.each_view j u at in record {
+  leaves : (u : View) → Fits key s.words o.turns o.log u → ((x : Handle) → Contains u.rights x ⊎ Contains u.left x → x.slot ≢ i) → (u.makes ≡ 1 → ⊥) → Leaves key s.words ws' o.turns ts' o.log o.log u
+  leaves u f apart idles = record {
     rises = rises;
     longer = λ p c. c;
     old = λ k x c e. c;
-    still = λ x c. turn_there x.slot (even_apart key s o j u i x even at c);
+    still = λ x c. turn_there x.slot (apart x c);
     hand = λ p c. word_there (key.slots + p.0) (λ e. let b = near in omega arith);
     caught = linked_low key s.words u.caught i (old + 1) near f.caught;
     bits = λ x d. marks_low key s.words i (old + 1) x (let b = near in omega arith);
@@ -135,47 +114,38 @@ module _ (key : Shape) (s : St) (o : Orderly key s) (id i old : ℕ) (v : View) 
   not_made m = let b = half in let ev = even in omega arith
 
   mine : Fits key ws' ts' o.log (made_at v h)
-  mine = let l : Leaves key s.words ws' o.turns ts' o.log o.log (idle v) = record {
-    rises = rises;
-    longer = λ p c. c;
-    old = λ k x c e. c;
-    still = λ x c. turn_there x.slot (even_apart key s o id v i x even me c);
-    hand = λ p c. word_there (key.slots + p.0) (λ e. let b = near in omega arith);
-    caught = linked_low key s.words v.caught i (old + 1) near fits.caught;
-    bits = λ x d. marks_low key s.words i (old + 1) x (let b = near in omega arith);
-    stay = λ x d. marks_low key s.words i (old + 1) x (let b = near in omega arith) ∙ d;
-    made = λ m. absurd (omega arith);
-    spare = λ m. absurd (omega arith);
-  } in
-      let f = steady key s.words ws' o.turns ts' o.log o.log (idle v) (idle_fits key s.words o.turns o.log v fits) l in
+  mine =
+      let f₀ = idle_fits key s.words o.turns o.log v fits in
+      let f = steady key s.words ws' o.turns ts' o.log o.log (idle v) f₀ (leaves (idle v) f₀ (λ x c. even_apart key s o id v i x even me c) (λ m. absurd (omega arith))) in
       let this : IsPending ts' h = let a = turn_here in let b = half in let ev = even in omega arith in
-      let this_made : IsMade ts' h = omega arith in record {
+      let this_made : IsMade ts' h = omega arith in
+      let seen_on : (x : Handle) → Contains v.seen x → Contains (v.seen ++ h ∷ []) x = λ x c. Contains-append_left v.seen (h ∷ []) x c in
+      let seen_now : Contains (v.seen ++ h ∷ []) h = Contains-push v.seen h in
+      let unmarked : mark key ws' h ≡ 0 = marks_low key s.words i (old + 1) h (let b = near in omega arith) ∙ o.clean h near low_gen not_made in
+      whole (made_at v h)
+      (record {
         keys = f.keys;
-        all_seen = (
-          (λ x y c. Contains-append_left v.seen (h ∷ []) x (f.all_seen.0 x y c)),
-          (λ x c. Contains-append_left v.seen (h ∷ []) x (f.all_seen.1 x c)),
-          (λ x c. Contains-append_left v.seen (h ∷ []) x (f.all_seen.2 x c)),
-          (λ x c. ⊎_elim (λ (e : h ≡ x). subst (Contains (v.seen ++ h ∷ [])) e (Contains-push v.seen h)) (λ d. Contains-append_left v.seen (h ∷ []) x (f.all_seen.3 x d)) (Contains-cases h x v.rights c)),
-        );
         seen = λ x c. ⊎_elim (λ d. f.seen x d) (λ (e : h ≡ x). subst (IsMade ts') e this_made) (Contains-push_cases v.seen h x c);
+        known_seen = λ x y c. seen_on x (f.all_seen.0 x y c);
         known = f.known;
-        placed = f.placed;
-        given = f.given;
-        emptied = f.emptied;
+        left_seen = λ x c. seen_on x (f.all_seen.1 x c);
         left = f.left;
+        past_seen = λ x c. seen_on x (f.all_seen.2 x c);
         past = f.past;
-        saw = f.saw;
+      })
+      f.saw (placings_fit f)
+      (record {
+        seen = λ x c. ⊎_elim (λ (e : h ≡ x). subst (Contains (v.seen ++ h ∷ [])) e seen_now) (λ d. seen_on x (f.all_seen.3 x d)) (Contains-cases h x v.rights c);
+        pending = λ x c. ⊎_elim (λ (e : h ≡ x). subst (IsPending ts') e this) (λ d. f.rights x d) (Contains-cases h x v.rights c);
         marked = f.marked;
-        clear = λ x c n. ⊎_elim (λ (e : h ≡ x). subst (λ y. mark key ws' y ≡ 0) e (marks_low key s.words i (old + 1) h (let b = near in omega arith) ∙ o.clean h near low_gen not_made)) (λ d. f.clear x d n) (Contains-cases h x v.rights c);
-        rights = λ x c. ⊎_elim (λ (e : h ≡ x). subst (IsPending ts') e this) (λ d. f.rights x d) (Contains-cases h x v.rights c);
-        hand = f.hand;
-        caught = f.caught;
-        chased = f.chased;
-        chain = f.chain;
+        clear = λ x c n. ⊎_elim (λ (e : h ≡ x). subst (λ y. mark key ws' y ≡ 0) e unmarked) (λ d. f.clear x d n) (Contains-cases h x v.rights c);
+      })
+      f.hand (chase_fits f)
+      (record {
         own = λ x c. ⊎_elim (λ d. f.own x d) (λ (e : h ≡ x). subst (IsMade ts') e this_made) (Contains-push_cases v.made h x c);
         made = λ _ x m. ⊎_elim (λ d. Contains-append_left v.made (h ∷ []) x (fits.made maker' x d)) (λ (e : h ≡ x). subst (Contains (v.made ++ h ∷ [])) e (Contains-push v.made h)) (only_this x m);
         spare = λ _ p c. absurd (Contains-none p c);
-      }
+      })
 
   no_chain : get_or o.chains i [] ≡ []
   no_chain = sh.bare even
@@ -211,16 +181,16 @@ module _ (key : Shape) (s : St) (o : Orderly key s) (id i old : ℕ) (v : View) 
     small = o.small;
     clean = λ x a b n. marks_low key s.words i (old + 1) x (let c = near in omega arith) ∙ o.clean x a b (λ m. n (let c = rises x.slot in omega arith));
     each_slot = slots_ok;
-    each_view = λ j u e. ⊎_elim (λ (q : (j ≡ id) × (made_at v h ≡ u)). subst (Fits key ws' ts' o.log) q.1 mine)
-        (λ (q : (j ≢ id) × (get_elem? s.views j ≡ some u)). steady key s.words ws' o.turns ts' o.log o.log u (o.each_view j u q.1) (leaves j u q.1 (λ m. other_maker key s o id j v u q.0 me q.1 maker' m))) (at_set s.views id j (made_at v h) u e);
+    each_view = each_after key s o id (made_at v h) ws' ts' o.log mine
+        (λ j u apart at. leaves u (o.each_view j u at) (λ x c. even_apart key s o j u i x even at c) (λ m. other_maker key s o id j v u apart me at maker' m));
     once = λ f. omega (arith, o.once f, total-set (held f) s.views id v (made_at v h) me);
     one_maker = omega (arith, o.one_maker, total-set maker s.views id v (made_at v h) me);
     one_right = λ j. by_slot (λ x. total (rights_at x) views' ≤ 1) j
         (let one : ends_at i h ≡ 1 = ap {B = ℕ} (λ (b : Bool). cond b 1 0) (eq-eqb i i refl) in omega (arith, no_right_at key s o i even, total-set (rights_at i) s.views id v (made_at v h) me))
         (λ n. omega (arith, o.one_right j, rights_after j n));
-    no_right = λ j u x e c. ⊎_elim (λ (q : (j ≡ id) × (made_at v h ≡ u)). let d : Contains v.left x = subst (λ (y : View). Contains y.left x) (sym q.1) c in
-        rights_after x.slot (even_apart key s o id v i x even me (inr d)) ∙ o.no_right id v x me d)
-        (λ (q : (j ≢ id) × (get_elem? s.views j ≡ some u)). rights_after x.slot (even_apart key s o j u i x even q.1 (inr c)) ∙ o.no_right j u x q.1 c) (at_set s.views id j (made_at v h) u e);
+    no_right = λ j u x e. set_cases (λ (y : View). Contains y.left x → total (rights_at x.slot) views' ≡ 0) s.views id (made_at v h) j u e
+        (λ c. rights_after x.slot (even_apart key s o id v i x even me (inr c)) ∙ o.no_right id v x me c)
+        (λ _ at c. rights_after x.slot (even_apart key s o j u i x even at (inr c)) ∙ o.no_right j u x at c);
     stands = λ k x c. let old' = o.stands k x c in (
       let a = old'.0 in let b = rises x.slot in omega arith,
       λ p. dite (ℕ_discrete x.slot i) (λ e. let m = old'.0 in let a : get_or ts' x.slot 0 ≡ get_or o.turns i 0 + 1 = ap (λ y. get_or ts' y 0) e ∙ turn_here in let same : get_or o.turns x.slot 0 ≡ get_or o.turns i 0 = ap (λ y. get_or o.turns y 0) e in absurd (omega arith))

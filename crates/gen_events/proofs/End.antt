@@ -1,5 +1,5 @@
 -- The step that ends a handle.
-use Rattle.std.proofs.Common.{◌≡◌, ℕ, ◌+◌, ◌*◌, ◌<◌, ◌≤◌, ◌≢◌, ◌⊎◌, List, [], ◌∷◌, get_or, set, sym, refl, ap, ◌∙◌, subst, inl, ⊎_elim, arith, cond, Bool, eq-eqb, length-set}
+use Rattle.std.proofs.Common.{◌≡◌, ℕ, ◌+◌, ◌*◌, ◌<◌, ◌≤◌, ◌≢◌, ◌⊎◌, List, [], ◌∷◌, ◌++◌, get_or, set, sym, refl, ap, ◌∙◌, subst, inl, ⊎_elim, arith, cond, Bool, eq-eqb, length-set}
 use Rattle.std.specs.Prelude.{Contains}
 use Rattle.std.proofs.lemmas.List.Elements.{Contains-push_cases}
 use mathlib.Core.Logic.{dite}
@@ -7,7 +7,6 @@ use mathlib.Core.Option.{some}
 use native.Mathlib.Decide.{ℕ_discrete}
 use lib.ListN.{get_elem?}
 use Rattle.atomic_table.specs.Table.{keeps, Allows}
-use Rattle.atomic_table.proofs.Lists.{at_set}
 use Rattle.gen_events.specs.declared.handle.Handle.{Handle}
 use Rattle.gen_events.specs.declared.handle.Fate.{Fate}
 use Rattle.gen_events.specs.declared.handle.Shape.{Shape}
@@ -16,12 +15,13 @@ use Rattle.basics.specs.Sums.{total, below}
 use Rattle.gen_events.specs.Rule.{mark, fate_code, IsMade, IsEnded, code, Linked, Shows, held, ends_at, rights_at, maker, Fits, Orderly, Follows}
 use Rattle.gen_events.specs.Plays.{Sat, ended_with, HasPlaced, IsOnce, ended, fate_now}
 use Rattle.basics.proofs.Sums.{total-set, total-put, term_le, entry_le}
-use Rattle.gen_events.proofs.Members.{Contains-one, Contains-none, Contains-head, Contains-tail}
+use Rattle.gen_events.proofs.Members.{Contains-one, Contains-none, Contains-head, Contains-tail, set_cases}
 use Rattle.gen_events.proofs.Frames.{Leaves, steady}
 use Rattle.gen_events.proofs.Words.{code_le}
 use Rattle.gen_events.proofs.Marks.{marks_low}
 use Rattle.gen_events.proofs.Apart.{St, right_counts, right_apart, left_apart, linked_low}
-use Rattle.gen_events.proofs.Steps.{board, made_in}
+use Rattle.gen_events.proofs.Parts.{whole, facts_fit, placings_fit, rights_fit, chase_fits, making_fits, with_known, fewer_rights}
+use Rattle.gen_events.proofs.Steps.{board, made_in, each_after}
 use Rattle.gen_events.proofs.Slot.{at_slot_or, word_here, word_there, link_there, turn_here, turn_there, turn_at, turn_was, chain_here, chain_there}
 
 module _ (key : Shape) (s : St) (o : Orderly key s) (id next : ℕ) (v : View) (h : Handle) (rest : List Handle) (me : get_elem? s.views id ≡ some v) (rights : v.rights ≡ h ∷ rest) (no_chase : v.caught ≡ []) (marks : (v.marked ≡ []) ⊎ (v.marked ≡ h ∷ [])) (follows : Follows key.last_gen h.gen_ next) where
@@ -94,46 +94,25 @@ module _ (key : Shape) (s : St) (o : Orderly key s) (id next : ℕ) (v : View) (
   its_fate = ⊎_elim (λ e. fits.clear h has (λ c. Contains-none h (subst (λ l. Contains l h) e c)) ∙ ap (λ l. fate_code (fate_now l)) (sym e))
       (λ e. fits.marked h (subst (λ l. Contains l h) (sym e) (Contains-head h [])) ∙ ap (λ l. fate_code (fate_now l)) (sym e)) marks
 
-  leaves : (j : ℕ) (u u' : View) → get_elem? s.views j ≡ some u → Fits key s.words o.turns o.log u' → ((x : Handle) → Contains u'.rights x ⊎ Contains u'.left x → x.slot ≢ h.slot) → Leaves key s.words ws' o.turns ts' o.log o.log u'
-  leaves j u u' at f apart = record {
+  leaves : (u : View) → Fits key s.words o.turns o.log u → ((x : Handle) → Contains u.rights x ⊎ Contains u.left x → x.slot ≢ h.slot) → Leaves key s.words ws' o.turns ts' o.log o.log u
+  leaves u f apart = record {
     rises = rises;
     longer = λ p d. d;
     old = λ k x d e. d;
     still = λ x d. tt' x.slot (apart x d);
     hand = λ p d. link_there key s o h.slot next t' near p.0;
-    caught = linked_low key s.words u'.caught h.slot next near f.caught;
+    caught = linked_low key s.words u.caught h.slot next near f.caught;
     bits = λ x d. low_bit x;
     stay = λ x d. low_bit x ∙ d;
     made = λ m x d. no_more x d;
-    spare = λ m p d. let n = spare_apart u' f m p d in (word_there key s o h.slot next t' near p.0 n, tt' p.0 n);
+    spare = λ m p d. let n = spare_apart u f m p d in (word_there key s o h.slot next t' near p.0 n, tt' p.0 n);
   }
 
   abbrev v₀ : View
   v₀ = record v { rights = rest }
 
   fits₀ : Fits key s.words o.turns o.log v₀
-  fits₀ = record {
-    keys = fits.keys;
-    all_seen = (fits.all_seen.0, fits.all_seen.1, fits.all_seen.2, λ x d. fits.all_seen.3 x (subst (λ l. Contains l x) (sym rights) (Contains-tail h x rest d)));
-    seen = fits.seen;
-    known = fits.known;
-    placed = fits.placed;
-    given = fits.given;
-    emptied = fits.emptied;
-    left = fits.left;
-    past = fits.past;
-    saw = fits.saw;
-    rights = λ x d. fits.rights x (subst (λ l. Contains l x) (sym rights) (Contains-tail h x rest d));
-    marked = fits.marked;
-    clear = λ x d n. fits.clear x (subst (λ l. Contains l x) (sym rights) (Contains-tail h x rest d)) n;
-    hand = fits.hand;
-    caught = fits.caught;
-    chased = fits.chased;
-    chain = fits.chain;
-    own = fits.own;
-    made = fits.made;
-    spare = fits.spare;
-  }
+  fits₀ = whole v₀ (facts_fit fits) fits.saw (placings_fit fits) (fewer_rights rest (λ x d. subst (λ l. Contains l x) (sym rights) (Contains-tail h x rest d)) (rights_fit fits)) fits.hand (chase_fits fits) (making_fits fits)
 
   but_first_is : Rattle.gen_events.specs.Plays.but_first v.rights ≡ rest
   but_first_is = ap (λ l. Rattle.gen_events.specs.Plays.but_first l) rights
@@ -143,34 +122,25 @@ module _ (key : Shape) (s : St) (o : Orderly key s) (id next : ℕ) (v : View) (
   own_mark x r c = ⊎_elim (λ e. Contains-none x (subst (λ l. Contains l x) e c)) (λ e. my_rest x r (ap (λ (y : Handle). y.slot) (sym (Contains-one h x (subst (λ l. Contains l x) e c))))) marks
 
   mine : Fits key ws' ts' o.log w
-  mine = let f = steady key s.words ws' o.turns ts' o.log o.log v₀ fits₀ (leaves id v v₀ me fits₀ (λ x d. ⊎_elim (λ y. my_rest x y) (λ y. left_apart key s o id id v v h x me me has y) d)) in
-      let over : IsEnded ts' h = let a = th in omega arith in record {
-        keys = f.keys;
-        all_seen = (
-          (λ x y d. ⊎_elim (λ z. f.all_seen.0 x y z) (λ (e : (h, fate_now v.marked) ≡ (x, y)). subst (λ (q : Handle × Fate). Contains v.seen q.0) e (fits.all_seen.3 h has)) (Contains-push_cases v.known (h, fate_now v.marked) (x, y) d)),
-          f.all_seen.1,
-          f.all_seen.2,
-          (λ x d. f.all_seen.3 x (subst (λ l. Contains l x) but_first_is d)),
-        );
-        seen = f.seen;
-        known = λ x y d. ⊎_elim (λ z. f.known x y z) (λ (e : (h, fate_now v.marked) ≡ (x, y)). subst (λ (q : Handle × Fate). IsEnded ts' q.0 × (mark key ws' q.0 ≡ fate_code q.1)) e (over, low_bit h ∙ its_fate)) (Contains-push_cases v.known (h, fate_now v.marked) (x, y) d);
-        placed = f.placed;
-        given = f.given;
-        emptied = f.emptied;
-        left = f.left;
-        past = f.past;
-        saw = f.saw;
+  mine = let f = steady key s.words ws' o.turns ts' o.log o.log v₀ fits₀ (leaves v₀ fits₀ (λ x d. ⊎_elim (λ y. my_rest x y) (λ y. left_apart key s o id id v v h x me me has y) d)) in
+      let over : IsEnded ts' h = let a = th in omega arith in
+      let known : (x : Handle) (y : Fate) → Contains (v.known ++ (h, fate_now v.marked) ∷ []) (x, y) → Contains v.seen x × IsEnded ts' x × (mark key ws' x ≡ fate_code y) = λ x y d. ⊎_elim (λ z. (f.all_seen.0 x y z, (f.known x y z).0, (f.known x y z).1))
+      (λ (e : (h, fate_now v.marked) ≡ (x, y)). subst (λ (q : Handle × Fate). Contains v.seen q.0 × IsEnded ts' q.0 × (mark key ws' q.0 ≡ fate_code q.1)) e (fits.all_seen.3 h has, over, low_bit h ∙ its_fate)) (Contains-push_cases v.known (h, fate_now v.marked) (x, y) d) in
+      let in_rest : (x : Handle) → Contains w.rights x → Contains rest x = λ x d. subst (λ l. Contains l x) but_first_is d in
+      whole w (with_known (v.known ++ (h, fate_now v.marked) ∷ []) known (facts_fit f)) f.saw (placings_fit f)
+      (record {
+        seen = λ x d. f.all_seen.3 x (in_rest x d);
+        pending = λ x d. f.rights x (in_rest x d);
         marked = λ x d. absurd (Contains-none x d);
-        clear = λ x d n. low_bit x ∙ fits₀.clear x (subst (λ l. Contains l x) but_first_is d) (λ c. own_mark x (subst (λ l. Contains l x) but_first_is d) c);
-        rights = λ x d. f.rights x (subst (λ l. Contains l x) but_first_is d);
-        hand = f.hand;
+        clear = λ x d n. low_bit x ∙ fits₀.clear x (in_rest x d) (λ c. own_mark x (in_rest x d) c);
+      })
+      f.hand
+      (record {
         caught = linked_low key s.words c h.slot next near (o.each_slot h.slot near).1;
         chased = λ x d. subst (λ y. IsEnded ts' y × ((k : ℕ) → Contains o.log (k, y) → Contains c k ⊎ Contains v.given (k, y))) (Contains-one h x d) (over, λ k y. inl ((o.stands k h y).1 is));
         chain = λ x k d z. subst (λ y. Contains o.log (k, y)) (Contains-one h x d) (o.stood k h is z);
-        own = f.own;
-        made = f.made;
-        spare = f.spare;
-      }
+      })
+      (making_fits f)
 
   slots_ok : (j : ℕ) → j < key.slots → Shows key.last_gen (get_or ts' j 0) (get_or cs' j []) (get_or ws' j 0) × Linked key ws' (get_or cs' j [])
   slots_ok j l = dite (ℕ_discrete j h.slot)
@@ -217,14 +187,13 @@ module _ (key : Shape) (s : St) (o : Orderly key s) (id next : ℕ) (v : View) (
     small = o.small;
     clean = λ x a b n. low_bit x ∙ o.clean x a b (λ m. n (let c = rises x.slot in omega arith));
     each_slot = slots_ok;
-    each_view = λ j u e. ⊎_elim (λ (q : (j ≡ id) × (w ≡ u)). subst (Fits key ws' ts' o.log) q.1 mine)
-        (λ (q : (j ≢ id) × (get_elem? s.views j ≡ some u)). steady key s.words ws' o.turns ts' o.log o.log u (o.each_view j u q.1)
-        (leaves j u u q.1 (o.each_view j u q.1) (λ x d. ⊎_elim (λ y. right_apart key s o id j v u h x q.0 me q.1 has y) (λ y. left_apart key s o id j v u h x me q.1 has y) d))) (at_set s.views id j w u e);
+    each_view = each_after key s o id w ws' ts' o.log mine
+        (λ j u apart at. leaves u (o.each_view j u at) (λ x d. ⊎_elim (λ y. right_apart key s o id j v u h x apart me at has y) (λ y. left_apart key s o id j v u h x me at has y) d));
     once = λ f. omega (arith, o.once f, total-set (held f) s.views id v w me, total-put (total f) o.chains h.slot [] [] (omega (arith, near, o.rows)), ap (total f) no_chase);
     one_maker = omega (arith, o.one_maker, total-set maker s.views id v w me);
     one_right = λ j. omega (arith, o.one_right j, fewer j, ap (total (ends_at j)) rights);
-    no_right = λ j u x e d. ⊎_elim (λ (q : (j ≡ id) × (w ≡ u)). still_none x.slot (o.no_right id v x me (subst (λ (y : View). Contains y.left x) (sym q.1) d)))
-        (λ (q : (j ≢ id) × (get_elem? s.views j ≡ some u)). still_none x.slot (o.no_right j u x q.1 d)) (at_set s.views id j w u e);
+    no_right = λ j u x e. set_cases (λ (y : View). Contains y.left x → total (rights_at x.slot) views' ≡ 0) s.views id w j u e
+        (λ d. still_none x.slot (o.no_right id v x me d)) (λ _ at d. still_none x.slot (o.no_right j u x at d));
     stands = λ k x d. let z = o.stands k x d in (
       let a = z.0 in let b = rises x.slot in omega arith,
       λ p. dite (ℕ_discrete x.slot h.slot) (λ e. let a = turn_at key s o h.slot next t' near x.slot e in absurd (omega arith))

@@ -8,30 +8,40 @@ use Rattle.gen_events.specs.declared.handle.Shape.{Shape}
 use Rattle.gen_events.specs.Rule.{turns_of, mark_word, place_of}
 use Rattle.std.specs.Int.{bit_at}
 use Rattle.gen_events.proofs.Marks.{fates_has}
-use Rattle.gen_events.specs.Plays.{Sat, ends_of, InRange, looked, reads, fate_by, fates_by, fates_of}
-use Rattle.gen_events.specs.Seats.{HasSeen, Knows, no_event, FoundPending}
+use Rattle.gen_events.specs.Plays.{Sat, ends_of, looked, reads, fate_by, fates_by, fates_of}
+use Rattle.gen_events.specs.Seats.{HasSeen, Knows, no_event}
 use Rattle.gen_events.proofs.Words.{ends_has}
 use Rattle.gen_events.proofs.Members.{Contains-head}
 
--- a handle that was seen and is not NO_EVENT lies at the word that is loaded
-pub at_slot : (m : Sat) (h : Handle) (x : Shape) (at : ℕ) → InRange m.0 → m.0.keys ≡ x ∷ [] → Contains m.0.seen h → (h.slot < x.slots → at ≡ h.slot) → at ≡ h.slot
-at_slot m h x at range keys seen same = same (range x h (subst (λ l. Contains l x) (sym keys) (Contains-head x [])) seen).0
+-- what the load of its slot's word tells of a handle that the seat has seen, and that is not NO_EVENT
+pub record Finds (h : Handle) (x : Shape) (m n : Sat) (r : ℕ) : Type 0 where
+  pub seen : Contains m.0.seen h
+  pub within : (h.slot < x.slots) × (h.gen_ ≤ x.last_gen)
+  -- what the seat knows already
+  pub known_ended : (f : Fate) → Knows m.0 h f → 2 * h.gen_ + 2 ≤ turns_of r
+  pub past_ended : Contains m.0.past h → 2 * h.gen_ + 2 ≤ turns_of r
+  pub emptied_ended : Contains m.0.emptied h → 2 * h.gen_ + 2 ≤ turns_of r
+  -- what it finds
+  pub ended : 2 * h.gen_ + 2 ≤ turns_of r → Contains n.0.past h
+  pub unleft : 2 * h.gen_ + 2 ≤ turns_of r → Contains m.0.left h → ⊥
+  pub pending : turns_of r < 2 * h.gen_ + 2 → (turns_of r ≡ 2 * h.gen_ + 1) × (n.0.saw ≡ m.0.saw ++ (h.slot, r) ∷ [])
 
-pub really_seen : (m : Sat) (h : Handle) → (h ≡ no_event → ⊥) → HasSeen m.0 h → Contains m.0.seen h
-really_seen m h some s = ⊎_elim (λ e. absurd (some e)) (λ c. c) s.seen
-
-pub found_ended : (i : ℕ) (m n : Sat) (r : ℕ) (h : Handle) → looked i m r n → i ≡ h.slot → Contains m.0.seen h → 2 * h.gen_ + 2 ≤ turns_of r → Contains n.0.past h
-found_ended i m n r h t at seen past = subst (λ (x : Sat). Contains x.0.past h) (sym t.0) (Contains-append_right m.0.past (ends_of i (turns_of r) m.0.seen) h (ends_has i (turns_of r) m.0.seen h seen (sym at) past))
-
-pub found_pending : (i : ℕ) (m n : Sat) (r : ℕ) (h : Handle) → looked i m r n → i ≡ h.slot → Contains m.0.seen h → turns_of r < 2 * h.gen_ + 2 → FoundPending m.0 n.0 h × ((f : Fate) → Knows m.0 h f → ⊥)
-found_pending i m n r h t at seen now =
-    let a = t.1.0 h seen (sym at) in
-    ((r, ap (λ (x : Sat). x.0.saw) t.0 ∙ ap (λ (j : ℕ). m.0.saw ++ (j, r) ∷ []) at, omega arith), λ f c. let b = t.1.1 h f c.known (sym at) in omega arith)
-
-pub found_odd : (i : ℕ) (m n : Sat) (r : ℕ) (h : Handle) → looked i m r n → i ≡ h.slot → Contains m.0.seen h → turns_of r < 2 * h.gen_ + 2 → (turns_of r ≡ 2 * h.gen_ + 1) × (n.0.saw ≡ m.0.saw ++ (h.slot, r) ∷ [])
-found_odd i m n r h t at seen now =
-    let a = t.1.0 h seen (sym at) in
-    (omega arith, ap (λ (x : Sat). x.0.saw) t.0 ∙ ap (λ (j : ℕ). m.0.saw ++ (j, r) ∷ []) at)
+pub finds : (i r : ℕ) (m n : Sat) (h : Handle) (x : Shape) → looked i m r n → m.0.keys ≡ x ∷ [] → (h ≡ no_event → ⊥) → HasSeen m.0 h → (h.slot < x.slots → i ≡ h.slot) → Finds h x m n r
+finds i r m n h x t keys some has same =
+    let seen : Contains m.0.seen h = ⊎_elim (λ e. absurd (some e)) (λ c. c) has.seen in
+    let within = t.2 x h (subst (λ l. Contains l x) (sym keys) (Contains-head x [])) seen in
+    let at : i ≡ h.slot = same within.0 in
+    let ended : 2 * h.gen_ + 2 ≤ turns_of r → Contains n.0.past h = λ past. subst (λ (y : Sat). Contains y.0.past h) (sym t.0) (Contains-append_right m.0.past (ends_of i (turns_of r) m.0.seen) h (ends_has i (turns_of r) m.0.seen h seen (sym at) past)) in
+    record {
+      seen = seen;
+      within = within;
+      known_ended = λ f k. t.1.1 h f k.known (sym at);
+      past_ended = λ p. t.1.2 h p (sym at);
+      emptied_ended = λ e. t.1.4 h e (sym at);
+      ended = ended;
+      unleft = λ past left. t.3.left_not_past h (subst (λ l. Contains l h) (sym (ap (λ (y : Sat). y.0.left) t.0)) left) (ended past);
+      pending = λ now. let a = t.1.0 h seen (sym at) in (omega arith, ap (λ (y : Sat). y.0.saw) t.0 ∙ ap (λ (j : ℕ). m.0.saw ++ (j, r) ∷ []) at);
+    }
 
 -- what a poison word tells of a handle that has ended
 pub read_fate : (x : Shape) (w : ℕ) (m n : Sat) (r : ℕ) (h : Handle) → reads w m r n → m.0.keys ≡ x ∷ [] → Contains m.0.past h → w ≡ mark_word x h → Contains n.0.known (h, fate_by (bit_at r (place_of x.last_gen h % 64)))

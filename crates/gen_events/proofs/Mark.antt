@@ -1,25 +1,23 @@
 -- The step that marks a handle as poisoned, before it ends.
-use Rattle.std.proofs.Common.{◌≡◌, ℕ, ◌+◌, ◌*◌, ◌/◌, ◌%◌, ◌<◌, ◌≤◌, ◌≢◌, List, [], ◌∷◌, ◌++◌, length, get_or, set, sym, refl, ap, ◌∙◌, subst, ⊎_elim, arith, length-set, get_or-set_other, bit_or, ◌^◌}
+use Rattle.std.proofs.Common.{◌≡◌, ℕ, ◌+◌, ◌*◌, ◌/◌, ◌%◌, ◌<◌, ◌≤◌, List, [], ◌∷◌, ◌++◌, length, get_or, set, sym, refl, ap, ◌∙◌, subst, ⊎_elim, arith, length-set, get_or-set_other, bit_or, ◌^◌}
 use Rattle.std.specs.Prelude.{Contains}
 use mathlib.Core.Logic.{dite}
 use mathlib.Core.Option.{some}
 use native.Mathlib.Decide.{ℕ_discrete}
 use lib.ListN.{get_elem?}
 use Rattle.atomic_table.specs.Table.{keeps, Allows}
-use Rattle.atomic_table.proofs.Lists.{at_set}
 use Rattle.gen_events.specs.declared.handle.Handle.{Handle}
 use Rattle.gen_events.specs.declared.handle.Shape.{Shape}
 use Rattle.gen_events.specs.declared.view.View.{View}
-use Rattle.basics.specs.Sums.{total}
-use Rattle.gen_events.specs.Rule.{place_of, mark_word, mark, IsMade, IsPending, IsEnded, Linked, Shows, held, rights_at, maker, Fits, Orderly}
+use Rattle.gen_events.specs.Rule.{place_of, mark_word, mark, IsMade, IsPending, IsEnded, Linked, Fits, Orderly}
 use Rattle.std.specs.Int.{bit_at}
 use Rattle.gen_events.specs.Plays.{Sat, first_of, marked_at, marks}
-use Rattle.basics.proofs.Sums.{total-set}
-use Rattle.gen_events.proofs.Members.{Contains-head, Contains-cases, Contains-none}
+use Rattle.gen_events.proofs.Members.{Contains-head, Contains-tail, Contains-cases, Contains-none}
 use Rattle.gen_events.proofs.Frames.{Leaves, steady}
 use Rattle.gen_events.proofs.Marks.{places_apart, word_in, mark_here, mark_there}
 use Rattle.gen_events.proofs.Apart.{St, same_handle, right_apart}
-use Rattle.gen_events.proofs.Steps.{board, made_in, made_low}
+use Rattle.gen_events.proofs.Parts.{whole, facts_fit, placings_fit, rights_fit, chase_fits, making_fits, fewer_rights}
+use Rattle.gen_events.proofs.Steps.{board, made_in, made_low, each_after, writes}
 
 linked_high : (key : Shape) (ws c : List ℕ) (i x : ℕ) → key.slots + key.waiters ≤ i → Linked key ws c → Linked key (set ws i x) c
 linked_high key ws [] i x far l = tt
@@ -76,8 +74,8 @@ module _ (key : Shape) (s : St) (o : Orderly key s) (id : ℕ) (v : View) (h : H
   word_low : (i : ℕ) → i < key.slots + key.waiters → get_or ws' i 0 ≡ get_or s.words i 0
   word_low i l = get_or-set_other s.words w i x' 0 (λ e. omega arith)
 
-  leaves : (j : ℕ) (u : View) → get_elem? s.views j ≡ some u → ((x : Handle) → Contains u.rights x → x ≡ h → ⊥) → Leaves key s.words ws' o.turns o.turns o.log o.log u
-  leaves j u at apart = let f = o.each_view j u at in record {
+  leaves : (u : View) → Fits key s.words o.turns o.log u → ((x : Handle) → Contains u.rights x → x ≡ h → ⊥) → Leaves key s.words ws' o.turns o.turns o.log o.log u
+  leaves u f apart = record {
     rises = λ i. omega arith;
     longer = λ p d. d;
     old = λ y z d e. d;
@@ -95,88 +93,24 @@ module _ (key : Shape) (s : St) (o : Orderly key s) (id : ℕ) (v : View) (h : H
       let firsts : first_of v.rights ≡ h ∷ [] = ap (λ (l : List Handle). first_of l) rights in
       let all : u'.marked ≡ h ∷ v.marked = λ t. firsts t ++ v.marked in
       let v₀ : View = record v { rights = [] } in
-      let f₀ : Fits key s.words o.turns o.log v₀ = record {
-        keys = fits.keys;
-        all_seen = (fits.all_seen.0, fits.all_seen.1, fits.all_seen.2, λ x d. absurd (Contains-none x d));
-        seen = fits.seen;
-        known = fits.known;
-        placed = fits.placed;
-        given = fits.given;
-        emptied = fits.emptied;
-        left = fits.left;
-        past = fits.past;
-        saw = fits.saw;
-        rights = λ x c. absurd (Contains-none x c);
-        marked = fits.marked;
-        clear = λ x c n. absurd (Contains-none x c);
-        hand = fits.hand;
-        caught = fits.caught;
-        chased = fits.chased;
-        chain = fits.chain;
-        own = fits.own;
-        made = fits.made;
-        spare = fits.spare;
-      } in
-      let l : Leaves key s.words ws' o.turns o.turns o.log o.log v₀ = record {
-        rises = λ i. omega arith;
-        longer = λ p d. d;
-        old = λ y z d e. d;
-        still = λ y d. refl;
-        bits = λ x d. ⊎_elim (λ a. there x (omega arith) (over x a)) (λ c. absurd (Contains-none x c)) d;
-        stay = stays;
-        hand = λ p d. let z = (fits.hand p d).0 in word_low (key.slots + p.0) (omega arith);
-        caught = linked_high key s.words v.caught w x' (omega arith) fits.caught;
-        made = λ m y d. d;
-        spare = λ m p d. let z = (fits.spare m p d).0 in (word_low p.0 (omega arith), refl);
-      } in
-      let f = steady key s.words ws' o.turns o.turns o.log o.log v₀ f₀ l in
-      record {
-        keys = f.keys;
-        all_seen = fits.all_seen;
-        seen = f.seen;
-        known = f.known;
-        placed = f.placed;
-        given = f.given;
-        emptied = f.emptied;
-        left = f.left;
-        past = f.past;
-        saw = f.saw;
-        rights = fits.rights;
+      let f₀ : Fits key s.words o.turns o.log v₀ = whole v₀ (facts_fit fits) fits.saw (placings_fit fits) (fewer_rights [] (λ x c. absurd (Contains-none x c)) (rights_fit fits)) fits.hand (chase_fits fits) (making_fits fits) in
+      let f = steady key s.words ws' o.turns o.turns o.log o.log v₀ f₀ (leaves v₀ f₀ (λ x c. absurd (Contains-none x c))) in
+      whole u' (facts_fit f) f.saw (placings_fit f)
+      (record {
+        seen = fits.all_seen.3;
+        pending = fits.rights;
         marked = λ x c. ⊎_elim (λ (e : h ≡ x). subst (λ y. mark key ws' y ≡ 1) e here) (λ d. stays x (fits.marked x d)) (Contains-cases h x v.marked (subst (λ z. Contains z x) all c));
         clear = λ x c n. let p = fits.rights x c in let apart : x ≡ h → ⊥ = λ e. n (subst (λ z. Contains z x) (sym all) (subst (Contains (h ∷ v.marked)) (sym e) (Contains-head h v.marked))) in
-            there x (omega arith) apart ∙ fits.clear x c (λ d. n (subst (λ z. Contains z x) (sym all) (Rattle.gen_events.proofs.Members.Contains-tail h x v.marked d)));
-        hand = f.hand;
-        caught = f.caught;
-        chased = f.chased;
-        chain = f.chain;
-        own = f.own;
-        made = f.made;
-        spare = f.spare;
-      }
+            there x (omega arith) apart ∙ fits.clear x c (λ d. n (subst (λ z. Contains z x) (sym all) (Contains-tail h x v.marked d)));
+      })
+      f.hand (chase_fits f) (making_fits f)
 
   pub marks_rule : Orderly key (board ws' s.homes (set s.views id u'))
-  marks_rule = record {
-    turns = o.turns;
-    chains = o.chains;
-    log = o.log;
-    wide = length-set s.words w x' ∙ o.wide;
-    high = o.high;
-    rows = o.rows;
-    small = o.small;
-    clean = λ x a b n. mark_there key s.words h x inside (λ e. let q = places_apart key.last_gen x h b low e in n (subst (IsMade o.turns) (sym (same_handle x h.slot h.gen_ q.0 q.1)) made)) ∙ o.clean x a b n;
-    each_slot = λ i l. let z = o.each_slot i l in (subst (λ y. Shows key.last_gen (get_or o.turns i 0) (get_or o.chains i []) y) (sym (word_low i (omega arith))) z.0, linked_high key s.words (get_or o.chains i []) w x' (omega arith) z.1);
-    each_view = λ j u e. ⊎_elim (λ (q : (j ≡ id) × (u' ≡ u)). subst (Fits key ws' o.turns o.log) q.1 mine)
-        (λ (q : (j ≢ id) × (get_elem? s.views j ≡ some u)). steady key s.words ws' o.turns o.turns o.log o.log u (o.each_view j u q.1)
-        (leaves j u q.1 (λ x c e. right_apart key s o id j v u h x q.0 me q.1 has c (ap (λ (y : Handle). y.slot) e)))) (at_set s.views id j u' u e);
-    once = λ f. omega (arith, o.once f, total-set (held f) s.views id v u' me);
-    one_maker = omega (arith, o.one_maker, total-set maker s.views id v u' me);
-    one_right = λ i. omega (arith, o.one_right i, total-set (rights_at i) s.views id v u' me);
-    no_right = λ j u x e d. let moved = total-set (rights_at x.slot) s.views id v u' me in
-        let before : total (rights_at x.slot) s.views ≡ 0 = ⊎_elim (λ (q : (j ≡ id) × (u' ≡ u)). o.no_right id v x me (subst (λ (y : View). Contains y.left x) (sym q.1) d)) (λ (q : (j ≢ id) × (get_elem? s.views j ≡ some u)). o.no_right j u x q.1 d) (at_set s.views id j u' u e) in
-        omega arith;
-    stands = o.stands;
-    stood = o.stood;
-  }
+  marks_rule = writes key s o id v u' me refl refl ws' (length-set s.words w x')
+      (λ x a b n. mark_there key s.words h x inside (λ e. let q = places_apart key.last_gen x h b low e in n (subst (IsMade o.turns) (sym (same_handle x h.slot h.gen_ q.0 q.1)) made)))
+      (λ i l. (word_low i (omega arith), linked_high key s.words (get_or o.chains i []) w x' (omega arith) (o.each_slot i l).1))
+      (each_after key s o id u' ws' o.turns o.log mine (λ j u apart at. leaves u (o.each_view j u at) (λ x c e. right_apart key s o id j v u h x apart me at has c (ap (λ (y : Handle). y.slot) e))))
+      (λ f. refl) refl
 
 pub sets : (key : Shape) (n id w k : ℕ) (m : Sat) (h : Handle) (rest : List Handle) → m.0.rights ≡ h ∷ rest → w ≡ mark_word key h → k ≡ 1 * 2 ^ (place_of key.last_gen h % 64) % 2 ^ 64 → Allows (Orderly key) n id m w (λ y. bit_or y k) (λ _. marks m)
 sets key n id w k m h rest rights at bit s o wide me _ = (

@@ -1,5 +1,5 @@
 -- Each step keeps the rule.
-use Rattle.std.proofs.Common.{◌≡◌, ℕ, zero, suc, ◌-◌, ◌%◌, ◌<◌, ◌≤◌, ◌≢◌, List, [], ◌∷◌, length, get_or, set, sym, refl, ap, ◌∙◌, subst, ⊎_elim, arith, cond, eq-eqb}
+use Rattle.std.proofs.Common.{◌≡◌, ℕ, zero, suc, ◌-◌, ◌%◌, ◌<◌, ◌≤◌, ◌≢◌, List, [], ◌∷◌, ◌++◌, length, get_or, set, sym, refl, ap, ◌∙◌, subst, ⊎_elim, arith, cond, eq-eqb}
 use Rattle.std.specs.Prelude.{Contains}
 use Rattle.std.proofs.lemmas.List.Elements.{Contains-append_cases, Contains-push_cases}
 use mathlib.Core.Logic.{dite}
@@ -8,19 +8,20 @@ use native.Mathlib.Decide.{dec_le}
 use lib.ListN.{get_elem?}
 use lib.Seq.{set-get_or}
 use Rattle.atomic_table.specs.Table.{State, keeps, Allows}
-use Rattle.atomic_table.proofs.Lists.{at_set}
 use Rattle.gen_events.specs.declared.handle.Handle.{Handle}
 use Rattle.gen_events.specs.declared.handle.Fate.{Fate}
 use Rattle.gen_events.specs.declared.handle.Shape.{Shape}
 use Rattle.gen_events.specs.declared.view.View.{View}
 use Rattle.basics.specs.Sums.{total}
-use Rattle.gen_events.specs.Rule.{turns_of, place_of, mark_words, mark_word, mark, fate_code, IsMade, IsPending, IsEnded, code, Linked, Shows, held, ends_at, rights_at, maker, Fits, Orderly}
+use Rattle.gen_events.specs.Rule.{turns_of, place_of, mark, fate_code, IsMade, IsEnded, Linked, Shows, held, ends_at, rights_at, maker, Fits, Orderly}
 use Rattle.gen_events.specs.Plays.{Sat, found_at, ends_of, Agrees, InRange, Coherent, Rightless, looked, heeded, fated, fates_of, fates_by, reads, fate_by}
 use Rattle.std.specs.Int.{bit_at}
 use Rattle.basics.proofs.Sums.{total-set, term_le, item_le}
-use Rattle.gen_events.proofs.Members.{Contains-none, Contains-head}
+use Rattle.gen_events.proofs.Members.{Contains-none, Contains-head, set_cases}
 use Rattle.gen_events.proofs.Marks.{one_code, coded, fates_in}
 use Rattle.gen_events.proofs.Words.{code_le, turns_shown, ends_in}
+use Rattle.gen_events.proofs.Frames.{Placings, Leaves, steady}
+use Rattle.gen_events.proofs.Parts.{SawFits, whole, facts_fit, placings_fit, rights_fit, chase_fits, making_fits, with_known, with_past}
 
 abbrev pub St : Type 0
 St = State Unit View
@@ -28,29 +29,63 @@ St = State Unit View
 abbrev pub board : List ℕ → List (Option (Unit {0})) → List View → St
 board ws hs vs = record { words = ws; homes = hs; views = vs }
 
--- a seat's own view changes, and nothing else
-pub own : (key : Shape) (s : St) (o : Orderly key s) (id : ℕ) (v w : View) → get_elem? s.views id ≡ some v → Fits key s.words o.turns o.log w
-    → ((f : ℕ → ℕ) → held f w ≡ held f v) → w.makes ≡ v.makes → w.rights ≡ v.rights → w.left ≡ v.left → Orderly key (board s.words s.homes (set s.views id w))
-own key s o id v w me fits weighs makes rights left = record {
+-- words of slots stay as they were, the links of chains too, and so do the marks of handles that were not made
+pub rewritten : (key : Shape) (s : St) (o : Orderly key s) (ws : List ℕ) (vs : List View) → length ws ≡ length s.words → ((h : Handle) → h.slot < key.slots → h.gen_ ≤ key.last_gen → (IsMade o.turns h → ⊥) → mark key ws h ≡ mark key s.words h)
+    → ((i : ℕ) → i < key.slots → (get_or ws i 0 ≡ get_or s.words i 0) × Linked key ws (get_or o.chains i []))
+    → ((j : ℕ) (u : View) → get_elem? vs j ≡ some u → Fits key ws o.turns o.log u) → ((f : ℕ → ℕ) → total (held f) vs ≡ total (held f) s.views) → total maker vs ≤ 1 → ((i : ℕ) → total (rights_at i) vs ≤ 1)
+    → ((j : ℕ) (u : View) (h : Handle) → get_elem? vs j ≡ some u → Contains u.left h → total (rights_at h.slot) vs ≡ 0) → Orderly key (board ws s.homes vs)
+rewritten key s o ws vs long bits slots views weighs one_maker one_right no_right = record {
   turns = o.turns;
   chains = o.chains;
   log = o.log;
-  wide = o.wide;
+  wide = long ∙ o.wide;
   high = o.high;
   rows = o.rows;
   small = o.small;
-  clean = o.clean;
-  each_slot = o.each_slot;
-  each_view = λ j u e. ⊎_elim (λ (t : (j ≡ id) × (w ≡ u)). subst (Fits key s.words o.turns o.log) t.1 fits) (λ (t : (j ≢ id) × (get_elem? s.views j ≡ some u)). o.each_view j u t.1) (at_set s.views id j w u e);
-  once = λ f. omega (arith, o.once f, weighs f, total-set (held f) s.views id v w me);
-  one_maker = omega (arith, o.one_maker, total-set maker s.views id v w me);
-  one_right = λ i. omega (arith, o.one_right i, ap (total (Rattle.gen_events.specs.Rule.ends_at i)) rights, total-set (rights_at i) s.views id v w me);
-  no_right = λ j u h e c. let same = ap (total (Rattle.gen_events.specs.Rule.ends_at h.slot)) rights in let moved = total-set (rights_at h.slot) s.views id v w me in
-      let before : total (rights_at h.slot) s.views ≡ 0 = ⊎_elim (λ (t : (j ≡ id) × (w ≡ u)). o.no_right id v h me (subst (λ l. Contains l h) (ap (λ (x : View). x.left) (sym t.1) ∙ left) c)) (λ (t : (j ≢ id) × (get_elem? s.views j ≡ some u)). o.no_right j u h t.1 c) (at_set s.views id j w u e) in
-      omega arith;
+  clean = λ h a b n. bits h a b n ∙ o.clean h a b n;
+  each_slot = λ i l. let z = slots i l in (subst (λ w. Shows key.last_gen (get_or o.turns i 0) (get_or o.chains i []) w) (sym z.0) (o.each_slot i l).0, z.1);
+  each_view = views;
+  once = λ f. omega (arith, o.once f, weighs f);
+  one_maker = one_maker;
+  one_right = one_right;
+  no_right = no_right;
   stands = o.stands;
   stood = o.stood;
 }
+
+-- views change, and nothing else
+pub other_views : (key : Shape) (s : St) (o : Orderly key s) (vs : List View) → ((j : ℕ) (u : View) → get_elem? vs j ≡ some u → Fits key s.words o.turns o.log u) → ((f : ℕ → ℕ) → total (held f) vs ≡ total (held f) s.views)
+    → total maker vs ≤ 1 → ((i : ℕ) → total (rights_at i) vs ≤ 1) → ((j : ℕ) (u : View) (h : Handle) → get_elem? vs j ≡ some u → Contains u.left h → total (rights_at h.slot) vs ≡ 0) → Orderly key (board s.words s.homes vs)
+other_views key s o vs = rewritten key s o s.words vs refl (λ h a b n. refl) (λ i l. (refl, (o.each_slot i l).1))
+
+-- each view fits once the seat id has the view w, where the step left the others as they were
+pub each_after : (key : Shape) (s : St) (o : Orderly key s) (id : ℕ) (w : View) (ws ts : List ℕ) (log : Placings) → Fits key ws ts log w → ((j : ℕ) (u : View) → j ≢ id → get_elem? s.views j ≡ some u → Leaves key s.words ws o.turns ts o.log log u)
+    → (j : ℕ) (u : View) → get_elem? (set s.views id w) j ≡ some u → Fits key ws ts log u
+each_after key s o id w ws ts log fits leaves j u e = set_cases (Fits key ws ts log) s.views id w j u e fits (λ apart at. steady key s.words ws o.turns ts o.log log u (o.each_view j u at) (leaves j u apart at))
+
+-- the seat keeps its rights, and has left no more
+module _ (key : Shape) (s : St) (o : Orderly key s) (id : ℕ) (v w : View) (me : get_elem? s.views id ≡ some v) (rights : w.rights ≡ v.rights) (left : w.left ≡ v.left) where
+  same_rights : (i : ℕ) → total (rights_at i) (set s.views id w) ≡ total (rights_at i) s.views
+  same_rights i = omega (arith, ap (total (ends_at i)) rights, total-set (rights_at i) s.views id v w me)
+
+  pub one_right_after : (i : ℕ) → total (rights_at i) (set s.views id w) ≤ 1
+  one_right_after i = omega (arith, o.one_right i, same_rights i)
+
+  pub no_right_after : (j : ℕ) (u : View) (h : Handle) → get_elem? (set s.views id w) j ≡ some u → Contains u.left h → total (rights_at h.slot) (set s.views id w) ≡ 0
+  no_right_after j u h e = set_cases (λ (x : View). Contains x.left h → total (rights_at h.slot) (set s.views id w) ≡ 0) s.views id w j u e
+      (λ c. same_rights h.slot ∙ o.no_right id v h me (subst (λ l. Contains l h) left c)) (λ _ at c. same_rights h.slot ∙ o.no_right j u h at c)
+
+  -- it writes words as `rewritten` has them
+  pub writes : (ws : List ℕ) → length ws ≡ length s.words → ((h : Handle) → h.slot < key.slots → h.gen_ ≤ key.last_gen → (IsMade o.turns h → ⊥) → mark key ws h ≡ mark key s.words h)
+      → ((i : ℕ) → i < key.slots → (get_or ws i 0 ≡ get_or s.words i 0) × Linked key ws (get_or o.chains i []))
+      → ((j : ℕ) (u : View) → get_elem? (set s.views id w) j ≡ some u → Fits key ws o.turns o.log u) → ((f : ℕ → ℕ) → held f w ≡ held f v) → w.makes ≡ v.makes → Orderly key (board ws s.homes (set s.views id w))
+  writes ws long bits slots views weighs makes = rewritten key s o ws (set s.views id w) long bits slots views (λ f. omega (arith, weighs f, total-set (held f) s.views id v w me)) (omega (arith, o.one_maker, total-set maker s.views id v w me)) one_right_after no_right_after
+
+-- a seat's own view changes, and nothing else
+pub own : (key : Shape) (s : St) (o : Orderly key s) (id : ℕ) (v w : View) → get_elem? s.views id ≡ some v → Fits key s.words o.turns o.log w
+    → ((f : ℕ → ℕ) → held f w ≡ held f v) → w.makes ≡ v.makes → w.rights ≡ v.rights → w.left ≡ v.left → Orderly key (board s.words s.homes (set s.views id w))
+own key s o id v w me fits weighs makes rights left = writes key s o id v w me rights left s.words refl (λ h a b n. refl) (λ i l. (refl, (o.each_slot i l).1))
+    (λ j u e. set_cases (Fits key s.words o.turns o.log) s.views id w j u e fits (λ _ at. o.each_view j u at)) weighs makes
 
 -- after a load
 pub kept_word : (key : Shape) (s : St) (i : ℕ) (hs : List (Option (Unit {0}))) (vs : List View) → Orderly key (board s.words hs vs) → Orderly key (board (set s.words i (get_or s.words i 0)) hs vs)
@@ -62,29 +97,11 @@ shown key s o i near = let t = o.each_slot i near in let a = code_le key s.words
     turns_shown key.last_gen (get_or o.turns i 0) (get_or o.chains i []) (get_or s.words i 0) t.0 (omega arith)
 
 pub found_fits : (key : Shape) (ws ts : List ℕ) (log : List (ℕ × Handle)) (v : View) (i r : ℕ) → turns_of r ≡ get_or ts i 0 → Fits key ws ts log v → Fits key ws ts log (found_at v i r)
-found_fits key ws ts log v i r e o = record {
-  keys = o.keys;
-  all_seen = (o.all_seen.0, o.all_seen.1, (λ h c. ⊎_elim (λ d. o.all_seen.2 h d) (λ d. (ends_in i (turns_of r) v.seen h d).0) (Contains-append_cases v.past (ends_of i (turns_of r) v.seen) h c)), o.all_seen.3);
-  seen = o.seen;
-  known = o.known;
-  past = λ h c. ⊎_elim (λ d. o.past h d)
-      (λ d. let q = ends_in i (turns_of r) v.seen h d in let past = q.2 in let at : get_or ts h.slot 0 ≡ turns_of r = ap (λ j. get_or ts j 0) q.1 ∙ sym e in omega arith) (Contains-append_cases v.past (ends_of i (turns_of r) v.seen) h c);
-  marked = o.marked;
-  clear = o.clear;
-  placed = o.placed;
-  given = o.given;
-  emptied = o.emptied;
-  left = o.left;
-  saw = λ p c. ⊎_elim (λ d. o.saw p d) (λ (q : (i, r) ≡ p). subst (λ (x : ℕ × ℕ). turns_of x.1 ≤ get_or ts x.0 0) q (omega arith)) (Contains-push_cases v.saw (i, r) p c);
-  rights = o.rights;
-  hand = o.hand;
-  caught = o.caught;
-  chased = o.chased;
-  chain = o.chain;
-  own = o.own;
-  made = o.made;
-  spare = o.spare;
-}
+found_fits key ws ts log v i r e o =
+    let past : (h : Handle) → Contains (v.past ++ ends_of i (turns_of r) v.seen) h → Contains v.seen h × IsEnded ts h = λ h c. ⊎_elim (λ d. (o.all_seen.2 h d, o.past h d))
+    (λ d. let q = ends_in i (turns_of r) v.seen h d in let past = q.2 in let at : get_or ts h.slot 0 ≡ turns_of r = ap (λ j. get_or ts j 0) q.1 ∙ sym e in (q.0, omega arith)) (Contains-append_cases v.past (ends_of i (turns_of r) v.seen) h c) in
+    let saw : SawFits ts (v.saw ++ (i, r) ∷ []) = λ p c. ⊎_elim (λ d. o.saw p d) (λ (q : (i, r) ≡ p). subst (λ (x : ℕ × ℕ). turns_of x.1 ≤ get_or ts x.0 0) q (omega arith)) (Contains-push_cases v.saw (i, r) p c) in
+    whole (found_at v i r) (with_past (v.past ++ ends_of i (turns_of r) v.seen) past (facts_fit o)) saw (placings_fit o) (rights_fit o) o.hand (chase_fits o) (making_fits o)
 
 pub agrees : (key : Shape) (ws ts : List ℕ) (log : List (ℕ × Handle)) (v : View) (i r : ℕ) → turns_of r ≡ get_or ts i 0 → Fits key ws ts log v → Agrees v i r
 agrees key ws ts log v i r e o = (
@@ -146,28 +163,9 @@ reads_mark key n id w m s o wide me _ =
     let v : View = m.0 in
     let u : View = fated v w r in
     let f = o.each_view id v me in
-    let fits : Fits key s.words o.turns o.log u = record {
-      keys = f.keys;
-      all_seen = ((λ h g c. ⊎_elim (λ d. f.all_seen.0 h g d) (λ d. f.all_seen.2 h (fates_past v.keys w r v.past h g d)) (Contains-append_cases v.known (fates_of v.keys w r v.past) (h, g) c)), f.all_seen.1, f.all_seen.2, f.all_seen.3);
-      seen = f.seen;
-      known = λ h g c. ⊎_elim (λ d. f.known h g d) (λ d. told key s o v f w v.keys f.keys h g d) (Contains-append_cases v.known (fates_of v.keys w r v.past) (h, g) c);
-      placed = f.placed;
-      given = f.given;
-      emptied = f.emptied;
-      left = f.left;
-      past = f.past;
-      saw = f.saw;
-      rights = f.rights;
-      marked = f.marked;
-      clear = f.clear;
-      hand = f.hand;
-      caught = f.caught;
-      chased = f.chased;
-      chain = f.chain;
-      own = f.own;
-      made = f.made;
-      spare = f.spare;
-    } in (
+    let known : (h : Handle) (g : Fate) → Contains (v.known ++ fates_of v.keys w r v.past) (h, g) → Contains v.seen h × IsEnded o.turns h × (mark key s.words h ≡ fate_code g) = λ h g c. ⊎_elim (λ d. (f.all_seen.0 h g d, (f.known h g d).0, (f.known h g d).1))
+    (λ d. let t = told key s o v f w v.keys f.keys h g d in (f.all_seen.2 h (fates_past v.keys w r v.past h g d), t.0, t.1)) (Contains-append_cases v.known (fates_of v.keys w r v.past) (h, g) c) in
+    let fits : Fits key s.words o.turns o.log u = whole u (with_known (v.known ++ fates_of v.keys w r v.past) known (facts_fit f)) f.saw (placings_fit f) (rights_fit f) f.hand (chase_fits f) (making_fits f) in (
       u,
       keeps,
       tt,

@@ -1,17 +1,7 @@
 //! Vectors whose room was made before.
 
-ghost use Rattle.std.specs.Prelude.{◌≡◌, ◌<◌, ◌≤◌, ◌++◌, [], ◌∷◌, vec_len, IfOk};
+ghost use Rattle.std.specs.Prelude.{◌≡◌, ◌<◌, ◌≤◌, ◌++◌, [], ◌∷◌, vec_len};
 ghost use Rattle.std.specs.Vec.{vec_capacity};
-
-use std::alloc::{AllocError, Global};
-
-/// A vector without items, and with room for so many.
-pub(crate) fn with_room<T: Drop>(alloc: Global, count: usize) -> Result<Vec<T>, AllocError>
-    ensures items { IfOk result (λ v. v.items ≡ []) }
-    ensures room { IfOk result (λ v. vec_capacity v ≡ count) }
-{
-    Vec::with_capacity(alloc, count)
-}
 
 /// Puts an item at the end of a vector that has room for it.
 pub(crate) fn push_within<T: Drop>(items: &mut Vec<T>, item: T)

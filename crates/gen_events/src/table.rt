@@ -7,7 +7,6 @@ use crate::NoMemory;
 use crate::chain::{Chain, catch};
 use crate::handle::{Answer, Fate, Handle, Shape, WatchNow};
 use crate::left::copy_words;
-use crate::room::with_room;
 use crate::word::{
     answer, fate_shown, free_slots, is_no_event, next_word, release, turns, with_fate,
 };
@@ -81,8 +80,8 @@ impl EventTable {
         ensures map { IfOk result (λ t. t ≡ fresh shape.slots shape.waiters shape.last_gen) }
     {
         let words = vec![in alloc; 0u64; shape.words()]?;
-        let mut free = with_room(alloc, shape.slots as usize)?;
-        let caught = with_room(alloc, shape.waiters as usize)?;
+        let mut free = Vec::with_capacity(alloc, shape.slots as usize)?;
+        let caught = Vec::with_capacity(alloc, shape.waiters as usize)?;
         free_slots(&mut free, shape.slots, words.as_slice());
         Ok(EventTable {
             shape,

@@ -1,5 +1,5 @@
 -- What each call of a core does to the lines that are out.
-use Rattle.std.proofs.Common.{◌≡◌, ℕ, true, inl, inr, sym, refl, ◌∙◌, ap}
+use Rattle.std.proofs.Common.{◌≡◌, ℕ, true, inl, inr, sym, refl, ◌∙◌, ap, subst}
 use Rattle.std.specs.Prelude.{◌≢◌, Option, Some, None}
 use Rattle.std.proofs.lemmas.Bool.{false≢true, cases_eq}
 use Rattle.std.proofs.lemmas.Option.{none-some, same_Some}
@@ -9,7 +9,7 @@ use Rattle.run_core.specs.Works.{WorkValue, KeepsWork}
 use Rattle.run_core.specs.WhatIsOut.{SameOut, OneMoreOut, OutAfter}
 use Rattle.run_core.specs.declared.answers.Attempt.{Attempt}
 use Rattle.run_core.specs.declared.answers.Attempt.TheVariants as attempts
-use Rattle.lock_engine.specs.Turns.{Serves, IsTaken}
+use Rattle.lock_engine.specs.Turns.{Serves, IsTaken, line_taken}
 
 pub keeps_same : (c : CoreValue) (k : ℕ) → KeepsWork c c k
 keeps_same c k = record { work = λ w e i. i; finished = λ f e i. i }
@@ -82,6 +82,11 @@ serves_same old new same works = record {
   comes = λ k o. inr (sym (same.same k) ∙ o, none-some k);
   is_new = λ k e. absurd (none-some k e);
 }
+
+-- and after that a line is tried, in a turn that has taken none so far
+pub serves_next : (old now next after : CoreValue) (o x : Option WorkValue) → o ≡ x → Serves old now None None → SameOut now next → ((k : ℕ) → KeepsWork now next k) → Serves next after None (line_taken o) → Serves old after None (line_taken x)
+serves_next old now next after o x is before same works tried =
+    serves_on old now after None (line_taken x) before (serves_on now next after None (line_taken x) (serves_same now next same works) (subst (λ y. Serves next after None (line_taken y)) is tried))
 
 -- A LINE IS TAKEN
 pub serves_takes : (old new : CoreValue) (i : ℕ) → OneMoreOut old new i → ((k : ℕ) → KeepsWork old new k) → Serves old new None (Some i)

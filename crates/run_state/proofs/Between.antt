@@ -1,25 +1,24 @@
 -- A run begins at rest, a line issued leaves it at rest, and what one line holds is kept by the steps of others.
-use Rattle.std.proofs.Common.{◌≡◌, ℕ, ◌<◌, true, false, List, [], ◌∷◌, length, refl, sym, ◌∙◌, ap, subst}
-use Rattle.std.specs.Prelude.{◌≢◌, slice_set}
+use Rattle.std.proofs.Common.{◌≡◌, ℕ, ◌<◌, true, List, [], ◌∷◌, refl, sym, ◌∙◌, ap, subst}
+use Rattle.std.specs.Prelude.{slice_set}
 use Rattle.std.proofs.lemmas.List.{get_or-set_other}
 use Rattle.std.proofs.lemmas.Bool.{true≢false}
 use Rattle.graph_model.specs.declared.outcome.End.{End}
-use Rattle.graph_model.specs.declared.outcome.End.TheVariants.{Cancelled}
 use Rattle.graph_model.specs.Graph.{GraphValue}
-use Rattle.graph_model.specs.Rules.{Acquires, Accepted}
+use Rattle.graph_model.specs.Rules.{Accepted}
 use Rattle.graph_model.specs.Effect.{Cells}
-use Rattle.graph_model.specs.Evaluation.{eval_end, cells_of_lines}
+use Rattle.graph_model.specs.Evaluation.{cells_of_lines}
 use Rattle.graph_model.specs.Fits.{IsGraph}
-use Rattle.run_state.specs.Run.{LineStage, Unissued, Issued, Out, Ending, Ended, Home, Had, Run, is_listed, place_at, list_at, stage_out, stage_over, stage_ended, out, ended, timed}
-use Rattle.run_state.specs.Sound.{AccessesColumn, Sound}
+use Rattle.run_state.specs.Run.{LineStage, Unissued, Issued, Out, Ending, Ended, Home, Had, Run, is_listed, place_at, list_at, stage_out, stage_over, stage_ended, out}
+use Rattle.run_state.specs.Sound.{Sound}
 use Rattle.run_state.specs.Moves.{staged, issue, column_out, column_unused, column_back}
 use Rattle.run_state.specs.Work.{HoldsAll, put_cells}
 use Rattle.run_state.specs.Start.{start}
 use Rattle.run_state.specs.WholeLine.{column_list, take_whole, all_back, columns_for, put_back_whole}
-use Rattle.run_state.proofs.Lists.{each_set, none_listed, listed_here, listed_there}
+use Rattle.run_state.proofs.Lists.{none_listed, listed_here, listed_there}
 use Rattle.run_state.proofs.Columns.{had_one}
 use Rattle.run_state.proofs.Start.{no_stage, no_list}
-use Rattle.run_state.proofs.WholeLine.{listed_accessed, all_had_other}
+use Rattle.run_state.proofs.WholeLine.{listed_accessed, all_had_other, goes_at_rest}
 use Rattle.run_state.proofs.PutBack.{all_home_other, for_listed}
 use Rattle.run_state.specs.AtRest.{AtRest, MayTakeWhole, MayPutBack, Undisturbed}
 use Rattle.run_state.specs.Premises.{MayIssue}
@@ -38,22 +37,8 @@ start_is_at_rest g f a = record {
 
 -- a line issued leaves it at rest
 pub issue_is_at_rest : {g : GraphValue} {run : Run} → Sound g run → AtRest g run → (i : ℕ) → MayIssue g run i → AtRest g (issue run i)
-issue_is_at_rest {g} {run} s rest i m =
-    let there : i < length run.stages = subst (λ n. i < n) (sym s.on_lines.each_line) m.is_line in
-    let kept : (k : ℕ) → ended run.stages k ≡ true → ended (slice_set run.stages i Issued) k ≡ true =
-    each_set (λ k x. ended run.stages k ≡ true → stage_ended x ≡ true) run.stages Unissued i Issued there (λ h. absurd (true≢false (sym h ∙ ap stage_ended m.unissued))) (λ k ne h. h) in
-    record {
-      none_ending = each_set (λ k x. stage_over x ≡ true → stage_ended x ≡ true) run.stages Unissued i Issued there (λ h. absurd (true≢false (sym h))) (λ k ne. rest.none_ending k);
-      back_ended = λ c k h. kept k (rest.back_ended c k h);
-      arrived_ended = λ k h. kept k (rest.arrived_ended k h);
-      freed_ended = λ k h. kept k (rest.freed_ended k h);
-      out_has = λ k c. each_set (λ k x. stage_out x ≡ true → eval_end g k ≢ Cancelled → AccessesColumn g k c → place_at run.places c ≡ Had k) run.stages Unissued i Issued there
-          (λ h. absurd (true≢false (sym h))) (λ k ne. rest.out_has k c) k;
-      out_holds = λ k l. each_set (λ k x. stage_out x ≡ true → eval_end g k ≢ Cancelled → Acquires g k l → is_listed (list_at run.holders l) k ≡ true) run.stages Unissued i Issued there
-          (λ h. absurd (true≢false (sym h))) (λ k ne. rest.out_holds k l) k;
-      out_untimed = each_set (λ k x. stage_out x ≡ true → timed run.times k ≡ false) run.stages Unissued i Issued there
-          (λ h. absurd (true≢false (sym h))) (λ k ne. rest.out_untimed k);
-    }
+issue_is_at_rest {g} {run} s rest i m = goes_at_rest rest i Issued run.places run.holders (subst (λ n. i < n) (sym s.on_lines.each_line) m.is_line) refl (ap stage_ended m.unissued) (λ k c h. h) (λ l k h. h)
+    (λ c h. absurd (true≢false (sym h))) (λ l h. absurd (true≢false (sym h))) (λ h. absurd (true≢false (sym h)))
 
 -- what a line holds is kept, and so is what it may put back
 pub holds_all_stays : {g : GraphValue} {run after : Run} (i : ℕ) → Undisturbed i run after → (cells : Cells) → HoldsAll g run i cells → HoldsAll g after i cells

@@ -14,6 +14,7 @@ use Rattle.run_state.specs.Sound.{AccessesColumn, home_cells, SoundColumns, Soun
 use Rattle.run_state.specs.Moves.{column_out, column_unused, column_back}
 use Rattle.run_state.proofs.Lists.{each_set, is_there, listed_here, listed_there, listed_cases, out_started, out_not_ended, ended_over, map_same}
 use Rattle.run_state.proofs.Known.{column_there}
+use Rattle.run_state.proofs.SoundParts.{with_columns}
 use Rattle.run_state.proofs.Started.{sources_closed, started_ends, changed_back}
 use Rattle.run_state.specs.Premises.{MayTakeColumn, MayReturnColumn, MayPutBackColumn}
 
@@ -26,6 +27,14 @@ had_one i k e = cc
 
 pub home_one : (xs ys : List ℕ) → Home xs ≡ Home ys → xs ≡ ys
 home_one xs ys e = cc
+
+-- which columns are had once one is out, or at home again
+module _ (places : List Place) (c : ℕ) (there : c < length places) where
+  had_now : (i d k : ℕ) → place_at (slice_set places c (Had i)) d ≡ Had k → ((d ≡ c) × (i ≡ k)) ⊎ (place_at places d ≡ Had k)
+  had_now i = each_set (λ d p. (k : ℕ) → p ≡ Had k → ((d ≡ c) × (i ≡ k)) ⊎ (place_at places d ≡ Had k)) places (Home []) c (Had i) there (λ k e. inl (refl, had_one i k e)) (λ d ne k e. inr e)
+
+  still_had : (xs : List ℕ) (d k : ℕ) → place_at (slice_set places c (Home xs)) d ≡ Had k → (d ≢ c) × (place_at places d ≡ Had k)
+  still_had xs = each_set (λ d p. (k : ℕ) → p ≡ Had k → (d ≢ c) × (place_at places d ≡ Had k)) places (Home []) c (Home xs) there (λ k e. absurd (had_not_home (Home xs) k xs e refl)) (λ d ne k e. (ne, e))
 
 -- one more number in one of the lists
 module _ (lists : List (List ℕ)) (c i : ℕ) (there : c < length lists) where
@@ -65,13 +74,14 @@ out_columns : {g : GraphValue} {run : Run} → Sound g run → (c i : ℕ) → M
 out_columns {g} {run} s c i m =
     let t = s.on_columns in
     let there : c < length run.places = subst (λ n. c < n) (sym t.each_column) (column_there s.graph i c m.accessed) in
+    let now = had_now run.places c there i in
     record {
       each_column = length-set run.places c (Had i) ∙ t.each_column;
       each_back = t.each_back;
-      had_out = each_set (λ d p. (k : ℕ) → p ≡ Had k → out run.stages k ≡ true) run.places (Home []) c (Had i) there (λ k e. subst (λ x. out run.stages x ≡ true) (had_one i k e) m.is_out) (λ d ne. t.had_out d);
-      had_accessed = each_set (λ d p. (k : ℕ) → p ≡ Had k → AccessesColumn g k d) run.places (Home []) c (Had i) there (λ k e. subst (λ x. AccessesColumn g x c) (had_one i k e) m.accessed) (λ d ne. t.had_accessed d);
-      had_not_cancelled = each_set (λ d p. (k : ℕ) → p ≡ Had k → eval_end g k ≢ Cancelled) run.places (Home []) c (Had i) there (λ k e. subst (λ x. eval_end g x ≢ Cancelled) (had_one i k e) m.not_cancelled) (λ d ne. t.had_not_cancelled d);
-      had_not_back = each_set (λ d p. (k : ℕ) → p ≡ Had k → is_listed (list_at run.back d) k ≡ false) run.places (Home []) c (Had i) there (λ k e. subst (λ x. is_listed (list_at run.back c) x ≡ false) (had_one i k e) m.not_back) (λ d ne. t.had_not_back d);
+      had_out = λ d k h. elim (now d k h) [ inl e ↦ subst (λ x. out run.stages x ≡ true) e.1 m.is_out | inr was ↦ t.had_out d k was ];
+      had_accessed = λ d k h. elim (now d k h) [ inl e ↦ subst (λ x. AccessesColumn g k x) (sym e.0) (subst (λ x. AccessesColumn g x c) e.1 m.accessed) | inr was ↦ t.had_accessed d k was ];
+      had_not_cancelled = λ d k h. elim (now d k h) [ inl e ↦ subst (λ x. eval_end g x ≢ Cancelled) e.1 m.not_cancelled | inr was ↦ t.had_not_cancelled d k was ];
+      had_not_back = λ d k h. elim (now d k h) [ inl e ↦ subst (λ x. is_listed (list_at run.back x) k ≡ false) (sym e.0) (subst (λ x. is_listed (list_at run.back c) x ≡ false) e.1 m.not_back) | inr was ↦ t.had_not_back d k was ];
       over_back = t.over_back;
       back_started = t.back_started;
       back_accessed = t.back_accessed;
@@ -81,15 +91,7 @@ out_columns {g} {run} s c i m =
 
 -- a column out
 pub column_out-sound : {g : GraphValue} {run : Run} → Sound g run → (c i : ℕ) → MayTakeColumn g run c i → Sound g (column_out run c i)
-column_out-sound {g} {run} s c i m = record {
-  graph = s.graph;
-  accepted = s.accepted;
-  on_lines = s.on_lines;
-  on_columns = out_columns s c i m;
-  on_phases = s.on_phases;
-  on_locks = s.on_locks;
-  on_times = s.on_times;
-}
+column_out-sound {g} {run} s c i m = with_columns s (slice_set run.places c (Had i)) run.back (out_columns s c i m)
 
 pub had_there : {g : GraphValue} {run : Run} → Sound g run → (c i : ℕ) → place_at run.places c ≡ Had i → c < length run.places
 had_there {g} {run} s c i h = is_there run.places (Home []) c (λ e. had_not_home (place_at run.places c) i [] h e)
@@ -98,13 +100,14 @@ home_columns : {g : GraphValue} {run : Run} → Sound g run → (c i : ℕ) → 
 home_columns {g} {run} s c i h xs same =
     let t = s.on_columns in
     let there : c < length run.places = had_there s c i h in
+    let still = still_had run.places c there xs in
     record {
       each_column = length-set run.places c (Home xs) ∙ t.each_column;
       each_back = t.each_back;
-      had_out = each_set (λ d p. (k : ℕ) → p ≡ Had k → out run.stages k ≡ true) run.places (Home []) c (Home xs) there (λ k e. absurd (had_not_home (Home xs) k xs e refl)) (λ d ne. t.had_out d);
-      had_accessed = each_set (λ d p. (k : ℕ) → p ≡ Had k → AccessesColumn g k d) run.places (Home []) c (Home xs) there (λ k e. absurd (had_not_home (Home xs) k xs e refl)) (λ d ne. t.had_accessed d);
-      had_not_cancelled = each_set (λ d p. (k : ℕ) → p ≡ Had k → eval_end g k ≢ Cancelled) run.places (Home []) c (Home xs) there (λ k e. absurd (had_not_home (Home xs) k xs e refl)) (λ d ne. t.had_not_cancelled d);
-      had_not_back = each_set (λ d p. (k : ℕ) → p ≡ Had k → is_listed (list_at run.back d) k ≡ false) run.places (Home []) c (Home xs) there (λ k e. absurd (had_not_home (Home xs) k xs e refl)) (λ d ne. t.had_not_back d);
+      had_out = λ d k e. t.had_out d k (still d k e).1;
+      had_accessed = λ d k e. t.had_accessed d k (still d k e).1;
+      had_not_cancelled = λ d k e. t.had_not_cancelled d k (still d k e).1;
+      had_not_back = λ d k e. t.had_not_back d k (still d k e).1;
       over_back = t.over_back;
       back_started = t.back_started;
       back_accessed = t.back_accessed;
@@ -114,15 +117,7 @@ home_columns {g} {run} s c i h xs same =
 
 -- a column given back unchanged
 pub column_unused-sound : {g : GraphValue} {run : Run} → Sound g run → (c i : ℕ) (xs : List ℕ) → MayReturnColumn g run c i xs → Sound g (column_unused run c xs)
-column_unused-sound {g} {run} s c i xs m = record {
-  graph = s.graph;
-  accepted = s.accepted;
-  on_lines = s.on_lines;
-  on_columns = home_columns s c i m.has xs m.unchanged;
-  on_phases = s.on_phases;
-  on_locks = s.on_locks;
-  on_times = s.on_times;
-}
+column_unused-sound {g} {run} s c i xs m = with_columns s (slice_set run.places c (Home xs)) run.back (home_columns s c i m.has xs m.unchanged)
 
 back_columns : {g : GraphValue} {run : Run} → Sound g run → (c i : ℕ) → place_at run.places c ≡ Had i → (xs : List ℕ) →
     xs ≡ (column_of g (cells_after (cells_of_lines g (is_listed (list_at run.back c))) (eval_changes g i)) c).cells →
@@ -134,15 +129,14 @@ back_columns {g} {run} s c i h xs made =
     let lists_there : c < length run.back = subst (λ n. c < n) (t.each_column ∙ sym t.each_back) there in
     let is_out : out run.stages i ≡ true = t.had_out c i h in
     let same : xs ≡ home_cells g (i ∷ list_at run.back c) c = made ∙ put_back_cells s c i is_out (t.had_not_back c i h) in
-    let lists : List (List ℕ) = with_one run.back c i lists_there in
+    let still = still_had run.places c there xs in
     record {
       each_column = length-set run.places c (Home xs) ∙ t.each_column;
       each_back = length-set run.back c (i ∷ list_at run.back c) ∙ t.each_back;
-      had_out = each_set (λ d p. (k : ℕ) → p ≡ Had k → out run.stages k ≡ true) run.places (Home []) c (Home xs) there (λ k e. absurd (had_not_home (Home xs) k xs e refl)) (λ d ne. t.had_out d);
-      had_accessed = each_set (λ d p. (k : ℕ) → p ≡ Had k → AccessesColumn g k d) run.places (Home []) c (Home xs) there (λ k e. absurd (had_not_home (Home xs) k xs e refl)) (λ d ne. t.had_accessed d);
-      had_not_cancelled = each_set (λ d p. (k : ℕ) → p ≡ Had k → eval_end g k ≢ Cancelled) run.places (Home []) c (Home xs) there (λ k e. absurd (had_not_home (Home xs) k xs e refl)) (λ d ne. t.had_not_cancelled d);
-      had_not_back = each_set (λ d p. (k : ℕ) → p ≡ Had k → is_listed (list_at (slice_set run.back c (i ∷ list_at run.back c)) d) k ≡ false) run.places (Home []) c (Home xs) there (λ k e. absurd (had_not_home (Home xs) k xs e refl))
-          (λ d ne k e. ap (λ ks. is_listed ks k) (get_or-set_other run.back c d (i ∷ list_at run.back c) [] ne) ∙ t.had_not_back d k e);
+      had_out = λ d k e. t.had_out d k (still d k e).1;
+      had_accessed = λ d k e. t.had_accessed d k (still d k e).1;
+      had_not_cancelled = λ d k e. t.had_not_cancelled d k (still d k e).1;
+      had_not_back = λ d k e. ap (λ ks. is_listed ks k) (get_or-set_other run.back c d (i ∷ list_at run.back c) [] (still d k e).0) ∙ t.had_not_back d k (still d k e).1;
       over_back = λ d k o a n. one_more run.back c i lists_there d k (t.over_back d k o a n);
       back_started = λ d k l. elim (one_cases run.back c i lists_there d k l) [ inl e ↦ ap (started run.stages) e.1 ∙ out_started (stage_at run.stages i) is_out | inr r ↦ t.back_started d k r ];
       back_accessed = λ d k l. elim (one_cases run.back c i lists_there d k l) [ inl e ↦ subst (λ x. AccessesColumn g k x) (sym e.0) (subst (λ x. AccessesColumn g x c) (sym e.1) (t.had_accessed c i h)) | inr r ↦ t.back_accessed d k r ];
@@ -154,12 +148,4 @@ back_columns {g} {run} s c i h xs made =
 
 -- a line put back on a column that it has: its cells are those that it had, changed as in the evaluation
 pub column_back-sound : {g : GraphValue} {run : Run} → Sound g run → (c i : ℕ) (xs : List ℕ) → MayPutBackColumn g run c i xs → Sound g (column_back run c i xs)
-column_back-sound {g} {run} s c i xs m = record {
-  graph = s.graph;
-  accepted = s.accepted;
-  on_lines = s.on_lines;
-  on_columns = back_columns s c i m.has xs m.changed;
-  on_phases = s.on_phases;
-  on_locks = s.on_locks;
-  on_times = s.on_times;
-}
+column_back-sound {g} {run} s c i xs m = with_columns s (slice_set run.places c (Home xs)) (slice_set run.back c (i ∷ list_at run.back c)) (back_columns s c i m.has xs m.changed)

@@ -1,8 +1,7 @@
 -- The premises are met: whole runs of small graphs, from the start to a quiet state, in another order than the evaluation's.
-use Rattle.std.proofs.Common.{◌≡◌, ℕ, zero, suc, ◌<◌, ◌≤◌, Bool, true, false, not, ◌&&◌, ◌⊎◌, inl, inr, List, [], ◌∷◌, length, refl, sym, ◌∙◌, ap, subst, lit<, lit≤, arith}
+use Rattle.std.proofs.Common.{◌≡◌, ℕ, zero, suc, ◌<◌, ◌≤◌, Bool, true, false, not, ◌&&◌, ◌⊎◌, inl, inr, List, [], ◌∷◌, length, refl, sym, ◌∙◌, ap, subst, lit≤, arith}
 use Rattle.std.specs.Prelude.{◌≢◌, ◌==◌, Option, Some, None, slice_get}
 use Rattle.std.specs.List.{list_all}
-use Rattle.std.specs.Fmt.{digits}
 use Rattle.std.proofs.lemmas.Bool.{true≢false, cases_lt, eq-eqb, and_parts, not-true}
 use Rattle.std.proofs.lemmas.Option.{none-some, same_Some}
 use Rattle.std.proofs.lemmas.List.{get_or-set_same}
@@ -17,7 +16,9 @@ use Rattle.graph_model.specs.Fits.{IsGraph}
 use Rattle.graph_model.proofs.Examples.{one_fill, two_sections, reserved_sums}
 use Rattle.basics.proofs.ListFacts.{passes_each}
 use Rattle.graph_model.proofs.RulesTable.{implies, implied, accepted_by_tests}
-use Rattle.graph_model.proofs.ExampleAccepted.{reserved_sums-accepted}
+use Rattle.graph_model.proofs.ExampleGraphs.{one_fill-fits, two_sections-fits}
+use Rattle.graph_model.proofs.ExampleAccepted.{two_sections-accepted, reserved_sums-accepted}
+use Rattle.graph_model.proofs.ExampleOrder.{reserved_sums-fits}
 use Rattle.run_state.specs.Run.{LineStage, Unissued, Issued, Out, Ending, Ended, Place, Home, Had, Run, stage_at, time_at, place_at, list_at, stage_issued, stage_out, stage_over, stage_ended, ended, issued}
 use Rattle.run_state.specs.Sound.{Sound}
 use Rattle.run_state.specs.Moves.{issue}
@@ -194,13 +195,6 @@ quiet_by_tests g run b h all = record {
 }
 
 -- one fill
-one_fill-fits : IsGraph one_fill
-unfolding digits
-one_fill-fits = record {
-  decls = ((refl, (lit< tt, (lit≤ tt, lit≤ tt, lit< tt, tt))), refl, ((refl, lit< tt, (refl, tt)), refl, tt));
-  lines = (record { named = refl; values = lit< tt }, refl, tt);
-}
-
 one_fill-accepted : Accepted one_fill
 one_fill-accepted = accepted_by_tests one_fill (record { range = refl; acyclic = refl; released = refl; sections = refl; descends = refl; release_faults = refl; races = refl })
 
@@ -222,28 +216,6 @@ filled-quiet : Quiet one_fill filled
 filled-quiet = quiet_by_tests one_fill filled filled-between refl first_below
 
 -- two sections of one reservation, the second of which comes first
-two_sections-fits : IsGraph two_sections
-unfolding digits
-two_sections-fits = record {
-  decls = (refl, refl, tt);
-  lines = (
-    record { named = refl; values = tt },
-    refl,
-    (
-      record { named = refl; values = tt },
-      refl,
-      (
-        record { named = refl; values = tt },
-        refl,
-        (record { named = refl; values = tt }, refl, (record { named = refl; values = tt }, refl, (record { named = refl; values = tt }, refl, tt))),
-      ),
-    ),
-  );
-}
-
-two_sections-accepted : Accepted two_sections
-two_sections-accepted = accepted_by_tests two_sections (record { range = refl; acyclic = refl; released = refl; sections = refl; descends = refl; release_faults = refl; races = refl })
-
 abbrev second_first : List ℕ
 second_first = 3 ∷ 4 ∷ 5 ∷ 0 ∷ 1 ∷ 2 ∷ []
 
@@ -283,45 +255,6 @@ both_over-gives = quiet_gives two_sections both_over both_over-between.sound bot
     (slots_by_times two_sections both_over both_over-between.sound both_over-quiet second_first refl both_over-at)
 
 -- sums under one reservation, the second section first
-reserved_sums-fits : IsGraph reserved_sums
-unfolding digits
-reserved_sums-fits = record {
-  decls = ((refl, (lit< tt, (lit≤ tt, lit≤ tt, lit< tt, tt))), refl, ((refl, lit< tt, (refl, (refl, (refl, tt)))), refl, (refl, refl, tt)));
-  lines = (
-    record { named = refl; values = lit< tt },
-    refl,
-    (
-      record { named = refl; values = lit< tt },
-      refl,
-      (
-        record { named = refl; values = tt },
-        refl,
-        (
-          record { named = refl; values = tt },
-          refl,
-          (
-            record { named = refl; values = tt },
-            refl,
-            (
-              record { named = refl; values = tt },
-              refl,
-              (
-                record { named = refl; values = tt },
-                refl,
-                (
-                  record { named = refl; values = tt },
-                  refl,
-                  (record { named = refl; values = tt }, refl, (record { named = refl; values = tt }, refl, tt)),
-                ),
-              ),
-            ),
-          ),
-        ),
-      ),
-    ),
-  );
-}
-
 abbrev sums_order : List ℕ
 sums_order = 1 ∷ 6 ∷ 7 ∷ 8 ∷ 9 ∷ 0 ∷ 2 ∷ 3 ∷ 4 ∷ 5 ∷ []
 

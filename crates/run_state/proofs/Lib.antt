@@ -1,6 +1,7 @@
 pub mod Lists
 pub mod Counts
 pub mod Known
+pub mod SoundParts
 pub mod Started
 pub mod Columns
 pub mod Times

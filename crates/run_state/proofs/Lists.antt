@@ -53,25 +53,19 @@ map_same f h (x ∷ xs) e = ap (λ y. y ∷ map f xs) (e x) ∙ ap (λ ys. h x �
 
 -- tests of stages
 pub out_started : (s : LineStage) → stage_out s ≡ true → stage_started s ≡ true
-out_started Out h = refl
-out_started (Ending x) h = refl
-out_started (Ended x) h = refl
 out_started Unissued h = h
 out_started Issued h = h
+out_started _ h = refl
 
 pub over_started : (s : LineStage) → stage_over s ≡ true → stage_started s ≡ true
-over_started Out h = refl
-over_started (Ending x) h = refl
-over_started (Ended x) h = refl
 over_started Unissued h = h
 over_started Issued h = h
+over_started _ h = refl
 
 pub ended_over : (s : LineStage) → stage_ended s ≡ true → stage_over s ≡ true
 ended_over (Ending x) h = refl
 ended_over (Ended x) h = refl
-ended_over Out h = h
-ended_over Unissued h = h
-ended_over Issued h = h
+ended_over _ h = h
 
 pub started_cases : (s : LineStage) → stage_started s ≡ true → (stage_out s ≡ true) ⊎ (stage_over s ≡ true)
 started_cases Out h = inl refl
@@ -82,17 +76,12 @@ started_cases Issued h = inl h
 
 pub ended_keeps : (s : LineStage) → stage_ended s ≡ true → (x : End) × (s ≡ Ended x)
 ended_keeps (Ended x) h = (x, refl)
-ended_keeps (Ending x) h = absurd (true≢false (sym h))
-ended_keeps Out h = absurd (true≢false (sym h))
-ended_keeps Issued h = absurd (true≢false (sym h))
-ended_keeps Unissued h = absurd (true≢false (sym h))
+ended_keeps _ h = absurd (true≢false (sym h))
 
 pub over_keeps : (s : LineStage) → stage_over s ≡ true → kept_end s ≡ Some (end_so_far s)
 over_keeps (Ended x) h = refl
 over_keeps (Ending x) h = refl
-over_keeps Out h = absurd (true≢false (sym h))
-over_keeps Issued h = absurd (true≢false (sym h))
-over_keeps Unissued h = absurd (true≢false (sym h))
+over_keeps _ h = absurd (true≢false (sym h))
 
 pub out_not_over : (s : LineStage) → stage_out s ≡ true → stage_over s ≡ false
 out_not_over Out h = refl
@@ -102,29 +91,20 @@ out_not_over Issued h = refl
 out_not_over Unissued h = refl
 
 pub out_not_ended : (s : LineStage) → stage_out s ≡ true → stage_ended s ≡ false
-out_not_ended Out h = refl
-out_not_ended (Ending x) h = refl
 out_not_ended (Ended x) h = absurd (true≢false (sym h))
-out_not_ended Issued h = refl
-out_not_ended Unissued h = refl
+out_not_ended _ h = refl
 
 pub out_is : (s : LineStage) → stage_out s ≡ true → s ≡ Out
 out_is Out h = refl
-out_is (Ending x) h = absurd (true≢false (sym h))
-out_is (Ended x) h = absurd (true≢false (sym h))
-out_is Issued h = absurd (true≢false (sym h))
-out_is Unissued h = absurd (true≢false (sym h))
+out_is _ h = absurd (true≢false (sym h))
 
 -- a line that has a stage besides unissued is there
 pub stage_there : (stages : List LineStage) (i : ℕ) → stage_issued (stage_at stages i) ≡ true → i < length stages
 stage_there stages i h = is_there stages Unissued i (λ e. true≢false (sym h ∙ ap stage_issued e))
 
 pub started_issued : (s : LineStage) → stage_started s ≡ true → stage_issued s ≡ true
-started_issued Out h = refl
-started_issued (Ending x) h = refl
-started_issued (Ended x) h = refl
-started_issued Issued h = refl
 started_issued Unissued h = h
+started_issued _ h = refl
 
 -- an option that is some
 pub some_is : {X : Type 0} (o : Option X) → is_some o ≡ true → (x : X) × (o ≡ Some x)

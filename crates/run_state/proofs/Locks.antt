@@ -1,8 +1,8 @@
 -- The steps of reservations keep the state sound.
-use Rattle.std.proofs.Common.{◌≡◌, ℕ, ◌<◌, true, inl, inr, List, [], ◌∷◌, length, refl, sym, ◌∙◌, ap, subst, length-set}
+use Rattle.std.proofs.Common.{◌≡◌, ℕ, ◌<◌, true, ◌⊎◌, inl, inr, List, [], ◌∷◌, length, refl, sym, ◌∙◌, ap, subst, length-set}
 use Rattle.std.specs.Prelude.{◌≢◌, slice_set}
 use Rattle.std.proofs.lemmas.Bool.{true≢false, cases_eq}
-use Rattle.graph_model.specs.declared.outcome.End.TheVariants.{Cancelled}
+use Rattle.graph_model.specs.declared.outcome.End.TheVariants.{Done, Cancelled}
 use Rattle.graph_model.specs.Graph.{GraphValue}
 use Rattle.graph_model.specs.Rules.{Acquires, Releases}
 use Rattle.graph_model.specs.Evaluation.{eval_end}
@@ -13,6 +13,7 @@ use Rattle.run_state.proofs.Lists.{each_set, listed_here, listed_there, listed_c
 use Rattle.graph_model.proofs.ReleaseFacts.{acquired_lock_known}
 use Rattle.graph_model.proofs.VerbFacts.{release_one, acquire_one}
 use Rattle.run_state.proofs.Columns.{with_one, one_more, one_cases}
+use Rattle.run_state.proofs.SoundParts.{with_locks}
 use Rattle.run_state.specs.Premises.{MayHold, MayLetGo, MayFree}
 
 -- one number fewer in one of the lists
@@ -30,11 +31,15 @@ module _ (lists : List (List ℕ)) (l q : ℕ) (there : l < length lists) where
   one_stays = each_set (λ m ks. (k : ℕ) → is_listed (list_at lists m) k ≡ true → (m ≡ l → k ≡ q → ⊥) → is_listed ks k ≡ true) lists [] l (without q (list_at lists l)) there
       (λ k h ne. without_listed q k (list_at lists l) h (ne refl)) (λ m ne k h x. h)
 
+-- a reservation that is acquired is one of the graph
+lock_there : {g : GraphValue} {run : Run} → Sound g run → (l q : ℕ) → Acquires g q l → l < length run.holders
+lock_there {g} {run} s l q a = subst (λ n. l < n) (sym s.on_locks.each_lock) (acquired_lock_known g s.graph q l a)
+
 hold_locks : {g : GraphValue} {run : Run} → Sound g run → (l q : ℕ) → MayHold g run l q → SoundLocks g run.stages run.times (slice_set run.holders l (q ∷ list_at run.holders l)) run.freed
 unfolding with_one
 hold_locks {g} {run} s l q m =
     let t = s.on_locks in
-    let there : l < length run.holders = subst (λ n. l < n) (sym t.each_lock) (acquired_lock_known g s.graph q l m.acquires) in
+    let there = lock_there s l q m.acquires in
     let nobody : (k : ℕ) → is_listed (list_at run.holders l) k ≡ true → ⊥ = λ k h. none_listed k (subst (λ ks. is_listed ks k ≡ true) m.is_free h) in
     record {
       each_lock = length-set run.holders l (q ∷ list_at run.holders l) ∙ t.each_lock;
@@ -64,93 +69,73 @@ hold_locks {g} {run} s l q m =
 
 -- a reservation taken
 pub hold-sound : {g : GraphValue} {run : Run} → Sound g run → (l q : ℕ) → MayHold g run l q → Sound g (hold run l q)
-hold-sound {g} {run} s l q m = record {
-  graph = s.graph;
-  accepted = s.accepted;
-  on_lines = s.on_lines;
-  on_columns = s.on_columns;
-  on_phases = s.on_phases;
-  on_locks = hold_locks s l q m;
-  on_times = s.on_times;
-}
+hold-sound {g} {run} s l q m = with_locks s (slice_set run.holders l (q ∷ list_at run.holders l)) run.freed (hold_locks s l q m)
 
+-- one holder fewer
+less_locks : {g : GraphValue} {run : Run} → Sound g run → (l q : ℕ) → Acquires g q l → (freed : List ℕ)
+    → ((j k : ℕ) → Acquires g k j → timed run.times k ≡ true → eval_end g k ≢ Cancelled → (is_listed (list_at (slice_set run.holders l (without q (list_at run.holders l))) j) k ≡ true) ⊎ ((r : ℕ) × Releases g r k × (is_listed freed r ≡ true)))
+    → ((r : ℕ) → is_listed freed r ≡ true → over run.stages r ≡ true) → ((r k : ℕ) → Releases g r k → is_listed freed r ≡ true → ended run.stages k ≡ true) → ((r k : ℕ) → Releases g r k → is_listed freed r ≡ true → eval_end g k ≡ Done)
+    → ((j k r : ℕ) → Releases g r k → is_listed freed r ≡ true → is_listed (list_at (slice_set run.holders l (without q (list_at run.holders l))) j) k ≡ true → ⊥)
+    → ((r k : ℕ) → Releases g r k → ended run.stages r ≡ true → eval_end g k ≡ Done → is_listed freed r ≡ true)
+    → SoundLocks g run.stages run.times (slice_set run.holders l (without q (list_at run.holders l))) freed
+unfolding less_one
+less_locks {g} {run} s l q a freed timed_holds freed_over freed_ended freed_done freed_gone ended_freed =
+    let t = s.on_locks in
+    let was : (j k : ℕ) → is_listed (list_at (slice_set run.holders l (without q (list_at run.holders l))) j) k ≡ true → is_listed (list_at run.holders j) k ≡ true = λ j k h. (one_less run.holders l q (lock_there s l q a) j k h).0 in
+    record {
+      each_lock = length-set run.holders l (without q (list_at run.holders l)) ∙ t.each_lock;
+      holder_acquires = λ j k h. t.holder_acquires j k (was j k h);
+      holder_started = λ j k h. t.holder_started j k (was j k h);
+      holder_not_cancelled = λ j k h. t.holder_not_cancelled j k (was j k h);
+      holder_alone = λ j k i hk hi. t.holder_alone j k i (was j k hk) (was j i hi);
+      timed_holds = timed_holds;
+      freed_over = freed_over;
+      freed_ended = freed_ended;
+      freed_done = freed_done;
+      freed_gone = freed_gone;
+      ended_freed = ended_freed;
+    }
+
+-- an acquire holds its reservation no more
 let_go_locks : {g : GraphValue} {run : Run} → Sound g run → (l q : ℕ) → MayLetGo g run l q → SoundLocks g run.stages run.times (slice_set run.holders l (without q (list_at run.holders l))) run.freed
 unfolding less_one
 let_go_locks {g} {run} s l q m =
     let t = s.on_locks in
-    let there : l < length run.holders = subst (λ n. l < n) (sym t.each_lock) (acquired_lock_known g s.graph q l m.acquires) in
-    record {
-      each_lock = length-set run.holders l (without q (list_at run.holders l)) ∙ t.each_lock;
-      holder_acquires = λ j k h. t.holder_acquires j k (one_less run.holders l q there j k h).0;
-      holder_started = λ j k h. t.holder_started j k (one_less run.holders l q there j k h).0;
-      holder_not_cancelled = λ j k h. t.holder_not_cancelled j k (one_less run.holders l q there j k h).0;
-      holder_alone = λ j a b ha hb. t.holder_alone j a b (one_less run.holders l q there j a ha).0 (one_less run.holders l q there j b hb).0;
-      timed_holds = λ j k a h n. elim (t.timed_holds j k a h n) [
-        | inl held ↦ inl (one_stays run.holders l q there j k held (λ ej ek. true≢false (sym h ∙ (ap (timed run.times) ek ∙ m.untimed))))
-        | inr f ↦ inr f
-      ];
-      freed_over = t.freed_over;
-      freed_ended = t.freed_ended;
-      freed_done = t.freed_done;
-      freed_gone = λ j k r rel f h. t.freed_gone j k r rel f (one_less run.holders l q there j k h).0;
-      ended_freed = t.ended_freed;
-    }
+    let there = lock_there s l q m.acquires in
+    less_locks s l q m.acquires run.freed
+    (λ j k a h n. elim (t.timed_holds j k a h n) [
+      | inl held ↦ inl (one_stays run.holders l q there j k held (λ ej ek. true≢false (sym h ∙ (ap (timed run.times) ek ∙ m.untimed))))
+      | inr f ↦ inr f
+    ])
+    t.freed_over t.freed_ended t.freed_done (λ j k r rel f h. t.freed_gone j k r rel f (one_less run.holders l q there j k h).0) t.ended_freed
 
 -- a reservation let go
 pub let_go-sound : {g : GraphValue} {run : Run} → Sound g run → (l q : ℕ) → MayLetGo g run l q → Sound g (let_go run l q)
-let_go-sound {g} {run} s l q m = record {
-  graph = s.graph;
-  accepted = s.accepted;
-  on_lines = s.on_lines;
-  on_columns = s.on_columns;
-  on_phases = s.on_phases;
-  on_locks = let_go_locks s l q m;
-  on_times = s.on_times;
-}
+let_go-sound {g} {run} s l q m = with_locks s (slice_set run.holders l (without q (list_at run.holders l))) run.freed (let_go_locks s l q m)
 
 free_locks : {g : GraphValue} {run : Run} → Sound g run → (r l q : ℕ) → MayFree g run r l q → SoundLocks g run.stages run.times (slice_set run.holders l (without q (list_at run.holders l))) (r ∷ run.freed)
 unfolding less_one
 free_locks {g} {run} s r l q m =
     let t = s.on_locks in
-    let there : l < length run.holders = subst (λ n. l < n) (sym t.each_lock) (acquired_lock_known g s.graph q l m.acquires) in
-    record {
-      each_lock = length-set run.holders l (without q (list_at run.holders l)) ∙ t.each_lock;
-      holder_acquires = λ j k h. t.holder_acquires j k (one_less run.holders l q there j k h).0;
-      holder_started = λ j k h. t.holder_started j k (one_less run.holders l q there j k h).0;
-      holder_not_cancelled = λ j k h. t.holder_not_cancelled j k (one_less run.holders l q there j k h).0;
-      holder_alone = λ j a b ha hb. t.holder_alone j a b (one_less run.holders l q there j a ha).0 (one_less run.holders l q there j b hb).0;
-      timed_holds = λ j k a h n. elim (t.timed_holds j k a h n) [
-        | inl held ↦ elim (cases_eq k q) [
-          | inl same ↦ inr (r, subst (λ x. Releases g r x) (sym same) m.releases, listed_here r run.freed)
-          | inr ne ↦ inl (one_stays run.holders l q there j k held (λ ej ek. ne ek))
-        ]
-        | inr f ↦ inr (f.0, f.1, listed_there r f.0 run.freed f.2)
-      ];
-      freed_over = λ k h. elim (listed_cases r k run.freed h) [ inl e ↦ ap (over run.stages) e ∙ m.is_over | inr old ↦ t.freed_over k old ];
-      freed_ended = λ k a rel h. elim (listed_cases r k run.freed h) [
-        | inl e ↦ ap (ended run.stages) (release_one g r a q (subst (λ x. Releases g x a) e rel) m.releases) ∙ m.acquire_ended
-        | inr old ↦ t.freed_ended k a rel old
-      ];
-      freed_done = λ k a rel h. elim (listed_cases r k run.freed h) [
-        | inl e ↦ ap (eval_end g) (release_one g r a q (subst (λ x. Releases g x a) e rel) m.releases) ∙ m.acquire_done
-        | inr old ↦ t.freed_done k a rel old
-      ];
-      freed_gone = λ j a k rel f h. let w = one_less run.holders l q there j a h in elim (listed_cases r k run.freed f) [
-        | inl e ↦ (let same : a ≡ q = release_one g r a q (subst (λ x. Releases g x a) e rel) m.releases in
-            w.1 (acquire_one g q j l (subst (λ x. Acquires g x j) same (t.holder_acquires j a w.0)) m.acquires) same)
-        | inr old ↦ t.freed_gone j a k rel old w.0
-      ];
-      ended_freed = λ k a rel h d. listed_there r k run.freed (t.ended_freed k a rel h d);
-    }
+    let there = lock_there s l q m.acquires in
+    let this_one : (k a : ℕ) → k ≡ r → Releases g k a → a ≡ q = λ k a e rel. release_one g r a q (subst (λ x. Releases g x a) e rel) m.releases in
+    less_locks s l q m.acquires (r ∷ run.freed)
+    (λ j k a h n. elim (t.timed_holds j k a h n) [
+      | inl held ↦ elim (cases_eq k q) [
+        | inl same ↦ inr (r, subst (λ x. Releases g r x) (sym same) m.releases, listed_here r run.freed)
+        | inr ne ↦ inl (one_stays run.holders l q there j k held (λ ej ek. ne ek))
+      ]
+      | inr f ↦ inr (f.0, f.1, listed_there r f.0 run.freed f.2)
+    ])
+    (λ k h. elim (listed_cases r k run.freed h) [ inl e ↦ ap (over run.stages) e ∙ m.is_over | inr old ↦ t.freed_over k old ])
+    (λ k a rel h. elim (listed_cases r k run.freed h) [ inl e ↦ ap (ended run.stages) (this_one k a e rel) ∙ m.acquire_ended | inr old ↦ t.freed_ended k a rel old ])
+    (λ k a rel h. elim (listed_cases r k run.freed h) [ inl e ↦ ap (eval_end g) (this_one k a e rel) ∙ m.acquire_done | inr old ↦ t.freed_done k a rel old ])
+    (λ j a k rel f h. let w = one_less run.holders l q there j a h in elim (listed_cases r k run.freed f) [
+      | inl e ↦ (let same : a ≡ q = this_one k a e rel in w.1 (acquire_one g q j l (subst (λ x. Acquires g x j) same (t.holder_acquires j a w.0)) m.acquires) same)
+      | inr old ↦ t.freed_gone j a k rel old w.0
+    ])
+    (λ k a rel h d. listed_there r k run.freed (t.ended_freed k a rel h d))
 
 -- a reservation freed
 pub free-sound : {g : GraphValue} {run : Run} → Sound g run → (r l q : ℕ) → MayFree g run r l q → Sound g (free run r l q)
-free-sound {g} {run} s r l q m = record {
-  graph = s.graph;
-  accepted = s.accepted;
-  on_lines = s.on_lines;
-  on_columns = s.on_columns;
-  on_phases = s.on_phases;
-  on_locks = free_locks s r l q m;
-  on_times = s.on_times;
-}
+free-sound {g} {run} s r l q m = with_locks s (slice_set run.holders l (without q (list_at run.holders l))) (r ∷ run.freed) (free_locks s r l q m)

@@ -16,6 +16,7 @@ use Rattle.run_state.specs.Sound.{is_arrive, value_for, Once, SoundPhases, Sound
 use Rattle.run_state.specs.Moves.{arrive}
 use Rattle.std.proofs.lemmas.List.Sums.{fold_push}
 use Rattle.graph_model.proofs.VerbFacts.{verb_below}
+use Rattle.run_state.proofs.SoundParts.{with_phases}
 use Rattle.run_state.proofs.Lists.{listed_there, listed_contains, contains_listed, out_started}
 use Rattle.std.proofs.lemmas.List.Elements.{Contains-push_cases, Contains-append_left, filter_map-append}
 use Rattle.run_state.specs.Premises.{MayArrive}
@@ -95,12 +96,4 @@ arrive_phases {g} {run} s o i p v m =
 
 -- an arrival put in
 pub arrive-sound : {g : GraphValue} {run : Run} → Sound g run → (o : Op) (i p v : ℕ) → MayArrive g run o i p v → Sound g (arrive run o i p v)
-arrive-sound {g} {run} s o i p v m = record {
-  graph = s.graph;
-  accepted = s.accepted;
-  on_lines = s.on_lines;
-  on_columns = s.on_columns;
-  on_phases = arrive_phases s o i p v m;
-  on_locks = s.on_locks;
-  on_times = s.on_times;
-}
+arrive-sound {g} {run} s o i p v m = with_phases s (slice_set run.values p (combined o (slice_index run.values p) v)) (run.arrived ++ i ∷ []) (arrive_phases s o i p v m)

@@ -99,19 +99,8 @@ for_fresh g i Waiting f = f
 
 -- an arrival by its end
 arrival_is_by : (g : GraphValue) (v : Verb) (a : Op × ℕ × ℕ) → arrival_by g v ≡ Some a → (v ≡ Arrive a.1 a.2) × (phase_op g a.1 ≡ a.0)
-arrival_is_by g User a h = absurd (none-some a h)
-arrival_is_by g (Trigger k) a h = absurd (none-some a h)
-arrival_is_by g (Cancel k) a h = absurd (none-some a h)
-arrival_is_by g (Merge ks) a h = absurd (none-some a h)
-arrival_is_by g (MergeIgnore ks) a h = absurd (none-some a h)
-arrival_is_by g (Phase k) a h = absurd (none-some a h)
 arrival_is_by g (Arrive k w) a h = (let e : (phase_op g k, k, w) ≡ a = same_Some (phase_op g k, k, w) a h in (ap (λ (y : Op × ℕ × ℕ). Arrive y.1 y.2) e, ap (λ (y : Op × ℕ × ℕ). phase_op g y.1) (sym e) ∙ ap (λ (y : Op × ℕ × ℕ). y.0) e))
-arrival_is_by g (Acquire k) a h = absurd (none-some a h)
-arrival_is_by g (Release k) a h = absurd (none-some a h)
-arrival_is_by g (Fill t s w) a h = absurd (none-some a h)
-arrival_is_by g (Copy x y s) a h = absurd (none-some a h)
-arrival_is_by g (Reduce o x y s) a h = absurd (none-some a h)
-arrival_is_by g (Task k) a h = absurd (none-some a h)
+arrival_is_by g _ a h = absurd (none-some a h)
 
 arrival_is_of : (g : GraphValue) (o : Option Verb) (a : Op × ℕ × ℕ) → option_map_or (arrival_by g) o None ≡ Some a → (o ≡ Some (Arrive a.1 a.2)) × (phase_op g a.1 ≡ a.0)
 arrival_is_of g None a h = absurd (none-some a h)
@@ -124,19 +113,8 @@ arrival_found g i Faulted a h = let r = arrival_is_of g (verb_at g i) a h in (λ
 arrival_found g i Waiting a h = let r = arrival_is_of g (verb_at g i) a h in (λ e. cc, r.0, r.1)
 
 arrives_by : (v : Verb) → is_arrive v ≡ true → (p w : ℕ) × (v ≡ Arrive p w)
-arrives_by User h = absurd (true≢false (sym h))
-arrives_by (Trigger k) h = absurd (true≢false (sym h))
-arrives_by (Cancel k) h = absurd (true≢false (sym h))
-arrives_by (Merge ks) h = absurd (true≢false (sym h))
-arrives_by (MergeIgnore ks) h = absurd (true≢false (sym h))
-arrives_by (Phase k) h = absurd (true≢false (sym h))
 arrives_by (Arrive k w) h = (k, w, refl)
-arrives_by (Acquire k) h = absurd (true≢false (sym h))
-arrives_by (Release k) h = absurd (true≢false (sym h))
-arrives_by (Fill t s w) h = absurd (true≢false (sym h))
-arrives_by (Copy x y s) h = absurd (true≢false (sym h))
-arrives_by (Reduce o x y s) h = absurd (true≢false (sym h))
-arrives_by (Task k) h = absurd (true≢false (sym h))
+arrives_by _ h = absurd (true≢false (sym h))
 
 some_arrival_of : (g : GraphValue) (o : Option Verb) (p w : ℕ) → o ≡ Some (Arrive p w) → option_map_or (arrival_by g) o None ≡ Some (phase_op g p, p, w)
 some_arrival_of g o p w e = ap (λ (x : Option Verb). option_map_or (arrival_by g) x None) e

@@ -56,6 +56,15 @@ release_comes g r q rel =
     let v = passes_verb (is_release_of q) g r rel in
     verb_passes (never_comes_as g r) g r v.0 v.1 ∙ ap (never_comes_as g r) (release_of_is q v.0 v.2)
 
+-- an acquire that holds has a release, which is left
+pub release_left : (g : GraphValue) (run : Run) → Sound g run → (l h : ℕ) → is_listed (list_at run.holders l) h ≡ true → (r : ℕ) × Releases g r h × (ended run.stages r ≡ false)
+release_left g run s l h held =
+    let acquires : Acquires g h l = s.on_locks.holder_acquires l h held in
+    let begun : started run.stages h ≡ true = s.on_locks.holder_started l h held in
+    let done : eval_end g h ≡ Done = acquire_done g h l acquires (started_ends s.graph s.accepted s.on_lines h begun) (s.on_locks.holder_not_cancelled l h held) in
+    let r = s.accepted.released h l acquires in
+    (r.0, r.1, false_from_ne_true (ended run.stages r.0) (λ e. s.on_locks.freed_gone l h r.0 r.1 (s.on_locks.ended_freed r.0 h r.1 e done) held))
+
 module _ (g : GraphValue) (run : Run) (s : Sound g run) (q : Quiet g run) where
   -- a line that was taken is ended
   pub quiet_ended : (i : ℕ) → started run.stages i ≡ true → ended run.stages i ≡ true
@@ -72,10 +81,8 @@ module _ (g : GraphValue) (run : Run) (s : Sound g run) (q : Quiet g run) where
   nobody_holds_from (suc m) l h few held =
       let acquires : Acquires g h l = s.on_locks.holder_acquires l h held in
       let begun : started run.stages h ≡ true = s.on_locks.holder_started l h held in
-      let done : eval_end g h ≡ Done = acquire_done g h l acquires (started_ends s.graph s.accepted s.on_lines h begun) (s.on_locks.holder_not_cancelled l h held) in
-      let r = s.accepted.released h l acquires in
-      let left : ended run.stages r.0 ≡ false = false_from_ne_true (ended run.stages r.0) (λ e. s.on_locks.freed_gone l h r.0 r.1 (s.on_locks.ended_freed r.0 h r.1 e done) held) in
-      elim (ready_or_never (edges g) (length g.lines) (never_comes g) (ended run.stages) (λ e c. (edges_in_range g s.graph e c).0) s.accepted.acyclic r.0 (passes_below (is_release_of h) g r.0 r.1) left) [
+      let r = release_left g run s l h held in
+      elim (ready_or_never (edges g) (length g.lines) (never_comes g) (ended run.stages) (λ e c. (edges_in_range g s.graph e c).0) s.accepted.acyclic r.0 (passes_below (is_release_of h) g r.0 r.1) r.2) [
         | inl ready ↦ (
             let b = ready_blocked ready.0 ready.1 in
             elim ready.2 [

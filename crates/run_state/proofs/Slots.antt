@@ -3,11 +3,10 @@ use Rattle.std.proofs.Common.{◌≡◌, ℕ, zero, suc, ◌+◌, ◌<◌, ◌�
 use Rattle.std.specs.Prelude.{Contains, nat_lt, Option, Some, flat_map, count_by, slice_get, slice_index, option_map}
 use Rattle.std.specs.Option.{option_map_or}
 use Rattle.std.proofs.Math.Seq.{take-suc}
-use Rattle.std.proofs.lemmas.Bool.{true≢false, cases_lt, lt-ltb, false_from_ne_true, not-true}
+use Rattle.std.proofs.lemmas.Bool.{true≢false, cases_lt, lt-ltb, not-true}
 use Rattle.std.proofs.lemmas.List.Sums.{fold_push}
 use Rattle.std.proofs.lemmas.List.Elements.{Contains-append_left, Contains-append_right}
 use Rattle.basics.specs.Lists.{numbers_below, count_below}
-use Rattle.graph_model.specs.declared.outcome.End.TheVariants.{Done}
 use Rattle.graph_model.specs.declared.verb.Edge.{Edge}
 use Rattle.graph_model.specs.declared.verb.EdgeKind.TheVariants.{Passes}
 use Rattle.graph_model.specs.declared.verb.Line.{Line}
@@ -16,7 +15,6 @@ use Rattle.graph_model.specs.Graph.{GraphValue, never_comes, verb_at, locks, is_
 use Rattle.graph_model.specs.Edges.{edge, edges}
 use Rattle.graph_model.specs.Path.{Path, last, first}
 use Rattle.graph_model.specs.Rules.{Acquires, Releases}
-use Rattle.graph_model.specs.Evaluation.{eval_end}
 use Rattle.graph_model.specs.Need.{places, rivals, acquires_after, release_edges, need_edges, Precedes, IsHigh, largest, open_at, IsNeed}
 use Rattle.basics.proofs.ListFacts.{contains_none, contains_cases, contains_here, contains_there, contains_map, contains_below}
 use Rattle.graph_model.proofs.PathLaws.{path_append}
@@ -28,8 +26,8 @@ use Rattle.run_state.specs.Run.{Run, is_listed, list_at, started, ended}
 use Rattle.run_state.specs.Sound.{Sound}
 use Rattle.run_state.specs.Quiet.{Stuck, left_among}
 use Rattle.graph_model.proofs.ReleaseFacts.{acquired_lock_known}
-use Rattle.run_state.proofs.Started.{path_ended, started_ends}
-use Rattle.run_state.proofs.Quiet.{acquire_done, release_no_acquire}
+use Rattle.run_state.proofs.Started.{path_ended}
+use Rattle.run_state.proofs.Quiet.{release_no_acquire, release_left}
 use Rattle.run_state.proofs.Stuck.{Blocked, stuck_ended, stuck_issued, blocked}
 
 -- the edges of the need: those of the graph, and from each release to each acquire of its reservation
@@ -99,12 +97,10 @@ module _ (g : GraphValue) (run : Run) (s : Sound g run) (k : ℕ) (q : Stuck g r
   holder_open (suc n) l h few held =
       let acquires : Acquires g h l = s.on_locks.holder_acquires l h held in
       let begun : started run.stages h ≡ true = s.on_locks.holder_started l h held in
-      let done : eval_end g h ≡ Done = acquire_done g h l acquires (started_ends s.graph s.accepted s.on_lines h begun) (s.on_locks.holder_not_cancelled l h held) in
-      let r = s.accepted.released h l acquires in
-      let left : ended run.stages r.0 ≡ false = false_from_ne_true (ended run.stages r.0) (λ e. s.on_locks.freed_gone l h r.0 r.1 (s.on_locks.ended_freed r.0 h r.1 e done) held) in (
+      let r = release_left g run s l h held in (
         r.0,
         r.1,
-        elim (ready_or_never (edges g) (length g.lines) (never_comes g) (ended run.stages) (λ e c. (edges_in_range g s.graph e c).0) s.accepted.acyclic r.0 (passes_below (is_release_of h) g r.0 r.1) left) [
+        elim (ready_or_never (edges g) (length g.lines) (never_comes g) (ended run.stages) (λ e c. (edges_in_range g s.graph e c).0) s.accepted.acyclic r.0 (passes_below (is_release_of h) g r.0 r.1) r.2) [
           | inl ready ↦ elim (unissued_or_blocked ready.0 ready.1) [
             | inl above ↦ open_at_same g k (ready.0, inl refl, inl above) ready.2
             | inr b ↦ elim ready.2 [

@@ -45,13 +45,18 @@ module _ (g : GraphValue) (run : Run) (sound : Sound g run) (i : ℕ) (s : LineS
   gone : List LineStage
   gone = slice_set run.stages i s
 
+  -- what holds of the line i at its new stage, and of each line at its old one, holds of each
+  each_gone : (P : ℕ → LineStage → Type 0) → P i s → ((k : ℕ) → P k (stage_at run.stages k)) → (k : ℕ) → P k (stage_at gone k)
+  unfolding gone
+  each_gone P here was = each_set P run.stages Unissued i s m.there here (λ k ne. was k)
+
   ended_stays : (k : ℕ) → ended run.stages k ≡ true → ended gone k ≡ true
   unfolding gone
-  ended_stays = each_set (λ k x. ended run.stages k ≡ true → stage_ended x ≡ true) run.stages Unissued i s m.there m.stays (λ k ne h. h)
+  ended_stays = each_gone (λ k x. ended run.stages k ≡ true → stage_ended x ≡ true) m.stays (λ k h. h)
 
   issued_stays : (k : ℕ) → issued run.stages k ≡ true → issued gone k ≡ true
   unfolding gone
-  issued_stays = each_set (λ k x. issued run.stages k ≡ true → stage_issued x ≡ true) run.stages Unissued i s m.there (λ h. m.is_issued) (λ k ne h. h)
+  issued_stays = each_gone (λ k x. issued run.stages k ≡ true → stage_issued x ≡ true) (λ h. m.is_issued) (λ k h. h)
 
   gone_lines : SoundLines g gone
   unfolding gone
@@ -59,72 +64,68 @@ module _ (g : GraphValue) (run : Run) (sound : Sound g run) (i : ℕ) (s : LineS
       let t = sound.on_lines in
       record {
         each_line = length-set run.stages i s ∙ t.each_line;
-        in_order = λ k j less. each_set (λ k x. j < k → stage_issued x ≡ true → issued gone j ≡ true) run.stages Unissued i s m.there
-            (λ less h. issued_stays j (m.before j less)) (λ k ne less h. issued_stays j (t.in_order k j less h)) k less;
-        comes = each_set (λ k x. stage_started x ≡ true → never_comes g k ≡ false) run.stages Unissued i s m.there m.comes (λ k ne. t.comes k);
-        sources = λ e c. each_set (λ k x. e.to ≡ k → stage_started x ≡ true → ended gone e.from ≡ true) run.stages Unissued i s m.there
-            (λ to h. ended_stays e.from (m.sources h e c to)) (λ k ne to h. ended_stays e.from (t.sources e c (ap (started run.stages) to ∙ h))) e.to refl;
-        ends = each_set (λ k x. (y : End) → kept_end x ≡ Some y → eval_end g k ≡ y) run.stages Unissued i s m.there m.ends (λ k ne. t.ends k);
+        in_order = λ k j less. each_gone (λ k x. j < k → stage_issued x ≡ true → issued gone j ≡ true)
+            (λ less h. issued_stays j (m.before j less)) (λ k less h. issued_stays j (t.in_order k j less h)) k less;
+        comes = each_gone (λ k x. stage_started x ≡ true → never_comes g k ≡ false) m.comes t.comes;
+        sources = λ e c. each_gone (λ k x. e.to ≡ k → stage_started x ≡ true → ended gone e.from ≡ true)
+            (λ to h. ended_stays e.from (m.sources h e c to)) (λ k to h. ended_stays e.from (t.sources e c (ap (started run.stages) to ∙ h))) e.to refl;
+        ends = each_gone (λ k x. (y : End) → kept_end x ≡ Some y → eval_end g k ≡ y) m.ends t.ends;
       }
 
   gone_columns : SoundColumns g gone run.places run.back
-  unfolding gone
   gone_columns =
       let t = sound.on_columns in
       record {
         each_column = t.each_column;
         each_back = t.each_back;
-        had_out = λ c. each_set (λ k x. place_at run.places c ≡ Had k → stage_out x ≡ true) run.stages Unissued i s m.there (m.had c) (λ k ne. t.had_out c k);
+        had_out = λ c. each_gone (λ k x. place_at run.places c ≡ Had k → stage_out x ≡ true) (m.had c) (t.had_out c);
         had_accessed = t.had_accessed;
         had_not_cancelled = t.had_not_cancelled;
         had_not_back = t.had_not_back;
-        over_back = λ c. each_set (λ k x. stage_over x ≡ true → AccessesColumn g k c → eval_end g k ≢ Cancelled → is_listed (list_at run.back c) k ≡ true) run.stages Unissued i s m.there (λ h. m.put_back h c) (λ k ne. t.over_back c k);
-        back_started = λ c. each_set (λ k x. is_listed (list_at run.back c) k ≡ true → stage_started x ≡ true) run.stages Unissued i s m.there (m.back c) (λ k ne. t.back_started c k);
+        over_back = λ c. each_gone (λ k x. stage_over x ≡ true → AccessesColumn g k c → eval_end g k ≢ Cancelled → is_listed (list_at run.back c) k ≡ true) (λ h. m.put_back h c) (t.over_back c);
+        back_started = λ c. each_gone (λ k x. is_listed (list_at run.back c) k ≡ true → stage_started x ≡ true) (m.back c) (t.back_started c);
         back_accessed = t.back_accessed;
         back_not_cancelled = t.back_not_cancelled;
         cells = t.cells;
       }
 
   gone_phases : SoundPhases g gone run.values run.arrived
-  unfolding gone
   gone_phases =
       let t = sound.on_phases in
       record {
         each_value = t.each_value;
         value = t.value;
-        arrived_started = each_set (λ k x. is_listed run.arrived k ≡ true → stage_started x ≡ true) run.stages Unissued i s m.there m.arrived (λ k ne. t.arrived_started k);
+        arrived_started = each_gone (λ k x. is_listed run.arrived k ≡ true → stage_started x ≡ true) m.arrived t.arrived_started;
         arrived_arrives = t.arrived_arrives;
         arrived_once = t.arrived_once;
         arrived_not_cancelled = t.arrived_not_cancelled;
-        over_arrived = each_set (λ k x. stage_over x ≡ true → line_passes is_arrive g k ≡ true → eval_end g k ≢ Cancelled → is_listed run.arrived k ≡ true) run.stages Unissued i s m.there m.put_in (λ k ne. t.over_arrived k);
+        over_arrived = each_gone (λ k x. stage_over x ≡ true → line_passes is_arrive g k ≡ true → eval_end g k ≢ Cancelled → is_listed run.arrived k ≡ true) m.put_in t.over_arrived;
       }
 
   gone_locks : SoundLocks g gone run.times run.holders run.freed
-  unfolding gone
   gone_locks =
       let t = sound.on_locks in
       record {
         each_lock = t.each_lock;
         holder_acquires = t.holder_acquires;
-        holder_started = λ l. each_set (λ k x. is_listed (list_at run.holders l) k ≡ true → stage_started x ≡ true) run.stages Unissued i s m.there (m.holds l) (λ k ne. t.holder_started l k);
+        holder_started = λ l. each_gone (λ k x. is_listed (list_at run.holders l) k ≡ true → stage_started x ≡ true) (m.holds l) (t.holder_started l);
         holder_not_cancelled = t.holder_not_cancelled;
         holder_alone = t.holder_alone;
         timed_holds = t.timed_holds;
-        freed_over = each_set (λ k x. is_listed run.freed k ≡ true → stage_over x ≡ true) run.stages Unissued i s m.there m.freed (λ k ne. t.freed_over k);
+        freed_over = each_gone (λ k x. is_listed run.freed k ≡ true → stage_over x ≡ true) m.freed t.freed_over;
         freed_ended = λ r q a b. ended_stays q (t.freed_ended r q a b);
         freed_done = t.freed_done;
         freed_gone = t.freed_gone;
-        ended_freed = λ r q rel h d. each_set (λ k x. Releases g k q → stage_ended x ≡ true → is_listed run.freed k ≡ true) run.stages Unissued i s m.there (λ rel h. m.frees h q rel d) (λ k ne rel h. t.ended_freed k q rel h d) r rel h;
+        ended_freed = λ r q rel h d. each_gone (λ k x. Releases g k q → stage_ended x ≡ true → is_listed run.freed k ≡ true) (λ rel h. m.frees h q rel d) (λ k rel h. t.ended_freed k q rel h d) r rel h;
       }
 
   gone_times : SoundTimes g gone run.times run.clock
-  unfolding gone
   gone_times =
       let t = sound.on_times in
       record {
         each_time = t.each_time;
-        over_timed = each_set (λ k x. stage_over x ≡ true → timed run.times k ≡ true) run.stages Unissued i s m.there m.has_time (λ k ne. t.over_timed k);
-        timed_started = each_set (λ k x. timed run.times k ≡ true → stage_started x ≡ true) run.stages Unissued i s m.there m.timed_goes (λ k ne. t.timed_started k);
+        over_timed = each_gone (λ k x. stage_over x ≡ true → timed run.times k ≡ true) m.has_time t.over_timed;
+        timed_started = each_gone (λ k x. timed run.times k ≡ true → stage_started x ≡ true) m.timed_goes t.timed_started;
         below_clock = t.below_clock;
         distinct = t.distinct;
         all_drawn = t.all_drawn;

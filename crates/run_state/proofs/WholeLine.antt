@@ -8,13 +8,13 @@ use Rattle.std.proofs.lemmas.Option.{none-some, same_Some}
 use Rattle.graph_model.specs.declared.outcome.End.TheVariants.{Cancelled}
 use Rattle.graph_model.specs.declared.verb.Access.{Access}
 use Rattle.graph_model.specs.declared.verb.Verb.{Verb}
-use Rattle.graph_model.specs.declared.verb.Verb.TheVariants.{User, Trigger, Cancel, Merge, MergeIgnore, Phase, Arrive, Acquire, Release, Fill, Copy, Reduce, Task}
+use Rattle.graph_model.specs.declared.verb.Verb.TheVariants.{Acquire}
 use Rattle.graph_model.specs.Graph.{GraphValue, verb_at, is_acquire_of}
 use Rattle.graph_model.specs.Access.{accesses}
 use Rattle.graph_model.specs.Rules.{Acquires}
 use Rattle.graph_model.specs.Evaluation.{eval_end}
 use Rattle.basics.proofs.ListFacts.{contains_map, map_contains}
-use Rattle.run_state.specs.Run.{Unissued, Issued, Out, Place, Home, Had, Run, is_listed, stage_at, place_at, list_at, stage_issued, stage_out, stage_started, stage_over, stage_ended, started, ended, timed}
+use Rattle.run_state.specs.Run.{LineStage, Unissued, Issued, Out, Place, Home, Had, Run, is_listed, stage_at, place_at, list_at, stage_issued, stage_out, stage_started, stage_over, stage_ended, started, ended, timed}
 use Rattle.run_state.specs.Sound.{AccessesColumn, Sound}
 use Rattle.run_state.specs.Moves.{claim, column_out}
 use Rattle.run_state.specs.WholeLine.{column_list, lock_by, lock_of, all_had, columns_out, holders_with, hold_some, take_whole}
@@ -71,19 +71,8 @@ all_had_listed places i (d ∷ cs) c there f h = elim (listed_cases d c cs h) [
 
 -- a reservation where there is one
 lock_is : (l : ℕ) (v : Verb) → lock_by v ≡ Some l → is_acquire_of l v ≡ true
-lock_is l User h = absurd (none-some l h)
-lock_is l (Trigger k) h = absurd (none-some l h)
-lock_is l (Cancel k) h = absurd (none-some l h)
-lock_is l (Merge ks) h = absurd (none-some l h)
-lock_is l (MergeIgnore ks) h = absurd (none-some l h)
-lock_is l (Phase k) h = absurd (none-some l h)
-lock_is l (Arrive k w) h = absurd (none-some l h)
 lock_is l (Acquire k) h = eq-eqb k l (same_Some k l h)
-lock_is l (Release k) h = absurd (none-some l h)
-lock_is l (Fill t s w) h = absurd (none-some l h)
-lock_is l (Copy x y s) h = absurd (none-some l h)
-lock_is l (Reduce o x y s) h = absurd (none-some l h)
-lock_is l (Task k) h = absurd (none-some l h)
+lock_is l _ h = absurd (none-some l h)
 
 pub lock_acquires : (g : GraphValue) (q l : ℕ) → lock_of g q ≡ Some l → Acquires g q l
 lock_acquires g q l h = by_option (verb_at g q) h
@@ -110,6 +99,24 @@ held_new holders i l None e there = absurd (none-some l e)
 held_new holders i l (Some j) e there = let same : j ≡ l = same_Some j l e in
     subst (λ z. is_listed (list_at (slice_set holders z (i ∷ list_at holders z)) l) i ≡ true) (sym same) (one_new holders l i there)
 
+-- a line that goes on to a stage before its end leaves the run at rest, where each line keeps what it had
+pub goes_at_rest : {g : GraphValue} {run : Run} → AtRest g run → (i : ℕ) (s : LineStage) (places : List Place) (holders : List (List ℕ)) → i < length run.stages → stage_over s ≡ false → ended run.stages i ≡ false
+    → ((k c : ℕ) → place_at run.places c ≡ Had k → place_at places c ≡ Had k) → ((l k : ℕ) → is_listed (list_at run.holders l) k ≡ true → is_listed (list_at holders l) k ≡ true)
+    → ((c : ℕ) → stage_out s ≡ true → eval_end g i ≢ Cancelled → AccessesColumn g i c → place_at places c ≡ Had i) → ((l : ℕ) → stage_out s ≡ true → eval_end g i ≢ Cancelled → Acquires g i l → is_listed (list_at holders l) i ≡ true)
+    → (stage_out s ≡ true → timed run.times i ≡ false) → AtRest g record run { stages = slice_set run.stages i s; places = places; holders = holders }
+goes_at_rest {g} {run} rest i s places holders there not_over left has_stays holds_stays has holds untimed =
+    let kept : (k : ℕ) → ended run.stages k ≡ true → ended (slice_set run.stages i s) k ≡ true =
+    each_set (λ k x. ended run.stages k ≡ true → stage_ended x ≡ true) run.stages Unissued i s there (λ h. absurd (true≢false (sym h ∙ left))) (λ k ne h. h) in
+    record {
+      none_ending = each_set (λ k x. stage_over x ≡ true → stage_ended x ≡ true) run.stages Unissued i s there (λ h. absurd (true≢false (sym h ∙ not_over))) (λ k ne. rest.none_ending k);
+      back_ended = λ c k h. kept k (rest.back_ended c k h);
+      arrived_ended = λ k h. kept k (rest.arrived_ended k h);
+      freed_ended = λ k h. kept k (rest.freed_ended k h);
+      out_has = λ k c. each_set (λ k x. stage_out x ≡ true → eval_end g k ≢ Cancelled → AccessesColumn g k c → place_at places c ≡ Had k) run.stages Unissued i s there (has c) (λ k ne h n a. has_stays k c (rest.out_has k c h n a)) k;
+      out_holds = λ k l. each_set (λ k x. stage_out x ≡ true → eval_end g k ≢ Cancelled → Acquires g k l → is_listed (list_at holders l) k ≡ true) run.stages Unissued i s there (holds l) (λ k ne h n a. holds_stays l k (rest.out_holds k l h n a)) k;
+      out_untimed = each_set (λ k x. stage_out x ≡ true → timed run.times k ≡ false) run.stages Unissued i s there untimed (λ k ne. rest.out_untimed k);
+    }
+
 -- a claim and what follows it
 module _ {g : GraphValue} {run : Run} (s : Sound g run) (rest : AtRest g run) (i : ℕ) (m : MayTakeWhole g run i) where
   is_there : i < length run.stages
@@ -117,9 +124,6 @@ module _ {g : GraphValue} {run : Run} (s : Sound g run) (rest : AtRest g run) (i
 
   claimed : stage_at (slice_set run.stages i Out) i ≡ Out
   claimed = get_or-set_same run.stages i Out Unissued is_there
-
-  stage_kept : (k : ℕ) → ended run.stages k ≡ true → ended (slice_set run.stages i Out) k ≡ true
-  stage_kept = each_set (λ k x. ended run.stages k ≡ true → stage_ended x ≡ true) run.stages Unissued i Out is_there (λ h. absurd (true≢false (sym h ∙ ap stage_ended m.is_issued))) (λ k ne h. h)
 
   begun_not : started run.stages i ≡ true → ⊥
   begun_not h = true≢false (sym h ∙ ap stage_started m.is_issued)
@@ -155,34 +159,11 @@ module _ {g : GraphValue} {run : Run} (s : Sound g run) (rest : AtRest g run) (i
   place_new c a = all_had_listed run.places i (column_list g i) c (subst (λ n. c < n) (sym s.on_columns.each_column) (column_there s.graph i c a)) (columns_fresh g s.graph i) (accessed_listed g i c a)
 
   pub taken_is_at_rest : AtRest g (take_whole g run i)
-  taken_is_at_rest = record {
-    none_ending = each_set (λ k x. stage_over x ≡ true → stage_ended x ≡ true) run.stages Unissued i Out is_there (λ h. absurd (true≢false (sym h))) (λ k ne. rest.none_ending k);
-    back_ended = λ c k h. stage_kept k (rest.back_ended c k h);
-    arrived_ended = λ k h. stage_kept k (rest.arrived_ended k h);
-    freed_ended = λ k h. stage_kept k (rest.freed_ended k h);
-    out_has = λ k c. each_set (λ k x. stage_out x ≡ true → eval_end g k ≢ Cancelled → AccessesColumn g k c → place_at (all_had run.places i (column_list g i)) c ≡ Had k) run.stages Unissued i Out is_there
-        (λ h n a. place_new c a) (λ k ne h n a. place_kept k c (rest.out_has k c h n a)) k;
-    out_holds = λ k l. each_set (λ k x. stage_out x ≡ true → eval_end g k ≢ Cancelled → Acquires g k l → is_listed (list_at (holders_with run.holders i (lock_of g i)) l) k ≡ true) run.stages Unissued i Out is_there
-        (λ h n a. held_new run.holders i l (lock_of g i) (acquires_lock g i l a) (lock_below l (acquires_lock g i l a))) (λ k ne h n a. held_more run.holders i (lock_of g i) lock_below l k (rest.out_holds k l h n a)) k;
-    out_untimed = each_set (λ k x. stage_out x ≡ true → timed run.times k ≡ false) run.stages Unissued i Out is_there
-        (λ h. false_from_ne_true (timed run.times i) (λ t. begun_not (s.on_times.timed_started i t))) (λ k ne. rest.out_untimed k);
-  }
+  taken_is_at_rest = goes_at_rest rest i Out (all_had run.places i (column_list g i)) (holders_with run.holders i (lock_of g i)) is_there refl (ap stage_ended m.is_issued) place_kept (held_more run.holders i (lock_of g i) lock_below)
+      (λ c h n a. place_new c a) (λ l h n a. held_new run.holders i l (lock_of g i) (acquires_lock g i l a) (lock_below l (acquires_lock g i l a)))
+      (λ h. false_from_ne_true (timed run.times i) (λ t. begun_not (s.on_times.timed_started i t)))
 
 -- a line that is cancelled is only claimed
 pub claim_is_at_rest : {g : GraphValue} {run : Run} → Sound g run → AtRest g run → (i : ℕ) → stage_at run.stages i ≡ Issued → eval_end g i ≡ Cancelled → AtRest g (claim run i)
-claim_is_at_rest {g} {run} s rest i is cancelled =
-    let there : i < length run.stages = stage_there run.stages i (ap stage_issued is) in
-    let kept : (k : ℕ) → ended run.stages k ≡ true → ended (slice_set run.stages i Out) k ≡ true =
-    each_set (λ k x. ended run.stages k ≡ true → stage_ended x ≡ true) run.stages Unissued i Out there (λ h. absurd (true≢false (sym h ∙ ap stage_ended is))) (λ k ne h. h) in
-    record {
-      none_ending = each_set (λ k x. stage_over x ≡ true → stage_ended x ≡ true) run.stages Unissued i Out there (λ h. absurd (true≢false (sym h))) (λ k ne. rest.none_ending k);
-      back_ended = λ c k h. kept k (rest.back_ended c k h);
-      arrived_ended = λ k h. kept k (rest.arrived_ended k h);
-      freed_ended = λ k h. kept k (rest.freed_ended k h);
-      out_has = λ k c. each_set (λ k x. stage_out x ≡ true → eval_end g k ≢ Cancelled → AccessesColumn g k c → place_at run.places c ≡ Had k) run.stages Unissued i Out there
-          (λ h n. absurd (n cancelled)) (λ k ne. rest.out_has k c) k;
-      out_holds = λ k l. each_set (λ k x. stage_out x ≡ true → eval_end g k ≢ Cancelled → Acquires g k l → is_listed (list_at run.holders l) k ≡ true) run.stages Unissued i Out there
-          (λ h n. absurd (n cancelled)) (λ k ne. rest.out_holds k l) k;
-      out_untimed = each_set (λ k x. stage_out x ≡ true → timed run.times k ≡ false) run.stages Unissued i Out there
-          (λ h. false_from_ne_true (timed run.times i) (λ t. true≢false (sym (s.on_times.timed_started i t) ∙ ap stage_started is))) (λ k ne. rest.out_untimed k);
-    }
+claim_is_at_rest {g} {run} s rest i is cancelled = goes_at_rest rest i Out run.places run.holders (stage_there run.stages i (ap stage_issued is)) refl (ap stage_ended is) (λ k c h. h) (λ l k h. h)
+    (λ c h n. absurd (n cancelled)) (λ l h n. absurd (n cancelled)) (λ h. false_from_ne_true (timed run.times i) (λ t. true≢false (sym (s.on_times.timed_started i t) ∙ ap stage_started is)))

@@ -20,21 +20,23 @@ load-requires c = let e = c.args.self.now.sized in let low = c.word_of-at.ensure
 pub split_seat-requires : goal.split_seat-requires
 split_seat-requires c = let e = c.args.self.now.sized in (search rules, omega (arith, e.1, e.2), splits _ _ _ _ _ (grants _))
 
-pub returns-clause-kept : goal.returns-clause-kept
-returns-clause-kept c = keeps c.args.seat.now.inner.me.0 c.split_seat.new.seat.me.0 (search rules)
-
-pub returns-clause-found : goal.returns-clause-found
-returns-clause-found c = let p = c.args.pending.now in let low : p.handle.slot < c.args.self.now.shape.slots = subst (λ l. p.handle.slot < slots_of l) c.requires.pending.1 p.pending.2 in
-    (sees c.args.seat.now.inner.me p.inner.me c.split_seat-right.result.me c.join_seat.new.seat.me c.load.new.seat.me c.split_seat.new.seat.me p.handle c.word_of-at.result c.load.result c.args.seat.now.plain p.pending (c.word_of-at.ensures.same low) c.split_seat-right.ensures.4 c.join_seat.ensures.2 c.load.ensures.2 c.split_seat.ensures.2).found
-
-pub returns-clause-unknown : goal.returns-clause-unknown
-returns-clause-unknown c = let p = c.args.pending.now in let low : p.handle.slot < c.args.self.now.shape.slots = subst (λ l. p.handle.slot < slots_of l) c.requires.pending.1 p.pending.2 in
-    (sees c.args.seat.now.inner.me p.inner.me c.split_seat-right.result.me c.join_seat.new.seat.me c.load.new.seat.me c.split_seat.new.seat.me p.handle c.word_of-at.result c.load.result c.args.seat.now.plain p.pending (c.word_of-at.ensures.same low) c.split_seat-right.ensures.4 c.join_seat.ensures.2 c.load.ensures.2 c.split_seat.ensures.2).unknown
-
-pub returns-clause-not_past : goal.returns-clause-not_past
-returns-clause-not_past c = let p = c.args.pending.now in let low : p.handle.slot < c.args.self.now.shape.slots = subst (λ l. p.handle.slot < slots_of l) c.requires.pending.1 p.pending.2 in
-    (sees c.args.seat.now.inner.me p.inner.me c.split_seat-right.result.me c.join_seat.new.seat.me c.load.new.seat.me c.split_seat.new.seat.me p.handle c.word_of-at.result c.load.result c.args.seat.now.plain p.pending (c.word_of-at.ensures.same low) c.split_seat-right.ensures.4 c.join_seat.ensures.2 c.load.ensures.2 c.split_seat.ensures.2).not_past
-
-pub returns-clause-unleft : goal.returns-clause-unleft
-returns-clause-unleft c = let p = c.args.pending.now in let low : p.handle.slot < c.args.self.now.shape.slots = subst (λ l. p.handle.slot < slots_of l) c.requires.pending.1 p.pending.2 in
-    (sees c.args.seat.now.inner.me p.inner.me c.split_seat-right.result.me c.join_seat.new.seat.me c.load.new.seat.me c.split_seat.new.seat.me p.handle c.word_of-at.result c.load.result c.args.seat.now.plain p.pending (c.word_of-at.ensures.same low) c.split_seat-right.ensures.4 c.join_seat.ensures.2 c.load.ensures.2 c.split_seat.ensures.2).unleft
+pub returns : goal.returns
+returns c =
+    let p = c.args.pending.now in
+    let low : p.handle.slot < c.args.self.now.shape.slots = subst (λ l. p.handle.slot < slots_of l) c.requires.pending.1 p.pending.2 in
+    let s = sees c.args.seat.now.inner.me p.inner.me c.split_seat-right.result.me c.join_seat.new.seat.me c.load.new.seat.me c.split_seat.new.seat.me p.handle c.word_of-at.result c.load.result c.args.seat.now.plain p.pending (c.word_of-at.ensures.same low) c.split_seat-right.ensures.4 c.join_seat.ensures.2 c.load.ensures.2 c.split_seat.ensures.2 in
+    record {
+      at = search rules;
+      pending = search rules;
+      handle = search rules;
+      grows = search rules;
+      kept = keeps c.args.seat.now.inner.me.0 c.split_seat.new.seat.me.0 (search rules);
+      found = s.found;
+      unknown = s.unknown;
+      not_past = s.not_past;
+      unleft = s.unleft;
+      more_seen = search rules;
+      same_known = search rules;
+      same_placings = search rules;
+      same_left = search rules;
+    }
