@@ -2,7 +2,6 @@
 #![tactic(auto)]
 
 pub mod evaluation;
-mod moved;
 mod numbers;
 mod perform;
 mod phases;
