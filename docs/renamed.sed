@@ -16,3 +16,8 @@ s/Rattle\.graph_model\.proofs\.EdgeFacts\.{got_in}/Rattle.basics.proofs.ListFact
 s/sink_state K\.taken K\.flushed K\.faults \(sink\.[a-z]*\)/K.state \1/g
 s/Rattle\.realm_io\.specs\.Written\.{SinkState}/Rattle.realm_io.specs.SinkState.{SinkState}/g
 s/is_sound\.ensures\b/is_sound.ensures.sound/g
+s/Rattle\.plain_eval\.specs\.Run\.{IsRun}/Rattle.plain_eval.specs.State.{IsState}/g
+s/Rattle\.plain_eval\.specs\.declared\.run\.Run\.{Run}/Rattle.plain_eval.specs.declared.state.State.{State}/g
+s/Rattle\.plain_eval\.proofs\.run\.Run\.turn/Rattle.plain_eval.proofs.state.State.end_lowest/g
+s/Rattle\.plain_eval\.proofs\.run\./Rattle.plain_eval.proofs.state./g
+s/Rattle\.plain_eval\.proofs\.TurnFacts/Rattle.plain_eval.proofs.StateFacts/g

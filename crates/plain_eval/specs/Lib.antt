@@ -1,3 +1,3 @@
 pub mod Waiting
-pub mod Run
+pub mod State
 pub mod Phases

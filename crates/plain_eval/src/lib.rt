@@ -5,5 +5,5 @@ pub mod evaluation;
 mod numbers;
 mod perform;
 mod phases;
-mod run;
+mod state;
 mod waiting;

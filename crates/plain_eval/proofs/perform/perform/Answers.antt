@@ -37,5 +37,5 @@ returns c cells home =
     let acted = c.apply-verdict.ensures.effect cells (held_shown fits g is i cells c.args.homes.now taken.new.homes taken.result home taken.ensures) in (
       acted.0,
       all_back fits g is i cells c.args.homes.now taken.new.homes taken.result home taken.ensures c.changes_within_accesses.ensures c.apply-verdict.new.held c.give_columns.new.homes c.apply-verdict.ensures.same acted.1 c.give_columns.ensures
-      ∙ ap (λ xs. all_home g (cells_after cells xs)) (sym (all_made g i cells c.apply-verdict.result acted.0)),
+          ∙ ap (λ xs. all_home g (cells_after cells xs)) (sym (all_made g i cells c.apply-verdict.result acted.0)),
     )

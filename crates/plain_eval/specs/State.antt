@@ -7,11 +7,11 @@ use Rattle.graph_model.specs.Graph.{GraphValue}
 use Rattle.graph_model.specs.Evaluation.{Step, end_in, has_ended, cells_of}
 use Rattle.instances.specs.Homes.{all_home}
 use Rattle.plain_eval.specs.Waiting.{IsWaiting}
-use Rattle.plain_eval.specs.declared.run.Run.{Run}
+use Rattle.plain_eval.specs.declared.state.State.{State}
 
 -- the state after these steps
-pub record IsRun (g : GraphValue) (ss : List Step) (run : Run) : Type 0 where
-  pub waiting : IsWaiting g (has_ended ss) run.waiting.left.items (contains nat_cmp run.waiting.ready)
-  pub ends : run.ends.items ≡ map (end_in ss) (numbers_below (length g.lines))
-  pub order : run.order.items ≡ map (λ (s : Step). s.line) ss
-  pub homes : run.homes ≡ all_home g (cells_of ss)
+pub record IsState (g : GraphValue) (ss : List Step) (state : State) : Type 0 where
+  pub waiting : IsWaiting g (has_ended ss) state.waiting.left.items (contains nat_cmp state.waiting.ready)
+  pub ends : state.ends.items ≡ map (end_in ss) (numbers_below (length g.lines))
+  pub order : state.order.items ≡ map (λ (s : Step). s.line) ss
+  pub homes : state.homes ≡ all_home g (cells_of ss)

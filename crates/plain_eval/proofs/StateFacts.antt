@@ -1,4 +1,4 @@
--- How a turn shows in the state.
+-- How a step shows in the state.
 use Rattle.std.proofs.Common.{◌≡◌, ℕ, ◌+◌, ◌<◌, ◌≤◌, Bool, true, false, cond, not, ◌||◌, ◌&&◌, inl, inr, List, [], ◌∷◌, ◌++◌, length, map, take, set, refl, sym, ◌∙◌, ap, subst, arith, get_or, length-set, append-nil}
 use Rattle.std.specs.Prelude.{◌==◌, flat_map}
 use Rattle.std.specs.BTreeSet.{contains}
@@ -22,8 +22,8 @@ use Rattle.graph_model.specs.Effect.{zero_cells, Effect, effect, cells_after}
 use Rattle.graph_model.specs.Evaluation.{Step, eval_end, end_in, has_ended, cells_of, cancels, is_cancelled, step_by, step_of, advance_by, advance}
 use Rattle.plain_eval.specs.Waiting.{open_edges, and_ended, is_free, IsWaiting, IsFree}
 use Rattle.instances.specs.Homes.{all_home}
-use Rattle.plain_eval.specs.Run.{IsRun}
-use Rattle.plain_eval.specs.declared.run.Run.{Run}
+use Rattle.plain_eval.specs.State.{IsState}
+use Rattle.plain_eval.specs.declared.state.State.{State}
 use Rattle.plain_eval.proofs.CellFacts.{cells_after-append}
 use Rattle.plain_eval.proofs.WaitingFacts.{filter_agree, lowest_is, none_ready, freed}
 
@@ -78,8 +78,8 @@ cells_more ss s =
     ∙ cells_after-append zero_cells (flat_map (λ (x : Step). x.changes) ss) s.changes
 
 -- no line is ready
-pub idle : (g : GraphValue) (ss : List Step) (old new : Run) → IsRun g ss old → new.waiting.left.items ≡ old.waiting.left.items → new.ends.items ≡ old.ends.items → new.order.items ≡ old.order.items → new.homes ≡ old.homes →
-    ((i : ℕ) → (contains nat_cmp old.waiting.ready i ≡ false) × (contains nat_cmp new.waiting.ready i ≡ false)) → IsRun g (advance g ss) new
+pub idle : (g : GraphValue) (ss : List Step) (old new : State) → IsState g ss old → new.waiting.left.items ≡ old.waiting.left.items → new.ends.items ≡ old.ends.items → new.order.items ≡ old.order.items → new.homes ≡ old.homes →
+    ((i : ℕ) → (contains nat_cmp old.waiting.ready i ≡ false) × (contains nat_cmp new.waiting.ready i ≡ false)) → IsState g (advance g ss) new
 idle g ss old new r left ends order cells h =
     let w : IsWaiting g (has_ended ss) old.waiting.left.items (contains nat_cmp new.waiting.ready) = record {
       lines = r.waiting.lines;
@@ -87,7 +87,7 @@ idle g ss old new r left ends order cells h =
       ready_are = λ i. (h i).1 ∙ (sym (h i).0 ∙ r.waiting.ready_are i);
       closed = r.waiting.closed;
     } in
-    subst (λ ts. IsRun g ts new) (sym (ap (advance_by g ss) (none_ready g ss old.waiting.left.items (contains nat_cmp old.waiting.ready) r.waiting (λ i. (h i).0)))) (record {
+    subst (λ ts. IsState g ts new) (sym (ap (advance_by g ss) (none_ready g ss old.waiting.left.items (contains nat_cmp old.waiting.ready) r.waiting (λ i. (h i).0)))) (record {
       waiting = subst (λ xs. IsWaiting g (has_ended ss) xs (contains nat_cmp new.waiting.ready)) (sym left) w;
       ends = ends ∙ r.ends;
       order = order ∙ r.order;
@@ -95,15 +95,15 @@ idle g ss old new r left ends order cells h =
     })
 
 -- the lowest line that is ready has ended
-pub turned : (g : GraphValue) (ss : List Step) (old new : Run) (k : ℕ) (e : End) → IsRun g ss old → contains nat_cmp old.waiting.ready k ≡ true → ((i : ℕ) → contains nat_cmp old.waiting.ready i ≡ true → k ≤ i) →
+pub advanced : (g : GraphValue) (ss : List Step) (old new : State) (k : ℕ) (e : End) → IsState g ss old → contains nat_cmp old.waiting.ready k ≡ true → ((i : ℕ) → contains nat_cmp old.waiting.ready i ≡ true → k ≤ i) →
     IsWaiting g (and_ended (has_ended ss) k) new.waiting.left.items (contains nat_cmp new.waiting.ready) → has_ended ss k ≡ false → e ≡ (step_of g ss k).ends → new.ends.items ≡ set old.ends.items k e → new.order.items ≡ old.order.items ++ k ∷ [] →
-    new.homes ≡ all_home g (cells_after (cells_of ss) (step_of g ss k).changes) → IsRun g (advance g ss) new
-turned g ss old new k e r ready least waiting left ends write order cells =
+    new.homes ≡ all_home g (cells_after (cells_of ss) (step_of g ss k).changes) → IsState g (advance g ss) new
+advanced g ss old new k e r ready least waiting left ends write order cells =
     let s : Step = step_of g ss k in
     let line : s.line ≡ k = step_line g ss k in
     let lowest = lowest_is g ss old.waiting.left.items (contains nat_cmp old.waiting.ready) k r.waiting ready least in
     let more : advance g ss ≡ ss ++ s ∷ [] = ap (advance_by g ss) lowest.0 in
-    subst (λ ts. IsRun g ts new) (sym more) (record {
+    subst (λ ts. IsState g ts new) (sym more) (record {
       waiting = waiting_agree g (and_ended (has_ended ss) k) (has_ended (ss ++ s ∷ [])) new.waiting.left.items (contains nat_cmp new.waiting.ready) (λ i. ap (λ j. has_ended ss i || (j == i)) (sym line) ∙ sym (ended_more ss s i)) waiting;
       ends = ends_more ss s (length g.lines) k e old.ends.items new.ends.items line ends left lowest.1 r.ends write;
       order = order ∙ (ap (λ xs. xs ++ k ∷ []) r.order ∙ (ap (λ j. map (λ (x : Step). x.line) ss ++ j ∷ []) (sym line) ∙ sym (map-append (λ (x : Step). x.line) ss (s ∷ []))));
@@ -134,16 +134,13 @@ not_cancelled_by g ss k es d ends e x b h known all read test fails before =
     list_any_more (λ (y : Edge). cancels y.kind (end_in ss y.from)) es k d h ∙ or_from _ _ before (ap (cancels (get_or es k d).kind) (sym end) ∙ (sym test ∙ fails))
 
 -- the lowest line that is ready is a line, has not ended, and its edges may pass
-pub lowest_known : (g : GraphValue) (ss : List Step) (run : Run) (k : ℕ) → IsRun g ss run → contains nat_cmp run.waiting.ready k ≡ true → ((i : ℕ) → contains nat_cmp run.waiting.ready i ≡ true → k ≤ i) → k < length run.ends.items
-lowest_known g ss run k r ready least =
-    let below : k < length g.lines = (lowest_is g ss run.waiting.left.items (contains nat_cmp run.waiting.ready) k r.waiting ready least).1 in
+pub lowest_known : (g : GraphValue) (ss : List Step) (state : State) (k : ℕ) → IsState g ss state → contains nat_cmp state.waiting.ready k ≡ true → ((i : ℕ) → contains nat_cmp state.waiting.ready i ≡ true → k ≤ i) → k < length state.ends.items
+lowest_known g ss state k r ready least =
+    let below : k < length g.lines = (lowest_is g ss state.waiting.left.items (contains nat_cmp state.waiting.ready) k r.waiting ready least).1 in
     subst (λ n. k < n) (sym (ap length r.ends ∙ length-map-range_with_len (end_in ss) 0 (length g.lines))) below
 
-pub line_known : (g : GraphValue) (ss : List Step) (run : Run) (k : ℕ) → IsRun g ss run → contains nat_cmp run.waiting.ready k ≡ true → ((i : ℕ) → contains nat_cmp run.waiting.ready i ≡ true → k ≤ i) → k < length g.lines
-line_known g ss run k r ready least = (lowest_is g ss run.waiting.left.items (contains nat_cmp run.waiting.ready) k r.waiting ready least).1
-
-pub lowest_free : (g : GraphValue) (ss : List Step) (run : Run) (k : ℕ) (left : List ℕ) (ready : ℕ → Bool) → IsRun g ss run → contains nat_cmp run.waiting.ready k ≡ true → left ≡ run.waiting.left.items → ((i : ℕ) → ready i ≡ (contains nat_cmp run.waiting.ready i && not (k == i))) → IsFree g (has_ended ss) k left ready
-lowest_free g ss run k left ready r is_ready same taken = subst (λ xs. IsFree g (has_ended ss) k xs ready) (sym same) (freed g (has_ended ss) run.waiting.left.items (contains nat_cmp run.waiting.ready) ready k r.waiting is_ready taken)
+pub lowest_free : (g : GraphValue) (ss : List Step) (state : State) (k : ℕ) (left : List ℕ) (ready : ℕ → Bool) → IsState g ss state → contains nat_cmp state.waiting.ready k ≡ true → left ≡ state.waiting.left.items → ((i : ℕ) → ready i ≡ (contains nat_cmp state.waiting.ready i && not (k == i))) → IsFree g (has_ended ss) k left ready
+lowest_free g ss state k left ready r is_ready same taken = subst (λ xs. IsFree g (has_ended ss) k xs ready) (sym same) (freed g (has_ended ss) state.waiting.left.items (contains nat_cmp state.waiting.ready) ready k r.waiting is_ready taken)
 
 pub end_shown : (g : GraphValue) (i : ℕ) (ends : List End) (d : End) → ends ≡ map (eval_end g) (numbers_below (length g.lines)) → i < length g.lines → get_or ends i d ≡ eval_end g i
 end_shown g i ends d h b = ap (λ xs. get_or xs i d) h ∙ get_or-map-range_with_len (eval_end g) 0 (length g.lines) i i d b (omega arith)

@@ -1,4 +1,4 @@
-//! The state of an evaluation, and its turns.
+//! The state of an evaluation, and how it advances.
 
 ghost use Rattle.std.specs.Prelude.{◌≡◌, ◌<◌, List, [], length, map, OnOk, IfOk};
 ghost use Rattle.basics.specs.Lists.{numbers_below};
@@ -6,7 +6,7 @@ ghost use Rattle.graph_model.specs.declared.verb.Edge.{Edge};
 ghost use Rattle.graph_model.specs.Evaluation.{Step, advance, end_in, is_cancelled, step_of, cells_of};
 ghost use Rattle.graph_model.specs.Effect.{cells_after};
 ghost use Rattle.instances.specs.Homes.{all_home};
-ghost use Rattle.plain_eval.specs.Run.{IsRun};
+ghost use Rattle.plain_eval.specs.State.{IsState};
 
 use crate::perform::perform;
 use crate::waiting::Waiting;
@@ -19,24 +19,24 @@ use instances::Homes;
 use line_effects::passing::cancels;
 use std::alloc::Global;
 
-/// What is known of the lines and the cells after some turns.
+/// What is known of the lines and the cells after some steps.
 #[derive(Drop)]
-pub(crate) struct Run {
+pub(crate) struct State {
     waiting: Waiting,
     pub(crate) ends: Vec<End>,
     pub(crate) order: Vec<u32>,
     pub(crate) homes: Homes,
 }
 
-impl Run {
-    /// Before any turn.
-    pub(crate) fn new(alloc: Global, graph: &Graph) -> Result<Run, NoMemory>
-        ensures { IfOk result (IsRun graph.now []) }
+impl State {
+    /// Before any step.
+    pub(crate) fn new(alloc: Global, graph: &Graph) -> Result<State, NoMemory>
+        ensures { IfOk result (IsState graph.now []) }
     {
         let waiting = Waiting::new(alloc, graph)?;
         let ends = all_waiting(alloc, graph)?;
         let homes = Homes::zeroed(alloc, graph)?;
-        Ok(Run {
+        Ok(State {
             waiting,
             ends,
             order: Vec::new(alloc),
@@ -45,9 +45,9 @@ impl Run {
     }
 
     /// Ends the lowest line that is ready, if there is one.
-    pub(crate) fn turn(&mut self, graph: &Graph) -> Result<(), NoMemory>
-        requires run { (ss : List Step) × IsRun graph.now ss self.old }
-        ensures { OnOk result ((ss : List Step) → IsRun graph.now ss self.old → IsRun graph.now (advance graph.now ss) self.new) }
+    pub(crate) fn end_lowest(&mut self, graph: &Graph) -> Result<(), NoMemory>
+        requires state { (ss : List Step) × IsState graph.now ss self.old }
+        ensures { OnOk result ((ss : List Step) → IsState graph.now ss self.old → IsState graph.now (advance graph.now ss) self.new) }
     {
         let Some(line) = self.waiting.take_lowest() else {
             return Ok(());

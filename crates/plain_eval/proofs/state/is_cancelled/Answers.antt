@@ -1,7 +1,7 @@
 use Rattle.std.proofs.Common.{◌<◌, refl, subst, sym, get_or}
 use Rattle.plain_eval.proofs.WaitingFacts.{no_edge}
-use Rattle.plain_eval.proofs.TurnFacts.{source_known, cancelled_by, not_cancelled_by}
-use Rattle.plain_eval.proofs.run.is_cancelled.Goals as goal
+use Rattle.plain_eval.proofs.StateFacts.{source_known, cancelled_by, not_cancelled_by}
+use Rattle.plain_eval.proofs.state.is_cancelled.Goals as goal
 
 pub bounds-ends-edge : goal.bounds-ends-edge
 bounds-ends-edge c =
