@@ -214,8 +214,14 @@ ended_kept h before e homes takers homes' takers' kept f is long wide same = rec
     by_end Waiting e k y at = of_line (λ c. (let d : Waiting ≡ Cancelled = sym e ∙ c in cc)) k y at
 
 -- THE CALL, over values
-pub finished_is : (before now : CoreValue) (f f' : FinishedValue) → before ≡ now → f ≡ f' → IsFinished now f' → IsFinished before f
-finished_is before now f f' same e is = subst (λ (c : CoreValue). IsFinished c f) (sym same) (subst (IsFinished now) (sym e) is)
+abbrev pub finished_of : ℕ × End × List (ℕ × ColumnValue) → FinishedValue
+finished_of r = record { line = r.0; ends = r.1; held = r.2 }
+
+pub finished_from : (f : FinishedValue) (r : ℕ × End × List (ℕ × ColumnValue)) → (r.0 ≡ f.line) × (r.1 ≡ f.ends) × (r.2 ≡ f.held) → finished_of r ≡ f
+finished_from f r e = λ t. record { line = e.0 t; ends = e.1 t; held = e.2 t }
+
+pub finished_is : (before now : CoreValue) (f : FinishedValue) (r : ℕ × End × List (ℕ × ColumnValue)) → before ≡ now → (r.0 ≡ f.line) × (r.1 ≡ f.ends) × (r.2 ≡ f.held) → IsFinished now f → IsFinished before (finished_of r)
+finished_is before now f r same e is = subst (λ (c : CoreValue). IsFinished c (finished_of r)) (sym same) (subst (IsFinished now) (sym (finished_from f r e)) is)
 
 pub ended_core : PutBackKeepsRest → (before after : CoreValue) (f : FinishedValue) → after ≡ with_end before f → IsCore before → IsFinished before f →
     answer (with_end before f).table (handle_at before f.line) ≡ Some (answer_of (fate_for f.ends)) → ((k : Handle) → k ≢ handle_at before f.line → answer (with_end before f).table k ≡ answer before.table k) → IsCore after

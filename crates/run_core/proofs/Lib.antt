@@ -19,3 +19,4 @@ pub mod ColumnFacts
 pub mod SlotFacts
 pub mod FinishFacts
 pub mod OutFacts
+pub mod RestFacts

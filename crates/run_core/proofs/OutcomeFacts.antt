@@ -127,23 +127,8 @@ answers_agree Cancelled = refl
 answers_agree Waiting = refl
 
 phases_agree : (run : Run) (p : ℕ) (x : End) (o : Option Verb) → phase_for x o (slice_index run.values p) ≡ phase_so_far_by run p x o
-phases_agree run p Faulted o = refl
-phases_agree run p Cancelled o = refl
-phases_agree run p Waiting o = refl
-phases_agree run p Done None = refl
-phases_agree run p Done (Some User) = refl
-phases_agree run p Done (Some (Trigger k)) = refl
-phases_agree run p Done (Some (Cancel k)) = refl
-phases_agree run p Done (Some (Merge ks)) = refl
-phases_agree run p Done (Some (MergeIgnore ks)) = refl
 phases_agree run p Done (Some (Phase b)) = refl
-phases_agree run p Done (Some (Arrive q v)) = refl
-phases_agree run p Done (Some (Acquire l)) = refl
-phases_agree run p Done (Some (Release q)) = refl
-phases_agree run p Done (Some (Fill t s v)) = refl
-phases_agree run p Done (Some (Copy x y s)) = refl
-phases_agree run p Done (Some (Reduce o x y s)) = refl
-phases_agree run p Done (Some (Task k)) = refl
+phases_agree run p _ _ = refl
 
 column_is_eq : (x y : ColumnValue) → x.space ≡ y.space → x.cells ≡ y.cells → x ≡ y
 column_is_eq x y a b = λ t. record { space = a t; cells = b t }
