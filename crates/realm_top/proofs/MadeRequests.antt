@@ -179,9 +179,6 @@ serve_answered request s t result g r e (inl n) = inl n
 serve_answered request s t result g r e (inr (wanted, out, w, d)) =
     inr (wanted, out, subst (λ b. MadeAnswers b request (made_graph request.seed request.size) wanted out) (sym r) (subst (λ x. Served request x wanted out) e w), d)
 
-pub serves_of : (request : Request) (s t : SinkState) (result : Status) (g h : GraphValue) → g ≡ h → Serves request g s t result → Serves request h s t result
-serves_of request s t result g h e w = subst (λ x. Serves request x s t result) e w
-
 -- the line that sums up an outcome that is the evaluation's
 pub summed_up : (g h : GraphValue) (o : Outcome) (trace : List ℕ) → g ≡ h → o ≡ outcome h trace → made_text g o ≡ made_says false h
 summed_up g h o trace e f = ap (λ x. made_text x o) e ∙ ap (made_text h) f
