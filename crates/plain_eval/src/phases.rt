@@ -99,9 +99,9 @@ fn arrive(reductions: &mut [Option<Reduction>], verb: &Verb)
 {
     match verb {
         Verb::Arrive { phase, value } => {
-            let place = *phase as usize;
-            if place < reductions.len() {
-                reductions[place] = reduced(reductions[place], *value);
+            let at = *phase as usize;
+            if at < reductions.len() {
+                reductions[at] = reduced(reductions[at], *value);
             }
         }
         _ => {}

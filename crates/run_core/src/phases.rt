@@ -44,9 +44,9 @@ pub(crate) fn arrive(graph: &Graph, line: u32, values: &mut Vec<u64>)
 {
     edges_between_lines();
     if let Verb::Arrive { phase, value } = &graph.line(line).verb {
-        let place = *phase as usize;
+        let at = *phase as usize;
         let op = phase_op(graph, *phase);
-        values[place] = combined(op, values[place], *value);
+        values[at] = combined(op, values[at], *value);
     }
 }
 
