@@ -18,3 +18,8 @@ s/Rattle\.realm_io\.specs\.Written\.{SinkState}/Rattle.realm_io.specs.SinkState.
 s/is_sound\.ensures\b/is_sound.ensures.sound/g
 s/Rattle\.basics\.proofs\.ListFacts\.{count_below}/Rattle.basics.specs.Lists.{count_below}/g
 s/Rattle\.gen_events\.proofs\.Cuts\.{blank}/Rattle.gen_events.proofs.Parts.{blank}/g
+s/Rattle\.plain_eval\.specs\.Run\.{IsRun}/Rattle.plain_eval.specs.State.{IsState}/g
+s/Rattle\.plain_eval\.specs\.declared\.run\.Run\.{Run}/Rattle.plain_eval.specs.declared.state.State.{State}/g
+s/Rattle\.plain_eval\.proofs\.run\.Run\.turn/Rattle.plain_eval.proofs.state.State.end_lowest/g
+s/Rattle\.plain_eval\.proofs\.run\./Rattle.plain_eval.proofs.state./g
+s/Rattle\.plain_eval\.proofs\.TurnFacts/Rattle.plain_eval.proofs.StateFacts/g

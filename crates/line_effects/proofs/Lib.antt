@@ -1,3 +1,4 @@
 pub mod EffectFacts
 pub mod MadeFacts
 pub mod MoveFacts
+pub mod MovingFacts

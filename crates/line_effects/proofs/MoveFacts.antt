@@ -12,11 +12,11 @@ use Rattle.graph_model.specs.declared.verb.Kernel.TheVariants.{Iota, Axpy, Stenc
 use Rattle.graph_model.specs.declared.verb.Verb.{Verb}
 use Rattle.graph_model.specs.declared.verb.Verb.TheVariants.{User, Trigger, Cancel, Merge, MergeIgnore, Phase, Arrive, Acquire, Release, Fill, Copy, Reduce, Task}
 use Rattle.graph_model.specs.Fits.{IsGraph}
-use Rattle.graph_model.specs.LineLaws.{ColumnsDiffer}
-use Rattle.graph_model.specs.Graph.{GraphValue, verb_at}
+use Rattle.graph_model.specs.LineLaws.{AccessesFit, ColumnsDiffer}
+use Rattle.graph_model.specs.Graph.{GraphValue, columns, verb_at}
 use Rattle.graph_model.specs.Access.{accesses, verb_accesses}
 use Rattle.line_effects.specs.Moved.{moves}
-use Rattle.line_effects.proofs.EffectFacts.{access_moved, move_at}
+use Rattle.line_effects.proofs.EffectFacts.{access_listed, access_moved, move_at, moves_apart}
 
 -- the columns of the accesses so far are held, and no others
 pub record HeldSoFar (g : GraphValue) (i k : ℕ) (held : List (ℕ × ColumnValue)) : Type 0 where
@@ -32,7 +32,7 @@ so_far_none g i held n = record {
 }
 
 -- a list of numbers up to the one before, and that one
-up_to : (j k : ℕ) → j < k + 1 → (j < k) ⊎ (j ≡ k)
+pub up_to : (j k : ℕ) → j < k + 1 → (j < k) ⊎ (j ≡ k)
 up_to j k h = elim (cases_lt j k) [ inl l ↦ inl l | inr m ↦ inr (omega arith) ]
 
 pub so_far_take : (g : GraphValue) (i k : ℕ) (held more : List (ℕ × ColumnValue)) (c : ℕ) (column : Option ColumnValue) → HeldSoFar g i k held → slice_get (moves g i) k ≡ Some c → IsSome column → HoldsOtherwise held more c column → length more ≡ length held + 1 → HeldSoFar g i (k + 1) more
@@ -63,28 +63,20 @@ so_far_skip g i k held s none = record {
 pub move_none : (g : GraphValue) (i k : ℕ) → slice_get (accesses g i) k ≡ None → slice_get (moves g i) k ≡ None
 move_none g i k h = slice_get-map (λ (x : Access). x.column) (accesses g i) k ∙ ap (option_map (λ (x : Access). x.column)) h
 
--- the column of the next access is not held yet
-pub is_new : ColumnsDiffer → (g : GraphValue) → IsGraph g → (i k : ℕ) (a : Access) (held : List (ℕ × ColumnValue)) → HeldSoFar g i k held → slice_get (accesses g i) k ≡ Some a → held_at held a.column ≡ None
-is_new law g is i k a held s at = none_when (held_at held a.column) (λ some. (let r = s.only a.column some in let b = access_moved g i r.0 a.column r.2 in law g i r.0 k b.0 a is r.1 b.1 at b.2))
+-- the next column is not held yet
+pub is_new : ColumnsDiffer → (g : GraphValue) → IsGraph g → (i k c : ℕ) (held : List (ℕ × ColumnValue)) → HeldSoFar g i k held → slice_get (moves g i) k ≡ Some c → held_at held c ≡ None
+is_new law g is i k c held s at = none_when (held_at held c) (λ some. (let r = s.only c some in moves_apart law g is i r.0 k c c r.1 r.2 at refl))
   where
     none_when : (o : Option ColumnValue) → (is_some o ≡ true → ⊥) → o ≡ None
     none_when None n = refl
     none_when (Some x) n = absurd (n refl)
 
+-- a column that a line moves is one of the graph
+pub move_known : AccessesFit → (g : GraphValue) → IsGraph g → (i k c : ℕ) → slice_get (moves g i) k ≡ Some c → c < length (columns g)
+move_known fits g is i k c at = let a = access_moved g i k c at in subst (λ d. d < length (columns g)) a.2 (fits g i a.0 is (access_listed g i k a.0 a.1)).column
+
 -- a line moves at most three columns
 few_accesses : (v : Verb) → length (verb_accesses v) ≤ 3
-few_accesses User = omega arith
-few_accesses (Trigger u) = omega arith
-few_accesses (Cancel u) = omega arith
-few_accesses (Merge es) = omega arith
-few_accesses (MergeIgnore es) = omega arith
-few_accesses (Phase b) = omega arith
-few_accesses (Arrive q v) = omega arith
-few_accesses (Acquire l) = omega arith
-few_accesses (Release q) = omega arith
-few_accesses (Fill t s v) = omega arith
-few_accesses (Copy a b s) = omega arith
-few_accesses (Reduce o a b s) = omega arith
 few_accesses (Task (Iota x s v)) = omega arith
 few_accesses (Task (Axpy x y s v)) = omega arith
 few_accesses (Task (Stencil x y r s)) = omega arith
@@ -93,6 +85,7 @@ few_accesses (Task (Hist x y s t)) = omega arith
 few_accesses (Task (Dot x y z s t)) = omega arith
 few_accesses (Task (Expect x s l h)) = omega arith
 few_accesses (Task (Gather x y z s t)) = omega arith
+few_accesses _ = omega arith
 
 few_of : (o : Option Verb) → length (option_map_or verb_accesses o []) ≤ 3
 few_of None = omega arith

@@ -2,4 +2,5 @@
 #![tactic(auto)]
 
 pub mod effects;
+pub mod moving;
 pub mod passing;

@@ -1,10 +1,15 @@
-//! How the end of one line cancels another, and how the values of arrivals are reduced.
+//! How the end of one line cancels another, and how the values of arrivals at a phase are reduced.
 
-ghost use Rattle.std.specs.Prelude.{◌≡◌};
+ghost use Rattle.std.specs.Prelude.{◌≡◌, ◌<◌, length};
+ghost use Rattle.std.specs.Option.{option_copied};
 ghost use Rattle.graph_model.specs.Evaluation.{cancels, combined};
+ghost use Rattle.line_effects.specs.Passing.{barrier_of};
 
+use graph_model::decl::BarrierInfo;
+use graph_model::graph::Graph;
+use graph_model::line_laws::phases_fit;
 use graph_model::outcome::End;
-use graph_model::verb::EdgeKind;
+use graph_model::verb::{EdgeKind, Verb};
 use index_spaces::Op;
 
 /// Whether an edge of this kind cancels its target, by the end of its source.
@@ -19,6 +24,18 @@ pub fn cancels(kind: EdgeKind, end: End) -> bool
             _ => false,
         },
         EdgeKind::Ignores => false,
+    }
+}
+
+/// The barrier of a phase, and None for any other line.
+pub fn barrier_of(graph: &Graph, line: u32) -> Option<&BarrierInfo>
+    requires { line < length graph.now.lines }
+    ensures { option_copied result ≡ barrier_of graph.now line }
+{
+    phases_fit();
+    match &graph.line(line).verb {
+        Verb::Phase { barrier } => Some(graph.barrier(*barrier)),
+        _ => None,
     }
 }
 

@@ -1,6 +1,6 @@
 pub mod WaitingFacts
 pub mod CellFacts
-pub mod MovedFacts
-pub mod TurnFacts
+pub mod PerformFacts
+pub mod StateFacts
 pub mod PhaseFacts
 pub mod OrderFacts

@@ -1,4 +1,3 @@
 pub mod Waiting
-pub mod Moved
-pub mod Run
+pub mod State
 pub mod Phases

@@ -3,10 +3,10 @@
 ghost use Rattle.std.specs.Prelude.{◌≡◌, ℕ, ◌<◌, ◌↔◌, length, map, slice_get, Some, IfOk, OnOk};
 ghost use Rattle.graph_model.specs.Path.{Reached};
 ghost use Rattle.graph_model.specs.Evaluation.{evaluation, outcome, order, answer_of, Unbroken};
-ghost use Rattle.plain_eval.specs.Run.{IsRun};
+ghost use Rattle.plain_eval.specs.State.{IsState};
 
 use crate::phases::phase_values;
-use crate::run::Run;
+use crate::state::State;
 use graph_model::checked::Checked;
 use graph_model::graph::Graph;
 use graph_model::laws::{cancelled_where_unbroken, waits_where_reached};
@@ -36,36 +36,36 @@ pub fn eval(alloc: Global, checked: &Checked) -> Result<Outcome, NoMemory>
     cancelled_where_unbroken();
     let graph = checked.graph();
     let _ = graph.lines();
-    let run = end_all(alloc, graph)?;
-    outcome_of(alloc, graph, run)
+    let state = end_all(alloc, graph)?;
+    outcome_of(alloc, graph, state)
 }
 
-/// Makes as many turns as there are lines.
-fn end_all(alloc: Global, graph: &Graph) -> Result<Run, NoMemory>
-    ensures { IfOk result (IsRun graph.now (evaluation graph.now)) }
+/// Ends the lowest ready line as often as there are lines.
+fn end_all(alloc: Global, graph: &Graph) -> Result<State, NoMemory>
+    ensures { IfOk result (IsState graph.now (evaluation graph.now)) }
 {
-    let mut run = Run::new(alloc, graph)?;
-    for _turn in 0..graph.lines() {
-        run.turn(graph)?;
+    let mut state = State::new(alloc, graph)?;
+    for _step in 0..graph.lines() {
+        state.end_lowest(graph)?;
     }
-    Ok(run)
+    Ok(state)
 }
 
 /// The outcome that the last state shows.
-fn outcome_of(alloc: Global, graph: &Graph, run: Run) -> Result<Outcome, NoMemory>
-    requires { IsRun graph.now (evaluation graph.now) run }
+fn outcome_of(alloc: Global, graph: &Graph, state: State) -> Result<Outcome, NoMemory>
+    requires { IsState graph.now (evaluation graph.now) state }
     ensures { IfOk result (λ o. o ≡ outcome graph.now (order graph.now)) }
 {
-    let answers = answers_of(alloc, run.ends.as_slice())?;
-    let phases = phase_values(alloc, graph, run.ends.as_slice())?;
+    let answers = answers_of(alloc, state.ends.as_slice())?;
+    let phases = phase_values(alloc, graph, state.ends.as_slice())?;
     let _ = graph.lines();
     let _ = graph.columns();
     Ok(Outcome {
-        ends: EndList { items: run.ends },
+        ends: EndList { items: state.ends },
         answers: AnswerList { items: answers },
         phases: ValueList { items: phases },
-        columns: run.homes.into_columns(),
-        trace: LineList { items: run.order },
+        columns: state.homes.into_columns(),
+        trace: LineList { items: state.order },
     })
 }
 

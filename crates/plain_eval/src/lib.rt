@@ -2,9 +2,8 @@
 #![tactic(auto)]
 
 pub mod evaluation;
-mod moved;
 mod numbers;
 mod perform;
 mod phases;
-mod run;
+mod state;
 mod waiting;

@@ -5,12 +5,13 @@ ghost use Rattle.graph_model.specs.Effect.{Cells, effect, cells_after};
 ghost use Rattle.graph_model.specs.Evaluation.{made_by};
 ghost use Rattle.instances.specs.Homes.{all_home};
 
-use crate::moved::{give_back, take_columns};
 use graph_model::graph::Graph;
 use graph_model::laws::changes_within_accesses;
+use graph_model::line_laws::accesses_fit;
 use graph_model::outcome::Verdict;
 use instances::Homes;
 use line_effects::effects::apply;
+use line_effects::moving::{give_columns, take_columns};
 
 /// Applies the effect of a line to the columns.
 pub(crate) fn perform(graph: &Graph, line: u32, homes: &mut Homes) -> Verdict
@@ -20,9 +21,11 @@ pub(crate) fn perform(graph: &Graph, line: u32, homes: &mut Homes) -> Verdict
         → (result ≡ (effect graph.now line cells).verdict)
         × (homes.new ≡ all_home graph.now (cells_after cells (made_by result (effect graph.now line cells).changes))) }
 {
+    accesses_fit();
     changes_within_accesses();
+    let _ = graph.lines();
     let mut held = take_columns(graph, line, homes);
     let verdict = apply(graph, line, &mut held);
-    give_back(held, homes);
+    give_columns(graph, line, held, homes);
     verdict
 }

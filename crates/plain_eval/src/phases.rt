@@ -11,7 +11,7 @@ use graph_model::outcome::End;
 use graph_model::verb::Verb;
 use index_spaces::room::push;
 use index_spaces::{NoMemory, Op};
-use line_effects::passing::combined;
+use line_effects::passing::{barrier_of, combined};
 use std::alloc::Global;
 
 /// How the values of the arrivals at a phase are reduced, and what they are reduced to so far.
@@ -84,15 +84,11 @@ fn first_reduction(graph: &Graph, line: u32, end: End) -> Option<Reduction>
     requires end { end ≡ eval_end graph.now line }
     ensures { result ≡ first_reduction graph.now line }
 {
-    phases_fit();
-    match (&graph.line(line).verb, end) {
-        (Verb::Phase { barrier }, End::Done) => {
-            let info = graph.barrier(*barrier);
-            Some(Reduction {
-                op: info.op,
-                total: info.first,
-            })
-        }
+    match (barrier_of(graph, line), end) {
+        (Some(barrier), End::Done) => Some(Reduction {
+            op: barrier.op,
+            total: barrier.first,
+        }),
         _ => None,
     }
 }
@@ -103,9 +99,9 @@ fn arrive(reductions: &mut [Option<Reduction>], verb: &Verb)
 {
     match verb {
         Verb::Arrive { phase, value } => {
-            let place = *phase as usize;
-            if place < reductions.len() {
-                reductions[place] = reduced(reductions[place], *value);
+            let at = *phase as usize;
+            if at < reductions.len() {
+                reductions[at] = reduced(reductions[at], *value);
             }
         }
         _ => {}

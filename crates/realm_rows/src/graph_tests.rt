@@ -1,6 +1,7 @@
 //! Graphs that are accepted and what is written for them.
 
-use crate::row::Row;
+use crate::generated::all_done;
+use crate::row::{Row, run_texts};
 use realm_top::status::Status;
 use std::test::Fail;
 use test_texts::graphs::{
@@ -59,21 +60,6 @@ const REPORTS: &[(&str, &str)] = &[
          phase p1 16\n\
          done\n",
     ),
-    // a sum that wraps
-    (
-        "realm 1\n\
-         barrier b 2 sum 18446744073709551615\n\
-         p = phase b\n\
-         v = arrive p 1\n\
-         w = arrive p 5\n\
-         end\n",
-        "realm-report 1\n\
-         op p done triggered\n\
-         op v done triggered\n\
-         op w done triggered\n\
-         phase p 5\n\
-         done\n",
-    ),
     // a phase with too few arrivals, and the one after it
     (
         "realm 1\n\
@@ -94,45 +80,75 @@ const REPORTS: &[(&str, &str)] = &[
          phase p1 -\n\
          done\n",
     ),
+];
+
+/// Command lines over texts whose lines are all done, with what follows their ends in the report.
+const ALL_DONE: &[(&[&str], &str, &str)] = &[
+    (
+        &["run --trace", "eval --trace", "--trace run"],
+        WAITER_ABOVE_TRIGGER,
+        "cells a.x 0..1 5 5\n\
+         cells a.y 0..1 6 6\n\
+         done\n\
+         realm-trace 1\n\
+         at g\n\
+         at t\n\
+         at u\n\
+         at f\n\
+         done\n",
+    ),
+    (
+        &["run --workers 3", "run", "eval"],
+        LOCKED_SUMS,
+        "cells a.x 0..1 3 3\n\
+         cells a.y 0..1 4 4\n\
+         cells a.z 0..1 7 7\n\
+         done\n",
+    ),
+    (
+        &["run --slots 11", "eval --slots 10"],
+        NINE_WAITERS,
+        "cells a.x 1..9 1 2 3 4 5 6 7 8 9\ndone\n",
+    ),
+    // a sum that wraps
+    (
+        RUNS,
+        "realm 1\n\
+         barrier b 2 sum 18446744073709551615\n\
+         p = phase b\n\
+         v = arrive p 1\n\
+         w = arrive p 5\n\
+         end\n",
+        "phase p 5\n\
+         done\n",
+    ),
     // two fills of the same cells, the second on the first
     (
+        RUNS,
         "realm 1\n\
          space s 0..3\n\
          inst a s x\n\
          f = fill a.x s 7\n\
          g = fill a.x s 8 on f\n\
          end\n",
-        "realm-report 1\n\
-         op f done triggered\n\
-         op g done triggered\n\
-         cells a.x 0..3 8 8 8 8\n\
+        "cells a.x 0..3 8 8 8 8\n\
          done\n",
     ),
     // the greatest value
     (
+        RUNS,
         "realm 1\n\
          space s 0..3\n\
          inst a s x\n\
          f = fill a.x s 18446744073709551615\n\
          end\n",
-        "realm-report 1\n\
-         op f done triggered\n\
-         cells a.x 0..3 18446744073709551615 18446744073709551615 18446744073709551615 18446744073709551615\n\
+        "cells a.x 0..3 18446744073709551615 18446744073709551615 18446744073709551615 18446744073709551615\n\
          done\n",
     ),
     (
+        RUNS,
         KERNELS,
-        "realm-report 1\n\
-         op e1 done triggered\n\
-         op e2 done triggered\n\
-         op e3 done triggered\n\
-         op e4 done triggered\n\
-         op e5 done triggered\n\
-         op e6 done triggered\n\
-         op e7 done triggered\n\
-         op e8 done triggered\n\
-         op e9 done triggered\n\
-         cells a.x 0..3 1 2 3 4\n\
+        "cells a.x 0..3 1 2 3 4\n\
          cells a.y 0..3 1 2 3 4\n\
          cells a.z 0..3 6 2 6 4\n\
          cells b.d 0..0 72\n\
@@ -140,6 +156,7 @@ const REPORTS: &[(&str, &str)] = &[
     ),
     // the first five lines of those alone
     (
+        RUNS,
         "realm 1\n\
          space s 0..3\n\
          space t 0..1\n\
@@ -150,97 +167,32 @@ const REPORTS: &[(&str, &str)] = &[
          e4 = task axpy a.y a.z s 10 on e3\n\
          e5 = task hist a.z a.y s t on e4\n\
          end\n",
-        "realm-report 1\n\
-         op e1 done triggered\n\
-         op e2 done triggered\n\
-         op e3 done triggered\n\
-         op e4 done triggered\n\
-         op e5 done triggered\n\
-         cells a.x 0..3 1 2 3 4\n\
+        "cells a.x 0..3 1 2 3 4\n\
          cells a.y 0..3 2 6 6 10\n\
          cells a.z 0..3 13 36 69 107\n\
          done\n",
     ),
     // a space of several intervals
     (
+        RUNS,
         "realm 1\n\
          space p 0..1,4..5\n\
          inst a p x\n\
          f = task iota a.x p 10\n\
          end\n",
-        "realm-report 1\n\
-         op f done triggered\n\
-         cells a.x 0..1 10 11\n\
+        "cells a.x 0..1 10 11\n\
          cells a.x 4..5 12 13\n\
          done\n",
     ),
 ];
 
-/// Command lines over graphs.
+/// Command lines over a graph, by its need.
 const COMMANDS: &[Row] = &[
-    Row {
-        commands: &["run --trace", "eval --trace", "--trace run"],
-        text: WAITER_ABOVE_TRIGGER,
-        status: Status::Done,
-        output: "realm-report 1\n\
-            op u done triggered\n\
-            op f done triggered\n\
-            op g done triggered\n\
-            op t done triggered\n\
-            cells a.x 0..1 5 5\n\
-            cells a.y 0..1 6 6\n\
-            done\n\
-            realm-trace 1\n\
-            at g\n\
-            at t\n\
-            at u\n\
-            at f\n\
-            done\n",
-    },
-    Row {
-        commands: &["run --workers 3", "run", "eval"],
-        text: LOCKED_SUMS,
-        status: Status::Done,
-        output: "realm-report 1\n\
-            op f done triggered\n\
-            op g done triggered\n\
-            op q done triggered\n\
-            op d done triggered\n\
-            op m done triggered\n\
-            op r done triggered\n\
-            op k done triggered\n\
-            op e done triggered\n\
-            op n done triggered\n\
-            op t done triggered\n\
-            cells a.x 0..1 3 3\n\
-            cells a.y 0..1 4 4\n\
-            cells a.z 0..1 7 7\n\
-            done\n",
-    },
     Row {
         commands: &["run --slots 10"],
         text: NINE_WAITERS,
         status: Status::Slots,
         output: "needs 11 slots\n",
-    },
-    Row {
-        commands: &["run --slots 11", "eval --slots 10"],
-        text: NINE_WAITERS,
-        status: Status::Done,
-        output: "realm-report 1\n\
-            op u done triggered\n\
-            op f1 done triggered\n\
-            op f2 done triggered\n\
-            op f3 done triggered\n\
-            op f4 done triggered\n\
-            op f5 done triggered\n\
-            op f6 done triggered\n\
-            op f7 done triggered\n\
-            op f8 done triggered\n\
-            op f9 done triggered\n\
-            op t done triggered\n\
-            cells a.x 1..9 1 2 3 4 5 6 7 8 9\n\
-            done\n",
     },
     Row {
         commands: &["check", "check --slots 10"],
@@ -252,14 +204,15 @@ const COMMANDS: &[Row] = &[
 
 #[test]
 fn reports(rt: HostRuntime) -> Result<(), Fail> {
-    for (text, output) in REPORTS {
-        let row = Row {
-            commands: RUNS,
-            text,
-            status: Status::Done,
-            output,
-        };
-        row.run(&rt)?;
+    run_texts(&rt, RUNS, Status::Done, REPORTS)
+}
+
+#[test]
+fn reports_of_lines_that_are_done(rt: HostRuntime) -> Result<(), Fail> {
+    for (commands, text, rest) in ALL_DONE {
+        let ends = all_done(rt.alloc(), text)?;
+        let output = format!(in rt.alloc(); "{ends}{rest}")?;
+        run_texts(&rt, commands, Status::Done, &[(*text, output.as_str())])?;
     }
     Ok(())
 }

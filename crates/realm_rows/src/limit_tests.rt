@@ -2,103 +2,84 @@
 
 use crate::generated::all_done;
 use crate::graph_tests::EMPTY_REPORT;
-use crate::row::Row;
+use crate::row::{run_commands, run_texts};
 use realm_top::status::Status;
 use std::alloc::Global;
 use std::test::Fail;
 use test_texts::generated::{chain, numbered};
 
-/// A part of a text.
-#[derive(Clone, Copy)]
-enum Part {
-    Once(&'static str),
-    /// So many copies, each with its number, from 0, in place of each `#`.
-    Each(u32, &'static str),
-}
-
-/// Texts with one item too many, each with its refused line.
-const PAST: &[(&[Part], &str)] = &[
+/// Texts with one item too many, each with its refused line. A text is given in parts: so many copies, each with its
+/// number, from 0, in place of each `#`.
+const PAST: &[(&[(u32, &str)], &str)] = &[
     // intervals of a space
     (
         &[
-            Part::Once("realm 1\nspace s 0..0"),
-            Part::Each(64, ",1#0..1#0"),
-            Part::Once("\nend\n"),
+            (1, "realm 1\nspace s 0..0"),
+            (64, ",1#0..1#0"),
+            (1, "\nend\n"),
         ],
         "refused line 2 limit\n",
     ),
     // instances
     (
         &[
-            Part::Once("realm 1\nspace s 0..0\n"),
-            Part::Each(65, "inst a# s x\n"),
-            Part::Once("end\n"),
+            (1, "realm 1\nspace s 0..0\n"),
+            (65, "inst a# s x\n"),
+            (1, "end\n"),
         ],
         "refused line 67 limit\n",
     ),
     // columns
     (
         &[
-            Part::Once("realm 1\nspace s 0..0\ninst a s x"),
-            Part::Each(256, ",x#"),
-            Part::Once("\nend\n"),
+            (1, "realm 1\nspace s 0..0\ninst a s x"),
+            (256, ",x#"),
+            (1, "\nend\n"),
         ],
         "refused line 3 limit\n",
     ),
     // cells
     (
         &[
-            Part::Once("realm 1\nspace s 0..1048575\n"),
-            Part::Each(5, "inst a# s x\n"),
-            Part::Once("end\n"),
+            (1, "realm 1\nspace s 0..1048575\n"),
+            (5, "inst a# s x\n"),
+            (1, "end\n"),
         ],
         "refused line 7 limit\n",
     ),
     // reservations
     (
-        &[
-            Part::Once("realm 1\n"),
-            Part::Each(65, "lock l#\n"),
-            Part::Once("end\n"),
-        ],
+        &[(1, "realm 1\n"), (65, "lock l#\n"), (1, "end\n")],
         "refused line 66 limit\n",
     ),
     // barriers
     (
-        &[
-            Part::Once("realm 1\n"),
-            Part::Each(65, "barrier b# 1 sum 0\n"),
-            Part::Once("end\n"),
-        ],
+        &[(1, "realm 1\n"), (65, "barrier b# 1 sum 0\n"), (1, "end\n")],
         "refused line 66 limit\n",
     ),
     // lines
     (
-        &[
-            Part::Once("realm 1\n"),
-            Part::Each(8193, "u# = user\n"),
-            Part::Once("end\n"),
-        ],
+        &[(1, "realm 1\n"), (8193, "u# = user\n"), (1, "end\n")],
         "refused line 8194 limit\n",
     ),
     // names in a merge
     (
         &[
-            Part::Once("realm 1\n"),
-            Part::Each(65, "u# = user\n"),
-            Part::Once("m = merge"),
-            Part::Each(65, " u#"),
-            Part::Once("\nend\n"),
+            (1, "realm 1\n"),
+            (65, "u# = user\n"),
+            (1, "m = merge"),
+            (65, " u#"),
+            (1, "\nend\n"),
         ],
         "refused line 67 limit\n",
     ),
     // edges: 1,024 merges of 64 names each, and one edge more
     (
         &[
-            Part::Once("realm 1\n"),
-            Part::Each(64, "u# = user\n"),
-            Part::Each(1024, MERGE_OF_64),
-            Part::Once("n = merge u0\nend\n"),
+            (1, "realm 1\n"),
+            (64, "u# = user\n"),
+            (1024, MERGE_OF_64),
+            (1, "n = merge u0\nend\n"),
         ],
         "refused line 1090 limit\n",
     ),
@@ -111,13 +92,10 @@ const MERGE_OF_64: &str =
     u60 u61 u62 u63\n";
 
 /// The text of these parts.
-fn text_of(alloc: Global, parts: &[Part]) -> Result<String, Fail> {
+fn text_of(alloc: Global, parts: &[(u32, &str)]) -> Result<String, Fail> {
     let mut text = String::new(alloc);
-    for part in parts {
-        match *part {
-            Part::Once(once) => text.push_str(once)?,
-            Part::Each(copies, each) => text.push_str(numbered(alloc, copies, each)?.as_str())?,
-        }
+    for (copies, part) in parts {
+        text.push_str(numbered(alloc, *copies, part)?.as_str())?;
     }
     Ok(text)
 }
@@ -126,13 +104,7 @@ fn text_of(alloc: Global, parts: &[Part]) -> Result<String, Fail> {
 fn one_item_past(rt: HostRuntime) -> Result<(), Fail> {
     for (parts, output) in PAST {
         let text = text_of(rt.alloc(), parts)?;
-        let row = Row {
-            commands: &["run"],
-            text: text.as_str(),
-            status: Status::Unread,
-            output,
-        };
-        row.run(&rt)?;
+        run_texts(&rt, &["run"], Status::Unread, &[(text.as_str(), output)])?;
     }
     Ok(())
 }
@@ -151,21 +123,10 @@ fn greatest_text(alloc: Global) -> Result<String, Fail> {
 fn bytes(rt: HostRuntime) -> Result<(), Fail> {
     let mut text = greatest_text(rt.alloc())?;
     assert_eq!(rt; text.len(), 1_048_576);
-    let row = Row {
-        commands: &["run"],
-        text: text.as_str(),
-        status: Status::Done,
-        output: EMPTY_REPORT,
-    };
-    row.run(&rt)?;
+    run_commands(&rt, text.as_str(), &[("run", EMPTY_REPORT)])?;
     text.push('\n')?;
-    let longer = Row {
-        commands: &["run", "check", "eval"],
-        text: text.as_str(),
-        status: Status::TooLong,
-        output: "input too long\n",
-    };
-    longer.run(&rt)
+    let longer = [(text.as_str(), "input too long\n")];
+    run_texts(&rt, &["run", "check", "eval"], Status::TooLong, &longer)
 }
 
 /// A chain of so many fills, and its report.
@@ -179,29 +140,15 @@ fn chain_with_report(alloc: Global, fills: u32) -> Result<(String, String), Fail
 #[test]
 fn lines(rt: HostRuntime) -> Result<(), Fail> {
     let (text, report) = chain_with_report(rt.alloc(), 8192)?;
-    let row = Row {
-        commands: &["run"],
-        text: text.as_str(),
-        status: Status::Done,
-        output: report.as_str(),
-    };
-    row.run(&rt)
+    run_commands(&rt, text.as_str(), &[("run", report.as_str())])
 }
 
 #[test]
 fn one_slot(rt: HostRuntime) -> Result<(), Fail> {
     let (text, report) = chain_with_report(rt.alloc(), 1000)?;
-    for (command, output) in [
+    let table = [
         ("check", "accepted need 1\n"),
         ("run --slots 1", report.as_str()),
-    ] {
-        let row = Row {
-            commands: &[command],
-            text: text.as_str(),
-            status: Status::Done,
-            output,
-        };
-        row.run(&rt)?;
-    }
-    Ok(())
+    ];
+    run_commands(&rt, text.as_str(), &table)
 }

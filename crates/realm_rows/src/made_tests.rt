@@ -32,41 +32,28 @@ const DONE: &[(&str, &str)] = &[
         "make --seed 3 --size 2 --slots 2",
         "made ops 2 done 2 faulted 0 cancelled 0 waiting 0 sum 0\n",
     ),
-    (
-        "make --seed 1 --size 1 --text",
-        "realm 1\n\
-         space s 0..63\n\
-         inst a0 s v\n\
-         inst a1 s v\n\
-         inst a2 s v\n\
-         inst a3 s v\n\
-         inst a4 s v\n\
-         inst a5 s v\n\
-         inst a6 s v\n\
-         inst a7 s v\n\
-         inst z s v\n\
-         lock l\n\
-         o0 = fill a5.v s 27735\n\
-         end\n",
-    ),
-    // a text is written whatever the slots are
+];
+
+/// The declarations of each graph that is made.
+const DECLARATIONS: &str = "realm 1\n\
+    space s 0..63\n\
+    inst a0 s v\n\
+    inst a1 s v\n\
+    inst a2 s v\n\
+    inst a3 s v\n\
+    inst a4 s v\n\
+    inst a5 s v\n\
+    inst a6 s v\n\
+    inst a7 s v\n\
+    inst z s v\n\
+    lock l\n";
+
+/// Command lines that ask for the text, with the lines after its declarations. A text is written whatever the slots are.
+const TEXTS: &[(&str, &str)] = &[
+    ("make --seed 1 --size 1 --text", "o0 = fill a5.v s 27735\n"),
     (
         "make --seed 3 --size 2 --text --slots 1",
-        "realm 1\n\
-         space s 0..63\n\
-         inst a0 s v\n\
-         inst a1 s v\n\
-         inst a2 s v\n\
-         inst a3 s v\n\
-         inst a4 s v\n\
-         inst a5 s v\n\
-         inst a6 s v\n\
-         inst a7 s v\n\
-         inst z s v\n\
-         lock l\n\
-         o0 = user\n\
-         o1 = trigger o0\n\
-         end\n",
+        "o0 = user\no1 = trigger o0\n",
     ),
 ];
 
@@ -90,6 +77,15 @@ fn row<'a>(command: &'a [&'a str; 1], status: Status, output: &'a str) -> Row<'a
 fn done(rt: HostRuntime) -> Result<(), Fail> {
     for (command, output) in DONE {
         row(&[command], Status::Done, output).run_over(&rt, &NOT_READ)?;
+    }
+    Ok(())
+}
+
+#[test]
+fn texts(rt: HostRuntime) -> Result<(), Fail> {
+    for (command, lines) in TEXTS {
+        let text = format!(in rt.alloc(); "{DECLARATIONS}{lines}end\n")?;
+        row(&[command], Status::Done, text.as_str()).run_over(&rt, &NOT_READ)?;
     }
     Ok(())
 }

@@ -104,6 +104,43 @@ impl Row<'_> {
     }
 }
 
+/// Runs the same command lines over each text of a table, which all end so, each with its own output.
+pub(crate) fn run_texts<R: Threads + Wait + Sync + AllocGlobal>(
+    rt: &R,
+    commands: &[&str],
+    status: Status,
+    table: &[(&str, &str)],
+) -> Result<(), Fail> {
+    for (text, output) in table {
+        let row = Row {
+            commands,
+            text,
+            status,
+            output,
+        };
+        row.run(rt)?;
+    }
+    Ok(())
+}
+
+/// Runs command lines over one text, which are all done, each with its own output.
+pub(crate) fn run_commands<R: Threads + Wait + Sync + AllocGlobal>(
+    rt: &R,
+    text: &str,
+    table: &[(&str, &str)],
+) -> Result<(), Fail> {
+    for (command, output) in table {
+        let row = Row {
+            commands: &[command],
+            text,
+            status: Status::Done,
+            output,
+        };
+        row.run(rt)?;
+    }
+    Ok(())
+}
+
 /// How `realm` ends with these words over this text, and the sink that it wrote to.
 pub(crate) fn answer<R: Threads + Wait + Sync + AllocGlobal, G: Gate>(
     rt: &R,

@@ -1,7 +1,7 @@
 //! Graphs that break a rule, and the needs of graphs that break none.
 
 use crate::graph_tests::FILL;
-use crate::row::Row;
+use crate::row::run_texts;
 use realm_top::status::Status;
 use std::test::Fail;
 use test_texts::graphs::{EMPTY, TWO_READERS, TWO_SECTIONS};
@@ -159,28 +159,12 @@ const ACCEPTED: &[(&str, &str)] = &[
 
 #[test]
 fn broken(rt: HostRuntime) -> Result<(), Fail> {
-    for (text, output) in BROKEN {
-        let row = Row {
-            commands: &["check", "run", "eval --trace"],
-            text,
-            status: Status::Unfit,
-            output,
-        };
-        row.run(&rt)?;
-    }
-    Ok(())
+    let commands = ["check", "run", "eval --trace"];
+    run_texts(&rt, &commands, Status::Unfit, BROKEN)
 }
 
 #[test]
 fn accepted(rt: HostRuntime) -> Result<(), Fail> {
-    for (text, output) in ACCEPTED {
-        let row = Row {
-            commands: &["check", "check --trace --slots 1"],
-            text,
-            status: Status::Done,
-            output,
-        };
-        row.run(&rt)?;
-    }
-    Ok(())
+    let commands = ["check", "check --trace --slots 1"];
+    run_texts(&rt, &commands, Status::Done, ACCEPTED)
 }

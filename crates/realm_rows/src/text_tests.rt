@@ -1,7 +1,7 @@
 //! Texts that are refused.
 
 use crate::graph_tests::FILL;
-use crate::row::Row;
+use crate::row::{Row, run_texts};
 use realm_top::status::Status;
 use std::alloc::Global;
 use std::test::Fail;
@@ -202,16 +202,7 @@ const READING: &[&str] = &["run", "check", "eval"];
 
 #[test]
 fn refused(rt: HostRuntime) -> Result<(), Fail> {
-    for (text, output) in REFUSED {
-        let row = Row {
-            commands: READING,
-            text,
-            status: Status::Unread,
-            output,
-        };
-        row.run(&rt)?;
-    }
-    Ok(())
+    run_texts(&rt, READING, Status::Unread, REFUSED)
 }
 
 /// What is written for a text that was cut before its end.

@@ -1,8 +1,7 @@
 //! Runs of the stencil over eight tiles.
 
 use crate::generated::all_done;
-use crate::row::Row;
-use realm_top::status::Status;
+use crate::row::run_commands;
 use std::alloc::Global;
 use std::test::Fail;
 use test_texts::tiles;
@@ -42,18 +41,10 @@ fn report(alloc: Global, text: &str) -> Result<String, Fail> {
 fn tiled_stencil(rt: HostRuntime) -> Result<(), Fail> {
     let text = tiles::graph(rt.alloc())?;
     let report = report(rt.alloc(), text.as_str())?;
-    for (command, output) in [
+    let table = [
         ("check", "accepted need 427\n"),
         ("run --workers 4", report.as_str()),
         ("eval", report.as_str()),
-    ] {
-        let row = Row {
-            commands: &[command],
-            text: text.as_str(),
-            status: Status::Done,
-            output,
-        };
-        row.run(&rt)?;
-    }
-    Ok(())
+    ];
+    run_commands(&rt, text.as_str(), &table)
 }

@@ -199,6 +199,14 @@ served_settled request g h s t result e a (inr (Done, out, w, d)) = inr (Done, o
 served_settled request g h s t result e a (inr (Slots, out, w, d)) = inr (Slots, out, (a, subst (λ x. Served request x Slots out) e w), d)
 served_settled request g h s t result e a (inr (_, out, w, d)) = absurd w
 
+-- what becomes of a graph that is accepted, where it was judged
+pub settled_served : (request : Request) (g : GraphValue) (s t : SinkState) (result : Status) → Accepted g → Settled request g s t result → Serves request g s t result
+settled_served request g s t result a (inl n) = inl n
+settled_served request g s t result a (inr (Done, out, j, d)) = inr (Done, out, j.1, d)
+settled_served request g s t result a (inr (Slots, out, j, d)) = inr (Slots, out, j.1, d)
+settled_served request g s t result a (inr (Unfit, out, j, d)) = absurd (accepted_or_unfit g out a j)
+settled_served request g s t result a (inr (_, out, j, d)) = absurd j.1
+
 -- how lines end by paths, of the graph that was answered
 pub ends_by_paths : WaitsWhereReached → CancelledWhereUnbroken → (bytes : List ℕ) → OneReading bytes → (g : GraphValue) → GraphText bytes g → Accepted g → (h : GraphValue) → GraphText bytes h → EndsByPaths h
 ends_by_paths waits cancelled bytes one g t a h u = record {
@@ -219,6 +227,3 @@ stopped_of s t traced g h trace other e f w = subst (λ x. Stopped s t (report_w
 
 pub settled_of : (request : Request) (s t : SinkState) (result : Status) (g h : GraphValue) → g ≡ h → Settled request g s t result → Settled request h s t result
 settled_of request s t result g h e w = subst (λ x. Settled request x s t result) e w
-
-pub answered_for : (xs : List ℕ) (s t : SinkState) (result : Status) (r q : Request) → r ≡ q → Answered r xs s t result → Answered q xs s t result
-answered_for xs s t result r q e w = subst (λ x. Answered x xs s t result) e w

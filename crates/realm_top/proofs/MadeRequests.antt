@@ -12,14 +12,15 @@ use Rattle.graph_model.specs.Need.{IsNeed}
 use Rattle.graph_model.specs.Evaluation.{outcome}
 use Rattle.graph_model.specs.declared.outcome.Outcome.{Outcome}
 use Rattle.graph_reader.specs.Text.{text}
+use Rattle.graph_reader.specs.Laws.{OneReading}
 use Rattle.graph_model.specs.Laws.{OneNeed}
 use Rattle.graph_gen.specs.MadeGraph.{made_graph}
 use Rattle.realm_top.specs.declared.status.Status.{Status}
 use Rattle.realm_top.specs.declared.status.Status.TheVariants.{Done, Usage, WriteFault, NoMemory, Slots}
 use Rattle.realm_top.specs.Status.{is_of_input, is_refusal}
 use Rattle.realm_top.specs.Texts.{slots_text, made_text}
-use Rattle.realm_top.specs.Answer.{reads, is_short, made_says, Says, Served, InputAnswers, MadeAnswers, IsInput, AnswersBy, Answers, InputAsks, MadeAsks, AsksBy, AsksStatus, Serves, MadeAnswered, Delivered, BrokenOff, Delivers}
-use Rattle.realm_top.proofs.Delivering.{enough_by_need, few_or_enough}
+use Rattle.realm_top.specs.Answer.{reads, is_short, made_says, Says, Served, InputAnswers, MadeAnswers, IsInput, AnswersBy, Answers, InputAsks, MadeAsks, AsksBy, AsksStatus, Serves, Answered, MadeAnswered, Delivered, BrokenOff, Delivers}
+use Rattle.realm_top.proofs.Delivering.{answered_refused, answered_cut_off, answered_complete, enough_by_need, few_or_enough}
 
 -- an action that reads answers its input
 input_by : (x : Action) (request : Request) → reads x ≡ true → (bytes : List ℕ) (status : Status) (out : List ℕ) → AnswersBy x request bytes status out → InputAnswers request bytes status out
@@ -80,6 +81,20 @@ made_asks Run request r bytes status a = absurd (true≢false r)
 made_asks Check request r bytes status a = absurd (true≢false r)
 made_asks Eval request r bytes status a = absurd (true≢false r)
 made_asks Make request r bytes status a = a
+
+-- A REQUEST THAT READS, whose input was answered: what is told of a refusal, of a write that failed, and of the status that was asked for
+module _ (request : Request) (r : reads request.action ≡ true) (left : Option (List ℕ)) (s t : SinkState) (result : Status) (all : (xs : List ℕ) → left ≡ Some xs → Answered request xs s t result) where
+  pub refused_input : is_refusal result ≡ true → (xs : List ℕ) → IsInput request.action left xs → (out : List ℕ) × Answers request xs result out × Delivered s t out
+  refused_input e xs i = let d = answered_refused request xs s t result (all xs (told request.action left xs r i)) e in (d.0, to_input request r xs result d.0 d.1, d.2)
+
+  pub cut_off_input : result ≡ WriteFault → (xs : List ℕ) → IsInput request.action left xs → (status : Status) × (out : List ℕ) × Answers request xs status out × BrokenOff s t out
+  cut_off_input e xs i = let d = answered_cut_off request xs s t result (all xs (told request.action left xs r i)) e in (d.0, d.1, to_input request r xs d.0 d.1 d.2, d.3)
+
+  pub complete_input : OneNeed → ((xs : List ℕ) → OneReading xs) → (q : Request) → request ≡ q → (xs : List ℕ) (status : Status) → IsInput q.action left xs → AsksStatus q xs status → (Rose s.faults t.faults → ⊥) → (result ≡ status) ⊎ (result ≡ NoMemory)
+  complete_input needs one q same xs status i a silent =
+      let input = subst (λ (x : Request). IsInput x.action left xs) (sym same) i in
+      let asks = subst (λ (x : Request). AsksStatus x xs status) (sym same) a in
+      answered_complete request needs xs (one xs) s t result status (all xs (told request.action left xs r input)) (input_asks request r xs status asks) silent
 
 -- the answer where a graph is made is the one that it asks for
 made_one : (texted : Bool) (request : Request) (g : GraphValue) → OneNeed → (s t : Status) (o : List ℕ) → MadeAnswers texted request g s o → MadeAsks texted request g t → s ≡ t
@@ -163,9 +178,6 @@ pub serve_answered : (request : Request) (s t : SinkState) (result : Status) (g 
 serve_answered request s t result g r e (inl n) = inl n
 serve_answered request s t result g r e (inr (wanted, out, w, d)) =
     inr (wanted, out, subst (λ b. MadeAnswers b request (made_graph request.seed request.size) wanted out) (sym r) (subst (λ x. Served request x wanted out) e w), d)
-
-pub serves_of : (request : Request) (s t : SinkState) (result : Status) (g h : GraphValue) → g ≡ h → Serves request g s t result → Serves request h s t result
-serves_of request s t result g h e w = subst (λ x. Serves request x s t result) e w
 
 -- the line that sums up an outcome that is the evaluation's
 pub summed_up : (g h : GraphValue) (o : Outcome) (trace : List ℕ) → g ≡ h → o ≡ outcome h trace → made_text g o ≡ made_says false h

@@ -57,7 +57,7 @@ pub(crate) fn answer<R: Threads + Wait + Sync, K: Sink, G: Gate>(
 }
 
 /// Checks a graph, and does what is asked for where it is accepted.
-fn judge<R: Threads + Wait + Sync, K: Sink, G: Gate>(
+pub(crate) fn judge<R: Threads + Wait + Sync, K: Sink, G: Gate>(
     rt: &R,
     alloc: Global,
     request: Request,
@@ -76,7 +76,7 @@ fn judge<R: Threads + Wait + Sync, K: Sink, G: Gate>(
 }
 
 /// Does what is asked for with a graph that is accepted.
-pub(crate) fn serve<R: Threads + Wait + Sync, K: Sink, G: Gate>(
+fn serve<R: Threads + Wait + Sync, K: Sink, G: Gate>(
     rt: &R,
     alloc: Global,
     request: Request,

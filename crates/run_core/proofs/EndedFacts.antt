@@ -43,19 +43,8 @@ use Rattle.run_core.proofs.WorkFacts.{core_of, keeps_work}
 
 -- WHAT A LINE FREES: by the ends that are kept, and by those of the evaluation
 frees_same : (g : GraphValue) (run : Run) (v : Verb) → frees_by g run v ≡ frees_so_far g run.stages v
-frees_same g run User = refl
-frees_same g run (Trigger k) = refl
-frees_same g run (Cancel k) = refl
-frees_same g run (Merge ks) = refl
-frees_same g run (MergeIgnore ks) = refl
-frees_same g run (Phase b) = refl
-frees_same g run (Arrive p v) = refl
-frees_same g run (Acquire l) = refl
 frees_same g run (Release q) = refl
-frees_same g run (Fill t s v) = refl
-frees_same g run (Copy x y s) = refl
-frees_same g run (Reduce o x y s) = refl
-frees_same g run (Task k) = refl
+frees_same g run _ = refl
 
 pub frees_kept : (g : GraphValue) (run : Run) (i : ℕ) → frees_for g run i ≡ frees_in g run.stages i
 frees_kept g run i = by_option (verb_at g i)
@@ -65,19 +54,8 @@ frees_kept g run i = by_option (verb_at g i)
     by_option (Some v) = frees_same g run v
 
 frees_agree : (g : GraphValue) (run : Run) (v : Verb) → ((q : ℕ) → v ≡ Release q → end_so_far (stage_at run.stages q) ≡ eval_end g q) → frees_as g v ≡ frees_by g run v
-frees_agree g run User h = refl
-frees_agree g run (Trigger k) h = refl
-frees_agree g run (Cancel k) h = refl
-frees_agree g run (Merge ks) h = refl
-frees_agree g run (MergeIgnore ks) h = refl
-frees_agree g run (Phase b) h = refl
-frees_agree g run (Arrive p v) h = refl
-frees_agree g run (Acquire l) h = refl
 frees_agree g run (Release q) h = ap (λ x. freed_lock q x (lock_of g q)) (sym (h q refl))
-frees_agree g run (Fill t s v) h = refl
-frees_agree g run (Copy x y s) h = refl
-frees_agree g run (Reduce o x y s) h = refl
-frees_agree g run (Task k) h = refl
+frees_agree g run _ h = refl
 
 pub frees_evaluated : {g : GraphValue} {run : Run} → Sound g run → (i : ℕ) → started run.stages i ≡ true → frees g i ≡ frees_for g run i
 frees_evaluated {g} {run} s i begun = by_option (verb_at g i) refl
@@ -236,8 +214,14 @@ ended_kept h before e homes takers homes' takers' kept f is long wide same = rec
     by_end Waiting e k y at = of_line (λ c. (let d : Waiting ≡ Cancelled = sym e ∙ c in cc)) k y at
 
 -- THE CALL, over values
-pub finished_is : (before now : CoreValue) (f f' : FinishedValue) → before ≡ now → f ≡ f' → IsFinished now f' → IsFinished before f
-finished_is before now f f' same e is = subst (λ (c : CoreValue). IsFinished c f) (sym same) (subst (IsFinished now) (sym e) is)
+abbrev pub finished_of : ℕ × End × List (ℕ × ColumnValue) → FinishedValue
+finished_of r = record { line = r.0; ends = r.1; held = r.2 }
+
+pub finished_from : (f : FinishedValue) (r : ℕ × End × List (ℕ × ColumnValue)) → (r.0 ≡ f.line) × (r.1 ≡ f.ends) × (r.2 ≡ f.held) → finished_of r ≡ f
+finished_from f r e = λ t. record { line = e.0 t; ends = e.1 t; held = e.2 t }
+
+pub finished_is : (before now : CoreValue) (f : FinishedValue) (r : ℕ × End × List (ℕ × ColumnValue)) → before ≡ now → (r.0 ≡ f.line) × (r.1 ≡ f.ends) × (r.2 ≡ f.held) → IsFinished now f → IsFinished before (finished_of r)
+finished_is before now f r same e is = subst (λ (c : CoreValue). IsFinished c (finished_of r)) (sym same) (subst (IsFinished now) (sym (finished_from f r e)) is)
 
 pub ended_core : PutBackKeepsRest → (before after : CoreValue) (f : FinishedValue) → after ≡ with_end before f → IsCore before → IsFinished before f →
     answer (with_end before f).table (handle_at before f.line) ≡ Some (answer_of (fate_for f.ends)) → ((k : Handle) → k ≢ handle_at before f.line → answer (with_end before f).table k ≡ answer before.table k) → IsCore after

@@ -27,3 +27,4 @@ pub mod ResumeCore
 pub mod HandleCounts
 pub mod CreatedCounts
 pub mod PendingCounts
+pub mod RestFacts

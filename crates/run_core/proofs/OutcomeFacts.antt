@@ -36,6 +36,7 @@ use Rattle.run_core.specs.declared.progress.Progress.{Progress}
 use Rattle.run_core.specs.declared.progress.Progress.TheVariants as progress
 use Rattle.run_core.proofs.PastFacts.{clock_from, at_time}
 use Rattle.run_core.proofs.PlaceFacts.{place_is, is_there}
+use Rattle.run_core.proofs.TakenFacts.{column_eq}
 use Rattle.run_core.proofs.WorkFacts.{core_of}
 use Rattle.run_core.proofs.CoreFacts.{line_near}
 use Rattle.run_state.proofs.Lists.{map_same}
@@ -127,26 +128,8 @@ answers_agree Cancelled = refl
 answers_agree Waiting = refl
 
 phases_agree : (run : Run) (p : ℕ) (x : End) (o : Option Verb) → phase_for x o (slice_index run.values p) ≡ phase_so_far_by run p x o
-phases_agree run p Faulted o = refl
-phases_agree run p Cancelled o = refl
-phases_agree run p Waiting o = refl
-phases_agree run p Done None = refl
-phases_agree run p Done (Some User) = refl
-phases_agree run p Done (Some (Trigger k)) = refl
-phases_agree run p Done (Some (Cancel k)) = refl
-phases_agree run p Done (Some (Merge ks)) = refl
-phases_agree run p Done (Some (MergeIgnore ks)) = refl
 phases_agree run p Done (Some (Phase b)) = refl
-phases_agree run p Done (Some (Arrive q v)) = refl
-phases_agree run p Done (Some (Acquire l)) = refl
-phases_agree run p Done (Some (Release q)) = refl
-phases_agree run p Done (Some (Fill t s v)) = refl
-phases_agree run p Done (Some (Copy x y s)) = refl
-phases_agree run p Done (Some (Reduce o x y s)) = refl
-phases_agree run p Done (Some (Task k)) = refl
-
-column_is_eq : (x y : ColumnValue) → x.space ≡ y.space → x.cells ≡ y.cells → x ≡ y
-column_is_eq x y a b = λ t. record { space = a t; cells = b t }
+phases_agree run p _ _ = refl
 
 abbrev pub outcome_with : List End → List Answer → List (Option ℕ) → List ColumnValue → List ℕ → Outcome
 outcome_with ends answers phases held trace = record { «ends» = ends; «answers» = answers; «phases» = phases; columns = held; «trace» = trace }
@@ -181,7 +164,7 @@ module _ (c : CoreValue) (core : IsCore c) (quiet : Quiet c.graph c.run) (stages
         let in_homes : k < length homes = subst (λ n. k < n) (sym kept.each_home) near in
         let at : slice_index_or homes k None ≡ Some x = ap (λ hs. slice_index_or hs k None) is ∙ get_or-map (λ y. Some y) held k (record { space = []; cells = [] }) None (subst (λ n. k < n) (sym long) near) in
         let place : place_at c.run.places k ≡ Home x.cells = ap (λ ps. place_at ps k) places_are ∙ (place_is homes takers k (kept.each_home ∙ sym kept.each_taker) in_homes ∙ ap (λ o. place_of o (slice_index takers k)) at) in
-        column_is_eq x (record { space = column_space c.graph k; cells = cells_at (place_at c.run.places k) }) (kept.spaces k x at) (sym (ap cells_at place))))
+        column_eq x (record { space = column_space c.graph k; cells = cells_at (place_at c.run.places k) }) (kept.spaces k x at) (sym (ap cells_at place))))
 
     pub outcome_is : QuietGivesOutcome → (trace : List ℕ) → ByTimes c.run trace → (ends : List End) (answers : List Answer) (phases : List (Option ℕ)) (held : List ColumnValue) →
         ends ≡ map (λ p. end_so_far (shown_stage p)) stages → AsksHandles c.handles c.table answers → phases ≡ map (phase_of_line c.graph c.run.stages c.run.values) (numbers_below lines) → homes ≡ map (λ x. Some x) held →

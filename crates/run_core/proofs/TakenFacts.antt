@@ -87,7 +87,7 @@ may_take_now before now i same due runs lock columns = subst (λ (c : CoreValue)
 pub taken_core : TakeKeepsRest → (before after : CoreValue) (i : ℕ) → after ≡ with_run before (take_whole before.graph before.run i) → IsCore before → MayTakeWhole before.graph before.run i → IsCore after
 taken_core law before after i is core may = subst IsCore (sym is) (core_taken law before core i may)
 
-column_eq : (x y : ColumnValue) → x.space ≡ y.space → x.cells ≡ y.cells → x ≡ y
+pub column_eq : (x y : ColumnValue) → x.space ≡ y.space → x.cells ≡ y.cells → x ≡ y
 column_eq x y a b = λ t. record { space = a t; cells = b t }
 
 -- what a line holds of the columns that it took

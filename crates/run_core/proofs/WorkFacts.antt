@@ -5,6 +5,7 @@ use Rattle.std.proofs.lemmas.Bool.{true≢false}
 use Rattle.graph_model.specs.declared.outcome.End.TheVariants.{Cancelled}
 use Rattle.graph_model.specs.Graph.{GraphValue, column_space}
 use Rattle.graph_model.specs.Evaluation.{eval_end, column_of, cells_of_lines}
+use Rattle.index_spaces.specs.Column.{ColumnValue}
 use Rattle.gen_events.specs.declared.handle.Handle.{Handle}
 use Rattle.gen_events.specs.EventMap.{EventMap}
 use Rattle.run_state.specs.Run.{Run, Out, is_listed, stage_at, list_at, stage_out, out}
@@ -12,7 +13,7 @@ use Rattle.run_state.specs.Sound.{AccessesColumn}
 use Rattle.run_state.specs.Work.{put_cells}
 use Rattle.run_state.specs.AtRest.{Undisturbed}
 use Rattle.run_core.specs.Core.{CoreValue, IsCore}
-use Rattle.run_core.specs.Works.{WorkValue, FinishedValue, IsWork, IsFinished, KeepsWork}
+use Rattle.run_core.specs.Works.{WorkValue, FinishedValue, HoldsColumns, IsWork, IsFinished, KeepsWork}
 
 -- a core with another run, handles and table
 abbrev pub core_of : GraphValue → Run → List Handle → EventMap → CoreValue
@@ -32,32 +33,34 @@ module _ (old : CoreValue) (core : IsCore old) (after : Run) (handles : List Han
   same_list : stage_at old.run.stages i ≡ Out → eval_end old.graph i ≢ Cancelled → (k : ℕ) → AccessesColumn old.graph i k → list_at after.back k ≡ list_at old.run.back k
   same_list is runs k a = (u (ap stage_out is)).back k (core.at_rest.out_has i k (ap stage_out is) runs a)
 
+  is_out_at : (j : ℕ) → j ≡ i → stage_at old.run.stages j ≡ Out → stage_at old.run.stages i ≡ Out
+  is_out_at j line is = ap (stage_at old.run.stages) (sym line) ∙ is
+
+  -- the columns that its lines leave stay as they are
+  holds_stays : (j : ℕ) → j ≡ i → stage_at old.run.stages i ≡ Out → eval_end old.graph i ≢ Cancelled → (held : List (ℕ × ColumnValue)) (column : List ℕ → ℕ → ColumnValue) → HoldsColumns old j held (λ k. column (list_at old.run.back k) k) → HoldsColumns new j held (λ k. column (list_at after.back k) k)
+  holds_stays j line is_out runs held column h = record {
+    has = λ k a. h.has k a ∙ ap (λ ks. Some (column ks k)) (sym (same_list is_out runs k (subst (λ l. AccessesColumn old.graph l k) line a)));
+    only = h.only;
+  }
+
   work_stays : (w : WorkValue) → w.line ≡ i → IsWork old w → IsWork new w
   work_stays w line is =
-      let is_out : stage_at old.run.stages i ≡ Out = ap (stage_at old.run.stages) (sym line) ∙ is.is_out in
+      let is_out = is_out_at w.line line is.is_out in
       record {
         is_out = ap (stage_at after.stages) line ∙ stays_out is_out;
         cancelled = is.cancelled;
         nothing = is.nothing;
-        holds = λ runs. (let old_holds = is.holds runs in record {
-          has = λ k a. old_holds.has k a ∙ ap (λ ks. Some (column_of old.graph (λ c p. cells_of_lines old.graph (is_listed ks) c p) k))
-              (sym (same_list is_out (λ e. true≢false (sym (is.cancelled.1 (ap (eval_end old.graph) line ∙ e)) ∙ runs)) k (subst (λ j. AccessesColumn old.graph j k) line a)));
-          only = old_holds.only;
-        });
+        holds = λ runs. holds_stays w.line line is_out (λ e. true≢false (sym (is.cancelled.1 (ap (eval_end old.graph) line ∙ e)) ∙ runs)) w.held (λ ks k. column_of old.graph (λ c p. cells_of_lines old.graph (is_listed ks) c p) k) (is.holds runs);
       }
 
   finished_stays : (f : FinishedValue) → f.line ≡ i → IsFinished old f → IsFinished new f
   finished_stays f line is =
-      let is_out : stage_at old.run.stages i ≡ Out = ap (stage_at old.run.stages) (sym line) ∙ is.is_out in
+      let is_out = is_out_at f.line line is.is_out in
       record {
         is_out = ap (stage_at after.stages) line ∙ stays_out is_out;
         is_end = is.is_end;
         nothing = is.nothing;
-        holds = λ runs. (let old_holds = is.holds runs in record {
-          has = λ k a. old_holds.has k a ∙ ap (λ ks. Some (record { space = column_space old.graph k; cells = put_cells old.graph f.line ks k }))
-              (sym (same_list is_out (λ e. runs (sym is.is_end ∙ (ap (eval_end old.graph) line ∙ e))) k (subst (λ j. AccessesColumn old.graph j k) line a)));
-          only = old_holds.only;
-        });
+        holds = λ runs. holds_stays f.line line is_out (λ e. runs (sym is.is_end ∙ (ap (eval_end old.graph) line ∙ e))) f.held (λ ks k. record { space = column_space old.graph k; cells = put_cells old.graph f.line ks k }) (is.holds runs);
       }
 
   pub keeps_work : KeepsWork old new i

@@ -32,6 +32,11 @@ places_of [] takers = []
 places_of (x ∷ xs) [] = []
 places_of (x ∷ xs) (t ∷ ts) = place_of x t ∷ places_of xs ts
 
+-- the lines that took the columns last, once a line takes these
+abbrev pub takers_with : List ℕ → ℕ → List ℕ → List ℕ
+takers_with takers i [] = takers
+takers_with takers i (c ∷ cs) = takers_with (slice_set takers c i) i cs
+
 -- the acquire that holds a reservation, as a list
 abbrev pub holding : Option ℕ → List ℕ
 holding None = []

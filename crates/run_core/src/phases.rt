@@ -8,11 +8,10 @@ ghost use Rattle.run_core.specs.Kept.{arrival_of};
 
 use graph_model::graph::Graph;
 use graph_model::laws::edges_between_lines;
-use graph_model::line_laws::phases_fit;
 use graph_model::verb::Verb;
 use index_spaces::room::{push_within, with_room};
 use index_spaces::{NoMemory, Op};
-use line_effects::passing::combined;
+use line_effects::passing::{barrier_of, combined};
 use std::alloc::Global;
 
 /// The values before any arrival: the first value of its barrier for a phase, and 0 for other lines.
@@ -31,10 +30,9 @@ fn first_value(graph: &Graph, line: u32) -> u64
     requires { line < length graph.now.lines }
     ensures { result ≡ first_value graph.now line }
 {
-    phases_fit();
-    match &graph.line(line).verb {
-        Verb::Phase { barrier } => graph.barrier(*barrier).first,
-        _ => 0,
+    match barrier_of(graph, line) {
+        Some(barrier) => barrier.first,
+        None => 0,
     }
 }
 
@@ -46,9 +44,9 @@ pub(crate) fn arrive(graph: &Graph, line: u32, values: &mut Vec<u64>)
 {
     edges_between_lines();
     if let Verb::Arrive { phase, value } = &graph.line(line).verb {
-        let place = *phase as usize;
+        let at = *phase as usize;
         let op = phase_op(graph, *phase);
-        values[place] = combined(op, values[place], *value);
+        values[at] = combined(op, values[at], *value);
     }
 }
 
@@ -57,9 +55,8 @@ fn phase_op(graph: &Graph, phase: u32) -> Op
     requires { phase < length graph.now.lines }
     ensures { result ≡ phase_op graph.now phase }
 {
-    phases_fit();
-    match &graph.line(phase).verb {
-        Verb::Phase { barrier } => graph.barrier(*barrier).op,
-        _ => Op::Sum,
+    match barrier_of(graph, phase) {
+        Some(barrier) => barrier.op,
+        None => Op::Sum,
     }
 }

@@ -60,7 +60,7 @@ impl<'g> Core<'g> {
         requires nothing_out { NothingOut self.old }
         ensures goes_on { GoesOn self.old self.new }
     {
-        for _turn in 0..self.graph().lines() {
+        for _ in 0..self.graph().lines() {
             let Some(line) = self.next_woken() else {
                 return;
             };

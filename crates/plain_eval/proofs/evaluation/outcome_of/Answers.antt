@@ -15,7 +15,7 @@ pub invariant_of-result-2 : goal.invariant_of-result-2
 invariant_of-result-2 c =
     let g = c.args.graph.now in
     let n = ap length c.requires.ends ∙ length-map-range_with_len (eval_end g) 0 (length g.lines) in
-    let a = ap length (c.in_ok-answers.ensures ∙ ap (map answer_of) c.as_slice.ensures.value) ∙ length-map c.args.run.ends.items answer_of in
+    let a = ap length (c.in_ok-answers.ensures ∙ ap (map answer_of) c.as_slice.ensures.value) ∙ length-map c.args.state.ends.items answer_of in
     omega (arith, n, a, c.lines.ensures.number, c.lines.ensures.few)
 
 pub invariant_of-result-3 : goal.invariant_of-result-3
@@ -34,8 +34,8 @@ invariant_of-result-4 c =
 pub returns : goal.returns
 returns c =
     let g = c.args.graph.now in
-    outcome_from g c.args.run.ends.items c.in_ok-answers.answers.items c.in_ok-phases.phases.items c.into_columns.result c.args.run.order.items
-    c.requires.ends (c.in_ok-answers.ensures ∙ ap (map answer_of) c.as_slice.ensures.value) c.in_ok-phases.ensures (columns_from g (cells_of (evaluation g)) c.args.run.homes c.into_columns.result c.requires.homes c.into_columns.ensures) c.requires.order
+    outcome_from g c.args.state.ends.items c.in_ok-answers.answers.items c.in_ok-phases.phases.items c.into_columns.result c.args.state.order.items
+    c.requires.ends (c.in_ok-answers.ensures ∙ ap (map answer_of) c.as_slice.ensures.value) c.in_ok-phases.ensures (columns_from g (cells_of (evaluation g)) c.args.state.homes c.into_columns.result c.requires.homes c.into_columns.ensures) c.requires.order
 
 pub into_columns-requires : goal.into_columns-requires
-into_columns-requires c = all_some c.args.graph.now (cells_of (evaluation c.args.graph.now)) c.args.run.homes c.requires.homes
+into_columns-requires c = all_some c.args.graph.now (cells_of (evaluation c.args.graph.now)) c.args.state.homes c.requires.homes

@@ -2,20 +2,14 @@ use Rattle.std.proofs.Common.{ℕ, true, List, ◌∙◌, ap}
 use Rattle.index_spaces.specs.Column.{ColumnValue}
 use Rattle.run_core.specs.declared.progress.Progress.TheVariants as progress
 use Rattle.run_core.proofs.TakenFacts.{staged_shown, claimed_core, claimed_takes, claimed_works}
+use Rattle.run_core.proofs.RestFacts.{with_core}
 use Rattle.run_core.proofs.run.Core.claim.Goals as goal
 
 pub invariant_of-self : goal.invariant_of-self
 invariant_of-self c =
     let s = c.self.inside in
     let is = staged_shown s.checked.now.graph s.stages.items s.events s.columns.homes s.columns.takers.items s.values.items s.holders.items s.trace.items c.args.i progress.Out in
-    record {
-      core = claimed_core c.claim_of_cancelled_keeps_rest.ensures _ _ c.args.self.now c.args.i c.self.view_is is c.self.invariant.core c.requires.due c.requires.cancelled;
-      kept = c.self.invariant.kept;
-      trace = c.self.invariant.trace;
-      ends = c.self.invariant.ends;
-      answers = c.self.invariant.answers;
-      phases = c.self.invariant.phases;
-    }
+    with_core c.self.invariant (claimed_core c.claim_of_cancelled_keeps_rest.ensures _ _ c.args.self.now c.args.i c.self.view_is is c.self.invariant.core c.requires.due c.requires.cancelled)
 
 pub returns-clause-taken : goal.returns-clause-taken
 returns-clause-taken c =

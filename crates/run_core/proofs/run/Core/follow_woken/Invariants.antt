@@ -1,5 +1,5 @@
 use Rattle.run_core.specs.Finishing.{GoesOn}
 use Rattle.run_core.proofs.run.Core.follow_woken.Given as goal
 
-abbrev pub invariant-loop-turn : goal.invariant-loop-turn
-invariant-loop-turn l = GoesOn l.initial.self l.self
+abbrev pub invariant-loop : goal.invariant-loop
+invariant-loop l = GoesOn l.initial.self l.self

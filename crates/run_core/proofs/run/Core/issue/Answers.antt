@@ -7,6 +7,7 @@ use Rattle.run_core.proofs.IssueFacts.{stages_differ, left_to_issue, issued_core
 use Rattle.run_core.specs.Core.{IsCore}
 use Rattle.run_core.proofs.OutFacts.{out_by_answer}
 use Rattle.run_core.proofs.SlotsGiven.{issued_slots}
+use Rattle.run_core.proofs.RestFacts.{with_core}
 use Rattle.run_core.proofs.run.Core.issue.Goals as goal
 
 pub create-requires : goal.create-requires
@@ -34,14 +35,7 @@ invariant_of-self-2 c =
     let s = c.self.inside in
     let differ = stages_differ s.stages.items (length s.events.handles) c.issued-next.result c.len.result c.issued-next.ensures (omega (arith, c.len.ensures, s.stages.ok.0)) c.if-next-len.false in
     let is = staged_shown s.checked.now.graph s.stages.items c.create.new.self s.columns.homes s.columns.takers.items s.values.items s.holders.items s.trace.items c.issued-next.result progress.Issued in
-    record {
-      core = issued_core c.issue_keeps_rest.ensures _ _ _ s.events c.create.new.self c.issued-next.result is c.issued-next.ensures c.self.invariant.core c.holds_a_map.ensures differ (c.if-not-create.ensures.made refl);
-      kept = c.self.invariant.kept;
-      trace = c.self.invariant.trace;
-      ends = c.self.invariant.ends;
-      answers = c.self.invariant.answers;
-      phases = c.self.invariant.phases;
-    }
+    with_core c.self.invariant (issued_core c.issue_keeps_rest.ensures _ _ _ s.events c.create.new.self c.issued-next.result is c.issued-next.ensures c.self.invariant.core c.holds_a_map.ensures differ (c.if-not-create.ensures.made refl))
 
 pub returns-clause-answer : goal.returns-clause-answer
 returns-clause-answer c =

@@ -1,17 +1,10 @@
 use Rattle.run_core.proofs.IssueFacts.{woken_core, events_keep}
+use Rattle.run_core.proofs.RestFacts.{with_core}
 use Rattle.run_core.proofs.run.Core.next_woken.Goals as goal
 
 pub invariant_of-self : goal.invariant_of-self
 invariant_of-self c =
-    let s = c.self.inside in
-    record {
-      core = woken_core _ _ s.events c.next_woken.new.self c.next_woken.result c.self.invariant.core c.next_woken.ensures.handles c.next_woken.ensures.some c.next_woken.ensures.none;
-      kept = c.self.invariant.kept;
-      trace = c.self.invariant.trace;
-      ends = c.self.invariant.ends;
-      answers = c.self.invariant.answers;
-      phases = c.self.invariant.phases;
-    }
+    with_core c.self.invariant (woken_core _ _ c.self.inside.events c.next_woken.new.self c.next_woken.result c.self.invariant.core c.next_woken.ensures.handles c.next_woken.ensures.some c.next_woken.ensures.none)
 
 pub returns-clause-works : goal.returns-clause-works
 returns-clause-works c = events_keep _ _ c.self.inside.events c.next_woken.new.self c.args.self.now c.self.view_is
