@@ -2,7 +2,7 @@
 
 ghost use Rattle.std.specs.Prelude.{◌≡◌, ℕ, ◌<◌, ◌+◌, length, slice_get, slice_index_or, slice_set, Some, None, IsSome, IfSome};
 ghost use Rattle.index_spaces.specs.Held.{held_at, HoldsOtherwise};
-ghost use Rattle.graph_model.specs.Graph.{columns};
+ghost use Rattle.graph_model.specs.graph.Graph.{columns};
 ghost use Rattle.line_effects.specs.Moved.{moves, AreMoved, AreBack};
 
 use graph_model::graph::Graph;

@@ -2,7 +2,7 @@
 
 ghost use Rattle.std.specs.Prelude.{◌≡◌, ◌<◌, length};
 ghost use Rattle.std.specs.Option.{option_copied};
-ghost use Rattle.graph_model.specs.Evaluation.{cancels, combined};
+ghost use Rattle.graph_model.specs.meaning.Evaluation.{cancels, combined};
 ghost use Rattle.line_effects.specs.Passing.{barrier_of};
 
 use graph_model::decl::BarrierInfo;

@@ -3,10 +3,10 @@ use Rattle.std.proofs.Common.{◌≡◌, ◌≢◌, ℕ, ◌+◌, ◌<◌, true,
 use Rattle.std.specs.Prelude.{Option, Some, None, IfSome, IfNone, slice_set}
 use Rattle.std.proofs.lemmas.Bool.{cases_eq}
 use Rattle.std.proofs.lemmas.List.{map-set, get_or-set_same, get_or-set_other, length-map}
-use Rattle.graph_model.specs.Graph.{GraphValue, locks}
-use Rattle.graph_model.specs.Rules.{Accepted, Releases}
+use Rattle.graph_model.specs.graph.Graph.{GraphValue, locks}
+use Rattle.graph_model.specs.meaning.Rules.{Accepted, Releases}
 use Rattle.graph_model.proofs.VerbFacts.{acquire_one, release_one, passes_below}
-use Rattle.graph_model.specs.Graph.{is_release_of}
+use Rattle.graph_model.specs.graph.Graph.{is_release_of}
 use Rattle.run_state.specs.Run.{is_listed, list_at}
 use Rattle.run_state.proofs.Lists.{listed_here, listed_cases, none_listed}
 use Rattle.run_core.specs.Kept.{holding}

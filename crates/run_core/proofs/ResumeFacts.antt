@@ -8,15 +8,15 @@ use Rattle.std.proofs.lemmas.List.FromFn.{length-map-range_with_len}
 use Rattle.std.proofs.lemmas.Option.{none-some, same_Some, slice_get_within, slice_get-get_or}
 use Rattle.index_spaces.specs.declared.Op.{Op}
 use Rattle.basics.specs.Lists.{numbers_below}
-use Rattle.graph_model.specs.declared.outcome.End.{End}
-use Rattle.graph_model.specs.declared.outcome.End.TheVariants.{Done, Faulted, Cancelled, Waiting}
-use Rattle.graph_model.specs.declared.verb.Verb.{Verb}
-use Rattle.graph_model.specs.declared.verb.Verb.TheVariants.{User, Trigger, Cancel, Merge, MergeIgnore, Phase, Arrive, Acquire, Release, Fill, Copy, Reduce, Task}
-use Rattle.graph_model.specs.Graph.{GraphValue, columns, locks, space_at, verb_at, line_passes}
-use Rattle.graph_model.specs.Rules.{Acquires, Releases}
-use Rattle.graph_model.specs.declared.outcome.Verdict.TheVariants.{Fine}
-use Rattle.graph_model.specs.Effect.{Cells, verb_verdict, effect}
-use Rattle.graph_model.specs.Evaluation.{eval_end, evaluation, end_by, is_cancelled, step_by, cells_of, cells_of_lines, column_of, has_ended}
+use Rattle.graph_model.specs.declared.meaning.outcome.End.{End}
+use Rattle.graph_model.specs.declared.meaning.outcome.End.TheVariants.{Done, Faulted, Cancelled, Waiting}
+use Rattle.graph_model.specs.declared.graph.verb.Verb.{Verb}
+use Rattle.graph_model.specs.declared.graph.verb.Verb.TheVariants.{User, Trigger, Cancel, Merge, MergeIgnore, Phase, Arrive, Acquire, Release, Fill, Copy, Reduce, Task}
+use Rattle.graph_model.specs.graph.Graph.{GraphValue, columns, locks, space_at, verb_at, line_passes}
+use Rattle.graph_model.specs.meaning.Rules.{Acquires, Releases}
+use Rattle.graph_model.specs.declared.meaning.outcome.Verdict.TheVariants.{Fine}
+use Rattle.graph_model.specs.meaning.Effect.{Cells, verb_verdict, effect}
+use Rattle.graph_model.specs.meaning.Evaluation.{eval_end, evaluation, end_by, is_cancelled, step_by, cells_of, cells_of_lines, column_of, has_ended}
 use Rattle.graph_model.proofs.ReleaseFacts.{release_names}
 use Rattle.graph_model.proofs.Turns.{ends_by_turn}
 use Rattle.graph_model.proofs.VerbFacts.{acquire_is, release_is, passes_verb, verb_passes}

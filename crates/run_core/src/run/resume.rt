@@ -2,10 +2,10 @@
 
 ghost use Rattle.std.specs.Prelude.{◌≡◌, ◌<◌, ◌≤◌, ◌+◌, ℕ, length, vec_len, map, cond, true, false, IfSome, IfNone, Some, slice_get, slice_set};
 ghost use Rattle.std.specs.Vec.{vec_capacity};
-ghost use Rattle.graph_model.specs.Graph.{locks};
-ghost use Rattle.graph_model.specs.declared.outcome.End.TheVariants.{Done};
+ghost use Rattle.graph_model.specs.graph.Graph.{locks};
+ghost use Rattle.graph_model.specs.declared.meaning.outcome.End.TheVariants.{Done};
 ghost use Rattle.basics.specs.Lists.{count_below};
-ghost use Rattle.graph_model.specs.Rules.{Accepted, Releases};
+ghost use Rattle.graph_model.specs.meaning.Rules.{Accepted, Releases};
 ghost use Rattle.run_state.specs.Run.{is_listed, list_at};
 ghost use Rattle.run_core.specs.declared.states.LineState.{LineState as TheState};
 ghost use Rattle.run_core.specs.declared.answers.Stage.{Stage as TheStage};

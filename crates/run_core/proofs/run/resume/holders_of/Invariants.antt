@@ -1,6 +1,6 @@
 use Rattle.std.proofs.Common.{◌≡◌, ◌<◌, ℕ, true, length, map}
-use Rattle.graph_model.specs.Graph.{locks}
-use Rattle.graph_model.specs.Rules.{Releases}
+use Rattle.graph_model.specs.graph.Graph.{locks}
+use Rattle.graph_model.specs.meaning.Rules.{Releases}
 use Rattle.run_state.specs.Run.{is_listed, list_at}
 use Rattle.run_core.specs.Kept.{holding}
 use Rattle.run_core.specs.Resumed.{HoldsNow}
