@@ -10,7 +10,7 @@ use Rattle.index_spaces.specs.Space.{interval_has, has_point}
 use Rattle.index_spaces.specs.Column.{ColumnValue}
 use Rattle.index_spaces.specs.Held.{HoldsOtherwise}
 use Rattle.index_spaces.specs.Run.{WritesPoints, reduced_cell}
-use Rattle.graph_model.specs.Effect.{cell_after, reduced}
+use Rattle.graph_model.specs.meaning.Effect.{cell_after, reduced}
 
 pub none_written : (c : ColumnValue) (value : ℕ → ℕ) → WritesPoints c c [] value
 none_written c value = record { space = refl; inside = λ p h. absurd (false≢true h); outside = λ p h n. refl }

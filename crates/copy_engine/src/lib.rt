@@ -5,8 +5,8 @@ ghost use Rattle.std.specs.Prelude.{◌≢◌};
 ghost use Rattle.index_spaces.specs.Space.{IsWithin};
 ghost use Rattle.index_spaces.specs.Column.{cell_of};
 ghost use Rattle.index_spaces.specs.Run.{reduced_cell, WritesPoints};
-ghost use Rattle.graph_model.specs.declared.verb.Verb.TheVariants.{Fill, Copy, Reduce};
-ghost use Rattle.graph_model.specs.HeldCells.{HoldsOver, MakesVerb};
+ghost use Rattle.graph_model.specs.declared.graph.verb.Verb.TheVariants.{Fill, Copy, Reduce};
+ghost use Rattle.graph_model.specs.meaning.HeldCells.{HoldsOver, MakesVerb};
 
 use graph_model::held_cells::{cells_by_point, changes_by_point};
 use index_spaces::Op;

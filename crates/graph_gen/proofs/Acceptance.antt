@@ -4,17 +4,17 @@ use Rattle.std.specs.Prelude.{Contains, Option, Some, slice_get, option_map}
 use Rattle.std.specs.Option.{option_map_or}
 use Rattle.std.proofs.lemmas.Bool.{true≢false, eq-eqb}
 use Rattle.std.proofs.lemmas.Option.{same_Some}
-use Rattle.graph_model.specs.declared.verb.Access.{Access}
-use Rattle.graph_model.specs.declared.verb.Edge.{Edge}
-use Rattle.graph_model.specs.declared.verb.EdgeKind.TheVariants.{Passes, Ignores}
-use Rattle.graph_model.specs.declared.verb.Line.{Line}
-use Rattle.graph_model.specs.declared.verb.Mode.TheVariants as mode
-use Rattle.graph_model.specs.declared.verb.Verb.TheVariants as verb
-use Rattle.graph_model.specs.Graph.{GraphValue, is_phase, is_acquire_of, is_release_of, is_merge_ignore, line_passes}
-use Rattle.graph_model.specs.Path.{Path, HasPath, last, first}
-use Rattle.graph_model.specs.Access.{access, verb_accesses, modes_clash, AccessesConflict}
-use Rattle.graph_model.specs.Edges.{edge}
-use Rattle.graph_model.specs.Rules.{Releases, Section, modes_commute, Exempt, NoCycleAt, ReleasedAt, SectionAt, DescendsAt, ReleaseFaultAt, RaceAt, Everywhere, EverywhereTwice, Accepted}
+use Rattle.graph_model.specs.declared.graph.verb.Access.{Access}
+use Rattle.graph_model.specs.declared.graph.verb.Edge.{Edge}
+use Rattle.graph_model.specs.declared.graph.verb.EdgeKind.TheVariants.{Passes, Ignores}
+use Rattle.graph_model.specs.declared.graph.verb.Line.{Line}
+use Rattle.graph_model.specs.declared.graph.verb.Mode.TheVariants as mode
+use Rattle.graph_model.specs.declared.graph.verb.Verb.TheVariants as verb
+use Rattle.graph_model.specs.graph.Graph.{GraphValue, is_phase, is_acquire_of, is_release_of, is_merge_ignore, line_passes}
+use Rattle.graph_model.specs.meaning.Path.{Path, HasPath, last, first}
+use Rattle.graph_model.specs.graph.Access.{access, verb_accesses, modes_clash, AccessesConflict}
+use Rattle.graph_model.specs.graph.Edges.{edge}
+use Rattle.graph_model.specs.meaning.Rules.{Releases, Section, modes_commute, Exempt, NoCycleAt, ReleasedAt, SectionAt, DescendsAt, ReleaseFaultAt, RaceAt, Everywhere, EverywhereTwice, Accepted}
 use Rattle.basics.proofs.ListFacts.{contains_cases, contains_none}
 use Rattle.graph_model.proofs.PathLaws.{path_append}
 use Rattle.graph_gen.specs.declared.draw.Row.{Row}

@@ -1,11 +1,11 @@
 -- A generated graph of two sections: by computing it is accepted, and its sums conflict with no path either way, so that they have to be exempt.
 use Rattle.std.proofs.Common.{inl, inr, refl, arith, lit<, lit≤}
-use Rattle.graph_model.specs.declared.verb.Mode.TheVariants.{Sum}
-use Rattle.graph_model.specs.Graph.{GraphValue}
-use Rattle.graph_model.specs.Access.{access, Conflict}
-use Rattle.graph_model.specs.Edges.{edges}
-use Rattle.graph_model.specs.Path.{HasPath}
-use Rattle.graph_model.specs.Rules.{Exempt, Accepted}
+use Rattle.graph_model.specs.declared.graph.verb.Mode.TheVariants.{Sum}
+use Rattle.graph_model.specs.graph.Graph.{GraphValue}
+use Rattle.graph_model.specs.graph.Access.{access, Conflict}
+use Rattle.graph_model.specs.graph.Edges.{edges}
+use Rattle.graph_model.specs.meaning.Path.{HasPath}
+use Rattle.graph_model.specs.meaning.Rules.{Exempt, Accepted}
 use Rattle.graph_model.proofs.PathTable.{no_path_by_table}
 use Rattle.graph_model.proofs.RulesTable.{accepted_by_tests}
 use Rattle.graph_gen.specs.MadeGraph.{made_graph}

@@ -5,19 +5,19 @@ use Rattle.std.specs.Option.{option_map_or}
 use Rattle.std.specs.List.{list_any}
 use Rattle.std.proofs.lemmas.Bool.{false_from_ne_true, leb-true, eqb-true}
 use Rattle.index_spaces.specs.declared.Op.TheVariants as op
-use Rattle.graph_model.specs.declared.verb.Line.{Line}
-use Rattle.graph_model.specs.declared.verb.Mode.{Mode}
-use Rattle.graph_model.specs.declared.verb.Mode.TheVariants.{Read, Write, Sum}
-use Rattle.graph_model.specs.declared.verb.EdgeKind.{EdgeKind}
-use Rattle.graph_model.specs.declared.verb.EdgeKind.TheVariants.{Passes}
-use Rattle.graph_model.specs.declared.verb.Verb.{Verb}
-use Rattle.graph_model.specs.declared.verb.Verb.TheVariants.{User, Trigger, Merge, MergeIgnore, Acquire, Release, Fill, Copy, Reduce, Task}
-use Rattle.graph_model.specs.declared.verb.Kernel.TheVariants.{Iota, Expect}
-use Rattle.graph_model.specs.Graph.{is_user, is_acquire, ends_user, is_release_of}
-use Rattle.graph_model.specs.Access.{access}
-use Rattle.graph_model.specs.Edges.{edges_from_some, verb_edges, line_edges}
-use Rattle.graph_model.specs.Fits.{on_lines, access_unknown, access_outside}
-use Rattle.graph_model.specs.Spelling.{column_name, line_name, on_words}
+use Rattle.graph_model.specs.declared.graph.verb.Line.{Line}
+use Rattle.graph_model.specs.declared.graph.verb.Mode.{Mode}
+use Rattle.graph_model.specs.declared.graph.verb.Mode.TheVariants.{Read, Write, Sum}
+use Rattle.graph_model.specs.declared.graph.verb.EdgeKind.{EdgeKind}
+use Rattle.graph_model.specs.declared.graph.verb.EdgeKind.TheVariants.{Passes}
+use Rattle.graph_model.specs.declared.graph.verb.Verb.{Verb}
+use Rattle.graph_model.specs.declared.graph.verb.Verb.TheVariants.{User, Trigger, Merge, MergeIgnore, Acquire, Release, Fill, Copy, Reduce, Task}
+use Rattle.graph_model.specs.declared.graph.verb.Kernel.TheVariants.{Iota, Expect}
+use Rattle.graph_model.specs.graph.Graph.{is_user, is_acquire, ends_user, is_release_of}
+use Rattle.graph_model.specs.graph.Access.{access}
+use Rattle.graph_model.specs.graph.Edges.{edges_from_some, verb_edges, line_edges}
+use Rattle.graph_model.specs.graph.Fits.{on_lines, access_unknown, access_outside}
+use Rattle.graph_model.specs.graph.Spelling.{column_name, line_name, on_words}
 use Rattle.graph_gen.specs.MadeGraph.{made_line}
 use Rattle.graph_gen.proofs.LineNames.{decimal_short}
 use Rattle.graph_gen.proofs.Standing.{lined, both_false, Standing, NextFits, Sized, size_cons, size_none, within_sixty, name_size}

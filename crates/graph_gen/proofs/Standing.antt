@@ -7,16 +7,16 @@ use Rattle.std.specs.Str.{bytes_eq}
 use Rattle.std.proofs.lemmas.Bool.{false_from_ne_true, ltb-true}
 use Rattle.std.proofs.lemmas.List.Folds.{list_any-append}
 use Rattle.std.proofs.lemmas.List.Sums.{sum_by-cons}
-use Rattle.graph_model.specs.declared.verb.Access.{Access}
-use Rattle.graph_model.specs.declared.verb.Line.{Line}
-use Rattle.graph_model.specs.declared.why.Why.TheVariants as why
-use Rattle.graph_model.specs.declared.verb.Verb.{Verb}
-use Rattle.graph_model.specs.Graph.{GraphValue, ends_user, is_release_of}
-use Rattle.graph_model.specs.Access.{verb_accesses}
-use Rattle.graph_model.specs.Counts.{words_size}
-use Rattle.graph_model.specs.Edges.{edges, line_edges}
-use Rattle.graph_model.specs.Fits.{first_reason, repeats, is_used, with_line, is_beyond, verb_repeats, line_unknown, verb_unlike, takes_no_on, verb_misnumbered, access_outside, arrives_late, merges_many, line_fault, IsVerb, IsLine, LinesFit}
-use Rattle.graph_model.specs.Spelling.{spelled, verb_words, on_words, line_words, line_name, head}
+use Rattle.graph_model.specs.declared.graph.verb.Access.{Access}
+use Rattle.graph_model.specs.declared.graph.verb.Line.{Line}
+use Rattle.graph_model.specs.declared.graph.why.Why.TheVariants as why
+use Rattle.graph_model.specs.declared.graph.verb.Verb.{Verb}
+use Rattle.graph_model.specs.graph.Graph.{GraphValue, ends_user, is_release_of}
+use Rattle.graph_model.specs.graph.Access.{verb_accesses}
+use Rattle.graph_model.specs.kept.Counts.{words_size}
+use Rattle.graph_model.specs.graph.Edges.{edges, line_edges}
+use Rattle.graph_model.specs.graph.Fits.{first_reason, repeats, is_used, with_line, is_beyond, verb_repeats, line_unknown, verb_unlike, takes_no_on, verb_misnumbered, access_outside, arrives_late, merges_many, line_fault, IsVerb, IsLine, LinesFit}
+use Rattle.graph_model.specs.graph.Spelling.{spelled, verb_words, on_words, line_words, line_name, head}
 use Rattle.graph_model.proofs.CountLaws.{spelled_size}
 use Rattle.graph_model.proofs.GraphPush.{head_with_line}
 use Rattle.graph_model.proofs.RowLaws.{edges_push}

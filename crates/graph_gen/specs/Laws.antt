@@ -1,7 +1,7 @@
 -- What holds of all generated graphs.
 use Rattle.std.specs.Prelude.{◌≡◌, ℕ, ◌<◌, ◌≤◌, ◌^◌, length}
-use Rattle.graph_model.specs.Fits.{IsGraph}
-use Rattle.graph_model.specs.Rules.{Accepted}
+use Rattle.graph_model.specs.graph.Fits.{IsGraph}
+use Rattle.graph_model.specs.meaning.Rules.{Accepted}
 use Rattle.graph_gen.specs.MadeGraph.{made_graph}
 
 -- a generated graph is a graph of as many lines as its size says

@@ -1,7 +1,7 @@
 //! The declarations of a generated graph.
 
 ghost use Rattle.std.specs.Prelude.{◌≡◌, ◌++◌, [], ◌∷◌, OnOk, IfOk, IsTrue, codes};
-ghost use Rattle.graph_model.specs.Name.{is_name};
+ghost use Rattle.graph_model.specs.graph.Name.{is_name};
 ghost use Rattle.graph_gen.specs.MadeGraph.{made_decls};
 
 use graph_model::decl::Decl;

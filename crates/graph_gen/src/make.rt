@@ -1,7 +1,7 @@
 //! Graphs that are generated.
 
 ghost use Rattle.std.specs.Prelude.{◌≡◌, ℕ, ◌<◌, ◌≤◌, ◌^◌, ◌++◌, length, IfOk, OnOk};
-ghost use Rattle.graph_model.specs.Fits.{LinesFit};
+ghost use Rattle.graph_model.specs.graph.Fits.{LinesFit};
 ghost use Rattle.graph_gen.specs.MadeGraph.{made_decls, made_of, unmade, one_more, after_draws, made_graph};
 
 use crate::declarations::declared;

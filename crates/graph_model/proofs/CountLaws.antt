@@ -9,22 +9,22 @@ use Rattle.std.proofs.lemmas.List.{take_all}
 use Rattle.std.proofs.lemmas.List.Elements.{filter-append, filter_map-append}
 use Rattle.std.proofs.lemmas.List.Sums.{sum_by-append, sum_by-cons}
 use Rattle.index_spaces.specs.Space.{space_size, AscendAbove, IsSpace}
-use Rattle.graph_model.specs.declared.counts.Counts.{Counts}
-use Rattle.graph_model.specs.declared.decl.Decl.{Decl}
-use Rattle.graph_model.specs.declared.decl.Decl.TheVariants.{Space, Inst, Lock, Barrier}
-use Rattle.graph_model.specs.declared.verb.Access.{Access}
-use Rattle.graph_model.specs.declared.verb.Line.{Line}
-use Rattle.graph_model.specs.declared.verb.Verb.{Verb}
-use Rattle.graph_model.specs.declared.verb.Verb.TheVariants.{User, Trigger, Cancel, Merge, MergeIgnore, Phase, Arrive, Acquire, Release, Fill, Copy, Reduce, Task}
-use Rattle.graph_model.specs.declared.verb.Kernel.{Kernel}
-use Rattle.graph_model.specs.declared.verb.Kernel.TheVariants.{Iota, Axpy, Stencil, Scan, Hist, Dot, Expect, Gather}
-use Rattle.graph_model.specs.Graph.{GraphValue, ColumnInfo, BarrierInfo, space_of, columns_of, lock_of, barrier_of, named_spaces, columns, locks, barriers, space_at}
-use Rattle.graph_model.specs.declared.verb.Mode.TheVariants.{Read, Write, Sum}
-use Rattle.graph_model.specs.Access.{access, target_mode, kernel_accesses, verb_accesses}
-use Rattle.graph_model.specs.Edges.{edges, line_edges}
-use Rattle.graph_model.specs.Fits.{is_inst, cell_count, with_decl, with_line, access_unknown, verb_unknown, line_fault, LinesFit, IsGraph}
-use Rattle.graph_model.specs.Spelling.{spelled, space_name, column_name, decl_words, kernel_words, verb_words, on_words, line_words, header, decls_text, lines_text, head, comma_word, interval_word}
-use Rattle.graph_model.specs.Counts.{words_size, cells_of_decl, counts_of}
+use Rattle.graph_model.specs.declared.kept.counts.Counts.{Counts}
+use Rattle.graph_model.specs.declared.graph.decl.Decl.{Decl}
+use Rattle.graph_model.specs.declared.graph.decl.Decl.TheVariants.{Space, Inst, Lock, Barrier}
+use Rattle.graph_model.specs.declared.graph.verb.Access.{Access}
+use Rattle.graph_model.specs.declared.graph.verb.Line.{Line}
+use Rattle.graph_model.specs.declared.graph.verb.Verb.{Verb}
+use Rattle.graph_model.specs.declared.graph.verb.Verb.TheVariants.{User, Trigger, Cancel, Merge, MergeIgnore, Phase, Arrive, Acquire, Release, Fill, Copy, Reduce, Task}
+use Rattle.graph_model.specs.declared.graph.verb.Kernel.{Kernel}
+use Rattle.graph_model.specs.declared.graph.verb.Kernel.TheVariants.{Iota, Axpy, Stencil, Scan, Hist, Dot, Expect, Gather}
+use Rattle.graph_model.specs.graph.Graph.{GraphValue, ColumnInfo, BarrierInfo, space_of, columns_of, lock_of, barrier_of, named_spaces, columns, locks, barriers, space_at}
+use Rattle.graph_model.specs.declared.graph.verb.Mode.TheVariants.{Read, Write, Sum}
+use Rattle.graph_model.specs.graph.Access.{access, target_mode, kernel_accesses, verb_accesses}
+use Rattle.graph_model.specs.graph.Edges.{edges, line_edges}
+use Rattle.graph_model.specs.graph.Fits.{is_inst, cell_count, with_decl, with_line, access_unknown, verb_unknown, line_fault, LinesFit, IsGraph}
+use Rattle.graph_model.specs.graph.Spelling.{spelled, space_name, column_name, decl_words, kernel_words, verb_words, on_words, line_words, header, decls_text, lines_text, head, comma_word, interval_word}
+use Rattle.graph_model.specs.kept.Counts.{words_size, cells_of_decl, counts_of}
 use Rattle.graph_model.proofs.GraphFacts.{fits_known}
 use Rattle.graph_model.proofs.GraphPush.{head_with_line, decls_text_push}
 use Rattle.basics.proofs.ListFacts.{contains_here, contains_there}

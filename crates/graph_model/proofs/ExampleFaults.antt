@@ -1,11 +1,11 @@
 -- Items that small graphs refuse.
 use Rattle.std.specs.Prelude.{◌≡◌, [], ◌∷◌, Some, None, codes, refl}
 use Rattle.std.specs.Fmt.{digits}
-use Rattle.graph_model.specs.declared.decl.Decl.TheVariants.{Space, Inst}
-use Rattle.graph_model.specs.declared.verb.Verb.TheVariants.{User, Trigger, Cancel, Arrive, Fill}
-use Rattle.graph_model.specs.declared.why.Why.TheVariants as why
-use Rattle.graph_model.specs.Graph.{GraphValue}
-use Rattle.graph_model.specs.Fits.{line_fault}
+use Rattle.graph_model.specs.declared.graph.decl.Decl.TheVariants.{Space, Inst}
+use Rattle.graph_model.specs.declared.graph.verb.Verb.TheVariants.{User, Trigger, Cancel, Arrive, Fill}
+use Rattle.graph_model.specs.declared.graph.why.Why.TheVariants as why
+use Rattle.graph_model.specs.graph.Graph.{GraphValue}
+use Rattle.graph_model.specs.graph.Fits.{line_fault}
 use Rattle.graph_model.proofs.Examples.{graph, line, wrapping_sum}
 
 -- a third arrival where two complete the phase

@@ -6,14 +6,14 @@ use Rattle.std.specs.List.{list_any, list_all}
 use Rattle.std.proofs.lemmas.Bool.{true≢false, or_parts}
 use Rattle.index_spaces.specs.Laws.{PointsAreListed}
 use Rattle.index_spaces.specs.Space.{has_point, points, IsWithin}
-use Rattle.graph_model.specs.declared.verb.Access.{Access}
-use Rattle.graph_model.specs.declared.verb.Kernel.{Kernel}
-use Rattle.graph_model.specs.declared.verb.Kernel.TheVariants.{Iota, Axpy, Stencil, Scan, Hist, Dot, Expect, Gather}
-use Rattle.graph_model.specs.declared.verb.Verb.{Verb}
-use Rattle.graph_model.specs.declared.verb.Verb.TheVariants.{User, Trigger, Cancel, Merge, MergeIgnore, Phase, Arrive, Acquire, Release, Fill, Copy, Reduce, Task}
-use Rattle.graph_model.specs.Graph.{GraphValue, space_at, column_space, verb_at, is_phase, line_passes, arrivals, barrier_count, never_comes, never_comes_as}
-use Rattle.graph_model.specs.Access.{kernel_accesses, verb_accesses}
-use Rattle.graph_model.specs.Fits.{access_outside, phase_count, barrier_of_phase}
+use Rattle.graph_model.specs.declared.graph.verb.Access.{Access}
+use Rattle.graph_model.specs.declared.graph.verb.Kernel.{Kernel}
+use Rattle.graph_model.specs.declared.graph.verb.Kernel.TheVariants.{Iota, Axpy, Stencil, Scan, Hist, Dot, Expect, Gather}
+use Rattle.graph_model.specs.declared.graph.verb.Verb.{Verb}
+use Rattle.graph_model.specs.declared.graph.verb.Verb.TheVariants.{User, Trigger, Cancel, Merge, MergeIgnore, Phase, Arrive, Acquire, Release, Fill, Copy, Reduce, Task}
+use Rattle.graph_model.specs.graph.Graph.{GraphValue, space_at, column_space, verb_at, is_phase, line_passes, arrivals, barrier_count, never_comes, never_comes_as}
+use Rattle.graph_model.specs.graph.Access.{kernel_accesses, verb_accesses}
+use Rattle.graph_model.specs.graph.Fits.{access_outside, phase_count, barrier_of_phase}
 use Rattle.basics.proofs.ListFacts.{contains_here, contains_there, passes_each}
 
 -- a line has three accesses at most

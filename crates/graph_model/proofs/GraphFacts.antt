@@ -7,20 +7,20 @@ use Rattle.std.proofs.lemmas.Bool.{true≢false, or_parts, false_from_ne_true, l
 use Rattle.std.proofs.lemmas.Option.{none-some, same_Some, slice_get-get_or}
 use Rattle.std.proofs.lemmas.List.Elements.{Contains-append_left, Contains-append_right, Contains-append_cases, Contains-get_or}
 use Rattle.index_spaces.specs.Space.{points, interval_points, space_size, IsSpace}
-use Rattle.graph_model.specs.declared.decl.Decl.{Decl}
-use Rattle.graph_model.specs.declared.decl.Decl.TheVariants.{Space, Inst, Lock, Barrier}
-use Rattle.graph_model.specs.declared.verb.Edge.{Edge}
-use Rattle.graph_model.specs.declared.verb.EdgeKind.{EdgeKind}
-use Rattle.graph_model.specs.declared.verb.EdgeKind.TheVariants.{Passes, Ignores, Faults}
-use Rattle.graph_model.specs.declared.verb.Line.{Line}
-use Rattle.graph_model.specs.declared.why.Why.{Why}
-use Rattle.graph_model.specs.declared.why.Why.TheVariants as why
-use Rattle.graph_model.specs.declared.verb.Verb.{Verb}
-use Rattle.graph_model.specs.declared.verb.Verb.TheVariants.{User, Trigger, Cancel, Merge, MergeIgnore, Phase, Arrive, Acquire, Release, Fill, Copy, Reduce, Task}
-use Rattle.graph_model.specs.Graph.{GraphValue, is_phase_of, space_of, named_spaces, space_at}
-use Rattle.graph_model.specs.Access.{accesses, verb_accesses}
-use Rattle.graph_model.specs.Edges.{edge, last_place, edges_from_some, verb_edges, line_edges, edges_after, edges}
-use Rattle.graph_model.specs.Fits.{first_reason, line_tests, line_fault, line_unknown, named_lines, on_lines, access_unknown, DeclsFit, LinesFit, IsGraph}
+use Rattle.graph_model.specs.declared.graph.decl.Decl.{Decl}
+use Rattle.graph_model.specs.declared.graph.decl.Decl.TheVariants.{Space, Inst, Lock, Barrier}
+use Rattle.graph_model.specs.declared.graph.verb.Edge.{Edge}
+use Rattle.graph_model.specs.declared.graph.verb.EdgeKind.{EdgeKind}
+use Rattle.graph_model.specs.declared.graph.verb.EdgeKind.TheVariants.{Passes, Ignores, Faults}
+use Rattle.graph_model.specs.declared.graph.verb.Line.{Line}
+use Rattle.graph_model.specs.declared.graph.why.Why.{Why}
+use Rattle.graph_model.specs.declared.graph.why.Why.TheVariants as why
+use Rattle.graph_model.specs.declared.graph.verb.Verb.{Verb}
+use Rattle.graph_model.specs.declared.graph.verb.Verb.TheVariants.{User, Trigger, Cancel, Merge, MergeIgnore, Phase, Arrive, Acquire, Release, Fill, Copy, Reduce, Task}
+use Rattle.graph_model.specs.graph.Graph.{GraphValue, is_phase_of, space_of, named_spaces, space_at}
+use Rattle.graph_model.specs.graph.Access.{accesses, verb_accesses}
+use Rattle.graph_model.specs.graph.Edges.{edge, last_place, edges_from_some, verb_edges, line_edges, edges_after, edges}
+use Rattle.graph_model.specs.graph.Fits.{first_reason, line_tests, line_fault, line_unknown, named_lines, on_lines, access_unknown, DeclsFit, LinesFit, IsGraph}
 use Rattle.basics.proofs.ListFacts.{contains_none, contains_cases, contains_here, contains_from, passes_some, map_contains}
 use Rattle.graph_model.proofs.Changes.{HavePoints}
 

@@ -9,10 +9,10 @@ use Rattle.index_spaces.specs.Space.{has_point, points, space_size, rank, point_
 use Rattle.index_spaces.specs.Column.{ColumnValue, cell_of}
 use Rattle.index_spaces.specs.Held.{held_at, HoldsOtherwise}
 use Rattle.index_spaces.specs.Laws.{PointsAreListed, PointsAscend, PointOfRank, RankOfPoint}
-use Rattle.graph_model.specs.Graph.{GraphValue, column_space}
-use Rattle.graph_model.specs.Effect.{Cells, Change, CellChange, cell_after, cell_after_if, cells_after_one, cells_after, changes_at}
-use Rattle.graph_model.specs.Evaluation.{column_of}
-use Rattle.graph_model.specs.HeldCells.{HasCells, MakesChanges, CellsByPoint, ChangesByPoint, ColumnsOfChanges}
+use Rattle.graph_model.specs.graph.Graph.{GraphValue, column_space}
+use Rattle.graph_model.specs.meaning.Effect.{Cells, Change, CellChange, cell_after, cell_after_if, cells_after_one, cells_after, changes_at}
+use Rattle.graph_model.specs.meaning.Evaluation.{column_of}
+use Rattle.graph_model.specs.meaning.HeldCells.{HasCells, MakesChanges, CellsByPoint, ChangesByPoint, ColumnsOfChanges}
 use Rattle.basics.proofs.ListFacts.{contains_none, contains_cases, map_contains}
 use Rattle.graph_model.proofs.Changes.{Untouched, cells_after_untouched, map_agree}
 

@@ -5,17 +5,17 @@ use Rattle.std.specs.List.{list_any}
 use Rattle.std.proofs.lemmas.List.Elements.{filter-append, Contains-append_left}
 use Rattle.std.proofs.lemmas.List.Folds.{list_any-append}
 use Rattle.std.proofs.lemmas.List.Sums.{sum_by-append, sum_by-le}
-use Rattle.graph_model.specs.declared.decl.Decl.{Decl}
-use Rattle.graph_model.specs.declared.mark.Mark.{Mark}
-use Rattle.graph_model.specs.declared.side.Side.TheVariants.{From, To}
-use Rattle.graph_model.specs.declared.verb.Edge.{Edge}
-use Rattle.graph_model.specs.declared.verb.Line.{Line}
-use Rattle.graph_model.specs.declared.verb.Verb.{Verb}
-use Rattle.graph_model.specs.declared.verb.Verb.TheVariants.{User, Trigger, Cancel, Merge, MergeIgnore, Phase, Arrive, Acquire, Release, Fill, Copy, Reduce, Task}
-use Rattle.graph_model.specs.Graph.{GraphValue, ends_user, is_release_of, arrival_weight, arrivals}
-use Rattle.graph_model.specs.Edges.{line_edges, edges_after, edges, edges_into, edges_out_of}
-use Rattle.graph_model.specs.Fits.{named_lines, on_lines, line_fault, with_decl, with_line}
-use Rattle.graph_model.specs.Rows.{RowsValue, NamesBelow, EndsBelow, mark_after, mark_of, AddsRow, AreRowsOf}
+use Rattle.graph_model.specs.declared.graph.decl.Decl.{Decl}
+use Rattle.graph_model.specs.declared.kept.mark.Mark.{Mark}
+use Rattle.graph_model.specs.declared.kept.side.Side.TheVariants.{From, To}
+use Rattle.graph_model.specs.declared.graph.verb.Edge.{Edge}
+use Rattle.graph_model.specs.declared.graph.verb.Line.{Line}
+use Rattle.graph_model.specs.declared.graph.verb.Verb.{Verb}
+use Rattle.graph_model.specs.declared.graph.verb.Verb.TheVariants.{User, Trigger, Cancel, Merge, MergeIgnore, Phase, Arrive, Acquire, Release, Fill, Copy, Reduce, Task}
+use Rattle.graph_model.specs.graph.Graph.{GraphValue, ends_user, is_release_of, arrival_weight, arrivals}
+use Rattle.graph_model.specs.graph.Edges.{line_edges, edges_after, edges, edges_into, edges_out_of}
+use Rattle.graph_model.specs.graph.Fits.{named_lines, on_lines, line_fault, with_decl, with_line}
+use Rattle.graph_model.specs.kept.Rows.{RowsValue, NamesBelow, EndsBelow, mark_after, mark_of, AddsRow, AreRowsOf}
 use Rattle.graph_model.proofs.GraphFacts.{line_ends, named_below}
 use Rattle.basics.proofs.ListFacts.{contains_here}
 

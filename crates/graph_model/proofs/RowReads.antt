@@ -4,15 +4,15 @@ use Rattle.std.specs.Prelude.{Option, Some, nat_lt, not, option_map, slice_get}
 use Rattle.std.specs.Option.{option_map_or}
 use Rattle.std.proofs.lemmas.Bool.{leb-false, or_parts}
 use Rattle.std.proofs.lemmas.Option.{get_or_from_slice_get, slice_get_read}
-use Rattle.graph_model.specs.declared.mark.Mark.{Mark}
-use Rattle.graph_model.specs.declared.verb.Edge.{Edge}
-use Rattle.graph_model.specs.declared.verb.Line.{Line}
-use Rattle.graph_model.specs.declared.verb.Verb.{Verb}
-use Rattle.graph_model.specs.declared.verb.Verb.TheVariants.{User, Trigger, Cancel, Merge, MergeIgnore, Phase, Arrive, Acquire, Release, Fill, Copy, Reduce, Task}
-use Rattle.graph_model.specs.Graph.{GraphValue, BarrierInfo, barriers, barrier_count, verb_at, never_comes, never_comes_as}
-use Rattle.graph_model.specs.Edges.{edges_into, edges_out_of}
-use Rattle.graph_model.specs.Fits.{verb_unknown, IsGraph}
-use Rattle.graph_model.specs.Rows.{RowsValue, mark_at, mark_of, AreRowsOf}
+use Rattle.graph_model.specs.declared.kept.mark.Mark.{Mark}
+use Rattle.graph_model.specs.declared.graph.verb.Edge.{Edge}
+use Rattle.graph_model.specs.declared.graph.verb.Line.{Line}
+use Rattle.graph_model.specs.declared.graph.verb.Verb.{Verb}
+use Rattle.graph_model.specs.declared.graph.verb.Verb.TheVariants.{User, Trigger, Cancel, Merge, MergeIgnore, Phase, Arrive, Acquire, Release, Fill, Copy, Reduce, Task}
+use Rattle.graph_model.specs.graph.Graph.{GraphValue, BarrierInfo, barriers, barrier_count, verb_at, never_comes, never_comes_as}
+use Rattle.graph_model.specs.graph.Edges.{edges_into, edges_out_of}
+use Rattle.graph_model.specs.graph.Fits.{verb_unknown, IsGraph}
+use Rattle.graph_model.specs.kept.Rows.{RowsValue, mark_at, mark_of, AreRowsOf}
 use Rattle.graph_model.proofs.GraphFacts.{fits_known, fit_at}
 use Rattle.graph_model.proofs.RowLaws.{few_arrivals}
 

@@ -8,15 +8,15 @@ use Rattle.std.proofs.lemmas.Option.{none-some, same_Some, slice_get_within, get
 use Rattle.std.proofs.lemmas.Grind.{flat_map-append}
 use Rattle.std.proofs.lemmas.List.{append-nil}
 use Rattle.std.proofs.lemmas.List.Elements.{filter_map-append, Contains-append_cases}
-use Rattle.graph_model.specs.declared.decl.Decl.{Decl}
-use Rattle.graph_model.specs.declared.decl.Decl.TheVariants.{Space, Inst, Lock, Barrier}
-use Rattle.graph_model.specs.declared.verb.Line.{Line}
-use Rattle.graph_model.specs.declared.why.Why.TheVariants as why
-use Rattle.graph_model.specs.Graph.{GraphValue, ColumnInfo, BarrierInfo, space_of, columns_of, lock_of, barrier_of, named_spaces, columns, locks, barriers, space_at}
-use Rattle.graph_model.specs.Fits.{is_inst, is_large, is_beyond, cell_count, merges_many, decl_unknown, decl_tests, decl_fault, line_tests, line_fault, with_decl, with_line, DeclsFit, IsGraph}
-use Rattle.graph_model.specs.Edges.{edges}
-use Rattle.graph_model.specs.Spelling.{head}
-use Rattle.graph_model.specs.Tables.{TablesValue, places_of, tables_of, tables_with, IsWithinLimits}
+use Rattle.graph_model.specs.declared.graph.decl.Decl.{Decl}
+use Rattle.graph_model.specs.declared.graph.decl.Decl.TheVariants.{Space, Inst, Lock, Barrier}
+use Rattle.graph_model.specs.declared.graph.verb.Line.{Line}
+use Rattle.graph_model.specs.declared.graph.why.Why.TheVariants as why
+use Rattle.graph_model.specs.graph.Graph.{GraphValue, ColumnInfo, BarrierInfo, space_of, columns_of, lock_of, barrier_of, named_spaces, columns, locks, barriers, space_at}
+use Rattle.graph_model.specs.graph.Fits.{is_inst, is_large, is_beyond, cell_count, merges_many, decl_unknown, decl_tests, decl_fault, line_tests, line_fault, with_decl, with_line, DeclsFit, IsGraph}
+use Rattle.graph_model.specs.graph.Edges.{edges}
+use Rattle.graph_model.specs.graph.Spelling.{head}
+use Rattle.graph_model.specs.kept.Tables.{TablesValue, places_of, tables_of, tables_with, IsWithinLimits}
 use Rattle.graph_model.proofs.GraphPush.{long_head}
 use Rattle.graph_model.proofs.GraphFacts.{none_first}
 use Rattle.basics.proofs.ListFacts.{contains_none, map_contains}

@@ -3,18 +3,18 @@ use Rattle.std.proofs.Common.{◌≡◌, ℕ, ◌<◌, Bool, true, false, List, 
 use Rattle.std.specs.Prelude.{Option, Some, None, option_map, slice_get, Contains, ◌==◌}
 use Rattle.std.specs.Option.{option_map_or}
 use Rattle.std.proofs.lemmas.Bool.{true≢false, eq-eqb, eqb-true, not-true}
-use Rattle.graph_model.specs.declared.verb.Line.{Line}
-use Rattle.graph_model.specs.declared.verb.Verb.{Verb}
-use Rattle.graph_model.specs.declared.verb.Verb.TheVariants.{User, Trigger, Cancel, Merge, MergeIgnore, Phase, Arrive, Acquire, Release, Fill, Copy, Reduce, Task}
-use Rattle.graph_model.specs.Graph.{GraphValue, verb_at, line_passes, is_acquire_of, is_release_of, is_user, is_phase, is_phase_of, ends_user, never_comes_as}
-use Rattle.graph_model.specs.Rules.{Acquires, Releases}
+use Rattle.graph_model.specs.declared.graph.verb.Line.{Line}
+use Rattle.graph_model.specs.declared.graph.verb.Verb.{Verb}
+use Rattle.graph_model.specs.declared.graph.verb.Verb.TheVariants.{User, Trigger, Cancel, Merge, MergeIgnore, Phase, Arrive, Acquire, Release, Fill, Copy, Reduce, Task}
+use Rattle.graph_model.specs.graph.Graph.{GraphValue, verb_at, line_passes, is_acquire_of, is_release_of, is_user, is_phase, is_phase_of, ends_user, never_comes_as}
+use Rattle.graph_model.specs.meaning.Rules.{Acquires, Releases}
 use Rattle.std.specs.List.{list_any}
 use Rattle.std.proofs.lemmas.Option.{none-some, same_Some, slice_get_within}
-use Rattle.graph_model.specs.declared.verb.Edge.{Edge}
-use Rattle.graph_model.specs.declared.verb.EdgeKind.{EdgeKind}
-use Rattle.graph_model.specs.declared.verb.EdgeKind.TheVariants.{Passes, Ignores, Faults}
-use Rattle.graph_model.specs.Edges.{edge, last_place, edges_from_some, verb_edges}
-use Rattle.graph_model.specs.Evaluation.{arrival_value}
+use Rattle.graph_model.specs.declared.graph.verb.Edge.{Edge}
+use Rattle.graph_model.specs.declared.graph.verb.EdgeKind.{EdgeKind}
+use Rattle.graph_model.specs.declared.graph.verb.EdgeKind.TheVariants.{Passes, Ignores, Faults}
+use Rattle.graph_model.specs.graph.Edges.{edge, last_place, edges_from_some, verb_edges}
+use Rattle.graph_model.specs.meaning.Evaluation.{arrival_value}
 use Rattle.basics.proofs.ListFacts.{contains_none, contains_cases, map_contains}
 
 pub acquire_of_is : (l : ℕ) (v : Verb) → is_acquire_of l v ≡ true → v ≡ Acquire l

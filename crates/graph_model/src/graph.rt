@@ -1,20 +1,30 @@
-//! Graphs.
+//! What a graph is: declarations and lines, and which items fit.
 
+pub(crate) mod access;
+pub mod decl;
+pub(crate) mod edges;
 mod faults;
+pub mod found;
+pub mod lists;
+pub mod name;
 mod quantities;
+pub(crate) mod repeats;
 mod sizes;
+pub mod verb;
+pub mod why;
+pub(crate) mod words;
 
-use crate::access::verb_access;
-use crate::counts::Counts;
-use crate::decl::{BarrierInfo, Decl};
-use crate::edges::edges_of_line;
-use crate::found::Found;
-use crate::mark::Mark;
-use crate::name::Name;
-use crate::names::Names;
-use crate::rows::Rows;
-use crate::tables::Tables;
-use crate::verb::{Access, Edge, Line, Verb};
+use crate::graph::access::verb_access;
+use crate::graph::decl::{BarrierInfo, Decl};
+use crate::graph::edges::edges_of_line;
+use crate::graph::found::Found;
+use crate::graph::name::Name;
+use crate::graph::verb::{Access, Edge, Line, Verb};
+use crate::kept::counts::Counts;
+use crate::kept::mark::Mark;
+use crate::kept::names::Names;
+use crate::kept::rows::Rows;
+use crate::kept::tables::Tables;
 use index_spaces::NoMemory;
 use index_spaces::room::{push_within, reserve};
 use index_spaces::space::Space;
@@ -47,15 +57,15 @@ pub struct Graph {
 
 impl Model for Graph {
     ghost use Rattle.std.specs.Prelude.{◌≡◌};
-    ghost use Rattle.graph_model.specs.Graph.{GraphValue};
+    ghost use Rattle.graph_model.specs.graph.Graph.{GraphValue};
 
     ghost Value = { GraphValue };
 
-    ghost use Rattle.graph_model.specs.Fits.{IsGraph};
-    ghost use Rattle.graph_model.specs.Tables.{tables_of, IsWithinLimits};
-    ghost use Rattle.graph_model.specs.Names.{AreNamesOf};
-    ghost use Rattle.graph_model.specs.Rows.{AreRowsOf};
-    ghost use Rattle.graph_model.specs.Counts.{counts_of};
+    ghost use Rattle.graph_model.specs.graph.Fits.{IsGraph};
+    ghost use Rattle.graph_model.specs.kept.Tables.{tables_of, IsWithinLimits};
+    ghost use Rattle.graph_model.specs.graph.Names.{AreNamesOf};
+    ghost use Rattle.graph_model.specs.kept.Rows.{AreRowsOf};
+    ghost use Rattle.graph_model.specs.kept.Counts.{counts_of};
 
     ghost view = { λ a. record { decls = a.decls.items; lines = a.lines.items } };
 
@@ -71,13 +81,13 @@ impl Model for Graph {
 
 impl Graph {
     ghost use Rattle.std.specs.Prelude.{◌≡◌, [], length, ◌<◌, ◌≤◌, slice_get, position, false, None, OnOk, OnErr, MatchOption, option_map};
-    ghost use Rattle.graph_model.specs.Graph.{named_spaces, columns, locks, barriers, space_at, column_space, never_comes, ends_user, is_release_of};
+    ghost use Rattle.graph_model.specs.graph.Graph.{named_spaces, columns, locks, barriers, space_at, column_space, never_comes, ends_user, is_release_of};
     ghost use Rattle.std.specs.List.{list_any};
-    ghost use Rattle.graph_model.specs.Rows.{mark_of};
-    ghost use Rattle.graph_model.specs.Edges.{edges_into, edges_out_of};
-    ghost use Rattle.graph_model.specs.Access.{accesses};
-    ghost use Rattle.graph_model.specs.Names.{StandsFor, found_decl, is_column_named};
-    ghost use Rattle.graph_model.specs.Fits.{IsGraph, IsDecl, IsLine, decl_fault, line_fault, with_decl, with_line, is_used};
+    ghost use Rattle.graph_model.specs.kept.Rows.{mark_of};
+    ghost use Rattle.graph_model.specs.graph.Edges.{edges_into, edges_out_of};
+    ghost use Rattle.graph_model.specs.graph.Access.{accesses};
+    ghost use Rattle.graph_model.specs.graph.Names.{StandsFor, found_decl, is_column_named};
+    ghost use Rattle.graph_model.specs.graph.Fits.{IsGraph, IsDecl, IsLine, decl_fault, line_fault, with_decl, with_line, is_used};
 
     /// The graph with no declaration and no line. It takes no memory.
     pub fn new(alloc: Global) -> Graph

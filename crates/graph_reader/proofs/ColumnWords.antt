@@ -4,11 +4,11 @@ use Rattle.std.specs.Prelude.{Option, Some, None, is_some, position, unwrap_or, 
 use Rattle.std.specs.List.{list_any}
 use Rattle.std.proofs.lemmas.Bool.{true≢false, and_parts}
 use Rattle.std.proofs.lemmas.Option.{none-some, same_Some}
-use Rattle.graph_model.specs.declared.decl.ColumnInfo.{ColumnInfo}
-use Rattle.graph_model.specs.Name.{is_name}
-use Rattle.graph_model.specs.Graph.{GraphValue, columns}
-use Rattle.graph_model.specs.Names.{is_column_named}
-use Rattle.graph_model.specs.Fits.{IsGraph}
+use Rattle.graph_model.specs.declared.graph.decl.ColumnInfo.{ColumnInfo}
+use Rattle.graph_model.specs.graph.Name.{is_name}
+use Rattle.graph_model.specs.graph.Graph.{GraphValue, columns}
+use Rattle.graph_model.specs.graph.Names.{is_column_named}
+use Rattle.graph_model.specs.graph.Fits.{IsGraph}
 use Rattle.graph_reader.specs.Words.{pieces, is_two_names, is_column}
 use Rattle.graph_reader.specs.Cuts.{two_pieces}
 use Rattle.graph_reader.specs.Draft.{column_number_of}

@@ -6,14 +6,14 @@ use Rattle.std.specs.Option.{option_map_or}
 use Rattle.std.proofs.lemmas.Bool.{true≢false, and_parts, ne_eqb, le-leb, leb-true, cond-true, cond-false, eqb-true}
 use Rattle.std.proofs.lemmas.Option.{none-some, same_Some}
 use Rattle.index_spaces.specs.declared.Op.{Op}
-use Rattle.graph_model.specs.declared.decl.Decl.{Decl}
-use Rattle.graph_model.specs.declared.verb.Line.{Line}
-use Rattle.graph_model.specs.declared.verb.Verb.{Verb}
-use Rattle.graph_model.specs.declared.why.Why.TheVariants as why
+use Rattle.graph_model.specs.declared.graph.decl.Decl.{Decl}
+use Rattle.graph_model.specs.declared.graph.verb.Line.{Line}
+use Rattle.graph_model.specs.declared.graph.verb.Verb.{Verb}
+use Rattle.graph_model.specs.declared.graph.why.Why.TheVariants as why
 use Rattle.graph_reader.specs.declared.item.ItemError.TheVariants as errors
 use Rattle.graph_reader.specs.FirstFault.{is_empty, words_fault, draft_fault}
-use Rattle.graph_model.specs.declared.verb.Verb.TheVariants.{Merge, MergeIgnore}
-use Rattle.graph_model.specs.Graph.{GraphValue}
+use Rattle.graph_model.specs.declared.graph.verb.Verb.TheVariants.{Merge, MergeIgnore}
+use Rattle.graph_model.specs.graph.Graph.{GraphValue}
 use Rattle.graph_reader.specs.declared.item.ItemError.{ItemError}
 use Rattle.graph_reader.specs.declared.kind.Kind.{Kind}
 use Rattle.graph_reader.specs.declared.kind.Kind.TheVariants as kinds

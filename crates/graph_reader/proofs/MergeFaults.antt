@@ -2,14 +2,14 @@
 use Rattle.std.proofs.Common.{◌⊎◌, inr, ◌≡◌, ℕ, Bool, true, false, cond, not, ◌&&◌, ◌||◌, List, [], ◌∷◌, map, refl, sym, ◌∙◌, ap}
 use Rattle.std.specs.Prelude.{Some, None, bytes_eq, filter_map}
 use Rattle.std.specs.List.{list_any, list_all}
-use Rattle.graph_model.specs.declared.decl.Decl.{Decl}
-use Rattle.graph_model.specs.declared.verb.Line.{Line}
-use Rattle.graph_model.specs.declared.verb.Verb.{Verb}
-use Rattle.graph_model.specs.declared.why.Why.{Why}
-use Rattle.graph_model.specs.declared.why.Why.TheVariants as why
-use Rattle.graph_model.specs.Graph.{GraphValue}
-use Rattle.graph_model.specs.Name.{is_name}
-use Rattle.graph_model.specs.Fits.{first_reason, repeats, is_used}
+use Rattle.graph_model.specs.declared.graph.decl.Decl.{Decl}
+use Rattle.graph_model.specs.declared.graph.verb.Line.{Line}
+use Rattle.graph_model.specs.declared.graph.verb.Verb.{Verb}
+use Rattle.graph_model.specs.declared.graph.why.Why.{Why}
+use Rattle.graph_model.specs.declared.graph.why.Why.TheVariants as why
+use Rattle.graph_model.specs.graph.Graph.{GraphValue}
+use Rattle.graph_model.specs.graph.Name.{is_name}
+use Rattle.graph_model.specs.graph.Fits.{first_reason, repeats, is_used}
 use Rattle.graph_reader.specs.Draft.{Place, EventName, Placed, merge_with, line_number}
 use Rattle.graph_reader.specs.FirstFault.{misnamed, twice, unknown, unlike, misnumbered, misordered, event_word, column_word, is_line_name, draft_tests, draft_fault, or_else, item_fault}
 use Rattle.graph_reader.specs.Merges.{merge_verb, merge_line, merge_reason}

@@ -5,16 +5,16 @@ use Rattle.std.specs.Option.{option_map_or}
 use Rattle.std.specs.List.{AllByRecursion}
 use Rattle.std.proofs.lemmas.Bool.{leb-false}
 use Rattle.std.proofs.lemmas.List.Elements.{filter_map-append}
-use Rattle.graph_model.specs.declared.decl.Decl.{Decl}
-use Rattle.graph_model.specs.declared.decl.Decl.TheVariants as decl
-use Rattle.graph_model.specs.declared.verb.Line.{Line}
-use Rattle.graph_model.specs.declared.verb.Verb.{Verb}
-use Rattle.graph_model.specs.declared.verb.Verb.TheVariants.{User, Trigger, Cancel, Merge, MergeIgnore, Phase, Arrive, Acquire, Release, Fill, Copy, Reduce, Task}
-use Rattle.graph_model.specs.declared.verb.Kernel.{Kernel}
-use Rattle.graph_model.specs.declared.verb.Kernel.TheVariants.{Iota, Axpy, Stencil, Scan, Hist, Dot, Expect, Gather}
-use Rattle.graph_model.specs.Graph.{GraphValue, space_of, named_spaces}
-use Rattle.graph_model.specs.Spelling.{space_name, line_name, comma_word, spelled, decl_words, verb_words, kernel_words, on_words, line_words, header, decls_text, lines_text, head}
-use Rattle.graph_model.specs.Fits.{decl_unknown, named_lines, on_lines, DeclsFit, LinesFit, IsGraph}
+use Rattle.graph_model.specs.declared.graph.decl.Decl.{Decl}
+use Rattle.graph_model.specs.declared.graph.decl.Decl.TheVariants as decl
+use Rattle.graph_model.specs.declared.graph.verb.Line.{Line}
+use Rattle.graph_model.specs.declared.graph.verb.Verb.{Verb}
+use Rattle.graph_model.specs.declared.graph.verb.Verb.TheVariants.{User, Trigger, Cancel, Merge, MergeIgnore, Phase, Arrive, Acquire, Release, Fill, Copy, Reduce, Task}
+use Rattle.graph_model.specs.declared.graph.verb.Kernel.{Kernel}
+use Rattle.graph_model.specs.declared.graph.verb.Kernel.TheVariants.{Iota, Axpy, Stencil, Scan, Hist, Dot, Expect, Gather}
+use Rattle.graph_model.specs.graph.Graph.{GraphValue, space_of, named_spaces}
+use Rattle.graph_model.specs.graph.Spelling.{space_name, line_name, comma_word, spelled, decl_words, verb_words, kernel_words, on_words, line_words, header, decls_text, lines_text, head}
+use Rattle.graph_model.specs.graph.Fits.{decl_unknown, named_lines, on_lines, DeclsFit, LinesFit, IsGraph}
 use Rattle.graph_reader.proofs.ReadBack.{known_decl_of}
 use Rattle.graph_reader.proofs.VerbForms.{known_line_of}
 

@@ -4,7 +4,7 @@ use Rattle.std.specs.Prelude.{Some, slice_get, flat_map, codes}
 use Rattle.std.specs.List.{join_with_byte}
 use Rattle.std.proofs.lemmas.Bool.{ne_eqb}
 use Rattle.std.proofs.lemmas.Grind.{flat_map-append}
-use Rattle.graph_model.specs.Spelling.{spelled, interval_word, comma_word}
+use Rattle.graph_model.specs.graph.Spelling.{spelled, interval_word, comma_word}
 use Rattle.graph_reader.specs.WrittenWords.{spaced, comma_before, comma_from}
 use Rattle.std.proofs.lemmas.Option.{none-some, same_Some}
 

@@ -2,16 +2,16 @@
 use Rattle.std.specs.Prelude.{◌≡◌, ℕ, ◌+◌, ◌≤◌, Bool, cond, not, ◌||◌, List, [], ◌∷◌, ◌++◌, length, map, zip, slice_index_or, filter_map, Option, Some, None, Result, Ok, Err}
 use Rattle.std.specs.List.{list_any}
 use Rattle.std.proofs.Common.{inr}
-use Rattle.graph_model.specs.declared.verb.Line.{Line}
-use Rattle.graph_model.specs.declared.verb.Verb.{Verb}
-use Rattle.graph_model.specs.declared.verb.Verb.TheVariants.{User}
-use Rattle.graph_model.specs.declared.why.Why.{Why}
-use Rattle.graph_model.specs.Graph.{GraphValue}
+use Rattle.graph_model.specs.declared.graph.verb.Line.{Line}
+use Rattle.graph_model.specs.declared.graph.verb.Verb.{Verb}
+use Rattle.graph_model.specs.declared.graph.verb.Verb.TheVariants.{User}
+use Rattle.graph_model.specs.declared.graph.why.Why.{Why}
+use Rattle.graph_model.specs.graph.Graph.{GraphValue}
 use Rattle.graph_reader.specs.Draft.{Form, forms, form_without_on, form_draft, has_on, on_placed, line_number, Draft, Placed, number_in}
 use Rattle.graph_reader.specs.Draft as draft
-use Rattle.graph_model.specs.declared.why.Why.TheVariants as why
-use Rattle.graph_model.specs.Name.{is_name}
-use Rattle.graph_model.specs.Fits.{first_reason, is_used, repeats, line_fault}
+use Rattle.graph_model.specs.declared.graph.why.Why.TheVariants as why
+use Rattle.graph_model.specs.graph.Name.{is_name}
+use Rattle.graph_model.specs.graph.Fits.{first_reason, is_used, repeats, line_fault}
 use Rattle.std.specs.Str.{bytes_eq}
 use Rattle.graph_reader.specs.FirstFault.{misnamed, twice, unknown, unlike, misnumbered, draft_fault, column_word}
 use Rattle.graph_reader.specs.declared.kind.Kind.{Kind}

@@ -2,14 +2,14 @@
 use Rattle.std.specs.Prelude.{Bool, nat_le, ◌&&◌, length, slice_index_or, codes, cond, not, Option, Result, Ok, Err, ◌≡◌, ℕ, List, Some, None, ◌⊎◌, ◌==◌, [], ◌∷◌, true, false}
 use Rattle.std.specs.List.{after_first, list_all}
 use Rattle.std.proofs.Common.{inl, inr}
-use Rattle.graph_model.specs.declared.decl.Decl.{Decl}
-use Rattle.graph_model.specs.declared.verb.Line.{Line}
-use Rattle.graph_model.specs.Graph.{GraphValue}
-use Rattle.graph_model.specs.Fits.{first_reason, repeats, is_used, with_decl, with_line, decl_fault, line_fault, IsDecl, IsLine}
-use Rattle.graph_model.specs.declared.decl.Decl.TheVariants as decl
-use Rattle.graph_model.specs.declared.why.Why.{Why}
-use Rattle.graph_model.specs.declared.why.Why.TheVariants as why
-use Rattle.graph_model.specs.Name.{is_name}
+use Rattle.graph_model.specs.declared.graph.decl.Decl.{Decl}
+use Rattle.graph_model.specs.declared.graph.verb.Line.{Line}
+use Rattle.graph_model.specs.graph.Graph.{GraphValue}
+use Rattle.graph_model.specs.graph.Fits.{first_reason, repeats, is_used, with_decl, with_line, decl_fault, line_fault, IsDecl, IsLine}
+use Rattle.graph_model.specs.declared.graph.decl.Decl.TheVariants as decl
+use Rattle.graph_model.specs.declared.graph.why.Why.{Why}
+use Rattle.graph_model.specs.declared.graph.why.Why.TheVariants as why
+use Rattle.graph_model.specs.graph.Name.{is_name}
 use Rattle.index_spaces.specs.declared.space.SpaceFault.{SpaceFault}
 use Rattle.index_spaces.specs.declared.space.SpaceFault.TheVariants as spaces
 use Rattle.std.specs.Str.{bytes_eq}

@@ -1,6 +1,6 @@
 -- The words of lines that are written.
 use Rattle.std.specs.Prelude.{ℕ, ◌+◌, ◌==◌, cond, List, [], ◌++◌, ◌∷◌, decimal, flat_map}
-use Rattle.graph_model.specs.Spelling.{interval_word}
+use Rattle.graph_model.specs.graph.Spelling.{interval_word}
 use Rattle.graph_reader.specs.declared.word_kinds.Word.{Word}
 use Rattle.graph_reader.specs.declared.word_kinds.Word.TheVariants as words
 

@@ -2,9 +2,9 @@
 
 ghost use Rattle.std.specs.Prelude.{◌≡◌, position, length, ◌<◌, List, ℕ, IfSome};
 ghost use Rattle.std.specs.Str.{bytes_eq};
-ghost use Rattle.graph_model.specs.Name.{is_name};
-ghost use Rattle.graph_model.specs.Graph.{is_user, is_phase, is_acquire, line_passes};
-ghost use Rattle.graph_model.specs.declared.verb.Line.{Line};
+ghost use Rattle.graph_model.specs.graph.Name.{is_name};
+ghost use Rattle.graph_model.specs.graph.Graph.{is_user, is_phase, is_acquire, line_passes};
+ghost use Rattle.graph_model.specs.declared.graph.verb.Line.{Line};
 ghost use Rattle.graph_reader.specs.Words.{is_column, value_of};
 ghost use Rattle.graph_reader.specs.Draft.{line_number};
 ghost use Rattle.graph_reader.specs.FirstFault.{misnamed, twice, unknown, unlike, misnumbered};

@@ -1,7 +1,7 @@
 //! Lines of declarations.
 
 ghost use Rattle.std.specs.Prelude.{◌≡◌, map, false, [], MatchResult};
-ghost use Rattle.graph_model.specs.Fits.{decl_fault, is_used};
+ghost use Rattle.graph_model.specs.graph.Fits.{decl_fault, is_used};
 ghost use Rattle.graph_reader.specs.Draft.{space_with, inst_with, lock_with, barrier_with};
 ghost use Rattle.graph_reader.specs.Reading.{IsDeclBy, IsDeclRead, space_error, space_reason, inst_reason, inst_decl, AreFields, AreNoFields};
 

@@ -4,7 +4,7 @@ ghost use Rattle.basics.specs.Words.{contents};
 ghost use Rattle.std.specs.Prelude.{◌≡◌, map, zip, length, List, ℕ, [], ◌∷◌, ◌+◌, slice_index_or, unwrap_or, None, Some};
 ghost use Rattle.std.specs.List.{list_any};
 ghost use Rattle.std.specs.Str.{bytes_eq};
-ghost use Rattle.graph_model.specs.Fits.{repeats, first_reason};
+ghost use Rattle.graph_model.specs.graph.Fits.{repeats, first_reason};
 ghost use Rattle.graph_reader.specs.Draft.{Placed, has_on, space_number, lock_number, barrier_number, line_number, column_number_of};
 ghost use Rattle.graph_reader.specs.FirstFault.{misnamed, twice, unknown, unlike, misnumbered, draft_tests};
 ghost use Rattle.graph_reader.specs.Kinds.{as_place, kind_form, kind_verb, kind_placed, column_words, kind_draft, kind_on, columns_twice, form_reason, form_fails, HasPlaces, kind_line, IsReading, IsJudged};

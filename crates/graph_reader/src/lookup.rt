@@ -2,10 +2,10 @@
 
 ghost use Rattle.std.specs.Prelude.{◌≡◌, ◌<◌, ℕ, ◌&&◌, List, length, position, IfSome};
 ghost use Rattle.std.specs.Str.{bytes_eq};
-ghost use Rattle.graph_model.specs.declared.decl.BarrierInfo.{BarrierInfo};
-ghost use Rattle.graph_model.specs.declared.verb.Line.{Line};
-ghost use Rattle.graph_model.specs.Name.{is_name};
-ghost use Rattle.graph_model.specs.Graph.{named_spaces, locks, barriers};
+ghost use Rattle.graph_model.specs.declared.graph.decl.BarrierInfo.{BarrierInfo};
+ghost use Rattle.graph_model.specs.declared.graph.verb.Line.{Line};
+ghost use Rattle.graph_model.specs.graph.Name.{is_name};
+ghost use Rattle.graph_model.specs.graph.Graph.{named_spaces, locks, barriers};
 ghost use Rattle.graph_reader.specs.Words.{pieces, is_column};
 ghost use Rattle.graph_reader.specs.Cuts.{Gives};
 ghost use Rattle.graph_reader.specs.Lookups.{IsFound, found_space, found_lock, found_barrier, found_line, is_found_inst, column_names, column_place};

@@ -1,7 +1,7 @@
 //! Words of a text that is written.
 
 ghost use Rattle.std.specs.Prelude.{◌≡◌, ◌++◌, ◌∷◌, flat_map, []};
-ghost use Rattle.graph_model.specs.Spelling.{interval_word, space_name, column_name, lock_name, barrier_name, line_name, op_word};
+ghost use Rattle.graph_model.specs.graph.Spelling.{interval_word, space_name, column_name, lock_name, barrier_name, line_name, op_word};
 ghost use Rattle.realm_io.specs.Written.{Writes};
 ghost use Rattle.graph_reader.specs.WrittenWords.{word_text};
 

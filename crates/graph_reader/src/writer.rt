@@ -3,7 +3,7 @@
 ghost use Rattle.std.specs.Prelude.{◌≡◌, ◌≤◌, [], ◌∷◌, ◌++◌, flat_map, map, length, codes, decimal, OnOk, OnErr};
 ghost use Rattle.realm_io.specs.Counts.{Rose};
 ghost use Rattle.realm_io.specs.Told.{with_more, TookPrefix};
-ghost use Rattle.graph_model.specs.Spelling.{spelled, space_name, column_name, interval_word, kernel_words, verb_words, on_words, line_words, decl_words, line_name};
+ghost use Rattle.graph_model.specs.graph.Spelling.{spelled, space_name, column_name, interval_word, kernel_words, verb_words, on_words, line_words, decl_words, line_name};
 ghost use Rattle.graph_reader.specs.Text.{text};
 ghost use Rattle.realm_io.specs.Written.{Writes};
 ghost use Rattle.graph_reader.specs.WrittenWords.{word_text, spaced, comma_before, comma_from};

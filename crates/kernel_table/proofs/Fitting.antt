@@ -3,13 +3,13 @@ use Rattle.std.proofs.Common.{◌≡◌, ◌≢◌, ℕ, false, ◌||◌, List, 
 use Rattle.std.specs.Prelude.{nat_eq, Contains}
 use Rattle.std.proofs.lemmas.Bool.{or_parts, eq-eqb, false≢true}
 use Rattle.index_spaces.specs.Column.{ColumnValue}
-use Rattle.graph_model.specs.declared.verb.Mode.{Mode}
-use Rattle.graph_model.specs.declared.verb.Mode.TheVariants.{Read, Write, Sum}
-use Rattle.graph_model.specs.declared.verb.Kernel.{Kernel}
-use Rattle.graph_model.specs.declared.verb.Kernel.TheVariants.{Iota, Axpy, Stencil, Scan, Hist, Dot, Expect, Gather}
-use Rattle.graph_model.specs.Graph.{GraphValue}
-use Rattle.graph_model.specs.Access.{access, kernel_accesses}
-use Rattle.graph_model.specs.Fits.{repeats}
+use Rattle.graph_model.specs.declared.graph.verb.Mode.{Mode}
+use Rattle.graph_model.specs.declared.graph.verb.Mode.TheVariants.{Read, Write, Sum}
+use Rattle.graph_model.specs.declared.graph.verb.Kernel.{Kernel}
+use Rattle.graph_model.specs.declared.graph.verb.Kernel.TheVariants.{Iota, Axpy, Stencil, Scan, Hist, Dot, Expect, Gather}
+use Rattle.graph_model.specs.graph.Graph.{GraphValue}
+use Rattle.graph_model.specs.graph.Access.{access, kernel_accesses}
+use Rattle.graph_model.specs.graph.Fits.{repeats}
 use Rattle.kernel_table.specs.Kernels.{FitsHeld, FitsByCase, HoldsOverSpace}
 
 -- an access of a kernel that fits

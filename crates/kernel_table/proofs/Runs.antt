@@ -12,7 +12,7 @@ use Rattle.index_spaces.specs.Column.{ColumnValue, cell_of}
 use Rattle.index_spaces.specs.Held.{HoldsOtherwise}
 use Rattle.index_spaces.specs.Run.{interval_size, IsRunAt, WritesPoints}
 use Rattle.std.proofs.Math.Nat.{mod-add-mod}
-use Rattle.graph_model.specs.Effect.{wrapped}
+use Rattle.graph_model.specs.meaning.Effect.{wrapped}
 use Rattle.index_spaces.specs.Laws.{RunsAreWritten, SpacesAreWritten}
 
 pub none_written : (c : ColumnValue) (value : ℕ → ℕ) → WritesPoints c c [] value

@@ -5,7 +5,7 @@ use Rattle.std.proofs.Math.Nat.{mod-add-mod}
 use Rattle.std.proofs.lemmas.Bool.{cases_Bool, or_cases, false≢true, cond-true, cond-false, false_from_ne_true}
 use Rattle.std.proofs.lemmas.List.Sums.{sum_by-cons}
 use Rattle.index_spaces.specs.Space.{interval_has, has_point, AscendAbove, IsSpace}
-use Rattle.graph_model.specs.Effect.{around, wrapped, wrapped_sum}
+use Rattle.graph_model.specs.meaning.Effect.{around, wrapped, wrapped_sum}
 use Rattle.kernel_table.proofs.Runs.{place_in}
 
 -- what a point adds, and the one before it

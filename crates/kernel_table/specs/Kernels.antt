@@ -1,14 +1,14 @@
 -- When a kernel may run on the columns that are held, and what it leaves.
 use Rattle.std.specs.Prelude.{◌≡◌, ◌≢◌, ℕ, ◌<◌, false, nat_eq, List, [], length, map, slice_index_or, Contains}
 use Rattle.index_spaces.specs.Column.{ColumnValue}
-use Rattle.graph_model.specs.declared.verb.Access.{Access}
-use Rattle.graph_model.specs.declared.verb.Kernel.{Kernel}
-use Rattle.graph_model.specs.declared.verb.Kernel.TheVariants.{Iota, Axpy, Stencil, Scan, Hist, Dot, Expect, Gather}
-use Rattle.graph_model.specs.Graph.{GraphValue, named_spaces, space_at}
-use Rattle.graph_model.specs.Access.{kernel_accesses}
-use Rattle.graph_model.specs.Effect.{kernel_changes}
-use Rattle.graph_model.specs.Fits.{repeats}
-use Rattle.graph_model.specs.HeldCells.{HoldsOver, MakesChanges}
+use Rattle.graph_model.specs.declared.graph.verb.Access.{Access}
+use Rattle.graph_model.specs.declared.graph.verb.Kernel.{Kernel}
+use Rattle.graph_model.specs.declared.graph.verb.Kernel.TheVariants.{Iota, Axpy, Stencil, Scan, Hist, Dot, Expect, Gather}
+use Rattle.graph_model.specs.graph.Graph.{GraphValue, named_spaces, space_at}
+use Rattle.graph_model.specs.graph.Access.{kernel_accesses}
+use Rattle.graph_model.specs.meaning.Effect.{kernel_changes}
+use Rattle.graph_model.specs.graph.Fits.{repeats}
+use Rattle.graph_model.specs.meaning.HeldCells.{HoldsOver, MakesChanges}
 
 -- a kernel's spaces are declared, its columns are held over them, and it names no column twice
 pub record FitsHeld (g : GraphValue) (held : List (ℕ × ColumnValue)) (kernel : Kernel) : Type 0 where

@@ -4,9 +4,9 @@ ghost use Rattle.std.specs.Prelude.{◌≡◌, ◌≢◌, ◌+◌, ◌%◌, ◌=
 ghost use Rattle.index_spaces.specs.Space.{IsWithin, points, rank, space_size};
 ghost use Rattle.index_spaces.specs.Column.{cell_of};
 ghost use Rattle.index_spaces.specs.Run.{WritesPoints};
-ghost use Rattle.graph_model.specs.declared.verb.Kernel.TheVariants.{Hist};
-ghost use Rattle.graph_model.specs.Effect.{wrapped};
-ghost use Rattle.graph_model.specs.HeldCells.{HoldsOver};
+ghost use Rattle.graph_model.specs.declared.graph.verb.Kernel.TheVariants.{Hist};
+ghost use Rattle.graph_model.specs.meaning.Effect.{wrapped};
+ghost use Rattle.graph_model.specs.meaning.HeldCells.{HoldsOver};
 ghost use Rattle.kernel_table.specs.Kernels.{MakesKernel, column_over};
 
 use graph_model::held_cells::{cells_by_point, changes_by_point};

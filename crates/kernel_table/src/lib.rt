@@ -2,9 +2,9 @@
 #![tactic(auto)]
 
 ghost use Rattle.std.specs.Prelude.{◌≡◌};
-ghost use Rattle.graph_model.specs.Graph.{space_at};
-ghost use Rattle.graph_model.specs.Effect.{Cells, kernel_changes, kernel_verdict};
-ghost use Rattle.graph_model.specs.HeldCells.{HasCells, MakesChanges};
+ghost use Rattle.graph_model.specs.graph.Graph.{space_at};
+ghost use Rattle.graph_model.specs.meaning.Effect.{Cells, kernel_changes, kernel_verdict};
+ghost use Rattle.graph_model.specs.meaning.HeldCells.{HasCells, MakesChanges};
 ghost use Rattle.kernel_table.specs.Kernels.{FitsHeld, FitsByCase};
 
 mod axpy;

@@ -2,15 +2,15 @@
 use Rattle.std.proofs.Common.{◌≡◌, ℕ, List, [], refl, ◌∙◌, ap}
 use Rattle.std.specs.Prelude.{Option, Some, None}
 use Rattle.std.specs.Option.{option_map_or}
-use Rattle.graph_model.specs.declared.verb.Kernel.{Kernel}
-use Rattle.graph_model.specs.declared.verb.Kernel.TheVariants.{Iota, Axpy, Stencil, Scan, Hist, Dot, Expect, Gather}
-use Rattle.graph_model.specs.declared.verb.Verb.{Verb}
-use Rattle.graph_model.specs.declared.verb.Verb.TheVariants.{User, Trigger, Cancel, Merge, MergeIgnore, Phase, Arrive, Acquire, Release, Fill, Copy, Reduce, Task}
-use Rattle.graph_model.specs.declared.outcome.Verdict.{Verdict}
-use Rattle.graph_model.specs.declared.outcome.Verdict.TheVariants.{Fine, Fault}
-use Rattle.graph_model.specs.Graph.{GraphValue, space_at, verb_at}
-use Rattle.graph_model.specs.Effect.{Cells, effect, verb_verdict, verb_changes, kernel_verdict, kernel_changes}
-use Rattle.graph_model.specs.Evaluation.{made_by}
+use Rattle.graph_model.specs.declared.graph.verb.Kernel.{Kernel}
+use Rattle.graph_model.specs.declared.graph.verb.Kernel.TheVariants.{Iota, Axpy, Stencil, Scan, Hist, Dot, Expect, Gather}
+use Rattle.graph_model.specs.declared.graph.verb.Verb.{Verb}
+use Rattle.graph_model.specs.declared.graph.verb.Verb.TheVariants.{User, Trigger, Cancel, Merge, MergeIgnore, Phase, Arrive, Acquire, Release, Fill, Copy, Reduce, Task}
+use Rattle.graph_model.specs.declared.meaning.outcome.Verdict.{Verdict}
+use Rattle.graph_model.specs.declared.meaning.outcome.Verdict.TheVariants.{Fine, Fault}
+use Rattle.graph_model.specs.graph.Graph.{GraphValue, space_at, verb_at}
+use Rattle.graph_model.specs.meaning.Effect.{Cells, effect, verb_verdict, verb_changes, kernel_verdict, kernel_changes}
+use Rattle.graph_model.specs.meaning.Evaluation.{made_by}
 
 -- only an expectation faults, and it changes nothing
 made_by_kernel : (space : ℕ → List (ℕ × ℕ)) (cells : Cells) (k : Kernel) → made_by (kernel_verdict space cells k) (kernel_changes space cells k) ≡ kernel_changes space cells k

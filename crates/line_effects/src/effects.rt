@@ -2,7 +2,7 @@
 
 ghost use Rattle.std.specs.Prelude.{◌≡◌, ℕ, ◌<◌, length, slice_get, is_some, Some, IsSome};
 ghost use Rattle.index_spaces.specs.Held.{held_at};
-ghost use Rattle.graph_model.specs.Effect.{Cells, effect, cells_after};
+ghost use Rattle.graph_model.specs.meaning.Effect.{Cells, effect, cells_after};
 ghost use Rattle.line_effects.specs.Moved.{moves, HeldShow};
 
 use copy_engine::{copy, fill, reduce};

@@ -1,7 +1,7 @@
 //! How the end of one line cancels another, and how the values of arrivals are reduced.
 
 ghost use Rattle.std.specs.Prelude.{◌≡◌};
-ghost use Rattle.graph_model.specs.Evaluation.{cancels, combined};
+ghost use Rattle.graph_model.specs.meaning.Evaluation.{cancels, combined};
 
 use graph_model::outcome::End;
 use graph_model::verb::EdgeKind;

@@ -1,8 +1,8 @@
 //! The turn lock with its core.
 
 ghost use Rattle.std.specs.Prelude.{◌≡◌, ◌≤◌, ◌<◌, ℕ, None, Some, IfOk, length, slice_get};
-ghost use Rattle.graph_model.specs.Evaluation.{outcome as evaluated};
-ghost use Rattle.graph_model.specs.Trace.{IsLawful, SectionsApart};
+ghost use Rattle.graph_model.specs.meaning.Evaluation.{outcome as evaluated};
+ghost use Rattle.graph_model.specs.meaning.Trace.{IsLawful, SectionsApart};
 ghost use Rattle.run_core.specs.Finishing.{NothingOut};
 ghost use Rattle.lock_engine.specs.Seats.{IsResting, view_of};
 ghost use Rattle.lock_engine.specs.Rule.{all_parts};
@@ -36,7 +36,7 @@ pub struct Turn<'g> {
 
 impl<'g> Model for Turn<'g> {
     ghost use Rattle.std.specs.Prelude.{◌≡◌};
-    ghost use Rattle.graph_model.specs.Graph.{GraphValue};
+    ghost use Rattle.graph_model.specs.graph.Graph.{GraphValue};
     ghost use Rattle.lock_engine.specs.Rule.{first_view};
     ghost use Rattle.lock_engine.specs.Seats.{IsResting, view_of};
 

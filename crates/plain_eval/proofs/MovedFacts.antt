@@ -8,10 +8,10 @@ use Rattle.std.proofs.lemmas.List.FromFn.{fill_by_all, get_or-map-range_with_len
 use Rattle.index_spaces.specs.Space.{points}
 use Rattle.index_spaces.specs.Column.{ColumnValue}
 use Rattle.index_spaces.specs.Held.{held_at, HoldsOtherwise}
-use Rattle.graph_model.specs.Graph.{GraphValue, columns, column_space}
-use Rattle.graph_model.specs.Effect.{Cells, CellChange, effect, cells_after}
-use Rattle.graph_model.specs.Evaluation.{column_of}
-use Rattle.graph_model.specs.Laws.{ChangesWithinAccesses}
+use Rattle.graph_model.specs.graph.Graph.{GraphValue, columns, column_space}
+use Rattle.graph_model.specs.meaning.Effect.{Cells, CellChange, effect, cells_after}
+use Rattle.graph_model.specs.meaning.Evaluation.{column_of}
+use Rattle.graph_model.specs.meaning.Laws.{ChangesWithinAccesses}
 use Rattle.instances.specs.Homes.{all_home}
 use Rattle.plain_eval.specs.Moved.{home_unless, AreParted}
 use Rattle.line_effects.specs.Moved.{moves, HeldShow}

@@ -2,10 +2,10 @@
 use Rattle.std.specs.Prelude.{◌≡◌, ℕ, ◌<◌, List, length, Option, Some, None, slice_index_or}
 use Rattle.index_spaces.specs.Column.{ColumnValue}
 use Rattle.index_spaces.specs.Held.{held_at}
-use Rattle.graph_model.specs.Graph.{GraphValue, columns}
+use Rattle.graph_model.specs.graph.Graph.{GraphValue, columns}
 use Rattle.line_effects.specs.Moved.{HeldShow}
-use Rattle.graph_model.specs.Effect.{Cells}
-use Rattle.graph_model.specs.Evaluation.{column_of}
+use Rattle.graph_model.specs.meaning.Effect.{Cells}
+use Rattle.graph_model.specs.meaning.Evaluation.{column_of}
 
 -- a column is at home unless it is held
 abbrev pub home_unless : Option ColumnValue → ColumnValue → Option ColumnValue

@@ -1,8 +1,8 @@
 //! The evaluation.
 
 ghost use Rattle.std.specs.Prelude.{◌≡◌, ℕ, ◌<◌, ◌↔◌, length, map, slice_get, Some, IfOk, OnOk};
-ghost use Rattle.graph_model.specs.Path.{Reached};
-ghost use Rattle.graph_model.specs.Evaluation.{evaluation, outcome, order, answer_of, Unbroken};
+ghost use Rattle.graph_model.specs.meaning.Path.{Reached};
+ghost use Rattle.graph_model.specs.meaning.Evaluation.{evaluation, outcome, order, answer_of, Unbroken};
 ghost use Rattle.plain_eval.specs.Run.{IsRun};
 
 use crate::phases::phase_values;

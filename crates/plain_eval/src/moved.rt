@@ -2,9 +2,9 @@
 
 ghost use Rattle.std.specs.Prelude.{◌≡◌, ℕ, ◌<◌, ◌+◌, length, slice_get, slice_index_or, slice_set, Some, None, IsSome};
 ghost use Rattle.index_spaces.specs.Held.{held_at, HoldsOtherwise};
-ghost use Rattle.graph_model.specs.Effect.{Cells};
+ghost use Rattle.graph_model.specs.meaning.Effect.{Cells};
 ghost use Rattle.instances.specs.Homes.{all_home};
-ghost use Rattle.graph_model.specs.Graph.{GraphValue};
+ghost use Rattle.graph_model.specs.graph.Graph.{GraphValue};
 ghost use Rattle.plain_eval.specs.Moved.{AreParted};
 ghost use Rattle.line_effects.specs.Moved.{moves};
 

@@ -1,8 +1,8 @@
 //! What a line does to the cells.
 
 ghost use Rattle.std.specs.Prelude.{◌≡◌, ◌<◌, length};
-ghost use Rattle.graph_model.specs.Effect.{Cells, effect, cells_after};
-ghost use Rattle.graph_model.specs.Evaluation.{made_by};
+ghost use Rattle.graph_model.specs.meaning.Effect.{Cells, effect, cells_after};
+ghost use Rattle.graph_model.specs.meaning.Evaluation.{made_by};
 ghost use Rattle.instances.specs.Homes.{all_home};
 
 use crate::moved::{give_back, take_columns};

@@ -2,7 +2,7 @@
 
 ghost use Rattle.std.specs.Prelude.{◌≡◌, ◌<◌, length, map, option_map, None, slice_index_or, slice_set, IfOk};
 ghost use Rattle.basics.specs.Lists.{numbers_below};
-ghost use Rattle.graph_model.specs.Evaluation.{eval_end, combined, phase_value};
+ghost use Rattle.graph_model.specs.meaning.Evaluation.{eval_end, combined, phase_value};
 ghost use Rattle.plain_eval.specs.Phases.{with_arrival, first_reduction, reduction_after};
 
 use graph_model::graph::Graph;

@@ -2,9 +2,9 @@
 
 ghost use Rattle.std.specs.Prelude.{◌≡◌, ◌<◌, List, [], length, map, OnOk, IfOk};
 ghost use Rattle.basics.specs.Lists.{numbers_below};
-ghost use Rattle.graph_model.specs.declared.verb.Edge.{Edge};
-ghost use Rattle.graph_model.specs.Evaluation.{Step, advance, end_in, is_cancelled, step_of, cells_of};
-ghost use Rattle.graph_model.specs.Effect.{cells_after};
+ghost use Rattle.graph_model.specs.declared.graph.verb.Edge.{Edge};
+ghost use Rattle.graph_model.specs.meaning.Evaluation.{Step, advance, end_in, is_cancelled, step_of, cells_of};
+ghost use Rattle.graph_model.specs.meaning.Effect.{cells_after};
 ghost use Rattle.instances.specs.Homes.{all_home};
 ghost use Rattle.plain_eval.specs.Run.{IsRun};
 

@@ -3,8 +3,8 @@
 ghost use Rattle.std.specs.Prelude.{◌≡◌, ℕ, Bool, ◌<◌, ◌≤◌, ◌-◌, ◌++◌, [], ◌∷◌, ◌==◌, ◌&&◌, ◌||◌, true, false, not, length, slice_index, slice_set, OnOk, IfOk, MatchOption};
 ghost use Rattle.std.specs.BTreeSet.{contains};
 ghost use Rattle.std.specs.Ordering.{nat_cmp};
-ghost use Rattle.graph_model.specs.Graph.{never_comes};
-ghost use Rattle.graph_model.specs.Edges.{edges_into};
+ghost use Rattle.graph_model.specs.graph.Graph.{never_comes};
+ghost use Rattle.graph_model.specs.graph.Edges.{edges_into};
 ghost use Rattle.plain_eval.specs.Waiting.{IsWaiting, IsFree, and_ended, starts_ready};
 
 use crate::numbers::insert;

@@ -6,16 +6,16 @@ use Rattle.std.specs.List.{slice_index_or}
 use Rattle.std.proofs.lemmas.Bool.{true≢false, cases_lt, eqb-true, false_from_ne_true}
 use Rattle.std.proofs.lemmas.Option.{none-some, same_Some, slice_get_within, get_or_from_slice_get, slice_get-get_or}
 use Rattle.std.proofs.lemmas.List.{take_more, take_all}
-use Rattle.graph_model.specs.declared.verb.Access.{Access}
-use Rattle.graph_model.specs.declared.verb.Mode.TheVariants.{Read}
-use Rattle.graph_model.specs.declared.verb.Kernel.{Kernel}
-use Rattle.graph_model.specs.declared.verb.Kernel.TheVariants.{Iota, Axpy, Stencil, Scan, Hist, Dot, Expect, Gather}
-use Rattle.graph_model.specs.declared.verb.Verb.{Verb}
-use Rattle.graph_model.specs.declared.verb.Verb.TheVariants.{User, Trigger, Cancel, Merge, MergeIgnore, Phase, Arrive, Acquire, Release, Fill, Copy, Reduce, Task}
-use Rattle.graph_model.specs.Graph.{GraphValue, verb_at, columns}
-use Rattle.graph_model.specs.Access.{accesses, verb_accesses, kernel_accesses}
-use Rattle.graph_model.specs.Fits.{IsGraph}
-use Rattle.graph_model.specs.LineLaws.{AccessesFit}
+use Rattle.graph_model.specs.declared.graph.verb.Access.{Access}
+use Rattle.graph_model.specs.declared.graph.verb.Mode.TheVariants.{Read}
+use Rattle.graph_model.specs.declared.graph.verb.Kernel.{Kernel}
+use Rattle.graph_model.specs.declared.graph.verb.Kernel.TheVariants.{Iota, Axpy, Stencil, Scan, Hist, Dot, Expect, Gather}
+use Rattle.graph_model.specs.declared.graph.verb.Verb.{Verb}
+use Rattle.graph_model.specs.declared.graph.verb.Verb.TheVariants.{User, Trigger, Cancel, Merge, MergeIgnore, Phase, Arrive, Acquire, Release, Fill, Copy, Reduce, Task}
+use Rattle.graph_model.specs.graph.Graph.{GraphValue, verb_at, columns}
+use Rattle.graph_model.specs.graph.Access.{accesses, verb_accesses, kernel_accesses}
+use Rattle.graph_model.specs.graph.Fits.{IsGraph}
+use Rattle.graph_model.specs.meaning.LineLaws.{AccessesFit}
 use Rattle.basics.proofs.ListFacts.{some_passes}
 use Rattle.race_check.specs.Races.{uses, AreSpacesKnown}
 

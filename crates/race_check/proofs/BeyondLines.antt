@@ -3,13 +3,13 @@ use Rattle.std.proofs.Common.{◌≡◌, ℕ, zero, suc, ◌<◌, ◌≤◌, ◌
 use Rattle.std.specs.Prelude.{Contains, Some, option_map, slice_get}
 use Rattle.std.specs.Option.{option_map_or}
 use Rattle.std.proofs.lemmas.Option.{none-some}
-use Rattle.graph_model.specs.declared.verb.Access.{Access}
-use Rattle.graph_model.specs.declared.verb.Line.{Line}
-use Rattle.graph_model.specs.Graph.{GraphValue, is_acquire_of}
-use Rattle.graph_model.specs.Edges.{edges}
-use Rattle.graph_model.specs.Path.{HasPath}
-use Rattle.graph_model.specs.Access.{verb_accesses}
-use Rattle.graph_model.specs.Rules.{ReleasedAt, SectionAt, DescendsAt, ReleaseFaultAt, RaceAt}
+use Rattle.graph_model.specs.declared.graph.verb.Access.{Access}
+use Rattle.graph_model.specs.declared.graph.verb.Line.{Line}
+use Rattle.graph_model.specs.graph.Graph.{GraphValue, is_acquire_of}
+use Rattle.graph_model.specs.graph.Edges.{edges}
+use Rattle.graph_model.specs.meaning.Path.{HasPath}
+use Rattle.graph_model.specs.graph.Access.{verb_accesses}
+use Rattle.graph_model.specs.meaning.Rules.{ReleasedAt, SectionAt, DescendsAt, ReleaseFaultAt, RaceAt}
 use Rattle.basics.proofs.ListFacts.{contains_none}
 use Rattle.graph_model.proofs.PathTable.{path_below}
 use Rattle.graph_model.proofs.VerbFacts.{passes_below}

@@ -3,8 +3,8 @@ use Rattle.std.proofs.Common.{◌≡◌, ℕ, ◌+◌, ◌<◌, arith, Bool, tru
 use Rattle.std.specs.Prelude.{Option, Some, None, ◌≢◌}
 use Rattle.std.proofs.lemmas.Bool.{true≢false, cases_lt, cases_eq, cases_Bool}
 use Rattle.std.proofs.lemmas.Option.{none-some, same_Some}
-use Rattle.graph_model.specs.Graph.{GraphValue}
-use Rattle.graph_model.specs.Rules.{Section}
+use Rattle.graph_model.specs.graph.Graph.{GraphValue}
+use Rattle.graph_model.specs.meaning.Rules.{Section}
 use Rattle.race_check.specs.Summaries.{IsSummaryTo, ApartIn, MayBeApart}
 
 pub summary_none : (g : GraphValue) (l i : ℕ) → IsSummaryTo g l i 0 None false

@@ -4,15 +4,15 @@ use Rattle.std.specs.Prelude.{Contains, Some, Result, Ok, Err, OnOk, ◌==◌, n
 use Rattle.std.proofs.lemmas.Bool.{true≢false, cases_lt, cases_eq, eq-eqb, eqb-true, or_cases, or_left, or_right, and_parts, and_from, lt-ltb, ltb-true, le-leb, leb-true}
 use Rattle.std.proofs.lemmas.List.{get_or_past}
 use Rattle.std.proofs.lemmas.List.Elements.{Contains-append_cases, Contains-append_left, Contains-push, Contains-push_cases}
-use Rattle.graph_model.specs.declared.verb.Edge.{Edge}
-use Rattle.graph_model.specs.declared.verb.EdgeKind.TheVariants.{Passes}
-use Rattle.graph_model.specs.declared.verb.Verb.TheVariants.{Acquire, Release}
-use Rattle.graph_model.specs.Graph.{GraphValue, never_comes, never_comes_as, locks}
-use Rattle.graph_model.specs.Edges.{edge, edges, edges_out_of}
-use Rattle.graph_model.specs.Need.{release_edges, IsHigh}
-use Rattle.graph_model.specs.Rules.{Acquires, Releases}
-use Rattle.graph_model.specs.Fits.{IsGraph}
-use Rattle.graph_model.specs.Laws.{EdgesBetweenLines}
+use Rattle.graph_model.specs.declared.graph.verb.Edge.{Edge}
+use Rattle.graph_model.specs.declared.graph.verb.EdgeKind.TheVariants.{Passes}
+use Rattle.graph_model.specs.declared.graph.verb.Verb.TheVariants.{Acquire, Release}
+use Rattle.graph_model.specs.graph.Graph.{GraphValue, never_comes, never_comes_as, locks}
+use Rattle.graph_model.specs.graph.Edges.{edge, edges, edges_out_of}
+use Rattle.graph_model.specs.meaning.Need.{release_edges, IsHigh}
+use Rattle.graph_model.specs.meaning.Rules.{Acquires, Releases}
+use Rattle.graph_model.specs.graph.Fits.{IsGraph}
+use Rattle.graph_model.specs.meaning.Laws.{EdgesBetweenLines}
 use Rattle.basics.proofs.ListFacts.{contains_none, contains_cases, contains_here, contains_there, filter_contains, contains_filter}
 use Rattle.race_check.specs.High.{IsMarking, IsTarget, IsNext, AreAcquiresMarked, IsFlooded, IsFlooding, IsFlood, weight_of}
 use Rattle.graph_model.proofs.VerbFacts.{acquire_is, release_is, passes_below}

@@ -2,10 +2,10 @@
 use Rattle.std.proofs.Common.{◌≡◌, ℕ, ◌+◌, ◌<◌, ◌≤◌, inl, List, length, refl, sym, ◌∙◌, ap, subst, arith}
 use Rattle.std.specs.Prelude.{slice_index, slice_set}
 use Rattle.std.proofs.lemmas.List.{get_or-set_same, get_or-set_other}
-use Rattle.graph_model.specs.Graph.{GraphValue}
-use Rattle.graph_model.specs.Need.{IsHigh, IsNeed}
-use Rattle.graph_model.specs.Fits.{IsGraph}
-use Rattle.graph_model.specs.Laws.{EdgesBetweenLines}
+use Rattle.graph_model.specs.graph.Graph.{GraphValue}
+use Rattle.graph_model.specs.meaning.Need.{IsHigh, IsNeed}
+use Rattle.graph_model.specs.graph.Fits.{IsGraph}
+use Rattle.graph_model.specs.meaning.Laws.{EdgesBetweenLines}
 use Rattle.race_check.specs.Sweep.{AreAbove, IsTally, most_open, open_after, IsSwept}
 use Rattle.race_check.proofs.NeedLaws.{tally_more, open_at_most, most_at_most, closes_open, sweep_is_need}
 use Rattle.race_check.proofs.HighFlood.{high_at_most}

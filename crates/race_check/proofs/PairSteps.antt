@@ -9,11 +9,11 @@ use Rattle.std.proofs.lemmas.Bool.{true≢false, cases_lt, not-true, not-false}
 use Rattle.std.proofs.lemmas.Option.{none-some, same_Some, slice_get-get_or}
 use Rattle.std.specs.List.{slice_index_or}
 use Rattle.std.proofs.lemmas.Nat.{or_lt, and_le_l}
-use Rattle.graph_model.specs.Graph.{GraphValue}
-use Rattle.graph_model.specs.Fits.{IsGraph}
-use Rattle.graph_model.specs.Laws.{EdgesBetweenLines}
-use Rattle.graph_model.specs.Rules.{Acquires, Releases, SectionAt, DescendsAt, Everywhere, EverywhereTwice, FailsFirst, FailsFirstTwice}
-use Rattle.graph_model.specs.Reservations.{lock_at, is_lower}
+use Rattle.graph_model.specs.graph.Graph.{GraphValue}
+use Rattle.graph_model.specs.graph.Fits.{IsGraph}
+use Rattle.graph_model.specs.meaning.Laws.{EdgesBetweenLines}
+use Rattle.graph_model.specs.meaning.Rules.{Acquires, Releases, SectionAt, DescendsAt, Everywhere, EverywhereTwice, FailsFirst, FailsFirstTwice}
+use Rattle.graph_model.specs.meaning.Reservations.{lock_at, is_lower}
 use Rattle.race_check.specs.Paths.{PathsValue, path_in, word_bit, IsPathTable}
 use Rattle.race_check.specs.Words.{IsWordOf, NoneBelow}
 use Rattle.race_check.specs.RuleWords.{lies_outside, AreNeverPhases, lies_inside, acquires_up_to, IsLowRow}

@@ -5,11 +5,11 @@ use Rattle.std.specs.List.{slice_index_or}
 use Rattle.std.proofs.lemmas.Bool.{true≢false, cases_lt, cases_eq, cases_Bool, eqb-true, false_from_ne_true}
 use Rattle.std.proofs.lemmas.List.{get_or_past, get_or-set_same, get_or-set_other, take_more, take_all, length-set}
 use Rattle.std.proofs.lemmas.List.Elements.{Contains-get_or}
-use Rattle.graph_model.specs.declared.verb.Edge.{Edge}
-use Rattle.graph_model.specs.Graph.{GraphValue}
-use Rattle.graph_model.specs.Edges.{edges, edges_into, edges_out_of}
-use Rattle.graph_model.specs.Path.{HasPath}
-use Rattle.graph_model.specs.Rules.{NoCycleAt, Everywhere}
+use Rattle.graph_model.specs.declared.graph.verb.Edge.{Edge}
+use Rattle.graph_model.specs.graph.Graph.{GraphValue}
+use Rattle.graph_model.specs.graph.Edges.{edges, edges_into, edges_out_of}
+use Rattle.graph_model.specs.meaning.Path.{HasPath}
+use Rattle.graph_model.specs.meaning.Rules.{NoCycleAt, Everywhere}
 use Rattle.basics.proofs.ListFacts.{filter_contains}
 use Rattle.graph_model.proofs.PathTable.{path_below}
 use Rattle.race_check.specs.Paths.{EdgesBetween, IsPairTestOf, PathsValue, IsPathTable, AreTurned, IsFilled, IsRow, IsBack, word_bit, words_for}

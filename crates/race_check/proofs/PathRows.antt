@@ -9,11 +9,11 @@ use Rattle.std.proofs.lemmas.Nat.Bits.{bit_at_or, bit_at-lt, bit_at-zero, bit_at
 use Rattle.std.proofs.lemmas.List.{get_or-set_same, get_or-set_other}
 use Rattle.std.proofs.lemmas.List.Elements.{Contains-append_left, Contains-append_right, Contains-push_cases}
 use mir.Syntax.{w64}
-use Rattle.graph_model.specs.declared.verb.Edge.{Edge}
-use Rattle.graph_model.specs.Graph.{GraphValue}
-use Rattle.graph_model.specs.Edges.{edges, edges_out_of, edges_into}
-use Rattle.graph_model.specs.Path.{Path, last, first, HasPath}
-use Rattle.graph_model.specs.Rules.{NoCycleAt, Everywhere, IsCycle}
+use Rattle.graph_model.specs.declared.graph.verb.Edge.{Edge}
+use Rattle.graph_model.specs.graph.Graph.{GraphValue}
+use Rattle.graph_model.specs.graph.Edges.{edges, edges_out_of, edges_into}
+use Rattle.graph_model.specs.meaning.Path.{Path, last, first, HasPath}
+use Rattle.graph_model.specs.meaning.Rules.{NoCycleAt, Everywhere, IsCycle}
 use Rattle.basics.proofs.ListFacts.{contains_none, contains_cases, contains_here, filter_contains, contains_filter}
 use Rattle.graph_model.proofs.PathLaws.{along_path, path_append}
 use Rattle.race_check.specs.Paths.{IsPairTestOf, word_bit, IsRow, IsBack}

@@ -12,11 +12,11 @@ use Rattle.std.proofs.lemmas.Nat.{or_lt}
 use Rattle.std.proofs.lemmas.Nat.Bits.{bit_at-zero}
 use Rattle.std.proofs.lemmas.List.{take_more, take_all}
 use Rattle.std.proofs.lemmas.Option.{slice_get_within, get_or_from_slice_get, slice_get-get_or}
-use Rattle.graph_model.specs.declared.verb.Access.{Access}
-use Rattle.graph_model.specs.Graph.{GraphValue}
-use Rattle.graph_model.specs.Path.{HasPath}
-use Rattle.graph_model.specs.Access.{accesses, AccessesConflict, Conflict}
-use Rattle.graph_model.specs.Rules.{RaceAt, Exempt, modes_commute, Everywhere, FailsFirst}
+use Rattle.graph_model.specs.declared.graph.verb.Access.{Access}
+use Rattle.graph_model.specs.graph.Graph.{GraphValue}
+use Rattle.graph_model.specs.meaning.Path.{HasPath}
+use Rattle.graph_model.specs.graph.Access.{accesses, AccessesConflict, Conflict}
+use Rattle.graph_model.specs.meaning.Rules.{RaceAt, Exempt, modes_commute, Everywhere, FailsFirst}
 use Rattle.basics.proofs.ListFacts.{some_passes}
 use Rattle.race_check.specs.Paths.{PathsValue, path_in, IsPathTable}
 use Rattle.race_check.specs.Races.{AreAccesses, ListsClash, LinesClash, uses, shares_column, is_suspect}

@@ -1,9 +1,9 @@
 -- What the tests of the rules tell of accesses and of releases.
 use Rattle.std.proofs.Common.{◌≡◌, ℕ, ap}
 use Rattle.std.specs.Prelude.{Some, option_and_then}
-use Rattle.graph_model.specs.Graph.{GraphValue}
-use Rattle.graph_model.specs.Rules.{Releases}
-use Rattle.graph_model.specs.Reservations.{freed_by, acquire_at}
+use Rattle.graph_model.specs.graph.Graph.{GraphValue}
+use Rattle.graph_model.specs.meaning.Rules.{Releases}
+use Rattle.graph_model.specs.meaning.Reservations.{freed_by, acquire_at}
 use Rattle.graph_model.proofs.VerbFacts.{release_is}
 
 pub releases_acquire : (g : GraphValue) (r q : ℕ) → Releases g r q → acquire_at g r ≡ Some q

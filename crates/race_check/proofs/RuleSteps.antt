@@ -5,10 +5,10 @@ use Rattle.std.proofs.lemmas.Bool.{true≢false, cases_lt, eq-eqb}
 use Rattle.std.proofs.lemmas.Option.{none-some, same_Some}
 use Rattle.std.proofs.lemmas.List.{get_or-set_same, get_or-set_other}
 use Rattle.std.proofs.lemmas.List.Elements.{Contains-append_right}
-use Rattle.graph_model.specs.declared.verb.Line.{Line}
-use Rattle.graph_model.specs.Graph.{GraphValue, line_passes, is_merge_ignore, is_release_of}
-use Rattle.graph_model.specs.Fits.{IsGraph, on_lines, named_lines}
-use Rattle.graph_model.specs.Rules.{Acquires, Releases, ReleasedAt, ReleaseFaultAt, Everywhere}
+use Rattle.graph_model.specs.declared.graph.verb.Line.{Line}
+use Rattle.graph_model.specs.graph.Graph.{GraphValue, line_passes, is_merge_ignore, is_release_of}
+use Rattle.graph_model.specs.graph.Fits.{IsGraph, on_lines, named_lines}
+use Rattle.graph_model.specs.meaning.Rules.{Acquires, Releases, ReleasedAt, ReleaseFaultAt, Everywhere}
 use Rattle.graph_model.proofs.GraphFacts.{named_below}
 use Rattle.basics.proofs.ListFacts.{contains_here}
 use Rattle.race_check.specs.Paths.{PathsValue, path_in, IsPathTable}
@@ -16,8 +16,8 @@ use Rattle.race_check.specs.Releases.{release_in, AreReleases}
 use Rattle.graph_model.proofs.VerbFacts.{passes_below, release_is, is_release_from, release_of_is}
 use Rattle.race_check.proofs.ReservationFacts.{verb_of}
 use Rattle.graph_model.proofs.ReleaseFacts.{cut_at}
-use Rattle.graph_model.specs.declared.verb.Verb.TheVariants.{Release}
-use Rattle.graph_model.specs.Path.{HasPath}
+use Rattle.graph_model.specs.declared.graph.verb.Verb.TheVariants.{Release}
+use Rattle.graph_model.specs.meaning.Path.{HasPath}
 use Rattle.race_check.proofs.RuleWords.{IsReleaseTableTo, table_release, table_done}
 
 -- a rule that holds below a number and from it on

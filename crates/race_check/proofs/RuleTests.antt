@@ -5,16 +5,16 @@ use Rattle.std.specs.Option.{option_map_or}
 use Rattle.std.specs.List.{list_all}
 use Rattle.std.proofs.lemmas.Bool.{true≢false, eq-eqb, eqb-true, or_cases, or_left, or_right, and_parts, and_from, not-true, not_from_false, lt-ltb, ltb-true, false_from_ne_true}
 use Rattle.std.proofs.lemmas.Option.{none-some, same_Some}
-use Rattle.graph_model.specs.declared.verb.Access.{Access}
-use Rattle.graph_model.specs.declared.verb.Verb.{Verb}
-use Rattle.graph_model.specs.declared.verb.Verb.TheVariants.{User, Trigger, Cancel, Merge, MergeIgnore, Phase, Arrive, Acquire, Release, Fill, Copy, Reduce, Task}
-use Rattle.graph_model.specs.Graph.{GraphValue, verb_at, line_passes, is_phase, never_comes}
-use Rattle.graph_model.specs.Path.{HasPath}
-use Rattle.graph_model.specs.Access.{accesses, AccessesConflict}
-use Rattle.graph_model.specs.Rules.{Acquires, Releases, Section, SectionAt, DescendsAt}
+use Rattle.graph_model.specs.declared.graph.verb.Access.{Access}
+use Rattle.graph_model.specs.declared.graph.verb.Verb.{Verb}
+use Rattle.graph_model.specs.declared.graph.verb.Verb.TheVariants.{User, Trigger, Cancel, Merge, MergeIgnore, Phase, Arrive, Acquire, Release, Fill, Copy, Reduce, Task}
+use Rattle.graph_model.specs.graph.Graph.{GraphValue, verb_at, line_passes, is_phase, never_comes}
+use Rattle.graph_model.specs.meaning.Path.{HasPath}
+use Rattle.graph_model.specs.graph.Access.{accesses, AccessesConflict}
+use Rattle.graph_model.specs.meaning.Rules.{Acquires, Releases, Section, SectionAt, DescendsAt}
 use Rattle.basics.proofs.ListFacts.{contains_here, contains_there}
 use Rattle.graph_model.proofs.RulesTable.{implies, implied}
-use Rattle.graph_model.specs.Reservations.{freed_by, lock_at, acquire_at, is_lower}
+use Rattle.graph_model.specs.meaning.Reservations.{freed_by, lock_at, acquire_at, is_lower}
 use Rattle.race_check.proofs.RuleFacts.{releases_acquire}
 use Rattle.race_check.specs.Paths.{IsPairTestOf}
 use Rattle.race_check.specs.Releases.{IsReleaseTable}

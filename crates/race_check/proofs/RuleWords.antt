@@ -7,15 +7,15 @@ use Rattle.std.proofs.lemmas.Bool.{true≢false, eq-eqb, cases_lt, cases_eq}
 use Rattle.std.proofs.lemmas.List.Folds.{list_any-append}
 use Rattle.std.proofs.lemmas.Option.{same_Some}
 use Rattle.basics.specs.Lists.{numbers_below}
-use Rattle.graph_model.specs.declared.verb.Access.{Access}
-use Rattle.graph_model.specs.declared.verb.Verb.TheVariants.{Release}
-use Rattle.graph_model.specs.Graph.{GraphValue, line_passes, is_release_of}
-use Rattle.graph_model.specs.Access.{accesses}
-use Rattle.graph_model.specs.Rules.{Releases}
-use Rattle.graph_model.specs.Fits.{IsGraph}
+use Rattle.graph_model.specs.declared.graph.verb.Access.{Access}
+use Rattle.graph_model.specs.declared.graph.verb.Verb.TheVariants.{Release}
+use Rattle.graph_model.specs.graph.Graph.{GraphValue, line_passes, is_release_of}
+use Rattle.graph_model.specs.graph.Access.{accesses}
+use Rattle.graph_model.specs.meaning.Rules.{Releases}
+use Rattle.graph_model.specs.graph.Fits.{IsGraph}
 use Rattle.basics.proofs.ListFacts.{find_is, find_none, contains_below, passes_some}
 use Rattle.graph_model.proofs.RulesTable.{implies}
-use Rattle.graph_model.specs.Reservations.{lock_at, acquire_at, is_lower}
+use Rattle.graph_model.specs.meaning.Reservations.{lock_at, acquire_at, is_lower}
 use Rattle.race_check.specs.Releases.{IsReleaseTable}
 use Rattle.graph_model.proofs.VerbFacts.{passes_below, release_is}
 use Rattle.graph_model.proofs.ReleaseFacts.{one_release}

@@ -6,10 +6,10 @@ use Rattle.std.proofs.lemmas.List.{get_or_push, get_or_append_left, take_more, t
 use Rattle.std.proofs.lemmas.List.Elements.{Contains-push, Contains-push_cases, Contains-append_left, Contains-get_or}
 use Rattle.std.proofs.lemmas.List.Folds.{list_any-append}
 use Rattle.std.proofs.lemmas.List.Sums.{sum_by-cons}
-use Rattle.graph_model.specs.declared.verb.Edge.{Edge}
-use Rattle.graph_model.specs.Graph.{GraphValue}
-use Rattle.graph_model.specs.Edges.{edges, edges_out_of}
-use Rattle.graph_model.specs.Rules.{NoCycleAt, Everywhere}
+use Rattle.graph_model.specs.declared.graph.verb.Edge.{Edge}
+use Rattle.graph_model.specs.graph.Graph.{GraphValue}
+use Rattle.graph_model.specs.graph.Edges.{edges, edges_out_of}
+use Rattle.graph_model.specs.meaning.Rules.{NoCycleAt, Everywhere}
 use Rattle.basics.proofs.ListFacts.{contains_none, contains_cases, contains_here, contains_there, some_passes, passes_some, count_below-max, fewer_below}
 use Rattle.basics.specs.Lists.{count_below}
 use Rattle.graph_model.proofs.ReadyLine.{ready_or_never}

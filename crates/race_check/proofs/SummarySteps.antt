@@ -4,10 +4,10 @@ use Rattle.std.specs.Prelude.{◌≢◌, Option, Some, None, slice_get}
 use Rattle.std.specs.List.{slice_index_or}
 use Rattle.std.proofs.lemmas.Bool.{cases_lt, cases_eq}
 use Rattle.std.proofs.lemmas.Option.{none-some, same_Some}
-use Rattle.graph_model.specs.Graph.{GraphValue, locks, is_acquire_of}
-use Rattle.graph_model.specs.Fits.{IsGraph}
-use Rattle.graph_model.specs.Path.{HasPath}
-use Rattle.graph_model.specs.Rules.{Acquires, Section}
+use Rattle.graph_model.specs.graph.Graph.{GraphValue, locks, is_acquire_of}
+use Rattle.graph_model.specs.graph.Fits.{IsGraph}
+use Rattle.graph_model.specs.meaning.Path.{HasPath}
+use Rattle.graph_model.specs.meaning.Rules.{Acquires, Section}
 use Rattle.race_check.specs.Paths.{PathsValue, path_in, IsPathTable}
 use Rattle.race_check.specs.Releases.{release_in, AreReleases}
 use Rattle.race_check.specs.Summaries.{IsSummaryTo, AreSummaries, AreSummed, ApartIn, MayBeApartBy, IsNoted}

@@ -2,10 +2,10 @@
 use Rattle.std.specs.Prelude.{◌≡◌, ℕ, ◌<◌, ◌==◌, Bool, true, not, ◌&&◌, ◌||◌, List, length, Contains, Some, Vec, slice_get}
 use Rattle.std.specs.Global.{Global}
 use Rattle.std.specs.List.{list_any}
-use Rattle.graph_model.specs.declared.verb.Access.{Access}
-use Rattle.graph_model.specs.Graph.{GraphValue, columns, named_spaces}
-use Rattle.graph_model.specs.Access.{accesses, AccessesConflict}
-use Rattle.graph_model.specs.Rules.{modes_commute}
+use Rattle.graph_model.specs.declared.graph.verb.Access.{Access}
+use Rattle.graph_model.specs.graph.Graph.{GraphValue, columns, named_spaces}
+use Rattle.graph_model.specs.graph.Access.{accesses, AccessesConflict}
+use Rattle.graph_model.specs.meaning.Rules.{modes_commute}
 use Rattle.race_check.specs.Paths.{PathsValue, path_in, word_bit, words_for}
 
 -- two accesses conflict, other than by two sums unless sums count too

@@ -1,5 +1,5 @@
 -- What is looked up to find races.
-use Rattle.graph_model.specs.Graph.{GraphValue}
+use Rattle.graph_model.specs.graph.Graph.{GraphValue}
 use Rattle.race_check.specs.Races.{AreAccesses, AreUserRows}
 use Rattle.race_check.specs.Summaries.{AreSummed}
 use Rattle.race_check.specs.declared.races.Rivals.{Rivals}

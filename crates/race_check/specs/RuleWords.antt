@@ -1,8 +1,8 @@
 -- The rules of pairs of lines as tests of a table of paths, of which a word has 64.
 use Rattle.std.specs.Prelude.{◌≡◌, ℕ, ◌==◌, Bool, not, ◌&&◌, ◌||◌, List, length, Some, Vec, slice_get}
 use Rattle.std.specs.Global.{Global}
-use Rattle.graph_model.specs.Graph.{GraphValue, line_passes, is_phase, never_comes, locks}
-use Rattle.graph_model.specs.Reservations.{lock_at, is_lower}
+use Rattle.graph_model.specs.graph.Graph.{GraphValue, line_passes, is_phase, never_comes, locks}
+use Rattle.graph_model.specs.meaning.Reservations.{lock_at, is_lower}
 use Rattle.race_check.specs.Paths.{PathsValue, path_in, word_bit, words_for}
 
 -- line j has a path to release r but is not its acquire q, has no path to q, and no path from q where it is not dead

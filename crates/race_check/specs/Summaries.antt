@@ -1,8 +1,8 @@
 -- In which sections of a reservation a line lies, by one acquire and a mark.
 use Rattle.std.specs.Prelude.{◌≡◌, ◌≢◌, ℕ, ◌<◌, ◌⊎◌, Bool, true, false, List, length, Option, Some, None, slice_get}
 use Rattle.std.specs.List.{slice_index_or}
-use Rattle.graph_model.specs.Graph.{GraphValue, locks}
-use Rattle.graph_model.specs.Rules.{Section}
+use Rattle.graph_model.specs.graph.Graph.{GraphValue, locks}
+use Rattle.graph_model.specs.meaning.Rules.{Section}
 use Rattle.race_check.specs.declared.summaries.Summary.{Summary}
 
 -- among the acquires below a number: one whose section of reservation l has line i, where there is one, and whether there is another

@@ -1,10 +1,10 @@
 //! Which lines use a column, and which conflict.
 
 ghost use Rattle.std.specs.Prelude.{◌≡◌, ◌<◌, ◌||◌, ◌↔◌, not, length, Contains, IsTrue, IfOk};
-ghost use Rattle.graph_model.specs.declared.verb.Access.{Access};
-ghost use Rattle.graph_model.specs.Graph.{named_spaces};
-ghost use Rattle.graph_model.specs.Access.{accesses, modes_clash};
-ghost use Rattle.graph_model.specs.Rules.{modes_commute};
+ghost use Rattle.graph_model.specs.declared.graph.verb.Access.{Access};
+ghost use Rattle.graph_model.specs.graph.Graph.{named_spaces};
+ghost use Rattle.graph_model.specs.graph.Access.{accesses, modes_clash};
+ghost use Rattle.graph_model.specs.meaning.Rules.{modes_commute};
 ghost use Rattle.race_check.specs.Races.{AreAccesses, AreSpacesKnown, Clash, ListsClash, uses};
 
 use graph_model::graph::Graph;

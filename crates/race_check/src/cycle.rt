@@ -1,9 +1,9 @@
 //! Paths that lead from a line to itself.
 
 ghost use Rattle.std.specs.Prelude.{◌≡◌, ℕ, ◌+◌, ◌<◌, ◌≤◌, ◌↔◌, true, false, cond, [], ◌∷◌, ◌++◌, length, slice_set, IsTrue, OnOk, IfOk, MatchOption};
-ghost use Rattle.graph_model.specs.Edges.{edges, edges_out_of};
-ghost use Rattle.graph_model.specs.Path.{HasPath};
-ghost use Rattle.graph_model.specs.Rules.{Everywhere, NoCycleAt, IsCycle};
+ghost use Rattle.graph_model.specs.graph.Edges.{edges, edges_out_of};
+ghost use Rattle.graph_model.specs.meaning.Path.{HasPath};
+ghost use Rattle.graph_model.specs.meaning.Rules.{Everywhere, NoCycleAt, IsCycle};
 ghost use Rattle.race_check.specs.Order.{IsOrdered};
 ghost use Rattle.race_check.specs.Search.{IsMarking, IsSearching, marked_in, unmarked};
 

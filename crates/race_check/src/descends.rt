@@ -1,8 +1,8 @@
 //! The rule that reservations are taken in the order of their declarations.
 
 ghost use Rattle.std.specs.Prelude.{◌≡◌, ℕ, Some, not, IsTrue, ◌<◌, length, IfOk, MatchOption};
-ghost use Rattle.graph_model.specs.Graph.{locks};
-ghost use Rattle.graph_model.specs.Rules.{Everywhere, EverywhereTwice, FailsFirst, FailsFirstTwice, DescendsAt};
+ghost use Rattle.graph_model.specs.graph.Graph.{locks};
+ghost use Rattle.graph_model.specs.meaning.Rules.{Everywhere, EverywhereTwice, FailsFirst, FailsFirstTwice, DescendsAt};
 ghost use Rattle.race_check.specs.Paths.{IsPathTable, words_for};
 ghost use Rattle.race_check.specs.Releases.{AreReleases};
 ghost use Rattle.race_check.specs.Words.{IsWordOf};

@@ -1,10 +1,10 @@
 //! The high numbers of lines, by floods from the heaviest line down.
 
 ghost use Rattle.std.specs.Prelude.{◌≡◌, ℕ, ◌+◌, ◌<◌, ◌≤◌, ◌==◌, ◌||◌, Bool, true, false, [], Contains, length, slice_index, OnOk, IfOk};
-ghost use Rattle.graph_model.specs.Graph.{locks, never_comes};
-ghost use Rattle.graph_model.specs.Edges.{edges_out_of};
-ghost use Rattle.graph_model.specs.Rules.{Acquires};
-ghost use Rattle.graph_model.specs.Need.{IsHigh};
+ghost use Rattle.graph_model.specs.graph.Graph.{locks, never_comes};
+ghost use Rattle.graph_model.specs.graph.Edges.{edges_out_of};
+ghost use Rattle.graph_model.specs.meaning.Rules.{Acquires};
+ghost use Rattle.graph_model.specs.meaning.Need.{IsHigh};
 ghost use Rattle.race_check.specs.High.{IsMarking, IsTarget, IsNext, AreAcquiresMarked, weight_of, IsFlooding, IsFlood};
 
 use crate::reservations::{acquires, freed};

@@ -1,8 +1,8 @@
 //! The six rules in turn.
 
 ghost use Rattle.std.specs.Prelude.{OnOk, IfOk, IfErr};
-ghost use Rattle.graph_model.specs.Need.{IsNeed};
-ghost use Rattle.graph_model.specs.Rules.{Accepted, Everywhere, EverywhereTwice, NoCycleAt, ReleasedAt, SectionAt, DescendsAt, ReleaseFaultAt, RaceAt};
+ghost use Rattle.graph_model.specs.meaning.Need.{IsNeed};
+ghost use Rattle.graph_model.specs.meaning.Rules.{Accepted, Everywhere, EverywhereTwice, NoCycleAt, ReleasedAt, SectionAt, DescendsAt, ReleaseFaultAt, RaceAt};
 ghost use Rattle.race_check.specs.Order.{IsOrdered};
 ghost use Rattle.race_check.specs.Paths.{IsPathTable};
 ghost use Rattle.race_check.specs.Releases.{AreReleases};

@@ -20,8 +20,8 @@ mod sections;
 mod summaries;
 
 ghost use Rattle.std.specs.Prelude.{◌≡◌, IfOk, IfErr};
-ghost use Rattle.graph_model.specs.Need.{IsNeed};
-ghost use Rattle.graph_model.specs.Rules.{Accepted};
+ghost use Rattle.graph_model.specs.meaning.Need.{IsNeed};
+ghost use Rattle.graph_model.specs.meaning.Rules.{Accepted};
 ghost use Rattle.race_check.specs.Refusal.{IsRefusal, NamesLines};
 
 use crate::checked::{CheckRefusal, Checked, Unfit};

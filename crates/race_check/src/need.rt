@@ -1,7 +1,7 @@
 //! The need of a graph: how many slots serve any run of it.
 
 ghost use Rattle.std.specs.Prelude.{◌≡◌, ℕ, ◌+◌, ◌<◌, ◌≤◌, List, length, slice_index, IfOk};
-ghost use Rattle.graph_model.specs.Need.{IsNeed};
+ghost use Rattle.graph_model.specs.meaning.Need.{IsNeed};
 ghost use Rattle.race_check.specs.Sweep.{AreAbove, IsTally, most_open};
 
 use crate::high::high_numbers;

@@ -1,7 +1,7 @@
 //! The order of the lines by their edges.
 
 ghost use Rattle.std.specs.Prelude.{◌≡◌, ℕ, ◌+◌, ◌-◌, ◌<◌, ◌≤◌, ◌==◌, [], ◌∷◌, ◌++◌, cond, length, slice_index, slice_set, OnOk, IfOk};
-ghost use Rattle.graph_model.specs.Edges.{edges_into, edges_out_of};
+ghost use Rattle.graph_model.specs.graph.Edges.{edges_into, edges_out_of};
 ghost use Rattle.race_check.specs.Order.{IsTaking, IsOrdered, IsCounted, HasRoom};
 
 use graph_model::graph::Graph;

@@ -1,9 +1,9 @@
 //! Which lines have a path to which.
 
 ghost use Rattle.std.specs.Prelude.{◌≡◌, ℕ, ◌<◌, ◌≤◌, length, Contains, IfOk};
-ghost use Rattle.graph_model.specs.declared.verb.Edge.{Edge};
-ghost use Rattle.graph_model.specs.Edges.{edges};
-ghost use Rattle.graph_model.specs.Rules.{Everywhere, NoCycleAt};
+ghost use Rattle.graph_model.specs.declared.graph.verb.Edge.{Edge};
+ghost use Rattle.graph_model.specs.graph.Edges.{edges};
+ghost use Rattle.graph_model.specs.meaning.Rules.{Everywhere, NoCycleAt};
 ghost use Rattle.race_check.specs.Order.{IsOrdered};
 ghost use Rattle.race_check.specs.Paths.{IsPathTable, IsFilled, IsRow, IsBack, path_in, word_bit, words_for};
 

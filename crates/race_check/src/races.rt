@@ -1,8 +1,8 @@
 //! The rule that lines which conflict have a path one way or the other, or are exempt.
 
 ghost use Rattle.std.specs.Prelude.{◌≡◌, ℕ, ◌+◌, ◌*◌, ◌<◌, ◌≤◌, ◌↔◌, true, false, length, IsTrue, IfOk, MatchOption};
-ghost use Rattle.graph_model.specs.Path.{HasPath};
-ghost use Rattle.graph_model.specs.Rules.{Everywhere, EverywhereTwice, FailsFirst, FailsFirstTwice, RaceAt};
+ghost use Rattle.graph_model.specs.meaning.Path.{HasPath};
+ghost use Rattle.graph_model.specs.meaning.Rules.{Everywhere, EverywhereTwice, FailsFirst, FailsFirstTwice, RaceAt};
 ghost use Rattle.race_check.specs.Paths.{PathsValue, IsPathTable, words_for};
 ghost use Rattle.race_check.specs.Releases.{AreReleases};
 ghost use Rattle.race_check.specs.Words.{IsWordOf};

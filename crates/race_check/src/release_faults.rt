@@ -1,8 +1,8 @@
 //! The rule that each release stands on a merge that ignores faults.
 
 ghost use Rattle.std.specs.Prelude.{◌≡◌, ◌<◌, ◌↔◌, length, IsTrue, MatchOption};
-ghost use Rattle.graph_model.specs.Graph.{is_merge_ignore, line_passes};
-ghost use Rattle.graph_model.specs.Rules.{Everywhere, FailsFirst, ReleaseFaultAt};
+ghost use Rattle.graph_model.specs.graph.Graph.{is_merge_ignore, line_passes};
+ghost use Rattle.graph_model.specs.meaning.Rules.{Everywhere, FailsFirst, ReleaseFaultAt};
 
 use crate::reservations::released;
 use graph_model::graph::Graph;

@@ -2,7 +2,7 @@
 
 ghost use Rattle.std.specs.Prelude.{◌≡◌, ℕ, ◌<◌, ◌↔◌, length, Option, None, IsTrue, IfOk, MatchOption};
 ghost use Rattle.std.specs.List.{slice_index_or};
-ghost use Rattle.graph_model.specs.Rules.{Everywhere, FailsFirst, ReleasedAt};
+ghost use Rattle.graph_model.specs.meaning.Rules.{Everywhere, FailsFirst, ReleasedAt};
 ghost use Rattle.race_check.specs.Paths.{IsPathTable};
 ghost use Rattle.race_check.specs.Releases.{AreReleases};
 

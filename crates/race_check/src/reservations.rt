@@ -1,8 +1,8 @@
 //! The reservations of acquires and releases.
 
 ghost use Rattle.std.specs.Prelude.{◌≡◌, ℕ, ◌<◌, length, MatchOption};
-ghost use Rattle.graph_model.specs.Graph.{locks, line_passes, is_acquire_of};
-ghost use Rattle.graph_model.specs.Rules.{Acquires, Releases};
+ghost use Rattle.graph_model.specs.graph.Graph.{locks, line_passes, is_acquire_of};
+ghost use Rattle.graph_model.specs.meaning.Rules.{Acquires, Releases};
 
 use graph_model::graph::Graph;
 use graph_model::verb::Verb;

@@ -1,8 +1,8 @@
 //! The rule that what comes before a release lies before its acquire or in its section.
 
 ghost use Rattle.std.specs.Prelude.{◌≡◌, ℕ, ◌<◌, ◌+◌, ◌&&◌, IsTrue, length, OnOk, IfOk, MatchOption};
-ghost use Rattle.graph_model.specs.Graph.{line_passes, is_phase, never_comes};
-ghost use Rattle.graph_model.specs.Rules.{Everywhere, EverywhereTwice, FailsFirst, FailsFirstTwice, SectionAt};
+ghost use Rattle.graph_model.specs.graph.Graph.{line_passes, is_phase, never_comes};
+ghost use Rattle.graph_model.specs.meaning.Rules.{Everywhere, EverywhereTwice, FailsFirst, FailsFirstTwice, SectionAt};
 ghost use Rattle.race_check.specs.Paths.{IsPathTable, word_bit, words_for};
 ghost use Rattle.race_check.specs.Words.{IsWordOf};
 ghost use Rattle.race_check.specs.RuleWords.{lies_outside, AreNeverPhases};

@@ -2,8 +2,8 @@
 
 ghost use Rattle.std.specs.Prelude.{◌≡◌, ℕ, ◌+◌, ◌<◌, ◌↔◌, ◌&&◌, length, IsTrue, IfOk};
 ghost use Rattle.std.specs.List.{slice_index_or};
-ghost use Rattle.graph_model.specs.Graph.{locks};
-ghost use Rattle.graph_model.specs.Rules.{Acquires};
+ghost use Rattle.graph_model.specs.graph.Graph.{locks};
+ghost use Rattle.graph_model.specs.meaning.Rules.{Acquires};
 ghost use Rattle.race_check.specs.Paths.{IsPathTable, path_in};
 ghost use Rattle.race_check.specs.Releases.{AreReleases};
 ghost use Rattle.race_check.specs.Summaries.{AreSummaries, AreSummed, ApartIn, IsNoted, MayBeApartBy};

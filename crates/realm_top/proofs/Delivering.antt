@@ -17,10 +17,10 @@ use Rattle.race_check.specs.declared.checked.CheckRefusal.TheVariants as refusal
 use Rattle.realm_top.specs.Answer.{IsRefused, IsUnfit, IsDone, report_with, is_short, EndsByPaths, Served, InputAnswers, EnoughSlots, TooFewSlots, InputAsks, Serves, Settled, Answered, Delivered, BrokenOff, Delivers}
 use Rattle.realm_top.specs.Status.{is_refusal}
 use Rattle.realm_top.specs.Texts.{too_long_text, unfit_text, slots_text}
-use Rattle.graph_model.specs.Graph.{GraphValue}
-use Rattle.graph_model.specs.Rules.{Accepted}
-use Rattle.graph_model.specs.Need.{IsNeed}
-use Rattle.graph_model.specs.Laws.{OneNeed, WaitsWhereReached, CancelledWhereUnbroken}
+use Rattle.graph_model.specs.graph.Graph.{GraphValue}
+use Rattle.graph_model.specs.meaning.Rules.{Accepted}
+use Rattle.graph_model.specs.meaning.Need.{IsNeed}
+use Rattle.graph_model.specs.meaning.Laws.{OneNeed, WaitsWhereReached, CancelledWhereUnbroken}
 use Rattle.std.specs.Io.KnownBytes.{Consumes, IsAtEnd}
 use Rattle.std.proofs.lemmas.Bool.{true≢false}
 use Rattle.std.proofs.lemmas.Option.{none-some, same_Some}

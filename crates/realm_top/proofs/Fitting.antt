@@ -2,11 +2,11 @@
 use Rattle.std.proofs.Common.{◌≡◌, ℕ, List, [], ◌∷◌, length, sym, ◌∙◌, ap, subst}
 use Rattle.std.specs.Prelude.{codes, decimal}
 use Rattle.std.proofs.lemmas.List.FromFn.{length-map-range_with_len}
-use Rattle.graph_model.specs.Graph.{GraphValue, columns}
-use Rattle.graph_model.specs.declared.outcome.Outcome.{Outcome}
-use Rattle.graph_model.specs.Evaluation.{eval_end, answer_of, phase_value, column_of, cells_of, evaluation, outcome}
-use Rattle.graph_model.specs.Spelling.{spelled}
-use Rattle.graph_model.specs.declared.why.Why.{Why}
+use Rattle.graph_model.specs.graph.Graph.{GraphValue, columns}
+use Rattle.graph_model.specs.declared.meaning.outcome.Outcome.{Outcome}
+use Rattle.graph_model.specs.meaning.Evaluation.{eval_end, answer_of, phase_value, column_of, cells_of, evaluation, outcome}
+use Rattle.graph_model.specs.graph.Spelling.{spelled}
+use Rattle.graph_model.specs.declared.graph.why.Why.{Why}
 use Rattle.realm_top.specs.Texts.{FitsGraph, report, why_word, unread_text}
 use Rattle.realm_top.specs.Answer.{evaluation_report}
 

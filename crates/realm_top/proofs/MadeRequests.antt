@@ -7,12 +7,12 @@ use Rattle.realm_io.specs.Counts.{Rose}
 use Rattle.command_line.specs.declared.request.Request.{Request}
 use Rattle.command_line.specs.declared.request.Action.{Action}
 use Rattle.command_line.specs.declared.request.Action.TheVariants.{Run, Check, Eval, Make}
-use Rattle.graph_model.specs.Graph.{GraphValue}
-use Rattle.graph_model.specs.Need.{IsNeed}
-use Rattle.graph_model.specs.Evaluation.{outcome}
-use Rattle.graph_model.specs.declared.outcome.Outcome.{Outcome}
+use Rattle.graph_model.specs.graph.Graph.{GraphValue}
+use Rattle.graph_model.specs.meaning.Need.{IsNeed}
+use Rattle.graph_model.specs.meaning.Evaluation.{outcome}
+use Rattle.graph_model.specs.declared.meaning.outcome.Outcome.{Outcome}
 use Rattle.graph_reader.specs.Text.{text}
-use Rattle.graph_model.specs.Laws.{OneNeed}
+use Rattle.graph_model.specs.meaning.Laws.{OneNeed}
 use Rattle.graph_gen.specs.MadeGraph.{made_graph}
 use Rattle.realm_top.specs.declared.status.Status.{Status}
 use Rattle.realm_top.specs.declared.status.Status.TheVariants.{Done, Usage, WriteFault, NoMemory, Slots}

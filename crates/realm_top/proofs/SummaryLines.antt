@@ -2,9 +2,9 @@
 use Rattle.std.proofs.Common.{◌≡◌, ℕ, List, [], ◌∷◌, ◌++◌, length, refl, ◌∙◌, ap}
 use Rattle.std.specs.Prelude.{codes, decimal}
 use Rattle.std.specs.List.{flat_map}
-use Rattle.graph_model.specs.Graph.{GraphValue}
-use Rattle.graph_model.specs.declared.outcome.End.TheVariants.{Done, Faulted, Cancelled, Waiting}
-use Rattle.graph_model.specs.declared.outcome.Outcome.{Outcome}
+use Rattle.graph_model.specs.graph.Graph.{GraphValue}
+use Rattle.graph_model.specs.declared.meaning.outcome.End.TheVariants.{Done, Faulted, Cancelled, Waiting}
+use Rattle.graph_model.specs.declared.meaning.outcome.Outcome.{Outcome}
 use Rattle.graph_reader.proofs.WrittenLists.{plain_text}
 use Rattle.realm_top.specs.declared.summary.Count.{Count}
 use Rattle.realm_top.specs.Texts.{ended_so, cell_sum, made_text}

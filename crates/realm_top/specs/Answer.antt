@@ -4,13 +4,13 @@ use Rattle.std.specs.Option.{option_map}
 use Rattle.realm_io.specs.SinkState.{SinkState}
 use Rattle.realm_io.specs.Counts.{Rose}
 use Rattle.realm_io.specs.Told.{with_more, TookPrefix}
-use Rattle.graph_model.specs.Graph.{GraphValue}
-use Rattle.graph_model.specs.declared.outcome.End.TheVariants.{Cancelled, Waiting}
-use Rattle.graph_model.specs.Path.{Reached}
-use Rattle.graph_model.specs.Rules.{Accepted}
-use Rattle.graph_model.specs.Need.{IsNeed}
-use Rattle.graph_model.specs.Trace.{IsLawful}
-use Rattle.graph_model.specs.Evaluation.{eval_end, outcome, order, Unbroken}
+use Rattle.graph_model.specs.graph.Graph.{GraphValue}
+use Rattle.graph_model.specs.declared.meaning.outcome.End.TheVariants.{Cancelled, Waiting}
+use Rattle.graph_model.specs.meaning.Path.{Reached}
+use Rattle.graph_model.specs.meaning.Rules.{Accepted}
+use Rattle.graph_model.specs.meaning.Need.{IsNeed}
+use Rattle.graph_model.specs.meaning.Trace.{IsLawful}
+use Rattle.graph_model.specs.meaning.Evaluation.{eval_end, outcome, order, Unbroken}
 use Rattle.race_check.specs.declared.checked.CheckRefusal.{CheckRefusal}
 use Rattle.race_check.specs.Refusal.{IsRefusal}
 use Rattle.command_line.specs.declared.request.Action.{Action}
@@ -19,7 +19,7 @@ use Rattle.command_line.specs.declared.request.Request.{Request}
 use Rattle.realm_trace.specs.Text.{trace_text}
 use Rattle.realm_top.specs.declared.status.Status.{Status}
 use Rattle.realm_top.specs.declared.status.Status.TheVariants.{Done, Unread, Unfit, WriteFault, NoMemory, Slots, TooLong}
-use Rattle.graph_model.specs.declared.why.Why.{Why}
+use Rattle.graph_model.specs.declared.graph.why.Why.{Why}
 use Rattle.graph_reader.specs.Text.{GraphText, text}
 use Rattle.graph_reader.specs.FirstFault.{FirstFault}
 use Rattle.graph_gen.specs.MadeGraph.{made_graph}

@@ -2,17 +2,17 @@
 use Rattle.std.specs.Prelude.{◌≡◌, ℕ, ◌+◌, Bool, true, false, List, [], ◌∷◌, ◌++◌, length, map, take, drop, count_by, sum, sum_by, Option, Some, None, codes, decimal}
 use Rattle.index_spaces.specs.Space.{interval_points}
 use Rattle.index_spaces.specs.Column.{ColumnValue}
-use Rattle.graph_model.specs.declared.outcome.Outcome.{Outcome}
-use Rattle.graph_model.specs.declared.outcome.End.{End}
-use Rattle.graph_model.specs.declared.outcome.End.TheVariants.{Done, Faulted, Cancelled, Waiting}
-use Rattle.graph_model.specs.declared.outcome.Answer.{Answer}
-use Rattle.graph_model.specs.declared.outcome.Answer.TheVariants.{Triggered, Poisoned, Pending}
-use Rattle.graph_model.specs.declared.verb.Line.{Line}
-use Rattle.graph_model.specs.declared.why.Why.{Why}
-use Rattle.graph_model.specs.declared.why.Why.TheVariants.{Header, Syntax, Name, Twice, Unknown, Kind, Number, Space, Outside, Arrivals, Limit, Missing, Rest}
-use Rattle.graph_model.specs.Effect.{wrapped}
-use Rattle.graph_model.specs.Graph.{GraphValue, is_phase, columns}
-use Rattle.graph_model.specs.Spelling.{spelled, column_name, line_name, interval_word}
+use Rattle.graph_model.specs.declared.meaning.outcome.Outcome.{Outcome}
+use Rattle.graph_model.specs.declared.meaning.outcome.End.{End}
+use Rattle.graph_model.specs.declared.meaning.outcome.End.TheVariants.{Done, Faulted, Cancelled, Waiting}
+use Rattle.graph_model.specs.declared.meaning.outcome.Answer.{Answer}
+use Rattle.graph_model.specs.declared.meaning.outcome.Answer.TheVariants.{Triggered, Poisoned, Pending}
+use Rattle.graph_model.specs.declared.graph.verb.Line.{Line}
+use Rattle.graph_model.specs.declared.graph.why.Why.{Why}
+use Rattle.graph_model.specs.declared.graph.why.Why.TheVariants.{Header, Syntax, Name, Twice, Unknown, Kind, Number, Space, Outside, Arrivals, Limit, Missing, Rest}
+use Rattle.graph_model.specs.meaning.Effect.{wrapped}
+use Rattle.graph_model.specs.graph.Graph.{GraphValue, is_phase, columns}
+use Rattle.graph_model.specs.graph.Spelling.{spelled, column_name, line_name, interval_word}
 use Rattle.race_check.specs.declared.checked.CheckRefusal.{CheckRefusal}
 use Rattle.race_check.specs.declared.checked.CheckRefusal.TheVariants as refusal
 

@@ -1,9 +1,9 @@
 //! What is done with an input that was read to its end.
 
 ghost use Rattle.std.specs.Prelude.{◌≡◌, ℕ, ◌<◌, ◌≤◌, ◌⊎◌, List, [], false, length, Some, slice_get, IfOk};
-ghost use Rattle.graph_model.specs.Evaluation.{outcome};
-ghost use Rattle.graph_model.specs.Trace.{IsLawful};
-ghost use Rattle.graph_model.specs.declared.why.Why.{Why};
+ghost use Rattle.graph_model.specs.meaning.Evaluation.{outcome};
+ghost use Rattle.graph_model.specs.meaning.Trace.{IsLawful};
+ghost use Rattle.graph_model.specs.declared.graph.why.Why.{Why};
 ghost use Rattle.graph_reader.specs.FirstFault.{FirstFault};
 ghost use Rattle.graph_reader.specs.declared.ReadRefusal.TheVariants.{Line};
 ghost use Rattle.race_check.specs.Refusal.{IsRefusal, NamesLines};

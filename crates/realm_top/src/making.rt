@@ -1,7 +1,7 @@
 //! What is done by `make`, which reads nothing.
 
 ghost use Rattle.std.specs.Prelude.{◌≡◌, ℕ, ◌≤◌, ◌⊎◌, List};
-ghost use Rattle.graph_model.specs.Rules.{Accepted};
+ghost use Rattle.graph_model.specs.meaning.Rules.{Accepted};
 ghost use Rattle.graph_reader.specs.Text.{text};
 ghost use Rattle.graph_gen.specs.MadeGraph.{made_graph};
 ghost use Rattle.realm_top.specs.Answer.{MadeAnswered, Serves, Delivers};

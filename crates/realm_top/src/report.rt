@@ -4,10 +4,10 @@ ghost use Rattle.basics.specs.Words.{contents};
 ghost use Rattle.std.specs.Prelude.{◌≡◌, ℕ, ◌<◌, ◌≤◌, length, ◌+◌, ◌-◌, true, map, take, drop, flat_map, [], ◌∷◌, ◌++◌, decimal, OnOk, OnErr};
 ghost use Rattle.realm_io.specs.Counts.{Rose};
 ghost use Rattle.realm_io.specs.Told.{with_more, TookPrefix};
-ghost use Rattle.graph_model.specs.Spelling.{spelled, interval_word};
+ghost use Rattle.graph_model.specs.graph.Spelling.{spelled, interval_word};
 ghost use Rattle.realm_top.specs.Texts.{FitsGraph, end_word, answer_word, op_text, op_texts, phase_text, phase_texts, interval_front, interval_text, cells_texts, column_texts, report};
 ghost use Rattle.index_spaces.specs.Space.{space_size, IsSpace};
-ghost use Rattle.graph_model.specs.Graph.{is_phase};
+ghost use Rattle.graph_model.specs.graph.Graph.{is_phase};
 ghost use Rattle.realm_io.specs.Written.{Writes};
 
 use graph_model::graph::Graph;

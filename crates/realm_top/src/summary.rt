@@ -2,7 +2,7 @@
 
 ghost use Rattle.std.specs.Prelude.{◌≡◌, ◌++◌, ◌∷◌, length, count_by, sum, sum_by, decimal, flat_map};
 ghost use Rattle.index_spaces.specs.Column.{ColumnValue};
-ghost use Rattle.graph_model.specs.Effect.{wrapped};
+ghost use Rattle.graph_model.specs.meaning.Effect.{wrapped};
 ghost use Rattle.realm_io.specs.Written.{Writes};
 ghost use Rattle.realm_top.specs.Texts.{same_end, cell_sum, made_text};
 

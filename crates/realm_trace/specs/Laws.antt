@@ -1,9 +1,9 @@
 -- Which orders are lawful traces.
 use Rattle.std.specs.Prelude.{ℕ}
-use Rattle.graph_model.specs.Graph.{GraphValue}
-use Rattle.graph_model.specs.Rules.{Acquires}
-use Rattle.graph_model.specs.Evaluation.{order}
-use Rattle.graph_model.specs.Trace.{IsLawful}
+use Rattle.graph_model.specs.graph.Graph.{GraphValue}
+use Rattle.graph_model.specs.meaning.Rules.{Acquires}
+use Rattle.graph_model.specs.meaning.Evaluation.{order}
+use Rattle.graph_model.specs.meaning.Trace.{IsLawful}
 
 -- no line acquires a reservation
 abbrev pub AcquiresNone : GraphValue → Type 0

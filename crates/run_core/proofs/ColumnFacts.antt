@@ -7,11 +7,11 @@ use Rattle.std.proofs.lemmas.Option.{none-some, same_Some, slice_get_within, sli
 use Rattle.std.proofs.lemmas.List.{take_more, take_all, get_or-set_same, get_or-set_other}
 use Rattle.index_spaces.specs.Column.{ColumnValue}
 use Rattle.index_spaces.specs.Held.{held_at, HoldsOtherwise}
-use Rattle.graph_model.specs.declared.verb.Access.{Access}
-use Rattle.graph_model.specs.Fits.{IsGraph}
-use Rattle.graph_model.specs.Graph.{GraphValue, columns}
-use Rattle.graph_model.specs.LineLaws.{ColumnsDiffer}
-use Rattle.graph_model.specs.Access.{accesses}
+use Rattle.graph_model.specs.declared.graph.verb.Access.{Access}
+use Rattle.graph_model.specs.graph.Fits.{IsGraph}
+use Rattle.graph_model.specs.graph.Graph.{GraphValue, columns}
+use Rattle.graph_model.specs.meaning.LineLaws.{ColumnsDiffer}
+use Rattle.graph_model.specs.graph.Access.{accesses}
 use Rattle.line_effects.proofs.EffectFacts.{access_listed, access_moved, move_at, moves_apart}
 use Rattle.line_effects.proofs.MoveFacts.{HeldSoFar, so_far_none, so_far_take, so_far_skip, move_none, moves_few, move_of}
 use Rattle.run_state.specs.Run.{Place, Home, Had}

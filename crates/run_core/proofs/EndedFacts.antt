@@ -6,13 +6,13 @@ use Rattle.std.proofs.lemmas.Bool.{true≢false, false≢true, eq-eqb}
 use Rattle.std.proofs.lemmas.List.{map-set, set-set}
 use Rattle.std.proofs.lemmas.Option.{none-some, same_Some, slice_get-get_or}
 use Rattle.index_spaces.specs.Column.{ColumnValue}
-use Rattle.graph_model.specs.declared.outcome.End.{End}
-use Rattle.graph_model.specs.declared.outcome.End.TheVariants.{Done, Faulted, Cancelled, Waiting}
-use Rattle.graph_model.specs.declared.verb.Verb.{Verb}
-use Rattle.graph_model.specs.declared.verb.Verb.TheVariants.{User, Trigger, Cancel, Merge, MergeIgnore, Phase, Arrive, Acquire, Release, Fill, Copy, Reduce, Task}
-use Rattle.graph_model.specs.Graph.{GraphValue, columns, column_space, verb_at, is_release_of}
-use Rattle.graph_model.specs.Rules.{Releases}
-use Rattle.graph_model.specs.Evaluation.{is_ended, evaluation, eval_end}
+use Rattle.graph_model.specs.declared.meaning.outcome.End.{End}
+use Rattle.graph_model.specs.declared.meaning.outcome.End.TheVariants.{Done, Faulted, Cancelled, Waiting}
+use Rattle.graph_model.specs.declared.graph.verb.Verb.{Verb}
+use Rattle.graph_model.specs.declared.graph.verb.Verb.TheVariants.{User, Trigger, Cancel, Merge, MergeIgnore, Phase, Arrive, Acquire, Release, Fill, Copy, Reduce, Task}
+use Rattle.graph_model.specs.graph.Graph.{GraphValue, columns, column_space, verb_at, is_release_of}
+use Rattle.graph_model.specs.meaning.Rules.{Releases}
+use Rattle.graph_model.specs.meaning.Evaluation.{is_ended, evaluation, eval_end}
 use Rattle.basics.proofs.ListFacts.{count_below-max, fewer_below}
 use Rattle.basics.specs.Lists.{count_below}
 use Rattle.graph_model.proofs.Waiting.{end_in_ended, steps_end}

@@ -3,12 +3,12 @@ use Rattle.std.proofs.Common.{◌≡◌, ℕ, ◌<◌, cond, List, [], ◌∷◌
 use Rattle.std.specs.Prelude.{not, Option, Some, None, slice_get, slice_set}
 use Rattle.std.proofs.lemmas.Bool.{eq-eqb}
 use Rattle.std.proofs.lemmas.List.{map-set}
-use Rattle.graph_model.specs.declared.verb.Line.{Line}
-use Rattle.graph_model.specs.declared.verb.Verb.TheVariants.{Acquire, Release}
-use Rattle.graph_model.specs.declared.outcome.End.TheVariants.{Done}
-use Rattle.graph_model.specs.Graph.{GraphValue, locks, is_acquire_of, is_release_of}
-use Rattle.graph_model.specs.Fits.{IsGraph}
-use Rattle.graph_model.specs.Rules.{Acquires, Releases}
+use Rattle.graph_model.specs.declared.graph.verb.Line.{Line}
+use Rattle.graph_model.specs.declared.graph.verb.Verb.TheVariants.{Acquire, Release}
+use Rattle.graph_model.specs.declared.meaning.outcome.End.TheVariants.{Done}
+use Rattle.graph_model.specs.graph.Graph.{GraphValue, locks, is_acquire_of, is_release_of}
+use Rattle.graph_model.specs.graph.Fits.{IsGraph}
+use Rattle.graph_model.specs.meaning.Rules.{Acquires, Releases}
 use Rattle.line_effects.proofs.EffectFacts.{verb_is}
 use Rattle.run_state.specs.Run.{LineStage, stage_at, list_at, end_so_far}
 use Rattle.run_state.specs.Moves.{without}

@@ -1,13 +1,13 @@
 -- What an arrival says of its phase.
 use Rattle.std.proofs.Common.{◌≡◌, ℕ, ◌<◌, length, ◌∙◌, ap}
 use Rattle.std.specs.Prelude.{Some, slice_get}
-use Rattle.graph_model.specs.declared.verb.Line.{Line}
-use Rattle.graph_model.specs.declared.verb.EdgeKind.TheVariants.{Passes}
-use Rattle.graph_model.specs.declared.verb.Verb.TheVariants.{Arrive}
-use Rattle.graph_model.specs.Graph.{GraphValue}
-use Rattle.graph_model.specs.Edges.{edge}
-use Rattle.graph_model.specs.Fits.{IsGraph}
-use Rattle.graph_model.specs.Laws.{EdgesBetweenLines}
+use Rattle.graph_model.specs.declared.graph.verb.Line.{Line}
+use Rattle.graph_model.specs.declared.graph.verb.EdgeKind.TheVariants.{Passes}
+use Rattle.graph_model.specs.declared.graph.verb.Verb.TheVariants.{Arrive}
+use Rattle.graph_model.specs.graph.Graph.{GraphValue}
+use Rattle.graph_model.specs.graph.Edges.{edge}
+use Rattle.graph_model.specs.graph.Fits.{IsGraph}
+use Rattle.graph_model.specs.meaning.Laws.{EdgesBetweenLines}
 use Rattle.line_effects.proofs.EffectFacts.{verb_is}
 use Rattle.graph_model.proofs.EdgeFacts.{arrival_edge}
 

@@ -3,7 +3,7 @@
 ghost use Rattle.std.specs.Prelude.{◌≡◌, ◌<◌, ◌+◌, ◌⊎◌, ℕ, length, Some, None, slice_get, slice_index_or, slice_set, IsSome, MatchOption};
 ghost use Rattle.index_spaces.specs.Column.{ColumnValue};
 ghost use Rattle.index_spaces.specs.Held.{held_at, HoldsOtherwise};
-ghost use Rattle.graph_model.specs.Graph.{columns as graph_columns};
+ghost use Rattle.graph_model.specs.graph.Graph.{columns as graph_columns};
 ghost use Rattle.run_state.specs.Sound.{AccessesColumn};
 ghost use Rattle.run_state.specs.WholeLine.{column_list, all_had, all_home};
 ghost use Rattle.run_core.specs.Works.{cells_in};

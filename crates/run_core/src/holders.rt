@@ -1,8 +1,8 @@
 //! Who holds the reservations.
 
 ghost use Rattle.std.specs.Prelude.{◌≡◌, ◌≢◌, ◌<◌, ℕ, [], ◌∷◌, length, map, Some, MatchOption};
-ghost use Rattle.graph_model.specs.Graph.{locks};
-ghost use Rattle.graph_model.specs.Rules.{Acquires};
+ghost use Rattle.graph_model.specs.graph.Graph.{locks};
+ghost use Rattle.graph_model.specs.meaning.Rules.{Acquires};
 ghost use Rattle.run_state.specs.Run.{list_at};
 ghost use Rattle.run_state.specs.WholeLine.{lock_of, holders_with, holders_without};
 ghost use Rattle.run_core.specs.Kept.{holding, shown_stage, frees_in};

@@ -2,9 +2,9 @@
 
 ghost use Rattle.std.specs.Prelude.{◌≡◌, ◌<◌, List, length, map, nat_lt, cond, Option, Some, None, MatchOption};
 ghost use Rattle.std.specs.List.{list_any};
-ghost use Rattle.graph_model.specs.declared.verb.Edge.{Edge as TheEdge};
-ghost use Rattle.graph_model.specs.Edges.{edges_into};
-ghost use Rattle.graph_model.specs.Evaluation.{cancels};
+ghost use Rattle.graph_model.specs.declared.graph.verb.Edge.{Edge as TheEdge};
+ghost use Rattle.graph_model.specs.graph.Edges.{edges_into};
+ghost use Rattle.graph_model.specs.meaning.Evaluation.{cancels};
 ghost use Rattle.run_state.specs.Run.{end_so_far, stage_at, stage_ended};
 ghost use Rattle.run_core.specs.Kept.{shown_stage};
 ghost use Rattle.run_core.specs.Steps.{HasSources, IsLeastLeft};

@@ -1,8 +1,8 @@
 //! The work of a line that was taken.
 
 ghost use Rattle.std.specs.Prelude.{◌≡◌, true};
-ghost use Rattle.graph_model.specs.Effect.{effect};
-ghost use Rattle.graph_model.specs.Evaluation.{end_by};
+ghost use Rattle.graph_model.specs.meaning.Effect.{effect};
+ghost use Rattle.graph_model.specs.meaning.Evaluation.{end_by};
 
 use graph_model::graph::Graph;
 use graph_model::outcome::{End, Verdict};
@@ -46,8 +46,8 @@ impl Model for Finished {
 
 impl Work {
     ghost use Rattle.std.specs.Prelude.{◌≡◌, ◌≢◌, Bool, List};
-    ghost use Rattle.graph_model.specs.declared.outcome.End.TheVariants.{Cancelled};
-    ghost use Rattle.graph_model.specs.Evaluation.{eval_end};
+    ghost use Rattle.graph_model.specs.declared.meaning.outcome.End.TheVariants.{Cancelled};
+    ghost use Rattle.graph_model.specs.meaning.Evaluation.{eval_end};
     ghost use Rattle.run_core.specs.Core.{CoreValue, IsCore};
     ghost use Rattle.run_core.specs.Works.{IsWork, IsFinished, verdict_of};
 

@@ -3,13 +3,13 @@ use Rattle.std.proofs.Common.{◌≡◌, ℕ, ◌<◌, true, false, List, [], �
 use Rattle.std.specs.Prelude.{◌≢◌, slice_set}
 use Rattle.std.proofs.lemmas.List.{get_or-set_other}
 use Rattle.std.proofs.lemmas.Bool.{true≢false}
-use Rattle.graph_model.specs.declared.outcome.End.{End}
-use Rattle.graph_model.specs.declared.outcome.End.TheVariants.{Cancelled}
-use Rattle.graph_model.specs.Graph.{GraphValue}
-use Rattle.graph_model.specs.Rules.{Acquires, Accepted}
-use Rattle.graph_model.specs.Effect.{Cells}
-use Rattle.graph_model.specs.Evaluation.{eval_end, cells_of_lines}
-use Rattle.graph_model.specs.Fits.{IsGraph}
+use Rattle.graph_model.specs.declared.meaning.outcome.End.{End}
+use Rattle.graph_model.specs.declared.meaning.outcome.End.TheVariants.{Cancelled}
+use Rattle.graph_model.specs.graph.Graph.{GraphValue}
+use Rattle.graph_model.specs.meaning.Rules.{Acquires, Accepted}
+use Rattle.graph_model.specs.meaning.Effect.{Cells}
+use Rattle.graph_model.specs.meaning.Evaluation.{eval_end, cells_of_lines}
+use Rattle.graph_model.specs.graph.Fits.{IsGraph}
 use Rattle.run_state.specs.Run.{LineStage, Unissued, Issued, Out, Ending, Ended, Home, Had, Run, is_listed, place_at, list_at, stage_out, stage_over, stage_ended, out, ended, timed}
 use Rattle.run_state.specs.Sound.{AccessesColumn, Sound}
 use Rattle.run_state.specs.Moves.{staged, issue, column_out, column_unused, column_back}

@@ -6,14 +6,14 @@ use Rattle.std.specs.Fmt.{digits}
 use Rattle.std.proofs.lemmas.Bool.{true≢false, cases_lt, eq-eqb, and_parts, not-true}
 use Rattle.std.proofs.lemmas.Option.{none-some, same_Some}
 use Rattle.std.proofs.lemmas.List.{get_or-set_same}
-use Rattle.graph_model.specs.declared.outcome.End.{End}
-use Rattle.graph_model.specs.declared.outcome.End.TheVariants.{Done, Faulted, Cancelled, Waiting}
-use Rattle.graph_model.specs.declared.verb.Edge.{Edge}
-use Rattle.graph_model.specs.Graph.{GraphValue, never_comes}
-use Rattle.graph_model.specs.Edges.{edges}
-use Rattle.graph_model.specs.Rules.{Accepted}
-use Rattle.graph_model.specs.Evaluation.{eval_end, order}
-use Rattle.graph_model.specs.Fits.{IsGraph}
+use Rattle.graph_model.specs.declared.meaning.outcome.End.{End}
+use Rattle.graph_model.specs.declared.meaning.outcome.End.TheVariants.{Done, Faulted, Cancelled, Waiting}
+use Rattle.graph_model.specs.declared.graph.verb.Edge.{Edge}
+use Rattle.graph_model.specs.graph.Graph.{GraphValue, never_comes}
+use Rattle.graph_model.specs.graph.Edges.{edges}
+use Rattle.graph_model.specs.meaning.Rules.{Accepted}
+use Rattle.graph_model.specs.meaning.Evaluation.{eval_end, order}
+use Rattle.graph_model.specs.graph.Fits.{IsGraph}
 use Rattle.graph_model.proofs.Examples.{one_fill, two_sections, reserved_sums}
 use Rattle.basics.proofs.ListFacts.{passes_each}
 use Rattle.graph_model.proofs.RulesTable.{implies, implied, accepted_by_tests}

@@ -6,11 +6,11 @@ use Rattle.std.proofs.lemmas.List.{get_or-set_same, get_or-set_other}
 use Rattle.std.proofs.lemmas.Bool.{true≢false, cases_eq, eq-eqb, ne_eqb}
 use Rattle.std.proofs.lemmas.Option.{none-some, same_Some}
 use Rattle.index_spaces.specs.declared.Op.{Op}
-use Rattle.graph_model.specs.declared.outcome.End.TheVariants.{Cancelled}
-use Rattle.graph_model.specs.declared.verb.Verb.{Verb}
-use Rattle.graph_model.specs.declared.verb.Verb.TheVariants.{Phase, Arrive}
-use Rattle.graph_model.specs.Graph.{GraphValue, verb_at, line_passes}
-use Rattle.graph_model.specs.Evaluation.{eval_end, combined, reduced_with, arrival_value}
+use Rattle.graph_model.specs.declared.meaning.outcome.End.TheVariants.{Cancelled}
+use Rattle.graph_model.specs.declared.graph.verb.Verb.{Verb}
+use Rattle.graph_model.specs.declared.graph.verb.Verb.TheVariants.{Phase, Arrive}
+use Rattle.graph_model.specs.graph.Graph.{GraphValue, verb_at, line_passes}
+use Rattle.graph_model.specs.meaning.Evaluation.{eval_end, combined, reduced_with, arrival_value}
 use Rattle.run_state.specs.Run.{Run, is_listed, stage_at, started}
 use Rattle.run_state.specs.Sound.{is_arrive, value_for, Once, SoundPhases, Sound}
 use Rattle.run_state.specs.Moves.{arrive}

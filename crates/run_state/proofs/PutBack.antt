@@ -7,14 +7,14 @@ use Rattle.std.proofs.lemmas.Bool.{true≢false, cases_eq, eq-eqb, false_from_ne
 use Rattle.std.proofs.lemmas.Option.{none-some, same_Some}
 use Rattle.index_spaces.specs.declared.Op.{Op}
 use Rattle.index_spaces.specs.declared.Op.TheVariants as op
-use Rattle.graph_model.specs.declared.outcome.End.{End}
-use Rattle.graph_model.specs.declared.outcome.End.TheVariants.{Done, Faulted, Cancelled, Waiting}
-use Rattle.graph_model.specs.declared.verb.Verb.{Verb}
-use Rattle.graph_model.specs.declared.verb.Verb.TheVariants.{User, Trigger, Cancel, Merge, MergeIgnore, Phase, Arrive, Acquire, Release, Fill, Copy, Reduce, Task}
-use Rattle.graph_model.specs.declared.decl.BarrierInfo.{BarrierInfo}
-use Rattle.graph_model.specs.Graph.{GraphValue, barriers, verb_at, is_release_of}
-use Rattle.graph_model.specs.Rules.{Acquires, Releases}
-use Rattle.graph_model.specs.Evaluation.{eval_end}
+use Rattle.graph_model.specs.declared.meaning.outcome.End.{End}
+use Rattle.graph_model.specs.declared.meaning.outcome.End.TheVariants.{Done, Faulted, Cancelled, Waiting}
+use Rattle.graph_model.specs.declared.graph.verb.Verb.{Verb}
+use Rattle.graph_model.specs.declared.graph.verb.Verb.TheVariants.{User, Trigger, Cancel, Merge, MergeIgnore, Phase, Arrive, Acquire, Release, Fill, Copy, Reduce, Task}
+use Rattle.graph_model.specs.declared.graph.decl.BarrierInfo.{BarrierInfo}
+use Rattle.graph_model.specs.graph.Graph.{GraphValue, barriers, verb_at, is_release_of}
+use Rattle.graph_model.specs.meaning.Rules.{Acquires, Releases}
+use Rattle.graph_model.specs.meaning.Evaluation.{eval_end}
 use Rattle.run_state.specs.Run.{LineStage, Unissued, Ending, Ended, Place, Home, Had, Run, is_listed, stage_at, time_at, place_at, list_at, stage_issued, stage_out, stage_started, stage_over, stage_ended, end_so_far, out, started, ended}
 use Rattle.run_state.specs.Sound.{AccessesColumn, is_arrive, Sound}
 use Rattle.run_state.specs.Moves.{draw, ending}

@@ -4,15 +4,15 @@ use Rattle.std.specs.Prelude.{◌≢◌, Option, Some}
 use Rattle.std.specs.Option.{option_map_or}
 use Rattle.std.proofs.lemmas.Bool.{true≢false, cases_Bool, cases_lt, false_from_ne_true}
 use Rattle.std.proofs.lemmas.List.{get_or_past}
-use Rattle.graph_model.specs.declared.outcome.Verdict.TheVariants.{Fine}
-use Rattle.graph_model.specs.declared.outcome.End.TheVariants.{Done, Cancelled, Waiting}
-use Rattle.graph_model.specs.declared.verb.Verb.{Verb}
-use Rattle.graph_model.specs.declared.verb.Verb.TheVariants.{Acquire, Release}
-use Rattle.graph_model.specs.Graph.{GraphValue, space_at, never_comes, never_comes_as, verb_at, locks, is_acquire_of, is_release_of}
-use Rattle.graph_model.specs.Edges.{edges}
-use Rattle.graph_model.specs.Rules.{Acquires, Releases}
-use Rattle.graph_model.specs.Effect.{Cells, effect, verb_verdict}
-use Rattle.graph_model.specs.Evaluation.{has_ended, is_ended, is_cancelled, cells_of, end_by, evaluation, eval_end}
+use Rattle.graph_model.specs.declared.meaning.outcome.Verdict.TheVariants.{Fine}
+use Rattle.graph_model.specs.declared.meaning.outcome.End.TheVariants.{Done, Cancelled, Waiting}
+use Rattle.graph_model.specs.declared.graph.verb.Verb.{Verb}
+use Rattle.graph_model.specs.declared.graph.verb.Verb.TheVariants.{Acquire, Release}
+use Rattle.graph_model.specs.graph.Graph.{GraphValue, space_at, never_comes, never_comes_as, verb_at, locks, is_acquire_of, is_release_of}
+use Rattle.graph_model.specs.graph.Edges.{edges}
+use Rattle.graph_model.specs.meaning.Rules.{Acquires, Releases}
+use Rattle.graph_model.specs.meaning.Effect.{Cells, effect, verb_verdict}
+use Rattle.graph_model.specs.meaning.Evaluation.{has_ended, is_ended, is_cancelled, cells_of, end_by, evaluation, eval_end}
 use Rattle.graph_model.proofs.ReadyLine.{IsReadyLine, ready_or_never}
 use Rattle.graph_model.proofs.Waiting.{waits_if_reached, end_in_left, end_in_ended, steps_end, ends_in_order}
 use Rattle.graph_model.proofs.Turns.{turns_after}

@@ -3,9 +3,9 @@ use Rattle.std.proofs.Common.{◌≡◌, ℕ, Bool, true, false, cond, List, [],
 use Rattle.std.specs.Prelude.{Contains, filter, flat_map}
 use Rattle.std.proofs.lemmas.Bool.{true≢false, false_from_ne_true}
 use Rattle.index_spaces.specs.Space.{points}
-use Rattle.graph_model.specs.Graph.{GraphValue, column_space}
-use Rattle.graph_model.specs.Effect.{Cells, zero_cells, cells_after}
-use Rattle.graph_model.specs.Evaluation.{evaluation, order, eval_changes, cells_of, cells_by, cells_of_lines, column_of}
+use Rattle.graph_model.specs.graph.Graph.{GraphValue, column_space}
+use Rattle.graph_model.specs.meaning.Effect.{Cells, zero_cells, cells_after}
+use Rattle.graph_model.specs.meaning.Evaluation.{evaluation, order, eval_changes, cells_of, cells_by, cells_of_lines, column_of}
 use Rattle.basics.proofs.ListFacts.{contains_here, contains_there}
 use Rattle.graph_model.proofs.Changes.{touches, Untouched, cells_after-append, cells_after_at, cells_after_untouched}
 use Rattle.graph_model.proofs.Confluence.{steps_found, flat_map_lines}

@@ -7,17 +7,17 @@ use Rattle.std.proofs.lemmas.Bool.{true≢false, eq-eqb}
 use Rattle.std.proofs.lemmas.Option.{none-some, slice_get-get_or}
 use Rattle.index_spaces.specs.declared.Op.TheVariants as op
 use Rattle.basics.specs.Lists.{numbers_below}
-use Rattle.graph_model.specs.declared.outcome.End.{End}
-use Rattle.graph_model.specs.declared.outcome.End.TheVariants.{Done, Faulted, Cancelled, Waiting}
-use Rattle.graph_model.specs.declared.verb.Edge.{Edge}
-use Rattle.graph_model.specs.declared.verb.EdgeKind.TheVariants.{Passes}
-use Rattle.graph_model.specs.declared.verb.Line.{Line}
-use Rattle.graph_model.specs.declared.verb.Verb.{Verb}
-use Rattle.graph_model.specs.declared.verb.Verb.TheVariants.{Phase, Arrive}
-use Rattle.graph_model.specs.declared.decl.BarrierInfo.{BarrierInfo}
-use Rattle.graph_model.specs.Graph.{GraphValue, barriers, verb_at}
-use Rattle.graph_model.specs.Edges.{edge, edges, edges_into}
-use Rattle.graph_model.specs.Evaluation.{is_ended, is_cancelled, cancels, evaluation, eval_end, arrival_value, reduced_with, reduced_value}
+use Rattle.graph_model.specs.declared.meaning.outcome.End.{End}
+use Rattle.graph_model.specs.declared.meaning.outcome.End.TheVariants.{Done, Faulted, Cancelled, Waiting}
+use Rattle.graph_model.specs.declared.graph.verb.Edge.{Edge}
+use Rattle.graph_model.specs.declared.graph.verb.EdgeKind.TheVariants.{Passes}
+use Rattle.graph_model.specs.declared.graph.verb.Line.{Line}
+use Rattle.graph_model.specs.declared.graph.verb.Verb.{Verb}
+use Rattle.graph_model.specs.declared.graph.verb.Verb.TheVariants.{Phase, Arrive}
+use Rattle.graph_model.specs.declared.graph.decl.BarrierInfo.{BarrierInfo}
+use Rattle.graph_model.specs.graph.Graph.{GraphValue, barriers, verb_at}
+use Rattle.graph_model.specs.graph.Edges.{edge, edges, edges_into}
+use Rattle.graph_model.specs.meaning.Evaluation.{is_ended, is_cancelled, cancels, evaluation, eval_end, arrival_value, reduced_with, reduced_value}
 use Rattle.basics.proofs.ListFacts.{passes_some, contains_filter, contains_below}
 use Rattle.graph_model.proofs.LineFacts.{phases_fit}
 use Rattle.run_state.specs.Run.{Run, is_listed, stage_at, started, ended}

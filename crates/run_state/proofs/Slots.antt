@@ -7,17 +7,17 @@ use Rattle.std.proofs.lemmas.Bool.{true≢false, cases_lt, lt-ltb, false_from_ne
 use Rattle.std.proofs.lemmas.List.Sums.{fold_push}
 use Rattle.std.proofs.lemmas.List.Elements.{Contains-append_left, Contains-append_right}
 use Rattle.basics.specs.Lists.{numbers_below, count_below}
-use Rattle.graph_model.specs.declared.outcome.End.TheVariants.{Done}
-use Rattle.graph_model.specs.declared.verb.Edge.{Edge}
-use Rattle.graph_model.specs.declared.verb.EdgeKind.TheVariants.{Passes}
-use Rattle.graph_model.specs.declared.verb.Line.{Line}
-use Rattle.graph_model.specs.declared.verb.Verb.{Verb}
-use Rattle.graph_model.specs.Graph.{GraphValue, never_comes, verb_at, locks, is_acquire_of, is_release_of}
-use Rattle.graph_model.specs.Edges.{edge, edges}
-use Rattle.graph_model.specs.Path.{Path, last, first}
-use Rattle.graph_model.specs.Rules.{Acquires, Releases}
-use Rattle.graph_model.specs.Evaluation.{eval_end}
-use Rattle.graph_model.specs.Need.{places, rivals, acquires_after, release_edges, need_edges, Precedes, IsHigh, largest, open_at, IsNeed}
+use Rattle.graph_model.specs.declared.meaning.outcome.End.TheVariants.{Done}
+use Rattle.graph_model.specs.declared.graph.verb.Edge.{Edge}
+use Rattle.graph_model.specs.declared.graph.verb.EdgeKind.TheVariants.{Passes}
+use Rattle.graph_model.specs.declared.graph.verb.Line.{Line}
+use Rattle.graph_model.specs.declared.graph.verb.Verb.{Verb}
+use Rattle.graph_model.specs.graph.Graph.{GraphValue, never_comes, verb_at, locks, is_acquire_of, is_release_of}
+use Rattle.graph_model.specs.graph.Edges.{edge, edges}
+use Rattle.graph_model.specs.meaning.Path.{Path, last, first}
+use Rattle.graph_model.specs.meaning.Rules.{Acquires, Releases}
+use Rattle.graph_model.specs.meaning.Evaluation.{eval_end}
+use Rattle.graph_model.specs.meaning.Need.{places, rivals, acquires_after, release_edges, need_edges, Precedes, IsHigh, largest, open_at, IsNeed}
 use Rattle.basics.proofs.ListFacts.{contains_none, contains_cases, contains_here, contains_there, contains_map, contains_below}
 use Rattle.graph_model.proofs.PathLaws.{path_append}
 use Rattle.graph_model.proofs.ReadyLine.{IsReadyLine, ready_or_never}

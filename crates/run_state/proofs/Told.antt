@@ -2,11 +2,11 @@
 use Rattle.std.proofs.Common.{◌≡◌, ℕ, true, false, inl, inr, sym, ◌∙◌, ap}
 use Rattle.std.specs.Prelude.{◌≢◌, ◌↔◌, Some}
 use Rattle.std.proofs.lemmas.Bool.{true≢false}
-use Rattle.graph_model.specs.declared.outcome.End.{End}
-use Rattle.graph_model.specs.declared.outcome.End.TheVariants.{Done, Cancelled}
-use Rattle.graph_model.specs.Graph.{GraphValue, line_passes}
-use Rattle.graph_model.specs.Rules.{Acquires, Releases}
-use Rattle.graph_model.specs.Evaluation.{is_ended, evaluation, eval_end}
+use Rattle.graph_model.specs.declared.meaning.outcome.End.{End}
+use Rattle.graph_model.specs.declared.meaning.outcome.End.TheVariants.{Done, Cancelled}
+use Rattle.graph_model.specs.graph.Graph.{GraphValue, line_passes}
+use Rattle.graph_model.specs.meaning.Rules.{Acquires, Releases}
+use Rattle.graph_model.specs.meaning.Evaluation.{is_ended, evaluation, eval_end}
 use Rattle.graph_model.proofs.Waiting.{end_in_ended, steps_end}
 use Rattle.run_state.specs.Run.{Run, Had, is_listed, stage_at, time_at, place_at, list_at, kept_end, over, ended}
 use Rattle.run_state.specs.Sound.{AccessesColumn, is_arrive, Sound}

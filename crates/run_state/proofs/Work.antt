@@ -3,11 +3,11 @@ use Rattle.std.proofs.Common.{◌≡◌, ℕ, Bool, true, false, length, refl, s
 use Rattle.std.specs.Prelude.{◌≢◌}
 use Rattle.std.proofs.lemmas.Bool.{true≢false, false_from_ne_true}
 use Rattle.index_spaces.specs.Space.{points}
-use Rattle.graph_model.specs.declared.outcome.End.TheVariants.{Cancelled}
-use Rattle.graph_model.specs.Graph.{GraphValue, column_space, space_at, verb_at}
-use Rattle.graph_model.specs.Access.{accesses}
-use Rattle.graph_model.specs.Effect.{Cells, Effect, cells_after, effect}
-use Rattle.graph_model.specs.Evaluation.{has_ended, is_cancelled, end_by, made_by, step_by, evaluation, eval_changes, cells_of, cells_of_lines, column_of}
+use Rattle.graph_model.specs.declared.meaning.outcome.End.TheVariants.{Cancelled}
+use Rattle.graph_model.specs.graph.Graph.{GraphValue, column_space, space_at, verb_at}
+use Rattle.graph_model.specs.graph.Access.{accesses}
+use Rattle.graph_model.specs.meaning.Effect.{Cells, Effect, cells_after, effect}
+use Rattle.graph_model.specs.meaning.Evaluation.{has_ended, is_cancelled, end_by, made_by, step_by, evaluation, eval_changes, cells_of, cells_of_lines, column_of}
 use Rattle.graph_model.proofs.Turns.{turns_after}
 use Rattle.graph_model.proofs.Changes.{HavePoints, cells_after_at, listed_point, map_agree}
 use Rattle.graph_model.proofs.Confluence.{effect_same, same_effect}

@@ -7,7 +7,7 @@ ghost use Rattle.gen_events.specs.EventMap.{answer};
 ghost use Rattle.gen_events.specs.declared.handle.Handle.{Handle as TheHandle};
 ghost use Rattle.run_state.specs.Run.{end_so_far, stage_at};
 ghost use Rattle.run_state.specs.Quiet.{Quiet};
-ghost use Rattle.graph_model.specs.Graph.{verb_at};
+ghost use Rattle.graph_model.specs.graph.Graph.{verb_at};
 ghost use Rattle.run_core.specs.Kept.{shown_stage};
 ghost use Rattle.run_core.specs.Answers.{answer_shown, phase_for, phase_of_line, AsksHandles};
 
@@ -55,8 +55,8 @@ impl<'g> Core<'g> {
     ghost use Rattle.std.specs.Prelude.{◌≡◌, ℕ, ◌<◌, length, Some, slice_get};
     ghost use Rattle.gen_events.specs.EventMap.{answer};
     ghost use Rattle.gen_events.specs.declared.handle.Handle.{Handle as TheHandle};
-    ghost use Rattle.graph_model.specs.Evaluation.{outcome};
-    ghost use Rattle.graph_model.specs.Trace.{IsLawful, SectionsApart};
+    ghost use Rattle.graph_model.specs.meaning.Evaluation.{outcome};
+    ghost use Rattle.graph_model.specs.meaning.Trace.{IsLawful, SectionsApart};
     ghost use Rattle.run_state.specs.Quiet.{Quiet, ByTimes};
     ghost use Rattle.run_core.specs.Answers.{AsksHandles};
 

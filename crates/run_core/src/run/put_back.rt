@@ -3,8 +3,8 @@
 ghost use Rattle.std.specs.Prelude.{◌≡◌, ◌≢◌, ◌<◌, ◌⊎◌, ℕ, length, Some, None, slice_get, slice_index_or, IsSome};
 ghost use Rattle.index_spaces.specs.Column.{ColumnValue};
 ghost use Rattle.index_spaces.specs.Held.{held_at};
-ghost use Rattle.graph_model.specs.Graph.{columns as graph_columns};
-ghost use Rattle.graph_model.specs.declared.outcome.End.TheVariants.{Cancelled};
+ghost use Rattle.graph_model.specs.graph.Graph.{columns as graph_columns};
+ghost use Rattle.graph_model.specs.declared.meaning.outcome.End.TheVariants.{Cancelled};
 ghost use Rattle.run_state.specs.Sound.{AccessesColumn};
 ghost use Rattle.run_state.specs.WholeLine.{all_home, columns_for, values_with, arrival_for};
 ghost use Rattle.run_core.specs.Works.{cells_in};

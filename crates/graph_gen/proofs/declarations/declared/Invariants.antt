@@ -1,6 +1,6 @@
 use Rattle.std.proofs.Common.{◌≡◌, ◌++◌, [], length}
 use Rattle.std.specs.Vec.Iter.{into_iter_items, into_iter_len}
-use Rattle.graph_model.specs.Fits.{DeclsFit}
+use Rattle.graph_model.specs.graph.Fits.{DeclsFit}
 use Rattle.graph_gen.proofs.declarations.declared.Given as goal
 
 abbrev pub invariant-loop-decl : goal.invariant-loop-decl

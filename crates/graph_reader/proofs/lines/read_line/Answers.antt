@@ -1,6 +1,6 @@
 use Rattle.std.proofs.Common.{Err, List, ℕ, Bor, map, refl, sym, ◌∙◌, ap, subst}
 use Rattle.std.specs.Str.{bytes_eq}
-use Rattle.graph_model.specs.declared.why.Why.TheVariants as why
+use Rattle.graph_model.specs.declared.graph.why.Why.TheVariants as why
 use Rattle.graph_reader.specs.declared.item.ItemError.TheVariants as errors
 use Rattle.graph_reader.specs.declared.words.TheConstants.{KINDS}
 use Rattle.graph_reader.specs.Draft.{is_of_form}

@@ -1,5 +1,5 @@
 use Rattle.std.proofs.Common.{◌≡◌, List, ℕ, Bor, map, sym, ap, subst}
-use Rattle.graph_model.specs.declared.verb.Verb.TheVariants.{Cancel}
+use Rattle.graph_model.specs.declared.graph.verb.Verb.TheVariants.{Cancel}
 use Rattle.graph_reader.specs.Kinds.{kind_verb}
 use Rattle.graph_reader.proofs.verbs.verb_of.Goals as goal
 

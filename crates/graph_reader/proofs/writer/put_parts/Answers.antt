@@ -1,7 +1,7 @@
 use Rattle.std.proofs.Common.{◌++◌, ◌∙◌, ap, sym, append_assoc}
 use Rattle.std.specs.Prelude.{codes}
 use Rattle.std.specs.List.{flat_map}
-use Rattle.graph_model.specs.Spelling.{spelled, header, decl_words, line_words}
+use Rattle.graph_model.specs.graph.Spelling.{spelled, header, decl_words, line_words}
 use Rattle.graph_reader.specs.Text.{closing}
 use Rattle.graph_reader.proofs.WholeText.{head_flat}
 use Rattle.realm_io.proofs.WrittenLaws.{then_writes, writes_as, stops, stopped_as, stopped_early, stopped_later}

@@ -1,7 +1,7 @@
 use Rattle.std.proofs.Common.{◌∷◌, sym}
 use Rattle.std.specs.Prelude.{decimal}
 use Rattle.std.specs.List.{flat_map}
-use Rattle.graph_model.specs.Spelling.{column_name, space_name}
+use Rattle.graph_model.specs.graph.Spelling.{column_name, space_name}
 use Rattle.realm_io.proofs.WrittenLaws.{then_writes, writes_as, stops, stopped_as, stopped_early, stopped_later}
 use Rattle.graph_reader.proofs.WrittenLists.{places_text}
 use Rattle.graph_reader.proofs.writer.put_places.Goals as goal

@@ -1,6 +1,6 @@
 use Rattle.std.proofs.Common.{◌∷◌, [], ap, subst}
 use Rattle.std.specs.Prelude.{codes}
-use Rattle.graph_model.specs.Spelling.{op_word, column_name, space_name}
+use Rattle.graph_model.specs.graph.Spelling.{op_word, column_name, space_name}
 use Rattle.realm_io.specs.Written.{Wrote, Stopped}
 use Rattle.realm_io.proofs.WrittenLaws.{then_writes, writes_as, stops, stopped_as, stopped_early}
 use Rattle.graph_reader.specs.WrittenWords.{spaced}

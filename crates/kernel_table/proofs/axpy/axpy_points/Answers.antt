@@ -1,7 +1,7 @@
 use Rattle.std.proofs.Common.{◌≡◌, ◌+◌, ◌-◌, ◌*◌, ◌<◌, ◌≤◌, length, get_or, take, drop, ap, ◌∙◌, sym, arith}
 use Rattle.index_spaces.specs.Space.{IsSpace, IsWithin}
 use Rattle.index_spaces.specs.Column.{cell_of}
-use Rattle.graph_model.specs.Effect.{wrapped}
+use Rattle.graph_model.specs.meaning.Effect.{wrapped}
 use Rattle.kernel_table.proofs.Runs.{run_step, length_cut, place_in, run_length, run_element, part_element, point_in}
 use Rattle.kernel_table.proofs.axpy.axpy_points.Goals as goal
 

@@ -2,7 +2,7 @@ use Rattle.std.proofs.Common.{◌≡◌, ◌+◌, ◌*◌, Some, length, sym, ap
 use Rattle.index_spaces.specs.Space.{IsSpace, IsWithin}
 use Rattle.index_spaces.specs.Column.{cell_of}
 use Rattle.index_spaces.specs.Held.{held_at}
-use Rattle.graph_model.specs.Effect.{Add, wrapped}
+use Rattle.graph_model.specs.meaning.Effect.{Add, wrapped}
 use Rattle.kernel_table.proofs.Runs.{held_again, holds_over}
 use Rattle.kernel_table.proofs.axpy.run_axpy.Goals as goal
 

@@ -2,8 +2,8 @@ use Rattle.std.proofs.Common.{◌≡◌, ◌&&◌, if◌then◌else◌, nat_le, 
 use Rattle.index_spaces.specs.Space.{IsSpace, IsWithin, points}
 use Rattle.index_spaces.specs.Column.{cell_of}
 use Rattle.index_spaces.specs.Held.{held_at}
-use Rattle.graph_model.specs.declared.outcome.Verdict.TheVariants.{Fine, Fault}
-use Rattle.graph_model.specs.Effect.{all_within}
+use Rattle.graph_model.specs.declared.meaning.outcome.Verdict.TheVariants.{Fine, Fault}
+use Rattle.graph_model.specs.meaning.Effect.{all_within}
 use Rattle.kernel_table.proofs.Runs.{holds_over}
 use Rattle.kernel_table.proofs.Sums.{all_agree}
 use Rattle.kernel_table.proofs.expect.run_expect.Goals as goal

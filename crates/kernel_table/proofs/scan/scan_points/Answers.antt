@@ -2,7 +2,7 @@ use Rattle.std.proofs.Common.{◌≡◌, ◌+◌, ◌-◌, ◌<◌, ◌≤◌, n
 use Rattle.std.specs.Prelude.{filter}
 use Rattle.index_spaces.specs.Space.{IsSpace, IsWithin, points}
 use Rattle.index_spaces.specs.Column.{cell_of}
-use Rattle.graph_model.specs.Effect.{wrapped_sum}
+use Rattle.graph_model.specs.meaning.Effect.{wrapped_sum}
 use Rattle.kernel_table.proofs.Runs.{run_step, length_cut, place_in, run_length}
 use Rattle.kernel_table.proofs.Sums.{scan_at, scan_more}
 use Rattle.kernel_table.proofs.scan.scan_points.Goals as goal

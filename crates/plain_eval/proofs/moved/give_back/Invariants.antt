@@ -1,6 +1,6 @@
 use Rattle.std.proofs.Common.{length}
-use Rattle.graph_model.specs.Graph.{GraphValue}
-use Rattle.graph_model.specs.Effect.{Cells}
+use Rattle.graph_model.specs.graph.Graph.{GraphValue}
+use Rattle.graph_model.specs.meaning.Effect.{Cells}
 use Rattle.plain_eval.specs.Moved.{AreParted}
 use Rattle.plain_eval.proofs.moved.give_back.Given as goal
 

@@ -1,5 +1,5 @@
 use Rattle.std.proofs.Common.{◌≡◌}
-use Rattle.graph_model.specs.Effect.{Cells}
+use Rattle.graph_model.specs.meaning.Effect.{Cells}
 use Rattle.instances.specs.Homes.{all_home}
 use Rattle.plain_eval.specs.Moved.{AreParted}
 use Rattle.line_effects.proofs.MoveFacts.{HeldSoFar}

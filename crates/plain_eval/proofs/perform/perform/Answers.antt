@@ -1,5 +1,5 @@
 use Rattle.std.proofs.Common.{◌∙◌, ap, sym}
-use Rattle.graph_model.specs.Effect.{cells_after, effect}
+use Rattle.graph_model.specs.meaning.Effect.{cells_after, effect}
 use Rattle.instances.specs.Homes.{all_home}
 use Rattle.line_effects.proofs.MadeFacts.{all_made}
 use Rattle.plain_eval.proofs.MovedFacts.{parted_after}

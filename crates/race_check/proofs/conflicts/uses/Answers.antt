@@ -1,6 +1,6 @@
 use Rattle.std.proofs.Common.{◌≡◌, sym, ◌∙◌, arith}
-use Rattle.graph_model.specs.declared.verb.Access.{Access}
-use Rattle.graph_model.specs.Access.{accesses}
+use Rattle.graph_model.specs.declared.graph.verb.Access.{Access}
+use Rattle.graph_model.specs.graph.Access.{accesses}
 use Rattle.race_check.proofs.AccessSteps.{uses_not, none_left, none_done, few_accesses}
 use Rattle.race_check.proofs.conflicts.uses.Goals as goal
 

@@ -1,5 +1,5 @@
 use Rattle.std.proofs.Common.{◌<◌, length, sym, subst, ap, ◌∙◌, arith}
-use Rattle.graph_model.specs.Rules.{DescendsAt}
+use Rattle.graph_model.specs.meaning.Rules.{DescendsAt}
 use Rattle.race_check.specs.Paths.{words_for}
 use Rattle.race_check.specs.RuleWords.{lies_inside, IsLowRow}
 use Rattle.race_check.proofs.RuleSteps.{release_known}

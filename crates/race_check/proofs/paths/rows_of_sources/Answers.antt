@@ -1,8 +1,8 @@
 use Rattle.std.proofs.Common.{◌≡◌, ◌<◌, length, sym, subst, arith}
 use Rattle.std.proofs.lemmas.List.{get_or_read}
 use Rattle.std.specs.Prelude.{Contains}
-use Rattle.graph_model.specs.declared.verb.Edge.{Edge}
-use Rattle.graph_model.specs.Edges.{edges}
+use Rattle.graph_model.specs.declared.graph.verb.Edge.{Edge}
+use Rattle.graph_model.specs.graph.Edges.{edges}
 use Rattle.race_check.specs.Paths.{IsFilled, IsBack}
 use Rattle.race_check.proofs.PathLoops.{line_known, of_source, filled_up, each_stays, of_all_before}
 use Rattle.race_check.proofs.paths.rows_of_sources.Goals as goal

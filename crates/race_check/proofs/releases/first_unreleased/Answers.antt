@@ -1,5 +1,5 @@
 use Rattle.std.proofs.Common.{arith}
-use Rattle.graph_model.specs.Rules.{ReleasedAt}
+use Rattle.graph_model.specs.meaning.Rules.{ReleasedAt}
 use Rattle.race_check.proofs.RuleSteps.{everywhere_by, below_with}
 use Rattle.race_check.proofs.BeyondLines.{released_beyond}
 use Rattle.race_check.proofs.releases.first_unreleased.Goals as goal

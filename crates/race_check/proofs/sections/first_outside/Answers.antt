@@ -1,5 +1,5 @@
 use Rattle.std.proofs.Common.{inl, arith}
-use Rattle.graph_model.specs.Rules.{Everywhere, SectionAt}
+use Rattle.graph_model.specs.meaning.Rules.{Everywhere, SectionAt}
 use Rattle.race_check.proofs.RuleSteps.{below_with}
 use Rattle.race_check.proofs.PairSteps.{pairs_hold}
 use Rattle.race_check.proofs.BeyondLines.{section_beyond}

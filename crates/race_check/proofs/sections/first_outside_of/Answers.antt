@@ -1,5 +1,5 @@
 use Rattle.std.proofs.Common.{length, arith}
-use Rattle.graph_model.specs.Rules.{SectionAt}
+use Rattle.graph_model.specs.meaning.Rules.{SectionAt}
 use Rattle.race_check.specs.RuleWords.{lies_outside}
 use Rattle.race_check.proofs.WordScan.{scan_more}
 use Rattle.race_check.proofs.PairSteps.{scan_fails, scan_holds, outside_fails, inside_holds, section_past, no_section}

@@ -1,5 +1,5 @@
 use Rattle.std.proofs.Common.{◌≡◌, ◌&&◌, length}
-use Rattle.graph_model.specs.Graph.{line_passes, is_phase, never_comes}
+use Rattle.graph_model.specs.graph.Graph.{line_passes, is_phase, never_comes}
 use Rattle.race_check.specs.Paths.{words_for}
 use Rattle.race_check.proofs.RowSteps.{IsRowBelow}
 use Rattle.race_check.proofs.sections.never_phases.Given as goal

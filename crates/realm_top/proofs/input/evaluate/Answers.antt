@@ -1,6 +1,6 @@
 use Rattle.std.proofs.Common.{inr, ap}
-use Rattle.graph_model.specs.declared.outcome.Outcome.{Outcome}
-use Rattle.graph_model.specs.Evaluation.{order}
+use Rattle.graph_model.specs.declared.meaning.outcome.Outcome.{Outcome}
+use Rattle.graph_model.specs.meaning.Evaluation.{order}
 use Rattle.realm_top.specs.Answer.{evaluation_text}
 use Rattle.realm_top.proofs.Delivering.{written_then_flushed, wrote_of}
 use Rattle.realm_top.proofs.input.evaluate.Goals as goal

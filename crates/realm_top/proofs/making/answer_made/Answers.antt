@@ -1,5 +1,5 @@
 use Rattle.std.proofs.Common.{sym, subst, arith}
-use Rattle.graph_model.specs.Rules.{Accepted}
+use Rattle.graph_model.specs.meaning.Rules.{Accepted}
 use Rattle.realm_top.proofs.MadeRequests.{text_answered, serve_answered}
 use Rattle.realm_top.proofs.making.answer_made.Goals as goal
 

@@ -1,5 +1,5 @@
 use Rattle.std.proofs.Common.{◌<◌, length, map, sym, ◌∙◌, ap, subst, arith}
-use Rattle.graph_model.specs.Graph.{locks}
+use Rattle.graph_model.specs.graph.Graph.{locks}
 use Rattle.run_state.specs.Run.{end_so_far}
 use Rattle.run_core.specs.Kept.{shown_stage}
 use Rattle.run_core.specs.declared.progress.Progress.TheVariants.{Unissued}

@@ -1,5 +1,5 @@
 use Rattle.std.proofs.Common.{◌<◌, length, arith}
-use Rattle.graph_model.specs.Graph.{locks}
+use Rattle.graph_model.specs.graph.Graph.{locks}
 use Rattle.run_core.proofs.HolderFacts.{lock_known, holds_shown}
 use Rattle.run_core.proofs.holders.hold.Goals as goal
 

@@ -1,15 +1,15 @@
 use Rattle.std.proofs.Common.{◌≡◌, ◌+◌, cond, ℕ, [], ◌∷◌, ◌++◌, List, None, Some, sym, subst, ap, ◌∙◌, length, arith}
 use Rattle.std.specs.Str.{bytes_eq}
-use Rattle.graph_model.specs.declared.side.Side.TheVariants.{From, To}
-use Rattle.graph_model.specs.declared.found.Found.TheVariants as found
-use Rattle.graph_model.specs.declared.verb.Line.{Line}
-use Rattle.graph_model.specs.Graph.{GraphValue}
-use Rattle.graph_model.specs.Edges.{line_edges}
-use Rattle.graph_model.specs.Names.{AreNamesOf, named}
-use Rattle.graph_model.specs.Tables.{IsWithinLimits}
-use Rattle.graph_model.specs.Rows.{EndsBelow, NamesBelow, AddsRow, AreRowsOf}
-use Rattle.graph_model.specs.Counts.{counts_of}
-use Rattle.graph_model.specs.Fits.{IsGraph, line_fault, with_line}
+use Rattle.graph_model.specs.declared.kept.side.Side.TheVariants.{From, To}
+use Rattle.graph_model.specs.declared.graph.found.Found.TheVariants as found
+use Rattle.graph_model.specs.declared.graph.verb.Line.{Line}
+use Rattle.graph_model.specs.graph.Graph.{GraphValue}
+use Rattle.graph_model.specs.graph.Edges.{line_edges}
+use Rattle.graph_model.specs.graph.Names.{AreNamesOf, named}
+use Rattle.graph_model.specs.kept.Tables.{IsWithinLimits}
+use Rattle.graph_model.specs.kept.Rows.{EndsBelow, NamesBelow, AddsRow, AreRowsOf}
+use Rattle.graph_model.specs.kept.Counts.{counts_of}
+use Rattle.graph_model.specs.graph.Fits.{IsGraph, line_fault, with_line}
 use Rattle.graph_model.proofs.GraphPush.{push_line}
 use Rattle.graph_model.proofs.Naming.{names_line, unused_line_name}
 use Rattle.graph_model.proofs.TableLaws.{limits_line}

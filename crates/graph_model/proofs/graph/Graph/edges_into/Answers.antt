@@ -1,4 +1,4 @@
-use Rattle.graph_model.specs.Graph.{GraphValue}
+use Rattle.graph_model.specs.graph.Graph.{GraphValue}
 use Rattle.graph_model.proofs.RowReads.{row_is, into_read}
 use Rattle.graph_model.proofs.graph.Graph.edges_into.Goals as goal
 

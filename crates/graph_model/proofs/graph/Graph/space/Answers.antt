@@ -1,7 +1,7 @@
 use Rattle.std.proofs.Common.{◌≡◌, ◌<◌, length, sym, ◌∙◌, ap, subst, arith}
-use Rattle.graph_model.specs.declared.decl.Decl.TheVariants.{Space}
-use Rattle.graph_model.specs.Graph.{GraphValue, named_spaces, space_at, space_of}
-use Rattle.graph_model.specs.Tables.{TablesValue}
+use Rattle.graph_model.specs.declared.graph.decl.Decl.TheVariants.{Space}
+use Rattle.graph_model.specs.graph.Graph.{GraphValue, named_spaces, space_at, space_of}
+use Rattle.graph_model.specs.kept.Tables.{TablesValue}
 use Rattle.graph_model.proofs.TableLaws.{length-places, space_place_below, space_read}
 use Rattle.graph_model.proofs.graph.Graph.space.Goals as goal
 

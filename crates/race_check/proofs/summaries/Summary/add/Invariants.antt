@@ -1,5 +1,5 @@
 use Rattle.std.proofs.Common.{◌≡◌, ℕ, length}
-use Rattle.graph_model.specs.Rules.{Acquires}
+use Rattle.graph_model.specs.meaning.Rules.{Acquires}
 use Rattle.race_check.specs.Summaries.{AreSummaries}
 use Rattle.race_check.proofs.SummarySteps.{AreSummedTo}
 use Rattle.race_check.proofs.summaries.Summary.add.Given as goal

@@ -1,7 +1,7 @@
 use Rattle.std.proofs.Common.{◌≡◌, ◌≢◌, ℕ, List, map, refl, sym, ◌∙◌, ap, subst, arith}
 use Rattle.std.specs.Prelude.{Some, slice_set}
 use Rattle.index_spaces.specs.Column.{ColumnValue}
-use Rattle.graph_model.specs.declared.outcome.End.{End}
+use Rattle.graph_model.specs.declared.meaning.outcome.End.{End}
 use Rattle.gen_events.specs.declared.handle.Handle.{Handle}
 use Rattle.gen_events.specs.declared.handle.Fate.{Fate}
 use Rattle.gen_events.specs.EventMap.{answer, answer_of, ended_with}
