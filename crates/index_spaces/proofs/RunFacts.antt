@@ -176,18 +176,23 @@ run_element c i run p r h =
     let parts = interval_has-parts i p h in
     ap (λ xs. get_or xs (p - i.0) 0) r ∙ get_or-map-range_with_len (cell_of c) i.0 (i.1 + 1 - i.0) (p - i.0) p 0 (omega (arith, parts)) (omega (arith, parts))
 
--- what a write of a part of a vector of cells leaves
-pub stored : {Z : Type 0} (v : Vec ℕ Z) (s : List (ℕ × ℕ)) (i : ℕ × ℕ) (start n : ℕ) (now ys : List ℕ) (value : ℕ → ℕ) → IsRunAt s i start → length v.items ≡ space_size s → now ≡ v.items → n ≡ interval_size i →
-    length ys ≡ n → ((p : ℕ) → IsTrue (interval_has i p) → get_or ys (p - i.0) 0 ≡ value p) →
-    WritesRun (record { space = s; cells = v.items }) (record { space = s; cells = (with_items v (written_over now start n ys)).items }) i value
-stored v s i start n now ys value at full e size short values =
+-- a part of a vector's cells that is written over changes no length
+pub written_length : {Z : Type 0} (v : Vec ℕ Z) (s : List (ℕ × ℕ)) (i : ℕ × ℕ) (start n : ℕ) (ys : List ℕ) → IsRunAt s i start → length v.items ≡ space_size s → n ≡ interval_size i → length ys ≡ n → length (written_over v.items start n ys) ≡ v.len
+written_length v s i start n ys at full size short =
     let fits = at.fits in
     let front = length-take-le start v.items (omega (arith, fits, full)) in
     let back = length-drop n (drop start v.items) in
     let rest = length-drop start v.items in
     let one = length-append (take start v.items) (ys ++ drop n (drop start v.items)) in
     let two = length-append ys (drop n (drop start v.items)) in
-    let whole : length (written_over v.items start n ys) ≡ v.len = omega (arith, front, back, rest, one, two, fits, full, size, short, v.ok.0) in
+    omega (arith, front, back, rest, one, two, fits, full, size, short, v.ok.0)
+
+-- what a write of a part of a vector of cells leaves
+pub stored : {Z : Type 0} (v : Vec ℕ Z) (s : List (ℕ × ℕ)) (i : ℕ × ℕ) (start n : ℕ) (now ys : List ℕ) (value : ℕ → ℕ) → IsRunAt s i start → length v.items ≡ space_size s → now ≡ v.items → n ≡ interval_size i →
+    length ys ≡ n → ((p : ℕ) → IsTrue (interval_has i p) → get_or ys (p - i.0) 0 ≡ value p) →
+    WritesRun (record { space = s; cells = v.items }) (record { space = s; cells = (with_items v (written_over now start n ys)).items }) i value
+stored v s i start n now ys value at full e size short values =
+    let whole = written_length v s i start n ys at full size short in
     rw e (rw (with_items_is v (written_over v.items start n ys) whole) (run_written (record { space = s; cells = v.items }) i start n ys value at full size short values))
 
 pub cells_are_written : CellsAreWritten

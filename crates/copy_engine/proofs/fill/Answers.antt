@@ -1,6 +1,6 @@
 use Rattle.std.proofs.Common.{◌≡◌, length, refl, sym, arith}
 use Rattle.graph_model.specs.meaning.Effect.{Set}
-use Rattle.copy_engine.proofs.PointWrites.{held_again}
+use Rattle.index_spaces.proofs.WriteFacts.{held_again}
 use Rattle.copy_engine.proofs.fill.Goals as goal
 
 pub returns : goal.returns

@@ -4,7 +4,8 @@ use Rattle.index_spaces.specs.Column.{cell_of}
 use Rattle.index_spaces.specs.Run.{reduced_cell}
 use Rattle.index_spaces.specs.Held.{held_at}
 use Rattle.graph_model.specs.meaning.Effect.{reduced}
-use Rattle.copy_engine.proofs.PointWrites.{held_again, holds_over, reduced_is}
+use Rattle.index_spaces.proofs.WriteFacts.{held_again, holds_over}
+use Rattle.copy_engine.proofs.PointWrites.{reduced_is}
 use Rattle.copy_engine.proofs.reduce.Goals as goal
 
 pub returns : goal.returns

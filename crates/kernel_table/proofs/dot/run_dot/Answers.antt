@@ -3,7 +3,7 @@ use Rattle.index_spaces.specs.Space.{IsSpace, IsWithin, points}
 use Rattle.index_spaces.specs.Column.{cell_of}
 use Rattle.index_spaces.specs.Held.{held_at}
 use Rattle.graph_model.specs.meaning.Effect.{Add, wrapped, wrapped_sum}
-use Rattle.kernel_table.proofs.Runs.{held_again, holds_over}
+use Rattle.index_spaces.proofs.WriteFacts.{held_again, holds_over}
 use Rattle.kernel_table.proofs.Sums.{sum_agree}
 use Rattle.kernel_table.proofs.dot.run_dot.Goals as goal
 

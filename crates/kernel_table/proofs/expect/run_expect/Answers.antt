@@ -4,7 +4,7 @@ use Rattle.index_spaces.specs.Column.{cell_of}
 use Rattle.index_spaces.specs.Held.{held_at}
 use Rattle.graph_model.specs.declared.meaning.outcome.Verdict.TheVariants.{Fine, Fault}
 use Rattle.graph_model.specs.meaning.Effect.{all_within}
-use Rattle.kernel_table.proofs.Runs.{holds_over}
+use Rattle.index_spaces.proofs.WriteFacts.{holds_over}
 use Rattle.kernel_table.proofs.Sums.{all_agree}
 use Rattle.kernel_table.proofs.expect.run_expect.Goals as goal
 

@@ -3,7 +3,7 @@ use Rattle.index_spaces.specs.Space.{IsSpace, IsWithin, point_at, space_size}
 use Rattle.index_spaces.specs.Column.{cell_of}
 use Rattle.index_spaces.specs.Held.{held_at}
 use Rattle.graph_model.specs.meaning.Effect.{Set}
-use Rattle.kernel_table.proofs.Runs.{held_again, holds_over}
+use Rattle.index_spaces.proofs.WriteFacts.{held_again, holds_over}
 use Rattle.kernel_table.proofs.gather.run_gather.Goals as goal
 
 pub returns : goal.returns

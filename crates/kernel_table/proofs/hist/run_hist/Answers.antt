@@ -4,7 +4,7 @@ use Rattle.index_spaces.specs.Space.{IsSpace, IsWithin, points, rank, space_size
 use Rattle.index_spaces.specs.Column.{cell_of}
 use Rattle.index_spaces.specs.Held.{held_at}
 use Rattle.graph_model.specs.meaning.Effect.{Add, wrapped}
-use Rattle.kernel_table.proofs.Runs.{held_again, holds_over}
+use Rattle.index_spaces.proofs.WriteFacts.{held_again, holds_over}
 use Rattle.kernel_table.proofs.Sums.{count_agree}
 use Rattle.kernel_table.proofs.hist.run_hist.Goals as goal
 

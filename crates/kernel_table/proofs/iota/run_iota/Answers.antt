@@ -1,7 +1,7 @@
 use Rattle.std.proofs.Common.{◌≡◌, ◌+◌, length, refl, sym, arith}
 use Rattle.index_spaces.specs.Space.{IsSpace, rank}
 use Rattle.graph_model.specs.meaning.Effect.{Set, wrapped}
-use Rattle.kernel_table.proofs.Runs.{held_again}
+use Rattle.index_spaces.proofs.WriteFacts.{held_again}
 use Rattle.kernel_table.proofs.iota.run_iota.Goals as goal
 
 pub returns : goal.returns

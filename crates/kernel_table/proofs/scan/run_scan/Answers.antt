@@ -4,7 +4,7 @@ use Rattle.index_spaces.specs.Space.{IsSpace, IsWithin, points}
 use Rattle.index_spaces.specs.Column.{cell_of}
 use Rattle.index_spaces.specs.Held.{held_at}
 use Rattle.graph_model.specs.meaning.Effect.{Set, wrapped, wrapped_sum}
-use Rattle.kernel_table.proofs.Runs.{held_again, holds_over}
+use Rattle.index_spaces.proofs.WriteFacts.{held_again, holds_over}
 use Rattle.kernel_table.proofs.Sums.{sum_agree, filtered_from}
 use Rattle.kernel_table.proofs.scan.run_scan.Goals as goal
 

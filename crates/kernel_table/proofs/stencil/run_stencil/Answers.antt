@@ -4,7 +4,7 @@ use Rattle.index_spaces.specs.Space.{IsSpace, IsWithin, has_point}
 use Rattle.index_spaces.specs.Column.{cell_of}
 use Rattle.index_spaces.specs.Held.{held_at}
 use Rattle.graph_model.specs.meaning.Effect.{Set, wrapped, wrapped_sum, around}
-use Rattle.kernel_table.proofs.Runs.{held_again, holds_over}
+use Rattle.index_spaces.proofs.WriteFacts.{held_again, holds_over}
 use Rattle.kernel_table.proofs.Sums.{filtered_agree}
 use Rattle.kernel_table.proofs.stencil.run_stencil.Goals as goal
 
