@@ -57,7 +57,7 @@ comma_size (w ∷ ws) =
     omega arith
 
 -- an item of a list is there in a longer one
-get_before : {X : Type 0} (xs ys : List X) (k : ℕ) → k < length xs → slice_get (xs ++ ys) k ≡ slice_get xs k
+pub get_before : {X : Type 0} (xs ys : List X) (k : ℕ) → k < length xs → slice_get (xs ++ ys) k ≡ slice_get xs k
 get_before [] ys k h = absurd (omega arith)
 get_before (x ∷ xs) ys zero h = refl
 get_before (x ∷ xs) ys (suc k) h = get_before xs ys k (omega arith)

@@ -20,7 +20,7 @@ use Rattle.graph_model.specs.declared.graph.verb.Verb.TheVariants.{User, Trigger
 use Rattle.graph_model.specs.graph.Graph.{GraphValue, is_phase_of, space_of, named_spaces, space_at}
 use Rattle.graph_model.specs.graph.Access.{accesses, verb_accesses}
 use Rattle.graph_model.specs.graph.Edges.{edge, last_place, edges_from_some, verb_edges, line_edges, edges_after, edges}
-use Rattle.graph_model.specs.graph.Fits.{first_reason, line_tests, line_fault, line_unknown, named_lines, on_lines, access_unknown, DeclsFit, LinesFit, IsGraph}
+use Rattle.graph_model.specs.graph.Fits.{first_reason, line_tests, line_fault, line_unknown, named_lines, on_lines, access_unknown, verb_unknown, DeclsFit, LinesFit, IsGraph}
 use Rattle.basics.proofs.ListFacts.{contains_none, contains_cases, contains_here, contains_from, passes_some, map_contains}
 use Rattle.graph_model.proofs.Changes.{HavePoints}
 
@@ -141,6 +141,14 @@ pub fit_at : (decls : List Decl) (before ls : List Line) → LinesFit decls befo
 fit_at decls before [] f k l h = absurd (none-some l h)
 fit_at decls before (m ∷ ls) f zero l h = (before, subst (λ x. line_fault (record { decls = decls; lines = before }) x ≡ None) (same_Some m l h) f.1)
 fit_at decls before (m ∷ ls) f (suc k) l h = fit_at decls (before ++ m ∷ []) ls f.2 k l h
+
+-- the barrier and the reservation that a line names are declared
+pub verb_known : (g : GraphValue) → IsGraph g → (i : ℕ) (l : Line) (v : Verb) → slice_get g.lines i ≡ Some l → l.verb ≡ v → (b : List Line) × (verb_unknown (record { decls = g.decls; lines = b }) v ≡ false)
+verb_known g f i l v at is =
+    let fit = fit_at g.decls [] g.lines f.lines i l at in
+    let parts = or_parts _ _ (fits_known (record { decls = g.decls; lines = fit.0 }) l fit.1) in
+    let more = or_parts _ _ parts.1 in
+    (fit.0, subst (λ w. verb_unknown (record { decls = g.decls; lines = fit.0 }) w ≡ false) is more.0)
 
 -- the space of each number is one
 pub space_is : (g : GraphValue) → IsGraph g → (s : ℕ) → s < length (named_spaces g) → IsSpace (space_at g s)

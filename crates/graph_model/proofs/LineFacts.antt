@@ -11,9 +11,9 @@ use Rattle.index_spaces.proofs.LawFacts.{points_are_listed}
 use Rattle.graph_model.specs.declared.graph.verb.Access.{Access}
 use Rattle.graph_model.specs.declared.graph.verb.Line.{Line}
 use Rattle.graph_model.specs.declared.graph.verb.Verb.TheVariants.{Phase}
-use Rattle.graph_model.specs.graph.Graph.{GraphValue, ColumnInfo, columns, column_space, named_spaces, space_at, barriers, verb_at}
-use Rattle.graph_model.specs.graph.Access.{accesses, verb_accesses}
-use Rattle.graph_model.specs.graph.Fits.{first_reason, line_tests, line_fault, access_unknown, access_outside, is_used, verb_repeats, repeats, IsGraph}
+use Rattle.graph_model.specs.graph.Graph.{GraphValue, ColumnInfo, columns, column_space, named_spaces, space_at, barriers}
+use Rattle.graph_model.specs.graph.Access.{verb_accesses}
+use Rattle.graph_model.specs.graph.Fits.{line_tests, line_fault, access_unknown, access_outside, is_used, verb_repeats, repeats, IsGraph}
 use Rattle.graph_model.specs.declared.graph.why.Why.TheVariants as why
 use Rattle.graph_model.specs.meaning.LineLaws.{AccessFits, AccessesFit, ColumnsDiffer, PhasesFit}
 use Rattle.basics.proofs.ListFacts.{contains_none, passes_some, passes_each}

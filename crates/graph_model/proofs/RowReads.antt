@@ -2,7 +2,7 @@
 use Rattle.std.proofs.Common.{◌≡◌, ℕ, ◌+◌, ◌^◌, ◌<◌, ◌≤◌, false, List, [], length, refl, sym, ◌∙◌, ap, subst, arith, get_or}
 use Rattle.std.specs.Prelude.{Option, Some, nat_lt, not, option_map, slice_get}
 use Rattle.std.specs.Option.{option_map_or}
-use Rattle.std.proofs.lemmas.Bool.{leb-false, or_parts}
+use Rattle.std.proofs.lemmas.Bool.{leb-false}
 use Rattle.std.proofs.lemmas.Option.{get_or_from_slice_get, slice_get_read}
 use Rattle.graph_model.specs.declared.kept.mark.Mark.{Mark}
 use Rattle.graph_model.specs.declared.graph.verb.Edge.{Edge}
@@ -11,9 +11,9 @@ use Rattle.graph_model.specs.declared.graph.verb.Verb.{Verb}
 use Rattle.graph_model.specs.declared.graph.verb.Verb.TheVariants.{User, Trigger, Cancel, Merge, MergeIgnore, Phase, Arrive, Acquire, Release, Fill, Copy, Reduce, Task}
 use Rattle.graph_model.specs.graph.Graph.{GraphValue, BarrierInfo, barriers, barrier_count, verb_at, never_comes, never_comes_as}
 use Rattle.graph_model.specs.graph.Edges.{edges_into, edges_out_of}
-use Rattle.graph_model.specs.graph.Fits.{verb_unknown, IsGraph}
+use Rattle.graph_model.specs.graph.Fits.{IsGraph}
 use Rattle.graph_model.specs.kept.Rows.{RowsValue, mark_at, mark_of, AreRowsOf}
-use Rattle.graph_model.proofs.GraphFacts.{fits_known, fit_at}
+use Rattle.graph_model.proofs.GraphFacts.{verb_known}
 use Rattle.graph_model.proofs.RowLaws.{few_arrivals}
 
 -- a line of a graph has a row
@@ -44,13 +44,7 @@ never_of g i v e = ap (λ o. option_map_or (never_comes_as g i) o false) e
 
 -- the barrier of a phase is declared
 pub barrier_known : (g : GraphValue) → IsGraph g → (i b : ℕ) (l : Line) → slice_get g.lines i ≡ Some l → l.verb ≡ Phase b → b < length (barriers g)
-barrier_known g f i b l at is =
-    let fit = fit_at g.decls [] g.lines f.lines i l at in
-    let g' : GraphValue = record { decls = g.decls; lines = fit.0 } in
-    let parts = or_parts _ _ (fits_known g' l fit.1) in
-    let more = or_parts _ _ parts.1 in
-    let known : verb_unknown g' (Phase b) ≡ false = subst (λ v. verb_unknown g' v ≡ false) is more.0 in
-    leb-false (length (barriers g)) b known
+barrier_known g f i b l at is = leb-false (length (barriers g)) b (verb_known g f i l (Phase b) at is).1
 
 -- a line never comes by its verb and its mark
 pub never_user : (g now : GraphValue) (i : ℕ) (l : Line) (m : Mark) → g ≡ now → i < length now.lines → l ≡ get_or g.lines i l → l.verb ≡ User → m ≡ mark_of g i → not m.ended ≡ never_comes now i

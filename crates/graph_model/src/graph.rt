@@ -5,6 +5,7 @@ pub mod decl;
 pub(crate) mod edges;
 mod faults;
 pub mod found;
+pub mod limits;
 pub mod lists;
 pub mod name;
 mod quantities;
@@ -18,6 +19,7 @@ use crate::graph::access::verb_access;
 use crate::graph::decl::{BarrierInfo, Decl};
 use crate::graph::edges::edges_of_line;
 use crate::graph::found::Found;
+use crate::graph::limits::{MAX_BARRIERS, MAX_COLUMNS, MAX_LINES, MAX_LOCKS};
 use crate::graph::name::Name;
 use crate::graph::verb::{Access, Edge, Line, Verb};
 use crate::kept::counts::Counts;
@@ -81,7 +83,7 @@ impl Model for Graph {
 
 impl Graph {
     ghost use Rattle.std.specs.Prelude.{◌≡◌, [], length, ◌<◌, ◌≤◌, slice_get, position, false, None, OnOk, OnErr, MatchOption, option_map};
-    ghost use Rattle.graph_model.specs.graph.Graph.{named_spaces, columns, locks, barriers, space_at, column_space, never_comes, ends_user, is_release_of};
+    ghost use Rattle.graph_model.specs.graph.Graph.{named_spaces, space_of, columns, locks, barriers, space_at, column_space, never_comes, ends_user, is_release_of};
     ghost use Rattle.std.specs.List.{list_any};
     ghost use Rattle.graph_model.specs.kept.Rows.{mark_of};
     ghost use Rattle.graph_model.specs.graph.Edges.{edges_into, edges_out_of};
@@ -169,7 +171,7 @@ impl Graph {
     /// How many lines there are.
     pub fn lines(&self) -> u32
         ensures number { result ≡ length self.now.lines }
-        ensures few { result ≤ 8192 }
+        ensures few { result ≤ MAX_LINES }
         ensures is_graph { IsGraph self.now }
     {
         self.lines.len() as u32
@@ -196,7 +198,7 @@ impl Graph {
         requires { s < length (named_spaces self.now) }
         ensures { result.now ≡ space_at self.now s }
     {
-        match &self.decls[self.tables.space_place(s) as usize] {
+        match self.space_decl(s) {
             Decl::Space { space, .. } => space,
             _ => unreachable!(),
         }
@@ -205,7 +207,7 @@ impl Graph {
     /// How many columns there are: the fields of all instances.
     pub fn columns(&self) -> u32
         ensures number { result ≡ length (columns self.now) }
-        ensures few { result ≤ 256 }
+        ensures few { result ≤ MAX_COLUMNS }
     {
         self.tables.columns() as u32
     }
@@ -232,7 +234,7 @@ impl Graph {
     /// How many reservations are declared.
     pub fn locks(&self) -> u32
         ensures number { result ≡ length (locks self.now) }
-        ensures few { result ≤ 64 }
+        ensures few { result ≤ MAX_LOCKS }
     {
         self.tables.locks() as u32
     }
@@ -240,7 +242,7 @@ impl Graph {
     /// How many barriers are declared.
     pub fn barriers(&self) -> u32
         ensures number { result ≡ length (barriers self.now) }
-        ensures few { result ≤ 64 }
+        ensures few { result ≤ MAX_BARRIERS }
     {
         self.tables.barriers() as u32
     }
@@ -250,7 +252,7 @@ impl Graph {
         requires { s < length (named_spaces self.now) }
         ensures { option_map (λ x. x.0) (slice_get (named_spaces self.now) s) ≡ Some result }
     {
-        *self.decls[self.tables.space_place(s) as usize].name()
+        *self.space_decl(s).name()
     }
 
     /// The name of a reservation.
@@ -336,6 +338,14 @@ impl Graph {
         ensures { result ≡ list_any (λ l. is_release_of i l.verb) self.now.lines }
     {
         self.mark(i).released
+    }
+
+    /// The declaration of a space.
+    fn space_decl(&self, s: u32) -> &Decl
+        requires { s < length (named_spaces self.now) }
+        ensures { space_of result.now ≡ slice_get (named_spaces self.now) s }
+    {
+        &self.decls[self.tables.space_place(s) as usize]
     }
 
     /// What later lines have done to a line.

@@ -4,6 +4,8 @@ use Rattle.std.specs.Option.{option_map_or}
 use Rattle.std.specs.List.{list_any, list_all, AllByRecursion}
 use Rattle.std.specs.Str.{bytes_eq}
 use Rattle.index_spaces.specs.Space.{has_point, points, space_size, IsSpace}
+use Rattle.index_spaces.specs.declared.limits.TheConstants.{MAX_INTERVALS, MAX_POINTS}
+use Rattle.graph_model.specs.declared.graph.limits.TheConstants.{MAX_TEXT, MAX_INSTS, MAX_COLUMNS, MAX_CELLS, MAX_LOCKS, MAX_BARRIERS, MAX_LINES, MAX_EDGES, MAX_EVENTS, MAX_COUNT}
 use Rattle.graph_model.specs.declared.graph.decl.Decl.{Decl}
 use Rattle.graph_model.specs.declared.graph.decl.Decl.TheVariants.{Space, Inst, Lock, Barrier}
 use Rattle.graph_model.specs.declared.graph.verb.Line.{Line}
@@ -55,13 +57,13 @@ is_inst _ = false
 
 -- the intervals and the points of a declared space are few enough
 abbrev pub is_large : Decl → Bool
-is_large (Space name space) = nat_lt 64 (length space) || nat_lt 1048576 (space_size space)
+is_large (Space name space) = nat_lt MAX_INTERVALS (length space) || nat_lt MAX_POINTS (space_size space)
 is_large _ = false
 
 -- a quantity of a graph is above its greatest value
 abbrev pub is_beyond : GraphValue → Bool
-is_beyond g = nat_lt 1048576 (length (head g)) || (nat_lt 64 (length (filter is_inst g.decls)) || (nat_lt 256 (length (columns g)) || (nat_lt 4194304 (cell_count g)
-    || (nat_lt 64 (length (locks g)) || (nat_lt 64 (length (barriers g)) || (nat_lt 8192 (length g.lines) || nat_lt 65536 (length (edges g))))))))
+is_beyond g = nat_lt MAX_TEXT (length (head g)) || (nat_lt MAX_INSTS (length (filter is_inst g.decls)) || (nat_lt MAX_COLUMNS (length (columns g)) || (nat_lt MAX_CELLS (cell_count g)
+    || (nat_lt MAX_LOCKS (length (locks g)) || (nat_lt MAX_BARRIERS (length (barriers g)) || (nat_lt MAX_LINES (length g.lines) || nat_lt MAX_EDGES (length (edges g))))))))
 
 abbrev pub decl_repeats : Decl → Bool
 decl_repeats (Inst name space fields) = repeats bytes_eq fields
@@ -73,7 +75,7 @@ decl_unknown g _ = false
 
 abbrev pub decl_misnumbered : Decl → Bool
 decl_misnumbered (Inst name space fields) = nat_lt (length fields) 1
-decl_misnumbered (Barrier name count op first) = nat_lt count 1 || nat_lt 8192 count
+decl_misnumbered (Barrier name count op first) = nat_lt count 1 || nat_lt MAX_COUNT count
 decl_misnumbered _ = false
 
 -- the reasons that may refuse a declaration after this graph
@@ -165,8 +167,8 @@ arrives_late g _ = false
 
 -- a merge of too many events
 abbrev pub merges_many : Verb → Bool
-merges_many (Merge events) = nat_lt 64 (length events)
-merges_many (MergeIgnore events) = nat_lt 64 (length events)
+merges_many (Merge events) = nat_lt MAX_EVENTS (length events)
+merges_many (MergeIgnore events) = nat_lt MAX_EVENTS (length events)
 merges_many _ = false
 
 -- the reasons that may refuse a line after this graph

@@ -2,6 +2,7 @@
 use Rattle.std.specs.Prelude.{ℕ, ◌+◌, nat_lt, Bool, ◌||◌, List, length, filter, sum_by}
 use Rattle.index_spaces.specs.Space.{space_size}
 use Rattle.graph_model.specs.declared.kept.counts.Counts.{Counts}
+use Rattle.graph_model.specs.declared.graph.limits.TheConstants.{MAX_TEXT, MAX_INSTS, MAX_COLUMNS, MAX_CELLS, MAX_LOCKS, MAX_BARRIERS, MAX_LINES, MAX_EDGES}
 use Rattle.graph_model.specs.declared.graph.decl.Decl.{Decl}
 use Rattle.graph_model.specs.graph.Graph.{GraphValue, ColumnInfo, columns_of, columns, locks, barriers, space_at}
 use Rattle.graph_model.specs.graph.Edges.{edges}
@@ -31,5 +32,5 @@ counts_of g = record {
 
 -- a quantity is above its greatest value
 abbrev pub is_above : Counts → Bool
-is_above c = nat_lt 1048576 c.text || (nat_lt 64 c.insts || (nat_lt 256 c.columns || (nat_lt 4194304 c.cells
-    || (nat_lt 64 c.locks || (nat_lt 64 c.barriers || (nat_lt 8192 c.lines || nat_lt 65536 c.edges))))))
+is_above c = nat_lt MAX_TEXT c.text || (nat_lt MAX_INSTS c.insts || (nat_lt MAX_COLUMNS c.columns || (nat_lt MAX_CELLS c.cells
+    || (nat_lt MAX_LOCKS c.locks || (nat_lt MAX_BARRIERS c.barriers || (nat_lt MAX_LINES c.lines || nat_lt MAX_EDGES c.edges))))))

@@ -1,6 +1,7 @@
 -- What a graph keeps beside its declarations to answer by number.
 use Rattle.std.specs.Prelude.{ℕ, ◌+◌, ◌≤◌, List, [], ◌∷◌, ◌++◌, length, filter, filter_map, flat_map, Option, option_map}
 use Rattle.std.specs.List.{cons_option}
+use Rattle.graph_model.specs.declared.graph.limits.TheConstants.{MAX_TEXT, MAX_INSTS, MAX_COLUMNS, MAX_CELLS, MAX_LOCKS, MAX_BARRIERS, MAX_LINES, MAX_EDGES}
 use Rattle.graph_model.specs.declared.graph.decl.Decl.{Decl}
 use Rattle.graph_model.specs.graph.Graph.{GraphValue, ColumnInfo, BarrierInfo, space_of, columns_of, lock_of, barrier_of, named_spaces, columns, locks, barriers}
 use Rattle.graph_model.specs.graph.Edges.{edges}
@@ -39,13 +40,13 @@ tables_with t d place = record {
 
 -- the numbers of a graph that stay within its limits
 pub record IsWithinLimits (g : GraphValue) : Type 0 where
-  pub few_decls : length g.decls ≤ 1048576
-  pub few_lines : length g.lines ≤ 8192
-  pub few_spaces : length (named_spaces g) ≤ 1048576
-  pub few_columns : length (columns g) ≤ 256
-  pub few_locks : length (locks g) ≤ 64
-  pub few_barriers : length (barriers g) ≤ 64
-  pub short_text : length (head g) ≤ 1048576
-  pub few_insts : length (filter is_inst g.decls) ≤ 64
-  pub few_cells : cell_count g ≤ 4194304
-  pub few_edges : length (edges g) ≤ 65536
+  pub few_decls : length g.decls ≤ MAX_TEXT
+  pub few_lines : length g.lines ≤ MAX_LINES
+  pub few_spaces : length (named_spaces g) ≤ MAX_TEXT
+  pub few_columns : length (columns g) ≤ MAX_COLUMNS
+  pub few_locks : length (locks g) ≤ MAX_LOCKS
+  pub few_barriers : length (barriers g) ≤ MAX_BARRIERS
+  pub short_text : length (head g) ≤ MAX_TEXT
+  pub few_insts : length (filter is_inst g.decls) ≤ MAX_INSTS
+  pub few_cells : cell_count g ≤ MAX_CELLS
+  pub few_edges : length (edges g) ≤ MAX_EDGES

@@ -4,6 +4,7 @@ ghost use Rattle.std.specs.Prelude.{◌≡◌, ◌≤◌, ◌+◌, ◌++◌, len
 ghost use Rattle.graph_model.specs.graph.Graph.{is_phase_of};
 ghost use Rattle.graph_model.specs.graph.Edges.{edge, last_place, edges_from_some, verb_edges, line_edges};
 
+use crate::graph::limits::MAX_LINES;
 use crate::graph::lists::LineList;
 use crate::graph::verb::{Edge, EdgeKind, Line, Verb};
 use index_spaces::NoMemory;
@@ -16,7 +17,7 @@ pub(crate) fn edges_of_line(
     lines: &[Line],
     line: &Line,
 ) -> Result<Vec<Edge>, NoMemory>
-    requires { length lines.now ≤ 8192 }
+    requires { length lines.now ≤ MAX_LINES }
     ensures { IfOk result (λ es. es.items ≡ line_edges lines.now line.now) }
 {
     let place = lines.len() as u32;
@@ -28,7 +29,7 @@ pub(crate) fn edges_of_line(
 
 /// How many edges a line gives after these lines.
 pub(crate) fn count_edges(lines: &[Line], line: &Line) -> usize
-    requires { length lines.now ≤ 8192 }
+    requires { length lines.now ≤ MAX_LINES }
     ensures number { result ≡ length (line_edges lines.now line.now) }
     ensures few { result ≤ 4294967297 }
 {
@@ -37,7 +38,7 @@ pub(crate) fn count_edges(lines: &[Line], line: &Line) -> usize
 }
 
 fn count_verb_edges(lines: &[Line], verb: &Verb) -> usize
-    requires { length lines.now ≤ 8192 }
+    requires { length lines.now ≤ MAX_LINES }
     ensures number { result ≡ length (verb_edges lines.now (length lines.now) verb.now) }
     ensures few { result ≤ 4294967296 }
 {
@@ -78,7 +79,7 @@ fn push_verb_edges(
     place: u32,
     verb: &Verb,
 ) -> Result<(), NoMemory>
-    requires { length lines.now ≤ 8192 }
+    requires { length lines.now ≤ MAX_LINES }
     ensures { OnOk result (given.new.items ≡ given.old.items ++ verb_edges lines.now place verb.now) }
 {
     match verb {
@@ -119,7 +120,7 @@ fn push_sources(
 
 /// The last phase of a barrier among these lines.
 fn last_phase(lines: &[Line], barrier: u32) -> Option<u32>
-    requires { length lines.now ≤ 8192 }
+    requires { length lines.now ≤ MAX_LINES }
     ensures { result ≡ last_place (is_phase_of barrier) 0 lines.now None }
 {
     let mut place = lines.len();

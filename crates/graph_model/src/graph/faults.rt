@@ -9,19 +9,13 @@ ghost use Rattle.graph_model.specs.graph.Fits.{repeats, decl_repeats, decl_misnu
 use super::Graph;
 use crate::graph::access::verb_access;
 use crate::graph::decl::Decl;
+use crate::graph::limits::{MAX_COUNT, MAX_EVENTS};
 use crate::graph::name::Name;
 use crate::graph::repeats::{names_repeat, numbers_repeat};
 use crate::graph::verb::{Access, Kernel, Line, Verb};
 use crate::graph::why::Why;
 use index_spaces::laws::points_are_listed;
-
-const MAX_INTERVALS: usize = 64;
-
-const MAX_POINTS: u32 = 1_048_576;
-
-const MAX_COUNT: u32 = 8_192;
-
-const MAX_EVENTS: u32 = 64;
+use index_spaces::limits::{MAX_INTERVALS, MAX_POINTS};
 
 impl Graph {
     ghost use Rattle.std.specs.Prelude.{◌≡◌, false, slice_get};

@@ -53,7 +53,7 @@ impl<T: Drop> ItemList<T> {
 
     /// Puts an item at the end. `NoMemory` leaves the list as it was.
     pub fn push(&mut self, item: T) -> Result<(), NoMemory>
-        requires { length self.old < 4294967295 }
+        requires { length self.old < u32.MAX }
         ensures ok { OnOk result (self.new ≡ self.old ++ item ∷ []) }
         ensures err { OnErr result (self.new ≡ self.old) }
     {

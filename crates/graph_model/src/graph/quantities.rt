@@ -5,6 +5,7 @@ use crate::graph::decl::Decl;
 use crate::graph::edges::count_edges;
 use crate::graph::verb::Line;
 use crate::kept::counts::{Counts, barriers_of, columns_of, insts_of, locks_of};
+use index_spaces::limits::MAX_POINTS;
 
 impl Graph {
     ghost use Rattle.std.specs.Prelude.{◌≡◌, ◌≤◌};
@@ -59,7 +60,7 @@ impl Graph {
     /// How many points a space has: none where it is not declared.
     fn points_of(&self, s: u32) -> u64
         ensures points { result ≡ space_size (space_at self.now s) }
-        ensures few { result ≤ 1048576 }
+        ensures few { result ≤ MAX_POINTS }
     {
         if s >= self.spaces() {
             return 0;

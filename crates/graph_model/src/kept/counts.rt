@@ -6,6 +6,9 @@ ghost use Rattle.graph_model.specs.graph.Fits.{is_inst};
 ghost use Rattle.graph_model.specs.kept.Counts.{is_above};
 
 use crate::graph::decl::Decl;
+use crate::graph::limits::{
+    MAX_BARRIERS, MAX_CELLS, MAX_COLUMNS, MAX_EDGES, MAX_INSTS, MAX_LINES, MAX_LOCKS, MAX_TEXT,
+};
 
 /// The quantities of a graph that have greatest values.
 #[derive(Clone, Copy)]
@@ -26,14 +29,14 @@ impl Counts {
     pub(crate) fn is_above(&self) -> bool
         ensures { result ≡ is_above self.now }
     {
-        self.text > 1_048_576
-            || self.insts > 64
-            || self.columns > 256
-            || self.cells > 4_194_304
-            || self.locks > 64
-            || self.barriers > 64
-            || self.lines > 8_192
-            || self.edges > 65_536
+        self.text > MAX_TEXT
+            || self.insts > MAX_INSTS
+            || self.columns > MAX_COLUMNS
+            || self.cells > MAX_CELLS
+            || self.locks > MAX_LOCKS
+            || self.barriers > MAX_BARRIERS
+            || self.lines > MAX_LINES
+            || self.edges > MAX_EDGES
     }
 }
 
@@ -51,7 +54,7 @@ pub(crate) fn insts_of(decl: &Decl) -> u64
 /// How many columns a declaration brings.
 pub(crate) fn columns_of(decl: &Decl) -> u64
     ensures number { result ≡ length (columns_of decl.now) }
-    ensures few { result ≤ 4294967295 }
+    ensures few { result ≤ u32.MAX }
 {
     match decl {
         Decl::Inst { fields, .. } => u64::from(fields.len()),

@@ -5,6 +5,7 @@ ghost use Rattle.graph_model.specs.graph.Names.{is_column_named};
 ghost use Rattle.graph_model.specs.kept.Tables.{tables_of, tables_with};
 
 use crate::graph::decl::{BarrierInfo, ColumnInfo, Decl};
+use crate::graph::limits::MAX_COLUMNS;
 use crate::graph::lists::NameList;
 use crate::graph::name::Name;
 use index_spaces::NoMemory;
@@ -101,7 +102,7 @@ impl Tables {
     }
 
     pub(crate) fn find_column(&self, inst: &Name, field: &Name) -> Option<u32>
-        requires { length self.now.column_infos ≤ 256 }
+        requires { length self.now.column_infos ≤ MAX_COLUMNS }
         ensures { result ≡ position (is_column_named inst.now field.now) self.now.column_infos }
     {
         match column_place(&self.column_infos, inst, field) {
