@@ -32,8 +32,10 @@ row_fits_here size m decls ls row d x begin most kept left de xe dd be re le =
     subst (λ z. LinesFit z m.lines ls) (sym de) (subst (LinesFit made_decls m.lines) (sym lx) (drawn_fits size most m kept left).lines)
 
 -- a draw adds a line
-pub grows : (size : ℕ) (m k : Made) → size ≤ 8192 → Kept size m → length m.lines < size → k ≡ one_more size m → length m.lines + 1 ≤ length k.lines
-grows size m k most kept left e = subst (λ (z : Made). length m.lines + 1 ≤ length z.lines) (sym (e ∙ one_more_is size most m kept left)) (drawn_grows size most m kept left)
+pub grows : (seed size n : ℕ) (m k : Made) → seed < 2 ^ 64 → size ≤ 8192 → m ≡ after_draws seed size n → length m.lines < size → k ≡ one_more size m → length m.lines + 1 ≤ length k.lines
+grows seed size n m k h most e left made =
+    let kept = kept_by size m most seed n h e in
+    subst (λ (z : Made). length m.lines + 1 ≤ length z.lines) (sym (made ∙ one_more_is size most m kept left)) (drawn_grows size most m kept left)
 
 -- where all lines stand, the graph is the one that was to be made
 pub whole : (seed size n : ℕ) (m : Made) (g : GraphValue) → seed < 2 ^ 64 → size ≤ 8192 → m ≡ after_draws seed size n → n ≤ length m.lines → size ≤ length m.lines → g.decls ≡ made_decls → g.lines ≡ m.lines → g ≡ made_graph seed size
