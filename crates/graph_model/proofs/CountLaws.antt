@@ -135,17 +135,10 @@ kernel_words_kept ds d ls (Gather x y z s t) h =
     tail_same _ _ _ (cons_same _ _ _ _ e.0.0 (cons_same _ _ _ _ e.1.0.0 (cons_same _ _ _ _ e.1.1.0 (cons_same _ _ _ _ e.0.1 (cons_same _ _ _ _ e.1.0.1 refl)))))
 
 verb_words_kept : (ds : List Decl) (d : Decl) (ls : List Line) (v : Verb) → verb_unknown (of_items ds ls) v ≡ false → list_any (access_unknown (of_items ds ls)) (verb_accesses v) ≡ false → verb_words (of_items (ds ++ d ∷ []) ls) v ≡ verb_words (of_items ds ls) v
-verb_words_kept ds d ls User u h = refl
-verb_words_kept ds d ls (Trigger user) u h = refl
-verb_words_kept ds d ls (Cancel user) u h = refl
-verb_words_kept ds d ls (Merge events) u h = refl
-verb_words_kept ds d ls (MergeIgnore events) u h = refl
 verb_words_kept ds d ls (Phase b) u h =
     tail_same _ _ _ (cons_same _ _ _ _ (ap (λ (o : Option BarrierInfo). option_map_or (λ (x : BarrierInfo). x.name) o []) (barriers_before ds d ls b (leb-false (length (filter_map barrier_of ds)) b u))) refl)
-verb_words_kept ds d ls (Arrive phase value) u h = refl
 verb_words_kept ds d ls (Acquire l) u h =
     tail_same _ _ _ (cons_same _ _ _ _ (ap (λ (o : Option (List ℕ)). option_map_or (λ (x : List ℕ). x) o []) (locks_before ds d ls l (leb-false (length (filter_map lock_of ds)) l u))) refl)
-verb_words_kept ds d ls (Release acquire) u h = refl
 verb_words_kept ds d ls (Fill t s value) u h =
     let e = kept_one ds d ls (access t s Write) h in
     tail_same _ _ _ (cons_same _ _ _ _ e.0 (cons_same _ _ _ _ e.1 refl))
@@ -156,6 +149,7 @@ verb_words_kept ds d ls (Reduce op a b s) u h =
     let e = kept_two ds d ls (access a s Read) (access b s (target_mode op)) h in
     tail_same _ _ _ (tail_same _ _ _ (cons_same _ _ _ _ e.0.0 (cons_same _ _ _ _ e.1.0 (cons_same _ _ _ _ e.0.1 refl))))
 verb_words_kept ds d ls (Task kernel) u h = tail_same _ _ _ (kernel_words_kept ds d ls kernel h)
+verb_words_kept ds d ls v u h = refl
 
 line_words_kept : (ds : List Decl) (d : Decl) (ls : List Line) (l : Line) → line_fault (of_items ds ls) l ≡ None → line_words (of_items (ds ++ d ∷ []) ls) l ≡ line_words (of_items ds ls) l
 line_words_kept ds d ls l h =
@@ -170,9 +164,7 @@ lines_text_kept ds d b (l ∷ ls) f =
 
 decl_words_lines : (ds : List Decl) (ls : List Line) (d : Decl) → decl_words (of_items ds []) d ≡ decl_words (of_items ds ls) d
 decl_words_lines ds ls (Space name space) = refl
-decl_words_lines ds ls (Inst name space fields) = refl
-decl_words_lines ds ls (Lock name) = refl
-decl_words_lines ds ls (Barrier name count op first) = refl
+decl_words_lines ds ls d = refl
 
 -- the text has one line more
 pub text_with_decl : (g : GraphValue) (d : Decl) → IsGraph g → length (head (with_decl g d)) ≡ length (head g) + length (spelled (decl_words g d))

@@ -81,13 +81,7 @@ verb_ends before (Cancel u) h x c = one_edge (length before) (edge (length befor
 verb_ends before (Arrive p value) h x c = one_edge (length before) (edge (length before) p Passes) x (omega arith, h p (contains_here p [])) c
 verb_ends before (Phase b) h x c = some_edge (length before) Ignores (last_place (is_phase_of b) 0 before None) x
     (λ k e. elim (last_place_below (is_phase_of b) 0 before None k e) [ inl n ↦ absurd (none-some k n) | inr l ↦ (let b : k < 0 + length before = l in omega arith) ]) c
-verb_ends before User h x c = absurd (contains_none x c)
-verb_ends before (Acquire l) h x c = absurd (contains_none x c)
-verb_ends before (Release q) h x c = absurd (contains_none x c)
-verb_ends before (Fill t s v) h x c = absurd (contains_none x c)
-verb_ends before (Copy a b s) h x c = absurd (contains_none x c)
-verb_ends before (Reduce o a b s) h x c = absurd (contains_none x c)
-verb_ends before (Task kernel) h x c = absurd (contains_none x c)
+verb_ends before v h x c = absurd (contains_none x c)
 
 pub line_ends : (decls : List Decl) (before : List Line) (l : Line) → line_fault (record { decls = decls; lines = before }) l ≡ None → (x : Edge) → Contains (line_edges before l) x → EndsUpTo (length before) x
 line_ends decls before l h x c =

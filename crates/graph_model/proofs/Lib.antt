@@ -14,6 +14,7 @@ pub mod Changes
 pub mod Confluence
 pub mod GraphFacts
 pub mod GraphLaws
+pub mod FitsTable
 pub mod ExampleGraphs
 pub mod RulesTable
 pub mod ExampleAccepted

@@ -61,18 +61,8 @@ never_phase g now i b l m info same h is v e at_b =
 
 comes_as : (g : GraphValue) (i : ℕ) (v : Verb) → (v ≡ User → ⊥) → ((b : ℕ) → v ≡ Phase b → ⊥) → never_comes_as g i v ≡ false
 comes_as g i User u p = absurd (u refl)
-comes_as g i (Trigger x) u p = refl
-comes_as g i (Cancel x) u p = refl
-comes_as g i (Merge es) u p = refl
-comes_as g i (MergeIgnore es) u p = refl
 comes_as g i (Phase b) u p = absurd (p b refl)
-comes_as g i (Arrive q v) u p = refl
-comes_as g i (Acquire l) u p = refl
-comes_as g i (Release q) u p = refl
-comes_as g i (Fill t s v) u p = refl
-comes_as g i (Copy a b s) u p = refl
-comes_as g i (Reduce o a b s) u p = refl
-comes_as g i (Task k) u p = refl
+comes_as g i v u p = refl
 
 pub never_other : (g now : GraphValue) (i : ℕ) (l : Line) → g ≡ now → i < length now.lines → l ≡ get_or g.lines i l → (l.verb ≡ User → ⊥) → ((b : ℕ) → l.verb ≡ Phase b → ⊥) → false ≡ never_comes now i
 never_other g now i l same h is u p = sym (never_of now i l.verb (verb_read g now i l same h is) ∙ comes_as now i l.verb u p)

@@ -18,18 +18,11 @@ loop-rest-preserved c =
     let is : c.loop-rest.size + length (decimal c.loop-rest.rest) ≡ length (decimal c.args.value) + 2 = c.loop-rest.invariant in
     omega arith
 
-pub returns-clause-size : goal.returns-clause-size
-returns-clause-size c =
-    let small : c.loop-rest.rest < 10 = omega arith in
-    let one : length (decimal c.loop-rest.rest) ≡ 1 = ap length (decimal_digit c.loop-rest.rest small) in
-    let is : c.loop-rest.size + length (decimal c.loop-rest.rest) ≡ length (decimal c.args.value) + 2 = c.loop-rest.invariant in
-    omega arith
-
-pub returns-clause-few : goal.returns-clause-few
-returns-clause-few c =
+pub returns : goal.returns
+returns c =
     let small : c.loop-rest.rest < 10 = omega arith in
     let one : length (decimal c.loop-rest.rest) ≡ 1 = ap length (decimal_digit c.loop-rest.rest small) in
     let value : c.args.value < 2 ^ 64 = c.ranges.value.fits in
     let few : length (decimal c.args.value) ≤ 20 = length-decimal-le 20 c.args.value (omega arith) (omega arith) value in
     let is : c.loop-rest.size + length (decimal c.loop-rest.rest) ≡ length (decimal c.args.value) + 2 = c.loop-rest.invariant in
-    omega arith
+    record { size = omega arith; few = omega arith }
