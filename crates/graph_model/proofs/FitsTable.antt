@@ -1,9 +1,9 @@
 -- Whether the items of a graph fit, by computing.
-use Rattle.std.proofs.Common.{◌≡◌, ℕ, ◌+◌, ◌^◌, Bool, true, false, not, ◌&&◌, List, [], ◌∷◌, ◌++◌, length, refl, sym}
+use Rattle.std.proofs.Common.{◌≡◌, ℕ, ◌+◌, ◌^◌, Bool, true, not, ◌&&◌, List, [], ◌∷◌, ◌++◌, length, refl, sym}
 use Rattle.std.specs.Prelude.{Option, Some, None, IsTrue, is_some, nat_le, nat_lt}
 use Rattle.std.specs.List.{list_all, AllByRecursion}
 use Rattle.std.proofs.lemmas.Bool.{true≢false, and_parts, leb-true, ltb-true}
-use Rattle.index_spaces.specs.Space.{AscendAbove, IsSpace}
+use Rattle.index_spaces.specs.Space.{AscendAbove}
 use Rattle.graph_model.specs.declared.graph.decl.Decl.{Decl}
 use Rattle.graph_model.specs.declared.graph.decl.Decl.TheVariants.{Space, Inst, Lock, Barrier}
 use Rattle.graph_model.specs.declared.graph.verb.Line.{Line}

@@ -11,7 +11,7 @@ use Rattle.graph_model.specs.declared.kept.side.Side.TheVariants.{From, To}
 use Rattle.graph_model.specs.declared.graph.verb.Edge.{Edge}
 use Rattle.graph_model.specs.declared.graph.verb.Line.{Line}
 use Rattle.graph_model.specs.declared.graph.verb.Verb.{Verb}
-use Rattle.graph_model.specs.declared.graph.verb.Verb.TheVariants.{User, Trigger, Cancel, Merge, MergeIgnore, Phase, Arrive, Acquire, Release, Fill, Copy, Reduce, Task}
+use Rattle.graph_model.specs.declared.graph.verb.Verb.TheVariants.{Trigger, Cancel, Arrive, Release}
 use Rattle.graph_model.specs.graph.Graph.{GraphValue, ends_user, is_release_of, arrival_weight, arrivals}
 use Rattle.graph_model.specs.graph.Edges.{line_edges, edges_after, edges, edges_into, edges_out_of}
 use Rattle.graph_model.specs.graph.Fits.{named_lines, on_lines, line_fault, with_decl, with_line}

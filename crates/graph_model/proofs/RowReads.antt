@@ -8,7 +8,7 @@ use Rattle.graph_model.specs.declared.kept.mark.Mark.{Mark}
 use Rattle.graph_model.specs.declared.graph.verb.Edge.{Edge}
 use Rattle.graph_model.specs.declared.graph.verb.Line.{Line}
 use Rattle.graph_model.specs.declared.graph.verb.Verb.{Verb}
-use Rattle.graph_model.specs.declared.graph.verb.Verb.TheVariants.{User, Trigger, Cancel, Merge, MergeIgnore, Phase, Arrive, Acquire, Release, Fill, Copy, Reduce, Task}
+use Rattle.graph_model.specs.declared.graph.verb.Verb.TheVariants.{User, Phase}
 use Rattle.graph_model.specs.graph.Graph.{GraphValue, BarrierInfo, barriers, barrier_count, verb_at, never_comes, never_comes_as}
 use Rattle.graph_model.specs.graph.Edges.{edges_into, edges_out_of}
 use Rattle.graph_model.specs.graph.Fits.{IsGraph}
