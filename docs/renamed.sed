@@ -73,3 +73,6 @@ s/Rattle\.graph_model\.proofs\.laws\b/Rattle.graph_model.proofs.meaning.laws/g
 s/Rattle\.graph_model\.specs\.declared\.line_laws\b/Rattle.graph_model.specs.declared.meaning.line_laws/g
 s/Rattle\.graph_model\.proofs\.line_laws\b/Rattle.graph_model.proofs.meaning.line_laws/g
 s/Rattle\.graph_model\.specs\.declared\.outcome\b/Rattle.graph_model.specs.declared.meaning.outcome/g
+# facts on writes that copy_engine and kernel_table share
+s/Rattle\.\(kernel_table\.proofs\.Runs\|copy_engine\.proofs\.PointWrites\)\.{\(none_written\|all_written\|held_again\|holds_over\|point_in\|held_again, holds_over\)}/Rattle.index_spaces.proofs.WriteFacts.{\2}/g
+s/Rattle\.kernel_table\.proofs\.Runs\.{\(length_cut\|written_over\)}/Rattle.index_spaces.proofs.RunFacts.{\1}/g
