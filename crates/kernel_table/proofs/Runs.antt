@@ -1,15 +1,12 @@
 -- Writes of a column's cells, interval by interval.
-use Rattle.std.proofs.Common.{◌≡◌, ℕ, ◌+◌, ◌-◌, ◌^◌, ◌<◌, ◌≤◌, nat_le, true, List, [], ◌++◌, length, get_or, map, take, drop, Option, Some, None, IsTrue, refl, sym, ap, ◌∙◌, arith}
-use Rattle.std.specs.Option.{IsSomeAnd}
+use Rattle.std.proofs.Common.{◌≡◌, ℕ, ◌+◌, ◌-◌, ◌^◌, ◌<◌, ◌≤◌, nat_le, true, List, length, get_or, map, take, drop, IsTrue, refl, sym, ap, ◌∙◌, arith}
 use Rattle.std.specs.Vec.{with_items}
 use Rattle.std.specs.declared.vec.Vec.{Vec}
-use Rattle.std.proofs.lemmas.Bool.{false≢true, and_parts, leb-true}
+use Rattle.std.proofs.lemmas.Bool.{and_parts, leb-true}
 use Rattle.std.proofs.lemmas.List.FromFn.{length-map-range_with_len, get_or-map-range_with_len}
-use Rattle.std.proofs.lemmas.List.Folds.{list_any_at}
-use Rattle.std.proofs.lemmas.List.{get_or-take, get_or-drop, take_all, length-take-le, length-drop, length-append, with_items_is}
-use Rattle.index_spaces.specs.Space.{interval_has, interval_points, has_point, space_size, IsWithin}
+use Rattle.std.proofs.lemmas.List.{get_or-take, get_or-drop, with_items_is}
+use Rattle.index_spaces.specs.Space.{interval_has, interval_points, space_size, IsWithin}
 use Rattle.index_spaces.specs.Column.{ColumnValue, cell_of}
-use Rattle.index_spaces.specs.Held.{HoldsOtherwise}
 use Rattle.index_spaces.specs.Run.{interval_size, IsRunAt, WritesPoints}
 use Rattle.std.proofs.Math.Nat.{mod-add-mod}
 use Rattle.graph_model.specs.meaning.Effect.{wrapped}
