@@ -76,3 +76,7 @@ s/Rattle\.graph_model\.specs\.declared\.outcome\b/Rattle.graph_model.specs.decla
 # facts on writes that copy_engine and kernel_table share
 s/Rattle\.\(kernel_table\.proofs\.Runs\|copy_engine\.proofs\.PointWrites\)\.{\(none_written\|all_written\|held_again\|holds_over\|point_in\|held_again, holds_over\)}/Rattle.index_spaces.proofs.WriteFacts.{\2}/g
 s/Rattle\.kernel_table\.proofs\.Runs\.{\(length_cut\|written_over\)}/Rattle.index_spaces.proofs.RunFacts.{\1}/g
+# worked graphs in a folder
+s/Rattle\.graph_model\.proofs\.Examples\b/Rattle.graph_model.proofs.examples.Graphs/g
+s/Rattle\.graph_model\.proofs\.ExampleGraphs\b/Rattle.graph_model.proofs.examples.Fits/g
+s/Rattle\.graph_model\.proofs\.Example\(Runs\|Rules\|Accepted\|Order\|Faults\)\b/Rattle.graph_model.proofs.examples.\1/g

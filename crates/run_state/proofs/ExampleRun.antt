@@ -14,10 +14,10 @@ use Rattle.graph_model.specs.graph.Edges.{edges}
 use Rattle.graph_model.specs.meaning.Rules.{Accepted}
 use Rattle.graph_model.specs.meaning.Evaluation.{eval_end, order}
 use Rattle.graph_model.specs.graph.Fits.{IsGraph}
-use Rattle.graph_model.proofs.Examples.{one_fill, two_sections, reserved_sums}
+use Rattle.graph_model.proofs.examples.Graphs.{one_fill, two_sections, reserved_sums}
 use Rattle.basics.proofs.ListFacts.{passes_each}
 use Rattle.graph_model.proofs.RulesTable.{implies, implied, accepted_by_tests}
-use Rattle.graph_model.proofs.ExampleAccepted.{reserved_sums-accepted}
+use Rattle.graph_model.proofs.examples.Accepted.{reserved_sums-accepted}
 use Rattle.run_state.specs.Run.{LineStage, Unissued, Issued, Out, Ending, Ended, Place, Home, Had, Run, stage_at, time_at, place_at, list_at, stage_issued, stage_out, stage_over, stage_ended, ended, issued}
 use Rattle.run_state.specs.Sound.{Sound}
 use Rattle.run_state.specs.Moves.{issue}

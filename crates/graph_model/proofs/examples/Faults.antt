@@ -6,7 +6,7 @@ use Rattle.graph_model.specs.declared.graph.verb.Verb.TheVariants.{User, Trigger
 use Rattle.graph_model.specs.declared.graph.why.Why.TheVariants as why
 use Rattle.graph_model.specs.graph.Graph.{GraphValue}
 use Rattle.graph_model.specs.graph.Fits.{line_fault}
-use Rattle.graph_model.proofs.Examples.{graph, line, wrapping_sum}
+use Rattle.graph_model.proofs.examples.Graphs.{graph, line, wrapping_sum}
 
 -- a third arrival where two complete the phase
 wrapping_sum-full : line_fault wrapping_sum (line (codes "z") (Arrive 0 1) None) ≡ Some why.Arrivals
