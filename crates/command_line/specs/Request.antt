@@ -6,6 +6,7 @@ use Rattle.std.specs.Str.{bytes_eq}
 use Rattle.clap.specs.Words.{App, Row, Rule, Text, new_app, new_rule, with_rule, matches_of, first_of, fault_of, Kinds}
 use Rattle.clap.specs.declared.builder.action.ArgAction.TheVariants.{SetTrue}
 use Rattle.command_line.specs.Number.{number_of, number_between}
+use Rattle.command_line.specs.declared.request.TheConstants.{MAX_WORKERS, MAX_SLOTS, MAX_SIZE}
 use Rattle.command_line.specs.declared.request.Action.{Action}
 use Rattle.command_line.specs.declared.request.Action.TheVariants.{Run, Check, Eval, Make}
 use Rattle.command_line.specs.declared.request.Engine.{Engine}
@@ -74,11 +75,11 @@ request_in rows =
       trace = is_set (first_of (codes "trace") rows);
       text = is_set (first_of (codes "text") rows);
     })
-    (value_or 100 (number_between 1 8192) (first_of (codes "size") rows)))
+    (value_or 100 (number_between 1 MAX_SIZE) (first_of (codes "size") rows)))
     (value_or 1 number_of (first_of (codes "seed") rows)))
     (value_or Lock engine_by_word (first_of (codes "engine") rows)))
-    (value_or None (λ word. option_map (λ n. Some n) (number_between 1 8192 word)) (first_of (codes "slots") rows)))
-    (value_or 4 (number_between 0 8) (first_of (codes "workers") rows)))
+    (value_or None (λ word. option_map (λ n. Some n) (number_between 1 MAX_SLOTS word)) (first_of (codes "slots") rows)))
+    (value_or 4 (number_between 0 MAX_WORKERS) (first_of (codes "workers") rows)))
     (option_and_then action_by_word (first_of (codes "ACTION") rows))
 
 -- a request where the command finds no fault in the words

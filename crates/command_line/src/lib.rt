@@ -12,7 +12,7 @@ ghost use Rattle.command_line.specs.Faults.{fault_by_kind};
 ghost use Rattle.command_line.specs.declared.WordsFault.{WordsFault};
 
 use crate::matched::request_in;
-use crate::request::Request;
+use crate::request::{MAX_SIZE, MAX_WORKERS, Request};
 use clap::error::ErrorKind;
 use clap::{Arg, ArgAction, Command, Error};
 use std::alloc::{AllocError, Global};
@@ -30,8 +30,8 @@ pub enum WordsFault {
 pub fn read_words<'a>(alloc: Global, words: &'a [String]) -> Result<Request, WordsFault>
     ensures request { MatchResult result (λ request. Asks words.now request)
         (λ fault. (fault ≡ WordsFault.NoMemory) ⊎ (request_of_words words.now ≡ None)) }
-    ensures size { IfOk result (λ request. (1 ≤ request.size) × (request.size ≤ 8192)) }
-    ensures workers { IfOk result (λ request. request.workers ≤ 8) }
+    ensures size { IfOk result (λ request. (1 ≤ request.size) × (request.size ≤ MAX_SIZE)) }
+    ensures workers { IfOk result (λ request. request.workers ≤ MAX_WORKERS) }
 {
     let Ok(command) = command(alloc) else {
         return Err(WordsFault::NoMemory);

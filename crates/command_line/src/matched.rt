@@ -6,7 +6,7 @@ ghost use Rattle.command_line.specs.Number.{number_of, number_between};
 ghost use Rattle.command_line.specs.Request.{action_by_word, engine_by_word, value_or, is_set, request_in};
 
 use crate::number::{number, number_between};
-use crate::request::{Action, Engine, Request};
+use crate::request::{Action, Engine, MAX_SIZE, MAX_SLOTS, MAX_WORKERS, Request};
 use clap::ArgMatches;
 
 /// The action that a word names.
@@ -63,12 +63,12 @@ fn number_or(matches: &ArgMatches, id: &str, default: u32, least: u32, most: u32
 
 /// The number of slots, if it is given; none where the text is no number of its range.
 fn slots(matches: &ArgMatches) -> Option<Option<u32>>
-    ensures { result ≡ value_or None (λ word. option_map (λ n. Some n) (number_between 1 8192 word))
+    ensures { result ≡ value_or None (λ word. option_map (λ n. Some n) (number_between 1 MAX_SLOTS word))
         (first_of (codes "slots") (rows_of (found_of matches.now))) }
 {
     match given(matches, "slots") {
         None => Some(None),
-        Some(word) => number_between(word, 1, 8192).map(Some),
+        Some(word) => number_between(word, 1, MAX_SLOTS).map(Some),
     }
 }
 
@@ -95,16 +95,16 @@ fn seed(matches: &ArgMatches) -> Option<u64>
 /// What the matches ask for; none where a value is out of its range.
 pub(crate) fn request_in(matches: &ArgMatches) -> Option<Request>
     ensures request { result ≡ request_in (rows_of (found_of matches.now)) }
-    ensures size { IfSome result (λ request. (1 ≤ request.size) × (request.size ≤ 8192)) }
-    ensures workers { IfSome result (λ request. request.workers ≤ 8) }
+    ensures size { IfSome result (λ request. (1 ≤ request.size) × (request.size ≤ MAX_SIZE)) }
+    ensures workers { IfSome result (λ request. request.workers ≤ MAX_WORKERS) }
 {
     Some(Request {
         action: action_by_word(given(matches, "ACTION")?)?,
-        workers: number_or(matches, "workers", 4, 0, 8)?,
+        workers: number_or(matches, "workers", 4, 0, MAX_WORKERS)?,
         slots: slots(matches)?,
         engine: engine(matches)?,
         seed: seed(matches)?,
-        size: number_or(matches, "size", 100, 1, 8192)?,
+        size: number_or(matches, "size", 100, 1, MAX_SIZE)?,
         trace: is_set(matches, "trace"),
         text: is_set(matches, "text"),
     })

@@ -1,5 +1,14 @@
 //! What a command line asks for.
 
+/// The most workers that a run may have.
+pub const MAX_WORKERS: u32 = 8;
+
+/// The most event slots that a run may have.
+pub const MAX_SLOTS: u32 = 8_192;
+
+/// The most lines that a generated graph may have: as many as any graph may.
+pub const MAX_SIZE: u32 = 8_192;
+
 /// What is done.
 #[derive(Clone, Copy, Debug, PartialEq, Eq)]
 pub enum Action {
@@ -25,14 +34,14 @@ pub enum Engine {
 #[derive(Clone, Copy, Debug, PartialEq, Eq)]
 pub struct Request {
     pub action: Action,
-    /// How many workers run a graph, from 0 to 8; with 0 the caller does all.
+    /// How many workers run a graph, at most `MAX_WORKERS`; with 0 the caller does all.
     pub workers: u32,
-    /// How many event slots a run has, from 1 to 8,192, where it is given.
+    /// How many event slots a run has, from 1 to `MAX_SLOTS`, where it is given.
     pub slots: Option<u32>,
     pub engine: Engine,
     /// What a generated graph is drawn from.
     pub seed: u64,
-    /// How many lines a generated graph has, from 1 to 8,192.
+    /// How many lines a generated graph has, from 1 to `MAX_SIZE`.
     pub size: u32,
     /// Whether the trace follows the report.
     pub trace: bool,

@@ -1,33 +1,15 @@
--- Writes at the points of a space, interval by interval, and what they leave of the columns that are held.
-use Rattle.std.proofs.Common.{◌≡◌, ℕ, ◌≤◌, true, List, [], length, get_or, take, ◌<◌, Option, Some, None, refl, ◌∙◌}
-use Rattle.std.specs.Option.{IsSomeAnd, is_some}
-use Rattle.std.proofs.lemmas.Bool.{false≢true}
-use Rattle.std.proofs.lemmas.List.{take_all}
-use Rattle.std.proofs.lemmas.List.Folds.{list_any_at}
+-- What is known of the columns that a copy and a reduction are given.
+use Rattle.std.proofs.Common.{◌≡◌, ℕ, List, Some, None, refl, sym, ◌∙◌}
+use Rattle.std.specs.Prelude.{◌≢◌}
 use Rattle.index_spaces.specs.declared.Op.{Op}
 use Rattle.index_spaces.specs.declared.Op.TheVariants as op
-use Rattle.index_spaces.specs.Space.{interval_has, has_point}
+use Rattle.index_spaces.specs.Space.{IsSpace, IsWithin}
 use Rattle.index_spaces.specs.Column.{ColumnValue}
-use Rattle.index_spaces.specs.Held.{HoldsOtherwise}
-use Rattle.index_spaces.specs.Run.{WritesPoints, reduced_cell}
+use Rattle.index_spaces.specs.Held.{held_at, HoldsOtherwise}
+use Rattle.index_spaces.specs.Run.{reduced_cell}
+use Rattle.index_spaces.proofs.WriteFacts.{holds_over}
 use Rattle.graph_model.specs.meaning.Effect.{cell_after, reduced}
-
-pub none_written : (c : ColumnValue) (value : ℕ → ℕ) → WritesPoints c c [] value
-none_written c value = record { space = refl; inside = λ p h. absurd (false≢true h); outside = λ p h n. refl }
-
-pub all_written : (old new : ColumnValue) (s : List (ℕ × ℕ)) (n : ℕ) (value : ℕ → ℕ) → length s ≤ n → WritesPoints old new (take n s) value → WritesPoints old new s value
-all_written old new s n value h w = rw (take_all n s h) at w
-
--- a column that was let go of and is held again
-pub held_again : (old mid new : List (ℕ × ColumnValue)) (c : ℕ) (x : ColumnValue) → HoldsOtherwise old mid c None → HoldsOtherwise mid new c (Some x) → HoldsOtherwise old new c (Some x)
-held_again old mid new c x out back = record { here = back.here; others = λ k n. back.others k n ∙ out.others k n }
-
-pub is_held : (o : Option ColumnValue) (P : ColumnValue → Type 0) → IsSomeAnd o P → is_some o ≡ true
-is_held None P h = absurd h
-is_held (Some x) P h = refl
-
-pub holds_over : (o : Option ColumnValue) (P : ColumnValue → Type 0) (x : ColumnValue) → o ≡ Some x → IsSomeAnd o P → P x
-holds_over o P x e h = rw e at h
+use Rattle.graph_model.specs.meaning.HeldCells.{HoldsOver}
 
 -- a reduction of two cells is what the change leaves
 pub reduced_is : (o : Op) (a b : ℕ) → reduced_cell o a b ≡ cell_after (reduced o a b) a
@@ -35,6 +17,14 @@ reduced_is op.Sum a b = refl
 reduced_is op.Min a b = refl
 reduced_is op.Max a b = refl
 
--- a point of one interval is a point of all
-pub point_in : (s : List (ℕ × ℕ)) (k : ℕ) (p : ℕ) → k < length s → interval_has (get_or s k (0, 0)) p ≡ true → has_point s p ≡ true
-point_in s k p h has = list_any_at (λ i. interval_has i p) s k (0, 0) h has
+-- a column that is held and has the points of a space
+pub record IsOver (held : List (ℕ × ColumnValue)) (c : ℕ) (x : ColumnValue) (s : List (ℕ × ℕ)) : Type 0 where
+  pub here : held_at held c ≡ Some x
+  pub within : IsWithin s x.space
+  pub is_space : IsSpace x.space
+
+-- a column that is found while another is let go of was held before
+pub source_is : (old mid : List (ℕ × ColumnValue)) (target c : ℕ) (x : ColumnValue) (s : List (ℕ × ℕ)) → HoldsOtherwise old mid target None → c ≢ target → held_at mid c ≡ Some x → HoldsOver old c s → IsSpace x.space → IsOver old c x s
+source_is old mid target c x s out differ at over is =
+    let here : held_at old c ≡ Some x = sym (out.others c differ) ∙ at in
+    record { here = here; within = holds_over (held_at old c) (λ (y : ColumnValue). IsWithin s y.space) x here over; is_space = is }

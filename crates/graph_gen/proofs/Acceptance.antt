@@ -1,5 +1,5 @@
 -- A generated graph is accepted.
-use Rattle.std.proofs.Common.{◌≡◌, ℕ, zero, suc, ◌+◌, ◌-◌, ◌^◌, ◌<◌, ◌≤◌, true, false, ◌⊎◌, inl, inr, List, [], ◌∷◌, length, refl, sym, ◌∙◌, ap, ap₂, subst, arith}
+use Rattle.std.proofs.Common.{◌≡◌, ℕ, zero, suc, ◌+◌, ◌^◌, ◌<◌, ◌≤◌, true, false, ◌⊎◌, inl, inr, List, [], ◌∷◌, length, refl, sym, ◌∙◌, ap, ap₂, subst, arith}
 use Rattle.std.specs.Prelude.{Contains, Option, Some, slice_get, option_map}
 use Rattle.std.specs.Option.{option_map_or}
 use Rattle.std.proofs.lemmas.Bool.{true≢false, eq-eqb}
@@ -17,11 +17,9 @@ use Rattle.graph_model.specs.graph.Edges.{edge}
 use Rattle.graph_model.specs.meaning.Rules.{Releases, Section, modes_commute, Exempt, NoCycleAt, ReleasedAt, SectionAt, DescendsAt, ReleaseFaultAt, RaceAt, Everywhere, EverywhereTwice, Accepted}
 use Rattle.basics.proofs.ListFacts.{contains_cases, contains_none}
 use Rattle.graph_model.proofs.PathLaws.{path_append}
-use Rattle.graph_gen.specs.declared.draw.Row.{Row}
-use Rattle.graph_gen.specs.declared.draw.Draw.{Draw}
-use Rattle.graph_gen.specs.MadeGraph.{next_state, draw_of, row_taken, row_lines, total_column, made_line, Made, unmade, drawn, after_draws, made_graph}
+use Rattle.graph_gen.specs.MadeGraph.{next_state, row_lines, total_column, made_line, Made, unmade, drawn, after_draws, made_graph}
 use Rattle.graph_gen.proofs.Standing.{lined}
-use Rattle.graph_gen.proofs.Draws.{Kept, kept_draws, one_more_is, stays}
+use Rattle.graph_gen.proofs.Draws.{next_draw, next_row, draw_column, draw_other, Kept, kept_draws, one_more_is, stays}
 use Rattle.graph_gen.proofs.AddedLines.{verb_in, uses_in, edges_in, old_or_new, UpTo, last_edge}
 use Rattle.graph_gen.proofs.Shapes.{weight, Held, Shape, shape_more}
 use Rattle.graph_gen.proofs.RowShapes.{row_shape}
@@ -176,25 +174,10 @@ unmade_sound seed = record {
 }
 
 module _ (size : ℕ) (m : Made) (kept : Kept size m) (sound : Sound m) where
-  abbrev x : ℕ
-  x = next_state m.state
-
-  abbrev d : Draw
-  d = draw_of x
-
-  abbrev row : Row
-  row = row_taken d m.lasts (size - length m.lines)
-
-  draw_column : d.column < 8
-  draw_column = omega arith
-
-  draw_other : d.other < 8
-  draw_other = omega arith
-
-  drawn_sound : Sound (drawn size d x m)
+  drawn_sound : Sound (drawn size (next_draw m) (next_state m.state) m)
   drawn_sound = record {
-    shape = shape_more m.lines (row_lines row d m.lasts (length m.lines)) (row_shape d draw_column draw_other m.lasts m.lines kept.lasts sound.shape row) sound.shape;
-    ordered = row_ordered d draw_column draw_other m.lasts kept.wide m.lines row sound.ordered;
+    shape = shape_more m.lines (row_lines (next_row size m) (next_draw m) m.lasts (length m.lines)) (row_shape (next_draw m) (draw_column m) (draw_other m) m.lasts m.lines kept.lasts sound.shape (next_row size m)) sound.shape;
+    ordered = row_ordered (next_draw m) (draw_column m) (draw_other m) m.lasts kept.wide m.lines (next_row size m) sound.ordered;
   }
 
 sound_draws : (seed size : ℕ) → seed < 2 ^ 64 → size ≤ 8192 → (n : ℕ) → Sound (after_draws seed size n)

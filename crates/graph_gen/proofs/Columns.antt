@@ -108,14 +108,10 @@ old_last : (row : Row) (d : Draw) (lasts : List (Option ℕ)) (c s : ℕ) → is
 old_last row d lasts c s h m e = ap (last_of lasts) (sym (only_column row d c h m)) ∙ e
 
 moved_source : (row : Row) (d : Draw) (lasts : List (Option ℕ)) (c s : ℕ) → Moves row d c → last_of lasts c ≡ Some s → Contains (row_sources row d lasts) s
-moved_source Fill d lasts c s m e = on_has (last_of lasts d.column) s (old_last Fill d lasts c s refl m e)
-moved_source Iota d lasts c s m e = on_has (last_of lasts d.column) s (old_last Iota d lasts c s refl m e)
-moved_source Expect d lasts c s m e = on_has (last_of lasts d.column) s (old_last Expect d lasts c s refl m e)
 moved_source Settle d lasts c s m e = merged_has (last_of lasts d.column) None s (inl (old_last Settle d lasts c s refl m e))
 moved_source Copy d lasts c s m e = merged_has (last_of lasts d.column) (last_of lasts d.other) s (elim m [ inl x ↦ inl (ap (last_of lasts) (sym x) ∙ e) | inr x ↦ inr (ap (last_of lasts) (sym x.1) ∙ e) ])
 moved_source Sum d lasts c s m e = merged_has (last_of lasts d.column) (last_of lasts d.other) s (elim m [ inl x ↦ inl (ap (last_of lasts) (sym x) ∙ e) | inr x ↦ inr (ap (last_of lasts) (sym x.1) ∙ e) ])
-moved_source Event d lasts c s m e = on_has (last_of lasts d.column) s (old_last Event d lasts c s refl m e)
-moved_source Section d lasts c s m e = on_has (last_of lasts d.column) s (old_last Section d lasts c s refl m e)
+moved_source row d lasts c s m e = on_has (last_of lasts d.column) s (old_last row d lasts c s refl m e)
 
 module _ (d : Draw) (column : d.column < 8) (other : d.other < 8) (lasts : List (Option ℕ)) (wide : length lasts ≡ 8) (n : ℕ) where
   one_moved : (row : Row) (c x : ℕ) → is_joined row ≡ false → Moves row d c → last_of (slice_set lasts d.column (Some x)) c ≡ Some x
@@ -130,14 +126,9 @@ module _ (d : Draw) (column : d.column < 8) (other : d.other < 8) (lasts : List 
       ]
 
   lasts_moved : (row : Row) (c : ℕ) → Moves row d c → last_of (lasts_after row d lasts n) c ≡ Some (row_last row n)
-  lasts_moved Fill c m = one_moved Fill c n refl m
-  lasts_moved Iota c m = one_moved Iota c n refl m
-  lasts_moved Expect c m = one_moved Expect c n refl m
-  lasts_moved Settle c m = one_moved Settle c n refl m
   lasts_moved Copy c m = two_moved Copy c (n + 1) m
   lasts_moved Sum c m = two_moved Sum c (n + 1) m
-  lasts_moved Event c m = one_moved Event c n refl m
-  lasts_moved Section c m = one_moved Section c (n + 3) refl m
+  lasts_moved row c m = one_moved row c (row_last row n) refl m
 
   one_kept : (row : Row) (c x : ℕ) → (Moves row d c → ⊥) → last_of (slice_set lasts d.column (Some x)) c ≡ last_of lasts c
   one_kept row c x still = get_or-set_other lasts d.column c (Some x) None (λ e. still (inl e))
@@ -146,14 +137,9 @@ module _ (d : Draw) (column : d.column < 8) (other : d.other < 8) (lasts : List 
   two_kept row c x h still = get_or-set_other (slice_set lasts d.column (Some x)) d.other c (Some x) None (λ e. still (inr (h, e))) ∙ one_kept row c x still
 
   lasts_kept : (row : Row) (c : ℕ) → (Moves row d c → ⊥) → last_of (lasts_after row d lasts n) c ≡ last_of lasts c
-  lasts_kept Fill c still = one_kept Fill c n still
-  lasts_kept Iota c still = one_kept Iota c n still
-  lasts_kept Expect c still = one_kept Expect c n still
-  lasts_kept Settle c still = one_kept Settle c n still
   lasts_kept Copy c still = two_kept Copy c (n + 1) refl still
   lasts_kept Sum c still = two_kept Sum c (n + 1) refl still
-  lasts_kept Event c still = one_kept Event c n still
-  lasts_kept Section c still = one_kept Section c (n + 3) still
+  lasts_kept row c still = one_kept row c (row_last row n) still
 
   -- a line of one access, and of two
   one_used : (x : Access) (a : Access) (c : ℕ) → Contains (x ∷ []) a → a.column ≡ c → c ≡ x.column
@@ -195,29 +181,20 @@ module _ (d : Draw) (column : d.column < 8) (other : d.other < 8) (lasts : List 
   all row = ls ++ row_lines row d lasts n
 
   waits_touch : (row : Row) → UpTo (edges_in (all row)) (row_waits row n) (row_touch row n)
-  waits_touch Fill = inl refl
-  waits_touch Iota = inl refl
-  waits_touch Expect = inl refl
-  waits_touch Settle = inl refl
   waits_touch Copy = inr (last (edge n (n + 1) Passes) (inner_edge Copy d lasts ls (edge n (n + 1) Passes) (contains_here (edge n (n + 1) Passes) [])) refl refl)
   waits_touch Sum = inr (last (edge n (n + 1) Passes) (inner_edge Sum d lasts ls (edge n (n + 1) Passes) (contains_here (edge n (n + 1) Passes) [])) refl refl)
   waits_touch Event = inr (last (edge (n + 1) n Passes) (inner_edge Event d lasts ls (edge (n + 1) n Passes) (contains_here (edge (n + 1) n Passes) [])) refl refl)
   waits_touch Section = inr (last (edge n (n + 1) Passes) (inner_edge Section d lasts ls (edge n (n + 1) Passes) (contains_here (edge n (n + 1) Passes) (edge (n + 1) (n + 2) Ignores ∷ edge (n + 2) (n + 3) Passes ∷ []))) refl refl)
+  waits_touch row = inl refl
 
   touch_last : (row : Row) → UpTo (edges_in (all row)) (row_touch row n) (row_last row n)
-  touch_last Fill = inl refl
-  touch_last Iota = inl refl
-  touch_last Expect = inl refl
-  touch_last Settle = inl refl
-  touch_last Copy = inl refl
-  touch_last Sum = inl refl
-  touch_last Event = inl refl
   touch_last Section =
       let one : Edge = edge n (n + 1) Passes in
       let two : Edge = edge (n + 1) (n + 2) Ignores in
       let three : Edge = edge (n + 2) (n + 3) Passes in
       inr (first two (inner_edge Section d lasts ls two (contains_there one (two ∷ three ∷ []) two (contains_here two (three ∷ [])))) refl
       (last three (inner_edge Section d lasts ls three (contains_there one (two ∷ three ∷ []) three (contains_there two (three ∷ []) three (contains_here three [])))) refl refl))
+  touch_last row = inl refl
 
   -- from the last line of a column that a row moves a path leads to the line of the row that uses it
   source_path : (row : Row) (c s : ℕ) → Moves row d c → last_of lasts c ≡ Some s → Path (edges_in (all row)) s (row_touch row n)

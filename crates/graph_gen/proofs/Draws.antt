@@ -57,30 +57,37 @@ taken_open d lasts left = chosen (is_open d.row d lasts left) refl
     chosen true h = h
     chosen false h = refl
 
+-- the draw that comes next, the row that it takes, and that its columns are there
+abbrev pub next_draw : Made → Draw
+next_draw m = draw_of (next_state m.state)
+
+abbrev pub next_row : ℕ → Made → Row
+next_row size m = row_taken (next_draw m) m.lasts (size - length m.lines)
+
+pub draw_column : (m : Made) → (next_draw m).column < 8
+draw_column m = omega arith
+
+pub draw_other : (m : Made) → (next_draw m).other < 8
+draw_other m = omega arith
+
 module _ (size : ℕ) (most : size ≤ 8192) (m : Made) (kept : Kept size m) (left : length m.lines < size) where
   abbrev x : ℕ
   x = next_state m.state
 
   abbrev d : Draw
-  d = draw_of x
+  d = next_draw m
 
   abbrev row : Row
-  row = row_taken d m.lasts (size - length m.lines)
+  row = next_row size m
 
   small : x < 2 ^ 64
   small = omega arith
-
-  draw_column : d.column < 8
-  draw_column = omega arith
-
-  draw_other : d.other < 8
-  draw_other = omega arith
 
   draw_value : d.value < 65536
   draw_value = let s : x < 2 ^ 64 = small in omega arith
 
   pub drawn_fits : RowFits m.lines (row_lines row d m.lasts (length m.lines))
-  drawn_fits = row_fits d draw_column draw_other draw_value m.lasts m.lines kept.standing kept.lasts (size - length m.lines) (omega arith) (omega arith) row (taken_open d m.lasts (size - length m.lines))
+  drawn_fits = row_fits d (draw_column m) (draw_other m) draw_value m.lasts m.lines kept.standing kept.lasts (size - length m.lines) (omega arith) (omega arith) row (taken_open d m.lasts (size - length m.lines))
 
   sizes : (1 ≤ length (row_lines row d m.lasts (length m.lines))) × (length (row_lines row d m.lasts (length m.lines)) ≤ size - length m.lines)
   sizes = row_size row d m.lasts (size - length m.lines) (length m.lines) (taken_open d m.lasts (size - length m.lines)) (omega arith)
@@ -93,7 +100,7 @@ module _ (size : ℕ) (most : size ≤ 8192) (m : Made) (kept : Kept size m) (le
 
   pub drawn_kept : Kept size (drawn size d x m)
   drawn_kept =
-      let lasts = row_lasts row d m.lasts (length m.lines) draw_column draw_other kept.wide kept.lasts in
+      let lasts = row_lasts row d m.lasts (length m.lines) (draw_column m) (draw_other m) kept.wide kept.lasts in
       record {
         standing = drawn_fits.standing;
         fits = lines_join made_decls [] m.lines (row_lines row d m.lasts (length m.lines)) kept.fits drawn_fits.lines;

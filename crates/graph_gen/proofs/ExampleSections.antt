@@ -7,29 +7,22 @@ use Rattle.graph_model.specs.graph.Edges.{edges}
 use Rattle.graph_model.specs.meaning.Path.{HasPath}
 use Rattle.graph_model.specs.meaning.Rules.{Exempt, Accepted}
 use Rattle.graph_model.proofs.PathTable.{no_path_by_table}
-use Rattle.graph_model.proofs.RulesTable.{accepted_by_tests}
+use Rattle.graph_model.proofs.RulesTable.{accepted_by_computing, meets_itself, conflict_by}
 use Rattle.graph_gen.specs.MadeGraph.{made_graph}
 use Rattle.graph_gen.proofs.Acceptance.{made_accepted}
 
 abbrev two_sections : GraphValue
 two_sections = made_graph 59 8
 
-accepted_by_computing : Accepted two_sections
-accepted_by_computing = accepted_by_tests two_sections (record { range = refl; acyclic = refl; released = refl; sections = refl; descends = refl; release_faults = refl; races = refl })
+two_sections-accepted : Accepted two_sections
+two_sections-accepted = accepted_by_computing two_sections refl
 
 -- the premises of the law are met
 pub accepted_by_law : Accepted two_sections
 accepted_by_law = made_accepted 59 8 (lit< tt) (lit≤ tt)
 
 sums_conflict : Conflict two_sections 1 5
-sums_conflict = record {
-  different = λ e. absurd (omega arith);
-  one = access 8 0 Sum;
-  other = access 8 0 Sum;
-  one_in = (1, omega arith, refl);
-  other_in = (1, omega arith, refl);
-  conflict = record { column = refl; meet = (0, refl, refl); clash = refl };
-}
+sums_conflict = conflict_by two_sections 1 5 (access 8 0 Sum) (λ e. absurd (omega arith)) (1, omega arith, refl) (1, omega arith, refl) (meets_itself two_sections (access 8 0 Sum) refl refl)
 
 no_path : HasPath two_sections 1 5 → ⊥
 no_path = no_path_by_table (edges two_sections) 8 1 5 refl refl

@@ -31,9 +31,12 @@ row_fits_here size m decls ls row d x begin most kept left de xe dd be re le =
     let lx = le ∙ (ap₂ (λ r y. row_lines r y m.lasts begin) rx dx ∙ ap (λ f. row_lines (row_taken (draw_of (next_state m.state)) m.lasts (size - length m.lines)) (draw_of (next_state m.state)) m.lasts f) be) in
     subst (λ z. LinesFit z m.lines ls) (sym de) (subst (LinesFit made_decls m.lines) (sym lx) (drawn_fits size most m kept left).lines)
 
--- a draw adds a line
-pub grows : (size : ℕ) (m k : Made) → size ≤ 8192 → Kept size m → length m.lines < size → k ≡ one_more size m → length m.lines + 1 ≤ length k.lines
-grows size m k most kept left e = subst (λ (z : Made). length m.lines + 1 ≤ length z.lines) (sym (e ∙ one_more_is size most m kept left)) (drawn_grows size most m kept left)
+-- a draw that is made while fewer lines stand than the size adds a line
+pub grows : (seed size n count : ℕ) (m k : Made) → seed < 2 ^ 64 → size ≤ 8192 → m ≡ after_draws seed size n → count ≡ length m.lines → count < size → k ≡ one_more size m → length m.lines + 1 ≤ length k.lines
+grows seed size n count m k h most e is less made =
+    let kept = kept_by size m most seed n h e in
+    let left : length m.lines < size = omega arith in
+    subst (λ (z : Made). length m.lines + 1 ≤ length z.lines) (sym (made ∙ one_more_is size most m kept left)) (drawn_grows size most m kept left)
 
 -- where all lines stand, the graph is the one that was to be made
 pub whole : (seed size n : ℕ) (m : Made) (g : GraphValue) → seed < 2 ^ 64 → size ≤ 8192 → m ≡ after_draws seed size n → n ≤ length m.lines → size ≤ length m.lines → g.decls ≡ made_decls → g.lines ≡ m.lines → g ≡ made_graph seed size

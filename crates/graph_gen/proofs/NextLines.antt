@@ -1,10 +1,11 @@
 -- Each line that a row adds fits after the lines that stand.
-use Rattle.std.proofs.Common.{◌≡◌, ℕ, zero, suc, ◌+◌, ◌<◌, ◌≤◌, true, false, not, ◌||◌, List, [], ◌∷◌, length, refl, ap, length-append, arith, lit≤, lit<}
+use Rattle.std.proofs.Common.{◌≡◌, ℕ, zero, suc, ◌+◌, ◌<◌, ◌≤◌, true, false, not, ◌||◌, List, [], ◌∷◌, ◌++◌, length, map, refl, ap, length-append, arith, lit≤, lit<}
 use Rattle.std.specs.Prelude.{◌≢◌, Option, Some, None, nat_eq, nat_le, slice_get, codes, decimal, option_map}
 use Rattle.std.specs.Option.{option_map_or}
 use Rattle.std.specs.List.{list_any}
 use Rattle.std.proofs.lemmas.Bool.{false_from_ne_true, leb-true, eqb-true}
 use Rattle.index_spaces.specs.declared.Op.TheVariants as op
+use Rattle.graph_model.specs.declared.graph.verb.Access.{Access}
 use Rattle.graph_model.specs.declared.graph.verb.Line.{Line}
 use Rattle.graph_model.specs.declared.graph.verb.Mode.{Mode}
 use Rattle.graph_model.specs.declared.graph.verb.Mode.TheVariants.{Read, Write, Sum}
@@ -14,13 +15,13 @@ use Rattle.graph_model.specs.declared.graph.verb.Verb.{Verb}
 use Rattle.graph_model.specs.declared.graph.verb.Verb.TheVariants.{User, Trigger, Merge, MergeIgnore, Acquire, Release, Fill, Copy, Reduce, Task}
 use Rattle.graph_model.specs.declared.graph.verb.Kernel.TheVariants.{Iota, Expect}
 use Rattle.graph_model.specs.graph.Graph.{is_user, is_acquire, ends_user, is_release_of}
-use Rattle.graph_model.specs.graph.Access.{access}
+use Rattle.graph_model.specs.graph.Access.{access, verb_accesses}
 use Rattle.graph_model.specs.graph.Edges.{edges_from_some, verb_edges, line_edges}
-use Rattle.graph_model.specs.graph.Fits.{on_lines, access_unknown, access_outside}
-use Rattle.graph_model.specs.graph.Spelling.{column_name, line_name, on_words}
+use Rattle.graph_model.specs.graph.Fits.{on_lines, access_unknown, access_outside, repeats, line_unknown, IsVerb}
+use Rattle.graph_model.specs.graph.Spelling.{column_name, line_name, verb_words, on_words}
 use Rattle.graph_gen.specs.MadeGraph.{made_line}
 use Rattle.graph_gen.proofs.LineNames.{decimal_short}
-use Rattle.graph_gen.proofs.Standing.{lined, both_false, Standing, NextFits, Sized, size_cons, size_none, within_sixty, name_size}
+use Rattle.graph_gen.proofs.Standing.{lined, both_false, against, Standing, NextFits, Sized, size_cons, size_none, within_sixty, name_size}
 
 -- what holds of each number below nine
 below_nine : (P : ℕ → Type 0) → P 0 → P 1 → P 2 → P 3 → P 4 → P 5 → P 6 → P 7 → P 8 → (c : ℕ) → c < 9 → P c
@@ -75,65 +76,24 @@ on_size ls (Some e) st few b = size_cons (codes "on") (line_name (lined ls) e �
 value_size : (v : ℕ) → v < 65536 → length (decimal v) ≤ 5
 value_size v h = decimal_short 5 v (omega arith) (omega arith) (omega arith)
 
+-- a line fits by what is shown of it
+fits_by : (ls : List Line) (v : Verb) (on : Option ℕ) → against ls v on ≡ false → repeats nat_eq (map (λ (a : Access). a.column) (verb_accesses v)) ≡ false → line_unknown (lined ls) (made_line 0 v on) ≡ false
+    → list_any (access_outside (lined ls)) (verb_accesses v) ≡ false → Sized (verb_words (lined ls) v ++ on_words (lined ls) on) 60 → length (line_edges ls (made_line 0 v on)) ≤ 2 → IsVerb v
+    → ((k : ℕ) → length ls < k → (ends_user k v || is_release_of k v) ≡ false) → NextFits ls v on
+fits_by ls v on clear apart known within words few_edges values ends_none_later =
+    record { clear = clear; apart = apart; known = known; within = within; words = words; few_edges = few_edges; values = values; ends_none_later = ends_none_later }
+
 module _ (ls : List Line) (st : Standing ls) (few : length ls ≤ 8192) where
   module _ (on : Option ℕ) (b : Before (length ls) on) where
     on_rest : Sized (on_words (lined ls) on) 10
     on_rest = on_size ls on st few b
 
-    pub fill_fits : (c v : ℕ) → c < 9 → v < 65536 → NextFits ls (Fill c 0 v) on
-    fill_fits c v h k = record {
-      fresh = refl;
-      apart = refl;
-      known = both_false (list_any (λ i. nat_le (length ls) i) (on_lines on)) _ (on_known (length ls) on b) (both_false (access_unknown (lined ls) (access c 0 Write)) false (unknown_not ls Write c h) refl);
-      like = refl;
-      bare = refl;
-      counted = refl;
-      within = both_false (access_outside (lined ls) (access c 0 Write)) false (outside_not ls Write c h) refl;
-      early = refl;
-      few = refl;
-      words = within_sixty _ _ (size_cons (codes "fill") _ 4 _ (lit≤ tt) (size_cons (column_name (lined ls) c) _ 5 _ (column_size ls c h) (size_cons (codes "s") _ 1 _ (lit≤ tt) (size_cons (decimal v) _ 5 10 (value_size v k) on_rest)))) (lit≤ tt);
-      few_edges = edges_few ls (Fill c 0 v) on (lit≤ tt);
-      values = omega arith;
-      ends = λ k l. refl;
-      releases = λ k l. refl;
-    }
+    -- a line of one access, and of two
+    one_known : (c : ℕ) (m : Mode) → c < 9 → list_any (λ i. nat_le (length ls) i) (on_lines on) || list_any (access_unknown (lined ls)) (access c 0 m ∷ []) ≡ false
+    one_known c m h = both_false (list_any (λ i. nat_le (length ls) i) (on_lines on)) _ (on_known (length ls) on b) (both_false (access_unknown (lined ls) (access c 0 m)) false (unknown_not ls m c h) refl)
 
-    pub iota_fits : (c v : ℕ) → c < 9 → v < 65536 → NextFits ls (Task (Iota c 0 v)) on
-    iota_fits c v h k = record {
-      fresh = refl;
-      apart = refl;
-      known = both_false (list_any (λ i. nat_le (length ls) i) (on_lines on)) _ (on_known (length ls) on b) (both_false (access_unknown (lined ls) (access c 0 Write)) false (unknown_not ls Write c h) refl);
-      like = refl;
-      bare = refl;
-      counted = refl;
-      within = both_false (access_outside (lined ls) (access c 0 Write)) false (outside_not ls Write c h) refl;
-      early = refl;
-      few = refl;
-      words = within_sixty _ _ (size_cons (codes "task") _ 4 _ (lit≤ tt) (size_cons (codes "iota") _ 4 _ (lit≤ tt) (size_cons (column_name (lined ls) c) _ 5 _ (column_size ls c h) (size_cons (codes "s") _ 1 _ (lit≤ tt) (size_cons (decimal v) _ 5 10 (value_size v k) on_rest))))) (lit≤ tt);
-      few_edges = edges_few ls (Task (Iota c 0 v)) on (lit≤ tt);
-      values = omega arith;
-      ends = λ k l. refl;
-      releases = λ k l. refl;
-    }
-
-    pub expect_fits : (c : ℕ) → c < 9 → NextFits ls (Task (Expect c 0 0 60000)) on
-    expect_fits c h = record {
-      fresh = refl;
-      apart = refl;
-      known = both_false (list_any (λ i. nat_le (length ls) i) (on_lines on)) _ (on_known (length ls) on b) (both_false (access_unknown (lined ls) (access c 0 Read)) false (unknown_not ls Read c h) refl);
-      like = refl;
-      bare = refl;
-      counted = refl;
-      within = both_false (access_outside (lined ls) (access c 0 Read)) false (outside_not ls Read c h) refl;
-      early = refl;
-      few = refl;
-      words = within_sixty _ _ (size_cons (codes "task") _ 4 _ (lit≤ tt) (size_cons (codes "expect") _ 6 _ (lit≤ tt) (size_cons (column_name (lined ls) c) _ 5 _ (column_size ls c h) (size_cons (codes "s") _ 1 _ (lit≤ tt)
-          (size_cons (decimal 0) _ 5 _ (value_size 0 (lit< tt)) (size_cons (decimal 60000) _ 5 10 (value_size 60000 (lit< tt)) on_rest)))))) (lit≤ tt);
-      few_edges = edges_few ls (Task (Expect c 0 0 60000)) on (lit≤ tt);
-      values = (lit< tt, lit< tt);
-      ends = λ k l. refl;
-      releases = λ k l. refl;
-    }
+    one_within : (c : ℕ) (m : Mode) → c < 9 → list_any (access_outside (lined ls)) (access c 0 m ∷ []) ≡ false
+    one_within c m h = both_false (access_outside (lined ls) (access c 0 m)) false (outside_not ls m c h) refl
 
     two_known : (a d : ℕ) (m : Mode) → a < 9 → d < 9 → list_any (λ i. nat_le (length ls) i) (on_lines on) || list_any (access_unknown (lined ls)) (access a 0 Read ∷ access d 0 m ∷ []) ≡ false
     two_known a d m h k = both_false (list_any (λ i. nat_le (length ls) i) (on_lines on)) _ (on_known (length ls) on b)
@@ -145,59 +105,36 @@ module _ (ls : List Line) (st : Standing ls) (few : length ls ≤ 8192) where
     two_apart : (a d : ℕ) → a ≢ d → (nat_eq a d || false) || (false || false) ≡ false
     two_apart a d ne = both_false (nat_eq a d || false) (false || false) (both_false (nat_eq a d) false (equal_not a d ne) refl) refl
 
+    pub fill_fits : (c v : ℕ) → c < 9 → v < 65536 → NextFits ls (Fill c 0 v) on
+    fill_fits c v h k = fits_by ls (Fill c 0 v) on refl refl (one_known c Write h) (one_within c Write h)
+        (within_sixty _ _ (size_cons (codes "fill") _ 4 _ (lit≤ tt) (size_cons (column_name (lined ls) c) _ 5 _ (column_size ls c h) (size_cons (codes "s") _ 1 _ (lit≤ tt) (size_cons (decimal v) _ 5 10 (value_size v k) on_rest)))) (lit≤ tt))
+        (edges_few ls (Fill c 0 v) on (lit≤ tt)) (omega arith) (λ k l. refl)
+
+    pub iota_fits : (c v : ℕ) → c < 9 → v < 65536 → NextFits ls (Task (Iota c 0 v)) on
+    iota_fits c v h k = fits_by ls (Task (Iota c 0 v)) on refl refl (one_known c Write h) (one_within c Write h)
+        (within_sixty _ _ (size_cons (codes "task") _ 4 _ (lit≤ tt) (size_cons (codes "iota") _ 4 _ (lit≤ tt) (size_cons (column_name (lined ls) c) _ 5 _ (column_size ls c h) (size_cons (codes "s") _ 1 _ (lit≤ tt) (size_cons (decimal v) _ 5 10 (value_size v k) on_rest))))) (lit≤ tt))
+        (edges_few ls (Task (Iota c 0 v)) on (lit≤ tt)) (omega arith) (λ k l. refl)
+
+    pub expect_fits : (c : ℕ) → c < 9 → NextFits ls (Task (Expect c 0 0 60000)) on
+    expect_fits c h = fits_by ls (Task (Expect c 0 0 60000)) on refl refl (one_known c Read h) (one_within c Read h)
+        (within_sixty _ _ (size_cons (codes "task") _ 4 _ (lit≤ tt) (size_cons (codes "expect") _ 6 _ (lit≤ tt) (size_cons (column_name (lined ls) c) _ 5 _ (column_size ls c h) (size_cons (codes "s") _ 1 _ (lit≤ tt)
+        (size_cons (decimal 0) _ 5 _ (value_size 0 (lit< tt)) (size_cons (decimal 60000) _ 5 10 (value_size 60000 (lit< tt)) on_rest)))))) (lit≤ tt))
+        (edges_few ls (Task (Expect c 0 0 60000)) on (lit≤ tt)) (lit< tt, lit< tt) (λ k l. refl)
+
     pub copy_fits : (a d : ℕ) → a < 9 → d < 9 → a ≢ d → NextFits ls (Copy a d 0) on
-    copy_fits a d h k ne = record {
-      fresh = refl;
-      apart = two_apart a d ne;
-      known = two_known a d Write h k;
-      like = refl;
-      bare = refl;
-      counted = refl;
-      within = two_within a d Write h k;
-      early = refl;
-      few = refl;
-      words = within_sixty _ _ (size_cons (codes "copy") _ 4 _ (lit≤ tt) (size_cons (column_name (lined ls) a) _ 5 _ (column_size ls a h) (size_cons (column_name (lined ls) d) _ 5 _ (column_size ls d k) (size_cons (codes "s") _ 1 10 (lit≤ tt) on_rest)))) (lit≤ tt);
-      few_edges = edges_few ls (Copy a d 0) on (lit≤ tt);
-      values = tt;
-      ends = λ k l. refl;
-      releases = λ k l. refl;
-    }
+    copy_fits a d h k ne = fits_by ls (Copy a d 0) on refl (two_apart a d ne) (two_known a d Write h k) (two_within a d Write h k)
+        (within_sixty _ _ (size_cons (codes "copy") _ 4 _ (lit≤ tt) (size_cons (column_name (lined ls) a) _ 5 _ (column_size ls a h) (size_cons (column_name (lined ls) d) _ 5 _ (column_size ls d k) (size_cons (codes "s") _ 1 10 (lit≤ tt) on_rest)))) (lit≤ tt))
+        (edges_few ls (Copy a d 0) on (lit≤ tt)) tt (λ k l. refl)
 
     pub sum_fits : (a d : ℕ) → a < 9 → d < 9 → a ≢ d → NextFits ls (Reduce op.Sum a d 0) on
-    sum_fits a d h k ne = record {
-      fresh = refl;
-      apart = two_apart a d ne;
-      known = two_known a d Sum h k;
-      like = refl;
-      bare = refl;
-      counted = refl;
-      within = two_within a d Sum h k;
-      early = refl;
-      few = refl;
-      words = within_sixty _ _ (size_cons (codes "reduce") _ 6 _ (lit≤ tt) (size_cons (codes "sum") _ 3 _ (lit≤ tt) (size_cons (column_name (lined ls) a) _ 5 _ (column_size ls a h) (size_cons (column_name (lined ls) d) _ 5 _ (column_size ls d k) (size_cons (codes "s") _ 1 10 (lit≤ tt) on_rest))))) (lit≤ tt);
-      few_edges = edges_few ls (Reduce op.Sum a d 0) on (lit≤ tt);
-      values = tt;
-      ends = λ k l. refl;
-      releases = λ k l. refl;
-    }
+    sum_fits a d h k ne = fits_by ls (Reduce op.Sum a d 0) on refl (two_apart a d ne) (two_known a d Sum h k) (two_within a d Sum h k)
+        (within_sixty _ _ (size_cons (codes "reduce") _ 6 _ (lit≤ tt) (size_cons (codes "sum") _ 3 _ (lit≤ tt) (size_cons (column_name (lined ls) a) _ 5 _ (column_size ls a h) (size_cons (column_name (lined ls) d) _ 5 _ (column_size ls d k) (size_cons (codes "s") _ 1 10 (lit≤ tt) on_rest))))) (lit≤ tt))
+        (edges_few ls (Reduce op.Sum a d 0) on (lit≤ tt)) tt (λ k l. refl)
 
     pub acquire_fits : NextFits ls (Acquire 0) on
-    acquire_fits = record {
-      fresh = refl;
-      apart = refl;
-      known = both_false (list_any (λ i. nat_le (length ls) i) (on_lines on)) false (on_known (length ls) on b) refl;
-      like = refl;
-      bare = refl;
-      counted = refl;
-      within = refl;
-      early = refl;
-      few = refl;
-      words = within_sixty _ _ (size_cons (codes "acquire") _ 7 _ (lit≤ tt) (size_cons (codes "l") _ 1 10 (lit≤ tt) on_rest)) (lit≤ tt);
-      few_edges = edges_few ls (Acquire 0) on (lit≤ tt);
-      values = tt;
-      ends = λ k l. refl;
-      releases = λ k l. refl;
-    }
+    acquire_fits = fits_by ls (Acquire 0) on refl refl (both_false (list_any (λ i. nat_le (length ls) i) (on_lines on)) false (on_known (length ls) on b) refl) refl
+        (within_sixty _ _ (size_cons (codes "acquire") _ 7 _ (lit≤ tt) (size_cons (codes "l") _ 1 10 (lit≤ tt) on_rest)) (lit≤ tt))
+        (edges_few ls (Acquire 0) on (lit≤ tt)) tt (λ k l. refl)
 
     -- the user event or the acquire that a line names stands, and no other line ended or released it
     module _ (u : ℕ) (stands : u < length ls) where
@@ -205,114 +142,34 @@ module _ (ls : List Line) (st : Standing ls) (few : length ls ≤ 8192) where
       named_known = both_false (nat_le (length ls) u || list_any (λ i. nat_le (length ls) i) (on_lines on)) false (both_false (nat_le (length ls) u) (list_any (λ i. nat_le (length ls) i) (on_lines on)) (at_most_not (length ls) u stands) (on_known (length ls) on b)) refl
 
       pub trigger_fits : list_any (λ (l : Line). ends_user u l.verb) ls ≡ false → option_map_or is_user (option_map (λ (l : Line). l.verb) (slice_get ls u)) false ≡ true → NextFits ls (Trigger u) on
-      trigger_fits fresh user = record {
-        fresh = fresh;
-        apart = refl;
-        known = named_known;
-        like = ap not user;
-        bare = refl;
-        counted = refl;
-        within = refl;
-        early = refl;
-        few = refl;
-        words = within_sixty _ _ (size_cons (codes "trigger") _ 7 _ (lit≤ tt) (size_cons (line_name (lined ls) u) _ 6 10 (name_size ls u st stands few) on_rest)) (lit≤ tt);
-        few_edges = edges_few ls (Trigger u) on (lit≤ tt);
-        values = tt;
-        ends = λ k l. equal_not u k (omega arith);
-        releases = λ k l. refl;
-      }
+      trigger_fits fresh user = fits_by ls (Trigger u) on (both_false _ _ fresh (both_false _ false (ap not user) refl)) refl named_known refl
+          (within_sixty _ _ (size_cons (codes "trigger") _ 7 _ (lit≤ tt) (size_cons (line_name (lined ls) u) _ 6 10 (name_size ls u st stands few) on_rest)) (lit≤ tt))
+          (edges_few ls (Trigger u) on (lit≤ tt)) tt (λ k l. both_false (nat_eq u k) false (equal_not u k (omega arith)) refl)
 
       pub release_fits : list_any (λ (l : Line). is_release_of u l.verb) ls ≡ false → option_map_or is_acquire (option_map (λ (l : Line). l.verb) (slice_get ls u)) false ≡ true → NextFits ls (Release u) on
-      release_fits fresh acquire = record {
-        fresh = fresh;
-        apart = refl;
-        known = named_known;
-        like = ap not acquire;
-        bare = refl;
-        counted = refl;
-        within = refl;
-        early = refl;
-        few = refl;
-        words = within_sixty _ _ (size_cons (codes "release") _ 7 _ (lit≤ tt) (size_cons (line_name (lined ls) u) _ 6 10 (name_size ls u st stands few) on_rest)) (lit≤ tt);
-        few_edges = edges_few ls (Release u) on (lit≤ tt);
-        values = tt;
-        ends = λ k l. refl;
-        releases = λ k l. equal_not u k (omega arith);
-      }
+      release_fits fresh acquire = fits_by ls (Release u) on (both_false _ _ fresh (both_false _ false (ap not acquire) refl)) refl named_known refl
+          (within_sixty _ _ (size_cons (codes "release") _ 7 _ (lit≤ tt) (size_cons (line_name (lined ls) u) _ 6 10 (name_size ls u st stands few) on_rest)) (lit≤ tt))
+          (edges_few ls (Release u) on (lit≤ tt)) tt (λ k l. equal_not u k (omega arith))
 
   pub user_fits : NextFits ls User None
-  user_fits = record {
-    fresh = refl;
-    apart = refl;
-    known = refl;
-    like = refl;
-    bare = refl;
-    counted = refl;
-    within = refl;
-    early = refl;
-    few = refl;
-    words = within_sixty _ _ (size_cons (codes "user") [] 4 0 (lit≤ tt) size_none) (lit≤ tt);
-    few_edges = edges_few ls User None (lit≤ tt);
-    values = tt;
-    ends = λ k l. refl;
-    releases = λ k l. refl;
-  }
+  user_fits = fits_by ls User None refl refl refl refl (within_sixty _ _ (size_cons (codes "user") [] 4 0 (lit≤ tt) size_none) (lit≤ tt)) (edges_few ls User None (lit≤ tt)) tt (λ k l. refl)
 
   -- merges of one line, and of two that differ
   module _ (e : ℕ) (h : e < length ls) where
-    one_known : (nat_le (length ls) e || false) || false ≡ false
-    one_known = both_false (nat_le (length ls) e || false) false (both_false (nat_le (length ls) e) false (at_most_not (length ls) e h) refl) refl
+    alone_known : (nat_le (length ls) e || false) || false ≡ false
+    alone_known = both_false (nat_le (length ls) e || false) false (both_false (nat_le (length ls) e) false (at_most_not (length ls) e h) refl) refl
 
     pub settle_fits : NextFits ls (MergeIgnore (e ∷ [])) None
-    settle_fits = record {
-      fresh = refl;
-      apart = refl;
-      known = one_known;
-      like = refl;
-      bare = refl;
-      counted = refl;
-      within = refl;
-      early = refl;
-      few = refl;
-      words = within_sixty _ _ (size_cons (codes "mergei") _ 6 _ (lit≤ tt) (size_cons (line_name (lined ls) e) [] 6 0 (name_size ls e st h few) size_none)) (lit≤ tt);
-      few_edges = edges_few ls (MergeIgnore (e ∷ [])) None (lit≤ tt);
-      values = tt;
-      ends = λ k l. refl;
-      releases = λ k l. refl;
-    }
+    settle_fits = fits_by ls (MergeIgnore (e ∷ [])) None refl refl alone_known refl
+        (within_sixty _ _ (size_cons (codes "mergei") _ 6 _ (lit≤ tt) (size_cons (line_name (lined ls) e) [] 6 0 (name_size ls e st h few) size_none)) (lit≤ tt))
+        (edges_few ls (MergeIgnore (e ∷ [])) None (lit≤ tt)) tt (λ k l. refl)
 
     pub one_fits : NextFits ls (Merge (e ∷ [])) None
-    one_fits = record {
-      fresh = refl;
-      apart = refl;
-      known = one_known;
-      like = refl;
-      bare = refl;
-      counted = refl;
-      within = refl;
-      early = refl;
-      few = refl;
-      words = within_sixty _ _ (size_cons (codes "merge") _ 5 _ (lit≤ tt) (size_cons (line_name (lined ls) e) [] 6 0 (name_size ls e st h few) size_none)) (lit≤ tt);
-      few_edges = edges_few ls (Merge (e ∷ [])) None (lit≤ tt);
-      values = tt;
-      ends = λ k l. refl;
-      releases = λ k l. refl;
-    }
+    one_fits = fits_by ls (Merge (e ∷ [])) None refl refl alone_known refl
+        (within_sixty _ _ (size_cons (codes "merge") _ 5 _ (lit≤ tt) (size_cons (line_name (lined ls) e) [] 6 0 (name_size ls e st h few) size_none)) (lit≤ tt))
+        (edges_few ls (Merge (e ∷ [])) None (lit≤ tt)) tt (λ k l. refl)
 
     pub two_fit : (f : ℕ) → f < length ls → nat_eq e f ≡ false → NextFits ls (Merge (e ∷ f ∷ [])) None
-    two_fit f k ne = record {
-      fresh = both_false (nat_eq e f || false) (false || false) (both_false (nat_eq e f) false ne refl) refl;
-      apart = refl;
-      known = both_false (nat_le (length ls) e || (nat_le (length ls) f || false)) false (both_false (nat_le (length ls) e) (nat_le (length ls) f || false) (at_most_not (length ls) e h) (both_false (nat_le (length ls) f) false (at_most_not (length ls) f k) refl)) refl;
-      like = refl;
-      bare = refl;
-      counted = refl;
-      within = refl;
-      early = refl;
-      few = refl;
-      words = within_sixty _ _ (size_cons (codes "merge") _ 5 _ (lit≤ tt) (size_cons (line_name (lined ls) e) _ 6 _ (name_size ls e st h few) (size_cons (line_name (lined ls) f) [] 6 0 (name_size ls f st k few) size_none))) (lit≤ tt);
-      few_edges = lit≤ tt;
-      values = tt;
-      ends = λ k l. refl;
-      releases = λ k l. refl;
-    }
+    two_fit f k ne = fits_by ls (Merge (e ∷ f ∷ [])) None (both_false _ _ (both_false (nat_eq e f || false) (false || false) (both_false (nat_eq e f) false ne refl) refl) refl) refl
+        (both_false (nat_le (length ls) e || (nat_le (length ls) f || false)) false (both_false (nat_le (length ls) e) (nat_le (length ls) f || false) (at_most_not (length ls) e h) (both_false (nat_le (length ls) f) false (at_most_not (length ls) f k) refl)) refl) refl
+        (within_sixty _ _ (size_cons (codes "merge") _ 5 _ (lit≤ tt) (size_cons (line_name (lined ls) e) _ 6 _ (name_size ls e st h few) (size_cons (line_name (lined ls) f) [] 6 0 (name_size ls f st k few) size_none))) (lit≤ tt)) (lit≤ tt) tt (λ k l. refl)

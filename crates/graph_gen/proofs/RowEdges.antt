@@ -116,14 +116,10 @@ on_is (Some e) s c = elim (contains_cases e [] s c) [ inl x ↦ ap Some x | inr 
 
 -- each line that a row waits for is a last line
 pub source_is_last : (row : Row) (d : Draw) (lasts : List (Option ℕ)) (s : ℕ) → Contains (row_sources row d lasts) s → (c : ℕ) × (last_of lasts c ≡ Some s)
-source_is_last Fill d lasts s c = (d.column, on_is (last_of lasts d.column) s c)
-source_is_last Iota d lasts s c = (d.column, on_is (last_of lasts d.column) s c)
-source_is_last Expect d lasts s c = (d.column, on_is (last_of lasts d.column) s c)
 source_is_last Settle d lasts s c = elim (merged_is (last_of lasts d.column) None s c) [ inl e ↦ (d.column, e) | inr e ↦ absurd (none-some s e) ]
 source_is_last Copy d lasts s c = elim (merged_is (last_of lasts d.column) (last_of lasts d.other) s c) [ inl e ↦ (d.column, e) | inr e ↦ (d.other, e) ]
 source_is_last Sum d lasts s c = elim (merged_is (last_of lasts d.column) (last_of lasts d.other) s c) [ inl e ↦ (d.column, e) | inr e ↦ (d.other, e) ]
-source_is_last Event d lasts s c = (d.column, on_is (last_of lasts d.column) s c)
-source_is_last Section d lasts s c = (d.column, on_is (last_of lasts d.column) s c)
+source_is_last row d lasts s c = (d.column, on_is (last_of lasts d.column) s c)
 
 -- an edge of a row is from a last line, or between its lines
 pub row_edge_cases : (row : Row) (d : Draw) (lasts : List (Option ℕ)) (ls : List Line) (e : Edge) → Contains (edges_after ls (row_lines row d lasts (length ls))) e →

@@ -15,7 +15,7 @@ use Rattle.graph_model.specs.graph.Access.{verb_accesses}
 use Rattle.graph_model.specs.graph.Edges.{edge}
 use Rattle.basics.proofs.ListFacts.{contains_cases, contains_none, contains_here, contains_there}
 use Rattle.graph_gen.specs.declared.draw.Row.{Row}
-use Rattle.graph_gen.specs.declared.draw.Row.TheVariants.{Fill, Iota, Expect, Settle, Copy, Sum, Event, Section}
+use Rattle.graph_gen.specs.declared.draw.Row.TheVariants.{Fill, Settle, Copy, Sum, Event, Section}
 use Rattle.graph_gen.specs.declared.draw.Draw.{Draw}
 use Rattle.graph_gen.specs.MadeGraph.{row_lines}
 use Rattle.graph_gen.proofs.AddedLines.{verb_in, edges_in, got_new, verb_new, verb_old, edge_cases}
@@ -57,23 +57,11 @@ module _ (d : Draw) (column : d.column < 8) (other : d.other < 8) (lasts : List 
 
   waits_from : (row : Row) → n ≤ row_waits row n
   waits_from Fill = omega arith
-  waits_from Iota = omega arith
-  waits_from Expect = omega arith
-  waits_from Settle = omega arith
-  waits_from Copy = omega arith
-  waits_from Sum = omega arith
-  waits_from Event = omega arith
-  waits_from Section = omega arith
+  waits_from row = omega arith
 
   waits_below : (row : Row) → row_waits row n < n + length (lines row)
   waits_below Fill = omega arith
-  waits_below Iota = omega arith
-  waits_below Expect = omega arith
-  waits_below Settle = omega arith
-  waits_below Copy = omega arith
-  waits_below Sum = omega arith
-  waits_below Event = omega arith
-  waits_below Section = omega arith
+  waits_below row = omega arith
 
   -- what holds of an edge between lines of a row
   record IsInner (row : Row) (e : Edge) : Type 0 where
@@ -87,10 +75,6 @@ module _ (d : Draw) (column : d.column < 8) (other : d.other < 8) (lasts : List 
       subst (λ v. weight_by v i < weight (all row) j) (sym (verb_new ls (lines row) i k e)) (subst (λ v. weight_by (verb_in (lines row) k) i < weight_by v j) (sym (verb_new ls (lines row) j m f)) h)
 
   inner_all : (row : Row) → AllByRecursion (IsInner row) (inner_edges row n)
-  inner_all Fill = tt
-  inner_all Iota = tt
-  inner_all Expect = tt
-  inner_all Settle = tt
   inner_all Copy = (record { enters = omega arith; starts = omega arith; ends = omega arith; rises = rises_at Copy n (n + 1) 0 1 (omega arith) (omega arith) (omega arith) }, tt)
   inner_all Sum = (record { enters = omega arith; starts = omega arith; ends = omega arith; rises = rises_at Sum n (n + 1) 0 1 (omega arith) (omega arith) (omega arith) }, tt)
   inner_all Event = (record { enters = omega arith; starts = omega arith; ends = omega arith; rises = rises_at Event (n + 1) n 1 0 (omega arith) (omega arith) (omega arith) }, tt)
@@ -101,6 +85,7 @@ module _ (d : Draw) (column : d.column < 8) (other : d.other < 8) (lasts : List 
       (record { enters = omega arith; starts = omega arith; ends = omega arith; rises = rises_at Section (n + 2) (n + 3) 2 3 (omega arith) (omega arith) (omega arith) }, tt),
     ),
   )
+  inner_all row = tt
 
   is_inner : (row : Row) (e : Edge) → Contains (inner_edges row n) e → IsInner row e
   is_inner row e c = All-contains (IsInner row) (inner_edges row n) e (All-from_recursion (IsInner row) (inner_edges row n) (inner_all row)) c
@@ -163,38 +148,23 @@ module _ (d : Draw) (column : d.column < 8) (other : d.other < 8) (lasts : List 
   not_true b e h = true≢false (sym h ∙ e)
 
   row_acquires : (row : Row) (k l : ℕ) → option_map_or (is_acquire_of l) (verb_in (lines row) k) false ≡ true → Held (all row) (n + k)
-  row_acquires Fill k l h = absurd (not_true _ (none_at (is_acquire_of l) (lines Fill) refl k) h)
-  row_acquires Iota k l h = absurd (not_true _ (none_at (is_acquire_of l) (lines Iota) refl k) h)
-  row_acquires Expect k l h = absurd (not_true _ (none_at (is_acquire_of l) (lines Expect) refl k) h)
-  row_acquires Settle k l h = absurd (not_true _ (none_at (is_acquire_of l) (lines Settle) refl k) h)
-  row_acquires Copy k l h = absurd (not_true _ (none_at (is_acquire_of l) (lines Copy) refl k) h)
-  row_acquires Sum k l h = absurd (not_true _ (none_at (is_acquire_of l) (lines Sum) refl k) h)
-  row_acquires Event k l h = absurd (not_true _ (none_at (is_acquire_of l) (lines Event) refl k) h)
   row_acquires Section zero l h = subst (Held (all Section)) (let e : n ≡ n + 0 = omega arith in e) held
   row_acquires Section (suc k) l h = absurd (not_true _ (none_at (is_acquire_of l) (tail (lines Section)) refl k) h)
     where
       tail : List Line → List Line
       tail [] = []
       tail (x ∷ xs) = xs
+  row_acquires row k l h = absurd (not_true _ (none_at (is_acquire_of l) (lines row) refl k) h)
 
   row_releases : (row : Row) (k q : ℕ) → option_map_or (is_release_of q) (verb_in (lines row) k) false ≡ true → (n + k ≡ q + 3) × Held (all row) q
-  row_releases Fill k q h = absurd (not_true _ (none_at (is_release_of q) (lines Fill) refl k) h)
-  row_releases Iota k q h = absurd (not_true _ (none_at (is_release_of q) (lines Iota) refl k) h)
-  row_releases Expect k q h = absurd (not_true _ (none_at (is_release_of q) (lines Expect) refl k) h)
-  row_releases Settle k q h = absurd (not_true _ (none_at (is_release_of q) (lines Settle) refl k) h)
-  row_releases Copy k q h = absurd (not_true _ (none_at (is_release_of q) (lines Copy) refl k) h)
-  row_releases Sum k q h = absurd (not_true _ (none_at (is_release_of q) (lines Sum) refl k) h)
-  row_releases Event k q h = absurd (not_true _ (none_at (is_release_of q) (lines Event) refl k) h)
   row_releases Section zero q h = absurd (true≢false (sym h))
   row_releases Section (suc zero) q h = absurd (true≢false (sym h))
   row_releases Section (suc (suc zero)) q h = absurd (true≢false (sym h))
   row_releases Section (suc (suc (suc zero))) q h = let e : n ≡ q = eqb-true n q h in (omega arith, subst (Held (all Section)) e held)
   row_releases Section (suc (suc (suc (suc k)))) q h = absurd (true≢false (sym h))
+  row_releases row k q h = absurd (not_true _ (none_at (is_release_of q) (lines row) refl k) h)
 
   row_uses : (row : Row) (k : ℕ) (a : Access) → Contains (option_map_or verb_accesses (verb_in (lines row) k) []) a → (a.column < 8) ⊎ ((q : ℕ) × (n + k ≡ q + 1) × Held (all row) q)
-  row_uses Fill k a c = inl (few_at (lines Fill) ((column, tt), tt) k a c)
-  row_uses Iota k a c = inl (few_at (lines Iota) ((column, tt), tt) k a c)
-  row_uses Expect k a c = inl (few_at (lines Expect) ((column, tt), tt) k a c)
   row_uses Settle k a c = inl (few_at (lines Settle) (tt, tt) k a c)
   row_uses Copy k a c = inl (few_at (lines Copy) (tt, ((column, (other, tt)), tt)) k a c)
   row_uses Sum k a c = inl (few_at (lines Sum) (tt, ((column, (other, tt)), tt)) k a c)
@@ -204,18 +174,13 @@ module _ (d : Draw) (column : d.column < 8) (other : d.other < 8) (lasts : List 
   row_uses Section (suc (suc zero)) a c = absurd (contains_none a c)
   row_uses Section (suc (suc (suc zero))) a c = absurd (contains_none a c)
   row_uses Section (suc (suc (suc (suc k)))) a c = absurd (contains_none a c)
+  row_uses row k a c = inl (few_at (lines row) ((column, tt), tt) k a c)
 
   row_light : (row : Row) (k : ℕ) → k < length (lines row) → weight_by (verb_in (lines row) k) (n + k) < 2 * (n + length (lines row))
-  row_light Fill k h = weight_plain _ (n + k) (n + 1) (none_at is_user (lines Fill) refl k) (omega arith)
-  row_light Iota k h = weight_plain _ (n + k) (n + 1) (none_at is_user (lines Iota) refl k) (omega arith)
-  row_light Expect k h = weight_plain _ (n + k) (n + 1) (none_at is_user (lines Expect) refl k) (omega arith)
-  row_light Settle k h = weight_plain _ (n + k) (n + 1) (none_at is_user (lines Settle) refl k) (omega arith)
-  row_light Copy k h = weight_plain _ (n + k) (n + 2) (none_at is_user (lines Copy) refl k) (omega arith)
-  row_light Sum k h = weight_plain _ (n + k) (n + 2) (none_at is_user (lines Sum) refl k) (omega arith)
   row_light Event zero h = omega arith
   row_light Event (suc zero) h = omega arith
   row_light Event (suc (suc k)) h = absurd (omega arith)
-  row_light Section k h = weight_plain _ (n + k) (n + 4) (none_at is_user (lines Section) refl k) (omega arith)
+  row_light row k h = weight_plain _ (n + k) (n + length (lines row)) (none_at is_user (lines row) refl k) (omega arith)
 
   -- the lines of each row keep the shape
   pub row_shape : (row : Row) → NewLines ls (lines row)

@@ -63,14 +63,11 @@ abbrev pub LastsStand : List (Option ℕ) → ℕ → Type 0
 LastsStand lasts n = (c : ℕ) → Before n (last_of lasts c)
 
 pub row_size : (row : Row) (d : Draw) (lasts : List (Option ℕ)) (left n : ℕ) → is_open row d lasts left ≡ true → 1 ≤ left → (1 ≤ length (row_lines row d lasts n)) × (length (row_lines row d lasts n) ≤ left)
-row_size Fill d lasts left n h k = (lit≤ tt, k)
-row_size Iota d lasts left n h k = (lit≤ tt, k)
-row_size Expect d lasts left n h k = (lit≤ tt, k)
-row_size Settle d lasts left n h k = (lit≤ tt, k)
 row_size Copy d lasts left n h k = (lit≤ tt, leb-true 2 left (and_parts (is_some (last_of lasts d.other)) (nat_le 2 left) (and_parts (is_some (last_of lasts d.column)) _ (and_parts (not (d.column == d.other)) _ h).1).1).1)
 row_size Sum d lasts left n h k = (lit≤ tt, leb-true 2 left (and_parts (is_some (last_of lasts d.other)) (nat_le 2 left) (and_parts (is_some (last_of lasts d.column)) _ (and_parts (not (d.column == d.other)) _ h).1).1).1)
 row_size Event d lasts left n h k = (lit≤ tt, leb-true 2 left h)
 row_size Section d lasts left n h k = (lit≤ tt, leb-true 4 left h)
+row_size row d lasts left n h k = (lit≤ tt, k)
 
 module _ (d : Draw) (column : d.column < 8) (other : d.other < 8) (value : d.value < 65536) (lasts : List (Option ℕ)) (ls : List Line) (st : Standing ls) (stand : LastsStand lasts (length ls)) where
   abbrev n : ℕ

@@ -4,7 +4,7 @@ use Rattle.std.specs.Prelude.{Option, None, nat_eq, nat_lt, is_some, slice_get}
 use Rattle.std.specs.Option.{option_map_or}
 use Rattle.std.specs.List.{list_any}
 use Rattle.std.specs.Str.{bytes_eq}
-use Rattle.std.proofs.lemmas.Bool.{false_from_ne_true, ltb-true}
+use Rattle.std.proofs.lemmas.Bool.{false_from_ne_true, ltb-true, or_parts}
 use Rattle.std.proofs.lemmas.List.Folds.{list_any-append}
 use Rattle.std.proofs.lemmas.List.Sums.{sum_by-cons}
 use Rattle.graph_model.specs.declared.graph.verb.Access.{Access}
@@ -65,22 +65,20 @@ pub record Standing (ls : List Line) : Type 0 where
 pub record Sized (ws : List (List ℕ)) (n : ℕ) : Type 0 where
   pub size : words_size ws ≤ n
 
+-- what may be said against a line besides its name, its columns and the lines that it names
+abbrev pub against : List Line → Verb → Option ℕ → Bool
+against ls v on = verb_repeats (lined ls) v || (verb_unlike (lined ls) v || ((takes_no_on v && is_some on) || (verb_misnumbered v || (arrives_late (lined ls) v || merges_many v))))
+
 -- what holds of a line that may come next
 pub record NextFits (ls : List Line) (v : Verb) (on : Option ℕ) : Type 0 where
-  pub fresh : verb_repeats (lined ls) v ≡ false
+  pub clear : against ls v on ≡ false
   pub apart : repeats nat_eq (map (λ (a : Access). a.column) (verb_accesses v)) ≡ false
   pub known : line_unknown (lined ls) (made_line 0 v on) ≡ false
-  pub like : verb_unlike (lined ls) v ≡ false
-  pub bare : (takes_no_on v && is_some on) ≡ false
-  pub counted : verb_misnumbered v ≡ false
   pub within : list_any (access_outside (lined ls)) (verb_accesses v) ≡ false
-  pub early : arrives_late (lined ls) v ≡ false
-  pub few : merges_many v ≡ false
   pub words : Sized (verb_words (lined ls) v ++ on_words (lined ls) on) 60
   pub few_edges : length (line_edges ls (made_line 0 v on)) ≤ 2
   pub values : IsVerb v
-  pub ends : (k : ℕ) → length ls < k → ends_user k v ≡ false
-  pub releases : (k : ℕ) → length ls < k → is_release_of k v ≡ false
+  pub ends_none_later : (k : ℕ) → length ls < k → (ends_user k v || is_release_of k v) ≡ false
 
 words_cons : (w : List ℕ) (ws : List (List ℕ)) → words_size (w ∷ ws) ≡ (length w + 1) + words_size ws
 words_cons w ws = sum_by-cons (λ (x : List ℕ). length x + 1) w ws
@@ -149,8 +147,8 @@ module _ (ls : List Line) (n : ℕ) (v : Verb) (on : Option ℕ) (count : length
   pub next_stands : Standing (ls ++ next ∷ [])
   next_stands = record {
     numbered = numbered_push 0 ls next st.numbered (ap made_name (let e : n ≡ 0 + length ls = omega arith in e));
-    ended = λ k b. list_any-append (λ (l : Line). ends_user k l.verb) ls (next ∷ []) ∙ both_false (list_any (λ (l : Line). ends_user k l.verb) ls) (ends_user k v || false) (st.ended k (omega (arith, longer))) (both_false (ends_user k v) false (fits.ends k (omega (arith, longer))) refl);
-    released = λ k b. list_any-append (λ (l : Line). is_release_of k l.verb) ls (next ∷ []) ∙ both_false (list_any (λ (l : Line). is_release_of k l.verb) ls) (is_release_of k v || false) (st.released k (omega (arith, longer))) (both_false (is_release_of k v) false (fits.releases k (omega (arith, longer))) refl);
+    ended = λ k b. list_any-append (λ (l : Line). ends_user k l.verb) ls (next ∷ []) ∙ both_false (list_any (λ (l : Line). ends_user k l.verb) ls) (ends_user k v || false) (st.ended k (omega (arith, longer))) (both_false (ends_user k v) false (or_parts (ends_user k v) (is_release_of k v) (fits.ends_none_later k (omega (arith, longer)))).0 refl);
+    released = λ k b. list_any-append (λ (l : Line). is_release_of k l.verb) ls (next ∷ []) ∙ both_false (list_any (λ (l : Line). is_release_of k l.verb) ls) (is_release_of k v || false) (st.released k (omega (arith, longer))) (both_false (is_release_of k v) false (or_parts (ends_user k v) (is_release_of k v) (fits.ends_none_later k (omega (arith, longer)))).1 refl);
     text = text_more;
     few_edges = edges_more;
   }
@@ -167,10 +165,15 @@ module _ (ls : List Line) (n : ℕ) (v : Verb) (on : Option ℕ) (count : length
 
   pub next_faultless : line_fault (lined ls) next ≡ None
   next_faultless =
+      let repeated = or_parts (verb_repeats (lined ls) v) _ fits.clear in
+      let unlike = or_parts (verb_unlike (lined ls) v) _ repeated.1 in
+      let bare = or_parts (takes_no_on v && is_some on) _ unlike.1 in
+      let counted = or_parts (verb_misnumbered v) _ bare.1 in
+      let late = or_parts (arrives_late (lined ls) v) (merges_many v) counted.1 in
       seven_false (is_used (lined ls) (made_name n) || (verb_repeats (lined ls) v || repeats nat_eq (map (λ (a : Access). a.column) (verb_accesses v)))) (line_unknown (lined ls) next) (verb_unlike (lined ls) v || (takes_no_on v && is_some on)) (verb_misnumbered v)
       (list_any (access_outside (lined ls)) (verb_accesses v)) (arrives_late (lined ls) v) (merges_many v || is_beyond (with_line (lined ls) next))
-      (both_false (is_used (lined ls) (made_name n)) (verb_repeats (lined ls) v || repeats nat_eq (map (λ (a : Access). a.column) (verb_accesses v))) unused_name (both_false (verb_repeats (lined ls) v) (repeats nat_eq (map (λ (a : Access). a.column) (verb_accesses v))) fits.fresh fits.apart))
-      fits.known (both_false (verb_unlike (lined ls) v) (takes_no_on v && is_some on) fits.like fits.bare) fits.counted fits.within fits.early (both_false (merges_many v) (is_beyond (with_line (lined ls) next)) fits.few beyond_not)
+      (both_false (is_used (lined ls) (made_name n)) (verb_repeats (lined ls) v || repeats nat_eq (map (λ (a : Access). a.column) (verb_accesses v))) unused_name (both_false (verb_repeats (lined ls) v) (repeats nat_eq (map (λ (a : Access). a.column) (verb_accesses v))) repeated.0 fits.apart))
+      fits.known (both_false (verb_unlike (lined ls) v) (takes_no_on v && is_some on) unlike.0 bare.0) counted.0 fits.within late.0 (both_false (merges_many v) (is_beyond (with_line (lined ls) next)) late.1 beyond_not)
 
   next_is_line : IsLine next
   next_is_line = record { named = made_is_name n (omega arith); values = fits.values }

@@ -4,6 +4,7 @@ ghost use Rattle.std.specs.Prelude.{◌≡◌, ◌<◌, replicate, None, Some, s
 ghost use Rattle.graph_gen.specs.MadeGraph.{last_of, lasts_after};
 
 use crate::draw::{Draw, Row};
+use graph_model::limits::MAX_LINES;
 
 /// The last line of each of the eight columns, where there is one.
 #[derive(Clone, Copy)]
@@ -29,7 +30,7 @@ impl Lasts {
 
     /// The last lines after a row whose first line has this number.
     pub(crate) fn after(&self, row: Row, draw: &Draw, first: u32) -> Lasts
-        requires few { first < 8192 }
+        requires few { first < MAX_LINES }
         requires column { draw.now.column < 8 }
         requires other { draw.now.other < 8 }
         ensures { result.lines ≡ lasts_after row draw.now self.now.lines first }

@@ -9,6 +9,7 @@ use crate::draw::{Draw, next_state};
 use crate::lasts::Lasts;
 use crate::row::{row_lines, row_taken};
 use graph_model::graph::Graph;
+use graph_model::limits::MAX_LINES;
 use graph_model::verb::Line;
 use index_spaces::NoMemory;
 use std::alloc::Global;
@@ -23,7 +24,7 @@ struct Making {
 
 /// The generated graph of a seed and a size. `NoMemory` leaves nothing behind.
 pub fn make(alloc: Global, seed: u64, size: u32) -> Result<Graph, NoMemory>
-    requires size { (1 ≤ size) × (size ≤ 8192) }
+    requires size { (1 ≤ size) × (size ≤ MAX_LINES) }
     ensures graph { IfOk result (λ g. g ≡ made_graph seed size) }
 {
     let mut making = Making::new(alloc, seed)?;
@@ -49,7 +50,7 @@ impl Making {
 
     /// Makes a draw, and adds the lines of its row.
     fn draw(&mut self, alloc: Global, size: u32) -> Result<(), NoMemory>
-        requires size { size ≤ 8192 }
+        requires size { size ≤ MAX_LINES }
         requires left { length self.old.graph.lines < size }
         requires decls { self.old.graph.decls ≡ made_decls }
         requires made { (seed n : ℕ) × (seed < 2 ^ 64) × (made_of self.old ≡ after_draws seed size n) }

@@ -6,6 +6,7 @@ ghost use Rattle.graph_gen.specs.MadeGraph.{last_of, is_open, row_taken, merged,
 use crate::draw::{Draw, Row};
 use crate::lasts::Lasts;
 use crate::line::put_line;
+use graph_model::limits::MAX_LINES;
 use graph_model::lists::LineList;
 use graph_model::verb::{Kernel, Line, Verb};
 use index_spaces::{NoMemory, Op};
@@ -58,7 +59,7 @@ pub(crate) fn row_lines(
     lasts: &Lasts,
     first: u32,
 ) -> Result<Vec<Line>, NoMemory>
-    requires few { first < 8192 }
+    requires few { first < MAX_LINES }
     requires column { draw.now.column < 8 }
     requires other { draw.now.other < 8 }
     ensures { IfOk result (λ v. v.items ≡ row_lines row draw.now lasts.now.lines first) }
@@ -157,7 +158,7 @@ fn joined(
     other: Option<u32>,
     verb: Verb,
 ) -> Result<Vec<Line>, NoMemory>
-    requires { first < 8192 }
+    requires { first < MAX_LINES }
     ensures { IfOk result (λ v. v.items ≡ made_line first (Verb.Merge (merged last other)) None ∷ made_line (first + 1) verb
         (Some first) ∷ []) }
 {
@@ -169,7 +170,7 @@ fn joined(
 
 /// A user event, and its trigger on the last line.
 fn event(alloc: Global, first: u32, last: Option<u32>) -> Result<Vec<Line>, NoMemory>
-    requires { first < 8192 }
+    requires { first < MAX_LINES }
     ensures { IfOk result (λ v. v.items ≡ made_line first Verb.User None ∷ made_line (first + 1) (Verb.Trigger first) last ∷ []) }
 {
     let mut lines = one_line(alloc, first, Verb::User, None)?;
@@ -185,7 +186,7 @@ fn event(alloc: Global, first: u32, last: Option<u32>) -> Result<Vec<Line>, NoMe
 
 /// A section in which a column is added to the column of the sums.
 fn section(alloc: Global, first: u32, draw: &Draw, last: Option<u32>) -> Result<Vec<Line>, NoMemory>
-    requires { first < 8192 }
+    requires { first < MAX_LINES }
     ensures { IfOk result (λ v. v.items ≡ made_line first (Verb.Acquire 0) last
         ∷ made_line (first + 1) (Verb.Reduce Op.Sum draw.now.column 8 0) (Some first)
         ∷ made_line (first + 2) (Verb.MergeIgnore ((first + 1) ∷ [])) None

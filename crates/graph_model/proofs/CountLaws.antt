@@ -9,22 +9,22 @@ use Rattle.std.proofs.lemmas.List.{take_all}
 use Rattle.std.proofs.lemmas.List.Elements.{filter-append, filter_map-append}
 use Rattle.std.proofs.lemmas.List.Sums.{sum_by-append, sum_by-cons}
 use Rattle.index_spaces.specs.Space.{space_size, AscendAbove, IsSpace}
-use Rattle.graph_model.specs.declared.counts.Counts.{Counts}
-use Rattle.graph_model.specs.declared.decl.Decl.{Decl}
-use Rattle.graph_model.specs.declared.decl.Decl.TheVariants.{Space, Inst, Lock, Barrier}
-use Rattle.graph_model.specs.declared.verb.Access.{Access}
-use Rattle.graph_model.specs.declared.verb.Line.{Line}
-use Rattle.graph_model.specs.declared.verb.Verb.{Verb}
-use Rattle.graph_model.specs.declared.verb.Verb.TheVariants.{User, Trigger, Cancel, Merge, MergeIgnore, Phase, Arrive, Acquire, Release, Fill, Copy, Reduce, Task}
-use Rattle.graph_model.specs.declared.verb.Kernel.{Kernel}
-use Rattle.graph_model.specs.declared.verb.Kernel.TheVariants.{Iota, Axpy, Stencil, Scan, Hist, Dot, Expect, Gather}
-use Rattle.graph_model.specs.Graph.{GraphValue, ColumnInfo, BarrierInfo, space_of, columns_of, lock_of, barrier_of, named_spaces, columns, locks, barriers, space_at}
-use Rattle.graph_model.specs.declared.verb.Mode.TheVariants.{Read, Write, Sum}
-use Rattle.graph_model.specs.Access.{access, target_mode, kernel_accesses, verb_accesses}
-use Rattle.graph_model.specs.Edges.{edges, line_edges}
-use Rattle.graph_model.specs.Fits.{is_inst, cell_count, with_decl, with_line, access_unknown, verb_unknown, line_fault, LinesFit, IsGraph}
-use Rattle.graph_model.specs.Spelling.{spelled, space_name, column_name, decl_words, kernel_words, verb_words, on_words, line_words, header, decls_text, lines_text, head, comma_word, interval_word}
-use Rattle.graph_model.specs.Counts.{words_size, cells_of_decl, counts_of}
+use Rattle.graph_model.specs.declared.kept.counts.Counts.{Counts}
+use Rattle.graph_model.specs.declared.graph.decl.Decl.{Decl}
+use Rattle.graph_model.specs.declared.graph.decl.Decl.TheVariants.{Space, Inst, Lock, Barrier}
+use Rattle.graph_model.specs.declared.graph.verb.Access.{Access}
+use Rattle.graph_model.specs.declared.graph.verb.Line.{Line}
+use Rattle.graph_model.specs.declared.graph.verb.Verb.{Verb}
+use Rattle.graph_model.specs.declared.graph.verb.Verb.TheVariants.{Phase, Acquire, Fill, Copy, Reduce, Task}
+use Rattle.graph_model.specs.declared.graph.verb.Kernel.{Kernel}
+use Rattle.graph_model.specs.declared.graph.verb.Kernel.TheVariants.{Iota, Axpy, Stencil, Scan, Hist, Dot, Expect, Gather}
+use Rattle.graph_model.specs.graph.Graph.{GraphValue, ColumnInfo, BarrierInfo, space_of, columns_of, lock_of, barrier_of, named_spaces, columns, locks, barriers, space_at}
+use Rattle.graph_model.specs.declared.graph.verb.Mode.TheVariants.{Read, Write, Sum}
+use Rattle.graph_model.specs.graph.Access.{access, target_mode, kernel_accesses, verb_accesses}
+use Rattle.graph_model.specs.graph.Edges.{edges, line_edges}
+use Rattle.graph_model.specs.graph.Fits.{is_inst, cell_count, with_decl, with_line, access_unknown, verb_unknown, line_fault, LinesFit, IsGraph}
+use Rattle.graph_model.specs.graph.Spelling.{spelled, space_name, column_name, decl_words, kernel_words, verb_words, on_words, line_words, header, decls_text, lines_text, head, comma_word, interval_word}
+use Rattle.graph_model.specs.kept.Counts.{words_size, cells_of_decl, counts_of}
 use Rattle.graph_model.proofs.GraphFacts.{fits_known}
 use Rattle.graph_model.proofs.GraphPush.{head_with_line, decls_text_push}
 use Rattle.basics.proofs.ListFacts.{contains_here, contains_there}
@@ -57,7 +57,7 @@ comma_size (w ∷ ws) =
     omega arith
 
 -- an item of a list is there in a longer one
-get_before : {X : Type 0} (xs ys : List X) (k : ℕ) → k < length xs → slice_get (xs ++ ys) k ≡ slice_get xs k
+pub get_before : {X : Type 0} (xs ys : List X) (k : ℕ) → k < length xs → slice_get (xs ++ ys) k ≡ slice_get xs k
 get_before [] ys k h = absurd (omega arith)
 get_before (x ∷ xs) ys zero h = refl
 get_before (x ∷ xs) ys (suc k) h = get_before xs ys k (omega arith)
@@ -135,17 +135,10 @@ kernel_words_kept ds d ls (Gather x y z s t) h =
     tail_same _ _ _ (cons_same _ _ _ _ e.0.0 (cons_same _ _ _ _ e.1.0.0 (cons_same _ _ _ _ e.1.1.0 (cons_same _ _ _ _ e.0.1 (cons_same _ _ _ _ e.1.0.1 refl)))))
 
 verb_words_kept : (ds : List Decl) (d : Decl) (ls : List Line) (v : Verb) → verb_unknown (of_items ds ls) v ≡ false → list_any (access_unknown (of_items ds ls)) (verb_accesses v) ≡ false → verb_words (of_items (ds ++ d ∷ []) ls) v ≡ verb_words (of_items ds ls) v
-verb_words_kept ds d ls User u h = refl
-verb_words_kept ds d ls (Trigger user) u h = refl
-verb_words_kept ds d ls (Cancel user) u h = refl
-verb_words_kept ds d ls (Merge events) u h = refl
-verb_words_kept ds d ls (MergeIgnore events) u h = refl
 verb_words_kept ds d ls (Phase b) u h =
     tail_same _ _ _ (cons_same _ _ _ _ (ap (λ (o : Option BarrierInfo). option_map_or (λ (x : BarrierInfo). x.name) o []) (barriers_before ds d ls b (leb-false (length (filter_map barrier_of ds)) b u))) refl)
-verb_words_kept ds d ls (Arrive phase value) u h = refl
 verb_words_kept ds d ls (Acquire l) u h =
     tail_same _ _ _ (cons_same _ _ _ _ (ap (λ (o : Option (List ℕ)). option_map_or (λ (x : List ℕ). x) o []) (locks_before ds d ls l (leb-false (length (filter_map lock_of ds)) l u))) refl)
-verb_words_kept ds d ls (Release acquire) u h = refl
 verb_words_kept ds d ls (Fill t s value) u h =
     let e = kept_one ds d ls (access t s Write) h in
     tail_same _ _ _ (cons_same _ _ _ _ e.0 (cons_same _ _ _ _ e.1 refl))
@@ -156,6 +149,7 @@ verb_words_kept ds d ls (Reduce op a b s) u h =
     let e = kept_two ds d ls (access a s Read) (access b s (target_mode op)) h in
     tail_same _ _ _ (tail_same _ _ _ (cons_same _ _ _ _ e.0.0 (cons_same _ _ _ _ e.1.0 (cons_same _ _ _ _ e.0.1 refl))))
 verb_words_kept ds d ls (Task kernel) u h = tail_same _ _ _ (kernel_words_kept ds d ls kernel h)
+verb_words_kept ds d ls v u h = refl
 
 line_words_kept : (ds : List Decl) (d : Decl) (ls : List Line) (l : Line) → line_fault (of_items ds ls) l ≡ None → line_words (of_items (ds ++ d ∷ []) ls) l ≡ line_words (of_items ds ls) l
 line_words_kept ds d ls l h =
@@ -170,9 +164,7 @@ lines_text_kept ds d b (l ∷ ls) f =
 
 decl_words_lines : (ds : List Decl) (ls : List Line) (d : Decl) → decl_words (of_items ds []) d ≡ decl_words (of_items ds ls) d
 decl_words_lines ds ls (Space name space) = refl
-decl_words_lines ds ls (Inst name space fields) = refl
-decl_words_lines ds ls (Lock name) = refl
-decl_words_lines ds ls (Barrier name count op first) = refl
+decl_words_lines ds ls d = refl
 
 -- the text has one line more
 pub text_with_decl : (g : GraphValue) (d : Decl) → IsGraph g → length (head (with_decl g d)) ≡ length (head g) + length (spelled (decl_words g d))

@@ -3,18 +3,18 @@ use Rattle.std.proofs.Common.{◌≡◌, ℕ, zero, suc, ◌+◌, true, false, �
 use Rattle.std.specs.Prelude.{Contains, not, Some, None, is_some, slice_get, option_map}
 use Rattle.std.specs.List.{list_any}
 use Rattle.std.proofs.lemmas.Bool.{true≢false, and_from, or_parts, not-false}
-use Rattle.std.proofs.lemmas.Option.{none-some, same_Some, slice_get_within, get_or_from_slice_get}
+use Rattle.std.proofs.lemmas.Option.{none-some, same_Some}
 use Rattle.std.proofs.lemmas.List.Elements.{Contains-append_cases, Contains-append_left, Contains-append_right}
-use Rattle.graph_model.specs.declared.verb.Edge.{Edge}
-use Rattle.graph_model.specs.declared.verb.EdgeKind.TheVariants.{Passes}
-use Rattle.graph_model.specs.declared.verb.Line.{Line}
-use Rattle.graph_model.specs.declared.why.Why.TheVariants as why
-use Rattle.graph_model.specs.declared.verb.Verb.TheVariants.{User, Phase, Arrive}
-use Rattle.graph_model.specs.Graph.{GraphValue, verb_at, line_passes, is_user, is_phase, ends_user, never_comes}
-use Rattle.graph_model.specs.Edges.{edge, edges_from_some, verb_edges, line_edges, edges_after, edges}
-use Rattle.graph_model.specs.Path.{Path, HasPath, last, first}
+use Rattle.graph_model.specs.declared.graph.verb.Edge.{Edge}
+use Rattle.graph_model.specs.declared.graph.verb.EdgeKind.TheVariants.{Passes}
+use Rattle.graph_model.specs.declared.graph.verb.Line.{Line}
+use Rattle.graph_model.specs.declared.graph.why.Why.TheVariants as why
+use Rattle.graph_model.specs.declared.graph.verb.Verb.TheVariants.{User, Phase, Arrive}
+use Rattle.graph_model.specs.graph.Graph.{GraphValue, verb_at, line_passes, is_user, is_phase, ends_user, never_comes}
+use Rattle.graph_model.specs.graph.Edges.{edge, edges_from_some, verb_edges, line_edges, edges_after, edges}
+use Rattle.graph_model.specs.meaning.Path.{Path, HasPath, last, first}
 use Rattle.basics.proofs.ListFacts.{got_behind, got_in, contains_none, contains_here, passes_some}
-use Rattle.graph_model.specs.Fits.{line_fault, line_tests, takes_no_on, verb_unlike, LinesFit, IsGraph}
+use Rattle.graph_model.specs.graph.Fits.{line_fault, line_tests, takes_no_on, verb_unlike, LinesFit, IsGraph}
 use Rattle.graph_model.proofs.GraphFacts.{none_first}
 use Rattle.graph_model.proofs.VerbFacts.{passes_verb, verb_passes, verb_line, user_is, phase_is, never_as, from_some_to, from_some_has, verb_edge_to}
 

@@ -6,41 +6,24 @@ use Rattle.std.specs.List.{list_any, list_all}
 use Rattle.std.proofs.lemmas.Bool.{true≢false, or_parts}
 use Rattle.index_spaces.specs.Laws.{PointsAreListed}
 use Rattle.index_spaces.specs.Space.{has_point, points, IsWithin}
-use Rattle.graph_model.specs.declared.verb.Access.{Access}
-use Rattle.graph_model.specs.declared.verb.Kernel.{Kernel}
-use Rattle.graph_model.specs.declared.verb.Kernel.TheVariants.{Iota, Axpy, Stencil, Scan, Hist, Dot, Expect, Gather}
-use Rattle.graph_model.specs.declared.verb.Verb.{Verb}
-use Rattle.graph_model.specs.declared.verb.Verb.TheVariants.{User, Trigger, Cancel, Merge, MergeIgnore, Phase, Arrive, Acquire, Release, Fill, Copy, Reduce, Task}
-use Rattle.graph_model.specs.Graph.{GraphValue, space_at, column_space, verb_at, is_phase, line_passes, arrivals, barrier_count, never_comes, never_comes_as}
-use Rattle.graph_model.specs.Access.{kernel_accesses, verb_accesses}
-use Rattle.graph_model.specs.Fits.{access_outside, phase_count, barrier_of_phase}
+use Rattle.graph_model.specs.declared.graph.verb.Access.{Access}
+use Rattle.graph_model.specs.declared.graph.verb.Kernel.{Kernel}
+use Rattle.graph_model.specs.declared.graph.verb.Kernel.TheVariants.{Iota}
+use Rattle.graph_model.specs.declared.graph.verb.Verb.{Verb}
+use Rattle.graph_model.specs.declared.graph.verb.Verb.TheVariants.{Phase, Task}
+use Rattle.graph_model.specs.graph.Graph.{GraphValue, space_at, column_space, verb_at, is_phase, line_passes, arrivals, barrier_count, never_comes, never_comes_as}
+use Rattle.graph_model.specs.graph.Access.{kernel_accesses, verb_accesses}
+use Rattle.graph_model.specs.graph.Fits.{access_outside, phase_count, barrier_of_phase}
 use Rattle.basics.proofs.ListFacts.{contains_here, contains_there, passes_each}
 
 -- a line has three accesses at most
 few_kernel : (k : Kernel) → length (kernel_accesses k) ≤ 3
 few_kernel (Iota x s value) = omega arith
-few_kernel (Axpy x y s factor) = omega arith
-few_kernel (Stencil x y r s) = omega arith
-few_kernel (Scan x y s) = omega arith
-few_kernel (Hist x y s t) = omega arith
-few_kernel (Dot x y z s t) = omega arith
-few_kernel (Expect x s low high) = omega arith
-few_kernel (Gather x y z s t) = omega arith
+few_kernel k = omega arith
 
 pub few_accesses : (v : Verb) → length (verb_accesses v) ≤ 3
-few_accesses User = omega arith
-few_accesses (Trigger u) = omega arith
-few_accesses (Cancel u) = omega arith
-few_accesses (Merge es) = omega arith
-few_accesses (MergeIgnore es) = omega arith
-few_accesses (Phase b) = omega arith
-few_accesses (Arrive p v) = omega arith
-few_accesses (Acquire l) = omega arith
-few_accesses (Release q) = omega arith
-few_accesses (Fill t s v) = omega arith
-few_accesses (Copy a b s) = omega arith
-few_accesses (Reduce o a b s) = omega arith
 few_accesses (Task k) = few_kernel k
+few_accesses v = omega arith
 
 -- a test of three elements at most, one after another
 abbrev pub passes_at : {X : Type 0} → (X → Bool) → List X → ℕ → Bool
@@ -86,22 +69,11 @@ outside_is l g a b w = ap not (within_by l (space_at g a.space) (column_space g 
 
 -- a phase has as many arrivals as it takes where it comes
 late_by : (g : GraphValue) (p : ℕ) (v : Verb) → is_phase v ≡ true → not (never_comes_as g p v) ≡ nat_le (barrier_count g (barrier_of_phase v)) (arrivals g p)
-late_by g p User e = absurd (true≢false (sym e))
-late_by g p (Trigger u) e = absurd (true≢false (sym e))
-late_by g p (Cancel u) e = absurd (true≢false (sym e))
-late_by g p (Merge es) e = absurd (true≢false (sym e))
-late_by g p (MergeIgnore es) e = absurd (true≢false (sym e))
 late_by g p (Phase b) e = not_below (arrivals g p) (barrier_count g b)
   where
     not_below : (m n : ℕ) → not (nat_lt m n) ≡ nat_le n m
     not_below m n = search rules
-late_by g p (Arrive q v) e = absurd (true≢false (sym e))
-late_by g p (Acquire l) e = absurd (true≢false (sym e))
-late_by g p (Release q) e = absurd (true≢false (sym e))
-late_by g p (Fill t s v) e = absurd (true≢false (sym e))
-late_by g p (Copy a b s) e = absurd (true≢false (sym e))
-late_by g p (Reduce o a b s) e = absurd (true≢false (sym e))
-late_by g p (Task k) e = absurd (true≢false (sym e))
+late_by g p v e = absurd (true≢false (sym e))
 
 late_at : (g : GraphValue) (p : ℕ) (o : Option Verb) → option_map_or is_phase o false ≡ true → not (option_map_or (never_comes_as g p) o false) ≡ nat_le (option_map_or (λ v. barrier_count g (barrier_of_phase v)) o 0) (arrivals g p)
 late_at g p None e = absurd (true≢false (sym e))

@@ -7,20 +7,20 @@ use Rattle.std.proofs.lemmas.Bool.{true≢false, or_parts, false_from_ne_true, l
 use Rattle.std.proofs.lemmas.Option.{none-some, same_Some, slice_get-get_or}
 use Rattle.std.proofs.lemmas.List.Elements.{Contains-append_left, Contains-append_right, Contains-append_cases, Contains-get_or}
 use Rattle.index_spaces.specs.Space.{points, interval_points, space_size, IsSpace}
-use Rattle.graph_model.specs.declared.decl.Decl.{Decl}
-use Rattle.graph_model.specs.declared.decl.Decl.TheVariants.{Space, Inst, Lock, Barrier}
-use Rattle.graph_model.specs.declared.verb.Edge.{Edge}
-use Rattle.graph_model.specs.declared.verb.EdgeKind.{EdgeKind}
-use Rattle.graph_model.specs.declared.verb.EdgeKind.TheVariants.{Passes, Ignores, Faults}
-use Rattle.graph_model.specs.declared.verb.Line.{Line}
-use Rattle.graph_model.specs.declared.why.Why.{Why}
-use Rattle.graph_model.specs.declared.why.Why.TheVariants as why
-use Rattle.graph_model.specs.declared.verb.Verb.{Verb}
-use Rattle.graph_model.specs.declared.verb.Verb.TheVariants.{User, Trigger, Cancel, Merge, MergeIgnore, Phase, Arrive, Acquire, Release, Fill, Copy, Reduce, Task}
-use Rattle.graph_model.specs.Graph.{GraphValue, is_phase_of, space_of, named_spaces, space_at}
-use Rattle.graph_model.specs.Access.{accesses, verb_accesses}
-use Rattle.graph_model.specs.Edges.{edge, last_place, edges_from_some, verb_edges, line_edges, edges_after, edges}
-use Rattle.graph_model.specs.Fits.{first_reason, line_tests, line_fault, line_unknown, named_lines, on_lines, access_unknown, DeclsFit, LinesFit, IsGraph}
+use Rattle.graph_model.specs.declared.graph.decl.Decl.{Decl}
+use Rattle.graph_model.specs.declared.graph.decl.Decl.TheVariants.{Space, Inst, Lock, Barrier}
+use Rattle.graph_model.specs.declared.graph.verb.Edge.{Edge}
+use Rattle.graph_model.specs.declared.graph.verb.EdgeKind.{EdgeKind}
+use Rattle.graph_model.specs.declared.graph.verb.EdgeKind.TheVariants.{Passes, Ignores, Faults}
+use Rattle.graph_model.specs.declared.graph.verb.Line.{Line}
+use Rattle.graph_model.specs.declared.graph.why.Why.{Why}
+use Rattle.graph_model.specs.declared.graph.why.Why.TheVariants as why
+use Rattle.graph_model.specs.declared.graph.verb.Verb.{Verb}
+use Rattle.graph_model.specs.declared.graph.verb.Verb.TheVariants.{Trigger, Cancel, Merge, MergeIgnore, Phase, Arrive}
+use Rattle.graph_model.specs.graph.Graph.{GraphValue, is_phase_of, space_of, named_spaces, space_at}
+use Rattle.graph_model.specs.graph.Access.{accesses, verb_accesses}
+use Rattle.graph_model.specs.graph.Edges.{edge, last_place, edges_from_some, verb_edges, line_edges, edges_after, edges}
+use Rattle.graph_model.specs.graph.Fits.{first_reason, line_tests, line_fault, line_unknown, named_lines, on_lines, access_unknown, verb_unknown, DeclsFit, LinesFit, IsGraph}
 use Rattle.basics.proofs.ListFacts.{contains_none, contains_cases, contains_here, contains_from, passes_some, map_contains}
 use Rattle.graph_model.proofs.Changes.{HavePoints}
 
@@ -81,13 +81,7 @@ verb_ends before (Cancel u) h x c = one_edge (length before) (edge (length befor
 verb_ends before (Arrive p value) h x c = one_edge (length before) (edge (length before) p Passes) x (omega arith, h p (contains_here p [])) c
 verb_ends before (Phase b) h x c = some_edge (length before) Ignores (last_place (is_phase_of b) 0 before None) x
     (λ k e. elim (last_place_below (is_phase_of b) 0 before None k e) [ inl n ↦ absurd (none-some k n) | inr l ↦ (let b : k < 0 + length before = l in omega arith) ]) c
-verb_ends before User h x c = absurd (contains_none x c)
-verb_ends before (Acquire l) h x c = absurd (contains_none x c)
-verb_ends before (Release q) h x c = absurd (contains_none x c)
-verb_ends before (Fill t s v) h x c = absurd (contains_none x c)
-verb_ends before (Copy a b s) h x c = absurd (contains_none x c)
-verb_ends before (Reduce o a b s) h x c = absurd (contains_none x c)
-verb_ends before (Task kernel) h x c = absurd (contains_none x c)
+verb_ends before v h x c = absurd (contains_none x c)
 
 pub line_ends : (decls : List Decl) (before : List Line) (l : Line) → line_fault (record { decls = decls; lines = before }) l ≡ None → (x : Edge) → Contains (line_edges before l) x → EndsUpTo (length before) x
 line_ends decls before l h x c =
@@ -141,6 +135,14 @@ pub fit_at : (decls : List Decl) (before ls : List Line) → LinesFit decls befo
 fit_at decls before [] f k l h = absurd (none-some l h)
 fit_at decls before (m ∷ ls) f zero l h = (before, subst (λ x. line_fault (record { decls = decls; lines = before }) x ≡ None) (same_Some m l h) f.1)
 fit_at decls before (m ∷ ls) f (suc k) l h = fit_at decls (before ++ m ∷ []) ls f.2 k l h
+
+-- the barrier and the reservation that a line names are declared
+pub verb_known : (g : GraphValue) → IsGraph g → (i : ℕ) (l : Line) (v : Verb) → slice_get g.lines i ≡ Some l → l.verb ≡ v → (b : List Line) × (verb_unknown (record { decls = g.decls; lines = b }) v ≡ false)
+verb_known g f i l v at is =
+    let fit = fit_at g.decls [] g.lines f.lines i l at in
+    let parts = or_parts _ _ (fits_known (record { decls = g.decls; lines = fit.0 }) l fit.1) in
+    let more = or_parts _ _ parts.1 in
+    (fit.0, subst (λ w. verb_unknown (record { decls = g.decls; lines = fit.0 }) w ≡ false) is more.0)
 
 -- the space of each number is one
 pub space_is : (g : GraphValue) → IsGraph g → (s : ℕ) → s < length (named_spaces g) → IsSpace (space_at g s)

@@ -1,5 +1,5 @@
 -- Changes of one column, point by point.
-use Rattle.std.proofs.Common.{◌≡◌, ◌≢◌, ℕ, zero, suc, ◌+◌, ◌<◌, ◌≤◌, ◌==◌, Bool, true, false, cond, ◌&&◌, inl, inr, List, [], ◌∷◌, length, get_or, map, Option, Some, None, option_map, refl, sym, ◌∙◌, ap, arith}
+use Rattle.std.proofs.Common.{◌≡◌, ◌≢◌, ℕ, suc, ◌+◌, ◌<◌, ◌≤◌, ◌==◌, true, cond, inl, inr, List, [], ◌∷◌, length, get_or, map, Option, Some, None, option_map, refl, sym, ◌∙◌, ap, arith}
 use Rattle.std.specs.Prelude.{Contains}
 use Rattle.std.specs.List.Sorted.{IsStrictlyIncreasing}
 use Rattle.std.proofs.lemmas.Bool.{cases_eq, cases_Bool, eq-eqb, ne_eqb, and_from, and_left, and_right, cond-true, cond-false, false≢true}
@@ -7,12 +7,12 @@ use Rattle.std.proofs.lemmas.Option.{none-some, same_Some}
 use Rattle.std.proofs.lemmas.List.{length-map, get_or-map, get_or_default, same_lists}
 use Rattle.index_spaces.specs.Space.{has_point, points, space_size, rank, point_at, IsSpace}
 use Rattle.index_spaces.specs.Column.{ColumnValue, cell_of}
-use Rattle.index_spaces.specs.Held.{held_at, HoldsOtherwise}
+use Rattle.index_spaces.specs.Held.{held_at}
 use Rattle.index_spaces.specs.Laws.{PointsAreListed, PointsAscend, PointOfRank, RankOfPoint}
-use Rattle.graph_model.specs.Graph.{GraphValue, column_space}
-use Rattle.graph_model.specs.Effect.{Cells, Change, CellChange, cell_after, cell_after_if, cells_after_one, cells_after, changes_at}
-use Rattle.graph_model.specs.Evaluation.{column_of}
-use Rattle.graph_model.specs.HeldCells.{HasCells, MakesChanges, CellsByPoint, ChangesByPoint, ColumnsOfChanges}
+use Rattle.graph_model.specs.graph.Graph.{column_space}
+use Rattle.graph_model.specs.meaning.Effect.{Cells, Change, CellChange, cell_after, cell_after_if, cells_after_one, cells_after, changes_at}
+use Rattle.graph_model.specs.meaning.Evaluation.{column_of}
+use Rattle.graph_model.specs.meaning.HeldCells.{HasCells, CellsByPoint, ChangesByPoint, ColumnsOfChanges}
 use Rattle.basics.proofs.ListFacts.{contains_none, contains_cases, map_contains}
 use Rattle.graph_model.proofs.Changes.{Untouched, cells_after_untouched, map_agree}
 

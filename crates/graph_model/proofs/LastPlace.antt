@@ -3,9 +3,9 @@ use Rattle.std.proofs.Common.{◌≡◌, ℕ, suc, ◌+◌, ◌-◌, ◌<◌, �
 use Rattle.std.specs.Prelude.{Option, Some, None}
 use Rattle.std.proofs.lemmas.Bool.{cond-true, cond-false}
 use Rattle.std.proofs.lemmas.List.{take_more, length-take-le}
-use Rattle.graph_model.specs.declared.verb.Line.{Line}
-use Rattle.graph_model.specs.declared.verb.Verb.{Verb}
-use Rattle.graph_model.specs.Edges.{last_place}
+use Rattle.graph_model.specs.declared.graph.verb.Line.{Line}
+use Rattle.graph_model.specs.declared.graph.verb.Verb.{Verb}
+use Rattle.graph_model.specs.graph.Edges.{last_place}
 
 pub last_place_push : (test : Verb → Bool) (n : ℕ) (ls : List Line) (l : Line) (found : Option ℕ) → last_place test n (ls ++ l ∷ []) found ≡ cond (test l.verb) (Some (n + length ls)) (last_place test n ls found)
 last_place_push test n [] l found = ap (λ k. cond (test l.verb) (Some k) found) (let e : n ≡ n + 0 = omega arith in e)

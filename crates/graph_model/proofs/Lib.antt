@@ -1,5 +1,4 @@
-pub mod Examples
-pub mod ExampleRuns
+pub mod examples
 pub mod PathLaws
 pub mod ReadyLine
 pub mod Waiting
@@ -8,16 +7,13 @@ pub mod Races
 pub mod PathTable
 pub mod NeedTable
 pub mod NeedLaws
-pub mod ExampleRules
 pub mod Cancelled
 pub mod Changes
 pub mod Confluence
 pub mod GraphFacts
 pub mod GraphLaws
-pub mod ExampleGraphs
+pub mod FitsTable
 pub mod RulesTable
-pub mod ExampleAccepted
-pub mod ExampleOrder
 pub mod GraphPush
 pub mod TableLaws
 pub mod Naming
@@ -27,7 +23,6 @@ pub mod RowLaws
 pub mod RowReads
 pub mod CountLaws
 pub mod FaultLaws
-pub mod ExampleFaults
 pub mod OrderLaws
 pub mod LineFacts
 pub mod HeldCellsLaws

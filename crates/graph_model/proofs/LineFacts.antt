@@ -8,14 +8,14 @@ use Rattle.std.proofs.lemmas.Option.{none-some, same_Some, slice_get-get_or, sli
 use Rattle.std.proofs.lemmas.List.Elements.{Contains-get_or}
 use Rattle.index_spaces.specs.Space.{has_point, points, IsSpace, IsWithin}
 use Rattle.index_spaces.proofs.LawFacts.{points_are_listed}
-use Rattle.graph_model.specs.declared.verb.Access.{Access}
-use Rattle.graph_model.specs.declared.verb.Line.{Line}
-use Rattle.graph_model.specs.declared.verb.Verb.TheVariants.{Phase}
-use Rattle.graph_model.specs.Graph.{GraphValue, ColumnInfo, columns, column_space, named_spaces, space_at, barriers, verb_at}
-use Rattle.graph_model.specs.Access.{accesses, verb_accesses}
-use Rattle.graph_model.specs.Fits.{first_reason, line_tests, line_fault, access_unknown, access_outside, is_used, verb_repeats, repeats, IsGraph}
-use Rattle.graph_model.specs.declared.why.Why.TheVariants as why
-use Rattle.graph_model.specs.LineLaws.{AccessFits, AccessesFit, ColumnsDiffer, PhasesFit}
+use Rattle.graph_model.specs.declared.graph.verb.Access.{Access}
+use Rattle.graph_model.specs.declared.graph.verb.Line.{Line}
+use Rattle.graph_model.specs.declared.graph.verb.Verb.TheVariants.{Phase}
+use Rattle.graph_model.specs.graph.Graph.{GraphValue, ColumnInfo, columns, column_space, named_spaces, space_at, barriers}
+use Rattle.graph_model.specs.graph.Access.{verb_accesses}
+use Rattle.graph_model.specs.graph.Fits.{line_tests, line_fault, access_unknown, access_outside, is_used, verb_repeats, repeats, IsGraph}
+use Rattle.graph_model.specs.declared.graph.why.Why.TheVariants as why
+use Rattle.graph_model.specs.meaning.LineLaws.{AccessFits, AccessesFit, ColumnsDiffer, PhasesFit}
 use Rattle.basics.proofs.ListFacts.{contains_none, passes_some, passes_each}
 use Rattle.graph_model.proofs.GraphFacts.{fit_at, fits_known, none_first, spaces_are}
 use Rattle.graph_model.proofs.RowReads.{barrier_known}

@@ -3,8 +3,8 @@ use Rattle.std.proofs.Common.{◌≡◌, ℕ, ◌+◌, ◌<◌, ◌≤◌, inl, 
 use Rattle.std.specs.Prelude.{slice_index}
 use Rattle.std.proofs.lemmas.List.FromFn.{fill_by_all}
 use Rattle.basics.specs.Lists.{numbers_below}
-use Rattle.graph_model.specs.Graph.{GraphValue}
-use Rattle.graph_model.specs.Need.{IsHigh, IsNeed, open_at, largest}
+use Rattle.graph_model.specs.graph.Graph.{GraphValue}
+use Rattle.graph_model.specs.meaning.Need.{IsHigh, IsNeed, open_at, largest}
 
 high_up : (g : GraphValue) (i h k : ℕ) → IsHigh g i h → IsHigh g i k → h ≤ k
 high_up g i h k a b = elim a.attained.2 [

@@ -1,18 +1,18 @@
 -- The order of the evaluation lists the lines that end, each once and after its sources.
-use Rattle.std.proofs.Common.{◌≡◌, ℕ, zero, suc, ◌<◌, true, inl, inr, List, [], ◌∷◌, ◌++◌, length, map, refl, sym, ◌∙◌, ap, subst, arith}
+use Rattle.std.proofs.Common.{◌≡◌, ℕ, zero, suc, ◌<◌, true, inl, inr, List, [], ◌∷◌, length, map, refl, sym, ◌∙◌, ap, subst, arith}
 use Rattle.std.specs.Prelude.{Contains, Some, IsTrue, ◌==◌, slice_get, ◌↔◌}
 use Rattle.std.proofs.lemmas.Bool.{true≢false, eq-eqb, eqb-true, true_from_ne_false}
 use Rattle.std.proofs.lemmas.Option.{none-some, same_Some}
-use Rattle.graph_model.specs.declared.verb.Edge.{Edge}
-use Rattle.graph_model.specs.Graph.{GraphValue}
-use Rattle.graph_model.specs.Edges.{edges}
-use Rattle.graph_model.specs.Evaluation.{Step, has_ended, eval_end, is_ended, evaluation, order}
-use Rattle.basics.proofs.ListFacts.{got_contains, got_in, got_behind, contains_none, contains_cases, contains_here, contains_there, some_passes, passes_some, map_contains, contains_map}
+use Rattle.graph_model.specs.declared.graph.verb.Edge.{Edge}
+use Rattle.graph_model.specs.graph.Graph.{GraphValue}
+use Rattle.graph_model.specs.graph.Edges.{edges}
+use Rattle.graph_model.specs.meaning.Evaluation.{Step, has_ended, eval_end, is_ended, evaluation, order}
+use Rattle.basics.proofs.ListFacts.{got_contains, got_in, got_behind, contains_none, contains_cases, some_passes, passes_some, map_contains, contains_map}
 use Rattle.graph_model.proofs.Waiting.{end_in_left, end_in_ended, steps_end}
 use Rattle.graph_model.proofs.Turns.{turns_after}
 use Rattle.graph_model.proofs.Confluence.{Fresh, steps_fresh, order_round}
-use Rattle.graph_model.specs.Laws.{OrderListsEnded}
-use Rattle.graph_model.specs.Trace.{StandsBefore}
+use Rattle.graph_model.specs.meaning.Laws.{OrderListsEnded}
+use Rattle.graph_model.specs.meaning.Trace.{StandsBefore}
 
 -- the lines of steps
 abbrev lines_of : List Step → List ℕ

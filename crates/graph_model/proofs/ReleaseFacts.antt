@@ -5,28 +5,22 @@ use Rattle.std.specs.Option.{option_map_or}
 use Rattle.std.specs.List.{list_any}
 use Rattle.std.proofs.lemmas.Bool.{true≢false, or_parts, or_left, or_right, not-false, cases_order, leb-false}
 use Rattle.std.proofs.lemmas.Option.{none-some, same_Some}
-use Rattle.graph_model.specs.declared.decl.Decl.{Decl}
-use Rattle.graph_model.specs.declared.verb.Line.{Line}
-use Rattle.graph_model.specs.declared.verb.Verb.{Verb}
-use Rattle.graph_model.specs.declared.verb.Verb.TheVariants.{User, Trigger, Cancel, Merge, MergeIgnore, Phase, Arrive, Acquire, Release, Fill, Copy, Reduce, Task}
-use Rattle.graph_model.specs.Graph.{GraphValue, verb_at, line_passes, is_acquire, is_release_of, locks}
-use Rattle.graph_model.specs.Rules.{Acquires, Releases}
-use Rattle.graph_model.specs.declared.verb.Access.{Access}
-use Rattle.graph_model.specs.Access.{verb_accesses}
-use Rattle.graph_model.specs.Fits.{is_used, repeats, line_tests, line_fault, verb_repeats, verb_unlike, takes_no_on, LinesFit, IsGraph, verb_unknown}
-use Rattle.graph_model.proofs.GraphFacts.{none_first, fit_at, fits_known}
+use Rattle.graph_model.specs.declared.graph.decl.Decl.{Decl}
+use Rattle.graph_model.specs.declared.graph.verb.Line.{Line}
+use Rattle.graph_model.specs.declared.graph.verb.Verb.{Verb}
+use Rattle.graph_model.specs.declared.graph.verb.Verb.TheVariants.{Acquire, Release}
+use Rattle.graph_model.specs.graph.Graph.{GraphValue, verb_at, line_passes, is_acquire, is_release_of, locks}
+use Rattle.graph_model.specs.meaning.Rules.{Acquires, Releases}
+use Rattle.graph_model.specs.declared.graph.verb.Access.{Access}
+use Rattle.graph_model.specs.graph.Access.{verb_accesses}
+use Rattle.graph_model.specs.graph.Fits.{is_used, repeats, line_tests, line_fault, verb_repeats, verb_unlike, takes_no_on, LinesFit, IsGraph}
+use Rattle.graph_model.proofs.GraphFacts.{none_first, verb_known}
 use Rattle.graph_model.proofs.VerbFacts.{verb_line, acquire_is, release_is, is_acquire_from}
-use Rattle.graph_model.specs.declared.why.Why.TheVariants as why
+use Rattle.graph_model.specs.declared.graph.why.Why.TheVariants as why
 
 -- the reservation of an acquire is declared
 pub lock_known : (g : GraphValue) → IsGraph g → (i k : ℕ) (l : Line) → slice_get g.lines i ≡ Some l → l.verb ≡ Acquire k → k < length (locks g)
-lock_known g f i k l at is =
-    let fit = fit_at g.decls [] g.lines f.lines i l at in
-    let g' : GraphValue = record { decls = g.decls; lines = fit.0 } in
-    let parts = or_parts _ _ (fits_known g' l fit.1) in
-    let more = or_parts _ _ parts.1 in
-    let known : verb_unknown g' (Acquire k) ≡ false = subst (λ v. verb_unknown g' v ≡ false) is more.0 in
-    leb-false (length (locks g)) k known
+lock_known g f i k l at is = leb-false (length (locks g)) k (verb_known g f i l (Acquire k) at is).1
 
 -- the same for any line that acquires it
 pub acquired_lock_known : (g : GraphValue) → IsGraph g → (i k : ℕ) → Acquires g i k → k < length (locks g)
@@ -74,18 +68,7 @@ passes_before t (x ∷ b) more (suc i) h p = or_right (t x.verb) (list_any (λ (
 
 acquire_by : (v : Verb) → is_acquire v ≡ true → (l : ℕ) × (v ≡ Acquire l)
 acquire_by (Acquire l) h = (l, refl)
-acquire_by User h = absurd (true≢false (sym h))
-acquire_by (Trigger u) h = absurd (true≢false (sym h))
-acquire_by (Cancel u) h = absurd (true≢false (sym h))
-acquire_by (Merge es) h = absurd (true≢false (sym h))
-acquire_by (MergeIgnore es) h = absurd (true≢false (sym h))
-acquire_by (Phase b) h = absurd (true≢false (sym h))
-acquire_by (Arrive p v) h = absurd (true≢false (sym h))
-acquire_by (Release q) h = absurd (true≢false (sym h))
-acquire_by (Fill t s v) h = absurd (true≢false (sym h))
-acquire_by (Copy a b s) h = absurd (true≢false (sym h))
-acquire_by (Reduce o a b s) h = absurd (true≢false (sym h))
-acquire_by (Task k) h = absurd (true≢false (sym h))
+acquire_by v h = absurd (true≢false (sym h))
 
 some_acquire : (o : Option Verb) → option_map_or is_acquire o false ≡ true → (l : ℕ) × (o ≡ Some (Acquire l))
 some_acquire None h = absurd (true≢false (sym h))

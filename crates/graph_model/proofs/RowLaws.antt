@@ -5,17 +5,17 @@ use Rattle.std.specs.List.{list_any}
 use Rattle.std.proofs.lemmas.List.Elements.{filter-append, Contains-append_left}
 use Rattle.std.proofs.lemmas.List.Folds.{list_any-append}
 use Rattle.std.proofs.lemmas.List.Sums.{sum_by-append, sum_by-le}
-use Rattle.graph_model.specs.declared.decl.Decl.{Decl}
-use Rattle.graph_model.specs.declared.mark.Mark.{Mark}
-use Rattle.graph_model.specs.declared.side.Side.TheVariants.{From, To}
-use Rattle.graph_model.specs.declared.verb.Edge.{Edge}
-use Rattle.graph_model.specs.declared.verb.Line.{Line}
-use Rattle.graph_model.specs.declared.verb.Verb.{Verb}
-use Rattle.graph_model.specs.declared.verb.Verb.TheVariants.{User, Trigger, Cancel, Merge, MergeIgnore, Phase, Arrive, Acquire, Release, Fill, Copy, Reduce, Task}
-use Rattle.graph_model.specs.Graph.{GraphValue, ends_user, is_release_of, arrival_weight, arrivals}
-use Rattle.graph_model.specs.Edges.{line_edges, edges_after, edges, edges_into, edges_out_of}
-use Rattle.graph_model.specs.Fits.{named_lines, on_lines, line_fault, with_decl, with_line}
-use Rattle.graph_model.specs.Rows.{RowsValue, NamesBelow, EndsBelow, mark_after, mark_of, AddsRow, AreRowsOf}
+use Rattle.graph_model.specs.declared.graph.decl.Decl.{Decl}
+use Rattle.graph_model.specs.declared.kept.mark.Mark.{Mark}
+use Rattle.graph_model.specs.declared.kept.side.Side.TheVariants.{From, To}
+use Rattle.graph_model.specs.declared.graph.verb.Edge.{Edge}
+use Rattle.graph_model.specs.declared.graph.verb.Line.{Line}
+use Rattle.graph_model.specs.declared.graph.verb.Verb.{Verb}
+use Rattle.graph_model.specs.declared.graph.verb.Verb.TheVariants.{Trigger, Cancel, Arrive, Release}
+use Rattle.graph_model.specs.graph.Graph.{GraphValue, ends_user, is_release_of, arrival_weight, arrivals}
+use Rattle.graph_model.specs.graph.Edges.{line_edges, edges_after, edges, edges_into, edges_out_of}
+use Rattle.graph_model.specs.graph.Fits.{named_lines, on_lines, line_fault, with_decl, with_line}
+use Rattle.graph_model.specs.kept.Rows.{RowsValue, NamesBelow, EndsBelow, mark_after, mark_of, AddsRow, AreRowsOf}
 use Rattle.graph_model.proofs.GraphFacts.{line_ends, named_below}
 use Rattle.basics.proofs.ListFacts.{contains_here}
 
@@ -79,19 +79,11 @@ pub to_below : (g : GraphValue) (l : Line) → line_fault g l ≡ None → EndsB
 to_below g l h = record { below = λ e c. (let b : e.to ≤ length g.lines = (line_ends g.decls g.lines l h e c).1 in omega arith) }
 
 names_below_by : (v : Verb) (n : ℕ) → ((k : ℕ) → Contains (named_lines v) k → k < n) → NamesBelow n v
-names_below_by User n h = tt
 names_below_by (Trigger u) n h = h u (contains_here u [])
 names_below_by (Cancel u) n h = h u (contains_here u [])
-names_below_by (Merge es) n h = tt
-names_below_by (MergeIgnore es) n h = tt
-names_below_by (Phase b) n h = tt
 names_below_by (Arrive p v) n h = h p (contains_here p [])
-names_below_by (Acquire l) n h = tt
 names_below_by (Release q) n h = h q (contains_here q [])
-names_below_by (Fill t s v) n h = tt
-names_below_by (Copy a b s) n h = tt
-names_below_by (Reduce o a b s) n h = tt
-names_below_by (Task k) n h = tt
+names_below_by v n h = tt
 
 pub names_below : (g : GraphValue) (l : Line) → line_fault g l ≡ None → NamesBelow (length g.lines) l.verb
 names_below g l h = names_below_by l.verb (length g.lines) (λ k c. named_below g l h k (Contains-append_left (named_lines l.verb) (on_lines l.on) k c))
@@ -101,19 +93,8 @@ one_or_none true = omega arith
 one_or_none false = omega arith
 
 weight_few : (p : ℕ) (v : Verb) → arrival_weight p v ≤ 1
-weight_few p User = omega arith
-weight_few p (Trigger u) = omega arith
-weight_few p (Cancel u) = omega arith
-weight_few p (Merge es) = omega arith
-weight_few p (MergeIgnore es) = omega arith
-weight_few p (Phase b) = omega arith
 weight_few p (Arrive q v) = one_or_none (q == p)
-weight_few p (Acquire l) = omega arith
-weight_few p (Release q) = omega arith
-weight_few p (Fill t s v) = omega arith
-weight_few p (Copy a b s) = omega arith
-weight_few p (Reduce o a b s) = omega arith
-weight_few p (Task k) = omega arith
+weight_few p v = omega arith
 
 -- there are no more arrivals than lines
 pub few_arrivals : (p : ℕ) (ls : List Line) → sum_by (λ l. arrival_weight p l.verb) ls ≤ length ls

@@ -2,18 +2,18 @@
 use Rattle.std.proofs.Common.{◌≡◌, ℕ, ◌+◌, ◌^◌, ◌<◌, ◌≤◌, false, List, [], length, refl, sym, ◌∙◌, ap, subst, arith, get_or}
 use Rattle.std.specs.Prelude.{Option, Some, nat_lt, not, option_map, slice_get}
 use Rattle.std.specs.Option.{option_map_or}
-use Rattle.std.proofs.lemmas.Bool.{leb-false, or_parts}
+use Rattle.std.proofs.lemmas.Bool.{leb-false}
 use Rattle.std.proofs.lemmas.Option.{get_or_from_slice_get, slice_get_read}
-use Rattle.graph_model.specs.declared.mark.Mark.{Mark}
-use Rattle.graph_model.specs.declared.verb.Edge.{Edge}
-use Rattle.graph_model.specs.declared.verb.Line.{Line}
-use Rattle.graph_model.specs.declared.verb.Verb.{Verb}
-use Rattle.graph_model.specs.declared.verb.Verb.TheVariants.{User, Trigger, Cancel, Merge, MergeIgnore, Phase, Arrive, Acquire, Release, Fill, Copy, Reduce, Task}
-use Rattle.graph_model.specs.Graph.{GraphValue, BarrierInfo, barriers, barrier_count, verb_at, never_comes, never_comes_as}
-use Rattle.graph_model.specs.Edges.{edges_into, edges_out_of}
-use Rattle.graph_model.specs.Fits.{verb_unknown, IsGraph}
-use Rattle.graph_model.specs.Rows.{RowsValue, mark_at, mark_of, AreRowsOf}
-use Rattle.graph_model.proofs.GraphFacts.{fits_known, fit_at}
+use Rattle.graph_model.specs.declared.kept.mark.Mark.{Mark}
+use Rattle.graph_model.specs.declared.graph.verb.Edge.{Edge}
+use Rattle.graph_model.specs.declared.graph.verb.Line.{Line}
+use Rattle.graph_model.specs.declared.graph.verb.Verb.{Verb}
+use Rattle.graph_model.specs.declared.graph.verb.Verb.TheVariants.{User, Phase}
+use Rattle.graph_model.specs.graph.Graph.{GraphValue, BarrierInfo, barriers, barrier_count, verb_at, never_comes, never_comes_as}
+use Rattle.graph_model.specs.graph.Edges.{edges_into, edges_out_of}
+use Rattle.graph_model.specs.graph.Fits.{IsGraph}
+use Rattle.graph_model.specs.kept.Rows.{RowsValue, mark_at, mark_of, AreRowsOf}
+use Rattle.graph_model.proofs.GraphFacts.{verb_known}
 use Rattle.graph_model.proofs.RowLaws.{few_arrivals}
 
 -- a line of a graph has a row
@@ -44,13 +44,7 @@ never_of g i v e = ap (λ o. option_map_or (never_comes_as g i) o false) e
 
 -- the barrier of a phase is declared
 pub barrier_known : (g : GraphValue) → IsGraph g → (i b : ℕ) (l : Line) → slice_get g.lines i ≡ Some l → l.verb ≡ Phase b → b < length (barriers g)
-barrier_known g f i b l at is =
-    let fit = fit_at g.decls [] g.lines f.lines i l at in
-    let g' : GraphValue = record { decls = g.decls; lines = fit.0 } in
-    let parts = or_parts _ _ (fits_known g' l fit.1) in
-    let more = or_parts _ _ parts.1 in
-    let known : verb_unknown g' (Phase b) ≡ false = subst (λ v. verb_unknown g' v ≡ false) is more.0 in
-    leb-false (length (barriers g)) b known
+barrier_known g f i b l at is = leb-false (length (barriers g)) b (verb_known g f i l (Phase b) at is).1
 
 -- a line never comes by its verb and its mark
 pub never_user : (g now : GraphValue) (i : ℕ) (l : Line) (m : Mark) → g ≡ now → i < length now.lines → l ≡ get_or g.lines i l → l.verb ≡ User → m ≡ mark_of g i → not m.ended ≡ never_comes now i
@@ -67,18 +61,8 @@ never_phase g now i b l m info same h is v e at_b =
 
 comes_as : (g : GraphValue) (i : ℕ) (v : Verb) → (v ≡ User → ⊥) → ((b : ℕ) → v ≡ Phase b → ⊥) → never_comes_as g i v ≡ false
 comes_as g i User u p = absurd (u refl)
-comes_as g i (Trigger x) u p = refl
-comes_as g i (Cancel x) u p = refl
-comes_as g i (Merge es) u p = refl
-comes_as g i (MergeIgnore es) u p = refl
 comes_as g i (Phase b) u p = absurd (p b refl)
-comes_as g i (Arrive q v) u p = refl
-comes_as g i (Acquire l) u p = refl
-comes_as g i (Release q) u p = refl
-comes_as g i (Fill t s v) u p = refl
-comes_as g i (Copy a b s) u p = refl
-comes_as g i (Reduce o a b s) u p = refl
-comes_as g i (Task k) u p = refl
+comes_as g i v u p = refl
 
 pub never_other : (g now : GraphValue) (i : ℕ) (l : Line) → g ≡ now → i < length now.lines → l ≡ get_or g.lines i l → (l.verb ≡ User → ⊥) → ((b : ℕ) → l.verb ≡ Phase b → ⊥) → false ≡ never_comes now i
 never_other g now i l same h is u p = sym (never_of now i l.verb (verb_read g now i l same h is) ∙ comes_as now i l.verb u p)

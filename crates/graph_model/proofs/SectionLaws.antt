@@ -1,13 +1,13 @@
 -- In a lawful trace of an accepted graph the sections of one reservation never overlap.
-use Rattle.std.proofs.Common.{◌≡◌, ℕ, ◌<◌, inl, inr, List, refl, sym, subst, arith}
+use Rattle.std.proofs.Common.{◌≡◌, ℕ, ◌<◌, inl, inr, List, sym, subst, arith}
 use Rattle.std.specs.Prelude.{Contains}
 use Rattle.basics.proofs.ListFacts.{got_contains}
-use Rattle.graph_model.specs.Graph.{GraphValue}
-use Rattle.graph_model.specs.Edges.{edges}
-use Rattle.graph_model.specs.Path.{Path, last, first, HasPath}
-use Rattle.graph_model.specs.Rules.{Acquires, Releases, Accepted}
-use Rattle.graph_model.specs.Fits.{IsGraph}
-use Rattle.graph_model.specs.Trace.{StandsBefore, ListsEnded, IsLawful, HaveSections, SectionsApart}
+use Rattle.graph_model.specs.graph.Graph.{GraphValue}
+use Rattle.graph_model.specs.graph.Edges.{edges}
+use Rattle.graph_model.specs.meaning.Path.{Path, last, first, HasPath}
+use Rattle.graph_model.specs.meaning.Rules.{Releases, Accepted}
+use Rattle.graph_model.specs.graph.Fits.{IsGraph}
+use Rattle.graph_model.specs.meaning.Trace.{StandsBefore, ListsEnded, IsLawful, HaveSections, SectionsApart}
 use Rattle.graph_model.proofs.ReleaseFacts.{one_release}
 
 -- what stands before a line that stands before a third one stands before that one

@@ -5,13 +5,13 @@ use Rattle.std.proofs.lemmas.List.{take_more, same_lists, map-append, take-map, 
 use Rattle.std.proofs.Math.ListN.{get_or-map}
 use Rattle.std.proofs.Math.Seq.{take-append_seam}
 use Rattle.std.proofs.lemmas.List.Elements.{Contains-append_cases, filter-append}
-use Rattle.graph_model.specs.declared.verb.Edge.{Edge}
-use Rattle.graph_model.specs.declared.verb.EdgeKind.TheVariants.{Passes}
-use Rattle.graph_model.specs.declared.mark.Mark.{Mark}
-use Rattle.graph_model.specs.declared.side.Side.{Side}
-use Rattle.graph_model.specs.declared.side.Side.TheVariants.{From, To}
-use Rattle.graph_model.specs.declared.verb.Verb.{Verb}
-use Rattle.graph_model.specs.Rows.{Stock, edges_at, room_at, KeepsEdges, end_of, HasRoom, AddsEdge, AddsEdges, mark_at, fresh_mark, Marks, RowsValue, AddsRow}
+use Rattle.graph_model.specs.declared.graph.verb.Edge.{Edge}
+use Rattle.graph_model.specs.declared.graph.verb.EdgeKind.TheVariants.{Passes}
+use Rattle.graph_model.specs.declared.kept.mark.Mark.{Mark}
+use Rattle.graph_model.specs.declared.kept.side.Side.{Side}
+use Rattle.graph_model.specs.declared.kept.side.Side.TheVariants.{From, To}
+use Rattle.graph_model.specs.declared.graph.verb.Verb.{Verb}
+use Rattle.graph_model.specs.kept.Rows.{Stock, edges_at, room_at, KeepsEdges, end_of, HasRoom, AddsEdge, AddsEdges, mark_at, fresh_mark, Marks, RowsValue, AddsRow}
 use Rattle.basics.proofs.ListFacts.{contains_none, contains_cases, contains_there}
 
 -- what is read past the end of a list of edges

@@ -4,19 +4,19 @@ use Rattle.std.specs.Prelude.{Contains, filter, filter_map, flat_map, Option, So
 use Rattle.std.specs.List.{cons_option}
 use Rattle.std.specs.Option.{option_map_or}
 use Rattle.std.proofs.lemmas.Bool.{or_parts, ltb-false, leb-false}
-use Rattle.std.proofs.lemmas.Option.{none-some, same_Some, slice_get_within, get_or_from_slice_get, slice_get_read}
+use Rattle.std.proofs.lemmas.Option.{none-some, same_Some, slice_get_within, get_or_from_slice_get, slice_get_read, slice_get-get_or}
 use Rattle.std.proofs.lemmas.Grind.{flat_map-append}
 use Rattle.std.proofs.lemmas.List.{append-nil}
 use Rattle.std.proofs.lemmas.List.Elements.{filter_map-append, Contains-append_cases}
-use Rattle.graph_model.specs.declared.decl.Decl.{Decl}
-use Rattle.graph_model.specs.declared.decl.Decl.TheVariants.{Space, Inst, Lock, Barrier}
-use Rattle.graph_model.specs.declared.verb.Line.{Line}
-use Rattle.graph_model.specs.declared.why.Why.TheVariants as why
-use Rattle.graph_model.specs.Graph.{GraphValue, ColumnInfo, BarrierInfo, space_of, columns_of, lock_of, barrier_of, named_spaces, columns, locks, barriers, space_at}
-use Rattle.graph_model.specs.Fits.{is_inst, is_large, is_beyond, cell_count, merges_many, decl_unknown, decl_tests, decl_fault, line_tests, line_fault, with_decl, with_line, DeclsFit, IsGraph}
-use Rattle.graph_model.specs.Edges.{edges}
-use Rattle.graph_model.specs.Spelling.{head}
-use Rattle.graph_model.specs.Tables.{TablesValue, places_of, tables_of, tables_with, IsWithinLimits}
+use Rattle.graph_model.specs.declared.graph.decl.Decl.{Decl}
+use Rattle.graph_model.specs.declared.graph.decl.Decl.TheVariants.{Space, Inst, Lock, Barrier}
+use Rattle.graph_model.specs.declared.graph.verb.Line.{Line}
+use Rattle.graph_model.specs.declared.graph.why.Why.TheVariants as why
+use Rattle.graph_model.specs.graph.Graph.{GraphValue, ColumnInfo, BarrierInfo, space_of, columns_of, lock_of, barrier_of, named_spaces, columns, locks, barriers}
+use Rattle.graph_model.specs.graph.Fits.{is_inst, is_large, is_beyond, cell_count, merges_many, decl_unknown, decl_tests, decl_fault, line_tests, line_fault, with_decl, with_line, DeclsFit, IsGraph}
+use Rattle.graph_model.specs.graph.Edges.{edges}
+use Rattle.graph_model.specs.graph.Spelling.{head}
+use Rattle.graph_model.specs.kept.Tables.{TablesValue, places_of, tables_of, tables_with, IsWithinLimits}
 use Rattle.graph_model.proofs.GraphPush.{long_head}
 use Rattle.graph_model.proofs.GraphFacts.{none_first}
 use Rattle.basics.proofs.ListFacts.{contains_none, map_contains}
@@ -142,28 +142,35 @@ space_of_is (Inst name space fields) x e = absurd (none-some x e)
 space_of_is (Lock name) x e = absurd (none-some x e)
 space_of_is (Barrier name count op first) x e = absurd (none-some x e)
 
-pub space_place_below : (g : GraphValue) (t : TablesValue) → t ≡ tables_of g.decls → (s : ℕ) → s < length (named_spaces g) → (k : ℕ) → slice_get t.space_places s ≡ Some k → k < length g.decls
-space_place_below g t e s h k at =
-    let p = place_found space_of 0 g.decls s h in
-    let same : k ≡ 0 + p.place = same_Some k (0 + p.place) (sym at ∙ (ap (λ (x : TablesValue). slice_get x.space_places s) e ∙ p.listed)) in
-    let below : p.place < length g.decls = slice_get_within g.decls p.place p.item p.at in
-    omega arith
+module _ (g : GraphValue) (t : TablesValue) (tables : t ≡ tables_of g.decls) (s : ℕ) (known : s < length (named_spaces g)) where
+  pub space_listed : s < length t.space_places
+  space_listed = let count : length t.space_places ≡ length (named_spaces g) = ap (λ (x : TablesValue). length x.space_places) tables ∙ length-places space_of 0 g.decls in omega arith
 
-pub space_place_is : (g : GraphValue) (t : TablesValue) → t ≡ tables_of g.decls → (s : ℕ) → s < length (named_spaces g) → (k : ℕ) → slice_get t.space_places s ≡ Some k → (d : Decl) → slice_get g.decls k ≡ Some d → (name : List ℕ) × (d ≡ Space name (space_at g s)) × (option_map (λ (x : List ℕ × List (ℕ × ℕ)). x.0) (slice_get (named_spaces g) s) ≡ Some name)
-space_place_is g t e s h k at d got =
-    let p = place_found space_of 0 g.decls s h in
-    let same : k ≡ p.place = (let q : k ≡ 0 + p.place = same_Some k (0 + p.place) (sym at ∙ (ap (λ (x : TablesValue). slice_get x.space_places s) e ∙ p.listed)) in omega arith) in
-    let item : d ≡ p.item = same_Some d p.item (sym got ∙ (ap (λ i. slice_get g.decls i) same ∙ p.at)) in
-    let here : space_at g s ≡ p.value.1 = ap (λ (o : Option (List ℕ × List (ℕ × ℕ))). option_map_or (λ (y : List ℕ × List (ℕ × ℕ)). y.1) o []) p.found in
-    (p.value.0, item ∙ (space_of_is p.item p.value p.gives ∙ ap (λ z. Space p.value.0 z) (sym here)), ap (option_map (λ (x : List ℕ × List (ℕ × ℕ)). x.0)) p.found)
+  place_is : (p : IsPlace space_of 0 g.decls s) (k : ℕ) → slice_get t.space_places s ≡ Some k → k ≡ p.place
+  place_is p k at = let q : k ≡ 0 + p.place = same_Some k (0 + p.place) (sym at ∙ (ap (λ (x : TablesValue). slice_get x.space_places s) tables ∙ p.listed)) in omega arith
 
--- what is read there is that space
-pub space_read : (g now : GraphValue) (t : TablesValue) (s k : ℕ) (d : Decl) → g ≡ now → t ≡ tables_of g.decls → s < length (named_spaces now) → slice_get t.space_places s ≡ Some k → d ≡ get_or g.decls k d → (name : List ℕ) × (d ≡ Space name (space_at now s)) × (option_map (λ (x : List ℕ × List (ℕ × ℕ)). x.0) (slice_get (named_spaces now) s) ≡ Some name)
-space_read g now t s k d same e h at read =
-    let known : s < length (named_spaces g) = subst (λ (x : GraphValue). s < length (named_spaces x)) (sym same) h in
-    let got : slice_get g.decls k ≡ Some d = slice_get_read g.decls (length g.decls) k d refl (space_place_below g t e s known k at) read in
-    let is = space_place_is g t e s known k at d got in
-    (is.0, subst (λ (x : GraphValue). d ≡ Space is.0 (space_at x s)) same is.1, subst (λ (x : GraphValue). option_map (λ (y : List ℕ × List (ℕ × ℕ)). y.0) (slice_get (named_spaces x) s) ≡ Some is.0) same is.2)
+  pub space_place_below : (k : ℕ) → slice_get t.space_places s ≡ Some k → k < length g.decls
+  space_place_below k at =
+      let p = place_found space_of 0 g.decls s known in
+      let same = place_is p k at in
+      let below : p.place < length g.decls = slice_get_within g.decls p.place p.item p.at in
+      omega arith
+
+  -- what is read there gives that space
+  pub space_read : (k : ℕ) (d : Decl) → slice_get t.space_places s ≡ Some k → d ≡ get_or g.decls k d → space_of d ≡ slice_get (named_spaces g) s
+  space_read k d at read =
+      let p = place_found space_of 0 g.decls s known in
+      let got : slice_get g.decls k ≡ Some d = slice_get_read g.decls (length g.decls) k d refl (space_place_below k at) read in
+      ap space_of (same_Some d p.item (sym got ∙ (ap (λ i. slice_get g.decls i) (place_is p k at) ∙ p.at))) ∙ (p.gives ∙ sym p.found)
+
+-- a declaration that gives a space is that of a space
+pub space_decl_is : (xs : List (List ℕ × List (ℕ × ℕ))) (s : ℕ) (d : Decl) → s < length xs → space_of d ≡ slice_get xs s →
+    (name : List ℕ) × (d ≡ Space name (option_map_or (λ x. x.1) (slice_get xs s) [])) × (slice_get xs s ≡ Some (name, option_map_or (λ x. x.1) (slice_get xs s) []))
+space_decl_is xs s d known gives =
+    let x = get_or xs s ([], []) in
+    let at : slice_get xs s ≡ Some x = slice_get-get_or xs s ([], []) known in
+    let space : option_map_or (λ (y : List ℕ × List (ℕ × ℕ)). y.1) (slice_get xs s) [] ≡ x.1 = ap (λ (o : Option (List ℕ × List (ℕ × ℕ))). option_map_or (λ (y : List ℕ × List (ℕ × ℕ)). y.1) o []) at in
+    (x.0, space_of_is d x (gives ∙ at) ∙ ap (λ z. Space x.0 z) (sym space), at ∙ ap (λ z. Some (x.0, z)) (sym space))
 
 -- the space of a column is declared
 pub columns_known : (before ds : List Decl) → DeclsFit before ds → (x : ColumnInfo) → Contains (flat_map columns_of ds) x → x.space < length (filter_map space_of (before ++ ds))

@@ -3,49 +3,27 @@ use Rattle.std.proofs.Common.{◌≡◌, ℕ, ◌<◌, Bool, true, false, List, 
 use Rattle.std.specs.Prelude.{Option, Some, None, option_map, slice_get, Contains, ◌==◌}
 use Rattle.std.specs.Option.{option_map_or}
 use Rattle.std.proofs.lemmas.Bool.{true≢false, eq-eqb, eqb-true, not-true}
-use Rattle.graph_model.specs.declared.verb.Line.{Line}
-use Rattle.graph_model.specs.declared.verb.Verb.{Verb}
-use Rattle.graph_model.specs.declared.verb.Verb.TheVariants.{User, Trigger, Cancel, Merge, MergeIgnore, Phase, Arrive, Acquire, Release, Fill, Copy, Reduce, Task}
-use Rattle.graph_model.specs.Graph.{GraphValue, verb_at, line_passes, is_acquire_of, is_release_of, is_user, is_phase, is_phase_of, ends_user, never_comes_as}
-use Rattle.graph_model.specs.Rules.{Acquires, Releases}
+use Rattle.graph_model.specs.declared.graph.verb.Line.{Line}
+use Rattle.graph_model.specs.declared.graph.verb.Verb.{Verb}
+use Rattle.graph_model.specs.declared.graph.verb.Verb.TheVariants.{User, Trigger, Cancel, Merge, MergeIgnore, Phase, Arrive, Acquire, Release}
+use Rattle.graph_model.specs.graph.Graph.{GraphValue, verb_at, line_passes, is_acquire_of, is_release_of, is_user, is_phase, is_phase_of, ends_user, never_comes_as}
+use Rattle.graph_model.specs.meaning.Rules.{Acquires, Releases}
 use Rattle.std.specs.List.{list_any}
 use Rattle.std.proofs.lemmas.Option.{none-some, same_Some, slice_get_within}
-use Rattle.graph_model.specs.declared.verb.Edge.{Edge}
-use Rattle.graph_model.specs.declared.verb.EdgeKind.{EdgeKind}
-use Rattle.graph_model.specs.declared.verb.EdgeKind.TheVariants.{Passes, Ignores, Faults}
-use Rattle.graph_model.specs.Edges.{edge, last_place, edges_from_some, verb_edges}
-use Rattle.graph_model.specs.Evaluation.{arrival_value}
+use Rattle.graph_model.specs.declared.graph.verb.Edge.{Edge}
+use Rattle.graph_model.specs.declared.graph.verb.EdgeKind.{EdgeKind}
+use Rattle.graph_model.specs.declared.graph.verb.EdgeKind.TheVariants.{Passes, Ignores, Faults}
+use Rattle.graph_model.specs.graph.Edges.{edge, last_place, edges_from_some, verb_edges}
+use Rattle.graph_model.specs.meaning.Evaluation.{arrival_value}
 use Rattle.basics.proofs.ListFacts.{contains_none, contains_cases, map_contains}
 
 pub acquire_of_is : (l : ℕ) (v : Verb) → is_acquire_of l v ≡ true → v ≡ Acquire l
 acquire_of_is l (Acquire k) h = ap Acquire (eqb-true k l h)
-acquire_of_is l User h = absurd (true≢false (sym h))
-acquire_of_is l (Trigger u) h = absurd (true≢false (sym h))
-acquire_of_is l (Cancel u) h = absurd (true≢false (sym h))
-acquire_of_is l (Merge es) h = absurd (true≢false (sym h))
-acquire_of_is l (MergeIgnore es) h = absurd (true≢false (sym h))
-acquire_of_is l (Phase b) h = absurd (true≢false (sym h))
-acquire_of_is l (Arrive p v) h = absurd (true≢false (sym h))
-acquire_of_is l (Release q) h = absurd (true≢false (sym h))
-acquire_of_is l (Fill t s v) h = absurd (true≢false (sym h))
-acquire_of_is l (Copy a b s) h = absurd (true≢false (sym h))
-acquire_of_is l (Reduce o a b s) h = absurd (true≢false (sym h))
-acquire_of_is l (Task k) h = absurd (true≢false (sym h))
+acquire_of_is l v h = absurd (true≢false (sym h))
 
 pub release_of_is : (q : ℕ) (v : Verb) → is_release_of q v ≡ true → v ≡ Release q
 release_of_is q (Release k) h = ap Release (eqb-true k q h)
-release_of_is q User h = absurd (true≢false (sym h))
-release_of_is q (Trigger u) h = absurd (true≢false (sym h))
-release_of_is q (Cancel u) h = absurd (true≢false (sym h))
-release_of_is q (Merge es) h = absurd (true≢false (sym h))
-release_of_is q (MergeIgnore es) h = absurd (true≢false (sym h))
-release_of_is q (Phase b) h = absurd (true≢false (sym h))
-release_of_is q (Arrive p v) h = absurd (true≢false (sym h))
-release_of_is q (Acquire l) h = absurd (true≢false (sym h))
-release_of_is q (Fill t s v) h = absurd (true≢false (sym h))
-release_of_is q (Copy a b s) h = absurd (true≢false (sym h))
-release_of_is q (Reduce o a b s) h = absurd (true≢false (sym h))
-release_of_is q (Task k) h = absurd (true≢false (sym h))
+release_of_is q v h = absurd (true≢false (sym h))
 
 verb_is : (t : Verb → Bool) (w : Verb) → ((v : Verb) → t v ≡ true → v ≡ w) → (o : Option Verb) → option_map_or t o false ≡ true → o ≡ Some w
 verb_is t w f None h = absurd (true≢false (sym h))
@@ -105,84 +83,30 @@ acquire_one g q a b h l = acquire_same a b (same_Some (Acquire a) (Acquire b) (s
 -- a user event, a phase, an arrival
 pub user_is : (v : Verb) → is_user v ≡ true → v ≡ User
 user_is User h = refl
-user_is (Trigger k) h = absurd (true≢false (sym h))
-user_is (Cancel k) h = absurd (true≢false (sym h))
-user_is (Merge ks) h = absurd (true≢false (sym h))
-user_is (MergeIgnore ks) h = absurd (true≢false (sym h))
-user_is (Phase k) h = absurd (true≢false (sym h))
-user_is (Arrive k w) h = absurd (true≢false (sym h))
-user_is (Acquire k) h = absurd (true≢false (sym h))
-user_is (Release k) h = absurd (true≢false (sym h))
-user_is (Fill t s w) h = absurd (true≢false (sym h))
-user_is (Copy x y s) h = absurd (true≢false (sym h))
-user_is (Reduce o x y s) h = absurd (true≢false (sym h))
-user_is (Task k) h = absurd (true≢false (sym h))
+user_is v h = absurd (true≢false (sym h))
 
 pub phase_is : (v : Verb) → is_phase v ≡ true → (b : ℕ) × (v ≡ Phase b)
-phase_is User h = absurd (true≢false (sym h))
-phase_is (Trigger k) h = absurd (true≢false (sym h))
-phase_is (Cancel k) h = absurd (true≢false (sym h))
-phase_is (Merge ks) h = absurd (true≢false (sym h))
-phase_is (MergeIgnore ks) h = absurd (true≢false (sym h))
 phase_is (Phase k) h = (k, refl)
-phase_is (Arrive k w) h = absurd (true≢false (sym h))
-phase_is (Acquire k) h = absurd (true≢false (sym h))
-phase_is (Release k) h = absurd (true≢false (sym h))
-phase_is (Fill t s w) h = absurd (true≢false (sym h))
-phase_is (Copy x y s) h = absurd (true≢false (sym h))
-phase_is (Reduce o x y s) h = absurd (true≢false (sym h))
-phase_is (Task k) h = absurd (true≢false (sym h))
+phase_is v h = absurd (true≢false (sym h))
 
 pub arrival_is : (p : ℕ) (v : Verb) (n : ℕ) → arrival_value p v ≡ Some n → v ≡ Arrive p n
-arrival_is p User n h = absurd (none-some n h)
-arrival_is p (Trigger k) n h = absurd (none-some n h)
-arrival_is p (Cancel k) n h = absurd (none-some n h)
-arrival_is p (Merge ks) n h = absurd (none-some n h)
-arrival_is p (MergeIgnore ks) n h = absurd (none-some n h)
-arrival_is p (Phase k) n h = absurd (none-some n h)
 arrival_is p (Arrive k w) n h = arrival_cases k p w n (k == p) refl h
   where
     arrival_cases : (k p w n : ℕ) (b : Bool) → (k == p) ≡ b → cond b (Some w) None ≡ Some n → Arrive k w ≡ Arrive p n
     arrival_cases k p w n true e h = ap (λ z. Arrive z w) (eqb-true k p e) ∙ ap (Arrive p) (same_Some w n h)
     arrival_cases k p w n false e h = absurd (none-some n h)
-arrival_is p (Acquire k) n h = absurd (none-some n h)
-arrival_is p (Release k) n h = absurd (none-some n h)
-arrival_is p (Fill t s w) n h = absurd (none-some n h)
-arrival_is p (Copy x y s) n h = absurd (none-some n h)
-arrival_is p (Reduce o x y s) n h = absurd (none-some n h)
-arrival_is p (Task k) n h = absurd (none-some n h)
+arrival_is p v n h = absurd (none-some n h)
 
 -- whether a line acquires a reservation
 pub acquire_some : (v : Verb) → ((l : ℕ) × (v ≡ Acquire l)) ⊎ ((l : ℕ) → is_acquire_of l v ≡ true → ⊥)
-acquire_some User = inr (λ l h. true≢false (sym h))
-acquire_some (Trigger k) = inr (λ l h. true≢false (sym h))
-acquire_some (Cancel k) = inr (λ l h. true≢false (sym h))
-acquire_some (Merge ks) = inr (λ l h. true≢false (sym h))
-acquire_some (MergeIgnore ks) = inr (λ l h. true≢false (sym h))
-acquire_some (Phase k) = inr (λ l h. true≢false (sym h))
-acquire_some (Arrive k w) = inr (λ l h. true≢false (sym h))
 acquire_some (Acquire k) = inl (k, refl)
-acquire_some (Release k) = inr (λ l h. true≢false (sym h))
-acquire_some (Fill t s w) = inr (λ l h. true≢false (sym h))
-acquire_some (Copy x y s) = inr (λ l h. true≢false (sym h))
-acquire_some (Reduce o x y s) = inr (λ l h. true≢false (sym h))
-acquire_some (Task k) = inr (λ l h. true≢false (sym h))
+acquire_some v = inr (λ l h. true≢false (sym h))
 
 -- a line that never comes is a phase, or a user event that no line ends
 pub never_as : (g : GraphValue) (i : ℕ) (v : Verb) → never_comes_as g i v ≡ true → (is_phase v ≡ true) ⊎ ((v ≡ User) × (list_any (λ (l : Line). ends_user i l.verb) g.lines ≡ false))
 never_as g i User h = inr (refl, not-true _ h)
-never_as g i (Trigger k) h = absurd (true≢false (sym h))
-never_as g i (Cancel k) h = absurd (true≢false (sym h))
-never_as g i (Merge ks) h = absurd (true≢false (sym h))
-never_as g i (MergeIgnore ks) h = absurd (true≢false (sym h))
 never_as g i (Phase k) h = inl refl
-never_as g i (Arrive k w) h = absurd (true≢false (sym h))
-never_as g i (Acquire k) h = absurd (true≢false (sym h))
-never_as g i (Release k) h = absurd (true≢false (sym h))
-never_as g i (Fill t s w) h = absurd (true≢false (sym h))
-never_as g i (Copy x y s) h = absurd (true≢false (sym h))
-never_as g i (Reduce o x y s) h = absurd (true≢false (sym h))
-never_as g i (Task k) h = absurd (true≢false (sym h))
+never_as g i v h = absurd (true≢false (sym h))
 
 one_is : (x e : Edge) → Contains (x ∷ []) e → x ≡ e
 one_is x e c = elim (contains_cases x [] e c) [ inl s ↦ s | inr r ↦ absurd (contains_none e r) ]
@@ -197,16 +121,10 @@ from_some_has kind (Some k) n e c = (k, refl)
 
 -- where the edges lead that a line gives: to itself, which is no user event, to the user event that it ends, or to the phase at which it arrives
 pub verb_edge_to : (before : List Line) (v : Verb) (e : Edge) → Contains (verb_edges before (length before) v) e → ((e.to ≡ length before) × (is_user v ≡ false)) ⊎ ((ends_user e.to v ≡ true) ⊎ ((p w : ℕ) × (v ≡ Arrive p w) × (e.to ≡ p)))
-verb_edge_to before User e c = absurd (contains_none e c)
 verb_edge_to before (Trigger k) e c = inr (inl (let s = one_is (edge (length before) k Passes) e c in eq-eqb k e.to (ap (λ (x : Edge). x.to) s)))
 verb_edge_to before (Cancel k) e c = inr (inl (let s = one_is (edge (length before) k Faults) e c in eq-eqb k e.to (ap (λ (x : Edge). x.to) s)))
 verb_edge_to before (Merge ks) e c = inl (let m = map_contains (λ e. edge e (length before) Passes) ks e c in (sym (ap (λ (x : Edge). x.to) m.2), refl))
 verb_edge_to before (MergeIgnore ks) e c = inl (let m = map_contains (λ e. edge e (length before) Ignores) ks e c in (sym (ap (λ (x : Edge). x.to) m.2), refl))
 verb_edge_to before (Phase k) e c = inl (from_some_to Ignores (last_place (is_phase_of k) 0 before None) (length before) e c, refl)
 verb_edge_to before (Arrive k w) e c = inr (inr (k, w, refl, (let s = one_is (edge (length before) k Passes) e c in sym (ap (λ (x : Edge). x.to) s))))
-verb_edge_to before (Acquire k) e c = absurd (contains_none e c)
-verb_edge_to before (Release k) e c = absurd (contains_none e c)
-verb_edge_to before (Fill t s w) e c = absurd (contains_none e c)
-verb_edge_to before (Copy x y s) e c = absurd (contains_none e c)
-verb_edge_to before (Reduce o x y s) e c = absurd (contains_none e c)
-verb_edge_to before (Task k) e c = absurd (contains_none e c)
+verb_edge_to before v e c = absurd (contains_none e c)

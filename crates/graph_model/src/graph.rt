@@ -1,20 +1,32 @@
-//! Graphs.
+//! What a graph is: declarations and lines, and which items fit.
 
+pub(crate) mod access;
+pub mod decl;
+pub(crate) mod edges;
 mod faults;
+pub mod found;
+pub mod limits;
+pub mod lists;
+pub mod name;
 mod quantities;
+pub(crate) mod repeats;
 mod sizes;
+pub mod verb;
+pub mod why;
+pub(crate) mod words;
 
-use crate::access::verb_access;
-use crate::counts::Counts;
-use crate::decl::{BarrierInfo, Decl};
-use crate::edges::edges_of_line;
-use crate::found::Found;
-use crate::mark::Mark;
-use crate::name::Name;
-use crate::names::Names;
-use crate::rows::Rows;
-use crate::tables::Tables;
-use crate::verb::{Access, Edge, Line, Verb};
+use crate::graph::access::verb_access;
+use crate::graph::decl::{BarrierInfo, Decl};
+use crate::graph::edges::edges_of_line;
+use crate::graph::found::Found;
+use crate::graph::limits::{MAX_BARRIERS, MAX_COLUMNS, MAX_LINES, MAX_LOCKS};
+use crate::graph::name::Name;
+use crate::graph::verb::{Access, Edge, Line, Verb};
+use crate::kept::counts::Counts;
+use crate::kept::mark::Mark;
+use crate::kept::names::Names;
+use crate::kept::rows::Rows;
+use crate::kept::tables::Tables;
 use index_spaces::NoMemory;
 use index_spaces::room::{push_within, reserve};
 use index_spaces::space::Space;
@@ -47,15 +59,15 @@ pub struct Graph {
 
 impl Model for Graph {
     ghost use Rattle.std.specs.Prelude.{◌≡◌};
-    ghost use Rattle.graph_model.specs.Graph.{GraphValue};
+    ghost use Rattle.graph_model.specs.graph.Graph.{GraphValue};
 
     ghost Value = { GraphValue };
 
-    ghost use Rattle.graph_model.specs.Fits.{IsGraph};
-    ghost use Rattle.graph_model.specs.Tables.{tables_of, IsWithinLimits};
-    ghost use Rattle.graph_model.specs.Names.{AreNamesOf};
-    ghost use Rattle.graph_model.specs.Rows.{AreRowsOf};
-    ghost use Rattle.graph_model.specs.Counts.{counts_of};
+    ghost use Rattle.graph_model.specs.graph.Fits.{IsGraph};
+    ghost use Rattle.graph_model.specs.kept.Tables.{tables_of, IsWithinLimits};
+    ghost use Rattle.graph_model.specs.graph.Names.{AreNamesOf};
+    ghost use Rattle.graph_model.specs.kept.Rows.{AreRowsOf};
+    ghost use Rattle.graph_model.specs.kept.Counts.{counts_of};
 
     ghost view = { λ a. record { decls = a.decls.items; lines = a.lines.items } };
 
@@ -71,13 +83,13 @@ impl Model for Graph {
 
 impl Graph {
     ghost use Rattle.std.specs.Prelude.{◌≡◌, [], length, ◌<◌, ◌≤◌, slice_get, position, false, None, OnOk, OnErr, MatchOption, option_map};
-    ghost use Rattle.graph_model.specs.Graph.{named_spaces, columns, locks, barriers, space_at, column_space, never_comes, ends_user, is_release_of};
+    ghost use Rattle.graph_model.specs.graph.Graph.{named_spaces, space_of, columns, locks, barriers, space_at, column_space, never_comes, ends_user, is_release_of};
     ghost use Rattle.std.specs.List.{list_any};
-    ghost use Rattle.graph_model.specs.Rows.{mark_of};
-    ghost use Rattle.graph_model.specs.Edges.{edges_into, edges_out_of};
-    ghost use Rattle.graph_model.specs.Access.{accesses};
-    ghost use Rattle.graph_model.specs.Names.{StandsFor, found_decl, is_column_named};
-    ghost use Rattle.graph_model.specs.Fits.{IsGraph, IsDecl, IsLine, decl_fault, line_fault, with_decl, with_line, is_used};
+    ghost use Rattle.graph_model.specs.kept.Rows.{mark_of};
+    ghost use Rattle.graph_model.specs.graph.Edges.{edges_into, edges_out_of};
+    ghost use Rattle.graph_model.specs.graph.Access.{accesses};
+    ghost use Rattle.graph_model.specs.graph.Names.{StandsFor, found_decl, is_column_named};
+    ghost use Rattle.graph_model.specs.graph.Fits.{IsGraph, IsDecl, IsLine, decl_fault, line_fault, with_decl, with_line, is_used};
 
     /// The graph with no declaration and no line. It takes no memory.
     pub fn new(alloc: Global) -> Graph
@@ -159,7 +171,7 @@ impl Graph {
     /// How many lines there are.
     pub fn lines(&self) -> u32
         ensures number { result ≡ length self.now.lines }
-        ensures few { result ≤ 8192 }
+        ensures few { result ≤ MAX_LINES }
         ensures is_graph { IsGraph self.now }
     {
         self.lines.len() as u32
@@ -186,7 +198,7 @@ impl Graph {
         requires { s < length (named_spaces self.now) }
         ensures { result.now ≡ space_at self.now s }
     {
-        match &self.decls[self.tables.space_place(s) as usize] {
+        match self.space_decl(s) {
             Decl::Space { space, .. } => space,
             _ => unreachable!(),
         }
@@ -195,7 +207,7 @@ impl Graph {
     /// How many columns there are: the fields of all instances.
     pub fn columns(&self) -> u32
         ensures number { result ≡ length (columns self.now) }
-        ensures few { result ≤ 256 }
+        ensures few { result ≤ MAX_COLUMNS }
     {
         self.tables.columns() as u32
     }
@@ -222,7 +234,7 @@ impl Graph {
     /// How many reservations are declared.
     pub fn locks(&self) -> u32
         ensures number { result ≡ length (locks self.now) }
-        ensures few { result ≤ 64 }
+        ensures few { result ≤ MAX_LOCKS }
     {
         self.tables.locks() as u32
     }
@@ -230,7 +242,7 @@ impl Graph {
     /// How many barriers are declared.
     pub fn barriers(&self) -> u32
         ensures number { result ≡ length (barriers self.now) }
-        ensures few { result ≤ 64 }
+        ensures few { result ≤ MAX_BARRIERS }
     {
         self.tables.barriers() as u32
     }
@@ -240,7 +252,7 @@ impl Graph {
         requires { s < length (named_spaces self.now) }
         ensures { option_map (λ x. x.0) (slice_get (named_spaces self.now) s) ≡ Some result }
     {
-        *self.decls[self.tables.space_place(s) as usize].name()
+        *self.space_decl(s).name()
     }
 
     /// The name of a reservation.
@@ -326,6 +338,14 @@ impl Graph {
         ensures { result ≡ list_any (λ l. is_release_of i l.verb) self.now.lines }
     {
         self.mark(i).released
+    }
+
+    /// The declaration of a space.
+    fn space_decl(&self, s: u32) -> &Decl
+        requires { s < length (named_spaces self.now) }
+        ensures { space_of result.now ≡ slice_get (named_spaces self.now) s }
+    {
+        &self.decls[self.tables.space_place(s) as usize]
     }
 
     /// What later lines have done to a line.

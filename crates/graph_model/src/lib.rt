@@ -1,26 +1,9 @@
 //! Graphs of operations: declarations, lines, and what they mean.
 #![tactic(auto)]
 
-mod access;
-pub mod checked;
-mod counts;
-pub mod decl;
-mod edges;
-pub mod found;
 pub mod graph;
-pub mod held_cells;
-pub mod laws;
-pub mod line_laws;
-pub mod lists;
-mod mark;
-pub mod name;
-mod names;
-pub mod outcome;
-mod repeats;
-mod rows;
-mod side;
-mod stock;
-mod tables;
-pub mod verb;
-pub mod why;
-mod words;
+mod kept;
+pub mod meaning;
+
+pub use graph::{decl, found, limits, lists, name, verb, why};
+pub use meaning::{checked, held_cells, laws, line_laws, outcome};

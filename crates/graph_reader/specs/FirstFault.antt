@@ -4,6 +4,7 @@ use Rattle.std.specs.Option.{option_map_or}
 use Rattle.std.specs.List.{list_any, before_first}
 use Rattle.std.specs.Str.{bytes_eq}
 use Rattle.std.proofs.Common.{inl, inr}
+use Rattle.graph_model.specs.declared.graph.limits.TheConstants.{MAX_TEXT}
 use Rattle.graph_model.specs.declared.graph.decl.Decl.{Decl}
 use Rattle.graph_model.specs.declared.graph.verb.Line.{Line}
 use Rattle.graph_model.specs.declared.graph.why.Why.{Why}
@@ -132,7 +133,7 @@ words_fault g ws = cond (list_any is_empty ws) (Some why.Syntax) (option_map_or 
 -- the first reason that refuses the line with these bytes, after the text of a graph that is not closed
 abbrev pub line_reason : GraphValue → List ℕ → Option Why
 line_reason g line = cond (bytes_eq line (codes "end"))
-    (cond (nat_lt 1048576 (length (text g))) (Some why.Limit) None)
+    (cond (nat_lt MAX_TEXT (length (text g))) (Some why.Limit) None)
     (words_fault g (pieces 32 line))
 
 -- whether a line has a newline
@@ -172,7 +173,7 @@ pub record IsRestFault (bytes : List ℕ) (number : ℕ) (reason : Why) : Type 0
   pub rest : List ℕ
   pub is_graph : IsGraph before
   pub begins : bytes ≡ text before ++ rest
-  pub short : length (text before) ≤ 1048576
+  pub short : length (text before) ≤ MAX_TEXT
   pub follows : rest ≢ []
   pub number_is : number ≡ line_count before + 2
   pub reason_is : reason ≡ why.Rest

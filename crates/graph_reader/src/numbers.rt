@@ -5,6 +5,7 @@ ghost use Rattle.basics.specs.Numbers.{number_up_to};
 ghost use Rattle.graph_reader.specs.Words.{value_of, count_of};
 
 use basics::number_up_to;
+use index_spaces::limits::LAST_POINT;
 
 /// The value that a word spells.
 pub(crate) fn value(word: &[u8]) -> Option<u64>
@@ -26,7 +27,7 @@ pub(crate) fn count(word: &[u8]) -> Option<u32>
 
 /// The point that a word spells.
 pub(crate) fn point(word: &[u8]) -> Option<u32>
-    ensures { result ≡ number_up_to 4294967295 word.now }
+    ensures { result ≡ number_up_to LAST_POINT word.now }
 {
     let n = number_up_to(word, 4294967295)?;
     Some(n as u32)

@@ -5,3 +5,4 @@ pub mod MergeFacts
 pub mod LawFacts
 pub mod RunFacts
 pub mod HeldFacts
+pub mod WriteFacts

@@ -34,13 +34,14 @@ first_over true true false false h = refl
 first_over true false false false h = refl
 first_over false s b t h = refl
 
+and_swap : (a b : Bool) → (a && b) ≡ (b && a)
+and_swap true true = refl
+and_swap true false = refl
+and_swap false true = refl
+and_swap false false = refl
+
 second_over : (a s b t : Bool) → (b ≡ true → a ≡ false → s ≡ true → ⊥) → ((a || s) && (b || t)) ≡ ((a && b) || ((a || s) && t))
-second_over true s true t h = refl
-second_over true s false t h = refl
-second_over false true true t h = absurd (h refl refl refl)
-second_over false false true t h = refl
-second_over false true false t h = refl
-second_over false false false t h = refl
+second_over a s b t h = and_swap (a || s) (b || t) ∙ (first_over b t a s h ∙ (ap (λ x. x || (t && (a || s))) (and_swap b a) ∙ ap (λ x. (a && b) || x) (and_swap t (a || s))))
 
 -- of two first intervals, the one that does not end last has no more to share than the overlap
 pub past_first : (i j : ℕ × ℕ) (s t : List (ℕ × ℕ)) (p : ℕ) → AscendAbove (j.1 + 2) t → i.1 ≤ j.1 →

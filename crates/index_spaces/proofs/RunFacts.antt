@@ -160,15 +160,20 @@ intervals_ascend s j k d a l h = ends_below 0 s j k d a.1 l h
 pub length_cut : (cells : List ℕ) (start n : ℕ) → start + n ≤ length cells → length (take n (drop start cells)) ≡ n
 length_cut cells start n h = length-take-le n (drop start cells) (let l = length-drop start cells in omega (arith, l))
 
--- the part of the cells that a run has is as long as the run of another column
-pub same_lengths : (c : ColumnValue) (s : List (ℕ × ℕ)) (i : ℕ × ℕ) (start n : ℕ) (cells now run : List ℕ) → IsRunAt s i start → length cells ≡ space_size s → now ≡ cells → n ≡ interval_size i →
-    run ≡ map (cell_of c) (interval_points i) → length (take n (drop start now)) ≡ length run
-same_lengths c s i start n cells now run at full e size r =
-    let fits = at.fits in
-    let long : start + n ≤ length now = rw e (omega (arith, fits, full, size)) in
-    let one = length_cut now start n long in
+-- how many cells a run has, as the code counts them
+abbrev pub run_count : ℕ × ℕ → ℕ → ℕ
+run_count i start = start + (i.1 - i.0 + 1) - start
+
+-- the part of the cells that a run has is as long as the interval, and as the run of another column
+pub part_length : (s : List (ℕ × ℕ)) (i : ℕ × ℕ) (start : ℕ) (cells now : List ℕ) → IsRunAt s i start → length cells ≡ space_size s → now ≡ cells → i.0 ≤ i.1 → length (take (run_count i start) (drop start now)) ≡ run_count i start
+part_length s i start cells now at full e up = let fits = at.fits in length_cut now start (run_count i start) (rw e (omega (arith, fits, full, up)))
+
+pub same_lengths : (c : ColumnValue) (s : List (ℕ × ℕ)) (i : ℕ × ℕ) (start : ℕ) (cells now run : List ℕ) → IsRunAt s i start → length cells ≡ space_size s → now ≡ cells → i.0 ≤ i.1 →
+    run ≡ map (cell_of c) (interval_points i) → length (take (run_count i start) (drop start now)) ≡ length run
+same_lengths c s i start cells now run at full e up r =
+    let one = part_length s i start cells now at full e up in
     let other = ap length r ∙ length-map-range_with_len (cell_of c) i.0 (i.1 + 1 - i.0) in
-    omega (arith, one, other, size)
+    omega (arith, one, other)
 
 -- an element of a run of a column
 pub run_element : (c : ColumnValue) (i : ℕ × ℕ) (run : List ℕ) (p : ℕ) → run ≡ map (cell_of c) (interval_points i) → IsTrue (interval_has i p) → get_or run (p - i.0) 0 ≡ cell_of c p
@@ -176,19 +181,31 @@ run_element c i run p r h =
     let parts = interval_has-parts i p h in
     ap (λ xs. get_or xs (p - i.0) 0) r ∙ get_or-map-range_with_len (cell_of c) i.0 (i.1 + 1 - i.0) (p - i.0) p 0 (omega (arith, parts)) (omega (arith, parts))
 
--- what a write of a part of a vector of cells leaves
-pub stored : {Z : Type 0} (v : Vec ℕ Z) (s : List (ℕ × ℕ)) (i : ℕ × ℕ) (start n : ℕ) (now ys : List ℕ) (value : ℕ → ℕ) → IsRunAt s i start → length v.items ≡ space_size s → now ≡ v.items → n ≡ interval_size i →
-    length ys ≡ n → ((p : ℕ) → IsTrue (interval_has i p) → get_or ys (p - i.0) 0 ≡ value p) →
-    WritesRun (record { space = s; cells = v.items }) (record { space = s; cells = (with_items v (written_over now start n ys)).items }) i value
-stored v s i start n now ys value at full e size short values =
+-- a part of a vector's cells that is written over changes no length
+pub written_length : {Z : Type 0} (v : Vec ℕ Z) (s : List (ℕ × ℕ)) (i : ℕ × ℕ) (start n : ℕ) (ys : List ℕ) → IsRunAt s i start → length v.items ≡ space_size s → n ≡ interval_size i → length ys ≡ n → length (written_over v.items start n ys) ≡ v.len
+written_length v s i start n ys at full size short =
     let fits = at.fits in
     let front = length-take-le start v.items (omega (arith, fits, full)) in
     let back = length-drop n (drop start v.items) in
     let rest = length-drop start v.items in
     let one = length-append (take start v.items) (ys ++ drop n (drop start v.items)) in
     let two = length-append ys (drop n (drop start v.items)) in
-    let whole : length (written_over v.items start n ys) ≡ v.len = omega (arith, front, back, rest, one, two, fits, full, size, short, v.ok.0) in
+    omega (arith, front, back, rest, one, two, fits, full, size, short, v.ok.0)
+
+-- what a write of a part of a vector of cells leaves
+pub stored : {Z : Type 0} (v : Vec ℕ Z) (s : List (ℕ × ℕ)) (i : ℕ × ℕ) (start n : ℕ) (now ys : List ℕ) (value : ℕ → ℕ) → IsRunAt s i start → length v.items ≡ space_size s → now ≡ v.items → n ≡ interval_size i →
+    length ys ≡ n → ((p : ℕ) → IsTrue (interval_has i p) → get_or ys (p - i.0) 0 ≡ value p) →
+    WritesRun (record { space = s; cells = v.items }) (record { space = s; cells = (with_items v (written_over now start n ys)).items }) i value
+stored v s i start n now ys value at full e size short values =
+    let whole = written_length v s i start n ys at full size short in
     rw e (rw (with_items_is v (written_over v.items start n ys) whole) (run_written (record { space = s; cells = v.items }) i start n ys value at full size short values))
+
+-- a write of as many cells as the part had
+pub stored_part : {Z : Type 0} (v : Vec ℕ Z) (s : List (ℕ × ℕ)) (i : ℕ × ℕ) (start : ℕ) (now ys : List ℕ) (value : ℕ → ℕ) → IsRunAt s i start → length v.items ≡ space_size s → now ≡ v.items → i.0 ≤ i.1 →
+    length ys ≡ length (take (run_count i start) (drop start now)) → ((p : ℕ) → IsTrue (interval_has i p) → get_or ys (p - i.0) 0 ≡ value p) →
+    WritesRun (record { space = s; cells = v.items }) (record { space = s; cells = (with_items v (written_over now start (run_count i start) ys)).items }) i value
+stored_part v s i start now ys value at full e up short values =
+    stored v s i start (run_count i start) now ys value at full e (omega arith) (short ∙ part_length s i start v.items now at full e up) values
 
 pub cells_are_written : CellsAreWritten
 cells_are_written c p q v a full has_p has_q =

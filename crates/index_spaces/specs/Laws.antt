@@ -2,6 +2,7 @@
 use Rattle.std.specs.Prelude.{◌≡◌, ℕ, ◌==◌, cond, false, ◌+◌, ◌-◌, ◌^◌, ◌<◌, ◌≤◌, ◌↔◌, List, ◌++◌, length, take, drop, slice_index, slice_index_or, All, Contains, Some, None, IsTrue}
 use Rattle.std.specs.List.Sorted.{IsStrictlyIncreasing}
 use Rattle.index_spaces.specs.declared.space.SpaceFault.TheVariants.{Reversed, Order}
+use Rattle.index_spaces.specs.declared.limits.TheConstants.{MAX_INTERVALS, MAX_POINTS}
 use Rattle.index_spaces.specs.Space.{interval_has, has_point, points, space_size, rank, point_at, IsSpace, IsWithin}
 use Rattle.index_spaces.specs.Column.{ColumnValue, cell_of, with_cell}
 use Rattle.index_spaces.specs.Run.{interval_size, IsRun, IsRunAt, WritesRun, WritesPoints}
@@ -27,9 +28,9 @@ RankOfPoint = (s : List (ℕ × ℕ)) (r : ℕ) → IsSpace s → r < space_size
 abbrev pub SamePointsSameIntervals : Type 0
 SamePointsSameIntervals = (s t : List (ℕ × ℕ)) → IsSpace s → IsSpace t → ((p : ℕ) → p < 2 ^ 32 → has_point s p ≡ has_point t p) → s ≡ t
 
--- pairs have no fault exactly where they make a space of at most 64 intervals and 1,048,576 points
+-- pairs have no fault exactly where they make a space of few enough intervals and points
 abbrev pub FaultlessPairs : Type 0
-FaultlessPairs = (pairs : List (ℕ × ℕ)) → All (λ (i : ℕ × ℕ). i.1 < 2 ^ 32) pairs → (space_fault pairs ≡ None) ↔ (IsSpace pairs × (length pairs ≤ 64) × (space_size pairs ≤ 1048576))
+FaultlessPairs = (pairs : List (ℕ × ℕ)) → All (λ (i : ℕ × ℕ). i.1 < 2 ^ 32) pairs → (space_fault pairs ≡ None) ↔ (IsSpace pairs × (length pairs ≤ MAX_INTERVALS) × (space_size pairs ≤ MAX_POINTS))
 
 -- the pair at a place
 abbrev pub pair_at : List (ℕ × ℕ) → ℕ → ℕ × ℕ

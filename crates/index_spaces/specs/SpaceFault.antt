@@ -2,6 +2,7 @@
 use Rattle.std.specs.Prelude.{ℕ, ◌+◌, nat_lt, cond, List, [], ◌∷◌, length, Option, Some, None}
 use Rattle.index_spaces.specs.declared.space.SpaceFault.{SpaceFault}
 use Rattle.index_spaces.specs.declared.space.SpaceFault.TheVariants.{Empty, Reversed, Order, Many, Large}
+use Rattle.index_spaces.specs.declared.limits.TheConstants.{MAX_INTERVALS, MAX_POINTS}
 use Rattle.index_spaces.specs.Space.{space_size}
 
 -- the first pair, the next having number k, that is reversed or begins below low
@@ -11,7 +12,7 @@ first_misplaced k low (i ∷ is) = cond (nat_lt i.1 i.0) (Some (Reversed k)) (co
 
 -- too many pairs, or too many points, the pairs first
 abbrev pub too_large : List (ℕ × ℕ) → Option SpaceFault
-too_large is = cond (nat_lt 64 (length is)) (Some Many) (cond (nat_lt 1048576 (space_size is)) (Some Large) None)
+too_large is = cond (nat_lt MAX_INTERVALS (length is)) (Some Many) (cond (nat_lt MAX_POINTS (space_size is)) (Some Large) None)
 
 -- the fault that was found, or else too many pairs or points
 abbrev pub or_too_large : Option SpaceFault → List (ℕ × ℕ) → Option SpaceFault

@@ -4,6 +4,7 @@
 pub mod column;
 pub mod held;
 pub mod laws;
+pub mod limits;
 pub mod room;
 pub mod space;
 

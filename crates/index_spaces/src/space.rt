@@ -10,6 +10,7 @@ mod merges;
 use self::faults::fault_of;
 use self::merges::{covers, meet, overlaps};
 use crate::NoMemory;
+use crate::limits::MAX_POINTS;
 use std::alloc::{AllocError, Global};
 use std::marker::Model;
 
@@ -76,7 +77,7 @@ impl Space {
     /// The space of a copy of these intervals.
     pub(crate) fn copy_of(alloc: Global, intervals: &[(u32, u32)]) -> Result<Space, AllocError>
         requires is_space { IsSpace intervals.now }
-        requires few { space_size intervals.now ≤ 1048576 }
+        requires few { space_size intervals.now ≤ MAX_POINTS }
         ensures { IfOk result (λ s. s ≡ intervals.now) }
     {
         Space::counted(alloc, Vec::from_slice(alloc, intervals)?)
@@ -85,7 +86,7 @@ impl Space {
     /// The space of these intervals.
     fn counted(alloc: Global, intervals: Vec<(u32, u32)>) -> Result<Space, AllocError>
         requires is_space { IsSpace intervals.items }
-        requires few { space_size intervals.items ≤ 1048576 }
+        requires few { space_size intervals.items ≤ MAX_POINTS }
         ensures { IfOk result (λ s. s ≡ intervals.items) }
     {
         let mut ranks = Vec::with_capacity(alloc, intervals.len())?;
@@ -105,7 +106,7 @@ impl Space {
     pub fn size(&self) -> u32
         ensures size { result ≡ space_size self.now }
         ensures at_least { 1 ≤ result }
-        ensures at_most { result ≤ 1048576 }
+        ensures at_most { result ≤ MAX_POINTS }
     {
         self.size
     }

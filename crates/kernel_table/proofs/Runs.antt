@@ -1,36 +1,17 @@
 -- Writes of a column's cells, interval by interval.
-use Rattle.std.proofs.Common.{◌≡◌, ℕ, ◌+◌, ◌-◌, ◌^◌, ◌<◌, ◌≤◌, nat_le, true, List, [], ◌++◌, length, get_or, map, take, drop, Option, Some, None, IsTrue, refl, sym, ap, ◌∙◌, arith}
-use Rattle.std.specs.Option.{IsSomeAnd}
+use Rattle.std.proofs.Common.{◌≡◌, ℕ, ◌+◌, ◌-◌, ◌^◌, ◌<◌, ◌≤◌, nat_le, true, List, length, get_or, map, take, drop, IsTrue, refl, sym, ap, ◌∙◌, arith}
 use Rattle.std.specs.Vec.{with_items}
 use Rattle.std.specs.declared.vec.Vec.{Vec}
-use Rattle.std.proofs.lemmas.Bool.{false≢true, and_parts, leb-true}
+use Rattle.std.proofs.lemmas.Bool.{and_parts, leb-true}
 use Rattle.std.proofs.lemmas.List.FromFn.{length-map-range_with_len, get_or-map-range_with_len}
-use Rattle.std.proofs.lemmas.List.Folds.{list_any_at}
-use Rattle.std.proofs.lemmas.List.{get_or-take, get_or-drop, take_all, length-take-le, length-drop, length-append, with_items_is}
-use Rattle.index_spaces.specs.Space.{interval_has, interval_points, has_point, space_size, IsWithin}
+use Rattle.std.proofs.lemmas.List.{get_or-take, get_or-drop, with_items_is}
+use Rattle.index_spaces.specs.Space.{interval_has, interval_points, space_size, IsWithin}
 use Rattle.index_spaces.specs.Column.{ColumnValue, cell_of}
-use Rattle.index_spaces.specs.Held.{HoldsOtherwise}
 use Rattle.index_spaces.specs.Run.{interval_size, IsRunAt, WritesPoints}
 use Rattle.std.proofs.Math.Nat.{mod-add-mod}
 use Rattle.graph_model.specs.meaning.Effect.{wrapped}
 use Rattle.index_spaces.specs.Laws.{RunsAreWritten, SpacesAreWritten}
-
-pub none_written : (c : ColumnValue) (value : ℕ → ℕ) → WritesPoints c c [] value
-none_written c value = record { space = refl; inside = λ p h. absurd (false≢true h); outside = λ p h n. refl }
-
-pub all_written : (old new : ColumnValue) (s : List (ℕ × ℕ)) (n : ℕ) (value : ℕ → ℕ) → length s ≤ n → WritesPoints old new (take n s) value → WritesPoints old new s value
-all_written old new s n value h w = rw (take_all n s h) at w
-
--- a column that was let go of and is held again
-pub held_again : (old mid new : List (ℕ × ColumnValue)) (c : ℕ) (x : ColumnValue) → HoldsOtherwise old mid c None → HoldsOtherwise mid new c (Some x) → HoldsOtherwise old new c (Some x)
-held_again old mid new c x out back = record { here = back.here; others = λ k n. back.others k n ∙ out.others k n }
-
-pub holds_over : (o : Option ColumnValue) (P : ColumnValue → Type 0) (x : ColumnValue) → o ≡ Some x → IsSomeAnd o P → P x
-holds_over o P x e h = rw e at h
-
--- a list with a part of it written over
-abbrev pub written_over : List ℕ → ℕ → ℕ → List ℕ → List ℕ
-written_over cells start n ys = take start cells ++ (ys ++ drop n (drop start cells))
+use Rattle.index_spaces.proofs.RunFacts.{written_over, written_length}
 
 -- the cells of a vector, and of how many of them a run is
 abbrev pub over_run : (over : List (ℕ × ℕ)) (cells : List ℕ) → ColumnValue
@@ -48,23 +29,13 @@ pub run_step : {Z : Type 0} → RunsAreWritten → SpacesAreWritten → (v : Vec
     WritesSoFar old over (with_items v (written_over now start n ys)).items (take (k + 1) s) value
 run_step runs spaces v old over s k start n now ys value so_far within h at e size short values =
     let i = get_or s k (0, 0) in
-    let fits = at.fits in
     let full = so_far.full in
-    let front = length-take-le start v.items (omega (arith, fits, full)) in
-    let back = length-drop n (drop start v.items) in
-    let rest = length-drop start v.items in
-    let one = length-append (take start v.items) (ys ++ drop n (drop start v.items)) in
-    let two = length-append ys (drop n (drop start v.items)) in
-    let whole : length (written_over v.items start n ys) ≡ v.len = omega (arith, front, back, rest, one, two, fits, full, size, short, v.ok.0) in
+    let whole = written_length v over i start n ys at full size short in
     let run = runs over i start v.items ys value at full (short ∙ size) values in
     rw e (rw (with_items_is v (written_over v.items start n ys) whole) (rw size (record {
       written = spaces old (record { space = over; cells = v.items }) (record { space = over; cells = written_over v.items start (interval_size i) ys }) s k (0, 0) value value within h so_far.written run (λ p m. refl);
       full = (let w : length (written_over v.items start n ys) ≡ space_size over = omega (arith, whole, v.ok.0, full) in rw size at w);
     })))
-
--- the length of a part of the cells
-pub length_cut : (cells : List ℕ) (start n : ℕ) → start + n ≤ length cells → length (take n (drop start cells)) ≡ n
-length_cut cells start n h = length-take-le n (drop start cells) (let l = length-drop start cells in omega (arith, l))
 
 -- where a point of an interval stands in it
 pub place_in : (i : ℕ × ℕ) (p : ℕ) → interval_has i p ≡ true → (i.0 ≤ p) × (p ≤ i.1)
@@ -92,7 +63,3 @@ part_element over cells now start n i p at e size h =
     ∙ get_or-drop start now (p - i.0) 0
     ∙ ap (λ xs. get_or xs (start + (p - i.0)) 0) e
     ∙ ap (λ r. get_or cells r 0) (sym (at.ranks p h))
-
--- a point of one interval is a point of all
-pub point_in : (s : List (ℕ × ℕ)) (k : ℕ) (p : ℕ) → k < length s → interval_has (get_or s k (0, 0)) p ≡ true → has_point s p ≡ true
-point_in s k p h has = list_any_at (λ i. interval_has i p) s k (0, 0) h has

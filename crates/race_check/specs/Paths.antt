@@ -2,6 +2,7 @@
 use Rattle.std.specs.Prelude.{◌≡◌, ℕ, ◌+◌, ◌<◌, ◌/◌, ◌%◌, ◌==◌, Bool, true, List, [], length, Contains, slice_index, ◌≤◌, ◌↔◌}
 use Rattle.std.specs.Int.{bit_at}
 use Rattle.std.specs.List.{slice_index_or}
+use Rattle.graph_model.specs.declared.graph.limits.TheConstants.{MAX_LINES}
 use Rattle.graph_model.specs.declared.graph.verb.Edge.{Edge}
 use Rattle.graph_model.specs.graph.Graph.{GraphValue}
 use Rattle.graph_model.specs.graph.Edges.{edges}
@@ -56,7 +57,7 @@ pub record IsFilled (R : ℕ → List ℕ → Type 0) (words : ℕ) (rows : List
 
 -- rows for so many lines, and the same the other way round
 pub record AreTurned (words : ℕ) (rows backs : List (List ℕ)) : Type 0 where
-  pub few : length rows ≤ 8192
+  pub few : length rows ≤ MAX_LINES
   pub words_are : words ≡ words_for (length rows)
   pub size : (i : ℕ) → i < length rows → length (slice_index_or rows i []) ≡ words
   pub backs_each : length backs ≡ length rows

@@ -7,6 +7,7 @@ ghost use Rattle.race_check.specs.Sweep.{AreAbove, IsTally, most_open};
 use crate::high::high_numbers;
 use graph_model::graph::Graph;
 use graph_model::laws::edges_between_lines;
+use graph_model::limits::MAX_LINES;
 use index_spaces::NoMemory;
 use index_spaces::room::filled;
 use std::alloc::Global;
@@ -24,7 +25,7 @@ pub(crate) fn need_of(alloc: Global, graph: &Graph) -> Result<u32, NoMemory>
 
 /// How many of the numbers are 0, 1 and so on, up to one more than how many there are.
 fn tally(alloc: Global, highs: &[u32]) -> Result<Vec<u32>, NoMemory>
-    requires short { length highs.now ≤ 8192 }
+    requires short { length highs.now ≤ MAX_LINES }
     requires small { (i : ℕ) → i < length highs.now → slice_index highs.now i ≤ length highs.now + 1 }
     ensures size { IfOk result (λ t. length t.items ≡ length highs.now + 2) }
     ensures tallied { IfOk result (λ t. IsTally t.items highs.now (length highs.now + 1) (length highs.now)) }
@@ -38,7 +39,7 @@ fn tally(alloc: Global, highs: &[u32]) -> Result<Vec<u32>, NoMemory>
 
 /// The most lines that are open at once, by the tally of their high numbers.
 fn most_open(tally: &[u32], lines: u32) -> u32
-    requires short { lines ≤ 8192 }
+    requires short { lines ≤ MAX_LINES }
     requires size { length tally.now ≡ lines + 2 }
     requires tallied { (highs : List ℕ) × (length highs ≡ lines) × AreAbove highs × IsTally tally.now highs lines lines }
     ensures most { result ≡ most_open tally.now lines }

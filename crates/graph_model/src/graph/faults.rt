@@ -2,34 +2,28 @@
 
 ghost use Rattle.std.specs.Prelude.{◌≡◌, map, nat_eq, nat_le};
 ghost use Rattle.std.specs.List.{list_any};
-ghost use Rattle.graph_model.specs.declared.verb.Access.{Access};
-ghost use Rattle.graph_model.specs.Access.{verb_accesses, kernel_accesses};
-ghost use Rattle.graph_model.specs.Fits.{repeats, decl_repeats, decl_misnumbered, is_large, named_lines, on_lines, takes_no_on, verb_misnumbered, merges_many};
+ghost use Rattle.graph_model.specs.declared.graph.verb.Access.{Access};
+ghost use Rattle.graph_model.specs.graph.Access.{verb_accesses, kernel_accesses};
+ghost use Rattle.graph_model.specs.graph.Fits.{repeats, decl_repeats, decl_misnumbered, is_large, named_lines, on_lines, takes_no_on, verb_misnumbered, merges_many};
 
 use super::Graph;
-use crate::access::verb_access;
-use crate::decl::Decl;
-use crate::name::Name;
-use crate::repeats::{names_repeat, numbers_repeat};
-use crate::verb::{Access, Kernel, Line, Verb};
-use crate::why::Why;
+use crate::graph::access::verb_access;
+use crate::graph::decl::Decl;
+use crate::graph::limits::{MAX_COUNT, MAX_EVENTS};
+use crate::graph::name::Name;
+use crate::graph::repeats::{names_repeat, numbers_repeat};
+use crate::graph::verb::{Access, Kernel, Line, Verb};
+use crate::graph::why::Why;
 use index_spaces::laws::points_are_listed;
-
-const MAX_INTERVALS: usize = 64;
-
-const MAX_POINTS: u32 = 1_048_576;
-
-const MAX_COUNT: u32 = 8_192;
-
-const MAX_EVENTS: u32 = 64;
+use index_spaces::limits::{MAX_INTERVALS, MAX_POINTS};
 
 impl Graph {
     ghost use Rattle.std.specs.Prelude.{◌≡◌, false, slice_get};
     ghost use Rattle.std.specs.Option.{option_map_or};
     ghost use Rattle.std.specs.List.{list_any};
-    ghost use Rattle.graph_model.specs.Graph.{line_passes, is_user, is_phase, is_acquire};
-    ghost use Rattle.graph_model.specs.Access.{verb_accesses};
-    ghost use Rattle.graph_model.specs.Fits.{decl_fault, line_fault, is_used, decl_unknown, verb_repeats, verb_unknown, access_unknown, line_unknown, verb_unlike, access_outside, arrives_late};
+    ghost use Rattle.graph_model.specs.graph.Graph.{line_passes, is_user, is_phase, is_acquire};
+    ghost use Rattle.graph_model.specs.graph.Access.{verb_accesses};
+    ghost use Rattle.graph_model.specs.graph.Fits.{decl_fault, line_fault, is_used, decl_unknown, verb_repeats, verb_unknown, access_unknown, line_unknown, verb_unlike, access_outside, arrives_late};
 
     /// The first reason that refuses a declaration after this graph. `None` exactly where it fits.
     pub fn decl_fault(&self, decl: &Decl) -> Option<Why>

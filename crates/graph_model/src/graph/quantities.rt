@@ -1,17 +1,18 @@
 //! The quantities of a graph with one more item.
 
 use super::Graph;
-use crate::counts::{Counts, barriers_of, columns_of, insts_of, locks_of};
-use crate::decl::Decl;
-use crate::edges::count_edges;
-use crate::verb::Line;
+use crate::graph::decl::Decl;
+use crate::graph::edges::count_edges;
+use crate::graph::verb::Line;
+use crate::kept::counts::{Counts, barriers_of, columns_of, insts_of, locks_of};
+use index_spaces::limits::MAX_POINTS;
 
 impl Graph {
     ghost use Rattle.std.specs.Prelude.{◌≡◌, ◌≤◌};
     ghost use Rattle.index_spaces.specs.Space.{space_size};
-    ghost use Rattle.graph_model.specs.Graph.{space_at};
-    ghost use Rattle.graph_model.specs.Fits.{with_decl, with_line};
-    ghost use Rattle.graph_model.specs.Counts.{counts_of, cells_of_decl};
+    ghost use Rattle.graph_model.specs.graph.Graph.{space_at};
+    ghost use Rattle.graph_model.specs.graph.Fits.{with_decl, with_line};
+    ghost use Rattle.graph_model.specs.kept.Counts.{counts_of, cells_of_decl};
 
     /// The quantities with a declaration at the end.
     pub(super) fn counts_with_decl(&self, decl: &Decl) -> Counts
@@ -59,7 +60,7 @@ impl Graph {
     /// How many points a space has: none where it is not declared.
     fn points_of(&self, s: u32) -> u64
         ensures points { result ≡ space_size (space_at self.now s) }
-        ensures few { result ≤ 1048576 }
+        ensures few { result ≤ MAX_POINTS }
     {
         if s >= self.spaces() {
             return 0;

@@ -1,19 +1,19 @@
 //! How long the lines of a graph's text are.
 
 ghost use Rattle.std.specs.Prelude.{◌≡◌, ◌+◌, length};
-ghost use Rattle.graph_model.specs.Spelling.{op_word};
+ghost use Rattle.graph_model.specs.graph.Spelling.{op_word};
 
 use super::Graph;
-use crate::decl::Decl;
-use crate::lists::LineList;
-use crate::verb::{Kernel, Line, Verb};
-use crate::words::{fields_size, intervals_size, name_size, number_size, word_size};
+use crate::graph::decl::Decl;
+use crate::graph::lists::LineList;
+use crate::graph::verb::{Kernel, Line, Verb};
+use crate::graph::words::{fields_size, intervals_size, name_size, number_size, word_size};
 use index_spaces::Op;
 
 impl Graph {
     ghost use Rattle.std.specs.Prelude.{◌≡◌, ◌+◌, ◌≤◌, [], ◌∷◌, length, map};
-    ghost use Rattle.graph_model.specs.Counts.{words_size};
-    ghost use Rattle.graph_model.specs.Spelling.{spelled, space_name, column_name, lock_name, barrier_name, line_name, op_word, decl_words, kernel_words, verb_words, on_words, line_words};
+    ghost use Rattle.graph_model.specs.kept.Counts.{words_size};
+    ghost use Rattle.graph_model.specs.graph.Spelling.{spelled, space_name, column_name, lock_name, barrier_name, line_name, op_word, decl_words, kernel_words, verb_words, on_words, line_words};
 
     /// The line of a declaration, with its newline.
     pub(super) fn decl_size(&self, decl: &Decl) -> u64

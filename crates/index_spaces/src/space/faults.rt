@@ -4,20 +4,15 @@ ghost use Rattle.std.specs.Prelude.{◌≡◌, ◌<◌, ◌≤◌, ◌^◌, leng
 ghost use Rattle.index_spaces.specs.Space.{space_size, AscendAbove, IsSpace};
 ghost use Rattle.index_spaces.specs.SpaceFault.{first_misplaced, space_fault};
 
+use crate::limits::{MAX_INTERVALS, MAX_POINTS};
 use crate::space::SpaceFault;
-
-/// The most intervals that a space is made of.
-const MAX_INTERVALS: usize = 64;
-
-/// The most points that a space has.
-const MAX_POINTS: u64 = 1_048_576;
 
 /// The first reason that these pairs make no space.
 pub(crate) fn fault_of(pairs: &[(u32, u32)]) -> Option<SpaceFault>
     requires { length pairs.now < 2 ^ 32 }
     ensures first { result ≡ space_fault pairs.now }
     ensures is_space { IfNone result (IsSpace pairs.now) }
-    ensures few { IfNone result (space_size pairs.now ≤ 1048576) }
+    ensures few { IfNone result (space_size pairs.now ≤ MAX_POINTS) }
 {
     if pairs.is_empty() {
         return Some(SpaceFault::Empty);
@@ -28,7 +23,7 @@ pub(crate) fn fault_of(pairs: &[(u32, u32)]) -> Option<SpaceFault>
     if pairs.len() > MAX_INTERVALS {
         return Some(SpaceFault::Many);
     }
-    (point_count(pairs) > MAX_POINTS).then_some(SpaceFault::Large)
+    (point_count(pairs) > u64::from(MAX_POINTS)).then_some(SpaceFault::Large)
 }
 
 /// The first pair that is reversed, or that does not begin at least two above the one before.

@@ -1,6 +1,6 @@
-use Rattle.std.proofs.Common.{◌-◌, ◌<◌, ◌≤◌, ◌^◌, suc, rules, length, refl, ◌∙◌, ap, arith}
+use Rattle.std.proofs.Common.{◌<◌, ◌≤◌, ◌^◌, suc, rules, length, refl, ◌∙◌, ap, arith}
 use Rattle.graph_gen.specs.MadeGraph.{made_of, one_more}
-use Rattle.graph_gen.proofs.MakeSteps.{kept_by, grows, whole}
+use Rattle.graph_gen.proofs.MakeSteps.{grows, whole}
 use Rattle.graph_gen.proofs.make.make.Goals as goal
 
 pub loop-alloc-init : goal.loop-alloc-init
@@ -8,22 +8,16 @@ loop-alloc-init c = (c.in_ok-making.ensures.decls, (0, omega arith, c.in_ok-maki
 
 pub loop-alloc-smaller : goal.loop-alloc-smaller
 loop-alloc-smaller c =
-    let inv = c.loop-alloc.invariant in
-    let small : c.args.seed < 2 ^ 64 = search rules in
-    let left : length c.loop-alloc.making.graph.lines < c.args.size = (let n = c.lines.ensures.number in let t = c.loop-alloc-test.true in omega (arith, n, t)) in
-    let kept = kept_by c.args.size (made_of c.loop-alloc.making) c.requires.size.1 c.args.seed (inv.1).0 small (inv.1).2 in
-    let g = grows c.args.size (made_of c.loop-alloc.making) (made_of c.draw.new.self) c.requires.size.1 kept left c.in_ok-draw.ensures.made in
-    let less : c.args.size - length c.draw.new.self.graph.lines < c.args.size - length c.loop-alloc.making.graph.lines = omega arith in
-    less
+    let g = grows c.args.seed c.args.size (c.loop-alloc.invariant.1).0 c.lines.result (made_of c.loop-alloc.making) (made_of c.draw.new.self) (search rules) c.requires.size.1 (c.loop-alloc.invariant.1).2 c.lines.ensures.number c.loop-alloc-test.true c.in_ok-draw.ensures.made in
+    let n = c.lines.ensures.number in
+    let t = c.loop-alloc-test.true in
+    omega (arith, n, t)
 
 pub loop-alloc-preserved : goal.loop-alloc-preserved
 loop-alloc-preserved c =
     let inv = c.loop-alloc.invariant in
-    let small : c.args.seed < 2 ^ 64 = search rules in
-    let left : length c.loop-alloc.making.graph.lines < c.args.size = (let n = c.lines.ensures.number in let t = c.loop-alloc-test.true in omega (arith, n, t)) in
-    let kept = kept_by c.args.size (made_of c.loop-alloc.making) c.requires.size.1 c.args.seed (inv.1).0 small (inv.1).2 in
-    let g = grows c.args.size (made_of c.loop-alloc.making) (made_of c.draw.new.self) c.requires.size.1 kept left c.in_ok-draw.ensures.made in
     let few = (inv.1).1 in
+    let g = grows c.args.seed c.args.size (c.loop-alloc.invariant.1).0 c.lines.result (made_of c.loop-alloc.making) (made_of c.draw.new.self) (search rules) c.requires.size.1 (c.loop-alloc.invariant.1).2 c.lines.ensures.number c.loop-alloc-test.true c.in_ok-draw.ensures.made in
     (c.in_ok-draw.ensures.decls, (suc (inv.1).0, omega arith, c.in_ok-draw.ensures.made ∙ ap (one_more c.args.size) (inv.1).2))
 
 pub returns : goal.returns

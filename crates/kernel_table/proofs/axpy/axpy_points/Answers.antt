@@ -2,7 +2,9 @@ use Rattle.std.proofs.Common.{◌≡◌, ◌+◌, ◌-◌, ◌*◌, ◌<◌, ◌
 use Rattle.index_spaces.specs.Space.{IsSpace, IsWithin}
 use Rattle.index_spaces.specs.Column.{cell_of}
 use Rattle.graph_model.specs.meaning.Effect.{wrapped}
-use Rattle.kernel_table.proofs.Runs.{run_step, length_cut, place_in, run_length, run_element, part_element, point_in}
+use Rattle.index_spaces.proofs.RunFacts.{length_cut}
+use Rattle.index_spaces.proofs.WriteFacts.{point_in}
+use Rattle.kernel_table.proofs.Runs.{run_step, place_in, run_length, run_element, part_element}
 use Rattle.kernel_table.proofs.axpy.axpy_points.Goals as goal
 
 pub add_scaled-requires : goal.add_scaled-requires

@@ -2,7 +2,9 @@ use Rattle.std.proofs.Common.{◌≡◌, ◌+◌, ◌-◌, ◌<◌, ◌≤◌, l
 use Rattle.index_spaces.specs.Space.{IsSpace, IsWithin}
 use Rattle.index_spaces.specs.Column.{cell_of}
 use Rattle.graph_model.specs.meaning.Effect.{wrapped}
-use Rattle.kernel_table.proofs.Runs.{run_step, length_cut, place_in, part_element, point_in}
+use Rattle.index_spaces.proofs.RunFacts.{length_cut}
+use Rattle.index_spaces.proofs.WriteFacts.{point_in}
+use Rattle.kernel_table.proofs.Runs.{run_step, place_in, part_element}
 use Rattle.kernel_table.proofs.dot.add_points.Goals as goal
 
 pub loop-interval-preserved : goal.loop-interval-preserved

@@ -1,7 +1,8 @@
 use Rattle.std.proofs.Common.{◌≡◌, ◌+◌, ◌-◌, ◌%◌, ◌<◌, ◌≤◌, length, get_or, take, drop, ap, ◌∙◌, sym, arith}
 use Rattle.index_spaces.specs.Space.{IsSpace, IsWithin, point_at, space_size}
 use Rattle.index_spaces.specs.Column.{cell_of}
-use Rattle.kernel_table.proofs.Runs.{run_step, length_cut, place_in, run_length, run_element}
+use Rattle.index_spaces.proofs.RunFacts.{length_cut}
+use Rattle.kernel_table.proofs.Runs.{run_step, place_in, run_length, run_element}
 use Rattle.kernel_table.proofs.gather.gather_points.Goals as goal
 
 pub pick_all-requires-clause-size : goal.pick_all-requires-clause-size

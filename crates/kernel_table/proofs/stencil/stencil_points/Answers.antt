@@ -3,7 +3,8 @@ use Rattle.std.specs.Prelude.{filter}
 use Rattle.index_spaces.specs.Space.{IsSpace, IsWithin, has_point}
 use Rattle.index_spaces.specs.Column.{cell_of}
 use Rattle.graph_model.specs.meaning.Effect.{wrapped_sum, around}
-use Rattle.kernel_table.proofs.Runs.{run_step, length_cut, place_in}
+use Rattle.index_spaces.proofs.RunFacts.{length_cut}
+use Rattle.kernel_table.proofs.Runs.{run_step, place_in}
 use Rattle.kernel_table.proofs.Windows.{ends_fit}
 use Rattle.kernel_table.proofs.stencil.stencil_points.Goals as goal
 

@@ -1,12 +1,12 @@
 use Rattle.std.proofs.Common.{◌≡◌, cond, ℕ, [], ◌∷◌, ◌++◌, List, None, Some, sym, subst, ap, ◌∙◌, length, arith}
 use Rattle.std.specs.Str.{bytes_eq}
-use Rattle.graph_model.specs.declared.decl.Decl.{Decl}
-use Rattle.graph_model.specs.Graph.{GraphValue, decl_name}
-use Rattle.graph_model.specs.Names.{AreNamesOf, found_decl, named}
-use Rattle.graph_model.specs.Tables.{tables_of, tables_with, IsWithinLimits}
-use Rattle.graph_model.specs.Rows.{AreRowsOf}
-use Rattle.graph_model.specs.Counts.{counts_of}
-use Rattle.graph_model.specs.Fits.{IsGraph, decl_fault, with_decl}
+use Rattle.graph_model.specs.declared.graph.decl.Decl.{Decl}
+use Rattle.graph_model.specs.graph.Graph.{GraphValue, decl_name}
+use Rattle.graph_model.specs.graph.Names.{AreNamesOf, found_decl, named}
+use Rattle.graph_model.specs.kept.Tables.{tables_of, tables_with, IsWithinLimits}
+use Rattle.graph_model.specs.kept.Rows.{AreRowsOf}
+use Rattle.graph_model.specs.kept.Counts.{counts_of}
+use Rattle.graph_model.specs.graph.Fits.{IsGraph, decl_fault, with_decl}
 use Rattle.graph_model.proofs.GraphPush.{push_decl}
 use Rattle.graph_model.proofs.Naming.{names_decl, unused_decl_name}
 use Rattle.graph_model.proofs.TableLaws.{limits_decl, tables_push}

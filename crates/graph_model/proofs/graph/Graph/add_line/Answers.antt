@@ -1,63 +1,66 @@
 use Rattle.std.proofs.Common.{◌≡◌, ◌+◌, cond, ℕ, [], ◌∷◌, ◌++◌, List, None, Some, sym, subst, ap, ◌∙◌, length, arith}
 use Rattle.std.specs.Str.{bytes_eq}
-use Rattle.graph_model.specs.declared.side.Side.TheVariants.{From, To}
-use Rattle.graph_model.specs.declared.found.Found.TheVariants as found
-use Rattle.graph_model.specs.declared.verb.Line.{Line}
-use Rattle.graph_model.specs.Graph.{GraphValue}
-use Rattle.graph_model.specs.Edges.{line_edges}
-use Rattle.graph_model.specs.Names.{AreNamesOf, named}
-use Rattle.graph_model.specs.Tables.{IsWithinLimits}
-use Rattle.graph_model.specs.Rows.{EndsBelow, NamesBelow, AddsRow, AreRowsOf}
-use Rattle.graph_model.specs.Counts.{counts_of}
-use Rattle.graph_model.specs.Fits.{IsGraph, line_fault, with_line}
+use Rattle.graph_model.specs.declared.kept.side.Side.{Side}
+use Rattle.graph_model.specs.declared.kept.side.Side.TheVariants.{From, To}
+use Rattle.graph_model.specs.declared.graph.found.Found.TheVariants as found
+use Rattle.graph_model.specs.declared.graph.verb.Line.{Line}
+use Rattle.graph_model.specs.graph.Graph.{GraphValue}
+use Rattle.graph_model.specs.graph.Edges.{line_edges}
+use Rattle.graph_model.specs.graph.Names.{AreNamesOf, named}
+use Rattle.graph_model.specs.kept.Tables.{IsWithinLimits}
+use Rattle.graph_model.specs.kept.Rows.{EndsBelow, NamesBelow, AddsRow, AreRowsOf}
+use Rattle.graph_model.specs.kept.Counts.{counts_of}
+use Rattle.graph_model.specs.graph.Fits.{IsGraph, line_fault, with_line}
 use Rattle.graph_model.proofs.GraphPush.{push_line}
 use Rattle.graph_model.proofs.Naming.{names_line, unused_line_name}
 use Rattle.graph_model.proofs.TableLaws.{limits_line}
 use Rattle.graph_model.proofs.RowLaws.{rows_push, from_below, to_below, names_below}
 use Rattle.graph_model.proofs.RowReads.{few_marked}
 use Rattle.graph_model.proofs.graph.Graph.add_line.Goals as goal
+use Rattle.graph_model.proofs.graph.Graph.add_line.Goals.{After-deref-2}
+
+-- the graph before, which the line fits and whose edges are given
+abbrev before : After-deref-2 → GraphValue
+before c = record { decls = c.self.inside.decls.items; lines = c.self.inside.lines.items }
+
+fits : (c : After-deref-2) → line_fault (before c) c.args.line ≡ None
+fits c = subst (λ h. line_fault h c.args.line ≡ None) (sym c.self.view_is) c.requires.fits
+
+given : (c : After-deref-2) → c.deref-2.result.now ≡ line_edges (before c).lines c.args.line
+given c = c.deref-2.ensures.value ∙ (c.in_ok-given.ensures ∙ ap (λ (ls : List Line). line_edges ls c.args.line) c.deref.ensures.value)
+
+ends_below : (side : Side) (c : After-deref-2) → EndsBelow side (line_edges (before c).lines c.args.line) (length (before c).lines + 1) → EndsBelow side c.deref-2.result.now (length c.self.inside.rows.marks + 1)
+ends_below side c below = subst (λ n. EndsBelow side c.deref-2.result.now (n + 1)) (sym c.self.invariant.rows.mark_count) (subst (λ es. EndsBelow side es (length (before c).lines + 1)) (sym (given c)) below)
 
 pub add-requires-clause-from_below : goal.add-requires-clause-from_below
-add-requires-clause-from_below c =
-    let g : GraphValue = record { decls = c.self.inside.decls.items; lines = c.self.inside.lines.items } in
-    let fits : line_fault g c.args.line ≡ None = subst (λ h. line_fault h c.args.line ≡ None) (sym c.self.view_is) c.requires.fits in
-    let given : c.deref-2.result.now ≡ line_edges g.lines c.args.line = c.deref-2.ensures.value ∙ (c.in_ok-given.ensures ∙ ap (λ (ls : List Line). line_edges ls c.args.line) c.deref.ensures.value) in
-    subst (λ n. EndsBelow From c.deref-2.result.now (n + 1)) (sym c.self.invariant.rows.mark_count) (subst (λ es. EndsBelow From es (length g.lines + 1)) (sym given) (from_below g c.args.line fits))
+add-requires-clause-from_below c = let a = (goal.at.add-requires-clause-from_below c).After-deref-2 in ends_below From a (from_below (before a) c.args.line (fits a))
 
 pub add-requires-clause-to_below : goal.add-requires-clause-to_below
-add-requires-clause-to_below c =
-    let g : GraphValue = record { decls = c.self.inside.decls.items; lines = c.self.inside.lines.items } in
-    let fits : line_fault g c.args.line ≡ None = subst (λ h. line_fault h c.args.line ≡ None) (sym c.self.view_is) c.requires.fits in
-    let given : c.deref-2.result.now ≡ line_edges g.lines c.args.line = c.deref-2.ensures.value ∙ (c.in_ok-given.ensures ∙ ap (λ (ls : List Line). line_edges ls c.args.line) c.deref.ensures.value) in
-    subst (λ n. EndsBelow To c.deref-2.result.now (n + 1)) (sym c.self.invariant.rows.mark_count) (subst (λ es. EndsBelow To es (length g.lines + 1)) (sym given) (to_below g c.args.line fits))
+add-requires-clause-to_below c = let a = (goal.at.add-requires-clause-to_below c).After-deref-2 in ends_below To a (to_below (before a) c.args.line (fits a))
 
 pub add-requires-clause-named : goal.add-requires-clause-named
 add-requires-clause-named c =
-    let g : GraphValue = record { decls = c.self.inside.decls.items; lines = c.self.inside.lines.items } in
-    let fits : line_fault g c.args.line ≡ None = subst (λ h. line_fault h c.args.line ≡ None) (sym c.self.view_is) c.requires.fits in
-    subst (λ n. NamesBelow n c.args.line.verb) (sym c.self.invariant.rows.mark_count) (names_below g c.args.line fits)
+    let a = (goal.at.add-requires-clause-named c).After-deref-2 in
+    subst (λ n. NamesBelow n c.args.line.verb) (sym c.self.invariant.rows.mark_count) (names_below (before a) c.args.line (fits a))
 
 pub add-requires-clause-few : goal.add-requires-clause-few
-add-requires-clause-few c =
-    let g : GraphValue = record { decls = c.self.inside.decls.items; lines = c.self.inside.lines.items } in
-    few_marked g c.self.inside.rows c.self.invariant.rows c.self.invariant.limits.few_lines
+add-requires-clause-few c = few_marked (before (goal.at.add-requires-clause-few c).After-deref-2) c.self.inside.rows c.self.invariant.rows c.self.invariant.limits.few_lines
 
 pub invariant_of-self-2 : goal.invariant_of-self-2
 invariant_of-self-2 c =
-    let g : GraphValue = record { decls = c.self.inside.decls.items; lines = c.self.inside.lines.items } in
+    let at = (goal.at.invariant_of-self-2 c).After-deref-2 in
+    let g : GraphValue = before at in
     let l : Line = c.args.line in
-    let fits : line_fault g l ≡ None = subst (λ h. line_fault h l ≡ None) (sym c.self.view_is) c.requires.fits in
     let pushed : c.push_within.new.items.items ≡ g.lines ++ l ∷ [] = c.push_within.ensures.items ∙ ap (λ (ls : List Line). ls ++ l ∷ []) c.reserve.ensures.items in
-    let given : c.deref-2.result.now ≡ line_edges g.lines l = c.deref-2.ensures.value ∙ (c.in_ok-given.ensures ∙ ap (λ (ls : List Line). line_edges ls l) c.deref.ensures.value) in
-    let added : AddsRow c.self.inside.rows c.add.new.self l.verb (line_edges g.lines l) = subst (λ es. AddsRow c.self.inside.rows c.add.new.self l.verb es) given c.in_default.ensures.ok in
+    let added : AddsRow c.self.inside.rows c.add.new.self l.verb (line_edges g.lines l) = subst (λ es. AddsRow c.self.inside.rows c.add.new.self l.verb es) (given at) c.in_default.ensures.ok in
     let place : c.len.result ≡ length g.lines = omega arith in
     let named_so : (q : List ℕ) → named c.insert.new.self q ≡ cond (bytes_eq l.name q) (Some (found.Line (length g.lines))) (named c.self.inside.names q) =
     λ q. c.in_ok-insert.ensures.ok q ∙ ap (λ n. cond (bytes_eq l.name q) (Some (found.Line n)) (named c.self.inside.names q)) place in
     record {
-      fits = subst (λ (ls : List Line). IsGraph (record { decls = g.decls; lines = ls })) (sym pushed) (push_line g l c.self.invariant.fits c.requires.is_line fits);
+      fits = subst (λ (ls : List Line). IsGraph (record { decls = g.decls; lines = ls })) (sym pushed) (push_line g l c.self.invariant.fits c.requires.is_line (fits at));
       tables = c.self.invariant.tables;
-      limits = subst (λ (ls : List Line). IsWithinLimits (record { decls = g.decls; lines = ls })) (sym pushed) (limits_line g l fits);
-      names = subst (λ (ls : List Line). AreNamesOf (record { decls = g.decls; lines = ls }) c.insert.new.self) (sym pushed) (names_line g l c.self.inside.names c.insert.new.self c.self.invariant.names (unused_line_name g l fits) named_so);
+      limits = subst (λ (ls : List Line). IsWithinLimits (record { decls = g.decls; lines = ls })) (sym pushed) (limits_line g l (fits at));
+      names = subst (λ (ls : List Line). AreNamesOf (record { decls = g.decls; lines = ls }) c.insert.new.self) (sym pushed) (names_line g l c.self.inside.names c.insert.new.self c.self.invariant.names (unused_line_name g l (fits at)) named_so);
       rows = subst (λ (ls : List Line). AreRowsOf (record { decls = g.decls; lines = ls }) c.add.new.self) (sym pushed) (rows_push g l c.self.inside.rows c.add.new.self c.self.invariant.rows added);
       counts = c.counts_with_line-counts.ensures ∙ (ap (λ h. counts_of (with_line h l)) (sym c.self.view_is) ∙ ap (λ ls. counts_of (record { decls = g.decls; lines = ls })) (sym pushed));
     }

@@ -1,13 +1,8 @@
-use Rattle.graph_model.specs.Graph.{GraphValue}
 use Rattle.graph_model.proofs.RowReads.{row_is, from_read}
 use Rattle.graph_model.proofs.graph.Graph.edges_from.Goals as goal
 
 pub edges_from-requires : goal.edges_from-requires
-edges_from-requires c =
-    let g : GraphValue = record { decls = c.self.inside.decls.items; lines = c.self.inside.lines.items } in
-    row_is g c.args.self.now c.self.inside.rows c.args.i c.self.view_is c.self.invariant.rows c.requires
+edges_from-requires c = row_is _ c.args.self.now c.self.inside.rows c.args.i c.self.view_is c.self.invariant.rows c.requires
 
 pub returns : goal.returns
-returns c =
-    let g : GraphValue = record { decls = c.self.inside.decls.items; lines = c.self.inside.lines.items } in
-    from_read g c.args.self.now c.self.inside.rows c.args.i c.edges_from.result.now c.self.view_is c.self.invariant.rows c.edges_from.ensures
+returns c = from_read _ c.args.self.now c.self.inside.rows c.args.i c.edges_from.result.now c.self.view_is c.self.invariant.rows c.edges_from.ensures

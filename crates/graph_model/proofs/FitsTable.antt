@@ -1,0 +1,110 @@
+-- Whether the items of a graph fit, by computing.
+use Rattle.std.proofs.Common.{◌≡◌, ℕ, ◌+◌, ◌^◌, Bool, true, not, ◌&&◌, List, [], ◌∷◌, ◌++◌, length, refl, sym}
+use Rattle.std.specs.Prelude.{Option, Some, None, IsTrue, is_some, nat_le, nat_lt}
+use Rattle.std.specs.List.{list_all, AllByRecursion}
+use Rattle.std.proofs.lemmas.Bool.{true≢false, and_parts, leb-true, ltb-true}
+use Rattle.index_spaces.specs.Space.{AscendAbove}
+use Rattle.graph_model.specs.declared.graph.decl.Decl.{Decl}
+use Rattle.graph_model.specs.declared.graph.decl.Decl.TheVariants.{Space, Inst, Lock, Barrier}
+use Rattle.graph_model.specs.declared.graph.verb.Line.{Line}
+use Rattle.graph_model.specs.declared.graph.verb.Kernel.{Kernel}
+use Rattle.graph_model.specs.declared.graph.verb.Kernel.TheVariants.{Iota, Axpy, Expect}
+use Rattle.graph_model.specs.declared.graph.verb.Verb.{Verb}
+use Rattle.graph_model.specs.declared.graph.verb.Verb.TheVariants.{Arrive, Fill, Task}
+use Rattle.graph_model.specs.graph.Name.{is_name}
+use Rattle.graph_model.specs.graph.Graph.{GraphValue}
+use Rattle.graph_model.specs.graph.Fits.{decl_fault, line_fault, IsDecl, IsKernel, IsVerb, DeclsFit, LinesFit, IsGraph}
+
+-- the intervals ascend
+abbrev pub ascends : ℕ → List (ℕ × ℕ) → Bool
+ascends low [] = true
+ascends low (i ∷ s) = nat_le low i.0 && (nat_le i.0 i.1 && (nat_lt i.1 (2 ^ 32) && ascends (i.1 + 2) s))
+
+ascends_by : (low : ℕ) (s : List (ℕ × ℕ)) → ascends low s ≡ true → AscendAbove low s
+ascends_by low [] h = tt
+ascends_by low (i ∷ s) h =
+    let a = and_parts (nat_le low i.0) _ h in
+    let b = and_parts (nat_le i.0 i.1) _ a.1 in
+    let c = and_parts (nat_lt i.1 (2 ^ 32)) (ascends (i.1 + 2) s) b.1 in
+    (leb-true low i.0 a.0, leb-true i.0 i.1 b.0, ltb-true i.1 (2 ^ 32) c.0, ascends_by (i.1 + 2) s c.1)
+
+names_by : (names : List (List ℕ)) → list_all is_name names ≡ true → AllByRecursion (λ f. IsTrue (is_name f)) names
+names_by [] h = tt
+names_by (name ∷ names) h = let a = and_parts (is_name name) (list_all is_name names) h in (a.0, names_by names a.1)
+
+-- what the types say of a declaration, and of a line
+abbrev pub is_decl : Decl → Bool
+is_decl (Space name space) = is_name name && (nat_lt 0 (length space) && ascends 0 space)
+is_decl (Inst name space fields) = is_name name && (nat_lt space (2 ^ 32) && list_all is_name fields)
+is_decl (Lock name) = is_name name
+is_decl (Barrier name count op first) = is_name name && (nat_lt count (2 ^ 32) && nat_lt first (2 ^ 64))
+
+decl_by : (d : Decl) → is_decl d ≡ true → IsDecl d
+decl_by (Space name space) h =
+    let a = and_parts (is_name name) _ h in
+    let b = and_parts (nat_lt 0 (length space)) (ascends 0 space) a.1 in
+    (a.0, (ltb-true 0 (length space) b.0, ascends_by 0 space b.1))
+decl_by (Inst name space fields) h =
+    let a = and_parts (is_name name) _ h in
+    let b = and_parts (nat_lt space (2 ^ 32)) (list_all is_name fields) a.1 in
+    (a.0, ltb-true space (2 ^ 32) b.0, names_by fields b.1)
+decl_by (Lock name) h = h
+decl_by (Barrier name count op first) h =
+    let a = and_parts (is_name name) _ h in
+    let b = and_parts (nat_lt count (2 ^ 32)) (nat_lt first (2 ^ 64)) a.1 in
+    (a.0, ltb-true count (2 ^ 32) b.0, ltb-true first (2 ^ 64) b.1)
+
+abbrev pub is_kernel : Kernel → Bool
+is_kernel (Iota x s value) = nat_lt value (2 ^ 64)
+is_kernel (Axpy x y s factor) = nat_lt factor (2 ^ 64)
+is_kernel (Expect x s low high) = nat_lt low (2 ^ 64) && nat_lt high (2 ^ 64)
+is_kernel _ = true
+
+kernel_by : (k : Kernel) → is_kernel k ≡ true → IsKernel k
+kernel_by (Iota x s value) h = ltb-true value (2 ^ 64) h
+kernel_by (Axpy x y s factor) h = ltb-true factor (2 ^ 64) h
+kernel_by (Expect x s low high) h = let a = and_parts (nat_lt low (2 ^ 64)) (nat_lt high (2 ^ 64)) h in (ltb-true low (2 ^ 64) a.0, ltb-true high (2 ^ 64) a.1)
+kernel_by k h = tt
+
+abbrev pub is_verb : Verb → Bool
+is_verb (Arrive phase value) = nat_lt value (2 ^ 64)
+is_verb (Fill target space value) = nat_lt value (2 ^ 64)
+is_verb (Task kernel) = is_kernel kernel
+is_verb _ = true
+
+verb_by : (v : Verb) → is_verb v ≡ true → IsVerb v
+verb_by (Arrive phase value) h = ltb-true value (2 ^ 64) h
+verb_by (Fill target space value) h = ltb-true value (2 ^ 64) h
+verb_by (Task kernel) h = kernel_by kernel h
+verb_by v h = tt
+
+no_fault : {X : Type 0} (o : Option X) → not (is_some o) ≡ true → o ≡ None
+no_fault None h = refl
+no_fault (Some x) h = absurd (true≢false (sym h))
+
+-- each item fits after those before it
+abbrev pub decls_fit : List Decl → List Decl → Bool
+decls_fit before [] = true
+decls_fit before (d ∷ ds) = is_decl d && (not (is_some (decl_fault (record { decls = before; lines = [] }) d)) && decls_fit (before ++ d ∷ []) ds)
+
+decls_by : (before ds : List Decl) → decls_fit before ds ≡ true → DeclsFit before ds
+decls_by before [] h = tt
+decls_by before (d ∷ ds) h =
+    let a = and_parts (is_decl d) _ h in
+    let b = and_parts (not (is_some (decl_fault (record { decls = before; lines = [] }) d))) (decls_fit (before ++ d ∷ []) ds) a.1 in
+    (decl_by d a.0, no_fault _ b.0, decls_by (before ++ d ∷ []) ds b.1)
+
+abbrev pub lines_fit : List Decl → List Line → List Line → Bool
+lines_fit decls before [] = true
+lines_fit decls before (l ∷ ls) = is_name l.name && (is_verb l.verb && (not (is_some (line_fault (record { decls = decls; lines = before }) l)) && lines_fit decls (before ++ l ∷ []) ls))
+
+lines_by : (decls : List Decl) (before ls : List Line) → lines_fit decls before ls ≡ true → LinesFit decls before ls
+lines_by decls before [] h = tt
+lines_by decls before (l ∷ ls) h =
+    let a = and_parts (is_name l.name) _ h in
+    let b = and_parts (is_verb l.verb) _ a.1 in
+    let c = and_parts (not (is_some (line_fault (record { decls = decls; lines = before }) l))) (lines_fit decls (before ++ l ∷ []) ls) b.1 in
+    (record { named = a.0; values = verb_by l.verb b.0 }, no_fault _ c.0, lines_by decls (before ++ l ∷ []) ls c.1)
+
+pub fits_by_computing : (g : GraphValue) → decls_fit [] g.decls ≡ true → lines_fit g.decls [] g.lines ≡ true → IsGraph g
+fits_by_computing g decls lines = record { decls = decls_by [] g.decls decls; lines = lines_by g.decls [] g.lines lines }

@@ -1,0 +1,30 @@
+-- Items that small graphs refuse.
+use Rattle.std.specs.Prelude.{◌≡◌, [], ◌∷◌, Some, None, codes, refl}
+use Rattle.std.specs.Fmt.{digits}
+use Rattle.graph_model.specs.declared.graph.decl.Decl.TheVariants.{Space, Inst}
+use Rattle.graph_model.specs.declared.graph.verb.Verb.TheVariants.{User, Trigger, Cancel, Arrive, Fill}
+use Rattle.graph_model.specs.declared.graph.why.Why.TheVariants as why
+use Rattle.graph_model.specs.graph.Graph.{GraphValue}
+use Rattle.graph_model.specs.graph.Fits.{line_fault}
+use Rattle.graph_model.proofs.examples.Graphs.{graph, line, wrapping_sum}
+
+-- a third arrival where two complete the phase
+wrapping_sum-full : line_fault wrapping_sum (line (codes "z") (Arrive 0 1) None) ≡ Some why.Arrivals
+unfolding digits
+wrapping_sum-full = refl
+
+-- a second end of a user event
+abbrev triggered : GraphValue
+triggered = graph [] (line (codes "u") User None ∷ line (codes "t") (Trigger 0) None ∷ [])
+
+triggered-again : line_fault triggered (line (codes "c") (Cancel 0) None) ≡ Some why.Twice
+unfolding digits
+triggered-again = refl
+
+-- a space that meets a column's intervals, and is not within them
+abbrev apart : GraphValue
+apart = graph (Space (codes "p") ((0, 1) ∷ (4, 5) ∷ []) ∷ Space (codes "q") ((1, 4) ∷ []) ∷ Inst (codes "a") 0 (codes "x" ∷ []) ∷ []) []
+
+apart-outside : line_fault apart (line (codes "f") (Fill 0 1 1) None) ≡ Some why.Outside
+unfolding digits
+apart-outside = refl

@@ -1,0 +1,10 @@
+use Rattle.std.proofs.Common.{◌≡◌, length}
+use Rattle.std.specs.Str.{bytes_eq}
+use Rattle.graph_model.specs.graph.Fits.{repeats}
+use Rattle.graph_model.proofs.graph.repeats.names_repeat.Given as goal
+
+abbrev pub invariant-loop-rest : goal.invariant-loop-rest
+invariant-loop-rest l = repeats bytes_eq l.names ≡ repeats bytes_eq l.rest
+
+abbrev pub decreases-loop-rest : goal.decreases-loop-rest
+decreases-loop-rest l = length l.rest

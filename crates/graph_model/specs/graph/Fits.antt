@@ -1,0 +1,227 @@
+-- When an item fits after a graph: the reasons that may refuse it, in their order.
+use Rattle.std.specs.Prelude.{◌≡◌, ℕ, ◌^◌, ◌<◌, nat_lt, nat_le, nat_eq, Bool, true, false, cond, not, ◌&&◌, ◌||◌, List, [], ◌∷◌, ◌++◌, length, map, filter, sum_by, Option, Some, None, IsTrue, is_some}
+use Rattle.std.specs.Option.{option_map_or}
+use Rattle.std.specs.List.{list_any, list_all, AllByRecursion}
+use Rattle.std.specs.Str.{bytes_eq}
+use Rattle.index_spaces.specs.Space.{has_point, points, space_size, IsSpace}
+use Rattle.index_spaces.specs.declared.limits.TheConstants.{MAX_INTERVALS, MAX_POINTS}
+use Rattle.graph_model.specs.declared.graph.limits.TheConstants.{MAX_TEXT, MAX_INSTS, MAX_COLUMNS, MAX_CELLS, MAX_LOCKS, MAX_BARRIERS, MAX_LINES, MAX_EDGES, MAX_EVENTS, MAX_COUNT}
+use Rattle.graph_model.specs.declared.graph.decl.Decl.{Decl}
+use Rattle.graph_model.specs.declared.graph.decl.Decl.TheVariants.{Space, Inst, Lock, Barrier}
+use Rattle.graph_model.specs.declared.graph.verb.Line.{Line}
+use Rattle.graph_model.specs.declared.graph.verb.Access.{Access}
+use Rattle.graph_model.specs.declared.graph.why.Why.{Why}
+use Rattle.graph_model.specs.declared.graph.why.Why.TheVariants as why
+use Rattle.graph_model.specs.declared.graph.verb.Verb.{Verb}
+use Rattle.graph_model.specs.declared.graph.verb.Verb.TheVariants.{User, Trigger, Cancel, Merge, MergeIgnore, Phase, Arrive, Acquire, Release, Fill, Task}
+use Rattle.graph_model.specs.declared.graph.verb.Kernel.{Kernel}
+use Rattle.graph_model.specs.declared.graph.verb.Kernel.TheVariants.{Iota, Axpy, Expect}
+use Rattle.graph_model.specs.graph.Name.{is_name}
+use Rattle.graph_model.specs.graph.Graph.{GraphValue, ColumnInfo, decl_name, named_spaces, columns, locks, barriers, space_at, column_space, line_passes, is_user, is_phase, is_acquire, is_release_of, ends_user, arrivals, barrier_count, verb_at}
+use Rattle.graph_model.specs.graph.Edges.{edges}
+use Rattle.graph_model.specs.graph.Access.{verb_accesses}
+use Rattle.graph_model.specs.graph.Spelling.{head}
+
+-- the first reason whose test passes
+abbrev pub first_reason : List (Bool × Why) → Option Why
+first_reason [] = None
+first_reason (t ∷ ts) = cond t.0 (Some t.1) (first_reason ts)
+
+-- a list with an element that stands in it twice
+abbrev pub repeats : {X : Type 0} → (X → X → Bool) → List X → Bool
+repeats eq [] = false
+repeats eq (x ∷ xs) = list_any (eq x) xs || repeats eq xs
+
+-- the names that are in use
+abbrev pub names : GraphValue → List (List ℕ)
+names g = map decl_name g.decls ++ map (λ (l : Line). l.name) g.lines
+
+abbrev pub is_used : GraphValue → List ℕ → Bool
+is_used g name = list_any (bytes_eq name) (names g)
+
+-- the graph with an item at its end
+abbrev pub with_decl : GraphValue → Decl → GraphValue
+with_decl g d = record { decls = g.decls ++ d ∷ []; lines = g.lines }
+
+abbrev pub with_line : GraphValue → Line → GraphValue
+with_line g l = record { decls = g.decls; lines = g.lines ++ l ∷ [] }
+
+-- all cells of all columns
+abbrev pub cell_count : GraphValue → ℕ
+cell_count g = sum_by (λ (c : ColumnInfo). space_size (space_at g c.space)) (columns g)
+
+-- the instances of a graph
+abbrev pub is_inst : Decl → Bool
+is_inst (Inst name space fields) = true
+is_inst _ = false
+
+-- the intervals and the points of a declared space are few enough
+abbrev pub is_large : Decl → Bool
+is_large (Space name space) = nat_lt MAX_INTERVALS (length space) || nat_lt MAX_POINTS (space_size space)
+is_large _ = false
+
+-- a quantity of a graph is above its greatest value
+abbrev pub is_beyond : GraphValue → Bool
+is_beyond g = nat_lt MAX_TEXT (length (head g)) || (nat_lt MAX_INSTS (length (filter is_inst g.decls)) || (nat_lt MAX_COLUMNS (length (columns g)) || (nat_lt MAX_CELLS (cell_count g)
+    || (nat_lt MAX_LOCKS (length (locks g)) || (nat_lt MAX_BARRIERS (length (barriers g)) || (nat_lt MAX_LINES (length g.lines) || nat_lt MAX_EDGES (length (edges g))))))))
+
+abbrev pub decl_repeats : Decl → Bool
+decl_repeats (Inst name space fields) = repeats bytes_eq fields
+decl_repeats _ = false
+
+abbrev pub decl_unknown : GraphValue → Decl → Bool
+decl_unknown g (Inst name space fields) = nat_le (length (named_spaces g)) space
+decl_unknown g _ = false
+
+abbrev pub decl_misnumbered : Decl → Bool
+decl_misnumbered (Inst name space fields) = nat_lt (length fields) 1
+decl_misnumbered (Barrier name count op first) = nat_lt count 1 || nat_lt MAX_COUNT count
+decl_misnumbered _ = false
+
+-- the reasons that may refuse a declaration after this graph
+abbrev pub decl_tests : GraphValue → Decl → List (Bool × Why)
+decl_tests g d =
+    (is_used g (decl_name d) || decl_repeats d, why.Twice)
+    ∷ (decl_unknown g d, why.Unknown)
+    ∷ (decl_misnumbered d, why.Number)
+    ∷ (is_large d || is_beyond (with_decl g d), why.Limit)
+    ∷ []
+
+-- the first of them
+abbrev pub decl_fault : GraphValue → Decl → Option Why
+decl_fault g d = first_reason (decl_tests g d)
+
+-- an event named twice, a user event that is ended already, or an acquire that is released already
+abbrev pub verb_repeats : GraphValue → Verb → Bool
+verb_repeats g (Merge events) = repeats nat_eq events
+verb_repeats g (MergeIgnore events) = repeats nat_eq events
+verb_repeats g (Trigger user) = list_any (λ (l : Line). ends_user user l.verb) g.lines
+verb_repeats g (Cancel user) = list_any (λ (l : Line). ends_user user l.verb) g.lines
+verb_repeats g (Release acquire) = list_any (λ (l : Line). is_release_of acquire l.verb) g.lines
+verb_repeats g _ = false
+
+-- the lines that a verb names
+abbrev pub named_lines : Verb → List ℕ
+named_lines (Trigger user) = user ∷ []
+named_lines (Cancel user) = user ∷ []
+named_lines (Merge events) = events
+named_lines (MergeIgnore events) = events
+named_lines (Arrive phase value) = phase ∷ []
+named_lines (Release acquire) = acquire ∷ []
+named_lines _ = []
+
+-- the precondition as a list
+abbrev pub on_lines : Option ℕ → List ℕ
+on_lines None = []
+on_lines (Some e) = e ∷ []
+
+abbrev pub access_unknown : GraphValue → Access → Bool
+access_unknown g a = nat_le (length (columns g)) a.column || nat_le (length (named_spaces g)) a.space
+
+-- a barrier or a reservation whose number is out of range
+abbrev pub verb_unknown : GraphValue → Verb → Bool
+verb_unknown g (Phase barrier) = nat_le (length (barriers g)) barrier
+verb_unknown g (Acquire lock) = nat_le (length (locks g)) lock
+verb_unknown g _ = false
+
+abbrev pub line_unknown : GraphValue → Line → Bool
+line_unknown g l = list_any (λ i. nat_le (length g.lines) i) (named_lines l.verb ++ on_lines l.on) || (verb_unknown g l.verb || list_any (access_unknown g) (verb_accesses l.verb))
+
+-- a named line is of another kind than its place takes
+abbrev pub verb_unlike : GraphValue → Verb → Bool
+verb_unlike g (Trigger user) = not (line_passes is_user g user)
+verb_unlike g (Cancel user) = not (line_passes is_user g user)
+verb_unlike g (Arrive phase value) = not (line_passes is_phase g phase)
+verb_unlike g (Release acquire) = not (line_passes is_acquire g acquire)
+verb_unlike g _ = false
+
+-- a verb that takes no precondition
+abbrev pub takes_no_on : Verb → Bool
+takes_no_on User = true
+takes_no_on (Merge events) = true
+takes_no_on (MergeIgnore events) = true
+takes_no_on (Phase barrier) = true
+takes_no_on _ = false
+
+abbrev pub verb_misnumbered : Verb → Bool
+verb_misnumbered (Merge events) = nat_lt (length events) 1
+verb_misnumbered (MergeIgnore events) = nat_lt (length events) 1
+verb_misnumbered _ = false
+
+-- the points of an access do not all lie in its column
+abbrev pub access_outside : GraphValue → Access → Bool
+access_outside g a = not (list_all (has_point (column_space g a.column)) (points (space_at g a.space)))
+
+abbrev pub barrier_of_phase : Verb → ℕ
+barrier_of_phase (Phase b) = b
+barrier_of_phase _ = 0
+
+-- how many arrivals complete this phase
+abbrev pub phase_count : GraphValue → ℕ → ℕ
+phase_count g p = option_map_or (λ v. barrier_count g (barrier_of_phase v)) (verb_at g p) 0
+
+-- an arrival at a phase that has as many as it takes
+abbrev pub arrives_late : GraphValue → Verb → Bool
+arrives_late g (Arrive phase value) = nat_le (phase_count g phase) (arrivals g phase)
+arrives_late g _ = false
+
+-- a merge of too many events
+abbrev pub merges_many : Verb → Bool
+merges_many (Merge events) = nat_lt MAX_EVENTS (length events)
+merges_many (MergeIgnore events) = nat_lt MAX_EVENTS (length events)
+merges_many _ = false
+
+-- the reasons that may refuse a line after this graph
+abbrev pub line_tests : GraphValue → Line → List (Bool × Why)
+line_tests g l =
+    (is_used g l.name || (verb_repeats g l.verb || repeats nat_eq (map (λ (a : Access). a.column) (verb_accesses l.verb))), why.Twice)
+    ∷ (line_unknown g l, why.Unknown)
+    ∷ (verb_unlike g l.verb || (takes_no_on l.verb && is_some l.on), why.Kind)
+    ∷ (verb_misnumbered l.verb, why.Number)
+    ∷ (list_any (access_outside g) (verb_accesses l.verb), why.Outside)
+    ∷ (arrives_late g l.verb, why.Arrivals)
+    ∷ (merges_many l.verb || is_beyond (with_line g l), why.Limit)
+    ∷ []
+
+-- the first of them
+abbrev pub line_fault : GraphValue → Line → Option Why
+line_fault g l = first_reason (line_tests g l)
+
+-- what the types say of a declaration
+abbrev pub IsDecl : Decl → Type 0
+IsDecl (Space name space) = IsTrue (is_name name) × IsSpace space
+IsDecl (Inst name space fields) = IsTrue (is_name name) × (space < 2 ^ 32) × AllByRecursion (λ f. IsTrue (is_name f)) fields
+IsDecl (Lock name) = IsTrue (is_name name)
+IsDecl (Barrier name count op first) = IsTrue (is_name name) × (count < 2 ^ 32) × (first < 2 ^ 64)
+
+abbrev pub IsKernel : Kernel → Type 0
+IsKernel (Iota x s value) = value < 2 ^ 64
+IsKernel (Axpy x y s factor) = factor < 2 ^ 64
+IsKernel (Expect x s low high) = (low < 2 ^ 64) × (high < 2 ^ 64)
+IsKernel _ = Unit {0}
+
+abbrev pub IsVerb : Verb → Type 0
+IsVerb (Arrive phase value) = value < 2 ^ 64
+IsVerb (Fill target space value) = value < 2 ^ 64
+IsVerb (Task kernel) = IsKernel kernel
+IsVerb _ = Unit {0}
+
+-- what the types say of a line
+pub record IsLine (l : Line) : Type 0 where
+  pub named : IsTrue (is_name l.name)
+  pub values : IsVerb l.verb
+
+-- each declaration fits after those before it
+abbrev pub DeclsFit : List Decl → List Decl → Type 0
+DeclsFit before [] = Unit {0}
+DeclsFit before (d ∷ ds) = IsDecl d × (decl_fault (record { decls = before; lines = [] }) d ≡ None) × DeclsFit (before ++ d ∷ []) ds
+
+-- each line fits after those before it
+abbrev pub LinesFit : List Decl → List Line → List Line → Type 0
+LinesFit decls before [] = Unit {0}
+LinesFit decls before (l ∷ ls) = IsLine l × (line_fault (record { decls = decls; lines = before }) l ≡ None) × LinesFit decls (before ++ l ∷ []) ls
+
+-- each item of the graph fits after the items before it
+pub record IsGraph (g : GraphValue) : Type 0 where
+  pub decls : DeclsFit [] g.decls
+  pub lines : LinesFit g.decls [] g.lines

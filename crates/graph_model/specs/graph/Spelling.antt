@@ -1,0 +1,104 @@
+-- The one spelling of a graph's declarations and lines.
+use Rattle.std.specs.Prelude.{ℕ, List, [], ◌∷◌, ◌++◌, map, Option, Some, None, slice_get, codes, decimal}
+use Rattle.std.specs.Option.{option_map_or}
+use Rattle.std.specs.List.{join_with_byte}
+use Rattle.index_spaces.specs.declared.Op.{Op}
+use Rattle.index_spaces.specs.declared.Op.TheVariants.{Sum, Min, Max}
+use Rattle.graph_model.specs.declared.graph.decl.Decl.{Decl}
+use Rattle.graph_model.specs.declared.graph.decl.Decl.TheVariants.{Space, Inst, Lock, Barrier}
+use Rattle.graph_model.specs.declared.graph.verb.Line.{Line}
+use Rattle.graph_model.specs.declared.graph.verb.Verb.{Verb}
+use Rattle.graph_model.specs.declared.graph.verb.Verb.TheVariants.{User, Trigger, Cancel, Merge, MergeIgnore, Phase, Arrive, Acquire, Release, Fill, Copy, Reduce, Task}
+use Rattle.graph_model.specs.declared.graph.verb.Kernel.{Kernel}
+use Rattle.graph_model.specs.declared.graph.verb.Kernel.TheVariants.{Iota, Axpy, Stencil, Scan, Hist, Dot, Expect, Gather}
+use Rattle.graph_model.specs.graph.Graph.{GraphValue, ColumnInfo, BarrierInfo, named_spaces, columns, locks, barriers}
+
+-- words with a space between each two, and a newline
+abbrev pub spelled : List (List ℕ) → List ℕ
+spelled words = join_with_byte 32 words ++ 10 ∷ []
+
+-- the names of things by their numbers
+abbrev pub space_name : GraphValue → ℕ → List ℕ
+space_name g s = option_map_or (λ (x : List ℕ × List (ℕ × ℕ)). x.0) (slice_get (named_spaces g) s) []
+
+abbrev pub column_name : GraphValue → ℕ → List ℕ
+column_name g c = option_map_or (λ (x : ColumnInfo). x.inst ++ 46 ∷ x.field) (slice_get (columns g) c) []
+
+abbrev pub lock_name : GraphValue → ℕ → List ℕ
+lock_name g l = option_map_or (λ (x : List ℕ). x) (slice_get (locks g) l) []
+
+abbrev pub barrier_name : GraphValue → ℕ → List ℕ
+barrier_name g b = option_map_or (λ (x : BarrierInfo). x.name) (slice_get (barriers g) b) []
+
+abbrev pub line_name : GraphValue → ℕ → List ℕ
+line_name g i = option_map_or (λ (x : Line). x.name) (slice_get g.lines i) []
+
+abbrev pub op_word : Op → List ℕ
+op_word Sum = codes "sum"
+op_word Min = codes "min"
+op_word Max = codes "max"
+
+-- an interval: its ends with two dots between them
+abbrev pub interval_word : ℕ × ℕ → List ℕ
+interval_word i = decimal i.0 ++ 46 ∷ 46 ∷ decimal i.1
+
+-- pieces with a comma between each two
+abbrev pub comma_word : List (List ℕ) → List ℕ
+comma_word pieces = join_with_byte 44 pieces
+
+-- the words of a declaration, after the declarations of this graph
+abbrev pub decl_words : GraphValue → Decl → List (List ℕ)
+decl_words g (Space name space) = codes "space" ∷ name ∷ comma_word (map interval_word space) ∷ []
+decl_words g (Inst name space fields) = codes "inst" ∷ name ∷ space_name g space ∷ comma_word fields ∷ []
+decl_words g (Lock name) = codes "lock" ∷ name ∷ []
+decl_words g (Barrier name count op first) = codes "barrier" ∷ name ∷ decimal count ∷ op_word op ∷ decimal first ∷ []
+
+abbrev pub kernel_words : GraphValue → Kernel → List (List ℕ)
+kernel_words g (Iota x s value) = codes "iota" ∷ column_name g x ∷ space_name g s ∷ decimal value ∷ []
+kernel_words g (Axpy x y s factor) = codes "axpy" ∷ column_name g x ∷ column_name g y ∷ space_name g s ∷ decimal factor ∷ []
+kernel_words g (Stencil x y r s) = codes "stencil" ∷ column_name g x ∷ column_name g y ∷ space_name g r ∷ space_name g s ∷ []
+kernel_words g (Scan x y s) = codes "scan" ∷ column_name g x ∷ column_name g y ∷ space_name g s ∷ []
+kernel_words g (Hist x y s t) = codes "hist" ∷ column_name g x ∷ column_name g y ∷ space_name g s ∷ space_name g t ∷ []
+kernel_words g (Dot x y z s t) = codes "dot" ∷ column_name g x ∷ column_name g y ∷ column_name g z ∷ space_name g s ∷ space_name g t ∷ []
+kernel_words g (Expect x s low high) = codes "expect" ∷ column_name g x ∷ space_name g s ∷ decimal low ∷ decimal high ∷ []
+kernel_words g (Gather x y z s t) = codes "gather" ∷ column_name g x ∷ column_name g y ∷ column_name g z ∷ space_name g s ∷ space_name g t ∷ []
+
+abbrev pub verb_words : GraphValue → Verb → List (List ℕ)
+verb_words g User = codes "user" ∷ []
+verb_words g (Trigger user) = codes "trigger" ∷ line_name g user ∷ []
+verb_words g (Cancel user) = codes "cancel" ∷ line_name g user ∷ []
+verb_words g (Merge events) = codes "merge" ∷ map (line_name g) events
+verb_words g (MergeIgnore events) = codes "mergei" ∷ map (line_name g) events
+verb_words g (Phase barrier) = codes "phase" ∷ barrier_name g barrier ∷ []
+verb_words g (Arrive phase value) = codes "arrive" ∷ line_name g phase ∷ decimal value ∷ []
+verb_words g (Acquire lock) = codes "acquire" ∷ lock_name g lock ∷ []
+verb_words g (Release acquire) = codes "release" ∷ line_name g acquire ∷ []
+verb_words g (Fill target space value) = codes "fill" ∷ column_name g target ∷ space_name g space ∷ decimal value ∷ []
+verb_words g (Copy source target space) = codes "copy" ∷ column_name g source ∷ column_name g target ∷ space_name g space ∷ []
+verb_words g (Reduce op source target space) = codes "reduce" ∷ op_word op ∷ column_name g source ∷ column_name g target ∷ space_name g space ∷ []
+verb_words g (Task kernel) = codes "task" ∷ kernel_words g kernel
+
+abbrev pub on_words : GraphValue → Option ℕ → List (List ℕ)
+on_words g None = []
+on_words g (Some e) = codes "on" ∷ line_name g e ∷ []
+
+-- the words of a line, after this graph
+abbrev pub line_words : GraphValue → Line → List (List ℕ)
+line_words g l = l.name ∷ codes "=" ∷ verb_words g l.verb ++ on_words g l.on
+
+-- the first line of a graph's text
+abbrev pub header : List ℕ
+header = spelled (codes "realm" ∷ codes "1" ∷ [])
+
+-- the text of declarations and lines that stand after others
+abbrev pub decls_text : List Decl → List Decl → List ℕ
+decls_text before [] = []
+decls_text before (d ∷ ds) = spelled (decl_words (record { decls = before; lines = [] }) d) ++ decls_text (before ++ d ∷ []) ds
+
+abbrev pub lines_text : List Decl → List Line → List Line → List ℕ
+lines_text decls before [] = []
+lines_text decls before (l ∷ ls) = spelled (line_words (record { decls = decls; lines = before }) l) ++ lines_text decls (before ++ l ∷ []) ls
+
+-- the text of a graph up to its closing line
+abbrev pub head : GraphValue → List ℕ
+head g = header ++ (decls_text [] g.decls ++ lines_text g.decls [] g.lines)

@@ -1,0 +1,116 @@
+-- What a line does to the cells: a verdict, and changes of single cells, computed from the cells before it.
+use Rattle.std.specs.Prelude.{ℕ, zero, suc, ◌+◌, ◌*◌, ◌%◌, ◌^◌, min, max, ◌==◌, nat_le, Bool, true, false, cond, ◌&&◌, List, [], ◌∷◌, map, filter, sum_by, count_by}
+use Rattle.std.specs.Option.{option_map_or}
+use Rattle.std.specs.List.{list_all}
+use Rattle.index_spaces.specs.Space.{has_point, points, space_size, rank, point_at}
+use Rattle.index_spaces.specs.declared.Op.{Op}
+use Rattle.index_spaces.specs.declared.Op.TheVariants as op
+use Rattle.graph_model.specs.declared.meaning.outcome.Verdict.{Verdict}
+use Rattle.graph_model.specs.declared.meaning.outcome.Verdict.TheVariants.{Fine, Fault}
+use Rattle.graph_model.specs.declared.graph.verb.Verb.{Verb}
+use Rattle.graph_model.specs.declared.graph.verb.Verb.TheVariants.{Fill, Copy, Reduce, Task}
+use Rattle.graph_model.specs.declared.graph.verb.Kernel.{Kernel}
+use Rattle.graph_model.specs.declared.graph.verb.Kernel.TheVariants.{Iota, Axpy, Stencil, Scan, Hist, Dot, Expect, Gather}
+use Rattle.graph_model.specs.graph.Graph.{GraphValue, verb_at, space_at}
+
+-- the cells of all columns: by the number of the column and the point
+abbrev pub Cells : Type 0
+Cells = ℕ → ℕ → ℕ
+
+-- all cells are 0
+abbrev pub zero_cells : Cells
+zero_cells column point = 0
+
+-- how one cell changes
+pub data Change : Type 0 where
+  Set : ℕ → Change
+  Add : ℕ → Change
+
+-- a change of the cell of a column at a point
+pub record CellChange : Type 0 where
+  pub column : ℕ
+  pub point : ℕ
+  pub change : Change
+
+abbrev pub wrapped : ℕ → ℕ
+wrapped n = n % 2 ^ 64
+
+-- the cell after a change
+abbrev pub cell_after : Change → ℕ → ℕ
+cell_after (Set v) cell = v
+cell_after (Add v) cell = wrapped (cell + v)
+
+-- the cell after a change, where the change is of this cell
+abbrev pub cell_after_if : Bool → Change → ℕ → ℕ
+cell_after_if true change cell = cell_after change cell
+cell_after_if false change cell = cell
+
+-- the cells after one change
+abbrev pub cells_after_one : Cells → CellChange → Cells
+cells_after_one cells c column point = cell_after_if ((column == c.column) && (point == c.point)) c.change (cells column point)
+
+-- the cells after changes, one after another
+abbrev pub cells_after : Cells → List CellChange → Cells
+cells_after cells [] = cells
+cells_after cells (c ∷ cs) = cells_after (cells_after_one cells c) cs
+
+-- a verdict, and the changes
+pub record Effect : Type 0 where
+  pub verdict : Verdict
+  pub changes : List CellChange
+
+-- a change at each of the points
+abbrev pub changes_at : (ℕ → Change) → ℕ → List ℕ → List CellChange
+changes_at f column ps = map (λ p. record { column = column; point = p; change = f p }) ps
+
+-- the sum of f over points
+abbrev pub wrapped_sum : (ℕ → ℕ) → List ℕ → ℕ
+wrapped_sum f ps = wrapped (sum_by f ps)
+
+-- a point and its two neighbors
+abbrev pub around : ℕ → List ℕ
+around zero = 0 ∷ 1 ∷ []
+around (suc p) = p ∷ suc p ∷ (suc p + 1) ∷ []
+
+-- what a reduction does with a value to its target's cell
+abbrev pub reduced : Op → ℕ → ℕ → Change
+reduced op.Sum cell value = Add value
+reduced op.Min cell value = Set (min cell value)
+reduced op.Max cell value = Set (max cell value)
+
+abbrev pub kernel_changes : (ℕ → List (ℕ × ℕ)) → Cells → Kernel → List CellChange
+kernel_changes space cells (Iota x s value) = changes_at (λ p. Set (wrapped (value + rank (space s) p))) x (points (space s))
+kernel_changes space cells (Axpy x y s factor) = changes_at (λ p. Add (wrapped (factor * cells x p))) y (points (space s))
+kernel_changes space cells (Stencil x y r s) = changes_at (λ p. Set (wrapped_sum (cells x) (filter (has_point (space r)) (around p)))) y (points (space s))
+kernel_changes space cells (Scan x y s) = changes_at (λ p. Set (wrapped_sum (cells x) (filter (λ q. nat_le q p) (points (space s))))) y (points (space s))
+kernel_changes space cells (Hist x y s t) = changes_at (λ q. Add (count_by (λ p. cells x p % space_size (space t) == rank (space t) q) (points (space s)))) y (points (space t))
+kernel_changes space cells (Dot x y z s t) = changes_at (λ q. Add (wrapped_sum (λ p. cells x p * cells y p) (points (space s)))) z (points (space t))
+kernel_changes space cells (Expect x s low high) = []
+kernel_changes space cells (Gather x y z s t) = changes_at (λ p. Set (cells y (point_at (space t) (cells x p % space_size (space t))))) z (points (space s))
+
+-- whether each cell of the column is within the bounds
+abbrev pub all_within : (ℕ → ℕ) → ℕ → ℕ → List ℕ → Bool
+all_within f low high ps = list_all (λ p. nat_le low (f p) && nat_le (f p) high) ps
+
+abbrev pub kernel_verdict : (ℕ → List (ℕ × ℕ)) → Cells → Kernel → Verdict
+kernel_verdict space cells (Expect x s low high) = cond (all_within (cells x) low high (points (space s))) Fine Fault
+kernel_verdict space cells _ = Fine
+
+-- the changes that a line makes
+abbrev pub verb_changes : (ℕ → List (ℕ × ℕ)) → Cells → Verb → List CellChange
+verb_changes space cells (Fill target s value) = changes_at (λ p. Set value) target (points (space s))
+verb_changes space cells (Copy source target s) = changes_at (λ p. Set (cells source p)) target (points (space s))
+verb_changes space cells (Reduce op source target s) = changes_at (λ p. reduced op (cells target p) (cells source p)) target (points (space s))
+verb_changes space cells (Task kernel) = kernel_changes space cells kernel
+verb_changes space cells _ = []
+
+abbrev pub verb_verdict : (ℕ → List (ℕ × ℕ)) → Cells → Verb → Verdict
+verb_verdict space cells (Task kernel) = kernel_verdict space cells kernel
+verb_verdict space cells _ = Fine
+
+-- the effect of line i on these cells
+abbrev pub effect : GraphValue → ℕ → Cells → Effect
+effect g i cells = record {
+  verdict = option_map_or (verb_verdict (space_at g) cells) (verb_at g i) Fine;
+  changes = option_map_or (verb_changes (space_at g) cells) (verb_at g i) [];
+}

@@ -1,0 +1,117 @@
+-- What holds of all graphs whose items fit.
+use Rattle.std.specs.Prelude.{◌≡◌, ◌≢◌, ℕ, ◌<◌, ◌==◌, ◌⊎◌, ◌↔◌, Bool, true, false, ◌||◌, List, length, AllPairs, Contains, IsTrue}
+use Rattle.index_spaces.specs.Space.{has_point}
+use Rattle.graph_model.specs.declared.meaning.outcome.End.TheVariants.{Cancelled, Waiting}
+use Rattle.graph_model.specs.declared.graph.verb.Access.{Access}
+use Rattle.graph_model.specs.declared.graph.verb.Edge.{Edge}
+use Rattle.graph_model.specs.declared.graph.verb.Mode.{Mode}
+use Rattle.graph_model.specs.declared.graph.verb.Mode.TheVariants.{Read, Write, Sum}
+use Rattle.graph_model.specs.graph.Graph.{GraphValue, never_comes, space_at}
+use Rattle.graph_model.specs.graph.Edges.{edges}
+use Rattle.graph_model.specs.meaning.Path.{HasPath, Reached}
+use Rattle.graph_model.specs.graph.Access.{accesses}
+use Rattle.graph_model.specs.meaning.Rules.{NoCycleAt, Everywhere, Accepted}
+use Rattle.graph_model.specs.meaning.Effect.{Cells, Change, Set, Add, CellChange, cells_after, effect}
+use Rattle.graph_model.specs.meaning.Evaluation.{Step, is_ended, is_cancelled, step_by, evaluation, order, eval_end, eval_changes, cells_of_lines, Unbroken}
+use Rattle.graph_model.specs.graph.Fits.{IsGraph}
+use Rattle.graph_model.specs.meaning.Need.{IsNeed}
+use Rattle.graph_model.specs.meaning.Trace.{ListsEnded, IsLawful, SectionsApart}
+
+-- one path after another is a path
+abbrev pub PathsCompose : Type 0
+PathsCompose = (g : GraphValue) (i k j : ℕ) → HasPath g i k → HasPath g k j → HasPath g i j
+
+-- the edges of a graph are between its lines
+abbrev pub EdgesBetweenLines : Type 0
+EdgesBetweenLines = (g : GraphValue) (e : Edge) → IsGraph g → Contains (edges g) e → (e.from < length g.lines) × (e.to < length g.lines)
+
+-- a line that has not ended, may come, and whose sources have ended
+pub record IsReady (g : GraphValue) (ended : ℕ → Bool) (k : ℕ) : Type 0 where
+  pub below : k < length g.lines
+  pub left : ended k ≡ false
+  pub comes : never_comes g k ≡ false
+  pub sources : (e : Edge) → Contains (edges g) e → e.to ≡ k → ended e.from ≡ true
+
+-- without a cycle a line that has not ended, and that no line that never comes reaches, is ready or has a path from one that is ready
+abbrev pub ReadyWhereUnreached : Type 0
+ReadyWhereUnreached = (g : GraphValue) (ended : ℕ → Bool) (i : ℕ) → IsGraph g → Everywhere (NoCycleAt g) → i < length g.lines → ended i ≡ false → (Reached g i → ⊥) →
+    (k : ℕ) × IsReady g ended k × ((k ≡ i) ⊎ HasPath g k i)
+
+-- without a cycle a line waits in the evaluation exactly where one that never comes reaches it
+abbrev pub WaitsWhereReached : Type 0
+WaitsWhereReached = (g : GraphValue) (i : ℕ) → IsGraph g → Everywhere (NoCycleAt g) → i < length g.lines → (eval_end g i ≡ Waiting) ↔ Reached g i
+
+-- a line is cancelled exactly where an unbroken path from a fault reaches it
+abbrev pub CancelledWhereUnbroken : Type 0
+CancelledWhereUnbroken = (g : GraphValue) (i : ℕ) → (eval_end g i ≡ Cancelled) ↔ Unbroken g i
+
+-- no two changes of a line are of one cell
+abbrev pub ChangesNameEachCellOnce : Type 0
+ChangesNameEachCellOnce = (g : GraphValue) (i : ℕ) (cells : Cells) → IsGraph g → AllPairs (λ (x y : CellChange). x.column ≡ y.column → x.point ≢ y.point) (effect g i cells).changes
+
+-- the order of the evaluation lists the lines that end, each once and after its sources
+abbrev pub OrderListsEnded : Type 0
+OrderListsEnded = (g : GraphValue) → ListsEnded g (order g)
+
+-- a change that an access of this mode may make
+abbrev pub FitsMode : Mode → Change → Type 0
+FitsMode Read c = ⊥
+FitsMode Write c = Unit {0}
+FitsMode Sum (Set v) = ⊥
+FitsMode Sum (Add v) = Unit {0}
+
+-- a change within an access of a list
+pub record IsWithinAccess (space : ℕ → List (ℕ × ℕ)) (accesses : List Access) (x : CellChange) : Type 0 where
+  pub access : Access
+  pub listed : Contains accesses access
+  pub column : access.column ≡ x.column
+  pub point : has_point (space access.space) x.point ≡ true
+  pub mode : FitsMode access.mode x.change
+
+-- each change of a line lies within one of its accesses, and is of its mode
+abbrev pub ChangesWithinAccesses : Type 0
+ChangesWithinAccesses = (g : GraphValue) (i : ℕ) (cells : Cells) (x : CellChange) → Contains (effect g i cells).changes x → IsWithinAccess (space_at g) (accesses g i) x
+
+-- line i is ready after some lines have ended, in any order. On each column the changes of some lines were put back: of all that ended and change it, and of none whose sources have not ended.
+pub record IsReadyAmong (g : GraphValue) (i : ℕ) (ended : ℕ → Bool) (put : ℕ → ℕ → Bool) : Type 0 where
+  pub closed : (e : Edge) → Contains (edges g) e → ended e.to ≡ true → ended e.from ≡ true
+  pub ready : (e : Edge) → Contains (edges g) e → e.to ≡ i → ended e.from ≡ true
+  pub left : ended i ≡ false
+  pub out : (c : ℕ) → put c i ≡ false
+  pub put_ready : (c k : ℕ) → put c k ≡ true → (e : Edge) → Contains (edges g) e → e.to ≡ k → ended e.from ≡ true
+  pub kept : (k : ℕ) (x : CellChange) → ended k ≡ true → Contains (eval_changes g k) x → put x.column k ≡ true
+
+-- the cells of each column are those of the lines put back on it, in the order of the evaluation
+abbrev pub cells_put : GraphValue → (ℕ → ℕ → Bool) → Cells
+cells_put g put column point = cells_of_lines g (put column) column point
+
+-- two states of the cells are the same where line i reads or writes, other than by sums
+abbrev pub AgreeWhereUsed : GraphValue → ℕ → Cells → Cells → Type 0
+AgreeWhereUsed g i cells others = (a : Access) → Contains (accesses g i) a → a.mode ≢ Sum → (p : ℕ) → IsTrue (has_point (space_at g a.space) p) → cells a.column p ≡ others a.column p
+
+-- what line i does on these cells, cancelled where its sources' ends cancel it in the evaluation
+abbrev pub step_on : GraphValue → ℕ → Cells → Step
+step_on g i cells = step_by i (is_cancelled g (evaluation g) i) (effect g i cells)
+
+-- the lines put back, and line i too
+abbrev pub put_with : ℕ → (ℕ → ℕ → Bool) → ℕ → ℕ → Bool
+put_with i put column k = (k == i) || put column k
+
+-- a line ends and changes the cells as in the evaluation
+pub record DoesAsEvaluated (g : GraphValue) (i : ℕ) (cells : Cells) : Type 0 where
+  pub ends : (step_on g i cells).ends ≡ eval_end g i
+  pub changes : (step_on g i cells).changes ≡ eval_changes g i
+
+-- in an accepted graph a line does as in the evaluation, whatever ready lines came before it, and its changes put back give the cells in the order of the evaluation
+abbrev pub OrderIrrelevant : Type 0
+OrderIrrelevant = (g : GraphValue) (i : ℕ) (ended : ℕ → Bool) (put : ℕ → ℕ → Bool) → IsGraph g → Accepted g → IsTrue (is_ended (eval_end g i)) → IsReadyAmong g i ended put →
+    ((cells : Cells) → AgreeWhereUsed g i cells (cells_put g put) → DoesAsEvaluated g i cells)
+    × ((c p : ℕ) → cells_after (cells_put g put) (eval_changes g i) c p ≡ cells_put g (put_with i put) c p)
+
+-- a graph has one need
+abbrev pub OneNeed : Type 0
+OneNeed = (g : GraphValue) (n m : ℕ) → IsNeed g n → IsNeed g m → n ≡ m
+
+-- in a lawful trace of an accepted graph the sections of one reservation never overlap
+abbrev pub SectionsNeverOverlap : Type 0
+SectionsNeverOverlap = (g : GraphValue) (trace : List ℕ) → IsGraph g → Accepted g → IsLawful g trace → SectionsApart g trace

@@ -1,0 +1,191 @@
+//! Operation lines.
+
+use crate::graph::lists::LineList;
+use crate::graph::name::Name;
+use index_spaces::Op;
+
+/// A line: its name, what it does, and the line that it waits for.
+#[derive(Drop)]
+pub struct Line {
+    pub name: Name,
+    pub verb: Verb,
+    pub on: Option<u32>,
+}
+
+impl Line {
+    ghost use Rattle.graph_model.specs.graph.Fits.{IsLine};
+
+    /// What its type says of it, for callers to cite.
+    pub fn is_well_formed(&self)
+        ensures { IsLine self.now }
+    {
+        let _ = self.name.bytes();
+        match &self.verb {
+            Verb::Arrive { value, .. } => {
+                let _value = *value;
+            }
+            Verb::Fill { value, .. } => {
+                let _value = *value;
+            }
+            Verb::Task { kernel } => kernel.is_well_formed(),
+            _ => {}
+        }
+    }
+}
+
+/// What a line does.
+#[derive(Drop)]
+pub enum Verb {
+    User,
+    Trigger {
+        user: u32,
+    },
+    Cancel {
+        user: u32,
+    },
+    Merge {
+        events: LineList,
+    },
+    MergeIgnore {
+        events: LineList,
+    },
+    Phase {
+        barrier: u32,
+    },
+    Arrive {
+        phase: u32,
+        value: u64,
+    },
+    Acquire {
+        lock: u32,
+    },
+    Release {
+        acquire: u32,
+    },
+    Fill {
+        target: u32,
+        space: u32,
+        value: u64,
+    },
+    Copy {
+        source: u32,
+        target: u32,
+        space: u32,
+    },
+    Reduce {
+        op: Op,
+        source: u32,
+        target: u32,
+        space: u32,
+    },
+    Task {
+        kernel: Kernel,
+    },
+}
+
+/// A function of the kernel table with its arguments.
+#[derive(Clone, Copy)]
+pub enum Kernel {
+    Iota {
+        x: u32,
+        s: u32,
+        value: u64,
+    },
+    Axpy {
+        x: u32,
+        y: u32,
+        s: u32,
+        factor: u64,
+    },
+    Stencil {
+        x: u32,
+        y: u32,
+        r: u32,
+        s: u32,
+    },
+    Scan {
+        x: u32,
+        y: u32,
+        s: u32,
+    },
+    Hist {
+        x: u32,
+        y: u32,
+        s: u32,
+        t: u32,
+    },
+    Dot {
+        x: u32,
+        y: u32,
+        z: u32,
+        s: u32,
+        t: u32,
+    },
+    Expect {
+        x: u32,
+        s: u32,
+        low: u64,
+        high: u64,
+    },
+    Gather {
+        x: u32,
+        y: u32,
+        z: u32,
+        s: u32,
+        t: u32,
+    },
+}
+
+impl Kernel {
+    ghost use Rattle.graph_model.specs.graph.Fits.{IsKernel};
+
+    /// What its type says of it.
+    fn is_well_formed(&self)
+        ensures { IsKernel self.now }
+    {
+        match self {
+            Kernel::Iota { value, .. } => {
+                let _value = *value;
+            }
+            Kernel::Axpy { factor, .. } => {
+                let _factor = *factor;
+            }
+            Kernel::Expect { low, high, .. } => {
+                let _bounds = (*low, *high);
+            }
+            _ => {}
+        }
+    }
+}
+
+/// Whether a fault passes along an edge.
+#[derive(Clone, Copy, Debug, PartialEq, Eq)]
+pub enum EdgeKind {
+    Passes,
+    Ignores,
+    Faults,
+}
+
+/// An edge from the line that comes first to the line that waits.
+#[derive(Clone, Copy, Debug, PartialEq, Eq)]
+pub struct Edge {
+    pub from: u32,
+    pub to: u32,
+    pub kind: EdgeKind,
+}
+
+/// How a column is used.
+#[derive(Clone, Copy, Debug, PartialEq, Eq)]
+pub enum Mode {
+    Read,
+    Write,
+    Sum,
+}
+
+/// A use of a column over a space.
+#[derive(Clone, Copy, Debug, PartialEq, Eq)]
+pub struct Access {
+    pub column: u32,
+    pub space: u32,
+    pub mode: Mode,
+}

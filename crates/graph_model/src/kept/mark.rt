@@ -1,0 +1,37 @@
+//! What later lines have done to a line.
+
+ghost use Rattle.std.specs.Prelude.{ℕ, ◌<◌, ◌^◌, ◌+◌, length};
+ghost use Rattle.graph_model.specs.kept.Rows.{mark_at, NamesBelow, Marks};
+
+use crate::graph::verb::Verb;
+
+/// How many arrivals name a line, whether a trigger or a cancel names it, and whether a release
+/// does.
+#[derive(Clone, Copy)]
+pub(crate) struct Mark {
+    pub(crate) arrivals: u32,
+    pub(crate) ended: bool,
+    pub(crate) released: bool,
+}
+
+/// The mark of a line that no later line names.
+pub(crate) const FRESH: Mark = Mark {
+    arrivals: 0,
+    ended: false,
+    released: false,
+};
+
+/// Marks what a line does to the line that it names.
+pub(crate) fn mark_named(marks: &mut [Mark], verb: &Verb)
+    requires below { NamesBelow (length marks.old) verb.now }
+    requires few { (i : ℕ) → (mark_at marks.old i).arrivals + 1 < 2 ^ 32 }
+    ensures { Marks marks.old marks.new verb.now }
+{
+    match verb {
+        Verb::Trigger { user } => marks[*user as usize].ended = true,
+        Verb::Cancel { user } => marks[*user as usize].ended = true,
+        Verb::Arrive { phase, .. } => marks[*phase as usize].arrivals += 1,
+        Verb::Release { acquire } => marks[*acquire as usize].released = true,
+        _ => {}
+    }
+}

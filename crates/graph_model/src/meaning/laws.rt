@@ -1,0 +1,66 @@
+//! What holds of all graphs, for callers to cite. No function here does anything.
+
+ghost use Rattle.graph_model.specs.meaning.Laws.{PathsCompose, EdgesBetweenLines, ChangesWithinAccesses, ReadyWhereUnreached, WaitsWhereReached, CancelledWhereUnbroken, OrderListsEnded, ChangesNameEachCellOnce, OrderIrrelevant, OneNeed, SectionsNeverOverlap};
+
+use index_spaces::laws::points_ascend;
+
+/// One path after another is a path.
+pub fn paths_compose()
+    ensures { PathsCompose }
+{}
+
+/// The edges of a graph are between its lines.
+pub fn edges_between_lines()
+    ensures { EdgesBetweenLines }
+{}
+
+/// In a graph without a cycle a line that is neither ended nor reached by one that never comes is
+/// ready, or has a path from one that is ready.
+pub fn ready_where_unreached()
+    ensures { ReadyWhereUnreached }
+{}
+
+/// In a graph without a cycle the evaluation leaves a line waiting exactly where one that never
+/// comes reaches it.
+pub fn waits_where_reached()
+    ensures { WaitsWhereReached }
+{}
+
+/// A line is cancelled exactly where an unbroken path from a fault reaches it.
+pub fn cancelled_where_unbroken()
+    ensures { CancelledWhereUnbroken }
+{}
+
+/// The order of the evaluation lists the lines that end, each once and after its sources.
+pub fn order_lists_ended()
+    ensures { OrderListsEnded }
+{}
+
+/// Each change of a line lies within one of its accesses, and is of its mode.
+pub fn changes_within_accesses()
+    ensures { ChangesWithinAccesses }
+{}
+
+/// No two changes of a line are of one cell.
+pub fn changes_name_each_cell_once()
+    ensures { ChangesNameEachCellOnce }
+{
+    points_ascend();
+}
+
+/// In an accepted graph a line ends and changes the cells as in the evaluation, whatever ready
+/// lines came before it.
+pub fn order_is_irrelevant()
+    ensures { OrderIrrelevant }
+{}
+
+/// A graph has one need.
+pub fn needs_are_one()
+    ensures { OneNeed }
+{}
+
+/// In a lawful trace of an accepted graph the sections of one reservation never overlap: between an
+/// acquire that is done and its release stands no other acquire of that reservation that is done.
+pub fn sections_never_overlap()
+    ensures { SectionsNeverOverlap }
+{}
