@@ -2,6 +2,7 @@
 use Rattle.std.proofs.Common.{◌≡◌, ℕ, zero, suc, ◌+◌, ◌-◌, ◌<◌, ◌≤◌, Bool, true, false, cond, not, ◌&&◌, ◌||◌, inl, inr, List, [], ◌∷◌, ◌++◌, length, map, take, set, refl, sym, ◌∙◌, ap, subst, arith, get_or, length-set}
 use Rattle.std.specs.Prelude.{◌==◌, nat_lt, Some, None, filter, find, slice_index}
 use Rattle.std.specs.List.{All, list_all, range_with_len}
+use Rattle.std.proofs.lemmas.Bool.Decides.{nat_tests}
 use Rattle.std.proofs.lemmas.Bool.{true≢false, false≢true, cases_eq, cases_order, and_parts, or_cases, not-true, ltb-true, lt-ltb, le-ltb, eqb-true, eq-eqb, ne_eqb, false_from_ne_true}
 use Rattle.std.proofs.lemmas.List.{take_all, get_or-set_same, get_or-set_other}
 use Rattle.std.proofs.lemmas.List.Elements.{All-filter, Contains-get_or}
@@ -117,12 +118,7 @@ lowest_is g ss left ready k w r least =
 
 -- without the line that is taken out
 taken_by : (a b c d : Bool) → ((a && (not b && c)) && not d) ≡ (a && (not (b || d) && c))
-taken_by false b c d = refl
-taken_by true true c d = refl
-taken_by true false true true = refl
-taken_by true false true false = refl
-taken_by true false false true = refl
-taken_by true false false false = refl
+taken_by a b c d = grind (arith, nat_tests)
 
 pub freed : (g : GraphValue) (ended : ℕ → Bool) (left : List ℕ) (old new : ℕ → Bool) (k : ℕ) → IsWaiting g ended left old → old k ≡ true → ((i : ℕ) → new i ≡ (old i && not (k == i))) → IsFree g ended k left new
 freed g ended left old new k w r h =

@@ -4,6 +4,7 @@ use Rattle.std.specs.Prelude.{Bool, true, false, Option, Some, ◌⊎◌}
 use Rattle.std.proofs.lemmas.Bool.{true≢false, false≢true}
 use Rattle.realm_io.specs.SinkState.{SinkState}
 use Rattle.realm_io.specs.Counts.{Rose}
+use Rattle.realm_io.specs.Written.{Wrote, Stopped}
 use Rattle.command_line.specs.declared.request.Request.{Request}
 use Rattle.command_line.specs.declared.request.Action.{Action}
 use Rattle.command_line.specs.declared.request.Action.TheVariants.{Run, Check, Eval, Make}
@@ -19,7 +20,7 @@ use Rattle.realm_top.specs.declared.status.Status.{Status}
 use Rattle.realm_top.specs.declared.status.Status.TheVariants.{Done, Usage, WriteFault, NoMemory, Slots}
 use Rattle.realm_top.specs.Status.{is_of_input, is_refusal}
 use Rattle.realm_top.specs.Texts.{slots_text, made_text}
-use Rattle.realm_top.specs.Answer.{reads, is_short, made_says, Says, Served, InputAnswers, MadeAnswers, IsInput, AnswersBy, Answers, InputAsks, MadeAsks, AsksBy, AsksStatus, Serves, Answered, MadeAnswered, Delivered, BrokenOff, Delivers}
+use Rattle.realm_top.specs.Answer.{reads, is_short, report_with, made_says, run_text, Says, Served, InputAnswers, MadeAnswers, IsInput, AnswersBy, Answers, InputAsks, MadeAsks, AsksBy, AsksStatus, Serves, Answered, MadeAnswered, Delivered, BrokenOff, Delivers}
 use Rattle.realm_top.proofs.Delivering.{answered_refused, answered_cut_off, answered_complete, enough_by_need, few_or_enough}
 
 -- an action that reads answers its input
@@ -182,3 +183,17 @@ serve_answered request s t result g r e (inr (wanted, out, w, d)) =
 -- the line that sums up an outcome that is the evaluation's
 pub summed_up : (g h : GraphValue) (o : Outcome) (trace : List ℕ) → g ≡ h → o ≡ outcome h trace → made_text g o ≡ made_says false h
 summed_up g h o trace e f = ap (λ x. made_text x o) e ∙ ap (made_text h) f
+
+-- WHAT IS WRITTEN OF A RUN
+pub run_reports : (x : Action) (traced : Bool) (g : GraphValue) (trace : List ℕ) → x ≢ Make → run_text x traced g trace ≡ report_with traced g trace
+run_reports Make traced g trace ne = absurd (ne refl)
+run_reports Run traced g trace ne = refl
+run_reports Check traced g trace ne = refl
+run_reports Eval traced g trace ne = refl
+
+-- the same of a graph that is the same
+pub wrote_run : (s t : SinkState) (x : Action) (traced : Bool) (g h : GraphValue) (trace : List ℕ) → g ≡ h → Wrote s t (run_text x traced g trace) → Wrote s t (run_text x traced h trace)
+wrote_run s t x traced g h trace e w = subst (λ (y : GraphValue). Wrote s t (run_text x traced y trace)) e w
+
+pub stopped_run : (s t : SinkState) (x : Action) (traced : Bool) (g h : GraphValue) (trace : List ℕ) → g ≡ h → Stopped s t (run_text x traced g trace) → Stopped s t (run_text x traced h trace)
+stopped_run s t x traced g h trace e w = subst (λ (y : GraphValue). Stopped s t (run_text x traced y trace)) e w

@@ -88,6 +88,11 @@ abbrev pub made_says : Bool → GraphValue → List ℕ
 made_says true g = text g
 made_says false g = made_text g (outcome g (order g))
 
+-- what is written of a run with this trace: for `make` the line that sums it up, else its report, followed by the trace where it is asked for
+abbrev pub run_text : Action → Bool → GraphValue → List ℕ → List ℕ
+run_text Make traced g trace = made_says false g
+run_text _ traced g trace = report_with traced g trace
+
 -- what an action writes of an accepted graph with this need
 abbrev pub Says : Action → Request → GraphValue → ℕ → List ℕ → Type 0
 Says Run request g need out = IsRunText request.trace g out

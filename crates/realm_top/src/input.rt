@@ -9,7 +9,7 @@ ghost use Rattle.graph_reader.specs.declared.ReadRefusal.TheVariants.{Line};
 ghost use Rattle.race_check.specs.Refusal.{IsRefusal, NamesLines};
 ghost use Rattle.realm_io.specs.Written.{Writes};
 ghost use Rattle.realm_top.specs.Texts.{unread_text, accepted_text, slots_text};
-ghost use Rattle.realm_top.specs.Answer.{evaluation_text, report_with, IsRunText, made_says, runs, is_short, Answered, Serves, Settled, Delivers};
+ghost use Rattle.realm_top.specs.Answer.{evaluation_text, report_with, run_text, runs, is_short, Answered, Serves, Settled, Delivers};
 
 use crate::refusal::{put_accepted, put_broken, put_slots, put_unread};
 use crate::report::put_parts;
@@ -93,10 +93,9 @@ fn serve<R: Threads + Wait + Sync, K: Sink, G: Gate>(
         return put_short(sink, checked.need());
     }
     match request.action {
-        Action::Run => run(rt, alloc, &request, checked, sink, gate),
+        Action::Run | Action::Make => run(rt, alloc, &request, checked, sink, gate),
         Action::Eval => evaluate(alloc, request.trace, checked, sink),
         Action::Check => put_need(sink, checked.need()),
-        Action::Make => sum_up(rt, alloc, &request, checked, sink, gate),
     }
 }
 
@@ -153,30 +152,7 @@ fn run_graph<R: Threads + Wait + Sync, G: Gate>(
     Ok(run_turn(rt, turn, request.workers, gate))
 }
 
-/// Runs a graph that was made, and writes the line that sums that up.
-fn sum_up<R: Threads + Wait + Sync, K: Sink, G: Gate>(
-    rt: &R,
-    alloc: Global,
-    request: &Request,
-    checked: &Checked,
-    sink: &mut K,
-    gate: &G,
-) -> Status
-    requires workers { request.now.workers ≤ 8 }
-    ensures done { (result ≡ Status.NoMemory) ⊎ Delivers (K.state sink.old) (K.state sink.new) Status.Done result
-        (made_says false checked.now.graph) }
-    ensures no_memory { result ≡ Status.NoMemory → sink.new ≡ sink.old }
-{
-    let Ok(outcome) = run_graph(rt, alloc, request, checked, gate) else {
-        return Status::NoMemory;
-    };
-    match put_summary(sink, checked.graph(), &outcome) {
-        Ok(()) => flush(sink, Status::Done),
-        Err(_) => Status::WriteFault,
-    }
-}
-
-/// Runs a graph, and writes its report, and the trace of the run where it is asked for.
+/// Runs a graph, and writes what is asked for of the run.
 fn run<R: Threads + Wait + Sync, K: Sink, G: Gate>(
     rt: &R,
     alloc: Global,
@@ -186,16 +162,35 @@ fn run<R: Threads + Wait + Sync, K: Sink, G: Gate>(
     gate: &G,
 ) -> Status
     requires workers { request.now.workers ≤ 8 }
-    ensures done { (result ≡ Status.NoMemory) ⊎ ((out : List ℕ) × IsRunText request.now.trace checked.now.graph out
-        × Delivers (K.state sink.old) (K.state sink.new) Status.Done result out) }
+    ensures done { (result ≡ Status.NoMemory) ⊎ ((trace : List ℕ) × IsLawful checked.now.graph trace
+        × Delivers (K.state sink.old) (K.state sink.new) Status.Done result
+        (run_text request.now.action request.now.trace checked.now.graph trace)) }
     ensures no_memory { result ≡ Status.NoMemory → sink.new ≡ sink.old }
 {
     let Ok(outcome) = run_graph(rt, alloc, request, checked, gate) else {
         return Status::NoMemory;
     };
-    match put_outcome(sink, checked.graph(), &outcome, request.trace) {
+    match put_run(sink, checked.graph(), &outcome, request) {
         Ok(()) => flush(sink, Status::Done),
         Err(_) => Status::WriteFault,
+    }
+}
+
+/// Writes for `make` the line that sums a run up, else the report of the run, with its trace where it is asked for.
+fn put_run<K: Sink>(
+    sink: &mut K,
+    graph: &Graph,
+    found: &Outcome,
+    request: &Request,
+) -> Result<(), WriteFault>
+    requires outcome { found.now ≡ outcome graph.now found.now.trace }
+    requires lines { (k i : ℕ) → slice_get found.now.trace k ≡ Some i → i < length graph.now.lines }
+    ensures { Writes (K.state sink.old) (K.state sink.new) result
+        (run_text request.now.action request.now.trace graph.now found.now.trace) }
+{
+    match request.action {
+        Action::Make => put_summary(sink, graph, found),
+        _ => put_outcome(sink, graph, found, request.trace),
     }
 }
 
