@@ -5,6 +5,7 @@ use Rattle.realm_io.specs.SinkState.{SinkState}
 use Rattle.realm_io.specs.Counts.{Rose}
 use Rattle.realm_io.specs.Told.{with_more, TookPrefix}
 use Rattle.graph_model.specs.graph.Graph.{GraphValue}
+use Rattle.graph_model.specs.declared.graph.limits.TheConstants.{MAX_TEXT}
 use Rattle.graph_model.specs.declared.meaning.outcome.End.TheVariants.{Cancelled, Waiting}
 use Rattle.graph_model.specs.meaning.Path.{Reached}
 use Rattle.graph_model.specs.meaning.Rules.{Accepted}
@@ -113,8 +114,8 @@ Judged request g status out = Accepted g × Served request g status out
 
 -- the answer to an input of these bytes, and the text that goes with it
 abbrev pub InputAnswers : Request → List ℕ → Status → List ℕ → Type 0
-InputAnswers request bytes Unread out = (length bytes ≤ 1048576) × IsRefused bytes out
-InputAnswers request bytes TooLong out = (1048576 < length bytes) × (out ≡ too_long_text)
+InputAnswers request bytes Unread out = (length bytes ≤ MAX_TEXT) × IsRefused bytes out
+InputAnswers request bytes TooLong out = (MAX_TEXT < length bytes) × (out ≡ too_long_text)
 InputAnswers request bytes status out = (g : GraphValue) × GraphText bytes g × Judged request g status out
 
 -- the answer where a graph is made, and the text that goes with it: the graph's text is written where that is asked for, and nothing is checked or run then
@@ -148,8 +149,8 @@ abbrev pub InputAsks : Request → List ℕ → Status → Type 0
 InputAsks request bytes Done = (g : GraphValue) × GraphText bytes g × Accepted g × EnoughSlots request g
 InputAsks request bytes Slots = (g : GraphValue) × GraphText bytes g × Accepted g × TooFewSlots request g
 InputAsks request bytes Unfit = (g : GraphValue) × GraphText bytes g × (Accepted g → ⊥)
-InputAsks request bytes Unread = (length bytes ≤ 1048576) × ((g : GraphValue) → GraphText bytes g → ⊥)
-InputAsks request bytes TooLong = 1048576 < length bytes
+InputAsks request bytes Unread = (length bytes ≤ MAX_TEXT) × ((g : GraphValue) → GraphText bytes g → ⊥)
+InputAsks request bytes TooLong = MAX_TEXT < length bytes
 InputAsks request bytes status = ⊥
 
 -- the status that a graph which is made asks for

@@ -15,8 +15,9 @@ use crate::refusal::{put_accepted, put_broken, put_slots, put_unread};
 use crate::report::put_parts;
 use crate::status::Status;
 use crate::summary::put_summary;
-use command_line::request::{Action, Request};
+use command_line::request::{Action, MAX_SLOTS, Request};
 use graph_model::graph::Graph;
+use graph_model::limits::MAX_TEXT;
 use graph_model::outcome::Outcome;
 use graph_model::why::Why;
 use graph_reader::{ReadRefusal, read_graph};
@@ -31,10 +32,8 @@ use std::alloc::Global;
 use std::sync::Wait;
 use std::thread::Threads;
 
-// The slots of a run where none are given, and the most that a table of events has.
+// The slots of a run where none are given.
 const DEFAULT_SLOTS: u32 = 256;
-
-const MOST_SLOTS: u32 = 8192;
 
 /// Does what is asked for with the graph whose text the bytes are.
 pub(crate) fn answer<R: Threads + Wait + Sync, K: Sink, G: Gate>(
@@ -45,7 +44,7 @@ pub(crate) fn answer<R: Threads + Wait + Sync, K: Sink, G: Gate>(
     sink: &mut K,
     gate: &G,
 ) -> Status
-    requires short { length bytes.now ≤ 1048576 }
+    requires short { length bytes.now ≤ MAX_TEXT }
     requires workers { request.workers ≤ 8 }
     ensures answered { Answered request bytes.now (K.state sink.old) (K.state sink.new) result }
     ensures no_memory { result ≡ Status.NoMemory → sink.new ≡ sink.old }
@@ -122,15 +121,15 @@ fn is_short(request: &Request, need: u32) -> bool
 
 /// How many slots a run has: those that are given, or 256, but not fewer than its need.
 fn slots_for(given: Option<u32>, need: u32) -> u32
-    requires { need ≤ 8192 }
+    requires { need ≤ MAX_SLOTS }
     ensures enough { need ≤ result }
-    ensures most { result ≤ 8192 }
+    ensures most { result ≤ MAX_SLOTS }
 {
     let slots = match given {
         Some(slots) => slots,
         None => DEFAULT_SLOTS,
     };
-    slots.max(need).min(MOST_SLOTS)
+    slots.max(need).min(MAX_SLOTS)
 }
 
 /// Runs a graph by as many workers as the request says.
@@ -272,7 +271,7 @@ fn reject<K: Sink>(request: Request, sink: &mut K, unfit: &Unfit) -> Status
 
 /// Answers bytes that are the text of no graph.
 fn refuse<K: Sink>(request: Request, sink: &mut K, refusal: ReadRefusal) -> Status
-    ensures answered { (bytes : List ℕ) → length bytes ≤ 1048576
+    ensures answered { (bytes : List ℕ) → length bytes ≤ MAX_TEXT
         → ((number : ℕ) (why : Why) → refusal ≡ Line number why → FirstFault bytes number why)
         → Answered request bytes (K.state sink.old) (K.state sink.new) result }
     ensures no_memory { result ≡ Status.NoMemory → sink.new ≡ sink.old }

@@ -26,6 +26,7 @@ use crate::status::Status;
 use command_line::request::Action;
 use command_line::{WordsFault, read_words};
 use graph_model::laws::{cancelled_where_unbroken, needs_are_one, waits_where_reached};
+use graph_model::limits::MAX_TEXT;
 use graph_reader::laws::bytes_have_one_reading;
 use realm_io::{Gate, ReadEnd, Sink, Source, read_all};
 use std::alloc::Global;
@@ -33,7 +34,7 @@ use std::sync::Wait;
 use std::thread::Threads;
 
 // The most bytes that an input may have.
-const INPUT_LIMIT: u32 = 1_048_576;
+const INPUT_LIMIT: u32 = MAX_TEXT as u32;
 
 /// Does what the words ask for. `run`, `check` and `eval` read a graph and check it; `make` reads
 /// nothing and makes a graph of the seed and the size.

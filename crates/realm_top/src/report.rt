@@ -16,6 +16,7 @@ use graph_model::outcome::{Answer, End, Outcome};
 use graph_model::verb::{Line, Verb};
 use graph_reader::{put_column_name, put_interval};
 use index_spaces::column::Column;
+use index_spaces::limits::MAX_POINTS;
 use itoa::Buffer;
 use realm_io::{Sink, WriteFault, put_bytes, put_decimal};
 
@@ -214,7 +215,7 @@ fn put_intervals<K: Sink>(
     intervals: &[(u32, u32)],
 ) -> Result<(), WriteFault>
     requires is_space { IsSpace intervals.now }
-    requires small { space_size intervals.now ≤ 1048576 }
+    requires small { space_size intervals.now ≤ MAX_POINTS }
     requires full { length column.now.cells ≡ space_size intervals.now }
     requires over { column.now.space ≡ intervals.now }
     ensures { Writes (K.state sink.old) (K.state sink.new) result

@@ -19,6 +19,7 @@ use crate::run::Core;
 use crate::states::{LineState, StateList};
 use gen_events::EventTable;
 use graph_model::graph::Graph;
+use graph_model::limits::MAX_LINES;
 use graph_model::lists::ValueList;
 use graph_model::outcome::End;
 use graph_model::verb::Verb;
@@ -61,7 +62,7 @@ fn is_done(state: LineState) -> bool
 
 /// How far each line has come.
 fn stages_of(lines: &[LineState], mut stages: Vec<Progress>) -> Vec<Progress>
-    requires few { length lines.now ≤ 8192 }
+    requires few { length lines.now ≤ MAX_LINES }
     requires each { length stages.items ≡ length lines.now }
     ensures { result.items ≡ map progress_for lines.now }
 {
@@ -84,7 +85,7 @@ fn value_or_zero(value: Option<u64>) -> u64
 
 /// The values of the phases, and 0 for other lines.
 fn values_of(phases: &[Option<u64>], mut values: Vec<u64>) -> Vec<u64>
-    requires few { length phases.now ≤ 8192 }
+    requires few { length phases.now ≤ MAX_LINES }
     requires each { length values.items ≡ length phases.now }
     ensures { result.items ≡ map value_or_zero phases.now }
 {
@@ -119,7 +120,7 @@ fn put_at_time(state: LineState, line: u32, trace: &mut Vec<u32>)
 
 /// As many items as lines that have ended.
 fn places_for(lines: &[LineState], mut trace: Vec<u32>) -> Vec<u32>
-    requires few { length lines.now ≤ 8192 }
+    requires few { length lines.now ≤ MAX_LINES }
     requires room { length lines.now ≤ vec_capacity trace }
     ensures count { length result.items ≡ count_below (over_at lines.now) (length lines.now) }
     ensures room { vec_capacity trace ≤ vec_capacity result }
@@ -133,7 +134,7 @@ fn places_for(lines: &[LineState], mut trace: Vec<u32>) -> Vec<u32>
 
 /// The lines that have ended, each at the place of its time.
 fn trace_of(lines: &[LineState], trace: Vec<u32>) -> Vec<u32>
-    requires few { length lines.now ≤ 8192 }
+    requires few { length lines.now ≤ MAX_LINES }
     requires room { length lines.now ≤ vec_capacity trace }
     requires times { (i : ℕ) (s : TheState) → slice_get lines.now i ≡ Some s → stage_is_over s.stage ≡ true
         → s.time < count_below (over_at lines.now) (length lines.now) }
