@@ -105,11 +105,11 @@ impl Row<'_> {
 }
 
 /// Runs the same command lines over each text of a table, which all end so, each with its own output.
-pub(crate) fn run_texts<R: Threads + Wait + Sync + AllocGlobal>(
+pub(crate) fn run_texts<'a, R: Threads + Wait + Sync + AllocGlobal>(
     rt: &R,
-    commands: &[&str],
+    commands: &'a [&'a str],
     status: Status,
-    table: &[(&str, &str)],
+    table: &'a [(&'a str, &'a str)],
 ) -> Result<(), Fail> {
     for (text, output) in table {
         let row = Row {
