@@ -1,6 +1,7 @@
 -- How the words of a one-thread table show its map.
 use Rattle.std.specs.Prelude.{◌≡◌, ℕ, zero, suc, ◌+◌, ◌-◌, ◌*◌, ◌/◌, ◌%◌, ◌<◌, ◌≤◌, ◌==◌, nat_lt, cond, List, [], ◌∷◌, ◌++◌, length, slice_index, slice_index_or, Contains}
 use Rattle.basics.specs.Sums.{total, below}
+use Rattle.gen_events.specs.declared.limits.TheConstants.{MAX_SLOTS, MAX_WAITERS, MAX_HANDLES}
 use Rattle.gen_events.specs.Rule.{turns_of, mark, mark_words, fate_code, Linked, Shows}
 use Rattle.gen_events.specs.Plays.{fate_by, handle_at}
 use Rattle.gen_events.specs.Chains.{chain_in, chain_at}
@@ -77,7 +78,7 @@ pub record AreKept (shape : Shape) (words free : List ℕ) (caught : List Chain)
   pub frees : AreFree shape.slots m free
 
 abbrev pub IsSized : Shape → Type 0
-IsSized shape = (0 < shape.slots) × (shape.slots ≤ 8192) × (shape.waiters ≤ 8192) × (shape.slots * (shape.last_gen + 1) ≤ 67108864)
+IsSized shape = (0 < shape.slots) × (shape.slots ≤ MAX_SLOTS) × (shape.waiters ≤ MAX_WAITERS) × (shape.slots * (shape.last_gen + 1) ≤ MAX_HANDLES)
 
 -- the word of a slot without its waiters
 abbrev pub alone_word : ℕ → ℕ

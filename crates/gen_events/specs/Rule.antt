@@ -5,6 +5,7 @@ use mathlib.Core.Option.{some}
 use lib.ListN.{get_elem?}
 use Rattle.atomic_table.specs.Table.{State}
 use Rattle.basics.specs.Sums.{total, below}
+use Rattle.gen_events.specs.declared.limits.TheConstants.{MAX_WAITERS}
 use Rattle.gen_events.specs.declared.handle.Handle.{Handle}
 use Rattle.gen_events.specs.declared.handle.Fate.{Fate}
 use Rattle.gen_events.specs.declared.handle.Fate.TheVariants.{Ok, Poison}
@@ -118,7 +119,7 @@ pub record Orderly (key : Shape) (s : State Unit View) : Type 0 where
   pub wide : length s.words ≡ key.slots + key.waiters + mark_words key
   pub high : length turns ≡ key.slots
   pub rows : length chains ≡ key.slots
-  pub small : key.waiters ≤ 8192
+  pub small : key.waiters ≤ MAX_WAITERS
   -- a handle that was not created is not marked
   pub clean : (h : Handle) → h.slot < key.slots → h.gen_ ≤ key.last_gen → (IsMade turns h → ⊥) → mark key s.words h ≡ 0
   pub each_slot : (i : ℕ) → i < key.slots → Shows key.last_gen (slice_index turns i) (slice_index_or chains i []) (slice_index s.words i) × Linked key s.words (slice_index_or chains i [])

@@ -1,6 +1,7 @@
 -- What a token is, by its view.
 use Rattle.std.specs.Prelude.{◌≡◌, ℕ, ◌+◌, ◌-◌, ◌*◌, ◌<◌, ◌≤◌, ◌⊎◌, List, [], ◌∷◌, ◌++◌, map, Contains}
 use Rattle.atomic_table.specs.Table.{Me}
+use Rattle.gen_events.specs.declared.limits.TheConstants.{MAX_WAITERS}
 use Rattle.gen_events.specs.Rule.{turns_of, code, undealt}
 pub use Rattle.gen_events.specs.EventMap.{no_event}
 use Rattle.gen_events.specs.declared.handle.Handle.{Handle}
@@ -44,17 +45,17 @@ abbrev pub IsPending : Me Unit View → Handle → Type 0
 IsPending m h = Rights m 0 (h ∷ []) [] [] × (m.0.caught ≡ []) × (h.slot < slots_of m.0.keys) × (h.gen_ ≤ last_gen_of m.0.keys) × (m.0.seen ≡ h ∷ []) × (m.0.known ≡ []) × (m.0.left ≡ []) × IsBare m.0
 
 abbrev pub IsWaiter : Me Unit View → ℕ → Type 0
-IsWaiter m k = Rights m 0 [] (k ∷ []) [] × (m.0.caught ≡ []) × (k < waiters_of m.0.keys) × (waiters_of m.0.keys ≤ 8192) × IsBare m.0 × (m.0.seen ≡ []) × (m.0.known ≡ []) × (m.0.left ≡ [])
+IsWaiter m k = Rights m 0 [] (k ∷ []) [] × (m.0.caught ≡ []) × (k < waiters_of m.0.keys) × (waiters_of m.0.keys ≤ MAX_WAITERS) × IsBare m.0 × (m.0.seen ≡ []) × (m.0.known ≡ []) × (m.0.left ≡ [])
 
 abbrev pub IsReceipt : Me Unit View → Handle → Fate → Type 0
 IsReceipt m h f = Rights m 0 [] [] [] × (m.0.caught ≡ []) × (m.0.seen ≡ h ∷ []) × (m.0.known ≡ (h, f) ∷ []) × (m.0.left ≡ []) × IsBare m.0
 
 abbrev pub IsCaught : Me Unit View → Handle → ℕ → Type 0
-IsCaught m h next = Rights m 0 [] [] (h ∷ []) × (code m.0.caught ≡ next) × (next ≤ waiters_of m.0.keys) × (waiters_of m.0.keys ≤ 8192)
+IsCaught m h next = Rights m 0 [] [] (h ∷ []) × (code m.0.caught ≡ next) × (next ≤ waiters_of m.0.keys) × (waiters_of m.0.keys ≤ MAX_WAITERS)
 
 -- the waiters from next on
 abbrev pub IsSet : Me Unit View → ℕ → ℕ → Type 0
-IsSet m next count = (m.1 ≡ []) × (m.0.makes ≡ 0) × (m.0.rights ≡ []) × (m.0.hand ≡ undealt next (count - next)) × (m.0.chased ≡ []) × (m.0.marked ≡ []) × (m.0.caught ≡ []) × (next ≤ count) × (waiters_of m.0.keys ≡ count) × (count ≤ 8192)
+IsSet m next count = (m.1 ≡ []) × (m.0.makes ≡ 0) × (m.0.rights ≡ []) × (m.0.hand ≡ undealt next (count - next)) × (m.0.chased ≡ []) × (m.0.marked ≡ []) × (m.0.caught ≡ []) × (next ≤ count) × (waiters_of m.0.keys ≡ count) × (count ≤ MAX_WAITERS)
 
 -- The lists of a seat
 -- the seat has seen the handle. NO_EVENT counts as seen by all

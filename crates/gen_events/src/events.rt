@@ -2,11 +2,13 @@
 
 ghost use Rattle.gen_events.specs.Rule.{mark_words};
 ghost use Rattle.gen_events.specs.declared.handle.Handle.{Handle as TheHandle};
+ghost use Rattle.gen_events.specs.declared.limits.TheConstants.{MAX_HANDLES, MAX_SLOTS, MAX_WAITERS};
 ghost use Rattle.std.specs.Prelude.{◌≡◌, ℕ, ◌+◌, ◌*◌, ◌<◌, ◌≤◌, ◌++◌, ◌∷◌, [], Contains, IfOk};
 
 use crate::NoMemory;
 use crate::handle::{Answer, Fate, Handle, Shape};
 use crate::left::Left;
+use crate::limits::{MAX_HANDLES, MAX_SLOTS, MAX_WAITERS};
 use crate::plays::{Appoints, Both, Copies, DealsAll, Forsakes, Gathers, Heed, Order};
 use crate::tokens::{Maker, Pending, Receipt, Seat, WaiterSet};
 use crate::view::View;
@@ -20,8 +22,8 @@ pub struct Events {
     pub(crate) table: Table<(), View, Shape, Order, Global>,
     pub(crate) shape: Shape,
     ghost sized: { (table.shared.key ≡ shape) × (table.shared.table_id.words ≡ shape.slots + shape.waiters + mark_words shape)
-        × (0 < shape.slots) × (shape.waiters ≤ 8192) × (shape.slots ≤ 8192) × (table.shared.table_id.slots ≡ 0)
-        × (shape.slots * (shape.last_gen + 1) ≤ 67108864) },
+        × (0 < shape.slots) × (shape.waiters ≤ MAX_WAITERS) × (shape.slots ≤ MAX_SLOTS) × (table.shared.table_id.slots ≡ 0)
+        × (shape.slots * (shape.last_gen + 1) ≤ MAX_HANDLES) },
 }
 
 impl Events {
@@ -39,9 +41,9 @@ impl Events {
         waiters: u32,
         last_gen: u32,
     ) -> Result<(Events, Maker, Seat, WaiterSet), NoMemory>
-        requires slots { (0 < slots) × (slots ≤ 8192) }
-        requires waiters { waiters ≤ 8192 }
-        requires gens { slots * (last_gen + 1) ≤ 67108864 }
+        requires slots { (0 < slots) × (slots ≤ MAX_SLOTS) }
+        requires waiters { waiters ≤ MAX_WAITERS }
+        requires gens { slots * (last_gen + 1) ≤ MAX_HANDLES }
         ensures shape { IfOk result (λ r. ((shape_of r.0).slots ≡ slots) × ((shape_of r.0).waiters ≡ waiters)
             × ((shape_of r.0).last_gen ≡ last_gen)) }
         ensures at { IfOk result (λ r. IsMakerOf r.0 r.1 × IsAt r.0 r.2 × IsSetOf r.0 r.3) }
@@ -57,9 +59,9 @@ impl Events {
     }
 
     fn of_shape(alloc: Global, shape: Shape) -> Result<(Events, Maker, Seat, WaiterSet), AllocError>
-        requires slots { (0 < shape.slots) × (shape.slots ≤ 8192) }
-        requires waiters { shape.waiters ≤ 8192 }
-        requires gens { shape.slots * (shape.last_gen + 1) ≤ 67108864 }
+        requires slots { (0 < shape.slots) × (shape.slots ≤ MAX_SLOTS) }
+        requires waiters { shape.waiters ≤ MAX_WAITERS }
+        requires gens { shape.slots * (shape.last_gen + 1) ≤ MAX_HANDLES }
         ensures shape { IfOk result (λ r. shape_of r.0 ≡ shape) }
         ensures at { IfOk result (λ r. IsMakerOf r.0 r.1 × IsAt r.0 r.2 × IsSetOf r.0 r.3) }
         ensures none { IfOk result (λ r. (made_by r.1 ≡ []) × (taken_of r.3 ≡ 0) × (size_of r.3 ≡ shape.waiters)) }

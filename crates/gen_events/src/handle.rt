@@ -1,5 +1,7 @@
 //! What a handle is, and what is answered for one.
 
+use crate::limits::{MAX_HANDLES, MAX_SLOTS, MAX_WAITERS};
+
 /// A slot and a generation of it. It may be copied and kept for any time.
 #[derive(Clone, Copy, Debug, PartialEq, Eq)]
 pub struct Handle {
@@ -50,7 +52,7 @@ impl Shape {
 
     // The number of words of a table.
     pub(crate) fn words(&self) -> usize
-        requires { (self.now.slots ≤ 8192) × (self.now.waiters ≤ 8192) × (self.now.slots * (self.now.last_gen + 1) ≤ 67108864) }
+        requires { (self.now.slots ≤ MAX_SLOTS) × (self.now.waiters ≤ MAX_WAITERS) × (self.now.slots * (self.now.last_gen + 1) ≤ MAX_HANDLES) }
         ensures { result ≡ self.now.slots + self.now.waiters + mark_words self.now }
     {
         let marks = (self.slots as usize * (self.last_gen as usize + 1) + 63) / 64;
@@ -60,7 +62,7 @@ impl Shape {
     // The place of a handle among the poison bits.
     pub(crate) fn place(&self, handle: Handle) -> u64
         requires { (handle.slot < self.now.slots) × (handle.gen_ ≤ self.now.last_gen)
-            × (self.now.slots * (self.now.last_gen + 1) ≤ 67108864) }
+            × (self.now.slots * (self.now.last_gen + 1) ≤ MAX_HANDLES) }
         ensures { result ≡ place_of self.now.last_gen handle }
     {
         handle.slot as u64 * (self.last_gen as u64 + 1) + handle.gen_ as u64
@@ -69,7 +71,7 @@ impl Shape {
     // The number of the poison word of a handle.
     pub(crate) fn mark_at(&self, handle: Handle) -> usize
         requires { (handle.slot < self.now.slots) × (handle.gen_ ≤ self.now.last_gen)
-            × (self.now.slots * (self.now.last_gen + 1) ≤ 67108864) }
+            × (self.now.slots * (self.now.last_gen + 1) ≤ MAX_HANDLES) }
         ensures at { result ≡ mark_word self.now handle }
         ensures within { result < self.now.slots + self.now.waiters + mark_words self.now }
     {

@@ -8,6 +8,7 @@ ghost use Rattle.gen_events.specs.EventMap.{answer, fresh, all_free, no_event, I
 ghost use Rattle.gen_events.specs.declared.handle.Handle.{Handle as TheHandle};
 
 use crate::handle::{Answer, Handle, Shape};
+use crate::limits::MAX_WAITERS;
 use crate::table::EventTable;
 use crate::word::{alone, answer, fate_shown, is_no_event, turns};
 use atomic_table::Closed;
@@ -52,7 +53,7 @@ fn handle_at(slot: u32, word: u64) -> Handle
 fn stands(closed: &Closed<(), Global>, shape: &Shape, first: u64, waiter: u32) -> bool
     requires full { IsFull closed.now.words }
     requires wide { shape.now.slots + shape.now.waiters ≤ slots_len closed.now.words }
-    requires small { shape.now.waiters ≤ 8192 }
+    requires small { shape.now.waiters ≤ MAX_WAITERS }
     requires chain { AreWaiters shape.now (chain_in shape.now.waiters shape.now.slots (slots_items closed.now.words) first) }
     ensures yes { result ≡ true → Contains (chain_in shape.now.waiters shape.now.slots (slots_items closed.now.words) first) waiter }
     ensures no { result ≡ false → Contains (chain_in shape.now.waiters shape.now.slots (slots_items closed.now.words) first) waiter → ⊥ }

@@ -15,6 +15,7 @@ mod giving;
 mod handle;
 mod laws;
 mod left;
+pub mod limits;
 mod looking;
 mod making;
 mod plays;

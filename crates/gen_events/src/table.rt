@@ -7,6 +7,7 @@ use crate::NoMemory;
 use crate::chain::{Chain, catch};
 use crate::handle::{Answer, Fate, Handle, Shape, WatchNow};
 use crate::left::copy_words;
+use crate::limits::{MAX_HANDLES, MAX_SLOTS, MAX_WAITERS};
 use crate::word::{
     answer, fate_shown, free_slots, is_no_event, next_word, release, turns, with_fate,
 };
@@ -60,9 +61,9 @@ impl EventTable {
         waiters: u32,
         last_gen: u32,
     ) -> Result<EventTable, NoMemory>
-        requires slots { (0 < slots) × (slots ≤ 8192) }
-        requires waiters { waiters ≤ 8192 }
-        requires gens { slots * (last_gen + 1) ≤ 67108864 }
+        requires slots { (0 < slots) × (slots ≤ MAX_SLOTS) }
+        requires waiters { waiters ≤ MAX_WAITERS }
+        requires gens { slots * (last_gen + 1) ≤ MAX_HANDLES }
         ensures map { IfOk result (λ t. t ≡ fresh slots waiters last_gen) }
     {
         let shape = Shape {
@@ -74,9 +75,9 @@ impl EventTable {
     }
 
     fn of_shape(alloc: Global, shape: Shape) -> Result<EventTable, AllocError>
-        requires slots { (0 < shape.slots) × (shape.slots ≤ 8192) }
-        requires waiters { shape.waiters ≤ 8192 }
-        requires gens { shape.slots * (shape.last_gen + 1) ≤ 67108864 }
+        requires slots { (0 < shape.slots) × (shape.slots ≤ MAX_SLOTS) }
+        requires waiters { shape.waiters ≤ MAX_WAITERS }
+        requires gens { shape.slots * (shape.last_gen + 1) ≤ MAX_HANDLES }
         ensures map { IfOk result (λ t. t ≡ fresh shape.slots shape.waiters shape.last_gen) }
     {
         let words = vec![in alloc; 0u64; shape.words()]?;

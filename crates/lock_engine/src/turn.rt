@@ -19,7 +19,7 @@ use graph_model::graph::Graph;
 use graph_model::outcome::Outcome;
 use index_spaces::NoMemory;
 use realm_io::Gate;
-use run_core::Core;
+use run_core::{Core, MAX_SLOTS};
 use std::alloc::Global;
 use std::marker::Model;
 use std::sync::Wait;
@@ -58,7 +58,7 @@ impl<'g> Turn<'g> {
     /// to 8,192. `NoMemory` comes where memory ran out.
     pub fn prepare(alloc: Global, checked: &'g Checked, slots: u32) -> Result<Turn<'g>, NoMemory>
         requires enough { checked.now.need ≤ slots }
-        requires most { slots ≤ 8192 }
+        requires most { slots ≤ MAX_SLOTS }
         ensures { IfOk result (λ turn. turn ≡ checked.now.graph) }
     {
         let graph = checked.graph();

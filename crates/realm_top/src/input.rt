@@ -15,7 +15,7 @@ use crate::refusal::{put_accepted, put_broken, put_slots, put_unread};
 use crate::report::put_parts;
 use crate::status::Status;
 use crate::summary::put_summary;
-use command_line::request::{Action, MAX_SLOTS, Request};
+use command_line::request::{Action, MAX_SLOTS, MAX_WORKERS, Request};
 use graph_model::graph::Graph;
 use graph_model::limits::MAX_TEXT;
 use graph_model::outcome::Outcome;
@@ -45,7 +45,7 @@ pub(crate) fn answer<R: Threads + Wait + Sync, K: Sink, G: Gate>(
     gate: &G,
 ) -> Status
     requires short { length bytes.now ≤ MAX_TEXT }
-    requires workers { request.workers ≤ 8 }
+    requires workers { request.workers ≤ MAX_WORKERS }
     ensures answered { Answered request bytes.now (K.state sink.old) (K.state sink.new) result }
     ensures no_memory { result ≡ Status.NoMemory → sink.new ≡ sink.old }
 {
@@ -64,7 +64,7 @@ pub(crate) fn judge<R: Threads + Wait + Sync, K: Sink, G: Gate>(
     sink: &mut K,
     gate: &G,
 ) -> Status
-    requires workers { request.workers ≤ 8 }
+    requires workers { request.workers ≤ MAX_WORKERS }
     ensures settled { Settled request graph (K.state sink.old) (K.state sink.new) result }
     ensures no_memory { result ≡ Status.NoMemory → sink.new ≡ sink.old }
 {
@@ -83,7 +83,7 @@ fn serve<R: Threads + Wait + Sync, K: Sink, G: Gate>(
     sink: &mut K,
     gate: &G,
 ) -> Status
-    requires workers { request.workers ≤ 8 }
+    requires workers { request.workers ≤ MAX_WORKERS }
     ensures served { Serves request checked.now.graph (K.state sink.old) (K.state sink.new) result }
     ensures no_memory { result ≡ Status.NoMemory → sink.new ≡ sink.old }
 {
@@ -140,7 +140,7 @@ fn run_graph<R: Threads + Wait + Sync, G: Gate>(
     checked: &Checked,
     gate: &G,
 ) -> Result<Outcome, NoMemory>
-    requires workers { request.now.workers ≤ 8 }
+    requires workers { request.now.workers ≤ MAX_WORKERS }
     ensures outcome { IfOk result (λ o. o ≡ outcome checked.now.graph o.trace) }
     ensures lawful { IfOk result (λ o. IsLawful checked.now.graph o.trace) }
     ensures lines { IfOk result (λ o. (k i : ℕ) → slice_get o.trace k ≡ Some i → i < length checked.now.graph.lines) }
@@ -160,7 +160,7 @@ fn run<R: Threads + Wait + Sync, K: Sink, G: Gate>(
     sink: &mut K,
     gate: &G,
 ) -> Status
-    requires workers { request.now.workers ≤ 8 }
+    requires workers { request.now.workers ≤ MAX_WORKERS }
     ensures done { (result ≡ Status.NoMemory) ⊎ ((trace : List ℕ) × IsLawful checked.now.graph trace
         × Delivers (K.state sink.old) (K.state sink.new) Status.Done result
         (run_text request.now.action request.now.trace checked.now.graph trace)) }

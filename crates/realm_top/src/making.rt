@@ -7,7 +7,7 @@ ghost use Rattle.realm_top.specs.Answer.{MadeAnswered, Delivers};
 
 use crate::input::{flush, judge};
 use crate::status::Status;
-use command_line::request::{MAX_SIZE, Request};
+use command_line::request::{MAX_SIZE, MAX_WORKERS, Request};
 use graph_gen::laws::made_graphs_are_accepted;
 use graph_gen::make::make;
 use graph_model::graph::Graph;
@@ -26,7 +26,7 @@ pub(crate) fn answer_made<R: Threads + Wait + Sync, K: Sink, G: Gate>(
     gate: &G,
 ) -> Status
     requires size { (1 ≤ request.size) × (request.size ≤ MAX_SIZE) }
-    requires workers { request.workers ≤ 8 }
+    requires workers { request.workers ≤ MAX_WORKERS }
     ensures answered { MadeAnswered request (K.state sink.old) (K.state sink.new) result }
     ensures no_memory { result ≡ Status.NoMemory → sink.new ≡ sink.old }
 {

@@ -16,6 +16,7 @@ use Rattle.run_state.specs.Sound.{Sound}
 use Rattle.run_state.specs.AtRest.{AtRest}
 use Rattle.run_state.specs.Start.{start}
 use Rattle.basics.specs.Lists.{count_below}
+use Rattle.run_core.specs.declared.run.TheConstants.{LAST_GEN}
 
 -- a graph, the state of its run, the handles of the issued lines in file order, and the table of events
 pub record CoreValue : Type 0 where
@@ -26,7 +27,7 @@ pub record CoreValue : Type 0 where
 
 -- before any line is issued
 abbrev pub unissued : GraphValue → ℕ → CoreValue
-unissued g slots = record { graph = g; run = start g; handles = []; table = fresh slots (length g.lines) 8191 }
+unissued g slots = record { graph = g; run = start g; handles = []; table = fresh slots (length g.lines) LAST_GEN }
 
 -- what the handle of a line with this end answers
 abbrev pub answer_for : End → Answer
@@ -54,7 +55,7 @@ count_left stages k = count_below (λ i. not (ended stages i)) k
 pub record AreEvents (g : GraphValue) (stages : List LineStage) (handles : List Handle) (table : EventMap) : Type 0 where
   -- the table has a waiter for each line, and 8,192 generations for each slot
   pub waiters : table.waiters ≡ length g.lines
-  pub last : table.last_gen ≡ 8191
+  pub last : table.last_gen ≡ LAST_GEN
   -- the first lines are issued, one for each handle, and the handles differ
   pub each_issued : (i : ℕ) → (issued stages i ≡ true) ↔ (i < length handles)
   pub once : (a b : ℕ) (h : Handle) → slice_get handles a ≡ Some h → slice_get handles b ≡ Some h → a ≡ b

@@ -6,8 +6,11 @@ ghost use Rattle.run_core.specs.Resumed.{issued_handles};
 ghost use Rattle.gen_events.specs.EventMap.{EventMap};
 
 use crate::answers::Stage;
+use crate::run::LAST_GEN;
 use crate::states::LineState;
+use gen_events::limits::MAX_SLOTS;
 use gen_events::{Answer, EventTable, Fate, Handle, WatchNow};
+use graph_model::limits::MAX_LINES;
 use index_spaces::NoMemory;
 use index_spaces::room::{filled, push_within, with_room};
 use std::alloc::Global;
@@ -27,6 +30,8 @@ impl Model for LineEvents {
     ghost use Rattle.std.specs.Prelude.{◌≤◌, length};
     ghost use Rattle.std.specs.Vec.{vec_capacity};
     ghost use Rattle.run_core.specs.Events.{EventsValue, AreMarked};
+    ghost use Rattle.graph_model.specs.declared.graph.limits.TheConstants.{MAX_LINES};
+    ghost use Rattle.gen_events.specs.declared.limits.TheConstants.{MAX_SLOTS};
 
     ghost Value = { EventsValue };
 
@@ -36,8 +41,8 @@ impl Model for LineEvents {
       marked : AreMarked a.table a.busy.items;
       room : a.table.waiters ≤ vec_capacity a.handles;
       each : length a.handles.items ≤ a.table.waiters;
-      waiters : a.table.waiters ≤ 8192;
-      slots : length a.table.slots ≤ 8192;
+      waiters : a.table.waiters ≤ MAX_LINES;
+      slots : length a.table.slots ≤ MAX_SLOTS;
     } };
 }
 
@@ -68,9 +73,9 @@ impl LineEvents {
         lines: u32,
         last_gen: u32,
     ) -> Result<LineEvents, NoMemory>
-        requires slots { (0 < slots) × (slots ≤ 8192) }
-        requires lines { lines ≤ 8192 }
-        requires last { last_gen ≡ 8191 }
+        requires slots { (0 < slots) × (slots ≤ MAX_SLOTS) }
+        requires lines { lines ≤ MAX_LINES }
+        requires last { last_gen ≡ LAST_GEN }
         ensures { IfOk result (λ e. e ≡ record { handles = []; table = fresh slots lines last_gen }) }
     {
         let Ok(table) = EventTable::new(alloc, slots, lines, last_gen) else {
@@ -85,8 +90,8 @@ impl LineEvents {
         })
     }
 
-    /// The handles of the issued lines, with this table, in the place of events of which none was
-    /// created. Each waiter is free.
+    /// Takes over this table and the handles of the issued lines, where none was created before.
+    /// Each waiter is free.
     pub(crate) fn resumed(self, lines: &[LineState], table: EventTable) -> LineEvents
         requires empty { self.handles ≡ [] }
         requires each { (length lines.now ≡ self.table.waiters) × (table.waiters ≡ self.table.waiters) }
@@ -99,11 +104,7 @@ impl LineEvents {
             mut handles,
             mut busy,
         } = self;
-        let count = lines.len();
-        busy.clear();
-        for _line in 0..count {
-            push_within(&mut busy, false);
-        }
+        busy.fill(false);
         for state in lines {
             push_handle(*state, &mut handles);
         }

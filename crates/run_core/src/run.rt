@@ -7,6 +7,7 @@ use crate::events::LineEvents;
 use crate::phases::first_values;
 use crate::progress::Progress;
 use crate::run::outcome::OutcomeRoom;
+use gen_events::limits::MAX_SLOTS;
 use graph_model::checked::Checked;
 use graph_model::graph::Graph;
 use graph_model::laws::needs_are_one;
@@ -27,7 +28,7 @@ mod take;
 
 /// The last generation of a slot. A slot retires only after 8,192 lines have ended on it, and then
 /// no line is left.
-const LAST_GEN: u32 = 8191;
+pub const LAST_GEN: u32 = 8191;
 
 /// The core of a run of a graph that was accepted. Nothing but `prepare` takes memory.
 #[derive(Drop)]
@@ -78,7 +79,7 @@ impl<'g> Core<'g> {
     /// to 8,192. `NoMemory` comes where memory ran out.
     pub fn prepare(alloc: Global, checked: &'g Checked, slots: u32) -> Result<Core<'g>, NoMemory>
         requires enough { checked.now.need ≤ slots }
-        requires most { slots ≤ 8192 }
+        requires most { slots ≤ MAX_SLOTS }
         ensures core { IfOk result (λ core. core ≡ unissued checked.now.graph slots) }
         ensures slots { IfOk result (λ core. slots_given core ≡ slots) }
         ensures nothing_out { IfOk result (λ core. NothingOut core) }

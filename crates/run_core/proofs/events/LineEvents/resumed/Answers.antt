@@ -21,7 +21,7 @@ invariant_of-result c =
     let own = ap (λ (v : EventsValue). v.table.waiters) c.self.view_is in
     let slots = ap (λ (v : EventsValue). length v.table.slots) c.self.view_is in
     record {
-      marked = marked_free c.args.table c.loop-line.busy.items c.loop-line._line c.loop-line.invariant.so_far (omega (arith, c.loop-line-test.false, c.loop-line.auto._line-end, c.requires.each.0, c.requires.each.1)) c.requires.free;
+      marked = marked_free c.args.table c.fill.new.self.items c.self.inside.busy.len (c.fill.ensures.items (λ y e. e)) (omega (arith, c.self.invariant.marked.each, c.self.inside.busy.ok.0, own, c.requires.each.1)) c.requires.free;
       room = omega (arith, c.loop-state.invariant.room, c.requires.each.0, c.requires.each.1);
       each = omega (arith, c.loop-state.invariant.few, c.loop-state.auto.state-index-end, c.loop-state.handles.ok.0, c.requires.each.0, c.requires.each.1);
       waiters = omega (arith, own, c.requires.each.1, c.self.invariant.waiters);

@@ -1,0 +1,10 @@
+//! The limits of tables of events.
+
+/// The most slots of a table.
+pub const MAX_SLOTS: u32 = 8_192;
+
+/// The most waiters of a table.
+pub const MAX_WAITERS: u32 = 8_192;
+
+/// The most handles that all slots of a table give.
+pub const MAX_HANDLES: u32 = 67_108_864;
