@@ -72,10 +72,10 @@ pub marked_ended : (m n : EventMap) (busy : List Bool) (h : Handle) (f : Fate) �
 marked_ended m n busy h f is free marked = marked_kept m n busy (ap (λ (t : EventMap). t.waiters) is) free (λ k b. subst (λ (t : EventMap). IsBusy t k) (sym is) (busy_ended m h f k b)) marked
 
 -- A WAITER IS MARKED. What stands in a list of marks where one is set
-set_get : {X : Type 0} (xs : List X) (i : ℕ) (x : X) → i < length xs → slice_get (slice_set xs i x) i ≡ Some x
+pub set_get : {X : Type 0} (xs : List X) (i : ℕ) (x : X) → i < length xs → slice_get (slice_set xs i x) i ≡ Some x
 set_get xs i x near = slice_get-get_or (slice_set xs i x) i x (subst (λ n. i < n) (sym (length-set xs i x)) near) ∙ ap Some (get_or-set_same xs i x x near)
 
-set_get_other : {X : Type 0} (xs : List X) (i j : ℕ) (x : X) → j ≢ i → slice_get (slice_set xs i x) j ≡ slice_get xs j
+pub set_get_other : {X : Type 0} (xs : List X) (i j : ℕ) (x : X) → j ≢ i → slice_get (slice_set xs i x) j ≡ slice_get xs j
 set_get_other [] i j x ne = refl
 set_get_other (y ∷ ys) zero zero x ne = absurd (ne refl)
 set_get_other (y ∷ ys) zero (suc j) x ne = refl

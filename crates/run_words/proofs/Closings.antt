@@ -65,6 +65,7 @@ module _ (g : GraphValue) (e : Events) (s : St) (o : Shown g e s) (id : ℕ) (v 
         (subst (λ k. DeskShown e (length g.lines) o.handles k (slice_index s.words (desk_word (size_of g))) l.home) r.desk_home l.shown));
     known_issued = (o.each_view id v me).issued;
     known_ended = (o.each_view id v me).ended;
+    known_handles = (o.each_view id v me).named;
   }
 
 pub closes : (g : GraphValue) (e : Events) (id : ℕ) (v : View) (words : List ℕ) (slots : List Content) → IsWhole v → HasNoRights v → Final (Seen (Shown g e) id v) words slots → (run : Run) × (handles : List Handle) × IsLeft g e v run handles words slots

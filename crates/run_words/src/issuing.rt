@@ -22,6 +22,7 @@ use crate::moves::Place;
 use crate::seats::WordSeat;
 use crate::words::Words;
 use gen_events::{Handle, Seat};
+use graph_model::graph::Graph;
 
 /// Puts a handle at the end of a list that has room for it.
 fn push_within(handles: &mut Vec<Handle>, handle: Handle)
@@ -36,7 +37,7 @@ fn push_within(handles: &mut Vec<Handle>, handle: Handle)
 }
 
 /// What lies on the desk.
-fn tray_of(content: Content) -> Desk
+pub(crate) fn tray_of(content: Content) -> Desk
     requires { (d : TheDesk) × (content ≡ Tray d) }
     ensures { content ≡ Tray result }
 {
@@ -46,13 +47,19 @@ fn tray_of(content: Content) -> Desk
     desk
 }
 
+/// The slot of the desk.
+pub(crate) fn desk_slot(graph: &Graph) -> usize
+    ensures { result ≡ desk_slot (size_of graph.now) }
+{
+    graph.lines() as usize + graph.columns() as usize
+}
+
 impl<'g> Words<'g> {
     /// The slot of the desk.
     pub(crate) fn desk_slot(&self) -> usize
         ensures { result ≡ desk_slot (size_of (graph_of self.now)) }
     {
-        let graph = self.base.checked.graph();
-        graph.lines() as usize + graph.columns() as usize
+        desk_slot(self.base.checked.graph())
     }
 
     /// Issues the next line, in the desk's turn and with what lies on the desk. False comes where

@@ -1,6 +1,9 @@
 //! Preparing a run.
 
-ghost use Rattle.std.specs.Prelude.{ℕ, List, ◌≡◌, ◌+◌, ◌≢◌, ◌<◌, ◌≤◌, ◌++◌, ◌∷◌, [], length, vec_len, replicate, Contains, Some, IfOk};
+ghost use Rattle.std.specs.Prelude.{ℕ, List, ◌≡◌, ◌+◌, ◌≢◌, ◌<◌, ◌≤◌, ◌++◌, ◌∷◌, [], length, vec_len, replicate, Contains, Some, None, slice_index_or, slice_set, IfOk};
+ghost use Rattle.index_spaces.specs.Column.{ColumnValue};
+ghost use Rattle.graph_model.specs.Effect.{zero_cells};
+ghost use Rattle.instances.specs.Homes.{all_home};
 ghost use Rattle.std.specs.Vec.{vec_capacity};
 ghost use Rattle.gen_events.specs.Views.{shape_of, IsAt as IsEventsAt, IsSetOf, IsWaiterOf, number_of, taken_of, size_of as set_size};
 ghost use Rattle.gen_events.specs.declared.events.Events.{Events as TheEvents};
@@ -8,26 +11,25 @@ ghost use Rattle.graph_model.specs.Graph.{columns as graph_columns};
 ghost use Rattle.run_state.specs.Start.{first_value};
 ghost use Rattle.run_words.specs.Layout.{size_of};
 ghost use Rattle.run_words.specs.Opening.{AreFirstWords, AreFirstSlots};
-ghost use Rattle.run_words.specs.Preparing.{IsLoose, AreLoose, AreWaiters, AreValues, AreHome, AreEmpty};
+ghost use Rattle.run_words.specs.Preparing.{IsLoose, AreLoose, AreWaiters, AreValues, AreHome, AreEmpty, AreOut};
 ghost use Rattle.run_words.specs.Rule.{IsTray};
 ghost use Rattle.run_words.specs.Words.{graph_of, events_of, IsAt, numbers_of, splits_of};
 
 use crate::base::Base;
 use crate::content::{Content, Desk};
 use crate::seats::WordSeat;
+use crate::spare::{LAST_GEN, Spare};
 use crate::words::Words;
 use atomic_table::{Refused, Table};
 use gen_events::{Events, Seat, Waiter, WaiterSet};
+use graph_model::checked::Checked;
 use graph_model::graph::Graph;
 use graph_model::line_laws::phases_fit;
 use graph_model::verb::Verb;
 use index_spaces::NoMemory;
 use index_spaces::column::Column;
-use graph_model::checked::Checked;
+use instances::Homes;
 use std::alloc::{AllocError, Global};
-
-/// The last generation of an event slot.
-const LAST_GEN: u32 = 8191;
 
 /// Lets go of what is no event of a line that has not ended.
 fn let_loose(content: Content)
@@ -113,33 +115,53 @@ fn line_slots(alloc: Global, lines: u32, count: usize) -> Result<Vec<Content>, N
     Ok(slots)
 }
 
-/// Puts the columns of a graph, each cell 0, behind the slots of the lines.
-fn add_columns(alloc: Global, graph: &Graph, slots: &mut Vec<Content>) -> Result<(), NoMemory>
+/// Moves out a column that is at home.
+fn take_home(homes: &mut Homes, c: u32) -> Column
+    requires known { c < length homes.old }
+    requires home { (x : ColumnValue) × (slice_index_or homes.old c None ≡ Some x) }
+    ensures column { slice_index_or homes.old c None ≡ Some result }
+    ensures homes { homes.new ≡ slice_set homes.old c None }
+{
+    match homes.take(c) {
+        Some(column) => column,
+        None => unreachable!(),
+    }
+}
+
+/// Moves the columns of a graph, each cell 0, out of their homes and behind the slots of the lines.
+fn move_columns(graph: &Graph, homes: &mut Homes, slots: &mut Vec<Content>)
+    requires zero { homes.old ≡ all_home graph.now zero_cells }
     requires empty { AreHome graph.now 0 slots.old.items }
     requires loose { AreLoose slots.old.items }
     requires room { length graph.now.lines + length (graph_columns graph.now) + 1 ≤ vec_capacity slots.old }
     ensures loose { AreLoose slots.new.items }
-    ensures home { IfOk result (λ x. AreHome graph.now (length (graph_columns graph.now)) slots.new.items × (length graph.now.lines + length (graph_columns graph.now) + 1 ≤ vec_capacity slots.new)) }
+    ensures home { AreHome graph.now (length (graph_columns graph.now)) slots.new.items }
+    ensures room { length graph.now.lines + length (graph_columns graph.now) + 1 ≤ vec_capacity slots.new }
+    ensures out { AreOut graph.now homes.new }
 {
     for c in 0..graph.columns() {
-        let column = Column::zeroed(alloc, graph.column_space(c))?;
+        let column = take_home(homes, c);
         push_slot(slots, Content::Cells(column));
     }
-    Ok(())
 }
 
-/// The slots of a run that begins.
-fn first_slots(alloc: Global, graph: &Graph, desk: Desk) -> Result<Vec<Content>, NoMemory>
-    ensures home { (e : TheEvents) → IsTray e (length graph.now.lines) [] desk → IfOk result (λ slots. AreFirstSlots graph.now e (size_of graph.now) slots.items) }
+/// The slots of a run that begins, with the columns from their homes.
+fn first_slots(
+    alloc: Global,
+    graph: &Graph,
+    homes: &mut Homes,
+    desk: Desk,
+) -> Result<Vec<Content>, NoMemory>
+    requires zero { homes.old ≡ all_home graph.now zero_cells }
+    ensures home { (e : TheEvents) → IsTray e (length graph.now.lines) [] desk
+        → IfOk result (λ slots. AreFirstSlots graph.now e (size_of graph.now) slots.items) }
     ensures loose { IfOk result (λ slots. AreLoose slots.items) }
+    ensures out { IfOk result (λ slots. AreOut graph.now homes.new) }
 {
     let lines = graph.lines();
     let count = lines as usize + graph.columns() as usize + 1;
     let mut slots = line_slots(alloc, lines, count)?;
-    let Ok(()) = add_columns(alloc, graph, &mut slots) else {
-        discard(slots);
-        return Err(NoMemory);
-    };
+    move_columns(graph, homes, &mut slots);
     push_slot(&mut slots, Content::Tray(desk));
     Ok(slots)
 }
@@ -232,12 +254,13 @@ impl<'g> Words<'g> {
         let graph = checked.graph();
         let _ = checked.need();
         let words = first_words(alloc, graph)?;
+        let mut spare = Spare::prepare(alloc, checked, slots)?;
         let (events, desk, seat) = new_desk(alloc, slots, graph.lines())?;
-        let contents = first_slots(alloc, graph, desk)?;
+        let contents = first_slots(alloc, graph, &mut spare.homes, desk)?;
         let base = Base { checked, events };
         match Table::new(alloc, words.as_slice(), contents, &base) {
             Ok((table, inner)) => Ok((
-                Words { base, table },
+                Words { base, table, spare },
                 WordSeat {
                     inner,
                     events: seat,
