@@ -78,7 +78,7 @@ pub is_loaded : (g : GraphValue) (e : Events) (line : ℕ) (v : View) (cl : Clai
 is_loaded g e line v cl left m n held r key t look = (r, t.0, loaded_of g e line v (record cl { columns = t.0 }) left m n held r key t.1 look)
 
 -- a line that gave all back is refused
-pub is_refused : (g : GraphValue) (line k c w r : ℕ) (v : View) (cl : Claim) (left : List (ℕ × Content)) (m : Sat) (held : List (ℕ × ColumnValue)) → slice_get (column_list g line) k ≡ Some c → w ≡ turn_word (size_of g) c → r ≢ 0 → r ≢ line + 1 → TakingAs g line 0 (saw_at v w r) cl left m held → IsRefused g line v cl left (Rattle.run_words.specs.declared.answers.Thing.TheVariants.Column c) m
+pub is_refused : (g : GraphValue) (line k c w r : ℕ) (v : View) (cl : Claim) (left : List (ℕ × Content)) (m : Sat) (held : List (ℕ × ColumnValue)) → slice_get (column_list g line) k ≡ Some c → w ≡ turn_word (size_of g) c → r ≢ 0 → r ≢ line + 1 → TakingAs g line 0 (saw_at v w r) cl left m held → IsRefused g line v cl left (Rattle.run_core.specs.declared.answers.Thing.TheVariants.Column c) m
 is_refused g line k c w r v cl left m held at is ne other t = (
   w,
   r,

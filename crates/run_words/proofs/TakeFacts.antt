@@ -18,8 +18,8 @@ use Rattle.gen_events.specs.declared.handle.Handle.{Handle}
 use Rattle.gen_events.specs.declared.tokens.Pending.{Pending}
 use Rattle.gen_events.proofs.Members.{Contains-head, Contains-none}
 use Rattle.run_state.proofs.Started.{cancelled_iff}
-use Rattle.run_words.specs.declared.answers.Thing.{Thing}
-use Rattle.run_words.specs.declared.answers.Thing.TheVariants as things
+use Rattle.run_core.specs.declared.answers.Thing.{Thing}
+use Rattle.run_core.specs.declared.answers.Thing.TheVariants as things
 use Rattle.run_words.specs.declared.content.Content.{Content}
 use Rattle.run_words.specs.declared.content.Content.TheVariants.{Ticket}
 use Rattle.run_words.specs.declared.view.View.{View}

@@ -16,13 +16,13 @@ ghost use Rattle.graph_model.specs.declared.outcome.End.{End as TheEnd};
 ghost use Rattle.run_words.specs.Rule.{IsTray};
 ghost use Rattle.run_words.specs.Words.{graph_of, events_of, IsSeatOf, IsAt, KnowsIssued, KnowsEnded, KnowsHandles, IsEventSeat, FoundTaken, events_seat, numbers_of, splits_of};
 
-use crate::answers::Issue;
 use crate::content::{Content, Desk};
 use crate::moves::Place;
 use crate::seats::WordSeat;
 use crate::words::Words;
 use gen_events::{Handle, Seat};
 use graph_model::graph::Graph;
+use run_core::Issue;
 
 /// Puts a handle at the end of a list that has room for it.
 fn push_within(handles: &mut Vec<Handle>, handle: Handle)

@@ -17,6 +17,7 @@ ghost use Rattle.run_words.specs.Words.{graph_of, events_of, IsAt, numbers_of, s
 
 use crate::base::Base;
 use crate::content::{Content, Desk};
+use crate::moves::APART;
 use crate::seats::WordSeat;
 use crate::spare::{LAST_GEN, Spare};
 use crate::words::Words;
@@ -83,7 +84,7 @@ fn first_words(alloc: Global, graph: &Graph) -> Result<Vec<u64>, NoMemory>
     ensures { IfOk result (λ words. AreFirstWords graph.now (size_of graph.now) words.items) }
 {
     let lines = graph.lines() as usize;
-    let count = 3 * lines + graph.columns() as usize + graph.locks() as usize + 2;
+    let count = 3 * lines + graph.columns() as usize + graph.locks() as usize + 3 * APART;
     let Ok(mut words) = zeros_of(alloc, count) else {
         return Err(NoMemory);
     };

@@ -107,23 +107,23 @@ resume-requires-clause-shown c =
     let words_same = ap slots_items (c.settle_lines.ensures.same.1 ∙ c.take.ensures.others.3) in
     let width : length m.slots ≡ (shape_of own.base.events).slots = ap (λ (t : EventMap). length t.slots) c.into_table-table.ensures.map ∙ (length-map c.close.result.slots without_waiters ∙ (lost.shape.0 ∙ ap (λ (s : Shape). s.slots) shape)) in
     let shown = shows g e c.args.seat.inner.me.0 k.0 k.1 words items l few
-      m (lists c.settle_lines.new.seat)
-      (λ i x near at. c.settle_lines.ensures.settled i x near (ap (λ s. get_elem? s i) slots_same ∙ at))
-      (λ h left. c.into_table-table.ensures.answers h ∙ lost.left h left)
-      (λ h f knows. c.into_table-table.ensures.answers h ∙ lost.known h f knows)
-      (λ h has. let a = lost.made h (subst (λ hs. Contains hs h) (sym tray.made) has) in (a.0, c.into_table-table.ensures.answers h ∙ a.1))
-      (λ h a at. subst (λ hs. Contains hs h) tray.made (lost.only h a (sym (c.into_table-table.ensures.answers h) ∙ at)))
-      (ap (λ (t : EventMap). t.waiters) c.into_table-table.ensures.map ∙ (lost.shape.1 ∙ (ap (λ (s : Shape). s.waiters) shape ∙ (own.shaped.0 ∙ ap (λ (x : GraphValue). length x.lines) (sym graph)))))
-      (ap (λ (t : EventMap). t.last_gen) c.into_table-table.ensures.map ∙ (lost.shape.2 ∙ (ap (λ (s : Shape). s.last_gen) shape ∙ own.shaped.1)))
-      (λ i j has. Contains-none j (subst (λ ws. Contains ws j) (ap (λ (t : EventMap). (life_at t i).waiting) c.into_table-table.ensures.map ∙ none_waits c.close.result i) has))
-      c.as_slice.result.now (c.as_slice.ensures.value ∙ tray.listed) c.states_of-states.result c.states_of-states.ensures.each
-      (subst (λ ws. (i : ℕ) → i < length g.lines → slice_get c.states_of-states.result i ≡ Some (state_for ws (size_of g) c.as_slice.result.now i)) words_same c.states_of-states.ensures.states)
-      c.values_of-phases.result c.values_of-phases.ensures.each
-      (subst (λ ws. (i : ℕ) → i < length g.lines → slice_get c.values_of-phases.result i ≡ Some (value_for (verb_at g i) (slice_index ws (value_word (size_of g) i)))) words_same c.values_of-phases.ensures.values)
-      c.homes_of-homes.result c.homes_of-homes.ensures.each
-      (λ j x near at. c.homes_of-homes.ensures.home j x near (ap (λ s. get_elem? s (column_slot (size_of g) j)) (c.settle_lines.ensures.same.0 ∙ slots_same) ∙ at))
-      (shape_of own.base.events).slots width
-      (λ j near. c.into_table-table.ensures.free j (subst (λ n. j < n) (ap (λ (t : EventMap). t.waiters) c.into_table-table.ensures.map) near)) in
+    m (lists c.settle_lines.new.seat)
+    (λ i x near at. c.settle_lines.ensures.settled i x near (ap (λ s. get_elem? s i) slots_same ∙ at))
+    (λ h left. c.into_table-table.ensures.answers h ∙ lost.left h left)
+    (λ h f knows. c.into_table-table.ensures.answers h ∙ lost.known h f knows)
+    (λ h has. let a = lost.made h (subst (λ hs. Contains hs h) (sym tray.made) has) in (a.0, c.into_table-table.ensures.answers h ∙ a.1))
+    (λ h a at. subst (λ hs. Contains hs h) tray.made (lost.only h a (sym (c.into_table-table.ensures.answers h) ∙ at)))
+    (ap (λ (t : EventMap). t.waiters) c.into_table-table.ensures.map ∙ (lost.shape.1 ∙ (ap (λ (s : Shape). s.waiters) shape ∙ (own.shaped.0 ∙ ap (λ (x : GraphValue). length x.lines) (sym graph)))))
+    (ap (λ (t : EventMap). t.last_gen) c.into_table-table.ensures.map ∙ (lost.shape.2 ∙ (ap (λ (s : Shape). s.last_gen) shape ∙ own.shaped.1)))
+    (λ i j has. Contains-none j (subst (λ ws. Contains ws j) (ap (λ (t : EventMap). (life_at t i).waiting) c.into_table-table.ensures.map ∙ none_waits c.close.result i) has))
+    c.as_slice.result.now (c.as_slice.ensures.value ∙ tray.listed) c.states_of-states.result c.states_of-states.ensures.each
+    (subst (λ ws. (i : ℕ) → i < length g.lines → slice_get c.states_of-states.result i ≡ Some (state_for ws (size_of g) c.as_slice.result.now i)) words_same c.states_of-states.ensures.states)
+    c.values_of-phases.result c.values_of-phases.ensures.each
+    (subst (λ ws. (i : ℕ) → i < length g.lines → slice_get c.values_of-phases.result i ≡ Some (value_for (verb_at g i) (slice_index ws (value_word (size_of g) i)))) words_same c.values_of-phases.ensures.values)
+    c.homes_of-homes.result c.homes_of-homes.ensures.each
+    (λ j x near at. c.homes_of-homes.ensures.home j x near (ap (λ s. get_elem? s (column_slot (size_of g) j)) (c.settle_lines.ensures.same.0 ∙ slots_same) ∙ at))
+    (shape_of own.base.events).slots width
+    (λ j near. c.into_table-table.ensures.free j (subst (λ n. j < n) (ap (λ (t : EventMap). t.waiters) c.into_table-table.ensures.map) near)) in
     let shown' = subst (λ (co : CoreValue). ShowState co k.0 k.1 c.states_of-states.result m c.homes_of-homes.result c.values_of-phases.result) (sym core) (subst (λ (x : GraphValue). ShowState (unissued x (shape_of own.base.events).slots) k.0 k.1 c.states_of-states.result m c.homes_of-homes.result c.values_of-phases.result) graph shown) in
     (k.0, k.1, shown')
 
@@ -152,23 +152,23 @@ returns c =
     let words_same = ap slots_items (c.settle_lines.ensures.same.1 ∙ c.take.ensures.others.3) in
     let width : length m.slots ≡ (shape_of own.base.events).slots = ap (λ (t : EventMap). length t.slots) c.into_table-table.ensures.map ∙ (length-map c.close.result.slots without_waiters ∙ (lost.shape.0 ∙ ap (λ (s : Shape). s.slots) shape)) in
     let shown = shows g e c.args.seat.inner.me.0 k.0 k.1 words items l few
-      m (lists c.settle_lines.new.seat)
-      (λ i x near at. c.settle_lines.ensures.settled i x near (ap (λ s. get_elem? s i) slots_same ∙ at))
-      (λ h left. c.into_table-table.ensures.answers h ∙ lost.left h left)
-      (λ h f knows. c.into_table-table.ensures.answers h ∙ lost.known h f knows)
-      (λ h has. let a = lost.made h (subst (λ hs. Contains hs h) (sym tray.made) has) in (a.0, c.into_table-table.ensures.answers h ∙ a.1))
-      (λ h a at. subst (λ hs. Contains hs h) tray.made (lost.only h a (sym (c.into_table-table.ensures.answers h) ∙ at)))
-      (ap (λ (t : EventMap). t.waiters) c.into_table-table.ensures.map ∙ (lost.shape.1 ∙ (ap (λ (s : Shape). s.waiters) shape ∙ (own.shaped.0 ∙ ap (λ (x : GraphValue). length x.lines) (sym graph)))))
-      (ap (λ (t : EventMap). t.last_gen) c.into_table-table.ensures.map ∙ (lost.shape.2 ∙ (ap (λ (s : Shape). s.last_gen) shape ∙ own.shaped.1)))
-      (λ i j has. Contains-none j (subst (λ ws. Contains ws j) (ap (λ (t : EventMap). (life_at t i).waiting) c.into_table-table.ensures.map ∙ none_waits c.close.result i) has))
-      c.as_slice.result.now (c.as_slice.ensures.value ∙ tray.listed) c.states_of-states.result c.states_of-states.ensures.each
-      (subst (λ ws. (i : ℕ) → i < length g.lines → slice_get c.states_of-states.result i ≡ Some (state_for ws (size_of g) c.as_slice.result.now i)) words_same c.states_of-states.ensures.states)
-      c.values_of-phases.result c.values_of-phases.ensures.each
-      (subst (λ ws. (i : ℕ) → i < length g.lines → slice_get c.values_of-phases.result i ≡ Some (value_for (verb_at g i) (slice_index ws (value_word (size_of g) i)))) words_same c.values_of-phases.ensures.values)
-      c.homes_of-homes.result c.homes_of-homes.ensures.each
-      (λ j x near at. c.homes_of-homes.ensures.home j x near (ap (λ s. get_elem? s (column_slot (size_of g) j)) (c.settle_lines.ensures.same.0 ∙ slots_same) ∙ at))
-      (shape_of own.base.events).slots width
-      (λ j near. c.into_table-table.ensures.free j (subst (λ n. j < n) (ap (λ (t : EventMap). t.waiters) c.into_table-table.ensures.map) near)) in
+    m (lists c.settle_lines.new.seat)
+    (λ i x near at. c.settle_lines.ensures.settled i x near (ap (λ s. get_elem? s i) slots_same ∙ at))
+    (λ h left. c.into_table-table.ensures.answers h ∙ lost.left h left)
+    (λ h f knows. c.into_table-table.ensures.answers h ∙ lost.known h f knows)
+    (λ h has. let a = lost.made h (subst (λ hs. Contains hs h) (sym tray.made) has) in (a.0, c.into_table-table.ensures.answers h ∙ a.1))
+    (λ h a at. subst (λ hs. Contains hs h) tray.made (lost.only h a (sym (c.into_table-table.ensures.answers h) ∙ at)))
+    (ap (λ (t : EventMap). t.waiters) c.into_table-table.ensures.map ∙ (lost.shape.1 ∙ (ap (λ (s : Shape). s.waiters) shape ∙ (own.shaped.0 ∙ ap (λ (x : GraphValue). length x.lines) (sym graph)))))
+    (ap (λ (t : EventMap). t.last_gen) c.into_table-table.ensures.map ∙ (lost.shape.2 ∙ (ap (λ (s : Shape). s.last_gen) shape ∙ own.shaped.1)))
+    (λ i j has. Contains-none j (subst (λ ws. Contains ws j) (ap (λ (t : EventMap). (life_at t i).waiting) c.into_table-table.ensures.map ∙ none_waits c.close.result i) has))
+    c.as_slice.result.now (c.as_slice.ensures.value ∙ tray.listed) c.states_of-states.result c.states_of-states.ensures.each
+    (subst (λ ws. (i : ℕ) → i < length g.lines → slice_get c.states_of-states.result i ≡ Some (state_for ws (size_of g) c.as_slice.result.now i)) words_same c.states_of-states.ensures.states)
+    c.values_of-phases.result c.values_of-phases.ensures.each
+    (subst (λ ws. (i : ℕ) → i < length g.lines → slice_get c.values_of-phases.result i ≡ Some (value_for (verb_at g i) (slice_index ws (value_word (size_of g) i)))) words_same c.values_of-phases.ensures.values)
+    c.homes_of-homes.result c.homes_of-homes.ensures.each
+    (λ j x near at. c.homes_of-homes.ensures.home j x near (ap (λ s. get_elem? s (column_slot (size_of g) j)) (c.settle_lines.ensures.same.0 ∙ slots_same) ∙ at))
+    (shape_of own.base.events).slots width
+    (λ j near. c.into_table-table.ensures.free j (subst (λ n. j < n) (ap (λ (t : EventMap). t.waiters) c.into_table-table.ensures.map) near)) in
     let shown' = subst (λ (co : CoreValue). ShowState co k.0 k.1 c.states_of-states.result m c.homes_of-homes.result c.values_of-phases.result) (sym core) (subst (λ (x : GraphValue). ShowState (unissued x (shape_of own.base.events).slots) k.0 k.1 c.states_of-states.result m c.homes_of-homes.result c.values_of-phases.result) graph shown) in
     let is = c.resume.ensures.state k.0 k.1 shown' in
     let stages = is.stages in

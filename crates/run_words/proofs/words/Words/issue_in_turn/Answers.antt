@@ -8,8 +8,8 @@ use Rattle.run_words.specs.Plays.{Sat}
 use Rattle.run_words.proofs.Turns.{sat}
 use Rattle.run_words.proofs.Desking.{unchanged}
 use Rattle.run_words.proofs.words.Words.issue_in_turn.Goals as goal
-use Rattle.run_words.specs.declared.answers.Issue.{Issue}
-use Rattle.run_words.specs.declared.answers.Issue.TheVariants as answers
+use Rattle.run_core.specs.declared.answers.Issue.{Issue}
+use Rattle.run_core.specs.declared.answers.Issue.TheVariants as answers
 
 abbrev number_in : Issue → ℕ
 number_in (answers.Issued i) = i
