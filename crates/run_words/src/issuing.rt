@@ -76,8 +76,11 @@ impl<'g> Words<'g> {
         ensures tray { IsTray (events_of self.now) (length (graph_of self.now).lines) desk.new.handles.items desk.new }
         ensures events { IsEventSeat self.now events.new }
         ensures kept { Keeps (lists events.old) (lists events.new) }
-        ensures issued { result ≡ true → (h : TheHandle) × (desk.new.handles.items ≡ desk.old.handles.items ++ h ∷ []) × (seat.new.me ≡ (issued_at seat.old.me.0 line (h ∷ []), seat.old.me.1)) }
-        ensures full { result ≡ false → (desk.new.handles.items ≡ desk.old.handles.items) × (seat.new.me ≡ (without_issue seat.old.me.0, seat.old.me.1)) × FoundFull (shape_of (events_of self.now)) desk.new.handles.items (lists events.old) (lists events.new) }
+        ensures issued { result ≡ true → (h : TheHandle) × (desk.new.handles.items ≡ desk.old.handles.items ++ h ∷ [])
+            × (seat.new.me ≡ (issued_at seat.old.me.0 line (h ∷ []), seat.old.me.1)) }
+        ensures full { result ≡ false → (desk.new.handles.items ≡ desk.old.handles.items)
+            × (seat.new.me ≡ (without_issue seat.old.me.0, seat.old.me.1))
+            × FoundFull (shape_of (events_of self.now)) desk.new.handles.items (lists events.old) (lists events.new) }
     {
         self.begin_issue(seat, line);
         match self.base.events.create(&mut desk.maker, events) {
@@ -102,8 +105,10 @@ impl<'g> Words<'g> {
         requires idle { seat.old.me.0.desk ≡ None }
         requires numbered { IsNumbered seat.old.me.0 }
         ensures at { IsSeatOf self.now seat.new }
-        ensures tray { IfSome result (λ d. IsTray (events_of self.now) (length (graph_of self.now).lines) d.handles.items d × (length d.handles.items ≤ length (graph_of self.now).lines)) }
-        ensures taken { IfSome result (λ d. seat.new.me ≡ (with_desk seat.old.me.0 d.handles.items d, (desk_slot (size_of (graph_of self.now)), Nothing) ∷ seat.old.me.1)) }
+        ensures tray { IfSome result (λ d. IsTray (events_of self.now) (length (graph_of self.now).lines) d.handles.items d
+            × (length d.handles.items ≤ length (graph_of self.now).lines)) }
+        ensures taken { IfSome result (λ d. seat.new.me ≡ (with_desk seat.old.me.0 d.handles.items d,
+            (desk_slot (size_of (graph_of self.now)), Nothing) ∷ seat.old.me.1)) }
         ensures none { IfNone result ((r : ℕ) × (r ≢ 0) × missed (desk_word (size_of (graph_of self.now))) seat.old.me r seat.new.me) }
     {
         if self.take_desk(seat) != 0 {
@@ -121,7 +126,8 @@ impl<'g> Words<'g> {
         requires tray { IsTray (events_of self.now) (length (graph_of self.now).lines) desk.handles.items desk }
         requires hand { (left : List (ℕ × TheContent)) × (seat.old.me.1 ≡ (desk_slot (size_of (graph_of self.now)), Nothing) ∷ left) }
         ensures at { IsSeatOf self.now seat.new }
-        ensures given { (left : List (ℕ × TheContent)) → seat.old.me.1 ≡ (desk_slot (size_of (graph_of self.now)), Nothing) ∷ left → seat.new.me ≡ (without_desk seat.old.me.0, left) }
+        ensures given { (left : List (ℕ × TheContent)) → seat.old.me.1 ≡ (desk_slot (size_of (graph_of self.now)), Nothing) ∷ left
+            → seat.new.me ≡ (without_desk seat.old.me.0, left) }
     {
         let slot = self.desk_slot();
         self.put_in(seat, slot, Content::Tray(desk));
@@ -140,10 +146,12 @@ impl<'g> Words<'g> {
         ensures tray { IsTray (events_of self.now) (length (graph_of self.now).lines) desk.new.handles.items desk.new }
         ensures now { (new : List ℕ) × (seat.new.me ≡ (after_issue seat.old.me.0 new desk.new.handles.items, seat.old.me.1)) }
         ensures issued { (i : ℕ) → result ≡ Issue.Issued i → Contains seat.new.me.0.issued i × (i < length (graph_of self.now).lines) }
-        ensures all { result ≡ Issue.All → (length desk.new.handles.items ≡ length (graph_of self.now).lines) × (desk.new.handles.items ≡ desk.old.handles.items) }
+        ensures all { result ≡ Issue.All → (length desk.new.handles.items ≡ length (graph_of self.now).lines)
+            × (desk.new.handles.items ≡ desk.old.handles.items) }
         ensures events { IsEventSeat self.now events.new }
         ensures kept { Keeps (lists events.old) (lists events.new) }
-        ensures full { result ≡ Issue.NoSlot → FoundFull (shape_of (events_of self.now)) desk.new.handles.items (lists events.old) (lists events.new) }
+        ensures full { result ≡ Issue.NoSlot
+            → FoundFull (shape_of (events_of self.now)) desk.new.handles.items (lists events.old) (lists events.new) }
         ensures not_other { result ≡ Issue.Other → ⊥ }
     {
         let lines = self.base.checked.graph().lines();
@@ -169,7 +177,8 @@ impl<'g> Words<'g> {
         ensures issued { (i : ℕ) → result ≡ Issue.Issued i → KnowsIssued seat.new i × (i < length (graph_of self.now).lines) }
         ensures all { result ≡ Issue.All → (i : ℕ) → i < length (graph_of self.now).lines → KnowsIssued seat.new i }
         ensures kept_events { Keeps (lists (events_seat seat.old)) (lists (events_seat seat.new)) }
-        ensures full { result ≡ Issue.NoSlot → (handles : List TheHandle) × KnowsHandles seat.new handles × FoundFull (shape_of (events_of self.now)) handles (lists (events_seat seat.old)) (lists (events_seat seat.new)) }
+        ensures full { result ≡ Issue.NoSlot → (handles : List TheHandle) × KnowsHandles seat.new handles
+            × FoundFull (shape_of (events_of self.now)) handles (lists (events_seat seat.old)) (lists (events_seat seat.new)) }
         ensures other { result ≡ Issue.Other → FoundTaken seat.old seat.new (desk_word (size_of (graph_of self.now))) }
         ensures numbers { (numbers_of seat.new ≡ numbers_of seat.old) × (splits_of seat.new ≡ splits_of seat.old) }
     {

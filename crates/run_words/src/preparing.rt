@@ -216,7 +216,8 @@ fn all_waiters(
 fn new_desk(alloc: Global, slots: u32, lines: u32) -> Result<(Events, Desk, Seat), NoMemory>
     requires slots { (0 < slots) × (slots ≤ 8192) }
     requires lines { lines ≤ 8192 }
-    ensures shape { IfOk result (λ r. ((shape_of r.0).slots ≡ slots) × ((shape_of r.0).waiters ≡ lines) × ((shape_of r.0).last_gen ≡ 8191)) }
+    ensures shape { IfOk result (λ r. ((shape_of r.0).slots ≡ slots) × ((shape_of r.0).waiters ≡ lines)
+        × ((shape_of r.0).last_gen ≡ 8191)) }
     ensures tray { IfOk result (λ r. IsTray r.0 lines [] r.1) }
     ensures at { IfOk result (λ r. IsEventsAt r.0 r.2) }
 {
@@ -248,7 +249,8 @@ impl<'g> Words<'g> {
         requires enough { checked.now.need ≤ slots }
         requires most { slots ≤ 8192 }
         ensures graph { IfOk result (λ r. graph_of r.0 ≡ checked.now.graph) }
-        ensures shape { IfOk result (λ r. ((shape_of (events_of r.0)).slots ≡ slots) × ((shape_of (events_of r.0)).waiters ≡ length checked.now.graph.lines) × ((shape_of (events_of r.0)).last_gen ≡ 8191)) }
+        ensures shape { IfOk result (λ r. ((shape_of (events_of r.0)).slots ≡ slots)
+            × ((shape_of (events_of r.0)).waiters ≡ length checked.now.graph.lines) × ((shape_of (events_of r.0)).last_gen ≡ 8191)) }
         ensures at { IfOk result (λ r. IsAt r.0 r.1) }
         ensures first { IfOk result (λ r. (numbers_of r.1 ≡ 0 ∷ []) × (splits_of r.1 ≡ [])) }
     {
