@@ -1,20 +1,19 @@
 //! What the slots of a run hold once no other seat can step.
 
-ghost use Rattle.std.specs.Prelude.{ℕ, ◌≡◌, ◌<◌, ◌+◌, length, Some, None, slice_get};
+ghost use Rattle.std.specs.Prelude.{ℕ, ◌≡◌, ◌<◌, ◌+◌, length, Some, None, slice_get, Contains, Option};
+ghost use Rattle.std.specs.Slots.{slots_items, slots_len, slots_filled};
 ghost use mathlib.Core.Option.{some};
 ghost use lib.ListN.{get_elem?};
-ghost use Rattle.std.specs.Slots.{slots_items, slots_len, slots_filled};
+ghost use Rattle.index_spaces.specs.Column.{ColumnValue};
+ghost use Rattle.graph_model.specs.Graph.{columns};
+ghost use Rattle.gen_events.specs.declared.handle.Handle.{Handle as TheHandle};
 ghost use Rattle.gen_events.specs.Seats.{Keeps};
 ghost use Rattle.gen_events.specs.Views.{lists, IsAt as IsSeatAt};
-ghost use Rattle.graph_model.specs.Graph.{columns};
-ghost use Rattle.index_spaces.specs.Column.{ColumnValue};
-ghost use Rattle.gen_events.specs.declared.handle.Handle.{Handle as TheHandle};
 ghost use Rattle.run_words.specs.declared.content.Content.{Content as TheContent};
 ghost use Rattle.run_words.specs.declared.content.Content.TheVariants.{Cells};
-ghost use Rattle.run_words.specs.Layout.{size_of, line_slot, column_slot, slot_count};
 ghost use Rattle.run_words.specs.Emptying.{AreTaken, AreLineItems, IsLineItem, IsSettled};
+ghost use Rattle.run_words.specs.Layout.{size_of, line_slot, column_slot, slot_count};
 ghost use Rattle.run_words.specs.Preparing.{AreOut};
-ghost use Rattle.std.specs.Prelude.{Contains, Option};
 
 use crate::content::Content;
 use atomic_table::Closed;

@@ -1,18 +1,17 @@
 //! Issuing lines.
 
-ghost use Rattle.std.specs.Prelude.{ℕ, List, ◌≡◌, ◌≢◌, ◌+◌, ◌<◌, ◌≤◌, ◌∷◌, ◌++◌, [], true, false, Some, None, length, Contains};
+ghost use Rattle.std.specs.Prelude.{ℕ, List, ◌≡◌, ◌≢◌, ◌+◌, ◌<◌, ◌≤◌, ◌∷◌, ◌++◌, [], true, false, Some, None, length, Contains, IfSome, IfNone};
+ghost use Rattle.std.specs.Vec.{vec_capacity};
+ghost use Rattle.graph_model.specs.declared.outcome.End.{End as TheEnd};
 ghost use Rattle.gen_events.specs.declared.handle.Handle.{Handle as TheHandle};
-ghost use Rattle.gen_events.specs.Views.{shape_of, lists, IsFull as FoundFull};
 ghost use Rattle.gen_events.specs.Seats.{Keeps};
+ghost use Rattle.gen_events.specs.Views.{shape_of, lists, IsFull as FoundFull};
 ghost use Rattle.run_words.specs.declared.content.Content.{Content as TheContent};
 ghost use Rattle.run_words.specs.declared.content.Content.TheVariants.{Nothing, Tray};
 ghost use Rattle.run_words.specs.declared.content.Desk.{Desk as TheDesk};
-ghost use Rattle.std.specs.Vec.{vec_capacity};
 ghost use Rattle.run_words.specs.Layout.{size_of, desk_slot, desk_word};
 ghost use Rattle.run_words.specs.Plays.{issued_at, without_issue, with_desk, without_desk, missed, after_issue};
 ghost use Rattle.run_words.specs.Premises.{IsNumbered};
-ghost use Rattle.std.specs.Prelude.{IfSome, IfNone};
-ghost use Rattle.graph_model.specs.declared.outcome.End.{End as TheEnd};
 ghost use Rattle.run_words.specs.Rule.{IsTray};
 ghost use Rattle.run_words.specs.Words.{graph_of, events_of, IsSeatOf, IsAt, KnowsIssued, KnowsEnded, KnowsHandles, IsEventSeat, FoundTaken, events_seat, numbers_of, splits_of};
 

@@ -1,14 +1,14 @@
 //! Preparing a run.
 
 ghost use Rattle.std.specs.Prelude.{ℕ, List, ◌≡◌, ◌+◌, ◌≢◌, ◌<◌, ◌≤◌, ◌++◌, ◌∷◌, [], length, vec_len, replicate, Contains, Some, None, slice_index_or, slice_set, IfOk};
+ghost use Rattle.std.specs.Vec.{vec_capacity};
 ghost use Rattle.index_spaces.specs.Column.{ColumnValue};
 ghost use Rattle.graph_model.specs.Effect.{zero_cells};
-ghost use Rattle.instances.specs.Homes.{all_home};
-ghost use Rattle.std.specs.Vec.{vec_capacity};
-ghost use Rattle.gen_events.specs.Views.{shape_of, IsAt as IsEventsAt, IsSetOf, IsWaiterOf, number_of, taken_of, size_of as set_size};
-ghost use Rattle.gen_events.specs.declared.events.Events.{Events as TheEvents};
 ghost use Rattle.graph_model.specs.Graph.{columns as graph_columns};
+ghost use Rattle.instances.specs.Homes.{all_home};
 ghost use Rattle.run_state.specs.Start.{first_value};
+ghost use Rattle.gen_events.specs.declared.events.Events.{Events as TheEvents};
+ghost use Rattle.gen_events.specs.Views.{shape_of, IsAt as IsEventsAt, IsSetOf, IsWaiterOf, number_of, taken_of, size_of as set_size};
 ghost use Rattle.run_words.specs.Layout.{size_of};
 ghost use Rattle.run_words.specs.Opening.{AreFirstWords, AreFirstSlots};
 ghost use Rattle.run_words.specs.Preparing.{IsLoose, AreLoose, AreWaiters, AreValues, AreHome, AreEmpty, AreOut};
