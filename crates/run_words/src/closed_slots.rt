@@ -1,6 +1,6 @@
 //! What the slots of a run hold once no other seat can step.
 
-ghost use Rattle.std.specs.Prelude.{ℕ, ◌≡◌, ◌<◌, ◌+◌, length, Some, None, slice_get, Contains, Option};
+ghost use Rattle.std.specs.Prelude.{ℕ, ◌≡◌, ◌<◌, ◌+◌, length, Some, slice_get, Contains};
 ghost use Rattle.std.specs.Slots.{slots_items, slots_len, slots_filled};
 ghost use mathlib.Core.Option.{some};
 ghost use lib.ListN.{get_elem?};

@@ -1,11 +1,9 @@
 //! What the words of a run show once no other seat can step.
 
-ghost use Rattle.std.specs.Prelude.{◌≡◌, ℕ, ◌+◌, ◌<◌, ◌≤◌, length, Some, slice_get, slice_index, List, Option, None, replicate};
+ghost use Rattle.std.specs.Prelude.{◌≡◌, ℕ, ◌+◌, ◌<◌, length, Some, slice_get, slice_index, Option, None};
 ghost use Rattle.std.specs.Slots.{slots_items, slots_len, IsFull};
 ghost use Rattle.graph_model.specs.Graph.{verb_at};
-ghost use Rattle.gen_events.specs.declared.handle.Handle.{Handle as TheHandle};
-ghost use Rattle.run_core.specs.Resumed.{blank_state};
-ghost use Rattle.run_words.specs.Layout.{size_of, status_word, time_word, value_word, word_count};
+ghost use Rattle.run_words.specs.Layout.{size_of, value_word, word_count};
 ghost use Rattle.run_words.specs.Reading.{stage_for, end_for, time_for, state_for, value_for};
 ghost use Rattle.run_words.specs.Rule.{handle_at};
 

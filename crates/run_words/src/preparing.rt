@@ -1,6 +1,6 @@
 //! Preparing a run.
 
-ghost use Rattle.std.specs.Prelude.{ℕ, List, ◌≡◌, ◌+◌, ◌≢◌, ◌<◌, ◌≤◌, ◌++◌, ◌∷◌, [], length, vec_len, replicate, Contains, Some, None, slice_index_or, slice_set, IfOk};
+ghost use Rattle.std.specs.Prelude.{◌≡◌, ◌+◌, ◌≢◌, ◌<◌, ◌≤◌, ◌++◌, ◌∷◌, [], length, vec_len, replicate, Some, None, slice_index_or, slice_set, IfOk};
 ghost use Rattle.std.specs.Vec.{vec_capacity};
 ghost use Rattle.index_spaces.specs.Column.{ColumnValue};
 ghost use Rattle.graph_model.specs.Effect.{zero_cells};
@@ -11,7 +11,7 @@ ghost use Rattle.gen_events.specs.declared.events.Events.{Events as TheEvents};
 ghost use Rattle.gen_events.specs.Views.{shape_of, IsAt as IsEventsAt, IsSetOf, IsWaiterOf, number_of, taken_of, size_of as set_size};
 ghost use Rattle.run_words.specs.Layout.{size_of};
 ghost use Rattle.run_words.specs.Opening.{AreFirstWords, AreFirstSlots};
-ghost use Rattle.run_words.specs.Preparing.{IsLoose, AreLoose, AreWaiters, AreValues, AreHome, AreEmpty, AreOut};
+ghost use Rattle.run_words.specs.Preparing.{IsLoose, AreLoose, AreWaiters, AreHome, AreEmpty, AreOut};
 ghost use Rattle.run_words.specs.Rule.{IsTray};
 ghost use Rattle.run_words.specs.Words.{graph_of, events_of, IsAt, numbers_of, splits_of};
 
