@@ -10,6 +10,7 @@ use Rattle.run_words.specs.declared.content.Content.{Content}
 use Rattle.run_words.specs.declared.content.Content.TheVariants.{Nothing, Ticket, Stub, Cells, Tray}
 use Rattle.run_words.specs.Layout.{Size, line_slot, column_slot, desk_slot}
 
+-- whether the slot k still holds something
 abbrev pub is_filled : List Bool → ℕ → Bool
 is_filled filled k = slice_index_or filled k false
 
@@ -29,6 +30,7 @@ IsLineItem e (Stub r) = IsReceiptOf e r
 IsLineItem e (Cells x) = ⊥
 IsLineItem e (Tray d) = ⊥
 
+-- in the slots of the lines lies what may lie there
 abbrev pub AreLineItems : Events → Size → List Content → Type 0
 AreLineItems e z slots = (i : ℕ) (x : Content) → i < z.lines → get_elem? slots (line_slot z i) ≡ some x → IsLineItem e x
 

@@ -29,29 +29,32 @@ use Rattle.run_words.specs.Claims.{Ground, Claim}
 use Rattle.run_words.specs.Layout.{Size, size_of, status_word, time_word, value_word, turn_word, lock_word, clock_word, desk_word, word_count, line_slot, column_slot, desk_slot, slot_count}
 use Rattle.run_words.specs.Views.{time_code, runs_at, issues_at, owes_at, has_desk, busy, working}
 
+-- the graph of a run with the events of its lines
 abbrev pub ground : GraphValue → Events → Ground
 ground g e = record { graph = g; events = e }
 
--- LINES. The code of an end, and the fate with which the event of a line ends
+-- LINES. The code of an end
 abbrev pub end_code : End → ℕ
 end_code Done = 0
 end_code Faulted = 1
 end_code Cancelled = 2
 end_code Waiting = 3
 
+-- the fate with which the event of a line ends
 abbrev pub fate_for : End → Fate
 fate_for Done = Ok
 fate_for Faulted = Poison
 fate_for Cancelled = Poison
 fate_for Waiting = Ok
 
--- what is at home holds the event that has this handle, or the receipt of it
+-- at home lies the event that has this handle
 pub record HasTicket (e : Events) (h : Handle) (home : mathlib.Core.Option.Option Content) : Type 0 where
   pub ticket : Pending
   pub here : home ≡ some (Ticket ticket)
   pub of : IsPendingOf e ticket
   pub named : handle_of ticket ≡ h
 
+-- at home lies its receipt, with the fate of this end
 pub record HasStub (e : Events) (h : Handle) (x : End) (home : mathlib.Core.Option.Option Content) : Type 0 where
   pub stub : Receipt
   pub here : home ≡ some (Stub stub)
@@ -68,28 +71,32 @@ LineShown e h Out k w home = (k ≡ 0) × (w ≡ 3) × (home ≡ none)
 LineShown e h (Ending x) k w home = (k ≡ 0) × (w ≡ 4 + end_code x) × (home ≡ none)
 LineShown e h (Ended x) k w home = (k ≡ 0) × (w ≡ 8 + end_code x) × HasStub e h x home
 
+-- the same, with what is at home in this slot
 pub record LineAt (e : Events) (h : Handle) (stage : LineStage) (k w : ℕ) (homes : List (mathlib.Core.Option.Option Content)) (slot : ℕ) : Type 0 where
   pub home : mathlib.Core.Option.Option Content
   pub at : get_elem? homes slot ≡ some home
   pub shown : LineShown e h stage k w home
 
+-- the handle of line i, and no_event where it is not issued
 abbrev pub handle_at : List Handle → ℕ → Handle
 handle_at handles i = slice_index_or handles i no_event
 
--- COLUMNS
+-- COLUMNS. Column c with these cells
 abbrev pub column_with : GraphValue → ℕ → List ℕ → ColumnValue
 column_with g c xs = record { space = column_space g c; cells = xs }
 
+-- the word and the slot of a column at this place
 abbrev pub ColumnShown : GraphValue → ℕ → Place → ℕ → mathlib.Core.Option.Option Content → Type 0
 ColumnShown g c (Home xs) w home = (w ≡ 0) × (home ≡ some (Cells (column_with g c xs)))
 ColumnShown g c (Had i) w home = (w ≡ i + 1) × (home ≡ none)
 
+-- the same, with what is at home in this slot
 pub record ColumnAt (g : GraphValue) (c : ℕ) (place : Place) (w : ℕ) (homes : List (mathlib.Core.Option.Option Content)) (slot : ℕ) : Type 0 where
   pub home : mathlib.Core.Option.Option Content
   pub at : get_elem? homes slot ≡ some home
   pub shown : ColumnShown g c place w home
 
--- RESERVATIONS
+-- RESERVATIONS. The word of one with these holders
 abbrev pub lock_code : List ℕ → ℕ
 lock_code [] = 0
 lock_code (q ∷ qs) = q + 1
@@ -105,16 +112,18 @@ pub record IsTray (e : Events) (lines : ℕ) (handles : List Handle) (d : Desk) 
   pub places : length d.waiters.items ≡ lines
   pub waiters : (k : ℕ) (w : Waiter) → slice_get d.waiters.items k ≡ Some (Some w) → (number_of w ≡ k) × IsWaiterOf e w
 
+-- at home lies a tray with these handles
 pub record HasTray (e : Events) (lines : ℕ) (handles : List Handle) (home : mathlib.Core.Option.Option Content) : Type 0 where
   pub tray : Desk
   pub here : home ≡ some (Tray tray)
   pub is_tray : IsTray e lines handles tray
 
--- so many seats have its turn
+-- the word and the slot of the desk, whose turn k seats have
 abbrev pub DeskShown : Events → ℕ → List Handle → ℕ → ℕ → mathlib.Core.Option.Option Content → Type 0
 DeskShown e lines handles zero w home = (w ≡ 0) × HasTray e lines handles home
 DeskShown e lines handles (suc k) w home = (k ≡ 0) × (w ≡ 1) × (home ≡ none)
 
+-- the same, with what is at home in this slot
 pub record DeskAt (e : Events) (lines : ℕ) (handles : List Handle) (k w : ℕ) (homes : List (mathlib.Core.Option.Option Content)) (slot : ℕ) : Type 0 where
   pub home : mathlib.Core.Option.Option Content
   pub at : get_elem? homes slot ≡ some home
@@ -125,7 +134,7 @@ pub record AreHandles (stages : List LineStage) (handles : List Handle) : Type 0
   pub each_issued : (i : ℕ) → IsTrue (issued stages i) ↔ (i < length handles)
   pub once : (a b : ℕ) (h : Handle) → slice_get handles a ≡ Some h → slice_get handles b ≡ Some h → a ≡ b
 
--- ALL WORDS AND SLOTS
+-- ALL WORDS AND SLOTS show this run and these handles, where the seats issue, owe and have as much as is told
 pub record WordsShow (g : GraphValue) (e : Events) (z : Size) (run : Run) (handles : List Handle) (issues owes : ℕ → ℕ) (desks : ℕ) (words : List ℕ) (homes : List (mathlib.Core.Option.Option Content)) : Type 0 where
   pub wide : length words ≡ word_count z
   pub deep : length homes ≡ slot_count z
@@ -149,6 +158,7 @@ pub record Progress (g : GraphValue) (run : Run) (c : Claim) : Type 0 where
   pub time : time_at run.times c.line ≡ c.time
   pub freed : is_listed run.freed c.line ≡ c.freed
 
+-- what a seat knows and has holds of this run and these handles
 pub record Fits (g : GraphValue) (e : Events) (run : Run) (handles : List Handle) (v : View) : Type 0 where
   pub keys : (x : Ground) → Contains v.keys x → x ≡ ground g e
   pub issued : (i : ℕ) → Contains v.issued i → IsTrue (issued run.stages i)
@@ -168,6 +178,7 @@ abbrev pub child : ℕ → ℕ → ℕ
 child p zero = p + p + 1
 child p (suc c) = child p c + child p c
 
+-- each seat has a number of its own, by which it is told whether all that were split off were joined
 pub record AreNumbered (views : List View) : Type 0 where
   -- the numbers of seats that are there or were joined are 0 and those of seats that were split off
   pub counted : (f : ℕ → ℕ) → total (λ (v : View). total f v.mine) views ≡ f 0 + total (λ (v : View). total f v.splits) views
@@ -179,6 +190,7 @@ pub record AreNumbered (views : List View) : Type 0 where
   pub born : (j : ℕ) (v : View) (n : ℕ) → get_elem? views j ≡ some v → Contains v.splits n →
       (p c : ℕ) × (n ≡ child p c) × (0 < total (λ (u : View). total (only p) u.mine) views) × ((k : ℕ) (u : View) (rest : List ℕ) → get_elem? views k ≡ some u → u.mine ≡ p ∷ rest → c < u.births)
 
+-- THE WHOLE RULE. Words, slots at home and views show one sound state of a run
 pub record Shown (g : GraphValue) (e : Events) (s : State Content View) : Type 0 where
   pub run : Run
   pub handles : List Handle

@@ -14,9 +14,11 @@ use Rattle.gen_events.specs.Views as events
 use Rattle.graph_model.specs.declared.outcome.End.{End}
 use Rattle.run_words.specs.Rule.{ground}
 
+-- the graph of these words
 abbrev pub graph_of : Words → GraphValue
 graph_of w = w.base.checked.now.graph
 
+-- the events of its lines
 abbrev pub events_of : Words → Events
 events_of w = w.base.events
 
@@ -28,17 +30,19 @@ IsSeatOf w s = (s.table_id ≡ w.table.shared.table_id) × (s.me.0.keys ≡ grou
 abbrev pub IsAt : Words → WordSeat → Type 0
 IsAt w s = IsSeatOf w s.inner × events.IsAt (events_of w) s.events
 
--- what it knows: lines issued, and ended with their ends; the handles of the first lines
+-- the seat knows that line i is issued
 pub record KnowsIssued (s : WordSeat) (i : ℕ) : Type 0 where
   pub known : Contains s.inner.me.0.issued i
 
+-- the seat knows that line i has ended with x
 pub record KnowsEnded (s : WordSeat) (i : ℕ) (x : End) : Type 0 where
   pub known : Contains s.inner.me.0.ended (i, x)
 
--- its number with those of the seats joined into it, and those of the seats split off
+-- its number with those of the seats joined into it
 abbrev pub numbers_of : WordSeat → List ℕ
 numbers_of s = s.inner.me.0.mine
 
+-- the numbers of the seats that were split off it, and off those joined into it
 abbrev pub splits_of : WordSeat → List ℕ
 splits_of s = s.inner.me.0.splits
 
@@ -46,6 +50,7 @@ splits_of s = s.inner.me.0.splits
 abbrev pub saw_of : WordSeat → List (ℕ × ℕ)
 saw_of s = s.inner.me.0.saw
 
+-- its seat at the events
 abbrev pub events_seat : WordSeat → Seat
 events_seat s = s.events
 
@@ -66,5 +71,6 @@ FoundTaken s t w = (r : ℕ) × (r ≢ 0) × (saw_of t ≡ saw_of s ++ (w, r) �
 pub record KnowsHandles (s : WordSeat) (handles : List Handle) : Type 0 where
   pub known : Contains s.inner.me.0.named handles
 
+-- a seat at the events of these words
 abbrev pub IsEventSeat : Words → Seat → Type 0
 IsEventSeat w s = events.IsAt (events_of w) s

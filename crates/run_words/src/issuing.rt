@@ -62,7 +62,8 @@ impl<'g> Words<'g> {
     }
 
     /// Issues the next line, in the desk's turn and with what lies on the desk. False comes where
-    /// each event slot was found pending or retired.
+    /// each event slot was found pending or retired. Nobody else issues in this turn, so the line is
+    /// claimed at the first try.
     fn issue_next(&self, seat: &mut Place, events: &mut Seat, desk: &mut Desk, line: u32) -> bool
         requires at { IsSeatOf self.now seat.old }
         requires events { IsEventSeat self.now events.old }
@@ -84,6 +85,8 @@ impl<'g> Words<'g> {
         self.begin_issue(seat, line);
         match self.base.events.create(&mut desk.maker, events) {
             Some(mut pending) => {
+                // The seat on the desk has then seen the handles of all issued lines, as who watches
+                // one must.
                 self.base.events.see(&mut desk.seat, &mut pending);
                 push_within(&mut desk.handles, pending.handle());
                 self.put_in(seat, line as usize, Content::Ticket(pending));
@@ -165,9 +168,10 @@ impl<'g> Words<'g> {
         }
     }
 
-    /// Issues the next line in file order. NoSlot comes only where words of this call showed each
-    /// event slot retired or pending, All only where the seat then knows every line issued, and
-    /// Other only where the desk's turn was found in another's hand.
+    /// Issues the next line in file order, in the desk's turn. NoSlot comes only where loads of this
+    /// call, which the seat then shows, found each event slot retired or pending; All only where the
+    /// seat then knows every line issued; Other only where the desk's turn was found in another's
+    /// hand.
     pub fn issue(&self, seat: &mut WordSeat) -> Issue
         requires at { IsAt self.now seat.old }
         ensures at { IsAt self.now seat.new }

@@ -32,7 +32,7 @@ use index_spaces::column::Column;
 use instances::Homes;
 use std::alloc::{AllocError, Global};
 
-/// Lets go of what is no event of a line that has not ended.
+/// Lets go of what is no event of a line that has not ended: such an event may not be dropped.
 fn let_loose(content: Content)
     requires { IsLoose content }
 {
@@ -239,8 +239,9 @@ fn new_desk(alloc: Global, slots: u32, lines: u32) -> Result<(Events, Desk, Seat
 }
 
 impl<'g> Words<'g> {
-    /// A run in which no line is issued, with this many event slots, and its first seat. Slots go
-    /// from the graph's need to 8,192. `NoMemory` comes where memory ran out.
+    /// A run in which no line is issued, with this many event slots, and its first seat, off which
+    /// all others are split. Slots go from the graph's need to 8,192. `NoMemory` comes where memory
+    /// ran out.
     pub fn prepare(
         alloc: Global,
         checked: &'g Checked,

@@ -1,4 +1,4 @@
-//! What the end of a run needs of memory.
+//! What the end of a run needs of memory, as `prepare` alone takes some.
 
 ghost use Rattle.std.specs.Prelude.{◌≡◌, ◌≤◌, IfOk};
 ghost use Rattle.graph_model.specs.Effect.{zero_cells};
