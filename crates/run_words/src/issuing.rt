@@ -109,8 +109,8 @@ impl<'g> Words<'g> {
         ensures at { IsSeatOf self.now seat.new }
         ensures tray { IfSome result (λ d. IsTray (events_of self.now) (length (graph_of self.now).lines) d.handles.items d
             × (length d.handles.items ≤ length (graph_of self.now).lines)) }
-        ensures taken { IfSome result (λ d. seat.new.me ≡ (with_desk seat.old.me.0 d.handles.items d,
-            (desk_slot (size_of (graph_of self.now)), Nothing) ∷ seat.old.me.1)) }
+        ensures taken { IfSome result (λ d. seat.new.me
+            ≡ (with_desk seat.old.me.0 d.handles.items d, (desk_slot (size_of (graph_of self.now)), Nothing) ∷ seat.old.me.1)) }
         ensures none { IfNone result ((r : ℕ) × (r ≢ 0) × missed (desk_word (size_of (graph_of self.now))) seat.old.me r seat.new.me) }
     {
         if self.take_desk(seat) != 0 {
