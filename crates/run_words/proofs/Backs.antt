@@ -1,0 +1,69 @@
+-- A line that is ending is closed, and its seat is joined.
+use Rattle.std.proofs.Common.{◌≡◌, ℕ, ◌+◌, ◌-◌, List, [], ◌∷◌, sym, ◌∙◌, ap, subst, arith}
+use Rattle.std.specs.Prelude.{Contains, None}
+use Rattle.std.proofs.lemmas.List.Elements.{Contains-append_right}
+use Rattle.gen_events.proofs.Members.{Contains-head}
+use Rattle.gen_events.specs.Views.{IsReceiptOf, handle_of, ended_by, fate_of}
+use Rattle.gen_events.specs.declared.events.Events.{Events}
+use Rattle.gen_events.specs.declared.tokens.Pending.{Pending}
+use Rattle.gen_events.specs.declared.tokens.Receipt.{Receipt}
+use Rattle.graph_model.specs.declared.outcome.End.{End}
+use Rattle.graph_model.specs.Graph.{GraphValue}
+use Rattle.graph_model.specs.Rules.{Releases}
+use Rattle.run_words.specs.declared.content.Content.{Content}
+use Rattle.run_words.specs.declared.content.Content.TheVariants.{Stub}
+use Rattle.run_words.specs.declared.view.View.{View}
+use Rattle.run_words.specs.Claims.{Claim}
+use Rattle.run_words.specs.Rule.{end_code, fate_for}
+use Rattle.run_words.specs.Plays.{Sat, closed_at, closes, end_of_code}
+use Rattle.run_words.specs.Premises.{Has, IsOver, HasNoRights, OnTop}
+use Rattle.run_words.specs.Laden.{IsEnding, IsReleased}
+use Rattle.run_words.proofs.Looks.{code_end}
+
+-- the event has ended, and its receipt lies in the line's slot
+pub stubbed : (line : ℕ) (x : End) (v : View) (cl : Claim) (left : List (ℕ × Content)) (m n : Sat) (stub : Receipt) → IsEnding line x v cl left m → n ≡ (m.0, (line, Stub stub) ∷ []) → IsEnding line x v cl ((line, Stub stub) ∷ []) n
+stubbed line x v cl left m n stub i e = record {
+  claim = i.claim;
+  now = e ∙ ap (λ (y : Sat). (y.0, (line, Stub stub) ∷ [])) i.now;
+  line_is = i.line_is;
+  event = i.event;
+  ends = i.ends;
+  stored = i.stored;
+  unfreed = i.unfreed;
+}
+
+-- the line has freed what it releases, its event has ended, and the receipt lies in the line's slot
+module _ (g : GraphValue) (e : Events) (line : ℕ) (x : End) (v : View) (cl : Claim) (ticket : Pending) (stub : Receipt) (n : Sat) (i : IsReleased g line x v cl ((line, Stub stub) ∷ []) n) (named : handle_of ticket ≡ cl.event)
+    (of : IsReceiptOf e stub) (by : ended_by stub ≡ handle_of ticket) (told : fate_of stub ≡ fate_for x)
+  where
+    pub may_close : Has n.0 (λ c. (c.line ≡ line) × IsOver g c x × ((stub : Receipt) × OnTop line (Stub stub) n.1 × IsReceiptOf e stub × (ended_by stub ≡ c.event) × (fate_of stub ≡ fate_for x)))
+    may_close = (
+      i.claim,
+      ap (λ (y : Sat). y.0.claim) i.now,
+      (
+        i.line_is,
+        record { ending = i.ends; stored = i.stored; freed = λ q r d. i.freed q (subst (λ j. Releases g j q) i.line_is r) d },
+        (stub, ([], ap (λ (y : Sat). y.1) i.now), of, by ∙ (named ∙ sym i.event), told),
+      ),
+    )
+
+    module _ (o : Sat) (c : closes line (8 + end_code x) n o) where
+      pub closed_now : o ≡ (closed_at (record i.view { claim = None }) line x, [])
+      closed_now = c ∙ (ap (λ (y : Sat). (closed_at y.0 line (end_of_code (8 + end_code x - 8)), Rattle.atomic_table.specs.Table.rest y.1)) i.now
+          ∙ ap (λ (y : End). (closed_at (record i.view { claim = None }) line y, [])) (let k : 8 + end_code x - 8 ≡ end_code x = omega arith in ap end_of_code k ∙ code_end x))
+
+      pub no_rights_left : v.issuing ≡ None → v.desk ≡ None → HasNoRights o.0
+      no_rights_left p q = record {
+        claim = ap (λ (y : Sat). y.0.claim) closed_now;
+        issuing = ap (λ (y : Sat). y.0.issuing) closed_now ∙ (i.issuing ∙ p);
+        desk = ap (λ (y : Sat). y.0.desk) closed_now ∙ (i.desk ∙ q);
+      }
+
+      pub knows : Contains o.0.ended (line, x)
+      knows = subst (λ (l : List (ℕ × End)). Contains l (line, x)) (sym (ap (λ (y : Sat). y.0.ended) closed_now)) (Contains-append_right i.view.ended ((line, x) ∷ []) (line, x) (Contains-head {A = ℕ × End} (line, x) []))
+
+      pub same_mine : o.0.mine ≡ v.mine
+      same_mine = ap (λ (y : Sat). y.0.mine) closed_now ∙ i.mine
+
+      pub same_splits : o.0.splits ≡ v.splits
+      same_splits = ap (λ (y : Sat). y.0.splits) closed_now ∙ i.splits

@@ -1,0 +1,76 @@
+-- What a table leaves into whose last seat every other was joined.
+use Rattle.std.proofs.Common.{◌≡◌, ℕ, ◌+◌, List, length, refl, sym, ◌∙◌, ap, subst, arith}
+use Rattle.std.specs.Prelude.{slice_index}
+use mathlib.Core.Option.{some}
+use lib.ListN.{get_elem?}
+use Rattle.atomic_table.specs.Table.{Final, Seen}
+use Rattle.graph_model.specs.Graph.{GraphValue}
+use Rattle.gen_events.specs.declared.handle.Handle.{Handle}
+use Rattle.gen_events.specs.declared.events.Events.{Events}
+use Rattle.run_state.specs.Run.{LineStage, Unissued, Issued, Out, Ending, Ended, Place, Home, Had, Run, stage_at, time_at, place_at}
+use Rattle.run_words.specs.declared.content.Desk.{Desk}
+use Rattle.run_words.specs.declared.content.Content.{Content}
+use Rattle.run_words.specs.declared.content.Content.TheVariants.{Nothing, Ticket, Stub, Cells, Tray}
+use Rattle.run_words.specs.declared.view.View.{View}
+use Rattle.run_words.specs.Layout.{size_of, status_word, time_word, turn_word, desk_word, line_slot, column_slot, desk_slot}
+use Rattle.run_words.specs.Rule.{Shown, LineShown, ColumnShown, DeskShown, IsTray, column_with, handle_at}
+use Rattle.run_words.specs.Views.{busy, time_code, owes_at}
+use Rattle.run_words.specs.Premises.{HasNoRights}
+use Rattle.run_words.specs.Closing.{LineLeft, IsLeft}
+use Rattle.run_words.proofs.Steps.{St}
+use Rattle.run_words.proofs.Whole.{IsWhole, Rests, rests, idle_ended}
+use Rattle.basics.specs.Sums.{total}
+
+-- what was at home in a slot is there
+abbrev Came : List (mathlib.Core.Option.Option Content) → List Content → Type 0
+Came homes slots = (k : ℕ) (y : Content) → get_elem? homes k ≡ some (some y) → get_elem? slots k ≡ some y
+
+line_left : (e : Events) (h : Handle) (st : LineStage) (w : ℕ) (homes : List (mathlib.Core.Option.Option Content)) (slots : List Content) (k : ℕ) (home : mathlib.Core.Option.Option Content) → Came homes slots → get_elem? homes k ≡ some home →
+    busy st ≡ 0 → LineShown e h st 0 w home → (x : Content) × (get_elem? slots k ≡ some x) × LineLeft e h st w x
+line_left e h Unissued w homes slots k home came at b l = (Nothing, came k Nothing (at ∙ ap some l.1), (l.0, refl))
+line_left e h Issued w homes slots k home came at b l = (Ticket l.2.ticket, came k (Ticket l.2.ticket) (at ∙ ap some l.2.here), (l.1, l.2.ticket, refl, l.2.of, l.2.named))
+line_left e h Out w homes slots k home came at b l = absurd (omega (arith, b))
+line_left e h (Ending y) w homes slots k home came at b l = absurd (omega (arith, b))
+line_left e h (Ended y) w homes slots k home came at b l = (Stub l.2.stub, came k (Stub l.2.stub) (at ∙ ap some l.2.here), (l.1, l.2.stub, refl, l.2.of, l.2.named, l.2.told))
+
+column_left : (g : GraphValue) (c : ℕ) (p : Place) (w : ℕ) (homes : List (mathlib.Core.Option.Option Content)) (slots : List Content) (k : ℕ) (home : mathlib.Core.Option.Option Content) → Came homes slots → get_elem? homes k ≡ some home →
+    ((i : ℕ) → p ≡ Had i → ⊥) → ColumnShown g c p w home → (xs : List ℕ) × (p ≡ Home xs) × (get_elem? slots k ≡ some (Cells (column_with g c xs)))
+column_left g c (Home xs) w homes slots k home came at here l = (xs, refl, came k (Cells (column_with g c xs)) (at ∙ ap some l.1))
+column_left g c (Had i) w homes slots k home came at here l = absurd (here i refl)
+
+desk_left : (e : Events) (n : ℕ) (handles : List Handle) (w : ℕ) (homes : List (mathlib.Core.Option.Option Content)) (slots : List Content) (k : ℕ) (home : mathlib.Core.Option.Option Content) → Came homes slots → get_elem? homes k ≡ some home →
+    DeskShown e n handles 0 w home → (d : Desk) × (get_elem? slots k ≡ some (Tray d)) × IsTray e n handles d
+desk_left e n handles w homes slots k home came at l = (l.1.tray, came k (Tray l.1.tray) (at ∙ ap some l.1.here), l.1.is_tray)
+
+module _ (g : GraphValue) (e : Events) (s : St) (o : Shown g e s) (id : ℕ) (v : View) (me : get_elem? s.views id ≡ some v) (r : Rests g e s o) (slots : List Content) (long : length s.homes ≡ length slots) (came : Came s.homes slots) where
+  left_of : IsLeft g e v o.run o.handles s.words slots
+  left_of = record {
+    sound = o.sound;
+    quiet = λ i h. idle_ended (stage_at o.run.stages i) (r.idle i) h;
+    are_handles = o.are_handles;
+    wide = o.words.wide;
+    deep = sym long ∙ o.words.deep;
+    lines = λ i near. (let l = o.words.lines i near in
+        line_left e (handle_at o.handles i) (stage_at o.run.stages i) (slice_index s.words (status_word (size_of g) i)) s.homes slots (line_slot (size_of g) i) l.home came l.at (r.idle i)
+        (subst (λ k. LineShown e (handle_at o.handles i) (stage_at o.run.stages i) k (slice_index s.words (status_word (size_of g) i)) l.home) (r.none_issuing i) l.shown));
+    times = λ i near. (let t : slice_index s.words (time_word (size_of g) i) + total (owes_at i) s.views ≡ time_code (time_at o.run.times i) = o.words.times i near in
+        let z : total (owes_at i) s.views ≡ 0 = r.none_owing i in omega (arith, t, z));
+    values = o.words.values;
+    columns = λ c near. (let l = o.words.columns c near in
+        column_left g c (place_at o.run.places c) (slice_index s.words (turn_word (size_of g) c)) s.homes slots (column_slot (size_of g) c) l.home came l.at (r.at_home c) l.shown);
+    locks = o.words.locks;
+    clock = o.words.clock;
+    desk = (let l = o.words.desk in
+        desk_left e (length g.lines) o.handles (slice_index s.words (desk_word (size_of g))) s.homes slots (desk_slot (size_of g)) l.home came l.at
+        (subst (λ k. DeskShown e (length g.lines) o.handles k (slice_index s.words (desk_word (size_of g))) l.home) r.desk_home l.shown));
+    known_issued = (o.each_view id v me).issued;
+    known_ended = (o.each_view id v me).ended;
+    known_handles = (o.each_view id v me).named;
+  }
+
+pub closes : (g : GraphValue) (e : Events) (id : ℕ) (v : View) (words : List ℕ) (slots : List Content) → IsWhole v → HasNoRights v → Final (Seen (Shown g e) id v) words slots → (run : Run) × (handles : List Handle) × IsLeft g e v run handles words slots
+closes g e id v words slots whole free f =
+    let s = f.0 in
+    let o = f.1.0 in
+    let l = left_of g e s o id v f.1.1 (rests g e s o id v f.1.1 whole free) slots f.3 f.4 in
+    (o.run, o.handles, subst (λ ws. IsLeft g e v o.run o.handles ws slots) f.2 l)

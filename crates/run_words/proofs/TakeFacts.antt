@@ -1,0 +1,181 @@
+-- A claimed line takes all that its work needs, or has its claim alone.
+use Rattle.std.proofs.Common.{◌≡◌, ◌≢◌, ℕ, ◌<◌, ◌+◌, ◌⊎◌, inl, inr, Bool, true, false, List, [], ◌∷◌, ◌++◌, length, refl, sym, ◌∙◌, ap, subst, ⊎_elim}
+use Rattle.std.specs.Prelude.{Contains, Some, None}
+use Rattle.std.specs.List.{list_any}
+use Rattle.std.proofs.lemmas.Bool.{true≢false}
+use Rattle.std.proofs.lemmas.Option.{none-some}
+use Rattle.std.proofs.lemmas.List.Elements.{Contains-append_left}
+use Rattle.index_spaces.specs.Column.{ColumnValue}
+use Rattle.graph_model.specs.declared.outcome.End.{End}
+use Rattle.graph_model.specs.declared.outcome.End.TheVariants.{Cancelled}
+use Rattle.graph_model.specs.Graph.{GraphValue}
+use Rattle.graph_model.specs.Edges.{edges_into}
+use Rattle.graph_model.specs.Rules.{Acquires}
+use Rattle.graph_model.specs.Evaluation.{eval_end}
+use Rattle.gen_events.specs.Views.{IsPendingOf, handle_of}
+use Rattle.gen_events.specs.declared.events.Events.{Events}
+use Rattle.gen_events.specs.declared.handle.Handle.{Handle}
+use Rattle.gen_events.specs.declared.tokens.Pending.{Pending}
+use Rattle.gen_events.proofs.Members.{Contains-head, Contains-none}
+use Rattle.run_state.proofs.Started.{cancelled_iff}
+use Rattle.run_core.specs.declared.answers.Thing.{Thing}
+use Rattle.run_core.specs.declared.answers.Thing.TheVariants as things
+use Rattle.run_words.specs.declared.content.Content.{Content}
+use Rattle.run_words.specs.declared.content.Content.TheVariants.{Ticket}
+use Rattle.run_words.specs.declared.view.View.{View}
+use Rattle.run_words.specs.declared.words.Words.{Words}
+use Rattle.run_words.specs.Claims.{Claim, new_claim}
+use Rattle.run_words.specs.Layout.{size_of, lock_word}
+use Rattle.std.proofs.lemmas.List.{append-nil}
+use Rattle.run_words.specs.declared.works.WordWork.{WordWork}
+use Rattle.run_words.specs.Works.{IsWorkOf}
+use Rattle.run_words.specs.Words.{graph_of, events_of, IsSeatOf}
+use Rattle.run_words.specs.Rule.{ground, child}
+use Rattle.run_words.specs.Plays.{Sat, HasClaimed, claimed_at, saw_at, on_claim, holding, lets_go, unclaims, child_of, parent_of, joined, looked_at, own_number}
+use Rattle.run_words.specs.Premises.{Has, IsBare, OnTop}
+use Rattle.run_words.specs.Sources.{cancels_in}
+use Rattle.run_words.specs.Laden.{Taking}
+use Rattle.run_words.specs.Attempts.{IsClaimed, IsLoaded, IsRefused, HasAllOf, IsRefusedAll}
+use Rattle.run_words.proofs.Desking.{has_key}
+use Rattle.run_words.proofs.Turns.{sat}
+
+abbrev Left : Type 0
+Left = List (ℕ × Content)
+
+-- a claim with no column
+pub taking_first : (g : GraphValue) (line : ℕ) (v : View) (h : Handle) (b : Bool) (left : Left) (m : Sat) → eval_end g line ≢ Cancelled → m ≡ (record v { claim = Some (holding b (new_claim line h)) }, left) → Taking g line 0 v (holding b (new_claim line h)) left m []
+taking_first g line v h b left m real q = record {
+  line_is = refl;
+  going = refl;
+  real = real;
+  no_puts = refl;
+  now = q;
+  stacked = refl;
+  below = λ c ks at. absurd (Contains-none {A = ℕ × List ℕ} (c, ks) at);
+  apart = tt;
+  has = λ c ks at. absurd (Contains-none {A = ℕ × List ℕ} (c, ks) at);
+  only = λ c x at. absurd (none-some x at);
+  size = refl;
+}
+
+pub all_of : (g : GraphValue) (line : ℕ) (v : View) (ticket : Pending) (b : Bool) (m : Sat) (held : List (ℕ × ColumnValue)) → IsLoaded g line v (holding b (new_claim line (handle_of ticket))) ((line, Ticket ticket) ∷ []) m held → ((l : ℕ) → Acquires g line l → eval_end g line ≢ Cancelled → b ≡ true) → HasAllOf g line false v ticket m held
+all_of g line v ticket b m held l holds = record {
+  saw = (looked_at v line l.0).saw;
+  issued = (looked_at v line l.0).issued;
+  ended = (looked_at v line l.0).ended;
+  claim = record (holding b (new_claim line (handle_of ticket))) { columns = l.1 };
+  named = refl;
+  line_is = refl;
+  going = refl;
+  untimed = refl;
+  fresh = (refl, refl);
+  holds = holds;
+  bare = λ q. absurd (true≢false (sym q));
+  loaded = λ _. l.2;
+}
+
+pub bare_of : (g : GraphValue) (line : ℕ) (v : View) (ticket : Pending) (b : Bool) (m : Sat) (held : List (ℕ × ColumnValue)) → b ≡ true → eval_end g line ≡ Cancelled → IsClaimed line v ticket m → HasAllOf g line b v ticket m held
+bare_of g line v ticket b m held is_so cancelled is = record {
+  saw = v.saw;
+  issued = v.issued;
+  ended = v.ended;
+  claim = new_claim line (handle_of ticket);
+  named = refl;
+  line_is = refl;
+  going = refl;
+  untimed = refl;
+  fresh = (refl, refl);
+  holds = λ l a real. absurd (real cancelled);
+  bare = λ _. (cancelled, is);
+  loaded = λ q. absurd (true≢false (sym is_so ∙ q));
+}
+
+-- a line that holds its reservation lets it go
+pub may_let_go : (g : GraphValue) (line l : ℕ) (v : View) (h : Handle) (left : Left) (thing : Thing) (m : Sat) → Acquires g line l → IsRefused g line v (holding true (new_claim line h)) left thing m → Has m.0 (λ cl. Acquires g cl.line l × (cl.holds ≡ true) × (cl.time ≡ None))
+may_let_go g line l v h left thing m a r = (record (holding true (new_claim line h)) { columns = [] }, ap (λ (y : Sat). y.0.claim) r.3, (a, refl, refl))
+
+pub refused_held : (g : GraphValue) (line : ℕ) (v : View) (ticket : Pending) (thing : Thing) (m n : Sat) → IsRefused g line v (holding true (new_claim line (handle_of ticket))) ((line, Ticket ticket) ∷ []) thing m → lets_go m n → IsRefusedAll g line v ticket thing n
+refused_held g line v ticket thing m n r go = (r.0, r.1, r.2, go ∙ ap (λ (y : Sat). sat (on_claim (holding false) y.0) y.1) r.3)
+
+pub refused_lock : (g : GraphValue) (line l w r : ℕ) (v : View) (ticket : Pending) (m n : Sat) → IsClaimed line v ticket m → Acquires g line l → w ≡ lock_word (size_of g) l → r ≢ 0 → r ≢ line + 1 → n ≡ (saw_at m.0 w r, m.1) → IsRefusedAll g line v ticket (things.Lock l) n
+refused_lock g line l w r v ticket m n is a word ne other q = (w, r, (a, word, ne, other), q ∙ ap (λ (y : Sat). sat (saw_at y.0 w r) y.1) is)
+
+-- whether a claimed line is cancelled
+pub cancelled_so : (g : GraphValue) (e : Events) (line : ℕ) (b : Bool) (m n : Sat) → m.0.keys ≡ ground g e ∷ [] → HasClaimed line m n → b ≡ list_any (cancels_in g) (edges_into g line) → (b ≡ true → eval_end g line ≡ Cancelled) × (b ≡ false → eval_end g line ≢ Cancelled)
+cancelled_so g e line b m n key h q =
+    let both = cancelled_iff g line (h.ends (ground g e) (has_key m.0.keys (ground g e) key)) in
+    (λ t. both.0 (sym q ∙ t), λ f c. true≢false (sym (q ∙ both.1 c) ∙ f))
+
+-- the claim of a line that was just claimed
+pub is_claimed : (line : ℕ) (m n : Sat) (h : HasClaimed line m n) → m.1 ≡ [] → IsClaimed line m.0 h.ticket n
+is_claimed line m n h none = h.now ∙ ap (λ (hand : Left). sat (claimed_at m.0 line (handle_of h.ticket)) ((line, Ticket h.ticket) ∷ hand)) none
+
+-- and of one that was refused
+pub may_unclaim : (g : GraphValue) (e : Events) (line : ℕ) (v : View) (ticket : Pending) (thing : Thing) (m : Sat) → IsRefusedAll g line v ticket thing m → IsPendingOf e ticket
+    → Has m.0 (λ cl. (cl.line ≡ line) × IsBare cl × ((ticket : Pending) × OnTop line (Ticket ticket) m.1 × IsPendingOf e ticket × (handle_of ticket ≡ cl.event)))
+may_unclaim g e line v ticket thing m r of = (
+  new_claim line (handle_of ticket),
+  ap (λ (y : Sat). y.0.claim) r.3,
+  (refl, record { going = refl; columns = refl; puts = refl; held = refl; arrived = refl; time = refl }, (ticket, ([], ap (λ (y : Sat). y.1) r.3), of, refl)),
+)
+
+pub unclaimed : (g : GraphValue) (line : ℕ) (v : View) (ticket : Pending) (thing : Thing) (m n : Sat) (r : IsRefusedAll g line v ticket thing m) → v.claim ≡ None → unclaims m n → n ≡ (saw_at v r.0 r.1, [])
+unclaimed g line v ticket thing m n r none u = u ∙ (ap (λ (y : Sat). sat (record y.0 { claim = None }) (Rattle.atomic_table.specs.Table.rest y.1)) r.3 ∙ ap (λ (c : Rattle.std.specs.Prelude.Option Claim). sat (record (saw_at v r.0 r.1) { claim = c }) []) (sym none))
+
+by_bool : (b : Bool) → (b ≡ true) ⊎ (b ≡ false)
+by_bool true = inl refl
+by_bool false = inr refl
+
+-- THE WORK
+own_of : (g : GraphValue) (line : ℕ) (b : Bool) (v : View) (ticket : Pending) (m : Sat) (held : List (ℕ × ColumnValue)) → HasAllOf g line b v ticket m held → (m.0.mine ≡ v.mine) × (m.0.splits ≡ v.splits)
+own_of g line b v ticket m held h = ⊎_elim
+    (λ (t : b ≡ true). (ap (λ (y : Sat). y.0.mine) (h.bare t).1, ap (λ (y : Sat). y.0.splits) (h.bare t).1))
+    (λ (f : b ≡ false). let n = h.loaded f in (ap (λ (y : Sat). y.0.mine) n.now, ap (λ (y : Sat). y.0.splits) n.now))
+    (by_bool b)
+
+pub work_of : (w : Words) (k : WordWork) (v : View) (ticket : Pending) → HasAllOf (graph_of w) k.line k.is_cancelled v ticket k.inner.me k.held → IsSeatOf w k.inner → k.line < length (graph_of w).lines → v.issuing ≡ None → v.desk ≡ None → IsPendingOf (events_of w) ticket → IsWorkOf w k
+work_of w k v ticket h at near issuing desk of = record {
+  at = at;
+  near = near;
+  view = record v { issued = h.issued; ended = h.ended; saw = h.saw };
+  claim = h.claim;
+  ticket = ticket;
+  issuing = issuing;
+  desk = desk;
+  of = of;
+  named = h.named;
+  mine = (own_of (graph_of w) k.line k.is_cancelled v ticket k.inner.me k.held h).0;
+  splits = (own_of (graph_of w) k.line k.is_cancelled v ticket k.inner.me k.held h).1;
+  line_is = h.line_is;
+  going = h.going;
+  untimed = h.untimed;
+  fresh = h.fresh;
+  holds = h.holds;
+  cancelled = h.bare;
+  loaded = h.loaded;
+}
+
+pub out_of : (w : Words) (k : WordWork) (v0 v : View) (hand : Left) (m n : Sat) (ticket : Pending) → HasAllOf (graph_of w) k.line k.is_cancelled v ticket k.inner.me k.held → n ≡ (parent_of v0, hand) → v ≡ child_of v0
+    → (j : ℕ) × (n.0.mine ≡ v0.mine) × (n.0.splits ≡ v0.splits ++ j ∷ []) × (k.inner.me.0.mine ≡ j ∷ []) × (k.inner.me.0.splits ≡ [])
+out_of w k v0 v hand m n ticket h p q =
+    let own = own_of (graph_of w) k.line k.is_cancelled v ticket k.inner.me k.held h in
+    (child (own_number v0.mine) v0.births, ap (λ (y : Sat). y.0.mine) p, ap (λ (y : Sat). y.0.splits) p, own.0 ∙ ap (λ (y : View). y.mine) q, own.1 ∙ ap (λ (y : View). y.splits) q)
+
+-- A SEAT THAT WAS SPLIT OFF AND JOINED AGAIN
+module _ (v0 : View) (hand : Left) (a t : Sat) (w : View) (parent : a ≡ (parent_of v0, hand)) (joins : t ≡ (joined a.0 w, a.1)) where
+  whole : t ≡ (joined (parent_of v0) w, hand)
+  whole = joins ∙ ap (λ (y : Sat). sat (joined y.0 w) y.1) parent
+
+  pub joined_back : w.mine ≡ child (own_number v0.mine) v0.births ∷ [] → w.splits ≡ [] → (ns : List ℕ) × (t.0.mine ≡ v0.mine ++ ns) × (t.0.splits ≡ v0.splits ++ ns)
+  joined_back mine splits =
+      let ns : List ℕ = child (own_number v0.mine) v0.births ∷ [] in
+      (ns, ap (λ (y : Sat). y.0.mine) whole ∙ ap (λ (l : List ℕ). v0.mine ++ l) mine, ap (λ (y : Sat). y.0.splits) whole ∙ (ap (λ (l : List ℕ). (v0.splits ++ ns) ++ l) splits ∙ append-nil (v0.splits ++ ns)))
+
+  pub joined_found : (j r : ℕ) → w.saw ≡ (j, r) ∷ [] → (found : List (ℕ × ℕ)) × (t.0.saw ≡ v0.saw ++ found) × Contains found (j, r)
+  joined_found j r saw = ((j, r) ∷ [], ap (λ (y : Sat). y.0.saw) whole ∙ ap (λ (l : List (ℕ × ℕ)). v0.saw ++ l) saw, Contains-head {A = ℕ × ℕ} (j, r) [])
+
+  pub joined_issued : (i : ℕ) → Contains v0.issued i → Contains t.0.issued i
+  joined_issued i c = subst (λ l. Contains l i) (sym (ap (λ (y : Sat). y.0.issued) whole)) (Contains-append_left v0.issued w.issued i c)
+
+  pub joined_ended : (i : ℕ) (x : End) → Contains v0.ended (i, x) → Contains t.0.ended (i, x)
+  joined_ended i x c = subst (λ (l : List (ℕ × End)). Contains l (i, x)) (sym (ap (λ (y : Sat). y.0.ended) whole)) (Contains-append_left v0.ended w.ended (i, x) c)

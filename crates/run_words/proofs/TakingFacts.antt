@@ -1,0 +1,143 @@
+-- A line takes one more of its columns.
+use Rattle.std.proofs.Common.{◌≡◌, ◌≢◌, ℕ, zero, suc, ◌≤◌, ◌+◌, inl, inr, List, [], ◌∷◌, length, refl, sym, ◌∙◌, ap, subst, arith, ⊎_elim}
+use Rattle.std.specs.Prelude.{Contains, Option, Some, None, slice_get}
+use Rattle.std.proofs.lemmas.Bool.{cases_eq}
+use Rattle.index_spaces.specs.Column.{ColumnValue}
+use Rattle.index_spaces.specs.Held.{held_at, HoldsOtherwise}
+use Rattle.graph_model.specs.Graph.{GraphValue}
+use Rattle.gen_events.specs.declared.events.Events.{Events}
+use Rattle.gen_events.proofs.Members.{Contains-head, Contains-tail, Contains-cases}
+use Rattle.run_state.specs.Run.{is_listed}
+use Rattle.run_state.specs.Sound.{AccessesColumn, home_cells}
+use Rattle.run_state.specs.WholeLine.{column_list}
+use Rattle.run_words.specs.declared.content.Content.{Content}
+use Rattle.run_words.specs.declared.content.Content.TheVariants.{Nothing, Ticket, Stub, Cells, Tray}
+use Rattle.run_words.specs.declared.view.View.{View}
+use Rattle.run_words.specs.Claims.{Claim}
+use Rattle.run_words.specs.Layout.{size_of, turn_word, column_slot}
+use Rattle.run_words.specs.Rule.{ground, column_with}
+use Rattle.run_words.specs.Plays.{Sat, on_claim, took, HasTurn, saw_at}
+use Rattle.run_words.specs.Premises.{Has, MayTake}
+use Rattle.run_words.specs.Laden.{Stacked, Taking}
+use Rattle.run_words.proofs.Desking.{has_key}
+use Rattle.run_words.proofs.Turns.{sat}
+
+abbrev Pairs : Type 0
+Pairs = List (ℕ × List ℕ)
+
+abbrev pub column_in : ColumnValue → Content → ColumnValue
+column_in x (Cells y) = y
+column_in x Nothing = x
+column_in x (Ticket p) = x
+column_in x (Stub p) = x
+column_in x (Tray p) = x
+
+-- no more columns than accesses
+pub stacked_few : (xs : List ℕ) (k : ℕ) (columns : Pairs) → Stacked xs k columns → length columns ≤ k
+stacked_few xs zero columns s = omega (arith, ap (λ (l : Pairs). length l) s)
+stacked_few xs (suc k) columns s = ⊎_elim
+    (λ n. omega (arith, stacked_few xs k columns n.1))
+    (λ (r : (d : ℕ) × (ks : List ℕ) × (more : Pairs) × (slice_get xs k ≡ Some d) × (columns ≡ (d, ks) ∷ more) × Stacked xs k more). omega (arith, stacked_few xs k r.2 r.5, ap (λ (l : Pairs). length l) r.4))
+    s
+
+-- an access that is not there changes nothing
+pub skip_ahead : (g : GraphValue) (line k : ℕ) (v : View) (cl : Claim) (left : List (ℕ × Content)) (m : Sat) (held : List (ℕ × ColumnValue)) → Taking g line k v cl left m held → slice_get (column_list g line) k ≡ None → Taking g line (suc k) v cl left m held
+skip_ahead g line k v cl left m held l at = record {
+  line_is = l.line_is;
+  going = l.going;
+  real = l.real;
+  no_puts = l.no_puts;
+  now = l.now;
+  stacked = inl (at, l.stacked);
+  below = λ d ks has. let b = l.below d ks has in (b.0, (let less = b.1 in omega (arith, less)), b.2);
+  apart = l.apart;
+  has = l.has;
+  only = l.only;
+  size = l.size;
+}
+
+-- a load of another word changes nothing
+pub taking_saw : (g : GraphValue) (line k : ℕ) (v : View) (cl : Claim) (left : List (ℕ × Content)) (m n : Sat) (held held' : List (ℕ × ColumnValue)) (w r : ℕ) → Taking g line k v cl left m held → n ≡ (saw_at m.0 w r, m.1) → held' ≡ held → Taking g line k (saw_at v w r) cl left n held'
+taking_saw g line k v cl left m n held held' w r l q h = subst (Taking g line k (saw_at v w r) cl left n) (sym h) (record {
+  line_is = l.line_is;
+  going = l.going;
+  real = l.real;
+  no_puts = l.no_puts;
+  now = q ∙ ap (λ (y : Sat). sat (saw_at y.0 w r) y.1) l.now;
+  stacked = l.stacked;
+  below = l.below;
+  apart = l.apart;
+  has = l.has;
+  only = l.only;
+  size = l.size;
+})
+
+module _ (g : GraphValue) (e : Events) (line k : ℕ) (v : View) (cl : Claim) (left : List (ℕ × Content)) (m : Sat) (held : List (ℕ × ColumnValue)) (l : Taking g line k v cl left m held) (c : ℕ) (at : slice_get (column_list g line) k ≡ Some c) where
+  pub may_take : AccessesColumn g line c → Has m.0 (λ d. (d.line ≡ line) × MayTake g c d)
+  may_take a = (
+    cl,
+    ap (λ (y : Sat). y.0.claim) l.now,
+    (
+      l.line_is,
+      record {
+        going = l.going;
+        accessed = subst (λ j. AccessesColumn g j c) (sym l.line_is) a;
+        real = subst (λ j. Rattle.graph_model.specs.Evaluation.eval_end g j ≢ Rattle.graph_model.specs.declared.outcome.End.TheVariants.Cancelled) (sym l.line_is) l.real;
+        new = ap (λ xs. is_listed xs c) l.no_puts;
+      },
+    ),
+  )
+
+  module _ (alone : (j : ℕ) → slice_get (column_list g line) j ≡ Some c → j ≡ k) where
+    pub not_had : (ks : List ℕ) → Contains cl.columns (c, ks) → ⊥
+    not_had ks has = let b = l.below c ks has in let q = alone b.0 b.2 in let less = b.1 in absurd (omega (arith, q, less))
+
+    none_of : (o : Option ColumnValue) → held_at held c ≡ o → held_at held c ≡ None
+    none_of None q = q
+    none_of (Some x) q = let h = l.only c x q in absurd (not_had h.0 h.1)
+
+    pub not_held : held_at held c ≡ None
+    not_held = none_of (held_at held c) refl
+
+    module _ (n : Sat) (key : m.0.keys ≡ ground g e ∷ []) (h : HasTurn (turn_word (size_of g) c) m n) where
+      abbrev then : Claim
+      then = took c h.back cl
+
+      abbrev column : ColumnValue
+      column = column_with g c (home_cells g h.back c)
+
+      pub now : n ≡ (on_claim (took c h.back) m.0, (column_slot (size_of g) c, Cells column) ∷ m.1)
+      now = h.now (ground g e) c (has_key m.0.keys (ground g e) key) refl
+
+      pub keys : n.0.keys ≡ ground g e ∷ []
+      keys = ap (λ (y : Sat). y.0.keys) now ∙ key
+
+      pub on_top : (s : ℕ) → s ≡ column_slot (size_of g) c → n.1 ≡ (s, Cells column) ∷ m.1
+      on_top s q = ap (λ (y : Sat). y.1) now ∙ ap (λ (j : ℕ). (j, Cells column) ∷ m.1) (sym q)
+
+      pub taken : (o : Sat) (held' : List (ℕ × ColumnValue)) (x : ColumnValue) → Cells column ≡ Cells x → o.0 ≡ n.0 → o.1 ≡ (column_slot (size_of g) c, Nothing) ∷ m.1 → HoldsOtherwise held held' c (Some x) → length held' ≡ length held + 1 → Taking g line (suc k) v then left o held'
+      taken o held' x is view hand others long = record {
+        line_is = l.line_is;
+        going = l.going;
+        real = l.real;
+        no_puts = l.no_puts;
+        now = λ t. (
+          (view ∙ (ap (λ (y : Sat). y.0) now ∙ ap (λ (y : Sat). on_claim (took c h.back) y.0) l.now)) t,
+          (hand ∙ ap (λ (y : Sat). (column_slot (size_of g) c, Nothing) ∷ y.1) l.now) t,
+        );
+        stacked = inr (c, h.back, cl.columns, at, refl, l.stacked);
+        below = λ d ks has. ⊎_elim
+            (λ (q : (c, h.back) ≡ (d, ks)). (k, omega arith, at ∙ ap (λ (y : ℕ × List ℕ). Some y.0) q))
+            (λ (r : Contains {X = ℕ × List ℕ} cl.columns (d, ks)). let b = l.below d ks r in (b.0, (let less = b.1 in omega (arith, less)), b.2))
+            (Contains-cases {A = ℕ × List ℕ} (c, h.back) (d, ks) cl.columns has);
+        apart = (not_had, l.apart);
+        has = λ d ks has. ⊎_elim
+            (λ (q : (c, h.back) ≡ (d, ks)). subst (λ (y : ℕ × List ℕ). held_at held' y.0 ≡ Some (column_with g y.0 (home_cells g y.1 y.0))) q (others.here ∙ ap Some (sym (ap (column_in column) is))))
+            (λ (r : Contains {X = ℕ × List ℕ} cl.columns (d, ks)). others.others d (λ q. not_had ks (subst (λ j. Contains {X = ℕ × List ℕ} cl.columns (j, ks)) q r)) ∙ l.has d ks r)
+            (Contains-cases {A = ℕ × List ℕ} (c, h.back) (d, ks) cl.columns has);
+        only = λ d y got. elim (cases_eq d c) [
+          | inl q ↦ (h.back, subst (λ j. Contains {X = ℕ × List ℕ} ((c, h.back) ∷ cl.columns) (j, h.back)) (sym q) (Contains-head {A = ℕ × List ℕ} (c, h.back) cl.columns))
+          | inr ne ↦ (let o' = l.only d y (sym (others.others d ne) ∙ got) in (o'.0, Contains-tail {A = ℕ × List ℕ} (c, h.back) (d, o'.0) cl.columns o'.1))
+        ];
+        size = long ∙ omega (arith, l.size);
+      }

@@ -1,0 +1,43 @@
+use Rattle.std.proofs.Common.{ℕ, List, [], ◌∷◌, ◌≡◌, refl, ap, sym, subst, ◌∙◌}
+use Rattle.std.specs.Prelude.{Contains}
+use Rattle.std.proofs.lemmas.List.Elements.{Contains-append_left}
+use Rattle.gen_events.proofs.Members.{Contains-head}
+use Rattle.graph_model.specs.declared.outcome.End.{End}
+use Rattle.graph_model.specs.Graph.{GraphValue, never_comes}
+use Rattle.run_words.specs.Plays.{Sat}
+use Rattle.run_words.proofs.AnswerFacts.{answered}
+use Rattle.run_words.proofs.words.Words.attempt.Goals as goal
+
+pub returns-then-word-ne2-clause-kept_issued : goal.returns-then-word-ne2-clause-kept_issued
+returns-then-word-ne2-clause-kept_issued c = λ j k. record { known = subst (λ l. Contains l j) (sym (ap (λ (m : Sat). m.0.issued) c.look-word.ensures.looked.0)) (Contains-append_left c.args.seat.now.inner.me.0.issued _ j k.known) }
+
+pub returns-then-word-ne2-clause-kept_ended : goal.returns-then-word-ne2-clause-kept_ended
+returns-then-word-ne2-clause-kept_ended c = λ j x k. record { known = subst (λ (l : List (ℕ × End)). Contains l (j, x)) (sym (ap (λ (m : Sat). m.0.ended) c.look-word.ensures.looked.0)) (Contains-append_left c.args.seat.now.inner.me.0.ended _ (j, x) k.known) }
+
+pub returns-then-never_comes-clause-kept_issued : goal.returns-then-never_comes-clause-kept_issued
+returns-then-never_comes-clause-kept_issued c = λ j k. record { known = subst (λ l. Contains l j) (sym (ap (λ (m : Sat). m.0.issued) c.look-word.ensures.looked.0)) (Contains-append_left c.args.seat.now.inner.me.0.issued _ j k.known) }
+
+pub returns-then-never_comes-clause-kept_ended : goal.returns-then-never_comes-clause-kept_ended
+returns-then-never_comes-clause-kept_ended c = λ j x k. record { known = subst (λ (l : List (ℕ × End)). Contains l (j, x)) (sym (ap (λ (m : Sat). m.0.ended) c.look-word.ensures.looked.0)) (Contains-append_left c.args.seat.now.inner.me.0.ended _ (j, x) k.known) }
+
+pub returns-clause-kept_issued : goal.returns-clause-kept_issued
+returns-clause-kept_issued c = λ j k. c.attempt_due.ensures.kept_issued j (record { known = subst (λ l. Contains l j) (sym (ap (λ (m : Sat). m.0.issued) c.look-word.ensures.looked.0)) (Contains-append_left c.args.seat.now.inner.me.0.issued _ j k.known) })
+
+pub returns-clause-kept_ended : goal.returns-clause-kept_ended
+returns-clause-kept_ended c = λ j x k. c.attempt_due.ensures.kept_ended j x (record { known = subst (λ (l : List (ℕ × End)). Contains l (j, x)) (sym (ap (λ (m : Sat). m.0.ended) c.look-word.ensures.looked.0)) (Contains-append_left c.args.seat.now.inner.me.0.ended _ (j, x) k.known) })
+
+pub returns-clause-answer : goal.returns-clause-answer
+returns-clause-answer c =
+    let n = c.look-word.ensures.looked.0 in
+    answered c.args.seat.now _ ((c.args.i, c.look-word.result) ∷ [])
+    (record {
+      saw = ap (λ (m : Sat). m.0.saw) n;
+      numbers = ap (λ (m : Sat). m.0.mine) n;
+      splits = ap (λ (m : Sat). m.0.splits) n;
+      trays = ap (λ (m : Sat). m.0.trays) n;
+      events = refl;
+    })
+    c.attempt_due.new.seat c.args.self.now c.args.i c.attempt_due.result
+    (subst (λ (r : ℕ). Contains {X = ℕ × ℕ} ((c.args.i, r) ∷ []) (c.args.i, 2)) (sym c.if-word-ne2.false) (Contains-head {A = ℕ × ℕ} (c.args.i, 2) []))
+    (subst (λ (g : GraphValue). never_comes g c.args.i ≡ Rattle.std.specs.Prelude.false) c.graph-graph.ensures.graph (sym c.never_comes.ensures ∙ c.if-never_comes.false))
+    c.attempt_due.ensures.answer

@@ -1,0 +1,28 @@
+use Rattle.std.proofs.Common.{arith, ◌≡◌, ℕ, ◌<◌, [], ◌∷◌, length, ap, sym, subst}
+use Rattle.std.specs.Prelude.{Contains}
+use Rattle.std.proofs.lemmas.List.Elements.{Contains-append_right}
+use Rattle.gen_events.proofs.Members.{Contains-head}
+use Rattle.run_words.specs.declared.view.View.{View}
+use Rattle.run_words.specs.Words.{graph_of}
+use Rattle.run_words.specs.Plays.{Sat}
+use Rattle.run_words.proofs.Turns.{sat}
+use Rattle.run_words.proofs.Desking.{unchanged}
+use Rattle.run_words.proofs.words.Words.issue_in_turn.Goals as goal
+use Rattle.run_core.specs.declared.answers.Issue.{Issue}
+use Rattle.run_core.specs.declared.answers.Issue.TheVariants as answers
+
+abbrev number_in : Issue → ℕ
+number_in (answers.Issued i) = i
+number_in answers.NoSlot = 0
+number_in answers.All = 0
+number_in answers.Other = 0
+
+pub returns-then-line-lines-clause-now : goal.returns-then-line-lines-clause-now
+returns-then-line-lines-clause-now c = ([], ap (λ (x : View). sat x c.args.seat.now.me.1) (unchanged c.args.seat.now.me.0 c.args.desk.now.handles.items c.requires.quiet c.requires.turn))
+
+pub returns-then-issue_next-clause-issued : goal.returns-then-issue_next-clause-issued
+returns-then-issue_next-clause-issued c = λ i q.
+    let n = c.issue_next.ensures.issued c.if-issue_next.true in
+    let k : c.len-line.result ≡ i = ap number_in q in
+    let has : Contains c.issue_next.new.seat.me.0.issued c.len-line.result = subst (λ l. Contains l c.len-line.result) (sym (ap (λ (m : Sat). m.0.issued) n.2)) (Contains-append_right c.args.seat.now.me.0.issued (c.len-line.result ∷ []) c.len-line.result (Contains-head c.len-line.result [])) in
+    (subst (Contains c.issue_next.new.seat.me.0.issued) k has, subst (λ j. j < length (graph_of c.args.self.now).lines) k (omega (arith, c.if-line-lines.false, c.lines-lines.ensures.number, ap (λ (g : Rattle.graph_model.specs.Graph.GraphValue). length g.lines) c.graph.ensures.graph)))

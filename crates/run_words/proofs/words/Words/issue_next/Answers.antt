@@ -1,0 +1,47 @@
+use Rattle.std.proofs.Common.{rules, inr, ◌≡◌, List, [], ◌∷◌, ◌++◌, length, ap, sym, subst, ◌∙◌, refl}
+use Rattle.std.specs.Prelude.{Contains}
+use Rattle.gen_events.specs.declared.handle.Handle.{Handle}
+use Rattle.std.proofs.lemmas.List.Elements.{Contains-append_right}
+use Rattle.gen_events.specs.Seats.{HasSeen}
+use Rattle.gen_events.specs.Views.{handle_of, made_by, lists, shape_of, IsFull as FoundFull}
+use Rattle.gen_events.proofs.Members.{Contains-head}
+use Rattle.run_words.specs.Words.{graph_of, events_of}
+use Rattle.run_words.specs.declared.content.Desk.{Desk}
+use Rattle.run_words.specs.Rule.{IsTray}
+use Rattle.run_words.proofs.Trays.{tray_more, tray_same}
+use Rattle.run_words.proofs.words.Words.issue_next.Goals as goal
+
+pub put_in-requires-clause-top : goal.put_in-requires-clause-top
+put_in-requires-clause-top c = (c.args.seat.now.me.1, ap (λ m. m.1) c.begin_issue.ensures.begun)
+
+pub store_issue-requires-clause-may : goal.store_issue-requires-clause-may
+store_issue-requires-clause-may c =
+    let s = c.in-Some.ensures.some in
+    let p = c.see.ensures.pending in (
+      c.args.desk.now.handles.items,
+      ap (λ v. v.desk) c.put_in.ensures.view ∙ (ap (λ m. m.0.desk) c.begin_issue.ensures.begun ∙ c.requires.turn),
+      c.requires.next,
+      (c.see.new.pending, (c.args.seat.now.me.1, c.put_in.ensures.hand _ (ap (λ m. m.1) c.begin_issue.ensures.begun)), p.0, λ k. s.1.1 (subst (λ (l : List Handle). Contains l (handle_of c.in-Some.pending)) (sym c.requires.tray.made) (subst (λ (h : Handle). Contains c.args.desk.now.handles.items h) p.1 k))),
+    )
+
+pub give_up_issue-requires-clause-may : goal.give_up_issue-requires-clause-may
+give_up_issue-requires-clause-may c = (c.args.desk.now.handles.items, ap (λ m. m.0.desk) c.begin_issue.ensures.begun ∙ c.requires.turn, (c.args.seat.now.me.1, ap (λ m. m.1) c.begin_issue.ensures.begun))
+
+pub returns-in-Some-clause-tray : goal.returns-in-Some-clause-tray
+returns-in-Some-clause-tray c =
+    let s = c.in-Some.ensures.some in
+    let d = c.in-Some.ensures in
+    let h : Handle = handle_of c.see.new.pending in
+    let same : h ≡ handle_of c.in-Some.pending = c.see.ensures.pending.1 in
+    let items = c.push_within.ensures.items ∙ ap (λ (h : Handle). c.args.desk.now.handles.items ++ h ∷ []) c.handle.ensures in
+    let d' : Desk = record { maker = c.create.new.maker; handles = c.push_within.new.handles; seat = c.see.new.seat; waiters = c.args.desk.now.waiters } in
+    let made = s.1.0 ∙ ap (λ (h : Handle). made_by c.args.desk.now.maker ++ h ∷ []) (sym same) in
+    let seen : HasSeen (lists c.see.new.seat) h = record { seen = inr (subst (λ (l : List Handle). Contains l h) (sym c.see.ensures.more_seen) (Contains-append_right (lists c.args.desk.now.seat).seen _ h (subst (λ (k : Handle). Contains (c.see.result ∷ []) k) (c.see.ensures.handle ∙ sym same) (Contains-head c.see.result [])))) } in
+    subst (λ (l : List Handle). IsTray (events_of c.args.self.now) (length (graph_of c.args.self.now).lines) l d') (sym items)
+    (tray_more (events_of c.args.self.now) (length (graph_of c.args.self.now).lines) c.args.desk.now.handles.items c.args.desk.now d' h c.requires.tray d.maker made items c.push_within.ensures.capacity c.see.ensures.at c.see.ensures.kept seen refl)
+
+pub returns-in-None-clause-tray : goal.returns-in-None-clause-tray
+returns-in-None-clause-tray c = let d = c.in-None.ensures in tray_same _ _ c.args.desk.now.handles.items c.args.desk.now _ c.requires.tray d.maker d.none refl c.requires.tray.seat (λ h k. k, λ h f k. k) refl
+
+pub returns-in-None-clause-full : goal.returns-in-None-clause-full
+returns-in-None-clause-full c = λ _. (refl, search rules, subst (λ (l : List Handle). FoundFull (shape_of (events_of c.args.self.now)) l (lists c.args.events.now) (lists c.create.new.seat)) c.requires.tray.made c.in-None.ensures.full)

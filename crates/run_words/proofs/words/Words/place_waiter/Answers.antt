@@ -1,0 +1,19 @@
+use Rattle.std.proofs.Common.{◌≡◌, ◌<◌, inl, inr, length, refl, sym, ◌∙◌, ap, subst, arith}
+use Rattle.std.specs.Prelude.{Some, slice_get}
+use Rattle.std.proofs.lemmas.Option.{slice_get_read}
+use Rattle.gen_events.specs.Views.{lists, number_of}
+use Rattle.run_words.specs.Standing.{Watches}
+use Rattle.run_words.proofs.words.Words.place_waiter.Goals as goal
+
+pub returns-clause-told : goal.returns-clause-told
+returns-clause-told c =
+    let handles = c.args.desk.now.handles.items in
+    let waiters = c.args.desk.now.waiters.items in
+    let near : c.args.source < length handles = omega (arith, c.if-source-len.false, c.len.ensures) in
+    let below : c.args.line < length waiters = subst (λ n. c.args.line < n) (sym c.requires.tray.places) c.requires.line in
+    let at = slice_get_read waiters (length waiters) c.args.line c.index_mut.result.now refl below c.index_mut.ensures.value ∙ ap Some (sym c.take.ensures.value ∙ c.in-Some.is) in
+    inr (inr (
+      c.index-handle.result.now,
+      slice_get_read handles (length handles) c.args.source c.index-handle.result.now refl near c.index-handle.ensures,
+      subst (λ n. Watches n c.index-handle.result.now (lists c.args.events.now) (lists c.watch_for.new.events)) (c.requires.tray.waiters c.args.line c.in-Some.waiter at).0 c.watch_for.ensures.told,
+    ))

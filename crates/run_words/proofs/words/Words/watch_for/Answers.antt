@@ -1,0 +1,25 @@
+use Rattle.std.proofs.Common.{ℕ, List, [], ◌∷◌, inl, refl, sym, subst}
+use Rattle.std.specs.Prelude.{Contains}
+use Rattle.std.proofs.lemmas.List.Elements.{Contains-append_right}
+use Rattle.gen_events.proofs.Members.{Contains-head}
+use Rattle.gen_events.specs.Views.{lists, number_of}
+use Rattle.gen_events.specs.declared.handle.Handle.{Handle}
+use Rattle.run_words.proofs.Trays.{tray_same}
+use Rattle.run_words.proofs.words.Words.watch_for.Goals as goal
+
+pub watch-requires-clause-seen : goal.watch-requires-clause-seen
+watch-requires-clause-seen c = c.join.ensures.kept.1.0 c.args.handle (c.split-more.ensures.kept.1.0 c.args.handle (c.requires.tray.seen c.args.handle c.requires.handle))
+
+pub lay-requires-clause-tray : goal.lay-requires-clause-tray
+lay-requires-clause-tray c = tray_same _ _ c.args.desk.now.handles.items c.args.desk.now _ c.requires.tray c.requires.tray.maker refl refl c.split-more.ensures.at.0 c.split-more.ensures.kept.0 refl
+
+pub lay-requires-in-Moved-clause-tray : goal.lay-requires-in-Moved-clause-tray
+lay-requires-in-Moved-clause-tray c = tray_same _ _ c.args.desk.now.handles.items c.args.desk.now _ c.requires.tray c.requires.tray.maker refl refl c.split-more.ensures.at.0 c.split-more.ensures.kept.0 refl
+
+pub returns-in-Placed-clause-tray : goal.returns-in-Placed-clause-tray
+returns-in-Placed-clause-tray c = tray_same _ _ c.args.desk.now.handles.items c.args.desk.now _ c.requires.tray c.requires.tray.maker refl refl c.split-more.ensures.at.0 c.split-more.ensures.kept.0 refl
+
+pub returns-in-Placed-clause-told : goal.returns-in-Placed-clause-told
+returns-in-Placed-clause-told c =
+    inl (subst (λ (l : List (ℕ × Handle)). Contains l (number_of c.args.waiter, c.args.handle)) (sym c.in-Placed.ensures.told.1)
+    (Contains-append_right (lists c.join.new.seat).placed ((number_of c.args.waiter, c.args.handle) ∷ []) (number_of c.args.waiter, c.args.handle) (Contains-head {A = ℕ × Handle} (number_of c.args.waiter, c.args.handle) [])))

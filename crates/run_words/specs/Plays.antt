@@ -1,0 +1,310 @@
+-- What each step tells: of the step, the seat before, the number found and the seat after. How views are cut and joined.
+use Rattle.std.specs.Prelude.{◌≡◌, ◌≢◌, ℕ, zero, suc, ◌+◌, ◌-◌, ◌<◌, ◌≤◌, nat_lt, cond, Bool, true, false, List, [], ◌∷◌, ◌++◌, length, Contains, IsTrue, Option, Some, None, option_map}
+use Rattle.atomic_table.specs.Table.{Me, rest}
+use Rattle.basics.specs.Lists.{numbers_below}
+use Rattle.graph_model.specs.declared.outcome.End.{End}
+use Rattle.graph_model.specs.declared.outcome.End.TheVariants.{Done, Faulted, Cancelled, Waiting}
+use Rattle.graph_model.specs.Path.{HasPath}
+use Rattle.graph_model.specs.Evaluation.{evaluation, has_ended, eval_end, cells_of_lines, column_of}
+use Rattle.gen_events.specs.Views.{IsPendingOf, handle_of}
+use Rattle.gen_events.specs.declared.handle.Handle.{Handle}
+use Rattle.gen_events.specs.declared.tokens.Pending.{Pending}
+use Rattle.run_state.specs.Run.{is_listed}
+use Rattle.run_state.specs.Sound.{AccessesColumn, home_cells}
+use Rattle.run_state.specs.Work.{performed, put_cells, PerformsAsEvaluated}
+use Rattle.graph_model.specs.Effect.{Cells as AllCells}
+use Rattle.graph_model.specs.Graph.{GraphValue, column_space}
+use Rattle.index_spaces.specs.Space.{has_point}
+use Rattle.run_words.specs.declared.content.Content.{Content}
+use Rattle.run_words.specs.declared.content.Desk.{Desk}
+use Rattle.run_words.specs.declared.content.Content.TheVariants.{Nothing, Ticket, Stub, Cells, Tray}
+use Rattle.run_words.specs.declared.view.View.{View}
+use Rattle.run_words.specs.Claims.{Ground, Claim, new_claim}
+use Rattle.run_words.specs.Layout.{size_of, turn_word, column_slot, desk_slot}
+use Rattle.run_words.specs.Rule.{column_with, IsTray, child}
+
+-- what a seat has: its view, and the slots in its hand with what they hold
+abbrev pub Sat : Type 0
+Sat = Me Content View
+
+-- LOADS. The end that a code stands for
+abbrev pub end_of_code : ℕ → End
+end_of_code zero = Done
+end_of_code (suc zero) = Faulted
+end_of_code (suc (suc zero)) = Cancelled
+end_of_code (suc (suc (suc k))) = Waiting
+
+-- line i is known issued where its word held r, if that shows it
+abbrev pub issued_by : ℕ → ℕ → List ℕ
+issued_by i r = cond (nat_lt r 2) [] (i ∷ [])
+
+-- and known ended, with its end
+abbrev pub ended_by : ℕ → ℕ → List (ℕ × End)
+ended_by i r = cond (nat_lt r 8) [] ((i, end_of_code (r - 8)) ∷ [])
+
+-- the seat found r in the word of line i
+abbrev pub looked_at : View → ℕ → ℕ → View
+looked_at v i r = record v { issued = v.issued ++ issued_by i r; ended = v.ended ++ ended_by i r; saw = v.saw ++ (i, r) ∷ [] }
+
+-- the cells of these columns are as the lines put back on them left them
+abbrev pub Agrees : GraphValue → List (ℕ × List ℕ) → AllCells → Type 0
+Agrees g columns cells = (c : ℕ) (ks : List ℕ) → Contains columns (c, ks) → (p : ℕ) → IsTrue (has_point (column_space g c) p) → cells c p ≡ cells_of_lines g (is_listed ks) c p
+
+-- a line that finds its columns so ends as in the evaluation, and leaves on each what it leaves there
+pub record IsReady (g : GraphValue) (i : ℕ) (columns : List (ℕ × List ℕ)) : Type 0 where
+  pub performs : (cells : AllCells) → Agrees g columns cells → PerformsAsEvaluated g i cells
+  pub leaves : (cells : AllCells) → Agrees g columns cells → (c : ℕ) (ks : List ℕ) → Contains columns (c, ks) → (column_of g (performed g i cells) c).cells ≡ put_cells g i ks c
+
+-- what a seat is told by the word r of line i
+pub record Told (v : View) (i r : ℕ) : Type 0 where
+  pub few : r < 12
+  -- an end that is found is that of the evaluation
+  pub known : (x : Ground) → Contains v.keys x → 8 ≤ r → eval_end x.graph i ≡ end_of_code (r - 8)
+  -- a line on a path to the line whose work the seat has is ended
+  pub before : (x : Ground) (c : Claim) → Contains v.keys x → v.claim ≡ Some c → HasPath x.graph i c.line → 8 ≤ r
+  -- the line whose work the seat has is ready where it has its columns
+  pub ready : (x : Ground) (c : Claim) → Contains v.keys x → v.claim ≡ Some c → c.ends ≡ None → eval_end x.graph c.line ≢ Cancelled →
+      ((k : ℕ) → AccessesColumn x.graph c.line k → (ks : List ℕ) × Contains c.columns (k, ks)) → IsReady x.graph c.line c.columns
+
+-- the seat loaded the word of line i, and found r
+abbrev pub looked : ℕ → Sat → ℕ → Sat → Type 0
+looked i m r n = (n ≡ (looked_at m.0 i r, m.1)) × Told m.0 i r
+
+-- it found r in another word
+abbrev pub saw_at : View → ℕ → ℕ → View
+saw_at v w r = record v { saw = v.saw ++ (w, r) ∷ [] }
+
+-- the seat found r in the word w, and nothing else came of it
+abbrev pub missed : ℕ → Sat → ℕ → Sat → Type 0
+missed w m r n = n ≡ (saw_at m.0 w r, m.1)
+
+-- THE WORK OF A LINE. The claim of the seat is changed so
+abbrev pub on_claim : (Claim → Claim) → View → View
+on_claim f v = record v { claim = option_map f v.claim }
+
+-- the seat has claimed line i, whose event has the handle h
+abbrev pub claimed_at : View → ℕ → Handle → View
+claimed_at v i h = record v { claim = Some (new_claim i h) }
+
+-- line i was claimed, and its event is in the hand
+pub record HasClaimed (i : ℕ) (m n : Sat) : Type 0 where
+  pub ticket : Pending
+  pub now : n ≡ (claimed_at m.0 i (handle_of ticket), (i, Ticket ticket) ∷ m.1)
+  pub of : (x : Ground) → Contains m.0.keys x → IsPendingOf x.events ticket
+  -- it ends in the evaluation
+  pub ends : (x : Ground) → Contains m.0.keys x → has_ended (evaluation x.graph) i ≡ true
+
+-- the word of line i held r: where that is 2 the line was claimed, else the seat has looked
+abbrev pub claims : ℕ → Sat → ℕ → Sat → Type 0
+claims i m r n = (r ≡ 2 → HasClaimed i m n) × ((r ≡ 2 → ⊥) → looked i m r n)
+
+-- the claim has column c, on which these lines were put back
+abbrev pub took : ℕ → List ℕ → Claim → Claim
+took c ks cl = record cl { columns = (c, ks) ∷ cl.columns }
+
+-- the column of the word w was taken, and is in the hand, as the lines before left it
+pub record HasTurn (w : ℕ) (m n : Sat) : Type 0 where
+  pub back : List ℕ
+  pub now : (x : Ground) (c : ℕ) → Contains m.0.keys x → w ≡ turn_word (size_of x.graph) c →
+      n ≡ (on_claim (took c back) m.0, (column_slot (size_of x.graph) c, Cells (column_with x.graph c (home_cells x.graph back c))) ∷ m.1)
+
+-- the word w, which held r, shows another line than the seat's, where that has not the column
+abbrev pub NotOwn : ℕ → View → ℕ → Type 0
+NotOwn w v r = (x : Ground) (c : ℕ) (cl : Claim) → Contains v.keys x → w ≡ turn_word (size_of x.graph) c → v.claim ≡ Some cl → ((ks : List ℕ) → Contains cl.columns (c, ks) → ⊥) → r ≡ cl.line + 1 → ⊥
+
+-- the word w held r: where that is 0 the column was taken, else another line has it
+abbrev pub turns : ℕ → Sat → ℕ → Sat → Type 0
+turns w m r n = (r ≡ 0 → HasTurn w m n) × ((r ≡ 0 → ⊥) → missed w m r n × NotOwn w m.0 r)
+
+-- a list without its first item
+abbrev pub but_first : {X : Type 0} → List X → List X
+but_first [] = []
+but_first (x ∷ xs) = xs
+
+-- the number of the first column, if there is one
+abbrev pub first_column : List (ℕ × List ℕ) → List ℕ
+first_column [] = []
+first_column (x ∷ xs) = x.0 ∷ []
+
+-- the column that was taken last goes home unused
+abbrev pub unused : Claim → Claim
+unused cl = record cl { columns = but_first cl.columns }
+
+-- or it goes home with the line put back on it
+abbrev pub put_on : Claim → Claim
+put_on cl = record cl { columns = but_first cl.columns; puts = first_column cl.columns ++ cl.puts }
+
+-- the seat gave the column that it took last back, and its slot
+abbrev pub returns_unused : Sat → Sat → Type 0
+returns_unused m n = n ≡ (on_claim unused m.0, rest m.1)
+
+-- the seat put its line back on the column that it took last, and gave its slot back
+abbrev pub puts_back : Sat → Sat → Type 0
+puts_back m n = n ≡ (on_claim put_on m.0, rest m.1)
+
+-- the claim has its reservation, or has it not
+abbrev pub holding : Bool → Claim → Claim
+holding b cl = record cl { holds = b }
+
+-- r shows another line than the seat's, where that holds no reservation
+abbrev pub NotHeld : View → ℕ → Type 0
+NotHeld v r = (cl : Claim) → v.claim ≡ Some cl → cl.holds ≡ false → r ≡ cl.line + 1 → ⊥
+
+-- the word w held r: where that is 0 the reservation was taken, else another line has it
+abbrev pub holds : ℕ → Sat → ℕ → Sat → Type 0
+holds w m r n = (r ≡ 0 → n ≡ (on_claim (holding true) m.0, m.1)) × ((r ≡ 0 → ⊥) → missed w m r n × NotHeld m.0 r)
+
+-- the reservation was let go
+abbrev pub lets_go : Sat → Sat → Type 0
+lets_go m n = n ≡ (on_claim (holding false) m.0, m.1)
+
+-- the claim has freed a reservation
+abbrev pub has_freed : Claim → Claim
+has_freed cl = record cl { freed = true }
+
+-- the seat freed the reservation that its line releases
+abbrev pub frees : Sat → Sat → Type 0
+frees m n = n ≡ (on_claim has_freed m.0, m.1)
+
+-- the arrival of the claim is put in
+abbrev pub put_in : Claim → Claim
+put_in cl = record cl { arrived = true }
+
+-- the seat put in the arrival of its line
+abbrev pub arrives : Sat → Sat → Type 0
+arrives m n = n ≡ (on_claim put_in m.0, m.1)
+
+-- the claim has drawn the time t, and not yet stored it
+abbrev pub drawn : ℕ → Claim → Claim
+drawn t cl = record cl { time = Some t; stored = false }
+
+-- the clock held r, which is the time that was drawn
+abbrev pub draws : Sat → ℕ → Sat → Type 0
+draws m r n = (n ≡ (on_claim (drawn r) m.0, m.1)) × (r ≤ 8192)
+
+-- its time is stored
+abbrev pub has_stored : Claim → Claim
+has_stored cl = record cl { stored = true }
+
+-- a time drawn and stored
+abbrev pub timed_at : ℕ → Claim → Claim
+timed_at t cl = has_stored (drawn t cl)
+
+-- the seat stored the time of its line
+abbrev pub stores : Sat → Sat → Type 0
+stores m n = n ≡ (on_claim has_stored m.0, m.1)
+
+-- the claim is ending with x
+abbrev pub ending_with : End → Claim → Claim
+ending_with x cl = record cl { ends = Some x }
+
+-- the seat stored that its line is ending
+abbrev pub ends : ℕ → Sat → Sat → Type 0
+ends stored m n = n ≡ (on_claim (ending_with (end_of_code (stored - 4))) m.0, m.1)
+
+-- the seat has no claim, and knows that line i has ended with x
+abbrev pub closed_at : View → ℕ → End → View
+closed_at v i x = record v { claim = None; issued = v.issued ++ i ∷ []; ended = v.ended ++ (i, x) ∷ [] }
+
+-- the seat stored that line i has ended, and gave the line's slot back
+abbrev pub closes : ℕ → ℕ → Sat → Sat → Type 0
+closes i stored m n = n ≡ (closed_at m.0 i (end_of_code (stored - 8)), rest m.1)
+
+-- or it gave up its claim, and the line's slot
+abbrev pub unclaims : Sat → Sat → Type 0
+unclaims m n = n ≡ (record m.0 { claim = None }, rest m.1)
+
+-- THE DESK. The seat has its turn, and knows the handles of the lines and what lay on the desk
+abbrev pub with_desk : View → List Handle → Desk → View
+with_desk v hs tray = record v { issued = v.issued ++ numbers_below (length hs); named = v.named ++ hs ∷ []; trays = v.trays ++ tray ∷ []; desk = Some hs }
+
+-- the turn was taken, and what lies on the desk is in the hand
+pub record HasDesk (m n : Sat) : Type 0 where
+  pub handles : List Handle
+  pub tray : Desk
+  pub now : (x : Ground) → Contains m.0.keys x → n ≡ (with_desk m.0 handles tray, (desk_slot (size_of x.graph), Tray tray) ∷ m.1)
+  pub is_tray : (x : Ground) → Contains m.0.keys x → IsTray x.events (length x.graph.lines) handles tray
+  pub few : (x : Ground) → Contains m.0.keys x → length handles ≤ length x.graph.lines
+
+-- the word w held r: where that is 0 the desk's turn was taken, else another seat has it
+abbrev pub takes_desk : ℕ → Sat → ℕ → Sat → Type 0
+takes_desk w m r n = (r ≡ 0 → HasDesk m n) × ((r ≡ 0 → ⊥) → missed w m r n)
+
+-- the handles that go with the turn, if the seat has it
+abbrev pub named_by : Option (List Handle) → List (List Handle)
+named_by None = []
+named_by (Some hs) = hs ∷ []
+
+-- the seat has no turn, and knows the handles of the lines
+abbrev pub without_desk : View → View
+without_desk v = record v { named = v.named ++ named_by v.desk; desk = None }
+
+-- the seat gave the desk's turn, and its slot
+abbrev pub gives_desk : Sat → Sat → Type 0
+gives_desk m n = n ≡ (without_desk m.0, rest m.1)
+
+-- ISSUING. The seat is issuing line i
+abbrev pub issuing_at : View → ℕ → View
+issuing_at v i = record v { issuing = Some i }
+
+-- line i, which no other seat is issuing, is claimed for it, and its slot is in the hand
+abbrev pub begins_issue : ℕ → Sat → ℕ → Sat → Type 0
+begins_issue i m r n = (r ≡ 0) × (n ≡ (issuing_at m.0 i, (i, Nothing) ∷ m.1))
+
+-- the handle of the event on top of the hand
+abbrev pub handles_in : List (ℕ × Content) → List Handle
+handles_in [] = []
+handles_in ((k, Ticket p) ∷ xs) = handle_of p ∷ []
+handles_in ((k, Nothing) ∷ xs) = []
+handles_in ((k, Stub r) ∷ xs) = []
+handles_in ((k, Cells x) ∷ xs) = []
+handles_in ((k, Tray d) ∷ xs) = []
+
+-- line i is known issued, and the list of handles has the new one at its end
+abbrev pub issued_at : View → ℕ → List Handle → View
+issued_at v i new = record v { issued = v.issued ++ i ∷ []; issuing = None; desk = option_map (λ hs. hs ++ new) v.desk }
+
+-- the seat issued line i with the event in its hand, and gave its slot back
+abbrev pub issues : ℕ → Sat → Sat → Type 0
+issues i m n = n ≡ (issued_at m.0 i (handles_in m.1), rest m.1)
+
+-- the seat is issuing nothing
+abbrev pub without_issue : View → View
+without_issue v = record v { issuing = None }
+
+-- or it gave up issuing the line, and the line's slot
+abbrev pub gives_up_issue : Sat → Sat → Type 0
+gives_up_issue m n = n ≡ (without_issue m.0, rest m.1)
+
+-- CUTTING AND JOINING. The view of a seat that was joined into another
+abbrev pub no_view : View
+no_view = record { keys = []; mine = []; births = 0; splits = []; issued = []; ended = []; named = []; saw = []; trays = []; claim = None; issuing = None; desk = None }
+
+-- the number of a seat itself
+abbrev pub own_number : List ℕ → ℕ
+own_number [] = 0
+own_number (n ∷ ns) = n
+
+-- the seat off which another was split
+abbrev pub parent_of : View → View
+parent_of v = record v { births = v.births + 1; splits = v.splits ++ child (own_number v.mine) v.births ∷ [] }
+
+-- the seat that was split off, which knows what the first does and has no right
+abbrev pub child_of : View → View
+child_of v = record no_view { keys = v.keys; mine = child (own_number v.mine) v.births ∷ []; issued = v.issued; ended = v.ended; named = v.named }
+
+-- a seat with what both know, and with the rights of the first
+abbrev pub joined : View → View → View
+joined v w = record v {
+  mine = v.mine ++ w.mine;
+  splits = v.splits ++ w.splits;
+  issued = v.issued ++ w.issued;
+  ended = v.ended ++ w.ended;
+  named = v.named ++ w.named;
+  saw = v.saw ++ w.saw;
+  trays = v.trays ++ w.trays;
+}
+
+-- what issuing in the desk's turn leaves of a view
+abbrev pub after_issue : View → List ℕ → List Handle → View
+after_issue v new hs = record v { issued = v.issued ++ new; issuing = None; desk = Some hs }

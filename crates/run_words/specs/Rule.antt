@@ -1,0 +1,207 @@
+-- The rule of the table of a run: its words, its slots at home and the views of its seats show one sound state of a run.
+use Rattle.std.specs.Prelude.{◌≡◌, ℕ, zero, suc, ◌+◌, ◌<◌, ◌≤◌, ◌↔◌, List, [], ◌∷◌, length, Contains, IsTrue, Some, None, slice_get, slice_index, slice_index_or}
+use Rattle.std.specs.Vec.{vec_capacity}
+use mathlib.Core.Option.{none, some}
+use lib.ListN.{get_elem?}
+use Rattle.atomic_table.specs.Table.{State}
+use Rattle.index_spaces.specs.Column.{ColumnValue}
+use Rattle.graph_model.specs.declared.outcome.End.{End}
+use Rattle.graph_model.specs.declared.outcome.End.TheVariants.{Done, Faulted, Cancelled, Waiting}
+use Rattle.graph_model.specs.Graph.{GraphValue, column_space}
+use Rattle.graph_model.specs.Rules.{Acquires}
+use Rattle.basics.specs.Sums.{total, only}
+use Rattle.gen_events.specs.Seats.{HasSeen, no_event, Begins}
+use Rattle.gen_events.specs.Views.{lists, IsAt, IsMakerOf, IsPendingOf, IsReceiptOf, IsWaiterOf, made_by, handle_of, ended_by, fate_of, number_of}
+use Rattle.gen_events.specs.declared.handle.Handle.{Handle}
+use Rattle.gen_events.specs.declared.handle.Fate.{Fate}
+use Rattle.gen_events.specs.declared.handle.Fate.TheVariants.{Ok, Poison}
+use Rattle.gen_events.specs.declared.tokens.Pending.{Pending}
+use Rattle.gen_events.specs.declared.tokens.Receipt.{Receipt}
+use Rattle.gen_events.specs.declared.tokens.Waiter.{Waiter}
+use Rattle.gen_events.specs.declared.events.Events.{Events}
+use Rattle.run_state.specs.Run.{LineStage, Unissued, Issued, Out, Ending, Ended, Place, Home, Had, Run, is_listed, stage_at, time_at, place_at, list_at, issued}
+use Rattle.run_state.specs.Sound.{Sound}
+use Rattle.run_words.specs.declared.content.Desk.{Desk}
+use Rattle.run_words.specs.declared.content.Content.{Content}
+use Rattle.run_words.specs.declared.content.Content.TheVariants.{Nothing, Ticket, Stub, Cells, Tray}
+use Rattle.run_words.specs.declared.view.View.{View}
+use Rattle.run_words.specs.Claims.{Ground, Claim}
+use Rattle.run_words.specs.Layout.{Size, size_of, status_word, time_word, value_word, turn_word, lock_word, clock_word, desk_word, word_count, line_slot, column_slot, desk_slot, slot_count}
+use Rattle.run_words.specs.Views.{time_code, runs_at, issues_at, owes_at, has_desk, busy, working}
+
+-- the graph of a run with the events of its lines
+abbrev pub ground : GraphValue → Events → Ground
+ground g e = record { graph = g; events = e }
+
+-- LINES. The code of an end
+abbrev pub end_code : End → ℕ
+end_code Done = 0
+end_code Faulted = 1
+end_code Cancelled = 2
+end_code Waiting = 3
+
+-- the fate with which the event of a line ends
+abbrev pub fate_for : End → Fate
+fate_for Done = Ok
+fate_for Faulted = Poison
+fate_for Cancelled = Poison
+fate_for Waiting = Ok
+
+-- at home lies the event that has this handle
+pub record HasTicket (e : Events) (h : Handle) (home : mathlib.Core.Option.Option Content) : Type 0 where
+  pub ticket : Pending
+  pub here : home ≡ some (Ticket ticket)
+  pub of : IsPendingOf e ticket
+  pub named : handle_of ticket ≡ h
+
+-- at home lies its receipt, with the fate of this end
+pub record HasStub (e : Events) (h : Handle) (x : End) (home : mathlib.Core.Option.Option Content) : Type 0 where
+  pub stub : Receipt
+  pub here : home ≡ some (Stub stub)
+  pub of : IsReceiptOf e stub
+  pub named : ended_by stub ≡ h
+  pub told : fate_of stub ≡ fate_for x
+
+-- the word and the slot of a line of this stage, which k seats are issuing
+abbrev pub LineShown : Events → Handle → LineStage → ℕ → ℕ → mathlib.Core.Option.Option Content → Type 0
+LineShown e h Unissued zero w home = (w ≡ 0) × (home ≡ some Nothing)
+LineShown e h Unissued (suc k) w home = (k ≡ 0) × (w ≡ 1) × (home ≡ none)
+LineShown e h Issued k w home = (k ≡ 0) × (w ≡ 2) × HasTicket e h home
+LineShown e h Out k w home = (k ≡ 0) × (w ≡ 3) × (home ≡ none)
+LineShown e h (Ending x) k w home = (k ≡ 0) × (w ≡ 4 + end_code x) × (home ≡ none)
+LineShown e h (Ended x) k w home = (k ≡ 0) × (w ≡ 8 + end_code x) × HasStub e h x home
+
+-- the same, with what is at home in this slot
+pub record LineAt (e : Events) (h : Handle) (stage : LineStage) (k w : ℕ) (homes : List (mathlib.Core.Option.Option Content)) (slot : ℕ) : Type 0 where
+  pub home : mathlib.Core.Option.Option Content
+  pub at : get_elem? homes slot ≡ some home
+  pub shown : LineShown e h stage k w home
+
+-- the handle of line i, and no_event where it is not issued
+abbrev pub handle_at : List Handle → ℕ → Handle
+handle_at handles i = slice_index_or handles i no_event
+
+-- COLUMNS. Column c with these cells
+abbrev pub column_with : GraphValue → ℕ → List ℕ → ColumnValue
+column_with g c xs = record { space = column_space g c; cells = xs }
+
+-- the word and the slot of a column at this place
+abbrev pub ColumnShown : GraphValue → ℕ → Place → ℕ → mathlib.Core.Option.Option Content → Type 0
+ColumnShown g c (Home xs) w home = (w ≡ 0) × (home ≡ some (Cells (column_with g c xs)))
+ColumnShown g c (Had i) w home = (w ≡ i + 1) × (home ≡ none)
+
+-- the same, with what is at home in this slot
+pub record ColumnAt (g : GraphValue) (c : ℕ) (place : Place) (w : ℕ) (homes : List (mathlib.Core.Option.Option Content)) (slot : ℕ) : Type 0 where
+  pub home : mathlib.Core.Option.Option Content
+  pub at : get_elem? homes slot ≡ some home
+  pub shown : ColumnShown g c place w home
+
+-- RESERVATIONS. The word of one with these holders
+abbrev pub lock_code : List ℕ → ℕ
+lock_code [] = 0
+lock_code (q ∷ qs) = q + 1
+
+-- THE DESK, where these are the handles of the lines
+pub record IsTray (e : Events) (lines : ℕ) (handles : List Handle) (d : Desk) : Type 0 where
+  pub maker : IsMakerOf e d.maker
+  pub made : made_by d.maker ≡ handles
+  pub listed : d.handles.items ≡ handles
+  pub room : lines ≤ vec_capacity d.handles
+  pub seat : IsAt e d.seat
+  pub seen : (h : Handle) → Contains handles h → HasSeen (lists d.seat) h
+  pub places : length d.waiters.items ≡ lines
+  pub waiters : (k : ℕ) (w : Waiter) → slice_get d.waiters.items k ≡ Some (Some w) → (number_of w ≡ k) × IsWaiterOf e w
+
+-- at home lies a tray with these handles
+pub record HasTray (e : Events) (lines : ℕ) (handles : List Handle) (home : mathlib.Core.Option.Option Content) : Type 0 where
+  pub tray : Desk
+  pub here : home ≡ some (Tray tray)
+  pub is_tray : IsTray e lines handles tray
+
+-- the word and the slot of the desk, whose turn k seats have
+abbrev pub DeskShown : Events → ℕ → List Handle → ℕ → ℕ → mathlib.Core.Option.Option Content → Type 0
+DeskShown e lines handles zero w home = (w ≡ 0) × HasTray e lines handles home
+DeskShown e lines handles (suc k) w home = (k ≡ 0) × (w ≡ 1) × (home ≡ none)
+
+-- the same, with what is at home in this slot
+pub record DeskAt (e : Events) (lines : ℕ) (handles : List Handle) (k w : ℕ) (homes : List (mathlib.Core.Option.Option Content)) (slot : ℕ) : Type 0 where
+  pub home : mathlib.Core.Option.Option Content
+  pub at : get_elem? homes slot ≡ some home
+  pub shown : DeskShown e lines handles k w home
+
+-- the handles are those of the issued lines, in file order, and differ
+pub record AreHandles (stages : List LineStage) (handles : List Handle) : Type 0 where
+  pub each_issued : (i : ℕ) → IsTrue (issued stages i) ↔ (i < length handles)
+  pub once : (a b : ℕ) (h : Handle) → slice_get handles a ≡ Some h → slice_get handles b ≡ Some h → a ≡ b
+
+-- ALL WORDS AND SLOTS show this run and these handles, where the seats issue, owe and have as much as is told
+pub record WordsShow (g : GraphValue) (e : Events) (z : Size) (run : Run) (handles : List Handle) (issues owes : ℕ → ℕ) (desks : ℕ) (words : List ℕ) (homes : List (mathlib.Core.Option.Option Content)) : Type 0 where
+  pub wide : length words ≡ word_count z
+  pub deep : length homes ≡ slot_count z
+  pub lines : (i : ℕ) → i < z.lines → LineAt e (handle_at handles i) (stage_at run.stages i) (issues i) (slice_index words (status_word z i)) homes (line_slot z i)
+  pub times : (i : ℕ) → i < z.lines → slice_index words (time_word z i) + owes i ≡ time_code (time_at run.times i)
+  pub values : (p : ℕ) → p < z.lines → slice_index words (value_word z p) ≡ slice_index run.values p
+  pub columns : (c : ℕ) → c < z.cols → ColumnAt g c (place_at run.places c) (slice_index words (turn_word z c)) homes (column_slot z c)
+  pub locks : (l : ℕ) → l < z.holds → slice_index words (lock_word z l) ≡ lock_code (list_at run.holders l)
+  pub clock : slice_index words (clock_word z) ≡ run.clock
+  pub desk : DeskAt e z.lines handles desks (slice_index words (desk_word z)) homes (desk_slot z)
+
+-- A VIEW
+-- how far the work of a line has come
+pub record Progress (g : GraphValue) (run : Run) (c : Claim) : Type 0 where
+  pub stage : stage_at run.stages c.line ≡ working c.ends
+  pub has : (k : ℕ) (ks : List ℕ) → Contains c.columns (k, ks) → (place_at run.places k ≡ Had c.line) × (list_at run.back k ≡ ks)
+  pub only : (k : ℕ) → place_at run.places k ≡ Had c.line → (ks : List ℕ) × Contains c.columns (k, ks)
+  pub puts : (k : ℕ) → is_listed (list_at run.back k) c.line ≡ is_listed c.puts k
+  pub arrived : is_listed run.arrived c.line ≡ c.arrived
+  pub holds : (l : ℕ) → Acquires g c.line l → is_listed (list_at run.holders l) c.line ≡ c.holds
+  pub time : time_at run.times c.line ≡ c.time
+  pub freed : is_listed run.freed c.line ≡ c.freed
+
+-- what a seat knows and has holds of this run and these handles
+pub record Fits (g : GraphValue) (e : Events) (run : Run) (handles : List Handle) (v : View) : Type 0 where
+  pub keys : (x : Ground) → Contains v.keys x → x ≡ ground g e
+  pub issued : (i : ℕ) → Contains v.issued i → IsTrue (issued run.stages i)
+  pub ended : (i : ℕ) (x : End) → Contains v.ended (i, x) → stage_at run.stages i ≡ Ended x
+  pub named : (hs : List Handle) → Contains v.named hs → Begins hs handles
+  pub claim : (c : Claim) → v.claim ≡ Some c → Progress g run c
+  pub event : (c : Claim) → v.claim ≡ Some c → handle_at handles c.line ≡ c.event
+  -- it issues one line in the desk's turn
+  pub issuing : (i : ℕ) → v.issuing ≡ Some i → (stage_at run.stages i ≡ Unissued) × (i < length g.lines)
+  pub issuer : (i : ℕ) → v.issuing ≡ Some i → (hs : List Handle) × (v.desk ≡ Some hs)
+  pub desk : (hs : List Handle) → v.desk ≡ Some hs → hs ≡ handles
+  -- a seat that was joined away has no rights
+  pub idle : v.mine ≡ [] → (v.claim ≡ None) × (v.issuing ≡ None) × (v.desk ≡ None)
+
+-- NUMBERS. The number of the seat that is split off as the c-th of the seat with number p
+abbrev pub child : ℕ → ℕ → ℕ
+child p zero = p + p + 1
+child p (suc c) = child p c + child p c
+
+-- each seat has a number of its own, by which it is told whether all that were split off were joined
+pub record AreNumbered (views : List View) : Type 0 where
+  -- the numbers of seats that are there or were joined are 0 and those of seats that were split off
+  pub counted : (f : ℕ → ℕ) → total (λ (v : View). total f v.mine) views ≡ f 0 + total (λ (v : View). total f v.splits) views
+  -- no two seats have one number
+  pub once : (n : ℕ) → total (λ (v : View). total (only n) v.mine) views ≤ 1
+  -- a seat that was split off has a number above that of its parent
+  pub above : (j : ℕ) (v : View) (n : ℕ) → get_elem? views j ≡ some v → Contains v.splits n → (p : ℕ) × Contains v.mine p × (p < n)
+  -- and it was the next of the parent, which is there or was joined
+  pub born : (j : ℕ) (v : View) (n : ℕ) → get_elem? views j ≡ some v → Contains v.splits n →
+      (p c : ℕ) × (n ≡ child p c) × (0 < total (λ (u : View). total (only p) u.mine) views) × ((k : ℕ) (u : View) (rest : List ℕ) → get_elem? views k ≡ some u → u.mine ≡ p ∷ rest → c < u.births)
+
+-- THE WHOLE RULE. Words, slots at home and views show one sound state of a run
+pub record Shown (g : GraphValue) (e : Events) (s : State Content View) : Type 0 where
+  pub run : Run
+  pub handles : List Handle
+  pub sound : Sound g run
+  pub are_handles : AreHandles run.stages handles
+  pub words : WordsShow g e (size_of g) run handles (λ i. total (issues_at i) s.views) (λ i. total (owes_at i) s.views) (total has_desk s.views) s.words s.homes
+  pub each_view : (j : ℕ) (v : View) → get_elem? s.views j ≡ some v → Fits g e run handles v
+  -- the work of a line is with one seat where the line is out or ending, and else with none
+  pub works : (i : ℕ) → total (runs_at i) s.views ≡ busy (stage_at run.stages i)
+  pub numbers : AreNumbered s.views
+
+-- the view of the first seat
+abbrev pub opener : GraphValue → Events → View
+opener g e = record { keys = ground g e ∷ []; mine = 0 ∷ []; births = 0; splits = []; issued = []; ended = []; named = []; saw = []; trays = []; claim = None; issuing = None; desk = None }

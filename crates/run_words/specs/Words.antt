@@ -1,0 +1,76 @@
+-- Seats at their words.
+use Rattle.std.specs.Prelude.{◌≡◌, ◌≢◌, ℕ, ◌<◌, List, [], ◌∷◌, ◌++◌, Contains}
+use Rattle.atomic_table.specs.declared.shared.Seat as table
+use Rattle.graph_model.specs.Graph.{GraphValue}
+use Rattle.gen_events.specs.declared.events.Events.{Events}
+use Rattle.gen_events.specs.declared.handle.Handle.{Handle}
+use Rattle.gen_events.specs.declared.handle.Shape.{Shape}
+use Rattle.run_words.specs.declared.content.Content.{Content}
+use Rattle.run_words.specs.declared.view.View.{View}
+use Rattle.run_words.specs.declared.words.Words.{Words}
+use Rattle.run_words.specs.declared.seats.WordSeat.{WordSeat}
+use Rattle.gen_events.specs.declared.tokens.Seat.{Seat}
+use Rattle.gen_events.specs.Views as events
+use Rattle.graph_model.specs.declared.outcome.End.{End}
+use Rattle.run_words.specs.Rule.{ground}
+
+-- the graph of these words
+abbrev pub graph_of : Words → GraphValue
+graph_of w = w.base.checked.now.graph
+
+-- the events of its lines
+abbrev pub events_of : Words → Events
+events_of w = w.base.events
+
+-- the seat is one of these words
+abbrev pub IsSeatOf : Words → table.Seat Content View → Type 0
+IsSeatOf w s = (s.table_id ≡ w.table.shared.table_id) × (s.me.0.keys ≡ ground (graph_of w) (events_of w) ∷ [])
+
+-- the seat of a thread is one of these words
+abbrev pub IsAt : Words → WordSeat → Type 0
+IsAt w s = IsSeatOf w s.inner × events.IsAt (events_of w) s.events
+
+-- the seat knows that line i is issued
+pub record KnowsIssued (s : WordSeat) (i : ℕ) : Type 0 where
+  pub known : Contains s.inner.me.0.issued i
+
+-- the seat knows that line i has ended with x
+pub record KnowsEnded (s : WordSeat) (i : ℕ) (x : End) : Type 0 where
+  pub known : Contains s.inner.me.0.ended (i, x)
+
+-- its number with those of the seats joined into it
+abbrev pub numbers_of : WordSeat → List ℕ
+numbers_of s = s.inner.me.0.mine
+
+-- the numbers of the seats that were split off it, and off those joined into it
+abbrev pub splits_of : WordSeat → List ℕ
+splits_of s = s.inner.me.0.splits
+
+-- each word that it loaded, with what it held
+abbrev pub saw_of : WordSeat → List (ℕ × ℕ)
+saw_of s = s.inner.me.0.saw
+
+-- its seat at the events
+abbrev pub events_seat : WordSeat → Seat
+events_seat s = s.events
+
+-- every seat split off was joined
+pub record HasAll (s : WordSeat) : Type 0 where
+  pub first : Contains (numbers_of s) 0
+  pub each : (n : ℕ) → Contains (splits_of s) n → Contains (numbers_of s) n
+
+-- in between, the seat found r in the word w
+abbrev pub Found : WordSeat → WordSeat → ℕ → ℕ → Type 0
+Found s t w r = (found : List (ℕ × ℕ)) × (saw_of t ≡ saw_of s ++ found) × Contains found (w, r)
+
+-- in between, the seat found that the word was not 0
+abbrev pub FoundTaken : WordSeat → WordSeat → ℕ → Type 0
+FoundTaken s t w = (r : ℕ) × (r ≢ 0) × (saw_of t ≡ saw_of s ++ (w, r) ∷ [])
+
+-- it knows that the handles of the lines begin with these
+pub record KnowsHandles (s : WordSeat) (handles : List Handle) : Type 0 where
+  pub known : Contains s.inner.me.0.named handles
+
+-- a seat at the events of these words
+abbrev pub IsEventSeat : Words → Seat → Type 0
+IsEventSeat w s = events.IsAt (events_of w) s

@@ -1,0 +1,128 @@
+//! What the words of a run show once no other seat can step.
+
+ghost use Rattle.std.specs.Prelude.{◌≡◌, ℕ, ◌+◌, ◌<◌, length, Some, slice_get, slice_index, Option, None};
+ghost use Rattle.std.specs.Slots.{slots_items, slots_len, IsFull};
+ghost use Rattle.graph_model.specs.Graph.{verb_at};
+ghost use Rattle.run_words.specs.Layout.{size_of, value_word, word_count};
+ghost use Rattle.run_words.specs.Reading.{stage_for, end_for, time_for, state_for, value_for};
+ghost use Rattle.run_words.specs.Rule.{handle_at};
+
+use crate::content::Content;
+use atomic_table::Closed;
+use gen_events::{Handle, NO_EVENT};
+use graph_model::graph::Graph;
+use graph_model::lists::ValueList;
+use graph_model::outcome::End;
+use graph_model::verb::Verb;
+use run_core::{LineState, Stage, StateList};
+use std::alloc::Global;
+
+/// What a word holds.
+fn word_at(closed: &Closed<Content, Global>, k: usize) -> u64
+    requires full { IsFull closed.now.words }
+    requires near { k < slots_len closed.now.words }
+    ensures { result ≡ slice_index (slots_items closed.now.words) k }
+{
+    *closed.words.get(k)
+}
+
+/// How far a line has come, by its status word, where no work is out.
+fn stage_for(status: u64) -> Stage
+    ensures { result ≡ stage_for status }
+{
+    match status {
+        0 => Stage::Unissued,
+        2 => Stage::Issued,
+        _ => Stage::Ended,
+    }
+}
+
+/// How it has ended, if it has.
+fn end_for(status: u64) -> End
+    ensures { result ≡ end_for status }
+{
+    match status {
+        8 => End::Done,
+        9 => End::Faulted,
+        10 => End::Cancelled,
+        _ => End::Waiting,
+    }
+}
+
+/// The time in a time word, which is one more than it, and 0 where it has none.
+fn time_for(word: u64) -> u32
+    ensures { result ≡ time_for word }
+{
+    (word.saturating_sub(1) % 4_294_967_296) as u32
+}
+
+/// The handle of a line, `NO_EVENT` where it isn't issued.
+fn handle_at(handles: &[Handle], line: u32) -> Handle
+    ensures { result ≡ handle_at handles.now line }
+{
+    match handles.get(line as usize) {
+        Some(handle) => *handle,
+        None => NO_EVENT,
+    }
+}
+
+/// The states of the lines.
+pub(crate) fn states_of(
+    graph: &Graph,
+    closed: &Closed<Content, Global>,
+    handles: &[Handle],
+    mut states: StateList,
+) -> StateList
+    requires full { IsFull closed.now.words }
+    requires wide { slots_len closed.now.words ≡ word_count (size_of graph.now) }
+    requires each { length states ≡ length graph.now.lines }
+    ensures each { length result ≡ length graph.now.lines }
+    ensures states { (i : ℕ) → i < length graph.now.lines → slice_get result i
+        ≡ Some (state_for (slots_items closed.now.words) (size_of graph.now) handles.now i) }
+{
+    let lines = graph.lines();
+    for line in 0..lines {
+        let status = word_at(closed, line as usize);
+        let time = word_at(closed, lines as usize + line as usize);
+        let state = LineState {
+            stage: stage_for(status),
+            end: end_for(status),
+            handle: handle_at(handles, line),
+            time: time_for(time),
+        };
+        states.set(line, state);
+    }
+    states
+}
+
+/// The value of a phase, and none for another line.
+fn value_for(graph: &Graph, line: u32, value: u64) -> Option<u64>
+    requires { line < length graph.now.lines }
+    ensures { result ≡ value_for (verb_at graph.now line) value }
+{
+    match &graph.line(line).verb {
+        Verb::Phase { .. } => Some(value),
+        _ => None,
+    }
+}
+
+/// The values of the phases.
+pub(crate) fn values_of(
+    graph: &Graph,
+    closed: &Closed<Content, Global>,
+    mut values: ValueList,
+) -> ValueList
+    requires full { IsFull closed.now.words }
+    requires wide { slots_len closed.now.words ≡ word_count (size_of graph.now) }
+    requires each { length values ≡ length graph.now.lines }
+    ensures each { length result ≡ length graph.now.lines }
+    ensures values { (i : ℕ) → i < length graph.now.lines → slice_get result i
+        ≡ Some (value_for (verb_at graph.now i) (slice_index (slots_items closed.now.words) (value_word (size_of graph.now) i))) }
+{
+    let lines = graph.lines();
+    for line in 0..lines {
+        let value = word_at(closed, 2 * lines as usize + line as usize);
+        values.set(line, value_for(graph, line, value));
+    }
+    values
+}

@@ -1,0 +1,195 @@
+//! Issuing lines.
+
+ghost use Rattle.std.specs.Prelude.{ℕ, List, ◌≡◌, ◌≢◌, ◌+◌, ◌<◌, ◌≤◌, ◌∷◌, ◌++◌, [], true, false, Some, None, length, Contains, IfSome, IfNone};
+ghost use Rattle.std.specs.Vec.{vec_capacity};
+ghost use Rattle.graph_model.specs.declared.outcome.End.{End as TheEnd};
+ghost use Rattle.gen_events.specs.declared.handle.Handle.{Handle as TheHandle};
+ghost use Rattle.gen_events.specs.Seats.{Keeps};
+ghost use Rattle.gen_events.specs.Views.{shape_of, lists, IsFull as FoundFull};
+ghost use Rattle.run_words.specs.declared.content.Content.{Content as TheContent};
+ghost use Rattle.run_words.specs.declared.content.Content.TheVariants.{Nothing, Tray};
+ghost use Rattle.run_words.specs.declared.content.Desk.{Desk as TheDesk};
+ghost use Rattle.run_words.specs.Layout.{size_of, desk_slot, desk_word};
+ghost use Rattle.run_words.specs.Plays.{issued_at, without_issue, with_desk, without_desk, missed, after_issue};
+ghost use Rattle.run_words.specs.Premises.{IsNumbered};
+ghost use Rattle.run_words.specs.Rule.{IsTray};
+ghost use Rattle.run_words.specs.Words.{graph_of, events_of, IsSeatOf, IsAt, KnowsIssued, KnowsEnded, KnowsHandles, IsEventSeat, FoundTaken, events_seat, numbers_of, splits_of};
+
+use crate::content::{Content, Desk};
+use crate::moves::Place;
+use crate::seats::WordSeat;
+use crate::words::Words;
+use gen_events::{Handle, Seat};
+use graph_model::graph::Graph;
+use run_core::Issue;
+
+/// Puts a handle at the end of a list that has room for it.
+fn push_within(handles: &mut Vec<Handle>, handle: Handle)
+    requires { length handles.old.items < vec_capacity handles.old }
+    ensures items { handles.new.items ≡ handles.old.items ++ handle ∷ [] }
+    ensures capacity { vec_capacity handles.old ≤ vec_capacity handles.new }
+{
+    match handles.push(handle) {
+        Ok(()) => {}
+        Err(_) => unreachable!(),
+    }
+}
+
+/// What lies on the desk.
+pub(crate) fn tray_of(content: Content) -> Desk
+    requires { (d : TheDesk) × (content ≡ Tray d) }
+    ensures { content ≡ Tray result }
+{
+    let Content::Tray(desk) = content else {
+        unreachable!()
+    };
+    desk
+}
+
+/// The slot of the desk.
+pub(crate) fn desk_slot(graph: &Graph) -> usize
+    ensures { result ≡ desk_slot (size_of graph.now) }
+{
+    graph.lines() as usize + graph.columns() as usize
+}
+
+impl<'g> Words<'g> {
+    /// The slot of the desk.
+    pub(crate) fn desk_slot(&self) -> usize
+        ensures { result ≡ desk_slot (size_of (graph_of self.now)) }
+    {
+        desk_slot(self.base.checked.graph())
+    }
+
+    /// Issues the next line, in the desk's turn and with what lies on the desk. False comes where
+    /// each event slot was found pending or retired. Nobody else issues in this turn, so the line is
+    /// claimed at the first try.
+    fn issue_next(&self, seat: &mut Place, events: &mut Seat, desk: &mut Desk, line: u32) -> bool
+        requires at { IsSeatOf self.now seat.old }
+        requires events { IsEventSeat self.now events.old }
+        requires line { line < length (graph_of self.now).lines }
+        requires quiet { seat.old.me.0.issuing ≡ None }
+        requires turn { seat.old.me.0.desk ≡ Some desk.old.handles.items }
+        requires next { length desk.old.handles.items ≡ line }
+        requires tray { IsTray (events_of self.now) (length (graph_of self.now).lines) desk.old.handles.items desk.old }
+        ensures at { IsSeatOf self.now seat.new }
+        ensures tray { IsTray (events_of self.now) (length (graph_of self.now).lines) desk.new.handles.items desk.new }
+        ensures events { IsEventSeat self.now events.new }
+        ensures kept { Keeps (lists events.old) (lists events.new) }
+        ensures issued { result ≡ true → (h : TheHandle) × (desk.new.handles.items ≡ desk.old.handles.items ++ h ∷ [])
+            × (seat.new.me ≡ (issued_at seat.old.me.0 line (h ∷ []), seat.old.me.1)) }
+        ensures full { result ≡ false → (desk.new.handles.items ≡ desk.old.handles.items)
+            × (seat.new.me ≡ (without_issue seat.old.me.0, seat.old.me.1))
+            × FoundFull (shape_of (events_of self.now)) desk.new.handles.items (lists events.old) (lists events.new) }
+    {
+        self.begin_issue(seat, line);
+        match self.base.events.create(&mut desk.maker, events) {
+            Some(mut pending) => {
+                // The seat on the desk has then seen the handles of all issued lines, as who watches
+                // one must.
+                self.base.events.see(&mut desk.seat, &mut pending);
+                push_within(&mut desk.handles, pending.handle());
+                self.put_in(seat, line as usize, Content::Ticket(pending));
+                self.store_issue(seat, line);
+                true
+            }
+            None => {
+                self.give_up_issue(seat, line);
+                false
+            }
+        }
+    }
+
+    /// Takes the desk's turn and what lies on the desk. None comes where the turn was found in
+    /// another's hand.
+    pub(crate) fn take_tray(&self, seat: &mut Place) -> Option<Desk>
+        requires at { IsSeatOf self.now seat.old }
+        requires idle { seat.old.me.0.desk ≡ None }
+        requires numbered { IsNumbered seat.old.me.0 }
+        ensures at { IsSeatOf self.now seat.new }
+        ensures tray { IfSome result (λ d. IsTray (events_of self.now) (length (graph_of self.now).lines) d.handles.items d
+            × (length d.handles.items ≤ length (graph_of self.now).lines)) }
+        ensures taken { IfSome result (λ d. seat.new.me
+            ≡ (with_desk seat.old.me.0 d.handles.items d, (desk_slot (size_of (graph_of self.now)), Nothing) ∷ seat.old.me.1)) }
+        ensures none { IfNone result ((r : ℕ) × (r ≢ 0) × missed (desk_word (size_of (graph_of self.now))) seat.old.me r seat.new.me) }
+    {
+        if self.take_desk(seat) != 0 {
+            return None;
+        }
+        let slot = self.desk_slot();
+        Some(tray_of(self.take_out(seat, slot)))
+    }
+
+    /// Lays things on the desk and gives its turn.
+    pub(crate) fn give_tray(&self, seat: &mut Place, desk: Desk)
+        requires at { IsSeatOf self.now seat.old }
+        requires quiet { seat.old.me.0.issuing ≡ None }
+        requires turn { seat.old.me.0.desk ≡ Some desk.handles.items }
+        requires tray { IsTray (events_of self.now) (length (graph_of self.now).lines) desk.handles.items desk }
+        requires hand { (left : List (ℕ × TheContent)) × (seat.old.me.1 ≡ (desk_slot (size_of (graph_of self.now)), Nothing) ∷ left) }
+        ensures at { IsSeatOf self.now seat.new }
+        ensures given { (left : List (ℕ × TheContent)) → seat.old.me.1 ≡ (desk_slot (size_of (graph_of self.now)), Nothing) ∷ left
+            → seat.new.me ≡ (without_desk seat.old.me.0, left) }
+    {
+        let slot = self.desk_slot();
+        self.put_in(seat, slot, Content::Tray(desk));
+        self.give_desk(seat);
+    }
+
+    /// Issues the next line, if one is left, in the desk's turn.
+    fn issue_in_turn(&self, seat: &mut Place, events: &mut Seat, desk: &mut Desk) -> Issue
+        requires at { IsSeatOf self.now seat.old }
+        requires events { IsEventSeat self.now events.old }
+        requires quiet { seat.old.me.0.issuing ≡ None }
+        requires turn { seat.old.me.0.desk ≡ Some desk.old.handles.items }
+        requires few { length desk.old.handles.items ≤ length (graph_of self.now).lines }
+        requires tray { IsTray (events_of self.now) (length (graph_of self.now).lines) desk.old.handles.items desk.old }
+        ensures at { IsSeatOf self.now seat.new }
+        ensures tray { IsTray (events_of self.now) (length (graph_of self.now).lines) desk.new.handles.items desk.new }
+        ensures now { (new : List ℕ) × (seat.new.me ≡ (after_issue seat.old.me.0 new desk.new.handles.items, seat.old.me.1)) }
+        ensures issued { (i : ℕ) → result ≡ Issue.Issued i → Contains seat.new.me.0.issued i × (i < length (graph_of self.now).lines) }
+        ensures all { result ≡ Issue.All → (length desk.new.handles.items ≡ length (graph_of self.now).lines)
+            × (desk.new.handles.items ≡ desk.old.handles.items) }
+        ensures events { IsEventSeat self.now events.new }
+        ensures kept { Keeps (lists events.old) (lists events.new) }
+        ensures full { result ≡ Issue.NoSlot
+            → FoundFull (shape_of (events_of self.now)) desk.new.handles.items (lists events.old) (lists events.new) }
+        ensures not_other { result ≡ Issue.Other → ⊥ }
+    {
+        let lines = self.base.checked.graph().lines();
+        let line = desk.handles.len() as u32;
+        if line >= lines {
+            return Issue::All;
+        }
+        if self.issue_next(seat, events, desk, line) {
+            Issue::Issued(line)
+        } else {
+            Issue::NoSlot
+        }
+    }
+
+    /// Issues the next line in file order, in the desk's turn. NoSlot comes only where loads of this
+    /// call, which the seat then shows, found each event slot retired or pending; All only where the
+    /// seat then knows every line issued; Other only where the desk's turn was found in another's
+    /// hand.
+    pub fn issue(&self, seat: &mut WordSeat) -> Issue
+        requires at { IsAt self.now seat.old }
+        ensures at { IsAt self.now seat.new }
+        ensures kept_issued { (i : ℕ) → KnowsIssued seat.old i → KnowsIssued seat.new i }
+        ensures kept_ended { (i : ℕ) (x : TheEnd) → KnowsEnded seat.old i x → KnowsEnded seat.new i x }
+        ensures issued { (i : ℕ) → result ≡ Issue.Issued i → KnowsIssued seat.new i × (i < length (graph_of self.now).lines) }
+        ensures all { result ≡ Issue.All → (i : ℕ) → i < length (graph_of self.now).lines → KnowsIssued seat.new i }
+        ensures kept_events { Keeps (lists (events_seat seat.old)) (lists (events_seat seat.new)) }
+        ensures full { result ≡ Issue.NoSlot → (handles : List TheHandle) × KnowsHandles seat.new handles
+            × FoundFull (shape_of (events_of self.now)) handles (lists (events_seat seat.old)) (lists (events_seat seat.new)) }
+        ensures other { result ≡ Issue.Other → FoundTaken seat.old seat.new (desk_word (size_of (graph_of self.now))) }
+        ensures numbers { (numbers_of seat.new ≡ numbers_of seat.old) × (splits_of seat.new ≡ splits_of seat.old) }
+    {
+        let Some(mut desk) = self.take_tray(&mut seat.inner) else {
+            return Issue::Other;
+        };
+        let answer = self.issue_in_turn(&mut seat.inner, &mut seat.events, &mut desk);
+        self.give_tray(&mut seat.inner, desk);
+        answer
+    }
+}
