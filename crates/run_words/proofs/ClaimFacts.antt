@@ -4,9 +4,9 @@ use Rattle.std.specs.Prelude.{Contains, Some, None, slice_get}
 use Rattle.std.proofs.lemmas.Bool.{cases_eq}
 use Rattle.std.proofs.lemmas.Option.{none-some, same_Some, slice_get_within}
 use Rattle.index_spaces.specs.Column.{ColumnValue}
-use Rattle.graph_model.specs.declared.outcome.End.TheVariants.{Cancelled}
-use Rattle.graph_model.specs.Graph.{GraphValue}
-use Rattle.graph_model.specs.Evaluation.{eval_end}
+use Rattle.graph_model.specs.declared.meaning.outcome.End.TheVariants.{Cancelled}
+use Rattle.graph_model.specs.graph.Graph.{GraphValue}
+use Rattle.graph_model.specs.meaning.Evaluation.{eval_end}
 use Rattle.gen_events.specs.declared.events.Events.{Events}
 use Rattle.gen_events.proofs.Members.{Contains-head, Contains-tail}
 use Rattle.line_effects.proofs.MoveFacts.{moves_few}
@@ -16,7 +16,7 @@ use Rattle.run_words.specs.declared.content.Content.{Content}
 use Rattle.run_words.specs.declared.view.View.{View}
 use Rattle.run_words.specs.Claims.{Claim}
 use Rattle.run_words.specs.Layout.{size_of, turn_word}
-use Rattle.run_words.specs.Rule.{ground}
+use Rattle.run_words.specs.Rule.{ground_of}
 use Rattle.run_words.specs.Plays.{Sat, looked, looked_at, saw_at}
 use Rattle.run_words.specs.Laden.{Stacked, Taking, TakingAs}
 use Rattle.run_words.specs.Works.{Loaded}
@@ -60,7 +60,7 @@ all_had g line columns s c a =
     had_of (column_list g line) 3 columns s at.0 c (omega (arith, low, few)) at.1
 
 -- a line that has taken all is loaded once it looked
-pub loaded_of : (g : GraphValue) (e : Events) (line : ℕ) (v : View) (cl : Claim) (left : List (ℕ × Content)) (m n : Sat) (held : List (ℕ × ColumnValue)) (r : ℕ) → m.0.keys ≡ ground g e ∷ [] → Taking g line 3 v cl left m held → looked line m r n → Loaded g line (looked_at v line r) cl left n held
+pub loaded_of : (g : GraphValue) (e : Events) (line : ℕ) (v : View) (cl : Claim) (left : List (ℕ × Content)) (m n : Sat) (held : List (ℕ × ColumnValue)) (r : ℕ) → m.0.keys ≡ ground_of g e ∷ [] → Taking g line 3 v cl left m held → looked line m r n → Loaded g line (looked_at v line r) cl left n held
 loaded_of g e line v cl left m n held r key l look = record {
   now = look.0 ∙ ap (λ (y : Sat). sat (looked_at y.0 line r) y.1) l.now;
   stacked = l.stacked;
@@ -70,11 +70,11 @@ loaded_of g e line v cl left m n held r key l look = record {
   only = l.only;
   all = all_had g line cl.columns l.stacked;
   ready = subst (λ i. Rattle.run_words.specs.Plays.IsReady g i cl.columns) l.line_is
-      (look.1.ready (ground g e) cl (has_key m.0.keys (ground g e) key) (ap (λ (y : Sat). y.0.claim) l.now) l.going (subst (λ i. eval_end g i ≢ Cancelled) (sym l.line_is) l.real)
+      (look.1.ready (ground_of g e) cl (has_key m.0.keys (ground_of g e) key) (ap (λ (y : Sat). y.0.claim) l.now) l.going (subst (λ i. eval_end g i ≢ Cancelled) (sym l.line_is) l.real)
       (λ c a. all_had g line cl.columns l.stacked c (subst (λ i. AccessesColumn g i c) l.line_is a)));
 }
 
-pub is_loaded : (g : GraphValue) (e : Events) (line : ℕ) (v : View) (cl : Claim) (left : List (ℕ × Content)) (m n : Sat) (held : List (ℕ × ColumnValue)) (r : ℕ) → m.0.keys ≡ ground g e ∷ [] → TakingAs g line 3 v cl left m held → looked line m r n → IsLoaded g line v cl left n held
+pub is_loaded : (g : GraphValue) (e : Events) (line : ℕ) (v : View) (cl : Claim) (left : List (ℕ × Content)) (m n : Sat) (held : List (ℕ × ColumnValue)) (r : ℕ) → m.0.keys ≡ ground_of g e ∷ [] → TakingAs g line 3 v cl left m held → looked line m r n → IsLoaded g line v cl left n held
 is_loaded g e line v cl left m n held r key t look = (r, t.0, loaded_of g e line v (record cl { columns = t.0 }) left m n held r key t.1 look)
 
 -- a line that gave all back is refused

@@ -4,7 +4,7 @@ use Rattle.std.specs.Prelude.{Contains, Some, None, option_map}
 use Rattle.gen_events.specs.declared.handle.Handle.{Handle}
 use Rattle.gen_events.specs.declared.events.Events.{Events}
 use Rattle.gen_events.proofs.Members.{Contains-head}
-use Rattle.graph_model.specs.Graph.{GraphValue}
+use Rattle.graph_model.specs.graph.Graph.{GraphValue}
 use Rattle.run_words.specs.declared.content.Content.{Content}
 use Rattle.run_words.specs.declared.content.Content.TheVariants.{Nothing, Ticket, Stub, Cells, Tray}
 use Rattle.run_words.specs.declared.content.Desk.{Desk}
@@ -12,7 +12,7 @@ use Rattle.run_words.specs.declared.view.View.{View}
 use Rattle.gen_events.specs.declared.tokens.Pending.{Pending}
 use Rattle.run_words.specs.Claims.{Ground, Claim}
 use Rattle.run_words.specs.Layout.{size_of, desk_slot}
-use Rattle.run_words.specs.Rule.{ground, IsTray}
+use Rattle.run_words.specs.Rule.{ground_of, IsTray}
 use Rattle.std.proofs.lemmas.List.{append-nil}
 use Rattle.run_words.specs.Plays.{Sat, HasDesk, with_desk, without_desk, after_issue, on_claim}
 use Rattle.run_words.proofs.Turns.{sat}
@@ -33,11 +33,11 @@ tray_one d d' q = ap (tray_in d) q
 pub pair : {m : Sat} {v : View} {h : List (ℕ × Content)} → m.0 ≡ v → m.1 ≡ h → m ≡ (v, h)
 pair p q = λ k. (p k, q k)
 
-module _ (g : GraphValue) (e : Events) (m n : Sat) (key : m.0.keys ≡ ground g e ∷ []) (h : HasDesk m n) where
+module _ (g : GraphValue) (e : Events) (m n : Sat) (key : m.0.keys ≡ ground_of g e ∷ []) (h : HasDesk m n) where
   pub now : n ≡ (with_desk m.0 h.handles h.tray, (desk_slot (size_of g), Tray h.tray) ∷ m.1)
-  now = h.now (ground g e) (has_key m.0.keys (ground g e) key)
+  now = h.now (ground_of g e) (has_key m.0.keys (ground_of g e) key)
 
-  pub keys : n.0.keys ≡ ground g e ∷ []
+  pub keys : n.0.keys ≡ ground_of g e ∷ []
   keys = ap (λ (x : Sat). x.0.keys) now ∙ key
 
   pub on_top : (k : ℕ) → k ≡ desk_slot (size_of g) → n.1 ≡ (k, Tray h.tray) ∷ m.1
@@ -49,7 +49,7 @@ module _ (g : GraphValue) (e : Events) (m n : Sat) (key : m.0.keys ≡ ground g 
     same = tray_one h.tray d out
 
     whole : IsTray e (length g.lines) h.handles h.tray
-    whole = h.is_tray (ground g e) (has_key m.0.keys (ground g e) key)
+    whole = h.is_tray (ground_of g e) (has_key m.0.keys (ground_of g e) key)
 
     pub items : h.handles ≡ d.handles.items
     items = sym whole.listed ∙ ap (λ (x : Desk). x.handles.items) same
@@ -58,7 +58,7 @@ module _ (g : GraphValue) (e : Events) (m n : Sat) (key : m.0.keys ≡ ground g 
     tray = subst (λ (x : Desk). IsTray e (length g.lines) x.handles.items x) same (subst (λ (l : List Handle). IsTray e (length g.lines) l h.tray) (sym whole.listed) whole)
 
     pub few : length d.handles.items ≤ length g.lines
-    few = subst (λ (l : List Handle). length l ≤ length g.lines) items (h.few (ground g e) (has_key m.0.keys (ground g e) key))
+    few = subst (λ (l : List Handle). length l ≤ length g.lines) items (h.few (ground_of g e) (has_key m.0.keys (ground_of g e) key))
 
     pub with : n.0 ≡ with_desk m.0 d.handles.items d
     with = ap (λ (x : Sat). x.0) now ∙ (λ t. with_desk m.0 (items t) (same t))

@@ -10,7 +10,7 @@ use prog.Atomic.{either}
 use Rattle.atomic_table.specs.Table.{Act, keeps, takes, gives, Valid, Allows, stepped, carried_after}
 use Rattle.atomic_table.proofs.Lists.{exchanged, set_here}
 use Rattle.basics.specs.Lists.{numbers_below}
-use Rattle.graph_model.specs.Graph.{GraphValue}
+use Rattle.graph_model.specs.graph.Graph.{GraphValue}
 use Rattle.basics.specs.Sums.{total}
 use Rattle.gen_events.specs.Seats.{Begins}
 use Rattle.gen_events.specs.declared.handle.Handle.{Handle}
@@ -26,7 +26,7 @@ use Rattle.run_words.specs.Claims.{Ground}
 use Rattle.run_words.specs.declared.content.Content.TheVariants.{Tray}
 use Rattle.run_words.specs.Layout.{size_of, desk_word, desk_slot}
 use Rattle.run_words.specs.Views.{issues_at, owes_at, turn_of, has_desk}
-use Rattle.run_words.specs.Rule.{ground, IsTray, HasTray, DeskShown, Shown}
+use Rattle.run_words.specs.Rule.{ground_of, IsTray, HasTray, DeskShown, Shown}
 use Rattle.run_words.specs.Plays.{Sat, with_desk, HasDesk, takes_desk, without_desk, named_by, gives_desk, saw_at}
 use Rattle.run_words.proofs.Frames.{at_desk, words_set, slots_set}
 use Rattle.run_words.proofs.Steps.{St, board, sum_same, run_stays}
@@ -99,7 +99,7 @@ module _ (g : GraphValue) (e : Events) (s : St) (o : Shown g e s) (id : ℕ) (v 
 
     pub desk_told : (hand : List (ℕ × Content)) → HasDesk (v, hand) (w, (desk_slot (size_of g), Tray home.1.tray) ∷ hand)
     desk_told hand =
-        let same : (x : Ground) → Contains v.keys x → ground g e ≡ x = λ x c. sym ((o.each_view id v me).keys x c) in
+        let same : (x : Ground) → Contains v.keys x → ground_of g e ≡ x = λ x c. sym ((o.each_view id v me).keys x c) in
         record {
           handles = o.handles;
           tray = home.1.tray;

@@ -4,20 +4,20 @@ use Rattle.std.specs.Prelude.{Option, Some, None, slice_get, slice_index}
 use mathlib.Core.Option.{some}
 use lib.ListN.{get_elem?}
 use Rattle.atomic_table.specs.Table.{keeps, Allows}
-use Rattle.graph_model.specs.declared.outcome.End.TheVariants.{Cancelled}
-use Rattle.graph_model.specs.Graph.{GraphValue}
-use Rattle.graph_model.specs.Rules.{Acquires}
-use Rattle.graph_model.specs.Evaluation.{eval_end}
+use Rattle.graph_model.specs.declared.meaning.outcome.End.TheVariants.{Cancelled}
+use Rattle.graph_model.specs.graph.Graph.{GraphValue}
+use Rattle.graph_model.specs.meaning.Rules.{Acquires}
+use Rattle.graph_model.specs.meaning.Evaluation.{eval_end}
 use Rattle.basics.specs.Sums.{total}
 use Rattle.gen_events.specs.declared.events.Events.{Events}
 use Rattle.run_words.specs.declared.view.View.{View}
 use Rattle.run_words.specs.Claims.{Claim}
 use Rattle.basics.proofs.Sums.{total-set, term_le}
 use Rattle.index_spaces.specs.declared.Op.{Op}
-use Rattle.graph_model.specs.declared.decl.BarrierInfo.{BarrierInfo}
-use Rattle.graph_model.specs.declared.verb.Verb.TheVariants.{Phase, Arrive}
-use Rattle.graph_model.specs.Graph.{barriers, verb_at}
-use Rattle.graph_model.specs.Evaluation.{combined}
+use Rattle.graph_model.specs.declared.graph.decl.BarrierInfo.{BarrierInfo}
+use Rattle.graph_model.specs.declared.graph.verb.Verb.TheVariants.{Phase, Arrive}
+use Rattle.graph_model.specs.graph.Graph.{barriers, verb_at}
+use Rattle.graph_model.specs.meaning.Evaluation.{combined}
 use Rattle.run_state.specs.Run.{is_listed, time_at, stage_out}
 use Rattle.run_state.specs.Moves.{arrive, draw}
 use Rattle.run_state.proofs.Phases.{arrive-sound}

@@ -8,11 +8,11 @@ use lib.ListN.{get_elem?}
 use prog.Atomic.{either}
 use Rattle.atomic_table.specs.Table.{Act, keeps, Valid, Allows, stepped, carried_after}
 use Rattle.atomic_table.proofs.Lists.{exchanged}
-use Rattle.graph_model.specs.declared.outcome.End.{End}
-use Rattle.graph_model.specs.declared.outcome.End.TheVariants.{Done, Cancelled}
-use Rattle.graph_model.specs.Graph.{GraphValue, locks}
-use Rattle.graph_model.specs.Rules.{Acquires, Releases}
-use Rattle.graph_model.specs.Evaluation.{eval_end}
+use Rattle.graph_model.specs.declared.meaning.outcome.End.{End}
+use Rattle.graph_model.specs.declared.meaning.outcome.End.TheVariants.{Done, Cancelled}
+use Rattle.graph_model.specs.graph.Graph.{GraphValue, locks}
+use Rattle.graph_model.specs.meaning.Rules.{Acquires, Releases}
+use Rattle.graph_model.specs.meaning.Evaluation.{eval_end}
 use Rattle.basics.specs.Sums.{total}
 use Rattle.gen_events.specs.declared.events.Events.{Events}
 use Rattle.run_words.specs.declared.content.Content.{Content}

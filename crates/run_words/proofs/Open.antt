@@ -8,10 +8,10 @@ use mathlib.Core.Option.{some, some-ne-none}
 use lib.ListN.{get_elem?}
 use Rattle.atomic_table.specs.Table.{opening}
 use Rattle.atomic_table.proofs.Lists.{at_snoc, at_map}
-use Rattle.graph_model.specs.declared.outcome.End.{End}
-use Rattle.graph_model.specs.Graph.{GraphValue, columns, locks}
-use Rattle.graph_model.specs.Rules.{Accepted}
-use Rattle.graph_model.specs.Fits.{IsGraph}
+use Rattle.graph_model.specs.declared.meaning.outcome.End.{End}
+use Rattle.graph_model.specs.graph.Graph.{GraphValue, columns, locks}
+use Rattle.graph_model.specs.meaning.Rules.{Accepted}
+use Rattle.graph_model.specs.graph.Fits.{IsGraph}
 use Rattle.gen_events.specs.declared.events.Events.{Events}
 use Rattle.gen_events.proofs.Members.{Contains-none, Contains-one}
 use Rattle.run_state.specs.Run.{LineStage, Unissued, Home, stage_at, stage_issued}
@@ -22,7 +22,7 @@ use Rattle.run_words.specs.declared.content.Content.TheVariants.{Nothing, Cells,
 use Rattle.run_words.specs.declared.view.View.{View}
 use Rattle.run_words.specs.Layout.{size_of, turn_word, column_slot, desk_slot}
 use Rattle.run_words.specs.Views.{time_code, busy}
-use Rattle.run_words.specs.Rule.{ground, LineShown, handle_at, ColumnShown, column_with, lock_code, Fits, Shown, opener}
+use Rattle.run_words.specs.Rule.{ground_of, LineShown, handle_at, ColumnShown, column_with, lock_code, Fits, Shown, opener}
 use Rattle.run_words.specs.Opening.{AreFirstWords, AreFirstSlots}
 
 pub got_elem : {X : Type 0} (xs : List X) (i : ℕ) (x : X) → slice_get xs i ≡ Some x → get_elem? xs i ≡ some x
@@ -44,7 +44,7 @@ opens g e ws xs graph accepted w x =
     let stage : (i : ℕ) → stage_at (start g).stages i ≡ Unissued = same_at Unissued (length g.lines) in
     let one : (j : ℕ) (u : View) → get_elem? (v ∷ []) j ≡ some u → v ≡ u = λ j u q. ⊎_elim (λ (y : get_elem? {A = View} [] j ≡ some u). absurd (some-ne-none u (sym y))) (λ y. y) (at_snoc [] v u j q) in
     let fits : Fits g e (start g) [] v = record {
-      keys = λ y c. sym (Contains-one (ground g e) y c);
+      keys = λ y c. sym (Contains-one (ground_of g e) y c);
       issued = λ j h. absurd (Contains-none j h);
       ended = λ j y h. absurd (Contains-none {A = ℕ × End} (j, y) h);
       named = λ l h. absurd (Contains-none l h);

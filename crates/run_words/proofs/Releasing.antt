@@ -7,21 +7,21 @@ use Rattle.std.proofs.lemmas.Option.{same_Some}
 use Rattle.line_effects.proofs.EffectFacts.{verb_is}
 use Rattle.gen_events.proofs.Members.{Contains-head}
 use Rattle.gen_events.specs.declared.events.Events.{Events}
-use Rattle.graph_model.specs.declared.outcome.End.{End}
-use Rattle.graph_model.specs.declared.outcome.End.TheVariants.{Done}
-use Rattle.graph_model.specs.declared.verb.Line.{Line}
-use Rattle.graph_model.specs.declared.verb.Verb.TheVariants.{Acquire, Release}
-use Rattle.graph_model.specs.Graph.{GraphValue, locks, is_acquire_of, is_release_of}
-use Rattle.graph_model.specs.Fits.{IsGraph}
-use Rattle.graph_model.specs.Path.{HasPath}
-use Rattle.graph_model.specs.Rules.{Acquires, Releases, Accepted}
-use Rattle.graph_model.specs.Evaluation.{eval_end}
+use Rattle.graph_model.specs.declared.meaning.outcome.End.{End}
+use Rattle.graph_model.specs.declared.meaning.outcome.End.TheVariants.{Done}
+use Rattle.graph_model.specs.declared.graph.verb.Line.{Line}
+use Rattle.graph_model.specs.declared.graph.verb.Verb.TheVariants.{Acquire, Release}
+use Rattle.graph_model.specs.graph.Graph.{GraphValue, locks, is_acquire_of, is_release_of}
+use Rattle.graph_model.specs.graph.Fits.{IsGraph}
+use Rattle.graph_model.specs.meaning.Path.{HasPath}
+use Rattle.graph_model.specs.meaning.Rules.{Acquires, Releases, Accepted}
+use Rattle.graph_model.specs.meaning.Evaluation.{eval_end}
 use Rattle.graph_model.proofs.ReleaseFacts.{acquired_lock_known, release_names, one_release}
 use Rattle.graph_model.proofs.VerbFacts.{acquire_is, release_is, verb_passes, verb_below, release_one}
 use Rattle.run_words.specs.declared.content.Content.{Content}
 use Rattle.run_words.specs.declared.view.View.{View}
 use Rattle.run_words.specs.Claims.{Claim}
-use Rattle.run_words.specs.Rule.{ground}
+use Rattle.run_words.specs.Rule.{ground_of}
 use Rattle.run_words.specs.Plays.{Sat, on_claim, has_freed, looked_at, ended_by, end_of_code, Told}
 use Rattle.run_words.specs.Premises.{Has}
 use Rattle.run_words.specs.Laden.{IsEnding, IsReleased}
@@ -79,12 +79,12 @@ module _ (g : GraphValue) (e : Events) (line : ℕ) (x : End) (v : View) (cl : C
     freed = λ q r d. absurd (none q r);
   }
 
-  module _ (f : IsGraph g) (a : Accepted g) (keys : Contains m.0.keys (ground g e)) (q r : ℕ) (rel : Releases g line q) (o : Sat) (looks : o ≡ (looked_at m.0 q r, m.1)) (told : Told m.0 q r) where
+  module _ (f : IsGraph g) (a : Accepted g) (keys : Contains m.0.keys (ground_of g e)) (q r : ℕ) (rel : Releases g line q) (o : Sat) (looks : o ≡ (looked_at m.0 q r, m.1)) (told : Told m.0 q r) where
     now_looked : o ≡ (record (looked_at v q r) { claim = Some i.claim }, left)
     now_looked = looks ∙ ap (λ (y : Sat). (looked_at y.0 q r, y.1)) i.now
 
     is_over : 8 ≤ r
-    is_over = told.before (ground g e) i.claim keys (ap (λ (y : Sat). y.0.claim) i.now) (subst (HasPath g q) (sym i.line_is) (release_path g f a line q rel))
+    is_over = told.before (ground_of g e) i.claim keys (ap (λ (y : Sat). y.0.claim) i.now) (subst (HasPath g q) (sym i.line_is) (release_path g f a line q rel))
 
     pub not_freed : r ≢ 8 → IsReleased g line x v cl left o
     not_freed ne = record {
@@ -100,7 +100,7 @@ module _ (g : GraphValue) (e : Events) (line : ℕ) (x : End) (v : View) (cl : C
       ends = i.ends;
       stored = i.stored;
       freed = λ k rk d. (let over : 8 ≤ r = is_over in absurd (not_done (r - 8) (λ z. ne (omega (arith, z, over)))
-          (sym (told.known (ground g e) keys over) ∙ (ap (eval_end g) (release_one g line q k rel rk) ∙ d))));
+          (sym (told.known (ground_of g e) keys over) ∙ (ap (eval_end g) (release_one g line q k rel rk) ∙ d))));
     }
 
     pub may_free : Has o.0 (λ c. (y : End) × (c.ends ≡ Some y) × Releases g c.line q × (c.freed ≡ false))

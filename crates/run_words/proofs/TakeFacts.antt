@@ -6,12 +6,12 @@ use Rattle.std.proofs.lemmas.Bool.{true≢false}
 use Rattle.std.proofs.lemmas.Option.{none-some}
 use Rattle.std.proofs.lemmas.List.Elements.{Contains-append_left}
 use Rattle.index_spaces.specs.Column.{ColumnValue}
-use Rattle.graph_model.specs.declared.outcome.End.{End}
-use Rattle.graph_model.specs.declared.outcome.End.TheVariants.{Cancelled}
-use Rattle.graph_model.specs.Graph.{GraphValue}
-use Rattle.graph_model.specs.Edges.{edges_into}
-use Rattle.graph_model.specs.Rules.{Acquires}
-use Rattle.graph_model.specs.Evaluation.{eval_end}
+use Rattle.graph_model.specs.declared.meaning.outcome.End.{End}
+use Rattle.graph_model.specs.declared.meaning.outcome.End.TheVariants.{Cancelled}
+use Rattle.graph_model.specs.graph.Graph.{GraphValue}
+use Rattle.graph_model.specs.graph.Edges.{edges_into}
+use Rattle.graph_model.specs.meaning.Rules.{Acquires}
+use Rattle.graph_model.specs.meaning.Evaluation.{eval_end}
 use Rattle.gen_events.specs.Views.{IsPendingOf, handle_of}
 use Rattle.gen_events.specs.declared.events.Events.{Events}
 use Rattle.gen_events.specs.declared.handle.Handle.{Handle}
@@ -30,7 +30,7 @@ use Rattle.std.proofs.lemmas.List.{append-nil}
 use Rattle.run_words.specs.declared.works.WordWork.{WordWork}
 use Rattle.run_words.specs.Works.{IsWorkOf}
 use Rattle.run_words.specs.Words.{graph_of, events_of, IsSeatOf}
-use Rattle.run_words.specs.Rule.{ground, child}
+use Rattle.run_words.specs.Rule.{ground_of, child}
 use Rattle.run_words.specs.Plays.{Sat, HasClaimed, claimed_at, saw_at, on_claim, holding, lets_go, unclaims, child_of, parent_of, joined, looked_at, own_number}
 use Rattle.run_words.specs.Premises.{Has, IsBare, OnTop}
 use Rattle.run_words.specs.Sources.{cancels_in}
@@ -101,9 +101,9 @@ pub refused_lock : (g : GraphValue) (line l w r : ℕ) (v : View) (ticket : Pend
 refused_lock g line l w r v ticket m n is a word ne other q = (w, r, (a, word, ne, other), q ∙ ap (λ (y : Sat). sat (saw_at y.0 w r) y.1) is)
 
 -- whether a claimed line is cancelled
-pub cancelled_so : (g : GraphValue) (e : Events) (line : ℕ) (b : Bool) (m n : Sat) → m.0.keys ≡ ground g e ∷ [] → HasClaimed line m n → b ≡ list_any (cancels_in g) (edges_into g line) → (b ≡ true → eval_end g line ≡ Cancelled) × (b ≡ false → eval_end g line ≢ Cancelled)
+pub cancelled_so : (g : GraphValue) (e : Events) (line : ℕ) (b : Bool) (m n : Sat) → m.0.keys ≡ ground_of g e ∷ [] → HasClaimed line m n → b ≡ list_any (cancels_in g) (edges_into g line) → (b ≡ true → eval_end g line ≡ Cancelled) × (b ≡ false → eval_end g line ≢ Cancelled)
 cancelled_so g e line b m n key h q =
-    let both = cancelled_iff g line (h.ends (ground g e) (has_key m.0.keys (ground g e) key)) in
+    let both = cancelled_iff g line (h.ends (ground_of g e) (has_key m.0.keys (ground_of g e) key)) in
     (λ t. both.0 (sym q ∙ t), λ f c. true≢false (sym (q ∙ both.1 c) ∙ f))
 
 -- the claim of a line that was just claimed

@@ -4,7 +4,7 @@ use Rattle.std.specs.Prelude.{Contains, Option, Some, None, slice_get}
 use Rattle.std.proofs.lemmas.Bool.{cases_eq}
 use Rattle.index_spaces.specs.Column.{ColumnValue}
 use Rattle.index_spaces.specs.Held.{held_at, HoldsOtherwise}
-use Rattle.graph_model.specs.Graph.{GraphValue}
+use Rattle.graph_model.specs.graph.Graph.{GraphValue}
 use Rattle.gen_events.specs.declared.events.Events.{Events}
 use Rattle.gen_events.proofs.Members.{Contains-head, Contains-tail, Contains-cases}
 use Rattle.run_state.specs.Run.{is_listed}
@@ -15,7 +15,7 @@ use Rattle.run_words.specs.declared.content.Content.TheVariants.{Nothing, Ticket
 use Rattle.run_words.specs.declared.view.View.{View}
 use Rattle.run_words.specs.Claims.{Claim}
 use Rattle.run_words.specs.Layout.{size_of, turn_word, column_slot}
-use Rattle.run_words.specs.Rule.{ground, column_with}
+use Rattle.run_words.specs.Rule.{ground_of, column_with}
 use Rattle.run_words.specs.Plays.{Sat, on_claim, took, HasTurn, saw_at}
 use Rattle.run_words.specs.Premises.{Has, MayTake}
 use Rattle.run_words.specs.Laden.{Stacked, Taking}
@@ -82,7 +82,7 @@ module _ (g : GraphValue) (e : Events) (line k : ℕ) (v : View) (cl : Claim) (l
       record {
         going = l.going;
         accessed = subst (λ j. AccessesColumn g j c) (sym l.line_is) a;
-        real = subst (λ j. Rattle.graph_model.specs.Evaluation.eval_end g j ≢ Rattle.graph_model.specs.declared.outcome.End.TheVariants.Cancelled) (sym l.line_is) l.real;
+        real = subst (λ j. Rattle.graph_model.specs.meaning.Evaluation.eval_end g j ≢ Rattle.graph_model.specs.declared.meaning.outcome.End.TheVariants.Cancelled) (sym l.line_is) l.real;
         new = ap (λ xs. is_listed xs c) l.no_puts;
       },
     ),
@@ -99,7 +99,7 @@ module _ (g : GraphValue) (e : Events) (line k : ℕ) (v : View) (cl : Claim) (l
     pub not_held : held_at held c ≡ None
     not_held = none_of (held_at held c) refl
 
-    module _ (n : Sat) (key : m.0.keys ≡ ground g e ∷ []) (h : HasTurn (turn_word (size_of g) c) m n) where
+    module _ (n : Sat) (key : m.0.keys ≡ ground_of g e ∷ []) (h : HasTurn (turn_word (size_of g) c) m n) where
       abbrev then : Claim
       then = took c h.back cl
 
@@ -107,9 +107,9 @@ module _ (g : GraphValue) (e : Events) (line k : ℕ) (v : View) (cl : Claim) (l
       column = column_with g c (home_cells g h.back c)
 
       pub now : n ≡ (on_claim (took c h.back) m.0, (column_slot (size_of g) c, Cells column) ∷ m.1)
-      now = h.now (ground g e) c (has_key m.0.keys (ground g e) key) refl
+      now = h.now (ground_of g e) c (has_key m.0.keys (ground_of g e) key) refl
 
-      pub keys : n.0.keys ≡ ground g e ∷ []
+      pub keys : n.0.keys ≡ ground_of g e ∷ []
       keys = ap (λ (y : Sat). y.0.keys) now ∙ key
 
       pub on_top : (s : ℕ) → s ≡ column_slot (size_of g) c → n.1 ≡ (s, Cells column) ∷ m.1

@@ -8,9 +8,9 @@ use lib.ListN.{get_elem?}
 use prog.Atomic.{either}
 use Rattle.atomic_table.specs.Table.{Act, keeps, takes, Valid, Allows, stepped, carried_after}
 use Rattle.atomic_table.proofs.Lists.{exchanged, set_here}
-use Rattle.graph_model.specs.declared.outcome.End.TheVariants.{Cancelled}
-use Rattle.graph_model.specs.Graph.{GraphValue, columns}
-use Rattle.graph_model.specs.Evaluation.{eval_end}
+use Rattle.graph_model.specs.declared.meaning.outcome.End.TheVariants.{Cancelled}
+use Rattle.graph_model.specs.graph.Graph.{GraphValue, columns}
+use Rattle.graph_model.specs.meaning.Evaluation.{eval_end}
 use Rattle.basics.specs.Sums.{total}
 use Rattle.gen_events.specs.declared.events.Events.{Events}
 use Rattle.gen_events.proofs.Members.{Contains-cases, Contains-head, Contains-tail}
@@ -24,7 +24,7 @@ use Rattle.run_words.specs.declared.view.View.{View}
 use Rattle.run_words.specs.Claims.{Claim, Ground}
 use Rattle.run_words.specs.Layout.{size_of, turn_word, column_slot}
 use Rattle.run_words.specs.Views.{issues_at, late_at, owes_at, has_desk, working}
-use Rattle.run_words.specs.Rule.{ground, column_with, ColumnShown, Progress, Shown}
+use Rattle.run_words.specs.Rule.{ground_of, column_with, ColumnShown, Progress, Shown}
 use Rattle.run_words.specs.Plays.{Sat, on_claim, took, HasTurn, NotOwn, turns, saw_at}
 use Rattle.run_words.proofs.Aside.{aside_out, other_set}
 use Rattle.run_words.proofs.Frames.{at_column, words_set, slots_set}
@@ -123,7 +123,7 @@ module _ (g : GraphValue) (e : Events) (s : St) (o : Shown g e s) (id : ℕ) (v 
     turn_told hand = record {
       back = back;
       now = λ x k key at.
-          let same : x ≡ ground g e = (o.each_view id v me).keys x key in
+          let same : x ≡ ground_of g e = (o.each_view id v me).keys x key in
           let here : c ≡ k = (let q : turn_word (size_of g) c ≡ turn_word (size_of g) k = at ∙ ap (λ (y : Ground). turn_word (size_of y.graph) k) same in omega (arith, q)) in
           subst (λ (y : Ground). sat w ((column_slot (size_of g) c, Cells (column_with g c home.0)) ∷ hand) ≡ sat (on_claim (took k back) v) ((column_slot (size_of y.graph) k, Cells (column_with y.graph k (home_cells y.graph back k))) ∷ hand)) (sym same)
           (subst (λ j. sat w ((column_slot (size_of g) c, Cells (column_with g c home.0)) ∷ hand) ≡ sat (on_claim (took j back) v) ((column_slot (size_of g) j, Cells (column_with g j (home_cells g back j))) ∷ hand)) here
@@ -136,7 +136,7 @@ module _ (g : GraphValue) (e : Events) (s : St) (o : Shown g e s) (id : ℕ) (v 
 
   pub not_own : (get_or s.words (turn_word (size_of g) c) 0 ≡ 0 → ⊥) → NotOwn (turn_word (size_of g) c) v (get_or s.words (turn_word (size_of g) c) 0)
   not_own ne x k d key at had notin own =
-      let same : x ≡ ground g e = (o.each_view id v me).keys x key in
+      let same : x ≡ ground_of g e = (o.each_view id v me).keys x key in
       let here : c ≡ k = (let q : turn_word (size_of g) c ≡ turn_word (size_of g) k = at ∙ ap (λ (y : Ground). turn_word (size_of y.graph) k) same in omega (arith, q)) in
       let j = is_had g c (place_at o.run.places c) (get_or s.words (turn_word (size_of g) c) 0) (o.words.columns c near).home (o.words.columns c near).shown ne in
       let mine : cl ≡ d = same_Some cl d (sym has ∙ had) in

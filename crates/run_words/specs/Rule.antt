@@ -1,14 +1,14 @@
 -- The rule of the table of a run: its words, its slots at home and the views of its seats show one sound state of a run.
-use Rattle.std.specs.Prelude.{◌≡◌, ℕ, zero, suc, ◌+◌, ◌<◌, ◌≤◌, ◌↔◌, List, [], ◌∷◌, length, Contains, IsTrue, Some, None, slice_get, slice_index, slice_index_or}
+use Rattle.std.specs.Prelude.{◌≡◌, ℕ, zero, suc, ◌+◌, ◌<◌, ◌≤◌, ◌↔◌, ◌≢◌, List, [], ◌∷◌, length, Contains, IsTrue, Some, None, slice_get, slice_index, slice_index_or}
 use Rattle.std.specs.Vec.{vec_capacity}
 use mathlib.Core.Option.{none, some}
 use lib.ListN.{get_elem?}
 use Rattle.atomic_table.specs.Table.{State}
 use Rattle.index_spaces.specs.Column.{ColumnValue}
-use Rattle.graph_model.specs.declared.outcome.End.{End}
-use Rattle.graph_model.specs.declared.outcome.End.TheVariants.{Done, Faulted, Cancelled, Waiting}
-use Rattle.graph_model.specs.Graph.{GraphValue, column_space}
-use Rattle.graph_model.specs.Rules.{Acquires}
+use Rattle.graph_model.specs.declared.meaning.outcome.End.{End}
+use Rattle.graph_model.specs.declared.meaning.outcome.End.TheVariants.{Done, Faulted, Cancelled, Waiting}
+use Rattle.graph_model.specs.graph.Graph.{GraphValue, column_space}
+use Rattle.graph_model.specs.meaning.Rules.{Acquires}
 use Rattle.basics.specs.Sums.{total, only}
 use Rattle.gen_events.specs.Seats.{HasSeen, no_event, Begins}
 use Rattle.gen_events.specs.Views.{lists, IsAt, IsMakerOf, IsPendingOf, IsReceiptOf, IsWaiterOf, made_by, handle_of, ended_by, fate_of, number_of}
@@ -30,8 +30,8 @@ use Rattle.run_words.specs.Layout.{Size, size_of, status_word, time_word, value_
 use Rattle.run_words.specs.Views.{time_code, runs_at, issues_at, owes_at, has_desk, busy, working}
 
 -- the graph of a run with the events of its lines
-abbrev pub ground : GraphValue → Events → Ground
-ground g e = record { graph = g; events = e }
+abbrev pub ground_of : GraphValue → Events → Ground
+ground_of g e = record { graph = g; events = e }
 
 -- LINES. The code of an end
 abbrev pub end_code : End → ℕ
@@ -109,6 +109,7 @@ pub record IsTray (e : Events) (lines : ℕ) (handles : List Handle) (d : Desk) 
   pub room : lines ≤ vec_capacity d.handles
   pub seat : IsAt e d.seat
   pub seen : (h : Handle) → Contains handles h → HasSeen (lists d.seat) h
+  pub created : (h : Handle) → Contains handles h → h ≢ no_event
   pub places : length d.waiters.items ≡ lines
   pub waiters : (k : ℕ) (w : Waiter) → slice_get d.waiters.items k ≡ Some (Some w) → (number_of w ≡ k) × IsWaiterOf e w
 
@@ -160,7 +161,7 @@ pub record Progress (g : GraphValue) (run : Run) (c : Claim) : Type 0 where
 
 -- what a seat knows and has holds of this run and these handles
 pub record Fits (g : GraphValue) (e : Events) (run : Run) (handles : List Handle) (v : View) : Type 0 where
-  pub keys : (x : Ground) → Contains v.keys x → x ≡ ground g e
+  pub keys : (x : Ground) → Contains v.keys x → x ≡ ground_of g e
   pub issued : (i : ℕ) → Contains v.issued i → IsTrue (issued run.stages i)
   pub ended : (i : ℕ) (x : End) → Contains v.ended (i, x) → stage_at run.stages i ≡ Ended x
   pub named : (hs : List Handle) → Contains v.named hs → Begins hs handles
@@ -204,4 +205,4 @@ pub record Shown (g : GraphValue) (e : Events) (s : State Content View) : Type 0
 
 -- the view of the first seat
 abbrev pub opener : GraphValue → Events → View
-opener g e = record { keys = ground g e ∷ []; mine = 0 ∷ []; births = 0; splits = []; issued = []; ended = []; named = []; saw = []; trays = []; claim = None; issuing = None; desk = None }
+opener g e = record { keys = ground_of g e ∷ []; mine = 0 ∷ []; births = 0; splits = []; issued = []; ended = []; named = []; saw = []; trays = []; claim = None; issuing = None; desk = None }

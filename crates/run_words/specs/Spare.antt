@@ -1,7 +1,7 @@
 -- What the end of a run needs of memory.
 use Rattle.std.specs.Prelude.{◌≡◌, ℕ, length, replicate, Option, None}
 use Rattle.gen_events.specs.EventMap.{fresh}
-use Rattle.graph_model.specs.Graph.{GraphValue}
+use Rattle.graph_model.specs.graph.Graph.{GraphValue}
 use Rattle.run_core.specs.Core.{unissued}
 use Rattle.run_core.specs.Resumed.{blank_state}
 use Rattle.run_words.specs.declared.spare.Spare.{Spare}

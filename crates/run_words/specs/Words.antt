@@ -1,7 +1,7 @@
 -- Seats at their words.
 use Rattle.std.specs.Prelude.{◌≡◌, ◌≢◌, ℕ, ◌<◌, List, [], ◌∷◌, ◌++◌, Contains}
 use Rattle.atomic_table.specs.declared.shared.Seat as table
-use Rattle.graph_model.specs.Graph.{GraphValue}
+use Rattle.graph_model.specs.graph.Graph.{GraphValue}
 use Rattle.gen_events.specs.declared.events.Events.{Events}
 use Rattle.gen_events.specs.declared.handle.Handle.{Handle}
 use Rattle.gen_events.specs.declared.handle.Shape.{Shape}
@@ -11,8 +11,8 @@ use Rattle.run_words.specs.declared.words.Words.{Words}
 use Rattle.run_words.specs.declared.seats.WordSeat.{WordSeat}
 use Rattle.gen_events.specs.declared.tokens.Seat.{Seat}
 use Rattle.gen_events.specs.Views as events
-use Rattle.graph_model.specs.declared.outcome.End.{End}
-use Rattle.run_words.specs.Rule.{ground}
+use Rattle.graph_model.specs.declared.meaning.outcome.End.{End}
+use Rattle.run_words.specs.Rule.{ground_of}
 
 -- the graph of these words
 abbrev pub graph_of : Words → GraphValue
@@ -24,7 +24,7 @@ events_of w = w.base.events
 
 -- the seat is one of these words
 abbrev pub IsSeatOf : Words → table.Seat Content View → Type 0
-IsSeatOf w s = (s.table_id ≡ w.table.shared.table_id) × (s.me.0.keys ≡ ground (graph_of w) (events_of w) ∷ [])
+IsSeatOf w s = (s.table_id ≡ w.table.shared.table_id) × (s.me.0.keys ≡ ground_of (graph_of w) (events_of w) ∷ [])
 
 -- the seat of a thread is one of these words
 abbrev pub IsAt : Words → WordSeat → Type 0

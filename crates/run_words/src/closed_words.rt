@@ -2,7 +2,7 @@
 
 ghost use Rattle.std.specs.Prelude.{◌≡◌, ℕ, ◌+◌, ◌<◌, length, Some, slice_get, slice_index, Option, None};
 ghost use Rattle.std.specs.Slots.{slots_items, slots_len, IsFull};
-ghost use Rattle.graph_model.specs.Graph.{verb_at};
+ghost use Rattle.graph_model.specs.graph.Graph.{verb_at};
 ghost use Rattle.run_words.specs.Layout.{size_of, value_word, word_count};
 ghost use Rattle.run_words.specs.Reading.{stage_for, end_for, time_for, state_for, value_for};
 ghost use Rattle.run_words.specs.Rule.{handle_at};

@@ -3,8 +3,8 @@
 ghost use Rattle.std.specs.Prelude.{◌≡◌, ◌+◌, ◌≢◌, ◌<◌, ◌≤◌, ◌++◌, ◌∷◌, [], length, vec_len, replicate, Some, None, slice_index_or, slice_set, IfOk};
 ghost use Rattle.std.specs.Vec.{vec_capacity};
 ghost use Rattle.index_spaces.specs.Column.{ColumnValue};
-ghost use Rattle.graph_model.specs.Effect.{zero_cells};
-ghost use Rattle.graph_model.specs.Graph.{columns as graph_columns};
+ghost use Rattle.graph_model.specs.meaning.Effect.{zero_cells};
+ghost use Rattle.graph_model.specs.graph.Graph.{columns as graph_columns};
 ghost use Rattle.instances.specs.Homes.{all_home};
 ghost use Rattle.run_state.specs.Start.{first_value};
 ghost use Rattle.gen_events.specs.declared.events.Events.{Events as TheEvents};

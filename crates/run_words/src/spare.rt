@@ -1,7 +1,7 @@
 //! What the end of a run needs of memory, as `prepare` alone takes some.
 
 ghost use Rattle.std.specs.Prelude.{◌≡◌, ◌≤◌, IfOk};
-ghost use Rattle.graph_model.specs.Effect.{zero_cells};
+ghost use Rattle.graph_model.specs.meaning.Effect.{zero_cells};
 ghost use Rattle.instances.specs.Homes.{all_home};
 ghost use Rattle.run_words.specs.Spare.{IsSpare};
 

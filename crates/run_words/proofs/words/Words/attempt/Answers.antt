@@ -2,8 +2,8 @@ use Rattle.std.proofs.Common.{ℕ, List, [], ◌∷◌, ◌≡◌, refl, ap, sym
 use Rattle.std.specs.Prelude.{Contains}
 use Rattle.std.proofs.lemmas.List.Elements.{Contains-append_left}
 use Rattle.gen_events.proofs.Members.{Contains-head}
-use Rattle.graph_model.specs.declared.outcome.End.{End}
-use Rattle.graph_model.specs.Graph.{GraphValue, never_comes}
+use Rattle.graph_model.specs.declared.meaning.outcome.End.{End}
+use Rattle.graph_model.specs.graph.Graph.{GraphValue, never_comes}
 use Rattle.run_words.specs.Plays.{Sat}
 use Rattle.run_words.proofs.AnswerFacts.{answered}
 use Rattle.run_words.proofs.words.Words.attempt.Goals as goal

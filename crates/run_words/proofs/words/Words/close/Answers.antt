@@ -3,7 +3,7 @@ use Rattle.std.specs.Prelude.{Contains, Some, slice_get, slice_index_or, slice_s
 use mathlib.Core.Option.{some}
 use lib.ListN.{get_elem?}
 use Rattle.std.specs.Slots.{slots_items, slots_filled, slots_len, slots_counts, IsFull}
-use Rattle.graph_model.specs.Graph.{GraphValue, columns}
+use Rattle.graph_model.specs.graph.Graph.{GraphValue, columns}
 use Rattle.gen_events.specs.declared.handle.Handle.{Handle}
 use Rattle.gen_events.specs.declared.events.Events.{Events}
 use Rattle.gen_events.specs.EventMap.{answer}
@@ -18,7 +18,7 @@ use Rattle.run_state.specs.Run.{stage_at}
 use Rattle.std.specs.Prelude.{slice_index}
 use Rattle.run_words.proofs.EmptyFacts.{one_content, desk_taken, none_filled, tray_is}
 use Rattle.std.proofs.lemmas.List.{length-map}
-use Rattle.graph_model.specs.Graph.{verb_at}
+use Rattle.graph_model.specs.graph.Graph.{verb_at}
 use Rattle.gen_events.specs.EventMap.{EventMap, life_at, without_waiters}
 use Rattle.gen_events.specs.Views.{lists, shape_of}
 use Rattle.gen_events.specs.declared.handle.Shape.{Shape}

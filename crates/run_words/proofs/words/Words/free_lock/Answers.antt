@@ -1,10 +1,10 @@
 use Rattle.std.proofs.Common.{◌≡◌, ◌<◌, [], length, sym, subst}
 use Rattle.std.specs.Prelude.{Some, Contains, slice_get}
 use Rattle.gen_events.proofs.Members.{Contains-head}
-use Rattle.graph_model.specs.Fits.{IsGraph}
-use Rattle.graph_model.specs.Graph.{GraphValue, locks}
+use Rattle.graph_model.specs.graph.Fits.{IsGraph}
+use Rattle.graph_model.specs.graph.Graph.{GraphValue, locks}
 use Rattle.run_words.specs.Claims.{Ground}
-use Rattle.run_words.specs.Rule.{ground}
+use Rattle.run_words.specs.Rule.{ground_of}
 use Rattle.run_words.specs.Words.{graph_of, events_of}
 use Rattle.run_words.proofs.Releasing.{line_acquires, line_releases, lock_there, acquire_there, is_acquire_there, not_freed, may_free, done_known, has_released}
 use Rattle.run_words.proofs.words.Words.free_lock.Goals as goal
@@ -23,7 +23,7 @@ returns-then-found-ne-ENDED_DONE-clause-released c = λ x v cl left i.
     let w = graph_of c.args.self.now in
     let f = subst IsGraph e c.line.ensures.is_graph in
     let at = subst (λ (h : GraphValue). slice_get h.lines c.args.line ≡ Some c.line.result.now) e c.line.ensures.line in
-    let keys = subst (λ (l : _). Contains l (ground w (events_of c.args.self.now))) (sym c.requires.at.1) (Contains-head {A = Ground} (ground w (events_of c.args.self.now)) []) in
+    let keys = subst (λ (l : _). Contains l (ground_of w (events_of c.args.self.now))) (sym c.requires.at.1) (Contains-head {A = Ground} (ground_of w (events_of c.args.self.now)) []) in
     not_freed w (events_of c.args.self.now) c.args.line x v cl left c.args.seat.now.me i f c.graph-graph.ensures.accepted keys c.in-Release.acquire c.look-found.result
     (line_releases w c.args.line c.in-Release.acquire c.line.result.now at c.in-Release.is) c.look-found.new.seat.me c.look-found.ensures.looked.0 c.look-found.ensures.looked.1 c.if-found-ne-ENDED_DONE.true)
 
@@ -44,7 +44,7 @@ free-requires-clause-may c =
     let f = subst IsGraph e c.line.ensures.is_graph in
     let at = subst (λ (h : GraphValue). slice_get h.lines c.args.line ≡ Some c.line.result.now) e c.line.ensures.line in
     let r = c.requires.ending in
-    let keys = subst (λ (l : _). Contains l (ground w (events_of c.args.self.now))) (sym c.requires.at.1) (Contains-head {A = Ground} (ground w (events_of c.args.self.now)) []) in
+    let keys = subst (λ (l : _). Contains l (ground_of w (events_of c.args.self.now))) (sym c.requires.at.1) (Contains-head {A = Ground} (ground_of w (events_of c.args.self.now)) []) in
     may_free w (events_of c.args.self.now) c.args.line r.0 r.1 r.2 r.3 c.args.seat.now.me r.4 f c.graph-graph.ensures.accepted keys c.in-Release.acquire c.look-found.result
     (line_releases w c.args.line c.in-Release.acquire c.line.result.now at c.in-Release.is) c.look-found.new.seat.me c.look-found.ensures.looked.0 c.look-found.ensures.looked.1
 
@@ -59,7 +59,7 @@ free-requires-clause-done c =
     let f = subst IsGraph e c.line.ensures.is_graph in
     let at = subst (λ (h : GraphValue). slice_get h.lines c.args.line ≡ Some c.line.result.now) e c.line.ensures.line in
     let r = c.requires.ending in
-    let keys = subst (λ (l : _). Contains l (ground w (events_of c.args.self.now))) (sym c.requires.at.1) (Contains-head {A = Ground} (ground w (events_of c.args.self.now)) []) in
+    let keys = subst (λ (l : _). Contains l (ground_of w (events_of c.args.self.now))) (sym c.requires.at.1) (Contains-head {A = Ground} (ground_of w (events_of c.args.self.now)) []) in
     done_known w (events_of c.args.self.now) c.args.line r.0 r.1 r.2 r.3 c.args.seat.now.me r.4 f c.graph-graph.ensures.accepted keys c.in-Release.acquire c.look-found.result
     (line_releases w c.args.line c.in-Release.acquire c.line.result.now at c.in-Release.is) c.look-found.new.seat.me c.look-found.ensures.looked.0 c.look-found.ensures.looked.1 c.if-found-ne-ENDED_DONE.false
 
@@ -69,6 +69,6 @@ returns-clause-released c = λ x v cl left i.
     let w = graph_of c.args.self.now in
     let f = subst IsGraph e c.line.ensures.is_graph in
     let at = subst (λ (h : GraphValue). slice_get h.lines c.args.line ≡ Some c.line.result.now) e c.line.ensures.line in
-    let keys = subst (λ (l : _). Contains l (ground w (events_of c.args.self.now))) (sym c.requires.at.1) (Contains-head {A = Ground} (ground w (events_of c.args.self.now)) []) in
+    let keys = subst (λ (l : _). Contains l (ground_of w (events_of c.args.self.now))) (sym c.requires.at.1) (Contains-head {A = Ground} (ground_of w (events_of c.args.self.now)) []) in
     has_released w (events_of c.args.self.now) c.args.line x v cl left c.args.seat.now.me i f c.graph-graph.ensures.accepted keys c.in-Release.acquire c.look-found.result
     (line_releases w c.args.line c.in-Release.acquire c.line.result.now at c.in-Release.is) c.look-found.new.seat.me c.look-found.ensures.looked.0 c.look-found.ensures.looked.1 c.free.new.seat.me c.free.ensures.freed)

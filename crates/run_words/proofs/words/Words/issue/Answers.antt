@@ -1,7 +1,7 @@
 use Rattle.std.proofs.Common.{arith, ℕ, ◌<◌, ◌++◌, [], ◌∷◌, List, length, ap, sym, subst, ◌∙◌}
 use Rattle.std.specs.Prelude.{Contains}
 use Rattle.std.proofs.lemmas.List.Elements.{Contains-append_left, Contains-append_right}
-use Rattle.graph_model.specs.declared.outcome.End.{End}
+use Rattle.graph_model.specs.declared.meaning.outcome.End.{End}
 use Rattle.basics.proofs.ListFacts.{contains_below}
 use Rattle.basics.specs.Lists.{numbers_below}
 use Rattle.gen_events.proofs.Members.{Contains-head}

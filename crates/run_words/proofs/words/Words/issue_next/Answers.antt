@@ -38,7 +38,7 @@ returns-in-Some-clause-tray c =
     let made = s.1.0 ∙ ap (λ (h : Handle). made_by c.args.desk.now.maker ++ h ∷ []) (sym same) in
     let seen : HasSeen (lists c.see.new.seat) h = record { seen = inr (subst (λ (l : List Handle). Contains l h) (sym c.see.ensures.more_seen) (Contains-append_right (lists c.args.desk.now.seat).seen _ h (subst (λ (k : Handle). Contains (c.see.result ∷ []) k) (c.see.ensures.handle ∙ sym same) (Contains-head c.see.result [])))) } in
     subst (λ (l : List Handle). IsTray (events_of c.args.self.now) (length (graph_of c.args.self.now).lines) l d') (sym items)
-    (tray_more (events_of c.args.self.now) (length (graph_of c.args.self.now).lines) c.args.desk.now.handles.items c.args.desk.now d' h c.requires.tray d.maker made items c.push_within.ensures.capacity c.see.ensures.at c.see.ensures.kept seen refl)
+    (tray_more (events_of c.args.self.now) (length (graph_of c.args.self.now).lines) c.args.desk.now.handles.items c.args.desk.now d' h c.requires.tray d.maker made items c.push_within.ensures.capacity c.see.ensures.at c.see.ensures.kept seen (λ z. s.3 (sym same ∙ z)) refl)
 
 pub returns-in-None-clause-tray : goal.returns-in-None-clause-tray
 returns-in-None-clause-tray c = let d = c.in-None.ensures in tray_same _ _ c.args.desk.now.handles.items c.args.desk.now _ c.requires.tray d.maker d.none refl c.requires.tray.seat (λ h k. k, λ h f k. k) refl

@@ -1,4 +1,4 @@
-use Rattle.std.proofs.Common.{ℕ, List, [], ◌∷◌, inl, refl, sym, subst}
+use Rattle.std.proofs.Common.{ℕ, List, [], ◌∷◌, inl, inr, refl, sym, subst}
 use Rattle.std.specs.Prelude.{Contains}
 use Rattle.std.proofs.lemmas.List.Elements.{Contains-append_right}
 use Rattle.gen_events.proofs.Members.{Contains-head}
@@ -23,3 +23,12 @@ pub returns-in-Placed-clause-told : goal.returns-in-Placed-clause-told
 returns-in-Placed-clause-told c =
     inl (subst (λ (l : List (ℕ × Handle)). Contains l (number_of c.args.waiter, c.args.handle)) (sym c.in-Placed.ensures.told.1)
     (Contains-append_right (lists c.join.new.seat).placed ((number_of c.args.waiter, c.args.handle) ∷ []) (number_of c.args.waiter, c.args.handle) (Contains-head {A = ℕ × Handle} (number_of c.args.waiter, c.args.handle) [])))
+
+pub returns-in-Over-clause-told : goal.returns-in-Over-clause-told
+returns-in-Over-clause-told c = inr (inl (
+  c.in-Over.field-0,
+  elim c.in-Over.ensures.told.0 [
+    | inl none ↦ absurd (c.requires.tray.created c.args.handle c.requires.handle none.0)
+    | inr knows ↦ knows
+  ],
+))
