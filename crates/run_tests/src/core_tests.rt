@@ -23,7 +23,7 @@ use test_texts::tiles;
 
 /// In which order lines are attempted.
 #[derive(Clone, Copy)]
-enum Order {
+pub(crate) enum Order {
     Ascending,
     Descending,
     /// The first, the last, the second, the last but one, and so on.
@@ -31,7 +31,7 @@ enum Order {
 }
 
 /// The line at a place of this order of so many lines.
-fn line_at(order: Order, place: u32, lines: u32) -> u32
+pub(crate) fn line_at(order: Order, place: u32, lines: u32) -> u32
     requires { place < lines }
     ensures { result < lines }
 {

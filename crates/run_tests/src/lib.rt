@@ -1,5 +1,5 @@
-//! Tests of runs by a core and by workers, by public calls alone. It has no code of its own, so that
-//! its tests are proved once, and the crates below are proved without them.
+//! Tests of runs by a core, in words and by workers, by public calls alone. It has no code of its
+//! own, so that its tests are proved once, and the crates below are proved without them.
 #![tactic(auto)]
 
 #[cfg(test)]
@@ -8,5 +8,7 @@ mod core_tests;
 mod graphs;
 #[cfg(test)]
 mod outcomes;
+#[cfg(test)]
+mod word_tests;
 #[cfg(test)]
 mod worker_tests;
