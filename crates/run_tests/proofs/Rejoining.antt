@@ -41,15 +41,15 @@ pub rejoined_after : (s t u v : WordSeat) (k : WordWork) → IsOut s t k → Rej
 rejoined_after s t u v k o r e =
     let grown : (n : ℕ) → Contains (numbers_of u) n → Contains (numbers_of v) n = λ n d. subst (λ l. Contains l n) (sym e.0) (Contains-append_left (numbers_of u) (work_numbers k) n d) in
     let own : (n : ℕ) → o.0 ≡ n → Contains (numbers_of v) n = λ n is.
-        subst (λ l. Contains l n) (sym e.0) (Contains-append_right (numbers_of u) (work_numbers k) n
-        (subst (λ l. Contains l n) (sym o.3) (subst (Contains (o.0 ∷ [])) is (Contains-push [] o.0)))) in
+    subst (λ l. Contains l n) (sym e.0) (Contains-append_right (numbers_of u) (work_numbers k) n
+    (subst (λ l. Contains l n) (sym o.3) (subst (Contains (o.0 ∷ [])) is (Contains-push [] o.0)))) in
     record {
       kept = λ n d. grown n (r.kept n (subst (λ l. Contains l n) (sym o.1) d));
       back = λ n d. ⊎_elim
           (λ early. ⊎_elim
-              (λ first. ⊎_elim (λ old. inl old) (λ is. inr (own n is)) (Contains-push_cases (splits_of s) o.0 n (subst (λ l. Contains l n) o.2 first)))
-              (λ here. inr (grown n here))
-              (r.back n early))
+          (λ first. ⊎_elim (λ old. inl old) (λ is. inr (own n is)) (Contains-push_cases (splits_of s) o.0 n (subst (λ l. Contains l n) o.2 first)))
+          (λ here. inr (grown n here))
+          (r.back n early))
           (λ late. absurd (no_member n (subst (λ l. Contains l n) o.4 late)))
           (Contains-append_cases (splits_of u) (work_splits k) n (subst (λ l. Contains l n) e.1 d));
     }
@@ -63,14 +63,14 @@ rejoined_both s t p one other last z x y e =
     let left : (n : ℕ) → Contains (numbers_of one) n → Contains (numbers_of last) n = λ n d. subst (λ l. Contains l n) (sym e.0) (Contains-append_left (numbers_of one) (numbers_of other) n d) in
     let right : (n : ℕ) → Contains (numbers_of other) n → Contains (numbers_of last) n = λ n d. subst (λ l. Contains l n) (sym e.0) (Contains-append_right (numbers_of one) (numbers_of other) n d) in
     let own : (n : ℕ) → z.0 ≡ n → Contains (numbers_of last) n = λ n is.
-        right n (y.kept n (subst (λ l. Contains l n) (sym z.1) (subst (Contains (z.0 ∷ [])) is (Contains-push [] z.0)))) in
+    right n (y.kept n (subst (λ l. Contains l n) (sym z.1) (subst (Contains (z.0 ∷ [])) is (Contains-push [] z.0)))) in
     record {
       kept = λ n d. left n (x.kept n (subst (λ l. Contains l n) (sym z.3) d));
       back = λ n d. ⊎_elim
           (λ early. ⊎_elim
-              (λ first. ⊎_elim (λ old. inl old) (λ is. inr (own n is)) (Contains-push_cases (splits_of s) z.0 n (subst (λ l. Contains l n) z.4 first)))
-              (λ here. inr (left n here))
-              (x.back n early))
+          (λ first. ⊎_elim (λ old. inl old) (λ is. inr (own n is)) (Contains-push_cases (splits_of s) z.0 n (subst (λ l. Contains l n) z.4 first)))
+          (λ here. inr (left n here))
+          (x.back n early))
           (λ late. ⊎_elim (λ first. absurd (no_member n (subst (λ l. Contains l n) z.2 first))) (λ here. inr (right n here)) (y.back n late))
           (Contains-append_cases (splits_of one) (splits_of other) n (subst (λ l. Contains l n) e.1 d));
     }
