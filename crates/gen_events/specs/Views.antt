@@ -104,12 +104,14 @@ IsNew old new h = (new ≡ old ++ h ∷ []) × (Contains old h → ⊥)
 abbrev pub IsTaken : Shape → List Handle → ℕ → ℕ → Type 0
 IsTaken shape made i r = (turns_of r ≡ 2 * shape.last_gen + 2) ⊎ ((h : Handle) × (h.slot ≡ i) × (turns_of r ≡ 2 * h.gen_ + 1) × Contains made h)
 
--- in between, each slot below n was looked at, and found taken
-abbrev pub Scanned : Shape → List Handle → View → View → ℕ → Type 0
-Scanned shape made v w n = (found : List (ℕ × ℕ)) × (w.saw ≡ v.saw ++ found) × ((i : ℕ) → i < n → (r : ℕ) × Contains found (i, r) × IsTaken shape made i r)
+-- in between, each slot from low on and below high was looked at, and found taken
+abbrev pub Scanned : Shape → List Handle → View → View → ℕ → ℕ → Type 0
+Scanned shape made v w low high = (found : List (ℕ × ℕ)) × (w.saw ≡ v.saw ++ found)
+    × ((i : ℕ) → low ≤ i → i < high → (r : ℕ) × Contains found (i, r) × IsTaken shape made i r)
 
 abbrev pub IsFull : Shape → List Handle → View → View → Type 0
-IsFull shape made v w = Scanned shape made v w shape.slots
+IsFull shape made v w = (found : List (ℕ × ℕ)) × (w.saw ≡ v.saw ++ found)
+    × ((i : ℕ) → i < shape.slots → (r : ℕ) × Contains found (i, r) × IsTaken shape made i r)
 
 -- the older handles of its slot are those of the generations below, and the seat has found each of them past
 pub record ComesAfter (made : List Handle) (w : View) (h : Handle) : Type 0 where

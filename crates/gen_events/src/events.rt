@@ -73,7 +73,10 @@ impl Events {
         let maker = table.shared.split_seat::<Appoints>(&mut first);
         let set = table.shared.split_seat::<DealsAll>(&mut first);
         let events = Events { table, shape };
-        let maker = Maker { inner: maker };
+        let maker = Maker {
+            next: 0,
+            inner: maker,
+        };
         let seat = Seat { inner: first };
         let set = WaiterSet {
             next: 0,
@@ -184,7 +187,7 @@ impl Events {
         ensures past { (h : TheHandle) → IsPast (lists seat) h → HasEnded result h }
         ensures left { (h : TheHandle) → Contains (lists seat).left h → answer result h ≡ Some Answer.Pending }
     {
-        let Maker { inner: mut all } = maker;
+        let Maker { inner: mut all, .. } = maker;
         let Seat { inner } = seat;
         self.table.shared.join_seat::<Gathers>(&mut all, inner);
         let Events { table, shape } = self;

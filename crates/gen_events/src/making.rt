@@ -1,8 +1,8 @@
 //! Creating events, which the one Maker does.
 
 ghost use Rattle.gen_events.specs.Seats.{HasSeen, Grows, Keeps, SamePlacings, no_event};
-ghost use Rattle.gen_events.specs.Views.{lists, IsOf, IsAt, IsMakerOf, IsPendingOf, made_by, maker_lists, shape_of, handle_of, IsNew, IsFull, IsWithin, ArePast, ComesAfter};
-ghost use Rattle.std.specs.Prelude.{◌≡◌, ◌≢◌, ◌%◌, ◌/◌, ◌<◌, ◌++◌, Contains, IfSome, IfNone};
+ghost use Rattle.gen_events.specs.Views.{lists, IsOf, IsAt, IsMakerOf, IsPendingOf, made_by, maker_lists, shape_of, handle_of, IsNew, IsFull, Scanned, IsWithin, ArePast, ComesAfter};
+ghost use Rattle.std.specs.Prelude.{◌≡◌, ◌≢◌, ◌%◌, ◌/◌, ◌<◌, ◌≤◌, ◌++◌, Contains, IfSome, IfNone};
 
 use crate::events::Events;
 use crate::handle::Handle;
@@ -31,18 +31,64 @@ impl Events {
         ensures same_placings { SamePlacings (lists seat.old) (lists seat.new) }
         ensures same_left { (lists seat.new).left ≡ (lists seat.old).left }
     {
-        let mut slot = 0;
-        while slot < self.shape.slots {
+        let Some((slot, found)) = self.scan_round(maker) else {
+            self.report(maker, seat);
+            return None;
+        };
+        Some(self.make(maker, seat, slot, found))
+    }
+
+    // A free slot, with its word. The first that is looked at is the one behind that which was given
+    // last, since the slots there were given longest ago.
+    fn scan_round(&self, maker: &mut Maker) -> Option<(u32, u64)>
+        requires maker { IsOf self.now maker.old.inner }
+        ensures maker { IsOf self.now maker.new.inner }
+        ensures made { made_by maker.new ≡ made_by maker.old }
+        ensures slot { IfSome result (λ r. r.0 < (shape_of self.now).slots) }
+        ensures free { IfSome result (λ r. (r.1 % 4294967296 ≡ 0) × Contains (maker_lists maker.new).spare r) }
+        ensures past { IfSome result (λ r. ArePast (made_by maker.new) (maker_lists maker.new) r.0 (r.1 / 4294967296)) }
+        ensures full { IfNone result (IsFull (shape_of self.now) (made_by maker.old) (maker_lists maker.old) (maker_lists maker.new)) }
+    {
+        let from = self.first_to_scan(maker);
+        let Some(free) = self.scan(maker, from, self.shape.slots) else {
+            return self.scan(maker, 0, from);
+        };
+        Some(free)
+    }
+
+    // The slot behind the one that was given last.
+    fn first_to_scan(&self, maker: &Maker) -> u32
+        ensures { result ≤ (shape_of self.now).slots }
+    {
+        if maker.next < self.shape.slots {
+            maker.next
+        } else {
+            0
+        }
+    }
+
+    // The first free slot from `low` on and below `high`, with its word.
+    fn scan(&self, maker: &mut Maker, low: u32, high: u32) -> Option<(u32, u64)>
+        requires maker { IsOf self.now maker.old.inner }
+        requires high { high ≤ (shape_of self.now).slots }
+        ensures maker { IsOf self.now maker.new.inner }
+        ensures made { made_by maker.new ≡ made_by maker.old }
+        ensures slot { IfSome result (λ r. r.0 < (shape_of self.now).slots) }
+        ensures free { IfSome result (λ r. (r.1 % 4294967296 ≡ 0) × Contains (maker_lists maker.new).spare r) }
+        ensures past { IfSome result (λ r. ArePast (made_by maker.new) (maker_lists maker.new) r.0 (r.1 / 4294967296)) }
+        ensures none { IfNone result (Scanned (shape_of self.now) (made_by maker.old) (maker_lists maker.old) (maker_lists maker.new) low high) }
+    {
+        let mut slot = low;
+        while slot < high {
             let found = self
                 .table
                 .shared
                 .load::<Scout>(&mut maker.inner, slot as usize);
             if found % 4294967296 == 0 {
-                return Some(self.make(maker, seat, slot, found));
+                return Some((slot, found));
             }
             slot += 1;
         }
-        self.report(maker, seat);
         None
     }
 
@@ -74,6 +120,7 @@ impl Events {
             .compare_exchange::<Create>(&mut maker.inner, slot as usize, found, found + 1);
         let inner = self.table.shared.split_seat::<Grants>(&mut maker.inner);
         self.report(maker, seat);
+        maker.next = slot + 1;
         Pending {
             handle: Handle { slot, gen_ },
             inner,

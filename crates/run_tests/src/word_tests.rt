@@ -2,7 +2,7 @@
 //! outcome of the evaluation.
 
 ghost use Rattle.std.specs.Prelude.{◌≡◌, ◌+◌, ◌<◌, ◌≤◌, ◌++◌, length, IfOk, IfSome, IfNone};
-ghost use Rattle.run_tests.specs.Rejoined.{Rejoined};
+ghost use Rattle.run_words.specs.Rejoined.{Rejoined};
 ghost use Rattle.run_words.specs.Answered.{IsOut, work_numbers, work_splits};
 ghost use Rattle.run_words.specs.Words.{graph_of, numbers_of, splits_of, HasAll, IsAt};
 ghost use Rattle.run_words.specs.Works.{IsWokenOf, IsWorkOf};

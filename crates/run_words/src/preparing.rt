@@ -268,6 +268,7 @@ impl<'g> Words<'g> {
                 WordSeat {
                     inner,
                     events: seat,
+                    has_placed: false,
                 },
             )),
             Err(Refused { slots }) => {

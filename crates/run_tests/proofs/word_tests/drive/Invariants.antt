@@ -1,6 +1,6 @@
 use Rattle.std.proofs.Common.{◌*◌, ◌≤◌}
 use Rattle.run_words.specs.Words.{IsAt}
-use Rattle.run_tests.specs.Rejoined.{Rejoined}
+use Rattle.run_words.specs.Rejoined.{Rejoined}
 use Rattle.run_tests.proofs.word_tests.drive.Given as goal
 
 abbrev pub invariant-loop-turn : goal.invariant-loop-turn

@@ -1,5 +1,5 @@
 use Rattle.run_words.specs.Words.{IsAt}
-use Rattle.run_tests.specs.Rejoined.{Rejoined}
+use Rattle.run_words.specs.Rejoined.{Rejoined}
 use Rattle.run_tests.proofs.word_tests.issue_all.Given as goal
 
 abbrev pub invariant-loop-turn : goal.invariant-loop-turn

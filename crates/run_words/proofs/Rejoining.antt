@@ -6,7 +6,7 @@ use Rattle.run_words.specs.Answered.{IsOut, AreBack, work_numbers, work_splits}
 use Rattle.run_words.specs.Words.{numbers_of, splits_of, HasAll}
 use Rattle.run_words.specs.declared.seats.WordSeat.{WordSeat}
 use Rattle.run_words.specs.declared.works.WordWork.{WordWork}
-use Rattle.run_tests.specs.Rejoined.{Rejoined}
+use Rattle.run_words.specs.Rejoined.{Rejoined}
 
 no_member : (n : ℕ) → Contains {X = ℕ} [] n → ⊥
 no_member n d = omega (arith, d.1)

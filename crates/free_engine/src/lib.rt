@@ -1,0 +1,9 @@
+//! A run by several workers, which share its words without a lock.
+#![tactic(auto)]
+
+mod engine;
+mod idle;
+mod search;
+mod workers;
+
+pub use engine::run_free;

@@ -1,0 +1,13 @@
+use Rattle.std.proofs.Common.{◌≡◌, ◌-◌}
+use Rattle.gen_events.specs.Views.{IsOf, Scanned}
+use Rattle.gen_events.proofs.events.Events.scan.Given as goal
+
+abbrev pub decreases-loop-slot : goal.decreases-loop-slot
+decreases-loop-slot l = l.high - l.slot
+
+abbrev pub invariant-loop-slot : goal.invariant-loop-slot
+invariant-loop-slot l = record {
+  at : IsOf l.self l.maker.inner;
+  made : l.maker.inner.me.0.made ≡ l.fn.maker.inner.me.0.made;
+  scanned : Scanned l.self.shape l.fn.maker.inner.me.0.made l.fn.maker.inner.me.0 l.maker.inner.me.0 l.low l.slot;
+}
