@@ -4,6 +4,7 @@
 mod engine;
 mod idle;
 mod search;
+mod shared_words;
 mod workers;
 
 pub use engine::run_free;

@@ -1,5 +1,5 @@
-//! The search of a worker for its next line, and what it does with it. Where lines are left for later
-//! nothing rests on it but speed: what no worker takes is done at the end.
+//! The search of a worker for its next line. Where lines are left for later nothing rests on it but
+//! speed: what no worker takes is done at the end.
 
 ghost use Rattle.std.specs.Prelude.{◌≡◌, ◌+◌, ◌<◌, ◌++◌, length, IfSome, IfNone};
 ghost use Rattle.run_words.specs.Answered.{work_numbers, work_splits};
@@ -8,10 +8,9 @@ ghost use Rattle.run_words.specs.Words.{graph_of, numbers_of, splits_of, IsAt};
 ghost use Rattle.run_words.specs.Works.{IsWokenOf, IsWorkOf};
 
 use crate::idle::Waiting;
-use graph_model::graph::Graph;
+use crate::shared_words::{Refusal, SharedWords};
 use realm_io::{Gate, Hints};
-use run_core::Issue;
-use run_words::{Woken, WordAttempt, WordSeat, WordWork, Words};
+use run_words::{Woken, WordSeat, WordWork};
 use std::sync::Wait;
 
 /// How many lines that were left for later a worker tries in one search.
@@ -37,16 +36,16 @@ impl Search {
 }
 
 /// Takes a line: the one that was kept, else one that was left for later, else one that is new.
-pub(crate) fn find<'g, R: Wait, H: Hints>(
+pub(crate) fn find<R: Wait, W: SharedWords, H: Hints>(
     rt: &R,
-    words: &Words<'g>,
+    words: &W,
     seat: &mut WordSeat,
     hints: &mut H,
     search: &mut Search,
 ) -> Option<WordWork>
-    requires at { IsAt words.now seat.old }
-    ensures at { IsAt words.now seat.new }
-    ensures work { IfSome result (λ work. IsWorkOf words.now work) }
+    requires at { IsAt (W.words words.now) seat.old }
+    ensures at { IsAt (W.words words.now) seat.new }
+    ensures work { IfSome result (λ work. IsWorkOf (W.words words.now) work) }
     ensures taken { IfSome result (λ work. HasTaken seat.old seat.new work) }
     ensures none { IfNone result (Rejoined seat.old seat.new) }
 {
@@ -60,50 +59,43 @@ pub(crate) fn find<'g, R: Wait, H: Hints>(
 }
 
 /// Tries the line that was kept.
-fn take_kept<'g, R: Wait, H: Hints>(
+fn take_kept<R: Wait, W: SharedWords, H: Hints>(
     rt: &R,
-    words: &Words<'g>,
+    words: &W,
     seat: &mut WordSeat,
     hints: &mut H,
     search: &mut Search,
 ) -> Option<WordWork>
-    requires at { IsAt words.now seat.old }
-    ensures at { IsAt words.now seat.new }
-    ensures work { IfSome result (λ work. IsWorkOf words.now work) }
+    requires at { IsAt (W.words words.now) seat.old }
+    ensures at { IsAt (W.words words.now) seat.new }
+    ensures work { IfSome result (λ work. IsWorkOf (W.words words.now) work) }
     ensures taken { IfSome result (λ work. HasTaken seat.old seat.new work) }
     ensures none { IfNone result (Rejoined seat.old seat.new) }
 {
     let Some(line) = search.kept.take() else {
         return None;
     };
-    if line >= words.graph().lines() {
-        return None;
-    }
-    try_line(rt, words, seat, hints, line)
+    try_hint(rt, words, seat, hints, line)
 }
 
 /// Tries lines that were left for later.
-fn take_hinted<'g, R: Wait, H: Hints>(
+fn take_hinted<R: Wait, W: SharedWords, H: Hints>(
     rt: &R,
-    words: &Words<'g>,
+    words: &W,
     seat: &mut WordSeat,
     hints: &mut H,
 ) -> Option<WordWork>
-    requires at { IsAt words.now seat.old }
-    ensures at { IsAt words.now seat.new }
-    ensures work { IfSome result (λ work. IsWorkOf words.now work) }
+    requires at { IsAt (W.words words.now) seat.old }
+    ensures at { IsAt (W.words words.now) seat.new }
+    ensures work { IfSome result (λ work. IsWorkOf (W.words words.now) work) }
     ensures taken { IfSome result (λ work. HasTaken seat.old seat.new work) }
     ensures none { IfNone result (Rejoined seat.old seat.new) }
 {
-    let lines = words.graph().lines();
-    for _try in 0..MOST_TRIES {
+    for _turn in 0..MOST_TRIES {
         let Some(line) = hints.take(rt) else {
             return None;
         };
-        if line >= lines {
-            continue;
-        }
-        if let Some(work) = try_line(rt, words, seat, hints, line) {
+        if let Some(work) = try_hint(rt, words, seat, hints, line) {
             return Some(work);
         }
     }
@@ -111,22 +103,24 @@ fn take_hinted<'g, R: Wait, H: Hints>(
 }
 
 /// Issues lines, and tries each.
-fn take_new<'g, R: Wait, H: Hints>(
+fn take_new<R: Wait, W: SharedWords, H: Hints>(
     rt: &R,
-    words: &Words<'g>,
+    words: &W,
     seat: &mut WordSeat,
     hints: &mut H,
     search: &mut Search,
 ) -> Option<WordWork>
-    requires at { IsAt words.now seat.old }
-    ensures at { IsAt words.now seat.new }
-    ensures work { IfSome result (λ work. IsWorkOf words.now work) }
+    requires at { IsAt (W.words words.now) seat.old }
+    ensures at { IsAt (W.words words.now) seat.new }
+    ensures work { IfSome result (λ work. IsWorkOf (W.words words.now) work) }
     ensures taken { IfSome result (λ work. HasTaken seat.old seat.new work) }
     ensures none { IfNone result (Rejoined seat.old seat.new) }
 {
-    let lines = words.graph().lines();
-    for _turn in 0..lines {
-        let Some(line) = next_new(words, seat, search) else {
+    if search.is_all_issued {
+        return None;
+    }
+    for _turn in 0..words.lines() {
+        let Some(line) = words.next_new(seat, &mut search.is_all_issued) else {
             return None;
         };
         if let Some(work) = try_line(rt, words, seat, hints, line) {
@@ -136,64 +130,56 @@ fn take_new<'g, R: Wait, H: Hints>(
     None
 }
 
-/// The next line that is issued, where one can be now.
-fn next_new<'g>(words: &Words<'g>, seat: &mut WordSeat, search: &mut Search) -> Option<u32>
-    requires at { IsAt words.now seat.old }
-    ensures at { IsAt words.now seat.new }
-    ensures line { IfSome result (λ line. line < length (graph_of words.now).lines) }
-    ensures numbers { (numbers_of seat.new ≡ numbers_of seat.old) × (splits_of seat.new ≡ splits_of seat.old) }
-{
-    if search.is_all_issued {
-        return None;
-    }
-    match words.issue(seat) {
-        Issue::Issued(line) => Some(line),
-        Issue::All => {
-            search.is_all_issued = true;
-            None
-        }
-        Issue::NoSlot => None,
-        Issue::Other => None,
-    }
-}
-
-/// Tries a line. It is left for later where nothing else gives it again.
-fn try_line<'g, R: Wait, H: Hints>(
+/// Tries what is said to be a line.
+fn try_hint<R: Wait, W: SharedWords, H: Hints>(
     rt: &R,
-    words: &Words<'g>,
+    words: &W,
     seat: &mut WordSeat,
     hints: &mut H,
     line: u32,
 ) -> Option<WordWork>
-    requires at { IsAt words.now seat.old }
-    requires line { line < length (graph_of words.now).lines }
-    ensures at { IsAt words.now seat.new }
-    ensures work { IfSome result (λ work. IsWorkOf words.now work) }
+    requires at { IsAt (W.words words.now) seat.old }
+    ensures at { IsAt (W.words words.now) seat.new }
+    ensures work { IfSome result (λ work. IsWorkOf (W.words words.now) work) }
     ensures taken { IfSome result (λ work. HasTaken seat.old seat.new work) }
     ensures none { IfNone result (Rejoined seat.old seat.new) }
 {
-    match words.attempt(seat, line) {
-        WordAttempt::Taken(work) => Some(work),
-        WordAttempt::Over(_) => None,
-        WordAttempt::Never => None,
-        WordAttempt::NotYet(_) => {
-            if !seat.has_placed() {
-                hints.push(rt, line);
-            }
-            None
-        }
-        WordAttempt::Busy(_) => {
+    if line >= words.lines() {
+        return None;
+    }
+    try_line(rt, words, seat, hints, line)
+}
+
+/// Tries a line, and leaves it for later where nothing else gives it again.
+fn try_line<R: Wait, W: SharedWords, H: Hints>(
+    rt: &R,
+    words: &W,
+    seat: &mut WordSeat,
+    hints: &mut H,
+    line: u32,
+) -> Option<WordWork>
+    requires at { IsAt (W.words words.now) seat.old }
+    requires line { line < length (graph_of (W.words words.now)).lines }
+    ensures at { IsAt (W.words words.now) seat.new }
+    ensures work { IfSome result (λ work. IsWorkOf (W.words words.now) work) }
+    ensures taken { IfSome result (λ work. HasTaken seat.old seat.new work) }
+    ensures none { IfNone result (Rejoined seat.old seat.new) }
+{
+    match words.take(seat, line) {
+        Ok(work) => Some(work),
+        Err(Refusal::Nothing) => None,
+        Err(Refusal::Later) => {
             hints.push(rt, line);
             None
         }
     }
 }
 
-/// Passes the gate, performs the work of a line and puts the line back. The first line that waited
-/// for it is kept, and the others are left for later, of which the other workers are told.
-pub(crate) fn end_work<'g, R: Wait, G: Gate, H: Hints>(
+/// Performs the work of a line and puts the line back. The first line that waited for it is kept, and
+/// the others are left for later, of which the other workers are told.
+pub(crate) fn end_work<R: Wait, W: SharedWords, G: Gate, H: Hints>(
     rt: &R,
-    words: &Words<'g>,
+    words: &W,
     seat: &mut WordSeat,
     work: WordWork,
     gate: &G,
@@ -201,38 +187,35 @@ pub(crate) fn end_work<'g, R: Wait, G: Gate, H: Hints>(
     idle: &Waiting,
     search: &mut Search,
 )
-    requires at { IsAt words.now seat.old }
-    requires work { IsWorkOf words.now work }
-    ensures at { IsAt words.now seat.new }
+    requires at { IsAt (W.words words.now) seat.old }
+    requires work { IsWorkOf (W.words words.now) work }
+    ensures at { IsAt (W.words words.now) seat.new }
     ensures numbers { (numbers_of seat.new ≡ numbers_of seat.old ++ work_numbers work)
         × (splits_of seat.new ≡ splits_of seat.old ++ work_splits work) }
 {
-    gate.pass(rt, work.line());
-    let graph = words.graph();
-    let finished = work.perform(graph);
-    let mut woken = words.put_back(seat, finished);
-    search.kept = woken.next(words, seat);
+    let mut woken = words.end(rt, seat, work, gate);
+    search.kept = words.next_woken(seat, &mut woken);
     if leave_others(rt, words, seat, woken, hints) {
         idle.tell();
     }
 }
 
 /// Leaves all that waited for a line for later. Whether there were any.
-fn leave_others<'g, R: Wait, H: Hints>(
+fn leave_others<R: Wait, W: SharedWords, H: Hints>(
     rt: &R,
-    words: &Words<'g>,
+    words: &W,
     seat: &mut WordSeat,
     mut woken: Woken,
     hints: &mut H,
 ) -> bool
-    requires at { IsAt words.now seat.old }
-    requires woken { IsWokenOf words.now woken }
-    ensures at { IsAt words.now seat.new }
+    requires at { IsAt (W.words words.now) seat.old }
+    requires woken { IsWokenOf (W.words words.now) woken }
+    ensures at { IsAt (W.words words.now) seat.new }
     ensures numbers { (numbers_of seat.new ≡ numbers_of seat.old) × (splits_of seat.new ≡ splits_of seat.old) }
 {
     let mut any = false;
-    for _turn in 0..words.graph().lines() {
-        let Some(line) = woken.next(words, seat) else {
+    for _turn in 0..words.lines() {
+        let Some(line) = words.next_woken(seat, &mut woken) else {
             return any;
         };
         hints.push(rt, line);

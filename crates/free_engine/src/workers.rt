@@ -1,98 +1,64 @@
 //! Workers, which share the lines of a run.
 
-ghost use Rattle.std.specs.Prelude.{ℕ, ◌≡◌, ◌<◌, ◌++◌, ◌∷◌, [], length};
+ghost use Rattle.std.specs.Prelude.{◌≡◌, ◌<◌, length};
 ghost use Rattle.std.specs.Thread.{IsSync, IsSend};
 ghost use Rattle.run_words.specs.Rejoined.{Rejoined};
-ghost use Rattle.run_words.specs.Words.{numbers_of, splits_of, IsAt};
-ghost use Rattle.run_words.specs.declared.words.Words.{Words as TheWords};
+ghost use Rattle.run_words.specs.Words.{IsAt};
 
 use crate::idle::Waiting;
 use crate::search::{Search, end_work, find};
+use crate::shared_words::SharedWords;
 use realm_io::{Gate, Hints};
-use run_words::{WordSeat, Words};
+use run_words::WordSeat;
 use std::sync::Wait;
 use std::thread::{Threads, join};
 
-/// The words that workers share. It hides their lifetime, since a closure that captures a type with a
-/// lifetime of its own tells `join` nothing.
-pub(crate) trait SharedWords: Sync {
-    // Which words they are.
-    ghost words: { Self → TheWords };
-
-    /// One worker: takes lines and performs them until it finds none and no other worker has one.
-    fn work<R: Wait, G: Gate, H: Hints>(
-        &self,
-        rt: &R,
-        gate: &G,
-        idle: &Waiting,
-        hints: &mut H,
-        seat: WordSeat,
-    ) -> WordSeat
-        requires at { IsAt (words self.now) seat }
-        ensures at { IsAt (words self.now) result }
-        ensures back { Rejoined seat result };
-
-    /// Splits a seat off.
-    fn cut(&self, seat: WordSeat) -> (WordSeat, WordSeat)
-        requires at { IsAt (words self.now) seat }
-        ensures at { IsAt (words self.now) result.0 × IsAt (words self.now) result.1 }
-        ensures numbers { (n : ℕ) × (numbers_of result.1 ≡ n ∷ []) × (splits_of result.1 ≡ [])
-            × (numbers_of result.0 ≡ numbers_of seat) × (splits_of result.0 ≡ splits_of seat ++ n ∷ []) };
-
-    /// Joins a seat into another.
-    fn joined(&self, first: WordSeat, second: WordSeat) -> WordSeat
-        requires at { IsAt (words self.now) first × IsAt (words self.now) second }
-        ensures at { IsAt (words self.now) result }
-        ensures numbers { (numbers_of result ≡ numbers_of first ++ numbers_of second)
-            × (splits_of result ≡ splits_of first ++ splits_of second) };
+/// One worker: takes lines and performs them until it finds none and no other worker has one.
+fn work<R: Wait, W: SharedWords, G: Gate, H: Hints>(
+    rt: &R,
+    words: &W,
+    gate: &G,
+    idle: &Waiting,
+    seat: WordSeat,
+    hints: &mut H,
+) -> WordSeat
+    requires at { IsAt (W.words words.now) seat }
+    ensures at { IsAt (W.words words.now) result }
+    ensures back { Rejoined seat result }
+{
+    idle.enter();
+    let mut own = seat;
+    let mut search = Search::new();
+    let mut seen = None;
+    for _turn in rt.forever() {
+        let Some(work) = find(rt, words, &mut own, hints, &mut search) else {
+            if !wait(rt, idle, &mut seen) {
+                return own;
+            }
+            continue;
+        };
+        go_on(idle, &mut seen);
+        end_work(rt, words, &mut own, work, gate, hints, idle, &mut search);
+    }
+    unreachable!()
 }
 
-impl<'g> SharedWords for Words<'g> {
-    ghost words = { λ w. w };
-
-    fn work<R: Wait, G: Gate, H: Hints>(
-        &self,
-        rt: &R,
-        gate: &G,
-        idle: &Waiting,
-        hints: &mut H,
-        seat: WordSeat,
-    ) -> WordSeat {
-        idle.enter();
-        let mut own = seat;
-        let mut search = Search::new();
-        let mut seen = None;
-        for _turn in rt.forever() {
-            let Some(work) = find(rt, self, &mut own, hints, &mut search) else {
-                let Some(count) = seen else {
-                    seen = Some(idle.announce());
-                    continue;
-                };
-                if !idle.sleep(rt, count) {
-                    return own;
-                }
-                seen = None;
-                continue;
-            };
-            if seen.is_some() {
-                idle.withdraw();
-                seen = None;
-            }
-            end_work(rt, self, &mut own, work, gate, hints, idle, &mut search);
+/// A worker that found no line announces that it is about to wait, and the next time waits.
+/// False where no other worker has a line.
+fn wait<R: Wait>(rt: &R, idle: &Waiting, seen: &mut Option<u64>) -> bool {
+    match seen.take() {
+        None => {
+            *seen = Some(idle.announce());
+            true
         }
-        unreachable!()
+        Some(count) => idle.sleep(rt, count),
     }
+}
 
-    fn cut(&self, seat: WordSeat) -> (WordSeat, WordSeat) {
-        let mut own = seat;
-        let other = self.split(&mut own);
-        (own, other)
-    }
-
-    fn joined(&self, first: WordSeat, second: WordSeat) -> WordSeat {
-        let mut own = first;
-        self.join(&mut own, second);
-        own
+/// A worker that found a line does not wait, where it had announced it.
+fn go_on(idle: &Waiting, seen: &mut Option<u64>) {
+    if seen.take().is_some() {
+        idle.withdraw();
     }
 }
 
@@ -115,7 +81,7 @@ pub(crate) fn run_workers<R: Threads + Wait + Sync, W: SharedWords, G: Gate, H: 
     }
     let (first, rest) = hints.split_at_mut(1);
     if rest.len() == 0 {
-        return words.work(rt, gate, idle, &mut first[0], seat);
+        return work(rt, words, gate, idle, seat, &mut first[0]);
     }
     let (own, other) = words.cut(seat);
     let (own, other) = run_both(rt, words, gate, idle, own, &mut first[0], other, rest);
@@ -141,11 +107,11 @@ fn run_both<R: Threads + Wait + Sync, W: SharedWords, G: Gate, H: Hints>(
     join(
         rt,
         || -> WordSeat
-            requires { IsAt (W.words words.now) own }
+            requires { IsSync G.row × IsSend H.row × IsAt (W.words words.now) own }
             ensures { IsAt (W.words words.entry.now) result × Rejoined own result }
-        { words.work(rt, gate, idle, hints, own) },
+        { work(rt, words, gate, idle, own, hints) },
         || -> WordSeat
-            requires { IsSync R.row × IsAt (W.words words.now) other }
+            requires { IsSync R.row × IsSync W.row × IsSync G.row × IsSend H.row × IsAt (W.words words.now) other }
             ensures { IsAt (W.words words.entry.now) result × Rejoined other result }
         { run_workers(rt, words, gate, idle, other, rest) },
     )

@@ -1,12 +1,12 @@
 -- When seats that were split off were joined again.
-use Rattle.std.proofs.Common.{◌≡◌, ℕ, [], ◌∷◌, ◌++◌, inl, inr, sym, subst, arith, ⊎_elim}
-use Rattle.std.specs.Prelude.{Contains}
+use Rattle.std.proofs.Common.{◌≡◌, ℕ, [], ◌∷◌, ◌++◌, inl, inr, sym, subst, arith, ⊎_elim, Option, Some, None}
+use Rattle.std.specs.Prelude.{Contains, IfSome, IfNone}
 use Rattle.std.proofs.lemmas.List.Elements.{Contains-append_left, Contains-append_right, Contains-append_cases, Contains-push, Contains-push_cases}
 use Rattle.run_words.specs.Answered.{IsOut, AreBack, work_numbers, work_splits}
 use Rattle.run_words.specs.Words.{numbers_of, splits_of, HasAll}
 use Rattle.run_words.specs.declared.seats.WordSeat.{WordSeat}
 use Rattle.run_words.specs.declared.works.WordWork.{WordWork}
-use Rattle.run_words.specs.Rejoined.{Rejoined}
+use Rattle.run_words.specs.Rejoined.{Rejoined, HasTaken}
 
 no_member : (n : ℕ) → Contains {X = ℕ} [] n → ⊥
 no_member n d = omega (arith, d.1)
@@ -86,3 +86,20 @@ all_still s t all r = record {
   first = r.kept 0 all.first;
   each = λ n d. ⊎_elim (λ old. r.kept n (all.each n old)) (λ here. here) (r.back n d);
 }
+
+-- A line was taken after seats that were split off were joined again
+pub taken_further : (s t u : WordSeat) (k : WordWork) → Rejoined s t → HasTaken t u k → HasTaken s u k
+taken_further s t u k r x = (x.0, rejoined_further s t x.0 r x.1, x.2)
+
+pub taken_then : (s t u : WordSeat) (found : Option WordWork) → Rejoined s t → IfSome found (λ k. HasTaken t u k) → IfSome found (λ k. HasTaken s u k)
+taken_then s t u None r x = tt
+taken_then s t u (Some k) r x = taken_further s t u k r x
+
+pub none_then : (s t u : WordSeat) (found : Option WordWork) → Rejoined s t → IfNone found (Rejoined t u) → IfNone found (Rejoined s u)
+none_then s t u None r x = rejoined_further s t u r x
+none_then s t u (Some k) r x = tt
+
+-- the work of the line was put back
+pub rejoined_by_work : (s t u : WordSeat) (k : WordWork) → HasTaken s t k
+    → (numbers_of u ≡ numbers_of t ++ work_numbers k) × (splits_of u ≡ splits_of t ++ work_splits k) → Rejoined s u
+rejoined_by_work s t u k x e = rejoined_further s x.0 u x.1 (rejoined_after x.0 t t u k x.2 (rejoined_at_first t) e)
