@@ -5,6 +5,7 @@ pub mod adapters;
 mod counts;
 mod fixed_buffer;
 pub mod gates;
+pub mod hints;
 mod listed;
 pub mod memory_sink;
 pub mod memory_source;
@@ -16,6 +17,7 @@ pub mod writing;
 
 pub use adapters::{StdSink, StdSource};
 pub use gates::{Gate, OpenGate};
+pub use hints::Hints;
 pub use memory_sink::MemorySink;
 pub use memory_source::MemorySource;
 pub use reading::{ReadEnd, read_all};

@@ -1,0 +1,5 @@
+pub mod HintRule
+pub mod HintLaws
+pub mod HintQueues
+pub mod Hints
+pub mod HintLists
