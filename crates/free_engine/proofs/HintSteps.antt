@@ -5,7 +5,7 @@ use mathlib.Core.Option.{some, some-ne-none}
 use lib.ListN.{get_elem?}
 use Rattle.crossbeam_queue.specs.Fifo.{Pushes, Pops, Forks, Learns}
 use Rattle.crossbeam_queue.proofs.Lists.{at_set, at_snoc}
-use Rattle.basics.specs.Sums.{total, only}
+use Rattle.basics.specs.Sums.{only}
 use Rattle.basics.proofs.Sums.{total-append, total-set}
 use Rattle.free_engine.specs.HintLaws.{ListsChangeBySteps}
 use Rattle.free_engine.specs.HintRule.{Holds, Saw, times, first_view, idle_view, with_lines, with_put, with_taken}

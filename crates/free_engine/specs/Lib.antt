@@ -3,3 +3,4 @@ pub mod HintLaws
 pub mod HintQueues
 pub mod Hints
 pub mod HintLists
+pub mod Rounds

@@ -1,4 +1,5 @@
-//! Hints that workers share: a queue of numbers of lines, and what each worker puts into it and takes out.
+//! Hints for workers: a queue of numbers of lines, which they share, with what each puts into it and takes out,
+//! and a round of numbers, which needs no memory.
 #![tactic(auto)]
 
 mod hint_list;
@@ -8,9 +9,11 @@ mod hint_view;
 mod laws;
 mod queue_counts;
 mod queue_hints;
+mod round;
 
 pub use hint_list::HintList;
 pub use hint_queue::{HintPass, HintQueue};
 pub use hint_view::HintView;
 pub use laws::lists_change_by_steps;
 pub use queue_hints::QueueHints;
+pub use round::Round;

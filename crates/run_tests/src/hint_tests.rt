@@ -1,6 +1,7 @@
-//! The queue of hints: what does not fit is dropped, and the rest comes in order, also to another thread.
+//! Hints: what does not fit into their queue is dropped, and the rest comes in order, also to another
+//! thread; a round gives each number once.
 
-use free_engine::HintQueue;
+use free_engine::{HintQueue, Round};
 use realm_io::Hints;
 use std::alloc::Global;
 use std::sync::Wait;
@@ -86,6 +87,16 @@ fn each_worker_has_hints(rt: HostRuntime) -> Result<(), Fail> {
         let mut list = queue.hints(rt.alloc(), pass, workers)?;
         assert_eq!(rt; list.parts().len(), workers as usize);
     }
+    Ok(())
+}
+
+#[test]
+fn a_round_gives_each_number_once(rt: HostRuntime) -> Result<(), Fail> {
+    let mut round = Round::new(4, 2);
+    round.push(&rt, 3);
+    let answers = [Some(2), Some(3), Some(0), Some(1), None, None];
+    assert!(rt; gives(&rt, &mut round, &answers));
+    assert!(rt; gives(&rt, &mut Round::new(0, 7), &[None]));
     Ok(())
 }
 
