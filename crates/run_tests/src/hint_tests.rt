@@ -63,7 +63,8 @@ fn comes_out<R: Wait + AllocGlobal>(rt: &R, row: Row) -> Result<bool, Fail> {
     }
     let (queue, pass) = HintQueue::new(rt.alloc(), row.lines)?;
     let mut list = queue.hints(rt.alloc(), pass, 2)?;
-    let [first, second] = list.parts() else {
+    let (first, second) = list.parts().split_at_mut(1);
+    let (Some(first), Some(second)) = (first.first_mut(), second.first_mut()) else {
         return Err("two workers".into());
     };
     push_each(rt, first, row.pushes);
@@ -128,7 +129,8 @@ fn take_all<R: Wait, H: Hints>(rt: &R, alloc: Global, hints: &mut H) -> Vec<u32>
 fn hints_come_in_order_to_another_thread(rt: HostRuntime) -> Result<(), Fail> {
     let (queue, pass) = HintQueue::new(rt.alloc(), MANY)?;
     let mut list = queue.hints(rt.alloc(), pass, 2)?;
-    let [first, second] = list.parts() else {
+    let (first, second) = list.parts().split_at_mut(1);
+    let (Some(first), Some(second)) = (first.first_mut(), second.first_mut()) else {
         return Err("two workers".into());
     };
     let alloc = rt.alloc();
