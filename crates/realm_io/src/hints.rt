@@ -1,13 +1,13 @@
-//! Where workers leave numbers of lines for each other.
+//! Where workers leave the numbers of lines that may be ready, and find them.
 
 use std::sync::Wait;
 
-/// Lines that are worth a try, as workers tell each other. Nothing rests on what is given: a line may
-/// be given twice, or never, or without need, and None has no meaning.
+/// Numbers of lines that a worker may try next. Nothing rests on what it gives: a number may be that of
+/// no line, come twice or be lost, and `None` does not say that no line is left. Either call may wait.
 pub trait Hints: Send {
-    /// Leaves a line for whoever takes.
+    /// Keeps the number for a later `take`, or drops it.
     fn push<R: Wait>(&mut self, rt: &R, line: u32);
 
-    /// A line that somebody left.
+    /// A number to try, if there is one.
     fn take<R: Wait>(&mut self, rt: &R) -> Option<u32>;
 }

@@ -1,4 +1,4 @@
-//! Tests of runs by a core, in words and by workers, by public calls alone. It has no code of its
+//! Tests of runs by a core, in words and by workers, and of hints, by public calls alone. It has no code of its
 //! own, so that its tests are proved once, and the crates below are proved without them.
 #![tactic(auto)]
 
@@ -6,6 +6,8 @@
 mod core_tests;
 #[cfg(test)]
 mod graphs;
+#[cfg(test)]
+mod hint_tests;
 #[cfg(test)]
 mod outcomes;
 #[cfg(test)]
