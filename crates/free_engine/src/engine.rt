@@ -5,7 +5,7 @@ ghost use Rattle.graph_model.specs.meaning.Evaluation.{outcome as evaluated};
 ghost use Rattle.graph_model.specs.meaning.Trace.{IsLawful, SectionsApart};
 ghost use Rattle.run_words.specs.Words.{graph_of, IsAt, HasAll};
 
-use crate::idle::Waiting;
+use idle_workers::Waiting;
 use crate::workers::run_workers;
 use graph_model::outcome::Outcome;
 use realm_io::{Gate, Hints};

@@ -7,7 +7,7 @@ ghost use Rattle.run_words.specs.Rejoined.{Rejoined, HasTaken};
 ghost use Rattle.run_words.specs.Words.{graph_of, numbers_of, splits_of, IsAt};
 ghost use Rattle.run_words.specs.Works.{IsWokenOf, IsWorkOf};
 
-use crate::idle::Waiting;
+use idle_workers::Waiting;
 use crate::shared_words::{Refusal, SharedWords};
 use realm_io::{Gate, Hints};
 use run_words::{Woken, WordSeat, WordWork};

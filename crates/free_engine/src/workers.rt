@@ -5,7 +5,7 @@ ghost use Rattle.std.specs.Thread.{IsSync, IsSend};
 ghost use Rattle.run_words.specs.Rejoined.{Rejoined};
 ghost use Rattle.run_words.specs.Words.{IsAt};
 
-use crate::idle::Waiting;
+use idle_workers::Waiting;
 use crate::search::{Search, end_work, find};
 use crate::shared_words::SharedWords;
 use realm_io::{Gate, Hints};

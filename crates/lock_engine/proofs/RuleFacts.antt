@@ -16,10 +16,10 @@ use Rattle.run_core.specs.Core.{CoreValue}
 use Rattle.run_core.specs.Works.{KeepsWork}
 use Rattle.run_core.specs.Finishing.{NothingOut}
 use Rattle.lock_engine.specs.declared.view.View.{View}
-use Rattle.lock_engine.specs.Turns.{IsOut, Serves, IsTaken}
+use Rattle.lock_engine.specs.Turns.{Call, IsOut, Serves, IsTurn, line_taken}
 use Rattle.lock_engine.specs.Rule.{Slot, all_parts, parts_of, Fits, Shares, IsAtHome, IsAway, Guards, first_view}
 use Rattle.lock_engine.specs.Plays.{Sat, with_turn, with_line, HasCore, turns, HasGiven, without_part, one_part, joined, spent_view}
-use Rattle.lock_engine.proofs.TurnFacts.{keeps_same, keeps_on, is_taken, one_line}
+use Rattle.lock_engine.proofs.TurnFacts.{keeps_same, keeps_on, one_line}
 
 abbrev St : Type 0
 St = State Slot View
@@ -277,23 +277,24 @@ Given g id v c1 ws hs vs =
     × Guards g (stepped (board ws hs vs) 0 0 id ((0, Some c1) ∷ []) w a)
     × HasGiven (v, (0, Some c1) ∷ []) (w, carried_after ((0, Some c1) ∷ []) a)
 
-given : (g : GraphValue) (id : ℕ) (v : View) (c1 : CoreValue) (taken : Option ℕ) (s : St) → Serves v.core c1 v.line taken → v.has_turn ≡ true → 0 < v.parts → Guards g s → get_elem? s.views id ≡ some v → Given g id v c1 s.words s.homes s.views
-given g id v c1 taken s serves turn part (c, shares, inl home) at = absurd (true≢false (sym turn ∙ home.nobody id v at))
-given g id v c1 taken s serves turn part (c, shares, inr away) at =
+given : (g : GraphValue) (id : ℕ) (v : View) (c1 : CoreValue) (call : Call) (s : St) → IsTurn v.core v.line call c1 → v.has_turn ≡ true → 0 < v.parts → Guards g s → get_elem? s.views id ≡ some v → Given g id v c1 s.words s.homes s.views
+given g id v c1 call s made turn part (c, shares, inl home) at = absurd (true≢false (sym turn ∙ home.nobody id v at))
+given g id v c1 call s made turn part (c, shares, inr away) at =
     let same : v.core ≡ c = (away.alone id v at turn).1 in
-    let from_here : Serves c c1 v.line taken = subst (λ (x : CoreValue). Serves x c1 v.line taken) same serves in
+    let taken = line_taken call in
+    let from_here : Serves c c1 v.line taken = subst (λ (x : CoreValue). Serves x c1 v.line taken) same made.serves in
     let at_one : Given g id v c1 (1 ∷ []) (none ∷ []) s.views = (
       with_line v c1 taken,
       gives,
       tt,
       (c1, given_shares g c c1 s.views id v taken shares at part from_here, inl (given_home g c c1 s.views id v taken shares at part from_here away.who away.alone turn)),
-      record { core = c1; line = taken; had = refl; now = refl; taken = is_taken v.core c1 v.line taken serves },
+      record { core = c1; «call» = call; had = refl; «turn» = made; now = refl },
     ) in
     subst (λ ws. Given g id v c1 ws s.homes s.views) (sym away.words) (subst (λ hs. Given g id v c1 (1 ∷ []) hs s.views) (sym away.homes) at_one)
 
-pub gives_allow : (g : GraphValue) (slots id : ℕ) (v : View) (hand : List (ℕ × Slot)) (c1 : CoreValue) (taken : Option ℕ) → hand ≡ (0, Some c1) ∷ [] → Serves v.core c1 v.line taken → v.has_turn ≡ true → 0 < v.parts →
+pub gives_allow : (g : GraphValue) (slots id : ℕ) (v : View) (hand : List (ℕ × Slot)) (c1 : CoreValue) (call : Call) → hand ≡ (0, Some c1) ∷ [] → IsTurn v.core v.line call c1 → v.has_turn ≡ true → 0 < v.parts →
     Allows (Guards g) slots id (v, hand) 0 (λ _. 0) (λ _. HasGiven (v, hand))
-gives_allow g slots id v hand c1 taken is serves turn part = subst (λ l. Allows (Guards g) slots id (v, l) 0 (λ _. 0) (λ _. HasGiven (v, l))) (sym is) (λ s guards each at low. given g id v c1 taken s serves turn part guards at)
+gives_allow g slots id v hand c1 call is made turn part = subst (λ l. Allows (Guards g) slots id (v, l) 0 (λ _. 0) (λ _. HasGiven (v, l))) (sym is) (λ s guards each at low. given g id v c1 call s made turn part guards at)
 
 -- A PART IS CUT OFF
 pub cuts_split : (g : GraphValue) (id : ℕ) (v : View) → 1 < v.parts → Splits {S = Slot} (Guards g) id v (without_part v) (one_part v)
@@ -448,11 +449,11 @@ taken_out old mid new h r tells is = (
 pub put_in : (old mid : Sat) (x : Slot) → old.1 ≡ (0, None) ∷ [] → mid ≡ (old.0, (0, x) ∷ rest old.1) → mid ≡ (old.0, (0, x) ∷ [])
 put_in old mid x is tells = tells ∙ ap (λ l. (old.0, (0, x) ∷ rest l)) is
 
--- the line of a seat that gave the turn back with this core
-pub given_line : (v : View) (c1 : CoreValue) (mid new : Sat) (taken : Option ℕ) → mid ≡ (v, (0, Some c1) ∷ []) → HasGiven mid new → Serves v.core c1 v.line taken → new ≡ (with_line v c1 taken, [])
-given_line v c1 mid new taken is h serves =
+-- the view of a seat that gave the turn back with this core, after this call
+pub given_line : (v : View) (c1 : CoreValue) (mid new : Sat) (call : Call) → mid ≡ (v, (0, Some c1) ∷ []) → HasGiven mid new → IsTurn v.core v.line call c1 → new ≡ (with_line v c1 (line_taken call), [])
+given_line v c1 mid new call is h made =
     let view : mid.0 ≡ v = ap (λ (m : Sat). m.0) is in
     let core : h.core ≡ c1 = same_Some h.core c1 (ap (λ l. in_front l None) (sym h.had ∙ ap (λ (m : Sat). m.1) is)) in
-    let line : h.line ≡ taken = one_line v.core c1 v.line taken h.line serves
-    (subst (λ (x : View). IsTaken x.core c1 x.line h.line) view (subst (λ (x : CoreValue). IsTaken mid.0.core x mid.0.line h.line) core h.taken)) in
-    h.now ∙ (ap (λ (x : View). (with_line x h.core h.line, [])) view ∙ (ap (λ (x : CoreValue). (with_line v x h.line, [])) core ∙ ap (λ l. (with_line v c1 l, [])) line))
+    let line : line_taken h.call ≡ line_taken call = one_line v.core c1 v.line (line_taken h.call) (line_taken call)
+    (subst (λ (x : View). Serves x.core c1 x.line (line_taken h.call)) view (subst (λ (x : CoreValue). Serves mid.0.core x mid.0.line (line_taken h.call)) core h.turn.serves)) made.serves in
+    h.now ∙ (ap (λ (x : View). (with_line x h.core (line_taken h.call), [])) view ∙ (ap (λ (x : CoreValue). (with_line v x (line_taken h.call), [])) core ∙ ap (λ l. (with_line v c1 l, [])) line))

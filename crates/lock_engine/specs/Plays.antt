@@ -3,7 +3,7 @@ use Rattle.std.specs.Prelude.{◌≡◌, ℕ, ◌+◌, ◌-◌, ◌==◌, MatchB
 use Rattle.atomic_table.specs.Table.{Me}
 use Rattle.run_core.specs.Core.{CoreValue, unissued}
 use Rattle.run_core.specs.Works.{KeepsWork}
-use Rattle.lock_engine.specs.Turns.{IsTaken}
+use Rattle.lock_engine.specs.Turns.{Call, IsTurn, line_taken}
 use Rattle.lock_engine.specs.Rule.{Slot}
 use Rattle.lock_engine.specs.declared.view.View.{View}
 
@@ -28,13 +28,13 @@ pub record HasCore (old new : Sat) : Type 0 where
 abbrev pub turns : Sat → ℕ → Sat → Type 0
 turns old found new = MatchBool (found == 0) (HasCore old new) (new ≡ old)
 
--- GIVE. The core in the seat's hand is at home, and the seat has the line that was taken
+-- GIVE. The core in the seat's hand is at home. It is the one that the turn found after one call, and the seat has the line that this call took
 pub record HasGiven (old new : Sat) : Type 0 where
   pub core : CoreValue
-  pub line : Option ℕ
+  pub call : Call
   pub had : old.1 ≡ (0, Some core) ∷ []
-  pub now : new ≡ (with_line old.0 core line, [])
-  pub taken : IsTaken old.0.core core old.0.line line
+  pub turn : IsTurn old.0.core old.0.line call core
+  pub now : new ≡ (with_line old.0 core (line_taken call), [])
 
 -- CUTTING AND JOINING. A seat with no line, and with one part of another's
 abbrev pub without_part : View → View

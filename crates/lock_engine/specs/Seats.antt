@@ -1,10 +1,13 @@
 -- Seats at the lock, between turns and in their turn.
-use Rattle.std.specs.Prelude.{◌≡◌, ◌<◌, true, false, List, [], ◌∷◌, Option, Some, None}
+use Rattle.std.specs.Prelude.{◌≡◌, ◌<◌, ⊤, true, false, List, [], ◌∷◌, length, Option, Some, None}
 use Rattle.atomic_table.specs.Seated.{TableId}
 use Rattle.atomic_table.specs.declared.shared.Seat.{Seat}
 use Rattle.atomic_table.specs.declared.badge.Badge.{Badge}
+use Rattle.graph_model.specs.graph.Graph.{GraphValue}
 use Rattle.run_core.specs.Core.{IsCore}
 use Rattle.run_core.specs.Works.{WorkValue, FinishedValue, IsWork, IsFinished}
+use Rattle.run_core.specs.declared.answers.Issue.{Issue as IssueAnswer}
+use Rattle.run_core.specs.declared.answers.Issue.TheVariants as issues
 use Rattle.lock_engine.specs.Rule.{Slot}
 use Rattle.lock_engine.specs.Plays.{spent_view}
 use Rattle.lock_engine.specs.declared.view.View.{View}
@@ -22,6 +25,17 @@ pub record IsWaiting (z : TableId) (s : Seat Slot View) : Type 0 where
   pub hand : s.me.1 ≡ []
   pub turn : s.me.0.has_turn ≡ false
 
+-- the same with no line
+pub record IsIdle (z : TableId) (s : Seat Slot View) : Type 0 where
+  pub waiting : IsWaiting z s
+  pub line : s.me.0.line ≡ None
+
+-- after some turns it is between two turns again, with as many parts and the same graph
+pub record KeepsPlace (z : TableId) (old new : Seat Slot View) : Type 0 where
+  pub waiting : IsWaiting z new
+  pub parts : new.me.0.parts ≡ old.me.0.parts
+  pub graph : new.me.0.core.graph ≡ old.me.0.core.graph
+
 -- in its turn, with the slot whose core was taken out
 pub record IsServing (z : TableId) (s : Seat Slot View) : Type 0 where
   pub at : IsOf z s
@@ -37,6 +51,11 @@ HasWork v (Some w) = (v.line ≡ Some w.line) × IsCore v.core × IsWork v.core 
 abbrev pub HasDone : View → Option FinishedValue → Type 0
 HasDone v None = v.line ≡ None
 HasDone v (Some f) = (v.line ≡ Some f.line) × IsFinished v.core f
+
+-- a line that was issued is one of this graph
+abbrev pub IsIssuedOf : GraphValue → IssueAnswer → Type 0
+IsIssuedOf g (issues.Issued i) = i < length g.lines
+IsIssuedOf g _ = ⊤
 
 -- A seat that rests holds no slot, and its type does not name what the slots hold
 abbrev pub first_of : List View → View

@@ -24,22 +24,24 @@ impl BusyLines {
         Ok(BusyLines { busy })
     }
 
-    /// Notes lines of a word.
-    pub(crate) fn add_all(&self, word: u32, lines: u64) {
-        if let Some(noted) = self.busy.get(word as usize) {
-            noted.fetch_or(lines, Ordering::SeqCst);
+    /// Notes a line.
+    pub(crate) fn add(&self, line: u32) {
+        if let Some(noted) = self.busy.get((line / 64) as usize) {
+            noted.fetch_or(1 << (line % 64), Ordering::SeqCst);
         }
     }
 
-    /// Notes a line.
-    pub(crate) fn add(&self, line: u32) {
-        self.add_all(line / 64, 1 << (line % 64));
+    /// Notes a line no more.
+    pub(crate) fn remove(&self, line: u32) {
+        if let Some(noted) = self.busy.get((line / 64) as usize) {
+            noted.fetch_and(!(1 << (line % 64)), Ordering::SeqCst);
+        }
     }
 
-    /// The lines of a word that are noted, which are noted no more.
-    pub(crate) fn take(&self, word: u32) -> u64 {
+    /// The lines of a word that are noted.
+    pub(crate) fn noted(&self, word: u32) -> u64 {
         match self.busy.get(word as usize) {
-            Some(noted) => noted.swap(0, Ordering::SeqCst),
+            Some(noted) => noted.load(Ordering::SeqCst),
             None => 0,
         }
     }

@@ -2,12 +2,14 @@
 #![tactic(auto)]
 
 mod busy_lines;
+mod calls;
 mod lock;
+mod next_line;
+mod notes;
 mod plays;
 mod search;
 mod turn;
 mod view;
-mod waiting;
 mod workers;
 
 pub use turn::{Turn, run_turn};

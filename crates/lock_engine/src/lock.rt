@@ -1,20 +1,22 @@
 //! Turns at the lock.
 
-ghost use Rattle.std.specs.Prelude.{◌≡◌, ℕ, [], ◌∷◌, Option, Some, IfSome, IfNone};
+ghost use Rattle.std.specs.Prelude.{◌≡◌, ℕ, [], ◌∷◌, Some, IfSome, IfNone};
 ghost use Rattle.atomic_table.specs.Seated.{TableId};
 ghost use Rattle.run_core.specs.Works.{KeepsWork};
-ghost use Rattle.lock_engine.specs.Turns.{Serves};
+ghost use Rattle.lock_engine.specs.Turns.{Call, IsTurn, line_taken};
 ghost use Rattle.lock_engine.specs.Plays.{with_turn, with_line};
-ghost use Rattle.lock_engine.specs.Seats.{IsWaiting, IsServing, IsResting, HasWork, HasDone, view_of};
+ghost use Rattle.lock_engine.specs.Seats.{IsWaiting, IsServing, IsResting, view_of};
 
-use crate::busy_lines::BusyLines;
 use crate::plays::{Gives, Law, Takes};
-use crate::search::serve;
 use crate::view::View;
 use atomic_table::{Badge, Seat, Shared};
 use graph_model::graph::Graph;
-use run_core::{Core, Finished, Work};
+use idle_workers::spin;
+use run_core::Core;
 use std::sync::Wait;
+
+/// How often a worker tries to take the turn before it sleeps.
+const TRIES: u32 = 8;
 
 /// A worker's place at the lock.
 pub(crate) type LockSeat<'g> = Seat<Option<Core<'g>>, View>;
@@ -40,32 +42,9 @@ pub(crate) fn leave_seat<'g>(seat: LockSeat<'g>) -> Badge<View>
     seat.into_badge()
 }
 
-/// In one turn puts a line back and takes another, with `busy` and `from` as for `serve`. None comes
-/// where none was found.
-pub(crate) fn next_work<'g, R: Wait>(
-    rt: &R,
-    lock: &Lock<'g>,
-    seat: &mut LockSeat<'g>,
-    done: Option<Finished>,
-    busy: &BusyLines,
-    from: &mut u32,
-) -> Option<Work>
-    requires waiting { IsWaiting lock.now.table_id seat.old }
-    requires done { HasDone seat.old.me.0 done }
-    ensures waiting { IsWaiting lock.now.table_id seat.new }
-    ensures parts { seat.new.me.0.parts ≡ seat.old.me.0.parts }
-    ensures graph { seat.new.me.0.core.graph ≡ seat.old.me.0.core.graph }
-    ensures work { HasWork seat.new.me.0 result }
-{
-    let mut core = take_turn(rt, lock, seat);
-    let work = serve(&mut core, done, busy, from);
-    core.is_sound();
-    give_turn(lock, seat, core);
-    work
-}
-
-/// Waits for the turn, and takes the core out.
-fn take_turn<'g, R: Wait>(rt: &R, lock: &Lock<'g>, seat: &mut LockSeat<'g>) -> Core<'g>
+/// Waits for the turn, and takes the core out. Before it sleeps it spins, since most turns are
+/// shorter than falling asleep.
+pub(crate) fn take_turn<'g, R: Wait>(rt: &R, lock: &Lock<'g>, seat: &mut LockSeat<'g>) -> Core<'g>
     requires waiting { IsWaiting lock.now.table_id seat.old }
     ensures serving { IsServing lock.now.table_id seat.new }
     ensures view { seat.new.me.0 ≡ with_turn seat.old.me.0 result }
@@ -73,12 +52,30 @@ fn take_turn<'g, R: Wait>(rt: &R, lock: &Lock<'g>, seat: &mut LockSeat<'g>) -> C
     ensures works { (i : ℕ) → seat.old.me.0.line ≡ Some i → KeepsWork seat.old.me.0.core result i }
 {
     for _ in rt.forever() {
-        if let Some(core) = try_turn(lock, seat) {
+        if let Some(core) = try_often(lock, seat) {
             return core;
         }
         lock.park(rt, 0, 1);
     }
     unreachable!()
+}
+
+/// Takes the core out where nobody has the turn at one of several tries, between which it spins. None
+/// comes where somebody has it at each.
+fn try_often<'g>(lock: &Lock<'g>, seat: &mut LockSeat<'g>) -> Option<Core<'g>>
+    requires waiting { IsWaiting lock.now.table_id seat.old }
+    ensures some { IfSome result (λ c. IsServing lock.now.table_id seat.new × (seat.new.me.0 ≡ with_turn seat.old.me.0 c)) }
+    ensures graph { IfSome result (λ c. c.graph ≡ seat.old.me.0.core.graph) }
+    ensures works { IfSome result (λ c. (i : ℕ) → seat.old.me.0.line ≡ Some i → KeepsWork seat.old.me.0.core c i) }
+    ensures none { IfNone result ((seat.new.table_id ≡ seat.old.table_id) × (seat.new.me ≡ seat.old.me)) }
+{
+    for _try in 0..TRIES {
+        if let Some(core) = try_turn(lock, seat) {
+            return Some(core);
+        }
+        spin();
+    }
+    None
 }
 
 /// Takes the core out where nobody has the turn. None comes where somebody has it.
@@ -96,13 +93,14 @@ fn try_turn<'g>(lock: &Lock<'g>, seat: &mut LockSeat<'g>) -> Option<Core<'g>>
     }
 }
 
-/// Puts the core back and gives the turn to somebody else.
-fn give_turn<'g>(lock: &Lock<'g>, seat: &mut LockSeat<'g>, core: Core<'g>)
+/// Puts the core back, on which one call was made since it was taken out, and gives the turn to
+/// somebody else.
+pub(crate) fn give_turn<'g>(lock: &Lock<'g>, seat: &mut LockSeat<'g>, core: Core<'g>)
     requires serving { IsServing lock.now.table_id seat.old }
-    requires served { (taken : Option ℕ) × Serves seat.old.me.0.core core seat.old.me.0.line taken }
+    requires turn { (call : Call) × IsTurn seat.old.me.0.core seat.old.me.0.line call core }
     ensures waiting { IsWaiting lock.now.table_id seat.new }
-    ensures view { (taken : Option ℕ) → Serves seat.old.me.0.core core.entry seat.old.me.0.line taken
-        → seat.new.me.0 ≡ with_line seat.old.me.0 core.entry taken }
+    ensures view { (call : Call) → IsTurn seat.old.me.0.core seat.old.me.0.line call core.entry
+        → seat.new.me.0 ≡ with_line seat.old.me.0 core.entry (line_taken call) }
 {
     lock.exchange(seat, 0, Some(core));
     lock.store::<Gives>(seat, 0, 0);

@@ -1,93 +1,189 @@
-//! The search of a worker for its next line, in its turn at the core.
+//! The search of a worker for its next line, turn by turn.
 
 ghost use Rattle.std.specs.Prelude.{◌≡◌, ◌<◌, length, None, IfSome};
-ghost use Rattle.run_core.specs.Works.{IsWork, IsFinished};
-ghost use Rattle.lock_engine.specs.Turns.{Serves, line_given, line_taken};
+ghost use Rattle.lock_engine.specs.Seats.{IsWaiting, IsIdle, KeepsPlace, HasWork, HasDone};
 
 use crate::busy_lines::BusyLines;
-use run_core::{Attempt, Core, Finished, Issue, Work};
+use crate::calls::{attempt, issue, next_woken, put_back};
+use crate::lock::{Lock, LockSeat};
+use graph_model::graph::Graph;
+use run_core::{Attempt, Finished, Issue, Work};
+use std::sync::Wait;
 
-/// Puts a line back, and takes another where one can be taken. `from` is the word of busy lines that
-/// is tried first; it is left behind the last word that was tried.
-pub(crate) fn serve<'g>(
-    core: &mut Core<'g>,
-    done: Option<Finished>,
-    busy: &BusyLines,
-    from: &mut u32,
-) -> Option<Work>
-    requires done { IfSome done (λ f. IsFinished core.old f) }
-    ensures serves { Serves core.old core.new (line_given done) (line_taken result) }
-    ensures work { IfSome result (λ w. IsWork core.new w) }
-{
-    give_back(core, done);
-    find(core, busy, from)
+/// Where the next search of a worker begins. Nothing rests on it but speed.
+#[derive(Drop)]
+pub(crate) struct Search {
+    // Whether the worker knows that no line is left to issue.
+    all_issued: bool,
+    // The word of busy lines that is tried first.
+    word: u32,
 }
 
-/// Puts a line back.
-fn give_back<'g>(core: &mut Core<'g>, done: Option<Finished>)
-    requires done { IfSome done (λ f. IsFinished core.old f) }
-    ensures serves { Serves core.old core.new (line_given done) None }
+impl Search {
+    /// The first search of a worker.
+    pub(crate) fn new() -> Search {
+        Search {
+            all_issued: false,
+            word: 0,
+        }
+    }
+}
+
+/// Puts a line back, where there is one.
+pub(crate) fn give_back<'g, R: Wait>(
+    rt: &R,
+    lock: &Lock<'g>,
+    seat: &mut LockSeat<'g>,
+    done: Option<Finished>,
+)
+    requires waiting { IsWaiting lock.now.table_id seat.old }
+    requires done { HasDone seat.old.me.0 done }
+    ensures place { KeepsPlace lock.now.table_id seat.old seat.new }
+    ensures idle { seat.new.me.0.line ≡ None }
 {
     if let Some(finished) = done {
-        core.put_back(finished);
+        put_back(rt, lock, seat, finished);
     }
 }
 
 /// Takes a line: one that is new, else one that was woken, else one that was found busy before. New
 /// lines come first so that a slot that came free is used at once.
-fn find<'g>(core: &mut Core<'g>, busy: &BusyLines, from: &mut u32) -> Option<Work>
-    ensures serves { Serves core.old core.new None (line_taken result) }
-    ensures work { IfSome result (λ w. IsWork core.new w) }
+pub(crate) fn find<'g, R: Wait>(
+    rt: &R,
+    lock: &Lock<'g>,
+    seat: &mut LockSeat<'g>,
+    graph: &Graph,
+    busy: &BusyLines,
+    search: &mut Search,
+) -> Option<Work>
+    requires idle { IsIdle lock.now.table_id seat.old }
+    requires graph { seat.old.me.0.core.graph ≡ graph.now }
+    ensures place { KeepsPlace lock.now.table_id seat.old seat.new }
+    ensures work { HasWork seat.new.me.0 result }
 {
-    if let Some(work) = take_new(core, busy) {
+    if let Some(work) = take_new(rt, lock, seat, graph, busy, search) {
         return Some(work);
     }
-    if let Some(work) = take_woken(core, busy) {
+    if let Some(work) = take_woken(rt, lock, seat, graph, busy) {
         return Some(work);
     }
-    take_busy(core, busy, from)
-}
-
-/// Tries the lines that were woken.
-fn take_woken<'g>(core: &mut Core<'g>, busy: &BusyLines) -> Option<Work>
-    ensures serves { Serves core.old core.new None (line_taken result) }
-    ensures work { IfSome result (λ w. IsWork core.new w) }
-{
-    for _turn in 0..core.graph().lines() {
-        let line = core.next_woken()?;
-        if let Some(work) = take(core, busy, line) {
-            return Some(work);
-        }
-    }
-    None
+    take_busy(rt, lock, seat, graph, busy, search)
 }
 
 /// Issues lines, and tries each.
-fn take_new<'g>(core: &mut Core<'g>, busy: &BusyLines) -> Option<Work>
-    ensures serves { Serves core.old core.new None (line_taken result) }
-    ensures work { IfSome result (λ w. IsWork core.new w) }
+fn take_new<'g, R: Wait>(
+    rt: &R,
+    lock: &Lock<'g>,
+    seat: &mut LockSeat<'g>,
+    graph: &Graph,
+    busy: &BusyLines,
+    search: &mut Search,
+) -> Option<Work>
+    requires idle { IsIdle lock.now.table_id seat.old }
+    requires graph { seat.old.me.0.core.graph ≡ graph.now }
+    ensures place { KeepsPlace lock.now.table_id seat.old seat.new }
+    ensures work { HasWork seat.new.me.0 result }
 {
-    for _turn in 0..core.graph().lines() {
-        let Issue::Issued(line) = core.issue() else {
-            return None;
-        };
-        if let Some(work) = take(core, busy, line) {
+    for _turn in 0..graph.lines() {
+        let line = next_new(rt, lock, seat, search)?;
+        if let Some(work) = take(rt, lock, seat, busy, line) {
             return Some(work);
         }
     }
     None
 }
 
-/// Tries the lines that were found busy, word by word.
-fn take_busy<'g>(core: &mut Core<'g>, busy: &BusyLines, from: &mut u32) -> Option<Work>
-    ensures serves { Serves core.old core.new None (line_taken result) }
-    ensures work { IfSome result (λ w. IsWork core.new w) }
+/// A line that was issued. None comes where no slot is free or no line is left.
+fn next_new<'g, R: Wait>(
+    rt: &R,
+    lock: &Lock<'g>,
+    seat: &mut LockSeat<'g>,
+    search: &mut Search,
+) -> Option<u32>
+    requires idle { IsIdle lock.now.table_id seat.old }
+    ensures place { KeepsPlace lock.now.table_id seat.old seat.new }
+    ensures idle { seat.new.me.0.line ≡ None }
+    ensures line { IfSome result (λ i. i < length seat.old.me.0.core.graph.lines) }
 {
-    let words = core.graph().lines().div_ceil(64);
+    if search.all_issued {
+        return None;
+    }
+    match issue(rt, lock, seat) {
+        Issue::Issued(line) => Some(line),
+        Issue::All => {
+            search.all_issued = true;
+            None
+        }
+        _ => None,
+    }
+}
+
+/// Tries the lines that were woken.
+fn take_woken<'g, R: Wait>(
+    rt: &R,
+    lock: &Lock<'g>,
+    seat: &mut LockSeat<'g>,
+    graph: &Graph,
+    busy: &BusyLines,
+) -> Option<Work>
+    requires idle { IsIdle lock.now.table_id seat.old }
+    requires graph { seat.old.me.0.core.graph ≡ graph.now }
+    ensures place { KeepsPlace lock.now.table_id seat.old seat.new }
+    ensures work { HasWork seat.new.me.0 result }
+{
+    for _turn in 0..graph.lines() {
+        let line = next_woken(rt, lock, seat)?;
+        if let Some(work) = take(rt, lock, seat, busy, line) {
+            return Some(work);
+        }
+    }
+    None
+}
+
+/// Tries a line, and notes it where it is busy. What it waits for may come home before it is noted; but
+/// this worker tries noted lines later in this search, or in its next one.
+fn take<'g, R: Wait>(
+    rt: &R,
+    lock: &Lock<'g>,
+    seat: &mut LockSeat<'g>,
+    busy: &BusyLines,
+    line: u32,
+) -> Option<Work>
+    requires idle { IsIdle lock.now.table_id seat.old }
+    requires line { line < length seat.old.me.0.core.graph.lines }
+    ensures place { KeepsPlace lock.now.table_id seat.old seat.new }
+    ensures work { HasWork seat.new.me.0 result }
+{
+    match attempt(rt, lock, seat, line) {
+        Attempt::Taken(work) => Some(work),
+        Attempt::Busy(_) => {
+            busy.add(line);
+            None
+        }
+        _ => None,
+    }
+}
+
+/// Tries the lines that were found busy, word by word. The first word that is tried next time is the
+/// one behind the last one that was tried.
+fn take_busy<'g, R: Wait>(
+    rt: &R,
+    lock: &Lock<'g>,
+    seat: &mut LockSeat<'g>,
+    graph: &Graph,
+    busy: &BusyLines,
+    search: &mut Search,
+) -> Option<Work>
+    requires idle { IsIdle lock.now.table_id seat.old }
+    requires graph { seat.old.me.0.core.graph ≡ graph.now }
+    ensures place { KeepsPlace lock.now.table_id seat.old seat.new }
+    ensures work { HasWork seat.new.me.0 result }
+{
+    let words = graph.lines().div_ceil(64);
     for _turn in 0..words {
-        let word = if *from < words { *from } else { 0 };
-        *from = word + 1;
-        if let Some(work) = take_noted(core, busy, word) {
+        let word = if search.word < words { search.word } else { 0 };
+        search.word = word + 1;
+        if let Some(work) = take_noted(rt, lock, seat, graph, busy, word) {
             return Some(work);
         }
     }
@@ -95,13 +191,22 @@ fn take_busy<'g>(core: &mut Core<'g>, busy: &BusyLines, from: &mut u32) -> Optio
 }
 
 /// Tries the lines of a word that were found busy.
-fn take_noted<'g>(core: &mut Core<'g>, busy: &BusyLines, word: u32) -> Option<Work>
+fn take_noted<'g, R: Wait>(
+    rt: &R,
+    lock: &Lock<'g>,
+    seat: &mut LockSeat<'g>,
+    graph: &Graph,
+    busy: &BusyLines,
+    word: u32,
+) -> Option<Work>
+    requires idle { IsIdle lock.now.table_id seat.old }
+    requires graph { seat.old.me.0.core.graph ≡ graph.now }
     requires word { word < 128 }
-    ensures serves { Serves core.old core.new None (line_taken result) }
-    ensures work { IfSome result (λ w. IsWork core.new w) }
+    ensures place { KeepsPlace lock.now.table_id seat.old seat.new }
+    ensures work { HasWork seat.new.me.0 result }
 {
-    let mut noted = busy.take(word);
-    let lines = core.graph().lines();
+    let mut noted = busy.noted(word);
+    let lines = graph.lines();
     for _turn in 0..64u32 {
         if noted == 0 {
             return None;
@@ -111,26 +216,36 @@ fn take_noted<'g>(core: &mut Core<'g>, busy: &BusyLines, word: u32) -> Option<Wo
         if line >= lines {
             continue;
         }
-        if let Some(work) = take(core, busy, line) {
-            busy.add_all(word, noted);
+        if let Some(work) = take_again(rt, lock, seat, busy, line) {
             return Some(work);
         }
     }
     None
 }
 
-/// Tries a line, and notes it where it is busy.
-fn take<'g>(core: &mut Core<'g>, busy: &BusyLines, line: u32) -> Option<Work>
-    requires line { line < length core.old.graph.lines }
-    ensures serves { Serves core.old core.new None (line_taken result) }
-    ensures work { IfSome result (λ w. IsWork core.new w) }
+/// Tries a line that is noted as busy. Its note stands until it is found to be busy no more: so a
+/// worker that puts back what the line waits for, after this one has tried it, sees the note.
+fn take_again<'g, R: Wait>(
+    rt: &R,
+    lock: &Lock<'g>,
+    seat: &mut LockSeat<'g>,
+    busy: &BusyLines,
+    line: u32,
+) -> Option<Work>
+    requires idle { IsIdle lock.now.table_id seat.old }
+    requires line { line < length seat.old.me.0.core.graph.lines }
+    ensures place { KeepsPlace lock.now.table_id seat.old seat.new }
+    ensures work { HasWork seat.new.me.0 result }
 {
-    match core.attempt(line) {
-        Attempt::Taken(work) => Some(work),
-        Attempt::Busy(_) => {
-            busy.add(line);
+    match attempt(rt, lock, seat, line) {
+        Attempt::Taken(work) => {
+            busy.remove(line);
+            Some(work)
+        }
+        Attempt::Busy(_) => None,
+        _ => {
+            busy.remove(line);
             None
         }
-        _ => None,
     }
 }

@@ -7,11 +7,10 @@ ghost use Rattle.run_core.specs.Finishing.{NothingOut};
 ghost use Rattle.lock_engine.specs.Seats.{IsResting, view_of};
 ghost use Rattle.lock_engine.specs.Rule.{all_parts};
 
-use crate::busy_lines::BusyLines;
 use crate::lock::take_seat;
+use crate::notes::Notes;
 use crate::plays::Law;
 use crate::view::View;
-use crate::waiting::Waiting;
 use crate::workers::run_workers;
 use atomic_table::{Badge, Table};
 use graph_model::checked::Checked;
@@ -31,7 +30,7 @@ pub struct Turn<'g> {
     graph: &'g Graph,
     table: Table<Option<Core<'g>>, View, Graph, Law, Global>,
     badge: Badge<View>,
-    busy: BusyLines,
+    notes: Notes,
 }
 
 impl<'g> Model for Turn<'g> {
@@ -62,7 +61,7 @@ impl<'g> Turn<'g> {
         ensures { IfOk result (λ turn. turn ≡ checked.now.graph) }
     {
         let graph = checked.graph();
-        let busy = BusyLines::new(alloc, graph.lines())?;
+        let notes = Notes::new(alloc, graph.lines())?;
         let core = Core::prepare(alloc, checked, slots)?;
         let Ok(cores) = vec![in alloc; Some(core)] else {
             return Err(NoMemory);
@@ -74,7 +73,7 @@ impl<'g> Turn<'g> {
                     graph,
                     table,
                     badge,
-                    busy,
+                    notes,
                 })
             }
             Err(_) => Err(NoMemory),
@@ -102,19 +101,9 @@ pub fn run_turn<'g, R: Threads + Wait + Sync, G: Gate>(
         graph,
         table,
         badge,
-        busy,
+        notes,
     } = turn;
-    let waiting = Waiting::new();
-    let badge = run_workers(
-        rt,
-        &table.shared,
-        graph,
-        gate,
-        &waiting,
-        &busy,
-        badge,
-        workers,
-    );
+    let badge = run_workers(rt, &table.shared, graph, gate, &notes, badge, workers);
     let mut core = last_core(table, badge);
     core.finish();
     core.outcome()

@@ -5,11 +5,12 @@ ghost use Rattle.std.specs.Thread.{IsSync};
 ghost use Rattle.atomic_table.specs.Seated.{TableId};
 ghost use Rattle.lock_engine.specs.Seats.{IsResting, IsWaiting, view_of};
 
-use crate::busy_lines::BusyLines;
-use crate::lock::{Lock, leave_seat, next_work, take_seat};
+use crate::lock::{Lock, leave_seat, take_seat};
+use crate::next_line::next_line;
+use crate::notes::Notes;
 use crate::plays::{Cuts, Joins};
+use crate::search::Search;
 use crate::view::View;
-use crate::waiting::Waiting;
 use atomic_table::Badge;
 use graph_model::graph::Graph;
 use realm_io::Gate;
@@ -28,8 +29,7 @@ pub(crate) trait SharedLock: Sync {
         rt: &R,
         graph: &Graph,
         gate: &G,
-        waiting: &Waiting,
-        busy: &BusyLines,
+        notes: &Notes,
         badge: Badge<View>,
     ) -> Badge<View>
         requires resting { IsResting (name self.now) badge }
@@ -67,32 +67,19 @@ impl<'g> SharedLock for Lock<'g> {
         rt: &R,
         graph: &Graph,
         gate: &G,
-        waiting: &Waiting,
-        busy: &BusyLines,
+        notes: &Notes,
         badge: Badge<View>,
     ) -> Badge<View> {
-        waiting.enter();
+        notes.waiting.enter();
         let mut seat = take_seat(badge);
+        let mut search = Search::new();
         let mut done = None;
-        let mut from = 0;
-        let mut before = None;
         for _turn in rt.forever() {
-            let seen = waiting.count();
-            let Some(work) = next_work(rt, self, &mut seat, done, busy, &mut from) else {
-                if !waiting.wait(rt, seen) {
-                    return leave_seat(seat);
-                }
-                done = None;
-                before = None;
-                continue;
+            let Some(work) = next_line(rt, self, &mut seat, graph, notes, &mut search, done) else {
+                return leave_seat(seat);
             };
-            let line = work.line();
-            if may_let_more_run(graph, before, line) {
-                waiting.tell();
-            }
-            gate.pass(rt, line);
+            gate.pass(rt, work.line());
             done = Some(work.perform(graph));
-            before = Some(line);
         }
         unreachable!()
     }
@@ -106,25 +93,13 @@ impl<'g> SharedLock for Lock<'g> {
     }
 }
 
-/// Whether more lines may run than the one that was taken, by the line that was put back before it:
-/// where another line waited for that one, and where none was put back.
-fn may_let_more_run(graph: &Graph, before: Option<u32>, taken: u32) -> bool {
-    match before {
-        Some(line) if line < graph.lines() => {
-            graph.edges_from(line).iter().any(|edge| edge.to != taken)
-        }
-        _ => true,
-    }
-}
-
 /// Runs so many workers, and waits for all of them.
 pub(crate) fn run_workers<R: Threads + Wait + Sync, P: SharedLock, G: Gate>(
     rt: &R,
     place: &P,
     graph: &Graph,
     gate: &G,
-    waiting: &Waiting,
-    busy: &BusyLines,
+    notes: &Notes,
     badge: Badge<View>,
     workers: u32,
 ) -> Badge<View>
@@ -140,7 +115,7 @@ pub(crate) fn run_workers<R: Threads + Wait + Sync, P: SharedLock, G: Gate>(
         return badge;
     }
     if workers == 1 {
-        return place.work(rt, graph, gate, waiting, busy, badge);
+        return place.work(rt, graph, gate, notes, badge);
     }
     let (first, rest) = place.cut(badge);
     let (first, rest) = join(
@@ -149,13 +124,13 @@ pub(crate) fn run_workers<R: Threads + Wait + Sync, P: SharedLock, G: Gate>(
             requires { IsResting (P.name place.now) first × ((view_of first).line ≡ None) × ((view_of first).core.graph ≡ graph.now) }
             ensures { IsResting (P.name place.entry.now) result × ((view_of result).line ≡ None)
                 × ((view_of result).parts ≡ (view_of first).parts) }
-        { place.work(rt, graph, gate, waiting, busy, first) },
+        { place.work(rt, graph, gate, notes, first) },
         || -> Badge<View>
             requires { IsSync R.row × IsResting (P.name place.now) rest × ((view_of rest).line ≡ None)
                 × ((view_of rest).core.graph ≡ graph.now) × (1 < workers) × (workers < (view_of rest).parts + 1) }
             ensures { IsResting (P.name place.entry.now) result × ((view_of result).line ≡ None)
                 × ((view_of result).parts ≡ (view_of rest).parts) }
-        { run_workers(rt, place, graph, gate, waiting, busy, rest, workers - 1) },
+        { run_workers(rt, place, graph, gate, notes, rest, workers - 1) },
     );
     place.joined(first, rest)
 }

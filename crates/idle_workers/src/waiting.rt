@@ -1,0 +1,88 @@
+//! How a worker that finds no line sleeps until there may be one.
+
+use std::sync::Wait;
+use std::sync::atomic::{AtomicU64, Ordering};
+
+/// What workers that wait are told of lines that may have come free.
+///
+/// A worker begins with `enter`. Where it finds no line, it calls `announce`, looks once more, and
+/// then calls `withdraw` where it found one, else `sleep`. A worker that puts a line where others find
+/// it calls `tell` after that.
+///
+/// No wake is lost. All steps on the words below have one order, since each is `SeqCst`. A teller puts
+/// the line first and then loads how many wait; a worker says that it waits first and then looks. So
+/// either the teller sees the worker, or the worker's last look sees the line. A teller that sees one
+/// raises the count before it wakes: a worker that had read the count before that is woken or does not
+/// fall asleep, and one that reads it after that looks when the line is there.
+#[derive(Drop)]
+pub struct Waiting {
+    // How often those that wait were told of lines, and once more when all leave.
+    count: AtomicU64,
+    // How many workers look for a line or have one, those that have announced among them.
+    active: AtomicU64,
+    // How many workers have announced that they are about to wait, or sleep.
+    waiting: AtomicU64,
+    // 1 once a worker has found that no other looks for a line or has one.
+    is_over: AtomicU64,
+}
+
+impl Waiting {
+    /// Before any worker begins.
+    pub fn new() -> Waiting {
+        Waiting {
+            count: AtomicU64::new(0),
+            active: AtomicU64::new(0),
+            waiting: AtomicU64::new(0),
+            is_over: AtomicU64::new(0),
+        }
+    }
+
+    /// A worker begins, and looks for a line.
+    pub fn enter(&self) {
+        self.active.fetch_add(1, Ordering::SeqCst);
+    }
+
+    /// More lines may run than before. Where a worker waits, one is woken; else this costs one load.
+    pub fn tell(&self) {
+        if self.waiting.load(Ordering::SeqCst) > 0 {
+            self.count.fetch_add(1, Ordering::SeqCst);
+            self.count.wake_one();
+        }
+    }
+
+    /// The worker is about to wait, unless it finds a line now. The count is what `sleep` is given.
+    pub fn announce(&self) -> u64 {
+        self.waiting.fetch_add(1, Ordering::SeqCst);
+        self.count.load(Ordering::SeqCst)
+    }
+
+    /// A worker that has announced found a line, and does not wait.
+    pub fn withdraw(&self) {
+        self.waiting.fetch_sub(1, Ordering::SeqCst);
+    }
+
+    /// A worker that has announced, and found no line after that, sleeps until the count is another
+    /// than the one that it has seen. True where it should look again. False where no other worker
+    /// looks for a line or has one: none comes free any more, and all that wait are woken to leave too.
+    pub fn sleep<R: Wait>(&self, rt: &R, seen: u64) -> bool {
+        if self.active.fetch_sub(1, Ordering::SeqCst) == 1 {
+            self.end();
+            return false;
+        }
+        self.count.park(rt, (seen & 0xffff_ffff) as u32);
+        self.withdraw();
+        if self.is_over.load(Ordering::SeqCst) == 1 {
+            return false;
+        }
+        self.active.fetch_add(1, Ordering::SeqCst);
+        true
+    }
+
+    /// The last worker leaves, and wakes all that wait.
+    fn end(&self) {
+        self.withdraw();
+        self.is_over.store(1, Ordering::SeqCst);
+        self.count.fetch_add(1, Ordering::SeqCst);
+        self.count.wake_all();
+    }
+}
