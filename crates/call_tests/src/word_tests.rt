@@ -10,7 +10,7 @@ const RUN: Request = Request {
     action: Action::Run,
     workers: 4,
     slots: None,
-    engine: Engine::Lock,
+    engine: Engine::Words,
     seed: 1,
     size: 100,
     trace: false,
@@ -46,7 +46,14 @@ fn takes_options(rt: HostRuntime) -> Result<(), Fail> {
                 ..RUN
             },
         ),
-        ("realm run --engine lock", RUN),
+        ("realm run --engine words", RUN),
+        (
+            "realm run --engine lock",
+            Request {
+                engine: Engine::Lock,
+                ..RUN
+            },
+        ),
         (
             "realm eval --workers 0",
             Request {

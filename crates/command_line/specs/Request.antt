@@ -10,7 +10,7 @@ use Rattle.command_line.specs.declared.request.TheConstants.{MAX_WORKERS, MAX_SL
 use Rattle.command_line.specs.declared.request.Action.{Action}
 use Rattle.command_line.specs.declared.request.Action.TheVariants.{Run, Check, Eval, Make}
 use Rattle.command_line.specs.declared.request.Engine.{Engine}
-use Rattle.command_line.specs.declared.request.Engine.TheVariants.{Lock}
+use Rattle.command_line.specs.declared.request.Engine.TheVariants.{Words, Lock}
 use Rattle.command_line.specs.declared.request.Request.{Request}
 
 -- an option with one value, and a flag
@@ -47,7 +47,10 @@ action_by_word word =
 
 -- the engine that a word names
 abbrev pub engine_by_word : Text → Option Engine
-engine_by_word word = if bytes_eq word (codes "lock") then Some Lock else None
+engine_by_word word =
+    if bytes_eq word (codes "words") then Some Words
+    else if bytes_eq word (codes "lock") then Some Lock
+    else None
 
 -- the value of an option where its text is read, the default where it isn't given, and none where its text can't be read
 abbrev pub value_or : {X : Type 0} → X → (Text → Option X) → Option Text → Option X
@@ -77,7 +80,7 @@ request_in rows =
     })
     (value_or 100 (number_between 1 MAX_SIZE) (first_of (codes "size") rows)))
     (value_or 1 number_of (first_of (codes "seed") rows)))
-    (value_or Lock engine_by_word (first_of (codes "engine") rows)))
+    (value_or Words engine_by_word (first_of (codes "engine") rows)))
     (value_or None (λ word. option_map (λ n. Some n) (number_between 1 MAX_SLOTS word)) (first_of (codes "slots") rows)))
     (value_or 4 (number_between 0 MAX_WORKERS) (first_of (codes "workers") rows)))
     (option_and_then action_by_word (first_of (codes "ACTION") rows))

@@ -27,6 +27,7 @@ fn engine_by_word(word: &str) -> Option<Engine>
     ensures { result ≡ engine_by_word word.now }
 {
     match word.as_bytes() {
+        b"words" => Some(Engine::Words),
         b"lock" => Some(Engine::Lock),
         _ => None,
     }
@@ -74,10 +75,10 @@ fn slots(matches: &ArgMatches) -> Option<Option<u32>>
 
 /// The engine; none where the text names none.
 fn engine(matches: &ArgMatches) -> Option<Engine>
-    ensures { result ≡ value_or Engine.Lock engine_by_word (first_of (codes "engine") (rows_of (found_of matches.now))) }
+    ensures { result ≡ value_or Engine.Words engine_by_word (first_of (codes "engine") (rows_of (found_of matches.now))) }
 {
     match given(matches, "engine") {
-        None => Some(Engine::Lock),
+        None => Some(Engine::Words),
         Some(word) => engine_by_word(word),
     }
 }

@@ -26,6 +26,8 @@ pub enum Action {
 /// What runs a graph.
 #[derive(Clone, Copy, Debug, PartialEq, Eq)]
 pub enum Engine {
+    /// Workers that share the words of a run without a lock.
+    Words,
     /// Workers round a lock.
     Lock,
 }

@@ -13,16 +13,15 @@ ghost use Rattle.realm_top.specs.Answer.{evaluation_text, report_with, run_text,
 
 use crate::refusal::{put_accepted, put_broken, put_slots, put_unread};
 use crate::report::put_parts;
+use crate::running::run_graph;
 use crate::status::Status;
 use crate::summary::put_summary;
-use command_line::request::{Action, MAX_SLOTS, MAX_WORKERS, Request};
+use command_line::request::{Action, MAX_WORKERS, Request};
 use graph_model::graph::Graph;
 use graph_model::limits::MAX_TEXT;
 use graph_model::outcome::Outcome;
 use graph_model::why::Why;
 use graph_reader::{ReadRefusal, read_graph};
-use index_spaces::NoMemory;
-use lock_engine::{Turn, run_turn};
 use plain_eval::evaluation::eval;
 use race_check::check;
 use race_check::checked::{CheckRefusal, Checked, Unfit};
@@ -31,9 +30,6 @@ use realm_trace::put_trace;
 use std::alloc::Global;
 use std::sync::Wait;
 use std::thread::Threads;
-
-// The slots of a run where none are given.
-const DEFAULT_SLOTS: u32 = 256;
 
 /// Does what is asked for with the graph whose text the bytes are.
 pub(crate) fn answer<R: Threads + Wait + Sync, K: Sink, G: Gate>(
@@ -117,38 +113,6 @@ fn is_short(request: &Request, need: u32) -> bool
         (true, Some(slots)) => slots < need,
         _ => false,
     }
-}
-
-/// How many slots a run has: those that are given, or 256, but not fewer than its need.
-fn slots_for(given: Option<u32>, need: u32) -> u32
-    requires { need ≤ MAX_SLOTS }
-    ensures enough { need ≤ result }
-    ensures most { result ≤ MAX_SLOTS }
-{
-    let slots = match given {
-        Some(slots) => slots,
-        None => DEFAULT_SLOTS,
-    };
-    slots.max(need).min(MAX_SLOTS)
-}
-
-/// Runs a graph by as many workers as the request says.
-fn run_graph<R: Threads + Wait + Sync, G: Gate>(
-    rt: &R,
-    alloc: Global,
-    request: &Request,
-    checked: &Checked,
-    gate: &G,
-) -> Result<Outcome, NoMemory>
-    requires workers { request.now.workers ≤ MAX_WORKERS }
-    ensures outcome { IfOk result (λ o. o ≡ outcome checked.now.graph o.trace) }
-    ensures lawful { IfOk result (λ o. IsLawful checked.now.graph o.trace) }
-    ensures lines { IfOk result (λ o. (k i : ℕ) → slice_get o.trace k ≡ Some i → i < length checked.now.graph.lines) }
-{
-    let _ = checked.graph().lines();
-    let slots = slots_for(request.slots, checked.need());
-    let turn = Turn::prepare(alloc, checked, slots)?;
-    Ok(run_turn(rt, turn, request.workers, gate))
 }
 
 /// Runs a graph, and writes what is asked for of the run.

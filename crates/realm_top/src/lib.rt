@@ -5,6 +5,7 @@ mod input;
 mod making;
 mod refusal;
 pub mod report;
+mod running;
 pub mod status;
 mod summary;
 

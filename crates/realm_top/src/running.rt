@@ -1,0 +1,118 @@
+//! Running a graph by the engine that is asked for.
+
+ghost use Rattle.std.specs.Prelude.{◌≡◌, ℕ, ◌<◌, ◌≤◌, length, Some, slice_get, IfOk};
+ghost use Rattle.graph_model.specs.meaning.Evaluation.{outcome};
+ghost use Rattle.graph_model.specs.meaning.Trace.{IsLawful};
+
+use command_line::request::{Engine, MAX_SLOTS, MAX_WORKERS, Request};
+use free_engine::{HintQueue, Round, run_free};
+use graph_model::graph::Graph;
+use graph_model::outcome::Outcome;
+use index_spaces::NoMemory;
+use lock_engine::{Turn, run_turn};
+use race_check::checked::Checked;
+use realm_io::Gate;
+use run_words::Words;
+use std::alloc::Global;
+use std::sync::Wait;
+use std::thread::Threads;
+
+/// The slots of a run where none are given.
+const DEFAULT_SLOTS: u32 = 256;
+
+/// Runs a graph by the engine and by as many workers as the request says.
+pub(crate) fn run_graph<R: Threads + Wait + Sync, G: Gate>(
+    rt: &R,
+    alloc: Global,
+    request: &Request,
+    checked: &Checked,
+    gate: &G,
+) -> Result<Outcome, NoMemory>
+    requires workers { request.now.workers ≤ MAX_WORKERS }
+    ensures outcome { IfOk result (λ o. o ≡ outcome checked.now.graph o.trace) }
+    ensures lawful { IfOk result (λ o. IsLawful checked.now.graph o.trace) }
+    ensures lines { IfOk result (λ o. (k i : ℕ) → slice_get o.trace k ≡ Some i → i < length checked.now.graph.lines) }
+{
+    let lines = checked.graph().lines();
+    let slots = slots_for(request.slots, checked.need());
+    match request.engine {
+        Engine::Lock => run_by_turns(rt, alloc, checked, slots, request.workers, gate),
+        Engine::Words if request.workers == 0 || lines == 0 => {
+            run_alone(rt, alloc, checked, slots, gate)
+        }
+        Engine::Words => run_in_words(rt, alloc, checked, slots, request.workers, gate),
+    }
+}
+
+/// How many slots a run has: those that are given, or 256, but not fewer than its need.
+fn slots_for(given: Option<u32>, need: u32) -> u32
+    requires { need ≤ MAX_SLOTS }
+    ensures enough { need ≤ result }
+    ensures most { result ≤ MAX_SLOTS }
+{
+    let slots = match given {
+        Some(slots) => slots,
+        None => DEFAULT_SLOTS,
+    };
+    slots.max(need).min(MAX_SLOTS)
+}
+
+/// Runs a graph by workers that take turns at one core.
+fn run_by_turns<R: Threads + Wait + Sync, G: Gate>(
+    rt: &R,
+    alloc: Global,
+    checked: &Checked,
+    slots: u32,
+    workers: u32,
+    gate: &G,
+) -> Result<Outcome, NoMemory>
+    requires slots { (checked.now.need ≤ slots) × (slots ≤ MAX_SLOTS) }
+    requires workers { workers ≤ MAX_WORKERS }
+    ensures outcome { IfOk result (λ o. o ≡ outcome checked.now.graph o.trace) }
+    ensures lawful { IfOk result (λ o. IsLawful checked.now.graph o.trace) }
+    ensures lines { IfOk result (λ o. (k i : ℕ) → slice_get o.trace k ≡ Some i → i < length checked.now.graph.lines) }
+{
+    let _ = checked.graph().lines();
+    let turn = Turn::prepare(alloc, checked, slots)?;
+    Ok(run_turn(rt, turn, workers, gate))
+}
+
+/// Runs a graph in words by the caller alone.
+fn run_alone<R: Threads + Wait + Sync, G: Gate>(
+    rt: &R,
+    alloc: Global,
+    checked: &Checked,
+    slots: u32,
+    gate: &G,
+) -> Result<Outcome, NoMemory>
+    requires slots { (checked.now.need ≤ slots) × (slots ≤ MAX_SLOTS) }
+    ensures outcome { IfOk result (λ o. o ≡ outcome checked.now.graph o.trace) }
+    ensures lawful { IfOk result (λ o. IsLawful checked.now.graph o.trace) }
+    ensures lines { IfOk result (λ o. (k i : ℕ) → slice_get o.trace k ≡ Some i → i < length checked.now.graph.lines) }
+{
+    let mut none: [Round; 0] = [];
+    let (words, seat) = Words::prepare(alloc, checked, slots)?;
+    Ok(run_free(rt, words, seat, gate, &mut none))
+}
+
+/// Runs a graph by workers that share its words, and tell each other of lines by a queue.
+fn run_in_words<R: Threads + Wait + Sync, G: Gate>(
+    rt: &R,
+    alloc: Global,
+    checked: &Checked,
+    slots: u32,
+    workers: u32,
+    gate: &G,
+) -> Result<Outcome, NoMemory>
+    requires slots { (checked.now.need ≤ slots) × (slots ≤ MAX_SLOTS) }
+    requires some { 0 < length checked.now.graph.lines }
+    requires workers { workers ≤ MAX_WORKERS }
+    ensures outcome { IfOk result (λ o. o ≡ outcome checked.now.graph o.trace) }
+    ensures lawful { IfOk result (λ o. IsLawful checked.now.graph o.trace) }
+    ensures lines { IfOk result (λ o. (k i : ℕ) → slice_get o.trace k ≡ Some i → i < length checked.now.graph.lines) }
+{
+    let (queue, pass) = HintQueue::new(alloc, checked.graph().lines())?;
+    let mut hints = queue.hints(alloc, pass, workers)?;
+    let (words, seat) = Words::prepare(alloc, checked, slots)?;
+    Ok(run_free(rt, words, seat, gate, hints.parts()))
+}
