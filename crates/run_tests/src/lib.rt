@@ -9,6 +9,8 @@ mod graphs;
 #[cfg(test)]
 mod outcomes;
 #[cfg(test)]
+mod waiting_tests;
+#[cfg(test)]
 mod word_tests;
 #[cfg(test)]
 mod worker_tests;
