@@ -45,7 +45,7 @@ numbers_of s = s.inner.me.0.mine
 abbrev pub splits_of : WordSeat → List ℕ
 splits_of s = s.inner.me.0.splits
 
--- each word that it loaded, with what it held
+-- each word that it loaded, or took a column by, with what it held
 abbrev pub saw_of : WordSeat → List (ℕ × ℕ)
 saw_of s = s.inner.me.0.saw
 
