@@ -1,5 +1,5 @@
 -- Taking what a claimed line needs.
-use Rattle.std.proofs.Common.{◌≡◌, ◌≢◌, ℕ, zero, suc, ◌<◌, ◌≤◌, ◌+◌, inl, inr, List, [], ◌∷◌, length, sym, ◌∙◌, ap, subst, arith, ⊎_elim}
+use Rattle.std.proofs.Common.{◌≡◌, ◌≢◌, ℕ, zero, suc, ◌<◌, ◌≤◌, ◌+◌, inl, inr, List, [], ◌∷◌, ◌++◌, length, refl, sym, ◌∙◌, ap, subst, arith, ⊎_elim}
 use Rattle.std.specs.Prelude.{Contains, Some, None, slice_get}
 use Rattle.std.proofs.lemmas.Bool.{cases_eq}
 use Rattle.std.proofs.lemmas.Option.{none-some, same_Some, slice_get_within}
@@ -17,13 +17,14 @@ use Rattle.run_words.specs.declared.view.View.{View}
 use Rattle.run_words.specs.Claims.{Claim}
 use Rattle.run_words.specs.Layout.{size_of, turn_word}
 use Rattle.run_words.specs.Rule.{ground_of}
-use Rattle.run_words.specs.Plays.{Sat, looked, looked_at, saw_at}
-use Rattle.run_words.specs.Laden.{Stacked, Taking, TakingAs}
+use Rattle.run_words.specs.Plays.{Sat, looked, looked_at, saw_at, saw_all}
+use Rattle.run_words.specs.Laden.{Stacked, AreFree, Taking, TakingAs, TookFree}
 use Rattle.run_words.specs.Works.{Loaded}
 use Rattle.run_words.specs.Attempts.{IsLoaded, IsRefused}
 use Rattle.run_words.proofs.Desking.{has_key}
 use Rattle.run_words.proofs.Ending.{column_at}
 use Rattle.run_words.proofs.Turns.{sat}
+use Rattle.run_words.proofs.TakingFacts.{saw_more}
 
 abbrev Pairs : Type 0
 Pairs = List (ℕ × List ℕ)
@@ -74,14 +75,16 @@ loaded_of g e line v cl left m n held r key l look = record {
       (λ c a. all_had g line cl.columns l.stacked c (subst (λ i. AccessesColumn g i c) l.line_is a)));
 }
 
-pub is_loaded : (g : GraphValue) (e : Events) (line : ℕ) (v : View) (cl : Claim) (left : List (ℕ × Content)) (m n : Sat) (held : List (ℕ × ColumnValue)) (r : ℕ) → m.0.keys ≡ ground_of g e ∷ [] → TakingAs g line 3 v cl left m held → looked line m r n → IsLoaded g line v cl left n held
-is_loaded g e line v cl left m n held r key t look = (r, t.0, loaded_of g e line v (record cl { columns = t.0 }) left m n held r key t.1 look)
+pub is_loaded : (g : GraphValue) (e : Events) (line : ℕ) (v : View) (cl : Claim) (left : List (ℕ × Content)) (m n : Sat) (held : List (ℕ × ColumnValue)) (r : ℕ) → m.0.keys ≡ ground_of g e ∷ [] → TookFree g line 3 v cl left m held → looked line m r n → IsLoaded g line v cl left n held
+is_loaded g e line v cl left m n held r key t look = (r, t.2.0, t.0, loaded_of g e line (saw_all v t.0) (record cl { columns = t.2.0 }) left m n held r key t.2.1 look)
 
 -- a line that gave all back is refused
-pub is_refused : (g : GraphValue) (line k c w r : ℕ) (v : View) (cl : Claim) (left : List (ℕ × Content)) (m : Sat) (held : List (ℕ × ColumnValue)) → slice_get (column_list g line) k ≡ Some c → w ≡ turn_word (size_of g) c → r ≢ 0 → r ≢ line + 1 → TakingAs g line 0 (saw_at v w r) cl left m held → IsRefused g line v cl left (Rattle.run_core.specs.declared.answers.Thing.TheVariants.Column c) m
-is_refused g line k c w r v cl left m held at is ne other t = (
-  w,
-  r,
-  (k, at, is, ne, other),
-  t.1.now ∙ ap (λ (l : Pairs). sat (record (saw_at v w r) { claim = Some (record cl { columns = l }) }) (Rattle.run_words.specs.Laden.hand_of (size_of g) l left)) t.1.stacked,
+pub is_refused : (g : GraphValue) (line k c r : ℕ) (v : View) (cl : Claim) (left : List (ℕ × Content)) (m : Sat) (held : List (ℕ × ColumnValue)) (before : List (ℕ × ℕ)) → slice_get (column_list g line) k ≡ Some c → r ≢ 0 → r ≢ line + 1 → AreFree g line k before
+    → TakingAs g line 0 (saw_at (saw_all v before) (turn_word (size_of g) c) r) cl left m held → IsRefused g line v cl left (Rattle.run_core.specs.declared.answers.Thing.TheVariants.Column c) m
+is_refused g line k c r v cl left m held before at ne other free t = (
+  before ++ (turn_word (size_of g) c, r) ∷ [],
+  (k, at, before, free, (r, refl, ne, other)),
+  t.1.now
+      ∙ (ap (λ (l : Pairs). sat (record (saw_at (saw_all v before) (turn_word (size_of g) c) r) { claim = Some (record cl { columns = l }) }) (Rattle.run_words.specs.Laden.hand_of (size_of g) l left)) t.1.stacked
+      ∙ ap (λ (u : View). sat (record u { claim = Some (record cl { columns = [] }) }) left) (saw_more v before ((turn_word (size_of g) c, r) ∷ []))),
 )

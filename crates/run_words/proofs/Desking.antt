@@ -64,12 +64,12 @@ module _ (g : GraphValue) (e : Events) (m n : Sat) (key : m.0.keys ≡ ground_of
     with = ap (λ (x : Sat). x.0) now ∙ (λ t. with_desk m.0 (items t) (same t))
 
 -- ISSUING: the desk taken, a line issued or none, the desk given
-pub issue_chain : (v : View) (hand : List (ℕ × Content)) (a b d : Sat) (hs hs' : List Handle) (tray : Desk) (new : List ℕ) (slot : ℕ) → a ≡ (with_desk v hs tray, (slot, Nothing) ∷ hand) → b ≡ (after_issue a.0 new hs', a.1) → ((left : List (ℕ × Content)) → b.1 ≡ (slot, Nothing) ∷ left → d ≡ (without_desk b.0, left))
-    → d ≡ (without_desk (after_issue (with_desk v hs tray) new hs'), hand)
-issue_chain v hand a b d hs hs' tray new slot p q r =
+pub issue_chain : (v : View) (hand : List (ℕ × Content)) (a b d : Sat) (hs hs' : List Handle) (tray laid : Desk) (new : List ℕ) (slot : ℕ) → a ≡ (with_desk v hs tray, (slot, Nothing) ∷ hand) → b ≡ (after_issue a.0 new hs', a.1) → ((left : List (ℕ × Content)) → b.1 ≡ (slot, Nothing) ∷ left → d ≡ (without_desk b.0 (laid ∷ []), left))
+    → d ≡ (without_desk (after_issue (with_desk v hs tray) new hs') (laid ∷ []), hand)
+issue_chain v hand a b d hs hs' tray laid new slot p q r =
     let top = ap (λ (x : Sat). x.1) q ∙ ap (λ (x : Sat). x.1) p in
     let view : b.0 ≡ after_issue (with_desk v hs tray) new hs' = ap (λ (x : Sat). x.0) q ∙ ap (λ (x : Sat). after_issue x.0 new hs') p in
-    r hand top ∙ ap (λ (x : View). sat (without_desk x) hand) view
+    r hand top ∙ ap (λ (x : View). sat (without_desk x (laid ∷ [])) hand) view
 
 pub unchanged : (v : View) (hs : List Handle) → v.issuing ≡ None → v.desk ≡ Some hs → v ≡ after_issue v [] hs
 unchanged v hs p q = let n : v.issued ≡ v.issued ++ [] = sym (append-nil v.issued) in λ k. record v { issued = n k; issuing = p k; desk = q k }

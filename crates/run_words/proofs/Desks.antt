@@ -15,7 +15,7 @@ use Rattle.basics.specs.Sums.{total}
 use Rattle.gen_events.specs.Seats.{Begins}
 use Rattle.gen_events.specs.declared.handle.Handle.{Handle}
 use Rattle.gen_events.specs.declared.events.Events.{Events}
-use Rattle.basics.proofs.Sums.{total-set, term_le, terms_le}
+use Rattle.basics.proofs.Sums.{total-set}
 use Rattle.gen_events.proofs.Members.{Contains-none}
 use Rattle.run_state.proofs.Lists.{stage_there}
 use Rattle.basics.proofs.ListFacts.{below_contains}
@@ -114,7 +114,7 @@ module _ (g : GraphValue) (e : Events) (s : St) (o : Shown g e s) (id : ℕ) (v 
   -- given back with what lies on it
   module _ (hs : List Handle) (turn : v.desk ≡ Some hs) (quiet : v.issuing ≡ None) (tray : Desk) (is_tray : IsTray e (length g.lines) hs tray) where
     abbrev w' : View
-    w' = without_desk v
+    w' = without_desk v (tray ∷ [])
 
     pub give_rule : Shown g e (board (set s.words (desk_word (size_of g)) 0) (set s.homes (desk_slot (size_of g)) (some (Tray tray))) (set s.views id w'))
     give_rule =
@@ -178,7 +178,7 @@ pub gives_desk_allow : (g : GraphValue) (e : Events) (slots id : ℕ) (v : View)
     → Allows (Shown g e) slots id (v, hand) (desk_word (size_of g)) (λ _. 0) (λ _. gives_desk (v, hand))
 gives_desk_allow g e slots id v hand left hs tray turn quiet tops is_tray =
     subst (λ l. Allows (Shown g e) slots id (v, l) (desk_word (size_of g)) (λ _. 0) (λ _. gives_desk (v, l))) (sym tops) (λ s o wide me low. (
-      without_desk v,
+      without_desk v (tray ∷ []),
       gives,
       tt,
       give_rule g e s o id v me hs turn quiet tray is_tray,

@@ -1,5 +1,5 @@
 -- The columns, as they leave their homes and come back.
-use Rattle.std.proofs.Common.{◌≡◌, ◌≢◌, ℕ, ◌+◌, ◌<◌, ◌≤◌, List, length, map, refl, sym, ◌∙◌, ap, subst, arith, inl, inr}
+use Rattle.std.proofs.Common.{◌≡◌, ◌≢◌, ℕ, ◌+◌, ◌<◌, List, length, sym, ◌∙◌, ap, subst, arith, inl, inr}
 use Rattle.std.specs.Prelude.{Option, Some, None, slice_get, slice_index_or, slice_set}
 use Rattle.std.proofs.lemmas.Bool.{cases_eq}
 use Rattle.std.proofs.lemmas.List.{length-set, get_or-set_other}
@@ -10,8 +10,6 @@ use Rattle.graph_model.specs.graph.Graph.{GraphValue, columns}
 use Rattle.graph_model.specs.meaning.Effect.{zero_cells}
 use Rattle.graph_model.specs.meaning.Evaluation.{column_of}
 use Rattle.instances.specs.Homes.{all_home}
-use Rattle.run_state.specs.Start.{zeros}
-use Rattle.run_words.specs.Rule.{column_with}
 use Rattle.run_words.specs.Preparing.{AreOut, AreOutBelow}
 
 pub none_out : (g : GraphValue) (homes : List (Option ColumnValue)) → homes ≡ all_home g zero_cells → AreOutBelow g 0 homes

@@ -1,5 +1,5 @@
 -- What is read off the words and slots at the end shows the state of the run, from which a core is resumed.
-use Rattle.std.proofs.Common.{◌≡◌, ◌≢◌, ℕ, zero, suc, ◌+◌, ◌-◌, ◌%◌, ◌<◌, ◌≤◌, List, [], ◌∷◌, length, Bool, true, false, cond, map, refl, sym, ◌∙◌, ap, subst, arith, inl, inr, IsTrue}
+use Rattle.std.proofs.Common.{◌≡◌, ◌≢◌, ℕ, zero, suc, ◌+◌, ◌-◌, ◌%◌, ◌<◌, ◌≤◌, List, [], ◌∷◌, length, true, false, cond, map, refl, sym, ◌∙◌, ap, subst, arith, inl, inr}
 use Rattle.std.specs.Prelude.{Option, Some, None, not, Contains, slice_get, slice_index, slice_index_or}
 use mathlib.Core.Option.{some}
 use lib.ListN.{get_elem?}
@@ -19,25 +19,25 @@ use Rattle.gen_events.specs.Views.{handle_of, ended_by, fate_of}
 use Rattle.gen_events.specs.declared.handle.Handle.{Handle}
 use Rattle.gen_events.specs.declared.handle.Fate.{Fate}
 use Rattle.gen_events.specs.declared.handle.Answer.{Answer}
-use Rattle.gen_events.specs.declared.handle.Answer.TheVariants.{Pending as StillPending, Triggered, Poisoned}
+use Rattle.gen_events.specs.declared.handle.Answer.TheVariants.{Pending as StillPending}
 use Rattle.gen_events.specs.declared.events.Events.{Events}
 use Rattle.gen_events.specs.declared.view.View as their
-use Rattle.gen_events.specs.EventMap.{EventMap, SlotLife, unused, without_waiters, all_free, answer, answer_of, life_at, IsPlaced, IsFree, no_event}
-use Rattle.run_state.specs.Run.{LineStage, Unissued, Issued, Out, Ending, Ended, Home, Run, stage_at, time_at, place_at, end_so_far, stage_issued, stage_out, stage_started, stage_over, stage_ended, kept_end, issued, out, ended, over}
+use Rattle.gen_events.specs.EventMap.{EventMap, SlotLife, unused, without_waiters, all_free, answer, answer_of, life_at, IsFree, no_event}
+use Rattle.run_state.specs.Run.{LineStage, Unissued, Issued, Out, Ending, Ended, Run, stage_at, end_so_far, stage_issued, stage_out, stage_started, stage_over, stage_ended, kept_end, issued, out, ended}
 use Rattle.run_state.proofs.Lists.{stage_there}
 use Rattle.run_state.proofs.QuietTrace.{clock_small}
 use Rattle.run_state.proofs.Told.{kept_is_ended}
-use Rattle.run_core.specs.Core.{CoreValue, AreEvents, answer_for, unissued}
+use Rattle.run_core.specs.Core.{AreEvents, answer_for, unissued}
 use Rattle.run_core.specs.Steps.{stage_of}
 use Rattle.run_core.specs.Resumed.{LinesShow, HomesShow, PhasesShow, ShowState}
 use Rattle.run_core.specs.declared.states.LineState.{LineState}
 use Rattle.run_core.proofs.CreatedCounts.{created_count}
 use Rattle.run_core.proofs.PendingCounts.{pend, pending_count}
 use Rattle.run_words.specs.declared.content.Content.{Content}
-use Rattle.run_words.specs.declared.content.Content.TheVariants.{Nothing, Ticket, Stub, Cells, Tray}
+use Rattle.run_words.specs.declared.content.Content.TheVariants.{Cells}
 use Rattle.run_words.specs.declared.view.View.{View}
 use Rattle.run_words.specs.Layout.{size_of, status_word, time_word, value_word, line_slot, column_slot}
-use Rattle.run_words.specs.Rule.{end_code, fate_for, handle_at, column_with}
+use Rattle.run_words.specs.Rule.{fate_for, handle_at, column_with}
 use Rattle.run_words.specs.Views.{time_code}
 use Rattle.run_words.specs.Closing.{LineLeft, IsLeft}
 use Rattle.run_words.specs.Reading.{stage_for, end_for, time_for, state_for, value_for, value_of, value_by}

@@ -31,7 +31,7 @@ use Rattle.run_words.specs.declared.works.WordWork.{WordWork}
 use Rattle.run_words.specs.Works.{IsWorkOf}
 use Rattle.run_words.specs.Words.{graph_of, events_of, IsSeatOf}
 use Rattle.run_words.specs.Rule.{ground_of, child}
-use Rattle.run_words.specs.Plays.{Sat, HasClaimed, claimed_at, saw_at, on_claim, holding, lets_go, unclaims, child_of, parent_of, joined, looked_at, own_number}
+use Rattle.run_words.specs.Plays.{Sat, HasClaimed, claimed_at, saw_at, saw_all, on_claim, holding, lets_go, unclaims, child_of, parent_of, joined, looked_at, own_number}
 use Rattle.run_words.specs.Premises.{Has, IsBare, OnTop}
 use Rattle.run_words.specs.Sources.{cancels_in}
 use Rattle.run_words.specs.Laden.{Taking}
@@ -60,7 +60,7 @@ taking_first g line v h b left m real q = record {
 
 pub all_of : (g : GraphValue) (line : ℕ) (v : View) (ticket : Pending) (b : Bool) (m : Sat) (held : List (ℕ × ColumnValue)) → IsLoaded g line v (holding b (new_claim line (handle_of ticket))) ((line, Ticket ticket) ∷ []) m held → ((l : ℕ) → Acquires g line l → eval_end g line ≢ Cancelled → b ≡ true) → HasAllOf g line false v ticket m held
 all_of g line v ticket b m held l holds = record {
-  saw = (looked_at v line l.0).saw;
+  saw = (looked_at (saw_all v l.2) line l.0).saw;
   issued = (looked_at v line l.0).issued;
   ended = (looked_at v line l.0).ended;
   claim = record (holding b (new_claim line (handle_of ticket))) { columns = l.1 };
@@ -71,7 +71,7 @@ all_of g line v ticket b m held l holds = record {
   fresh = (refl, refl);
   holds = holds;
   bare = λ q. absurd (true≢false (sym q));
-  loaded = λ _. l.2;
+  loaded = λ _. l.3;
 }
 
 pub bare_of : (g : GraphValue) (line : ℕ) (v : View) (ticket : Pending) (b : Bool) (m : Sat) (held : List (ℕ × ColumnValue)) → b ≡ true → eval_end g line ≡ Cancelled → IsClaimed line v ticket m → HasAllOf g line b v ticket m held
@@ -92,13 +92,13 @@ bare_of g line v ticket b m held is_so cancelled is = record {
 
 -- a line that holds its reservation lets it go
 pub may_let_go : (g : GraphValue) (line l : ℕ) (v : View) (h : Handle) (left : Left) (thing : Thing) (m : Sat) → Acquires g line l → IsRefused g line v (holding true (new_claim line h)) left thing m → Has m.0 (λ cl. Acquires g cl.line l × (cl.holds ≡ true) × (cl.time ≡ None))
-may_let_go g line l v h left thing m a r = (record (holding true (new_claim line h)) { columns = [] }, ap (λ (y : Sat). y.0.claim) r.3, (a, refl, refl))
+may_let_go g line l v h left thing m a r = (record (holding true (new_claim line h)) { columns = [] }, ap (λ (y : Sat). y.0.claim) r.2, (a, refl, refl))
 
 pub refused_held : (g : GraphValue) (line : ℕ) (v : View) (ticket : Pending) (thing : Thing) (m n : Sat) → IsRefused g line v (holding true (new_claim line (handle_of ticket))) ((line, Ticket ticket) ∷ []) thing m → lets_go m n → IsRefusedAll g line v ticket thing n
-refused_held g line v ticket thing m n r go = (r.0, r.1, r.2, go ∙ ap (λ (y : Sat). sat (on_claim (holding false) y.0) y.1) r.3)
+refused_held g line v ticket thing m n r go = (r.0, r.1, go ∙ ap (λ (y : Sat). sat (on_claim (holding false) y.0) y.1) r.2)
 
-pub refused_lock : (g : GraphValue) (line l w r : ℕ) (v : View) (ticket : Pending) (m n : Sat) → IsClaimed line v ticket m → Acquires g line l → w ≡ lock_word (size_of g) l → r ≢ 0 → r ≢ line + 1 → n ≡ (saw_at m.0 w r, m.1) → IsRefusedAll g line v ticket (things.Lock l) n
-refused_lock g line l w r v ticket m n is a word ne other q = (w, r, (a, word, ne, other), q ∙ ap (λ (y : Sat). sat (saw_at y.0 w r) y.1) is)
+pub refused_lock : (g : GraphValue) (line l r : ℕ) (v : View) (ticket : Pending) (m n : Sat) → IsClaimed line v ticket m → Acquires g line l → r ≢ 0 → r ≢ line + 1 → n ≡ (saw_at m.0 (lock_word (size_of g) l) r, m.1) → IsRefusedAll g line v ticket (things.Lock l) n
+refused_lock g line l r v ticket m n is a ne other q = ((lock_word (size_of g) l, r) ∷ [], (a, [], (r, refl, ne, other)), q ∙ ap (λ (y : Sat). sat (saw_at y.0 (lock_word (size_of g) l) r) y.1) is)
 
 -- whether a claimed line is cancelled
 pub cancelled_so : (g : GraphValue) (e : Events) (line : ℕ) (b : Bool) (m n : Sat) → m.0.keys ≡ ground_of g e ∷ [] → HasClaimed line m n → b ≡ list_any (cancels_in g) (edges_into g line) → (b ≡ true → eval_end g line ≡ Cancelled) × (b ≡ false → eval_end g line ≢ Cancelled)
@@ -115,12 +115,12 @@ pub may_unclaim : (g : GraphValue) (e : Events) (line : ℕ) (v : View) (ticket 
     → Has m.0 (λ cl. (cl.line ≡ line) × IsBare cl × ((ticket : Pending) × OnTop line (Ticket ticket) m.1 × IsPendingOf e ticket × (handle_of ticket ≡ cl.event)))
 may_unclaim g e line v ticket thing m r of = (
   new_claim line (handle_of ticket),
-  ap (λ (y : Sat). y.0.claim) r.3,
-  (refl, record { going = refl; columns = refl; puts = refl; held = refl; arrived = refl; time = refl }, (ticket, ([], ap (λ (y : Sat). y.1) r.3), of, refl)),
+  ap (λ (y : Sat). y.0.claim) r.2,
+  (refl, record { going = refl; columns = refl; puts = refl; held = refl; arrived = refl; time = refl }, (ticket, ([], ap (λ (y : Sat). y.1) r.2), of, refl)),
 )
 
-pub unclaimed : (g : GraphValue) (line : ℕ) (v : View) (ticket : Pending) (thing : Thing) (m n : Sat) (r : IsRefusedAll g line v ticket thing m) → v.claim ≡ None → unclaims m n → n ≡ (saw_at v r.0 r.1, [])
-unclaimed g line v ticket thing m n r none u = u ∙ (ap (λ (y : Sat). sat (record y.0 { claim = None }) (Rattle.atomic_table.specs.Table.rest y.1)) r.3 ∙ ap (λ (c : Rattle.std.specs.Prelude.Option Claim). sat (record (saw_at v r.0 r.1) { claim = c }) []) (sym none))
+pub unclaimed : (g : GraphValue) (line : ℕ) (v : View) (ticket : Pending) (thing : Thing) (m n : Sat) (r : IsRefusedAll g line v ticket thing m) → v.claim ≡ None → unclaims m n → n ≡ (saw_all v r.0, [])
+unclaimed g line v ticket thing m n r none u = u ∙ (ap (λ (y : Sat). sat (record y.0 { claim = None }) (Rattle.atomic_table.specs.Table.rest y.1)) r.2 ∙ ap (λ (c : Rattle.std.specs.Prelude.Option Claim). sat (record (saw_all v r.0) { claim = c }) []) (sym none))
 
 by_bool : (b : Bool) → (b ≡ true) ⊎ (b ≡ false)
 by_bool true = inl refl
@@ -171,8 +171,11 @@ module _ (v0 : View) (hand : Left) (a t : Sat) (w : View) (parent : a ≡ (paren
       let ns : List ℕ = child (own_number v0.mine) v0.births ∷ [] in
       (ns, ap (λ (y : Sat). y.0.mine) whole ∙ ap (λ (l : List ℕ). v0.mine ++ l) mine, ap (λ (y : Sat). y.0.splits) whole ∙ (ap (λ (l : List ℕ). (v0.splits ++ ns) ++ l) splits ∙ append-nil (v0.splits ++ ns)))
 
+  pub joined_saw : (found : List (ℕ × ℕ)) → w.saw ≡ found → t.0.saw ≡ v0.saw ++ found
+  joined_saw found saw = ap (λ (y : Sat). y.0.saw) whole ∙ ap (λ (l : List (ℕ × ℕ)). v0.saw ++ l) saw
+
   pub joined_found : (j r : ℕ) → w.saw ≡ (j, r) ∷ [] → (found : List (ℕ × ℕ)) × (t.0.saw ≡ v0.saw ++ found) × Contains found (j, r)
-  joined_found j r saw = ((j, r) ∷ [], ap (λ (y : Sat). y.0.saw) whole ∙ ap (λ (l : List (ℕ × ℕ)). v0.saw ++ l) saw, Contains-head {A = ℕ × ℕ} (j, r) [])
+  joined_found j r saw = ((j, r) ∷ [], joined_saw ((j, r) ∷ []) saw, Contains-head {A = ℕ × ℕ} (j, r) [])
 
   pub joined_issued : (i : ℕ) → Contains v0.issued i → Contains t.0.issued i
   joined_issued i c = subst (λ l. Contains l i) (sym (ap (λ (y : Sat). y.0.issued) whole)) (Contains-append_left v0.issued w.issued i c)

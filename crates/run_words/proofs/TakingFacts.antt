@@ -1,7 +1,10 @@
 -- A line takes one more of its columns.
-use Rattle.std.proofs.Common.{◌≡◌, ◌≢◌, ℕ, zero, suc, ◌≤◌, ◌+◌, inl, inr, List, [], ◌∷◌, length, refl, sym, ◌∙◌, ap, subst, arith, ⊎_elim}
+use Rattle.std.proofs.Common.{◌≡◌, ◌≢◌, ℕ, zero, suc, ◌≤◌, ◌+◌, inl, inr, List, [], ◌∷◌, ◌++◌, length, refl, sym, ◌∙◌, ap, subst, arith, ⊎_elim, append_assoc}
 use Rattle.std.specs.Prelude.{Contains, Option, Some, None, slice_get}
 use Rattle.std.proofs.lemmas.Bool.{cases_eq}
+use Rattle.std.proofs.lemmas.Option.{none-some, same_Some}
+use Rattle.std.proofs.lemmas.List.{append-nil}
+use Rattle.std.proofs.lemmas.List.Elements.{Contains-append_left, Contains-append_right}
 use Rattle.index_spaces.specs.Column.{ColumnValue}
 use Rattle.index_spaces.specs.Held.{held_at, HoldsOtherwise}
 use Rattle.graph_model.specs.graph.Graph.{GraphValue}
@@ -16,9 +19,9 @@ use Rattle.run_words.specs.declared.view.View.{View}
 use Rattle.run_words.specs.Claims.{Claim}
 use Rattle.run_words.specs.Layout.{size_of, turn_word, column_slot}
 use Rattle.run_words.specs.Rule.{ground_of, column_with}
-use Rattle.run_words.specs.Plays.{Sat, on_claim, took, HasTurn, saw_at}
+use Rattle.run_words.specs.Plays.{Sat, on_claim, took, HasTurn, saw_at, saw_all}
 use Rattle.run_words.specs.Premises.{Has, MayTake}
-use Rattle.run_words.specs.Laden.{Stacked, Taking}
+use Rattle.run_words.specs.Laden.{Stacked, IsFree, AreFree, Taking, TakingAs, TookFree}
 use Rattle.run_words.proofs.Desking.{has_key}
 use Rattle.run_words.proofs.Turns.{sat}
 
@@ -72,6 +75,49 @@ taking_saw g line k v cl left m n held held' w r l q h = subst (Taking g line k 
   size = l.size;
 })
 
+-- what was found twice in a row was found
+pub saw_none : (v : View) → v ≡ saw_all v []
+saw_none v = λ t. record v { saw = sym (append-nil v.saw) t }
+
+pub saw_more : (v : View) (first more : List (ℕ × ℕ)) → saw_all (saw_all v first) more ≡ saw_all v (first ++ more)
+saw_more v first more = λ t. record v { saw = append_assoc v.saw first more t }
+
+-- a line that has no access k needs no column more
+pub took_none : (g : GraphValue) (line k : ℕ) (v : View) (cl : Claim) (left : List (ℕ × Content)) (m : Sat) (held : List (ℕ × ColumnValue)) → Taking g line k v cl left m held → slice_get (column_list g line) k ≡ None
+    → (found : List (ℕ × ℕ)) × IsFree g line k found × TakingAs g line (suc k) (saw_all v found) cl left m held
+took_none g line k v cl left m held l at = (
+  [],
+  λ c is. absurd (none-some c (sym at ∙ is)),
+  (cl.columns, subst (λ u. Taking g line (suc k) u cl left m held) (saw_none v) (skip_ahead g line k v cl left m held l at)),
+)
+
+pub took_one : (g : GraphValue) (line k c : ℕ) (v : View) (cl : Claim) (left : List (ℕ × Content)) (n : Sat) (held : List (ℕ × ColumnValue)) → slice_get (column_list g line) k ≡ Some c → TakingAs g line (suc k) (saw_at v (turn_word (size_of g) c) 0) cl left n held
+    → (found : List (ℕ × ℕ)) × IsFree g line k found × TakingAs g line (suc k) (saw_all v found) cl left n held
+took_one g line k c v cl left n held at t = (
+  (turn_word (size_of g) c, 0) ∷ [],
+  λ d is. subst (λ j. Contains {X = ℕ × ℕ} ((turn_word (size_of g) c, 0) ∷ []) (turn_word (size_of g) j, 0)) (same_Some c d (sym at ∙ is)) (Contains-head {A = ℕ × ℕ} (turn_word (size_of g) c, 0) []),
+  t,
+)
+
+-- nothing was taken yet
+pub took_first : (g : GraphValue) (line : ℕ) (v : View) (cl : Claim) (left : List (ℕ × Content)) (m : Sat) (held : List (ℕ × ColumnValue)) → Taking g line 0 v cl left m held → TookFree g line 0 v cl left m held
+took_first g line v cl left m held l = ([], λ j low. absurd (omega (arith, low)), (cl.columns, subst (λ u. Taking g line 0 u cl left m held) (saw_none v) l))
+
+-- and one column more was found free
+pub free_more : (g : GraphValue) (line k : ℕ) (first more : List (ℕ × ℕ)) → AreFree g line k first → IsFree g line k more → AreFree g line (suc k) (first ++ more)
+free_more g line k first more all here j low c at = elim (cases_eq j k) [
+  | inl q ↦ Contains-append_right first more (turn_word (size_of g) c, 0) (here c (ap (slice_get (column_list g line)) (sym q) ∙ at))
+  | inr n ↦ Contains-append_left first more (turn_word (size_of g) c, 0) (all j (omega (arith, low, n)) c at)
+]
+
+pub took_more : (g : GraphValue) (line k : ℕ) (v : View) (cl : Claim) (left : List (ℕ × Content)) (n : Sat) (held : List (ℕ × ColumnValue)) (first : List (ℕ × ℕ)) (columns : Pairs) → AreFree g line k first
+    → (found : List (ℕ × ℕ)) × IsFree g line k found × TakingAs g line (suc k) (saw_all (saw_all v first) found) (record cl { columns = columns }) left n held → TookFree g line (suc k) v cl left n held
+took_more g line k v cl left n held first columns all f = (
+  first ++ f.0,
+  free_more g line k first f.0 all f.1,
+  (f.2.0, subst (λ u. Taking g line (suc k) u (record cl { columns = f.2.0 }) left n held) (saw_more v first f.0) f.2.1),
+)
+
 module _ (g : GraphValue) (e : Events) (line k : ℕ) (v : View) (cl : Claim) (left : List (ℕ × Content)) (m : Sat) (held : List (ℕ × ColumnValue)) (l : Taking g line k v cl left m held) (c : ℕ) (at : slice_get (column_list g line) k ≡ Some c) where
   pub may_take : AccessesColumn g line c → Has m.0 (λ d. (d.line ≡ line) × MayTake g c d)
   may_take a = (
@@ -106,7 +152,7 @@ module _ (g : GraphValue) (e : Events) (line k : ℕ) (v : View) (cl : Claim) (l
       abbrev column : ColumnValue
       column = column_with g c (home_cells g h.back c)
 
-      pub now : n ≡ (on_claim (took c h.back) m.0, (column_slot (size_of g) c, Cells column) ∷ m.1)
+      pub now : n ≡ (on_claim (took c h.back) (saw_at m.0 (turn_word (size_of g) c) 0), (column_slot (size_of g) c, Cells column) ∷ m.1)
       now = h.now (ground_of g e) c (has_key m.0.keys (ground_of g e) key) refl
 
       pub keys : n.0.keys ≡ ground_of g e ∷ []
@@ -115,14 +161,14 @@ module _ (g : GraphValue) (e : Events) (line k : ℕ) (v : View) (cl : Claim) (l
       pub on_top : (s : ℕ) → s ≡ column_slot (size_of g) c → n.1 ≡ (s, Cells column) ∷ m.1
       on_top s q = ap (λ (y : Sat). y.1) now ∙ ap (λ (j : ℕ). (j, Cells column) ∷ m.1) (sym q)
 
-      pub taken : (o : Sat) (held' : List (ℕ × ColumnValue)) (x : ColumnValue) → Cells column ≡ Cells x → o.0 ≡ n.0 → o.1 ≡ (column_slot (size_of g) c, Nothing) ∷ m.1 → HoldsOtherwise held held' c (Some x) → length held' ≡ length held + 1 → Taking g line (suc k) v then left o held'
+      pub taken : (o : Sat) (held' : List (ℕ × ColumnValue)) (x : ColumnValue) → Cells column ≡ Cells x → o.0 ≡ n.0 → o.1 ≡ (column_slot (size_of g) c, Nothing) ∷ m.1 → HoldsOtherwise held held' c (Some x) → length held' ≡ length held + 1 → Taking g line (suc k) (saw_at v (turn_word (size_of g) c) 0) then left o held'
       taken o held' x is view hand others long = record {
         line_is = l.line_is;
         going = l.going;
         real = l.real;
         no_puts = l.no_puts;
         now = λ t. (
-          (view ∙ (ap (λ (y : Sat). y.0) now ∙ ap (λ (y : Sat). on_claim (took c h.back) y.0) l.now)) t,
+          (view ∙ (ap (λ (y : Sat). y.0) now ∙ ap (λ (y : Sat). on_claim (took c h.back) (saw_at y.0 (turn_word (size_of g) c) 0)) l.now)) t,
           (hand ∙ ap (λ (y : Sat). (column_slot (size_of g) c, Nothing) ∷ y.1) l.now) t,
         );
         stacked = inr (c, h.back, cl.columns, at, refl, l.stacked);

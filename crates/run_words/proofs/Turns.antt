@@ -100,7 +100,7 @@ module _ (g : GraphValue) (e : Events) (s : St) (o : Shown g e s) (id : ℕ) (v 
     }
 
     abbrev w : View
-    w = with_claim v (took c back cl)
+    w = with_claim (saw_at v (turn_word (size_of g) c) 0) (took c back cl)
 
     pub turn_rule : Shown g e (board (set s.words (turn_word (size_of g) c) (cl.line + 1)) (set s.homes (column_slot (size_of g) c) none) (set s.views id w))
     turn_rule = claim_goes g e s o id v w me cl (took c back cl) has refl refl refl after
@@ -120,15 +120,15 @@ module _ (g : GraphValue) (e : Events) (s : St) (o : Shown g e s) (id : ℕ) (v 
         there)
 
     pub turn_told : (hand : List (ℕ × Content)) → HasTurn (turn_word (size_of g) c) (v, hand) (w, (column_slot (size_of g) c, Cells (column_with g c home.0)) ∷ hand)
-    turn_told hand = record {
+    turn_told hand = let free_v : View = saw_at v (turn_word (size_of g) c) 0 in record {
       back = back;
       now = λ x k key at.
           let same : x ≡ ground_of g e = (o.each_view id v me).keys x key in
           let here : c ≡ k = (let q : turn_word (size_of g) c ≡ turn_word (size_of g) k = at ∙ ap (λ (y : Ground). turn_word (size_of y.graph) k) same in omega (arith, q)) in
-          subst (λ (y : Ground). sat w ((column_slot (size_of g) c, Cells (column_with g c home.0)) ∷ hand) ≡ sat (on_claim (took k back) v) ((column_slot (size_of y.graph) k, Cells (column_with y.graph k (home_cells y.graph back k))) ∷ hand)) (sym same)
-          (subst (λ j. sat w ((column_slot (size_of g) c, Cells (column_with g c home.0)) ∷ hand) ≡ sat (on_claim (took j back) v) ((column_slot (size_of g) j, Cells (column_with g j (home_cells g back j))) ∷ hand)) here
-          (ap (λ (y : View). sat y ((column_slot (size_of g) c, Cells (column_with g c home.0)) ∷ hand)) (on_claimed (took c back) v cl has)
-          ∙ ap (λ (xs : List ℕ). sat (on_claim (took c back) v) ((column_slot (size_of g) c, Cells (column_with g c xs)) ∷ hand)) (o.sound.on_columns.cells c home.0 home.1)));
+          subst (λ (y : Ground). sat w ((column_slot (size_of g) c, Cells (column_with g c home.0)) ∷ hand) ≡ sat (on_claim (took k back) free_v) ((column_slot (size_of y.graph) k, Cells (column_with y.graph k (home_cells y.graph back k))) ∷ hand)) (sym same)
+          (subst (λ j. sat w ((column_slot (size_of g) c, Cells (column_with g c home.0)) ∷ hand) ≡ sat (on_claim (took j back) free_v) ((column_slot (size_of g) j, Cells (column_with g j (home_cells g back j))) ∷ hand)) here
+          (ap (λ (y : View). sat y ((column_slot (size_of g) c, Cells (column_with g c home.0)) ∷ hand)) (on_claimed (took c back) free_v cl has)
+          ∙ ap (λ (xs : List ℕ). sat (on_claim (took c back) free_v) ((column_slot (size_of g) c, Cells (column_with g c xs)) ∷ hand)) (o.sound.on_columns.cells c home.0 home.1)));
     }
 
     pub turn_at_home : get_elem? s.homes (column_slot (size_of g) c) ≡ some (some (Cells (column_with g c home.0)))
@@ -152,7 +152,7 @@ turns_allow g e slots id c m cl has near going accessed real new s o wide me low
     let r = get_or s.words i 0 in
     exchanged r 0 (cl.line + 1) (λ x. (w : View) × (a : Act Content) × Valid s.homes m.1 a × Shown g e (stepped s i x id m.1 w a) × turns i m r (w, carried_after m.1 a))
     (λ is. (
-      with_claim v (took c (list_at o.run.back c) cl),
+      with_claim (saw_at v i 0) (took c (list_at o.run.back c) cl),
       takes (column_slot (size_of g) c) (Cells (column_with g c (home g e s o id v me c cl has near going accessed real new is).0)),
       turn_at_home g e s o id v me c cl has near going accessed real new is,
       turn_rule g e s o id v me c cl has near going accessed real new is,

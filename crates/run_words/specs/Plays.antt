@@ -74,6 +74,10 @@ looked i m r n = (n ≡ (looked_at m.0 i r, m.1)) × Told m.0 i r
 abbrev pub saw_at : View → ℕ → ℕ → View
 saw_at v w r = record v { saw = v.saw ++ (w, r) ∷ [] }
 
+-- it found all of these
+abbrev pub saw_all : View → List (ℕ × ℕ) → View
+saw_all v found = record v { saw = v.saw ++ found }
+
 -- the seat found r in the word w, and nothing else came of it
 abbrev pub missed : ℕ → Sat → ℕ → Sat → Type 0
 missed w m r n = n ≡ (saw_at m.0 w r, m.1)
@@ -102,11 +106,11 @@ claims i m r n = (r ≡ 2 → HasClaimed i m n) × ((r ≡ 2 → ⊥) → looked
 abbrev pub took : ℕ → List ℕ → Claim → Claim
 took c ks cl = record cl { columns = (c, ks) ∷ cl.columns }
 
--- the column of the word w was taken, and is in the hand, as the lines before left it
+-- the column of the word w was found free and taken, and is in the hand, as the lines before left it
 pub record HasTurn (w : ℕ) (m n : Sat) : Type 0 where
   pub back : List ℕ
   pub now : (x : Ground) (c : ℕ) → Contains m.0.keys x → w ≡ turn_word (size_of x.graph) c →
-      n ≡ (on_claim (took c back) m.0, (column_slot (size_of x.graph) c, Cells (column_with x.graph c (home_cells x.graph back c))) ∷ m.1)
+      n ≡ (on_claim (took c back) (saw_at m.0 w 0), (column_slot (size_of x.graph) c, Cells (column_with x.graph c (home_cells x.graph back c))) ∷ m.1)
 
 -- the word w, which held r, shows another line than the seat's, where that has not the column
 abbrev pub NotOwn : ℕ → View → ℕ → Type 0
@@ -235,13 +239,22 @@ abbrev pub named_by : Option (List Handle) → List (List Handle)
 named_by None = []
 named_by (Some hs) = hs ∷ []
 
--- the seat has no turn, and knows the handles of the lines
-abbrev pub without_desk : View → View
-without_desk v = record v { named = v.named ++ named_by v.desk; desk = None }
+-- what goes onto the desk from the top of the hand
+abbrev pub trays_in : List (ℕ × Content) → List Desk
+trays_in [] = []
+trays_in ((k, Tray d) ∷ xs) = d ∷ []
+trays_in ((k, Nothing) ∷ xs) = []
+trays_in ((k, Ticket p) ∷ xs) = []
+trays_in ((k, Stub r) ∷ xs) = []
+trays_in ((k, Cells x) ∷ xs) = []
 
--- the seat gave the desk's turn, and its slot
+-- the seat has no turn, knows the handles of the lines, and laid this on the desk
+abbrev pub without_desk : View → List Desk → View
+without_desk v laid = record v { named = v.named ++ named_by v.desk; laid = v.laid ++ laid; desk = None }
+
+-- the seat gave the desk's turn, and its slot with what lies on the desk
 abbrev pub gives_desk : Sat → Sat → Type 0
-gives_desk m n = n ≡ (without_desk m.0, rest m.1)
+gives_desk m n = n ≡ (without_desk m.0 (trays_in m.1), rest m.1)
 
 -- ISSUING. The seat is issuing line i
 abbrev pub issuing_at : View → ℕ → View
@@ -278,7 +291,7 @@ gives_up_issue m n = n ≡ (without_issue m.0, rest m.1)
 
 -- CUTTING AND JOINING. The view of a seat that was joined into another
 abbrev pub no_view : View
-no_view = record { keys = []; mine = []; births = 0; splits = []; issued = []; ended = []; named = []; saw = []; trays = []; claim = None; issuing = None; desk = None }
+no_view = record { keys = []; mine = []; births = 0; splits = []; issued = []; ended = []; named = []; saw = []; trays = []; laid = []; claim = None; issuing = None; desk = None }
 
 -- the number of a seat itself
 abbrev pub own_number : List ℕ → ℕ
@@ -303,6 +316,7 @@ joined v w = record v {
   named = v.named ++ w.named;
   saw = v.saw ++ w.saw;
   trays = v.trays ++ w.trays;
+  laid = v.laid ++ w.laid;
 }
 
 -- what issuing in the desk's turn leaves of a view

@@ -1,5 +1,5 @@
 -- What the end of a run needs of memory.
-use Rattle.std.specs.Prelude.{◌≡◌, ℕ, length, replicate, Option, None}
+use Rattle.std.specs.Prelude.{◌≡◌, ℕ, length, replicate, None}
 use Rattle.gen_events.specs.EventMap.{fresh}
 use Rattle.graph_model.specs.graph.Graph.{GraphValue}
 use Rattle.run_core.specs.Core.{unissued}

@@ -1,10 +1,9 @@
 -- Seats at their words.
-use Rattle.std.specs.Prelude.{◌≡◌, ◌≢◌, ℕ, ◌<◌, List, [], ◌∷◌, ◌++◌, Contains}
+use Rattle.std.specs.Prelude.{◌≡◌, ◌≢◌, ℕ, List, [], ◌∷◌, ◌++◌, Contains}
 use Rattle.atomic_table.specs.declared.shared.Seat as table
 use Rattle.graph_model.specs.graph.Graph.{GraphValue}
 use Rattle.gen_events.specs.declared.events.Events.{Events}
 use Rattle.gen_events.specs.declared.handle.Handle.{Handle}
-use Rattle.gen_events.specs.declared.handle.Shape.{Shape}
 use Rattle.run_words.specs.declared.content.Content.{Content}
 use Rattle.run_words.specs.declared.view.View.{View}
 use Rattle.run_words.specs.declared.words.Words.{Words}
@@ -46,7 +45,7 @@ numbers_of s = s.inner.me.0.mine
 abbrev pub splits_of : WordSeat → List ℕ
 splits_of s = s.inner.me.0.splits
 
--- each word that it loaded, with what it held
+-- each word that it loaded, or took a column by, with what it held
 abbrev pub saw_of : WordSeat → List (ℕ × ℕ)
 saw_of s = s.inner.me.0.saw
 

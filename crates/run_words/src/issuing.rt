@@ -13,6 +13,7 @@ ghost use Rattle.run_words.specs.Layout.{size_of, desk_slot, desk_word};
 ghost use Rattle.run_words.specs.Plays.{issued_at, without_issue, with_desk, without_desk, missed, after_issue};
 ghost use Rattle.run_words.specs.Premises.{IsNumbered};
 ghost use Rattle.run_words.specs.Rule.{IsTray};
+ghost use Rattle.run_words.specs.Standing.{KeepsWaiters};
 ghost use Rattle.run_words.specs.Words.{graph_of, events_of, IsSeatOf, IsAt, KnowsIssued, KnowsEnded, KnowsHandles, IsEventSeat, FoundTaken, events_seat, numbers_of, splits_of};
 
 use crate::content::{Content, Desk};
@@ -74,6 +75,7 @@ impl<'g> Words<'g> {
         requires tray { IsTray (events_of self.now) (length (graph_of self.now).lines) desk.old.handles.items desk.old }
         ensures at { IsSeatOf self.now seat.new }
         ensures tray { IsTray (events_of self.now) (length (graph_of self.now).lines) desk.new.handles.items desk.new }
+        ensures waiters { desk.new.waiters.items ≡ desk.old.waiters.items }
         ensures events { IsEventSeat self.now events.new }
         ensures kept { Keeps (lists events.old) (lists events.new) }
         ensures issued { result ≡ true → (h : TheHandle) × (desk.new.handles.items ≡ desk.old.handles.items ++ h ∷ [])
@@ -129,7 +131,7 @@ impl<'g> Words<'g> {
         requires hand { (left : List (ℕ × TheContent)) × (seat.old.me.1 ≡ (desk_slot (size_of (graph_of self.now)), Nothing) ∷ left) }
         ensures at { IsSeatOf self.now seat.new }
         ensures given { (left : List (ℕ × TheContent)) → seat.old.me.1 ≡ (desk_slot (size_of (graph_of self.now)), Nothing) ∷ left
-            → seat.new.me ≡ (without_desk seat.old.me.0, left) }
+            → seat.new.me ≡ (without_desk seat.old.me.0 (desk ∷ []), left) }
     {
         let slot = self.desk_slot();
         self.put_in(seat, slot, Content::Tray(desk));
@@ -146,6 +148,7 @@ impl<'g> Words<'g> {
         requires tray { IsTray (events_of self.now) (length (graph_of self.now).lines) desk.old.handles.items desk.old }
         ensures at { IsSeatOf self.now seat.new }
         ensures tray { IsTray (events_of self.now) (length (graph_of self.now).lines) desk.new.handles.items desk.new }
+        ensures waiters { desk.new.waiters.items ≡ desk.old.waiters.items }
         ensures now { (new : List ℕ) × (seat.new.me ≡ (after_issue seat.old.me.0 new desk.new.handles.items, seat.old.me.1)) }
         ensures issued { (i : ℕ) → result ≡ Issue.Issued i → Contains seat.new.me.0.issued i × (i < length (graph_of self.now).lines) }
         ensures all { result ≡ Issue.All → (length desk.new.handles.items ≡ length (graph_of self.now).lines)
@@ -171,7 +174,7 @@ impl<'g> Words<'g> {
     /// Issues the next line in file order, in the desk's turn. NoSlot comes only where loads of this
     /// call, which the seat then shows, found each event slot retired or pending; All only where the
     /// seat then knows every line issued; Other only where the desk's turn was found in another's
-    /// hand.
+    /// hand. The waiters stay on the desk.
     pub fn issue(&self, seat: &mut WordSeat) -> Issue
         requires at { IsAt self.now seat.old }
         ensures at { IsAt self.now seat.new }
@@ -182,6 +185,7 @@ impl<'g> Words<'g> {
         ensures kept_events { Keeps (lists (events_seat seat.old)) (lists (events_seat seat.new)) }
         ensures full { result ≡ Issue.NoSlot → (handles : List TheHandle) × KnowsHandles seat.new handles
             × FoundFull (shape_of (events_of self.now)) handles (lists (events_seat seat.old)) (lists (events_seat seat.new)) }
+        ensures waiters { result ≢ Issue.Other → KeepsWaiters seat.old seat.new }
         ensures other { result ≡ Issue.Other → FoundTaken seat.old seat.new (desk_word (size_of (graph_of self.now))) }
         ensures numbers { (numbers_of seat.new ≡ numbers_of seat.old) × (splits_of seat.new ≡ splits_of seat.old) }
     {

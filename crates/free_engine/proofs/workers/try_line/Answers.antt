@@ -14,4 +14,4 @@ pub returns-in-NotYet-clause-back : goal.returns-in-NotYet-clause-back
 returns-in-NotYet-clause-back t c = rejoined_back c.args.seat.now c.attempt_line.new.seat c.in-NotYet.ensures.answer.4
 
 pub returns-in-Busy-clause-back : goal.returns-in-Busy-clause-back
-returns-in-Busy-clause-back t c = rejoined_back c.args.seat.now c.attempt_line.new.seat c.in-Busy.ensures.answer.4
+returns-in-Busy-clause-back t c = rejoined_back c.args.seat.now c.attempt_line.new.seat c.in-Busy.ensures.answer.3

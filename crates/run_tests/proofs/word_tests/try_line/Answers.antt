@@ -17,4 +17,4 @@ pub returns-in-NotYet-clause-none : goal.returns-in-NotYet-clause-none
 returns-in-NotYet-clause-none c = rejoined_back c.args.seat.now c.attempt.new.seat c.in-NotYet.ensures.answer.4
 
 pub returns-in-Busy-clause-none : goal.returns-in-Busy-clause-none
-returns-in-Busy-clause-none c = rejoined_back c.args.seat.now c.attempt.new.seat c.in-Busy.ensures.answer.4
+returns-in-Busy-clause-none c = rejoined_back c.args.seat.now c.attempt.new.seat c.in-Busy.ensures.answer.3

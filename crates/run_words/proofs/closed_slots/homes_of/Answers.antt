@@ -1,5 +1,5 @@
 use Rattle.std.proofs.Common.{arith, inl, inr, false, ◌≡◌, ◌<◌, ◌+◌, ◌∙◌, sym, ap, subst, length}
-use Rattle.std.specs.Prelude.{Some, None, slice_get, slice_set}
+use Rattle.std.specs.Prelude.{Some, slice_get, slice_set}
 use mathlib.Core.Option.{some}
 use lib.ListN.{get_elem?}
 use Rattle.std.specs.Slots.{slots_items, slots_filled}

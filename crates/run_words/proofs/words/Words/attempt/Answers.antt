@@ -35,6 +35,7 @@ returns-clause-answer c =
       numbers = ap (λ (m : Sat). m.0.mine) n;
       splits = ap (λ (m : Sat). m.0.splits) n;
       trays = ap (λ (m : Sat). m.0.trays) n;
+      laid = ap (λ (m : Sat). m.0.laid) n;
       events = refl;
     })
     c.attempt_due.new.seat c.args.self.now c.args.i c.attempt_due.result

@@ -1,18 +1,15 @@
-use Rattle.std.proofs.Common.{◌≡◌, ℕ, zero, ◌+◌, ◌<◌, ◌≤◌, List, true, false, length, refl, sym, ◌∙◌, ap, subst, arith}
-use Rattle.std.specs.Prelude.{Contains, Some, slice_get, slice_index_or, slice_set, replicate}
-use mathlib.Core.Option.{some}
+use Rattle.std.proofs.Common.{◌≡◌, ℕ, ◌<◌, ◌≤◌, false, length, sym, ◌∙◌, ap, subst, arith}
+use Rattle.std.specs.Prelude.{Contains, Some, slice_get, slice_set}
 use lib.ListN.{get_elem?}
-use Rattle.std.specs.Slots.{slots_items, slots_filled, slots_len, slots_counts, IsFull}
-use Rattle.graph_model.specs.graph.Graph.{GraphValue, columns}
-use Rattle.gen_events.specs.declared.handle.Handle.{Handle}
-use Rattle.gen_events.specs.declared.events.Events.{Events}
+use Rattle.std.specs.Slots.{slots_items, slots_filled, slots_counts, IsFull}
+use Rattle.graph_model.specs.graph.Graph.{GraphValue}
 use Rattle.gen_events.specs.EventMap.{answer}
 use Rattle.run_words.specs.declared.base.Base.{Base}
-use Rattle.run_words.specs.declared.content.Content.TheVariants.{Cells, Tray}
+use Rattle.run_words.specs.declared.content.Content.TheVariants.{Tray}
 use Rattle.run_words.specs.declared.content.Desk.{Desk}
 use Rattle.run_words.specs.Closing.{IsLeft}
 use Rattle.run_words.specs.Emptying.{IsLineItem}
-use Rattle.run_words.specs.Layout.{size_of, line_slot, column_slot, desk_slot, status_word, slot_count}
+use Rattle.run_words.specs.Layout.{size_of, column_slot, desk_slot, status_word}
 use Rattle.run_words.specs.Rule.{handle_at, column_with}
 use Rattle.run_state.specs.Run.{stage_at}
 use Rattle.std.specs.Prelude.{slice_index}

@@ -19,19 +19,19 @@ returns-in_default-clause-kept_ended c = λ i x k. record { known = subst (λ (l
 pub returns-clause-kept_issued : goal.returns-clause-kept_issued
 returns-clause-kept_issued c = λ i k.
     let n = c.issue_in_turn-answer.ensures.now in
-    let all = issue_chain c.args.seat.now.inner.me.0 c.args.seat.now.inner.me.1 c.take_tray.new.seat.me c.issue_in_turn-answer.new.seat.me c.give_tray.new.seat.me c.in-Some.desk.handles.items c.issue_in_turn-answer.new.desk.handles.items c.in-Some.desk n.0 _ c.in-Some.ensures.taken n.1 c.give_tray.ensures.given in
+    let all = issue_chain c.args.seat.now.inner.me.0 c.args.seat.now.inner.me.1 c.take_tray.new.seat.me c.issue_in_turn-answer.new.seat.me c.give_tray.new.seat.me c.in-Some.desk.handles.items c.issue_in_turn-answer.new.desk.handles.items c.in-Some.desk c.issue_in_turn-answer.new.desk n.0 _ c.in-Some.ensures.taken n.1 c.give_tray.ensures.given in
     record { known = subst (λ l. Contains l i) (sym (ap (λ (m : Sat). m.0.issued) all)) (Contains-append_left _ n.0 i (Contains-append_left c.args.seat.now.inner.me.0.issued _ i k.known)) }
 
 pub returns-clause-kept_ended : goal.returns-clause-kept_ended
 returns-clause-kept_ended c = λ i x k.
     let n = c.issue_in_turn-answer.ensures.now in
-    let all = issue_chain c.args.seat.now.inner.me.0 c.args.seat.now.inner.me.1 c.take_tray.new.seat.me c.issue_in_turn-answer.new.seat.me c.give_tray.new.seat.me c.in-Some.desk.handles.items c.issue_in_turn-answer.new.desk.handles.items c.in-Some.desk n.0 _ c.in-Some.ensures.taken n.1 c.give_tray.ensures.given in
+    let all = issue_chain c.args.seat.now.inner.me.0 c.args.seat.now.inner.me.1 c.take_tray.new.seat.me c.issue_in_turn-answer.new.seat.me c.give_tray.new.seat.me c.in-Some.desk.handles.items c.issue_in_turn-answer.new.desk.handles.items c.in-Some.desk c.issue_in_turn-answer.new.desk n.0 _ c.in-Some.ensures.taken n.1 c.give_tray.ensures.given in
     record { known = subst (λ (l : List (ℕ × End)). Contains l (i, x)) (sym (ap (λ (m : Sat). m.0.ended) all)) k.known }
 
 pub returns-clause-issued : goal.returns-clause-issued
 returns-clause-issued c = λ i is.
     let n = c.issue_in_turn-answer.ensures.now in
-    let all = issue_chain c.args.seat.now.inner.me.0 c.args.seat.now.inner.me.1 c.take_tray.new.seat.me c.issue_in_turn-answer.new.seat.me c.give_tray.new.seat.me c.in-Some.desk.handles.items c.issue_in_turn-answer.new.desk.handles.items c.in-Some.desk n.0 _ c.in-Some.ensures.taken n.1 c.give_tray.ensures.given in
+    let all = issue_chain c.args.seat.now.inner.me.0 c.args.seat.now.inner.me.1 c.take_tray.new.seat.me c.issue_in_turn-answer.new.seat.me c.give_tray.new.seat.me c.in-Some.desk.handles.items c.issue_in_turn-answer.new.desk.handles.items c.in-Some.desk c.issue_in_turn-answer.new.desk n.0 _ c.in-Some.ensures.taken n.1 c.give_tray.ensures.given in
     let r = c.issue_in_turn-answer.ensures.issued i is in
     let there : Contains (after_issue (with_desk c.args.seat.now.inner.me.0 c.in-Some.desk.handles.items c.in-Some.desk) n.0 c.issue_in_turn-answer.new.desk.handles.items).issued i =
     subst (λ l. Contains l i) (ap (λ (m : Sat). m.0.issued) n.1 ∙ ap (λ (m : Sat). m.0.issued ++ n.0) c.in-Some.ensures.taken) r.0 in
@@ -40,7 +40,7 @@ returns-clause-issued c = λ i is.
 pub returns-clause-all : goal.returns-clause-all
 returns-clause-all c = λ is i l.
     let n = c.issue_in_turn-answer.ensures.now in
-    let all = issue_chain c.args.seat.now.inner.me.0 c.args.seat.now.inner.me.1 c.take_tray.new.seat.me c.issue_in_turn-answer.new.seat.me c.give_tray.new.seat.me c.in-Some.desk.handles.items c.issue_in_turn-answer.new.desk.handles.items c.in-Some.desk n.0 _ c.in-Some.ensures.taken n.1 c.give_tray.ensures.given in
+    let all = issue_chain c.args.seat.now.inner.me.0 c.args.seat.now.inner.me.1 c.take_tray.new.seat.me c.issue_in_turn-answer.new.seat.me c.give_tray.new.seat.me c.in-Some.desk.handles.items c.issue_in_turn-answer.new.desk.handles.items c.in-Some.desk c.issue_in_turn-answer.new.desk n.0 _ c.in-Some.ensures.taken n.1 c.give_tray.ensures.given in
     let r = c.issue_in_turn-answer.ensures.all is in
     let low : i < length c.in-Some.desk.handles.items = omega (arith, l, r.0, ap (λ (x : List Handle). length x) r.1) in
     record { known = subst (λ l. Contains l i) (sym (ap (λ (m : Sat). m.0.issued) all)) (Contains-append_left _ n.0 i (Contains-append_right c.args.seat.now.inner.me.0.issued (numbers_below (length c.in-Some.desk.handles.items)) i (contains_below (length c.in-Some.desk.handles.items) i low))) }
@@ -48,6 +48,12 @@ returns-clause-all c = λ is i l.
 pub returns-clause-full : goal.returns-clause-full
 returns-clause-full c = λ is.
     let n = c.issue_in_turn-answer.ensures.now in
-    let all = issue_chain c.args.seat.now.inner.me.0 c.args.seat.now.inner.me.1 c.take_tray.new.seat.me c.issue_in_turn-answer.new.seat.me c.give_tray.new.seat.me c.in-Some.desk.handles.items c.issue_in_turn-answer.new.desk.handles.items c.in-Some.desk n.0 _ c.in-Some.ensures.taken n.1 c.give_tray.ensures.given in
+    let all = issue_chain c.args.seat.now.inner.me.0 c.args.seat.now.inner.me.1 c.take_tray.new.seat.me c.issue_in_turn-answer.new.seat.me c.give_tray.new.seat.me c.in-Some.desk.handles.items c.issue_in_turn-answer.new.desk.handles.items c.in-Some.desk c.issue_in_turn-answer.new.desk n.0 _ c.in-Some.ensures.taken n.1 c.give_tray.ensures.given in
     let hs : List Handle = c.issue_in_turn-answer.new.desk.handles.items in
     (hs, record { known = subst (λ (l : List (List Handle)). Contains l hs) (sym (ap (λ (m : Sat). m.0.named) all)) (Contains-append_right (c.args.seat.now.inner.me.0.named ++ c.in-Some.desk.handles.items ∷ []) (hs ∷ []) hs (Contains-head hs [])) }, c.issue_in_turn-answer.ensures.full is)
+
+pub returns-clause-waiters : goal.returns-clause-waiters
+returns-clause-waiters c = λ _.
+    let n = c.issue_in_turn-answer.ensures.now in
+    let all = issue_chain c.args.seat.now.inner.me.0 c.args.seat.now.inner.me.1 c.take_tray.new.seat.me c.issue_in_turn-answer.new.seat.me c.give_tray.new.seat.me c.in-Some.desk.handles.items c.issue_in_turn-answer.new.desk.handles.items c.in-Some.desk c.issue_in_turn-answer.new.desk n.0 _ c.in-Some.ensures.taken n.1 c.give_tray.ensures.given in
+    (c.in-Some.desk, c.issue_in_turn-answer.new.desk, ap (λ (m : Sat). m.0.trays) all, ap (λ (m : Sat). m.0.laid) all, c.issue_in_turn-answer.ensures.waiters)

@@ -1,7 +1,7 @@
-use Rattle.std.proofs.Common.{◌≡◌, ◌<◌, inl, inr, length, refl, sym, ◌∙◌, ap, subst, arith}
-use Rattle.std.specs.Prelude.{Some, slice_get}
+use Rattle.std.proofs.Common.{◌<◌, inr, length, refl, sym, ◌∙◌, ap, subst, arith}
+use Rattle.std.specs.Prelude.{Some}
 use Rattle.std.proofs.lemmas.Option.{slice_get_read}
-use Rattle.gen_events.specs.Views.{lists, number_of}
+use Rattle.gen_events.specs.Views.{lists}
 use Rattle.run_words.specs.Standing.{Watches}
 use Rattle.run_words.proofs.words.Words.place_waiter.Goals as goal
 
@@ -15,5 +15,5 @@ returns-clause-told c =
     inr (inr (
       c.index-handle.result.now,
       slice_get_read handles (length handles) c.args.source c.index-handle.result.now refl near c.index-handle.ensures,
-      subst (λ n. Watches n c.index-handle.result.now (lists c.args.events.now) (lists c.watch_for.new.events)) (c.requires.tray.waiters c.args.line c.in-Some.waiter at).0 c.watch_for.ensures.told,
+      subst (λ n. Watches n c.index-handle.result.now c.watch_for.new.desk (lists c.args.events.now) (lists c.watch_for.new.events)) (c.requires.tray.waiters c.args.line c.in-Some.waiter at).0 c.watch_for.ensures.told,
     ))

@@ -1,9 +1,10 @@
-use Rattle.std.proofs.Common.{ℕ, List, [], ◌∷◌, inl, inr, refl, sym, subst}
+use Rattle.std.proofs.Common.{ℕ, List, [], ◌∷◌, inl, inr, refl, sym, subst, ◌∙◌}
 use Rattle.std.specs.Prelude.{Contains}
 use Rattle.std.proofs.lemmas.List.Elements.{Contains-append_right}
 use Rattle.gen_events.proofs.Members.{Contains-head}
 use Rattle.gen_events.specs.Views.{lists, number_of}
 use Rattle.gen_events.specs.declared.handle.Handle.{Handle}
+use Rattle.run_words.specs.Standing.{HasWaiter}
 use Rattle.run_words.proofs.Trays.{tray_same}
 use Rattle.run_words.proofs.words.Words.watch_for.Goals as goal
 
@@ -24,11 +25,29 @@ returns-in-Placed-clause-told c =
     inl (subst (λ (l : List (ℕ × Handle)). Contains l (number_of c.args.waiter, c.args.handle)) (sym c.in-Placed.ensures.told.1)
     (Contains-append_right (lists c.join.new.seat).placed ((number_of c.args.waiter, c.args.handle) ∷ []) (number_of c.args.waiter, c.args.handle) (Contains-head {A = ℕ × Handle} (number_of c.args.waiter, c.args.handle) [])))
 
+pub returns-in-Placed-clause-others : goal.returns-in-Placed-clause-others
+returns-in-Placed-clause-others c = λ k ne. refl
+
+pub returns-in-Over-clause-others : goal.returns-in-Over-clause-others
+returns-in-Over-clause-others c = λ k ne. c.lay.ensures.others k (λ q. ne (q ∙ c.in-Over.ensures.told.2.0))
+
 pub returns-in-Over-clause-told : goal.returns-in-Over-clause-told
-returns-in-Over-clause-told c = inr (inl (
-  c.in-Over.field-0,
-  elim c.in-Over.ensures.told.0 [
-    | inl none ↦ absurd (c.requires.tray.created c.args.handle c.requires.handle none.0)
-    | inr knows ↦ knows
-  ],
-))
+returns-in-Over-clause-told c = inr (
+  subst (λ n. HasWaiter n c.lay.new.desk) c.in-Over.ensures.told.2.0 c.lay.ensures.laid,
+  inl (
+    c.in-Over.field-0,
+    elim c.in-Over.ensures.told.0 [
+      | inl none ↦ absurd (c.requires.tray.created c.args.handle c.requires.handle none.0)
+      | inr knows ↦ knows
+    ],
+  ),
+)
+
+pub returns-in-Moved-clause-others : goal.returns-in-Moved-clause-others
+returns-in-Moved-clause-others c = λ k ne. c.lay-in-Moved.ensures.others k (λ q. ne (q ∙ c.in-Moved.ensures.told.2.0))
+
+pub returns-in-Moved-clause-told : goal.returns-in-Moved-clause-told
+returns-in-Moved-clause-told c = inr (
+  subst (λ n. HasWaiter n c.lay-in-Moved.new.desk) c.in-Moved.ensures.told.2.0 c.lay-in-Moved.ensures.laid,
+  inr (lists c.join.new.seat, (c.join.ensures.kept.0, (_, c.join.ensures.seen), (_, c.join.ensures.placed)), c.in-Moved.ensures.told.0),
+)
