@@ -1,28 +1,36 @@
-//! The search of a worker for its next line. Where lines are left for later nothing rests on it but
-//! speed: what no worker takes is done at the end.
+//! The search of a worker for its next line. Nothing rests on it but speed: what no worker takes is done
+//! at the end.
 
-ghost use Rattle.std.specs.Prelude.{◌≡◌, ◌+◌, ◌<◌, ◌++◌, length, IfSome, IfNone};
-ghost use Rattle.run_words.specs.Answered.{work_numbers, work_splits};
-ghost use Rattle.run_words.specs.Rejoined.{Rejoined, HasTaken};
+ghost use Rattle.std.specs.Prelude.{◌≡◌, ◌<◌, length, IfSome};
 ghost use Rattle.run_words.specs.Words.{graph_of, numbers_of, splits_of, IsAt};
-ghost use Rattle.run_words.specs.Works.{IsWokenOf, IsWorkOf};
 
-use idle_workers::Waiting;
-use crate::shared_words::{Refusal, SharedWords};
-use realm_io::{Gate, Hints};
-use run_words::{Woken, WordSeat, WordWork};
+use crate::shared_words::SharedWords;
+use idle_workers::{Waiting, spin};
+use realm_io::Hints;
+use run_words::WordSeat;
 use std::sync::Wait;
 
-/// How many lines that were left for later a worker tries in one search.
+/// How many lines that were left for later a worker tries before it looks for a new one.
 const MOST_TRIES: u32 = 64;
 
-/// What a worker knows of the next line to take.
+/// How often a worker that finds no line looks again at once, before it says that it is about to wait.
+const MOST_LOOKS: u32 = 4;
+
+/// What a worker knows of the next line to try.
 #[derive(Drop)]
 pub(crate) struct Search {
     // The line that it kept for itself.
-    kept: Option<u32>,
+    pub(crate) kept: Option<u32>,
+    // How many lines that were left for later it tries before it looks for a new one.
+    tries: u32,
+    // How often it has found no line since it had one.
+    looks: u32,
+    // Whether the line that it tries is a new one.
+    is_new: bool,
     // Whether it found that no line is left to issue.
     is_all_issued: bool,
+    // What it read when it said that it is about to wait.
+    seen: Option<u64>,
 }
 
 impl Search {
@@ -30,196 +38,84 @@ impl Search {
     pub(crate) fn new() -> Search {
         Search {
             kept: None,
+            tries: MOST_TRIES,
+            looks: 0,
+            is_new: false,
             is_all_issued: false,
+            seen: None,
         }
     }
-}
 
-/// Takes a line: the one that was kept, else one that was left for later, else one that is new.
-pub(crate) fn find<R: Wait, W: SharedWords, H: Hints>(
-    rt: &R,
-    words: &W,
-    seat: &mut WordSeat,
-    hints: &mut H,
-    search: &mut Search,
-) -> Option<WordWork>
-    requires at { IsAt (W.words words.now) seat.old }
-    ensures at { IsAt (W.words words.now) seat.new }
-    ensures work { IfSome result (λ work. IsWorkOf (W.words words.now) work) }
-    ensures taken { IfSome result (λ work. HasTaken seat.old seat.new work) }
-    ensures none { IfNone result (Rejoined seat.old seat.new) }
-{
-    if let Some(work) = take_kept(rt, words, seat, hints, search) {
-        return Some(work);
-    }
-    if let Some(work) = take_hinted(rt, words, seat, hints) {
-        return Some(work);
-    }
-    take_new(rt, words, seat, hints, search)
-}
-
-/// Tries the line that was kept.
-fn take_kept<R: Wait, W: SharedWords, H: Hints>(
-    rt: &R,
-    words: &W,
-    seat: &mut WordSeat,
-    hints: &mut H,
-    search: &mut Search,
-) -> Option<WordWork>
-    requires at { IsAt (W.words words.now) seat.old }
-    ensures at { IsAt (W.words words.now) seat.new }
-    ensures work { IfSome result (λ work. IsWorkOf (W.words words.now) work) }
-    ensures taken { IfSome result (λ work. HasTaken seat.old seat.new work) }
-    ensures none { IfNone result (Rejoined seat.old seat.new) }
-{
-    let Some(line) = search.kept.take() else {
-        return None;
-    };
-    try_hint(rt, words, seat, hints, line)
-}
-
-/// Tries lines that were left for later.
-fn take_hinted<R: Wait, W: SharedWords, H: Hints>(
-    rt: &R,
-    words: &W,
-    seat: &mut WordSeat,
-    hints: &mut H,
-) -> Option<WordWork>
-    requires at { IsAt (W.words words.now) seat.old }
-    ensures at { IsAt (W.words words.now) seat.new }
-    ensures work { IfSome result (λ work. IsWorkOf (W.words words.now) work) }
-    ensures taken { IfSome result (λ work. HasTaken seat.old seat.new work) }
-    ensures none { IfNone result (Rejoined seat.old seat.new) }
-{
-    for _turn in 0..MOST_TRIES {
-        let Some(line) = hints.take(rt) else {
+    /// A line that was kept, else one that was left for later.
+    fn known<R: Wait, H: Hints>(&mut self, rt: &R, hints: &mut H) -> Option<u32> {
+        if let Some(line) = self.kept.take() {
+            return Some(line);
+        }
+        if self.tries == 0 {
             return None;
-        };
-        if let Some(work) = try_hint(rt, words, seat, hints, line) {
-            return Some(work);
+        }
+        self.tries -= 1;
+        hints.take(rt)
+    }
+
+    /// The worker has taken a line, so it does not wait. Where the line is new, there may be more for
+    /// another worker.
+    pub(crate) fn found(&mut self, idle: &Waiting) {
+        self.tries = MOST_TRIES;
+        self.looks = 0;
+        if self.seen.take().is_some() {
+            idle.withdraw();
+        }
+        if self.is_new && !self.is_all_issued {
+            idle.tell();
         }
     }
-    None
+
+    /// The worker finds no line. First it looks again soon, then it says that it is about to wait and
+    /// looks once more, and then it waits. False where no other worker has a line or looks for one.
+    pub(crate) fn rest<R: Wait>(&mut self, rt: &R, idle: &Waiting) -> bool {
+        self.tries = MOST_TRIES;
+        if self.looks < MOST_LOOKS {
+            self.looks += 1;
+            spin();
+            return true;
+        }
+        match self.seen.take() {
+            None => {
+                self.seen = Some(idle.announce());
+                true
+            }
+            Some(count) => {
+                self.looks = 0;
+                idle.sleep(rt, count)
+            }
+        }
+    }
 }
 
-/// Issues lines, and tries each.
-fn take_new<R: Wait, W: SharedWords, H: Hints>(
+/// The next line to try: one that was kept, else one that was left for later, else one that is new.
+pub(crate) fn next_line<R: Wait, W: SharedWords, H: Hints>(
     rt: &R,
     words: &W,
     seat: &mut WordSeat,
     hints: &mut H,
     search: &mut Search,
-) -> Option<WordWork>
+) -> Option<u32>
     requires at { IsAt (W.words words.now) seat.old }
     ensures at { IsAt (W.words words.now) seat.new }
-    ensures work { IfSome result (λ work. IsWorkOf (W.words words.now) work) }
-    ensures taken { IfSome result (λ work. HasTaken seat.old seat.new work) }
-    ensures none { IfNone result (Rejoined seat.old seat.new) }
+    ensures line { IfSome result (λ line. line < length (graph_of (W.words words.now)).lines) }
+    ensures numbers { (numbers_of seat.new ≡ numbers_of seat.old) × (splits_of seat.new ≡ splits_of seat.old) }
 {
+    let lines = words.lines();
+    if let Some(line) = search.known(rt, hints) {
+        if line < lines {
+            search.is_new = false;
+            return Some(line);
+        }
+    }
     if search.is_all_issued {
         return None;
     }
-    for _turn in 0..words.lines() {
-        let Some(line) = words.next_new(seat, &mut search.is_all_issued) else {
-            return None;
-        };
-        if let Some(work) = try_line(rt, words, seat, hints, line) {
-            return Some(work);
-        }
-    }
-    None
-}
-
-/// Tries what is said to be a line.
-fn try_hint<R: Wait, W: SharedWords, H: Hints>(
-    rt: &R,
-    words: &W,
-    seat: &mut WordSeat,
-    hints: &mut H,
-    line: u32,
-) -> Option<WordWork>
-    requires at { IsAt (W.words words.now) seat.old }
-    ensures at { IsAt (W.words words.now) seat.new }
-    ensures work { IfSome result (λ work. IsWorkOf (W.words words.now) work) }
-    ensures taken { IfSome result (λ work. HasTaken seat.old seat.new work) }
-    ensures none { IfNone result (Rejoined seat.old seat.new) }
-{
-    if line >= words.lines() {
-        return None;
-    }
-    try_line(rt, words, seat, hints, line)
-}
-
-/// Tries a line, and leaves it for later where nothing else gives it again.
-fn try_line<R: Wait, W: SharedWords, H: Hints>(
-    rt: &R,
-    words: &W,
-    seat: &mut WordSeat,
-    hints: &mut H,
-    line: u32,
-) -> Option<WordWork>
-    requires at { IsAt (W.words words.now) seat.old }
-    requires line { line < length (graph_of (W.words words.now)).lines }
-    ensures at { IsAt (W.words words.now) seat.new }
-    ensures work { IfSome result (λ work. IsWorkOf (W.words words.now) work) }
-    ensures taken { IfSome result (λ work. HasTaken seat.old seat.new work) }
-    ensures none { IfNone result (Rejoined seat.old seat.new) }
-{
-    match words.take(seat, line) {
-        Ok(work) => Some(work),
-        Err(Refusal::Nothing) => None,
-        Err(Refusal::Later) => {
-            hints.push(rt, line);
-            None
-        }
-    }
-}
-
-/// Performs the work of a line and puts the line back. The first line that waited for it is kept, and
-/// the others are left for later, of which the other workers are told.
-pub(crate) fn end_work<R: Wait, W: SharedWords, G: Gate, H: Hints>(
-    rt: &R,
-    words: &W,
-    seat: &mut WordSeat,
-    work: WordWork,
-    gate: &G,
-    hints: &mut H,
-    idle: &Waiting,
-    search: &mut Search,
-)
-    requires at { IsAt (W.words words.now) seat.old }
-    requires work { IsWorkOf (W.words words.now) work }
-    ensures at { IsAt (W.words words.now) seat.new }
-    ensures numbers { (numbers_of seat.new ≡ numbers_of seat.old ++ work_numbers work)
-        × (splits_of seat.new ≡ splits_of seat.old ++ work_splits work) }
-{
-    let mut woken = words.end(rt, seat, work, gate);
-    search.kept = words.next_woken(seat, &mut woken);
-    if leave_others(rt, words, seat, woken, hints) {
-        idle.tell();
-    }
-}
-
-/// Leaves all that waited for a line for later. Whether there were any.
-fn leave_others<R: Wait, W: SharedWords, H: Hints>(
-    rt: &R,
-    words: &W,
-    seat: &mut WordSeat,
-    mut woken: Woken,
-    hints: &mut H,
-) -> bool
-    requires at { IsAt (W.words words.now) seat.old }
-    requires woken { IsWokenOf (W.words words.now) woken }
-    ensures at { IsAt (W.words words.now) seat.new }
-    ensures numbers { (numbers_of seat.new ≡ numbers_of seat.old) × (splits_of seat.new ≡ splits_of seat.old) }
-{
-    let mut any = false;
-    for _turn in 0..words.lines() {
-        let Some(line) = words.next_woken(seat, &mut woken) else {
-            return any;
-        };
-        hints.push(rt, line);
-        any = true;
-    }
-    any
+    search.is_new = true;
+    words.issue_next(seat, &mut search.is_all_issued)
 }

@@ -1,8 +1,7 @@
 //! What a worker does with the words of a run.
 
-ghost use Rattle.std.specs.Prelude.{ℕ, ◌≡◌, ◌<◌, ◌++◌, ◌∷◌, [], length, IfOk, IfErr, IfSome};
-ghost use Rattle.run_words.specs.Answered.{IsOut, work_numbers, work_splits};
-ghost use Rattle.run_words.specs.Rejoined.{Rejoined};
+ghost use Rattle.std.specs.Prelude.{ℕ, ◌≡◌, ◌<◌, ◌++◌, ◌∷◌, [], length, IfSome};
+ghost use Rattle.run_words.specs.Answered.{Answered, work_numbers, work_splits};
 ghost use Rattle.run_words.specs.Words.{graph_of, numbers_of, splits_of, IsAt};
 ghost use Rattle.run_words.specs.Works.{IsWokenOf, IsWorkOf};
 ghost use Rattle.run_words.specs.declared.words.Words.{Words as TheWords};
@@ -13,13 +12,29 @@ use run_core::Issue;
 use run_words::{Woken, WordAttempt, WordSeat, WordWork, Words};
 use std::sync::Wait;
 
-/// What to do with a line that was not taken.
-#[derive(Drop)]
-pub(crate) enum Refusal {
-    /// Try it again later, since nothing else gives it.
-    Later,
-    /// Nothing: a line that it waits for gives it, or it needs no more tries.
-    Nothing,
+/// A line has at most three accesses.
+const MOST_ACCESSES: u32 = 3;
+
+/// Whether a line has the column of the access k of another one.
+fn has_column_of(graph: &Graph, line: u32, other: u32, k: u32) -> bool {
+    let Some(column) = column_of(graph, other, k) else {
+        return false;
+    };
+    for j in 0..MOST_ACCESSES {
+        if column_of(graph, line, j) == Some(column) {
+            return true;
+        }
+    }
+    false
+}
+
+/// The column of the access k of what may be a line.
+fn column_of(graph: &Graph, line: u32, k: u32) -> Option<u32> {
+    if line >= graph.lines() {
+        return None;
+    }
+    let access = graph.access(line, k)?;
+    Some(access.column)
 }
 
 /// The words that workers share. It hides their lifetime, since a closure that captures a type with a
@@ -32,22 +47,23 @@ pub(crate) trait SharedWords: Sync {
     fn lines(&self) -> u32
         ensures { result ≡ length (graph_of (words self.now)).lines };
 
-    /// Issues the next line. None comes where that can't be done now, and `is_over` is then set where
+    /// Issues the next line. None comes where that can't be done now, and `is_last` is then set where
     /// no line is left to issue.
-    fn next_new(&self, seat: &mut WordSeat, is_over: &mut bool) -> Option<u32>
+    fn issue_next(&self, seat: &mut WordSeat, is_last: &mut bool) -> Option<u32>
         requires at { IsAt (words self.now) seat.old }
         ensures at { IsAt (words self.now) seat.new }
         ensures line { IfSome result (λ line. line < length (graph_of (words self.now)).lines) }
         ensures numbers { (numbers_of seat.new ≡ numbers_of seat.old) × (splits_of seat.new ≡ splits_of seat.old) };
 
-    /// Tries to take a line.
-    fn take(&self, seat: &mut WordSeat, line: u32) -> Result<WordWork, Refusal>
+    /// Tries to take a line, as `Words::attempt` does.
+    fn attempt_line(&self, seat: &mut WordSeat, line: u32) -> WordAttempt
         requires at { IsAt (words self.now) seat.old }
         requires line { line < length (graph_of (words self.now)).lines }
         ensures at { IsAt (words self.now) seat.new }
-        ensures work { IfOk result (λ work. IsWorkOf (words self.now) work) }
-        ensures out { IfOk result (λ work. IsOut seat.old seat.new work) }
-        ensures refused { IfErr result (λ refusal. Rejoined seat.old seat.new) };
+        ensures answer { Answered (words self.now) line seat.old seat.new result };
+
+    /// Whether a line may run while another one does: they have no column in common.
+    fn may_run_beside(&self, line: u32, other: u32) -> bool;
 
     /// Passes the gate, performs the work of a line and puts the line back.
     fn end<R: Wait, G: Gate>(&self, rt: &R, seat: &mut WordSeat, work: WordWork, gate: &G) -> Woken
@@ -88,11 +104,11 @@ impl<'g> SharedWords for Words<'g> {
         self.graph().lines()
     }
 
-    fn next_new(&self, seat: &mut WordSeat, is_over: &mut bool) -> Option<u32> {
+    fn issue_next(&self, seat: &mut WordSeat, is_last: &mut bool) -> Option<u32> {
         match self.issue(seat) {
             Issue::Issued(line) => Some(line),
             Issue::All => {
-                *is_over = true;
+                *is_last = true;
                 None
             }
             Issue::NoSlot => None,
@@ -100,19 +116,18 @@ impl<'g> SharedWords for Words<'g> {
         }
     }
 
-    fn take(&self, seat: &mut WordSeat, line: u32) -> Result<WordWork, Refusal> {
-        match self.attempt(seat, line) {
-            WordAttempt::Taken(work) => Ok(work),
-            WordAttempt::Over(_) => Err(Refusal::Nothing),
-            WordAttempt::Never => Err(Refusal::Nothing),
-            WordAttempt::NotYet(_) => {
-                if seat.has_placed() {
-                    return Err(Refusal::Nothing);
-                }
-                Err(Refusal::Later)
+    fn attempt_line(&self, seat: &mut WordSeat, line: u32) -> WordAttempt {
+        self.attempt(seat, line)
+    }
+
+    fn may_run_beside(&self, line: u32, other: u32) -> bool {
+        let graph = self.graph();
+        for k in 0..MOST_ACCESSES {
+            if has_column_of(graph, other, line, k) {
+                return false;
             }
-            WordAttempt::Busy(_) => Err(Refusal::Later),
         }
+        true
     }
 
     fn end<R: Wait, G: Gate>(

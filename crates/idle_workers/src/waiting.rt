@@ -42,9 +42,14 @@ impl Waiting {
         self.active.fetch_add(1, Ordering::SeqCst);
     }
 
+    /// Whether a worker waits, or is about to.
+    pub fn is_waited(&self) -> bool {
+        self.waiting.load(Ordering::SeqCst) > 0
+    }
+
     /// More lines may run than before. Where a worker waits, one is woken; else this costs one load.
     pub fn tell(&self) {
-        if self.waiting.load(Ordering::SeqCst) > 0 {
+        if self.is_waited() {
             self.count.fetch_add(1, Ordering::SeqCst);
             self.count.wake_one();
         }

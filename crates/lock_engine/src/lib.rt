@@ -1,8 +1,8 @@
 //! A run by several workers, which take turns at one core.
 #![tactic(auto)]
 
-mod busy_lines;
 mod calls;
+mod later_lines;
 mod lock;
 mod next_line;
 mod notes;

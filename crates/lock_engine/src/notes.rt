@@ -1,6 +1,6 @@
 //! What workers tell each other outside the lock.
 
-use crate::busy_lines::BusyLines;
+use crate::later_lines::LaterLines;
 use idle_workers::Waiting;
 use index_spaces::NoMemory;
 use std::alloc::Global;
@@ -9,16 +9,16 @@ use std::alloc::Global;
 #[derive(Drop)]
 pub(crate) struct Notes {
     pub(crate) waiting: Waiting,
-    pub(crate) busy: BusyLines,
+    pub(crate) later: LaterLines,
 }
 
 impl Notes {
     /// Before any worker begins. `NoMemory` comes where memory ran out.
     pub(crate) fn new(alloc: Global, lines: u32) -> Result<Notes, NoMemory> {
-        let busy = BusyLines::new(alloc, lines)?;
+        let later = LaterLines::new(alloc, lines)?;
         Ok(Notes {
             waiting: Waiting::new(),
-            busy,
+            later,
         })
     }
 }

@@ -3,8 +3,8 @@
 ghost use Rattle.std.specs.Prelude.{◌≡◌, ◌<◌, length, None, IfSome};
 ghost use Rattle.lock_engine.specs.Seats.{IsWaiting, IsIdle, KeepsPlace, HasWork, HasDone};
 
-use crate::busy_lines::BusyLines;
 use crate::calls::{attempt, issue, next_woken, put_back};
+use crate::later_lines::LaterLines;
 use crate::lock::{Lock, LockSeat};
 use graph_model::graph::Graph;
 use run_core::{Attempt, Finished, Issue, Work};
@@ -15,7 +15,7 @@ use std::sync::Wait;
 pub(crate) struct Search {
     // Whether the worker knows that no line is left to issue.
     all_issued: bool,
-    // The word of busy lines that is tried first.
+    // The word of noted lines that is tried first.
     word: u32,
 }
 
@@ -46,14 +46,13 @@ pub(crate) fn give_back<'g, R: Wait>(
     }
 }
 
-/// Takes a line: one that is new, else one that was woken, else one that was found busy before. New
-/// lines come first so that a slot that came free is used at once.
+/// Takes a line: one that is new, else one that was woken, else one that was noted before. New lines come first so that a slot that came free is used at once.
 pub(crate) fn find<'g, R: Wait>(
     rt: &R,
     lock: &Lock<'g>,
     seat: &mut LockSeat<'g>,
     graph: &Graph,
-    busy: &BusyLines,
+    later: &LaterLines,
     search: &mut Search,
 ) -> Option<Work>
     requires idle { IsIdle lock.now.table_id seat.old }
@@ -61,13 +60,13 @@ pub(crate) fn find<'g, R: Wait>(
     ensures place { KeepsPlace lock.now.table_id seat.old seat.new }
     ensures work { HasWork seat.new.me.0 result }
 {
-    if let Some(work) = take_new(rt, lock, seat, graph, busy, search) {
+    if let Some(work) = take_new(rt, lock, seat, graph, later, search) {
         return Some(work);
     }
-    if let Some(work) = take_woken(rt, lock, seat, graph, busy) {
+    if let Some(work) = take_woken(rt, lock, seat, graph, later) {
         return Some(work);
     }
-    take_busy(rt, lock, seat, graph, busy, search)
+    take_later(rt, lock, seat, graph, later, search)
 }
 
 /// Issues lines, and tries each.
@@ -76,7 +75,7 @@ fn take_new<'g, R: Wait>(
     lock: &Lock<'g>,
     seat: &mut LockSeat<'g>,
     graph: &Graph,
-    busy: &BusyLines,
+    later: &LaterLines,
     search: &mut Search,
 ) -> Option<Work>
     requires idle { IsIdle lock.now.table_id seat.old }
@@ -86,7 +85,8 @@ fn take_new<'g, R: Wait>(
 {
     for _turn in 0..graph.lines() {
         let line = next_new(rt, lock, seat, search)?;
-        if let Some(work) = take(rt, lock, seat, busy, line) {
+        note_above(graph, later, line);
+        if let Some(work) = take(rt, lock, seat, later, line) {
             return Some(work);
         }
     }
@@ -118,13 +118,25 @@ fn next_new<'g, R: Wait>(
     }
 }
 
+/// Notes the lines above a line that was just issued that wait for it: an attempt before that found no
+/// handle for them to stand on.
+fn note_above(graph: &Graph, later: &LaterLines, line: u32)
+    requires line { line < length graph.now.lines }
+{
+    for edge in graph.edges_from(line) {
+        if edge.to < line {
+            later.add(edge.to);
+        }
+    }
+}
+
 /// Tries the lines that were woken.
 fn take_woken<'g, R: Wait>(
     rt: &R,
     lock: &Lock<'g>,
     seat: &mut LockSeat<'g>,
     graph: &Graph,
-    busy: &BusyLines,
+    later: &LaterLines,
 ) -> Option<Work>
     requires idle { IsIdle lock.now.table_id seat.old }
     requires graph { seat.old.me.0.core.graph ≡ graph.now }
@@ -133,7 +145,7 @@ fn take_woken<'g, R: Wait>(
 {
     for _turn in 0..graph.lines() {
         let line = next_woken(rt, lock, seat)?;
-        if let Some(work) = take(rt, lock, seat, busy, line) {
+        if let Some(work) = take(rt, lock, seat, later, line) {
             return Some(work);
         }
     }
@@ -146,7 +158,7 @@ fn take<'g, R: Wait>(
     rt: &R,
     lock: &Lock<'g>,
     seat: &mut LockSeat<'g>,
-    busy: &BusyLines,
+    later: &LaterLines,
     line: u32,
 ) -> Option<Work>
     requires idle { IsIdle lock.now.table_id seat.old }
@@ -157,21 +169,21 @@ fn take<'g, R: Wait>(
     match attempt(rt, lock, seat, line) {
         Attempt::Taken(work) => Some(work),
         Attempt::Busy(_) => {
-            busy.add(line);
+            later.add(line);
             None
         }
         _ => None,
     }
 }
 
-/// Tries the lines that were found busy, word by word. The first word that is tried next time is the
+/// Tries the lines that were noted, word by word. The first word that is tried next time is the
 /// one behind the last one that was tried.
-fn take_busy<'g, R: Wait>(
+fn take_later<'g, R: Wait>(
     rt: &R,
     lock: &Lock<'g>,
     seat: &mut LockSeat<'g>,
     graph: &Graph,
-    busy: &BusyLines,
+    later: &LaterLines,
     search: &mut Search,
 ) -> Option<Work>
     requires idle { IsIdle lock.now.table_id seat.old }
@@ -183,20 +195,20 @@ fn take_busy<'g, R: Wait>(
     for _turn in 0..words {
         let word = if search.word < words { search.word } else { 0 };
         search.word = word + 1;
-        if let Some(work) = take_noted(rt, lock, seat, graph, busy, word) {
+        if let Some(work) = take_noted(rt, lock, seat, graph, later, word) {
             return Some(work);
         }
     }
     None
 }
 
-/// Tries the lines of a word that were found busy.
+/// Tries the lines of a word that were noted.
 fn take_noted<'g, R: Wait>(
     rt: &R,
     lock: &Lock<'g>,
     seat: &mut LockSeat<'g>,
     graph: &Graph,
-    busy: &BusyLines,
+    later: &LaterLines,
     word: u32,
 ) -> Option<Work>
     requires idle { IsIdle lock.now.table_id seat.old }
@@ -205,7 +217,7 @@ fn take_noted<'g, R: Wait>(
     ensures place { KeepsPlace lock.now.table_id seat.old seat.new }
     ensures work { HasWork seat.new.me.0 result }
 {
-    let mut noted = busy.noted(word);
+    let mut noted = later.noted(word);
     let lines = graph.lines();
     for _turn in 0..64u32 {
         if noted == 0 {
@@ -216,20 +228,22 @@ fn take_noted<'g, R: Wait>(
         if line >= lines {
             continue;
         }
-        if let Some(work) = take_again(rt, lock, seat, busy, line) {
+        if let Some(work) = take_again(rt, lock, seat, later, line) {
             return Some(work);
         }
     }
     None
 }
 
-/// Tries a line that is noted as busy. Its note stands until it is found to be busy no more: so a
-/// worker that puts back what the line waits for, after this one has tried it, sees the note.
+/// Tries a line that is noted. The note of a busy line stands meanwhile, so that a worker that puts back
+/// what the line waits for, after this try, sees it. A line that waits for another is tried once more
+/// without its note, since that other one may have been issued, and the line noted, before its note
+/// was taken away.
 fn take_again<'g, R: Wait>(
     rt: &R,
     lock: &Lock<'g>,
     seat: &mut LockSeat<'g>,
-    busy: &BusyLines,
+    later: &LaterLines,
     line: u32,
 ) -> Option<Work>
     requires idle { IsIdle lock.now.table_id seat.old }
@@ -239,12 +253,16 @@ fn take_again<'g, R: Wait>(
 {
     match attempt(rt, lock, seat, line) {
         Attempt::Taken(work) => {
-            busy.remove(line);
+            later.remove(line);
             Some(work)
         }
         Attempt::Busy(_) => None,
+        Attempt::NotYet(_) => {
+            later.remove(line);
+            take(rt, lock, seat, later, line)
+        }
         _ => {
-            busy.remove(line);
+            later.remove(line);
             None
         }
     }

@@ -13,6 +13,8 @@ mod hint_tests;
 #[cfg(test)]
 mod outcomes;
 #[cfg(test)]
+mod waiting_tests;
+#[cfg(test)]
 mod word_tests;
 #[cfg(test)]
 mod worker_tests;

@@ -5,42 +5,43 @@ use index_spaces::NoMemory;
 use std::alloc::Global;
 use std::sync::atomic::{AtomicU64, Ordering};
 
-/// Lines that were found busy.
+/// Lines that are to be tried again: those that were found busy, and those that were attempted before
+/// a line that they wait for was issued, and stand on no handle.
 #[derive(Drop)]
-pub(crate) struct BusyLines {
+pub(crate) struct LaterLines {
     // Bit k of word w is line 64 w + k.
-    busy: Vec<AtomicU64>,
+    words: Vec<AtomicU64>,
 }
 
-impl BusyLines {
+impl LaterLines {
     /// No line is noted. `NoMemory` comes where memory ran out.
-    pub(crate) fn new(alloc: Global, lines: u32) -> Result<BusyLines, NoMemory> {
-        let mut busy = Vec::new(alloc);
+    pub(crate) fn new(alloc: Global, lines: u32) -> Result<LaterLines, NoMemory> {
+        let mut words = Vec::new(alloc);
         for _word in 0..lines.div_ceil(64) {
-            if busy.push(AtomicU64::new(0)).is_err() {
+            if words.push(AtomicU64::new(0)).is_err() {
                 return Err(NoMemory);
             }
         }
-        Ok(BusyLines { busy })
+        Ok(LaterLines { words })
     }
 
     /// Notes a line.
     pub(crate) fn add(&self, line: u32) {
-        if let Some(noted) = self.busy.get((line / 64) as usize) {
+        if let Some(noted) = self.words.get((line / 64) as usize) {
             noted.fetch_or(1 << (line % 64), Ordering::SeqCst);
         }
     }
 
     /// Notes a line no more.
     pub(crate) fn remove(&self, line: u32) {
-        if let Some(noted) = self.busy.get((line / 64) as usize) {
+        if let Some(noted) = self.words.get((line / 64) as usize) {
             noted.fetch_and(!(1 << (line % 64)), Ordering::SeqCst);
         }
     }
 
     /// The lines of a word that are noted.
     pub(crate) fn noted(&self, word: u32) -> u64 {
-        match self.busy.get(word as usize) {
+        match self.words.get(word as usize) {
             Some(noted) => noted.load(Ordering::SeqCst),
             None => 0,
         }

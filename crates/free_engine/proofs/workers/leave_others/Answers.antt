@@ -1,5 +1,5 @@
 use Rattle.std.proofs.Common.{refl, ◌∙◌}
-use Rattle.free_engine.proofs.search.leave_others.Goals as goal
+use Rattle.free_engine.proofs.workers.leave_others.Goals as goal
 
 pub loop-turn-init : goal.loop-turn-init
 loop-turn-init t c = record { at = c.requires.at; woken = c.requires.woken; numbers = (refl, refl) }

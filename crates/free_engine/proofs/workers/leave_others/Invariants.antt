@@ -1,7 +1,7 @@
 use Rattle.std.proofs.Common.{◌≡◌}
 use Rattle.run_words.specs.Words.{IsAt, numbers_of, splits_of}
 use Rattle.run_words.specs.Works.{IsWokenOf}
-use Rattle.free_engine.proofs.search.leave_others.Given as goal
+use Rattle.free_engine.proofs.workers.leave_others.Given as goal
 
 abbrev pub invariant-loop-turn : goal.invariant-loop-turn
 invariant-loop-turn t l = record {
