@@ -9,8 +9,8 @@ use test_texts::graphs::{
     WAITER_ABOVE_TRIGGER,
 };
 
-/// The actions that write a report.
-const RUNS: &[&str] = &["run", "eval"];
+/// What writes a report: each engine, and the evaluation.
+const RUNS: &[&str] = &["run --engine words", "run --engine lock", "eval"];
 
 /// One fill.
 pub(crate) const FILL: &str = "realm 1\nspace s 0..3\ninst a s x\nf = fill a.x s 7\nend\n";
@@ -85,7 +85,12 @@ const REPORTS: &[(&str, &str)] = &[
 /// Command lines over texts whose lines are all done, with what follows their ends in the report.
 const ALL_DONE: &[(&[&str], &str, &str)] = &[
     (
-        &["run --trace", "eval --trace", "--trace run"],
+        &[
+            "run --trace --engine words",
+            "run --trace --engine lock",
+            "eval --trace",
+            "--trace run",
+        ],
         WAITER_ABOVE_TRIGGER,
         "cells a.x 0..1 5 5\n\
          cells a.y 0..1 6 6\n\
@@ -98,7 +103,12 @@ const ALL_DONE: &[(&[&str], &str, &str)] = &[
          done\n",
     ),
     (
-        &["run --workers 3", "run", "eval"],
+        &[
+            "run --workers 3 --engine words",
+            "run --workers 3 --engine lock",
+            "run",
+            "eval",
+        ],
         LOCKED_SUMS,
         "cells a.x 0..1 3 3\n\
          cells a.y 0..1 4 4\n\
@@ -106,7 +116,11 @@ const ALL_DONE: &[(&[&str], &str, &str)] = &[
          done\n",
     ),
     (
-        &["run --slots 11", "eval --slots 10"],
+        &[
+            "run --slots 11 --engine words",
+            "run --slots 11 --engine lock",
+            "eval --slots 10",
+        ],
         NINE_WAITERS,
         "cells a.x 1..9 1 2 3 4 5 6 7 8 9\ndone\n",
     ),
@@ -189,7 +203,10 @@ const ALL_DONE: &[(&[&str], &str, &str)] = &[
 /// Command lines over a graph, by its need.
 const COMMANDS: &[Row] = &[
     Row {
-        commands: &["run --slots 10"],
+        commands: &[
+            "run --slots 10 --engine words",
+            "run --slots 10 --engine lock",
+        ],
         text: NINE_WAITERS,
         status: Status::Slots,
         output: "needs 11 slots\n",

@@ -140,7 +140,11 @@ fn chain_with_report(alloc: Global, fills: u32) -> Result<(String, String), Fail
 #[test]
 fn lines(rt: HostRuntime) -> Result<(), Fail> {
     let (text, report) = chain_with_report(rt.alloc(), 8192)?;
-    run_commands(&rt, text.as_str(), &[("run", report.as_str())])
+    let table = [
+        ("run --engine words", report.as_str()),
+        ("run --engine lock", report.as_str()),
+    ];
+    run_commands(&rt, text.as_str(), &table)
 }
 
 #[test]
@@ -148,7 +152,8 @@ fn one_slot(rt: HostRuntime) -> Result<(), Fail> {
     let (text, report) = chain_with_report(rt.alloc(), 1000)?;
     let table = [
         ("check", "accepted need 1\n"),
-        ("run --slots 1", report.as_str()),
+        ("run --slots 1 --engine words", report.as_str()),
+        ("run --slots 1 --engine lock", report.as_str()),
     ];
     run_commands(&rt, text.as_str(), &table)
 }

@@ -10,26 +10,44 @@ const NOT_READ: Outside<'static> = Outside {
     failing_writes: &[],
 };
 
-/// Command lines with what is written.
-const DONE: &[(&str, &str)] = &[
+/// Command lines with what each of them writes.
+const DONE: &[(&[&str], &str)] = &[
     (
-        "make --seed 1 --size 1",
+        &[
+            "make --seed 1 --size 1 --engine words",
+            "make --seed 1 --size 1 --engine lock",
+        ],
         "made ops 1 done 1 faulted 0 cancelled 0 waiting 0 sum 1775040\n",
     ),
     (
-        "make",
+        &["make", "make --engine lock"],
         "made ops 100 done 99 faulted 1 cancelled 0 waiting 0 sum 45221600\n",
     ),
     (
-        "make --seed 31 --size 12",
+        &[
+            "make --seed 31 --size 12 --engine words",
+            "make --seed 31 --size 12 --engine lock",
+        ],
         "made ops 12 done 10 faulted 1 cancelled 1 waiting 0 sum 7292192\n",
     ),
     (
-        "make --seed 7 --size 8192",
+        &[
+            "make --seed 7 --size 8192 --engine words --workers 0",
+            "make --seed 7 --size 8192 --engine words --workers 1",
+            "make --seed 7 --size 8192 --engine words --workers 4",
+            "make --seed 7 --size 8192 --engine words --workers 8",
+            "make --seed 7 --size 8192 --engine lock --workers 0",
+            "make --seed 7 --size 8192 --engine lock --workers 1",
+            "make --seed 7 --size 8192 --engine lock --workers 4",
+            "make --seed 7 --size 8192 --engine lock --workers 8",
+        ],
         "made ops 8192 done 5111 faulted 91 cancelled 2990 waiting 0 sum 993645152\n",
     ),
     (
-        "make --seed 3 --size 2 --slots 2",
+        &[
+            "make --seed 3 --size 2 --slots 2 --engine words",
+            "make --seed 3 --size 2 --slots 2 --engine lock",
+        ],
         "made ops 2 done 2 faulted 0 cancelled 0 waiting 0 sum 0\n",
     ),
 ];
@@ -63,10 +81,10 @@ const SHORT: &[(&str, &str)] = &[
     ("make --seed 31 --size 12 --slots 3", "needs 4 slots\n"),
 ];
 
-/// The row of one command line, with no text to read.
-fn row<'a>(command: &'a [&'a str; 1], status: Status, output: &'a str) -> Row<'a> {
+/// The row of some command lines, with no text to read.
+fn row<'a>(commands: &'a [&'a str], status: Status, output: &'a str) -> Row<'a> {
     Row {
-        commands: command,
+        commands,
         text: "",
         status,
         output,
@@ -75,8 +93,8 @@ fn row<'a>(command: &'a [&'a str; 1], status: Status, output: &'a str) -> Row<'a
 
 #[test]
 fn done(rt: HostRuntime) -> Result<(), Fail> {
-    for (command, output) in DONE {
-        row(&[command], Status::Done, output).run_over(&rt, &NOT_READ)?;
+    for (commands, output) in DONE {
+        row(commands, Status::Done, output).run_over(&rt, &NOT_READ)?;
     }
     Ok(())
 }

@@ -43,7 +43,8 @@ fn tiled_stencil(rt: HostRuntime) -> Result<(), Fail> {
     let report = report(rt.alloc(), text.as_str())?;
     let table = [
         ("check", "accepted need 427\n"),
-        ("run --workers 4", report.as_str()),
+        ("run --workers 4 --engine words", report.as_str()),
+        ("run --workers 4 --engine lock", report.as_str()),
         ("eval", report.as_str()),
     ];
     run_commands(&rt, text.as_str(), &table)

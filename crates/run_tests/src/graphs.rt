@@ -1,10 +1,27 @@
-//! Graphs that are read and checked.
+//! Graphs of the tests of runs.
 
 use graph_reader::read_graph;
 use race_check::check;
 use race_check::checked::Checked;
 use std::alloc::Global;
 use std::test::Fail;
+use test_texts::graphs::{
+    CANCELLED_BARRIER, EMPTY, FAULTY_PATHS, KERNELS, LOCKED_SUMS, NINE_WAITERS, NO_TRIGGER,
+    TWO_SECTIONS, WAITER_ABOVE_TRIGGER,
+};
+
+/// Texts of graphs that are run in words.
+pub(crate) const TEXTS: [&str; 9] = [
+    EMPTY,
+    WAITER_ABOVE_TRIGGER,
+    FAULTY_PATHS,
+    CANCELLED_BARRIER,
+    NO_TRIGGER,
+    KERNELS,
+    LOCKED_SUMS,
+    TWO_SECTIONS,
+    NINE_WAITERS,
+];
 
 /// The graph of a text, where it is accepted.
 pub(crate) fn checked(alloc: Global, text: &str) -> Result<Checked, Fail> {

@@ -5,6 +5,8 @@
 #[cfg(test)]
 mod core_tests;
 #[cfg(test)]
+mod free_tests;
+#[cfg(test)]
 mod graphs;
 #[cfg(test)]
 mod hint_tests;

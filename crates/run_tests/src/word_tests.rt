@@ -9,7 +9,7 @@ ghost use Rattle.run_words.specs.Works.{IsWokenOf, IsWorkOf};
 ghost use Rattle.run_words.specs.declared.words.Words.{Words as TheWords};
 
 use crate::core_tests::{Order, line_at};
-use crate::graphs::checked;
+use crate::graphs::{TEXTS, checked};
 use crate::outcomes::{has_trace, is_same};
 use graph_model::outcome::Outcome;
 use plain_eval::evaluation::eval;
@@ -18,22 +18,6 @@ use run_words::{Woken, WordAttempt, WordSeat, WordWork, Words};
 use std::alloc::Global;
 use std::test::Fail;
 use std::thread::{Threads, join};
-use test_texts::graphs::{
-    CANCELLED_BARRIER, EMPTY, FAULTY_PATHS, KERNELS, LOCKED_SUMS, NINE_WAITERS, NO_TRIGGER,
-    TWO_SECTIONS, WAITER_ABOVE_TRIGGER,
-};
-
-const TEXTS: [&str; 9] = [
-    EMPTY,
-    WAITER_ABOVE_TRIGGER,
-    FAULTY_PATHS,
-    CANCELLED_BARRIER,
-    NO_TRIGGER,
-    KERNELS,
-    LOCKED_SUMS,
-    TWO_SECTIONS,
-    NINE_WAITERS,
-];
 
 /// How often two threads run each graph.
 const RUNS: u32 = 100;
@@ -130,7 +114,10 @@ fn drive(words: &Words, seat: &mut WordSeat, order: Order) -> u32
 }
 
 /// The words of a graph, with as many slots as it needs, and their first seat.
-fn prepared<'g>(alloc: Global, checked: &'g Checked) -> Result<(Words<'g>, WordSeat), Fail>
+pub(crate) fn prepared<'g>(
+    alloc: Global,
+    checked: &'g Checked,
+) -> Result<(Words<'g>, WordSeat), Fail>
     ensures at { IfOk result (λ r. IsAt r.0 r.1) }
     ensures all { IfOk result (λ r. HasAll r.1) }
 {
