@@ -5,9 +5,9 @@ ghost use Rattle.graph_model.specs.meaning.Evaluation.{outcome as evaluated};
 ghost use Rattle.graph_model.specs.meaning.Trace.{IsLawful, SectionsApart};
 ghost use Rattle.run_words.specs.Words.{graph_of, IsAt, HasAll};
 
-use idle_workers::Waiting;
 use crate::workers::run_workers;
 use graph_model::outcome::Outcome;
+use idle_workers::Waiting;
 use realm_io::{Gate, Hints};
 use run_words::{WordSeat, Words};
 use std::sync::Wait;

@@ -5,7 +5,7 @@ ghost use Rattle.std.specs.Prelude.{◌≡◌, ◌<◌, length, IfSome};
 ghost use Rattle.run_words.specs.Words.{graph_of, numbers_of, splits_of, IsAt};
 
 use crate::shared_words::SharedWords;
-use idle_workers::{Waiting, spin};
+use idle_workers::Waiting;
 use realm_io::Hints;
 use run_words::WordSeat;
 use std::sync::Wait;
@@ -13,18 +13,15 @@ use std::sync::Wait;
 /// How many lines that were left for later a worker tries before it looks for a new one.
 const MOST_TRIES: u32 = 64;
 
-/// How often a worker that finds no line looks again at once, before it says that it is about to wait.
-const MOST_LOOKS: u32 = 4;
-
 /// What a worker knows of the next line to try.
 #[derive(Drop)]
 pub(crate) struct Search {
     // The line that it kept for itself.
-    pub(crate) kept: Option<u32>,
+    kept: Option<u32>,
+    // The line that it put back last, until it takes another.
+    ended: Option<u32>,
     // How many lines that were left for later it tries before it looks for a new one.
     tries: u32,
-    // How often it has found no line since it had one.
-    looks: u32,
     // Whether the line that it tries is a new one.
     is_new: bool,
     // Whether it found that no line is left to issue.
@@ -38,8 +35,8 @@ impl Search {
     pub(crate) fn new() -> Search {
         Search {
             kept: None,
+            ended: None,
             tries: MOST_TRIES,
-            looks: 0,
             is_new: false,
             is_all_issued: false,
             seen: None,
@@ -58,38 +55,49 @@ impl Search {
         hints.take(rt)
     }
 
-    /// The worker has taken a line, so it does not wait. Where the line is new, there may be more for
-    /// another worker.
-    pub(crate) fn found(&mut self, idle: &Waiting) {
+    /// The worker has put a line back, and keeps one for itself.
+    pub(crate) fn ended(&mut self, line: u32, kept: Option<u32>) {
+        self.ended = Some(line);
+        self.kept = kept;
+    }
+
+    /// The worker has taken a line, so it does not wait. Another worker is told where there may be more:
+    /// further new lines, or lines that wait for what the line that was put back before has left free.
+    pub(crate) fn taken<W: SharedWords>(&mut self, words: &W, idle: &Waiting, line: u32) {
         self.tries = MOST_TRIES;
-        self.looks = 0;
         if self.seen.take().is_some() {
             idle.withdraw();
         }
-        if self.is_new && !self.is_all_issued {
+        let ended = self.ended.take();
+        if idle.is_waited() && (self.has_more_new() || leaves_free(words, ended, line)) {
             idle.tell();
         }
     }
 
-    /// The worker finds no line. First it looks again soon, then it says that it is about to wait and
-    /// looks once more, and then it waits. False where no other worker has a line or looks for one.
+    /// Whether the line that was taken is new and may not be the last one.
+    fn has_more_new(&self) -> bool {
+        self.is_new && !self.is_all_issued
+    }
+
+    /// The worker finds no line: first it says that it is about to wait and looks once more, and then it
+    /// waits. False where no other worker has a line or looks for one.
     pub(crate) fn rest<R: Wait>(&mut self, rt: &R, idle: &Waiting) -> bool {
         self.tries = MOST_TRIES;
-        if self.looks < MOST_LOOKS {
-            self.looks += 1;
-            spin();
-            return true;
-        }
         match self.seen.take() {
             None => {
                 self.seen = Some(idle.announce());
                 true
             }
-            Some(count) => {
-                self.looks = 0;
-                idle.sleep(rt, count)
-            }
+            Some(count) => idle.sleep(rt, count),
         }
+    }
+}
+
+/// Whether a line that was put back has left something free that the one taken after it does not use.
+fn leaves_free<W: SharedWords>(words: &W, ended: Option<u32>, taken: u32) -> bool {
+    match ended {
+        Some(line) => words.leaves_free(line, taken),
+        None => false,
     }
 }
 

@@ -7,6 +7,7 @@ ghost use Rattle.run_words.specs.Works.{IsWokenOf, IsWorkOf};
 ghost use Rattle.run_words.specs.declared.words.Words.{Words as TheWords};
 
 use graph_model::graph::Graph;
+use graph_model::verb::Verb;
 use realm_io::Gate;
 use run_core::Issue;
 use run_words::{Woken, WordAttempt, WordSeat, WordWork, Words};
@@ -37,6 +38,11 @@ fn column_of(graph: &Graph, line: u32, k: u32) -> Option<u32> {
     Some(access.column)
 }
 
+/// Whether what may be a line gives a reservation back.
+fn is_release(graph: &Graph, line: u32) -> bool {
+    line < graph.lines() && matches!(graph.line(line).verb, Verb::Release { .. })
+}
+
 /// The words that workers share. It hides their lifetime, since a closure that captures a type with a
 /// lifetime of its own tells `join` nothing.
 pub(crate) trait SharedWords: Sync {
@@ -64,6 +70,10 @@ pub(crate) trait SharedWords: Sync {
 
     /// Whether a line may run while another one does: they have no column in common.
     fn may_run_beside(&self, line: u32, other: u32) -> bool;
+
+    /// Whether a line that was put back has left a column or a reservation free that another line does
+    /// not use.
+    fn leaves_free(&self, ended: u32, other: u32) -> bool;
 
     /// Passes the gate, performs the work of a line and puts the line back.
     fn end<R: Wait, G: Gate>(&self, rt: &R, seat: &mut WordSeat, work: WordWork, gate: &G) -> Woken
@@ -128,6 +138,19 @@ impl<'g> SharedWords for Words<'g> {
             }
         }
         true
+    }
+
+    fn leaves_free(&self, ended: u32, other: u32) -> bool {
+        let graph = self.graph();
+        if is_release(graph, ended) {
+            return true;
+        }
+        for k in 0..MOST_ACCESSES {
+            if column_of(graph, ended, k).is_some() && !has_column_of(graph, other, ended, k) {
+                return true;
+            }
+        }
+        false
     }
 
     fn end<R: Wait, G: Gate>(

@@ -79,7 +79,7 @@ fn try_line<R: Wait, W: SharedWords, G: Gate, H: Hints>(
 {
     match words.attempt_line(seat, line) {
         WordAttempt::Taken(work) => {
-            search.found(idle);
+            search.taken(words, idle, line);
             end_work(rt, words, gate, idle, seat, hints, search, work);
         }
         WordAttempt::NotYet(_) => leave_unplaced(rt, seat, hints, line),
@@ -114,12 +114,13 @@ fn end_work<R: Wait, W: SharedWords, G: Gate, H: Hints>(
     ensures numbers { (numbers_of seat.new ≡ numbers_of seat.old ++ work_numbers work)
         × (splits_of seat.new ≡ splits_of seat.old ++ work_splits work) }
 {
+    let line = work.line();
     let mut woken = words.end(rt, seat, work, gate);
-    let Some(line) = words.next_woken(seat, &mut woken) else {
-        return;
-    };
-    search.kept = Some(line);
-    leave_others(rt, words, idle, seat, hints, woken, line);
+    let kept = words.next_woken(seat, &mut woken);
+    search.ended(line, kept);
+    if let Some(first) = kept {
+        leave_others(rt, words, idle, seat, hints, woken, first);
+    }
 }
 
 /// Leaves all further lines that waited for one for later, and tells a worker that waits of each that
