@@ -10,8 +10,23 @@ use realm_io::Hints;
 use run_words::WordSeat;
 use std::sync::Wait;
 
-/// How many lines that were left for later a worker tries before it looks for a new one.
+/// How many lines that were left for later a worker tries in one look at them.
 const MOST_TRIES: u32 = 64;
+
+/// How many lines a worker takes at most between two looks at those that were left for later, where it
+/// took none of them in the first.
+const MOST_SKIPS: u32 = 15;
+
+/// Where a line that a worker tries comes from.
+#[derive(Drop)]
+enum Origin {
+    /// The worker kept it.
+    Kept,
+    /// It was left for later.
+    Hinted,
+    /// It was issued just now.
+    New,
+}
 
 /// What a worker knows of the next line to try.
 #[derive(Drop)]
@@ -20,10 +35,15 @@ pub(crate) struct Search {
     kept: Option<u32>,
     // The line that it put back last, until it takes another.
     ended: Option<u32>,
-    // How many lines that were left for later it tries before it looks for a new one.
+    // How many lines that were left for later it may still try in this look.
     tries: u32,
-    // Whether the line that it tries is a new one.
-    is_new: bool,
+    // The first of them.
+    first: Option<u32>,
+    // How often it does not look at them, now and after the next look in vain.
+    skips: u32,
+    next_skips: u32,
+    // Where the line that it tries comes from.
+    origin: Origin,
     // Whether it found that no line is left to issue.
     is_all_issued: bool,
     // What it read when it said that it is about to wait.
@@ -37,7 +57,10 @@ impl Search {
             kept: None,
             ended: None,
             tries: MOST_TRIES,
-            is_new: false,
+            first: None,
+            skips: 0,
+            next_skips: 1,
+            origin: Origin::New,
             is_all_issued: false,
             seen: None,
         }
@@ -46,13 +69,52 @@ impl Search {
     /// A line that was kept, else one that was left for later.
     fn known<R: Wait, H: Hints>(&mut self, rt: &R, hints: &mut H) -> Option<u32> {
         if let Some(line) = self.kept.take() {
+            self.origin = Origin::Kept;
             return Some(line);
         }
-        if self.tries == 0 {
+        self.origin = Origin::Hinted;
+        if self.skips > 0 {
+            self.skips -= 1;
             return None;
         }
+        self.hinted(rt, hints)
+    }
+
+    /// A line that was left for later, if one was that this look has not tried yet.
+    fn hinted<R: Wait, H: Hints>(&mut self, rt: &R, hints: &mut H) -> Option<u32> {
+        let Some(line) = hints.take(rt) else {
+            self.look_again_after(0);
+            return None;
+        };
+        if self.first == Some(line) || self.tries == 0 {
+            hints.push(rt, line);
+            self.look_in_vain();
+            return None;
+        }
+        if self.first.is_none() {
+            self.first = Some(line);
+        }
         self.tries -= 1;
-        hints.take(rt)
+        Some(line)
+    }
+
+    /// All lines that were left for later were tried in vain, so the next look comes later than the last
+    /// one did.
+    fn look_in_vain(&mut self) {
+        let skips = self.next_skips;
+        self.look_again_after(skips);
+        self.next_skips = if skips < MOST_SKIPS {
+            2 * skips + 1
+        } else {
+            MOST_SKIPS
+        };
+    }
+
+    /// Begins a new look, once the worker has passed over so many.
+    fn look_again_after(&mut self, skips: u32) {
+        self.tries = MOST_TRIES;
+        self.first = None;
+        self.skips = skips;
     }
 
     /// The worker has put a line back, and keeps one for itself.
@@ -64,7 +126,10 @@ impl Search {
     /// The worker has taken a line, so it does not wait. Another worker is told where there may be more:
     /// further new lines, or lines that wait for what the line that was put back before has left free.
     pub(crate) fn taken<W: SharedWords>(&mut self, words: &W, idle: &Waiting, line: u32) {
-        self.tries = MOST_TRIES;
+        if let Origin::Hinted = self.origin {
+            self.look_again_after(0);
+            self.next_skips = 1;
+        }
         if self.seen.take().is_some() {
             idle.withdraw();
         }
@@ -76,13 +141,17 @@ impl Search {
 
     /// Whether the line that was taken is new and may not be the last one.
     fn has_more_new(&self) -> bool {
-        self.is_new && !self.is_all_issued
+        match self.origin {
+            Origin::New => !self.is_all_issued,
+            Origin::Kept => false,
+            Origin::Hinted => false,
+        }
     }
 
     /// The worker finds no line: first it says that it is about to wait and looks once more, and then it
     /// waits. False where no other worker has a line or looks for one.
     pub(crate) fn rest<R: Wait>(&mut self, rt: &R, idle: &Waiting) -> bool {
-        self.tries = MOST_TRIES;
+        self.look_again_after(0);
         match self.seen.take() {
             None => {
                 self.seen = Some(idle.announce());
@@ -117,13 +186,12 @@ pub(crate) fn next_line<R: Wait, W: SharedWords, H: Hints>(
     let lines = words.lines();
     if let Some(line) = search.known(rt, hints) {
         if line < lines {
-            search.is_new = false;
             return Some(line);
         }
     }
     if search.is_all_issued {
         return None;
     }
-    search.is_new = true;
+    search.origin = Origin::New;
     words.issue_next(seat, &mut search.is_all_issued)
 }
