@@ -6,6 +6,7 @@ use crate::row::{Row, SURE, answer, words};
 use realm_io::Gate;
 use realm_top::status::Status;
 use std::alloc::Global;
+use std::hint::spin_loop;
 use std::sync::Wait;
 use std::sync::atomic::{AtomicU64, Ordering};
 use std::test::Fail;
@@ -33,9 +34,9 @@ impl Meeting {
         }
     }
 
-    /// Whether so many lines came within so many turns, which the thread gives up.
-    fn is_met_within(&self, turns: u32) -> bool {
-        for _turn in 0..turns {
+    /// Whether all lines came within some time.
+    fn is_met(&self) -> bool {
+        for _turn in 0..1_000_000u32 {
             if self.are_there.load(Ordering::SeqCst) >= self.lines {
                 return true;
             }
@@ -45,14 +46,21 @@ impl Meeting {
     }
 }
 
+/// Passes a fraction of a millisecond. The thread is not given up, since on a busy machine it would come back late.
+fn linger() {
+    for _pause in 0..10_000u32 {
+        spin_loop();
+    }
+}
+
 impl Gate for Meeting {
     fn pass<R: Wait>(&self, _rt: &R, line: u32) {
         if line < self.first {
-            self.is_met_within(1_000);
+            linger();
             return;
         }
         self.are_there.fetch_add(1, Ordering::SeqCst);
-        if !self.is_met_within(1_000_000) {
+        if !self.is_met() {
             self.left_alone.store(1, Ordering::SeqCst);
         }
     }
