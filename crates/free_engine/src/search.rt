@@ -48,6 +48,8 @@ pub(crate) struct Search {
     is_all_issued: bool,
     // What it read when it said that it is about to wait.
     seen: Option<u64>,
+    // Whether it was told of a line, and has taken none since.
+    was_told: bool,
 }
 
 impl Search {
@@ -63,6 +65,7 @@ impl Search {
             origin: Origin::New,
             is_all_issued: false,
             seen: None,
+            was_told: false,
         }
     }
 
@@ -124,7 +127,8 @@ impl Search {
     }
 
     /// The worker has taken a line, so it does not wait. Another worker is told where there may be more:
-    /// further new lines, or lines that wait for what the line that was put back before has left free.
+    /// further new lines, lines that wait for what the line that was put back before has left free, or
+    /// more of those that this worker was told of.
     pub(crate) fn taken<W: SharedWords>(&mut self, words: &W, idle: &Waiting, line: u32) {
         if let Origin::Hinted = self.origin {
             self.look_again_after(0);
@@ -134,7 +138,11 @@ impl Search {
             idle.withdraw();
         }
         let ended = self.ended.take();
-        if idle.is_waited() && (self.has_more_new() || leaves_free(words, ended, line)) {
+        let was_told = self.was_told;
+        self.was_told = false;
+        if idle.is_waited()
+            && (was_told || self.has_more_new() || leaves_free(words, ended, line))
+        {
             idle.tell();
         }
     }
@@ -148,16 +156,21 @@ impl Search {
         }
     }
 
-    /// The worker finds no line: first it says that it is about to wait and looks once more, and then it
-    /// waits. False where no other worker has a line or looks for one.
-    pub(crate) fn rest<R: Wait>(&mut self, rt: &R, idle: &Waiting) -> bool {
+    /// The worker finds no line: first it says that it is about to wait and looks once more, through all
+    /// lines that were left for later, and then it waits. False where no other worker has a line or looks
+    /// for one.
+    pub(crate) fn rest<R: Wait>(&mut self, rt: &R, idle: &Waiting, lines: u32) -> bool {
         self.look_again_after(0);
         match self.seen.take() {
             None => {
                 self.seen = Some(idle.announce());
+                self.tries = lines;
                 true
             }
-            Some(count) => idle.sleep(rt, count),
+            Some(count) => {
+                self.was_told = idle.sleep(rt, count);
+                self.was_told
+            }
         }
     }
 }

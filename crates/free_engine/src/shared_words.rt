@@ -8,10 +8,14 @@ ghost use Rattle.run_words.specs.declared.words.Words.{Words as TheWords};
 
 use graph_model::graph::Graph;
 use graph_model::verb::Verb;
+use idle_workers::spin;
 use realm_io::Gate;
 use run_core::Issue;
 use run_words::{Woken, WordAttempt, WordSeat, WordWork, Words};
 use std::sync::Wait;
+
+/// How often a worker tries to issue a line while another one has the desk's turn, which is short.
+const MOST_ISSUES: u32 = 8;
 
 /// A line has at most three accesses.
 const MOST_ACCESSES: u32 = 3;
@@ -115,15 +119,18 @@ impl<'g> SharedWords for Words<'g> {
     }
 
     fn issue_next(&self, seat: &mut WordSeat, is_last: &mut bool) -> Option<u32> {
-        match self.issue(seat) {
-            Issue::Issued(line) => Some(line),
-            Issue::All => {
-                *is_last = true;
-                None
+        for _turn in 0..MOST_ISSUES {
+            match self.issue(seat) {
+                Issue::Issued(line) => return Some(line),
+                Issue::NoSlot => return None,
+                Issue::All => {
+                    *is_last = true;
+                    return None;
+                }
+                Issue::Other => spin(),
             }
-            Issue::NoSlot => None,
-            Issue::Other => None,
         }
+        None
     }
 
     fn attempt_line(&self, seat: &mut WordSeat, line: u32) -> WordAttempt {

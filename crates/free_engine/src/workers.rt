@@ -54,7 +54,7 @@ fn go_on<R: Wait, W: SharedWords, G: Gate, H: Hints>(
     ensures back { Rejoined seat.old seat.new }
 {
     let Some(line) = next_line(rt, words, seat, hints, search) else {
-        return search.rest(rt, idle);
+        return search.rest(rt, idle, words.lines());
     };
     try_line(rt, words, gate, idle, seat, hints, search, line);
     true

@@ -1,5 +1,5 @@
 //! How workers that share a run wait where they find no line: a short spin first, then sleep until
-//! another worker tells them of more. Nothing rests on it but speed, and that no worker sleeps for
+//! another worker tells them of more. Nothing rests on it but speed, and it is meant that no worker sleeps for
 //! ever while others leave: a worker that looks in vain or leaves early changes no outcome.
 #![tactic(auto)]
 

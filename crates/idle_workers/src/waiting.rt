@@ -11,15 +11,16 @@ const MOST_READS: u32 = 1_000;
 /// What workers that wait are told of lines that may have come free.
 ///
 /// A worker begins with `enter`. Where it finds no line, it calls `announce`, looks once more, and
-/// then calls `withdraw` where it found one, else `sleep`. A worker that puts a line where others find
-/// it calls `tell` after that.
+/// then calls `withdraw` where it found one, else `sleep`. A worker that has put a line where others
+/// find it calls `tell` where it means to have it taken soon.
 ///
-/// No wake is lost. All steps on the words below have one order, since each is `SeqCst`. A teller puts
-/// the line first and then loads how many wait; a worker says that it waits first and then looks. So
-/// either the teller sees the worker, or the worker's last look sees the line. In the same way a worker
-/// says that it sleeps before it falls asleep, and a teller raises the count before it loads how many do. A teller that sees one
-/// raises the count before it wakes: a worker that had read the count before that is woken or does not
-/// fall asleep, and one that reads it after that looks when the line is there.
+/// No wake is meant to be lost. That holds where lines are put and found by `SeqCst` steps, as the steps
+/// on the words below are, since all of these then have one order. A teller puts the line first and then
+/// loads how many wait; a worker says that it waits first and then looks. So either the teller sees the
+/// worker, or the worker's last look sees the line. In the same way a worker says that it sleeps before
+/// it falls asleep, and a teller raises the count before it loads how many do. So of those that had read
+/// the count before that, one is woken or none falls asleep, and one that reads it after that looks when
+/// the line is there.
 #[derive(Drop)]
 pub struct Waiting {
     // How often those that wait were told of lines, and once more when all leave.

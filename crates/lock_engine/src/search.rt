@@ -46,7 +46,8 @@ pub(crate) fn give_back<'g, R: Wait>(
     }
 }
 
-/// Takes a line: one that is new, else one that was woken, else one that was noted before. New lines come first so that a slot that came free is used at once.
+/// Takes a line: one that is new, else one that was woken, else one that was noted before. New lines
+/// come first so that a slot that came free is used at once.
 pub(crate) fn find<'g, R: Wait>(
     rt: &R,
     lock: &Lock<'g>,

@@ -41,8 +41,8 @@ const INPUT_LIMIT: u32 = MAX_TEXT as u32;
 /// nothing and makes a graph of the seed and the size.
 ///
 /// `words` are the program's name, the word of the action, and options. A graph is run by as many
-/// workers as they say. A worker passes the gate before it performs a line, and may wait there and at
-/// the lock, so nothing says that a run returns.
+/// workers as they say. A worker passes the gate before it performs a line, and may wait there and for
+/// other workers, so nothing says that a run returns.
 pub fn realm<R: Threads + Wait + Sync, S: Source, K: Sink, G: Gate>(
     rt: &R,
     alloc: Global,
