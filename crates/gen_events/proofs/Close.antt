@@ -66,7 +66,7 @@ module _ (key : Shape) (s : St) (o : Orderly key s) (words : List ℕ) (is : s.w
   shown_at_end = record {
     waiters = refl;
     last = refl;
-    wide = ap length (sym is) ∙ o.wide;
+    wide = omega (arith, ap length is, o.wide);
     high = read_length (life_in key words) 0 key.slots;
     each = λ i l. subst (IsSlot key words i) (sym (read_from_start (life_in key words) key.slots i unused l)) (slot_at_end i l);
     chains = refl;

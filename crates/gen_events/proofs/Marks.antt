@@ -92,3 +92,26 @@ fate_set r p q s e = fate_pos (bit_at r (q % 64)) (λ z. e (shr_and_one r (p % 6
 pub code_answer : (n : ℕ) (f : Fate) → n ≡ fate_code f → fate_by n ≡ f
 code_answer n Ok e = ap fate_by e
 code_answer n Poison e = ap fate_by e
+
+-- THE FATE OF ONE HANDLE WAS WRITTEN
+pub record IsMarked (key : Shape) (old new : List ℕ) (h : Handle) (f : Fate) : Type 0 where
+  pub here : mark key new h ≡ fate_code f
+  pub beside : (b : ℕ) → b < 64 → b ≢ place_of key.last_gen h % 64 → bit_at (get_or new (mark_word key h) 0) b ≡ bit_at (get_or old (mark_word key h) 0) b
+  pub others : (i : ℕ) → i ≢ mark_word key h → get_or new i 0 ≡ get_or old i 0
+  pub size : length old ≤ length new
+
+pub is_marked : (key : Shape) (old new : List ℕ) (h : Handle) (f : Fate) (at bit : ℕ) → at ≡ mark_word key h → bit ≡ place_of key.last_gen h % 64
+    → bit_at (get_or new at 0) bit ≡ fate_code f → ((b : ℕ) → b < 64 → b ≢ bit → bit_at (get_or new at 0) b ≡ bit_at (get_or old at 0) b) → ((i : ℕ) → i ≢ at → get_or new i 0 ≡ get_or old i 0) → length old ≤ length new → IsMarked key old new h f
+is_marked key old new h f at bit a b here beside others size = record {
+  here = (λ t. bit_at (get_or new (sym a t) 0) (sym b t)) ∙ here;
+  beside = λ x l n. (λ t. bit_at (get_or new (sym a t) 0) x) ∙ (beside x l (λ e. n (e ∙ b)) ∙ (λ t. bit_at (get_or old (a t) 0) x));
+  others = λ i n. others i (λ e. n (e ∙ a));
+  size = size;
+}
+
+pub mark_beside : (key : Shape) (old new : List ℕ) (h : Handle) (f : Fate) (x : Handle) → IsMarked key old new h f → place_of key.last_gen x ≢ place_of key.last_gen h → mark key new x ≡ mark key old x
+mark_beside key old new h f x o n =
+    let j : ℕ = place_of key.last_gen x % 64 in
+    dite (ℕ_discrete (mark_word key x) (mark_word key h))
+    (λ e. ap (λ i. bit_at (get_or new i 0) j) e ∙ (o.beside j (omega arith) (λ z. n (omega arith)) ∙ ap (λ i. bit_at (get_or old i 0) j) (sym e)))
+    (λ e. ap (λ w. bit_at w j) (o.others (mark_word key x) e))

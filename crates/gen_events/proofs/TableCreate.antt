@@ -65,7 +65,7 @@ module _ (key : Shape) (words free : List ℕ) (cs : List Chain) (m : EventMap) 
         shown = record {
           waiters = o.shown.waiters;
           last = o.shown.last;
-          wide = length-set words i x ∙ o.shown.wide;
+          wide = omega (arith, length-set words i x, o.shown.wide);
           high = length-set m.slots i new ∙ o.shown.high;
           each = at_slot m i new (λ j s. j < key.slots → IsSlot key (set words i x) j s) last_free.near
               (λ l. record {

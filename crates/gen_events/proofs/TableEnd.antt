@@ -8,7 +8,7 @@ use Rattle.std.proofs.Math.Seq.{get_or-append_seam}
 use mathlib.Core.Logic.{dite}
 use native.Mathlib.Decide.{ℕ_discrete, dec_le}
 use Rattle.basics.specs.Sums.{total}
-use Rattle.gen_events.specs.Rule.{mark, mark_word, place_of, fate_code, code, Shows, Follows}
+use Rattle.gen_events.specs.Rule.{mark, mark_words, mark_word, fate_code, code, Shows, Follows}
 use Rattle.gen_events.specs.Plays.{handle_at}
 use Rattle.gen_events.specs.EventMap.{EventMap, SlotLife, unused, life_at, with_life, answer, ended_with, all_on, MayServe}
 use Rattle.gen_events.specs.Kept.{map_in, IsSlot, AreFree, AreKept, IsSized}
@@ -19,24 +19,12 @@ use Rattle.gen_events.specs.declared.handle.Answer.TheVariants.{Pending}
 use Rattle.gen_events.specs.declared.handle.Shape.{Shape}
 use Rattle.gen_events.specs.declared.chain.Chain.{Chain}
 use Rattle.basics.proofs.Sums.{total-put, total-append, entry_le, below-one}
-use Rattle.gen_events.proofs.Marks.{marks_low, places_apart, word_in}
+use Rattle.gen_events.proofs.Marks.{marks_low, places_apart, word_in, IsMarked, mark_beside}
 use Rattle.gen_events.proofs.ChainSteps.{linked_all, at_default}
 use Rattle.gen_events.proofs.Reading.{total-all_on, map_read, as_read}
 use Rattle.gen_events.proofs.MapAnswers.{at_slot, IsNow, is_now}
 use Rattle.gen_events.proofs.TablePlace.{pending_word}
 use Rattle.gen_events.proofs.TableSteps.{linked_same, slot_same, caught_same, more_chains, chains_few, caught_low, free_same, free_more, free_room}
-
--- the bit of one handle is written
-mark_written : (key : Shape) (ws : List ℕ) (h : Handle) (v : ℕ) → mark_word key h < length ws → mark key (set ws (mark_word key h) v) h ≡ bit_at v (place_of key.last_gen h % 64)
-mark_written key ws h v l = ap (λ w. bit_at w (place_of key.last_gen h % 64)) (get_or-set_same ws (mark_word key h) v 0 l)
-
-mark_beside : (key : Shape) (ws : List ℕ) (h x : Handle) (v : ℕ) → mark_word key h < length ws → place_of key.last_gen x ≢ place_of key.last_gen h
-    → ((b : ℕ) → b < 64 → b ≢ place_of key.last_gen h % 64 → bit_at v b ≡ bit_at (get_or ws (mark_word key h) 0) b) → mark key (set ws (mark_word key h) v) x ≡ mark key ws x
-mark_beside key ws h x v l n others =
-    let j : ℕ = place_of key.last_gen x % 64 in
-    dite (ℕ_discrete (mark_word key x) (mark_word key h))
-    (λ e. ap (λ w. bit_at w j) (ap (λ i. get_or (set ws (mark_word key h) v) i 0) e ∙ get_or-set_same ws (mark_word key h) v 0 l) ∙ (others j (omega arith) (λ z. n (omega arith)) ∙ ap (λ i. bit_at (get_or ws i 0) j) (sym e)))
-    (λ e. ap (λ w. bit_at w j) (get_or-set_other ws (mark_word key h) (mark_word key x) v 0 e))
 
 one_at_least : (c : List ℕ) → 0 < code c → 0 < total (λ _. 1) c
 one_at_least [] l = l
@@ -78,37 +66,34 @@ module _ (key : Shape) (words free : List ℕ) (cs : List Chain) (m : EventMap) 
       let some : 0 < total (λ _. 1) (life_at m h.slot).waiting = one_at_least (life_at m h.slot).waiting l in
       omega arith
 
-  module _ (v next : ℕ) (here : bit_at v (place_of key.last_gen h % 64) ≡ fate_code f) (others : (b : ℕ) → b < 64 → b ≢ place_of key.last_gen h % 64 → bit_at v b ≡ bit_at (get_or words (mark_word key h) 0) b) (follows : Follows key.last_gen h.gen_ next) where
-    at_mark : mark_word key h < length words
-    at_mark = let w = word_in key h end_near end_low in omega (arith, o.shown.wide)
-
+  module _ (marked : List ℕ) (next : ℕ) (is : IsMarked key words marked h f) (follows : Follows key.last_gen h.gen_ next) where
     high : key.slots + key.waiters ≤ mark_word key h
     high = omega arith
 
-    there : (j : ℕ) → j < key.slots → j ≢ h.slot → get_or (set (set words (mark_word key h) v) h.slot next) j 0 ≡ get_or words j 0
-    there j l n = let t = high in get_or-set_other (set words (mark_word key h) v) h.slot j next 0 n ∙ get_or-set_other words (mark_word key h) j v 0 (λ e. omega arith)
+    there : (j : ℕ) → j < key.slots → j ≢ h.slot → get_or (set marked h.slot next) j 0 ≡ get_or words j 0
+    there j l n = let t = high in get_or-set_other marked h.slot j next 0 n ∙ is.others j (λ e. omega arith)
 
-    word_here : get_or (set (set words (mark_word key h) v) h.slot next) h.slot 0 ≡ next
-    word_here = let l = end_near in get_or-set_same (set words (mark_word key h) v) h.slot next 0 (omega (arith, o.shown.wide, length-set words (mark_word key h) v))
+    word_here : get_or (set marked h.slot next) h.slot 0 ≡ next
+    word_here = let l = end_near in get_or-set_same marked h.slot next 0 (omega (arith, o.shown.wide, is.size))
 
-    links : (k : ℕ) → k < key.waiters → get_or (set (set words (mark_word key h) v) h.slot next) (key.slots + k) 0 ≡ get_or words (key.slots + k) 0
-    links k w = let l = end_near in let t = high in get_or-set_other (set words (mark_word key h) v) h.slot (key.slots + k) next 0 (λ e. omega arith) ∙ get_or-set_other words (mark_word key h) (key.slots + k) v 0 (λ e. omega arith)
+    links : (k : ℕ) → k < key.waiters → get_or (set marked h.slot next) (key.slots + k) 0 ≡ get_or words (key.slots + k) 0
+    links k w = let l = end_near in let t = high in get_or-set_other marked h.slot (key.slots + k) next 0 (λ e. omega arith) ∙ is.others (key.slots + k) (λ e. omega arith)
 
-    low_mark : (x : Handle) → mark key (set (set words (mark_word key h) v) h.slot next) x ≡ mark key (set words (mark_word key h) v) x
-    low_mark x = let l = end_near in marks_low key (set words (mark_word key h) v) h.slot next x (omega arith)
+    low_mark : (x : Handle) → mark key (set marked h.slot next) x ≡ mark key marked x
+    low_mark x = let l = end_near in marks_low key marked h.slot next x (omega arith)
 
-    mark_now : mark key (set (set words (mark_word key h) v) h.slot next) h ≡ fate_code f
-    mark_now = low_mark h ∙ mark_written key words h v at_mark ∙ here
+    mark_now : mark key (set marked h.slot next) h ≡ fate_code f
+    mark_now = low_mark h ∙ is.here
 
-    mark_else : (x : Handle) → x.gen_ ≤ key.last_gen → ((x.slot ≡ h.slot) × (x.gen_ ≡ h.gen_) → ⊥) → mark key (set (set words (mark_word key h) v) h.slot next) x ≡ mark key words x
-    mark_else x l n = low_mark x ∙ mark_beside key words h x v at_mark (λ e. n (places_apart key.last_gen x h l end_low e)) others
+    mark_else : (x : Handle) → x.gen_ ≤ key.last_gen → ((x.slot ≡ h.slot) × (x.gen_ ≡ h.gen_) → ⊥) → mark key (set marked h.slot next) x ≡ mark key words x
+    mark_else x l n = low_mark x ∙ mark_beside key words marked h f x is (λ e. n (places_apart key.last_gen x h l end_low e))
 
-    pub ended_kept : AreKept key (set (set words (mark_word key h) v) h.slot next) (cond (nat_lt h.gen_ key.last_gen) (free ++ h.slot ∷ []) free) (cond (nat_lt 0 (code (life_at m h.slot).waiting)) (cs ++ record { handle = h; first = code (life_at m h.slot).waiting - 1 } ∷ []) cs) (ended_with m h f)
+    pub ended_kept : AreKept key (set marked h.slot next) (cond (nat_lt h.gen_ key.last_gen) (free ++ h.slot ∷ []) free) (cond (nat_lt 0 (code (life_at m h.slot).waiting)) (cs ++ record { handle = h; first = code (life_at m h.slot).waiting - 1 } ∷ []) cs) (ended_with m h f)
     ended_kept =
         let i : ℕ = h.slot in
         let old : SlotLife = life_at m h.slot in
         let new : SlotLife = record { fates = (life_at m h.slot).fates ++ f ∷ []; is_pending = false; waiting = [] } in
-        let ws : List ℕ = set (set words (mark_word key h) v) h.slot next in
+        let ws : List ℕ = set marked h.slot next in
         let size : length (old.fates ++ f ∷ []) ≡ length old.fates + 1 = length-append old.fates (f ∷ []) in
         let last : h.gen_ ≡ length old.fates = now.last in
         let top = end_low in
@@ -119,7 +104,7 @@ module _ (key : Shape) (words free : List ℕ) (cs : List Chain) (m : EventMap) 
           shown = record {
             waiters = o.shown.waiters;
             last = o.shown.last;
-            wide = length-set (set words (mark_word key h) v) h.slot next ∙ length-set words (mark_word key h) v ∙ o.shown.wide;
+            wide = omega (arith, length-set marked h.slot next, is.size, o.shown.wide);
             high = length-set m.slots h.slot new ∙ o.shown.high;
             each = at_slot m h.slot new (λ j s. j < key.slots → IsSlot key ws j s) now.near
                 (λ l. record {
@@ -151,39 +136,42 @@ module _ (key : Shape) (words free : List ℕ) (cs : List Chain) (h : Handle) (f
   pub free_fits : length free < key.slots
   free_fits = end_free key words free cs (map_in key words cs) h f o now
 
-  pub mark_inside : mark_word key h < length words
-  mark_inside = let w = word_in key h (end_near key words free cs (map_in key words cs) h f o now) (end_low key words free cs (map_in key words cs) h f o now) in omega (arith, o.shown.wide)
+  pub mark_inside : mark_word key h < key.slots + key.waiters + mark_words key
+  mark_inside = word_in key h (end_near key words free cs (map_in key words cs) h f o now) (end_low key words free cs (map_in key words cs) h f o now)
 
   -- the low half of the slot's word, once the poison word is written
-  pub low_half : (i v w : ℕ) → i ≡ mark_word key h → w ≡ get_or (set words i v) h.slot w → w % 4294967296 - 1 ≡ code (life_at (map_in key words cs) h.slot).waiting
-  low_half i v w same found =
-      let e : w ≡ get_or (set words (mark_word key h) v) h.slot w = found ∙ ap (λ x. get_or (set words x v) h.slot w) same in
+  pub low_half : (marked : List ℕ) (w : ℕ) → IsMarked key words marked h f → w ≡ get_or marked h.slot w → w % 4294967296 - 1 ≡ code (life_at (map_in key words cs) h.slot).waiting
+  low_half marked w is found =
       let near = end_near key words free cs (map_in key words cs) h f o now in
       let t = end_word key words free cs (map_in key words cs) h f o now in
       let c = sized.2 in
       let code-low = t.1 in
-      let at : w ≡ get_or words h.slot 0 = at_default (set words (mark_word key h) v) h.slot w (omega (arith, length-set words (mark_word key h) v, o.shown.wide)) e ∙ get_or-set_other words (mark_word key h) h.slot v 0 (λ z. omega arith) in
+      let at : w ≡ get_or words h.slot 0 = at_default marked h.slot w (omega (arith, is.size, o.shown.wide)) found ∙ is.others h.slot (λ z. omega arith) in
+      omega (arith, t.0)
+
+  pub low_some : (marked : List ℕ) (w : ℕ) → IsMarked key words marked h f → w ≡ get_or marked h.slot w → 1 ≤ w % 4294967296
+  low_some marked w is found =
+      let near = end_near key words free cs (map_in key words cs) h f o now in
+      let t = end_word key words free cs (map_in key words cs) h f o now in
+      let c = sized.2 in
+      let code-low = t.1 in
+      let at : w ≡ get_or words h.slot 0 = at_default marked h.slot w (omega (arith, is.size, o.shown.wide)) found ∙ is.others h.slot (λ z. omega arith) in
       omega (arith, t.0)
 
   pub chain_fits : (n : ℕ) → n ≡ code (life_at (map_in key words cs) h.slot).waiting → 0 < n → length cs < key.waiters
   chain_fits n e l = end_room key words free cs (map_in key words cs) h f o now (subst (λ x. 0 < x) e l)
 
-  pub end_done : (free' : List ℕ) (cs' : List Chain) (at bit r v n next : ℕ) → at ≡ mark_word key h → bit ≡ place_of key.last_gen h % 64 → r ≡ get_or words at r
-      → bit_at v bit ≡ fate_code f → ((b : ℕ) → b < 64 → b ≢ bit → bit_at v b ≡ bit_at r b) → Follows key.last_gen h.gen_ next → n ≡ code (life_at (map_in key words cs) h.slot).waiting
-      → free' ≡ cond (nat_lt h.gen_ key.last_gen) (free ++ h.slot ∷ []) free → cs' ≡ cond (nat_lt 0 n) (cs ++ record { handle = h; first = n - 1 } ∷ []) cs → Ends key (set (set words at v) h.slot next) free' cs' m h f
-  end_done free' cs' at bit r v n next a b found here others follows code-is frees chains =
-      let old : ℕ = get_or words (mark_word key h) 0 in
-      let was : r ≡ old = at_default words (mark_word key h) r mark_inside (found ∙ ap (λ i. get_or words i r) a) in
-      let here' : bit_at v (place_of key.last_gen h % 64) ≡ fate_code f = ap (bit_at v) (sym b) ∙ here in
-      let others' : (x : ℕ) → x < 64 → x ≢ place_of key.last_gen h % 64 → bit_at v x ≡ bit_at old x = λ x l ne. others x l (λ z. ne (z ∙ b)) ∙ ap (λ y. bit_at y x) was in
-      let kept = ended_kept key words free cs (map_in key words cs) h f o now v next here' others' follows in
+  pub end_done : (free' : List ℕ) (cs' : List Chain) (marked : List ℕ) (n next : ℕ) → IsMarked key words marked h f → Follows key.last_gen h.gen_ next → n ≡ code (life_at (map_in key words cs) h.slot).waiting
+      → free' ≡ cond (nat_lt h.gen_ key.last_gen) (free ++ h.slot ∷ []) free → cs' ≡ cond (nat_lt 0 n) (cs ++ record { handle = h; first = n - 1 } ∷ []) cs → Ends key (set marked h.slot next) free' cs' m h f
+  end_done free' cs' marked n next is-marked follows code-is frees chains =
+      let kept = ended_kept key words free cs (map_in key words cs) h f o now marked next is-marked follows in
       let C : ℕ → List Chain = λ y. cond (nat_lt 0 y) (cs ++ record { handle = h; first = y - 1 } ∷ []) cs in
       let same : cs' ≡ C (code (life_at (map_in key words cs) h.slot).waiting) = chains ∙ ap C code-is in
-      let kept' : AreKept key (set (set words (mark_word key h) v) h.slot next) free' cs' (ended_with (map_in key words cs) h f) =
-      subst (λ l. AreKept key (set (set words (mark_word key h) v) h.slot next) l cs' (ended_with (map_in key words cs) h f)) (sym frees)
-      (subst (λ l. AreKept key (set (set words (mark_word key h) v) h.slot next) (cond (nat_lt h.gen_ key.last_gen) (free ++ h.slot ∷ []) free) l (ended_with (map_in key words cs) h f)) (sym same) kept) in
-      subst (λ i. Ends key (set (set words i v) h.slot next) free' cs' m h f) (sym a) (record {
-        kept = as_read key (set (set words (mark_word key h) v) h.slot next) sized.2 free' cs' (ended_with (map_in key words cs) h f) kept';
-        map = map_read key (set (set words (mark_word key h) v) h.slot next) sized.2 cs' (ended_with (map_in key words cs) h f) kept'.shown ∙ ap (λ x. ended_with x h f) view;
+      let kept' : AreKept key (set marked h.slot next) free' cs' (ended_with (map_in key words cs) h f) =
+      subst (λ l. AreKept key (set marked h.slot next) l cs' (ended_with (map_in key words cs) h f)) (sym frees)
+      (subst (λ l. AreKept key (set marked h.slot next) (cond (nat_lt h.gen_ key.last_gen) (free ++ h.slot ∷ []) free) l (ended_with (map_in key words cs) h f)) (sym same) kept) in
+      record {
+        kept = as_read key (set marked h.slot next) sized.2 free' cs' (ended_with (map_in key words cs) h f) kept';
+        map = map_read key (set marked h.slot next) sized.2 cs' (ended_with (map_in key words cs) h f) kept'.shown ∙ ap (λ x. ended_with x h f) view;
         now = is_now m h is;
-      })
+      }

@@ -100,7 +100,7 @@ unweighed : (f : ℕ → ℕ) (n : ℕ) → total (λ (l : SlotLife). total f l.
 unweighed f zero = refl
 unweighed f (suc n) = omega (arith, unweighed f n)
 
-pub fresh_kept : (key : Shape) (words free : List ℕ) → ((i : ℕ) → get_or words i 0 ≡ 0) → length words ≡ key.slots + key.waiters + mark_words key
+pub fresh_kept : (key : Shape) (words free : List ℕ) → ((i : ℕ) → get_or words i 0 ≡ 0) → key.slots + key.waiters ≤ length words
     → ((i : ℕ) → Contains free i → i < key.slots) → ((i : ℕ) → i < key.slots → Contains free i) → ((f : ℕ → ℕ) → total f free ≤ below f key.slots)
     → AreKept key words free [] (fresh key.slots key.waiters key.last_gen)
 fresh_kept key words free word wide low all apart =
@@ -152,13 +152,12 @@ pub record Opens (key : Shape) (words free : List ℕ) (cs : List Chain) : Type 
   pub kept : AreKept key words free cs (map_in key words cs)
   pub map : map_in key words cs ≡ fresh key.slots key.waiters key.last_gen
 
-pub opens : (key : Shape) (words shown free : List ℕ) (cs : List Chain) → key.waiters ≤ 8192 → words ≡ replicate (key.slots + key.waiters + mark_words key) 0 → shown ≡ words → cs ≡ []
+pub opens : (key : Shape) (words shown free : List ℕ) (cs : List Chain) → key.waiters ≤ 8192 → ((i : ℕ) → get_or words i 0 ≡ 0) → key.slots + key.waiters ≤ length words → shown ≡ words → cs ≡ []
     → ((i : ℕ) → Contains free i → (i < key.slots) × (get_or shown i 0 % 4294967296 ≡ 0)) → ((i : ℕ) → i < key.slots → get_or shown i 0 % 4294967296 ≡ 0 → Contains free i) → ((f : ℕ → ℕ) → total f free ≤ below f key.slots)
     → Opens key words free cs
-opens key words shown free cs small is same none low all apart =
-    let word : (i : ℕ) → get_or words i 0 ≡ 0 = λ i. ap (λ l. get_or l i 0) is ∙ zero_at (key.slots + key.waiters + mark_words key) i in
+opens key words shown free cs small word wide same none low all apart =
     let zero : (i : ℕ) → get_or shown i 0 % 4294967296 ≡ 0 = λ i. ap (λ l. get_or l i 0 % 4294967296) same ∙ ap (λ n. n % 4294967296) (word i) in
-    let kept = fresh_kept key words free word (ap length is ∙ length-replicate (key.slots + key.waiters + mark_words key) 0) (λ i c. (low i c).0) (λ i l. all i l (zero i)) apart in
+    let kept = fresh_kept key words free word wide (λ i c. (low i c).0) (λ i l. all i l (zero i)) apart in
     subst (Opens key words free) (sym none) (record { kept = as_read key words small free [] (fresh key.slots key.waiters key.last_gen) kept; map = map_read key words small [] (fresh key.slots key.waiters key.last_gen) kept.shown })
 
 -- WHAT THE WORDS ANSWER FOR A HANDLE

@@ -76,7 +76,7 @@ module _ (key : Shape) (words free : List ℕ) (cs : List Chain) (m : EventMap) 
         shown = record {
           waiters = o.shown.waiters;
           last = o.shown.last;
-          wide = length-set (set words (key.slots + k) y) h.slot x ∙ length-set words (key.slots + k) y ∙ o.shown.wide;
+          wide = omega (arith, length-set (set words (key.slots + k) y) h.slot x, length-set words (key.slots + k) y, o.shown.wide);
           high = length-set m.slots h.slot new ∙ o.shown.high;
           each = at_slot m h.slot new (λ j s. j < key.slots → IsSlot key ws j s) now.near
               (λ l. record {

@@ -132,6 +132,10 @@ without_waiters life = record { fates = life.fates; is_pending = life.is_pending
 abbrev pub all_free : EventMap → EventMap
 all_free m = record { waiters = m.waiters; last_gen = m.last_gen; slots = map without_waiters m.slots; caught = [] }
 
+-- the same map where slots serve until this generation
+abbrev pub up_to_gen : ℕ → EventMap → EventMap
+up_to_gen last m = record { waiters = m.waiters; last_gen = last; slots = m.slots; caught = m.caught }
+
 -- WHAT HOLDS OF EACH TABLE. A waiter is weighed as often as it is placed or caught
 abbrev pub weight : (ℕ → ℕ) → EventMap → ℕ
 weight f m = total (λ (l : SlotLife). total f l.waiting) m.slots + total (λ (p : ℕ × Handle). f p.0) m.caught

@@ -1,8 +1,8 @@
 -- How the words of a one-thread table show its map.
-use Rattle.std.specs.Prelude.{◌≡◌, ℕ, zero, suc, ◌+◌, ◌-◌, ◌*◌, ◌/◌, ◌%◌, ◌<◌, ◌≤◌, ◌==◌, nat_lt, cond, List, [], ◌∷◌, ◌++◌, length, slice_index, slice_index_or, Contains}
+use Rattle.std.specs.Prelude.{◌≡◌, ℕ, zero, suc, ◌+◌, ◌*◌, ◌/◌, ◌%◌, ◌<◌, ◌≤◌, ◌==◌, cond, List, [], ◌∷◌, ◌++◌, length, slice_index, slice_index_or, Contains}
 use Rattle.basics.specs.Sums.{total, below}
 use Rattle.gen_events.specs.declared.limits.TheConstants.{MAX_SLOTS, MAX_WAITERS, MAX_HANDLES}
-use Rattle.gen_events.specs.Rule.{turns_of, mark, mark_words, fate_code, Linked, Shows}
+use Rattle.gen_events.specs.Rule.{turns_of, mark, fate_code, Linked, Shows}
 use Rattle.gen_events.specs.Plays.{fate_by, handle_at}
 use Rattle.gen_events.specs.Chains.{chain_in, chain_at}
 use Rattle.gen_events.specs.EventMap.{EventMap, SlotLife, life_at, MayServe, all_on, weight}
@@ -60,7 +60,8 @@ AreCaught shape words (c ∷ cs) ps = (ks : List ℕ) × (rest : List (ℕ × Ha
 pub record AreShown (shape : Shape) (words : List ℕ) (caught : List Chain) (m : EventMap) : Type 0 where
   pub waiters : m.waiters ≡ shape.waiters
   pub last : m.last_gen ≡ shape.last_gen
-  pub wide : length words ≡ shape.slots + shape.waiters + mark_words shape
+  -- the poison words behind the last one that is there are 0
+  pub wide : shape.slots + shape.waiters ≤ length words
   pub high : length m.slots ≡ shape.slots
   pub each : (i : ℕ) → i < shape.slots → IsSlot shape words i (life_at m i)
   pub chains : AreCaught shape words caught m.caught
@@ -80,10 +81,7 @@ pub record AreKept (shape : Shape) (words free : List ℕ) (caught : List Chain)
 abbrev pub IsSized : Shape → Type 0
 IsSized shape = (0 < shape.slots) × (shape.slots ≤ MAX_SLOTS) × (shape.waiters ≤ MAX_WAITERS) × (shape.slots * (shape.last_gen + 1) ≤ MAX_HANDLES)
 
--- the word of a slot without its waiters
-abbrev pub alone_word : ℕ → ℕ
-alone_word w = cond (w % 4294967296 == 0) w (cond (w % 4294967296 == 4294967295) w (w - w % 4294967296 + 1))
-
--- the word i of a table whose waiters are free
-abbrev pub freed_word : ℕ → ℕ → ℕ → ℕ
-freed_word slots i w = cond (nat_lt i slots) (alone_word w) w
+-- the words show of the slot i, without its waiters, what the old words of another last generation show
+pub record IsTakenOver (to from : Shape) (words old : List ℕ) (i : ℕ) : Type 0 where
+  pub word : Shows to.last_gen (turns_of (slice_index old i)) [] (slice_index words i)
+  pub marks : (g : ℕ) → 2 * g + 2 ≤ turns_of (slice_index old i) → mark to words (handle_at i g) ≡ mark from old (handle_at i g)

@@ -1,16 +1,19 @@
 //! What a table leaves once it is closed.
 
-ghost use Rattle.std.specs.Prelude.{◌≡◌, ◌≢◌, ℕ, ◌+◌, ◌/◌, ◌<◌, ◌≤◌, [], length, Contains, true, false, IfSome, IfNone, Some, slice_index, vec_len};
+ghost use Rattle.std.specs.Prelude.{◌≡◌, ◌≢◌, ℕ, ◌+◌, ◌*◌, ◌/◌, ◌<◌, ◌≤◌, [], length, Contains, true, false, IfSome, IfNone, Some, slice_index, vec_len};
+ghost use Rattle.std.specs.Vec.{vec_capacity};
 ghost use Rattle.std.specs.Slots.{slots_items, slots_len, IsFull};
 ghost use Rattle.gen_events.specs.Chains.{AreWaiters, chain_in};
-ghost use Rattle.gen_events.specs.Kept.{freed_word};
-ghost use Rattle.gen_events.specs.EventMap.{answer, fresh, all_free, no_event, IsCreated, IsFree, IsPlaced, KeepsCreated};
+ghost use Rattle.gen_events.specs.Kept.{IsSized, IsTakenOver};
+ghost use Rattle.gen_events.specs.Plays.{handle_at};
+ghost use Rattle.gen_events.specs.Rule.{turns_of, mark, mark_words};
+ghost use Rattle.gen_events.specs.EventMap.{answer, fresh, all_free, up_to_gen, no_event, IsCreated, IsFree, IsPlaced, KeepsCreated};
 ghost use Rattle.gen_events.specs.declared.handle.Handle.{Handle as TheHandle};
 
 use crate::handle::{Answer, Handle, Shape};
 use crate::limits::MAX_WAITERS;
 use crate::table::EventTable;
-use crate::word::{alone, answer, fate_shown, is_no_event, turns};
+use crate::word::{answer, fate_shown, is_no_event, set_fate, turns, word_after};
 use atomic_table::Closed;
 use std::alloc::Global;
 use std::marker::Model;
@@ -22,13 +25,14 @@ pub struct Left {
 }
 
 impl Model for Left {
-    ghost use Rattle.std.specs.Prelude.{◌≡◌, []};
+    ghost use Rattle.std.specs.Prelude.{◌≡◌, ◌+◌, []};
     ghost use Rattle.std.specs.Slots.{slots_items, slots_len, IsFull};
     ghost use Rattle.gen_events.specs.EventMap.{EventMap};
 
     ghost Value = { EventMap };
 
     ghost use Rattle.gen_events.specs.Kept.{map_in, AreShown, IsSized};
+    ghost use Rattle.gen_events.specs.Rule.{mark_words};
 
     ghost view = { λ a. map_in a.shape (slots_items a.closed.words) [] };
 
@@ -36,6 +40,7 @@ impl Model for Left {
       full : IsFull a.closed.words;
       none : slots_len a.closed.slots ≡ 0;
       sized : IsSized a.shape;
+      whole : slots_len a.closed.words ≡ a.shape.slots + a.shape.waiters + mark_words a.shape;
       shown : AreShown a.shape (slots_items a.closed.words) [] (map_in a.shape (slots_items a.closed.words) []);
     } };
 }
@@ -73,39 +78,72 @@ fn stands(closed: &Closed<(), Global>, shape: &Shape, first: u64, waiter: u32) -
     false
 }
 
-// The word i of a table whose waiters are free.
-fn freed(word: u64, i: usize, slots: u32) -> u64
-    ensures { result ≡ freed_word slots i word }
+// Copies the fates of a slot's generations to the poison words of a table with more generations.
+fn copy_fates(
+    to: &mut Vec<u64>,
+    shape: &Shape,
+    closed: &Closed<(), Global>,
+    from: &Shape,
+    slot: u32,
+)
+    requires full { IsFull closed.now.words }
+    requires wide { slots_len closed.now.words ≡ from.now.slots + from.now.waiters + mark_words from.now }
+    requires sized { IsSized from.now × IsSized shape.now }
+    requires slot { (slot < from.now.slots) × (from.now.slots ≡ shape.now.slots) × (from.now.last_gen ≤ shape.now.last_gen) }
+    requires few { turns_of (slice_index (slots_items closed.now.words) slot) ≤ 2 * from.now.last_gen + 2 }
+    requires room { shape.now.slots + shape.now.waiters + mark_words shape.now ≤ vec_capacity to.old }
+    ensures marks { (g : ℕ) → 2 * g + 2 ≤ turns_of (slice_index (slots_items closed.now.words) slot)
+        → mark shape.now to.new.items (handle_at slot g) ≡ mark from.now (slots_items closed.now.words) (handle_at slot g) }
+    ensures others { (h : TheHandle) → h.slot ≢ slot → h.gen_ ≤ shape.now.last_gen → mark shape.now to.new.items h ≡ mark shape.now to.old.items h }
+    ensures low { (i : ℕ) → i < shape.now.slots + shape.now.waiters → slice_index to.new.items i ≡ slice_index to.old.items i }
+    ensures size { length to.old.items ≤ length to.new.items }
+    ensures room { vec_capacity to.old ≤ vec_capacity to.new }
 {
-    if i < slots as usize {
-        alone(word)
-    } else {
-        word
+    let turns = turns(*closed.words.get(slot as usize));
+    let mut gen_ = 0;
+    while 2 * gen_ as u64 + 2 <= turns {
+        let handle = Handle { slot, gen_ };
+        let word = *closed.words.get(from.mark_at(handle));
+        let fate = fate_shown(word, from.place(handle) % 64);
+        set_fate(to, shape.mark_at(handle), shape.place(handle) % 64, fate);
+        gen_ += 1;
     }
 }
 
-// Copies the words of a closed table, the slots' without their waiters.
-pub(crate) fn copy_words(to: &mut Vec<u64>, closed: &Closed<(), Global>, slots: u32)
+// Copies a slot of a closed table, without its waiters, to the words of a table with more generations.
+pub(crate) fn copy_slot(
+    to: &mut Vec<u64>,
+    shape: &Shape,
+    closed: &Closed<(), Global>,
+    from: &Shape,
+    slot: u32,
+)
     requires full { IsFull closed.now.words }
-    requires size { vec_len to.old ≡ slots_len closed.now.words }
-    ensures size { length to.new.items ≡ length to.old.items }
-    ensures words { (i : ℕ) → i < length to.new.items → slice_index to.new.items i ≡ freed_word slots i
-        (slice_index (slots_items closed.now.words) i) }
+    requires wide { slots_len closed.now.words ≡ from.now.slots + from.now.waiters + mark_words from.now }
+    requires sized { IsSized from.now × IsSized shape.now }
+    requires slot { (slot < from.now.slots) × (from.now.slots ≡ shape.now.slots) × (from.now.last_gen ≤ shape.now.last_gen) }
+    requires few { turns_of (slice_index (slots_items closed.now.words) slot) ≤ 2 * from.now.last_gen + 2 }
+    requires room { shape.now.slots + shape.now.waiters + mark_words shape.now ≤ vec_capacity to.old }
+    requires size { shape.now.slots + shape.now.waiters ≤ length to.old.items }
+    ensures here { IsTakenOver shape.now from.now to.new.items (slots_items closed.now.words) slot }
+    ensures others { (i : ℕ) → i < shape.now.slots → i ≢ slot → IsTakenOver shape.now from.now to.old.items (slots_items closed.now.words) i
+        → IsTakenOver shape.now from.now to.new.items (slots_items closed.now.words) i }
+    ensures size { length to.old.items ≤ length to.new.items }
+    ensures room { vec_capacity to.old ≤ vec_capacity to.new }
 {
-    let mut i = 0;
-    while i < to.len() {
-        let word = *closed.words.get(i);
-        to[i] = freed(word, i, slots);
-        i += 1;
-    }
+    copy_fates(to, shape, closed, from, slot);
+    let turns = turns(*closed.words.get(slot as usize));
+    to[slot as usize] = word_after(turns, shape.last_gen);
 }
 
 impl Left {
     /// A table with the same map, in which each waiter is free. It stands in the place of `spare`, a
-    /// table of the same size in which nothing was created, and takes no memory.
+    /// table of as many slots and waiters and at least as many generations, in which nothing was
+    /// created, and serves until the last generation of that. It takes no memory.
     pub fn into_table(self, spare: EventTable) -> EventTable
-        requires spare { spare ≡ fresh (length self.slots) self.waiters self.last_gen }
-        ensures map { result ≡ all_free self }
+        requires spare { spare ≡ fresh (length self.slots) self.waiters spare.last_gen }
+        requires gens { self.last_gen ≤ spare.last_gen }
+        ensures map { result ≡ up_to_gen spare.last_gen (all_free self) }
         ensures answers { (h : TheHandle) → answer result h ≡ answer self h }
         ensures created { KeepsCreated self result }
         ensures free { (k : ℕ) → k < self.waiters → IsFree result k }

@@ -6,10 +6,11 @@ ghost use Rattle.gen_events.specs.declared.handle.Handle.{Handle as TheHandle};
 use crate::NoMemory;
 use crate::chain::{Chain, catch};
 use crate::handle::{Answer, Fate, Handle, Shape, WatchNow};
-use crate::left::copy_words;
+use crate::left::copy_slot;
 use crate::limits::{MAX_HANDLES, MAX_SLOTS, MAX_WAITERS};
 use crate::word::{
-    answer, fate_shown, free_slots, is_no_event, next_word, release, turns, with_fate,
+    answer, fate_shown, free_slots, is_no_event, lengthen, next_word, release, set_fate, turns,
+    word_or_zero,
 };
 use atomic_table::Closed;
 use std::alloc::{AllocError, Global};
@@ -20,7 +21,8 @@ use std::marker::Model;
 #[derive(Drop)]
 pub struct EventTable {
     shape: Shape,
-    // The slot words, the link words and the poison words, as a shared table has them.
+    // The slot words, the link words and the poison words, as a shared table has them. The poison
+    // words behind the last in which one was set are left out, since most are never used.
     words: Vec<u64>,
     // The slots that may serve.
     free: Vec<u32>,
@@ -29,8 +31,9 @@ pub struct EventTable {
 }
 
 impl Model for EventTable {
-    ghost use Rattle.std.specs.Prelude.{◌≡◌, ◌≤◌};
+    ghost use Rattle.std.specs.Prelude.{◌≡◌, ◌≤◌, ◌+◌};
     ghost use Rattle.std.specs.Vec.{vec_capacity};
+    ghost use Rattle.gen_events.specs.Rule.{mark_words};
     ghost use Rattle.gen_events.specs.EventMap.{EventMap};
 
     ghost Value = { EventMap };
@@ -42,16 +45,18 @@ impl Model for EventTable {
     ghost invariant = { λ a. record {
       sized : IsSized a.shape;
       kept : AreKept a.shape a.words.items a.free.items a.caught.items (map_in a.shape a.words.items a.caught.items);
+      room_words : a.shape.slots + a.shape.waiters + mark_words a.shape ≤ vec_capacity a.words;
       room_free : a.shape.slots ≤ vec_capacity a.free;
       room_caught : a.shape.waiters ≤ vec_capacity a.caught;
     } };
 }
 
 impl EventTable {
-    ghost use Rattle.std.specs.Slots.{slots_items, IsFull as IsFilled};
-    ghost use Rattle.gen_events.specs.Kept.{map_in, AreShown};
+    ghost use Rattle.std.specs.Slots.{slots_items, slots_len, IsFull as IsFilled};
+    ghost use Rattle.gen_events.specs.Kept.{map_in, AreShown, IsSized};
+    ghost use Rattle.gen_events.specs.Rule.{mark_words};
     ghost use Rattle.std.specs.Prelude.{◌≢◌, ◌<◌, IfSome, IfNone, Some, None, length};
-    ghost use Rattle.gen_events.specs.EventMap.{EventMap, IsEventMap, answer, answer_of, fresh, all_free, created_at, placed_on, ended_with, next_handle, Gives, IsCreated, IsFree, IsPlaced, IsFull, MayServe, WatchedNow, KeepsCreated, KeepsFree, no_event};
+    ghost use Rattle.gen_events.specs.EventMap.{EventMap, IsEventMap, answer, answer_of, fresh, all_free, up_to_gen, created_at, placed_on, ended_with, next_handle, Gives, IsCreated, IsFree, IsPlaced, IsFull, MayServe, WatchedNow, KeepsCreated, KeepsFree, no_event};
 
     /// A table in which nothing was created and each waiter is free. `NoMemory` comes where memory
     /// ran out.
@@ -80,9 +85,10 @@ impl EventTable {
         requires gens { shape.slots * (shape.last_gen + 1) ≤ MAX_HANDLES }
         ensures map { IfOk result (λ t. t ≡ fresh shape.slots shape.waiters shape.last_gen) }
     {
-        let words = vec![in alloc; 0u64; shape.words()]?;
+        let mut words = Vec::with_capacity(alloc, shape.words())?;
         let mut free = Vec::with_capacity(alloc, shape.slots as usize)?;
         let caught = Vec::with_capacity(alloc, shape.waiters as usize)?;
+        lengthen(&mut words, shape.slots as usize + shape.waiters as usize);
         free_slots(&mut free, shape.slots, words.as_slice());
         Ok(EventTable {
             shape,
@@ -165,7 +171,7 @@ impl EventTable {
     {
         let at = self.shape.mark_at(handle);
         let bit = self.shape.place(handle) % 64;
-        self.words[at] = with_fate(self.words[at], bit, fate);
+        set_fate(&mut self.words, at, bit, fate);
         let slot = handle.slot as usize;
         let low = self.words[slot] % 4294967296;
         self.words[slot] = next_word(self.shape.last_gen, handle.gen_);
@@ -205,22 +211,38 @@ impl EventTable {
         }
         let at = self.shape.mark_at(handle);
         let bit = self.shape.place(handle) % 64;
-        answer(fate_shown(self.words[at], bit))
+        answer(fate_shown(word_or_zero(self.words.as_slice(), at), bit))
     }
 
-    // The map of a closed table of this size and with these words, with each waiter free, in the
-    // place of a table in which nothing was created.
-    pub(crate) fn taking(mut self, closed: &Closed<(), Global>, shape: &Shape) -> EventTable
+    // The map of a closed table with these words, with each waiter free, in the place of a table of
+    // as many slots and waiters and at least as many generations, in which nothing was created.
+    pub(crate) fn taking(self, closed: &Closed<(), Global>, shape: &Shape) -> EventTable
         requires full { IsFilled closed.now.words }
+        requires wide { slots_len closed.now.words ≡ shape.now.slots + shape.now.waiters + mark_words shape.now }
+        requires sized { IsSized shape.now }
         requires shown { AreShown shape.now (slots_items closed.now.words) [] (map_in shape.now (slots_items closed.now.words) []) }
-        requires same { self ≡ fresh shape.now.slots shape.now.waiters shape.now.last_gen }
-        ensures map { result ≡ all_free (map_in shape.now (slots_items closed.now.words) []) }
+        requires same { self ≡ fresh shape.now.slots shape.now.waiters self.last_gen }
+        requires gens { shape.now.last_gen ≤ self.last_gen }
+        ensures map { result ≡ up_to_gen self.last_gen (all_free (map_in shape.now (slots_items closed.now.words) [])) }
     {
-        copy_words(&mut self.words, closed, shape.slots);
-        self.caught.clear();
-        self.free.clear();
-        free_slots(&mut self.free, shape.slots, self.words.as_slice());
-        self
+        let EventTable {
+            shape: own,
+            mut words,
+            mut free,
+            mut caught,
+        } = self;
+        for slot in 0..shape.slots {
+            copy_slot(&mut words, &own, closed, shape, slot);
+        }
+        caught.clear();
+        free.clear();
+        free_slots(&mut free, shape.slots, words.as_slice());
+        EventTable {
+            shape: own,
+            words,
+            free,
+            caught,
+        }
     }
 
     /// What holds of each table: its handles are whole rows of generations, all of which but the

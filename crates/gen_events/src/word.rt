@@ -1,13 +1,12 @@
 //! What the words of a table mean.
 
-ghost use Rattle.std.specs.Prelude.{◌≡◌, ◌≢◌, ℕ, ◌%◌, ◌<◌, ◌≤◌, ◌++◌, ◌∷◌, [], true, false, cond, nat_lt, length, slice_index, vec_len, Contains};
+ghost use Rattle.std.specs.Prelude.{◌≡◌, ◌≢◌, ℕ, ◌+◌, ◌*◌, ◌%◌, ◌<◌, ◌≤◌, ◌++◌, ◌∷◌, [], true, false, cond, nat_lt, length, slice_index, vec_len, Contains};
 ghost use Rattle.std.specs.Int.{bit_at};
 ghost use Rattle.std.specs.Vec.{vec_capacity};
 ghost use Rattle.basics.specs.Sums.{total, below};
-ghost use Rattle.gen_events.specs.Rule.{turns_of, fate_code, Follows};
+ghost use Rattle.gen_events.specs.Rule.{turns_of, fate_code, Follows, Shows};
 ghost use Rattle.gen_events.specs.Plays.{fate_by};
 ghost use Rattle.gen_events.specs.EventMap.{no_event, answer_of};
-ghost use Rattle.gen_events.specs.Kept.{alone_word};
 
 use crate::handle::{Answer, Fate, Handle};
 use crate::room::push_within;
@@ -70,6 +69,47 @@ pub(crate) fn with_fate(word: u64, bit: u64, fate: Fate) -> u64
     }
 }
 
+// The word at a place, and 0 behind the last.
+pub(crate) fn word_or_zero(words: &[u64], at: usize) -> u64
+    ensures { result ≡ slice_index words.now at }
+{
+    match words.get(at) {
+        Some(word) => *word,
+        None => 0,
+    }
+}
+
+// Puts zeros at the end until there are this many words.
+pub(crate) fn lengthen(words: &mut Vec<u64>, size: usize)
+    requires room { size ≤ vec_capacity words.old }
+    ensures same { (i : ℕ) → slice_index words.new.items i ≡ slice_index words.old.items i }
+    ensures size { (size ≤ length words.new.items) × (length words.old.items ≤ length words.new.items) }
+    ensures room { vec_capacity words.old ≤ vec_capacity words.new }
+{
+    while words.len() < size {
+        push_within(words, 0);
+    }
+}
+
+// Sets the fate that a bit of a poison word shows. The words behind the last count as 0.
+pub(crate) fn set_fate(words: &mut Vec<u64>, at: usize, bit: u64, fate: Fate)
+    requires bit { bit < 64 }
+    requires room { at < vec_capacity words.old }
+    ensures here { bit_at (slice_index words.new.items at) bit ≡ fate_code fate }
+    ensures beside { (b : ℕ) → b < 64 → b ≢ bit → bit_at (slice_index words.new.items at) b ≡ bit_at (slice_index words.old.items at) b }
+    ensures others { (i : ℕ) → i ≢ at → slice_index words.new.items i ≡ slice_index words.old.items i }
+    ensures size { length words.old.items ≤ length words.new.items }
+    ensures room { vec_capacity words.old ≤ vec_capacity words.new }
+{
+    if at >= words.len() {
+        if let Fate::Ok = fate {
+            return;
+        }
+        lengthen(words, at + 1);
+    }
+    words[at] = with_fate(words[at], bit, fate);
+}
+
 // The answer for a handle that ended so.
 pub(crate) fn answer(fate: Fate) -> Answer
     ensures { result ≡ answer_of fate }
@@ -110,12 +150,17 @@ pub(crate) fn free_slots(free: &mut Vec<u32>, slots: u32, words: &[u64])
     }
 }
 
-// The word of a slot without its waiters.
-pub(crate) fn alone(word: u64) -> u64
-    ensures { result ≡ alone_word word }
+// The word of a slot without waiters that was created and ended this often in all.
+pub(crate) fn word_after(turns: u64, last_gen: u32) -> u64
+    requires { turns ≤ 2 * last_gen + 2 }
+    ensures { Shows last_gen turns [] result }
 {
-    match word % 4294967296 {
-        0 | 4294967295 => word,
-        low => word - low + 1,
+    let gens = turns / 2;
+    if turns % 2 == 1 {
+        gens * 4294967296 + 1
+    } else if gens <= last_gen as u64 {
+        gens * 4294967296
+    } else {
+        last_gen as u64 * 4294967296 + 4294967295
     }
 }

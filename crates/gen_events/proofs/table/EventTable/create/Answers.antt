@@ -25,7 +25,7 @@ invariant_of-self-2 c = let s = c.self.inside in let k = c.self.invariant in
     let l = create_near s.shape s.words.items s.free.items c.pop.new.self.items s.caught.items c.in-Some.slot 0 k.sized k.kept c.in-Some.ensures.items in
     let at = at_default s.words.items c.in-Some.slot c.index-word.result.now (omega (arith, k.kept.shown.wide)) c.index-word.ensures in
     let d = create_done s.shape s.words.items s.free.items c.pop.new.self.items s.caught.items c.in-Some.slot c.index-word.result.now k.sized k.kept c.in-Some.ensures.items c.args.self.now c.self.view_is at in
-    record { sized = k.sized; kept = d.kept; room_free = omega (arith, k.room_free, c.in-Some.ensures.capacity); room_caught = k.room_caught }
+    record { sized = k.sized; kept = d.kept; room_words = k.room_words; room_free = omega (arith, k.room_free, c.in-Some.ensures.capacity); room_caught = k.room_caught }
 
 pub returns : goal.returns
 returns c = let s = c.self.inside in let k = c.self.invariant in
