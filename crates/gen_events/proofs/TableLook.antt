@@ -5,7 +5,7 @@ use Rattle.std.proofs.lemmas.List.{get_or_past, length-replicate}
 use mathlib.Core.Logic.{dite}
 use native.Mathlib.Decide.{dec_le}
 use Rattle.basics.specs.Sums.{total, below, only}
-use Rattle.gen_events.specs.Rule.{turns_of, mark, mark_words, fate_code}
+use Rattle.gen_events.specs.Rule.{turns_of, mark, fate_code}
 use Rattle.gen_events.specs.Plays.{fate_by}
 use Rattle.gen_events.specs.EventMap.{EventMap, SlotLife, unused, life_at, answer_in, answer, answer_of, fresh, no_event, weight, IsCreated, IsEventMap}
 use Rattle.gen_events.specs.Kept.{turns_in, map_in, IsSlot, AreShown, AreKept}
@@ -20,7 +20,6 @@ use Rattle.basics.proofs.Sums.{below-once, below-only, below-one, total-one, ent
 use Rattle.gen_events.proofs.Members.{Contains-none}
 use Rattle.gen_events.proofs.Words.{by_test}
 use Rattle.gen_events.proofs.Marks.{code_answer, one_code}
-use Rattle.gen_events.proofs.Open.{zero_at}
 use Rattle.gen_events.proofs.Reading.{turns_at, map_read, as_read}
 use Rattle.gen_events.proofs.MapAnswers.{in_ended, in_pending, in_cases, near_some}
 

@@ -1,5 +1,5 @@
 -- Tokens at their table, and what a call tells by them.
-use Rattle.std.specs.Prelude.{◌≡◌, ◌≢◌, ℕ, ◌+◌, ◌*◌, ◌<◌, ◌≤◌, ◌⊎◌, List, [], ◌∷◌, ◌++◌, Contains}
+use Rattle.std.specs.Prelude.{◌≡◌, ◌≢◌, ℕ, ◌+◌, ◌*◌, ◌<◌, ◌≤◌, ◌⊎◌, List, [], ◌∷◌, ◌++◌, length, Contains}
 use Rattle.atomic_table.specs.declared.shared.Seat as table
 use Rattle.gen_events.specs.Rule.{turns_of}
 use Rattle.gen_events.specs.Seats.{Knows, IsPast, FoundPending, no_event}
@@ -29,9 +29,14 @@ lists s = s.inner.me.0
 abbrev pub IsAt : Events → Seat → Type 0
 IsAt e s = IsOf e s.inner
 
+-- The Maker goes round the slots, so none serves twice before each has served
+pub record GoesRound (slots next : ℕ) (made : List Handle) : Type 0 where
+  pub first : length made < slots → (next ≡ length made) × ((h : Handle) → Contains made h → (h.slot < next) × (h.gen_ ≡ 0))
+  pub later : slots ≤ length made → (h : Handle) → Contains made h → h.gen_ + slots ≤ length made
+
 -- between two calls it has told all that it found
 abbrev pub IsMakerOf : Events → Maker → Type 0
-IsMakerOf e s = IsOf e s.inner × (s.inner.me.0.saw ≡ [])
+IsMakerOf e s = IsOf e s.inner × (s.inner.me.0.saw ≡ []) × GoesRound e.shape.slots s.next s.inner.me.0.made
 
 abbrev pub IsPendingOf : Events → Pending → Type 0
 IsPendingOf e s = IsOf e s.inner
@@ -100,14 +105,18 @@ ArePast made w i g = (h : Handle) → Contains made h → h.slot ≡ i → h.gen
 abbrev pub IsNew : List Handle → List Handle → Handle → Type 0
 IsNew old new h = (new ≡ old ++ h ∷ []) × (Contains old h → ⊥)
 
--- the word of the slot i showed that the slot is retired, or that a handle of the list is pending there
+-- the word of the slot i showed that the slot is retired, or that a handle is pending there, and it is of the list
 abbrev pub IsTaken : Shape → List Handle → ℕ → ℕ → Type 0
-IsTaken shape made i r = (turns_of r ≡ 2 * shape.last_gen + 2) ⊎ ((h : Handle) × (h.slot ≡ i) × (turns_of r ≡ 2 * h.gen_ + 1) × Contains made h)
+IsTaken shape made i r = ((turns_of r ≡ 2 * shape.last_gen + 2) × Contains made (record { slot = i; gen_ = shape.last_gen })) ⊎ ((h : Handle) × (h.slot ≡ i) × (turns_of r ≡ 2 * h.gen_ + 1) × Contains made h)
 
 -- in between, each slot from low on and below high was looked at, and found taken
 abbrev pub Scanned : Shape → List Handle → View → View → ℕ → ℕ → Type 0
 Scanned shape made v w low high = (found : List (ℕ × ℕ)) × (w.saw ≡ v.saw ++ found)
     × ((i : ℕ) → low ≤ i → i < high → (r : ℕ) × Contains found (i, r) × IsTaken shape made i r)
+
+-- the slot is the next one, unless that has served already
+abbrev pub ComesNext : List Handle → ℕ → ℕ → Type 0
+ComesNext made next i = (i ≡ next) ⊎ ((h : Handle) × (h.slot ≡ next) × Contains made h)
 
 abbrev pub IsFull : Shape → List Handle → View → View → Type 0
 IsFull shape made v w = (found : List (ℕ × ℕ)) × (w.saw ≡ v.saw ++ found)

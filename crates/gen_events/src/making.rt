@@ -1,8 +1,8 @@
 //! Creating events, which the one Maker does.
 
 ghost use Rattle.gen_events.specs.Seats.{HasSeen, Grows, Keeps, SamePlacings, no_event};
-ghost use Rattle.gen_events.specs.Views.{lists, IsOf, IsAt, IsMakerOf, IsPendingOf, made_by, maker_lists, shape_of, handle_of, IsNew, IsFull, Scanned, IsWithin, ArePast, ComesAfter};
-ghost use Rattle.std.specs.Prelude.{◌≡◌, ◌≢◌, ◌%◌, ◌/◌, ◌<◌, ◌≤◌, ◌++◌, Contains, IfSome, IfNone};
+ghost use Rattle.gen_events.specs.Views.{lists, IsOf, IsAt, IsMakerOf, IsPendingOf, made_by, maker_lists, shape_of, handle_of, IsNew, IsFull, Scanned, IsWithin, ArePast, ComesAfter, ComesNext, GoesRound};
+ghost use Rattle.std.specs.Prelude.{◌≡◌, ◌≢◌, ◌%◌, ◌/◌, ◌<◌, ◌≤◌, ◌++◌, [], Contains, IfSome, IfNone};
 
 use crate::events::Events;
 use crate::handle::Handle;
@@ -11,8 +11,9 @@ use crate::tokens::{Maker, Pending, Seat};
 
 impl Events {
     /// A new pending handle, which then stands at the end of the Maker's list, all of which the seat
-    /// has then seen. Each older handle of its slot was found to have ended. None comes where each
-    /// slot was found retired or pending, as the seat then shows.
+    /// has then seen. Each older handle of its slot was found to have ended, and no slot serves twice
+    /// before each has served. None comes where each slot was found retired or pending, as the seat
+    /// then shows.
     pub fn create(&self, maker: &mut Maker, seat: &mut Seat) -> Option<Pending>
         requires maker { IsMakerOf self.now maker.old }
         requires at { IsAt self.now seat.old }
@@ -47,6 +48,8 @@ impl Events {
         ensures slot { IfSome result (λ r. r.0 < (shape_of self.now).slots) }
         ensures free { IfSome result (λ r. (r.1 % 4294967296 ≡ 0) × Contains (maker_lists maker.new).spare r) }
         ensures past { IfSome result (λ r. ArePast (made_by maker.new) (maker_lists maker.new) r.0 (r.1 / 4294967296)) }
+        ensures next { (maker.new.next ≡ maker.old.next)
+            × IfSome result (λ r. maker.old.next < (shape_of self.now).slots → ComesNext (made_by maker.new) maker.old.next r.0) }
         ensures full { IfNone result (IsFull (shape_of self.now) (made_by maker.old) (maker_lists maker.old) (maker_lists maker.new)) }
     {
         let from = self.first_to_scan(maker);
@@ -58,7 +61,8 @@ impl Events {
 
     // The slot behind the one that was given last.
     fn first_to_scan(&self, maker: &Maker) -> u32
-        ensures { result ≤ (shape_of self.now).slots }
+        ensures within { result ≤ (shape_of self.now).slots }
+        ensures next { maker.now.next < (shape_of self.now).slots → result ≡ maker.now.next }
     {
         if maker.next < self.shape.slots {
             maker.next
@@ -76,6 +80,7 @@ impl Events {
         ensures slot { IfSome result (λ r. r.0 < (shape_of self.now).slots) }
         ensures free { IfSome result (λ r. (r.1 % 4294967296 ≡ 0) × Contains (maker_lists maker.new).spare r) }
         ensures past { IfSome result (λ r. ArePast (made_by maker.new) (maker_lists maker.new) r.0 (r.1 / 4294967296)) }
+        ensures next { (maker.new.next ≡ maker.old.next) × (low < high → IfSome result (λ r. ComesNext (made_by maker.new) low r.0)) }
         ensures none { IfNone result (Scanned (shape_of self.now) (made_by maker.old) (maker_lists maker.old) (maker_lists maker.new) low high) }
     {
         let mut slot = low;
@@ -95,6 +100,8 @@ impl Events {
     // Creates at a slot that the Maker found free.
     fn make(&self, maker: &mut Maker, seat: &mut Seat, slot: u32, found: u64) -> Pending
         requires maker { IsOf self.now maker.old.inner }
+        requires round { GoesRound (shape_of self.now).slots maker.old.next (made_by maker.old) }
+        requires next { maker.old.next < (shape_of self.now).slots → ComesNext (made_by maker.old) maker.old.next slot }
         requires at { IsAt self.now seat.old }
         requires slot { slot < (shape_of self.now).slots }
         requires free { (found % 4294967296 ≡ 0) × Contains (maker_lists maker.old).spare (slot, found) }
@@ -131,8 +138,8 @@ impl Events {
     fn report(&self, maker: &mut Maker, seat: &mut Seat)
         requires maker { IsOf self.now maker.old.inner }
         requires at { IsAt self.now seat.old }
-        ensures maker { IsMakerOf self.now maker.new }
-        ensures made { made_by maker.new ≡ made_by maker.old }
+        ensures maker { IsOf self.now maker.new.inner × ((maker_lists maker.new).saw ≡ []) }
+        ensures made { (made_by maker.new ≡ made_by maker.old) × (maker.new.next ≡ maker.old.next) }
         ensures at { IsAt self.now seat.new }
         ensures grows { Grows (lists seat.old) (lists seat.new) }
         ensures kept { Keeps (lists seat.old) (lists seat.new) }

@@ -18,7 +18,7 @@ pub struct Seat {
 /// The right to create, and the list of all handles that were created, in order. A table has one.
 #[derive(Drop)]
 pub struct Maker {
-    // The slot that is looked at first for the next handle. Nothing rests on it but speed.
+    // The slot that is looked at first for the next handle, one behind that which was given last.
     pub(crate) next: u32,
     pub(crate) inner: atomic_table::Seat<(), View>,
     ghost makes: { IsMaker inner.me },

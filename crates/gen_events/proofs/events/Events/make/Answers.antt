@@ -1,6 +1,8 @@
-use Rattle.std.proofs.Common.{rules, arith, inr, sym, subst}
+use Rattle.std.proofs.Common.{rules, ◌+◌, ◌/◌, ◌∙◌, arith, inr, sym, subst}
 use Rattle.std.specs.Prelude.{Contains}
 use Rattle.std.proofs.lemmas.List.Elements.{Contains-append_right}
+use Rattle.gen_events.specs.Views.{GoesRound}
+use Rattle.gen_events.proofs.Rounds.{one_round_on}
 use Rattle.gen_events.proofs.Cuts.{splits, grants}
 use Rattle.gen_events.proofs.Create.{creates}
 use Rattle.gen_events.proofs.Takes.{at_end}
@@ -29,3 +31,9 @@ returns-clause-after c = let g = makes_handle c.args.slot c.args.found c.compare
       );
       whole = g.below.1;
     }
+
+pub returns-clause-maker : goal.returns-clause-maker
+returns-clause-maker c =
+    let g = makes_handle c.args.slot c.args.found c.compare_exchange.result c.args.self.now.shape c.args.maker.now.inner.me c.compare_exchange.new.seat.me c.split_seat-inner.new.seat.me c.split_seat-inner.result.me c.args.maker.now.makes c.requires.maker.1 c.requires.slot c.compare_exchange.ensures.2 c.split_seat-inner.ensures.2 c.split_seat-inner.ensures.4 in
+    let round = one_round_on c.args.self.now.shape.slots c.args.maker.now.next c.args.slot (c.args.found / 4294967296) c.args.maker.now.inner.me.0.made c.requires.round c.requires.next g.below.1 in
+    (c.report.ensures.maker.0, c.report.ensures.maker.1, subst (GoesRound c.args.self.now.shape.slots (c.args.slot + 1)) (sym (c.report.ensures.made.0 ∙ g.made)) round)

@@ -1,4 +1,4 @@
-use Rattle.std.proofs.Common.{◌≡◌, ◌-◌}
+use Rattle.std.proofs.Common.{◌≡◌, ◌-◌, ◌≤◌}
 use Rattle.gen_events.specs.Views.{IsOf, Scanned}
 use Rattle.gen_events.proofs.events.Events.scan.Given as goal
 
@@ -8,6 +8,7 @@ decreases-loop-slot l = l.high - l.slot
 abbrev pub invariant-loop-slot : goal.invariant-loop-slot
 invariant-loop-slot l = record {
   at : IsOf l.self l.maker.inner;
-  made : l.maker.inner.me.0.made ≡ l.fn.maker.inner.me.0.made;
+  from : l.low ≤ l.slot;
+  made : (l.maker.inner.me.0.made ≡ l.fn.maker.inner.me.0.made) × (l.maker.next ≡ l.fn.maker.next);
   scanned : Scanned l.self.shape l.fn.maker.inner.me.0.made l.fn.maker.inner.me.0 l.maker.inner.me.0 l.low l.slot;
 }

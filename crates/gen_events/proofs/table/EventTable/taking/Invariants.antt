@@ -1,4 +1,4 @@
-use Rattle.std.proofs.Common.{◌+◌, ◌<◌, ◌≤◌, ℕ, length}
+use Rattle.std.proofs.Common.{◌<◌, ◌≤◌, ℕ, length}
 use Rattle.std.specs.Vec.{vec_capacity}
 use Rattle.std.specs.Slots.{slots_items}
 use Rattle.gen_events.specs.Kept.{IsTakenOver}
