@@ -5,10 +5,11 @@ ghost use Rattle.std.specs.Vec.{vec_capacity};
 ghost use Rattle.graph_model.specs.declared.meaning.outcome.End.{End as TheEnd};
 ghost use Rattle.gen_events.specs.declared.handle.Handle.{Handle as TheHandle};
 ghost use Rattle.gen_events.specs.Seats.{Keeps};
-ghost use Rattle.gen_events.specs.Views.{shape_of, lists, IsFull as FoundFull};
+ghost use Rattle.gen_events.specs.Views.{shape_of, lists};
 ghost use Rattle.run_words.specs.declared.content.Content.{Content as TheContent};
 ghost use Rattle.run_words.specs.declared.content.Content.TheVariants.{Nothing, Tray};
 ghost use Rattle.run_words.specs.declared.content.Desk.{Desk as TheDesk};
+ghost use Rattle.run_words.specs.Issuing.{AllPending};
 ghost use Rattle.run_words.specs.Layout.{size_of, desk_slot, desk_word};
 ghost use Rattle.run_words.specs.Plays.{issued_at, without_issue, with_desk, without_desk, missed, after_issue};
 ghost use Rattle.run_words.specs.Premises.{IsNumbered};
@@ -63,7 +64,7 @@ impl<'g> Words<'g> {
     }
 
     /// Issues the next line, in the desk's turn and with what lies on the desk. False comes where
-    /// each event slot was found pending or retired. Nobody else issues in this turn, so the line is
+    /// each event slot was found pending. Nobody else issues in this turn, so the line is
     /// claimed at the first try.
     fn issue_next(&self, seat: &mut Place, events: &mut Seat, desk: &mut Desk, line: u32) -> bool
         requires at { IsSeatOf self.now seat.old }
@@ -82,7 +83,7 @@ impl<'g> Words<'g> {
             × (seat.new.me ≡ (issued_at seat.old.me.0 line (h ∷ []), seat.old.me.1)) }
         ensures full { result ≡ false → (desk.new.handles.items ≡ desk.old.handles.items)
             × (seat.new.me ≡ (without_issue seat.old.me.0, seat.old.me.1))
-            × FoundFull (shape_of (events_of self.now)) desk.new.handles.items (lists events.old) (lists events.new) }
+            × AllPending (shape_of (events_of self.now)) desk.new.handles.items (lists events.old) (lists events.new) }
     {
         self.begin_issue(seat, line);
         match self.base.events.create(&mut desk.maker, events) {
@@ -156,7 +157,7 @@ impl<'g> Words<'g> {
         ensures events { IsEventSeat self.now events.new }
         ensures kept { Keeps (lists events.old) (lists events.new) }
         ensures full { result ≡ Issue.NoSlot
-            → FoundFull (shape_of (events_of self.now)) desk.new.handles.items (lists events.old) (lists events.new) }
+            → AllPending (shape_of (events_of self.now)) desk.new.handles.items (lists events.old) (lists events.new) }
         ensures not_other { result ≡ Issue.Other → ⊥ }
     {
         let lines = self.base.checked.graph().lines();
@@ -172,7 +173,7 @@ impl<'g> Words<'g> {
     }
 
     /// Issues the next line in file order, in the desk's turn. NoSlot comes only where loads of this
-    /// call, which the seat then shows, found each event slot retired or pending; All only where the
+    /// call, which the seat then shows, found each event slot pending; All only where the
     /// seat then knows every line issued; Other only where the desk's turn was found in another's
     /// hand. The waiters stay on the desk.
     pub fn issue(&self, seat: &mut WordSeat) -> Issue
@@ -184,7 +185,7 @@ impl<'g> Words<'g> {
         ensures all { result ≡ Issue.All → (i : ℕ) → i < length (graph_of self.now).lines → KnowsIssued seat.new i }
         ensures kept_events { Keeps (lists (events_seat seat.old)) (lists (events_seat seat.new)) }
         ensures full { result ≡ Issue.NoSlot → (handles : List TheHandle) × KnowsHandles seat.new handles
-            × FoundFull (shape_of (events_of self.now)) handles (lists (events_seat seat.old)) (lists (events_seat seat.new)) }
+            × AllPending (shape_of (events_of self.now)) handles (lists (events_seat seat.old)) (lists (events_seat seat.new)) }
         ensures waiters { result ≢ Issue.Other → KeepsWaiters seat.old seat.new }
         ensures other { result ≡ Issue.Other → FoundTaken seat.old seat.new (desk_word (size_of (graph_of self.now))) }
         ensures numbers { (numbers_of seat.new ≡ numbers_of seat.old) × (splits_of seat.new ≡ splits_of seat.old) }

@@ -1,6 +1,6 @@
 //! Preparing a run.
 
-ghost use Rattle.std.specs.Prelude.{◌≡◌, ◌+◌, ◌≢◌, ◌<◌, ◌≤◌, ◌++◌, ◌∷◌, [], length, vec_len, replicate, Some, None, slice_index_or, slice_set, IfOk};
+ghost use Rattle.std.specs.Prelude.{◌≡◌, ◌+◌, ◌-◌, ◌≢◌, ◌<◌, ◌≤◌, ◌++◌, ◌∷◌, [], length, vec_len, replicate, Some, None, slice_index_or, slice_set, IfOk};
 ghost use Rattle.std.specs.Vec.{vec_capacity};
 ghost use Rattle.index_spaces.specs.Column.{ColumnValue};
 ghost use Rattle.graph_model.specs.meaning.Effect.{zero_cells};
@@ -19,7 +19,7 @@ use crate::base::Base;
 use crate::content::{Content, Desk};
 use crate::moves::APART;
 use crate::seats::WordSeat;
-use crate::spare::{LAST_GEN, Spare};
+use crate::spare::Spare;
 use crate::words::Words;
 use atomic_table::{Refused, Table};
 use gen_events::{Events, Seat, Waiter, WaiterSet};
@@ -212,16 +212,28 @@ fn all_waiters(
     Ok(waiters)
 }
 
+/// The last generation that a slot comes to, since none serves twice before each has served.
+fn last_gen(slots: u32, lines: u32) -> u32
+    ensures { result ≡ lines - slots }
+{
+    lines.saturating_sub(slots)
+}
+
 /// The events of a run that begins, the desk, and a seat.
 fn new_desk(alloc: Global, slots: u32, lines: u32) -> Result<(Events, Desk, Seat), NoMemory>
     requires slots { (0 < slots) × (slots ≤ 8192) }
     requires lines { lines ≤ 8192 }
     ensures shape { IfOk result (λ r. ((shape_of r.0).slots ≡ slots) × ((shape_of r.0).waiters ≡ lines)
-        × ((shape_of r.0).last_gen ≡ 8191)) }
+        × ((shape_of r.0).last_gen ≡ lines - slots)) }
     ensures tray { IfOk result (λ r. IsTray r.0 lines [] r.1) }
     ensures at { IfOk result (λ r. IsEventsAt r.0 r.2) }
 {
-    let Ok((events, maker, mut seat, set)) = Events::new(alloc, slots, lines, LAST_GEN) else {
+    let Ok((events, maker, mut seat, set)) = Events::new(
+        alloc,
+        slots,
+        lines,
+        last_gen(slots, lines),
+    ) else {
         return Err(NoMemory);
     };
     let Ok(handles) = Vec::with_capacity(alloc, lines as usize) else {
@@ -251,7 +263,8 @@ impl<'g> Words<'g> {
         requires most { slots ≤ 8192 }
         ensures graph { IfOk result (λ r. graph_of r.0 ≡ checked.now.graph) }
         ensures shape { IfOk result (λ r. ((shape_of (events_of r.0)).slots ≡ slots)
-            × ((shape_of (events_of r.0)).waiters ≡ length checked.now.graph.lines) × ((shape_of (events_of r.0)).last_gen ≡ 8191)) }
+            × ((shape_of (events_of r.0)).waiters ≡ length checked.now.graph.lines)
+            × ((shape_of (events_of r.0)).last_gen ≡ length checked.now.graph.lines - slots)) }
         ensures at { IfOk result (λ r. IsAt r.0 r.1) }
         ensures first { IfOk result (λ r. (numbers_of r.1 ≡ 0 ∷ []) × (splits_of r.1 ≡ [])) }
     {

@@ -10,11 +10,8 @@ use graph_model::checked::Checked;
 use graph_model::lists::ValueList;
 use index_spaces::NoMemory;
 use instances::Homes;
-use run_core::{Core, StateList};
+use run_core::{Core, LAST_GEN, StateList};
 use std::alloc::Global;
-
-/// The last generation of an event slot.
-pub(crate) const LAST_GEN: u32 = 8191;
 
 /// A fresh core, and what it is resumed with, made before the run begins so that its end takes no
 /// memory: the states of lines that are not issued, phases without a value, a table in which

@@ -1,13 +1,14 @@
-use Rattle.std.proofs.Common.{rules, inr, ◌≡◌, List, [], ◌∷◌, ◌++◌, length, ap, sym, subst, ◌∙◌, refl}
+use Rattle.std.proofs.Common.{rules, arith, inr, ◌≡◌, List, [], ◌∷◌, ◌++◌, length, ap, sym, subst, ◌∙◌, refl}
 use Rattle.std.specs.Prelude.{Contains}
 use Rattle.gen_events.specs.declared.handle.Handle.{Handle}
 use Rattle.std.proofs.lemmas.List.Elements.{Contains-append_right}
 use Rattle.gen_events.specs.Seats.{HasSeen}
-use Rattle.gen_events.specs.Views.{handle_of, made_by, lists, shape_of, IsFull as FoundFull}
+use Rattle.gen_events.specs.Views.{handle_of, made_by, lists, shape_of, IsFull, GoesRound}
 use Rattle.gen_events.proofs.Members.{Contains-head}
 use Rattle.run_words.specs.Words.{graph_of, events_of}
 use Rattle.run_words.specs.declared.content.Desk.{Desk}
 use Rattle.run_words.specs.Rule.{IsTray}
+use Rattle.run_words.proofs.PendingSlots.{all_pending}
 use Rattle.run_words.proofs.Trays.{tray_more, tray_same}
 use Rattle.run_words.proofs.words.Words.issue_next.Goals as goal
 
@@ -44,4 +45,10 @@ pub returns-in-None-clause-tray : goal.returns-in-None-clause-tray
 returns-in-None-clause-tray c = let d = c.in-None.ensures in tray_same _ _ c.args.desk.now.handles.items c.args.desk.now _ c.requires.tray d.maker d.none refl c.requires.tray.seat (λ h k. k, λ h f k. k) refl
 
 pub returns-in-None-clause-full : goal.returns-in-None-clause-full
-returns-in-None-clause-full c = λ _. (refl, search rules, subst (λ (l : List Handle). FoundFull (shape_of (events_of c.args.self.now)) l (lists c.args.events.now) (lists c.create.new.seat)) c.requires.tray.made c.in-None.ensures.full)
+returns-in-None-clause-full c = λ _. let own = c.args.self.now in (
+  refl,
+  search rules,
+  all_pending (shape_of (events_of own)) c.create.new.maker.next (length (graph_of own).lines) c.args.desk.now.handles.items
+      (subst (GoesRound (shape_of (events_of own)).slots c.create.new.maker.next) (c.in-None.ensures.none ∙ c.requires.tray.made) c.in-None.ensures.maker.2) (omega (arith, c.requires.next, c.requires.line)) own.shaped.1
+      (lists c.args.events.now) (lists c.create.new.seat) (subst (λ (l : List Handle). IsFull (shape_of (events_of own)) l (lists c.args.events.now) (lists c.create.new.seat)) c.requires.tray.made c.in-None.ensures.full),
+)

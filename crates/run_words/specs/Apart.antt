@@ -1,0 +1,28 @@
+-- What the core is resumed with once the words are closed.
+use Rattle.std.specs.Prelude.{◌≡◌, ℕ, true, false, List, [], length, Some}
+use Rattle.graph_model.specs.declared.meaning.outcome.End.{End}
+use Rattle.gen_events.specs.EventMap.{answer, answer_of}
+use Rattle.gen_events.specs.Seats.{Begins, Knows}
+use Rattle.gen_events.specs.Views.{lists, shape_of}
+use Rattle.gen_events.specs.declared.handle.Fate.{Fate}
+use Rattle.gen_events.specs.declared.handle.Handle.{Handle}
+use Rattle.run_state.specs.Run.{Run, Ended, stage_at, issued, out}
+use Rattle.run_core.specs.Resumed.{ShowState}
+use Rattle.run_words.specs.Words.{graph_of, events_of, events_seat, KnowsIssued, KnowsEnded, KnowsHandles}
+use Rattle.run_words.specs.declared.closing.Parts.{Parts}
+use Rattle.run_words.specs.declared.seats.WordSeat.{WordSeat}
+use Rattle.run_words.specs.declared.words.Words.{Words}
+
+-- the parts show a sound state in which no work is out, and what the seat knew holds of it
+pub record ShowsLeft (w : Words) (s : WordSeat) (p : Parts) : Type 0 where
+  pub run : Run
+  pub handled : List Handle
+  pub shown : ShowState p.core run handled p.states p.table p.homes p.phases
+  pub fresh : p.core.handles ≡ []
+  pub graph : p.core.graph ≡ graph_of w
+  pub slots : length p.table.slots ≡ (shape_of (events_of w)).slots
+  pub nothing_out : (i : ℕ) → out run.stages i ≡ false
+  pub issued : (i : ℕ) → KnowsIssued s i → issued run.stages i ≡ true
+  pub ended : (i : ℕ) (x : End) → KnowsEnded s i x → stage_at run.stages i ≡ Ended x
+  pub handles : (hs : List Handle) → KnowsHandles s hs → Begins hs handled
+  pub fates : (h : Handle) (f : Fate) → Knows (lists (events_seat s)) h f → answer p.table h ≡ Some (answer_of f)
