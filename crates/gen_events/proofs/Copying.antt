@@ -6,11 +6,11 @@ use mathlib.Core.Logic.{dite}
 use native.Mathlib.Decide.{ℕ_discrete}
 use Rattle.gen_events.specs.Rule.{turns_of, mark, mark_word, place_of, fate_code, Shows}
 use Rattle.gen_events.specs.Plays.{fate_by, handle_at}
-use Rattle.gen_events.specs.Kept.{IsTakenOver}
+use Rattle.gen_events.specs.Kept.{IsTakenOver, IsMarked}
 use Rattle.gen_events.specs.declared.handle.Handle.{Handle}
 use Rattle.gen_events.specs.declared.handle.Fate.{Fate}
 use Rattle.gen_events.specs.declared.handle.Shape.{Shape}
-use Rattle.gen_events.proofs.Marks.{coded, places_apart, marks_low, IsMarked, mark_beside}
+use Rattle.gen_events.proofs.Marks.{coded, places_apart, marks_low, mark_beside}
 
 -- the fates of the first n generations of a slot were copied, and no other
 pub record AreCopied (from to : Shape) (old start words : List ℕ) (slot n : ℕ) : Type 0 where

@@ -11,6 +11,7 @@ use Rattle.gen_events.specs.declared.handle.Fate.{Fate}
 use Rattle.gen_events.specs.declared.handle.Fate.TheVariants.{Ok, Poison}
 use Rattle.gen_events.specs.declared.handle.Shape.{Shape}
 use Rattle.gen_events.specs.Rule.{place_of, mark_words, mark_word, mark, fate_code}
+use Rattle.gen_events.specs.Kept.{IsMarked}
 use Rattle.gen_events.specs.Plays.{fate_by, fates_by}
 use Rattle.gen_events.proofs.Members.{Contains-cases, Contains-none, Contains-head, Contains-tail}
 use Rattle.gen_events.proofs.Words.{by_test}
@@ -94,12 +95,6 @@ code_answer n Ok e = ap fate_by e
 code_answer n Poison e = ap fate_by e
 
 -- THE FATE OF ONE HANDLE WAS WRITTEN
-pub record IsMarked (key : Shape) (old new : List ℕ) (h : Handle) (f : Fate) : Type 0 where
-  pub here : mark key new h ≡ fate_code f
-  pub beside : (b : ℕ) → b < 64 → b ≢ place_of key.last_gen h % 64 → bit_at (get_or new (mark_word key h) 0) b ≡ bit_at (get_or old (mark_word key h) 0) b
-  pub others : (i : ℕ) → i ≢ mark_word key h → get_or new i 0 ≡ get_or old i 0
-  pub size : length old ≤ length new
-
 pub is_marked : (key : Shape) (old new : List ℕ) (h : Handle) (f : Fate) (at bit : ℕ) → at ≡ mark_word key h → bit ≡ place_of key.last_gen h % 64
     → bit_at (get_or new at 0) bit ≡ fate_code f → ((b : ℕ) → b < 64 → b ≢ bit → bit_at (get_or new at 0) b ≡ bit_at (get_or old at 0) b) → ((i : ℕ) → i ≢ at → get_or new i 0 ≡ get_or old i 0) → length old ≤ length new → IsMarked key old new h f
 is_marked key old new h f at bit a b here beside others size = record {

@@ -7,10 +7,10 @@ use Rattle.std.proofs.Math.Seq.{get_or-append_seam}
 use mathlib.Core.Logic.{dite}
 use native.Mathlib.Decide.{ℕ_discrete, dec_le}
 use Rattle.basics.specs.Sums.{total}
-use Rattle.gen_events.specs.Rule.{mark, mark_words, mark_word, fate_code, code, Shows, Follows}
+use Rattle.gen_events.specs.Rule.{mark, mark_word, fate_code, code, Shows, Follows}
 use Rattle.gen_events.specs.Plays.{handle_at}
 use Rattle.gen_events.specs.EventMap.{EventMap, SlotLife, unused, life_at, with_life, answer, ended_with, all_on, MayServe}
-use Rattle.gen_events.specs.Kept.{map_in, IsSlot, AreFree, AreKept, IsSized}
+use Rattle.gen_events.specs.Kept.{map_in, IsSlot, AreFree, AreKept, IsSized, IsMarked}
 use Rattle.gen_events.specs.declared.handle.Handle.{Handle}
 use Rattle.gen_events.specs.declared.handle.Fate.{Fate}
 use Rattle.gen_events.specs.declared.handle.Fate.TheVariants.{Ok}
@@ -18,7 +18,7 @@ use Rattle.gen_events.specs.declared.handle.Answer.TheVariants.{Pending}
 use Rattle.gen_events.specs.declared.handle.Shape.{Shape}
 use Rattle.gen_events.specs.declared.chain.Chain.{Chain}
 use Rattle.basics.proofs.Sums.{total-put, total-append, entry_le, below-one}
-use Rattle.gen_events.proofs.Marks.{marks_low, places_apart, word_in, IsMarked, mark_beside}
+use Rattle.gen_events.proofs.Marks.{marks_low, places_apart, mark_beside}
 use Rattle.gen_events.proofs.ChainSteps.{linked_all, at_default}
 use Rattle.gen_events.proofs.Reading.{total-all_on, map_read, as_read}
 use Rattle.gen_events.proofs.MapAnswers.{at_slot, IsNow, is_now}
@@ -135,27 +135,18 @@ module _ (key : Shape) (words free : List ℕ) (cs : List Chain) (h : Handle) (f
   pub free_fits : length free < key.slots
   free_fits = end_free key words free cs (map_in key words cs) h f o now
 
-  pub mark_inside : mark_word key h < key.slots + key.waiters + mark_words key
-  mark_inside = word_in key h (end_near key words free cs (map_in key words cs) h f o now) (end_low key words free cs (map_in key words cs) h f o now)
+  pub handle_inside : (h.slot < key.slots) × (h.gen_ ≤ key.last_gen)
+  handle_inside = (end_near key words free cs (map_in key words cs) h f o now, end_low key words free cs (map_in key words cs) h f o now)
 
-  -- the low half of the slot's word, once the poison word is written
-  pub low_half : (marked : List ℕ) (w : ℕ) → IsMarked key words marked h f → w ≡ get_or marked h.slot w → w % 4294967296 - 1 ≡ code (life_at (map_in key words cs) h.slot).waiting
+  -- the low half of the slot's word
+  pub low_half : (marked : List ℕ) (w : ℕ) → IsMarked key words marked h f → w ≡ get_or marked h.slot w → (1 ≤ w % 4294967296) × (w % 4294967296 - 1 ≡ code (life_at (map_in key words cs) h.slot).waiting)
   low_half marked w is found =
       let near = end_near key words free cs (map_in key words cs) h f o now in
       let t = end_word key words free cs (map_in key words cs) h f o now in
       let c = sized.2 in
       let code-low = t.1 in
       let at : w ≡ get_or words h.slot 0 = at_default marked h.slot w (omega (arith, is.size, o.shown.wide)) found ∙ is.others h.slot (λ z. omega arith) in
-      omega (arith, t.0)
-
-  pub low_some : (marked : List ℕ) (w : ℕ) → IsMarked key words marked h f → w ≡ get_or marked h.slot w → 1 ≤ w % 4294967296
-  low_some marked w is found =
-      let near = end_near key words free cs (map_in key words cs) h f o now in
-      let t = end_word key words free cs (map_in key words cs) h f o now in
-      let c = sized.2 in
-      let code-low = t.1 in
-      let at : w ≡ get_or words h.slot 0 = at_default marked h.slot w (omega (arith, is.size, o.shown.wide)) found ∙ is.others h.slot (λ z. omega arith) in
-      omega (arith, t.0)
+      (omega (arith, t.0), omega (arith, t.0))
 
   pub chain_fits : (n : ℕ) → n ≡ code (life_at (map_in key words cs) h.slot).waiting → 0 < n → length cs < key.waiters
   chain_fits n e l = end_room key words free cs (map_in key words cs) h f o now (subst (λ x. 0 < x) e l)

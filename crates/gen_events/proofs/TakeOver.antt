@@ -36,8 +36,8 @@ module _ (from to : Shape) (old words : List ℕ) (m : EventMap) (small : from.w
   slot_turns : (i : ℕ) → i < from.slots → turns_of (get_or old i 0) ≡ turns_in (life_at m i)
   slot_turns i near = turns_at from old small i (life_at m i) (o.each i near) (chain_short from old [] m o i)
 
-  pub few_turns : (i : ℕ) → i < from.slots → turns_of (get_or old i 0) ≤ 2 * from.last_gen + 2
-  few_turns i near = let few = (o.each i near).word.few in omega (arith, slot_turns i near)
+  pub turns_bounded : (i : ℕ) → i < from.slots → turns_of (get_or old i 0) ≤ 2 * from.last_gen + 2
+  turns_bounded i near = let few = (o.each i near).word.few in omega (arith, slot_turns i near)
 
 module _ (from to : Shape) (old words : List ℕ) (m : EventMap) (small : from.waiters ≤ 8192) (o : AreShown from old [] m) (slots : to.slots ≡ from.slots) (waiters : to.waiters ≡ from.waiters)
     (wide : to.slots + to.waiters ≤ length words) (taken : (i : ℕ) → i < to.slots → IsTakenOver to from words old i) where

@@ -1,8 +1,9 @@
 -- How the words of a one-thread table show its map.
-use Rattle.std.specs.Prelude.{◌≡◌, ℕ, zero, suc, ◌+◌, ◌*◌, ◌/◌, ◌%◌, ◌<◌, ◌≤◌, ◌==◌, cond, List, [], ◌∷◌, ◌++◌, length, slice_index, slice_index_or, Contains}
+use Rattle.std.specs.Prelude.{◌≡◌, ◌≢◌, ℕ, zero, suc, ◌+◌, ◌*◌, ◌/◌, ◌%◌, ◌<◌, ◌≤◌, ◌==◌, cond, List, [], ◌∷◌, ◌++◌, length, slice_index, slice_index_or, Contains}
+use Rattle.std.specs.Int.{bit_at}
 use Rattle.basics.specs.Sums.{total, below}
 use Rattle.gen_events.specs.declared.limits.TheConstants.{MAX_SLOTS, MAX_WAITERS, MAX_HANDLES}
-use Rattle.gen_events.specs.Rule.{turns_of, mark, fate_code, Linked, Shows}
+use Rattle.gen_events.specs.Rule.{turns_of, mark, mark_word, place_of, fate_code, Linked, Shows}
 use Rattle.gen_events.specs.Plays.{fate_by, handle_at}
 use Rattle.gen_events.specs.Chains.{chain_in, chain_at}
 use Rattle.gen_events.specs.EventMap.{EventMap, SlotLife, life_at, MayServe, all_on, weight}
@@ -60,7 +61,7 @@ AreCaught shape words (c ∷ cs) ps = (ks : List ℕ) × (rest : List (ℕ × Ha
 pub record AreShown (shape : Shape) (words : List ℕ) (caught : List Chain) (m : EventMap) : Type 0 where
   pub waiters : m.waiters ≡ shape.waiters
   pub last : m.last_gen ≡ shape.last_gen
-  -- the poison words behind the last one that is there are 0
+  -- poison words behind the end of the list count as 0
   pub wide : shape.slots + shape.waiters ≤ length words
   pub high : length m.slots ≡ shape.slots
   pub each : (i : ℕ) → i < shape.slots → IsSlot shape words i (life_at m i)
@@ -81,7 +82,14 @@ pub record AreKept (shape : Shape) (words free : List ℕ) (caught : List Chain)
 abbrev pub IsSized : Shape → Type 0
 IsSized shape = (0 < shape.slots) × (shape.slots ≤ MAX_SLOTS) × (shape.waiters ≤ MAX_WAITERS) × (shape.slots * (shape.last_gen + 1) ≤ MAX_HANDLES)
 
--- the words show of the slot i, without its waiters, what the old words of another last generation show
+-- the fate of one handle was written to its poison bit, and no other bit changed
+pub record IsMarked (shape : Shape) (old new : List ℕ) (h : Handle) (f : Fate) : Type 0 where
+  pub here : mark shape new h ≡ fate_code f
+  pub beside : (b : ℕ) → b < 64 → b ≢ place_of shape.last_gen h % 64 → bit_at (slice_index new (mark_word shape h)) b ≡ bit_at (slice_index old (mark_word shape h)) b
+  pub others : (i : ℕ) → i ≢ mark_word shape h → slice_index new i ≡ slice_index old i
+  pub size : length old ≤ length new
+
+-- the words of a table show of the slot i, without its waiters, what the old words of a table with another last generation show
 pub record IsTakenOver (to from : Shape) (words old : List ℕ) (i : ℕ) : Type 0 where
   pub word : Shows to.last_gen (turns_of (slice_index old i)) [] (slice_index words i)
   pub marks : (g : ℕ) → 2 * g + 2 ≤ turns_of (slice_index old i) → mark to words (handle_at i g) ≡ mark from old (handle_at i g)

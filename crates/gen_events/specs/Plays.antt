@@ -98,7 +98,7 @@ heeded m n = (n ≡ m) × Coherent m.0
 abbrev pub scouted_at : View → ℕ → ℕ → View
 scouted_at v i r = record (found_at v i r) { spare = cond (r % 4294967296 == 0) ((i, r) ∷ []) [] }
 
--- the slot was free, or its last handle was retired, or another was pending there, and both are of the Maker's list
+-- the slot was free, or retired and its last handle is of the Maker's list, or a handle of that list was pending there
 abbrev pub Accounts : View → ℕ → ℕ → Type 0
 Accounts v i r = (x : Shape) → Contains v.keys x → v.makes ≡ 1 → (r % 4294967296 ≡ 4294967295 → (turns_of r ≡ 2 * x.last_gen + 2) × Contains v.made (handle_at i x.last_gen)) × (r % 4294967296 ≢ 0 → r % 4294967296 ≢ 4294967295 → (turns_of r ≡ 2 * (r / 4294967296) + 1) × Contains v.made (handle_at i (r / 4294967296)))
 

@@ -1,5 +1,6 @@
 -- Tokens at their table, and what a call tells by them.
 use Rattle.std.specs.Prelude.{◌≡◌, ◌≢◌, ℕ, ◌+◌, ◌*◌, ◌<◌, ◌≤◌, ◌⊎◌, List, [], ◌∷◌, ◌++◌, length, Contains}
+use Rattle.std.specs.List.{slice_index_or}
 use Rattle.atomic_table.specs.declared.shared.Seat as table
 use Rattle.gen_events.specs.Rule.{turns_of}
 use Rattle.gen_events.specs.Seats.{Knows, IsPast, FoundPending, no_event}
@@ -29,12 +30,12 @@ lists s = s.inner.me.0
 abbrev pub IsAt : Events → Seat → Type 0
 IsAt e s = IsOf e s.inner
 
--- The Maker goes round the slots, so none serves twice before each has served
+-- No slot served twice before each had served once: the first handles are of the slots in order, and a handle of a later generation has as many handles before it as there are slots, and one for each generation between
 pub record GoesRound (slots next : ℕ) (made : List Handle) : Type 0 where
-  pub first : length made < slots → (next ≡ length made) × ((h : Handle) → Contains made h → (h.slot < next) × (h.gen_ ≡ 0))
-  pub later : slots ≤ length made → (h : Handle) → Contains made h → h.gen_ + slots ≤ length made
+  pub first : length made < slots → (next ≡ length made) × ((h : Handle) → Contains made h → h.slot < next)
+  pub later : (k : ℕ) (h : Handle) → k < length made → slice_index_or made k h ≡ h → 0 < h.gen_ → h.gen_ + slots ≤ k + 1
 
--- between two calls it has told all that it found
+-- between two calls it has told all that it found, and no slot served twice before each had served
 abbrev pub IsMakerOf : Events → Maker → Type 0
 IsMakerOf e s = IsOf e s.inner × (s.inner.me.0.saw ≡ []) × GoesRound e.shape.slots s.next s.inner.me.0.made
 
@@ -105,9 +106,9 @@ ArePast made w i g = (h : Handle) → Contains made h → h.slot ≡ i → h.gen
 abbrev pub IsNew : List Handle → List Handle → Handle → Type 0
 IsNew old new h = (new ≡ old ++ h ∷ []) × (Contains old h → ⊥)
 
--- the word of the slot i showed that the slot is retired, or that a handle is pending there, and it is of the list
+-- the word of the slot i showed a handle of the list pending there, or ended as the last of the slot
 abbrev pub IsTaken : Shape → List Handle → ℕ → ℕ → Type 0
-IsTaken shape made i r = ((turns_of r ≡ 2 * shape.last_gen + 2) × Contains made (record { slot = i; gen_ = shape.last_gen })) ⊎ ((h : Handle) × (h.slot ≡ i) × (turns_of r ≡ 2 * h.gen_ + 1) × Contains made h)
+IsTaken shape made i r = (h : Handle) × (h.slot ≡ i) × Contains made h × ((turns_of r ≡ 2 * h.gen_ + 1) ⊎ ((h.gen_ ≡ shape.last_gen) × (turns_of r ≡ 2 * h.gen_ + 2)))
 
 -- in between, each slot from low on and below high was looked at, and found taken
 abbrev pub Scanned : Shape → List Handle → View → View → ℕ → ℕ → Type 0

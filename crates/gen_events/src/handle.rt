@@ -50,7 +50,7 @@ impl Shape {
     ghost use Rattle.std.specs.Prelude.{◌≡◌, ◌+◌, ◌*◌, ◌<◌, ◌≤◌};
     ghost use Rattle.gen_events.specs.Rule.{mark_words, mark_word, place_of};
 
-    // The number of words of a table.
+    // The number of words of a table with all its poison words.
     pub(crate) fn words(&self) -> usize
         requires { (self.now.slots ≤ MAX_SLOTS) × (self.now.waiters ≤ MAX_WAITERS) × (self.now.slots * (self.now.last_gen + 1) ≤ MAX_HANDLES) }
         ensures { result ≡ self.now.slots + self.now.waiters + mark_words self.now }

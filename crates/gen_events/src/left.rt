@@ -1,6 +1,6 @@
 //! What a table leaves once it is closed.
 
-ghost use Rattle.std.specs.Prelude.{◌≡◌, ◌≢◌, ℕ, ◌+◌, ◌*◌, ◌/◌, ◌<◌, ◌≤◌, [], length, Contains, true, false, IfSome, IfNone, Some, slice_index, vec_len};
+ghost use Rattle.std.specs.Prelude.{◌≡◌, ◌≢◌, ℕ, ◌+◌, ◌*◌, ◌/◌, ◌<◌, ◌≤◌, [], length, Contains, true, false, IfSome, IfNone, Some, slice_index};
 ghost use Rattle.std.specs.Vec.{vec_capacity};
 ghost use Rattle.std.specs.Slots.{slots_items, slots_len, IsFull};
 ghost use Rattle.gen_events.specs.Chains.{AreWaiters, chain_in};
@@ -78,7 +78,8 @@ fn stands(closed: &Closed<(), Global>, shape: &Shape, first: u64, waiter: u32) -
     false
 }
 
-// Copies the fates of a slot's generations to the poison words of a table with more generations.
+// Copies the fates of a slot's generations to the poison words of a table with at least as many
+// generations.
 fn copy_fates(
     to: &mut Vec<u64>,
     shape: &Shape,
@@ -105,12 +106,13 @@ fn copy_fates(
         let handle = Handle { slot, gen_ };
         let word = *closed.words.get(from.mark_at(handle));
         let fate = fate_shown(word, from.place(handle) % 64);
-        set_fate(to, shape.mark_at(handle), shape.place(handle) % 64, fate);
+        set_fate(to, shape, handle, fate);
         gen_ += 1;
     }
 }
 
-// Copies a slot of a closed table, without its waiters, to the words of a table with more generations.
+// Copies a slot of a closed table, without its waiters, to the words of a table with at least as
+// many generations.
 pub(crate) fn copy_slot(
     to: &mut Vec<u64>,
     shape: &Shape,

@@ -80,7 +80,7 @@ impl Events {
         ensures slot { IfSome result (λ r. r.0 < (shape_of self.now).slots) }
         ensures free { IfSome result (λ r. (r.1 % 4294967296 ≡ 0) × Contains (maker_lists maker.new).spare r) }
         ensures past { IfSome result (λ r. ArePast (made_by maker.new) (maker_lists maker.new) r.0 (r.1 / 4294967296)) }
-        ensures next { (maker.new.next ≡ maker.old.next) × (low < high → IfSome result (λ r. ComesNext (made_by maker.new) low r.0)) }
+        ensures next { (maker.new.next ≡ maker.old.next) × IfSome result (λ r. ComesNext (made_by maker.new) low r.0) }
         ensures none { IfNone result (Scanned (shape_of self.now) (made_by maker.old) (maker_lists maker.old) (maker_lists maker.new) low high) }
     {
         let mut slot = low;

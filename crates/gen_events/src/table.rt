@@ -10,7 +10,6 @@ use crate::left::copy_slot;
 use crate::limits::{MAX_HANDLES, MAX_SLOTS, MAX_WAITERS};
 use crate::word::{
     answer, fate_shown, free_slots, is_no_event, lengthen, next_word, release, set_fate, turns,
-    word_or_zero,
 };
 use atomic_table::Closed;
 use std::alloc::{AllocError, Global};
@@ -22,7 +21,7 @@ use std::marker::Model;
 pub struct EventTable {
     shape: Shape,
     // The slot words, the link words and the poison words, as a shared table has them. The poison
-    // words behind the last in which one was set are left out, since most are never used.
+    // words behind the last that has a bit set are left out, since most are never used.
     words: Vec<u64>,
     // The slots that may serve.
     free: Vec<u32>,
@@ -169,9 +168,7 @@ impl EventTable {
         ensures created { KeepsCreated self.old self.new }
         ensures free { KeepsFree self.old self.new }
     {
-        let at = self.shape.mark_at(handle);
-        let bit = self.shape.place(handle) % 64;
-        set_fate(&mut self.words, at, bit, fate);
+        set_fate(&mut self.words, &self.shape, handle, fate);
         let slot = handle.slot as usize;
         let low = self.words[slot] % 4294967296;
         self.words[slot] = next_word(self.shape.last_gen, handle.gen_);
@@ -211,7 +208,8 @@ impl EventTable {
         }
         let at = self.shape.mark_at(handle);
         let bit = self.shape.place(handle) % 64;
-        answer(fate_shown(word_or_zero(self.words.as_slice(), at), bit))
+        let word = self.words.get(at).copied().unwrap_or(0);
+        answer(fate_shown(word, bit))
     }
 
     // The map of a closed table with these words, with each waiter free, in the place of a table of

@@ -4,11 +4,12 @@ ghost use Rattle.std.specs.Prelude.{◌≡◌, ◌≢◌, ℕ, ◌+◌, ◌*◌,
 ghost use Rattle.std.specs.Int.{bit_at};
 ghost use Rattle.std.specs.Vec.{vec_capacity};
 ghost use Rattle.basics.specs.Sums.{total, below};
-ghost use Rattle.gen_events.specs.Rule.{turns_of, fate_code, Follows, Shows};
+ghost use Rattle.gen_events.specs.Rule.{turns_of, fate_code, mark_words, Follows, Shows};
+ghost use Rattle.gen_events.specs.Kept.{IsSized, IsMarked};
 ghost use Rattle.gen_events.specs.Plays.{fate_by};
 ghost use Rattle.gen_events.specs.EventMap.{no_event, answer_of};
 
-use crate::handle::{Answer, Fate, Handle};
+use crate::handle::{Answer, Fate, Handle, Shape};
 use crate::room::push_within;
 
 // How often the slot with this word was created and ended.
@@ -69,16 +70,6 @@ pub(crate) fn with_fate(word: u64, bit: u64, fate: Fate) -> u64
     }
 }
 
-// The word at a place, and 0 behind the last.
-pub(crate) fn word_or_zero(words: &[u64], at: usize) -> u64
-    ensures { result ≡ slice_index words.now at }
-{
-    match words.get(at) {
-        Some(word) => *word,
-        None => 0,
-    }
-}
-
 // Puts zeros at the end until there are this many words.
 pub(crate) fn lengthen(words: &mut Vec<u64>, size: usize)
     requires room { size ≤ vec_capacity words.old }
@@ -92,7 +83,7 @@ pub(crate) fn lengthen(words: &mut Vec<u64>, size: usize)
 }
 
 // Sets the fate that a bit of a poison word shows. The words behind the last count as 0.
-pub(crate) fn set_fate(words: &mut Vec<u64>, at: usize, bit: u64, fate: Fate)
+fn set_bit(words: &mut Vec<u64>, at: usize, bit: u64, fate: Fate)
     requires bit { bit < 64 }
     requires room { at < vec_capacity words.old }
     ensures here { bit_at (slice_index words.new.items at) bit ≡ fate_code fate }
@@ -108,6 +99,18 @@ pub(crate) fn set_fate(words: &mut Vec<u64>, at: usize, bit: u64, fate: Fate)
         lengthen(words, at + 1);
     }
     words[at] = with_fate(words[at], bit, fate);
+}
+
+// Writes the fate of a handle to its poison bit.
+pub(crate) fn set_fate(words: &mut Vec<u64>, shape: &Shape, handle: Handle, fate: Fate)
+    requires sized { IsSized shape.now }
+    requires within { (handle.slot < shape.now.slots) × (handle.gen_ ≤ shape.now.last_gen) }
+    requires room { shape.now.slots + shape.now.waiters + mark_words shape.now ≤ vec_capacity words.old }
+    ensures marked { IsMarked shape.now words.old.items words.new.items handle fate }
+    ensures room { vec_capacity words.old ≤ vec_capacity words.new }
+{
+    let bit = shape.place(handle) % 64;
+    set_bit(words, shape.mark_at(handle), bit, fate);
 }
 
 // The answer for a handle that ended so.

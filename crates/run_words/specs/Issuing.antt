@@ -5,7 +5,7 @@ use Rattle.gen_events.specs.declared.handle.Handle.{Handle}
 use Rattle.gen_events.specs.declared.handle.Shape.{Shape}
 use Rattle.gen_events.specs.declared.view.View.{View}
 
--- in between, each event slot was found pending under one of the handles
+-- in between, each event slot was found with one of these handles pending
 abbrev pub AllPending : Shape → List Handle → View → View → Type 0
 AllPending shape handles v w = (found : List (ℕ × ℕ)) × (w.saw ≡ v.saw ++ found)
     × ((i : ℕ) → i < shape.slots → (r : ℕ) × Contains found (i, r) × (h : Handle) × (h.slot ≡ i) × (turns_of r ≡ 2 * h.gen_ + 1) × Contains handles h)

@@ -1,16 +1,17 @@
-use Rattle.std.proofs.Common.{◌%◌, ℕ, ap, arith}
+use Rattle.std.proofs.Common.{refl, ap, arith}
 use Rattle.std.specs.Slots.{slots_items, slots_counts}
 use Rattle.gen_events.specs.Rule.{turns_of}
 use Rattle.gen_events.specs.Plays.{handle_at}
 use Rattle.gen_events.proofs.ChainSteps.{at_default}
-use Rattle.gen_events.proofs.Marks.{is_marked}
 use Rattle.gen_events.proofs.Copying.{fate_is, one_more_fate}
 use Rattle.gen_events.proofs.left.copy_fates.Goals as goal
+
+pub loop-gen_-init : goal.loop-gen_-init
+loop-gen_-init c = record { copied = record { done = λ g l. absurd (omega arith); others = λ h n l. refl; low = λ i l. refl }; size = omega arith; room = omega arith }
 
 pub loop-gen_-preserved : goal.loop-gen_-preserved
 loop-gen_-preserved c =
     let from = c.args.from.now in
-    let to = c.args.shape.now in
     let old = slots_items c.args.closed.now.words in
     let l = c.loop-gen_ in
     let f = c.fate_shown-fate.result in
@@ -18,6 +19,8 @@ loop-gen_-preserved c =
     let word = at_default old c.mark_at.result c.get-word.result.now (omega (arith, c.mark_at.ensures.within, c.requires.wide, (slots_counts c.args.closed.now.words).0)) c.get-word.ensures in
     let first = at_default old c.args.slot c.get.result.now (omega (arith, c.requires.slot.0, c.requires.wide, (slots_counts c.args.closed.now.words).0)) c.get.ensures in
     let fate = fate_is from old h f c.get-word.result.now c.mark_at.result c.place.result c.mark_at.ensures.at c.place.ensures word c.fate_shown-fate.ensures in
-    let marked = is_marked to l.to.items c.set_fate.new.words.items h f c.mark_at-in-loop-gen_.result (c.place-in-loop-gen_.result % 64) c.mark_at-in-loop-gen_.ensures.at (ap (λ (p : ℕ). p % 64) c.place-in-loop-gen_.ensures) c.set_fate.ensures.here c.set_fate.ensures.beside c.set_fate.ensures.others c.set_fate.ensures.size in
-    let more = one_more_fate from to old c.args.to.now.items l.to.items c.set_fate.new.words.items c.args.slot l.gen_ f (omega (arith, c.loop-gen_-test.true, c.requires.few, c.requires.slot.2, c.turns-turns.ensures, ap turns_of first)) (record { done = l.invariant.done; others = l.invariant.others; low = l.invariant.low }) marked fate in
-    record { done = more.done; others = more.others; low = more.low; size = omega (arith, l.invariant.size, c.set_fate.ensures.size); room = omega (arith, l.invariant.room, c.set_fate.ensures.room) }
+    record {
+      copied = one_more_fate from c.args.shape.now old c.args.to.now.items l.to.items c.set_fate.new.words.items c.args.slot l.gen_ f (omega (arith, c.loop-gen_-test.true, c.requires.few, c.requires.slot.2, c.turns-turns.ensures, ap turns_of first)) l.invariant.copied c.set_fate.ensures.marked fate;
+      size = omega (arith, l.invariant.size, c.set_fate.ensures.marked.size);
+      room = omega (arith, l.invariant.room, c.set_fate.ensures.room);
+    }

@@ -30,4 +30,4 @@ returns-clause-none c = scans_fewer c.args.self.now.shape c.args.maker.now.inner
 
 pub returns-then-found-eq0-clause-next : goal.returns-then-found-eq0-clause-next
 returns-then-found-eq0-clause-next c = let i = c.loop-slot.invariant in let t = c.load-found.ensures.2 in
-    (i.made.1, λ _. comes_next c.args.self.now.shape c.args.maker.now.inner.me.0.made c.load-found.new.seat.me.0.made c.args.maker.now.inner.me.0 c.loop-slot.maker.inner.me.0 c.args.low c.loop-slot.slot i.scanned i.from (ap (λ m. m.0.made) t.0 ∙ i.made.0))
+    (i.made.1, comes_next c.args.self.now.shape c.args.maker.now.inner.me.0.made c.load-found.new.seat.me.0.made c.args.maker.now.inner.me.0 c.loop-slot.maker.inner.me.0 c.args.low c.loop-slot.slot i.scanned i.from (ap (λ m. m.0.made) t.0 ∙ i.made.0))

@@ -1,24 +1,20 @@
-use Rattle.std.proofs.Common.{◌-◌, ◌%◌, ℕ, ap, arith}
-use Rattle.gen_events.proofs.Marks.{is_marked}
+use Rattle.std.proofs.Common.{◌-◌, ◌%◌, arith}
 use Rattle.gen_events.proofs.MapAnswers.{end_tells}
-use Rattle.gen_events.proofs.TableEnd.{free_fits, mark_inside, low_half, low_some, chain_fits, end_done}
+use Rattle.gen_events.proofs.TableEnd.{free_fits, handle_inside, low_half, chain_fits, end_done}
 use Rattle.gen_events.proofs.table.EventTable.end.Goals as goal
 
 pub set_fate-requires : goal.set_fate-requires
 set_fate-requires c = let s = c.self.inside in let k = c.self.invariant in
-    let in' = mark_inside s.shape s.words.items s.free.items s.caught.items c.args.handle c.args.fate k.sized k.kept c.args.self.now c.self.view_is c.requires.pending in
-    record { bit = omega arith; room = omega (arith, in', k.room_words, c.mark_at-at.ensures.at) }
+    record { sized = k.sized; within = handle_inside s.shape s.words.items s.free.items s.caught.items c.args.handle c.args.fate k.sized k.kept c.args.self.now c.self.view_is c.requires.pending; room = k.room_words }
 
 pub overflow_sub-low : goal.overflow_sub-low
 overflow_sub-low c = let s = c.self.inside in let k = c.self.invariant in
-    let marked = is_marked s.shape s.words.items c.set_fate.new.words.items c.args.handle c.args.fate c.mark_at-at.result (c.place-bit.result % 64) c.mark_at-at.ensures.at (ap (λ (p : ℕ). p % 64) c.place-bit.ensures) c.set_fate.ensures.here c.set_fate.ensures.beside c.set_fate.ensures.others c.set_fate.ensures.size in
-    low_some s.shape s.words.items s.free.items s.caught.items c.args.handle c.args.fate k.sized k.kept c.args.self.now c.self.view_is c.requires.pending c.set_fate.new.words.items c.index.result.now marked c.index.ensures
+    (low_half s.shape s.words.items s.free.items s.caught.items c.args.handle c.args.fate k.sized k.kept c.args.self.now c.self.view_is c.requires.pending c.set_fate.new.words.items c.index.result.now c.set_fate.ensures.marked c.index.ensures).0
 
 pub catch-requires-clause-room : goal.catch-requires-clause-room
 catch-requires-clause-room c = λ l. let s = c.self.inside in let k = c.self.invariant in
-    let marked = is_marked s.shape s.words.items c.set_fate.new.words.items c.args.handle c.args.fate c.mark_at-at.result (c.place-bit.result % 64) c.mark_at-at.ensures.at (ap (λ (p : ℕ). p % 64) c.place-bit.ensures) c.set_fate.ensures.here c.set_fate.ensures.beside c.set_fate.ensures.others c.set_fate.ensures.size in
-    let low = low_half s.shape s.words.items s.free.items s.caught.items c.args.handle c.args.fate k.sized k.kept c.args.self.now c.self.view_is c.requires.pending c.set_fate.new.words.items c.index.result.now marked c.index.ensures in
-    omega (arith, s.caught.ok.0, k.room_caught, chain_fits s.shape s.words.items s.free.items s.caught.items c.args.handle c.args.fate k.sized k.kept c.args.self.now c.self.view_is c.requires.pending (c.index.result.now % 4294967296 - 1) low l)
+    let low = low_half s.shape s.words.items s.free.items s.caught.items c.args.handle c.args.fate k.sized k.kept c.args.self.now c.self.view_is c.requires.pending c.set_fate.new.words.items c.index.result.now c.set_fate.ensures.marked c.index.ensures in
+    omega (arith, s.caught.ok.0, k.room_caught, chain_fits s.shape s.words.items s.free.items s.caught.items c.args.handle c.args.fate k.sized k.kept c.args.self.now c.self.view_is c.requires.pending (c.index.result.now % 4294967296 - 1) low.1 l)
 
 pub release-requires : goal.release-requires
 release-requires c = let s = c.self.inside in let k = c.self.invariant in
@@ -26,17 +22,15 @@ release-requires c = let s = c.self.inside in let k = c.self.invariant in
 
 pub invariant_of-self : goal.invariant_of-self
 invariant_of-self c = let s = c.self.inside in let k = c.self.invariant in
-    let marked = is_marked s.shape s.words.items c.set_fate.new.words.items c.args.handle c.args.fate c.mark_at-at.result (c.place-bit.result % 64) c.mark_at-at.ensures.at (ap (λ (p : ℕ). p % 64) c.place-bit.ensures) c.set_fate.ensures.here c.set_fate.ensures.beside c.set_fate.ensures.others c.set_fate.ensures.size in
-    let low = low_half s.shape s.words.items s.free.items s.caught.items c.args.handle c.args.fate k.sized k.kept c.args.self.now c.self.view_is c.requires.pending c.set_fate.new.words.items c.index.result.now marked c.index.ensures in
+    let low = low_half s.shape s.words.items s.free.items s.caught.items c.args.handle c.args.fate k.sized k.kept c.args.self.now c.self.view_is c.requires.pending c.set_fate.new.words.items c.index.result.now c.set_fate.ensures.marked c.index.ensures in
     let d = end_done s.shape s.words.items s.free.items s.caught.items c.args.handle c.args.fate k.sized k.kept c.args.self.now c.self.view_is c.requires.pending c.release.new.free.items c.catch.new.caught.items c.set_fate.new.words.items (c.index.result.now % 4294967296 - 1) c.next_word.result
-    marked c.next_word.ensures low c.release.ensures.items c.catch.ensures.items in
+    c.set_fate.ensures.marked c.next_word.ensures low.1 c.release.ensures.items c.catch.ensures.items in
     record { sized = k.sized; kept = d.kept; room_words = omega (arith, k.room_words, c.set_fate.ensures.room); room_free = omega (arith, k.room_free, c.release.ensures.room); room_caught = omega (arith, k.room_caught, c.catch.ensures.room) }
 
 pub returns : goal.returns
 returns c = let s = c.self.inside in let k = c.self.invariant in
-    let marked = is_marked s.shape s.words.items c.set_fate.new.words.items c.args.handle c.args.fate c.mark_at-at.result (c.place-bit.result % 64) c.mark_at-at.ensures.at (ap (λ (p : ℕ). p % 64) c.place-bit.ensures) c.set_fate.ensures.here c.set_fate.ensures.beside c.set_fate.ensures.others c.set_fate.ensures.size in
-    let low = low_half s.shape s.words.items s.free.items s.caught.items c.args.handle c.args.fate k.sized k.kept c.args.self.now c.self.view_is c.requires.pending c.set_fate.new.words.items c.index.result.now marked c.index.ensures in
+    let low = low_half s.shape s.words.items s.free.items s.caught.items c.args.handle c.args.fate k.sized k.kept c.args.self.now c.self.view_is c.requires.pending c.set_fate.new.words.items c.index.result.now c.set_fate.ensures.marked c.index.ensures in
     let d = end_done s.shape s.words.items s.free.items s.caught.items c.args.handle c.args.fate k.sized k.kept c.args.self.now c.self.view_is c.requires.pending c.release.new.free.items c.catch.new.caught.items c.set_fate.new.words.items (c.index.result.now % 4294967296 - 1) c.next_word.result
-    marked c.next_word.ensures low c.release.ensures.items c.catch.ensures.items in
+    c.set_fate.ensures.marked c.next_word.ensures low.1 c.release.ensures.items c.catch.ensures.items in
     let t = end_tells c.args.self.now _ c.args.handle c.args.fate d.map d.now in
     record { map = d.map; ended = t.ended; others = t.others; created = t.keeps; free = t.free }

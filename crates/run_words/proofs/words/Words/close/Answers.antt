@@ -4,14 +4,14 @@ use Rattle.run_state.specs.Run.{stage_at, issued, out}
 use Rattle.run_words.proofs.words.Words.close.Goals as goal
 
 pub resume-requires-clause-fresh : goal.resume-requires-clause-fresh
-resume-requires-clause-fresh c = c.take_apart-core.ensures.fresh
+resume-requires-clause-fresh c = c.into_parts-core.ensures.fresh
 
 pub resume-requires-clause-shown : goal.resume-requires-clause-shown
-resume-requires-clause-shown c = let p = c.take_apart-core.ensures in (p.run, p.handled, p.shown)
+resume-requires-clause-shown c = let p = c.into_parts-core.ensures in (p.run, p.handled, p.shown)
 
 pub returns : goal.returns
 returns c =
-    let p = c.take_apart-core.ensures in
+    let p = c.into_parts-core.ensures in
     let is = c.resume.ensures.state p.run p.handled p.shown in
     record {
       graph = is.graph ∙ p.graph;

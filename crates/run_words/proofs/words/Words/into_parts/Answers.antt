@@ -26,7 +26,7 @@ use Rattle.run_words.specs.Reading.{state_for, value_for}
 use Rattle.run_words.specs.Rule.{IsTray}
 use Rattle.run_words.specs.declared.spare.Spare.{Spare}
 use Rattle.run_words.proofs.Resuming.{line_item, shows, none_is_out, none_waits}
-use Rattle.run_words.proofs.words.Words.take_apart.Goals as goal
+use Rattle.run_words.proofs.words.Words.into_parts.Goals as goal
 
 pub tray_of-desk-requires : goal.tray_of-desk-requires
 tray_of-desk-requires c =
