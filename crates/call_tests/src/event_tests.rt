@@ -1,6 +1,6 @@
 //! Tables that threads share, of a few slots.
 
-ghost use Rattle.std.specs.Prelude.{◌≡◌, Contains, IfSome};
+ghost use Rattle.std.specs.Prelude.{◌≡◌, All, Contains, IfOk, IfSome};
 ghost use Rattle.gen_events.specs.EventMap.{fresh};
 ghost use Rattle.gen_events.specs.Seats.{HasSeen, Keeps};
 ghost use Rattle.gen_events.specs.Views.{lists, shape_of, ended_by, IsAt, IsMakerOf, IsReceiptOf, IsWaiterOf};
@@ -8,6 +8,7 @@ ghost use Rattle.gen_events.specs.Views.{lists, shape_of, ended_by, IsAt, IsMake
 use gen_events::{
     Answer, EventTable, Events, Fate, Handle, Maker, NO_EVENT, Receipt, Seat, Waiter, Watch,
 };
+use std::alloc::Global;
 use std::test::Fail;
 
 // Creates a handle and ends it.
@@ -41,6 +42,74 @@ fn ask(events: &Events, seat: &mut Seat, receipt: Receipt) -> (Handle, Answer)
     (handle, events.look(seat, handle))
 }
 
+// Poison in each third round, from the first on.
+pub(crate) fn fate_of(round: u32) -> Fate {
+    if round % 3 == 0 {
+        Fate::Poison
+    } else {
+        Fate::Ok
+    }
+}
+
+// Handles of one slot, each ended before the next was created.
+fn serve_many(
+    events: &Events,
+    maker: &mut Maker,
+    seat: &mut Seat,
+    alloc: Global,
+    count: u32,
+) -> Result<Vec<Handle>, Fail>
+    requires maker { IsMakerOf events.now maker.old }
+    requires at { IsAt events.now seat.old }
+    ensures maker { IsMakerOf events.now maker.new }
+    ensures at { IsAt events.now seat.new }
+    ensures seen { IfOk result (λ handles. All (HasSeen (lists seat.new)) handles.items) }
+{
+    let mut handles = Vec::new(alloc);
+    for round in 0..count {
+        let Some(receipt) = serve(events, maker, seat, fate_of(round)) else {
+            return Err("a handle".into());
+        };
+        handles.push(receipt.handle())?;
+    }
+    Ok(handles)
+}
+
+// How many of these handles are poisoned, and how many triggered.
+fn answers(events: &Events, seat: &mut Seat, handles: &[Handle]) -> (u32, u32)
+    requires at { IsAt events.now seat.old }
+    requires seen { All (HasSeen (lists seat.old)) handles.now }
+    ensures at { IsAt events.now seat.new }
+    ensures kept { Keeps (lists seat.old) (lists seat.new) }
+{
+    let mut poisoned = 0u32;
+    let mut triggered = 0u32;
+    for handle in handles {
+        match events.look(seat, *handle) {
+            Answer::Poisoned => poisoned = poisoned.saturating_add(1),
+            Answer::Triggered => triggered = triggered.saturating_add(1),
+            Answer::Pending => {}
+        }
+    }
+    (poisoned, triggered)
+}
+
+// the answers of the seat that created and ended, and of one that was split off before and joined with it after
+#[test]
+fn old_handles_answer_for_themselves(rt: HostRuntime) -> Result<(), Fail> {
+    let Ok((events, mut maker, mut seat, _set)) = Events::new(rt.alloc(), 1, 1, 100) else {
+        return Err("no memory".into());
+    };
+    let mut other = events.split(&mut seat);
+    let handles = serve_many(&events, &mut maker, &mut seat, rt.alloc(), 101)?;
+    assert!(rt; serve(&events, &mut maker, &mut seat, Fate::Ok).is_none());
+    let last = events.split(&mut seat);
+    events.join(&mut other, last);
+    assert_eq!(rt; answers(&events, &mut seat, handles.as_slice()), (34, 67));
+    assert_eq!(rt; answers(&events, &mut other, handles.as_slice()), (34, 67));
+    Ok(())
+}
+
 #[test]
 fn a_slot_serves_until_its_last_generation(rt: HostRuntime) -> Result<(), Fail> {
     let Ok((events, mut maker, mut seat, _set)) = Events::new(rt.alloc(), 1, 1, 2) else {
@@ -69,11 +138,15 @@ fn two_slots_of_one_generation(rt: HostRuntime) -> Result<(), Fail> {
     let Some(mut one) = events.create(&mut maker, &mut seat) else {
         return Err("the first".into());
     };
+    let Some(two) = events.create(&mut maker, &mut seat) else {
+        events.leave(&mut seat, one);
+        return Err("the second".into());
+    };
     let handle = events.see(&mut other, &mut one);
     assert_eq!(rt; events.look(&mut other, handle), Answer::Pending);
-    assert!(rt; serve(&events, &mut maker, &mut seat, Fate::Ok).is_some());
     assert!(rt; serve(&events, &mut maker, &mut seat, Fate::Ok).is_none());
     let (receipt, _caught) = events.end(&mut seat, one, Fate::Poison);
+    let (_receipt, _caught) = events.end(&mut seat, two, Fate::Ok);
     assert!(rt; serve(&events, &mut maker, &mut seat, Fate::Ok).is_none());
     assert_eq!(rt; ask(&events, &mut other, receipt).1, Answer::Poisoned);
     events.join(&mut seat, other);

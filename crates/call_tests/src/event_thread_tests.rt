@@ -4,8 +4,8 @@ ghost use Rattle.std.specs.Prelude.{◌≡◌, All, IfSome};
 ghost use Rattle.gen_events.specs.Seats.{HasSeen, Keeps};
 ghost use Rattle.gen_events.specs.Views.{lists, IsAt, IsMakerOf, IsReceiptOf};
 
-use crate::event_tests::serve;
-use gen_events::{Answer, Events, Fate, Handle, Maker, Receipt, Seat};
+use crate::event_tests::{fate_of, serve};
+use gen_events::{Answer, Events, Handle, Maker, Receipt, Seat};
 use std::test::Fail;
 use std::thread::{Threads, join};
 
@@ -32,12 +32,7 @@ fn write(events: &Events, mut writer: Writer, round: u32) -> (Writer, Option<Rec
     ensures at { IsAt events.now result.0.seat }
     ensures receipt { IfSome result.1 (λ r. IsReceiptOf events.now r) }
 {
-    let fate = if round % 3 == 0 {
-        Fate::Poison
-    } else {
-        Fate::Ok
-    };
-    let receipt = serve(events, &mut writer.maker, &mut writer.seat, fate);
+    let receipt = serve(events, &mut writer.maker, &mut writer.seat, fate_of(round));
     (writer, receipt)
 }
 

@@ -13,6 +13,8 @@ mod graph_tests;
 #[cfg(test)]
 mod io_tests;
 #[cfg(test)]
+mod memory_tests;
+#[cfg(test)]
 mod reader_tests;
 #[cfg(test)]
 mod space_tests;

@@ -1,10 +1,12 @@
 //! Tables of one thread, and how a runtime uses one: its tasks are the waiters.
 
-ghost use Rattle.std.specs.Prelude.{◌≡◌, IfSome};
+ghost use Rattle.std.specs.Prelude.{◌≡◌, All, IfOk, IfSome};
 ghost use Rattle.gen_events.specs.EventMap.{answer, IsCreated, IsFree, KeepsCreated};
 ghost use Rattle.gen_events.specs.declared.handle.Handle.{Handle as TheHandle};
 
+use crate::event_tests::fate_of;
 use gen_events::{Answer, EventTable, Fate, Handle, NO_EVENT, WatchNow};
+use std::alloc::Global;
 use std::test::Fail;
 
 // Whether both events have ended. Where one has not, the task is placed on it, and is caught as it
@@ -111,5 +113,46 @@ fn waiters_of_a_handle_are_caught_once(rt: HostRuntime) -> Result<(), Fail> {
     };
     assert_eq!(rt; table.watch(NO_EVENT, 3), WatchNow::Over(Fate::Ok));
     assert_eq!(rt; caught(&mut table), Some([Some(1), Some(0), Some(2), None]));
+    Ok(())
+}
+
+// Handles of one slot, each ended before the next was created, with Poison where the generation is a multiple of 3.
+fn serve_many(table: &mut EventTable, alloc: Global, count: u32) -> Result<Vec<Handle>, Fail>
+    ensures { IfOk result (λ handles. All (IsCreated table.new) handles.items) }
+{
+    let mut handles = Vec::new(alloc);
+    for round in 0..count {
+        let Some(handle) = serve(table, fate_of(round)) else {
+            return Err("a handle".into());
+        };
+        handles.push(handle)?;
+    }
+    Ok(handles)
+}
+
+// How many of these handles are poisoned, and how many triggered.
+fn answers(table: &EventTable, handles: &[Handle]) -> (u32, u32)
+    requires { All (IsCreated table.now) handles.now }
+{
+    let mut poisoned = 0u32;
+    let mut triggered = 0u32;
+    for handle in handles {
+        match table.look(*handle) {
+            Answer::Poisoned => poisoned = poisoned.saturating_add(1),
+            Answer::Triggered => triggered = triggered.saturating_add(1),
+            Answer::Pending => {}
+        }
+    }
+    (poisoned, triggered)
+}
+
+#[test]
+fn old_handles_answer_for_themselves(rt: HostRuntime) -> Result<(), Fail> {
+    let Ok(mut table) = EventTable::new(rt.alloc(), 1, 1, 100) else {
+        return Err("no memory".into());
+    };
+    let handles = serve_many(&mut table, rt.alloc(), 101)?;
+    assert!(rt; table.create().is_none());
+    assert_eq!(rt; answers(&table, handles.as_slice()), (34, 67));
     Ok(())
 }

@@ -1,7 +1,7 @@
 //! Command lines and what they ask for.
 
 use command_line::request::{Action, Engine, Request};
-use command_line::{WordsFault, read_words};
+use command_line::{WordsFault, read_words, refusal};
 use std::alloc::Global;
 use std::test::Fail;
 
@@ -17,11 +17,16 @@ const RUN: Request = Request {
     text: false,
 };
 
-fn request(alloc: Global, line: &str) -> Result<Result<Request, WordsFault>, Fail> {
+fn words(alloc: Global, line: &str) -> Result<Vec<String>, Fail> {
     let mut words = Vec::new(alloc);
     for word in line.split(' ') {
         words.push(String::from_str(alloc, word)?)?;
     }
+    Ok(words)
+}
+
+fn request(alloc: Global, line: &str) -> Result<Result<Request, WordsFault>, Fail> {
+    let words = words(alloc, line)?;
     Ok(read_words(alloc, words.as_slice()))
 }
 
@@ -92,6 +97,50 @@ fn takes_options(rt: HostRuntime) -> Result<(), Fail> {
 fn refuses_words(rt: HostRuntime) -> Result<(), Fail> {
     for line in ["realm", "realm walk", "realm run --workers 9"] {
         assert_eq!(rt; request(rt.alloc(), line)?, Err(WordsFault::Usage));
+    }
+    Ok(())
+}
+
+/// Command lines with what is said of the word that is refused.
+const REFUSALS: [(&str, &str); 11] = [
+    ("realm run", ""),
+    ("realm", "no action: run, check, eval or make"),
+    ("realm walk", "walk: run, check, eval or make"),
+    ("realm run --workers 9", "--workers 9: 0 to 8"),
+    ("realm run --slots=01", "--slots 01: 1 to 8192"),
+    (
+        "realm run --engine free --size 0",
+        "--engine free: words or lock",
+    ),
+    (
+        "realm make --seed 18446744073709551616",
+        "--seed 18446744073709551616: 0 to 18446744073709551615",
+    ),
+    ("realm eval --size 8193", "--size 8193: 1 to 8192"),
+    (
+        "realm run --workers",
+        "a value is required for '--workers <workers>' but none was supplied: 0 to 8",
+    ),
+    (
+        "realm run --slots 1 --slots 2",
+        "the argument '--slots <slots>' cannot be used multiple times: 1 to 8192",
+    ),
+    (
+        "realm run --fast",
+        "unexpected argument '--fast' found: an action with --workers, --slots, --engine, --seed, --size, --trace, --text",
+    ),
+];
+
+#[test]
+fn names_refused_words(rt: HostRuntime) -> Result<(), Fail> {
+    for (line, said) in REFUSALS {
+        let words = words(rt.alloc(), line)?;
+        let refused = refusal(rt.alloc(), words.as_slice())?;
+        let found = match &refused {
+            Some(text) => text.as_str(),
+            None => "",
+        };
+        assert_eq!(rt; found, said);
     }
     Ok(())
 }

@@ -3,6 +3,7 @@
 
 mod matched;
 mod number;
+mod refused;
 pub mod request;
 
 ghost use Rattle.std.specs.Prelude.{◌≡◌, ◌≤◌, ◌⊎◌, List, None, false, MatchResult, IfOk};
@@ -15,6 +16,7 @@ use crate::matched::request_in;
 use crate::request::{MAX_SIZE, MAX_WORKERS, Request};
 use clap::error::ErrorKind;
 use clap::{Arg, ArgAction, Command, Error};
+pub use refused::refusal;
 use std::alloc::{AllocError, Global};
 
 /// Why words ask for nothing.

@@ -10,7 +10,7 @@ use crate::request::{Action, Engine, MAX_SIZE, MAX_SLOTS, MAX_WORKERS, Request};
 use clap::ArgMatches;
 
 /// The action that a word names.
-fn action_by_word(word: &str) -> Option<Action>
+pub(crate) fn action_by_word(word: &str) -> Option<Action>
     ensures { result ≡ action_by_word word.now }
 {
     match word.as_bytes() {
@@ -23,7 +23,7 @@ fn action_by_word(word: &str) -> Option<Action>
 }
 
 /// The engine that a word names.
-fn engine_by_word(word: &str) -> Option<Engine>
+pub(crate) fn engine_by_word(word: &str) -> Option<Engine>
     ensures { result ≡ engine_by_word word.now }
 {
     match word.as_bytes() {
@@ -34,7 +34,7 @@ fn engine_by_word(word: &str) -> Option<Engine>
 }
 
 /// The text that was given for an argument.
-fn given<'a>(matches: &ArgMatches<'a>, id: &str) -> Option<&'a str>
+pub(crate) fn given<'a>(matches: &ArgMatches<'a>, id: &str) -> Option<&'a str>
     ensures { option_map (λ s. s.now) result ≡ first_of id.now (rows_of (found_of matches.now)) }
 {
     matches.get_str(id)

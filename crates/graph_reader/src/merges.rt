@@ -21,6 +21,7 @@ use graph_model::name::Name;
 use graph_model::verb::{Line, Verb};
 use graph_model::why::Why;
 use index_spaces::NoMemory;
+use index_spaces::room::with_room;
 use std::alloc::Global;
 
 /// Whether a word names no item.
@@ -51,16 +52,13 @@ fn number_of(graph: &Graph, word: &[u8]) -> u32
     line(graph, word).unwrap_or(0)
 }
 
-/// The numbers of the lines that words name.
+/// The numbers of the lines that words name. All its room is asked for at once, so that a refusal ends it.
 fn numbers_of(alloc: Global, graph: &Graph, words: &[&[u8]]) -> Result<Vec<u32>, NoMemory>
     ensures { IfOk result (λ v. v.items ≡ map (line_number graph.now) (contents words.now)) }
 {
-    match words
-        .iter()
-        .map(|word| number_of(graph, word))
-        .collect(alloc)
-    {
-        Ok(numbers) => Ok(numbers),
+    let mut numbers = with_room(alloc, words.len())?;
+    match numbers.extend(words.iter().map(|word| number_of(graph, word))) {
+        Ok(()) => Ok(numbers),
         Err(_) => Err(NoMemory),
     }
 }

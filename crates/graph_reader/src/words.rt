@@ -9,14 +9,22 @@ ghost use Rattle.std.specs.List.{list_any, starts_with};
 
 use crate::kind::Kind;
 use index_spaces::NoMemory;
+use index_spaces::room::with_room;
 use std::alloc::Global;
 
-/// The pieces of bytes between the separators.
+/// How many pieces bytes have between the separators.
+fn piece_count(bytes: &[u8], separator: u8) -> usize {
+    let separators = bytes.iter().filter(|b| **b == separator).count();
+    separators.saturating_add(1)
+}
+
+/// The pieces of bytes between the separators. All its room is asked for at once, so that a refusal ends it.
 pub(crate) fn split(alloc: Global, bytes: &[u8], separator: u8) -> Result<Vec<&[u8]>, NoMemory>
     ensures { IfOk result (λ v. contents v.items ≡ pieces separator bytes.now) }
 {
-    match bytes.split(|b| *b == separator).collect(alloc) {
-        Ok(words) => Ok(words),
+    let mut words = with_room(alloc, piece_count(bytes, separator))?;
+    match words.extend(bytes.split(|b| *b == separator)) {
+        Ok(()) => Ok(words),
         Err(_) => Err(NoMemory),
     }
 }

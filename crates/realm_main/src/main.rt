@@ -4,6 +4,7 @@
 ghost use Rattle.std.specs.Prelude.{◌≡◌, is_some};
 ghost use Rattle.realm_main.specs.Message.{has_message};
 
+use command_line::refusal;
 use realm_io::{OpenGate, StdSink, StdSource};
 use realm_top::realm;
 use realm_top::status::Status;
@@ -13,7 +14,8 @@ use std::process::ExitCode;
 use std::sync::Wait;
 use std::thread::Threads;
 
-/// The line for the standard error, where the standard output has no text for this status.
+/// The line for the standard error, where the standard output has no text for this status. For a command line whose
+/// words could be read there is a better one.
 fn message(status: Status) -> Option<&'static str>
     ensures { is_some result ≡ has_message status }
 {
@@ -43,31 +45,44 @@ fn words<R: Env + AllocGlobal>(rt: &R) -> Result<Vec<String>, Status> {
 }
 
 /// Runs what the words ask for over the standard streams.
-fn run<R: Env + AllocGlobal + Input + Print + Threads + Wait + Sync>(rt: &R) -> Status {
-    let words = match words(rt) {
-        Ok(words) => words,
-        Err(status) => return status,
-    };
+fn run<R: AllocGlobal + Input + Print + Threads + Wait + Sync>(rt: &R, words: &[String]) -> Status {
     let Ok(writer) = BufWriter::new(rt.alloc(), io::writer(rt)) else {
         return Status::NoMemory;
     };
     let mut source = StdSource::new(rt.reader());
     let mut sink = StdSink::new(writer);
-    realm(
-        rt,
-        rt.alloc(),
-        words.as_slice(),
-        &mut source,
-        &mut sink,
-        &OpenGate,
-    )
+    realm(rt, rt.alloc(), words, &mut source, &mut sink, &OpenGate)
 }
 
-fn main(rt: HostRuntime) -> ExitCode {
-    let status = run(&rt);
+/// Says on the standard error which word is refused; whether that could be said.
+fn says_word<R: Eprint + AllocGlobal>(rt: &R, words: &[String]) -> bool {
+    match refusal(rt.alloc(), words) {
+        Ok(Some(line)) => rt.eprintln(format_args!("realm: {line}")).is_ok(),
+        _ => false,
+    }
+}
+
+/// Says on the standard error what the standard output does not.
+fn say<R: Eprint>(rt: &R, status: Status) {
     if let Some(line) = message(status) {
         let _ = rt.eprintln(line);
     }
+}
+
+fn main(rt: HostRuntime) -> ExitCode {
+    let status = match words(&rt) {
+        Ok(words) => {
+            let status = run(&rt, words.as_slice());
+            if status != Status::Usage || !says_word(&rt, words.as_slice()) {
+                say(&rt, status);
+            }
+            status
+        }
+        Err(status) => {
+            say(&rt, status);
+            status
+        }
+    };
     ExitCode::from(status.number())
 }
 

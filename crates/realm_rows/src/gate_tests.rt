@@ -119,7 +119,7 @@ const THREE_WAITERS: Row = Row {
 /// How often each command line is run.
 const RUNS: u32 = 20;
 
-/// Fails where a line is left alone at the gate: of this row, so many lines meet from this one on.
+/// Fails where a line is left alone at the gate, or never comes there: of this row, so many lines meet from this one on.
 fn meet<R: Threads + Wait + Sync + AllocGlobal>(
     rt: &R,
     row: &Row,
@@ -131,8 +131,9 @@ fn meet<R: Threads + Wait + Sync + AllocGlobal>(
         for run in 0..RUNS {
             let gate = Meeting::new(first, lines);
             row.call_through(rt, words.as_slice(), &SURE, &gate)?;
-            if gate.left_alone.load(Ordering::SeqCst) == 1 {
-                return Err(Fail::new(format_args!("{command}: left alone in run {run}")));
+            let came = gate.are_there.load(Ordering::SeqCst);
+            if came != lines || gate.left_alone.load(Ordering::SeqCst) == 1 {
+                return Err(Fail::new(format_args!("{command}: {came} came in run {run}")));
             }
         }
     }

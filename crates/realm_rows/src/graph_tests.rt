@@ -32,6 +32,12 @@ pub(crate) const FAULTY_PATHS_REPORT: &str = "realm-report 1\n\
     cells a.y 0..1 9 9\n\
     done\n";
 
+/// What follows the ends in the report of the sums under one reservation.
+pub(crate) const LOCKED_SUMS_CELLS: &str = "cells a.x 0..1 3 3\n\
+    cells a.y 0..1 4 4\n\
+    cells a.z 0..1 7 7\n\
+    done\n";
+
 /// Texts with their reports.
 const REPORTS: &[(&str, &str)] = &[
     (FILL, FILL_REPORT),
@@ -110,10 +116,7 @@ const ALL_DONE: &[(&[&str], &str, &str)] = &[
             "eval",
         ],
         LOCKED_SUMS,
-        "cells a.x 0..1 3 3\n\
-         cells a.y 0..1 4 4\n\
-         cells a.z 0..1 7 7\n\
-         done\n",
+        LOCKED_SUMS_CELLS,
     ),
     (
         &[

@@ -15,6 +15,8 @@ mod limit_tests;
 #[cfg(test)]
 mod made_tests;
 #[cfg(test)]
+mod memory_tests;
+#[cfg(test)]
 mod row;
 #[cfg(test)]
 mod rule_tests;

@@ -1,88 +1,115 @@
-//! Texts with one item more than a limit allows, texts as great as a limit allows, and the least slots.
+//! Texts that meet a limit and texts with one item more, texts as great as a limit allows, and the least slots.
 
 use crate::generated::all_done;
 use crate::graph_tests::EMPTY_REPORT;
 use crate::row::{run_commands, run_texts};
+use graph_reader::read_graph;
 use realm_top::status::Status;
 use std::alloc::Global;
 use std::test::Fail;
 use test_texts::generated::{chain, numbered};
 
-/// Texts with one item too many, each with its refused line. A text is given in parts: so many copies, each with its
-/// number, from 0, in place of each `#`.
-const PAST: &[(&[(u32, &str)], &str)] = &[
+/// A text that meets a limit. It is given in parts: so many copies, each with its number, from 0, in place of each `#`.
+struct Limit {
+    parts: &'static [(u32, &'static str)],
+    /// One item more, which stands behind the parts.
+    more: &'static str,
+    /// What stands behind that.
+    back: &'static str,
+    /// What is written for the text with one item more.
+    refusal: &'static str,
+}
+
+const LIMITS: &[Limit] = &[
+    // characters of a name
+    Limit {
+        parts: &[(1, "realm 1\nspace abcdefghijklmnopqrstuvwxyzabcde")],
+        more: "f",
+        back: " 0..3\nend\n",
+        refusal: "refused line 2 name\n",
+    },
     // intervals of a space
-    (
-        &[
-            (1, "realm 1\nspace s 0..0"),
-            (64, ",1#0..1#0"),
-            (1, "\nend\n"),
-        ],
-        "refused line 2 limit\n",
-    ),
+    Limit {
+        parts: &[(1, "realm 1\nspace s 0..0"), (63, ",1#0..1#0")],
+        more: ",2000..2000",
+        back: "\nend\n",
+        refusal: "refused line 2 limit\n",
+    },
+    // points of a space
+    Limit {
+        parts: &[(1, "realm 1\nspace s 0..1048575")],
+        more: ",1048577..1048577",
+        back: "\nend\n",
+        refusal: "refused line 2 limit\n",
+    },
     // instances
-    (
-        &[
-            (1, "realm 1\nspace s 0..0\n"),
-            (65, "inst a# s x\n"),
-            (1, "end\n"),
-        ],
-        "refused line 67 limit\n",
-    ),
+    Limit {
+        parts: &[(1, "realm 1\nspace s 0..0\n"), (64, "inst a# s x\n")],
+        more: "inst b s x\n",
+        back: "end\n",
+        refusal: "refused line 67 limit\n",
+    },
     // columns
-    (
-        &[
-            (1, "realm 1\nspace s 0..0\ninst a s x"),
-            (256, ",x#"),
-            (1, "\nend\n"),
-        ],
-        "refused line 3 limit\n",
-    ),
+    Limit {
+        parts: &[(1, "realm 1\nspace s 0..0\ninst a s y"), (255, ",x#")],
+        more: ",z",
+        back: "\nend\n",
+        refusal: "refused line 3 limit\n",
+    },
     // cells
-    (
-        &[
-            (1, "realm 1\nspace s 0..1048575\n"),
-            (5, "inst a# s x\n"),
-            (1, "end\n"),
-        ],
-        "refused line 7 limit\n",
-    ),
+    Limit {
+        parts: &[(1, "realm 1\nspace s 0..1048575\n"), (4, "inst a# s x\n")],
+        more: "inst b s x\n",
+        back: "end\n",
+        refusal: "refused line 7 limit\n",
+    },
     // reservations
-    (
-        &[(1, "realm 1\n"), (65, "lock l#\n"), (1, "end\n")],
-        "refused line 66 limit\n",
-    ),
+    Limit {
+        parts: &[(1, "realm 1\n"), (64, "lock l#\n")],
+        more: "lock k\n",
+        back: "end\n",
+        refusal: "refused line 66 limit\n",
+    },
     // barriers
-    (
-        &[(1, "realm 1\n"), (65, "barrier b# 1 sum 0\n"), (1, "end\n")],
-        "refused line 66 limit\n",
-    ),
+    Limit {
+        parts: &[(1, "realm 1\n"), (64, "barrier b# 1 sum 0\n")],
+        more: "barrier c 1 sum 0\n",
+        back: "end\n",
+        refusal: "refused line 66 limit\n",
+    },
     // lines
-    (
-        &[(1, "realm 1\n"), (8193, "u# = user\n"), (1, "end\n")],
-        "refused line 8194 limit\n",
-    ),
+    Limit {
+        parts: &[(1, "realm 1\n"), (8192, "u# = user\n")],
+        more: "v = user\n",
+        back: "end\n",
+        refusal: "refused line 8194 limit\n",
+    },
     // names in a merge
-    (
-        &[
+    Limit {
+        parts: &[
             (1, "realm 1\n"),
             (65, "u# = user\n"),
             (1, "m = merge"),
-            (65, " u#"),
-            (1, "\nend\n"),
+            (64, " u#"),
         ],
-        "refused line 67 limit\n",
-    ),
-    // edges: 1,024 merges of 64 names each, and one edge more
-    (
-        &[
-            (1, "realm 1\n"),
-            (64, "u# = user\n"),
-            (1024, MERGE_OF_64),
-            (1, "n = merge u0\nend\n"),
-        ],
-        "refused line 1090 limit\n",
-    ),
+        more: " u64",
+        back: "\nend\n",
+        refusal: "refused line 67 limit\n",
+    },
+    // edges
+    Limit {
+        parts: &[(1, "realm 1\n"), (64, "u# = user\n"), (1024, MERGE_OF_64)],
+        more: "n = merge u0\n",
+        back: "end\n",
+        refusal: "refused line 1090 limit\n",
+    },
+];
+
+/// Texts with the least and the greatest count, and with the greatest value and the greatest point.
+const WITHIN: &[&str] = &[
+    "realm 1\nbarrier b 1 sum 0\nend\n",
+    "realm 1\nbarrier b 8192 sum 18446744073709551615\nend\n",
+    "realm 1\nspace s 4294967295..4294967295\nend\n",
 ];
 
 const MERGE_OF_64: &str =
@@ -100,11 +127,27 @@ fn text_of(alloc: Global, parts: &[(u32, &str)]) -> Result<String, Fail> {
     Ok(text)
 }
 
+// the report of such a text may be large, so it is only read
+#[test]
+fn limits_are_met(rt: HostRuntime) -> Result<(), Fail> {
+    for limit in LIMITS {
+        let front = text_of(rt.alloc(), limit.parts)?;
+        let text = format!(in rt.alloc(); "{front}{}", limit.back)?;
+        read_graph(rt.alloc(), text.as_bytes())?;
+    }
+    for text in WITHIN {
+        read_graph(rt.alloc(), text.as_bytes())?;
+    }
+    Ok(())
+}
+
 #[test]
 fn one_item_past(rt: HostRuntime) -> Result<(), Fail> {
-    for (parts, output) in PAST {
-        let text = text_of(rt.alloc(), parts)?;
-        run_texts(&rt, &["run"], Status::Unread, &[(text.as_str(), output)])?;
+    for limit in LIMITS {
+        let front = text_of(rt.alloc(), limit.parts)?;
+        let text = format!(in rt.alloc(); "{front}{}{}", limit.more, limit.back)?;
+        let row = [(text.as_str(), limit.refusal)];
+        run_texts(&rt, &["run"], Status::Unread, &row)?;
     }
     Ok(())
 }

@@ -21,7 +21,7 @@ fn cells(alloc: Global) -> Result<String, Fail> {
 }
 
 /// The report of the whole graph.
-fn report(alloc: Global, text: &str) -> Result<String, Fail> {
+pub(crate) fn report(alloc: Global, text: &str) -> Result<String, Fail> {
     let ends = all_done(alloc, text)?;
     let phases = "phase p1 8\n\
         phase p2 8\n\

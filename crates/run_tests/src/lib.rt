@@ -11,6 +11,8 @@ mod graphs;
 #[cfg(test)]
 mod hint_tests;
 #[cfg(test)]
+mod memory_tests;
+#[cfg(test)]
 mod outcomes;
 #[cfg(test)]
 mod waiting_tests;

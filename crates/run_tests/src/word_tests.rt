@@ -129,7 +129,7 @@ pub(crate) fn prepared<'g>(
 }
 
 /// The outcome, once no other seat is left.
-fn closed(words: Words, seat: WordSeat) -> Outcome
+pub(crate) fn closed(words: Words, seat: WordSeat) -> Outcome
     requires at { IsAt words seat }
     requires all { HasAll seat }
 {

@@ -1,0 +1,78 @@
+//! Runs over a source and a sink that never fail and are made before the call. With ample memory each is done. Where
+//! one request for memory is refused, as by `tests/refused-memory`, the call answers NoMemory and writes nothing, and
+//! the test ends with the words of the command line then, which that script reads.
+
+use crate::generated::all_done;
+use crate::graph_tests::{FAULTY_PATHS_REPORT, LOCKED_SUMS_CELLS};
+use crate::row::words;
+use crate::tile_tests;
+use realm_io::{OpenGate, SureSink, SureSource};
+use realm_top::realm;
+use realm_top::status::Status;
+use std::sync::Wait;
+use std::test::Fail;
+use std::thread::Threads;
+use test_texts::graphs::{FAULTY_PATHS, LOCKED_SUMS};
+use test_texts::memory::after;
+use test_texts::tiles;
+
+/// What runs a graph.
+const COMMANDS: [&str; 3] = [
+    "run --workers 3 --engine words",
+    "run --workers 3 --engine lock",
+    "eval",
+];
+
+/// Calls `realm` with each command line over a text, and ends at the first that is refused memory.
+fn run_each<R: Threads + Wait + Sync + AllocGlobal>(
+    rt: &R,
+    text: &str,
+    report: &str,
+) -> Result<(), Fail> {
+    let alloc = rt.alloc();
+    for command in COMMANDS {
+        let words = words(alloc, command)?;
+        let mut source = SureSource::new(Vec::from_slice(alloc, text.as_bytes())?);
+        let mut sink = SureSink::new(vec![in alloc; 0u8; report.len()]?);
+        let status = realm(
+            rt,
+            alloc,
+            words.as_slice(),
+            &mut source,
+            &mut sink,
+            &OpenGate,
+        );
+        match status {
+            Status::NoMemory => after(command, true, sink.taken() == 0)?,
+            _ => {
+                let is_report = sink.kept() == report.as_bytes();
+                let is_all = sink.taken() == report.len() as u64;
+                after(
+                    command,
+                    false,
+                    status == Status::Done && is_report && is_all,
+                )?;
+            }
+        }
+    }
+    Ok(())
+}
+
+#[test]
+fn faulty_paths(rt: HostRuntime) -> Result<(), Fail> {
+    run_each(&rt, FAULTY_PATHS, FAULTY_PATHS_REPORT)
+}
+
+#[test]
+fn locked_sums(rt: HostRuntime) -> Result<(), Fail> {
+    let ends = all_done(rt.alloc(), LOCKED_SUMS)?;
+    let report = format!(in rt.alloc(); "{ends}{LOCKED_SUMS_CELLS}")?;
+    run_each(&rt, LOCKED_SUMS, report.as_str())
+}
+
+#[test]
+fn tiled_stencil(rt: HostRuntime) -> Result<(), Fail> {
+    let text = tiles::graph(rt.alloc())?;
+    let report = tile_tests::report(rt.alloc(), text.as_str())?;
+    run_each(&rt, text.as_str(), report.as_str())
+}
