@@ -1,0 +1,12 @@
+use Rattle.std.proofs.Common.{◌≤◌}
+use Rattle.race_sweeps.specs.Reach.{IsReach}
+use Rattle.race_sweeps.proofs.reach.Reach.sweep.Given as goal
+
+abbrev pub invariant-loop-place : goal.invariant-loop-place
+invariant-loop-place l = record {
+  within : l.place ≤ l.end;
+  reach : IsReach l.graph l.table.lines.items l.first l.self.words.items;
+}
+
+abbrev pub decreases-loop-place : goal.decreases-loop-place
+decreases-loop-place l = l.place
