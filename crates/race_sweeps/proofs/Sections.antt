@@ -26,10 +26,10 @@ none_of : (o : Option ℕ) → is_some o ≡ false → o ≡ None
 none_of None e = refl
 none_of (Some q) e = absurd (true≢false e)
 
-pub free_more : (g : GraphValue) (i k : ℕ) (row : Vec (Option ℕ) Global) → IsHeldRow g k row → slice_index_or row.items i None ≡ None → ((l q : ℕ) → l < k → Section g l q i → ⊥) → (l q : ℕ) → l < k + 1 → Section g l q i → ⊥
-free_more g i k row h none before l q small s = elim (cases_lt l k) [
+pub free_more : (g : GraphValue) (i k : ℕ) (row : Vec (Option ℕ) Global) → IsHeldRow g k row → i < length g.lines → slice_index_or row.items i None ≡ None → ((l q : ℕ) → l < k → Section g l q i → ⊥) → (l q : ℕ) → l < k + 1 → Section g l q i → ⊥
+free_more g i k row h known none before l q small s = elim (cases_lt l k) [
   | inl low ↦ before l q low s
-  | inr up ↦ h.none i q none (subst (λ z. Section g z q i) (let e : l ≡ k = omega arith in e) s)
+  | inr up ↦ h.none i q known none (subst (λ z. Section g z q i) (let e : l ≡ k = omega arith in e) s)
 ]
 
 pub none_read : (o p : Option ℕ) → o ≡ p → is_some o ≡ false → p ≡ None

@@ -1,5 +1,5 @@
 -- In which sections the lines lie, by one acquire for each reservation.
-use Rattle.std.specs.Prelude.{◌≡◌, ◌≢◌, ℕ, length, Option, Some, None, Vec, slice_get}
+use Rattle.std.specs.Prelude.{◌≡◌, ◌≢◌, ℕ, ◌<◌, length, Option, Some, None, Vec, slice_get}
 use Rattle.std.specs.Global.{Global}
 use Rattle.std.specs.List.{slice_index_or}
 use Rattle.graph_model.specs.graph.Graph.{GraphValue, locks}
@@ -10,7 +10,7 @@ use Rattle.race_sweeps.specs.declared.held.Held.{Held}
 pub record IsHeldRow (g : GraphValue) (l : ℕ) (row : Vec (Option ℕ) Global) : Type 0 where
   pub size : length row.items ≡ length g.lines
   pub is : (i q : ℕ) → slice_index_or row.items i None ≡ Some q → Section g l q i
-  pub none : (i q : ℕ) → slice_index_or row.items i None ≡ None → Section g l q i → ⊥
+  pub none : (i q : ℕ) → i < length g.lines → slice_index_or row.items i None ≡ None → Section g l q i → ⊥
 
 pub record IsHeld (g : GraphValue) (h : Held) : Type 0 where
   pub count : length h.acquires.items ≡ length (locks g)

@@ -17,7 +17,7 @@ mod walk;
 ghost use Rattle.std.specs.Prelude.{IsTrue, IfOk};
 ghost use Rattle.graph_model.specs.meaning.Rules.{EverywhereTwice, RaceAt};
 ghost use Rattle.race_sweeps.specs.Held.{IsHeld};
-ghost use Rattle.race_sweeps.specs.Placed.{IsPlaced};
+ghost use Rattle.race_sweeps.specs.Placed.{IsOrder};
 
 use crate::held::Held;
 use crate::scan::Scan;
@@ -35,10 +35,13 @@ pub fn are_settled(
     order: &[u32],
     held: &Held,
 ) -> Result<bool, NoMemory>
-    requires placed { IsPlaced graph.now order.now }
+    requires order { IsOrder graph.now order.now }
     requires held { IsHeld graph.now held.now }
     ensures { IfOk result (λ b. IsTrue b → EverywhereTwice (RaceAt graph.now)) }
 {
+    if order.len() != graph.lines() as usize {
+        return Ok(false);
+    }
     let Some(table) = Table::new(alloc, graph, order)? else {
         return Ok(false);
     };

@@ -12,7 +12,7 @@ loop-acquires-preserved c =
     let row = c.acquires-item.result in
     let k = c.loop-acquires.acquires-index in
     let is = c.requires.held.each k row (subst (λ rows. slice_get rows k ≡ Some row) c.deref-acquires-items.ensures.value (slice_get_read c.deref-acquires-items.result.now (length c.deref-acquires-items.result.now) k row refl c.loop-acquires-test.true c.acquires-item.is)) in
-    free_more g c.args.line k row is
+    free_more g c.args.line k row is c.requires.line
     (none_read c.index.result.now (slice_index_or row.items c.args.line None) (get_or_read row.items c.args.line c.index.result.now (omega (arith, is.size, c.requires.line)) c.index.ensures None) (sym c.is_some.ensures ∙ c.if-is_some.false))
     c.loop-acquires.invariant
 
