@@ -32,18 +32,17 @@ pub source_known : (g : GraphValue) → IsGraph g → EdgesBetweenLines → (i k
 source_known g f between i k es is h = (between g (slice_index_or es k no_edge) f (edge_in g i k es is h).0).0
 
 -- the source of an edge reaches what its target reaches, and its target
-module _ (g : GraphValue) (lines words : List ℕ) (x p line word old : ℕ) (at : slice_index lines x ≡ line) (e : Edge) (known : Contains (edges g) e) (to : e.to ≡ line) (source : slice_index lines p ≡ e.from) (small : p < length words) (read : old ≡ slice_index_or words p old) where
-  pub reach_more : (n : ℕ) → IsReach g lines n words → AreReachedOrSelf g lines n x word → IsReach g lines n (slice_set words p (bit_or old word))
+module _ (g : GraphValue) (lines words : List ℕ) (x p line word : ℕ) (at : slice_index lines x ≡ line) (e : Edge) (known : Contains (edges g) e) (to : e.to ≡ line) (source : slice_index lines p ≡ e.from) (small : p < length words) where
+  pub reach_more : (n : ℕ) → IsReach g lines n words → AreReachedOrSelf g lines n x word → IsReach g lines n (slice_set words p (bit_or (slice_index words p) word))
   reach_more n r s = record {
-    size = length-set words p (bit_or old word) ∙ r.size;
+    size = length-set words p (bit_or (slice_index words p) word) ∙ r.size;
     reached = λ y b low set. elim (cases_eq y p) [
-      | inr apart ↦ r.reached y b low (ap (λ z. bit_in z b) (sym (get_or-set_other words p y (bit_or old word) 0 apart)) ∙ set)
+      | inr apart ↦ r.reached y b low (ap (λ z. bit_in z b) (sym (get_or-set_other words p y (bit_or (slice_index words p) word) 0 apart)) ∙ set)
       | inl same ↦ (
-          let here : slice_index (slice_set words p (bit_or old word)) y ≡ bit_or old word = ap (slice_index (slice_set words p (bit_or old word))) same ∙ get_or-set_same words p (bit_or old word) 0 small in
-          let bit : bit_in (bit_or old word) b ≡ true = ap (λ z. bit_in z b) (sym here) ∙ set in
-          let was : old ≡ slice_index words p = get_or_read words p old small read 0 in
-          elim (or_cases (bit_in old b) (bit_in word b) (sym (bit_in-or old word b) ∙ bit)) [
-            | inl before ↦ r.reached y b low (ap (λ z. bit_in (slice_index words z) b) same ∙ (ap (λ z. bit_in z b) (sym was) ∙ before))
+          let here : slice_index (slice_set words p (bit_or (slice_index words p) word)) y ≡ bit_or (slice_index words p) word = ap (slice_index (slice_set words p (bit_or (slice_index words p) word))) same ∙ get_or-set_same words p (bit_or (slice_index words p) word) 0 small in
+          let bit : bit_in (bit_or (slice_index words p) word) b ≡ true = ap (λ z. bit_in z b) (sym here) ∙ set in
+          elim (or_cases (bit_in (slice_index words p) b) (bit_in word b) (sym (bit_in-or (slice_index words p) word b) ∙ bit)) [
+            | inl before ↦ r.reached y b low (ap (λ z. bit_in (slice_index words z) b) same ∙ before)
             | inr new ↦ (
                 let k = s b low new in
                 let begins : e.from ≡ slice_index lines y = sym source ∙ ap (slice_index lines) (sym same) in (

@@ -8,6 +8,7 @@ use Rattle.race_sweeps.specs.declared.table.Table.{Table}
 use Rattle.race_sweeps.specs.Classes.{class_at}
 use Rattle.race_sweeps.specs.Marks.{IsMarked}
 use Rattle.race_sweeps.specs.Members.{AreMembers}
+use Rattle.race_sweeps.specs.Reach.{IsBounded}
 use Rattle.race_sweeps.specs.Scan.{IsHardTo}
 
 -- the members below number m are listed
@@ -20,7 +21,7 @@ pub record AreListed (t : Table) (s : Members) (m : ℕ) : Type 0 where
 pub record IsScanned (g : GraphValue) (t : Table) (s : Scan) (first : ℕ) : Type 0 where
   pub listed : AreListed t s.members (3 * first)
   pub hard : IsHardTo g t s.hard.items first
-  pub reach : length s.reach.words.items ≡ length t.lines.items
+  pub reach : IsBounded (length t.lines.items) s.reach.words.items s.reach.low s.reach.high
   pub groups : length s.groups.slots.items ≡ length t.keys.items
   pub asks : length s.asks.slots.items ≡ length t.keys.items
 

@@ -17,7 +17,7 @@ returns-clause-scanned c h =
     record {
       listed = c.in_ok-targets.ensures.listed;
       hard = c.harden_all.ensures.hard c.args.end c.requires.end c.in_ok-targets.ensures.listed (record { size = hard.size; below = λ k some. (let low = hard.below k some in omega (arith, low, c.requires.begins)); is = hard.is });
-      reach = c.sweep.ensures.size;
+      reach = c.sweep.ensures.bounded;
       groups = c.in_ok-targets.ensures.slots;
       asks = c.in_ok-stop.ensures.slots;
     }
