@@ -23,3 +23,4 @@ pub mod PairSteps
 pub mod AccessSteps
 pub mod SummarySteps
 pub mod RaceSteps
+pub mod Placing

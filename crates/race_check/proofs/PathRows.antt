@@ -13,7 +13,7 @@ use Rattle.graph_model.specs.declared.graph.verb.Edge.{Edge}
 use Rattle.graph_model.specs.graph.Graph.{GraphValue}
 use Rattle.graph_model.specs.graph.Edges.{edges, edges_out_of, edges_into}
 use Rattle.graph_model.specs.meaning.Path.{Path, last, first, HasPath}
-use Rattle.graph_model.specs.meaning.Rules.{NoCycleAt, Everywhere, IsCycle}
+use Rattle.graph_model.specs.meaning.Rules.{NoCycleAt}
 use Rattle.basics.proofs.ListFacts.{contains_none, contains_cases, contains_here, filter_contains, contains_filter}
 use Rattle.graph_model.proofs.PathLaws.{along_path, path_append}
 use Rattle.race_check.specs.Paths.{IsPairTestOf, word_bit, IsRow, IsBack}

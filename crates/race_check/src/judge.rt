@@ -36,7 +36,7 @@ pub(crate) fn judge(alloc: Global, graph: &Graph) -> Result<u32, CheckRefusal>
     all_in_sections(alloc, graph, &paths)?;
     all_descend(alloc, graph, &paths, releases.as_slice())?;
     all_on_merges(graph)?;
-    no_races(alloc, graph, &paths, releases.as_slice())?;
+    no_races(alloc, graph, &order, &paths, releases.as_slice())?;
     let need = need_of(alloc, graph)?;
     Ok(need)
 }
@@ -131,9 +131,11 @@ fn all_on_merges(graph: &Graph) -> Result<(), CheckRefusal>
 fn no_races(
     alloc: Global,
     graph: &Graph,
+    order: &Order,
     paths: &PathTable,
     releases: &[Option<u32>],
 ) -> Result<(), CheckRefusal>
+    requires ordered { IsOrdered graph.now order.now.lines.items order.now.left.items }
     requires table { IsPathTable graph.now paths.now }
     requires releases { AreReleases graph.now releases.now }
     requires acyclic { Everywhere (NoCycleAt graph.now) }
@@ -145,7 +147,7 @@ fn no_races(
     ensures refused { IfErr result (IsRefusal graph.now) }
     ensures lines { IfErr result (NamesLines graph.now) }
 {
-    match first_race(alloc, graph, paths, releases)? {
+    match first_race(alloc, graph, order, paths, releases)? {
         None => Ok(()),
         Some((one, other)) => Err(CheckRefusal::Race(one, other)),
     }

@@ -2,7 +2,9 @@
 
 ghost use Rattle.std.specs.Prelude.{◌≡◌, ℕ, ◌+◌, ◌*◌, ◌<◌, ◌≤◌, ◌↔◌, true, false, length, IsTrue, IfOk, MatchOption};
 ghost use Rattle.graph_model.specs.meaning.Path.{HasPath};
-ghost use Rattle.graph_model.specs.meaning.Rules.{Everywhere, EverywhereTwice, FailsFirst, FailsFirstTwice, RaceAt};
+ghost use Rattle.graph_model.specs.meaning.Rules.{Everywhere, EverywhereTwice, FailsFirst, FailsFirstTwice, NoCycleAt, RaceAt};
+ghost use Rattle.race_check.specs.Order.{IsOrdered};
+ghost use Rattle.race_check.specs.Summaries.{AreSummed};
 ghost use Rattle.race_check.specs.Paths.{PathsValue, IsPathTable, words_for};
 ghost use Rattle.race_check.specs.Releases.{AreReleases};
 ghost use Rattle.race_check.specs.Words.{IsWordOf};
@@ -10,15 +12,17 @@ ghost use Rattle.race_check.specs.Races.{AreUserRows, IsUserRow, LinesClash, sha
 ghost use Rattle.race_check.specs.Rivals.{AreRivals};
 
 use crate::conflicts::{MOST_ACCESSES, accesses_of_lines, some_clash, uses};
+use crate::order::Order;
 use crate::paths::PathTable;
 use crate::rows::{add_line, empty_row, has_bit, word_at};
-use crate::summaries::{Summary, are_apart, summaries};
+use crate::summaries::{Summary, are_apart, held, summaries};
 use graph_model::graph::Graph;
 use graph_model::laws::edges_between_lines;
 use graph_model::line_laws::accesses_fit;
 use graph_model::verb::Access;
 use index_spaces::NoMemory;
 use index_spaces::room::push;
+use race_sweeps::are_settled;
 use std::alloc::Global;
 
 /// The least line and the least line after it that conflict, have no path either way and are not
@@ -26,17 +30,26 @@ use std::alloc::Global;
 pub(crate) fn first_race(
     alloc: Global,
     graph: &Graph,
+    order: &Order,
     paths: &PathTable,
     releases: &[Option<u32>],
 ) -> Result<Option<(u32, u32)>, NoMemory>
+    requires ordered { IsOrdered graph.now order.now.lines.items order.now.left.items }
+    requires acyclic { Everywhere (NoCycleAt graph.now) }
     requires table { IsPathTable graph.now paths.now }
     requires releases { AreReleases graph.now releases.now }
     ensures { IfOk result (λ o. MatchOption o (EverywhereTwice (RaceAt graph.now))
         (λ p. (p.0 < length graph.now.lines) × (p.1 < length graph.now.lines) × FailsFirstTwice (RaceAt graph.now) p.0 p.1)) }
 {
     edges_between_lines();
-    let rivals = Rivals::new(alloc, graph, paths, releases)?;
-    for line in 0..graph.lines() {
+    let lines = graph.lines();
+    let summaries = summaries(alloc, graph, paths, releases)?;
+    let held = held(alloc, graph, summaries.as_slice())?;
+    if are_settled(alloc, graph, order.lines.as_slice(), &held)? {
+        return Ok(None);
+    }
+    let rivals = Rivals::new(alloc, graph, paths, summaries)?;
+    for line in 0..lines {
         if let Some(other) = rivals.first_of(graph, paths, line) {
             return Ok(Some((line, other)));
         }
@@ -58,16 +71,16 @@ impl Rivals {
         alloc: Global,
         graph: &Graph,
         paths: &PathTable,
-        releases: &[Option<u32>],
+        summaries: Vec<Summary>,
     ) -> Result<Rivals, NoMemory>
         requires table { IsPathTable graph.now paths.now }
-        requires releases { AreReleases graph.now releases.now }
+        requires summed { AreSummed graph.now summaries.items }
         ensures { IfOk result (AreRivals graph.now) }
     {
         Ok(Rivals {
             accesses: accesses_of_lines(alloc, graph)?,
             users: user_rows(alloc, graph, paths.words())?,
-            summaries: summaries(alloc, graph, paths, releases)?,
+            summaries,
         })
     }
 

@@ -6,13 +6,16 @@ ghost use Rattle.graph_model.specs.graph.Graph.{locks};
 ghost use Rattle.graph_model.specs.meaning.Rules.{Acquires};
 ghost use Rattle.race_check.specs.Paths.{IsPathTable, path_in};
 ghost use Rattle.race_check.specs.Releases.{AreReleases};
+ghost use Rattle.race_sweeps.specs.Held.{IsHeld};
 ghost use Rattle.race_check.specs.Summaries.{AreSummaries, AreSummed, ApartIn, IsNoted, MayBeApartBy};
 
 use crate::paths::PathTable;
 use crate::reservations::acquires;
 use graph_model::graph::Graph;
+use graph_model::laws::edges_between_lines;
 use index_spaces::NoMemory;
 use index_spaces::room::{filled, push};
+use race_sweeps::held::Held;
 use std::alloc::Global;
 
 /// For each line the first acquire of a reservation in whose section it lies, and whether it lies
@@ -21,6 +24,31 @@ use std::alloc::Global;
 pub(crate) struct Summary {
     first: Vec<Option<u32>>,
     more: Vec<bool>,
+}
+
+/// In which sections the lines lie, by the first acquire of each summary.
+pub(crate) fn held(alloc: Global, graph: &Graph, summaries: &[Summary]) -> Result<Held, NoMemory>
+    requires { AreSummed graph.now summaries.now }
+    ensures { IfOk result (IsHeld graph.now) }
+{
+    edges_between_lines();
+    let _ = graph.lines();
+    let mut acquires = Vec::new(alloc);
+    for summary in summaries {
+        let row = copied(alloc, summary.first.as_slice())?;
+        push(&mut acquires, row)?;
+    }
+    Ok(Held { acquires })
+}
+
+fn copied(alloc: Global, items: &[Option<u32>]) -> Result<Vec<Option<u32>>, NoMemory>
+    ensures { IfOk result (λ v. v.items ≡ items.now) }
+{
+    let mut copy = Vec::new(alloc);
+    for item in items {
+        push(&mut copy, *item)?;
+    }
+    Ok(copy)
 }
 
 /// The summaries of all reservations.

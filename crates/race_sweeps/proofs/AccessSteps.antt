@@ -1,0 +1,90 @@
+-- The accesses of a line, one after the other.
+use Rattle.std.proofs.Common.{◌≡◌, ℕ, ◌+◌, ◌<◌, ◌≤◌, true, false, inl, inr, List, [], length, refl, sym, ◌∙◌, ap, subst, arith, zero, suc, ◌∷◌}
+use Rattle.std.specs.Prelude.{Option, Some, None, Contains, ◌↔◌, IsTrue, slice_get}
+use Rattle.std.specs.Option.{option_map_or}
+use Rattle.std.specs.List.{slice_index_or}
+use Rattle.std.proofs.lemmas.Bool.{true≢false, cases_lt}
+use Rattle.std.proofs.lemmas.Option.{none-some, same_Some, slice_get_within, get_or_from_slice_get, slice_get-get_or}
+use Rattle.graph_model.specs.declared.graph.verb.Access.{Access}
+use Rattle.graph_model.specs.declared.graph.verb.Mode.TheVariants.{Read}
+use Rattle.graph_model.specs.declared.graph.verb.Kernel.{Kernel}
+use Rattle.graph_model.specs.declared.graph.verb.Kernel.TheVariants.{Iota, Axpy, Stencil, Scan, Hist, Dot, Expect, Gather}
+use Rattle.graph_model.specs.declared.graph.verb.Verb.{Verb}
+use Rattle.graph_model.specs.declared.graph.verb.Verb.TheVariants.{User, Trigger, Cancel, Merge, MergeIgnore, Phase, Arrive, Acquire, Release, Fill, Copy, Reduce, Task}
+use Rattle.graph_model.specs.graph.Graph.{GraphValue, verb_at}
+use Rattle.graph_model.specs.graph.Access.{accesses, verb_accesses, kernel_accesses}
+
+-- a line has at most three accesses
+few_kernel : (k : Kernel) → length (kernel_accesses k) ≤ 3
+few_kernel (Iota x s value) = omega arith
+few_kernel (Axpy x y s factor) = omega arith
+few_kernel (Stencil x y r s) = omega arith
+few_kernel (Scan x y s) = omega arith
+few_kernel (Hist x y s t) = omega arith
+few_kernel (Dot x y z s t) = omega arith
+few_kernel (Expect x s low high) = omega arith
+few_kernel (Gather x y z s t) = omega arith
+
+few_by : (v : Verb) → length (verb_accesses v) ≤ 3
+few_by User = omega arith
+few_by (Trigger u) = omega arith
+few_by (Cancel u) = omega arith
+few_by (Merge es) = omega arith
+few_by (MergeIgnore es) = omega arith
+few_by (Phase b) = omega arith
+few_by (Arrive q v) = omega arith
+few_by (Acquire l) = omega arith
+few_by (Release q) = omega arith
+few_by (Fill t s v) = omega arith
+few_by (Copy x y s) = omega arith
+few_by (Reduce o x y s) = omega arith
+few_by (Task k) = few_kernel k
+
+few_at : (o : Option Verb) → length (option_map_or verb_accesses o []) ≤ 3
+few_at None = omega arith
+few_at (Some v) = few_by v
+
+pub few_accesses : (g : GraphValue) (i : ℕ) → length (accesses g i) ≤ 3
+few_accesses g i = few_at (verb_at g i)
+
+-- an access that was read is one of the line
+pub access_read : (xs : List Access) (k : ℕ) (a : Access) → slice_get xs k ≡ Some a → Contains xs a
+access_read xs k a e = (k, slice_get_within xs k a e, get_or_from_slice_get xs k a a e)
+
+-- none of the first k accesses is such
+abbrev pub NoneAmong : (Access → Type 0) → List Access → ℕ → Type 0
+NoneAmong P xs k = (m : ℕ) (a : Access) → m < k → slice_get xs m ≡ Some a → P a → ⊥
+
+pub none_more : (P : Access → Type 0) (xs : List Access) (k : ℕ) (a : Access) → slice_get xs k ≡ Some a → (P a → ⊥) → NoneAmong P xs k → NoneAmong P xs (k + 1)
+none_more P xs k a at fails none m b h e p = elim (cases_lt m k) [
+  | inl l ↦ none m b l e p
+  | inr up ↦ (let same : m ≡ k = omega arith in fails (subst P (same_Some b a (sym e ∙ (ap (slice_get xs) same ∙ at))) p))
+]
+
+pub none_done : (P : Access → Type 0) (xs : List Access) (k : ℕ) → length xs ≤ k → NoneAmong P xs k → (a : Access) → Contains xs a → P a → ⊥
+none_done P xs k few none a c p = let b : c.0 < length xs = c.1 in none c.0 a (omega arith) (slice_get-get_or xs c.0 a c.1 ∙ ap Some c.2) p
+
+pub none_left : (P : Access → Type 0) (xs : List Access) (k : ℕ) → slice_get xs k ≡ None → NoneAmong P xs k → (a : Access) → Contains xs a → P a → ⊥
+none_left P xs k gone none a c p = none_done P xs k few none a c p
+  where
+    few : length xs ≤ k
+    few = elim (cases_lt k (length xs)) [ inl l ↦ absurd (none-some (slice_index_or xs k a) (sym gone ∙ slice_get-get_or xs k a l)) | inr le ↦ le ]
+
+-- the answers of such a loop
+pub answer_no : (Q : Type 0) → (Q → ⊥) → IsTrue false ↔ Q
+answer_no Q none = ((λ h. absurd (true≢false (sym h))), (λ q. absurd (none q)))
+
+pub answer_yes : (Q : Type 0) → Q → IsTrue true ↔ Q
+answer_yes Q q = ((λ h. q), (λ k. refl))
+
+pub no_more : (g : GraphValue) (i k : ℕ) → slice_get (accesses g i) k ≡ None → length (accesses g i) ≤ k
+no_more g i k gone = elim (cases_lt k (length (accesses g i))) [ inl l ↦ absurd (absent (accesses g i) k l gone) | inr le ↦ le ]
+  where
+    absent : (xs : List Access) (k : ℕ) → k < length xs → slice_get xs k ≡ None → ⊥
+    absent [] k l e = absurd (omega arith)
+    absent (y ∷ ys) zero l e = none-some y (sym e)
+    absent (y ∷ ys) (suc k) l e = absent ys k (omega arith) e
+
+-- an access that is read past the end of a list
+abbrev pub no_access : Access
+no_access = record { column = 0; space = 0; mode = Read }

@@ -1,0 +1,16 @@
+pub mod AccessSteps
+pub mod Bits
+pub mod Lists
+pub mod Marking
+pub mod Sections
+pub mod Hardening
+pub mod Placing
+pub mod Reaching
+pub mod Conflicts
+pub mod Nearness
+pub mod Listed
+pub mod Classing
+pub mod Asking
+pub mod Walking
+pub mod Settling
+pub mod Slices

@@ -1,0 +1,56 @@
+-- In which sections two lines lie.
+use Rattle.std.proofs.Common.{◌≡◌, ℕ, ◌+◌, ◌<◌, ◌≤◌, false, not, inl, inr, length, refl, sym, ◌∙◌, ap, subst, arith}
+use Rattle.std.specs.Prelude.{Option, Some, None, Vec, is_some}
+use Rattle.std.specs.Global.{Global}
+use Rattle.std.specs.List.{slice_index_or}
+use Rattle.std.proofs.lemmas.Bool.{true≢false, cases_lt, cases_Bool}
+use Rattle.graph_model.specs.graph.Graph.{GraphValue, locks}
+use Rattle.graph_model.specs.graph.Fits.{IsGraph}
+use Rattle.graph_model.specs.meaning.Rules.{Section, modes_commute}
+use Rattle.graph_model.proofs.ReleaseFacts.{acquired_lock_known}
+use Rattle.race_sweeps.specs.declared.held.Held.{Held}
+use Rattle.race_sweeps.specs.Held.{IsHeld, IsHeldRow, LieApart, AreDifferent}
+use Rattle.race_sweeps.specs.Clash.{LinesClash}
+use Rattle.race_sweeps.specs.Settled.{IsSettled}
+
+different_apart : (g : GraphValue) (l : ℕ) (row : Vec (Option ℕ) Global) → IsHeldRow g l row → (i j : ℕ) (o p : Option ℕ) → slice_index_or row.items i None ≡ o → slice_index_or row.items j None ≡ p → AreDifferent o p → LieApart g i j
+different_apart g l row h i j (Some q) (Some k) e f d = (l, q, k, d, h.is i q e, h.is j k f)
+different_apart g l row h i j (Some q) None e f d = absurd d
+different_apart g l row h i j None (Some k) e f d = absurd d
+different_apart g l row h i j None None e f d = absurd d
+
+pub row_apart : (g : GraphValue) (l : ℕ) (row : Vec (Option ℕ) Global) → IsHeldRow g l row → (i j : ℕ) (o p : Option ℕ) → o ≡ slice_index_or row.items i None → p ≡ slice_index_or row.items j None → AreDifferent o p → LieApart g i j
+row_apart g l row h i j o p e f d = different_apart g l row h i j o p (sym e) (sym f) d
+
+none_of : (o : Option ℕ) → is_some o ≡ false → o ≡ None
+none_of None e = refl
+none_of (Some q) e = absurd (true≢false e)
+
+pub free_more : (g : GraphValue) (i k : ℕ) (row : Vec (Option ℕ) Global) → IsHeldRow g k row → i < length g.lines → slice_index_or row.items i None ≡ None → ((l q : ℕ) → l < k → Section g l q i → ⊥) → (l q : ℕ) → l < k + 1 → Section g l q i → ⊥
+free_more g i k row h known none before l q small s = elim (cases_lt l k) [
+  | inl low ↦ before l q low s
+  | inr up ↦ h.none i q known none (subst (λ z. Section g z q i) (let e : l ≡ k = omega arith in e) s)
+]
+
+pub none_read : (o p : Option ℕ) → o ≡ p → is_some o ≡ false → p ≡ None
+none_read o p e f = sym e ∙ none_of o f
+
+pub free_all : (g : GraphValue) → IsGraph g → (h : Held) → IsHeld g h → (i k : ℕ) → length h.acquires.items ≤ k → ((l q : ℕ) → l < k → Section g l q i → ⊥) → (l q : ℕ) → Section g l q i → ⊥
+free_all g f h is i k all none l q s =
+    let b : l < length (locks g) = acquired_lock_known g f q l s.acquires in
+    let e : length h.acquires.items ≡ length (locks g) = is.count in none l q (omega arith) s
+
+-- what does not clash is settled, and what clashes by sums alone, where the lines lie apart
+pub exempt_by : (g : GraphValue) (i j : ℕ) → (LinesClash g false i j → ⊥) → LieApart g i j → IsSettled g i j
+exempt_by g i j soft a c = inr (inr (record {
+  sums = λ x y hx hy conflict. elim (cases_Bool (modes_commute x.mode y.mode)) [
+    | inl both ↦ both
+    | inr no' ↦ absurd (soft (x, hx, (y, hy, record { conflict = conflict; counts = ap not no' })))
+  ];
+  lock = a.0;
+  one = a.1;
+  other = a.2;
+  different = a.3;
+  one_section = a.4;
+  other_section = a.5;
+}))

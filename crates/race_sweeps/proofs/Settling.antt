@@ -1,0 +1,138 @@
+-- Conflicts that are answered for are settled: a hard access between two lines has a path from the one and to the other.
+use Rattle.std.proofs.Common.{◌≡◌, ℕ, zero, suc, ◌+◌, ◌<◌, ◌≤◌, ◌⊎◌, true, false, inl, inr, List, [], ◌∷◌, length, refl, sym, ◌∙◌, ap, subst, arith}
+use Rattle.std.specs.Prelude.{Contains, IsTrue, option_map, slice_get, slice_index}
+use Rattle.std.specs.Option.{option_map_or}
+use Rattle.std.proofs.lemmas.Bool.{true≢false, cases_order}
+use Rattle.index_spaces.specs.Space.{has_point}
+use Rattle.graph_model.specs.declared.graph.verb.Access.{Access}
+use Rattle.graph_model.specs.declared.graph.verb.Line.{Line}
+use Rattle.graph_model.specs.declared.graph.verb.Mode.{Mode}
+use Rattle.graph_model.specs.declared.graph.verb.Mode.TheVariants.{Read, Write, Sum}
+use Rattle.graph_model.specs.graph.Graph.{GraphValue, space_at}
+use Rattle.graph_model.specs.graph.Edges.{edges}
+use Rattle.graph_model.specs.graph.Access.{accesses, verb_accesses, AccessesConflict, Conflict, modes_clash}
+use Rattle.graph_model.specs.graph.Fits.{IsGraph}
+use Rattle.graph_model.specs.meaning.Laws.{EdgesBetweenLines}
+use Rattle.graph_model.specs.meaning.Path.{Path, HasPath, last, first}
+use Rattle.graph_model.specs.meaning.Rules.{Exempt, RaceAt, EverywhereTwice, modes_commute}
+use Rattle.graph_model.proofs.PathLaws.{path_append}
+use Rattle.basics.proofs.ListFacts.{contains_none}
+use Rattle.race_sweeps.specs.Placed.{IsPlaced}
+use Rattle.race_sweeps.specs.Scan.{IsHard, HasHard, AreAnsweredAt}
+use Rattle.race_sweeps.specs.Settled.{IsSettled}
+use Rattle.race_sweeps.proofs.Conflicts.{lines_back, exempt_back, conflict_back}
+
+-- a line that has an access is there
+access_there : (ls : List Line) (i : ℕ) (a : Access) → Contains (option_map_or verb_accesses (option_map (λ (l : Line). l.verb) (slice_get ls i)) []) a → i < length ls
+access_there [] i a c = absurd (contains_none a c)
+access_there (l ∷ ls) zero a c = omega arith
+access_there (l ∷ ls) (suc i) a c = let b : i < length ls = access_there ls i a c in omega arith
+
+clash_write : (m : Mode) → modes_clash m Write ≡ true
+clash_write Read = refl
+clash_write Write = refl
+clash_write Sum = refl
+
+clash_sum : (m : Mode) → modes_clash m Sum ≡ true
+clash_sum Read = refl
+clash_sum Write = refl
+clash_sum Sum = refl
+
+never_commutes : (m : Mode) → modes_commute m Write ≡ false
+never_commutes Read = refl
+never_commutes Write = refl
+never_commutes Sum = refl
+
+module _ (g : GraphValue) where
+  hard_clash : (i : ℕ) (m n : Mode) → IsHard g i n → modes_clash m n ≡ true
+  hard_clash i m n (inl w) = ap (modes_clash m) w ∙ clash_write m
+  hard_clash i m n (inr s) = ap (modes_clash m) s.0 ∙ clash_sum m
+
+  -- a hard access of the column and the space of one of two accesses that conflict conflicts with both
+  first_conflict : (i : ℕ) (a b h : Access) → AccessesConflict g a b → h.column ≡ a.column → h.space ≡ b.space → IsHard g i h.mode → AccessesConflict g a h
+  first_conflict i a b h c column space hard = record {
+    column = sym column;
+    meet = (c.meet.0, c.meet.1, subst (λ s. IsTrue (has_point (space_at g s) c.meet.0)) (sym space) c.meet.2);
+    clash = hard_clash i a.mode h.mode hard;
+  }
+
+  same_conflict : (i : ℕ) (a b h : Access) → AccessesConflict g a b → h.column ≡ a.column → h.space ≡ a.space → IsHard g i h.mode → AccessesConflict g a h
+  same_conflict i a b h c column space hard = record {
+    column = sym column;
+    meet = (c.meet.0, c.meet.1, subst (λ s. IsTrue (has_point (space_at g s) c.meet.0)) (sym space) c.meet.1);
+    clash = hard_clash i a.mode h.mode hard;
+  }
+
+  -- no exemption covers it
+  not_exempt : (i w : ℕ) (a h : Access) → Contains (accesses g i) a → Contains (accesses g w) h → AccessesConflict g a h → IsHard g w h.mode → Exempt g i w → ⊥
+  not_exempt i w a h ha hh c (inl write) x = true≢false (sym (x.sums a h ha hh c) ∙ (ap (modes_commute a.mode) write ∙ never_commutes a.mode))
+  not_exempt i w a h ha hh c (inr sum) x = sum.1 x.lock x.other x.other_section
+
+module _ (g : GraphValue) (fits : IsGraph g) (between : EdgesBetweenLines) (lines : List ℕ) (placed : IsPlaced g lines) where
+  -- paths lead forward
+  forward : {i j : ℕ} → Path (edges g) i j → (p q : ℕ) → p < length lines → q < length lines → slice_index lines p ≡ i → slice_index lines q ≡ j → p < q
+  forward (last e c f t) p q hp hq at to = placed.forward e p q c hp hq (at ∙ sym f) (to ∙ sym t)
+  forward (first e c f rest) p q hp hq at to =
+      let r = placed.each e.to (between g e fits c).1 in
+      let low : p < r.0 = placed.forward e p r.0 c hp r.1 (at ∙ sym f) r.2 in
+      let high : r.0 < q = forward rest r.0 q r.1 hq r.2 to in omega arith
+
+  -- two lines that are settled by a conflict with a hard access have a path forward
+  path_to_hard : (x w : ℕ) (a h : Access) → x < w → w < length lines → Contains (accesses g (slice_index lines x)) a → Contains (accesses g (slice_index lines w)) h → AccessesConflict g a h → IsHard g (slice_index lines w) h.mode → IsSettled g (slice_index lines x) (slice_index lines w) →
+      HasPath g (slice_index lines x) (slice_index lines w)
+  path_to_hard x w a h low high ha hh c hard settled = elim (settled (record { different = apart; one = a; other = h; one_in = ha; other_in = hh; conflict = c })) [
+    | inl path ↦ path
+    | inr (inl back) ↦ (let up : w < x = forward back w x high (omega arith) refl refl in absurd (omega arith))
+    | inr (inr exempt) ↦ absurd (not_exempt g (slice_index lines x) (slice_index lines w) a h ha hh c hard exempt)
+  ]
+    where
+      apart : slice_index lines x ≡ slice_index lines w → ⊥
+      apart same = placed.distinct x w low high same
+
+  path_from_hard : (w u : ℕ) (h b : Access) → w < u → u < length lines → Contains (accesses g (slice_index lines w)) h → Contains (accesses g (slice_index lines u)) b → AccessesConflict g b h → IsHard g (slice_index lines w) h.mode → IsSettled g (slice_index lines w) (slice_index lines u) →
+      HasPath g (slice_index lines w) (slice_index lines u)
+  path_from_hard w u h b low high hh hb c hard settled = elim (settled (record { different = apart; one = h; other = b; one_in = hh; other_in = hb; conflict = conflict_back g b h c })) [
+    | inl path ↦ path
+    | inr (inl back) ↦ (let up : u < w = forward back u w high (omega arith) refl refl in absurd (omega arith))
+    | inr (inr exempt) ↦ absurd (not_exempt g (slice_index lines u) (slice_index lines w) b h hb hh c hard (exempt_back g (slice_index lines w) (slice_index lines u) exempt))
+  ]
+    where
+      apart : slice_index lines w ≡ slice_index lines u → ⊥
+      apart same = placed.distinct w u low high same
+
+  -- a path through a hard access
+  path_through : (x w u : ℕ) (a b : Access) → x < w → w < u → u < length lines → Contains (accesses g (slice_index lines x)) a → Contains (accesses g (slice_index lines u)) b → AccessesConflict g a b →
+      HasHard g (slice_index lines w) a.column a.space ⊎ HasHard g (slice_index lines w) b.column b.space → IsSettled g (slice_index lines x) (slice_index lines w) → IsSettled g (slice_index lines w) (slice_index lines u) → HasPath g (slice_index lines x) (slice_index lines u)
+  path_through x w u a b low high known ha hb c (inl h) before behind = path_append
+      (path_to_hard x w a h.access low (omega arith) ha h.listed (same_conflict g (slice_index lines w) a b h.access c h.column_is h.space_is h.hard) h.hard before)
+      (path_from_hard w u h.access b high known h.listed hb (first_conflict g (slice_index lines w) b a h.access (conflict_back g a b c) (h.column_is ∙ c.column) h.space_is h.hard) h.hard behind)
+  path_through x w u a b low high known ha hb c (inr h) before behind = path_append
+      (path_to_hard x w a h.access low (omega arith) ha h.listed (first_conflict g (slice_index lines w) a b h.access c (h.column_is ∙ sym c.column) h.space_is h.hard) h.hard before)
+      (path_from_hard w u h.access b high known h.listed hb (same_conflict g (slice_index lines w) b a h.access (conflict_back g a b c) h.column_is h.space_is h.hard) h.hard behind)
+
+  module _ (answered : (u : ℕ) → u < length lines → AreAnsweredAt g lines u) where
+    settled_within : (d x u : ℕ) → x < u → u < length lines → u ≤ x + d → IsSettled g (slice_index lines x) (slice_index lines u)
+    settled_within zero x u low high near c = absurd (omega arith)
+    settled_within (suc d) x u low high near c = elim (answered u high x c.one c.other low c.one_in c.other_in c.conflict) [
+      | inl settled ↦ settled c
+      | inr hard ↦ (
+          let w = hard.0 in
+          let low' : x < w = hard.1 in
+          let high' : w < u = hard.2 in
+          inl (path_through x w u c.one c.other low' high' high c.one_in c.other_in c.conflict hard.3 (settled_within d x w low' (omega arith) (omega arith)) (settled_within d w u high' high (omega arith))))
+    ]
+
+    pub all_settled : EverywhereTwice (RaceAt g)
+    all_settled i j low c =
+        let p = placed.each i (access_there g.lines i c.one c.one_in) in
+        let q = placed.each j (access_there g.lines j c.other c.other_in) in
+        elim (cases_order p.0 q.0) [
+          | inl same ↦ (let e : i ≡ j = sym p.2 ∙ (ap (slice_index lines) same ∙ q.2) in absurd (omega arith))
+          | inr (inl before) ↦ subst (λ z. HasPath g i z ⊎ (HasPath g z i ⊎ Exempt g i z)) q.2 (subst (λ y. HasPath g y (slice_index lines q.0) ⊎ (HasPath g (slice_index lines q.0) y ⊎ Exempt g y (slice_index lines q.0))) p.2
+              (settled_within q.0 p.0 q.0 before q.1 (omega arith) (subst (λ z. Conflict g (slice_index lines p.0) z) (sym q.2) (subst (λ y. Conflict g y j) (sym p.2) c))))
+          | inr (inr behind) ↦ elim (settled_within p.0 q.0 p.0 behind p.1 (omega arith) (subst (λ z. Conflict g (slice_index lines q.0) z) (sym p.2) (subst (λ y. Conflict g y i) (sym q.2) (lines_back g i j c)))) [
+            | inl path ↦ inr (inl (subst (λ z. HasPath g z i) q.2 (subst (λ y. HasPath g (slice_index lines q.0) y) p.2 path)))
+            | inr (inl back) ↦ inl (subst (λ z. HasPath g i z) q.2 (subst (λ y. HasPath g y (slice_index lines q.0)) p.2 back))
+            | inr (inr exempt) ↦ inr (inr (exempt_back g j i (subst (λ z. Exempt g z i) q.2 (subst (λ y. Exempt g (slice_index lines q.0) y) p.2 exempt))))
+          ]
+        ]

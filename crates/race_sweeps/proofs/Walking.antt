@@ -1,0 +1,91 @@
+-- Walks over the members of a class.
+use Rattle.std.proofs.Common.{◌≡◌, ℕ, ◌+◌, ◌*◌, ◌/◌, ◌<◌, ◌≤◌, ◌^◌, true, inl, inr, List, sym, ◌∙◌, ap, subst, arith}
+use Rattle.std.specs.Prelude.{Option, Some, None, slice_index}
+use Rattle.std.specs.Int.{bit_not}
+use lib.Bits.{bit_and}
+use mir.Syntax.{w64}
+use Rattle.std.proofs.lemmas.Bool.{cases_lt, cases_eq, cases_Bool, and_from, not_from_false, true≢false, ne_eqb}
+use Rattle.std.proofs.lemmas.Nat.Bits.{bit_at-zero}
+use Rattle.graph_model.specs.graph.Graph.{GraphValue}
+use Rattle.race_sweeps.specs.declared.marks.Mark.{Mark}
+use Rattle.race_sweeps.specs.declared.table.Table.{Table}
+use Rattle.race_sweeps.specs.Classes.{class_at}
+use Rattle.race_sweeps.specs.Marks.{bit_in}
+use Rattle.race_sweeps.specs.Members.{IsLastBelow}
+use Rattle.race_sweeps.specs.Reach.{IsReach}
+use Rattle.race_sweeps.specs.Scan.{AreSettledWith, IsWalked}
+use Rattle.race_sweeps.specs.Settled.{IsSettled}
+use Rattle.race_sweeps.proofs.Bits.{bit_in-and, bit_in-not}
+use Rattle.race_sweeps.proofs.Listed.{last_found, last_none}
+
+-- a walk under way: the members of a mark's class from number `limit` on are settled, and the next one is the last below it
+pub record IsWalking (g : GraphValue) (t : Table) (first : ℕ) (ask : Mark) (all : ℕ) (found : Option ℕ) : Type 0 where
+  pub limit : ℕ
+  pub within : limit ≤ all
+  pub found_is : IsLastBelow t.classes.items ask.class limit found
+  pub done : (x k : ℕ) → k < 3 → limit ≤ 3 * x + k → 3 * x + k < all → class_at t.classes.items (3 * x + k) ≡ Some ask.class → ask.floor ≤ x → AreSettledWith g t.lines.items first x ask.word
+
+-- how far a walk may go on
+abbrev pub rest_of : Option ℕ → ℕ
+rest_of None = 0
+rest_of (Some m) = m + 1
+
+pub walk_begins : (g : GraphValue) (t : Table) (first : ℕ) (ask : Mark) (all : ℕ) (found : Option ℕ) → IsLastBelow t.classes.items ask.class all found → IsWalking g t first ask all found
+walk_begins g t first ask all found is = record { limit = all; within = omega arith; found_is = is; done = λ x k few low high class above. absurd (omega arith) }
+
+module _ (g : GraphValue) (t : Table) (first : ℕ) (ask : Mark) (all : ℕ) (found : Option ℕ) (w : IsWalking g t first ask all found) where
+  -- no member is left
+  pub walk_ends : found ≡ None → IsWalked g t first all ask
+  walk_ends none x k few low class above = elim (cases_lt (3 * x + k) w.limit) [
+    | inl l ↦ absurd (last_none t.classes.items ask.class w.limit found w.found_is none (3 * x + k) l class)
+    | inr up ↦ w.done x k few up low class above
+  ]
+
+  module _ (m : ℕ) (some : found ≡ Some m) where
+    is : (m < w.limit) × (class_at t.classes.items m ≡ Some ask.class) × ((q : ℕ) → m < q → q < w.limit → class_at t.classes.items q ≡ Some ask.class → ⊥)
+    is = last_found t.classes.items ask.class w.limit m found w.found_is some
+
+    pub found_low : m < all
+    found_low = let a : m < w.limit = is.0 in let b : w.limit ≤ all = w.within in omega arith
+
+    pub found_class : class_at t.classes.items m ≡ Some ask.class
+    found_class = is.1
+
+    -- the next member lies below the floor
+    pub walk_stops : m / 3 < ask.floor → IsWalked g t first all ask
+    walk_stops low x k few before class above = elim (cases_lt (3 * x + k) w.limit) [
+      | inl l ↦ absurd (is.2 (3 * x + k) (omega arith) l class)
+      | inr up ↦ w.done x k few up before class above
+    ]
+
+    -- or is settled
+    pub walk_more : AreSettledWith g t.lines.items first (m / 3) ask.word → (next : Option ℕ) → IsLastBelow t.classes.items ask.class m next → IsWalking g t first ask all next
+    walk_more settled next before = record {
+      limit = m;
+      within = (let a : m < all = found_low in omega arith);
+      found_is = before;
+      done = λ x k few low high class above. elim (cases_lt (3 * x + k) w.limit) [
+        | inr up ↦ w.done x k few up high class above
+        | inl l ↦ elim (cases_eq (3 * x + k) m) [
+          | inl same ↦ subst (λ z. AreSettledWith g t.lines.items first z ask.word) (let e : m / 3 ≡ x = omega arith in e) settled
+          | inr apart ↦ absurd (is.2 (3 * x + k) (omega (arith, apart)) l class)
+        ]
+      ];
+    }
+
+pub rest_less : (classes : List (Option ℕ)) (c m : ℕ) (next : Option ℕ) → IsLastBelow classes c m next → rest_of next < m + 1
+rest_less classes c m None h = omega arith
+rest_less classes c m (Some p) h = let l : p < m = h.0 in omega arith
+
+-- lines that are reached are settled, and so are those that are left where they are
+pub settled_by : (g : GraphValue) (lines words : List ℕ) (first x word behind reached : ℕ) → IsReach g lines first words → reached ≡ slice_index words x → reached < 2 ^ 64 → ((b : ℕ) → b < 64 → x < first + b → bit_in behind b ≡ true) →
+    ((b : ℕ) → b < 64 → bit_in (bit_and (bit_and word behind) (bit_not w64 reached)) b ≡ true → IsSettled g (slice_index lines x) (slice_index lines (first + b))) → AreSettledWith g lines first x word
+settled_by g lines words first x word behind reached r is fits later left b low set up = elim (cases_Bool (bit_in reached b)) [
+  | inl yes' ↦ (λ c. inl ((r.reached x b low (ap (λ z. bit_in z b) (sym is) ∙ yes')).1))
+  | inr no' ↦ left b low (bit_in-and (bit_and word behind) (bit_not w64 reached) b
+      ∙ and_from (bit_in (bit_and word behind) b) (bit_in (bit_not w64 reached) b) (bit_in-and word behind b ∙ and_from (bit_in word b) (bit_in behind b) set (later b low up))
+      (bit_in-not reached b fits low ∙ not_from_false (bit_in reached b) no'))
+]
+
+pub none_left : (left b : ℕ) → left ≡ 0 → bit_in left b ≡ true → ⊥
+none_left left b none set = true≢false (sym set ∙ (ap (λ z. bit_in z b) none ∙ ne_eqb _ 1 (λ one. (let z = bit_at-zero b in absurd (omega (arith, z, one))))))

@@ -1,0 +1,18 @@
+use Rattle.std.proofs.Common.{◌≡◌, length, arith, subst}
+use Rattle.std.specs.Prelude.{Some, None, slice_get}
+use Rattle.std.proofs.lemmas.List.{get_or_read}
+use Rattle.std.proofs.lemmas.Option.{slice_get_read}
+use Rattle.std.proofs.Common.{refl}
+use Rattle.race_sweeps.proofs.Sections.{row_apart}
+use Rattle.race_sweeps.proofs.held.Held.are_apart.Goals as goal
+
+pub returns-then-differ : goal.returns-then-differ
+returns-then-differ c h =
+    let g = c.args.graph.now in
+    let row = c.acquires-item.result in
+    let k = c.loop-acquires.acquires-index in
+    let is = c.requires.held.each k row (subst (λ rows. slice_get rows k ≡ Some row) c.deref-acquires-items.ensures.value (slice_get_read c.deref-acquires-items.result.now (length c.deref-acquires-items.result.now) k row refl c.loop-acquires-test.true c.acquires-item.is)) in
+    row_apart g k row is c.args.one c.args.other c.index.result.now c.index-in-loop-acquires.result.now
+    (get_or_read row.items c.args.one c.index.result.now (omega (arith, is.size, c.requires.one)) c.index.ensures None)
+    (get_or_read row.items c.args.other c.index-in-loop-acquires.result.now (omega (arith, is.size, c.requires.other)) c.index-in-loop-acquires.ensures None)
+    (c.differ.ensures c.if-differ.true)

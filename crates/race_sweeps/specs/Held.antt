@@ -1,0 +1,28 @@
+-- In which sections the lines lie, by one acquire for each reservation.
+use Rattle.std.specs.Prelude.{◌≡◌, ◌≢◌, ℕ, ◌<◌, length, Option, Some, None, Vec, slice_get}
+use Rattle.std.specs.Global.{Global}
+use Rattle.std.specs.List.{slice_index_or}
+use Rattle.graph_model.specs.graph.Graph.{GraphValue, locks}
+use Rattle.graph_model.specs.meaning.Rules.{Section}
+use Rattle.race_sweeps.specs.declared.held.Held.{Held}
+
+-- where an acquire is kept the line lies in its section, and where none is kept it lies in no section of the reservation
+pub record IsHeldRow (g : GraphValue) (l : ℕ) (row : Vec (Option ℕ) Global) : Type 0 where
+  pub size : length row.items ≡ length g.lines
+  pub is : (i q : ℕ) → slice_index_or row.items i None ≡ Some q → Section g l q i
+  pub none : (i q : ℕ) → i < length g.lines → slice_index_or row.items i None ≡ None → Section g l q i → ⊥
+
+pub record IsHeld (g : GraphValue) (h : Held) : Type 0 where
+  pub count : length h.acquires.items ≡ length (locks g)
+  pub each : (l : ℕ) (row : Vec (Option ℕ) Global) → slice_get h.acquires.items l ≡ Some row → IsHeldRow g l row
+
+-- two lines lie in sections of two different acquires of one reservation
+abbrev pub LieApart : GraphValue → ℕ → ℕ → Type 0
+LieApart g i j = (l : ℕ) × (q : ℕ) × (k : ℕ) × (q ≢ k) × Section g l q i × Section g l k j
+
+-- both are there and they differ
+abbrev pub AreDifferent : Option ℕ → Option ℕ → Type 0
+AreDifferent (Some q) (Some k) = q ≢ k
+AreDifferent (Some q) None = ⊥
+AreDifferent None (Some k) = ⊥
+AreDifferent None None = ⊥

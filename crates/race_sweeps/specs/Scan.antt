@@ -1,0 +1,61 @@
+-- The scan for conflicts that no path settles, 64 lines at a time.
+use Rattle.std.specs.Prelude.{◌≡◌, ◌≢◌, ℕ, ◌+◌, ◌*◌, ◌<◌, ◌≤◌, ◌⊎◌, true, List, length, Some, Contains, slice_get, slice_index}
+use Rattle.graph_model.specs.declared.graph.verb.Access.{Access}
+use Rattle.graph_model.specs.declared.graph.verb.Mode.{Mode}
+use Rattle.graph_model.specs.declared.graph.verb.Mode.TheVariants.{Read, Write, Sum}
+use Rattle.graph_model.specs.graph.Graph.{GraphValue}
+use Rattle.graph_model.specs.graph.Access.{accesses, AccessesConflict}
+use Rattle.graph_model.specs.meaning.Rules.{Section}
+use Rattle.race_sweeps.specs.declared.marks.Mark.{Mark}
+use Rattle.race_sweeps.specs.declared.table.Table.{Table}
+use Rattle.race_sweeps.specs.Classes.{class_at, IsNear}
+use Rattle.race_sweeps.specs.Marks.{bit_in, IsMarked}
+use Rattle.race_sweeps.specs.Settled.{IsSettled}
+
+-- an access of line i that no exemption covers: a write, or a sum outside of all sections
+abbrev pub IsHard : GraphValue → ℕ → Mode → Type 0
+IsHard g i mode = (mode ≡ Write) ⊎ ((mode ≡ Sum) × ((l q : ℕ) → Section g l q i → ⊥))
+
+-- line i has such an access of a column and a space
+pub record HasHard (g : GraphValue) (i column space : ℕ) : Type 0 where
+  pub access : Access
+  pub listed : Contains (accesses g i) access
+  pub column_is : access.column ≡ column
+  pub space_is : access.space ≡ space
+  pub hard : IsHard g i access.mode
+
+-- a number above 0 kept for a class is a place before `limit` with a hard access of the class's column and space
+pub record IsHardTo (g : GraphValue) (t : Table) (hard : List ℕ) (limit : ℕ) : Type 0 where
+  pub size : length hard ≡ length t.keys.items
+  pub below : (c : ℕ) → 0 < slice_index hard c → slice_index hard c < limit
+  pub is : (c : ℕ) (a : Access) → slice_get t.keys.items c ≡ Some a → 0 < slice_index hard c → HasHard g (slice_index t.lines.items (slice_index hard c)) a.column a.space
+
+-- class d is asked about targets of class c
+abbrev pub IsAskable : Table → ℕ → ℕ → Type 0
+IsAskable t c d = IsNear t.near.items c d ⊎ ((d ≡ c) × ((a : Access) × (slice_get t.keys.items c ≡ Some a) × (a.mode ≢ Read)))
+
+-- the members of class d below number `limit` are asked about each line of a word, but those that a hard access of class c or d follows
+abbrev pub IsAsked : Table → List ℕ → List Mark → ℕ → ℕ → ℕ → ℕ → Type 0
+IsAsked t hard asks limit c word d = (x k b : ℕ) → k < 3 → 3 * x + k < limit → class_at t.classes.items (3 * x + k) ≡ Some d → bit_in word b ≡ true →
+    (x < slice_index hard c) ⊎ ((x < slice_index hard d) ⊎ IsMarked asks d b x)
+
+-- and this for each class that a mark asks about
+abbrev pub IsMarkAsked : Table → List ℕ → List Mark → ℕ → Mark → Type 0
+IsMarkAsked t hard asks limit m = (d : ℕ) → IsAskable t m.class d → IsAsked t hard asks limit m.class m.word d
+
+-- each line of a word that stands behind place x is settled with the line there
+abbrev pub AreSettledWith : GraphValue → List ℕ → ℕ → ℕ → ℕ → Type 0
+AreSettledWith g lines first x word = (b : ℕ) → b < 64 → bit_in word b ≡ true → x < first + b → IsSettled g (slice_index lines x) (slice_index lines (first + b))
+
+-- the members of a mark's class from its floor on, below number `limit`, are settled with the mark's lines
+abbrev pub IsWalked : GraphValue → Table → ℕ → ℕ → Mark → Type 0
+IsWalked g t first limit m = (x k : ℕ) → k < 3 → 3 * x + k < limit → class_at t.classes.items (3 * x + k) ≡ Some m.class → m.floor ≤ x → AreSettledWith g t.lines.items first x m.word
+
+-- an access of the line at place x and one of the line at place u are answered for: by the lines themselves, or by a hard access of one of the two spaces between them
+abbrev pub IsAnswered : GraphValue → List ℕ → ℕ → ℕ → Access → Access → Type 0
+IsAnswered g lines x u a b = IsSettled g (slice_index lines x) (slice_index lines u)
+    ⊎ ((w : ℕ) × (x < w) × (w < u) × (HasHard g (slice_index lines w) a.column a.space ⊎ HasHard g (slice_index lines w) b.column b.space))
+
+-- all conflicts of the line at place u with lines before it are answered for
+abbrev pub AreAnsweredAt : GraphValue → List ℕ → ℕ → Type 0
+AreAnsweredAt g lines u = (x : ℕ) (a b : Access) → x < u → Contains (accesses g (slice_index lines x)) a → Contains (accesses g (slice_index lines u)) b → AccessesConflict g a b → IsAnswered g lines x u a b

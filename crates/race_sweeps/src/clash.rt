@@ -1,0 +1,97 @@
+//! Which lines conflict, and whether two lines are settled without a path.
+
+ghost use Rattle.std.specs.Prelude.{◌≡◌, ℕ, ◌<◌, ◌||◌, ◌↔◌, not, length, Contains, IsTrue};
+ghost use Rattle.graph_model.specs.declared.graph.verb.Access.{Access};
+ghost use Rattle.graph_model.specs.graph.Graph.{named_spaces};
+ghost use Rattle.graph_model.specs.graph.Access.{accesses, modes_clash};
+ghost use Rattle.graph_model.specs.meaning.Rules.{modes_commute};
+ghost use Rattle.race_sweeps.specs.Clash.{Clash, LinesClash};
+ghost use Rattle.race_sweeps.specs.Held.{IsHeld};
+ghost use Rattle.race_sweeps.specs.Settled.{IsSettled};
+
+use crate::held::Held;
+use graph_model::graph::Graph;
+use graph_model::line_laws::accesses_fit;
+use graph_model::verb::{Access, Mode};
+
+/// A line has at most three accesses.
+pub(crate) const MOST_ACCESSES: u32 = 3;
+
+/// Whether two lines do not conflict, or by sums alone and in sections of two different acquires
+/// of one reservation.
+pub(crate) fn is_exempt(graph: &Graph, held: &Held, one: u32, other: u32) -> bool
+    requires one { one < length graph.now.lines }
+    requires other { other < length graph.now.lines }
+    requires held { IsHeld graph.now held.now }
+    ensures { IsTrue result → IsSettled graph.now one other }
+{
+    if !lines_clash(graph, one, other, true) {
+        return true;
+    }
+    if lines_clash(graph, one, other, false) {
+        return false;
+    }
+    held.are_apart(graph, one, other)
+}
+
+/// Whether two lines have accesses that clash, by sums too where these count.
+fn lines_clash(graph: &Graph, one: u32, other: u32, sums: bool) -> bool
+    requires one { one < length graph.now.lines }
+    requires other { other < length graph.now.lines }
+    ensures { IsTrue result ↔ LinesClash graph.now sums one other }
+{
+    accesses_fit();
+    let _ = graph.lines();
+    for k in 0..MOST_ACCESSES {
+        let Some(access) = graph.access(one, k) else {
+            return false;
+        };
+        if clashes_with(graph, access, other, sums) {
+            return true;
+        }
+    }
+    false
+}
+
+/// Whether some access of a line clashes with this one.
+fn clashes_with(graph: &Graph, one: Access, line: u32, sums: bool) -> bool
+    requires one { one.space < length (named_spaces graph.now) }
+    requires line { line < length graph.now.lines }
+    ensures { IsTrue result ↔ ((b : Access) × Contains (accesses graph.now line) b × Clash graph.now sums one b) }
+{
+    accesses_fit();
+    let _ = graph.lines();
+    for k in 0..MOST_ACCESSES {
+        let Some(other) = graph.access(line, k) else {
+            return false;
+        };
+        if clash(graph, one, other, sums) {
+            return true;
+        }
+    }
+    false
+}
+
+/// Whether two accesses clash.
+pub(crate) fn clash(graph: &Graph, one: Access, other: Access, sums: bool) -> bool
+    requires one { one.space < length (named_spaces graph.now) }
+    requires other { other.space < length (named_spaces graph.now) }
+    ensures { IsTrue result ↔ Clash graph.now sums one other }
+{
+    one.column == other.column
+        && modes_clash(one.mode, other.mode)
+        && (sums || !modes_commute(one.mode, other.mode))
+        && graph.space(one.space).meets(graph.space(other.space))
+}
+
+fn modes_clash(one: Mode, other: Mode) -> bool
+    ensures { result ≡ modes_clash one other }
+{
+    !matches!((one, other), (Mode::Read, Mode::Read))
+}
+
+pub(crate) fn modes_commute(one: Mode, other: Mode) -> bool
+    ensures { result ≡ modes_commute one other }
+{
+    matches!((one, other), (Mode::Sum, Mode::Sum))
+}

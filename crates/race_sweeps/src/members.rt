@@ -1,0 +1,55 @@
+//! The members of classes.
+
+ghost use Rattle.std.specs.Prelude.{◌≡◌, ℕ, ◌+◌, ◌<◌, List, Option, length, OnOk, IfOk};
+ghost use Rattle.race_sweeps.specs.Members.{AreMembers, IsLastBelow};
+ghost use Rattle.race_sweeps.specs.Classes.{class_at};
+
+use index_spaces::NoMemory;
+use index_spaces::room::{filled, push};
+use std::alloc::Global;
+
+/// The place of the first member of each class and its last member, and for each access the member
+/// of its class before it.
+#[derive(Drop)]
+pub(crate) struct Members {
+    pub(crate) first: Vec<u32>,
+    pub(crate) last: Vec<Option<u32>>,
+    pub(crate) earlier: Vec<Option<u32>>,
+}
+
+impl Members {
+    /// No members of so many classes.
+    pub(crate) fn new(alloc: Global, classes: usize) -> Result<Members, NoMemory>
+        ensures firsts { IfOk result (λ m. length m.first.items ≡ classes) }
+        ensures size { IfOk result (λ m. length m.last.items ≡ classes) }
+        ensures none { IfOk result (λ m. (of : List (Option ℕ)) → AreMembers of m.last.items m.earlier.items 0) }
+    {
+        Ok(Members {
+            first: filled(alloc, u32::MAX, classes)?,
+            last: filled(alloc, None, classes)?,
+            earlier: Vec::new(alloc),
+        })
+    }
+
+    /// Lists the access of the next number.
+    pub(crate) fn add(&mut self, classes: &[Option<u32>], number: u32) -> Result<(), NoMemory>
+        requires known { (c : ℕ) → class_at classes.now number ≡ Some c → c < length self.old.last.items }
+        requires number { number < length classes.now }
+        requires firsts { length self.old.first.items ≡ length self.old.last.items }
+        requires members { AreMembers classes.now self.old.last.items self.old.earlier.items number }
+        ensures firsts { length self.new.first.items ≡ length self.old.first.items }
+        ensures size { length self.new.last.items ≡ length self.old.last.items }
+        ensures members { OnOk result (AreMembers classes.now self.new.last.items self.new.earlier.items (number + 1)) }
+    {
+        match classes[number as usize] {
+            None => push(&mut self.earlier, None),
+            Some(class) => {
+                push(&mut self.earlier, self.last[class as usize])?;
+                self.last[class as usize] = Some(number);
+                let first = self.first[class as usize];
+                self.first[class as usize] = first.min(number / 3);
+                Ok(())
+            }
+        }
+    }
+}

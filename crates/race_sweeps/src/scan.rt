@@ -1,0 +1,182 @@
+//! The scan for conflicts that no path settles.
+
+ghost use Rattle.std.specs.Prelude.{◌≡◌, ℕ, ◌+◌, ◌-◌, ◌*◌, ◌/◌, ◌<◌, ◌≤◌, [], length, Some, IsTrue, OnOk, IfOk};
+ghost use Rattle.graph_model.specs.meaning.Rules.{EverywhereTwice, RaceAt};
+ghost use Rattle.race_sweeps.specs.Held.{IsHeld};
+ghost use Rattle.race_sweeps.specs.Classes.{class_at};
+ghost use Rattle.race_sweeps.specs.Marks.{AreMarksBelow, IsMarked};
+ghost use Rattle.race_sweeps.specs.Scan.{AreAnsweredAt};
+ghost use Rattle.race_sweeps.specs.ScanState.{AreListed, IsScanned, AreGrouped};
+ghost use Rattle.race_sweeps.specs.Table.{IsTable};
+
+use crate::asks::ask_all;
+use crate::hard::harden_all;
+use crate::held::Held;
+use crate::marks::Marks;
+use crate::members::Members;
+use crate::reach::Reach;
+use crate::table::Table;
+use graph_model::graph::Graph;
+use graph_model::laws::edges_between_lines;
+use index_spaces::NoMemory;
+use index_spaces::room::filled;
+use std::alloc::Global;
+
+/// A scan under way: the members of the classes, the last hard place of each class, what reaches
+/// the lines of the slice, which classes have lines in it and which are asked about these.
+#[derive(Drop)]
+pub(crate) struct Scan {
+    pub(crate) members: Members,
+    pub(crate) hard: Vec<u32>,
+    pub(crate) reach: Reach,
+    pub(crate) groups: Marks,
+    pub(crate) asks: Marks,
+}
+
+impl Scan {
+    /// Nothing is scanned.
+    pub(crate) fn new(alloc: Global, graph: &Graph, table: &Table) -> Result<Scan, NoMemory>
+        requires { IsTable graph.now table.now }
+        ensures { IfOk result (λ s. IsScanned graph.now table.now s 0) }
+    {
+        let classes = table.keys.len();
+        Ok(Scan {
+            members: Members::new(alloc, classes)?,
+            hard: filled(alloc, 0, classes)?,
+            reach: Reach::new(alloc, table.lines.len())?,
+            groups: Marks::new(alloc, classes)?,
+            asks: Marks::new(alloc, classes)?,
+        })
+    }
+
+    /// Whether all slices pass.
+    pub(crate) fn passes(
+        mut self,
+        graph: &Graph,
+        table: &Table,
+        held: &Held,
+    ) -> Result<bool, NoMemory>
+        requires table { IsTable graph.now table.now }
+        requires held { IsHeld graph.now held.now }
+        requires scanned { IsScanned graph.now table.now self 0 }
+        ensures { IfOk result (λ b. IsTrue b → EverywhereTwice (RaceAt graph.now)) }
+    {
+        edges_between_lines();
+        let lines = graph.lines();
+        let mut first = 0;
+        while first < lines {
+            let end = lines.min(first + 64);
+            if !self.passes_slice(graph, table, held, first, end)? {
+                return Ok(false);
+            }
+            first = end;
+        }
+        Ok(true)
+    }
+
+    /// Whether the lines of a slice are settled with those before them.
+    fn passes_slice(
+        &mut self,
+        graph: &Graph,
+        table: &Table,
+        held: &Held,
+        first: u32,
+        end: u32,
+    ) -> Result<bool, NoMemory>
+        requires table { IsTable graph.now table.now }
+        requires held { IsHeld graph.now held.now }
+        requires begins { first < end }
+        requires short { end ≤ first + 64 }
+        requires end { end ≤ length table.now.lines.items }
+        requires scanned { IsScanned graph.now table.now self.old first }
+        ensures scanned { IfOk result (λ b. IsTrue b → IsScanned graph.now table.now self.new end) }
+        ensures answered { IfOk result (λ b. IsTrue b → (u : ℕ) → first ≤ u → u < end → AreAnsweredAt graph.now table.now.lines.items u) }
+    {
+        let _ = graph.lines();
+        self.groups.clear();
+        self.asks.clear();
+        let targets = list(&mut self.members, &mut self.groups, table, first, end)?;
+        let stop = ask_all(
+            &mut self.asks,
+            self.groups.marks.as_slice(),
+            &self.members,
+            self.hard.as_slice(),
+            table,
+        )?;
+        self.reach.sweep(graph, table, first, end, targets, stop);
+        if !self.walk_all(graph, table, held, first) {
+            return Ok(false);
+        }
+        harden_all(
+            &mut self.hard,
+            self.groups.marks.as_slice(),
+            &self.members,
+            graph,
+            table,
+            held,
+        );
+        Ok(true)
+    }
+}
+
+/// Lists the accesses of a slice as members of their classes and in groups, and gives the lines
+/// that have some.
+fn list(
+    members: &mut Members,
+    groups: &mut Marks,
+    table: &Table,
+    first: u32,
+    end: u32,
+) -> Result<u64, NoMemory>
+    requires short { end ≤ first + 64 }
+    requires classes { length table.now.classes.items ≡ 3 * length table.now.lines.items }
+    requires known { (m c : ℕ) → class_at table.now.classes.items m ≡ Some c → c < length table.now.keys.items }
+    requires few { length table.now.lines.items ≤ 8192 }
+    requires end { end ≤ length table.now.lines.items }
+    requires begins { first ≤ end }
+    requires listed { AreListed table.now members.old (3 * first) }
+    requires slots { length groups.old.slots.items ≡ length table.now.keys.items }
+    requires empty { groups.old.marks.items ≡ [] }
+    ensures listed { OnOk result (AreListed table.now members.new (3 * end)) }
+    ensures slots { OnOk result (length groups.new.slots.items ≡ length table.now.keys.items) }
+    ensures below { OnOk result (AreMarksBelow groups.new.marks.items (length table.now.keys.items)) }
+    ensures grouped { OnOk result (AreGrouped table.now groups.new.marks.items first (3 * end)) }
+{
+    let mut targets = 0;
+    for number in 3 * first..3 * end {
+        targets |= list_one(members, groups, table, first, number)?;
+    }
+    Ok(targets)
+}
+
+/// Lists one access, and gives its line's bit.
+fn list_one(
+    members: &mut Members,
+    groups: &mut Marks,
+    table: &Table,
+    first: u32,
+    number: u32,
+) -> Result<u64, NoMemory>
+    requires begins { 3 * first ≤ number }
+    requires short { number < 3 * first + 192 }
+    requires known { (m c : ℕ) → class_at table.now.classes.items m ≡ Some c → c < length table.now.keys.items }
+    requires number { number < length table.now.classes.items }
+    requires listed { AreListed table.now members.old number }
+    requires slots { length groups.old.slots.items ≡ length table.now.keys.items }
+    requires below { AreMarksBelow groups.old.marks.items (length table.now.keys.items) }
+    ensures listed { OnOk result (AreListed table.now members.new (number + 1)) }
+    ensures slots { OnOk result (length groups.new.slots.items ≡ length table.now.keys.items) }
+    ensures below { OnOk result (AreMarksBelow groups.new.marks.items (length table.now.keys.items)) }
+    ensures kept { OnOk result ((c b x : ℕ) → IsMarked groups.old.marks.items c b x → IsMarked groups.new.marks.items c b x) }
+    ensures grouped { OnOk result ((c : ℕ) → class_at table.now.classes.items number ≡ Some c → IsMarked groups.new.marks.items c (number / 3 - first) 0) }
+{
+    members.add(table.classes.as_slice(), number)?;
+    match table.classes[number as usize] {
+        None => Ok(0),
+        Some(class) => {
+            let bit = 1 << (number / 3 - first);
+            groups.add(class, bit, 0)?;
+            Ok(bit)
+        }
+    }
+}
