@@ -10,6 +10,7 @@ pub mod NeedLaws
 pub mod Cancelled
 pub mod Changes
 pub mod Confluence
+pub mod KindLaws
 pub mod GraphFacts
 pub mod GraphLaws
 pub mod FitsTable

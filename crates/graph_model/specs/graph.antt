@@ -2,6 +2,7 @@
 pub mod Name
 pub mod Graph
 pub mod Edges
+pub mod Table
 pub mod Access
 pub mod Spelling
 pub mod Fits

@@ -11,6 +11,7 @@ pub mod name;
 mod quantities;
 pub(crate) mod repeats;
 mod sizes;
+pub mod table;
 pub mod verb;
 pub mod why;
 pub(crate) mod words;

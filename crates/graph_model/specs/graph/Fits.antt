@@ -1,5 +1,5 @@
 -- When an item fits after a graph: the reasons that may refuse it, in their order.
-use Rattle.std.specs.Prelude.{◌≡◌, ℕ, ◌^◌, ◌<◌, nat_lt, nat_le, nat_eq, Bool, true, false, cond, not, ◌&&◌, ◌||◌, List, [], ◌∷◌, ◌++◌, length, map, filter, sum_by, Option, Some, None, IsTrue, is_some}
+use Rattle.std.specs.Prelude.{◌≡◌, ℕ, ◌^◌, ◌<◌, nat_lt, nat_le, nat_eq, Bool, true, false, cond, not, ◌&&◌, ◌||◌, List, [], ◌∷◌, ◌++◌, length, map, filter, filter_map, sum_by, Option, Some, None, IsTrue, is_some}
 use Rattle.std.specs.Option.{option_map_or}
 use Rattle.std.specs.List.{list_any, list_all, AllByRecursion}
 use Rattle.std.specs.Str.{bytes_eq}
@@ -13,9 +13,10 @@ use Rattle.graph_model.specs.declared.graph.verb.Access.{Access}
 use Rattle.graph_model.specs.declared.graph.why.Why.{Why}
 use Rattle.graph_model.specs.declared.graph.why.Why.TheVariants as why
 use Rattle.graph_model.specs.declared.graph.verb.Verb.{Verb}
-use Rattle.graph_model.specs.declared.graph.verb.Verb.TheVariants.{User, Trigger, Cancel, Merge, MergeIgnore, Phase, Arrive, Acquire, Release, Fill, Task}
-use Rattle.graph_model.specs.declared.graph.verb.Kernel.{Kernel}
-use Rattle.graph_model.specs.declared.graph.verb.Kernel.TheVariants.{Iota, Axpy, Expect}
+use Rattle.graph_model.specs.declared.graph.verb.Verb.TheVariants.{Merge, MergeIgnore, Phase, Arrive}
+use Rattle.graph_model.specs.declared.graph.table.Place.{Place}
+use Rattle.graph_model.specs.declared.graph.table.Place.TheVariants as places
+use Rattle.graph_model.specs.graph.Table.{Placed, kind_takes_on, verb_kind, verb_placed, any_placed}
 use Rattle.graph_model.specs.graph.Name.{is_name}
 use Rattle.graph_model.specs.graph.Graph.{GraphValue, ColumnInfo, decl_name, named_spaces, columns, locks, barriers, space_at, column_space, line_passes, is_user, is_phase, is_acquire, is_release_of, ends_user, arrivals, barrier_count, verb_at}
 use Rattle.graph_model.specs.graph.Edges.{edges}
@@ -91,24 +92,29 @@ decl_tests g d =
 abbrev pub decl_fault : GraphValue → Decl → Option Why
 decl_fault g d = first_reason (decl_tests g d)
 
--- an event named twice, a user event that is ended already, or an acquire that is released already
+-- a user event that is ended already, or an acquire that is released already
+abbrev pub place_repeats : GraphValue → Place → ℕ → Bool
+place_repeats g places.User user = list_any (λ (l : Line). ends_user user l.verb) g.lines
+place_repeats g places.Acquire acquire = list_any (λ (l : Line). is_release_of acquire l.verb) g.lines
+place_repeats g _ n = false
+
+-- an event named twice, or one that may be named no more
 abbrev pub verb_repeats : GraphValue → Verb → Bool
 verb_repeats g (Merge events) = repeats nat_eq events
 verb_repeats g (MergeIgnore events) = repeats nat_eq events
-verb_repeats g (Trigger user) = list_any (λ (l : Line). ends_user user l.verb) g.lines
-verb_repeats g (Cancel user) = list_any (λ (l : Line). ends_user user l.verb) g.lines
-verb_repeats g (Release acquire) = list_any (λ (l : Line). is_release_of acquire l.verb) g.lines
-verb_repeats g _ = false
+verb_repeats g v = any_placed (place_repeats g) (verb_placed v)
+
+abbrev pub named_line : Place → ℕ → Option ℕ
+named_line places.User n = Some n
+named_line places.Phase n = Some n
+named_line places.Acquire n = Some n
+named_line _ n = None
 
 -- the lines that a verb names
 abbrev pub named_lines : Verb → List ℕ
-named_lines (Trigger user) = user ∷ []
-named_lines (Cancel user) = user ∷ []
 named_lines (Merge events) = events
 named_lines (MergeIgnore events) = events
-named_lines (Arrive phase value) = phase ∷ []
-named_lines (Release acquire) = acquire ∷ []
-named_lines _ = []
+named_lines v = filter_map (λ (p : Placed). named_line p.0 p.1) (verb_placed v)
 
 -- the precondition as a list
 abbrev pub on_lines : Option ℕ → List ℕ
@@ -119,29 +125,30 @@ abbrev pub access_unknown : GraphValue → Access → Bool
 access_unknown g a = nat_le (length (columns g)) a.column || nat_le (length (named_spaces g)) a.space
 
 -- a barrier or a reservation whose number is out of range
+abbrev pub place_unknown : GraphValue → Place → ℕ → Bool
+place_unknown g places.Barrier n = nat_le (length (barriers g)) n
+place_unknown g places.Lock n = nat_le (length (locks g)) n
+place_unknown g _ n = false
+
 abbrev pub verb_unknown : GraphValue → Verb → Bool
-verb_unknown g (Phase barrier) = nat_le (length (barriers g)) barrier
-verb_unknown g (Acquire lock) = nat_le (length (locks g)) lock
-verb_unknown g _ = false
+verb_unknown g v = any_placed (place_unknown g) (verb_placed v)
 
 abbrev pub line_unknown : GraphValue → Line → Bool
 line_unknown g l = list_any (λ i. nat_le (length g.lines) i) (named_lines l.verb ++ on_lines l.on) || (verb_unknown g l.verb || list_any (access_unknown g) (verb_accesses l.verb))
 
 -- a named line is of another kind than its place takes
+abbrev pub place_unlike : GraphValue → Place → ℕ → Bool
+place_unlike g places.User n = not (line_passes is_user g n)
+place_unlike g places.Phase n = not (line_passes is_phase g n)
+place_unlike g places.Acquire n = not (line_passes is_acquire g n)
+place_unlike g _ n = false
+
 abbrev pub verb_unlike : GraphValue → Verb → Bool
-verb_unlike g (Trigger user) = not (line_passes is_user g user)
-verb_unlike g (Cancel user) = not (line_passes is_user g user)
-verb_unlike g (Arrive phase value) = not (line_passes is_phase g phase)
-verb_unlike g (Release acquire) = not (line_passes is_acquire g acquire)
-verb_unlike g _ = false
+verb_unlike g v = any_placed (place_unlike g) (verb_placed v)
 
 -- a verb that takes no precondition
 abbrev pub takes_no_on : Verb → Bool
-takes_no_on User = true
-takes_no_on (Merge events) = true
-takes_no_on (MergeIgnore events) = true
-takes_no_on (Phase barrier) = true
-takes_no_on _ = false
+takes_no_on v = not (option_map_or kind_takes_on (verb_kind v) false)
 
 abbrev pub verb_misnumbered : Verb → Bool
 verb_misnumbered (Merge events) = nat_lt (length events) 1
@@ -194,17 +201,21 @@ IsDecl (Inst name space fields) = IsTrue (is_name name) × (space < 2 ^ 32) × A
 IsDecl (Lock name) = IsTrue (is_name name)
 IsDecl (Barrier name count op first) = IsTrue (is_name name) × (count < 2 ^ 32) × (first < 2 ^ 64)
 
-abbrev pub IsKernel : Kernel → Type 0
-IsKernel (Iota x s value) = value < 2 ^ 64
-IsKernel (Axpy x y s factor) = factor < 2 ^ 64
-IsKernel (Expect x s low high) = (low < 2 ^ 64) × (high < 2 ^ 64)
-IsKernel _ = Unit {0}
+abbrev pub value_in : Place → ℕ → Option ℕ
+value_in places.Value n = Some n
+value_in _ n = None
+
+-- the values of a verb
+abbrev pub verb_values : Verb → List ℕ
+verb_values v = filter_map (λ (p : Placed). value_in p.0 p.1) (verb_placed v)
+
+abbrev pub AreValues : List ℕ → Type 0
+AreValues [] = Unit {0}
+AreValues (n ∷ []) = n < 2 ^ 64
+AreValues (n ∷ m ∷ ms) = (n < 2 ^ 64) × AreValues (m ∷ ms)
 
 abbrev pub IsVerb : Verb → Type 0
-IsVerb (Arrive phase value) = value < 2 ^ 64
-IsVerb (Fill target space value) = value < 2 ^ 64
-IsVerb (Task kernel) = IsKernel kernel
-IsVerb _ = Unit {0}
+IsVerb v = AreValues (verb_values v)
 
 -- what the types say of a line
 pub record IsLine (l : Line) : Type 0 where

@@ -8,9 +8,10 @@ use Rattle.graph_model.specs.declared.graph.decl.Decl.{Decl}
 use Rattle.graph_model.specs.declared.graph.decl.Decl.TheVariants.{Space, Inst, Lock, Barrier}
 use Rattle.graph_model.specs.declared.graph.verb.Line.{Line}
 use Rattle.graph_model.specs.declared.graph.verb.Verb.{Verb}
-use Rattle.graph_model.specs.declared.graph.verb.Verb.TheVariants.{User, Trigger, Cancel, Merge, MergeIgnore, Phase, Arrive, Acquire, Release, Fill, Copy, Reduce, Task}
-use Rattle.graph_model.specs.declared.graph.verb.Kernel.{Kernel}
-use Rattle.graph_model.specs.declared.graph.verb.Kernel.TheVariants.{Iota, Axpy, Stencil, Scan, Hist, Dot, Expect, Gather}
+use Rattle.graph_model.specs.declared.graph.verb.Verb.TheVariants.{Merge, MergeIgnore}
+use Rattle.graph_model.specs.declared.graph.table.Place.{Place}
+use Rattle.graph_model.specs.declared.graph.table.Place.TheVariants as places
+use Rattle.graph_model.specs.graph.Table.{Placed, kind_words, verb_kind, verb_placed}
 use Rattle.graph_model.specs.graph.Graph.{GraphValue, ColumnInfo, BarrierInfo, named_spaces, columns, locks, barriers}
 
 -- words with a space between each two, and a newline
@@ -53,30 +54,24 @@ decl_words g (Inst name space fields) = codes "inst" ∷ name ∷ space_name g s
 decl_words g (Lock name) = codes "lock" ∷ name ∷ []
 decl_words g (Barrier name count op first) = codes "barrier" ∷ name ∷ decimal count ∷ op_word op ∷ decimal first ∷ []
 
-abbrev pub kernel_words : GraphValue → Kernel → List (List ℕ)
-kernel_words g (Iota x s value) = codes "iota" ∷ column_name g x ∷ space_name g s ∷ decimal value ∷ []
-kernel_words g (Axpy x y s factor) = codes "axpy" ∷ column_name g x ∷ column_name g y ∷ space_name g s ∷ decimal factor ∷ []
-kernel_words g (Stencil x y r s) = codes "stencil" ∷ column_name g x ∷ column_name g y ∷ space_name g r ∷ space_name g s ∷ []
-kernel_words g (Scan x y s) = codes "scan" ∷ column_name g x ∷ column_name g y ∷ space_name g s ∷ []
-kernel_words g (Hist x y s t) = codes "hist" ∷ column_name g x ∷ column_name g y ∷ space_name g s ∷ space_name g t ∷ []
-kernel_words g (Dot x y z s t) = codes "dot" ∷ column_name g x ∷ column_name g y ∷ column_name g z ∷ space_name g s ∷ space_name g t ∷ []
-kernel_words g (Expect x s low high) = codes "expect" ∷ column_name g x ∷ space_name g s ∷ decimal low ∷ decimal high ∷ []
-kernel_words g (Gather x y z s t) = codes "gather" ∷ column_name g x ∷ column_name g y ∷ column_name g z ∷ space_name g s ∷ space_name g t ∷ []
+-- the word of a number in its place
+abbrev pub place_word : GraphValue → Place → ℕ → List ℕ
+place_word g places.User n = line_name g n
+place_word g places.Phase n = line_name g n
+place_word g places.Acquire n = line_name g n
+place_word g places.Lock n = lock_name g n
+place_word g places.Barrier n = barrier_name g n
+place_word g places.Space n = space_name g n
+place_word g places.Value n = decimal n
+place_word g (places.Column mode over) n = column_name g n
+
+abbrev pub placed_words : GraphValue → List Placed → List (List ℕ)
+placed_words g ps = map (λ (p : Placed). place_word g p.0 p.1) ps
 
 abbrev pub verb_words : GraphValue → Verb → List (List ℕ)
-verb_words g User = codes "user" ∷ []
-verb_words g (Trigger user) = codes "trigger" ∷ line_name g user ∷ []
-verb_words g (Cancel user) = codes "cancel" ∷ line_name g user ∷ []
 verb_words g (Merge events) = codes "merge" ∷ map (line_name g) events
 verb_words g (MergeIgnore events) = codes "mergei" ∷ map (line_name g) events
-verb_words g (Phase barrier) = codes "phase" ∷ barrier_name g barrier ∷ []
-verb_words g (Arrive phase value) = codes "arrive" ∷ line_name g phase ∷ decimal value ∷ []
-verb_words g (Acquire lock) = codes "acquire" ∷ lock_name g lock ∷ []
-verb_words g (Release acquire) = codes "release" ∷ line_name g acquire ∷ []
-verb_words g (Fill target space value) = codes "fill" ∷ column_name g target ∷ space_name g space ∷ decimal value ∷ []
-verb_words g (Copy source target space) = codes "copy" ∷ column_name g source ∷ column_name g target ∷ space_name g space ∷ []
-verb_words g (Reduce op source target space) = codes "reduce" ∷ op_word op ∷ column_name g source ∷ column_name g target ∷ space_name g space ∷ []
-verb_words g (Task kernel) = codes "task" ∷ kernel_words g kernel
+verb_words g v = option_map_or kind_words (verb_kind v) [] ++ placed_words g (verb_placed v)
 
 abbrev pub on_words : GraphValue → Option ℕ → List (List ℕ)
 on_words g None = []

@@ -1,11 +1,15 @@
 -- What holds of the lines of every graph.
-use Rattle.std.specs.Prelude.{◌≡◌, ◌≢◌, ℕ, ◌<◌, length, Contains, Some, slice_get}
+use Rattle.std.specs.Prelude.{◌≡◌, ◌≢◌, ℕ, ◌<◌, ◌≤◌, length, Contains, Some, slice_get}
 use Rattle.index_spaces.specs.Space.{IsSpace, IsWithin}
 use Rattle.graph_model.specs.declared.graph.verb.Access.{Access}
 use Rattle.graph_model.specs.declared.graph.verb.Verb.TheVariants.{Phase}
 use Rattle.graph_model.specs.graph.Graph.{GraphValue, columns, column_space, named_spaces, space_at, barriers, verb_at}
 use Rattle.graph_model.specs.graph.Access.{accesses}
 use Rattle.graph_model.specs.graph.Fits.{IsGraph}
+
+-- a line has at most three accesses
+abbrev pub AccessesAreFew : Type 0
+AccessesAreFew = (g : GraphValue) (i : ℕ) → length (accesses g i) ≤ 3
 
 -- an access is of a column and over a space of the graph, and each point of the space is in the column
 pub record AccessFits (g : GraphValue) (a : Access) : Type 0 where

@@ -1,6 +1,11 @@
 //! What holds of the lines of every graph, for callers to cite. No function here does anything.
 
-ghost use Rattle.graph_model.specs.meaning.LineLaws.{AccessesFit, ColumnsDiffer, PhasesFit};
+ghost use Rattle.graph_model.specs.meaning.LineLaws.{AccessesAreFew, AccessesFit, ColumnsDiffer, PhasesFit};
+
+/// A line has few accesses.
+pub fn accesses_are_few()
+    ensures { AccessesAreFew }
+{}
 
 /// An access is of a column and over a space of the graph, and each point of the space is in the
 /// column.

@@ -1,0 +1,168 @@
+-- The kinds of operation lines as one table: the words that a line begins with, and what stands in the place of each word behind them.
+use Rattle.std.specs.Prelude.{ℕ, ◌+◌, Bool, true, false, ◌||◌, List, [], ◌∷◌, zip, Option, Some, None, slice_index, codes}
+use Rattle.std.specs.Option.{option_map_or}
+use Rattle.index_spaces.specs.declared.Op.{Op}
+use Rattle.index_spaces.specs.declared.Op.TheVariants as op
+use Rattle.graph_model.specs.declared.graph.table.Kind.{Kind}
+use Rattle.graph_model.specs.declared.graph.table.Kind.TheVariants as kinds
+use Rattle.graph_model.specs.declared.graph.table.Place.{Place}
+use Rattle.graph_model.specs.declared.graph.table.Place.TheVariants.{User, Phase, Acquire, Lock, Barrier, Space, Value, Column}
+use Rattle.graph_model.specs.declared.graph.table.Parts.{Parts}
+use Rattle.graph_model.specs.declared.graph.verb.Mode.TheVariants.{Read, Write, Sum}
+use Rattle.graph_model.specs.declared.graph.verb.Verb.{Verb}
+use Rattle.graph_model.specs.declared.graph.verb.Verb.TheVariants as verbs
+use Rattle.graph_model.specs.declared.graph.verb.Kernel.{Kernel}
+use Rattle.graph_model.specs.declared.graph.verb.Kernel.TheVariants.{Iota, Axpy, Stencil, Scan, Hist, Dot, Expect, Gather}
+
+-- what the lines of a kind have in common
+pub record Row : Type 0 where
+  pub words : List (List ℕ)
+  pub places : List Place
+  pub takes_on : Bool
+
+abbrev pub with_on : List (List ℕ) → List Place → Row
+with_on words places = record { words = words; places = places; takes_on = true }
+
+abbrev pub without_on : List (List ℕ) → List Place → Row
+without_on words places = record { words = words; places = places; takes_on = false }
+
+-- the table
+abbrev pub kind_row : Kind → Row
+kind_row kinds.User = without_on (codes "user" ∷ []) []
+kind_row kinds.Trigger = with_on (codes "trigger" ∷ []) (User ∷ [])
+kind_row kinds.Cancel = with_on (codes "cancel" ∷ []) (User ∷ [])
+kind_row kinds.Phase = without_on (codes "phase" ∷ []) (Barrier ∷ [])
+kind_row kinds.Arrive = with_on (codes "arrive" ∷ []) (Phase ∷ Value ∷ [])
+kind_row kinds.Acquire = with_on (codes "acquire" ∷ []) (Lock ∷ [])
+kind_row kinds.Release = with_on (codes "release" ∷ []) (Acquire ∷ [])
+kind_row kinds.Fill = with_on (codes "fill" ∷ []) (Column Write 1 ∷ Space ∷ Value ∷ [])
+kind_row kinds.Copy = with_on (codes "copy" ∷ []) (Column Read 2 ∷ Column Write 2 ∷ Space ∷ [])
+kind_row kinds.ReduceSum = with_on (codes "reduce" ∷ codes "sum" ∷ []) (Column Read 2 ∷ Column Sum 2 ∷ Space ∷ [])
+kind_row kinds.ReduceMin = with_on (codes "reduce" ∷ codes "min" ∷ []) (Column Read 2 ∷ Column Write 2 ∷ Space ∷ [])
+kind_row kinds.ReduceMax = with_on (codes "reduce" ∷ codes "max" ∷ []) (Column Read 2 ∷ Column Write 2 ∷ Space ∷ [])
+kind_row kinds.Iota = with_on (codes "task" ∷ codes "iota" ∷ []) (Column Write 1 ∷ Space ∷ Value ∷ [])
+kind_row kinds.Axpy = with_on (codes "task" ∷ codes "axpy" ∷ []) (Column Read 2 ∷ Column Sum 2 ∷ Space ∷ Value ∷ [])
+kind_row kinds.Stencil = with_on (codes "task" ∷ codes "stencil" ∷ []) (Column Read 2 ∷ Column Write 3 ∷ Space ∷ Space ∷ [])
+kind_row kinds.Scan = with_on (codes "task" ∷ codes "scan" ∷ []) (Column Read 2 ∷ Column Write 2 ∷ Space ∷ [])
+kind_row kinds.Hist = with_on (codes "task" ∷ codes "hist" ∷ []) (Column Read 2 ∷ Column Sum 3 ∷ Space ∷ Space ∷ [])
+kind_row kinds.Dot = with_on (codes "task" ∷ codes "dot" ∷ []) (Column Read 3 ∷ Column Read 3 ∷ Column Sum 4 ∷ Space ∷ Space ∷ [])
+kind_row kinds.Expect = with_on (codes "task" ∷ codes "expect" ∷ []) (Column Read 1 ∷ Space ∷ Value ∷ Value ∷ [])
+kind_row kinds.Gather = with_on (codes "task" ∷ codes "gather" ∷ []) (Column Read 3 ∷ Column Read 4 ∷ Column Write 3 ∷ Space ∷ Space ∷ [])
+
+abbrev pub kind_words : Kind → List (List ℕ)
+kind_words kind = (kind_row kind).words
+
+abbrev pub kind_places : Kind → List Place
+kind_places kind = (kind_row kind).places
+
+abbrev pub kind_takes_on : Kind → Bool
+kind_takes_on kind = (kind_row kind).takes_on
+
+-- a verb as its kind and a number for each place; merges, which name any number of lines, have no kind
+abbrev pub kernel_kind : Kernel → Kind
+kernel_kind (Iota x s value) = kinds.Iota
+kernel_kind (Axpy x y s factor) = kinds.Axpy
+kernel_kind (Stencil x y r s) = kinds.Stencil
+kernel_kind (Scan x y s) = kinds.Scan
+kernel_kind (Hist x y s t) = kinds.Hist
+kernel_kind (Dot x y z s t) = kinds.Dot
+kernel_kind (Expect x s low high) = kinds.Expect
+kernel_kind (Gather x y z s t) = kinds.Gather
+
+abbrev pub reduce_kind : Op → Kind
+reduce_kind op.Sum = kinds.ReduceSum
+reduce_kind op.Min = kinds.ReduceMin
+reduce_kind op.Max = kinds.ReduceMax
+
+abbrev pub verb_kind : Verb → Option Kind
+verb_kind verbs.User = Some kinds.User
+verb_kind (verbs.Trigger user) = Some kinds.Trigger
+verb_kind (verbs.Cancel user) = Some kinds.Cancel
+verb_kind (verbs.Merge events) = None
+verb_kind (verbs.MergeIgnore events) = None
+verb_kind (verbs.Phase barrier) = Some kinds.Phase
+verb_kind (verbs.Arrive phase value) = Some kinds.Arrive
+verb_kind (verbs.Acquire lock) = Some kinds.Acquire
+verb_kind (verbs.Release acquire) = Some kinds.Release
+verb_kind (verbs.Fill target space value) = Some kinds.Fill
+verb_kind (verbs.Copy source target space) = Some kinds.Copy
+verb_kind (verbs.Reduce op source target space) = Some (reduce_kind op)
+verb_kind (verbs.Task kernel) = Some (kernel_kind kernel)
+
+abbrev pub kernel_parts : Kernel → List ℕ
+kernel_parts (Iota x s value) = x ∷ s ∷ value ∷ []
+kernel_parts (Axpy x y s factor) = x ∷ y ∷ s ∷ factor ∷ []
+kernel_parts (Stencil x y r s) = x ∷ y ∷ r ∷ s ∷ []
+kernel_parts (Scan x y s) = x ∷ y ∷ s ∷ []
+kernel_parts (Hist x y s t) = x ∷ y ∷ s ∷ t ∷ []
+kernel_parts (Dot x y z s t) = x ∷ y ∷ z ∷ s ∷ t ∷ []
+kernel_parts (Expect x s low high) = x ∷ s ∷ low ∷ high ∷ []
+kernel_parts (Gather x y z s t) = x ∷ y ∷ z ∷ s ∷ t ∷ []
+
+abbrev pub verb_parts : Verb → List ℕ
+verb_parts verbs.User = []
+verb_parts (verbs.Trigger user) = user ∷ []
+verb_parts (verbs.Cancel user) = user ∷ []
+verb_parts (verbs.Merge events) = []
+verb_parts (verbs.MergeIgnore events) = []
+verb_parts (verbs.Phase barrier) = barrier ∷ []
+verb_parts (verbs.Arrive phase value) = phase ∷ value ∷ []
+verb_parts (verbs.Acquire lock) = lock ∷ []
+verb_parts (verbs.Release acquire) = acquire ∷ []
+verb_parts (verbs.Fill target space value) = target ∷ space ∷ value ∷ []
+verb_parts (verbs.Copy source target space) = source ∷ target ∷ space ∷ []
+verb_parts (verbs.Reduce op source target space) = source ∷ target ∷ space ∷ []
+verb_parts (verbs.Task kernel) = kernel_parts kernel
+
+-- the verb of a kind and a number for each of its places
+abbrev pub verb_of : Kind → List ℕ → Verb
+verb_of kinds.User n = verbs.User
+verb_of kinds.Trigger n = verbs.Trigger (slice_index n 0)
+verb_of kinds.Cancel n = verbs.Cancel (slice_index n 0)
+verb_of kinds.Phase n = verbs.Phase (slice_index n 0)
+verb_of kinds.Arrive n = verbs.Arrive (slice_index n 0) (slice_index n 1)
+verb_of kinds.Acquire n = verbs.Acquire (slice_index n 0)
+verb_of kinds.Release n = verbs.Release (slice_index n 0)
+verb_of kinds.Fill n = verbs.Fill (slice_index n 0) (slice_index n 1) (slice_index n 2)
+verb_of kinds.Copy n = verbs.Copy (slice_index n 0) (slice_index n 1) (slice_index n 2)
+verb_of kinds.ReduceSum n = verbs.Reduce op.Sum (slice_index n 0) (slice_index n 1) (slice_index n 2)
+verb_of kinds.ReduceMin n = verbs.Reduce op.Min (slice_index n 0) (slice_index n 1) (slice_index n 2)
+verb_of kinds.ReduceMax n = verbs.Reduce op.Max (slice_index n 0) (slice_index n 1) (slice_index n 2)
+verb_of kinds.Iota n = verbs.Task (Iota (slice_index n 0) (slice_index n 1) (slice_index n 2))
+verb_of kinds.Axpy n = verbs.Task (Axpy (slice_index n 0) (slice_index n 1) (slice_index n 2) (slice_index n 3))
+verb_of kinds.Stencil n = verbs.Task (Stencil (slice_index n 0) (slice_index n 1) (slice_index n 2) (slice_index n 3))
+verb_of kinds.Scan n = verbs.Task (Scan (slice_index n 0) (slice_index n 1) (slice_index n 2))
+verb_of kinds.Hist n = verbs.Task (Hist (slice_index n 0) (slice_index n 1) (slice_index n 2) (slice_index n 3))
+verb_of kinds.Dot n = verbs.Task (Dot (slice_index n 0) (slice_index n 1) (slice_index n 2) (slice_index n 3) (slice_index n 4))
+verb_of kinds.Expect n = verbs.Task (Expect (slice_index n 0) (slice_index n 1) (slice_index n 2) (slice_index n 3))
+verb_of kinds.Gather n = verbs.Task (Gather (slice_index n 0) (slice_index n 1) (slice_index n 2) (slice_index n 3) (slice_index n 4))
+
+-- a place and the number that stands there
+abbrev pub Placed : Type 0
+Placed = Place × ℕ
+
+abbrev pub verb_places : Verb → List Place
+verb_places v = option_map_or kind_places (verb_kind v) []
+
+-- the numbers of a verb, each in its place
+abbrev pub verb_placed : Verb → List Placed
+verb_placed v = zip (verb_places v) (verb_parts v)
+
+-- a number passes a test in its place; a last one that fails it leaves no trace, so that a definition by this computes as one by cases does
+abbrev pub any_placed : (Place → ℕ → Bool) → List Placed → Bool
+any_placed test [] = false
+any_placed test (p ∷ ps) = any_placed test ps || test p.0 p.1
+
+-- the number of a place among the parts of the code: a value, or the number of a name
+abbrev pub part_in : Place → ℕ → Parts → ℕ
+part_in Value n parts = slice_index parts.values n
+part_in _ n parts = slice_index parts.numbers n
+
+-- the numbers from the place n on
+abbrev pub parts_from : ℕ → List Place → Parts → List ℕ
+parts_from n [] parts = []
+parts_from n (p ∷ ps) parts = part_in p n parts ∷ parts_from (n + 1) ps parts
+
+-- the numbers of a kind
+abbrev pub parts_of : Kind → Parts → List ℕ
+parts_of kind parts = parts_from 0 (kind_places kind) parts
