@@ -178,40 +178,42 @@ columns_read g h (Fields ∷ ps) (n ∷ ns) f = columns_read g h ps ns f.1
 columns_read g h (Intervals ∷ ps) (n ∷ ns) f = columns_read g h ps ns f.1
 
 -- the words that the numbers of words spell are those words
-abbrev pub spell_by : GraphValue → List Place → (ℕ → ℕ) → List (List ℕ)
-spell_by g [] read = []
-spell_by g (p ∷ ps) read = spell g p (read 0) ∷ spell_by g ps (λ k. read (suc k))
+abbrev pub Bounded : List Place → List ℕ → Type 0
+Bounded [] ns = Unit {0}
+Bounded (p ∷ ps) [] = Unit {0}
+Bounded (p ∷ ps) (n ∷ ns) = IsBounded p n × Bounded ps ns
 
-abbrev pub BoundedBy : List Place → (ℕ → ℕ) → Type 0
-BoundedBy [] read = Unit {0}
-BoundedBy (p ∷ ps) read = IsBounded p (read 0) × BoundedBy ps (λ k. read (suc k))
+abbrev pub numbers_of : GraphValue → List Place → List (List ℕ) → List ℕ
+numbers_of g ps ws = map (number_in g) (zip ps ws)
 
-abbrev pub numbers_of : GraphValue → List Place → List (List ℕ) → ℕ → ℕ
-numbers_of g ps ws k = slice_index (map (number_in g) (zip ps ws)) k
+pub numbers_long : (g : GraphValue) (ps : List Place) (ws : List (List ℕ)) → length ps ≤ length ws → length (numbers_of g ps ws) ≡ length ps
+numbers_long g [] ws l = refl
+numbers_long g (p ∷ ps) [] l = absurd (omega arith)
+numbers_long g (p ∷ ps) (w ∷ ws) l = ap suc (numbers_long g ps ws (omega arith))
 
-pub spells_exactly : (g : GraphValue) (ps : List Place) (ws : List (List ℕ)) → AllByRecursion IsNumbered ps → EachFine g (zip ps ws) → length ws ≡ length ps → spell_by g ps (numbers_of g ps ws) ≡ ws
+pub spells_exactly : (g : GraphValue) (ps : List Place) (ws : List (List ℕ)) → AllByRecursion IsNumbered ps → EachFine g (zip ps ws) → length ws ≡ length ps → spell_list g ps (numbers_of g ps ws) ≡ ws
 spells_exactly g [] [] n f l = refl
 spells_exactly g [] (w ∷ ws) n f l = absurd (omega arith)
 spells_exactly g (p ∷ ps) [] n f l = absurd (omega arith)
 spells_exactly g (p ∷ ps) (w ∷ ws) n f l = let s = place_spelled g p w n.0 f.0 in
-    ap (λ x. x ∷ spell_by g ps (numbers_of g ps ws)) s.word_is ∙ ap (λ xs. w ∷ xs) (spells_exactly g ps ws n.1 f.1 (omega arith))
+    ap (λ x. x ∷ spell_list g ps (numbers_of g ps ws)) s.word_is ∙ ap (λ xs. w ∷ xs) (spells_exactly g ps ws n.1 f.1 (omega arith))
 
 pub spells_more : (g : GraphValue) (ps : List Place) (ws : List (List ℕ)) → AllByRecursion IsNumbered ps → EachFine g (zip ps ws) → length ws ≡ length ps + 2 →
-    spell_by g ps (numbers_of g ps ws) ++ slice_index_or ws (length ps) [] ∷ slice_index_or ws (length ps + 1) [] ∷ [] ≡ ws
+    spell_list g ps (numbers_of g ps ws) ++ slice_index_or ws (length ps) [] ∷ slice_index_or ws (length ps + 1) [] ∷ [] ≡ ws
 spells_more g [] [] n f l = absurd (omega arith)
 spells_more g [] (a ∷ []) n f l = absurd (omega arith)
 spells_more g [] (a ∷ b ∷ []) n f l = refl
 spells_more g [] (a ∷ b ∷ c ∷ cs) n f l = absurd (omega arith)
 spells_more g (p ∷ ps) [] n f l = absurd (omega arith)
 spells_more g (p ∷ ps) (w ∷ ws) n f l = let s = place_spelled g p w n.0 f.0 in
-    ap (λ x. x ∷ (spell_by g ps (numbers_of g ps ws) ++ slice_index_or ws (length ps) [] ∷ slice_index_or (w ∷ ws) (suc (length ps) + 1) [] ∷ [])) s.word_is
-    ∙ (ap (λ k. w ∷ (spell_by g ps (numbers_of g ps ws) ++ slice_index_or ws (length ps) [] ∷ slice_index_or (w ∷ ws) k [] ∷ [])) (let e : suc (length ps) + 1 ≡ suc (length ps + 1) = omega arith in e)
+    ap (λ x. x ∷ (spell_list g ps (numbers_of g ps ws) ++ slice_index_or ws (length ps) [] ∷ slice_index_or (w ∷ ws) (suc (length ps) + 1) [] ∷ [])) s.word_is
+    ∙ (ap (λ k. w ∷ (spell_list g ps (numbers_of g ps ws) ++ slice_index_or ws (length ps) [] ∷ slice_index_or (w ∷ ws) k [] ∷ [])) (let e : suc (length ps) + 1 ≡ suc (length ps + 1) = omega arith in e)
     ∙ ap (λ xs. w ∷ xs) (spells_more g ps ws n.1 f.1 (omega arith)))
 
-pub bounded_by : (g : GraphValue) (ps : List Place) (ws : List (List ℕ)) → AllByRecursion IsNumbered ps → EachFine g (zip ps ws) → length ps ≤ length ws → BoundedBy ps (numbers_of g ps ws)
-bounded_by g [] ws n f l = tt
-bounded_by g (p ∷ ps) [] n f l = absurd (omega arith)
-bounded_by g (p ∷ ps) (w ∷ ws) n f l = let s = place_spelled g p w n.0 f.0 in (s.bounded, bounded_by g ps ws n.1 f.1 (omega arith))
+pub bounded_by : (g : GraphValue) (ps : List Place) (ws : List (List ℕ)) → AllByRecursion IsNumbered ps → EachFine g (zip ps ws) → Bounded ps (numbers_of g ps ws)
+bounded_by g [] ws n f = tt
+bounded_by g (p ∷ ps) [] n f = tt
+bounded_by g (p ∷ ps) (w ∷ ws) n f = let s = place_spelled g p w n.0 f.0 in (s.bounded, bounded_by g ps ws n.1 f.1)
 
 -- a word by a test that computes
 abbrev pub is_word : List ℕ → Bool

@@ -12,11 +12,15 @@ use Rattle.graph_model.specs.declared.graph.why.Why.TheVariants as why
 use Rattle.graph_model.specs.graph.Graph.{GraphValue}
 use Rattle.graph_model.specs.graph.Name.{is_name}
 use Rattle.graph_model.specs.graph.Fits.{repeats, first_reason, is_used}
-use Rattle.graph_reader.specs.Draft.{Place, NewName, EventName, Placed, Draft, Form, has_on, on_placed, number_in}
+use Rattle.graph_reader.specs.Draft.{Place, NewName, EventName, Placed, Draft, Form, form_of, has_on, on_placed}
 use Rattle.graph_reader.specs.FirstFault.{misnamed, twice, unknown, unlike, misnumbered, misordered, event_word, column_word, draft_tests, draft_fault, or_else, item_fault}
-use Rattle.graph_reader.specs.declared.kind.Kind.{Kind}
-use Rattle.graph_reader.specs.declared.kind.Kind.TheVariants as kinds
-use Rattle.graph_reader.specs.Kinds.{kind_form, kind_draft, kind_placed, placed_from, kind_verb, kind_on, form_fails, form_reason, columns_twice, column_words, HasPlaces, kind_line, IsReading, IsJudged}
+use Rattle.graph_model.specs.declared.graph.table.Kind.{Kind}
+use Rattle.graph_model.specs.declared.graph.table.Place as table
+use Rattle.graph_model.specs.declared.graph.table.Place.TheVariants as places
+use Rattle.graph_model.specs.graph.Table.{kind_places}
+use Rattle.graph_reader.specs.Kinds.{kind_draft, words_in, kind_placed, kind_verb, kind_on, form_fails, form_reason, column_words, kind_line, IsReading, IsJudged}
+use Rattle.graph_reader.proofs.Drafts.{placed_events}
+use Rattle.graph_reader.proofs.VerbForms.{no_events}
 
 on_any : (t : Place → List ℕ → Bool) (f : Form) (ws : List (List ℕ)) (b : Bool) → list_any (λ (p : Placed). t p.0 p.1) (cond b ((EventName, slice_index_or ws (length f.places + 1) []) ∷ []) []) ≡ (b && t EventName (slice_index_or ws (length f.places + 1) []))
 on_any t f ws true = or_false (t EventName (slice_index_or ws (length f.places + 1) []))
@@ -28,67 +32,32 @@ on_any t f ws false = refl
 
 -- a word in its place fails, or the one behind `on`
 pub fails_is : (t : Place → List ℕ → Bool) (kind : Kind) (ws : List (List ℕ)) →
-    form_fails t kind ws ≡ (list_any (λ (p : Placed). t p.0 p.1) (zip (kind_form kind).places ws) || (has_on (kind_form kind) ws && t EventName (slice_index_or ws (length (kind_form kind).places + 1) [])))
+    form_fails t kind ws ≡ (list_any (λ (p : Placed). t p.0 p.1) (kind_placed kind ws) || (has_on (form_of kind) ws && t EventName (slice_index_or ws (length (form_of kind).places + 1) [])))
 unfolding form_fails
-fails_is t kind ws = list_any-append (λ (p : Placed). t p.0 p.1) (zip (kind_form kind).places ws) (on_placed (kind_form kind) ws)
-    ∙ ap (λ b. list_any (λ (p : Placed). t p.0 p.1) (zip (kind_form kind).places ws) || b) (on_any t (kind_form kind) ws (has_on (kind_form kind) ws))
+fails_is t kind ws = list_any-append (λ (p : Placed). t p.0 p.1) (kind_placed kind ws) (on_placed (form_of kind) ws)
+    ∙ ap (λ b. list_any (λ (p : Placed). t p.0 p.1) (kind_placed kind ws) || b) (on_any t (form_of kind) ws (has_on (form_of kind) ws))
 
--- as many words as places stand in their places
-abbrev behind : ℕ → List (List ℕ) → List (List ℕ)
-behind zero ws = ws
-behind (suc n) [] = []
-behind (suc n) (w ∷ ws) = behind n ws
-
-shifted : (n : ℕ) (ps : List Place) (w : List ℕ) (ws : List (List ℕ)) → placed_from (suc n) ps (w ∷ ws) ≡ placed_from n ps ws
-shifted n [] w ws = refl
-shifted n (p ∷ ps) w ws = ap (λ m. (p, slice_index_or ws n []) ∷ placed_from m ps (w ∷ ws)) (let e : suc n + 1 ≡ suc (n + 1) = omega arith in e) ∙ ap (λ x. (p, slice_index_or ws n []) ∷ x) (shifted (n + 1) ps w ws)
-
-pub zip_placed : (ps : List Place) (ws : List (List ℕ)) → length ps ≤ length ws → zip ps ws ≡ placed_from 0 ps ws
-zip_placed [] ws h = refl
-zip_placed (p ∷ ps) [] h = absurd (omega arith)
-zip_placed (p ∷ ps) (w ∷ ws) h = ap (λ x. (p, w) ∷ x) (zip_placed ps ws (omega arith) ∙ sym (shifted 0 ps w ws))
-
--- the places of a kind take no event and no intervals
-pub record IsQuiet (ps : List Placed) : Type 0 where
-  pub events : filter_map (λ (p : Placed). event_word p.0 p.1) ps ≡ []
-  pub ordered : list_any (λ (p : Placed). misordered p.0 p.1) ps ≡ false
+-- the places of a kind take no intervals
+quiet : (ps : List table.Place) (ws : List (List ℕ)) → list_any (λ (p : Placed). misordered p.0 p.1) (words_in ps ws) ≡ false
+quiet [] ws = refl
+quiet (p ∷ ps) [] = refl
+quiet (places.User ∷ ps) (w ∷ ws) = quiet ps ws
+quiet (p ∷ ps) (w ∷ ws) = quiet ps ws
 
 -- what a place says of a word, and the one behind `on`
-pub fails_at_on : (t : Place → List ℕ → Bool) (kind : Kind) (ws : List (List ℕ)) (b : Bool) → list_any (λ (p : Placed). t p.0 p.1) (zip (kind_form kind).places ws) ≡ false → has_on (kind_form kind) ws ≡ true →
-    t EventName (slice_index_or ws (length (kind_form kind).places + 1) []) ≡ b → form_fails t kind ws ≡ b
-fails_at_on t kind ws b p o h = fails_is t kind ws ∙ (ap (λ x. x || (has_on (kind_form kind) ws && t EventName (slice_index_or ws (length (kind_form kind).places + 1) []))) p
-    ∙ (ap (λ x. x && t EventName (slice_index_or ws (length (kind_form kind).places + 1) [])) o ∙ h))
+pub fails_at_on : (t : Place → List ℕ → Bool) (kind : Kind) (ws : List (List ℕ)) (b : Bool) → list_any (λ (p : Placed). t p.0 p.1) (kind_placed kind ws) ≡ false → has_on (form_of kind) ws ≡ true →
+    t EventName (slice_index_or ws (length (form_of kind).places + 1) []) ≡ b → form_fails t kind ws ≡ b
+fails_at_on t kind ws b p o h = fails_is t kind ws ∙ (ap (λ x. x || (has_on (form_of kind) ws && t EventName (slice_index_or ws (length (form_of kind).places + 1) []))) p
+    ∙ (ap (λ x. x && t EventName (slice_index_or ws (length (form_of kind).places + 1) [])) o ∙ h))
 
-pub fails_at_places : (t : Place → List ℕ → Bool) (kind : Kind) (ws : List (List ℕ)) → t EventName (slice_index_or ws (length (kind_form kind).places + 1) []) ≡ false →
-    form_fails t kind ws ≡ list_any (λ (p : Placed). t p.0 p.1) (zip (kind_form kind).places ws)
-fails_at_places t kind ws h = fails_is t kind ws ∙ or_and_false (list_any (λ (p : Placed). t p.0 p.1) (zip (kind_form kind).places ws)) (has_on (kind_form kind) ws) _ h
+pub fails_at_places : (t : Place → List ℕ → Bool) (kind : Kind) (ws : List (List ℕ)) → t EventName (slice_index_or ws (length (form_of kind).places + 1) []) ≡ false →
+    form_fails t kind ws ≡ list_any (λ (p : Placed). t p.0 p.1) (kind_placed kind ws)
+fails_at_places t kind ws h = fails_is t kind ws ∙ or_and_false (list_any (λ (p : Placed). t p.0 p.1) (kind_placed kind ws)) (has_on (form_of kind) ws) _ h
   where
     or_and_false : (a b c : Bool) → c ≡ false → (a || (b && c)) ≡ a
     or_and_false true b c h = refl
     or_and_false false true c h = h
     or_and_false false false c h = refl
-
-quiet : (kind : Kind) (ws : List (List ℕ)) → IsQuiet (kind_placed kind ws)
-quiet kinds.User ws = record { events = refl; ordered = refl }
-quiet kinds.Trigger ws = record { events = refl; ordered = refl }
-quiet kinds.Cancel ws = record { events = refl; ordered = refl }
-quiet kinds.Phase ws = record { events = refl; ordered = refl }
-quiet kinds.Arrive ws = record { events = refl; ordered = refl }
-quiet kinds.Acquire ws = record { events = refl; ordered = refl }
-quiet kinds.Release ws = record { events = refl; ordered = refl }
-quiet kinds.Fill ws = record { events = refl; ordered = refl }
-quiet kinds.Copy ws = record { events = refl; ordered = refl }
-quiet kinds.ReduceSum ws = record { events = refl; ordered = refl }
-quiet kinds.ReduceMin ws = record { events = refl; ordered = refl }
-quiet kinds.ReduceMax ws = record { events = refl; ordered = refl }
-quiet kinds.Iota ws = record { events = refl; ordered = refl }
-quiet kinds.Axpy ws = record { events = refl; ordered = refl }
-quiet kinds.Stencil ws = record { events = refl; ordered = refl }
-quiet kinds.Scan ws = record { events = refl; ordered = refl }
-quiet kinds.Hist ws = record { events = refl; ordered = refl }
-quiet kinds.Dot ws = record { events = refl; ordered = refl }
-quiet kinds.Expect ws = record { events = refl; ordered = refl }
-quiet kinds.Gather ws = record { events = refl; ordered = refl }
 
 -- words with `on` or without it behind the places
 mapped_by : {X Y : Type 0} (f : X → Option Y) (xs ys : List X) (o : Option Y) → filter_map f (xs ++ ys) ≡ filter_map f xs ++ filter_map f ys → cons_option o (filter_map f (xs ++ ys)) ≡ cons_option o (filter_map f xs) ++ filter_map f ys
@@ -140,41 +109,34 @@ reason_by g d name ps c e events columns ordered =
 abbrev as_item : List ℕ → Verb → Option ℕ → Decl ⊎ Line
 as_item name verb on = inr (record { name = name; verb = verb; on = on })
 
-module _ (g : GraphValue) (kind : Kind) (name : List ℕ) (ws : List (List ℕ)) (has : HasPlaces kind ws) where
+module _ (g : GraphValue) (kind : Kind) (name : List ℕ) (ws : List (List ℕ)) where
   abbrev on_word : List ℕ
-  on_word = slice_index_or ws (length (kind_form kind).places + 1) []
+  on_word = slice_index_or ws (length (form_of kind).places + 1) []
 
   abbrev rest_placed : List Placed
-  rest_placed = zip (kind_form kind).places ws ++ on_placed (kind_form kind) ws
-
-  placed_is : zip (kind_form kind).places ws ≡ kind_placed kind ws
-  placed_is = zip_placed (kind_form kind).places ws has
+  rest_placed = kind_placed kind ws ++ on_placed (form_of kind) ws
 
   events_once : repeats bytes_eq (filter_map (λ (p : Placed). event_word p.0 p.1) rest_placed) ≡ false
-  events_once = ap (λ ps. repeats bytes_eq (filter_map (λ (p : Placed). event_word p.0 p.1) (ps ++ on_placed (kind_form kind) ws))) placed_is
-      ∙ (ap (repeats bytes_eq) (mapped_append (λ (p : Placed). event_word p.0 p.1) (kind_placed kind ws) (on_placed (kind_form kind) ws)
-      ∙ ap (λ xs. xs ++ filter_map (λ (p : Placed). event_word p.0 p.1) (on_placed (kind_form kind) ws)) (quiet kind ws).events)
-      ∙ on_events (has_on (kind_form kind) ws) on_word)
+  events_once = ap (repeats bytes_eq) (mapped_append (λ (p : Placed). event_word p.0 p.1) (kind_placed kind ws) (on_placed (form_of kind) ws)
+      ∙ ap (λ xs. xs ++ filter_map (λ (p : Placed). event_word p.0 p.1) (on_placed (form_of kind) ws)) (placed_events g (form_of kind).places ws (no_events (kind_places kind))))
+      ∙ on_events (has_on (form_of kind) ws) on_word
 
   columns_are : filter_map (λ (p : Placed). column_word p.0 p.1) rest_placed ≡ column_words (kind_placed kind ws)
-  columns_are = ap (λ ps. filter_map (λ (p : Placed). column_word p.0 p.1) (ps ++ on_placed (kind_form kind) ws)) placed_is
-      ∙ (mapped_append (λ (p : Placed). column_word p.0 p.1) (kind_placed kind ws) (on_placed (kind_form kind) ws)
-      ∙ (ap (λ xs. column_words (kind_placed kind ws) ++ xs) (on_columns (has_on (kind_form kind) ws) on_word) ∙ append-nil (column_words (kind_placed kind ws))))
+  columns_are = mapped_append (λ (p : Placed). column_word p.0 p.1) (kind_placed kind ws) (on_placed (form_of kind) ws)
+      ∙ (ap (λ xs. column_words (kind_placed kind ws) ++ xs) (on_columns (has_on (form_of kind) ws) on_word) ∙ append-nil (column_words (kind_placed kind ws)))
 
   all_ordered : list_any (λ (p : Placed). misordered p.0 p.1) rest_placed ≡ false
-  all_ordered = ap (λ ps. list_any (λ (p : Placed). misordered p.0 p.1) (ps ++ on_placed (kind_form kind) ws)) placed_is
-      ∙ (list_any-append (λ (p : Placed). misordered p.0 p.1) (kind_placed kind ws) (on_placed (kind_form kind) ws)
-      ∙ (ap (λ b. b || list_any (λ (p : Placed). misordered p.0 p.1) (on_placed (kind_form kind) ws)) (quiet kind ws).ordered ∙ on_ordered (has_on (kind_form kind) ws) on_word))
+  all_ordered = list_any-append (λ (p : Placed). misordered p.0 p.1) (kind_placed kind ws) (on_placed (form_of kind) ws)
+      ∙ (ap (λ b. b || list_any (λ (p : Placed). misordered p.0 p.1) (on_placed (form_of kind) ws)) (quiet (kind_places kind) ws) ∙ on_ordered (has_on (form_of kind) ws) on_word)
 
   -- the first reason that refuses a word
   pub reason_is : first_reason (draft_tests g (kind_draft g kind name ws)) ≡ form_reason g kind name ws
-  unfolding form_reason form_fails columns_twice
+  unfolding form_reason form_fails
   reason_is = reason_by g (kind_draft g kind name ws) name rest_placed (repeats bytes_eq (column_words (kind_placed kind ws))) refl events_once (ap (repeats bytes_eq) columns_are) all_ordered
 
   -- the line that the words spell
   pub line_is : (new : List ℕ) → new ≡ name → (kind_draft g kind name ws).item ≡ inr (record { name = new; verb = kind_verb g kind ws; on = kind_on g kind ws })
-  line_is new e = ap (λ ps. as_item name ((kind_form kind).verb (map (number_in g) ps)) (kind_on g kind ws)) placed_is
-      ∙ ap (λ n. as_item n (kind_verb g kind ws) (kind_on g kind ws)) (sym e)
+  line_is new e = ap (λ n. as_item n (kind_verb g kind ws) (kind_on g kind ws)) (sym e)
 
   pub refused_word : (w : Why) → form_reason g kind name ws ≡ Some w → draft_fault g (kind_draft g kind name ws) ≡ Some w
   refused_word w h = ap (λ r. or_else r (item_fault g (kind_draft g kind name ws).item)) (reason_is ∙ h)
@@ -194,4 +156,4 @@ first_fails g d h = or_first _ _ (item_fault g d.item) (cond-true (fails misname
     or_first r w o e = ap (λ x. or_else x o) e
 
 pub misnamed_first : (g : GraphValue) (kind : Kind) (name : List ℕ) (ws : List (List ℕ)) → is_name name ≡ false → draft_fault g (kind_draft g kind name ws) ≡ Some why.Name
-misnamed_first g kind name ws h = first_fails g (kind_draft g kind name ws) (ap (λ b. not b || fails misnamed (zip (kind_form kind).places ws ++ on_placed (kind_form kind) ws)) h)
+misnamed_first g kind name ws h = first_fails g (kind_draft g kind name ws) (ap (λ b. not b || fails misnamed (kind_placed kind ws ++ on_placed (form_of kind) ws)) h)

@@ -15,11 +15,12 @@ use Rattle.graph_reader.specs.FirstFault.{is_empty, words_fault, draft_fault}
 use Rattle.graph_model.specs.declared.graph.verb.Verb.TheVariants.{Merge, MergeIgnore}
 use Rattle.graph_model.specs.graph.Graph.{GraphValue}
 use Rattle.graph_reader.specs.declared.item.ItemError.{ItemError}
-use Rattle.graph_reader.specs.declared.kind.Kind.{Kind}
-use Rattle.graph_reader.specs.declared.kind.Kind.TheVariants as kinds
-use Rattle.graph_reader.specs.Kinds.{kind_form, kind_draft, HasPlaces}
+use Rattle.graph_model.specs.declared.graph.table.Kind.{Kind}
+use Rattle.graph_model.specs.declared.graph.table.Kind.TheVariants as kinds
+use Rattle.graph_model.specs.declared.graph.table.TheConstants.{KINDS}
+use Rattle.graph_reader.specs.Kinds.{kind_draft, HasPlaces}
 use Rattle.graph_reader.specs.Reading.{IsDeclRead, IsDeclOf, IsLineOf, IsWordsError, is_operation}
-use Rattle.graph_reader.specs.Draft.{Draft, draft, merge_with, decl_draft_after, forms, form_draft, is_of_form, same_word, merge_draft, line_draft, decl_draft, space_draft, inst_draft, lock_draft, barrier_draft, space_with, inst_with, lock_with, barrier_with, op_of}
+use Rattle.graph_reader.specs.Draft.{Draft, draft, merge_with, decl_draft_after, form_of, form_draft, is_of_form, same_word, merge_draft, line_draft, decl_draft, space_draft, inst_draft, lock_draft, barrier_draft, space_with, inst_with, lock_with, barrier_with, op_of}
 
 abbrev at : List (List ℕ) → ℕ → List ℕ
 at ws i = slice_index_or ws i []
@@ -115,49 +116,30 @@ find_by : {X Y : Type 0} (f : X → Y) (x : X) (o : Option X) (b : Bool) → con
 find_by f x o true = refl
 find_by f x o false = refl
 
-find_mapped : {X Y : Type 0} (p : Y → Bool) (f : X → Y) (xs : List X) → find p (map f xs) ≡ option_map f (find (λ x. p (f x)) xs)
+pub find_mapped : {X Y : Type 0} (p : Y → Bool) (f : X → Y) (xs : List X) → find p (map f xs) ≡ option_map f (find (λ x. p (f x)) xs)
 find_mapped p f [] = refl
 find_mapped p f (x ∷ xs) = ap (cond (p (f x)) (Some (f x))) (find_mapped p f xs) ∙ find_by f x (find (λ y. p (f y)) xs) (p (f x))
 
 abbrev found_kind : List Kind → List (List ℕ) → Option Kind
-found_kind ks ws = find (λ k. is_of_form ws (kind_form k)) ks
+found_kind ks ws = find (λ k. is_of_form ws (form_of k)) ks
 
-no_words : (k : Kind) → is_of_form [] (kind_form k) ≡ false
+no_words : (k : Kind) → is_of_form [] (form_of k) ≡ false
 no_words kinds.User = refl
-no_words kinds.Trigger = refl
-no_words kinds.Cancel = refl
-no_words kinds.Phase = refl
-no_words kinds.Arrive = refl
-no_words kinds.Acquire = refl
-no_words kinds.Release = refl
-no_words kinds.Fill = refl
-no_words kinds.Copy = refl
-no_words kinds.ReduceSum = refl
-no_words kinds.ReduceMin = refl
-no_words kinds.ReduceMax = refl
-no_words kinds.Iota = refl
-no_words kinds.Axpy = refl
-no_words kinds.Stencil = refl
-no_words kinds.Scan = refl
-no_words kinds.Hist = refl
-no_words kinds.Dot = refl
-no_words kinds.Expect = refl
-no_words kinds.Gather = refl
+no_words k = refl
 
 none_there : (ks : List Kind) → found_kind ks [] ≡ None
 none_there [] = refl
-none_there (k ∷ ks) = cond-false (is_of_form [] (kind_form k)) (Some k) (found_kind ks []) (no_words k) ∙ none_there ks
+none_there (k ∷ ks) = cond-false (is_of_form [] (form_of k)) (Some k) (found_kind ks []) (no_words k) ∙ none_there ks
 
-pub line_kind : (g : GraphValue) (name : List ℕ) (ws : List (List ℕ)) (v : List ℕ) (ks : List Kind) (o : Option Kind) → map kind_form ks ≡ forms → v ≡ at ws 0 → bytes_eq v (codes "merge") ≡ false → bytes_eq v (codes "mergei") ≡ false → found_kind ks ws ≡ o →
-    line_draft g name ws ≡ option_map (λ k. kind_draft g k name (drop (length (kind_form k).words) ws)) o
-line_kind g name [] v ks o f e a b h = sym (ap (option_map (λ k. kind_draft g k name (drop (length (kind_form k).words) []))) (sym h ∙ none_there ks))
-line_kind g name (w ∷ ws) v ks o f e a b h =
+pub line_kind : (g : GraphValue) (name : List ℕ) (ws : List (List ℕ)) (v : List ℕ) (o : Option Kind) → v ≡ at ws 0 → bytes_eq v (codes "merge") ≡ false → bytes_eq v (codes "mergei") ≡ false → found_kind KINDS ws ≡ o →
+    line_draft g name ws ≡ option_map (λ k. kind_draft g k name (drop (length (form_of k).words) ws)) o
+line_kind g name [] v o e a b h = sym (ap (option_map (λ k. kind_draft g k name (drop (length (form_of k).words) []))) (sym h ∙ none_there KINDS))
+line_kind g name (w ∷ ws) v o e a b h =
     cond-false (bytes_eq w (codes "merge")) (merge_draft g name Merge ws) _ (ap (λ x. bytes_eq x (codes "merge")) (sym e) ∙ a)
     ∙ (cond-false (bytes_eq w (codes "mergei")) (merge_draft g name MergeIgnore ws) _ (ap (λ x. bytes_eq x (codes "mergei")) (sym e) ∙ b)
-    ∙ (ap (λ fs. option_map (λ f. form_draft g name (drop (length f.words) (w ∷ ws)) f) (find (is_of_form (w ∷ ws)) fs)) (sym f)
-    ∙ (ap (option_map (λ f. form_draft g name (drop (length f.words) (w ∷ ws)) f)) (find_mapped (is_of_form (w ∷ ws)) kind_form ks ∙ ap (option_map kind_form) h) ∙ option_twice o)))
+    ∙ (ap (option_map (λ f. form_draft g name (drop (length f.words) (w ∷ ws)) f)) (find_mapped (is_of_form (w ∷ ws)) form_of KINDS ∙ ap (option_map form_of) h) ∙ option_twice o))
   where
-    option_twice : (o : Option Kind) → option_map (λ f. form_draft g name (drop (length f.words) (w ∷ ws)) f) (option_map kind_form o) ≡ option_map (λ k. kind_draft g k name (drop (length (kind_form k).words) (w ∷ ws))) o
+    option_twice : (o : Option Kind) → option_map (λ f. form_draft g name (drop (length f.words) (w ∷ ws)) f) (option_map form_of o) ≡ option_map (λ k. kind_draft g k name (drop (length (form_of k).words) (w ∷ ws))) o
     option_twice None = refl
     option_twice (Some k) = refl
 
@@ -169,9 +151,9 @@ room_by t n m b h = by_first (n == m) refl h
     by_first true e h = let k : n ≡ m = eqb-true n m e in omega arith
     by_first false e h = let p = and_parts t (n == m + 2 && b) h in let q = and_parts (n == m + 2) b p.1 in let k : n ≡ m + 2 = eqb-true n (m + 2) q.0 in omega arith
 
-pub places_there : (kind : Kind) (ws : List (List ℕ)) → is_of_form ws (kind_form kind) ≡ true → HasPlaces kind (drop (length (kind_form kind).words) ws)
-places_there kind ws h = let p = and_parts (starts_with same_word ws (kind_form kind).words) _ h in
-    room_by (kind_form kind).takes_on (length (drop (length (kind_form kind).words) ws)) (length (kind_form kind).places) _ p.1
+pub places_there : (kind : Kind) (ws : List (List ℕ)) → is_of_form ws (form_of kind) ≡ true → HasPlaces kind (drop (length (form_of kind).words) ws)
+places_there kind ws h = let p = and_parts (starts_with same_word ws (form_of kind).words) _ h in
+    room_by (form_of kind).takes_on (length (drop (length (form_of kind).words) ws)) (length (form_of kind).places) _ p.1
 
 pub merge_shape : (g : GraphValue) (name : List ℕ) (verb : List ℕ → Verb) (ws : List (List ℕ)) → 2 ≤ length ws → merge_draft g name verb (drop 1 ws) ≡ Some (merge_with g name verb (drop 1 ws))
 merge_shape g name verb [] h = absurd (omega arith)

@@ -11,7 +11,7 @@ use Rattle.graph_model.specs.declared.graph.decl.Decl.{Decl}
 use Rattle.graph_model.specs.declared.graph.decl.Decl.TheVariants as decl
 use Rattle.graph_model.specs.declared.graph.verb.Line.{Line}
 use Rattle.graph_model.specs.declared.graph.verb.Verb.{Verb}
-use Rattle.graph_model.specs.declared.graph.verb.Verb.TheVariants.{User, Trigger, Cancel, Merge, MergeIgnore, Phase, Arrive, Acquire, Release, Fill, Copy, Reduce, Task}
+use Rattle.graph_model.specs.declared.graph.verb.Verb.TheVariants.{Merge, MergeIgnore}
 use Rattle.graph_model.specs.declared.graph.why.Why.TheVariants.{Syntax}
 use Rattle.graph_model.specs.graph.Name.{is_name}
 use Rattle.graph_model.specs.graph.Graph.{GraphValue, decl_name, named_spaces}
@@ -232,17 +232,7 @@ mergei_reads g n name es None is fits k none =
 line_reads_by : (g : GraphValue) → IsNamed g → (name : List ℕ) (v : Verb) (o : Option ℕ) → IsLine (make_line name v o) → line_fault g (make_line name v o) ≡ None → IsKnownLine g (make_line name v o) → ReadsBack g (inr (make_line name v o))
 line_reads_by g n name (Merge es) o is fits k = merge_reads g n name es o is fits k (no_on o k.takes_on)
 line_reads_by g n name (MergeIgnore es) o is fits k = mergei_reads g n name es o is fits k (no_on o k.takes_on)
-line_reads_by g n name User o is fits k = line_by_form g n (make_line name User o) is fits k (formed g User k.verb tt)
-line_reads_by g n name (Trigger u) o is fits k = line_by_form g n (make_line name (Trigger u) o) is fits k (formed g (Trigger u) k.verb tt)
-line_reads_by g n name (Cancel u) o is fits k = line_by_form g n (make_line name (Cancel u) o) is fits k (formed g (Cancel u) k.verb tt)
-line_reads_by g n name (Phase b) o is fits k = line_by_form g n (make_line name (Phase b) o) is fits k (formed g (Phase b) k.verb tt)
-line_reads_by g n name (Arrive p v) o is fits k = line_by_form g n (make_line name (Arrive p v) o) is fits k (formed g (Arrive p v) k.verb tt)
-line_reads_by g n name (Acquire l) o is fits k = line_by_form g n (make_line name (Acquire l) o) is fits k (formed g (Acquire l) k.verb tt)
-line_reads_by g n name (Release q) o is fits k = line_by_form g n (make_line name (Release q) o) is fits k (formed g (Release q) k.verb tt)
-line_reads_by g n name (Fill t s v) o is fits k = line_by_form g n (make_line name (Fill t s v) o) is fits k (formed g (Fill t s v) k.verb tt)
-line_reads_by g n name (Copy a b s) o is fits k = line_by_form g n (make_line name (Copy a b s) o) is fits k (formed g (Copy a b s) k.verb tt)
-line_reads_by g n name (Reduce op a b s) o is fits k = line_by_form g n (make_line name (Reduce op a b s) o) is fits k (formed g (Reduce op a b s) k.verb tt)
-line_reads_by g n name (Task kernel) o is fits k = line_by_form g n (make_line name (Task kernel) o) is fits k (formed g (Task kernel) k.verb tt)
+line_reads_by g n name v o is fits k = line_by_form g n (make_line name v o) is fits k (formed g v _ refl k.verb)
 
 pub line_reads : (g : GraphValue) → IsNamed g → (l : Line) → IsLine l → line_fault g l ≡ None → ReadsBack g (inr l)
 line_reads g n l is fits = line_reads_by g n l.name l.verb l.on is fits (known_line_of g l is fits)

@@ -1,6 +1,6 @@
 -- The text of a graph by the names of the whole graph: what a writer puts, line by line.
 use Rattle.std.proofs.Common.{◌≡◌, ℕ, zero, suc, ◌<◌, false, List, [], ◌∷◌, ◌++◌, length, map, refl, sym, ◌∙◌, ap, append_assoc, arith}
-use Rattle.std.specs.Prelude.{Option, Some, None, filter_map, flat_map, slice_get, codes, decimal}
+use Rattle.std.specs.Prelude.{Option, Some, None, filter_map, flat_map, zip, slice_get, codes}
 use Rattle.std.specs.Option.{option_map_or}
 use Rattle.std.specs.List.{AllByRecursion}
 use Rattle.std.proofs.lemmas.Bool.{leb-false}
@@ -9,12 +9,13 @@ use Rattle.graph_model.specs.declared.graph.decl.Decl.{Decl}
 use Rattle.graph_model.specs.declared.graph.decl.Decl.TheVariants as decl
 use Rattle.graph_model.specs.declared.graph.verb.Line.{Line}
 use Rattle.graph_model.specs.declared.graph.verb.Verb.{Verb}
-use Rattle.graph_model.specs.declared.graph.verb.Verb.TheVariants.{User, Trigger, Cancel, Merge, MergeIgnore, Phase, Arrive, Acquire, Release, Fill, Copy, Reduce, Task}
-use Rattle.graph_model.specs.declared.graph.verb.Kernel.{Kernel}
-use Rattle.graph_model.specs.declared.graph.verb.Kernel.TheVariants.{Iota, Axpy, Stencil, Scan, Hist, Dot, Expect, Gather}
+use Rattle.graph_model.specs.declared.graph.verb.Verb.TheVariants.{Merge, MergeIgnore}
+use Rattle.graph_model.specs.declared.graph.table.Place.{Place}
+use Rattle.graph_model.specs.declared.graph.table.Place.TheVariants.{User, Phase, Acquire}
+use Rattle.graph_model.specs.graph.Table.{Placed, kind_words, verb_kind, verb_places, verb_parts}
 use Rattle.graph_model.specs.graph.Graph.{GraphValue, space_of, named_spaces}
-use Rattle.graph_model.specs.graph.Spelling.{space_name, line_name, comma_word, spelled, decl_words, verb_words, kernel_words, on_words, line_words, header, decls_text, lines_text, head}
-use Rattle.graph_model.specs.graph.Fits.{decl_unknown, named_lines, on_lines, DeclsFit, LinesFit, IsGraph}
+use Rattle.graph_model.specs.graph.Spelling.{space_name, line_name, comma_word, spelled, decl_words, place_word, placed_words, verb_words, on_words, line_words, header, decls_text, lines_text, head}
+use Rattle.graph_model.specs.graph.Fits.{decl_unknown, named_line, named_lines, on_lines, DeclsFit, LinesFit, IsGraph}
 use Rattle.graph_reader.proofs.ReadBack.{known_decl_of}
 use Rattle.graph_reader.proofs.VerbForms.{known_line_of}
 
@@ -44,30 +45,18 @@ lines_kept : (ds : List Decl) (ks ls : List Line) (ns : List ℕ) → AllByRecur
 lines_kept ds ks ls [] h = refl
 lines_kept ds ks ls (n ∷ ns) h = ap (λ x. x ∷ map (line_name (graph_of ds ks)) ns) (line_kept ds ks ls n h.0) ∙ ap (λ xs. line_name (graph_of ds (ks ++ ls)) n ∷ xs) (lines_kept ds ks ls ns h.1)
 
+number_kept : (ds : List Decl) (ks ls : List Line) (ps : List Place) (ns : List ℕ) → AllByRecursion (λ i. i < length ks) (filter_map (λ (p : Placed). named_line p.0 p.1) (zip ps ns)) → placed_words (graph_of ds ks) (zip ps ns) ≡ placed_words (graph_of ds (ks ++ ls)) (zip ps ns)
+number_kept ds ks ls [] ns h = refl
+number_kept ds ks ls (p ∷ ps) [] h = refl
+number_kept ds ks ls (User ∷ ps) (n ∷ ns) h = ap (λ w. w ∷ placed_words (graph_of ds ks) (zip ps ns)) (line_kept ds ks ls n h.0) ∙ ap (λ ws. line_name (graph_of ds (ks ++ ls)) n ∷ ws) (number_kept ds ks ls ps ns h.1)
+number_kept ds ks ls (Phase ∷ ps) (n ∷ ns) h = ap (λ w. w ∷ placed_words (graph_of ds ks) (zip ps ns)) (line_kept ds ks ls n h.0) ∙ ap (λ ws. line_name (graph_of ds (ks ++ ls)) n ∷ ws) (number_kept ds ks ls ps ns h.1)
+number_kept ds ks ls (Acquire ∷ ps) (n ∷ ns) h = ap (λ w. w ∷ placed_words (graph_of ds ks) (zip ps ns)) (line_kept ds ks ls n h.0) ∙ ap (λ ws. line_name (graph_of ds (ks ++ ls)) n ∷ ws) (number_kept ds ks ls ps ns h.1)
+number_kept ds ks ls (p ∷ ps) (n ∷ ns) h = ap (λ ws. place_word (graph_of ds ks) p n ∷ ws) (number_kept ds ks ls ps ns h)
+
 verb_kept : (ds : List Decl) (ks ls : List Line) (v : Verb) → AllByRecursion (λ i. i < length ks) (named_lines v) → verb_words (graph_of ds ks) v ≡ verb_words (graph_of ds (ks ++ ls)) v
-verb_kept ds ks ls User h = refl
-verb_kept ds ks ls (Trigger u) h = ap (λ x. codes "trigger" ∷ x ∷ []) (line_kept ds ks ls u h.0)
-verb_kept ds ks ls (Cancel u) h = ap (λ x. codes "cancel" ∷ x ∷ []) (line_kept ds ks ls u h.0)
 verb_kept ds ks ls (Merge events) h = ap (λ xs. codes "merge" ∷ xs) (lines_kept ds ks ls events h)
 verb_kept ds ks ls (MergeIgnore events) h = ap (λ xs. codes "mergei" ∷ xs) (lines_kept ds ks ls events h)
-verb_kept ds ks ls (Phase b) h = refl
-verb_kept ds ks ls (Arrive p v) h = ap (λ x. codes "arrive" ∷ x ∷ decimal v ∷ []) (line_kept ds ks ls p h.0)
-verb_kept ds ks ls (Acquire l) h = refl
-verb_kept ds ks ls (Release q) h = ap (λ x. codes "release" ∷ x ∷ []) (line_kept ds ks ls q h.0)
-verb_kept ds ks ls (Fill t s v) h = refl
-verb_kept ds ks ls (Copy a b s) h = refl
-verb_kept ds ks ls (Reduce o a b s) h = refl
-verb_kept ds ks ls (Task kernel) h = ap (λ xs. codes "task" ∷ xs) (kernel_kept kernel)
-  where
-    kernel_kept : (k : Kernel) → kernel_words (graph_of ds ks) k ≡ kernel_words (graph_of ds (ks ++ ls)) k
-    kernel_kept (Iota x s v) = refl
-    kernel_kept (Axpy x y s k) = refl
-    kernel_kept (Stencil x y r s) = refl
-    kernel_kept (Scan x y s) = refl
-    kernel_kept (Hist x y s t) = refl
-    kernel_kept (Dot x y z s t) = refl
-    kernel_kept (Expect x s low high) = refl
-    kernel_kept (Gather x y z s t) = refl
+verb_kept ds ks ls v h = ap (λ xs. option_map_or kind_words (verb_kind v) [] ++ xs) (number_kept ds ks ls (verb_places v) (verb_parts v) h)
 
 on_kept : (ds : List Decl) (ks ls : List Line) (o : Option ℕ) → AllByRecursion (λ i. i < length ks) (on_lines o) → on_words (graph_of ds ks) o ≡ on_words (graph_of ds (ks ++ ls)) o
 on_kept ds ks ls None h = refl

@@ -1,11 +1,18 @@
 -- Lists whose texts are written one after another.
 use Rattle.std.proofs.Common.{cond, ◌≡◌, ℕ, zero, suc, ◌+◌, ◌<◌, ◌≤◌, List, [], ◌∷◌, ◌++◌, length, drop, get_or, map, refl, sym, ◌∙◌, ap, append_assoc, append-nil, arith}
-use Rattle.std.specs.Prelude.{Some, slice_get, flat_map, codes}
+use Rattle.std.specs.Prelude.{Some, zip, slice_get, slice_index_or, flat_map, codes}
 use Rattle.std.specs.List.{join_with_byte}
 use Rattle.std.proofs.lemmas.Bool.{ne_eqb}
 use Rattle.std.proofs.lemmas.Grind.{flat_map-append}
-use Rattle.graph_model.specs.graph.Spelling.{spelled, interval_word, comma_word}
-use Rattle.graph_reader.specs.WrittenWords.{spaced, comma_before, comma_from}
+use Rattle.graph_model.specs.declared.graph.table.Place.{Place}
+use Rattle.graph_model.specs.declared.graph.table.Parts.{Parts}
+use Rattle.graph_model.specs.graph.Graph.{GraphValue}
+use Rattle.graph_model.specs.declared.graph.table.Kind.{Kind}
+use Rattle.graph_model.specs.declared.graph.verb.Verb.{Verb}
+use Rattle.std.specs.Option.{option_map_or}
+use Rattle.graph_model.specs.graph.Table.{kind_words, kind_places, verb_kind, verb_places, verb_parts, verb_placed, part_in, parts_from}
+use Rattle.graph_model.specs.graph.Spelling.{spelled, interval_word, comma_word, place_word, placed_words}
+use Rattle.graph_reader.specs.WrittenWords.{spaced, row_words, part_text, comma_before, comma_from}
 use Rattle.std.proofs.lemmas.Option.{none-some, same_Some}
 
 pub flat_next : {X : Type 0} (f : X → List ℕ) (xs : List X) (i : ℕ) (d : X) → i < length xs → flat_map f (drop i xs) ≡ f (get_or xs i d) ++ flat_map f (drop (i + 1) xs)
@@ -113,16 +120,27 @@ space_line name is = ap (λ c. codes "space " ++ (name ++ (32 ∷ (c ++ 10 ∷ [
 pub inst_line : (name space : List ℕ) (fields : List (List ℕ)) → codes "inst " ++ (name ++ (32 ∷ (space ++ (32 ∷ (comma_from (λ w. w) 0 fields ++ 10 ∷ []))))) ≡ spelled (codes "inst" ∷ name ∷ space ∷ comma_word fields ∷ [])
 inst_line name space fields = ap (λ c. codes "inst " ++ (name ++ (32 ∷ (space ++ (32 ∷ (c ++ 10 ∷ [])))))) (commas (λ w. w) fields ∙ ap comma_word (same_items fields)) ∙ sym (inst_text name space (comma_word fields))
 
--- columns, spaces and numbers, each behind a space
-pub places_text : (f g h : ℕ → List ℕ) (cs ss ns : List ℕ) →
-    spaced (map f cs ++ (map g ss ++ map h ns)) ≡ flat_map (λ c. 32 ∷ f c) cs ++ (flat_map (λ s. 32 ∷ g s) ss ++ flat_map (λ n. 32 ∷ h n) ns)
-places_text f g h cs ss ns =
-    flat_map-append (λ w. 32 ∷ w) (map f cs) (map g ss ++ map h ns)
-    ∙ (ap (λ x. x ++ spaced (map g ss ++ map h ns)) (flat_mapped f cs)
-    ∙ ap (λ x. flat_map (λ c. 32 ∷ f c) cs ++ x)
-    (flat_map-append (λ w. 32 ∷ w) (map g ss) (map h ns)
-    ∙ (ap (λ x. x ++ spaced (map h ns)) (flat_mapped g ss) ∙ ap (λ x. flat_map (λ s. 32 ∷ g s) ss ++ x) (flat_mapped h ns))))
+-- what stands in places, from one of them on
+pub part_next : (g : GraphValue) (parts : Parts) (ps : List Place) (i n : ℕ) (d : Place) → i < length ps →
+    part_text g n (drop i ps) parts ≡ (32 ∷ place_word g (slice_index_or ps i d) (part_in (slice_index_or ps i d) n parts)) ++ part_text g (n + 1) (drop (i + 1) ps) parts
+part_next g parts [] i n d h = absurd (omega arith)
+part_next g parts (p ∷ ps) zero n d h = refl
+part_next g parts (p ∷ ps) (suc i) n d h = part_next g parts ps i n d (omega arith)
+    ∙ ap (λ m. (32 ∷ place_word g (slice_index_or ps i d) (part_in (slice_index_or ps i d) n parts)) ++ part_text g (n + 1) (drop m (p ∷ ps)) parts) (let e : suc (i + 1) ≡ suc i + 1 = omega arith in e)
 
--- words behind two others
-pub two_before : (v w : List ℕ) (ws : List (List ℕ)) → spaced (v ∷ w ∷ []) ++ spaced ws ≡ spaced (v ∷ w ∷ ws)
-two_before v w ws = sym (flat_map-append (λ x. 32 ∷ x) (v ∷ w ∷ []) ws)
+pub part_over : (g : GraphValue) (parts : Parts) (ps : List Place) (i n : ℕ) → length ps ≤ i → part_text g n (drop i ps) parts ≡ []
+part_over g parts [] zero n h = refl
+part_over g parts [] (suc i) n h = refl
+part_over g parts (p ∷ ps) zero n h = absurd (omega arith)
+part_over g parts (p ∷ ps) (suc i) n h = part_over g parts ps i n (omega arith)
+
+-- the words of a verb by its row
+pub row_text : (g : GraphValue) (v : Verb) (k : Kind) (parts : Parts) (ws : List (List ℕ)) (ps : List Place) → Some k ≡ verb_kind v → ws ≡ kind_words k → ps ≡ kind_places k → parts_from 0 (verb_places v) parts ≡ verb_parts v →
+    spaced ws ++ part_text g 0 ps parts ≡ spaced (row_words g v)
+row_text g v k parts ws ps e w p h =
+    let words : List (List ℕ) = option_map_or kind_words (verb_kind v) [] in
+    ap (λ xs. spaced xs ++ part_text g 0 ps parts) w
+    ∙ (ap (λ qs. spaced (kind_words k) ++ part_text g 0 qs parts) p
+    ∙ (ap (λ o. spaced (option_map_or kind_words o []) ++ part_text g 0 (option_map_or kind_places o []) parts) e
+    ∙ (ap (λ ns. spaced words ++ spaced (placed_words g (zip (verb_places v) ns))) h
+    ∙ sym (flat_map-append (λ w. 32 ∷ w) words (placed_words g (verb_placed v))))))

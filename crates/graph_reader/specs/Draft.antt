@@ -1,5 +1,5 @@
 -- A line of text with its words in their places, before the names in it are looked up.
-use Rattle.std.specs.Prelude.{ℕ, ◌+◌, ◌==◌, Bool, true, false, cond, ◌&&◌, ◌||◌, List, [], ◌∷◌, ◌++◌, length, map, drop, find, zip, ◌⊎◌, Option, Some, None, option_map, unwrap_or, slice_index, slice_index_or, codes, position}
+use Rattle.std.specs.Prelude.{ℕ, ◌+◌, ◌==◌, Bool, true, false, cond, ◌&&◌, ◌||◌, List, [], ◌∷◌, ◌++◌, length, map, drop, find, zip, ◌⊎◌, Option, Some, None, option_map, unwrap_or, slice_index_or, codes, position}
 use Rattle.std.specs.List.{starts_with}
 use Rattle.std.specs.Str.{bytes_eq}
 use Rattle.std.proofs.Common.{inl, inr}
@@ -9,8 +9,12 @@ use Rattle.graph_model.specs.declared.graph.decl.Decl.{Decl}
 use Rattle.graph_model.specs.declared.graph.decl.Decl.TheVariants as decl
 use Rattle.graph_model.specs.declared.graph.verb.Line.{Line}
 use Rattle.graph_model.specs.declared.graph.verb.Verb.{Verb}
-use Rattle.graph_model.specs.declared.graph.verb.Verb.TheVariants.{User, Trigger, Cancel, Merge, MergeIgnore, Phase, Arrive, Acquire, Release, Fill, Copy, Reduce, Task}
-use Rattle.graph_model.specs.declared.graph.verb.Kernel.TheVariants.{Iota, Axpy, Stencil, Scan, Hist, Dot, Expect, Gather}
+use Rattle.graph_model.specs.declared.graph.verb.Verb.TheVariants.{Merge, MergeIgnore}
+use Rattle.graph_model.specs.declared.graph.table.Kind.{Kind}
+use Rattle.graph_model.specs.declared.graph.table.TheConstants.{KINDS}
+use Rattle.graph_model.specs.declared.graph.table.Place as table
+use Rattle.graph_model.specs.declared.graph.table.Place.TheVariants as places
+use Rattle.graph_model.specs.graph.Table.{kind_words, kind_places, kind_takes_on, verb_of}
 use Rattle.graph_model.specs.declared.graph.decl.ColumnInfo.{ColumnInfo}
 use Rattle.graph_model.specs.declared.graph.decl.BarrierInfo.{BarrierInfo}
 use Rattle.graph_model.specs.graph.Graph.{GraphValue, named_spaces, columns, locks, barriers}
@@ -63,6 +67,17 @@ number_in_place g _ w = 0
 abbrev pub number_in : GraphValue → Placed → ℕ
 number_in g p = number_in_place g p.0 p.1
 
+-- a place of an operation line's word
+abbrev pub as_place : table.Place → Place
+as_place places.User = UserName
+as_place places.Phase = PhaseName
+as_place places.Acquire = AcquireName
+as_place places.Lock = LockName
+as_place places.Barrier = BarrierName
+as_place places.Space = SpaceName
+as_place places.Value = Value
+as_place (places.Column mode over) = Column
+
 -- a form of an operation line: its fixed words, the places behind them, whether a precondition may follow, and the verb by the numbers in the places
 pub record Form : Type 0 where
   pub words : List (List ℕ)
@@ -70,36 +85,13 @@ pub record Form : Type 0 where
   pub takes_on : Bool
   pub verb : List ℕ → Verb
 
-abbrev pub form : List (List ℕ) → List Place → (List ℕ → Verb) → Form
-form words places verb = record { words = words; places = places; takes_on = true; verb = verb }
-
-abbrev pub form_without_on : List (List ℕ) → List Place → (List ℕ → Verb) → Form
-form_without_on words places verb = record { words = words; places = places; takes_on = false; verb = verb }
+-- the form of a kind
+abbrev pub form_of : Kind → Form
+form_of kind = record { words = kind_words kind; places = map as_place (kind_places kind); takes_on = kind_takes_on kind; verb = verb_of kind }
 
 -- the forms of operation lines but for merges
 abbrev pub forms : List Form
-forms =
-    form_without_on (codes "user" ∷ []) [] (λ n. User)
-    ∷ form (codes "trigger" ∷ []) (UserName ∷ []) (λ n. Trigger (slice_index n 0))
-    ∷ form (codes "cancel" ∷ []) (UserName ∷ []) (λ n. Cancel (slice_index n 0))
-    ∷ form_without_on (codes "phase" ∷ []) (BarrierName ∷ []) (λ n. Phase (slice_index n 0))
-    ∷ form (codes "arrive" ∷ []) (PhaseName ∷ Value ∷ []) (λ n. Arrive (slice_index n 0) (slice_index n 1))
-    ∷ form (codes "acquire" ∷ []) (LockName ∷ []) (λ n. Acquire (slice_index n 0))
-    ∷ form (codes "release" ∷ []) (AcquireName ∷ []) (λ n. Release (slice_index n 0))
-    ∷ form (codes "fill" ∷ []) (Column ∷ SpaceName ∷ Value ∷ []) (λ n. Fill (slice_index n 0) (slice_index n 1) (slice_index n 2))
-    ∷ form (codes "copy" ∷ []) (Column ∷ Column ∷ SpaceName ∷ []) (λ n. Copy (slice_index n 0) (slice_index n 1) (slice_index n 2))
-    ∷ form (codes "reduce" ∷ codes "sum" ∷ []) (Column ∷ Column ∷ SpaceName ∷ []) (λ n. Reduce op.Sum (slice_index n 0) (slice_index n 1) (slice_index n 2))
-    ∷ form (codes "reduce" ∷ codes "min" ∷ []) (Column ∷ Column ∷ SpaceName ∷ []) (λ n. Reduce op.Min (slice_index n 0) (slice_index n 1) (slice_index n 2))
-    ∷ form (codes "reduce" ∷ codes "max" ∷ []) (Column ∷ Column ∷ SpaceName ∷ []) (λ n. Reduce op.Max (slice_index n 0) (slice_index n 1) (slice_index n 2))
-    ∷ form (codes "task" ∷ codes "iota" ∷ []) (Column ∷ SpaceName ∷ Value ∷ []) (λ n. Task (Iota (slice_index n 0) (slice_index n 1) (slice_index n 2)))
-    ∷ form (codes "task" ∷ codes "axpy" ∷ []) (Column ∷ Column ∷ SpaceName ∷ Value ∷ []) (λ n. Task (Axpy (slice_index n 0) (slice_index n 1) (slice_index n 2) (slice_index n 3)))
-    ∷ form (codes "task" ∷ codes "stencil" ∷ []) (Column ∷ Column ∷ SpaceName ∷ SpaceName ∷ []) (λ n. Task (Stencil (slice_index n 0) (slice_index n 1) (slice_index n 2) (slice_index n 3)))
-    ∷ form (codes "task" ∷ codes "scan" ∷ []) (Column ∷ Column ∷ SpaceName ∷ []) (λ n. Task (Scan (slice_index n 0) (slice_index n 1) (slice_index n 2)))
-    ∷ form (codes "task" ∷ codes "hist" ∷ []) (Column ∷ Column ∷ SpaceName ∷ SpaceName ∷ []) (λ n. Task (Hist (slice_index n 0) (slice_index n 1) (slice_index n 2) (slice_index n 3)))
-    ∷ form (codes "task" ∷ codes "dot" ∷ []) (Column ∷ Column ∷ Column ∷ SpaceName ∷ SpaceName ∷ []) (λ n. Task (Dot (slice_index n 0) (slice_index n 1) (slice_index n 2) (slice_index n 3) (slice_index n 4)))
-    ∷ form (codes "task" ∷ codes "expect" ∷ []) (Column ∷ SpaceName ∷ Value ∷ Value ∷ []) (λ n. Task (Expect (slice_index n 0) (slice_index n 1) (slice_index n 2) (slice_index n 3)))
-    ∷ form (codes "task" ∷ codes "gather" ∷ []) (Column ∷ Column ∷ Column ∷ SpaceName ∷ SpaceName ∷ []) (λ n. Task (Gather (slice_index n 0) (slice_index n 1) (slice_index n 2) (slice_index n 3) (slice_index n 4)))
-    ∷ []
+forms = map form_of KINDS
 
 abbrev pub same_word : List ℕ → List ℕ → Bool
 same_word a b = bytes_eq a b

@@ -1,6 +1,12 @@
 -- The words of lines that are written.
-use Rattle.std.specs.Prelude.{ℕ, ◌+◌, ◌==◌, cond, List, [], ◌++◌, ◌∷◌, decimal, flat_map}
-use Rattle.graph_model.specs.graph.Spelling.{interval_word}
+use Rattle.std.specs.Prelude.{ℕ, ◌+◌, ◌==◌, cond, List, [], ◌++◌, ◌∷◌, decimal, flat_map, zip}
+use Rattle.std.specs.Option.{option_map_or}
+use Rattle.graph_model.specs.declared.graph.table.Place.{Place}
+use Rattle.graph_model.specs.declared.graph.table.Parts.{Parts}
+use Rattle.graph_model.specs.declared.graph.verb.Verb.{Verb}
+use Rattle.graph_model.specs.graph.Graph.{GraphValue}
+use Rattle.graph_model.specs.graph.Table.{kind_words, verb_kind, verb_placed, parts_from}
+use Rattle.graph_model.specs.graph.Spelling.{interval_word, placed_words}
 use Rattle.graph_reader.specs.declared.word_kinds.Word.{Word}
 use Rattle.graph_reader.specs.declared.word_kinds.Word.TheVariants as words
 
@@ -14,6 +20,14 @@ word_text (words.Interval low high) = interval_word (low, high)
 -- words, each behind a space
 abbrev pub spaced : List (List ℕ) → List ℕ
 spaced ws = flat_map (λ w. 32 ∷ w) ws
+
+-- the words of a verb by its row, of which a merge has none
+abbrev pub row_words : GraphValue → Verb → List (List ℕ)
+row_words g v = option_map_or kind_words (verb_kind v) [] ++ placed_words g (verb_placed v)
+
+-- what stands in places, the first having this number, each word behind a space
+abbrev pub part_text : GraphValue → ℕ → List Place → Parts → List ℕ
+part_text g n ps parts = spaced (placed_words g (zip ps (parts_from n ps parts)))
 
 -- what stands before the item of this number in a list with commas
 abbrev pub comma_before : ℕ → List ℕ

@@ -6,16 +6,15 @@ ghost use Rattle.graph_model.specs.graph.Name.{is_name};
 ghost use Rattle.graph_model.specs.graph.Graph.{is_user, is_phase, is_acquire, line_passes};
 ghost use Rattle.graph_model.specs.declared.graph.verb.Line.{Line};
 ghost use Rattle.graph_reader.specs.Words.{is_column, value_of};
-ghost use Rattle.graph_reader.specs.Draft.{line_number};
+ghost use Rattle.graph_reader.specs.Draft.{as_place, Column, EventName};
 ghost use Rattle.graph_reader.specs.FirstFault.{misnamed, twice, unknown, unlike, misnumbered};
-ghost use Rattle.graph_reader.specs.Kinds.{as_place};
 
 use crate::cuts::before_dot;
 use crate::lookup::{barrier, column, column_names, is_inst, line, lock, look_up, space};
 use crate::numbers::value;
-use crate::place::Place;
 use graph_model::graph::Graph;
 use graph_model::name::Name;
+use graph_model::table::Place;
 use graph_model::verb::Verb;
 
 /// Whether a word is spelled as a name.
@@ -38,7 +37,7 @@ pub(crate) fn misnamed(place: Place, word: &[u8]) -> bool
     ensures { result ≡ misnamed (as_place place) word.now }
 {
     match place {
-        Place::Column => !is_column(word),
+        Place::Column(..) => !is_column(word),
         Place::Value => false,
         _ => !is_name(word),
     }
@@ -70,7 +69,7 @@ pub(crate) fn unknown(graph: &Graph, place: Place, word: &[u8]) -> bool
 {
     match place {
         Place::Value => false,
-        Place::Column => unknown_column(graph, word),
+        Place::Column(..) => unknown_column(graph, word),
         _ => look_up(graph, word).is_none(),
     }
 }
@@ -78,7 +77,7 @@ pub(crate) fn unknown(graph: &Graph, place: Place, word: &[u8]) -> bool
 /// Whether a word names no instance that is declared, or a field that it has not.
 #[tactic(auto, using(crate::proofs::ColumnWords::has_column_is))]
 fn unknown_column(graph: &Graph, word: &[u8]) -> bool
-    ensures { result ≡ unknown graph.now (as_place Place.Column) word.now }
+    ensures { result ≡ unknown graph.now Column word.now }
 {
     let found = look_up(graph, before_dot(word));
     found.is_none() || (is_inst(found) && column(graph, word).is_none())
@@ -111,8 +110,7 @@ pub(crate) fn unlike(graph: &Graph, place: Place, word: &[u8]) -> bool
         Place::Space => space(graph, word).is_none(),
         Place::Lock => lock(graph, word).is_none(),
         Place::Barrier => barrier(graph, word).is_none(),
-        Place::Event => line(graph, word).is_none(),
-        Place::Column => !is_inst(look_up(graph, before_dot(word))),
+        Place::Column(..) => !is_inst(look_up(graph, before_dot(word))),
         Place::Value => false,
         Place::User => match line(graph, word) {
             Some(i) => !is_user(&graph.line(i).verb),
@@ -137,4 +135,26 @@ pub(crate) fn misnumbered(place: Place, word: &[u8]) -> bool
         Place::Value => value(word).is_none(),
         _ => false,
     }
+}
+
+/// Whether the word of an event is not spelled as a name.
+pub(crate) fn event_misnamed(word: &[u8]) -> bool
+    ensures { result ≡ misnamed EventName word.now }
+{
+    !is_name(word)
+}
+
+/// Whether the word of an event names what is not declared.
+pub(crate) fn event_unknown(graph: &Graph, word: &[u8]) -> bool
+    ensures { result ≡ unknown graph.now EventName word.now }
+{
+    look_up(graph, word).is_none()
+}
+
+/// Whether the word of an event names no line.
+#[tactic(auto, using(crate::proofs::Owners::position_any))]
+pub(crate) fn event_unlike(graph: &Graph, word: &[u8]) -> bool
+    ensures { result ≡ unlike graph.now EventName word.now }
+{
+    line(graph, word).is_none()
 }

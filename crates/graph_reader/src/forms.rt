@@ -1,27 +1,30 @@
 //! Operation lines but for merges.
 
 ghost use Rattle.basics.specs.Words.{contents};
-ghost use Rattle.std.specs.Prelude.{◌≡◌, map, zip, length, List, ℕ, [], ◌∷◌, ◌+◌, slice_index_or, unwrap_or, None, Some};
+ghost use Rattle.std.specs.Prelude.{◌≡◌, ◌<◌, ◌≤◌, ◌&&◌, drop, length, List, ℕ, [], ◌+◌, slice_index_or};
 ghost use Rattle.std.specs.List.{list_any};
 ghost use Rattle.std.specs.Str.{bytes_eq};
 ghost use Rattle.graph_model.specs.graph.Fits.{repeats, first_reason};
-ghost use Rattle.graph_reader.specs.Draft.{Placed, has_on, space_number, lock_number, barrier_number, line_number, column_number_of};
+ghost use Rattle.graph_model.specs.graph.Table.{is_column};
+ghost use Rattle.graph_reader.specs.Draft.{Placed, form_of, has_on};
 ghost use Rattle.graph_reader.specs.FirstFault.{misnamed, twice, unknown, unlike, misnumbered, draft_tests};
-ghost use Rattle.graph_reader.specs.Kinds.{as_place, kind_form, kind_verb, kind_placed, column_words, kind_draft, kind_on, columns_twice, form_reason, form_fails, HasPlaces, kind_line, IsReading, IsJudged};
+ghost use Rattle.graph_reader.specs.Kinds.{words_in, column_words, kind_draft, kind_on, form_reason, form_fails, HasPlaces, kind_line, IsReading, IsJudged};
 
-use crate::checks::{is_name, misnamed, misnumbered, twice, unknown, unlike};
-use crate::kind::Kind;
-use crate::lookup::look_up;
-use crate::place::Place;
-use crate::verbs::{line_at, verb_of};
-use crate::words::{has_on, word};
+use crate::checks::{
+    event_misnamed, event_unknown, event_unlike, is_name, misnamed, misnumbered, twice, unknown,
+    unlike,
+};
+use crate::lookup::{line_number, look_up};
+use crate::parts::read_parts;
+use crate::words::{behind, has_on, place_count, word};
 use graph_model::graph::Graph;
 use graph_model::name::Name;
-use graph_model::verb::Line;
+use graph_model::table::{Kind, Place};
+use graph_model::verb::{Line, Verb};
 use graph_model::why::Why;
 
 fn any_misnamed(places: &[Place], words: &[&[u8]]) -> bool
-    ensures { result ≡ list_any (λ (p : Placed). misnamed p.0 p.1) (zip (map as_place places.now) (contents words.now)) }
+    ensures { result ≡ list_any (λ (p : Placed). misnamed p.0 p.1) (words_in places.now (contents words.now)) }
 {
     places
         .iter()
@@ -30,7 +33,7 @@ fn any_misnamed(places: &[Place], words: &[&[u8]]) -> bool
 }
 
 fn any_twice(graph: &Graph, places: &[Place], words: &[&[u8]]) -> bool
-    ensures { result ≡ list_any (λ (p : Placed). twice graph.now p.0 p.1) (zip (map as_place places.now) (contents words.now)) }
+    ensures { result ≡ list_any (λ (p : Placed). twice graph.now p.0 p.1) (words_in places.now (contents words.now)) }
 {
     places
         .iter()
@@ -39,7 +42,7 @@ fn any_twice(graph: &Graph, places: &[Place], words: &[&[u8]]) -> bool
 }
 
 fn any_unknown(graph: &Graph, places: &[Place], words: &[&[u8]]) -> bool
-    ensures { result ≡ list_any (λ (p : Placed). unknown graph.now p.0 p.1) (zip (map as_place places.now) (contents words.now)) }
+    ensures { result ≡ list_any (λ (p : Placed). unknown graph.now p.0 p.1) (words_in places.now (contents words.now)) }
 {
     places
         .iter()
@@ -48,7 +51,7 @@ fn any_unknown(graph: &Graph, places: &[Place], words: &[&[u8]]) -> bool
 }
 
 fn any_unlike(graph: &Graph, places: &[Place], words: &[&[u8]]) -> bool
-    ensures { result ≡ list_any (λ (p : Placed). unlike graph.now p.0 p.1) (zip (map as_place places.now) (contents words.now)) }
+    ensures { result ≡ list_any (λ (p : Placed). unlike graph.now p.0 p.1) (words_in places.now (contents words.now)) }
 {
     places
         .iter()
@@ -57,7 +60,7 @@ fn any_unlike(graph: &Graph, places: &[Place], words: &[&[u8]]) -> bool
 }
 
 fn any_misnumbered(places: &[Place], words: &[&[u8]]) -> bool
-    ensures { result ≡ list_any (λ (p : Placed). misnumbered p.0 p.1) (zip (map as_place places.now) (contents words.now)) }
+    ensures { result ≡ list_any (λ (p : Placed). misnumbered p.0 p.1) (words_in places.now (contents words.now)) }
 {
     places
         .iter()
@@ -65,34 +68,58 @@ fn any_misnumbered(places: &[Place], words: &[&[u8]]) -> bool
         .any(|(place, word)| misnumbered(*place, word))
 }
 
-/// Whether one column stands there twice.
-#[tactic(auto, unfolding(crate::specs::Kinds::columns_twice))]
-fn columns_repeat(kind: Kind, words: &[&[u8]]) -> bool
-    ensures { result ≡ columns_twice kind (contents words.now) }
+fn is_column(place: Place) -> bool
+    ensures { result ≡ is_column place }
 {
-    match kind {
-        Kind::Copy
-        | Kind::ReduceSum
-        | Kind::ReduceMin
-        | Kind::ReduceMax
-        | Kind::Axpy
-        | Kind::Stencil
-        | Kind::Scan
-        | Kind::Hist => word(words, 0) == word(words, 1),
-        Kind::Dot | Kind::Gather => {
-            word(words, 0) == word(words, 1)
-                || word(words, 0) == word(words, 2)
-                || word(words, 1) == word(words, 2)
+    matches!(place, Place::Column(..))
+}
+
+/// Whether a place is that of a column, and has this word.
+fn has_at(place: Place, other: &[u8], word: &[u8]) -> bool
+    ensures { result ≡ (is_column place && bytes_eq word.now other.now) }
+{
+    is_column(place) && word == other
+}
+
+/// Whether a word stands in the place of a column.
+fn has_column(word: &[u8], places: &[Place], words: &[&[u8]]) -> bool
+    ensures { result ≡ list_any (bytes_eq word.now) (column_words (words_in places.now (contents words.now))) }
+{
+    places
+        .iter()
+        .zip(words)
+        .any(|(place, other)| has_at(*place, other, word))
+}
+
+/// Whether the column in the place of this number stands behind it again.
+fn stands_again(places: &[Place], words: &[&[u8]], i: usize) -> bool
+    requires below { i < length places.now }
+    requires there { length places.now ≤ length words.now }
+    ensures { result ≡ (is_column (slice_index_or places.now i Place.User)
+        && list_any (bytes_eq (slice_index_or (contents words.now) i [])) (column_words (words_in (drop (i + 1) places.now) (drop (i + 1) (contents words.now))))) }
+{
+    let later = &places[i + 1..];
+    is_column(places[i]) && has_column(word(words, i), later, behind(words, i + 1))
+}
+
+/// Whether one column stands there twice.
+fn columns_repeat(places: &[Place], words: &[&[u8]]) -> bool
+    requires { length places.now ≤ length words.now }
+    ensures { result ≡ repeats bytes_eq (column_words (words_in places.now (contents words.now))) }
+{
+    for i in 0..places.len() {
+        if stands_again(places, words, i) {
+            return true;
         }
-        _ => false,
     }
+    false
 }
 
 /// The word behind `on`.
 fn event_behind<'a>(kind: Kind, words: &[&'a [u8]]) -> &'a [u8]
-    ensures { result.now ≡ slice_index_or (contents words.now) (length (kind_form kind).places + 1) [] }
+    ensures { result.now ≡ slice_index_or (contents words.now) (length (form_of kind).places + 1) [] }
 {
-    word(words, kind.places().len() + 1)
+    word(words, place_count(kind) + 1)
 }
 
 /// Whether a word of a line is not spelled as its place asks, where it asks for names.
@@ -102,7 +129,7 @@ fn form_misnamed(kind: Kind, words: &[&[u8]]) -> bool
 {
     let places = kind.places();
     any_misnamed(places, words)
-        || (has_on(kind, words) && misnamed(Place::Event, event_behind(kind, words)))
+        || (has_on(kind, words) && event_misnamed(event_behind(kind, words)))
 }
 
 /// Whether a word of a line names what was ended or released already.
@@ -120,7 +147,7 @@ fn form_unknown(graph: &Graph, kind: Kind, words: &[&[u8]]) -> bool
 {
     let places = kind.places();
     any_unknown(graph, places, words)
-        || (has_on(kind, words) && unknown(graph, Place::Event, event_behind(kind, words)))
+        || (has_on(kind, words) && event_unknown(graph, event_behind(kind, words)))
 }
 
 /// Whether a word of a line names a thing of another kind than its place takes.
@@ -130,7 +157,7 @@ fn form_unlike(graph: &Graph, kind: Kind, words: &[&[u8]]) -> bool
 {
     let places = kind.places();
     any_unlike(graph, places, words)
-        || (has_on(kind, words) && unlike(graph, Place::Event, event_behind(kind, words)))
+        || (has_on(kind, words) && event_unlike(graph, event_behind(kind, words)))
 }
 
 /// Whether a word of a line is not spelled as the number that its place asks for.
@@ -144,6 +171,7 @@ fn form_misnumbered(kind: Kind, words: &[&[u8]]) -> bool
 /// The first reason that refuses a word of a line.
 #[tactic(auto, unfolding(crate::specs::Kinds::form_reason))]
 fn form_fault(graph: &Graph, kind: Kind, name: &[u8], words: &[&[u8]]) -> Option<Why>
+    requires { HasPlaces kind (contents words.now) }
     ensures { result ≡ form_reason graph.now kind name.now (contents words.now) }
 {
     if !is_name(name) || form_misnamed(kind, words) {
@@ -151,7 +179,7 @@ fn form_fault(graph: &Graph, kind: Kind, name: &[u8], words: &[&[u8]]) -> Option
     }
     if look_up(graph, name).is_some()
         || form_twice(graph, kind, words)
-        || columns_repeat(kind, words)
+        || columns_repeat(kind.places(), words)
     {
         return Some(Why::Twice);
     }
@@ -172,7 +200,7 @@ fn on_of(graph: &Graph, kind: Kind, words: &[&[u8]]) -> Option<u32>
     ensures { result ≡ kind_on graph.now kind (contents words.now) }
 {
     if has_on(kind, words) {
-        Some(line_at(graph, words, kind.places().len() + 1))
+        Some(line_number(graph, event_behind(kind, words)))
     } else {
         None
     }
@@ -180,11 +208,12 @@ fn on_of(graph: &Graph, kind: Kind, words: &[&[u8]]) -> Option<u32>
 
 /// The line that words spell in their places, where each stands for something.
 fn line_of(graph: &Graph, kind: Kind, name: Name, words: &[&[u8]]) -> Line
+    requires { HasPlaces kind (contents words.now) }
     ensures { result ≡ kind_line graph.now kind name (contents words.now) }
 {
     Line {
         name,
-        verb: verb_of(graph, kind, words),
+        verb: Verb::of(kind, &read_parts(graph, kind.places(), words)),
         on: on_of(graph, kind, words),
     }
 }

@@ -5,20 +5,20 @@ ghost use Rattle.std.specs.Prelude.{◌≡◌, ℕ, ◌<◌, map, [], false, tru
 ghost use Rattle.std.specs.List.{list_any};
 ghost use Rattle.std.specs.Str.{bytes_eq};
 ghost use Rattle.graph_reader.specs.Words.{pieces};
-ghost use Rattle.graph_reader.specs.Draft.{op_of, line_draft, decl_draft, space_draft, inst_draft, lock_draft, barrier_draft, merge_draft, is_of_form};
+ghost use Rattle.graph_reader.specs.Draft.{op_of, line_draft, decl_draft, space_draft, inst_draft, lock_draft, barrier_draft, merge_draft, form_of, is_of_form};
 ghost use Rattle.graph_reader.specs.FirstFault.{is_empty};
-ghost use Rattle.graph_reader.specs.Kinds.{kind_form, kind_draft};
+ghost use Rattle.graph_reader.specs.Kinds.{kind_draft};
 ghost use Rattle.graph_reader.specs.Merges.{merge_verb};
 ghost use Rattle.graph_reader.specs.Reading.{IsDeclOf, IsLineOf, IsLineRead, IsWordsItem, is_operation};
 
 use crate::decls::{read_barrier, read_inst, read_lock, read_space};
 use crate::forms::read_form;
 use crate::item::{Item, ItemError};
-use crate::kind::Kind;
 use crate::merges::read_merge;
 use crate::words::{behind, kind_of, split, word};
 use graph_model::decl::Decl;
 use graph_model::graph::Graph;
+use graph_model::table::Kind;
 use graph_model::verb::Line;
 use graph_model::why::Why;
 use index_spaces::Op;
@@ -124,8 +124,8 @@ fn merge_line(
 
 /// The line of a kind that words spell.
 fn kind_line(graph: &Graph, kind: Kind, name: &[u8], words: &[&[u8]]) -> Result<Line, ItemError>
-    requires { is_of_form (contents words.now) (kind_form kind) ≡ true }
-    ensures { IsLineRead graph.now (kind_draft graph.now kind name.now (drop (length (kind_form kind).words) (contents words.now))) result }
+    requires { is_of_form (contents words.now) (form_of kind) ≡ true }
+    ensures { IsLineRead graph.now (kind_draft graph.now kind name.now (drop (length (form_of kind).words) (contents words.now))) result }
 {
     match read_form(graph, kind, name, behind(words, kind.words().len())) {
         Ok(line) => Ok(line),

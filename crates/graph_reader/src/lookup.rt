@@ -8,6 +8,7 @@ ghost use Rattle.graph_model.specs.graph.Name.{is_name};
 ghost use Rattle.graph_model.specs.graph.Graph.{named_spaces, locks, barriers};
 ghost use Rattle.graph_reader.specs.Words.{pieces, is_column};
 ghost use Rattle.graph_reader.specs.Cuts.{Gives};
+ghost use Rattle.graph_reader.specs.Draft.{line_number};
 ghost use Rattle.graph_reader.specs.Lookups.{IsFound, found_space, found_lock, found_barrier, found_line, is_found_inst, column_names, column_place};
 
 use crate::cuts::around_dot;
@@ -97,6 +98,13 @@ pub(crate) fn line(graph: &Graph, word: &[u8]) -> Option<u32>
     ensures below { IfSome result (λ i. i < length graph.now.lines) }
 {
     as_line(look_up(graph, word))
+}
+
+/// The number of the line that a word stands for, and 0 where it stands for none.
+pub(crate) fn line_number(graph: &Graph, word: &[u8]) -> u32
+    ensures { result ≡ line_number graph.now word.now }
+{
+    line(graph, word).unwrap_or(0)
 }
 
 /// The names that a word in the place of a column has, with a dot between them.

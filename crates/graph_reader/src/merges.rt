@@ -11,9 +11,10 @@ ghost use Rattle.graph_reader.specs.FirstFault.{is_line_name};
 ghost use Rattle.graph_reader.specs.Merges.{merge_verb, merge_reason, merge_line};
 ghost use Rattle.graph_reader.specs.Reading.{IsLineRead};
 
+use crate::checks::event_unlike;
 use crate::forms::fitting_line;
 use crate::item::ItemError;
-use crate::lookup::{line, look_up};
+use crate::lookup::{line_number, look_up};
 use crate::names::{has_repeat, names_of};
 use graph_model::graph::Graph;
 use graph_model::lists::LineList;
@@ -31,25 +32,11 @@ fn any_unknown(graph: &Graph, words: &[&[u8]]) -> bool
     words.iter().any(|word| look_up(graph, word).is_none())
 }
 
-#[tactic(auto, using(crate::proofs::Owners::position_any))]
-fn is_no_line(graph: &Graph, word: &[u8]) -> bool
-    ensures { result ≡ not (is_line_name graph.now word.now) }
-{
-    line(graph, word).is_none()
-}
-
 /// Whether a word names no line.
 fn any_unlike(graph: &Graph, words: &[&[u8]]) -> bool
     ensures { result ≡ list_any (λ w. not (is_line_name graph.now w)) (contents words.now) }
 {
-    words.iter().any(|word| is_no_line(graph, word))
-}
-
-/// The number of the line that a word names.
-fn number_of(graph: &Graph, word: &[u8]) -> u32
-    ensures { result ≡ line_number graph.now word.now }
-{
-    line(graph, word).unwrap_or(0)
+    words.iter().any(|word| event_unlike(graph, word))
 }
 
 /// The numbers of the lines that words name. All its room is asked for at once, so that a refusal ends it.
@@ -57,7 +44,7 @@ fn numbers_of(alloc: Global, graph: &Graph, words: &[&[u8]]) -> Result<Vec<u32>,
     ensures { IfOk result (λ v. v.items ≡ map (line_number graph.now) (contents words.now)) }
 {
     let mut numbers = with_room(alloc, words.len())?;
-    match numbers.extend(words.iter().map(|word| number_of(graph, word))) {
+    match numbers.extend(words.iter().map(|word| line_number(graph, word))) {
         Ok(()) => Ok(numbers),
         Err(_) => Err(NoMemory),
     }

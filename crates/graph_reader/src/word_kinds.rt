@@ -1,12 +1,14 @@
 //! Words of a text that is written.
 
 ghost use Rattle.std.specs.Prelude.{◌≡◌, ◌++◌, ◌∷◌, flat_map, []};
-ghost use Rattle.graph_model.specs.graph.Spelling.{interval_word, space_name, column_name, lock_name, barrier_name, line_name, op_word};
+ghost use Rattle.graph_model.specs.graph.Spelling.{interval_word, space_name, column_name, lock_name, barrier_name, line_name, op_word, place_word};
+ghost use Rattle.graph_model.specs.graph.Table.{part_in};
 ghost use Rattle.realm_io.specs.Written.{Writes};
 ghost use Rattle.graph_reader.specs.WrittenWords.{word_text};
 
 use graph_model::graph::Graph;
 use graph_model::name::Name;
+use graph_model::table::{Parts, Place};
 use index_spaces::Op;
 use realm_io::{Sink, WriteFault, put_bytes, put_decimal};
 
@@ -126,6 +128,20 @@ pub(crate) fn line_word(graph: &Graph, i: u32) -> Word
         Word::Name(graph.line(i).name)
     } else {
         Word::Fixed(b"")
+    }
+}
+
+/// The word of what stands in the place of a number.
+pub(crate) fn part_word(graph: &Graph, place: Place, parts: &Parts, i: usize) -> Word
+    ensures { word_text result ≡ place_word graph.now place (part_in place i parts.now) }
+{
+    match place {
+        Place::User | Place::Phase | Place::Acquire => line_word(graph, parts.number(i)),
+        Place::Lock => lock_word(graph, parts.number(i)),
+        Place::Barrier => barrier_word(graph, parts.number(i)),
+        Place::Space => space_word(graph, parts.number(i)),
+        Place::Value => Word::Number(parts.value(i)),
+        Place::Column(..) => column_word(graph, parts.number(i)),
     }
 }
 

@@ -3,11 +3,10 @@
 ghost use Rattle.basics.specs.Words.{contents};
 ghost use Rattle.std.specs.Prelude.{◌≡◌, ◌≤◌, length, drop, map, ◌==◌, find, IfOk, IfSome, MatchOption, [], slice_index_or, option_map, option_copied};
 ghost use Rattle.graph_reader.specs.Words.{pieces};
-ghost use Rattle.graph_reader.specs.Kinds.{kind_form};
-ghost use Rattle.graph_reader.specs.Draft.{is_of_form, same_word, has_on};
+ghost use Rattle.graph_reader.specs.Draft.{form_of, is_of_form, same_word, has_on};
 ghost use Rattle.std.specs.List.{list_any, starts_with};
 
-use crate::kind::Kind;
+use graph_model::table::{KINDS, Kind};
 use index_spaces::NoMemory;
 use index_spaces::room::with_room;
 use std::alloc::Global;
@@ -57,51 +56,35 @@ fn begins(words: &[&[u8]], fixed: &[&[u8]]) -> bool
     words.iter().zip(fixed).all(|(word, fixed)| fixed == word)
 }
 
-/// The kinds, in the order in which they are tried.
-const KINDS: [Kind; 20] = [
-    Kind::User,
-    Kind::Trigger,
-    Kind::Cancel,
-    Kind::Phase,
-    Kind::Arrive,
-    Kind::Acquire,
-    Kind::Release,
-    Kind::Fill,
-    Kind::Copy,
-    Kind::ReduceSum,
-    Kind::ReduceMin,
-    Kind::ReduceMax,
-    Kind::Iota,
-    Kind::Axpy,
-    Kind::Stencil,
-    Kind::Scan,
-    Kind::Hist,
-    Kind::Dot,
-    Kind::Expect,
-    Kind::Gather,
-];
+/// How many places a kind has.
+#[tactic(auto, using(crate::proofs::WordLists::places_counted))]
+pub(crate) fn place_count(kind: Kind) -> usize
+    ensures { result ≡ length (form_of kind).places }
+{
+    kind.places().len()
+}
 
 /// Whether `on` and a word follow the words of a kind.
 pub(crate) fn has_on(kind: Kind, rest: &[&[u8]]) -> bool
-    ensures { result ≡ has_on (kind_form kind) (contents rest.now) }
+    ensures { result ≡ has_on (form_of kind) (contents rest.now) }
 {
-    let places = kind.places().len();
+    let places = place_count(kind);
     kind.takes_on() && rest.len() == places + 2 && word(rest, places) == b"on".as_slice()
 }
 
 /// Whether the words behind the sign have the form of a kind.
 fn is_of_kind(words: &[&[u8]], kind: Kind) -> bool
-    ensures { result ≡ is_of_form (contents words.now) (kind_form kind) }
+    ensures { result ≡ is_of_form (contents words.now) (form_of kind) }
 {
     let fixed = kind.words();
-    let places = kind.places().len();
+    let places = place_count(kind);
     begins(words, fixed)
         && (words.len() == fixed.len() + places || has_on(kind, &words[fixed.len()..]))
 }
 
 /// The kind of the words behind the sign.
 pub(crate) fn kind_of(words: &[&[u8]]) -> Option<Kind>
-    ensures { result ≡ find (λ k. is_of_form (contents words.now) (kind_form k)) KINDS }
+    ensures { result ≡ find (λ k. is_of_form (contents words.now) (form_of k)) KINDS }
 {
     KINDS.iter().copied().find(|kind| is_of_kind(words, *kind))
 }

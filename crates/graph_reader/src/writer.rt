@@ -1,114 +1,59 @@
 //! Writing the text of a graph.
 
+ghost use Rattle.basics.specs.Words.{contents};
 ghost use Rattle.std.specs.Prelude.{◌≡◌, ◌≤◌, [], ◌∷◌, ◌++◌, flat_map, map, length, codes, decimal, OnOk, OnErr};
 ghost use Rattle.realm_io.specs.Counts.{Rose};
 ghost use Rattle.realm_io.specs.Told.{with_more, TookPrefix};
-ghost use Rattle.graph_model.specs.graph.Spelling.{spelled, space_name, column_name, interval_word, kernel_words, verb_words, on_words, line_words, decl_words, line_name};
+ghost use Rattle.graph_model.specs.graph.Spelling.{spelled, space_name, interval_word, verb_words, on_words, line_words, decl_words, line_name};
 ghost use Rattle.graph_reader.specs.Text.{text};
 ghost use Rattle.realm_io.specs.Written.{Writes};
-ghost use Rattle.graph_reader.specs.WrittenWords.{word_text, spaced, comma_before, comma_from};
+ghost use Rattle.graph_reader.specs.WrittenWords.{word_text, spaced, row_words, part_text, comma_before, comma_from};
 
-use crate::word_kinds::{
-    Word, barrier_word, column_word, line_word, lock_word, op_word, put_behind, put_spaced,
-    space_word,
-};
+use crate::word_kinds::{Word, line_word, op_word, part_word, put_behind, put_spaced, space_word};
+use crate::words::word;
 use graph_model::decl::Decl;
 use graph_model::graph::Graph;
 use graph_model::lists::{LineList, NameList};
 use graph_model::name::Name;
-use graph_model::verb::{Kernel, Line, Verb};
-use index_spaces::Op;
+use graph_model::table::{Parts, Place};
+use graph_model::verb::{Line, Verb};
 use index_spaces::space::Space;
 use realm_io::{Sink, WriteFault, put_bytes};
 
-/// Writes the names of columns, each behind a space.
-fn put_columns<K: Sink>(sink: &mut K, graph: &Graph, columns: &[u32]) -> Result<(), WriteFault>
-    ensures { Writes (K.state sink.old) (K.state sink.new) result (flat_map (λ c. 32 ∷ column_name graph.now c) columns.now) }
+/// Writes fixed words, each behind a space.
+fn put_fixed<K: Sink>(sink: &mut K, words: &'static [&'static [u8]]) -> Result<(), WriteFault>
+    ensures { Writes (K.state sink.old) (K.state sink.new) result (spaced (contents words.now)) }
 {
-    for column in columns {
-        put_behind(sink, b" ", &column_word(graph, *column))?;
+    for i in 0..words.len() {
+        put_behind(sink, b" ", &Word::Fixed(word(words, i)))?;
     }
     Ok(())
 }
 
-/// Writes the names of spaces, each behind a space.
-fn put_spaces<K: Sink>(sink: &mut K, graph: &Graph, spaces: &[u32]) -> Result<(), WriteFault>
-    ensures { Writes (K.state sink.old) (K.state sink.new) result (flat_map (λ s. 32 ∷ space_name graph.now s) spaces.now) }
-{
-    for space in spaces {
-        put_behind(sink, b" ", &space_word(graph, *space))?;
-    }
-    Ok(())
-}
-
-/// Writes numbers, each behind a space.
-fn put_numbers<K: Sink>(sink: &mut K, numbers: &[u64]) -> Result<(), WriteFault>
-    ensures { Writes (K.state sink.old) (K.state sink.new) result (flat_map (λ n. 32 ∷ decimal n) numbers.now) }
-{
-    for number in numbers {
-        put_behind(sink, b" ", &Word::Number(*number))?;
-    }
-    Ok(())
-}
-
-/// Writes columns, then spaces, then numbers, each behind a space.
+/// Writes what stands in places, each word behind a space.
 fn put_places<K: Sink>(
     sink: &mut K,
     graph: &Graph,
-    columns: &[u32],
-    spaces: &[u32],
-    numbers: &[u64],
+    places: &[Place],
+    parts: &Parts,
 ) -> Result<(), WriteFault>
-    ensures { Writes (K.state sink.old) (K.state sink.new) result
-        (spaced (map (λ c. column_name graph.now c) columns.now ++
-        (map (λ s. space_name graph.now s) spaces.now ++ map (λ n. decimal n) numbers.now))) }
+    ensures { Writes (K.state sink.old) (K.state sink.new) result (part_text graph.now 0 places.now parts.now) }
 {
-    put_columns(sink, graph, columns)?;
-    put_spaces(sink, graph, spaces)?;
-    put_numbers(sink, numbers)
-}
-
-/// Writes a word, and columns, spaces and numbers behind it, each behind a space.
-fn put_on_cells<K: Sink>(
-    sink: &mut K,
-    graph: &Graph,
-    word: &'static [u8],
-    columns: &[u32],
-    spaces: &[u32],
-    numbers: &[u64],
-) -> Result<(), WriteFault>
-    ensures { Writes (K.state sink.old) (K.state sink.new) result
-        (spaced (word.now ∷ (map (λ c. column_name graph.now c) columns.now ++
-        (map (λ s. space_name graph.now s) spaces.now ++ map (λ n. decimal n) numbers.now)))) }
-{
-    put_behind(sink, b" ", &Word::Fixed(word))?;
-    put_places(sink, graph, columns, spaces, numbers)
-}
-
-/// Writes the words of a kernel, each behind a space.
-fn put_kernel<K: Sink>(sink: &mut K, graph: &Graph, kernel: &Kernel) -> Result<(), WriteFault>
-    ensures { Writes (K.state sink.old) (K.state sink.new) result (spaced (kernel_words graph.now kernel.now)) }
-{
-    match *kernel {
-        Kernel::Iota { x, s, value } => put_on_cells(sink, graph, b"iota", &[x], &[s], &[value]),
-        Kernel::Axpy { x, y, s, factor } => {
-            put_on_cells(sink, graph, b"axpy", &[x, y], &[s], &[factor])
-        }
-        Kernel::Stencil { x, y, r, s } => {
-            put_on_cells(sink, graph, b"stencil", &[x, y], &[r, s], &[])
-        }
-        Kernel::Scan { x, y, s } => put_on_cells(sink, graph, b"scan", &[x, y], &[s], &[]),
-        Kernel::Hist { x, y, s, t } => put_on_cells(sink, graph, b"hist", &[x, y], &[s, t], &[]),
-        Kernel::Dot { x, y, z, s, t } => {
-            put_on_cells(sink, graph, b"dot", &[x, y, z], &[s, t], &[])
-        }
-        Kernel::Expect { x, s, low, high } => {
-            put_on_cells(sink, graph, b"expect", &[x], &[s], &[low, high])
-        }
-        Kernel::Gather { x, y, z, s, t } => {
-            put_on_cells(sink, graph, b"gather", &[x, y, z], &[s, t], &[])
-        }
+    for i in 0..places.len() {
+        put_behind(sink, b" ", &part_word(graph, places[i], parts, i))?;
     }
+    Ok(())
+}
+
+/// Writes the words of a verb by its row, each behind a space. A merge has none.
+fn put_placed<K: Sink>(sink: &mut K, graph: &Graph, verb: &Verb) -> Result<(), WriteFault>
+    ensures { Writes (K.state sink.old) (K.state sink.new) result (spaced (row_words graph.now verb.now)) }
+{
+    let Some(kind) = verb.kind() else {
+        return Ok(());
+    };
+    put_fixed(sink, kind.words())?;
+    put_places(sink, graph, kind.places(), &verb.parts())
 }
 
 /// Writes the names of lines, each behind a space.
@@ -134,87 +79,14 @@ fn put_merge<K: Sink>(
     put_events(sink, graph, events)
 }
 
-/// Writes the words of a task, each behind a space.
-fn put_task<K: Sink>(sink: &mut K, graph: &Graph, kernel: &Kernel) -> Result<(), WriteFault>
-    ensures { Writes (K.state sink.old) (K.state sink.new) result (spaced (verb_words graph.now (Verb.Task kernel.now))) }
-{
-    put_bytes(sink, b" task")?;
-    put_kernel(sink, graph, kernel)
-}
-
-/// Writes a word and the name of what it is done with, each behind a space.
-fn put_with<K: Sink>(sink: &mut K, verb: &'static [u8], name: &Word) -> Result<(), WriteFault>
-    ensures { Writes (K.state sink.old) (K.state sink.new) result (spaced (verb.now ∷ word_text name.now ∷ [])) }
-{
-    put_behind(sink, b" ", &Word::Fixed(verb))?;
-    put_behind(sink, b" ", name)
-}
-
-/// Writes the words of an arrival, each behind a space.
-fn put_arrive<K: Sink>(
-    sink: &mut K,
-    graph: &Graph,
-    phase: u32,
-    value: u64,
-) -> Result<(), WriteFault>
-    ensures { Writes (K.state sink.old) (K.state sink.new) result (spaced (verb_words graph.now (Verb.Arrive phase value))) }
-{
-    put_spaced(
-        sink,
-        &[
-            Word::Fixed(b"arrive"),
-            line_word(graph, phase),
-            Word::Number(value),
-        ],
-    )
-}
-
-/// Writes the words of a reduction, each behind a space.
-fn put_reduce<K: Sink>(
-    sink: &mut K,
-    graph: &Graph,
-    op: Op,
-    source: u32,
-    target: u32,
-    space: u32,
-) -> Result<(), WriteFault>
-    ensures { Writes (K.state sink.old) (K.state sink.new) result (spaced (verb_words graph.now (Verb.Reduce op source target space))) }
-{
-    put_with(sink, b"reduce", &op_word(op))?;
-    put_places(sink, graph, &[source, target], &[space], &[])
-}
-
 /// Writes the words of a verb, each behind a space.
 fn put_verb<K: Sink>(sink: &mut K, graph: &Graph, verb: &Verb) -> Result<(), WriteFault>
     ensures { Writes (K.state sink.old) (K.state sink.new) result (spaced (verb_words graph.now verb.now)) }
 {
     match verb {
-        Verb::User => put_spaced(sink, &[Word::Fixed(b"user")]),
-        Verb::Trigger { user } => put_with(sink, b"trigger", &line_word(graph, *user)),
-        Verb::Cancel { user } => put_with(sink, b"cancel", &line_word(graph, *user)),
         Verb::Merge { events } => put_merge(sink, graph, b"merge", events),
         Verb::MergeIgnore { events } => put_merge(sink, graph, b"mergei", events),
-        Verb::Phase { barrier } => put_with(sink, b"phase", &barrier_word(graph, *barrier)),
-        Verb::Arrive { phase, value } => put_arrive(sink, graph, *phase, *value),
-        Verb::Acquire { lock } => put_with(sink, b"acquire", &lock_word(graph, *lock)),
-        Verb::Release { acquire } => put_with(sink, b"release", &line_word(graph, *acquire)),
-        Verb::Fill {
-            target,
-            space,
-            value,
-        } => put_on_cells(sink, graph, b"fill", &[*target], &[*space], &[*value]),
-        Verb::Copy {
-            source,
-            target,
-            space,
-        } => put_on_cells(sink, graph, b"copy", &[*source, *target], &[*space], &[]),
-        Verb::Reduce {
-            op,
-            source,
-            target,
-            space,
-        } => put_reduce(sink, graph, *op, *source, *target, *space),
-        Verb::Task { kernel } => put_task(sink, graph, kernel),
+        _ => put_placed(sink, graph, verb),
     }
 }
 

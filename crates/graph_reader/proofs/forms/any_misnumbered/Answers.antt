@@ -1,10 +1,9 @@
 use Rattle.std.proofs.Common.{rules, List, ℕ, Bor, ◌∙◌}
 use Rattle.std.proofs.lemmas.Iterator.{YieldsList-from_slice, YieldsList-from_zip}
 use Rattle.std.proofs.lemmas.Iterator.Search.{any_from_yields_List}
-use Rattle.graph_reader.specs.Draft.{Placed}
+use Rattle.graph_reader.specs.Draft.{as_place, Placed}
 use Rattle.graph_reader.specs.FirstFault.{misnumbered}
-use Rattle.graph_reader.specs.Kinds.{as_place}
-use Rattle.graph_reader.specs.declared.place.Place.{Place}
+use Rattle.graph_model.specs.declared.graph.table.Place.{Place}
 use Rattle.graph_reader.proofs.WordLists.{any_zipped}
 use Rattle.graph_reader.proofs.forms.any_misnumbered.Goals as goal
 

@@ -1,0 +1,15 @@
+use Rattle.std.proofs.Common.{◌≡◌, ◌<◌, ℕ, [], length}
+use Rattle.std.specs.Prelude.{slice_index, slice_index_or}
+use Rattle.basics.specs.Words.{contents}
+use Rattle.graph_model.specs.declared.graph.table.TheConstants.{MOST_PLACES}
+use Rattle.graph_model.specs.declared.graph.table.Place.TheVariants as places
+use Rattle.graph_reader.specs.Kinds.{named_number, placed_value}
+use Rattle.graph_reader.proofs.parts.read_parts.Given as goal
+
+abbrev pub invariant-loop-i : goal.invariant-loop-i
+invariant-loop-i l = record {
+  number_room : length l.parts.numbers ≡ MOST_PLACES;
+  value_room : length l.parts.values ≡ MOST_PLACES;
+  numbers : (j : ℕ) → j < l.i → slice_index l.parts.numbers j ≡ named_number l.graph (slice_index_or l.places j places.User) (slice_index_or (contents l.words) j []);
+  values : (j : ℕ) → j < l.i → slice_index l.parts.values j ≡ placed_value (slice_index_or l.places j places.User) (slice_index_or (contents l.words) j []);
+}
