@@ -7,23 +7,11 @@ use Rattle.std.proofs.lemmas.Bool.{true≢false, or_parts}
 use Rattle.index_spaces.specs.Laws.{PointsAreListed}
 use Rattle.index_spaces.specs.Space.{has_point, points, IsWithin}
 use Rattle.graph_model.specs.declared.graph.verb.Access.{Access}
-use Rattle.graph_model.specs.declared.graph.verb.Kernel.{Kernel}
-use Rattle.graph_model.specs.declared.graph.verb.Kernel.TheVariants.{Iota}
 use Rattle.graph_model.specs.declared.graph.verb.Verb.{Verb}
-use Rattle.graph_model.specs.declared.graph.verb.Verb.TheVariants.{Phase, Task}
+use Rattle.graph_model.specs.declared.graph.verb.Verb.TheVariants.{Phase}
 use Rattle.graph_model.specs.graph.Graph.{GraphValue, space_at, column_space, verb_at, is_phase, line_passes, arrivals, barrier_count, never_comes, never_comes_as}
-use Rattle.graph_model.specs.graph.Access.{kernel_accesses, verb_accesses}
 use Rattle.graph_model.specs.graph.Fits.{access_outside, phase_count, barrier_of_phase}
 use Rattle.basics.proofs.ListFacts.{contains_here, contains_there, passes_each}
-
--- a line has three accesses at most
-few_kernel : (k : Kernel) → length (kernel_accesses k) ≤ 3
-few_kernel (Iota x s value) = omega arith
-few_kernel k = omega arith
-
-pub few_accesses : (v : Verb) → length (verb_accesses v) ≤ 3
-few_accesses (Task k) = few_kernel k
-few_accesses v = omega arith
 
 -- a test of three elements at most, one after another
 abbrev pub passes_at : {X : Type 0} → (X → Bool) → List X → ℕ → Bool
