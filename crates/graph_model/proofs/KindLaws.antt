@@ -19,10 +19,9 @@ use Rattle.graph_model.specs.declared.graph.verb.Verb.{Verb}
 use Rattle.graph_model.specs.declared.graph.verb.Verb.TheVariants.{User, Merge, MergeIgnore, Reduce, Task}
 use Rattle.graph_model.specs.declared.graph.verb.Kernel.{Kernel}
 use Rattle.graph_model.specs.declared.graph.verb.Kernel.TheVariants.{Iota}
-use Rattle.graph_model.specs.graph.Table.{kind_words, kind_places, kernel_kind, kernel_parts, verb_kind, verb_parts, verb_places, verb_of, Placed, any_placed, is_column, is_over, is_space, columns_first, in_order, each_in_order, is_row, part_in, parts_from}
+use Rattle.graph_model.specs.graph.Table.{kind_places, kernel_kind, kernel_parts, verb_kind, verb_parts, verb_places, verb_of, Placed, any_placed, is_column, is_over, is_space, columns_first, in_order, each_in_order, is_row, part_in, parts_from}
 use Rattle.graph_model.specs.graph.Graph.{verb_at}
 use Rattle.graph_model.specs.graph.Access.{access, access_at, access_in, accesses_of, verb_accesses}
-use Rattle.graph_model.specs.kept.Counts.{words_size}
 use Rattle.graph_model.specs.meaning.LineLaws.{AccessesAreFew}
 
 -- the kind of the verb of a kind
@@ -89,10 +88,10 @@ pub each_is_row : (k : Kind) → is_row (kind_places k) ≡ true
 each_is_row kinds.User = refl
 each_is_row k = refl
 
-pub row_short : (ps : List Place) → is_row ps ≡ true → length ps ≤ MOST_PLACES
-row_short ps h = leb-true (length ps) MOST_PLACES (and_parts (nat_le (length ps) MOST_PLACES) _ h).0
+pub few_places : (k : Kind) → length (kind_places k) ≤ MOST_PLACES
+few_places k = leb-true (length (kind_places k)) MOST_PLACES (and_parts (nat_le (length (kind_places k)) MOST_PLACES) _ (each_is_row k)).0
 
-pub row_columns : (ps : List Place) → is_row ps ≡ true → columns_first ps ≡ true
+row_columns : (ps : List Place) → is_row ps ≡ true → columns_first ps ≡ true
 row_columns ps h = (and_parts (columns_first ps) _ (and_parts (nat_le (length ps) MOST_PLACES) _ h).1).0
 
 row_each : (ps : List Place) → is_row ps ≡ true → each_in_order ps 0 ps ≡ true
@@ -236,14 +235,6 @@ accesses_by_kind v k parts e h =
 
 pub no_kind_no_access : (v : Verb) → verb_kind v ≡ None → verb_accesses v ≡ []
 no_kind_no_access v e = ap (λ o. accesses_of (option_map_or kind_places o []) (verb_parts v)) e
-
--- the words of a row are short
-words_counted : (k : Kind) → nat_le (words_size (kind_words k)) 32 ≡ true
-words_counted kinds.User = refl
-words_counted k = refl
-
-pub short_words : (k : Kind) → words_size (kind_words k) ≤ 32
-short_words k = leb-true (words_size (kind_words k)) 32 (words_counted k)
 
 -- the columns among places
 abbrev columns_in : List Place → ℕ

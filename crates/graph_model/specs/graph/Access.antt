@@ -1,5 +1,5 @@
 -- What a line reads and writes, and when two lines conflict.
-use Rattle.std.specs.Prelude.{◌≡◌, ◌≢◌, ℕ, Bool, true, false, List, [], zip, filter_map, Contains, Option, Some, None, slice_index, IsTrue}
+use Rattle.std.specs.Prelude.{◌≡◌, ◌≢◌, ℕ, nat_eq, Bool, true, false, List, [], zip, filter_map, Contains, Option, Some, None, slice_index, IsTrue}
 use Rattle.std.specs.Option.{option_map_or}
 use Rattle.index_spaces.specs.Space.{Meet}
 use Rattle.graph_model.specs.declared.graph.verb.Access.{Access}
@@ -34,12 +34,25 @@ accesses_of places parts = filter_map (λ (p : Placed). access_at parts p.0 p.1)
 abbrev pub verb_accesses : Verb → List Access
 verb_accesses v = accesses_of (verb_places v) (verb_parts v)
 
+-- the accesses that are there
+abbrev pub present : List (Option Access) → List Access
+present accesses = filter_map (λ a. a) accesses
+
+-- two that are there, and are of one column
+abbrev pub columns_alike : Option Access → Option Access → Bool
+columns_alike (Some a) (Some b) = nat_eq a.column b.column
+columns_alike _ _ = false
+
 abbrev pub kernel_accesses : Kernel → List Access
 kernel_accesses kernel = verb_accesses (Task kernel)
 
 -- the accesses of a line, in order
 abbrev pub accesses : GraphValue → ℕ → List Access
 accesses g i = option_map_or verb_accesses (verb_at g i) []
+
+abbrev pub is_read : Mode → Bool
+is_read Read = true
+is_read _ = false
 
 -- two uses that must not meet: not both are reads
 abbrev pub modes_clash : Mode → Mode → Bool

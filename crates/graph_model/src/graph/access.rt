@@ -1,8 +1,8 @@
 //! What lines read and write.
 
-ghost use Rattle.std.specs.Prelude.{◌≡◌, ◌∷◌, [], true, slice_get};
+ghost use Rattle.std.specs.Prelude.{◌≡◌, true, slice_get};
 ghost use Rattle.graph_model.specs.graph.Table.{is_row, parts_from};
-ghost use Rattle.graph_model.specs.graph.Access.{access_in, accesses_of, verb_accesses};
+ghost use Rattle.graph_model.specs.graph.Access.{access_in, accesses_of, verb_accesses, present};
 
 use crate::graph::table::{Parts, Place};
 use crate::graph::verb::{Access, Verb};
@@ -12,18 +12,21 @@ pub(crate) fn verb_access(verb: &Verb, k: u32) -> Option<Access>
     ensures { result ≡ slice_get (verb_accesses verb.now) k }
 {
     match verb.kind() {
-        Some(kind) => access_at(kind.places(), &verb.parts(), k as usize),
+        Some(kind) => access_at(kind.row().places, &verb.parts(), k as usize),
         None => None,
     }
 }
 
-/// The first three accesses of a line that does this.
-pub(crate) fn verb_accesses(verb: &Verb) -> [Option<Access>; 3]
-    ensures { result ≡ slice_get (verb_accesses verb.now) 0 ∷ slice_get (verb_accesses verb.now) 1 ∷ slice_get (verb_accesses verb.now) 2 ∷ [] }
+/// Up to three accesses, in order.
+pub(crate) type Accesses = [Option<Access>; 3];
+
+/// The accesses of a line that does this.
+pub(crate) fn verb_accesses(verb: &Verb) -> Accesses
+    ensures { present result ≡ verb_accesses verb.now }
 {
     match verb.kind() {
         Some(kind) => {
-            let places = kind.places();
+            let places = kind.row().places;
             let parts = verb.parts();
             [
                 access_at(places, &parts, 0),

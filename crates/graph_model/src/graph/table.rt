@@ -132,6 +132,7 @@ impl Kind {
         ensures words { contents result.words.now ≡ kind_words self }
         ensures places { result.places.now ≡ kind_places self }
         ensures takes_on { result.takes_on ≡ kind_takes_on self }
+        ensures is_row { is_row result.places.now ≡ true }
     {
         match self {
             Kind::User => without_on(&[b"user"], &[]),
@@ -208,8 +209,7 @@ impl Kind {
 
     /// What stands behind the fixed words, word by word.
     pub fn places(self) -> &'static [Place]
-        ensures places { result.now ≡ kind_places self }
-        ensures is_row { is_row result.now ≡ true }
+        ensures { result.now ≡ kind_places self }
     {
         self.row().places
     }
