@@ -1,6 +1,6 @@
 -- The quantities of a graph with one more item.
-use Rattle.std.proofs.Common.{◌≡◌, ℕ, zero, suc, ◌+◌, ◌*◌, ◌^◌, ◌<◌, ◌≤◌, false, List, [], ◌∷◌, ◌++◌, length, map, refl, sym, ◌∙◌, ap, subst, append-nil, length-append, arith}
-use Rattle.std.specs.Prelude.{max, take, Contains, filter, filter_map, flat_map, sum_by, Option, None, slice_get, codes, decimal}
+use Rattle.std.proofs.Common.{◌≡◌, ℕ, zero, suc, ◌+◌, ◌*◌, ◌^◌, ◌<◌, ◌≤◌, true, false, List, [], ◌∷◌, ◌++◌, length, map, refl, sym, ◌∙◌, ap, subst, append-nil, length-append, arith}
+use Rattle.std.specs.Prelude.{max, take, Contains, filter, filter_map, flat_map, sum_by, zip, Option, Some, None, slice_get, slice_index, codes, decimal}
 use Rattle.std.specs.Option.{option_map_or}
 use Rattle.std.specs.List.{list_any, join_with_byte}
 use Rattle.std.proofs.lemmas.Bool.{or_parts, leb-false}
@@ -11,19 +11,20 @@ use Rattle.std.proofs.lemmas.List.Sums.{sum_by-append, sum_by-cons}
 use Rattle.index_spaces.specs.Space.{space_size, AscendAbove, IsSpace}
 use Rattle.graph_model.specs.declared.kept.counts.Counts.{Counts}
 use Rattle.graph_model.specs.declared.graph.decl.Decl.{Decl}
-use Rattle.graph_model.specs.declared.graph.decl.Decl.TheVariants.{Space, Inst, Lock, Barrier}
+use Rattle.graph_model.specs.declared.graph.decl.Decl.TheVariants as decl
 use Rattle.graph_model.specs.declared.graph.verb.Access.{Access}
 use Rattle.graph_model.specs.declared.graph.verb.Line.{Line}
 use Rattle.graph_model.specs.declared.graph.verb.Verb.{Verb}
-use Rattle.graph_model.specs.declared.graph.verb.Verb.TheVariants.{Phase, Acquire, Fill, Copy, Reduce, Task}
-use Rattle.graph_model.specs.declared.graph.verb.Kernel.{Kernel}
-use Rattle.graph_model.specs.declared.graph.verb.Kernel.TheVariants.{Iota, Axpy, Stencil, Scan, Hist, Dot, Expect, Gather}
+use Rattle.graph_model.specs.declared.graph.verb.Verb.TheVariants.{Merge, MergeIgnore}
 use Rattle.graph_model.specs.graph.Graph.{GraphValue, ColumnInfo, BarrierInfo, space_of, columns_of, lock_of, barrier_of, named_spaces, columns, locks, barriers, space_at}
-use Rattle.graph_model.specs.declared.graph.verb.Mode.TheVariants.{Read, Write, Sum}
-use Rattle.graph_model.specs.graph.Access.{access, target_mode, kernel_accesses, verb_accesses}
+use Rattle.graph_model.specs.declared.graph.table.Place.{Place}
+use Rattle.graph_model.specs.declared.graph.table.Place.TheVariants.{Lock, Barrier, Space, Column}
+use Rattle.graph_model.specs.graph.Table.{kind_words, verb_kind, verb_parts, verb_places, any_placed, is_row}
+use Rattle.graph_model.specs.graph.Access.{access, accesses_of, verb_accesses}
+use Rattle.graph_model.proofs.KindLaws.{part_for_each, verb_is_row, none_placed, none_of_accesses, column_access, space_access, map_placed}
 use Rattle.graph_model.specs.graph.Edges.{edges, line_edges}
-use Rattle.graph_model.specs.graph.Fits.{is_inst, cell_count, with_decl, with_line, access_unknown, verb_unknown, line_fault, LinesFit, IsGraph}
-use Rattle.graph_model.specs.graph.Spelling.{spelled, space_name, column_name, decl_words, kernel_words, verb_words, on_words, line_words, header, decls_text, lines_text, head, comma_word, interval_word}
+use Rattle.graph_model.specs.graph.Fits.{is_inst, cell_count, with_decl, with_line, access_unknown, place_unknown, verb_unknown, line_fault, LinesFit, IsGraph}
+use Rattle.graph_model.specs.graph.Spelling.{spelled, space_name, column_name, decl_words, place_word, verb_words, on_words, line_words, header, decls_text, lines_text, head, comma_word, interval_word}
 use Rattle.graph_model.specs.kept.Counts.{words_size, cells_of_decl, counts_of}
 use Rattle.graph_model.proofs.GraphFacts.{fits_known}
 use Rattle.graph_model.proofs.GraphPush.{head_with_line, decls_text_push}
@@ -32,7 +33,7 @@ use Rattle.graph_model.proofs.RowLaws.{edges_push}
 use Rattle.graph_model.proofs.TableLaws.{columns_known}
 
 -- the length of words
-words_cons : (w : List ℕ) (ws : List (List ℕ)) → words_size (w ∷ ws) ≡ (length w + 1) + words_size ws
+pub words_cons : (w : List ℕ) (ws : List (List ℕ)) → words_size (w ∷ ws) ≡ (length w + 1) + words_size ws
 words_cons w ws = sum_by-cons (λ (x : List ℕ). length x + 1) w ws
 
 -- the length of words that are joined, with a byte behind
@@ -89,67 +90,31 @@ names_kept ds d ls a h =
       ap (λ (o : Option (List ℕ × List (ℕ × ℕ))). option_map_or (λ (x : List ℕ × List (ℕ × ℕ)). x.0) o []) (spaces_before ds d ls a.space (leb-false (length (filter_map space_of ds)) a.space parts.1)),
     )
 
--- of one, two or three accesses
-kept_one : (ds : List Decl) (d : Decl) (ls : List Line) (a : Access) → list_any (access_unknown (of_items ds ls)) (a ∷ []) ≡ false → NamesKept (of_items ds ls) (of_items (ds ++ d ∷ []) ls) a
-kept_one ds d ls a h = names_kept ds d ls a (or_parts _ _ h).0
-
-kept_two : (ds : List Decl) (d : Decl) (ls : List Line) (a b : Access) → list_any (access_unknown (of_items ds ls)) (a ∷ b ∷ []) ≡ false →
-    NamesKept (of_items ds ls) (of_items (ds ++ d ∷ []) ls) a × NamesKept (of_items ds ls) (of_items (ds ++ d ∷ []) ls) b
-kept_two ds d ls a b h = let p = or_parts (access_unknown (of_items ds ls) a) (list_any (access_unknown (of_items ds ls)) (b ∷ [])) h in (names_kept ds d ls a p.0, kept_one ds d ls b p.1)
-
-kept_three : (ds : List Decl) (d : Decl) (ls : List Line) (a b c : Access) → list_any (access_unknown (of_items ds ls)) (a ∷ b ∷ c ∷ []) ≡ false →
-    NamesKept (of_items ds ls) (of_items (ds ++ d ∷ []) ls) a × (NamesKept (of_items ds ls) (of_items (ds ++ d ∷ []) ls) b × NamesKept (of_items ds ls) (of_items (ds ++ d ∷ []) ls) c)
-kept_three ds d ls a b c h = let p = or_parts (access_unknown (of_items ds ls) a) (list_any (access_unknown (of_items ds ls)) (b ∷ c ∷ [])) h in (names_kept ds d ls a p.0, kept_two ds d ls b c p.1)
-
--- words that are the same one by one
-cons_same : (v w : List ℕ) (vs ws : List (List ℕ)) → v ≡ w → vs ≡ ws → v ∷ vs ≡ w ∷ ws
-cons_same v w vs ws e f = ap (λ x. x ∷ vs) e ∙ ap (λ x. w ∷ x) f
-
-tail_same : (v : List ℕ) (vs ws : List (List ℕ)) → vs ≡ ws → v ∷ vs ≡ v ∷ ws
-tail_same v vs ws f = ap (λ x. v ∷ x) f
-
-kernel_words_kept : (ds : List Decl) (d : Decl) (ls : List Line) (k : Kernel) → list_any (access_unknown (of_items ds ls)) (kernel_accesses k) ≡ false → kernel_words (of_items (ds ++ d ∷ []) ls) k ≡ kernel_words (of_items ds ls) k
-kernel_words_kept ds d ls (Iota x s value) h =
-    let e = kept_one ds d ls (access x s Write) h in
-    tail_same _ _ _ (cons_same _ _ _ _ e.0 (cons_same _ _ _ _ e.1 refl))
-kernel_words_kept ds d ls (Axpy x y s factor) h =
-    let e = kept_two ds d ls (access x s Read) (access y s Sum) h in
-    tail_same _ _ _ (cons_same _ _ _ _ e.0.0 (cons_same _ _ _ _ e.1.0 (cons_same _ _ _ _ e.0.1 refl)))
-kernel_words_kept ds d ls (Stencil x y r s) h =
-    let e = kept_two ds d ls (access x r Read) (access y s Write) h in
-    tail_same _ _ _ (cons_same _ _ _ _ e.0.0 (cons_same _ _ _ _ e.1.0 (cons_same _ _ _ _ e.0.1 (cons_same _ _ _ _ e.1.1 refl))))
-kernel_words_kept ds d ls (Scan x y s) h =
-    let e = kept_two ds d ls (access x s Read) (access y s Write) h in
-    tail_same _ _ _ (cons_same _ _ _ _ e.0.0 (cons_same _ _ _ _ e.1.0 (cons_same _ _ _ _ e.0.1 refl)))
-kernel_words_kept ds d ls (Hist x y s t) h =
-    let e = kept_two ds d ls (access x s Read) (access y t Sum) h in
-    tail_same _ _ _ (cons_same _ _ _ _ e.0.0 (cons_same _ _ _ _ e.1.0 (cons_same _ _ _ _ e.0.1 (cons_same _ _ _ _ e.1.1 refl))))
-kernel_words_kept ds d ls (Dot x y z s t) h =
-    let e = kept_three ds d ls (access x s Read) (access y s Read) (access z t Sum) h in
-    tail_same _ _ _ (cons_same _ _ _ _ e.0.0 (cons_same _ _ _ _ e.1.0.0 (cons_same _ _ _ _ e.1.1.0 (cons_same _ _ _ _ e.0.1 (cons_same _ _ _ _ e.1.1.1 refl)))))
-kernel_words_kept ds d ls (Expect x s low high) h =
-    let e = kept_one ds d ls (access x s Read) h in
-    tail_same _ _ _ (cons_same _ _ _ _ e.0 (cons_same _ _ _ _ e.1 refl))
-kernel_words_kept ds d ls (Gather x y z s t) h =
-    let e = kept_three ds d ls (access x s Read) (access y t Read) (access z s Write) h in
-    tail_same _ _ _ (cons_same _ _ _ _ e.0.0 (cons_same _ _ _ _ e.1.0.0 (cons_same _ _ _ _ e.1.1.0 (cons_same _ _ _ _ e.0.1 (cons_same _ _ _ _ e.1.0.1 refl)))))
+-- nor a word in a place of a row whose numbers are known
+place_kept : (ds : List Decl) (d : Decl) (ls : List Line) (ps : List Place) (ns : List ℕ) → is_row ps ≡ true → length ns ≡ length ps →
+    any_placed (place_unknown (of_items ds ls)) (zip ps ns) ≡ false → list_any (access_unknown (of_items ds ls)) (accesses_of ps ns) ≡ false →
+    (k : ℕ) (p : Place) (n : ℕ) → slice_get ps k ≡ Some p → slice_get ns k ≡ Some n → place_word (of_items (ds ++ d ∷ []) ls) p n ≡ place_word (of_items ds ls) p n
+place_kept ds d ls ps ns r e u h k Lock n at here =
+    ap (λ (o : Option (List ℕ)). option_map_or (λ (x : List ℕ). x) o [])
+    (locks_before ds d ls n (leb-false (length (filter_map lock_of ds)) n (none_placed (place_unknown (of_items ds ls)) ps ns u k Lock n at here)))
+place_kept ds d ls ps ns r e u h k Barrier n at here =
+    ap (λ (o : Option BarrierInfo). option_map_or (λ (x : BarrierInfo). x.name) o [])
+    (barriers_before ds d ls n (leb-false (length (filter_map barrier_of ds)) n (none_placed (place_unknown (of_items ds ls)) ps ns u k Barrier n at here)))
+place_kept ds d ls ps ns r e u h k Space n at here =
+    let a = space_access ps ns r e k n at here in
+    ap (space_name (of_items (ds ++ d ∷ []) ls)) (sym a.2) ∙ ((names_kept ds d ls a.0 (none_of_accesses (access_unknown (of_items ds ls)) ps ns h a.0 a.1)).1 ∙ ap (space_name (of_items ds ls)) a.2)
+place_kept ds d ls ps ns r e u h k (Column mode over) n at here =
+    let a : Access = access n (slice_index ns over) mode in
+    (names_kept ds d ls a (none_of_accesses (access_unknown (of_items ds ls)) ps ns h a (column_access ps ns k mode over n at here))).0
+place_kept ds d ls ps ns r e u h k p n at here = refl
 
 verb_words_kept : (ds : List Decl) (d : Decl) (ls : List Line) (v : Verb) → verb_unknown (of_items ds ls) v ≡ false → list_any (access_unknown (of_items ds ls)) (verb_accesses v) ≡ false → verb_words (of_items (ds ++ d ∷ []) ls) v ≡ verb_words (of_items ds ls) v
-verb_words_kept ds d ls (Phase b) u h =
-    tail_same _ _ _ (cons_same _ _ _ _ (ap (λ (o : Option BarrierInfo). option_map_or (λ (x : BarrierInfo). x.name) o []) (barriers_before ds d ls b (leb-false (length (filter_map barrier_of ds)) b u))) refl)
-verb_words_kept ds d ls (Acquire l) u h =
-    tail_same _ _ _ (cons_same _ _ _ _ (ap (λ (o : Option (List ℕ)). option_map_or (λ (x : List ℕ). x) o []) (locks_before ds d ls l (leb-false (length (filter_map lock_of ds)) l u))) refl)
-verb_words_kept ds d ls (Fill t s value) u h =
-    let e = kept_one ds d ls (access t s Write) h in
-    tail_same _ _ _ (cons_same _ _ _ _ e.0 (cons_same _ _ _ _ e.1 refl))
-verb_words_kept ds d ls (Copy a b s) u h =
-    let e = kept_two ds d ls (access a s Read) (access b s Write) h in
-    tail_same _ _ _ (cons_same _ _ _ _ e.0.0 (cons_same _ _ _ _ e.1.0 (cons_same _ _ _ _ e.0.1 refl)))
-verb_words_kept ds d ls (Reduce op a b s) u h =
-    let e = kept_two ds d ls (access a s Read) (access b s (target_mode op)) h in
-    tail_same _ _ _ (tail_same _ _ _ (cons_same _ _ _ _ e.0.0 (cons_same _ _ _ _ e.1.0 (cons_same _ _ _ _ e.0.1 refl))))
-verb_words_kept ds d ls (Task kernel) u h = tail_same _ _ _ (kernel_words_kept ds d ls kernel h)
-verb_words_kept ds d ls v u h = refl
+verb_words_kept ds d ls (Merge events) u h = refl
+verb_words_kept ds d ls (MergeIgnore events) u h = refl
+verb_words_kept ds d ls v u h =
+    ap (λ ws. option_map_or kind_words (verb_kind v) [] ++ ws)
+    (map_placed (place_word (of_items (ds ++ d ∷ []) ls)) (place_word (of_items ds ls)) (verb_places v) (verb_parts v)
+    (place_kept ds d ls (verb_places v) (verb_parts v) (verb_is_row v) (part_for_each v) u h))
 
 line_words_kept : (ds : List Decl) (d : Decl) (ls : List Line) (l : Line) → line_fault (of_items ds ls) l ≡ None → line_words (of_items (ds ++ d ∷ []) ls) l ≡ line_words (of_items ds ls) l
 line_words_kept ds d ls l h =
@@ -163,7 +128,7 @@ lines_text_kept ds d b (l ∷ ls) f =
     ∙ ap (λ t. spelled (line_words (of_items ds b) l) ++ t) (lines_text_kept ds d (b ++ l ∷ []) ls f.2)
 
 decl_words_lines : (ds : List Decl) (ls : List Line) (d : Decl) → decl_words (of_items ds []) d ≡ decl_words (of_items ds ls) d
-decl_words_lines ds ls (Space name space) = refl
+decl_words_lines ds ls (decl.Space name space) = refl
 decl_words_lines ds ls d = refl
 
 -- the text has one line more
@@ -196,12 +161,12 @@ column_cells g c = space_size (space_at g c.space)
 
 -- the columns of a declaration have the cells that they have before it
 decl_cells : (ds : List Decl) (ls : List Line) (d : Decl) → sum_by (column_cells (of_items (ds ++ d ∷ []) ls)) (columns_of d) ≡ cells_of_decl (of_items ds ls) d
-decl_cells ds ls (Space name space) = refl
-decl_cells ds ls (Inst name space fields) =
-    let e : filter_map space_of (ds ++ Inst name space fields ∷ []) ≡ filter_map space_of ds = filter_map-append space_of ds (Inst name space fields ∷ []) ∙ append-nil (filter_map space_of ds) in
-    ap (λ xs. sum_by (λ (c : ColumnInfo). space_size (option_map_or (λ (x : List ℕ × List (ℕ × ℕ)). x.1) (slice_get xs c.space) [])) (columns_of (Inst name space fields))) e
-decl_cells ds ls (Lock name) = refl
-decl_cells ds ls (Barrier name count op first) = refl
+decl_cells ds ls (decl.Space name space) = refl
+decl_cells ds ls (decl.Inst name space fields) =
+    let e : filter_map space_of (ds ++ decl.Inst name space fields ∷ []) ≡ filter_map space_of ds = filter_map-append space_of ds (decl.Inst name space fields ∷ []) ∙ append-nil (filter_map space_of ds) in
+    ap (λ xs. sum_by (λ (c : ColumnInfo). space_size (option_map_or (λ (x : List ℕ × List (ℕ × ℕ)). x.1) (slice_get xs c.space) [])) (columns_of (decl.Inst name space fields))) e
+decl_cells ds ls (decl.Lock name) = refl
+decl_cells ds ls (decl.Barrier name count op first) = refl
 
 pub cells_with_decl : (g : GraphValue) (d : Decl) → IsGraph g → cell_count (with_decl g d) ≡ cell_count g + cells_of_decl g d
 cells_with_decl g d f =
@@ -262,11 +227,11 @@ pub few_intervals : (s : List (ℕ × ℕ)) → IsSpace s → length s < 2 ^ 32
 few_intervals s h = let e : 0 + 2 * length s ≤ 2 ^ 32 + 1 = few_above 0 s h.1 h.0 in omega arith
 
 -- the columns of an instance have the points of its space each
-pub cells_of_fields : (g : GraphValue) (name : List ℕ) (space : ℕ) (fields : List (List ℕ)) → cells_of_decl g (Inst name space fields) ≡ length fields * space_size (space_at g space)
+pub cells_of_fields : (g : GraphValue) (name : List ℕ) (space : ℕ) (fields : List (List ℕ)) → cells_of_decl g (decl.Inst name space fields) ≡ length fields * space_size (space_at g space)
 cells_of_fields g name space [] = let e : 0 ≡ 0 * space_size (space_at g space) = omega arith in e
 cells_of_fields g name space (f ∷ fs) =
-    sum_by-cons (column_cells g) (record { inst = name; field = f; space = space }) (columns_of (Inst name space fs))
-    ∙ (let more : cells_of_decl g (Inst name space fs) ≡ length fs * space_size (space_at g space) = cells_of_fields g name space fs in
+    sum_by-cons (column_cells g) (record { inst = name; field = f; space = space }) (columns_of (decl.Inst name space fs))
+    ∙ (let more : cells_of_decl g (decl.Inst name space fs) ≡ length fs * space_size (space_at g space) = cells_of_fields g name space fs in
     ap (λ n. space_size (space_at g space) + n) more ∙ one_more (length fs) (space_size (space_at g space)))
   where
     one_more : (n m : ℕ) → m + n * m ≡ suc n * m

@@ -7,13 +7,9 @@ use Rattle.index_spaces.specs.Space.{AscendAbove}
 use Rattle.graph_model.specs.declared.graph.decl.Decl.{Decl}
 use Rattle.graph_model.specs.declared.graph.decl.Decl.TheVariants.{Space, Inst, Lock, Barrier}
 use Rattle.graph_model.specs.declared.graph.verb.Line.{Line}
-use Rattle.graph_model.specs.declared.graph.verb.Kernel.{Kernel}
-use Rattle.graph_model.specs.declared.graph.verb.Kernel.TheVariants.{Iota, Axpy, Expect}
-use Rattle.graph_model.specs.declared.graph.verb.Verb.{Verb}
-use Rattle.graph_model.specs.declared.graph.verb.Verb.TheVariants.{Arrive, Fill, Task}
 use Rattle.graph_model.specs.graph.Name.{is_name}
 use Rattle.graph_model.specs.graph.Graph.{GraphValue}
-use Rattle.graph_model.specs.graph.Fits.{decl_fault, line_fault, IsDecl, IsKernel, IsVerb, DeclsFit, LinesFit, IsGraph}
+use Rattle.graph_model.specs.graph.Fits.{decl_fault, line_fault, IsDecl, AreValues, verb_values, DeclsFit, LinesFit, IsGraph}
 
 -- the intervals ascend
 abbrev pub ascends : ℕ → List (ℕ × ℕ) → Bool
@@ -54,29 +50,15 @@ decl_by (Barrier name count op first) h =
     let b = and_parts (nat_lt count (2 ^ 32)) (nat_lt first (2 ^ 64)) a.1 in
     (a.0, ltb-true count (2 ^ 32) b.0, ltb-true first (2 ^ 64) b.1)
 
-abbrev pub is_kernel : Kernel → Bool
-is_kernel (Iota x s value) = nat_lt value (2 ^ 64)
-is_kernel (Axpy x y s factor) = nat_lt factor (2 ^ 64)
-is_kernel (Expect x s low high) = nat_lt low (2 ^ 64) && nat_lt high (2 ^ 64)
-is_kernel _ = true
+abbrev pub are_values : List ℕ → Bool
+are_values [] = true
+are_values (n ∷ []) = nat_lt n (2 ^ 64)
+are_values (n ∷ m ∷ ms) = nat_lt n (2 ^ 64) && are_values (m ∷ ms)
 
-kernel_by : (k : Kernel) → is_kernel k ≡ true → IsKernel k
-kernel_by (Iota x s value) h = ltb-true value (2 ^ 64) h
-kernel_by (Axpy x y s factor) h = ltb-true factor (2 ^ 64) h
-kernel_by (Expect x s low high) h = let a = and_parts (nat_lt low (2 ^ 64)) (nat_lt high (2 ^ 64)) h in (ltb-true low (2 ^ 64) a.0, ltb-true high (2 ^ 64) a.1)
-kernel_by k h = tt
-
-abbrev pub is_verb : Verb → Bool
-is_verb (Arrive phase value) = nat_lt value (2 ^ 64)
-is_verb (Fill target space value) = nat_lt value (2 ^ 64)
-is_verb (Task kernel) = is_kernel kernel
-is_verb _ = true
-
-verb_by : (v : Verb) → is_verb v ≡ true → IsVerb v
-verb_by (Arrive phase value) h = ltb-true value (2 ^ 64) h
-verb_by (Fill target space value) h = ltb-true value (2 ^ 64) h
-verb_by (Task kernel) h = kernel_by kernel h
-verb_by v h = tt
+values_by : (ns : List ℕ) → are_values ns ≡ true → AreValues ns
+values_by [] h = tt
+values_by (n ∷ []) h = ltb-true n (2 ^ 64) h
+values_by (n ∷ m ∷ ms) h = let a = and_parts (nat_lt n (2 ^ 64)) (are_values (m ∷ ms)) h in (ltb-true n (2 ^ 64) a.0, values_by (m ∷ ms) a.1)
 
 no_fault : {X : Type 0} (o : Option X) → not (is_some o) ≡ true → o ≡ None
 no_fault None h = refl
@@ -96,15 +78,15 @@ decls_by before (d ∷ ds) h =
 
 abbrev pub lines_fit : List Decl → List Line → List Line → Bool
 lines_fit decls before [] = true
-lines_fit decls before (l ∷ ls) = is_name l.name && (is_verb l.verb && (not (is_some (line_fault (record { decls = decls; lines = before }) l)) && lines_fit decls (before ++ l ∷ []) ls))
+lines_fit decls before (l ∷ ls) = is_name l.name && (are_values (verb_values l.verb) && (not (is_some (line_fault (record { decls = decls; lines = before }) l)) && lines_fit decls (before ++ l ∷ []) ls))
 
 lines_by : (decls : List Decl) (before ls : List Line) → lines_fit decls before ls ≡ true → LinesFit decls before ls
 lines_by decls before [] h = tt
 lines_by decls before (l ∷ ls) h =
     let a = and_parts (is_name l.name) _ h in
-    let b = and_parts (is_verb l.verb) _ a.1 in
+    let b = and_parts (are_values (verb_values l.verb)) _ a.1 in
     let c = and_parts (not (is_some (line_fault (record { decls = decls; lines = before }) l))) (lines_fit decls (before ++ l ∷ []) ls) b.1 in
-    (record { named = a.0; values = verb_by l.verb b.0 }, no_fault _ c.0, lines_by decls (before ++ l ∷ []) ls c.1)
+    (record { named = a.0; values = values_by (verb_values l.verb) b.0 }, no_fault _ c.0, lines_by decls (before ++ l ∷ []) ls c.1)
 
 pub fits_by_computing : (g : GraphValue) → decls_fit [] g.decls ≡ true → lines_fit g.decls [] g.lines ≡ true → IsGraph g
 fits_by_computing g decls lines = record { decls = decls_by [] g.decls decls; lines = lines_by g.decls [] g.lines lines }

@@ -1,9 +1,8 @@
 -- When a kernel may run on the columns that are held, and what it leaves.
-use Rattle.std.specs.Prelude.{◌≡◌, ◌≢◌, ℕ, ◌<◌, false, nat_eq, List, [], length, map, slice_index_or, Contains}
+use Rattle.std.specs.Prelude.{◌≡◌, ◌≢◌, ℕ, ◌<◌, false, nat_eq, List, [], ◌∷◌, length, map, slice_index_or, Contains}
 use Rattle.index_spaces.specs.Column.{ColumnValue}
 use Rattle.graph_model.specs.declared.graph.verb.Access.{Access}
 use Rattle.graph_model.specs.declared.graph.verb.Kernel.{Kernel}
-use Rattle.graph_model.specs.declared.graph.verb.Kernel.TheVariants.{Iota, Axpy, Stencil, Scan, Hist, Dot, Expect, Gather}
 use Rattle.graph_model.specs.graph.Graph.{GraphValue, named_spaces, space_at}
 use Rattle.graph_model.specs.graph.Access.{kernel_accesses}
 use Rattle.graph_model.specs.meaning.Effect.{kernel_changes}
@@ -20,16 +19,22 @@ pub record FitsHeld (g : GraphValue) (held : List (ℕ × ColumnValue)) (kernel 
 abbrev pub HoldsOverSpace : GraphValue → List (ℕ × ColumnValue) → ℕ → ℕ → Type 0
 HoldsOverSpace g held c s = (s < length (named_spaces g)) × HoldsOver held c (space_at g s)
 
--- the same, kernel by kernel
-abbrev pub FitsByCase : GraphValue → List (ℕ × ColumnValue) → Kernel → Type 0
-FitsByCase g held (Iota x s value) = HoldsOverSpace g held x s
-FitsByCase g held (Axpy x y s factor) = HoldsOverSpace g held x s × HoldsOverSpace g held y s × (x ≢ y)
-FitsByCase g held (Stencil x y r s) = HoldsOverSpace g held x r × HoldsOverSpace g held y s × (x ≢ y)
-FitsByCase g held (Scan x y s) = HoldsOverSpace g held x s × HoldsOverSpace g held y s × (x ≢ y)
-FitsByCase g held (Hist x y s t) = HoldsOverSpace g held x s × HoldsOverSpace g held y t × (x ≢ y)
-FitsByCase g held (Dot x y z s t) = HoldsOverSpace g held x s × HoldsOverSpace g held y s × HoldsOverSpace g held z t × (x ≢ z) × (y ≢ z)
-FitsByCase g held (Expect x s low high) = HoldsOverSpace g held x s
-FitsByCase g held (Gather x y z s t) = HoldsOverSpace g held x s × HoldsOverSpace g held y t × HoldsOverSpace g held z s × (x ≢ z) × (y ≢ z)
+abbrev pub EachHeld : GraphValue → List (ℕ × ColumnValue) → List Access → Type 0
+EachHeld g held [] = Unit {0}
+EachHeld g held (a ∷ rest) = HoldsOverSpace g held a.column a.space × EachHeld g held rest
+
+-- no column stands twice among accesses
+abbrev pub NotAmong : ℕ → List Access → Type 0
+NotAmong c [] = Unit {0}
+NotAmong c (a ∷ rest) = (c ≢ a.column) × NotAmong c rest
+
+abbrev pub EachOnce : List Access → Type 0
+EachOnce [] = Unit {0}
+EachOnce (a ∷ rest) = NotAmong a.column rest × EachOnce rest
+
+-- a kernel that fits, access by access
+abbrev pub FitsEach : GraphValue → List (ℕ × ColumnValue) → Kernel → Type 0
+FitsEach g held kernel = EachHeld g held (kernel_accesses kernel) × EachOnce (kernel_accesses kernel)
 
 -- the changes of a kernel whose spaces go by their places in this list
 abbrev pub MakesKernel : List (ℕ × ColumnValue) → List (ℕ × ColumnValue) → List (List (ℕ × ℕ)) → Kernel → Type 0

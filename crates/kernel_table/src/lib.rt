@@ -5,7 +5,7 @@ ghost use Rattle.std.specs.Prelude.{◌≡◌};
 ghost use Rattle.graph_model.specs.graph.Graph.{space_at};
 ghost use Rattle.graph_model.specs.meaning.Effect.{Cells, kernel_changes, kernel_verdict};
 ghost use Rattle.graph_model.specs.meaning.HeldCells.{HasCells, MakesChanges};
-ghost use Rattle.kernel_table.specs.Kernels.{FitsHeld, FitsByCase};
+ghost use Rattle.kernel_table.specs.Kernels.{FitsHeld, FitsEach};
 
 mod axpy;
 mod dot;
@@ -40,7 +40,7 @@ pub fn run_kernel(graph: &Graph, kernel: &Kernel, held: &mut Held) -> Verdict
 }
 
 fn run_fitting(graph: &Graph, kernel: &Kernel, held: &mut Held) -> Verdict
-    requires { FitsByCase graph.now held.old kernel.now }
+    requires { FitsEach graph.now held.old kernel.now }
     ensures verdict { (cells : Cells) → HasCells held.old cells → result ≡ kernel_verdict (space_at graph.now) cells kernel.now }
     ensures changes { MakesChanges held.old held.new (λ cells. kernel_changes (space_at graph.now) cells kernel.now) }
 {

@@ -17,9 +17,12 @@ use Rattle.graph_model.specs.meaning.HeldCells.{HasCells, MakesChanges, HoldsOve
 use Rattle.graph_model.specs.graph.Fits.{IsGraph, repeats}
 use Rattle.graph_model.specs.meaning.LineLaws.{AccessFits, AccessesFit, ColumnsDiffer}
 use Rattle.index_spaces.specs.declared.Op.{Op}
+use Rattle.index_spaces.specs.declared.Op.TheVariants as op
+use Rattle.graph_model.specs.declared.graph.verb.Mode.{Mode}
+use Rattle.graph_model.specs.declared.graph.verb.Mode.TheVariants as mode
 use Rattle.index_spaces.specs.Held.{held_at}
 use Rattle.line_effects.specs.Moved.{moves, HeldShow}
-use Rattle.graph_model.specs.graph.Access.{accesses, verb_accesses, kernel_accesses}
+use Rattle.graph_model.specs.graph.Access.{access, accesses, verb_accesses, kernel_accesses}
 use Rattle.graph_model.specs.meaning.Effect.{Cells, CellChange, Effect, effect, cells_after, verb_changes, verb_verdict}
 use Rattle.index_spaces.specs.Space.{points, IsWithin}
 use Rattle.index_spaces.specs.Column.{ColumnValue}
@@ -110,6 +113,22 @@ over_access law g is i k l v a h e at cells held s shown moved space =
 
 pub columns_apart : ColumnsDiffer → (g : GraphValue) → IsGraph g → (i : ℕ) (l : Line) (v : Verb) (a b : Access) → slice_get g.lines i ≡ Some l → l.verb ≡ v → slice_get (verb_accesses v) 0 ≡ Some a → slice_get (verb_accesses v) 1 ≡ Some b → a.column ≢ b.column
 columns_apart law g is i l v a b h e first second = law g i 0 1 a b is (omega arith) (listed_at g i 0 l v a h e first) (listed_at g i 1 l v b h e second)
+
+-- how a reduction uses its target, and its accesses
+abbrev pub reduced_mode : Op → Mode
+reduced_mode op.Sum = mode.Sum
+reduced_mode op.Min = mode.Write
+reduced_mode op.Max = mode.Write
+
+pub reduces_from : (o : Op) (a b s : ℕ) → slice_get (verb_accesses (Reduce o a b s)) 0 ≡ Some (access a s mode.Read)
+reduces_from op.Sum a b s = refl
+reduces_from op.Min a b s = refl
+reduces_from op.Max a b s = refl
+
+pub reduces_into : (o : Op) (a b s : ℕ) → slice_get (verb_accesses (Reduce o a b s)) 1 ≡ Some (access b s (reduced_mode o))
+reduces_into op.Sum a b s = refl
+reduces_into op.Min a b s = refl
+reduces_into op.Max a b s = refl
 
 -- numbers that differ pairwise do not repeat
 none_alike : (x : ℕ) (xs : List ℕ) → ((k y : ℕ) → slice_get xs k ≡ Some y → x ≢ y) → list_any (nat_eq x) xs ≡ false

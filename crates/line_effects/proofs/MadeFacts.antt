@@ -3,9 +3,9 @@ use Rattle.std.proofs.Common.{◌≡◌, ℕ, List, [], refl, ◌∙◌, ap}
 use Rattle.std.specs.Prelude.{Option, Some, None}
 use Rattle.std.specs.Option.{option_map_or}
 use Rattle.graph_model.specs.declared.graph.verb.Kernel.{Kernel}
-use Rattle.graph_model.specs.declared.graph.verb.Kernel.TheVariants.{Iota, Axpy, Stencil, Scan, Hist, Dot, Expect, Gather}
+use Rattle.graph_model.specs.declared.graph.verb.Kernel.TheVariants.{Expect}
 use Rattle.graph_model.specs.declared.graph.verb.Verb.{Verb}
-use Rattle.graph_model.specs.declared.graph.verb.Verb.TheVariants.{User, Trigger, Cancel, Merge, MergeIgnore, Phase, Arrive, Acquire, Release, Fill, Copy, Reduce, Task}
+use Rattle.graph_model.specs.declared.graph.verb.Verb.TheVariants.{Task}
 use Rattle.graph_model.specs.declared.meaning.outcome.Verdict.{Verdict}
 use Rattle.graph_model.specs.declared.meaning.outcome.Verdict.TheVariants.{Fine, Fault}
 use Rattle.graph_model.specs.graph.Graph.{GraphValue, space_at, verb_at}

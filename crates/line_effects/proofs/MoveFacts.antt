@@ -1,20 +1,17 @@
 -- The columns of a line, held one after another.
 use Rattle.std.proofs.Common.{◌≡◌, ℕ, ◌+◌, ◌<◌, ◌≤◌, true, ◌⊎◌, inl, inr, List, [], length, refl, sym, ◌∙◌, ap, subst, arith}
 use Rattle.std.specs.Prelude.{Option, Some, None, IsSome, is_some, slice_get, option_map, Contains}
-use Rattle.std.specs.Option.{option_map_or}
 use Rattle.std.proofs.lemmas.Bool.{false≢true, cases_eq, cases_lt}
 use Rattle.std.proofs.lemmas.Option.{none-some, same_Some, slice_get-get_or, slice_get-map, slice_get_within}
 use Rattle.std.proofs.lemmas.List.{length-map}
 use Rattle.index_spaces.specs.Column.{ColumnValue}
 use Rattle.index_spaces.specs.Held.{held_at, HoldsOtherwise}
 use Rattle.graph_model.specs.declared.graph.verb.Access.{Access}
-use Rattle.graph_model.specs.declared.graph.verb.Kernel.TheVariants.{Iota, Axpy, Stencil, Scan, Hist, Dot, Expect, Gather}
-use Rattle.graph_model.specs.declared.graph.verb.Verb.{Verb}
-use Rattle.graph_model.specs.declared.graph.verb.Verb.TheVariants.{User, Trigger, Cancel, Merge, MergeIgnore, Phase, Arrive, Acquire, Release, Fill, Copy, Reduce, Task}
 use Rattle.graph_model.specs.graph.Fits.{IsGraph}
 use Rattle.graph_model.specs.meaning.LineLaws.{AccessesFit, ColumnsDiffer}
-use Rattle.graph_model.specs.graph.Graph.{GraphValue, columns, verb_at}
-use Rattle.graph_model.specs.graph.Access.{accesses, verb_accesses}
+use Rattle.graph_model.specs.graph.Graph.{GraphValue, columns}
+use Rattle.graph_model.specs.graph.Access.{accesses}
+use Rattle.graph_model.proofs.KindLaws.{accesses_are_few}
 use Rattle.line_effects.specs.Moved.{moves}
 use Rattle.line_effects.proofs.EffectFacts.{access_listed, access_moved, move_at, moves_apart}
 
@@ -76,25 +73,10 @@ pub move_known : AccessesFit → (g : GraphValue) → IsGraph g → (i k c : ℕ
 move_known fits g is i k c at = let a = access_moved g i k c at in subst (λ d. d < length (columns g)) a.2 (fits g i a.0 is (access_listed g i k a.0 a.1)).column
 
 -- a line moves at most three columns
-few_accesses : (v : Verb) → length (verb_accesses v) ≤ 3
-few_accesses (Task (Iota x s v)) = omega arith
-few_accesses (Task (Axpy x y s v)) = omega arith
-few_accesses (Task (Stencil x y r s)) = omega arith
-few_accesses (Task (Scan x y s)) = omega arith
-few_accesses (Task (Hist x y s t)) = omega arith
-few_accesses (Task (Dot x y z s t)) = omega arith
-few_accesses (Task (Expect x s l h)) = omega arith
-few_accesses (Task (Gather x y z s t)) = omega arith
-few_accesses _ = omega arith
-
-few_of : (o : Option Verb) → length (option_map_or verb_accesses o []) ≤ 3
-few_of None = omega arith
-few_of (Some v) = few_accesses v
-
 pub moves_few : (g : GraphValue) (i : ℕ) → length (moves g i) ≤ 3
 moves_few g i =
     let same : length (moves g i) ≡ length (accesses g i) = length-map (accesses g i) (λ (x : Access). x.column) in
-    let few : length (accesses g i) ≤ 3 = few_of (verb_at g i) in
+    let few : length (accesses g i) ≤ 3 = accesses_are_few g i in
     omega arith
 
 pub few_moves : (g : GraphValue) (i k c : ℕ) → slice_get (moves g i) k ≡ Some c → k < 3

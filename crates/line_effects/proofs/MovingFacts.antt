@@ -1,5 +1,5 @@
 -- The columns of a line, moved out and put back one after another.
-use Rattle.std.proofs.Common.{◌≡◌, ℕ, ◌+◌, ◌<◌, ◌≤◌, inl, inr, List, [], length, refl, sym, ◌∙◌, ap, subst, arith, get_or, length-set}
+use Rattle.std.proofs.Common.{◌≡◌, ℕ, ◌+◌, ◌<◌, ◌≤◌, inl, inr, List, [], length, refl, sym, ◌∙◌, ap, subst, arith, length-set}
 use Rattle.std.specs.Prelude.{◌≢◌, Option, Some, None, IsSome, is_some, slice_get, slice_index_or, slice_set}
 use Rattle.std.proofs.lemmas.Bool.{false≢true, cases_eq}
 use Rattle.std.proofs.lemmas.Option.{none-some, same_Some}

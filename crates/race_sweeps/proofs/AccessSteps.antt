@@ -7,45 +7,15 @@ use Rattle.std.proofs.lemmas.Bool.{true≢false, cases_lt}
 use Rattle.std.proofs.lemmas.Option.{none-some, same_Some, slice_get_within, get_or_from_slice_get, slice_get-get_or}
 use Rattle.graph_model.specs.declared.graph.verb.Access.{Access}
 use Rattle.graph_model.specs.declared.graph.verb.Mode.TheVariants.{Read}
-use Rattle.graph_model.specs.declared.graph.verb.Kernel.{Kernel}
-use Rattle.graph_model.specs.declared.graph.verb.Kernel.TheVariants.{Iota, Axpy, Stencil, Scan, Hist, Dot, Expect, Gather}
 use Rattle.graph_model.specs.declared.graph.verb.Verb.{Verb}
 use Rattle.graph_model.specs.declared.graph.verb.Verb.TheVariants.{User, Trigger, Cancel, Merge, MergeIgnore, Phase, Arrive, Acquire, Release, Fill, Copy, Reduce, Task}
 use Rattle.graph_model.specs.graph.Graph.{GraphValue, verb_at}
-use Rattle.graph_model.specs.graph.Access.{accesses, verb_accesses, kernel_accesses}
+use Rattle.graph_model.specs.graph.Access.{accesses}
+use Rattle.graph_model.proofs.KindLaws.{accesses_are_few}
 
 -- a line has at most three accesses
-few_kernel : (k : Kernel) → length (kernel_accesses k) ≤ 3
-few_kernel (Iota x s value) = omega arith
-few_kernel (Axpy x y s factor) = omega arith
-few_kernel (Stencil x y r s) = omega arith
-few_kernel (Scan x y s) = omega arith
-few_kernel (Hist x y s t) = omega arith
-few_kernel (Dot x y z s t) = omega arith
-few_kernel (Expect x s low high) = omega arith
-few_kernel (Gather x y z s t) = omega arith
-
-few_by : (v : Verb) → length (verb_accesses v) ≤ 3
-few_by User = omega arith
-few_by (Trigger u) = omega arith
-few_by (Cancel u) = omega arith
-few_by (Merge es) = omega arith
-few_by (MergeIgnore es) = omega arith
-few_by (Phase b) = omega arith
-few_by (Arrive q v) = omega arith
-few_by (Acquire l) = omega arith
-few_by (Release q) = omega arith
-few_by (Fill t s v) = omega arith
-few_by (Copy x y s) = omega arith
-few_by (Reduce o x y s) = omega arith
-few_by (Task k) = few_kernel k
-
-few_at : (o : Option Verb) → length (option_map_or verb_accesses o []) ≤ 3
-few_at None = omega arith
-few_at (Some v) = few_by v
-
 pub few_accesses : (g : GraphValue) (i : ℕ) → length (accesses g i) ≤ 3
-few_accesses g i = few_at (verb_at g i)
+few_accesses g i = accesses_are_few g i
 
 -- an access that was read is one of the line
 pub access_read : (xs : List Access) (k : ℕ) (a : Access) → slice_get xs k ≡ Some a → Contains xs a

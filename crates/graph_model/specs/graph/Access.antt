@@ -1,5 +1,5 @@
 -- What a line reads and writes, and when two lines conflict.
-use Rattle.std.specs.Prelude.{◌≡◌, ◌≢◌, ℕ, Bool, true, false, List, [], filter_map, Contains, Option, Some, None, slice_index, IsTrue}
+use Rattle.std.specs.Prelude.{◌≡◌, ◌≢◌, ℕ, nat_eq, Bool, true, false, List, [], zip, filter_map, Contains, Option, Some, None, slice_index, IsTrue}
 use Rattle.std.specs.Option.{option_map_or}
 use Rattle.index_spaces.specs.Space.{Meet}
 use Rattle.graph_model.specs.declared.graph.verb.Access.{Access}
@@ -8,9 +8,10 @@ use Rattle.graph_model.specs.declared.graph.verb.Mode.TheVariants.{Read}
 use Rattle.graph_model.specs.declared.graph.verb.Verb.{Verb}
 use Rattle.graph_model.specs.declared.graph.verb.Verb.TheVariants.{Task}
 use Rattle.graph_model.specs.declared.graph.verb.Kernel.{Kernel}
+use Rattle.graph_model.specs.declared.graph.table.Parts.{Parts}
 use Rattle.graph_model.specs.declared.graph.table.Place.{Place}
 use Rattle.graph_model.specs.declared.graph.table.Place.TheVariants.{Column}
-use Rattle.graph_model.specs.graph.Table.{Placed, verb_parts, verb_placed}
+use Rattle.graph_model.specs.graph.Table.{Placed, verb_places, verb_parts}
 use Rattle.graph_model.specs.graph.Graph.{GraphValue, verb_at, space_at}
 
 abbrev pub access : ℕ → ℕ → Mode → Access
@@ -21,9 +22,26 @@ abbrev pub access_at : List ℕ → Place → ℕ → Option Access
 access_at parts (Column mode over) column = Some (access column (slice_index parts over) mode)
 access_at parts _ n = None
 
--- what a verb reads and writes, in the order of its places
+-- the same of parts as the code has them
+abbrev pub access_in : Parts → Place → ℕ → Option Access
+access_in parts (Column mode over) k = Some (access (slice_index parts.numbers k) (slice_index parts.numbers over) mode)
+access_in parts _ k = None
+
+-- the accesses of numbers in their places, in this order
+abbrev pub accesses_of : List Place → List ℕ → List Access
+accesses_of places parts = filter_map (λ (p : Placed). access_at parts p.0 p.1) (zip places parts)
+
 abbrev pub verb_accesses : Verb → List Access
-verb_accesses v = filter_map (λ (p : Placed). access_at (verb_parts v) p.0 p.1) (verb_placed v)
+verb_accesses v = accesses_of (verb_places v) (verb_parts v)
+
+-- the accesses that are there
+abbrev pub present : List (Option Access) → List Access
+present accesses = filter_map (λ a. a) accesses
+
+-- two that are there, and are of one column
+abbrev pub columns_alike : Option Access → Option Access → Bool
+columns_alike (Some a) (Some b) = nat_eq a.column b.column
+columns_alike _ _ = false
 
 abbrev pub kernel_accesses : Kernel → List Access
 kernel_accesses kernel = verb_accesses (Task kernel)
@@ -31,6 +49,10 @@ kernel_accesses kernel = verb_accesses (Task kernel)
 -- the accesses of a line, in order
 abbrev pub accesses : GraphValue → ℕ → List Access
 accesses g i = option_map_or verb_accesses (verb_at g i) []
+
+abbrev pub is_read : Mode → Bool
+is_read Read = true
+is_read _ = false
 
 -- two uses that must not meet: not both are reads
 abbrev pub modes_clash : Mode → Mode → Bool

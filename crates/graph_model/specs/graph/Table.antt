@@ -1,8 +1,10 @@
 -- The kinds of operation lines as one table: the words that a line begins with, and what stands in the place of each word behind them.
-use Rattle.std.specs.Prelude.{ℕ, ◌+◌, Bool, true, false, ◌||◌, List, [], ◌∷◌, zip, Option, Some, None, slice_index, codes}
+use Rattle.std.specs.Prelude.{ℕ, ◌+◌, ◌==◌, nat_le, Bool, true, false, not, ◌&&◌, ◌||◌, List, [], ◌∷◌, length, zip, Option, Some, None, slice_index, slice_get, codes}
 use Rattle.std.specs.Option.{option_map_or}
+use Rattle.std.specs.List.{list_any}
 use Rattle.index_spaces.specs.declared.Op.{Op}
 use Rattle.index_spaces.specs.declared.Op.TheVariants as op
+use Rattle.graph_model.specs.declared.graph.table.TheConstants.{MOST_PLACES}
 use Rattle.graph_model.specs.declared.graph.table.Kind.{Kind}
 use Rattle.graph_model.specs.declared.graph.table.Kind.TheVariants as kinds
 use Rattle.graph_model.specs.declared.graph.table.Place.{Place}
@@ -57,6 +59,38 @@ kind_places kind = (kind_row kind).places
 
 abbrev pub kind_takes_on : Kind → Bool
 kind_takes_on kind = (kind_row kind).takes_on
+
+-- what the code of all kinds rests on: columns stand before what else there is, each is over a space, and each space is that of a column
+abbrev pub is_column : Place → Bool
+is_column (Column mode over) = true
+is_column _ = false
+
+abbrev pub is_space : Place → Bool
+is_space Space = true
+is_space _ = false
+
+abbrev pub is_over : ℕ → Place → Bool
+is_over n (Column mode over) = over == n
+is_over n _ = false
+
+abbrev pub columns_first : List Place → Bool
+columns_first [] = true
+columns_first (Column mode over ∷ ps) = columns_first ps
+columns_first (p ∷ ps) = not (list_any is_column ps)
+
+-- whether the place of number n is in order
+abbrev pub in_order : List Place → ℕ → Place → Bool
+in_order all n (Column mode over) = option_map_or is_space (slice_get all over) false
+in_order all n Space = list_any (is_over n) all
+in_order all n _ = true
+
+-- the places from the number n on
+abbrev pub each_in_order : List Place → ℕ → List Place → Bool
+each_in_order all n [] = true
+each_in_order all n (p ∷ ps) = in_order all n p && each_in_order all (n + 1) ps
+
+abbrev pub is_row : List Place → Bool
+is_row ps = nat_le (length ps) MOST_PLACES && (columns_first ps && each_in_order ps 0 ps)
 
 -- a verb as its kind and a number for each place; merges, which name any number of lines, have no kind
 abbrev pub kernel_kind : Kernel → Kind
@@ -148,7 +182,7 @@ verb_places v = option_map_or kind_places (verb_kind v) []
 abbrev pub verb_placed : Verb → List Placed
 verb_placed v = zip (verb_places v) (verb_parts v)
 
--- a number passes a test in its place; a last one that fails it leaves no trace, so that a definition by this computes as one by cases does
+-- whether a number passes a test in its place; the first place is asked last, so that where the others pass no test this computes to what that one gives
 abbrev pub any_placed : (Place → ℕ → Bool) → List Placed → Bool
 any_placed test [] = false
 any_placed test (p ∷ ps) = any_placed test ps || test p.0 p.1

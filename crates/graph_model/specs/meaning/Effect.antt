@@ -1,5 +1,5 @@
 -- What a line does to the cells: a verdict, and changes of single cells, computed from the cells before it.
-use Rattle.std.specs.Prelude.{ℕ, zero, suc, ◌+◌, ◌*◌, ◌%◌, ◌^◌, min, max, ◌==◌, nat_le, Bool, true, false, cond, ◌&&◌, List, [], ◌∷◌, map, filter, sum_by, count_by}
+use Rattle.std.specs.Prelude.{ℕ, zero, suc, ◌+◌, ◌*◌, ◌%◌, ◌^◌, min, max, ◌==◌, nat_le, Bool, true, false, cond, ◌&&◌, List, [], ◌∷◌, map, filter, sum_by, count_by, Option, Some, None}
 use Rattle.std.specs.Option.{option_map_or}
 use Rattle.std.specs.List.{list_all}
 use Rattle.index_spaces.specs.Space.{has_point, points, space_size, rank, point_at}
@@ -11,7 +11,11 @@ use Rattle.graph_model.specs.declared.graph.verb.Verb.{Verb}
 use Rattle.graph_model.specs.declared.graph.verb.Verb.TheVariants.{Fill, Copy, Reduce, Task}
 use Rattle.graph_model.specs.declared.graph.verb.Kernel.{Kernel}
 use Rattle.graph_model.specs.declared.graph.verb.Kernel.TheVariants.{Iota, Axpy, Stencil, Scan, Hist, Dot, Expect, Gather}
+use Rattle.graph_model.specs.declared.graph.verb.Access.{Access}
+use Rattle.graph_model.specs.declared.graph.verb.Mode.{Mode}
+use Rattle.graph_model.specs.declared.graph.verb.Mode.TheVariants as mode
 use Rattle.graph_model.specs.graph.Graph.{GraphValue, verb_at, space_at}
+use Rattle.graph_model.specs.graph.Access.{is_read, kernel_accesses}
 
 -- the cells of all columns: by the number of the column and the point
 abbrev pub Cells : Type 0
@@ -78,15 +82,33 @@ reduced op.Sum cell value = Add value
 reduced op.Min cell value = Set (min cell value)
 reduced op.Max cell value = Set (max cell value)
 
+-- what a kernel computes for a point of its target; an expectation has none
+abbrev pub kernel_value : (ℕ → List (ℕ × ℕ)) → Cells → Kernel → ℕ → ℕ
+kernel_value space cells (Iota x s value) p = wrapped (value + rank (space s) p)
+kernel_value space cells (Axpy x y s factor) p = wrapped (factor * cells x p)
+kernel_value space cells (Stencil x y r s) p = wrapped_sum (cells x) (filter (has_point (space r)) (around p))
+kernel_value space cells (Scan x y s) p = wrapped_sum (cells x) (filter (λ q. nat_le q p) (points (space s)))
+kernel_value space cells (Hist x y s t) q = count_by (λ p. cells x p % space_size (space t) == rank (space t) q) (points (space s))
+kernel_value space cells (Dot x y z s t) q = wrapped_sum (λ p. cells x p * cells y p) (points (space s))
+kernel_value space cells (Expect x s low high) p = 0
+kernel_value space cells (Gather x y z s t) p = cells y (point_at (space t) (cells x p % space_size (space t)))
+
+-- the column of a kernel that is written or into which is summed
+abbrev pub target : List Access → Option Access
+target [] = None
+target (a ∷ rest) = cond (is_read a.mode) (target rest) (Some a)
+
+-- a value is written or added
+abbrev pub change_by : Mode → ℕ → Change
+change_by mode.Sum value = Add value
+change_by _ value = Set value
+
+-- the values at the points of an access
+abbrev pub changes_of : (ℕ → List (ℕ × ℕ)) → (ℕ → ℕ) → Access → List CellChange
+changes_of space f a = changes_at (λ p. change_by a.mode (f p)) a.column (points (space a.space))
+
 abbrev pub kernel_changes : (ℕ → List (ℕ × ℕ)) → Cells → Kernel → List CellChange
-kernel_changes space cells (Iota x s value) = changes_at (λ p. Set (wrapped (value + rank (space s) p))) x (points (space s))
-kernel_changes space cells (Axpy x y s factor) = changes_at (λ p. Add (wrapped (factor * cells x p))) y (points (space s))
-kernel_changes space cells (Stencil x y r s) = changes_at (λ p. Set (wrapped_sum (cells x) (filter (has_point (space r)) (around p)))) y (points (space s))
-kernel_changes space cells (Scan x y s) = changes_at (λ p. Set (wrapped_sum (cells x) (filter (λ q. nat_le q p) (points (space s))))) y (points (space s))
-kernel_changes space cells (Hist x y s t) = changes_at (λ q. Add (count_by (λ p. cells x p % space_size (space t) == rank (space t) q) (points (space s)))) y (points (space t))
-kernel_changes space cells (Dot x y z s t) = changes_at (λ q. Add (wrapped_sum (λ p. cells x p * cells y p) (points (space s)))) z (points (space t))
-kernel_changes space cells (Expect x s low high) = []
-kernel_changes space cells (Gather x y z s t) = changes_at (λ p. Set (cells y (point_at (space t) (cells x p % space_size (space t))))) z (points (space s))
+kernel_changes space cells k = option_map_or (changes_of space (kernel_value space cells k)) (target (kernel_accesses k)) []
 
 -- whether each cell of the column is within the bounds
 abbrev pub all_within : (ℕ → ℕ) → ℕ → ℕ → List ℕ → Bool

@@ -3,26 +3,26 @@
 ghost use Rattle.std.specs.Prelude.{◌≡◌, map, nat_eq, nat_le};
 ghost use Rattle.std.specs.List.{list_any};
 ghost use Rattle.graph_model.specs.declared.graph.verb.Access.{Access};
-ghost use Rattle.graph_model.specs.graph.Access.{verb_accesses, kernel_accesses};
+ghost use Rattle.graph_model.specs.graph.Access.{present, columns_alike};
 ghost use Rattle.graph_model.specs.graph.Fits.{repeats, decl_repeats, decl_misnumbered, is_large, named_lines, on_lines, takes_no_on, verb_misnumbered, merges_many};
 
 use super::Graph;
-use crate::graph::access::verb_access;
+use crate::graph::access::{Accesses, verb_accesses};
 use crate::graph::decl::Decl;
 use crate::graph::limits::{MAX_COUNT, MAX_EVENTS};
 use crate::graph::name::Name;
 use crate::graph::repeats::{names_repeat, numbers_repeat};
-use crate::graph::verb::{Access, Kernel, Line, Verb};
+use crate::graph::verb::{Access, Line, Verb};
 use crate::graph::why::Why;
 use index_spaces::laws::points_are_listed;
 use index_spaces::limits::{MAX_INTERVALS, MAX_POINTS};
 
 impl Graph {
-    ghost use Rattle.std.specs.Prelude.{◌≡◌, false, slice_get};
+    ghost use Rattle.std.specs.Prelude.{◌≡◌, false};
     ghost use Rattle.std.specs.Option.{option_map_or};
     ghost use Rattle.std.specs.List.{list_any};
     ghost use Rattle.graph_model.specs.graph.Graph.{line_passes, is_user, is_phase, is_acquire};
-    ghost use Rattle.graph_model.specs.graph.Access.{verb_accesses};
+    ghost use Rattle.graph_model.specs.graph.Access.{verb_accesses, present};
     ghost use Rattle.graph_model.specs.graph.Fits.{decl_fault, line_fault, is_used, decl_unknown, verb_repeats, verb_unknown, access_unknown, line_unknown, verb_unlike, access_outside, arrives_late};
 
     /// The first reason that refuses a declaration after this graph. `None` exactly where it fits.
@@ -48,19 +48,20 @@ impl Graph {
     pub fn line_fault(&self, line: &Line) -> Option<Why>
         ensures { result ≡ line_fault self.now line.now }
     {
-        if self.is_used(&line.name) || self.verb_repeats(&line.verb) || columns_repeat(&line.verb) {
+        let accesses = verb_accesses(&line.verb);
+        if self.is_used(&line.name) || self.verb_repeats(&line.verb) || columns_repeat(&accesses) {
             return Some(Why::Twice);
         }
-        if self.line_unknown(line) {
+        if self.line_unknown(line, &accesses) {
             return Some(Why::Unknown);
         }
-        if self.verb_unlike(&line.verb) || takes_no_on(&line.verb) && line.on.is_some() {
+        if self.verb_unlike(&line.verb) || line.on.is_some() && takes_no_on(&line.verb) {
             return Some(Why::Kind);
         }
         if verb_misnumbered(&line.verb) {
             return Some(Why::Number);
         }
-        if self.reaches_outside(&line.verb) {
+        if self.reaches_outside(&accesses) {
             return Some(Why::Outside);
         }
         if self.arrives_late(&line.verb) {
@@ -101,14 +102,15 @@ impl Graph {
         }
     }
 
-    fn line_unknown(&self, line: &Line) -> bool
+    fn line_unknown(&self, line: &Line, accesses: &Accesses) -> bool
+        requires { present accesses.now ≡ verb_accesses line.now.verb }
         ensures { result ≡ line_unknown self.now line.now }
     {
         let lines = self.lines();
         names_past(&line.verb, lines)
             || is_past(line.on, lines)
             || self.verb_unknown(&line.verb)
-            || self.reaches_unknown(&line.verb)
+            || self.reaches_unknown(accesses)
     }
 
     fn verb_unknown(&self, verb: &Verb) -> bool
@@ -122,16 +124,16 @@ impl Graph {
     }
 
     /// Whether an access is of a column or over a space that is not declared.
-    fn reaches_unknown(&self, verb: &Verb) -> bool
-        ensures { result ≡ list_any (access_unknown self.now) (verb_accesses verb.now) }
+    fn reaches_unknown(&self, accesses: &Accesses) -> bool
+        ensures { result ≡ list_any (access_unknown self.now) (present accesses.now) }
     {
-        self.is_unknown_at(verb, 0) || self.is_unknown_at(verb, 1) || self.is_unknown_at(verb, 2)
+        self.is_unknown(accesses[0]) || self.is_unknown(accesses[1]) || self.is_unknown(accesses[2])
     }
 
-    fn is_unknown_at(&self, verb: &Verb, k: u32) -> bool
-        ensures { result ≡ option_map_or (access_unknown self.now) (slice_get (verb_accesses verb.now) k) false }
+    fn is_unknown(&self, access: Option<Access>) -> bool
+        ensures { result ≡ option_map_or (access_unknown self.now) access false }
     {
-        match verb_access(verb, k) {
+        match access {
             Some(access) => access.column >= self.columns() || access.space >= self.spaces(),
             None => false,
         }
@@ -168,18 +170,20 @@ impl Graph {
     }
 
     /// Whether an access is over a space that does not lie within its column.
-    fn reaches_outside(&self, verb: &Verb) -> bool
-        requires { list_any (access_unknown self.now) (verb_accesses verb.now) ≡ false }
-        ensures { result ≡ list_any (access_outside self.now) (verb_accesses verb.now) }
+    fn reaches_outside(&self, accesses: &Accesses) -> bool
+        requires { list_any (access_unknown self.now) (present accesses.now) ≡ false }
+        ensures { result ≡ list_any (access_outside self.now) (present accesses.now) }
     {
-        self.is_outside_at(verb, 0) || self.is_outside_at(verb, 1) || self.is_outside_at(verb, 2)
+        self.is_outside_where(accesses[0])
+            || self.is_outside_where(accesses[1])
+            || self.is_outside_where(accesses[2])
     }
 
-    fn is_outside_at(&self, verb: &Verb, k: u32) -> bool
-        requires { list_any (access_unknown self.now) (verb_accesses verb.now) ≡ false }
-        ensures { result ≡ option_map_or (access_outside self.now) (slice_get (verb_accesses verb.now) k) false }
+    fn is_outside_where(&self, access: Option<Access>) -> bool
+        requires { option_map_or (access_unknown self.now) access false ≡ false }
+        ensures { result ≡ option_map_or (access_outside self.now) access false }
     {
-        match verb_access(verb, k) {
+        match access {
             Some(access) => self.is_outside(&access),
             None => false,
         }
@@ -237,30 +241,21 @@ fn is_large(decl: &Decl) -> bool
     }
 }
 
-/// Whether a line names one column twice.
-fn columns_repeat(verb: &Verb) -> bool
-    ensures { result ≡ repeats nat_eq (map (λ (a : Access). a.column) (verb_accesses verb.now)) }
+/// Whether two accesses are of one column.
+fn columns_repeat(accesses: &Accesses) -> bool
+    ensures { result ≡ repeats nat_eq (map (λ (a : Access). a.column) (present accesses.now)) }
 {
-    match verb {
-        Verb::Copy { source, target, .. } => numbers_repeat(&[*source, *target]),
-        Verb::Reduce { source, target, .. } => numbers_repeat(&[*source, *target]),
-        Verb::Task { kernel } => kernel_columns_repeat(kernel),
-        _ => false,
-    }
+    are_alike(accesses[0], accesses[1])
+        || are_alike(accesses[0], accesses[2])
+        || are_alike(accesses[1], accesses[2])
 }
 
-fn kernel_columns_repeat(kernel: &Kernel) -> bool
-    ensures { result ≡ repeats nat_eq (map (λ (a : Access). a.column) (kernel_accesses kernel.now)) }
+fn are_alike(one: Option<Access>, other: Option<Access>) -> bool
+    ensures { result ≡ columns_alike one other }
 {
-    match kernel {
-        Kernel::Axpy { x, y, .. } => numbers_repeat(&[*x, *y]),
-        Kernel::Stencil { x, y, .. } => numbers_repeat(&[*x, *y]),
-        Kernel::Scan { x, y, .. } => numbers_repeat(&[*x, *y]),
-        Kernel::Hist { x, y, .. } => numbers_repeat(&[*x, *y]),
-        Kernel::Dot { x, y, z, .. } => numbers_repeat(&[*x, *y, *z]),
-        Kernel::Gather { x, y, z, .. } => numbers_repeat(&[*x, *y, *z]),
-        Kernel::Iota { .. } => false,
-        Kernel::Expect { .. } => false,
+    match (one, other) {
+        (Some(one), Some(other)) => one.column == other.column,
+        _ => false,
     }
 }
 
@@ -297,12 +292,9 @@ fn is_past(on: Option<u32>, lines: u32) -> bool
 fn takes_no_on(verb: &Verb) -> bool
     ensures { result ≡ takes_no_on verb.now }
 {
-    match verb {
-        Verb::User => true,
-        Verb::Merge { .. } => true,
-        Verb::MergeIgnore { .. } => true,
-        Verb::Phase { .. } => true,
-        _ => false,
+    match verb.kind() {
+        Some(kind) => !kind.takes_on(),
+        None => true,
     }
 }
 

@@ -1,19 +1,23 @@
 //! How long the lines of a graph's text are.
 
-ghost use Rattle.std.specs.Prelude.{◌≡◌, ◌+◌, length};
+ghost use Rattle.std.specs.Prelude.{◌≡◌, ◌+◌, ◌≤◌, length};
+ghost use Rattle.graph_model.specs.graph.Table.{kind_words};
 ghost use Rattle.graph_model.specs.graph.Spelling.{op_word};
+ghost use Rattle.graph_model.specs.kept.Counts.{words_size};
 
 use super::Graph;
 use crate::graph::decl::Decl;
 use crate::graph::lists::LineList;
-use crate::graph::verb::{Kernel, Line, Verb};
+use crate::graph::table::{Kind, MOST_PLACES, Parts, Place};
+use crate::graph::verb::{Line, Verb};
 use crate::graph::words::{fields_size, intervals_size, name_size, number_size, word_size};
 use index_spaces::Op;
 
 impl Graph {
-    ghost use Rattle.std.specs.Prelude.{◌≡◌, ◌+◌, ◌≤◌, [], ◌∷◌, length, map};
+    ghost use Rattle.std.specs.Prelude.{◌≡◌, ◌+◌, ◌≤◌, None, length, map, zip};
     ghost use Rattle.graph_model.specs.kept.Counts.{words_size};
-    ghost use Rattle.graph_model.specs.graph.Spelling.{spelled, space_name, column_name, lock_name, barrier_name, line_name, op_word, decl_words, kernel_words, verb_words, on_words, line_words};
+    ghost use Rattle.graph_model.specs.graph.Table.{verb_kind, part_in, parts_from};
+    ghost use Rattle.graph_model.specs.graph.Spelling.{spelled, space_name, column_name, lock_name, barrier_name, line_name, op_word, decl_words, place_word, placed_words, verb_words, on_words, line_words};
 
     /// The line of a declaration, with its newline.
     pub(super) fn decl_size(&self, decl: &Decl) -> u64
@@ -69,101 +73,55 @@ impl Graph {
         ensures size { result ≡ words_size (verb_words self.now verb.now) }
         ensures few { result ≤ 137438954000 }
     {
+        match verb.kind() {
+            Some(kind) => fixed_size(kind) + self.places_size(kind.places(), &verb.parts()),
+            None => self.merge_size(verb),
+        }
+    }
+
+    fn merge_size(&self, verb: &Verb) -> u64
+        requires { verb_kind verb.now ≡ None }
+        ensures size { result ≡ words_size (verb_words self.now verb.now) }
+        ensures few { result ≤ 137438954000 }
+    {
         match verb {
-            Verb::User => word_size(b"user"),
-            Verb::Trigger { user } => word_size(b"trigger") + self.event_size(*user),
-            Verb::Cancel { user } => word_size(b"cancel") + self.event_size(*user),
             Verb::Merge { events } => word_size(b"merge") + self.events_size(events),
             Verb::MergeIgnore { events } => word_size(b"mergei") + self.events_size(events),
-            Verb::Phase { barrier } => word_size(b"phase") + self.barrier_size(*barrier),
-            Verb::Arrive { phase, value } => {
-                word_size(b"arrive") + self.event_size(*phase) + number_size(*value)
-            }
-            Verb::Acquire { lock } => word_size(b"acquire") + self.lock_size(*lock),
-            Verb::Release { acquire } => word_size(b"release") + self.event_size(*acquire),
-            Verb::Fill {
-                target,
-                space,
-                value,
-            } => word_size(b"fill") + self.one_column_size(*target, *space) + number_size(*value),
-            Verb::Copy {
-                source,
-                target,
-                space,
-            } => word_size(b"copy") + self.two_columns_size(*source, *target, *space),
-            Verb::Reduce {
-                op,
-                source,
-                target,
-                space,
-            } => self.reduce_size(*op, *source, *target, *space),
-            Verb::Task { kernel } => word_size(b"task") + self.kernel_size(kernel),
+            _ => unreachable!(),
         }
     }
 
-    fn reduce_size(&self, op: Op, source: u32, target: u32, space: u32) -> u64
-        ensures size { result ≡ words_size (verb_words self.now (Verb.Reduce op source target space)) }
-        ensures few { result ≤ 300 }
+    /// The words that stand in places.
+    fn places_size(&self, places: &[Place], parts: &Parts) -> u64
+        requires { length places.now ≤ MOST_PLACES }
+        ensures size { result ≡ words_size (placed_words self.now (zip places.now (parts_from 0 places.now parts.now))) }
+        ensures few { result ≤ 320 }
     {
-        word_size(b"reduce") + op_size(op) + self.two_columns_size(source, target, space)
-    }
-
-    fn kernel_size(&self, kernel: &Kernel) -> u64
-        ensures size { result ≡ words_size (kernel_words self.now kernel.now) }
-        ensures few { result ≤ 300 }
-    {
-        match *kernel {
-            Kernel::Iota { x, s, value } => {
-                word_size(b"iota") + self.one_column_size(x, s) + number_size(value)
-            }
-            Kernel::Axpy { x, y, s, factor } => {
-                word_size(b"axpy") + self.two_columns_size(x, y, s) + number_size(factor)
-            }
-            Kernel::Stencil { x, y, r, s } => {
-                word_size(b"stencil") + self.two_columns_size(x, y, r) + self.space_size(s)
-            }
-            Kernel::Scan { x, y, s } => word_size(b"scan") + self.two_columns_size(x, y, s),
-            Kernel::Hist { x, y, s, t } => {
-                word_size(b"hist") + self.two_columns_size(x, y, s) + self.space_size(t)
-            }
-            Kernel::Dot { x, y, z, s, t } => {
-                word_size(b"dot") + self.three_columns_size(x, y, z, s) + self.space_size(t)
-            }
-            Kernel::Expect { x, s, low, high } => {
-                word_size(b"expect")
-                    + self.one_column_size(x, s)
-                    + number_size(low)
-                    + number_size(high)
-            }
-            Kernel::Gather { x, y, z, s, t } => {
-                word_size(b"gather") + self.three_columns_size(x, y, z, s) + self.space_size(t)
-            }
+        let mut rest = places;
+        let mut n = 0;
+        let mut size = 0;
+        while let [place, others @ ..] = rest {
+            size += self.place_size(*place, parts, n);
+            rest = others;
+            n += 1;
         }
+        size
     }
 
-    /// The words of a column and a space.
-    fn one_column_size(&self, x: u32, s: u32) -> u64
-        ensures size { result ≡ words_size (column_name self.now x ∷ space_name self.now s ∷ []) }
-        ensures few { result ≤ 96 }
+    fn place_size(&self, place: Place, parts: &Parts, n: usize) -> u64
+        ensures size { result ≡ length (place_word self.now place (part_in place n parts.now)) + 1 }
+        ensures few { result ≤ 64 }
     {
-        self.column_size(x) + self.space_size(s)
-    }
-
-    /// The words of two columns and a space.
-    fn two_columns_size(&self, x: u32, y: u32, s: u32) -> u64
-        ensures size { result ≡ words_size (column_name self.now x ∷ column_name self.now y ∷ space_name self.now s ∷ []) }
-        ensures few { result ≤ 160 }
-    {
-        self.column_size(x) + self.one_column_size(y, s)
-    }
-
-    /// The words of three columns and a space.
-    fn three_columns_size(&self, x: u32, y: u32, z: u32, s: u32) -> u64
-        ensures size { result ≡ words_size
-            (column_name self.now x ∷ column_name self.now y ∷ column_name self.now z ∷ space_name self.now s ∷ []) }
-        ensures few { result ≤ 224 }
-    {
-        self.column_size(x) + self.two_columns_size(y, z, s)
+        match place {
+            Place::User => self.event_size(parts.number(n)),
+            Place::Phase => self.event_size(parts.number(n)),
+            Place::Acquire => self.event_size(parts.number(n)),
+            Place::Lock => self.lock_size(parts.number(n)),
+            Place::Barrier => self.barrier_size(parts.number(n)),
+            Place::Space => self.space_size(parts.number(n)),
+            Place::Value => number_size(parts.value(n)),
+            Place::Column(..) => self.column_size(parts.number(n)),
+        }
     }
 
     fn events_size(&self, events: &LineList) -> u64
@@ -237,4 +195,18 @@ fn op_size(op: Op) -> u64
         Op::Min => word_size(b"min"),
         Op::Max => word_size(b"max"),
     }
+}
+
+/// The words that the lines of a kind begin with.
+fn fixed_size(kind: Kind) -> u64
+    ensures size { result ≡ words_size (kind_words kind) }
+    ensures few { result ≤ 32 }
+{
+    let mut rest = kind.words();
+    let mut size = 0;
+    while let [word, others @ ..] = rest {
+        size += word.len() as u64 + 1;
+        rest = others;
+    }
+    size
 }

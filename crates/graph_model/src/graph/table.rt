@@ -2,7 +2,7 @@
 
 ghost use Rattle.std.specs.Prelude.{◌≡◌, slice_index, true, false};
 ghost use Rattle.basics.specs.Words.{contents};
-ghost use Rattle.graph_model.specs.graph.Table.{kind_words, kind_places, kind_takes_on};
+ghost use Rattle.graph_model.specs.graph.Table.{kind_words, kind_places, kind_takes_on, is_row};
 
 use self::Place::{Acquire, Barrier, Column, Lock, Phase, Space, User, Value};
 use crate::graph::verb::Mode::{Read, Sum, Write};
@@ -132,6 +132,7 @@ impl Kind {
         ensures words { contents result.words.now ≡ kind_words self }
         ensures places { result.places.now ≡ kind_places self }
         ensures takes_on { result.takes_on ≡ kind_takes_on self }
+        ensures is_row { is_row result.places.now ≡ true }
     {
         match self {
             Kind::User => without_on(&[b"user"], &[]),
@@ -218,6 +219,30 @@ impl Kind {
         ensures { result ≡ kind_takes_on self }
     {
         self.row().takes_on
+    }
+}
+
+impl Parts {
+    ghost use Rattle.std.specs.Prelude.{◌≡◌, slice_index};
+
+    /// The number of the name in the place of number `n`.
+    pub fn number(&self, n: usize) -> u32
+        ensures { result ≡ slice_index self.now.numbers n }
+    {
+        match self.numbers.get(n) {
+            Some(number) => *number,
+            None => 0,
+        }
+    }
+
+    /// The value in the place of number `n`.
+    pub fn value(&self, n: usize) -> u64
+        ensures { result ≡ slice_index self.now.values n }
+    {
+        match self.values.get(n) {
+            Some(value) => *value,
+            None => 0,
+        }
     }
 }
 

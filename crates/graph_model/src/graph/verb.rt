@@ -20,16 +20,7 @@ impl Line {
         ensures { IsLine self.now }
     {
         let _ = self.name.bytes();
-        match &self.verb {
-            Verb::Arrive { value, .. } => {
-                let _value = *value;
-            }
-            Verb::Fill { value, .. } => {
-                let _value = *value;
-            }
-            Verb::Task { kernel } => kernel.is_well_formed(),
-            _ => {}
-        }
+        let _ = self.verb.parts();
     }
 }
 
@@ -134,28 +125,6 @@ pub enum Kernel {
         s: u32,
         t: u32,
     },
-}
-
-impl Kernel {
-    ghost use Rattle.graph_model.specs.graph.Fits.{IsKernel};
-
-    /// What its type says of it.
-    fn is_well_formed(&self)
-        ensures { IsKernel self.now }
-    {
-        match self {
-            Kernel::Iota { value, .. } => {
-                let _value = *value;
-            }
-            Kernel::Axpy { factor, .. } => {
-                let _factor = *factor;
-            }
-            Kernel::Expect { low, high, .. } => {
-                let _bounds = (*low, *high);
-            }
-            _ => {}
-        }
-    }
 }
 
 /// Whether a fault passes along an edge.

@@ -1,4 +1,4 @@
-use Rattle.std.proofs.Common.{◌<◌, ◌+◌, sym, ◌∙◌, ap, subst}
+use Rattle.std.proofs.Common.{◌<◌, ◌+◌, sym, ◌∙◌, subst}
 use Rattle.line_effects.proofs.MovingFacts.{GivenSoFar, given_none, given_one, given_skip, given_all}
 use Rattle.line_effects.proofs.moving.give_columns.Goals as goal
 use Rattle.line_effects.proofs.moving.give_columns.Goals.{in-Some, in_default}
