@@ -2,7 +2,7 @@
 #![tactic(auto)]
 
 mod asks;
-mod clash;
+pub mod clash;
 mod classes;
 mod hard;
 pub mod held;
