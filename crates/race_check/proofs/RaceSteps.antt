@@ -19,9 +19,11 @@ use Rattle.graph_model.specs.graph.Access.{accesses, AccessesConflict, Conflict}
 use Rattle.graph_model.specs.meaning.Rules.{RaceAt, Exempt, modes_commute, Everywhere, FailsFirst}
 use Rattle.basics.proofs.ListFacts.{some_passes}
 use Rattle.race_check.specs.Paths.{PathsValue, path_in, IsPathTable}
-use Rattle.race_check.specs.Races.{AreAccesses, ListsClash, LinesClash, uses, shares_column, is_suspect}
+use Rattle.race_check.specs.Races.{AreAccesses, ListsClash, uses, shares_column, is_suspect}
 use Rattle.race_check.specs.Summaries.{ApartIn}
-use Rattle.race_check.specs.Words.{IsWordOf, bit_in}
+use Rattle.race_check.specs.Words.{IsWordOf}
+use Rattle.race_sweeps.specs.Clash.{LinesClash}
+use Rattle.race_sweeps.specs.Marks.{bit_in}
 use Rattle.race_check.proofs.RuleWords.{conflict_shares, shares_by, users_more}
 use Rattle.race_check.proofs.BeyondLines.{access_there}
 use Rattle.race_check.proofs.WordScan.{word_and, word_or, word_not, word_same}

@@ -1,48 +1,16 @@
 -- Tests made 64 at a time: a word of bits for 64 numbers, words joined like the tests, and the least number whose bit is set.
-use Rattle.std.proofs.Common.{◌≡◌, ℕ, zero, suc, ◌+◌, ◌-◌, ◌*◌, ◌/◌, ◌%◌, ◌^◌, ◌<◌, min, max, Bool, true, false, not, ◌&&◌, ◌||◌, inl, inr, List, refl, sym, ◌∙◌, ap, arith}
+use Rattle.std.proofs.Common.{◌≡◌, ℕ, ◌+◌, ◌-◌, ◌*◌, ◌/◌, ◌%◌, ◌^◌, ◌<◌, Bool, true, false, not, ◌&&◌, ◌||◌, inl, inr, List, sym, ◌∙◌, ap, arith}
 use Rattle.std.specs.Prelude.{◌==◌, slice_index}
 use Rattle.std.specs.Int.{bit_at, bit_not, trailing_zeros}
 use Rattle.std.specs.Int.RustNames.{bit_or}
 use lib.Bits.{bit_and}
 use mir.Syntax.{w64}
 use Rattle.std.proofs.lemmas.Bool.{eq-eqb, ne_eqb, cases_lt}
-use Rattle.std.proofs.lemmas.Nat.Bits.{bit_at_and, bit_at_or, bit_at_not, bit_at-lt, bit_at-zero, bit_at-trailing_zeros}
+use Rattle.std.proofs.lemmas.Nat.Bits.{bit_at-zero, bit_at-trailing_zeros}
 use Rattle.race_check.specs.Paths.{word_bit}
-use Rattle.race_check.specs.Words.{bit_in, IsWordOf, NoneBelow}
-
-min_bit : (x y : ℕ) → x < 2 → y < 2 → (min x y == 1) ≡ ((x == 1) && (y == 1))
-min_bit zero y a b = refl_zero y b
-  where
-    refl_zero : (y : ℕ) → y < 2 → (min 0 y == 1) ≡ ((0 == 1) && (y == 1))
-    refl_zero y b = ap (λ z. z == 1) (let e : min 0 y ≡ 0 = omega arith in e)
-min_bit (suc zero) zero a b = refl
-min_bit (suc zero) (suc zero) a b = refl
-min_bit (suc zero) (suc (suc y)) a b = absurd (omega arith)
-min_bit (suc (suc x)) y a b = absurd (omega arith)
-
-max_bit : (x y : ℕ) → x < 2 → y < 2 → (max x y == 1) ≡ ((x == 1) || (y == 1))
-max_bit zero zero a b = refl
-max_bit zero (suc zero) a b = refl
-max_bit zero (suc (suc y)) a b = absurd (omega arith)
-max_bit (suc zero) zero a b = refl
-max_bit (suc zero) (suc zero) a b = refl
-max_bit (suc zero) (suc (suc y)) a b = absurd (omega arith)
-max_bit (suc (suc x)) y a b = absurd (omega arith)
-
-not_bit : (x : ℕ) → x < 2 → (1 - x == 1) ≡ not (x == 1)
-not_bit zero a = refl
-not_bit (suc zero) a = refl
-not_bit (suc (suc x)) a = absurd (omega arith)
-
--- words joined by `&`, `|` and `!` have the bits joined so
-pub bit_in-and : (x y b : ℕ) → bit_in (bit_and x y) b ≡ (bit_in x b && bit_in y b)
-bit_in-and x y b = ap (λ z. z == 1) (bit_at_and x y b) ∙ min_bit (bit_at x b) (bit_at y b) (bit_at-lt x b) (bit_at-lt y b)
-
-pub bit_in-or : (x y b : ℕ) → bit_in (bit_or x y) b ≡ (bit_in x b || bit_in y b)
-bit_in-or x y b = ap (λ z. z == 1) (bit_at_or x y b) ∙ max_bit (bit_at x b) (bit_at y b) (bit_at-lt x b) (bit_at-lt y b)
-
-pub bit_in-not : (x b : ℕ) → x < 2 ^ 64 → b < 64 → bit_in (bit_not w64 x) b ≡ not (bit_in x b)
-bit_in-not x b fits below = ap (λ z. z == 1) (bit_at_not w64 x b fits below) ∙ not_bit (bit_at x b) (bit_at-lt x b)
+use Rattle.race_check.specs.Words.{IsWordOf, NoneBelow}
+use Rattle.race_sweeps.specs.Marks.{bit_in}
+use Rattle.race_sweeps.proofs.Bits.{bit_in-and, bit_in-or, bit_in-not}
 
 -- the bit of a number in a row is the bit in its word
 pub word_bit_at : (words : List ℕ) (w b : ℕ) → b < 64 → word_bit words (w * 64 + b) ≡ bit_in (slice_index words w) b

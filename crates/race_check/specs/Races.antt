@@ -1,24 +1,16 @@
 -- Which lines use a column, and which conflict.
-use Rattle.std.specs.Prelude.{◌≡◌, ℕ, ◌<◌, ◌==◌, Bool, true, not, ◌&&◌, ◌||◌, List, length, Contains, Some, Vec, slice_get}
+use Rattle.std.specs.Prelude.{◌≡◌, ℕ, ◌<◌, ◌==◌, Bool, not, ◌&&◌, ◌||◌, List, length, Contains, Some, Vec, slice_get}
 use Rattle.std.specs.Global.{Global}
 use Rattle.std.specs.List.{list_any}
 use Rattle.graph_model.specs.declared.graph.verb.Access.{Access}
 use Rattle.graph_model.specs.graph.Graph.{GraphValue, columns, named_spaces}
-use Rattle.graph_model.specs.graph.Access.{accesses, AccessesConflict}
-use Rattle.graph_model.specs.meaning.Rules.{modes_commute}
+use Rattle.graph_model.specs.graph.Access.{accesses}
+use Rattle.race_sweeps.specs.Clash.{Clash}
 use Rattle.race_check.specs.Paths.{PathsValue, path_in, word_bit, words_for}
 
--- two accesses conflict, other than by two sums unless sums count too
-pub record Clash (g : GraphValue) (sums : Bool) (a b : Access) : Type 0 where
-  pub conflict : AccessesConflict g a b
-  pub counts : (sums || not (modes_commute a.mode b.mode)) ≡ true
-
--- two lists have accesses that clash so, or two lines
+-- two lists have accesses that clash
 abbrev pub ListsClash : GraphValue → Bool → List Access → List Access → Type 0
 ListsClash g sums xs ys = (a : Access) × Contains xs a × ((b : Access) × Contains ys b × Clash g sums a b)
-
-abbrev pub LinesClash : GraphValue → Bool → ℕ → ℕ → Type 0
-LinesClash g sums i j = ListsClash g sums (accesses g i) (accesses g j)
 
 -- accesses over spaces of the graph
 abbrev pub AreSpacesKnown : GraphValue → List Access → Type 0

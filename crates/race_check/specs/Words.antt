@@ -1,10 +1,6 @@
 -- Tests of 64 numbers at a time, by the bits of a word.
-use Rattle.std.specs.Prelude.{◌≡◌, ℕ, ◌+◌, ◌*◌, ◌<◌, ◌==◌, Bool, false}
-use Rattle.std.specs.Int.{bit_at}
-
--- the bit of a number below 64 in a word
-abbrev pub bit_in : ℕ → ℕ → Bool
-bit_in word b = bit_at word b == 1
+use Rattle.std.specs.Prelude.{◌≡◌, ℕ, ◌+◌, ◌*◌, ◌<◌, Bool, false}
+use Rattle.race_sweeps.specs.Marks.{bit_in}
 
 -- a word has the tests of the 64 numbers from 64 * w on
 abbrev pub IsWordOf : (ℕ → Bool) → ℕ → ℕ → Type 0

@@ -1,20 +1,18 @@
 //! Which lines use a column, and which conflict.
 
-ghost use Rattle.std.specs.Prelude.{◌≡◌, ◌<◌, ◌||◌, ◌↔◌, not, length, Contains, IsTrue, IfOk};
+ghost use Rattle.std.specs.Prelude.{◌≡◌, ◌<◌, ◌↔◌, length, Contains, IsTrue, IfOk};
 ghost use Rattle.graph_model.specs.declared.graph.verb.Access.{Access};
 ghost use Rattle.graph_model.specs.graph.Graph.{named_spaces};
-ghost use Rattle.graph_model.specs.graph.Access.{accesses, modes_clash};
-ghost use Rattle.graph_model.specs.meaning.Rules.{modes_commute};
-ghost use Rattle.race_check.specs.Races.{AreAccesses, AreSpacesKnown, Clash, ListsClash, uses};
+ghost use Rattle.graph_model.specs.graph.Access.{accesses};
+ghost use Rattle.race_check.specs.Races.{AreAccesses, AreSpacesKnown, ListsClash, uses};
+ghost use Rattle.race_sweeps.specs.Clash.{Clash};
 
 use graph_model::graph::Graph;
-use graph_model::verb::{Access, Mode};
+use graph_model::verb::Access;
 use index_spaces::NoMemory;
 use index_spaces::room::push;
+use race_sweeps::clash::{MOST_ACCESSES, clash};
 use std::alloc::Global;
-
-/// A line has at most three accesses.
-pub(crate) const MOST_ACCESSES: u32 = 3;
 
 /// For each line its accesses, in order.
 pub(crate) fn accesses_of_lines(alloc: Global, graph: &Graph) -> Result<Vec<Vec<Access>>, NoMemory>
@@ -70,30 +68,6 @@ fn clashes_with(graph: &Graph, one: Access, others: &[Access], sums: bool) -> bo
         }
     }
     false
-}
-
-/// Whether two accesses clash.
-fn clash(graph: &Graph, one: Access, other: Access, sums: bool) -> bool
-    requires one { one.space < length (named_spaces graph.now) }
-    requires other { other.space < length (named_spaces graph.now) }
-    ensures { IsTrue result ↔ Clash graph.now sums one other }
-{
-    one.column == other.column
-        && modes_clash(one.mode, other.mode)
-        && (sums || !modes_commute(one.mode, other.mode))
-        && graph.space(one.space).meets(graph.space(other.space))
-}
-
-fn modes_clash(one: Mode, other: Mode) -> bool
-    ensures { result ≡ modes_clash one other }
-{
-    !matches!((one, other), (Mode::Read, Mode::Read))
-}
-
-fn modes_commute(one: Mode, other: Mode) -> bool
-    ensures { result ≡ modes_commute one other }
-{
-    matches!((one, other), (Mode::Sum, Mode::Sum))
 }
 
 /// Whether a line uses a column.

@@ -8,10 +8,11 @@ ghost use Rattle.race_check.specs.Summaries.{AreSummed};
 ghost use Rattle.race_check.specs.Paths.{PathsValue, IsPathTable, words_for};
 ghost use Rattle.race_check.specs.Releases.{AreReleases};
 ghost use Rattle.race_check.specs.Words.{IsWordOf};
-ghost use Rattle.race_check.specs.Races.{AreUserRows, IsUserRow, LinesClash, shares_column, is_suspect};
+ghost use Rattle.race_check.specs.Races.{AreUserRows, IsUserRow, shares_column, is_suspect};
+ghost use Rattle.race_sweeps.specs.Clash.{LinesClash};
 ghost use Rattle.race_check.specs.Rivals.{AreRivals};
 
-use crate::conflicts::{MOST_ACCESSES, accesses_of_lines, some_clash, uses};
+use crate::conflicts::{accesses_of_lines, some_clash, uses};
 use crate::order::Order;
 use crate::paths::PathTable;
 use crate::rows::{add_line, empty_row, has_bit, word_at};
@@ -23,6 +24,7 @@ use graph_model::verb::Access;
 use index_spaces::NoMemory;
 use index_spaces::room::push;
 use race_sweeps::are_settled;
+use race_sweeps::clash::MOST_ACCESSES;
 use std::alloc::Global;
 
 /// The least line and the least line after it that conflict, have no path either way and are not

@@ -2,7 +2,8 @@
 
 ghost use Rattle.std.specs.Prelude.{◌≡◌, ℕ, ◌<◌, ◌/◌, ◌==◌, ◌||◌, false, length, IfOk};
 ghost use Rattle.race_check.specs.Paths.{word_bit};
-ghost use Rattle.race_check.specs.Words.{IsWordOf, bit_in};
+ghost use Rattle.race_check.specs.Words.{IsWordOf};
+ghost use Rattle.race_sweeps.specs.Marks.{bit_in};
 
 use index_spaces::NoMemory;
 use index_spaces::room::push;

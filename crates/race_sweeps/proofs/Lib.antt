@@ -10,6 +10,7 @@ pub mod Conflicts
 pub mod Nearness
 pub mod Listed
 pub mod Classing
+pub mod Guarding
 pub mod Asking
 pub mod Walking
 pub mod Settling

@@ -1,15 +1,18 @@
 -- In which sections two lines lie.
-use Rattle.std.proofs.Common.{◌≡◌, ℕ, ◌+◌, ◌<◌, ◌≤◌, false, not, inl, inr, length, refl, sym, ◌∙◌, ap, subst, arith}
-use Rattle.std.specs.Prelude.{Option, Some, None, Vec, is_some}
+use Rattle.std.proofs.Common.{◌≡◌, ℕ, ◌+◌, ◌<◌, ◌≤◌, true, false, not, inl, inr, List, length, refl, sym, ◌∙◌, ap, subst, arith}
+use Rattle.std.specs.Prelude.{Option, Some, None, Vec, is_some, slice_get}
+use Rattle.std.specs.Option.{option_map_or}
 use Rattle.std.specs.Global.{Global}
 use Rattle.std.specs.List.{slice_index_or}
 use Rattle.std.proofs.lemmas.Bool.{true≢false, cases_lt, cases_Bool}
-use Rattle.graph_model.specs.graph.Graph.{GraphValue, locks}
+use Rattle.graph_model.specs.graph.Graph.{GraphValue, locks, is_acquire_of}
 use Rattle.graph_model.specs.graph.Fits.{IsGraph}
 use Rattle.graph_model.specs.meaning.Rules.{Section, modes_commute}
 use Rattle.graph_model.proofs.ReleaseFacts.{acquired_lock_known}
+use Rattle.graph_model.proofs.VerbFacts.{passes_below}
+use Rattle.std.proofs.lemmas.Option.{none-some, slice_get_past}
 use Rattle.race_sweeps.specs.declared.held.Held.{Held}
-use Rattle.race_sweeps.specs.Held.{IsHeld, IsHeldRow, LieApart, AreDifferent}
+use Rattle.race_sweeps.specs.Held.{IsHeld, IsHeldRow, LieApart, AreDifferent, acquire_in}
 use Rattle.race_sweeps.specs.Clash.{LinesClash}
 use Rattle.race_sweeps.specs.Settled.{IsSettled}
 
@@ -31,6 +34,31 @@ free_more g i k row h known none before l q small s = elim (cases_lt l k) [
   | inl low ↦ before l q low s
   | inr up ↦ h.none i q known none (subst (λ z. Section g z q i) (let e : l ≡ k = omega arith in e) s)
 ]
+
+-- an acquire that is kept is a line, in whose section the line lies
+acquire_below : (g : GraphValue) (l i q : ℕ) → Section g l q i → q < length g.lines
+acquire_below g l i q s = passes_below (is_acquire_of l) g q s.acquires
+
+pub none_kept : (h : Held) (l i : ℕ) (rows : List (Vec (Option ℕ) Global)) → rows ≡ h.acquires.items → length rows ≤ l → None ≡ acquire_in h l i
+none_kept h l i rows is past = sym (ap (λ o. option_map_or (λ (row : Vec (Option ℕ) Global). slice_index_or row.items i None) o None) (ap (λ xs. slice_get xs l) (sym is) ∙ slice_get_past rows l past))
+
+section_from : (g : GraphValue) (l i q : ℕ) (o : Option (Vec (Option ℕ) Global)) → ((row : Vec (Option ℕ) Global) → o ≡ Some row → IsHeldRow g l row) → option_map_or (λ (row : Vec (Option ℕ) Global). slice_index_or row.items i None) o None ≡ Some q → Section g l q i
+section_from g l i q None each e = absurd (none-some q e)
+section_from g l i q (Some row) each e = (each row refl).is i q e
+
+pub section_kept : (g : GraphValue) (h : Held) → IsHeld g h → (l i q : ℕ) → acquire_in h l i ≡ Some q → Section g l q i
+section_kept g h is l i q e = section_from g l i q (slice_get h.acquires.items l) (is.each l) e
+
+pub acquire_known : (g : GraphValue) (h : Held) → IsHeld g h → (l i q : ℕ) (o : Option ℕ) → o ≡ acquire_in h l i → o ≡ Some q → q < length g.lines
+acquire_known g h is l i q o e at = acquire_below g l i q (section_kept g h is l i q (sym e ∙ at))
+
+pub section_some : (g : GraphValue) (h : Held) → IsHeld g h → (l i : ℕ) (o : Option ℕ) → o ≡ acquire_in h l i → is_some o ≡ true → (q : ℕ) × Section g l q i
+section_some g h is l i None e some = absurd (true≢false (sym some))
+section_some g h is l i (Some q) e some = (q, section_kept g h is l i q (sym e))
+
+-- lines for which different acquires of one reservation are kept lie apart
+pub kept_apart : (g : GraphValue) (h : Held) → IsHeld g h → (l i j q k : ℕ) → acquire_in h l i ≡ Some q → acquire_in h l j ≡ Some k → (q ≡ k → ⊥) → LieApart g i j
+kept_apart g h is l i j q k a b apart = (l, q, k, apart, section_kept g h is l i q a, section_kept g h is l j k b)
 
 pub none_read : (o p : Option ℕ) → o ≡ p → is_some o ≡ false → p ≡ None
 none_read o p e f = sym e ∙ none_of o f

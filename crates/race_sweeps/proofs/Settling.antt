@@ -1,6 +1,6 @@
 -- Conflicts that are answered for are settled: a hard access between two lines has a path from the one and to the other.
-use Rattle.std.proofs.Common.{◌≡◌, ℕ, zero, suc, ◌+◌, ◌<◌, ◌≤◌, ◌⊎◌, true, false, inl, inr, List, [], ◌∷◌, length, refl, sym, ◌∙◌, ap, subst, arith}
-use Rattle.std.specs.Prelude.{Contains, IsTrue, option_map, slice_get, slice_index}
+use Rattle.std.proofs.Common.{◌≡◌, ℕ, zero, suc, ◌+◌, ◌<◌, ◌≤◌, ◌⊎◌, true, false, not, inl, inr, List, [], ◌∷◌, length, refl, sym, ◌∙◌, ap, subst, arith}
+use Rattle.std.specs.Prelude.{◌≢◌, Contains, IsTrue, option_map, slice_get, slice_index}
 use Rattle.std.specs.Option.{option_map_or}
 use Rattle.std.proofs.lemmas.Bool.{true≢false, cases_order}
 use Rattle.index_spaces.specs.Space.{has_point}
@@ -20,7 +20,9 @@ use Rattle.basics.proofs.ListFacts.{contains_none}
 use Rattle.race_sweeps.specs.Placed.{IsPlaced}
 use Rattle.race_sweeps.specs.Scan.{IsHard, HasHard, AreAnsweredAt}
 use Rattle.race_sweeps.specs.Settled.{IsSettled}
-use Rattle.race_sweeps.proofs.Conflicts.{lines_back, exempt_back, conflict_back}
+use Rattle.race_sweeps.specs.Held.{LieApart}
+use Rattle.race_sweeps.proofs.Conflicts.{lines_back, exempt_back, conflict_back, commute_back, apart_back, lines_decided}
+use Rattle.race_sweeps.proofs.Sections.{exempt_by}
 
 -- a line that has an access is there
 access_there : (ls : List Line) (i : ℕ) (a : Access) → Contains (option_map_or verb_accesses (option_map (λ (l : Line). l.verb) (slice_get ls i)) []) a → i < length ls
@@ -43,6 +45,10 @@ never_commutes Read = refl
 never_commutes Write = refl
 never_commutes Sum = refl
 
+-- two accesses that conflict have a path one way or the other, or commute and lie in sections that are apart
+abbrev IsFine : GraphValue → ℕ → ℕ → Access → Access → Type 0
+IsFine g i j a b = HasPath g i j ⊎ (HasPath g j i ⊎ (IsTrue (modes_commute a.mode b.mode) × LieApart g i j))
+
 module _ (g : GraphValue) where
   hard_clash : (i : ℕ) (m n : Mode) → IsHard g i n → modes_clash m n ≡ true
   hard_clash i m n (inl w) = ap (modes_clash m) w ∙ clash_write m
@@ -63,10 +69,33 @@ module _ (g : GraphValue) where
     clash = hard_clash i a.mode h.mode hard;
   }
 
-  -- no exemption covers it
-  not_exempt : (i w : ℕ) (a h : Access) → Contains (accesses g i) a → Contains (accesses g w) h → AccessesConflict g a h → IsHard g w h.mode → Exempt g i w → ⊥
-  not_exempt i w a h ha hh c (inl write) x = true≢false (sym (x.sums a h ha hh c) ∙ (ap (modes_commute a.mode) write ∙ never_commutes a.mode))
-  not_exempt i w a h ha hh c (inr sum) x = sum.1 x.lock x.other x.other_section
+  -- no sections set it apart from another one
+  not_apart : (i w : ℕ) (a h : Access) → IsHard g w h.mode → IsTrue (modes_commute a.mode h.mode) → LieApart g i w → ⊥
+  not_apart i w a h (inl write) commute apart = true≢false (sym commute ∙ (ap (modes_commute a.mode) write ∙ never_commutes a.mode))
+  not_apart i w a h (inr sum) commute apart = sum.1 apart.0 apart.2 apart.5
+
+  -- what lines that are settled tell of two of their accesses
+  fine_by : (i j : ℕ) (a b : Access) → i ≢ j → Contains (accesses g i) a → Contains (accesses g j) b → AccessesConflict g a b → IsSettled g i j → IsFine g i j a b
+  fine_by i j a b apart ha hb c settled = elim (settled (record { different = apart; one = a; other = b; one_in = ha; other_in = hb; conflict = c })) [
+    | inl path ↦ inl path
+    | inr (inl back) ↦ inr (inl back)
+    | inr (inr x) ↦ inr (inr (x.sums a b ha hb c, (x.lock, x.one, x.other, x.different, x.one_section, x.other_section)))
+  ]
+
+  -- lines are settled where all their accesses that conflict are
+  settled_all : (i j : ℕ) → ((a b : Access) → Contains (accesses g i) a → Contains (accesses g j) b → AccessesConflict g a b → IsFine g i j a b) → IsSettled g i j
+  settled_all i j fine c = elim (fine c.one c.other c.one_in c.other_in c.conflict) [
+    | inl path ↦ inl path
+    | inr (inl back) ↦ inr (inl back)
+    | inr (inr both) ↦ elim (lines_decided g i j) [
+      | inr soft ↦ exempt_by g i j soft both.1 c
+      | inl hard ↦ elim (fine hard.0 hard.2.0 hard.1 hard.2.1 hard.2.2.conflict) [
+        | inl path ↦ inl path
+        | inr (inl back) ↦ inr (inl back)
+        | inr (inr again) ↦ absurd (true≢false (sym hard.2.2.counts ∙ ap not again.0))
+      ]
+    ]
+  ]
 
 module _ (g : GraphValue) (fits : IsGraph g) (between : EdgesBetweenLines) (lines : List ℕ) (placed : IsPlaced g lines) where
   -- paths lead forward
@@ -77,32 +106,28 @@ module _ (g : GraphValue) (fits : IsGraph g) (between : EdgesBetweenLines) (line
       let low : p < r.0 = placed.forward e p r.0 c hp r.1 (at ∙ sym f) r.2 in
       let high : r.0 < q = forward rest r.0 q r.1 hq r.2 to in omega arith
 
-  -- two lines that are settled by a conflict with a hard access have a path forward
-  path_to_hard : (x w : ℕ) (a h : Access) → x < w → w < length lines → Contains (accesses g (slice_index lines x)) a → Contains (accesses g (slice_index lines w)) h → AccessesConflict g a h → IsHard g (slice_index lines w) h.mode → IsSettled g (slice_index lines x) (slice_index lines w) →
-      HasPath g (slice_index lines x) (slice_index lines w)
-  path_to_hard x w a h low high ha hh c hard settled = elim (settled (record { different = apart; one = a; other = h; one_in = ha; other_in = hh; conflict = c })) [
+  -- all accesses of two places that conflict are settled
+  abbrev AreFine : ℕ → ℕ → Type 0
+  AreFine x u = (a b : Access) → Contains (accesses g (slice_index lines x)) a → Contains (accesses g (slice_index lines u)) b → AccessesConflict g a b → IsFine g (slice_index lines x) (slice_index lines u) a b
+
+  -- two lines have a path forward where one has a hard access that conflicts with one of the other
+  path_to_hard : (x w : ℕ) (a h : Access) → x < w → w < length lines → Contains (accesses g (slice_index lines x)) a → Contains (accesses g (slice_index lines w)) h → AccessesConflict g a h → IsHard g (slice_index lines w) h.mode → AreFine x w → HasPath g (slice_index lines x) (slice_index lines w)
+  path_to_hard x w a h low high ha hh c hard fine = elim (fine a h ha hh c) [
     | inl path ↦ path
     | inr (inl back) ↦ (let up : w < x = forward back w x high (omega arith) refl refl in absurd (omega arith))
-    | inr (inr exempt) ↦ absurd (not_exempt g (slice_index lines x) (slice_index lines w) a h ha hh c hard exempt)
+    | inr (inr both) ↦ absurd (not_apart g (slice_index lines x) (slice_index lines w) a h hard both.0 both.1)
   ]
-    where
-      apart : slice_index lines x ≡ slice_index lines w → ⊥
-      apart same = placed.distinct x w low high same
 
-  path_from_hard : (w u : ℕ) (h b : Access) → w < u → u < length lines → Contains (accesses g (slice_index lines w)) h → Contains (accesses g (slice_index lines u)) b → AccessesConflict g b h → IsHard g (slice_index lines w) h.mode → IsSettled g (slice_index lines w) (slice_index lines u) →
-      HasPath g (slice_index lines w) (slice_index lines u)
-  path_from_hard w u h b low high hh hb c hard settled = elim (settled (record { different = apart; one = h; other = b; one_in = hh; other_in = hb; conflict = conflict_back g b h c })) [
+  path_from_hard : (w u : ℕ) (h b : Access) → w < u → u < length lines → Contains (accesses g (slice_index lines w)) h → Contains (accesses g (slice_index lines u)) b → AccessesConflict g b h → IsHard g (slice_index lines w) h.mode → AreFine w u → HasPath g (slice_index lines w) (slice_index lines u)
+  path_from_hard w u h b low high hh hb c hard fine = elim (fine h b hh hb (conflict_back g b h c)) [
     | inl path ↦ path
     | inr (inl back) ↦ (let up : u < w = forward back u w high (omega arith) refl refl in absurd (omega arith))
-    | inr (inr exempt) ↦ absurd (not_exempt g (slice_index lines u) (slice_index lines w) b h hb hh c hard (exempt_back g (slice_index lines w) (slice_index lines u) exempt))
+    | inr (inr both) ↦ absurd (not_apart g (slice_index lines u) (slice_index lines w) b h hard (commute_back b.mode h.mode ∙ both.0) (apart_back g (slice_index lines w) (slice_index lines u) both.1))
   ]
-    where
-      apart : slice_index lines w ≡ slice_index lines u → ⊥
-      apart same = placed.distinct w u low high same
 
   -- a path through a hard access
   path_through : (x w u : ℕ) (a b : Access) → x < w → w < u → u < length lines → Contains (accesses g (slice_index lines x)) a → Contains (accesses g (slice_index lines u)) b → AccessesConflict g a b →
-      HasHard g (slice_index lines w) a.column a.space ⊎ HasHard g (slice_index lines w) b.column b.space → IsSettled g (slice_index lines x) (slice_index lines w) → IsSettled g (slice_index lines w) (slice_index lines u) → HasPath g (slice_index lines x) (slice_index lines u)
+      HasHard g (slice_index lines w) a.column a.space ⊎ HasHard g (slice_index lines w) b.column b.space → AreFine x w → AreFine w u → HasPath g (slice_index lines x) (slice_index lines u)
   path_through x w u a b low high known ha hb c (inl h) before behind = path_append
       (path_to_hard x w a h.access low (omega arith) ha h.listed (same_conflict g (slice_index lines w) a b h.access c h.column_is h.space_is h.hard) h.hard before)
       (path_from_hard w u h.access b high known h.listed hb (first_conflict g (slice_index lines w) b a h.access (conflict_back g a b c) (h.column_is ∙ c.column) h.space_is h.hard) h.hard behind)
@@ -111,16 +136,20 @@ module _ (g : GraphValue) (fits : IsGraph g) (between : EdgesBetweenLines) (line
       (path_from_hard w u h.access b high known h.listed hb (same_conflict g (slice_index lines w) b a h.access (conflict_back g a b c) h.column_is h.space_is h.hard) h.hard behind)
 
   module _ (answered : (u : ℕ) → u < length lines → AreAnsweredAt g lines u) where
-    settled_within : (d x u : ℕ) → x < u → u < length lines → u ≤ x + d → IsSettled g (slice_index lines x) (slice_index lines u)
-    settled_within zero x u low high near c = absurd (omega arith)
-    settled_within (suc d) x u low high near c = elim (answered u high x c.one c.other low c.one_in c.other_in c.conflict) [
-      | inl settled ↦ settled c
-      | inr hard ↦ (
+    fine_within : (d x u : ℕ) → x < u → u < length lines → u ≤ x + d → AreFine x u
+    fine_within zero x u low high near a b ha hb c = absurd (omega arith)
+    fine_within (suc d) x u low high near a b ha hb c = elim (answered u high x a b low ha hb c) [
+      | inl settled ↦ fine_by g (slice_index lines x) (slice_index lines u) a b (λ same. placed.distinct x u low high same) ha hb c settled
+      | inr (inl both) ↦ inr (inr both)
+      | inr (inr hard) ↦ (
           let w = hard.0 in
           let low' : x < w = hard.1 in
           let high' : w < u = hard.2 in
-          inl (path_through x w u c.one c.other low' high' high c.one_in c.other_in c.conflict hard.3 (settled_within d x w low' (omega arith) (omega arith)) (settled_within d w u high' high (omega arith))))
+          inl (path_through x w u a b low' high' high ha hb c hard.3 (fine_within d x w low' (omega arith) (omega arith)) (fine_within d w u high' high (omega arith))))
     ]
+
+    settled_within : (d x u : ℕ) → x < u → u < length lines → u ≤ x + d → IsSettled g (slice_index lines x) (slice_index lines u)
+    settled_within d x u low high near = settled_all g (slice_index lines x) (slice_index lines u) (fine_within d x u low high near)
 
     pub all_settled : EverywhereTwice (RaceAt g)
     all_settled i j low c =

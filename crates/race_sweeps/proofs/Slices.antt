@@ -6,16 +6,18 @@ use Rattle.std.proofs.lemmas.Option.{none-some, same_Some, slice_get-get_or}
 use Rattle.graph_model.specs.declared.graph.verb.Access.{Access}
 use Rattle.graph_model.specs.graph.Graph.{GraphValue}
 use Rattle.graph_model.specs.graph.Access.{accesses, AccessesConflict, modes_clash}
+use Rattle.graph_model.specs.meaning.Rules.{modes_commute}
 use Rattle.race_sweeps.specs.declared.marks.Mark.{Mark}
 use Rattle.race_sweeps.specs.declared.table.Table.{Table}
 use Rattle.race_sweeps.specs.Classes.{class_at, key_of, AreClasses}
+use Rattle.race_sweeps.specs.Guards.{AreGuarded}
 use Rattle.race_sweeps.specs.Marks.{bit_in}
 use Rattle.race_sweeps.specs.Scan.{IsHardTo, IsAskable, IsMarkAsked, IsWalked, AreAnsweredAt}
 use Rattle.race_sweeps.specs.ScanState.{AreGrouped}
 use Rattle.race_sweeps.specs.Settled.{IsSettled}
 use Rattle.race_sweeps.specs.Table.{IsTable}
 use Rattle.race_sweeps.proofs.AccessSteps.{few_accesses}
-use Rattle.race_sweeps.proofs.Conflicts.{conflict_back}
+use Rattle.race_sweeps.proofs.Conflicts.{conflict_back, commute_back}
 
 -- the class of an access
 class_by : (keys : List Access) (o : Option ℕ) (a : Access) → key_of keys o ≡ Some a → (c : ℕ) × (o ≡ Some c) × (slice_get keys c ≡ Some a)
@@ -68,13 +70,21 @@ module _ (g : GraphValue) (t : Table) (is : IsTable g t) (hard : List ℕ) (grou
             let up : x < w = own in
             let key : slice_get t.keys.items mark.mark.class ≡ Some b = ap (slice_get t.keys.items) mark.class ∙ two.2.2 in
             let below : w < first = hards.below mark.mark.class (omega arith) in
-            inr (w, up, omega arith, inr (hards.is mark.mark.class b key (omega arith))))
+            inr (inr (w, up, omega arith, inr (hards.is mark.mark.class b key (omega arith)))))
         | inr (inl other) ↦ (
             let w = slice_index hard d in
             let up : x < w = other in
             let below : w < first = hards.below d (omega arith) in
-            inr (w, up, omega arith, inl (hards.is d a one.2.2 (omega arith))))
-        | inr (inr marked) ↦ (
+            inr (inr (w, up, omega arith, inl (hards.is d a one.2.2 (omega arith)))))
+        | inr (inr (inl guarded)) ↦ (
+            let own = subst (λ z. AreGuarded t.keys.items t.guards.items z d) mark.class guarded.0 in
+            let up : x < mark.mark.floor = guarded.1 in
+            let floor : mark.mark.floor ≤ slice_index t.starts.items (3 * u + two.0) = mark.floor in
+            inr (inl (
+              commute_back a.mode b.mode ∙ (ap (λ (z : Access). modes_commute z.mode a.mode) (same_Some b own.one (sym two.2.2 ∙ own.one_is)) ∙ (ap (λ (z : Access). modes_commute own.one.mode z.mode) (same_Some a own.other (sym one.2.2 ∙ own.other_is)) ∙ own.commute)),
+              is.guards_are.apart x j u two.0 c d few k one.2.1 two.2.1 own (omega arith),
+            )))
+        | inr (inr (inr marked)) ↦ (
             let low' : u - first < 64 = omega arith in
             let at : first + (u - first) ≡ u = omega arith in
             inl (subst (λ z. IsSettled g (slice_index lines x) (slice_index lines z)) at

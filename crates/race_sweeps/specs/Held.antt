@@ -2,6 +2,7 @@
 use Rattle.std.specs.Prelude.{◌≡◌, ◌≢◌, ℕ, ◌<◌, length, Option, Some, None, Vec, slice_get}
 use Rattle.std.specs.Global.{Global}
 use Rattle.std.specs.List.{slice_index_or}
+use Rattle.std.specs.Option.{option_map_or}
 use Rattle.graph_model.specs.graph.Graph.{GraphValue, locks}
 use Rattle.graph_model.specs.meaning.Rules.{Section}
 use Rattle.race_sweeps.specs.declared.held.Held.{Held}
@@ -15,6 +16,10 @@ pub record IsHeldRow (g : GraphValue) (l : ℕ) (row : Vec (Option ℕ) Global) 
 pub record IsHeld (g : GraphValue) (h : Held) : Type 0 where
   pub count : length h.acquires.items ≡ length (locks g)
   pub each : (l : ℕ) (row : Vec (Option ℕ) Global) → slice_get h.acquires.items l ≡ Some row → IsHeldRow g l row
+
+-- the acquire that is kept for reservation l and line i
+abbrev pub acquire_in : Held → ℕ → ℕ → Option ℕ
+acquire_in h l i = option_map_or (λ (row : Vec (Option ℕ) Global). slice_index_or row.items i None) (slice_get h.acquires.items l) None
 
 -- two lines lie in sections of two different acquires of one reservation
 abbrev pub LieApart : GraphValue → ℕ → ℕ → Type 0

@@ -3,6 +3,7 @@ pub mod Held
 pub mod Placed
 pub mod Settled
 pub mod Classes
+pub mod Guards
 pub mod Table
 pub mod Marks
 pub mod Members

@@ -1,14 +1,16 @@
 -- The scan for conflicts that no path settles, 64 lines at a time.
-use Rattle.std.specs.Prelude.{◌≡◌, ◌≢◌, ℕ, ◌+◌, ◌*◌, ◌<◌, ◌≤◌, ◌⊎◌, true, List, length, Some, Contains, slice_get, slice_index}
+use Rattle.std.specs.Prelude.{◌≡◌, ◌≢◌, ℕ, ◌+◌, ◌*◌, ◌<◌, ◌≤◌, ◌⊎◌, true, List, length, Some, IsTrue, Contains, slice_get, slice_index}
 use Rattle.graph_model.specs.declared.graph.verb.Access.{Access}
 use Rattle.graph_model.specs.declared.graph.verb.Mode.{Mode}
 use Rattle.graph_model.specs.declared.graph.verb.Mode.TheVariants.{Read, Write, Sum}
 use Rattle.graph_model.specs.graph.Graph.{GraphValue}
 use Rattle.graph_model.specs.graph.Access.{accesses, AccessesConflict}
-use Rattle.graph_model.specs.meaning.Rules.{Section}
+use Rattle.graph_model.specs.meaning.Rules.{Section, modes_commute}
 use Rattle.race_sweeps.specs.declared.marks.Mark.{Mark}
 use Rattle.race_sweeps.specs.declared.table.Table.{Table}
 use Rattle.race_sweeps.specs.Classes.{class_at, IsNear}
+use Rattle.race_sweeps.specs.Guards.{AreGuarded}
+use Rattle.race_sweeps.specs.Held.{LieApart}
 use Rattle.race_sweeps.specs.Marks.{bit_in, IsMarked}
 use Rattle.race_sweeps.specs.Settled.{IsSettled}
 
@@ -34,14 +36,14 @@ pub record IsHardTo (g : GraphValue) (t : Table) (hard : List ℕ) (limit : ℕ)
 abbrev pub IsAskable : Table → ℕ → ℕ → Type 0
 IsAskable t c d = IsNear t.near.items c d ⊎ ((d ≡ c) × ((a : Access) × (slice_get t.keys.items c ≡ Some a) × (a.mode ≢ Read)))
 
--- the members of class d below number `limit` are asked about each line of a word, but those that a hard access of class c or d follows
-abbrev pub IsAsked : Table → List ℕ → List Mark → ℕ → ℕ → ℕ → ℕ → Type 0
-IsAsked t hard asks limit c word d = (x k b : ℕ) → k < 3 → 3 * x + k < limit → class_at t.classes.items (3 * x + k) ≡ Some d → bit_in word b ≡ true →
-    (x < slice_index hard c) ⊎ ((x < slice_index hard d) ⊎ IsMarked asks d b x)
+-- the members of class d below number `limit` are asked about each line of a mark, but those that a hard access of the mark's class or of d follows, and those before the mark's floor where both classes are guarded
+abbrev pub IsAsked : Table → List ℕ → List Mark → ℕ → Mark → ℕ → Type 0
+IsAsked t hard asks limit m d = (x k b : ℕ) → k < 3 → 3 * x + k < limit → class_at t.classes.items (3 * x + k) ≡ Some d → bit_in m.word b ≡ true →
+    (x < slice_index hard m.class) ⊎ ((x < slice_index hard d) ⊎ ((AreGuarded t.keys.items t.guards.items m.class d × (x < m.floor)) ⊎ IsMarked asks d b x))
 
 -- and this for each class that a mark asks about
 abbrev pub IsMarkAsked : Table → List ℕ → List Mark → ℕ → Mark → Type 0
-IsMarkAsked t hard asks limit m = (d : ℕ) → IsAskable t m.class d → IsAsked t hard asks limit m.class m.word d
+IsMarkAsked t hard asks limit m = (d : ℕ) → IsAskable t m.class d → IsAsked t hard asks limit m d
 
 -- each line of a word that stands behind place x is settled with the line there
 abbrev pub AreSettledWith : GraphValue → List ℕ → ℕ → ℕ → ℕ → Type 0
@@ -51,10 +53,11 @@ AreSettledWith g lines first x word = (b : ℕ) → b < 64 → bit_in word b ≡
 abbrev pub IsWalked : GraphValue → Table → ℕ → ℕ → Mark → Type 0
 IsWalked g t first limit m = (x k : ℕ) → k < 3 → 3 * x + k < limit → class_at t.classes.items (3 * x + k) ≡ Some m.class → m.floor ≤ x → AreSettledWith g t.lines.items first x m.word
 
--- an access of the line at place x and one of the line at place u are answered for: by the lines themselves, or by a hard access of one of the two spaces between them
+-- an access of the line at place x and one of the line at place u are answered for: by the lines themselves, by their sections where the modes commute, or by a hard access of one of the two spaces between them
 abbrev pub IsAnswered : GraphValue → List ℕ → ℕ → ℕ → Access → Access → Type 0
 IsAnswered g lines x u a b = IsSettled g (slice_index lines x) (slice_index lines u)
-    ⊎ ((w : ℕ) × (x < w) × (w < u) × (HasHard g (slice_index lines w) a.column a.space ⊎ HasHard g (slice_index lines w) b.column b.space))
+    ⊎ ((IsTrue (modes_commute a.mode b.mode) × LieApart g (slice_index lines x) (slice_index lines u))
+    ⊎ ((w : ℕ) × (x < w) × (w < u) × (HasHard g (slice_index lines w) a.column a.space ⊎ HasHard g (slice_index lines w) b.column b.space)))
 
 -- all conflicts of the line at place u with lines before it are answered for
 abbrev pub AreAnsweredAt : GraphValue → List ℕ → ℕ → Type 0

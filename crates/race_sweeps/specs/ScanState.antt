@@ -1,5 +1,5 @@
 -- What holds between the slices of a scan.
-use Rattle.std.specs.Prelude.{◌≡◌, ℕ, ◌*◌, ◌-◌, ◌/◌, ◌<◌, ◌≤◌, List, length, Some}
+use Rattle.std.specs.Prelude.{◌≡◌, ℕ, ◌*◌, ◌-◌, ◌/◌, ◌<◌, ◌≤◌, List, length, Some, slice_index}
 use Rattle.graph_model.specs.graph.Graph.{GraphValue}
 use Rattle.race_sweeps.specs.declared.marks.Mark.{Mark}
 use Rattle.race_sweeps.specs.declared.members.Members.{Members}
@@ -25,6 +25,6 @@ pub record IsScanned (g : GraphValue) (t : Table) (s : Scan) (first : ℕ) : Typ
   pub groups : length s.groups.slots.items ≡ length t.keys.items
   pub asks : length s.asks.slots.items ≡ length t.keys.items
 
--- the accesses of a slice up to a number are in the groups of their classes
+-- the accesses of a slice up to a number are in the groups of their classes, with floors up to their starts
 abbrev pub AreGrouped : Table → List Mark → ℕ → ℕ → Type 0
-AreGrouped t groups first m = (r c : ℕ) → 3 * first ≤ r → r < m → class_at t.classes.items r ≡ Some c → IsMarked groups c (r / 3 - first) 0
+AreGrouped t groups first m = (r c : ℕ) → 3 * first ≤ r → r < m → class_at t.classes.items r ≡ Some c → IsMarked groups c (r / 3 - first) (slice_index t.starts.items r)

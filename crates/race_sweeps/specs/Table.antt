@@ -2,6 +2,7 @@
 use Rattle.graph_model.specs.graph.Graph.{GraphValue}
 use Rattle.race_sweeps.specs.Placed.{IsPlaced, ArePlaces}
 use Rattle.race_sweeps.specs.Classes.{AreClasses, AreNear}
+use Rattle.race_sweeps.specs.Guards.{AreGuards}
 use Rattle.race_sweeps.specs.declared.table.Table.{Table}
 
 pub record IsTable (g : GraphValue) (t : Table) : Type 0 where
@@ -9,3 +10,4 @@ pub record IsTable (g : GraphValue) (t : Table) : Type 0 where
   pub places_are : ArePlaces t.lines.items t.places.items
   pub classes_are : AreClasses g t.lines.items t.keys.items t.classes.items
   pub near_are : AreNear g t.keys.items t.near.items
+  pub guards_are : AreGuards g t.lines.items t.keys.items t.classes.items t.guards.items t.starts.items

@@ -15,7 +15,7 @@ use graph_model::line_laws::accesses_fit;
 use graph_model::verb::{Access, Mode};
 
 /// A line has at most three accesses.
-pub(crate) const MOST_ACCESSES: u32 = 3;
+pub const MOST_ACCESSES: u32 = 3;
 
 /// Whether two lines do not conflict, or by sums alone and in sections of two different acquires
 /// of one reservation.
@@ -72,8 +72,9 @@ fn clashes_with(graph: &Graph, one: Access, line: u32, sums: bool) -> bool
     false
 }
 
-/// Whether two accesses clash.
-pub(crate) fn clash(graph: &Graph, one: Access, other: Access, sums: bool) -> bool
+/// Whether two accesses are of one column at a shared point and not both reads, and, unless sums
+/// count too, not both sums.
+pub fn clash(graph: &Graph, one: Access, other: Access, sums: bool) -> bool
     requires one { one.space < length (named_spaces graph.now) }
     requires other { other.space < length (named_spaces graph.now) }
     ensures { IsTrue result ↔ Clash graph.now sums one other }

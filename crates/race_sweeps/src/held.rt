@@ -1,8 +1,8 @@
 //! In which sections the lines lie.
 
-ghost use Rattle.std.specs.Prelude.{ℕ, ◌<◌, length, IsTrue};
+ghost use Rattle.std.specs.Prelude.{◌≡◌, ℕ, ◌<◌, length, IsTrue, IfSome};
 ghost use Rattle.graph_model.specs.meaning.Rules.{Section};
-ghost use Rattle.race_sweeps.specs.Held.{IsHeld, LieApart, AreDifferent};
+ghost use Rattle.race_sweeps.specs.Held.{IsHeld, LieApart, AreDifferent, acquire_in};
 
 use graph_model::graph::Graph;
 
@@ -27,6 +27,32 @@ impl Held {
             }
         }
         false
+    }
+
+    /// The acquire of a reservation in whose section a line lies, where there is one.
+    pub(crate) fn acquire(&self, graph: &Graph, lock: u32, line: u32) -> Option<u32>
+        requires held { IsHeld graph.now self.now }
+        requires line { line < length graph.now.lines }
+        ensures { result ≡ acquire_in self.now lock line }
+    {
+        match self.acquires.get(lock as usize) {
+            Some(acquires) => acquires[line as usize],
+            None => None,
+        }
+    }
+
+    /// The first reservation in a section of which a line lies.
+    pub(crate) fn first_lock(&self, graph: &Graph, line: u32) -> Option<u32>
+        requires held { IsHeld graph.now self.now }
+        requires line { line < length graph.now.lines }
+        ensures { IfSome result (λ l. (q : ℕ) × Section graph.now l q line) }
+    {
+        for lock in 0..graph.locks() {
+            if self.acquire(graph, lock, line).is_some() {
+                return Some(lock);
+            }
+        }
+        None
     }
 
     /// Whether a line lies in no section.

@@ -2,8 +2,9 @@
 #![tactic(auto)]
 
 mod asks;
-mod clash;
+pub mod clash;
 mod classes;
+mod guards;
 mod hard;
 pub mod held;
 mod marks;
@@ -28,7 +29,7 @@ use std::alloc::Global;
 
 /// Whether it was found that lines which conflict have a path one way or the other or are exempt,
 /// from an order in which each edge leads forward. `false` says nothing: it comes where a test of
-/// two lines fails, where too many spaces overlap, and where there are reservations.
+/// two lines fails, and where too many spaces overlap.
 pub fn are_settled(
     alloc: Global,
     graph: &Graph,
@@ -39,10 +40,10 @@ pub fn are_settled(
     requires held { IsHeld graph.now held.now }
     ensures { IfOk result (λ b. IsTrue b → EverywhereTwice (RaceAt graph.now)) }
 {
-    if order.len() != graph.lines() as usize || graph.locks() > 0 {
+    if order.len() != graph.lines() as usize {
         return Ok(false);
     }
-    let Some(table) = Table::new(alloc, graph, order)? else {
+    let Some(table) = Table::new(alloc, graph, order, held)? else {
         return Ok(false);
     };
     Scan::new(alloc, graph, &table)?.passes(graph, &table, held)

@@ -1,6 +1,6 @@
 //! The scan for conflicts that no path settles.
 
-ghost use Rattle.std.specs.Prelude.{◌≡◌, ℕ, ◌+◌, ◌-◌, ◌*◌, ◌/◌, ◌<◌, ◌≤◌, [], length, Some, IsTrue, OnOk, IfOk};
+ghost use Rattle.std.specs.Prelude.{◌≡◌, ℕ, ◌+◌, ◌-◌, ◌*◌, ◌/◌, ◌<◌, ◌≤◌, [], length, Some, slice_index, IsTrue, OnOk, IfOk};
 ghost use Rattle.graph_model.specs.meaning.Rules.{EverywhereTwice, RaceAt};
 ghost use Rattle.race_sweeps.specs.Held.{IsHeld};
 ghost use Rattle.race_sweeps.specs.Classes.{class_at};
@@ -131,6 +131,7 @@ fn list(
     requires short { end ≤ first + 64 }
     requires classes { length table.now.classes.items ≡ 3 * length table.now.lines.items }
     requires known { (m c : ℕ) → class_at table.now.classes.items m ≡ Some c → c < length table.now.keys.items }
+    requires starts { length table.now.starts.items ≡ length table.now.classes.items }
     requires few { length table.now.lines.items ≤ 8192 }
     requires end { end ≤ length table.now.lines.items }
     requires begins { first ≤ end }
@@ -160,6 +161,7 @@ fn list_one(
     requires begins { 3 * first ≤ number }
     requires short { number < 3 * first + 192 }
     requires known { (m c : ℕ) → class_at table.now.classes.items m ≡ Some c → c < length table.now.keys.items }
+    requires starts { length table.now.starts.items ≡ length table.now.classes.items }
     requires number { number < length table.now.classes.items }
     requires listed { AreListed table.now members.old number }
     requires slots { length groups.old.slots.items ≡ length table.now.keys.items }
@@ -168,14 +170,14 @@ fn list_one(
     ensures slots { OnOk result (length groups.new.slots.items ≡ length table.now.keys.items) }
     ensures below { OnOk result (AreMarksBelow groups.new.marks.items (length table.now.keys.items)) }
     ensures kept { OnOk result ((c b x : ℕ) → IsMarked groups.old.marks.items c b x → IsMarked groups.new.marks.items c b x) }
-    ensures grouped { OnOk result ((c : ℕ) → class_at table.now.classes.items number ≡ Some c → IsMarked groups.new.marks.items c (number / 3 - first) 0) }
+    ensures grouped { OnOk result ((c : ℕ) → class_at table.now.classes.items number ≡ Some c → IsMarked groups.new.marks.items c (number / 3 - first) (slice_index table.now.starts.items number)) }
 {
     members.add(table.classes.as_slice(), number)?;
     match table.classes[number as usize] {
         None => Ok(0),
         Some(class) => {
             let bit = 1 << (number / 3 - first);
-            groups.add(class, bit, 0)?;
+            groups.add(class, bit, table.starts[number as usize])?;
             Ok(bit)
         }
     }

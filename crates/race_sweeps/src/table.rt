@@ -1,10 +1,13 @@
 //! What is looked up of a graph: its lines by place, and the classes of their accesses.
 
 ghost use Rattle.std.specs.Prelude.{◌≡◌, length, IfOk, IfSome};
+ghost use Rattle.race_sweeps.specs.Held.{IsHeld};
 ghost use Rattle.race_sweeps.specs.Placed.{IsPlaced, ArePlaces};
 ghost use Rattle.race_sweeps.specs.Table.{IsTable};
 
 use crate::classes::classes_of_lines;
+use crate::guards::guards_of;
+use crate::held::Held;
 use crate::near::near_classes;
 use graph_model::graph::Graph;
 use graph_model::verb::Access;
@@ -14,7 +17,8 @@ use std::alloc::Global;
 
 /// The line at each place and the place of each line; the access of each class, the class of
 /// access `k` of the line at place `p` as number `3 p + k`, and beside each class those that it
-/// conflicts with.
+/// conflicts with; the reservation that guards each class, and the place from which on members of
+/// such classes may lie in the section of an access.
 #[derive(Drop)]
 pub(crate) struct Table {
     pub(crate) lines: Vec<u32>,
@@ -22,6 +26,8 @@ pub(crate) struct Table {
     pub(crate) keys: Vec<Access>,
     pub(crate) classes: Vec<Option<u32>>,
     pub(crate) near: Vec<Vec<u32>>,
+    pub(crate) guards: Vec<Option<u32>>,
+    pub(crate) starts: Vec<u32>,
 }
 
 impl Table {
@@ -30,14 +36,17 @@ impl Table {
         alloc: Global,
         graph: &Graph,
         order: &[u32],
+        held: &Held,
     ) -> Result<Option<Table>, NoMemory>
-        requires { IsPlaced graph.now order.now }
+        requires placed { IsPlaced graph.now order.now }
+        requires held { IsHeld graph.now held.now }
         ensures { IfOk result (λ o. IfSome o (IsTable graph.now)) }
     {
         let _ = graph.lines();
         let lines = copied(alloc, order)?;
         let places = places(alloc, graph, order)?;
         let classes = classes_of_lines(alloc, graph, order)?;
+        let guards = guards_of(alloc, graph, order, &classes, held)?;
         let Some(near) = near_classes(alloc, graph, classes.keys.as_slice())? else {
             return Ok(None);
         };
@@ -47,6 +56,8 @@ impl Table {
             keys: classes.keys,
             classes: classes.of,
             near,
+            guards: guards.locks,
+            starts: guards.starts,
         }))
     }
 }

@@ -1,5 +1,5 @@
-use Rattle.race_check.specs.Races.{Clash}
-use Rattle.race_check.proofs.AccessSteps.{NoneAmong}
+use Rattle.race_sweeps.specs.Clash.{Clash}
+use Rattle.race_sweeps.proofs.AccessSteps.{NoneAmong}
 use Rattle.race_check.proofs.conflicts.clashes_with.Given as goal
 
 abbrev pub invariant-loop-other : goal.invariant-loop-other

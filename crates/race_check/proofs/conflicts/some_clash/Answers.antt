@@ -3,8 +3,10 @@ use Rattle.std.specs.Prelude.{Contains}
 use Rattle.std.specs.List.{slice_index_or}
 use Rattle.std.proofs.lemmas.Bool.{true≢false}
 use Rattle.graph_model.specs.declared.graph.verb.Access.{Access}
-use Rattle.race_check.specs.Races.{Clash, ListsClash}
-use Rattle.race_check.proofs.AccessSteps.{no_access, item_read, item_in, none_more, none_done, answer_no}
+use Rattle.race_check.specs.Races.{ListsClash}
+use Rattle.race_sweeps.specs.Clash.{Clash}
+use Rattle.race_sweeps.proofs.AccessSteps.{no_access, none_more, none_done, answer_no}
+use Rattle.race_check.proofs.AccessSteps.{item_read, item_in}
 use Rattle.race_check.proofs.conflicts.some_clash.Goals as goal
 
 pub loop-one-preserved : goal.loop-one-preserved

@@ -1,7 +1,7 @@
 use Rattle.std.specs.Prelude.{Contains}
 use Rattle.graph_model.specs.declared.graph.verb.Access.{Access}
-use Rattle.race_check.specs.Races.{Clash}
-use Rattle.race_check.proofs.AccessSteps.{NoneAmong}
+use Rattle.race_sweeps.specs.Clash.{Clash}
+use Rattle.race_sweeps.proofs.AccessSteps.{NoneAmong}
 use Rattle.race_check.proofs.conflicts.some_clash.Given as goal
 
 abbrev pub invariant-loop-one : goal.invariant-loop-one

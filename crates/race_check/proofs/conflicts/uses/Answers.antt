@@ -1,7 +1,8 @@
 use Rattle.std.proofs.Common.{◌≡◌, sym, ◌∙◌, arith}
 use Rattle.graph_model.specs.declared.graph.verb.Access.{Access}
 use Rattle.graph_model.specs.graph.Access.{accesses}
-use Rattle.race_check.proofs.AccessSteps.{uses_not, none_left, none_done, few_accesses}
+use Rattle.race_sweeps.proofs.AccessSteps.{none_left, none_done, few_accesses}
+use Rattle.race_check.proofs.AccessSteps.{uses_not}
 use Rattle.race_check.proofs.conflicts.uses.Goals as goal
 
 pub returns-in_default : goal.returns-in_default

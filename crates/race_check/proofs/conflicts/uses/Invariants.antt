@@ -1,7 +1,7 @@
 use Rattle.std.proofs.Common.{◌≡◌}
 use Rattle.graph_model.specs.declared.graph.verb.Access.{Access}
 use Rattle.graph_model.specs.graph.Access.{accesses}
-use Rattle.race_check.proofs.AccessSteps.{NoneAmong}
+use Rattle.race_sweeps.proofs.AccessSteps.{NoneAmong}
 use Rattle.race_check.proofs.conflicts.uses.Given as goal
 
 abbrev pub invariant-loop-k : goal.invariant-loop-k

@@ -2,7 +2,8 @@ use Rattle.std.proofs.Common.{◌<◌, length, sym, ap, subst, ◌∙◌, arith}
 use Rattle.race_check.specs.Races.{IsUserRow, uses}
 use Rattle.race_check.specs.Paths.{word_bit}
 use Rattle.race_check.proofs.WordScan.{word_same}
-use Rattle.race_check.proofs.AccessSteps.{column_known, few_accesses, no_more}
+use Rattle.race_sweeps.proofs.AccessSteps.{few_accesses, no_more}
+use Rattle.race_check.proofs.AccessSteps.{column_known}
 use Rattle.race_check.proofs.PairSteps.{read_item}
 use Rattle.race_check.proofs.RaceSteps.{shares_more, shares_all}
 use Rattle.race_check.proofs.races.sharing_word.Goals as goal

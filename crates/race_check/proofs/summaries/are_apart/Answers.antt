@@ -1,7 +1,7 @@
 use Rattle.std.proofs.Common.{◌<◌, ℕ, sym, length, arith}
 use Rattle.std.proofs.lemmas.Bool.{true≢false}
 use Rattle.race_check.specs.Summaries.{ApartIn}
-use Rattle.race_check.proofs.AccessSteps.{answer_no, answer_yes}
+use Rattle.race_sweeps.proofs.AccessSteps.{answer_no, answer_yes}
 use Rattle.race_check.proofs.PairSteps.{read_item}
 use Rattle.race_check.proofs.SummarySteps.{apart_by, by_apart, apart_known, none_apart_more}
 use Rattle.race_check.proofs.summaries.are_apart.Goals as goal

@@ -48,8 +48,8 @@ loop-other-preserved c =
       below = e.below (length t.keys.items) known i.below;
       kept = λ a b x k. e.kept a b x (i.kept a b x k);
       asked = λ f m listed in'. elim (take_cases c.as_slice-near.result.now c.loop-other.other-index 0 f c.loop-other-test.true in') [
-        | inl before ↦ asked_kept t hard c.loop-other.asks.marks.items c.ask.new.asks.marks.items e.kept m c.args.group.class c.args.group.word f (i.asked f m listed before)
-        | inr same ↦ subst (λ z. IsAsked t hard c.ask.new.asks.marks.items m c.args.group.class c.args.group.word z) same (e.asked t m listed)
+        | inl before ↦ asked_kept t hard c.loop-other.asks.marks.items c.ask.new.asks.marks.items e.kept m c.args.group f (i.asked f m listed before)
+        | inr same ↦ subst (λ z. IsAsked t hard c.ask.new.asks.marks.items m c.args.group z) same (e.asked m listed)
       ];
     }
 
@@ -60,6 +60,6 @@ returns-clause-asked c m listed d askable =
     elim askable [
       | inl near ↦ c.loop-other.invariant.asked d m listed
           (near_asked t.near.items c.args.group.class c.index.result.now c.as_slice-near.result.now c.loop-other.other-index d (omega (arith, c.requires.group, c.requires.lists)) c.index.ensures c.as_slice-near.ensures.value (omega arith) near)
-      | inr own ↦ asked_kept t hard c.ask_own.new.asks.marks.items c.loop-other.asks.marks.items c.loop-other.invariant.kept m c.args.group.class c.args.group.word d
-          (subst (λ z. IsAsked t hard c.ask_own.new.asks.marks.items m c.args.group.class c.args.group.word z) (sym own.0) (c.in_ok-stop.ensures.asked m own.1.0 listed own.1.1 own.1.2))
+      | inr own ↦ asked_kept t hard c.ask_own.new.asks.marks.items c.loop-other.asks.marks.items c.loop-other.invariant.kept m c.args.group d
+          (subst (λ z. IsAsked t hard c.ask_own.new.asks.marks.items m c.args.group z) (sym own.0) (c.in_ok-stop.ensures.asked m own.1.0 listed own.1.1 own.1.2))
     ]

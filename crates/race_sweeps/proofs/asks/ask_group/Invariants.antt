@@ -10,5 +10,5 @@ invariant-loop-other l = record {
   slots : length l.asks.slots.items ≡ length l.table.keys.items;
   below : AreMarksBelow l.asks.marks.items (length l.table.keys.items);
   kept : (c b x : ℕ) → IsMarked l.initial.asks.marks.items c b x → IsMarked l.asks.marks.items c b x;
-  asked : (d m : ℕ) → AreListed l.table l.members m → Contains (take l.other-index l.near) d → IsAsked l.table l.hard l.asks.marks.items m l.group.class l.group.word d;
+  asked : (d m : ℕ) → AreListed l.table l.members m → Contains (take l.other-index l.near) d → IsAsked l.table l.hard l.asks.marks.items m l.group d;
 }

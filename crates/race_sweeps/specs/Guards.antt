@@ -1,0 +1,40 @@
+-- Classes of sums whose members all lie in sections of one reservation, which guards them.
+use Rattle.std.specs.Prelude.{◌≡◌, ℕ, ◌+◌, ◌*◌, ◌/◌, ◌<◌, ◌≤◌, List, length, Option, Some, IsTrue, slice_get, slice_index}
+use Rattle.graph_model.specs.declared.graph.verb.Access.{Access}
+use Rattle.graph_model.specs.graph.Graph.{GraphValue}
+use Rattle.graph_model.specs.meaning.Rules.{modes_commute}
+use Rattle.race_sweeps.specs.declared.held.Held.{Held}
+use Rattle.race_sweeps.specs.Classes.{class_at}
+use Rattle.race_sweeps.specs.Held.{acquire_in, LieApart}
+
+-- two classes of modes that commute have the same guard
+pub record AreGuarded (keys : List Access) (guards : List (Option ℕ)) (c d : ℕ) : Type 0 where
+  pub one : Access
+  pub other : Access
+  pub one_is : slice_get keys c ≡ Some one
+  pub other_is : slice_get keys d ≡ Some other
+  pub commute : IsTrue (modes_commute one.mode other.mode)
+  pub lock : ℕ
+  pub guards_one : class_at guards c ≡ Some lock
+  pub guards_other : class_at guards d ≡ Some lock
+
+-- a member of a class that lies before the start kept for a member of another one, with the same guard, lies in another section than it
+pub record AreGuards (g : GraphValue) (lines : List ℕ) (keys : List Access) (classes guards : List (Option ℕ)) (starts : List ℕ) : Type 0 where
+  pub size : length guards ≡ length keys
+  pub numbers : length starts ≡ length classes
+  pub apart : (x j u k c d : ℕ) → j < 3 → k < 3 → class_at classes (3 * x + j) ≡ Some d → class_at classes (3 * u + k) ≡ Some c → AreGuarded keys guards c d → x < slice_index starts (3 * u + k) → LieApart g (slice_index lines x) (slice_index lines u)
+
+-- the members below number m of a class that is guarded lie in sections of its guard, at or behind the place kept for the acquire
+abbrev pub AreOpened : Held → List ℕ → List (Option ℕ) → List (Option ℕ) → List ℕ → ℕ → Type 0
+AreOpened h lines classes guards openings m = (r d l : ℕ) → r < m → class_at classes r ≡ Some d → class_at guards d ≡ Some l →
+    (q : ℕ) × (acquire_in h l (slice_index lines (r / 3)) ≡ Some q) × (slice_index openings q ≤ r / 3)
+
+-- the class of the access of number m is guarded, and place x lies before the one kept for the acquire of its section
+pub record IsBeforeStart (h : Held) (lines : List ℕ) (classes guards : List (Option ℕ)) (openings : List ℕ) (m x : ℕ) : Type 0 where
+  pub class : ℕ
+  pub lock : ℕ
+  pub acquire : ℕ
+  pub class_is : class_at classes m ≡ Some class
+  pub lock_is : class_at guards class ≡ Some lock
+  pub acquire_is : acquire_in h lock (slice_index lines (m / 3)) ≡ Some acquire
+  pub before : x < slice_index openings acquire

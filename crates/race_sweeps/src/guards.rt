@@ -1,0 +1,205 @@
+//! The reservations that guard classes of sums.
+
+ghost use Rattle.std.specs.Prelude.{◌≡◌, ℕ, ◌+◌, ◌*◌, ◌<◌, ◌≤◌, List, Option, Some, length, IfOk};
+ghost use Rattle.race_sweeps.specs.Classes.{AreClasses, class_at};
+ghost use Rattle.race_sweeps.specs.Guards.{AreGuards, AreOpened, IsBeforeStart};
+ghost use Rattle.race_sweeps.specs.Held.{IsHeld};
+ghost use Rattle.race_sweeps.specs.Placed.{IsPlaced};
+
+use crate::classes::Classes;
+use crate::held::Held;
+use graph_model::graph::Graph;
+use graph_model::verb::Mode;
+use index_spaces::NoMemory;
+use index_spaces::room::{filled, push};
+use std::alloc::Global;
+
+/// The reservation that guards each class, in sections of which all its members lie, and for each
+/// access of such a class the first place with a member of one in its section.
+#[derive(Drop)]
+pub(crate) struct Guards {
+    pub(crate) locks: Vec<Option<u32>>,
+    pub(crate) starts: Vec<u32>,
+}
+
+/// The guards of the classes of all lines.
+pub(crate) fn guards_of(
+    alloc: Global,
+    graph: &Graph,
+    order: &[u32],
+    classes: &Classes,
+    held: &Held,
+) -> Result<Guards, NoMemory>
+    requires placed { IsPlaced graph.now order.now }
+    requires classes { AreClasses graph.now order.now classes.now.keys.items classes.now.of.items }
+    requires held { IsHeld graph.now held.now }
+    ensures { IfOk result (λ s. AreGuards graph.now order.now classes.now.keys.items classes.now.of.items s.locks.items s.starts.items) }
+{
+    let mut guarding = Guarding::new(alloc, graph, classes)?;
+    guarding.propose_all(graph, order, classes, held);
+    guarding.open_all(graph, order, classes, held);
+    guarding.finish(alloc, graph, order, classes, held)
+}
+
+/// Guards under way: a reservation for each class, and for each acquire the first place with a
+/// member of a guarded class in its section.
+#[derive(Drop)]
+struct Guarding {
+    locks: Vec<Option<u32>>,
+    openings: Vec<u32>,
+}
+
+impl Guarding {
+    /// No class is guarded.
+    fn new(alloc: Global, graph: &Graph, classes: &Classes) -> Result<Guarding, NoMemory>
+        ensures locks { IfOk result (λ s. length s.locks.items ≡ length classes.now.keys.items) }
+        ensures openings { IfOk result (λ s. length s.openings.items ≡ length graph.now.lines) }
+    {
+        Ok(Guarding {
+            locks: filled(alloc, None, classes.keys.len())?,
+            openings: filled(alloc, u32::MAX, graph.lines() as usize)?,
+        })
+    }
+
+    /// Proposes for each class of sums a reservation in a section of which a member lies.
+    fn propose_all(&mut self, graph: &Graph, order: &[u32], classes: &Classes, held: &Held)
+        requires placed { IsPlaced graph.now order.now }
+        requires classes { AreClasses graph.now order.now classes.now.keys.items classes.now.of.items }
+        requires held { IsHeld graph.now held.now }
+        requires locks { length self.old.locks.items ≡ length classes.now.keys.items }
+        ensures locks { length self.new.locks.items ≡ length self.old.locks.items }
+        ensures openings { self.new.openings.items ≡ self.old.openings.items }
+    {
+        for number in 0..3 * graph.lines() {
+            self.propose(graph, order, classes, held, number);
+        }
+    }
+
+    /// Proposes a reservation for the class of an access, where it has none.
+    fn propose(&mut self, graph: &Graph, order: &[u32], classes: &Classes, held: &Held, number: u32)
+        requires placed { IsPlaced graph.now order.now }
+        requires classes { AreClasses graph.now order.now classes.now.keys.items classes.now.of.items }
+        requires held { IsHeld graph.now held.now }
+        requires number { number < length classes.now.of.items }
+        requires locks { length self.old.locks.items ≡ length classes.now.keys.items }
+        ensures locks { length self.new.locks.items ≡ length self.old.locks.items }
+        ensures openings { self.new.openings.items ≡ self.old.openings.items }
+    {
+        let Some(class) = classes.of[number as usize] else {
+            return;
+        };
+        if is_sum(classes.keys[class as usize].mode) && self.locks[class as usize].is_none() {
+            let lock = held.first_lock(graph, order[number as usize / 3]);
+            self.locks[class as usize] = lock;
+        }
+    }
+
+    /// Opens the sections of all accesses.
+    fn open_all(&mut self, graph: &Graph, order: &[u32], classes: &Classes, held: &Held)
+        requires placed { IsPlaced graph.now order.now }
+        requires classes { AreClasses graph.now order.now classes.now.keys.items classes.now.of.items }
+        requires held { IsHeld graph.now held.now }
+        requires locks { length self.old.locks.items ≡ length classes.now.keys.items }
+        requires openings { length self.old.openings.items ≡ length graph.now.lines }
+        ensures locks { length self.new.locks.items ≡ length self.old.locks.items }
+        ensures openings { length self.new.openings.items ≡ length self.old.openings.items }
+        ensures opened { AreOpened held.now order.now classes.now.of.items self.new.locks.items self.new.openings.items (length classes.now.of.items) }
+    {
+        for number in 0..3 * graph.lines() {
+            self.open(graph, order, classes, held, number);
+        }
+    }
+
+    /// Opens the section of an access of a guarded class; where there is none, no reservation
+    /// guards the class.
+    fn open(&mut self, graph: &Graph, order: &[u32], classes: &Classes, held: &Held, number: u32)
+        requires placed { IsPlaced graph.now order.now }
+        requires classes { AreClasses graph.now order.now classes.now.keys.items classes.now.of.items }
+        requires held { IsHeld graph.now held.now }
+        requires number { number < length classes.now.of.items }
+        requires locks { length self.old.locks.items ≡ length classes.now.keys.items }
+        requires openings { length self.old.openings.items ≡ length graph.now.lines }
+        requires opened { AreOpened held.now order.now classes.now.of.items self.old.locks.items self.old.openings.items number }
+        ensures locks { length self.new.locks.items ≡ length self.old.locks.items }
+        ensures openings { length self.new.openings.items ≡ length self.old.openings.items }
+        ensures opened { AreOpened held.now order.now classes.now.of.items self.new.locks.items self.new.openings.items (number + 1) }
+    {
+        let Some(class) = classes.of[number as usize] else {
+            return;
+        };
+        let Some(lock) = self.locks[class as usize] else {
+            return;
+        };
+        let place = number / 3;
+        match held.acquire(graph, lock, order[place as usize]) {
+            None => self.locks[class as usize] = None,
+            Some(acquire) => {
+                let opening = self.openings[acquire as usize];
+                self.openings[acquire as usize] = opening.min(place);
+            }
+        }
+    }
+
+    /// The guards, with the start of each access.
+    fn finish(
+        self,
+        alloc: Global,
+        graph: &Graph,
+        order: &[u32],
+        classes: &Classes,
+        held: &Held,
+    ) -> Result<Guards, NoMemory>
+        requires placed { IsPlaced graph.now order.now }
+        requires classes { AreClasses graph.now order.now classes.now.keys.items classes.now.of.items }
+        requires held { IsHeld graph.now held.now }
+        requires locks { length self.locks.items ≡ length classes.now.keys.items }
+        requires openings { length self.openings.items ≡ length graph.now.lines }
+        requires opened { AreOpened held.now order.now classes.now.of.items self.locks.items self.openings.items (length classes.now.of.items) }
+        ensures { IfOk result (λ s. AreGuards graph.now order.now classes.now.keys.items classes.now.of.items s.locks.items s.starts.items) }
+    {
+        let mut starts = Vec::new(alloc);
+        for number in 0..3 * graph.lines() {
+            let start = self.start(graph, order, classes, held, number);
+            push(&mut starts, start)?;
+        }
+        Ok(Guards {
+            locks: self.locks,
+            starts,
+        })
+    }
+
+    /// The first place with a member of a guarded class in the section of an access, or 0 where
+    /// its class is not guarded.
+    fn start(
+        &self,
+        graph: &Graph,
+        order: &[u32],
+        classes: &Classes,
+        held: &Held,
+        number: u32,
+    ) -> u32
+        requires placed { IsPlaced graph.now order.now }
+        requires classes { AreClasses graph.now order.now classes.now.keys.items classes.now.of.items }
+        requires held { IsHeld graph.now held.now }
+        requires number { number < length classes.now.of.items }
+        requires locks { length self.now.locks.items ≡ length classes.now.keys.items }
+        requires openings { length self.now.openings.items ≡ length graph.now.lines }
+        ensures { (x : ℕ) → x < result → IsBeforeStart held.now order.now classes.now.of.items self.now.locks.items self.now.openings.items number x }
+    {
+        let Some(class) = classes.of[number as usize] else {
+            return 0;
+        };
+        let Some(lock) = self.locks[class as usize] else {
+            return 0;
+        };
+        let line = order[number as usize / 3];
+        let Some(acquire) = held.acquire(graph, lock, line) else {
+            return 0;
+        };
+        self.openings[acquire as usize]
+    }
+}
+
+fn is_sum(mode: Mode) -> bool {
+    matches!(mode, Mode::Sum)
+}
