@@ -1,3 +1,4 @@
+pub mod Picks
 pub mod Runs
 pub mod Windows
 pub mod Sums

@@ -65,8 +65,36 @@ pub(crate) fn gather_points(
     Column::from_parts(over, cells)
 }
 
-/// Writes for each number the cell that it picks.
+/// Writes for each number the cell that it picks: from side by side cells where the space is one
+/// interval, and by look-ups otherwise.
 fn pick_all(cells: &mut [u64], numbers: &[u64], y: &Column, picks: &Space)
+    requires size { length cells.old ≡ length numbers.now }
+    requires within { IsWithin picks.now y.now.space }
+    ensures { (k : ℕ) → k < length cells.old → slice_index cells.new k
+        ≡ cell_of y.now (point_at picks.now (slice_index numbers.now k % space_size picks.now)) }
+{
+    runs_of_spaces();
+    match picks.intervals() {
+        [only] => pick_from(cells, numbers, y.run(*only)),
+        _ => pick_each(cells, numbers, y, picks),
+    }
+}
+
+/// Writes for each number the value at its place, modulo the number of values.
+fn pick_from(cells: &mut [u64], numbers: &[u64], values: &[u64])
+    requires size { length cells.old ≡ length numbers.now }
+    requires some { 0 < length values.now }
+    ensures { (k : ℕ) → k < length cells.old → slice_index cells.new k
+        ≡ slice_index values.now (slice_index numbers.now k % length values.now) }
+{
+    let count = values.len() as u64;
+    for k in 0..cells.len() {
+        cells[k] = values[(numbers[k] % count) as usize];
+    }
+}
+
+/// Writes for each number the cell that it picks by a look-up.
+fn pick_each(cells: &mut [u64], numbers: &[u64], y: &Column, picks: &Space)
     requires size { length cells.old ≡ length numbers.now }
     requires within { IsWithin picks.now y.now.space }
     ensures { (k : ℕ) → k < length cells.old → slice_index cells.new k
