@@ -31,3 +31,4 @@ pub mod VerbFacts
 pub mod ReleaseFacts
 pub mod SectionLaws
 pub mod EdgeFacts
+pub mod NameOrder

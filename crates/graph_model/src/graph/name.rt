@@ -8,26 +8,26 @@ use std::marker::Model;
 pub struct Name {
     bytes: [u8; 31],
     len: u32,
+    /// Its first bytes as one number, so that most names are ordered by one comparison.
+    front: u64,
 }
 
 impl Model for Name {
     ghost use Rattle.std.specs.Prelude.{ℕ, List, take};
-    ghost use Rattle.graph_model.specs.graph.Name.{IsPadded};
+    ghost use Rattle.graph_model.specs.kept.NameLaws.{IsName, fields_of, fields_of-take};
 
     ghost Value = { List ℕ };
 
     ghost view = { λ a. take a.len a.bytes };
 
-    ghost invariant = { λ a. IsPadded a.len a.bytes };
-
-    ghost use Rattle.graph_model.specs.kept.NameLaws.{fields_of, fields_of-take};
+    ghost invariant = { IsName };
 
     ghost inverse = { fields_of };
 
     ghost inverse_ok = { fields_of-take };
 }
 
-ghost use Rattle.std.specs.Prelude.{◌≡◌, false, IsTrue, MatchOption};
+ghost use Rattle.std.specs.Prelude.{◌≡◌, ◌+◌, ◌*◌, ◌<◌, false, IsTrue, MatchOption};
 ghost use Rattle.std.specs.List.{list_all};
 ghost use Rattle.std.specs.Str.{bytes_eq};
 ghost use Rattle.std.proofs.Common.{rules};
@@ -36,6 +36,7 @@ ghost use Rattle.std.specs.Cmp.Lexicographic.{slice_cmp};
 ghost use Rattle.std.specs.Cmp.Rules.{comparing};
 ghost use Rattle.std.specs.Ordering.{nat_cmp, as_partial_cmp};
 ghost use Rattle.graph_model.specs.graph.Name.{is_name_byte, is_name};
+ghost use Rattle.graph_model.specs.kept.NameLaws.{front_number};
 
 impl Name {
     /// The name of these bytes: a small letter, and up to 30 small letters, digits and `_`.
@@ -52,6 +53,7 @@ impl Name {
         Some(Name {
             bytes: padded,
             len: bytes.len() as u32,
+            front: front_of(&padded),
         })
     }
 
@@ -70,7 +72,7 @@ impl PartialEq for Name {
     ghost laws = { Prim.search (comparing, rules) };
 
     fn eq(&self, other: &Name) -> bool {
-        self.bytes() == other.bytes()
+        self.front == other.front && self.bytes() == other.bytes()
     }
 }
 
@@ -88,6 +90,9 @@ impl Ord for Name {
     ghost matches_eq = { Prim.search (comparing, rules) };
 
     fn cmp(&self, other: &Name) -> Ordering {
+        if self.front != other.front {
+            return self.front.cmp(&other.front);
+        }
         self.bytes().cmp(other.bytes())
     }
 }
@@ -100,6 +105,22 @@ impl PartialOrd for Name {
     fn partial_cmp(&self, other: &Name) -> Option<Ordering> {
         Some(self.cmp(other))
     }
+}
+
+/// The first eight bytes as a number, the first of them its highest digit.
+fn front_of(bytes: &[u8; 31]) -> u64
+    ensures { result ≡ front_number bytes.now }
+{
+    four_bytes(bytes[0], bytes[1], bytes[2], bytes[3]) * 4_294_967_296
+        + four_bytes(bytes[4], bytes[5], bytes[6], bytes[7])
+}
+
+/// Four bytes as a number.
+fn four_bytes(a: u8, b: u8, c: u8, d: u8) -> u64
+    ensures number { result ≡ ((a * 256 + b) * 256 + c) * 256 + d }
+    ensures small { result < 4294967296 }
+{
+    ((u64::from(a) * 256 + u64::from(b)) * 256 + u64::from(c)) * 256 + u64::from(d)
 }
 
 fn is_part(byte: u8) -> bool

@@ -25,5 +25,9 @@ invariant_of-result c =
     let d : List ℕ = c.args.bytes.now in
     let written : c.copy_from_slice.new.self ≡ d = c.copy_from_slice.ensures.after in
     let behind : drop (length d) (replicate 31 0) ≡ replicate (31 - length d) 0 = drop-replicate (length d) 31 0 in
-    subst (λ xs. IsPadded (length d) (xs ++ drop (length d) (replicate 31 0))) (sym written)
-    (subst (λ xs. IsPadded (length d) (d ++ xs)) (sym behind) (pad d (sym c.is_spelled.ensures ∙ c.if-not-is_spelled.false)))
+    record {
+      padded =
+          subst (λ xs. IsPadded (length d) (xs ++ drop (length d) (replicate 31 0))) (sym written)
+          (subst (λ xs. IsPadded (length d) (d ++ xs)) (sym behind) (pad d (sym c.is_spelled.ensures ∙ c.if-not-is_spelled.false)));
+      front = c.front_of.ensures;
+    }
