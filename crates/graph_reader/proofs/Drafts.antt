@@ -1,6 +1,6 @@
 -- What no reason refuses: each word in its place, no event and no column twice, and the item itself.
 use Rattle.std.proofs.Common.{◌≡◌, ℕ, suc, ◌+◌, ◌≤◌, Bool, true, false, not, ◌&&◌, ◌||◌, List, [], ◌∷◌, ◌++◌, length, map, refl, sym, ◌∙◌, ap, arith}
-use Rattle.std.specs.Prelude.{Option, Some, None, bytes_eq, nat_eq, filter_map, zip, slice_index, slice_index_or, nat_le}
+use Rattle.std.specs.Prelude.{Option, Some, None, bytes_eq, nat_eq, filter_map, zip, slice_index_or, nat_le}
 use Rattle.std.specs.List.{list_any, list_all, AllByRecursion, cons_option}
 use Rattle.std.proofs.lemmas.Bool.{or_parts, or_from, and_parts, false_from_ne_true, eqb-false, not-true, leb-true}
 use Rattle.std.proofs.lemmas.Option.{none-some}

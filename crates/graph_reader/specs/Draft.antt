@@ -1,5 +1,5 @@
 -- A line of text with its words in their places, before the names in it are looked up.
-use Rattle.std.specs.Prelude.{ℕ, ◌+◌, ◌==◌, Bool, true, false, cond, ◌&&◌, ◌||◌, List, [], ◌∷◌, ◌++◌, length, map, drop, find, zip, ◌⊎◌, Option, Some, None, option_map, unwrap_or, slice_index_or, codes, position}
+use Rattle.std.specs.Prelude.{ℕ, ◌+◌, ◌==◌, Bool, cond, ◌&&◌, ◌||◌, List, [], ◌∷◌, ◌++◌, length, map, drop, find, zip, ◌⊎◌, Option, Some, None, option_map, unwrap_or, slice_index_or, codes, position}
 use Rattle.std.specs.List.{starts_with}
 use Rattle.std.specs.Str.{bytes_eq}
 use Rattle.std.proofs.Common.{inl, inr}
