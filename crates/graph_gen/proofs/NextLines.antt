@@ -13,7 +13,7 @@ use Rattle.graph_model.specs.declared.graph.verb.EdgeKind.{EdgeKind}
 use Rattle.graph_model.specs.declared.graph.verb.EdgeKind.TheVariants.{Passes}
 use Rattle.graph_model.specs.declared.graph.verb.Verb.{Verb}
 use Rattle.graph_model.specs.declared.graph.verb.Verb.TheVariants.{User, Trigger, Merge, MergeIgnore, Acquire, Release, Fill, Copy, Reduce, Task}
-use Rattle.graph_model.specs.declared.graph.verb.Kernel.TheVariants.{Iota, Expect}
+use Rattle.graph_model.specs.declared.graph.table.Kernel.TheVariants.{Iota, Expect}
 use Rattle.graph_model.specs.graph.Graph.{is_user, is_acquire, ends_user, is_release_of}
 use Rattle.graph_model.specs.graph.Access.{access, verb_accesses}
 use Rattle.graph_model.specs.graph.Edges.{edges_from_some, verb_edges, line_edges}

@@ -10,7 +10,7 @@ use Rattle.graph_model.specs.declared.graph.verb.EdgeKind.TheVariants.{Passes, I
 use Rattle.graph_model.specs.declared.graph.verb.Line.{Line}
 use Rattle.graph_model.specs.declared.graph.verb.Verb.{Verb}
 use Rattle.graph_model.specs.declared.graph.verb.Verb.TheVariants as verb
-use Rattle.graph_model.specs.declared.graph.verb.Kernel.TheVariants as kernel
+use Rattle.graph_model.specs.declared.graph.table.Kernel.TheVariants as kernel
 use Rattle.graph_model.specs.graph.Edges.{edge, edges_from_some, verb_edges, edges_after}
 use Rattle.graph_model.specs.graph.Fits.{on_lines}
 use Rattle.basics.proofs.ListFacts.{contains_cases, contains_none, contains_map, map_contains}

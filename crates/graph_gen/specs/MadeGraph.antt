@@ -7,7 +7,7 @@ use Rattle.graph_model.specs.declared.graph.decl.Decl.TheVariants.{Space, Inst, 
 use Rattle.graph_model.specs.declared.graph.verb.Line.{Line}
 use Rattle.graph_model.specs.declared.graph.verb.Verb.{Verb}
 use Rattle.graph_model.specs.declared.graph.verb.Verb.TheVariants as verb
-use Rattle.graph_model.specs.declared.graph.verb.Kernel.TheVariants as kernel
+use Rattle.graph_model.specs.declared.graph.table.Kernel.TheVariants as kernel
 use Rattle.graph_model.specs.graph.Graph.{GraphValue}
 use Rattle.graph_gen.specs.declared.draw.Row.{Row}
 use Rattle.graph_gen.specs.declared.draw.Row.TheVariants.{Fill, Iota, Expect, Settle, Copy, Sum, Event, Section}

@@ -17,8 +17,8 @@ use Rattle.graph_model.specs.declared.graph.verb.Access.{Access}
 use Rattle.graph_model.specs.declared.graph.verb.Mode.{Mode}
 use Rattle.graph_model.specs.declared.graph.verb.Verb.{Verb}
 use Rattle.graph_model.specs.declared.graph.verb.Verb.TheVariants.{User, Merge, MergeIgnore, Reduce, Task}
-use Rattle.graph_model.specs.declared.graph.verb.Kernel.{Kernel}
-use Rattle.graph_model.specs.declared.graph.verb.Kernel.TheVariants.{Iota}
+use Rattle.graph_model.specs.declared.graph.table.Kernel.{Kernel}
+use Rattle.graph_model.specs.declared.graph.table.Kernel.TheVariants.{Iota}
 use Rattle.graph_model.specs.graph.Table.{kind_places, kernel_kind, kernel_parts, verb_kind, verb_parts, verb_places, verb_of, Placed, any_placed, is_column, is_over, is_space, columns_first, in_order, each_in_order, is_row, part_in, parts_from}
 use Rattle.graph_model.specs.graph.Graph.{verb_at}
 use Rattle.graph_model.specs.graph.Access.{access, access_at, access_in, accesses_of, verb_accesses}

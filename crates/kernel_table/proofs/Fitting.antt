@@ -6,7 +6,7 @@ use Rattle.std.proofs.lemmas.Bool.{or_parts, eq-eqb, false≢true}
 use Rattle.index_spaces.specs.Column.{ColumnValue}
 use Rattle.basics.proofs.ListFacts.{contains_here, contains_there}
 use Rattle.graph_model.specs.declared.graph.verb.Access.{Access}
-use Rattle.graph_model.specs.declared.graph.verb.Kernel.{Kernel}
+use Rattle.graph_model.specs.declared.graph.table.Kernel.{Kernel}
 use Rattle.graph_model.specs.graph.Graph.{GraphValue}
 use Rattle.graph_model.specs.graph.Access.{kernel_accesses}
 use Rattle.graph_model.specs.graph.Fits.{repeats}

@@ -2,7 +2,7 @@
 use Rattle.std.specs.Prelude.{◌≡◌, ◌≢◌, ℕ, ◌<◌, false, nat_eq, List, [], ◌∷◌, length, map, slice_index_or, Contains}
 use Rattle.index_spaces.specs.Column.{ColumnValue}
 use Rattle.graph_model.specs.declared.graph.verb.Access.{Access}
-use Rattle.graph_model.specs.declared.graph.verb.Kernel.{Kernel}
+use Rattle.graph_model.specs.declared.graph.table.Kernel.{Kernel}
 use Rattle.graph_model.specs.graph.Graph.{GraphValue, named_spaces, space_at}
 use Rattle.graph_model.specs.graph.Access.{kernel_accesses}
 use Rattle.graph_model.specs.meaning.Effect.{kernel_changes}

@@ -4,7 +4,7 @@ ghost use Rattle.std.specs.Prelude.{ℕ, ◌≡◌, ◌≢◌, ◌+◌, ◌*◌,
 ghost use Rattle.index_spaces.specs.Space.{IsWithin};
 ghost use Rattle.index_spaces.specs.Column.{cell_of};
 ghost use Rattle.index_spaces.specs.Run.{WritesPoints};
-ghost use Rattle.graph_model.specs.declared.graph.verb.Kernel.TheVariants.{Axpy};
+ghost use Rattle.graph_model.specs.declared.graph.table.Kernel.TheVariants.{Axpy};
 ghost use Rattle.graph_model.specs.meaning.Effect.{wrapped};
 ghost use Rattle.graph_model.specs.meaning.HeldCells.{HoldsOver};
 ghost use Rattle.kernel_table.specs.Kernels.{MakesKernel};

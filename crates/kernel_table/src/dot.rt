@@ -5,7 +5,7 @@ ghost use Rattle.index_spaces.specs.Space.{IsWithin, points};
 ghost use Rattle.basics.specs.Lists.{numbers_below};
 ghost use Rattle.index_spaces.specs.Column.{cell_of};
 ghost use Rattle.index_spaces.specs.Run.{WritesPoints};
-ghost use Rattle.graph_model.specs.declared.graph.verb.Kernel.TheVariants.{Dot};
+ghost use Rattle.graph_model.specs.declared.graph.table.Kernel.TheVariants.{Dot};
 ghost use Rattle.graph_model.specs.meaning.Effect.{wrapped, wrapped_sum};
 ghost use Rattle.graph_model.specs.meaning.HeldCells.{HoldsOver};
 ghost use Rattle.kernel_table.specs.Kernels.{MakesKernel};

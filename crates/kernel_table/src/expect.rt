@@ -4,7 +4,7 @@ ghost use Rattle.std.specs.Prelude.{◌≡◌, ◌&&◌, if◌then◌else◌, na
 ghost use Rattle.std.specs.List.{list_all};
 ghost use Rattle.index_spaces.specs.Space.{IsWithin, points};
 ghost use Rattle.index_spaces.specs.Column.{cell_of};
-ghost use Rattle.graph_model.specs.declared.graph.verb.Kernel.TheVariants.{Expect};
+ghost use Rattle.graph_model.specs.declared.graph.table.Kernel.TheVariants.{Expect};
 ghost use Rattle.graph_model.specs.meaning.Effect.{Cells, all_within, kernel_verdict};
 ghost use Rattle.graph_model.specs.meaning.HeldCells.{HoldsOver, HasCells};
 

@@ -4,7 +4,7 @@ ghost use Rattle.std.specs.Prelude.{◌≡◌, ◌≢◌, ◌+◌, ◌%◌, ◌=
 ghost use Rattle.index_spaces.specs.Space.{IsWithin, points, rank, space_size};
 ghost use Rattle.index_spaces.specs.Column.{cell_of};
 ghost use Rattle.index_spaces.specs.Run.{WritesPoints};
-ghost use Rattle.graph_model.specs.declared.graph.verb.Kernel.TheVariants.{Hist};
+ghost use Rattle.graph_model.specs.declared.graph.table.Kernel.TheVariants.{Hist};
 ghost use Rattle.graph_model.specs.meaning.Effect.{wrapped};
 ghost use Rattle.graph_model.specs.meaning.HeldCells.{HoldsOver};
 ghost use Rattle.kernel_table.specs.Kernels.{MakesKernel, column_over};

@@ -3,7 +3,7 @@
 ghost use Rattle.std.specs.Prelude.{ℕ, ◌≡◌, ◌+◌, ◌<◌, [], ◌∷◌, length, slice_index};
 ghost use Rattle.index_spaces.specs.Space.{IsWithin, rank};
 ghost use Rattle.index_spaces.specs.Run.{WritesPoints};
-ghost use Rattle.graph_model.specs.declared.graph.verb.Kernel.TheVariants.{Iota};
+ghost use Rattle.graph_model.specs.declared.graph.table.Kernel.TheVariants.{Iota};
 ghost use Rattle.graph_model.specs.meaning.Effect.{wrapped};
 ghost use Rattle.graph_model.specs.meaning.HeldCells.{HoldsOver};
 ghost use Rattle.kernel_table.specs.Kernels.{MakesKernel};

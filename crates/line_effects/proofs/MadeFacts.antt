@@ -2,8 +2,8 @@
 use Rattle.std.proofs.Common.{◌≡◌, ℕ, List, [], refl, ◌∙◌, ap}
 use Rattle.std.specs.Prelude.{Option, Some, None}
 use Rattle.std.specs.Option.{option_map_or}
-use Rattle.graph_model.specs.declared.graph.verb.Kernel.{Kernel}
-use Rattle.graph_model.specs.declared.graph.verb.Kernel.TheVariants.{Expect}
+use Rattle.graph_model.specs.declared.graph.table.Kernel.{Kernel}
+use Rattle.graph_model.specs.declared.graph.table.Kernel.TheVariants.{Expect}
 use Rattle.graph_model.specs.declared.graph.verb.Verb.{Verb}
 use Rattle.graph_model.specs.declared.graph.verb.Verb.TheVariants.{Task}
 use Rattle.graph_model.specs.declared.meaning.outcome.Verdict.{Verdict}

@@ -7,7 +7,7 @@ use Rattle.graph_model.specs.declared.graph.verb.Mode.{Mode}
 use Rattle.graph_model.specs.declared.graph.verb.Mode.TheVariants.{Read}
 use Rattle.graph_model.specs.declared.graph.verb.Verb.{Verb}
 use Rattle.graph_model.specs.declared.graph.verb.Verb.TheVariants.{Task}
-use Rattle.graph_model.specs.declared.graph.verb.Kernel.{Kernel}
+use Rattle.graph_model.specs.declared.graph.table.Kernel.{Kernel}
 use Rattle.graph_model.specs.declared.graph.table.Parts.{Parts}
 use Rattle.graph_model.specs.declared.graph.table.Place.{Place}
 use Rattle.graph_model.specs.declared.graph.table.Place.TheVariants.{Column}

@@ -9,8 +9,8 @@ use Rattle.graph_model.specs.declared.meaning.outcome.Verdict.{Verdict}
 use Rattle.graph_model.specs.declared.meaning.outcome.Verdict.TheVariants.{Fine, Fault}
 use Rattle.graph_model.specs.declared.graph.verb.Verb.{Verb}
 use Rattle.graph_model.specs.declared.graph.verb.Verb.TheVariants.{Fill, Copy, Reduce, Task}
-use Rattle.graph_model.specs.declared.graph.verb.Kernel.{Kernel}
-use Rattle.graph_model.specs.declared.graph.verb.Kernel.TheVariants.{Iota, Axpy, Stencil, Scan, Hist, Dot, Expect, Gather}
+use Rattle.graph_model.specs.declared.graph.table.Kernel.{Kernel}
+use Rattle.graph_model.specs.declared.graph.table.Kernel.TheVariants.{Iota, Axpy, Stencil, Scan, Hist, Dot, Expect, Gather}
 use Rattle.graph_model.specs.declared.graph.verb.Access.{Access}
 use Rattle.graph_model.specs.declared.graph.verb.Mode.{Mode}
 use Rattle.graph_model.specs.declared.graph.verb.Mode.TheVariants as mode

@@ -6,7 +6,7 @@ ghost use Rattle.graph_model.specs.graph.Table.{kind_words, kind_places, kind_ta
 
 use self::Place::{Acquire, Barrier, Column, Lock, Phase, Space, User, Value};
 use crate::graph::verb::Mode::{Read, Sum, Write};
-use crate::graph::verb::{Kernel, Mode, Verb};
+use crate::graph::verb::{Mode, Verb};
 use index_spaces::Op;
 
 /// What stands in the place of a word of an operation line.
@@ -28,6 +28,59 @@ pub enum Place {
     Value,
     /// A column, how it is used, and the number of the place that has the space over which it is.
     Column(Mode, usize),
+}
+
+/// A function of the kernel table with its arguments.
+#[derive(Clone, Copy)]
+pub enum Kernel {
+    Iota {
+        x: u32,
+        s: u32,
+        value: u64,
+    },
+    Axpy {
+        x: u32,
+        y: u32,
+        s: u32,
+        factor: u64,
+    },
+    Stencil {
+        x: u32,
+        y: u32,
+        r: u32,
+        s: u32,
+    },
+    Scan {
+        x: u32,
+        y: u32,
+        s: u32,
+    },
+    Hist {
+        x: u32,
+        y: u32,
+        s: u32,
+        t: u32,
+    },
+    Dot {
+        x: u32,
+        y: u32,
+        z: u32,
+        s: u32,
+        t: u32,
+    },
+    Expect {
+        x: u32,
+        s: u32,
+        low: u64,
+        high: u64,
+    },
+    Gather {
+        x: u32,
+        y: u32,
+        z: u32,
+        s: u32,
+        t: u32,
+    },
 }
 
 /// The kinds of operation lines but for merges, which name any number of lines.

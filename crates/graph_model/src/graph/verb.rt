@@ -4,6 +4,8 @@ use crate::graph::lists::LineList;
 use crate::graph::name::Name;
 use index_spaces::Op;
 
+pub use crate::graph::table::Kernel;
+
 /// A line: its name, what it does, and the line that it waits for.
 #[derive(Drop)]
 pub struct Line {
@@ -71,59 +73,6 @@ pub enum Verb {
     },
     Task {
         kernel: Kernel,
-    },
-}
-
-/// A function of the kernel table with its arguments.
-#[derive(Clone, Copy)]
-pub enum Kernel {
-    Iota {
-        x: u32,
-        s: u32,
-        value: u64,
-    },
-    Axpy {
-        x: u32,
-        y: u32,
-        s: u32,
-        factor: u64,
-    },
-    Stencil {
-        x: u32,
-        y: u32,
-        r: u32,
-        s: u32,
-    },
-    Scan {
-        x: u32,
-        y: u32,
-        s: u32,
-    },
-    Hist {
-        x: u32,
-        y: u32,
-        s: u32,
-        t: u32,
-    },
-    Dot {
-        x: u32,
-        y: u32,
-        z: u32,
-        s: u32,
-        t: u32,
-    },
-    Expect {
-        x: u32,
-        s: u32,
-        low: u64,
-        high: u64,
-    },
-    Gather {
-        x: u32,
-        y: u32,
-        z: u32,
-        s: u32,
-        t: u32,
     },
 }
 
