@@ -18,6 +18,7 @@ use crate::races::first_race;
 use crate::release_faults::first_release_fault;
 use crate::releases::{first_unreleased, releases};
 use crate::sections::first_outside;
+use crate::unheld::is_accepted_at_once;
 use graph_model::graph::Graph;
 use std::alloc::Global;
 
@@ -30,15 +31,42 @@ pub(crate) fn judge(alloc: Global, graph: &Graph) -> Result<u32, CheckRefusal>
     ensures lines { IfErr result (NamesLines graph.now) }
 {
     let order = acyclic(alloc, graph)?;
-    let paths = PathTable::new(alloc, graph, &order)?;
+    all_rules(alloc, graph, &order)?;
+    let need = need_of(alloc, graph)?;
+    Ok(need)
+}
+
+/// The six rules of a graph without a cycle, with tables of paths only where the graph is not
+/// accepted at once.
+fn all_rules(alloc: Global, graph: &Graph, order: &Order) -> Result<(), CheckRefusal>
+    requires ordered { IsOrdered graph.now order.now.lines.items order.now.left.items }
+    requires acyclic { Everywhere (NoCycleAt graph.now) }
+    ensures accepted { OnOk result (Accepted graph.now) }
+    ensures refused { IfErr result (IsRefusal graph.now) }
+    ensures lines { IfErr result (NamesLines graph.now) }
+{
+    if is_accepted_at_once(alloc, graph, order)? {
+        return Ok(());
+    }
+    all_rules_by_paths(alloc, graph, order)
+}
+
+/// The six rules of a graph without a cycle, by tables of paths.
+fn all_rules_by_paths(alloc: Global, graph: &Graph, order: &Order) -> Result<(), CheckRefusal>
+    requires ordered { IsOrdered graph.now order.now.lines.items order.now.left.items }
+    requires acyclic { Everywhere (NoCycleAt graph.now) }
+    ensures accepted { OnOk result (Accepted graph.now) }
+    ensures refused { IfErr result (IsRefusal graph.now) }
+    ensures lines { IfErr result (NamesLines graph.now) }
+{
+    let paths = PathTable::new(alloc, graph, order)?;
     let releases = releases(alloc, graph)?;
     all_released(graph, &paths, releases.as_slice())?;
     all_in_sections(alloc, graph, &paths)?;
     all_descend(alloc, graph, &paths, releases.as_slice())?;
     all_on_merges(graph)?;
-    no_races(alloc, graph, &order, &paths, releases.as_slice())?;
-    let need = need_of(alloc, graph)?;
-    Ok(need)
+    no_races(alloc, graph, order, &paths, releases.as_slice())?;
+    Ok(())
 }
 
 /// No line has a path to itself: then the order has all lines.

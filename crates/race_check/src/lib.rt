@@ -18,6 +18,7 @@ mod reservations;
 mod rows;
 mod sections;
 mod summaries;
+mod unheld;
 
 ghost use Rattle.std.specs.Prelude.{◌≡◌, IfOk, IfErr};
 ghost use Rattle.graph_model.specs.meaning.Need.{IsNeed};

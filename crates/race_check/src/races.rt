@@ -17,6 +17,7 @@ use crate::order::Order;
 use crate::paths::PathTable;
 use crate::rows::{add_line, empty_row, has_bit, word_at};
 use crate::summaries::{Summary, are_apart, held, summaries};
+use crate::unheld::has_acquire;
 use graph_model::graph::Graph;
 use graph_model::laws::edges_between_lines;
 use graph_model::line_laws::accesses_fit;
@@ -46,8 +47,7 @@ pub(crate) fn first_race(
     edges_between_lines();
     let lines = graph.lines();
     let summaries = summaries(alloc, graph, paths, releases)?;
-    let held = held(alloc, graph, summaries.as_slice())?;
-    if are_settled(alloc, graph, order.lines.as_slice(), &held)? {
+    if are_settled_by_sweeps(alloc, graph, order, summaries.as_slice())? {
         return Ok(None);
     }
     let rivals = Rivals::new(alloc, graph, paths, summaries)?;
@@ -57,6 +57,28 @@ pub(crate) fn first_race(
         }
     }
     Ok(None)
+}
+
+/// Whether it was found by sweeps that no lines race. Of a graph without an acquire that was asked
+/// before any table of paths was made.
+fn are_settled_by_sweeps(
+    alloc: Global,
+    graph: &Graph,
+    order: &Order,
+    summaries: &[Summary],
+) -> Result<bool, NoMemory>
+    requires ordered { IsOrdered graph.now order.now.lines.items order.now.left.items }
+    requires acyclic { Everywhere (NoCycleAt graph.now) }
+    requires summed { AreSummed graph.now summaries.now }
+    ensures { IfOk result (λ b. IsTrue b → EverywhereTwice (RaceAt graph.now)) }
+{
+    edges_between_lines();
+    let _ = graph.lines();
+    if !has_acquire(graph) {
+        return Ok(false);
+    }
+    let held = held(alloc, graph, summaries)?;
+    are_settled(alloc, graph, order.lines.as_slice(), &held)
 }
 
 /// What is looked up to find races: the accesses of each line, the users of each column, and the

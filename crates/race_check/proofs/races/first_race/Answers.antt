@@ -1,6 +1,4 @@
-use Rattle.std.proofs.Common.{inl, sym, subst, arith}
-use Rattle.race_sweeps.specs.Placed.{IsOrder}
-use Rattle.race_check.proofs.Placing.{order_placed}
+use Rattle.std.proofs.Common.{inl, arith}
 use Rattle.graph_model.specs.meaning.Rules.{Everywhere, RaceAt}
 use Rattle.race_check.proofs.RuleSteps.{below_with}
 use Rattle.race_check.proofs.PairSteps.{pairs_hold, pair_fails}
@@ -17,9 +15,3 @@ pub returns : goal.returns
 returns c =
     let g = c.args.graph.now in
     pairs_hold (RaceAt g) c.loop-line.line (λ i j h. race_beyond g (λ e k. c.edges_between_lines.ensures g e c.lines-lines.ensures.is_graph k) i j (inl (omega arith))) c.loop-line.invariant.before
-
-pub are_settled-requires-clause-order : goal.are_settled-requires-clause-order
-are_settled-requires-clause-order c =
-    let g = c.args.graph.now in
-    let lines = c.args.order.now.lines.items in
-    subst (λ xs. IsOrder g xs) (sym c.as_slice-2.ensures.value) (order_placed g (λ e k. c.edges_between_lines.ensures g e c.lines-lines.ensures.is_graph k) lines c.args.order.now.left.items c.requires.ordered c.requires.acyclic)
