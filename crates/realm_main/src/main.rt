@@ -44,9 +44,12 @@ fn words<R: Env + AllocGlobal>(rt: &R) -> Result<Vec<String>, Status> {
     Ok(words)
 }
 
+/// How many bytes are gathered before they are written on.
+const GATHERED: usize = 65_536;
+
 /// Runs what the words ask for over the standard streams.
 fn run<R: AllocGlobal + Input + Print + Threads + Wait + Sync>(rt: &R, words: &[String]) -> Status {
-    let Ok(writer) = BufWriter::new(rt.alloc(), io::writer(rt)) else {
+    let Ok(writer) = BufWriter::with_capacity(rt.alloc(), GATHERED, io::writer(rt)) else {
         return Status::NoMemory;
     };
     let mut source = StdSource::new(rt.reader());
