@@ -16,7 +16,7 @@ pub mod verb;
 pub mod why;
 pub(crate) mod words;
 
-use crate::graph::access::verb_access;
+use crate::graph::access::{Accesses, verb_accesses};
 use crate::graph::decl::{BarrierInfo, Decl};
 use crate::graph::edges::edges_of_line;
 use crate::graph::found::Found;
@@ -52,6 +52,8 @@ pub struct Graph {
     alloc: Global,
     decls: Vec<Decl>,
     lines: Vec<Line>,
+    /// For each line what it reads and writes.
+    accesses: Vec<Accesses>,
     tables: Tables,
     names: Names,
     rows: Rows,
@@ -59,8 +61,9 @@ pub struct Graph {
 }
 
 impl Model for Graph {
-    ghost use Rattle.std.specs.Prelude.{◌≡◌};
+    ghost use Rattle.std.specs.Prelude.{◌≡◌, map};
     ghost use Rattle.graph_model.specs.graph.Graph.{GraphValue};
+    ghost use Rattle.graph_model.specs.graph.Access.{kept_accesses};
 
     ghost Value = { GraphValue };
 
@@ -74,6 +77,7 @@ impl Model for Graph {
 
     ghost invariant = { λ a. record {
       fits : IsGraph (record { decls = a.decls.items; lines = a.lines.items });
+      accesses : a.accesses.items ≡ map (λ l. kept_accesses l.verb) a.lines.items;
       tables : a.tables ≡ tables_of a.decls.items;
       limits : IsWithinLimits (record { decls = a.decls.items; lines = a.lines.items });
       names : AreNamesOf (record { decls = a.decls.items; lines = a.lines.items }) a.names;
@@ -100,6 +104,7 @@ impl Graph {
             alloc,
             decls: Vec::new(alloc),
             lines: Vec::new(alloc),
+            accesses: Vec::new(alloc),
             tables: Tables::new(alloc),
             names: Names::new(alloc),
             rows: Rows::new(alloc),
@@ -141,13 +146,16 @@ impl Graph {
         let name = line.name;
         let found = Found::Line(self.lines.len() as u32);
         let counts = self.counts_with_line(&line);
+        let accesses = verb_accesses(&line.verb);
         reserve(&mut self.lines, 1)?;
+        reserve(&mut self.accesses, 1)?;
         self.names.insert(name, found)?;
         if let Err(error) = self.rows.add(&line.verb, &given) {
             self.names.remove(&name);
             return Err(error);
         }
         push_within(&mut self.lines, line);
+        push_within(&mut self.accesses, accesses);
         self.counts = counts;
         Ok(())
     }
@@ -308,7 +316,10 @@ impl Graph {
         requires { i < length self.now.lines }
         ensures { result ≡ slice_get (accesses self.now i) k }
     {
-        verb_access(&self.lines[i as usize].verb, k)
+        match self.accesses[i as usize].get(k as usize) {
+            Some(access) => *access,
+            None => None,
+        }
     }
 
     /// Whether a line never comes: a user event that no line triggers or cancels, or a phase that

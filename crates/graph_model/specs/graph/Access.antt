@@ -1,5 +1,5 @@
 -- What a line reads and writes, and when two lines conflict.
-use Rattle.std.specs.Prelude.{◌≡◌, ◌≢◌, ℕ, nat_eq, Bool, true, false, List, [], zip, filter_map, Contains, Option, Some, None, slice_index, IsTrue}
+use Rattle.std.specs.Prelude.{◌≡◌, ◌≢◌, ℕ, nat_eq, Bool, true, false, List, [], ◌∷◌, zip, filter_map, Contains, Option, Some, None, slice_index, slice_get, IsTrue}
 use Rattle.std.specs.Option.{option_map_or}
 use Rattle.index_spaces.specs.Space.{Meet}
 use Rattle.graph_model.specs.declared.graph.verb.Access.{Access}
@@ -33,6 +33,10 @@ accesses_of places parts = filter_map (λ (p : Placed). access_at parts p.0 p.1)
 
 abbrev pub verb_accesses : Verb → List Access
 verb_accesses v = accesses_of (verb_places v) (verb_parts v)
+
+-- the first three of them, where they are there
+abbrev pub kept_accesses : Verb → List (Option Access)
+kept_accesses v = slice_get (verb_accesses v) 0 ∷ slice_get (verb_accesses v) 1 ∷ slice_get (verb_accesses v) 2 ∷ []
 
 -- the accesses that are there
 abbrev pub present : List (Option Access) → List Access

@@ -2,27 +2,18 @@
 
 ghost use Rattle.std.specs.Prelude.{◌≡◌, true, slice_get};
 ghost use Rattle.graph_model.specs.graph.Table.{is_row, parts_from};
-ghost use Rattle.graph_model.specs.graph.Access.{access_in, accesses_of, verb_accesses, present};
+ghost use Rattle.graph_model.specs.graph.Access.{access_in, accesses_of, verb_accesses, kept_accesses, present};
 
 use crate::graph::table::{Parts, Place};
 use crate::graph::verb::{Access, Verb};
-
-/// The access of number `k` of a line that does this.
-pub(crate) fn verb_access(verb: &Verb, k: u32) -> Option<Access>
-    ensures { result ≡ slice_get (verb_accesses verb.now) k }
-{
-    match verb.kind() {
-        Some(kind) => access_at(kind.row().places, &verb.parts(), k as usize),
-        None => None,
-    }
-}
 
 /// Up to three accesses, in order.
 pub(crate) type Accesses = [Option<Access>; 3];
 
 /// The accesses of a line that does this.
 pub(crate) fn verb_accesses(verb: &Verb) -> Accesses
-    ensures { present result ≡ verb_accesses verb.now }
+    ensures each { result ≡ kept_accesses verb.now }
+    ensures present { present result ≡ verb_accesses verb.now }
 {
     match verb.kind() {
         Some(kind) => {

@@ -29,6 +29,7 @@ invariant_of-self-2 c =
     λ q. c.in_ok-insert.ensures.ok q ∙ (ap (λ n. cond (bytes_eq n q) (Some c.found_decl-found.result) (named c.self.inside.names q)) name ∙ ap (λ f. cond (bytes_eq (decl_name d) q) (Some f) (named c.self.inside.names q)) what) in
     record {
       fits = subst (λ (ds : List Decl). IsGraph (record { decls = ds; lines = g.lines })) (sym pushed) (push_decl g d c.self.invariant.fits c.requires.is_decl first fits);
+      accesses = c.self.invariant.accesses;
       tables = added ∙ (sym (tables_push g.decls d) ∙ ap tables_of (sym pushed));
       limits = subst (λ (ds : List Decl). IsWithinLimits (record { decls = ds; lines = g.lines })) (sym pushed) (limits_decl g d fits);
       names = subst (λ (ds : List Decl). AreNamesOf (record { decls = ds; lines = g.lines }) c.insert.new.self) (sym pushed) (names_decl g d c.self.inside.names c.insert.new.self c.self.invariant.names (unused_decl_name g d fits) named_so);

@@ -1,9 +1,13 @@
 use Rattle.std.proofs.Common.{◌≡◌, ◌+◌, cond, ℕ, [], ◌∷◌, ◌++◌, List, None, Some, sym, subst, ap, ◌∙◌, length, arith}
+use Rattle.std.specs.Prelude.{Option, map}
+use Rattle.std.proofs.lemmas.List.{map-append}
 use Rattle.std.specs.Str.{bytes_eq}
 use Rattle.graph_model.specs.declared.kept.side.Side.{Side}
 use Rattle.graph_model.specs.declared.kept.side.Side.TheVariants.{From, To}
 use Rattle.graph_model.specs.declared.graph.found.Found.TheVariants as found
+use Rattle.graph_model.specs.declared.graph.verb.Access.{Access}
 use Rattle.graph_model.specs.declared.graph.verb.Line.{Line}
+use Rattle.graph_model.specs.graph.Access.{kept_accesses}
 use Rattle.graph_model.specs.graph.Graph.{GraphValue}
 use Rattle.graph_model.specs.graph.Edges.{line_edges}
 use Rattle.graph_model.specs.graph.Names.{AreNamesOf, named}
@@ -56,7 +60,12 @@ invariant_of-self-2 c =
     let place : c.len.result ≡ length g.lines = omega arith in
     let named_so : (q : List ℕ) → named c.insert.new.self q ≡ cond (bytes_eq l.name q) (Some (found.Line (length g.lines))) (named c.self.inside.names q) =
     λ q. c.in_ok-insert.ensures.ok q ∙ ap (λ n. cond (bytes_eq l.name q) (Some (found.Line n)) (named c.self.inside.names q)) place in
+    let kept : Line → List (Option Access) = λ x. kept_accesses x.verb in
     record {
+      accesses = c.push_within-2.ensures.items
+          ∙ (ap (λ xs. xs ++ c.verb_accesses-accesses.result ∷ []) c.reserve-2.ensures.items
+          ∙ (ap (λ x. c.self.inside.accesses.items ++ x ∷ []) c.verb_accesses-accesses.ensures.each
+          ∙ (ap (λ xs. xs ++ kept l ∷ []) c.self.invariant.accesses ∙ (sym (map-append kept g.lines (l ∷ [])) ∙ ap (map kept) (sym pushed)))));
       fits = subst (λ (ls : List Line). IsGraph (record { decls = g.decls; lines = ls })) (sym pushed) (push_line g l c.self.invariant.fits c.requires.is_line (fits at));
       tables = c.self.invariant.tables;
       limits = subst (λ (ls : List Line). IsWithinLimits (record { decls = g.decls; lines = ls })) (sym pushed) (limits_line g l (fits at));
