@@ -2,9 +2,8 @@
 
 use crate::graph::lists::LineList;
 use crate::graph::name::Name;
-use index_spaces::Op;
-
 pub use crate::graph::table::Kernel;
+use index_spaces::Op;
 
 /// A line: its name, what it does, and the line that it waits for.
 #[derive(Drop)]
