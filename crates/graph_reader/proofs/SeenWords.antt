@@ -1,5 +1,5 @@
 -- What is to be said of a word by what it stands for.
-use Rattle.std.proofs.Common.{◌≡◌, ℕ, zero, suc, ◌+◌, ◌<◌, ◌≤◌, Bool, true, false, not, ◌&&◌, ◌||◌, List, [], ◌∷◌, length, drop, map, refl, sym, ◌∙◌, ap, arith}
+use Rattle.std.proofs.Common.{◌≡◌, ℕ, zero, suc, ◌+◌, ◌<◌, ◌≤◌, Bool, true, false, not, ◌&&◌, ◌||◌, List, [], ◌∷◌, length, drop, refl, sym, ◌∙◌, ap, arith}
 use Rattle.std.specs.Prelude.{Option, Some, None, is_some, IfSome, position, bytes_eq, unwrap_or, slice_index_or}
 use Rattle.std.specs.Option.{option_map_or}
 use Rattle.std.specs.List.{list_any}
@@ -12,7 +12,7 @@ use Rattle.graph_model.specs.graph.Graph.{GraphValue, named_spaces, locks, barri
 use Rattle.graph_model.specs.graph.Name.{is_name}
 use Rattle.graph_reader.specs.Draft.{as_place, Placed, line_number}
 use Rattle.graph_reader.specs.FirstFault.{misnamed, twice, unknown, unlike, misnumbered, is_line_name}
-use Rattle.graph_reader.specs.Lookups.{IsFound, found_space, found_lock, found_barrier, found_line, found_number, found_twice, found_alike}
+use Rattle.graph_reader.specs.Lookups.{IsFound, found_line, found_number, found_twice, found_alike}
 use Rattle.graph_reader.specs.Kinds.{NamesThing, named_number, placed_value, words_in}
 use Rattle.graph_reader.proofs.Owners.{position_any, position_below}
 
