@@ -27,3 +27,4 @@ pub mod LineShapes
 pub mod ItemReads
 pub mod WrittenLists
 pub mod Extended
+pub mod SeenWords

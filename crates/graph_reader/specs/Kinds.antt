@@ -15,6 +15,8 @@ use Rattle.graph_model.specs.graph.Fits.{first_reason, is_used, repeats, line_fa
 use Rattle.std.specs.Str.{bytes_eq}
 use Rattle.graph_reader.specs.FirstFault.{misnamed, twice, unknown, unlike, misnumbered, draft_fault, column_word}
 use Rattle.graph_model.specs.declared.graph.table.Kind.{Kind}
+use Rattle.graph_reader.specs.declared.seen.Seen.{Seen}
+use Rattle.graph_reader.specs.declared.parts.Faults.{Faults}
 use Rattle.graph_model.specs.declared.graph.table.Place as table
 use Rattle.graph_model.specs.graph.Table.{kind_places}
 use Rattle.graph_model.specs.declared.graph.table.Place.TheVariants as places
@@ -45,6 +47,22 @@ abbrev pub placed_value : table.Place → List ℕ → ℕ
 placed_value places.Value w = unwrap_or (value_of w) 0
 placed_value p w = 0
 
+-- what is to be said of a word in its place
+pub record Tells (g : GraphValue) (p : table.Place) (w : List ℕ) (s : Seen) : Type 0 where
+  pub misnamed : s.misnamed ≡ misnamed (as_place p) w
+  pub twice : s.twice ≡ twice g (as_place p) w
+  pub unknown : s.unknown ≡ unknown g (as_place p) w
+  pub unlike : s.unlike ≡ unlike g (as_place p) w
+  pub misnumbered : s.misnumbered ≡ misnumbered (as_place p) w
+  pub number : s.number ≡ named_number g p w
+  pub value : s.value ≡ placed_value p w
+
+-- a place whose word is the name of one thing
+abbrev pub NamesThing : table.Place → Type 0
+NamesThing places.Value = ⊥
+NamesThing (places.Column mode over) = ⊥
+NamesThing p = Unit {0}
+
 -- the columns among words in their places
 abbrev pub column_words : List Placed → List (List ℕ)
 column_words ps = filter_map (λ (p : Placed). column_word p.0 p.1) ps
@@ -56,6 +74,14 @@ form_fails t kind ws = list_any (λ (p : Placed). t p.0 p.1) (kind_placed kind w
 -- there are as many words as a kind has places
 abbrev pub HasPlaces : Kind → List (List ℕ) → Type 0
 HasPlaces kind ws = length (form_of kind).places ≤ length ws
+
+-- what is to be said of words in their places
+pub record AllTell (g : GraphValue) (ps : List Placed) (faults : Faults) : Type 0 where
+  pub misnamed : faults.misnamed ≡ list_any (λ (p : Placed). misnamed p.0 p.1) ps
+  pub twice : faults.twice ≡ list_any (λ (p : Placed). twice g p.0 p.1) ps
+  pub unknown : faults.unknown ≡ list_any (λ (p : Placed). unknown g p.0 p.1) ps
+  pub unlike : faults.unlike ≡ list_any (λ (p : Placed). unlike g p.0 p.1) ps
+  pub misnumbered : faults.misnumbered ≡ list_any (λ (p : Placed). misnumbered p.0 p.1) ps
 
 -- the line behind `on`
 abbrev pub kind_on : GraphValue → Kind → List (List ℕ) → Option ℕ

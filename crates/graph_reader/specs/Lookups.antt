@@ -6,7 +6,11 @@ use Rattle.graph_model.specs.declared.graph.decl.BarrierInfo.{BarrierInfo}
 use Rattle.graph_model.specs.declared.graph.found.Found.{Found}
 use Rattle.graph_model.specs.declared.graph.found.Found.TheVariants as found
 use Rattle.graph_model.specs.declared.graph.verb.Line.{Line}
-use Rattle.graph_model.specs.graph.Graph.{GraphValue, named_spaces, columns, locks, barriers}
+use Rattle.graph_model.specs.declared.graph.table.Place.{Place}
+use Rattle.graph_model.specs.declared.graph.table.Place.TheVariants as places
+use Rattle.std.specs.Option.{option_map_or}
+use Rattle.std.specs.List.{list_any}
+use Rattle.graph_model.specs.graph.Graph.{GraphValue, named_spaces, columns, locks, barriers, line_passes, is_user, is_phase, is_acquire, is_release_of, ends_user}
 use Rattle.graph_model.specs.graph.Fits.{is_used}
 use Rattle.graph_model.specs.graph.Name.{is_name}
 use Rattle.graph_reader.specs.FirstFault.{is_inst_name}
@@ -53,6 +57,28 @@ is_found_inst (Some (found.Inst d)) = true
 is_found_inst (Some (found.Lock l)) = false
 is_found_inst (Some (found.Barrier b)) = false
 is_found_inst (Some (found.Line i)) = false
+
+-- the number of the thing that was found, where it is of the kind that the place takes
+abbrev pub found_number : Place → Option Found → Option ℕ
+found_number places.Space o = found_space o
+found_number places.Lock o = found_lock o
+found_number places.Barrier o = found_barrier o
+found_number places.Value o = None
+found_number (places.Column mode over) o = None
+found_number p o = found_line o
+
+-- whether the line that was found is ended already, or released already
+abbrev pub found_twice : GraphValue → Place → Option Found → Bool
+found_twice g places.User o = option_map_or (λ i. list_any (λ (l : Line). ends_user i l.verb) g.lines) (found_line o) false
+found_twice g places.Acquire o = option_map_or (λ i. list_any (λ (l : Line). is_release_of i l.verb) g.lines) (found_line o) false
+found_twice g p o = false
+
+-- whether the line that was found is of the kind that the place takes
+abbrev pub found_alike : GraphValue → Place → Option Found → Bool
+found_alike g places.User o = option_map_or (line_passes is_user g) (found_line o) false
+found_alike g places.Phase o = option_map_or (line_passes is_phase g) (found_line o) false
+found_alike g places.Acquire o = option_map_or (line_passes is_acquire g) (found_line o) false
+found_alike g p o = is_some (found_number p o)
 
 -- what a word stands for: one thing of one kind at most
 pub record IsFound (g : GraphValue) (w : List ℕ) (o : Option Found) : Type 0 where

@@ -1,72 +1,24 @@
 //! Operation lines but for merges.
 
 ghost use Rattle.basics.specs.Words.{contents};
-ghost use Rattle.std.specs.Prelude.{◌≡◌, ◌<◌, ◌≤◌, ◌&&◌, drop, length, List, ℕ, [], ◌+◌, slice_index_or};
+ghost use Rattle.std.specs.Prelude.{◌≡◌, ◌<◌, ◌≤◌, ◌&&◌, drop, map, length, List, ℕ, [], ◌+◌, slice_index_or};
 ghost use Rattle.std.specs.List.{list_any};
 ghost use Rattle.std.specs.Str.{bytes_eq};
 ghost use Rattle.graph_model.specs.graph.Fits.{repeats, first_reason};
-ghost use Rattle.graph_model.specs.graph.Table.{is_column};
-ghost use Rattle.graph_reader.specs.Draft.{Placed, form_of, has_on};
+ghost use Rattle.graph_model.specs.graph.Table.{is_column, parts_of};
+ghost use Rattle.graph_reader.specs.Draft.{Placed, form_of, number_in};
 ghost use Rattle.graph_reader.specs.FirstFault.{misnamed, twice, unknown, unlike, misnumbered, draft_tests};
-ghost use Rattle.graph_reader.specs.Kinds.{words_in, column_words, kind_draft, kind_on, form_reason, form_fails, HasPlaces, kind_line, IsReading, IsJudged};
+ghost use Rattle.graph_reader.specs.Kinds.{words_in, kind_placed, AllTell, column_words, kind_draft, kind_on, form_reason, form_fails, HasPlaces, kind_line, IsReading, IsJudged};
 
-use crate::checks::{
-    event_misnamed, event_unknown, event_unlike, is_name, misnamed, misnumbered, twice, unknown,
-    unlike,
-};
+use crate::checks::{event_misnamed, event_unknown, event_unlike, is_name};
 use crate::lookup::{line_number, look_up};
-use crate::parts::read_parts;
+use crate::parts::{Faults, read_parts};
 use crate::words::{behind, has_on, place_count, word};
 use graph_model::graph::Graph;
 use graph_model::name::Name;
-use graph_model::table::{Kind, Place};
+use graph_model::table::{Kind, Parts, Place};
 use graph_model::verb::{Line, Verb};
 use graph_model::why::Why;
-
-fn any_misnamed(places: &[Place], words: &[&[u8]]) -> bool
-    ensures { result ≡ list_any (λ (p : Placed). misnamed p.0 p.1) (words_in places.now (contents words.now)) }
-{
-    places
-        .iter()
-        .zip(words)
-        .any(|(place, word)| misnamed(*place, word))
-}
-
-fn any_twice(graph: &Graph, places: &[Place], words: &[&[u8]]) -> bool
-    ensures { result ≡ list_any (λ (p : Placed). twice graph.now p.0 p.1) (words_in places.now (contents words.now)) }
-{
-    places
-        .iter()
-        .zip(words)
-        .any(|(place, word)| twice(graph, *place, word))
-}
-
-fn any_unknown(graph: &Graph, places: &[Place], words: &[&[u8]]) -> bool
-    ensures { result ≡ list_any (λ (p : Placed). unknown graph.now p.0 p.1) (words_in places.now (contents words.now)) }
-{
-    places
-        .iter()
-        .zip(words)
-        .any(|(place, word)| unknown(graph, *place, word))
-}
-
-fn any_unlike(graph: &Graph, places: &[Place], words: &[&[u8]]) -> bool
-    ensures { result ≡ list_any (λ (p : Placed). unlike graph.now p.0 p.1) (words_in places.now (contents words.now)) }
-{
-    places
-        .iter()
-        .zip(words)
-        .any(|(place, word)| unlike(graph, *place, word))
-}
-
-fn any_misnumbered(places: &[Place], words: &[&[u8]]) -> bool
-    ensures { result ≡ list_any (λ (p : Placed). misnumbered p.0 p.1) (words_in places.now (contents words.now)) }
-{
-    places
-        .iter()
-        .zip(words)
-        .any(|(place, word)| misnumbered(*place, word))
-}
 
 fn is_column(place: Place) -> bool
     ensures { result ≡ is_column place }
@@ -122,74 +74,78 @@ fn event_behind<'a>(kind: Kind, words: &[&'a [u8]]) -> &'a [u8]
     word(words, place_count(kind) + 1)
 }
 
-/// Whether a word of a line is not spelled as its place asks, where it asks for names.
+/// Whether a word of a line fails a test, by the words in places and by that of an event.
 #[tactic(auto, using(crate::proofs::FormFaults::fails_is))]
-fn form_misnamed(kind: Kind, words: &[&[u8]]) -> bool
+fn form_misnamed(kind: Kind, words: &[&[u8]], faults: Faults) -> bool
+    requires { faults.misnamed ≡ list_any (λ (p : Placed). misnamed p.0 p.1) (kind_placed kind (contents words.now)) }
     ensures { result ≡ form_fails misnamed kind (contents words.now) }
 {
-    let places = kind.places();
-    any_misnamed(places, words)
-        || (has_on(kind, words) && event_misnamed(event_behind(kind, words)))
-}
-
-/// Whether a word of a line names what was ended or released already.
-#[tactic(auto, using(crate::proofs::FormFaults::fails_is))]
-fn form_twice(graph: &Graph, kind: Kind, words: &[&[u8]]) -> bool
-    ensures { result ≡ form_fails (twice graph.now) kind (contents words.now) }
-{
-    any_twice(graph, kind.places(), words)
+    faults.misnamed || (has_on(kind, words) && event_misnamed(event_behind(kind, words)))
 }
 
 /// Whether a word of a line names what is not declared.
 #[tactic(auto, using(crate::proofs::FormFaults::fails_is))]
-fn form_unknown(graph: &Graph, kind: Kind, words: &[&[u8]]) -> bool
+fn form_unknown(graph: &Graph, kind: Kind, words: &[&[u8]], faults: Faults) -> bool
+    requires { faults.unknown ≡ list_any (λ (p : Placed). unknown graph.now p.0 p.1) (kind_placed kind (contents words.now)) }
     ensures { result ≡ form_fails (unknown graph.now) kind (contents words.now) }
 {
-    let places = kind.places();
-    any_unknown(graph, places, words)
-        || (has_on(kind, words) && event_unknown(graph, event_behind(kind, words)))
+    faults.unknown || (has_on(kind, words) && event_unknown(graph, event_behind(kind, words)))
 }
 
 /// Whether a word of a line names a thing of another kind than its place takes.
 #[tactic(auto, using(crate::proofs::FormFaults::fails_is))]
-fn form_unlike(graph: &Graph, kind: Kind, words: &[&[u8]]) -> bool
+fn form_unlike(graph: &Graph, kind: Kind, words: &[&[u8]], faults: Faults) -> bool
+    requires { faults.unlike ≡ list_any (λ (p : Placed). unlike graph.now p.0 p.1) (kind_placed kind (contents words.now)) }
     ensures { result ≡ form_fails (unlike graph.now) kind (contents words.now) }
 {
-    let places = kind.places();
-    any_unlike(graph, places, words)
-        || (has_on(kind, words) && event_unlike(graph, event_behind(kind, words)))
+    faults.unlike || (has_on(kind, words) && event_unlike(graph, event_behind(kind, words)))
+}
+
+/// Whether a word of a line names what was ended or released already.
+fn form_twice(graph: &Graph, kind: Kind, words: &[&[u8]], faults: Faults) -> bool
+    requires { faults.twice ≡ list_any (λ (p : Placed). twice graph.now p.0 p.1) (kind_placed kind (contents words.now)) }
+    ensures { result ≡ form_fails (twice graph.now) kind (contents words.now) }
+{
+    faults.twice
 }
 
 /// Whether a word of a line is not spelled as the number that its place asks for.
-#[tactic(auto, using(crate::proofs::FormFaults::fails_is))]
-fn form_misnumbered(kind: Kind, words: &[&[u8]]) -> bool
+fn form_misnumbered(kind: Kind, words: &[&[u8]], faults: Faults) -> bool
+    requires { faults.misnumbered ≡ list_any (λ (p : Placed). misnumbered p.0 p.1) (kind_placed kind (contents words.now)) }
     ensures { result ≡ form_fails misnumbered kind (contents words.now) }
 {
-    any_misnumbered(kind.places(), words)
+    faults.misnumbered
 }
 
 /// The first reason that refuses a word of a line.
 #[tactic(auto, unfolding(crate::specs::Kinds::form_reason))]
-fn form_fault(graph: &Graph, kind: Kind, name: &[u8], words: &[&[u8]]) -> Option<Why>
-    requires { HasPlaces kind (contents words.now) }
+fn form_fault(
+    graph: &Graph,
+    kind: Kind,
+    name: &[u8],
+    words: &[&[u8]],
+    faults: Faults,
+) -> Option<Why>
+    requires there { HasPlaces kind (contents words.now) }
+    requires faults { AllTell graph.now (kind_placed kind (contents words.now)) faults }
     ensures { result ≡ form_reason graph.now kind name.now (contents words.now) }
 {
-    if !is_name(name) || form_misnamed(kind, words) {
+    if !is_name(name) || form_misnamed(kind, words, faults) {
         return Some(Why::Name);
     }
     if look_up(graph, name).is_some()
-        || form_twice(graph, kind, words)
+        || form_twice(graph, kind, words, faults)
         || columns_repeat(kind.places(), words)
     {
         return Some(Why::Twice);
     }
-    if form_unknown(graph, kind, words) {
+    if form_unknown(graph, kind, words, faults) {
         return Some(Why::Unknown);
     }
-    if form_unlike(graph, kind, words) {
+    if form_unlike(graph, kind, words, faults) {
         return Some(Why::Kind);
     }
-    if form_misnumbered(kind, words) {
+    if form_misnumbered(kind, words, faults) {
         return Some(Why::Number);
     }
     None
@@ -207,13 +163,13 @@ fn on_of(graph: &Graph, kind: Kind, words: &[&[u8]]) -> Option<u32>
 }
 
 /// The line that words spell in their places, where each stands for something.
-fn line_of(graph: &Graph, kind: Kind, name: Name, words: &[&[u8]]) -> Line
-    requires { HasPlaces kind (contents words.now) }
+fn line_of(graph: &Graph, kind: Kind, name: Name, words: &[&[u8]], parts: &Parts) -> Line
+    requires { parts_of kind parts.now ≡ map (number_in graph.now) (kind_placed kind (contents words.now)) }
     ensures { result ≡ kind_line graph.now kind name (contents words.now) }
 {
     Line {
         name,
-        verb: Verb::of(kind, &read_parts(graph, kind.places(), words)),
+        verb: Verb::of(kind, parts),
         on: on_of(graph, kind, words),
     }
 }
@@ -241,8 +197,9 @@ pub(crate) fn read_form(
     let Some(new) = Name::new(name) else {
         return Err(Why::Name);
     };
-    if let Some(why) = form_fault(graph, kind, name, words) {
+    let (parts, faults) = read_parts(graph, kind.places(), words);
+    if let Some(why) = form_fault(graph, kind, name, words, faults) {
         return Err(why);
     }
-    fitting_line(graph, line_of(graph, kind, new, words))
+    fitting_line(graph, line_of(graph, kind, new, words, &parts))
 }

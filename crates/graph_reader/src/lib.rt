@@ -15,6 +15,7 @@ mod names;
 mod numbers;
 mod parts;
 mod reader;
+mod seen;
 mod word_kinds;
 mod words;
 mod writer;

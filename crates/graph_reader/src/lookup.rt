@@ -27,7 +27,7 @@ pub(crate) fn look_up(graph: &Graph, word: &[u8]) -> Option<Found>
     }
 }
 
-fn as_space(found: Option<Found>) -> Option<u32>
+pub(crate) fn as_space(found: Option<Found>) -> Option<u32>
     ensures { result ≡ found_space found }
 {
     match found {
@@ -36,7 +36,7 @@ fn as_space(found: Option<Found>) -> Option<u32>
     }
 }
 
-fn as_lock(found: Option<Found>) -> Option<u32>
+pub(crate) fn as_lock(found: Option<Found>) -> Option<u32>
     ensures { result ≡ found_lock found }
 {
     match found {
@@ -45,7 +45,7 @@ fn as_lock(found: Option<Found>) -> Option<u32>
     }
 }
 
-fn as_barrier(found: Option<Found>) -> Option<u32>
+pub(crate) fn as_barrier(found: Option<Found>) -> Option<u32>
     ensures { result ≡ found_barrier found }
 {
     match found {
@@ -54,7 +54,7 @@ fn as_barrier(found: Option<Found>) -> Option<u32>
     }
 }
 
-fn as_line(found: Option<Found>) -> Option<u32>
+pub(crate) fn as_line(found: Option<Found>) -> Option<u32>
     ensures { result ≡ found_line found }
 {
     match found {

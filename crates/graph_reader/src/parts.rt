@@ -1,57 +1,68 @@
-//! What stands in the places of an operation line.
+//! What the words of an operation line stand for in their places, and what refuses them.
 
 ghost use Rattle.basics.specs.Words.{contents};
-ghost use Rattle.std.specs.Prelude.{◌≡◌, ◌≤◌, map, length};
+ghost use Rattle.std.specs.Prelude.{◌≡◌, ◌≤◌, ◌||◌, map, length};
 ghost use Rattle.graph_model.specs.graph.Table.{parts_from};
-ghost use Rattle.graph_reader.specs.Draft.{as_place, number_in};
-ghost use Rattle.graph_reader.specs.Kinds.{named_number, placed_value, words_in};
+ghost use Rattle.graph_reader.specs.Draft.{number_in};
+ghost use Rattle.graph_reader.specs.Kinds.{AllTell, words_in};
 
-use crate::lookup::{barrier, column, line, lock, space};
-use crate::numbers::value;
+use crate::seen::{Seen, see};
 use crate::words::word;
 use graph_model::graph::Graph;
 use graph_model::table::{MOST_PLACES, Parts, Place};
 
-/// The number of what a word names in its place, and 0 where it names no such thing.
-#[tactic(auto, using(crate::proofs::ColumnWords::column_number_is))]
-fn named_number(graph: &Graph, place: Place, word: &[u8]) -> u32
-    ensures { result ≡ named_number graph.now place word.now }
-{
-    let number = match place {
-        Place::User | Place::Phase | Place::Acquire => line(graph, word),
-        Place::Lock => lock(graph, word),
-        Place::Barrier => barrier(graph, word),
-        Place::Space => space(graph, word),
-        Place::Column(..) => column(graph, word),
-        Place::Value => None,
-    };
-    number.unwrap_or(0)
+/// What is to be said of one of the words at least.
+#[derive(Clone, Copy)]
+pub(crate) struct Faults {
+    pub(crate) misnamed: bool,
+    pub(crate) twice: bool,
+    pub(crate) unknown: bool,
+    pub(crate) unlike: bool,
+    pub(crate) misnumbered: bool,
 }
 
-/// The value that a word spells in its place, and 0 where it spells none.
-fn placed_value(place: Place, word: &[u8]) -> u64
-    ensures { result ≡ placed_value place word.now }
-{
-    match place {
-        Place::Value => value(word).unwrap_or(0),
-        _ => 0,
+impl Faults {
+    /// With one more word.
+    fn with(self, seen: Seen) -> Faults
+        ensures misnamed { result.misnamed ≡ (self.misnamed || seen.misnamed) }
+        ensures twice { result.twice ≡ (self.twice || seen.twice) }
+        ensures unknown { result.unknown ≡ (self.unknown || seen.unknown) }
+        ensures unlike { result.unlike ≡ (self.unlike || seen.unlike) }
+        ensures misnumbered { result.misnumbered ≡ (self.misnumbered || seen.misnumbered) }
+    {
+        Faults {
+            misnamed: self.misnamed || seen.misnamed,
+            twice: self.twice || seen.twice,
+            unknown: self.unknown || seen.unknown,
+            unlike: self.unlike || seen.unlike,
+            misnumbered: self.misnumbered || seen.misnumbered,
+        }
     }
 }
 
-/// What words stand for in their places.
-pub(crate) fn read_parts(graph: &Graph, places: &[Place], words: &[&[u8]]) -> Parts
+/// What words stand for in their places, and what refuses them.
+pub(crate) fn read_parts(graph: &Graph, places: &[Place], words: &[&[u8]]) -> (Parts, Faults)
     requires few { length places.now ≤ MOST_PLACES }
     requires there { length places.now ≤ length words.now }
-    ensures { parts_from 0 places.now result ≡ map (number_in graph.now) (words_in places.now (contents words.now)) }
+    ensures parts { parts_from 0 places.now result.0 ≡ map (number_in graph.now) (words_in places.now (contents words.now)) }
+    ensures faults { AllTell graph.now (words_in places.now (contents words.now)) result.1 }
 {
     let mut parts = Parts {
         numbers: [0; MOST_PLACES],
         values: [0; MOST_PLACES],
     };
+    let mut faults = Faults {
+        misnamed: false,
+        twice: false,
+        unknown: false,
+        unlike: false,
+        misnumbered: false,
+    };
     for i in 0..places.len() {
-        let word = word(words, i);
-        parts.numbers[i] = named_number(graph, places[i], word);
-        parts.values[i] = placed_value(places[i], word);
+        let seen = see(graph, places[i], word(words, i));
+        parts.numbers[i] = seen.number;
+        parts.values[i] = seen.value;
+        faults = faults.with(seen);
     }
-    parts
+    (parts, faults)
 }

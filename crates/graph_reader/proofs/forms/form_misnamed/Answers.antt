@@ -1,14 +1,11 @@
 use Rattle.std.proofs.Common.{List, ℕ, Bor, map, sym, ◌∙◌, ap}
-use Rattle.std.specs.List.{list_any}
-use Rattle.graph_reader.specs.Draft.{Placed, EventName}
+use Rattle.graph_reader.specs.Draft.{EventName}
 use Rattle.graph_reader.specs.FirstFault.{misnamed}
-use Rattle.graph_reader.specs.Kinds.{words_in}
 use Rattle.graph_reader.proofs.FormFaults.{fails_at_on}
 use Rattle.graph_reader.proofs.forms.form_misnamed.Goals as goal
 
 pub returns-then-has_on : goal.returns-then-has_on
 returns-then-has_on c =
-    sym (fails_at_on misnamed c.args.kind (map (λ (w : Bor (List ℕ)). w.now) c.args.words.now) c.event_misnamed.result
-    (ap (λ ps. list_any (λ (p : Placed). misnamed p.0 p.1) (words_in ps (map (λ (w : Bor (List ℕ)). w.now) c.args.words.now))) (sym c.places-places.ensures) ∙ (sym c.any_misnamed.ensures ∙ c.if-any_misnamed.false))
+    sym (fails_at_on misnamed c.args.kind (map (λ (w : Bor (List ℕ)). w.now) c.args.words.now) c.event_misnamed.result (sym c.requires ∙ c.if-faults.false)
     (sym c.has_on.ensures ∙ c.if-has_on.true)
     (ap (λ w. misnamed EventName w) (sym c.event_behind.ensures) ∙ sym c.event_misnamed.ensures))

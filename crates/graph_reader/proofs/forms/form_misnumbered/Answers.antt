@@ -1,10 +1,7 @@
-use Rattle.std.proofs.Common.{List, ℕ, Bor, map, sym, refl, ◌∙◌, ap}
-use Rattle.std.specs.List.{list_any}
-use Rattle.graph_reader.specs.Draft.{Placed}
+use Rattle.std.proofs.Common.{List, ℕ, Bor, map, sym, refl, ◌∙◌}
 use Rattle.graph_reader.specs.FirstFault.{misnumbered}
-use Rattle.graph_reader.specs.Kinds.{words_in}
 use Rattle.graph_reader.proofs.FormFaults.{fails_at_places}
 use Rattle.graph_reader.proofs.forms.form_misnumbered.Goals as goal
 
 pub returns : goal.returns
-returns c = c.any_misnumbered.ensures ∙ (ap (λ ps. list_any (λ (p : Placed). misnumbered p.0 p.1) (words_in ps (map (λ (w : Bor (List ℕ)). w.now) c.args.words.now))) c.places.ensures ∙ sym (fails_at_places misnumbered c.args.kind (map (λ (w : Bor (List ℕ)). w.now) c.args.words.now) refl))
+returns c = c.requires ∙ sym (fails_at_places misnumbered c.args.kind (map (λ (w : Bor (List ℕ)). w.now) c.args.words.now) refl)

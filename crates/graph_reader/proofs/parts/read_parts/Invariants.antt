@@ -3,7 +3,10 @@ use Rattle.std.specs.Prelude.{slice_index, slice_index_or}
 use Rattle.basics.specs.Words.{contents}
 use Rattle.graph_model.specs.declared.graph.table.TheConstants.{MOST_PLACES}
 use Rattle.graph_model.specs.declared.graph.table.Place.TheVariants as places
-use Rattle.graph_reader.specs.Kinds.{named_number, placed_value}
+use Rattle.graph_reader.specs.Draft.{Placed}
+use Rattle.graph_reader.specs.FirstFault.{misnamed, twice, unknown, unlike, misnumbered}
+use Rattle.graph_reader.specs.Kinds.{named_number, placed_value, words_in}
+use Rattle.graph_reader.proofs.SeenWords.{AnySoFar}
 use Rattle.graph_reader.proofs.parts.read_parts.Given as goal
 
 abbrev pub invariant-loop-i : goal.invariant-loop-i
@@ -12,4 +15,9 @@ invariant-loop-i l = record {
   value_room : length l.parts.values ≡ MOST_PLACES;
   numbers : (j : ℕ) → j < l.i → slice_index l.parts.numbers j ≡ named_number l.graph (slice_index_or l.places j places.User) (slice_index_or (contents l.words) j []);
   values : (j : ℕ) → j < l.i → slice_index l.parts.values j ≡ placed_value (slice_index_or l.places j places.User) (slice_index_or (contents l.words) j []);
+  misnamed : AnySoFar (λ (p : Placed). misnamed p.0 p.1) l.faults.misnamed (words_in l.places (contents l.words)) l.i;
+  twice : AnySoFar (λ (p : Placed). twice l.graph p.0 p.1) l.faults.twice (words_in l.places (contents l.words)) l.i;
+  unknown : AnySoFar (λ (p : Placed). unknown l.graph p.0 p.1) l.faults.unknown (words_in l.places (contents l.words)) l.i;
+  unlike : AnySoFar (λ (p : Placed). unlike l.graph p.0 p.1) l.faults.unlike (words_in l.places (contents l.words)) l.i;
+  misnumbered : AnySoFar (λ (p : Placed). misnumbered p.0 p.1) l.faults.misnumbered (words_in l.places (contents l.words)) l.i;
 }

@@ -1,0 +1,111 @@
+-- What is to be said of a word by what it stands for.
+use Rattle.std.proofs.Common.{◌≡◌, ℕ, zero, suc, ◌+◌, ◌<◌, ◌≤◌, Bool, true, false, not, ◌&&◌, ◌||◌, List, [], ◌∷◌, length, drop, refl, sym, ◌∙◌, ap, arith}
+use Rattle.std.specs.Prelude.{Option, Some, None, is_some, IfSome, position, bytes_eq, unwrap_or, slice_index_or}
+use Rattle.std.specs.Option.{option_map_or}
+use Rattle.std.specs.List.{list_any}
+use Rattle.graph_model.specs.declared.graph.found.Found.{Found}
+use Rattle.graph_model.specs.declared.graph.decl.BarrierInfo.{BarrierInfo}
+use Rattle.graph_model.specs.declared.graph.table.Place as table
+use Rattle.graph_model.specs.declared.graph.table.Place.TheVariants as places
+use Rattle.graph_model.specs.declared.graph.verb.Line.{Line}
+use Rattle.graph_model.specs.graph.Graph.{GraphValue, named_spaces, locks, barriers, line_passes, is_user, is_phase, is_acquire, is_release_of, ends_user}
+use Rattle.graph_model.specs.graph.Name.{is_name}
+use Rattle.graph_reader.specs.Draft.{as_place, Placed, line_number}
+use Rattle.graph_reader.specs.FirstFault.{misnamed, twice, unknown, unlike, misnumbered, is_line_name}
+use Rattle.graph_reader.specs.Lookups.{IsFound, found_line, found_number, found_twice, found_alike}
+use Rattle.graph_reader.specs.Kinds.{NamesThing, named_number, placed_value, words_in}
+use Rattle.graph_reader.proofs.Owners.{position_any, position_below}
+
+-- a line that is found is there
+below_by : (g : GraphValue) (w : List ℕ) (o : Option ℕ) → position (λ (x : Line). bytes_eq x.name w) g.lines ≡ o → IfSome o (λ i. i < length g.lines)
+below_by g w None e = tt
+below_by g w (Some i) e = position_below (λ (x : Line). bytes_eq x.name w) g.lines i e
+
+pub found_below : (g : GraphValue) (w : List ℕ) (o : Option Found) → IsFound g w o → IfSome (found_line o) (λ i. i < length g.lines)
+found_below g w o f = below_by g w (found_line o) f.line
+
+-- a test of the line that a word names
+tested : (q : Option ℕ) (t : ℕ → Bool) → (is_some q && t (unwrap_or q 0)) ≡ option_map_or t q false
+tested None t = refl
+tested (Some i) t = refl
+
+line_test : (g : GraphValue) (w : List ℕ) (o : Option Found) → IsFound g w o → (t : ℕ → Bool) → (is_line_name g w && t (line_number g w)) ≡ option_map_or t (found_line o) false
+line_test g w o f t =
+    ap (λ b. b && t (line_number g w)) (position_any (λ (x : Line). bytes_eq x.name w) g.lines)
+    ∙ (ap (λ q. is_some q && t (unwrap_or q 0)) f.line ∙ tested (found_line o) t)
+
+module _ (g : GraphValue) (w : List ℕ) (o : Option Found) (f : IsFound g w o) where
+  pub twice_is : (p : table.Place) → NamesThing p → found_twice g p o ≡ twice g (as_place p) w
+  twice_is places.User n = sym (line_test g w o f (λ i. list_any (λ (l : Line). ends_user i l.verb) g.lines))
+  twice_is places.Acquire n = sym (line_test g w o f (λ i. list_any (λ (l : Line). is_release_of i l.verb) g.lines))
+  twice_is places.Value n = absurd n
+  twice_is (places.Column mode over) n = absurd n
+  twice_is p n = refl
+
+  pub unlike_is : (p : table.Place) → NamesThing p → not (found_alike g p o) ≡ unlike g (as_place p) w
+  unlike_is places.User n = ap not (sym (line_test g w o f (line_passes is_user g)))
+  unlike_is places.Phase n = ap not (sym (line_test g w o f (line_passes is_phase g)))
+  unlike_is places.Acquire n = ap not (sym (line_test g w o f (line_passes is_acquire g)))
+  unlike_is places.Lock n = ap not (sym (position_any (bytes_eq w) (locks g) ∙ ap (λ (q : Option ℕ). is_some q) f.lock))
+  unlike_is places.Barrier n = ap not (sym (position_any (λ (x : BarrierInfo). bytes_eq x.name w) (barriers g) ∙ ap (λ (q : Option ℕ). is_some q) f.barrier))
+  unlike_is places.Space n = ap not (sym (position_any (λ (x : List ℕ × List (ℕ × ℕ)). bytes_eq x.0 w) (named_spaces g) ∙ ap (λ (q : Option ℕ). is_some q) f.space))
+  unlike_is places.Value n = absurd n
+  unlike_is (places.Column mode over) n = absurd n
+
+  pub unknown_is : (p : table.Place) → NamesThing p → not (is_some o) ≡ unknown g (as_place p) w
+  unknown_is places.Value n = absurd n
+  unknown_is (places.Column mode over) n = absurd n
+  unknown_is p n = ap not (sym f.used)
+
+  pub number_is : (p : table.Place) → NamesThing p → unwrap_or (found_number p o) 0 ≡ named_number g p w
+  number_is places.Lock n = ap (λ q. unwrap_or q 0) (sym f.lock)
+  number_is places.Barrier n = ap (λ q. unwrap_or q 0) (sym f.barrier)
+  number_is places.Space n = ap (λ q. unwrap_or q 0) (sym f.space)
+  number_is places.Value n = absurd n
+  number_is (places.Column mode over) n = absurd n
+  number_is p n = ap (λ q. unwrap_or q 0) (sym f.line)
+
+pub misnamed_is : (p : table.Place) (w : List ℕ) → NamesThing p → not (is_name w) ≡ misnamed (as_place p) w
+misnamed_is places.Value w n = absurd n
+misnamed_is (places.Column mode over) w n = absurd n
+misnamed_is p w n = refl
+
+pub name_plain : (p : table.Place) (w : List ℕ) → NamesThing p → (misnumbered (as_place p) w ≡ false) × (placed_value p w ≡ 0)
+name_plain places.Value w n = absurd n
+name_plain (places.Column mode over) w n = absurd n
+name_plain p w n = (refl, refl)
+
+-- words in their places, from one of them on
+pub placed_next : (ps : List table.Place) (ws : List (List ℕ)) (i : ℕ) → i < length ps → i < length ws → drop i (words_in ps ws) ≡ (as_place (slice_index_or ps i places.User), slice_index_or ws i []) ∷ drop (i + 1) (words_in ps ws)
+placed_next [] ws i h k = absurd (omega arith)
+placed_next (p ∷ ps) [] i h k = absurd (omega arith)
+placed_next (p ∷ ps) (w ∷ ws) zero h k = refl
+placed_next (p ∷ ps) (w ∷ ws) (suc i) h k = placed_next ps ws i (omega arith) (omega arith)
+    ∙ ap (λ m. (as_place (slice_index_or ps i places.User), slice_index_or ws i []) ∷ drop m (words_in (p ∷ ps) (w ∷ ws))) (let e : suc (i + 1) ≡ suc i + 1 = omega arith in e)
+
+pub placed_over : (ps : List table.Place) (ws : List (List ℕ)) (i : ℕ) → length ps ≤ i → drop i (words_in ps ws) ≡ []
+placed_over [] ws zero h = refl
+placed_over [] ws (suc i) h = refl
+placed_over (p ∷ ps) ws zero h = absurd (omega arith)
+placed_over (p ∷ ps) [] (suc i) h = refl
+placed_over (p ∷ ps) (w ∷ ws) (suc i) h = placed_over ps ws i (omega arith)
+
+-- whether a word passes a test, as far as they were looked at
+abbrev pub AnySoFar : (Placed → Bool) → Bool → List Placed → ℕ → Type 0
+AnySoFar t b ps i = (b || list_any t (drop i ps)) ≡ list_any t ps
+
+or_again : (a b c : Bool) → ((a || b) || c) ≡ (a || (b || c))
+or_again true b c = refl
+or_again false b c = refl
+
+or_none : (b : Bool) → b ≡ (b || false)
+or_none true = refl
+or_none false = refl
+
+pub any_next : (t : Placed → Bool) (b c s : Bool) (ps : List Placed) (i : ℕ) (x : Placed) → AnySoFar t b ps i → drop i ps ≡ x ∷ drop (i + 1) ps → s ≡ t x → c ≡ (b || s) → AnySoFar t c ps (i + 1)
+any_next t b c s ps i x h d e k =
+    ap (λ y. y || list_any t (drop (i + 1) ps)) (k ∙ ap (λ y. b || y) e)
+    ∙ (or_again b (t x) (list_any t (drop (i + 1) ps)) ∙ (ap (λ ys. b || list_any t ys) (sym d) ∙ h))
+
+pub any_end : (t : Placed → Bool) (b : Bool) (ps : List Placed) (i : ℕ) → AnySoFar t b ps i → drop i ps ≡ [] → b ≡ list_any t ps
+any_end t b ps i h d = or_none b ∙ (ap (λ ys. b || list_any t ys) (sym d) ∙ h)
