@@ -11,7 +11,7 @@ use crate::held::Held;
 use graph_model::graph::Graph;
 use graph_model::verb::Mode;
 use index_spaces::NoMemory;
-use index_spaces::room::{filled, push};
+use index_spaces::room::{filled, push, with_room};
 use std::alloc::Global;
 
 /// The reservation that guards each class, in sections of which all its members lie, and for each
@@ -157,7 +157,7 @@ impl Guarding {
         requires opened { AreOpened held.now order.now classes.now.of.items self.locks.items self.openings.items (length classes.now.of.items) }
         ensures { IfOk result (λ s. AreGuards graph.now order.now classes.now.keys.items classes.now.of.items s.locks.items s.starts.items) }
     {
-        let mut starts = Vec::new(alloc);
+        let mut starts = with_room(alloc, classes.of.len())?;
         for number in 0..3 * graph.lines() {
             let start = self.start(graph, order, classes, held, number);
             push(&mut starts, start)?;
