@@ -1,4 +1,3 @@
-use Rattle.std.proofs.Common.{◌≡◌}
 use Rattle.race_check.specs.Paths.{path_in, word_bit}
 use Rattle.race_check.proofs.WordScan.{word_same, word_and}
 use Rattle.race_check.proofs.summaries.word_between.Goals as goal

@@ -1,5 +1,4 @@
-use Rattle.std.proofs.Common.{◌≡◌, ◌+◌, ◌*◌, ◌<◌, length, sym, ◌∙◌, subst, arith}
-use Rattle.race_check.specs.Paths.{path_in}
+use Rattle.std.proofs.Common.{◌≡◌, ◌+◌, ◌*◌, ◌<◌, sym, ◌∙◌, subst, arith}
 use Rattle.race_check.specs.Summaries.{AreSummedTo}
 use Rattle.race_check.proofs.RuleSteps.{release_known}
 use Rattle.race_check.proofs.SummarySteps.{sums_skip, no_release_no_section, summing_done, inside_by_paths, lines_inside}
