@@ -1,16 +1,22 @@
 -- The summaries of sections, acquire by acquire and line by line.
-use Rattle.std.proofs.Common.{◌≡◌, ℕ, ◌+◌, ◌<◌, ◌≤◌, Bool, true, false, inl, inr, List, length, refl, sym, ◌∙◌, subst, arith}
+use Rattle.std.proofs.Common.{◌≡◌, ℕ, zero, suc, ◌+◌, ◌*◌, ◌<◌, ◌≤◌, Bool, true, false, ◌&&◌, inl, inr, List, length, refl, sym, ◌∙◌, subst, arith}
 use Rattle.std.specs.Prelude.{◌≢◌, Option, Some, None, slice_get}
 use Rattle.std.specs.List.{slice_index_or}
-use Rattle.std.proofs.lemmas.Bool.{cases_lt, cases_eq}
+use Rattle.std.specs.Int.{bit_at}
+use Rattle.std.proofs.lemmas.Bool.{true≢false, and_parts, and_from, cases_lt, cases_eq, ne_eqb}
+use Rattle.std.proofs.lemmas.Nat.Bits.{bit_at-zero}
 use Rattle.std.proofs.lemmas.Option.{none-some, same_Some}
 use Rattle.graph_model.specs.graph.Graph.{GraphValue, locks, is_acquire_of}
 use Rattle.graph_model.specs.graph.Fits.{IsGraph}
 use Rattle.graph_model.specs.meaning.Path.{HasPath}
 use Rattle.graph_model.specs.meaning.Rules.{Acquires, Section}
-use Rattle.race_check.specs.Paths.{PathsValue, path_in, IsPathTable}
+use Rattle.race_sweeps.specs.Marks.{bit_in}
+use Rattle.graph_model.specs.graph.Edges.{edges}
+use Rattle.graph_model.proofs.PathTable.{path_below}
+use Rattle.race_check.specs.Paths.{PathsValue, path_in, IsPathTable, EdgesBetween}
 use Rattle.race_check.specs.Releases.{release_in, AreReleases}
-use Rattle.race_check.specs.Summaries.{IsSummaryTo, AreSummaries, AreSummed, ApartIn, MayBeApartBy, IsNoted}
+use Rattle.race_check.specs.Summaries.{IsSummaryTo, AreSummaries, AreSummedTo, AreInside, AreSummed, ApartIn, MayBeApartBy, IsNoted}
+use Rattle.race_check.specs.Words.{IsWordOf}
 use Rattle.race_check.specs.declared.summaries.Summary.{Summary}
 use Rattle.graph_model.proofs.VerbFacts.{passes_below}
 use Rattle.graph_model.proofs.ReleaseFacts.{acquired_lock_known}
@@ -39,14 +45,8 @@ no_release_no_section g releases are l q e i s = none-some s.release (sym e ∙ 
 pub not_acquire_no_section : (g : GraphValue) (l q : ℕ) → (Acquires g q l → ⊥) → (i : ℕ) → Section g l q i → ⊥
 not_acquire_no_section g l q none i s = none s.acquires
 
--- the lines below a number have the acquire summed, the others not yet
-pub record AreSummedTo (g : GraphValue) (l q n : ℕ) (first : List (Option ℕ)) (more : List Bool) : Type 0 where
-  pub firsts : length first ≡ length g.lines
-  pub mores : length more ≡ length g.lines
-  pub low : (i : ℕ) → i < n → i < length g.lines → IsSummaryTo g l i (q + 1) (slice_index_or first i None) (slice_index_or more i false)
-  pub high : (i : ℕ) → n ≤ i → i < length g.lines → IsSummaryTo g l i q (slice_index_or first i None) (slice_index_or more i false)
-
-pub summing_done : (g : GraphValue) (l q n : ℕ) (first : List (Option ℕ)) (more : List Bool) → n ≡ length g.lines → AreSummedTo g l q n first more → AreSummaries g l (q + 1) first more
+-- all lines have it
+pub summing_done : (g : GraphValue) (l q n : ℕ) (first : List (Option ℕ)) (more : List Bool) → length g.lines ≤ n → AreSummedTo g l q n first more → AreSummaries g l (q + 1) first more
 summing_done g l q n first more all s = record { firsts = s.firsts; mores = s.mores; each = λ i b. s.low i (omega arith) b }
 
 -- one more line, which lies not in the section
@@ -60,6 +60,18 @@ summing_skips g l q n first more out s = record {
   ];
   high = λ i h b. s.high i (omega arith) b;
 }
+
+-- 64 lines more, none of which lies in the section
+pub summing_skips_all : (g : GraphValue) (l q w : ℕ) (first : List (Option ℕ)) (more : List Bool) → AreInside g l q w 0 → AreSummedTo g l q (w * 64) first more → AreSummedTo g l q (w * 64 + 64) first more
+summing_skips_all g l q w first more out s = up_to 64 (omega arith)
+  where
+    no_bit : (b : ℕ) → bit_in 0 b ≡ false
+    no_bit b = ne_eqb (bit_at 0 b) 1 (λ one. (let z : bit_at 0 b ≡ 0 = bit_at-zero b in absurd (omega arith)))
+
+    up_to : (k : ℕ) → k ≤ 64 → AreSummedTo g l q (w * 64 + k) first more
+    up_to zero h = subst (λ n. AreSummedTo g l q n first more) (let e : w * 64 ≡ w * 64 + 0 = omega arith in e) s
+    up_to (suc k) h = subst (λ n. AreSummedTo g l q n first more) (let e : w * 64 + k + 1 ≡ w * 64 + suc k = omega arith in e)
+        (summing_skips g l q (w * 64 + k) first more (λ x. true≢false (sym ((out k (omega arith)).1 x) ∙ no_bit k)) (up_to k (omega arith)))
 
 -- or which does
 pub summing_notes : (g : GraphValue) (l q n : ℕ) (first : List (Option ℕ)) (more : List Bool) (first_after : List (Option ℕ)) (more_after : List Bool) → n < length g.lines → Section g l q n → IsNoted q n first more first_after more_after →
@@ -97,6 +109,20 @@ pub paths_of_section : (g : GraphValue) (t : PathsValue) (releases : List (Optio
 paths_of_section g t releases table are l q r i e s =
     let same : s.release ≡ r = same_Some s.release r (sym (are.table.1 q s.release s.releases) ∙ e) in
     (table.is_test.passes q i s.entered, table.is_test.passes i r (subst (HasPath g i) same s.left))
+
+-- the lines of a word that lie between an acquire and its release
+pub inside_by_paths : (g : GraphValue) (t : PathsValue) (releases : List (Option ℕ)) → IsPathTable g t → AreReleases g releases → (l q r w word : ℕ) → Acquires g q l → release_in releases q ≡ Some r →
+    IsWordOf (λ j. path_in t q j && path_in t j r) w word → AreInside g l q w word
+inside_by_paths g t releases table are l q r w word a e is b h = (
+  λ set. (let both = and_parts (path_in t q (w * 64 + b)) (path_in t (w * 64 + b) r) (sym (is b h) ∙ set) in section_by_paths g t releases table are l q r (w * 64 + b) a e both.0 both.1),
+  λ s. (let p = paths_of_section g t releases table are l q r (w * 64 + b) e s in is b h ∙ and_from (path_in t q (w * 64 + b)) (path_in t (w * 64 + b) r) p.0 p.1),
+)
+
+-- and these are lines
+pub lines_inside : (g : GraphValue) (t : PathsValue) → IsPathTable g t → EdgesBetween g → (q r w word : ℕ) → IsWordOf (λ j. path_in t q j && path_in t j r) w word → (b : ℕ) → b < 64 → bit_in word b ≡ true → w * 64 + b < length g.lines
+lines_inside g t table between q r w word is b h set =
+    let both = and_parts (path_in t q (w * 64 + b)) (path_in t (w * 64 + b) r) (sym (is b h) ∙ set) in
+    (path_below (edges g) (length g.lines) between (table.is_test.holds q (w * 64 + b) both.0)).1
 
 -- two lines are apart in a reservation by their summaries
 module _ (g : GraphValue) (fits : IsGraph g) (summaries : List Summary) (summed : AreSummed g summaries) (i j : ℕ) (i_line : i < length g.lines) (j_line : j < length g.lines) where

@@ -1,8 +1,9 @@
 -- In which sections of a reservation a line lies, by one acquire and a mark.
-use Rattle.std.specs.Prelude.{◌≡◌, ◌≢◌, ℕ, ◌<◌, ◌⊎◌, Bool, true, false, List, length, Option, Some, None, slice_get}
+use Rattle.std.specs.Prelude.{◌≡◌, ◌≢◌, ℕ, ◌+◌, ◌*◌, ◌<◌, ◌≤◌, ◌↔◌, ◌⊎◌, Bool, true, false, List, length, Option, Some, None, slice_get}
 use Rattle.std.specs.List.{slice_index_or}
 use Rattle.graph_model.specs.graph.Graph.{GraphValue, locks}
 use Rattle.graph_model.specs.meaning.Rules.{Section}
+use Rattle.race_sweeps.specs.Marks.{bit_in}
 use Rattle.race_check.specs.declared.summaries.Summary.{Summary}
 
 -- among the acquires below a number: one whose section of reservation l has line i, where there is one, and whether there is another
@@ -19,6 +20,17 @@ pub record AreSummaries (g : GraphValue) (l n : ℕ) (first : List (Option ℕ))
   pub firsts : length first ≡ length g.lines
   pub mores : length more ≡ length g.lines
   pub each : (i : ℕ) → i < length g.lines → IsSummaryTo g l i n (slice_index_or first i None) (slice_index_or more i false)
+
+-- the lines below a number have the acquire summed, the others not yet
+pub record AreSummedTo (g : GraphValue) (l q n : ℕ) (first : List (Option ℕ)) (more : List Bool) : Type 0 where
+  pub firsts : length first ≡ length g.lines
+  pub mores : length more ≡ length g.lines
+  pub low : (i : ℕ) → i < n → i < length g.lines → IsSummaryTo g l i (q + 1) (slice_index_or first i None) (slice_index_or more i false)
+  pub high : (i : ℕ) → n ≤ i → i < length g.lines → IsSummaryTo g l i q (slice_index_or first i None) (slice_index_or more i false)
+
+-- the bits of a word are the lines of a section, 64 of them
+abbrev pub AreInside : GraphValue → ℕ → ℕ → ℕ → ℕ → Type 0
+AreInside g l q w word = (b : ℕ) → b < 64 → (bit_in word b ≡ true) ↔ Section g l q (w * 64 + b)
 
 -- and for each reservation, over all acquires
 pub record AreSummed (g : GraphValue) (summaries : List Summary) : Type 0 where

@@ -1,16 +1,19 @@
 //! In which sections of each reservation a line lies: one acquire, and whether there is another.
 
-ghost use Rattle.std.specs.Prelude.{◌≡◌, ℕ, ◌+◌, ◌<◌, ◌↔◌, ◌&&◌, length, IsTrue, IfOk};
+ghost use Rattle.std.specs.Prelude.{◌≡◌, ℕ, ◌+◌, ◌*◌, ◌<◌, ◌↔◌, ◌&&◌, true, length, IsTrue, IfOk};
 ghost use Rattle.std.specs.List.{slice_index_or};
-ghost use Rattle.graph_model.specs.graph.Graph.{locks};
 ghost use Rattle.graph_model.specs.meaning.Rules.{Acquires};
-ghost use Rattle.race_check.specs.Paths.{IsPathTable, path_in};
+ghost use Rattle.race_check.specs.Paths.{IsPathTable, path_in, words_for};
 ghost use Rattle.race_check.specs.Releases.{AreReleases};
 ghost use Rattle.race_sweeps.specs.Held.{IsHeld};
-ghost use Rattle.race_check.specs.Summaries.{AreSummaries, AreSummed, ApartIn, IsNoted, MayBeApartBy};
+ghost use Rattle.race_check.specs.Summaries.{AreSummaries, AreSummedTo, AreInside, AreSummed, ApartIn, IsNoted, MayBeApartBy};
+ghost use Rattle.race_check.specs.Words.{IsWordOf};
+ghost use Rattle.race_sweeps.specs.Marks.{bit_in};
+ghost use Rattle.graph_model.specs.graph.Graph.{GraphValue, locks};
 
 use crate::paths::PathTable;
 use crate::reservations::acquires;
+use crate::rows::{has_bit, word_at};
 use graph_model::graph::Graph;
 use graph_model::laws::edges_between_lines;
 use index_spaces::NoMemory;
@@ -115,12 +118,33 @@ impl Summary {
         ensures { (l : ℕ) → Acquires graph.now acquire l → AreSummaries graph.now l acquire self.old.first.items self.old.more.items
             → AreSummaries graph.now l (acquire + 1) self.new.first.items self.new.more.items }
     {
+        edges_between_lines();
+        let _ = graph.lines();
         let Some(release) = releases[acquire as usize] else {
             return;
         };
-        for line in 0..graph.lines() {
-            if is_between(paths, acquire, line, release) {
-                self.note(acquire, line);
+        for word in 0..paths.words() {
+            let inside = word_between(paths, acquire, release, word);
+            self.note_all(acquire, word, inside);
+        }
+    }
+
+    /// Notes that the lines of a word lie in the section of an acquire.
+    fn note_all(&mut self, acquire: u32, word: usize, inside: u64)
+        requires few { word < 128 }
+        requires firsts { (b : ℕ) → b < 64 → bit_in inside b ≡ true → word * 64 + b < length self.old.first.items }
+        requires mores { length self.old.more.items ≡ length self.old.first.items }
+        ensures firsts { length self.new.first.items ≡ length self.old.first.items }
+        ensures mores { length self.new.more.items ≡ length self.old.more.items }
+        ensures noted { (g : GraphValue) (l : ℕ) → AreInside g l acquire word inside → AreSummedTo g l acquire (word * 64) self.old.first.items self.old.more.items
+            → AreSummedTo g l acquire (word * 64 + 64) self.new.first.items self.new.more.items }
+    {
+        if inside == 0 {
+            return;
+        }
+        for bit in 0..64 {
+            if has_bit(inside, bit) {
+                self.note(acquire, word as u32 * 64 + bit);
             }
         }
     }
@@ -172,12 +196,12 @@ pub(crate) fn are_apart(graph: &Graph, summaries: &[Summary], one: u32, other: u
     false
 }
 
-/// Whether a line lies on a path from one line to another.
-fn is_between(paths: &PathTable, start: u32, line: u32, target: u32) -> bool
+/// The lines of a word that lie on a path from one line to another.
+fn word_between(paths: &PathTable, start: u32, target: u32, word: usize) -> u64
     requires start { start < paths.now.lines }
-    requires line { line < paths.now.lines }
     requires target { target < paths.now.lines }
-    ensures { result ≡ (path_in paths.now start line && path_in paths.now line target) }
+    requires word { word < words_for paths.now.lines }
+    ensures { IsWordOf (λ j. path_in paths.now start j && path_in paths.now j target) word result }
 {
-    paths.has_path(start, line) && paths.has_path(line, target)
+    word_at(paths.row(start), word) & word_at(paths.back_row(target), word)
 }

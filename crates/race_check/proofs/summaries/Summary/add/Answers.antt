@@ -1,47 +1,36 @@
-use Rattle.std.proofs.Common.{◌+◌, ◌<◌, ap, length, sym, ◌∙◌, subst, arith}
-use Rattle.std.proofs.lemmas.Bool.{true≢false, and_parts, and_from}
-use Rattle.race_check.specs.Paths.{path_in}
-use Rattle.race_check.specs.declared.summaries.Summary.{Summary}
+use Rattle.std.proofs.Common.{◌≡◌, ◌+◌, ◌*◌, ◌<◌, sym, ◌∙◌, subst, arith}
+use Rattle.race_check.specs.Summaries.{AreSummedTo}
 use Rattle.race_check.proofs.RuleSteps.{release_known}
-use Rattle.race_check.proofs.SummarySteps.{AreSummedTo, sums_skip, no_release_no_section, summing_done, summing_skips, summing_notes, section_by_paths, paths_of_section}
+use Rattle.race_check.proofs.SummarySteps.{sums_skip, no_release_no_section, summing_done, inside_by_paths, lines_inside}
 use Rattle.race_check.proofs.summaries.Summary.add.Goals as goal
-use Rattle.race_check.proofs.summaries.Summary.add.Goals.{then-is_between, else-is_between}
 
 pub returns-in_default : goal.returns-in_default
 returns-in_default c l a s = sums_skip c.args.graph.now l c.args.acquire c.args.self.now.first.items c.args.self.now.more.items (no_release_no_section c.args.graph.now c.args.releases.now c.requires.releases l c.args.acquire c.in_default.is) s
 
-pub is_between-requires-clause-target : goal.is_between-requires-clause-target
-is_between-requires-clause-target c =
+pub word_between-inside-requires-clause-target : goal.word_between-inside-requires-clause-target
+word_between-inside-requires-clause-target c =
     subst (λ n. c.in-Some.release < n) (sym c.requires.table.lines) (release_known c.args.graph.now c.args.releases.now c.requires.releases c.args.acquire c.in-Some.release c.in-Some.is)
 
-pub loop-line-preserved : goal.loop-line-preserved
-loop-line-preserved c =
+pub note_all-requires-clause-firsts : goal.note_all-requires-clause-firsts
+note_all-requires-clause-firsts c b h set =
     let g = c.args.graph.now in
-    let t = c.args.paths.now in
-    let rs = c.args.releases.now in
-    let q = c.args.acquire in
-    let r = c.in-Some.release in
-    let i = c.loop-line.line in
-    let before = c.loop-line.self in
-    elim c.if-is_between.branch [
-      | then-is_between w ↦ (
-          let after = w.note.new.self in
-          let both = and_parts (path_in t q i) (path_in t i r) (sym c.is_between.ensures ∙ w.if-is_between.true) in
-          record {
-            firsts = ap (λ (s : Summary). length s.first.items) w.self-is ∙ (w.note.ensures.firsts ∙ c.loop-line.invariant.firsts);
-            mores = ap (λ (s : Summary). length s.more.items) w.self-is ∙ (w.note.ensures.mores ∙ c.loop-line.invariant.mores);
-            summed = λ l a s. subst (λ (x : Summary). AreSummedTo g l q (i + 1) x.first.items x.more.items) (sym w.self-is)
-                (summing_notes g l q i before.first.items before.more.items after.first.items after.more.items (omega arith)
-                (section_by_paths g t rs c.requires.table c.requires.releases l q r i a c.in-Some.is both.0 both.1) w.note.ensures (c.loop-line.invariant.summed l a s));
-          })
-      | else-is_between w ↦ record {
-        firsts = ap (λ (s : Summary). length s.first.items) w.self-is ∙ c.loop-line.invariant.firsts;
-        mores = ap (λ (s : Summary). length s.more.items) w.self-is ∙ c.loop-line.invariant.mores;
-        summed = λ l a s. subst (λ (x : Summary). AreSummedTo g l q (i + 1) x.first.items x.more.items) (sym w.self-is)
-            (summing_skips g l q i before.first.items before.more.items (λ x. (let p = paths_of_section g t rs c.requires.table c.requires.releases l q r i c.in-Some.is x in
-            true≢false (sym (and_from (path_in t q i) (path_in t i r) p.0 p.1) ∙ (sym c.is_between.ensures ∙ w.if-is_between.false)))) (c.loop-line.invariant.summed l a s));
-      }
-    ]
+    let below = lines_inside g c.args.paths.now c.requires.table (λ e k. c.edges_between_lines.ensures g e c.lines.ensures.is_graph k) c.args.acquire c.in-Some.release c.loop-word.word c.word_between-inside.result c.word_between-inside.ensures b h set in
+    subst (λ n. c.loop-word.word * 64 + b < n) (sym c.loop-word.invariant.firsts) below
+
+pub loop-word-preserved : goal.loop-word-preserved
+loop-word-preserved c =
+    let g = c.args.graph.now in
+    let w = c.loop-word.word in
+    let after = c.note_all.new.self in
+    record {
+      firsts = c.note_all.ensures.firsts ∙ c.loop-word.invariant.firsts;
+      mores = c.note_all.ensures.mores ∙ c.loop-word.invariant.mores;
+      summed = λ l a s. subst (λ n. AreSummedTo g l c.args.acquire n after.first.items after.more.items) (let e : w * 64 + 64 ≡ (w + 1) * 64 = omega arith in e)
+          (c.note_all.ensures.noted g l
+          (inside_by_paths g c.args.paths.now c.args.releases.now c.requires.table c.requires.releases l c.args.acquire c.in-Some.release w c.word_between-inside.result a c.in-Some.is c.word_between-inside.ensures)
+          (c.loop-word.invariant.summed l a s));
+    }
 
 pub returns : goal.returns
-returns c l a s = summing_done c.args.graph.now l c.args.acquire c.loop-line.line c.loop-line.self.first.items c.loop-line.self.more.items (omega arith) (c.loop-line.invariant.summed l a s)
+returns c l a s =
+    summing_done c.args.graph.now l c.args.acquire (c.loop-word.word * 64) c.loop-word.self.first.items c.loop-word.self.more.items (omega (arith, c.requires.table.lines, c.words-word-end.ensures.number)) (c.loop-word.invariant.summed l a s)

@@ -1,12 +1,11 @@
-use Rattle.std.proofs.Common.{◌≡◌, ℕ, length}
+use Rattle.std.proofs.Common.{◌≡◌, ℕ, ◌*◌, length}
 use Rattle.graph_model.specs.meaning.Rules.{Acquires}
-use Rattle.race_check.specs.Summaries.{AreSummaries}
-use Rattle.race_check.proofs.SummarySteps.{AreSummedTo}
+use Rattle.race_check.specs.Summaries.{AreSummaries, AreSummedTo}
 use Rattle.race_check.proofs.summaries.Summary.add.Given as goal
 
-abbrev pub invariant-loop-line : goal.invariant-loop-line
-invariant-loop-line l = record {
+abbrev pub invariant-loop-word : goal.invariant-loop-word
+invariant-loop-word l = record {
   firsts : length l.self.first.items ≡ length l.graph.lines;
   mores : length l.self.more.items ≡ length l.graph.lines;
-  summed : (k : ℕ) → Acquires l.graph l.acquire k → AreSummaries l.graph k l.acquire l.initial.self.first.items l.initial.self.more.items → AreSummedTo l.graph k l.acquire l.line l.self.first.items l.self.more.items;
+  summed : (k : ℕ) → Acquires l.graph l.acquire k → AreSummaries l.graph k l.acquire l.initial.self.first.items l.initial.self.more.items → AreSummedTo l.graph k l.acquire (l.word * 64) l.self.first.items l.self.more.items;
 }
