@@ -32,3 +32,4 @@ pub mod ReleaseFacts
 pub mod SectionLaws
 pub mod EdgeFacts
 pub mod NameOrder
+pub mod Slots

@@ -24,7 +24,8 @@ use Rattle.graph_model.specs.declared.graph.verb.Access.{Access}
 use Rattle.graph_model.specs.declared.graph.why.Why.TheVariants as why
 use Rattle.graph_model.specs.graph.Access.{verb_accesses}
 use Rattle.graph_model.proofs.GraphFacts.{none_first}
-use Rattle.graph_model.specs.graph.Names.{is_inst_named, StandsFor, found_decl, named, AreNamesOf}
+use Rattle.graph_model.specs.graph.Names.{is_inst_named, StandsFor, found_decl, AreNamesOf}
+use Rattle.graph_model.specs.kept.Names.{NamesValue, named}
 
 -- the first place that passes
 position_is : {X : Type 0} (p : X → Bool) (xs : List X) (k : ℕ) (d : X) → k < length xs → p (get_or xs k d) ≡ true → ((j : ℕ) → j < k → p (get_or xs j d) ≡ false) → position p xs ≡ Some k
@@ -174,7 +175,7 @@ unused_line g l q n h =
     list_any-append (bytes_eq q) (map decl_name g.decls) (map (λ (x : Line). x.name) (g.lines ++ l ∷ [])) ∙ or_from _ _ (decls_unused g q h) here
 
 -- one more name among the pairs
-Grows : List (List ℕ × Found) → List (List ℕ × Found) → List ℕ → Found → Type 0
+Grows : NamesValue → NamesValue → List ℕ → Found → Type 0
 Grows before after name x = (q : List ℕ) → named after q ≡ cond (bytes_eq name q) (Some x) (named before q)
 
 each_by : (g h : GraphValue) (name q : List ℕ) (x : Found) (b : Bool) (o : Option Found) → bytes_eq name q ≡ b → MatchOption o (is_used g q ≡ false) (StandsFor g q) →
@@ -184,14 +185,14 @@ each_by g h name q x true o e m new kept none = subst (λ n. StandsFor h n x) (s
 each_by g h name q x false None e m new kept none = none e m
 each_by g h name q x false (Some y) e m new kept none = kept y m
 
-pub names_decl : (g : GraphValue) (d : Decl) (before after : List (List ℕ × Found)) → AreNamesOf g before → is_used g (decl_name d) ≡ false →
+pub names_decl : (g : GraphValue) (d : Decl) (before after : NamesValue) → AreNamesOf g before → is_used g (decl_name d) ≡ false →
     ((q : List ℕ) → named after q ≡ cond (bytes_eq (decl_name d) q) (Some (found_decl g d)) (named before q)) → AreNamesOf (with_decl g d) after
 names_decl g d before after a unused grows = record {
   each = λ q. subst (λ o. MatchOption o (is_used (with_decl g d) q ≡ false) (StandsFor (with_decl g d) q)) (sym (grows q))
       (each_by g (with_decl g d) (decl_name d) q (found_decl g d) (bytes_eq (decl_name d) q) (named before q) refl (a.each q) (stands_new g d unused) (stands_kept g d q) (unused_decl g d q));
 }
 
-pub names_line : (g : GraphValue) (l : Line) (before after : List (List ℕ × Found)) → AreNamesOf g before → is_used g l.name ≡ false →
+pub names_line : (g : GraphValue) (l : Line) (before after : NamesValue) → AreNamesOf g before → is_used g l.name ≡ false →
     ((q : List ℕ) → named after q ≡ cond (bytes_eq l.name q) (Some (found.Line (length g.lines))) (named before q)) → AreNamesOf (with_line g l) after
 names_line g l before after a unused grows = record {
   each = λ q. subst (λ o. MatchOption o (is_used (with_line g l) q ≡ false) (StandsFor (with_line g l) q)) (sym (grows q))
@@ -206,7 +207,7 @@ back_by g name q x true o e h m = subst (λ n. is_used g n ≡ false) (same_byte
 back_by g name q x false o e h m = m
 
 -- a name put in and taken out again
-pub names_back : (g : GraphValue) (name : List ℕ) (x : Found) (before mid after : List (List ℕ × Found)) → AreNamesOf g before → is_used g name ≡ false →
+pub names_back : (g : GraphValue) (name : List ℕ) (x : Found) (before mid after : NamesValue) → AreNamesOf g before → is_used g name ≡ false →
     ((q : List ℕ) → named mid q ≡ cond (bytes_eq name q) (Some x) (named before q)) → ((q : List ℕ) → named after q ≡ cond (bytes_eq name q) None (named mid q)) → AreNamesOf g after
 names_back g name x before mid after a unused put out = record {
   each = λ q.

@@ -1,8 +1,5 @@
 -- What a name stands for in a graph.
 use Rattle.std.specs.Prelude.{◌≡◌, ℕ, Bool, ◌&&◌, false, List, length, Option, Some, position, MatchOption}
-use Rattle.std.specs.Cmp.Lexicographic.{slice_cmp}
-use Rattle.std.specs.Ordering.{nat_cmp, is_eq}
-use Rattle.std.specs.Map.{lookup}
 use Rattle.std.specs.Str.{bytes_eq}
 use Rattle.graph_model.specs.declared.graph.decl.Decl.{Decl}
 use Rattle.graph_model.specs.declared.graph.decl.Decl.TheVariants.{Space, Inst, Lock, Barrier}
@@ -11,6 +8,7 @@ use Rattle.graph_model.specs.declared.graph.found.Found.TheVariants as found
 use Rattle.graph_model.specs.declared.graph.verb.Line.{Line}
 use Rattle.graph_model.specs.graph.Graph.{GraphValue, ColumnInfo, BarrierInfo, decl_name, named_spaces, locks, barriers}
 use Rattle.graph_model.specs.graph.Fits.{is_inst, is_used}
+use Rattle.graph_model.specs.kept.Names.{NamesValue, named}
 
 -- an instance of this name
 abbrev pub is_inst_named : List ℕ → Decl → Bool
@@ -35,10 +33,6 @@ found_decl g (Inst name space fields) = found.Inst (length g.decls)
 found_decl g (Lock name) = found.Lock (length (locks g))
 found_decl g (Barrier name count op first) = found.Barrier (length (barriers g))
 
--- what a name stands for among pairs of names and what they stand for
-abbrev pub named : List (List ℕ × Found) → List ℕ → Option Found
-named entries name = lookup (λ k. is_eq (slice_cmp nat_cmp name k)) entries
-
--- the pairs have the names of a graph
-pub record AreNamesOf (g : GraphValue) (entries : List (List ℕ × Found)) : Type 0 where
-  pub each : (name : List ℕ) → MatchOption (named entries name) (is_used g name ≡ false) (StandsFor g name)
+-- names are those of a graph
+pub record AreNamesOf (g : GraphValue) (names : NamesValue) : Type 0 where
+  pub each : (name : List ℕ) → MatchOption (named names name) (is_used g name ≡ false) (StandsFor g name)

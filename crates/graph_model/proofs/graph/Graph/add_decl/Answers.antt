@@ -1,14 +1,15 @@
-use Rattle.std.proofs.Common.{◌≡◌, cond, ℕ, [], ◌∷◌, ◌++◌, List, None, Some, sym, subst, ap, ◌∙◌, length, arith}
+use Rattle.std.proofs.Common.{◌≡◌, false, cond, ℕ, [], ◌∷◌, ◌++◌, List, None, Some, sym, subst, ap, ◌∙◌, length, arith}
 use Rattle.std.specs.Str.{bytes_eq}
 use Rattle.graph_model.specs.declared.graph.decl.Decl.{Decl}
 use Rattle.graph_model.specs.graph.Graph.{GraphValue, decl_name}
-use Rattle.graph_model.specs.graph.Names.{AreNamesOf, found_decl, named}
+use Rattle.graph_model.specs.graph.Names.{AreNamesOf, found_decl}
+use Rattle.graph_model.specs.kept.Names.{named}
 use Rattle.graph_model.specs.kept.Tables.{tables_of, tables_with, IsWithinLimits}
 use Rattle.graph_model.specs.kept.Rows.{AreRowsOf}
 use Rattle.graph_model.specs.kept.Counts.{counts_of}
-use Rattle.graph_model.specs.graph.Fits.{IsGraph, decl_fault, with_decl}
+use Rattle.graph_model.specs.graph.Fits.{IsGraph, decl_fault, is_used, with_decl}
 use Rattle.graph_model.proofs.GraphPush.{push_decl}
-use Rattle.graph_model.proofs.Naming.{names_decl, unused_decl_name}
+use Rattle.graph_model.proofs.Naming.{names_back, names_decl, unused_decl_name}
 use Rattle.graph_model.proofs.TableLaws.{limits_decl, tables_push}
 use Rattle.graph_model.proofs.RowLaws.{rows_decl}
 use Rattle.graph_model.proofs.graph.Graph.add_decl.Goals as goal
@@ -35,4 +36,23 @@ invariant_of-self-2 c =
       names = subst (λ (ds : List Decl). AreNamesOf (record { decls = ds; lines = g.lines }) c.insert.new.self) (sym pushed) (names_decl g d c.self.inside.names c.insert.new.self c.self.invariant.names (unused_decl_name g d fits) named_so);
       rows = subst (λ (ds : List Decl). AreRowsOf (record { decls = ds; lines = g.lines }) c.self.inside.rows) (sym pushed) (rows_decl g d c.self.inside.rows c.self.invariant.rows);
       counts = c.counts_with_decl-counts.ensures ∙ (ap (λ h. counts_of (with_decl h d)) (sym c.self.view_is) ∙ ap (λ ds. counts_of (record { decls = ds; lines = g.lines })) (sym pushed));
+    }
+
+pub invariant_of-self-in-Err : goal.invariant_of-self-in-Err
+invariant_of-self-in-Err c =
+    let g : GraphValue = record { decls = c.self.inside.decls.items; lines = c.self.inside.lines.items } in
+    let d : Decl = c.args.decl in
+    let same : c.reserve.new.items.items ≡ g.decls = c.reserve.ensures.items in
+    let fits : decl_fault g d ≡ None = subst (λ h. decl_fault h d ≡ None) (sym c.self.view_is) c.requires.fits in
+    let unused : is_used g c.name.result.now ≡ false = ap (is_used g) c.name.ensures ∙ unused_decl_name g d fits in
+    let back : AreNamesOf g c.remove.new.self =
+    names_back g c.name.result.now c.found_decl-found.result c.self.inside.names c.insert.new.self c.remove.new.self c.self.invariant.names unused (λ q. c.in_ok-insert.ensures.ok q) (λ q. c.remove.ensures q) in
+    record {
+      fits = subst (λ (ds : List Decl). IsGraph (record { decls = ds; lines = g.lines })) (sym same) c.self.invariant.fits;
+      accesses = c.self.invariant.accesses;
+      tables = c.in-Err.ensures.err ∙ (c.self.invariant.tables ∙ ap tables_of (sym same));
+      limits = subst (λ (ds : List Decl). IsWithinLimits (record { decls = ds; lines = g.lines })) (sym same) c.self.invariant.limits;
+      names = subst (λ (ds : List Decl). AreNamesOf (record { decls = ds; lines = g.lines }) c.remove.new.self) (sym same) back;
+      rows = subst (λ (ds : List Decl). AreRowsOf (record { decls = ds; lines = g.lines }) c.self.inside.rows) (sym same) c.self.invariant.rows;
+      counts = c.self.invariant.counts ∙ ap (λ ds. counts_of (record { decls = ds; lines = g.lines })) (sym same);
     }

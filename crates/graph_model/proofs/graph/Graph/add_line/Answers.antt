@@ -10,13 +10,14 @@ use Rattle.graph_model.specs.declared.graph.verb.Line.{Line}
 use Rattle.graph_model.specs.graph.Access.{kept_accesses}
 use Rattle.graph_model.specs.graph.Graph.{GraphValue}
 use Rattle.graph_model.specs.graph.Edges.{line_edges}
-use Rattle.graph_model.specs.graph.Names.{AreNamesOf, named}
+use Rattle.graph_model.specs.graph.Names.{AreNamesOf}
+use Rattle.graph_model.specs.kept.Names.{named}
 use Rattle.graph_model.specs.kept.Tables.{IsWithinLimits}
 use Rattle.graph_model.specs.kept.Rows.{EndsBelow, NamesBelow, AddsRow, AreRowsOf}
 use Rattle.graph_model.specs.kept.Counts.{counts_of}
 use Rattle.graph_model.specs.graph.Fits.{IsGraph, line_fault, with_line}
 use Rattle.graph_model.proofs.GraphPush.{push_line}
-use Rattle.graph_model.proofs.Naming.{names_line, unused_line_name}
+use Rattle.graph_model.proofs.Naming.{names_back, names_line, unused_line_name}
 use Rattle.graph_model.proofs.TableLaws.{limits_line}
 use Rattle.graph_model.proofs.RowLaws.{rows_push, from_below, to_below, names_below}
 use Rattle.graph_model.proofs.RowReads.{few_marked}
@@ -72,4 +73,21 @@ invariant_of-self-2 c =
       names = subst (λ (ls : List Line). AreNamesOf (record { decls = g.decls; lines = ls }) c.insert.new.self) (sym pushed) (names_line g l c.self.inside.names c.insert.new.self c.self.invariant.names (unused_line_name g l (fits at)) named_so);
       rows = subst (λ (ls : List Line). AreRowsOf (record { decls = g.decls; lines = ls }) c.add.new.self) (sym pushed) (rows_push g l c.self.inside.rows c.add.new.self c.self.invariant.rows added);
       counts = c.counts_with_line-counts.ensures ∙ (ap (λ h. counts_of (with_line h l)) (sym c.self.view_is) ∙ ap (λ ls. counts_of (record { decls = g.decls; lines = ls })) (sym pushed));
+    }
+
+pub invariant_of-self-in-Err : goal.invariant_of-self-in-Err
+invariant_of-self-in-Err c =
+    let at = (goal.at.invariant_of-self-in-Err c).After-deref-2 in
+    let g : GraphValue = before at in
+    let same : c.reserve.new.items.items ≡ g.lines = c.reserve.ensures.items in
+    let back : AreNamesOf g c.remove.new.self =
+    names_back g c.args.line.name (found.Line c.len.result) c.self.inside.names c.insert.new.self c.remove.new.self c.self.invariant.names (unused_line_name g c.args.line (fits at)) (λ q. c.in_ok-insert.ensures.ok q) (λ q. c.remove.ensures q) in
+    record {
+      fits = subst (λ (ls : List Line). IsGraph (record { decls = g.decls; lines = ls })) (sym same) c.self.invariant.fits;
+      accesses = c.reserve-2.ensures.items ∙ (c.self.invariant.accesses ∙ ap (map (λ (x : Line). kept_accesses x.verb)) (sym same));
+      tables = c.self.invariant.tables;
+      limits = subst (λ (ls : List Line). IsWithinLimits (record { decls = g.decls; lines = ls })) (sym same) c.self.invariant.limits;
+      names = subst (λ (ls : List Line). AreNamesOf (record { decls = g.decls; lines = ls }) c.remove.new.self) (sym same) back;
+      rows = subst (λ (ls : List Line). AreRowsOf (record { decls = g.decls; lines = ls }) c.add.new.self) (sym same) (subst (AreRowsOf g) (sym c.in-Err.ensures.err) c.self.invariant.rows);
+      counts = c.self.invariant.counts ∙ ap (λ ls. counts_of (record { decls = g.decls; lines = ls })) (sym same);
     }
