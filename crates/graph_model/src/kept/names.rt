@@ -62,10 +62,10 @@ impl Names {
         let Some(entry) = self.entry_at(slot_of(name)) else {
             return None;
         };
-        if entry.name == *name {
-            return entry.found;
+        if entry.name != *name {
+            return self.others.get(name).copied();
         }
-        self.others.get(name).copied()
+        entry.found
     }
 
     /// Puts a name in. `NoMemory` leaves the names as they were.
