@@ -39,6 +39,7 @@ pub fn run_kernel(graph: &Graph, kernel: &Kernel, held: &mut Held) -> Verdict
     run_fitting(graph, kernel, held)
 }
 
+/// The same, of a kernel that fits access by access.
 fn run_fitting(graph: &Graph, kernel: &Kernel, held: &mut Held) -> Verdict
     requires { FitsEach graph.now held.old kernel.now }
     ensures { RunsKernel graph.now held.old held.new result kernel.now }

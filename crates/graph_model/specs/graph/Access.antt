@@ -58,6 +58,7 @@ abbrev pub is_read : Mode → Bool
 is_read Read = true
 is_read _ = false
 
+-- whether an access only adds to its cells
 abbrev pub is_sum : Mode → Bool
 is_sum Sum = true
 is_sum _ = false

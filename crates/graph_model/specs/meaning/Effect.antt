@@ -115,6 +115,7 @@ change_by _ value = Set value
 abbrev pub changes_of : (ℕ → List (ℕ × ℕ)) → (ℕ → ℕ) → Access → List CellChange
 changes_of space f a = changes_at (λ p. change_by a.mode (f p)) a.column (points (space a.space))
 
+-- the changes of a kernel rest on no cells but those that it sees
 abbrev pub kernel_changes : (ℕ → List (ℕ × ℕ)) → Cells → Kernel → List CellChange
 kernel_changes space cells k = option_map_or (changes_of space (kernel_value space (seen space (kernel_accesses k) cells) k)) (target (kernel_accesses k)) []
 
@@ -122,11 +123,12 @@ kernel_changes space cells k = option_map_or (changes_of space (kernel_value spa
 abbrev pub all_within : (ℕ → ℕ) → ℕ → ℕ → List ℕ → Bool
 all_within f low high ps = list_all (λ p. nat_le low (f p) && nat_le (f p) high) ps
 
--- the verdict of a kernel on the cells that it sees
+-- the verdict of a kernel on the cells that it sees; only an expectation may be a fault
 abbrev pub verdict_on : (ℕ → List (ℕ × ℕ)) → Cells → Kernel → Verdict
 verdict_on space cells (Expect x s low high) = cond (all_within (cells x) low high (points (space s))) Fine Fault
 verdict_on space cells _ = Fine
 
+-- its verdict rests on no cells but those that it sees
 abbrev pub kernel_verdict : (ℕ → List (ℕ × ℕ)) → Cells → Kernel → Verdict
 kernel_verdict space cells k = verdict_on space (seen space (kernel_accesses k) cells) k
 
