@@ -1,12 +1,12 @@
--- What holds of a graph whose items fit: its edges are between its lines, and its accesses are over spaces with points.
-use Rattle.std.proofs.Common.{◌≡◌, ℕ, zero, suc, ◌+◌, ◌-◌, ◌<◌, ◌≤◌, Bool, true, false, cond, ◌⊎◌, inl, inr, List, [], ◌∷◌, ◌++◌, length, map, refl, sym, ◌∙◌, ap, subst, length-append, arith}
-use Rattle.std.specs.Prelude.{Contains, filter_map, Option, Some, None, nat_le, is_some, slice_get, option_map}
+-- What holds of a graph whose items fit: its edges are between its lines, and its spaces are spaces.
+use Rattle.std.proofs.Common.{◌≡◌, ℕ, zero, suc, ◌+◌, ◌<◌, ◌≤◌, Bool, true, false, cond, ◌⊎◌, inl, inr, List, [], ◌∷◌, ◌++◌, length, map, refl, sym, ◌∙◌, ap, subst, length-append, arith}
+use Rattle.std.specs.Prelude.{Contains, filter_map, Option, Some, None, nat_le, is_some, slice_get}
 use Rattle.std.specs.Option.{option_map_or}
 use Rattle.std.specs.List.{list_any, slice_index_or}
 use Rattle.std.proofs.lemmas.Bool.{true≢false, or_parts, false_from_ne_true, leb-false}
 use Rattle.std.proofs.lemmas.Option.{none-some, same_Some, slice_get-get_or}
 use Rattle.std.proofs.lemmas.List.Elements.{Contains-append_left, Contains-append_right, Contains-append_cases, Contains-get_or}
-use Rattle.index_spaces.specs.Space.{points, interval_points, space_size, IsSpace}
+use Rattle.index_spaces.specs.Space.{IsSpace}
 use Rattle.graph_model.specs.declared.graph.decl.Decl.{Decl}
 use Rattle.graph_model.specs.declared.graph.decl.Decl.TheVariants.{Space, Inst, Lock, Barrier}
 use Rattle.graph_model.specs.declared.graph.verb.Edge.{Edge}
@@ -18,11 +18,9 @@ use Rattle.graph_model.specs.declared.graph.why.Why.TheVariants as why
 use Rattle.graph_model.specs.declared.graph.verb.Verb.{Verb}
 use Rattle.graph_model.specs.declared.graph.verb.Verb.TheVariants.{Trigger, Cancel, Merge, MergeIgnore, Phase, Arrive}
 use Rattle.graph_model.specs.graph.Graph.{GraphValue, is_phase_of, space_of, named_spaces, space_at}
-use Rattle.graph_model.specs.graph.Access.{accesses, verb_accesses}
 use Rattle.graph_model.specs.graph.Edges.{edge, last_place, edges_from_some, verb_edges, line_edges, edges_after, edges}
-use Rattle.graph_model.specs.graph.Fits.{first_reason, line_tests, line_fault, line_unknown, named_lines, on_lines, access_unknown, verb_unknown, DeclsFit, LinesFit, IsGraph}
-use Rattle.basics.proofs.ListFacts.{contains_none, contains_cases, contains_here, contains_from, passes_some, map_contains}
-use Rattle.graph_model.proofs.Changes.{HavePoints}
+use Rattle.graph_model.specs.graph.Fits.{first_reason, line_tests, line_fault, line_unknown, named_lines, on_lines, verb_unknown, DeclsFit, LinesFit, IsGraph}
+use Rattle.basics.proofs.ListFacts.{contains_none, contains_cases, contains_here, passes_some, map_contains}
 
 no_first_by : (b : Bool) (w : Why) (ts : List (Bool × Why)) → cond b (Some w) (first_reason ts) ≡ None → (b ≡ false) × (first_reason ts ≡ None)
 no_first_by true w ts h = absurd (true≢false (ap is_some h))
@@ -110,15 +108,6 @@ edges_in_range g f x c =
     let e = after_ends g.decls [] g.lines f.lines x c in
     let from : x.from < 0 + length g.lines = e.0 in let to : x.to < 0 + length g.lines = e.1 in (omega arith, omega arith)
 
--- a space has a point
-pub space_has_points : (s : List (ℕ × ℕ)) → IsSpace s → 0 < space_size s
-space_has_points [] h = absurd (let l : 0 < 0 = h.0 in omega arith)
-space_has_points (i ∷ is) h =
-    let ordered : i.0 ≤ i.1 = h.1.1 in
-    let some : Contains (interval_points i) i.0 = subst (λ z. Contains (interval_points i) z) (let e : i.0 + 0 ≡ i.0 = omega arith in e) (contains_from i.0 (i.1 + 1 - i.0) 0 (omega arith)) in
-    let all : Contains (points (i ∷ is)) i.0 = Contains-append_left (interval_points i) (points is) i.0 some in
-    let at : all.0 < length (points (i ∷ is)) = all.1 in omega arith
-
 -- the declared spaces of declarations that fit are spaces
 pub spaces_are : (before ds : List Decl) → DeclsFit before ds → (x : List ℕ × List (ℕ × ℕ)) → Contains (filter_map space_of ds) x → IsSpace x.1
 spaces_are before [] f x c = absurd (contains_none x c)
@@ -152,21 +141,3 @@ space_is g f s h =
     let is : IsSpace x.1 = spaces_are [] g.decls f.decls x (Contains-get_or (named_spaces g) s ([], []) h) in
     let same : x.1 ≡ space_at g s = sym (ap (λ (o : Option (List ℕ × List (ℕ × ℕ))). option_map_or (λ (y : List ℕ × List (ℕ × ℕ)). y.1) o []) at) in
     subst (λ y. IsSpace y) same is
-
-points_at : (g : GraphValue) → IsGraph g → (s : ℕ) → s < length (named_spaces g) → 0 < space_size (space_at g s)
-points_at g f s h = space_has_points (space_at g s) (space_is g f s h)
-
-points_by : (g : GraphValue) → IsGraph g → (i : ℕ) (o : Option Line) → slice_get g.lines i ≡ o → HavePoints (space_at g) (option_map_or verb_accesses (option_map (λ (l : Line). l.verb) o) [])
-points_by g f i None e = λ a c. absurd (contains_none a c)
-points_by g f i (Some l) e = λ a c.
-    let b = fit_at g.decls [] g.lines f.lines i l e in
-    let g' : GraphValue = record { decls = g.decls; lines = b.0 } in
-    let parts = or_parts _ _ (fits_known g' l b.1) in
-    let more = or_parts _ _ parts.1 in
-    let known : access_unknown g' a ≡ false = none_of (access_unknown g') (verb_accesses l.verb) more.1 a c in
-    let ends = or_parts _ _ known in
-    points_at g f a.space (leb-false (length (named_spaces g)) a.space ends.1)
-
--- the accesses of a line are over spaces with points
-pub accesses_have_points : (g : GraphValue) → IsGraph g → (i : ℕ) → HavePoints (space_at g) (accesses g i)
-accesses_have_points g f i = points_by g f i (slice_get g.lines i) refl

@@ -3,4 +3,5 @@ pub mod Runs
 pub mod Windows
 pub mod Sums
 pub mod Counts
+pub mod Seen
 pub mod Fitting

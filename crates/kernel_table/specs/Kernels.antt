@@ -1,13 +1,14 @@
 -- When a kernel may run on the columns that are held, and what it leaves.
-use Rattle.std.specs.Prelude.{◌≡◌, ◌≢◌, ℕ, ◌<◌, false, nat_eq, List, [], ◌∷◌, length, map, slice_index_or, Contains}
+use Rattle.std.specs.Prelude.{◌≡◌, ◌≢◌, ℕ, ◌<◌, false, nat_eq, List, [], ◌∷◌, length, map, Contains}
 use Rattle.index_spaces.specs.Column.{ColumnValue}
+use Rattle.graph_model.specs.declared.meaning.outcome.Verdict.{Verdict}
 use Rattle.graph_model.specs.declared.graph.verb.Access.{Access}
 use Rattle.graph_model.specs.declared.graph.table.Kernel.{Kernel}
 use Rattle.graph_model.specs.graph.Graph.{GraphValue, named_spaces, space_at}
 use Rattle.graph_model.specs.graph.Access.{kernel_accesses}
-use Rattle.graph_model.specs.meaning.Effect.{kernel_changes}
+use Rattle.graph_model.specs.meaning.Effect.{Cells, kernel_changes, kernel_verdict}
 use Rattle.graph_model.specs.graph.Fits.{repeats}
-use Rattle.graph_model.specs.meaning.HeldCells.{HoldsOver, MakesChanges}
+use Rattle.graph_model.specs.meaning.HeldCells.{HasCells, HoldsOver, MakesChanges}
 
 -- a kernel's spaces are declared, its columns are held over them, and it names no column twice
 pub record FitsHeld (g : GraphValue) (held : List (ℕ × ColumnValue)) (kernel : Kernel) : Type 0 where
@@ -36,9 +37,10 @@ EachOnce (a ∷ rest) = NotAmong a.column rest × EachOnce rest
 abbrev pub FitsEach : GraphValue → List (ℕ × ColumnValue) → Kernel → Type 0
 FitsEach g held kernel = EachHeld g held (kernel_accesses kernel) × EachOnce (kernel_accesses kernel)
 
--- the changes of a kernel whose spaces go by their places in this list
-abbrev pub MakesKernel : List (ℕ × ColumnValue) → List (ℕ × ColumnValue) → List (List (ℕ × ℕ)) → Kernel → Type 0
-MakesKernel old new spaces kernel = MakesChanges old new (λ cells. kernel_changes (λ s. slice_index_or spaces s []) cells kernel)
+-- what a run of a kernel gives, whatever the cells are, and what it leaves in the columns that are held
+pub record RunsKernel (g : GraphValue) (old new : List (ℕ × ColumnValue)) (given : Verdict) (kernel : Kernel) : Type 0 where
+  pub verdict : (cells : Cells) → HasCells old cells → given ≡ kernel_verdict (space_at g) cells kernel
+  pub changes : MakesChanges old new (λ cells. kernel_changes (space_at g) cells kernel)
 
 -- the column of a space and of these cells
 abbrev pub column_over : List (ℕ × ℕ) → List ℕ → ColumnValue

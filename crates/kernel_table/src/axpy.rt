@@ -1,29 +1,32 @@
 //! Axpy: a multiple of one column added to another.
 
-ghost use Rattle.std.specs.Prelude.{ℕ, ◌≡◌, ◌≢◌, ◌+◌, ◌*◌, ◌<◌, [], ◌∷◌, length, slice_index};
+ghost use Rattle.std.specs.Prelude.{ℕ, ◌≡◌, ◌≢◌, ◌+◌, ◌*◌, ◌<◌, length, slice_index};
 ghost use Rattle.index_spaces.specs.Space.{IsWithin};
 ghost use Rattle.index_spaces.specs.Column.{cell_of};
 ghost use Rattle.index_spaces.specs.Run.{WritesPoints};
+ghost use Rattle.graph_model.specs.declared.meaning.outcome.Verdict.TheVariants.{Fine};
 ghost use Rattle.graph_model.specs.declared.graph.table.Kernel.TheVariants.{Axpy};
 ghost use Rattle.graph_model.specs.meaning.Effect.{wrapped};
-ghost use Rattle.graph_model.specs.meaning.HeldCells.{HoldsOver};
-ghost use Rattle.kernel_table.specs.Kernels.{MakesKernel};
+ghost use Rattle.kernel_table.specs.Kernels.{HoldsOverSpace, RunsKernel};
 
-use graph_model::held_cells::{cells_by_point, changes_by_point};
+use graph_model::graph::Graph;
+use graph_model::held_cells::{cells_by_point, changes_by_point, seen_cells};
 use index_spaces::column::Column;
 use index_spaces::held::Held;
 use index_spaces::laws::{earlier_points, runs_are_written, runs_of_spaces, spaces_are_written};
 use index_spaces::space::Space;
 
-/// Adds a multiple of each cell of one column to the cell of another at its point.
-pub(crate) fn run_axpy(held: &mut Held, x: u32, y: u32, space: &Space, factor: u64)
-    requires source { HoldsOver held.old x space.now }
-    requires target { HoldsOver held.old y space.now }
+/// Adds a multiple of each cell of one column over a space to the cell of another at its point.
+pub(crate) fn run_axpy(graph: &Graph, held: &mut Held, x: u32, y: u32, s: u32, factor: u64)
+    requires source { HoldsOverSpace graph.now held.old x s }
+    requires target { HoldsOverSpace graph.now held.old y s }
     requires distinct { x ≢ y }
-    ensures { MakesKernel held.old held.new (space.now ∷ []) (Axpy x y 0 factor) }
+    ensures { RunsKernel graph.now held.old held.new Fine (Axpy x y s factor) }
 {
     cells_by_point();
+    seen_cells();
     changes_by_point();
+    let space = graph.space(s);
     let _ = space.intervals();
     let before = held.take(y);
     let _ = before.space().intervals();

@@ -1,16 +1,17 @@
 //! Dot: the sum of the products of two columns.
 
-ghost use Rattle.std.specs.Prelude.{ℕ, ◌≡◌, ◌≢◌, ◌+◌, ◌*◌, ◌<◌, [], ◌∷◌, length, map, sum, slice_index};
+ghost use Rattle.std.specs.Prelude.{ℕ, ◌≡◌, ◌≢◌, ◌+◌, ◌*◌, ◌<◌, length, map, sum, slice_index};
 ghost use Rattle.index_spaces.specs.Space.{IsWithin, points};
 ghost use Rattle.basics.specs.Lists.{numbers_below};
 ghost use Rattle.index_spaces.specs.Column.{cell_of};
 ghost use Rattle.index_spaces.specs.Run.{WritesPoints};
+ghost use Rattle.graph_model.specs.declared.meaning.outcome.Verdict.TheVariants.{Fine};
 ghost use Rattle.graph_model.specs.declared.graph.table.Kernel.TheVariants.{Dot};
 ghost use Rattle.graph_model.specs.meaning.Effect.{wrapped, wrapped_sum};
-ghost use Rattle.graph_model.specs.meaning.HeldCells.{HoldsOver};
-ghost use Rattle.kernel_table.specs.Kernels.{MakesKernel};
+ghost use Rattle.kernel_table.specs.Kernels.{HoldsOverSpace, RunsKernel};
 
-use graph_model::held_cells::{cells_by_point, changes_by_point};
+use graph_model::graph::Graph;
+use graph_model::held_cells::{cells_by_point, changes_by_point, seen_cells};
 use index_spaces::column::Column;
 use index_spaces::held::Held;
 use index_spaces::laws::{
@@ -18,18 +19,21 @@ use index_spaces::laws::{
 };
 use index_spaces::space::Space;
 
-/// Adds the sum of the products of two columns over `space` to each cell of the third over `totals`.
-pub(crate) fn run_dot(held: &mut Held, x: u32, y: u32, z: u32, space: &Space, totals: &Space)
-    requires one { HoldsOver held.old x space.now }
-    requires other { HoldsOver held.old y space.now }
-    requires target { HoldsOver held.old z totals.now }
+/// Adds the sum of the products of two columns over `s` to each cell of the third over `t`.
+pub(crate) fn run_dot(graph: &Graph, held: &mut Held, x: u32, y: u32, z: u32, s: u32, t: u32)
+    requires one { HoldsOverSpace graph.now held.old x s }
+    requires other { HoldsOverSpace graph.now held.old y s }
+    requires target { HoldsOverSpace graph.now held.old z t }
     requires first { x ≢ z }
     requires second { y ≢ z }
-    ensures { MakesKernel held.old held.new (space.now ∷ totals.now ∷ []) (Dot x y z 0 1) }
+    ensures { RunsKernel graph.now held.old held.new Fine (Dot x y z s t) }
 {
     cells_by_point();
+    seen_cells();
     changes_by_point();
     points_are_listed();
+    let space = graph.space(s);
+    let totals = graph.space(t);
     let _ = totals.intervals();
     let before = held.take(z);
     let _ = before.space().intervals();

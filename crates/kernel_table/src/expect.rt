@@ -1,28 +1,31 @@
 //! Expect: whether all cells are within bounds.
 
-ghost use Rattle.std.specs.Prelude.{◌≡◌, ◌&&◌, if◌then◌else◌, nat_le, [], ◌∷◌, slice_index_or};
+ghost use Rattle.std.specs.Prelude.{◌≡◌, ◌&&◌, if◌then◌else◌, nat_le};
 ghost use Rattle.std.specs.List.{list_all};
 ghost use Rattle.index_spaces.specs.Space.{IsWithin, points};
 ghost use Rattle.index_spaces.specs.Column.{cell_of};
 ghost use Rattle.graph_model.specs.declared.graph.table.Kernel.TheVariants.{Expect};
-ghost use Rattle.graph_model.specs.meaning.Effect.{Cells, all_within, kernel_verdict};
-ghost use Rattle.graph_model.specs.meaning.HeldCells.{HoldsOver, HasCells};
+ghost use Rattle.graph_model.specs.meaning.Effect.{all_within};
+ghost use Rattle.kernel_table.specs.Kernels.{HoldsOverSpace, RunsKernel};
 
-use graph_model::held_cells::cells_by_point;
+use graph_model::graph::Graph;
+use graph_model::held_cells::{cells_by_point, seen_cells};
 use graph_model::outcome::Verdict;
 use index_spaces::column::Column;
 use index_spaces::held::Held;
 use index_spaces::laws::{points_are_listed, runs_of_spaces};
 use index_spaces::space::Space;
 
-/// A fault exactly where some cell is below the least or above the greatest. It writes nothing.
-pub(crate) fn run_expect(held: &Held, x: u32, space: &Space, low: u64, high: u64) -> Verdict
-    requires { HoldsOver held.now x space.now }
-    ensures { (cells : Cells) → HasCells held.now cells → result
-        ≡ kernel_verdict (λ s. slice_index_or (space.now ∷ []) s []) cells (Expect x 0 low high) }
+/// A fault exactly where some cell over a space is below the least or above the greatest. It writes
+/// nothing.
+pub(crate) fn run_expect(graph: &Graph, held: &Held, x: u32, s: u32, low: u64, high: u64) -> Verdict
+    requires { HoldsOverSpace graph.now held.now x s }
+    ensures { RunsKernel graph.now held.now held.now result (Expect x s low high) }
 {
     cells_by_point();
+    seen_cells();
     points_are_listed();
+    let space = graph.space(s);
     let from = held.column(x).unwrap();
     let _ = from.space().intervals();
     verdict_of(points_within(from, space, low, high))

@@ -1,32 +1,36 @@
 //! Gather: cells picked by the numbers in another column.
 
-ghost use Rattle.std.specs.Prelude.{ℕ, ◌≡◌, ◌≢◌, ◌<◌, ◌%◌, [], ◌∷◌, length, slice_index};
+ghost use Rattle.std.specs.Prelude.{ℕ, ◌≡◌, ◌≢◌, ◌<◌, ◌%◌, length, slice_index};
 ghost use Rattle.index_spaces.specs.Space.{IsWithin, point_at, space_size};
 ghost use Rattle.index_spaces.specs.Column.{cell_of};
 ghost use Rattle.index_spaces.specs.Run.{WritesPoints};
+ghost use Rattle.graph_model.specs.declared.meaning.outcome.Verdict.TheVariants.{Fine};
 ghost use Rattle.graph_model.specs.declared.graph.table.Kernel.TheVariants.{Gather};
-ghost use Rattle.graph_model.specs.meaning.HeldCells.{HoldsOver};
-ghost use Rattle.kernel_table.specs.Kernels.{MakesKernel};
+ghost use Rattle.kernel_table.specs.Kernels.{HoldsOverSpace, RunsKernel};
 
-use graph_model::held_cells::{cells_by_point, changes_by_point};
+use graph_model::graph::Graph;
+use graph_model::held_cells::{cells_by_point, changes_by_point, seen_cells};
 use index_spaces::column::Column;
 use index_spaces::held::Held;
 use index_spaces::laws::{rank_of_point, runs_are_written, runs_of_spaces, spaces_are_written};
 use index_spaces::space::Space;
 
-/// Sets each cell of `z` to the cell of `y` at the point whose rank in `picks` is the cell of `x`,
-/// modulo the number of points there.
-pub(crate) fn run_gather(held: &mut Held, x: u32, y: u32, z: u32, space: &Space, picks: &Space)
-    requires numbers { HoldsOver held.old x space.now }
-    requires source { HoldsOver held.old y picks.now }
-    requires target { HoldsOver held.old z space.now }
+/// Sets each cell of `z` over `s` to the cell of `y` at the point whose rank in `t` is the cell of
+/// `x`, modulo the number of points there.
+pub(crate) fn run_gather(graph: &Graph, held: &mut Held, x: u32, y: u32, z: u32, s: u32, t: u32)
+    requires numbers { HoldsOverSpace graph.now held.old x s }
+    requires source { HoldsOverSpace graph.now held.old y t }
+    requires target { HoldsOverSpace graph.now held.old z s }
     requires first { x ≢ z }
     requires second { y ≢ z }
-    ensures { MakesKernel held.old held.new (space.now ∷ picks.now ∷ []) (Gather x y z 0 1) }
+    ensures { RunsKernel graph.now held.old held.new Fine (Gather x y z s t) }
 {
     cells_by_point();
+    seen_cells();
     changes_by_point();
     rank_of_point();
+    let space = graph.space(s);
+    let picks = graph.space(t);
     let _ = space.intervals();
     let _ = picks.intervals();
     let _ = picks.size();

@@ -1,15 +1,16 @@
 //! Hist: how often each rank comes among the numbers of a column.
 
-ghost use Rattle.std.specs.Prelude.{◌≡◌, ◌≢◌, ◌+◌, ◌%◌, ◌==◌, cond, [], ◌∷◌, length, count_by};
+ghost use Rattle.std.specs.Prelude.{◌≡◌, ◌≢◌, ◌+◌, ◌%◌, ◌==◌, cond, length, count_by};
 ghost use Rattle.index_spaces.specs.Space.{IsWithin, points, rank, space_size};
 ghost use Rattle.index_spaces.specs.Column.{cell_of};
 ghost use Rattle.index_spaces.specs.Run.{WritesPoints};
+ghost use Rattle.graph_model.specs.declared.meaning.outcome.Verdict.TheVariants.{Fine};
 ghost use Rattle.graph_model.specs.declared.graph.table.Kernel.TheVariants.{Hist};
 ghost use Rattle.graph_model.specs.meaning.Effect.{wrapped};
-ghost use Rattle.graph_model.specs.meaning.HeldCells.{HoldsOver};
-ghost use Rattle.kernel_table.specs.Kernels.{MakesKernel, column_over};
+ghost use Rattle.kernel_table.specs.Kernels.{HoldsOverSpace, RunsKernel, column_over};
 
-use graph_model::held_cells::{cells_by_point, changes_by_point};
+use graph_model::graph::Graph;
+use graph_model::held_cells::{cells_by_point, changes_by_point, seen_cells};
 use index_spaces::column::Column;
 use index_spaces::held::Held;
 use index_spaces::laws::{
@@ -17,17 +18,20 @@ use index_spaces::laws::{
 };
 use index_spaces::space::Space;
 
-/// Adds to the cell of each point of `bins` how many of the other column's numbers are its rank,
-/// modulo the number of points there.
-pub(crate) fn run_hist(held: &mut Held, x: u32, y: u32, space: &Space, bins: &Space)
-    requires source { HoldsOver held.old x space.now }
-    requires target { HoldsOver held.old y bins.now }
+/// Adds to the cell of each point of `t` how many of the other column's numbers over `s` are its
+/// rank, modulo the number of points of `t`.
+pub(crate) fn run_hist(graph: &Graph, held: &mut Held, x: u32, y: u32, s: u32, t: u32)
+    requires source { HoldsOverSpace graph.now held.old x s }
+    requires target { HoldsOverSpace graph.now held.old y t }
     requires distinct { x ≢ y }
-    ensures { MakesKernel held.old held.new (space.now ∷ bins.now ∷ []) (Hist x y 0 1) }
+    ensures { RunsKernel graph.now held.old held.new Fine (Hist x y s t) }
 {
     cells_by_point();
+    seen_cells();
     changes_by_point();
     points_are_listed();
+    let space = graph.space(s);
+    let bins = graph.space(t);
     let _ = bins.intervals();
     let before = held.take(y);
     let _ = before.space().intervals();

@@ -1,25 +1,27 @@
 //! Iota: numbers from a value on, along a space.
 
-ghost use Rattle.std.specs.Prelude.{ℕ, ◌≡◌, ◌+◌, ◌<◌, [], ◌∷◌, length, slice_index};
+ghost use Rattle.std.specs.Prelude.{ℕ, ◌≡◌, ◌+◌, ◌<◌, length, slice_index};
 ghost use Rattle.index_spaces.specs.Space.{IsWithin, rank};
 ghost use Rattle.index_spaces.specs.Run.{WritesPoints};
+ghost use Rattle.graph_model.specs.declared.meaning.outcome.Verdict.TheVariants.{Fine};
 ghost use Rattle.graph_model.specs.declared.graph.table.Kernel.TheVariants.{Iota};
 ghost use Rattle.graph_model.specs.meaning.Effect.{wrapped};
-ghost use Rattle.graph_model.specs.meaning.HeldCells.{HoldsOver};
-ghost use Rattle.kernel_table.specs.Kernels.{MakesKernel};
+ghost use Rattle.kernel_table.specs.Kernels.{HoldsOverSpace, RunsKernel};
 
+use graph_model::graph::Graph;
 use graph_model::held_cells::changes_by_point;
 use index_spaces::column::Column;
 use index_spaces::held::Held;
 use index_spaces::laws::{runs_are_written, runs_of_spaces, spaces_are_written};
 use index_spaces::space::Space;
 
-/// Sets each cell to the value and its point's rank.
-pub(crate) fn run_iota(held: &mut Held, x: u32, space: &Space, value: u64)
-    requires { HoldsOver held.old x space.now }
-    ensures { MakesKernel held.old held.new (space.now ∷ []) (Iota x 0 value) }
+/// Sets each cell over a space to the value and its point's rank.
+pub(crate) fn run_iota(graph: &Graph, held: &mut Held, x: u32, s: u32, value: u64)
+    requires { HoldsOverSpace graph.now held.old x s }
+    ensures { RunsKernel graph.now held.old held.new Fine (Iota x s value) }
 {
     changes_by_point();
+    let space = graph.space(s);
     let _ = space.intervals();
     let before = held.take(x);
     let _ = before.space().intervals();

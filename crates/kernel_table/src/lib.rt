@@ -5,7 +5,7 @@ ghost use Rattle.std.specs.Prelude.{◌≡◌};
 ghost use Rattle.graph_model.specs.graph.Graph.{space_at};
 ghost use Rattle.graph_model.specs.meaning.Effect.{Cells, kernel_changes, kernel_verdict};
 ghost use Rattle.graph_model.specs.meaning.HeldCells.{HasCells, MakesChanges};
-ghost use Rattle.kernel_table.specs.Kernels.{FitsHeld, FitsEach};
+ghost use Rattle.kernel_table.specs.Kernels.{FitsHeld, FitsEach, RunsKernel};
 
 mod axpy;
 mod dot;
@@ -39,39 +39,39 @@ pub fn run_kernel(graph: &Graph, kernel: &Kernel, held: &mut Held) -> Verdict
     run_fitting(graph, kernel, held)
 }
 
+/// The same, of a kernel that fits access by access.
 fn run_fitting(graph: &Graph, kernel: &Kernel, held: &mut Held) -> Verdict
     requires { FitsEach graph.now held.old kernel.now }
-    ensures verdict { (cells : Cells) → HasCells held.old cells → result ≡ kernel_verdict (space_at graph.now) cells kernel.now }
-    ensures changes { MakesChanges held.old held.new (λ cells. kernel_changes (space_at graph.now) cells kernel.now) }
+    ensures { RunsKernel graph.now held.old held.new result kernel.now }
 {
     match kernel {
         Kernel::Iota { x, s, value } => {
-            run_iota(held, *x, graph.space(*s), *value);
+            run_iota(graph, held, *x, *s, *value);
             Verdict::Fine
         }
         Kernel::Axpy { x, y, s, factor } => {
-            run_axpy(held, *x, *y, graph.space(*s), *factor);
+            run_axpy(graph, held, *x, *y, *s, *factor);
             Verdict::Fine
         }
         Kernel::Stencil { x, y, r, s } => {
-            run_stencil(held, *x, *y, graph.space(*r), graph.space(*s));
+            run_stencil(graph, held, *x, *y, *r, *s);
             Verdict::Fine
         }
         Kernel::Scan { x, y, s } => {
-            run_scan(held, *x, *y, graph.space(*s));
+            run_scan(graph, held, *x, *y, *s);
             Verdict::Fine
         }
         Kernel::Hist { x, y, s, t } => {
-            run_hist(held, *x, *y, graph.space(*s), graph.space(*t));
+            run_hist(graph, held, *x, *y, *s, *t);
             Verdict::Fine
         }
         Kernel::Dot { x, y, z, s, t } => {
-            run_dot(held, *x, *y, *z, graph.space(*s), graph.space(*t));
+            run_dot(graph, held, *x, *y, *z, *s, *t);
             Verdict::Fine
         }
-        Kernel::Expect { x, s, low, high } => run_expect(held, *x, graph.space(*s), *low, *high),
+        Kernel::Expect { x, s, low, high } => run_expect(graph, held, *x, *s, *low, *high),
         Kernel::Gather { x, y, z, s, t } => {
-            run_gather(held, *x, *y, *z, graph.space(*s), graph.space(*t));
+            run_gather(graph, held, *x, *y, *z, *s, *t);
             Verdict::Fine
         }
     }

@@ -1,30 +1,33 @@
 //! Scan: running sums along a space.
 
-ghost use Rattle.std.specs.Prelude.{ℕ, ◌≡◌, ◌≢◌, ◌+◌, ◌<◌, [], ◌∷◌, length, take, filter, sum, nat_le, slice_index};
+ghost use Rattle.std.specs.Prelude.{ℕ, ◌≡◌, ◌≢◌, ◌+◌, ◌<◌, length, take, filter, sum, nat_le, slice_index};
 ghost use Rattle.index_spaces.specs.Space.{IsWithin, points};
 ghost use Rattle.index_spaces.specs.Column.{cell_of};
 ghost use Rattle.index_spaces.specs.Run.{WritesPoints};
+ghost use Rattle.graph_model.specs.declared.meaning.outcome.Verdict.TheVariants.{Fine};
 ghost use Rattle.graph_model.specs.declared.graph.table.Kernel.TheVariants.{Scan};
 ghost use Rattle.graph_model.specs.meaning.Effect.{wrapped, wrapped_sum};
-ghost use Rattle.graph_model.specs.meaning.HeldCells.{HoldsOver};
-ghost use Rattle.kernel_table.specs.Kernels.{MakesKernel};
+ghost use Rattle.kernel_table.specs.Kernels.{HoldsOverSpace, RunsKernel};
 
-use graph_model::held_cells::{cells_by_point, changes_by_point};
+use graph_model::graph::Graph;
+use graph_model::held_cells::{cells_by_point, changes_by_point, seen_cells};
 use index_spaces::column::Column;
 use index_spaces::held::Held;
 use index_spaces::laws::{points_are_listed, runs_are_written, runs_of_spaces, spaces_are_written};
 use index_spaces::space::Space;
 
-/// Sets each cell to the sum of the other column's cells at its point and those below it.
-pub(crate) fn run_scan(held: &mut Held, x: u32, y: u32, space: &Space)
-    requires source { HoldsOver held.old x space.now }
-    requires target { HoldsOver held.old y space.now }
+/// Sets each cell over a space to the sum of the other column's cells at its point and those below it.
+pub(crate) fn run_scan(graph: &Graph, held: &mut Held, x: u32, y: u32, s: u32)
+    requires source { HoldsOverSpace graph.now held.old x s }
+    requires target { HoldsOverSpace graph.now held.old y s }
     requires distinct { x ≢ y }
-    ensures { MakesKernel held.old held.new (space.now ∷ []) (Scan x y 0) }
+    ensures { RunsKernel graph.now held.old held.new Fine (Scan x y s) }
 {
     cells_by_point();
+    seen_cells();
     changes_by_point();
     points_are_listed();
+    let space = graph.space(s);
     let _ = space.intervals();
     let before = held.take(y);
     let _ = before.space().intervals();

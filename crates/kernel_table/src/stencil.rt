@@ -1,30 +1,34 @@
 //! Stencil: the sum over a point and its two neighbors.
 
-ghost use Rattle.std.specs.Prelude.{ℕ, ◌≡◌, ◌≢◌, ◌+◌, ◌-◌, ◌<◌, ◌≤◌, ◌^◌, cond, [], ◌∷◌, length, filter, slice_index, IsTrue};
+ghost use Rattle.std.specs.Prelude.{ℕ, ◌≡◌, ◌≢◌, ◌+◌, ◌-◌, ◌<◌, ◌≤◌, ◌^◌, cond, length, filter, slice_index, IsTrue};
 ghost use Rattle.index_spaces.specs.Space.{IsWithin, has_point};
 ghost use Rattle.index_spaces.specs.Column.{cell_of};
 ghost use Rattle.index_spaces.specs.Run.{IsRun, WritesPoints};
+ghost use Rattle.graph_model.specs.declared.meaning.outcome.Verdict.TheVariants.{Fine};
 ghost use Rattle.graph_model.specs.declared.graph.table.Kernel.TheVariants.{Stencil};
 ghost use Rattle.graph_model.specs.meaning.Effect.{around, wrapped, wrapped_sum};
-ghost use Rattle.graph_model.specs.meaning.HeldCells.{HoldsOver};
-ghost use Rattle.kernel_table.specs.Kernels.{MakesKernel};
+ghost use Rattle.kernel_table.specs.Kernels.{HoldsOverSpace, RunsKernel};
 
-use graph_model::held_cells::{cells_by_point, changes_by_point};
+use graph_model::graph::Graph;
+use graph_model::held_cells::{cells_by_point, changes_by_point, seen_cells};
 use index_spaces::column::Column;
 use index_spaces::held::Held;
 use index_spaces::laws::{runs_are_written, runs_of_spaces, spaces_are_written};
 use index_spaces::space::Space;
 
-/// Sets each cell to the sum of the other column's cells at its point and the two beside it, as far
-/// as these lie in the space that is read.
-pub(crate) fn run_stencil(held: &mut Held, x: u32, y: u32, read: &Space, space: &Space)
-    requires source { HoldsOver held.old x read.now }
-    requires target { HoldsOver held.old y space.now }
+/// Sets each cell over `s` to the sum of the other column's cells at its point and the two beside
+/// it, as far as these lie in `r`.
+pub(crate) fn run_stencil(graph: &Graph, held: &mut Held, x: u32, y: u32, r: u32, s: u32)
+    requires source { HoldsOverSpace graph.now held.old x r }
+    requires target { HoldsOverSpace graph.now held.old y s }
     requires distinct { x ≢ y }
-    ensures { MakesKernel held.old held.new (read.now ∷ space.now ∷ []) (Stencil x y 0 1) }
+    ensures { RunsKernel graph.now held.old held.new Fine (Stencil x y r s) }
 {
     cells_by_point();
+    seen_cells();
     changes_by_point();
+    let read = graph.space(r);
+    let space = graph.space(s);
     let _ = space.intervals();
     let before = held.take(y);
     let _ = before.space().intervals();

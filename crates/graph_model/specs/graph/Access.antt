@@ -4,7 +4,7 @@ use Rattle.std.specs.Option.{option_map_or}
 use Rattle.index_spaces.specs.Space.{Meet}
 use Rattle.graph_model.specs.declared.graph.verb.Access.{Access}
 use Rattle.graph_model.specs.declared.graph.verb.Mode.{Mode}
-use Rattle.graph_model.specs.declared.graph.verb.Mode.TheVariants.{Read}
+use Rattle.graph_model.specs.declared.graph.verb.Mode.TheVariants.{Read, Sum}
 use Rattle.graph_model.specs.declared.graph.verb.Verb.{Verb}
 use Rattle.graph_model.specs.declared.graph.verb.Verb.TheVariants.{Task}
 use Rattle.graph_model.specs.declared.graph.table.Kernel.{Kernel}
@@ -57,6 +57,11 @@ accesses g i = option_map_or verb_accesses (verb_at g i) []
 abbrev pub is_read : Mode → Bool
 is_read Read = true
 is_read _ = false
+
+-- whether an access only adds to its cells
+abbrev pub is_sum : Mode → Bool
+is_sum Sum = true
+is_sum _ = false
 
 -- two uses that must not meet: not both are reads
 abbrev pub modes_clash : Mode → Mode → Bool

@@ -1,7 +1,7 @@
 -- What a line does to the cells: a verdict, and changes of single cells, computed from the cells before it.
-use Rattle.std.specs.Prelude.{ℕ, zero, suc, ◌+◌, ◌*◌, ◌%◌, ◌^◌, min, max, ◌==◌, nat_le, Bool, true, false, cond, ◌&&◌, List, [], ◌∷◌, map, filter, sum_by, count_by, Option, Some, None}
+use Rattle.std.specs.Prelude.{ℕ, zero, suc, ◌+◌, ◌*◌, ◌%◌, ◌^◌, min, max, ◌==◌, nat_le, Bool, true, false, cond, not, ◌&&◌, List, [], ◌∷◌, map, filter, sum_by, count_by, Option, Some, None}
 use Rattle.std.specs.Option.{option_map_or}
-use Rattle.std.specs.List.{list_all}
+use Rattle.std.specs.List.{list_all, list_any}
 use Rattle.index_spaces.specs.Space.{has_point, points, space_size, rank, point_at}
 use Rattle.index_spaces.specs.declared.Op.{Op}
 use Rattle.index_spaces.specs.declared.Op.TheVariants as op
@@ -15,7 +15,7 @@ use Rattle.graph_model.specs.declared.graph.verb.Access.{Access}
 use Rattle.graph_model.specs.declared.graph.verb.Mode.{Mode}
 use Rattle.graph_model.specs.declared.graph.verb.Mode.TheVariants as mode
 use Rattle.graph_model.specs.graph.Graph.{GraphValue, verb_at, space_at}
-use Rattle.graph_model.specs.graph.Access.{is_read, kernel_accesses}
+use Rattle.graph_model.specs.graph.Access.{is_read, is_sum, kernel_accesses}
 
 -- the cells of all columns: by the number of the column and the point
 abbrev pub Cells : Type 0
@@ -82,7 +82,15 @@ reduced op.Sum cell value = Add value
 reduced op.Min cell value = Set (min cell value)
 reduced op.Max cell value = Set (max cell value)
 
--- what a kernel computes for a point of its target; an expectation has none
+-- whether an access lets the cell of a column at a point be read: it is no sum, and the point lies in its space
+abbrev pub may_read : (ℕ → List (ℕ × ℕ)) → ℕ → ℕ → Access → Bool
+may_read space column point a = not (is_sum a.mode) && ((a.column == column) && has_point (space a.space) point)
+
+-- what a line with these accesses sees of the cells: those that it may read, and 0 elsewhere
+abbrev pub seen : (ℕ → List (ℕ × ℕ)) → List Access → Cells → Cells
+seen space accesses cells column point = cond (list_any (may_read space column point) accesses) (cells column point) 0
+
+-- what a kernel computes for a point of its target from the cells that it sees; an expectation has no target
 abbrev pub kernel_value : (ℕ → List (ℕ × ℕ)) → Cells → Kernel → ℕ → ℕ
 kernel_value space cells (Iota x s value) p = wrapped (value + rank (space s) p)
 kernel_value space cells (Axpy x y s factor) p = wrapped (factor * cells x p)
@@ -107,16 +115,22 @@ change_by _ value = Set value
 abbrev pub changes_of : (ℕ → List (ℕ × ℕ)) → (ℕ → ℕ) → Access → List CellChange
 changes_of space f a = changes_at (λ p. change_by a.mode (f p)) a.column (points (space a.space))
 
+-- the changes of a kernel rest on no cells but those that it sees
 abbrev pub kernel_changes : (ℕ → List (ℕ × ℕ)) → Cells → Kernel → List CellChange
-kernel_changes space cells k = option_map_or (changes_of space (kernel_value space cells k)) (target (kernel_accesses k)) []
+kernel_changes space cells k = option_map_or (changes_of space (kernel_value space (seen space (kernel_accesses k) cells) k)) (target (kernel_accesses k)) []
 
 -- whether each cell of the column is within the bounds
 abbrev pub all_within : (ℕ → ℕ) → ℕ → ℕ → List ℕ → Bool
 all_within f low high ps = list_all (λ p. nat_le low (f p) && nat_le (f p) high) ps
 
+-- the verdict of a kernel on the cells that it sees; only an expectation may be a fault
+abbrev pub verdict_on : (ℕ → List (ℕ × ℕ)) → Cells → Kernel → Verdict
+verdict_on space cells (Expect x s low high) = cond (all_within (cells x) low high (points (space s))) Fine Fault
+verdict_on space cells _ = Fine
+
+-- its verdict rests on no cells but those that it sees
 abbrev pub kernel_verdict : (ℕ → List (ℕ × ℕ)) → Cells → Kernel → Verdict
-kernel_verdict space cells (Expect x s low high) = cond (all_within (cells x) low high (points (space s))) Fine Fault
-kernel_verdict space cells _ = Fine
+kernel_verdict space cells k = verdict_on space (seen space (kernel_accesses k) cells) k
 
 -- the changes that a line makes
 abbrev pub verb_changes : (ℕ → List (ℕ × ℕ)) → Cells → Verb → List CellChange

@@ -1,12 +1,14 @@
 -- What an effect leaves in the columns that a line was given.
-use Rattle.std.specs.Prelude.{◌≡◌, ℕ, List, length, map, Some, IsTrue, option_map}
+use Rattle.std.specs.Prelude.{◌≡◌, ℕ, false, List, length, map, Contains, Some, IsTrue, option_map}
 use Rattle.std.specs.Option.{IsSomeAnd}
 use Rattle.index_spaces.specs.Space.{has_point, points, space_size, IsSpace, IsWithin}
 use Rattle.index_spaces.specs.Column.{ColumnValue, cell_of}
 use Rattle.index_spaces.specs.Run.{WritesPoints}
 use Rattle.index_spaces.specs.Held.{held_at, HoldsOtherwise}
+use Rattle.graph_model.specs.declared.graph.verb.Access.{Access}
+use Rattle.graph_model.specs.graph.Access.{is_sum}
 use Rattle.graph_model.specs.graph.Graph.{GraphValue}
-use Rattle.graph_model.specs.meaning.Effect.{Cells, Change, cell_after, CellChange, cells_after, changes_at, verb_changes}
+use Rattle.graph_model.specs.meaning.Effect.{Cells, Change, cell_after, CellChange, cells_after, changes_at, seen, verb_changes}
 use Rattle.graph_model.specs.declared.graph.verb.Verb.{Verb}
 use Rattle.graph_model.specs.meaning.Evaluation.{column_of}
 
@@ -31,6 +33,10 @@ HoldsOver held c s = IsSomeAnd (held_at held c) (λ (x : ColumnValue). IsWithin 
 -- a cell of a column that is held is the cell at its point
 abbrev pub CellsByPoint : Type 0
 CellsByPoint = (held : List (ℕ × ColumnValue)) (cells : Cells) (c : ℕ) (x : ColumnValue) (p : ℕ) → HasCells held cells → held_at held c ≡ Some x → IsSpace x.space → IsTrue (has_point x.space p) → cell_of x p ≡ cells c p
+
+-- the cell of an access that is no sum, at a point of its space, is seen
+abbrev pub SeenCells : Type 0
+SeenCells = (space : ℕ → List (ℕ × ℕ)) (accesses : List Access) (a : Access) (cells : Cells) (p : ℕ) → Contains accesses a → is_sum a.mode ≡ false → IsTrue (has_point (space a.space) p) → seen space accesses cells a.column p ≡ cells a.column p
 
 -- a write of one column that is held, at the points of a space, is a change at each of the points, where it writes what the change leaves; the other columns are as they were
 abbrev pub ChangesByPoint : Type 0

@@ -1,6 +1,6 @@
 //! What holds of changes in columns that are held, for callers to cite. No function here does anything.
 
-ghost use Rattle.graph_model.specs.meaning.HeldCells.{CellsByPoint, ChangesByPoint, ColumnsOfChanges};
+ghost use Rattle.graph_model.specs.meaning.HeldCells.{CellsByPoint, SeenCells, ChangesByPoint, ColumnsOfChanges};
 
 use index_spaces::laws::{point_of_rank, points_are_listed, points_ascend, rank_of_point};
 
@@ -10,6 +10,11 @@ pub fn cells_by_point()
 {
     point_of_rank();
 }
+
+/// A line sees the cells of each access that is no sum.
+pub fn seen_cells()
+    ensures { SeenCells }
+{}
 
 /// A write of one held column at the points of a space is a change at each of the points.
 pub fn changes_by_point()

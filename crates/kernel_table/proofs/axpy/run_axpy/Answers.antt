@@ -1,26 +1,38 @@
-use Rattle.std.proofs.Common.{◌≡◌, ◌+◌, ◌*◌, Some, length, sym, ap, ◌∙◌, arith}
+use Rattle.std.proofs.Common.{◌≡◌, ◌+◌, ◌*◌, Some, length, refl, sym, ap, ◌∙◌, arith}
 use Rattle.index_spaces.specs.Space.{IsSpace, IsWithin}
 use Rattle.index_spaces.specs.Column.{cell_of}
 use Rattle.index_spaces.specs.Held.{held_at}
-use Rattle.graph_model.specs.meaning.Effect.{Add, wrapped}
+use Rattle.graph_model.specs.declared.graph.verb.Mode.TheVariants.{Read}
+use Rattle.graph_model.specs.declared.graph.table.Kernel.TheVariants.{Axpy}
+use Rattle.graph_model.specs.graph.Graph.{space_at}
+use Rattle.graph_model.specs.graph.Access.{access, kernel_accesses}
+use Rattle.graph_model.specs.meaning.Effect.{Add, wrapped, seen}
 use Rattle.index_spaces.proofs.WriteFacts.{held_again, holds_over}
+use Rattle.kernel_table.proofs.Seen.{cell_is_seen}
 use Rattle.kernel_table.proofs.axpy.run_axpy.Goals as goal
 
 pub returns : goal.returns
 returns c =
     let old = c.args.held.now in
+    let spaces = space_at c.args.graph.now in
+    let accesses = kernel_accesses (Axpy c.args.x c.args.y c.args.s c.args.factor) in
+    let space = spaces c.args.s in
+    let is_space : IsSpace space = rw c.space-space.ensures at c.intervals.ensures.is_space in
     let to = c.take-before.result in
     let after = c.axpy_points-after.result in
     let held = held_again old c.take-before.new.self c.add.new.self c.args.y after c.take-before.ensures.held c.add.ensures.held in
     let number : length c.add.new.self ≡ length old = omega (arith, c.take-before.ensures.number, c.add.ensures.number) in
     let here : IsSpace to.space = rw (sym c.space.ensures.space) c.intervals-2.ensures.is_space in
-    let over : IsWithin c.args.space.now to.space = holds_over (held_at old c.args.y) (λ x. IsWithin c.args.space.now x.space) to c.take-before.ensures.column c.requires.target in
+    let over : IsWithin space to.space = holds_over (held_at old c.args.y) (λ x. IsWithin space x.space) to c.take-before.ensures.column c.requires.target.1 in
     let from = c.unwrap-from.result.now in
     let from_is : held_at old c.args.x ≡ Some from = sym (c.take-before.ensures.held.others c.args.x c.requires.distinct) ∙ sym (rw c.unwrap-from.ensures at c.column.ensures) in
-    let from_within : IsWithin c.args.space.now from.space = holds_over (held_at old c.args.x) (λ x. IsWithin c.args.space.now x.space) from from_is c.requires.source in
     let from_space : IsSpace from.space = rw (sym c.space-2.ensures.space) c.intervals-3.ensures.is_space in
-    c.changes_by_point.ensures old c.add.new.self c.args.y to after c.args.space.now (λ p. wrapped (cell_of to p + wrapped (c.args.factor * cell_of from p))) (λ cells p. Add (wrapped (c.args.factor * cells c.args.x p)))
-    c.intervals.ensures.is_space here c.take-before.ensures.column held number c.space-3.ensures.full c.axpy_points-after.ensures
-    (λ cells has p h.
-    ap (λ v. wrapped (v + wrapped (c.args.factor * cell_of from p))) (c.cells_by_point.ensures old cells c.args.y to p has c.take-before.ensures.column here (over p h))
-    ∙ ap (λ v. wrapped (cells c.args.y p + wrapped (c.args.factor * v))) (c.cells_by_point.ensures old cells c.args.x from p has from_is from_space (from_within p h)))
+    let from_seen = cell_is_seen c.cells_by_point.ensures c.seen_cells.ensures spaces accesses (access c.args.x c.args.s Read) old from (0, omega arith, refl) refl from_is from_space c.requires.source.1 in
+    record {
+      verdict = λ cells has. refl;
+      changes = c.changes_by_point.ensures old c.add.new.self c.args.y to after space (λ p. wrapped (cell_of to p + wrapped (c.args.factor * cell_of from p))) (λ cells p. Add (wrapped (c.args.factor * seen spaces accesses cells c.args.x p)))
+          is_space here c.take-before.ensures.column held number c.space-3.ensures.full (rw c.space-space.ensures at c.axpy_points-after.ensures)
+          (λ cells has p h.
+          ap (λ v. wrapped (v + wrapped (c.args.factor * cell_of from p))) (c.cells_by_point.ensures old cells c.args.y to p has c.take-before.ensures.column here (over p h))
+          ∙ ap (λ v. wrapped (cells c.args.y p + wrapped (c.args.factor * v))) (from_seen cells has p h));
+    }
