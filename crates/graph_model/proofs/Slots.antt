@@ -56,10 +56,10 @@ pub with_entry_named : (v : NamesValue) (name q : List ℕ) (found : Found) → 
     named (with_entry v (slot_of name) (record { name = name; found = Some found })) q ≡ cond (bytes_eq name q) (Some found) (named v q)
 with_entry_named v name q found a h free = elim (eqb_tells (slot_of q) (slot_of name)) [
   | inl same ↦ (let none : entry_at v (slot_of q) ≡ None = ap (entry_at v) same.1 ∙ free in
-    ap (named_by v.others q) (entry_here v (slot_of name) (slot_of q) (record { name = name; found = Some found }) h same.1)
-    ∙ ap (cond (bytes_eq name q) (Some found)) (a.owned q none ∙ sym (ap (named_by v.others q) none)))
+      ap (named_by v.others q) (entry_here v (slot_of name) (slot_of q) (record { name = name; found = Some found }) h same.1)
+      ∙ ap (cond (bytes_eq name q) (Some found)) (a.owned q none ∙ sym (ap (named_by v.others q) none)))
   | inr other ↦ (ap (named_by v.others q) (entry_there v (slot_of name) (slot_of q) (record { name = name; found = Some found }) a other.1)
-    ∙ sym (ap (λ b. cond b (Some found) (named v q)) (apart name q (λ e. other.1 (sym e)))))
+      ∙ sym (ap (λ b. cond b (Some found) (named v q)) (apart name q (λ e. other.1 (sym e)))))
 ]
 
 pub with_entry_slots : (v : NamesValue) (slot : ℕ) (e : Entry) → AreSlots v → slot < length v.slots → AreSlots (with_entry v slot e)
@@ -74,6 +74,7 @@ with_entry_slots v slot e a h = record {
   where
     grown : length (v.entries ++ e ∷ []) ≡ length v.entries + 1
     grown = length-append v.entries (e ∷ [])
+
     within_by : (t n : ℕ) → get_or (slice_set v.slots slot (Some (length v.entries))) t None ≡ Some n → ((nat_eq t slot ≡ true) × (t ≡ slot)) ⊎ ((nat_eq t slot ≡ false) × (t ≢ slot)) → n < length (v.entries ++ e ∷ [])
     within_by t n g (inl same) =
         let at : n ≡ length v.entries = sym (same_Some (length v.entries) n (sym (get_or-set_at v.slots slot t (Some (length v.entries)) None same.1 h) ∙ g)) in
@@ -81,6 +82,7 @@ with_entry_slots v slot e a h = record {
     within_by t n g (inr other) =
         let old : n < length v.entries = a.within t n (sym (get_or-set_other v.slots slot t (Some (length v.entries)) None other.1) ∙ g) in
         omega (arith, old, grown)
+
     owned_by : (q : List ℕ) → entry_at (with_entry v slot e) (slot_of q) ≡ None → ((nat_eq (slot_of q) slot ≡ true) × (slot_of q ≡ slot)) ⊎ ((nat_eq (slot_of q) slot ≡ false) × (slot_of q ≢ slot)) → mapped v.others q ≡ None
     owned_by q none (inl same) = absurd (none-some e (sym none ∙ entry_here v slot (slot_of q) e h same.1))
     owned_by q none (inr other) = a.owned q (sym (entry_there v slot (slot_of q) e a other.1) ∙ none)
@@ -93,6 +95,7 @@ beside_named v others name q x o h = by_name (bytes_eq name q) refl
     by_entry : (e : Option Entry) → mapped others q ≡ mapped v.others q → named_by others q e ≡ named_by v.others q e
     by_entry None m = refl
     by_entry (Some e) m = ap (cond (bytes_eq e.name q) e.found) m
+
     by_name : (b : Bool) → bytes_eq name q ≡ b → named (record { slots = v.slots; entries = v.entries; others = others }) q ≡ cond b x (named v q)
     by_name true e =
         let same : name ≡ q = same_name name q e in
@@ -137,31 +140,35 @@ with_found_named v slot n name q found o at = by_number (get_or v.slots (slot_of
         not_same : (b : Bool) → bytes_eq name q ≡ b → bytes_eq name q ≡ false
         not_same true s = absurd (other (same_Some m n (sym e ∙ (ap (λ t. get_or v.slots t None) (ap slot_of (sym (same_name name q s)) ∙ sym o.slot_is) ∙ at))))
         not_same false s = s
+
     no_number : get_or v.slots (slot_of q) None ≡ None → bytes_eq name q ≡ false
     no_number e = not_same (bytes_eq name q) refl
       where
         not_same : (b : Bool) → bytes_eq name q ≡ b → bytes_eq name q ≡ false
         not_same true s = absurd (none-some n (sym e ∙ (ap (λ t. get_or v.slots t None) (ap slot_of (sym (same_name name q s)) ∙ sym o.slot_is) ∙ at)))
         not_same false s = s
+
     own : slice_get v.entries n ≡ Some o.entry
     own = sym (ap (entry_of v.entries) at) ∙ o.has
+
     both : (b : Bool) (m : Option Found) → cond b found m ≡ cond b found (cond b o.entry.found m)
     both true m = refl
     both false m = refl
+
     by_number : (k : Option ℕ) → get_or v.slots (slot_of q) None ≡ k → named (with_found v n name found) q ≡ cond (bytes_eq name q) found (named v q)
     by_number None e =
         ap (λ k. named_by v.others q (entry_of (slice_set v.entries n (record { name = name; found = found })) k)) e
         ∙ (sym (ap (λ k. named_by v.others q (entry_of v.entries k)) e) ∙ sym (ap (λ b. cond b found (named v q)) (no_number e)))
     by_number (Some m) e = elim (eqb_tells m n) [
       | inl same ↦ (let after : named (with_found v n name found) q ≡ cond (bytes_eq name q) found (mapped v.others q) =
-        ap (λ k. named_by v.others q (entry_of (slice_set v.entries n (record { name = name; found = found })) k)) (e ∙ ap Some same.1)
-        ∙ ap (named_by v.others q) (set_here v.entries n (record { name = name; found = found }) (slice_get_within v.entries n o.entry own)) in
-        let before : named v q ≡ cond (bytes_eq name q) o.entry.found (mapped v.others q) =
-        ap (λ k. named_by v.others q (entry_of v.entries k)) (e ∙ ap Some same.1) ∙ (ap (named_by v.others q) own ∙ ap (λ w. cond (bytes_eq w q) o.entry.found (mapped v.others q)) o.own) in
-        after ∙ (both (bytes_eq name q) (mapped v.others q) ∙ sym (ap (cond (bytes_eq name q) found) before)))
+          ap (λ k. named_by v.others q (entry_of (slice_set v.entries n (record { name = name; found = found })) k)) (e ∙ ap Some same.1)
+          ∙ ap (named_by v.others q) (set_here v.entries n (record { name = name; found = found }) (slice_get_within v.entries n o.entry own)) in
+          let before : named v q ≡ cond (bytes_eq name q) o.entry.found (mapped v.others q) =
+          ap (λ k. named_by v.others q (entry_of v.entries k)) (e ∙ ap Some same.1) ∙ (ap (named_by v.others q) own ∙ ap (λ w. cond (bytes_eq w q) o.entry.found (mapped v.others q)) o.own) in
+          after ∙ (both (bytes_eq name q) (mapped v.others q) ∙ sym (ap (cond (bytes_eq name q) found) before)))
       | inr other ↦ (ap (λ k. named_by v.others q (entry_of (slice_set v.entries n (record { name = name; found = found })) k)) e
-        ∙ (ap (named_by v.others q) (set_there v.entries n m (record { name = name; found = found }) other.1)
-        ∙ (sym (ap (λ k. named_by v.others q (entry_of v.entries k)) e) ∙ sym (ap (λ b. cond b found (named v q)) (number_of m e other.1)))))
+          ∙ (ap (named_by v.others q) (set_there v.entries n m (record { name = name; found = found }) other.1)
+          ∙ (sym (ap (λ k. named_by v.others q (entry_of v.entries k)) e) ∙ sym (ap (λ b. cond b found (named v q)) (number_of m e other.1)))))
     ]
 
 pub with_found_slots : (v : NamesValue) (n : ℕ) (name : List ℕ) (found : Option Found) → AreSlots v → AreSlots (with_found v n name found)

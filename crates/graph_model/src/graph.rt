@@ -18,7 +18,7 @@ pub(crate) mod words;
 
 use crate::graph::access::{Accesses, verb_accesses};
 use crate::graph::decl::{BarrierInfo, Decl};
-use crate::graph::edges::edges_of_line;
+use crate::graph::edges::list_edges;
 use crate::graph::found::Found;
 use crate::graph::limits::{MAX_BARRIERS, MAX_COLUMNS, MAX_LINES, MAX_LOCKS};
 use crate::graph::name::Name;
@@ -49,7 +49,6 @@ const EMPTY: Counts = Counts {
 /// A graph, seen as its declarations and its lines.
 #[derive(Drop)]
 pub struct Graph {
-    alloc: Global,
     decls: Vec<Decl>,
     lines: Vec<Line>,
     /// For each line what it reads and writes.
@@ -58,6 +57,8 @@ pub struct Graph {
     names: Names,
     rows: Rows,
     counts: Counts,
+    /// The edges of the last line, whose room serves the next one.
+    given: Vec<Edge>,
 }
 
 impl Model for Graph {
@@ -101,7 +102,6 @@ impl Graph {
         ensures { result ≡ record { decls = []; lines = [] } }
     {
         Graph {
-            alloc,
             decls: Vec::new(alloc),
             lines: Vec::new(alloc),
             accesses: Vec::new(alloc),
@@ -109,6 +109,7 @@ impl Graph {
             names: Names::new(alloc),
             rows: Rows::new(alloc),
             counts: EMPTY,
+            given: Vec::new(alloc),
         }
     }
 
@@ -142,15 +143,15 @@ impl Graph {
         ensures ok { OnOk result (self.new ≡ with_line self.old line) }
         ensures err { OnErr result (self.new ≡ self.old) }
     {
-        let given = edges_of_line(self.alloc, &self.lines, &line)?;
+        let counts = self.counts_with_line(&line);
+        list_edges(&mut self.given, &self.lines, &line)?;
         let name = line.name;
         let found = Found::Line(self.lines.len() as u32);
-        let counts = self.counts_with_line(&line);
         let accesses = verb_accesses(&line.verb);
         reserve(&mut self.lines, 1)?;
         reserve(&mut self.accesses, 1)?;
         self.names.insert(name, found)?;
-        if let Err(error) = self.rows.add(&line.verb, &given) {
+        if let Err(error) = self.rows.add(&line.verb, &self.given) {
             self.names.remove(&name);
             return Err(error);
         }

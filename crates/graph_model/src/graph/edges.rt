@@ -1,6 +1,6 @@
 //! The edges that a line gives.
 
-ghost use Rattle.std.specs.Prelude.{◌≡◌, ◌≤◌, ◌+◌, ◌++◌, length, map, None, OnOk, IfOk};
+ghost use Rattle.std.specs.Prelude.{◌≡◌, ◌≤◌, ◌+◌, ◌++◌, length, map, None, OnOk};
 ghost use Rattle.graph_model.specs.graph.Graph.{is_phase_of};
 ghost use Rattle.graph_model.specs.graph.Edges.{edge, last_place, edges_from_some, verb_edges, line_edges};
 
@@ -9,22 +9,16 @@ use crate::graph::lists::LineList;
 use crate::graph::verb::{Edge, EdgeKind, Line, Verb};
 use index_spaces::NoMemory;
 use index_spaces::room::{push, push_within, reserve};
-use std::alloc::Global;
 
-/// The edges that a line gives after these lines, in order.
-pub(crate) fn edges_of_line(
-    alloc: Global,
-    lines: &[Line],
-    line: &Line,
-) -> Result<Vec<Edge>, NoMemory>
+/// Makes the list that of the edges that a line gives after these lines, in order.
+pub(crate) fn list_edges(given: &mut Vec<Edge>, lines: &[Line], line: &Line) -> Result<(), NoMemory>
     requires { length lines.now ≤ MAX_LINES }
-    ensures { IfOk result (λ es. es.items ≡ line_edges lines.now line.now) }
+    ensures { OnOk result (given.new.items ≡ line_edges lines.now line.now) }
 {
     let place = lines.len() as u32;
-    let mut given = Vec::new(alloc);
-    push_from(&mut given, line.on, place, EdgeKind::Passes)?;
-    push_verb_edges(&mut given, lines, place, &line.verb)?;
-    Ok(given)
+    given.clear();
+    push_from(given, line.on, place, EdgeKind::Passes)?;
+    push_verb_edges(given, lines, place, &line.verb)
 }
 
 /// How many edges a line gives after these lines.

@@ -32,7 +32,7 @@ fits : (c : After-deref-2) → line_fault (before c) c.args.line ≡ None
 fits c = subst (λ h. line_fault h c.args.line ≡ None) (sym c.self.view_is) c.requires.fits
 
 given : (c : After-deref-2) → c.deref-2.result.now ≡ line_edges (before c).lines c.args.line
-given c = c.deref-2.ensures.value ∙ (c.in_ok-given.ensures ∙ ap (λ (ls : List Line). line_edges ls c.args.line) c.deref.ensures.value)
+given c = c.deref-2.ensures.value ∙ (c.in_ok-list_edges.ensures ∙ ap (λ (ls : List Line). line_edges ls c.args.line) c.deref.ensures.value)
 
 ends_below : (side : Side) (c : After-deref-2) → EndsBelow side (line_edges (before c).lines c.args.line) (length (before c).lines + 1) → EndsBelow side c.deref-2.result.now (length c.self.inside.rows.marks + 1)
 ends_below side c below = subst (λ n. EndsBelow side c.deref-2.result.now (n + 1)) (sym c.self.invariant.rows.mark_count) (subst (λ es. EndsBelow side es (length (before c).lines + 1)) (sym (given c)) below)
