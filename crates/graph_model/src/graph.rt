@@ -23,6 +23,7 @@ use crate::graph::found::Found;
 use crate::graph::limits::{MAX_BARRIERS, MAX_COLUMNS, MAX_LINES, MAX_LOCKS};
 use crate::graph::name::Name;
 use crate::graph::verb::{Access, Edge, Line, Verb};
+use crate::graph::why::Why;
 use crate::kept::counts::Counts;
 use crate::kept::mark::Mark;
 use crate::kept::names::Names;
@@ -88,12 +89,13 @@ impl Model for Graph {
 }
 
 impl Graph {
-    ghost use Rattle.std.specs.Prelude.{◌≡◌, [], length, ◌<◌, ◌≤◌, slice_get, position, false, None, OnOk, OnErr, MatchOption, option_map};
+    ghost use Rattle.std.specs.Prelude.{◌≡◌, [], length, ◌<◌, ◌≤◌, slice_get, position, false, None, OnOk, OnErr, IfOk, IfSome, MatchOption, option_map};
     ghost use Rattle.graph_model.specs.graph.Graph.{named_spaces, space_of, columns, locks, barriers, space_at, column_space, never_comes, ends_user, is_release_of};
     ghost use Rattle.std.specs.List.{list_any};
     ghost use Rattle.graph_model.specs.kept.Rows.{mark_of};
     ghost use Rattle.graph_model.specs.graph.Edges.{edges_into, edges_out_of};
-    ghost use Rattle.graph_model.specs.graph.Access.{accesses};
+    ghost use Rattle.graph_model.specs.graph.Access.{accesses, kept_accesses};
+    ghost use Rattle.graph_model.specs.kept.Counts.{counts_of};
     ghost use Rattle.graph_model.specs.graph.Names.{StandsFor, found_decl, is_column_named};
     ghost use Rattle.graph_model.specs.graph.Fits.{IsGraph, IsDecl, IsLine, decl_fault, line_fault, with_decl, with_line, is_used};
 
@@ -143,11 +145,42 @@ impl Graph {
         ensures ok { OnOk result (self.new ≡ with_line self.old line) }
         ensures err { OnErr result (self.new ≡ self.old) }
     {
+        let accesses = verb_accesses(&line.verb);
         let counts = self.counts_with_line(&line);
+        self.push_line(line, accesses, counts)
+    }
+
+    /// Puts a line at the end, where it fits; else the first reason that refuses it, and the graph
+    /// stays as it was. `NoMemory` leaves it so too.
+    pub fn offer_line(&mut self, line: Line) -> Result<Option<Why>, NoMemory>
+        requires { IsLine line }
+        ensures fault { IfOk result (λ why. why ≡ line_fault self.old line) }
+        ensures added { OnOk result (line_fault self.old line ≡ None → self.new ≡ with_line self.old line) }
+        ensures stays { IfOk result (λ why. IfSome why (λ w. self.new ≡ self.old)) }
+        ensures err { OnErr result (self.new ≡ self.old) }
+    {
+        let accesses = verb_accesses(&line.verb);
+        let counts = self.counts_with_line(&line);
+        let fault = self.line_fault_by(&line, &accesses, &counts);
+        if fault.is_none() {
+            self.push_line(line, accesses, counts)?;
+        }
+        Ok(fault)
+    }
+
+    /// Puts a line at the end, by its accesses and the quantities with it. `NoMemory` leaves the
+    /// graph as it was.
+    fn push_line(&mut self, line: Line, accesses: Accesses, counts: Counts) -> Result<(), NoMemory>
+        requires is_line { IsLine line }
+        requires fits { line_fault self.old line ≡ None }
+        requires accesses { accesses ≡ kept_accesses line.verb }
+        requires counts { counts ≡ counts_of (with_line self.old line) }
+        ensures ok { OnOk result (self.new ≡ with_line self.old line) }
+        ensures err { OnErr result (self.new ≡ self.old) }
+    {
         list_edges(&mut self.given, &self.lines, &line)?;
         let name = line.name;
         let found = Found::Line(self.lines.len() as u32);
-        let accesses = verb_accesses(&line.verb);
         reserve(&mut self.lines, 1)?;
         reserve(&mut self.accesses, 1)?;
         self.names.insert(name, found)?;

@@ -14,6 +14,7 @@ use crate::graph::name::Name;
 use crate::graph::repeats::{names_repeat, numbers_repeat};
 use crate::graph::verb::{Access, Line, Verb};
 use crate::graph::why::Why;
+use crate::kept::counts::Counts;
 use index_spaces::laws::points_are_listed;
 use index_spaces::limits::{MAX_INTERVALS, MAX_POINTS};
 
@@ -23,7 +24,8 @@ impl Graph {
     ghost use Rattle.std.specs.List.{list_any};
     ghost use Rattle.graph_model.specs.graph.Graph.{line_passes, is_user, is_phase, is_acquire};
     ghost use Rattle.graph_model.specs.graph.Access.{verb_accesses, present};
-    ghost use Rattle.graph_model.specs.graph.Fits.{decl_fault, line_fault, is_used, decl_unknown, verb_repeats, verb_unknown, access_unknown, line_unknown, verb_unlike, access_outside, arrives_late};
+    ghost use Rattle.graph_model.specs.kept.Counts.{counts_of};
+    ghost use Rattle.graph_model.specs.graph.Fits.{decl_fault, line_fault, with_line, is_used, decl_unknown, verb_repeats, verb_unknown, access_unknown, line_unknown, verb_unlike, access_outside, arrives_late};
 
     /// The first reason that refuses a declaration after this graph. `None` exactly where it fits.
     pub fn decl_fault(&self, decl: &Decl) -> Option<Why>
@@ -49,10 +51,25 @@ impl Graph {
         ensures { result ≡ line_fault self.now line.now }
     {
         let accesses = verb_accesses(&line.verb);
-        if self.is_used(&line.name) || self.verb_repeats(&line.verb) || columns_repeat(&accesses) {
+        let counts = self.counts_with_line(line);
+        self.line_fault_by(line, &accesses, &counts)
+    }
+
+    /// The same, by the accesses of the line and the quantities with it at the end.
+    pub(super) fn line_fault_by(
+        &self,
+        line: &Line,
+        accesses: &Accesses,
+        counts: &Counts,
+    ) -> Option<Why>
+        requires accesses { present accesses.now ≡ verb_accesses line.now.verb }
+        requires counts { counts.now ≡ counts_of (with_line self.now line.now) }
+        ensures { result ≡ line_fault self.now line.now }
+    {
+        if self.is_used(&line.name) || self.verb_repeats(&line.verb) || columns_repeat(accesses) {
             return Some(Why::Twice);
         }
-        if self.line_unknown(line, &accesses) {
+        if self.line_unknown(line, accesses) {
             return Some(Why::Unknown);
         }
         if self.verb_unlike(&line.verb) || line.on.is_some() && takes_no_on(&line.verb) {
@@ -61,13 +78,13 @@ impl Graph {
         if verb_misnumbered(&line.verb) {
             return Some(Why::Number);
         }
-        if self.reaches_outside(&accesses) {
+        if self.reaches_outside(accesses) {
             return Some(Why::Outside);
         }
         if self.arrives_late(&line.verb) {
             return Some(Why::Arrivals);
         }
-        if merges_many(&line.verb) || self.counts_with_line(line).is_above() {
+        if merges_many(&line.verb) || counts.is_above() {
             return Some(Why::Limit);
         }
         None

@@ -21,8 +21,8 @@ use Rattle.graph_model.proofs.Naming.{names_back, names_line, unused_line_name}
 use Rattle.graph_model.proofs.TableLaws.{limits_line}
 use Rattle.graph_model.proofs.RowLaws.{rows_push, from_below, to_below, names_below}
 use Rattle.graph_model.proofs.RowReads.{few_marked}
-use Rattle.graph_model.proofs.graph.Graph.add_line.Goals as goal
-use Rattle.graph_model.proofs.graph.Graph.add_line.Goals.{After-deref-2}
+use Rattle.graph_model.proofs.graph.Graph.push_line.Goals as goal
+use Rattle.graph_model.proofs.graph.Graph.push_line.Goals.{After-deref-2}
 
 -- the graph before, which the line fits and whose edges are given
 abbrev before : After-deref-2 → GraphValue
@@ -64,15 +64,15 @@ invariant_of-self-2 c =
     let kept : Line → List (Option Access) = λ x. kept_accesses x.verb in
     record {
       accesses = c.push_within-2.ensures.items
-          ∙ (ap (λ xs. xs ++ c.verb_accesses-accesses.result ∷ []) c.reserve-2.ensures.items
-          ∙ (ap (λ x. c.self.inside.accesses.items ++ x ∷ []) c.verb_accesses-accesses.ensures.each
+          ∙ (ap (λ xs. xs ++ c.args.accesses ∷ []) c.reserve-2.ensures.items
+          ∙ (ap (λ x. c.self.inside.accesses.items ++ x ∷ []) c.requires.accesses
           ∙ (ap (λ xs. xs ++ kept l ∷ []) c.self.invariant.accesses ∙ (sym (map-append kept g.lines (l ∷ [])) ∙ ap (map kept) (sym pushed)))));
       fits = subst (λ (ls : List Line). IsGraph (record { decls = g.decls; lines = ls })) (sym pushed) (push_line g l c.self.invariant.fits c.requires.is_line (fits at));
       tables = c.self.invariant.tables;
       limits = subst (λ (ls : List Line). IsWithinLimits (record { decls = g.decls; lines = ls })) (sym pushed) (limits_line g l (fits at));
       names = subst (λ (ls : List Line). AreNamesOf (record { decls = g.decls; lines = ls }) c.insert.new.self) (sym pushed) (names_line g l c.self.inside.names c.insert.new.self c.self.invariant.names (unused_line_name g l (fits at)) named_so);
       rows = subst (λ (ls : List Line). AreRowsOf (record { decls = g.decls; lines = ls }) c.add.new.self) (sym pushed) (rows_push g l c.self.inside.rows c.add.new.self c.self.invariant.rows added);
-      counts = c.counts_with_line-counts.ensures ∙ (ap (λ h. counts_of (with_line h l)) (sym c.self.view_is) ∙ ap (λ ls. counts_of (record { decls = g.decls; lines = ls })) (sym pushed));
+      counts = c.requires.counts ∙ (ap (λ h. counts_of (with_line h l)) (sym c.self.view_is) ∙ ap (λ ls. counts_of (record { decls = g.decls; lines = ls })) (sym pushed));
     }
 
 pub invariant_of-self-in-Err : goal.invariant_of-self-in-Err
