@@ -1,29 +1,53 @@
 //! Edges with room for more.
 
-ghost use Rattle.std.specs.Prelude.{◌≡◌, ◌<◌, ◌≤◌, ◌+◌, [], ◌∷◌, ◌++◌, length, OnOk};
+ghost use Rattle.std.specs.Prelude.{◌≡◌, ◌<◌, ◌≤◌, ◌+◌, [], ◌∷◌, ◌++◌, length, vec_len, OnOk};
+ghost use Rattle.std.specs.Vec.{vec_capacity};
 ghost use Rattle.graph_model.specs.kept.Rows.{room_at, KeepsEdges, EndsBelow, HasRoom, AddsEdge, AddsEdges};
 
-use crate::graph::verb::Edge;
+use crate::graph::verb::{Edge, EdgeKind};
 use crate::kept::side::Side;
+use arrayvec::ArrayVec;
 use index_spaces::NoMemory;
 use index_spaces::room::{push_within, reserve};
 use std::alloc::Global;
 use std::marker::Model;
 
-/// Edges, seen with how many more there is room for.
+/// How many edges are kept without an allocation.
+const FEW: usize = 2;
+
+/// Edges, seen with how many more there is room for. All stand in `few` while there are no more
+/// than it holds, and else all in `many`: most lines have one or two edges at an end, and room for
+/// these takes no allocation.
 #[derive(Drop)]
 pub(crate) struct Stock {
-    edges: Vec<Edge>,
+    few: ArrayVec<Edge, FEW>,
+    many: Vec<Edge>,
 }
 
 impl Model for Stock {
-    ghost use Rattle.std.specs.Prelude.{◌-◌, length};
+    ghost use Rattle.std.specs.Prelude.{◌≡◌, ◌<◌, ◌-◌, [], ◌++◌, length, max};
     ghost use Rattle.std.specs.Vec.{vec_capacity};
     ghost use Rattle.graph_model.specs.kept.Rows.{Stock as StockValue};
 
     ghost Value = { StockValue };
 
-    ghost view = { λ a. record { edges = a.edges.items; room = vec_capacity a.edges - length a.edges.items } };
+    ghost view = { λ a. record {
+      edges = a.few.items ++ a.many.items;
+      room = max 2 (vec_capacity a.many) - length (a.few.items ++ a.many.items);
+    } };
+
+    ghost invariant = { λ a. 0 < length a.many.items → (a.few.items ≡ []) × (2 < length a.many.items) };
+}
+
+/// Fills the places of `few` that are not in use.
+impl Default for Edge {
+    fn default() -> Edge {
+        Edge {
+            from: 0,
+            to: 0,
+            kind: EdgeKind::Passes,
+        }
+    }
 }
 
 impl Stock {
@@ -31,14 +55,19 @@ impl Stock {
         ensures { result.edges ≡ [] }
     {
         Stock {
-            edges: Vec::new(alloc),
+            few: ArrayVec::new(),
+            many: Vec::new(alloc),
         }
     }
 
     pub(crate) fn edges(&self) -> &[Edge]
         ensures { result.now ≡ self.now.edges }
     {
-        &self.edges
+        if self.many.is_empty() {
+            self.few.as_slice()
+        } else {
+            &self.many
+        }
     }
 
     fn reserve(&mut self, more: usize) -> Result<(), NoMemory>
@@ -46,7 +75,13 @@ impl Stock {
         ensures keeps { self.old.room ≤ self.new.room }
         ensures room { OnOk result (more ≤ self.new.room) }
     {
-        reserve(&mut self.edges, more)
+        if self.many.is_empty() && more <= self.few.remaining_capacity() {
+            return Ok(());
+        }
+        let Some(all) = self.few.len().checked_add(more) else {
+            return Err(NoMemory);
+        };
+        reserve(&mut self.many, all)
     }
 
     fn push(&mut self, edge: Edge)
@@ -54,8 +89,26 @@ impl Stock {
         ensures edges { self.new.edges ≡ self.old.edges ++ edge ∷ [] }
         ensures room { self.old.room ≤ self.new.room + 1 }
     {
-        push_within(&mut self.edges, edge);
+        if self.many.is_empty() && !self.few.is_full() {
+            self.few.push(edge);
+        } else {
+            push_many(&mut self.few, &mut self.many, edge);
+        }
     }
+}
+
+/// Adds an edge to `many`, after the edges of `few`, which move there.
+fn push_many(few: &mut ArrayVec<Edge, FEW>, many: &mut Vec<Edge>, edge: Edge)
+    requires { vec_len many.old + length few.old.items < vec_capacity many.old }
+    ensures few { few.new.items ≡ [] }
+    ensures many { many.new.items ≡ many.old.items ++ few.old.items ++ edge ∷ [] }
+    ensures capacity { vec_capacity many.old ≤ vec_capacity many.new }
+{
+    for first in few.as_slice() {
+        push_within(many, *first);
+    }
+    few.clear();
+    push_within(many, edge);
 }
 
 /// Makes room at an end of each edge for as many edges as are given.
