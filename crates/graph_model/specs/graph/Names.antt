@@ -1,5 +1,5 @@
 -- What a name stands for in a graph.
-use Rattle.std.specs.Prelude.{◌≡◌, ℕ, Bool, ◌&&◌, false, List, length, Option, Some, position, MatchOption}
+use Rattle.std.specs.Prelude.{◌≡◌, ℕ, Bool, ◌&&◌, false, List, length, Some, position, MatchOption}
 use Rattle.std.specs.Str.{bytes_eq}
 use Rattle.graph_model.specs.declared.graph.decl.Decl.{Decl}
 use Rattle.graph_model.specs.declared.graph.decl.Decl.TheVariants.{Space, Inst, Lock, Barrier}

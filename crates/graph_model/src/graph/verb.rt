@@ -76,15 +76,16 @@ pub enum Verb {
 }
 
 /// Whether a fault passes along an edge.
-#[derive(Clone, Copy, Debug, PartialEq, Eq)]
+#[derive(Clone, Copy, Debug, PartialEq, Eq, Default)]
 pub enum EdgeKind {
+    #[default]
     Passes,
     Ignores,
     Faults,
 }
 
 /// An edge from the line that comes first to the line that waits.
-#[derive(Clone, Copy, Debug, PartialEq, Eq)]
+#[derive(Clone, Copy, Debug, PartialEq, Eq, Default)]
 pub struct Edge {
     pub from: u32,
     pub to: u32,

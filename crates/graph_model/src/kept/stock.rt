@@ -4,7 +4,7 @@ ghost use Rattle.std.specs.Prelude.{◌≡◌, ◌<◌, ◌≤◌, ◌+◌, [], 
 ghost use Rattle.std.specs.Vec.{vec_capacity};
 ghost use Rattle.graph_model.specs.kept.Rows.{room_at, KeepsEdges, EndsBelow, HasRoom, AddsEdge, AddsEdges};
 
-use crate::graph::verb::{Edge, EdgeKind};
+use crate::graph::verb::Edge;
 use crate::kept::side::Side;
 use arrayvec::ArrayVec;
 use index_spaces::NoMemory;
@@ -37,17 +37,6 @@ impl Model for Stock {
     } };
 
     ghost invariant = { λ a. 0 < length a.many.items → (a.few.items ≡ []) × (2 < length a.many.items) };
-}
-
-/// Fills the places of `few` that are not in use.
-impl Default for Edge {
-    fn default() -> Edge {
-        Edge {
-            from: 0,
-            to: 0,
-            kind: EdgeKind::Passes,
-        }
-    }
 }
 
 impl Stock {

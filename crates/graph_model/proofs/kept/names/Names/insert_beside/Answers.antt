@@ -1,8 +1,6 @@
-use Rattle.std.proofs.Common.{◌≡◌, false, sym, ◌∙◌, ap, subst, cond, List, ℕ}
+use Rattle.std.proofs.Common.{◌≡◌, false, sym, ◌∙◌, ap, subst, cond}
 use Rattle.std.specs.Prelude.{Some, Result, Ok, Err, OnOk, is_err}
 use Rattle.std.specs.Str.{bytes_eq}
-use Rattle.std.specs.Cmp.Lexicographic.{slice_cmp}
-use Rattle.std.specs.Ordering.{nat_cmp, is_eq}
 use Rattle.std.proofs.lemmas.Bool.{true≢false}
 use Rattle.std.proofs.lemmas.Map.Text.{is_eq-slice_cmp}
 use Rattle.graph_model.specs.kept.Names.{NamesValue, IsOther, mapped, named}

@@ -1,8 +1,8 @@
-use Rattle.std.proofs.Common.{◌≡◌, ◌∙◌, ap, cond, sym}
-use Rattle.std.specs.Prelude.{None, Some, option_copied}
+use Rattle.std.proofs.Common.{◌∙◌, ap, cond, sym}
+use Rattle.std.specs.Prelude.{None, option_copied}
 use Rattle.std.specs.Str.{bytes_eq}
 use Rattle.std.proofs.lemmas.Map.Text.{is_eq-slice_cmp}
-use Rattle.graph_model.specs.kept.Names.{NamesValue, IsOther, mapped, named, slot_of, entry_at}
+use Rattle.graph_model.specs.kept.Names.{NamesValue, IsOther, mapped, named, entry_at}
 use Rattle.graph_model.proofs.Slots.{beside_named, beside_slots}
 use Rattle.graph_model.proofs.kept.names.Names.remove.Goals as goal
 use Rattle.graph_model.proofs.kept.names.Names.remove.Goals.{After-remove}

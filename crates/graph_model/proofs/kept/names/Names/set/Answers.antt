@@ -2,7 +2,7 @@ use Rattle.std.proofs.Common.{◌≡◌, None, Some, sym, ◌∙◌, ap, subst, 
 use Rattle.std.specs.List.{slice_index_or}
 use Rattle.std.specs.Str.{bytes_eq}
 use Rattle.graph_model.specs.kept.Names.{NamesValue, IsOwn, named}
-use Rattle.graph_model.proofs.Slots.{with_found_named, with_found_slots}
+use Rattle.graph_model.proofs.Slots.{with_found_named}
 use Rattle.graph_model.proofs.kept.names.Names.set.Goals as goal
 
 pub returns-in-Some : goal.returns-in-Some
