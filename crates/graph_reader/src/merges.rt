@@ -29,7 +29,9 @@ use std::alloc::Global;
 fn any_unknown(graph: &Graph, words: &[&[u8]]) -> bool
     ensures { result ≡ list_any (λ w. not (is_used graph.now w)) (contents words.now) }
 {
-    words.iter().any(|word| look_up(graph, word).is_none())
+    words
+        .iter()
+        .any(|word| look_up(graph, word).found.is_none())
 }
 
 /// Whether a word names no line.
@@ -67,7 +69,7 @@ fn merge_fault(
         return Ok(Some(Why::Name));
     };
     let repeated = has_repeat(alloc, &names)?;
-    if repeated || look_up(graph, name).is_some() {
+    if repeated || look_up(graph, name).found.is_some() {
         return Ok(Some(Why::Twice));
     }
     if any_unknown(graph, words) {
