@@ -38,11 +38,3 @@ pub(crate) fn is_acquire(verb: &Verb) -> bool
 {
     matches!(verb, Verb::Acquire { .. })
 }
-
-/// Whether the word of an event names no line.
-#[tactic(auto, using(crate::proofs::Owners::position_any))]
-pub(crate) fn event_unlike(graph: &Graph, word: &[u8]) -> bool
-    ensures { result ≡ unlike graph.now EventName word.now }
-{
-    line(graph, word).is_none()
-}

@@ -101,20 +101,6 @@ pub(crate) fn space(graph: &Graph, word: &[u8]) -> Option<u32>
     as_space(look_up(graph, word).found)
 }
 
-/// The number of the reservation that a word stands for.
-pub(crate) fn lock(graph: &Graph, word: &[u8]) -> Option<u32>
-    ensures { result ≡ position (bytes_eq word.now) (locks graph.now) }
-{
-    as_lock(look_up(graph, word).found)
-}
-
-/// The number of the barrier that a word stands for.
-pub(crate) fn barrier(graph: &Graph, word: &[u8]) -> Option<u32>
-    ensures { result ≡ position (λ (x : BarrierInfo). bytes_eq x.name word.now) (barriers graph.now) }
-{
-    as_barrier(look_up(graph, word).found)
-}
-
 /// The number of the line that a word stands for.
 #[tactic(auto, using(crate::proofs::Owners::position_below))]
 pub(crate) fn line(graph: &Graph, word: &[u8]) -> Option<u32>
@@ -122,13 +108,6 @@ pub(crate) fn line(graph: &Graph, word: &[u8]) -> Option<u32>
     ensures below { IfSome result (λ i. i < length graph.now.lines) }
 {
     as_line(look_up(graph, word).found)
-}
-
-/// The number of the line that a word stands for, and 0 where it stands for none.
-pub(crate) fn line_number(graph: &Graph, word: &[u8]) -> u32
-    ensures { result ≡ line_number graph.now word.now }
-{
-    line(graph, word).unwrap_or(0)
 }
 
 /// The names that a word in the place of a column has, with a dot between them.
