@@ -11,14 +11,15 @@ use Rattle.graph_model.specs.declared.graph.why.Why.{Why}
 use Rattle.graph_model.specs.declared.graph.why.Why.TheVariants as why
 use Rattle.graph_model.specs.graph.Graph.{GraphValue}
 use Rattle.graph_model.specs.graph.Name.{is_name}
-use Rattle.graph_model.specs.graph.Fits.{repeats, first_reason, is_used}
+use Rattle.graph_model.specs.graph.Fits.{repeats, first_reason, is_used, line_fault}
 use Rattle.graph_reader.specs.Draft.{Place, NewName, EventName, Placed, Draft, form_of, has_on, on_placed}
 use Rattle.graph_reader.specs.FirstFault.{misnamed, twice, unknown, unlike, misnumbered, misordered, event_word, column_word, draft_tests, draft_fault, or_else, item_fault}
 use Rattle.graph_model.specs.declared.graph.table.Kind.{Kind}
 use Rattle.graph_model.specs.declared.graph.table.Place as table
 use Rattle.graph_model.specs.declared.graph.table.Place.TheVariants as places
 use Rattle.graph_model.specs.graph.Table.{kind_places}
-use Rattle.graph_reader.specs.Kinds.{kind_draft, words_in, kind_placed, form_placed, form_reason, column_words, kind_line, IsReading, IsJudged}
+use Rattle.graph_reader.specs.Kinds.{kind_draft, words_in, kind_placed, form_placed, form_reason, column_words, kind_line, later_reason, AllTell, IsReading, IsJudged}
+use Rattle.graph_reader.specs.declared.faults.Faults.{Faults}
 use Rattle.graph_reader.proofs.Drafts.{placed_events}
 use Rattle.graph_reader.proofs.VerbForms.{no_events}
 
@@ -86,6 +87,24 @@ reason_by g d name ps c e n events columns ordered =
     ∙ six_to_five (not (is_name name) || fails misnamed ps) (fails misnamed ps) _ (is_used g name || (fails (twice g) ps || c)) (fails (unknown g) ps) (fails (unlike g) ps) (fails misnumbered ps) (fails misordered ps)
     (ap (λ b. not b || fails misnamed ps) n) (or_four (is_used g name) (fails (twice g) ps) _ _ events ∙ ap (λ x. is_used g name || (fails (twice g) ps || x)) columns) ordered
 
+used_first : (u x : Bool) (r : Option Why) → or_else (cond u (Some why.Twice) None) (cond (u || x) (Some why.Twice) r) ≡ cond (u || x) (Some why.Twice) r
+used_first true x r = refl
+used_first false x r = refl
+
+or_false : (b : Bool) → (b || false) ≡ b
+or_false true = refl
+or_false false = refl
+
+or_true : (b : Bool) → (b || true) ≡ true
+or_true true = refl
+or_true false = refl
+
+twice_by : (a u b : Bool) (r : Option Why) → a ≡ false → b ≡ true → cond a (Some why.Name) (cond (u || b) (Some why.Twice) r) ≡ Some why.Twice
+twice_by a u b r h k = ap (λ x. cond x (Some why.Name) (cond (u || b) (Some why.Twice) r)) h ∙ ap (λ x. cond x (Some why.Twice) r) (ap (λ x. u || x) k ∙ or_true u)
+
+left_by : (a u b : Bool) (r : Option Why) → a ≡ false → b ≡ false → cond a (Some why.Name) (cond (u || b) (Some why.Twice) r) ≡ cond u (Some why.Twice) r
+left_by a u b r h k = ap (λ x. cond x (Some why.Name) (cond (u || b) (Some why.Twice) r)) h ∙ ap (λ x. cond x (Some why.Twice) r) (ap (λ x. u || x) k ∙ or_false u)
+
 abbrev as_item : List ℕ → Verb → Option ℕ → Decl ⊎ Line
 as_item name verb on = inr (record { name = name; verb = verb; on = on })
 
@@ -117,12 +136,33 @@ module _ (g : GraphValue) (kind : Kind) (name : List ℕ) (ws : List (List ℕ))
   pub refused_word : (w : Why) → is_name name ≡ true → form_reason g kind name ws ≡ Some w → draft_fault g (kind_draft g kind name ws) ≡ Some w
   refused_word w n h = ap (λ r. or_else r (item_fault g (kind_draft g kind name ws).item)) (reason_is n ∙ h)
 
-  pub fault_of_line : (line : Line) → is_name name ≡ true → form_reason g kind name ws ≡ None → (kind_draft g kind name ws).item ≡ inr line → draft_fault g (kind_draft g kind name ws) ≡ item_fault g (inr line)
-  fault_of_line line n h e = ap (λ r. or_else r (item_fault g (kind_draft g kind name ws).item)) (reason_is n ∙ h) ∙ ap (item_fault g) e
+  -- a name in use is the first reason of the line itself
+  left_fault : is_name name ≡ true → form_reason g kind name ws ≡ cond (is_used g name) (Some why.Twice) None → draft_fault g (kind_draft g kind name ws) ≡ line_fault g (kind_line g kind name ws)
+  left_fault n h = ap (λ r. or_else r (line_fault g (kind_line g kind name ws))) (reason_is n ∙ h) ∙ used_first (is_used g name) _ _
 
-  pub judged : (line : Line) (r : Result Line Why) → is_name name ≡ true → form_reason g kind name ws ≡ None → line ≡ kind_line g kind name ws → IsJudged g line r → IsReading g (kind_draft g kind name ws) r
-  judged line (Ok l) n h e j = let i : (kind_draft g kind name ws).item ≡ inr line = ap inr (sym e) in (fault_of_line line n h i ∙ j.1, i ∙ ap inr (sym j.0))
-  judged line (Err w) n h e j = fault_of_line line n h (ap inr (sym e)) ∙ j
+  pub judged : (line : Line) (r : Result Line Why) → is_name name ≡ true → form_reason g kind name ws ≡ cond (is_used g name) (Some why.Twice) None → line ≡ kind_line g kind name ws → IsJudged g line r → IsReading g (kind_draft g kind name ws) r
+  judged line (Ok l) n h e j = (left_fault n h ∙ (ap (line_fault g) (sym e) ∙ j.1), ap inr (sym e) ∙ ap inr (sym j.0))
+  judged line (Err w) n h e j = left_fault n h ∙ (ap (line_fault g) (sym e) ∙ j)
+
+  module _ (f : Faults) (tell : AllTell g (form_placed kind ws) f) where
+    later_is : first_reason ((fails (unknown g) (form_placed kind ws), why.Unknown) ∷ (fails (unlike g) (form_placed kind ws), why.Kind) ∷ (fails misnumbered (form_placed kind ws), why.Number) ∷ []) ≡ later_reason f
+    later_is = ap (λ x. first_reason ((x, why.Unknown) ∷ (fails (unlike g) (form_placed kind ws), why.Kind) ∷ (fails misnumbered (form_placed kind ws), why.Number) ∷ [])) (sym tell.unknown)
+        ∙ (ap (λ x. first_reason ((f.unknown, why.Unknown) ∷ (x, why.Kind) ∷ (fails misnumbered (form_placed kind ws), why.Number) ∷ [])) (sym tell.unlike)
+        ∙ ap (λ x. first_reason ((f.unknown, why.Unknown) ∷ (f.unlike, why.Kind) ∷ (x, why.Number) ∷ [])) (sym tell.misnumbered))
+
+    pub misnamed_reason : f.misnamed ≡ true → form_reason g kind name ws ≡ Some why.Name
+    unfolding form_reason
+    misnamed_reason h = cond-true (fails misnamed (form_placed kind ws)) (Some why.Name) _ (sym tell.misnamed ∙ h)
+
+    pub twice_reason : f.misnamed ≡ false → (f.twice || repeats bytes_eq (column_words (kind_placed kind ws))) ≡ true → form_reason g kind name ws ≡ Some why.Twice
+    unfolding form_reason
+    twice_reason h k = twice_by (fails misnamed (form_placed kind ws)) (is_used g name) _ _ (sym tell.misnamed ∙ h) (ap (λ b. b || repeats bytes_eq (column_words (kind_placed kind ws))) (sym tell.twice) ∙ k)
+
+    -- what is left where each word is spelled and nothing stands there twice
+    pub left_reason : f.misnamed ≡ false → (f.twice || repeats bytes_eq (column_words (kind_placed kind ws))) ≡ false → form_reason g kind name ws ≡ cond (is_used g name) (Some why.Twice) (later_reason f)
+    unfolding form_reason
+    left_reason h k = left_by (fails misnamed (form_placed kind ws)) (is_used g name) _ _ (sym tell.misnamed ∙ h) (ap (λ b. b || repeats bytes_eq (column_words (kind_placed kind ws))) (sym tell.twice) ∙ k)
+        ∙ ap (λ r. cond (is_used g name) (Some why.Twice) r) later_is
 
 -- a word that is misnamed refuses first
 pub first_fails : (g : GraphValue) (d : Draft) → fails misnamed d.placed ≡ true → draft_fault g d ≡ Some why.Name

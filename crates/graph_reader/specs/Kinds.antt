@@ -106,6 +106,15 @@ form_reason g kind name ws = first_reason (
     ∷ (list_any (λ (p : Placed). misnumbered p.0 p.1) (form_placed kind ws), why.Number)
     ∷ [])
 
+-- the first reason that refuses a word of a line but for its spelling and what stands there twice
+abbrev pub later_reason : Faults → Option Why
+later_reason f = first_reason ((f.unknown, why.Unknown) ∷ (f.unlike, why.Kind) ∷ (f.misnumbered, why.Number) ∷ [])
+
+-- the first reason that refuses a word of a line, which is left open where none does but that the name may be in use
+abbrev pub IsFormFault : GraphValue → Kind → List ℕ → List (List ℕ) → Option Why → Type 0
+IsFormFault g kind name ws (Some w) = form_reason g kind name ws ≡ Some w
+IsFormFault g kind name ws None = form_reason g kind name ws ≡ cond (is_used g name) (Some why.Twice) None
+
 -- the line that words of a kind spell
 abbrev pub kind_line : GraphValue → Kind → List ℕ → List (List ℕ) → Line
 kind_line g kind name ws = record { name = name; verb = kind_verb g kind ws; on = kind_on g kind ws }

@@ -7,7 +7,7 @@ ghost use Rattle.std.specs.Str.{bytes_eq};
 ghost use Rattle.graph_model.specs.graph.Fits.{repeats};
 ghost use Rattle.graph_model.specs.graph.Table.{is_column, parts_of};
 ghost use Rattle.graph_reader.specs.Draft.{form_of, number_in};
-ghost use Rattle.graph_reader.specs.Kinds.{words_in, kind_placed, form_placed, AllTell, column_words, kind_draft, kind_on, form_reason, HasPlaces, IsReading, IsJudged};
+ghost use Rattle.graph_reader.specs.Kinds.{words_in, kind_placed, form_placed, AllTell, column_words, kind_draft, kind_on, later_reason, HasPlaces, IsFormFault, IsReading, IsJudged};
 
 use crate::faults::Faults;
 use crate::lookup::stands_for;
@@ -108,25 +108,10 @@ fn see_form(graph: &Graph, kind: Kind, words: &[&[u8]]) -> SeenForm
     }
 }
 
-/// The first reason that refuses a word of a line.
-#[tactic(auto, unfolding(crate::specs::Kinds::form_reason))]
-fn form_fault(
-    graph: &Graph,
-    kind: Kind,
-    name: &Name,
-    words: &[&[u8]],
-    faults: Faults,
-) -> Option<Why>
-    requires there { HasPlaces kind (contents words.now) }
-    requires faults { AllTell graph.now (form_placed kind (contents words.now)) faults }
-    ensures { result ≡ form_reason graph.now kind name.now (contents words.now) }
+/// The first reason that refuses a word of a line but for its spelling and what stands there twice.
+fn later_fault(faults: Faults) -> Option<Why>
+    ensures { result ≡ later_reason faults }
 {
-    if faults.misnamed {
-        return Some(Why::Name);
-    }
-    if stands_for(graph, name).is_some() || faults.twice || columns_repeat(kind.places(), words) {
-        return Some(Why::Twice);
-    }
     if faults.unknown {
         return Some(Why::Unknown);
     }
@@ -137,6 +122,31 @@ fn form_fault(
         return Some(Why::Number);
     }
     None
+}
+
+/// The first reason that refuses a word of a line. Where none does, the name may be in use: the graph says so itself.
+fn form_fault(
+    graph: &Graph,
+    kind: Kind,
+    name: &Name,
+    words: &[&[u8]],
+    faults: Faults,
+) -> Option<Why>
+    requires there { HasPlaces kind (contents words.now) }
+    requires faults { AllTell graph.now (form_placed kind (contents words.now)) faults }
+    ensures { IsFormFault graph.now kind name.now (contents words.now) result }
+{
+    if faults.misnamed {
+        return Some(Why::Name);
+    }
+    if faults.twice || columns_repeat(kind.places(), words) {
+        return Some(Why::Twice);
+    }
+    let later = later_fault(faults)?;
+    if stands_for(graph, name).is_some() {
+        return Some(Why::Twice);
+    }
+    Some(later)
 }
 
 /// The line, where it fits after the graph.

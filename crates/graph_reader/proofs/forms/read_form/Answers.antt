@@ -1,4 +1,4 @@
-use Rattle.std.proofs.Common.{◌≡◌, List, ℕ, Bor, map, sym, subst, ◌∙◌, ap}
+use Rattle.std.proofs.Common.{◌≡◌, List, ℕ, Bor, map, subst, ◌∙◌, ap}
 use Rattle.graph_model.specs.declared.graph.verb.Line.{Line}
 use Rattle.graph_model.specs.declared.graph.verb.Verb.{Verb}
 use Rattle.graph_model.specs.graph.Table.{verb_of}
@@ -16,7 +16,7 @@ pub returns-in-Some-form_fault : goal.returns-in-Some-form_fault
 returns-in-Some-form_fault c =
     let ws = map (λ (w : Bor (List ℕ)). w.now) c.args.words.now in
     subst (λ n. draft_fault c.args.graph.now (kind_draft c.args.graph.now c.args.kind n ws) ≡ Some c.in-Some-form_fault.why) c.in-Some.ensures.0
-    (refused_word c.args.graph.now c.args.kind c.in-Some.name ws c.in-Some-form_fault.why (ap is_name c.in-Some.ensures.0 ∙ c.in-Some.ensures.1) (sym c.in-Some-form_fault.ensures))
+    (refused_word c.args.graph.now c.args.kind c.in-Some.name ws c.in-Some-form_fault.why (ap is_name c.in-Some.ensures.0 ∙ c.in-Some.ensures.1) c.in-Some-form_fault.ensures)
 
 pub returns : goal.returns
 returns c =
@@ -24,5 +24,5 @@ returns c =
     let seen = c.see_form-seen.ensures in
     let verb : c.of.result ≡ kind_verb c.args.graph.now c.args.kind ws = c.of.ensures ∙ ap (verb_of c.args.kind) seen.parts in
     subst (λ n. IsReading c.args.graph.now (kind_draft c.args.graph.now c.args.kind n ws) c.fitting_line.result) c.in-Some.ensures.0
-    (judged c.args.graph.now c.args.kind c.in-Some.name ws (line_with c.in-Some.name c.of.result c.see_form-seen.result.on) c.fitting_line.result (ap is_name c.in-Some.ensures.0 ∙ c.in-Some.ensures.1) (sym c.in_default-form_fault.ensures)
+    (judged c.args.graph.now c.args.kind c.in-Some.name ws (line_with c.in-Some.name c.of.result c.see_form-seen.result.on) c.fitting_line.result (ap is_name c.in-Some.ensures.0 ∙ c.in-Some.ensures.1) c.in_default-form_fault.ensures
     (ap (λ v. line_with c.in-Some.name v c.see_form-seen.result.on) verb ∙ ap (line_with c.in-Some.name (kind_verb c.args.graph.now c.args.kind ws)) seen.on) c.fitting_line.ensures)
