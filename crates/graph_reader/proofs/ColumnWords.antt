@@ -1,5 +1,5 @@
 -- Words in the place of a column.
-use Rattle.std.proofs.Common.{◌≡◌, ℕ, Bool, true, false, cond, ◌&&◌, List, [], ◌∷◌, refl, sym, ◌∙◌, ap}
+use Rattle.std.proofs.Common.{◌≡◌, ℕ, Bool, true, false, cond, not, ◌&&◌, ◌||◌, List, [], ◌∷◌, refl, sym, ◌∙◌, ap}
 use Rattle.std.specs.Prelude.{Option, Some, None, is_some, position, unwrap_or, bytes_eq}
 use Rattle.std.specs.List.{list_any}
 use Rattle.std.proofs.lemmas.Bool.{true≢false, and_parts}
@@ -8,12 +8,14 @@ use Rattle.graph_model.specs.declared.graph.decl.ColumnInfo.{ColumnInfo}
 use Rattle.graph_model.specs.graph.Name.{is_name}
 use Rattle.graph_model.specs.graph.Graph.{GraphValue, columns}
 use Rattle.graph_model.specs.graph.Names.{is_column_named}
-use Rattle.graph_model.specs.graph.Fits.{IsGraph}
+use Rattle.graph_model.specs.graph.Fits.{IsGraph, is_used}
+use Rattle.graph_model.specs.declared.graph.found.Found.{Found}
 use Rattle.graph_reader.specs.Words.{pieces, is_two_names, is_column}
 use Rattle.graph_reader.specs.Cuts.{two_pieces}
-use Rattle.graph_reader.specs.Draft.{column_number_of}
-use Rattle.graph_reader.specs.FirstFault.{has_column}
-use Rattle.graph_reader.specs.Lookups.{column_place, named_pair, column_names}
+use Rattle.graph_reader.specs.Draft.{Column, column_number_of}
+use Rattle.graph_reader.specs.FirstFault.{has_column, first_piece, is_inst_name}
+use Rattle.graph_reader.specs.Lookups.{column_place, named_pair, column_names, IsFound, is_found_inst}
+use Rattle.graph_reader.specs.Kinds.{Tells, column_seen}
 use Rattle.graph_reader.proofs.TextLists.{same_bytes, first_is}
 use Rattle.graph_reader.proofs.GraphNames.{IsNamed, is_named, known_column}
 use Rattle.graph_reader.proofs.Owners.{within, no_position, position_any}
@@ -27,10 +29,6 @@ pieces_by [] a b h = absurd (none-some (a, b) h)
 pieces_by (p ∷ []) a b h = absurd (none-some (a, b) h)
 pieces_by (p ∷ q ∷ []) a b h = let e = pair_by (is_name p && is_name q) p q a b h in ap (λ x. x ∷ q ∷ []) e.0 ∙ ap (λ x. a ∷ x ∷ []) e.1
 pieces_by (p ∷ q ∷ r ∷ rs) a b h = absurd (none-some (a, b) h)
-
-pub column_is : (g : GraphValue) (w : List ℕ) (p : List ℕ × List ℕ) → column_names w ≡ Some p → column_place g (pieces 46 w) ≡ position (is_column_named p.0 p.1) (columns g)
-unfolding column_names
-column_is g w p h = ap (column_place g) (pieces_by (pieces 46 w) p.0 p.1 h)
 
 -- each column has the names of an instance and a field
 named_both : (g : GraphValue) (a b : List ℕ) → IsNamed g → (t : Bool) → list_any (is_column_named a b) (columns g) ≡ t → (is_name a && is_name b) ≡ false → t ≡ false
@@ -84,3 +82,43 @@ two_named (p ∷ q ∷ r ∷ rs) = refl
 pub is_column_by : (w : List ℕ) → is_column w ≡ is_some (column_names w)
 unfolding column_names
 is_column_by w = two_named (pieces 46 w)
+
+abbrev is_no_column : GraphValue → List (List ℕ) → Bool
+is_no_column g ps = not (is_used g (first_piece ps)) || (is_inst_name g (first_piece ps) && not (has_column g ps))
+
+unknown_by : (a b c x y z : Bool) → a ≡ x → b ≡ y → c ≡ z → (not x || (y && not z)) ≡ (not a || (b && not c))
+unknown_by a b c x y z p q r = ap (λ t. not t || (y && not z)) (sym p) ∙ (ap (λ t. not a || (t && not z)) (sym q) ∙ ap (λ t. not a || (b && not t)) (sym r))
+
+-- what is to be said of the names of an instance and a field
+pub column_tells : (g : GraphValue) (w : List ℕ) (p : List ℕ × List ℕ) (o : Option Found) (q : Option ℕ) → column_names w ≡ Some p → IsFound g p.0 o → q ≡ position (is_column_named p.0 p.1) (columns g) →
+    Tells g Column w (column_seen false o q)
+unfolding column_names
+column_tells g w p o q h f k =
+    let a = p.0 in
+    let b = p.1 in
+    let e = pieces_by (pieces 46 w) a b h in
+    record {
+      misnamed = sym (ap not (is_column_by w ∙ ap (λ (x : Option (List ℕ × List ℕ)). is_some x) h));
+      twice = refl;
+      unknown = unknown_by (is_used g a) (is_inst_name g a) (list_any (is_column_named a b) (columns g)) (is_some o) (is_found_inst o) (is_some q) f.used f.inst (position_any (is_column_named a b) (columns g) ∙ ap (λ (x : Option ℕ). is_some x) (sym k))
+          ∙ ap (is_no_column g) (sym e);
+      unlike = ap not (sym f.inst) ∙ ap (λ ps. not (is_inst_name g (first_piece ps))) (sym e);
+      misnumbered = refl;
+      number = ap (λ (x : Option ℕ). unwrap_or x 0) k ∙ ap (column_number_of g) (sym e);
+      value = refl;
+    }
+
+-- what is to be said of a word that is not spelled as a column
+pub misspelled_tells : (g : GraphValue) (w : List ℕ) (o : Option Found) → IsGraph g → column_names w ≡ None → IsFound g (first_piece (pieces 46 w)) o →
+    Tells g Column w (column_seen true o None)
+misspelled_tells g w o n h f =
+    let none = no_column g w n h in
+    record {
+      misnamed = sym (ap not (is_column_by w ∙ ap (λ (x : Option (List ℕ × List ℕ)). is_some x) h));
+      twice = refl;
+      unknown = unknown_by (is_used g (first_piece (pieces 46 w))) (is_inst_name g (first_piece (pieces 46 w))) (has_column g (pieces 46 w)) (is_some o) (is_found_inst o) false f.used f.inst (has_column_is g (pieces 46 w) ∙ ap (λ (x : Option ℕ). is_some x) none);
+      unlike = ap not (sym f.inst);
+      misnumbered = refl;
+      number = sym (column_number_is g (pieces 46 w) ∙ ap (λ (x : Option ℕ). unwrap_or x 0) none);
+      value = refl;
+    }

@@ -1,5 +1,5 @@
 -- What refuses the words of a line of a kind.
-use Rattle.std.proofs.Common.{◌⊎◌, ◌≡◌, ℕ, ◌+◌, Bool, true, false, cond, not, ◌&&◌, ◌||◌, List, [], ◌∷◌, ◌++◌, length, refl, sym, ◌∙◌, ap, inr, append-nil}
+use Rattle.std.proofs.Common.{◌⊎◌, ◌≡◌, ℕ, ◌+◌, Bool, true, false, cond, not, ◌||◌, List, [], ◌∷◌, ◌++◌, length, refl, sym, ◌∙◌, ap, inr, append-nil}
 use Rattle.std.specs.Prelude.{Option, Some, None, Result, Ok, Err, bytes_eq, filter_map, slice_index_or}
 use Rattle.std.specs.List.{list_any, cons_option}
 use Rattle.std.proofs.lemmas.List.Folds.{list_any-append}
@@ -11,31 +11,17 @@ use Rattle.graph_model.specs.declared.graph.why.Why.{Why}
 use Rattle.graph_model.specs.declared.graph.why.Why.TheVariants as why
 use Rattle.graph_model.specs.graph.Graph.{GraphValue}
 use Rattle.graph_model.specs.graph.Name.{is_name}
-use Rattle.graph_model.specs.graph.Fits.{repeats, first_reason, is_used}
-use Rattle.graph_reader.specs.Draft.{Place, NewName, EventName, Placed, Draft, Form, form_of, has_on, on_placed}
+use Rattle.graph_model.specs.graph.Fits.{repeats, first_reason, is_used, line_fault}
+use Rattle.graph_reader.specs.Draft.{Place, NewName, EventName, Placed, Draft, form_of, has_on, on_placed}
 use Rattle.graph_reader.specs.FirstFault.{misnamed, twice, unknown, unlike, misnumbered, misordered, event_word, column_word, draft_tests, draft_fault, or_else, item_fault}
 use Rattle.graph_model.specs.declared.graph.table.Kind.{Kind}
 use Rattle.graph_model.specs.declared.graph.table.Place as table
 use Rattle.graph_model.specs.declared.graph.table.Place.TheVariants as places
 use Rattle.graph_model.specs.graph.Table.{kind_places}
-use Rattle.graph_reader.specs.Kinds.{kind_draft, words_in, kind_placed, kind_verb, kind_on, form_fails, form_reason, column_words, kind_line, IsReading, IsJudged}
+use Rattle.graph_reader.specs.Kinds.{kind_draft, words_in, kind_placed, form_placed, form_reason, column_words, kind_line, later_reason, AllTell, IsReading, IsJudged}
+use Rattle.graph_reader.specs.declared.faults.Faults.{Faults}
 use Rattle.graph_reader.proofs.Drafts.{placed_events}
 use Rattle.graph_reader.proofs.VerbForms.{no_events}
-
-on_any : (t : Place → List ℕ → Bool) (f : Form) (ws : List (List ℕ)) (b : Bool) → list_any (λ (p : Placed). t p.0 p.1) (cond b ((EventName, slice_index_or ws (length f.places + 1) []) ∷ []) []) ≡ (b && t EventName (slice_index_or ws (length f.places + 1) []))
-on_any t f ws true = or_false (t EventName (slice_index_or ws (length f.places + 1) []))
-  where
-    or_false : (b : Bool) → (b || false) ≡ b
-    or_false true = refl
-    or_false false = refl
-on_any t f ws false = refl
-
--- a word in its place fails, or the one behind `on`
-pub fails_is : (t : Place → List ℕ → Bool) (kind : Kind) (ws : List (List ℕ)) →
-    form_fails t kind ws ≡ (list_any (λ (p : Placed). t p.0 p.1) (kind_placed kind ws) || (has_on (form_of kind) ws && t EventName (slice_index_or ws (length (form_of kind).places + 1) [])))
-unfolding form_fails
-fails_is t kind ws = list_any-append (λ (p : Placed). t p.0 p.1) (kind_placed kind ws) (on_placed (form_of kind) ws)
-    ∙ ap (λ b. list_any (λ (p : Placed). t p.0 p.1) (kind_placed kind ws) || b) (on_any t (form_of kind) ws (has_on (form_of kind) ws))
 
 -- the places of a kind take no intervals
 quiet : (ps : List table.Place) (ws : List (List ℕ)) → list_any (λ (p : Placed). misordered p.0 p.1) (words_in ps ws) ≡ false
@@ -44,20 +30,17 @@ quiet (p ∷ ps) [] = refl
 quiet (places.User ∷ ps) (w ∷ ws) = quiet ps ws
 quiet (p ∷ ps) (w ∷ ws) = quiet ps ws
 
--- what a place says of a word, and the one behind `on`
-pub fails_at_on : (t : Place → List ℕ → Bool) (kind : Kind) (ws : List (List ℕ)) (b : Bool) → list_any (λ (p : Placed). t p.0 p.1) (kind_placed kind ws) ≡ false → has_on (form_of kind) ws ≡ true →
-    t EventName (slice_index_or ws (length (form_of kind).places + 1) []) ≡ b → form_fails t kind ws ≡ b
-fails_at_on t kind ws b p o h = fails_is t kind ws ∙ (ap (λ x. x || (has_on (form_of kind) ws && t EventName (slice_index_or ws (length (form_of kind).places + 1) []))) p
-    ∙ (ap (λ x. x && t EventName (slice_index_or ws (length (form_of kind).places + 1) [])) o ∙ h))
+abbrev on_by : Bool → List ℕ → List Placed
+on_by b w = cond b ((EventName, w) ∷ []) []
 
-pub fails_at_places : (t : Place → List ℕ → Bool) (kind : Kind) (ws : List (List ℕ)) → t EventName (slice_index_or ws (length (form_of kind).places + 1) []) ≡ false →
-    form_fails t kind ws ≡ list_any (λ (p : Placed). t p.0 p.1) (kind_placed kind ws)
-fails_at_places t kind ws h = fails_is t kind ws ∙ or_and_false (list_any (λ (p : Placed). t p.0 p.1) (kind_placed kind ws)) (has_on (form_of kind) ws) _ h
-  where
-    or_and_false : (a b c : Bool) → c ≡ false → (a || (b && c)) ≡ a
-    or_and_false true b c h = refl
-    or_and_false false true c h = h
-    or_and_false false false c h = refl
+-- the words of a line without `on`, and with it
+pub placed_plain : (kind : Kind) (ws : List (List ℕ)) → has_on (form_of kind) ws ≡ false → form_placed kind ws ≡ kind_placed kind ws
+unfolding form_placed
+placed_plain kind ws h = ap (λ b. kind_placed kind ws ++ on_by b (slice_index_or ws (length (form_of kind).places + 1) [])) h ∙ append-nil (kind_placed kind ws)
+
+pub placed_on : (kind : Kind) (ws : List (List ℕ)) → has_on (form_of kind) ws ≡ true → form_placed kind ws ≡ kind_placed kind ws ++ (EventName, slice_index_or ws (length (form_of kind).places + 1) []) ∷ []
+unfolding form_placed
+placed_on kind ws h = ap (λ b. kind_placed kind ws ++ on_by b (slice_index_or ws (length (form_of kind).places + 1) [])) h
 
 -- words with `on` or without it behind the places
 mapped_by : {X Y : Type 0} (f : X → Option Y) (xs ys : List X) (o : Option Y) → filter_map f (xs ++ ys) ≡ filter_map f xs ++ filter_map f ys → cons_option o (filter_map f (xs ++ ys)) ≡ cons_option o (filter_map f xs) ++ filter_map f ys
@@ -67,9 +50,6 @@ mapped_by f xs ys (Some y) h = ap (λ zs. y ∷ zs) h
 mapped_append : {X Y : Type 0} (f : X → Option Y) (xs ys : List X) → filter_map f (xs ++ ys) ≡ filter_map f xs ++ filter_map f ys
 mapped_append f [] ys = refl
 mapped_append f (x ∷ xs) ys = mapped_by f xs ys (f x) (mapped_append f xs ys)
-
-abbrev on_by : Bool → List ℕ → List Placed
-on_by b w = cond b ((EventName, w) ∷ []) []
 
 on_events : (b : Bool) (w : List ℕ) → repeats bytes_eq (filter_map (λ (p : Placed). event_word p.0 p.1) (on_by b w)) ≡ false
 on_events true w = refl
@@ -88,23 +68,42 @@ or_four true t e c h = refl
 or_four false true e c h = refl
 or_four false false e c h = ap (λ x. x || c) h
 
-six_to_five : (a x y c d e f : Bool) → x ≡ y → f ≡ false →
+six_to_five : (a b x y c d e f : Bool) → a ≡ b → x ≡ y → f ≡ false →
     first_reason ((a, why.Name) ∷ (x, why.Twice) ∷ (c, why.Unknown) ∷ (d, why.Kind) ∷ (e, why.Number) ∷ (f, why.Space) ∷ [])
-    ≡ first_reason ((a, why.Name) ∷ (y, why.Twice) ∷ (c, why.Unknown) ∷ (d, why.Kind) ∷ (e, why.Number) ∷ [])
-six_to_five a x y c d e f h k = ap (λ z. first_reason ((a, why.Name) ∷ (z, why.Twice) ∷ (c, why.Unknown) ∷ (d, why.Kind) ∷ (e, why.Number) ∷ (f, why.Space) ∷ [])) h
-    ∙ ap (λ z. cond a (Some why.Name) (cond y (Some why.Twice) (cond c (Some why.Unknown) (cond d (Some why.Kind) (cond e (Some why.Number) (cond z (Some why.Space) None)))))) k
+    ≡ first_reason ((b, why.Name) ∷ (y, why.Twice) ∷ (c, why.Unknown) ∷ (d, why.Kind) ∷ (e, why.Number) ∷ [])
+six_to_five a b x y c d e f n h k = ap (λ z. first_reason ((z, why.Name) ∷ (x, why.Twice) ∷ (c, why.Unknown) ∷ (d, why.Kind) ∷ (e, why.Number) ∷ (f, why.Space) ∷ [])) n
+    ∙ (ap (λ z. first_reason ((b, why.Name) ∷ (z, why.Twice) ∷ (c, why.Unknown) ∷ (d, why.Kind) ∷ (e, why.Number) ∷ (f, why.Space) ∷ [])) h
+    ∙ ap (λ z. cond b (Some why.Name) (cond y (Some why.Twice) (cond c (Some why.Unknown) (cond d (Some why.Kind) (cond e (Some why.Number) (cond z (Some why.Space) None)))))) k)
 
 abbrev pub fails : (Place → List ℕ → Bool) → List Placed → Bool
 fails t ps = list_any (λ (p : Placed). t p.0 p.1) ps
 
 -- the tests of words of which the first is a new name
-reason_by : (g : GraphValue) (d : Draft) (name : List ℕ) (ps : List Placed) (c : Bool) → d.placed ≡ (NewName, name) ∷ ps → repeats bytes_eq (filter_map (λ (p : Placed). event_word p.0 p.1) ps) ≡ false →
+reason_by : (g : GraphValue) (d : Draft) (name : List ℕ) (ps : List Placed) (c : Bool) → d.placed ≡ (NewName, name) ∷ ps → is_name name ≡ true → repeats bytes_eq (filter_map (λ (p : Placed). event_word p.0 p.1) ps) ≡ false →
     repeats bytes_eq (filter_map (λ (p : Placed). column_word p.0 p.1) ps) ≡ c → fails misordered ps ≡ false →
-    first_reason (draft_tests g d) ≡ first_reason ((not (is_name name) || fails misnamed ps, why.Name) ∷ (is_used g name || (fails (twice g) ps || c), why.Twice) ∷ (fails (unknown g) ps, why.Unknown) ∷ (fails (unlike g) ps, why.Kind) ∷ (fails misnumbered ps, why.Number) ∷ [])
-reason_by g d name ps c e events columns ordered =
+    first_reason (draft_tests g d) ≡ first_reason ((fails misnamed ps, why.Name) ∷ (is_used g name || (fails (twice g) ps || c), why.Twice) ∷ (fails (unknown g) ps, why.Unknown) ∷ (fails (unlike g) ps, why.Kind) ∷ (fails misnumbered ps, why.Number) ∷ [])
+reason_by g d name ps c e n events columns ordered =
     ap (λ x. first_reason (draft_tests g (record { placed = x; item = d.item }))) e
-    ∙ six_to_five (not (is_name name) || fails misnamed ps) _ (is_used g name || (fails (twice g) ps || c)) (fails (unknown g) ps) (fails (unlike g) ps) (fails misnumbered ps) (fails misordered ps)
-    (or_four (is_used g name) (fails (twice g) ps) _ _ events ∙ ap (λ x. is_used g name || (fails (twice g) ps || x)) columns) ordered
+    ∙ six_to_five (not (is_name name) || fails misnamed ps) (fails misnamed ps) _ (is_used g name || (fails (twice g) ps || c)) (fails (unknown g) ps) (fails (unlike g) ps) (fails misnumbered ps) (fails misordered ps)
+    (ap (λ b. not b || fails misnamed ps) n) (or_four (is_used g name) (fails (twice g) ps) _ _ events ∙ ap (λ x. is_used g name || (fails (twice g) ps || x)) columns) ordered
+
+used_first : (u x : Bool) (r : Option Why) → or_else (cond u (Some why.Twice) None) (cond (u || x) (Some why.Twice) r) ≡ cond (u || x) (Some why.Twice) r
+used_first true x r = refl
+used_first false x r = refl
+
+or_false : (b : Bool) → (b || false) ≡ b
+or_false true = refl
+or_false false = refl
+
+or_true : (b : Bool) → (b || true) ≡ true
+or_true true = refl
+or_true false = refl
+
+twice_by : (a u b : Bool) (r : Option Why) → a ≡ false → b ≡ true → cond a (Some why.Name) (cond (u || b) (Some why.Twice) r) ≡ Some why.Twice
+twice_by a u b r h k = ap (λ x. cond x (Some why.Name) (cond (u || b) (Some why.Twice) r)) h ∙ ap (λ x. cond x (Some why.Twice) r) (ap (λ x. u || x) k ∙ or_true u)
+
+left_by : (a u b : Bool) (r : Option Why) → a ≡ false → b ≡ false → cond a (Some why.Name) (cond (u || b) (Some why.Twice) r) ≡ cond u (Some why.Twice) r
+left_by a u b r h k = ap (λ x. cond x (Some why.Name) (cond (u || b) (Some why.Twice) r)) h ∙ ap (λ x. cond x (Some why.Twice) r) (ap (λ x. u || x) k ∙ or_false u)
 
 abbrev as_item : List ℕ → Verb → Option ℕ → Decl ⊎ Line
 as_item name verb on = inr (record { name = name; verb = verb; on = on })
@@ -130,23 +129,40 @@ module _ (g : GraphValue) (kind : Kind) (name : List ℕ) (ws : List (List ℕ))
       ∙ (ap (λ b. b || list_any (λ (p : Placed). misordered p.0 p.1) (on_placed (form_of kind) ws)) (quiet (kind_places kind) ws) ∙ on_ordered (has_on (form_of kind) ws) on_word)
 
   -- the first reason that refuses a word
-  pub reason_is : first_reason (draft_tests g (kind_draft g kind name ws)) ≡ form_reason g kind name ws
-  unfolding form_reason form_fails
-  reason_is = reason_by g (kind_draft g kind name ws) name rest_placed (repeats bytes_eq (column_words (kind_placed kind ws))) refl events_once (ap (repeats bytes_eq) columns_are) all_ordered
+  pub reason_is : is_name name ≡ true → first_reason (draft_tests g (kind_draft g kind name ws)) ≡ form_reason g kind name ws
+  unfolding form_reason form_placed
+  reason_is n = reason_by g (kind_draft g kind name ws) name rest_placed (repeats bytes_eq (column_words (kind_placed kind ws))) refl n events_once (ap (repeats bytes_eq) columns_are) all_ordered
 
-  -- the line that the words spell
-  pub line_is : (new : List ℕ) → new ≡ name → (kind_draft g kind name ws).item ≡ inr (record { name = new; verb = kind_verb g kind ws; on = kind_on g kind ws })
-  line_is new e = ap (λ n. as_item n (kind_verb g kind ws) (kind_on g kind ws)) (sym e)
+  pub refused_word : (w : Why) → is_name name ≡ true → form_reason g kind name ws ≡ Some w → draft_fault g (kind_draft g kind name ws) ≡ Some w
+  refused_word w n h = ap (λ r. or_else r (item_fault g (kind_draft g kind name ws).item)) (reason_is n ∙ h)
 
-  pub refused_word : (w : Why) → form_reason g kind name ws ≡ Some w → draft_fault g (kind_draft g kind name ws) ≡ Some w
-  refused_word w h = ap (λ r. or_else r (item_fault g (kind_draft g kind name ws).item)) (reason_is ∙ h)
+  -- a name in use is the first reason of the line itself
+  left_fault : is_name name ≡ true → form_reason g kind name ws ≡ cond (is_used g name) (Some why.Twice) None → draft_fault g (kind_draft g kind name ws) ≡ line_fault g (kind_line g kind name ws)
+  left_fault n h = ap (λ r. or_else r (line_fault g (kind_line g kind name ws))) (reason_is n ∙ h) ∙ used_first (is_used g name) _ _
 
-  pub fault_of_line : (line : Line) → form_reason g kind name ws ≡ None → (kind_draft g kind name ws).item ≡ inr line → draft_fault g (kind_draft g kind name ws) ≡ item_fault g (inr line)
-  fault_of_line line h e = ap (λ r. or_else r (item_fault g (kind_draft g kind name ws).item)) (reason_is ∙ h) ∙ ap (item_fault g) e
+  pub judged : (line : Line) (r : Result Line Why) → is_name name ≡ true → form_reason g kind name ws ≡ cond (is_used g name) (Some why.Twice) None → line ≡ kind_line g kind name ws → IsJudged g line r → IsReading g (kind_draft g kind name ws) r
+  judged line (Ok l) n h e j = (left_fault n h ∙ (ap (line_fault g) (sym e) ∙ j.1), ap inr (sym e) ∙ ap inr (sym j.0))
+  judged line (Err w) n h e j = left_fault n h ∙ (ap (line_fault g) (sym e) ∙ j)
 
-  pub judged : (new : List ℕ) (line : Line) (r : Result Line Why) → form_reason g kind name ws ≡ None → new ≡ name → line ≡ kind_line g kind new ws → IsJudged g line r → IsReading g (kind_draft g kind name ws) r
-  judged new line (Ok l) h n e j = let i : (kind_draft g kind name ws).item ≡ inr line = line_is new n ∙ ap inr (sym e) in (fault_of_line line h i ∙ j.1, i ∙ ap inr (sym j.0))
-  judged new line (Err w) h n e j = fault_of_line line h (line_is new n ∙ ap inr (sym e)) ∙ j
+  module _ (f : Faults) (tell : AllTell g (form_placed kind ws) f) where
+    later_is : first_reason ((fails (unknown g) (form_placed kind ws), why.Unknown) ∷ (fails (unlike g) (form_placed kind ws), why.Kind) ∷ (fails misnumbered (form_placed kind ws), why.Number) ∷ []) ≡ later_reason f
+    later_is = ap (λ x. first_reason ((x, why.Unknown) ∷ (fails (unlike g) (form_placed kind ws), why.Kind) ∷ (fails misnumbered (form_placed kind ws), why.Number) ∷ [])) (sym tell.unknown)
+        ∙ (ap (λ x. first_reason ((f.unknown, why.Unknown) ∷ (x, why.Kind) ∷ (fails misnumbered (form_placed kind ws), why.Number) ∷ [])) (sym tell.unlike)
+        ∙ ap (λ x. first_reason ((f.unknown, why.Unknown) ∷ (f.unlike, why.Kind) ∷ (x, why.Number) ∷ [])) (sym tell.misnumbered))
+
+    pub misnamed_reason : f.misnamed ≡ true → form_reason g kind name ws ≡ Some why.Name
+    unfolding form_reason
+    misnamed_reason h = cond-true (fails misnamed (form_placed kind ws)) (Some why.Name) _ (sym tell.misnamed ∙ h)
+
+    pub twice_reason : f.misnamed ≡ false → (f.twice || repeats bytes_eq (column_words (kind_placed kind ws))) ≡ true → form_reason g kind name ws ≡ Some why.Twice
+    unfolding form_reason
+    twice_reason h k = twice_by (fails misnamed (form_placed kind ws)) (is_used g name) _ _ (sym tell.misnamed ∙ h) (ap (λ b. b || repeats bytes_eq (column_words (kind_placed kind ws))) (sym tell.twice) ∙ k)
+
+    -- what is left where each word is spelled and nothing stands there twice
+    pub left_reason : f.misnamed ≡ false → (f.twice || repeats bytes_eq (column_words (kind_placed kind ws))) ≡ false → form_reason g kind name ws ≡ cond (is_used g name) (Some why.Twice) (later_reason f)
+    unfolding form_reason
+    left_reason h k = left_by (fails misnamed (form_placed kind ws)) (is_used g name) _ _ (sym tell.misnamed ∙ h) (ap (λ b. b || repeats bytes_eq (column_words (kind_placed kind ws))) (sym tell.twice) ∙ k)
+        ∙ ap (λ r. cond (is_used g name) (Some why.Twice) r) later_is
 
 -- a word that is misnamed refuses first
 pub first_fails : (g : GraphValue) (d : Draft) → fails misnamed d.placed ≡ true → draft_fault g d ≡ Some why.Name

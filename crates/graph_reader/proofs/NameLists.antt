@@ -1,14 +1,13 @@
 -- Loops over words that are to be names, and over names of which none is to stand twice.
-use Rattle.std.proofs.Common.{◌≡◌, ℕ, zero, suc, ◌+◌, ◌<◌, Bool, true, false, cond, ◌&&◌, ◌||◌, List, [], ◌∷◌, ◌++◌, length, take, get_or, refl, sym, ◌∙◌, ap, arith, Bor}
+use Rattle.std.proofs.Common.{◌≡◌, ℕ, zero, suc, ◌+◌, ◌<◌, Bool, true, false, cond, ◌&&◌, ◌||◌, List, [], ◌∷◌, ◌++◌, length, take, get_or, map, refl, sym, ◌∙◌, ap, arith, Bor}
 use Rattle.std.specs.Prelude.{bytes_eq}
 use Rattle.std.specs.List.{list_any, list_all}
 use Rattle.std.specs.Cmp.Lexicographic.{slice_cmp}
 use Rattle.std.specs.Ordering.{nat_cmp, is_eq}
 use Rattle.std.proofs.lemmas.Bool.{true≢false}
-use Rattle.std.proofs.lemmas.List.{take_more}
+use Rattle.std.proofs.lemmas.List.{take_more, map-append}
 use Rattle.std.proofs.lemmas.List.Folds.{list_any-append}
 use Rattle.std.proofs.lemmas.Map.Text.{is_eq-slice_cmp}
-use Rattle.graph_model.specs.graph.Name.{is_name}
 use Rattle.graph_model.specs.graph.Fits.{repeats}
 use Rattle.graph_reader.proofs.TextLists.{same_bytes, bytes_same, repeats_push}
 use Rattle.graph_reader.proofs.Places.{bytes_flip}
@@ -30,21 +29,25 @@ all_append : (t : List ℕ → Bool) (xs : List (List ℕ)) (y : List ℕ) → l
 all_append t [] y h k = ap (λ b. b && true) k
 all_append t (x ∷ xs) y h k = all_by t xs (xs ++ y ∷ []) (t x) h (λ r. all_append t xs y r k)
 
--- one word more is a name
-pub name_more : (ws : List (Bor (List ℕ))) (i : ℕ) (d : Bor (List ℕ)) → i < length ws → list_all is_name (take i (words_of ws)) ≡ true → is_name (get_or ws i d).now ≡ true → list_all is_name (take (i + 1) (words_of ws)) ≡ true
-name_more ws i d l h k = ap (list_all is_name) (word_more ws i d l) ∙ all_append is_name (take i (words_of ws)) (get_or ws i d).now h k
+-- one word more passes a test
+pub passed_more : (t : List ℕ → Bool) (ws : List (Bor (List ℕ))) (i : ℕ) (d : Bor (List ℕ)) → i < length ws → list_all t (take i (words_of ws)) ≡ true → t (get_or ws i d).now ≡ true → list_all t (take (i + 1) (words_of ws)) ≡ true
+passed_more t ws i d l h k = ap (list_all t) (word_more ws i d l) ∙ all_append t (take i (words_of ws)) (get_or ws i d).now h k
 
 and_false : (b : Bool) → (b && false) ≡ false
 and_false true = refl
 and_false false = refl
 
--- one word is no name
-pub misnamed_at : (ws : List (Bor (List ℕ))) (i : ℕ) (d : Bor (List ℕ)) → i < length ws → is_name (get_or ws i d).now ≡ false → list_all is_name (words_of ws) ≡ false
-misnamed_at [] i d l h = absurd (omega arith)
-misnamed_at (w ∷ ws) zero d l h = ap (λ b. b && list_all is_name (words_of ws)) h
-misnamed_at (w ∷ ws) (suc i) d l h = ap (λ b. is_name w.now && b) (misnamed_at ws i d (omega arith) h) ∙ and_false (is_name w.now)
+-- one word fails a test
+pub failed_at : (t : List ℕ → Bool) (ws : List (Bor (List ℕ))) (i : ℕ) (d : Bor (List ℕ)) → i < length ws → t (get_or ws i d).now ≡ false → list_all t (words_of ws) ≡ false
+failed_at t [] i d l h = absurd (omega arith)
+failed_at t (w ∷ ws) zero d l h = ap (λ b. b && list_all t (words_of ws)) h
+failed_at t (w ∷ ws) (suc i) d l h = ap (λ b. t w.now && b) (failed_at t ws i d (omega arith) h) ∙ and_false (t w.now)
 
-or_true : (b : Bool) → (b || true) ≡ true
+-- one number more
+pub numbers_more : (f : List ℕ → ℕ) (ws : List (Bor (List ℕ))) (i : ℕ) (d : Bor (List ℕ)) (n : ℕ) (items more : List ℕ) → i < length ws → n ≡ f (get_or ws i d).now → items ≡ map f (take i (words_of ws)) → more ≡ items ++ n ∷ [] → more ≡ map f (take (i + 1) (words_of ws))
+numbers_more f ws i d n items more l e h k = k ∙ (ap (λ x. x ++ n ∷ []) h ∙ (ap (λ y. map f (take i (words_of ws)) ++ y ∷ []) e ∙ (sym (map-append f (take i (words_of ws)) ((get_or ws i d).now ∷ [])) ∙ ap (map f) (sym (word_more ws i d l)))))
+
+pub or_true : (b : Bool) → (b || true) ≡ true
 or_true true = refl
 or_true false = refl
 

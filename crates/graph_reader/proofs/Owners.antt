@@ -63,7 +63,7 @@ pub position_below : {X : Type 0} (t : X → Bool) (xs : List X) (n : ℕ) → p
 position_below t xs n e = position_by (nat_lt (position_or_len t xs) (length xs)) (position_or_len t xs) n (length xs) refl e
 
 -- the first declaration of a name
-abbrev owner : List Decl → List ℕ → Option Decl
+abbrev pub owner : List Decl → List ℕ → Option Decl
 owner ds w = find (λ d. bytes_eq (decl_name d) w) ds
 
 -- what is listed of one kind under a name is the first declaration of the name
@@ -203,7 +203,7 @@ kinds_of g w h =
       lines = λ s. sym (any_map (λ y. bytes_eq y w) (λ (x : Line). x.name) g.lines) ∙ apart_lists (map decl_name g.decls) (map (λ (x : Line). x.name) g.lines) w n.apart (sym (owner_named w g.decls) ∙ s);
     }
 
-used_is : (g : GraphValue) (w : List ℕ) → is_used g w ≡ (is_some (owner g.decls w) || list_any (λ (x : Line). bytes_eq x.name w) g.lines)
+pub used_is : (g : GraphValue) (w : List ℕ) → is_used g w ≡ (is_some (owner g.decls w) || list_any (λ (x : Line). bytes_eq x.name w) g.lines)
 used_is g w = flip_any w (names g) ∙ (list_any-append (λ y. bytes_eq y w) (map decl_name g.decls) (map (λ (x : Line). x.name) g.lines)
     ∙ (ap (λ b. b || list_any (λ y. bytes_eq y w) (map (λ (x : Line). x.name) g.lines)) (sym (owner_named w g.decls)) ∙ ap (λ b. is_some (owner g.decls w) || b) (any_map (λ y. bytes_eq y w) (λ (x : Line). x.name) g.lines)))
 

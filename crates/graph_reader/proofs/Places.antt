@@ -312,7 +312,7 @@ named_as key xs w h = let s = spelled_name key xs w h in ap (λ o. option_map_or
 lock_as : (xs : List (List ℕ)) (w : List ℕ) → list_any (bytes_eq w) xs ≡ true → option_map_or (λ (x : List ℕ). x) (slice_get xs (unwrap_or (position (bytes_eq w) xs) 0)) [] ≡ w
 lock_as xs w h = let f = found_is (bytes_eq w) xs h in ap (λ (o : Option (List ℕ)). option_map_or (λ (x : List ℕ). x) o []) f.1 ∙ sym (same_bytes w f.0 f.2)
 
-line_as : (g : GraphValue) (w : List ℕ) → is_line_name g w ≡ true → line_name g (line_number g w) ≡ w
+pub line_as : (g : GraphValue) (w : List ℕ) → is_line_name g w ≡ true → line_name g (line_number g w) ≡ w
 line_as g w h = named_as (λ (x : Line). x.name) g.lines w h
 
 both_listed : (a b : Bool) → not (a && b) ≡ false → a ≡ true

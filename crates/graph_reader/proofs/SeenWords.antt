@@ -1,8 +1,9 @@
 -- What is to be said of a word by what it stands for.
-use Rattle.std.proofs.Common.{◌≡◌, ℕ, zero, suc, ◌+◌, ◌<◌, ◌≤◌, Bool, true, false, not, ◌&&◌, ◌||◌, List, [], ◌∷◌, length, drop, refl, sym, ◌∙◌, ap, arith}
+use Rattle.std.proofs.Common.{◌≡◌, ℕ, zero, suc, ◌+◌, ◌<◌, ◌≤◌, Bool, true, false, not, ◌&&◌, ◌||◌, List, [], ◌∷◌, ◌++◌, length, drop, refl, sym, ◌∙◌, ap, arith}
 use Rattle.std.specs.Prelude.{Option, Some, None, is_some, IfSome, position, bytes_eq, unwrap_or, slice_index_or}
 use Rattle.std.specs.Option.{option_map_or}
 use Rattle.std.specs.List.{list_any}
+use Rattle.std.proofs.lemmas.List.Folds.{list_any-append}
 use Rattle.graph_model.specs.declared.graph.found.Found.{Found}
 use Rattle.graph_model.specs.declared.graph.decl.BarrierInfo.{BarrierInfo}
 use Rattle.graph_model.specs.declared.graph.table.Place as table
@@ -10,10 +11,12 @@ use Rattle.graph_model.specs.declared.graph.table.Place.TheVariants as places
 use Rattle.graph_model.specs.declared.graph.verb.Line.{Line}
 use Rattle.graph_model.specs.graph.Graph.{GraphValue, named_spaces, locks, barriers, line_passes, is_user, is_phase, is_acquire, is_release_of, ends_user}
 use Rattle.graph_model.specs.graph.Name.{is_name}
-use Rattle.graph_reader.specs.Draft.{as_place, Placed, line_number}
+use Rattle.graph_reader.specs.Draft.{Place, as_place, Placed, line_number}
 use Rattle.graph_reader.specs.FirstFault.{misnamed, twice, unknown, unlike, misnumbered, is_line_name}
 use Rattle.graph_reader.specs.Lookups.{IsFound, found_line, found_number, found_twice, found_alike}
-use Rattle.graph_reader.specs.Kinds.{NamesThing, named_number, placed_value, words_in}
+use Rattle.graph_reader.specs.Kinds.{NamesThing, Tells, AllTell, named_number, placed_value, words_in}
+use Rattle.graph_reader.specs.declared.seen.Seen.{Seen}
+use Rattle.graph_reader.specs.declared.faults.Faults.{Faults}
 use Rattle.graph_reader.proofs.Owners.{position_any, position_below}
 
 -- a line that is found is there
@@ -57,7 +60,7 @@ module _ (g : GraphValue) (w : List ℕ) (o : Option Found) (f : IsFound g w o) 
   unknown_is (places.Column mode over) n = absurd n
   unknown_is p n = ap not (sym f.used)
 
-  pub number_is : (p : table.Place) → NamesThing p → unwrap_or (found_number p o) 0 ≡ named_number g p w
+  pub number_is : (p : table.Place) → NamesThing p → unwrap_or (found_number p o) 0 ≡ named_number g (as_place p) w
   number_is places.Lock n = ap (λ q. unwrap_or q 0) (sym f.lock)
   number_is places.Barrier n = ap (λ q. unwrap_or q 0) (sym f.barrier)
   number_is places.Space n = ap (λ q. unwrap_or q 0) (sym f.space)
@@ -70,10 +73,15 @@ misnamed_is places.Value w n = absurd n
 misnamed_is (places.Column mode over) w n = absurd n
 misnamed_is p w n = refl
 
-pub name_plain : (p : table.Place) (w : List ℕ) → NamesThing p → (misnumbered (as_place p) w ≡ false) × (placed_value p w ≡ 0)
+pub name_plain : (p : table.Place) (w : List ℕ) → NamesThing p → (misnumbered (as_place p) w ≡ false) × (placed_value (as_place p) w ≡ 0)
 name_plain places.Value w n = absurd n
 name_plain (places.Column mode over) w n = absurd n
 name_plain p w n = (refl, refl)
+
+-- what is said of an option that is none
+pub turned : (b c : Bool) → c ≡ not b → b ≡ not c
+turned true c h = sym (ap not h)
+turned false c h = sym (ap not h)
 
 -- words in their places, from one of them on
 pub placed_next : (ps : List table.Place) (ws : List (List ℕ)) (i : ℕ) → i < length ps → i < length ws → drop i (words_in ps ws) ≡ (as_place (slice_index_or ps i places.User), slice_index_or ws i []) ∷ drop (i + 1) (words_in ps ws)
@@ -109,3 +117,18 @@ any_next t b c s ps i x h d e k =
 
 pub any_end : (t : Placed → Bool) (b : Bool) (ps : List Placed) (i : ℕ) → AnySoFar t b ps i → drop i ps ≡ [] → b ≡ list_any t ps
 any_end t b ps i h d = or_none b ∙ (ap (λ ys. b || list_any t ys) (sym d) ∙ h)
+
+-- one word more, by what is to be said of it
+or_last : (t : Placed → Bool) (ps : List Placed) (x : Placed) (a b c : Bool) → a ≡ list_any t ps → b ≡ t x → c ≡ (a || b) → c ≡ list_any t (ps ++ x ∷ [])
+or_last t ps x a b c h k e = e ∙ (ap (λ y. y || b) h ∙ (ap (λ y. list_any t ps || y) (k ∙ or_none (t x)) ∙ sym (list_any-append t ps (x ∷ []))))
+
+pub all_tell_more : (g : GraphValue) (ps : List Placed) (p : Place) (w : List ℕ) (a c : Faults) (s : Seen) → AllTell g ps a → Tells g p w s →
+    c.misnamed ≡ (a.misnamed || s.faults.misnamed) → c.twice ≡ (a.twice || s.faults.twice) → c.unknown ≡ (a.unknown || s.faults.unknown) → c.unlike ≡ (a.unlike || s.faults.unlike) → c.misnumbered ≡ (a.misnumbered || s.faults.misnumbered) →
+    AllTell g (ps ++ (p, w) ∷ []) c
+all_tell_more g ps p w a c s h t misnamed_with twice_with unknown_with unlike_with misnumbered_with = record {
+  misnamed = or_last (λ (q : Placed). misnamed q.0 q.1) ps (p, w) _ _ _ h.misnamed t.misnamed misnamed_with;
+  twice = or_last (λ (q : Placed). twice g q.0 q.1) ps (p, w) _ _ _ h.twice t.twice twice_with;
+  unknown = or_last (λ (q : Placed). unknown g q.0 q.1) ps (p, w) _ _ _ h.unknown t.unknown unknown_with;
+  unlike = or_last (λ (q : Placed). unlike g q.0 q.1) ps (p, w) _ _ _ h.unlike t.unlike unlike_with;
+  misnumbered = or_last (λ (q : Placed). misnumbered q.0 q.1) ps (p, w) _ _ _ h.misnumbered t.misnumbered misnumbered_with;
+}

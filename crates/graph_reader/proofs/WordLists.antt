@@ -95,13 +95,13 @@ set_next f xs i x l h e j b = elim (cases_eq j i) [
 ]
 
 -- what stands in places, as the code keeps it
-placed_part : (g : GraphValue) (p : table.Place) (w : List ℕ) (n : ℕ) (parts : Parts) → slice_index parts.numbers n ≡ named_number g p w → slice_index parts.values n ≡ placed_value p w → part_in p n parts ≡ number_in_place g (as_place p) w
+placed_part : (g : GraphValue) (p : table.Place) (w : List ℕ) (n : ℕ) (parts : Parts) → slice_index parts.numbers n ≡ named_number g (as_place p) w → slice_index parts.values n ≡ placed_value (as_place p) w → part_in p n parts ≡ number_in_place g (as_place p) w
 placed_part g places.Value w n parts h k = k
 placed_part g p w n parts h k = h
 
 parts_at : (g : GraphValue) (parts : Parts) (ps : List table.Place) (ws : List (List ℕ)) (n : ℕ) → length ps ≤ length ws →
-    ((j : ℕ) → j < length ps → slice_index parts.numbers (n + j) ≡ named_number g (slice_index_or ps j places.User) (slice_index_or ws j [])) →
-    ((j : ℕ) → j < length ps → slice_index parts.values (n + j) ≡ placed_value (slice_index_or ps j places.User) (slice_index_or ws j [])) →
+    ((j : ℕ) → j < length ps → slice_index parts.numbers (n + j) ≡ named_number g (as_place (slice_index_or ps j places.User)) (slice_index_or ws j [])) →
+    ((j : ℕ) → j < length ps → slice_index parts.values (n + j) ≡ placed_value (as_place (slice_index_or ps j places.User)) (slice_index_or ws j [])) →
     parts_from n ps parts ≡ map (number_in g) (words_in ps ws)
 parts_at g parts [] ws n l h k = refl
 parts_at g parts (p ∷ ps) [] n l h k = absurd (omega arith)
@@ -113,7 +113,7 @@ parts_at g parts (p ∷ ps) (w ∷ ws) n l h k =
     (λ j b. ap (slice_index parts.values) (let e : (n + 1) + j ≡ n + suc j = omega arith in e) ∙ k (suc j) (omega arith)))
 
 pub parts_are : (g : GraphValue) (parts : Parts) (ps : List table.Place) (ws : List (List ℕ)) → length ps ≤ length ws →
-    ((j : ℕ) → j < length ps → slice_index parts.numbers j ≡ named_number g (slice_index_or ps j places.User) (slice_index_or ws j [])) →
-    ((j : ℕ) → j < length ps → slice_index parts.values j ≡ placed_value (slice_index_or ps j places.User) (slice_index_or ws j [])) →
+    ((j : ℕ) → j < length ps → slice_index parts.numbers j ≡ named_number g (as_place (slice_index_or ps j places.User)) (slice_index_or ws j [])) →
+    ((j : ℕ) → j < length ps → slice_index parts.values j ≡ placed_value (as_place (slice_index_or ps j places.User)) (slice_index_or ws j [])) →
     parts_from 0 ps parts ≡ map (number_in g) (words_in ps ws)
 parts_are g parts ps ws l h k = parts_at g parts ps ws 0 l (λ j b. ap (slice_index parts.numbers) (let e : 0 + j ≡ j = omega arith in e) ∙ h j b) (λ j b. ap (slice_index parts.values) (let e : 0 + j ≡ j = omega arith in e) ∙ k j b)

@@ -1,5 +1,5 @@
 -- The kinds of operation lines as the forms of their words.
-use Rattle.std.specs.Prelude.{◌≡◌, ℕ, ◌+◌, ◌≤◌, Bool, cond, not, ◌||◌, List, [], ◌∷◌, ◌++◌, length, map, zip, slice_index_or, unwrap_or, filter_map, Option, Some, None, Result, Ok, Err}
+use Rattle.std.specs.Prelude.{◌≡◌, ℕ, ◌+◌, ◌≤◌, Bool, false, cond, not, ◌&&◌, ◌||◌, List, [], ◌∷◌, ◌++◌, length, map, zip, slice_index_or, unwrap_or, filter_map, is_some, Option, Some, None, Result, Ok, Err}
 use Rattle.std.specs.List.{list_any}
 use Rattle.std.proofs.Common.{inr}
 use Rattle.graph_model.specs.declared.graph.verb.Line.{Line}
@@ -10,13 +10,14 @@ use Rattle.graph_reader.specs.Words.{value_of}
 use Rattle.graph_reader.specs.Draft.{as_place, form_of, form_draft, has_on, on_placed, line_number, Draft, Placed, number_in_place, number_in}
 use Rattle.graph_reader.specs.Draft as draft
 use Rattle.graph_model.specs.declared.graph.why.Why.TheVariants as why
-use Rattle.graph_model.specs.graph.Name.{is_name}
 use Rattle.graph_model.specs.graph.Fits.{first_reason, is_used, repeats, line_fault}
 use Rattle.std.specs.Str.{bytes_eq}
 use Rattle.graph_reader.specs.FirstFault.{misnamed, twice, unknown, unlike, misnumbered, draft_fault, column_word}
 use Rattle.graph_model.specs.declared.graph.table.Kind.{Kind}
+use Rattle.graph_model.specs.declared.graph.found.Found.{Found}
+use Rattle.graph_reader.specs.Lookups.{is_found_inst}
 use Rattle.graph_reader.specs.declared.seen.Seen.{Seen}
-use Rattle.graph_reader.specs.declared.parts.Faults.{Faults}
+use Rattle.graph_reader.specs.declared.faults.Faults.{Faults}
 use Rattle.graph_model.specs.declared.graph.table.Place as table
 use Rattle.graph_model.specs.graph.Table.{kind_places}
 use Rattle.graph_model.specs.declared.graph.table.Place.TheVariants as places
@@ -38,24 +39,32 @@ abbrev pub kind_verb : GraphValue → Kind → List (List ℕ) → Verb
 kind_verb g kind ws = (form_of kind).verb (map (number_in g) (kind_placed kind ws))
 
 -- the number of a name in its place, and 0 where a value stands there
-abbrev pub named_number : GraphValue → table.Place → List ℕ → ℕ
-named_number g places.Value w = 0
-named_number g p w = number_in_place g (as_place p) w
+abbrev pub named_number : GraphValue → draft.Place → List ℕ → ℕ
+named_number g draft.Value w = 0
+named_number g p w = number_in_place g p w
 
 -- the value in its place, and 0 where a name stands there
-abbrev pub placed_value : table.Place → List ℕ → ℕ
-placed_value places.Value w = unwrap_or (value_of w) 0
+abbrev pub placed_value : draft.Place → List ℕ → ℕ
+placed_value draft.Value w = unwrap_or (value_of w) 0
 placed_value p w = 0
 
 -- what is to be said of a word in its place
-pub record Tells (g : GraphValue) (p : table.Place) (w : List ℕ) (s : Seen) : Type 0 where
-  pub misnamed : s.misnamed ≡ misnamed (as_place p) w
-  pub twice : s.twice ≡ twice g (as_place p) w
-  pub unknown : s.unknown ≡ unknown g (as_place p) w
-  pub unlike : s.unlike ≡ unlike g (as_place p) w
-  pub misnumbered : s.misnumbered ≡ misnumbered (as_place p) w
+pub record Tells (g : GraphValue) (p : draft.Place) (w : List ℕ) (s : Seen) : Type 0 where
+  pub misnamed : s.faults.misnamed ≡ misnamed p w
+  pub twice : s.faults.twice ≡ twice g p w
+  pub unknown : s.faults.unknown ≡ unknown g p w
+  pub unlike : s.faults.unlike ≡ unlike g p w
+  pub misnumbered : s.faults.misnumbered ≡ misnumbered p w
   pub number : s.number ≡ named_number g p w
   pub value : s.value ≡ placed_value p w
+
+-- what is to be said of a column, by what was found of its instance and of itself
+abbrev pub column_seen : Bool → Option Found → Option ℕ → Seen
+column_seen b o q = record {
+  faults = record { misnamed = b; twice = false; unknown = not (is_some o) || (is_found_inst o && not (is_some q)); unlike = not (is_found_inst o); misnumbered = false };
+  number = unwrap_or q 0;
+  value = 0;
+}
 
 -- a place whose word is the name of one thing
 abbrev pub NamesThing : table.Place → Type 0
@@ -67,9 +76,9 @@ NamesThing p = Unit {0}
 abbrev pub column_words : List Placed → List (List ℕ)
 column_words ps = filter_map (λ (p : Placed). column_word p.0 p.1) ps
 
--- whether a word of a kind fails a test, or the one behind `on`
-unfoldable pub form_fails : (draft.Place → List ℕ → Bool) → Kind → List (List ℕ) → Bool
-form_fails t kind ws = list_any (λ (p : Placed). t p.0 p.1) (kind_placed kind ws ++ on_placed (form_of kind) ws)
+-- the words of a kind, each in its place, and the one behind `on`
+unfoldable pub form_placed : Kind → List (List ℕ) → List Placed
+form_placed kind ws = kind_placed kind ws ++ on_placed (form_of kind) ws
 
 -- there are as many words as a kind has places
 abbrev pub HasPlaces : Kind → List (List ℕ) → Type 0
@@ -87,15 +96,24 @@ pub record AllTell (g : GraphValue) (ps : List Placed) (faults : Faults) : Type 
 abbrev pub kind_on : GraphValue → Kind → List (List ℕ) → Option ℕ
 kind_on g kind ws = cond (has_on (form_of kind) ws) (Some (line_number g (slice_index_or ws (length (form_of kind).places + 1) []))) None
 
--- the first reason that refuses a word of a line of a kind
+-- the first reason that refuses a word of a line of a kind, whose name is spelled as one
 unfoldable pub form_reason : GraphValue → Kind → List ℕ → List (List ℕ) → Option Why
 form_reason g kind name ws = first_reason (
-    (not (is_name name) || form_fails misnamed kind ws, why.Name)
-    ∷ (is_used g name || (form_fails (twice g) kind ws || repeats bytes_eq (column_words (kind_placed kind ws))), why.Twice)
-    ∷ (form_fails (unknown g) kind ws, why.Unknown)
-    ∷ (form_fails (unlike g) kind ws, why.Kind)
-    ∷ (form_fails misnumbered kind ws, why.Number)
+    (list_any (λ (p : Placed). misnamed p.0 p.1) (form_placed kind ws), why.Name)
+    ∷ (is_used g name || (list_any (λ (p : Placed). twice g p.0 p.1) (form_placed kind ws) || repeats bytes_eq (column_words (kind_placed kind ws))), why.Twice)
+    ∷ (list_any (λ (p : Placed). unknown g p.0 p.1) (form_placed kind ws), why.Unknown)
+    ∷ (list_any (λ (p : Placed). unlike g p.0 p.1) (form_placed kind ws), why.Kind)
+    ∷ (list_any (λ (p : Placed). misnumbered p.0 p.1) (form_placed kind ws), why.Number)
     ∷ [])
+
+-- the first reason that refuses a word of a line but for its spelling and what stands there twice
+abbrev pub later_reason : Faults → Option Why
+later_reason f = first_reason ((f.unknown, why.Unknown) ∷ (f.unlike, why.Kind) ∷ (f.misnumbered, why.Number) ∷ [])
+
+-- the first reason that refuses a word of a line, which is left open where none does but that the name may be in use
+abbrev pub IsFormFault : GraphValue → Kind → List ℕ → List (List ℕ) → Option Why → Type 0
+IsFormFault g kind name ws (Some w) = form_reason g kind name ws ≡ Some w
+IsFormFault g kind name ws None = form_reason g kind name ws ≡ cond (is_used g name) (Some why.Twice) None
 
 -- the line that words of a kind spell
 abbrev pub kind_line : GraphValue → Kind → List ℕ → List (List ℕ) → Line

@@ -21,14 +21,6 @@ pub(crate) fn is_name(word: &[u8]) -> bool
     Name::new(word).is_some()
 }
 
-/// Whether a word is spelled as a column.
-#[tactic(auto, using(crate::proofs::ColumnWords::is_column_by))]
-pub(crate) fn is_column(word: &[u8]) -> bool
-    ensures { result ≡ is_column word.now }
-{
-    column_names(word).is_some()
-}
-
 pub(crate) fn is_user(verb: &Verb) -> bool
     ensures { result ≡ is_user verb.now }
 {
@@ -45,26 +37,4 @@ pub(crate) fn is_acquire(verb: &Verb) -> bool
     ensures { result ≡ is_acquire verb.now }
 {
     matches!(verb, Verb::Acquire { .. })
-}
-
-/// Whether the word of an event is not spelled as a name.
-pub(crate) fn event_misnamed(word: &[u8]) -> bool
-    ensures { result ≡ misnamed EventName word.now }
-{
-    !is_name(word)
-}
-
-/// Whether the word of an event names what is not declared.
-pub(crate) fn event_unknown(graph: &Graph, word: &[u8]) -> bool
-    ensures { result ≡ unknown graph.now EventName word.now }
-{
-    look_up(graph, word).is_none()
-}
-
-/// Whether the word of an event names no line.
-#[tactic(auto, using(crate::proofs::Owners::position_any))]
-pub(crate) fn event_unlike(graph: &Graph, word: &[u8]) -> bool
-    ensures { result ≡ unlike graph.now EventName word.now }
-{
-    line(graph, word).is_none()
 }

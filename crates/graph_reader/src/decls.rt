@@ -8,7 +8,7 @@ ghost use Rattle.graph_reader.specs.Reading.{IsDeclBy, IsDeclRead, space_error, 
 use crate::checks::is_name;
 use crate::intervals::intervals;
 use crate::item::ItemError;
-use crate::lookup::{look_up, space};
+use crate::lookup::{look_up, space, stands_for};
 use crate::names::{has_repeat, names_of};
 use crate::numbers::{count, value};
 use crate::words::split;
@@ -54,7 +54,7 @@ pub(crate) fn read_barrier(
     let Some(new) = Name::new(name) else {
         return Err(ItemError::Refused(Why::Name));
     };
-    if look_up(graph, name).is_some() {
+    if stands_for(graph, &new).is_some() {
         return Err(ItemError::Refused(Why::Twice));
     }
     let Some(count) = count(arrivals) else {
@@ -121,7 +121,7 @@ pub(crate) fn read_space(
     let Some(new) = Name::new(name) else {
         return Err(ItemError::Refused(Why::Name));
     };
-    if look_up(graph, name).is_some() {
+    if stands_for(graph, &new).is_some() {
         return Err(ItemError::Refused(Why::Twice));
     }
     match intervals(alloc, word) {
@@ -163,7 +163,7 @@ fn read_named(
         Ok(true) => return Err(ItemError::Refused(Why::Twice)),
         Err(_) => return Err(ItemError::NoMemory),
     }
-    if look_up(graph, space_word).is_none() {
+    if look_up(graph, space_word).found.is_none() {
         return Err(ItemError::Refused(Why::Unknown));
     }
     let Some(space) = space(graph, space_word) else {
@@ -201,7 +201,7 @@ pub(crate) fn read_inst(
         return Err(ItemError::Refused(Why::Name));
     }
     let fields = read_fields(alloc, word)?;
-    if look_up(graph, name).is_some() {
+    if stands_for(graph, &new).is_some() {
         return Err(ItemError::Refused(Why::Twice));
     }
     read_named(alloc, graph, new, space_word, fields)

@@ -4,15 +4,15 @@ ghost use Rattle.basics.specs.Words.{contents};
 ghost use Rattle.std.specs.Prelude.{◌≡◌, ◌<◌, ◌≤◌, ◌&&◌, drop, map, length, List, ℕ, [], ◌+◌, slice_index_or};
 ghost use Rattle.std.specs.List.{list_any};
 ghost use Rattle.std.specs.Str.{bytes_eq};
-ghost use Rattle.graph_model.specs.graph.Fits.{repeats, first_reason};
+ghost use Rattle.graph_model.specs.graph.Fits.{repeats};
 ghost use Rattle.graph_model.specs.graph.Table.{is_column, parts_of};
-ghost use Rattle.graph_reader.specs.Draft.{Placed, form_of, number_in};
-ghost use Rattle.graph_reader.specs.FirstFault.{misnamed, twice, unknown, unlike, misnumbered, draft_tests};
-ghost use Rattle.graph_reader.specs.Kinds.{words_in, kind_placed, AllTell, column_words, kind_draft, kind_on, form_reason, form_fails, HasPlaces, kind_line, IsReading, IsJudged};
+ghost use Rattle.graph_reader.specs.Draft.{form_of, number_in};
+ghost use Rattle.graph_reader.specs.Kinds.{words_in, kind_placed, form_placed, AllTell, column_words, kind_draft, kind_on, later_reason, HasPlaces, IsFormFault, IsReading, IsJudged};
 
-use crate::checks::{event_misnamed, event_unknown, event_unlike, is_name};
-use crate::lookup::{line_number, look_up};
-use crate::parts::{Faults, read_parts};
+use crate::faults::Faults;
+use crate::lookup::stands_for;
+use crate::parts::read_parts;
+use crate::seen::see_event;
 use crate::words::{behind, has_on, place_count, word};
 use graph_model::graph::Graph;
 use graph_model::name::Name;
@@ -74,104 +74,79 @@ fn event_behind<'a>(kind: Kind, words: &[&'a [u8]]) -> &'a [u8]
     word(words, place_count(kind) + 1)
 }
 
-/// Whether a word of a line fails a test, by the words in places and by that of an event.
-#[tactic(auto, using(crate::proofs::FormFaults::fails_is))]
-fn form_misnamed(kind: Kind, words: &[&[u8]], faults: Faults) -> bool
-    requires { faults.misnamed ≡ list_any (λ (p : Placed). misnamed p.0 p.1) (kind_placed kind (contents words.now)) }
-    ensures { result ≡ form_fails misnamed kind (contents words.now) }
-{
-    faults.misnamed || (has_on(kind, words) && event_misnamed(event_behind(kind, words)))
-}
-
-/// Whether a word of a line names what is not declared.
-#[tactic(auto, using(crate::proofs::FormFaults::fails_is))]
-fn form_unknown(graph: &Graph, kind: Kind, words: &[&[u8]], faults: Faults) -> bool
-    requires { faults.unknown ≡ list_any (λ (p : Placed). unknown graph.now p.0 p.1) (kind_placed kind (contents words.now)) }
-    ensures { result ≡ form_fails (unknown graph.now) kind (contents words.now) }
-{
-    faults.unknown || (has_on(kind, words) && event_unknown(graph, event_behind(kind, words)))
-}
-
-/// Whether a word of a line names a thing of another kind than its place takes.
-#[tactic(auto, using(crate::proofs::FormFaults::fails_is))]
-fn form_unlike(graph: &Graph, kind: Kind, words: &[&[u8]], faults: Faults) -> bool
-    requires { faults.unlike ≡ list_any (λ (p : Placed). unlike graph.now p.0 p.1) (kind_placed kind (contents words.now)) }
-    ensures { result ≡ form_fails (unlike graph.now) kind (contents words.now) }
-{
-    faults.unlike || (has_on(kind, words) && event_unlike(graph, event_behind(kind, words)))
-}
-
-/// Whether a word of a line names what was ended or released already.
-fn form_twice(graph: &Graph, kind: Kind, words: &[&[u8]], faults: Faults) -> bool
-    requires { faults.twice ≡ list_any (λ (p : Placed). twice graph.now p.0 p.1) (kind_placed kind (contents words.now)) }
-    ensures { result ≡ form_fails (twice graph.now) kind (contents words.now) }
-{
-    faults.twice
-}
-
-/// Whether a word of a line is not spelled as the number that its place asks for.
-fn form_misnumbered(kind: Kind, words: &[&[u8]], faults: Faults) -> bool
-    requires { faults.misnumbered ≡ list_any (λ (p : Placed). misnumbered p.0 p.1) (kind_placed kind (contents words.now)) }
-    ensures { result ≡ form_fails misnumbered kind (contents words.now) }
-{
-    faults.misnumbered
-}
-
-/// The first reason that refuses a word of a line.
-#[tactic(auto, unfolding(crate::specs::Kinds::form_reason))]
-fn form_fault(
-    graph: &Graph,
-    kind: Kind,
-    name: &[u8],
-    words: &[&[u8]],
+/// What is to be said of the words of a line of a kind.
+#[derive(Clone, Copy)]
+struct SeenForm {
+    /// What they stand for in their places.
+    parts: Parts,
+    /// The line behind `on`.
+    on: Option<u32>,
+    /// What refuses them.
     faults: Faults,
-) -> Option<Why>
-    requires there { HasPlaces kind (contents words.now) }
-    requires faults { AllTell graph.now (kind_placed kind (contents words.now)) faults }
-    ensures { result ≡ form_reason graph.now kind name.now (contents words.now) }
+}
+
+/// What is to be said of the words of a line of a kind, behind the fixed ones.
+fn see_form(graph: &Graph, kind: Kind, words: &[&[u8]]) -> SeenForm
+    requires { HasPlaces kind (contents words.now) }
+    ensures parts { parts_of kind result.parts ≡ map (number_in graph.now) (kind_placed kind (contents words.now)) }
+    ensures on { result.on ≡ kind_on graph.now kind (contents words.now) }
+    ensures faults { AllTell graph.now (form_placed kind (contents words.now)) result.faults }
 {
-    if !is_name(name) || form_misnamed(kind, words, faults) {
-        return Some(Why::Name);
+    let (parts, faults) = read_parts(graph, kind.places(), words);
+    if !has_on(kind, words) {
+        return SeenForm {
+            parts,
+            on: None,
+            faults,
+        };
     }
-    if look_up(graph, name).is_some()
-        || form_twice(graph, kind, words, faults)
-        || columns_repeat(kind.places(), words)
-    {
-        return Some(Why::Twice);
+    let event = see_event(graph, event_behind(kind, words));
+    SeenForm {
+        parts,
+        on: Some(event.number),
+        faults: faults.with(event.faults),
     }
-    if form_unknown(graph, kind, words, faults) {
+}
+
+/// The first reason that refuses a word of a line but for its spelling and what stands there twice.
+fn later_fault(faults: Faults) -> Option<Why>
+    ensures { result ≡ later_reason faults }
+{
+    if faults.unknown {
         return Some(Why::Unknown);
     }
-    if form_unlike(graph, kind, words, faults) {
+    if faults.unlike {
         return Some(Why::Kind);
     }
-    if form_misnumbered(kind, words, faults) {
+    if faults.misnumbered {
         return Some(Why::Number);
     }
     None
 }
 
-/// The line that a word has `on` before it waits for.
-fn on_of(graph: &Graph, kind: Kind, words: &[&[u8]]) -> Option<u32>
-    ensures { result ≡ kind_on graph.now kind (contents words.now) }
+/// The first reason that refuses a word of a line. Where none does, the name may be in use: the graph says so itself.
+fn form_fault(
+    graph: &Graph,
+    kind: Kind,
+    name: &Name,
+    words: &[&[u8]],
+    faults: Faults,
+) -> Option<Why>
+    requires there { HasPlaces kind (contents words.now) }
+    requires faults { AllTell graph.now (form_placed kind (contents words.now)) faults }
+    ensures { IsFormFault graph.now kind name.now (contents words.now) result }
 {
-    if has_on(kind, words) {
-        Some(line_number(graph, event_behind(kind, words)))
-    } else {
-        None
+    if faults.misnamed {
+        return Some(Why::Name);
     }
-}
-
-/// The line that words spell in their places, where each stands for something.
-fn line_of(graph: &Graph, kind: Kind, name: Name, words: &[&[u8]], parts: &Parts) -> Line
-    requires { parts_of kind parts.now ≡ map (number_in graph.now) (kind_placed kind (contents words.now)) }
-    ensures { result ≡ kind_line graph.now kind name (contents words.now) }
-{
-    Line {
-        name,
-        verb: Verb::of(kind, parts),
-        on: on_of(graph, kind, words),
+    if faults.twice || columns_repeat(kind.places(), words) {
+        return Some(Why::Twice);
     }
+    let later = later_fault(faults)?;
+    if stands_for(graph, name).is_some() {
+        return Some(Why::Twice);
+    }
+    Some(later)
 }
 
 /// The line, where it fits after the graph.
@@ -194,12 +169,17 @@ pub(crate) fn read_form(
     requires { HasPlaces kind (contents words.now) }
     ensures { IsReading graph.now (kind_draft graph.now kind name.now (contents words.now)) result }
 {
-    let Some(new) = Name::new(name) else {
+    let Some(name) = Name::new(name) else {
         return Err(Why::Name);
     };
-    let (parts, faults) = read_parts(graph, kind.places(), words);
-    if let Some(why) = form_fault(graph, kind, name, words, faults) {
+    let seen = see_form(graph, kind, words);
+    if let Some(why) = form_fault(graph, kind, &name, words, seen.faults) {
         return Err(why);
     }
-    fitting_line(graph, line_of(graph, kind, new, words, &parts))
+    let line = Line {
+        name,
+        verb: Verb::of(kind, &seen.parts),
+        on: seen.on,
+    };
+    fitting_line(graph, line)
 }

@@ -4,6 +4,7 @@
 mod checks;
 mod cuts;
 mod decls;
+mod faults;
 mod forms;
 mod intervals;
 mod item;

@@ -1,6 +1,6 @@
 //! What words stand for.
 
-ghost use Rattle.std.specs.Prelude.{◌≡◌, ◌<◌, ℕ, ◌&&◌, List, length, position, IfSome};
+ghost use Rattle.std.specs.Prelude.{◌≡◌, ◌<◌, ℕ, not, ◌&&◌, List, length, position, IfSome};
 ghost use Rattle.std.specs.Str.{bytes_eq};
 ghost use Rattle.graph_model.specs.declared.graph.decl.BarrierInfo.{BarrierInfo};
 ghost use Rattle.graph_model.specs.declared.graph.verb.Line.{Line};
@@ -16,14 +16,38 @@ use graph_model::found::Found;
 use graph_model::graph::Graph;
 use graph_model::name::Name;
 
-/// What a word stands for in the graph. `None` exactly where no item has it as its name.
-pub(crate) fn look_up(graph: &Graph, word: &[u8]) -> Option<Found>
-    ensures { IsFound graph.now word.now result }
+/// What a name stands for in the graph. `None` exactly where no item has it.
+pub(crate) fn stands_for(graph: &Graph, name: &Name) -> Option<Found>
+    ensures { IsFound graph.now name.now result }
+{
+    let _ = graph.decls();
+    graph.find(name)
+}
+
+/// A word that was looked up.
+#[derive(Clone, Copy)]
+pub(crate) struct Lookup {
+    /// It is not spelled as a name.
+    pub(crate) misnamed: bool,
+    /// What it stands for. `None` exactly where no item has it as its name.
+    pub(crate) found: Option<Found>,
+}
+
+/// What a word stands for in the graph.
+pub(crate) fn look_up(graph: &Graph, word: &[u8]) -> Lookup
+    ensures misnamed { result.misnamed ≡ not (is_name word.now) }
+    ensures found { IsFound graph.now word.now result.found }
 {
     let _ = graph.decls();
     match Name::new(word) {
-        Some(name) => graph.find(&name),
-        None => None,
+        Some(name) => Lookup {
+            misnamed: false,
+            found: graph.find(&name),
+        },
+        None => Lookup {
+            misnamed: true,
+            found: None,
+        },
     }
 }
 
@@ -74,21 +98,7 @@ pub(crate) fn is_inst(found: Option<Found>) -> bool
 pub(crate) fn space(graph: &Graph, word: &[u8]) -> Option<u32>
     ensures { result ≡ position (λ (x : List ℕ × List (ℕ × ℕ)). bytes_eq x.0 word.now) (named_spaces graph.now) }
 {
-    as_space(look_up(graph, word))
-}
-
-/// The number of the reservation that a word stands for.
-pub(crate) fn lock(graph: &Graph, word: &[u8]) -> Option<u32>
-    ensures { result ≡ position (bytes_eq word.now) (locks graph.now) }
-{
-    as_lock(look_up(graph, word))
-}
-
-/// The number of the barrier that a word stands for.
-pub(crate) fn barrier(graph: &Graph, word: &[u8]) -> Option<u32>
-    ensures { result ≡ position (λ (x : BarrierInfo). bytes_eq x.name word.now) (barriers graph.now) }
-{
-    as_barrier(look_up(graph, word))
+    as_space(look_up(graph, word).found)
 }
 
 /// The number of the line that a word stands for.
@@ -97,14 +107,7 @@ pub(crate) fn line(graph: &Graph, word: &[u8]) -> Option<u32>
     ensures line { result ≡ position (λ (x : Line). bytes_eq x.name word.now) graph.now.lines }
     ensures below { IfSome result (λ i. i < length graph.now.lines) }
 {
-    as_line(look_up(graph, word))
-}
-
-/// The number of the line that a word stands for, and 0 where it stands for none.
-pub(crate) fn line_number(graph: &Graph, word: &[u8]) -> u32
-    ensures { result ≡ line_number graph.now word.now }
-{
-    line(graph, word).unwrap_or(0)
+    as_line(look_up(graph, word).found)
 }
 
 /// The names that a word in the place of a column has, with a dot between them.
@@ -118,15 +121,4 @@ pub(crate) fn column_names(word: &[u8]) -> Option<(Name, Name)>
     let inst = Name::new(inst)?;
     let field = Name::new(field)?;
     Some((inst, field))
-}
-
-/// The number of the column that a word stands for.
-pub(crate) fn column(graph: &Graph, word: &[u8]) -> Option<u32>
-    ensures { result ≡ column_place graph.now (pieces 46 word.now) }
-{
-    let _ = graph.decls();
-    let Some((inst, field)) = column_names(word) else {
-        return None;
-    };
-    graph.find_column(&inst, &field)
 }

@@ -1,95 +1,102 @@
 //! Lines of merges.
 
 ghost use Rattle.basics.specs.Words.{contents};
-ghost use Rattle.std.specs.Prelude.{◌≡◌, map, not, false, true, IfOk};
+ghost use Rattle.std.specs.Prelude.{◌≡◌, map, not, false, true, IfOk, MatchOption, Some, None};
 ghost use Rattle.std.specs.List.{list_any};
 ghost use Rattle.std.specs.Str.{bytes_eq};
 ghost use Rattle.graph_model.specs.graph.Fits.{repeats, is_used};
 ghost use Rattle.graph_model.specs.graph.Name.{is_name};
 ghost use Rattle.graph_reader.specs.Draft.{line_number, merge_with};
-ghost use Rattle.graph_reader.specs.FirstFault.{is_line_name};
-ghost use Rattle.graph_reader.specs.Merges.{merge_verb, merge_reason, merge_line};
+ghost use Rattle.graph_reader.specs.Merges.{merge_verb, merge_reason, all_lines, IsMergeError};
 ghost use Rattle.graph_reader.specs.Reading.{IsLineRead};
 
-use crate::checks::event_unlike;
 use crate::forms::fitting_line;
 use crate::item::ItemError;
-use crate::lookup::{line_number, look_up};
+use crate::lookup::{line, look_up, stands_for};
 use crate::names::{has_repeat, names_of};
 use graph_model::graph::Graph;
+use graph_model::limits::MAX_EVENTS;
 use graph_model::lists::LineList;
 use graph_model::name::Name;
 use graph_model::verb::{Line, Verb};
 use graph_model::why::Why;
 use index_spaces::NoMemory;
-use index_spaces::room::with_room;
+use index_spaces::room::{push_within, with_room};
 use std::alloc::Global;
 
 /// Whether a word names no item.
 fn any_unknown(graph: &Graph, words: &[&[u8]]) -> bool
     ensures { result ≡ list_any (λ w. not (is_used graph.now w)) (contents words.now) }
 {
-    words.iter().any(|word| look_up(graph, word).is_none())
+    words
+        .iter()
+        .any(|word| look_up(graph, word).found.is_none())
 }
 
-/// Whether a word names no line.
-fn any_unlike(graph: &Graph, words: &[&[u8]]) -> bool
-    ensures { result ≡ list_any (λ w. not (is_line_name graph.now w)) (contents words.now) }
-{
-    words.iter().any(|word| event_unlike(graph, word))
-}
-
-/// The numbers of the lines that words name. All its room is asked for at once, so that a refusal ends it.
-fn numbers_of(alloc: Global, graph: &Graph, words: &[&[u8]]) -> Result<Vec<u32>, NoMemory>
-    ensures { IfOk result (λ v. v.items ≡ map (line_number graph.now) (contents words.now)) }
+/// The numbers of the lines that words name. `None` exactly where one of them names no line. All its room is asked for
+/// at once.
+fn lines_of(alloc: Global, graph: &Graph, words: &[&[u8]]) -> Result<Option<Vec<u32>>, NoMemory>
+    ensures { IfOk result (λ o. MatchOption o (all_lines graph.now (contents words.now) ≡ false)
+        (λ v. (v.items ≡ map (line_number graph.now) (contents words.now)) × (all_lines graph.now (contents words.now) ≡ true))) }
 {
     let mut numbers = with_room(alloc, words.len())?;
-    match numbers.extend(words.iter().map(|word| line_number(graph, word))) {
-        Ok(()) => Ok(numbers),
-        Err(_) => Err(NoMemory),
+    for word in words {
+        let Some(number) = line(graph, word) else {
+            return Ok(None);
+        };
+        push_within(&mut numbers, number);
     }
+    Ok(Some(numbers))
 }
 
-/// The first reason that refuses the words of a merge, whose name is spelled as one.
+/// The first reason that refuses the words of a merge, of which one names no line.
 #[tactic(auto, unfolding(crate::specs::Merges::merge_reason))]
-fn merge_fault(
-    alloc: Global,
-    graph: &Graph,
-    name: &[u8],
-    words: &[&[u8]],
-) -> Result<Option<Why>, NoMemory>
-    ensures { IfOk result (λ r. r ≡ merge_reason graph.now name.now (contents words.now)) }
+fn merge_fault(alloc: Global, graph: &Graph, name: &Name, words: &[&[u8]]) -> Result<Why, NoMemory>
+    requires { all_lines graph.now (contents words.now) ≡ false }
+    ensures { IfOk result (λ why. merge_reason graph.now name.now (contents words.now) ≡ Some why) }
 {
-    let Ok(found) = names_of(alloc, words) else {
-        return Err(NoMemory);
-    };
-    let Some(names) = found else {
-        return Ok(Some(Why::Name));
+    let Some(names) = names_of(alloc, words)? else {
+        return Ok(Why::Name);
     };
     let repeated = has_repeat(alloc, &names)?;
-    if repeated || look_up(graph, name).is_some() {
-        return Ok(Some(Why::Twice));
+    if repeated || stands_for(graph, name).is_some() {
+        return Ok(Why::Twice);
     }
     if any_unknown(graph, words) {
-        return Ok(Some(Why::Unknown));
+        return Ok(Why::Unknown);
     }
-    if any_unlike(graph, words) {
-        return Ok(Some(Why::Kind));
-    }
-    Ok(None)
+    Ok(Why::Kind)
 }
 
-/// The line of a merge, where its words stand for lines.
-fn merged(
-    alloc: Global,
-    graph: &Graph,
-    ignores: bool,
-    name: Name,
-    words: &[&[u8]],
-) -> Result<Line, NoMemory>
-    ensures { IfOk result (λ l. l ≡ merge_line graph.now ignores name (contents words.now)) }
+/// What refuses the words of a merge, of which one names no line.
+fn merge_error(alloc: Global, graph: &Graph, name: &Name, words: &[&[u8]]) -> ItemError
+    requires { all_lines graph.now (contents words.now) ≡ false }
+    ensures { IsMergeError graph.now name.now (contents words.now) result }
 {
-    let numbers = numbers_of(alloc, graph, words)?;
+    match merge_fault(alloc, graph, name, words) {
+        Ok(why) => ItemError::Refused(why),
+        Err(_) => ItemError::NoMemory,
+    }
+}
+
+/// Whether there are more words than a merge may have, and one of them stands there twice. A graph compares fewer pair by
+/// pair.
+fn many_repeat(alloc: Global, words: &[&[u8]]) -> Result<bool, NoMemory>
+    ensures { IfOk result (λ b. b ≡ true → repeats bytes_eq (contents words.now) ≡ true) }
+{
+    if words.len() <= MAX_EVENTS as usize {
+        return Ok(false);
+    }
+    match names_of(alloc, words)? {
+        Some(names) => has_repeat(alloc, &names),
+        None => Ok(false),
+    }
+}
+
+/// The line of a merge of these lines.
+fn merged(ignores: bool, name: Name, numbers: Vec<u32>) -> Result<Line, NoMemory>
+    ensures { IfOk result (λ l. l ≡ record { name = name; verb = merge_verb ignores numbers.items; on = None }) }
+{
     // More numbers than a list of lines holds.
     if numbers.len() > 4294967295 {
         return Err(NoMemory);
@@ -107,6 +114,35 @@ fn merged(
     })
 }
 
+/// The line of a merge of words that name these lines.
+fn read_lines(
+    alloc: Global,
+    graph: &Graph,
+    ignores: bool,
+    name: Name,
+    words: &[&[u8]],
+    numbers: Vec<u32>,
+) -> Result<Line, ItemError>
+    requires named { is_name name ≡ true }
+    requires lines { all_lines graph.now (contents words.now) ≡ true }
+    requires numbers { numbers.items ≡ map (line_number graph.now) (contents words.now) }
+    ensures { IsLineRead graph.now (merge_with graph.now name (merge_verb ignores) (contents words.now)) result }
+{
+    let _ = graph.decls();
+    match many_repeat(alloc, words) {
+        Ok(false) => {}
+        Ok(true) => return Err(ItemError::Refused(Why::Twice)),
+        Err(_) => return Err(ItemError::NoMemory),
+    }
+    let Ok(line) = merged(ignores, name, numbers) else {
+        return Err(ItemError::NoMemory);
+    };
+    match fitting_line(graph, line) {
+        Ok(line) => Ok(line),
+        Err(why) => Err(ItemError::Refused(why)),
+    }
+}
+
 /// The line of a merge with this name and these words.
 pub(crate) fn read_merge(
     alloc: Global,
@@ -117,19 +153,12 @@ pub(crate) fn read_merge(
 ) -> Result<Line, ItemError>
     ensures { IsLineRead graph.now (merge_with graph.now name.now (merge_verb ignores) (contents words.now)) result }
 {
-    let Some(new) = Name::new(name) else {
+    let Some(name) = Name::new(name) else {
         return Err(ItemError::Refused(Why::Name));
     };
-    match merge_fault(alloc, graph, name, words) {
-        Ok(None) => {}
-        Ok(Some(why)) => return Err(ItemError::Refused(why)),
-        Err(_) => return Err(ItemError::NoMemory),
-    }
-    let Ok(line) = merged(alloc, graph, ignores, new, words) else {
-        return Err(ItemError::NoMemory);
-    };
-    match fitting_line(graph, line) {
-        Ok(line) => Ok(line),
-        Err(why) => Err(ItemError::Refused(why)),
+    match lines_of(alloc, graph, words) {
+        Ok(Some(numbers)) => read_lines(alloc, graph, ignores, name, words, numbers),
+        Ok(None) => Err(merge_error(alloc, graph, &name, words)),
+        Err(_) => Err(ItemError::NoMemory),
     }
 }

@@ -1,44 +1,16 @@
 //! What the words of an operation line stand for in their places, and what refuses them.
 
 ghost use Rattle.basics.specs.Words.{contents};
-ghost use Rattle.std.specs.Prelude.{◌≡◌, ◌≤◌, ◌||◌, map, length};
+ghost use Rattle.std.specs.Prelude.{◌≡◌, ◌≤◌, map, length};
 ghost use Rattle.graph_model.specs.graph.Table.{parts_from};
 ghost use Rattle.graph_reader.specs.Draft.{number_in};
 ghost use Rattle.graph_reader.specs.Kinds.{AllTell, words_in};
 
-use crate::seen::{Seen, see};
+use crate::faults::Faults;
+use crate::seen::see;
 use crate::words::word;
 use graph_model::graph::Graph;
 use graph_model::table::{MOST_PLACES, Parts, Place};
-
-/// What is to be said of one of the words at least.
-#[derive(Clone, Copy)]
-pub(crate) struct Faults {
-    pub(crate) misnamed: bool,
-    pub(crate) twice: bool,
-    pub(crate) unknown: bool,
-    pub(crate) unlike: bool,
-    pub(crate) misnumbered: bool,
-}
-
-impl Faults {
-    /// With one more word.
-    fn with(self, seen: Seen) -> Faults
-        ensures misnamed { result.misnamed ≡ (self.misnamed || seen.misnamed) }
-        ensures twice { result.twice ≡ (self.twice || seen.twice) }
-        ensures unknown { result.unknown ≡ (self.unknown || seen.unknown) }
-        ensures unlike { result.unlike ≡ (self.unlike || seen.unlike) }
-        ensures misnumbered { result.misnumbered ≡ (self.misnumbered || seen.misnumbered) }
-    {
-        Faults {
-            misnamed: self.misnamed || seen.misnamed,
-            twice: self.twice || seen.twice,
-            unknown: self.unknown || seen.unknown,
-            unlike: self.unlike || seen.unlike,
-            misnumbered: self.misnumbered || seen.misnumbered,
-        }
-    }
-}
 
 /// What words stand for in their places, and what refuses them.
 pub(crate) fn read_parts(graph: &Graph, places: &[Place], words: &[&[u8]]) -> (Parts, Faults)
@@ -62,7 +34,7 @@ pub(crate) fn read_parts(graph: &Graph, places: &[Place], words: &[&[u8]]) -> (P
         let seen = see(graph, places[i], word(words, i));
         parts.numbers[i] = seen.number;
         parts.values[i] = seen.value;
-        faults = faults.with(seen);
+        faults = faults.with(seen.faults);
     }
     (parts, faults)
 }

@@ -1,14 +1,17 @@
 //! What is to be said of a word in its place, by one look-up.
 
-ghost use Rattle.std.specs.Prelude.{◌≡◌, ◌<◌, ℕ, length, IfSome};
-ghost use Rattle.graph_model.specs.declared.graph.verb.Mode.{Mode};
+ghost use Rattle.std.specs.Prelude.{◌≡◌, ◌<◌, ◌||◌, ◌&&◌, not, length, is_some, IfSome};
 ghost use Rattle.graph_model.specs.graph.Graph.{GraphValue};
-ghost use Rattle.graph_reader.specs.Lookups.{found_line, found_number, found_twice, found_alike};
-ghost use Rattle.graph_reader.specs.Kinds.{Tells, NamesThing};
+ghost use Rattle.graph_reader.specs.Draft.{as_place, Column, EventName, Value};
+ghost use Rattle.graph_reader.specs.Lookups.{found_line, found_number, found_twice, found_alike, is_found_inst};
+ghost use Rattle.graph_reader.specs.Kinds.{Tells, NamesThing, column_seen};
 
-use crate::checks::{is_acquire, is_column, is_name, is_phase, is_user};
+use crate::checks::{is_acquire, is_phase, is_user};
 use crate::cuts::before_dot;
-use crate::lookup::{as_barrier, as_line, as_lock, as_space, column, is_inst, look_up};
+use crate::faults::Faults;
+use crate::lookup::{
+    Lookup, as_barrier, as_line, as_lock, as_space, column_names, is_inst, look_up, stands_for,
+};
 use crate::numbers::value;
 use graph_model::found::Found;
 use graph_model::graph::Graph;
@@ -17,16 +20,8 @@ use graph_model::table::Place;
 /// What is to be said of a word in its place.
 #[derive(Clone, Copy)]
 pub(crate) struct Seen {
-    /// It is not spelled as its place asks, where it asks for names.
-    pub(crate) misnamed: bool,
-    /// It names what was ended or released already.
-    pub(crate) twice: bool,
-    /// It names what is not declared, or a field that its instance has not.
-    pub(crate) unknown: bool,
-    /// It names a thing of another kind than its place takes.
-    pub(crate) unlike: bool,
-    /// It is not spelled as the number that its place asks for.
-    pub(crate) misnumbered: bool,
+    /// What refuses it.
+    pub(crate) faults: Faults,
     /// The number of what it names, or 0.
     pub(crate) number: u32,
     /// The value that it spells, or 0.
@@ -77,49 +72,92 @@ fn is_alike(graph: &Graph, place: Place, found: Option<Found>) -> bool
 /// What is to be said of the name of one thing.
 fn see_name(graph: &Graph, place: Place, word: &[u8]) -> Seen
     requires { NamesThing place }
-    ensures { Tells graph.now place word.now result }
+    ensures { Tells graph.now (as_place place) word.now result }
 {
-    let found = look_up(graph, word);
+    let Lookup { misnamed, found } = look_up(graph, word);
     Seen {
-        misnamed: !is_name(word),
-        twice: is_twice(graph, place, found),
-        unknown: found.is_none(),
-        unlike: !is_alike(graph, place, found),
-        misnumbered: false,
+        faults: Faults {
+            misnamed,
+            twice: is_twice(graph, place, found),
+            unknown: found.is_none(),
+            unlike: !is_alike(graph, place, found),
+            misnumbered: false,
+        },
         number: number(place, found).unwrap_or(0),
         value: 0,
     }
 }
 
-/// What is to be said of the name of a column.
-#[tactic(auto, using(crate::proofs::ColumnWords::has_column_is, crate::proofs::ColumnWords::column_number_is))]
-fn see_column(graph: &Graph, word: &[u8]) -> Seen
-    ensures { (mode : Mode) (over : ℕ) → Tells graph.now (Place.Column mode over) word.now result }
+/// What is to be said of the name of an event.
+pub(crate) fn see_event(graph: &Graph, word: &[u8]) -> Seen
+    ensures { Tells graph.now EventName word.now result }
 {
-    let found = look_up(graph, before_dot(word));
-    let column = column(graph, word);
+    let Lookup { misnamed, found } = look_up(graph, word);
+    let line = as_line(found);
     Seen {
-        misnamed: !is_column(word),
-        twice: false,
-        unknown: found.is_none() || (is_inst(found) && column.is_none()),
-        unlike: !is_inst(found),
-        misnumbered: false,
+        faults: Faults {
+            misnamed,
+            twice: false,
+            unknown: found.is_none(),
+            unlike: line.is_none(),
+            misnumbered: false,
+        },
+        number: line.unwrap_or(0),
+        value: 0,
+    }
+}
+
+/// Whether no item was found, or an instance without this column.
+fn is_unknown_column(found: Option<Found>, column: Option<u32>) -> bool
+    ensures { result ≡ (not (is_some found) || (is_found_inst found && not (is_some column))) }
+{
+    found.is_none() || (is_inst(found) && column.is_none())
+}
+
+/// What is to be said of a column, by what was found of its instance and of itself.
+fn column_seen(misnamed: bool, found: Option<Found>, column: Option<u32>) -> Seen
+    ensures { result ≡ column_seen misnamed found column }
+{
+    Seen {
+        faults: Faults {
+            misnamed,
+            twice: false,
+            unknown: is_unknown_column(found, column),
+            unlike: !is_inst(found),
+            misnumbered: false,
+        },
         number: column.unwrap_or(0),
         value: 0,
     }
 }
 
+/// What is to be said of the name of a column.
+fn see_column(graph: &Graph, word: &[u8]) -> Seen
+    ensures { Tells graph.now Column word.now result }
+{
+    let _ = graph.decls();
+    match column_names(word) {
+        Some((inst, field)) => {
+            let found = stands_for(graph, &inst);
+            column_seen(false, found, graph.find_column(&inst, &field))
+        }
+        None => column_seen(true, look_up(graph, before_dot(word)).found, None),
+    }
+}
+
 /// What is to be said of a value.
 fn see_value(word: &[u8]) -> Seen
-    ensures { (g : GraphValue) → Tells g Place.Value word.now result }
+    ensures { (g : GraphValue) → Tells g Value word.now result }
 {
     let value = value(word);
     Seen {
-        misnamed: false,
-        twice: false,
-        unknown: false,
-        unlike: false,
-        misnumbered: value.is_none(),
+        faults: Faults {
+            misnamed: false,
+            twice: false,
+            unknown: false,
+            unlike: false,
+            misnumbered: value.is_none(),
+        },
         number: 0,
         value: value.unwrap_or(0),
     }
@@ -127,7 +165,7 @@ fn see_value(word: &[u8]) -> Seen
 
 /// What is to be said of a word in its place.
 pub(crate) fn see(graph: &Graph, place: Place, word: &[u8]) -> Seen
-    ensures { Tells graph.now place word.now result }
+    ensures { Tells graph.now (as_place place) word.now result }
 {
     match place {
         Place::User | Place::Phase | Place::Acquire | Place::Lock | Place::Barrier | Place::Space =>

@@ -1,4 +1,5 @@
 use Rattle.std.proofs.Common.{length, ◌≡◌, ap, sym, ◌∙◌, suc, arith}
+use Rattle.graph_model.specs.graph.Fits.{is_used}
 use Rattle.graph_reader.specs.Draft.{inst_with}
 use Rattle.graph_reader.specs.Reading.{inst_decl}
 use Rattle.graph_reader.proofs.CutBytes.{some_pieces}
@@ -11,5 +12,5 @@ read_named-requires-clause-some c = λ e. let p = some_pieces 44 c.args.word.now
 
 pub returns : goal.returns
 returns c =
-    let i = inst_is c.args.graph.now c.args.name.now c.in-Some.new c.args.space_word.now c.args.word.now c.in_ok-fields.fields.items c.in-Some.ensures.1 c.in-Some.ensures.0 (sym c.if-not-is_name.ensures) c.in_ok-fields.ensures.1 c.in_ok-fields.ensures.0 (c.look_up.ensures.used ∙ sym c.if-is_some.ensures) in
+    let i = inst_is c.args.graph.now c.args.name.now c.in-Some.new c.args.space_word.now c.args.word.now c.in_ok-fields.fields.items c.in-Some.ensures.1 c.in-Some.ensures.0 (sym c.if-not-is_name.ensures) c.in_ok-fields.ensures.1 c.in_ok-fields.ensures.0 (ap (is_used c.args.graph.now) (sym c.in-Some.ensures.0) ∙ (c.stands_for.ensures.used ∙ sym c.if-is_some.ensures)) in
     read_by c.args.graph.now (inst_with c.args.graph.now c.args.name.now c.args.space_word.now c.args.word.now) (inst_decl c.args.graph.now c.in-Some.new c.args.space_word.now c.in_ok-fields.fields.items) _ c.read_named.result i.0 i.1 c.read_named.ensures

@@ -5,10 +5,10 @@ use Rattle.graph_reader.proofs.DeclFaults.{inst_unlike, inst_ok, inst_many}
 use Rattle.graph_reader.proofs.decls.read_named.Goals as goal
 
 pub returns-in_default : goal.returns-in_default
-returns-in_default c = inst_unlike c.args.graph.now c.args.name c.args.space_word.now c.args.fields.items (ap (repeats bytes_eq) (sym c.deref.ensures.value) ∙ (sym c.in-Ok-false.ensures ∙ c.in-Ok-false.field-0-test)) (c.look_up.ensures.used ∙ c.if-is_none.ensures) (sym c.in_default.ensures)
+returns-in_default c = inst_unlike c.args.graph.now c.args.name c.args.space_word.now c.args.fields.items (ap (repeats bytes_eq) (sym c.deref.ensures.value) ∙ (sym c.in-Ok-false.ensures ∙ c.in-Ok-false.field-0-test)) (c.look_up.ensures.found.used ∙ c.if-is_none.ensures) (sym c.in_default.ensures)
 
 pub returns-then-len-gt256 : goal.returns-then-len-gt256
-returns-then-len-gt256 c = inst_many c.args.graph.now c.args.name c.args.space_word.now c.args.fields.items c.in-Some.space c.requires.new (ap (repeats bytes_eq) (sym c.deref.ensures.value) ∙ (sym c.in-Ok-false.ensures ∙ c.in-Ok-false.field-0-test)) (c.look_up.ensures.used ∙ c.if-is_none.ensures) (sym c.in-Some.ensures) (omega arith)
+returns-then-len-gt256 c = inst_many c.args.graph.now c.args.name c.args.space_word.now c.args.fields.items c.in-Some.space c.requires.new (ap (repeats bytes_eq) (sym c.deref.ensures.value) ∙ (sym c.in-Ok-false.ensures ∙ c.in-Ok-false.field-0-test)) (c.look_up.ensures.found.used ∙ c.if-is_none.ensures) (sym c.in-Some.ensures) (omega arith)
 
 pub returns : goal.returns
-returns c = inst_ok c.args.graph.now c.args.name c.args.space_word.now c.args.fields.items c.in-Some.space c.fitting_decl.result (ap (repeats bytes_eq) (sym c.deref.ensures.value) ∙ (sym c.in-Ok-false.ensures ∙ c.in-Ok-false.field-0-test)) (c.look_up.ensures.used ∙ c.if-is_none.ensures) (sym c.in-Some.ensures) c.fitting_decl.ensures
+returns c = inst_ok c.args.graph.now c.args.name c.args.space_word.now c.args.fields.items c.in-Some.space c.fitting_decl.result (ap (repeats bytes_eq) (sym c.deref.ensures.value) ∙ (sym c.in-Ok-false.ensures ∙ c.in-Ok-false.field-0-test)) (c.look_up.ensures.found.used ∙ c.if-is_none.ensures) (sym c.in-Some.ensures) c.fitting_decl.ensures

@@ -1,6 +1,7 @@
 use Rattle.std.proofs.Common.{ap, sym, ◌∙◌}
 use Rattle.std.specs.Prelude.{Some}
 use Rattle.graph_model.specs.declared.graph.decl.Decl.TheVariants as decl
+use Rattle.graph_model.specs.graph.Fits.{is_used}
 use Rattle.graph_reader.specs.Draft.{space_with}
 use Rattle.graph_reader.proofs.DeclFaults.{space_is, read_by}
 use Rattle.graph_reader.proofs.IntervalWords.{some_interval}
@@ -14,5 +15,5 @@ read_intervals-requires-clause-some c = λ e.
 pub returns-in-Ok-Some : goal.returns-in-Ok-Some
 returns-in-Ok-Some c =
     let h = rw c.in-Ok-Some.field-0-is at c.in-Ok-Some.ensures in
-    let s = space_is c.args.graph.now c.args.name.now c.in-Some.new c.args.word.now c.deref.result.now c.in-Some.ensures.1 c.in-Some.ensures.0 (c.look_up.ensures.used ∙ sym c.if-is_some.ensures) (h ∙ ap Some (sym c.deref.ensures.value)) in
+    let s = space_is c.args.graph.now c.args.name.now c.in-Some.new c.args.word.now c.deref.result.now c.in-Some.ensures.1 c.in-Some.ensures.0 (ap (is_used c.args.graph.now) (sym c.in-Some.ensures.0) ∙ (c.stands_for.ensures.used ∙ sym c.if-is_some.ensures)) (h ∙ ap Some (sym c.deref.ensures.value)) in
     read_by c.args.graph.now (space_with c.args.name.now c.args.word.now) (decl.Space c.in-Some.new c.deref.result.now) _ c.read_intervals.result s.0 s.1 c.read_intervals.ensures

@@ -5,9 +5,9 @@ use Rattle.graph_model.specs.graph.Names.{StandsFor}
 use Rattle.graph_reader.proofs.Owners.{is_found, unused_misnamed}
 use Rattle.graph_reader.proofs.lookup.look_up.Goals as goal
 
-pub returns-in-Some : goal.returns-in-Some
-returns-in-Some c = is_found c.args.graph.now c.args.word.now c.decls.ensures.is_graph c.find.result
+pub returns-in-Some-clause-found : goal.returns-in-Some-clause-found
+returns-in-Some-clause-found c = is_found c.args.graph.now c.args.word.now c.decls.ensures.is_graph c.find.result
     (subst (λ w. MatchOption c.find.result (is_used c.args.graph.now w ≡ false) (StandsFor c.args.graph.now w)) c.in-Some.ensures.0 c.find.ensures)
 
-pub returns-in-None : goal.returns-in-None
-returns-in-None c = is_found c.args.graph.now c.args.word.now c.decls.ensures.is_graph None (unused_misnamed c.args.graph.now c.args.word.now c.decls.ensures.is_graph c.in-None.ensures)
+pub returns-in-None-clause-found : goal.returns-in-None-clause-found
+returns-in-None-clause-found c = is_found c.args.graph.now c.args.word.now c.decls.ensures.is_graph None (unused_misnamed c.args.graph.now c.args.word.now c.decls.ensures.is_graph c.in-None.ensures)

@@ -19,15 +19,15 @@ loop-i-preserved c =
     record {
       number_room = length-set c.loop-i.parts.numbers i c.see-seen.result.number ∙ c.loop-i.invariant.number_room;
       value_room = length-set c.loop-i.parts.values i c.see-seen.result.value ∙ c.loop-i.invariant.value_room;
-      numbers = set_next (λ j. named_number c.args.graph.now (slice_index_or c.args.places.now j places.User) (slice_index_or (contents c.args.words.now) j [])) c.loop-i.parts.numbers i c.see-seen.result.number
-          (omega (arith, c.loop-i.invariant.number_room, c.requires.few, c.loop-i-test.true)) c.loop-i.invariant.numbers (c.see-seen.ensures.number ∙ ap (named_number c.args.graph.now place) c.word.ensures);
-      values = set_next (λ j. placed_value (slice_index_or c.args.places.now j places.User) (slice_index_or (contents c.args.words.now) j [])) c.loop-i.parts.values i c.see-seen.result.value
-          (omega (arith, c.loop-i.invariant.value_room, c.requires.few, c.loop-i-test.true)) c.loop-i.invariant.values (c.see-seen.ensures.value ∙ ap (placed_value place) c.word.ensures);
-      misnamed = any_next (λ (p : Placed). misnamed p.0 p.1) c.loop-i.faults.misnamed c.with-faults.result.misnamed c.see-seen.result.misnamed ps i _ c.loop-i.invariant.misnamed next (c.see-seen.ensures.misnamed ∙ ap (λ w. misnamed (as_place place) w) c.word.ensures) c.with-faults.ensures.misnamed;
-      twice = any_next (λ (p : Placed). twice c.args.graph.now p.0 p.1) c.loop-i.faults.twice c.with-faults.result.twice c.see-seen.result.twice ps i _ c.loop-i.invariant.twice next (c.see-seen.ensures.twice ∙ ap (λ w. twice c.args.graph.now (as_place place) w) c.word.ensures) c.with-faults.ensures.twice;
-      unknown = any_next (λ (p : Placed). unknown c.args.graph.now p.0 p.1) c.loop-i.faults.unknown c.with-faults.result.unknown c.see-seen.result.unknown ps i _ c.loop-i.invariant.unknown next (c.see-seen.ensures.unknown ∙ ap (λ w. unknown c.args.graph.now (as_place place) w) c.word.ensures) c.with-faults.ensures.unknown;
-      unlike = any_next (λ (p : Placed). unlike c.args.graph.now p.0 p.1) c.loop-i.faults.unlike c.with-faults.result.unlike c.see-seen.result.unlike ps i _ c.loop-i.invariant.unlike next (c.see-seen.ensures.unlike ∙ ap (λ w. unlike c.args.graph.now (as_place place) w) c.word.ensures) c.with-faults.ensures.unlike;
-      misnumbered = any_next (λ (p : Placed). misnumbered p.0 p.1) c.loop-i.faults.misnumbered c.with-faults.result.misnumbered c.see-seen.result.misnumbered ps i _ c.loop-i.invariant.misnumbered next (c.see-seen.ensures.misnumbered ∙ ap (λ w. misnumbered (as_place place) w) c.word.ensures) c.with-faults.ensures.misnumbered;
+      numbers = set_next (λ j. named_number c.args.graph.now (as_place (slice_index_or c.args.places.now j places.User)) (slice_index_or (contents c.args.words.now) j [])) c.loop-i.parts.numbers i c.see-seen.result.number
+          (omega (arith, c.loop-i.invariant.number_room, c.requires.few, c.loop-i-test.true)) c.loop-i.invariant.numbers (c.see-seen.ensures.number ∙ ap (named_number c.args.graph.now (as_place place)) c.word.ensures);
+      values = set_next (λ j. placed_value (as_place (slice_index_or c.args.places.now j places.User)) (slice_index_or (contents c.args.words.now) j [])) c.loop-i.parts.values i c.see-seen.result.value
+          (omega (arith, c.loop-i.invariant.value_room, c.requires.few, c.loop-i-test.true)) c.loop-i.invariant.values (c.see-seen.ensures.value ∙ ap (placed_value (as_place place)) c.word.ensures);
+      misnamed = any_next (λ (p : Placed). misnamed p.0 p.1) c.loop-i.faults.misnamed c.with-faults.result.misnamed c.see-seen.result.faults.misnamed ps i _ c.loop-i.invariant.misnamed next (c.see-seen.ensures.misnamed ∙ ap (λ w. misnamed (as_place place) w) c.word.ensures) c.with-faults.ensures.misnamed;
+      twice = any_next (λ (p : Placed). twice c.args.graph.now p.0 p.1) c.loop-i.faults.twice c.with-faults.result.twice c.see-seen.result.faults.twice ps i _ c.loop-i.invariant.twice next (c.see-seen.ensures.twice ∙ ap (λ w. twice c.args.graph.now (as_place place) w) c.word.ensures) c.with-faults.ensures.twice;
+      unknown = any_next (λ (p : Placed). unknown c.args.graph.now p.0 p.1) c.loop-i.faults.unknown c.with-faults.result.unknown c.see-seen.result.faults.unknown ps i _ c.loop-i.invariant.unknown next (c.see-seen.ensures.unknown ∙ ap (λ w. unknown c.args.graph.now (as_place place) w) c.word.ensures) c.with-faults.ensures.unknown;
+      unlike = any_next (λ (p : Placed). unlike c.args.graph.now p.0 p.1) c.loop-i.faults.unlike c.with-faults.result.unlike c.see-seen.result.faults.unlike ps i _ c.loop-i.invariant.unlike next (c.see-seen.ensures.unlike ∙ ap (λ w. unlike c.args.graph.now (as_place place) w) c.word.ensures) c.with-faults.ensures.unlike;
+      misnumbered = any_next (λ (p : Placed). misnumbered p.0 p.1) c.loop-i.faults.misnumbered c.with-faults.result.misnumbered c.see-seen.result.faults.misnumbered ps i _ c.loop-i.invariant.misnumbered next (c.see-seen.ensures.misnumbered ∙ ap (λ w. misnumbered (as_place place) w) c.word.ensures) c.with-faults.ensures.misnumbered;
     }
 
 pub returns : goal.returns

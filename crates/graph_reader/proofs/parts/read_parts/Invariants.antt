@@ -3,7 +3,7 @@ use Rattle.std.specs.Prelude.{slice_index, slice_index_or}
 use Rattle.basics.specs.Words.{contents}
 use Rattle.graph_model.specs.declared.graph.table.TheConstants.{MOST_PLACES}
 use Rattle.graph_model.specs.declared.graph.table.Place.TheVariants as places
-use Rattle.graph_reader.specs.Draft.{Placed}
+use Rattle.graph_reader.specs.Draft.{Placed, as_place}
 use Rattle.graph_reader.specs.FirstFault.{misnamed, twice, unknown, unlike, misnumbered}
 use Rattle.graph_reader.specs.Kinds.{named_number, placed_value, words_in}
 use Rattle.graph_reader.proofs.SeenWords.{AnySoFar}
@@ -13,8 +13,8 @@ abbrev pub invariant-loop-i : goal.invariant-loop-i
 invariant-loop-i l = record {
   number_room : length l.parts.numbers ≡ MOST_PLACES;
   value_room : length l.parts.values ≡ MOST_PLACES;
-  numbers : (j : ℕ) → j < l.i → slice_index l.parts.numbers j ≡ named_number l.graph (slice_index_or l.places j places.User) (slice_index_or (contents l.words) j []);
-  values : (j : ℕ) → j < l.i → slice_index l.parts.values j ≡ placed_value (slice_index_or l.places j places.User) (slice_index_or (contents l.words) j []);
+  numbers : (j : ℕ) → j < l.i → slice_index l.parts.numbers j ≡ named_number l.graph (as_place (slice_index_or l.places j places.User)) (slice_index_or (contents l.words) j []);
+  values : (j : ℕ) → j < l.i → slice_index l.parts.values j ≡ placed_value (as_place (slice_index_or l.places j places.User)) (slice_index_or (contents l.words) j []);
   misnamed : AnySoFar (λ (p : Placed). misnamed p.0 p.1) l.faults.misnamed (words_in l.places (contents l.words)) l.i;
   twice : AnySoFar (λ (p : Placed). twice l.graph p.0 p.1) l.faults.twice (words_in l.places (contents l.words)) l.i;
   unknown : AnySoFar (λ (p : Placed). unknown l.graph p.0 p.1) l.faults.unknown (words_in l.places (contents l.words)) l.i;

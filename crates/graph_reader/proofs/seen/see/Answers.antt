@@ -1,9 +1,10 @@
 use Rattle.std.proofs.Common.{sym, subst}
+use Rattle.graph_reader.specs.Draft.{as_place}
 use Rattle.graph_reader.specs.Kinds.{Tells}
 use Rattle.graph_reader.proofs.seen.see.Goals as goal
 
 pub returns-in-Column : goal.returns-in-Column
-returns-in-Column c = subst (λ p. Tells c.args.graph.now p c.args.word.now c.see_column.result) (sym c.in-Column.is) (c.see_column.ensures _ _)
+returns-in-Column c = subst (λ p. Tells c.args.graph.now (as_place p) c.args.word.now c.see_column.result) (sym c.in-Column.is) c.see_column.ensures
 
 pub returns-in-Value : goal.returns-in-Value
-returns-in-Value c = subst (λ p. Tells c.args.graph.now p c.args.word.now c.see_value.result) (sym c.in-Value.is) (c.see_value.ensures c.args.graph.now)
+returns-in-Value c = subst (λ p. Tells c.args.graph.now (as_place p) c.args.word.now c.see_value.result) (sym c.in-Value.is) (c.see_value.ensures c.args.graph.now)

@@ -1,0 +1,29 @@
+use Rattle.std.proofs.Common.{◌≡◌, Bool, List, ℕ, Bor, inr, map, sym, ◌∙◌, ap}
+use Rattle.std.specs.Prelude.{None}
+use Rattle.graph_model.specs.declared.graph.verb.Line.{Line}
+use Rattle.graph_model.specs.graph.Fits.{line_fault}
+use Rattle.graph_reader.specs.Merges.{merge_verb, merge_line}
+use Rattle.graph_reader.proofs.MergeFaults.{merge_refused, lines_twice, lines_fault}
+use Rattle.graph_reader.proofs.merges.read_lines.Goals as goal
+
+abbrev line_with : List ℕ → Bool → List ℕ → Line
+line_with name ignores numbers = record { name = name; verb = merge_verb ignores numbers; on = None }
+
+pub returns-in-Ok-true : goal.returns-in-Ok-true
+returns-in-Ok-true c =
+    let ws = map (λ (w : Bor (List ℕ)). w.now) c.args.words.now in
+    merge_refused c.args.graph.now c.args.name (merge_verb c.args.ignores) ws _ c.requires.named (lines_twice c.args.graph.now c.args.name ws c.decls.ensures.is_graph c.requires.lines (c.in-Ok-true.ensures c.in-Ok-true.field-0-test))
+
+pub returns-in-Ok-fitting_line : goal.returns-in-Ok-fitting_line
+returns-in-Ok-fitting_line c =
+    let ws = map (λ (w : Bor (List ℕ)). w.now) c.args.words.now in
+    let same : c.in-Ok.line ≡ merge_line c.args.graph.now c.args.ignores c.args.name ws = c.in-Ok.ensures ∙ ap (line_with c.args.name c.args.ignores) c.requires.numbers in (
+      lines_fault c.args.graph.now c.args.name ws c.decls.ensures.is_graph c.requires.lines c.args.ignores c.requires.named ∙ (ap (line_fault c.args.graph.now) (sym same) ∙ c.in-Ok-fitting_line.ensures.1),
+      ap inr (sym (c.in-Ok-fitting_line.ensures.0 ∙ same)),
+    )
+
+pub returns-in-Err-fitting_line : goal.returns-in-Err-fitting_line
+returns-in-Err-fitting_line c =
+    let ws = map (λ (w : Bor (List ℕ)). w.now) c.args.words.now in
+    let same : c.in-Ok.line ≡ merge_line c.args.graph.now c.args.ignores c.args.name ws = c.in-Ok.ensures ∙ ap (line_with c.args.name c.args.ignores) c.requires.numbers in
+    lines_fault c.args.graph.now c.args.name ws c.decls.ensures.is_graph c.requires.lines c.args.ignores c.requires.named ∙ (ap (line_fault c.args.graph.now) (sym same) ∙ c.in-Err-fitting_line.ensures)
