@@ -153,7 +153,7 @@ impl Graph {
     /// Puts a line at the end, where it fits; else the first reason that refuses it, and the graph
     /// stays as it was. `NoMemory` leaves it so too.
     pub fn offer_line(&mut self, line: Line) -> Result<Option<Why>, NoMemory>
-        requires { IsLine line }
+        requires { line_fault self.old line ≡ None → IsLine line }
         ensures fault { IfOk result (λ why. why ≡ line_fault self.old line) }
         ensures added { OnOk result (line_fault self.old line ≡ None → self.new ≡ with_line self.old line) }
         ensures stays { IfOk result (λ why. IfSome why (λ w. self.new ≡ self.old)) }

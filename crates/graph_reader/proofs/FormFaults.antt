@@ -140,9 +140,8 @@ module _ (g : GraphValue) (kind : Kind) (name : List ℕ) (ws : List (List ℕ))
   left_fault : is_name name ≡ true → form_reason g kind name ws ≡ cond (is_used g name) (Some why.Twice) None → draft_fault g (kind_draft g kind name ws) ≡ line_fault g (kind_line g kind name ws)
   left_fault n h = ap (λ r. or_else r (line_fault g (kind_line g kind name ws))) (reason_is n ∙ h) ∙ used_first (is_used g name) _ _
 
-  pub judged : (line : Line) (r : Result Line Why) → is_name name ≡ true → form_reason g kind name ws ≡ cond (is_used g name) (Some why.Twice) None → line ≡ kind_line g kind name ws → IsJudged g line r → IsReading g (kind_draft g kind name ws) r
-  judged line (Ok l) n h e j = (left_fault n h ∙ (ap (line_fault g) (sym e) ∙ j.1), ap inr (sym e) ∙ ap inr (sym j.0))
-  judged line (Err w) n h e j = left_fault n h ∙ (ap (line_fault g) (sym e) ∙ j)
+  pub read_as : (line : Line) → is_name name ≡ true → form_reason g kind name ws ≡ cond (is_used g name) (Some why.Twice) None → line ≡ kind_line g kind name ws → IsReading g (kind_draft g kind name ws) (Ok line)
+  read_as line n h e = (left_fault n h ∙ ap (line_fault g) (sym e), ap inr (sym e))
 
   module _ (f : Faults) (tell : AllTell g (form_placed kind ws) f) where
     later_is : first_reason ((fails (unknown g) (form_placed kind ws), why.Unknown) ∷ (fails (unlike g) (form_placed kind ws), why.Kind) ∷ (fails misnumbered (form_placed kind ws), why.Number) ∷ []) ≡ later_reason f

@@ -199,7 +199,7 @@ decl_item (Err e) = Err e
 
 -- an item, by its value
 abbrev pub IsItemRead : GraphValue → List (List ℕ) → Result (Decl ⊎ Line) ItemError → Type 0
-IsItemRead g ws (Ok i) = (words_fault g ws ≡ None) × (drafted : Draft) × (draft g ws ≡ Some drafted) × (drafted.item ≡ i)
+IsItemRead g ws (Ok i) = (words_fault g ws ≡ open_fault g i) × (drafted : Draft) × (draft g ws ≡ Some drafted) × (drafted.item ≡ i)
 IsItemRead g ws (Err e) = IsWordsError g ws e
 
 pub syntax_fault : (g : GraphValue) (ws : List (List ℕ)) → list_any is_empty ws ≡ false → draft g ws ≡ None → words_fault g ws ≡ Some why.Syntax

@@ -119,12 +119,7 @@ IsFormFault g kind name ws None = form_reason g kind name ws ≡ cond (is_used g
 abbrev pub kind_line : GraphValue → Kind → List ℕ → List (List ℕ) → Line
 kind_line g kind name ws = record { name = name; verb = kind_verb g kind ws; on = kind_on g kind ws }
 
--- a line where it fits, or the first reason that refuses it
-abbrev pub IsJudged : GraphValue → Line → Result Line Why → Type 0
-IsJudged g line (Ok l) = (l ≡ line) × (line_fault g line ≡ None)
-IsJudged g line (Err w) = line_fault g line ≡ Some w
-
 -- what the words in their places and what they spell are read as
 abbrev pub IsReading : GraphValue → Draft → Result Line Why → Type 0
-IsReading g d (Ok l) = (draft_fault g d ≡ None) × (d.item ≡ inr l)
+IsReading g d (Ok l) = (draft_fault g d ≡ line_fault g l) × (d.item ≡ inr l)
 IsReading g d (Err w) = draft_fault g d ≡ Some w

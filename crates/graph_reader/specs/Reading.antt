@@ -42,10 +42,20 @@ abbrev pub with_value : GraphValue → Decl ⊎ Line → GraphValue
 with_value g (inl d) = with_decl g d
 with_value g (inr l) = with_line g l
 
--- the item fits after this graph
-abbrev pub FitsAfter : GraphValue → Decl ⊎ Line → Type 0
-FitsAfter g (inl d) = IsDecl d × (g.lines ≡ []) × (decl_fault g d ≡ None)
-FitsAfter g (inr l) = IsLine l × (line_fault g l ≡ None)
+-- the reason that is still open once an item was read: of a declaration there is none
+abbrev pub open_fault : GraphValue → Decl ⊎ Line → Option Why
+open_fault g (inl d) = None
+open_fault g (inr l) = line_fault g l
+
+-- the item fits after this graph, unless a reason is open
+abbrev pub MayFollow : GraphValue → Decl ⊎ Line → Type 0
+MayFollow g (inl d) = IsDecl d × (g.lines ≡ []) × (decl_fault g d ≡ None)
+MayFollow g (inr l) = line_fault g l ≡ None → IsLine l
+
+-- the reason that was open of an item
+abbrev pub IsOpenError : GraphValue → Decl ⊎ Line → ItemError → Type 0
+IsOpenError g i (errors.Refused w) = open_fault g i ≡ Some w
+IsOpenError g i errors.NoMemory = Unit {0}
 
 -- what the words of a declaration in their places are read as
 abbrev pub IsDeclRead : GraphValue → Draft → Result Decl ItemError → Type 0
@@ -53,9 +63,9 @@ IsDeclRead g d (Ok x) = (draft_fault g d ≡ None) × (d.item ≡ inl x)
 IsDeclRead g d (Err (errors.Refused w)) = draft_fault g d ≡ Some w
 IsDeclRead g d (Err errors.NoMemory) = Unit {0}
 
--- what the words of a line in their places are read as
+-- what the words of a line in their places are read as: a line of which the graph itself may still say a reason
 abbrev pub IsLineRead : GraphValue → Draft → Result Line ItemError → Type 0
-IsLineRead g d (Ok l) = (draft_fault g d ≡ None) × (d.item ≡ inr l)
+IsLineRead g d (Ok l) = (draft_fault g d ≡ line_fault g l) × (d.item ≡ inr l)
 IsLineRead g d (Err (errors.Refused w)) = draft_fault g d ≡ Some w
 IsLineRead g d (Err errors.NoMemory) = Unit {0}
 
@@ -119,8 +129,12 @@ IsWordsError g ws errors.NoMemory = Unit {0}
 
 -- what words are read as
 abbrev pub IsWordsItem : GraphValue → List (List ℕ) → Result Item ItemError → Type 0
-IsWordsItem g ws (Ok i) = (words_fault g ws ≡ None) × (drafted : Draft) × (draft g ws ≡ Some drafted) × (drafted.item ≡ item_value i)
+IsWordsItem g ws (Ok i) = (words_fault g ws ≡ open_fault g (item_value i)) × (drafted : Draft) × (draft g ws ≡ Some drafted) × (drafted.item ≡ item_value i)
 IsWordsItem g ws (Err e) = IsWordsError g ws e
+
+-- the words spell an item that fits, and this is the graph with it at its end
+abbrev pub IsTaken : GraphValue → List (List ℕ) → GraphValue → Type 0
+IsTaken g ws new = (words_fault g ws ≡ None) × (drafted : Draft) × (draft g ws ≡ Some drafted) × (new ≡ with_value g drafted.item)
 
 -- the words are those of an operation line
 abbrev pub is_operation : List (List ℕ) → Bool

@@ -7,7 +7,7 @@ ghost use Rattle.std.specs.Str.{bytes_eq};
 ghost use Rattle.graph_model.specs.graph.Fits.{repeats};
 ghost use Rattle.graph_model.specs.graph.Table.{is_column, parts_of};
 ghost use Rattle.graph_reader.specs.Draft.{form_of, number_in};
-ghost use Rattle.graph_reader.specs.Kinds.{words_in, kind_placed, form_placed, AllTell, column_words, kind_draft, kind_on, later_reason, HasPlaces, IsFormFault, IsReading, IsJudged};
+ghost use Rattle.graph_reader.specs.Kinds.{words_in, kind_placed, form_placed, AllTell, column_words, kind_draft, kind_on, later_reason, HasPlaces, IsFormFault, IsReading};
 
 use crate::faults::Faults;
 use crate::lookup::stands_for;
@@ -149,17 +149,7 @@ fn form_fault(
     Some(later)
 }
 
-/// The line, where it fits after the graph.
-pub(crate) fn fitting_line(graph: &Graph, line: Line) -> Result<Line, Why>
-    ensures { IsJudged graph.now line result }
-{
-    match graph.line_fault(&line) {
-        Some(why) => Err(why),
-        None => Ok(line),
-    }
-}
-
-/// The operation line of a kind with this name and these words.
+/// The operation line of a kind with this name and these words, of which the graph itself may still say a reason.
 pub(crate) fn read_form(
     graph: &Graph,
     kind: Kind,
@@ -176,10 +166,9 @@ pub(crate) fn read_form(
     if let Some(why) = form_fault(graph, kind, &name, words, seen.faults) {
         return Err(why);
     }
-    let line = Line {
+    Ok(Line {
         name,
         verb: Verb::of(kind, &seen.parts),
         on: seen.on,
-    };
-    fitting_line(graph, line)
+    })
 }

@@ -10,7 +10,6 @@ ghost use Rattle.graph_reader.specs.Draft.{line_number, merge_with};
 ghost use Rattle.graph_reader.specs.Merges.{merge_verb, merge_reason, all_lines, IsMergeError};
 ghost use Rattle.graph_reader.specs.Reading.{IsLineRead};
 
-use crate::forms::fitting_line;
 use crate::item::ItemError;
 use crate::lookup::{line, look_up, stands_for};
 use crate::names::{has_repeat, names_of};
@@ -134,12 +133,9 @@ fn read_lines(
         Ok(true) => return Err(ItemError::Refused(Why::Twice)),
         Err(_) => return Err(ItemError::NoMemory),
     }
-    let Ok(line) = merged(ignores, name, numbers) else {
-        return Err(ItemError::NoMemory);
-    };
-    match fitting_line(graph, line) {
+    match merged(ignores, name, numbers) {
         Ok(line) => Ok(line),
-        Err(why) => Err(ItemError::Refused(why)),
+        Err(_) => Err(ItemError::NoMemory),
     }
 }
 

@@ -1,8 +1,9 @@
 //! Reading a graph from its text.
 
-ghost use Rattle.std.specs.Prelude.{◌≡◌, OnOk, OnErr, IfOk, IfErr};
+ghost use Rattle.std.specs.Prelude.{◌≡◌, None, OnOk, IfOk, IfErr};
+ghost use Rattle.graph_reader.specs.Words.{pieces};
 ghost use Rattle.graph_reader.specs.Text.{GraphText};
-ghost use Rattle.graph_reader.specs.Reading.{item_value, with_value, FitsAfter, IsRefusal};
+ghost use Rattle.graph_reader.specs.Reading.{item_value, with_value, open_fault, MayFollow, IsOpenError, IsTaken, IsWordsError, IsRefusal};
 
 use crate::ReadRefusal;
 use crate::cuts::cut;
@@ -10,21 +11,37 @@ use crate::item::{Item, ItemError};
 use crate::lines::read_item;
 use graph_model::graph::Graph;
 use graph_model::why::Why;
-use index_spaces::NoMemory;
 use std::alloc::Global;
 
 /// The bytes that a text may have.
 const MAX_BYTES: usize = 1_048_576;
 
-/// Puts an item that fits at the end.
-fn add_item(graph: &mut Graph, item: Item) -> Result<(), NoMemory>
-    requires { FitsAfter graph.old (item_value item) }
-    ensures { OnOk result (graph.new ≡ with_value graph.old (item_value item)) }
+/// Puts an item at the end, where it fits.
+fn add_item(graph: &mut Graph, item: Item) -> Result<(), ItemError>
+    requires { MayFollow graph.old (item_value item) }
+    ensures added { OnOk result ((open_fault graph.old (item_value item) ≡ None) × (graph.new ≡ with_value graph.old (item_value item))) }
+    ensures refused { IfErr result (IsOpenError graph.old (item_value item)) }
 {
     match item {
-        Item::Decl(decl) => graph.add_decl(decl),
-        Item::Line(line) => graph.add_line(line),
+        Item::Decl(decl) => match graph.add_decl(decl) {
+            Ok(()) => Ok(()),
+            Err(_) => Err(ItemError::NoMemory),
+        },
+        Item::Line(line) => match graph.offer_line(line) {
+            Ok(None) => Ok(()),
+            Ok(Some(why)) => Err(ItemError::Refused(why)),
+            Err(_) => Err(ItemError::NoMemory),
+        },
     }
+}
+
+/// Puts what a line of the text spells at the end.
+fn take_line(alloc: Global, graph: &mut Graph, line: &[u8]) -> Result<(), ItemError>
+    ensures taken { OnOk result (IsTaken graph.old (pieces 32 line.now) graph.new) }
+    ensures refused { IfErr result (IsWordsError graph.old (pieces 32 line.now)) }
+{
+    let item = read_item(alloc, graph, line)?;
+    add_item(graph, item)
 }
 
 /// The graph whose text the bytes are. `Line` exactly where they are no graph's text: the first
@@ -58,11 +75,8 @@ pub fn read_graph(alloc: Global, bytes: &[u8]) -> Result<Graph, ReadRefusal>
             }
             return Ok(graph);
         }
-        match read_item(alloc, &graph, line) {
-            Ok(item) => match add_item(&mut graph, item) {
-                Ok(()) => {}
-                Err(_) => return Err(ReadRefusal::NoMemory),
-            },
+        match take_line(alloc, &mut graph, line) {
+            Ok(()) => {}
             Err(ItemError::Refused(why)) => {
                 return Err(ReadRefusal::Line { number, why });
             }
