@@ -41,6 +41,7 @@ pub fn read_graph(alloc: Global, bytes: &[u8]) -> Result<Graph, ReadRefusal>
         });
     };
     let mut graph = Graph::new(alloc);
+    let mut words = Vec::new(alloc);
     let mut number: u32 = 2;
     while let Some((line, after)) = cut(rest, b'\n') {
         if line == b"end".as_slice() {
@@ -58,7 +59,7 @@ pub fn read_graph(alloc: Global, bytes: &[u8]) -> Result<Graph, ReadRefusal>
             }
             return Ok(graph);
         }
-        match read_item(alloc, &graph, line) {
+        match read_item(alloc, &graph, &mut words, line) {
             Ok(item) => match add_item(&mut graph, item) {
                 Ok(()) => {}
                 Err(_) => return Err(ReadRefusal::NoMemory),
