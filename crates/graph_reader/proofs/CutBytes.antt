@@ -1,6 +1,8 @@
 -- Where a loop over bytes stops at the first byte that is sought, and what the pieces are there.
-use Rattle.std.proofs.Common.{◌≡◌, ℕ, zero, suc, ◌+◌, ◌-◌, ◌<◌, true, false, List, [], ◌∷◌, length, take, drop, get_or, sym, ◌∙◌, ap, refl, Bool, cond, length-drop, take_all, arith}
-use Rattle.std.specs.Prelude.{◌==◌, Some, None}
+use Rattle.std.proofs.Common.{◌≡◌, ℕ, zero, suc, ◌+◌, ◌-◌, ◌<◌, true, false, List, [], ◌∷◌, length, take, drop, get_or, sym, ◌∙◌, ap, refl, Bool, cond, length-drop, take_all, arith, ◌++◌, Bor}
+use Rattle.std.specs.Prelude.{◌==◌, Some, None, Result, Ok, Err, OnOk}
+use Rattle.basics.specs.Words.{contents}
+use Rattle.std.proofs.lemmas.List.{append_assoc, map-append}
 use Rattle.std.specs.List.{list_any, onto_first, position_or_len, after_first}
 use Rattle.std.proofs.lemmas.Bool.{ne_eqb, eq-eqb, or_from, or_left, or_right, or_parts, cond-false}
 use Rattle.std.proofs.lemmas.List.Sums.{position_or_len_is}
@@ -64,3 +66,18 @@ are_two c bs front back h n = ap two_pieces (pieces_cut c bs front back h ∙ ap
 pub more_than_two : (c : ℕ) (bs front back one other : List ℕ) → IsCut c bs front back → IsCut c back one other → two_pieces (pieces c bs) ≡ None
 more_than_two c bs front back one other h k = let s = some_pieces c other in
     ap two_pieces (pieces_cut c bs front back h ∙ ap (λ x. front ∷ x) (pieces_cut c back one other k ∙ ap (λ x. one ∷ x) s.2))
+
+-- one word more is cut off
+pub word_cut : (c : ℕ) (ws more : List (Bor (List ℕ))) (w : Bor (List ℕ)) (rest back all : List ℕ) → more ≡ ws ++ w ∷ [] → IsCut c rest w.now back → contents ws ++ pieces c rest ≡ pieces c all → contents more ++ pieces c back ≡ pieces c all
+word_cut c ws more w rest back all e h k =
+    ap (λ x. contents x ++ pieces c back) e
+    ∙ (ap (λ x. x ++ pieces c back) (map-append (λ (x : Bor (List ℕ)). x.now) ws (w ∷ []))
+    ∙ (append_assoc (contents ws) (w.now ∷ []) (pieces c back) ∙ (ap (λ x. contents ws ++ x) (sym (pieces_cut c rest w.now back h)) ∙ k)))
+
+pub last_word : (c : ℕ) (ws more : List (Bor (List ℕ))) (w : Bor (List ℕ)) (all : List ℕ) → list_any (λ b. b == c) w.now ≡ false → contents ws ++ pieces c w.now ≡ pieces c all → more ≡ ws ++ w ∷ [] → contents more ≡ pieces c all
+last_word c ws more w all h k e =
+    ap contents e ∙ (map-append (λ (x : Bor (List ℕ)). x.now) ws (w ∷ []) ∙ (ap (λ x. contents ws ++ x) (sym (one_piece c w.now h)) ∙ k))
+
+pub last_by : {E : Type 0} {P Q : Type 0} (r : Result (Unit {0}) E) → (P → Q) → OnOk r P → OnOk r Q
+last_by (Ok x) f h = f h
+last_by (Err e) f h = tt

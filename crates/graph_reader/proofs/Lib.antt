@@ -26,5 +26,4 @@ pub mod MergeFaults
 pub mod LineShapes
 pub mod ItemReads
 pub mod WrittenLists
-pub mod Extended
 pub mod SeenWords

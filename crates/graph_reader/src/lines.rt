@@ -15,7 +15,7 @@ use crate::decls::{read_barrier, read_inst, read_lock, read_space};
 use crate::forms::read_form;
 use crate::item::{Item, ItemError};
 use crate::merges::read_merge;
-use crate::words::{behind, kind_of, split, word};
+use crate::words::{behind, kind_of, split_into, word};
 use graph_model::decl::Decl;
 use graph_model::graph::Graph;
 use graph_model::table::Kind;
@@ -203,12 +203,17 @@ fn read_words(alloc: Global, graph: &Graph, words: &[&[u8]]) -> Result<Item, Ite
     declaration(alloc, graph, words)
 }
 
-/// The item that a line spells.
-pub(crate) fn read_item(alloc: Global, graph: &Graph, line: &[u8]) -> Result<Item, ItemError>
+/// The item that a line spells. Its words are put into a list that is kept from line to line.
+pub(crate) fn read_item<'a>(
+    alloc: Global,
+    graph: &Graph,
+    words: &mut Vec<&'a [u8]>,
+    line: &'a [u8],
+) -> Result<Item, ItemError>
     ensures { IsWordsItem graph.now (pieces 32 line.now) result }
 {
-    let Ok(words) = split(alloc, line, b' ') else {
+    let Ok(()) = split_into(words, line, b' ') else {
         return Err(ItemError::NoMemory);
     };
-    read_words(alloc, graph, &words)
+    read_words(alloc, graph, words.as_slice())
 }

@@ -35,12 +35,17 @@ fn add_item(graph: &mut Graph, item: Item) -> Result<(), ItemError>
     }
 }
 
-/// Puts what a line of the text spells at the end.
-fn take_line(alloc: Global, graph: &mut Graph, line: &[u8]) -> Result<(), ItemError>
+/// Puts what a line of the text spells at the end. The list serves for its words.
+fn take_line<'a>(
+    alloc: Global,
+    graph: &mut Graph,
+    words: &mut Vec<&'a [u8]>,
+    line: &'a [u8],
+) -> Result<(), ItemError>
     ensures taken { OnOk result (IsTaken graph.old (pieces 32 line.now) graph.new) }
     ensures refused { IfErr result (IsWordsError graph.old (pieces 32 line.now)) }
 {
-    let item = read_item(alloc, graph, line)?;
+    let item = read_item(alloc, graph, words, line)?;
     add_item(graph, item)
 }
 
@@ -58,6 +63,7 @@ pub fn read_graph(alloc: Global, bytes: &[u8]) -> Result<Graph, ReadRefusal>
         });
     };
     let mut graph = Graph::new(alloc);
+    let mut words = Vec::new(alloc);
     let mut number: u32 = 2;
     while let Some((line, after)) = cut(rest, b'\n') {
         if line == b"end".as_slice() {
@@ -75,7 +81,7 @@ pub fn read_graph(alloc: Global, bytes: &[u8]) -> Result<Graph, ReadRefusal>
             }
             return Ok(graph);
         }
-        match take_line(alloc, &mut graph, line) {
+        match take_line(alloc, &mut graph, &mut words, line) {
             Ok(()) => {}
             Err(ItemError::Refused(why)) => {
                 return Err(ReadRefusal::Line { number, why });

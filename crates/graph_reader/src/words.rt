@@ -1,31 +1,41 @@
 //! Words of a line.
 
 ghost use Rattle.basics.specs.Words.{contents};
-ghost use Rattle.std.specs.Prelude.{◌≡◌, ◌≤◌, length, drop, map, ◌==◌, find, IfOk, IfSome, MatchOption, [], slice_index_or, option_map, option_copied};
+ghost use Rattle.std.specs.Prelude.{◌≡◌, ◌≤◌, length, drop, map, ◌==◌, find, OnOk, IfOk, IfSome, MatchOption, [], slice_index_or, option_map, option_copied};
 ghost use Rattle.graph_reader.specs.Words.{pieces};
 ghost use Rattle.graph_reader.specs.Draft.{form_of, is_of_form, same_word, has_on};
 ghost use Rattle.std.specs.List.{list_any, starts_with};
 
+use crate::cuts::cut;
 use graph_model::table::{KINDS, Kind};
 use index_spaces::NoMemory;
-use index_spaces::room::with_room;
+use index_spaces::room::push;
 use std::alloc::Global;
 
-/// How many pieces bytes have between the separators.
-fn piece_count(bytes: &[u8], separator: u8) -> usize {
-    let separators = bytes.iter().filter(|b| **b == separator).count();
-    separators.saturating_add(1)
+/// Puts the pieces of bytes between the separators into a list, in place of what it held.
+pub(crate) fn split_into<'a>(
+    words: &mut Vec<&'a [u8]>,
+    bytes: &'a [u8],
+    separator: u8,
+) -> Result<(), NoMemory>
+    ensures { OnOk result (contents words.new.items ≡ pieces separator bytes.now) }
+{
+    words.clear();
+    let mut rest = bytes;
+    while let Some((word, after)) = cut(rest, separator) {
+        push(words, word)?;
+        rest = after;
+    }
+    push(words, rest)
 }
 
-/// The pieces of bytes between the separators. All its room is asked for at once, so that a refusal ends it.
+/// The pieces of bytes between the separators.
 pub(crate) fn split(alloc: Global, bytes: &[u8], separator: u8) -> Result<Vec<&[u8]>, NoMemory>
     ensures { IfOk result (λ v. contents v.items ≡ pieces separator bytes.now) }
 {
-    let mut words = with_room(alloc, piece_count(bytes, separator))?;
-    match words.extend(bytes.split(|b| *b == separator)) {
-        Ok(()) => Ok(words),
-        Err(_) => Err(NoMemory),
-    }
+    let mut words = Vec::new(alloc);
+    split_into(&mut words, bytes, separator)?;
+    Ok(words)
 }
 
 /// The word at a place, or no byte where there is none.
@@ -77,9 +87,8 @@ fn is_of_kind(words: &[&[u8]], kind: Kind) -> bool
     ensures { result ≡ is_of_form (contents words.now) (form_of kind) }
 {
     let fixed = kind.words();
-    let places = place_count(kind);
     begins(words, fixed)
-        && (words.len() == fixed.len() + places || has_on(kind, &words[fixed.len()..]))
+        && (words.len() == fixed.len() + place_count(kind) || has_on(kind, &words[fixed.len()..]))
 }
 
 /// The kind of the words behind the sign.

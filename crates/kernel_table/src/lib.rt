@@ -1,4 +1,4 @@
-//! The eight kernels, over columns that are held.
+//! The kernels, over columns that are held.
 #![tactic(auto)]
 
 ghost use Rattle.std.specs.Prelude.{◌≡◌};

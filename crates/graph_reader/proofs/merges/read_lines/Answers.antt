@@ -14,16 +14,10 @@ returns-in-Ok-true c =
     let ws = map (λ (w : Bor (List ℕ)). w.now) c.args.words.now in
     merge_refused c.args.graph.now c.args.name (merge_verb c.args.ignores) ws _ c.requires.named (lines_twice c.args.graph.now c.args.name ws c.decls.ensures.is_graph c.requires.lines (c.in-Ok-true.ensures c.in-Ok-true.field-0-test))
 
-pub returns-in-Ok-fitting_line : goal.returns-in-Ok-fitting_line
-returns-in-Ok-fitting_line c =
+pub returns-in-Ok : goal.returns-in-Ok
+returns-in-Ok c =
     let ws = map (λ (w : Bor (List ℕ)). w.now) c.args.words.now in
     let same : c.in-Ok.line ≡ merge_line c.args.graph.now c.args.ignores c.args.name ws = c.in-Ok.ensures ∙ ap (line_with c.args.name c.args.ignores) c.requires.numbers in (
-      lines_fault c.args.graph.now c.args.name ws c.decls.ensures.is_graph c.requires.lines c.args.ignores c.requires.named ∙ (ap (line_fault c.args.graph.now) (sym same) ∙ c.in-Ok-fitting_line.ensures.1),
-      ap inr (sym (c.in-Ok-fitting_line.ensures.0 ∙ same)),
+      lines_fault c.args.graph.now c.args.name ws c.decls.ensures.is_graph c.requires.lines c.args.ignores c.requires.named ∙ ap (line_fault c.args.graph.now) (sym same),
+      ap inr (sym same),
     )
-
-pub returns-in-Err-fitting_line : goal.returns-in-Err-fitting_line
-returns-in-Err-fitting_line c =
-    let ws = map (λ (w : Bor (List ℕ)). w.now) c.args.words.now in
-    let same : c.in-Ok.line ≡ merge_line c.args.graph.now c.args.ignores c.args.name ws = c.in-Ok.ensures ∙ ap (line_with c.args.name c.args.ignores) c.requires.numbers in
-    lines_fault c.args.graph.now c.args.name ws c.decls.ensures.is_graph c.requires.lines c.args.ignores c.requires.named ∙ (ap (line_fault c.args.graph.now) (sym same) ∙ c.in-Err-fitting_line.ensures)

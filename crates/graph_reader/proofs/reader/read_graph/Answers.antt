@@ -5,7 +5,7 @@ use Rattle.graph_reader.specs.FirstFault.{first_line}
 use Rattle.graph_reader.specs.Text.{text}
 use Rattle.graph_reader.specs.Reading.{after_line}
 use Rattle.graph_reader.proofs.ReadSoFar.{end_length, refused_end, refused_rest, read_end}
-use Rattle.graph_reader.proofs.ItemReads.{item_fits, item_read}
+use Rattle.graph_reader.proofs.ItemReads.{item_read}
 use Rattle.graph_reader.proofs.reader.read_graph.Goals as goal
 
 -- what the comparison with `end` says of the first line
@@ -41,11 +41,8 @@ returns-then-eq-clause-text c =
     let l : length (text c.loop-line.graph) ≤ 1048576 = omega arith in
     read_end c.args.bytes.now c.loop-line.graph c.loop-line.rest.now c.loop-line.number c.loop-line.invariant d.there s l (nil_from_length (after_line c.loop-line.rest.now) (sym same ∙ none))
 
-pub add_item-requires : goal.add_item-requires
-add_item-requires c = item_fits c.loop-line.graph c.in-Some-cut.line.now c.in-Ok.item c.in-Ok.ensures
-
 pub loop-line-preserved : goal.loop-line-preserved
 loop-line-preserved c =
     let d = c.in-Some-cut.ensures in
     let s : bytes_eq (first_line c.loop-line.rest.now) (codes "end") ≡ false = is_end c.in-Some-cut.line.now (first_line c.loop-line.rest.now) false (c.if-eq.ensures ∙ ap (bytes_eq c.in-Some-cut.line.now) c.as_slice-in-Some-cut.ensures) d.front_is in
-    item_read c.args.bytes.now c.loop-line.graph c.add_item.new.graph c.loop-line.rest.now c.in-Some-cut.line.now c.in-Some-cut.after.now c.loop-line.number c.in-Ok.item c.loop-line.invariant d.there d.front_is d.back_is s c.in-Ok.ensures c.in-Ok-add_item.ensures
+    item_read c.args.bytes.now c.loop-line.graph c.take_line.new.graph c.loop-line.rest.now c.in-Some-cut.line.now c.in-Some-cut.after.now c.loop-line.number c.loop-line.invariant d.there d.front_is d.back_is s c.in-Ok.ensures.taken
