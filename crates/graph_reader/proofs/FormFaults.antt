@@ -20,6 +20,7 @@ use Rattle.graph_model.specs.declared.graph.table.Place.TheVariants as places
 use Rattle.graph_model.specs.graph.Table.{kind_places}
 use Rattle.graph_reader.specs.Kinds.{kind_draft, words_in, kind_placed, form_placed, form_reason, column_words, kind_line, later_reason, AllTell, IsReading}
 use Rattle.graph_reader.specs.declared.faults.Faults.{Faults}
+use Rattle.graph_reader.proofs.NameLists.{or_true}
 use Rattle.graph_reader.proofs.Drafts.{placed_events}
 use Rattle.graph_reader.proofs.VerbForms.{no_events}
 
@@ -91,13 +92,9 @@ used_first : (u x : Bool) (r : Option Why) → or_else (cond u (Some why.Twice) 
 used_first true x r = refl
 used_first false x r = refl
 
-or_false : (b : Bool) → (b || false) ≡ b
+pub or_false : (b : Bool) → (b || false) ≡ b
 or_false true = refl
 or_false false = refl
-
-or_true : (b : Bool) → (b || true) ≡ true
-or_true true = refl
-or_true false = refl
 
 twice_by : (a u b : Bool) (r : Option Why) → a ≡ false → b ≡ true → cond a (Some why.Name) (cond (u || b) (Some why.Twice) r) ≡ Some why.Twice
 twice_by a u b r h k = ap (λ x. cond x (Some why.Name) (cond (u || b) (Some why.Twice) r)) h ∙ ap (λ x. cond x (Some why.Twice) r) (ap (λ x. u || x) k ∙ or_true u)

@@ -21,7 +21,7 @@ use Rattle.graph_reader.proofs.TextLists.{any_map, same_bytes, bytes_same}
 use Rattle.graph_reader.proofs.Owners.{owner, used_is, unused_misnamed}
 use Rattle.graph_reader.proofs.Places.{line_as}
 use Rattle.graph_reader.proofs.NameLists.{or_true}
-use Rattle.graph_reader.proofs.FormFaults.{first_fails}
+use Rattle.graph_reader.proofs.FormFaults.{first_fails, or_false}
 
 abbrev events : List (List ℕ) → List Placed
 events es = map (λ w. (EventName, w)) es
@@ -133,10 +133,6 @@ kind_by a b c d p q r s = ap (λ x. cond x (Some why.Name) (cond b (Some why.Twi
 pub kind_left : (g : GraphValue) (name : List ℕ) (es : List (List ℕ)) → list_all is_name es ≡ true → (is_used g name || repeats bytes_eq es) ≡ false → list_any (λ w. not (is_used g w)) es ≡ false → all_lines g es ≡ false → merge_reason g name es ≡ Some why.Kind
 unfolding merge_reason
 kind_left g name es p q r s = kind_by (not (list_all is_name es)) (is_used g name || repeats bytes_eq es) (list_any (λ w. not (is_used g w)) es) (list_any (λ w. not (is_line_name g w)) es) (ap not p) q r (some_fail (is_line_name g) es ∙ ap not s)
-
-or_false : (b : Bool) → (b || false) ≡ b
-or_false true = refl
-or_false false = refl
 
 module _ (g : GraphValue) (name : List ℕ) (es : List (List ℕ)) (n : IsGraph g) (lines : all_lines g es ≡ true) where
   -- what is left where all words name lines

@@ -1,16 +1,9 @@
-//! The reasons that may refuse one word in its place.
+//! Tests of one word, and of the verb of a line.
 
-ghost use Rattle.std.specs.Prelude.{◌≡◌, position, length, ◌<◌, List, ℕ, IfSome};
-ghost use Rattle.std.specs.Str.{bytes_eq};
+ghost use Rattle.std.specs.Prelude.{◌≡◌};
 ghost use Rattle.graph_model.specs.graph.Name.{is_name};
 ghost use Rattle.graph_model.specs.graph.Graph.{is_user, is_phase, is_acquire};
-ghost use Rattle.graph_model.specs.declared.graph.verb.Line.{Line};
-ghost use Rattle.graph_reader.specs.Words.{is_column};
-ghost use Rattle.graph_reader.specs.Draft.{EventName};
-ghost use Rattle.graph_reader.specs.FirstFault.{misnamed, unknown, unlike};
 
-use crate::lookup::{column_names, line, look_up};
-use graph_model::graph::Graph;
 use graph_model::name::Name;
 use graph_model::verb::Verb;
 

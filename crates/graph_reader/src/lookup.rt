@@ -1,15 +1,11 @@
 //! What words stand for.
 
-ghost use Rattle.std.specs.Prelude.{◌≡◌, ◌<◌, ℕ, not, ◌&&◌, List, length, position, IfSome};
+ghost use Rattle.std.specs.Prelude.{◌≡◌, ◌<◌, ℕ, not, List, length, position, IfSome};
 ghost use Rattle.std.specs.Str.{bytes_eq};
-ghost use Rattle.graph_model.specs.declared.graph.decl.BarrierInfo.{BarrierInfo};
 ghost use Rattle.graph_model.specs.declared.graph.verb.Line.{Line};
 ghost use Rattle.graph_model.specs.graph.Name.{is_name};
-ghost use Rattle.graph_model.specs.graph.Graph.{named_spaces, locks, barriers};
-ghost use Rattle.graph_reader.specs.Words.{pieces, is_column};
-ghost use Rattle.graph_reader.specs.Cuts.{Gives};
-ghost use Rattle.graph_reader.specs.Draft.{line_number};
-ghost use Rattle.graph_reader.specs.Lookups.{IsFound, found_space, found_lock, found_barrier, found_line, is_found_inst, column_names, column_place};
+ghost use Rattle.graph_model.specs.graph.Graph.{named_spaces};
+ghost use Rattle.graph_reader.specs.Lookups.{IsFound, found_space, found_lock, found_barrier, found_line, is_found_inst, column_names};
 
 use crate::cuts::around_dot;
 use graph_model::found::Found;

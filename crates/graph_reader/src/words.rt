@@ -56,8 +56,19 @@ pub(crate) fn behind<'a, 'b>(words: &'b [&'a [u8]], n: usize) -> &'b [&'a [u8]]
     &words[n..]
 }
 
-/// Whether the words begin with the fixed ones.
+/// Whether the words begin with the fixed ones. Most kinds differ by the first.
 fn begins(words: &[&[u8]], fixed: &[&[u8]]) -> bool
+    ensures { result ≡ starts_with same_word (contents words.now) (contents fixed.now) }
+{
+    match (words, fixed) {
+        (_, []) => true,
+        ([], _) => false,
+        ([word, rest @ ..], [first, others @ ..]) => first == word && all_follow(rest, others),
+    }
+}
+
+/// Whether the words begin with the fixed ones, which are compared one by one.
+fn all_follow(words: &[&[u8]], fixed: &[&[u8]]) -> bool
     ensures { result ≡ starts_with same_word (contents words.now) (contents fixed.now) }
 {
     if words.len() < fixed.len() {

@@ -3,7 +3,7 @@ use Rattle.std.specs.Prelude.{bytes_eq}
 use Rattle.std.proofs.lemmas.Iterator.{YieldsList-from_slice, YieldsList-from_zip}
 use Rattle.std.proofs.lemmas.Iterator.Search.{all_from_yields_List}
 use Rattle.graph_reader.proofs.WordLists.{begins_by_zip, begins_too_few}
-use Rattle.graph_reader.proofs.words.begins.Goals as goal
+use Rattle.graph_reader.proofs.words.all_follow.Goals as goal
 
 pub returns-then-words-fixed : goal.returns-then-words-fixed
 returns-then-words-fixed c = sym (begins_too_few c.args.words.now c.args.fixed.now c.if-words-fixed.true)
