@@ -1,5 +1,5 @@
 -- What the sweeps of a group tell of its sections.
-use Rattle.std.proofs.Common.{◌≡◌, ℕ, ◌<◌, ◌≤◌, ◌⊎◌, true, false, inl, inr, List, length, refl, sym, ◌∙◌, ap, subst, arith}
+use Rattle.std.proofs.Common.{◌≡◌, ℕ, ◌<◌, ◌≤◌, ◌⊎◌, inl, inr, List, length, refl, sym, ◌∙◌, subst, arith}
 use Rattle.std.specs.Prelude.{slice_index, Contains}
 use Rattle.std.proofs.lemmas.Bool.{cases_Bool, cases_lt, true≢false}
 use Rattle.graph_model.specs.declared.graph.verb.Edge.{Edge}
@@ -7,7 +7,7 @@ use Rattle.graph_model.specs.graph.Graph.{GraphValue}
 use Rattle.graph_model.specs.graph.Edges.{edges}
 use Rattle.graph_model.specs.graph.Fits.{IsGraph}
 use Rattle.graph_model.specs.meaning.Path.{HasPath, last, first}
-use Rattle.graph_model.specs.meaning.Rules.{Acquires, Releases, Section}
+use Rattle.graph_model.specs.meaning.Rules.{Releases, Section}
 use Rattle.graph_model.proofs.VerbFacts.{release_one}
 use Rattle.graph_model.proofs.ReleaseFacts.{one_release}
 use Rattle.race_sweeps.specs.Marks.{bit_in}

@@ -7,3 +7,5 @@ pub mod Keeping
 pub mod Grouping
 pub mod Concluding
 pub mod RuleSteps
+pub mod Finishing
+pub mod SweepingDown

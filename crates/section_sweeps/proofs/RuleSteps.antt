@@ -1,5 +1,5 @@
 -- The rules of sections at one line, by its words.
-use Rattle.std.proofs.Common.{◌≡◌, ℕ, ◌<◌, ◌≤◌, ◌^◌, ◌⊎◌, true, false, inl, inr, List, length, sym, ◌∙◌, ap, subst, arith}
+use Rattle.std.proofs.Common.{◌≡◌, ℕ, ◌<◌, ◌^◌, true, inl, inr, List, sym, ◌∙◌, ap}
 use Rattle.std.specs.Prelude.{slice_index}
 use Rattle.std.specs.Int.{bit_not}
 use Rattle.std.specs.Int.RustNames.{bit_or}
@@ -8,7 +8,6 @@ use mir.Syntax.{w64}
 use Rattle.std.proofs.lemmas.Bool.{cases_Bool, and_from, and_parts, not_from_false}
 use Rattle.std.proofs.lemmas.Nat.{or_lt}
 use Rattle.graph_model.specs.graph.Graph.{GraphValue}
-use Rattle.graph_model.specs.meaning.Path.{HasPath}
 use Rattle.graph_model.specs.meaning.Rules.{Acquires, Section}
 use Rattle.race_sweeps.specs.Marks.{bit_in}
 use Rattle.race_sweeps.specs.declared.held.Held.{Held}
@@ -17,7 +16,7 @@ use Rattle.race_sweeps.proofs.Walking.{none_left}
 use Rattle.section_sweeps.specs.declared.group.Group.{Group}
 use Rattle.section_sweeps.specs.Passing.{HasBit, HasEither}
 use Rattle.section_sweeps.specs.Group.{IsSwept, IsPassed, IsPlacedAt, IsNoDeadPhase}
-use Rattle.section_sweeps.specs.Sections.{IsKept, IsGrown}
+use Rattle.section_sweeps.specs.Sections.{IsGrown}
 use Rattle.section_sweeps.proofs.PassingSteps.{or_split}
 
 -- a bit of a word stands in the other, where none is left of the first without the second

@@ -1,5 +1,5 @@
 use Rattle.std.proofs.Common.{◌+◌, ◌<◌, length, refl, sym, ap, ◌∙◌, subst, arith}
-use Rattle.std.specs.Prelude.{slice_index, Vec, ◌≡◌, ℕ}
+use Rattle.std.specs.Prelude.{Vec, ℕ}
 use Rattle.std.specs.Global.{Global}
 use Rattle.std.proofs.lemmas.List.{get_or_read}
 use Rattle.section_sweeps.specs.Passing.{AreFromBefore}

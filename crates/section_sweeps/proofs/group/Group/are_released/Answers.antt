@@ -1,5 +1,5 @@
-use Rattle.std.proofs.Common.{◌<◌, inl, inr, length, sym, ap, ◌∙◌, subst, arith}
-use Rattle.std.specs.Prelude.{None, slice_index, ◌≡◌}
+use Rattle.std.proofs.Common.{inl, inr, length, sym, ap, ◌∙◌, subst, arith}
+use Rattle.std.specs.Prelude.{None, ◌≡◌}
 use Rattle.std.proofs.lemmas.List.{get_or_read}
 use Rattle.std.proofs.lemmas.Bool.{cases_lt}
 use Rattle.race_sweeps.specs.Marks.{bit_in}

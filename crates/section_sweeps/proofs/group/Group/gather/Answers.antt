@@ -1,5 +1,4 @@
-use Rattle.std.proofs.Common.{ℕ, ◌+◌, ◌<◌, ◌≤◌, length, [], ◌∷◌, ◌++◌, refl, sym, ap, ◌∙◌, subst, arith, length-append}
-use Rattle.std.specs.Prelude.{slice_index, ◌≡◌}
+use Rattle.std.proofs.Common.{ℕ, ◌+◌, ◌<◌, ◌≤◌, length, [], ◌∷◌, ◌++◌, refl, sym, ap, subst, arith, length-append}
 use Rattle.std.proofs.lemmas.List.{get_or_read}
 use Rattle.graph_model.specs.meaning.Rules.{Acquires}
 use Rattle.section_sweeps.specs.Group.{AreGathered, IsCleared}
@@ -25,18 +24,18 @@ loop-place-preserved c =
           let ok = w.in_ok-push.ensures.ok in
           let size = length-append old.acquires.items (line ∷ []) in
           subst (λ (s : Group). (length s.acquires.items + c.args.start ≤ x + 1) × IsCleared (length g.lines) s × AreGathered g places s.acquires.items c.args.start (x + 1)) (sym w.self-is) (
-              omega (arith, ap length ok, size, inv.count),
-              cleared_same (length g.lines) old _ refl refl refl inv.cleared,
-              subst (λ xs. AreGathered g places xs c.args.start (x + 1)) (sym ok)
-                  (subst (λ v. AreGathered g places (old.acquires.items ++ v ∷ []) c.args.start (x + 1)) (sym at)
-                      (gathered_more g lines places placed old.acquires.items c.args.start x small inv.gathered inv.begins (omega (arith, c.if-len-lt64.true, c.len.ensures)))),
-            ))
+            omega (arith, ap length ok, size, inv.count),
+            cleared_same (length g.lines) old _ refl refl refl inv.cleared,
+            subst (λ xs. AreGathered g places xs c.args.start (x + 1)) (sym ok)
+                (subst (λ v. AreGathered g places (old.acquires.items ++ v ∷ []) c.args.start (x + 1)) (sym at)
+                (gathered_more g lines places placed old.acquires.items c.args.start x small inv.gathered inv.begins (omega (arith, c.if-len-lt64.true, c.len.ensures)))),
+          ))
       | in_default w ↦
           subst (λ (s : Group). (length s.acquires.items + c.args.start ≤ x + 1) × IsCleared (length g.lines) s × AreGathered g places s.acquires.items c.args.start (x + 1)) (sym w.self-is) (
-              omega (arith, inv.count),
-              inv.cleared,
-              gathered_skip g lines places placed old.acquires.items c.args.start x small inv.gathered (subst (λ v. (l : ℕ) → Acquires g v l → ⊥) at w.in_default.ensures),
-            )
+            omega (arith, inv.count),
+            inv.cleared,
+            gathered_skip g lines places placed old.acquires.items c.args.start x small inv.gathered (subst (λ v. (l : ℕ) → Acquires g v l → ⊥) at w.in_default.ensures),
+          )
     ] in
     record {
       begins = omega (arith, inv.begins);

@@ -1,4 +1,4 @@
-use Rattle.std.proofs.Common.{◌<◌, inl, inr, length, sym, ◌∙◌, subst, arith}
+use Rattle.std.proofs.Common.{inl, inr, length, ◌∙◌, subst, arith}
 use Rattle.std.specs.Prelude.{slice_index, ◌≡◌}
 use Rattle.std.proofs.lemmas.Bool.{cases_lt}
 use Rattle.std.proofs.lemmas.List.{get_or_read}

@@ -1,8 +1,7 @@
-use Rattle.std.proofs.Common.{◌<◌, length, sym, ap, ◌∙◌, subst, arith}
-use Rattle.std.specs.Prelude.{slice_index, ◌≡◌}
+use Rattle.std.proofs.Common.{length, sym, ap, ◌∙◌, subst, arith}
+use Rattle.std.specs.Prelude.{slice_index}
 use Rattle.graph_model.specs.meaning.Rules.{Acquires, Section}
 use Rattle.race_sweeps.specs.Marks.{bit_in}
-use Rattle.section_sweeps.specs.Passing.{HasBit}
 use Rattle.section_sweeps.proofs.RuleSteps.{inside_parts, inside_from, inside_section}
 use Rattle.section_sweeps.proofs.group.Group.keeps_rules_at.Goals as goal
 

@@ -1,8 +1,8 @@
-use Rattle.std.proofs.Common.{◌<◌, length, refl, sym, ap, ◌∙◌, arith}
+use Rattle.std.proofs.Common.{length, sym, ap, ◌∙◌, arith}
 use Rattle.std.specs.Prelude.{None, slice_index, Vec, ◌≡◌, ℕ}
 use Rattle.std.specs.Global.{Global}
 use Rattle.std.proofs.lemmas.List.{get_or_read}
-use Rattle.section_sweeps.proofs.Grouping.{opened_none, opened_more, release_read}
+use Rattle.section_sweeps.proofs.Grouping.{opened_more, release_read}
 use Rattle.section_sweeps.proofs.group.Group.open.Goals as goal
 
 pub give-requires-in-loop-bit-2-clause-line : goal.give-requires-in-loop-bit-2-clause-line
