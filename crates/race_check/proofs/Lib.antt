@@ -24,4 +24,4 @@ pub mod AccessSteps
 pub mod SummarySteps
 pub mod RaceSteps
 pub mod Placing
-pub mod NoAcquires
+pub mod Accepting

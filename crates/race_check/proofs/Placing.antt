@@ -1,4 +1,4 @@
--- The order of the lines, as the sweeps take it, and the sections of the lines.
+-- The order of the lines, as the sweeps take it.
 use Rattle.std.proofs.Common.{◌≡◌, ℕ, ◌<◌, inl, inr, List, length, Bool, sym, ◌∙◌, ap, arith}
 use Rattle.std.specs.Prelude.{Option, None, Vec, slice_index}
 use Rattle.std.specs.Global.{Global}
@@ -30,15 +30,4 @@ order_placed g between order left o acyclic = record {
         | inr (inl before) ↦ absurd (o.1.distinct k.0 p before hp (k.3 ∙ sym from))
         | inr (inr behind) ↦ absurd (o.1.distinct p k.0 behind k.2 (from ∙ sym k.3))
       ]);
-}
-
--- the first acquires of a summary
-pub held_row : (g : GraphValue) (l : ℕ) (first : List (Option ℕ)) (more : List Bool) (row : Vec (Option ℕ) Global) → row.items ≡ first → AreSummaries g l (length g.lines) first more → IsHeldRow g l row
-held_row g l first more row is s = record {
-  size = ap length is ∙ s.firsts;
-  is = λ i q h. elim (cases_lt i (length g.lines)) [
-    | inl low ↦ (s.each i low).is q (ap (λ xs. slice_index_or xs i None) (sym is) ∙ h)
-    | inr up ↦ absurd (none-some q (sym (get_or_past row.items i None (let e : length row.items ≡ length g.lines = ap length is ∙ s.firsts in omega arith)) ∙ h))
-  ];
-  none = λ i q low h x. (s.each i low).none (ap (λ xs. slice_index_or xs i None) (sym is) ∙ h) q (passes_below (is_acquire_of l) g q x.acquires) x;
 }
