@@ -211,6 +211,9 @@ impl Group {
             return false;
         }
         let inside = self.behind.passed(line) & self.to_releases.passed(line);
+        if inside == 0 {
+            return true;
+        }
         if !descends(graph, self.acquires.as_slice(), line, inside) {
             return false;
         }
