@@ -1,15 +1,14 @@
 -- The lines as they are numbered are an order, where each edge leads to a higher number.
-use Rattle.std.proofs.Common.{◌≡◌, ℕ, ◌+◌, ◌<◌, ◌≤◌, false, List, [], ◌∷◌, ◌++◌, inl, inr, length, take, refl, sym, ◌∙◌, ap, subst, length-append, arith}
-use Rattle.std.specs.Prelude.{Contains, slice_index, count_by, ◌==◌, not, ◌&&◌}
+use Rattle.std.proofs.Common.{◌≡◌, ℕ, ◌+◌, ◌<◌, List, [], ◌∷◌, ◌++◌, inl, inr, length, take, sym, ◌∙◌, ap, subst, length-append, arith}
+use Rattle.std.specs.Prelude.{Contains, slice_index, ◌==◌, not}
 use Rattle.std.proofs.lemmas.Bool.{cases_lt, and_parts, false_from_ne_true, true≢false, not-true}
 use Rattle.std.proofs.lemmas.List.{get_or_append_left, take_all}
-use Rattle.std.proofs.lemmas.List.Elements.{Contains-get_or}
 use Rattle.std.proofs.Math.Seq.{get_or-append_seam}
 use Rattle.graph_model.specs.declared.graph.verb.Edge.{Edge}
 use Rattle.graph_model.specs.graph.Graph.{GraphValue}
 use Rattle.graph_model.specs.graph.Edges.{edges}
 use Rattle.race_check.specs.Paths.{EdgesBetween}
-use Rattle.race_check.specs.Order.{is_in, awaits, IsTaking, IsOrdered}
+use Rattle.race_check.specs.Order.{is_in, awaits, IsOrdered}
 use Rattle.race_check.proofs.Sorting.{contains_in, contains_take, take_contains, counted_none}
 
 -- a list of the numbers below its length

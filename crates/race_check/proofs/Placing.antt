@@ -1,20 +1,14 @@
 -- The order of the lines, as the sweeps take it.
-use Rattle.std.proofs.Common.{◌≡◌, ℕ, ◌<◌, inl, inr, List, length, Bool, sym, ◌∙◌, ap, arith}
-use Rattle.std.specs.Prelude.{Option, None, Vec, slice_index}
-use Rattle.std.specs.Global.{Global}
-use Rattle.std.specs.List.{slice_index_or}
-use Rattle.std.proofs.lemmas.Bool.{cases_lt, cases_order}
-use Rattle.std.proofs.lemmas.Option.{none-some}
-use Rattle.std.proofs.lemmas.List.{get_or_read, get_or_past}
+use Rattle.std.proofs.Common.{ℕ, ◌<◌, inl, inr, List, sym, ◌∙◌, arith}
+use Rattle.std.specs.Prelude.{slice_index}
+use Rattle.std.proofs.lemmas.Bool.{cases_order}
+use Rattle.std.proofs.lemmas.List.{get_or_read}
 use Rattle.std.proofs.lemmas.List.Elements.{Contains-get_or}
-use Rattle.graph_model.specs.graph.Graph.{GraphValue, is_acquire_of}
+use Rattle.graph_model.specs.graph.Graph.{GraphValue}
 use Rattle.graph_model.specs.meaning.Rules.{NoCycleAt, Everywhere}
-use Rattle.graph_model.proofs.VerbFacts.{passes_below}
-use Rattle.race_sweeps.specs.Held.{IsHeldRow}
 use Rattle.race_sweeps.specs.Placed.{IsOrder}
 use Rattle.race_check.specs.Paths.{EdgesBetween}
 use Rattle.race_check.specs.Order.{IsOrdered}
-use Rattle.race_check.specs.Summaries.{AreSummaries}
 use Rattle.race_check.proofs.Sorting.{all_listed, in_contains, contains_take}
 
 pub order_placed : (g : GraphValue) → EdgesBetween g → (order left : List ℕ) → IsOrdered g order left → Everywhere (NoCycleAt g) → IsOrder g order

@@ -1,13 +1,10 @@
 -- What the verb of a line tells of the reservation that it acquires or frees.
-use Rattle.std.proofs.Common.{◌≡◌, ℕ, ◌<◌, length, ap, ◌∙◌}
-use Rattle.std.specs.Prelude.{Some, MatchOption, Option, None, option_map, slice_get}
-use Rattle.graph_model.specs.declared.graph.verb.Line.{Line}
-use Rattle.graph_model.specs.declared.graph.verb.Verb.TheVariants.{Acquire, Release}
-use Rattle.graph_model.specs.graph.Graph.{GraphValue, verb_at, locks, is_acquire_of}
+use Rattle.std.proofs.Common.{ℕ, ◌<◌, length}
+use Rattle.std.specs.Prelude.{Some, MatchOption, Option, None}
+use Rattle.graph_model.specs.graph.Graph.{GraphValue, locks}
 use Rattle.graph_model.specs.graph.Fits.{IsGraph}
 use Rattle.graph_model.specs.meaning.Rules.{Acquires, Releases}
-use Rattle.graph_model.proofs.VerbFacts.{is_acquire_from, is_release_from, passes_below}
-use Rattle.graph_model.proofs.ReleaseFacts.{lock_known, release_names}
+use Rattle.graph_model.proofs.ReleaseFacts.{release_names}
 
 -- the reservation that the acquire of a release acquires
 pub freed_by_acquire : (g : GraphValue) → IsGraph g → (i q : ℕ) (o : Option ℕ) → Releases g i q → MatchOption o ((l : ℕ) → Acquires g q l → ⊥) (λ l. Acquires g q l × (l < length (locks g))) →

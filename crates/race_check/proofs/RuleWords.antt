@@ -1,14 +1,12 @@
 -- The rules of pairs of lines as tests, the table of releases line by line, and the users of columns.
-use Rattle.std.proofs.Common.{List, [], ◌∷◌, ◌++◌, ◌≡◌, ℕ, ◌+◌, ◌<◌, Bool, true, false, not, ◌&&◌, ◌||◌, inl, inr, length, refl, sym, ◌∙◌, ap, subst, arith}
+use Rattle.std.proofs.Common.{List, [], ◌∷◌, ◌++◌, ◌≡◌, ℕ, Bool, true, false, not, ◌&&◌, ◌||◌, length, refl, sym, ◌∙◌, ap}
 use Rattle.std.specs.Prelude.{Option, Some, None, ◌==◌, find}
 use Rattle.std.specs.List.{list_any}
 use Rattle.std.specs.Int.RustNames.{bit_or}
-use Rattle.std.proofs.lemmas.Bool.{true≢false, eq-eqb, cases_lt, cases_eq}
+use Rattle.std.proofs.lemmas.Bool.{true≢false, eq-eqb}
 use Rattle.std.proofs.lemmas.List.Folds.{list_any-append}
-use Rattle.std.proofs.lemmas.Option.{same_Some}
 use Rattle.basics.specs.Lists.{numbers_below}
 use Rattle.graph_model.specs.declared.graph.verb.Access.{Access}
-use Rattle.graph_model.specs.declared.graph.verb.Verb.TheVariants.{Release}
 use Rattle.graph_model.specs.graph.Graph.{GraphValue, line_passes, is_release_of}
 use Rattle.graph_model.specs.graph.Access.{accesses}
 use Rattle.graph_model.specs.meaning.Rules.{Releases}
@@ -17,7 +15,7 @@ use Rattle.basics.proofs.ListFacts.{find_is, find_none, contains_below, passes_s
 use Rattle.graph_model.proofs.RulesTable.{implies}
 use Rattle.graph_model.specs.meaning.Reservations.{lock_at, acquire_at, is_lower}
 use Rattle.section_sweeps.specs.Releases.{IsReleaseTable}
-use Rattle.graph_model.proofs.VerbFacts.{passes_below, release_is}
+use Rattle.graph_model.proofs.VerbFacts.{passes_below}
 use Rattle.graph_model.proofs.ReleaseFacts.{one_release}
 use Rattle.race_check.proofs.RuleTests.{AccessConflict, placed_by, section_of, section_by, inside, leaves_by, descends_by}
 use Rattle.race_check.proofs.WordScan.{word_same, word_or}

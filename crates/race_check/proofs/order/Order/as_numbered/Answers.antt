@@ -1,4 +1,4 @@
-use Rattle.std.proofs.Common.{◌≡◌, length, sym, ◌∙◌, subst, arith}
+use Rattle.std.proofs.Common.{◌≡◌, length, subst, arith}
 use Rattle.race_check.proofs.Numbering.{AreNumbers, numbers_ordered}
 use Rattle.race_check.proofs.order.Order.as_numbered.Goals as goal
 
