@@ -24,4 +24,5 @@ pub mod AccessSteps
 pub mod SummarySteps
 pub mod RaceSteps
 pub mod Placing
-pub mod NoAcquires
+pub mod Numbering
+pub mod Accepting

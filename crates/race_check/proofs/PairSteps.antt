@@ -17,7 +17,7 @@ use Rattle.graph_model.specs.meaning.Reservations.{lock_at, is_lower}
 use Rattle.race_check.specs.Paths.{PathsValue, path_in, word_bit, IsPathTable}
 use Rattle.race_check.specs.Words.{IsWordOf, NoneBelow}
 use Rattle.race_check.specs.RuleWords.{lies_outside, AreNeverPhases, lies_inside, acquires_up_to, IsLowRow}
-use Rattle.race_check.specs.Releases.{release_in, AreReleases}
+use Rattle.section_sweeps.specs.Releases.{release_in, AreReleases}
 use Rattle.race_check.proofs.Held.{lock_is, acquires_from}
 use Rattle.race_check.proofs.RuleFacts.{releases_acquire}
 use Rattle.race_check.proofs.RuleTests.{section_by, section_is_test, descends_by, descends_is_test}

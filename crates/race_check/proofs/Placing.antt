@@ -1,20 +1,14 @@
--- The order of the lines, as the sweeps take it, and the sections of the lines.
-use Rattle.std.proofs.Common.{◌≡◌, ℕ, ◌<◌, inl, inr, List, length, Bool, sym, ◌∙◌, ap, arith}
-use Rattle.std.specs.Prelude.{Option, None, Vec, slice_index}
-use Rattle.std.specs.Global.{Global}
-use Rattle.std.specs.List.{slice_index_or}
-use Rattle.std.proofs.lemmas.Bool.{cases_lt, cases_order}
-use Rattle.std.proofs.lemmas.Option.{none-some}
-use Rattle.std.proofs.lemmas.List.{get_or_read, get_or_past}
+-- The order of the lines, as the sweeps take it.
+use Rattle.std.proofs.Common.{ℕ, ◌<◌, inl, inr, List, sym, ◌∙◌, arith}
+use Rattle.std.specs.Prelude.{slice_index}
+use Rattle.std.proofs.lemmas.Bool.{cases_order}
+use Rattle.std.proofs.lemmas.List.{get_or_read}
 use Rattle.std.proofs.lemmas.List.Elements.{Contains-get_or}
-use Rattle.graph_model.specs.graph.Graph.{GraphValue, is_acquire_of}
+use Rattle.graph_model.specs.graph.Graph.{GraphValue}
 use Rattle.graph_model.specs.meaning.Rules.{NoCycleAt, Everywhere}
-use Rattle.graph_model.proofs.VerbFacts.{passes_below}
-use Rattle.race_sweeps.specs.Held.{IsHeldRow}
 use Rattle.race_sweeps.specs.Placed.{IsOrder}
 use Rattle.race_check.specs.Paths.{EdgesBetween}
 use Rattle.race_check.specs.Order.{IsOrdered}
-use Rattle.race_check.specs.Summaries.{AreSummaries}
 use Rattle.race_check.proofs.Sorting.{all_listed, in_contains, contains_take}
 
 pub order_placed : (g : GraphValue) → EdgesBetween g → (order left : List ℕ) → IsOrdered g order left → Everywhere (NoCycleAt g) → IsOrder g order
@@ -30,15 +24,4 @@ order_placed g between order left o acyclic = record {
         | inr (inl before) ↦ absurd (o.1.distinct k.0 p before hp (k.3 ∙ sym from))
         | inr (inr behind) ↦ absurd (o.1.distinct p k.0 behind k.2 (from ∙ sym k.3))
       ]);
-}
-
--- the first acquires of a summary
-pub held_row : (g : GraphValue) (l : ℕ) (first : List (Option ℕ)) (more : List Bool) (row : Vec (Option ℕ) Global) → row.items ≡ first → AreSummaries g l (length g.lines) first more → IsHeldRow g l row
-held_row g l first more row is s = record {
-  size = ap length is ∙ s.firsts;
-  is = λ i q h. elim (cases_lt i (length g.lines)) [
-    | inl low ↦ (s.each i low).is q (ap (λ xs. slice_index_or xs i None) (sym is) ∙ h)
-    | inr up ↦ absurd (none-some q (sym (get_or_past row.items i None (let e : length row.items ≡ length g.lines = ap length is ∙ s.firsts in omega arith)) ∙ h))
-  ];
-  none = λ i q low h x. (s.each i low).none (ap (λ xs. slice_index_or xs i None) (sym is) ∙ h) q (passes_below (is_acquire_of l) g q x.acquires) x;
 }

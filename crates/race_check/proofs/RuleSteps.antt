@@ -1,9 +1,8 @@
 -- The rules of single lines, line by line.
 use Rattle.std.proofs.Common.{◌≡◌, ℕ, ◌+◌, ◌<◌, ◌≤◌, Bool, true, false, inl, inr, List, [], length, refl, sym, ◌∙◌, ap, subst, arith}
-use Rattle.std.specs.Prelude.{Option, Some, None, IsTrue, ◌↔◌, slice_get, slice_set, Contains}
+use Rattle.std.specs.Prelude.{Option, Some, None, IsTrue, ◌↔◌, slice_get, Contains}
 use Rattle.std.proofs.lemmas.Bool.{true≢false, cases_lt, eq-eqb}
 use Rattle.std.proofs.lemmas.Option.{none-some, same_Some}
-use Rattle.std.proofs.lemmas.List.{get_or-set_same, get_or-set_other}
 use Rattle.std.proofs.lemmas.List.Elements.{Contains-append_right}
 use Rattle.graph_model.specs.declared.graph.verb.Line.{Line}
 use Rattle.graph_model.specs.graph.Graph.{GraphValue, line_passes, is_merge_ignore, is_release_of}
@@ -12,13 +11,12 @@ use Rattle.graph_model.specs.meaning.Rules.{Acquires, Releases, ReleasedAt, Rele
 use Rattle.graph_model.proofs.GraphFacts.{named_below}
 use Rattle.basics.proofs.ListFacts.{contains_here}
 use Rattle.race_check.specs.Paths.{PathsValue, path_in, IsPathTable}
-use Rattle.race_check.specs.Releases.{release_in, AreReleases}
+use Rattle.section_sweeps.specs.Releases.{release_in, AreReleases}
 use Rattle.graph_model.proofs.VerbFacts.{passes_below, release_is, is_release_from, release_of_is}
-use Rattle.race_check.proofs.ReservationFacts.{verb_of}
+use Rattle.section_sweeps.proofs.ReservationFacts.{verb_of}
 use Rattle.graph_model.proofs.ReleaseFacts.{cut_at}
 use Rattle.graph_model.specs.declared.graph.verb.Verb.TheVariants.{Release}
 use Rattle.graph_model.specs.meaning.Path.{HasPath}
-use Rattle.race_check.proofs.RuleWords.{IsReleaseTableTo, table_release, table_done}
 
 -- a rule that holds below a number and from it on
 pub everywhere_by : (R : ℕ → Type 0) (n : ℕ) → ((i : ℕ) → n ≤ i → R i) → ((i : ℕ) → i < n → R i) → Everywhere R
@@ -79,17 +77,3 @@ on_known g f i m l below at on =
     let b : m < length c.0 = named_below (record { decls = g.decls; lines = c.0 }) l c.2.fits m
     (Contains-append_right (named_lines l.verb) (on_lines l.on) m (subst (λ o. Contains (on_lines o) m) (sym on) (contains_here m []))) in
     let size : length c.0 ≡ 0 + i = c.3 in omega arith
-
--- the table of releases after one more line
-pub releases_begun : (g : GraphValue) (releases : List (Option ℕ)) → ((q : ℕ) → release_in releases q ≡ None) → IsReleaseTableTo g (release_in releases) 0
-releases_begun g releases nones = record {
-  is = λ q r h. absurd (none-some r (sym (nones q) ∙ h));
-  listed = λ q r h. absurd (omega arith);
-}
-
-pub releases_more : (g : GraphValue) → IsGraph g → (releases : List (Option ℕ)) (i q : ℕ) → q < length releases → IsReleaseTableTo g (release_in releases) i → Releases g i q → IsReleaseTableTo g (release_in (slice_set releases q (Some i))) (i + 1)
-releases_more g f releases i q below t rel = table_release g f (release_in releases) (release_in (slice_set releases q (Some i))) i q t rel
-    (get_or-set_same releases q (Some i) None below) (λ k apart. get_or-set_other releases q k (Some i) None apart)
-
-pub releases_done : (g : GraphValue) (releases : List (Option ℕ)) (n : ℕ) → n ≡ length g.lines → length releases ≡ length g.lines → IsReleaseTableTo g (release_in releases) n → AreReleases g releases
-releases_done g releases n all size t = record { size = size; table = table_done g (release_in releases) (subst (λ k. IsReleaseTableTo g (release_in releases) k) all t) }

@@ -17,7 +17,7 @@ use Rattle.graph_model.proofs.RulesTable.{implies, implied}
 use Rattle.graph_model.specs.meaning.Reservations.{freed_by, lock_at, acquire_at, is_lower}
 use Rattle.race_check.proofs.RuleFacts.{releases_acquire}
 use Rattle.race_check.specs.Paths.{IsPairTestOf}
-use Rattle.race_check.specs.Releases.{IsReleaseTable}
+use Rattle.section_sweeps.specs.Releases.{IsReleaseTable}
 use Rattle.graph_model.proofs.VerbFacts.{is_release_from}
 use Rattle.race_check.proofs.Held.{lock_is, acquires_from}
 

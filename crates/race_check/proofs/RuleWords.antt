@@ -1,14 +1,12 @@
 -- The rules of pairs of lines as tests, the table of releases line by line, and the users of columns.
-use Rattle.std.proofs.Common.{List, [], ◌∷◌, ◌++◌, ◌≡◌, ℕ, ◌+◌, ◌<◌, Bool, true, false, not, ◌&&◌, ◌||◌, inl, inr, length, refl, sym, ◌∙◌, ap, subst, arith}
+use Rattle.std.proofs.Common.{List, [], ◌∷◌, ◌++◌, ◌≡◌, ℕ, Bool, true, false, not, ◌&&◌, ◌||◌, length, refl, sym, ◌∙◌, ap}
 use Rattle.std.specs.Prelude.{Option, Some, None, ◌==◌, find}
 use Rattle.std.specs.List.{list_any}
 use Rattle.std.specs.Int.RustNames.{bit_or}
-use Rattle.std.proofs.lemmas.Bool.{true≢false, eq-eqb, cases_lt, cases_eq}
+use Rattle.std.proofs.lemmas.Bool.{true≢false, eq-eqb}
 use Rattle.std.proofs.lemmas.List.Folds.{list_any-append}
-use Rattle.std.proofs.lemmas.Option.{same_Some}
 use Rattle.basics.specs.Lists.{numbers_below}
 use Rattle.graph_model.specs.declared.graph.verb.Access.{Access}
-use Rattle.graph_model.specs.declared.graph.verb.Verb.TheVariants.{Release}
 use Rattle.graph_model.specs.graph.Graph.{GraphValue, line_passes, is_release_of}
 use Rattle.graph_model.specs.graph.Access.{accesses}
 use Rattle.graph_model.specs.meaning.Rules.{Releases}
@@ -16,8 +14,8 @@ use Rattle.graph_model.specs.graph.Fits.{IsGraph}
 use Rattle.basics.proofs.ListFacts.{find_is, find_none, contains_below, passes_some}
 use Rattle.graph_model.proofs.RulesTable.{implies}
 use Rattle.graph_model.specs.meaning.Reservations.{lock_at, acquire_at, is_lower}
-use Rattle.race_check.specs.Releases.{IsReleaseTable}
-use Rattle.graph_model.proofs.VerbFacts.{passes_below, release_is}
+use Rattle.section_sweeps.specs.Releases.{IsReleaseTable}
+use Rattle.graph_model.proofs.VerbFacts.{passes_below}
 use Rattle.graph_model.proofs.ReleaseFacts.{one_release}
 use Rattle.race_check.proofs.RuleTests.{AccessConflict, placed_by, section_of, section_by, inside, leaves_by, descends_by}
 use Rattle.race_check.proofs.WordScan.{word_same, word_or}
@@ -48,41 +46,7 @@ pub conflict_shares : (g : GraphValue) (i j : ℕ) → AccessConflict g i j → 
 conflict_shares g i j c = passes_some (λ (a : Access). list_any (λ (b : Access). a.column == b.column) (accesses g j)) (accesses g i) c.0 c.2
     (passes_some (λ (b : Access). c.0.column == b.column) (accesses g j) c.1 c.3 (eq-eqb c.0.column c.1.column c.4.column))
 
--- the table of releases after the first i lines
-pub record IsReleaseTableTo (g : GraphValue) (release : ℕ → Option ℕ) (i : ℕ) : Type 0 where
-  pub is : (q r : ℕ) → release q ≡ Some r → Releases g r q
-  pub listed : (q r : ℕ) → r < i → Releases g r q → release q ≡ Some r
-
--- line i is the release of q, and is put into the table
-pub table_release : (g : GraphValue) → IsGraph g → (release after : ℕ → Option ℕ) (i q : ℕ) → IsReleaseTableTo g release i → Releases g i q → after q ≡ Some i → ((k : ℕ) → (k ≡ q → ⊥) → after k ≡ release k) → IsReleaseTableTo g after (i + 1)
-table_release g f release after i q t rel here other = record {
-  is = λ k r h. elim (cases_eq k q) [
-    | inl same ↦ (let e : i ≡ r = same_Some i r (sym here ∙ (ap after (sym same) ∙ h)) in subst (λ z. Releases g z k) e (subst (λ z. Releases g i z) (sym same) rel))
-    | inr apart ↦ t.is k r (sym (other k apart) ∙ h)
-  ];
-  listed = λ k r b h. elim (cases_eq k q) [
-    | inl same ↦ ap after same ∙ (here ∙ ap Some (one_release g f q i r rel (subst (λ z. Releases g r z) same h)))
-    | inr apart ↦ other k apart ∙ t.listed k r (earlier k r b h apart) h
-  ];
-}
-  where
-    releases_one : (k r : ℕ) → Releases g r k → Releases g r q → k ≡ q
-    releases_one k r a b = (let e : Some (Release k) ≡ Some (Release q) = sym (release_is g r k a) ∙ release_is g r q b in cc)
-
-    earlier : (k r : ℕ) → r < i + 1 → Releases g r k → (k ≡ q → ⊥) → r < i
-    earlier k r b h apart = elim (cases_lt r i) [ inl l ↦ l | inr up ↦ absurd (let e : i ≡ r = omega arith in apart (releases_one k r h (subst (λ z. Releases g z q) e rel))) ]
-
--- line i is no release
-pub table_other : (g : GraphValue) (release : ℕ → Option ℕ) (i : ℕ) → IsReleaseTableTo g release i → ((q : ℕ) → Releases g i q → ⊥) → IsReleaseTableTo g release (i + 1)
-table_other g release i t none = record {
-  is = t.is;
-  listed = λ q r b h. elim (cases_lt r i) [ inl l ↦ t.listed q r l h | inr up ↦ absurd (let e : r ≡ i = omega arith in none q (subst (λ z. Releases g z q) e h)) ];
-}
-
-pub table_done : (g : GraphValue) (release : ℕ → Option ℕ) → IsReleaseTableTo g release (length g.lines) → IsReleaseTable g release
-table_done g release t = (t.is, λ q r h. t.listed q r (passes_below (is_release_of q) g r h) h)
-
--- the same table by a look over all lines
+-- the table of releases by a look over all lines
 abbrev pub release_found : GraphValue → ℕ → Option ℕ
 release_found g q = find (λ r. line_passes (is_release_of q) g r) (numbers_below (length g.lines))
 

@@ -14,7 +14,7 @@ use Rattle.race_sweeps.specs.Marks.{bit_in}
 use Rattle.graph_model.specs.graph.Edges.{edges}
 use Rattle.graph_model.proofs.PathTable.{path_below}
 use Rattle.race_check.specs.Paths.{PathsValue, path_in, IsPathTable, EdgesBetween}
-use Rattle.race_check.specs.Releases.{release_in, AreReleases}
+use Rattle.section_sweeps.specs.Releases.{release_in, AreReleases}
 use Rattle.race_check.specs.Summaries.{IsSummaryTo, AreSummaries, AreSummedTo, AreInside, AreSummed, ApartIn, MayBeApartBy, IsNoted}
 use Rattle.race_check.specs.Words.{IsWordOf}
 use Rattle.race_check.specs.declared.summaries.Summary.{Summary}

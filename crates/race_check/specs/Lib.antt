@@ -4,7 +4,6 @@ pub mod Search
 pub mod Refusal
 pub mod High
 pub mod Sweep
-pub mod Releases
 pub mod Words
 pub mod RuleWords
 pub mod Races

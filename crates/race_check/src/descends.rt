@@ -4,17 +4,17 @@ ghost use Rattle.std.specs.Prelude.{◌≡◌, ℕ, Some, not, IsTrue, ◌<◌, 
 ghost use Rattle.graph_model.specs.graph.Graph.{locks};
 ghost use Rattle.graph_model.specs.meaning.Rules.{Everywhere, EverywhereTwice, FailsFirst, FailsFirstTwice, DescendsAt};
 ghost use Rattle.race_check.specs.Paths.{IsPathTable, words_for};
-ghost use Rattle.race_check.specs.Releases.{AreReleases};
+ghost use Rattle.section_sweeps.specs.Releases.{AreReleases};
 ghost use Rattle.race_check.specs.Words.{IsWordOf};
 ghost use Rattle.race_check.specs.RuleWords.{lies_inside, acquires_up_to, IsLowRow, AreLowRows};
 
 use crate::paths::PathTable;
-use crate::reservations::acquired;
 use crate::rows::{add_line, empty_row, word_at};
 use graph_model::graph::Graph;
 use graph_model::laws::edges_between_lines;
 use index_spaces::NoMemory;
 use index_spaces::room::push;
+use section_sweeps::reservations::acquired;
 use std::alloc::Global;
 
 /// The least acquire and the least acquire in its section whose reservation is not declared later.

@@ -5,7 +5,7 @@ ghost use Rattle.graph_model.specs.meaning.Need.{IsNeed};
 ghost use Rattle.graph_model.specs.meaning.Rules.{Accepted, Everywhere, EverywhereTwice, NoCycleAt, ReleasedAt, SectionAt, DescendsAt, ReleaseFaultAt, RaceAt};
 ghost use Rattle.race_check.specs.Order.{IsOrdered};
 ghost use Rattle.race_check.specs.Paths.{IsPathTable};
-ghost use Rattle.race_check.specs.Releases.{AreReleases};
+ghost use Rattle.section_sweeps.specs.Releases.{AreReleases};
 ghost use Rattle.race_check.specs.Refusal.{IsRefusal, NamesLines};
 
 use crate::checked::CheckRefusal;
@@ -14,12 +14,13 @@ use crate::descends::first_climbing;
 use crate::need::need_of;
 use crate::order::Order;
 use crate::paths::PathTable;
+use crate::quick::is_accepted_at_once;
 use crate::races::first_race;
 use crate::release_faults::first_release_fault;
-use crate::releases::{first_unreleased, releases};
+use crate::releases::first_unreleased;
 use crate::sections::first_outside;
-use crate::unheld::is_accepted_at_once;
 use graph_model::graph::Graph;
+use section_sweeps::releases::releases;
 use std::alloc::Global;
 
 /// The need of a graph that is accepted, and otherwise the first rule that fails with the least
@@ -65,7 +66,7 @@ fn all_rules_by_paths(alloc: Global, graph: &Graph, order: &Order) -> Result<(),
     all_in_sections(alloc, graph, &paths)?;
     all_descend(alloc, graph, &paths, releases.as_slice())?;
     all_on_merges(graph)?;
-    no_races(alloc, graph, order, &paths, releases.as_slice())?;
+    no_races(alloc, graph, &paths, releases.as_slice())?;
     Ok(())
 }
 
@@ -159,11 +160,9 @@ fn all_on_merges(graph: &Graph) -> Result<(), CheckRefusal>
 fn no_races(
     alloc: Global,
     graph: &Graph,
-    order: &Order,
     paths: &PathTable,
     releases: &[Option<u32>],
 ) -> Result<(), CheckRefusal>
-    requires ordered { IsOrdered graph.now order.now.lines.items order.now.left.items }
     requires table { IsPathTable graph.now paths.now }
     requires releases { AreReleases graph.now releases.now }
     requires acyclic { Everywhere (NoCycleAt graph.now) }
@@ -175,7 +174,7 @@ fn no_races(
     ensures refused { IfErr result (IsRefusal graph.now) }
     ensures lines { IfErr result (NamesLines graph.now) }
 {
-    match first_race(alloc, graph, order, paths, releases)? {
+    match first_race(alloc, graph, paths, releases)? {
         None => Ok(()),
         Some((one, other)) => Err(CheckRefusal::Race(one, other)),
     }

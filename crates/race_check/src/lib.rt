@@ -11,6 +11,7 @@ mod judge;
 mod need;
 mod order;
 mod paths;
+mod quick;
 mod races;
 mod release_faults;
 mod releases;
@@ -18,7 +19,6 @@ mod reservations;
 mod rows;
 mod sections;
 mod summaries;
-mod unheld;
 
 ghost use Rattle.std.specs.Prelude.{◌≡◌, IfOk, IfErr};
 ghost use Rattle.graph_model.specs.meaning.Need.{IsNeed};

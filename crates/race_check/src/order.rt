@@ -1,13 +1,14 @@
 //! The order of the lines by their edges.
 
-ghost use Rattle.std.specs.Prelude.{◌≡◌, ℕ, ◌+◌, ◌-◌, ◌<◌, ◌≤◌, ◌==◌, [], ◌∷◌, ◌++◌, cond, length, slice_index, slice_set, OnOk, IfOk};
-ghost use Rattle.graph_model.specs.graph.Edges.{edges_into, edges_out_of};
+ghost use Rattle.std.specs.Prelude.{◌≡◌, ℕ, ◌+◌, ◌-◌, ◌<◌, ◌≤◌, ◌==◌, [], ◌∷◌, ◌++◌, cond, length, Contains, IsTrue, slice_index, slice_set, OnOk, IfOk};
+ghost use Rattle.graph_model.specs.declared.graph.verb.Edge.{Edge};
+ghost use Rattle.graph_model.specs.graph.Edges.{edges, edges_into, edges_out_of};
 ghost use Rattle.race_check.specs.Order.{IsTaking, IsOrdered, IsCounted, HasRoom};
 
 use graph_model::graph::Graph;
 use graph_model::laws::edges_between_lines;
 use index_spaces::NoMemory;
-use index_spaces::room::push;
+use index_spaces::room::{filled, push};
 use std::alloc::Global;
 
 /// Lines of which each stands behind its sources, and for each line of the graph how many edges
@@ -20,13 +21,32 @@ pub(crate) struct Order {
 }
 
 impl Order {
-    /// Puts as many lines into the order as cycles leave.
+    /// Puts as many lines into the order as cycles leave: the lines as they are numbered, where
+    /// each edge leads to a higher number.
     pub(crate) fn new(alloc: Global, graph: &Graph) -> Result<Order, NoMemory>
         ensures { IfOk result (λ o. IsOrdered graph.now o.lines.items o.left.items) }
     {
         edges_between_lines();
+        if all_edges_ascend(graph) {
+            return Order::as_numbered(alloc, graph);
+        }
         let order = Order::of_free_lines(alloc, graph)?;
         order.with_others(graph)
+    }
+
+    /// The lines as they are numbered.
+    fn as_numbered(alloc: Global, graph: &Graph) -> Result<Order, NoMemory>
+        requires { (e : Edge) → Contains (edges graph.now) e → e.from < e.to }
+        ensures { IfOk result (λ o. IsOrdered graph.now o.lines.items o.left.items) }
+    {
+        edges_between_lines();
+        let count = graph.lines();
+        let mut lines = Vec::new(alloc);
+        for line in 0..count {
+            push(&mut lines, line)?;
+        }
+        let left = filled(alloc, 0, count as usize)?;
+        Ok(Order { lines, left })
     }
 
     /// The lines that no edge enters.
@@ -115,4 +135,31 @@ impl Order {
         }
         Ok(())
     }
+}
+
+/// Whether each edge leads to a line of a higher number.
+fn all_edges_ascend(graph: &Graph) -> bool
+    ensures { IsTrue result → (e : Edge) → Contains (edges graph.now) e → e.from < e.to }
+{
+    edges_between_lines();
+    for line in 0..graph.lines() {
+        if !edges_ascend(graph, line) {
+            return false;
+        }
+    }
+    true
+}
+
+/// Whether each edge into a line begins at one of a lower number.
+fn edges_ascend(graph: &Graph, line: u32) -> bool
+    requires { line < length graph.now.lines }
+    ensures { IsTrue result → (e : Edge) → Contains (edges graph.now) e → e.to ≡ line → e.from < line }
+{
+    let edges = graph.edges_into(line);
+    for edge in edges {
+        if edge.from >= line {
+            return false;
+        }
+    }
+    true
 }

@@ -2,29 +2,25 @@
 
 ghost use Rattle.std.specs.Prelude.{◌≡◌, ℕ, ◌+◌, ◌*◌, ◌<◌, ◌≤◌, ◌↔◌, true, false, length, IsTrue, IfOk, MatchOption};
 ghost use Rattle.graph_model.specs.meaning.Path.{HasPath};
-ghost use Rattle.graph_model.specs.meaning.Rules.{Everywhere, EverywhereTwice, FailsFirst, FailsFirstTwice, NoCycleAt, RaceAt};
-ghost use Rattle.race_check.specs.Order.{IsOrdered};
+ghost use Rattle.graph_model.specs.meaning.Rules.{Everywhere, EverywhereTwice, FailsFirst, FailsFirstTwice, RaceAt};
 ghost use Rattle.race_check.specs.Summaries.{AreSummed};
 ghost use Rattle.race_check.specs.Paths.{PathsValue, IsPathTable, words_for};
-ghost use Rattle.race_check.specs.Releases.{AreReleases};
+ghost use Rattle.section_sweeps.specs.Releases.{AreReleases};
 ghost use Rattle.race_check.specs.Words.{IsWordOf};
 ghost use Rattle.race_check.specs.Races.{AreUserRows, IsUserRow, shares_column, is_suspect};
 ghost use Rattle.race_sweeps.specs.Clash.{LinesClash};
 ghost use Rattle.race_check.specs.Rivals.{AreRivals};
 
 use crate::conflicts::{accesses_of_lines, some_clash, uses};
-use crate::order::Order;
 use crate::paths::PathTable;
 use crate::rows::{add_line, empty_row, has_bit, word_at};
-use crate::summaries::{Summary, are_apart, held, summaries};
-use crate::unheld::has_acquire;
+use crate::summaries::{Summary, are_apart, summaries};
 use graph_model::graph::Graph;
 use graph_model::laws::edges_between_lines;
 use graph_model::line_laws::accesses_fit;
 use graph_model::verb::Access;
 use index_spaces::NoMemory;
 use index_spaces::room::push;
-use race_sweeps::are_settled;
 use race_sweeps::clash::MOST_ACCESSES;
 use std::alloc::Global;
 
@@ -33,12 +29,9 @@ use std::alloc::Global;
 pub(crate) fn first_race(
     alloc: Global,
     graph: &Graph,
-    order: &Order,
     paths: &PathTable,
     releases: &[Option<u32>],
 ) -> Result<Option<(u32, u32)>, NoMemory>
-    requires ordered { IsOrdered graph.now order.now.lines.items order.now.left.items }
-    requires acyclic { Everywhere (NoCycleAt graph.now) }
     requires table { IsPathTable graph.now paths.now }
     requires releases { AreReleases graph.now releases.now }
     ensures { IfOk result (λ o. MatchOption o (EverywhereTwice (RaceAt graph.now))
@@ -47,9 +40,6 @@ pub(crate) fn first_race(
     edges_between_lines();
     let lines = graph.lines();
     let summaries = summaries(alloc, graph, paths, releases)?;
-    if are_settled_by_sweeps(alloc, graph, order, summaries.as_slice())? {
-        return Ok(None);
-    }
     let rivals = Rivals::new(alloc, graph, paths, summaries)?;
     for line in 0..lines {
         if let Some(other) = rivals.first_of(graph, paths, line) {
@@ -57,28 +47,6 @@ pub(crate) fn first_race(
         }
     }
     Ok(None)
-}
-
-/// Whether it was found by sweeps that no lines race. Of a graph without an acquire that was asked
-/// before any table of paths was made.
-fn are_settled_by_sweeps(
-    alloc: Global,
-    graph: &Graph,
-    order: &Order,
-    summaries: &[Summary],
-) -> Result<bool, NoMemory>
-    requires ordered { IsOrdered graph.now order.now.lines.items order.now.left.items }
-    requires acyclic { Everywhere (NoCycleAt graph.now) }
-    requires summed { AreSummed graph.now summaries.now }
-    ensures { IfOk result (λ b. IsTrue b → EverywhereTwice (RaceAt graph.now)) }
-{
-    edges_between_lines();
-    let _ = graph.lines();
-    if !has_acquire(graph) {
-        return Ok(false);
-    }
-    let held = held(alloc, graph, summaries)?;
-    are_settled(alloc, graph, order.lines.as_slice(), &held)
 }
 
 /// What is looked up to find races: the accesses of each line, the users of each column, and the

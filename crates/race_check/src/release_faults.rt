@@ -4,9 +4,9 @@ ghost use Rattle.std.specs.Prelude.{◌≡◌, ◌<◌, ◌↔◌, length, IsTru
 ghost use Rattle.graph_model.specs.graph.Graph.{is_merge_ignore, line_passes};
 ghost use Rattle.graph_model.specs.meaning.Rules.{Everywhere, FailsFirst, ReleaseFaultAt};
 
-use crate::reservations::released;
 use graph_model::graph::Graph;
 use graph_model::verb::Verb;
+use section_sweeps::reservations::released;
 
 /// The least release that stands on no merge that ignores faults.
 pub(crate) fn first_release_fault(graph: &Graph) -> Option<u32>

@@ -1,31 +1,14 @@
-//! The release of each acquire, and the rule that each has one.
+//! The rule that each acquire has a release behind it.
 
 ghost use Rattle.std.specs.Prelude.{◌≡◌, ℕ, ◌<◌, ◌↔◌, length, Option, None, IsTrue, IfOk, MatchOption};
 ghost use Rattle.std.specs.List.{slice_index_or};
 ghost use Rattle.graph_model.specs.meaning.Rules.{Everywhere, FailsFirst, ReleasedAt};
 ghost use Rattle.race_check.specs.Paths.{IsPathTable};
-ghost use Rattle.race_check.specs.Releases.{AreReleases};
+ghost use Rattle.section_sweeps.specs.Releases.{AreReleases};
 
 use crate::paths::PathTable;
-use crate::reservations::{acquired, released};
 use graph_model::graph::Graph;
-use index_spaces::NoMemory;
-use index_spaces::room::filled;
-use std::alloc::Global;
-
-/// The release of each line that is an acquire and has one.
-pub(crate) fn releases(alloc: Global, graph: &Graph) -> Result<Vec<Option<u32>>, NoMemory>
-    ensures { IfOk result (λ v. AreReleases graph.now v.items) }
-{
-    let lines = graph.lines();
-    let mut releases = filled(alloc, None, lines as usize)?;
-    for line in 0..lines {
-        if let Some(acquire) = released(graph, line) {
-            releases[acquire as usize] = Some(line);
-        }
-    }
-    Ok(releases)
-}
+use section_sweeps::reservations::acquired;
 
 /// The least acquire that has no release with a path from it.
 pub(crate) fn first_unreleased(

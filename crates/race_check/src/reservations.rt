@@ -6,18 +6,7 @@ ghost use Rattle.graph_model.specs.meaning.Rules.{Acquires, Releases};
 
 use graph_model::graph::Graph;
 use graph_model::verb::Verb;
-
-/// The reservation that a line acquires.
-pub(crate) fn acquired(graph: &Graph, line: u32) -> Option<u32>
-    requires { line < length graph.now.lines }
-    ensures { MatchOption result ((l : ℕ) → Acquires graph.now line l → ⊥) (λ l. Acquires graph.now line l
-        × (l < length (locks graph.now))) }
-{
-    match &graph.line(line).verb {
-        Verb::Acquire { lock } => Some(*lock),
-        _ => None,
-    }
-}
+use section_sweeps::reservations::{acquired, released};
 
 /// Whether a line acquires this reservation.
 pub(crate) fn acquires(graph: &Graph, line: u32, wanted: u32) -> bool
@@ -27,17 +16,6 @@ pub(crate) fn acquires(graph: &Graph, line: u32, wanted: u32) -> bool
     match &graph.line(line).verb {
         Verb::Acquire { lock } => *lock == wanted,
         _ => false,
-    }
-}
-
-/// The acquire that a line releases.
-pub(crate) fn released(graph: &Graph, line: u32) -> Option<u32>
-    requires { line < length graph.now.lines }
-    ensures { MatchOption result ((q : ℕ) → Releases graph.now line q → ⊥) (λ q. Releases graph.now line q × (q < length graph.now.lines)) }
-{
-    match &graph.line(line).verb {
-        Verb::Release { acquire } => Some(*acquire),
-        _ => None,
     }
 }
 

@@ -8,12 +8,12 @@ ghost use Rattle.race_check.specs.Words.{IsWordOf};
 ghost use Rattle.race_check.specs.RuleWords.{lies_outside, AreNeverPhases};
 
 use crate::paths::PathTable;
-use crate::reservations::released;
 use crate::rows::{add_line, empty_row, word_at, word_of_line};
 use graph_model::graph::Graph;
 use graph_model::laws::edges_between_lines;
 use graph_model::verb::Verb;
 use index_spaces::NoMemory;
+use section_sweeps::reservations::released;
 use std::alloc::Global;
 
 /// The least release and the least line that has a path to it and is neither its acquire, nor

@@ -4,8 +4,7 @@ ghost use Rattle.std.specs.Prelude.{◌≡◌, ℕ, ◌+◌, ◌*◌, ◌<◌, �
 ghost use Rattle.std.specs.List.{slice_index_or};
 ghost use Rattle.graph_model.specs.meaning.Rules.{Acquires};
 ghost use Rattle.race_check.specs.Paths.{IsPathTable, path_in, words_for};
-ghost use Rattle.race_check.specs.Releases.{AreReleases};
-ghost use Rattle.race_sweeps.specs.Held.{IsHeld};
+ghost use Rattle.section_sweeps.specs.Releases.{AreReleases};
 ghost use Rattle.race_check.specs.Summaries.{AreSummaries, AreSummedTo, AreInside, AreSummed, ApartIn, IsNoted, MayBeApartBy};
 ghost use Rattle.race_check.specs.Words.{IsWordOf};
 ghost use Rattle.race_sweeps.specs.Marks.{bit_in};
@@ -18,7 +17,6 @@ use graph_model::graph::Graph;
 use graph_model::laws::edges_between_lines;
 use index_spaces::NoMemory;
 use index_spaces::room::{filled, push};
-use race_sweeps::held::Held;
 use std::alloc::Global;
 
 /// For each line the first acquire of a reservation in whose section it lies, and whether it lies
@@ -27,31 +25,6 @@ use std::alloc::Global;
 pub(crate) struct Summary {
     first: Vec<Option<u32>>,
     more: Vec<bool>,
-}
-
-/// In which sections the lines lie, by the first acquire of each summary.
-pub(crate) fn held(alloc: Global, graph: &Graph, summaries: &[Summary]) -> Result<Held, NoMemory>
-    requires { AreSummed graph.now summaries.now }
-    ensures { IfOk result (IsHeld graph.now) }
-{
-    edges_between_lines();
-    let _ = graph.lines();
-    let mut acquires = Vec::new(alloc);
-    for summary in summaries {
-        let row = copied(alloc, summary.first.as_slice())?;
-        push(&mut acquires, row)?;
-    }
-    Ok(Held { acquires })
-}
-
-fn copied(alloc: Global, items: &[Option<u32>]) -> Result<Vec<Option<u32>>, NoMemory>
-    ensures { IfOk result (λ v. v.items ≡ items.now) }
-{
-    let mut copy = Vec::new(alloc);
-    for item in items {
-        push(&mut copy, *item)?;
-    }
-    Ok(copy)
 }
 
 /// The summaries of all reservations.

@@ -1,0 +1,11 @@
+pub mod ReservationFacts
+pub mod ReleaseTable
+pub mod Placing
+pub mod Edging
+pub mod PassingSteps
+pub mod Keeping
+pub mod Grouping
+pub mod Concluding
+pub mod RuleSteps
+pub mod Finishing
+pub mod SweepingDown

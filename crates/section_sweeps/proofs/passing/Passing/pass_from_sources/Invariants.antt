@@ -1,0 +1,13 @@
+use Rattle.std.proofs.Common.{◌≡◌, ℕ, true, take}
+use Rattle.std.specs.Prelude.{Contains}
+use Rattle.graph_model.specs.declared.graph.verb.Edge.{Edge}
+use Rattle.graph_model.specs.graph.Edges.{edges}
+use Rattle.race_sweeps.specs.Marks.{bit_in}
+use Rattle.section_sweeps.specs.Passing.{HasEither}
+use Rattle.section_sweeps.proofs.passing.Passing.pass_from_sources.Given as goal
+
+abbrev pub invariant-loop-edge : goal.invariant-loop-edge
+invariant-loop-edge l = record {
+  is : (b : ℕ) → bit_in l.word b ≡ true → (e : Edge) × Contains (edges l.graph) e × (e.to ≡ l.line) × HasEither l.self.own.items l.self.passed.items e.from b;
+  all : (e : Edge) (b : ℕ) → Contains (take l.edge-index l.edges) e → HasEither l.self.own.items l.self.passed.items e.from b → bit_in l.word b ≡ true;
+}

@@ -1,0 +1,8 @@
+use Rattle.std.proofs.Common.{◌≡◌, ℕ, ◌<◌, true}
+use Rattle.std.specs.Prelude.{slice_index}
+use Rattle.graph_model.specs.meaning.Rules.{Acquires}
+use Rattle.race_sweeps.specs.Marks.{bit_in}
+use Rattle.section_sweeps.proofs.rules.descends.Given as goal
+
+abbrev pub invariant-loop-bit : goal.invariant-loop-bit
+invariant-loop-bit l = (b k : ℕ) → b < l.bit → bit_in l.inside b ≡ true → Acquires l.graph (slice_index l.acquires b) k → k < l.lock

@@ -1,0 +1,5 @@
+pub mod Releases
+pub mod Table
+pub mod Passing
+pub mod Group
+pub mod Sections
