@@ -4,8 +4,9 @@ use Rattle.std.specs.Prelude.{Option, Some, None, MatchOption, slice_get, ◌==�
 use Rattle.std.specs.Option.{option_map_or}
 use Rattle.std.specs.List.{list_any, list_all}
 use Rattle.std.specs.Str.{bytes_eq}
-use Rattle.std.proofs.lemmas.Bool.{true≢false, false_from_ne_true, eqb-true, and_parts, or_parts, or_from, or_left}
+use Rattle.std.proofs.lemmas.Bool.{true≢false, false_from_ne_true, eqb-true, and_parts, or_parts, or_from, or_left, or_right}
 use Rattle.std.proofs.lemmas.Option.{none-some, same_Some, slice_get-get_or}
+use Rattle.std.proofs.lemmas.List.{map-append}
 use Rattle.std.proofs.lemmas.List.Folds.{list_any-append}
 use Rattle.std.proofs.lemmas.List.Quantifiers.{position-Some}
 use Rattle.std.proofs.lemmas.Slice.Eq.{bytes_eq-Decides}
@@ -102,3 +103,38 @@ found_line g q i h =
     let l : Line = record { name = []; verb = User; on = None } in
     let at = position-Some (λ (x : Line). bytes_eq x.name q) g.lines i l h in
     (at.0, name_is g i (get_or g.lines i l) (slice_get-get_or g.lines i l at.0) ∙ (bytes_eq-Decides (get_or g.lines i l).name q).0 at.1)
+
+-- a name stays listed, and the name of the last line is
+still_listed : (q : List ℕ) (before : List Line) (l : Line) → list_any (bytes_eq q) (map (λ (x : Line). x.name) before) ≡ true → list_any (bytes_eq q) (map (λ (x : Line). x.name) (before ++ l ∷ [])) ≡ true
+still_listed q before l h =
+    ap (list_any (bytes_eq q)) (map-append (λ (x : Line). x.name) before (l ∷ []))
+    ∙ (list_any-append (bytes_eq q) (map (λ (x : Line). x.name) before) (l.name ∷ []) ∙ or_left (list_any (bytes_eq q) (map (λ (x : Line). x.name) before)) _ h)
+
+last_listed : (before : List Line) (l : Line) → list_any (bytes_eq l.name) (map (λ (x : Line). x.name) (before ++ l ∷ [])) ≡ true
+last_listed before l =
+    ap (list_any (bytes_eq l.name)) (map-append (λ (x : Line). x.name) before (l ∷ []))
+    ∙ (list_any-append (bytes_eq l.name) (map (λ (x : Line). x.name) before) (l.name ∷ [])
+    ∙ or_right (list_any (bytes_eq l.name) (map (λ (x : Line). x.name) before)) _ (or_left (bytes_eq l.name l.name) false (same_bytes l.name l.name refl)))
+
+-- two lines have two names: what stands before a line that fits has another
+later : (decls : List Decl) (before ls : List Line) → LinesFit decls before ls → (q : List ℕ) → list_any (bytes_eq q) (map (λ (x : Line). x.name) before) ≡ true → (k : ℕ) (m : Line) → slice_get ls k ≡ Some m → m.name ≡ q → ⊥
+later decls before [] f q h k m e s = none-some m e
+later decls before (l ∷ ls) f q h zero m e s =
+    let same : l.name ≡ q = ap (λ (x : Line). x.name) (same_Some l m e) ∙ s in
+    let names = list_any-append (bytes_eq l.name) (map decl_name decls) (map (λ (x : Line). x.name) before) in
+    let none = (or_parts _ _ (sym names ∙ unused_line_name (record { decls = decls; lines = before }) l f.1)).1 in
+    true≢false (sym h ∙ (ap (λ n. list_any (bytes_eq n) (map (λ (x : Line). x.name) before)) (sym same) ∙ none))
+later decls before (l ∷ ls) f q h (suc k) m e s = later decls (before ++ l ∷ []) ls f.2 q (still_listed q before l h) k m e s
+
+apart : (decls : List Decl) (before ls : List Line) → LinesFit decls before ls → (i j : ℕ) (l m : Line) → slice_get ls i ≡ Some l → slice_get ls j ≡ Some m → l.name ≡ m.name → i ≡ j
+apart decls before [] f i j l m d e s = absurd (none-some l d)
+apart decls before (x ∷ xs) f zero zero l m d e s = refl
+apart decls before (x ∷ xs) f zero (suc j) l m d e s = absurd (later decls (before ++ x ∷ []) xs f.2 x.name (last_listed before x) j m e (sym s ∙ ap (λ (y : Line). y.name) (sym (same_Some x l d))))
+apart decls before (x ∷ xs) f (suc i) zero l m d e s = absurd (later decls (before ++ x ∷ []) xs f.2 x.name (last_listed before x) i l d (s ∙ ap (λ (y : Line). y.name) (sym (same_Some x m e))))
+apart decls before (x ∷ xs) f (suc i) (suc j) l m d e s = ap suc (apart decls (before ++ x ∷ []) xs f.2 i j l m d e s)
+
+pub one_line_named : (g : GraphValue) → IsGraph g → (i j : ℕ) → i < length g.lines → j < length g.lines → line_name g i ≡ line_name g j → i ≡ j
+one_line_named g f i j a b e =
+    let l = line_at g.lines i a in
+    let m = line_at g.lines j b in
+    apart g.decls [] g.lines f.lines i j l.0 m.0 l.1 m.1 (sym (name_is g i l.0 l.1) ∙ (e ∙ name_is g j m.0 m.1))

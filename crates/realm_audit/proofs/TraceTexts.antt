@@ -2,15 +2,15 @@
 use Rattle.std.proofs.Common.{◌≡◌, ℕ, zero, suc, ◌+◌, ◌<◌, ◌≤◌, Bool, true, false, List, [], ◌∷◌, ◌++◌, length, refl, sym, ◌∙◌, ap, subst, drop, get_or, append_assoc, append-nil, length-append, arith, inl, inr}
 use Rattle.std.specs.Prelude.{◌≢◌, ◌⊎◌, Option, Some, None, option_map, slice_get, codes, ◌==◌, MatchOption}
 use Rattle.std.proofs.lemmas.Bool.{true≢false}
-use Rattle.std.proofs.lemmas.List.{append_cancel_left}
+use Rattle.std.proofs.lemmas.List.{append_cancel_left, append_cancel_right}
 use Rattle.std.proofs.lemmas.Option.{none-some, same_Some}
 use Rattle.graph_model.specs.graph.Graph.{GraphValue}
 use Rattle.graph_model.specs.graph.Fits.{IsGraph}
 use Rattle.graph_model.specs.graph.Name.{is_name}
 use Rattle.graph_model.specs.graph.Spelling.{line_name}
 use Rattle.realm_trace.specs.Text.{at_text, at_texts, trace_text}
-use Rattle.realm_audit.specs.Reading.{AreLines, has_newline, IsFirstLine, front, BeginsNoItem, BeginsText, IsTraceFault, IsNoText}
-use Rattle.realm_audit.proofs.LineNames.{is_spelled, line_name_one_line}
+use Rattle.realm_audit.specs.Reading.{AreLines, has_newline, IsFirstLine, front, BeginsNoItem, BeginsText, IsTraceFault, IsNoText, TextTells}
+use Rattle.realm_audit.proofs.LineNames.{is_spelled, line_name_one_line, one_line_named}
 use Rattle.realm_audit.proofs.Fronts.{same_line, past_line, shared_line, some_bytes, newlines, front_within}
 
 abbrev header : List ℕ
@@ -221,3 +221,18 @@ module _ (g : GraphValue) (is_graph : IsGraph g) where
       stops [] left f d = some_bytes 0 after f
       stops (b ∷ lines) left f (inl d) = (let z : b ∷ (lines ++ left) ≡ [] = append_cancel_left closing (b ∷ (lines ++ left)) [] d in let l : suc (length (lines ++ left)) ≡ 0 = ap length z in omega arith)
       stops (b ∷ lines) left f (inr i) = other_byte ((b ∷ lines) ++ left) (line_name g i.0) i.1 i.3
+
+  -- items with one text are the same
+  same_items : (trace other : List ℕ) → AreLines g trace → AreLines g other → at_texts g trace ≡ at_texts g other → trace ≡ other
+  same_items [] [] h k e = refl
+  same_items [] (i ∷ is) h k e = absurd (true≢false (ap (λ z. get_or z 0 0 == 97) (sym e)))
+  same_items (t ∷ ts) [] h k e = absurd (true≢false (ap (λ z. get_or z 0 0 == 97) e))
+  same_items (t ∷ ts) (i ∷ is) h k e =
+      let s = same_line (codes "at " ++ line_name g t) (codes "at " ++ line_name g i) (at_texts g ts) (at_texts g is)
+          (item_one_line t (first_below g t ts h)) (item_one_line i (first_below g i is k)) (sym (item_line (line_name g t) (at_texts g ts)) ∙ (e ∙ item_line (line_name g i) (at_texts g is))) in
+      let one : t ≡ i = one_line_named g is_graph t i (first_below g t ts h) (first_below g i is k) (append_cancel_left (codes "at ") (line_name g t) (line_name g i) s.0) in
+      ap (λ z. z ∷ ts) one ∙ ap (λ z. i ∷ z) (same_items ts is (rest_below g t ts h) (rest_below g i is k) s.1)
+
+pub text_tells : TextTells
+text_tells g is_graph trace other h k e =
+    same_items g is_graph trace other h k (append_cancel_right (at_texts g trace) (at_texts g other) closing (append_cancel_left header (at_texts g trace ++ closing) (at_texts g other ++ closing) e))

@@ -2,6 +2,7 @@
 use Rattle.std.specs.Prelude.{◌≡◌, ℕ, zero, suc, ◌<◌, ◌==◌, Bool, false, cond, List, [], ◌∷◌, ◌++◌, length, Option, Some, None, option_map, slice_get}
 use Rattle.std.specs.List.{list_any}
 use Rattle.graph_model.specs.graph.Graph.{GraphValue}
+use Rattle.graph_model.specs.graph.Fits.{IsGraph}
 use Rattle.graph_model.specs.graph.Spelling.{line_name}
 use Rattle.realm_trace.specs.Text.{at_text, trace_text}
 use Rattle.realm_audit.specs.declared.reading.TraceRefusal.{TraceRefusal}
@@ -52,3 +53,7 @@ IsNoText g bytes = (trace : List ℕ) → AreLines g trace → trace_text g trac
 abbrev pub IsRefusal : GraphValue → List ℕ → TraceRefusal → Type 0
 IsRefusal g bytes (Line n) = IsTraceFault g bytes n × IsNoText g bytes
 IsRefusal g bytes NoMemory = Unit {0}
+
+-- a trace is told by its text
+abbrev pub TextTells : Type 0
+TextTells = (g : GraphValue) → IsGraph g → (trace other : List ℕ) → AreLines g trace → AreLines g other → trace_text g trace ≡ trace_text g other → trace ≡ other

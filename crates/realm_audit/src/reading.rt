@@ -4,7 +4,7 @@ ghost use Rattle.std.specs.Prelude.{◌≡◌, ℕ, List, ◌<◌, ◌^◌, ◌+
 ghost use Rattle.graph_model.specs.graph.Spelling.{line_name};
 ghost use Rattle.realm_trace.specs.Text.{at_text, trace_text};
 ghost use Rattle.realm_audit.specs.declared.reading.TraceRefusal.{TraceRefusal};
-ghost use Rattle.realm_audit.specs.Reading.{AreLines, has_newline, IsFirstLine, BeginsNoItem, IsRefusal};
+ghost use Rattle.realm_audit.specs.Reading.{AreLines, has_newline, IsFirstLine, BeginsNoItem, IsRefusal, TextTells};
 
 use graph_model::found::Found;
 use graph_model::graph::Graph;
@@ -56,7 +56,7 @@ fn next_item<'a>(graph: &Graph, bytes: &'a [u8]) -> Option<(u32, &'a [u8])>
     }
 }
 
-/// The trace of the graph whose text the bytes are: any lines of it, in any order. `Line` exactly where they are the
+/// The one trace of the graph whose text the bytes are: any lines of it, in any order. `Line` exactly where they are the
 /// text of none: the least number of lines with which no text of a trace begins. A line that is missing, that has no
 /// newline or that follows `done` begins none. `NoMemory` where memory ran out.
 pub fn read_trace(alloc: Global, graph: &Graph, bytes: &[u8]) -> Result<LineList, TraceRefusal>
@@ -83,3 +83,8 @@ pub fn read_trace(alloc: Global, graph: &Graph, bytes: &[u8]) -> Result<LineList
     }
     Ok(trace)
 }
+
+/// A text is that of one trace: it tells two traces of a graph apart. The function only states it.
+pub fn text_tells_traces_apart()
+    ensures { TextTells }
+{}
