@@ -83,7 +83,7 @@ shared_line bytes lines rest line after f h e = elim (line_or_none bytes) [
       let is : (l.0 ++ 10 ∷ []) ++ [] ≡ lines = same_Some _ lines (sym first ∙ (ap (front 1) (sym l.2.bytes_are) ∙ f)) in
       let begins : l.0 ++ 10 ∷ rest ≡ line ++ 10 ∷ after = sym (ap (λ z. z ++ rest) (append-nil (l.0 ++ 10 ∷ [])) ∙ append_assoc l.0 (10 ∷ []) rest) ∙ (ap (λ z. z ++ rest) is ∙ e) in
       (l.1, l.2.bytes_are ∙ ap (λ z. z ++ 10 ∷ l.1) (same_line l.0 line rest after l.2.one_line h begins).0)
-    )
+      )
 ]
 
 -- first lines are some bytes

@@ -53,6 +53,17 @@ texts_length g (i ∷ is) =
 item_line : (name rest : List ℕ) → at_text name ++ rest ≡ (codes "at " ++ name) ++ 10 ∷ rest
 item_line name rest = ap (λ z. codes "at " ++ z) (append_assoc name (10 ∷ []) rest)
 
+items_line : (g : GraphValue) (i : ℕ) (is rest : List ℕ) → at_texts g (i ∷ is) ++ rest ≡ (codes "at " ++ line_name g i) ++ 10 ∷ (at_texts g is ++ rest)
+items_line g i is rest = append_assoc (at_text (line_name g i)) (at_texts g is) rest ∙ item_line (line_name g i) (at_texts g is ++ rest)
+
+one_line_more : (g : GraphValue) (i : ℕ) (is lines more rest : List ℕ) → lines ≡ at_text (line_name g i) ++ more → more ≡ at_texts g is ++ rest → lines ≡ at_texts g (i ∷ is) ++ rest
+one_line_more g i is lines more rest e f = e ∙ (ap (λ z. at_text (line_name g i) ++ z) f ∙ sym (append_assoc (at_text (line_name g i)) (at_texts g is) rest))
+
+behind_header : (g : GraphValue) (lines rest trace other more left : List ℕ) → lines ≡ header ++ more → more ≡ at_texts g trace ++ left → lines ++ rest ≡ trace_text g other → at_texts g trace ++ (left ++ rest) ≡ at_texts g other ++ closing
+behind_header g lines rest trace other more left e f t =
+    append_cancel_left header (at_texts g trace ++ (left ++ rest)) (at_texts g other ++ closing)
+    (sym (ap (λ z. header ++ z) (append_assoc (at_texts g trace) left rest)) ∙ (sym (ap (λ z. z ++ rest) (e ∙ ap (λ z. header ++ z) f)) ∙ t))
+
 -- the closing line begins as no item does
 other_byte : (rest name more : List ℕ) → closing ++ rest ≡ at_text name ++ more → ⊥
 other_byte rest name more e = true≢false (ap (λ z. get_or z 0 0 == 100) e)
@@ -67,8 +78,7 @@ newlines_of_items g [] more = omega arith
 newlines_of_items g (i ∷ is) more =
     let again : length is + newlines more ≤ newlines (at_texts g is ++ more) = newlines_of_items g is more in
     let item : newlines (10 ∷ (at_texts g is ++ more)) ≤ newlines ((codes "at " ++ line_name g i) ++ 10 ∷ (at_texts g is ++ more)) = newlines_right (codes "at " ++ line_name g i) (10 ∷ (at_texts g is ++ more)) in
-    let same : newlines ((at_text (line_name g i) ++ at_texts g is) ++ more) ≡ newlines ((codes "at " ++ line_name g i) ++ 10 ∷ (at_texts g is ++ more)) =
-    ap newlines (append_assoc (at_text (line_name g i)) (at_texts g is) more ∙ item_line (line_name g i) (at_texts g is ++ more)) in
+    let same : newlines (at_texts g (i ∷ is) ++ more) ≡ newlines ((codes "at " ++ line_name g i) ++ 10 ∷ (at_texts g is ++ more)) = ap newlines (items_line g i is more) in
     omega arith
 
 -- bytes have more bytes than items
@@ -113,9 +123,9 @@ module _ (g : GraphValue) (is_graph : IsGraph g) where
   -- no item begins bytes whose first name is that of no line
   pub no_item : (bytes rest line after : List ℕ) → bytes ≡ codes "at " ++ rest → IsFirstLine rest line after → ((i : ℕ) → i < length g.lines → line ≡ line_name g i → ⊥) → BeginsNoItem g bytes
   no_item bytes rest line after e f n = λ i more b t. (
-    let same : codes "at " ++ rest ≡ codes "at " ++ (line_name g i ++ 10 ∷ more) = sym e ∙ (t ∙ item_line (line_name g i) more) in
-    n i b (same_line line (line_name g i) after more f.one_line (line_name_one_line g is_graph i b) (sym f.bytes_are ∙ append_cancel_left (codes "at ") rest (line_name g i ++ 10 ∷ more) same)).0
-  )
+      let same : codes "at " ++ rest ≡ codes "at " ++ (line_name g i ++ 10 ∷ more) = sym e ∙ (t ∙ item_line (line_name g i) more) in
+      n i b (same_line line (line_name g i) after more f.one_line (line_name_one_line g is_graph i b) (sym f.bytes_are ∙ append_cancel_left (codes "at ") rest (line_name g i ++ 10 ∷ more) same)).0
+      )
 
   pub misnamed : (line : List ℕ) → is_name line ≡ false → (i : ℕ) → i < length g.lines → line ≡ line_name g i → ⊥
   misnamed line h i b e = true≢false (sym (is_spelled g is_graph i b) ∙ (ap is_name (sym e) ∙ h))
@@ -130,10 +140,9 @@ module _ (g : GraphValue) (is_graph : IsGraph g) where
   left_over (t ∷ ts) [] rest h k e = absurd (let c : 97 ≡ 100 = ap (λ z. get_or z 0 0) e in omega arith)
   left_over (t ∷ ts) (i ∷ is) rest h k e =
       let here : (codes "at " ++ line_name g t) ++ 10 ∷ (at_texts g ts ++ rest) ≡ (codes "at " ++ line_name g i) ++ 10 ∷ (at_texts g is ++ closing) =
-      sym (append_assoc (at_text (line_name g t)) (at_texts g ts) rest ∙ item_line (line_name g t) (at_texts g ts ++ rest))
-      ∙ (e ∙ (append_assoc (at_text (line_name g i)) (at_texts g is) closing ∙ item_line (line_name g i) (at_texts g is ++ closing))) in
+      sym (items_line g t ts rest) ∙ (e ∙ items_line g i is closing) in
       let s = same_line (codes "at " ++ line_name g t) (codes "at " ++ line_name g i) (at_texts g ts ++ rest) (at_texts g is ++ closing)
-          (item_one_line t (first_below g t ts h)) (item_one_line i (first_below g i is k)) here in
+      (item_one_line t (first_below g t ts h)) (item_one_line i (first_below g i is k)) here in
       left_over ts is rest (rest_below g t ts h) (rest_below g i is k) s.1
 
   -- the first lines behind items
@@ -141,21 +150,16 @@ module _ (g : GraphValue) (is_graph : IsGraph g) where
   past_items m n [] rest lines h e f = (lines, (let k : n ≡ m = omega arith in ap (λ j. front j rest) k ∙ f), refl)
   past_items zero n (i ∷ is) rest lines h e f = absurd (omega arith)
   past_items (suc m) n (i ∷ is) rest lines h e f =
-      let name = line_name g i in
-      let bytes : at_texts g (i ∷ is) ++ rest ≡ (codes "at " ++ name) ++ 10 ∷ (at_texts g is ++ rest) = append_assoc (at_text name) (at_texts g is) rest ∙ item_line name (at_texts g is ++ rest) in
-      let p = past_line m (codes "at " ++ name) (at_texts g is ++ rest) lines (item_one_line i (first_below g i is h)) (ap (front (suc m)) (sym bytes) ∙ f) in
+      let p = past_line m (codes "at " ++ line_name g i) (at_texts g is ++ rest) lines (item_one_line i (first_below g i is h)) (ap (front (suc m)) (sym (items_line g i is rest)) ∙ f) in
       let q = past_items m n is rest p.0 (rest_below g i is h) (omega arith) p.1 in
-      (q.0, q.1, p.2 ∙ (ap (λ z. at_text name ++ z) q.2 ∙ sym (append_assoc (at_text name) (at_texts g is) q.0)))
+      (q.0, q.1, one_line_more g i is lines p.0 q.0 p.2 q.2)
 
   -- what the lines of a text of a trace are behind items
   begins_left : (bytes trace rest : List ℕ) (n : ℕ) → AreLines g trace → bytes ≡ header ++ (at_texts g trace ++ rest) → BeginsText g (suc (length trace + n)) bytes → (lines left : List ℕ) × (front n rest ≡ Some lines) × EndsOrGoesOn (lines ++ left)
   begins_left bytes trace rest n h e b =
       let p = past_line (length trace + n) (codes "realm-trace 1") (at_texts g trace ++ rest) b.lines refl (ap (front (suc (length trace + n))) (sym e) ∙ b.front_is) in
       let q = past_items (length trace + n) n trace rest p.0 h refl p.1 in
-      let lines : b.lines ≡ header ++ (at_texts g trace ++ q.0) = p.2 ∙ ap (λ z. header ++ z) q.2 in
-      let whole : header ++ (at_texts g trace ++ (q.0 ++ b.rest)) ≡ header ++ (at_texts g b.trace ++ closing) =
-      sym (ap (λ z. z ++ b.rest) lines ∙ ap (λ z. header ++ z) (append_assoc (at_texts g trace) q.0 b.rest)) ∙ b.text_is in
-      (q.0, b.rest, q.1, left_over trace b.trace (q.0 ++ b.rest) h b.are_lines (append_cancel_left header _ _ whole))
+      (q.0, b.rest, q.1, left_over trace b.trace (q.0 ++ b.rest) h b.are_lines (behind_header g b.lines b.rest trace b.trace p.0 q.0 p.2 q.2 b.text_is))
 
   no_text_by : (bytes trace rest : List ℕ) → AreLines g trace → bytes ≡ header ++ (at_texts g trace ++ rest) → (EndsOrGoesOn rest → ⊥) → IsNoText g bytes
   no_text_by bytes trace rest h e n = λ other k t. n (left_over trace other rest h k (append_cancel_left header _ _ (sym e ∙ sym t)))
@@ -175,9 +179,9 @@ module _ (g : GraphValue) (is_graph : IsGraph g) where
   refused_line bytes trace rest n h e no_end no_item is = (
     record {
       fails = λ b. (
-        let c = begins_left bytes trace rest 1 h e (subst (λ k. BeginsText g k bytes) (let k : n ≡ suc (length trace + 1) = omega arith in k) b) in
-        stops c.0 c.1 c.2 c.3
-      );
+          let c = begins_left bytes trace rest 1 h e (subst (λ k. BeginsText g k bytes) (let k : n ≡ suc (length trace + 1) = omega arith in k) b) in
+          stops c.0 c.1 c.2 c.3
+          );
       before = λ m l. begins_within g bytes trace (header ++ at_texts g trace) closing rest m h (e ∙ sym (append_assoc header (at_texts g trace) rest)) (sym (append_assoc header (at_texts g trace) closing))
           (let k : length trace + 0 ≤ newlines (at_texts g trace ++ []) = newlines_of_items g trace [] in
           let s : newlines (at_texts g trace ++ []) ≡ newlines (at_texts g trace) = ap newlines (append-nil (at_texts g trace)) in omega arith);
@@ -188,6 +192,7 @@ module _ (g : GraphValue) (is_graph : IsGraph g) where
       goes_nowhere : EndsOrGoesOn rest → ⊥
       goes_nowhere (inl c) = no_end [] c
       goes_nowhere (inr i) = no_item i.0 i.1 i.2 i.3
+
       stops : (lines left : List ℕ) → front 1 rest ≡ Some lines → EndsOrGoesOn (lines ++ left) → ⊥
       stops lines left f (inl c) = (let s = shared_line rest lines left (codes "done") [] f refl c in no_end s.0 s.1)
       stops lines left f (inr i) =
@@ -199,11 +204,11 @@ module _ (g : GraphValue) (is_graph : IsGraph g) where
   refused_more bytes trace rest after n h e c some is = (
     record {
       fails = λ b. (
-        let k : n ≡ suc (length trace + 2) = omega arith in
-        let d = begins_left bytes trace (closing ++ after) 2 h whole (subst (λ k. BeginsText g k bytes) k b) in
-        let p = past_line 1 (codes "done") after d.0 refl d.2 in
-        stops p.0 d.1 p.1 (subst (λ z. EndsOrGoesOn (z ++ d.1)) p.2 d.3)
-      );
+          let k : n ≡ suc (length trace + 2) = omega arith in
+          let d = begins_left bytes trace (closing ++ after) 2 h whole (subst (λ k. BeginsText g k bytes) k b) in
+          let p = past_line 1 (codes "done") after d.0 refl d.2 in
+          stops p.0 d.1 p.1 (subst (λ z. EndsOrGoesOn (z ++ d.1)) p.2 d.3)
+          );
       before = λ m l. begins_within g bytes trace (header ++ (at_texts g trace ++ closing)) [] after m h
           (whole ∙ sym (append_assoc header (at_texts g trace ++ closing) after ∙ ap (λ z. header ++ z) (append_assoc (at_texts g trace) closing after)))
           (sym (append-nil (header ++ (at_texts g trace ++ closing))))
@@ -214,9 +219,11 @@ module _ (g : GraphValue) (is_graph : IsGraph g) where
     where
       whole : bytes ≡ header ++ (at_texts g trace ++ (closing ++ after))
       whole = e ∙ ap (λ z. header ++ (at_texts g trace ++ z)) c
+
       goes_nowhere : EndsOrGoesOn (closing ++ after) → ⊥
       goes_nowhere (inl d) = some (append_cancel_left closing after [] d)
       goes_nowhere (inr i) = other_byte after (line_name g i.0) i.1 i.3
+
       stops : (lines left : List ℕ) → front 1 after ≡ Some lines → EndsOrGoesOn (closing ++ lines ++ left) → ⊥
       stops [] left f d = some_bytes 0 after f
       stops (b ∷ lines) left f (inl d) = (let z : b ∷ (lines ++ left) ≡ [] = append_cancel_left closing (b ∷ (lines ++ left)) [] d in let l : suc (length (lines ++ left)) ≡ 0 = ap length z in omega arith)
@@ -229,7 +236,7 @@ module _ (g : GraphValue) (is_graph : IsGraph g) where
   same_items (t ∷ ts) [] h k e = absurd (true≢false (ap (λ z. get_or z 0 0 == 97) e))
   same_items (t ∷ ts) (i ∷ is) h k e =
       let s = same_line (codes "at " ++ line_name g t) (codes "at " ++ line_name g i) (at_texts g ts) (at_texts g is)
-          (item_one_line t (first_below g t ts h)) (item_one_line i (first_below g i is k)) (sym (item_line (line_name g t) (at_texts g ts)) ∙ (e ∙ item_line (line_name g i) (at_texts g is))) in
+      (item_one_line t (first_below g t ts h)) (item_one_line i (first_below g i is k)) (sym (item_line (line_name g t) (at_texts g ts)) ∙ (e ∙ item_line (line_name g i) (at_texts g is))) in
       let one : t ≡ i = one_line_named g is_graph t i (first_below g t ts h) (first_below g i is k) (append_cancel_left (codes "at ") (line_name g t) (line_name g i) s.0) in
       ap (λ z. z ∷ ts) one ∙ ap (λ z. i ∷ z) (same_items ts is (rest_below g t ts h) (rest_below g i is k) s.1)
 
