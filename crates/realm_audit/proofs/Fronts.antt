@@ -1,8 +1,7 @@
 -- The first lines of bytes.
-use Rattle.std.proofs.Common.{◌≡◌, ℕ, zero, suc, ◌+◌, ◌<◌, ◌≤◌, Bool, true, false, cond, List, [], ◌∷◌, ◌++◌, length, refl, sym, ◌∙◌, ap, subst, ◌-◌, take, drop, get_or, add-one, take_all, length-drop, append_assoc, append-nil, arith, inl, inr, Bor}
+use Rattle.std.proofs.Common.{◌≡◌, ℕ, zero, suc, ◌+◌, ◌<◌, ◌≤◌, Bool, true, false, cond, List, [], ◌∷◌, ◌++◌, length, refl, sym, ◌∙◌, ap, ◌-◌, take, drop, get_or, add-one, take_all, length-drop, append_assoc, append-nil, arith, inl, inr, Bor}
 use Rattle.std.specs.Prelude.{◌⊎◌, Option, Some, None, option_map, ◌==◌, nat_eq}
-use Rattle.std.specs.List.{list_any}
-use Rattle.std.proofs.lemmas.Bool.{true≢false, or_parts, or_from, cond-true, cond-false, eqb-true}
+use Rattle.std.proofs.lemmas.Bool.{true≢false, or_parts, or_from, cond-false, eqb-true}
 use Rattle.std.proofs.lemmas.Option.{none-some, same_Some}
 use Rattle.std.specs.Cmp.Lexicographic.{pointwise}
 use Rattle.std.proofs.lemmas.Bool.Decides.{Decides-eqb}

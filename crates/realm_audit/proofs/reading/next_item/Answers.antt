@@ -1,10 +1,6 @@
-use Rattle.std.proofs.Common.{rules, ◌≡◌, ℕ, List, ◌<◌, ◌^◌, ◌++◌, false, length, IfOk, IfErr, MatchOption, ◌+◌, ◌-◌, ◌*◌, ◌≤◌, ◌/◌, ◌%◌, Bool, true, nat_eq, nat_lt, [], ◌∷◌, slice_index_or, slice_set, bit_and, bit_or, Fits, w8, w32, w64, Bor, MutBor, arith, sym, ◌∙◌, ap, subst, eq-eqb, true≢false, refl}
+use Rattle.std.proofs.Common.{◌≡◌, ◌∙◌, subst}
 use Rattle.std.specs.Prelude.{codes, Some, None}
 use Rattle.std.proofs.lemmas.Option.{none-some, same_Some}
-use Rattle.graph_model.specs.graph.Spelling.{line_name}
-use Rattle.realm_trace.specs.Text.{at_text, at_texts, trace_text}
-use Rattle.realm_audit.specs.declared.reading.TraceRefusal.{TraceRefusal}
-use Rattle.realm_audit.specs.Reading.{AreLines, has_newline, IsFirstLine, BeginsNoItem, IsRefusal}
 use Rattle.graph_model.specs.graph.Names.{StandsFor}
 use Rattle.graph_model.specs.declared.graph.found.Found.TheVariants as found
 use Rattle.realm_audit.proofs.LineNames.{found_line, found_other}
