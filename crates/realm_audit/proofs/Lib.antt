@@ -1,0 +1,3 @@
+pub mod LineNames
+pub mod Fronts
+pub mod TraceTexts
