@@ -3,8 +3,6 @@ use Rattle.std.proofs.Common.{◌≡◌, ℕ, zero, suc, ◌+◌, ◌<◌, ◌�
 use Rattle.std.specs.Prelude.{Contains, Option, Some, None, slice_index}
 use Rattle.std.proofs.lemmas.List.{take_more, take_all}
 use Rattle.std.proofs.lemmas.List.Elements.{Contains-get_or}
-use Rattle.race_check.specs.Order.{HasRoom}
-use Rattle.race_check.proofs.Sorting.{room_none, room_push, contains_take}
 use Rattle.std.proofs.lemmas.Bool.{true≢false, cases_Bool, cases_order}
 use Rattle.std.proofs.lemmas.Option.{none-some}
 use Rattle.graph_model.specs.graph.Graph.{GraphValue, never_comes, locks}
@@ -25,6 +23,7 @@ use Rattle.realm_timeline.specs.Plan.{Planned, slot_at, HasSlot, IsPlan, Finishe
 use Rattle.realm_timeline.specs.Queue.{queue_at, NoneFree}
 use Rattle.realm_timeline.specs.State.{State, queue_of, is_done, runs_at, IsWaiting, Holds, IsResting, IsOrder}
 use Rattle.realm_timeline.proofs.SlotFacts.{one_slot, takes_time, path_finished}
+use Rattle.realm_timeline.proofs.Positions.{few_distinct}
 use Rattle.realm_timeline.proofs.KeptFacts.{sources_none, path_started, queue_acquires}
 
 -- the release of an acquire is a line, and is no acquire
@@ -187,29 +186,10 @@ others_are_reached g graph accepted p s some r over = unstarted_reached g graph 
 pub plan_is_greedy : (g : GraphValue) → IsGraph g → Accepted g → (p : ℕ) (s : State) → 0 < p → IsResting g p s → ((q k : ℕ) → runs_at s.running q ≡ Some k → ⊥) → IsGreedy g p s.slots
 plan_is_greedy g graph accepted p s some r over = is_greedy g graph accepted p s some r over
 
--- a list of different lines is no longer than the lines
-room : (g : GraphValue) (order : List ℕ) → ((a b : ℕ) → a < b → b < length order → slice_index order a ≡ slice_index order b → ⊥) → ((i : ℕ) → Contains order i → i < length g.lines) → (k : ℕ) → k ≤ length order → HasRoom g (take k order)
-room g order once below zero h = subst (HasRoom g) (sym (take_none order)) (room_none g)
-  where
-    take_none : (xs : List ℕ) → take 0 xs ≡ []
-    take_none [] = refl
-    take_none (x ∷ xs) = refl
-room g order once below (suc k) h =
-    let more : take (suc k) order ≡ take k order ++ slice_index order k ∷ [] = subst (λ n. take n order ≡ take k order ++ slice_index order k ∷ []) (let e : k + 1 ≡ suc k = omega arith in e) (take_more order k 0 (omega arith)) in
-    subst (HasRoom g) (sym more) (room_push g (take k order) (slice_index order k) (room g order once below k (omega arith)) (below (slice_index order k) (Contains-get_or order k 0 (omega arith)))
-    (λ c. (let at = contains_take order k (slice_index order k) c in once at.0 k at.1 (omega arith) at.3)))
-
-few_lines : (g : GraphValue) (order : List ℕ) → ((a b : ℕ) → a < b → b < length order → slice_index order a ≡ slice_index order b → ⊥) → ((i : ℕ) → Contains order i → i < length g.lines) → length order ≤ length g.lines
-few_lines g order once below =
-    let r : HasRoom g (take (length order) order) = room g order once below (length order) (omega arith) in
-    let all : take (length order) order ≡ order = take_all (length order) order (omega arith) in
-    let r' : HasRoom g order = subst (HasRoom g) all r in
-    omega arith
-
 pub order_is : (g : GraphValue) → IsGraph g → Accepted g → (p : ℕ) (s : State) → 0 < p → IsResting g p s → ((q k : ℕ) → runs_at s.running q ≡ Some k → ⊥) → IsOrder g s.order
 order_is g graph accepted p s some r over = record {
   listed = λ i. ((λ c. (let x = (r.run.kept.ordered i).0 c in r.run.so_far.some.planned i x.0 x.1)), (λ planned. (r.run.kept.ordered i).1 (all_started g graph accepted p s some r over i planned)));
   once = r.run.kept.once;
   before = r.run.kept.before;
-  few = few_lines g s.order r.run.kept.once (λ i c. (let x = (r.run.kept.ordered i).0 c in (r.run.so_far.some.planned i x.0 x.1).line));
+  few = few_distinct s.order (length g.lines) r.run.kept.once (λ i c. (let x = (r.run.kept.ordered i).0 c in (r.run.so_far.some.planned i x.0 x.1).line));
 }

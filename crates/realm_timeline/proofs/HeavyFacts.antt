@@ -4,11 +4,11 @@ use Rattle.std.specs.Prelude.{◌==◌, Contains, Option, Some, None, MatchOptio
 use Rattle.std.proofs.Common.{replicate}
 use Rattle.std.proofs.lemmas.List.{length-replicate, reverse-append}
 use Rattle.std.specs.Prelude.{reverse}
+use Rattle.realm_timeline.proofs.Positions.{contains_take, take_contains, place, place_is, place_before, listed_or_not}
 use Rattle.realm_timeline.proofs.LoopFacts.{no_edge}
 use Rattle.realm_timeline.proofs.StartFacts.{replicate_at}
 use Rattle.std.specs.List.{slice_index_or}
 use Rattle.std.proofs.lemmas.Bool.{true≢false, cases_lt, cases_eq, eq-eqb, eqb-true}
-use Rattle.race_check.specs.Order.{is_in}
 use Rattle.std.proofs.lemmas.List.{take_more, take_all, get_or-set_same, get_or-set_other, length-set, get_or_past}
 use Rattle.std.proofs.lemmas.List.Elements.{Contains-push, Contains-push_cases, Contains-append_left, Contains-get_or}
 use Rattle.std.proofs.lemmas.Option.{none-some}
@@ -16,7 +16,6 @@ use Rattle.graph_model.specs.declared.graph.verb.Edge.{Edge}
 use Rattle.graph_model.specs.graph.Graph.{GraphValue}
 use Rattle.graph_model.specs.graph.Edges.{edges, edges_into}
 use Rattle.basics.proofs.ListFacts.{contains_none, filter_contains, contains_filter}
-use Rattle.race_check.proofs.Sorting.{contains_take, take_contains, in_contains, contains_in, place, place_is, place_before}
 use Rattle.realm_timeline.specs.Plan.{Planned, cost}
 use Rattle.realm_timeline.specs.Chains.{HasEdge, IsChain, chain_cost, IsCritical}
 use Rattle.realm_timeline.specs.State.{IsOrder}
@@ -277,13 +276,10 @@ module _ (g : GraphValue) (order : List ℕ) (is : IsOrder g order) (costs : Lis
   ]
 
   weighed_planned : (i : ℕ) → 0 < heavy_at costs i → Planned g i
-  weighed_planned i some = (is.listed i).0 (by (is_in order i) refl)
-    where
-      by : (b : Bool) → is_in order i ≡ b → Contains order i
-      by true e = in_contains order i e
-      by false e = (let z : heavy_at costs i ≡ 0 = h.none i (λ c. (
-          let all : Contains order i = subst (λ xs. Contains xs i) (take_all (length order) order (omega arith)) c in
-          true≢false (sym (contains_in order i all) ∙ e))) in absurd (omega arith))
+  weighed_planned i some = elim (listed_or_not order i) [
+    | inl c ↦ (is.listed i).0 c
+    | inr out ↦ (let z : heavy_at costs i ≡ 0 = h.none i (λ c. out (subst (λ xs. Contains xs i) (take_all (length order) order (omega arith)) c)) in absurd (omega arith))
+  ]
 
   critical_none : (c : List ℕ) → ((k : ℕ) → k < length g.lines → heavy_at costs k ≡ 0) → c ≡ [] → IsCritical g c × (0 ≡ chain_cost g c)
   critical_none c zero' e =

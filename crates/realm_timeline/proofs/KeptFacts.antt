@@ -5,7 +5,6 @@ use Rattle.std.specs.Option.{option_map_or}
 use Rattle.std.specs.List.{slice_index_or}
 use Rattle.std.proofs.lemmas.Bool.{true≢false, cases_lt, cases_eq, eq-eqb, eqb-true, ne_eqb, and_parts, and_from, or_cases, or_left, or_right, not_from_false, not-true, false_from_ne_true}
 use Rattle.std.proofs.lemmas.List.{get_or_past, get_or-set_same, get_or-set_other, length-set}
-use Rattle.std.proofs.lemmas.List.Sums.{sum_by-cons}
 use Rattle.graph_model.specs.declared.graph.verb.Edge.{Edge}
 use Rattle.graph_model.specs.declared.graph.verb.Verb.{Verb}
 use Rattle.graph_model.specs.declared.graph.verb.Verb.TheVariants.{User, Trigger, Cancel, Merge, MergeIgnore, Phase, Arrive, Acquire, Release, Fill, Copy, Reduce, Task}
@@ -15,11 +14,11 @@ use Rattle.graph_model.specs.meaning.Path.{HasPath}
 use Rattle.graph_model.specs.meaning.Rules.{Acquires}
 use Rattle.graph_model.proofs.PathLaws.{back_path}
 use Rattle.graph_model.proofs.VerbFacts.{is_acquire_from}
-use Rattle.race_check.proofs.Sorting.{none_counted, counted_none}
 use Rattle.realm_timeline.specs.declared.slot.Slot.{Slot}
 use Rattle.realm_timeline.specs.Plan.{slot_at, HasSlot}
 use Rattle.realm_timeline.specs.Queue.{QueueValue, queue_at, has_line}
 use Rattle.realm_timeline.specs.State.{State, verb_queue, queue_of, is_done, waits_for, IsWaiting, IsKept, IsOffered, Passes}
+use Rattle.realm_timeline.proofs.EdgeCounts.{bit, count_cons, count_one, count_zero, count_split, count_filter, none_counted, counted_none}
 
 -- states with the same parts are one
 pub same_state : (a b : State) → a.time ≡ b.time → a.slots ≡ b.slots → a.order ≡ b.order → a.done ≡ b.done → a.left ≡ b.left → a.queues ≡ b.queues → a.running ≡ b.running → a ≡ b
@@ -31,49 +30,6 @@ same_state a b t s o d l q r =
     ∙ (ap (λ x. record b { left = x; queues = a.queues; running = a.running }) l
     ∙ (ap (λ x. record b { queues = x; running = a.running }) q
     ∙ ap (λ x. record b { running = x }) r)))))
-
--- counts of edges
-abbrev pub bit : Bool → ℕ
-bit b = cond b 1 0
-
-pub count_cons : (t : Edge → Bool) (e : Edge) (es : List Edge) → count_by t (e ∷ es) ≡ cond (t e) 1 0 + count_by t es
-count_cons t e es = sum_by-cons (λ x. cond (t x) 1 0) e es
-
-pub count_one : (b : Bool) → b ≡ true → bit b ≡ 1
-count_one true e = refl
-count_one false e = absurd (true≢false (sym e))
-
-pub count_zero : (b : Bool) → b ≡ false → bit b ≡ 0
-count_zero true e = absurd (true≢false e)
-count_zero false e = refl
-
-pub count_split : (t s r : Edge → Bool) → ((e : Edge) → cond (t e) 1 0 ≡ cond (s e) 1 0 + cond (r e) 1 0) → (es : List Edge) → count_by t es ≡ count_by s es + count_by r es
-count_split t s r f [] = refl
-count_split t s r f (e ∷ es) =
-    let a : count_by t (e ∷ es) ≡ cond (t e) 1 0 + count_by t es = count_cons t e es in
-    let b : count_by s (e ∷ es) ≡ cond (s e) 1 0 + count_by s es = count_cons s e es in
-    let c : count_by r (e ∷ es) ≡ cond (r e) 1 0 + count_by r es = count_cons r e es in
-    let here : cond (t e) 1 0 ≡ cond (s e) 1 0 + cond (r e) 1 0 = f e in
-    let again : count_by t es ≡ count_by s es + count_by r es = count_split t s r f es in omega arith
-
-count_filter_by : (t p : Edge → Bool) (e : Edge) (es : List Edge) (b : Bool) → p e ≡ b → count_by t (cond b (e ∷ filter p es) (filter p es)) ≡ cond (t e && b) 1 0 + count_by t (filter p es)
-count_filter_by t p e es true h = count_cons t e (filter p es) ∙ ap (λ c. cond c 1 0 + count_by t (filter p es)) (and_one (t e))
-  where
-    and_one : (b : Bool) → b ≡ (b && true)
-    and_one true = refl
-    and_one false = refl
-count_filter_by t p e es false h = sym (let z : bit (t e && false) ≡ 0 = count_zero (t e && false) (and_none (t e)) in let k : cond (t e && false) 1 0 + count_by t (filter p es) ≡ count_by t (filter p es) = omega arith in k)
-  where
-    and_none : (b : Bool) → (b && false) ≡ false
-    and_none true = refl
-    and_none false = refl
-
-pub count_filter : (t p : Edge → Bool) (es : List Edge) → count_by t (filter p es) ≡ count_by (λ e. t e && p e) es
-count_filter t p [] = refl
-count_filter t p (e ∷ es) =
-    let a : count_by t (filter p (e ∷ es)) ≡ cond (t e && p e) 1 0 + count_by t (filter p es) = count_filter_by t p e es (p e) refl in
-    let b : count_by (λ e. t e && p e) (e ∷ es) ≡ cond (t e && p e) 1 0 + count_by (λ e. t e && p e) es = count_cons (λ e. t e && p e) e es in
-    let again : count_by t (filter p es) ≡ count_by (λ e. t e && p e) es = count_filter t p es in omega arith
 
 -- a place of a list that has not what stands past its end
 pub within : {X : Type 0} (xs : List X) (i : ℕ) (d : X) → (slice_index_or xs i d ≡ d → ⊥) → i < length xs

@@ -17,7 +17,8 @@ use Rattle.realm_timeline.specs.Plan.{HasSlot}
 use Rattle.realm_timeline.specs.Queue.{QueueValue, queue_at, has_line}
 use Rattle.realm_timeline.specs.State.{State, queue_of, is_done, runs_at, waits_for, Holds, IsKept, Frees, Leaves}
 use Rattle.realm_timeline.proofs.CostFacts.{acquire_queue}
-use Rattle.realm_timeline.proofs.KeptFacts.{same_state, within, bit, count_split, count_filter, path_started}
+use Rattle.realm_timeline.proofs.EdgeCounts.{bit, count_split, count_filter}
+use Rattle.realm_timeline.proofs.KeptFacts.{same_state, within, path_started}
 
 -- one edge more counts as passed
 awaits_by : (a b c d : Bool) → (c ≡ true → (b ≡ false) × (d ≡ true)) → (c ≡ false → d ≡ b) → bit (a && not b) ≡ bit (a && not d) + bit (a && c)

@@ -13,12 +13,11 @@ use Rattle.graph_model.specs.graph.Edges.{edge, edges, edges_into}
 use Rattle.graph_model.specs.graph.Fits.{IsGraph}
 use Rattle.basics.proofs.ListFacts.{count_below-max, contains_none}
 use Rattle.graph_model.proofs.GraphFacts.{edges_in_range}
-use Rattle.race_check.proofs.Sorting.{counted_none}
 use Rattle.realm_timeline.specs.declared.slot.Slot.{Slot}
 use Rattle.realm_timeline.specs.Plan.{slot_at, HasSlot}
 use Rattle.realm_timeline.specs.Queue.{QueueValue, queue_at, no_queue, has_line}
 use Rattle.realm_timeline.specs.State.{State, is_done, runs_at, waits_for, IsKept, IsRun, Passes, undone, first_edges}
-use Rattle.realm_timeline.proofs.KeptFacts.{bit, count_cons, count_one, count_zero, count_split}
+use Rattle.realm_timeline.proofs.EdgeCounts.{bit, count_cons, count_one, count_zero, count_split, counted_none}
 use Rattle.realm_timeline.proofs.LoopFacts.{no_edge, next_waits, next_passed}
 
 -- one item at each place

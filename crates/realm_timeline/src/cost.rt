@@ -7,7 +7,7 @@ ghost use Rattle.graph_model.specs.graph.Graph.{locks};
 ghost use Rattle.graph_model.specs.meaning.Rules.{Releases};
 
 use graph_model::graph::Graph;
-use graph_model::line_laws::accesses_fit;
+use graph_model::line_laws::{accesses_are_few, accesses_fit};
 use graph_model::verb::Verb;
 
 /// A line has at most three accesses.
@@ -20,6 +20,7 @@ pub(crate) fn cost_of(graph: &Graph, line: u32) -> u64
     ensures few { result ≤ 17179869184 }
 {
     accesses_fit();
+    accesses_are_few();
     let _ = graph.lines();
     let mut cost: u64 = 1;
     for k in 0..MOST_ACCESSES {

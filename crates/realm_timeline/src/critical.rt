@@ -8,7 +8,7 @@ ghost use Rattle.realm_timeline.specs.Heavy.{heavy_at, before_at, IsBestOf, AreH
 ghost use Rattle.graph_model.specs.declared.graph.verb.Edge.{Edge as EdgeValue};
 
 use crate::cost::cost_of;
-use crate::room::{filled, push};
+use index_spaces::room::{filled, push};
 use graph_model::graph::Graph;
 use graph_model::laws::edges_between_lines;
 use graph_model::lists::LineList;
@@ -48,8 +48,8 @@ impl Heavy {
     {
         let lines = graph.lines();
         let mut heavy = Heavy {
-            costs: filled(alloc, 0, lines)?,
-            before: filled(alloc, None, lines)?,
+            costs: filled(alloc, 0, lines as usize)?,
+            before: filled(alloc, None, lines as usize)?,
         };
         for place in 0..order.len() {
             heavy.weigh(graph, order[place]);

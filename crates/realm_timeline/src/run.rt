@@ -12,7 +12,7 @@ ghost use Rattle.realm_timeline.specs.State.{state_of, is_done, runs_at, IsKept,
 
 use crate::cost::{cost_of, queue_of, released};
 use crate::queue::{Queue, insert_at, lowest_of, set_held_at, take_at};
-use crate::room::{filled, push};
+use index_spaces::room::{filled, push};
 use crate::slot::Slot;
 use graph_model::graph::Graph;
 use graph_model::laws::edges_between_lines;
@@ -68,12 +68,12 @@ impl Run {
         let lines = graph.lines();
         let mut run = Run {
             time: 0,
-            slots: filled(alloc, None, lines)?,
+            slots: filled(alloc, None, lines as usize)?,
             order: Vec::new(alloc),
-            done: filled(alloc, false, lines)?,
+            done: filled(alloc, false, lines as usize)?,
             left: first_counts(alloc, graph)?,
             queues: empty_queues(alloc, graph.locks() + 1)?,
-            running: filled(alloc, None, processors)?,
+            running: filled(alloc, None, processors as usize)?,
         };
         for line in 0..lines {
             run.pass(graph, line)?;

@@ -1,7 +1,7 @@
 //! The text of a timeline.
 
 ghost use Rattle.std.specs.Prelude.{◌≡◌, ℕ, ◌<◌, length, Some, slice_get};
-ghost use Rattle.realm_io.specs.Written.{sink_state, Writes};
+ghost use Rattle.realm_io.specs.Written.{Writes};
 ghost use Rattle.realm_timeline.specs.Plan.{slot_at};
 ghost use Rattle.realm_timeline.specs.Text.{number_text, slot_text, op_text, op_texts, name_text, name_texts, length_text, critical_text, timeline_text};
 
