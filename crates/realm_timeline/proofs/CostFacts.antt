@@ -27,7 +27,7 @@ cost_more g i k c n a up at is few =
     let inside : k < length (accesses g i) = slice_get_within (accesses g i) k a at in
     let more = take_more (accesses g i) k a inside ∙ ap (λ x. take k (accesses g i) ++ x ∷ []) (get_or_from_slice_get (accesses g i) k a a at) in
     let sum : sum_by (access_size g) (take (k + 1) (accesses g i)) ≡ sum_by (access_size g) (take k (accesses g i)) + access_size g a = ap (sum_by (access_size g)) more ∙ sum_by_push (access_size g) (take k (accesses g i)) a in
-    let so_far : c ≡ 1 + sum_by (access_size g) (take k (accesses g i)) = up.cost in
+    let up_to_now : c ≡ 1 + sum_by (access_size g) (take k (accesses g i)) = up.cost in
     let bound : c ≤ 1 + 1048576 * k = up.few in
     record { cost = omega arith; few = omega arith }
 

@@ -9,41 +9,43 @@ use Rattle.graph_model.specs.graph.Graph.{GraphValue}
 use Rattle.basics.proofs.ListFacts.{fewer_below}
 use Rattle.realm_timeline.specs.declared.slot.Slot.{Slot}
 use Rattle.realm_timeline.specs.Plan.{HasSlot, FinishedBy}
-use Rattle.realm_timeline.specs.State.{State, is_done, runs_at, IsKept, IsPatientAt, IsSoFar, undone, IsRun, IsResting, IsNextFinish, Finishes, IsSoonestOf, IsSoonest, IsFinishOn, FinishesOn, IsFinishing}
+use Rattle.realm_timeline.specs.State.{State, is_done, runs_at, IsConsistent, IsGreedyAt, IsGreedyUpTo, undone, IsSimulation, HasStartedAll}
+use Rattle.realm_timeline.specs.Steps.{Finishes}
+use Rattle.realm_timeline.specs.NextFinish.{IsNextFinish, IsSoonestOf, IsSoonest, IsFinishOn, FinishesOn, IsFinishing}
 use Rattle.realm_timeline.proofs.SlotFacts.{one_slot}
-use Rattle.realm_timeline.proofs.KeptFacts.{within}
+use Rattle.realm_timeline.proofs.ConsistentCounts.{within}
 
-module _ (g : GraphValue) (p : ℕ) (s new : State) (next : ℕ) (r : IsResting g p s) (n : IsNextFinish s next) (k : IsKept g p new []) (slots : new.slots ≡ s.slots) (time : new.time ≡ next)
-    (finished : (i : ℕ) → is_done new.done i ≡ true → FinishedBy s.slots next i) (told : (i : ℕ) → FinishedBy s.slots next i → is_done new.done i ≡ true) where
+module _ (g : GraphValue) (p : ℕ) (s new : State) (next : ℕ) (r : HasStartedAll g p s) (n : IsNextFinish s next) (k : IsConsistent g p new []) (slots : new.slots ≡ s.slots) (time : new.time ≡ next)
+    (finished : (i : ℕ) → is_done new.done i ≡ true → FinishedBy s.slots next i) (marked : (i : ℕ) → FinishedBy s.slots next i → is_done new.done i ≡ true) where
   later : s.time < next
   later = elim (cases_lt s.time next) [
     | inl l ↦ l
     | inr past ↦ (
         let f : n.slot.finish ≡ next = n.finish in
-        absurd (true≢false (sym (r.run.told.told n.line (n.slot, n.has, (let b : n.slot.finish ≤ s.time = omega arith in b))) ∙ n.runs)))
+        absurd (true≢false (sym (r.simulation.done_lines.marked n.line (n.slot, n.has, (let b : n.slot.finish ≤ s.time = omega arith in b))) ∙ n.runs)))
   ]
 
   keeps : (i : ℕ) → is_done s.done i ≡ true → is_done new.done i ≡ true
   keeps i d =
-      let f = r.run.told.finished i d in
+      let f = r.simulation.done_lines.finished i d in
       let a : f.0.finish ≤ s.time = f.2 in
       let b : s.time < next = later in
-      told i (f.0, f.1, (let c : f.0.finish ≤ next = omega arith in c))
+      marked i (f.0, f.1, (let c : f.0.finish ≤ next = omega arith in c))
 
   was_undone : (i : ℕ) → is_done new.done i ≡ false → is_done s.done i ≡ false
   was_undone i h = false_from_ne_true (is_done s.done i) (λ d. true≢false (sym (keeps i d) ∙ h))
 
-  patient : (u : ℕ) → u < next → IsPatientAt g p s.slots u
-  patient u before moment = elim (cases_order u s.time) [
-    | inl same ↦ subst (IsPatientAt g p s.slots) (sym same) r.patient moment
-    | inr (inl early) ↦ r.run.so_far.patient u early moment
+  greedy : (u : ℕ) → u < next → IsGreedyAt g p s.slots u
+  greedy u before moment = elim (cases_order u s.time) [
+    | inl same ↦ subst (IsGreedyAt g p s.slots) (sym same) r.greedy moment
+    | inr (inl early) ↦ r.simulation.up_to_now.greedy u early moment
     | inr (inr late) ↦ absurd (elim moment [
       | inl zero_is ↦ (let e : u ≡ 0 = zero_is in absurd (omega arith))
       | inr m ↦ (
           let at : m.1.finish ≡ u = m.3 in
           elim (cases_Bool (is_done s.done m.0)) [
             | inl d ↦ (
-                let f = r.run.told.finished m.0 d in
+                let f = r.simulation.done_lines.finished m.0 d in
                 let same : f.0.finish ≡ m.1.finish = ap (λ (z : Slot). z.finish) (one_slot s.slots m.0 f.0 m.1 f.1 m.2) in
                 let b : f.0.finish ≤ s.time = f.2 in absurd (omega arith))
             | inr unf ↦ (let b : next ≤ m.1.finish = n.least m.0 m.1 m.2 unf in absurd (omega arith))
@@ -51,57 +53,57 @@ module _ (g : GraphValue) (p : ℕ) (s new : State) (next : ℕ) (r : IsResting 
     ])
   ]
 
-  so_far : IsSoFar g p s.slots next
-  so_far =
+  up_to_now : IsGreedyUpTo g p s.slots next
+  up_to_now =
       let l : s.time < next = later in
       record {
-        some = r.run.so_far.some;
-        valid = r.run.so_far.valid;
-        moments = r.run.so_far.moments;
-        free = r.run.so_far.free;
-        lowest = r.run.so_far.lowest;
-        early = λ i y h. (let a : y.start ≤ s.time = r.run.so_far.early i y h in omega arith);
+        some = r.simulation.up_to_now.some;
+        valid = r.simulation.up_to_now.valid;
+        moments = r.simulation.up_to_now.moments;
+        free = r.simulation.up_to_now.free;
+        lowest = r.simulation.up_to_now.lowest;
+        early = λ i y h. (let a : y.start ≤ s.time = r.simulation.up_to_now.early i y h in omega arith);
         moment = inr (n.line, n.slot, n.has, n.finish);
-        patient = patient;
+        greedy = greedy;
       }
 
   less : undone new.done (length g.lines) + 1 ≤ undone s.done (length g.lines)
   less =
       let below : n.line < length s.slots = within s.slots n.line None (λ h. none-some n.slot (sym h ∙ n.has)) in
-      let count : length s.slots ≡ length g.lines = r.run.kept.slot_count in
+      let count : length s.slots ≡ length g.lines = r.simulation.consistent.slot_count in
       fewer_below (λ i. not (is_done new.done i)) (λ i. not (is_done s.done i)) (λ i h. not_from_false (is_done s.done i) (was_undone i (not-true (is_done new.done i) h))) (length g.lines) n.line (omega arith)
-      (not_from_true (is_done new.done n.line) (told n.line (n.slot, n.has, (let f : n.slot.finish ≡ next = n.finish in let b : n.slot.finish ≤ next = omega arith in b))))
+      (not_from_true (is_done new.done n.line) (marked n.line (n.slot, n.has, (let f : n.slot.finish ≡ next = n.finish in let b : n.slot.finish ≤ next = omega arith in b))))
       (not_from_false (is_done s.done n.line) n.runs)
 
   started_before : (i : ℕ) (y : Slot) → HasSlot new.slots i y → y.start ≡ new.time → ⊥
   started_before i y h at =
-      let a : y.start ≤ s.time = r.run.so_far.early i y (subst (λ xs. HasSlot xs i y) slots h) in
+      let a : y.start ≤ s.time = r.simulation.up_to_now.early i y (subst (λ xs. HasSlot xs i y) slots h) in
       let l : s.time < next = later in
       let t : new.time ≡ next = time in
       absurd (omega arith)
 
-  run_finished : IsRun g p new × (undone new.done (length g.lines) < undone s.done (length g.lines))
-  run_finished =
+  finish_goes_on : IsSimulation g p new × (undone new.done (length g.lines) < undone s.done (length g.lines))
+  finish_goes_on =
       let fewer : undone new.done (length g.lines) + 1 ≤ undone s.done (length g.lines) = less in (
         record {
-          kept = k;
-          so_far = subst (λ u. IsSoFar g p new.slots u) (sym time) (subst (λ xs. IsSoFar g p xs next) (sym slots) so_far);
-          told = record {
+          consistent = k;
+          up_to_now = subst (λ u. IsGreedyUpTo g p new.slots u) (sym time) (subst (λ xs. IsGreedyUpTo g p xs next) (sym slots) up_to_now);
+          done_lines = record {
             finished = λ i d. (let f = finished i d in (f.0, subst (λ xs. HasSlot xs i f.0) (sym slots) f.1, subst (λ u. f.0.finish ≤ u) (sym time) f.2));
-            told = λ i f. told i (f.0, subst (λ xs. HasSlot xs i f.0) slots f.1, subst (λ u. f.0.finish ≤ u) time f.2);
+            marked = λ i f. marked i (f.0, subst (λ xs. HasSlot xs i f.0) slots f.1, subst (λ u. f.0.finish ≤ u) time f.2);
           };
-          in_turn = record {
+          lowest_first = record {
             lower = λ i y h at. absurd (started_before i y h at);
-            rivals = λ i y h at. absurd (started_before i y h at);
+            acquires_same = λ i y h at. absurd (started_before i y h at);
           };
           small = record {
             time = (
                 let f : n.slot.finish ≡ next = n.finish in
                 let t : new.time ≡ next = time in
-                let b : n.slot.finish + 17179869184 * undone s.done (length g.lines) ≤ 17179869184 * length g.lines + 17179869184 = r.run.small.finishes n.line n.slot n.has n.runs in
+                let b : n.slot.finish + 17179869184 * undone s.done (length g.lines) ≤ 17179869184 * length g.lines + 17179869184 = r.simulation.small.finishes n.line n.slot n.has n.runs in
                 omega arith);
             finishes = λ i y h unf. (
-                let b : y.finish + 17179869184 * undone s.done (length g.lines) ≤ 17179869184 * length g.lines + 17179869184 = r.run.small.finishes i y (subst (λ xs. HasSlot xs i y) slots h) (was_undone i unf) in
+                let b : y.finish + 17179869184 * undone s.done (length g.lines) ≤ 17179869184 * length g.lines + 17179869184 = r.simulation.small.finishes i y (subst (λ xs. HasSlot xs i y) slots h) (was_undone i unf) in
                 omega arith);
           };
         },
@@ -109,7 +111,7 @@ module _ (g : GraphValue) (p : ℕ) (s new : State) (next : ℕ) (r : IsResting 
       )
 
 -- the time is no part of what is kept
-pub retimed : (g : GraphValue) (p : ℕ) (s : State) (rest : List Edge) (t : ℕ) → IsKept g p s rest → IsKept g p (record s { time = t }) rest
+pub retimed : (g : GraphValue) (p : ℕ) (s : State) (rest : List Edge) (t : ℕ) → IsConsistent g p s rest → IsConsistent g p (record s { time = t }) rest
 retimed g p s rest t k = record {
   slot_count = k.slot_count;
   done_count = k.done_count;
@@ -133,17 +135,17 @@ retimed g p s rest t k = record {
 }
 
 -- all processors have been looked at
-pub all_finished : (g : GraphValue) (p : ℕ) (s cur : State) (m next : ℕ) → IsResting g p s → IsNextFinish s next → IsFinishing g p s cur m next → length cur.running ≤ m →
-    IsRun g p (record cur { time = next }) × (undone cur.done (length g.lines) < undone s.done (length g.lines))
+pub all_finished : (g : GraphValue) (p : ℕ) (s cur : State) (m next : ℕ) → HasStartedAll g p s → IsNextFinish s next → IsFinishing g p s cur m next → length cur.running ≤ m →
+    IsSimulation g p (record cur { time = next }) × (undone cur.done (length g.lines) < undone s.done (length g.lines))
 all_finished g p s cur m next r n f all =
-    run_finished g p s (record cur { time = next }) next r n (retimed g p cur [] next f.kept) f.slots refl f.finished told
+    finish_goes_on g p s (record cur { time = next }) next r n (retimed g p cur [] next f.consistent) f.slots refl f.finished marked
   where
-    told : (i : ℕ) → FinishedBy s.slots next i → is_done cur.done i ≡ true
-    told i fin = elim (cases_Bool (is_done cur.done i)) [
+    marked : (i : ℕ) → FinishedBy s.slots next i → is_done cur.done i ≡ true
+    marked i fin = elim (cases_Bool (is_done cur.done i)) [
       | inl d ↦ d
       | inr unf ↦ (
           let h : HasSlot cur.slots i fin.0 = subst (λ xs. HasSlot xs i fin.0) (sym f.slots) fin.1 in
-          let runs : runs_at cur.running fin.0.processor ≡ Some i = f.kept.running i fin.0 h unf in
+          let runs : runs_at cur.running fin.0.processor ≡ Some i = f.consistent.running i fin.0 h unf in
           let below : fin.0.processor < length cur.running = within cur.running fin.0.processor None (λ e. none-some i (sym e ∙ runs)) in
           let by : fin.0.finish ≤ next = fin.2 in
           let not_yet : is_done s.done i ≡ false = false_from_ne_true (is_done s.done i) (λ d. true≢false (sym (f.keeps i d) ∙ unf)) in
@@ -151,24 +153,24 @@ all_finished g p s cur m next r n f all =
           absurd (f.passed fin.0.processor i (omega arith) runs fin.0 fin.1 (omega arith)))
     ]
 
-pub finishing_begins : (g : GraphValue) (p : ℕ) (s : State) (next : ℕ) → IsResting g p s → IsNextFinish s next → IsFinishing g p s s 0 next
+pub finishing_begins : (g : GraphValue) (p : ℕ) (s : State) (next : ℕ) → HasStartedAll g p s → IsNextFinish s next → IsFinishing g p s s 0 next
 finishing_begins g p s next r n = record {
-  kept = r.run.kept;
+  consistent = r.simulation.consistent;
   slots = refl;
   finished = λ i d. (
-      let f = r.run.told.finished i d in
+      let f = r.simulation.done_lines.finished i d in
       let a : f.0.finish ≤ s.time = f.2 in
       elim (cases_lt s.time next) [
         | inl l ↦ (f.0, f.1, (let c : f.0.finish ≤ next = omega arith in c))
-        | inr past ↦ (let e : n.slot.finish ≡ next = n.finish in absurd (true≢false (sym (r.run.told.told n.line (n.slot, n.has, (let b : n.slot.finish ≤ s.time = omega arith in b))) ∙ n.runs)))
+        | inr past ↦ (let e : n.slot.finish ≡ next = n.finish in absurd (true≢false (sym (r.simulation.done_lines.marked n.line (n.slot, n.has, (let b : n.slot.finish ≤ s.time = omega arith in b))) ∙ n.runs)))
       ]);
   keeps = λ i d. d;
   passed = λ q k below. absurd (omega arith);
 }
 
-pub finishing_more : (g : GraphValue) (p : ℕ) (s cur new : State) (q next : ℕ) → IsFinishing g p s cur q next → IsKept g p new [] → FinishesOn cur new q next → IsFinishing g p s new (q + 1) next
+pub finishing_more : (g : GraphValue) (p : ℕ) (s cur new : State) (q next : ℕ) → IsFinishing g p s cur q next → IsConsistent g p new [] → FinishesOn cur new q next → IsFinishing g p s new (q + 1) next
 finishing_more g p s cur new q next f k o = record {
-  kept = k;
+  consistent = k;
   slots = o.slots ∙ f.slots;
   finished = λ i d. elim (o.done i d) [ inl old ↦ f.finished i old | inr fin ↦ subst (λ xs. FinishedBy xs next i) f.slots fin ];
   keeps = λ i d. o.keeps i (f.keeps i d);
@@ -201,7 +203,7 @@ finishes_later s q next line on later = record {
   here = λ k runs x h. later x (subst (λ z. HasSlot s.slots z x) (same_Some k line (sym runs ∙ on)) h);
 }
 
-pub finishes_now : (g : GraphValue) (p : ℕ) (s new : State) (q next line : ℕ) → IsKept g p s [] → runs_at s.running q ≡ Some line → ((x : Slot) → HasSlot s.slots line x → x.finish ≡ next) → Finishes g s new q line → FinishesOn s new q next
+pub finishes_now : (g : GraphValue) (p : ℕ) (s new : State) (q next line : ℕ) → IsConsistent g p s [] → runs_at s.running q ≡ Some line → ((x : Slot) → HasSlot s.slots line x → x.finish ≡ next) → Finishes g s new q line → FinishesOn s new q next
 finishes_now g p s new q next line k on at f = record {
   time = f.time;
   slots = f.slots;
@@ -274,7 +276,7 @@ soonest_same slots running q (Some t) some idle = record {
 }
 
 -- the soonest finish of all processors is the next one
-pub next_is_soonest : (g : GraphValue) (p : ℕ) (s : State) (t : ℕ) → IsKept g p s [] → IsSoonestOf s.slots s.running (length s.running) t → IsNextFinish s t
+pub next_is_soonest : (g : GraphValue) (p : ℕ) (s : State) (t : ℕ) → IsConsistent g p s [] → IsSoonestOf s.slots s.running (length s.running) t → IsNextFinish s t
 next_is_soonest g p s t k o = record {
   line = o.line;
   slot = o.slot;

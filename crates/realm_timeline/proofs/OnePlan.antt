@@ -6,11 +6,11 @@ use Rattle.graph_model.specs.graph.Graph.{GraphValue}
 use Rattle.graph_model.specs.meaning.Rules.{Accepted}
 use Rattle.graph_model.specs.graph.Fits.{IsGraph}
 use Rattle.realm_timeline.specs.declared.slot.Slot.{Slot}
-use Rattle.realm_timeline.specs.Plan.{cost, slot_at, HasSlot, IsPlanOfSome, IsPlan, FinishedBy, ReleasedBy, IsValid, IsMoment, IsReadyAt, IsFreeFor, MayStart, StartsAt, IsGreedy}
+use Rattle.realm_timeline.specs.Plan.{cost, slot_at, HasSlot, IsPartialPlan, IsPlan, FinishedBy, ReleasedBy, IsValid, IsMoment, IsReadyAt, IsFreeFor, MayStart, StartsAt, IsGreedy}
 use Rattle.realm_timeline.proofs.SlotFacts.{takes_time, ready_at_start}
 
 -- a plan that is valid and greedy
-record IsSettled (g : GraphValue) (processors : ℕ) (plan : List (Option Slot)) : Type 0 where
+record IsValidAndGreedy (g : GraphValue) (processors : ℕ) (plan : List (Option Slot)) : Type 0 where
   is_plan : IsPlan g processors plan
   valid : IsValid g plan
   greedy : IsGreedy g processors plan
@@ -28,8 +28,8 @@ record AgreeUpTo (a b : List (Option Slot)) (t i : ℕ) : Type 0 where
   beside : SameBeside a b t i
   beside_back : SameBeside b a t i
 
-turned : {a b : List (Option Slot)} {t i : ℕ} → AgreeUpTo a b t i → AgreeUpTo b a t i
-turned s = record { before = s.back; back = s.before; beside = s.beside_back; beside_back = s.beside }
+swapped : {a b : List (Option Slot)} {t i : ℕ} → AgreeUpTo a b t i → AgreeUpTo b a t i
+swapped s = record { before = s.back; back = s.before; beside = s.beside_back; beside_back = s.beside }
 
 -- slots with the same numbers are one
 slot_same : (s t : Slot) → s.processor ≡ t.processor → s.start ≡ t.start → s.finish ≡ t.finish → s ≡ t
@@ -40,23 +40,23 @@ slot_same s t p a f =
     one ∙ (two ∙ three)
 
 module _ (g : GraphValue) (processors : ℕ) (graph : IsGraph g) (accepted : Accepted g) where
-  finished_too : (a b : List (Option Slot)) (t k : ℕ) → IsPlanOfSome g processors a → SameBefore a b t → FinishedBy a t k → FinishedBy b t k
+  finished_too : (a b : List (Option Slot)) (t k : ℕ) → IsPartialPlan g processors a → SameBefore a b t → FinishedBy a t k → FinishedBy b t k
   finished_too a b t k is same f =
       let takes : f.0.start < f.0.finish = takes_time g processors a is k f.0 f.1 in
       let within : f.0.finish ≤ t = f.2 in
       (f.0, same k f.0 f.1 (omega arith), within)
 
-  released_too : (a b : List (Option Slot)) (t k : ℕ) → IsPlanOfSome g processors a → SameBefore a b t → ReleasedBy g a t k → ReleasedBy g b t k
+  released_too : (a b : List (Option Slot)) (t k : ℕ) → IsPartialPlan g processors a → SameBefore a b t → ReleasedBy g a t k → ReleasedBy g b t k
   released_too a b t k is same r = (r.0, r.1, finished_too a b t r.0 is same r.2)
 
-  moment_too : (a b : List (Option Slot)) (t : ℕ) → IsPlanOfSome g processors a → SameBefore a b t → IsMoment a t → IsMoment b t
+  moment_too : (a b : List (Option Slot)) (t : ℕ) → IsPartialPlan g processors a → SameBefore a b t → IsMoment a t → IsMoment b t
   moment_too a b t is same (inl e) = inl e
   moment_too a b t is same (inr m) =
       let takes : m.1.start < m.1.finish = takes_time g processors a is m.0 m.1 m.2 in
       let at : m.1.finish ≡ t = m.3 in
       inr (m.0, m.1, same m.0 m.1 m.2 (omega arith), at)
 
-  ready_too : (a b : List (Option Slot)) (t i : ℕ) → IsPlanOfSome g processors a → SameBefore a b t → SameBefore b a t → IsReadyAt g a t i → IsReadyAt g b t i
+  ready_too : (a b : List (Option Slot)) (t i : ℕ) → IsPartialPlan g processors a → SameBefore a b t → SameBefore b a t → IsReadyAt g a t i → IsReadyAt g b t i
   ready_too a b t i is same back r = record {
     planned = r.planned;
     waits = λ s h. elim (cases_lt s.start t) [
@@ -64,7 +64,7 @@ module _ (g : GraphValue) (processors : ℕ) (graph : IsGraph g) (accepted : Acc
       | inr since ↦ since
     ];
     sources = λ e c to. finished_too a b t e.from is same (r.sources e c to);
-    unheld = λ k rivals s h before. released_too a b t k is same (r.unheld k rivals s (back k s h before) before);
+    unheld = λ k acquires_same s h before. released_too a b t k is same (r.unheld k acquires_same s (back k s h before) before);
   }
 
   free_too : (a b : List (Option Slot)) (t i q : ℕ) → SameBefore b a t → SameBeside b a t i → IsFreeFor a t i q → IsFreeFor b t i q
@@ -81,11 +81,11 @@ module _ (g : GraphValue) (processors : ℕ) (graph : IsGraph g) (accepted : Acc
     processor = m.processor;
     known = m.known;
     free = free_too a b t i m.processor back beside m.free;
-    first = λ k rivals below s h at. m.first k rivals below s (beside k s h at below) at;
+    first = λ k acquires_same below s h at. m.first k acquires_same below s (beside k s h at below) at;
   }
 
   -- a line that one plan starts, the other starts too, in the same slot
-  starts_too : (a b : List (Option Slot)) (t i : ℕ) → IsSettled g processors a → IsSettled g processors b → AgreeUpTo a b t i → (s : Slot) → HasSlot a i s → s.start ≡ t → HasSlot b i s
+  starts_too : (a b : List (Option Slot)) (t i : ℕ) → IsValidAndGreedy g processors a → IsValidAndGreedy g processors b → AgreeUpTo a b t i → (s : Slot) → HasSlot a i s → s.start ≡ t → HasSlot b i s
   starts_too a b t i sa sb agree s h at =
       let moment : IsMoment a t = subst (IsMoment a) at (sa.greedy.moments i s h) in
       let ready : IsReadyAt g a t i = subst (λ x. IsReadyAt g a x i) at (ready_at_start g processors a graph accepted sa.is_plan.some sa.valid i s h) in
@@ -110,7 +110,7 @@ module _ (g : GraphValue) (processors : ℕ) (graph : IsGraph g) (accepted : Acc
     | inr since ↦ (let e : k ≡ i = omega arith in subst (λ x. HasSlot b x s) (sym e) (here s (subst (λ x. HasSlot a x s) e h) at))
   ]
 
-  agree_beside : (a b : List (Option Slot)) (t : ℕ) → IsSettled g processors a → IsSettled g processors b → SameBefore a b t → SameBefore b a t → (i : ℕ) → AgreeUpTo a b t i
+  agree_beside : (a b : List (Option Slot)) (t : ℕ) → IsValidAndGreedy g processors a → IsValidAndGreedy g processors b → SameBefore a b t → SameBefore b a t → (i : ℕ) → AgreeUpTo a b t i
   agree_beside a b t sa sb same back zero = record {
     before = same;
     back = back;
@@ -123,7 +123,7 @@ module _ (g : GraphValue) (processors : ℕ) (graph : IsGraph g) (accepted : Acc
         before = same;
         back = back;
         beside = beside_more a b t i agree.beside (starts_too a b t i sa sb agree);
-        beside_back = beside_more b a t i agree.beside_back (starts_too b a t i sb sa (turned agree));
+        beside_back = beside_more b a t i agree.beside_back (starts_too b a t i sb sa (swapped agree));
       }
 
   before_more : (a b : List (Option Slot)) (t : ℕ) → SameBefore a b t → ((i : ℕ) → SameBeside a b t i) → SameBefore a b (suc t)
@@ -132,7 +132,7 @@ module _ (g : GraphValue) (processors : ℕ) (graph : IsGraph g) (accepted : Acc
     | inr since ↦ beside (suc k) k s h (omega arith) (omega arith)
   ]
 
-  agree_before : (a b : List (Option Slot)) → IsSettled g processors a → IsSettled g processors b → (t : ℕ) → SameBefore a b t × SameBefore b a t
+  agree_before : (a b : List (Option Slot)) → IsValidAndGreedy g processors a → IsValidAndGreedy g processors b → (t : ℕ) → SameBefore a b t × SameBefore b a t
   agree_before a b sa sb zero = (λ k s h before. absurd (omega arith), λ k s h before. absurd (omega arith))
   agree_before a b sa sb (suc t) =
       let same = agree_before a b sa sb t in (
@@ -155,8 +155,8 @@ module _ (g : GraphValue) (processors : ℕ) (graph : IsGraph g) (accepted : Acc
 
   greedy_plan_is_one : (a b : List (Option Slot)) → IsPlan g processors a → IsValid g a → IsGreedy g processors a → IsPlan g processors b → IsValid g b → IsGreedy g processors b → a ≡ b
   greedy_plan_is_one a b pa va ga pb vb gb =
-      let sa : IsSettled g processors a = record { is_plan = pa; valid = va; greedy = ga } in
-      let sb : IsSettled g processors b = record { is_plan = pb; valid = vb; greedy = gb } in
+      let sa : IsValidAndGreedy g processors a = record { is_plan = pa; valid = va; greedy = ga } in
+      let sb : IsValidAndGreedy g processors b = record { is_plan = pb; valid = vb; greedy = gb } in
       same_plans a b (pa.some.each_line ∙ sym pb.some.each_line)
       (λ k. same_at a b
       (λ k s h. (agree_before a b sa sb (suc s.start)).0 k s h (omega arith))

@@ -11,7 +11,7 @@ use Rattle.graph_model.specs.graph.Fits.{IsGraph}
 use Rattle.graph_model.proofs.PathLaws.{back_path}
 use Rattle.graph_model.proofs.ReleaseFacts.{one_release}
 use Rattle.realm_timeline.specs.declared.slot.Slot.{Slot}
-use Rattle.realm_timeline.specs.Plan.{cost, Planned, HasSlot, IsPlanOfSome, IsPlan, finish_or_0, plan_length, FinishedBy, IsValid, IsReadyAt}
+use Rattle.realm_timeline.specs.Plan.{cost, Planned, HasSlot, IsPartialPlan, IsPlan, finish_or_0, plan_length, FinishedBy, IsValid, IsReadyAt}
 use Rattle.realm_timeline.specs.Chains.{IsChain, chain_cost}
 
 -- a line has one slot
@@ -25,7 +25,7 @@ slot_below (o ∷ plan) zero s h = omega arith
 slot_below (o ∷ plan) (suc i) s h = let r : i < length plan = slot_below plan i s h in omega arith
 
 -- each slot takes time
-pub takes_time : (g : GraphValue) (processors : ℕ) (plan : List (Option Slot)) → IsPlanOfSome g processors plan → (i : ℕ) (s : Slot) → HasSlot plan i s → s.start < s.finish
+pub takes_time : (g : GraphValue) (processors : ℕ) (plan : List (Option Slot)) → IsPartialPlan g processors plan → (i : ℕ) (s : Slot) → HasSlot plan i s → s.start < s.finish
 takes_time g processors plan is i s h = let f : s.finish ≡ s.start + cost g i = is.finish i s h in omega arith
 
 -- a finish is within the length, and one of them is the length
@@ -55,21 +55,21 @@ pub finished_later : (plan : List (Option Slot)) (t u i : ℕ) → FinishedBy pl
 finished_later plan t u i f h = let b : f.0.finish ≤ t = f.2 in (f.0, f.1, omega arith)
 
 -- where a line has finished, each line with a path to it has
-pub path_finished : (g : GraphValue) (processors : ℕ) (plan : List (Option Slot)) → IsPlanOfSome g processors plan → IsValid g plan → (t i j : ℕ) → HasPath g i j → FinishedBy plan t j → FinishedBy plan t i
+pub path_finished : (g : GraphValue) (processors : ℕ) (plan : List (Option Slot)) → IsPartialPlan g processors plan → IsValid g plan → (t i j : ℕ) → HasPath g i j → FinishedBy plan t j → FinishedBy plan t i
 path_finished g processors plan is v t i j path f = back_path (FinishedBy plan t)
     (λ e c to. let within : to.0.finish ≤ t = to.2 in
     let takes : to.0.start < to.0.finish = takes_time g processors plan is e.to to.0 to.1 in
     finished_later plan to.0.start t e.from (v.sources e c to.0 to.1) (omega arith)) path f
 
 -- a line that starts is ready
-pub ready_at_start : (g : GraphValue) (processors : ℕ) (plan : List (Option Slot)) → IsGraph g → Accepted g → IsPlanOfSome g processors plan → IsValid g plan → (i : ℕ) (s : Slot) → HasSlot plan i s → IsReadyAt g plan s.start i
+pub ready_at_start : (g : GraphValue) (processors : ℕ) (plan : List (Option Slot)) → IsGraph g → Accepted g → IsPartialPlan g processors plan → IsValid g plan → (i : ℕ) (s : Slot) → HasSlot plan i s → IsReadyAt g plan s.start i
 ready_at_start g processors plan graph accepted is v i s h = record {
   planned = is.planned i s h;
   waits = λ s' h'. let e : s.start ≡ s'.start = ap (λ (x : Slot). x.start) (one_slot plan i s s' h h') in omega arith;
   sources = λ e c to. v.sources e c s (subst (λ x. HasSlot plan x s) (sym to) h);
-  unheld = λ k rivals t hk before. elim (v.sections i k rivals s t h hk) [
+  unheld = λ k acquires_same t hk before. elim (v.sections i k acquires_same s t h hk) [
     | inl mine ↦ (
-        let r = accepted.released i rivals.lock rivals.one in
+        let r = accepted.released i acquires_same.lock acquires_same.one in
         let same : mine.0 ≡ r.0 = one_release g graph i mine.0 r.0 mine.1 r.1 in
         let f : FinishedBy plan t.start i = path_finished g processors plan is v t.start i mine.0 (subst (HasPath g i) (sym same) r.2) mine.2 in
         let at : f.0 ≡ s = one_slot plan i f.0 s f.1 h in
@@ -107,9 +107,9 @@ chain_fits g processors plan is v i (j ∷ rest) c s h =
     omega arith
 
 -- a valid plan is at least as long as each chain
-pub plans_take_chains : (g : GraphValue) (processors : ℕ) (plan : List (Option Slot)) (c : List ℕ) → IsPlan g processors plan → IsValid g plan → IsChain g c → chain_cost g c ≤ plan_length plan
-plans_take_chains g processors plan [] is v c = omega arith
-plans_take_chains g processors plan (i ∷ rest) is v c =
+pub plans_are_as_long_as_chains : (g : GraphValue) (processors : ℕ) (plan : List (Option Slot)) (c : List ℕ) → IsPlan g processors plan → IsValid g plan → IsChain g c → chain_cost g c ≤ plan_length plan
+plans_are_as_long_as_chains g processors plan [] is v c = omega arith
+plans_are_as_long_as_chains g processors plan (i ∷ rest) is v c =
     let s = is.all i (first_planned g i rest c) in
     let fits : s.0.start + chain_cost g (i ∷ rest) ≤ plan_length plan = chain_fits g processors plan is v i rest c s.0 s.1 in
     omega arith

@@ -16,9 +16,10 @@ use Rattle.graph_model.proofs.GraphFacts.{edges_in_range}
 use Rattle.realm_timeline.specs.declared.slot.Slot.{Slot}
 use Rattle.realm_timeline.specs.Plan.{slot_at, HasSlot}
 use Rattle.realm_timeline.specs.Queue.{QueueValue, queue_at, no_queue, has_line}
-use Rattle.realm_timeline.specs.State.{State, is_done, runs_at, waits_for, IsKept, IsRun, Passes, undone, first_edges}
+use Rattle.realm_timeline.specs.State.{State, is_done, runs_at, waits_for, IsConsistent, IsSimulation, undone}
+use Rattle.realm_timeline.specs.Steps.{CountsDown, first_edges}
 use Rattle.realm_timeline.proofs.EdgeCounts.{bit, count_cons, count_one, count_zero, count_split, counted_none}
-use Rattle.realm_timeline.proofs.LoopFacts.{no_edge, next_waits, next_passed}
+use Rattle.realm_timeline.proofs.LoopFacts.{no_edge, next_waits, next_counted}
 
 -- one item at each place
 pub replicate_at : {X : Type 0} (n i : ℕ) (x : X) → slice_index_or (replicate n x) i x ≡ x
@@ -142,8 +143,8 @@ module _ (g : GraphValue) (p : ℕ) (s : State) (fresh : IsFresh g p s) where
               omega arith)
         ]
 
-    kept_first : IsKept g p s (first_edges g)
-    kept_first = record {
+    consistent_first : IsConsistent g p s (first_edges g)
+    consistent_first = record {
       slot_count = ap length fresh.slots ∙ length-replicate (length g.lines) None;
       done_count = ap length fresh.done ∙ length-replicate (length g.lines) false;
       left_count = count;
@@ -166,10 +167,10 @@ module _ (g : GraphValue) (p : ℕ) (s : State) (fresh : IsFresh g p s) where
     }
 
   -- once all lines are offered the run begins
-  run_begins : IsKept g p s [] → IsRun g p s
-  run_begins k = record {
-    kept = k;
-    so_far = record {
+  simulation_begins : IsConsistent g p s [] → IsSimulation g p s
+  simulation_begins k = record {
+    consistent = k;
+    up_to_now = record {
       some = record {
         each_line = k.slot_count;
         planned = λ i x h. absurd (no_slots i x h);
@@ -179,31 +180,31 @@ module _ (g : GraphValue) (p : ℕ) (s : State) (fresh : IsFresh g p s) where
       valid = record {
         apart = λ i j x y h. absurd (no_slots i x h);
         sources = λ e c x h. absurd (no_slots e.to x h);
-        sections = λ i j rivals x y h. absurd (no_slots i x h);
+        sections = λ i j acquires_same x y h. absurd (no_slots i x h);
       };
       moments = λ i x h. absurd (no_slots i x h);
       free = λ i x h. absurd (no_slots i x h);
       lowest = λ i x h. absurd (no_slots i x h);
       early = λ i x h. absurd (no_slots i x h);
       moment = inl fresh.time;
-      patient = λ u before. (let t : s.time ≡ 0 = fresh.time in absurd (omega arith));
+      greedy = λ u before. (let t : s.time ≡ 0 = fresh.time in absurd (omega arith));
     };
-    told = record { finished = λ i d. absurd (none_done i d); told = λ i f. absurd (no_slots i f.0 f.1) };
-    in_turn = record { lower = λ i x h. absurd (no_slots i x h); rivals = λ i x h. absurd (no_slots i x h) };
+    done_lines = record { finished = λ i d. absurd (none_done i d); marked = λ i f. absurd (no_slots i f.0 f.1) };
+    lowest_first = record { lower = λ i x h. absurd (no_slots i x h); acquires_same = λ i x h. absurd (no_slots i x h) };
     small = record {
       time = (let t : s.time ≡ 0 = fresh.time in let m : undone s.done (length g.lines) ≤ length g.lines = count_below-max (λ i. not (is_done s.done i)) (length g.lines) in omega arith);
       finishes = λ i x h. absurd (no_slots i x h);
     };
   }
 
-pub fresh_kept : (g : GraphValue) (p : ℕ) (s : State) → IsFresh g p s → IsGraph g → length s.left ≡ length g.lines → ((i : ℕ) → i < length g.lines → slice_index s.left i ≡ length (edges_into g i) + 1) → s.queues ≡ replicate (length (locks g) + 1) no_queue → IsKept g p s (first_edges g)
-fresh_kept g p s fresh graph count counts queues = kept_first g p s fresh graph count counts queues
+pub fresh_consistent : (g : GraphValue) (p : ℕ) (s : State) → IsFresh g p s → IsGraph g → length s.left ≡ length g.lines → ((i : ℕ) → i < length g.lines → slice_index s.left i ≡ length (edges_into g i) + 1) → s.queues ≡ replicate (length (locks g) + 1) no_queue → IsConsistent g p s (first_edges g)
+fresh_consistent g p s fresh graph count counts queues = consistent_first g p s fresh graph count counts queues
 
-pub fresh_runs : (g : GraphValue) (p : ℕ) (s : State) → IsFresh g p s → IsKept g p s [] → IsRun g p s
-fresh_runs g p s fresh k = run_begins g p s fresh k
+pub fresh_begins : (g : GraphValue) (p : ℕ) (s : State) → IsFresh g p s → IsConsistent g p s [] → IsSimulation g p s
+fresh_begins g p s fresh k = simulation_begins g p s fresh k
 
-pub fresh_passed : (g : GraphValue) (p : ℕ) (s new : State) (line : ℕ) → IsFresh g p s → Passes g s new line → IsFresh g p new
-fresh_passed g p s new line f st = record {
+pub fresh_counted : (g : GraphValue) (p : ℕ) (s new : State) (line : ℕ) → IsFresh g p s → CountsDown g s new line → IsFresh g p new
+fresh_counted g p s new line f st = record {
   time = st.time ∙ f.time;
   slots = st.slots ∙ f.slots;
   order = st.order ∙ f.order;
@@ -212,12 +213,12 @@ fresh_passed g p s new line f st = record {
 }
 
 -- one more line is offered
-pub offer_waits : (g : GraphValue) (p : ℕ) (s : State) (i : ℕ) → IsKept g p s (drop i (first_edges g)) → i < length g.lines → 0 < slice_index s.left i
+pub offer_waits : (g : GraphValue) (p : ℕ) (s : State) (i : ℕ) → IsConsistent g p s (drop i (first_edges g)) → i < length g.lines → 0 < slice_index s.left i
 offer_waits g p s i k h =
     let n : length (first_edges g) ≡ length g.lines = length_first_edges g in
     subst (λ x. 0 < slice_index s.left x) (first_edge_at g i h) (next_waits g p s (first_edges g) i k (omega arith))
 
-pub offer_passed : (g : GraphValue) (p : ℕ) (s new : State) (i : ℕ) → IsKept g p s (drop i (first_edges g)) → i < length g.lines → Passes g s new i → IsKept g p new (drop (i + 1) (first_edges g))
-offer_passed g p s new i k h st =
+pub offer_counted : (g : GraphValue) (p : ℕ) (s new : State) (i : ℕ) → IsConsistent g p s (drop i (first_edges g)) → i < length g.lines → CountsDown g s new i → IsConsistent g p new (drop (i + 1) (first_edges g))
+offer_counted g p s new i k h st =
     let n : length (first_edges g) ≡ length g.lines = length_first_edges g in
-    next_passed g p s new (first_edges g) i k (omega arith) (subst (Passes g s new) (sym (first_edge_at g i h)) st)
+    next_counted g p s new (first_edges g) i k (omega arith) (subst (CountsDown g s new) (sym (first_edge_at g i h)) st)

@@ -6,8 +6,9 @@ use Rattle.std.proofs.lemmas.Bool.{true≢false, cases_lt}
 use Rattle.graph_model.specs.graph.Graph.{GraphValue}
 use Rattle.graph_model.specs.meaning.Rules.{Releases}
 use Rattle.realm_timeline.specs.Plan.{cost}
-use Rattle.realm_timeline.specs.Queue.{QueueValue, ChangesQueue, WithHeld, has_line, queue_at, IsTaken}
-use Rattle.realm_timeline.specs.State.{State, queue_of, runs_at, Leaves, Starts, slot_of}
+use Rattle.realm_timeline.specs.Queue.{QueueValue, ChangesQueue, WithHeld, has_line, queue_at, WithoutLine}
+use Rattle.realm_timeline.specs.State.{State, queue_of, runs_at}
+use Rattle.realm_timeline.specs.Steps.{MarksFinished, Starts, slot_of}
 
 -- a processor that is not idle runs a line
 pub runs_some : (running : List (Option ℕ)) (q : ℕ) (o : Option ℕ) → o ≡ slice_index_or running q o → q < length running → is_some o ≡ true → (k : ℕ) × (runs_at running q ≡ Some k)
@@ -26,9 +27,9 @@ busy_more running n below here p h = elim (cases_lt p n) [
 ]
 
 -- a line leaves, and frees a reservation
-pub leaves_freeing : (g : GraphValue) (old new : State) (processor line a q : ℕ) (mid : List QueueValue) → mid ≡ old.queues → Releases g line a → q ≡ queue_of g a → ChangesQueue mid new.queues q (WithHeld false) → length new.queues ≡ length mid →
-    new.time ≡ old.time → new.slots ≡ old.slots → new.order ≡ old.order → new.left ≡ old.left → new.running ≡ slice_set old.running processor None → new.done ≡ slice_set old.done line true → Leaves g old new processor line
-leaves_freeing g old new processor line a q mid same r at changes count time slots order left running done = record {
+pub marks_release : (g : GraphValue) (old new : State) (processor line a q : ℕ) (mid : List QueueValue) → mid ≡ old.queues → Releases g line a → q ≡ queue_of g a → ChangesQueue mid new.queues q (WithHeld false) → length new.queues ≡ length mid →
+    new.time ≡ old.time → new.slots ≡ old.slots → new.order ≡ old.order → new.left ≡ old.left → new.running ≡ slice_set old.running processor None → new.done ≡ slice_set old.done line true → MarksFinished g old new processor line
+marks_release g old new processor line a q mid same r at changes count time slots order left running done = record {
   time = time;
   slots = slots;
   order = order;
@@ -40,9 +41,9 @@ leaves_freeing g old new processor line a q mid same r at changes count time slo
   frees = (r, subst (λ x. ChangesQueue x new.queues (queue_of g a) (WithHeld false)) same (subst (λ x. ChangesQueue mid new.queues x (WithHeld false)) at changes));
 }
 
-pub leaves_plainly : (g : GraphValue) (old new : State) (processor line : ℕ) → ((a : ℕ) → Releases g line a → ⊥) → new.queues ≡ old.queues →
-    new.time ≡ old.time → new.slots ≡ old.slots → new.order ≡ old.order → new.left ≡ old.left → new.running ≡ slice_set old.running processor None → new.done ≡ slice_set old.done line true → Leaves g old new processor line
-leaves_plainly g old new processor line none queues time slots order left running done = record {
+pub marks_other : (g : GraphValue) (old new : State) (processor line : ℕ) → ((a : ℕ) → Releases g line a → ⊥) → new.queues ≡ old.queues →
+    new.time ≡ old.time → new.slots ≡ old.slots → new.order ≡ old.order → new.left ≡ old.left → new.running ≡ slice_set old.running processor None → new.done ≡ slice_set old.done line true → MarksFinished g old new processor line
+marks_other g old new processor line none queues time slots order left running done = record {
   time = time;
   slots = slots;
   order = order;
@@ -56,7 +57,7 @@ leaves_plainly g old new processor line none queues time slots order left runnin
 
 -- a line starts
 pub starts_with : (g : GraphValue) (old new : State) (place processor line : ℕ) (mid : List QueueValue) (finish : ℕ) → mid ≡ old.queues → has_line (queue_at mid place).lines line ≡ true → ((i : ℕ) → has_line (queue_at mid place).lines i ≡ true → line ≤ i) →
-    ChangesQueue mid new.queues place (IsTaken line place) → length new.queues ≡ length mid → cost g line ≤ 17179869184 →
+    ChangesQueue mid new.queues place (WithoutLine line place) → length new.queues ≡ length mid → cost g line ≤ 17179869184 →
     new.time ≡ old.time → new.slots ≡ slice_set old.slots line (Some (slot_of g old processor line)) → new.order ≡ old.order ++ line ∷ [] → new.done ≡ old.done → new.left ≡ old.left → new.running ≡ slice_set old.running processor (Some line) →
     Starts g old new place processor line
 starts_with g old new place processor line mid finish same listed lowest changes count few time slots order done left running = record {
@@ -69,6 +70,6 @@ starts_with g old new place processor line mid finish same listed lowest changes
   left = left;
   running = running;
   queue_count = count ∙ ap length same;
-  queues = subst (λ x. ChangesQueue x new.queues place (IsTaken line place)) same changes;
+  queues = subst (λ x. ChangesQueue x new.queues place (WithoutLine line place)) same changes;
   few = few;
 }

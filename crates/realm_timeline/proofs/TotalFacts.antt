@@ -11,7 +11,7 @@ use Rattle.realm_timeline.specs.declared.slot.Slot.{Slot}
 use Rattle.realm_timeline.specs.Plan.{finish_or_0, plan_length, planned_cost, total_cost, IsPlan, IsValid, IsGreedy}
 use Rattle.realm_timeline.specs.Chains.{IsChain, chain_cost, IsCritical}
 use Rattle.realm_timeline.specs.Laws.{AcquiresNone}
-use Rattle.realm_timeline.proofs.SlotFacts.{plans_take_chains}
+use Rattle.realm_timeline.proofs.SlotFacts.{plans_are_as_long_as_chains}
 use Rattle.realm_timeline.proofs.ShortPlans.{greedy_plans_are_short}
 
 plan_length_push : (plan : List (Option Slot)) (o : Option Slot) → plan_length (plan ++ o ∷ []) ≡ max (plan_length plan) (finish_or_0 o)
@@ -44,7 +44,7 @@ pub at_least : (g h : GraphValue) (c : List ℕ) (cost : ℕ) → h ≡ g → Is
 at_least g h c cost same critical is n other plan valid =
     let chain : IsChain g c = subst (λ x. IsChain x c) same critical.chain in
     let e : cost ≡ chain_cost g c = is ∙ ap (λ x. chain_cost x c) same in
-    let l : chain_cost g c ≤ plan_length other = plans_take_chains g n other c plan valid chain in
+    let l : chain_cost g c ≤ plan_length other = plans_are_as_long_as_chains g n other c plan valid chain in
     omega arith
 
 pub at_most : (g h : GraphValue) (p : ℕ) (plan : List (Option Slot)) (c : List ℕ) (span total cost : ℕ) → h ≡ g → 1 ≤ p → IsPlan h p plan → IsValid h plan → IsGreedy h p plan → IsCritical h c → span ≡ plan_length plan → total ≡ total_cost h plan → cost ≡ chain_cost h c →

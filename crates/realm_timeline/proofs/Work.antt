@@ -9,7 +9,7 @@ use Rattle.std.proofs.lemmas.List.Sums.{sum_by-cons}
 use Rattle.graph_model.specs.graph.Graph.{GraphValue}
 use Rattle.basics.specs.Lists.{numbers_below}
 use Rattle.realm_timeline.specs.declared.slot.Slot.{Slot}
-use Rattle.realm_timeline.specs.Plan.{cost, slot_at, HasSlot, IsPlanOfSome, planned_cost, total_cost}
+use Rattle.realm_timeline.specs.Plan.{cost, slot_at, HasSlot, IsPartialPlan, planned_cost, total_cost}
 
 -- for how long a slot has run by time t
 abbrev run_by : ℕ → Slot → ℕ
@@ -161,7 +161,7 @@ work_cost g n t lo (o ∷ plan) h is =
     let b : sum_by h (range_with_len lo (length (o ∷ plan))) ≡ h lo + sum_by h (range_with_len (lo + 1) (length plan)) = sum_by-cons h lo (range_with_len (lo + 1) (length plan)) in
     omega arith
 
-pub work_within : (g : GraphValue) (processors n t : ℕ) (plan : List (Option Slot)) → IsPlanOfSome g processors plan → work_below n t plan ≤ total_cost g plan
+pub work_within : (g : GraphValue) (processors n t : ℕ) (plan : List (Option Slot)) → IsPartialPlan g processors plan → work_below n t plan ≤ total_cost g plan
 work_within g processors n t plan is =
     subst (λ m. work_below n t plan ≤ sum_by (planned_cost g plan) (numbers_below m)) is.each_line
     (work_cost g n t 0 plan (planned_cost g plan) (λ i. subst (λ x. share n t (slot_at plan i) ≤ planned_cost g plan x) (let e : i ≡ 0 + i = omega arith in e)

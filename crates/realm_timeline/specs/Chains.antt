@@ -9,13 +9,13 @@ use Rattle.realm_timeline.specs.Plan.{Planned, cost}
 abbrev pub HasEdge : GraphValue → ℕ → ℕ → Type 0
 HasEdge g i j = (e : Edge) × Contains (edges g) e × (e.from ≡ i) × (e.to ≡ j)
 
--- planned lines, each but the first with an edge from the line before it
+-- a chain: planned lines, each but the first with an edge from the line before it
 abbrev pub IsChain : GraphValue → List ℕ → Type 0
 IsChain g [] = Unit {0}
 IsChain g (i ∷ []) = Planned g i
 IsChain g (i ∷ j ∷ rest) = Planned g i × HasEdge g i j × IsChain g (j ∷ rest)
 
--- the costs of its lines, added up
+-- the costs of the lines of a chain, added up
 abbrev pub chain_cost : GraphValue → List ℕ → ℕ
 chain_cost g c = sum_by (cost g) c
 

@@ -26,38 +26,41 @@ pub record Planned (g : GraphValue) (i : ℕ) : Type 0 where
   pub line : i < length g.lines
   pub comes : Reached g i → ⊥
 
--- the slot of a line
+-- the slot of a line, where it has one
 abbrev pub slot_at : List (Option Slot) → ℕ → Option Slot
 slot_at plan i = slice_index_or plan i None
 
+-- a line has this slot
 abbrev pub HasSlot : List (Option Slot) → ℕ → Slot → Type 0
 HasSlot plan i s = slot_at plan i ≡ Some s
 
--- a plan of some lines: each is to be planned, has a processor that there is, and takes its cost
-pub record IsPlanOfSome (g : GraphValue) (processors : ℕ) (plan : List (Option Slot)) : Type 0 where
+-- a plan of some of these lines: each has a processor below the given number, and takes its cost
+pub record IsPartialPlan (g : GraphValue) (processors : ℕ) (plan : List (Option Slot)) : Type 0 where
   pub each_line : length plan ≡ length g.lines
   pub planned : (i : ℕ) (s : Slot) → HasSlot plan i s → Planned g i
   pub processor : (i : ℕ) (s : Slot) → HasSlot plan i s → s.processor < processors
   pub finish : (i : ℕ) (s : Slot) → HasSlot plan i s → s.finish ≡ s.start + cost g i
 
--- and of all lines that are to be planned
+-- a plan of all of them
 pub record IsPlan (g : GraphValue) (processors : ℕ) (plan : List (Option Slot)) : Type 0 where
-  pub some : IsPlanOfSome g processors plan
+  pub some : IsPartialPlan g processors plan
   pub all : (i : ℕ) → Planned g i → (s : Slot) × HasSlot plan i s
 
--- the greatest finish, or 0
+-- the finish of a line, and 0 for one that is not planned
 abbrev pub finish_or_0 : Option Slot → ℕ
 finish_or_0 None = 0
 finish_or_0 (Some s) = s.finish
 
+-- the length of a plan: the greatest finish, or 0
 abbrev pub plan_length : List (Option Slot) → ℕ
 plan_length [] = 0
 plan_length (o ∷ plan) = max (finish_or_0 o) (plan_length plan)
 
--- the costs of the planned lines, added up
+-- the cost of a line with a slot, and 0 for any other
 abbrev pub planned_cost : GraphValue → List (Option Slot) → ℕ → ℕ
 planned_cost g plan i = option_map_or (λ (s : Slot). cost g i) (slot_at plan i) 0
 
+-- the costs of the lines with a slot, added up
 abbrev pub total_cost : GraphValue → List (Option Slot) → ℕ
 total_cost g plan = sum_by (planned_cost g plan) (numbers_below (length g.lines))
 
@@ -70,7 +73,7 @@ abbrev pub ReleasedBy : GraphValue → List (Option Slot) → ℕ → ℕ → Ty
 ReleasedBy g plan t q = (r : ℕ) × Releases g r q × FinishedBy plan t r
 
 -- two acquires of one reservation
-pub record AreRivals (g : GraphValue) (i k : ℕ) : Type 0 where
+pub record AcquireSame (g : GraphValue) (i k : ℕ) : Type 0 where
   pub different : i ≢ k
   pub lock : ℕ
   pub one : Acquires g i lock
@@ -83,9 +86,9 @@ pub record IsValid (g : GraphValue) (plan : List (Option Slot)) : Type 0 where
   -- a line starts at or after the finish of each source
   pub sources : (e : Edge) → Contains (edges g) e → (s : Slot) → HasSlot plan e.to s → FinishedBy plan s.start e.from
   -- of two acquires of one reservation the release of one finishes at or before the start of the other
-  pub sections : (i k : ℕ) → AreRivals g i k → (s t : Slot) → HasSlot plan i s → HasSlot plan k t → ReleasedBy g plan t.start i ⊎ ReleasedBy g plan s.start k
+  pub sections : (i k : ℕ) → AcquireSame g i k → (s t : Slot) → HasSlot plan i s → HasSlot plan k t → ReleasedBy g plan t.start i ⊎ ReleasedBy g plan s.start k
 
--- time 0, or the finish of a line
+-- a moment at which lines may start: time 0, or the finish of a line
 abbrev pub IsMoment : List (Option Slot) → ℕ → Type 0
 IsMoment plan t = (t ≡ 0) ⊎ ((k : ℕ) × (s : Slot) × HasSlot plan k s × (s.finish ≡ t))
 
@@ -97,7 +100,7 @@ pub record IsReadyAt (g : GraphValue) (plan : List (Option Slot)) (t i : ℕ) : 
   -- each of its sources has finished
   pub sources : (e : Edge) → Contains (edges g) e → e.to ≡ i → FinishedBy plan t e.from
   -- each acquire of its reservation that has started before has been released
-  pub unheld : (k : ℕ) → AreRivals g i k → (s : Slot) → HasSlot plan k s → s.start < t → ReleasedBy g plan t k
+  pub unheld : (k : ℕ) → AcquireSame g i k → (s : Slot) → HasSlot plan k s → s.start < t → ReleasedBy g plan t k
 
 -- a processor is free for line i at time t: no line on it started before and finishes after, and no line below i starts on it then
 pub record IsFreeFor (plan : List (Option Slot)) (t i q : ℕ) : Type 0 where
@@ -109,12 +112,13 @@ pub record MayStart (g : GraphValue) (processors : ℕ) (plan : List (Option Slo
   pub processor : ℕ
   pub known : processor < processors
   pub free : IsFreeFor plan t i processor
-  pub first : (k : ℕ) → AreRivals g i k → k < i → (s : Slot) → HasSlot plan k s → s.start ≢ t
+  pub first : (k : ℕ) → AcquireSame g i k → k < i → (s : Slot) → HasSlot plan k s → s.start ≢ t
 
+-- a line starts at time t
 abbrev pub StartsAt : List (Option Slot) → ℕ → ℕ → Type 0
 StartsAt plan t i = (s : Slot) × HasSlot plan i s × (s.start ≡ t)
 
--- a plan in which no line waits for nothing: a line that is ready starts as soon as it may, the lower one first
+-- a plan in which each line that is ready starts as soon as it may, the lower one first
 pub record IsGreedy (g : GraphValue) (processors : ℕ) (plan : List (Option Slot)) : Type 0 where
   pub moments : (i : ℕ) (s : Slot) → HasSlot plan i s → IsMoment plan s.start
   pub each : (t i : ℕ) → IsMoment plan t → IsReadyAt g plan t i → StartsAt plan t i ↔ MayStart g processors plan t i

@@ -1,4 +1,4 @@
-//! How long lines take.
+//! What a line costs, and what it says of reservations.
 
 ghost use Rattle.std.specs.Prelude.{◌≡◌, ℕ, ◌+◌, ◌<◌, ◌≤◌, length, MatchOption};
 ghost use Rattle.realm_timeline.specs.Plan.{cost};
@@ -13,7 +13,7 @@ use graph_model::verb::Verb;
 /// A line has at most three accesses.
 const MOST_ACCESSES: u32 = 3;
 
-/// How long a line takes: 1, and 1 more for each point of each access.
+/// How long a line takes in virtual time: 1, and 1 more for each point of each access.
 pub(crate) fn cost_of(graph: &Graph, line: u32) -> u64
     requires { line < length graph.now.lines }
     ensures cost { result ≡ cost graph.now line }
@@ -32,7 +32,8 @@ pub(crate) fn cost_of(graph: &Graph, line: u32) -> u64
     cost
 }
 
-/// The queue of a line: one for each reservation, for its acquires, and one for all other lines.
+/// The number of the queue of a line: queue 0 is for all lines but acquires, and each reservation has
+/// one for its acquires.
 pub(crate) fn queue_of(graph: &Graph, line: u32) -> u32
     requires { line < length graph.now.lines }
     ensures queue { result ≡ queue_of graph.now line }
@@ -45,7 +46,7 @@ pub(crate) fn queue_of(graph: &Graph, line: u32) -> u32
     }
 }
 
-/// The acquire that a line releases.
+/// The acquire that a line releases, and none of any line but a release.
 pub(crate) fn released(graph: &Graph, line: u32) -> Option<u32>
     requires { line < length graph.now.lines }
     ensures { MatchOption result ((q : ℕ) → Releases graph.now line q → ⊥) (λ q. Releases graph.now line q × (q < length graph.now.lines)) }

@@ -1,10 +1,11 @@
-//! The critical chain.
+//! The critical chain: the costliest chain of lines that are to be planned, made from the costliest
+//! chain up to each line.
 
 ghost use Rattle.std.specs.Prelude.{◌≡◌, ℕ, ◌+◌, ◌<◌, ◌≤◌, ◌==◌, [], ◌∷◌, length, Some, None, slice_index, slice_set, Contains, ◌^◌, OnOk, IfOk, MatchOption};
 ghost use Rattle.graph_model.specs.graph.Edges.{edges_into};
 ghost use Rattle.realm_timeline.specs.Chains.{IsCritical, chain_cost};
-ghost use Rattle.realm_timeline.specs.State.{IsOrder};
-ghost use Rattle.realm_timeline.specs.Heavy.{heavy_at, before_at, IsBestOf, AreHeavy, IsTopOf, IsWalk, Weighs, best_cost, best_line, cost_or_0, IsBetter, IsNoneOrBelow};
+ghost use Rattle.realm_timeline.specs.Order.{IsOrder};
+ghost use Rattle.realm_timeline.specs.ChainCosts.{chain_cost_at, before_at, IsBestOf, AreChainCosts, IsTopOf, IsWalk, AddsLine, best_cost, best_line, cost_or_0, IsBetter, IsNoneOrBelow};
 ghost use Rattle.graph_model.specs.declared.graph.verb.Edge.{Edge as EdgeValue};
 
 use crate::cost::cost_of;
@@ -16,14 +17,16 @@ use graph_model::verb::Edge;
 use index_spaces::NoMemory;
 use std::alloc::Global;
 
-/// For each line the cost of the costliest chain up to it, and the line before it there.
+/// For each line the cost of the costliest chain that ends in it, and the line before it in that chain.
 #[derive(Drop)]
-pub(crate) struct Heavy {
+pub(crate) struct ChainCosts {
     pub(crate) costs: Vec<u64>,
     pub(crate) before: Vec<Option<u32>>,
 }
 
-/// The critical chain and its cost.
+/// The critical chain and its cost, from the order in which the lines of a plan start.
+///
+/// `NoMemory`: memory was refused.
 pub(crate) fn critical_of(
     alloc: Global,
     graph: &Graph,
@@ -33,37 +36,37 @@ pub(crate) fn critical_of(
     ensures critical { IfOk result (λ r. IsCritical graph.now r.0) }
     ensures cost { IfOk result (λ r. r.1 ≡ chain_cost graph.now r.0) }
 {
-    let heavy = Heavy::of_lines(alloc, graph, order)?;
-    let top = heavy.top(graph);
-    let chain = heavy.chain_to(alloc, graph, order, top)?;
-    let cost = heavy.cost_at(top);
+    let chain_costs = ChainCosts::of_lines(alloc, graph, order)?;
+    let top = chain_costs.top(graph);
+    let chain = chain_costs.chain_to(alloc, graph, order, top)?;
+    let cost = chain_costs.cost_at(top);
     Ok((chain, cost))
 }
 
-impl Heavy {
-    /// The costs of all lines of the order, one after the other.
-    fn of_lines(alloc: Global, graph: &Graph, order: &[u32]) -> Result<Heavy, NoMemory>
+impl ChainCosts {
+    /// The entries of all lines of the order, one after the other. A line that is not in it costs 0.
+    fn of_lines(alloc: Global, graph: &Graph, order: &[u32]) -> Result<ChainCosts, NoMemory>
         requires { IsOrder graph.now order.now }
-        ensures { IfOk result (λ h. AreHeavy graph.now order.now h.costs.items h.before.items (length order.now)) }
+        ensures { IfOk result (λ h. AreChainCosts graph.now order.now h.costs.items h.before.items (length order.now)) }
     {
         let lines = graph.lines();
-        let mut heavy = Heavy {
+        let mut chain_costs = ChainCosts {
             costs: filled(alloc, 0, lines as usize)?,
             before: filled(alloc, None, lines as usize)?,
         };
         for place in 0..order.len() {
-            heavy.weigh(graph, order[place]);
+            chain_costs.add_line(graph, order[place]);
         }
-        Ok(heavy)
+        Ok(chain_costs)
     }
 
-    /// The cost of a line whose sources have their costs.
-    fn weigh(&mut self, graph: &Graph, line: u32)
+    /// Makes the entries of a line whose sources have theirs.
+    fn add_line(&mut self, graph: &Graph, line: u32)
         requires line { line < length graph.now.lines }
         requires costs { length self.old.costs.items ≡ length graph.now.lines }
         requires before { length self.old.before.items ≡ length graph.now.lines }
-        requires few { (i : ℕ) → heavy_at self.old.costs.items i ≤ 281474976710656 }
-        ensures { Weighs graph.now self.old.costs.items self.old.before.items self.new.costs.items self.new.before.items line }
+        requires few { (i : ℕ) → chain_cost_at self.old.costs.items i ≤ 281474976710656 }
+        ensures { AddsLine graph.now self.old.costs.items self.old.before.items self.new.costs.items self.new.before.items line }
     {
         edges_between_lines();
         let _ = graph.lines();
@@ -72,7 +75,7 @@ impl Heavy {
         self.set(line, best, cost);
     }
 
-    /// Notes the costliest source of a line.
+    /// Sets the entries of a line by its costliest source and by its own cost.
     fn set(&mut self, line: u32, best: Option<(u32, u64)>, cost: u64)
         requires costs { line < length self.old.costs.items }
         requires before { line < length self.old.before.items }
@@ -92,20 +95,21 @@ impl Heavy {
         }
     }
 
-    /// The line that ends the costliest chain, the lowest of those.
+    /// The line that ends the costliest chain, the lowest of those, and none where no line is planned.
     fn top(&self, graph: &Graph) -> Option<u32>
         requires { length self.now.costs.items ≡ length graph.now.lines }
         ensures { IsTopOf self.now.costs.items (length graph.now.lines) result }
     {
         let mut top: Option<u32> = None;
         for line in 0..graph.lines() {
-            top = self.higher(top, line);
+            top = self.costlier(top, line);
         }
         top
     }
 
-    /// The next line where its chain is costlier than those so far.
-    fn higher(&self, top: Option<u32>, line: u32) -> Option<u32>
+    /// The next line if its chain is costlier than those of the lines before it, and else the
+    /// costliest of those.
+    fn costlier(&self, top: Option<u32>, line: u32) -> Option<u32>
         requires line { line < length self.now.costs.items }
         requires top { IsTopOf self.now.costs.items line top }
         ensures { IsTopOf self.now.costs.items (line + 1) result }
@@ -118,7 +122,7 @@ impl Heavy {
         }
     }
 
-    /// The cost of a line, and 0 for none.
+    /// The cost of the costliest chain up to a line, and 0 for none.
     fn cost_at(&self, line: Option<u32>) -> u64
         requires { IsNoneOrBelow (length self.now.costs.items) line }
         ensures { result ≡ cost_or_0 self.now.costs.items line }
@@ -129,7 +133,8 @@ impl Heavy {
         }
     }
 
-    /// The costliest chain up to a line.
+    /// The costliest chain up to a line, walked back from that line, and the chain without lines for
+    /// none.
     fn chain_to(
         &self,
         alloc: Global,
@@ -138,7 +143,7 @@ impl Heavy {
         top: Option<u32>,
     ) -> Result<LineList, NoMemory>
         requires order { IsOrder graph.now order.now }
-        requires heavy { AreHeavy graph.now order.now self.now.costs.items self.now.before.items (length order.now) }
+        requires chain_costs { AreChainCosts graph.now order.now self.now.costs.items self.now.before.items (length order.now) }
         requires top { IsTopOf self.now.costs.items (length graph.now.lines) top }
         ensures { IfOk result (λ c. IsWalk self.now.before.items top None c) }
     {
@@ -154,10 +159,10 @@ impl Heavy {
     }
 }
 
-/// The costliest of the sources of edges, the lowest of those, with its cost.
+/// The costliest of the sources of some edges, the lowest of those, with its cost.
 fn best_of(costs: &[u64], edges: &[Edge]) -> Option<(u32, u64)>
     requires { (e : EdgeValue) → Contains edges.now e → e.from < length costs.now }
-    ensures { IsBestOf (heavy_at costs.now) edges.now result }
+    ensures { IsBestOf (chain_cost_at costs.now) edges.now result }
 {
     let mut best: Option<(u32, u64)> = None;
     for edge in edges {
@@ -166,7 +171,7 @@ fn best_of(costs: &[u64], edges: &[Edge]) -> Option<(u32, u64)>
     best
 }
 
-/// The costlier of two lines, the lower of those.
+/// The costlier of two lines, the lower where they cost the same.
 fn better_of(best: Option<(u32, u64)>, from: u32, cost: u64) -> (u32, u64)
     ensures { IsBetter best from cost result }
 {

@@ -1,4 +1,5 @@
-//! The text of a timeline.
+//! The text of a timeline: a line for each line of the graph with its slot, the critical chain and the
+//! length of the plan.
 
 ghost use Rattle.std.specs.Prelude.{◌≡◌, ℕ, ◌<◌, length, Some, slice_get};
 ghost use Rattle.realm_io.specs.Written.{Writes};
@@ -12,7 +13,9 @@ use graph_model::lists::LineList;
 use graph_model::verb::Line;
 use realm_io::{Sink, WriteFault, put_bytes, put_decimal};
 
-/// Writes the text of a timeline of the graph. It takes no memory.
+/// Writes the text of a timeline of the graph: `timeline 1`; for each line `op NAME PROCESSOR START
+/// FINISH`, or `op NAME -` where it is not planned; `critical COST` and the names of the critical
+/// chain; `length LENGTH`; `done`. It takes no memory.
 ///
 /// `WriteFault`: a fault of the sink was counted, and a prefix of the text was taken.
 pub fn put_timeline<K: Sink>(
@@ -29,7 +32,7 @@ pub fn put_timeline<K: Sink>(
     put_critical(sink, graph, timeline)
 }
 
-/// Writes the critical chain, and what follows it.
+/// Writes the cost and the names of the critical chain, and what follows it.
 fn put_critical<K: Sink>(sink: &mut K, graph: &Graph, timeline: &Timeline) -> Result<(), WriteFault>
     requires { (k i : ℕ) → slice_get timeline.now.critical k ≡ Some i → i < length graph.now.lines }
     ensures { Writes (K.state sink.old) (K.state sink.new) result (critical_text graph.now timeline.now) }
@@ -49,7 +52,7 @@ fn put_length<K: Sink>(sink: &mut K, length: u64) -> Result<(), WriteFault>
     put_bytes(sink, b"\ndone\n")
 }
 
-/// Writes where and when each line is planned.
+/// Writes the slot of each line.
 fn put_ops<K: Sink>(sink: &mut K, graph: &Graph, timeline: &Timeline) -> Result<(), WriteFault>
     requires { length timeline.now.plan ≡ length graph.now.lines }
     ensures { Writes (K.state sink.old) (K.state sink.new) result (op_texts timeline.now.plan 0 graph.now.lines) }
@@ -60,7 +63,7 @@ fn put_ops<K: Sink>(sink: &mut K, graph: &Graph, timeline: &Timeline) -> Result<
     Ok(())
 }
 
-/// Writes where and when a line is planned.
+/// Writes the slot of a line.
 fn put_op<K: Sink>(sink: &mut K, line: &Line, slot: Option<Slot>) -> Result<(), WriteFault>
     ensures { Writes (K.state sink.old) (K.state sink.new) result (op_text line.now.name slot) }
 {
@@ -69,7 +72,7 @@ fn put_op<K: Sink>(sink: &mut K, line: &Line, slot: Option<Slot>) -> Result<(), 
     put_slot(sink, slot)
 }
 
-/// Writes a slot, or a dash.
+/// Writes the numbers of a slot, or a dash for none.
 fn put_slot<K: Sink>(sink: &mut K, slot: Option<Slot>) -> Result<(), WriteFault>
     ensures { Writes (K.state sink.old) (K.state sink.new) result (slot_text slot) }
 {
@@ -79,7 +82,7 @@ fn put_slot<K: Sink>(sink: &mut K, slot: Option<Slot>) -> Result<(), WriteFault>
     }
 }
 
-/// Writes a slot.
+/// Writes the numbers of a slot.
 fn put_times<K: Sink>(sink: &mut K, slot: Slot) -> Result<(), WriteFault>
     ensures { Writes (K.state sink.old) (K.state sink.new) result (slot_text (Some slot)) }
 {

@@ -9,8 +9,8 @@ ghost use Rattle.realm_timeline.specs.Laws.{AcquiresNone};
 
 use crate::cost::cost_of;
 use crate::critical::critical_of;
-use crate::laws::{greedy_plans_are_short, plans_take_chains};
-use crate::run::Run;
+use crate::laws::{greedy_plans_are_short, plans_are_as_long_as_chains};
+use crate::simulation::Simulation;
 use crate::slot::Slot;
 use graph_model::graph::Graph;
 use graph_model::lists::LineList;
@@ -19,7 +19,8 @@ use graph_model::checked::Checked;
 use std::alloc::Global;
 use std::marker::Model;
 
-/// A plan with its length, the costs of its lines added up, and the critical chain with its cost.
+/// A plan of a graph, with its length, the costs of its lines added up, and the critical chain with
+/// its cost. Times and costs are whole numbers of virtual time.
 #[derive(Drop)]
 pub struct Timeline {
     slots: Vec<Option<Slot>>,
@@ -44,8 +45,8 @@ impl Model for Timeline {
 }
 
 impl Timeline {
-    /// Where and when a line is planned: its processor, its start and its finish. `None` exactly
-    /// where it is not planned, since a line that never comes reaches it.
+    /// The processor, the start and the finish of a line. `None` exactly where it has no slot: in what
+    /// `plan` gives, where a line that never comes reaches it. It takes no memory.
     pub fn slot(&self, i: u32) -> Option<(u32, u64, u64)>
         requires { i < length self.now.plan }
         ensures { MatchOption result (slot_at self.now.plan i ≡ None)
@@ -55,7 +56,7 @@ impl Timeline {
         Some((slot.processor, slot.start, slot.finish))
     }
 
-    /// The slot of a line.
+    /// The slot of a line, if it has one.
     pub(crate) fn planned(&self, i: u32) -> Option<Slot>
         requires { i < length self.now.plan }
         ensures { result ≡ slot_at self.now.plan i }
@@ -63,7 +64,7 @@ impl Timeline {
         self.slots[i as usize]
     }
 
-    /// The greatest finish, or 0.
+    /// The length of the plan: the greatest finish, and 0 where no line is planned.
     pub fn length(&self) -> u64
         ensures { result ≡ self.now.span }
     {
@@ -77,14 +78,15 @@ impl Timeline {
         self.total
     }
 
-    /// The critical chain.
+    /// The critical chain: of all chains of planned lines the costliest, from its first line to its
+    /// last. It has no line where none is planned.
     pub fn critical(&self) -> &LineList
         ensures { result.now ≡ self.now.critical }
     {
         &self.critical
     }
 
-    /// The cost of the critical chain.
+    /// The cost of the critical chain, which no plan's length is below.
     pub fn critical_cost(&self) -> u64
         ensures { result ≡ self.now.critical_cost }
     {
@@ -92,7 +94,10 @@ impl Timeline {
     }
 }
 
-/// Plans an accepted graph on some processors, greedily, in virtual time.
+/// Plans an accepted graph on 1 to 8 processors in virtual time: a line that is ready starts as soon as
+/// it may, the lowest first, on the lowest processor that is free for it.
+///
+/// `NoMemory`: memory was refused; the graph stays as it is.
 pub fn plan(alloc: Global, checked: &Checked, processors: u32) -> Result<Timeline, NoMemory>
     requires some { 1 ≤ processors }
     requires few { processors ≤ 8 }
@@ -107,23 +112,23 @@ pub fn plan(alloc: Global, checked: &Checked, processors: u32) -> Result<Timelin
     ensures lines { IfOk result (λ t. (k i : ℕ) → slice_get t.critical k ≡ Some i → i < length checked.now.graph.lines) }
     ensures critical_cost { IfOk result (λ t. t.critical_cost ≡ chain_cost checked.now.graph t.critical) }
 
-    // Each valid plan, on any number of processors, is at least as long as the critical chain.
+    // A valid plan on any number of processors is at least as long as the critical chain costs.
     ensures at_least { IfOk result (λ t. (n : ℕ) (other : List (Option SlotValue)) →
         IsPlan checked.now.graph n other → IsValid checked.now.graph other → t.critical_cost ≤ plan_length other) }
 
-    // Without reservations this plan is not much longer than any plan must be.
+    // Without reservations this plan is short: at most (total + (p - 1) * critical_cost) / p.
     ensures at_most { IfOk result (λ t. AcquiresNone checked.now.graph →
         processors * t.span ≤ t.total + (processors - 1) * t.critical_cost) }
 {
-    plans_take_chains();
+    plans_are_as_long_as_chains();
     greedy_plans_are_short();
     let graph = checked.graph();
-    let run = Run::whole(alloc, graph, processors)?;
-    let (critical, critical_cost) = critical_of(alloc, graph, &run.order)?;
-    let length = length_of(&run.slots);
-    let total = total_of(graph, &run.slots);
+    let simulation = Simulation::of_all_lines(alloc, graph, processors)?;
+    let (critical, critical_cost) = critical_of(alloc, graph, &simulation.order)?;
+    let length = length_of(&simulation.slots);
+    let total = total_of(graph, &simulation.slots);
     Ok(Timeline {
-        slots: run.slots,
+        slots: simulation.slots,
         length,
         total,
         critical,
@@ -131,7 +136,7 @@ pub fn plan(alloc: Global, checked: &Checked, processors: u32) -> Result<Timelin
     })
 }
 
-/// The greatest finish, or 0.
+/// The greatest finish, and 0 where there is none.
 fn length_of(slots: &[Option<Slot>]) -> u64
     ensures { result ≡ plan_length slots.now }
 {
