@@ -1,5 +1,5 @@
 -- The costliest chains, line by line, and the critical chain made of them.
-use Rattle.std.proofs.Common.{◌≡◌, ℕ, zero, suc, ◌+◌, ◌*◌, ◌<◌, ◌≤◌, Bool, true, false, inl, inr, List, [], ◌∷◌, ◌++◌, length, take, refl, sym, ◌∙◌, ap, subst, append_assoc, length-append, arith}
+use Rattle.std.proofs.Common.{◌≡◌, ℕ, zero, suc, ◌+◌, ◌*◌, ◌<◌, ◌≤◌, inl, inr, List, [], ◌∷◌, ◌++◌, length, take, refl, sym, ◌∙◌, ap, subst, append_assoc, length-append, arith}
 use Rattle.std.specs.Prelude.{◌==◌, Contains, Option, Some, None, MatchOption, slice_index}
 use Rattle.std.proofs.Common.{replicate}
 use Rattle.std.proofs.lemmas.List.{length-replicate, reverse-append}
@@ -8,7 +8,7 @@ use Rattle.realm_timeline.proofs.Positions.{contains_take, take_contains, place,
 use Rattle.realm_timeline.proofs.LoopFacts.{no_edge}
 use Rattle.realm_timeline.proofs.StartFacts.{replicate_at}
 use Rattle.std.specs.List.{slice_index_or}
-use Rattle.std.proofs.lemmas.Bool.{true≢false, cases_lt, cases_eq, eq-eqb, eqb-true}
+use Rattle.std.proofs.lemmas.Bool.{cases_lt, cases_eq, eq-eqb, eqb-true}
 use Rattle.std.proofs.lemmas.List.{take_more, take_all, get_or-set_same, get_or-set_other, length-set, get_or_past}
 use Rattle.std.proofs.lemmas.List.Elements.{Contains-push, Contains-push_cases, Contains-append_left, Contains-get_or}
 use Rattle.std.proofs.lemmas.Option.{none-some}
@@ -70,7 +70,7 @@ module _ (g : GraphValue) (order : List ℕ) (is : IsOrder g order) (costs : Lis
   known_apart : (i : ℕ) → Contains (take n order) i → i ≡ line → ⊥
   known_apart i c e = fresh (subst (Contains (take n order)) e c)
 
-  -- sources of a line that was weighed were weighed too
+  -- the sources of a line that has its entries have theirs
   sources_known : (i : ℕ) → Contains (take n order) i → (j : ℕ) → HasEdge g j i → Contains (take n order) j
   sources_known i c j e =
       let t = contains_take order n i c in
@@ -420,7 +420,7 @@ best_more chain_costs es e (Some b) r best (inr other) =
       ];
     }
 
--- one more line, higher than the highest so far or not
+-- one more line, whose chain is costlier than those so far or not
 pub top_here : (costs : List ℕ) (n : ℕ) (top : Option ℕ) → IsTopOf costs n top → cost_or_0 costs top < chain_cost_at costs n → IsTop costs (n + 1) n
 top_here costs n None none costlier = record {
   some = omega arith;

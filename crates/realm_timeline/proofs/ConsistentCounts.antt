@@ -1,6 +1,6 @@
--- What a run keeps stays fitting when an edge is passed, when a line leaves its processor, and when a line starts.
+-- The tables of a simulation stay consistent when a line waits for one edge fewer.
 use Rattle.std.proofs.Common.{◌≡◌, ℕ, ◌+◌, ◌-◌, ◌<◌, Bool, true, false, cond, not, inl, inr, List, [], ◌∷◌, length, refl, sym, ◌∙◌, ap, subst, arith}
-use Rattle.std.specs.Prelude.{◌==◌, ◌&&◌, Contains, Option, Some, None, slice_index, slice_set, count_by, filter}
+use Rattle.std.specs.Prelude.{◌==◌, ◌&&◌, Contains, Option, Some, None, slice_index, slice_set, count_by}
 use Rattle.std.specs.Option.{option_map_or}
 use Rattle.std.specs.List.{slice_index_or}
 use Rattle.std.proofs.lemmas.Bool.{true≢false, cases_lt, cases_eq, eq-eqb, eqb-true, ne_eqb, and_parts, and_from, or_cases, or_left, or_right, not_from_false, not-true, false_from_ne_true}
@@ -19,7 +19,7 @@ use Rattle.realm_timeline.specs.Plan.{slot_at, HasSlot}
 use Rattle.realm_timeline.specs.Queue.{QueueValue, queue_at, has_line}
 use Rattle.realm_timeline.specs.State.{State, verb_queue, queue_of, is_done, waits_for, IsQueued, IsConsistent}
 use Rattle.realm_timeline.specs.Steps.{IsOffered, CountsDown}
-use Rattle.realm_timeline.proofs.EdgeCounts.{bit, count_cons, count_one, count_zero, count_split, count_filter, none_counted, counted_none}
+use Rattle.realm_timeline.proofs.EdgeCounts.{bit, count_cons, count_one, count_zero, none_counted, counted_none}
 
 -- states with the same parts are one
 pub same_state : (a b : State) → a.time ≡ b.time → a.slots ≡ b.slots → a.order ≡ b.order → a.done ≡ b.done → a.left ≡ b.left → a.queues ≡ b.queues → a.running ≡ b.running → a ≡ b
@@ -32,7 +32,7 @@ same_state a b t s o d l q r =
     ∙ (ap (λ x. record b { queues = x; running = a.running }) q
     ∙ ap (λ x. record b { running = x }) r)))))
 
--- a place of a list that has not what stands past its end
+-- a place is within a list where another item stands than the one that is read past its end
 pub within : {X : Type 0} (xs : List X) (i : ℕ) (d : X) → (slice_index_or xs i d ≡ d → ⊥) → i < length xs
 within xs i d h = elim (cases_lt i (length xs)) [ inl b ↦ b | inr past ↦ absurd (h (get_or_past xs i d past)) ]
 

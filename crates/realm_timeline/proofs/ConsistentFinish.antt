@@ -1,4 +1,4 @@
--- What a run keeps stays fitting when a line leaves its processor.
+-- The tables of a simulation stay consistent when a line is marked as finished.
 use Rattle.std.proofs.Common.{◌≡◌, ℕ, ◌+◌, ◌<◌, Bool, true, false, not, inl, inr, List, [], length, refl, sym, ◌∙◌, ap, subst, arith}
 use Rattle.std.specs.Prelude.{◌==◌, ◌&&◌, Option, Some, None, slice_index, slice_set, count_by}
 use Rattle.std.proofs.lemmas.Bool.{true≢false, cases_eq, eq-eqb, eqb-true, false_from_ne_true}

@@ -1,4 +1,4 @@
--- What a run keeps stays fitting when a line starts.
+-- The tables of a simulation stay consistent when a line starts.
 use Rattle.std.proofs.Common.{◌≡◌, ℕ, ◌+◌, ◌<◌, Bool, true, false, not, inl, inr, List, [], ◌∷◌, ◌++◌, length, take, refl, sym, ◌∙◌, ap, subst, length-append, arith}
 use Rattle.std.specs.Prelude.{◌==◌, ◌||◌, nat_lt, Contains, Option, Some, None, slice_index, slice_set}
 use Rattle.std.proofs.lemmas.Bool.{true≢false, cases_lt, cases_eq, eq-eqb, ne_eqb, lt-ltb, and_parts, and_from, or_left, or_right, not_from_false, not-true, false_from_ne_true}

@@ -1,4 +1,4 @@
--- The next lines of a run finish.
+-- The next lines of a simulation finish.
 use Rattle.std.proofs.Common.{◌≡◌, ℕ, ◌+◌, ◌*◌, ◌<◌, ◌≤◌, true, false, not, inl, inr, List, [], length, refl, sym, ◌∙◌, ap, subst, arith}
 use Rattle.std.specs.Prelude.{◌≢◌, min, Option, Some, None, MatchOption}
 use Rattle.std.proofs.lemmas.Bool.{true≢false, cases_lt, cases_eq, cases_Bool, cases_order, not_from_true, not_from_false, not-true, false_from_ne_true}
@@ -110,7 +110,7 @@ module _ (g : GraphValue) (p : ℕ) (s new : State) (next : ℕ) (r : HasStarted
         (let a : undone new.done (length g.lines) < undone s.done (length g.lines) = omega arith in a),
       )
 
--- the time is no part of what is kept
+-- whether the tables are consistent does not depend on the time
 pub retimed : (g : GraphValue) (p : ℕ) (s : State) (rest : List Edge) (t : ℕ) → IsConsistent g p s rest → IsConsistent g p (record s { time = t }) rest
 retimed g p s rest t k = record {
   slot_count = k.slot_count;

@@ -1,4 +1,4 @@
--- A valid and greedy plan so far, with one more line.
+-- A plan that is valid and greedy so far, with one more line.
 use Rattle.std.proofs.Common.{◌≡◌, ℕ, ◌+◌, ◌<◌, ◌≤◌, ◌⊎◌, inl, inr, List, length, sym, ◌∙◌, ap, subst, arith}
 use Rattle.std.specs.Prelude.{Contains, Option, Some, slice_set}
 use Rattle.std.proofs.lemmas.Bool.{cases_lt, cases_eq}

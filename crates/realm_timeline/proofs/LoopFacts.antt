@@ -1,4 +1,4 @@
--- The loops of a run: one more edge, and one more processor.
+-- The loops of a simulation: one more edge, and one more processor.
 use Rattle.std.proofs.Common.{◌≡◌, ℕ, zero, suc, ◌+◌, ◌<◌, ◌≤◌, List, [], ◌∷◌, length, drop, sym, ◌∙◌, ap, subst, arith, drop-cons}
 use Rattle.std.specs.Prelude.{Option, Some, None, slice_index}
 use Rattle.std.specs.List.{slice_index_or}

@@ -1,4 +1,4 @@
--- A run goes on: a line starts, no more lines may start, and the next lines finish.
+-- A simulation goes on: a line starts, or no more lines may.
 use Rattle.std.proofs.Common.{◌≡◌, ℕ, zero, suc, ◌+◌, ◌*◌, ◌<◌, ◌≤◌, true, false, ◌⊎◌, inl, inr, List, length, refl, sym, ◌∙◌, ap, subst, arith}
 use Rattle.std.specs.Prelude.{is_none, Contains, Option, Some, None, slice_index, slice_set}
 use Rattle.std.proofs.lemmas.Bool.{true≢false, cases_lt, cases_eq, cases_Bool, false_from_ne_true}
@@ -279,7 +279,7 @@ module _ (g : GraphValue) (graph : IsGraph g) (accepted : Accepted g) (p : ℕ) 
   started_all : AllBusy s.running ⊎ AllHeldOrEmpty s.queues → HasStartedAll g p s
   started_all rest = record { simulation = simulation; greedy = λ moment i ready may. greedy_by rest i ready may (slot_at s.slots i) refl; none_starts = rest }
 
--- the public forms
+-- the same for any lines and processors
 pub start_goes_on : (g : GraphValue) → IsGraph g → Accepted g → (p : ℕ) (s new : State) (place q line : ℕ) → IsSimulation g p s → IsLowestPlace s.queues place → IsFirstIdle s.running q → Starts g s new place q line → IsSimulation g p new
 start_goes_on g graph accepted p s new place q line simulation lowest idle st = started g graph accepted p s simulation new place q line lowest idle st
 

@@ -1,4 +1,4 @@
--- How a run begins: no line has started, and each waits for one edge more than enter it until it is offered.
+-- How a simulation begins: no line has started, and each waits for one edge more than enter it until it is offered.
 use Rattle.std.proofs.Common.{◌≡◌, ℕ, zero, suc, ◌+◌, ◌<◌, ◌≤◌, Bool, true, false, not, inl, inr, [], length, drop, map, replicate, refl, sym, ◌∙◌, ap, subst, arith}
 use Rattle.std.specs.Prelude.{◌==◌, ◌&&◌, Contains, Some, None, slice_index, count_by}
 use Rattle.std.specs.List.{slice_index_or, range_with_len}
@@ -84,7 +84,7 @@ count_past lo (suc n) i h =
     let rest : count_by (λ (e : Edge). e.to == i) (map (λ k. edge k k kind.Passes) (range_with_len (lo + 1) n)) ≡ 0 = count_past (lo + 1) n i (omega arith) in
     omega arith
 
--- what a run is at first
+-- a simulation before any line was offered
 pub record IsFresh (g : GraphValue) (p : ℕ) (s : State) : Type 0 where
   pub time : s.time ≡ 0
   pub slots : s.slots ≡ replicate (length g.lines) None
@@ -166,7 +166,7 @@ module _ (g : GraphValue) (p : ℕ) (s : State) (fresh : IsFresh g p s) where
       before = λ a inside. (let e : length s.order ≡ length {A = ℕ} [] = ap length fresh.order in let z : length {A = ℕ} [] ≡ 0 = refl in absurd (omega arith));
     }
 
-  -- once all lines are offered the run begins
+  -- once all lines are offered the simulation begins
   simulation_begins : IsConsistent g p s [] → IsSimulation g p s
   simulation_begins k = record {
     consistent = k;

@@ -1,4 +1,4 @@
--- What single steps of a run do to its parts.
+-- What single steps of a simulation do to its parts.
 use Rattle.std.proofs.Common.{◌≡◌, ℕ, zero, suc, ◌+◌, ◌<◌, ◌≤◌, true, false, inl, inr, List, [], ◌∷◌, ◌++◌, length, sym, ◌∙◌, ap, subst, arith}
 use Rattle.std.specs.Prelude.{Option, Some, None, is_some, slice_set}
 use Rattle.std.specs.List.{slice_index_or}
@@ -26,7 +26,7 @@ busy_more running n below here p h = elim (cases_lt p n) [
   | inr since ↦ subst (λ x. (k : ℕ) × (runs_at running x ≡ Some k)) (let e : n ≡ p = omega arith in e) here
 ]
 
--- a line leaves, and frees a reservation
+-- a line is marked as finished, and the reservation that it releases is free
 pub marks_release : (g : GraphValue) (old new : State) (processor line a q : ℕ) (mid : List QueueValue) → mid ≡ old.queues → Releases g line a → q ≡ queue_of g a → ChangesQueue mid new.queues q (WithHeld false) → length new.queues ≡ length mid →
     new.time ≡ old.time → new.slots ≡ old.slots → new.order ≡ old.order → new.left ≡ old.left → new.running ≡ slice_set old.running processor None → new.done ≡ slice_set old.done line true → MarksFinished g old new processor line
 marks_release g old new processor line a q mid same r at changes count time slots order left running done = record {
