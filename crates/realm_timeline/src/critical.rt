@@ -9,12 +9,12 @@ ghost use Rattle.realm_timeline.specs.ChainCosts.{chain_cost_at, before_at, IsBe
 ghost use Rattle.graph_model.specs.declared.graph.verb.Edge.{Edge as EdgeValue};
 
 use crate::cost::cost_of;
-use index_spaces::room::{filled, push};
 use graph_model::graph::Graph;
 use graph_model::laws::edges_between_lines;
 use graph_model::lists::LineList;
 use graph_model::verb::Edge;
 use index_spaces::NoMemory;
+use index_spaces::room::{filled, push};
 use std::alloc::Global;
 
 /// For each line the cost of the costliest chain that ends in it, and the line before it in that chain.

@@ -16,17 +16,19 @@ ghost use Rattle.realm_timeline.specs.Order.{IsOrder};
 
 use crate::cost::{cost_of, queue_of, released};
 use crate::queue::{Queue, insert_at, lowest_of, set_held_at, take_at};
-use index_spaces::room::{filled, push};
 use crate::slot::Slot;
 use graph_model::graph::Graph;
 use graph_model::laws::edges_between_lines;
 use index_spaces::NoMemory;
+use index_spaces::room::{filled, push};
 use std::alloc::Global;
 
 /// The slots of the lines that have started so far, and what tells which lines may start next.
 #[derive(Drop)]
 pub(crate) struct Simulation {
+    /// The present time: 0, or a finish.
     pub(crate) time: u64,
+    /// The slot of each line that has started.
     pub(crate) slots: Vec<Option<Slot>>,
     /// The lines that have started, in the order in which they did.
     pub(crate) order: Vec<u32>,
@@ -42,10 +44,14 @@ pub(crate) struct Simulation {
 }
 
 impl Simulation {
-    /// The simulation in which all lines have started that come, and have finished.
+    /// The simulation at its end: each line that is to be planned has started and finished.
     ///
     /// `NoMemory`: memory was refused.
-    pub(crate) fn of_all_lines(alloc: Global, graph: &Graph, processors: u32) -> Result<Simulation, NoMemory>
+    pub(crate) fn of_all_lines(
+        alloc: Global,
+        graph: &Graph,
+        processors: u32,
+    ) -> Result<Simulation, NoMemory>
         requires some { 0 < processors }
         requires few { processors ≤ 8 }
         requires accepted { Accepted graph.now }

@@ -13,9 +13,9 @@ use graph_model::lists::LineList;
 use graph_model::verb::Line;
 use realm_io::{Sink, WriteFault, put_bytes, put_decimal};
 
-/// Writes the text of a timeline of the graph: `timeline 1`; for each line `op NAME PROCESSOR START
-/// FINISH`, or `op NAME -` where it is not planned; `critical COST` and the names of the critical
-/// chain; `length LENGTH`; `done`. It takes no memory.
+/// Writes the text of a timeline of the graph: `timeline 1`; for each line of the graph
+/// `op NAME PROCESSOR START FINISH`, or `op NAME -` where it has no slot; `critical COST` and the
+/// names of the critical chain; `length LENGTH`; `done`. It takes no memory.
 ///
 /// `WriteFault`: a fault of the sink was counted, and a prefix of the text was taken.
 pub fn put_timeline<K: Sink>(

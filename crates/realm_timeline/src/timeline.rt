@@ -12,10 +12,10 @@ use crate::critical::critical_of;
 use crate::laws::{greedy_plans_are_short, plans_are_as_long_as_chains};
 use crate::simulation::Simulation;
 use crate::slot::Slot;
+use graph_model::checked::Checked;
 use graph_model::graph::Graph;
 use graph_model::lists::LineList;
 use index_spaces::NoMemory;
-use graph_model::checked::Checked;
 use std::alloc::Global;
 use std::marker::Model;
 

@@ -21,7 +21,7 @@ struct Row<'a> {
     ghost few: { processors ≤ 8 },
 }
 
-// More bytes than any row has.
+/// More bytes than the text of any row has.
 const ROOM: usize = 4096;
 
 /// How many bytes a write takes at most.
