@@ -1,0 +1,185 @@
+-- The tables of a simulation stay consistent when a line is marked as finished.
+use Rattle.std.proofs.Common.{◌≡◌, ℕ, ◌+◌, ◌<◌, Bool, true, false, not, inl, inr, List, [], length, refl, sym, ◌∙◌, ap, subst, arith}
+use Rattle.std.specs.Prelude.{◌==◌, ◌&&◌, Option, Some, None, slice_index, slice_set, count_by}
+use Rattle.std.proofs.lemmas.Bool.{true≢false, cases_eq, eq-eqb, eqb-true, false_from_ne_true}
+use Rattle.std.proofs.lemmas.List.{get_or-set_same, get_or-set_other, length-set}
+use Rattle.std.proofs.lemmas.Option.{none-some, same_Some}
+use Rattle.graph_model.specs.declared.graph.verb.Edge.{Edge}
+use Rattle.graph_model.specs.graph.Graph.{GraphValue}
+use Rattle.graph_model.specs.graph.Edges.{edges, edges_out_of}
+use Rattle.graph_model.specs.meaning.Path.{HasPath}
+use Rattle.graph_model.specs.meaning.Rules.{Accepted, Acquires, Releases}
+use Rattle.graph_model.specs.graph.Fits.{IsGraph}
+use Rattle.graph_model.proofs.ReleaseFacts.{one_release, release_names}
+use Rattle.graph_model.proofs.VerbFacts.{release_one}
+use Rattle.realm_timeline.specs.declared.slot.Slot.{Slot}
+use Rattle.realm_timeline.specs.Plan.{HasSlot}
+use Rattle.realm_timeline.specs.Queue.{QueueValue, queue_at, has_line}
+use Rattle.realm_timeline.specs.State.{State, queue_of, is_done, runs_at, waits_for, Holds, IsConsistent}
+use Rattle.realm_timeline.specs.Steps.{Frees, MarksFinished}
+use Rattle.realm_timeline.proofs.CostFacts.{acquire_queue}
+use Rattle.realm_timeline.proofs.EdgeCounts.{bit, count_split, count_filter}
+use Rattle.realm_timeline.proofs.ConsistentCounts.{same_state, within, path_started}
+
+-- one edge more counts as passed
+awaits_by : (a b c d : Bool) → (c ≡ true → (b ≡ false) × (d ≡ true)) → (c ≡ false → d ≡ b) → bit (a && not b) ≡ bit (a && not d) + bit (a && c)
+awaits_by a b true d f h = by a b d (f refl).0 (f refl).1
+  where
+    by : (a b d : Bool) → b ≡ false → d ≡ true → bit (a && not b) ≡ bit (a && not d) + bit (a && true)
+    by true false true e k = refl
+    by false false true e k = refl
+    by a true d e k = absurd (true≢false e)
+    by a false false e k = absurd (true≢false (sym k))
+awaits_by a b false d f h = by a b d (h refl)
+  where
+    by : (a b d : Bool) → d ≡ b → bit (a && not b) ≡ bit (a && not d) + bit (a && false)
+    by true true true e = refl
+    by true false false e = refl
+    by false true true e = refl
+    by false false false e = refl
+    by a true false e = absurd (true≢false (sym e))
+    by a false true e = absurd (true≢false e)
+
+module _ (g : GraphValue) (graph : IsGraph g) (accepted : Accepted g) (p : ℕ) (s : State) (q line : ℕ) (k : IsConsistent g p s []) (runs : runs_at s.running q ≡ Some line) (queues : List QueueValue) (count : length queues ≡ length s.queues) where
+  after : State
+  after = record s { running = slice_set s.running q None; done = slice_set s.done line true; queues = queues }
+
+  unfinished : is_done s.done line ≡ false
+  unfinished = (k.runs q line runs).0
+
+  started : (x : Slot) × HasSlot s.slots line x
+  started = let r = (k.runs q line runs).1 in (r.0, r.1)
+
+  line_below : line < length s.done
+  line_below =
+      let a : line < length s.slots = within s.slots line None (λ h. none-some started.0 (sym h ∙ started.1)) in
+      let b : length s.slots ≡ length g.lines = k.slot_count in
+      let c : length s.done ≡ length g.lines = k.done_count in
+      omega arith
+
+  q_below : q < length s.running
+  q_below = within s.running q None (λ h. none-some line (sym h ∙ runs))
+
+  done_here : is_done (slice_set s.done line true) line ≡ true
+  done_here = get_or-set_same s.done line true false line_below
+
+  done_there : (i : ℕ) → (i ≡ line → ⊥) → is_done (slice_set s.done line true) i ≡ is_done s.done i
+  done_there i apart = get_or-set_other s.done line i true false apart
+
+  not_done : (i : ℕ) → is_done (slice_set s.done line true) i ≡ false → (i ≡ line → ⊥) × (is_done s.done i ≡ false)
+  not_done i h =
+      let apart : i ≡ line → ⊥ = (λ e. true≢false (sym (subst (λ x. is_done (slice_set s.done line true) x ≡ true) (sym e) done_here) ∙ h)) in
+      (apart, sym (done_there i apart) ∙ h)
+
+  left_is : (i : ℕ) → slice_index s.left i ≡ count_by (waits_for (slice_set s.done line true) i) (edges g) + count_by (λ (e : Edge). e.to == i) (edges_out_of g line)
+  left_is i =
+      let old : slice_index s.left i ≡ count_by (waits_for s.done i) (edges g) + count_by (λ (e : Edge). e.to == i) [] = k.left i in
+      let none : count_by (λ (e : Edge). e.to == i) [] ≡ 0 = refl in
+      let split : count_by (waits_for s.done i) (edges g) ≡ count_by (waits_for (slice_set s.done line true) i) (edges g) + count_by (λ (e : Edge). (e.to == i) && (e.from == line)) (edges g) =
+      count_split (waits_for s.done i) (waits_for (slice_set s.done line true) i) (λ (e : Edge). (e.to == i) && (e.from == line))
+      (λ e. awaits_by (e.to == i) (is_done s.done e.from) (e.from == line) (is_done (slice_set s.done line true) e.from)
+      (λ same. let at : e.from ≡ line = eqb-true e.from line same in (ap (is_done s.done) at ∙ unfinished, ap (is_done (slice_set s.done line true)) at ∙ done_here))
+      (λ apart. done_there e.from (λ at. true≢false (sym (eq-eqb e.from line at) ∙ apart)))) (edges g) in
+      let out : count_by (λ (e : Edge). e.to == i) (edges_out_of g line) ≡ count_by (λ (e : Edge). (e.to == i) && (e.from == line)) (edges g) = count_filter (λ (e : Edge). e.to == i) (λ (e : Edge). e.from == line) (edges g) in
+      omega arith
+
+  lines_by : (o : Option ℕ) → Frees g line s.queues queues o → (r : ℕ) → (queue_at queues r).lines ≡ (queue_at s.queues r).lines
+  lines_by None f r = ap (λ x. (queue_at x r).lines) f.1
+  lines_by (Some a) f r = elim (cases_eq r (queue_of g a)) [
+    | inl at ↦ subst (λ x. (queue_at queues x).lines ≡ (queue_at s.queues x).lines) (sym at) f.1.here.lines
+    | inr apart ↦ ap (λ x. x.lines) (f.1.others r apart)
+  ]
+
+  -- the lock of an acquire that the line releases
+  held_elsewhere : (o : Option ℕ) → Frees g line s.queues queues o → (r : ℕ) → (queue_at queues r).held ≡ true → ((queue_at s.queues r).held ≡ true) × ((a : ℕ) → Releases g line a → queue_of g a ≡ r → ⊥)
+  held_elsewhere None f r h = (subst (λ x. (queue_at x r).held ≡ true) f.1 h, λ a rel at. f.0 a rel)
+  held_elsewhere (Some b) f r h = elim (cases_eq r (queue_of g b)) [
+    | inl at ↦ absurd (true≢false (sym (subst (λ x. (queue_at queues x).held ≡ true) at h) ∙ f.1.here.held_is))
+    | inr apart ↦ (subst (λ x. x.held ≡ true) (f.1.others r apart) h, λ a rel at. apart (sym at ∙ ap (queue_of g) (release_one g line a b rel f.0)))
+  ]
+
+  still_held : (o : Option ℕ) → Frees g line s.queues queues o → (r : ℕ) → (queue_at s.queues r).held ≡ true → ((a : ℕ) → Releases g line a → queue_of g a ≡ r → ⊥) → (queue_at queues r).held ≡ true
+  still_held None f r h none = subst (λ x. (queue_at x r).held ≡ true) (sym f.1) h
+  still_held (Some b) f r h none = elim (cases_eq r (queue_of g b)) [
+    | inl at ↦ absurd (none b f.0 (sym at))
+    | inr apart ↦ subst (λ x. x.held ≡ true) (sym (f.1.others r apart)) h
+  ]
+
+  zero_unheld : (o : Option ℕ) → Frees g line s.queues queues o → (queue_at queues 0).held ≡ false
+  zero_unheld o f = false_from_ne_true (queue_at queues 0).held (λ h. true≢false (sym (held_elsewhere o f 0 h).0 ∙ k.others_unheld))
+
+  was_held : (l m : ℕ) → Holds g after l m → Holds g s l m
+  unfolding after
+  was_held l m h = record { acquires = h.acquires; slot = h.slot; has = h.has; unreleased = λ r rel. (not_done r (h.unreleased r rel)).1 }
+
+  -- what the line releases holds until now
+  releaser_holds : (l a : ℕ) → Releases g line a → Acquires g a l → Holds g s l a
+  releaser_holds l a rel acq =
+      let r = accepted.released a l acq in
+      let same : r.0 ≡ line = one_release g graph a r.0 line r.1 rel in
+      let x = path_started g p s k a line (subst (HasPath g a) same r.2) started.0 started.1 in
+      record { acquires = acq; slot = x.0; has = x.1; unreleased = λ n other. subst (λ z. is_done s.done z ≡ false) (one_release g graph a line n rel other) unfinished }
+
+  left_processor : (o : Option ℕ) → Frees g line s.queues queues o → IsConsistent g p after (edges_out_of g line)
+  unfolding after
+  left_processor o f = record {
+    slot_count = k.slot_count;
+    done_count = simp length-set k.done_count;
+    left_count = k.left_count;
+    queue_count = count ∙ k.queue_count;
+    processor_count = simp length-set k.processor_count;
+    left = left_is;
+    started_free = k.started_free;
+    finished_started = λ i h. elim (cases_eq i line) [
+      | inl at ↦ (started.0, subst (λ x. HasSlot s.slots x started.0) (sym at) started.1)
+      | inr apart ↦ k.finished_started i (sym (done_there i apart) ∙ h)
+    ];
+    queued = λ r i h. (let w = k.queued r i (subst (λ x. has_line x i ≡ true) (lines_by o f r) h) in (record { line = w.0.line; free = w.0.free; comes = w.0.comes; waits = w.0.waits }, w.1));
+    all_queued = λ i w. subst (λ x. has_line x i ≡ true) (sym (lines_by o f (queue_of g i))) (k.all_queued i (record { line = w.line; free = w.free; comes = w.comes; waits = w.waits }));
+    others_unheld = zero_unheld o f;
+    held = λ l h. (
+        let e = held_elsewhere o f (l + 1) h in
+        let r = k.held l e.0 in (
+          r.0,
+          record {
+            acquires = r.1.acquires;
+            slot = r.1.slot;
+            has = r.1.has;
+            unreleased = λ n rel. elim (cases_eq n line) [
+              | inl at ↦ absurd (e.1 r.0 (subst (λ x. Releases g x r.0) at rel) (acquire_queue g r.0 l r.1.acquires))
+              | inr apart ↦ done_there n apart ∙ r.1.unreleased n rel
+            ];
+          },
+        ));
+    holds = λ l m h. still_held o f (l + 1) (k.holds l m (was_held l m h)) (λ a rel at. (
+        let acq = release_names g graph line a rel in
+        let same : acq.0 + 1 ≡ l + 1 = sym (acquire_queue g a acq.0 acq.1) ∙ at in
+        let acq_l : Acquires g a l = subst (Acquires g a) (let e : acq.0 ≡ l = omega arith in e) acq.1 in
+        let one : a ≡ m = k.one_holds l a m (releaser_holds l a rel acq_l) (was_held l m h) in
+        true≢false (sym done_here ∙ h.unreleased line (subst (Releases g line) one rel))));
+    one_holds = λ l m n a b. k.one_holds l m n (was_held l m a) (was_held l n b);
+    runs = λ r m h. elim (cases_eq r q) [
+      | inl at ↦ absurd (none-some m (sym (get_or-set_same s.running q None None q_below) ∙ subst (λ x. runs_at (slice_set s.running q None) x ≡ Some m) at h))
+      | inr apart ↦ (
+          let old = k.runs r m (sym (get_or-set_other s.running q r None None apart) ∙ h) in
+          let x = old.1 in (
+            done_there m (λ same. apart (
+                let y = (k.runs q line runs).1 in
+                sym x.2 ∙ (ap (λ (z : Slot). z.processor) (same_Some x.0 y.0 (sym (subst (λ z. HasSlot s.slots z x.0) same x.1) ∙ y.1)) ∙ y.2))) ∙ old.0,
+            (x.0, x.1, x.2),
+          ))
+    ];
+    running = λ m x h unf. (
+        let n = not_done m unf in
+        let old : runs_at s.running x.processor ≡ Some m = k.running m x h n.1 in
+        get_or-set_other s.running q x.processor None None (λ at. n.0 (same_Some m line (sym (subst (λ z. runs_at s.running z ≡ Some m) at old) ∙ runs))) ∙ old);
+    ordered = k.ordered;
+    once = k.once;
+    before = k.before;
+  }
+
+pub finish_consistent : (g : GraphValue) → IsGraph g → Accepted g → (p : ℕ) (s new : State) (q line : ℕ) → IsConsistent g p s [] → runs_at s.running q ≡ Some line → MarksFinished g s new q line → IsConsistent g p new (edges_out_of g line)
+unfolding after
+finish_consistent g graph accepted p s new q line k runs st =
+    subst (λ x. IsConsistent g p x (edges_out_of g line)) (same_state (record s { running = slice_set s.running q None; done = slice_set s.done line true; queues = new.queues }) new (sym st.time) (sym st.slots) (sym st.order) (sym st.done) (sym st.left) refl (sym st.running))
+    (left_processor g graph accepted p s q line k runs new.queues st.queue_count st.acquire st.frees)

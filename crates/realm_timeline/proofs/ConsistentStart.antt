@@ -1,0 +1,241 @@
+-- The tables of a simulation stay consistent when a line starts.
+use Rattle.std.proofs.Common.{◌≡◌, ℕ, ◌+◌, ◌<◌, Bool, true, false, not, inl, inr, List, [], ◌∷◌, ◌++◌, length, take, refl, sym, ◌∙◌, ap, subst, length-append, arith}
+use Rattle.std.specs.Prelude.{◌==◌, ◌||◌, nat_lt, Contains, Option, Some, None, slice_index, slice_set}
+use Rattle.std.proofs.lemmas.Bool.{true≢false, cases_lt, cases_eq, eq-eqb, ne_eqb, lt-ltb, and_parts, and_from, or_left, or_right, not_from_false, not-true, false_from_ne_true}
+use Rattle.std.proofs.lemmas.List.{get_or_push, get_or_append_left, get_or-set_same, get_or-set_other, length-set, take-append-le, take_all}
+use Rattle.std.proofs.lemmas.List.Elements.{Contains-push, Contains-push_cases, Contains-append_left, Contains-get_or}
+use Rattle.std.proofs.lemmas.Option.{none-some, same_Some}
+use Rattle.graph_model.specs.graph.Graph.{GraphValue}
+use Rattle.graph_model.specs.meaning.Path.{HasPath}
+use Rattle.graph_model.specs.meaning.Rules.{Accepted, Acquires, Releases}
+use Rattle.graph_model.specs.graph.Fits.{IsGraph}
+use Rattle.graph_model.proofs.ReleaseFacts.{one_release, release_names}
+use Rattle.realm_timeline.specs.declared.slot.Slot.{Slot}
+use Rattle.realm_timeline.specs.Plan.{slot_at, HasSlot}
+use Rattle.realm_timeline.specs.Queue.{QueueValue, queue_at, has_line, ChangesQueue, WithoutLine}
+use Rattle.realm_timeline.specs.State.{State, queue_of, is_done, runs_at, IsQueued, Holds, IsConsistent}
+use Rattle.realm_timeline.specs.Steps.{Starts, slot_of}
+use Rattle.realm_timeline.proofs.CostFacts.{acquire_queue}
+use Rattle.realm_timeline.proofs.ConsistentCounts.{same_state, source_done, path_started, queue_acquires}
+
+-- one more slot
+pub slot_here : (slots : List (Option Slot)) (line : ℕ) (x : Slot) → line < length slots → slot_at (slice_set slots line (Some x)) line ≡ Some x
+slot_here slots line x h = get_or-set_same slots line (Some x) None h
+
+pub slot_there : (slots : List (Option Slot)) (line : ℕ) (x : Slot) (i : ℕ) → (i ≡ line → ⊥) → slot_at (slice_set slots line (Some x)) i ≡ slot_at slots i
+slot_there slots line x i apart = get_or-set_other slots line i (Some x) None apart
+
+module _ (g : GraphValue) (graph : IsGraph g) (accepted : Accepted g) (p : ℕ) (s : State) (k : IsConsistent g p s []) (place q line : ℕ) (x : Slot) (on : x.processor ≡ q)
+    (listed : has_line (queue_at s.queues place).lines line ≡ true) (unheld : (queue_at s.queues place).held ≡ false) (q_below : q < length s.running) (idle : runs_at s.running q ≡ None)
+    (queues : List QueueValue) (count : length queues ≡ length s.queues) (changes : ChangesQueue s.queues queues place (WithoutLine line place)) where
+  after : State
+  after = record s { slots = slice_set s.slots line (Some x); order = s.order ++ line ∷ []; queues = queues; running = slice_set s.running q (Some line) }
+
+  waiting : IsQueued g s line
+  waiting = (k.queued place line listed).0
+
+  at_place : queue_of g line ≡ place
+  at_place = (k.queued place line listed).1
+
+  below : line < length s.slots
+  below = let a : line < length g.lines = waiting.line in let b : length s.slots ≡ length g.lines = k.slot_count in omega arith
+
+  no_slot : (y : Slot) → HasSlot s.slots line y → ⊥
+  no_slot y h = none-some y (sym waiting.waits ∙ h)
+
+  apart_of : (i : ℕ) (y : Slot) → HasSlot s.slots i y → i ≡ line → ⊥
+  apart_of i y h e = no_slot y (subst (λ z. HasSlot s.slots z y) e h)
+
+  more : (i : ℕ) (y : Slot) → HasSlot s.slots i y → HasSlot (slice_set s.slots line (Some x)) i y
+  more i y h = slot_there s.slots line x i (apart_of i y h) ∙ h
+
+  here : HasSlot (slice_set s.slots line (Some x)) line x
+  here = slot_here s.slots line x below
+
+  fewer : (i : ℕ) (y : Slot) → (i ≡ line → ⊥) → HasSlot (slice_set s.slots line (Some x)) i y → HasSlot s.slots i y
+  fewer i y apart h = sym (slot_there s.slots line x i apart) ∙ h
+
+  undone : is_done s.done line ≡ false
+  undone = false_from_ne_true (is_done s.done line) (λ h. (let r = k.finished_started line h in no_slot r.0 r.1))
+
+  -- no release of the line is done
+  unreleased : (r : ℕ) → Releases g r line → is_done s.done r ≡ false
+  unreleased r rel = false_from_ne_true (is_done s.done r) (λ h. by r rel h)
+    where
+      by : (r : ℕ) → Releases g r line → is_done s.done r ≡ true → ⊥
+      by r rel h = none_of (place_lock r rel) r rel h
+        where
+          place_lock : (r : ℕ) → Releases g r line → (l : ℕ) × Acquires g line l
+          place_lock r rel = release_names g graph r line rel
+
+          none_of : (l : ℕ) × Acquires g line l → (r : ℕ) → Releases g r line → is_done s.done r ≡ true → ⊥
+          none_of l r rel h =
+              let a = accepted.released line l.0 l.1 in
+              let same : a.0 ≡ r = one_release g graph line a.0 r a.1 rel in
+              let f = k.finished_started r h in
+              let y = path_started g p s k line r (subst (HasPath g line) same a.2) f.0 f.1 in
+              no_slot y.0 y.1
+
+  was_waiting : (i : ℕ) → IsQueued g after i → (i ≡ line → ⊥) × IsQueued g s i
+  unfolding after
+  was_waiting i w =
+      let apart : i ≡ line → ⊥ = (λ e. none-some x (sym (subst (λ z. slot_at (slice_set s.slots line (Some x)) z ≡ None) e w.waits) ∙ here)) in
+      (apart, record { line = w.line; free = w.free; comes = w.comes; waits = sym (slot_there s.slots line x i apart) ∙ w.waits })
+
+  still_waiting : (i : ℕ) → (i ≡ line → ⊥) → IsQueued g s i → IsQueued g after i
+  unfolding after
+  still_waiting i apart w = record { line = w.line; free = w.free; comes = w.comes; waits = slot_there s.slots line x i apart ∙ w.waits }
+
+  queued : (r i : ℕ) → has_line (queue_at queues r).lines i ≡ true → IsQueued g after i × (queue_of g i ≡ r)
+  queued r i h = elim (cases_eq r place) [
+    | inl at ↦ (
+        let parts = and_parts (not (i == line)) (has_line (queue_at s.queues place).lines i) (sym (changes.here.lines i) ∙ subst (λ z. has_line (queue_at queues z).lines i ≡ true) at h) in
+        let w = k.queued place i parts.1 in
+        (still_waiting i (λ e. true≢false (sym (eq-eqb i line e) ∙ not-true (i == line) parts.0)) w.0, w.1 ∙ sym at))
+    | inr apart ↦ (
+        let w = k.queued r i (subst (λ z. has_line z.lines i ≡ true) (changes.others r apart) h) in
+        (still_waiting i (λ e. apart (sym w.1 ∙ (ap (queue_of g) e ∙ at_place))) w.0, w.1))
+  ]
+
+  all_queued : (i : ℕ) → IsQueued g after i → has_line (queue_at queues (queue_of g i)).lines i ≡ true
+  all_queued i w' =
+      let w = was_waiting i w' in
+      let old : has_line (queue_at s.queues (queue_of g i)).lines i ≡ true = k.all_queued i w.1 in
+      elim (cases_eq (queue_of g i) place) [
+        | inl at ↦ subst (λ z. has_line (queue_at queues z).lines i ≡ true) (sym at)
+            (changes.here.lines i ∙ and_from (not (i == line)) (has_line (queue_at s.queues place).lines i) (not_from_false (i == line) (ne_eqb i line w.0)) (subst (λ z. has_line (queue_at s.queues z).lines i ≡ true) at old))
+        | inr apart ↦ subst (λ z. has_line z.lines i ≡ true) (sym (changes.others (queue_of g i) apart)) old
+      ]
+
+  zero_by : (b : Bool) → (queue_at queues place).held ≡ ((queue_at s.queues place).held || nat_lt 0 place) → place ≡ 0 → (queue_at queues 0).held ≡ false
+  zero_by b h e =
+      let a : (queue_at queues 0).held ≡ ((queue_at s.queues 0).held || nat_lt 0 0) = subst (λ z. (queue_at queues z).held ≡ ((queue_at s.queues z).held || nat_lt 0 z)) e h in
+      a ∙ ap (λ z. z || false) k.others_unheld
+
+  others_unheld : (queue_at queues 0).held ≡ false
+  others_unheld = elim (cases_eq 0 place) [
+    | inl at ↦ zero_by true changes.here.held (sym at)
+    | inr apart ↦ ap (λ z. z.held) (changes.others 0 apart) ∙ k.others_unheld
+  ]
+
+  now_held : (l : ℕ) → (queue_at s.queues (l + 1)).held ≡ true → (queue_at queues (l + 1)).held ≡ true
+  now_held l h = elim (cases_eq (l + 1) place) [
+    | inl at ↦ subst (λ z. (queue_at queues z).held ≡ true) (sym at) (changes.here.held ∙ or_left (queue_at s.queues place).held (nat_lt 0 place) (subst (λ z. (queue_at s.queues z).held ≡ true) at h))
+    | inr apart ↦ subst (λ z. z.held ≡ true) (sym (changes.others (l + 1) apart)) h
+  ]
+
+  was_holding : (l m : ℕ) → (m ≡ line → ⊥) → Holds g after l m → Holds g s l m
+  unfolding after
+  was_holding l m apart h = record { acquires = h.acquires; slot = h.slot; has = fewer m h.slot apart h.has; unreleased = h.unreleased }
+
+  now_holding : (l m : ℕ) → Holds g s l m → Holds g after l m
+  unfolding after
+  now_holding l m h = record { acquires = h.acquires; slot = h.slot; has = more m h.slot h.has; unreleased = h.unreleased }
+
+  line_holds : (l : ℕ) → Acquires g line l → Holds g after l line
+  unfolding after
+  line_holds l a = record { acquires = a; slot = x; has = here; unreleased = unreleased }
+
+  -- no other acquire of its reservation holds
+  no_other : (l m : ℕ) → Acquires g line l → Holds g s l m → ⊥
+  no_other l m a h =
+      let at : place ≡ l + 1 = sym at_place ∙ acquire_queue g line l a in
+      true≢false (sym (k.holds l m h) ∙ subst (λ z. (queue_at s.queues z).held ≡ false) at unheld)
+
+  one_holds : (l m n : ℕ) → Holds g after l m → Holds g after l n → m ≡ n
+  unfolding after
+  one_holds l m n a b = elim (cases_eq m line) [
+    | inl m_is ↦ elim (cases_eq n line) [
+      | inl n_is ↦ m_is ∙ sym n_is
+      | inr apart ↦ absurd (no_other l n (subst (λ z. Acquires g z l) m_is a.acquires) (was_holding l n apart b))
+    ]
+    | inr m_apart ↦ elim (cases_eq n line) [
+      | inl n_is ↦ absurd (no_other l m (subst (λ z. Acquires g z l) n_is b.acquires) (was_holding l m m_apart a))
+      | inr n_apart ↦ k.one_holds l m n (was_holding l m m_apart a) (was_holding l n n_apart b)
+    ]
+  ]
+
+  unlisted : Contains s.order line → ⊥
+  unlisted c = let r = (k.ordered line).0 c in no_slot r.0 r.1
+
+  consistent_start : IsConsistent g p after []
+  unfolding after
+  consistent_start = record {
+    slot_count = simp length-set k.slot_count;
+    done_count = k.done_count;
+    left_count = k.left_count;
+    queue_count = count ∙ k.queue_count;
+    processor_count = simp length-set k.processor_count;
+    left = k.left;
+    started_free = λ i y h. elim (cases_eq i line) [
+      | inl at ↦ subst (λ z. slice_index s.left z ≡ 0) (sym at) waiting.free
+      | inr apart ↦ k.started_free i y (fewer i y apart h)
+    ];
+    finished_started = λ i h. (let r = k.finished_started i h in (r.0, more i r.0 r.1));
+    queued = queued;
+    all_queued = all_queued;
+    others_unheld = others_unheld;
+    held = λ l h. elim (cases_eq (l + 1) place) [
+      | inl at ↦ (line, line_holds l (queue_acquires g line l (at_place ∙ sym at)))
+      | inr apart ↦ (let r = k.held l (subst (λ z. z.held ≡ true) (changes.others (l + 1) apart) h) in (r.0, now_holding l r.0 r.1))
+    ];
+    holds = λ l m h. elim (cases_eq m line) [
+      | inl at ↦ (
+          let is : place ≡ l + 1 = sym at_place ∙ acquire_queue g line l (subst (λ z. Acquires g z l) at h.acquires) in
+          subst (λ z. (queue_at queues z).held ≡ true) is (changes.here.held ∙ or_right (queue_at s.queues place).held (nat_lt 0 place) (lt-ltb 0 place (omega arith))))
+      | inr apart ↦ now_held l (k.holds l m (was_holding l m apart h))
+    ];
+    one_holds = one_holds;
+    runs = λ r m h. elim (cases_eq r q) [
+      | inl at ↦ (
+          let is : line ≡ m = same_Some line m (sym (get_or-set_same s.running q (Some line) None q_below) ∙ subst (λ z. runs_at (slice_set s.running q (Some line)) z ≡ Some m) at h) in
+          (subst (λ z. is_done s.done z ≡ false) is undone, (x, subst (λ z. HasSlot (slice_set s.slots line (Some x)) z x) is here, on ∙ sym at)))
+      | inr apart ↦ (
+          let old = k.runs r m (sym (get_or-set_other s.running q r (Some line) None apart) ∙ h) in
+          (old.0, (old.1.0, more m old.1.0 old.1.1, old.1.2)))
+    ];
+    running = λ m y h unf. elim (cases_eq m line) [
+      | inl at ↦ (
+          let same : x ≡ y = same_Some x y (sym here ∙ subst (λ z. HasSlot (slice_set s.slots line (Some x)) z y) at h) in
+          subst (λ z. runs_at (slice_set s.running q (Some line)) z ≡ Some m) (sym on ∙ ap (λ (z : Slot). z.processor) same) (get_or-set_same s.running q (Some line) None q_below ∙ ap Some (sym at)))
+      | inr apart ↦ (
+          let old : runs_at s.running y.processor ≡ Some m = k.running m y (fewer m y apart h) unf in
+          get_or-set_other s.running q y.processor (Some line) None (λ at. none-some m (sym idle ∙ subst (λ z. runs_at s.running z ≡ Some m) at old)) ∙ old)
+    ];
+    ordered = λ i. (
+      (λ c. elim (Contains-push_cases s.order line i c) [
+        | inl old ↦ (let r = (k.ordered i).0 old in (r.0, more i r.0 r.1))
+        | inr new ↦ (x, subst (λ z. HasSlot (slice_set s.slots line (Some x)) z x) new here)
+      ]),
+      (λ h. elim (cases_eq i line) [
+        | inl at ↦ subst (λ z. Contains (s.order ++ line ∷ []) z) (sym at) (Contains-push s.order line)
+        | inr apart ↦ Contains-append_left s.order (line ∷ []) i ((k.ordered i).1 (h.0, fewer i h.0 apart h.1))
+      ]),
+    );
+    once = λ a b lower upper same. (
+        let longer : length (s.order ++ line ∷ []) ≡ length s.order + 1 = length-append s.order (line ∷ []) in
+        elim (cases_lt b (length s.order)) [
+          | inl inside ↦ k.once a b lower inside (sym (get_or_append_left s.order (line ∷ []) 0 a (omega arith)) ∙ (same ∙ get_or_append_left s.order (line ∷ []) 0 b inside))
+          | inr end ↦ unlisted (subst (λ z. Contains s.order z) (sym (get_or_append_left s.order (line ∷ []) 0 a (omega arith)) ∙ (same ∙ get_or_push s.order line 0 b (omega arith))) (Contains-get_or s.order a 0 (omega arith)))
+        ]);
+    before = λ a inside e c to. (
+        let longer : length (s.order ++ line ∷ []) ≡ length s.order + 1 = length-append s.order (line ∷ []) in
+        elim (cases_lt a (length s.order)) [
+          | inl old ↦ subst (λ xs. Contains xs e.from) (sym (take-append-le a s.order (line ∷ []) (omega arith))) (k.before a old e c (to ∙ get_or_append_left s.order (line ∷ []) 0 a old))
+          | inr end ↦ (
+              let at : a ≡ length s.order = omega arith in
+              let is : e.to ≡ line = to ∙ get_or_push s.order line 0 a (sym at) in
+              let f = k.finished_started e.from (source_done g p s k line waiting.free e c is) in
+              let all : take a (s.order ++ line ∷ []) ≡ s.order = take-append-le a s.order (line ∷ []) (omega arith) ∙ take_all a s.order (omega arith) in
+              subst (λ xs. Contains xs e.from) (sym all) ((k.ordered e.from).1 (f.0, f.1)))
+        ]);
+  }
+
+pub start_consistent : (g : GraphValue) → IsGraph g → Accepted g → (p : ℕ) (s new : State) (place q line : ℕ) → IsConsistent g p s [] → (queue_at s.queues place).held ≡ false → q < length s.running → runs_at s.running q ≡ None →
+    Starts g s new place q line → IsConsistent g p new []
+unfolding after
+start_consistent g graph accepted p s new place q line k unheld q_below idle st =
+    subst (λ x. IsConsistent g p x [])
+    (same_state (record s { slots = slice_set s.slots line (Some (slot_of g s q line)); order = s.order ++ line ∷ []; queues = new.queues; running = slice_set s.running q (Some line) }) new
+    (sym st.time) (sym st.slots) (sym st.order) (sym st.done) (sym st.left) refl (sym st.running))
+    (consistent_start g graph accepted p s k place q line (slot_of g s q line) refl st.listed unheld q_below idle new.queues st.queue_count st.queues)

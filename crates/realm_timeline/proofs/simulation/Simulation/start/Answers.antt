@@ -1,0 +1,19 @@
+use Rattle.std.proofs.Common.{◌+◌, ◌*◌, ◌≤◌, length, refl, ap, subst, arith}
+use Rattle.std.specs.Prelude.{Some, slice_set}
+use Rattle.realm_timeline.specs.State.{state_of, undone}
+use Rattle.realm_timeline.proofs.StepFacts.{starts_with}
+use Rattle.realm_timeline.proofs.simulation.Simulation.start.Goals as goal
+
+pub overflow_add-finish : goal.overflow_add-finish
+overflow_add-finish c =
+    let small : c.args.self.now.time + 17179869184 * undone c.args.self.now.done.items (length c.args.graph.now.lines) ≤ 17179869184 * length c.args.graph.now.lines = c.requires.simulation.small.time in
+    omega arith
+
+pub returns : goal.returns
+returns c = (
+  c.in-Some.line,
+  starts_with c.args.graph.now (state_of c.args.self.now) _ c.args.place c.args.processor c.in-Some.line c.args.self.now.queues.items c.cost_of.result refl
+      c.in-Some.ensures.line.0 c.in-Some.ensures.line.1 c.in-Some.ensures.line.2 c.take_at.ensures.count (subst (λ x. x ≤ 17179869184) c.cost_of.ensures.cost c.cost_of.ensures.few) refl
+      (ap (λ f. slice_set c.args.self.now.slots.items c.in-Some.line (Some (record { processor = c.args.processor; start = c.args.self.now.time; finish = c.args.self.now.time + f }))) c.cost_of.ensures.cost)
+      c.in_ok-push.ensures.ok refl refl refl,
+)

@@ -1,0 +1,58 @@
+//! What a line costs, and what it says of reservations.
+
+ghost use Rattle.std.specs.Prelude.{◌≡◌, ℕ, ◌+◌, ◌<◌, ◌≤◌, length, MatchOption};
+ghost use Rattle.realm_timeline.specs.Plan.{cost};
+ghost use Rattle.realm_timeline.specs.State.{queue_of};
+ghost use Rattle.graph_model.specs.graph.Graph.{locks};
+ghost use Rattle.graph_model.specs.meaning.Rules.{Releases};
+
+use graph_model::graph::Graph;
+use graph_model::line_laws::{accesses_are_few, accesses_fit};
+use graph_model::verb::Verb;
+
+/// A line has at most three accesses.
+const MOST_ACCESSES: u32 = 3;
+
+/// How long a line takes in virtual time: 1, and 1 more for each point of each access.
+pub(crate) fn cost_of(graph: &Graph, line: u32) -> u64
+    requires { line < length graph.now.lines }
+    ensures cost { result ≡ cost graph.now line }
+    ensures few { result ≤ 17179869184 }
+{
+    accesses_fit();
+    accesses_are_few();
+    let _ = graph.lines();
+    let mut cost: u64 = 1;
+    for k in 0..MOST_ACCESSES {
+        let Some(access) = graph.access(line, k) else {
+            return cost;
+        };
+        cost += u64::from(graph.space(access.space).size());
+    }
+    cost
+}
+
+/// The number of the queue of a line: queue 0 is for all lines but acquires, and each reservation has
+/// one for its acquires.
+pub(crate) fn queue_of(graph: &Graph, line: u32) -> u32
+    requires { line < length graph.now.lines }
+    ensures queue { result ≡ queue_of graph.now line }
+    ensures known { result < length (locks graph.now) + 1 }
+{
+    let _ = graph.locks();
+    match &graph.line(line).verb {
+        Verb::Acquire { lock } => *lock + 1,
+        _ => 0,
+    }
+}
+
+/// The acquire that a line releases, and none of any line but a release.
+pub(crate) fn released(graph: &Graph, line: u32) -> Option<u32>
+    requires { line < length graph.now.lines }
+    ensures { MatchOption result ((q : ℕ) → Releases graph.now line q → ⊥) (λ q. Releases graph.now line q × (q < length graph.now.lines)) }
+{
+    match &graph.line(line).verb {
+        Verb::Release { acquire } => Some(*acquire),
+        _ => None,
+    }
+}
