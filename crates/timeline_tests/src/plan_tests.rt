@@ -126,7 +126,14 @@ const NOTHING: Row<'static> = Row {
 
 #[test]
 fn timelines(rt: HostRuntime) -> Result<(), Fail> {
-    for row in [WAITING, RESERVED, UNTRIGGERED, SIDE_BY_SIDE, IN_A_ROW, NOTHING] {
+    for row in [
+        WAITING,
+        RESERVED,
+        UNTRIGGERED,
+        SIDE_BY_SIDE,
+        IN_A_ROW,
+        NOTHING,
+    ] {
         row.run(rt.alloc())?;
     }
     Ok(())
