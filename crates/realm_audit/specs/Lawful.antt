@@ -19,9 +19,9 @@ ends_of g = map (eval_end g) (numbers_below (length g.lines))
 abbrev pub AreLines : GraphValue → List ℕ → Type 0
 AreLines g trace = (k i : ℕ) → slice_get trace k ≡ Some i → i < length g.lines
 
--- line i stands in the trace before place k
-abbrev pub StandsEarlier : List ℕ → ℕ → ℕ → Type 0
-StandsEarlier trace k i = (m : ℕ) × (m < k) × (slice_get trace m ≡ Some i)
+-- x stands in a list before place k
+abbrev pub StandsEarlier : {X : Type 0} → List X → ℕ → X → Type 0
+StandsEarlier xs k x = (m : ℕ) × (m < k) × (slice_get xs m ≡ Some x)
 
 -- two acquires that ended Done, whose sections may not overlap: here those of one reservation
 abbrev pub Exclude : GraphValue → ℕ → ℕ → Type 0

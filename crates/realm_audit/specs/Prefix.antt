@@ -37,14 +37,14 @@ pub record IsPrefix (g : GraphValue) (trace : List ℕ) (k : ℕ) (p : Prefix) :
   pub earlier : AreEarlier trace k (stands_in p.stands.items)
   pub holders : AreHoldersAt g trace k p.holders.items
 
--- line j is a source of line i, does not wait, and is not among those that stand
+-- line j does not wait, and is not among those that stand
+abbrev pub IsLeft : GraphValue → List Bool → ℕ → Type 0
+IsLeft g stands j = (eval_end g j ≢ Waiting) × (stands_in stands j ≡ false)
+
+-- such a line is a source of line i
 abbrev pub IsLate : GraphValue → List Bool → ℕ → ℕ → Type 0
-IsLate g stands i j = Contains (sources g i) j × (eval_end g j ≢ Waiting) × (stands_in stands j ≡ false)
+IsLate g stands i j = Contains (sources g i) j × IsLeft g stands j
 
 -- acquire q holds the reservation that line i takes
 abbrev pub IsHolder : GraphValue → List (Option ℕ) → ℕ → ℕ → Type 0
 IsHolder g holders i q = (l : ℕ) × Takes g i l × (holder_in holders l ≡ Some q)
-
--- line j does not wait, and is not among those that stand
-abbrev pub IsLeft : GraphValue → List Bool → ℕ → Type 0
-IsLeft g stands j = (eval_end g j ≢ Waiting) × (stands_in stands j ≡ false)

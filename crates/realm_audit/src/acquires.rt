@@ -40,7 +40,9 @@ pub(crate) fn taken(graph: &Graph, ends: &EndList, line: u32) -> Option<u32>
     requires ends { ends.now ≡ ends_of graph.now }
     ensures { MatchOption result ((l : ℕ) → Takes graph.now line l → ⊥) (λ l. Takes graph.now line l × (l < length (locks graph.now))) }
 {
-    let lock = acquired(graph, line)?;
+    let Some(lock) = acquired(graph, line) else {
+        return None;
+    };
     match ends.at(line) {
         End::Done => Some(lock),
         _ => None,
@@ -54,7 +56,11 @@ pub(crate) fn freed(graph: &Graph, line: u32) -> Option<(u32, u32)>
         × Acquires graph.now x.0 x.1 × (x.1 < length (locks graph.now))) }
 {
     let _ = graph.lines();
-    let acquire = released(graph, line)?;
-    let lock = acquired(graph, acquire)?;
-    Some((acquire, lock))
+    let Some(acquire) = released(graph, line) else {
+        return None;
+    };
+    match acquired(graph, acquire) {
+        Some(lock) => Some((acquire, lock)),
+        None => unreachable!(),
+    }
 }

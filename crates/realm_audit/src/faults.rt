@@ -1,6 +1,7 @@
 //! The faults of a trace at a place.
 
-ghost use Rattle.std.specs.Prelude.{◌≡◌, ℕ, ◌<◌, length, OnOk, IfErr, MatchOption};
+ghost use Rattle.std.specs.Prelude.{◌≡◌, ℕ, ◌<◌, length, min, OnOk, IfErr, MatchOption};
+ghost use Rattle.std.specs.Option.{option_map_or};
 ghost use Rattle.realm_audit.specs.Lawful.{ends_of, AreLines, IsSoundAt, IsSoundBefore, IsRefusal, IsLeast};
 ghost use Rattle.realm_audit.specs.Prefix.{IsPrefix, IsLate};
 
@@ -57,10 +58,19 @@ fn late_source(graph: &Graph, ends: &EndList, prefix: &Prefix, line: u32) -> Opt
     let mut least: Option<u32> = None;
     let edges = graph.edges_into(line);
     for edge in edges {
-        let source = edge.from;
-        if ends.at(source) != End::Waiting && !prefix.has(source) {
-            least = Some(least.map_or(source, |other| other.min(source)));
+        if prefix.lacks(ends, edge.from) {
+            least = Some(lesser(least, edge.from));
         }
     }
     least
+}
+
+/// The lesser of a number and one that may be there.
+fn lesser(one: Option<u32>, other: u32) -> u32
+    ensures { result ≡ option_map_or (λ n. min n other) one other }
+{
+    match one {
+        Some(n) => n.min(other),
+        None => other,
+    }
 }

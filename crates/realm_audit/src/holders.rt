@@ -33,7 +33,9 @@ pub(crate) fn holder(
     requires size { length holders.now ≡ length (locks graph.now) }
     ensures { MatchOption result ((q : ℕ) → IsHolder graph.now holders.now line q → ⊥) (IsHolder graph.now holders.now line) }
 {
-    let lock = taken(graph, ends, line)?;
+    let Some(lock) = taken(graph, ends, line) else {
+        return None;
+    };
     holders[lock as usize]
 }
 

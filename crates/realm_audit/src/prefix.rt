@@ -18,7 +18,7 @@ pub(crate) struct Prefix {
 }
 
 impl Prefix {
-    ghost use Rattle.std.specs.Prelude.{◌≡◌, ℕ, ◌+◌, ◌<◌, List, length, IfOk, MatchOption};
+    ghost use Rattle.std.specs.Prelude.{◌≡◌, ◌≢◌, ℕ, ◌+◌, ◌<◌, ◌↔◌, false, List, length, slice_get, IsTrue, IfOk, MatchOption};
     ghost use Rattle.graph_model.specs.meaning.Rules.{Accepted};
     ghost use Rattle.realm_audit.specs.Lawful.{ends_of, AreLines, IsSoundBefore, IsLeast};
     ghost use Rattle.realm_audit.specs.Prefix.{IsPrefix, IsLeft, stands_in};
@@ -39,6 +39,15 @@ impl Prefix {
         ensures { result ≡ stands_in self.now.stands.items line }
     {
         self.stands[line as usize]
+    }
+
+    /// Whether a line ends and does not stand there.
+    pub(crate) fn lacks(&self, ends: &EndList, line: u32) -> bool
+        requires ends { line < length ends.now }
+        requires size { line < length self.now.stands.items }
+        ensures { IsTrue result ↔ ((slice_get ends.now line ≢ Some End.Waiting) × (stands_in self.now.stands.items line ≡ false)) }
+    {
+        ends.at(line) != End::Waiting && !self.has(line)
     }
 
     /// Adds the line at a place.
@@ -63,7 +72,7 @@ impl Prefix {
         ensures { MatchOption result ((j : ℕ) → IsLeft graph.now self.now.stands.items j → ⊥) (IsLeast (IsLeft graph.now self.now.stands.items)) }
     {
         for line in 0..graph.lines() {
-            if ends.at(line) != End::Waiting && !self.has(line) {
+            if self.lacks(ends, line) {
                 return Some(line);
             }
         }
