@@ -1,6 +1,6 @@
 -- How lines end, and which lines end with them.
 use Rattle.std.proofs.Common.{◌≡◌, ℕ, ◌<◌, true, false, List, length, map, refl, sym, ◌∙◌, ap, subst, arith}
-use Rattle.std.specs.Prelude.{◌≢◌, ◌↔◌, Contains, IsTrue, ◌==◌, Some, slice_get}
+use Rattle.std.specs.Prelude.{◌≢◌, ◌↔◌, Bool, Contains, IsTrue, ◌==◌, Some, slice_get}
 use Rattle.std.proofs.lemmas.Bool.{true≢false, eq-eqb, eqb-true, true_from_ne_false}
 use Rattle.std.proofs.lemmas.Option.{same_Some, slice_get_within, slice_get-get_or}
 use Rattle.std.proofs.lemmas.List.FromFn.{get_or-map-range_with_len, length-map-range_with_len}
@@ -13,7 +13,7 @@ use Rattle.graph_model.specs.graph.Edges.{edges, edges_into, sources}
 use Rattle.graph_model.specs.meaning.Evaluation.{eval_end, is_ended, has_ended, evaluation, order}
 use Rattle.graph_model.specs.meaning.Laws.{OrderListsEnded}
 use Rattle.graph_model.proofs.Waiting.{end_in_left, ends_in_order}
-use Rattle.realm_audit.specs.Lawful.{ends_of}
+use Rattle.realm_audit.specs.Lawful.{ends_of, IsWaitAt}
 
 -- a line that ended, by the test and by its end
 pub ended_from : (x : End) → x ≢ Waiting → IsTrue (is_ended x)
@@ -69,8 +69,14 @@ source_ended law g e c h =
     let before = (law g).sources e c (((law g).ended e.to).1 (ended_from (eval_end g e.to) h)) in
     ended_not_waiting (eval_end g e.from) (((law g).ended e.from).0 (got_contains (order g) before.0 e.from before.2))
 
--- what lacks by the lists lacks by the evaluation
+-- whether a line ends, by the list of the ends
 pub end_iff : (g : GraphValue) (ends : List End) → ends ≡ ends_of g → (i : ℕ) → i < length g.lines → (slice_get ends i ≢ Some Waiting) ↔ (eval_end g i ≢ Waiting)
 end_iff g ends is i below =
     let at : slice_get ends i ≡ Some (eval_end g i) = end_got g ends is i below in
     ((λ h w. h (at ∙ ap Some w)), (λ h w. h (same_Some (eval_end g i) Waiting (sym at ∙ w))))
+
+-- a line at a place whose end was read, and is not Waiting
+pub not_wait_at : (g : GraphValue) (ends : List End) → ends ≡ ends_of g → (trace : List ℕ) (k i : ℕ) → slice_get trace k ≡ Some i → i < length g.lines → (b : Bool) → IsTrue b ↔ (slice_get ends i ≡ Some Waiting) → b ≡ false → IsWaitAt g trace k → ⊥
+not_wait_at g ends is trace k i at below b test fails w =
+    let waits : eval_end g i ≡ Waiting = subst (λ z. eval_end g z ≡ Waiting) (same_Some w.0 i (sym w.1 ∙ at)) w.2 in
+    true≢false (sym (test.1 (end_got g ends is i below ∙ ap Some waits)) ∙ fails)

@@ -1,24 +1,38 @@
 -- The faults at a place, by what is kept of the items before it.
 use Rattle.std.proofs.Common.{◌≡◌, ℕ, ◌+◌, ◌<◌, ◌≤◌, min, true, false, inl, inr, List, length, refl, sym, ◌∙◌, ap, subst, arith}
-use Rattle.std.specs.Prelude.{◌≢◌, ◌↔◌, Bool, Contains, Option, Some, None, MatchOption, slice_get}
+use Rattle.std.specs.Prelude.{◌≢◌, ◌↔◌, ◌==◌, Bool, Contains, Option, Some, None, MatchOption, slice_get}
 use Rattle.std.specs.Option.{option_map_or}
-use Rattle.std.proofs.lemmas.Bool.{true≢false, false_from_ne_true, cases_lt}
+use Rattle.std.proofs.lemmas.Bool.{true≢false, false_from_ne_true, cases_eq, cases_lt}
 use Rattle.std.proofs.lemmas.Option.{same_Some}
 use Rattle.graph_model.specs.declared.graph.verb.Edge.{Edge}
+use Rattle.graph_model.specs.declared.graph.verb.EdgeKind.TheVariants.{Passes}
 use Rattle.graph_model.specs.declared.meaning.outcome.End.TheVariants.{Waiting}
 use Rattle.graph_model.specs.graph.Graph.{GraphValue}
-use Rattle.basics.proofs.ListFacts.{contains_map}
+use Rattle.basics.proofs.ListFacts.{got_contains, contains_map, filter_contains}
 use Rattle.graph_model.specs.graph.Edges.{edges, edges_into, sources}
 use Rattle.graph_model.specs.meaning.Rules.{Acquires}
 use Rattle.graph_model.specs.meaning.Evaluation.{eval_end}
 use Rattle.graph_model.proofs.VerbFacts.{acquire_one}
-use Rattle.realm_audit.specs.Lawful.{StandsEarlier, IsRepeatAt, IsSourceFaultAt, IsOverlapAt, IsLeast}
+use Rattle.realm_audit.specs.Lawful.{StandsEarlier, IsRepeatAt, IsSourceFaultAt, IsOverlapAt, IsMissing, IsLeast}
 use Rattle.realm_audit.specs.Prefix.{Takes, AreEarlier, AreHolders, stands_in, holder_in, IsLeft, IsLate, IsHolder}
 use Rattle.realm_audit.proofs.EndFacts.{source_edge, into_line}
-use Rattle.realm_audit.proofs.Earlier.{earlier_by, earlier_more, earlier_here, earlier_cases, earlier_listed, listed_earlier}
+use Rattle.realm_audit.proofs.Earlier.{earlier_none, earlier_by, earlier_more, earlier_here, earlier_cases, earlier_listed, listed_earlier}
 
 pub least_same : (P Q : ℕ → Type 0) → ((j : ℕ) → P j ↔ Q j) → (n : ℕ) → IsLeast P n → IsLeast Q n
 least_same P Q same n l = record { here = (same n).0 l.here; below = λ m h q. l.below m h ((same m).1 q) }
+
+-- which lines stand before a place, at the first place and one place more
+pub none_stand : (trace : List ℕ) (stands : ℕ → Bool) → ((i : ℕ) → stands i ≡ false) → AreEarlier trace 0 stands
+none_stand trace stands none i = ((λ e. absurd (true≢false (sym e ∙ none i))), (λ s. absurd (earlier_none trace i s)))
+
+pub stands_more : (trace : List ℕ) (k i : ℕ) → slice_get trace k ≡ Some i → (old new : ℕ → Bool) → AreEarlier trace k old → new i ≡ true → ((j : ℕ) → (j ≡ i → ⊥) → new j ≡ old j) → AreEarlier trace (k + 1) new
+stands_more trace k i at old new are here other j = elim (cases_eq j i) [
+  | inl same ↦ ((λ e. subst (λ z. StandsEarlier trace (k + 1) z) (sym same) (earlier_here trace k i at)), (λ s. ap new same ∙ here))
+  | inr apart ↦ (
+      (λ e. earlier_more trace k j ((are j).0 (sym (other j apart) ∙ e))),
+      (λ s. elim (earlier_cases trace k i j at s) [ inl same ↦ absurd (apart (sym same)) | inr before ↦ other j apart ∙ (are j).1 before ]),
+    )
+]
 
 module _ (g : GraphValue) (trace : List ℕ) (k i : ℕ) (at : slice_get trace k ≡ Some i) where
   pub repeat_from : (stands : List Bool) → AreEarlier trace k (stands_in stands) → stands_in stands i ≡ true → IsRepeatAt trace k
@@ -40,6 +54,13 @@ module _ (g : GraphValue) (trace : List ℕ) (k i : ℕ) (at : slice_get trace k
     (λ f. (let same = same_Some f.0 i (sym f.1 ∙ at) in let s = f.2.1 in
         (f.2.0, subst (λ z. Takes g z f.2.0) same (s.acquires.1, s.done.1), (are f.2.0 q).1 ((s.acquires.0, s.done.0), f.3)))),
   )
+
+-- at the end of a trace the lines that are left are missing
+pub missing_is : (g : GraphValue) (trace : List ℕ) (stands : List Bool) → AreEarlier trace (length trace) (stands_in stands) → (j : ℕ) → IsLeft g stands j ↔ IsMissing g trace j
+missing_is g trace stands are j = (
+  (λ h. (h.0, (λ c. true≢false (sym ((are j).1 (listed_earlier trace j c)) ∙ h.1)))),
+  (λ m. (m.0, false_from_ne_true (stands_in stands j) (λ h. m.1 (earlier_listed trace (length trace) j ((are j).0 h))))),
+)
 
 -- a reservation has one holder, and so its holder is the least
 pub one_holder : (g : GraphValue) (holders : List (Option ℕ)) (i q p : ℕ) → IsHolder g holders i q → IsHolder g holders i p → q ≡ p
@@ -95,6 +116,13 @@ module _ (g : GraphValue) (stands : List Bool) (es : List Edge) (n : ℕ) (d : E
     | inr up ↦ subst (λ m. IsLeastOf g stands es (n + 1) m) (let e : j ≡ min j d.from = omega arith in e)
         (is_least j h.left (h.listed.0, earlier_more es n h.listed.0 h.listed.1, h.listed.2) up h.least)
   ]
+
+abbrev pub no_edge : Edge
+no_edge = record { «from» = 0; «to» = 0; «kind» = Passes }
+
+-- an edge into a line is an edge
+pub edge_there : (g : GraphValue) (i k : ℕ) (es : List Edge) (e : Edge) → es ≡ edges_into g i → slice_get es k ≡ Some e → Contains (edges g) e
+edge_there g i k es e is at = (filter_contains (λ (x : Edge). x.to == i) (edges g) e (subst (λ xs. Contains xs e) is (got_contains es k e at))).0
 
 edge_earlier : (g : GraphValue) (i : ℕ) (es : List Edge) → es ≡ edges_into g i → (n : ℕ) → length es ≤ n → (e : Edge) → Contains (edges g) e → e.to ≡ i → StandsEarlier es n e
 edge_earlier g i es is n all e c to = earlier_by es (length es) n e all (listed_earlier es e (subst (λ xs. Contains xs e) (sym is) (into_line g e i c to)))

@@ -1,7 +1,8 @@
 -- Which acquires hold reservations, place by place.
-use Rattle.std.proofs.Common.{◌≡◌, ℕ, ◌+◌, ◌<◌, ◌≤◌, ◌⊎◌, inl, inr, List, length, sym, ◌∙◌, ap, subst, arith}
-use Rattle.std.specs.Prelude.{◌≢◌, ◌↔◌, Option, Some, None, slice_get, slice_set}
-use Rattle.std.proofs.lemmas.Bool.{cases_eq}
+use Rattle.std.proofs.Common.{◌≡◌, ℕ, ◌+◌, ◌<◌, ◌≤◌, true, ◌⊎◌, inl, inr, List, length, refl, sym, ◌∙◌, ap, subst, arith}
+use Rattle.std.specs.Prelude.{◌≢◌, ◌↔◌, nat_eq, Option, Some, None, slice_get, slice_set}
+use Rattle.std.specs.Option.{option_eq}
+use Rattle.std.proofs.lemmas.Bool.{true≢false, cases_eq, eqb-true, eq-eqb}
 use Rattle.std.proofs.lemmas.Option.{none-some, same_Some}
 use Rattle.std.proofs.lemmas.List.{get_or-set_same, get_or-set_other, length-set}
 use Rattle.graph_model.specs.declared.graph.verb.Verb.{Verb}
@@ -18,12 +19,27 @@ use Rattle.realm_audit.specs.Prefix.{Takes, AreHolders, AreHoldersAt, holder_in}
 use Rattle.realm_audit.proofs.Earlier.{earlier_none, earlier_by, earlier_more, earlier_here, earlier_cases}
 use Rattle.realm_audit.proofs.Closed.{path_earlier}
 
+-- what the test of a holder tells
+pub holder_from_test : (o : Option ℕ) (q : ℕ) → option_eq nat_eq o (Some q) ≡ true → o ≡ Some q
+holder_from_test None q h = absurd (true≢false (sym h))
+holder_from_test (Some p) q h = ap Some (eqb-true p q h)
+
+pub test_from_holder : (o : Option ℕ) (q : ℕ) → o ≡ Some q → option_eq nat_eq o (Some q) ≡ true
+test_from_holder o q e = ap (λ x. option_eq nat_eq x (Some q)) e ∙ eq-eqb q q refl
+
 -- an acquire is no release
 acquire_frees_none : (g : GraphValue) (i l q : ℕ) → Acquires g i l → Releases g i q → ⊥
 acquire_frees_none g i l q a r = (let e : ◌≡◌ {A = Option Verb} (Some (Acquire l)) (Some (Release q)) = sym (acquire_is g i l a) ∙ release_is g i q r in cc)
 
 pub none_hold : (g : GraphValue) (trace : List ℕ) (holder : ℕ → Option ℕ) → ((l : ℕ) → holder l ≡ None) → AreHolders g trace 0 holder
 none_hold g trace holder none l q = ((λ e. absurd (none-some q (sym (none l) ∙ e))), (λ h. absurd (earlier_none trace q h.1.0)))
+
+-- a release frees the reservation of its acquire alone
+pub frees_no_other : (g : GraphValue) (trace : List ℕ) (k i l q : ℕ) (holder : ℕ → Option ℕ) → AreHolders g trace k holder → Releases g i q → Acquires g q l → (holder l ≡ Some q → ⊥) → (m p : ℕ) → holder m ≡ Some p → Releases g i p → ⊥
+frees_no_other g trace k i l q holder are rel a free m p e frees =
+    let same : p ≡ q = release_one g i p q frees rel in
+    let own : Acquires g q m = subst (λ z. Acquires g z m) same ((are m p).0 e).0.0 in
+    free (ap holder (acquire_one g q l m a own) ∙ (e ∙ ap Some same))
 
 -- line i stands at place k, and no place up to it has a fault
 module _ (law : OrderListsEnded) (g : GraphValue) (fits : IsGraph g) (ok : Accepted g) (trace : List ℕ) (k i : ℕ) (at : slice_get trace k ≡ Some i) (sound : IsSoundBefore g trace (k + 1)) where

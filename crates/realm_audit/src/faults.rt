@@ -5,17 +5,17 @@ ghost use Rattle.std.specs.Option.{option_map_or};
 ghost use Rattle.realm_audit.specs.Lawful.{ends_of, AreLines, IsSoundAt, IsSoundBefore, IsRefusal, IsLeast};
 ghost use Rattle.realm_audit.specs.Prefix.{IsPrefix, IsLate};
 
+use crate::ends::waits;
 use crate::holders::holder;
 use crate::prefix::Prefix;
 use crate::refusal::AuditRefusal;
 use graph_model::graph::Graph;
 use graph_model::laws::edges_between_lines;
 use graph_model::lists::{EndList, LineList};
-use graph_model::outcome::End;
 
 /// Judges the line at a place, by what is kept of the items before it: the first of the faults
 /// there, if it has one.
-pub(crate) fn judge(
+pub(crate) fn judge_place(
     graph: &Graph,
     ends: &EndList,
     trace: &LineList,
@@ -34,7 +34,7 @@ pub(crate) fn judge(
     if prefix.has(line) {
         return Err(AuditRefusal::Repeat(place));
     }
-    if ends.at(line) == End::Waiting {
+    if waits(ends, line) {
         return Err(AuditRefusal::Waits(place));
     }
     if let Some(source) = late_source(graph, ends, prefix, line) {

@@ -5,7 +5,7 @@ ghost use Rattle.graph_model.specs.meaning.Rules.{Accepted};
 ghost use Rattle.graph_model.specs.meaning.Trace.{IsLawful};
 ghost use Rattle.realm_audit.specs.Lawful.{ends_of, AreLines, IsRefusal};
 
-use crate::faults::judge;
+use crate::faults::judge_place;
 use crate::prefix::Prefix;
 use crate::refusal::AuditRefusal;
 use graph_model::graph::Graph;
@@ -28,11 +28,29 @@ pub fn audit(
     ensures refused { IfErr result (IsRefusal graph.now trace.now) }
     ensures unlawful { IfErr result (λ e. e ≢ AuditRefusal.NoMemory → IsLawful graph.now trace.now → ⊥) }
 {
-    order_lists_ended();
     sections_never_overlap();
+    let _ = graph.lines();
+    judge_all(alloc, graph, ends, trace)
+}
+
+/// Judges place after place, and then whether a line is missing.
+fn judge_all(
+    alloc: Global,
+    graph: &Graph,
+    ends: &EndList,
+    trace: &LineList,
+) -> Result<(), AuditRefusal>
+    requires accepted { Accepted graph.now }
+    requires ends { ends.now ≡ ends_of graph.now }
+    requires lines { AreLines graph.now trace.now }
+    ensures ok { OnOk result (IsLawful graph.now trace.now) }
+    ensures refused { IfErr result (IsRefusal graph.now trace.now) }
+{
+    order_lists_ended();
+    let _ = graph.lines();
     let mut prefix = Prefix::new(alloc, graph)?;
     for place in 0..trace.len() {
-        judge(graph, ends, trace, &prefix, place)?;
+        judge_place(graph, ends, trace, &prefix, place)?;
         prefix.add(graph, ends, trace, place);
     }
     match prefix.first_left(graph, ends) {

@@ -2,6 +2,7 @@
 #![tactic(auto)]
 
 mod acquires;
+mod ends;
 mod faults;
 mod holders;
 pub mod lawful;

@@ -1,5 +1,6 @@
 //! What is kept of the items of a trace before a place.
 
+use crate::ends::waits;
 use crate::holders::{no_holders, pass};
 use graph_model::graph::Graph;
 use graph_model::lists::{EndList, LineList};
@@ -47,7 +48,7 @@ impl Prefix {
         requires size { line < length self.now.stands.items }
         ensures { IsTrue result ↔ ((slice_get ends.now line ≢ Some End.Waiting) × (stands_in self.now.stands.items line ≡ false)) }
     {
-        ends.at(line) != End::Waiting && !self.has(line)
+        !waits(ends, line) && !self.has(line)
     }
 
     /// Adds the line at a place.

@@ -1,7 +1,7 @@
-use Rattle.realm_audit.proofs.Verdicts.{sound_is_lawful, refusal_is_unlawful}
-use Rattle.realm_audit.proofs.HolderSteps.{holders_taken, holders_freed, holders_same, none_hold}
-use Rattle.realm_audit.proofs.FaultFacts.{late_is, least_source}
+use Rattle.std.proofs.lemmas.Result.{IfErr-weaker}
+use Rattle.realm_audit.proofs.Verdicts.{refusal_is_unlawful}
 use Rattle.realm_audit.proofs.lawful.audit.Goals as goal
 
-pub returns-in-Some : goal.returns-in-Some
-returns-in-Some c = ?
+pub returns-clause-unlawful : goal.returns-clause-unlawful
+returns-clause-unlawful c =
+    IfErr-weaker c.judge_all.result _ _ (λ e h ne t. refusal_is_unlawful c.sections_never_overlap.ensures c.args.graph.now c.lines.ensures.is_graph c.requires.accepted c.args.trace.now e h ne t) c.judge_all.ensures.refused
