@@ -1,5 +1,5 @@
 -- Before places without a fault each line stands once, and after its sources.
-use Rattle.std.proofs.Common.{◌≡◌, ℕ, ◌<◌, ◌≤◌, ◌⊎◌, inl, inr, List, sym, subst, arith}
+use Rattle.std.proofs.Common.{◌≡◌, ℕ, ◌<◌, ◌≤◌, inl, inr, List, sym, subst, arith}
 use Rattle.std.specs.Prelude.{◌≢◌, Contains, Some, slice_get}
 use Rattle.std.proofs.lemmas.Bool.{cases_order}
 use Rattle.graph_model.specs.declared.graph.verb.Edge.{Edge}

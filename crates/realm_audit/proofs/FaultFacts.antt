@@ -1,17 +1,14 @@
 -- The faults at a place, by what is kept of the items before it.
-use Rattle.std.proofs.Common.{◌≡◌, ℕ, ◌+◌, ◌<◌, ◌≤◌, min, true, false, inl, inr, List, length, refl, sym, ◌∙◌, ap, subst, arith}
+use Rattle.std.proofs.Common.{◌≡◌, ℕ, ◌+◌, ◌≤◌, min, true, false, inl, inr, List, length, refl, sym, ◌∙◌, ap, subst, arith}
 use Rattle.std.specs.Prelude.{◌≢◌, ◌↔◌, ◌==◌, Bool, Contains, Option, Some, None, MatchOption, slice_get}
 use Rattle.std.specs.Option.{option_map_or}
 use Rattle.std.proofs.lemmas.Bool.{true≢false, false_from_ne_true, cases_eq, cases_lt}
 use Rattle.std.proofs.lemmas.Option.{same_Some}
 use Rattle.graph_model.specs.declared.graph.verb.Edge.{Edge}
 use Rattle.graph_model.specs.declared.graph.verb.EdgeKind.TheVariants.{Passes}
-use Rattle.graph_model.specs.declared.meaning.outcome.End.TheVariants.{Waiting}
 use Rattle.graph_model.specs.graph.Graph.{GraphValue}
 use Rattle.basics.proofs.ListFacts.{got_contains, contains_map, filter_contains}
 use Rattle.graph_model.specs.graph.Edges.{edges, edges_into, sources}
-use Rattle.graph_model.specs.meaning.Rules.{Acquires}
-use Rattle.graph_model.specs.meaning.Evaluation.{eval_end}
 use Rattle.graph_model.proofs.VerbFacts.{acquire_one}
 use Rattle.realm_audit.specs.Lawful.{StandsEarlier, IsRepeatAt, IsSourceFaultAt, IsOverlapAt, IsMissing, IsLeast}
 use Rattle.realm_audit.specs.Prefix.{Takes, AreEarlier, AreHolders, stands_in, holder_in, IsLeft, IsLate, IsHolder}

@@ -1,13 +1,12 @@
 -- Which acquires hold reservations, place by place.
-use Rattle.std.proofs.Common.{◌≡◌, ℕ, ◌+◌, ◌<◌, ◌≤◌, true, ◌⊎◌, inl, inr, List, length, refl, sym, ◌∙◌, ap, subst, arith}
-use Rattle.std.specs.Prelude.{◌≢◌, ◌↔◌, nat_eq, Option, Some, None, slice_get, slice_set}
+use Rattle.std.proofs.Common.{◌≡◌, ℕ, ◌+◌, ◌<◌, true, inl, inr, List, refl, sym, ◌∙◌, ap, subst, arith}
+use Rattle.std.specs.Prelude.{◌≢◌, ◌↔◌, nat_eq, Option, Some, None, slice_get}
 use Rattle.std.specs.Option.{option_eq}
 use Rattle.std.proofs.lemmas.Bool.{true≢false, cases_eq, eqb-true, eq-eqb}
 use Rattle.std.proofs.lemmas.Option.{none-some, same_Some}
-use Rattle.std.proofs.lemmas.List.{get_or-set_same, get_or-set_other, length-set}
 use Rattle.graph_model.specs.declared.graph.verb.Verb.{Verb}
 use Rattle.graph_model.specs.declared.graph.verb.Verb.TheVariants.{Acquire, Release}
-use Rattle.graph_model.specs.graph.Graph.{GraphValue, locks}
+use Rattle.graph_model.specs.graph.Graph.{GraphValue}
 use Rattle.graph_model.specs.graph.Fits.{IsGraph}
 use Rattle.graph_model.specs.meaning.Path.{HasPath}
 use Rattle.graph_model.specs.meaning.Rules.{Acquires, Releases, Accepted}
@@ -15,7 +14,7 @@ use Rattle.graph_model.specs.meaning.Laws.{OrderListsEnded}
 use Rattle.graph_model.proofs.VerbFacts.{acquire_is, release_is, acquire_one, release_one}
 use Rattle.graph_model.proofs.ReleaseFacts.{one_release}
 use Rattle.realm_audit.specs.Lawful.{StandsEarlier, IsOpenAt, IsSoundBefore}
-use Rattle.realm_audit.specs.Prefix.{Takes, AreHolders, AreHoldersAt, holder_in}
+use Rattle.realm_audit.specs.Prefix.{Takes, AreHolders}
 use Rattle.realm_audit.proofs.Earlier.{earlier_none, earlier_by, earlier_more, earlier_here, earlier_cases}
 use Rattle.realm_audit.proofs.Closed.{path_earlier}
 

@@ -1,15 +1,12 @@
 -- A trace without a fault is lawful, and one with a fault is not.
-use Rattle.std.proofs.Common.{◌≡◌, ℕ, ◌<◌, true, false, ◌⊎◌, inl, inr, List, length, refl, sym, ◌∙◌, ap, subst, arith}
+use Rattle.std.proofs.Common.{◌≡◌, ℕ, ◌<◌, ◌⊎◌, inl, inr, List, length, refl, sym, ◌∙◌, ap, subst, arith}
 use Rattle.std.specs.Prelude.{◌≢◌, ◌↔◌, Contains, IsTrue, Some, slice_get}
-use Rattle.std.proofs.lemmas.Bool.{true≢false, cases_order}
+use Rattle.std.proofs.lemmas.Bool.{cases_order}
 use Rattle.std.proofs.lemmas.Option.{same_Some, slice_get_within}
 use Rattle.basics.proofs.ListFacts.{got_contains}
-use Rattle.graph_model.specs.declared.graph.verb.Edge.{Edge}
-use Rattle.graph_model.specs.declared.meaning.outcome.End.TheVariants.{Done, Waiting}
 use Rattle.graph_model.specs.graph.Graph.{GraphValue}
-use Rattle.graph_model.specs.graph.Edges.{edges}
 use Rattle.graph_model.specs.graph.Fits.{IsGraph}
-use Rattle.graph_model.specs.meaning.Rules.{Acquires, Releases, Accepted}
+use Rattle.graph_model.specs.meaning.Rules.{Releases, Accepted}
 use Rattle.graph_model.specs.meaning.Evaluation.{eval_end, is_ended}
 use Rattle.graph_model.specs.meaning.Trace.{StandsBefore, ListsEnded, IsLawful, HaveSections}
 use Rattle.graph_model.specs.meaning.Laws.{OrderListsEnded, SectionsNeverOverlap}

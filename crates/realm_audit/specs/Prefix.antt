@@ -1,5 +1,5 @@
 -- What is kept of the items of a trace before a place.
-use Rattle.std.specs.Prelude.{◌≡◌, ◌≢◌, ℕ, ◌<◌, Bool, true, false, List, length, Contains, Option, Some, None, ◌↔◌}
+use Rattle.std.specs.Prelude.{◌≡◌, ◌≢◌, ℕ, Bool, true, false, List, length, Contains, Option, Some, None, ◌↔◌}
 use Rattle.std.specs.List.{slice_index_or}
 use Rattle.graph_model.specs.declared.meaning.outcome.End.TheVariants.{Done, Waiting}
 use Rattle.graph_model.specs.graph.Graph.{GraphValue, locks}

@@ -1,7 +1,4 @@
-use Rattle.std.proofs.Common.{◌≡◌, ◌<◌, length, sym, ◌∙◌, ap, subst, arith}
-use Rattle.std.specs.Prelude.{◌≢◌, Some, slice_get}
-use Rattle.std.proofs.lemmas.Bool.{true≢false}
-use Rattle.std.proofs.lemmas.Option.{same_Some}
+use Rattle.std.proofs.Common.{sym, ◌∙◌, subst, arith}
 use Rattle.graph_model.specs.declared.meaning.outcome.End.TheVariants.{Waiting}
 use Rattle.realm_audit.specs.Lawful.{IsSourceFaultAt, IsOverlapAt}
 use Rattle.realm_audit.specs.Prefix.{IsLate, IsHolder}

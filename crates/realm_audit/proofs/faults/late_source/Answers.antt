@@ -1,9 +1,8 @@
-use Rattle.std.proofs.Common.{◌≡◌, ◌+◌, sym, ◌∙◌, ap, subst, arith}
-use Rattle.std.specs.Prelude.{Some, slice_get}
+use Rattle.std.proofs.Common.{◌+◌, sym, ◌∙◌, ap, subst, arith}
+use Rattle.std.specs.Prelude.{Some}
 use Rattle.std.specs.List.{slice_index_or}
 use Rattle.std.proofs.lemmas.Bool.{true≢false}
 use Rattle.std.proofs.lemmas.Option.{slice_get-get_or}
-use Rattle.graph_model.specs.declared.graph.verb.Edge.{Edge}
 use Rattle.realm_audit.proofs.EndFacts.{ends_size, end_iff}
 use Rattle.realm_audit.proofs.Earlier.{earlier_none}
 use Rattle.realm_audit.proofs.FaultFacts.{no_edge, edge_there, IsLeastTo, least_kept, least_added, least_source}

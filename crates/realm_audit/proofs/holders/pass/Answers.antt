@@ -26,7 +26,7 @@ returns-then-eq c =
     let lock = c.in-Some-freed.lock in
     let below : lock < length before = omega (arith, freed.2, c.requires.holders.size) in
     let read = get_or_read before lock c.index.result.now below c.index.ensures None in
-    let held = read ∙ holder_from_test c.index.result.now acquire (sym c.eq.ensures ∙ c.if-eq.true) in
+    let held = sym read ∙ holder_from_test c.index.result.now acquire (sym c.eq.ensures ∙ c.if-eq.true) in
     record {
       size = length-set before lock None ∙ c.requires.holders.size;
       are = holders_freed c.order_lists_ended.ensures c.args.graph.now c.lines.ensures.is_graph c.requires.accepted c.args.trace.now c.args.place c.at-line.result c.at-line.ensures c.requires.sound lock acquire (holder_in before) (holder_in (slice_set before lock None))
@@ -46,7 +46,7 @@ returns-else-eq c =
     record {
       size = c.requires.holders.size;
       are = holders_same c.order_lists_ended.ensures g c.lines.ensures.is_graph c.requires.accepted c.args.trace.now c.args.place line c.at-line.ensures c.requires.sound (holder_in before) c.in_default.ensures
-          (frees_no_other g c.args.trace.now c.args.place line lock acquire (holder_in before) c.requires.holders.are freed.0 freed.1 (λ e. true≢false (sym (test_from_holder c.index.result.now acquire (sym read ∙ e)) ∙ (sym c.eq.ensures ∙ c.if-eq.false))))
+          (frees_no_other g c.args.trace.now c.args.place line lock acquire (holder_in before) c.requires.holders.are freed.0 freed.1 (λ e. true≢false (sym (test_from_holder c.index.result.now acquire (read ∙ e)) ∙ (sym c.eq.ensures ∙ c.if-eq.false))))
           c.requires.holders.are;
     }
 

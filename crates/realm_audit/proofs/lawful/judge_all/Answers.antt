@@ -1,4 +1,4 @@
-use Rattle.std.proofs.Common.{◌≡◌, ◌≤◌, length, below_more, subst, arith}
+use Rattle.std.proofs.Common.{◌≡◌, length, below_more, subst, arith}
 use Rattle.realm_audit.specs.Lawful.{IsSoundAt, IsSoundBefore, IsMissing}
 use Rattle.realm_audit.specs.Prefix.{IsLeft, AreEarlier, stands_in}
 use Rattle.realm_audit.proofs.FaultFacts.{least_same, missing_is}
