@@ -37,12 +37,12 @@ earlier_or_not trace zero j = inr (earlier_none trace j)
 earlier_or_not trace (suc k) j = elim (earlier_or_not trace k j) [
   | inl s ↦ inl (earlier_by trace k (suc k) j (omega arith) s)
   | inr none ↦ elim (here_or_not (slice_get trace k) j) [
-      | inl at ↦ inl (k, omega arith, at)
-      | inr other ↦ inr (λ s. (let b : s.0 < suc k = s.1 in elim (cases_lt s.0 k) [
-          | inl l ↦ none (s.0, l, s.2)
-          | inr up ↦ other (let same : k ≡ s.0 = omega arith in ap (slice_get trace) same ∙ s.2)
-        ]))
-    ]
+    | inl at ↦ inl (k, omega arith, at)
+    | inr other ↦ inr (λ s. (let b : s.0 < suc k = s.1 in elim (cases_lt s.0 k) [
+      | inl l ↦ none (s.0, l, s.2)
+      | inr up ↦ other (let same : k ≡ s.0 = omega arith in ap (slice_get trace) same ∙ s.2)
+    ]))
+  ]
 ]
 
 -- before the end of a list stand its items

@@ -26,9 +26,9 @@ pub stands_more : (trace : List ℕ) (k i : ℕ) → slice_get trace k ≡ Some 
 stands_more trace k i at old new are here other j = elim (cases_eq j i) [
   | inl same ↦ ((λ e. subst (λ z. StandsEarlier trace (k + 1) z) (sym same) (earlier_here trace k i at)), (λ s. ap new same ∙ here))
   | inr apart ↦ (
-      (λ e. earlier_more trace k j ((are j).0 (sym (other j apart) ∙ e))),
-      (λ s. elim (earlier_cases trace k i j at s) [ inl same ↦ absurd (apart (sym same)) | inr before ↦ other j apart ∙ (are j).1 before ]),
-    )
+    (λ e. earlier_more trace k j ((are j).0 (sym (other j apart) ∙ e))),
+    (λ s. elim (earlier_cases trace k i j at s) [ inl same ↦ absurd (apart (sym same)) | inr before ↦ other j apart ∙ (are j).1 before ]),
+  )
 ]
 
 module _ (g : GraphValue) (trace : List ℕ) (k i : ℕ) (at : slice_get trace k ≡ Some i) where

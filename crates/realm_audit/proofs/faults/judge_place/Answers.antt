@@ -14,8 +14,7 @@ waits-requires c =
 
 pub returns-then-waits-clause-refused : goal.returns-then-waits-clause-refused
 returns-then-waits-clause-refused c =
-    let line = c.at-line.result in
-    (
+    let line = c.at-line.result in (
       c.requires.sound,
       no_repeat c.args.graph.now c.args.trace.now c.args.place line c.at-line.ensures c.args.prefix.now.stands.items c.requires.prefix.earlier (sym c.has.ensures ∙ c.if-has.false),
       (line, c.at-line.ensures, end_at c.args.graph.now c.args.ends.now c.requires.ends line Waiting (c.waits.ensures.0 c.if-waits.true)),
@@ -29,8 +28,7 @@ returns-in-Some-clause-refused c =
     let line = c.at-line.result in
     let at = c.at-line.ensures in
     let known = c.requires.lines place line at in
-    let stands = c.args.prefix.now.stands.items in
-    (
+    let stands = c.args.prefix.now.stands.items in (
       c.requires.sound,
       no_repeat g trace place line at stands c.requires.prefix.earlier (sym c.has.ensures ∙ c.if-has.false),
       not_wait_at g c.args.ends.now c.requires.ends trace place line at known c.waits.result c.waits.ensures c.if-waits.false,
@@ -47,14 +45,13 @@ returns-in-Some-holder-clause-refused c =
     let known = c.requires.lines place line at in
     let stands = c.args.prefix.now.stands.items in
     let holders = c.args.prefix.now.holders.items in
-    let once = no_repeat g trace place line at stands c.requires.prefix.earlier (sym c.has.ensures ∙ c.if-has.false) in
-    (
+    let once = no_repeat g trace place line at stands c.requires.prefix.earlier (sym c.has.ensures ∙ c.if-has.false) in (
       c.requires.sound,
       once,
       not_wait_at g c.args.ends.now c.requires.ends trace place line at known c.waits.result c.waits.ensures c.if-waits.false,
       (λ j f. c.in_default.ensures j ((late_is g trace place line at stands c.requires.prefix.earlier j).1 f)),
       least_same (IsHolder g holders line) (IsOverlapAt g trace place) (holder_is g trace place line at holders c.requires.prefix.holders.are once) c.in-Some-holder.acquire
-      (least_holder g holders line c.in-Some-holder.acquire (subst (λ hs. IsHolder g hs line c.in-Some-holder.acquire) c.as_slice.ensures.value c.in-Some-holder.ensures)),
+          (least_holder g holders line c.in-Some-holder.acquire (subst (λ hs. IsHolder g hs line c.in-Some-holder.acquire) c.as_slice.ensures.value c.in-Some-holder.ensures)),
     )
 
 pub returns-clause-sound : goal.returns-clause-sound

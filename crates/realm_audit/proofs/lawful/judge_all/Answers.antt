@@ -22,8 +22,7 @@ returns-in-Some-clause-refused c =
     let g = c.args.graph.now in
     let trace = c.args.trace.now in
     let stands = c.loop-place.prefix.stands.items in
-    let all : c.loop-place.place ≡ length trace = omega arith in
-    (
+    let all : c.loop-place.place ≡ length trace = omega arith in (
       subst (λ k. IsSoundBefore g trace k) all c.loop-place.invariant.sound,
       least_same (IsLeft g stands) (IsMissing g trace) (missing_is g trace stands (subst (λ k. AreEarlier trace k (stands_in stands)) all c.loop-place.invariant.prefix.earlier)) c.in-Some.line c.in-Some.ensures,
     )
