@@ -1,5 +1,5 @@
 -- Before places without a fault each line stands once, and after its sources.
-use Rattle.std.proofs.Common.{◌≡◌, ℕ, ◌<◌, ◌≤◌, inl, inr, List, sym, subst, arith}
+use Rattle.std.proofs.Common.{◌≡◌, ℕ, ◌<◌, inl, inr, List, sym, subst, arith}
 use Rattle.std.specs.Prelude.{◌≢◌, Contains, Some, slice_get}
 use Rattle.std.proofs.lemmas.Bool.{cases_order}
 use Rattle.graph_model.specs.declared.graph.verb.Edge.{Edge}
@@ -12,9 +12,6 @@ use Rattle.graph_model.specs.meaning.Laws.{OrderListsEnded}
 use Rattle.realm_audit.specs.Lawful.{StandsEarlier, IsSoundAt, IsSoundBefore}
 use Rattle.realm_audit.proofs.Earlier.{earlier_or_not, earlier_by}
 use Rattle.realm_audit.proofs.EndFacts.{source_listed, source_ended}
-
-pub sound_less : (g : GraphValue) (trace : List ℕ) (k m : ℕ) → k ≤ m → IsSoundBefore g trace m → IsSoundBefore g trace k
-sound_less g trace k m h sound a b = sound a (omega arith)
 
 pub stands_once : (g : GraphValue) (trace : List ℕ) (n : ℕ) → IsSoundBefore g trace n → (k m i : ℕ) → k < n → m < n → slice_get trace k ≡ Some i → slice_get trace m ≡ Some i → k ≡ m
 stands_once g trace n sound k m i hk hm ek em = elim (cases_order k m) [

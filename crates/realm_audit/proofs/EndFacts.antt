@@ -25,9 +25,6 @@ ended_from Waiting h = absurd (h refl)
 pub ended_not_waiting : (x : End) → IsTrue (is_ended x) → x ≢ Waiting
 ended_not_waiting x h w = true≢false (sym h ∙ ap is_ended w)
 
-pub done_not_waiting : (x : End) → x ≡ Done → x ≢ Waiting
-done_not_waiting x d w = cc
-
 -- the end in a list of the ends
 pub ends_size : (g : GraphValue) (ends : List End) → ends ≡ ends_of g → length ends ≡ length g.lines
 ends_size g ends is = ap length is ∙ length-map-range_with_len (eval_end g) 0 (length g.lines)

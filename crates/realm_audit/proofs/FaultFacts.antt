@@ -32,9 +32,6 @@ stands_more trace k i at old new are here other j = elim (cases_eq j i) [
 ]
 
 module _ (g : GraphValue) (trace : List ℕ) (k i : ℕ) (at : slice_get trace k ≡ Some i) where
-  pub repeat_from : (stands : List Bool) → AreEarlier trace k (stands_in stands) → stands_in stands i ≡ true → IsRepeatAt trace k
-  repeat_from stands are h = (i, at, (are i).0 h)
-
   pub no_repeat : (stands : List Bool) → AreEarlier trace k (stands_in stands) → stands_in stands i ≡ false → IsRepeatAt trace k → ⊥
   no_repeat stands are h r = true≢false (sym ((are i).1 (subst (λ z. StandsEarlier trace k z) (same_Some r.0 i (sym r.1 ∙ at)) r.2)) ∙ h)
 

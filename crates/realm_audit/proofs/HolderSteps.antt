@@ -15,7 +15,7 @@ use Rattle.graph_model.proofs.VerbFacts.{acquire_is, release_is, acquire_one, re
 use Rattle.graph_model.proofs.ReleaseFacts.{one_release}
 use Rattle.realm_audit.specs.Lawful.{StandsEarlier, IsOpenAt, IsSoundBefore}
 use Rattle.realm_audit.specs.Prefix.{Takes, AreHolders}
-use Rattle.realm_audit.proofs.Earlier.{earlier_none, earlier_by, earlier_more, earlier_here, earlier_cases}
+use Rattle.realm_audit.proofs.Earlier.{earlier_by, earlier_more, earlier_here, earlier_cases}
 use Rattle.realm_audit.proofs.Closed.{path_earlier}
 
 -- what the test of a holder tells
@@ -29,9 +29,6 @@ test_from_holder o q e = ap (λ x. option_eq nat_eq x (Some q)) e ∙ eq-eqb q q
 -- an acquire is no release
 acquire_frees_none : (g : GraphValue) (i l q : ℕ) → Acquires g i l → Releases g i q → ⊥
 acquire_frees_none g i l q a r = (let e : ◌≡◌ {A = Option Verb} (Some (Acquire l)) (Some (Release q)) = sym (acquire_is g i l a) ∙ release_is g i q r in cc)
-
-pub none_hold : (g : GraphValue) (trace : List ℕ) (holder : ℕ → Option ℕ) → ((l : ℕ) → holder l ≡ None) → AreHolders g trace 0 holder
-none_hold g trace holder none l q = ((λ e. absurd (none-some q (sym (none l) ∙ e))), (λ h. absurd (earlier_none trace q h.1.0)))
 
 -- a release frees the reservation of its acquire alone
 pub frees_no_other : (g : GraphValue) (trace : List ℕ) (k i l q : ℕ) (holder : ℕ → Option ℕ) → AreHolders g trace k holder → Releases g i q → Acquires g q l → (holder l ≡ Some q → ⊥) → (m p : ℕ) → holder m ≡ Some p → Releases g i p → ⊥
