@@ -1,3 +1,10 @@
 pub mod LineNames
 pub mod Fronts
 pub mod TraceTexts
+pub mod EndFacts
+pub mod Earlier
+pub mod Closed
+pub mod HolderSteps
+pub mod FaultFacts
+pub mod Verdicts
+pub mod VerbReads

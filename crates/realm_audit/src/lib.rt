@@ -1,6 +1,15 @@
-//! Traces that come from outside: reading their text.
+//! Traces that come from outside: reading their text, and whether they are lawful.
 #![tactic(auto)]
 
+mod acquires;
+mod ends;
+mod faults;
+mod holders;
+pub mod lawful;
+mod prefix;
 pub mod reading;
+pub mod refusal;
 
+pub use lawful::audit;
 pub use reading::{TraceRefusal, read_trace};
+pub use refusal::AuditRefusal;
