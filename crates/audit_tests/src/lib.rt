@@ -3,6 +3,8 @@
 #![tactic(auto)]
 
 #[cfg(test)]
+mod lawful_tests;
+#[cfg(test)]
 mod memory_tests;
 #[cfg(test)]
 mod reading_tests;

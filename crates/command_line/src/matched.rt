@@ -18,6 +18,8 @@ pub(crate) fn action_by_word(word: &str) -> Option<Action>
         b"check" => Some(Action::Check),
         b"eval" => Some(Action::Eval),
         b"make" => Some(Action::Make),
+        b"audit" => Some(Action::Audit),
+        b"timeline" => Some(Action::Timeline),
         _ => None,
     }
 }

@@ -21,6 +21,11 @@ pub enum Action {
     /// A graph is made of a seed and a size, checked and run, and a line that sums it up is
     /// written; or its text is written, and nothing is run.
     Make,
+    /// A graph and the text of a trace behind it are read, the graph is checked, and whether the
+    /// trace is lawful is written.
+    Audit,
+    /// A graph is read, checked and planned in virtual time, and its timeline is written.
+    Timeline,
 }
 
 /// What runs a graph.
@@ -36,7 +41,8 @@ pub enum Engine {
 #[derive(Clone, Copy, Debug, PartialEq, Eq)]
 pub struct Request {
     pub action: Action,
-    /// How many workers run a graph, at most `MAX_WORKERS`; with 0 the caller does all.
+    /// How many workers run a graph, at most `MAX_WORKERS`; with 0 the caller does all. A timeline has as many
+    /// processors, but one at least.
     pub workers: u32,
     /// How many event slots a run has, from 1 to `MAX_SLOTS`, where it is given.
     pub slots: Option<u32>,

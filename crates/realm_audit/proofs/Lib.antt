@@ -8,3 +8,5 @@ pub mod HolderSteps
 pub mod FaultFacts
 pub mod Verdicts
 pub mod VerbReads
+pub mod InputParts
+pub mod NamedLines

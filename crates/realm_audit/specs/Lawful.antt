@@ -72,3 +72,12 @@ IsRefusal g trace (Overlap k q) =
     IsSoundBefore g trace k × (IsRepeatAt trace k → ⊥) × (IsWaitAt g trace k → ⊥) × ((j : ℕ) → IsSourceFaultAt g trace k j → ⊥) × IsLeast (IsOverlapAt g trace k) q
 IsRefusal g trace (Missing j) = IsSoundBefore g trace (length trace) × IsLeast (IsMissing g trace) j
 IsRefusal g trace NoMemory = Unit {0}
+
+-- the numbers of a refusal are a place of the trace and a line of the graph
+abbrev pub NamesLines : GraphValue → List ℕ → AuditRefusal → Type 0
+NamesLines g trace (Repeat k) = k < length trace
+NamesLines g trace (Waits k) = k < length trace
+NamesLines g trace (Source k j) = (k < length trace) × (j < length g.lines)
+NamesLines g trace (Overlap k q) = (k < length trace) × (q < length g.lines)
+NamesLines g trace (Missing j) = j < length g.lines
+NamesLines g trace NoMemory = Unit {0}

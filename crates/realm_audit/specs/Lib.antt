@@ -1,3 +1,4 @@
 pub mod Reading
+pub mod Parts
 pub mod Lawful
 pub mod Prefix

@@ -3,14 +3,14 @@
 ghost use Rattle.std.specs.Prelude.{◌≡◌, ◌≢◌, OnOk, IfErr};
 ghost use Rattle.graph_model.specs.meaning.Rules.{Accepted};
 ghost use Rattle.graph_model.specs.meaning.Trace.{IsLawful};
-ghost use Rattle.realm_audit.specs.Lawful.{ends_of, IsRefusal};
+ghost use Rattle.realm_audit.specs.Lawful.{ends_of, IsRefusal, NamesLines};
 ghost use Rattle.realm_audit.specs.Reading.{AreLines};
 
 use crate::faults::judge_place;
 use crate::prefix::Prefix;
 use crate::refusal::AuditRefusal;
 use graph_model::graph::Graph;
-use graph_model::laws::{order_lists_ended, sections_never_overlap};
+use graph_model::laws::{edges_between_lines, order_lists_ended, sections_never_overlap};
 use graph_model::lists::{EndList, LineList};
 use std::alloc::Global;
 
@@ -28,8 +28,10 @@ pub fn audit(
     ensures ok { OnOk result (IsLawful graph.now trace.now) }
     ensures refused { IfErr result (IsRefusal graph.now trace.now) }
     ensures unlawful { IfErr result (λ e. e ≢ AuditRefusal.NoMemory → IsLawful graph.now trace.now → ⊥) }
+    ensures names { IfErr result (NamesLines graph.now trace.now) }
 {
     sections_never_overlap();
+    edges_between_lines();
     let _ = graph.lines();
     judge_all(alloc, graph, ends, trace)
 }

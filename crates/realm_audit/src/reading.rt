@@ -31,7 +31,7 @@ impl From<NoMemory> for TraceRefusal {
 }
 
 /// The first line of bytes without its newline, and what follows it. `None` exactly where no byte is a newline.
-fn first_line(bytes: &[u8]) -> Option<(&[u8], &[u8])>
+pub(crate) fn first_line(bytes: &[u8]) -> Option<(&[u8], &[u8])>
     ensures { MatchOption result (has_newline bytes.now ≡ false) (λ x. IsFirstLine bytes.now x.0.now x.1.now) }
 {
     for (i, b) in bytes.iter().enumerate() {

@@ -3,6 +3,8 @@
 #![tactic(auto)]
 
 #[cfg(test)]
+mod audit_tests;
+#[cfg(test)]
 mod fault_tests;
 #[cfg(test)]
 mod gate_tests;
@@ -16,6 +18,8 @@ mod limit_tests;
 mod made_tests;
 #[cfg(test)]
 mod memory_tests;
+#[cfg(test)]
+mod plan_tests;
 #[cfg(test)]
 mod row;
 #[cfg(test)]

@@ -169,7 +169,32 @@ fn bytes(rt: HostRuntime) -> Result<(), Fail> {
     run_commands(&rt, text.as_str(), &[("run", EMPTY_REPORT)])?;
     text.push('\n')?;
     let longer = [(text.as_str(), "input too long\n")];
-    run_texts(&rt, &["run", "check", "eval"], Status::TooLong, &longer)
+    run_texts(
+        &rt,
+        &["run", "check", "eval", "timeline"],
+        Status::TooLong,
+        &longer,
+    )
+}
+
+// the greatest graph with a trace behind it, one byte more of a graph, and the most bytes behind one
+#[test]
+fn bytes_of_an_audit(rt: HostRuntime) -> Result<(), Fail> {
+    let alloc = rt.alloc();
+    let graph = greatest_text(alloc)?;
+    let traced = format!(in alloc; "{graph}realm-trace 1\ndone\n")?;
+    run_commands(&rt, traced.as_str(), &[("audit", "lawful\n")])?;
+    let longer = traced.as_str().replace(alloc, "space t", "space tt")?;
+    let mut most = format!(in alloc; "{graph}{graph}")?;
+    assert_eq!(rt; most.len(), 2_097_152);
+    let refused = [
+        (longer.as_str(), "refused line 58255 limit\n"),
+        (most.as_str(), "refused line 58256 trace\n"),
+    ];
+    run_texts(&rt, &["audit"], Status::Unread, &refused)?;
+    most.push('\n')?;
+    let longest = [(most.as_str(), "input too long\n")];
+    run_texts(&rt, &["audit"], Status::TooLong, &longest)
 }
 
 /// A chain of so many fills, and its report.

@@ -14,7 +14,9 @@ use Rattle.graph_reader.specs.Laws.{OneReading}
 use Rattle.race_check.specs.Refusal.{IsRefusal}
 use Rattle.race_check.specs.declared.checked.CheckRefusal.{CheckRefusal}
 use Rattle.race_check.specs.declared.checked.CheckRefusal.TheVariants as refusal
-use Rattle.realm_top.specs.Answer.{IsRefused, IsUnfit, IsDone, report_with, is_short, EndsByPaths, Served, InputAnswers, EnoughSlots, TooFewSlots, InputAsks, Serves, Settled, Answered, Delivered, BrokenOff, Delivers}
+use Rattle.realm_top.specs.Refused.{IsRefused, IsUnfit, Refuses, Rejects}
+use Rattle.realm_top.specs.Delivered.{Delivered, BrokenOff, Delivers, IsAnswered}
+use Rattle.realm_top.specs.Answer.{report_with, is_short, EndsByPaths, Served, Judged, InputAnswers, EnoughSlots, TooFewSlots, InputAsks, Serves, Settled}
 use Rattle.realm_top.specs.Status.{is_refusal}
 use Rattle.realm_top.specs.Texts.{too_long_text, unfit_text, slots_text}
 use Rattle.graph_model.specs.graph.Graph.{GraphValue}
@@ -49,7 +51,7 @@ pub stopped_is_broken : (r s : SinkState) (out : List ℕ) → Stopped r s out �
 stopped_is_broken r s out h = record { took = h.took; flushed = h.flushed; count = h.count; rose = h.rose }
 
 -- bytes are not both a text and refused
-text_or_refused : (bytes out : List ℕ) → OneReading bytes → (g : GraphValue) → GraphText bytes g → IsRefused bytes out → ⊥
+pub text_or_refused : (bytes out : List ℕ) → OneReading bytes → (g : GraphValue) → GraphText bytes g → IsRefused bytes out → ⊥
 text_or_refused bytes out one g t r = one.not_both (g, t) (r.number, r.why, r.fault)
 
 -- a rule fails at some lines, and so not for all
@@ -73,7 +75,7 @@ broken_text g (refusal.Race i j) n = (_, refl)
 broken_text g refusal.NoMemory n = absurd (n refl)
 
 -- a graph is not both accepted and unfit
-accepted_or_unfit : (g : GraphValue) (out : List ℕ) → Accepted g → IsUnfit g out → ⊥
+pub accepted_or_unfit : (g : GraphValue) (out : List ℕ) → Accepted g → IsUnfit g out → ⊥
 accepted_or_unfit g out a u = broken_by g u.why out u.refused u.says a
 
 -- two graphs of one text are one: it is not both accepted and not
@@ -148,64 +150,61 @@ pub if_some : (o : Option (List ℕ)) (P : List ℕ → Type 0) → ((xs : List 
 if_some None P h = tt
 if_some (Some xs) P h = h xs refl
 
--- what was answered, by the status
-answered_as : (request : Request) (bs : List ℕ) (s t : SinkState) (result status : Status) → Answered request bs s t result → result ≡ status → (status ≢ NoMemory) → (status ≢ WriteFault) → (out : List ℕ) × InputAnswers request bs status out × Delivered s t out
-answered_as request bs s t result status (inl n) e a b = absurd (a (sym e ∙ n))
-answered_as request bs s t result status (inr (wanted, out, w, inl d)) e a b = (out, subst (λ x. InputAnswers request bs x out) (sym d.0 ∙ e) w, d.1)
-answered_as request bs s t result status (inr (wanted, out, w, inr d)) e a b = absurd (b (sym e ∙ d.0))
+-- ANSWERS, each of them a status with its text: what was answered by the status
+module _ (A : Status → List ℕ → Type 0) (s t : SinkState) (result : Status) where
+  pub answered_as : (status : Status) → IsAnswered A s t result → result ≡ status → (status ≢ NoMemory) → (status ≢ WriteFault) → (out : List ℕ) × A status out × Delivered s t out
+  answered_as status (inl n) e a b = absurd (a (sym e ∙ n))
+  answered_as status (inr (wanted, out, w, inl d)) e a b = (out, subst (λ x. A x out) (sym d.0 ∙ e) w, d.1)
+  answered_as status (inr (wanted, out, w, inr d)) e a b = absurd (b (sym e ∙ d.0))
 
-pub answered_done : (request : Request) (bs : List ℕ) (s t : SinkState) (result : Status) → Answered request bs s t result → result ≡ Done → IsDone request bs s t
-answered_done request bs s t result h e =
-    let a = answered_as request bs s t result Done h e (λ x. cc) (λ x. cc) in
-    let j = (a.1).2 in
-    let w = j.1 in
-    record { graph = (a.1).0; text = (a.1).1; accepted = j.0; need = w.0; is_need = w.1; enough = w.2; out = a.0; says = w.3; delivered = a.2 }
+  -- a refusal goes with its text
+  pub refused_as : IsAnswered A s t result → is_refusal result ≡ true → (out : List ℕ) × A result out × Delivered s t out
+  refused_as h r = answered_as result h refl (λ e. true≢false (sym r ∙ ap is_refusal e)) (λ e. true≢false (sym r ∙ ap is_refusal e))
 
--- a refusal goes with its text
-pub answered_refused : (request : Request) (bs : List ℕ) (s t : SinkState) (result : Status) → Answered request bs s t result → is_refusal result ≡ true → (out : List ℕ) × InputAnswers request bs result out × Delivered s t out
-answered_refused request bs s t result h r = answered_as request bs s t result result h refl (λ e. true≢false (sym r ∙ ap is_refusal e)) (λ e. true≢false (sym r ∙ ap is_refusal e))
+  -- a write that failed broke off the text of the answer
+  pub cut_off_as : ((out : List ℕ) → A WriteFault out → ⊥) → IsAnswered A s t result → result ≡ WriteFault → (status : Status) × (out : List ℕ) × A status out × BrokenOff s t out
+  cut_off_as never (inl n) e = absurd (let x : NoMemory ≡ WriteFault = sym n ∙ e in cc)
+  cut_off_as never (inr (wanted, out, a, inl d)) e = absurd (never out (subst (λ w. A w out) (sym d.0 ∙ e) a))
+  cut_off_as never (inr (wanted, out, a, inr b)) e = (wanted, out, a, b.1)
 
--- a write that failed broke off the text of the answer
-pub answered_cut_off : (request : Request) (bs : List ℕ) (s t : SinkState) (result : Status) → Answered request bs s t result → result ≡ WriteFault → (status : Status) × (out : List ℕ) × InputAnswers request bs status out × BrokenOff s t out
-answered_cut_off request bs s t result (inl n) e = absurd (let x : NoMemory ≡ WriteFault = sym n ∙ e in cc)
-answered_cut_off request bs s t result (inr (wanted, out, a, inl d)) e = absurd (((subst (λ w. InputAnswers request bs w out) (sym d.0 ∙ e) a).2).1)
-answered_cut_off request bs s t result (inr (wanted, out, a, inr b)) e = (wanted, out, a, b.1)
+  -- without a fault the answer is the one that goes with this status, where each does
+  pub complete_as : (status : Status) → ((wanted : Status) (out : List ℕ) → A wanted out → wanted ≡ status) → IsAnswered A s t result → (Rose s.faults t.faults → ⊥) → (result ≡ status) ⊎ (result ≡ NoMemory)
+  complete_as status one (inl n) h = inr n
+  complete_as status one (inr (wanted, out, a, inl d)) h = inl (d.0 ∙ one wanted out a)
+  complete_as status one (inr (wanted, out, a, inr c)) h = absurd (h (c.1).rose)
 
-pub answered_complete : (request : Request) → OneNeed → (bs : List ℕ) → OneReading bs → (s t : SinkState) (result status : Status) → Answered request bs s t result → InputAsks request bs status → (Rose s.faults t.faults → ⊥) → (result ≡ status) ⊎ (result ≡ NoMemory)
-answered_complete request needs bs one s t result status (inl n) a h = inr n
-answered_complete request needs bs one s t result status (inr (wanted, text, b, inl d)) a h = inl (d.0 ∙ one_answer request needs bs one wanted status text b a)
-answered_complete request needs bs one s t result status (inr (wanted, text, b, inr c)) a h = absurd (h (c.1).rose)
+  -- answers of one kind are answers of another
+  pub answered_by : (B : Status → List ℕ → Type 0) → ((wanted : Status) (out : List ℕ) → A wanted out → B wanted out) → IsAnswered A s t result → IsAnswered B s t result
+  answered_by B as (inl n) = inl n
+  answered_by B as (inr (wanted, out, a, d)) = inr (wanted, out, as wanted out a, d)
 
--- an input that is too long was answered
-pub too_long_answered : (request : Request) (xs : List ℕ) (s t : SinkState) (result : Status) → 1048576 < length xs → Delivers s t TooLong result too_long_text → Answered request xs s t result
-too_long_answered request xs s t result l d = inr (TooLong, too_long_text, (l, refl), d)
+-- what becomes of a graph that was read is the answer to its text, and so is what is refused
+pub judged_input : (request : Request) (bytes : List ℕ) (g : GraphValue) → GraphText bytes g → (status : Status) (out : List ℕ) → Judged request g status out → InputAnswers request bytes status out
+judged_input request bytes g h Done out j = (g, h, j)
+judged_input request bytes g h Unfit out j = (g, h, j)
+judged_input request bytes g h Slots out j = (g, h, j)
+judged_input request bytes g h _ out j = absurd j.1
 
--- the answer to an input that was read to its end
-pub answered_input : (request : Request) (old new : Option (List ℕ)) (bs b : List ℕ) (s t : SinkState) (result : Status) → Consumes old new bs → IsAtEnd new → b ≡ bs → Answered request b s t result → (xs : List ℕ) → old ≡ Some xs → Answered request xs s t result
-answered_input request old new bs b s t result c e same a xs h = subst (λ x. Answered request x s t result) (same ∙ sym (all_read old new bs c e xs h)) a
+pub refused_input : (request : Request) (bytes : List ℕ) → length bytes ≤ 1048576 → (status : Status) (out : List ℕ) → Refuses bytes status out → InputAnswers request bytes status out
+refused_input request bytes short Unread out r = (short, r)
+refused_input request bytes short _ out r = absurd r
 
--- what becomes of the graph of a text is the answer to the text
-pub settled_input : (request : Request) (bytes : List ℕ) (g : GraphValue) (s t : SinkState) (result : Status) → GraphText bytes g → Settled request g s t result → Answered request bytes s t result
-settled_input request bytes g s t result h (inl n) = inl n
-settled_input request bytes g s t result h (inr (Done, out, j, d)) = inr (Done, out, (g, h, j), d)
-settled_input request bytes g s t result h (inr (Unfit, out, j, d)) = inr (Unfit, out, (g, h, j), d)
-settled_input request bytes g s t result h (inr (Slots, out, j, d)) = inr (Slots, out, (g, h, j), d)
-settled_input request bytes g s t result h (inr (_, out, j, d)) = absurd j.1
+-- what becomes of a graph that is accepted, and of one that is not
+pub served_judged : (request : Request) (g h : GraphValue) → g ≡ h → Accepted h → (status : Status) (out : List ℕ) → Served request g status out → Judged request h status out
+served_judged request g h e a Done out w = (a, subst (λ x. Served request x Done out) e w)
+served_judged request g h e a Slots out w = (a, subst (λ x. Served request x Slots out) e w)
+served_judged request g h e a _ out w = absurd w
 
--- what becomes of a graph that was read and is accepted
-pub served_settled : (request : Request) (g h : GraphValue) (s t : SinkState) (result : Status) → g ≡ h → Accepted h → Serves request g s t result → Settled request h s t result
-served_settled request g h s t result e a (inl n) = inl n
-served_settled request g h s t result e a (inr (Done, out, w, d)) = inr (Done, out, (a, subst (λ x. Served request x Done out) e w), d)
-served_settled request g h s t result e a (inr (Slots, out, w, d)) = inr (Slots, out, (a, subst (λ x. Served request x Slots out) e w), d)
-served_settled request g h s t result e a (inr (_, out, w, d)) = absurd w
+pub rejected_judged : (request : Request) (g h : GraphValue) → g ≡ h → (status : Status) (out : List ℕ) → Rejects g status out → Judged request h status out
+rejected_judged request g h e Unfit out r = subst (λ x. IsUnfit x out) e r
+rejected_judged request g h e _ out r = absurd r
 
 -- what becomes of a graph that is accepted, where it was judged
-pub settled_served : (request : Request) (g : GraphValue) (s t : SinkState) (result : Status) → Accepted g → Settled request g s t result → Serves request g s t result
-settled_served request g s t result a (inl n) = inl n
-settled_served request g s t result a (inr (Done, out, j, d)) = inr (Done, out, j.1, d)
-settled_served request g s t result a (inr (Slots, out, j, d)) = inr (Slots, out, j.1, d)
-settled_served request g s t result a (inr (Unfit, out, j, d)) = absurd (accepted_or_unfit g out a j)
-settled_served request g s t result a (inr (_, out, j, d)) = absurd j.1
+pub judged_served : (request : Request) (g : GraphValue) → Accepted g → (status : Status) (out : List ℕ) → Judged request g status out → Served request g status out
+judged_served request g a Done out j = j.1
+judged_served request g a Slots out j = j.1
+judged_served request g a Unfit out j = absurd (accepted_or_unfit g out a j)
+judged_served request g a _ out j = absurd j.1
 
 -- how lines end by paths, of the graph that was answered
 pub ends_by_paths : WaitsWhereReached → CancelledWhereUnbroken → (bytes : List ℕ) → OneReading bytes → (g : GraphValue) → GraphText bytes g → Accepted g → (h : GraphValue) → GraphText bytes h → EndsByPaths h
@@ -215,8 +214,8 @@ ends_by_paths waits cancelled bytes one g t a h u = record {
 }
 
 -- a graph that breaks a rule was answered
-pub unfit_settled : (request : Request) (g : GraphValue) (s t : SinkState) (result : Status) (why : CheckRefusal) (out : List ℕ) → IsRefusal g why → unfit_text g why ≡ Some out → Delivers s t Unfit result out → Settled request g s t result
-unfit_settled request g s t result why out r e d = inr (Unfit, out, record { «why» = why; refused = r; says = e }, d)
+pub unfit_rejected : (g : GraphValue) (s t : SinkState) (result : Status) (why : CheckRefusal) (out : List ℕ) → IsRefusal g why → unfit_text g why ≡ Some out → Delivers s t Unfit result out → IsAnswered (Rejects g) s t result
+unfit_rejected g s t result why out r e d = inr (Unfit, out, record { «why» = why; refused = r; says = e }, d)
 
 -- the same of a graph or a request that is the same
 pub wrote_of : (s t : SinkState) (traced : Bool) (g h : GraphValue) (trace other : List ℕ) → g ≡ h → trace ≡ other → Wrote s t (report_with traced g trace) → Wrote s t (report_with traced h other)
@@ -224,6 +223,3 @@ wrote_of s t traced g h trace other e f w = subst (λ x. Wrote s t (report_with 
 
 pub stopped_of : (s t : SinkState) (traced : Bool) (g h : GraphValue) (trace other : List ℕ) → g ≡ h → trace ≡ other → Stopped s t (report_with traced g trace) → Stopped s t (report_with traced h other)
 stopped_of s t traced g h trace other e f w = subst (λ x. Stopped s t (report_with traced h x)) f (subst (λ x. Stopped s t (report_with traced x trace)) e w)
-
-pub settled_of : (request : Request) (s t : SinkState) (result : Status) (g h : GraphValue) → g ≡ h → Settled request g s t result → Settled request h s t result
-settled_of request s t result g h e w = subst (λ x. Settled request x s t result) e w

@@ -2,6 +2,8 @@ pub mod WordLines
 pub mod ReportRest
 pub mod Fitting
 pub mod Delivering
+pub mod Auditing
 pub mod MadeRequests
+pub mod Requests
 pub mod SummaryLines
 pub mod RunFacts

@@ -1,9 +1,6 @@
 -- What a request is to answer, and what it is to write, by the bytes of its input where it has one.
-use Rattle.std.specs.Prelude.{◌≡◌, ℕ, ◌<◌, ◌≤◌, nat_lt, Bool, true, false, not, List, [], ◌++◌, length, Option, Some, ◌⊎◌, ◌↔◌}
-use Rattle.std.specs.Option.{option_map}
+use Rattle.std.specs.Prelude.{◌≡◌, ℕ, ◌+◌, ◌-◌, ◌*◌, ◌<◌, ◌≤◌, nat_lt, max, Bool, true, false, not, List, [], ◌++◌, length, Option, Some, ◌↔◌}
 use Rattle.realm_io.specs.SinkState.{SinkState}
-use Rattle.realm_io.specs.Counts.{Rose}
-use Rattle.realm_io.specs.Told.{with_more, TookPrefix}
 use Rattle.graph_model.specs.graph.Graph.{GraphValue}
 use Rattle.graph_model.specs.declared.graph.limits.TheConstants.{MAX_TEXT}
 use Rattle.graph_model.specs.declared.meaning.outcome.End.TheVariants.{Cancelled, Waiting}
@@ -12,19 +9,24 @@ use Rattle.graph_model.specs.meaning.Rules.{Accepted}
 use Rattle.graph_model.specs.meaning.Need.{IsNeed}
 use Rattle.graph_model.specs.meaning.Trace.{IsLawful}
 use Rattle.graph_model.specs.meaning.Evaluation.{eval_end, outcome, order, Unbroken}
-use Rattle.race_check.specs.declared.checked.CheckRefusal.{CheckRefusal}
-use Rattle.race_check.specs.Refusal.{IsRefusal}
 use Rattle.command_line.specs.declared.request.Action.{Action}
-use Rattle.command_line.specs.declared.request.Action.TheVariants.{Run, Check, Eval, Make}
+use Rattle.command_line.specs.declared.request.Action.TheVariants.{Run, Check, Eval, Make, Audit, Timeline}
 use Rattle.command_line.specs.declared.request.Request.{Request}
 use Rattle.realm_trace.specs.Text.{trace_text}
-use Rattle.realm_top.specs.declared.status.Status.{Status}
-use Rattle.realm_top.specs.declared.status.Status.TheVariants.{Done, Unread, Unfit, WriteFault, NoMemory, Slots, TooLong}
-use Rattle.graph_model.specs.declared.graph.why.Why.{Why}
+use Rattle.realm_timeline.specs.Timeline.{TimelineValue}
+use Rattle.realm_timeline.specs.declared.slot.Slot.{Slot}
+use Rattle.realm_timeline.specs.Plan.{IsPlan, IsValid, IsGreedy, plan_length, total_cost}
+use Rattle.realm_timeline.specs.Chains.{IsCritical, chain_cost}
+use Rattle.realm_timeline.specs.Laws.{AcquiresNone}
+use Rattle.realm_timeline.specs.Text.{timeline_text}
 use Rattle.graph_reader.specs.Text.{GraphText, text}
-use Rattle.graph_reader.specs.FirstFault.{FirstFault}
 use Rattle.graph_gen.specs.MadeGraph.{made_graph}
-use Rattle.realm_top.specs.Texts.{report, made_text, unread_text, too_long_text, accepted_text, unfit_text, slots_text}
+use Rattle.realm_top.specs.declared.status.Status.{Status}
+use Rattle.realm_top.specs.declared.status.Status.TheVariants.{Done, Unread, Unfit, Slots, TooLong}
+use Rattle.realm_top.specs.Delivered.{Delivered, IsAnswered}
+use Rattle.realm_top.specs.Refused.{IsRefused, IsUnfit}
+use Rattle.realm_top.specs.AuditAnswer.{AUDIT_LIMIT, AuditAnswers, AuditAsks}
+use Rattle.realm_top.specs.Texts.{report, made_text, too_long_text, accepted_text, slots_text}
 
 -- the text that is the report of the one-thread evaluation of a graph
 abbrev pub evaluation_report : GraphValue → List ℕ
@@ -34,19 +36,6 @@ evaluation_report g = report g (outcome g (order g))
 pub record EndsByPaths (g : GraphValue) : Type 0 where
   pub waiting : (i : ℕ) → i < length g.lines → (eval_end g i ≡ Waiting) ↔ Reached g i
   pub cancelled : (i : ℕ) → (eval_end g i ≡ Cancelled) ↔ Unbroken g i
-
--- the bytes are the text of no graph: the line of this number is the first that is refused, for this reason
-pub record IsRefused (bytes out : List ℕ) : Type 0 where
-  pub number : ℕ
-  pub why : Why
-  pub fault : FirstFault bytes number why
-  pub says : out ≡ unread_text number why
-
--- a rule that the graph breaks, with the least lines at which it does and after rules that hold
-pub record IsUnfit (g : GraphValue) (out : List ℕ) : Type 0 where
-  pub why : CheckRefusal
-  pub refused : IsRefusal g why
-  pub says : unfit_text g why ≡ Some out
 
 -- the text of a trace, where it is asked for
 abbrev pub trace_part : Bool → GraphValue → List ℕ → List ℕ
@@ -65,10 +54,20 @@ evaluation_text traced g = report_with traced g (order g)
 abbrev pub IsRunText : Bool → GraphValue → List ℕ → Type 0
 IsRunText traced g out = (trace : List ℕ) × IsLawful g trace × (out ≡ report_with traced g trace)
 
--- whether an action reads a graph
+-- whether an action reads an input
 abbrev pub reads : Action → Bool
 reads Make = false
 reads _ = true
+
+-- whether a trace stands in it behind the graph
+abbrev pub audits : Action → Bool
+audits Audit = true
+audits _ = false
+
+-- the most bytes that it may have
+abbrev pub input_limit : Action → ℕ
+input_limit Audit = AUDIT_LIMIT
+input_limit _ = MAX_TEXT
 
 -- whether a graph is run: by `run`, and by `make` where the graph's text is not asked for
 abbrev pub runs : Action → Bool → Bool
@@ -94,12 +93,32 @@ abbrev pub run_text : Action → Bool → GraphValue → List ℕ → List ℕ
 run_text Make traced g trace = made_says false g
 run_text _ traced g trace = report_with traced g trace
 
--- what an action writes of an accepted graph with this need
+-- the text is that of a timeline on so many processors: of a plan that is valid and greedy, with its length, and of the critical chain with its cost.
+-- Each valid plan is at least as long as that chain costs, and without reservations this one is not much longer
+pub record IsTimelineText (processors : ℕ) (g : GraphValue) (out : List ℕ) : Type 0 where
+  pub timeline : TimelineValue
+  pub is_plan : IsPlan g processors timeline.plan
+  pub valid : IsValid g timeline.plan
+  pub greedy : IsGreedy g processors timeline.plan
+  pub length_is : timeline.span ≡ plan_length timeline.plan
+  pub critical : IsCritical g timeline.critical
+  pub cost_is : timeline.critical_cost ≡ chain_cost g timeline.critical
+  pub at_least : (n : ℕ) (other : List (Option Slot)) → IsPlan g n other → IsValid g other → timeline.critical_cost ≤ plan_length other
+  pub at_most : AcquiresNone g → processors * timeline.span ≤ total_cost g timeline.plan + (processors - 1) * timeline.critical_cost
+  pub says : out ≡ timeline_text g timeline
+
+-- how many processors a timeline has: as many as there are workers, but one at least
+abbrev pub processors_for : Request → ℕ
+processors_for request = max request.workers 1
+
+-- what an action writes of an accepted graph with this need; `audit` has an answer of its own
 abbrev pub Says : Action → Request → GraphValue → ℕ → List ℕ → Type 0
 Says Run request g need out = IsRunText request.trace g out
 Says Eval request g need out = out ≡ evaluation_text request.trace g
 Says Check request g need out = out ≡ accepted_text need
+Says Timeline request g need out = IsTimelineText (processors_for request) g out
 Says Make request g need out = out ≡ made_says false g
+Says Audit request g need out = ⊥
 
 -- what becomes of an accepted graph, and the text that goes with it
 abbrev pub Served : Request → GraphValue → Status → List ℕ → Type 0
@@ -112,7 +131,7 @@ abbrev pub Judged : Request → GraphValue → Status → List ℕ → Type 0
 Judged request g Unfit out = IsUnfit g out
 Judged request g status out = Accepted g × Served request g status out
 
--- the answer to an input of these bytes, and the text that goes with it
+-- the answer to an input of these bytes that is to be the text of a graph alone, and the text that goes with it
 abbrev pub InputAnswers : Request → List ℕ → Status → List ℕ → Type 0
 InputAnswers request bytes Unread out = (length bytes ≤ MAX_TEXT) × IsRefused bytes out
 InputAnswers request bytes TooLong out = (MAX_TEXT < length bytes) × (out ≡ too_long_text)
@@ -132,6 +151,7 @@ IsInput _ left bytes = left ≡ Some bytes
 -- the answer to a request with these bytes, and the text that goes with it
 abbrev pub AnswersBy : Action → Request → List ℕ → Status → List ℕ → Type 0
 AnswersBy Make request bytes status out = MadeAnswers request.text request (made_graph request.seed request.size) status out
+AnswersBy Audit request bytes status out = AuditAnswers bytes status out
 AnswersBy _ request bytes status out = InputAnswers request bytes status out
 
 abbrev pub Answers : Request → List ℕ → Status → List ℕ → Type 0
@@ -144,7 +164,7 @@ EnoughSlots request g = (need : ℕ) → IsNeed g need → is_short request need
 abbrev pub TooFewSlots : Request → GraphValue → Type 0
 TooFewSlots request g = (need : ℕ) × IsNeed g need × (is_short request need ≡ true)
 
--- the status that an input of these bytes asks for
+-- the status that such an input asks for
 abbrev pub InputAsks : Request → List ℕ → Status → Type 0
 InputAsks request bytes Done = (g : GraphValue) × GraphText bytes g × Accepted g × EnoughSlots request g
 InputAsks request bytes Slots = (g : GraphValue) × GraphText bytes g × Accepted g × TooFewSlots request g
@@ -163,18 +183,13 @@ MadeAsks texted request g status = ⊥
 -- the status that a request asks for with these bytes
 abbrev pub AsksBy : Action → Request → List ℕ → Status → Type 0
 AsksBy Make request bytes status = MadeAsks request.text request (made_graph request.seed request.size) status
+AsksBy Audit request bytes status = AuditAsks bytes status
 AsksBy _ request bytes status = InputAsks request bytes status
 
 abbrev pub AsksStatus : Request → List ℕ → Status → Type 0
 AsksStatus request bytes status = AsksBy request.action request bytes status
 
--- all of the text was taken, and all that was taken is flushed
-pub record Delivered (old new : SinkState) (out : List ℕ) : Type 0 where
-  pub took : new.taken ≡ with_more old.taken out
-  pub flushed : new.flushed ≡ option_map length new.taken
-  pub count : old.faults ≤ new.faults
-
--- an action that reads was done with these bytes: they are the one text of an accepted graph, a run was given enough slots, and the text of the action was written and flushed
+-- an action that reads a graph alone was done with these bytes: they are the one text of an accepted graph, a run was given enough slots, and the text of the action was written and flushed
 pub record IsDone (request : Request) (bytes : List ℕ) (old new : SinkState) : Type 0 where
   pub graph : GraphValue
   pub text : GraphText bytes graph
@@ -186,30 +201,14 @@ pub record IsDone (request : Request) (bytes : List ℕ) (old new : SinkState) :
   pub says : Says request.action request graph need out
   pub delivered : Delivered old new out
 
--- a prefix of the text was taken, no more is flushed than before, and a fault was counted
-pub record BrokenOff (old new : SinkState) (out : List ℕ) : Type 0 where
-  pub took : TookPrefix old.taken new.taken out
-  pub flushed : new.flushed ≡ old.flushed
-  pub count : old.faults ≤ new.faults
-  pub rose : Rose old.faults new.faults
-
--- a text that goes with a status was delivered, or a fault broke it off
-abbrev pub Delivers : SinkState → SinkState → Status → Status → List ℕ → Type 0
-Delivers old new wanted result out = ((result ≡ wanted) × Delivered old new out) ⊎ ((result ≡ WriteFault) × BrokenOff old new out)
-
 -- an accepted graph was answered, unless memory ran out
 abbrev pub Serves : Request → GraphValue → SinkState → SinkState → Status → Type 0
-Serves request g old new result = (result ≡ NoMemory) ⊎ ((wanted : Status) × (out : List ℕ) × Served request g wanted out × Delivers old new wanted result out)
+Serves request g old new result = IsAnswered (Served request g) old new result
 
 -- a graph that was read was answered, unless memory ran out
 abbrev pub Settled : Request → GraphValue → SinkState → SinkState → Status → Type 0
-Settled request g old new result = (result ≡ NoMemory) ⊎ ((wanted : Status) × (out : List ℕ) × Judged request g wanted out × Delivers old new wanted result out)
+Settled request g old new result = IsAnswered (Judged request g) old new result
 
 -- an input of these bytes was answered, unless memory ran out
 abbrev pub Answered : Request → List ℕ → SinkState → SinkState → Status → Type 0
-Answered request bytes old new result = (result ≡ NoMemory) ⊎ ((wanted : Status) × (out : List ℕ) × InputAnswers request bytes wanted out × Delivers old new wanted result out)
-
--- a request to make a graph was answered, unless memory ran out
-abbrev pub MadeAnswered : Request → SinkState → SinkState → Status → Type 0
-MadeAnswered request old new result = (result ≡ NoMemory)
-    ⊎ ((wanted : Status) × (out : List ℕ) × MadeAnswers request.text request (made_graph request.seed request.size) wanted out × Delivers old new wanted result out)
+Answered request bytes old new result = IsAnswered (Answers request bytes) old new result

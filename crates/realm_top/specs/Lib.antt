@@ -1,3 +1,6 @@
 pub mod Texts
 pub mod Status
+pub mod Delivered
+pub mod Refused
+pub mod AuditAnswer
 pub mod Answer

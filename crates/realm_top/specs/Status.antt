@@ -3,7 +3,7 @@ use Rattle.std.specs.Prelude.{ℕ, Bool, true, false}
 use Rattle.command_line.specs.declared.WordsFault.{WordsFault}
 use Rattle.command_line.specs.declared.WordsFault.TheVariants as fault
 use Rattle.realm_top.specs.declared.status.Status.{Status}
-use Rattle.realm_top.specs.declared.status.Status.TheVariants.{Done, Usage, Unread, Unfit, ReadFault, WriteFault, NoMemory, Slots, TooLong}
+use Rattle.realm_top.specs.declared.status.Status.TheVariants.{Done, Usage, Unread, Unfit, ReadFault, WriteFault, NoMemory, Slots, TooLong, Unlawful}
 
 -- the exit status for a status
 abbrev pub exit_number : Status → ℕ
@@ -16,6 +16,7 @@ exit_number WriteFault = 6
 exit_number NoMemory = 7
 exit_number Slots = 8
 exit_number TooLong = 9
+exit_number Unlawful = 10
 
 -- the status for words that ask for nothing
 abbrev pub words_status : WordsFault → Status
@@ -28,6 +29,7 @@ is_of_input Unread = true
 is_of_input Unfit = true
 is_of_input ReadFault = true
 is_of_input TooLong = true
+is_of_input Unlawful = true
 is_of_input _ = false
 
 -- the statuses that refuse a request, with a text that says why
@@ -36,4 +38,5 @@ is_refusal Unread = true
 is_refusal Unfit = true
 is_refusal Slots = true
 is_refusal TooLong = true
+is_refusal Unlawful = true
 is_refusal _ = false

@@ -1,5 +1,5 @@
 -- The texts that are written.
-use Rattle.std.specs.Prelude.{◌≡◌, ℕ, ◌+◌, Bool, true, false, List, [], ◌∷◌, ◌++◌, length, map, take, drop, count_by, sum, sum_by, Option, Some, None, codes, decimal}
+use Rattle.std.specs.Prelude.{◌≡◌, ℕ, ◌+◌, Bool, true, false, List, [], ◌∷◌, ◌++◌, length, map, take, drop, count_by, sum, sum_by, slice_index_or, Option, Some, None, codes, decimal}
 use Rattle.index_spaces.specs.Space.{interval_points}
 use Rattle.index_spaces.specs.Column.{ColumnValue}
 use Rattle.graph_model.specs.declared.meaning.outcome.Outcome.{Outcome}
@@ -15,6 +15,8 @@ use Rattle.graph_model.specs.graph.Graph.{GraphValue, is_phase, columns}
 use Rattle.graph_model.specs.graph.Spelling.{spelled, column_name, line_name, interval_word}
 use Rattle.race_check.specs.declared.checked.CheckRefusal.{CheckRefusal}
 use Rattle.race_check.specs.declared.checked.CheckRefusal.TheVariants as refusal
+use Rattle.realm_audit.specs.declared.refusal.AuditRefusal.{AuditRefusal}
+use Rattle.realm_audit.specs.declared.refusal.AuditRefusal.TheVariants as audit
 
 abbrev pub end_word : End → List ℕ
 end_word Done = codes "done"
@@ -146,3 +148,31 @@ unfit_text g (refusal.Descends i j) = Some (broken_by_two g (codes "descends") i
 unfit_text g (refusal.ReleaseFault i) = Some (broken_by_one g (codes "release") i)
 unfit_text g (refusal.Race i j) = Some (broken_by_two g (codes "race") i j)
 unfit_text g refusal.NoMemory = None
+
+-- the line for a trace that is lawful
+abbrev pub lawful_text : List ℕ
+lawful_text = codes "lawful\n"
+
+-- the line for bytes that are the text of no trace: the line of this number is refused
+abbrev pub trace_refused_text : ℕ → List ℕ
+trace_refused_text number = spelled (codes "refused" ∷ codes "line" ∷ decimal number ∷ codes "trace" ∷ [])
+
+-- the name of the line at a place of a trace
+abbrev pub name_at : GraphValue → List ℕ → ℕ → List ℕ
+name_at g trace k = line_name g (slice_index_or trace k 0)
+
+-- the line for a fault of a trace at a place, which is counted from 1 there, and for one in which another line has part
+abbrev pub unlawful_at : GraphValue → List ℕ → List ℕ → ℕ → List ℕ
+unlawful_at g trace fault k = spelled (codes "unlawful" ∷ fault ∷ decimal (k + 1) ∷ name_at g trace k ∷ [])
+
+abbrev pub unlawful_with : GraphValue → List ℕ → List ℕ → ℕ → ℕ → List ℕ
+unlawful_with g trace fault k j = spelled (codes "unlawful" ∷ fault ∷ decimal (k + 1) ∷ name_at g trace k ∷ line_name g j ∷ [])
+
+-- the line for a trace that is not lawful; want of memory has none
+abbrev pub unlawful_text : GraphValue → List ℕ → AuditRefusal → Option (List ℕ)
+unlawful_text g trace (audit.Repeat k) = Some (unlawful_at g trace (codes "repeat") k)
+unlawful_text g trace (audit.Waits k) = Some (unlawful_at g trace (codes "waits") k)
+unlawful_text g trace (audit.Source k j) = Some (unlawful_with g trace (codes "source") k j)
+unlawful_text g trace (audit.Overlap k q) = Some (unlawful_with g trace (codes "overlap") k q)
+unlawful_text g trace (audit.Missing j) = Some (spelled (codes "unlawful" ∷ codes "missing" ∷ line_name g j ∷ []))
+unlawful_text g trace audit.NoMemory = None

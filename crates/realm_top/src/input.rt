@@ -9,8 +9,13 @@ ghost use Rattle.graph_reader.specs.declared.ReadRefusal.TheVariants.{Line};
 ghost use Rattle.race_check.specs.Refusal.{IsRefusal, NamesLines};
 ghost use Rattle.realm_io.specs.Written.{Writes};
 ghost use Rattle.realm_top.specs.Texts.{unread_text, accepted_text, slots_text};
-ghost use Rattle.realm_top.specs.Answer.{evaluation_text, report_with, run_text, runs, is_short, Answered, Serves, Settled, Delivers};
+ghost use Rattle.realm_top.specs.Delivered.{Delivers, IsAnswered};
+ghost use Rattle.realm_top.specs.Refused.{Refuses, Rejects};
+ghost use Rattle.realm_top.specs.Answer.{evaluation_text, report_with, run_text, runs, reads, audits, input_limit, is_short, InputAnswers, Answered, Serves, Settled};
 
+use crate::actions::audits;
+use crate::auditing::answer_audit;
+use crate::planning::plan_graph;
 use crate::refusal::{put_accepted, put_broken, put_slots, put_unread};
 use crate::report::put_parts;
 use crate::running::run_graph;
@@ -31,7 +36,7 @@ use std::alloc::Global;
 use std::sync::Wait;
 use std::thread::Threads;
 
-/// Does what is asked for with the graph whose text the bytes are.
+/// Does what is asked for with an input of these bytes.
 pub(crate) fn answer<R: Threads + Wait + Sync, K: Sink, G: Gate>(
     rt: &R,
     alloc: Global,
@@ -40,14 +45,37 @@ pub(crate) fn answer<R: Threads + Wait + Sync, K: Sink, G: Gate>(
     sink: &mut K,
     gate: &G,
 ) -> Status
-    requires short { length bytes.now ≤ MAX_TEXT }
+    requires reads { reads request.action ≡ true }
+    requires short { length bytes.now ≤ input_limit request.action }
     requires workers { request.workers ≤ MAX_WORKERS }
     ensures answered { Answered request bytes.now (K.state sink.old) (K.state sink.new) result }
     ensures no_memory { result ≡ Status.NoMemory → sink.new ≡ sink.old }
 {
+    if audits(request.action) {
+        answer_audit(alloc, bytes, sink)
+    } else {
+        answer_graph(rt, alloc, request, bytes, sink, gate)
+    }
+}
+
+/// Does what is asked for with the graph whose text the bytes are.
+fn answer_graph<R: Threads + Wait + Sync, K: Sink, G: Gate>(
+    rt: &R,
+    alloc: Global,
+    request: Request,
+    bytes: &[u8],
+    sink: &mut K,
+    gate: &G,
+) -> Status
+    requires alone { audits request.action ≡ false }
+    requires short { length bytes.now ≤ MAX_TEXT }
+    requires workers { request.workers ≤ MAX_WORKERS }
+    ensures answered { IsAnswered (InputAnswers request bytes.now) (K.state sink.old) (K.state sink.new) result }
+    ensures no_memory { result ≡ Status.NoMemory → sink.new ≡ sink.old }
+{
     match read_graph(alloc, bytes) {
         Ok(graph) => judge(rt, alloc, request, graph, sink, gate),
-        Err(refusal) => refuse(request, sink, refusal),
+        Err(refusal) => refuse(sink, refusal),
     }
 }
 
@@ -60,13 +88,14 @@ pub(crate) fn judge<R: Threads + Wait + Sync, K: Sink, G: Gate>(
     sink: &mut K,
     gate: &G,
 ) -> Status
+    requires alone { audits request.action ≡ false }
     requires workers { request.workers ≤ MAX_WORKERS }
     ensures settled { Settled request graph (K.state sink.old) (K.state sink.new) result }
     ensures no_memory { result ≡ Status.NoMemory → sink.new ≡ sink.old }
 {
     match check(alloc, graph) {
         Ok(checked) => serve(rt, alloc, request, &checked, sink, gate),
-        Err(unfit) => reject(request, sink, &unfit),
+        Err(unfit) => reject(sink, &unfit),
     }
 }
 
@@ -79,6 +108,7 @@ fn serve<R: Threads + Wait + Sync, K: Sink, G: Gate>(
     sink: &mut K,
     gate: &G,
 ) -> Status
+    requires alone { audits request.action ≡ false }
     requires workers { request.workers ≤ MAX_WORKERS }
     ensures served { Serves request checked.now.graph (K.state sink.old) (K.state sink.new) result }
     ensures no_memory { result ≡ Status.NoMemory → sink.new ≡ sink.old }
@@ -91,6 +121,8 @@ fn serve<R: Threads + Wait + Sync, K: Sink, G: Gate>(
         Action::Run | Action::Make => run(rt, alloc, &request, checked, sink, gate),
         Action::Eval => evaluate(alloc, request.trace, checked, sink),
         Action::Check => put_need(sink, checked.need()),
+        Action::Timeline => plan_graph(alloc, request.workers, checked, sink),
+        Action::Audit => unreachable!(),
     }
 }
 
@@ -101,7 +133,7 @@ fn is_run(request: &Request) -> bool
     match request.action {
         Action::Run => true,
         Action::Make => !request.text,
-        Action::Check | Action::Eval => false,
+        _ => false,
     }
 }
 
@@ -219,9 +251,9 @@ fn put_short<K: Sink>(sink: &mut K, need: u32) -> Status
 }
 
 /// Answers a graph that is not accepted.
-fn reject<K: Sink>(request: Request, sink: &mut K, unfit: &Unfit) -> Status
+pub(crate) fn reject<K: Sink>(sink: &mut K, unfit: &Unfit) -> Status
     requires { IsRefusal unfit.now.graph unfit.now.why × NamesLines unfit.now.graph unfit.now.why }
-    ensures settled { Settled request unfit.now.graph (K.state sink.old) (K.state sink.new) result }
+    ensures rejected { IsAnswered (Rejects unfit.now.graph) (K.state sink.old) (K.state sink.new) result }
     ensures no_memory { result ≡ Status.NoMemory → sink.new ≡ sink.old }
 {
     if unfit.why == CheckRefusal::NoMemory {
@@ -234,10 +266,10 @@ fn reject<K: Sink>(request: Request, sink: &mut K, unfit: &Unfit) -> Status
 }
 
 /// Answers bytes that are the text of no graph.
-fn refuse<K: Sink>(request: Request, sink: &mut K, refusal: ReadRefusal) -> Status
-    ensures answered { (bytes : List ℕ) → length bytes ≤ MAX_TEXT
+pub(crate) fn refuse<K: Sink>(sink: &mut K, refusal: ReadRefusal) -> Status
+    ensures refused { (bytes : List ℕ)
         → ((number : ℕ) (why : Why) → refusal ≡ Line number why → FirstFault bytes number why)
-        → Answered request bytes (K.state sink.old) (K.state sink.new) result }
+        → IsAnswered (Refuses bytes) (K.state sink.old) (K.state sink.new) result }
     ensures no_memory { result ≡ Status.NoMemory → sink.new ≡ sink.old }
 {
     match refusal {

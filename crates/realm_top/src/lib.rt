@@ -1,13 +1,17 @@
 //! The top call: from the words of the command line, and the bytes of a graph, to the bytes of the answer.
 #![tactic(auto)]
 
+mod actions;
+mod auditing;
 mod input;
 mod making;
+mod planning;
 mod refusal;
 pub mod report;
 mod running;
 pub mod status;
 mod summary;
+mod unlawful;
 
 ghost use Rattle.std.specs.Prelude.{◌≡◌, ℕ, ◌≤◌, ◌⊎◌, List, None, true, false, IfSome};
 ghost use Rattle.std.specs.Io.KnownBytes.{IsAtEnd};
@@ -17,28 +21,27 @@ ghost use Rattle.graph_reader.specs.Text.{GraphText};
 ghost use Rattle.graph_gen.specs.MadeGraph.{made_graph};
 ghost use Rattle.command_line.specs.Request.{request_of_words, Asks};
 ghost use Rattle.command_line.specs.declared.request.Request.{Request};
-ghost use Rattle.realm_top.specs.Answer.{reads, made_says, EndsByPaths, IsInput, Answers, AsksStatus, Delivered, IsDone, BrokenOff};
+ghost use Rattle.realm_top.specs.Answer.{reads, audits, made_says, EndsByPaths, IsInput, Answers, AsksStatus, IsDone};
+ghost use Rattle.realm_top.specs.AuditAnswer.{IsAudited};
+ghost use Rattle.realm_top.specs.Delivered.{Delivered, BrokenOff};
 ghost use Rattle.realm_top.specs.Status.{words_status, is_of_input, is_refusal};
 ghost use Rattle.realm_top.specs.declared.status.Status.{Status};
 
+use crate::actions::{input_limit, reads};
 use crate::input::{answer, put_text};
 use crate::making::answer_made;
 use crate::status::Status;
-use command_line::request::Action;
 use command_line::{WordsFault, read_words};
 use graph_model::laws::{cancelled_where_unbroken, needs_are_one, waits_where_reached};
-use graph_model::limits::MAX_TEXT;
 use graph_reader::laws::bytes_have_one_reading;
+use realm_audit::reading::text_tells_traces_apart;
 use realm_io::{Gate, ReadEnd, Sink, Source, read_all};
 use std::alloc::Global;
 use std::sync::Wait;
 use std::thread::Threads;
 
-// The most bytes that an input may have.
-const INPUT_LIMIT: u32 = MAX_TEXT as u32;
-
-/// Does what the words ask for. `run`, `check` and `eval` read a graph and check it; `make` reads
-/// nothing and makes a graph of the seed and the size.
+/// Does what the words ask for. `run`, `check`, `eval` and `timeline` read a graph and check it; `audit`
+/// reads a graph with a trace behind it; `make` reads nothing and makes a graph of the seed and the size.
 ///
 /// `words` are the program's name, the word of the action, and options. A graph is run by as many
 /// workers as they say. A worker passes the gate before it performs a line, and may wait there and for
@@ -51,17 +54,24 @@ pub fn realm<R: Threads + Wait + Sync, S: Source, K: Sink, G: Gate>(
     sink: &mut K,
     gate: &G,
 ) -> Status
-    // Done, of an action that reads, for every input, number of workers, gate and schedule: the input is the one
-    // text of an accepted graph, and the text of the action was written and flushed: for `run` and `eval` the report
-    // of the graph's one-thread evaluation, followed where it is asked for by a trace, for `run` a lawful one and
-    // for `eval` the evaluation's order; for `check` its need.
-    ensures done { result ≡ Status.Done → (request : Request) × Asks words.now request × (reads request.action ≡ true
+    // Done, of an action that reads a graph alone, for every input, number of workers, gate and schedule: the input is
+    // the one text of an accepted graph, and the text of the action was written and flushed: for `run` and `eval` the
+    // report of the graph's one-thread evaluation, followed where it is asked for by a trace, for `run` a lawful one and
+    // for `eval` the evaluation's order; for `check` its need; for `timeline` a plan with its certificate.
+    ensures done { result ≡ Status.Done → (request : Request) × Asks words.now request
+        × (reads request.action ≡ true → audits request.action ≡ false
         → IfSome (S.left source.old) (λ bytes. IsDone request bytes (K.state sink.old) (K.state sink.new))) }
 
     // Of that graph: a line waits exactly where one that never comes reaches it, and a line is cancelled exactly
     // where an unbroken path from a fault reaches it.
-    ensures paths { result ≡ Status.Done → (request : Request) × Asks words.now request × (reads request.action ≡ true
+    ensures paths { result ≡ Status.Done → (request : Request) × Asks words.now request
+        × (reads request.action ≡ true → audits request.action ≡ false
         → IfSome (S.left source.old) (λ bytes. (g : GraphValue) → GraphText bytes g → EndsByPaths g)) }
+
+    // Done, of `audit`: the input, cut after its first line that is exactly `end`, is the one text of an accepted graph
+    // and that of a lawful trace of it, and `lawful` was written and flushed.
+    ensures lawful { result ≡ Status.Done → (request : Request) × Asks words.now request × (audits request.action ≡ true
+        → IfSome (S.left source.old) (λ bytes. IsAudited bytes (K.state sink.old) (K.state sink.new))) }
 
     // And all of the input was read.
     ensures at_end { result ≡ Status.Done → (request : Request) × Asks words.now request × (reads request.action ≡ true
@@ -78,16 +88,19 @@ pub fn realm<R: Threads + Wait + Sync, S: Source, K: Sink, G: Gate>(
     ensures refused_words { request_of_words words.now ≡ None → (result ≡ Status.Usage) ⊎ (result ≡ Status.NoMemory) }
     ensures untouched { result ≡ Status.Usage → (source.new ≡ source.old) × (sink.new ≡ sink.old) }
 
-    // Unread, Unfit, Slots and TooLong: the input, or the graph that was made, asks for that status, and the text that
-    // says why was written and flushed: the first refused line with its first reason, the first rule that fails with
-    // the least lines, the need, or that more than 1,048,576 bytes were left.
+    // Unread, Unfit, Slots, TooLong and Unlawful: the input, or the graph that was made, asks for that status, and the
+    // text that says why was written and flushed: the first refused line with its first reason, the first rule that
+    // fails with the least lines, the need, that more was left than 1,048,576 bytes, and for `audit` than 2,097,152, or
+    // the first fault of the trace.
     ensures refused { is_refusal result ≡ true → (request : Request) × Asks words.now request
         × ((bytes : List ℕ) → IsInput request.action (S.left source.old) bytes
         → (out : List ℕ) × Answers request bytes result out × Delivered (K.state sink.old) (K.state sink.new) out) }
 
-    // Unread, Unfit, TooLong and ReadFault: only where the action reads.
+    // Unread, Unfit, TooLong, Unlawful and ReadFault: only where the action reads; Unlawful: only where it audits.
     ensures of_input { is_of_input result ≡ true
         → (request : Request) × Asks words.now request × (reads request.action ≡ true) }
+    ensures of_audit { result ≡ Status.Unlawful
+        → (request : Request) × Asks words.now request × (audits request.action ≡ true) }
 
     // ReadFault: a fault of reading was counted in this call, and nothing was written.
     ensures read_fault { result ≡ Status.ReadFault → Rose (S.faults source.old) (S.faults source.new) × (sink.new ≡ sink.old) }
@@ -114,6 +127,7 @@ pub fn realm<R: Threads + Wait + Sync, S: Source, K: Sink, G: Gate>(
     waits_where_reached();
     cancelled_where_unbroken();
     needs_are_one();
+    text_tells_traces_apart();
     let request = match read_words(alloc, words) {
         Ok(request) => request,
         Err(fault) => return words_status(fault),
@@ -121,7 +135,7 @@ pub fn realm<R: Threads + Wait + Sync, S: Source, K: Sink, G: Gate>(
     if !reads(request.action) {
         return answer_made(rt, alloc, request, sink, gate);
     }
-    match read_all(alloc, source, INPUT_LIMIT) {
+    match read_all(alloc, source, input_limit(request.action)) {
         Ok(bytes) => answer(rt, alloc, request, bytes.as_slice(), sink, gate),
         Err(ReadEnd::TooLong) => put_text(sink, b"input too long\n", Status::TooLong),
         Err(ReadEnd::ReadFault) => Status::ReadFault,
@@ -136,15 +150,5 @@ fn words_status(fault: WordsFault) -> Status
     match fault {
         WordsFault::Usage => Status::Usage,
         WordsFault::NoMemory => Status::NoMemory,
-    }
-}
-
-/// Whether an action reads a graph.
-fn reads(action: Action) -> bool
-    ensures { result ≡ reads action }
-{
-    match action {
-        Action::Run | Action::Check | Action::Eval => true,
-        Action::Make => false,
     }
 }

@@ -3,7 +3,8 @@
 ghost use Rattle.std.specs.Prelude.{◌≡◌, ℕ, ◌≤◌, ◌⊎◌, List};
 ghost use Rattle.graph_reader.specs.Text.{text};
 ghost use Rattle.graph_gen.specs.MadeGraph.{made_graph};
-ghost use Rattle.realm_top.specs.Answer.{MadeAnswered, Delivers};
+ghost use Rattle.realm_top.specs.Delivered.{Delivers, IsAnswered};
+ghost use Rattle.realm_top.specs.Answer.{MadeAnswers, audits};
 
 use crate::input::{flush, judge};
 use crate::status::Status;
@@ -25,9 +26,11 @@ pub(crate) fn answer_made<R: Threads + Wait + Sync, K: Sink, G: Gate>(
     sink: &mut K,
     gate: &G,
 ) -> Status
+    requires alone { audits request.action ≡ false }
     requires size { (1 ≤ request.size) × (request.size ≤ MAX_SIZE) }
     requires workers { request.workers ≤ MAX_WORKERS }
-    ensures answered { MadeAnswered request (K.state sink.old) (K.state sink.new) result }
+    ensures answered { IsAnswered (MadeAnswers request.text request (made_graph request.seed request.size))
+        (K.state sink.old) (K.state sink.new) result }
     ensures no_memory { result ≡ Status.NoMemory → sink.new ≡ sink.old }
 {
     made_graphs_are_accepted();

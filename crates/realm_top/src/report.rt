@@ -63,6 +63,21 @@ pub(crate) fn put_four<'a, K: Sink>(
     put_words(sink, &[first, second, third, fourth])
 }
 
+/// Writes a line of five words.
+pub(crate) fn put_five<'a, K: Sink>(
+    sink: &mut K,
+    first: &'a [u8],
+    second: &'a [u8],
+    third: &'a [u8],
+    fourth: &'a [u8],
+    fifth: &'a [u8],
+) -> Result<(), WriteFault>
+    ensures { Writes (K.state sink.old) (K.state sink.new) result
+        (spelled (first.now ∷ second.now ∷ third.now ∷ fourth.now ∷ fifth.now ∷ [])) }
+{
+    put_words(sink, &[first, second, third, fourth, fifth])
+}
+
 fn end_word(end: End) -> &'static [u8]
     ensures { result.now ≡ end_word end }
 {

@@ -10,7 +10,7 @@ pub enum Status {
     Done,
     /// The words name no action.
     Usage,
-    /// The input is no text that is read.
+    /// The input is no text that is read: not that of a graph, or behind it not that of a trace.
     Unread,
     /// The graph breaks a rule.
     Unfit,
@@ -22,8 +22,10 @@ pub enum Status {
     NoMemory,
     /// The run was given too few slots.
     Slots,
-    /// The input has more than 1,048,576 bytes.
+    /// The input has more bytes than the action takes: 1,048,576, and for `audit` 2,097,152.
     TooLong,
+    /// The trace is not lawful.
+    Unlawful,
 }
 
 impl Status {
@@ -41,6 +43,7 @@ impl Status {
             Status::NoMemory => 7,
             Status::Slots => 8,
             Status::TooLong => 9,
+            Status::Unlawful => 10,
         }
     }
 }

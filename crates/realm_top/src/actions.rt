@@ -1,0 +1,43 @@
+//! What actions read.
+
+ghost use Rattle.std.specs.Prelude.{◌≡◌};
+ghost use Rattle.realm_top.specs.Answer.{reads, audits, input_limit};
+
+use command_line::request::Action;
+use graph_model::limits::MAX_TEXT;
+
+// The most bytes of the text of a graph.
+const GRAPH_LIMIT: u32 = MAX_TEXT as u32;
+
+// The most bytes of the text of a graph with that of a trace behind it.
+const AUDIT_LIMIT: u32 = 2 * GRAPH_LIMIT;
+
+/// Whether an action reads an input.
+pub(crate) fn reads(action: Action) -> bool
+    ensures { result ≡ reads action }
+{
+    match action {
+        Action::Make => false,
+        _ => true,
+    }
+}
+
+/// Whether a trace stands in it behind the graph.
+pub(crate) fn audits(action: Action) -> bool
+    ensures { result ≡ audits action }
+{
+    match action {
+        Action::Audit => true,
+        _ => false,
+    }
+}
+
+/// The most bytes that it may have.
+pub(crate) fn input_limit(action: Action) -> u32
+    ensures { result ≡ input_limit action }
+{
+    match action {
+        Action::Audit => AUDIT_LIMIT,
+        _ => GRAPH_LIMIT,
+    }
+}
