@@ -7,3 +7,4 @@ pub mod MadeRequests
 pub mod Requests
 pub mod SummaryLines
 pub mod RunFacts
+pub mod UnlawfulLines

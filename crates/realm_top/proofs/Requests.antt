@@ -145,8 +145,11 @@ module _ (request : Request) (left : Option (List ℕ)) (s t : SinkState) (resul
       complete_as (Answers request xs) s t result status (λ wanted out b. one_by needs one tells request.action request xs wanted status out b asks) (all xs input) silent
 
 -- an input that was read to its end, one that is too long, and a graph that was made
+pub read_answered : (request : Request) (old new : Option (List ℕ)) (bs b : List ℕ) (s t : SinkState) (result : Status) → Consumes old new bs → IsAtEnd new → b ≡ bs → Answered request b s t result → (xs : List ℕ) → old ≡ Some xs → Answered request xs s t result
+read_answered request old new bs b s t result c e same a xs h = subst (λ x. Answered request x s t result) (same ∙ sym (all_read old new bs c e xs h)) a
+
 pub answered_input : (request : Request) → reads request.action ≡ true → (old new : Option (List ℕ)) (bs b : List ℕ) (s t : SinkState) (result : Status) → Consumes old new bs → IsAtEnd new → b ≡ bs → Answered request b s t result → AnsweredBy request old s t result
-answered_input request r old new bs b s t result c e same a xs i = subst (λ x. Answered request x s t result) (same ∙ sym (all_read old new bs c e xs (told request.action old xs r i))) a
+answered_input request r old new bs b s t result c e same a xs i = read_answered request old new bs b s t result c e same a xs (told request.action old xs r i)
 
 pub answered_long : (request : Request) → reads request.action ≡ true → (old : Option (List ℕ)) (s t : SinkState) (result : Status) → ((xs : List ℕ) → old ≡ Some xs → input_limit request.action < length xs) → Delivers s t TooLong result too_long_text → AnsweredBy request old s t result
 answered_long request r old s t result long d xs i = inr (TooLong, too_long_text, long_by request.action request xs r (long xs (told request.action old xs r i)), d)

@@ -1,13 +1,17 @@
 use Rattle.std.proofs.Common.{sym, subst, arith}
 use Rattle.graph_model.specs.meaning.Rules.{Accepted}
-use Rattle.realm_top.proofs.Delivering.{settled_served}
-use Rattle.realm_top.proofs.MadeRequests.{text_answered, serve_answered}
+use Rattle.graph_gen.specs.MadeGraph.{made_graph}
+use Rattle.realm_top.specs.Answer.{Served, Judged, MadeAnswers}
+use Rattle.realm_top.proofs.Delivering.{answered_by, judged_served}
+use Rattle.realm_top.proofs.MadeRequests.{text_made, served_made}
 use Rattle.realm_top.proofs.making.answer_made.Goals as goal
 
 pub returns-then-request-clause-answered : goal.returns-then-request-clause-answered
-returns-then-request-clause-answered g c = text_answered c.args.request _ _ c.put_made.result c.in-Ok.graph c.if-request.true c.in-Ok.ensures.graph c.put_made.ensures
+returns-then-request-clause-answered g c = text_made c.args.request _ _ c.put_made.result c.in-Ok.graph c.if-request.true c.in-Ok.ensures.graph c.put_made.ensures
 
 pub returns-else-request-clause-answered : goal.returns-else-request-clause-answered
 returns-else-request-clause-answered g c =
-    let accepted = subst Accepted (sym c.in-Ok.ensures.graph) (c.made_graphs_are_accepted.ensures c.args.request.seed c.args.request.size (omega arith) c.requires.size.0 c.requires.size.1) in
-    serve_answered c.args.request _ _ c.judge.result c.in-Ok.graph c.if-request.false c.in-Ok.ensures.graph (settled_served c.args.request c.in-Ok.graph _ _ c.judge.result accepted c.judge.ensures.settled)
+    let request = c.args.request in
+    let accepted = subst Accepted (sym c.in-Ok.ensures.graph) (c.made_graphs_are_accepted.ensures request.seed request.size (omega arith) c.requires.size.0 c.requires.size.1) in
+    answered_by (Judged request c.in-Ok.graph) _ _ c.judge.result (MadeAnswers request.text request (made_graph request.seed request.size))
+    (λ status out j. served_made request c.in-Ok.graph c.if-request.false c.in-Ok.ensures.graph status out (judged_served request c.in-Ok.graph accepted status out j)) c.judge.ensures.settled

@@ -1,0 +1,19 @@
+use Rattle.std.proofs.Common.{subst}
+use Rattle.graph_reader.specs.Reading.{IsRefusal}
+use Rattle.realm_top.specs.Refused.{Refuses}
+use Rattle.realm_top.specs.Answer.{InputAnswers, Judged}
+use Rattle.realm_top.proofs.Delivering.{answered_by, judged_input, refused_input}
+use Rattle.realm_top.proofs.input.answer_graph.Goals as goal
+
+pub returns-in-Ok-clause-answered : goal.returns-in-Ok-clause-answered
+returns-in-Ok-clause-answered g c =
+    let request = c.args.request in
+    let bytes = c.args.bytes.now in
+    answered_by (Judged request c.in-Ok.graph) _ _ c.judge.result (InputAnswers request bytes) (judged_input request bytes c.in-Ok.graph c.in-Ok.ensures.text) c.judge.ensures.settled
+
+pub returns-in-Err-clause-answered : goal.returns-in-Err-clause-answered
+returns-in-Err-clause-answered g c =
+    let request = c.args.request in
+    let bytes = c.args.bytes.now in
+    answered_by (Refuses bytes) _ _ c.refuse.result (InputAnswers request bytes) (refused_input request bytes c.requires.short)
+    (c.refuse.ensures.refused bytes (λ number why e. subst (IsRefusal bytes) e c.in-Err.ensures.refusal))
