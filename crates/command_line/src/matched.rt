@@ -13,13 +13,13 @@ use clap::ArgMatches;
 pub(crate) fn action_by_word(word: &str) -> Option<Action>
     ensures { result ≡ action_by_word word.now }
 {
-    match word.as_bytes() {
-        b"run" => Some(Action::Run),
-        b"check" => Some(Action::Check),
-        b"eval" => Some(Action::Eval),
-        b"make" => Some(Action::Make),
-        b"audit" => Some(Action::Audit),
-        b"timeline" => Some(Action::Timeline),
+    match word {
+        "run" => Some(Action::Run),
+        "check" => Some(Action::Check),
+        "eval" => Some(Action::Eval),
+        "make" => Some(Action::Make),
+        "audit" => Some(Action::Audit),
+        "timeline" => Some(Action::Timeline),
         _ => None,
     }
 }
@@ -28,9 +28,9 @@ pub(crate) fn action_by_word(word: &str) -> Option<Action>
 pub(crate) fn engine_by_word(word: &str) -> Option<Engine>
     ensures { result ≡ engine_by_word word.now }
 {
-    match word.as_bytes() {
-        b"words" => Some(Engine::Words),
-        b"lock" => Some(Engine::Lock),
+    match word {
+        "words" => Some(Engine::Words),
+        "lock" => Some(Engine::Lock),
         _ => None,
     }
 }

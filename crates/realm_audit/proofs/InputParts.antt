@@ -1,9 +1,9 @@
 -- Where an input of `audit` is cut.
-use Rattle.std.proofs.Common.{◌≡◌, ℕ, ◌+◌, ◌-◌, ◌≤◌, Bool, true, false, cond, List, [], ◌∷◌, ◌++◌, length, take, drop, refl, sym, ◌∙◌, ap, subst, length-append, take_all, arith}
+use Rattle.std.proofs.Common.{◌≡◌, ℕ, suc, ◌+◌, ◌-◌, ◌≤◌, Bool, true, false, cond, List, [], ◌∷◌, length, take, drop, refl, sym, ◌∙◌, ap, length-append, add-one, take_all, arith}
 use Rattle.std.specs.Prelude.{◌==◌, not, codes, sum_by, All}
-use Rattle.std.specs.List.{slice_split, before_first, prefix_len}
+use Rattle.std.specs.List.{before_first, prefix_len}
 use Rattle.std.specs.Str.{bytes_eq}
-use Rattle.std.proofs.lemmas.Bool.{cond-false, cond-true, or_parts}
+use Rattle.std.proofs.lemmas.Bool.{or_parts}
 use Rattle.std.proofs.lemmas.List.{drop_all}
 use Rattle.std.proofs.lemmas.List.Elements.{All-nil, All-cons}
 use Rattle.std.proofs.lemmas.List.Splits.{slice_split_at, slice_split_none}
@@ -12,10 +12,10 @@ use Rattle.std.proofs.lemmas.Slice.Eq.{bytes_eq-Decides}
 use Rattle.realm_audit.specs.Reading.{has_newline, IsFirstLine}
 use Rattle.realm_audit.specs.Parts.{lines_of, before_end, graph_bytes, trace_bytes}
 
-is_end : List ℕ → Bool
+abbrev is_end : List ℕ → Bool
 is_end line = bytes_eq line (codes "end")
 
-size_with : List ℕ → ℕ
+abbrev size_with : List ℕ → ℕ
 size_with line = length line + 1
 
 no_newlines : (line : List ℕ) → has_newline line ≡ false → All (λ b. (b == 10) ≡ false) line
@@ -35,15 +35,17 @@ before_it line lines e = ap (λ b. sum_by size_with (take (cond (not b) (1 + pre
 
 behind_it : (line : List ℕ) (lines : List (List ℕ)) → is_end line ≡ false → sum_by size_with (before_first is_end (line ∷ lines)) ≡ length line + 1 + sum_by size_with (before_first is_end lines)
 behind_it line lines e =
-    ap (λ b. sum_by size_with (take (cond (not b) (1 + prefix_len (λ x. not (is_end x)) lines) 0) (line ∷ lines))) e
-    ∙ sum_by-cons size_with line (before_first is_end lines)
+    let n : ℕ = prefix_len (λ x. not (is_end x)) lines in
+    let one : 1 + n ≡ suc n = omega arith in
+    ap (λ b. sum_by size_with (take (cond (not b) (1 + n) 0) (line ∷ lines))) e
+    ∙ (ap (λ k. sum_by size_with (take k (line ∷ lines))) one ∙ sum_by-cons size_with line (before_first is_end lines))
 
 -- how far the bytes were looked through
 abbrev pub LookedThrough : List ℕ → List ℕ → Type 0
 LookedThrough bytes rest = before_end bytes + length rest ≡ length bytes + before_end rest
 
 pub rest_size : (rest line after : List ℕ) → IsFirstLine rest line after → length rest ≡ length line + (length after + 1)
-rest_size rest line after f = ap length f.bytes_are ∙ length-append line (10 ∷ after)
+rest_size rest line after f = ap length f.bytes_are ∙ (length-append line (10 ∷ after) ∙ ap (λ n. length line + n) (sym (add-one (length after))))
 
 -- past a line that is not `end`
 pub past_line : (bytes rest line after : List ℕ) → LookedThrough bytes rest → IsFirstLine rest line after → bytes_eq line (codes "end") ≡ false → LookedThrough bytes after

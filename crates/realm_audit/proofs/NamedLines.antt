@@ -1,5 +1,5 @@
 -- The numbers of a refusal are a place of the trace and a line of the graph.
-use Rattle.std.proofs.Common.{◌≡◌, ℕ, ◌<◌, List, length, subst}
+use Rattle.std.proofs.Common.{ℕ, ◌<◌, List, length, subst}
 use Rattle.std.proofs.lemmas.Option.{slice_get_within}
 use Rattle.graph_model.specs.graph.Graph.{GraphValue}
 use Rattle.graph_model.specs.graph.Fits.{IsGraph}

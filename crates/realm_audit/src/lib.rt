@@ -5,13 +5,13 @@ mod acquires;
 mod ends;
 mod faults;
 mod holders;
+pub mod input_parts;
 pub mod lawful;
-pub mod parts;
 mod prefix;
 pub mod reading;
 pub mod refusal;
 
+pub use input_parts::parts;
 pub use lawful::audit;
-pub use parts::parts;
 pub use reading::{TraceRefusal, read_trace};
 pub use refusal::AuditRefusal;

@@ -1,6 +1,6 @@
 use Rattle.std.proofs.Common.{length, ◌≤◌}
 use Rattle.realm_audit.proofs.InputParts.{LookedThrough}
-use Rattle.realm_audit.proofs.parts.graph_size.Given as goal
+use Rattle.realm_audit.proofs.input_parts.graph_size.Given as goal
 
 abbrev pub invariant-loop-line : goal.invariant-loop-line
 invariant-loop-line l = record { so_far : LookedThrough l.bytes l.rest; within : length l.rest ≤ length l.bytes }
