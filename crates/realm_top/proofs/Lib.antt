@@ -2,7 +2,7 @@ pub mod WordLines
 pub mod ReportRest
 pub mod Fitting
 pub mod Delivering
-pub mod Auditing
+pub mod AuditAnswers
 pub mod MadeRequests
 pub mod Requests
 pub mod SummaryLines

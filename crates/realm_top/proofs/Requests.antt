@@ -22,7 +22,7 @@ use Rattle.realm_top.specs.Delivered.{Delivered, BrokenOff, Delivers, IsAnswered
 use Rattle.realm_top.specs.AuditAnswer.{AuditAnswers, IsAudited}
 use Rattle.realm_top.specs.Answer.{reads, audits, input_limit, made_says, InputAnswers, MadeAnswers, IsInput, AnswersBy, Answers, AsksBy, AsksStatus, Answered, IsDone}
 use Rattle.realm_top.proofs.Delivering.{one_answer, all_read, answered_as, refused_as, cut_off_as, complete_as, answered_by}
-use Rattle.realm_top.proofs.Auditing.{one_audit}
+use Rattle.realm_top.proofs.AuditAnswers.{one_audit}
 use Rattle.realm_top.proofs.MadeRequests.{made_one, not_made, done_says}
 
 -- BY THE ACTION: its answers are those to a graph alone, those of an audit, or those to a graph that is made

@@ -3,7 +3,7 @@ use Rattle.graph_reader.specs.Reading.{IsRefusal}
 use Rattle.realm_top.specs.Refused.{Refuses}
 use Rattle.realm_top.specs.AuditAnswer.{AuditAnswers, PartsAnswer}
 use Rattle.realm_top.proofs.Delivering.{answered_by}
-use Rattle.realm_top.proofs.Auditing.{parts_audit, refused_audit}
+use Rattle.realm_top.proofs.AuditAnswers.{parts_audit, refused_audit}
 use Rattle.realm_top.proofs.auditing.answer_audit.Goals as goal
 
 pub returns-in-Ok-clause-answered : goal.returns-in-Ok-clause-answered

@@ -1,7 +1,7 @@
 use Rattle.realm_top.specs.Refused.{Rejects}
 use Rattle.realm_top.specs.AuditAnswer.{PartsAnswer, TraceAnswers}
 use Rattle.realm_top.proofs.Delivering.{answered_by}
-use Rattle.realm_top.proofs.Auditing.{trace_parts, rejected_parts}
+use Rattle.realm_top.proofs.AuditAnswers.{trace_parts, rejected_parts}
 use Rattle.realm_top.proofs.auditing.audit_graph.Goals as goal
 
 pub returns-in-Ok-clause-settled : goal.returns-in-Ok-clause-settled

@@ -1,5 +1,5 @@
 -- What follows for the answers of `audit`.
-use Rattle.std.proofs.Common.{◌≡◌, ◌≢◌, ℕ, ◌<◌, ◌≤◌, List, length, refl, sym, ◌∙◌, ap, subst, inl, inr, arith}
+use Rattle.std.proofs.Common.{◌≡◌, ◌≢◌, ℕ, ◌+◌, ◌<◌, ◌≤◌, List, length, refl, sym, ◌∙◌, ap, subst, inl, inr, arith}
 use Rattle.std.specs.Prelude.{Some, ◌⊎◌}
 use Rattle.graph_model.specs.graph.Graph.{GraphValue}
 use Rattle.graph_model.specs.graph.Fits.{IsGraph}
@@ -8,12 +8,19 @@ use Rattle.graph_model.specs.meaning.Trace.{IsLawful}
 use Rattle.graph_reader.specs.Text.{GraphText}
 use Rattle.graph_reader.specs.Laws.{OneReading}
 use Rattle.realm_audit.specs.Parts.{graph_bytes, trace_bytes}
-use Rattle.realm_audit.specs.Reading.{TextTells}
+use Rattle.graph_reader.specs.FirstFault.{line_count}
+use Rattle.realm_trace.specs.Text.{trace_text}
+use Rattle.realm_io.specs.SinkState.{SinkState}
+use Rattle.realm_audit.specs.Reading.{TextTells, AreLines}
+use Rattle.realm_audit.specs.Reading as reading
+use Rattle.realm_audit.specs.Lawful as judging
+use Rattle.realm_audit.specs.declared.reading.TraceRefusal.TheVariants.{Line}
 use Rattle.realm_audit.specs.declared.refusal.AuditRefusal.{AuditRefusal}
 use Rattle.realm_audit.specs.declared.refusal.AuditRefusal.TheVariants as audit
 use Rattle.realm_top.specs.declared.status.Status.{Status}
 use Rattle.realm_top.specs.declared.status.Status.TheVariants.{Done, Unread, Unfit, WriteFault, TooLong, Unlawful}
-use Rattle.realm_top.specs.Texts.{unlawful_text}
+use Rattle.realm_top.specs.Texts.{unlawful_text, lawful_text, trace_refused_text}
+use Rattle.realm_top.specs.Delivered.{Delivers, IsAnswered}
 use Rattle.realm_top.specs.Refused.{Refuses, Rejects}
 use Rattle.realm_top.specs.AuditAnswer.{HasTrace, LawfulAnswers, TraceAnswers, PartsAnswer, ShortAnswers, AuditAnswers, PartsAsk, ShortAsks, AuditAsks}
 use Rattle.realm_top.proofs.Delivering.{text_or_refused, accepted_or_unfit}
@@ -26,6 +33,34 @@ fault_text g trace (audit.Source k j) n = (_, refl)
 fault_text g trace (audit.Overlap k q) n = (_, refl)
 fault_text g trace (audit.Missing j) n = (_, refl)
 fault_text g trace audit.NoMemory n = absurd (n refl)
+
+-- what was read behind a graph, and what was found of a trace, of a graph that is the same
+pub trace_of : (g h : GraphValue) (bytes trace : List ℕ) → g ≡ h → trace_text g trace ≡ bytes → AreLines g trace → HasTrace h bytes trace
+trace_of g h bytes trace e t l = subst (λ x. HasTrace x bytes trace) e (record { lines = l; text = t })
+
+pub no_trace_answered : (g h : GraphValue) (bytes : List ℕ) (number : ℕ) (s t : SinkState) (result : Status) → g ≡ h → reading.IsRefusal g bytes (Line number) → Delivers s t Unread result (trace_refused_text (line_count h + 1 + number)) → IsAnswered (TraceAnswers h bytes) s t result
+no_trace_answered g h bytes number s t result e r d = inr (Unread, trace_refused_text (line_count h + 1 + number), record { «number» = number; refused = subst (λ x. reading.IsRefusal x bytes (Line number)) e r; says = refl }, d)
+
+pub lawful_answered : (g h : GraphValue) (trace : List ℕ) (s t : SinkState) (result : Status) → g ≡ h → IsLawful g trace → Delivers s t Done result lawful_text → IsAnswered (LawfulAnswers h trace) s t result
+lawful_answered g h trace s t result e l d = inr (Done, lawful_text, (subst (λ x. IsLawful x trace) e l, refl), d)
+
+pub unlawful_answered : (g h k : GraphValue) (trace : List ℕ) (why : AuditRefusal) (s t : SinkState) (result : Status) → g ≡ h → k ≡ h → why ≢ audit.NoMemory → judging.IsRefusal g trace why → (IsLawful g trace → ⊥) →
+    ((out : List ℕ) → unlawful_text k trace why ≡ Some out → Delivers s t Unlawful result out) → IsAnswered (LawfulAnswers h trace) s t result
+unlawful_answered g h k trace why s t result e f ne r not d =
+    let text = fault_text k trace why ne in
+    inr (
+      Unlawful,
+      text.0,
+      (
+        subst (λ x. IsLawful x trace → ⊥) e not,
+        record {
+          «why» = why;
+          refused = subst (λ x. judging.IsRefusal x trace why) e r;
+          says = subst (λ x. unlawful_text x trace why ≡ Some text.0) f text.1;
+        },
+      ),
+      d text.0 text.1,
+    )
 
 -- FROM THE PARTS to the whole: what becomes of a trace, of the bytes behind a graph, and of the graph
 pub lawful_trace : (g : GraphValue) (bytes trace : List ℕ) → HasTrace g bytes trace → (status : Status) (out : List ℕ) → LawfulAnswers g trace status out → TraceAnswers g bytes status out
