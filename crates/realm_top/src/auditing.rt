@@ -1,6 +1,6 @@
 //! What is done by `audit`, whose input is the text of a graph with that of a trace behind it.
 
-ghost use Rattle.std.specs.Prelude.{◌≡◌, ◌≢◌, ℕ, ◌<◌, ◌≤◌, ◌^◌, List, length, Some};
+ghost use Rattle.std.specs.Prelude.{◌≡◌, ◌≢◌, ℕ, ◌+◌, ◌<◌, ◌≤◌, ◌^◌, List, length, Some};
 ghost use Rattle.realm_audit.specs.Lawful.{NamesLines};
 ghost use Rattle.realm_audit.specs.Reading.{AreLines};
 ghost use Rattle.realm_audit.specs.declared.refusal.AuditRefusal.{AuditRefusal};
