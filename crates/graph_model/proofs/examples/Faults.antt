@@ -9,7 +9,7 @@ use Rattle.graph_model.specs.graph.Fits.{line_fault}
 use Rattle.graph_model.proofs.examples.Graphs.{graph, line, wrapping_sum}
 
 -- a third arrival where two complete the phase
-wrapping_sum-full : line_fault wrapping_sum (line (codes "z") (Arrive 0 1) None) ≡ Some why.Arrivals
+wrapping_sum-full : line_fault wrapping_sum (line (codes "z") (Arrive 0 1 1) None) ≡ Some why.Arrivals
 unfolding digits
 wrapping_sum-full = refl
 
