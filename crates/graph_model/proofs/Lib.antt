@@ -24,6 +24,7 @@ pub mod LastPlace
 pub mod RowLaws
 pub mod RowReads
 pub mod Upgrade
+pub mod UpgradeMeaning
 pub mod CountLaws
 pub mod FaultLaws
 pub mod OrderLaws

@@ -6,14 +6,14 @@ use Rattle.graph_model.specs.declared.graph.verb.Access.{Access}
 use Rattle.graph_model.specs.declared.graph.verb.Edge.{Edge}
 use Rattle.graph_model.specs.declared.graph.verb.Mode.{Mode}
 use Rattle.graph_model.specs.declared.graph.verb.Mode.TheVariants.{Read, Write, Sum, Least, Most}
-use Rattle.graph_model.specs.graph.Graph.{GraphValue, never_comes, space_at}
+use Rattle.graph_model.specs.graph.Graph.{GraphValue, upgraded, never_comes, space_at}
 use Rattle.graph_model.specs.graph.Edges.{edges}
 use Rattle.graph_model.specs.meaning.Path.{HasPath, Reached}
 use Rattle.graph_model.specs.graph.Access.{accesses, is_reduction}
 use Rattle.graph_model.specs.meaning.Rules.{NoCycleAt, Everywhere, Accepted}
 use Rattle.graph_model.specs.meaning.Effect as change
 use Rattle.graph_model.specs.meaning.Effect.{Cells, Change, Add, CellChange, cells_after, effect}
-use Rattle.graph_model.specs.meaning.Evaluation.{Step, is_ended, is_cancelled, step_by, evaluation, order, eval_end, eval_changes, cells_of_lines, Unbroken}
+use Rattle.graph_model.specs.meaning.Evaluation.{Step, outcome, is_ended, is_cancelled, step_by, evaluation, order, eval_end, eval_changes, cells_of_lines, Unbroken}
 use Rattle.graph_model.specs.graph.Fits.{IsGraph}
 use Rattle.graph_model.specs.meaning.Need.{IsNeed}
 use Rattle.graph_model.specs.meaning.Trace.{ListsEnded, IsLawful, SectionsApart}
@@ -118,3 +118,7 @@ OneNeed = (g : GraphValue) (n m : ℕ) → IsNeed g n → IsNeed g m → n ≡ m
 -- in a lawful trace of an accepted graph the sections of one reservation never overlap
 abbrev pub SectionsNeverOverlap : Type 0
 SectionsNeverOverlap = (g : GraphValue) (trace : List ℕ) → IsGraph g → Accepted g → IsLawful g trace → SectionsApart g trace
+
+-- where a graph is accepted, the same graph in format 2 is too, with the same need and the same outcome
+abbrev pub UpgradeKeepsMeaning : Type 0
+UpgradeKeepsMeaning = (g : GraphValue) → (Accepted g → Accepted (upgraded g)) × ((n : ℕ) → IsNeed g n → IsNeed (upgraded g) n) × ((trace : List ℕ) → outcome (upgraded g) trace ≡ outcome g trace)
