@@ -9,7 +9,7 @@ use Rattle.graph_reader.proofs.LineShapes.{line_kind, found_passes}
 use Rattle.graph_reader.proofs.lines.read_line.Goals as goal
 
 pub kind_line-requires : goal.kind_line-requires
-kind_line-requires c = found_passes (λ k. is_of_form (map (λ (w : Bor (List ℕ)). w.now) c.args.words.now) (form_of k)) KINDS c.in-Some.kind (sym c.in-Some.ensures)
+kind_line-requires c = found_passes (λ k. is_of_form (c.args.graph.now).format (map (λ (w : Bor (List ℕ)). w.now) c.args.words.now) (form_of k)) KINDS c.in-Some.kind (sym c.in-Some.ensures)
 
 pub returns-in-Some : goal.returns-in-Some
 returns-in-Some c = subst (λ d. IsLineOf c.args.graph.now d c.kind_line.result)
