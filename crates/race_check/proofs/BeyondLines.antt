@@ -1,17 +1,13 @@
 -- At numbers that are no lines each rule holds.
 use Rattle.std.proofs.Common.{◌≡◌, ℕ, zero, suc, ◌<◌, ◌≤◌, ◌⊎◌, inl, inr, List, [], ◌∷◌, length, arith}
-use Rattle.std.specs.Prelude.{Contains, Some, option_map, slice_get}
-use Rattle.std.specs.Option.{option_map_or}
+use Rattle.std.specs.Prelude.{Some, slice_get}
 use Rattle.std.proofs.lemmas.Option.{none-some}
 use Rattle.race_sweeps.proofs.AccessSteps.{access_there}
-use Rattle.graph_model.specs.declared.graph.verb.Access.{Access}
 use Rattle.graph_model.specs.declared.graph.verb.Line.{Line}
 use Rattle.graph_model.specs.graph.Graph.{GraphValue, is_acquire_of}
 use Rattle.graph_model.specs.graph.Edges.{edges}
 use Rattle.graph_model.specs.meaning.Path.{HasPath}
-use Rattle.graph_model.specs.graph.Access.{verb_accesses}
 use Rattle.graph_model.specs.meaning.Rules.{ReleasedAt, SectionAt, DescendsAt, ReleaseFaultAt, RaceAt}
-use Rattle.basics.proofs.ListFacts.{contains_none}
 use Rattle.graph_model.proofs.PathTable.{path_below}
 use Rattle.graph_model.proofs.VerbFacts.{passes_below}
 use Rattle.race_check.specs.Paths.{EdgesBetween}

@@ -5,8 +5,8 @@ use crate::row::{Row, run_texts};
 use realm_top::status::Status;
 use std::test::Fail;
 use test_texts::graphs::{
-    CANCELLED_BARRIER, EMPTY, FAULTY_PATHS, KERNELS, LOCKED_SUMS, NINE_WAITERS, NO_TRIGGER,
-    WAITER_ABOVE_TRIGGER,
+    CANCELLED_BARRIER, EMPTY, FAULTY_PATHS, KERNELS, LOCKED_MAXIMA, LOCKED_SUMS, NINE_WAITERS,
+    NO_TRIGGER, WAITER_ABOVE_TRIGGER,
 };
 
 /// What writes a report: each engine, and the evaluation.
@@ -117,6 +117,14 @@ const ALL_DONE: &[(&[&str], &str, &str)] = &[
         ],
         LOCKED_SUMS,
         LOCKED_SUMS_CELLS,
+    ),
+    (
+        RUNS,
+        LOCKED_MAXIMA,
+        "cells a.x 0..1 3 3\n\
+         cells a.y 0..1 4 4\n\
+         cells a.z 0..1 4 4\n\
+         done\n",
     ),
     (
         &[

@@ -80,6 +80,23 @@ pub const LOCKED_SUMS: &str = "realm 1\n\
     t = release k on n\n\
     end\n";
 
+/// Reductions by the greatest value under one reservation.
+pub const LOCKED_MAXIMA: &str = "realm 2\n\
+    space s 0..1\n\
+    inst a s x,y,z\n\
+    lock l\n\
+    f = fill a.x s 3\n\
+    g = fill a.y s 4\n\
+    q = acquire l on f\n\
+    d = reduce max a.x a.z s on q\n\
+    m = mergei d\n\
+    r = release q on m\n\
+    k = acquire l on g\n\
+    e = reduce max a.y a.z s on k\n\
+    n = mergei e\n\
+    t = release k on n\n\
+    end\n";
+
 /// Two sections of one reservation: each release may let either acquire go on.
 pub const TWO_SECTIONS: &str = "realm 1\n\
     lock l\n\
