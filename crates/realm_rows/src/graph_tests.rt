@@ -5,8 +5,8 @@ use crate::row::{Row, run_texts};
 use realm_top::status::Status;
 use std::test::Fail;
 use test_texts::graphs::{
-    CANCELLED_BARRIER, EMPTY, FAULTY_PATHS, KERNELS, LOCKED_MAXIMA, LOCKED_SUMS, NINE_WAITERS,
-    NO_TRIGGER, WAITER_ABOVE_TRIGGER,
+    CANCELLED_BARRIER, EMPTY, FAULTY_PATHS, KERNELS, LOCKED_MAXIMA, LOCKED_SUMS, MISSING_WEIGHT,
+    NINE_WAITERS, NO_TRIGGER, WAITER_ABOVE_TRIGGER, WEIGHTED_ARRIVALS,
 };
 
 /// What writes a report: each engine, and the evaluation.
@@ -86,6 +86,14 @@ const REPORTS: &[(&str, &str)] = &[
          phase p1 -\n\
          done\n",
     ),
+    (
+        MISSING_WEIGHT,
+        "realm-report 1\n\
+         op p waiting pending\n\
+         op v done triggered\n\
+         phase p -\n\
+         done\n",
+    ),
 ];
 
 /// Command lines over texts whose lines are all done, with what follows their ends in the report.
@@ -147,6 +155,8 @@ const ALL_DONE: &[(&[&str], &str, &str)] = &[
         "phase p 5\n\
          done\n",
     ),
+    (RUNS, WEIGHTED_ARRIVALS, "phase p 6\n\
+         done\n"),
     // two fills of the same cells, the second on the first
     (
         RUNS,

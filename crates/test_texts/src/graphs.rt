@@ -35,6 +35,21 @@ pub const CANCELLED_BARRIER: &str = "realm 1\n\
     c = cancel u\n\
     end\n";
 
+/// A phase of three, at which one arrival of weight 2 and one of weight 1 arrive.
+pub const WEIGHTED_ARRIVALS: &str = "realm 2\n\
+    barrier b 3 sum 0\n\
+    p = phase b\n\
+    v = arrive p 5 times 2\n\
+    w = arrive p 1\n\
+    end\n";
+
+/// The same phase with the arrival of weight 2 alone: it waits.
+pub const MISSING_WEIGHT: &str = "realm 2\n\
+    barrier b 3 sum 0\n\
+    p = phase b\n\
+    v = arrive p 5 times 2\n\
+    end\n";
+
 /// Each kernel once, and two reductions.
 pub const KERNELS: &str = "realm 1\n\
     space s 0..3\n\
