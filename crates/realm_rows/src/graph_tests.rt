@@ -86,6 +86,33 @@ const REPORTS: &[(&str, &str)] = &[
          phase p1 -\n\
          done\n",
     ),
+    // arrivals whose weights add up to the count, and to less
+    (
+        "realm 2\n\
+         barrier b 3 sum 0\n\
+         p = phase b\n\
+         v = arrive p 5 times 2\n\
+         w = arrive p 1\n\
+         end\n",
+        "realm-report 1\n\
+         op p done triggered\n\
+         op v done triggered\n\
+         op w done triggered\n\
+         phase p 6\n\
+         done\n",
+    ),
+    (
+        "realm 2\n\
+         barrier b 3 sum 0\n\
+         p = phase b\n\
+         v = arrive p 5 times 2\n\
+         end\n",
+        "realm-report 1\n\
+         op p waiting pending\n\
+         op v done triggered\n\
+         phase p -\n\
+         done\n",
+    ),
 ];
 
 /// Command lines over texts whose lines are all done, with what follows their ends in the report.
