@@ -1,6 +1,6 @@
 -- The faults at a place, by what is kept of the items before it.
 use Rattle.std.proofs.Common.{◌≡◌, ℕ, ◌+◌, ◌≤◌, min, true, false, inl, inr, List, length, refl, sym, ◌∙◌, ap, subst, arith}
-use Rattle.std.specs.Prelude.{◌≢◌, ◌↔◌, ◌==◌, Bool, Contains, Option, Some, None, MatchOption, slice_get}
+use Rattle.std.specs.Prelude.{◌↔◌, ◌==◌, Bool, Contains, Option, Some, None, MatchOption, slice_get}
 use Rattle.std.specs.Option.{option_map_or}
 use Rattle.std.proofs.lemmas.Bool.{true≢false, false_from_ne_true, cases_eq, cases_lt}
 use Rattle.std.proofs.lemmas.Option.{same_Some}
