@@ -12,7 +12,7 @@ use Rattle.graph_model.specs.meaning.Effect.{cell_after, reduced}
 use Rattle.graph_model.specs.meaning.HeldCells.{HoldsOver}
 
 -- a reduction of two cells is what the change leaves
-pub reduced_is : (o : Op) (a b : ℕ) → reduced_cell o a b ≡ cell_after (reduced o a b) a
+pub reduced_is : (o : Op) (a b : ℕ) → reduced_cell o a b ≡ cell_after (reduced o b) a
 reduced_is op.Sum a b = refl
 reduced_is op.Min a b = refl
 reduced_is op.Max a b = refl

@@ -12,7 +12,7 @@ use Rattle.graph_model.specs.declared.graph.verb.Mode.TheVariants as mode
 use Rattle.graph_model.specs.declared.graph.verb.Verb.TheVariants as verb
 use Rattle.graph_model.specs.graph.Graph.{GraphValue, is_phase, is_acquire_of, is_release_of, is_merge_ignore, line_passes}
 use Rattle.graph_model.specs.meaning.Path.{Path, HasPath, last, first}
-use Rattle.graph_model.specs.graph.Access.{access, verb_accesses, modes_clash, AccessesConflict}
+use Rattle.graph_model.specs.graph.Access.{access, modes_clash, AccessesConflict}
 use Rattle.graph_model.specs.graph.Edges.{edge}
 use Rattle.graph_model.specs.meaning.Rules.{Releases, Section, modes_commute, Exempt, NoCycleAt, ReleasedAt, SectionAt, DescendsAt, ReleaseFaultAt, RaceAt, Everywhere, EverywhereTwice, Accepted}
 use Rattle.basics.proofs.ListFacts.{contains_cases, contains_none}
@@ -20,7 +20,7 @@ use Rattle.graph_model.proofs.PathLaws.{path_append}
 use Rattle.graph_gen.specs.MadeGraph.{next_state, row_lines, total_column, made_line, Made, unmade, drawn, after_draws, made_graph}
 use Rattle.graph_gen.proofs.Standing.{lined}
 use Rattle.graph_gen.proofs.Draws.{next_draw, next_row, draw_column, draw_other, Kept, kept_draws, one_more_is, stays}
-use Rattle.graph_gen.proofs.AddedLines.{verb_in, uses_in, edges_in, old_or_new, UpTo, last_edge}
+use Rattle.graph_gen.proofs.AddedLines.{verb_in, uses_of, uses_in, edges_in, old_or_new, UpTo, last_edge}
 use Rattle.graph_gen.proofs.Shapes.{weight, Held, Shape, shape_more}
 use Rattle.graph_gen.proofs.RowShapes.{row_shape}
 use Rattle.graph_gen.proofs.Columns.{Ordered, row_ordered}
@@ -100,7 +100,7 @@ module _ (ls : List Line) (shape : Shape ls) where
   -- what the sum of a section uses
   sum_uses : (q i : ℕ) (a : Access) → Held ls q → i ≡ q + 1 → Contains (uses_in ls i) a → ((a.mode ≡ mode.Read) × (a.column < 8)) ⊎ ((a.mode ≡ mode.Sum) × (a.column ≡ 8))
   sum_uses q i a h at c =
-      elim (contains_cases (access h.column 0 mode.Read) (access total_column 0 mode.Sum ∷ []) a (subst (λ v. Contains (option_map_or verb_accesses v []) a) (ap (verb_in ls) at ∙ h.sum) c)) [
+      elim (contains_cases (access h.column 0 mode.Read) (access total_column 0 mode.Sum ∷ []) a (subst (λ v. Contains (uses_of v) a) (ap (verb_in ls) at ∙ h.sum) c)) [
         | inl e ↦ inl (ap (λ (x : Access). x.mode) (sym e), subst (λ (x : Access). x.column < 8) e h.small)
         | inr r ↦ elim (contains_cases (access total_column 0 mode.Sum) [] a r) [ inl e ↦ inr (ap (λ (x : Access). x.mode) (sym e), ap (λ (x : Access). x.column) (sym e)) | inr none ↦ absurd (contains_none a none) ]
       ]
@@ -130,7 +130,7 @@ module _ (ls : List Line) (shape : Shape ls) where
 
   exempt : (q r i j : ℕ) → Held ls q → i ≡ q + 1 → Held ls r → j ≡ r + 1 → i < j → Exempt g i j
   exempt q r i j h e k f less = record {
-    sums = commute q r i j h e k f;
+    commute = commute q r i j h e k f;
     lock = 0;
     one = q;
     other = r;

@@ -1,14 +1,15 @@
 -- What stands where lines are added to lines: each line, each edge and each path.
-use Rattle.std.proofs.Common.{◌≡◌, ℕ, zero, suc, ◌+◌, ◌-◌, ◌<◌, ◌⊎◌, inl, inr, List, [], ◌∷◌, ◌++◌, length, refl, sym, ◌∙◌, ap, subst, append_assoc, append-nil, arith}
+use Rattle.std.proofs.Common.{◌≡◌, ℕ, zero, suc, ◌+◌, ◌-◌, ◌<◌, ◌⊎◌, inl, inr, List, [], ◌∷◌, ◌++◌, length, map, refl, sym, ◌∙◌, ap, subst, append_assoc, append-nil, arith}
 use Rattle.std.specs.Prelude.{Contains, Option, slice_get, option_map}
 use Rattle.std.specs.Option.{option_map_or}
 use Rattle.std.proofs.lemmas.Bool.{cases_order}
 use Rattle.std.proofs.lemmas.List.Elements.{Contains-append_left, Contains-append_right, Contains-append_cases}
+use Rattle.graph_model.specs.declared.graph.format.Format.TheVariants.{One}
 use Rattle.graph_model.specs.declared.graph.verb.Access.{Access}
 use Rattle.graph_model.specs.declared.graph.verb.Edge.{Edge}
 use Rattle.graph_model.specs.declared.graph.verb.Line.{Line}
 use Rattle.graph_model.specs.declared.graph.verb.Verb.{Verb}
-use Rattle.graph_model.specs.graph.Access.{verb_accesses}
+use Rattle.graph_model.specs.graph.Access.{verb_accesses, in_format}
 use Rattle.graph_model.specs.graph.Edges.{line_edges, edges_after}
 use Rattle.graph_model.specs.meaning.Path.{Path, last, first}
 
@@ -16,8 +17,12 @@ use Rattle.graph_model.specs.meaning.Path.{Path, last, first}
 abbrev pub verb_in : List Line → ℕ → Option Verb
 verb_in ls i = option_map (λ (l : Line). l.verb) (slice_get ls i)
 
+-- format 1 takes reductions by least and greatest values for writes
+abbrev pub uses_of : Option Verb → List Access
+uses_of v = map (in_format One) (option_map_or verb_accesses v [])
+
 abbrev pub uses_in : List Line → ℕ → List Access
-uses_in ls i = option_map_or verb_accesses (verb_in ls i) []
+uses_in ls i = uses_of (verb_in ls i)
 
 abbrev pub edges_in : List Line → List Edge
 edges_in ls = edges_after [] ls

@@ -1,7 +1,6 @@
 -- The lines that use a column stand on one chain, at whose end its last line is.
 use Rattle.std.proofs.Common.{◌≡◌, ℕ, zero, suc, ◌+◌, ◌<◌, Bool, true, false, cond, ◌⊎◌, inl, inr, List, [], ◌∷◌, ◌++◌, length, refl, sym, ◌∙◌, ap, subst, arith}
 use Rattle.std.specs.Prelude.{◌≢◌, ◌==◌, Contains, Option, Some, None, IsTrue, slice_set}
-use Rattle.std.specs.Option.{option_map_or}
 use Rattle.std.proofs.lemmas.Bool.{true≢false, cases_Bool, cases_order, eqb-true}
 use Rattle.std.proofs.lemmas.Option.{none-some, same_Some}
 use Rattle.std.proofs.lemmas.List.{get_or-set_other, length-set}
@@ -11,7 +10,7 @@ use Rattle.graph_model.specs.declared.graph.verb.Edge.{Edge}
 use Rattle.graph_model.specs.declared.graph.verb.EdgeKind.TheVariants.{Passes, Ignores}
 use Rattle.graph_model.specs.declared.graph.verb.Line.{Line}
 use Rattle.graph_model.specs.declared.graph.verb.Mode.TheVariants as mode
-use Rattle.graph_model.specs.graph.Access.{access, verb_accesses}
+use Rattle.graph_model.specs.graph.Access.{access}
 use Rattle.graph_model.specs.graph.Edges.{edge}
 use Rattle.graph_model.specs.graph.Fits.{on_lines}
 use Rattle.graph_model.specs.meaning.Path.{Path, last, first}
@@ -21,7 +20,7 @@ use Rattle.graph_gen.specs.declared.draw.Row.{Row}
 use Rattle.graph_gen.specs.declared.draw.Row.TheVariants.{Fill, Iota, Expect, Settle, Copy, Sum, Event, Section}
 use Rattle.graph_gen.specs.declared.draw.Draw.{Draw}
 use Rattle.graph_gen.specs.MadeGraph.{last_of, merged, row_lines, lasts_after, total_column}
-use Rattle.graph_gen.proofs.AddedLines.{uses_in, edges_in, old_or_new, verb_old, verb_new, edge_old, path_more, UpTo}
+use Rattle.graph_gen.proofs.AddedLines.{uses_of, uses_in, edges_in, old_or_new, verb_old, verb_new, edge_old, path_more, UpTo}
 use Rattle.graph_gen.proofs.RowEdges.{row_sources, row_waits, row_kind, inner_edge, waits_edge}
 
 -- a line uses a column
@@ -208,12 +207,12 @@ module _ (d : Draw) (column : d.column < 8) (other : d.other < 8) (lasts : List 
   ]
 
   touch_old : (row : Row) (i c : ℕ) → i < n → Touches (all row) i c → Touches ls i c
-  touch_old row i c h t = (t.0, subst (λ v. Contains (option_map_or verb_accesses v []) t.0) (verb_old ls (row_lines row d lasts n) i h) t.1, t.2)
+  touch_old row i c h t = (t.0, subst (λ v. Contains (uses_of v) t.0) (verb_old ls (row_lines row d lasts n) i h) t.1, t.2)
 
   -- a line of the row uses a column
   touch_new : (row : Row) (i k c : ℕ) → i ≡ n + k → c < 8 → Touches (all row) i c → (i ≡ row_touch row n) × Moves row d c
   touch_new row i k c e small t =
-      let is = touch_is d column other lasts wide n row k c small (t.0, subst (λ v. Contains (option_map_or verb_accesses v []) t.0) (verb_new ls (row_lines row d lasts n) i k e) t.1, t.2) in
+      let is = touch_is d column other lasts wide n row k c small (t.0, subst (λ v. Contains (uses_of v) t.0) (verb_new ls (row_lines row d lasts n) i k e) t.1, t.2) in
       (e ∙ is.0, is.1)
 
   module _ (row : Row) (before : Ordered ls lasts) where

@@ -4,6 +4,8 @@ use Rattle.std.specs.Prelude.{Option, Some, None, nat_lt, replicate}
 use Rattle.std.specs.Fmt.{digits}
 use Rattle.std.proofs.lemmas.Bool.{lt-ltb, ltb-true, ltb-false}
 use Rattle.std.proofs.lemmas.Option.{none-some}
+use Rattle.graph_model.specs.declared.graph.format.Format.{Format}
+use Rattle.graph_model.specs.declared.graph.format.Format.TheVariants.{One}
 use Rattle.graph_model.specs.declared.graph.verb.Line.{Line}
 use Rattle.graph_model.specs.declared.graph.decl.Decl.{Decl}
 use Rattle.graph_model.specs.graph.Fits.{DeclsFit, LinesFit, IsGraph}
@@ -17,7 +19,7 @@ use Rattle.graph_gen.proofs.Rows.{LastsStand, row_size, row_fits, row_lasts}
 -- what holds between two draws
 pub record Kept (size : ℕ) (m : Made) : Type 0 where
   pub standing : Standing m.lines
-  pub fits : LinesFit made_decls [] m.lines
+  pub fits : LinesFit One made_decls [] m.lines
   pub lasts : LastsStand m.lasts (length m.lines)
   pub wide : length m.lasts ≡ 8
   pub state : m.state < 2 ^ 64
@@ -45,9 +47,9 @@ unmade_kept seed size h = record {
   few = omega arith;
 }
 
-lines_join : (decls : List Decl) (a b c : List Line) → LinesFit decls a b → LinesFit decls (a ++ b) c → LinesFit decls a (b ++ c)
-lines_join decls a [] c f g = subst (λ x. LinesFit decls x c) (append-nil a) g
-lines_join decls a (l ∷ b) c f g = (f.0, f.1, lines_join decls (a ++ l ∷ []) b c f.2 (subst (λ x. LinesFit decls x c) (sym (append_assoc a (l ∷ []) b)) g))
+lines_join : (fm : Format) (decls : List Decl) (a b c : List Line) → LinesFit fm decls a b → LinesFit fm decls (a ++ b) c → LinesFit fm decls a (b ++ c)
+lines_join fm decls a [] c f g = subst (λ x. LinesFit fm decls x c) (append-nil a) g
+lines_join fm decls a (l ∷ b) c f g = (f.0, f.1, lines_join fm decls (a ++ l ∷ []) b c f.2 (subst (λ x. LinesFit fm decls x c) (sym (append_assoc a (l ∷ []) b)) g))
 
 -- the row that is taken is open
 taken_open : (d : Draw) (lasts : List (Option ℕ)) (left : ℕ) → is_open (row_taken d lasts left) d lasts left ≡ true
@@ -103,7 +105,7 @@ module _ (size : ℕ) (most : size ≤ 8192) (m : Made) (kept : Kept size m) (le
       let lasts = row_lasts row d m.lasts (length m.lines) (draw_column m) (draw_other m) kept.wide kept.lasts in
       record {
         standing = drawn_fits.standing;
-        fits = lines_join made_decls [] m.lines (row_lines row d m.lasts (length m.lines)) kept.fits drawn_fits.lines;
+        fits = lines_join One made_decls [] m.lines (row_lines row d m.lasts (length m.lines)) kept.fits drawn_fits.lines;
         lasts = subst (λ k. LastsStand (drawn size d x m).lasts k) (sym all) lasts.0;
         wide = lasts.1;
         state = small;
@@ -139,7 +141,7 @@ kept_draws seed size h k (suc n) =
           (subst (Kept size) (sym e) so.0, inr (subst (λ (z : Made). size ≤ length z.lines) (sym e) full)))
     ]
 
-pub decls_fit : DeclsFit [] made_decls
+pub decls_fit : DeclsFit One [] made_decls
 unfolding digits
 decls_fit = ((refl, (lit< tt, (lit≤ tt, lit≤ tt, lit< tt, tt))), refl, ((refl, lit< tt, (refl, tt)), refl, ((refl, lit< tt, (refl, tt)), refl, ((refl, lit< tt, (refl, tt)), refl, ((refl, lit< tt, (refl, tt)), refl, ((refl, lit< tt, (refl, tt)), refl, ((refl, lit< tt, (refl, tt)), refl, ((refl, lit< tt, (refl, tt)), refl, ((refl, lit< tt, (refl, tt)), refl, ((refl, lit< tt, (refl, tt)), refl, (refl, refl, tt)))))))))))
 

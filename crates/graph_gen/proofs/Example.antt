@@ -2,6 +2,7 @@
 use Rattle.std.specs.Prelude.{◌≡◌, ◌/◌, ◌^◌, [], ◌∷◌, None, codes}
 use Rattle.std.proofs.Common.{refl}
 use Rattle.std.specs.Fmt.{digits}
+use Rattle.graph_model.specs.declared.graph.format.Format.TheVariants.{One}
 use Rattle.graph_model.specs.declared.graph.verb.Verb.TheVariants.{Fill}
 use Rattle.graph_gen.specs.declared.draw.Row.TheVariants.{Copy}
 use Rattle.graph_gen.specs.MadeGraph.{made_decls, next_state, draw_of, made_graph}
@@ -17,6 +18,6 @@ first_draw : draw_of (next_state 1) ≡ record { row = Copy; column = 5; other =
 first_draw = refl
 
 -- no last line is there, so that the column is filled
-pub first_graph : made_graph 1 1 ≡ record { decls = made_decls; lines = record { name = codes "o0"; verb = Fill 5 0 27735; on = None } ∷ [] }
+pub first_graph : made_graph 1 1 ≡ record { format = One; decls = made_decls; lines = record { name = codes "o0"; verb = Fill 5 0 27735; on = None } ∷ [] }
 unfolding digits
 first_graph = refl

@@ -2,6 +2,8 @@
 use Rattle.std.proofs.Common.{◌≡◌, ℕ, ◌+◌, ◌-◌, ◌<◌, ◌≤◌, ◌^◌, List, [], ◌∷◌, ◌++◌, length, map, sym, ◌∙◌, ap, ap₂, subst, codes, arith}
 use Rattle.std.proofs.lemmas.List.FromFn.{map-range_with_len_more}
 use Rattle.basics.specs.Lists.{numbers_below}
+use Rattle.graph_model.specs.declared.graph.format.Format.{Format}
+use Rattle.graph_model.specs.declared.graph.format.Format.TheVariants.{One}
 use Rattle.graph_model.specs.declared.graph.decl.Decl.{Decl}
 use Rattle.graph_model.specs.declared.graph.decl.Decl.TheVariants.{Space}
 use Rattle.graph_model.specs.declared.graph.verb.Line.{Line}
@@ -23,13 +25,13 @@ pub kept_by : (size : ℕ) (m : Made) → size ≤ 8192 → (seed n : ℕ) → s
 kept_by size m k seed n h e = subst (Kept size) (sym e) ((kept_draws seed size h k n).0)
 
 -- the lines of the row that is taken fit
-pub row_fits_here : (size : ℕ) (m : Made) (decls : List Decl) (ls : List Line) (row : Row) (d : Draw) (x begin : ℕ) → size ≤ 8192 → Kept size m → length m.lines < size → decls ≡ made_decls → x ≡ next_state m.state → d ≡ draw_of x → begin ≡ length m.lines →
-    row ≡ row_taken d m.lasts (size - begin) → ls ≡ row_lines row d m.lasts begin → LinesFit decls m.lines ls
-row_fits_here size m decls ls row d x begin most kept left de xe dd be re le =
+pub row_fits_here : (size : ℕ) (m : Made) (fm : Format) (decls : List Decl) (ls : List Line) (row : Row) (d : Draw) (x begin : ℕ) → size ≤ 8192 → Kept size m → length m.lines < size → fm ≡ One → decls ≡ made_decls → x ≡ next_state m.state → d ≡ draw_of x → begin ≡ length m.lines →
+    row ≡ row_taken d m.lasts (size - begin) → ls ≡ row_lines row d m.lasts begin → LinesFit fm decls m.lines ls
+row_fits_here size m fm decls ls row d x begin most kept left fe de xe dd be re le =
     let dx : d ≡ draw_of (next_state m.state) = dd ∙ ap draw_of xe in
     let rx : row ≡ row_taken (draw_of (next_state m.state)) m.lasts (size - length m.lines) = re ∙ ap₂ (λ y f. row_taken y m.lasts (size - f)) dx be in
     let lx = le ∙ (ap₂ (λ r y. row_lines r y m.lasts begin) rx dx ∙ ap (λ f. row_lines (row_taken (draw_of (next_state m.state)) m.lasts (size - length m.lines)) (draw_of (next_state m.state)) m.lasts f) be) in
-    subst (λ z. LinesFit z m.lines ls) (sym de) (subst (LinesFit made_decls m.lines) (sym lx) (drawn_fits size most m kept left).lines)
+    subst (λ z. LinesFit z decls m.lines ls) (sym fe) (subst (λ z. LinesFit One z m.lines ls) (sym de) (subst (LinesFit One made_decls m.lines) (sym lx) (drawn_fits size most m kept left).lines))
 
 -- a draw that is made while fewer lines stand than the size adds a line
 pub grows : (seed size n count : ℕ) (m k : Made) → seed < 2 ^ 64 → size ≤ 8192 → m ≡ after_draws seed size n → count ≡ length m.lines → count < size → k ≡ one_more size m → length m.lines + 1 ≤ length k.lines
@@ -39,9 +41,9 @@ grows seed size n count m k h most e is less made =
     subst (λ (z : Made). length m.lines + 1 ≤ length z.lines) (sym (made ∙ one_more_is size most m kept left)) (drawn_grows size most m kept left)
 
 -- where all lines stand, the graph is the one that was to be made
-pub whole : (seed size n : ℕ) (m : Made) (g : GraphValue) → seed < 2 ^ 64 → size ≤ 8192 → m ≡ after_draws seed size n → n ≤ length m.lines → size ≤ length m.lines → g.decls ≡ made_decls → g.lines ≡ m.lines → g ≡ made_graph seed size
-whole seed size n m g h most e b full de le =
+pub whole : (seed size n : ℕ) (m : Made) (g : GraphValue) → seed < 2 ^ 64 → size ≤ 8192 → m ≡ after_draws seed size n → n ≤ length m.lines → size ≤ length m.lines → g.format ≡ One → g.decls ≡ made_decls → g.lines ≡ m.lines → g ≡ made_graph seed size
+whole seed size n m g h most e b full fe de le =
     let kept = kept_by size m most seed n h e in
     let few = kept.few in
     let same = full_is_made seed size n (omega arith) (subst (λ (z : Made). size ≤ length z.lines) e full) in
-    ap₂ (λ ds ls. record { decls = ds; lines = ls }) de (le ∙ ap (λ (z : Made). z.lines) (e ∙ sym same))
+    ap₂ (λ fm ds. record { format = fm; decls = ds; lines = g.lines }) fe de ∙ ap (λ ls. record { format = One; decls = made_decls; lines = ls }) (le ∙ ap (λ (z : Made). z.lines) (e ∙ sym same))

@@ -1,6 +1,6 @@
 -- The lines of a row keep the shape of the lines that stand.
 use Rattle.std.proofs.Common.{◌≡◌, ℕ, zero, suc, ◌+◌, ◌*◌, ◌<◌, ◌≤◌, Bool, true, false, cond, ◌⊎◌, inl, inr, List, [], ◌∷◌, ◌++◌, length, refl, sym, ◌∙◌, ap, subst, arith}
-use Rattle.std.specs.Prelude.{Contains, Option}
+use Rattle.std.specs.Prelude.{Contains, Option, Some}
 use Rattle.std.specs.Option.{option_map_or}
 use Rattle.std.specs.List.{list_any, AllByRecursion}
 use Rattle.std.proofs.lemmas.Bool.{true≢false, eqb-true, or_parts}
@@ -11,14 +11,13 @@ use Rattle.graph_model.specs.declared.graph.verb.EdgeKind.TheVariants.{Passes, I
 use Rattle.graph_model.specs.declared.graph.verb.Line.{Line}
 use Rattle.graph_model.specs.declared.graph.verb.Verb.{Verb}
 use Rattle.graph_model.specs.graph.Graph.{is_user, is_acquire_of, is_release_of}
-use Rattle.graph_model.specs.graph.Access.{verb_accesses}
 use Rattle.graph_model.specs.graph.Edges.{edge}
 use Rattle.basics.proofs.ListFacts.{contains_cases, contains_none, contains_here, contains_there}
 use Rattle.graph_gen.specs.declared.draw.Row.{Row}
 use Rattle.graph_gen.specs.declared.draw.Row.TheVariants.{Fill, Settle, Copy, Sum, Event, Section}
 use Rattle.graph_gen.specs.declared.draw.Draw.{Draw}
 use Rattle.graph_gen.specs.MadeGraph.{row_lines}
-use Rattle.graph_gen.proofs.AddedLines.{verb_in, edges_in, got_new, verb_new, verb_old, edge_cases}
+use Rattle.graph_gen.proofs.AddedLines.{verb_in, uses_of, edges_in, got_new, verb_new, verb_old, edge_cases}
 use Rattle.graph_gen.proofs.Rows.{LastsStand}
 use Rattle.graph_gen.proofs.RowEdges.{row_waits, inner_edges, row_edge_cases, inner_edge}
 use Rattle.graph_gen.proofs.Shapes.{weight_by, weight, weight_least, Held, Shape, NewLines}
@@ -31,11 +30,11 @@ none_at t (x ∷ xs) h (suc k) = none_at t xs (or_parts (t x.verb) (list_any (λ
 
 -- uses of columns below 8 alone
 abbrev UsesFew : Verb → Type 0
-UsesFew v = AllByRecursion (λ (a : Access). a.column < 8) (verb_accesses v)
+UsesFew v = AllByRecursion (λ (a : Access). a.column < 8) (uses_of (Some v))
 
-few_at : (xs : List Line) → AllByRecursion (λ (l : Line). UsesFew l.verb) xs → (k : ℕ) (a : Access) → Contains (option_map_or verb_accesses (verb_in xs k) []) a → a.column < 8
+few_at : (xs : List Line) → AllByRecursion (λ (l : Line). UsesFew l.verb) xs → (k : ℕ) (a : Access) → Contains (uses_of (verb_in xs k)) a → a.column < 8
 few_at [] h k a c = absurd (contains_none a c)
-few_at (x ∷ xs) h zero a c = All-contains (λ (a : Access). a.column < 8) (verb_accesses x.verb) a (All-from_recursion (λ (a : Access). a.column < 8) (verb_accesses x.verb) h.0) c
+few_at (x ∷ xs) h zero a c = All-contains (λ (a : Access). a.column < 8) (uses_of (Some x.verb)) a (All-from_recursion (λ (a : Access). a.column < 8) (uses_of (Some x.verb)) h.0) c
 few_at (x ∷ xs) h (suc k) a c = few_at xs h.1 k a c
 
 weight_plain : (v : Option Verb) (i m : ℕ) → option_map_or is_user v false ≡ false → i < m → weight_by v i < 2 * m
@@ -164,7 +163,7 @@ module _ (d : Draw) (column : d.column < 8) (other : d.other < 8) (lasts : List 
   row_releases Section (suc (suc (suc (suc k)))) q h = absurd (true≢false (sym h))
   row_releases row k q h = absurd (not_true _ (none_at (is_release_of q) (lines row) refl k) h)
 
-  row_uses : (row : Row) (k : ℕ) (a : Access) → Contains (option_map_or verb_accesses (verb_in (lines row) k) []) a → (a.column < 8) ⊎ ((q : ℕ) × (n + k ≡ q + 1) × Held (all row) q)
+  row_uses : (row : Row) (k : ℕ) (a : Access) → Contains (uses_of (verb_in (lines row) k)) a → (a.column < 8) ⊎ ((q : ℕ) × (n + k ≡ q + 1) × Held (all row) q)
   row_uses Settle k a c = inl (few_at (lines Settle) (tt, tt) k a c)
   row_uses Copy k a c = inl (few_at (lines Copy) (tt, ((column, (other, tt)), tt)) k a c)
   row_uses Sum k a c = inl (few_at (lines Sum) (tt, ((column, (other, tt)), tt)) k a c)

@@ -11,10 +11,9 @@ use Rattle.graph_model.specs.declared.graph.verb.Line.{Line}
 use Rattle.graph_model.specs.declared.graph.verb.Verb.{Verb}
 use Rattle.graph_model.specs.declared.graph.verb.Verb.TheVariants as verb
 use Rattle.graph_model.specs.graph.Graph.{is_user, is_acquire_of, is_release_of}
-use Rattle.graph_model.specs.graph.Access.{verb_accesses}
 use Rattle.graph_model.specs.graph.Edges.{edge, edges_after}
 use Rattle.graph_gen.specs.MadeGraph.{total_column, made_line}
-use Rattle.graph_gen.proofs.AddedLines.{verb_in, uses_in, edges_in, old_or_new, got_old, verb_old, verb_new, edge_old, edge_cases}
+use Rattle.graph_gen.proofs.AddedLines.{verb_in, uses_of, uses_in, edges_in, old_or_new, got_old, verb_old, verb_new, edge_old, edge_cases}
 
 -- a weight that rises along each edge: a user event stands behind its trigger, which is the next line
 abbrev pub weight_by : Option Verb → ℕ → ℕ
@@ -62,7 +61,7 @@ pub record NewLines (ls row : List Line) : Type 0 where
   pub light : (k : ℕ) → k < length row → weight_by (verb_in row k) (length ls + k) < 2 * (length ls + length row)
   pub acquires : (k l : ℕ) → option_map_or (is_acquire_of l) (verb_in row k) false ≡ true → Held (ls ++ row) (length ls + k)
   pub releases : (k q : ℕ) → option_map_or (is_release_of q) (verb_in row k) false ≡ true → (length ls + k ≡ q + 3) × Held (ls ++ row) q
-  pub uses : (k : ℕ) (a : Access) → Contains (option_map_or verb_accesses (verb_in row k) []) a → (a.column < 8) ⊎ ((q : ℕ) × (length ls + k ≡ q + 1) × Held (ls ++ row) q)
+  pub uses : (k : ℕ) (a : Access) → Contains (uses_of (verb_in row k)) a → (a.column < 8) ⊎ ((q : ℕ) × (length ls + k ≡ q + 1) × Held (ls ++ row) q)
 
 module _ (ls row : List Line) (added : NewLines ls row) where
   abbrev all : List Line
@@ -118,8 +117,8 @@ module _ (ls row : List Line) (added : NewLines ls row) where
   releases_at r q (inr at) s h = let o = added.releases at.0 q (ap (λ v. option_map_or (is_release_of q) v false) (sym (verb_new ls row r at.0 at.1)) ∙ h) in (at.1 ∙ o.0, o.1)
 
   uses_at : (i : ℕ) (a : Access) → (i < length ls) ⊎ ((k : ℕ) × (i ≡ length ls + k)) → Shape ls → Contains (uses_in all i) a → (a.column < 8) ⊎ ((q : ℕ) × (i ≡ q + 1) × Held all q)
-  uses_at i a (inl old) s c = elim (s.uses i a (subst (λ v. Contains (option_map_or verb_accesses v []) a) (verb_old ls row i old) c)) [ inl small ↦ inl small | inr o ↦ inr (o.0, o.1, held_more o.0 o.2) ]
-  uses_at i a (inr at) s c = elim (added.uses at.0 a (subst (λ v. Contains (option_map_or verb_accesses v []) a) (verb_new ls row i at.0 at.1) c)) [ inl small ↦ inl small | inr o ↦ inr (o.0, at.1 ∙ o.1, o.2) ]
+  uses_at i a (inl old) s c = elim (s.uses i a (subst (λ v. Contains (uses_of v) a) (verb_old ls row i old) c)) [ inl small ↦ inl small | inr o ↦ inr (o.0, o.1, held_more o.0 o.2) ]
+  uses_at i a (inr at) s c = elim (added.uses at.0 a (subst (λ v. Contains (uses_of v) a) (verb_new ls row i at.0 at.1) c)) [ inl small ↦ inl small | inr o ↦ inr (o.0, at.1 ∙ o.1, o.2) ]
 
   pub shape_more : Shape ls → Shape all
   shape_more s = record {

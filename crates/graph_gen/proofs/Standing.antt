@@ -8,6 +8,7 @@ use Rattle.std.proofs.lemmas.Bool.{false_from_ne_true, ltb-true, or_parts}
 use Rattle.std.proofs.lemmas.List.Folds.{list_any-append}
 use Rattle.std.proofs.lemmas.List.Sums.{sum_by-cons}
 use Rattle.graph_model.specs.declared.graph.verb.Access.{Access}
+use Rattle.graph_model.specs.declared.graph.format.Format.TheVariants.{One}
 use Rattle.graph_model.specs.declared.graph.verb.Line.{Line}
 use Rattle.graph_model.specs.declared.graph.why.Why.TheVariants as why
 use Rattle.graph_model.specs.declared.graph.verb.Verb.{Verb}
@@ -25,7 +26,7 @@ use Rattle.graph_gen.proofs.LineNames.{made_is_name, made_differ, made_short}
 
 -- a generated graph with these lines
 abbrev pub lined : List Line → GraphValue
-lined ls = record { decls = made_decls; lines = ls }
+lined ls = record { format = One; decls = made_decls; lines = ls }
 
 pub both_false : (a b : Bool) → a ≡ false → b ≡ false → (a || b) ≡ false
 both_false a b e f = ap (λ x. x || b) e ∙ f
@@ -67,7 +68,7 @@ pub record Sized (ws : List (List ℕ)) (n : ℕ) : Type 0 where
 
 -- what may be said against a line besides its name, its columns and the lines that it names
 abbrev pub against : List Line → Verb → Option ℕ → Bool
-against ls v on = verb_repeats (lined ls) v || (verb_unlike (lined ls) v || ((takes_no_on v && is_some on) || (verb_misnumbered v || (arrives_late (lined ls) v || merges_many v))))
+against ls v on = verb_repeats (lined ls) v || (verb_unlike (lined ls) v || ((takes_no_on v && is_some on) || (verb_misnumbered One v || (arrives_late (lined ls) v || merges_many v))))
 
 -- what holds of a line that may come next
 pub record NextFits (ls : List Line) (v : Verb) (on : Option ℕ) : Type 0 where
@@ -168,9 +169,9 @@ module _ (ls : List Line) (n : ℕ) (v : Verb) (on : Option ℕ) (count : length
       let repeated = or_parts (verb_repeats (lined ls) v) _ fits.clear in
       let unlike = or_parts (verb_unlike (lined ls) v) _ repeated.1 in
       let bare = or_parts (takes_no_on v && is_some on) _ unlike.1 in
-      let counted = or_parts (verb_misnumbered v) _ bare.1 in
+      let counted = or_parts (verb_misnumbered One v) _ bare.1 in
       let late = or_parts (arrives_late (lined ls) v) (merges_many v) counted.1 in
-      seven_false (is_used (lined ls) (made_name n) || (verb_repeats (lined ls) v || repeats nat_eq (map (λ (a : Access). a.column) (verb_accesses v)))) (line_unknown (lined ls) next) (verb_unlike (lined ls) v || (takes_no_on v && is_some on)) (verb_misnumbered v)
+      seven_false (is_used (lined ls) (made_name n) || (verb_repeats (lined ls) v || repeats nat_eq (map (λ (a : Access). a.column) (verb_accesses v)))) (line_unknown (lined ls) next) (verb_unlike (lined ls) v || (takes_no_on v && is_some on)) (verb_misnumbered One v)
       (list_any (access_outside (lined ls)) (verb_accesses v)) (arrives_late (lined ls) v) (merges_many v || is_beyond (with_line (lined ls) next))
       (both_false (is_used (lined ls) (made_name n)) (verb_repeats (lined ls) v || repeats nat_eq (map (λ (a : Access). a.column) (verb_accesses v))) unused_name (both_false (verb_repeats (lined ls) v) (repeats nat_eq (map (λ (a : Access). a.column) (verb_accesses v))) repeated.0 fits.apart))
       fits.known (both_false (verb_unlike (lined ls) v) (takes_no_on v && is_some on) unlike.0 bare.0) counted.0 fits.within late.0 (both_false (merges_many v) (is_beyond (with_line (lined ls) next)) late.1 beyond_not)
@@ -180,7 +181,7 @@ module _ (ls : List Line) (n : ℕ) (v : Verb) (on : Option ℕ) (count : length
 
 -- lines that fit one after the other, and what holds of all then
 pub record RowFits (ls row : List Line) : Type 0 where
-  pub lines : LinesFit made_decls ls row
+  pub lines : LinesFit One made_decls ls row
   pub standing : Standing (ls ++ row)
 
 pub row_end : (ls : List Line) → Standing ls → RowFits ls []

@@ -2,6 +2,7 @@
 use Rattle.std.specs.Prelude.{ℕ, zero, suc, ◌+◌, ◌-◌, ◌*◌, ◌/◌, ◌%◌, ◌^◌, ◌==◌, nat_lt, nat_le, Bool, true, cond, not, ◌&&◌, List, [], ◌∷◌, ◌++◌, length, map, replicate, slice_index_or, slice_set, Option, Some, None, is_some, codes, decimal}
 use Rattle.basics.specs.Lists.{numbers_below}
 use Rattle.index_spaces.specs.declared.Op.TheVariants as op
+use Rattle.graph_model.specs.declared.graph.format.Format.TheVariants.{One}
 use Rattle.graph_model.specs.declared.graph.decl.Decl.{Decl}
 use Rattle.graph_model.specs.declared.graph.decl.Decl.TheVariants.{Space, Inst, Lock}
 use Rattle.graph_model.specs.declared.graph.verb.Line.{Line}
@@ -139,7 +140,7 @@ after_draws seed size (suc n) = one_more size (after_draws seed size n)
 
 -- the graph: each draw adds a line at least, so as many draws as lines are enough
 abbrev pub made_graph : ℕ → ℕ → GraphValue
-made_graph seed size = record { decls = made_decls; lines = (after_draws seed size size).lines }
+made_graph seed size = record { format = One; decls = made_decls; lines = (after_draws seed size size).lines }
 
 -- what stands while the graph is made
 abbrev pub made_of : Making → Made

@@ -1,6 +1,7 @@
 //! The declarations of a generated graph.
 
 ghost use Rattle.std.specs.Prelude.{◌≡◌, ◌++◌, [], ◌∷◌, OnOk, IfOk, IsTrue, codes};
+ghost use Rattle.graph_model.specs.declared.graph.format.Format.TheVariants.{One};
 ghost use Rattle.graph_model.specs.graph.Name.{is_name};
 ghost use Rattle.graph_gen.specs.MadeGraph.{made_decls};
 
@@ -18,7 +19,7 @@ const COLUMNS: u8 = 8;
 
 /// The graph without lines.
 pub(crate) fn declared(alloc: Global) -> Result<Graph, NoMemory>
-    ensures { IfOk result (λ g. g ≡ record { decls = made_decls; lines = [] }) }
+    ensures { IfOk result (λ g. g ≡ record { format = One; decls = made_decls; lines = [] }) }
 {
     let mut graph = Graph::new(alloc);
     for decl in made_decls(alloc)? {

@@ -1,6 +1,7 @@
 //! Graphs that are generated.
 
 ghost use Rattle.std.specs.Prelude.{◌≡◌, ℕ, ◌<◌, ◌≤◌, ◌^◌, ◌++◌, length, IfOk, OnOk};
+ghost use Rattle.graph_model.specs.declared.graph.format.Format.TheVariants.{One};
 ghost use Rattle.graph_model.specs.graph.Fits.{LinesFit};
 ghost use Rattle.graph_gen.specs.MadeGraph.{made_decls, made_of, unmade, one_more, after_draws, made_graph};
 
@@ -38,6 +39,7 @@ impl Making {
     /// Before any draw.
     fn new(alloc: Global, seed: u64) -> Result<Making, NoMemory>
         ensures made { IfOk result (λ m. made_of m ≡ unmade seed) }
+        ensures format { IfOk result (λ m. m.graph.format ≡ One) }
         ensures decls { IfOk result (λ m. m.graph.decls ≡ made_decls) }
     {
         let graph = declared(alloc)?;
@@ -52,9 +54,11 @@ impl Making {
     fn draw(&mut self, alloc: Global, size: u32) -> Result<(), NoMemory>
         requires size { size ≤ MAX_LINES }
         requires left { length self.old.graph.lines < size }
+        requires format { self.old.graph.format ≡ One }
         requires decls { self.old.graph.decls ≡ made_decls }
         requires made { (seed n : ℕ) × (seed < 2 ^ 64) × (made_of self.old ≡ after_draws seed size n) }
         ensures made { OnOk result (made_of self.new ≡ one_more size (made_of self.old)) }
+        ensures format { OnOk result (self.new.graph.format ≡ One) }
         ensures decls { OnOk result (self.new.graph.decls ≡ made_decls) }
     {
         let state = next_state(self.state);
@@ -71,8 +75,8 @@ impl Making {
 
 /// Puts lines at the end.
 fn add_lines(graph: &mut Graph, lines: Vec<Line>) -> Result<(), NoMemory>
-    requires { LinesFit graph.old.decls graph.old.lines lines.items }
-    ensures { OnOk result (graph.new ≡ record { decls = graph.old.decls; lines = graph.old.lines ++ lines.items }) }
+    requires { LinesFit graph.old.format graph.old.decls graph.old.lines lines.items }
+    ensures { OnOk result (graph.new ≡ record { format = graph.old.format; decls = graph.old.decls; lines = graph.old.lines ++ lines.items }) }
 {
     for line in lines {
         graph.add_line(line)?;

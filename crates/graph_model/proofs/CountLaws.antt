@@ -9,6 +9,7 @@ use Rattle.std.proofs.lemmas.List.{take_all}
 use Rattle.std.proofs.lemmas.List.Elements.{filter-append, filter_map-append}
 use Rattle.std.proofs.lemmas.List.Sums.{sum_by-append, sum_by-cons}
 use Rattle.index_spaces.specs.Space.{space_size, AscendAbove, IsSpace}
+use Rattle.graph_model.specs.declared.graph.format.Format.{Format}
 use Rattle.graph_model.specs.declared.kept.counts.Counts.{Counts}
 use Rattle.graph_model.specs.declared.graph.decl.Decl.{Decl}
 use Rattle.graph_model.specs.declared.graph.decl.Decl.TheVariants as decl
@@ -64,83 +65,83 @@ get_before (x ∷ xs) ys zero h = refl
 get_before (x ∷ xs) ys (suc k) h = get_before xs ys k (omega arith)
 
 -- the graph of declarations and more
-abbrev of_items : List Decl → List Line → GraphValue
-of_items ds ls = record { decls = ds; lines = ls }
+abbrev of_items : Format → List Decl → List Line → GraphValue
+of_items fm ds ls = record { format = fm; decls = ds; lines = ls }
 
-spaces_before : (ds : List Decl) (d : Decl) (ls : List Line) (s : ℕ) → s < length (filter_map space_of ds) → slice_get (named_spaces (of_items (ds ++ d ∷ []) ls)) s ≡ slice_get (named_spaces (of_items ds ls)) s
-spaces_before ds d ls s h = ap (λ xs. slice_get xs s) (filter_map-append space_of ds (d ∷ [])) ∙ get_before (filter_map space_of ds) (filter_map space_of (d ∷ [])) s h
+spaces_before : (fm : Format) (ds : List Decl) (d : Decl) (ls : List Line) (s : ℕ) → s < length (filter_map space_of ds) → slice_get (named_spaces (of_items fm (ds ++ d ∷ []) ls)) s ≡ slice_get (named_spaces (of_items fm ds ls)) s
+spaces_before fm ds d ls s h = ap (λ xs. slice_get xs s) (filter_map-append space_of ds (d ∷ [])) ∙ get_before (filter_map space_of ds) (filter_map space_of (d ∷ [])) s h
 
-columns_before : (ds : List Decl) (d : Decl) (ls : List Line) (c : ℕ) → c < length (flat_map columns_of ds) → slice_get (columns (of_items (ds ++ d ∷ []) ls)) c ≡ slice_get (columns (of_items ds ls)) c
-columns_before ds d ls c h = ap (λ xs. slice_get xs c) (flat_map-append columns_of ds (d ∷ [])) ∙ get_before (flat_map columns_of ds) (flat_map columns_of (d ∷ [])) c h
+columns_before : (fm : Format) (ds : List Decl) (d : Decl) (ls : List Line) (c : ℕ) → c < length (flat_map columns_of ds) → slice_get (columns (of_items fm (ds ++ d ∷ []) ls)) c ≡ slice_get (columns (of_items fm ds ls)) c
+columns_before fm ds d ls c h = ap (λ xs. slice_get xs c) (flat_map-append columns_of ds (d ∷ [])) ∙ get_before (flat_map columns_of ds) (flat_map columns_of (d ∷ [])) c h
 
-locks_before : (ds : List Decl) (d : Decl) (ls : List Line) (l : ℕ) → l < length (filter_map lock_of ds) → slice_get (locks (of_items (ds ++ d ∷ []) ls)) l ≡ slice_get (locks (of_items ds ls)) l
-locks_before ds d ls l h = ap (λ xs. slice_get xs l) (filter_map-append lock_of ds (d ∷ [])) ∙ get_before (filter_map lock_of ds) (filter_map lock_of (d ∷ [])) l h
+locks_before : (fm : Format) (ds : List Decl) (d : Decl) (ls : List Line) (l : ℕ) → l < length (filter_map lock_of ds) → slice_get (locks (of_items fm (ds ++ d ∷ []) ls)) l ≡ slice_get (locks (of_items fm ds ls)) l
+locks_before fm ds d ls l h = ap (λ xs. slice_get xs l) (filter_map-append lock_of ds (d ∷ [])) ∙ get_before (filter_map lock_of ds) (filter_map lock_of (d ∷ [])) l h
 
-barriers_before : (ds : List Decl) (d : Decl) (ls : List Line) (b : ℕ) → b < length (filter_map barrier_of ds) → slice_get (barriers (of_items (ds ++ d ∷ []) ls)) b ≡ slice_get (barriers (of_items ds ls)) b
-barriers_before ds d ls b h = ap (λ xs. slice_get xs b) (filter_map-append barrier_of ds (d ∷ [])) ∙ get_before (filter_map barrier_of ds) (filter_map barrier_of (d ∷ [])) b h
+barriers_before : (fm : Format) (ds : List Decl) (d : Decl) (ls : List Line) (b : ℕ) → b < length (filter_map barrier_of ds) → slice_get (barriers (of_items fm (ds ++ d ∷ []) ls)) b ≡ slice_get (barriers (of_items fm ds ls)) b
+barriers_before fm ds d ls b h = ap (λ xs. slice_get xs b) (filter_map-append barrier_of ds (d ∷ [])) ∙ get_before (filter_map barrier_of ds) (filter_map barrier_of (d ∷ [])) b h
 
 -- one more declaration changes no name of what is declared
 abbrev NamesKept : GraphValue → GraphValue → Access → Type 0
 NamesKept g h a = (column_name h a.column ≡ column_name g a.column) × (space_name h a.space ≡ space_name g a.space)
 
-names_kept : (ds : List Decl) (d : Decl) (ls : List Line) (a : Access) → access_unknown (of_items ds ls) a ≡ false → NamesKept (of_items ds ls) (of_items (ds ++ d ∷ []) ls) a
-names_kept ds d ls a h =
+names_kept : (fm : Format) (ds : List Decl) (d : Decl) (ls : List Line) (a : Access) → access_unknown (of_items fm ds ls) a ≡ false → NamesKept (of_items fm ds ls) (of_items fm (ds ++ d ∷ []) ls) a
+names_kept fm ds d ls a h =
     let parts = or_parts _ _ h in (
-      ap (λ (o : Option ColumnInfo). option_map_or (λ (x : ColumnInfo). x.inst ++ 46 ∷ x.field) o []) (columns_before ds d ls a.column (leb-false (length (flat_map columns_of ds)) a.column parts.0)),
-      ap (λ (o : Option (List ℕ × List (ℕ × ℕ))). option_map_or (λ (x : List ℕ × List (ℕ × ℕ)). x.0) o []) (spaces_before ds d ls a.space (leb-false (length (filter_map space_of ds)) a.space parts.1)),
+      ap (λ (o : Option ColumnInfo). option_map_or (λ (x : ColumnInfo). x.inst ++ 46 ∷ x.field) o []) (columns_before fm ds d ls a.column (leb-false (length (flat_map columns_of ds)) a.column parts.0)),
+      ap (λ (o : Option (List ℕ × List (ℕ × ℕ))). option_map_or (λ (x : List ℕ × List (ℕ × ℕ)). x.0) o []) (spaces_before fm ds d ls a.space (leb-false (length (filter_map space_of ds)) a.space parts.1)),
     )
 
 -- nor a word in a place of a row whose numbers are known
-place_kept : (ds : List Decl) (d : Decl) (ls : List Line) (ps : List Place) (ns : List ℕ) → is_row ps ≡ true → length ns ≡ length ps →
-    any_placed (place_unknown (of_items ds ls)) (zip ps ns) ≡ false → list_any (access_unknown (of_items ds ls)) (accesses_of ps ns) ≡ false →
-    (k : ℕ) (p : Place) (n : ℕ) → slice_get ps k ≡ Some p → slice_get ns k ≡ Some n → place_word (of_items (ds ++ d ∷ []) ls) p n ≡ place_word (of_items ds ls) p n
-place_kept ds d ls ps ns r e u h k Lock n at here =
+place_kept : (fm : Format) (ds : List Decl) (d : Decl) (ls : List Line) (ps : List Place) (ns : List ℕ) → is_row ps ≡ true → length ns ≡ length ps →
+    any_placed (place_unknown (of_items fm ds ls)) (zip ps ns) ≡ false → list_any (access_unknown (of_items fm ds ls)) (accesses_of ps ns) ≡ false →
+    (k : ℕ) (p : Place) (n : ℕ) → slice_get ps k ≡ Some p → slice_get ns k ≡ Some n → place_word (of_items fm (ds ++ d ∷ []) ls) p n ≡ place_word (of_items fm ds ls) p n
+place_kept fm ds d ls ps ns r e u h k Lock n at here =
     ap (λ (o : Option (List ℕ)). option_map_or (λ (x : List ℕ). x) o [])
-    (locks_before ds d ls n (leb-false (length (filter_map lock_of ds)) n (none_placed (place_unknown (of_items ds ls)) ps ns u k Lock n at here)))
-place_kept ds d ls ps ns r e u h k Barrier n at here =
+    (locks_before fm ds d ls n (leb-false (length (filter_map lock_of ds)) n (none_placed (place_unknown (of_items fm ds ls)) ps ns u k Lock n at here)))
+place_kept fm ds d ls ps ns r e u h k Barrier n at here =
     ap (λ (o : Option BarrierInfo). option_map_or (λ (x : BarrierInfo). x.name) o [])
-    (barriers_before ds d ls n (leb-false (length (filter_map barrier_of ds)) n (none_placed (place_unknown (of_items ds ls)) ps ns u k Barrier n at here)))
-place_kept ds d ls ps ns r e u h k Space n at here =
+    (barriers_before fm ds d ls n (leb-false (length (filter_map barrier_of ds)) n (none_placed (place_unknown (of_items fm ds ls)) ps ns u k Barrier n at here)))
+place_kept fm ds d ls ps ns r e u h k Space n at here =
     let a = space_access ps ns r e k n at here in
-    ap (space_name (of_items (ds ++ d ∷ []) ls)) (sym a.2) ∙ ((names_kept ds d ls a.0 (none_of_accesses (access_unknown (of_items ds ls)) ps ns h a.0 a.1)).1 ∙ ap (space_name (of_items ds ls)) a.2)
-place_kept ds d ls ps ns r e u h k (Column mode over) n at here =
+    ap (space_name (of_items fm (ds ++ d ∷ []) ls)) (sym a.2) ∙ ((names_kept fm ds d ls a.0 (none_of_accesses (access_unknown (of_items fm ds ls)) ps ns h a.0 a.1)).1 ∙ ap (space_name (of_items fm ds ls)) a.2)
+place_kept fm ds d ls ps ns r e u h k (Column mode over) n at here =
     let a : Access = access n (slice_index ns over) mode in
-    (names_kept ds d ls a (none_of_accesses (access_unknown (of_items ds ls)) ps ns h a (column_access ps ns k mode over n at here))).0
-place_kept ds d ls ps ns r e u h k p n at here = refl
+    (names_kept fm ds d ls a (none_of_accesses (access_unknown (of_items fm ds ls)) ps ns h a (column_access ps ns k mode over n at here))).0
+place_kept fm ds d ls ps ns r e u h k p n at here = refl
 
-verb_words_kept : (ds : List Decl) (d : Decl) (ls : List Line) (v : Verb) → verb_unknown (of_items ds ls) v ≡ false → list_any (access_unknown (of_items ds ls)) (verb_accesses v) ≡ false → verb_words (of_items (ds ++ d ∷ []) ls) v ≡ verb_words (of_items ds ls) v
-verb_words_kept ds d ls (Merge events) u h = refl
-verb_words_kept ds d ls (MergeIgnore events) u h = refl
-verb_words_kept ds d ls v u h =
+verb_words_kept : (fm : Format) (ds : List Decl) (d : Decl) (ls : List Line) (v : Verb) → verb_unknown (of_items fm ds ls) v ≡ false → list_any (access_unknown (of_items fm ds ls)) (verb_accesses v) ≡ false → verb_words (of_items fm (ds ++ d ∷ []) ls) v ≡ verb_words (of_items fm ds ls) v
+verb_words_kept fm ds d ls (Merge events) u h = refl
+verb_words_kept fm ds d ls (MergeIgnore events) u h = refl
+verb_words_kept fm ds d ls v u h =
     ap (λ ws. option_map_or kind_words (verb_kind v) [] ++ ws)
-    (map_placed (place_word (of_items (ds ++ d ∷ []) ls)) (place_word (of_items ds ls)) (verb_places v) (verb_parts v)
-    (place_kept ds d ls (verb_places v) (verb_parts v) (verb_is_row v) (part_for_each v) u h))
+    (map_placed (place_word (of_items fm (ds ++ d ∷ []) ls)) (place_word (of_items fm ds ls)) (verb_places v) (verb_parts v)
+    (place_kept fm ds d ls (verb_places v) (verb_parts v) (verb_is_row v) (part_for_each v) u h))
 
-line_words_kept : (ds : List Decl) (d : Decl) (ls : List Line) (l : Line) → line_fault (of_items ds ls) l ≡ None → line_words (of_items (ds ++ d ∷ []) ls) l ≡ line_words (of_items ds ls) l
-line_words_kept ds d ls l h =
-    let known = or_parts _ _ (or_parts _ _ (fits_known (of_items ds ls) l h)).1 in
-    ap (λ ws. l.name ∷ codes "=" ∷ ws ++ on_words (of_items ds ls) l.on) (verb_words_kept ds d ls l.verb known.0 known.1)
+line_words_kept : (fm : Format) (ds : List Decl) (d : Decl) (ls : List Line) (l : Line) → line_fault (of_items fm ds ls) l ≡ None → line_words (of_items fm (ds ++ d ∷ []) ls) l ≡ line_words (of_items fm ds ls) l
+line_words_kept fm ds d ls l h =
+    let known = or_parts _ _ (or_parts _ _ (fits_known (of_items fm ds ls) l h)).1 in
+    ap (λ ws. l.name ∷ codes "=" ∷ ws ++ on_words (of_items fm ds ls) l.on) (verb_words_kept fm ds d ls l.verb known.0 known.1)
 
-lines_text_kept : (ds : List Decl) (d : Decl) (b ls : List Line) → LinesFit ds b ls → lines_text (ds ++ d ∷ []) b ls ≡ lines_text ds b ls
-lines_text_kept ds d b [] f = refl
-lines_text_kept ds d b (l ∷ ls) f =
-    ap (λ ws. spelled ws ++ lines_text (ds ++ d ∷ []) (b ++ l ∷ []) ls) (line_words_kept ds d b l f.1)
-    ∙ ap (λ t. spelled (line_words (of_items ds b) l) ++ t) (lines_text_kept ds d (b ++ l ∷ []) ls f.2)
+lines_text_kept : (fm : Format) (ds : List Decl) (d : Decl) (b ls : List Line) → LinesFit fm ds b ls → lines_text fm (ds ++ d ∷ []) b ls ≡ lines_text fm ds b ls
+lines_text_kept fm ds d b [] f = refl
+lines_text_kept fm ds d b (l ∷ ls) f =
+    ap (λ ws. spelled ws ++ lines_text fm (ds ++ d ∷ []) (b ++ l ∷ []) ls) (line_words_kept fm ds d b l f.1)
+    ∙ ap (λ t. spelled (line_words (of_items fm ds b) l) ++ t) (lines_text_kept fm ds d (b ++ l ∷ []) ls f.2)
 
-decl_words_lines : (ds : List Decl) (ls : List Line) (d : Decl) → decl_words (of_items ds []) d ≡ decl_words (of_items ds ls) d
-decl_words_lines ds ls (decl.Space name space) = refl
-decl_words_lines ds ls d = refl
+decl_words_lines : (fm : Format) (ds : List Decl) (ls : List Line) (d : Decl) → decl_words (of_items fm ds []) d ≡ decl_words (of_items fm ds ls) d
+decl_words_lines fm ds ls (decl.Space name space) = refl
+decl_words_lines fm ds ls d = refl
 
 -- the text has one line more
 pub text_with_decl : (g : GraphValue) (d : Decl) → IsGraph g → length (head (with_decl g d)) ≡ length (head g) + length (spelled (decl_words g d))
 text_with_decl g d f =
-    let a : List ℕ = decls_text [] g.decls in
-    let b : List ℕ = lines_text g.decls [] g.lines in
+    let a : List ℕ = decls_text g.format [] g.decls in
+    let b : List ℕ = lines_text g.format g.decls [] g.lines in
     let w : List ℕ = spelled (decl_words g d) in
-    let e : decls_text [] (g.decls ++ d ∷ []) ≡ a ++ w = decls_text_push [] g.decls d ∙ ap (λ ws. a ++ spelled ws) (decl_words_lines g.decls g.lines d) in
-    let k : lines_text (g.decls ++ d ∷ []) [] g.lines ≡ b = lines_text_kept g.decls d [] g.lines f.lines in
-    let new : length (head (with_decl g d)) ≡ length (header ++ ((a ++ w) ++ b)) = ap (λ x. length (header ++ (x ++ lines_text (g.decls ++ d ∷ []) [] g.lines))) e ∙ ap (λ y. length (header ++ ((a ++ w) ++ y))) k in
-    new ∙ lengths header a w b
+    let e : decls_text g.format [] (g.decls ++ d ∷ []) ≡ a ++ w = decls_text_push g.format [] g.decls d ∙ ap (λ ws. a ++ spelled ws) (decl_words_lines g.format g.decls g.lines d) in
+    let k : lines_text g.format (g.decls ++ d ∷ []) [] g.lines ≡ b = lines_text_kept g.format g.decls d [] g.lines f.lines in
+    let new : length (head (with_decl g d)) ≡ length (header g.format ++ ((a ++ w) ++ b)) = ap (λ x. length (header g.format ++ (x ++ lines_text g.format (g.decls ++ d ∷ []) [] g.lines))) e ∙ ap (λ y. length (header g.format ++ ((a ++ w) ++ y))) k in
+    new ∙ lengths (header g.format) a w b
   where
     lengths : (h a w b : List ℕ) → length (h ++ ((a ++ w) ++ b)) ≡ length (h ++ (a ++ b)) + length w
     lengths h a w b =
@@ -160,20 +161,20 @@ abbrev column_cells : GraphValue → ColumnInfo → ℕ
 column_cells g c = space_size (space_at g c.space)
 
 -- the columns of a declaration have the cells that they have before it
-decl_cells : (ds : List Decl) (ls : List Line) (d : Decl) → sum_by (column_cells (of_items (ds ++ d ∷ []) ls)) (columns_of d) ≡ cells_of_decl (of_items ds ls) d
-decl_cells ds ls (decl.Space name space) = refl
-decl_cells ds ls (decl.Inst name space fields) =
+decl_cells : (fm : Format) (ds : List Decl) (ls : List Line) (d : Decl) → sum_by (column_cells (of_items fm (ds ++ d ∷ []) ls)) (columns_of d) ≡ cells_of_decl (of_items fm ds ls) d
+decl_cells fm ds ls (decl.Space name space) = refl
+decl_cells fm ds ls (decl.Inst name space fields) =
     let e : filter_map space_of (ds ++ decl.Inst name space fields ∷ []) ≡ filter_map space_of ds = filter_map-append space_of ds (decl.Inst name space fields ∷ []) ∙ append-nil (filter_map space_of ds) in
     ap (λ xs. sum_by (λ (c : ColumnInfo). space_size (option_map_or (λ (x : List ℕ × List (ℕ × ℕ)). x.1) (slice_get xs c.space) [])) (columns_of (decl.Inst name space fields))) e
-decl_cells ds ls (decl.Lock name) = refl
-decl_cells ds ls (decl.Barrier name count op first) = refl
+decl_cells fm ds ls (decl.Lock name) = refl
+decl_cells fm ds ls (decl.Barrier name count op first) = refl
 
 pub cells_with_decl : (g : GraphValue) (d : Decl) → IsGraph g → cell_count (with_decl g d) ≡ cell_count g + cells_of_decl g d
 cells_with_decl g d f =
     let split : columns (with_decl g d) ≡ columns g ++ columns_of d = flat_map-append columns_of g.decls (d ∷ []) ∙ ap (λ l. columns g ++ l) (append-nil (columns_of d)) in
     let old : sum_by (column_cells (with_decl g d)) (columns g) ≡ cell_count g =
-    sum_same (column_cells (with_decl g d)) (column_cells g) (columns g) (λ x c. ap (λ (o : Option (List ℕ × List (ℕ × ℕ))). space_size (option_map_or (λ (x : List ℕ × List (ℕ × ℕ)). x.1) o [])) (spaces_before g.decls d g.lines x.space (columns_known [] g.decls f.decls x c))) in
-    let new : sum_by (column_cells (with_decl g d)) (columns_of d) ≡ cells_of_decl g d = decl_cells g.decls g.lines d in
+    sum_same (column_cells (with_decl g d)) (column_cells g) (columns g) (λ x c. ap (λ (o : Option (List ℕ × List (ℕ × ℕ))). space_size (option_map_or (λ (x : List ℕ × List (ℕ × ℕ)). x.1) o [])) (spaces_before g.format g.decls d g.lines x.space (columns_known g.format [] g.decls f.decls x c))) in
+    let new : sum_by (column_cells (with_decl g d)) (columns_of d) ≡ cells_of_decl g d = decl_cells g.format g.decls g.lines d in
     let both : sum_by (column_cells (with_decl g d)) (columns g ++ columns_of d) ≡ sum_by (column_cells (with_decl g d)) (columns g) + sum_by (column_cells (with_decl g d)) (columns_of d) = sum_by-append (column_cells (with_decl g d)) (columns g) (columns_of d) in
     let all : cell_count (with_decl g d) ≡ sum_by (column_cells (with_decl g d)) (columns g ++ columns_of d) = ap (sum_by (column_cells (with_decl g d))) split in
     omega arith

@@ -15,6 +15,7 @@ use Rattle.graph_model.specs.graph.Edges.{edge, edges_from_some, verb_edges, lin
 use Rattle.graph_model.specs.meaning.Path.{Path, HasPath, last, first}
 use Rattle.basics.proofs.ListFacts.{got_behind, got_in, contains_none, contains_here, passes_some}
 use Rattle.graph_model.specs.graph.Fits.{line_fault, line_tests, takes_no_on, verb_unlike, LinesFit, IsGraph}
+use Rattle.graph_model.proofs.ArriveLaws.{arrive_unlike}
 use Rattle.graph_model.proofs.GraphFacts.{none_first}
 use Rattle.graph_model.proofs.VerbFacts.{passes_verb, verb_passes, verb_line, user_is, phase_is, never_as, from_some_to, from_some_has, verb_edge_to}
 
@@ -33,16 +34,16 @@ line_edges_in before (m ∷ ls) (suc k) l h =
     (r.0, (let z : length r.0 ≡ length before + suc k = omega arith in z), λ e c. Contains-append_right (line_edges before m) (edges_after (before ++ m ∷ []) ls) e (r.2 e c))
 
 -- an arrival gives an edge to its phase
-arrival_listed : (b : List Line) (l : Line) (p v : ℕ) → l.verb ≡ Arrive p v → Contains (line_edges b l) (edge (length b) p Passes)
-arrival_listed b l p v e = Contains-append_right (edges_from_some Passes l.on (length b)) (verb_edges b (length b) l.verb) (edge (length b) p Passes)
+arrival_listed : (b : List Line) (l : Line) (p v w : ℕ) → l.verb ≡ Arrive p v w → Contains (line_edges b l) (edge (length b) p Passes)
+arrival_listed b l p v w e = Contains-append_right (edges_from_some Passes l.on (length b)) (verb_edges b (length b) l.verb) (edge (length b) p Passes)
     (subst (λ x. Contains (verb_edges b (length b) x) (edge (length b) p Passes)) (sym e) (contains_here (edge (length b) p Passes) []))
 
-pub arrival_edge : (g : GraphValue) (i p v : ℕ) → verb_at g i ≡ Some (Arrive p v) → Contains (edges g) (edge i p Passes)
-arrival_edge g i p v h =
-    let l = verb_line g i (Arrive p v) h in
+pub arrival_edge : (g : GraphValue) (i p v w : ℕ) → verb_at g i ≡ Some (Arrive p v w) → Contains (edges g) (edge i p Passes)
+arrival_edge g i p v w h =
+    let l = verb_line g i (Arrive p v w) h in
     let r = line_edges_in [] g.lines i l.0 l.1 in
     let len : length r.0 ≡ i = (let z : length r.0 ≡ 0 + i = r.1 in omega arith) in
-    subst (λ n. Contains (edges g) (edge n p Passes)) len (r.2 (edge (length r.0) p Passes) (arrival_listed r.0 l.0 p v l.2))
+    subst (λ n. Contains (edges g) (edge n p Passes)) len (r.2 (edge (length r.0) p Passes) (arrival_listed r.0 l.0 p v w l.2))
 
 -- a line that fits: its kind is right
 pub kind_fits : (g : GraphValue) (l : Line) → line_fault g l ≡ None → (verb_unlike g l.verb ≡ false) × ((takes_no_on l.verb && is_some l.on) ≡ false)
@@ -53,9 +54,9 @@ module _ (g : GraphValue) where
   user_here : (b : List Line) (l : Line) (ls : List Line) → g.lines ≡ b ++ l ∷ ls → line_passes is_user g (length b) ≡ true → is_user l.verb ≡ true
   user_here b l ls parts h = sym (verb_passes is_user g (length b) l.verb (ap (λ (xs : List Line). option_map (λ (x : Line). x.verb) (slice_get xs (length b))) parts ∙ ap (option_map (λ (x : Line). x.verb)) (got_behind b l ls))) ∙ h
 
-  phase_is_no_user : (b ls : List Line) → g.lines ≡ b ++ ls → (p : ℕ) → line_passes is_phase (record { decls = g.decls; lines = b }) p ≡ true → line_passes is_user g p ≡ true → ⊥
+  phase_is_no_user : (b ls : List Line) → g.lines ≡ b ++ ls → (p : ℕ) → line_passes is_phase (record { format = g.format; decls = g.decls; lines = b }) p ≡ true → line_passes is_user g p ≡ true → ⊥
   phase_is_no_user b ls parts p phase user =
-      let g' : GraphValue = record { decls = g.decls; lines = b } in
+      let g' : GraphValue = record { format = g.format; decls = g.decls; lines = b } in
       let v = passes_verb is_phase g' p phase in
       let l = verb_line g' p v.0 v.1 in
       let there : slice_get g.lines p ≡ Some l.0 = ap (λ (xs : List Line). slice_get xs p) parts ∙ got_in b ls p l.0 l.1 in
@@ -67,10 +68,10 @@ module _ (g : GraphValue) where
   ended_listed : (b : List Line) (l : Line) (ls : List Line) → g.lines ≡ b ++ l ∷ ls → (u : ℕ) → ends_user u l.verb ≡ true → list_any (λ (x : Line). ends_user u x.verb) g.lines ≡ true
   ended_listed b l ls parts u h = passes_some (λ (x : Line). ends_user u x.verb) g.lines l (subst (λ (xs : List Line). Contains xs l) (sym parts) (Contains-append_right b (l ∷ ls) l (contains_here l ls))) h
 
-  own_edge_enters : (b : List Line) (l : Line) (ls : List Line) → g.lines ≡ b ++ l ∷ ls → line_fault (record { decls = g.decls; lines = b }) l ≡ None →
+  own_edge_enters : (b : List Line) (l : Line) (ls : List Line) → g.lines ≡ b ++ l ∷ ls → line_fault (record { format = g.format; decls = g.decls; lines = b }) l ≡ None →
       (e : Edge) → Contains (line_edges b l) e → line_passes is_user g e.to ≡ true → list_any (λ (x : Line). ends_user e.to x.verb) g.lines ≡ true
   own_edge_enters b l ls parts fits e c user =
-      let kind = kind_fits (record { decls = g.decls; lines = b }) l fits in
+      let kind = kind_fits (record { format = g.format; decls = g.decls; lines = b }) l fits in
       elim (Contains-append_cases (edges_from_some Passes l.on (length b)) (verb_edges b (length b) l.verb) e c) [
         | inl on ↦ (
             let is : l.verb ≡ User = user_is l.verb (user_here b l ls parts (subst (λ n. line_passes is_user g n ≡ true) (from_some_to Passes l.on (length b) e on) user)) in
@@ -80,12 +81,12 @@ module _ (g : GraphValue) where
           | inl self ↦ absurd (true≢false (sym (user_here b l ls parts (subst (λ n. line_passes is_user g n ≡ true) self.0 user)) ∙ self.1))
           | inr (inl ends) ↦ ended_listed b l ls parts e.to ends
           | inr (inr arrives) ↦ (
-              let unlike : not (line_passes is_phase (record { decls = g.decls; lines = b }) arrives.0) ≡ false = ap (verb_unlike (record { decls = g.decls; lines = b })) (sym arrives.2) ∙ kind.0 in
-              absurd (phase_is_no_user b (l ∷ ls) parts arrives.0 (not-false _ unlike) (subst (λ n. line_passes is_user g n ≡ true) arrives.3 user)))
+              let unlike : not (line_passes is_phase (record { format = g.format; decls = g.decls; lines = b }) arrives.0) ≡ false = sym (arrive_unlike (record { format = g.format; decls = g.decls; lines = b }) arrives.0 arrives.1 arrives.2) ∙ (ap (verb_unlike (record { format = g.format; decls = g.decls; lines = b })) (sym arrives.3) ∙ kind.0) in
+              absurd (phase_is_no_user b (l ∷ ls) parts arrives.0 (not-false _ unlike) (subst (λ n. line_passes is_user g n ≡ true) arrives.4 user)))
         ]
       ]
 
-  enters_by : (b ls : List Line) → g.lines ≡ b ++ ls → LinesFit g.decls b ls → (e : Edge) → Contains (edges_after b ls) e → line_passes is_user g e.to ≡ true → list_any (λ (x : Line). ends_user e.to x.verb) g.lines ≡ true
+  enters_by : (b ls : List Line) → g.lines ≡ b ++ ls → LinesFit g.format g.decls b ls → (e : Edge) → Contains (edges_after b ls) e → line_passes is_user g e.to ≡ true → list_any (λ (x : Line). ends_user e.to x.verb) g.lines ≡ true
   enters_by b [] parts f e c user = absurd (contains_none e c)
   enters_by b (l ∷ ls) parts f e c user = elim (Contains-append_cases (line_edges b l) (edges_after (b ++ l ∷ []) ls) e c) [
     | inl own ↦ own_edge_enters b l ls parts f.1 e own user

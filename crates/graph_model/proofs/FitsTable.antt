@@ -4,6 +4,7 @@ use Rattle.std.specs.Prelude.{Option, Some, None, IsTrue, is_some, nat_le, nat_l
 use Rattle.std.specs.List.{list_all, AllByRecursion}
 use Rattle.std.proofs.lemmas.Bool.{true≢false, and_parts, leb-true, ltb-true}
 use Rattle.index_spaces.specs.Space.{AscendAbove}
+use Rattle.graph_model.specs.declared.graph.format.Format.{Format}
 use Rattle.graph_model.specs.declared.graph.decl.Decl.{Decl}
 use Rattle.graph_model.specs.declared.graph.decl.Decl.TheVariants.{Space, Inst, Lock, Barrier}
 use Rattle.graph_model.specs.declared.graph.verb.Line.{Line}
@@ -65,28 +66,28 @@ no_fault None h = refl
 no_fault (Some x) h = absurd (true≢false (sym h))
 
 -- each item fits after those before it
-abbrev pub decls_fit : List Decl → List Decl → Bool
-decls_fit before [] = true
-decls_fit before (d ∷ ds) = is_decl d && (not (is_some (decl_fault (record { decls = before; lines = [] }) d)) && decls_fit (before ++ d ∷ []) ds)
+abbrev pub decls_fit : Format → List Decl → List Decl → Bool
+decls_fit fm before [] = true
+decls_fit fm before (d ∷ ds) = is_decl d && (not (is_some (decl_fault (record { format = fm; decls = before; lines = [] }) d)) && decls_fit fm (before ++ d ∷ []) ds)
 
-decls_by : (before ds : List Decl) → decls_fit before ds ≡ true → DeclsFit before ds
-decls_by before [] h = tt
-decls_by before (d ∷ ds) h =
+decls_by : (fm : Format) (before ds : List Decl) → decls_fit fm before ds ≡ true → DeclsFit fm before ds
+decls_by fm before [] h = tt
+decls_by fm before (d ∷ ds) h =
     let a = and_parts (is_decl d) _ h in
-    let b = and_parts (not (is_some (decl_fault (record { decls = before; lines = [] }) d))) (decls_fit (before ++ d ∷ []) ds) a.1 in
-    (decl_by d a.0, no_fault _ b.0, decls_by (before ++ d ∷ []) ds b.1)
+    let b = and_parts (not (is_some (decl_fault (record { format = fm; decls = before; lines = [] }) d))) (decls_fit fm (before ++ d ∷ []) ds) a.1 in
+    (decl_by d a.0, no_fault _ b.0, decls_by fm (before ++ d ∷ []) ds b.1)
 
-abbrev pub lines_fit : List Decl → List Line → List Line → Bool
-lines_fit decls before [] = true
-lines_fit decls before (l ∷ ls) = is_name l.name && (are_values (verb_values l.verb) && (not (is_some (line_fault (record { decls = decls; lines = before }) l)) && lines_fit decls (before ++ l ∷ []) ls))
+abbrev pub lines_fit : Format → List Decl → List Line → List Line → Bool
+lines_fit fm decls before [] = true
+lines_fit fm decls before (l ∷ ls) = is_name l.name && (are_values (verb_values l.verb) && (not (is_some (line_fault (record { format = fm; decls = decls; lines = before }) l)) && lines_fit fm decls (before ++ l ∷ []) ls))
 
-lines_by : (decls : List Decl) (before ls : List Line) → lines_fit decls before ls ≡ true → LinesFit decls before ls
-lines_by decls before [] h = tt
-lines_by decls before (l ∷ ls) h =
+lines_by : (fm : Format) (decls : List Decl) (before ls : List Line) → lines_fit fm decls before ls ≡ true → LinesFit fm decls before ls
+lines_by fm decls before [] h = tt
+lines_by fm decls before (l ∷ ls) h =
     let a = and_parts (is_name l.name) _ h in
     let b = and_parts (are_values (verb_values l.verb)) _ a.1 in
-    let c = and_parts (not (is_some (line_fault (record { decls = decls; lines = before }) l))) (lines_fit decls (before ++ l ∷ []) ls) b.1 in
-    (record { named = a.0; values = values_by (verb_values l.verb) b.0 }, no_fault _ c.0, lines_by decls (before ++ l ∷ []) ls c.1)
+    let c = and_parts (not (is_some (line_fault (record { format = fm; decls = decls; lines = before }) l))) (lines_fit fm decls (before ++ l ∷ []) ls) b.1 in
+    (record { named = a.0; values = values_by (verb_values l.verb) b.0 }, no_fault _ c.0, lines_by fm decls (before ++ l ∷ []) ls c.1)
 
-pub fits_by_computing : (g : GraphValue) → decls_fit [] g.decls ≡ true → lines_fit g.decls [] g.lines ≡ true → IsGraph g
-fits_by_computing g decls lines = record { decls = decls_by [] g.decls decls; lines = lines_by g.decls [] g.lines lines }
+pub fits_by_computing : (g : GraphValue) → decls_fit g.format [] g.decls ≡ true → lines_fit g.format g.decls [] g.lines ≡ true → IsGraph g
+fits_by_computing g decls lines = record { decls = decls_by g.format [] g.decls decls; lines = lines_by g.format g.decls [] g.lines lines }

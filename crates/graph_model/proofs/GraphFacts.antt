@@ -7,6 +7,7 @@ use Rattle.std.proofs.lemmas.Bool.{true≢false, or_parts, false_from_ne_true, l
 use Rattle.std.proofs.lemmas.Option.{none-some, same_Some, slice_get-get_or}
 use Rattle.std.proofs.lemmas.List.Elements.{Contains-append_left, Contains-append_right, Contains-append_cases, Contains-get_or}
 use Rattle.index_spaces.specs.Space.{IsSpace}
+use Rattle.graph_model.specs.declared.graph.format.Format.{Format}
 use Rattle.graph_model.specs.declared.graph.decl.Decl.{Decl}
 use Rattle.graph_model.specs.declared.graph.decl.Decl.TheVariants.{Space, Inst, Lock, Barrier}
 use Rattle.graph_model.specs.declared.graph.verb.Edge.{Edge}
@@ -20,6 +21,7 @@ use Rattle.graph_model.specs.declared.graph.verb.Verb.TheVariants.{Trigger, Canc
 use Rattle.graph_model.specs.graph.Graph.{GraphValue, is_phase_of, space_of, named_spaces, space_at}
 use Rattle.graph_model.specs.graph.Edges.{edge, last_place, edges_from_some, verb_edges, line_edges, edges_after, edges}
 use Rattle.graph_model.specs.graph.Fits.{first_reason, line_tests, line_fault, line_unknown, named_lines, on_lines, verb_unknown, DeclsFit, LinesFit, IsGraph}
+use Rattle.graph_model.proofs.ArriveLaws.{arrive_names}
 use Rattle.basics.proofs.ListFacts.{contains_none, contains_cases, contains_here, passes_some, map_contains}
 
 no_first_by : (b : Bool) (w : Why) (ts : List (Bool × Why)) → cond b (Some w) (first_reason ts) ≡ None → (b ≡ false) × (first_reason ts ≡ None)
@@ -76,14 +78,14 @@ verb_ends before (Merge events) h x c = map_edges (length before) Passes events 
 verb_ends before (MergeIgnore events) h x c = map_edges (length before) Ignores events x h c
 verb_ends before (Trigger u) h x c = one_edge (length before) (edge (length before) u Passes) x (omega arith, h u (contains_here u [])) c
 verb_ends before (Cancel u) h x c = one_edge (length before) (edge (length before) u Faults) x (omega arith, h u (contains_here u [])) c
-verb_ends before (Arrive p value) h x c = one_edge (length before) (edge (length before) p Passes) x (omega arith, h p (contains_here p [])) c
+verb_ends before (Arrive p value weight) h x c = one_edge (length before) (edge (length before) p Passes) x (omega arith, h p (subst (λ ks. Contains ks p) (sym (arrive_names p value weight)) (contains_here p []))) c
 verb_ends before (Phase b) h x c = some_edge (length before) Ignores (last_place (is_phase_of b) 0 before None) x
     (λ k e. elim (last_place_below (is_phase_of b) 0 before None k e) [ inl n ↦ absurd (none-some k n) | inr l ↦ (let b : k < 0 + length before = l in omega arith) ]) c
 verb_ends before v h x c = absurd (contains_none x c)
 
-pub line_ends : (decls : List Decl) (before : List Line) (l : Line) → line_fault (record { decls = decls; lines = before }) l ≡ None → (x : Edge) → Contains (line_edges before l) x → EndsUpTo (length before) x
-line_ends decls before l h x c =
-    let known : (k : ℕ) → Contains (named_lines l.verb ++ on_lines l.on) k → k ≤ length before = λ k m. (let b : k < length before = named_below (record { decls = decls; lines = before }) l h k m in omega arith) in
+pub line_ends : (fm : Format) (decls : List Decl) (before : List Line) (l : Line) → line_fault (record { format = fm; decls = decls; lines = before }) l ≡ None → (x : Edge) → Contains (line_edges before l) x → EndsUpTo (length before) x
+line_ends fm decls before l h x c =
+    let known : (k : ℕ) → Contains (named_lines l.verb ++ on_lines l.on) k → k ≤ length before = λ k m. (let b : k < length before = named_below (record { format = fm; decls = decls; lines = before }) l h k m in omega arith) in
     elim (Contains-append_cases (edges_from_some Passes l.on (length before)) (verb_edges before (length before) l.verb) x c) [
       | inl a ↦ some_edge (length before) Passes l.on x (λ k e. known k (Contains-append_right (named_lines l.verb) (on_lines l.on) k (on_listed l.on k e))) a
       | inr b ↦ verb_ends before l.verb (λ k m. known k (Contains-append_left (named_lines l.verb) (on_lines l.on) k m)) x b
@@ -93,11 +95,11 @@ line_ends decls before l h x c =
     on_listed None k e = absurd (none-some k e)
     on_listed (Some j) k e = subst (λ z. Contains (j ∷ []) z) (same_Some j k e) (contains_here j [])
 
-after_ends : (decls : List Decl) (before ls : List Line) → LinesFit decls before ls → (x : Edge) → Contains (edges_after before ls) x → (x.from < length before + length ls) × (x.to < length before + length ls)
-after_ends decls before [] f x c = absurd (contains_none x c)
-after_ends decls before (l ∷ ls) f x c = elim (Contains-append_cases (line_edges before l) (edges_after (before ++ l ∷ []) ls) x c) [
-  | inl a ↦ (let e = line_ends decls before l f.1 x a in let from : x.from ≤ length before = e.0 in let to : x.to ≤ length before = e.1 in (omega arith, omega arith))
-  | inr b ↦ (let e = after_ends decls (before ++ l ∷ []) ls f.2 x b in
+after_ends : (fm : Format) (decls : List Decl) (before ls : List Line) → LinesFit fm decls before ls → (x : Edge) → Contains (edges_after before ls) x → (x.from < length before + length ls) × (x.to < length before + length ls)
+after_ends fm decls before [] f x c = absurd (contains_none x c)
+after_ends fm decls before (l ∷ ls) f x c = elim (Contains-append_cases (line_edges before l) (edges_after (before ++ l ∷ []) ls) x c) [
+  | inl a ↦ (let e = line_ends fm decls before l f.1 x a in let from : x.from ≤ length before = e.0 in let to : x.to ≤ length before = e.1 in (omega arith, omega arith))
+  | inr b ↦ (let e = after_ends fm decls (before ++ l ∷ []) ls f.2 x b in
       let more : length (before ++ l ∷ []) ≡ length before + 1 = length-append before (l ∷ []) in
       let from : x.from < length (before ++ l ∷ []) + length ls = e.0 in let to : x.to < length (before ++ l ∷ []) + length ls = e.1 in (omega arith, omega arith))
 ]
@@ -105,39 +107,39 @@ after_ends decls before (l ∷ ls) f x c = elim (Contains-append_cases (line_edg
 -- the edges of a graph are between its lines
 pub edges_in_range : (g : GraphValue) → IsGraph g → (x : Edge) → Contains (edges g) x → (x.from < length g.lines) × (x.to < length g.lines)
 edges_in_range g f x c =
-    let e = after_ends g.decls [] g.lines f.lines x c in
+    let e = after_ends g.format g.decls [] g.lines f.lines x c in
     let from : x.from < 0 + length g.lines = e.0 in let to : x.to < 0 + length g.lines = e.1 in (omega arith, omega arith)
 
 -- the declared spaces of declarations that fit are spaces
-pub spaces_are : (before ds : List Decl) → DeclsFit before ds → (x : List ℕ × List (ℕ × ℕ)) → Contains (filter_map space_of ds) x → IsSpace x.1
-spaces_are before [] f x c = absurd (contains_none x c)
-spaces_are before (Space name space ∷ ds) f x c = elim (contains_cases (name, space) (filter_map space_of ds) x c) [
+pub spaces_are : (fm : Format) (before ds : List Decl) → DeclsFit fm before ds → (x : List ℕ × List (ℕ × ℕ)) → Contains (filter_map space_of ds) x → IsSpace x.1
+spaces_are fm before [] f x c = absurd (contains_none x c)
+spaces_are fm before (Space name space ∷ ds) f x c = elim (contains_cases (name, space) (filter_map space_of ds) x c) [
   | inl e ↦ subst (λ (y : List ℕ × List (ℕ × ℕ)). IsSpace y.1) e f.0.1
-  | inr r ↦ spaces_are (before ++ Space name space ∷ []) ds f.2 x r
+  | inr r ↦ spaces_are fm (before ++ Space name space ∷ []) ds f.2 x r
 ]
-spaces_are before (Inst name space fields ∷ ds) f x c = spaces_are (before ++ Inst name space fields ∷ []) ds f.2 x c
-spaces_are before (Lock name ∷ ds) f x c = spaces_are (before ++ Lock name ∷ []) ds f.2 x c
-spaces_are before (Barrier name count op first ∷ ds) f x c = spaces_are (before ++ Barrier name count op first ∷ []) ds f.2 x c
+spaces_are fm before (Inst name space fields ∷ ds) f x c = spaces_are fm (before ++ Inst name space fields ∷ []) ds f.2 x c
+spaces_are fm before (Lock name ∷ ds) f x c = spaces_are fm (before ++ Lock name ∷ []) ds f.2 x c
+spaces_are fm before (Barrier name count op first ∷ ds) f x c = spaces_are fm (before ++ Barrier name count op first ∷ []) ds f.2 x c
 
 -- a line of lines that fit fits after some of them
-pub fit_at : (decls : List Decl) (before ls : List Line) → LinesFit decls before ls → (k : ℕ) (l : Line) → slice_get ls k ≡ Some l → (b : List Line) × (line_fault (record { decls = decls; lines = b }) l ≡ None)
-fit_at decls before [] f k l h = absurd (none-some l h)
-fit_at decls before (m ∷ ls) f zero l h = (before, subst (λ x. line_fault (record { decls = decls; lines = before }) x ≡ None) (same_Some m l h) f.1)
-fit_at decls before (m ∷ ls) f (suc k) l h = fit_at decls (before ++ m ∷ []) ls f.2 k l h
+pub fit_at : (fm : Format) (decls : List Decl) (before ls : List Line) → LinesFit fm decls before ls → (k : ℕ) (l : Line) → slice_get ls k ≡ Some l → (b : List Line) × (line_fault (record { format = fm; decls = decls; lines = b }) l ≡ None)
+fit_at fm decls before [] f k l h = absurd (none-some l h)
+fit_at fm decls before (m ∷ ls) f zero l h = (before, subst (λ x. line_fault (record { format = fm; decls = decls; lines = before }) x ≡ None) (same_Some m l h) f.1)
+fit_at fm decls before (m ∷ ls) f (suc k) l h = fit_at fm decls (before ++ m ∷ []) ls f.2 k l h
 
 -- the barrier and the reservation that a line names are declared
-pub verb_known : (g : GraphValue) → IsGraph g → (i : ℕ) (l : Line) (v : Verb) → slice_get g.lines i ≡ Some l → l.verb ≡ v → (b : List Line) × (verb_unknown (record { decls = g.decls; lines = b }) v ≡ false)
+pub verb_known : (g : GraphValue) → IsGraph g → (i : ℕ) (l : Line) (v : Verb) → slice_get g.lines i ≡ Some l → l.verb ≡ v → (b : List Line) × (verb_unknown (record { format = g.format; decls = g.decls; lines = b }) v ≡ false)
 verb_known g f i l v at is =
-    let fit = fit_at g.decls [] g.lines f.lines i l at in
-    let parts = or_parts _ _ (fits_known (record { decls = g.decls; lines = fit.0 }) l fit.1) in
+    let fit = fit_at g.format g.decls [] g.lines f.lines i l at in
+    let parts = or_parts _ _ (fits_known (record { format = g.format; decls = g.decls; lines = fit.0 }) l fit.1) in
     let more = or_parts _ _ parts.1 in
-    (fit.0, subst (λ w. verb_unknown (record { decls = g.decls; lines = fit.0 }) w ≡ false) is more.0)
+    (fit.0, subst (λ w. verb_unknown (record { format = g.format; decls = g.decls; lines = fit.0 }) w ≡ false) is more.0)
 
 -- the space of each number is one
 pub space_is : (g : GraphValue) → IsGraph g → (s : ℕ) → s < length (named_spaces g) → IsSpace (space_at g s)
 space_is g f s h =
     let x = slice_index_or (named_spaces g) s ([], []) in
     let at : slice_get (named_spaces g) s ≡ Some x = slice_get-get_or (named_spaces g) s ([], []) h in
-    let is : IsSpace x.1 = spaces_are [] g.decls f.decls x (Contains-get_or (named_spaces g) s ([], []) h) in
+    let is : IsSpace x.1 = spaces_are g.format [] g.decls f.decls x (Contains-get_or (named_spaces g) s ([], []) h) in
     let same : x.1 ≡ space_at g s = sym (ap (λ (o : Option (List ℕ × List (ℕ × ℕ))). option_map_or (λ (y : List ℕ × List (ℕ × ℕ)). y.1) o []) at) in
     subst (λ y. IsSpace y) same is

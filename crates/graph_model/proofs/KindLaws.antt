@@ -1,10 +1,11 @@
 -- A verb is its kind and a number for each place: the laws of the table.
 use Rattle.std.proofs.Common.{◌≡◌, ℕ, zero, suc, ◌+◌, ◌<◌, ◌≤◌, Bool, true, false, List, [], ◌∷◌, length, refl, sym, ◌∙◌, ap, subst, arith}
-use Rattle.std.specs.Prelude.{zip, map, filter_map, Contains, Option, Some, None, MatchOption, slice_index, slice_get, nat_le}
+use Rattle.std.specs.Prelude.{zip, map, filter_map, Contains, ◌==◌, Option, Some, None, MatchOption, slice_index, slice_get, nat_le}
 use Rattle.std.specs.Option.{option_map_or}
 use Rattle.std.proofs.lemmas.Bool.{true≢false, and_parts, or_parts, leb-true, not-true, eqb-true, false_from_ne_true}
 use Rattle.std.proofs.lemmas.Option.{none-some, same_Some, slice_get-get_or, get_or_from_slice_get}
 use Rattle.std.specs.List.{list_any}
+use Rattle.std.proofs.lemmas.List.{length-map}
 use Rattle.index_spaces.specs.declared.Op.TheVariants as op
 use Rattle.basics.proofs.ListFacts.{contains_here, contains_there, passes_some, some_passes}
 use Rattle.graph_model.specs.declared.graph.table.Kind.{Kind}
@@ -16,27 +17,36 @@ use Rattle.graph_model.specs.declared.graph.table.Parts.{Parts}
 use Rattle.graph_model.specs.declared.graph.verb.Access.{Access}
 use Rattle.graph_model.specs.declared.graph.verb.Mode.{Mode}
 use Rattle.graph_model.specs.declared.graph.verb.Verb.{Verb}
-use Rattle.graph_model.specs.declared.graph.verb.Verb.TheVariants.{User, Merge, MergeIgnore, Reduce, Task}
+use Rattle.graph_model.specs.declared.graph.verb.Verb.TheVariants.{User, Merge, MergeIgnore, Arrive, Reduce, Task}
 use Rattle.graph_model.specs.declared.graph.table.Kernel.{Kernel}
 use Rattle.graph_model.specs.declared.graph.table.Kernel.TheVariants.{Iota}
-use Rattle.graph_model.specs.graph.Table.{kind_places, kernel_kind, kernel_parts, verb_kind, verb_parts, verb_places, verb_of, Placed, any_placed, is_column, is_over, is_space, columns_first, in_order, each_in_order, is_row, part_in, parts_from}
+use Rattle.graph_model.specs.graph.Table.{kind_places, kernel_kind, kernel_parts, arrive_kind, arrive_parts, verb_kind, verb_parts, verb_places, verb_of, Placed, any_placed, is_column, is_over, is_space, columns_first, in_order, each_in_order, is_row, part_in, parts_from}
 use Rattle.graph_model.specs.graph.Graph.{verb_at}
-use Rattle.graph_model.specs.graph.Access.{access, access_at, access_in, accesses_of, verb_accesses}
+use Rattle.graph_model.specs.graph.Access.{access, access_at, access_in, accesses_of, verb_accesses, in_format, accesses}
 use Rattle.graph_model.specs.meaning.LineLaws.{AccessesAreFew}
 
+-- an arrival that is spelled with its weight has another than 1, and 0 stands for the word before it
+abbrev pub NumbersFit : Kind → List ℕ → Type 0
+NumbersFit kinds.ArriveTimes ns = (slice_index ns 2 ≡ 0) × ((slice_index ns 3 == 1) ≡ false)
+NumbersFit k ns = Unit {0}
+
 -- the kind of the verb of a kind
-pub kind_again : (k : Kind) (ns : List ℕ) → verb_kind (verb_of k ns) ≡ Some k
-kind_again kinds.User ns = refl
-kind_again k ns = refl
+pub kind_again : (k : Kind) (ns : List ℕ) → NumbersFit k ns → verb_kind (verb_of k ns) ≡ Some k
+kind_again kinds.User ns h = refl
+kind_again kinds.ArriveTimes ns h = ap (λ b. Some (arrive_kind b)) h.1
+kind_again k ns h = refl
 
 -- the numbers from the place i on
 abbrev pub read_from : ℕ → ℕ → List ℕ → List ℕ
 read_from i zero ns = []
 read_from i (suc n) ns = slice_index ns i ∷ read_from (i + 1) n ns
 
-parts_read : (k : Kind) (ns : List ℕ) → verb_parts (verb_of k ns) ≡ read_from 0 (length (kind_places k)) ns
-parts_read kinds.User ns = refl
-parts_read k ns = refl
+parts_read : (k : Kind) (ns : List ℕ) → NumbersFit k ns → verb_parts (verb_of k ns) ≡ read_from 0 (length (kind_places k)) ns
+parts_read kinds.User ns h = refl
+parts_read kinds.ArriveTimes ns h =
+    ap (λ b. arrive_parts b (slice_index ns 0) (slice_index ns 1) (slice_index ns 3)) h.1
+    ∙ ap (λ z. slice_index ns 0 ∷ slice_index ns 1 ∷ z ∷ slice_index ns 3 ∷ []) (sym h.0)
+parts_read k ns h = refl
 
 read_past : (i n m : ℕ) (ns : List ℕ) → read_from (suc i) n (m ∷ ns) ≡ read_from i n ns
 read_past i zero m ns = refl
@@ -49,13 +59,17 @@ read_all [] = refl
 read_all (n ∷ ns) = ap (λ xs. n ∷ xs) (read_past 0 (length ns) n ns ∙ read_all ns)
 
 -- its parts, where there is one for each place
-pub parts_again : (k : Kind) (ns : List ℕ) → length ns ≡ length (kind_places k) → verb_parts (verb_of k ns) ≡ ns
-parts_again k ns h = parts_read k ns ∙ (ap (λ n. read_from 0 n ns) (sym h) ∙ read_all ns)
+pub parts_again : (k : Kind) (ns : List ℕ) → NumbersFit k ns → length ns ≡ length (kind_places k) → verb_parts (verb_of k ns) ≡ ns
+parts_again k ns n h = parts_read k ns n ∙ (ap (λ n. read_from 0 n ns) (sym h) ∙ read_all ns)
 
 -- the verb of its own kind and parts
 kernel_again : (k : Kernel) → verb_of (kernel_kind k) (kernel_parts k) ≡ Task k
 kernel_again (Iota x s value) = refl
 kernel_again k = refl
+
+arrive_again : (b : Bool) (p v w : ℕ) → (w == 1) ≡ b → verb_of (arrive_kind b) (arrive_parts b p v w) ≡ Arrive p v w
+arrive_again true p v w e = ap (Arrive p v) (sym (eqb-true w 1 e))
+arrive_again false p v w e = refl
 
 again : (v : Verb) → MatchOption (verb_kind v) (Unit {0}) (λ k. verb_of k (verb_parts v) ≡ v)
 again User = refl
@@ -64,6 +78,7 @@ again (MergeIgnore events) = tt
 again (Reduce op.Sum a b s) = refl
 again (Reduce op.Min a b s) = refl
 again (Reduce op.Max a b s) = refl
+again (Arrive p v w) = arrive_again (w == 1) p v w refl
 again (Task k) = kernel_again k
 again v = refl
 
@@ -75,11 +90,16 @@ kernel_each : (k : Kernel) → length (kernel_parts k) ≡ length (kind_places (
 kernel_each (Iota x s value) = refl
 kernel_each k = refl
 
+arrive_each : (b : Bool) (p v w : ℕ) → length (arrive_parts b p v w) ≡ length (kind_places (arrive_kind b))
+arrive_each true p v w = refl
+arrive_each false p v w = refl
+
 pub part_for_each : (v : Verb) → length (verb_parts v) ≡ length (verb_places v)
 part_for_each User = refl
 part_for_each (Reduce op.Sum a b s) = refl
 part_for_each (Reduce op.Min a b s) = refl
 part_for_each (Reduce op.Max a b s) = refl
+part_for_each (Arrive p v w) = arrive_each (w == 1) p v w
 part_for_each (Task k) = kernel_each k
 part_for_each v = refl
 
@@ -265,4 +285,7 @@ few_of None = omega arith
 few_of (Some v) = few v
 
 pub accesses_are_few : AccessesAreFew
-accesses_are_few g i = few_of (verb_at g i)
+accesses_are_few g i =
+    let same : length (accesses g i) ≡ length (option_map_or verb_accesses (verb_at g i) []) = length-map (option_map_or verb_accesses (verb_at g i) []) (in_format g.format) in
+    let h : length (option_map_or verb_accesses (verb_at g i) []) ≤ 3 = few_of (verb_at g i) in
+    omega arith

@@ -11,6 +11,7 @@ pub mod Cancelled
 pub mod Changes
 pub mod Confluence
 pub mod KindLaws
+pub mod ArriveLaws
 pub mod GraphFacts
 pub mod GraphLaws
 pub mod FitsTable
@@ -22,6 +23,8 @@ pub mod StockLaws
 pub mod LastPlace
 pub mod RowLaws
 pub mod RowReads
+pub mod Upgrade
+pub mod UpgradeMeaning
 pub mod CountLaws
 pub mod FaultLaws
 pub mod OrderLaws

@@ -8,15 +8,16 @@ use Rattle.std.proofs.lemmas.Option.{none-some, same_Some, slice_get-get_or, sli
 use Rattle.std.proofs.lemmas.List.Elements.{Contains-get_or}
 use Rattle.index_spaces.specs.Space.{has_point, points, IsSpace, IsWithin}
 use Rattle.index_spaces.proofs.LawFacts.{points_are_listed}
+use Rattle.graph_model.specs.declared.graph.format.Format.{Format}
 use Rattle.graph_model.specs.declared.graph.verb.Access.{Access}
 use Rattle.graph_model.specs.declared.graph.verb.Line.{Line}
 use Rattle.graph_model.specs.declared.graph.verb.Verb.TheVariants.{Phase}
-use Rattle.graph_model.specs.graph.Graph.{GraphValue, ColumnInfo, columns, column_space, named_spaces, space_at, barriers}
-use Rattle.graph_model.specs.graph.Access.{verb_accesses}
+use Rattle.graph_model.specs.graph.Graph.{GraphValue, ColumnInfo, verb_at, columns, column_space, named_spaces, space_at, barriers}
+use Rattle.graph_model.specs.graph.Access.{verb_accesses, in_format}
 use Rattle.graph_model.specs.graph.Fits.{line_tests, line_fault, access_unknown, access_outside, is_used, verb_repeats, repeats, IsGraph}
 use Rattle.graph_model.specs.declared.graph.why.Why.TheVariants as why
 use Rattle.graph_model.specs.meaning.LineLaws.{AccessFits, AccessesFit, ColumnsDiffer, PhasesFit}
-use Rattle.basics.proofs.ListFacts.{contains_none, passes_some, passes_each}
+use Rattle.basics.proofs.ListFacts.{contains_none, map_contains, passes_some, passes_each}
 use Rattle.graph_model.proofs.GraphFacts.{fit_at, fits_known, none_first, spaces_are}
 use Rattle.graph_model.proofs.RowReads.{barrier_known}
 use Rattle.graph_model.proofs.TableLaws.{column_space_known}
@@ -27,7 +28,7 @@ space_is g f s h =
     let x = slice_index_or (named_spaces g) s ([], []) in
     let at : slice_get (named_spaces g) s ≡ Some x = slice_get-get_or (named_spaces g) s ([], []) h in
     let same : x.1 ≡ space_at g s = sym (ap (λ (o : Option (List ℕ × List (ℕ × ℕ))). option_map_or (λ (y : List ℕ × List (ℕ × ℕ)). y.1) o []) at) in
-    subst IsSpace same (spaces_are [] g.decls f.decls x (Contains-get_or (named_spaces g) s ([], []) h))
+    subst IsSpace same (spaces_are g.format [] g.decls f.decls x (Contains-get_or (named_spaces g) s ([], []) h))
 
 -- the space of a column is a space
 column_space_is : (g : GraphValue) → IsGraph g → (c : ℕ) → c < length (columns g) → IsSpace (column_space g c)
@@ -55,9 +56,9 @@ inside g a h p k =
     true_is true e = refl
     true_is false e = absurd (true≢false (sym e))
 
-access_fits : (g : GraphValue) → IsGraph g → (l : Line) (b : List Line) → line_fault (record { decls = g.decls; lines = b }) l ≡ None → (a : Access) → Contains (verb_accesses l.verb) a → AccessFits g a
+access_fits : (g : GraphValue) → IsGraph g → (l : Line) (b : List Line) → line_fault (record { format = g.format; decls = g.decls; lines = b }) l ≡ None → (a : Access) → Contains (verb_accesses l.verb) a → AccessFits g a
 access_fits g f l b fits a c =
-    let g' : GraphValue = record { decls = g.decls; lines = b } in
+    let g' : GraphValue = record { format = g.format; decls = g.decls; lines = b } in
     let parts = or_parts _ _ (fits_known g' l fits) in
     let more = or_parts _ _ parts.1 in
     let known : access_unknown g' a ≡ false = none_of (access_unknown g') (verb_accesses l.verb) more.1 a c in
@@ -70,10 +71,16 @@ access_fits g f l b fits a c =
 
 accesses_by : (g : GraphValue) → IsGraph g → (i : ℕ) (o : Option Line) → slice_get g.lines i ≡ o → (a : Access) → Contains (option_map_or verb_accesses (option_map (λ (l : Line). l.verb) o) []) a → AccessFits g a
 accesses_by g f i None e a c = absurd (contains_none a c)
-accesses_by g f i (Some l) e a c = let b = fit_at g.decls [] g.lines f.lines i l e in access_fits g f l b.0 b.1 a c
+accesses_by g f i (Some l) e a c = let b = fit_at g.format g.decls [] g.lines f.lines i l e in access_fits g f l b.0 b.1 a c
+
+-- it fits as a format takes it
+fits_in : (g : GraphValue) (fm : Format) (a : Access) → AccessFits g a → AccessFits g (in_format fm a)
+fits_in g fm a h = record { column = h.column; space = h.space; is_space = h.is_space; is_column_space = h.is_column_space; within = h.within }
 
 pub accesses_fit : AccessesFit
-accesses_fit g i a f c = accesses_by g f i (slice_get g.lines i) refl a c
+accesses_fit g i a f c =
+    let m = map_contains (in_format g.format) (option_map_or verb_accesses (verb_at g i) []) a c in
+    subst (AccessFits g) m.2 (fits_in g g.format m.0 (accesses_by g f i (slice_get g.lines i) refl m.0 m.1))
 
 phase_by : (g : GraphValue) → IsGraph g → (i b : ℕ) (o : Option Line) → slice_get g.lines i ≡ o → option_map (λ (l : Line). l.verb) o ≡ Some (Phase b) → b < length (barriers g)
 phase_by g f i b None e h = absurd (none-some (Phase b) h)
@@ -96,13 +103,25 @@ apart (z ∷ zs) (suc j) (suc k) x y h l e f = apart zs j k x y (or_parts _ _ h)
 columns_by : (g : GraphValue) → IsGraph g → (i j k : ℕ) (a b : Access) (o : Option Line) → slice_get g.lines i ≡ o → j < k → slice_get (option_map_or verb_accesses (option_map (λ (l : Line). l.verb) o) []) j ≡ Some a → slice_get (option_map_or verb_accesses (option_map (λ (l : Line). l.verb) o) []) k ≡ Some b → a.column ≢ b.column
 columns_by g f i j k a b None at l e h = absurd (none-some a e)
 columns_by g f i j k a b (Some x) at l e h =
-    let fit = fit_at g.decls [] g.lines f.lines i x at in
-    let g' : GraphValue = record { decls = g.decls; lines = fit.0 } in
+    let fit = fit_at g.format g.decls [] g.lines f.lines i x at in
+    let g' : GraphValue = record { format = g.format; decls = g.decls; lines = fit.0 } in
     let once : (is_used g' x.name || (verb_repeats g' x.verb || repeats nat_eq (map (λ (a : Access). a.column) (verb_accesses x.verb)))) ≡ false =
     none_first (line_tests g' x) fit.1 (is_used g' x.name || (verb_repeats g' x.verb || repeats nat_eq (map (λ (a : Access). a.column) (verb_accesses x.verb))), why.Twice) (0, omega arith, refl) in
     let apart_columns : repeats nat_eq (map (λ (a : Access). a.column) (verb_accesses x.verb)) ≡ false = (or_parts _ _ (or_parts _ _ once).1).1 in
     apart (map (λ (a : Access). a.column) (verb_accesses x.verb)) j k a.column b.column apart_columns l (slice_get-map (λ (a : Access). a.column) (verb_accesses x.verb) j ∙ ap (option_map (λ (a : Access). a.column)) e)
     (slice_get-map (λ (a : Access). a.column) (verb_accesses x.verb) k ∙ ap (option_map (λ (a : Access). a.column)) h)
 
+-- what stands behind an access as a format takes it
+got_by : (fm : Format) (o : Option Access) (a : Access) → option_map (in_format fm) o ≡ Some a → (b : Access) × (o ≡ Some b) × (b.column ≡ a.column)
+got_by fm None a e = absurd (none-some a e)
+got_by fm (Some b) a e = (b, refl, ap (λ (x : Access). x.column) (same_Some (in_format fm b) a e))
+
+got_behind_format : (fm : Format) (xs : List Access) (k : ℕ) (a : Access) → slice_get (map (in_format fm) xs) k ≡ Some a → (b : Access) × (slice_get xs k ≡ Some b) × (b.column ≡ a.column)
+got_behind_format fm xs k a e = got_by fm (slice_get xs k) a (sym (slice_get-map (in_format fm) xs k) ∙ e)
+
 pub columns_differ : ColumnsDiffer
-columns_differ g i j k a b f l e h = columns_by g f i j k a b (slice_get g.lines i) refl l e h
+columns_differ g i j k a b f l e h same =
+    let xs : List Access = option_map_or verb_accesses (verb_at g i) [] in
+    let one = got_behind_format g.format xs j a e in
+    let other = got_behind_format g.format xs k b h in
+    columns_by g f i j k one.0 other.0 (slice_get g.lines i) refl l one.1 other.1 (one.2 ∙ (same ∙ sym other.2))

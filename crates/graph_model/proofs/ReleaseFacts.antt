@@ -5,6 +5,7 @@ use Rattle.std.specs.Option.{option_map_or}
 use Rattle.std.specs.List.{list_any}
 use Rattle.std.proofs.lemmas.Bool.{true≢false, or_parts, or_left, or_right, not-false, cases_order, leb-false}
 use Rattle.std.proofs.lemmas.Option.{none-some, same_Some}
+use Rattle.graph_model.specs.declared.graph.format.Format.{Format}
 use Rattle.graph_model.specs.declared.graph.decl.Decl.{Decl}
 use Rattle.graph_model.specs.declared.graph.verb.Line.{Line}
 use Rattle.graph_model.specs.declared.graph.verb.Verb.{Verb}
@@ -29,21 +30,21 @@ acquired_lock_known g f i k a =
     lock_known g f i k l.0 l.1 l.2
 
 -- the lines of a graph before one of them, that line, and those after it
-pub record IsCut (decls : List Decl) (all before : List Line) (l : Line) (behind : List Line) : Type 0 where
+pub record IsCut (fm : Format) (decls : List Decl) (all before : List Line) (l : Line) (behind : List Line) : Type 0 where
   pub split : all ≡ before ++ l ∷ behind
-  pub fits : line_fault (record { decls = decls; lines = before }) l ≡ None
+  pub fits : line_fault (record { format = fm; decls = decls; lines = before }) l ≡ None
 
 regroup : (a : List Line) (l : Line) (ls : List Line) → a ++ l ∷ ls ≡ (a ++ l ∷ []) ++ ls
 regroup a l ls = sym (append_assoc a (l ∷ []) ls)
 
 -- the cut at a line
-pub cut_at : (decls : List Decl) (before ls : List Line) → LinesFit decls before ls → (k : ℕ) (l : Line) → slice_get ls k ≡ Some l →
-    (b : List Line) × (behind : List Line) × IsCut decls (before ++ ls) b l behind × (length b ≡ length before + k)
-cut_at decls before [] f k l h = absurd (none-some l h)
-cut_at decls before (m ∷ ls) f zero l h =
-    (before, ls, subst (λ x. IsCut decls (before ++ m ∷ ls) before x ls) (same_Some m l h) (record { split = refl; fits = f.1 }), (let e : length before ≡ length before + 0 = omega arith in e))
-cut_at decls before (m ∷ ls) f (suc k) l h =
-    let c = cut_at decls (before ++ m ∷ []) ls f.2 k l h in
+pub cut_at : (fm : Format) (decls : List Decl) (before ls : List Line) → LinesFit fm decls before ls → (k : ℕ) (l : Line) → slice_get ls k ≡ Some l →
+    (b : List Line) × (behind : List Line) × IsCut fm decls (before ++ ls) b l behind × (length b ≡ length before + k)
+cut_at fm decls before [] f k l h = absurd (none-some l h)
+cut_at fm decls before (m ∷ ls) f zero l h =
+    (before, ls, subst (λ x. IsCut fm decls (before ++ m ∷ ls) before x ls) (same_Some m l h) (record { split = refl; fits = f.1 }), (let e : length before ≡ length before + 0 = omega arith in e))
+cut_at fm decls before (m ∷ ls) f (suc k) l h =
+    let c = cut_at fm decls (before ++ m ∷ []) ls f.2 k l h in
     let one : length (before ++ m ∷ []) ≡ length before + 1 = length-append before (m ∷ []) in
     let at : length c.0 ≡ length (before ++ m ∷ []) + k = c.3 in
     (c.0, c.1, record { split = regroup before m ls ∙ c.2.split; fits = c.2.fits }, (let e : length c.0 ≡ length before + suc k = omega arith in e))
@@ -75,10 +76,10 @@ some_acquire None h = absurd (true≢false (sym h))
 some_acquire (Some v) h = let a = acquire_by v h in (a.0, ap Some a.1)
 
 -- the cut at a release
-release_cut : (g : GraphValue) → IsGraph g → (r q : ℕ) → Releases g r q → (b : List Line) × (l : Line) × (behind : List Line) × IsCut g.decls g.lines b l behind × (length b ≡ r) × (l.verb ≡ Release q)
+release_cut : (g : GraphValue) → IsGraph g → (r q : ℕ) → Releases g r q → (b : List Line) × (l : Line) × (behind : List Line) × IsCut g.format g.decls g.lines b l behind × (length b ≡ r) × (l.verb ≡ Release q)
 release_cut g f r q h =
     let l = verb_line g r (Release q) (release_is g r q h) in
-    let c = cut_at g.decls [] g.lines f.lines r l.0 l.1 in
+    let c = cut_at g.format g.decls [] g.lines f.lines r l.0 l.1 in
     let at : length c.0 ≡ 0 + r = c.3 in
     (c.0, l.0, c.1, c.2, (let e : length c.0 ≡ r = omega arith in e), l.2)
 
@@ -86,10 +87,10 @@ release_cut g f r q h =
 pub release_names : (g : GraphValue) → IsGraph g → (r q : ℕ) → Releases g r q → (l : ℕ) × Acquires g q l
 release_names g f r q h =
     let c = release_cut g f r q h in
-    let kind = or_parts (verb_unlike (record { decls = g.decls; lines = c.0 }) c.1.verb) (takes_no_on c.1.verb && is_some c.1.on)
-    (none_first (line_tests (record { decls = g.decls; lines = c.0 }) c.1) c.3.fits (verb_unlike (record { decls = g.decls; lines = c.0 }) c.1.verb || (takes_no_on c.1.verb && is_some c.1.on), why.Kind) (2, omega arith, refl)) in
-    let unlike : not (line_passes is_acquire (record { decls = g.decls; lines = c.0 }) q) ≡ false = ap (verb_unlike (record { decls = g.decls; lines = c.0 })) (sym c.5) ∙ kind.0 in
-    let before : at_passes is_acquire c.0 q ≡ true = not-false (line_passes is_acquire (record { decls = g.decls; lines = c.0 }) q) unlike in
+    let kind = or_parts (verb_unlike (record { format = g.format; decls = g.decls; lines = c.0 }) c.1.verb) (takes_no_on c.1.verb && is_some c.1.on)
+    (none_first (line_tests (record { format = g.format; decls = g.decls; lines = c.0 }) c.1) c.3.fits (verb_unlike (record { format = g.format; decls = g.decls; lines = c.0 }) c.1.verb || (takes_no_on c.1.verb && is_some c.1.on), why.Kind) (2, omega arith, refl)) in
+    let unlike : not (line_passes is_acquire (record { format = g.format; decls = g.decls; lines = c.0 }) q) ≡ false = ap (verb_unlike (record { format = g.format; decls = g.decls; lines = c.0 })) (sym c.5) ∙ kind.0 in
+    let before : at_passes is_acquire c.0 q ≡ true = not-false (line_passes is_acquire (record { format = g.format; decls = g.decls; lines = c.0 }) q) unlike in
     let all : line_passes is_acquire g q ≡ true = ap (λ ls. at_passes is_acquire ls q) c.3.split ∙ passes_more is_acquire c.0 (c.1 ∷ c.2) q before in
     let l = some_acquire (verb_at g q) all in
     (l.0, is_acquire_from g q l.0 l.1)
@@ -104,7 +105,7 @@ no_earlier : (g : GraphValue) → IsGraph g → (r s q : ℕ) → Releases g r q
 no_earlier g f r s q h k lower =
     let c = release_cut g f r q h in
     let at : length c.0 ≡ r = c.4 in
-    let fresh : verb_repeats (record { decls = g.decls; lines = c.0 }) (Release q) ≡ false = ap (verb_repeats (record { decls = g.decls; lines = c.0 })) (sym c.5) ∙ repeats_not (record { decls = g.decls; lines = c.0 }) c.1 c.3.fits in
+    let fresh : verb_repeats (record { format = g.format; decls = g.decls; lines = c.0 }) (Release q) ≡ false = ap (verb_repeats (record { format = g.format; decls = g.decls; lines = c.0 })) (sym c.5) ∙ repeats_not (record { format = g.format; decls = g.decls; lines = c.0 }) c.1 c.3.fits in
     true≢false (sym (passes_before (is_release_of q) c.0 (c.1 ∷ c.2) s (omega arith) (ap (λ ls. at_passes (is_release_of q) ls s) (sym c.3.split) ∙ k)) ∙ fresh)
 
 -- an acquire has one release

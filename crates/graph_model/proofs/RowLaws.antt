@@ -1,10 +1,14 @@
 -- The edges and the rows of a graph with one more line.
-use Rattle.std.proofs.Common.{◌≡◌, ℕ, ◌+◌, ◌*◌, zero-add, ◌<◌, ◌≤◌, Bool, true, false, cond, ◌||◌, List, [], ◌∷◌, ◌++◌, length, refl, sym, ◌∙◌, ap, append-nil, append_assoc, length-append, arith, get_or}
-use Rattle.std.specs.Prelude.{◌==◌, Contains, filter, sum_by, None}
+use Rattle.std.proofs.Common.{◌≡◌, ℕ, ◌+◌, ◌*◌, zero-add, ◌<◌, ◌≤◌, Bool, true, false, cond, ◌||◌, List, [], ◌∷◌, ◌++◌, length, refl, sym, ◌∙◌, ap, subst, append-nil, append_assoc, length-append, arith, get_or}
+use Rattle.std.specs.Prelude.{◌==◌, Contains, filter, None, nat_lt}
+use Rattle.std.proofs.lemmas.Bool.{or_parts, ltb-false}
+use Rattle.std.proofs.lemmas.Option.{slice_get-get_or}
 use Rattle.std.specs.List.{list_any}
 use Rattle.std.proofs.lemmas.List.Elements.{filter-append, Contains-append_left}
 use Rattle.std.proofs.lemmas.List.Folds.{list_any-append}
 use Rattle.std.proofs.lemmas.List.Sums.{sum_by-append, sum_by-le}
+use Rattle.graph_model.specs.declared.graph.format.Format.{Format}
+use Rattle.graph_model.specs.declared.graph.format.Format.TheVariants.{One, Two}
 use Rattle.graph_model.specs.declared.graph.decl.Decl.{Decl}
 use Rattle.graph_model.specs.declared.kept.mark.Mark.{Mark}
 use Rattle.graph_model.specs.declared.kept.side.Side.TheVariants.{From, To}
@@ -14,9 +18,11 @@ use Rattle.graph_model.specs.declared.graph.verb.Verb.{Verb}
 use Rattle.graph_model.specs.declared.graph.verb.Verb.TheVariants.{Trigger, Cancel, Arrive, Release}
 use Rattle.graph_model.specs.graph.Graph.{GraphValue, ends_user, is_release_of, arrival_weight, arrivals}
 use Rattle.graph_model.specs.graph.Edges.{line_edges, edges_after, edges, edges_into, edges_out_of}
-use Rattle.graph_model.specs.graph.Fits.{named_lines, on_lines, line_fault, with_decl, with_line}
+use Rattle.graph_model.specs.graph.Fits.{named_lines, on_lines, most_weight, verb_misnumbered, line_tests, line_fault, with_decl, with_line, IsGraph}
 use Rattle.graph_model.specs.kept.Rows.{RowsValue, NamesBelow, EndsBelow, mark_after, mark_of, AddsRow, AreRowsOf}
-use Rattle.graph_model.proofs.GraphFacts.{line_ends, named_below}
+use Rattle.graph_model.specs.declared.graph.why.Why.TheVariants as why
+use Rattle.graph_model.proofs.GraphFacts.{line_ends, named_below, none_first, fit_at}
+use Rattle.graph_model.proofs.ArriveLaws.{arrive_names}
 use Rattle.basics.proofs.ListFacts.{contains_here}
 
 edges_after_push : (before ls : List Line) (l : Line) → edges_after before (ls ++ l ∷ []) ≡ edges_after before ls ++ line_edges (before ++ ls) l
@@ -73,29 +79,42 @@ rows_decl g d rows a = record { into_count = a.into_count; from_count = a.from_c
 
 -- what the rows ask of a line that fits
 pub from_below : (g : GraphValue) (l : Line) → line_fault g l ≡ None → EndsBelow From (line_edges g.lines l) (length g.lines + 1)
-from_below g l h = record { below = λ e c. (let b : e.from ≤ length g.lines = (line_ends g.decls g.lines l h e c).0 in omega arith) }
+from_below g l h = record { below = λ e c. (let b : e.from ≤ length g.lines = (line_ends g.format g.decls g.lines l h e c).0 in omega arith) }
 
 pub to_below : (g : GraphValue) (l : Line) → line_fault g l ≡ None → EndsBelow To (line_edges g.lines l) (length g.lines + 1)
-to_below g l h = record { below = λ e c. (let b : e.to ≤ length g.lines = (line_ends g.decls g.lines l h e c).1 in omega arith) }
+to_below g l h = record { below = λ e c. (let b : e.to ≤ length g.lines = (line_ends g.format g.decls g.lines l h e c).1 in omega arith) }
 
 names_below_by : (v : Verb) (n : ℕ) → ((k : ℕ) → Contains (named_lines v) k → k < n) → NamesBelow n v
 names_below_by (Trigger u) n h = h u (contains_here u [])
 names_below_by (Cancel u) n h = h u (contains_here u [])
-names_below_by (Arrive p v) n h = h p (contains_here p [])
+names_below_by (Arrive p v w) n h = h p (subst (λ ks. Contains ks p) (sym (arrive_names p v w)) (contains_here p []))
 names_below_by (Release q) n h = h q (contains_here q [])
 names_below_by v n h = tt
 
 pub names_below : (g : GraphValue) (l : Line) → line_fault g l ≡ None → NamesBelow (length g.lines) l.verb
 names_below g l h = names_below_by l.verb (length g.lines) (λ k c. named_below g l h k (Contains-append_left (named_lines l.verb) (on_lines l.on) k c))
 
-one_or_none : (b : Bool) → cond b 1 0 ≤ 1
-one_or_none true = omega arith
-one_or_none false = omega arith
+all_or_none : (b : Bool) (w : ℕ) → w ≤ 8192 → cond b w 0 ≤ 8192
+all_or_none true w h = h
+all_or_none false w h = omega arith
 
-weight_few : (p : ℕ) (v : Verb) → arrival_weight p v ≤ 1
-weight_few p (Arrive q v) = one_or_none (q == p)
-weight_few p v = omega arith
+most_few : (f : Format) → most_weight f ≤ 8192
+most_few One = omega arith
+most_few Two = omega arith
 
--- there are no more arrivals than lines
-pub few_arrivals : (p : ℕ) (ls : List Line) → sum_by (λ l. arrival_weight p l.verb) ls ≤ length ls
-few_arrivals p ls = let b : sum_by (λ (l : Line). arrival_weight p l.verb) ls ≤ length ls * 1 = sum_by-le (λ (l : Line). arrival_weight p l.verb) 1 ls (λ k d below. weight_few p (get_or ls k d).verb) in omega arith
+-- an arrival that fits counts for no more than a barrier may ask for
+weight_few : (f : Format) (p : ℕ) (v : Verb) → verb_misnumbered f v ≡ false → arrival_weight p v ≤ 8192
+weight_few f p (Arrive q v w) h =
+    let most : w ≤ most_weight f = ltb-false (most_weight f) w (or_parts (nat_lt w 1) (nat_lt (most_weight f) w) h).1 in
+    let few : most_weight f ≤ 8192 = most_few f in
+    all_or_none (q == p) w (omega arith)
+weight_few f p v h = omega arith
+
+pub line_weight_few : (g : GraphValue) (l : Line) (p : ℕ) → line_fault g l ≡ None → arrival_weight p l.verb ≤ 8192
+line_weight_few g l p h = weight_few g.format p l.verb (none_first (line_tests g l) h (verb_misnumbered g.format l.verb, why.Number) (3, omega arith, refl))
+
+-- what the arrivals at a line count for is bounded
+pub few_arrivals : (g : GraphValue) → IsGraph g → (p : ℕ) → arrivals g p ≤ length g.lines * 8192
+few_arrivals g f p = sum_by-le (λ (l : Line). arrival_weight p l.verb) 8192 g.lines (λ k d below.
+    let fit = fit_at g.format g.decls [] g.lines f.lines k (get_or g.lines k d) (slice_get-get_or g.lines k d below) in
+    line_weight_few (record { format = g.format; decls = g.decls; lines = fit.0 }) (get_or g.lines k d) p fit.1)

@@ -1,6 +1,6 @@
 -- What the rows and the tables of a graph give at a number.
-use Rattle.std.proofs.Common.{◌≡◌, ℕ, ◌+◌, ◌^◌, ◌<◌, ◌≤◌, false, List, [], length, refl, sym, ◌∙◌, ap, subst, arith, get_or}
-use Rattle.std.specs.Prelude.{Option, Some, nat_lt, not, option_map, slice_get}
+use Rattle.std.proofs.Common.{◌≡◌, ℕ, ◌+◌, ◌*◌, ◌^◌, ◌<◌, ◌≤◌, false, List, [], length, refl, sym, ◌∙◌, ap, subst, arith, get_or}
+use Rattle.std.specs.Prelude.{Option, Some, None, nat_lt, not, option_map, slice_get}
 use Rattle.std.specs.Option.{option_map_or}
 use Rattle.std.proofs.lemmas.Bool.{leb-false}
 use Rattle.std.proofs.lemmas.Option.{get_or_from_slice_get, slice_get_read}
@@ -9,12 +9,12 @@ use Rattle.graph_model.specs.declared.graph.verb.Edge.{Edge}
 use Rattle.graph_model.specs.declared.graph.verb.Line.{Line}
 use Rattle.graph_model.specs.declared.graph.verb.Verb.{Verb}
 use Rattle.graph_model.specs.declared.graph.verb.Verb.TheVariants.{User, Phase}
-use Rattle.graph_model.specs.graph.Graph.{GraphValue, BarrierInfo, barriers, barrier_count, verb_at, never_comes, never_comes_as}
+use Rattle.graph_model.specs.graph.Graph.{GraphValue, BarrierInfo, arrival_weight, barriers, barrier_count, verb_at, never_comes, never_comes_as}
 use Rattle.graph_model.specs.graph.Edges.{edges_into, edges_out_of}
-use Rattle.graph_model.specs.graph.Fits.{IsGraph}
+use Rattle.graph_model.specs.graph.Fits.{IsGraph, line_fault}
 use Rattle.graph_model.specs.kept.Rows.{RowsValue, mark_at, mark_of, AreRowsOf}
 use Rattle.graph_model.proofs.GraphFacts.{verb_known}
-use Rattle.graph_model.proofs.RowLaws.{few_arrivals}
+use Rattle.graph_model.proofs.RowLaws.{few_arrivals, line_weight_few}
 
 -- a line of a graph has a row
 pub row_is : (g now : GraphValue) (rows : RowsValue) (i : ℕ) → g ≡ now → AreRowsOf g rows → i < length now.lines → i < length rows.marks
@@ -26,10 +26,11 @@ into_read g now rows i es same a h = sym (get_or_from_slice_get rows.into i es [
 pub from_read : (g now : GraphValue) (rows : RowsValue) (i : ℕ) (es : List Edge) → g ≡ now → AreRowsOf g rows → slice_get rows.from i ≡ Some es → es ≡ edges_out_of now i
 from_read g now rows i es same a h = sym (get_or_from_slice_get rows.from i es [] h) ∙ (a.from i ∙ ap (λ x. edges_out_of x i) same)
 
-pub few_marked : (g : GraphValue) (rows : RowsValue) → AreRowsOf g rows → length g.lines ≤ 8192 → (i : ℕ) → (mark_at rows.marks i).arrivals + 1 < 2 ^ 32
-few_marked g rows a h i =
+pub few_marked : (g : GraphValue) (rows : RowsValue) (l : Line) → IsGraph g → AreRowsOf g rows → length g.lines ≤ 8192 → line_fault g l ≡ None → (i : ℕ) → (mark_at rows.marks i).arrivals + arrival_weight i l.verb < 2 ^ 32
+few_marked g rows l f a h fits i =
     let same : (mark_at rows.marks i).arrivals ≡ (mark_of g i).arrivals = ap (λ (m : Mark). m.arrivals) (a.mark i) in
-    let few : (mark_of g i).arrivals ≤ length g.lines = few_arrivals i g.lines in
+    let few : (mark_of g i).arrivals ≤ length g.lines * 8192 = few_arrivals g f i in
+    let more : arrival_weight i l.verb ≤ 8192 = line_weight_few g l i fits in
     omega arith
 
 -- the verb of a line that is read

@@ -8,6 +8,7 @@ use Rattle.std.proofs.lemmas.Option.{none-some, same_Some, slice_get_within, get
 use Rattle.std.proofs.lemmas.Grind.{flat_map-append}
 use Rattle.std.proofs.lemmas.List.{append-nil}
 use Rattle.std.proofs.lemmas.List.Elements.{filter_map-append, Contains-append_cases}
+use Rattle.graph_model.specs.declared.graph.format.Format.{Format}
 use Rattle.graph_model.specs.declared.graph.decl.Decl.{Decl}
 use Rattle.graph_model.specs.declared.graph.decl.Decl.TheVariants.{Space, Inst, Lock, Barrier}
 use Rattle.graph_model.specs.declared.graph.verb.Line.{Line}
@@ -173,27 +174,27 @@ space_decl_is xs s d known gives =
     (x.0, space_of_is d x (gives ∙ at) ∙ ap (λ z. Space x.0 z) (sym space), at ∙ ap (λ z. Some (x.0, z)) (sym space))
 
 -- the space of a column is declared
-pub columns_known : (before ds : List Decl) → DeclsFit before ds → (x : ColumnInfo) → Contains (flat_map columns_of ds) x → x.space < length (filter_map space_of (before ++ ds))
-columns_known before [] f x c = absurd (contains_none x c)
-columns_known before (d ∷ ds) f x c = elim (Contains-append_cases (columns_of d) (flat_map columns_of ds) x c) [
-  | inl here ↦ (let k : x.space < length (filter_map space_of before) = known_here before d f.1 x here in
+pub columns_known : (fm : Format) (before ds : List Decl) → DeclsFit fm before ds → (x : ColumnInfo) → Contains (flat_map columns_of ds) x → x.space < length (filter_map space_of (before ++ ds))
+columns_known fm before [] f x c = absurd (contains_none x c)
+columns_known fm before (d ∷ ds) f x c = elim (Contains-append_cases (columns_of d) (flat_map columns_of ds) x c) [
+  | inl here ↦ (let k : x.space < length (filter_map space_of before) = known_here fm before d f.1 x here in
       let e : length (filter_map space_of (before ++ d ∷ ds)) ≡ length (filter_map space_of before) + length (filter_map space_of (d ∷ ds)) =
       ap length (filter_map-append space_of before (d ∷ ds)) ∙ length-append (filter_map space_of before) (filter_map space_of (d ∷ ds)) in omega arith)
-  | inr there ↦ subst (λ l. x.space < length (filter_map space_of l)) (append_assoc before (d ∷ []) ds) (columns_known (before ++ d ∷ []) ds f.2 x there)
+  | inr there ↦ subst (λ l. x.space < length (filter_map space_of l)) (append_assoc before (d ∷ []) ds) (columns_known fm (before ++ d ∷ []) ds f.2 x there)
 ]
   where
-    known_here : (before : List Decl) (d : Decl) → decl_fault (record { decls = before; lines = [] }) d ≡ None → (x : ColumnInfo) → Contains (columns_of d) x → x.space < length (filter_map space_of before)
-    known_here before (Space name space) h x c = absurd (contains_none x c)
-    known_here before (Inst name space fields) h x c =
-        let g : GraphValue = record { decls = before; lines = [] } in
+    known_here : (fm : Format) (before : List Decl) (d : Decl) → decl_fault (record { format = fm; decls = before; lines = [] }) d ≡ None → (x : ColumnInfo) → Contains (columns_of d) x → x.space < length (filter_map space_of before)
+    known_here fm before (Space name space) h x c = absurd (contains_none x c)
+    known_here fm before (Inst name space fields) h x c =
+        let g : GraphValue = record { format = fm; decls = before; lines = [] } in
         let m = map_contains (λ f. record { inst = name; field = f; space = space }) fields x c in
         let known : decl_unknown g (Inst name space fields) ≡ false = none_first (decl_tests g (Inst name space fields)) h (decl_unknown g (Inst name space fields), why.Unknown) (1, omega arith, refl) in
         subst (λ (y : ColumnInfo). y.space < length (filter_map space_of before)) m.2 (leb-false (length (filter_map space_of before)) space known)
-    known_here before (Lock name) h x c = absurd (contains_none x c)
-    known_here before (Barrier name count op first) h x c = absurd (contains_none x c)
+    known_here fm before (Lock name) h x c = absurd (contains_none x c)
+    known_here fm before (Barrier name count op first) h x c = absurd (contains_none x c)
 
 pub column_space_known : (g : GraphValue) → IsGraph g → (c : ℕ) (x : ColumnInfo) → slice_get (columns g) c ≡ Some x → x.space < length (named_spaces g)
-column_space_known g f c x e = columns_known [] g.decls f.decls x (c, slice_get_within (columns g) c x e, get_or_from_slice_get (columns g) c x x e)
+column_space_known g f c x e = columns_known g.format [] g.decls f.decls x (c, slice_get_within (columns g) c x e, get_or_from_slice_get (columns g) c x x e)
 
 -- a graph with one more declaration, and with one more line, is within the limits
 pub limits_decl : (g : GraphValue) (d : Decl) → decl_fault g d ≡ None → IsWithinLimits (with_decl g d)

@@ -89,12 +89,12 @@ pub phase_is : (v : Verb) → is_phase v ≡ true → (b : ℕ) × (v ≡ Phase 
 phase_is (Phase k) h = (k, refl)
 phase_is v h = absurd (true≢false (sym h))
 
-pub arrival_is : (p : ℕ) (v : Verb) (n : ℕ) → arrival_value p v ≡ Some n → v ≡ Arrive p n
-arrival_is p (Arrive k w) n h = arrival_cases k p w n (k == p) refl h
+pub arrival_is : (p : ℕ) (v : Verb) (n : ℕ) → arrival_value p v ≡ Some n → (w : ℕ) × (v ≡ Arrive p n w)
+arrival_is p (Arrive k m w) n h = (w, arrival_cases k p m n (k == p) refl h)
   where
-    arrival_cases : (k p w n : ℕ) (b : Bool) → (k == p) ≡ b → cond b (Some w) None ≡ Some n → Arrive k w ≡ Arrive p n
-    arrival_cases k p w n true e h = ap (λ z. Arrive z w) (eqb-true k p e) ∙ ap (Arrive p) (same_Some w n h)
-    arrival_cases k p w n false e h = absurd (none-some n h)
+    arrival_cases : (k p m n : ℕ) (b : Bool) → (k == p) ≡ b → cond b (Some m) None ≡ Some n → Arrive k m w ≡ Arrive p n w
+    arrival_cases k p m n true e h = ap (λ z. Arrive z m w) (eqb-true k p e) ∙ ap (λ z. Arrive p z w) (same_Some m n h)
+    arrival_cases k p m n false e h = absurd (none-some n h)
 arrival_is p v n h = absurd (none-some n h)
 
 -- whether a line acquires a reservation
@@ -120,11 +120,11 @@ from_some_has kind None n e c = absurd (contains_none e c)
 from_some_has kind (Some k) n e c = (k, refl)
 
 -- where the edges lead that a line gives: to itself, which is no user event, to the user event that it ends, or to the phase at which it arrives
-pub verb_edge_to : (before : List Line) (v : Verb) (e : Edge) → Contains (verb_edges before (length before) v) e → ((e.to ≡ length before) × (is_user v ≡ false)) ⊎ ((ends_user e.to v ≡ true) ⊎ ((p w : ℕ) × (v ≡ Arrive p w) × (e.to ≡ p)))
+pub verb_edge_to : (before : List Line) (v : Verb) (e : Edge) → Contains (verb_edges before (length before) v) e → ((e.to ≡ length before) × (is_user v ≡ false)) ⊎ ((ends_user e.to v ≡ true) ⊎ ((p n w : ℕ) × (v ≡ Arrive p n w) × (e.to ≡ p)))
 verb_edge_to before (Trigger k) e c = inr (inl (let s = one_is (edge (length before) k Passes) e c in eq-eqb k e.to (ap (λ (x : Edge). x.to) s)))
 verb_edge_to before (Cancel k) e c = inr (inl (let s = one_is (edge (length before) k Faults) e c in eq-eqb k e.to (ap (λ (x : Edge). x.to) s)))
 verb_edge_to before (Merge ks) e c = inl (let m = map_contains (λ e. edge e (length before) Passes) ks e c in (sym (ap (λ (x : Edge). x.to) m.2), refl))
 verb_edge_to before (MergeIgnore ks) e c = inl (let m = map_contains (λ e. edge e (length before) Ignores) ks e c in (sym (ap (λ (x : Edge). x.to) m.2), refl))
 verb_edge_to before (Phase k) e c = inl (from_some_to Ignores (last_place (is_phase_of k) 0 before None) (length before) e c, refl)
-verb_edge_to before (Arrive k w) e c = inr (inr (k, w, refl, (let s = one_is (edge (length before) k Passes) e c in sym (ap (λ (x : Edge). x.to) s))))
+verb_edge_to before (Arrive k n w) e c = inr (inr (k, n, w, refl, (let s = one_is (edge (length before) k Passes) e c in sym (ap (λ (x : Edge). x.to) s))))
 verb_edge_to before v e c = absurd (contains_none e c)

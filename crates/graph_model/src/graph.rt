@@ -4,6 +4,7 @@ pub(crate) mod access;
 pub mod decl;
 pub(crate) mod edges;
 mod faults;
+pub mod format;
 pub mod found;
 pub mod limits;
 pub mod lists;
@@ -16,9 +17,10 @@ pub mod verb;
 pub mod why;
 pub(crate) mod words;
 
-use crate::graph::access::{Accesses, verb_accesses};
+use crate::graph::access::{Accesses, in_format, verb_accesses};
 use crate::graph::decl::{BarrierInfo, Decl};
 use crate::graph::edges::list_edges;
+use crate::graph::format::Format;
 use crate::graph::found::Found;
 use crate::graph::limits::{MAX_BARRIERS, MAX_COLUMNS, MAX_LINES, MAX_LOCKS};
 use crate::graph::name::Name;
@@ -47,9 +49,10 @@ const EMPTY: Counts = Counts {
     edges: 0,
 };
 
-/// A graph, seen as its declarations and its lines.
+/// A graph, seen as its format, its declarations and its lines.
 #[derive(Drop)]
 pub struct Graph {
+    format: Format,
     decls: Vec<Decl>,
     lines: Vec<Line>,
     /// For each line what it reads and writes.
@@ -75,35 +78,45 @@ impl Model for Graph {
     ghost use Rattle.graph_model.specs.kept.Rows.{AreRowsOf};
     ghost use Rattle.graph_model.specs.kept.Counts.{counts_of};
 
-    ghost view = { λ a. record { decls = a.decls.items; lines = a.lines.items } };
+    ghost view = { λ a. record { format = a.format; decls = a.decls.items; lines = a.lines.items } };
 
     ghost invariant = { λ a. record {
-      fits : IsGraph (record { decls = a.decls.items; lines = a.lines.items });
+      fits : IsGraph (record { format = a.format; decls = a.decls.items; lines = a.lines.items });
       accesses : a.accesses.items ≡ map (λ l. kept_accesses l.verb) a.lines.items;
       tables : a.tables ≡ tables_of a.decls.items;
-      limits : IsWithinLimits (record { decls = a.decls.items; lines = a.lines.items });
-      names : AreNamesOf (record { decls = a.decls.items; lines = a.lines.items }) a.names;
-      rows : AreRowsOf (record { decls = a.decls.items; lines = a.lines.items }) a.rows;
-      counts : a.counts ≡ counts_of (record { decls = a.decls.items; lines = a.lines.items });
+      limits : IsWithinLimits (record { format = a.format; decls = a.decls.items; lines = a.lines.items });
+      names : AreNamesOf (record { format = a.format; decls = a.decls.items; lines = a.lines.items }) a.names;
+      rows : AreRowsOf (record { format = a.format; decls = a.decls.items; lines = a.lines.items }) a.rows;
+      counts : a.counts ≡ counts_of (record { format = a.format; decls = a.decls.items; lines = a.lines.items });
     } };
 }
 
 impl Graph {
     ghost use Rattle.std.specs.Prelude.{◌≡◌, [], length, ◌<◌, ◌≤◌, slice_get, position, false, None, OnOk, OnErr, IfOk, IfSome, MatchOption, option_map};
-    ghost use Rattle.graph_model.specs.graph.Graph.{named_spaces, space_of, columns, locks, barriers, space_at, column_space, never_comes, ends_user, is_release_of};
+    ghost use Rattle.graph_model.specs.declared.graph.format.Format.TheVariants.{One};
+    ghost use Rattle.graph_model.specs.graph.Graph.{upgraded, verb_at, named_spaces, space_of, columns, locks, barriers, space_at, column_space, never_comes, ends_user, is_release_of};
     ghost use Rattle.std.specs.List.{list_any};
     ghost use Rattle.graph_model.specs.kept.Rows.{mark_of};
     ghost use Rattle.graph_model.specs.graph.Edges.{edges_into, edges_out_of};
-    ghost use Rattle.graph_model.specs.graph.Access.{accesses, kept_accesses};
+    ghost use Rattle.graph_model.specs.graph.Access.{accesses, verb_accesses, kept_accesses};
+    ghost use Rattle.std.specs.Option.{option_map_or};
     ghost use Rattle.graph_model.specs.kept.Counts.{counts_of};
     ghost use Rattle.graph_model.specs.graph.Names.{StandsFor, found_decl, is_column_named};
     ghost use Rattle.graph_model.specs.graph.Fits.{IsGraph, IsDecl, IsLine, decl_fault, line_fault, with_decl, with_line, is_used};
 
-    /// The graph with no declaration and no line. It takes no memory.
+    /// The graph of format 1 with no declaration and no line. It takes no memory.
     pub fn new(alloc: Global) -> Graph
-        ensures { result ≡ record { decls = []; lines = [] } }
+        ensures { result ≡ record { format = One; decls = []; lines = [] } }
+    {
+        Graph::of_format(alloc, Format::One)
+    }
+
+    /// The graph of a format with no declaration and no line. It takes no memory.
+    pub fn of_format(alloc: Global, format: Format) -> Graph
+        ensures { result ≡ record { format = format; decls = []; lines = [] } }
     {
         Graph {
+            format,
             decls: Vec::new(alloc),
             lines: Vec::new(alloc),
             accesses: Vec::new(alloc),
@@ -192,6 +205,23 @@ impl Graph {
         push_within(&mut self.accesses, accesses);
         self.counts = counts;
         Ok(())
+    }
+
+    /// Which format it has.
+    pub fn format(&self) -> Format
+        ensures { result ≡ self.now.format }
+    {
+        self.format
+    }
+
+    /// The graph of format 2 with the same declarations and lines. It takes no memory.
+    pub fn upgrade(self) -> Graph
+        ensures { result ≡ upgraded self }
+    {
+        Graph {
+            format: Format::Two,
+            ..self
+        }
     }
 
     /// How many declarations there are.
@@ -349,6 +379,17 @@ impl Graph {
     pub fn access(&self, i: u32, k: u32) -> Option<Access>
         requires { i < length self.now.lines }
         ensures { result ≡ slice_get (accesses self.now i) k }
+    {
+        match self.verb_access(i, k) {
+            Some(access) => Some(in_format(self.format, access)),
+            None => None,
+        }
+    }
+
+    /// The access of number `k` of a line, whatever the format is.
+    fn verb_access(&self, i: u32, k: u32) -> Option<Access>
+        requires { i < length self.now.lines }
+        ensures { result ≡ slice_get (option_map_or verb_accesses (verb_at self.now i) []) k }
     {
         match self.accesses[i as usize].get(k as usize) {
             Some(access) => *access,

@@ -9,7 +9,7 @@ use Rattle.graph_model.specs.graph.Graph.{GraphValue}
 use Rattle.graph_model.specs.graph.Spelling.{column_name}
 use Rattle.graph_model.specs.graph.Fits.{first_reason, repeats}
 use Rattle.graph_reader.specs.Words.{pieces}
-use Rattle.graph_reader.specs.Draft.{Place, NewName, SpaceName, LockName, BarrierName, UserName, PhaseName, AcquireName, EventName, Column, Fields, Value, Count, Intervals, Placed, Draft, number_in, column_number_of}
+use Rattle.graph_reader.specs.Draft.{Place, NewName, SpaceName, LockName, BarrierName, UserName, PhaseName, AcquireName, EventName, Column, Fields, Value, Times, Weight, Count, Intervals, Placed, is_own_word, Draft, number_in, column_number_of}
 use Rattle.graph_reader.specs.FirstFault.{misnamed, unknown, twice, unlike, misnumbered, misordered, event_word, column_word, item_fault, or_else, draft_tests, draft_fault, is_empty}
 use Rattle.graph_reader.proofs.TextLists.{each_from_none, same_bytes}
 use Rattle.graph_reader.proofs.WordFacts.{IsWord, AtLeast}
@@ -142,6 +142,8 @@ placed_columns g (PhaseName ∷ ps) (n ∷ ns) more f = placed_columns g ps ns m
 placed_columns g (AcquireName ∷ ps) (n ∷ ns) more f = placed_columns g ps ns more f.1
 placed_columns g (EventName ∷ ps) (n ∷ ns) more f = placed_columns g ps ns more f.1
 placed_columns g (Value ∷ ps) (n ∷ ns) more f = placed_columns g ps ns more f.1
+placed_columns g (Times ∷ ps) (n ∷ ns) more f = placed_columns g ps ns more f.1
+placed_columns g (Weight ∷ ps) (n ∷ ns) more f = placed_columns g ps ns more f.1
 placed_columns g (Count ∷ ps) (n ∷ ns) more f = placed_columns g ps ns more f.1
 placed_columns g (NewName ∷ ps) (n ∷ ns) more f = placed_columns g ps ns more f.1
 placed_columns g (Fields ∷ ps) (n ∷ ns) more f = placed_columns g ps ns more f.1
@@ -172,6 +174,8 @@ columns_read g h (PhaseName ∷ ps) (n ∷ ns) f = columns_read g h ps ns f.1
 columns_read g h (AcquireName ∷ ps) (n ∷ ns) f = columns_read g h ps ns f.1
 columns_read g h (EventName ∷ ps) (n ∷ ns) f = columns_read g h ps ns f.1
 columns_read g h (Value ∷ ps) (n ∷ ns) f = columns_read g h ps ns f.1
+columns_read g h (Times ∷ ps) (n ∷ ns) f = columns_read g h ps ns f.1
+columns_read g h (Weight ∷ ps) (n ∷ ns) f = columns_read g h ps ns f.1
 columns_read g h (Count ∷ ps) (n ∷ ns) f = columns_read g h ps ns f.1
 columns_read g h (NewName ∷ ps) (n ∷ ns) f = columns_read g h ps ns f.1
 columns_read g h (Fields ∷ ps) (n ∷ ns) f = columns_read g h ps ns f.1
@@ -183,6 +187,10 @@ Bounded [] ns = Unit {0}
 Bounded (p ∷ ps) [] = Unit {0}
 Bounded (p ∷ ps) (n ∷ ns) = IsBounded p n × Bounded ps ns
 
+-- each word is the one that its place takes, where that takes one word alone
+abbrev pub are_own_words : List Placed → Bool
+are_own_words ps = list_all (λ (p : Placed). is_own_word p.0 p.1) ps
+
 abbrev pub numbers_of : GraphValue → List Place → List (List ℕ) → List ℕ
 numbers_of g ps ws = map (number_in g) (zip ps ws)
 
@@ -191,29 +199,29 @@ numbers_long g [] ws l = refl
 numbers_long g (p ∷ ps) [] l = absurd (omega arith)
 numbers_long g (p ∷ ps) (w ∷ ws) l = ap suc (numbers_long g ps ws (omega arith))
 
-pub spells_exactly : (g : GraphValue) (ps : List Place) (ws : List (List ℕ)) → AllByRecursion IsNumbered ps → EachFine g (zip ps ws) → length ws ≡ length ps → spell_list g ps (numbers_of g ps ws) ≡ ws
-spells_exactly g [] [] n f l = refl
-spells_exactly g [] (w ∷ ws) n f l = absurd (omega arith)
-spells_exactly g (p ∷ ps) [] n f l = absurd (omega arith)
-spells_exactly g (p ∷ ps) (w ∷ ws) n f l = let s = place_spelled g p w n.0 f.0 in
-    ap (λ x. x ∷ spell_list g ps (numbers_of g ps ws)) s.word_is ∙ ap (λ xs. w ∷ xs) (spells_exactly g ps ws n.1 f.1 (omega arith))
+pub spells_exactly : (g : GraphValue) (ps : List Place) (ws : List (List ℕ)) → AllByRecursion IsNumbered ps → are_own_words (zip ps ws) ≡ true → EachFine g (zip ps ws) → length ws ≡ length ps → spell_list g ps (numbers_of g ps ws) ≡ ws
+spells_exactly g [] [] n o f l = refl
+spells_exactly g [] (w ∷ ws) n o f l = absurd (omega arith)
+spells_exactly g (p ∷ ps) [] n o f l = absurd (omega arith)
+spells_exactly g (p ∷ ps) (w ∷ ws) n o f l = let own = and_parts (is_own_word p w) (are_own_words (zip ps ws)) o in let s = place_spelled g p w n.0 own.0 f.0 in
+    ap (λ x. x ∷ spell_list g ps (numbers_of g ps ws)) s.word_is ∙ ap (λ xs. w ∷ xs) (spells_exactly g ps ws n.1 own.1 f.1 (omega arith))
 
-pub spells_more : (g : GraphValue) (ps : List Place) (ws : List (List ℕ)) → AllByRecursion IsNumbered ps → EachFine g (zip ps ws) → length ws ≡ length ps + 2 →
+pub spells_more : (g : GraphValue) (ps : List Place) (ws : List (List ℕ)) → AllByRecursion IsNumbered ps → are_own_words (zip ps ws) ≡ true → EachFine g (zip ps ws) → length ws ≡ length ps + 2 →
     spell_list g ps (numbers_of g ps ws) ++ slice_index_or ws (length ps) [] ∷ slice_index_or ws (length ps + 1) [] ∷ [] ≡ ws
-spells_more g [] [] n f l = absurd (omega arith)
-spells_more g [] (a ∷ []) n f l = absurd (omega arith)
-spells_more g [] (a ∷ b ∷ []) n f l = refl
-spells_more g [] (a ∷ b ∷ c ∷ cs) n f l = absurd (omega arith)
-spells_more g (p ∷ ps) [] n f l = absurd (omega arith)
-spells_more g (p ∷ ps) (w ∷ ws) n f l = let s = place_spelled g p w n.0 f.0 in
+spells_more g [] [] n o f l = absurd (omega arith)
+spells_more g [] (a ∷ []) n o f l = absurd (omega arith)
+spells_more g [] (a ∷ b ∷ []) n o f l = refl
+spells_more g [] (a ∷ b ∷ c ∷ cs) n o f l = absurd (omega arith)
+spells_more g (p ∷ ps) [] n o f l = absurd (omega arith)
+spells_more g (p ∷ ps) (w ∷ ws) n o f l = let own = and_parts (is_own_word p w) (are_own_words (zip ps ws)) o in let s = place_spelled g p w n.0 own.0 f.0 in
     ap (λ x. x ∷ (spell_list g ps (numbers_of g ps ws) ++ slice_index_or ws (length ps) [] ∷ slice_index_or (w ∷ ws) (suc (length ps) + 1) [] ∷ [])) s.word_is
     ∙ (ap (λ k. w ∷ (spell_list g ps (numbers_of g ps ws) ++ slice_index_or ws (length ps) [] ∷ slice_index_or (w ∷ ws) k [] ∷ [])) (let e : suc (length ps) + 1 ≡ suc (length ps + 1) = omega arith in e)
-    ∙ ap (λ xs. w ∷ xs) (spells_more g ps ws n.1 f.1 (omega arith)))
+    ∙ ap (λ xs. w ∷ xs) (spells_more g ps ws n.1 own.1 f.1 (omega arith)))
 
-pub bounded_by : (g : GraphValue) (ps : List Place) (ws : List (List ℕ)) → AllByRecursion IsNumbered ps → EachFine g (zip ps ws) → Bounded ps (numbers_of g ps ws)
-bounded_by g [] ws n f = tt
-bounded_by g (p ∷ ps) [] n f = tt
-bounded_by g (p ∷ ps) (w ∷ ws) n f = let s = place_spelled g p w n.0 f.0 in (s.bounded, bounded_by g ps ws n.1 f.1)
+pub bounded_by : (g : GraphValue) (ps : List Place) (ws : List (List ℕ)) → AllByRecursion IsNumbered ps → are_own_words (zip ps ws) ≡ true → EachFine g (zip ps ws) → Bounded ps (numbers_of g ps ws)
+bounded_by g [] ws n o f = tt
+bounded_by g (p ∷ ps) [] n o f = tt
+bounded_by g (p ∷ ps) (w ∷ ws) n o f = let own = and_parts (is_own_word p w) (are_own_words (zip ps ws)) o in let s = place_spelled g p w n.0 own.0 f.0 in (s.bounded, bounded_by g ps ws n.1 own.1 f.1)
 
 -- a word by a test that computes
 abbrev pub is_word : List ℕ → Bool

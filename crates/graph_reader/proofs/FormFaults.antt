@@ -1,6 +1,6 @@
 -- What refuses the words of a line of a kind.
 use Rattle.std.proofs.Common.{◌⊎◌, ◌≡◌, ℕ, ◌+◌, Bool, true, false, cond, not, ◌||◌, List, [], ◌∷◌, ◌++◌, length, refl, sym, ◌∙◌, ap, inr, append-nil}
-use Rattle.std.specs.Prelude.{Option, Some, None, Result, Ok, Err, bytes_eq, filter_map, slice_index_or}
+use Rattle.std.specs.Prelude.{Option, Some, None, Ok, bytes_eq, filter_map, slice_index_or}
 use Rattle.std.specs.List.{list_any, cons_option}
 use Rattle.std.proofs.lemmas.List.Folds.{list_any-append}
 use Rattle.std.proofs.lemmas.Bool.{cond-true}

@@ -6,6 +6,7 @@ use Rattle.std.proofs.lemmas.Bool.{true≢false, or_parts, or_from, and_left, an
 use Rattle.std.proofs.lemmas.Option.{none-some, same_Some}
 use Rattle.std.proofs.lemmas.List.{map-append}
 use Rattle.std.proofs.lemmas.List.Elements.{Contains-append_left, Contains-append_right}
+use Rattle.graph_model.specs.declared.graph.format.Format.{Format}
 use Rattle.graph_model.specs.declared.graph.decl.Decl.{Decl}
 use Rattle.graph_model.specs.declared.graph.decl.Decl.TheVariants as decl
 use Rattle.graph_model.specs.declared.graph.verb.Line.{Line}
@@ -44,33 +45,33 @@ pub record IsNamed (g : GraphValue) : Type 0 where
 abbrev pub line_names : List Line → List (List ℕ)
 line_names ls = map (λ (l : Line). l.name) ls
 
-named_decls : (before ds : List Decl) → repeats bytes_eq (map decl_name before) ≡ false → DeclsFit before ds →
+named_decls : (fm : Format) (before ds : List Decl) → repeats bytes_eq (map decl_name before) ≡ false → DeclsFit fm before ds →
     (repeats bytes_eq (map decl_name (before ++ ds)) ≡ false) × AllByRecursion IsNamedDecl ds
-named_decls before [] r f = (subst (λ xs. repeats bytes_eq (map decl_name xs) ≡ false) (sym (append-nil before)) r, tt)
-named_decls before (d ∷ ds) r f =
-    let t = each_fails (decl_tests (record { decls = before; lines = [] }) d) f.1 in
+named_decls fm before [] r f = (subst (λ xs. repeats bytes_eq (map decl_name xs) ≡ false) (sym (append-nil before)) r, tt)
+named_decls fm before (d ∷ ds) r f =
+    let t = each_fails (decl_tests (record { format = fm; decls = before; lines = [] }) d) f.1 in
     let u = or_parts (list_any (bytes_eq (decl_name d)) (map decl_name before ++ [])) (decl_repeats d) t.0 in
     let more : repeats bytes_eq (map decl_name (before ++ d ∷ [])) ≡ false = ap (repeats bytes_eq) (map-append decl_name before (d ∷ [])) ∙ repeats_push (map decl_name before) (decl_name d) r (any_left (bytes_eq (decl_name d)) (map decl_name before) [] u.0) in
-    let rest = named_decls (before ++ d ∷ []) ds more f.2 in
+    let rest = named_decls fm (before ++ d ∷ []) ds more f.2 in
     (subst (λ xs. repeats bytes_eq (map decl_name xs) ≡ false) (append_assoc before (d ∷ []) ds) rest.0, ((f.0, u.1), rest.1))
 
-named_lines : (decls : List Decl) (before ls : List Line) → repeats bytes_eq (map decl_name decls ++ line_names before) ≡ false → LinesFit decls before ls →
+named_lines : (fm : Format) (decls : List Decl) (before ls : List Line) → repeats bytes_eq (map decl_name decls ++ line_names before) ≡ false → LinesFit fm decls before ls →
     (repeats bytes_eq (map decl_name decls ++ line_names (before ++ ls)) ≡ false) × AllByRecursion (λ (l : Line). is_name l.name ≡ true) ls
-named_lines decls before [] r f = (subst (λ xs. repeats bytes_eq (map decl_name decls ++ line_names xs) ≡ false) (sym (append-nil before)) r, tt)
-named_lines decls before (l ∷ ls) r f =
-    let t = each_fails (line_tests (record { decls = decls; lines = before }) l) f.1 in
+named_lines fm decls before [] r f = (subst (λ xs. repeats bytes_eq (map decl_name decls ++ line_names xs) ≡ false) (sym (append-nil before)) r, tt)
+named_lines fm decls before (l ∷ ls) r f =
+    let t = each_fails (line_tests (record { format = fm; decls = decls; lines = before }) l) f.1 in
     let u = or_parts (list_any (bytes_eq l.name) (map decl_name decls ++ line_names before)) _ t.0 in
     let joined : map decl_name decls ++ line_names (before ++ l ∷ []) ≡ (map decl_name decls ++ line_names before) ++ l.name ∷ [] =
     ap (λ xs. map decl_name decls ++ xs) (map-append (λ (x : Line). x.name) before (l ∷ [])) ∙ sym (append_assoc (map decl_name decls) (line_names before) (l.name ∷ [])) in
     let more : repeats bytes_eq (map decl_name decls ++ line_names (before ++ l ∷ [])) ≡ false = ap (repeats bytes_eq) joined ∙ repeats_push (map decl_name decls ++ line_names before) l.name r u.0 in
-    let rest = named_lines decls (before ++ l ∷ []) ls more f.2 in
+    let rest = named_lines fm decls (before ++ l ∷ []) ls more f.2 in
     (subst (λ xs. repeats bytes_eq (map decl_name decls ++ line_names xs) ≡ false) (append_assoc before (l ∷ []) ls) rest.0, (f.0.named, rest.1))
 
 -- the names of a graph whose items fit
 pub is_named : (g : GraphValue) → IsGraph g → IsNamed g
 is_named g f =
-    let d = named_decls [] g.decls refl f.decls in
-    let l = named_lines g.decls [] g.lines (subst (λ xs. repeats bytes_eq xs ≡ false) (sym (append-nil (map decl_name g.decls))) d.0) f.lines in
+    let d = named_decls g.format [] g.decls refl f.decls in
+    let l = named_lines g.format g.decls [] g.lines (subst (λ xs. repeats bytes_eq xs ≡ false) (sym (append-nil (map decl_name g.decls))) d.0) f.lines in
     record { apart = l.0; decls = d.1; lines = l.1 }
 
 -- the names of one kind

@@ -1,11 +1,12 @@
 -- Words by their number.
 use Rattle.std.proofs.Common.{◌⊎◌, inl, inr, ◌≡◌, ℕ, ◌+◌, ◌<◌, ◌≤◌, Bool, true, false, cond, ◌&&◌, ◌||◌, List, [], ◌∷◌, length, drop, map, refl, sym, ◌∙◌, ap, subst, arith}
-use Rattle.std.specs.Prelude.{Option, Some, None, Result, Ok, Err, option_map, slice_index_or, codes, find, bytes_eq, nat_le, ◌==◌}
-use Rattle.std.specs.List.{starts_with, list_any}
+use Rattle.std.specs.Prelude.{Option, Some, None, Result, Ok, Err, option_map, slice_index_or, codes, find, zip, bytes_eq, nat_le, ◌==◌}
+use Rattle.std.specs.List.{starts_with, list_any, list_all}
 use Rattle.std.specs.Option.{option_map_or}
 use Rattle.std.proofs.lemmas.Bool.{true≢false, and_parts, ne_eqb, le-leb, leb-true, cond-true, cond-false, eqb-true}
 use Rattle.std.proofs.lemmas.Option.{none-some, same_Some}
 use Rattle.index_spaces.specs.declared.Op.{Op}
+use Rattle.graph_model.specs.declared.graph.format.Format.{Format}
 use Rattle.graph_model.specs.declared.graph.decl.Decl.{Decl}
 use Rattle.graph_model.specs.declared.graph.verb.Line.{Line}
 use Rattle.graph_model.specs.declared.graph.verb.Verb.{Verb}
@@ -20,7 +21,7 @@ use Rattle.graph_model.specs.declared.graph.table.Kind.TheVariants as kinds
 use Rattle.graph_model.specs.declared.graph.table.TheConstants.{KINDS}
 use Rattle.graph_reader.specs.Kinds.{kind_draft, HasPlaces}
 use Rattle.graph_reader.specs.Reading.{open_fault, IsDeclRead, IsDeclOf, IsLineOf, IsWordsError, is_operation}
-use Rattle.graph_reader.specs.Draft.{Draft, draft, merge_with, decl_draft_after, form_of, form_draft, is_of_form, same_word, merge_draft, line_draft, decl_draft, space_draft, inst_draft, lock_draft, barrier_draft, space_with, inst_with, lock_with, barrier_with, op_of}
+use Rattle.graph_reader.specs.Draft.{Placed, Draft, draft, merge_with, decl_draft_after, form_of, form_draft, is_since, is_own_word, is_of_form, same_word, merge_draft, line_draft, decl_draft, space_draft, inst_draft, lock_draft, barrier_draft, space_with, inst_with, lock_with, barrier_with, op_of}
 
 abbrev at : List (List ℕ) → ℕ → List ℕ
 at ws i = slice_index_or ws i []
@@ -120,24 +121,24 @@ pub find_mapped : {X Y : Type 0} (p : Y → Bool) (f : X → Y) (xs : List X) �
 find_mapped p f [] = refl
 find_mapped p f (x ∷ xs) = ap (cond (p (f x)) (Some (f x))) (find_mapped p f xs) ∙ find_by f x (find (λ y. p (f y)) xs) (p (f x))
 
-abbrev found_kind : List Kind → List (List ℕ) → Option Kind
-found_kind ks ws = find (λ k. is_of_form ws (form_of k)) ks
+abbrev found_kind : Format → List Kind → List (List ℕ) → Option Kind
+found_kind fm ks ws = find (λ k. is_of_form fm ws (form_of k)) ks
 
-no_words : (k : Kind) → is_of_form [] (form_of k) ≡ false
-no_words kinds.User = refl
-no_words k = refl
+no_words : (fm : Format) (k : Kind) → is_of_form fm [] (form_of k) ≡ false
+no_words fm kinds.User = refl
+no_words fm k = refl
 
-none_there : (ks : List Kind) → found_kind ks [] ≡ None
-none_there [] = refl
-none_there (k ∷ ks) = cond-false (is_of_form [] (form_of k)) (Some k) (found_kind ks []) (no_words k) ∙ none_there ks
+none_there : (fm : Format) (ks : List Kind) → found_kind fm ks [] ≡ None
+none_there fm [] = refl
+none_there fm (k ∷ ks) = cond-false (is_of_form fm [] (form_of k)) (Some k) (found_kind fm ks []) (no_words fm k) ∙ none_there fm ks
 
-pub line_kind : (g : GraphValue) (name : List ℕ) (ws : List (List ℕ)) (v : List ℕ) (o : Option Kind) → v ≡ at ws 0 → bytes_eq v (codes "merge") ≡ false → bytes_eq v (codes "mergei") ≡ false → found_kind KINDS ws ≡ o →
+pub line_kind : (g : GraphValue) (name : List ℕ) (ws : List (List ℕ)) (v : List ℕ) (o : Option Kind) → v ≡ at ws 0 → bytes_eq v (codes "merge") ≡ false → bytes_eq v (codes "mergei") ≡ false → found_kind g.format KINDS ws ≡ o →
     line_draft g name ws ≡ option_map (λ k. kind_draft g k name (drop (length (form_of k).words) ws)) o
-line_kind g name [] v o e a b h = sym (ap (option_map (λ k. kind_draft g k name (drop (length (form_of k).words) []))) (sym h ∙ none_there KINDS))
+line_kind g name [] v o e a b h = sym (ap (option_map (λ k. kind_draft g k name (drop (length (form_of k).words) []))) (sym h ∙ none_there g.format KINDS))
 line_kind g name (w ∷ ws) v o e a b h =
     cond-false (bytes_eq w (codes "merge")) (merge_draft g name Merge ws) _ (ap (λ x. bytes_eq x (codes "merge")) (sym e) ∙ a)
     ∙ (cond-false (bytes_eq w (codes "mergei")) (merge_draft g name MergeIgnore ws) _ (ap (λ x. bytes_eq x (codes "mergei")) (sym e) ∙ b)
-    ∙ (ap (option_map (λ f. form_draft g name (drop (length f.words) (w ∷ ws)) f)) (find_mapped (is_of_form (w ∷ ws)) form_of KINDS ∙ ap (option_map form_of) h) ∙ option_twice o))
+    ∙ (ap (option_map (λ f. form_draft g name (drop (length f.words) (w ∷ ws)) f)) (find_mapped (is_of_form g.format (w ∷ ws)) form_of KINDS ∙ ap (option_map form_of) h) ∙ option_twice o))
   where
     option_twice : (o : Option Kind) → option_map (λ f. form_draft g name (drop (length f.words) (w ∷ ws)) f) (option_map form_of o) ≡ option_map (λ k. kind_draft g k name (drop (length (form_of k).words) (w ∷ ws))) o
     option_twice None = refl
@@ -151,9 +152,12 @@ room_by t n m b h = by_first (n == m) refl h
     by_first true e h = let k : n ≡ m = eqb-true n m e in omega arith
     by_first false e h = let p = and_parts t (n == m + 2 && b) h in let q = and_parts (n == m + 2) b p.1 in let k : n ≡ m + 2 = eqb-true n (m + 2) q.0 in omega arith
 
-pub places_there : (kind : Kind) (ws : List (List ℕ)) → is_of_form ws (form_of kind) ≡ true → HasPlaces kind (drop (length (form_of kind).words) ws)
-places_there kind ws h = let p = and_parts (starts_with same_word ws (form_of kind).words) _ h in
-    room_by (form_of kind).takes_on (length (drop (length (form_of kind).words) ws)) (length (form_of kind).places) _ p.1
+pub places_there : (fm : Format) (kind : Kind) (ws : List (List ℕ)) → is_of_form fm ws (form_of kind) ≡ true → HasPlaces kind (drop (length (form_of kind).words) ws)
+places_there fm kind ws h =
+    let p = and_parts (starts_with same_word ws (form_of kind).words) _ h in
+    let q = and_parts (is_since (form_of kind).since fm) _ p.1 in
+    let r = and_parts _ (list_all (λ (x : Placed). is_own_word x.0 x.1) (zip (form_of kind).places (drop (length (form_of kind).words) ws))) q.1 in
+    room_by (form_of kind).takes_on (length (drop (length (form_of kind).words) ws)) (length (form_of kind).places) _ r.0
 
 pub merge_shape : (g : GraphValue) (name : List ℕ) (verb : List ℕ → Verb) (ws : List (List ℕ)) → 2 ≤ length ws → merge_draft g name verb (drop 1 ws) ≡ Some (merge_with g name verb (drop 1 ws))
 merge_shape g name verb [] h = absurd (omega arith)

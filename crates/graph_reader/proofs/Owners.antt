@@ -8,6 +8,7 @@ use Rattle.std.proofs.lemmas.Option.{none-some, same_Some}
 use Rattle.std.proofs.lemmas.List.Folds.{list_any-append}
 use Rattle.graph_model.specs.declared.graph.decl.ColumnInfo.{ColumnInfo}
 use Rattle.graph_model.specs.declared.graph.decl.BarrierInfo.{BarrierInfo}
+use Rattle.graph_model.specs.declared.graph.format.Format.{Format}
 use Rattle.graph_model.specs.declared.graph.decl.Decl.{Decl}
 use Rattle.graph_model.specs.declared.graph.decl.Decl.TheVariants as decl
 use Rattle.graph_model.specs.declared.graph.found.Found.{Found}
@@ -145,9 +146,9 @@ insts_mapped : (w : List ℕ) (ds : List Decl) → list_any (λ y. bytes_eq y w)
 insts_mapped w [] = refl
 insts_mapped w (d ∷ ds) = inst_at w d (filter_map inst_of ds) ∙ ap (λ x. (is_inst d && bytes_eq (decl_name d) w) || x) (insts_mapped w ds)
 
-fielded : (before ds : List Decl) → DeclsFit before ds → AllByRecursion IsFielded ds
-fielded before [] f = tt
-fielded before (d ∷ ds) f = ((each_fails (decl_tests (record { decls = before; lines = [] }) d) f.1).1.1.0, fielded (before ++ d ∷ []) ds f.2)
+fielded : (fm : Format) (before ds : List Decl) → DeclsFit fm before ds → AllByRecursion IsFielded ds
+fielded fm before [] f = tt
+fielded fm before (d ∷ ds) f = ((each_fails (decl_tests (record { format = fm; decls = before; lines = [] }) d) f.1).1.1.0, fielded fm (before ++ d ∷ []) ds f.2)
 
 -- the kinds of the first declaration of a word, or of none
 pub record Kinds (g : GraphValue) (w : List ℕ) (o : Option Decl) : Type 0 where
@@ -199,7 +200,7 @@ kinds_of g w h =
       locks = flip_any w (locks g) ∙ listed lock_of (λ (x : List ℕ). x) lock_agrees w g.decls d;
       barriers = listed barrier_of (λ (x : BarrierInfo). x.name) barrier_agrees w g.decls d;
       insts = i;
-      columns = insts_listed w g.decls (fielded [] g.decls h.decls) ∙ i;
+      columns = insts_listed w g.decls (fielded g.format [] g.decls h.decls) ∙ i;
       lines = λ s. sym (any_map (λ y. bytes_eq y w) (λ (x : Line). x.name) g.lines) ∙ apart_lists (map decl_name g.decls) (map (λ (x : Line). x.name) g.lines) w n.apart (sym (owner_named w g.decls) ∙ s);
     }
 

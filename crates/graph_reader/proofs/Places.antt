@@ -1,6 +1,6 @@
 -- A word in its place: what a number is spelled as there, that it is read back, and that only it is.
 use Rattle.std.proofs.Common.{◌≡◌, ℕ, zero, suc, ◌^◌, ◌<◌, ◌≤◌, Bool, true, false, not, ◌&&◌, ◌||◌, List, [], ◌∷◌, ◌++◌, length, refl, sym, ◌∙◌, ap, subst, arith}
-use Rattle.std.specs.Prelude.{Option, Some, None, is_some, position, bytes_eq, slice_get, unwrap_or, option_map, decimal}
+use Rattle.std.specs.Prelude.{Option, Some, None, is_some, position, bytes_eq, slice_get, unwrap_or, option_map, decimal, codes}
 use Rattle.std.specs.Option.{option_map_or}
 use Rattle.std.specs.List.{list_any, join_with_byte}
 use Rattle.std.proofs.lemmas.Bool.{true≢false, or_parts, or_from, and_right, and_parts, and_from, not_from_true, not-false}
@@ -13,11 +13,11 @@ use Rattle.graph_model.specs.declared.graph.decl.BarrierInfo.{BarrierInfo}
 use Rattle.graph_model.specs.graph.Graph.{GraphValue, named_spaces, columns, locks, barriers, line_passes, is_user, is_phase, is_acquire, is_release_of, ends_user}
 use Rattle.graph_model.specs.graph.Spelling.{space_name, lock_name, barrier_name, line_name, column_name}
 use Rattle.graph_model.specs.graph.Fits.{repeats, is_used}
-use Rattle.graph_reader.specs.Words.{pieces, is_two_names, is_column, value_of, count_of}
-use Rattle.graph_reader.specs.Draft.{Place, NewName, SpaceName, LockName, BarrierName, UserName, PhaseName, AcquireName, EventName, Column, Fields, Value, Count, Intervals, line_number, column_number_of, number_in_place}
+use Rattle.graph_reader.specs.Words.{pieces, is_two_names, is_column, value_of, count_of, weight_of}
+use Rattle.graph_reader.specs.Draft.{Place, NewName, SpaceName, LockName, BarrierName, UserName, PhaseName, AcquireName, EventName, Column, Fields, Value, Times, Weight, Count, Intervals, is_own_word, line_number, column_number_of, number_in_place}
 use Rattle.graph_reader.specs.FirstFault.{misnamed, is_inst_name, has_column, first_piece, unknown, is_line_name, twice, unlike, misnumbered, misordered}
 use Rattle.graph_reader.proofs.TextLists.{same_bytes, bytes_same, found_of, found_is}
-use Rattle.graph_reader.proofs.WordFacts.{IsWord, name_is_word, decimal_is_word, value_of-decimal, value_of-spelled, count_of-decimal, count_of-spelled, column_pieces, joined_pieces, joined_is_word}
+use Rattle.graph_reader.proofs.WordFacts.{IsWord, name_is_word, decimal_is_word, value_of-decimal, value_of-spelled, count_of-decimal, count_of-spelled, weight_of-decimal, weight_of-spelled, column_pieces, joined_pieces, joined_is_word}
 use Rattle.graph_reader.proofs.GraphNames.{IsNamed, KnownAs, IsColumnAt, same_column, read_name, spelled_name, listed_name, spaces_apart, locks_apart, barriers_apart, lines_apart, columns_apart, known_space, known_lock, known_barrier, known_line, known_line_at, known_column}
 
 -- how a number is spelled in a place
@@ -31,6 +31,8 @@ spell g AcquireName n = line_name g n
 spell g EventName n = line_name g n
 spell g Column n = column_name g n
 spell g Value n = decimal n
+spell g Times n = codes "times"
+spell g Weight n = decimal n
 spell g Count n = decimal n
 spell g NewName n = []
 spell g Fields n = []
@@ -56,6 +58,8 @@ FitsPlace g AcquireName n = (line_passes is_acquire g n ≡ true) × (list_any (
 FitsPlace g EventName n = n < length g.lines
 FitsPlace g Column n = n < length (columns g)
 FitsPlace g Value n = n < 2 ^ 64
+FitsPlace g Times n = n ≡ 0
+FitsPlace g Weight n = (1 < n) × (n ≤ 8192)
 FitsPlace g Count n = (0 < n) × (n ≤ 8192)
 FitsPlace g NewName n = ⊥
 FitsPlace g Fields n = ⊥
@@ -272,6 +276,20 @@ count_reads g n h k = record {
   word = decimal_is_word n (omega arith);
 }
 
+times_reads : (g : GraphValue) (n : ℕ) → n ≡ 0 → Reads g Times n (codes "times")
+times_reads g n h = record {
+  fine = record { named = refl; once = refl; known = refl; alike = refl; numbered = refl; ordered = refl };
+  number_is = sym h;
+  word = record { some = refl; printed = (omega arith, (omega arith, (omega arith, (omega arith, (omega arith, tt))))) };
+}
+
+weight_reads : (g : GraphValue) (n : ℕ) → 1 < n → n ≤ 8192 → Reads g Weight n (decimal n)
+weight_reads g n h k = record {
+  fine = record { named = refl; once = refl; known = refl; alike = refl; numbered = ap (λ (o : Option ℕ). not (is_some o)) (weight_of-decimal n h k); ordered = refl };
+  number_is = ap (λ o. unwrap_or o 0) (weight_of-decimal n h k);
+  word = decimal_is_word n (omega arith);
+}
+
 -- a number that fits its place is read back from its spelling, and no reason refuses that
 pub place_reads : (g : GraphValue) → IsNamed g → (p : Place) (n : ℕ) → FitsPlace g p n → Reads g p n (spell g p n)
 place_reads g h SpaceName n f = space_reads g h n (known_space g h n f)
@@ -283,6 +301,8 @@ place_reads g h AcquireName n f = let t = line_there is_acquire g n f.0 in acqui
 place_reads g h EventName n f = event_reads g n (line_name g n) (event_word_at g h n f)
 place_reads g h Column n f = column_reads g h n f
 place_reads g h Value n f = value_reads g n f
+place_reads g h Times n f = times_reads g n f
+place_reads g h Weight n f = weight_reads g n f.0 f.1
 place_reads g h Count n f = count_reads g n f.0 f.1
 place_reads g h NewName n f = absurd f
 place_reads g h Fields n f = absurd f
@@ -298,6 +318,7 @@ IsNumbered _ = Unit {0}
 -- what a number has where its place bounds it
 abbrev pub IsBounded : Place → ℕ → Type 0
 IsBounded Value n = n < 2 ^ 64
+IsBounded Weight n = (1 < n) × (n ≤ 8192)
 IsBounded Count n = (0 < n) × (n ≤ 8192)
 IsBounded _ n = Unit {0}
 
@@ -357,18 +378,27 @@ count_spelled g w f =
     let e : number_in_place g Count w ≡ n.0 = ap (λ o. unwrap_or o 0) n.1 in
     record { word_is = ap decimal e ∙ sym s.0; bounded = subst (λ k. (0 < k) × (k ≤ 8192)) (sym e) (s.1, s.2) }
 
+weight_spelled : (g : GraphValue) (w : List ℕ) → IsFine g Weight w → IsSpelled g Weight w
+weight_spelled g w f =
+    let n = is_there (weight_of w) f.numbered in
+    let s = weight_of-spelled n.0 w n.1 in
+    let e : number_in_place g Weight w ≡ n.0 = ap (λ o. unwrap_or o 0) n.1 in
+    record { word_is = ap decimal e ∙ sym s.0; bounded = subst (λ k. (1 < k) × (k ≤ 8192)) (sym e) (s.1, s.2) }
+
 -- a word that no reason refuses in its place is the spelling of its number
-pub place_spelled : (g : GraphValue) (p : Place) (w : List ℕ) → IsNumbered p → IsFine g p w → IsSpelled g p w
-place_spelled g SpaceName w n f = record { word_is = named_as (λ (x : List ℕ × List (ℕ × ℕ)). x.0) (named_spaces g) w (not-false (list_any (λ (x : List ℕ × List (ℕ × ℕ)). bytes_eq x.0 w) (named_spaces g)) f.alike); bounded = tt }
-place_spelled g LockName w n f = record { word_is = lock_as (locks g) w (not-false (list_any (bytes_eq w) (locks g)) f.alike); bounded = tt }
-place_spelled g BarrierName w n f = record { word_is = named_as (λ (x : BarrierInfo). x.name) (barriers g) w (not-false (list_any (λ (x : BarrierInfo). bytes_eq x.name w) (barriers g)) f.alike); bounded = tt }
-place_spelled g UserName w n f = record { word_is = line_as g w (both_listed (is_line_name g w) (line_passes is_user g (line_number g w)) f.alike); bounded = tt }
-place_spelled g PhaseName w n f = record { word_is = line_as g w (both_listed (is_line_name g w) (line_passes is_phase g (line_number g w)) f.alike); bounded = tt }
-place_spelled g AcquireName w n f = record { word_is = line_as g w (both_listed (is_line_name g w) (line_passes is_acquire g (line_number g w)) f.alike); bounded = tt }
-place_spelled g EventName w n f = record { word_is = line_as g w (not-false (is_line_name g w) f.alike); bounded = tt }
-place_spelled g Column w n f = record { word_is = column_spelled g w f; bounded = tt }
-place_spelled g Value w n f = value_spelled g w f
-place_spelled g Count w n f = count_spelled g w f
-place_spelled g NewName w n f = absurd n
-place_spelled g Fields w n f = absurd n
-place_spelled g Intervals w n f = absurd n
+pub place_spelled : (g : GraphValue) (p : Place) (w : List ℕ) → IsNumbered p → is_own_word p w ≡ true → IsFine g p w → IsSpelled g p w
+place_spelled g SpaceName w n o f = record { word_is = named_as (λ (x : List ℕ × List (ℕ × ℕ)). x.0) (named_spaces g) w (not-false (list_any (λ (x : List ℕ × List (ℕ × ℕ)). bytes_eq x.0 w) (named_spaces g)) f.alike); bounded = tt }
+place_spelled g LockName w n o f = record { word_is = lock_as (locks g) w (not-false (list_any (bytes_eq w) (locks g)) f.alike); bounded = tt }
+place_spelled g BarrierName w n o f = record { word_is = named_as (λ (x : BarrierInfo). x.name) (barriers g) w (not-false (list_any (λ (x : BarrierInfo). bytes_eq x.name w) (barriers g)) f.alike); bounded = tt }
+place_spelled g UserName w n o f = record { word_is = line_as g w (both_listed (is_line_name g w) (line_passes is_user g (line_number g w)) f.alike); bounded = tt }
+place_spelled g PhaseName w n o f = record { word_is = line_as g w (both_listed (is_line_name g w) (line_passes is_phase g (line_number g w)) f.alike); bounded = tt }
+place_spelled g AcquireName w n o f = record { word_is = line_as g w (both_listed (is_line_name g w) (line_passes is_acquire g (line_number g w)) f.alike); bounded = tt }
+place_spelled g EventName w n o f = record { word_is = line_as g w (not-false (is_line_name g w) f.alike); bounded = tt }
+place_spelled g Column w n o f = record { word_is = column_spelled g w f; bounded = tt }
+place_spelled g Value w n o f = value_spelled g w f
+place_spelled g Times w n o f = record { word_is = sym (same_bytes w (codes "times") o); bounded = tt }
+place_spelled g Weight w n o f = weight_spelled g w f
+place_spelled g Count w n o f = count_spelled g w f
+place_spelled g NewName w n o f = absurd n
+place_spelled g Fields w n o f = absurd n
+place_spelled g Intervals w n o f = absurd n

@@ -11,7 +11,7 @@ use Rattle.graph_model.specs.graph.Table.{kind_places, is_column, part_in, parts
 use Rattle.graph_model.specs.declared.graph.table.Parts.{Parts}
 use Rattle.graph_model.specs.graph.Graph.{GraphValue}
 use Rattle.graph_model.specs.graph.Fits.{repeats}
-use Rattle.graph_reader.specs.Draft.{as_place, form_of, same_word, number_in_place, number_in}
+use Rattle.graph_reader.specs.Draft.{Placed, is_own_word, as_place, form_of, same_word, number_in_place, number_in}
 use Rattle.graph_reader.specs.Kinds.{words_in, column_words, named_number, placed_value}
 
 abbrev pub words_of : List (Bor (List ℕ)) → List (List ℕ)
@@ -34,12 +34,6 @@ begins_too_few (w ∷ ws) (f ∷ fs) h = ap (λ b. bytes_eq f.now w.now && b) (b
     and_no true = refl
     and_no false = refl
 
--- a test of words in their places
-pub any_zipped : {X Y W V : Type 0} (t : Y × V → Bool) (f : X → Y) (h : W → V) (xs : List X) (ws : List W) → list_any (λ (p : X × W). t (f p.0, h p.1)) (zip xs ws) ≡ list_any t (zip (map f xs) (map h ws))
-any_zipped t f h [] ws = refl
-any_zipped t f h (x ∷ xs) [] = refl
-any_zipped t f h (x ∷ xs) (w ∷ ws) = ap (λ b. t (f x, h w) || b) (any_zipped t f h xs ws)
-
 pub map_words : {X : Type 0} (f : List ℕ → X) (ws : List (Bor (List ℕ))) → map f (words_of ws) ≡ map (λ w. f w.now) ws
 map_words f [] = refl
 map_words f (w ∷ ws) = ap (λ xs. f w.now ∷ xs) (map_words f ws)
@@ -60,6 +54,12 @@ column_listed v [] ws = refl
 column_listed v (p ∷ ps) [] = refl
 column_listed v (places.Column mode over ∷ ps) (w ∷ ws) = ap (λ b. bytes_eq v w.now || b) (column_listed v ps ws)
 column_listed v (p ∷ ps) (w ∷ ws) = column_listed v ps ws
+
+-- words that are the ones that their places take
+pub own_listed : (ps : List table.Place) (ws : List (Bor (List ℕ))) → list_all (λ (p : table.Place × Bor (List ℕ)). is_own_word (as_place p.0) p.1.now) (zip ps ws) ≡ list_all (λ (p : Placed). is_own_word p.0 p.1) (words_in ps (words_of ws))
+own_listed [] ws = refl
+own_listed (p ∷ ps) [] = refl
+own_listed (p ∷ ps) (w ∷ ws) = ap (λ b. is_own_word (as_place p) w.now && b) (own_listed ps ws)
 
 -- columns that stand twice, from one place on
 abbrev pub columns_twice : List table.Place → List (List ℕ) → Bool

@@ -1,6 +1,6 @@
 -- A line of text with its words in their places, before the names in it are looked up.
-use Rattle.std.specs.Prelude.{ℕ, ◌+◌, ◌==◌, Bool, cond, ◌&&◌, ◌||◌, List, [], ◌∷◌, ◌++◌, length, map, drop, find, zip, ◌⊎◌, Option, Some, None, option_map, unwrap_or, slice_index_or, codes, position}
-use Rattle.std.specs.List.{starts_with}
+use Rattle.std.specs.Prelude.{ℕ, ◌+◌, ◌==◌, Bool, true, false, cond, ◌&&◌, ◌||◌, List, [], ◌∷◌, ◌++◌, length, map, drop, find, zip, ◌⊎◌, Option, Some, None, option_map, unwrap_or, slice_index_or, codes, position}
+use Rattle.std.specs.List.{starts_with, list_all}
 use Rattle.std.specs.Str.{bytes_eq}
 use Rattle.std.proofs.Common.{inl, inr}
 use Rattle.index_spaces.specs.declared.Op.{Op}
@@ -14,15 +14,17 @@ use Rattle.graph_model.specs.declared.graph.table.Kind.{Kind}
 use Rattle.graph_model.specs.declared.graph.table.TheConstants.{KINDS}
 use Rattle.graph_model.specs.declared.graph.table.Place as table
 use Rattle.graph_model.specs.declared.graph.table.Place.TheVariants as places
-use Rattle.graph_model.specs.graph.Table.{kind_words, kind_places, kind_takes_on, verb_of}
+use Rattle.graph_model.specs.declared.graph.format.Format.{Format}
+use Rattle.graph_model.specs.declared.graph.format.Format.TheVariants.{One, Two}
+use Rattle.graph_model.specs.graph.Table.{kind_words, kind_places, kind_takes_on, kind_since, verb_of}
 use Rattle.graph_model.specs.declared.graph.decl.ColumnInfo.{ColumnInfo}
 use Rattle.graph_model.specs.declared.graph.decl.BarrierInfo.{BarrierInfo}
 use Rattle.graph_model.specs.graph.Graph.{GraphValue, named_spaces, columns, locks, barriers}
-use Rattle.graph_reader.specs.Words.{pieces, value_of, count_of, intervals_of}
+use Rattle.graph_reader.specs.Words.{pieces, value_of, count_of, weight_of, intervals_of}
 
 -- what stands in the place of a word
 pub data Place : Type 0 where
-  NewName SpaceName LockName BarrierName UserName PhaseName AcquireName EventName Column Fields Value Count Intervals : Place
+  NewName SpaceName LockName BarrierName UserName PhaseName AcquireName EventName Column Fields Value Times Weight Count Intervals : Place
 
 -- a word in its place
 abbrev pub Placed : Type 0
@@ -61,6 +63,7 @@ number_in_place g AcquireName w = line_number g w
 number_in_place g EventName w = line_number g w
 number_in_place g Column w = column_number_of g (pieces 46 w)
 number_in_place g Value w = unwrap_or (value_of w) 0
+number_in_place g Weight w = unwrap_or (weight_of w) 0
 number_in_place g Count w = unwrap_or (count_of w) 0
 number_in_place g _ w = 0
 
@@ -76,18 +79,21 @@ as_place places.Lock = LockName
 as_place places.Barrier = BarrierName
 as_place places.Space = SpaceName
 as_place places.Value = Value
+as_place places.Times = Times
+as_place places.Weight = Weight
 as_place (places.Column mode over) = Column
 
--- a form of an operation line: its fixed words, the places behind them, whether a precondition may follow, and the verb by the numbers in the places
+-- a form of an operation line: its fixed words, the places behind them, whether a precondition may follow, the format that brought it, and the verb by the numbers in the places
 pub record Form : Type 0 where
   pub words : List (List ℕ)
   pub places : List Place
   pub takes_on : Bool
+  pub since : Format
   pub verb : List ℕ → Verb
 
 -- the form of a kind
 abbrev pub form_of : Kind → Form
-form_of kind = record { words = kind_words kind; places = map as_place (kind_places kind); takes_on = kind_takes_on kind; verb = verb_of kind }
+form_of kind = record { words = kind_words kind; places = map as_place (kind_places kind); takes_on = kind_takes_on kind; since = kind_since kind; verb = verb_of kind }
 
 -- the forms of operation lines but for merges
 abbrev pub forms : List Form
@@ -100,8 +106,24 @@ same_word a b = bytes_eq a b
 abbrev pub has_on : Form → List (List ℕ) → Bool
 has_on f rest = f.takes_on && (length rest == length f.places + 2 && same_word (slice_index_or rest (length f.places) []) (codes "on"))
 
-abbrev pub is_of_form : List (List ℕ) → Form → Bool
-is_of_form ws f = starts_with same_word ws f.words && (length (drop (length f.words) ws) == length f.places || has_on f (drop (length f.words) ws))
+-- whether a form that one format brought is there in another
+abbrev pub is_since : Format → Format → Bool
+is_since One format = true
+is_since Two Two = true
+is_since Two One = false
+
+-- whether a word is the one that its place takes, where that takes one word alone
+abbrev pub is_own_word : Place → List ℕ → Bool
+is_own_word Times w = same_word w (codes "times")
+is_own_word _ w = true
+
+-- whether the words behind the fixed ones fit the form, and the format has it
+abbrev pub fits_behind : Format → Form → List (List ℕ) → Bool
+fits_behind format f rest = is_since f.since format && ((length rest == length f.places || has_on f rest) && list_all (λ (p : Placed). is_own_word p.0 p.1) (zip f.places rest))
+
+-- whether the words have the form
+abbrev pub is_of_form : Format → List (List ℕ) → Form → Bool
+is_of_form format ws f = starts_with same_word ws f.words && fits_behind format f (drop (length f.words) ws)
 
 -- the last word in the place of an event, where `on` stands
 abbrev pub on_placed : Form → List (List ℕ) → List Placed
@@ -136,7 +158,7 @@ line_draft g name [] = None
 line_draft g name (w ∷ ws) =
     cond (same_word w (codes "merge")) (merge_draft g name Merge ws)
     (cond (same_word w (codes "mergei")) (merge_draft g name MergeIgnore ws)
-    (option_map (λ f. form_draft g name (drop (length f.words) (w ∷ ws)) f) (find (is_of_form (w ∷ ws)) forms)))
+    (option_map (λ f. form_draft g name (drop (length f.words) (w ∷ ws)) f) (find (is_of_form g.format (w ∷ ws)) forms)))
 
 -- a declaration by its words
 abbrev pub space_with : List ℕ → List ℕ → Draft

@@ -5,6 +5,7 @@ use Rattle.std.specs.List.{list_any, before_first}
 use Rattle.std.specs.Str.{bytes_eq}
 use Rattle.std.proofs.Common.{inl, inr}
 use Rattle.graph_model.specs.declared.graph.limits.TheConstants.{MAX_TEXT}
+use Rattle.graph_model.specs.declared.graph.format.Format.{Format}
 use Rattle.graph_model.specs.declared.graph.decl.Decl.{Decl}
 use Rattle.graph_model.specs.declared.graph.verb.Line.{Line}
 use Rattle.graph_model.specs.declared.graph.why.Why.{Why}
@@ -15,8 +16,8 @@ use Rattle.graph_model.specs.declared.graph.decl.BarrierInfo.{BarrierInfo}
 use Rattle.graph_model.specs.graph.Graph.{GraphValue, named_spaces, columns, locks, barriers, line_passes, is_user, is_phase, is_acquire, is_release_of, ends_user}
 use Rattle.graph_model.specs.graph.Spelling.{head, header}
 use Rattle.graph_model.specs.graph.Fits.{IsGraph, first_reason, is_used, repeats, decl_fault, line_fault}
-use Rattle.graph_reader.specs.Words.{pieces, value_of, count_of, intervals_of, ascend_from, is_fields, is_column}
-use Rattle.graph_reader.specs.Draft.{Place, NewName, SpaceName, LockName, BarrierName, UserName, PhaseName, AcquireName, EventName, Column, Fields, Value, Count, Intervals, Draft, draft, line_number}
+use Rattle.graph_reader.specs.Words.{pieces, value_of, count_of, weight_of, intervals_of, ascend_from, is_fields, is_column}
+use Rattle.graph_reader.specs.Draft.{Place, NewName, SpaceName, LockName, BarrierName, UserName, PhaseName, AcquireName, EventName, Column, Fields, Value, Times, Weight, Count, Intervals, Draft, draft, line_number}
 use Rattle.graph_reader.specs.Text.{text}
 
 -- a word that is not spelled as a name, as fields or as a column, in the place of one
@@ -24,6 +25,8 @@ abbrev pub misnamed : Place → List ℕ → Bool
 misnamed Column w = not (is_column w)
 misnamed Fields w = not (is_fields w)
 misnamed Value w = false
+misnamed Times w = false
+misnamed Weight w = false
 misnamed Count w = false
 misnamed Intervals w = false
 misnamed _ w = not (is_name w)
@@ -45,6 +48,8 @@ abbrev pub unknown : GraphValue → Place → List ℕ → Bool
 unknown g NewName w = false
 unknown g Fields w = false
 unknown g Value w = false
+unknown g Times w = false
+unknown g Weight w = false
 unknown g Count w = false
 unknown g Intervals w = false
 unknown g Column w = not (is_used g (first_piece (pieces 46 w))) || (is_inst_name g (first_piece (pieces 46 w)) && not (has_column g (pieces 46 w)))
@@ -73,9 +78,10 @@ unlike g EventName w = not (is_line_name g w)
 unlike g Column w = not (is_inst_name g (first_piece (pieces 46 w)))
 unlike g _ w = false
 
--- a word that is not spelled as the number, the count or the intervals that its place takes
+-- a word that is not spelled as the number, the weight, the count or the intervals that its place takes
 abbrev pub misnumbered : Place → List ℕ → Bool
 misnumbered Value w = not (is_some (value_of w))
+misnumbered Weight w = not (is_some (weight_of w))
 misnumbered Count w = not (is_some (count_of w))
 misnumbered Intervals w = not (is_some (intervals_of w))
 misnumbered _ w = false
@@ -152,11 +158,15 @@ next_reason g rest = cond (has_newline rest) (line_reason g (first_line rest)) (
 abbrev pub line_count : GraphValue → ℕ
 line_count g = 1 + length g.decls + length g.lines
 
--- the bytes do not begin with the first line of a graph's text
+-- the bytes do not begin with the first line of a text, whichever its format
+abbrev pub HasNoHeader : List ℕ → Type 0
+HasNoHeader bytes = (format : Format) (rest : List ℕ) → bytes ≡ header format ++ rest → ⊥
+
+-- the first line is refused
 pub record IsHeaderFault (bytes : List ℕ) (number : ℕ) (reason : Why) : Type 0 where
   pub first : number ≡ 1
   pub reason_is : reason ≡ why.Header
-  pub no_header : (rest : List ℕ) → bytes ≡ header ++ rest → ⊥
+  pub no_header : HasNoHeader bytes
 
 -- the lines before this one are the text of a graph that is not closed, and this one is refused after it
 pub record IsLineFault (bytes : List ℕ) (number : ℕ) (reason : Why) : Type 0 where

@@ -69,6 +69,8 @@ column_seen b o q = record {
 -- a place whose word is the name of one thing
 abbrev pub NamesThing : table.Place → Type 0
 NamesThing places.Value = ⊥
+NamesThing places.Times = ⊥
+NamesThing places.Weight = ⊥
 NamesThing (places.Column mode over) = ⊥
 NamesThing p = Unit {0}
 

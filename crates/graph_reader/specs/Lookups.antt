@@ -64,6 +64,8 @@ found_number places.Space o = found_space o
 found_number places.Lock o = found_lock o
 found_number places.Barrier o = found_barrier o
 found_number places.Value o = None
+found_number places.Times o = None
+found_number places.Weight o = None
 found_number (places.Column mode over) o = None
 found_number p o = found_line o
 

@@ -124,7 +124,7 @@ fn merge_line(
 
 /// The line of a kind that words spell.
 fn kind_line(graph: &Graph, kind: Kind, name: &[u8], words: &[&[u8]]) -> Result<Line, ItemError>
-    requires { is_of_form (contents words.now) (form_of kind) ≡ true }
+    requires { is_of_form graph.now.format (contents words.now) (form_of kind) ≡ true }
     ensures { IsLineRead graph.now (kind_draft graph.now kind name.now (drop (length (form_of kind).words) (contents words.now))) result }
 {
     match read_form(graph, kind, name, behind(words, kind.words().len())) {
@@ -144,7 +144,7 @@ fn read_line(alloc: Global, graph: &Graph, name: &[u8], words: &[&[u8]]) -> Resu
     if verb == b"mergei".as_slice() {
         return merge_line(alloc, graph, true, name, words);
     }
-    match kind_of(words) {
+    match kind_of(graph.format(), words) {
         Some(kind) => kind_line(graph, kind, name, words),
         None => Err(ItemError::Refused(Why::Syntax)),
     }

@@ -2,7 +2,7 @@
 
 ghost use Rattle.std.specs.Prelude.{◌≡◌};
 ghost use Rattle.basics.specs.Numbers.{number_up_to};
-ghost use Rattle.graph_reader.specs.Words.{value_of, count_of};
+ghost use Rattle.graph_reader.specs.Words.{value_of, count_of, weight_of};
 
 use basics::number_up_to;
 use index_spaces::limits::LAST_POINT;
@@ -22,6 +22,16 @@ pub(crate) fn count(word: &[u8]) -> Option<u32>
         Some(0) => None,
         Some(n) => Some(n as u32),
         None => None,
+    }
+}
+
+/// The number of arrivals that one counts for, as a word spells it where it is more than one, from 2 to 8,192.
+pub(crate) fn weight(word: &[u8]) -> Option<u32>
+    ensures { result ≡ weight_of word.now }
+{
+    match number_up_to(word, 8192) {
+        Some(n) if n > 1 => Some(n as u32),
+        _ => None,
     }
 }
 

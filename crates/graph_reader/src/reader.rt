@@ -1,6 +1,8 @@
 //! Reading a graph from its text.
 
-ghost use Rattle.std.specs.Prelude.{◌≡◌, None, OnOk, IfOk, IfErr};
+ghost use Rattle.std.specs.Prelude.{◌≡◌, ◌++◌, None, OnOk, IfOk, IfErr, MatchOption};
+ghost use Rattle.graph_model.specs.graph.Spelling.{header};
+ghost use Rattle.graph_reader.specs.FirstFault.{HasNoHeader};
 ghost use Rattle.graph_reader.specs.Words.{pieces};
 ghost use Rattle.graph_reader.specs.Text.{GraphText};
 ghost use Rattle.graph_reader.specs.Reading.{item_value, with_value, open_fault, MayFollow, IsOpenError, IsTaken, IsWordsError, IsRefusal};
@@ -9,12 +11,26 @@ use crate::ReadRefusal;
 use crate::cuts::cut;
 use crate::item::{Item, ItemError};
 use crate::lines::read_item;
+use graph_model::format::Format;
 use graph_model::graph::Graph;
 use graph_model::why::Why;
 use std::alloc::Global;
 
 /// The bytes that a text may have.
 const MAX_BYTES: usize = 1_048_576;
+
+/// The format that the first line names, and the bytes behind it. `None` exactly where they begin with no such line.
+fn read_header(bytes: &[u8]) -> Option<(Format, &[u8])>
+    ensures { MatchOption result (HasNoHeader bytes.now) (λ x. bytes.now ≡ header x.0 ++ x.1.now) }
+{
+    if let Some(rest) = bytes.strip_prefix(b"realm 1\n".as_slice()) {
+        return Some((Format::One, rest));
+    }
+    match bytes.strip_prefix(b"realm 2\n".as_slice()) {
+        Some(rest) => Some((Format::Two, rest)),
+        None => None,
+    }
+}
 
 /// Puts an item at the end, where it fits.
 fn add_item(graph: &mut Graph, item: Item) -> Result<(), ItemError>
@@ -56,13 +72,13 @@ pub fn read_graph(alloc: Global, bytes: &[u8]) -> Result<Graph, ReadRefusal>
     ensures text { IfOk result (λ g. GraphText bytes.now g) }
     ensures refusal { IfErr result (λ e. IsRefusal bytes.now e) }
 {
-    let Some(mut rest) = bytes.strip_prefix(b"realm 1\n".as_slice()) else {
+    let Some((format, mut rest)) = read_header(bytes) else {
         return Err(ReadRefusal::Line {
             number: 1,
             why: Why::Header,
         });
     };
-    let mut graph = Graph::new(alloc);
+    let mut graph = Graph::of_format(alloc, format);
     let mut words = Vec::new(alloc);
     let mut number: u32 = 2;
     while let Some((line, after)) = cut(rest, b'\n') {

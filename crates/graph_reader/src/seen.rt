@@ -1,8 +1,8 @@
 //! What is to be said of a word in its place, by one look-up.
 
-ghost use Rattle.std.specs.Prelude.{◌≡◌, ◌<◌, ◌||◌, ◌&&◌, not, length, is_some, IfSome};
+ghost use Rattle.std.specs.Prelude.{◌≡◌, ◌<◌, ◌||◌, ◌&&◌, ℕ, List, not, length, is_some, IfSome};
 ghost use Rattle.graph_model.specs.graph.Graph.{GraphValue};
-ghost use Rattle.graph_reader.specs.Draft.{as_place, Column, EventName, Value};
+ghost use Rattle.graph_reader.specs.Draft.{as_place, Column, EventName, Value, Times, Weight};
 ghost use Rattle.graph_reader.specs.Lookups.{found_line, found_number, found_twice, found_alike, is_found_inst};
 ghost use Rattle.graph_reader.specs.Kinds.{Tells, NamesThing, column_seen};
 
@@ -12,7 +12,7 @@ use crate::faults::Faults;
 use crate::lookup::{
     Lookup, as_barrier, as_line, as_lock, as_space, column_names, is_inst, look_up, stands_for,
 };
-use crate::numbers::value;
+use crate::numbers::{value, weight};
 use graph_model::found::Found;
 use graph_model::graph::Graph;
 use graph_model::table::Place;
@@ -36,7 +36,7 @@ fn number(place: Place, found: Option<Found>) -> Option<u32>
         Place::Lock => as_lock(found),
         Place::Barrier => as_barrier(found),
         Place::Space => as_space(found),
-        Place::Column(..) | Place::Value => None,
+        Place::Column(..) | Place::Value | Place::Times | Place::Weight => None,
     }
 }
 
@@ -163,6 +163,41 @@ fn see_value(word: &[u8]) -> Seen
     }
 }
 
+/// What is to be said of the word `times`, which a line has to have there to be of its form.
+fn see_times() -> Seen
+    ensures { (g : GraphValue) (w : List ℕ) → Tells g Times w result }
+{
+    Seen {
+        faults: Faults {
+            misnamed: false,
+            twice: false,
+            unknown: false,
+            unlike: false,
+            misnumbered: false,
+        },
+        number: 0,
+        value: 0,
+    }
+}
+
+/// What is to be said of how many arrivals one counts for.
+fn see_weight(word: &[u8]) -> Seen
+    ensures { (g : GraphValue) → Tells g Weight word.now result }
+{
+    let weight = weight(word);
+    Seen {
+        faults: Faults {
+            misnamed: false,
+            twice: false,
+            unknown: false,
+            unlike: false,
+            misnumbered: weight.is_none(),
+        },
+        number: weight.unwrap_or(0),
+        value: 0,
+    }
+}
+
 /// What is to be said of a word in its place.
 pub(crate) fn see(graph: &Graph, place: Place, word: &[u8]) -> Seen
     ensures { Tells graph.now (as_place place) word.now result }
@@ -172,5 +207,7 @@ pub(crate) fn see(graph: &Graph, place: Place, word: &[u8]) -> Seen
             see_name(graph, place, word),
         Place::Column(..) => see_column(graph, word),
         Place::Value => see_value(word),
+        Place::Times => see_times(),
+        Place::Weight => see_weight(word),
     }
 }

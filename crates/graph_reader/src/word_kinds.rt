@@ -141,6 +141,8 @@ pub(crate) fn part_word(graph: &Graph, place: Place, parts: &Parts, i: usize) ->
         Place::Barrier => barrier_word(graph, parts.number(i)),
         Place::Space => space_word(graph, parts.number(i)),
         Place::Value => Word::Number(parts.value(i)),
+        Place::Times => Word::Fixed(b"times"),
+        Place::Weight => Word::Number(u64::from(parts.number(i))),
         Place::Column(..) => column_word(graph, parts.number(i)),
     }
 }

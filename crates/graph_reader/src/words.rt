@@ -3,11 +3,13 @@
 ghost use Rattle.basics.specs.Words.{contents};
 ghost use Rattle.std.specs.Prelude.{◌≡◌, ◌≤◌, length, drop, map, ◌==◌, find, OnOk, IfOk, IfSome, MatchOption, [], slice_index_or, option_map, option_copied};
 ghost use Rattle.graph_reader.specs.Words.{pieces};
-ghost use Rattle.graph_reader.specs.Draft.{form_of, is_of_form, same_word, has_on};
-ghost use Rattle.std.specs.List.{list_any, starts_with};
+ghost use Rattle.graph_reader.specs.Draft.{Placed, form_of, is_since, is_own_word, fits_behind, is_of_form, same_word, has_on, as_place};
+ghost use Rattle.graph_reader.specs.Kinds.{words_in};
+ghost use Rattle.std.specs.List.{list_any, list_all, starts_with};
 
 use crate::cuts::cut;
-use graph_model::table::{KINDS, Kind};
+use graph_model::format::Format;
+use graph_model::table::{KINDS, Kind, Place};
 use index_spaces::NoMemory;
 use index_spaces::room::push;
 use std::alloc::Global;
@@ -93,18 +95,59 @@ pub(crate) fn has_on(kind: Kind, rest: &[&[u8]]) -> bool
     kind.takes_on() && rest.len() == places + 2 && word(rest, places) == b"on".as_slice()
 }
 
+/// Whether what one format brought is there in another.
+fn is_since(since: Format, format: Format) -> bool
+    ensures { result ≡ is_since since format }
+{
+    match (since, format) {
+        (Format::Two, Format::One) => false,
+        _ => true,
+    }
+}
+
+/// Whether a word is the one that its place takes, where that takes one word alone.
+fn is_own_word(place: Place, word: &[u8]) -> bool
+    ensures { result ≡ is_own_word (as_place place) word.now }
+{
+    match place {
+        Place::Times => word == b"times".as_slice(),
+        _ => true,
+    }
+}
+
+/// Whether each word in its place is the one that the place takes, where that takes one word alone.
+fn are_own_words(places: &[Place], words: &[&[u8]]) -> bool
+    ensures { result ≡ list_all (λ (p : Placed). is_own_word p.0 p.1) (words_in places.now (contents words.now)) }
+{
+    places
+        .iter()
+        .zip(words)
+        .all(|(place, word)| is_own_word(*place, word))
+}
+
+/// Whether the words behind the fixed ones fit a kind, and the format has it.
+fn fits_behind(format: Format, kind: Kind, rest: &[&[u8]]) -> bool
+    ensures { result ≡ fits_behind format (form_of kind) (contents rest.now) }
+{
+    is_since(kind.since(), format)
+        && (rest.len() == place_count(kind) || has_on(kind, rest))
+        && are_own_words(kind.places(), rest)
+}
+
 /// Whether the words behind the sign have the form of a kind.
-fn is_of_kind(words: &[&[u8]], kind: Kind) -> bool
-    ensures { result ≡ is_of_form (contents words.now) (form_of kind) }
+fn is_of_kind(format: Format, words: &[&[u8]], kind: Kind) -> bool
+    ensures { result ≡ is_of_form format (contents words.now) (form_of kind) }
 {
     let fixed = kind.words();
-    begins(words, fixed)
-        && (words.len() == fixed.len() + place_count(kind) || has_on(kind, &words[fixed.len()..]))
+    begins(words, fixed) && fits_behind(format, kind, &words[fixed.len()..])
 }
 
 /// The kind of the words behind the sign.
-pub(crate) fn kind_of(words: &[&[u8]]) -> Option<Kind>
-    ensures { result ≡ find (λ k. is_of_form (contents words.now) (form_of k)) KINDS }
+pub(crate) fn kind_of(format: Format, words: &[&[u8]]) -> Option<Kind>
+    ensures { result ≡ find (λ k. is_of_form format (contents words.now) (form_of k)) KINDS }
 {
-    KINDS.iter().copied().find(|kind| is_of_kind(words, *kind))
+    KINDS
+        .iter()
+        .copied()
+        .find(|kind| is_of_kind(format, words, *kind))
 }

@@ -4,7 +4,7 @@ ghost use Rattle.basics.specs.Words.{contents};
 ghost use Rattle.std.specs.Prelude.{◌≡◌, ◌≤◌, [], ◌∷◌, ◌++◌, flat_map, map, length, codes, decimal, OnOk, OnErr};
 ghost use Rattle.realm_io.specs.Counts.{Rose};
 ghost use Rattle.realm_io.specs.Told.{with_more, TookPrefix};
-ghost use Rattle.graph_model.specs.graph.Spelling.{spelled, space_name, interval_word, verb_words, on_words, line_words, decl_words, line_name};
+ghost use Rattle.graph_model.specs.graph.Spelling.{header, spelled, space_name, interval_word, verb_words, on_words, line_words, decl_words, line_name};
 ghost use Rattle.graph_reader.specs.Text.{text};
 ghost use Rattle.realm_io.specs.Written.{Writes};
 ghost use Rattle.graph_reader.specs.WrittenWords.{word_text, spaced, row_words, part_text, comma_before, comma_from};
@@ -12,6 +12,7 @@ ghost use Rattle.graph_reader.specs.WrittenWords.{word_text, spaced, row_words, 
 use crate::word_kinds::{Word, line_word, op_word, part_word, put_behind, put_spaced, space_word};
 use crate::words::word;
 use graph_model::decl::Decl;
+use graph_model::format::Format;
 use graph_model::graph::Graph;
 use graph_model::lists::{LineList, NameList};
 use graph_model::name::Name;
@@ -236,12 +237,22 @@ fn put_lines<K: Sink>(sink: &mut K, graph: &Graph) -> Result<(), WriteFault>
     Ok(())
 }
 
+/// The first line of a text.
+fn header(format: Format) -> &'static [u8]
+    ensures { result.now ≡ header format }
+{
+    match format {
+        Format::One => b"realm 1\n",
+        Format::Two => b"realm 2\n",
+    }
+}
+
 /// Writes the parts of the text.
 fn put_parts<K: Sink>(sink: &mut K, graph: &Graph) -> Result<(), WriteFault>
     ensures { Writes (K.state sink.old) (K.state sink.new) result (text graph.now) }
 {
     let _ = graph.decls();
-    put_bytes(sink, b"realm 1\n")?;
+    put_bytes(sink, header(graph.format()))?;
     put_decls(sink, graph)?;
     put_lines(sink, graph)?;
     put_bytes(sink, b"end\n")

@@ -6,13 +6,13 @@ use Rattle.index_spaces.specs.Column.{ColumnValue, cell_of}
 use Rattle.index_spaces.specs.Held.{held_at}
 use Rattle.index_spaces.proofs.WriteFacts.{holds_over}
 use Rattle.graph_model.specs.declared.graph.verb.Access.{Access}
-use Rattle.graph_model.specs.graph.Access.{is_sum}
+use Rattle.graph_model.specs.graph.Access.{is_reduction}
 use Rattle.graph_model.specs.meaning.Effect.{Cells, seen}
 use Rattle.graph_model.specs.meaning.HeldCells.{HasCells, HoldsOver, CellsByPoint, SeenCells}
 
 -- at a point of its space, the cell of a held column that is read is the one that is seen
 pub cell_is_seen : CellsByPoint → SeenCells → (space : ℕ → List (ℕ × ℕ)) (accesses : List Access) (a : Access) (held : List (ℕ × ColumnValue)) (x : ColumnValue) →
-    Contains accesses a → is_sum a.mode ≡ false → held_at held a.column ≡ Some x → IsSpace x.space → HoldsOver held a.column (space a.space) →
+    Contains accesses a → is_reduction a.mode ≡ false → held_at held a.column ≡ Some x → IsSpace x.space → HoldsOver held a.column (space a.space) →
     (cells : Cells) → HasCells held cells → (p : ℕ) → has_point (space a.space) p ≡ true → cell_of x p ≡ seen space accesses cells a.column p
 cell_is_seen by_point as_seen space accesses a held x listed sum is over holds cells has p h =
     let within : IsWithin (space a.space) x.space = holds_over (held_at held a.column) (λ y. IsWithin (space a.space) y.space) x is holds in

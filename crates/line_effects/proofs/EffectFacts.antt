@@ -8,7 +8,9 @@ use Rattle.std.proofs.lemmas.Option.{none-some, same_Some, slice_get_within, get
 use Rattle.graph_model.specs.declared.graph.verb.Line.{Line}
 use Rattle.graph_model.specs.declared.meaning.outcome.Verdict.{Verdict}
 use Rattle.graph_model.specs.declared.meaning.outcome.Verdict.TheVariants.{Fine}
+use Rattle.graph_model.specs.declared.graph.format.Format.{Format}
 use Rattle.graph_model.specs.declared.graph.table.Kernel.{Kernel}
+use Rattle.graph_model.specs.declared.graph.table.Kernel.TheVariants.{Iota, Axpy, Stencil, Hist, Scan, Dot, Expect, Gather}
 use Rattle.graph_model.specs.declared.graph.verb.Verb.{Verb}
 use Rattle.graph_model.specs.declared.graph.verb.Verb.TheVariants.{User, Trigger, Cancel, Merge, MergeIgnore, Phase, Arrive, Acquire, Release, Fill, Copy, Reduce, Task}
 use Rattle.graph_model.specs.graph.Graph.{GraphValue, verb_at, space_at, named_spaces, column_space}
@@ -22,7 +24,7 @@ use Rattle.graph_model.specs.declared.graph.verb.Mode.{Mode}
 use Rattle.graph_model.specs.declared.graph.verb.Mode.TheVariants as mode
 use Rattle.index_spaces.specs.Held.{held_at}
 use Rattle.line_effects.specs.Moved.{moves, HeldShow}
-use Rattle.graph_model.specs.graph.Access.{access, accesses, verb_accesses, kernel_accesses}
+use Rattle.graph_model.specs.graph.Access.{access, in_format, or_write, accesses, verb_accesses, kernel_accesses}
 use Rattle.graph_model.specs.meaning.Effect.{Cells, CellChange, Effect, effect, cells_after, verb_changes, verb_verdict}
 use Rattle.index_spaces.specs.Space.{points, IsWithin}
 use Rattle.index_spaces.specs.Column.{ColumnValue}
@@ -44,7 +46,7 @@ nothing space cells (Cancel u) f c r t = (refl, refl)
 nothing space cells (Merge es) f c r t = (refl, refl)
 nothing space cells (MergeIgnore es) f c r t = (refl, refl)
 nothing space cells (Phase b) f c r t = (refl, refl)
-nothing space cells (Arrive q v) f c r t = (refl, refl)
+nothing space cells (Arrive q v w) f c r t = (refl, refl)
 nothing space cells (Acquire l) f c r t = (refl, refl)
 nothing space cells (Release q) f c r t = (refl, refl)
 nothing space cells (Fill x s v) f c r t = absurd (f x s v refl)
@@ -85,9 +87,24 @@ over g cells held a s shown some fits e = by_column (held_at held a.column) some
     by_column None some h = absurd (false≢true some)
     by_column (Some x) some h = h x refl
 
+-- the accesses of a verb as a format takes them
+abbrev pub accesses_in : Format → Verb → List Access
+accesses_in f v = map (in_format f) (verb_accesses v)
+
+-- a kernel has the same ones in each format
+kernel_in : (f : Format) (k : Kernel) → accesses_in f (Task k) ≡ kernel_accesses k
+kernel_in f (Iota x s v) = refl
+kernel_in f (Axpy x y s v) = refl
+kernel_in f (Stencil x y s t) = refl
+kernel_in f (Hist x y s t) = refl
+kernel_in f (Scan x y s) = refl
+kernel_in f (Dot x y z s t) = refl
+kernel_in f (Expect x s low high) = refl
+kernel_in f (Gather x y z s t) = refl
+
 -- the accesses of a line by its verb
-pub accesses_are : (g : GraphValue) (i : ℕ) (l : Line) (v : Verb) → slice_get g.lines i ≡ Some l → l.verb ≡ v → accesses g i ≡ verb_accesses v
-accesses_are g i l v h e = ap (λ o. option_map_or verb_accesses o []) (verb_is g i l h ∙ ap (λ x. Some x) e)
+pub accesses_are : (g : GraphValue) (i : ℕ) (l : Line) (v : Verb) → slice_get g.lines i ≡ Some l → l.verb ≡ v → accesses g i ≡ accesses_in g.format v
+accesses_are g i l v h e = ap (λ o. map (in_format g.format) (option_map_or verb_accesses o [])) (verb_is g i l h ∙ ap (λ x. Some x) e)
 
 pub access_at : (g : GraphValue) (i k : ℕ) (a : Access) (xs : List Access) → accesses g i ≡ xs → slice_get xs k ≡ Some a → slice_get (accesses g i) k ≡ Some a
 access_at g i k a xs e h = ap (λ ys. slice_get ys k) e ∙ h
@@ -99,36 +116,36 @@ pub access_listed : (g : GraphValue) (i k : ℕ) (a : Access) → slice_get (acc
 access_listed g i k a h = (k, slice_get_within (accesses g i) k a h, get_or_from_slice_get (accesses g i) k a a h)
 
 -- the accesses of a line, by its verb: their spaces, and their columns where they are held
-listed_at : (g : GraphValue) (i k : ℕ) (l : Line) (v : Verb) (a : Access) → slice_get g.lines i ≡ Some l → l.verb ≡ v → slice_get (verb_accesses v) k ≡ Some a → slice_get (accesses g i) k ≡ Some a
-listed_at g i k l v a h e at = access_at g i k a (verb_accesses v) (accesses_are g i l v h e) at
+listed_at : (g : GraphValue) (i k : ℕ) (l : Line) (v : Verb) (a : Access) → slice_get g.lines i ≡ Some l → l.verb ≡ v → slice_get (accesses_in g.format v) k ≡ Some a → slice_get (accesses g i) k ≡ Some a
+listed_at g i k l v a h e at = access_at g i k a (accesses_in g.format v) (accesses_are g i l v h e) at
 
-pub space_known : AccessesFit → (g : GraphValue) → IsGraph g → (i k : ℕ) (l : Line) (v : Verb) (a : Access) → slice_get g.lines i ≡ Some l → l.verb ≡ v → slice_get (verb_accesses v) k ≡ Some a → a.space < length (named_spaces g)
+pub space_known : AccessesFit → (g : GraphValue) → IsGraph g → (i k : ℕ) (l : Line) (v : Verb) (a : Access) → slice_get g.lines i ≡ Some l → l.verb ≡ v → slice_get (accesses_in g.format v) k ≡ Some a → a.space < length (named_spaces g)
 space_known law g is i k l v a h e at = (law g i a is (access_listed g i k a (listed_at g i k l v a h e at))).space
 
-pub over_access : AccessesFit → (g : GraphValue) → IsGraph g → (i k : ℕ) (l : Line) (v : Verb) (a : Access) → slice_get g.lines i ≡ Some l → l.verb ≡ v → slice_get (verb_accesses v) k ≡ Some a →
+pub over_access : AccessesFit → (g : GraphValue) → IsGraph g → (i k : ℕ) (l : Line) (v : Verb) (a : Access) → slice_get g.lines i ≡ Some l → l.verb ≡ v → slice_get (accesses_in g.format v) k ≡ Some a →
     (cells : Cells) (held : List (ℕ × ColumnValue)) (s : List (ℕ × ℕ)) → HeldShow g cells held → ((k c : ℕ) → slice_get (moves g i) k ≡ Some c → IsSome (held_at held c)) → s ≡ space_at g a.space → HoldsOver held a.column s
 over_access law g is i k l v a h e at cells held s shown moved space =
     let there = listed_at g i k l v a h e at in
     over g cells held a s shown (moved k a.column (move_at g i k a there)) (law g i a is (access_listed g i k a there)) space
 
-pub columns_apart : ColumnsDiffer → (g : GraphValue) → IsGraph g → (i : ℕ) (l : Line) (v : Verb) (a b : Access) → slice_get g.lines i ≡ Some l → l.verb ≡ v → slice_get (verb_accesses v) 0 ≡ Some a → slice_get (verb_accesses v) 1 ≡ Some b → a.column ≢ b.column
+pub columns_apart : ColumnsDiffer → (g : GraphValue) → IsGraph g → (i : ℕ) (l : Line) (v : Verb) (a b : Access) → slice_get g.lines i ≡ Some l → l.verb ≡ v → slice_get (accesses_in g.format v) 0 ≡ Some a → slice_get (accesses_in g.format v) 1 ≡ Some b → a.column ≢ b.column
 columns_apart law g is i l v a b h e first second = law g i 0 1 a b is (omega arith) (listed_at g i 0 l v a h e first) (listed_at g i 1 l v b h e second)
 
 -- how a reduction uses its target, and its accesses
-abbrev pub reduced_mode : Op → Mode
-reduced_mode op.Sum = mode.Sum
-reduced_mode op.Min = mode.Write
-reduced_mode op.Max = mode.Write
+abbrev pub reduced_mode : Format → Op → Mode
+reduced_mode f op.Sum = mode.Sum
+reduced_mode f op.Min = or_write f mode.Least
+reduced_mode f op.Max = or_write f mode.Most
 
-pub reduces_from : (o : Op) (a b s : ℕ) → slice_get (verb_accesses (Reduce o a b s)) 0 ≡ Some (access a s mode.Read)
-reduces_from op.Sum a b s = refl
-reduces_from op.Min a b s = refl
-reduces_from op.Max a b s = refl
+pub reduces_from : (f : Format) (o : Op) (a b s : ℕ) → slice_get (accesses_in f (Reduce o a b s)) 0 ≡ Some (access a s mode.Read)
+reduces_from f op.Sum a b s = refl
+reduces_from f op.Min a b s = refl
+reduces_from f op.Max a b s = refl
 
-pub reduces_into : (o : Op) (a b s : ℕ) → slice_get (verb_accesses (Reduce o a b s)) 1 ≡ Some (access b s (reduced_mode o))
-reduces_into op.Sum a b s = refl
-reduces_into op.Min a b s = refl
-reduces_into op.Max a b s = refl
+pub reduces_into : (f : Format) (o : Op) (a b s : ℕ) → slice_get (accesses_in f (Reduce o a b s)) 1 ≡ Some (access b s (reduced_mode f o))
+reduces_into f op.Sum a b s = refl
+reduces_into f op.Min a b s = refl
+reduces_into f op.Max a b s = refl
 
 -- numbers that differ pairwise do not repeat
 none_alike : (x : ℕ) (xs : List ℕ) → ((k y : ℕ) → slice_get xs k ≡ Some y → x ≢ y) → list_any (nat_eq x) xs ≡ false
@@ -157,7 +174,7 @@ moves_apart differ g is i j m x y b p q =
 pub fits_held : AccessesFit → ColumnsDiffer → (g : GraphValue) → IsGraph g → (i : ℕ) (l : Line) (k : Kernel) (cells : Cells) (held : List (ℕ × ColumnValue)) → slice_get g.lines i ≡ Some l → l.verb ≡ Task k → HeldShow g cells held →
     ((j c : ℕ) → slice_get (moves g i) j ≡ Some c → IsSome (held_at held c)) → FitsHeld g held k
 fits_held law differ g is i l k cells held h e shown moved =
-    let same : accesses g i ≡ kernel_accesses k = accesses_are g i l (Task k) h e in
+    let same : accesses g i ≡ kernel_accesses k = accesses_are g i l (Task k) h e ∙ kernel_in g.format k in
     record {
       declared = λ a c. (law g i a is (subst (λ xs. Contains xs a) (sym same) c)).space;
       columns = λ a c. (let listed = subst (λ xs. Contains xs a) (sym same) c in

@@ -1,6 +1,7 @@
 -- What each step of the turn lock tells, and how views are cut and joined.
 use Rattle.std.specs.Prelude.{◌≡◌, ℕ, ◌+◌, ◌-◌, ◌==◌, MatchBool, true, false, [], ◌∷◌, Option, Some, None}
 use Rattle.atomic_table.specs.Table.{Me}
+use Rattle.graph_model.specs.declared.graph.format.Format.TheVariants.{One}
 use Rattle.run_core.specs.Core.{CoreValue, unissued}
 use Rattle.run_core.specs.Works.{KeepsWork}
 use Rattle.lock_engine.specs.Turns.{Call, IsTurn, line_taken}
@@ -48,4 +49,4 @@ joined v w = record { parts = v.parts + w.parts; has_turn = v.has_turn; core = v
 
 -- what is left of a seat that was joined to another
 abbrev pub spent_view : View
-spent_view = record { parts = 0; has_turn = false; core = unissued (record { decls = []; lines = [] }) 0; line = None }
+spent_view = record { parts = 0; has_turn = false; core = unissued (record { format = One; decls = []; lines = [] }) 0; line = None }

@@ -81,15 +81,15 @@ same_by g k l old h n o =
     o ∙ fill_by_all (reduction_after g (k + 1)) (map (reduction_after g k) (numbers_below (length g.lines))) (length g.lines) None (length-map-range_with_len (reduction_after g k) 0 (length g.lines))
     (λ p b. get_or-map-range_with_len (reduction_after g k) 0 (length g.lines) p p None b (omega arith) ∙ sym (no_arrival g k p l h (n p)))
 
-arrive_by : (g : GraphValue) (k q v : ℕ) (l : Line) (old : List (Option Reduction)) → slice_get g.lines k ≡ Some l → l.verb ≡ Arrive q v → old ≡ map (reduction_after g k) (numbers_below (length g.lines)) → WithLine g k l.verb (with_arrival (Arrive q v) old)
-arrive_by g k q v l old h e o =
-    replaced (reduction_after g k) (reduction_after g (k + 1)) (length g.lines) q (option_map (added v) (get_or old q None)) None old (with_arrival (Arrive q v) old) o refl
+arrive_by : (g : GraphValue) (k q v w : ℕ) (l : Line) (old : List (Option Reduction)) → slice_get g.lines k ≡ Some l → l.verb ≡ Arrive q v w → old ≡ map (reduction_after g k) (numbers_below (length g.lines)) → WithLine g k l.verb (with_arrival (Arrive q v w) old)
+arrive_by g k q v w l old h e o =
+    replaced (reduction_after g k) (reduction_after g (k + 1)) (length g.lines) q (option_map (added v) (get_or old q None)) None old (with_arrival (Arrive q v w) old) o refl
     (λ b. ap (λ xs. option_map (added v) (get_or xs q None)) o ∙ (ap (option_map (added v)) (get_or-map-range_with_len (reduction_after g k) 0 (length g.lines) q q None b (omega arith))
     ∙ sym (one_arrival g k q v l h (ap (arrival_value q) e ∙ ap (λ b. cond b (Some v) None) (eq-eqb q q refl)))))
     (λ p ne. sym (no_arrival g k p l h (ap (arrival_value p) e ∙ ap (λ b. cond b (Some v) None) (ne_eqb q p (λ x. ne (sym x))))))
 
 reduced_by : (g : GraphValue) (k : ℕ) (x : Line) (old : List (Option Reduction)) (v : Verb) → x.verb ≡ v → slice_get g.lines k ≡ Some x → old ≡ map (reduction_after g k) (numbers_below (length g.lines)) → with_arrival v old ≡ map (reduction_after g (k + 1)) (numbers_below (length g.lines))
-reduced_by g n x old (Arrive q v) e h r = arrive_by g n q v x old h e r
+reduced_by g n x old (Arrive q v w) e h r = arrive_by g n q v w x old h e r
 reduced_by g n x old User e h r = same_by g n x old h (λ p. ap (arrival_value p) e) r
 reduced_by g n x old (Trigger u) e h r = same_by g n x old h (λ p. ap (arrival_value p) e) r
 reduced_by g n x old (Cancel u) e h r = same_by g n x old h (λ p. ap (arrival_value p) e) r
@@ -126,7 +126,7 @@ total_by g p Done (Some (Trigger u)) known = refl
 total_by g p Done (Some (Cancel u)) known = refl
 total_by g p Done (Some (Merge es)) known = refl
 total_by g p Done (Some (MergeIgnore es)) known = refl
-total_by g p Done (Some (Arrive q v)) known = refl
+total_by g p Done (Some (Arrive q v w)) known = refl
 total_by g p Done (Some (Acquire l)) known = refl
 total_by g p Done (Some (Release q)) known = refl
 total_by g p Done (Some (Fill t s v)) known = refl

@@ -28,5 +28,5 @@ reduction_after g k p = option_map (λ x. record { op = x.op; total = reduced_wi
 
 -- one more arrival
 abbrev pub with_arrival : Verb → List (Option Reduction) → List (Option Reduction)
-with_arrival (Arrive q value) rs = slice_set rs q (option_map (λ r. record { op = r.op; total = combined r.op r.total value }) (slice_index_or rs q None))
+with_arrival (Arrive q value weight) rs = slice_set rs q (option_map (λ r. record { op = r.op; total = combined r.op r.total value }) (slice_index_or rs q None))
 with_arrival _ rs = rs

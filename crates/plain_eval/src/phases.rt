@@ -98,7 +98,7 @@ fn arrive(reductions: &mut [Option<Reduction>], verb: &Verb)
     ensures { reductions.new ≡ with_arrival verb.now reductions.old }
 {
     match verb {
-        Verb::Arrive { phase, value } => {
+        Verb::Arrive { phase, value, .. } => {
             let at = *phase as usize;
             if at < reductions.len() {
                 reductions[at] = reduced(reductions[at], *value);

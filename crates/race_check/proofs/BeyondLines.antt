@@ -1,16 +1,13 @@
 -- At numbers that are no lines each rule holds.
 use Rattle.std.proofs.Common.{◌≡◌, ℕ, zero, suc, ◌<◌, ◌≤◌, ◌⊎◌, inl, inr, List, [], ◌∷◌, length, arith}
-use Rattle.std.specs.Prelude.{Contains, Some, option_map, slice_get}
-use Rattle.std.specs.Option.{option_map_or}
+use Rattle.std.specs.Prelude.{Some, slice_get}
 use Rattle.std.proofs.lemmas.Option.{none-some}
-use Rattle.graph_model.specs.declared.graph.verb.Access.{Access}
+use Rattle.race_sweeps.proofs.AccessSteps.{access_there}
 use Rattle.graph_model.specs.declared.graph.verb.Line.{Line}
 use Rattle.graph_model.specs.graph.Graph.{GraphValue, is_acquire_of}
 use Rattle.graph_model.specs.graph.Edges.{edges}
 use Rattle.graph_model.specs.meaning.Path.{HasPath}
-use Rattle.graph_model.specs.graph.Access.{verb_accesses}
 use Rattle.graph_model.specs.meaning.Rules.{ReleasedAt, SectionAt, DescendsAt, ReleaseFaultAt, RaceAt}
-use Rattle.basics.proofs.ListFacts.{contains_none}
 use Rattle.graph_model.proofs.PathTable.{path_below}
 use Rattle.graph_model.proofs.VerbFacts.{passes_below}
 use Rattle.race_check.specs.Paths.{EdgesBetween}
@@ -19,11 +16,6 @@ line_there : (ls : List Line) (i : ℕ) (l : Line) → slice_get ls i ≡ Some l
 line_there [] i l h = absurd (none-some l h)
 line_there (x ∷ ls) zero l h = omega arith
 line_there (x ∷ ls) (suc i) l h = let b : i < length ls = line_there ls i l h in omega arith
-
-pub access_there : (ls : List Line) (i : ℕ) (a : Access) → Contains (option_map_or verb_accesses (option_map (λ (l : Line). l.verb) (slice_get ls i)) []) a → i < length ls
-access_there [] i a c = absurd (contains_none a c)
-access_there (l ∷ ls) zero a c = omega arith
-access_there (l ∷ ls) (suc i) a c = let b : i < length ls = access_there ls i a c in omega arith
 
 -- at numbers that are no lines each rule holds
 pub released_beyond : (g : GraphValue) (i : ℕ) → length g.lines ≤ i → ReleasedAt g i
@@ -45,5 +37,5 @@ module _ (g : GraphValue) (between : EdgesBetween g) where
   descends_beyond i j (inr h) l k s a = (let b : j < length g.lines = (path_lines i j s.entered).1 in absurd (omega arith))
 
   pub race_beyond : (i j : ℕ) → (length g.lines ≤ i) ⊎ (length g.lines ≤ j) → RaceAt g i j
-  race_beyond i j (inl h) below c = (let b : i < length g.lines = access_there g.lines i c.one c.one_in in absurd (omega arith))
-  race_beyond i j (inr h) below c = (let b : j < length g.lines = access_there g.lines j c.other c.other_in in absurd (omega arith))
+  race_beyond i j (inl h) below c = (let b : i < length g.lines = access_there g i c.one c.one_in in absurd (omega arith))
+  race_beyond i j (inr h) below c = (let b : j < length g.lines = access_there g j c.other c.other_in in absurd (omega arith))

@@ -25,7 +25,7 @@ use Rattle.race_check.specs.Words.{IsWordOf}
 use Rattle.race_sweeps.specs.Clash.{LinesClash}
 use Rattle.race_sweeps.specs.Marks.{bit_in}
 use Rattle.race_check.proofs.RuleWords.{conflict_shares, shares_by, users_more}
-use Rattle.race_check.proofs.BeyondLines.{access_there}
+use Rattle.race_sweeps.proofs.AccessSteps.{access_there}
 use Rattle.race_check.proofs.WordScan.{word_and, word_or, word_not, word_same}
 
 -- what a suspect is
@@ -46,7 +46,7 @@ pub user_known : (g : GraphValue) (i j : ℕ) → shares_column g i j ≡ true �
 user_known g i j h =
     let a = some_passes (λ (a : Access). uses g a.column j) (accesses g i) h in
     let b = some_passes (λ (b : Access). a.0.column == b.column) (accesses g j) a.2 in
-    access_there g.lines j b.0 b.1
+    access_there g j b.0 b.1
 
 -- what is no suspect races with nothing
 pub unsuspected_free : (g : GraphValue) (t : PathsValue) (i j : ℕ) → IsPathTable g t → is_suspect g t i j ≡ false → RaceAt g i j
@@ -67,7 +67,7 @@ exempt_of g i j forward backward below clash rule = elim (rule below (clash_conf
 pub free_by_sections : (g : GraphValue) (i j : ℕ) (b : Bool) → (HasPath g i j → ⊥) → (HasPath g j i → ⊥) → i < j → LinesClash g true i j → (LinesClash g false i j → ⊥) → (IsTrue b ↔ ((l : ℕ) × ApartIn g l i j)) → IsTrue b ↔ RaceAt g i j
 free_by_sections g i j b forward backward below clash soft apart = (
   (λ h low c. inr (inr (let a = apart.0 h in record {
-    sums = λ x y hx hy conflict. commutes x y hx hy conflict;
+    commute = λ x y hx hy conflict. commutes x y hx hy conflict;
     lock = a.0;
     one = a.1.0;
     other = a.1.1;
@@ -120,7 +120,7 @@ race_none g i w beyond all before j = elim (cases_lt j (w * 64)) [ inl l ↦ bef
 
 -- a line that uses a column is a line
 pub uses_known : (g : GraphValue) (c j : ℕ) → uses g c j ≡ true → j < length g.lines
-uses_known g c j h = let b = some_passes (λ (b : Access). c == b.column) (accesses g j) h in access_there g.lines j b.0 b.1
+uses_known g c j h = let b = some_passes (λ (b : Access). c == b.column) (accesses g j) h in access_there g j b.0 b.1
 
 -- the bit of a suspect
 pub suspect_at : (test : ℕ → Bool) (w word bit : ℕ) (b : Bool) → IsWordOf test w word → bit < 64 → b ≡ bit_in word bit → test (w * 64 + bit) ≡ b
@@ -130,5 +130,5 @@ suspect_at test w word bit b is h e = sym (is bit h) ∙ sym e
 pub accesses_read : (g : GraphValue) (lists : List (Vec Access Global)) → AreAccesses g lists → (i : ℕ) (v : Vec Access Global) (xs : List Access) → i < length g.lines → v ≡ slice_index_or lists i v → xs ≡ v.items → xs ≡ accesses g i
 accesses_read g lists are i v xs h read same = same ∙ are.each i v (slice_get-get_or lists i v (let c : length lists ≡ length g.lines = are.count in omega arith) ∙ ap Some (sym read))
 
-pub clash_of_lists : (g : GraphValue) (sums b : Bool) (i j : ℕ) (xs ys : List Access) → xs ≡ accesses g i → ys ≡ accesses g j → IsTrue b ↔ ListsClash g sums xs ys → IsTrue b ↔ LinesClash g sums i j
-clash_of_lists g sums b i j xs ys e f k = subst (λ us. IsTrue b ↔ ListsClash g sums us (accesses g j)) e (subst (λ vs. IsTrue b ↔ ListsClash g sums xs vs) f k)
+pub clash_of_lists : (g : GraphValue) (commuting b : Bool) (i j : ℕ) (xs ys : List Access) → xs ≡ accesses g i → ys ≡ accesses g j → IsTrue b ↔ ListsClash g commuting xs ys → IsTrue b ↔ LinesClash g commuting i j
+clash_of_lists g commuting b i j xs ys e f k = subst (λ us. IsTrue b ↔ ListsClash g commuting us (accesses g j)) e (subst (λ vs. IsTrue b ↔ ListsClash g commuting xs vs) f k)

@@ -73,7 +73,7 @@ stands_on_none g i q l rel at on = (
 -- what a line stands on is a line
 pub on_known : (g : GraphValue) → IsGraph g → (i m : ℕ) (l : Line) → i < length g.lines → slice_get g.lines i ≡ Some l → l.on ≡ Some m → m < length g.lines
 on_known g f i m l below at on =
-    let c = cut_at g.decls [] g.lines f.lines i l at in
-    let b : m < length c.0 = named_below (record { decls = g.decls; lines = c.0 }) l c.2.fits m
+    let c = cut_at g.format g.decls [] g.lines f.lines i l at in
+    let b : m < length c.0 = named_below (record { format = g.format; decls = g.decls; lines = c.0 }) l c.2.fits m
     (Contains-append_right (named_lines l.verb) (on_lines l.on) m (subst (λ o. Contains (on_lines o) m) (sym on) (contains_here m []))) in
     let size : length c.0 ≡ 0 + i = c.3 in omega arith

@@ -10,7 +10,7 @@ use Rattle.race_check.specs.Paths.{PathsValue, path_in, word_bit, words_for}
 
 -- two lists have accesses that clash
 abbrev pub ListsClash : GraphValue → Bool → List Access → List Access → Type 0
-ListsClash g sums xs ys = (a : Access) × Contains xs a × ((b : Access) × Contains ys b × Clash g sums a b)
+ListsClash g commuting xs ys = (a : Access) × Contains xs a × ((b : Access) × Contains ys b × Clash g commuting a b)
 
 -- accesses over spaces of the graph
 abbrev pub AreSpacesKnown : GraphValue → List Access → Type 0

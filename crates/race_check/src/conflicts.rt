@@ -42,14 +42,14 @@ fn accesses_of(alloc: Global, graph: &Graph, line: u32) -> Result<Vec<Access>, N
 }
 
 /// Whether some of these accesses and some of the others are of one column at a shared point and
-/// are not both reads, and, unless sums count too, not both sums.
-pub(crate) fn some_clash(graph: &Graph, ones: &[Access], others: &[Access], sums: bool) -> bool
+/// are not both reads, and, unless uses that commute count too, do not commute.
+pub(crate) fn some_clash(graph: &Graph, ones: &[Access], others: &[Access], commuting: bool) -> bool
     requires ones { AreSpacesKnown graph.now ones.now }
     requires others { AreSpacesKnown graph.now others.now }
-    ensures { IsTrue result ↔ ListsClash graph.now sums ones.now others.now }
+    ensures { IsTrue result ↔ ListsClash graph.now commuting ones.now others.now }
 {
     for one in ones {
-        if clashes_with(graph, *one, others, sums) {
+        if clashes_with(graph, *one, others, commuting) {
             return true;
         }
     }
@@ -57,13 +57,13 @@ pub(crate) fn some_clash(graph: &Graph, ones: &[Access], others: &[Access], sums
 }
 
 /// Whether some of these accesses clashes with this one.
-fn clashes_with(graph: &Graph, one: Access, others: &[Access], sums: bool) -> bool
+fn clashes_with(graph: &Graph, one: Access, others: &[Access], commuting: bool) -> bool
     requires one { one.space < length (named_spaces graph.now) }
     requires others { AreSpacesKnown graph.now others.now }
-    ensures { IsTrue result ↔ ((b : Access) × Contains others.now b × Clash graph.now sums one b) }
+    ensures { IsTrue result ↔ ((b : Access) × Contains others.now b × Clash graph.now commuting one b) }
 {
     for other in others {
-        if clash(graph, one, *other, sums) {
+        if clash(graph, one, *other, commuting) {
             return true;
         }
     }

@@ -20,7 +20,9 @@ mod rows;
 mod sections;
 mod summaries;
 
-ghost use Rattle.std.specs.Prelude.{◌≡◌, IfOk, IfErr};
+ghost use Rattle.std.specs.Prelude.{◌≡◌, ℕ, List, IfOk, IfErr};
+ghost use Rattle.graph_model.specs.graph.Graph.{upgraded};
+ghost use Rattle.graph_model.specs.meaning.Evaluation.{outcome};
 ghost use Rattle.graph_model.specs.meaning.Need.{IsNeed};
 ghost use Rattle.graph_model.specs.meaning.Rules.{Accepted};
 ghost use Rattle.race_check.specs.Refusal.{IsRefusal, NamesLines};
@@ -28,6 +30,7 @@ ghost use Rattle.race_check.specs.Refusal.{IsRefusal, NamesLines};
 use crate::checked::{CheckRefusal, Checked, Unfit};
 use crate::judge::judge;
 use graph_model::graph::Graph;
+use graph_model::laws::upgrade_keeps_meaning;
 use std::alloc::Global;
 
 /// Accepts a graph, or gives it back unchanged with the first rule that fails and the least lines
@@ -43,4 +46,18 @@ pub fn check(alloc: Global, graph: Graph) -> Result<Checked, Unfit>
         Ok(need) => Ok(Checked::new(graph, need)),
         Err(why) => Err(Unfit { graph, why }),
     }
+}
+
+/// The accepted graph in format 2, which is accepted too, with the same need and the same outcome.
+/// It takes no memory.
+pub fn upgrade_checked(checked: Checked) -> Checked
+    ensures graph { result.graph ≡ upgraded checked.graph }
+    ensures accepted { Accepted result.graph }
+    ensures need { (result.need ≡ checked.need) × IsNeed result.graph result.need }
+    ensures outcome { (trace : List ℕ) → outcome result.graph trace ≡ outcome checked.graph trace }
+{
+    upgrade_keeps_meaning();
+    let need = checked.need();
+    let _ = checked.graph();
+    Checked::new(checked.into_graph().upgrade(), need)
 }

@@ -168,18 +168,18 @@ impl Rivals {
         are_apart(graph, self.summaries.as_slice(), one, other)
     }
 
-    /// Whether two lines clash, by sums too where these count.
-    fn clash(&self, graph: &Graph, one: u32, other: u32, sums: bool) -> bool
+    /// Whether two lines clash, by uses that commute too where these count.
+    fn clash(&self, graph: &Graph, one: u32, other: u32, commuting: bool) -> bool
         requires one { one < length graph.now.lines }
         requires other { other < length graph.now.lines }
         requires rivals { AreRivals graph.now self.now }
-        ensures { IsTrue result ↔ LinesClash graph.now sums one other }
+        ensures { IsTrue result ↔ LinesClash graph.now commuting one other }
     {
         accesses_fit();
         let _ = graph.lines();
         let ones = self.accesses[one as usize].as_slice();
         let others = self.accesses[other as usize].as_slice();
-        some_clash(graph, ones, others, sums)
+        some_clash(graph, ones, others, commuting)
     }
 }
 

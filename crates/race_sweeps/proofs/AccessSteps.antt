@@ -1,16 +1,16 @@
 -- The accesses of a line, one after the other.
 use Rattle.std.proofs.Common.{◌≡◌, ℕ, ◌+◌, ◌<◌, ◌≤◌, true, false, inl, inr, List, [], length, refl, sym, ◌∙◌, ap, subst, arith, zero, suc, ◌∷◌}
-use Rattle.std.specs.Prelude.{Option, Some, None, Contains, ◌↔◌, IsTrue, slice_get}
+use Rattle.std.specs.Prelude.{Some, None, Contains, ◌↔◌, IsTrue, option_map, slice_get}
 use Rattle.std.specs.Option.{option_map_or}
 use Rattle.std.specs.List.{slice_index_or}
 use Rattle.std.proofs.lemmas.Bool.{true≢false, cases_lt}
 use Rattle.std.proofs.lemmas.Option.{none-some, same_Some, slice_get_within, get_or_from_slice_get, slice_get-get_or}
 use Rattle.graph_model.specs.declared.graph.verb.Access.{Access}
 use Rattle.graph_model.specs.declared.graph.verb.Mode.TheVariants.{Read}
-use Rattle.graph_model.specs.declared.graph.verb.Verb.{Verb}
-use Rattle.graph_model.specs.declared.graph.verb.Verb.TheVariants.{User, Trigger, Cancel, Merge, MergeIgnore, Phase, Arrive, Acquire, Release, Fill, Copy, Reduce, Task}
+use Rattle.graph_model.specs.declared.graph.verb.Line.{Line}
 use Rattle.graph_model.specs.graph.Graph.{GraphValue, verb_at}
-use Rattle.graph_model.specs.graph.Access.{accesses}
+use Rattle.graph_model.specs.graph.Access.{accesses, verb_accesses, in_format}
+use Rattle.basics.proofs.ListFacts.{contains_none, map_contains}
 use Rattle.graph_model.proofs.KindLaws.{accesses_are_few}
 
 -- a line has at most three accesses
@@ -20,6 +20,15 @@ few_accesses g i = accesses_are_few g i
 -- an access that was read is one of the line
 pub access_read : (xs : List Access) (k : ℕ) (a : Access) → slice_get xs k ≡ Some a → Contains xs a
 access_read xs k a e = (k, slice_get_within xs k a e, get_or_from_slice_get xs k a a e)
+
+access_line : (ls : List Line) (i : ℕ) (a : Access) → Contains (option_map_or verb_accesses (option_map (λ (l : Line). l.verb) (slice_get ls i)) []) a → i < length ls
+access_line [] i a c = absurd (contains_none a c)
+access_line (l ∷ ls) zero a c = omega arith
+access_line (l ∷ ls) (suc i) a c = let b : i < length ls = access_line ls i a c in omega arith
+
+-- a line that has an access is there
+pub access_there : (g : GraphValue) (i : ℕ) (a : Access) → Contains (accesses g i) a → i < length g.lines
+access_there g i a c = let m = map_contains (in_format g.format) (option_map_or verb_accesses (verb_at g i) []) a c in access_line g.lines i m.0 m.1
 
 -- none of the first k accesses is such
 abbrev pub NoneAmong : (Access → Type 0) → List Access → ℕ → Type 0

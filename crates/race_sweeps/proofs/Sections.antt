@@ -68,10 +68,10 @@ free_all g f h is i k all none l q s =
     let b : l < length (locks g) = acquired_lock_known g f q l s.acquires in
     let e : length h.acquires.items ≡ length (locks g) = is.count in none l q (omega arith) s
 
--- what does not clash is settled, and what clashes by sums alone, where the lines lie apart
+-- what does not clash is settled, and what clashes by uses that commute alone, where the lines lie apart
 pub exempt_by : (g : GraphValue) (i j : ℕ) → (LinesClash g false i j → ⊥) → LieApart g i j → IsSettled g i j
 exempt_by g i j soft a c = inr (inr (record {
-  sums = λ x y hx hy conflict. elim (cases_Bool (modes_commute x.mode y.mode)) [
+  commute = λ x y hx hy conflict. elim (cases_Bool (modes_commute x.mode y.mode)) [
     | inl both ↦ both
     | inr no' ↦ absurd (soft (x, hx, (y, hy, record { conflict = conflict; counts = ap not no' })))
   ];

@@ -1,49 +1,51 @@
 -- Conflicts that are answered for are settled: a hard access between two lines has a path from the one and to the other.
-use Rattle.std.proofs.Common.{◌≡◌, ℕ, zero, suc, ◌+◌, ◌<◌, ◌≤◌, ◌⊎◌, true, false, not, inl, inr, List, [], ◌∷◌, length, refl, sym, ◌∙◌, ap, subst, arith}
-use Rattle.std.specs.Prelude.{◌≢◌, Contains, IsTrue, option_map, slice_get, slice_index}
-use Rattle.std.specs.Option.{option_map_or}
+use Rattle.std.proofs.Common.{◌≡◌, ℕ, zero, suc, ◌+◌, ◌<◌, ◌≤◌, ◌⊎◌, true, false, not, inl, inr, List, length, refl, sym, ◌∙◌, ap, subst, arith}
+use Rattle.std.specs.Prelude.{◌≢◌, Contains, IsTrue, slice_index}
 use Rattle.std.proofs.lemmas.Bool.{true≢false, cases_order}
 use Rattle.index_spaces.specs.Space.{has_point}
 use Rattle.graph_model.specs.declared.graph.verb.Access.{Access}
-use Rattle.graph_model.specs.declared.graph.verb.Line.{Line}
 use Rattle.graph_model.specs.declared.graph.verb.Mode.{Mode}
-use Rattle.graph_model.specs.declared.graph.verb.Mode.TheVariants.{Read, Write, Sum}
+use Rattle.graph_model.specs.declared.graph.verb.Mode.TheVariants.{Read, Write, Sum, Least, Most}
 use Rattle.graph_model.specs.graph.Graph.{GraphValue, space_at}
 use Rattle.graph_model.specs.graph.Edges.{edges}
-use Rattle.graph_model.specs.graph.Access.{accesses, verb_accesses, AccessesConflict, Conflict, modes_clash}
+use Rattle.graph_model.specs.graph.Access.{accesses, is_reduction, AccessesConflict, Conflict, modes_clash}
 use Rattle.graph_model.specs.graph.Fits.{IsGraph}
 use Rattle.graph_model.specs.meaning.Laws.{EdgesBetweenLines}
 use Rattle.graph_model.specs.meaning.Path.{Path, HasPath, last, first}
 use Rattle.graph_model.specs.meaning.Rules.{Exempt, RaceAt, EverywhereTwice, modes_commute}
 use Rattle.graph_model.proofs.PathLaws.{path_append}
-use Rattle.basics.proofs.ListFacts.{contains_none}
 use Rattle.race_sweeps.specs.Placed.{IsPlaced}
 use Rattle.race_sweeps.specs.Scan.{IsHard, HasHard, AreAnsweredAt}
 use Rattle.race_sweeps.specs.Settled.{IsSettled}
 use Rattle.race_sweeps.specs.Held.{LieApart}
 use Rattle.race_sweeps.proofs.Conflicts.{lines_back, exempt_back, conflict_back, commute_back, apart_back, lines_decided}
+use Rattle.race_sweeps.proofs.AccessSteps.{access_there}
 use Rattle.race_sweeps.proofs.Sections.{exempt_by}
-
--- a line that has an access is there
-access_there : (ls : List Line) (i : ℕ) (a : Access) → Contains (option_map_or verb_accesses (option_map (λ (l : Line). l.verb) (slice_get ls i)) []) a → i < length ls
-access_there [] i a c = absurd (contains_none a c)
-access_there (l ∷ ls) zero a c = omega arith
-access_there (l ∷ ls) (suc i) a c = let b : i < length ls = access_there ls i a c in omega arith
 
 clash_write : (m : Mode) → modes_clash m Write ≡ true
 clash_write Read = refl
 clash_write Write = refl
 clash_write Sum = refl
+clash_write Least = refl
+clash_write Most = refl
 
-clash_sum : (m : Mode) → modes_clash m Sum ≡ true
-clash_sum Read = refl
-clash_sum Write = refl
-clash_sum Sum = refl
+clash_reduction : (m n : Mode) → is_reduction n ≡ true → modes_clash m n ≡ true
+clash_reduction Read Read h = absurd (true≢false (sym h))
+clash_reduction Read Write h = refl
+clash_reduction Read Sum h = refl
+clash_reduction Read Least h = refl
+clash_reduction Read Most h = refl
+clash_reduction Write n h = refl
+clash_reduction Sum n h = refl
+clash_reduction Least n h = refl
+clash_reduction Most n h = refl
 
 never_commutes : (m : Mode) → modes_commute m Write ≡ false
 never_commutes Read = refl
 never_commutes Write = refl
 never_commutes Sum = refl
+never_commutes Least = refl
+never_commutes Most = refl
 
 -- two accesses that conflict have a path one way or the other, or commute and lie in sections that are apart
 abbrev IsFine : GraphValue → ℕ → ℕ → Access → Access → Type 0
@@ -52,7 +54,7 @@ IsFine g i j a b = HasPath g i j ⊎ (HasPath g j i ⊎ (IsTrue (modes_commute a
 module _ (g : GraphValue) where
   hard_clash : (i : ℕ) (m n : Mode) → IsHard g i n → modes_clash m n ≡ true
   hard_clash i m n (inl w) = ap (modes_clash m) w ∙ clash_write m
-  hard_clash i m n (inr s) = ap (modes_clash m) s.0 ∙ clash_sum m
+  hard_clash i m n (inr s) = clash_reduction m n s.0
 
   -- a hard access of the column and the space of one of two accesses that conflict conflicts with both
   first_conflict : (i : ℕ) (a b h : Access) → AccessesConflict g a b → h.column ≡ a.column → h.space ≡ b.space → IsHard g i h.mode → AccessesConflict g a h
@@ -72,14 +74,14 @@ module _ (g : GraphValue) where
   -- no sections set it apart from another one
   not_apart : (i w : ℕ) (a h : Access) → IsHard g w h.mode → IsTrue (modes_commute a.mode h.mode) → LieApart g i w → ⊥
   not_apart i w a h (inl write) commute apart = true≢false (sym commute ∙ (ap (modes_commute a.mode) write ∙ never_commutes a.mode))
-  not_apart i w a h (inr sum) commute apart = sum.1 apart.0 apart.2 apart.5
+  not_apart i w a h (inr free) commute apart = free.1 apart.0 apart.2 apart.5
 
   -- what lines that are settled tell of two of their accesses
   fine_by : (i j : ℕ) (a b : Access) → i ≢ j → Contains (accesses g i) a → Contains (accesses g j) b → AccessesConflict g a b → IsSettled g i j → IsFine g i j a b
   fine_by i j a b apart ha hb c settled = elim (settled (record { different = apart; one = a; other = b; one_in = ha; other_in = hb; conflict = c })) [
     | inl path ↦ inl path
     | inr (inl back) ↦ inr (inl back)
-    | inr (inr x) ↦ inr (inr (x.sums a b ha hb c, (x.lock, x.one, x.other, x.different, x.one_section, x.other_section)))
+    | inr (inr x) ↦ inr (inr (x.commute a b ha hb c, (x.lock, x.one, x.other, x.different, x.one_section, x.other_section)))
   ]
 
   -- lines are settled where all their accesses that conflict are
@@ -153,8 +155,8 @@ module _ (g : GraphValue) (fits : IsGraph g) (between : EdgesBetweenLines) (line
 
     pub all_settled : EverywhereTwice (RaceAt g)
     all_settled i j low c =
-        let p = placed.each i (access_there g.lines i c.one c.one_in) in
-        let q = placed.each j (access_there g.lines j c.other c.other_in) in
+        let p = placed.each i (access_there g i c.one c.one_in) in
+        let q = placed.each j (access_there g j c.other c.other_in) in
         elim (cases_order p.0 q.0) [
           | inl same ↦ (let e : i ≡ j = sym p.2 ∙ (ap (slice_index lines) same ∙ q.2) in absurd (omega arith))
           | inr (inl before) ↦ subst (λ z. HasPath g i z ⊎ (HasPath g z i ⊎ Exempt g i z)) q.2 (subst (λ y. HasPath g y (slice_index lines q.0) ⊎ (HasPath g (slice_index lines q.0) y ⊎ Exempt g y (slice_index lines q.0))) p.2

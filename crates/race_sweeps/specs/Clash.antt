@@ -5,11 +5,11 @@ use Rattle.graph_model.specs.graph.Graph.{GraphValue}
 use Rattle.graph_model.specs.graph.Access.{accesses, AccessesConflict}
 use Rattle.graph_model.specs.meaning.Rules.{modes_commute}
 
--- two accesses conflict, other than by two sums unless sums count too
-pub record Clash (g : GraphValue) (sums : Bool) (a b : Access) : Type 0 where
+-- two accesses conflict, other than by uses that commute unless these count too
+pub record Clash (g : GraphValue) (commuting : Bool) (a b : Access) : Type 0 where
   pub conflict : AccessesConflict g a b
-  pub counts : (sums || not (modes_commute a.mode b.mode)) ≡ true
+  pub counts : (commuting || not (modes_commute a.mode b.mode)) ≡ true
 
 -- two lines have accesses that clash so
 abbrev pub LinesClash : GraphValue → Bool → ℕ → ℕ → Type 0
-LinesClash g sums i j = (a : Access) × Contains (accesses g i) a × ((b : Access) × Contains (accesses g j) b × Clash g sums a b)
+LinesClash g commuting i j = (a : Access) × Contains (accesses g i) a × ((b : Access) × Contains (accesses g j) b × Clash g commuting a b)

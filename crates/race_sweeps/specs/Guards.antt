@@ -1,4 +1,4 @@
--- Classes of sums whose members all lie in sections of one reservation, which guards them.
+-- Classes of reductions whose members all lie in sections of one reservation, which guards them.
 use Rattle.std.specs.Prelude.{◌≡◌, ℕ, ◌+◌, ◌*◌, ◌/◌, ◌<◌, ◌≤◌, List, length, Option, Some, IsTrue, slice_get, slice_index}
 use Rattle.graph_model.specs.declared.graph.verb.Access.{Access}
 use Rattle.graph_model.specs.graph.Graph.{GraphValue}

@@ -2,9 +2,9 @@
 use Rattle.std.specs.Prelude.{◌≡◌, ◌≢◌, ℕ, ◌+◌, ◌*◌, ◌<◌, ◌≤◌, ◌⊎◌, true, List, length, Some, IsTrue, Contains, slice_get, slice_index}
 use Rattle.graph_model.specs.declared.graph.verb.Access.{Access}
 use Rattle.graph_model.specs.declared.graph.verb.Mode.{Mode}
-use Rattle.graph_model.specs.declared.graph.verb.Mode.TheVariants.{Read, Write, Sum}
+use Rattle.graph_model.specs.declared.graph.verb.Mode.TheVariants.{Read, Write}
 use Rattle.graph_model.specs.graph.Graph.{GraphValue}
-use Rattle.graph_model.specs.graph.Access.{accesses, AccessesConflict}
+use Rattle.graph_model.specs.graph.Access.{accesses, is_reduction, AccessesConflict}
 use Rattle.graph_model.specs.meaning.Rules.{Section, modes_commute}
 use Rattle.race_sweeps.specs.declared.marks.Mark.{Mark}
 use Rattle.race_sweeps.specs.declared.table.Table.{Table}
@@ -14,9 +14,9 @@ use Rattle.race_sweeps.specs.Held.{LieApart}
 use Rattle.race_sweeps.specs.Marks.{bit_in, IsMarked}
 use Rattle.race_sweeps.specs.Settled.{IsSettled}
 
--- an access of line i that no exemption covers: a write, or a sum outside of all sections
+-- an access of line i that no exemption covers: a write, or a reduction outside of all sections
 abbrev pub IsHard : GraphValue → ℕ → Mode → Type 0
-IsHard g i mode = (mode ≡ Write) ⊎ ((mode ≡ Sum) × ((l q : ℕ) → Section g l q i → ⊥))
+IsHard g i mode = (mode ≡ Write) ⊎ ((is_reduction mode ≡ true) × ((l q : ℕ) → Section g l q i → ⊥))
 
 -- line i has such an access of a column and a space
 pub record HasHard (g : GraphValue) (i column space : ℕ) : Type 0 where

@@ -3,7 +3,7 @@
 ghost use Rattle.std.specs.Prelude.{◌≡◌, ℕ, ◌<◌, ◌||◌, ◌↔◌, not, length, Contains, IsTrue};
 ghost use Rattle.graph_model.specs.declared.graph.verb.Access.{Access};
 ghost use Rattle.graph_model.specs.graph.Graph.{named_spaces};
-ghost use Rattle.graph_model.specs.graph.Access.{accesses, modes_clash};
+ghost use Rattle.graph_model.specs.graph.Access.{accesses, modes_clash, is_reduction};
 ghost use Rattle.graph_model.specs.meaning.Rules.{modes_commute};
 ghost use Rattle.race_sweeps.specs.Clash.{Clash, LinesClash};
 ghost use Rattle.race_sweeps.specs.Held.{IsHeld};
@@ -17,8 +17,8 @@ use graph_model::verb::{Access, Mode};
 /// A line has at most three accesses.
 pub const MOST_ACCESSES: u32 = 3;
 
-/// Whether two lines do not conflict, or by sums alone and in sections of two different acquires
-/// of one reservation.
+/// Whether two lines do not conflict, or by uses that commute alone and in sections of two
+/// different acquires of one reservation.
 pub(crate) fn is_exempt(graph: &Graph, held: &Held, one: u32, other: u32) -> bool
     requires one { one < length graph.now.lines }
     requires other { other < length graph.now.lines }
@@ -34,11 +34,11 @@ pub(crate) fn is_exempt(graph: &Graph, held: &Held, one: u32, other: u32) -> boo
     held.are_apart(graph, one, other)
 }
 
-/// Whether two lines have accesses that clash, by sums too where these count.
-fn lines_clash(graph: &Graph, one: u32, other: u32, sums: bool) -> bool
+/// Whether two lines have accesses that clash, by uses that commute too where these count.
+fn lines_clash(graph: &Graph, one: u32, other: u32, commuting: bool) -> bool
     requires one { one < length graph.now.lines }
     requires other { other < length graph.now.lines }
-    ensures { IsTrue result ↔ LinesClash graph.now sums one other }
+    ensures { IsTrue result ↔ LinesClash graph.now commuting one other }
 {
     accesses_fit();
     let _ = graph.lines();
@@ -46,7 +46,7 @@ fn lines_clash(graph: &Graph, one: u32, other: u32, sums: bool) -> bool
         let Some(access) = graph.access(one, k) else {
             return false;
         };
-        if clashes_with(graph, access, other, sums) {
+        if clashes_with(graph, access, other, commuting) {
             return true;
         }
     }
@@ -54,10 +54,10 @@ fn lines_clash(graph: &Graph, one: u32, other: u32, sums: bool) -> bool
 }
 
 /// Whether some access of a line clashes with this one.
-fn clashes_with(graph: &Graph, one: Access, line: u32, sums: bool) -> bool
+fn clashes_with(graph: &Graph, one: Access, line: u32, commuting: bool) -> bool
     requires one { one.space < length (named_spaces graph.now) }
     requires line { line < length graph.now.lines }
-    ensures { IsTrue result ↔ ((b : Access) × Contains (accesses graph.now line) b × Clash graph.now sums one b) }
+    ensures { IsTrue result ↔ ((b : Access) × Contains (accesses graph.now line) b × Clash graph.now commuting one b) }
 {
     accesses_fit();
     let _ = graph.lines();
@@ -65,23 +65,23 @@ fn clashes_with(graph: &Graph, one: Access, line: u32, sums: bool) -> bool
         let Some(other) = graph.access(line, k) else {
             return false;
         };
-        if clash(graph, one, other, sums) {
+        if clash(graph, one, other, commuting) {
             return true;
         }
     }
     false
 }
 
-/// Whether two accesses are of one column at a shared point and not both reads, and, unless sums
-/// count too, not both sums.
-pub fn clash(graph: &Graph, one: Access, other: Access, sums: bool) -> bool
+/// Whether two accesses are of one column at a shared point and not both reads, and, unless uses
+/// that commute count too, do not commute.
+pub fn clash(graph: &Graph, one: Access, other: Access, commuting: bool) -> bool
     requires one { one.space < length (named_spaces graph.now) }
     requires other { other.space < length (named_spaces graph.now) }
-    ensures { IsTrue result ↔ Clash graph.now sums one other }
+    ensures { IsTrue result ↔ Clash graph.now commuting one other }
 {
     one.column == other.column
         && modes_clash(one.mode, other.mode)
-        && (sums || !modes_commute(one.mode, other.mode))
+        && (commuting || !modes_commute(one.mode, other.mode))
         && graph.space(one.space).meets(graph.space(other.space))
 }
 
@@ -91,8 +91,18 @@ fn modes_clash(one: Mode, other: Mode) -> bool
     !matches!((one, other), (Mode::Read, Mode::Read))
 }
 
+/// Whether two uses may come in either order: both are reductions, and of one kind.
 pub(crate) fn modes_commute(one: Mode, other: Mode) -> bool
     ensures { result ≡ modes_commute one other }
 {
-    matches!((one, other), (Mode::Sum, Mode::Sum))
+    matches!(
+        (one, other),
+        (Mode::Sum, Mode::Sum) | (Mode::Least, Mode::Least) | (Mode::Most, Mode::Most)
+    )
+}
+
+pub(crate) fn is_reduction(mode: Mode) -> bool
+    ensures { result ≡ is_reduction mode }
+{
+    matches!(mode, Mode::Sum | Mode::Least | Mode::Most)
 }

@@ -149,7 +149,9 @@ fn head_of(access: Access) -> usize
         Mode::Read => 0,
         Mode::Write => 1,
         Mode::Sum => 2,
+        Mode::Least => 3,
+        Mode::Most => 4,
     };
-    let mixed = access.column as u64 * 4_099 + access.space as u64 * 3 + mode;
+    let mixed = access.column as u64 * 4_099 + access.space as u64 * 5 + mode;
     (mixed % HEADS as u64) as usize
 }

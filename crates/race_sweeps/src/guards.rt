@@ -1,4 +1,4 @@
-//! The reservations that guard classes of sums.
+//! The reservations that guard classes of reductions.
 
 ghost use Rattle.std.specs.Prelude.{◌≡◌, ℕ, ◌+◌, ◌*◌, ◌<◌, ◌≤◌, List, Option, Some, length, IfOk};
 ghost use Rattle.race_sweeps.specs.Classes.{AreClasses, class_at};
@@ -6,10 +6,10 @@ ghost use Rattle.race_sweeps.specs.Guards.{AreGuards, AreOpened, IsBeforeStart};
 ghost use Rattle.race_sweeps.specs.Held.{IsHeld};
 ghost use Rattle.race_sweeps.specs.Placed.{IsPlaced};
 
+use crate::clash::is_reduction;
 use crate::classes::Classes;
 use crate::held::Held;
 use graph_model::graph::Graph;
-use graph_model::verb::Mode;
 use index_spaces::NoMemory;
 use index_spaces::room::{filled, push, with_room};
 use std::alloc::Global;
@@ -61,7 +61,7 @@ impl Guarding {
         })
     }
 
-    /// Proposes for each class of sums a reservation in a section of which a member lies.
+    /// Proposes for each class of reductions a reservation in a section of which a member lies.
     fn propose_all(&mut self, graph: &Graph, order: &[u32], classes: &Classes, held: &Held)
         requires placed { IsPlaced graph.now order.now }
         requires classes { AreClasses graph.now order.now classes.now.keys.items classes.now.of.items }
@@ -88,7 +88,7 @@ impl Guarding {
         let Some(class) = classes.of[number as usize] else {
             return;
         };
-        if is_sum(classes.keys[class as usize].mode) && self.locks[class as usize].is_none() {
+        if is_reduction(classes.keys[class as usize].mode) && self.locks[class as usize].is_none() {
             let lock = held.first_lock(graph, order[number as usize / 3]);
             self.locks[class as usize] = lock;
         }
@@ -198,8 +198,4 @@ impl Guarding {
         };
         self.openings[acquire as usize]
     }
-}
-
-fn is_sum(mode: Mode) -> bool {
-    matches!(mode, Mode::Sum)
 }

@@ -76,7 +76,7 @@ fn is_hard(graph: &Graph, held: &Held, mode: Mode, line: u32) -> bool
     match mode {
         Mode::Read => false,
         Mode::Write => true,
-        Mode::Sum => held.is_free(graph, line),
+        Mode::Sum | Mode::Least | Mode::Most => held.is_free(graph, line),
     }
 }
 

@@ -10,6 +10,7 @@ use Rattle.std.proofs.lemmas.List.{map-append}
 use Rattle.std.proofs.lemmas.List.Folds.{list_any-append}
 use Rattle.std.proofs.lemmas.List.Quantifiers.{position-Some}
 use Rattle.std.proofs.lemmas.Slice.Eq.{bytes_eq-Decides}
+use Rattle.graph_model.specs.declared.graph.format.Format.{Format}
 use Rattle.graph_model.specs.declared.graph.decl.Decl.{Decl}
 use Rattle.graph_model.specs.declared.graph.found.Found.{Found}
 use Rattle.graph_model.specs.declared.graph.found.Found.TheVariants as found
@@ -34,14 +35,14 @@ line_at (l ∷ ls) (suc i) h = line_at ls i (omega arith)
 pub name_is : (g : GraphValue) (i : ℕ) (l : Line) → slice_get g.lines i ≡ Some l → line_name g i ≡ l.name
 name_is g i l e = ap (λ o. option_map_or (λ (x : Line). x.name) o []) e
 
-named_at : (decls : List Decl) (before ls : List Line) → LinesFit decls before ls → (i : ℕ) (l : Line) → slice_get ls i ≡ Some l → is_name l.name ≡ true
-named_at decls before [] f i l e = absurd (none-some l e)
-named_at decls before (m ∷ ls) f zero l e = subst (λ (x : Line). is_name x.name ≡ true) (same_Some m l e) f.0.named
-named_at decls before (m ∷ ls) f (suc i) l e = named_at decls (before ++ m ∷ []) ls f.2 i l e
+named_at : (fm : Format) (decls : List Decl) (before ls : List Line) → LinesFit fm decls before ls → (i : ℕ) (l : Line) → slice_get ls i ≡ Some l → is_name l.name ≡ true
+named_at fm decls before [] f i l e = absurd (none-some l e)
+named_at fm decls before (m ∷ ls) f zero l e = subst (λ (x : Line). is_name x.name ≡ true) (same_Some m l e) f.0.named
+named_at fm decls before (m ∷ ls) f (suc i) l e = named_at fm decls (before ++ m ∷ []) ls f.2 i l e
 
 -- the name of a line is spelled as a name
 pub is_spelled : (g : GraphValue) → IsGraph g → (i : ℕ) → i < length g.lines → is_name (line_name g i) ≡ true
-is_spelled g f i h = let l = line_at g.lines i h in ap is_name (name_is g i l.0 l.1) ∙ named_at g.decls [] g.lines f.lines i l.0 l.1
+is_spelled g f i h = let l = line_at g.lines i h in ap is_name (name_is g i l.0 l.1) ∙ named_at g.format g.decls [] g.lines f.lines i l.0 l.1
 
 -- so no newline is in it
 one_byte : (b : ℕ) → is_name_byte b ≡ true → (b == 10) ≡ false
@@ -77,10 +78,10 @@ unused g i l e n = listed l.name g.lines
     (or_parts _ _ (sym (list_any-append (bytes_eq l.name) (map decl_name g.decls) (map (λ (x : Line). x.name) g.lines)) ∙ n)).1 i l e refl
 
 -- where a line fits, no declaration has its name
-undeclared : (g : GraphValue) → IsGraph g → (i : ℕ) (l : Line) → slice_get g.lines i ≡ Some l → (x : Found) → ((before : List Line) → StandsFor (record { decls = g.decls; lines = before }) l.name x) → ⊥
+undeclared : (g : GraphValue) → IsGraph g → (i : ℕ) (l : Line) → slice_get g.lines i ≡ Some l → (x : Found) → ((before : List Line) → StandsFor (record { format = g.format; decls = g.decls; lines = before }) l.name x) → ⊥
 undeclared g f i l e x s =
-    let fit = fit_at g.decls [] g.lines f.lines i l e in
-    let before : GraphValue = record { decls = g.decls; lines = fit.0 } in
+    let fit = fit_at g.format g.decls [] g.lines f.lines i l e in
+    let before : GraphValue = record { format = g.format; decls = g.decls; lines = fit.0 } in
     stands_not_unused before l.name x (s fit.0) (unused_line_name before l fit.1)
 
 -- so what is found under the name of a line is a line
@@ -117,24 +118,24 @@ last_listed before l =
     ∙ or_right (list_any (bytes_eq l.name) (map (λ (x : Line). x.name) before)) _ (or_left (bytes_eq l.name l.name) false (same_bytes l.name l.name refl)))
 
 -- two lines have two names: what stands before a line that fits has another
-later : (decls : List Decl) (before ls : List Line) → LinesFit decls before ls → (q : List ℕ) → list_any (bytes_eq q) (map (λ (x : Line). x.name) before) ≡ true → (k : ℕ) (m : Line) → slice_get ls k ≡ Some m → m.name ≡ q → ⊥
-later decls before [] f q h k m e s = none-some m e
-later decls before (l ∷ ls) f q h zero m e s =
+later : (fm : Format) (decls : List Decl) (before ls : List Line) → LinesFit fm decls before ls → (q : List ℕ) → list_any (bytes_eq q) (map (λ (x : Line). x.name) before) ≡ true → (k : ℕ) (m : Line) → slice_get ls k ≡ Some m → m.name ≡ q → ⊥
+later fm decls before [] f q h k m e s = none-some m e
+later fm decls before (l ∷ ls) f q h zero m e s =
     let same : l.name ≡ q = ap (λ (x : Line). x.name) (same_Some l m e) ∙ s in
     let names = list_any-append (bytes_eq l.name) (map decl_name decls) (map (λ (x : Line). x.name) before) in
-    let none = (or_parts _ _ (sym names ∙ unused_line_name (record { decls = decls; lines = before }) l f.1)).1 in
+    let none = (or_parts _ _ (sym names ∙ unused_line_name (record { format = fm; decls = decls; lines = before }) l f.1)).1 in
     true≢false (sym h ∙ (ap (λ n. list_any (bytes_eq n) (map (λ (x : Line). x.name) before)) (sym same) ∙ none))
-later decls before (l ∷ ls) f q h (suc k) m e s = later decls (before ++ l ∷ []) ls f.2 q (still_listed q before l h) k m e s
+later fm decls before (l ∷ ls) f q h (suc k) m e s = later fm decls (before ++ l ∷ []) ls f.2 q (still_listed q before l h) k m e s
 
-apart : (decls : List Decl) (before ls : List Line) → LinesFit decls before ls → (i j : ℕ) (l m : Line) → slice_get ls i ≡ Some l → slice_get ls j ≡ Some m → l.name ≡ m.name → i ≡ j
-apart decls before [] f i j l m d e s = absurd (none-some l d)
-apart decls before (x ∷ xs) f zero zero l m d e s = refl
-apart decls before (x ∷ xs) f zero (suc j) l m d e s = absurd (later decls (before ++ x ∷ []) xs f.2 x.name (last_listed before x) j m e (sym s ∙ ap (λ (y : Line). y.name) (sym (same_Some x l d))))
-apart decls before (x ∷ xs) f (suc i) zero l m d e s = absurd (later decls (before ++ x ∷ []) xs f.2 x.name (last_listed before x) i l d (s ∙ ap (λ (y : Line). y.name) (sym (same_Some x m e))))
-apart decls before (x ∷ xs) f (suc i) (suc j) l m d e s = ap suc (apart decls (before ++ x ∷ []) xs f.2 i j l m d e s)
+apart : (fm : Format) (decls : List Decl) (before ls : List Line) → LinesFit fm decls before ls → (i j : ℕ) (l m : Line) → slice_get ls i ≡ Some l → slice_get ls j ≡ Some m → l.name ≡ m.name → i ≡ j
+apart fm decls before [] f i j l m d e s = absurd (none-some l d)
+apart fm decls before (x ∷ xs) f zero zero l m d e s = refl
+apart fm decls before (x ∷ xs) f zero (suc j) l m d e s = absurd (later fm decls (before ++ x ∷ []) xs f.2 x.name (last_listed before x) j m e (sym s ∙ ap (λ (y : Line). y.name) (sym (same_Some x l d))))
+apart fm decls before (x ∷ xs) f (suc i) zero l m d e s = absurd (later fm decls (before ++ x ∷ []) xs f.2 x.name (last_listed before x) i l d (s ∙ ap (λ (y : Line). y.name) (sym (same_Some x m e))))
+apart fm decls before (x ∷ xs) f (suc i) (suc j) l m d e s = ap suc (apart fm decls (before ++ x ∷ []) xs f.2 i j l m d e s)
 
 pub one_line_named : (g : GraphValue) → IsGraph g → (i j : ℕ) → i < length g.lines → j < length g.lines → line_name g i ≡ line_name g j → i ≡ j
 one_line_named g f i j a b e =
     let l = line_at g.lines i a in
     let m = line_at g.lines j b in
-    apart g.decls [] g.lines f.lines i j l.0 m.0 l.1 m.1 (sym (name_is g i l.0 l.1) ∙ (e ∙ name_is g j m.0 m.1))
+    apart g.format g.decls [] g.lines f.lines i j l.0 m.0 l.1 m.1 (sym (name_is g i l.0 l.1) ∙ (e ∙ name_is g j m.0 m.1))

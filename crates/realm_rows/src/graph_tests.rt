@@ -5,8 +5,8 @@ use crate::row::{Row, run_texts};
 use realm_top::status::Status;
 use std::test::Fail;
 use test_texts::graphs::{
-    CANCELLED_BARRIER, EMPTY, FAULTY_PATHS, KERNELS, LOCKED_SUMS, NINE_WAITERS, NO_TRIGGER,
-    WAITER_ABOVE_TRIGGER,
+    CANCELLED_BARRIER, EMPTY, FAULTY_PATHS, KERNELS, LOCKED_MAXIMA, LOCKED_SUMS, MISSING_WEIGHT,
+    NINE_WAITERS, NO_TRIGGER, WAITER_ABOVE_TRIGGER, WEIGHTED_ARRIVALS,
 };
 
 /// What writes a report: each engine, and the evaluation.
@@ -86,6 +86,14 @@ const REPORTS: &[(&str, &str)] = &[
          phase p1 -\n\
          done\n",
     ),
+    (
+        MISSING_WEIGHT,
+        "realm-report 1\n\
+         op p waiting pending\n\
+         op v done triggered\n\
+         phase p -\n\
+         done\n",
+    ),
 ];
 
 /// Command lines over texts whose lines are all done, with what follows their ends in the report.
@@ -119,6 +127,14 @@ const ALL_DONE: &[(&[&str], &str, &str)] = &[
         LOCKED_SUMS_CELLS,
     ),
     (
+        RUNS,
+        LOCKED_MAXIMA,
+        "cells a.x 0..1 3 3\n\
+         cells a.y 0..1 4 4\n\
+         cells a.z 0..1 4 4\n\
+         done\n",
+    ),
+    (
         &[
             "run --slots 11 --engine words",
             "run --slots 11 --engine lock",
@@ -137,6 +153,12 @@ const ALL_DONE: &[(&[&str], &str, &str)] = &[
          w = arrive p 5\n\
          end\n",
         "phase p 5\n\
+         done\n",
+    ),
+    (
+        RUNS,
+        WEIGHTED_ARRIVALS,
+        "phase p 6\n\
          done\n",
     ),
     // two fills of the same cells, the second on the first

@@ -68,6 +68,72 @@ const BROKEN: &[(&str, &str)] = &[
          end\n",
         "refused race f g\n",
     ),
+    // reductions by the greatest value in two sections of one reservation, in format 1
+    (
+        "realm 1\n\
+         space s 0..1\n\
+         inst a s x,y,z\n\
+         lock l\n\
+         f = fill a.x s 3\n\
+         g = fill a.y s 4\n\
+         q = acquire l on f\n\
+         d = reduce max a.x a.z s on q\n\
+         m = mergei d\n\
+         r = release q on m\n\
+         k = acquire l on g\n\
+         e = reduce max a.y a.z s on k\n\
+         n = mergei e\n\
+         t = release k on n\n\
+         end\n",
+        "refused race d e\n",
+    ),
+    // a reduction by the greatest value and one by the least in two such sections
+    (
+        "realm 2\n\
+         space s 0..1\n\
+         inst a s x,y,z\n\
+         lock l\n\
+         f = fill a.x s 3\n\
+         g = fill a.y s 4\n\
+         q = acquire l on f\n\
+         d = reduce max a.x a.z s on q\n\
+         m = mergei d\n\
+         r = release q on m\n\
+         k = acquire l on g\n\
+         e = reduce min a.y a.z s on k\n\
+         n = mergei e\n\
+         t = release k on n\n\
+         end\n",
+        "refused race d e\n",
+    ),
+    (
+        "realm 2\n\
+         space s 0..1\n\
+         inst a s x,y,z\n\
+         lock l\n\
+         f = fill a.x s 3\n\
+         g = fill a.y s 4\n\
+         q = acquire l on f\n\
+         d = reduce min a.x a.z s on q\n\
+         m = mergei d\n\
+         r = release q on m\n\
+         k = acquire l on g\n\
+         e = reduce max a.y a.z s on k\n\
+         n = mergei e\n\
+         t = release k on n\n\
+         end\n",
+        "refused race d e\n",
+    ),
+    // two reductions by the greatest value outside any section
+    (
+        "realm 2\n\
+         space s 0..1\n\
+         inst a s x,y,z\n\
+         f = reduce max a.x a.z s\n\
+         g = reduce max a.y a.z s\n\
+         end\n",
+        "refused race f g\n",
+    ),
     // two writes
     (
         "realm 1\nspace s 0..3\ninst a s x\nf = fill a.x s 7\ng = fill a.x s 8\nend\n",

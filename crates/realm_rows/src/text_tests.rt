@@ -9,7 +9,7 @@ use std::test::Fail;
 /// Texts with their first refused line and its reason.
 const REFUSED: &[(&str, &str)] = &[
     ("", "refused line 1 header\n"),
-    ("realm 2\nend\n", "refused line 1 header\n"),
+    ("realm 3\nend\n", "refused line 1 header\n"),
     ("realm 1\r\nend\n", "refused line 1 header\n"),
     // two spaces
     ("realm 1\nspace  s 0..3\nend\n", "refused line 2 syntax\n"),
@@ -172,6 +172,20 @@ const REFUSED: &[(&str, &str)] = &[
          z = arrive p 1\n\
          end\n",
         "refused line 6 arrivals\n",
+    ),
+    // an arrival of weight 2 in format 1, one whose weight is spelled though it is 1, and one more arrival than the
+    // weights leave
+    (
+        "realm 1\nbarrier b 3 sum 0\np = phase b\nv = arrive p 5 times 2\nw = arrive p 1\nend\n",
+        "refused line 4 syntax\n",
+    ),
+    (
+        "realm 2\nbarrier b 3 sum 0\np = phase b\nv = arrive p 5 times 1\nw = arrive p 1\nend\n",
+        "refused line 4 number\n",
+    ),
+    (
+        "realm 2\nbarrier b 3 sum 0\np = phase b\nv = arrive p 5 times 2\nw = arrive p 1 times 2\nend\n",
+        "refused line 5 arrivals\n",
     ),
     // one point too many
     (

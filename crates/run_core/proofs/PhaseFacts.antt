@@ -12,5 +12,5 @@ use Rattle.line_effects.proofs.EffectFacts.{verb_is}
 use Rattle.graph_model.proofs.EdgeFacts.{arrival_edge}
 
 -- the phase of an arrival is a line
-pub phase_there : EdgesBetweenLines → (g : GraphValue) → IsGraph g → (i p v : ℕ) (l : Line) → slice_get g.lines i ≡ Some l → l.verb ≡ Arrive p v → p < length g.lines
-phase_there fit g is i p v l h e = (fit g (edge i p Passes) is (arrival_edge g i p v (verb_is g i l h ∙ ap (λ x. Some x) e))).1
+pub phase_there : EdgesBetweenLines → (g : GraphValue) → IsGraph g → (i p v w : ℕ) (l : Line) → slice_get g.lines i ≡ Some l → l.verb ≡ Arrive p v w → p < length g.lines
+phase_there fit g is i p v w l h e = (fit g (edge i p Passes) is (arrival_edge g i p v w (verb_is g i l h ∙ ap (λ x. Some x) e))).1

@@ -58,7 +58,7 @@ listed_for g i Waiting c ne a = accessed_listed g i c a
 
 -- what arrives is an arrival
 arrival_some : (g : GraphValue) (v : Verb) (a : Op × ℕ × ℕ) → arrival_by g v ≡ Some a → is_arrive v ≡ true
-arrival_some g (Arrive p w) a e = refl
+arrival_some g (Arrive p n w) a e = refl
 arrival_some g User a e = absurd (none-some a e)
 arrival_some g (Trigger k) a e = absurd (none-some a e)
 arrival_some g (Cancel k) a e = absurd (none-some a e)
@@ -83,7 +83,7 @@ arrives_is g i Faulted a e = (λ c. cc, arrival_verb g i (verb_at g i) a refl e)
 arrives_is g i Waiting a e = (λ c. cc, arrival_verb g i (verb_at g i) a refl e)
 
 some_arrival : (g : GraphValue) (v : Verb) → is_arrive v ≡ true → (a : Op × ℕ × ℕ) × (arrival_by g v ≡ Some a)
-some_arrival g (Arrive p w) h = (_, refl)
+some_arrival g (Arrive p n w) h = (_, refl)
 some_arrival g User h = absurd (true≢false (sym h))
 some_arrival g (Trigger k) h = absurd (true≢false (sym h))
 some_arrival g (Cancel k) h = absurd (true≢false (sym h))

@@ -43,7 +43,7 @@ pub(crate) fn arrive(graph: &Graph, line: u32, values: &mut Vec<u64>)
     ensures { values.new.items ≡ values_with values.old.items (arrival_of graph.now line) }
 {
     edges_between_lines();
-    if let Verb::Arrive { phase, value } = &graph.line(line).verb {
+    if let Verb::Arrive { phase, value, .. } = &graph.line(line).verb {
         let at = *phase as usize;
         let op = phase_op(graph, *phase);
         values[at] = combined(op, values[at], *value);

@@ -15,7 +15,7 @@ use Rattle.run_state.specs.Run.{Run, is_listed, stage_at, started}
 use Rattle.run_state.specs.Sound.{is_arrive, value_for, Once, SoundPhases, Sound}
 use Rattle.run_state.specs.Moves.{arrive}
 use Rattle.std.proofs.lemmas.List.Sums.{fold_push}
-use Rattle.graph_model.proofs.VerbFacts.{verb_below}
+use Rattle.graph_model.proofs.VerbFacts.{verb_below, arrival_is}
 use Rattle.run_state.proofs.SoundParts.{with_phases}
 use Rattle.run_state.proofs.Lists.{listed_there, listed_contains, contains_listed, out_started}
 use Rattle.std.proofs.lemmas.List.Elements.{Contains-push_cases, Contains-append_left, filter_map-append}
@@ -51,12 +51,18 @@ listed_push xs x k h = elim (Contains-push_cases xs x k (listed_contains (xs ++ 
 pub push_listed : (xs : List ℕ) (x k : ℕ) → is_listed xs k ≡ true → is_listed (xs ++ x ∷ []) k ≡ true
 push_listed xs x k h = contains_listed (xs ++ x ∷ []) k (Contains-append_left xs (x ∷ []) k (listed_contains xs k h))
 
--- what an arrival brings to its phase, and to others
-value_here : (g : GraphValue) (i p v : ℕ) → verb_at g i ≡ Some (Arrive p v) → value_for g p i ≡ Some v
-value_here g i p v e = ap (λ (o : Option Verb). option_map_or (arrival_value p) o None) e ∙ ap (λ b. cond b (Some v) None) (eq-eqb p p refl)
+-- a line that brings a value to a phase is an arrival at it
+pub value_is : (p : ℕ) (o : Option Verb) (n : ℕ) → option_map_or (arrival_value p) o None ≡ Some n → (w : ℕ) × (o ≡ Some (Arrive p n w))
+value_is p None n h = absurd (none-some n h)
+value_is p (Some v) n h = let a = arrival_is p v n h in (a.0, ap Some a.1)
 
-value_elsewhere : (g : GraphValue) (i p q v : ℕ) → verb_at g i ≡ Some (Arrive p v) → (q ≡ p → ⊥) → value_for g q i ≡ None
-value_elsewhere g i p q v e ne = ap (λ (o : Option Verb). option_map_or (arrival_value q) o None) e ∙ ap (λ b. cond b (Some v) None) (ne_eqb p q (λ s. ne (sym s)))
+-- what an arrival brings to its phase, and to others
+pub value_here : (g : GraphValue) (i p v w : ℕ) → verb_at g i ≡ Some (Arrive p v w) → value_for g p i ≡ Some v
+value_here g i p v w e = ap (λ (o : Option Verb). option_map_or (arrival_value p) o None) e ∙ ap (λ b. cond b (Some v) None) (eq-eqb p p refl)
+
+value_elsewhere : (g : GraphValue) (i p q v : ℕ) → value_for g p i ≡ Some v → (q ≡ p → ⊥) → value_for g q i ≡ None
+value_elsewhere g i p q v e ne =
+    ap (λ (o : Option Verb). option_map_or (arrival_value q) o None) (value_is p (verb_at g i) v e).1 ∙ ap (λ b. cond b (Some v) None) (ne_eqb p q (λ s. ne (sym s)))
 
 filter_one : {X Y : Type 0} (f : X → Option Y) (x : X) (y : Y) → f x ≡ Some y → filter_map f (x ∷ []) ≡ y ∷ []
 filter_one f x y e = rw e refl
@@ -75,7 +81,7 @@ arrive_phases {g} {run} s o i p v m =
             let phase : verb_at g p ≡ Some (Phase b) = ap (verb_at g) (sym same) ∙ vq in
             let there : p < length run.values = subst (λ n. p < n) (sym t.each_value) (verb_below g p (Phase b) phase) in
             let more : filter_map (value_for g p) (run.arrived ++ i ∷ []) ≡ filter_map (value_for g p) run.arrived ++ v ∷ [] =
-            filter_map-append (value_for g p) run.arrived (i ∷ []) ∙ ap (λ ys. filter_map (value_for g p) run.arrived ++ ys) (filter_one (value_for g p) i v (value_here g i p v m.arrives)) in
+            filter_map-append (value_for g p) run.arrived (i ∷ []) ∙ ap (λ ys. filter_map (value_for g p) run.arrived ++ ys) (filter_one (value_for g p) i v m.arrives) in
             let now : slice_index (slice_set run.values p (combined o (slice_index run.values p) v)) p ≡ reduced_with x.op x.first (filter_map (value_for g p) (run.arrived ++ i ∷ [])) =
             get_or-set_same run.values p (combined o (slice_index run.values p) v) 0 there
             ∙ (ap (λ y. combined o y v) (t.value p b x phase bx)
@@ -88,7 +94,7 @@ arrive_phases {g} {run} s o i p v m =
             get_or-set_other run.values p q (combined o (slice_index run.values p) v) 0 ne ∙ (t.value q b x vq bx ∙ ap (reduced_with x.op x.first) (sym more)))
       ];
       arrived_started = λ k h. elim (listed_push run.arrived i k h) [ inl old ↦ t.arrived_started k old | inr e ↦ ap (started run.stages) e ∙ out_started (stage_at run.stages i) m.is_out ];
-      arrived_arrives = λ k h. elim (listed_push run.arrived i k h) [ inl old ↦ t.arrived_arrives k old | inr e ↦ subst (λ z. line_passes is_arrive g z ≡ true) (sym e) (ap (λ (o : Option Verb). option_map_or is_arrive o false) m.arrives) ];
+      arrived_arrives = λ k h. elim (listed_push run.arrived i k h) [ inl old ↦ t.arrived_arrives k old | inr e ↦ subst (λ z. line_passes is_arrive g z ≡ true) (sym e) (ap (λ (o : Option Verb). option_map_or is_arrive o false) (value_is p (verb_at g i) v m.arrives).1) ];
       arrived_once = once_push run.arrived i t.arrived_once m.not_arrived;
       arrived_not_cancelled = λ k h. elim (listed_push run.arrived i k h) [ inl old ↦ t.arrived_not_cancelled k old | inr e ↦ subst (λ z. eval_end g z ≢ Cancelled) (sym e) m.not_cancelled ];
       over_arrived = λ k h a n. push_listed run.arrived i k (t.over_arrived k h a n);

@@ -1,6 +1,6 @@
 -- A line put back whole keeps the state sound and at rest.
 use Rattle.std.proofs.Common.{◌≡◌, ℕ, ◌<◌, true, false, ◌⊎◌, inl, inr, List, [], ◌∷◌, ◌++◌, length, refl, sym, ◌∙◌, ap, subst, length-set}
-use Rattle.std.specs.Prelude.{◌≢◌, Option, Some, None, is_some, slice_get, slice_set}
+use Rattle.std.specs.Prelude.{◌≢◌, cond, Option, Some, None, is_some, slice_get, slice_set}
 use Rattle.std.specs.Option.{option_map_or}
 use Rattle.std.proofs.lemmas.List.{get_or-set_same, get_or-set_other}
 use Rattle.std.proofs.lemmas.Bool.{true≢false, cases_eq, eq-eqb, false_from_ne_true}
@@ -14,9 +14,9 @@ use Rattle.graph_model.specs.declared.graph.verb.Verb.TheVariants.{User, Trigger
 use Rattle.graph_model.specs.declared.graph.decl.BarrierInfo.{BarrierInfo}
 use Rattle.graph_model.specs.graph.Graph.{GraphValue, barriers, verb_at, is_release_of}
 use Rattle.graph_model.specs.meaning.Rules.{Acquires, Releases}
-use Rattle.graph_model.specs.meaning.Evaluation.{eval_end}
+use Rattle.graph_model.specs.meaning.Evaluation.{eval_end, arrival_value}
 use Rattle.run_state.specs.Run.{LineStage, Unissued, Ending, Ended, Place, Home, Had, Run, is_listed, stage_at, time_at, place_at, list_at, stage_issued, stage_out, stage_started, stage_over, stage_ended, end_so_far, out, started, ended}
-use Rattle.run_state.specs.Sound.{AccessesColumn, is_arrive, Sound}
+use Rattle.run_state.specs.Sound.{AccessesColumn, is_arrive, value_for, Sound}
 use Rattle.run_state.specs.Moves.{draw, ending}
 use Rattle.run_state.specs.Work.{put_cells}
 use Rattle.run_state.specs.WholeLine.{column_list, lock_of, all_home, all_back, columns_back, arrived_with, arrive_some, holders_without, freed_with, free_some, columns_for, op_by, phase_op, arrival_by, arrival_for, freed_lock, frees_by, frees_for, put_back_whole}
@@ -98,32 +98,32 @@ for_fresh g i Faulted f = f
 for_fresh g i Waiting f = f
 
 -- an arrival by its end
-arrival_is_by : (g : GraphValue) (v : Verb) (a : Op × ℕ × ℕ) → arrival_by g v ≡ Some a → (v ≡ Arrive a.1 a.2) × (phase_op g a.1 ≡ a.0)
-arrival_is_by g (Arrive k w) a h = (let e : (phase_op g k, k, w) ≡ a = same_Some (phase_op g k, k, w) a h in (ap (λ (y : Op × ℕ × ℕ). Arrive y.1 y.2) e, ap (λ (y : Op × ℕ × ℕ). phase_op g y.1) (sym e) ∙ ap (λ (y : Op × ℕ × ℕ). y.0) e))
+arrival_is_by : (g : GraphValue) (v : Verb) (a : Op × ℕ × ℕ) → arrival_by g v ≡ Some a → (arrival_value a.1 v ≡ Some a.2) × (phase_op g a.1 ≡ a.0)
+arrival_is_by g (Arrive k n w) a h = (let e : (phase_op g k, k, n) ≡ a = same_Some (phase_op g k, k, n) a h in (subst (λ (y : Op × ℕ × ℕ). arrival_value y.1 (Arrive k n w) ≡ Some y.2) e (ap (λ b. cond b (Some n) None) (eq-eqb k k refl)), ap (λ (y : Op × ℕ × ℕ). phase_op g y.1) (sym e) ∙ ap (λ (y : Op × ℕ × ℕ). y.0) e))
 arrival_is_by g _ a h = absurd (none-some a h)
 
-arrival_is_of : (g : GraphValue) (o : Option Verb) (a : Op × ℕ × ℕ) → option_map_or (arrival_by g) o None ≡ Some a → (o ≡ Some (Arrive a.1 a.2)) × (phase_op g a.1 ≡ a.0)
+arrival_is_of : (g : GraphValue) (o : Option Verb) (a : Op × ℕ × ℕ) → option_map_or (arrival_by g) o None ≡ Some a → (option_map_or (arrival_value a.1) o None ≡ Some a.2) × (phase_op g a.1 ≡ a.0)
 arrival_is_of g None a h = absurd (none-some a h)
-arrival_is_of g (Some v) a h = let r = arrival_is_by g v a h in (ap Some r.0, r.1)
+arrival_is_of g (Some v) a h = arrival_is_by g v a h
 
-arrival_found : (g : GraphValue) (i : ℕ) (x : End) (a : Op × ℕ × ℕ) → arrival_for g i x ≡ Some a → (x ≢ Cancelled) × (verb_at g i ≡ Some (Arrive a.1 a.2)) × (phase_op g a.1 ≡ a.0)
+arrival_found : (g : GraphValue) (i : ℕ) (x : End) (a : Op × ℕ × ℕ) → arrival_for g i x ≡ Some a → (x ≢ Cancelled) × (value_for g a.1 i ≡ Some a.2) × (phase_op g a.1 ≡ a.0)
 arrival_found g i Cancelled a h = absurd (none-some a h)
 arrival_found g i Done a h = let r = arrival_is_of g (verb_at g i) a h in (λ e. cc, r.0, r.1)
 arrival_found g i Faulted a h = let r = arrival_is_of g (verb_at g i) a h in (λ e. cc, r.0, r.1)
 arrival_found g i Waiting a h = let r = arrival_is_of g (verb_at g i) a h in (λ e. cc, r.0, r.1)
 
-arrives_by : (v : Verb) → is_arrive v ≡ true → (p w : ℕ) × (v ≡ Arrive p w)
-arrives_by (Arrive k w) h = (k, w, refl)
+arrives_by : (v : Verb) → is_arrive v ≡ true → (p n w : ℕ) × (v ≡ Arrive p n w)
+arrives_by (Arrive k n w) h = (k, n, w, refl)
 arrives_by _ h = absurd (true≢false (sym h))
 
-some_arrival_of : (g : GraphValue) (o : Option Verb) (p w : ℕ) → o ≡ Some (Arrive p w) → option_map_or (arrival_by g) o None ≡ Some (phase_op g p, p, w)
-some_arrival_of g o p w e = ap (λ (x : Option Verb). option_map_or (arrival_by g) x None) e
+some_arrival_of : (g : GraphValue) (o : Option Verb) (p n w : ℕ) → o ≡ Some (Arrive p n w) → option_map_or (arrival_by g) o None ≡ Some (phase_op g p, p, n)
+some_arrival_of g o p n w e = ap (λ (x : Option Verb). option_map_or (arrival_by g) x None) e
 
-some_arrival : (g : GraphValue) (i : ℕ) (x : End) (p w : ℕ) → x ≢ Cancelled → verb_at g i ≡ Some (Arrive p w) → arrival_for g i x ≡ Some (phase_op g p, p, w)
-some_arrival g i Cancelled p w ne e = absurd (ne refl)
-some_arrival g i Done p w ne e = some_arrival_of g (verb_at g i) p w e
-some_arrival g i Faulted p w ne e = some_arrival_of g (verb_at g i) p w e
-some_arrival g i Waiting p w ne e = some_arrival_of g (verb_at g i) p w e
+some_arrival : (g : GraphValue) (i : ℕ) (x : End) (p n w : ℕ) → x ≢ Cancelled → verb_at g i ≡ Some (Arrive p n w) → arrival_for g i x ≡ Some (phase_op g p, p, n)
+some_arrival g i Cancelled p n w ne e = absurd (ne refl)
+some_arrival g i Done p n w ne e = some_arrival_of g (verb_at g i) p n w e
+some_arrival g i Faulted p n w ne e = some_arrival_of g (verb_at g i) p n w e
+some_arrival g i Waiting p n w ne e = some_arrival_of g (verb_at g i) p n w e
 
 phase_op_is : (g : GraphValue) (p b : ℕ) (x : BarrierInfo) → verb_at g p ≡ Some (Phase b) → slice_get (barriers g) b ≡ Some x → x.op ≡ phase_op g p
 phase_op_is g p b x e at = sym (ap (λ (o : Option Verb). option_map_or (op_by g) o op.Sum) e ∙ ap (λ (o : Option BarrierInfo). option_map_or (λ (x : BarrierInfo). x.op) o op.Sum) at)
@@ -159,7 +159,7 @@ frees_is g run (Cancel k) a h = absurd (none-some a h)
 frees_is g run (Merge ks) a h = absurd (none-some a h)
 frees_is g run (MergeIgnore ks) a h = absurd (none-some a h)
 frees_is g run (Phase k) a h = absurd (none-some a h)
-frees_is g run (Arrive k w) a h = absurd (none-some a h)
+frees_is g run (Arrive k n w) a h = absurd (none-some a h)
 frees_is g run (Acquire k) a h = absurd (none-some a h)
 frees_is g run (Release k) a h = (let f = freed_lock_is k (end_so_far (stage_at run.stages k)) (lock_of g k) a h in (ap Release f.2, subst (λ z. freed_lock z (end_so_far (stage_at run.stages z)) (lock_of g z) ≡ Some a) f.2 h))
 frees_is g run (Fill t s w) a h = absurd (none-some a h)
@@ -245,7 +245,7 @@ module _ (g : GraphValue) (run : Run) (s : Sound g run) (rest : AtRest g run) (i
     has_time = is_some_of (time_at (slice_set run.times i (Some run.clock)) i) run.clock (get_or-set_same run.times i (Some run.clock) None time_there);
     put_back = λ c a ne. all_back_new run.back i (columns_for g i x) column_below c (listed_for g i x c (λ e. ne (m.is_end ∙ e)) a);
     put_in = λ a ne. (let v = passes_verb is_arrive g i a in let k = arrives_by v.0 v.2 in
-        arrived_new run.arrived i (arrival_for g i x) (phase_op g k.0, k.0, k.1) (some_arrival g i x k.0 k.1 (λ e. ne (m.is_end ∙ e)) (v.1 ∙ ap Some k.2)));
+        arrived_new run.arrived i (arrival_for g i x) (phase_op g k.0, k.0, k.1) (some_arrival g i x k.0 k.1 k.2 (λ e. ne (m.is_end ∙ e)) (v.1 ∙ ap Some k.3)));
   })
 
   ending_at : stage_at (slice_set run.stages i (Ending x)) i ≡ Ending x

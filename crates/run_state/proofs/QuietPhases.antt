@@ -4,7 +4,7 @@ use Rattle.std.specs.Prelude.{Contains, ◌≢◌, ◌==◌, Option, Some, None,
 use Rattle.std.specs.Option.{option_map_or}
 use Rattle.std.specs.List.{slice_index_or}
 use Rattle.std.proofs.lemmas.Bool.{true≢false, eq-eqb}
-use Rattle.std.proofs.lemmas.Option.{none-some, slice_get-get_or}
+use Rattle.std.proofs.lemmas.Option.{slice_get-get_or}
 use Rattle.index_spaces.specs.declared.Op.TheVariants as op
 use Rattle.basics.specs.Lists.{numbers_below}
 use Rattle.graph_model.specs.declared.meaning.outcome.End.{End}
@@ -12,7 +12,6 @@ use Rattle.graph_model.specs.declared.meaning.outcome.End.TheVariants.{Done, Fau
 use Rattle.graph_model.specs.declared.graph.verb.Edge.{Edge}
 use Rattle.graph_model.specs.declared.graph.verb.EdgeKind.TheVariants.{Passes}
 use Rattle.graph_model.specs.declared.graph.verb.Line.{Line}
-use Rattle.graph_model.specs.declared.graph.verb.Verb.{Verb}
 use Rattle.graph_model.specs.declared.graph.verb.Verb.TheVariants.{Phase, Arrive}
 use Rattle.graph_model.specs.declared.graph.decl.BarrierInfo.{BarrierInfo}
 use Rattle.graph_model.specs.graph.Graph.{GraphValue, barriers, verb_at}
@@ -25,15 +24,11 @@ use Rattle.run_state.specs.Sound.{is_arrive, value_for, Sound}
 use Rattle.run_state.specs.Quiet.{Quiet}
 use Rattle.run_state.proofs.Lists.{ended_over, contains_listed}
 use Rattle.run_state.proofs.Started.{ended_started, started_ends, cancelled_iff}
-use Rattle.graph_model.proofs.VerbFacts.{verb_passes, verb_below, arrival_is}
+use Rattle.graph_model.proofs.VerbFacts.{verb_passes, verb_below}
 use Rattle.graph_model.proofs.EdgeFacts.{arrival_edge}
 use Rattle.run_state.proofs.Reductions.{once_fresh, numbers_fresh, same_reduced, by_number}
+use Rattle.run_state.proofs.Phases.{value_is}
 use Rattle.run_state.proofs.Quiet.{evaluation_ended}
-
--- a line that brings a value to a phase is an arrival at it
-value_is : (p : ℕ) (o : Option Verb) (n : ℕ) → option_map_or (arrival_value p) o None ≡ Some n → o ≡ Some (Arrive p n)
-value_is p None n h = absurd (none-some n h)
-value_is p (Some v) n h = ap Some (arrival_is p v n h)
 
 -- an end that neither cancels nor waits is done, or the line faulted
 arrival_kept : (x : End) → cancels Passes x ≡ false → x ≢ Cancelled
@@ -44,13 +39,15 @@ arrival_kept Cancelled h e = true≢false h
 
 module _ (g : GraphValue) (run : Run) (s : Sound g run) (q : Quiet g run) where
   -- each arrival at a phase that is done was put in
-  pub arrival_in : (p i v : ℕ) → eval_end g p ≡ Done → verb_at g i ≡ Some (Arrive p v) → is_listed run.arrived i ≡ true
-  arrival_in p i v done e =
+  pub arrival_in : (p i v : ℕ) → eval_end g p ≡ Done → value_for g p i ≡ Some v → is_listed run.arrived i ≡ true
+  arrival_in p i v done brings =
+      let w : ℕ = (value_is p (verb_at g i) v brings).0 in
+      let e : verb_at g i ≡ Some (Arrive p v w) = (value_is p (verb_at g i) v brings).1 in
       let p_ended : ended run.stages p ≡ true = evaluation_ended g run s q p (ap is_ended done) in
       let p_started : started run.stages p ≡ true = ended_started run.stages p p_ended in
-      let c : Contains (edges g) (edge i p Passes) = arrival_edge g i p v e in
+      let c : Contains (edges g) (edge i p Passes) = arrival_edge g i p v w e in
       let i_ended : ended run.stages i ≡ true = s.on_lines.sources (edge i p Passes) c p_started in
-      s.on_phases.over_arrived i (ended_over (stage_at run.stages i) i_ended) (verb_passes is_arrive g i (Arrive p v) e)
+      s.on_phases.over_arrived i (ended_over (stage_at run.stages i) i_ended) (verb_passes is_arrive g i (Arrive p v w) e)
       (λ cancelled. (
       let yes : is_cancelled g (evaluation g) p ≡ true = passes_some (λ (x : Edge). cancels x.kind (eval_end g x.from)) (edges_into g p) (edge i p Passes)
       (contains_filter (λ (x : Edge). x.to == p) (edges g) (edge i p Passes) c (eq-eqb p p refl)) (ap (cancels Passes) cancelled) in
@@ -65,8 +62,8 @@ module _ (g : GraphValue) (run : Run) (s : Sound g run) (q : Quiet g run) where
       s.on_phases.value p b none e at
       ∙ (same_reduced none.op (value_for g p) (numbers_below (length g.lines)) run.arrived (numbers_fresh (length g.lines)) (once_fresh run.arrived s.on_phases.arrived_once)
       (λ i v ei. (
-        λ l. contains_listed (numbers_below (length g.lines)) i (contains_below (length g.lines) i (verb_below g i (Arrive p v) (value_is p (verb_at g i) v ei))),
-        λ l. arrival_in p i v done (value_is p (verb_at g i) v ei),
+        λ l. contains_listed (numbers_below (length g.lines)) i (contains_below (length g.lines) i (let a = value_is p (verb_at g i) v ei in verb_below g i (Arrive p v a.0) a.1)),
+        λ l. arrival_in p i v done ei,
       ))
       none.first
       ∙ (ap (reduced_with none.op none.first) (sym (by_number (λ (l : Line). arrival_value p l.verb) (value_for g p) g.lines 0

@@ -1,15 +1,17 @@
 -- A line that was taken does what it does in the evaluation.
 use Rattle.std.proofs.Common.{◌≡◌, ℕ, Bool, true, false, length, refl, sym, ◌∙◌, ap}
-use Rattle.std.specs.Prelude.{◌≢◌}
+use Rattle.std.specs.Prelude.{◌≢◌, []}
+use Rattle.std.specs.Option.{option_map_or}
 use Rattle.std.proofs.lemmas.Bool.{true≢false, false_from_ne_true}
 use Rattle.index_spaces.specs.Space.{points}
 use Rattle.graph_model.specs.declared.meaning.outcome.End.TheVariants.{Cancelled}
 use Rattle.graph_model.specs.graph.Graph.{GraphValue, column_space, space_at, verb_at}
+use Rattle.graph_model.specs.graph.Access.{verb_accesses}
 use Rattle.graph_model.specs.meaning.Effect.{Cells, Effect, cells_after, effect}
 use Rattle.graph_model.specs.meaning.Evaluation.{has_ended, is_cancelled, end_by, made_by, step_by, evaluation, eval_changes, cells_of, cells_of_lines, column_of}
 use Rattle.graph_model.proofs.Turns.{turns_after}
 use Rattle.graph_model.proofs.Changes.{cells_after_at, listed_point, map_agree}
-use Rattle.graph_model.proofs.Confluence.{effect_same, same_effect}
+use Rattle.graph_model.proofs.Confluence.{effect_same, agree_in, same_effect}
 use Rattle.graph_model.proofs.LineFacts.{accesses_fit}
 use Rattle.run_state.specs.Run.{Run, is_listed, stage_at, list_at, ended}
 use Rattle.run_state.specs.Sound.{AccessesColumn, Sound}
@@ -30,7 +32,8 @@ work_does {g} {run} s i cells w =
     let h : has_ended (evaluation g) i ≡ true = started_ends s.graph s.accepted s.on_lines i (out_started (stage_at run.stages i) w.is_out) in
     let t = turns_after g (length g.lines) i h in
     let own = effect_same (space_at g) cells (cells_now g run) (verb_at g i)
-    (λ a ha ne p hp. w.holds a.column (a, ha, refl) p ((accesses_fit g i a s.graph ha).within p hp)) in
+    (agree_in (space_at g) g.format (option_map_or verb_accesses (verb_at g i) []) cells (cells_now g run)
+    (λ a ha ne p hp. w.holds a.column (a, ha, refl) p ((accesses_fit g i a s.graph ha).within p hp))) in
     let same = same_effect g s.accepted i t.0 t.1 (ended run.stages) (λ c. is_listed (list_at run.back c)) (ready_among s i w.is_out (not_back_at_all s i cells w)) in
     let verdict : (effect g i cells).verdict ≡ (effect g i (cells_of t.0)).verdict = own.1 ∙ same.1 in
     let changes : (effect g i cells).changes ≡ (effect g i (cells_of t.0)).changes = own.0 ∙ same.0 in

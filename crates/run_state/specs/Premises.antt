@@ -5,13 +5,13 @@ use Rattle.graph_model.specs.declared.graph.decl.BarrierInfo.{BarrierInfo}
 use Rattle.graph_model.specs.declared.meaning.outcome.End.{End}
 use Rattle.graph_model.specs.declared.meaning.outcome.End.TheVariants.{Done, Cancelled}
 use Rattle.graph_model.specs.declared.graph.verb.Edge.{Edge}
-use Rattle.graph_model.specs.declared.graph.verb.Verb.TheVariants.{Phase, Arrive}
+use Rattle.graph_model.specs.declared.graph.verb.Verb.TheVariants.{Phase}
 use Rattle.graph_model.specs.graph.Graph.{GraphValue, barriers, never_comes, verb_at, line_passes}
 use Rattle.graph_model.specs.graph.Edges.{edges}
 use Rattle.graph_model.specs.meaning.Rules.{Acquires, Releases}
 use Rattle.graph_model.specs.meaning.Evaluation.{eval_end}
 use Rattle.run_state.specs.Run.{Run, Unissued, Issued, Out, Ending, Had, is_listed, stage_at, time_at, place_at, list_at, issued, out, over, ended, timed}
-use Rattle.run_state.specs.Sound.{AccessesColumn, is_arrive, home_cells}
+use Rattle.run_state.specs.Sound.{AccessesColumn, is_arrive, home_cells, value_for}
 use Rattle.run_state.specs.Work.{put_cells}
 
 -- a line that is issued is the next one
@@ -68,7 +68,7 @@ pub record MayLetGo (g : GraphValue) (run : Run) (l q : ℕ) : Type 0 where
 -- an arrival is put in once, with the operation of the phase's barrier
 pub record MayArrive (g : GraphValue) (run : Run) (o : Op) (i p v : ℕ) : Type 0 where
   pub is_out : IsTrue (out run.stages i)
-  pub arrives : verb_at g i ≡ Some (Arrive p v)
+  pub arrives : value_for g p i ≡ Some v
   pub not_cancelled : eval_end g i ≢ Cancelled
   pub not_arrived : is_listed run.arrived i ≡ false
   pub by_barrier : (b : ℕ) (x : BarrierInfo) → verb_at g p ≡ Some (Phase b) → slice_get (barriers g) b ≡ Some x → x.op ≡ o

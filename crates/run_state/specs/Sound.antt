@@ -23,7 +23,7 @@ AccessesColumn g i c = (a : Access) × Contains (accesses g i) a × (a.column �
 
 -- an arrival
 abbrev pub is_arrive : Verb → Bool
-is_arrive (Arrive p value) = true
+is_arrive (Arrive p value weight) = true
 is_arrive _ = false
 
 -- the cells of a column at home, with these lines put back on it

@@ -98,7 +98,7 @@ abbrev pub phase_op : GraphValue → ℕ → Op
 phase_op g p = option_map_or (op_by g) (verb_at g p) op.Sum
 
 abbrev pub arrival_by : GraphValue → Verb → Option (Op × ℕ × ℕ)
-arrival_by g (Arrive p v) = Some (phase_op g p, p, v)
+arrival_by g (Arrive p v w) = Some (phase_op g p, p, v)
 arrival_by g _ = None
 
 abbrev pub arrival_for : GraphValue → ℕ → End → Option (Op × ℕ × ℕ)

@@ -16,8 +16,8 @@ use std::alloc::Global;
 use std::test::Fail;
 use test_texts::generated::chain;
 use test_texts::graphs::{
-    CANCELLED_BARRIER, EMPTY, FAULTY_PATHS, KERNELS, LOCKED_SUMS, NINE_WAITERS, NO_TRIGGER,
-    TWO_READERS, TWO_SECTIONS, WAITER_ABOVE_TRIGGER,
+    CANCELLED_BARRIER, EMPTY, FAULTY_PATHS, KERNELS, LOCKED_SUMS, MISSING_WEIGHT, NINE_WAITERS,
+    NO_TRIGGER, TWO_READERS, TWO_SECTIONS, WAITER_ABOVE_TRIGGER, WEIGHTED_ARRIVALS,
 };
 use test_texts::tiles;
 
@@ -140,6 +140,8 @@ fn small_graphs(rt: HostRuntime) -> Result<(), Fail> {
         (LOCKED_SUMS, 10),
         (TWO_SECTIONS, 6),
         (NINE_WAITERS, 11),
+        (WEIGHTED_ARRIVALS, 3),
+        (MISSING_WEIGHT, 2),
     ] {
         assert!(rt; is_evaluated(rt.alloc(), text, slots)?);
     }

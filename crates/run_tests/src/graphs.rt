@@ -6,12 +6,12 @@ use race_check::checked::Checked;
 use std::alloc::Global;
 use std::test::Fail;
 use test_texts::graphs::{
-    CANCELLED_BARRIER, EMPTY, FAULTY_PATHS, KERNELS, LOCKED_SUMS, NINE_WAITERS, NO_TRIGGER,
-    TWO_SECTIONS, WAITER_ABOVE_TRIGGER,
+    CANCELLED_BARRIER, EMPTY, FAULTY_PATHS, KERNELS, LOCKED_SUMS, MISSING_WEIGHT, NINE_WAITERS,
+    NO_TRIGGER, TWO_SECTIONS, WAITER_ABOVE_TRIGGER, WEIGHTED_ARRIVALS,
 };
 
 /// Texts of graphs that are run in words.
-pub(crate) const TEXTS: [&str; 9] = [
+pub(crate) const TEXTS: [&str; 11] = [
     EMPTY,
     WAITER_ABOVE_TRIGGER,
     FAULTY_PATHS,
@@ -21,6 +21,8 @@ pub(crate) const TEXTS: [&str; 9] = [
     LOCKED_SUMS,
     TWO_SECTIONS,
     NINE_WAITERS,
+    WEIGHTED_ARRIVALS,
+    MISSING_WEIGHT,
 ];
 
 /// The graph of a text, where it is accepted.

@@ -15,10 +15,11 @@ use Rattle.run_words.specs.Claims.{Claim}
 use Rattle.basics.proofs.Sums.{total-set, term_le}
 use Rattle.index_spaces.specs.declared.Op.{Op}
 use Rattle.graph_model.specs.declared.graph.decl.BarrierInfo.{BarrierInfo}
-use Rattle.graph_model.specs.declared.graph.verb.Verb.TheVariants.{Phase, Arrive}
+use Rattle.graph_model.specs.declared.graph.verb.Verb.TheVariants.{Phase}
 use Rattle.graph_model.specs.graph.Graph.{barriers, verb_at}
 use Rattle.graph_model.specs.meaning.Evaluation.{combined}
 use Rattle.run_state.specs.Run.{is_listed, time_at, stage_out}
+use Rattle.run_state.specs.Sound.{value_for}
 use Rattle.run_state.specs.Moves.{arrive, draw}
 use Rattle.run_state.proofs.Phases.{arrive-sound}
 use Rattle.run_state.proofs.Times.{draw-sound}
@@ -67,10 +68,10 @@ module _ (g : GraphValue) (e : Events) (s : St) (o : Shown g e s) (id : ℕ) (v 
   owes_others d line k n = late_there k d (λ q. n (sym q ∙ line)) ∙ sym (ap (late_at k) has ∙ late_there k cl (λ q. n (sym q)))
 
   -- put in
-  pub arrive_rule : (o' : Op) (p x : ℕ) (f : ℕ → ℕ) → ((n : ℕ) → f n ≡ combined o' n x) → p < length g.lines → cl.ends ≡ None → verb_at g i ≡ Some (Arrive p x) → eval_end g i ≢ Cancelled → cl.arrived ≡ false
+  pub arrive_rule : (o' : Op) (p x : ℕ) (f : ℕ → ℕ) → ((n : ℕ) → f n ≡ combined o' n x) → p < length g.lines → cl.ends ≡ None → value_for g p i ≡ Some x → eval_end g i ≢ Cancelled → cl.arrived ≡ false
       → ((b : ℕ) (y : BarrierInfo) → verb_at g p ≡ Some (Phase b) → slice_get (barriers g) b ≡ Some y → y.op ≡ o')
       → Shown g e (board (set s.words (value_word (size_of g) p) (f (get_or s.words (value_word (size_of g) p) 0))) s.homes (set s.views id (with_claim v (put_in cl))))
-  arrive_rule o' p x f by near_p going verb real new barrier =
+  arrive_rule o' p x f by near_p going brings real new barrier =
       let w : View = with_claim v (put_in cl) in
       let z = size_of g in
       let y : ℕ = f (get_or s.words (value_word z p) 0) in
@@ -86,7 +87,7 @@ module _ (g : GraphValue) (e : Events) (s : St) (o : Shown g e s) (id : ℕ) (v 
         time = progress.time;
         freed = progress.freed;
       })
-      (arrive-sound o.sound o' i p x (record { is_out = ap stage_out (progress.stage ∙ ap working going); arrives = verb; not_cancelled = real; not_arrived = progress.arrived ∙ new; by_barrier = barrier }))
+      (arrive-sound o.sound o' i p x (record { is_out = ap stage_out (progress.stage ∙ ap working going); arrives = brings; not_cancelled = real; not_arrived = progress.arrived ∙ new; by_barrier = barrier }))
       (λ j. refl)
       (at_value g e z o.run o.handles (λ k. total (issues_at k) s.views) (λ k. total (owes_at k) s.views) (total has_desk s.views) s.words s.homes o.words
       (λ k. total (issues_at k) (set s.views id w)) (λ k. total (owes_at k) (set s.views id w)) (total has_desk (set s.views id w))
@@ -177,11 +178,11 @@ module _ (g : GraphValue) (e : Events) (s : St) (o : Shown g e s) (id : ℕ) (v 
       (λ k n. sum_same (owes_at k) s.views id v w me (owes_others (has_stored cl) refl k n))
       (omega (arith, here, moved, before, mine, all, part, code)))
 
-pub arrives_allow : (g : GraphValue) (e : Events) (slots id p x : ℕ) (o' : Op) (f : ℕ → ℕ) (m : Sat) (cl : Claim) → ((n : ℕ) → f n ≡ combined o' n x) → m.0.claim ≡ Some cl → p < length g.lines → cl.ends ≡ None → verb_at g cl.line ≡ Some (Arrive p x) → eval_end g cl.line ≢ Cancelled → cl.arrived ≡ false
+pub arrives_allow : (g : GraphValue) (e : Events) (slots id p x : ℕ) (o' : Op) (f : ℕ → ℕ) (m : Sat) (cl : Claim) → ((n : ℕ) → f n ≡ combined o' n x) → m.0.claim ≡ Some cl → p < length g.lines → cl.ends ≡ None → value_for g p cl.line ≡ Some x → eval_end g cl.line ≢ Cancelled → cl.arrived ≡ false
     → ((b : ℕ) (y : BarrierInfo) → verb_at g p ≡ Some (Phase b) → slice_get (barriers g) b ≡ Some y → y.op ≡ o')
     → Allows (Shown g e) slots id m (value_word (size_of g) p) f (λ _. arrives m)
-arrives_allow g e slots id p x o' f m cl by has near_p going verb real new barrier s o wide me low =
-    (with_claim m.0 (put_in cl), keeps, tt, arrive_rule g e s o id m.0 me cl has o' p x f by near_p going verb real new barrier, ap (λ (y : View). sat y m.1) (on_claimed put_in m.0 cl has))
+arrives_allow g e slots id p x o' f m cl by has near_p going brings real new barrier s o wide me low =
+    (with_claim m.0 (put_in cl), keeps, tt, arrive_rule g e s o id m.0 me cl has o' p x f by near_p going brings real new barrier, ap (λ (y : View). sat y m.1) (on_claimed put_in m.0 cl has))
 
 pub draws_allow : (g : GraphValue) (e : Events) (slots id : ℕ) (m : Sat) (cl : Claim) → m.0.claim ≡ Some cl → length g.lines ≤ 8192 → cl.ends ≡ None → cl.time ≡ None → ((l : ℕ) → Acquires g cl.line l → eval_end g cl.line ≢ Cancelled → cl.holds ≡ true)
     → Allows (Shown g e) slots id m (clock_word (size_of g)) (λ n. (n + 1) % 2 ^ 64) (draws m)

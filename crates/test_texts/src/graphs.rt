@@ -35,6 +35,21 @@ pub const CANCELLED_BARRIER: &str = "realm 1\n\
     c = cancel u\n\
     end\n";
 
+/// A phase of three, at which one arrival of weight 2 and one of weight 1 arrive.
+pub const WEIGHTED_ARRIVALS: &str = "realm 2\n\
+    barrier b 3 sum 0\n\
+    p = phase b\n\
+    v = arrive p 5 times 2\n\
+    w = arrive p 1\n\
+    end\n";
+
+/// The same phase with the arrival of weight 2 alone: it waits.
+pub const MISSING_WEIGHT: &str = "realm 2\n\
+    barrier b 3 sum 0\n\
+    p = phase b\n\
+    v = arrive p 5 times 2\n\
+    end\n";
+
 /// Each kernel once, and two reductions.
 pub const KERNELS: &str = "realm 1\n\
     space s 0..3\n\
@@ -76,6 +91,23 @@ pub const LOCKED_SUMS: &str = "realm 1\n\
     r = release q on m\n\
     k = acquire l on g\n\
     e = reduce sum a.y a.z s on k\n\
+    n = mergei e\n\
+    t = release k on n\n\
+    end\n";
+
+/// Reductions by the greatest value under one reservation.
+pub const LOCKED_MAXIMA: &str = "realm 2\n\
+    space s 0..1\n\
+    inst a s x,y,z\n\
+    lock l\n\
+    f = fill a.x s 3\n\
+    g = fill a.y s 4\n\
+    q = acquire l on f\n\
+    d = reduce max a.x a.z s on q\n\
+    m = mergei d\n\
+    r = release q on m\n\
+    k = acquire l on g\n\
+    e = reduce max a.y a.z s on k\n\
     n = mergei e\n\
     t = release k on n\n\
     end\n";

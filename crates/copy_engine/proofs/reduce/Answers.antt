@@ -22,7 +22,7 @@ returns c = λ spaces s e.
       within = holds_over (held_at old c.args.target) (λ x. IsWithin c.args.space.now x.space) to c.take-to.ensures.column c.requires.target;
       is_space = rw (sym c.space.ensures.space) c.intervals-2.ensures.is_space;
     } in
-    rw e (c.changes_by_point.ensures old c.add.new.self c.args.target to c.reduce_points.new.to c.args.space.now (λ p. reduced_cell op (cell_of to p) (cell_of from p)) (λ cells p. reduced op (cells c.args.target p) (cells c.args.source p))
+    rw e (c.changes_by_point.ensures old c.add.new.self c.args.target to c.reduce_points.new.to c.args.space.now (λ p. reduced_cell op (cell_of to p) (cell_of from p)) (λ cells p. reduced op (cells c.args.source p))
     c.intervals.ensures.is_space target.is_space c.take-to.ensures.column held number c.space-3.ensures.full c.reduce_points.ensures
     (λ cells has p h.
     ap (λ v. reduced_cell op v (cell_of from p)) (c.cells_by_point.ensures old cells c.args.target to p has target.here target.is_space (target.within p h))

@@ -6,10 +6,10 @@ use Rattle.graph_model.specs.declared.graph.verb.Verb.TheVariants.{User, Trigger
 use Rattle.graph_model.specs.declared.graph.why.Why.TheVariants as why
 use Rattle.graph_model.specs.graph.Graph.{GraphValue}
 use Rattle.graph_model.specs.graph.Fits.{line_fault}
-use Rattle.graph_model.proofs.examples.Graphs.{graph, line, wrapping_sum}
+use Rattle.graph_model.proofs.examples.Graphs.{graph, line, wrapping_sum, light_phase}
 
 -- a third arrival where two complete the phase
-wrapping_sum-full : line_fault wrapping_sum (line (codes "z") (Arrive 0 1) None) ≡ Some why.Arrivals
+wrapping_sum-full : line_fault wrapping_sum (line (codes "z") (Arrive 0 1 1) None) ≡ Some why.Arrivals
 unfolding digits
 wrapping_sum-full = refl
 
@@ -28,3 +28,16 @@ apart = graph (Space (codes "p") ((0, 1) ∷ (4, 5) ∷ []) ∷ Space (codes "q"
 apart-outside : line_fault apart (line (codes "f") (Fill 0 1 1) None) ≡ Some why.Outside
 unfolding digits
 apart-outside = refl
+
+-- an arrival with which a phase has more than it takes, and weights that a format has not
+light_phase-late : line_fault light_phase (line (codes "w") (Arrive 0 1 2) None) ≡ Some why.Arrivals
+unfolding digits
+light_phase-late = refl
+
+light_phase-weightless : line_fault light_phase (line (codes "w") (Arrive 0 1 0) None) ≡ Some why.Number
+unfolding digits
+light_phase-weightless = refl
+
+wrapping_sum-weighted : line_fault wrapping_sum (line (codes "z") (Arrive 0 1 2) None) ≡ Some why.Number
+unfolding digits
+wrapping_sum-weighted = refl

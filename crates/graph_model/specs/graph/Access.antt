@@ -1,10 +1,12 @@
 -- What a line reads and writes, and when two lines conflict.
-use Rattle.std.specs.Prelude.{◌≡◌, ◌≢◌, ℕ, nat_eq, Bool, true, false, List, [], ◌∷◌, zip, filter_map, Contains, Option, Some, None, slice_index, slice_get, IsTrue}
+use Rattle.std.specs.Prelude.{◌≡◌, ◌≢◌, ℕ, nat_eq, Bool, true, false, List, [], ◌∷◌, map, zip, filter_map, Contains, Option, Some, None, slice_index, slice_get, IsTrue}
 use Rattle.std.specs.Option.{option_map_or}
 use Rattle.index_spaces.specs.Space.{Meet}
 use Rattle.graph_model.specs.declared.graph.verb.Access.{Access}
 use Rattle.graph_model.specs.declared.graph.verb.Mode.{Mode}
-use Rattle.graph_model.specs.declared.graph.verb.Mode.TheVariants.{Read, Sum}
+use Rattle.graph_model.specs.declared.graph.verb.Mode.TheVariants.{Read, Write, Sum, Least, Most}
+use Rattle.graph_model.specs.declared.graph.format.Format.{Format}
+use Rattle.graph_model.specs.declared.graph.format.Format.TheVariants.{One, Two}
 use Rattle.graph_model.specs.declared.graph.verb.Verb.{Verb}
 use Rattle.graph_model.specs.declared.graph.verb.Verb.TheVariants.{Task}
 use Rattle.graph_model.specs.declared.graph.table.Kernel.{Kernel}
@@ -50,18 +52,36 @@ columns_alike _ _ = false
 abbrev pub kernel_accesses : Kernel → List Access
 kernel_accesses kernel = verb_accesses (Task kernel)
 
+-- a reduction by the least or the greatest value is a write to format 1
+abbrev pub or_write : Format → Mode → Mode
+or_write One m = Write
+or_write Two m = m
+
+abbrev pub mode_in : Format → Mode → Mode
+mode_in f Read = Read
+mode_in f Write = Write
+mode_in f Sum = Sum
+mode_in f Least = or_write f Least
+mode_in f Most = or_write f Most
+
+-- an access as a format takes it
+abbrev pub in_format : Format → Access → Access
+in_format f a = access a.column a.space (mode_in f a.mode)
+
 -- the accesses of a line, in order
 abbrev pub accesses : GraphValue → ℕ → List Access
-accesses g i = option_map_or verb_accesses (verb_at g i) []
+accesses g i = map (in_format g.format) (option_map_or verb_accesses (verb_at g i) [])
 
 abbrev pub is_read : Mode → Bool
 is_read Read = true
 is_read _ = false
 
--- whether an access only adds to its cells
-abbrev pub is_sum : Mode → Bool
-is_sum Sum = true
-is_sum _ = false
+-- whether an access reduces into its cells, whatever they are
+abbrev pub is_reduction : Mode → Bool
+is_reduction Sum = true
+is_reduction Least = true
+is_reduction Most = true
+is_reduction _ = false
 
 -- two uses that must not meet: not both are reads
 abbrev pub modes_clash : Mode → Mode → Bool

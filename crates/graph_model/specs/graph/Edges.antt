@@ -27,7 +27,7 @@ verb_edges before i (Merge events) = map (λ e. edge e i Passes) events
 verb_edges before i (MergeIgnore events) = map (λ e. edge e i Ignores) events
 verb_edges before i (Trigger u) = edge i u Passes ∷ []
 verb_edges before i (Cancel u) = edge i u Faults ∷ []
-verb_edges before i (Arrive p value) = edge i p Passes ∷ []
+verb_edges before i (Arrive p value weight) = edge i p Passes ∷ []
 verb_edges before i (Phase b) = edges_from_some Ignores (last_place (is_phase_of b) 0 before None) i
 verb_edges before i _ = []
 

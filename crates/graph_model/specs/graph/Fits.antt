@@ -1,11 +1,13 @@
 -- When an item fits after a graph: the reasons that may refuse it, in their order.
-use Rattle.std.specs.Prelude.{◌≡◌, ℕ, ◌^◌, ◌<◌, nat_lt, nat_le, nat_eq, Bool, true, false, cond, not, ◌&&◌, ◌||◌, List, [], ◌∷◌, ◌++◌, length, map, filter, filter_map, sum_by, Option, Some, None, IsTrue, is_some}
+use Rattle.std.specs.Prelude.{◌≡◌, ℕ, ◌+◌, ◌^◌, ◌<◌, nat_lt, nat_le, nat_eq, Bool, true, false, cond, not, ◌&&◌, ◌||◌, List, [], ◌∷◌, ◌++◌, length, map, filter, filter_map, sum_by, Option, Some, None, IsTrue, is_some}
 use Rattle.std.specs.Option.{option_map_or}
 use Rattle.std.specs.List.{list_any, list_all, AllByRecursion}
 use Rattle.std.specs.Str.{bytes_eq}
 use Rattle.index_spaces.specs.Space.{has_point, points, space_size, IsSpace}
 use Rattle.index_spaces.specs.declared.limits.TheConstants.{MAX_INTERVALS, MAX_POINTS}
 use Rattle.graph_model.specs.declared.graph.limits.TheConstants.{MAX_TEXT, MAX_INSTS, MAX_COLUMNS, MAX_CELLS, MAX_LOCKS, MAX_BARRIERS, MAX_LINES, MAX_EDGES, MAX_EVENTS, MAX_COUNT}
+use Rattle.graph_model.specs.declared.graph.format.Format.{Format}
+use Rattle.graph_model.specs.declared.graph.format.Format.TheVariants.{One, Two}
 use Rattle.graph_model.specs.declared.graph.decl.Decl.{Decl}
 use Rattle.graph_model.specs.declared.graph.decl.Decl.TheVariants.{Space, Inst, Lock, Barrier}
 use Rattle.graph_model.specs.declared.graph.verb.Line.{Line}
@@ -42,10 +44,10 @@ is_used g name = list_any (bytes_eq name) (names g)
 
 -- the graph with an item at its end
 abbrev pub with_decl : GraphValue → Decl → GraphValue
-with_decl g d = record { decls = g.decls ++ d ∷ []; lines = g.lines }
+with_decl g d = record { format = g.format; decls = g.decls ++ d ∷ []; lines = g.lines }
 
 abbrev pub with_line : GraphValue → Line → GraphValue
-with_line g l = record { decls = g.decls; lines = g.lines ++ l ∷ [] }
+with_line g l = record { format = g.format; decls = g.decls; lines = g.lines ++ l ∷ [] }
 
 -- all cells of all columns
 abbrev pub cell_count : GraphValue → ℕ
@@ -150,10 +152,17 @@ verb_unlike g v = any_placed (place_unlike g) (verb_placed v)
 abbrev pub takes_no_on : Verb → Bool
 takes_no_on v = not (option_map_or kind_takes_on (verb_kind v) false)
 
-abbrev pub verb_misnumbered : Verb → Bool
-verb_misnumbered (Merge events) = nat_lt (length events) 1
-verb_misnumbered (MergeIgnore events) = nat_lt (length events) 1
-verb_misnumbered _ = false
+-- the most that one arrival may count for
+abbrev pub most_weight : Format → ℕ
+most_weight One = 1
+most_weight Two = MAX_COUNT
+
+-- a merge of no events, or a weight that the format has not
+abbrev pub verb_misnumbered : Format → Verb → Bool
+verb_misnumbered f (Merge events) = nat_lt (length events) 1
+verb_misnumbered f (MergeIgnore events) = nat_lt (length events) 1
+verb_misnumbered f (Arrive phase value weight) = nat_lt weight 1 || nat_lt (most_weight f) weight
+verb_misnumbered f _ = false
 
 -- the points of an access do not all lie in its column
 abbrev pub access_outside : GraphValue → Access → Bool
@@ -167,9 +176,9 @@ barrier_of_phase _ = 0
 abbrev pub phase_count : GraphValue → ℕ → ℕ
 phase_count g p = option_map_or (λ v. barrier_count g (barrier_of_phase v)) (verb_at g p) 0
 
--- an arrival at a phase that has as many as it takes
+-- an arrival with which its phase has more than it takes
 abbrev pub arrives_late : GraphValue → Verb → Bool
-arrives_late g (Arrive phase value) = nat_le (phase_count g phase) (arrivals g phase)
+arrives_late g (Arrive phase value weight) = nat_lt (phase_count g phase) (arrivals g phase + weight)
 arrives_late g _ = false
 
 -- a merge of too many events
@@ -184,7 +193,7 @@ line_tests g l =
     (is_used g l.name || (verb_repeats g l.verb || repeats nat_eq (map (λ (a : Access). a.column) (verb_accesses l.verb))), why.Twice)
     ∷ (line_unknown g l, why.Unknown)
     ∷ (verb_unlike g l.verb || (takes_no_on l.verb && is_some l.on), why.Kind)
-    ∷ (verb_misnumbered l.verb, why.Number)
+    ∷ (verb_misnumbered g.format l.verb, why.Number)
     ∷ (list_any (access_outside g) (verb_accesses l.verb), why.Outside)
     ∷ (arrives_late g l.verb, why.Arrivals)
     ∷ (merges_many l.verb || is_beyond (with_line g l), why.Limit)
@@ -223,16 +232,16 @@ pub record IsLine (l : Line) : Type 0 where
   pub values : IsVerb l.verb
 
 -- each declaration fits after those before it
-abbrev pub DeclsFit : List Decl → List Decl → Type 0
-DeclsFit before [] = Unit {0}
-DeclsFit before (d ∷ ds) = IsDecl d × (decl_fault (record { decls = before; lines = [] }) d ≡ None) × DeclsFit (before ++ d ∷ []) ds
+abbrev pub DeclsFit : Format → List Decl → List Decl → Type 0
+DeclsFit f before [] = Unit {0}
+DeclsFit f before (d ∷ ds) = IsDecl d × (decl_fault (record { format = f; decls = before; lines = [] }) d ≡ None) × DeclsFit f (before ++ d ∷ []) ds
 
 -- each line fits after those before it
-abbrev pub LinesFit : List Decl → List Line → List Line → Type 0
-LinesFit decls before [] = Unit {0}
-LinesFit decls before (l ∷ ls) = IsLine l × (line_fault (record { decls = decls; lines = before }) l ≡ None) × LinesFit decls (before ++ l ∷ []) ls
+abbrev pub LinesFit : Format → List Decl → List Line → List Line → Type 0
+LinesFit f decls before [] = Unit {0}
+LinesFit f decls before (l ∷ ls) = IsLine l × (line_fault (record { format = f; decls = decls; lines = before }) l ≡ None) × LinesFit f decls (before ++ l ∷ []) ls
 
 -- each item of the graph fits after the items before it
 pub record IsGraph (g : GraphValue) : Type 0 where
-  pub decls : DeclsFit [] g.decls
-  pub lines : LinesFit g.decls [] g.lines
+  pub decls : DeclsFit g.format [] g.decls
+  pub lines : LinesFit g.format g.decls [] g.lines

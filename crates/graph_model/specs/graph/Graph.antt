@@ -1,20 +1,27 @@
--- What a graph is: its declarations and its lines. Lines are numbered from 0, and so are the spaces,
+-- What a graph is: its format, its declarations and its lines. Lines are numbered from 0, and so are the spaces,
 -- the columns, the reservations and the barriers, each in the order of their declarations.
 use Rattle.std.specs.Prelude.{ℕ, ◌==◌, Bool, true, false, cond, not, nat_lt, sum_by, List, [], map, flat_map, filter_map, Option, Some, None, option_map, slice_get}
 use Rattle.std.specs.Option.{option_map_or}
 use Rattle.std.specs.List.{list_any}
 pub use Rattle.graph_model.specs.declared.graph.decl.ColumnInfo.{ColumnInfo}
 pub use Rattle.graph_model.specs.declared.graph.decl.BarrierInfo.{BarrierInfo}
+use Rattle.graph_model.specs.declared.graph.format.Format.{Format}
+use Rattle.graph_model.specs.declared.graph.format.Format.TheVariants.{Two}
 use Rattle.graph_model.specs.declared.graph.decl.Decl.{Decl}
 use Rattle.graph_model.specs.declared.graph.decl.Decl.TheVariants.{Space, Inst, Lock, Barrier}
 use Rattle.graph_model.specs.declared.graph.verb.Line.{Line}
 use Rattle.graph_model.specs.declared.graph.verb.Verb.{Verb}
 use Rattle.graph_model.specs.declared.graph.verb.Verb.TheVariants.{User, Trigger, Cancel, MergeIgnore, Phase, Arrive, Acquire, Release}
 
--- the declarations and the lines, in order
+-- the format, and the declarations and the lines, in order
 pub record GraphValue : Type 0 where
+  pub format : Format
   pub decls : List Decl
   pub lines : List Line
+
+-- the same graph in format 2
+abbrev pub upgraded : GraphValue → GraphValue
+upgraded g = record { format = Two; decls = g.decls; lines = g.lines }
 
 -- the name that a declaration gives
 abbrev pub decl_name : Decl → List ℕ
@@ -120,7 +127,7 @@ ends_user u _ = false
 
 -- what a line counts for as an arrival at this phase
 abbrev pub arrival_weight : ℕ → Verb → ℕ
-arrival_weight p (Arrive q value) = cond (q == p) 1 0
+arrival_weight p (Arrive q value weight) = cond (q == p) weight 0
 arrival_weight p _ = 0
 
 -- what the arrivals at a phase count for together

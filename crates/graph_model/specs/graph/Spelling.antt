@@ -3,6 +3,8 @@ use Rattle.std.specs.Prelude.{ℕ, List, [], ◌∷◌, ◌++◌, map, Option, S
 use Rattle.std.specs.Option.{option_map_or}
 use Rattle.std.specs.List.{join_with_byte}
 use Rattle.index_spaces.specs.declared.Op.{Op}
+use Rattle.graph_model.specs.declared.graph.format.Format.{Format}
+use Rattle.graph_model.specs.declared.graph.format.Format.TheVariants.{One, Two}
 use Rattle.index_spaces.specs.declared.Op.TheVariants.{Sum, Min, Max}
 use Rattle.graph_model.specs.declared.graph.decl.Decl.{Decl}
 use Rattle.graph_model.specs.declared.graph.decl.Decl.TheVariants.{Space, Inst, Lock, Barrier}
@@ -63,6 +65,8 @@ place_word g places.Lock n = lock_name g n
 place_word g places.Barrier n = barrier_name g n
 place_word g places.Space n = space_name g n
 place_word g places.Value n = decimal n
+place_word g places.Times n = codes "times"
+place_word g places.Weight n = decimal n
 place_word g (places.Column mode over) n = column_name g n
 
 abbrev pub placed_words : GraphValue → List Placed → List (List ℕ)
@@ -82,18 +86,22 @@ abbrev pub line_words : GraphValue → Line → List (List ℕ)
 line_words g l = l.name ∷ codes "=" ∷ verb_words g l.verb ++ on_words g l.on
 
 -- the first line of a graph's text
-abbrev pub header : List ℕ
-header = spelled (codes "realm" ∷ codes "1" ∷ [])
+abbrev pub format_word : Format → List ℕ
+format_word One = codes "1"
+format_word Two = codes "2"
+
+abbrev pub header : Format → List ℕ
+header f = spelled (codes "realm" ∷ format_word f ∷ [])
 
 -- the text of declarations and lines that stand after others
-abbrev pub decls_text : List Decl → List Decl → List ℕ
-decls_text before [] = []
-decls_text before (d ∷ ds) = spelled (decl_words (record { decls = before; lines = [] }) d) ++ decls_text (before ++ d ∷ []) ds
+abbrev pub decls_text : Format → List Decl → List Decl → List ℕ
+decls_text f before [] = []
+decls_text f before (d ∷ ds) = spelled (decl_words (record { format = f; decls = before; lines = [] }) d) ++ decls_text f (before ++ d ∷ []) ds
 
-abbrev pub lines_text : List Decl → List Line → List Line → List ℕ
-lines_text decls before [] = []
-lines_text decls before (l ∷ ls) = spelled (line_words (record { decls = decls; lines = before }) l) ++ lines_text decls (before ++ l ∷ []) ls
+abbrev pub lines_text : Format → List Decl → List Line → List Line → List ℕ
+lines_text f decls before [] = []
+lines_text f decls before (l ∷ ls) = spelled (line_words (record { format = f; decls = decls; lines = before }) l) ++ lines_text f decls (before ++ l ∷ []) ls
 
 -- the text of a graph up to its closing line
 abbrev pub head : GraphValue → List ℕ
-head g = header ++ (decls_text [] g.decls ++ lines_text g.decls [] g.lines)
+head g = header g.format ++ (decls_text g.format [] g.decls ++ lines_text g.format g.decls [] g.lines)

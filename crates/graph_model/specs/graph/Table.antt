@@ -3,14 +3,16 @@ use Rattle.std.specs.Prelude.{ℕ, ◌+◌, ◌==◌, nat_le, Bool, true, false,
 use Rattle.std.specs.Option.{option_map_or}
 use Rattle.std.specs.List.{list_any}
 use Rattle.index_spaces.specs.declared.Op.{Op}
+use Rattle.graph_model.specs.declared.graph.format.Format.{Format}
+use Rattle.graph_model.specs.declared.graph.format.Format.TheVariants.{One, Two}
 use Rattle.index_spaces.specs.declared.Op.TheVariants as op
 use Rattle.graph_model.specs.declared.graph.table.TheConstants.{MOST_PLACES}
 use Rattle.graph_model.specs.declared.graph.table.Kind.{Kind}
 use Rattle.graph_model.specs.declared.graph.table.Kind.TheVariants as kinds
 use Rattle.graph_model.specs.declared.graph.table.Place.{Place}
-use Rattle.graph_model.specs.declared.graph.table.Place.TheVariants.{User, Phase, Acquire, Lock, Barrier, Space, Value, Column}
+use Rattle.graph_model.specs.declared.graph.table.Place.TheVariants.{User, Phase, Acquire, Lock, Barrier, Space, Value, Times, Weight, Column}
 use Rattle.graph_model.specs.declared.graph.table.Parts.{Parts}
-use Rattle.graph_model.specs.declared.graph.verb.Mode.TheVariants.{Read, Write, Sum}
+use Rattle.graph_model.specs.declared.graph.verb.Mode.TheVariants.{Read, Write, Sum, Least, Most}
 use Rattle.graph_model.specs.declared.graph.verb.Verb.{Verb}
 use Rattle.graph_model.specs.declared.graph.verb.Verb.TheVariants as verbs
 use Rattle.graph_model.specs.declared.graph.table.Kernel.{Kernel}
@@ -21,12 +23,17 @@ pub record Row : Type 0 where
   pub words : List (List ℕ)
   pub places : List Place
   pub takes_on : Bool
+  pub since : Format
 
 abbrev pub with_on : List (List ℕ) → List Place → Row
-with_on words places = record { words = words; places = places; takes_on = true }
+with_on words places = record { words = words; places = places; takes_on = true; since = One }
 
 abbrev pub without_on : List (List ℕ) → List Place → Row
-without_on words places = record { words = words; places = places; takes_on = false }
+without_on words places = record { words = words; places = places; takes_on = false; since = One }
+
+-- the same in format 2 alone
+abbrev pub since_two : Row → Row
+since_two row = record { words = row.words; places = row.places; takes_on = row.takes_on; since = Two }
 
 -- the table
 abbrev pub kind_row : Kind → Row
@@ -35,13 +42,14 @@ kind_row kinds.Trigger = with_on (codes "trigger" ∷ []) (User ∷ [])
 kind_row kinds.Cancel = with_on (codes "cancel" ∷ []) (User ∷ [])
 kind_row kinds.Phase = without_on (codes "phase" ∷ []) (Barrier ∷ [])
 kind_row kinds.Arrive = with_on (codes "arrive" ∷ []) (Phase ∷ Value ∷ [])
+kind_row kinds.ArriveTimes = since_two (with_on (codes "arrive" ∷ []) (Phase ∷ Value ∷ Times ∷ Weight ∷ []))
 kind_row kinds.Acquire = with_on (codes "acquire" ∷ []) (Lock ∷ [])
 kind_row kinds.Release = with_on (codes "release" ∷ []) (Acquire ∷ [])
 kind_row kinds.Fill = with_on (codes "fill" ∷ []) (Column Write 1 ∷ Space ∷ Value ∷ [])
 kind_row kinds.Copy = with_on (codes "copy" ∷ []) (Column Read 2 ∷ Column Write 2 ∷ Space ∷ [])
 kind_row kinds.ReduceSum = with_on (codes "reduce" ∷ codes "sum" ∷ []) (Column Read 2 ∷ Column Sum 2 ∷ Space ∷ [])
-kind_row kinds.ReduceMin = with_on (codes "reduce" ∷ codes "min" ∷ []) (Column Read 2 ∷ Column Write 2 ∷ Space ∷ [])
-kind_row kinds.ReduceMax = with_on (codes "reduce" ∷ codes "max" ∷ []) (Column Read 2 ∷ Column Write 2 ∷ Space ∷ [])
+kind_row kinds.ReduceMin = with_on (codes "reduce" ∷ codes "min" ∷ []) (Column Read 2 ∷ Column Least 2 ∷ Space ∷ [])
+kind_row kinds.ReduceMax = with_on (codes "reduce" ∷ codes "max" ∷ []) (Column Read 2 ∷ Column Most 2 ∷ Space ∷ [])
 kind_row kinds.Iota = with_on (codes "task" ∷ codes "iota" ∷ []) (Column Write 1 ∷ Space ∷ Value ∷ [])
 kind_row kinds.Axpy = with_on (codes "task" ∷ codes "axpy" ∷ []) (Column Read 2 ∷ Column Sum 2 ∷ Space ∷ Value ∷ [])
 kind_row kinds.Stencil = with_on (codes "task" ∷ codes "stencil" ∷ []) (Column Read 2 ∷ Column Write 3 ∷ Space ∷ Space ∷ [])
@@ -59,6 +67,9 @@ kind_places kind = (kind_row kind).places
 
 abbrev pub kind_takes_on : Kind → Bool
 kind_takes_on kind = (kind_row kind).takes_on
+
+abbrev pub kind_since : Kind → Format
+kind_since kind = (kind_row kind).since
 
 -- what the code of all kinds rests on: columns stand before what else there is, each is over a space, and each space is that of a column
 abbrev pub is_column : Place → Bool
@@ -108,6 +119,11 @@ reduce_kind op.Sum = kinds.ReduceSum
 reduce_kind op.Min = kinds.ReduceMin
 reduce_kind op.Max = kinds.ReduceMax
 
+-- an arrival of weight 1 is spelled without its weight
+abbrev pub arrive_kind : Bool → Kind
+arrive_kind true = kinds.Arrive
+arrive_kind false = kinds.ArriveTimes
+
 abbrev pub verb_kind : Verb → Option Kind
 verb_kind verbs.User = Some kinds.User
 verb_kind (verbs.Trigger user) = Some kinds.Trigger
@@ -115,7 +131,7 @@ verb_kind (verbs.Cancel user) = Some kinds.Cancel
 verb_kind (verbs.Merge events) = None
 verb_kind (verbs.MergeIgnore events) = None
 verb_kind (verbs.Phase barrier) = Some kinds.Phase
-verb_kind (verbs.Arrive phase value) = Some kinds.Arrive
+verb_kind (verbs.Arrive phase value weight) = Some (arrive_kind (weight == 1))
 verb_kind (verbs.Acquire lock) = Some kinds.Acquire
 verb_kind (verbs.Release acquire) = Some kinds.Release
 verb_kind (verbs.Fill target space value) = Some kinds.Fill
@@ -133,6 +149,10 @@ kernel_parts (Dot x y z s t) = x ∷ y ∷ z ∷ s ∷ t ∷ []
 kernel_parts (Expect x s low high) = x ∷ s ∷ low ∷ high ∷ []
 kernel_parts (Gather x y z s t) = x ∷ y ∷ z ∷ s ∷ t ∷ []
 
+abbrev pub arrive_parts : Bool → ℕ → ℕ → ℕ → List ℕ
+arrive_parts true phase value weight = phase ∷ value ∷ []
+arrive_parts false phase value weight = phase ∷ value ∷ 0 ∷ weight ∷ []
+
 abbrev pub verb_parts : Verb → List ℕ
 verb_parts verbs.User = []
 verb_parts (verbs.Trigger user) = user ∷ []
@@ -140,7 +160,7 @@ verb_parts (verbs.Cancel user) = user ∷ []
 verb_parts (verbs.Merge events) = []
 verb_parts (verbs.MergeIgnore events) = []
 verb_parts (verbs.Phase barrier) = barrier ∷ []
-verb_parts (verbs.Arrive phase value) = phase ∷ value ∷ []
+verb_parts (verbs.Arrive phase value weight) = arrive_parts (weight == 1) phase value weight
 verb_parts (verbs.Acquire lock) = lock ∷ []
 verb_parts (verbs.Release acquire) = acquire ∷ []
 verb_parts (verbs.Fill target space value) = target ∷ space ∷ value ∷ []
@@ -154,7 +174,8 @@ verb_of kinds.User n = verbs.User
 verb_of kinds.Trigger n = verbs.Trigger (slice_index n 0)
 verb_of kinds.Cancel n = verbs.Cancel (slice_index n 0)
 verb_of kinds.Phase n = verbs.Phase (slice_index n 0)
-verb_of kinds.Arrive n = verbs.Arrive (slice_index n 0) (slice_index n 1)
+verb_of kinds.Arrive n = verbs.Arrive (slice_index n 0) (slice_index n 1) 1
+verb_of kinds.ArriveTimes n = verbs.Arrive (slice_index n 0) (slice_index n 1) (slice_index n 3)
 verb_of kinds.Acquire n = verbs.Acquire (slice_index n 0)
 verb_of kinds.Release n = verbs.Release (slice_index n 0)
 verb_of kinds.Fill n = verbs.Fill (slice_index n 0) (slice_index n 1) (slice_index n 2)

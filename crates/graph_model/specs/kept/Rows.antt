@@ -75,7 +75,7 @@ mark_after m i verb = record { arrivals = m.arrivals + arrival_weight i verb; en
 abbrev pub NamesBelow : ℕ → Verb → Type 0
 NamesBelow n (Trigger user) = user < n
 NamesBelow n (Cancel user) = user < n
-NamesBelow n (Arrive phase value) = phase < n
+NamesBelow n (Arrive phase value weight) = phase < n
 NamesBelow n (Release acquire) = acquire < n
 NamesBelow n _ = Unit {0}
 

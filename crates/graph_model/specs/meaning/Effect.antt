@@ -15,7 +15,7 @@ use Rattle.graph_model.specs.declared.graph.verb.Access.{Access}
 use Rattle.graph_model.specs.declared.graph.verb.Mode.{Mode}
 use Rattle.graph_model.specs.declared.graph.verb.Mode.TheVariants as mode
 use Rattle.graph_model.specs.graph.Graph.{GraphValue, verb_at, space_at}
-use Rattle.graph_model.specs.graph.Access.{is_read, is_sum, kernel_accesses}
+use Rattle.graph_model.specs.graph.Access.{is_read, is_reduction, kernel_accesses}
 
 -- the cells of all columns: by the number of the column and the point
 abbrev pub Cells : Type 0
@@ -29,6 +29,8 @@ zero_cells column point = 0
 pub data Change : Type 0 where
   Set : ℕ → Change
   Add : ℕ → Change
+  Least : ℕ → Change
+  Most : ℕ → Change
 
 -- a change of the cell of a column at a point
 pub record CellChange : Type 0 where
@@ -43,6 +45,8 @@ wrapped n = n % 2 ^ 64
 abbrev pub cell_after : Change → ℕ → ℕ
 cell_after (Set v) cell = v
 cell_after (Add v) cell = wrapped (cell + v)
+cell_after (Least v) cell = min cell v
+cell_after (Most v) cell = max cell v
 
 -- the cell after a change, where the change is of this cell
 abbrev pub cell_after_if : Bool → Change → ℕ → ℕ
@@ -77,14 +81,14 @@ around zero = 0 ∷ 1 ∷ []
 around (suc p) = p ∷ suc p ∷ (suc p + 1) ∷ []
 
 -- what a reduction does with a value to its target's cell
-abbrev pub reduced : Op → ℕ → ℕ → Change
-reduced op.Sum cell value = Add value
-reduced op.Min cell value = Set (min cell value)
-reduced op.Max cell value = Set (max cell value)
+abbrev pub reduced : Op → ℕ → Change
+reduced op.Sum value = Add value
+reduced op.Min value = Least value
+reduced op.Max value = Most value
 
--- whether an access lets the cell of a column at a point be read: it is no sum, and the point lies in its space
+-- whether an access lets the cell of a column at a point be read: it is no reduction, and the point lies in its space
 abbrev pub may_read : (ℕ → List (ℕ × ℕ)) → ℕ → ℕ → Access → Bool
-may_read space column point a = not (is_sum a.mode) && ((a.column == column) && has_point (space a.space) point)
+may_read space column point a = not (is_reduction a.mode) && ((a.column == column) && has_point (space a.space) point)
 
 -- what a line with these accesses sees of the cells: those that it may read, and 0 elsewhere
 abbrev pub seen : (ℕ → List (ℕ × ℕ)) → List Access → Cells → Cells
@@ -101,14 +105,16 @@ kernel_value space cells (Dot x y z s t) q = wrapped_sum (λ p. cells x p * cell
 kernel_value space cells (Expect x s low high) p = 0
 kernel_value space cells (Gather x y z s t) p = cells y (point_at (space t) (cells x p % space_size (space t)))
 
--- the column of a kernel that is written or into which is summed
+-- the column of a kernel that is written or into which it reduces
 abbrev pub target : List Access → Option Access
 target [] = None
 target (a ∷ rest) = cond (is_read a.mode) (target rest) (Some a)
 
--- a value is written or added
+-- a value is written or reduced into a cell
 abbrev pub change_by : Mode → ℕ → Change
 change_by mode.Sum value = Add value
+change_by mode.Least value = Least value
+change_by mode.Most value = Most value
 change_by _ value = Set value
 
 -- the values at the points of an access
@@ -136,7 +142,7 @@ kernel_verdict space cells k = verdict_on space (seen space (kernel_accesses k) 
 abbrev pub verb_changes : (ℕ → List (ℕ × ℕ)) → Cells → Verb → List CellChange
 verb_changes space cells (Fill target s value) = changes_at (λ p. Set value) target (points (space s))
 verb_changes space cells (Copy source target s) = changes_at (λ p. Set (cells source p)) target (points (space s))
-verb_changes space cells (Reduce op source target s) = changes_at (λ p. reduced op (cells target p) (cells source p)) target (points (space s))
+verb_changes space cells (Reduce op source target s) = changes_at (λ p. reduced op (cells source p)) target (points (space s))
 verb_changes space cells (Task kernel) = kernel_changes space cells kernel
 verb_changes space cells _ = []
 

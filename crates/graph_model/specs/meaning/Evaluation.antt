@@ -144,7 +144,7 @@ combined op.Max a b = max a b
 
 -- the value of a line that is an arrival at this phase
 abbrev pub arrival_value : ℕ → Verb → Option ℕ
-arrival_value p (Arrive q value) = cond (q == p) (Some value) None
+arrival_value p (Arrive q value weight) = cond (q == p) (Some value) None
 arrival_value p _ = None
 
 -- a first value reduced with others, one after another

@@ -6,7 +6,7 @@ use Rattle.index_spaces.specs.Column.{ColumnValue, cell_of}
 use Rattle.index_spaces.specs.Run.{WritesPoints}
 use Rattle.index_spaces.specs.Held.{held_at, HoldsOtherwise}
 use Rattle.graph_model.specs.declared.graph.verb.Access.{Access}
-use Rattle.graph_model.specs.graph.Access.{is_sum}
+use Rattle.graph_model.specs.graph.Access.{is_reduction}
 use Rattle.graph_model.specs.graph.Graph.{GraphValue}
 use Rattle.graph_model.specs.meaning.Effect.{Cells, Change, cell_after, CellChange, cells_after, changes_at, seen, verb_changes}
 use Rattle.graph_model.specs.declared.graph.verb.Verb.{Verb}
@@ -34,9 +34,9 @@ HoldsOver held c s = IsSomeAnd (held_at held c) (λ (x : ColumnValue). IsWithin 
 abbrev pub CellsByPoint : Type 0
 CellsByPoint = (held : List (ℕ × ColumnValue)) (cells : Cells) (c : ℕ) (x : ColumnValue) (p : ℕ) → HasCells held cells → held_at held c ≡ Some x → IsSpace x.space → IsTrue (has_point x.space p) → cell_of x p ≡ cells c p
 
--- the cell of an access that is no sum, at a point of its space, is seen
+-- the cell of an access that is no reduction, at a point of its space, is seen
 abbrev pub SeenCells : Type 0
-SeenCells = (space : ℕ → List (ℕ × ℕ)) (accesses : List Access) (a : Access) (cells : Cells) (p : ℕ) → Contains accesses a → is_sum a.mode ≡ false → IsTrue (has_point (space a.space) p) → seen space accesses cells a.column p ≡ cells a.column p
+SeenCells = (space : ℕ → List (ℕ × ℕ)) (accesses : List Access) (a : Access) (cells : Cells) (p : ℕ) → Contains accesses a → is_reduction a.mode ≡ false → IsTrue (has_point (space a.space) p) → seen space accesses cells a.column p ≡ cells a.column p
 
 -- a write of one column that is held, at the points of a space, is a change at each of the points, where it writes what the change leaves; the other columns are as they were
 abbrev pub ChangesByPoint : Type 0

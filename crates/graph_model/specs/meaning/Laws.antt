@@ -5,14 +5,15 @@ use Rattle.graph_model.specs.declared.meaning.outcome.End.TheVariants.{Cancelled
 use Rattle.graph_model.specs.declared.graph.verb.Access.{Access}
 use Rattle.graph_model.specs.declared.graph.verb.Edge.{Edge}
 use Rattle.graph_model.specs.declared.graph.verb.Mode.{Mode}
-use Rattle.graph_model.specs.declared.graph.verb.Mode.TheVariants.{Read, Write, Sum}
-use Rattle.graph_model.specs.graph.Graph.{GraphValue, never_comes, space_at}
+use Rattle.graph_model.specs.declared.graph.verb.Mode.TheVariants.{Read, Write, Sum, Least, Most}
+use Rattle.graph_model.specs.graph.Graph.{GraphValue, upgraded, never_comes, space_at}
 use Rattle.graph_model.specs.graph.Edges.{edges}
 use Rattle.graph_model.specs.meaning.Path.{HasPath, Reached}
-use Rattle.graph_model.specs.graph.Access.{accesses}
+use Rattle.graph_model.specs.graph.Access.{accesses, is_reduction}
 use Rattle.graph_model.specs.meaning.Rules.{NoCycleAt, Everywhere, Accepted}
-use Rattle.graph_model.specs.meaning.Effect.{Cells, Change, Set, Add, CellChange, cells_after, effect}
-use Rattle.graph_model.specs.meaning.Evaluation.{Step, is_ended, is_cancelled, step_by, evaluation, order, eval_end, eval_changes, cells_of_lines, Unbroken}
+use Rattle.graph_model.specs.meaning.Effect as change
+use Rattle.graph_model.specs.meaning.Effect.{Cells, Change, Add, CellChange, cells_after, effect}
+use Rattle.graph_model.specs.meaning.Evaluation.{Step, outcome, is_ended, is_cancelled, step_by, evaluation, order, eval_end, eval_changes, cells_of_lines, Unbroken}
 use Rattle.graph_model.specs.graph.Fits.{IsGraph}
 use Rattle.graph_model.specs.meaning.Need.{IsNeed}
 use Rattle.graph_model.specs.meaning.Trace.{ListsEnded, IsLawful, SectionsApart}
@@ -57,8 +58,10 @@ OrderListsEnded = (g : GraphValue) → ListsEnded g (order g)
 abbrev pub FitsMode : Mode → Change → Type 0
 FitsMode Read c = ⊥
 FitsMode Write c = Unit {0}
-FitsMode Sum (Set v) = ⊥
 FitsMode Sum (Add v) = Unit {0}
+FitsMode Least (change.Least v) = Unit {0}
+FitsMode Most (change.Most v) = Unit {0}
+FitsMode m c = ⊥
 
 -- a change within an access of a list
 pub record IsWithinAccess (space : ℕ → List (ℕ × ℕ)) (accesses : List Access) (x : CellChange) : Type 0 where
@@ -85,9 +88,9 @@ pub record IsReadyAmong (g : GraphValue) (i : ℕ) (ended : ℕ → Bool) (put :
 abbrev pub cells_put : GraphValue → (ℕ → ℕ → Bool) → Cells
 cells_put g put column point = cells_of_lines g (put column) column point
 
--- two states of the cells are the same where line i reads or writes, other than by sums
+-- two states of the cells are the same where line i reads or writes, other than by reductions
 abbrev pub AgreeWhereUsed : GraphValue → ℕ → Cells → Cells → Type 0
-AgreeWhereUsed g i cells others = (a : Access) → Contains (accesses g i) a → a.mode ≢ Sum → (p : ℕ) → IsTrue (has_point (space_at g a.space) p) → cells a.column p ≡ others a.column p
+AgreeWhereUsed g i cells others = (a : Access) → Contains (accesses g i) a → is_reduction a.mode ≡ false → (p : ℕ) → IsTrue (has_point (space_at g a.space) p) → cells a.column p ≡ others a.column p
 
 -- what line i does on these cells, cancelled where its sources' ends cancel it in the evaluation
 abbrev pub step_on : GraphValue → ℕ → Cells → Step
@@ -115,3 +118,7 @@ OneNeed = (g : GraphValue) (n m : ℕ) → IsNeed g n → IsNeed g m → n ≡ m
 -- in a lawful trace of an accepted graph the sections of one reservation never overlap
 abbrev pub SectionsNeverOverlap : Type 0
 SectionsNeverOverlap = (g : GraphValue) (trace : List ℕ) → IsGraph g → Accepted g → IsLawful g trace → SectionsApart g trace
+
+-- where a graph is accepted, the same graph in format 2 is too, with the same need and the same outcome
+abbrev pub UpgradeKeepsMeaning : Type 0
+UpgradeKeepsMeaning = (g : GraphValue) → (Accepted g → Accepted (upgraded g)) × ((n : ℕ) → IsNeed g n → IsNeed (upgraded g) n) × ((trace : List ℕ) → outcome (upgraded g) trace ≡ outcome g trace)

@@ -3,7 +3,7 @@ use Rattle.std.specs.Prelude.{◌≡◌, ◌≢◌, ℕ, ◌<◌, ◌⊎◌, Boo
 use Rattle.graph_model.specs.declared.graph.verb.Access.{Access}
 use Rattle.graph_model.specs.declared.graph.verb.Line.{Line}
 use Rattle.graph_model.specs.declared.graph.verb.Mode.{Mode}
-use Rattle.graph_model.specs.declared.graph.verb.Mode.TheVariants.{Sum}
+use Rattle.graph_model.specs.declared.graph.verb.Mode.TheVariants.{Sum, Least, Most}
 use Rattle.graph_model.specs.graph.Graph.{GraphValue, line_passes, is_phase, is_acquire_of, is_release_of, is_merge_ignore, never_comes}
 use Rattle.graph_model.specs.meaning.Path.{HasPath}
 use Rattle.graph_model.specs.graph.Access.{accesses, AccessesConflict, Conflict}
@@ -27,11 +27,13 @@ pub record Section (g : GraphValue) (l q i : ℕ) : Type 0 where
 -- two uses whose changes may come in either order
 abbrev pub modes_commute : Mode → Mode → Bool
 modes_commute Sum Sum = true
+modes_commute Least Least = true
+modes_commute Most Most = true
 modes_commute _ _ = false
 
--- two lines that conflict by sums alone, each in a section of an acquire of its own of one reservation
+-- two lines that conflict by reductions of one kind alone, each in a section of an acquire of its own of one reservation
 pub record Exempt (g : GraphValue) (i j : ℕ) : Type 0 where
-  pub sums : (a b : Access) → Contains (accesses g i) a → Contains (accesses g j) b → AccessesConflict g a b → IsTrue (modes_commute a.mode b.mode)
+  pub commute : (a b : Access) → Contains (accesses g i) a → Contains (accesses g j) b → AccessesConflict g a b → IsTrue (modes_commute a.mode b.mode)
   pub lock : ℕ
   pub one : ℕ
   pub other : ℕ

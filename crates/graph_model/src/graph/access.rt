@@ -2,10 +2,11 @@
 
 ghost use Rattle.std.specs.Prelude.{◌≡◌, true, slice_get};
 ghost use Rattle.graph_model.specs.graph.Table.{is_row, parts_from};
-ghost use Rattle.graph_model.specs.graph.Access.{access_in, accesses_of, verb_accesses, kept_accesses, present};
+ghost use Rattle.graph_model.specs.graph.Access.{access_in, in_format, or_write, mode_in, accesses_of, verb_accesses, kept_accesses, present};
 
+use crate::graph::format::Format;
 use crate::graph::table::{Parts, Place};
-use crate::graph::verb::{Access, Verb};
+use crate::graph::verb::{Access, Mode, Verb};
 
 /// Up to three accesses, in order.
 pub(crate) type Accesses = [Option<Access>; 3];
@@ -50,5 +51,38 @@ fn access_in(place: Place, parts: &Parts, k: usize) -> Option<Access>
             mode,
         }),
         _ => None,
+    }
+}
+
+/// A reduction by the least or the greatest value is a write to format 1.
+fn or_write(format: Format, mode: Mode) -> Mode
+    ensures { result ≡ or_write format mode }
+{
+    match format {
+        Format::One => Mode::Write,
+        Format::Two => mode,
+    }
+}
+
+fn mode_in(format: Format, mode: Mode) -> Mode
+    ensures { result ≡ mode_in format mode }
+{
+    match mode {
+        Mode::Read => Mode::Read,
+        Mode::Write => Mode::Write,
+        Mode::Sum => Mode::Sum,
+        Mode::Least => or_write(format, Mode::Least),
+        Mode::Most => or_write(format, Mode::Most),
+    }
+}
+
+/// An access as a format takes it.
+pub(crate) fn in_format(format: Format, access: Access) -> Access
+    ensures { result ≡ in_format format access }
+{
+    Access {
+        column: access.column,
+        space: access.space,
+        mode: mode_in(format, access.mode),
     }
 }

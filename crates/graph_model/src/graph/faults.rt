@@ -4,11 +4,12 @@ ghost use Rattle.std.specs.Prelude.{◌≡◌, map, nat_eq, nat_le};
 ghost use Rattle.std.specs.List.{list_any};
 ghost use Rattle.graph_model.specs.declared.graph.verb.Access.{Access};
 ghost use Rattle.graph_model.specs.graph.Access.{present, columns_alike};
-ghost use Rattle.graph_model.specs.graph.Fits.{repeats, decl_repeats, decl_misnumbered, is_large, named_lines, on_lines, takes_no_on, verb_misnumbered, merges_many};
+ghost use Rattle.graph_model.specs.graph.Fits.{repeats, most_weight, decl_repeats, decl_misnumbered, is_large, named_lines, on_lines, takes_no_on, verb_misnumbered, merges_many};
 
 use super::Graph;
 use crate::graph::access::{Accesses, verb_accesses};
 use crate::graph::decl::Decl;
+use crate::graph::format::Format;
 use crate::graph::limits::{MAX_COUNT, MAX_EVENTS};
 use crate::graph::name::Name;
 use crate::graph::repeats::{names_repeat, numbers_repeat};
@@ -19,13 +20,13 @@ use index_spaces::laws::points_are_listed;
 use index_spaces::limits::{MAX_INTERVALS, MAX_POINTS};
 
 impl Graph {
-    ghost use Rattle.std.specs.Prelude.{◌≡◌, false};
+    ghost use Rattle.std.specs.Prelude.{◌≡◌, false, IsTrue};
     ghost use Rattle.std.specs.Option.{option_map_or};
     ghost use Rattle.std.specs.List.{list_any};
     ghost use Rattle.graph_model.specs.graph.Graph.{line_passes, is_user, is_phase, is_acquire};
     ghost use Rattle.graph_model.specs.graph.Access.{verb_accesses, present};
     ghost use Rattle.graph_model.specs.kept.Counts.{counts_of};
-    ghost use Rattle.graph_model.specs.graph.Fits.{decl_fault, line_fault, with_line, is_used, decl_unknown, verb_repeats, verb_unknown, access_unknown, line_unknown, verb_unlike, access_outside, arrives_late};
+    ghost use Rattle.graph_model.specs.graph.Fits.{decl_fault, line_fault, with_line, is_used, decl_unknown, verb_repeats, verb_unknown, access_unknown, line_unknown, verb_unlike, access_outside, phase_count, arrives_late};
 
     /// The first reason that refuses a declaration after this graph. `None` exactly where it fits.
     pub fn decl_fault(&self, decl: &Decl) -> Option<Why>
@@ -75,7 +76,7 @@ impl Graph {
         if self.verb_unlike(&line.verb) || line.on.is_some() && takes_no_on(&line.verb) {
             return Some(Why::Kind);
         }
-        if verb_misnumbered(&line.verb) {
+        if verb_misnumbered(self.format, &line.verb) {
             return Some(Why::Number);
         }
         if self.reaches_outside(accesses) {
@@ -215,13 +216,27 @@ impl Graph {
         !self.space(access.space).is_within(column)
     }
 
-    /// Whether it arrives at a phase that has as many arrivals as it takes.
+    /// How many arrivals complete a phase.
+    fn phase_count(&self, p: u32) -> u32
+        requires { IsTrue (line_passes is_phase self.now p) }
+        ensures { result ≡ phase_count self.now p }
+    {
+        match &self.line(p).verb {
+            Verb::Phase { barrier } => self.barrier(*barrier).count,
+            _ => unreachable!(),
+        }
+    }
+
+    /// Whether with it a phase has more arrivals than it takes.
     fn arrives_late(&self, verb: &Verb) -> bool
         requires { verb_unlike self.now verb.now ≡ false }
         ensures { result ≡ arrives_late self.now verb.now }
     {
         match verb {
-            Verb::Arrive { phase, .. } => !self.never_comes(*phase),
+            Verb::Arrive { phase, weight, .. } => {
+                let arrived = u64::from(self.mark(*phase).arrivals) + u64::from(*weight);
+                arrived > u64::from(self.phase_count(*phase))
+            }
             _ => false,
         }
     }
@@ -315,12 +330,23 @@ fn takes_no_on(verb: &Verb) -> bool
     }
 }
 
-fn verb_misnumbered(verb: &Verb) -> bool
-    ensures { result ≡ verb_misnumbered verb.now }
+/// The most that one arrival may count for.
+fn most_weight(format: Format) -> u32
+    ensures { result ≡ most_weight format }
+{
+    match format {
+        Format::One => 1,
+        Format::Two => MAX_COUNT,
+    }
+}
+
+fn verb_misnumbered(format: Format, verb: &Verb) -> bool
+    ensures { result ≡ verb_misnumbered format verb.now }
 {
     match verb {
         Verb::Merge { events } => events.len() < 1,
         Verb::MergeIgnore { events } => events.len() < 1,
+        Verb::Arrive { weight, .. } => *weight < 1 || *weight > most_weight(format),
         _ => false,
     }
 }

@@ -120,6 +120,8 @@ impl Graph {
             Place::Barrier => self.barrier_size(parts.number(n)),
             Place::Space => self.space_size(parts.number(n)),
             Place::Value => number_size(parts.value(n)),
+            Place::Times => word_size(b"times"),
+            Place::Weight => number_size(u64::from(parts.number(n))),
             Place::Column(..) => self.column_size(parts.number(n)),
         }
     }

@@ -2,10 +2,12 @@
 
 ghost use Rattle.std.specs.Prelude.{◌≡◌, slice_index, true, false};
 ghost use Rattle.basics.specs.Words.{contents};
-ghost use Rattle.graph_model.specs.graph.Table.{kind_words, kind_places, kind_takes_on, is_row};
+ghost use Rattle.graph_model.specs.graph.Table.{kind_words, kind_places, kind_takes_on, kind_since, is_row};
+ghost use Rattle.graph_model.specs.declared.graph.format.Format.TheVariants.{One, Two};
 
-use self::Place::{Acquire, Barrier, Column, Lock, Phase, Space, User, Value};
-use crate::graph::verb::Mode::{Read, Sum, Write};
+use self::Place::{Acquire, Barrier, Column, Lock, Phase, Space, Times, User, Value, Weight};
+use crate::graph::format::Format;
+use crate::graph::verb::Mode::{Least, Most, Read, Sum, Write};
 use crate::graph::verb::{Mode, Verb};
 use index_spaces::Op;
 
@@ -26,6 +28,10 @@ pub enum Place {
     Space,
     /// A number.
     Value,
+    /// The word `times`.
+    Times,
+    /// How many arrivals one counts for, where it counts for more than one.
+    Weight,
     /// A column, how it is used, and the number of the place that has the space over which it is.
     Column(Mode, usize),
 }
@@ -91,6 +97,7 @@ pub enum Kind {
     Cancel,
     Phase,
     Arrive,
+    ArriveTimes,
     Acquire,
     Release,
     Fill,
@@ -109,12 +116,13 @@ pub enum Kind {
 }
 
 /// All kinds.
-pub const KINDS: [Kind; 20] = [
+pub const KINDS: [Kind; 21] = [
     Kind::User,
     Kind::Trigger,
     Kind::Cancel,
     Kind::Phase,
     Kind::Arrive,
+    Kind::ArriveTimes,
     Kind::Acquire,
     Kind::Release,
     Kind::Fill,
@@ -141,6 +149,8 @@ pub struct Row {
     pub places: &'static [Place],
     /// Whether the words `on EVENT` may follow.
     pub takes_on: bool,
+    /// The format that brought it. It is in each later one too.
+    pub since: Format,
 }
 
 /// The most places of a kind.
@@ -157,11 +167,13 @@ fn with_on(words: &'static [&'static [u8]], places: &'static [Place]) -> Row
     ensures words { contents result.words.now ≡ contents words.now }
     ensures places { result.places.now ≡ places.now }
     ensures takes_on { result.takes_on ≡ true }
+    ensures since { result.since ≡ One }
 {
     Row {
         words,
         places,
         takes_on: true,
+        since: Format::One,
     }
 }
 
@@ -169,11 +181,25 @@ fn without_on(words: &'static [&'static [u8]], places: &'static [Place]) -> Row
     ensures words { contents result.words.now ≡ contents words.now }
     ensures places { result.places.now ≡ places.now }
     ensures takes_on { result.takes_on ≡ false }
+    ensures since { result.since ≡ One }
 {
     Row {
         words,
         places,
         takes_on: false,
+        since: Format::One,
+    }
+}
+
+fn since_two(row: Row) -> Row
+    ensures words { contents result.words.now ≡ contents row.words.now }
+    ensures places { result.places.now ≡ row.places.now }
+    ensures takes_on { result.takes_on ≡ row.takes_on }
+    ensures since { result.since ≡ Two }
+{
+    Row {
+        since: Format::Two,
+        ..row
     }
 }
 
@@ -185,6 +211,7 @@ impl Kind {
         ensures words { contents result.words.now ≡ kind_words self }
         ensures places { result.places.now ≡ kind_places self }
         ensures takes_on { result.takes_on ≡ kind_takes_on self }
+        ensures since { result.since ≡ kind_since self }
         ensures is_row { is_row result.places.now ≡ true }
     {
         match self {
@@ -193,6 +220,7 @@ impl Kind {
             Kind::Cancel => with_on(&[b"cancel"], &[User]),
             Kind::Phase => without_on(&[b"phase"], &[Barrier]),
             Kind::Arrive => with_on(&[b"arrive"], &[Phase, Value]),
+            Kind::ArriveTimes => since_two(with_on(&[b"arrive"], &[Phase, Value, Times, Weight])),
             Kind::Acquire => with_on(&[b"acquire"], &[Lock]),
             Kind::Release => with_on(&[b"release"], &[Acquire]),
             Kind::Fill => with_on(&[b"fill"], &[Column(Write, 1), Space, Value]),
@@ -203,11 +231,11 @@ impl Kind {
             ),
             Kind::ReduceMin => with_on(
                 &[b"reduce", b"min"],
-                &[Column(Read, 2), Column(Write, 2), Space],
+                &[Column(Read, 2), Column(Least, 2), Space],
             ),
             Kind::ReduceMax => with_on(
                 &[b"reduce", b"max"],
-                &[Column(Read, 2), Column(Write, 2), Space],
+                &[Column(Read, 2), Column(Most, 2), Space],
             ),
             Kind::Iota => with_on(&[b"task", b"iota"], &[Column(Write, 1), Space, Value]),
             Kind::Axpy => with_on(
@@ -273,6 +301,13 @@ impl Kind {
     {
         self.row().takes_on
     }
+
+    /// The format that brought it.
+    pub fn since(self) -> Format
+        ensures { result ≡ kind_since self }
+    {
+        self.row().since
+    }
 }
 
 impl Parts {
@@ -331,7 +366,8 @@ impl Verb {
             Verb::Merge { .. } => None,
             Verb::MergeIgnore { .. } => None,
             Verb::Phase { .. } => Some(Kind::Phase),
-            Verb::Arrive { .. } => Some(Kind::Arrive),
+            Verb::Arrive { weight: 1, .. } => Some(Kind::Arrive),
+            Verb::Arrive { .. } => Some(Kind::ArriveTimes),
             Verb::Acquire { .. } => Some(Kind::Acquire),
             Verb::Release { .. } => Some(Kind::Release),
             Verb::Fill { .. } => Some(Kind::Fill),
@@ -354,7 +390,11 @@ impl Verb {
             Verb::Merge { .. } => named([0, 0, 0, 0, 0]),
             Verb::MergeIgnore { .. } => named([0, 0, 0, 0, 0]),
             Verb::Phase { barrier } => named([barrier, 0, 0, 0, 0]),
-            Verb::Arrive { phase, value } => valued([phase, 0, 0, 0, 0], [0, value, 0, 0, 0]),
+            Verb::Arrive {
+                phase,
+                value,
+                weight,
+            } => valued([phase, 0, 0, weight, 0], [0, value, 0, 0, 0]),
             Verb::Acquire { lock } => named([lock, 0, 0, 0, 0]),
             Verb::Release { acquire } => named([acquire, 0, 0, 0, 0]),
             Verb::Fill {
@@ -403,6 +443,12 @@ impl Verb {
             Kind::Arrive => Verb::Arrive {
                 phase: n[0],
                 value: v[1],
+                weight: 1,
+            },
+            Kind::ArriveTimes => Verb::Arrive {
+                phase: n[0],
+                value: v[1],
+                weight: n[3],
             },
             Kind::Acquire => Verb::Acquire { lock: n[0] },
             Kind::Release => Verb::Release { acquire: n[0] },

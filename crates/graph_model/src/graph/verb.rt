@@ -44,9 +44,11 @@ pub enum Verb {
     Phase {
         barrier: u32,
     },
+    /// An arrival that counts for as many as its weight says.
     Arrive {
         phase: u32,
         value: u64,
+        weight: u32,
     },
     Acquire {
         lock: u32,
@@ -92,12 +94,14 @@ pub struct Edge {
     pub kind: EdgeKind,
 }
 
-/// How a column is used.
+/// How a column is used: read, written, or reduced into by sums, by least or by greatest values.
 #[derive(Clone, Copy, Debug, PartialEq, Eq)]
 pub enum Mode {
     Read,
     Write,
     Sum,
+    Least,
+    Most,
 }
 
 /// A use of a column over a space.

@@ -2,10 +2,11 @@
 
 ghost use Rattle.std.specs.Prelude.{ℕ, ◌<◌, ◌^◌, ◌+◌, length};
 ghost use Rattle.graph_model.specs.kept.Rows.{mark_at, NamesBelow, Marks};
+ghost use Rattle.graph_model.specs.graph.Graph.{arrival_weight};
 
 use crate::graph::verb::Verb;
 
-/// How many arrivals name a line, whether a trigger or a cancel names it, and whether a release
+/// What the arrivals that name a line count for, whether a trigger or a cancel names it, and whether a release
 /// does.
 #[derive(Clone, Copy)]
 pub(crate) struct Mark {
@@ -24,13 +25,13 @@ pub(crate) const FRESH: Mark = Mark {
 /// Marks what a line does to the line that it names.
 pub(crate) fn mark_named(marks: &mut [Mark], verb: &Verb)
     requires below { NamesBelow (length marks.old) verb.now }
-    requires few { (i : ℕ) → (mark_at marks.old i).arrivals + 1 < 2 ^ 32 }
+    requires few { (i : ℕ) → (mark_at marks.old i).arrivals + arrival_weight i verb.now < 2 ^ 32 }
     ensures { Marks marks.old marks.new verb.now }
 {
     match verb {
         Verb::Trigger { user } => marks[*user as usize].ended = true,
         Verb::Cancel { user } => marks[*user as usize].ended = true,
-        Verb::Arrive { phase, .. } => marks[*phase as usize].arrivals += 1,
+        Verb::Arrive { phase, weight, .. } => marks[*phase as usize].arrivals += *weight,
         Verb::Release { acquire } => marks[*acquire as usize].released = true,
         _ => {}
     }

@@ -41,6 +41,8 @@ impl Model for Rows {
 }
 
 impl Rows {
+    ghost use Rattle.graph_model.specs.graph.Graph.{arrival_weight};
+
     pub(crate) fn new(alloc: Global) -> Rows
         ensures { result ≡ record { into = []; from = []; marks = [] } }
     {
@@ -84,7 +86,7 @@ impl Rows {
         requires from_below { EndsBelow From given.now (length self.old.marks + 1) }
         requires to_below { EndsBelow To given.now (length self.old.marks + 1) }
         requires named { NamesBelow (length self.old.marks) verb.now }
-        requires few { (i : ℕ) → (mark_at self.old.marks i).arrivals + 1 < 2 ^ 32 }
+        requires few { (i : ℕ) → (mark_at self.old.marks i).arrivals + arrival_weight i verb.now < 2 ^ 32 }
         ensures ok { OnOk result (AddsRow self.old self.new verb.now given.now) }
         ensures err { OnErr result (self.new ≡ self.old) }
     {

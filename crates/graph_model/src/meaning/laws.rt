@@ -1,6 +1,6 @@
 //! What holds of all graphs, for callers to cite. No function here does anything.
 
-ghost use Rattle.graph_model.specs.meaning.Laws.{PathsCompose, EdgesBetweenLines, ChangesWithinAccesses, ReadyWhereUnreached, WaitsWhereReached, CancelledWhereUnbroken, OrderListsEnded, ChangesNameEachCellOnce, OrderIrrelevant, OneNeed, SectionsNeverOverlap};
+ghost use Rattle.graph_model.specs.meaning.Laws.{PathsCompose, EdgesBetweenLines, ChangesWithinAccesses, ReadyWhereUnreached, WaitsWhereReached, CancelledWhereUnbroken, OrderListsEnded, ChangesNameEachCellOnce, OrderIrrelevant, OneNeed, SectionsNeverOverlap, UpgradeKeepsMeaning};
 
 use index_spaces::laws::points_ascend;
 
@@ -63,4 +63,10 @@ pub fn needs_are_one()
 /// acquire that is done and its release stands no other acquire of that reservation that is done.
 pub fn sections_never_overlap()
     ensures { SectionsNeverOverlap }
+{}
+
+/// Where a graph is accepted, the same graph in format 2 is accepted too, with the same need and the
+/// same outcome.
+pub fn upgrade_keeps_meaning()
+    ensures { UpgradeKeepsMeaning }
 {}

@@ -1,4 +1,5 @@
 use Rattle.std.proofs.Common.{Err, List, ℕ, Bor, map, refl, sym, ◌∙◌, ap, subst}
+use Rattle.std.specs.Prelude.{find}
 use Rattle.std.specs.Str.{bytes_eq}
 use Rattle.graph_model.specs.declared.graph.why.Why.TheVariants as why
 use Rattle.graph_reader.specs.declared.item.ItemError.TheVariants as errors
@@ -9,12 +10,12 @@ use Rattle.graph_reader.proofs.LineShapes.{line_kind, found_passes}
 use Rattle.graph_reader.proofs.lines.read_line.Goals as goal
 
 pub kind_line-requires : goal.kind_line-requires
-kind_line-requires c = found_passes (λ k. is_of_form (map (λ (w : Bor (List ℕ)). w.now) c.args.words.now) (form_of k)) KINDS c.in-Some.kind (sym c.in-Some.ensures)
+kind_line-requires c = found_passes (λ k. is_of_form (c.args.graph.now).format (map (λ (w : Bor (List ℕ)). w.now) c.args.words.now) (form_of k)) KINDS c.in-Some.kind (ap (λ fm. find (λ k. is_of_form fm (map (λ (w : Bor (List ℕ)). w.now) c.args.words.now) (form_of k)) KINDS) (sym c.format.ensures) ∙ sym c.in-Some.ensures)
 
 pub returns-in-Some : goal.returns-in-Some
 returns-in-Some c = subst (λ d. IsLineOf c.args.graph.now d c.kind_line.result)
-    (sym (line_kind c.args.graph.now c.args.name.now (map (λ (w : Bor (List ℕ)). w.now) c.args.words.now) c.word-verb.result.now _ c.word-verb.ensures (sym (c.if-eq.ensures ∙ ap (bytes_eq c.word-verb.result.now) c.as_slice.ensures)) (sym (c.if-eq-2.ensures ∙ ap (bytes_eq c.word-verb.result.now) c.as_slice-2.ensures)) (sym c.in-Some.ensures))) c.kind_line.ensures
+    (sym (line_kind c.args.graph.now c.args.name.now (map (λ (w : Bor (List ℕ)). w.now) c.args.words.now) c.word-verb.result.now _ c.word-verb.ensures (sym (c.if-eq.ensures ∙ ap (bytes_eq c.word-verb.result.now) c.as_slice.ensures)) (sym (c.if-eq-2.ensures ∙ ap (bytes_eq c.word-verb.result.now) c.as_slice-2.ensures)) (ap (λ fm. find (λ k. is_of_form fm (map (λ (w : Bor (List ℕ)). w.now) c.args.words.now) (form_of k)) KINDS) (sym c.format.ensures) ∙ sym c.in-Some.ensures))) c.kind_line.ensures
 
 pub returns-in-None : goal.returns-in-None
 returns-in-None c = subst (λ d. IsLineOf c.args.graph.now d (Err (errors.Refused why.Syntax)))
-    (sym (line_kind c.args.graph.now c.args.name.now (map (λ (w : Bor (List ℕ)). w.now) c.args.words.now) c.word-verb.result.now _ c.word-verb.ensures (sym (c.if-eq.ensures ∙ ap (bytes_eq c.word-verb.result.now) c.as_slice.ensures)) (sym (c.if-eq-2.ensures ∙ ap (bytes_eq c.word-verb.result.now) c.as_slice-2.ensures)) (sym c.in-None.ensures))) refl
+    (sym (line_kind c.args.graph.now c.args.name.now (map (λ (w : Bor (List ℕ)). w.now) c.args.words.now) c.word-verb.result.now _ c.word-verb.ensures (sym (c.if-eq.ensures ∙ ap (bytes_eq c.word-verb.result.now) c.as_slice.ensures)) (sym (c.if-eq-2.ensures ∙ ap (bytes_eq c.word-verb.result.now) c.as_slice-2.ensures)) (ap (λ fm. find (λ k. is_of_form fm (map (λ (w : Bor (List ℕ)). w.now) c.args.words.now) (form_of k)) KINDS) (sym c.format.ensures) ∙ sym c.in-None.ensures))) refl

@@ -15,7 +15,7 @@ is_end line first b h e = ap (λ x. bytes_eq x (codes "end")) (sym e) ∙ sym h
 pub returns-then-bytes-after-gt-MAX_BYTES-clause-refusal : goal.returns-then-bytes-after-gt-MAX_BYTES-clause-refusal
 returns-then-bytes-after-gt-MAX_BYTES-clause-refusal c =
     let d = c.in-Some-cut.ensures in
-    let s : bytes_eq (first_line c.loop-line.rest.now) (codes "end") ≡ true = is_end c.in-Some-cut.line.now (first_line c.loop-line.rest.now) true (c.if-eq.ensures ∙ ap (bytes_eq c.in-Some-cut.line.now) c.as_slice-in-Some-cut.ensures) d.front_is in
+    let s : bytes_eq (first_line c.loop-line.rest.now) (codes "end") ≡ true = is_end c.in-Some-cut.line.now (first_line c.loop-line.rest.now) true (c.if-eq.ensures ∙ ap (bytes_eq c.in-Some-cut.line.now) c.as_slice.ensures) d.front_is in
     let n : length c.args.bytes.now ≡ length (text c.loop-line.graph) + length (after_line c.loop-line.rest.now) = end_length c.args.bytes.now c.loop-line.graph c.loop-line.rest.now c.loop-line.number c.loop-line.invariant d.there s in
     let same : length c.in-Some-cut.after.now ≡ length (after_line c.loop-line.rest.now) = ap length d.back_is in
     let l : 1048576 < length (text c.loop-line.graph) = omega arith in
@@ -24,7 +24,7 @@ returns-then-bytes-after-gt-MAX_BYTES-clause-refusal c =
 pub returns-then-not-is_empty-clause-refusal : goal.returns-then-not-is_empty-clause-refusal
 returns-then-not-is_empty-clause-refusal c =
     let d = c.in-Some-cut.ensures in
-    let s : bytes_eq (first_line c.loop-line.rest.now) (codes "end") ≡ true = is_end c.in-Some-cut.line.now (first_line c.loop-line.rest.now) true (c.if-eq.ensures ∙ ap (bytes_eq c.in-Some-cut.line.now) c.as_slice-in-Some-cut.ensures) d.front_is in
+    let s : bytes_eq (first_line c.loop-line.rest.now) (codes "end") ≡ true = is_end c.in-Some-cut.line.now (first_line c.loop-line.rest.now) true (c.if-eq.ensures ∙ ap (bytes_eq c.in-Some-cut.line.now) c.as_slice.ensures) d.front_is in
     let n : length c.args.bytes.now ≡ length (text c.loop-line.graph) + length (after_line c.loop-line.rest.now) = end_length c.args.bytes.now c.loop-line.graph c.loop-line.rest.now c.loop-line.number c.loop-line.invariant d.there s in
     let same : length c.in-Some-cut.after.now ≡ length (after_line c.loop-line.rest.now) = ap length d.back_is in
     let l : length (text c.loop-line.graph) ≤ 1048576 = omega arith in
@@ -34,7 +34,7 @@ returns-then-not-is_empty-clause-refusal c =
 pub returns-then-eq-clause-text : goal.returns-then-eq-clause-text
 returns-then-eq-clause-text c =
     let d = c.in-Some-cut.ensures in
-    let s : bytes_eq (first_line c.loop-line.rest.now) (codes "end") ≡ true = is_end c.in-Some-cut.line.now (first_line c.loop-line.rest.now) true (c.if-eq.ensures ∙ ap (bytes_eq c.in-Some-cut.line.now) c.as_slice-in-Some-cut.ensures) d.front_is in
+    let s : bytes_eq (first_line c.loop-line.rest.now) (codes "end") ≡ true = is_end c.in-Some-cut.line.now (first_line c.loop-line.rest.now) true (c.if-eq.ensures ∙ ap (bytes_eq c.in-Some-cut.line.now) c.as_slice.ensures) d.front_is in
     let n : length c.args.bytes.now ≡ length (text c.loop-line.graph) + length (after_line c.loop-line.rest.now) = end_length c.args.bytes.now c.loop-line.graph c.loop-line.rest.now c.loop-line.number c.loop-line.invariant d.there s in
     let same : length c.in-Some-cut.after.now ≡ length (after_line c.loop-line.rest.now) = ap length d.back_is in
     let none : length c.in-Some-cut.after.now ≡ 0 = eqb-true (length c.in-Some-cut.after.now) 0 (sym c.if-not-is_empty.ensures) in
@@ -44,5 +44,5 @@ returns-then-eq-clause-text c =
 pub loop-line-preserved : goal.loop-line-preserved
 loop-line-preserved c =
     let d = c.in-Some-cut.ensures in
-    let s : bytes_eq (first_line c.loop-line.rest.now) (codes "end") ≡ false = is_end c.in-Some-cut.line.now (first_line c.loop-line.rest.now) false (c.if-eq.ensures ∙ ap (bytes_eq c.in-Some-cut.line.now) c.as_slice-in-Some-cut.ensures) d.front_is in
+    let s : bytes_eq (first_line c.loop-line.rest.now) (codes "end") ≡ false = is_end c.in-Some-cut.line.now (first_line c.loop-line.rest.now) false (c.if-eq.ensures ∙ ap (bytes_eq c.in-Some-cut.line.now) c.as_slice.ensures) d.front_is in
     item_read c.args.bytes.now c.loop-line.graph c.take_line.new.graph c.loop-line.rest.now c.in-Some-cut.line.now c.in-Some-cut.after.now c.loop-line.number c.loop-line.invariant d.there d.front_is d.back_is s c.in-Ok.ensures.taken

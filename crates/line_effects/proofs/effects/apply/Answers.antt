@@ -45,20 +45,20 @@ pub returns-in-Copy-clause-effect : goal.returns-in-Copy-clause-effect
 returns-in-Copy-clause-effect c = λ cells shown. made c.columns_of_changes.ensures c.args.graph.now c.args.line c.line.result.now (Copy c.in-Copy.source c.in-Copy.target c.in-Copy.space) cells Fine c.args.held.now c.copy.new.held c.line.ensures.line c.in-Copy.is refl (c.copy.ensures (space_at c.args.graph.now) c.in-Copy.space (sym c.space-in-Copy.ensures)) shown
 
 pub space-requires-in-Reduce : goal.space-requires-in-Reduce
-space-requires-in-Reduce c = space_known c.accesses_fit.ensures c.args.graph.now c.line.ensures.is_graph c.args.line 0 c.line.result.now (Reduce c.in-Reduce.op c.in-Reduce.source c.in-Reduce.target c.in-Reduce.space) (access c.in-Reduce.source c.in-Reduce.space Read) c.line.ensures.line c.in-Reduce.is (reduces_from c.in-Reduce.op c.in-Reduce.source c.in-Reduce.target c.in-Reduce.space)
+space-requires-in-Reduce c = space_known c.accesses_fit.ensures c.args.graph.now c.line.ensures.is_graph c.args.line 0 c.line.result.now (Reduce c.in-Reduce.op c.in-Reduce.source c.in-Reduce.target c.in-Reduce.space) (access c.in-Reduce.source c.in-Reduce.space Read) c.line.ensures.line c.in-Reduce.is (reduces_from c.args.graph.now.format c.in-Reduce.op c.in-Reduce.source c.in-Reduce.target c.in-Reduce.space)
 
 pub reduce-requires-clause-source : goal.reduce-requires-clause-source
 reduce-requires-clause-source c =
-    over_access c.accesses_fit.ensures c.args.graph.now c.line.ensures.is_graph c.args.line 0 c.line.result.now (Reduce c.in-Reduce.op c.in-Reduce.source c.in-Reduce.target c.in-Reduce.space) (access c.in-Reduce.source c.in-Reduce.space Read) c.line.ensures.line c.in-Reduce.is (reduces_from c.in-Reduce.op c.in-Reduce.source c.in-Reduce.target c.in-Reduce.space)
+    over_access c.accesses_fit.ensures c.args.graph.now c.line.ensures.is_graph c.args.line 0 c.line.result.now (Reduce c.in-Reduce.op c.in-Reduce.source c.in-Reduce.target c.in-Reduce.space) (access c.in-Reduce.source c.in-Reduce.space Read) c.line.ensures.line c.in-Reduce.is (reduces_from c.args.graph.now.format c.in-Reduce.op c.in-Reduce.source c.in-Reduce.target c.in-Reduce.space)
     c.requires.shown.0 c.args.held.now c.space-in-Reduce.result.now c.requires.shown.1 c.requires.moved c.space-in-Reduce.ensures
 
 pub reduce-requires-clause-target : goal.reduce-requires-clause-target
 reduce-requires-clause-target c =
-    over_access c.accesses_fit.ensures c.args.graph.now c.line.ensures.is_graph c.args.line 1 c.line.result.now (Reduce c.in-Reduce.op c.in-Reduce.source c.in-Reduce.target c.in-Reduce.space) (access c.in-Reduce.target c.in-Reduce.space (reduced_mode c.in-Reduce.op)) c.line.ensures.line c.in-Reduce.is (reduces_into c.in-Reduce.op c.in-Reduce.source c.in-Reduce.target c.in-Reduce.space)
+    over_access c.accesses_fit.ensures c.args.graph.now c.line.ensures.is_graph c.args.line 1 c.line.result.now (Reduce c.in-Reduce.op c.in-Reduce.source c.in-Reduce.target c.in-Reduce.space) (access c.in-Reduce.target c.in-Reduce.space (reduced_mode c.args.graph.now.format c.in-Reduce.op)) c.line.ensures.line c.in-Reduce.is (reduces_into c.args.graph.now.format c.in-Reduce.op c.in-Reduce.source c.in-Reduce.target c.in-Reduce.space)
     c.requires.shown.0 c.args.held.now c.space-in-Reduce.result.now c.requires.shown.1 c.requires.moved c.space-in-Reduce.ensures
 
 pub reduce-requires-clause-distinct : goal.reduce-requires-clause-distinct
-reduce-requires-clause-distinct c = columns_apart c.columns_differ.ensures c.args.graph.now c.line.ensures.is_graph c.args.line c.line.result.now (Reduce c.in-Reduce.op c.in-Reduce.source c.in-Reduce.target c.in-Reduce.space) (access c.in-Reduce.source c.in-Reduce.space Read) (access c.in-Reduce.target c.in-Reduce.space (reduced_mode c.in-Reduce.op)) c.line.ensures.line c.in-Reduce.is (reduces_from c.in-Reduce.op c.in-Reduce.source c.in-Reduce.target c.in-Reduce.space) (reduces_into c.in-Reduce.op c.in-Reduce.source c.in-Reduce.target c.in-Reduce.space)
+reduce-requires-clause-distinct c = columns_apart c.columns_differ.ensures c.args.graph.now c.line.ensures.is_graph c.args.line c.line.result.now (Reduce c.in-Reduce.op c.in-Reduce.source c.in-Reduce.target c.in-Reduce.space) (access c.in-Reduce.source c.in-Reduce.space Read) (access c.in-Reduce.target c.in-Reduce.space (reduced_mode c.args.graph.now.format c.in-Reduce.op)) c.line.ensures.line c.in-Reduce.is (reduces_from c.args.graph.now.format c.in-Reduce.op c.in-Reduce.source c.in-Reduce.target c.in-Reduce.space) (reduces_into c.args.graph.now.format c.in-Reduce.op c.in-Reduce.source c.in-Reduce.target c.in-Reduce.space)
 
 pub returns-in-Reduce-clause-same : goal.returns-in-Reduce-clause-same
 returns-in-Reduce-clause-same c = same_held c.args.held.now c.reduce.new.held (λ cells. verb_changes (space_at c.args.graph.now) cells (Reduce c.in-Reduce.op c.in-Reduce.source c.in-Reduce.target c.in-Reduce.space)) (c.reduce.ensures (space_at c.args.graph.now) c.in-Reduce.space (sym c.space-in-Reduce.ensures))

@@ -10,11 +10,11 @@ use Rattle.race_check.proofs.AccessSteps.{item_read, item_in}
 use Rattle.race_check.proofs.conflicts.some_clash.Goals as goal
 
 pub loop-one-preserved : goal.loop-one-preserved
-loop-one-preserved c = none_more (λ a. (b : Access) × Contains c.args.others.now b × Clash c.args.graph.now c.args.sums a b) c.args.ones.now c.loop-one.one-index (slice_index_or c.args.ones.now c.loop-one.one-index no_access)
+loop-one-preserved c = none_more (λ a. (b : Access) × Contains c.args.others.now b × Clash c.args.graph.now c.args.commuting a b) c.args.ones.now c.loop-one.one-index (slice_index_or c.args.ones.now c.loop-one.one-index no_access)
     (item_read c.args.ones.now c.loop-one.one-index c.loop-one-test.true) (λ p. true≢false (sym (c.if-clashes_with.ensures.1 p))) c.loop-one.invariant
 
 pub returns : goal.returns
-returns c = answer_no (ListsClash c.args.graph.now c.args.sums c.args.ones.now c.args.others.now) (λ q. none_done (λ a. (b : Access) × Contains c.args.others.now b × Clash c.args.graph.now c.args.sums a b) c.args.ones.now c.loop-one.one-index
+returns c = answer_no (ListsClash c.args.graph.now c.args.commuting c.args.ones.now c.args.others.now) (λ q. none_done (λ a. (b : Access) × Contains c.args.others.now b × Clash c.args.graph.now c.args.commuting a b) c.args.ones.now c.loop-one.one-index
     (omega arith) c.loop-one.invariant q.0 q.1 q.2)
 
 pub clashes_with-requires-clause-one : goal.clashes_with-requires-clause-one

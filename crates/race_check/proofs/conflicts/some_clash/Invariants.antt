@@ -5,4 +5,4 @@ use Rattle.race_sweeps.proofs.AccessSteps.{NoneAmong}
 use Rattle.race_check.proofs.conflicts.some_clash.Given as goal
 
 abbrev pub invariant-loop-one : goal.invariant-loop-one
-invariant-loop-one l = NoneAmong (λ a. (b : Access) × Contains l.others b × Clash l.graph l.sums a b) l.ones l.one-index
+invariant-loop-one l = NoneAmong (λ a. (b : Access) × Contains l.others b × Clash l.graph l.commuting a b) l.ones l.one-index

@@ -12,4 +12,4 @@ clash-requires-clause-other c =
 
 pub loop-k-preserved : goal.loop-k-preserved
 loop-k-preserved c =
-    none_more (Clash c.args.graph.now c.args.sums c.args.one) (accesses c.args.graph.now c.args.line) c.loop-k.k c.in-Some.other (sym c.in-Some.ensures) (λ p. true≢false (sym (c.if-clash.ensures.1 p))) c.loop-k.invariant
+    none_more (Clash c.args.graph.now c.args.commuting c.args.one) (accesses c.args.graph.now c.args.line) c.loop-k.k c.in-Some.other (sym c.in-Some.ensures) (λ p. true≢false (sym (c.if-clash.ensures.1 p))) c.loop-k.invariant

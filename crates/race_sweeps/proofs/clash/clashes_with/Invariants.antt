@@ -4,4 +4,4 @@ use Rattle.race_sweeps.proofs.AccessSteps.{NoneAmong}
 use Rattle.race_sweeps.proofs.clash.clashes_with.Given as goal
 
 abbrev pub invariant-loop-k : goal.invariant-loop-k
-invariant-loop-k l = NoneAmong (Clash l.graph l.sums l.one) (accesses l.graph l.line) l.k
+invariant-loop-k l = NoneAmong (Clash l.graph l.commuting l.one) (accesses l.graph l.line) l.k

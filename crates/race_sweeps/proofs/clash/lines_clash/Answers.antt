@@ -15,19 +15,19 @@ clashes_with-requires-clause-one c =
 pub returns-then-clashes_with : goal.returns-then-clashes_with
 returns-then-clashes_with c =
     let xs = accesses c.args.graph.now c.args.one in
-    answer_yes (LinesClash c.args.graph.now c.args.sums c.args.one c.args.other) (c.in-Some.access, access_read xs c.loop-k.k c.in-Some.access (sym c.in-Some.ensures), c.clashes_with.ensures.0 c.if-clashes_with.true)
+    answer_yes (LinesClash c.args.graph.now c.args.commuting c.args.one c.args.other) (c.in-Some.access, access_read xs c.loop-k.k c.in-Some.access (sym c.in-Some.ensures), c.clashes_with.ensures.0 c.if-clashes_with.true)
 
 pub loop-k-preserved : goal.loop-k-preserved
 loop-k-preserved c =
-    none_more (λ a. (b : Access) × Contains (accesses c.args.graph.now c.args.other) b × Clash c.args.graph.now c.args.sums a b) (accesses c.args.graph.now c.args.one) c.loop-k.k c.in-Some.access (sym c.in-Some.ensures)
+    none_more (λ a. (b : Access) × Contains (accesses c.args.graph.now c.args.other) b × Clash c.args.graph.now c.args.commuting a b) (accesses c.args.graph.now c.args.one) c.loop-k.k c.in-Some.access (sym c.in-Some.ensures)
     (λ p. true≢false (sym (c.if-clashes_with.ensures.1 p))) c.loop-k.invariant
 
 pub returns-in_default : goal.returns-in_default
 returns-in_default c =
-    answer_no (LinesClash c.args.graph.now c.args.sums c.args.one c.args.other) (λ q. none_left (λ a. (b : Access) × Contains (accesses c.args.graph.now c.args.other) b × Clash c.args.graph.now c.args.sums a b) (accesses c.args.graph.now c.args.one) c.loop-k.k
+    answer_no (LinesClash c.args.graph.now c.args.commuting c.args.one c.args.other) (λ q. none_left (λ a. (b : Access) × Contains (accesses c.args.graph.now c.args.other) b × Clash c.args.graph.now c.args.commuting a b) (accesses c.args.graph.now c.args.one) c.loop-k.k
     (sym c.access.ensures ∙ c.in_default.is) c.loop-k.invariant q.0 q.1 q.2)
 
 pub returns : goal.returns
 returns c =
-    answer_no (LinesClash c.args.graph.now c.args.sums c.args.one c.args.other) (λ q. none_done (λ a. (b : Access) × Contains (accesses c.args.graph.now c.args.other) b × Clash c.args.graph.now c.args.sums a b) (accesses c.args.graph.now c.args.one) c.loop-k.k
+    answer_no (LinesClash c.args.graph.now c.args.commuting c.args.one c.args.other) (λ q. none_done (λ a. (b : Access) × Contains (accesses c.args.graph.now c.args.other) b × Clash c.args.graph.now c.args.commuting a b) (accesses c.args.graph.now c.args.one) c.loop-k.k
     (omega (arith, few_accesses c.args.graph.now c.args.one)) c.loop-k.invariant q.0 q.1 q.2)

@@ -9,6 +9,11 @@ use Rattle.run_words.proofs.preparing.move_columns.Goals as goal
 pub loop-c-init : goal.loop-c-init
 loop-c-init c = record { home = c.requires.empty; loose = c.requires.loose; room = c.requires.room; out = none_out c.args.graph.now _ c.requires.zero }
 
+pub take_home-column-requires-clause-home : goal.take_home-column-requires-clause-home
+take_home-column-requires-clause-home c =
+    let near : c.loop-c.c < length (columns c.args.graph.now) = omega (arith, c.loop-c-test.true, c.columns-c-end.ensures.number) in
+    (_, c.loop-c.invariant.out.home c.loop-c.c (omega arith) near)
+
 pub loop-c-preserved : goal.loop-c-preserved
 loop-c-preserved c =
     let g = c.args.graph.now in

@@ -16,7 +16,7 @@ use Rattle.graph_model.proofs.graph.Graph.add_decl.Goals as goal
 
 pub invariant_of-self-2 : goal.invariant_of-self-2
 invariant_of-self-2 c =
-    let g : GraphValue = record { decls = c.self.inside.decls.items; lines = c.self.inside.lines.items } in
+    let g : GraphValue = record { format = c.self.inside.format; decls = c.self.inside.decls.items; lines = c.self.inside.lines.items } in
     let d : Decl = c.args.decl in
     let fits : decl_fault g d ≡ None = subst (λ h. decl_fault h d ≡ None) (sym c.self.view_is) c.requires.fits in
     let first : g.lines ≡ [] = subst (λ (h : GraphValue). h.lines ≡ []) (sym c.self.view_is) c.requires.first in
@@ -29,18 +29,18 @@ invariant_of-self-2 c =
     let named_so : (q : List ℕ) → named c.insert.new.self q ≡ cond (bytes_eq (decl_name d) q) (Some (found_decl g d)) (named c.self.inside.names q) =
     λ q. c.in_ok-insert.ensures.ok q ∙ (ap (λ n. cond (bytes_eq n q) (Some c.found_decl-found.result) (named c.self.inside.names q)) name ∙ ap (λ f. cond (bytes_eq (decl_name d) q) (Some f) (named c.self.inside.names q)) what) in
     record {
-      fits = subst (λ (ds : List Decl). IsGraph (record { decls = ds; lines = g.lines })) (sym pushed) (push_decl g d c.self.invariant.fits c.requires.is_decl first fits);
+      fits = subst (λ (ds : List Decl). IsGraph (record { format = g.format; decls = ds; lines = g.lines })) (sym pushed) (push_decl g d c.self.invariant.fits c.requires.is_decl first fits);
       accesses = c.self.invariant.accesses;
       tables = added ∙ (sym (tables_push g.decls d) ∙ ap tables_of (sym pushed));
-      limits = subst (λ (ds : List Decl). IsWithinLimits (record { decls = ds; lines = g.lines })) (sym pushed) (limits_decl g d fits);
-      names = subst (λ (ds : List Decl). AreNamesOf (record { decls = ds; lines = g.lines }) c.insert.new.self) (sym pushed) (names_decl g d c.self.inside.names c.insert.new.self c.self.invariant.names (unused_decl_name g d fits) named_so);
-      rows = subst (λ (ds : List Decl). AreRowsOf (record { decls = ds; lines = g.lines }) c.self.inside.rows) (sym pushed) (rows_decl g d c.self.inside.rows c.self.invariant.rows);
-      counts = c.counts_with_decl-counts.ensures ∙ (ap (λ h. counts_of (with_decl h d)) (sym c.self.view_is) ∙ ap (λ ds. counts_of (record { decls = ds; lines = g.lines })) (sym pushed));
+      limits = subst (λ (ds : List Decl). IsWithinLimits (record { format = g.format; decls = ds; lines = g.lines })) (sym pushed) (limits_decl g d fits);
+      names = subst (λ (ds : List Decl). AreNamesOf (record { format = g.format; decls = ds; lines = g.lines }) c.insert.new.self) (sym pushed) (names_decl g d c.self.inside.names c.insert.new.self c.self.invariant.names (unused_decl_name g d fits) named_so);
+      rows = subst (λ (ds : List Decl). AreRowsOf (record { format = g.format; decls = ds; lines = g.lines }) c.self.inside.rows) (sym pushed) (rows_decl g d c.self.inside.rows c.self.invariant.rows);
+      counts = c.counts_with_decl-counts.ensures ∙ (ap (λ h. counts_of (with_decl h d)) (sym c.self.view_is) ∙ ap (λ ds. counts_of (record { format = g.format; decls = ds; lines = g.lines })) (sym pushed));
     }
 
 pub invariant_of-self-in-Err : goal.invariant_of-self-in-Err
 invariant_of-self-in-Err c =
-    let g : GraphValue = record { decls = c.self.inside.decls.items; lines = c.self.inside.lines.items } in
+    let g : GraphValue = record { format = c.self.inside.format; decls = c.self.inside.decls.items; lines = c.self.inside.lines.items } in
     let d : Decl = c.args.decl in
     let same : c.reserve.new.items.items ≡ g.decls = c.reserve.ensures.items in
     let fits : decl_fault g d ≡ None = subst (λ h. decl_fault h d ≡ None) (sym c.self.view_is) c.requires.fits in
@@ -48,11 +48,11 @@ invariant_of-self-in-Err c =
     let back : AreNamesOf g c.remove.new.self =
     names_back g c.name.result.now c.found_decl-found.result c.self.inside.names c.insert.new.self c.remove.new.self c.self.invariant.names unused (λ q. c.in_ok-insert.ensures.ok q) (λ q. c.remove.ensures q) in
     record {
-      fits = subst (λ (ds : List Decl). IsGraph (record { decls = ds; lines = g.lines })) (sym same) c.self.invariant.fits;
+      fits = subst (λ (ds : List Decl). IsGraph (record { format = g.format; decls = ds; lines = g.lines })) (sym same) c.self.invariant.fits;
       accesses = c.self.invariant.accesses;
       tables = c.in-Err.ensures.err ∙ (c.self.invariant.tables ∙ ap tables_of (sym same));
-      limits = subst (λ (ds : List Decl). IsWithinLimits (record { decls = ds; lines = g.lines })) (sym same) c.self.invariant.limits;
-      names = subst (λ (ds : List Decl). AreNamesOf (record { decls = ds; lines = g.lines }) c.remove.new.self) (sym same) back;
-      rows = subst (λ (ds : List Decl). AreRowsOf (record { decls = ds; lines = g.lines }) c.self.inside.rows) (sym same) c.self.invariant.rows;
-      counts = c.self.invariant.counts ∙ ap (λ ds. counts_of (record { decls = ds; lines = g.lines })) (sym same);
+      limits = subst (λ (ds : List Decl). IsWithinLimits (record { format = g.format; decls = ds; lines = g.lines })) (sym same) c.self.invariant.limits;
+      names = subst (λ (ds : List Decl). AreNamesOf (record { format = g.format; decls = ds; lines = g.lines }) c.remove.new.self) (sym same) back;
+      rows = subst (λ (ds : List Decl). AreRowsOf (record { format = g.format; decls = ds; lines = g.lines }) c.self.inside.rows) (sym same) c.self.invariant.rows;
+      counts = c.self.invariant.counts ∙ ap (λ ds. counts_of (record { format = g.format; decls = ds; lines = g.lines })) (sym same);
     }

@@ -7,6 +7,6 @@ use Rattle.graph_model.proofs.graph.Graph.column_space.Goals as goal
 
 pub space-requires : goal.space-requires
 space-requires c =
-    let g : GraphValue = record { decls = c.self.inside.decls.items; lines = c.self.inside.lines.items } in
+    let g : GraphValue = record { format = c.self.inside.format; decls = c.self.inside.decls.items; lines = c.self.inside.lines.items } in
     subst (λ x. c.column-column.result.now.space < length (named_spaces x)) c.self.view_is
     (column_space_known g c.self.invariant.fits c.args.c c.column-column.result.now (sym (ap (λ (t : TablesValue). slice_get t.column_infos c.args.c) c.self.invariant.tables) ∙ c.column-column.ensures))

@@ -26,7 +26,7 @@ use Rattle.graph_model.proofs.graph.Graph.push_line.Goals.{After-deref-2}
 
 -- the graph before, which the line fits and whose edges are given
 abbrev before : After-deref-2 → GraphValue
-before c = record { decls = c.self.inside.decls.items; lines = c.self.inside.lines.items }
+before c = record { format = c.self.inside.format; decls = c.self.inside.decls.items; lines = c.self.inside.lines.items }
 
 fits : (c : After-deref-2) → line_fault (before c) c.args.line ≡ None
 fits c = subst (λ h. line_fault h c.args.line ≡ None) (sym c.self.view_is) c.requires.fits
@@ -49,7 +49,9 @@ add-requires-clause-named c =
     subst (λ n. NamesBelow n c.args.line.verb) (sym c.self.invariant.rows.mark_count) (names_below (before a) c.args.line (fits a))
 
 pub add-requires-clause-few : goal.add-requires-clause-few
-add-requires-clause-few c = few_marked (before (goal.at.add-requires-clause-few c).After-deref-2) c.self.inside.rows c.self.invariant.rows c.self.invariant.limits.few_lines
+add-requires-clause-few c =
+    let a = (goal.at.add-requires-clause-few c).After-deref-2 in
+    few_marked (before a) c.self.inside.rows c.args.line c.self.invariant.fits c.self.invariant.rows c.self.invariant.limits.few_lines (fits a)
 
 pub invariant_of-self-2 : goal.invariant_of-self-2
 invariant_of-self-2 c =
@@ -67,12 +69,12 @@ invariant_of-self-2 c =
           ∙ (ap (λ xs. xs ++ c.args.accesses ∷ []) c.reserve-2.ensures.items
           ∙ (ap (λ x. c.self.inside.accesses.items ++ x ∷ []) c.requires.accesses
           ∙ (ap (λ xs. xs ++ kept l ∷ []) c.self.invariant.accesses ∙ (sym (map-append kept g.lines (l ∷ [])) ∙ ap (map kept) (sym pushed)))));
-      fits = subst (λ (ls : List Line). IsGraph (record { decls = g.decls; lines = ls })) (sym pushed) (push_line g l c.self.invariant.fits c.requires.is_line (fits at));
+      fits = subst (λ (ls : List Line). IsGraph (record { format = g.format; decls = g.decls; lines = ls })) (sym pushed) (push_line g l c.self.invariant.fits c.requires.is_line (fits at));
       tables = c.self.invariant.tables;
-      limits = subst (λ (ls : List Line). IsWithinLimits (record { decls = g.decls; lines = ls })) (sym pushed) (limits_line g l (fits at));
-      names = subst (λ (ls : List Line). AreNamesOf (record { decls = g.decls; lines = ls }) c.insert.new.self) (sym pushed) (names_line g l c.self.inside.names c.insert.new.self c.self.invariant.names (unused_line_name g l (fits at)) named_so);
-      rows = subst (λ (ls : List Line). AreRowsOf (record { decls = g.decls; lines = ls }) c.add.new.self) (sym pushed) (rows_push g l c.self.inside.rows c.add.new.self c.self.invariant.rows added);
-      counts = c.requires.counts ∙ (ap (λ h. counts_of (with_line h l)) (sym c.self.view_is) ∙ ap (λ ls. counts_of (record { decls = g.decls; lines = ls })) (sym pushed));
+      limits = subst (λ (ls : List Line). IsWithinLimits (record { format = g.format; decls = g.decls; lines = ls })) (sym pushed) (limits_line g l (fits at));
+      names = subst (λ (ls : List Line). AreNamesOf (record { format = g.format; decls = g.decls; lines = ls }) c.insert.new.self) (sym pushed) (names_line g l c.self.inside.names c.insert.new.self c.self.invariant.names (unused_line_name g l (fits at)) named_so);
+      rows = subst (λ (ls : List Line). AreRowsOf (record { format = g.format; decls = g.decls; lines = ls }) c.add.new.self) (sym pushed) (rows_push g l c.self.inside.rows c.add.new.self c.self.invariant.rows added);
+      counts = c.requires.counts ∙ (ap (λ h. counts_of (with_line h l)) (sym c.self.view_is) ∙ ap (λ ls. counts_of (record { format = g.format; decls = g.decls; lines = ls })) (sym pushed));
     }
 
 pub invariant_of-self-in-Err : goal.invariant_of-self-in-Err
@@ -83,11 +85,11 @@ invariant_of-self-in-Err c =
     let back : AreNamesOf g c.remove.new.self =
     names_back g c.args.line.name (found.Line c.len.result) c.self.inside.names c.insert.new.self c.remove.new.self c.self.invariant.names (unused_line_name g c.args.line (fits at)) (λ q. c.in_ok-insert.ensures.ok q) (λ q. c.remove.ensures q) in
     record {
-      fits = subst (λ (ls : List Line). IsGraph (record { decls = g.decls; lines = ls })) (sym same) c.self.invariant.fits;
+      fits = subst (λ (ls : List Line). IsGraph (record { format = g.format; decls = g.decls; lines = ls })) (sym same) c.self.invariant.fits;
       accesses = c.reserve-2.ensures.items ∙ (c.self.invariant.accesses ∙ ap (map (λ (x : Line). kept_accesses x.verb)) (sym same));
       tables = c.self.invariant.tables;
-      limits = subst (λ (ls : List Line). IsWithinLimits (record { decls = g.decls; lines = ls })) (sym same) c.self.invariant.limits;
-      names = subst (λ (ls : List Line). AreNamesOf (record { decls = g.decls; lines = ls }) c.remove.new.self) (sym same) back;
-      rows = subst (λ (ls : List Line). AreRowsOf (record { decls = g.decls; lines = ls }) c.add.new.self) (sym same) (subst (AreRowsOf g) (sym c.in-Err.ensures.err) c.self.invariant.rows);
-      counts = c.self.invariant.counts ∙ ap (λ ls. counts_of (record { decls = g.decls; lines = ls })) (sym same);
+      limits = subst (λ (ls : List Line). IsWithinLimits (record { format = g.format; decls = g.decls; lines = ls })) (sym same) c.self.invariant.limits;
+      names = subst (λ (ls : List Line). AreNamesOf (record { format = g.format; decls = g.decls; lines = ls }) c.remove.new.self) (sym same) back;
+      rows = subst (λ (ls : List Line). AreRowsOf (record { format = g.format; decls = g.decls; lines = ls }) c.add.new.self) (sym same) (subst (AreRowsOf g) (sym c.in-Err.ensures.err) c.self.invariant.rows);
+      counts = c.self.invariant.counts ∙ ap (λ ls. counts_of (record { format = g.format; decls = g.decls; lines = ls })) (sym same);
     }

@@ -18,6 +18,6 @@ pub returns : goal.returns
 returns c =
     let g = c.args.graph.now in
     let lists = c.args.self.now.accesses.items in
-    clash_of_lists g c.args.sums c.some_clash.result c.args.one c.args.other c.as_slice-ones.result.now c.as_slice-others.result.now
+    clash_of_lists g c.args.commuting c.some_clash.result c.args.one c.args.other c.as_slice-ones.result.now c.as_slice-others.result.now
     (accesses_read g lists c.requires.rivals.accesses_are c.args.one c.index.result.now c.as_slice-ones.result.now c.requires.one c.index.ensures c.as_slice-ones.ensures.value)
     (accesses_read g lists c.requires.rivals.accesses_are c.args.other c.index-2.result.now c.as_slice-others.result.now c.requires.other c.index-2.ensures c.as_slice-others.ensures.value) c.some_clash.ensures

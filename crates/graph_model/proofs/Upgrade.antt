@@ -1,0 +1,241 @@
+-- A graph of format 2 with the declarations and lines of another: it is a graph, its text is as long, and what is kept beside it stays.
+use Rattle.std.proofs.Common.{◌≡◌, ℕ, ◌+◌, ◌≤◌, Bool, false, ◌&&◌, ◌||◌, List, [], ◌∷◌, ◌++◌, length, map, refl, sym, ◌∙◌, ap, subst, length-append, arith}
+use Rattle.std.specs.Prelude.{Option, Some, None, codes, nat_lt, nat_le, nat_eq, filter, MatchOption, is_some}
+use Rattle.std.specs.Option.{option_map_or}
+use Rattle.std.specs.List.{list_any}
+use Rattle.std.proofs.lemmas.Bool.{or_parts, or_from, ltb-false, le-ltb}
+use Rattle.graph_model.specs.declared.graph.format.Format.{Format}
+use Rattle.graph_model.specs.declared.graph.format.Format.TheVariants.{One, Two}
+use Rattle.graph_model.specs.declared.graph.decl.Decl.{Decl}
+use Rattle.graph_model.specs.declared.graph.decl.Decl.TheVariants as decl
+use Rattle.graph_model.specs.declared.graph.found.Found.{Found}
+use Rattle.graph_model.specs.declared.graph.found.Found.TheVariants as found
+use Rattle.graph_model.specs.declared.graph.table.Place.{Place}
+use Rattle.graph_model.specs.declared.graph.table.Place.TheVariants as places
+use Rattle.graph_model.specs.declared.graph.verb.Access.{Access}
+use Rattle.graph_model.specs.declared.graph.verb.Line.{Line}
+use Rattle.graph_model.specs.declared.graph.verb.Verb.{Verb}
+use Rattle.graph_model.specs.declared.graph.verb.Verb.TheVariants.{Merge, MergeIgnore, Arrive}
+use Rattle.graph_model.specs.declared.graph.why.Why.{Why}
+use Rattle.graph_model.specs.declared.graph.why.Why.TheVariants as why
+use Rattle.graph_model.specs.graph.Graph.{GraphValue, upgraded, decl_name, columns, locks, barriers}
+use Rattle.graph_model.specs.graph.Edges.{edges}
+use Rattle.graph_model.specs.graph.Table.{verb_kind, verb_placed, kind_words, any_placed}
+use Rattle.graph_model.specs.graph.Access.{verb_accesses}
+use Rattle.graph_model.specs.graph.Spelling.{spelled, decl_words, place_word, verb_words, on_words, line_words, header, decls_text, lines_text, head}
+use Rattle.graph_model.specs.graph.Fits.{first_reason, is_inst, cell_count, is_used, decl_repeats, decl_unknown, decl_misnumbered, is_large, named_lines, on_lines, repeats, decl_fault, place_repeats, verb_repeats, place_unknown, place_unlike, takes_no_on, most_weight, verb_misnumbered, access_unknown, access_outside, arrives_late, merges_many, is_beyond, line_tests, line_fault, DeclsFit, LinesFit, IsGraph}
+use Rattle.graph_model.specs.graph.Names.{StandsFor, AreNamesOf}
+use Rattle.graph_model.specs.kept.Names.{NamesValue, named}
+use Rattle.graph_model.specs.kept.Rows.{RowsValue, AreRowsOf}
+use Rattle.graph_model.specs.kept.Tables.{IsWithinLimits}
+use Rattle.graph_model.specs.declared.kept.counts.Counts.{Counts}
+use Rattle.graph_model.specs.kept.Counts.{counts_of}
+use Rattle.graph_model.proofs.GraphFacts.{none_first}
+
+-- the same declarations and lines in a format
+abbrev of : Format → List Decl → List Line → GraphValue
+of f ds ls = record { format = f; decls = ds; lines = ls }
+
+-- words don't tell the format
+place_words : (f h : Format) (ds : List Decl) (ls : List Line) → place_word (of f ds ls) ≡ place_word (of h ds ls)
+place_words f h ds ls = λ i p n. each p n i
+  where
+    each : (p : Place) (n : ℕ) → place_word (of f ds ls) p n ≡ place_word (of h ds ls) p n
+    each places.User n = refl
+    each p n = refl
+
+verbs_words : (f h : Format) (ds : List Decl) (ls : List Line) (v : Verb) → verb_words (of f ds ls) v ≡ verb_words (of h ds ls) v
+verbs_words f h ds ls (Merge events) = refl
+verbs_words f h ds ls (MergeIgnore events) = refl
+verbs_words f h ds ls v = ap (λ (w : Place → ℕ → List ℕ). option_map_or kind_words (verb_kind v) [] ++ map (λ p. w p.0 p.1) (verb_placed v)) (place_words f h ds ls)
+
+ons_words : (f h : Format) (ds : List Decl) (ls : List Line) (o : Option ℕ) → on_words (of f ds ls) o ≡ on_words (of h ds ls) o
+ons_words f h ds ls None = refl
+ons_words f h ds ls (Some e) = refl
+
+pub lines_words : (f h : Format) (ds : List Decl) (ls : List Line) (l : Line) → line_words (of f ds ls) l ≡ line_words (of h ds ls) l
+lines_words f h ds ls l =
+    ap (λ ws. l.name ∷ codes "=" ∷ ws ++ on_words (of f ds ls) l.on) (verbs_words f h ds ls l.verb)
+    ∙ ap (λ ws. l.name ∷ codes "=" ∷ verb_words (of h ds ls) l.verb ++ ws) (ons_words f h ds ls l.on)
+
+pub decls_words : (f h : Format) (ds : List Decl) (ls : List Line) (d : Decl) → decl_words (of f ds ls) d ≡ decl_words (of h ds ls) d
+decls_words f h ds ls (decl.Space name space) = refl
+decls_words f h ds ls d = refl
+
+decls_texts : (f h : Format) (before ds : List Decl) → decls_text f before ds ≡ decls_text h before ds
+decls_texts f h before [] = refl
+decls_texts f h before (d ∷ ds) =
+    ap (λ ws. spelled ws ++ decls_text f (before ++ d ∷ []) ds) (decls_words f h before [] d)
+    ∙ ap (λ t. spelled (decl_words (of h before []) d) ++ t) (decls_texts f h (before ++ d ∷ []) ds)
+
+lines_texts : (f h : Format) (ds : List Decl) (before ls : List Line) → lines_text f ds before ls ≡ lines_text h ds before ls
+lines_texts f h ds before [] = refl
+lines_texts f h ds before (l ∷ ls) =
+    ap (λ ws. spelled ws ++ lines_text f ds (before ++ l ∷ []) ls) (lines_words f h ds before l)
+    ∙ ap (λ t. spelled (line_words (of h ds before) l) ++ t) (lines_texts f h ds (before ++ l ∷ []) ls)
+
+-- behind the first line the texts are the same
+pub bodies : (f h : Format) (ds : List Decl) (ls : List Line) → (decls_text f [] ds ++ lines_text f ds [] ls) ≡ (decls_text h [] ds ++ lines_text h ds [] ls)
+bodies f h ds ls = ap (λ t. t ++ lines_text f ds [] ls) (decls_texts f h [] ds) ∙ ap (λ t. decls_text h [] ds ++ t) (lines_texts f h ds [] ls)
+
+header_length : (f : Format) → length (header f) ≡ 8
+header_length One = refl
+header_length Two = refl
+
+pub heads_alike : (f h : Format) (ds : List Decl) (ls : List Line) → length (head (of f ds ls)) ≡ length (head (of h ds ls))
+heads_alike f h ds ls =
+    let one : length (head (of f ds ls)) ≡ length (header f) + length (decls_text f [] ds ++ lines_text f ds [] ls) = length-append (header f) (decls_text f [] ds ++ lines_text f ds [] ls) in
+    let two : length (head (of h ds ls)) ≡ length (header h) + length (decls_text h [] ds ++ lines_text h ds [] ls) = length-append (header h) (decls_text h [] ds ++ lines_text h ds [] ls) in
+    let same : length (decls_text f [] ds ++ lines_text f ds [] ls) ≡ length (decls_text h [] ds ++ lines_text h ds [] ls) = ap length (bodies f h ds ls) in
+    let a : length (header f) ≡ 8 = header_length f in
+    let b : length (header h) ≡ 8 = header_length h in
+    omega arith
+
+-- a limit is passed in one format where it is in another
+beyond_alike : (f h : Format) (ds : List Decl) (ls : List Line) → is_beyond (of f ds ls) ≡ is_beyond (of h ds ls)
+beyond_alike f h ds ls =
+    let g : GraphValue = of f ds ls in
+    ap (λ n. nat_lt 1048576 n || (nat_lt 64 (length (filter is_inst ds)) || (nat_lt 256 (length (columns g)) || (nat_lt 4194304 (cell_count g)
+    || (nat_lt 64 (length (locks g)) || (nat_lt 64 (length (barriers g)) || (nat_lt 8192 (length ls) || nat_lt 65536 (length (edges g)))))))))
+    (heads_alike f h ds ls)
+
+-- the tests of a declaration
+unknown_alike : (f h : Format) (ds : List Decl) (d : Decl) → decl_unknown (of f ds []) d ≡ decl_unknown (of h ds []) d
+unknown_alike f h ds (decl.Inst name space fields) = refl
+unknown_alike f h ds d = refl
+
+decl_faults_alike : (f h : Format) (ds : List Decl) (d : Decl) → decl_fault (of f ds []) d ≡ decl_fault (of h ds []) d
+decl_faults_alike f h ds d =
+    ap (λ b. decl_reasons (is_used (of f ds []) (decl_name d) || decl_repeats d) b (decl_misnumbered d) (is_large d || is_beyond (of f (ds ++ d ∷ []) []))) (unknown_alike f h ds d)
+    ∙ ap (λ b. decl_reasons (is_used (of f ds []) (decl_name d) || decl_repeats d) (decl_unknown (of h ds []) d) (decl_misnumbered d) (is_large d || b)) (beyond_alike f h (ds ++ d ∷ []) [])
+  where
+    decl_reasons : Bool → Bool → Bool → Bool → Option Why
+    decl_reasons a b c e = first_reason ((a, why.Twice) ∷ (b, why.Unknown) ∷ (c, why.Number) ∷ (e, why.Limit) ∷ [])
+
+decls_fit_in : (f h : Format) (before ds : List Decl) → DeclsFit f before ds → DeclsFit h before ds
+decls_fit_in f h before [] fits = tt
+decls_fit_in f h before (d ∷ ds) fits = (fits.0, sym (decl_faults_alike f h before d) ∙ fits.1, decls_fit_in f h (before ++ d ∷ []) ds fits.2)
+
+-- the tests of a line
+places_repeat : (f h : Format) (ds : List Decl) (ls : List Line) → place_repeats (of f ds ls) ≡ place_repeats (of h ds ls)
+places_repeat f h ds ls = λ i p n. each p n i
+  where
+    each : (p : Place) (n : ℕ) → place_repeats (of f ds ls) p n ≡ place_repeats (of h ds ls) p n
+    each places.User n = refl
+    each p n = refl
+
+verbs_repeat : (f h : Format) (ds : List Decl) (ls : List Line) (v : Verb) → verb_repeats (of f ds ls) v ≡ verb_repeats (of h ds ls) v
+verbs_repeat f h ds ls (Merge events) = refl
+verbs_repeat f h ds ls (MergeIgnore events) = refl
+verbs_repeat f h ds ls v = ap (λ (t : Place → ℕ → Bool). any_placed t (verb_placed v)) (places_repeat f h ds ls)
+
+places_unknown : (f h : Format) (ds : List Decl) (ls : List Line) → place_unknown (of f ds ls) ≡ place_unknown (of h ds ls)
+places_unknown f h ds ls = λ i p n. each p n i
+  where
+    each : (p : Place) (n : ℕ) → place_unknown (of f ds ls) p n ≡ place_unknown (of h ds ls) p n
+    each places.Barrier n = refl
+    each p n = refl
+
+places_unlike : (f h : Format) (ds : List Decl) (ls : List Line) → place_unlike (of f ds ls) ≡ place_unlike (of h ds ls)
+places_unlike f h ds ls = λ i p n. each p n i
+  where
+    each : (p : Place) (n : ℕ) → place_unlike (of f ds ls) p n ≡ place_unlike (of h ds ls) p n
+    each places.User n = refl
+    each p n = refl
+
+arrive_late : (f h : Format) (ds : List Decl) (ls : List Line) (v : Verb) → arrives_late (of f ds ls) v ≡ arrives_late (of h ds ls) v
+arrive_late f h ds ls (Arrive phase value weight) = refl
+arrive_late f h ds ls v = refl
+
+most_few : (f : Format) → most_weight f ≤ 8192
+most_few One = omega arith
+most_few Two = omega arith
+
+-- a weight of format 1 is one of format 2
+numbers_fit : (f : Format) (v : Verb) → verb_misnumbered f v ≡ false → verb_misnumbered Two v ≡ false
+numbers_fit f (Merge events) h = h
+numbers_fit f (MergeIgnore events) h = h
+numbers_fit f (Arrive phase value weight) h =
+    let parts = or_parts (nat_lt weight 1) (nat_lt (most_weight f) weight) h in
+    let most : weight ≤ most_weight f = ltb-false (most_weight f) weight parts.1 in
+    let few : most_weight f ≤ 8192 = most_few f in
+    or_from (nat_lt weight 1) (nat_lt 8192 weight) parts.0 (le-ltb 8192 weight (omega arith))
+numbers_fit f v h = refl
+
+line_fits_in : (f : Format) (ds : List Decl) (ls : List Line) (l : Line) → line_fault (of f ds ls) l ≡ None → line_fault (of Two ds ls) l ≡ None
+line_fits_in f ds ls l fits =
+    let number : verb_misnumbered f l.verb ≡ false = none_first (line_tests (of f ds ls) l) fits (verb_misnumbered f l.verb, why.Number) (3, omega arith, refl) in
+    let two : verb_misnumbered Two l.verb ≡ false = numbers_fit f l.verb number in
+    let g : GraphValue = of f ds ls in
+    let h : GraphValue = of Two ds ls in
+    let columns_repeat : Bool = repeats nat_eq (map (λ (a : Access). a.column) (verb_accesses l.verb)) in
+    let lines_unknown : Bool = list_any (λ i. nat_le (length ls) i) (named_lines l.verb ++ on_lines l.on) in
+    let reaches_unknown : Bool = list_any (access_unknown g) (verb_accesses l.verb) in
+    let outside : Bool = list_any (access_outside g) (verb_accesses l.verb) in
+    let no_on : Bool = takes_no_on l.verb && is_some l.on in
+    line_reasons_same _ _ _ _ _ _ _ _ _ _ _ _ _ _
+    (ap (λ b. is_used g l.name || (b || columns_repeat)) (sym (verbs_repeat f Two ds ls l.verb)))
+    (ap (λ (t : Place → ℕ → Bool). lines_unknown || (any_placed t (verb_placed l.verb) || reaches_unknown)) (sym (places_unknown f Two ds ls)))
+    (ap (λ (t : Place → ℕ → Bool). any_placed t (verb_placed l.verb) || no_on) (sym (places_unlike f Two ds ls)))
+    (two ∙ sym number)
+    refl
+    (sym (arrive_late f Two ds ls l.verb))
+    (ap (λ b. merges_many l.verb || b) (beyond_alike Two f ds (ls ++ l ∷ [])))
+    ∙ fits
+  where
+    line_reasons_same : (a a' b b' c c' d d' e e' x x' y y' : Bool) → a ≡ a' → b ≡ b' → c ≡ c' → d ≡ d' → e ≡ e' → x ≡ x' → y ≡ y' →
+        first_reason ((a, why.Twice) ∷ (b, why.Unknown) ∷ (c, why.Kind) ∷ (d, why.Number) ∷ (e, why.Outside) ∷ (x, why.Arrivals) ∷ (y, why.Limit) ∷ [])
+        ≡ first_reason ((a', why.Twice) ∷ (b', why.Unknown) ∷ (c', why.Kind) ∷ (d', why.Number) ∷ (e', why.Outside) ∷ (x', why.Arrivals) ∷ (y', why.Limit) ∷ [])
+    line_reasons_same a a' b b' c c' d d' e e' x x' y y' p q r s t u v = cc
+
+lines_fit_in : (f : Format) (ds : List Decl) (before ls : List Line) → LinesFit f ds before ls → LinesFit Two ds before ls
+lines_fit_in f ds before [] fits = tt
+lines_fit_in f ds before (l ∷ ls) fits = (fits.0, line_fits_in f ds before l fits.1, lines_fit_in f ds (before ++ l ∷ []) ls fits.2)
+
+-- it is a graph
+pub upgraded_fits : (g : GraphValue) → IsGraph g → IsGraph (upgraded g)
+upgraded_fits g h = record { decls = decls_fit_in g.format Two [] g.decls h.decls; lines = lines_fit_in g.format g.decls [] g.lines h.lines }
+
+-- within the same limits
+pub upgraded_limits : (g : GraphValue) → IsWithinLimits g → IsWithinLimits (upgraded g)
+upgraded_limits g h = record {
+  few_decls = h.few_decls;
+  few_lines = h.few_lines;
+  few_spaces = h.few_spaces;
+  few_columns = h.few_columns;
+  few_locks = h.few_locks;
+  few_barriers = h.few_barriers;
+  short_text = subst (λ n. n ≤ 1048576) (heads_alike g.format Two g.decls g.lines) h.short_text;
+  few_insts = h.few_insts;
+  few_cells = h.few_cells;
+  few_edges = h.few_edges;
+}
+
+stands : (g : GraphValue) (name : List ℕ) (x : Found) → StandsFor g name x → StandsFor (upgraded g) name x
+stands g name (found.Space s) h = h
+stands g name (found.Inst d) h = h
+stands g name (found.Lock l) h = h
+stands g name (found.Barrier b) h = h
+stands g name (found.Line i) h = h
+
+named_by : (g : GraphValue) (name : List ℕ) (o : Option Found) → MatchOption o (is_used g name ≡ false) (StandsFor g name) → MatchOption o (is_used (upgraded g) name ≡ false) (StandsFor (upgraded g) name)
+named_by g name None h = h
+named_by g name (Some x) h = stands g name x h
+
+-- with the same names, rows and quantities
+pub upgraded_names : (g : GraphValue) (names : NamesValue) → AreNamesOf g names → AreNamesOf (upgraded g) names
+upgraded_names g names h = record { each = λ name. named_by g name (named names name) (h.each name) }
+
+pub upgraded_rows : (g : GraphValue) (rows : RowsValue) → AreRowsOf g rows → AreRowsOf (upgraded g) rows
+upgraded_rows g rows a = record { into_count = a.into_count; from_count = a.from_count; mark_count = a.mark_count; into = a.into; from = a.from; mark = a.mark }
+
+pub upgraded_counts : (g : GraphValue) → counts_of g ≡ counts_of (upgraded g)
+upgraded_counts g = ap (λ n. with_text n (counts_of g)) (heads_alike g.format Two g.decls g.lines)
+  where
+    with_text : ℕ → Counts → Counts
+    with_text n c = record { text = n; insts = c.insts; columns = c.columns; cells = c.cells; locks = c.locks; barriers = c.barriers; lines = c.lines; edges = c.edges }
+
+-- the quantities of a graph without items
+pub empty_counts : (f : Format) → counts_of (of One [] []) ≡ counts_of (of f [] [])
+empty_counts One = refl
+empty_counts Two = upgraded_counts (of One [] [])
