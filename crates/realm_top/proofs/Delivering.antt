@@ -175,8 +175,8 @@ module _ (A : Status → List ℕ → Type 0) (s t : SinkState) (result : Status
 
   -- answers of one kind are answers of another
   pub answered_by : (B : Status → List ℕ → Type 0) → ((wanted : Status) (out : List ℕ) → A wanted out → B wanted out) → IsAnswered A s t result → IsAnswered B s t result
-  answered_by B as (inl n) = inl n
-  answered_by B as (inr (wanted, out, a, d)) = inr (wanted, out, as wanted out a, d)
+  answered_by B change (inl n) = inl n
+  answered_by B change (inr (wanted, out, a, d)) = inr (wanted, out, change wanted out a, d)
 
 -- what becomes of a graph that was read is the answer to its text, and so is what is refused
 pub judged_input : (request : Request) (bytes : List ℕ) (g : GraphValue) → GraphText bytes g → (status : Status) (out : List ℕ) → Judged request g status out → InputAnswers request bytes status out

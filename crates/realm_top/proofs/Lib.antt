@@ -8,3 +8,4 @@ pub mod Requests
 pub mod SummaryLines
 pub mod RunFacts
 pub mod UnlawfulLines
+pub mod Timelines

@@ -168,11 +168,15 @@ unlawful_at g trace fault k = spelled (codes "unlawful" ∷ fault ∷ decimal (k
 abbrev pub unlawful_with : GraphValue → List ℕ → List ℕ → ℕ → ℕ → List ℕ
 unlawful_with g trace fault k j = spelled (codes "unlawful" ∷ fault ∷ decimal (k + 1) ∷ name_at g trace k ∷ line_name g j ∷ [])
 
+-- the line for a line that ends and is not in a trace
+abbrev pub unlawful_without : GraphValue → ℕ → List ℕ
+unlawful_without g j = spelled (codes "unlawful" ∷ codes "missing" ∷ line_name g j ∷ [])
+
 -- the line for a trace that is not lawful; want of memory has none
 abbrev pub unlawful_text : GraphValue → List ℕ → AuditRefusal → Option (List ℕ)
 unlawful_text g trace (audit.Repeat k) = Some (unlawful_at g trace (codes "repeat") k)
 unlawful_text g trace (audit.Waits k) = Some (unlawful_at g trace (codes "waits") k)
 unlawful_text g trace (audit.Source k j) = Some (unlawful_with g trace (codes "source") k j)
 unlawful_text g trace (audit.Overlap k q) = Some (unlawful_with g trace (codes "overlap") k q)
-unlawful_text g trace (audit.Missing j) = Some (spelled (codes "unlawful" ∷ codes "missing" ∷ line_name g j ∷ []))
+unlawful_text g trace (audit.Missing j) = Some (unlawful_without g j)
 unlawful_text g trace audit.NoMemory = None

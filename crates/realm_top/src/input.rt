@@ -1,6 +1,6 @@
 //! What is done with an input that was read to its end.
 
-ghost use Rattle.std.specs.Prelude.{◌≡◌, ℕ, ◌<◌, ◌≤◌, ◌⊎◌, List, [], false, length, Some, slice_get, IfOk};
+ghost use Rattle.std.specs.Prelude.{◌≡◌, ℕ, ◌<◌, ◌≤◌, ◌⊎◌, List, [], true, false, length, Some, slice_get, IfOk};
 ghost use Rattle.graph_model.specs.meaning.Evaluation.{outcome};
 ghost use Rattle.graph_model.specs.meaning.Trace.{IsLawful};
 ghost use Rattle.graph_model.specs.declared.graph.why.Why.{Why};

@@ -1,6 +1,6 @@
 //! What is done by `make`, which reads nothing.
 
-ghost use Rattle.std.specs.Prelude.{◌≡◌, ℕ, ◌≤◌, ◌⊎◌, List};
+ghost use Rattle.std.specs.Prelude.{◌≡◌, ℕ, ◌≤◌, ◌⊎◌, false, List};
 ghost use Rattle.graph_reader.specs.Text.{text};
 ghost use Rattle.graph_gen.specs.MadeGraph.{made_graph};
 ghost use Rattle.realm_top.specs.Delivered.{Delivers, IsAnswered};

@@ -5,7 +5,7 @@ ghost use Rattle.realm_io.specs.Written.{Writes};
 ghost use Rattle.realm_audit.specs.Reading.{AreLines};
 ghost use Rattle.realm_audit.specs.Lawful.{NamesLines};
 ghost use Rattle.realm_audit.specs.declared.refusal.AuditRefusal.{AuditRefusal};
-ghost use Rattle.realm_top.specs.Texts.{trace_refused_text, unlawful_at, unlawful_with, unlawful_text};
+ghost use Rattle.realm_top.specs.Texts.{trace_refused_text, unlawful_at, unlawful_with, unlawful_without, unlawful_text};
 
 use crate::report::{put_five, put_four, put_three};
 use graph_model::graph::Graph;
@@ -62,6 +62,14 @@ fn put_with<K: Sink>(
     put_five(sink, b"unlawful", fault, digits, name, graph.line(other).name.bytes())
 }
 
+/// Writes that a line ends and is not in a trace.
+fn put_missing<K: Sink>(sink: &mut K, graph: &Graph, line: u32) -> Result<(), WriteFault>
+    requires { line < length graph.now.lines }
+    ensures { Writes (K.state sink.old) (K.state sink.new) result (unlawful_without graph.now line) }
+{
+    put_three(sink, b"unlawful", b"missing", graph.line(line).name.bytes())
+}
+
 /// Writes why a trace is not lawful.
 pub(crate) fn put_unlawful<K: Sink>(
     sink: &mut K,
@@ -84,9 +92,7 @@ pub(crate) fn put_unlawful<K: Sink>(
         AuditRefusal::Overlap(place, acquire) => {
             put_with(sink, graph, trace, b"overlap", place, acquire)
         }
-        AuditRefusal::Missing(line) => {
-            put_three(sink, b"unlawful", b"missing", graph.line(line).name.bytes())
-        }
+        AuditRefusal::Missing(line) => put_missing(sink, graph, line),
         AuditRefusal::NoMemory => Ok(()),
     }
 }
