@@ -53,9 +53,10 @@ fn audit_trace<K: Sink>(alloc: Global, checked: &Checked, back: &[u8], sink: &mu
     ensures read { IsAnswered (TraceAnswers checked.now.graph back.now) (K.state sink.old) (K.state sink.new) result }
     ensures no_memory { result ≡ Status.NoMemory → sink.new ≡ sink.old }
 {
-    match read_trace(alloc, checked.graph(), back) {
+    let graph = checked.graph();
+    match read_trace(alloc, graph, back) {
         Ok(trace) => judge_trace(alloc, checked, &trace, sink),
-        Err(TraceRefusal::Line(number)) => put_no_trace(sink, checked.graph(), number),
+        Err(TraceRefusal::Line(number)) => put_no_trace(sink, graph, number),
         Err(TraceRefusal::NoMemory) => Status::NoMemory,
     }
 }
@@ -87,10 +88,11 @@ fn judge_trace<K: Sink>(
     let Ok(outcome) = eval(alloc, checked) else {
         return Status::NoMemory;
     };
-    match audit(alloc, checked.graph(), &outcome.ends, trace) {
+    let graph = checked.graph();
+    match audit(alloc, graph, &outcome.ends, trace) {
         Ok(()) => put_text(sink, b"lawful\n", Status::Done),
         Err(AuditRefusal::NoMemory) => Status::NoMemory,
-        Err(why) => put_fault(sink, checked.graph(), trace, why),
+        Err(why) => put_fault(sink, graph, trace, why),
     }
 }
 

@@ -1,9 +1,7 @@
-use Rattle.std.proofs.Common.{refl, inr, subst, ◌≡◌, ◌≤◌}
-use Rattle.std.specs.Prelude.{max}
-use Rattle.realm_io.specs.Written.{Wrote, Stopped}
+use Rattle.std.proofs.Common.{refl, inr}
 use Rattle.realm_timeline.specs.Text.{timeline_text}
 use Rattle.realm_top.proofs.Delivering.{written_then_flushed, stopped_is_broken}
-use Rattle.realm_top.proofs.Timelines.{timeline_certified}
+use Rattle.realm_top.proofs.Timelines.{timeline_certified, wrote_timeline, stopped_timeline}
 use Rattle.realm_top.proofs.planning.plan_graph.Goals as goal
 
 pub returns-in-Ok-put_timeline-clause-done : goal.returns-in-Ok-put_timeline-clause-done
@@ -14,7 +12,7 @@ returns-in-Ok-put_timeline-clause-done g c =
     inr (
       timeline_text graph t,
       timeline_certified graph c.max.result _ t c.max.ensures p.plan p.valid p.greedy p.length p.total p.critical p.critical_cost p.at_least p.at_most,
-      written_then_flushed _ _ _ _ c.flush.result (timeline_text graph t) (subst (λ x. Wrote _ _ (timeline_text x t)) c.graph.ensures.graph c.in-Ok-put_timeline.ensures) c.flush.ensures,
+      written_then_flushed _ _ _ _ c.flush.result (timeline_text graph t) (wrote_timeline _ _ c.graph.result.now graph t c.graph.ensures.graph c.in-Ok-put_timeline.ensures) c.flush.ensures,
     )
 
 pub returns-clause-done : goal.returns-clause-done
@@ -25,5 +23,5 @@ returns-clause-done g c =
     inr (
       timeline_text graph t,
       timeline_certified graph c.max.result _ t c.max.ensures p.plan p.valid p.greedy p.length p.total p.critical p.critical_cost p.at_least p.at_most,
-      inr (refl, stopped_is_broken _ _ (timeline_text graph t) (subst (λ x. Stopped _ _ (timeline_text x t)) c.graph.ensures.graph c.in-Err.ensures)),
+      inr (refl, stopped_is_broken _ _ (timeline_text graph t) (stopped_timeline _ _ c.graph.result.now graph t c.graph.ensures.graph c.in-Err.ensures)),
     )
