@@ -147,8 +147,7 @@ const ALL_DONE: &[(&[&str], &str, &str)] = &[
         "phase p 5\n\
          done\n",
     ),
-    (RUNS, WEIGHTED_ARRIVALS, "phase p 6\n\
-         done\n"),
+    (RUNS, WEIGHTED_ARRIVALS, "phase p 6\ndone\n"),
     // two fills of the same cells, the second on the first
     (
         RUNS,
