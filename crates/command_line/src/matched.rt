@@ -20,6 +20,7 @@ pub(crate) fn action_by_word(word: &str) -> Option<Action>
         "make" => Some(Action::Make),
         "audit" => Some(Action::Audit),
         "timeline" => Some(Action::Timeline),
+        "upgrade" => Some(Action::Upgrade),
         _ => None,
     }
 }

@@ -33,7 +33,7 @@ impl Allowed {
 impl fmt::Display for Allowed {
     fn fmt<W: fmt::Write>(&self, f: &mut fmt::Formatter<W>) -> fmt::Result {
         match self {
-            Allowed::Action => f.write_str("run, check, eval, make, audit or timeline"),
+            Allowed::Action => f.write_str("run, check, eval, make, upgrade, audit or timeline"),
             Allowed::Engine => f.write_str("words or lock"),
             Allowed::Number { least, most } => write!(f, "{least} to {most}"),
         }

@@ -26,6 +26,8 @@ pub enum Action {
     Audit,
     /// A graph is read, checked and planned in virtual time, and its timeline is written.
     Timeline,
+    /// A graph is read, and its text in format 2 is written.
+    Upgrade,
 }
 
 /// What runs a graph.

@@ -29,4 +29,6 @@ mod text_tests;
 #[cfg(test)]
 mod tile_tests;
 #[cfg(test)]
+mod upgrade_tests;
+#[cfg(test)]
 mod word_tests;

@@ -171,7 +171,7 @@ fn bytes(rt: HostRuntime) -> Result<(), Fail> {
     let longer = [(text.as_str(), "input too long\n")];
     run_texts(
         &rt,
-        &["run", "check", "eval", "timeline"],
+        &["run", "check", "eval", "timeline", "upgrade"],
         Status::TooLong,
         &longer,
     )

@@ -3,6 +3,7 @@ pub mod ReportRest
 pub mod Fitting
 pub mod Delivering
 pub mod AuditAnswers
+pub mod UpgradeAnswers
 pub mod MadeRequests
 pub mod Requests
 pub mod SummaryLines

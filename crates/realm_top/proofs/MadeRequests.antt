@@ -6,7 +6,7 @@ use Rattle.realm_io.specs.SinkState.{SinkState}
 use Rattle.realm_io.specs.Written.{Wrote, Stopped}
 use Rattle.command_line.specs.declared.request.Request.{Request}
 use Rattle.command_line.specs.declared.request.Action.{Action}
-use Rattle.command_line.specs.declared.request.Action.TheVariants.{Run, Check, Eval, Make, Audit, Timeline}
+use Rattle.command_line.specs.declared.request.Action.TheVariants.{Run, Check, Eval, Make, Audit, Timeline, Upgrade}
 use Rattle.graph_model.specs.graph.Graph.{GraphValue}
 use Rattle.graph_model.specs.meaning.Evaluation.{outcome}
 use Rattle.graph_model.specs.declared.meaning.outcome.Outcome.{Outcome}
@@ -73,6 +73,7 @@ run_reports Check traced g trace ne = refl
 run_reports Eval traced g trace ne = refl
 run_reports Timeline traced g trace ne = refl
 run_reports Audit traced g trace ne = refl
+run_reports Upgrade traced g trace ne = refl
 
 -- the same of a graph that is the same
 pub wrote_run : (s t : SinkState) (x : Action) (traced : Bool) (g h : GraphValue) (trace : List ℕ) → g ≡ h → Wrote s t (run_text x traced g trace) → Wrote s t (run_text x traced h trace)

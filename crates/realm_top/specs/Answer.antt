@@ -10,7 +10,7 @@ use Rattle.graph_model.specs.meaning.Need.{IsNeed}
 use Rattle.graph_model.specs.meaning.Trace.{IsLawful}
 use Rattle.graph_model.specs.meaning.Evaluation.{eval_end, outcome, order, Unbroken}
 use Rattle.command_line.specs.declared.request.Action.{Action}
-use Rattle.command_line.specs.declared.request.Action.TheVariants.{Run, Check, Eval, Make, Audit, Timeline}
+use Rattle.command_line.specs.declared.request.Action.TheVariants.{Run, Check, Eval, Make, Audit, Timeline, Upgrade}
 use Rattle.command_line.specs.declared.request.Request.{Request}
 use Rattle.realm_trace.specs.Text.{trace_text}
 use Rattle.realm_timeline.specs.Timeline.{TimelineValue}
@@ -26,6 +26,7 @@ use Rattle.realm_top.specs.declared.status.Status.TheVariants.{Done, Unread, Unf
 use Rattle.realm_top.specs.Delivered.{Delivered, IsAnswered}
 use Rattle.realm_top.specs.Refused.{IsRefused, IsUnfit}
 use Rattle.realm_top.specs.AuditAnswer.{AUDIT_LIMIT, AuditAnswers, AuditAsks}
+use Rattle.realm_top.specs.UpgradeAnswer.{UpgradeAnswers, UpgradeAsks}
 use Rattle.realm_top.specs.Texts.{report, made_text, too_long_text, accepted_text, slots_text}
 
 -- the text that is the report of the one-thread evaluation of a graph
@@ -54,20 +55,55 @@ evaluation_text traced g = report_with traced g (order g)
 abbrev pub IsRunText : Bool → GraphValue → List ℕ → Type 0
 IsRunText traced g out = (trace : List ℕ) × IsLawful g trace × (out ≡ report_with traced g trace)
 
--- whether an action reads an input
+-- what an action has to do with: a graph that is read and checked, such a graph with a trace behind it, a graph that is read alone, or one that is made
+pub data Work : Type 0 where
+  Checked Audited Upgraded Made : Work
+
+abbrev pub work : Action → Work
+work Run = Checked
+work Check = Checked
+work Eval = Checked
+work Timeline = Checked
+work Audit = Audited
+work Upgrade = Upgraded
+work Make = Made
+
+abbrev pub is_checked : Work → Bool
+is_checked Checked = true
+is_checked _ = false
+
+abbrev pub is_audited : Work → Bool
+is_audited Audited = true
+is_audited _ = false
+
+abbrev pub is_upgraded : Work → Bool
+is_upgraded Upgraded = true
+is_upgraded _ = false
+
+abbrev pub is_read : Work → Bool
+is_read Made = false
+is_read _ = true
+
+-- whether an action reads an input, of a graph alone that is checked, of a graph with a trace, or of a graph alone that is not checked
 abbrev pub reads : Action → Bool
-reads Make = false
-reads _ = true
+reads action = is_read (work action)
 
--- whether a trace stands in it behind the graph
+abbrev pub checks : Action → Bool
+checks action = is_checked (work action)
+
 abbrev pub audits : Action → Bool
-audits Audit = true
-audits _ = false
+audits action = is_audited (work action)
 
--- the most bytes that it may have
+abbrev pub upgrades : Action → Bool
+upgrades action = is_upgraded (work action)
+
+-- the most bytes that the input may have
+abbrev pub limit_for : Work → ℕ
+limit_for Audited = AUDIT_LIMIT
+limit_for _ = MAX_TEXT
+
 abbrev pub input_limit : Action → ℕ
-input_limit Audit = AUDIT_LIMIT
-input_limit _ = MAX_TEXT
+input_limit action = limit_for (work action)
 
 -- whether a graph is run: by `run`, and by `make` where the graph's text is not asked for
 abbrev pub runs : Action → Bool → Bool
@@ -111,7 +147,7 @@ pub record IsTimelineText (processors : ℕ) (g : GraphValue) (out : List ℕ) :
 abbrev pub processors_for : Request → ℕ
 processors_for request = max request.workers 1
 
--- what an action writes of an accepted graph with this need; `audit` has an answer of its own
+-- what an action writes of an accepted graph with this need; `audit` and `upgrade` have answers of their own
 abbrev pub Says : Action → Request → GraphValue → ℕ → List ℕ → Type 0
 Says Run request g need out = IsRunText request.trace g out
 Says Eval request g need out = out ≡ evaluation_text request.trace g
@@ -119,6 +155,7 @@ Says Check request g need out = out ≡ accepted_text need
 Says Timeline request g need out = IsTimelineText (processors_for request) g out
 Says Make request g need out = out ≡ made_says false g
 Says Audit request g need out = ⊥
+Says Upgrade request g need out = ⊥
 
 -- what becomes of an accepted graph, and the text that goes with it
 abbrev pub Served : Request → GraphValue → Status → List ℕ → Type 0
@@ -144,18 +181,22 @@ MadeAnswers true request g _ out = ⊥
 MadeAnswers false request g status out = Served request g status out
 
 -- the bytes that an action works on: all that the source has left, or none where nothing is read
+abbrev pub IsInputFor : Work → Option (List ℕ) → List ℕ → Type 0
+IsInputFor Made left bytes = bytes ≡ []
+IsInputFor _ left bytes = left ≡ Some bytes
+
 abbrev pub IsInput : Action → Option (List ℕ) → List ℕ → Type 0
-IsInput Make left bytes = bytes ≡ []
-IsInput _ left bytes = left ≡ Some bytes
+IsInput action left bytes = IsInputFor (work action) left bytes
 
 -- the answer to a request with these bytes, and the text that goes with it
-abbrev pub AnswersBy : Action → Request → List ℕ → Status → List ℕ → Type 0
-AnswersBy Make request bytes status out = MadeAnswers request.text request (made_graph request.seed request.size) status out
-AnswersBy Audit request bytes status out = AuditAnswers bytes status out
-AnswersBy _ request bytes status out = InputAnswers request bytes status out
+abbrev pub AnswersFor : Work → Request → List ℕ → Status → List ℕ → Type 0
+AnswersFor Checked request bytes status out = InputAnswers request bytes status out
+AnswersFor Audited request bytes status out = AuditAnswers bytes status out
+AnswersFor Upgraded request bytes status out = UpgradeAnswers bytes status out
+AnswersFor Made request bytes status out = MadeAnswers request.text request (made_graph request.seed request.size) status out
 
 abbrev pub Answers : Request → List ℕ → Status → List ℕ → Type 0
-Answers request bytes status out = AnswersBy request.action request bytes status out
+Answers request bytes status out = AnswersFor (work request.action) request bytes status out
 
 -- an accepted graph is given slots enough, or too few. A graph has one need at most
 abbrev pub EnoughSlots : Request → GraphValue → Type 0
@@ -181,13 +222,14 @@ MadeAsks false request g Slots = TooFewSlots request g
 MadeAsks texted request g status = ⊥
 
 -- the status that a request asks for with these bytes
-abbrev pub AsksBy : Action → Request → List ℕ → Status → Type 0
-AsksBy Make request bytes status = MadeAsks request.text request (made_graph request.seed request.size) status
-AsksBy Audit request bytes status = AuditAsks bytes status
-AsksBy _ request bytes status = InputAsks request bytes status
+abbrev pub AsksFor : Work → Request → List ℕ → Status → Type 0
+AsksFor Checked request bytes status = InputAsks request bytes status
+AsksFor Audited request bytes status = AuditAsks bytes status
+AsksFor Upgraded request bytes status = UpgradeAsks bytes status
+AsksFor Made request bytes status = MadeAsks request.text request (made_graph request.seed request.size) status
 
 abbrev pub AsksStatus : Request → List ℕ → Status → Type 0
-AsksStatus request bytes status = AsksBy request.action request bytes status
+AsksStatus request bytes status = AsksFor (work request.action) request bytes status
 
 -- an action that reads a graph alone was done with these bytes: they are the one text of an accepted graph, a run was given enough slots, and the text of the action was written and flushed
 pub record IsDone (request : Request) (bytes : List ℕ) (old new : SinkState) : Type 0 where

@@ -1,7 +1,7 @@
 //! What actions read.
 
 ghost use Rattle.std.specs.Prelude.{◌≡◌};
-ghost use Rattle.realm_top.specs.Answer.{reads, audits, input_limit};
+ghost use Rattle.realm_top.specs.Answer.{reads, audits, upgrades, input_limit};
 
 use command_line::request::Action;
 use graph_model::limits::MAX_TEXT;
@@ -28,6 +28,16 @@ pub(crate) fn audits(action: Action) -> bool
 {
     match action {
         Action::Audit => true,
+        _ => false,
+    }
+}
+
+/// Whether a graph is read and not checked.
+pub(crate) fn upgrades(action: Action) -> bool
+    ensures { result ≡ upgrades action }
+{
+    match action {
+        Action::Upgrade => true,
         _ => false,
     }
 }

@@ -11,9 +11,9 @@ ghost use Rattle.realm_io.specs.Written.{Writes};
 ghost use Rattle.realm_top.specs.Texts.{unread_text, accepted_text, slots_text};
 ghost use Rattle.realm_top.specs.Delivered.{Delivers, IsAnswered};
 ghost use Rattle.realm_top.specs.Refused.{Refuses, Rejects};
-ghost use Rattle.realm_top.specs.Answer.{evaluation_text, report_with, run_text, runs, reads, audits, input_limit, is_short, InputAnswers, Answered, Serves, Settled};
+ghost use Rattle.realm_top.specs.Answer.{evaluation_text, report_with, run_text, runs, reads, audits, upgrades, input_limit, is_short, InputAnswers, Answered, Serves, Settled};
 
-use crate::actions::audits;
+use crate::actions::{audits, upgrades};
 use crate::auditing::answer_audit;
 use crate::planning::plan_graph;
 use crate::refusal::{put_accepted, put_broken, put_slots, put_unread};
@@ -21,6 +21,7 @@ use crate::report::put_parts;
 use crate::running::run_graph;
 use crate::status::Status;
 use crate::summary::put_summary;
+use crate::upgrading::answer_upgrade;
 use command_line::request::{Action, MAX_WORKERS, Request};
 use graph_model::graph::Graph;
 use graph_model::limits::MAX_TEXT;
@@ -53,6 +54,8 @@ pub(crate) fn answer<R: Threads + Wait + Sync, K: Sink, G: Gate>(
 {
     if audits(request.action) {
         answer_audit(alloc, bytes, sink)
+    } else if upgrades(request.action) {
+        answer_upgrade(alloc, bytes, sink)
     } else {
         answer_graph(rt, alloc, request, bytes, sink, gate)
     }
@@ -67,7 +70,7 @@ fn answer_graph<R: Threads + Wait + Sync, K: Sink, G: Gate>(
     sink: &mut K,
     gate: &G,
 ) -> Status
-    requires alone { audits request.action ≡ false }
+    requires checks { (audits request.action ≡ false) × (upgrades request.action ≡ false) }
     requires short { length bytes.now ≤ MAX_TEXT }
     requires workers { request.workers ≤ MAX_WORKERS }
     ensures answered { IsAnswered (InputAnswers request bytes.now) (K.state sink.old) (K.state sink.new) result }
@@ -88,7 +91,7 @@ pub(crate) fn judge<R: Threads + Wait + Sync, K: Sink, G: Gate>(
     sink: &mut K,
     gate: &G,
 ) -> Status
-    requires alone { audits request.action ≡ false }
+    requires checks { (audits request.action ≡ false) × (upgrades request.action ≡ false) }
     requires workers { request.workers ≤ MAX_WORKERS }
     ensures settled { Settled request graph (K.state sink.old) (K.state sink.new) result }
     ensures no_memory { result ≡ Status.NoMemory → sink.new ≡ sink.old }
@@ -108,7 +111,7 @@ fn serve<R: Threads + Wait + Sync, K: Sink, G: Gate>(
     sink: &mut K,
     gate: &G,
 ) -> Status
-    requires alone { audits request.action ≡ false }
+    requires checks { (audits request.action ≡ false) × (upgrades request.action ≡ false) }
     requires workers { request.workers ≤ MAX_WORKERS }
     ensures served { Serves request checked.now.graph (K.state sink.old) (K.state sink.new) result }
     ensures no_memory { result ≡ Status.NoMemory → sink.new ≡ sink.old }
@@ -122,7 +125,7 @@ fn serve<R: Threads + Wait + Sync, K: Sink, G: Gate>(
         Action::Eval => evaluate(alloc, request.trace, checked, sink),
         Action::Check => put_need(sink, checked.need()),
         Action::Timeline => plan_graph(alloc, request.workers, checked, sink),
-        Action::Audit => unreachable!(),
+        Action::Audit | Action::Upgrade => unreachable!(),
     }
 }
 

@@ -12,6 +12,7 @@ mod running;
 pub mod status;
 mod summary;
 mod unlawful;
+mod upgrading;
 
 ghost use Rattle.std.specs.Prelude.{◌≡◌, ℕ, ◌≤◌, ◌⊎◌, List, None, true, false, IfSome};
 ghost use Rattle.std.specs.Io.KnownBytes.{IsAtEnd};
@@ -21,8 +22,9 @@ ghost use Rattle.graph_reader.specs.Text.{GraphText};
 ghost use Rattle.graph_gen.specs.MadeGraph.{made_graph};
 ghost use Rattle.command_line.specs.Request.{request_of_words, Asks};
 ghost use Rattle.command_line.specs.declared.request.Request.{Request};
-ghost use Rattle.realm_top.specs.Answer.{reads, audits, made_says, EndsByPaths, IsInput, Answers, AsksStatus, IsDone};
+ghost use Rattle.realm_top.specs.Answer.{reads, checks, audits, upgrades, made_says, EndsByPaths, IsInput, Answers, AsksStatus, IsDone};
 ghost use Rattle.realm_top.specs.AuditAnswer.{IsAudited};
+ghost use Rattle.realm_top.specs.UpgradeAnswer.{IsUpgraded};
 ghost use Rattle.realm_top.specs.Delivered.{Delivered, BrokenOff};
 ghost use Rattle.realm_top.specs.Status.{words_status, is_of_input, is_refusal};
 ghost use Rattle.realm_top.specs.declared.status.Status.{Status};
@@ -41,7 +43,8 @@ use std::sync::Wait;
 use std::thread::Threads;
 
 /// Does what the words ask for. `run`, `check`, `eval` and `timeline` read a graph and check it; `audit`
-/// reads a graph with a trace behind it; `make` reads nothing and makes a graph of the seed and the size.
+/// reads a graph with a trace behind it; `upgrade` reads a graph and does not check it; `make` reads
+/// nothing and makes a graph of the seed and the size.
 ///
 /// `words` are the program's name, the word of the action, and options. A graph is run by as many
 /// workers as they say. A worker passes the gate before it performs a line, and may wait there and for
@@ -54,24 +57,28 @@ pub fn realm<R: Threads + Wait + Sync, S: Source, K: Sink, G: Gate>(
     sink: &mut K,
     gate: &G,
 ) -> Status
-    // Done, of an action that reads a graph alone, for every input, number of workers, gate and schedule: the input is
+    // Done, of an action that reads a graph alone and checks it, for every input, number of workers, gate and schedule: the input is
     // the one text of an accepted graph, and the text of the action was written and flushed: for `run` and `eval` the
     // report of the graph's one-thread evaluation, followed where it is asked for by a trace, for `run` a lawful one and
     // for `eval` the evaluation's order; for `check` its need; for `timeline` a plan with its certificate.
     ensures done { result ≡ Status.Done → (request : Request) × Asks words.now request
-        × (reads request.action ≡ true → audits request.action ≡ false
+        × (checks request.action ≡ true
         → IfSome (S.left source.old) (λ bytes. IsDone request bytes (K.state sink.old) (K.state sink.new))) }
 
     // Of that graph: a line waits exactly where one that never comes reaches it, and a line is cancelled exactly
     // where an unbroken path from a fault reaches it.
     ensures paths { result ≡ Status.Done → (request : Request) × Asks words.now request
-        × (reads request.action ≡ true → audits request.action ≡ false
+        × (checks request.action ≡ true
         → IfSome (S.left source.old) (λ bytes. (g : GraphValue) → GraphText bytes g → EndsByPaths g)) }
 
     // Done, of `audit`: the input, cut after its first line that is exactly `end`, is the one text of an accepted graph
     // and that of a lawful trace of it, and `lawful` was written and flushed.
     ensures lawful { result ≡ Status.Done → (request : Request) × Asks words.now request × (audits request.action ≡ true
         → IfSome (S.left source.old) (λ bytes. IsAudited bytes (K.state sink.old) (K.state sink.new))) }
+
+    // Done, of `upgrade`: the input is the one text of a graph, and its text in format 2 was written and flushed.
+    ensures upgraded { result ≡ Status.Done → (request : Request) × Asks words.now request × (upgrades request.action ≡ true
+        → IfSome (S.left source.old) (λ bytes. IsUpgraded bytes (K.state sink.old) (K.state sink.new))) }
 
     // And all of the input was read.
     ensures at_end { result ≡ Status.Done → (request : Request) × Asks words.now request × (reads request.action ≡ true

@@ -4,7 +4,7 @@ ghost use Rattle.std.specs.Prelude.{◌≡◌, ℕ, ◌≤◌, ◌⊎◌, false,
 ghost use Rattle.graph_reader.specs.Text.{text};
 ghost use Rattle.graph_gen.specs.MadeGraph.{made_graph};
 ghost use Rattle.realm_top.specs.Delivered.{Delivers, IsAnswered};
-ghost use Rattle.realm_top.specs.Answer.{MadeAnswers, audits};
+ghost use Rattle.realm_top.specs.Answer.{MadeAnswers, audits, upgrades};
 
 use crate::input::{flush, judge};
 use crate::status::Status;
@@ -26,7 +26,7 @@ pub(crate) fn answer_made<R: Threads + Wait + Sync, K: Sink, G: Gate>(
     sink: &mut K,
     gate: &G,
 ) -> Status
-    requires alone { audits request.action ≡ false }
+    requires checks { (audits request.action ≡ false) × (upgrades request.action ≡ false) }
     requires size { (1 ≤ request.size) × (request.size ≤ MAX_SIZE) }
     requires workers { request.workers ≤ MAX_WORKERS }
     ensures answered { IsAnswered (MadeAnswers request.text request (made_graph request.seed request.size))
@@ -45,7 +45,7 @@ pub(crate) fn answer_made<R: Threads + Wait + Sync, K: Sink, G: Gate>(
 }
 
 /// Writes the text of a graph, and flushes it.
-fn put_made<K: Sink>(sink: &mut K, graph: &Graph) -> Status
+pub(crate) fn put_made<K: Sink>(sink: &mut K, graph: &Graph) -> Status
     ensures { Delivers (K.state sink.old) (K.state sink.new) Status.Done result (text graph.now) }
 {
     match put_graph(sink, graph) {

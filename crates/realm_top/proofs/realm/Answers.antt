@@ -1,13 +1,13 @@
 use Rattle.std.proofs.Common.{◌≡◌, ◌<◌, ℕ, List, length, false, ap, Err, sym, subst, ◌∙◌}
 use Rattle.std.proofs.lemmas.Option.{same_Some}
 use Rattle.command_line.specs.declared.request.Request.{Request}
-use Rattle.realm_top.specs.Answer.{input_limit}
+use Rattle.realm_top.specs.Answer.{input_limit, work}
 use Rattle.realm_top.proofs.Delivering.{more_left, if_some, ends_by_paths}
-use Rattle.realm_top.proofs.Requests.{made_alone, request_refused, request_cut_off, request_complete, request_done, request_audited, request_made, answered_input, answered_long, answered_made, read_answered}
+use Rattle.realm_top.proofs.Requests.{made_else, request_refused, request_cut_off, request_complete, request_done, request_audited, request_upgraded, request_made, answered_input, answered_long, answered_made, read_answered}
 use Rattle.realm_top.proofs.realm.Goals as goal
 
-pub answer_made-requires-clause-alone : goal.answer_made-requires-clause-alone
-answer_made-requires-clause-alone g c = made_alone c.in-Ok.request.action (sym c.if-not-reads.ensures)
+pub answer_made-requires-clause-checks : goal.answer_made-requires-clause-checks
+answer_made-requires-clause-checks g c = made_else (work c.in-Ok.request.action) (sym c.if-not-reads.ensures)
 
 pub returns-then-not-reads-clause-made : goal.returns-then-not-reads-clause-made
 returns-then-not-reads-clause-made g c = λ e. (c.in-Ok.request, c.in-Ok.ensures.request, λ r. request_made c.in-Ok.request _ _ c.answer_made.result r c.answer_made.ensures.answered e)
@@ -33,7 +33,7 @@ pub returns-in-Ok-read_all-clause-done : goal.returns-in-Ok-read_all-clause-done
 returns-in-Ok-read_all-clause-done g c = λ e. (
   c.in-Ok.request,
   c.in-Ok.ensures.request,
-  λ r n. if_some (g.S.Source.left c.args.source.now) _ (λ xs h. request_done c.in-Ok.request xs _ _ c.answer.result r n
+  λ y. if_some (g.S.Source.left c.args.source.now) _ (λ xs h. request_done c.in-Ok.request xs _ _ c.answer.result y
       (read_answered c.in-Ok.request _ _ c.in-Ok-read_all.bytes.items _ _ _ c.answer.result c.in-Ok-read_all.ensures.all c.in-Ok-read_all.ensures.end c.as_slice.ensures.value c.answer.ensures.answered xs h) e),
 )
 
@@ -41,8 +41,8 @@ pub returns-in-Ok-read_all-clause-paths : goal.returns-in-Ok-read_all-clause-pat
 returns-in-Ok-read_all-clause-paths g c = λ e. (
   c.in-Ok.request,
   c.in-Ok.ensures.request,
-  λ r n. if_some (g.S.Source.left c.args.source.now) _ (λ xs h.
-      let d = request_done c.in-Ok.request xs _ _ c.answer.result r n
+  λ y. if_some (g.S.Source.left c.args.source.now) _ (λ xs h.
+      let d = request_done c.in-Ok.request xs _ _ c.answer.result y
       (read_answered c.in-Ok.request _ _ c.in-Ok-read_all.bytes.items _ _ _ c.answer.result c.in-Ok-read_all.ensures.all c.in-Ok-read_all.ensures.end c.as_slice.ensures.value c.answer.ensures.answered xs h) e in
       ends_by_paths c.waits_where_reached.ensures c.cancelled_where_unbroken.ensures xs (c.bytes_have_one_reading.ensures xs) d.graph d.text d.accepted),
 )
@@ -52,6 +52,14 @@ returns-in-Ok-read_all-clause-lawful g c = λ e. (
   c.in-Ok.request,
   c.in-Ok.ensures.request,
   λ y. if_some (g.S.Source.left c.args.source.now) _ (λ xs h. request_audited c.in-Ok.request xs _ _ c.answer.result y
+      (read_answered c.in-Ok.request _ _ c.in-Ok-read_all.bytes.items _ _ _ c.answer.result c.in-Ok-read_all.ensures.all c.in-Ok-read_all.ensures.end c.as_slice.ensures.value c.answer.ensures.answered xs h) e),
+)
+
+pub returns-in-Ok-read_all-clause-upgraded : goal.returns-in-Ok-read_all-clause-upgraded
+returns-in-Ok-read_all-clause-upgraded g c = λ e. (
+  c.in-Ok.request,
+  c.in-Ok.ensures.request,
+  λ y. if_some (g.S.Source.left c.args.source.now) _ (λ xs h. request_upgraded c.in-Ok.request xs _ _ c.answer.result y
       (read_answered c.in-Ok.request _ _ c.in-Ok-read_all.bytes.items _ _ _ c.answer.result c.in-Ok-read_all.ensures.all c.in-Ok-read_all.ensures.end c.as_slice.ensures.value c.answer.ensures.answered xs h) e),
 )
 
