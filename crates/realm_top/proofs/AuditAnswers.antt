@@ -38,29 +38,17 @@ fault_text g trace audit.NoMemory n = absurd (n refl)
 pub trace_of : (g h : GraphValue) (bytes trace : List ℕ) → g ≡ h → trace_text g trace ≡ bytes → AreLines g trace → HasTrace h bytes trace
 trace_of g h bytes trace e t l = subst (λ x. HasTrace x bytes trace) e (record { lines = l; text = t })
 
-pub no_trace_answered : (g h : GraphValue) (bytes : List ℕ) (number : ℕ) (s t : SinkState) (result : Status) → g ≡ h → reading.IsRefusal g bytes (Line number) → Delivers s t Unread result (trace_refused_text (line_count h + 1 + number)) → IsAnswered (TraceAnswers h bytes) s t result
-no_trace_answered g h bytes number s t result e r d = inr (Unread, trace_refused_text (line_count h + 1 + number), record { «number» = number; refused = subst (λ x. reading.IsRefusal x bytes (Line number)) e r; says = refl }, d)
+pub no_trace_answered : (g h : GraphValue) (bytes : List ℕ) (number : ℕ) (s t : SinkState) (result : Status) → g ≡ h → reading.IsRefusal g bytes (Line number) → Delivers s t Unread result (trace_refused_text (line_count g + 1 + number)) → IsAnswered (TraceAnswers h bytes) s t result
+no_trace_answered g h bytes number s t result e r d = subst (λ x. IsAnswered (TraceAnswers x bytes) s t result) e (inr (Unread, trace_refused_text (line_count g + 1 + number), record { «number» = number; refused = r; says = refl }, d))
 
 pub lawful_answered : (g h : GraphValue) (trace : List ℕ) (s t : SinkState) (result : Status) → g ≡ h → IsLawful g trace → Delivers s t Done result lawful_text → IsAnswered (LawfulAnswers h trace) s t result
 lawful_answered g h trace s t result e l d = inr (Done, lawful_text, (subst (λ x. IsLawful x trace) e l, refl), d)
 
-pub unlawful_answered : (g h k : GraphValue) (trace : List ℕ) (why : AuditRefusal) (s t : SinkState) (result : Status) → g ≡ h → k ≡ h → why ≢ audit.NoMemory → judging.IsRefusal g trace why → (IsLawful g trace → ⊥) →
-    ((out : List ℕ) → unlawful_text k trace why ≡ Some out → Delivers s t Unlawful result out) → IsAnswered (LawfulAnswers h trace) s t result
-unlawful_answered g h k trace why s t result e f ne r not d =
-    let text = fault_text k trace why ne in
-    inr (
-      Unlawful,
-      text.0,
-      (
-        subst (λ x. IsLawful x trace → ⊥) e not,
-        record {
-          «why» = why;
-          refused = subst (λ x. judging.IsRefusal x trace why) e r;
-          says = subst (λ x. unlawful_text x trace why ≡ Some text.0) f text.1;
-        },
-      ),
-      d text.0 text.1,
-    )
+pub unlawful_answered : (g h : GraphValue) (trace : List ℕ) (why : AuditRefusal) (s t : SinkState) (result : Status) → g ≡ h → why ≢ audit.NoMemory → judging.IsRefusal g trace why → (IsLawful g trace → ⊥) →
+    ((out : List ℕ) → unlawful_text g trace why ≡ Some out → Delivers s t Unlawful result out) → IsAnswered (LawfulAnswers h trace) s t result
+unlawful_answered g h trace why s t result e ne r not d =
+    let text = fault_text g trace why ne in
+    subst (λ x. IsAnswered (LawfulAnswers x trace) s t result) e (inr (Unlawful, text.0, (not, record { «why» = why; refused = r; says = text.1 }), d text.0 text.1))
 
 -- FROM THE PARTS to the whole: what becomes of a trace, of the bytes behind a graph, and of the graph
 pub lawful_trace : (g : GraphValue) (bytes trace : List ℕ) → HasTrace g bytes trace → (status : Status) (out : List ℕ) → LawfulAnswers g trace status out → TraceAnswers g bytes status out
