@@ -11,6 +11,7 @@ use Rattle.realm_audit.specs.Parts.{graph_bytes, trace_bytes}
 use Rattle.graph_reader.specs.FirstFault.{line_count}
 use Rattle.realm_trace.specs.Text.{trace_text}
 use Rattle.realm_io.specs.SinkState.{SinkState}
+use Rattle.realm_io.specs.Written.{Wrote}
 use Rattle.realm_audit.specs.Reading.{TextTells, AreLines}
 use Rattle.realm_audit.specs.Reading as reading
 use Rattle.realm_audit.specs.Lawful as judging
@@ -18,7 +19,7 @@ use Rattle.realm_audit.specs.declared.reading.TraceRefusal.TheVariants.{Line}
 use Rattle.realm_audit.specs.declared.refusal.AuditRefusal.{AuditRefusal}
 use Rattle.realm_audit.specs.declared.refusal.AuditRefusal.TheVariants as audit
 use Rattle.realm_top.specs.declared.status.Status.{Status}
-use Rattle.realm_top.specs.declared.status.Status.TheVariants.{Done, Unread, Unfit, WriteFault, TooLong, Unlawful}
+use Rattle.realm_top.specs.declared.status.Status.TheVariants.{Done, Unread, Unfit, WriteFault, NoMemory, TooLong, Unlawful}
 use Rattle.realm_top.specs.Texts.{unlawful_text, lawful_text, trace_refused_text}
 use Rattle.realm_top.specs.Delivered.{Delivers, IsAnswered}
 use Rattle.realm_top.specs.Refused.{Refuses, Rejects}
@@ -38,8 +39,10 @@ fault_text g trace audit.NoMemory n = absurd (n refl)
 pub trace_of : (g h : GraphValue) (bytes trace : List ℕ) → g ≡ h → trace_text g trace ≡ bytes → AreLines g trace → HasTrace h bytes trace
 trace_of g h bytes trace e t l = subst (λ x. HasTrace x bytes trace) e (record { lines = l; text = t })
 
-pub no_trace_answered : (g h : GraphValue) (bytes : List ℕ) (number : ℕ) (s t : SinkState) (result : Status) → g ≡ h → reading.IsRefusal g bytes (Line number) → Delivers s t Unread result (trace_refused_text (line_count g + 1 + number)) → IsAnswered (TraceAnswers h bytes) s t result
-no_trace_answered g h bytes number s t result e r d = subst (λ x. IsAnswered (TraceAnswers x bytes) s t result) e (inr (Unread, trace_refused_text (line_count g + 1 + number), record { «number» = number; refused = r; says = refl }, d))
+pub no_trace_answered : (g h : GraphValue) (bytes : List ℕ) (number m : ℕ) (s t : SinkState) (result : Status) → g ≡ h → reading.IsRefusal g bytes (Line number) → number ≡ m → Delivers s t Unread result (trace_refused_text (line_count g + 1 + m)) → IsAnswered (TraceAnswers h bytes) s t result
+no_trace_answered g h bytes number m s t result e r same d =
+    subst (λ x. IsAnswered (TraceAnswers x bytes) s t result) e
+    (inr (Unread, trace_refused_text (line_count g + 1 + m), record { «number» = m; refused = subst (λ n. reading.IsRefusal g bytes (Line n)) same r; says = refl }, d))
 
 pub lawful_answered : (g h : GraphValue) (trace : List ℕ) (s t : SinkState) (result : Status) → g ≡ h → IsLawful g trace → Delivers s t Done result lawful_text → IsAnswered (LawfulAnswers h trace) s t result
 lawful_answered g h trace s t result e l d = inr (Done, lawful_text, (subst (λ x. IsLawful x trace) e l, refl), d)
@@ -49,6 +52,19 @@ pub unlawful_answered : (g h : GraphValue) (trace : List ℕ) (why : AuditRefusa
 unlawful_answered g h trace why s t result e ne r not d =
     let text = fault_text g trace why ne in
     subst (λ x. IsAnswered (LawfulAnswers x trace) s t result) e (inr (Unlawful, text.0, (not, record { «why» = why; refused = r; says = text.1 }), d text.0 text.1))
+
+-- a fault that is written is no want of memory
+pub no_want : (g : GraphValue) (trace : List ℕ) (why : AuditRefusal) (s t : SinkState) (result : Status) → why ≢ audit.NoMemory → ((out : List ℕ) → unlawful_text g trace why ≡ Some out → Delivers s t Unlawful result out) → result ≢ NoMemory
+no_want g trace why s t result ne d e =
+    let text = fault_text g trace why ne in
+    elim (d text.0 text.1) [
+      | inl x ↦ absurd (let y : NoMemory ≡ Unlawful = sym e ∙ x.0 in cc)
+      | inr x ↦ absurd (let y : NoMemory ≡ WriteFault = sym e ∙ x.0 in cc)
+    ]
+
+-- a line that was written with one number, by another that is the same
+pub wrote_number : (s t : SinkState) (m n : ℕ) → m ≡ n → Wrote s t (trace_refused_text m) → Wrote s t (trace_refused_text n)
+wrote_number s t m n e w = subst (λ k. Wrote s t (trace_refused_text k)) e w
 
 -- FROM THE PARTS to the whole: what becomes of a trace, of the bytes behind a graph, and of the graph
 pub lawful_trace : (g : GraphValue) (bytes trace : List ℕ) → HasTrace g bytes trace → (status : Status) (out : List ℕ) → LawfulAnswers g trace status out → TraceAnswers g bytes status out
@@ -110,6 +126,9 @@ module _ (tells : TextTells) (g : GraphValue) (fits : IsGraph g) (bytes : List �
   one_parts Unlawful _ out a b = absurd b.1
   one_parts _ t out a b = absurd (a.1).2
 
+too_much : (bytes : List ℕ) → length bytes ≤ 2097152 → 2097152 < length bytes → ⊥
+too_much bytes x y = omega arith
+
 module _ (tells : TextTells) (bytes : List ℕ) (one : OneReading (graph_bytes bytes)) where
   by_graph : (s t : Status) (out : List ℕ) (g h : GraphValue) → GraphText (graph_bytes bytes) g → GraphText (graph_bytes bytes) h → PartsAnswer g (trace_bytes bytes) s out → PartsAsk h (trace_bytes bytes) t → s ≡ t
   by_graph s t out g h u v a b = one_parts tells g u.is_graph (trace_bytes bytes) s t out a (subst (λ x. PartsAsk x (trace_bytes bytes) t) (one.one_graph h g v u) b)
@@ -124,9 +143,6 @@ module _ (tells : TextTells) (bytes : List ℕ) (one : OneReading (graph_bytes b
 
   pub one_audit : (s t : Status) (out : List ℕ) → AuditAnswers bytes s out → AuditAsks bytes t → s ≡ t
   one_audit TooLong TooLong out a b = refl
-  one_audit TooLong t out a b = absurd (too_long a.0 b.0)
-  one_audit s TooLong out a b = absurd (too_long b a.0)
+  one_audit TooLong t out a b = absurd (too_much bytes b.0 a.0)
+  one_audit s TooLong out a b = absurd (too_much bytes a.0 b)
   one_audit s t out a b = one_short s t out a.1 b.1
-
-  too_long : 2097152 < length bytes → length bytes ≤ 2097152 → ⊥
-  too_long x y = omega arith

@@ -61,14 +61,20 @@ fn audit_trace<K: Sink>(alloc: Global, checked: &Checked, back: &[u8], sink: &mu
     }
 }
 
-/// Writes that a line behind the text of a graph is refused, counted with the lines of that text.
+/// The number of a line behind the text of a graph, counted with the lines of that text.
+fn number_behind(graph: &Graph, number: u32) -> u64
+    ensures { result ≡ line_count graph.now + 1 + number }
+{
+    // the lines of the text that are no items are its first and its last
+    u64::from(graph.decls()) + u64::from(graph.lines()) + 2 + u64::from(number)
+}
+
+/// Writes that this line behind the text of a graph is refused.
 fn put_no_trace<K: Sink>(sink: &mut K, graph: &Graph, number: u32) -> Status
     ensures { Delivers (K.state sink.old) (K.state sink.new) Status.Unread result
         (trace_refused_text (line_count graph.now + 1 + number)) }
 {
-    // the lines of the text that are no items are its first and its last
-    let before = u64::from(graph.decls()) + u64::from(graph.lines()) + 2;
-    match put_trace_refused(sink, before + u64::from(number)) {
+    match put_trace_refused(sink, number_behind(graph, number)) {
         Ok(()) => flush(sink, Status::Unread),
         Err(_) => Status::WriteFault,
     }
