@@ -18,7 +18,7 @@ use Rattle.realm_top.specs.Status.{is_refusal}
 use Rattle.realm_top.specs.Texts.{too_long_text}
 use Rattle.realm_top.specs.Delivered.{Delivered, BrokenOff, Delivers, IsAnswered}
 use Rattle.realm_top.specs.AuditAnswer.{AuditAnswers, IsAudited}
-use Rattle.realm_top.specs.Answer.{Work, Checked, Audited, Upgraded, Made, work, is_checked, is_audited, is_upgraded, is_read, limit_for, reads, checks, audits, upgrades, input_limit, made_says, InputAnswers, MadeAnswers, IsInputFor, IsInput, AnswersFor, Answers, AsksFor, AsksStatus, Answered, IsDone}
+use Rattle.realm_top.specs.Answer.{Purpose, Checking, Auditing, Upgrading, Making, purpose, is_checking, is_auditing, is_upgrading, is_reading, limit_for, reads, checks, audits, upgrades, input_limit, made_says, InputAnswers, MadeAnswers, IsInputFor, IsInput, AnswersFor, Answers, AsksFor, AsksStatus, Answered, IsDone}
 use Rattle.realm_top.specs.UpgradeAnswer.{UpgradeAnswers, IsUpgraded}
 use Rattle.realm_top.proofs.UpgradeAnswers.{one_upgrade}
 use Rattle.realm_top.proofs.Delivering.{one_answer, all_read, answered_as, refused_as, cut_off_as, complete_as, answered_by}
@@ -26,82 +26,82 @@ use Rattle.realm_top.proofs.AuditAnswers.{one_audit}
 use Rattle.realm_top.proofs.MadeRequests.{made_one, not_made, done_says}
 
 -- BY WHAT AN ACTION HAS TO DO WITH: its answers are those to a graph alone, those of an audit, those of an upgrade, or those to a graph that is made
-pub checked_answers : (w : Work) (request : Request) (bytes : List ℕ) → is_checked w ≡ true → (status : Status) (out : List ℕ) → AnswersFor w request bytes status out → InputAnswers request bytes status out
-checked_answers Checked request bytes y status out a = a
+pub checked_answers : (w : Purpose) (request : Request) (bytes : List ℕ) → is_checking w ≡ true → (status : Status) (out : List ℕ) → AnswersFor w request bytes status out → InputAnswers request bytes status out
+checked_answers Checking request bytes y status out a = a
 checked_answers w request bytes y status out a = absurd (false≢true y)
 
-pub answers_checked : (w : Work) (request : Request) (bytes : List ℕ) → is_checked w ≡ true → (status : Status) (out : List ℕ) → InputAnswers request bytes status out → AnswersFor w request bytes status out
-answers_checked Checked request bytes y status out a = a
+pub answers_checked : (w : Purpose) (request : Request) (bytes : List ℕ) → is_checking w ≡ true → (status : Status) (out : List ℕ) → InputAnswers request bytes status out → AnswersFor w request bytes status out
+answers_checked Checking request bytes y status out a = a
 answers_checked w request bytes y status out a = absurd (false≢true y)
 
-audit_answers : (w : Work) (request : Request) (bytes : List ℕ) → is_audited w ≡ true → (status : Status) (out : List ℕ) → AnswersFor w request bytes status out → AuditAnswers bytes status out
-audit_answers Audited request bytes y status out a = a
+audit_answers : (w : Purpose) (request : Request) (bytes : List ℕ) → is_auditing w ≡ true → (status : Status) (out : List ℕ) → AnswersFor w request bytes status out → AuditAnswers bytes status out
+audit_answers Auditing request bytes y status out a = a
 audit_answers w request bytes y status out a = absurd (false≢true y)
 
-pub answers_audit : (w : Work) (request : Request) (bytes : List ℕ) → is_audited w ≡ true → (status : Status) (out : List ℕ) → AuditAnswers bytes status out → AnswersFor w request bytes status out
-answers_audit Audited request bytes y status out a = a
+pub answers_audit : (w : Purpose) (request : Request) (bytes : List ℕ) → is_auditing w ≡ true → (status : Status) (out : List ℕ) → AuditAnswers bytes status out → AnswersFor w request bytes status out
+answers_audit Auditing request bytes y status out a = a
 answers_audit w request bytes y status out a = absurd (false≢true y)
 
-upgrade_answers : (w : Work) (request : Request) (bytes : List ℕ) → is_upgraded w ≡ true → (status : Status) (out : List ℕ) → AnswersFor w request bytes status out → UpgradeAnswers bytes status out
-upgrade_answers Upgraded request bytes y status out a = a
+upgrade_answers : (w : Purpose) (request : Request) (bytes : List ℕ) → is_upgrading w ≡ true → (status : Status) (out : List ℕ) → AnswersFor w request bytes status out → UpgradeAnswers bytes status out
+upgrade_answers Upgrading request bytes y status out a = a
 upgrade_answers w request bytes y status out a = absurd (false≢true y)
 
-pub answers_upgrade : (w : Work) (request : Request) (bytes : List ℕ) → is_upgraded w ≡ true → (status : Status) (out : List ℕ) → UpgradeAnswers bytes status out → AnswersFor w request bytes status out
-answers_upgrade Upgraded request bytes y status out a = a
+pub answers_upgrade : (w : Purpose) (request : Request) (bytes : List ℕ) → is_upgrading w ≡ true → (status : Status) (out : List ℕ) → UpgradeAnswers bytes status out → AnswersFor w request bytes status out
+answers_upgrade Upgrading request bytes y status out a = a
 answers_upgrade w request bytes y status out a = absurd (false≢true y)
 
-answers_made : (w : Work) (request : Request) (bytes : List ℕ) → is_read w ≡ false → (status : Status) (out : List ℕ) → MadeAnswers request.text request (made_graph request.seed request.size) status out → AnswersFor w request bytes status out
-answers_made Made request bytes r status out a = a
+answers_made : (w : Purpose) (request : Request) (bytes : List ℕ) → is_reading w ≡ false → (status : Status) (out : List ℕ) → MadeAnswers request.text request (made_graph request.seed request.size) status out → AnswersFor w request bytes status out
+answers_made Making request bytes r status out a = a
 answers_made w request bytes r status out a = absurd (true≢false r)
 
 -- what it reads
-told : (w : Work) (left : Option (List ℕ)) (bytes : List ℕ) → is_read w ≡ true → IsInputFor w left bytes → left ≡ Some bytes
-told Made left bytes r h = absurd (false≢true r)
+told : (w : Purpose) (left : Option (List ℕ)) (bytes : List ℕ) → is_reading w ≡ true → IsInputFor w left bytes → left ≡ Some bytes
+told Making left bytes r h = absurd (false≢true r)
 told w left bytes r h = h
 
 -- and how much of it at most
-pub limit_checked : (w : Work) → is_checked w ≡ true → limit_for w ≡ 1048576
-limit_checked Checked y = refl
+pub limit_checked : (w : Purpose) → is_checking w ≡ true → limit_for w ≡ 1048576
+limit_checked Checking y = refl
 limit_checked w y = absurd (false≢true y)
 
-pub limit_audit : (w : Work) → is_audited w ≡ true → limit_for w ≡ 2097152
-limit_audit Audited y = refl
+pub limit_audit : (w : Purpose) → is_auditing w ≡ true → limit_for w ≡ 2097152
+limit_audit Auditing y = refl
 limit_audit w y = absurd (false≢true y)
 
-pub limit_upgrade : (w : Work) → is_upgraded w ≡ true → limit_for w ≡ 1048576
-limit_upgrade Upgraded y = refl
+pub limit_upgrade : (w : Purpose) → is_upgrading w ≡ true → limit_for w ≡ 1048576
+limit_upgrade Upgrading y = refl
 limit_upgrade w y = absurd (false≢true y)
 
 -- what is made is neither
-pub made_else : (w : Work) → is_read w ≡ false → (is_audited w ≡ false) × (is_upgraded w ≡ false)
-made_else Made r = (refl, refl)
+pub made_else : (w : Purpose) → is_reading w ≡ false → (is_auditing w ≡ false) × (is_upgrading w ≡ false)
+made_else Making r = (refl, refl)
 made_else w r = absurd (true≢false r)
 
 -- what is read and is neither audited nor upgraded is checked
-pub checked_else : (w : Work) → is_read w ≡ true → is_audited w ≡ false → is_upgraded w ≡ false → is_checked w ≡ true
-checked_else Checked r a u = refl
-checked_else Audited r a u = absurd (true≢false a)
-checked_else Upgraded r a u = absurd (true≢false u)
-checked_else Made r a u = absurd (false≢true r)
+pub checked_else : (w : Purpose) → is_reading w ≡ true → is_auditing w ≡ false → is_upgrading w ≡ false → is_checking w ≡ true
+checked_else Checking r a u = refl
+checked_else Auditing r a u = absurd (true≢false a)
+checked_else Upgrading r a u = absurd (true≢false u)
+checked_else Making r a u = absurd (false≢true r)
 
-long_by : (w : Work) (request : Request) (bytes : List ℕ) → is_read w ≡ true → limit_for w < length bytes → AnswersFor w request bytes TooLong too_long_text
-long_by Made request bytes r l = absurd (false≢true r)
+long_by : (w : Purpose) (request : Request) (bytes : List ℕ) → is_reading w ≡ true → limit_for w < length bytes → AnswersFor w request bytes TooLong too_long_text
+long_by Making request bytes r l = absurd (false≢true r)
 long_by w request bytes r l = (l, refl)
 
 -- no answer is a fault of writing
-unfaulted_by : (w : Work) (request : Request) (bytes out : List ℕ) → AnswersFor w request bytes WriteFault out → ⊥
-unfaulted_by Checked request bytes out a = (a.2).1
-unfaulted_by Audited request bytes out a = ((((a.1).2).1).2)
-unfaulted_by Upgraded request bytes out a = a
-unfaulted_by Made request bytes out a = not_made request.text request (made_graph request.seed request.size) WriteFault out (λ x. cc) (λ x. cc) a
+unfaulted_by : (w : Purpose) (request : Request) (bytes out : List ℕ) → AnswersFor w request bytes WriteFault out → ⊥
+unfaulted_by Checking request bytes out a = (a.2).1
+unfaulted_by Auditing request bytes out a = ((((a.1).2).1).2)
+unfaulted_by Upgrading request bytes out a = a
+unfaulted_by Making request bytes out a = not_made request.text request (made_graph request.seed request.size) WriteFault out (λ x. cc) (λ x. cc) a
 
 -- the answer is the one that is asked for
 module _ (needs : OneNeed) (one : (xs : List ℕ) → OneReading xs) (tells : TextTells) where
-  one_by : (w : Work) (request : Request) (bytes : List ℕ) (s t : Status) (out : List ℕ) → AnswersFor w request bytes s out → AsksFor w request bytes t → s ≡ t
-  one_by Checked request bytes s t out a b = one_answer request needs bytes (one bytes) s t out a b
-  one_by Audited request bytes s t out a b = one_audit tells bytes (one (graph_bytes bytes)) s t out a b
-  one_by Upgraded request bytes s t out a b = one_upgrade bytes (one bytes) s t out a b
-  one_by Made request bytes s t out a b = made_one request.text request (made_graph request.seed request.size) needs s t out a b
+  one_by : (w : Purpose) (request : Request) (bytes : List ℕ) (s t : Status) (out : List ℕ) → AnswersFor w request bytes s out → AsksFor w request bytes t → s ≡ t
+  one_by Checking request bytes s t out a b = one_answer request needs bytes (one bytes) s t out a b
+  one_by Auditing request bytes s t out a b = one_audit tells bytes (one (graph_bytes bytes)) s t out a b
+  one_by Upgrading request bytes s t out a b = one_upgrade bytes (one bytes) s t out a b
+  one_by Making request bytes s t out a b = made_one request.text request (made_graph request.seed request.size) needs s t out a b
 
 -- A REQUEST THAT WAS ANSWERED by its input, where it has one
 abbrev pub AnsweredBy : Request → Option (List ℕ) → SinkState → SinkState → Status → Type 0
@@ -112,46 +112,46 @@ module _ (request : Request) (left : Option (List ℕ)) (s t : SinkState) (resul
   request_refused e xs i = refused_as (Answers request xs) s t result (all xs i) e
 
   pub request_cut_off : result ≡ WriteFault → (xs : List ℕ) → IsInput request.action left xs → (status : Status) × (out : List ℕ) × Answers request xs status out × BrokenOff s t out
-  request_cut_off e xs i = cut_off_as (Answers request xs) s t result (unfaulted_by (work request.action) request xs) (all xs i) e
+  request_cut_off e xs i = cut_off_as (Answers request xs) s t result (unfaulted_by (purpose request.action) request xs) (all xs i) e
 
   pub request_complete : OneNeed → ((xs : List ℕ) → OneReading xs) → TextTells → (q : Request) → request ≡ q → (xs : List ℕ) (status : Status) → IsInput q.action left xs → AsksStatus q xs status → (Rose s.faults t.faults → ⊥) → (result ≡ status) ⊎ (result ≡ NoMemory)
   request_complete needs one tells q same xs status i a silent =
       let input = subst (λ (x : Request). IsInput x.action left xs) (sym same) i in
       let asks = subst (λ (x : Request). AsksStatus x xs status) (sym same) a in
-      complete_as (Answers request xs) s t result status (λ wanted out b. one_by needs one tells (work request.action) request xs wanted status out b asks) (all xs input) silent
+      complete_as (Answers request xs) s t result status (λ wanted out b. one_by needs one tells (purpose request.action) request xs wanted status out b asks) (all xs input) silent
 
 -- an input that was read to its end, one that is too long, and a graph that was made
 pub read_answered : (request : Request) (old new : Option (List ℕ)) (bs b : List ℕ) (s t : SinkState) (result : Status) → Consumes old new bs → IsAtEnd new → b ≡ bs → Answered request b s t result → (xs : List ℕ) → old ≡ Some xs → Answered request xs s t result
 read_answered request old new bs b s t result c e same a xs h = subst (λ x. Answered request x s t result) (same ∙ sym (all_read old new bs c e xs h)) a
 
 pub answered_input : (request : Request) → reads request.action ≡ true → (old new : Option (List ℕ)) (bs b : List ℕ) (s t : SinkState) (result : Status) → Consumes old new bs → IsAtEnd new → b ≡ bs → Answered request b s t result → AnsweredBy request old s t result
-answered_input request r old new bs b s t result c e same a xs i = read_answered request old new bs b s t result c e same a xs (told (work request.action) old xs r i)
+answered_input request r old new bs b s t result c e same a xs i = read_answered request old new bs b s t result c e same a xs (told (purpose request.action) old xs r i)
 
 pub answered_long : (request : Request) → reads request.action ≡ true → (old : Option (List ℕ)) (s t : SinkState) (result : Status) → ((xs : List ℕ) → old ≡ Some xs → input_limit request.action < length xs) → Delivers s t TooLong result too_long_text → AnsweredBy request old s t result
-answered_long request r old s t result long d xs i = inr (TooLong, too_long_text, long_by (work request.action) request xs r (long xs (told (work request.action) old xs r i)), d)
+answered_long request r old s t result long d xs i = inr (TooLong, too_long_text, long_by (purpose request.action) request xs r (long xs (told (purpose request.action) old xs r i)), d)
 
 pub answered_made : (request : Request) → reads request.action ≡ false → (old : Option (List ℕ)) (s t : SinkState) (result : Status) → IsAnswered (MadeAnswers request.text request (made_graph request.seed request.size)) s t result → AnsweredBy request old s t result
-answered_made request r old s t result a xs i = answered_by (MadeAnswers request.text request (made_graph request.seed request.size)) s t result (Answers request xs) (answers_made (work request.action) request xs r) a
+answered_made request r old s t result a xs i = answered_by (MadeAnswers request.text request (made_graph request.seed request.size)) s t result (Answers request xs) (answers_made (purpose request.action) request xs r) a
 
 -- what was done
 pub request_done : (request : Request) (xs : List ℕ) (s t : SinkState) (result : Status) → checks request.action ≡ true → Answered request xs s t result → result ≡ Done → IsDone request xs s t
 request_done request xs s t result y h e =
     let d = answered_as (Answers request xs) s t result Done h e (λ x. cc) (λ x. cc) in
-    let a = checked_answers (work request.action) request xs y Done d.0 d.1 in
+    let a = checked_answers (purpose request.action) request xs y Done d.0 d.1 in
     let w = (a.2).1 in
     record { graph = a.0; text = a.1; accepted = (a.2).0; need = w.0; is_need = w.1; enough = w.2; out = d.0; says = w.3; delivered = d.2 }
 
 pub request_audited : (request : Request) (xs : List ℕ) (s t : SinkState) (result : Status) → audits request.action ≡ true → Answered request xs s t result → result ≡ Done → IsAudited xs s t
 request_audited request xs s t result y h e =
     let d = answered_as (Answers request xs) s t result Done h e (λ x. cc) (λ x. cc) in
-    let a = (audit_answers (work request.action) request xs y Done d.0 d.1).1 in
+    let a = (audit_answers (purpose request.action) request xs y Done d.0 d.1).1 in
     let w = (a.2).1 in
     record { graph = a.0; text = a.1; accepted = (a.2).0; trace = w.0; has_trace = w.1; lawful = (w.2).0; delivered = subst (Delivered s t) (w.2).1 d.2 }
 
 pub request_upgraded : (request : Request) (xs : List ℕ) (s t : SinkState) (result : Status) → upgrades request.action ≡ true → Answered request xs s t result → result ≡ Done → IsUpgraded xs s t
 request_upgraded request xs s t result y h e =
     let d = answered_as (Answers request xs) s t result Done h e (λ x. cc) (λ x. cc) in
-    let a = upgrade_answers (work request.action) request xs y Done d.0 d.1 in
+    let a = upgrade_answers (purpose request.action) request xs y Done d.0 d.1 in
     record { graph = a.0; text_is = a.1; delivered = subst (Delivered s t) a.2 d.2 }
 
 pub request_made : (request : Request) (s t : SinkState) (result : Status) → reads request.action ≡ false → IsAnswered (MadeAnswers request.text request (made_graph request.seed request.size)) s t result → result ≡ Done → Delivered s t (made_says request.text (made_graph request.seed request.size))

@@ -55,55 +55,58 @@ evaluation_text traced g = report_with traced g (order g)
 abbrev pub IsRunText : Bool → GraphValue → List ℕ → Type 0
 IsRunText traced g out = (trace : List ℕ) × IsLawful g trace × (out ≡ report_with traced g trace)
 
--- what an action has to do with: a graph that is read and checked, such a graph with a trace behind it, a graph that is read alone, or one that is made
-pub data Work : Type 0 where
-  Checked Audited Upgraded Made : Work
+-- what an action is for: a graph is read and checked, such a graph with a trace behind it, a graph is read alone, or one is made
+pub data Purpose : Type 0 where
+  Checking Auditing Upgrading Making : Purpose
 
-abbrev pub work : Action → Work
-work Run = Checked
-work Check = Checked
-work Eval = Checked
-work Timeline = Checked
-work Audit = Audited
-work Upgrade = Upgraded
-work Make = Made
+abbrev pub purpose : Action → Purpose
+purpose Run = Checking
+purpose Check = Checking
+purpose Eval = Checking
+purpose Timeline = Checking
+purpose Audit = Auditing
+purpose Upgrade = Upgrading
+purpose Make = Making
 
-abbrev pub is_checked : Work → Bool
-is_checked Checked = true
-is_checked _ = false
+abbrev pub is_checking : Purpose → Bool
+is_checking Checking = true
+is_checking _ = false
 
-abbrev pub is_audited : Work → Bool
-is_audited Audited = true
-is_audited _ = false
+abbrev pub is_auditing : Purpose → Bool
+is_auditing Auditing = true
+is_auditing _ = false
 
-abbrev pub is_upgraded : Work → Bool
-is_upgraded Upgraded = true
-is_upgraded _ = false
+abbrev pub is_upgrading : Purpose → Bool
+is_upgrading Upgrading = true
+is_upgrading _ = false
 
-abbrev pub is_read : Work → Bool
-is_read Made = false
-is_read _ = true
+abbrev pub is_reading : Purpose → Bool
+is_reading Making = false
+is_reading _ = true
 
--- whether an action reads an input, of a graph alone that is checked, of a graph with a trace, or of a graph alone that is not checked
+-- whether an action reads an input
 abbrev pub reads : Action → Bool
-reads action = is_read (work action)
+reads action = is_reading (purpose action)
 
+-- whether that is the text of a graph alone, which is checked
 abbrev pub checks : Action → Bool
-checks action = is_checked (work action)
+checks action = is_checking (purpose action)
 
+-- whether it is the text of a graph with that of a trace behind it
 abbrev pub audits : Action → Bool
-audits action = is_audited (work action)
+audits action = is_auditing (purpose action)
 
+-- whether it is the text of a graph alone, which is not checked
 abbrev pub upgrades : Action → Bool
-upgrades action = is_upgraded (work action)
+upgrades action = is_upgrading (purpose action)
 
 -- the most bytes that the input may have
-abbrev pub limit_for : Work → ℕ
-limit_for Audited = AUDIT_LIMIT
+abbrev pub limit_for : Purpose → ℕ
+limit_for Auditing = AUDIT_LIMIT
 limit_for _ = MAX_TEXT
 
 abbrev pub input_limit : Action → ℕ
-input_limit action = limit_for (work action)
+input_limit action = limit_for (purpose action)
 
 -- whether a graph is run: by `run`, and by `make` where the graph's text is not asked for
 abbrev pub runs : Action → Bool → Bool
@@ -181,22 +184,22 @@ MadeAnswers true request g _ out = ⊥
 MadeAnswers false request g status out = Served request g status out
 
 -- the bytes that an action works on: all that the source has left, or none where nothing is read
-abbrev pub IsInputFor : Work → Option (List ℕ) → List ℕ → Type 0
-IsInputFor Made left bytes = bytes ≡ []
+abbrev pub IsInputFor : Purpose → Option (List ℕ) → List ℕ → Type 0
+IsInputFor Making left bytes = bytes ≡ []
 IsInputFor _ left bytes = left ≡ Some bytes
 
 abbrev pub IsInput : Action → Option (List ℕ) → List ℕ → Type 0
-IsInput action left bytes = IsInputFor (work action) left bytes
+IsInput action left bytes = IsInputFor (purpose action) left bytes
 
 -- the answer to a request with these bytes, and the text that goes with it
-abbrev pub AnswersFor : Work → Request → List ℕ → Status → List ℕ → Type 0
-AnswersFor Checked request bytes status out = InputAnswers request bytes status out
-AnswersFor Audited request bytes status out = AuditAnswers bytes status out
-AnswersFor Upgraded request bytes status out = UpgradeAnswers bytes status out
-AnswersFor Made request bytes status out = MadeAnswers request.text request (made_graph request.seed request.size) status out
+abbrev pub AnswersFor : Purpose → Request → List ℕ → Status → List ℕ → Type 0
+AnswersFor Checking request bytes status out = InputAnswers request bytes status out
+AnswersFor Auditing request bytes status out = AuditAnswers bytes status out
+AnswersFor Upgrading request bytes status out = UpgradeAnswers bytes status out
+AnswersFor Making request bytes status out = MadeAnswers request.text request (made_graph request.seed request.size) status out
 
 abbrev pub Answers : Request → List ℕ → Status → List ℕ → Type 0
-Answers request bytes status out = AnswersFor (work request.action) request bytes status out
+Answers request bytes status out = AnswersFor (purpose request.action) request bytes status out
 
 -- an accepted graph is given slots enough, or too few. A graph has one need at most
 abbrev pub EnoughSlots : Request → GraphValue → Type 0
@@ -222,14 +225,14 @@ MadeAsks false request g Slots = TooFewSlots request g
 MadeAsks texted request g status = ⊥
 
 -- the status that a request asks for with these bytes
-abbrev pub AsksFor : Work → Request → List ℕ → Status → Type 0
-AsksFor Checked request bytes status = InputAsks request bytes status
-AsksFor Audited request bytes status = AuditAsks bytes status
-AsksFor Upgraded request bytes status = UpgradeAsks bytes status
-AsksFor Made request bytes status = MadeAsks request.text request (made_graph request.seed request.size) status
+abbrev pub AsksFor : Purpose → Request → List ℕ → Status → Type 0
+AsksFor Checking request bytes status = InputAsks request bytes status
+AsksFor Auditing request bytes status = AuditAsks bytes status
+AsksFor Upgrading request bytes status = UpgradeAsks bytes status
+AsksFor Making request bytes status = MadeAsks request.text request (made_graph request.seed request.size) status
 
 abbrev pub AsksStatus : Request → List ℕ → Status → Type 0
-AsksStatus request bytes status = AsksFor (work request.action) request bytes status
+AsksStatus request bytes status = AsksFor (purpose request.action) request bytes status
 
 -- an action that reads a graph alone was done with these bytes: they are the one text of an accepted graph, a run was given enough slots, and the text of the action was written and flushed
 pub record IsDone (request : Request) (bytes : List ℕ) (old new : SinkState) : Type 0 where

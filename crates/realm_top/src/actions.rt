@@ -22,7 +22,7 @@ pub(crate) fn reads(action: Action) -> bool
     }
 }
 
-/// Whether a trace stands in it behind the graph.
+/// Whether an action reads a graph with a trace behind it.
 pub(crate) fn audits(action: Action) -> bool
     ensures { result ≡ audits action }
 {
@@ -32,7 +32,7 @@ pub(crate) fn audits(action: Action) -> bool
     }
 }
 
-/// Whether a graph is read and not checked.
+/// Whether an action reads a graph and does not check it.
 pub(crate) fn upgrades(action: Action) -> bool
     ensures { result ≡ upgrades action }
 {
@@ -42,7 +42,7 @@ pub(crate) fn upgrades(action: Action) -> bool
     }
 }
 
-/// The most bytes that it may have.
+/// The most bytes that the input of an action may have.
 pub(crate) fn input_limit(action: Action) -> u32
     ensures { result ≡ input_limit action }
 {

@@ -5,6 +5,7 @@ ghost use Rattle.graph_model.specs.meaning.Evaluation.{outcome};
 ghost use Rattle.graph_model.specs.meaning.Trace.{IsLawful};
 ghost use Rattle.graph_model.specs.declared.graph.why.Why.{Why};
 ghost use Rattle.graph_reader.specs.FirstFault.{FirstFault};
+ghost use Rattle.graph_reader.specs.Text.{text};
 ghost use Rattle.graph_reader.specs.declared.ReadRefusal.TheVariants.{Line};
 ghost use Rattle.race_check.specs.Refusal.{IsRefusal, NamesLines};
 ghost use Rattle.realm_io.specs.Written.{Writes};
@@ -27,7 +28,7 @@ use graph_model::graph::Graph;
 use graph_model::limits::MAX_TEXT;
 use graph_model::outcome::Outcome;
 use graph_model::why::Why;
-use graph_reader::{ReadRefusal, read_graph};
+use graph_reader::{ReadRefusal, put_graph, read_graph};
 use plain_eval::evaluation::eval;
 use race_check::check;
 use race_check::checked::{CheckRefusal, Checked, Unfit};
@@ -287,6 +288,16 @@ fn put_refusal<K: Sink>(sink: &mut K, number: u32, why: Why) -> Status
 {
     match put_unread(sink, number, why) {
         Ok(()) => flush(sink, Status::Unread),
+        Err(_) => Status::WriteFault,
+    }
+}
+
+/// Writes the text of a graph, and flushes it.
+pub(crate) fn put_graph_text<K: Sink>(sink: &mut K, graph: &Graph) -> Status
+    ensures { Delivers (K.state sink.old) (K.state sink.new) Status.Done result (text graph.now) }
+{
+    match put_graph(sink, graph) {
+        Ok(()) => flush(sink, Status::Done),
         Err(_) => Status::WriteFault,
     }
 }

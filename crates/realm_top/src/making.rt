@@ -1,18 +1,15 @@
 //! What is done by `make`, which reads nothing.
 
 ghost use Rattle.std.specs.Prelude.{◌≡◌, ℕ, ◌≤◌, ◌⊎◌, false, List};
-ghost use Rattle.graph_reader.specs.Text.{text};
 ghost use Rattle.graph_gen.specs.MadeGraph.{made_graph};
-ghost use Rattle.realm_top.specs.Delivered.{Delivers, IsAnswered};
+ghost use Rattle.realm_top.specs.Delivered.{IsAnswered};
 ghost use Rattle.realm_top.specs.Answer.{MadeAnswers, audits, upgrades};
 
-use crate::input::{flush, judge};
+use crate::input::{judge, put_graph_text};
 use crate::status::Status;
 use command_line::request::{MAX_SIZE, MAX_WORKERS, Request};
 use graph_gen::laws::made_graphs_are_accepted;
 use graph_gen::make::make;
-use graph_model::graph::Graph;
-use graph_reader::put_graph;
 use realm_io::{Gate, Sink};
 use std::alloc::Global;
 use std::sync::Wait;
@@ -38,18 +35,8 @@ pub(crate) fn answer_made<R: Threads + Wait + Sync, K: Sink, G: Gate>(
         return Status::NoMemory;
     };
     if request.text {
-        put_made(sink, &graph)
+        put_graph_text(sink, &graph)
     } else {
         judge(rt, alloc, request, graph, sink, gate)
-    }
-}
-
-/// Writes the text of a graph, and flushes it.
-pub(crate) fn put_made<K: Sink>(sink: &mut K, graph: &Graph) -> Status
-    ensures { Delivers (K.state sink.old) (K.state sink.new) Status.Done result (text graph.now) }
-{
-    match put_graph(sink, graph) {
-        Ok(()) => flush(sink, Status::Done),
-        Err(_) => Status::WriteFault,
     }
 }

@@ -4,8 +4,7 @@ ghost use Rattle.std.specs.Prelude.{◌≡◌, ◌≤◌, length};
 ghost use Rattle.realm_top.specs.Delivered.{IsAnswered};
 ghost use Rattle.realm_top.specs.UpgradeAnswer.{UpgradeAnswers};
 
-use crate::input::refuse;
-use crate::making::put_made;
+use crate::input::{put_graph_text, refuse};
 use crate::status::Status;
 use graph_model::limits::MAX_TEXT;
 use graph_reader::read_graph;
@@ -19,7 +18,7 @@ pub(crate) fn answer_upgrade<K: Sink>(alloc: Global, bytes: &[u8], sink: &mut K)
     ensures no_memory { result ≡ Status.NoMemory → sink.new ≡ sink.old }
 {
     match read_graph(alloc, bytes) {
-        Ok(graph) => put_made(sink, &graph.upgrade()),
+        Ok(graph) => put_graph_text(sink, &graph.upgrade()),
         Err(refusal) => refuse(sink, refusal),
     }
 }

@@ -1,37 +1,37 @@
 use Rattle.std.proofs.Common.{◌≤◌, length, sym, subst}
 use Rattle.realm_top.specs.AuditAnswer.{AuditAnswers}
 use Rattle.realm_top.specs.UpgradeAnswer.{UpgradeAnswers}
-use Rattle.realm_top.specs.Answer.{InputAnswers, Answers, work}
+use Rattle.realm_top.specs.Answer.{InputAnswers, Answers, purpose}
 use Rattle.realm_top.proofs.Delivering.{answered_by}
 use Rattle.realm_top.proofs.Requests.{answers_checked, answers_audit, answers_upgrade, limit_checked, limit_audit, limit_upgrade, checked_else}
 use Rattle.realm_top.proofs.input.answer.Goals as goal
 
 pub answer_audit-requires : goal.answer_audit-requires
-answer_audit-requires g c = subst (λ n. length c.args.bytes.now ≤ n) (limit_audit (work c.args.request.action) (sym c.if-audits.ensures)) c.requires.short
+answer_audit-requires g c = subst (λ n. length c.args.bytes.now ≤ n) (limit_audit (purpose c.args.request.action) (sym c.if-audits.ensures)) c.requires.short
 
 pub answer_upgrade-requires : goal.answer_upgrade-requires
-answer_upgrade-requires g c = subst (λ n. length c.args.bytes.now ≤ n) (limit_upgrade (work c.args.request.action) (sym c.if-upgrades.ensures)) c.requires.short
+answer_upgrade-requires g c = subst (λ n. length c.args.bytes.now ≤ n) (limit_upgrade (purpose c.args.request.action) (sym c.if-upgrades.ensures)) c.requires.short
 
 pub answer_graph-requires-clause-short : goal.answer_graph-requires-clause-short
 answer_graph-requires-clause-short g c =
-    let w = work c.args.request.action in
+    let w = purpose c.args.request.action in
     subst (λ n. length c.args.bytes.now ≤ n) (limit_checked w (checked_else w c.requires.reads (sym c.if-audits.ensures) (sym c.if-upgrades.ensures))) c.requires.short
 
 pub returns-then-audits-clause-answered : goal.returns-then-audits-clause-answered
 returns-then-audits-clause-answered g c =
     let request = c.args.request in
     let bytes = c.args.bytes.now in
-    answered_by (AuditAnswers bytes) _ _ c.answer_audit.result (Answers request bytes) (answers_audit (work request.action) request bytes (sym c.if-audits.ensures)) c.answer_audit.ensures.answered
+    answered_by (AuditAnswers bytes) _ _ c.answer_audit.result (Answers request bytes) (answers_audit (purpose request.action) request bytes (sym c.if-audits.ensures)) c.answer_audit.ensures.answered
 
 pub returns-then-upgrades-clause-answered : goal.returns-then-upgrades-clause-answered
 returns-then-upgrades-clause-answered g c =
     let request = c.args.request in
     let bytes = c.args.bytes.now in
-    answered_by (UpgradeAnswers bytes) _ _ c.answer_upgrade.result (Answers request bytes) (answers_upgrade (work request.action) request bytes (sym c.if-upgrades.ensures)) c.answer_upgrade.ensures.answered
+    answered_by (UpgradeAnswers bytes) _ _ c.answer_upgrade.result (Answers request bytes) (answers_upgrade (purpose request.action) request bytes (sym c.if-upgrades.ensures)) c.answer_upgrade.ensures.answered
 
 pub returns-else-upgrades-clause-answered : goal.returns-else-upgrades-clause-answered
 returns-else-upgrades-clause-answered g c =
     let request = c.args.request in
     let bytes = c.args.bytes.now in
-    let checked = checked_else (work request.action) c.requires.reads (sym c.if-audits.ensures) (sym c.if-upgrades.ensures) in
-    answered_by (InputAnswers request bytes) _ _ c.answer_graph.result (Answers request bytes) (answers_checked (work request.action) request bytes checked) c.answer_graph.ensures.answered
+    let checked = checked_else (purpose request.action) c.requires.reads (sym c.if-audits.ensures) (sym c.if-upgrades.ensures) in
+    answered_by (InputAnswers request bytes) _ _ c.answer_graph.result (Answers request bytes) (answers_checked (purpose request.action) request bytes checked) c.answer_graph.ensures.answered

@@ -7,7 +7,7 @@ use Rattle.realm_top.proofs.MadeRequests.{text_made, served_made}
 use Rattle.realm_top.proofs.making.answer_made.Goals as goal
 
 pub returns-then-request-clause-answered : goal.returns-then-request-clause-answered
-returns-then-request-clause-answered g c = text_made c.args.request _ _ c.put_made.result c.in-Ok.graph c.if-request.true c.in-Ok.ensures.graph c.put_made.ensures
+returns-then-request-clause-answered g c = text_made c.args.request _ _ c.put_graph_text.result c.in-Ok.graph c.if-request.true c.in-Ok.ensures.graph c.put_graph_text.ensures
 
 pub returns-else-request-clause-answered : goal.returns-else-request-clause-answered
 returns-else-request-clause-answered g c =

@@ -1,7 +1,7 @@
 use Rattle.graph_reader.specs.Text.{text}
 use Rattle.realm_top.specs.declared.status.Status.TheVariants.{Done}
 use Rattle.realm_top.proofs.Delivering.{written_then_flushed}
-use Rattle.realm_top.proofs.making.put_made.Goals as goal
+use Rattle.realm_top.proofs.input.put_graph_text.Goals as goal
 
 pub returns-in-Ok : goal.returns-in-Ok
 returns-in-Ok g c =
