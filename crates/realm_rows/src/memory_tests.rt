@@ -23,37 +23,45 @@ const COMMANDS: [&str; 3] = [
     "eval",
 ];
 
-/// Calls `realm` with each command line over a text, and ends at the first that is refused memory.
+/// Calls `realm` with a command line over a text, and ends where it is refused memory.
+fn run_one<R: Threads + Wait + Sync + AllocGlobal>(
+    rt: &R,
+    command: &str,
+    text: &str,
+    output: &str,
+) -> Result<(), Fail> {
+    let alloc = rt.alloc();
+    let words = words(alloc, command)?;
+    let mut source = SureSource::new(Vec::from_slice(alloc, text.as_bytes())?);
+    let mut sink = SureSink::new(vec![in alloc; 0u8; output.len()]?);
+    let status = realm(
+        rt,
+        alloc,
+        words.as_slice(),
+        &mut source,
+        &mut sink,
+        &OpenGate,
+    );
+    if status == Status::NoMemory {
+        return after(command, true, sink.taken() == 0);
+    }
+    let is_output = sink.kept() == output.as_bytes();
+    let is_all = sink.taken() == output.len() as u64;
+    after(
+        command,
+        false,
+        status == Status::Done && is_output && is_all,
+    )
+}
+
+/// Runs a graph by each command line.
 fn run_each<R: Threads + Wait + Sync + AllocGlobal>(
     rt: &R,
     text: &str,
     report: &str,
 ) -> Result<(), Fail> {
-    let alloc = rt.alloc();
     for command in COMMANDS {
-        let words = words(alloc, command)?;
-        let mut source = SureSource::new(Vec::from_slice(alloc, text.as_bytes())?);
-        let mut sink = SureSink::new(vec![in alloc; 0u8; report.len()]?);
-        let status = realm(
-            rt,
-            alloc,
-            words.as_slice(),
-            &mut source,
-            &mut sink,
-            &OpenGate,
-        );
-        match status {
-            Status::NoMemory => after(command, true, sink.taken() == 0)?,
-            _ => {
-                let is_report = sink.kept() == report.as_bytes();
-                let is_all = sink.taken() == report.len() as u64;
-                after(
-                    command,
-                    false,
-                    status == Status::Done && is_report && is_all,
-                )?;
-            }
-        }
+        run_one(rt, command, text, report)?;
     }
     Ok(())
 }
@@ -75,4 +83,29 @@ fn tiled_stencil(rt: HostRuntime) -> Result<(), Fail> {
     let text = tiles::graph(rt.alloc())?;
     let report = tile_tests::report(rt.alloc(), text.as_str())?;
     run_each(&rt, text.as_str(), report.as_str())
+}
+
+// the actions that run nothing
+#[test]
+fn other_actions(rt: HostRuntime) -> Result<(), Fail> {
+    let text = "realm 1\n\
+        u = user\n\
+        t = trigger u\n\
+        end\n";
+    let traced = format!(in rt.alloc(); "{text}realm-trace 1\nat t\nat u\ndone\n")?;
+    let plan = "timeline 1\n\
+        op u 0 1 2\n\
+        op t 0 0 1\n\
+        critical 2 t u\n\
+        length 2\n\
+        done\n";
+    run_one(&rt, "check", text, "accepted need 2\n")?;
+    run_one(
+        &rt,
+        "upgrade",
+        text,
+        "realm 2\nu = user\nt = trigger u\nend\n",
+    )?;
+    run_one(&rt, "timeline", text, plan)?;
+    run_one(&rt, "audit", traced.as_str(), "lawful\n")
 }
