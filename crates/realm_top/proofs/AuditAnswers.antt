@@ -1,6 +1,6 @@
 -- What follows for the answers of `audit`.
-use Rattle.std.proofs.Common.{◌≡◌, ◌≢◌, ℕ, ◌+◌, ◌<◌, ◌≤◌, List, length, refl, sym, ◌∙◌, ap, subst, inl, inr, arith}
-use Rattle.std.specs.Prelude.{Some, ◌⊎◌}
+use Rattle.std.proofs.Common.{◌≡◌, ◌≢◌, ℕ, ◌+◌, ◌<◌, ◌≤◌, List, length, refl, sym, ◌∙◌, subst, inl, inr, arith}
+use Rattle.std.specs.Prelude.{Some}
 use Rattle.graph_model.specs.graph.Graph.{GraphValue}
 use Rattle.graph_model.specs.graph.Fits.{IsGraph}
 use Rattle.graph_model.specs.meaning.Rules.{Accepted}
@@ -87,6 +87,7 @@ parts_audit bytes front back f b short g t status out a = by_status status (subs
   where
     text : GraphText (graph_bytes bytes) g
     text = subst (λ x. GraphText x g) f t
+
     by_status : (w : Status) → PartsAnswer g (trace_bytes bytes) w out → AuditAnswers bytes w out
     by_status Done p = (short, (g, text, p))
     by_status Unread p = (short, inr (g, text, p))

@@ -16,9 +16,9 @@ use Rattle.race_check.specs.declared.checked.CheckRefusal.{CheckRefusal}
 use Rattle.race_check.specs.declared.checked.CheckRefusal.TheVariants as refusal
 use Rattle.realm_top.specs.Refused.{IsRefused, IsUnfit, Refuses, Rejects}
 use Rattle.realm_top.specs.Delivered.{Delivered, BrokenOff, Delivers, IsAnswered}
-use Rattle.realm_top.specs.Answer.{report_with, is_short, EndsByPaths, Served, Judged, InputAnswers, EnoughSlots, TooFewSlots, InputAsks, Serves, Settled}
+use Rattle.realm_top.specs.Answer.{report_with, is_short, EndsByPaths, Served, Judged, InputAnswers, EnoughSlots, TooFewSlots, InputAsks}
 use Rattle.realm_top.specs.Status.{is_refusal}
-use Rattle.realm_top.specs.Texts.{too_long_text, unfit_text, slots_text}
+use Rattle.realm_top.specs.Texts.{unfit_text}
 use Rattle.graph_model.specs.graph.Graph.{GraphValue}
 use Rattle.graph_model.specs.meaning.Rules.{Accepted}
 use Rattle.graph_model.specs.meaning.Need.{IsNeed}
@@ -82,7 +82,7 @@ accepted_or_unfit g out a u = broken_by g u.why out u.refused u.says a
 both_judged : (bytes : List ℕ) → OneReading bytes → (g h : GraphValue) → GraphText bytes g → GraphText bytes h → Accepted g → (Accepted h → ⊥) → ⊥
 both_judged bytes one g h t u a b = b (subst Accepted (one.one_graph g h t u) a)
 
-too_short : (bytes : List ℕ) → length bytes ≤ 1048576 → 1048576 < length bytes → ⊥
+pub too_short : (bytes : List ℕ) → length bytes ≤ 1048576 → 1048576 < length bytes → ⊥
 too_short bytes x y = omega arith
 
 -- a graph is not given both slots enough and too few, nor are two graphs of one text

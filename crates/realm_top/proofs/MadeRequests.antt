@@ -27,6 +27,7 @@ says_made Check request g need out r e = absurd (true≢false r)
 says_made Eval request g need out r e = absurd (true≢false r)
 says_made Timeline request g need out r e = absurd (true≢false r)
 says_made Audit request g need out r e = absurd (true≢false r)
+says_made Upgrade request g need out r e = absurd (true≢false r)
 says_made Make request g need out r e = e
 
 pub done_says : (texted : Bool) (request : Request) (g : GraphValue) (out : List ℕ) → reads request.action ≡ false → MadeAnswers texted request g Done out → out ≡ made_says texted g

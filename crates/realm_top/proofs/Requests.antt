@@ -1,19 +1,18 @@
 -- What follows for the answers to a request, whatever its action.
-use Rattle.std.proofs.Common.{◌≡◌, ◌≢◌, ℕ, ◌<◌, ◌≤◌, List, length, refl, sym, ◌∙◌, ap, subst, inl, inr}
-use Rattle.std.specs.Prelude.{Bool, true, false, Option, Some, ◌⊎◌}
+use Rattle.std.proofs.Common.{◌≡◌, ℕ, ◌<◌, List, length, refl, sym, ◌∙◌, subst, inr}
+use Rattle.std.specs.Prelude.{true, false, Option, Some, ◌⊎◌}
 use Rattle.std.proofs.lemmas.Bool.{true≢false, false≢true}
 use Rattle.std.specs.Io.KnownBytes.{Consumes, IsAtEnd}
 use Rattle.realm_io.specs.SinkState.{SinkState}
 use Rattle.realm_io.specs.Counts.{Rose}
 use Rattle.command_line.specs.declared.request.Request.{Request}
-use Rattle.graph_model.specs.graph.Graph.{GraphValue}
 use Rattle.graph_model.specs.meaning.Laws.{OneNeed}
 use Rattle.graph_reader.specs.Laws.{OneReading}
 use Rattle.graph_gen.specs.MadeGraph.{made_graph}
 use Rattle.realm_audit.specs.Parts.{graph_bytes}
 use Rattle.realm_audit.specs.Reading.{TextTells}
 use Rattle.realm_top.specs.declared.status.Status.{Status}
-use Rattle.realm_top.specs.declared.status.Status.TheVariants.{Done, WriteFault, NoMemory, TooLong, Unlawful}
+use Rattle.realm_top.specs.declared.status.Status.TheVariants.{Done, WriteFault, NoMemory, TooLong}
 use Rattle.realm_top.specs.Status.{is_refusal}
 use Rattle.realm_top.specs.Texts.{too_long_text}
 use Rattle.realm_top.specs.Delivered.{Delivered, BrokenOff, Delivers, IsAnswered}

@@ -81,12 +81,7 @@ fn put_no_trace<K: Sink>(sink: &mut K, graph: &Graph, number: u32) -> Status
 }
 
 /// Evaluates a graph, and says whether a trace of it is lawful.
-fn judge_trace<K: Sink>(
-    alloc: Global,
-    checked: &Checked,
-    trace: &LineList,
-    sink: &mut K,
-) -> Status
+fn judge_trace<K: Sink>(alloc: Global, checked: &Checked, trace: &LineList, sink: &mut K) -> Status
     requires lines { AreLines checked.now.graph trace.now }
     ensures judged { IsAnswered (LawfulAnswers checked.now.graph trace.now) (K.state sink.old) (K.state sink.new) result }
     ensures no_memory { result ≡ Status.NoMemory → sink.new ≡ sink.old }
@@ -103,12 +98,7 @@ fn judge_trace<K: Sink>(
 }
 
 /// Writes why a trace is not lawful, and flushes it.
-fn put_fault<K: Sink>(
-    sink: &mut K,
-    graph: &Graph,
-    trace: &LineList,
-    why: AuditRefusal,
-) -> Status
+fn put_fault<K: Sink>(sink: &mut K, graph: &Graph, trace: &LineList, why: AuditRefusal) -> Status
     requires a_fault { why ≢ AuditRefusal.NoMemory }
     requires lines { AreLines graph.now trace.now }
     requires names { NamesLines graph.now trace.now why }

@@ -59,7 +59,14 @@ fn put_with<K: Sink>(
     let mut buffer = Buffer::new();
     let digits = buffer.format(u64::from(place) + 1).as_bytes();
     let name = graph.line(trace.at(place)).name.bytes();
-    put_five(sink, b"unlawful", fault, digits, name, graph.line(other).name.bytes())
+    put_five(
+        sink,
+        b"unlawful",
+        fault,
+        digits,
+        name,
+        graph.line(other).name.bytes(),
+    )
 }
 
 /// Writes that a line ends and is not in a trace.

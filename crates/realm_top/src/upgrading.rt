@@ -18,7 +18,10 @@ pub(crate) fn answer_upgrade<K: Sink>(alloc: Global, bytes: &[u8], sink: &mut K)
     ensures no_memory { result ≡ Status.NoMemory → sink.new ≡ sink.old }
 {
     match read_graph(alloc, bytes) {
-        Ok(graph) => put_graph_text(sink, &graph.upgrade()),
+        Ok(graph) => {
+            let two = graph.upgrade();
+            put_graph_text(sink, &two)
+        }
         Err(refusal) => refuse(sink, refusal),
     }
 }

@@ -1,13 +1,13 @@
-use Rattle.std.proofs.Common.{◌≡◌, ◌<◌, ℕ, List, length, false, ap, Err, sym, subst, ◌∙◌}
+use Rattle.std.proofs.Common.{◌≡◌, ◌<◌, ℕ, List, length, ap, Err, sym, subst, ◌∙◌}
+use Rattle.std.specs.Prelude.{Some}
 use Rattle.std.proofs.lemmas.Option.{same_Some}
-use Rattle.command_line.specs.declared.request.Request.{Request}
-use Rattle.realm_top.specs.Answer.{input_limit, purpose}
+use Rattle.realm_top.specs.Answer.{purpose}
 use Rattle.realm_top.proofs.Delivering.{more_left, if_some, ends_by_paths}
 use Rattle.realm_top.proofs.Requests.{made_else, request_refused, request_cut_off, request_complete, request_done, request_audited, request_upgraded, request_made, answered_input, answered_long, answered_made, read_answered}
 use Rattle.realm_top.proofs.realm.Goals as goal
 
 pub answer_made-requires-clause-checks : goal.answer_made-requires-clause-checks
-answer_made-requires-clause-checks g c = made_else (purpose c.in-Ok.request.action) (sym c.if-not-reads.ensures)
+answer_made-requires-clause-checks g c = λ κs lives. made_else (purpose c.in-Ok.request.action) (sym c.if-not-reads.ensures)
 
 pub returns-then-not-reads-clause-made : goal.returns-then-not-reads-clause-made
 returns-then-not-reads-clause-made g c = λ e. (c.in-Ok.request, c.in-Ok.ensures.request, λ r. request_made c.in-Ok.request _ _ c.answer_made.result r c.answer_made.ensures.answered e)
@@ -93,7 +93,7 @@ returns-in-Ok-read_all-clause-complete g c =
 pub returns-in-Err-TooLong-clause-refused : goal.returns-in-Err-TooLong-clause-refused
 returns-in-Err-TooLong-clause-refused g c =
     let left = g.S.Source.left c.args.source.now in
-    let long = λ (xs : List ℕ) h. subst (λ n. n < length xs) c.input_limit.ensures (more_left _ _ c.input_limit.result (c.in-Err-TooLong.ensures.too_long (ap (λ e. Err e) c.in-Err-TooLong.field-0-is)) xs h) in
+    let long = λ (xs : List ℕ) (h : left ≡ Some xs). subst (λ n. n < length xs) c.input_limit.ensures (more_left _ _ c.input_limit.result (c.in-Err-TooLong.ensures.too_long (ap (λ e. Err e) c.in-Err-TooLong.field-0-is)) xs h) in
     λ e. (
       c.in-Ok.request,
       c.in-Ok.ensures.request,
@@ -103,7 +103,7 @@ returns-in-Err-TooLong-clause-refused g c =
 pub returns-in-Err-TooLong-clause-cut_off : goal.returns-in-Err-TooLong-clause-cut_off
 returns-in-Err-TooLong-clause-cut_off g c =
     let left = g.S.Source.left c.args.source.now in
-    let long = λ (xs : List ℕ) h. subst (λ n. n < length xs) c.input_limit.ensures (more_left _ _ c.input_limit.result (c.in-Err-TooLong.ensures.too_long (ap (λ e. Err e) c.in-Err-TooLong.field-0-is)) xs h) in
+    let long = λ (xs : List ℕ) (h : left ≡ Some xs). subst (λ n. n < length xs) c.input_limit.ensures (more_left _ _ c.input_limit.result (c.in-Err-TooLong.ensures.too_long (ap (λ e. Err e) c.in-Err-TooLong.field-0-is)) xs h) in
     λ e. (
       c.in-Ok.request,
       c.in-Ok.ensures.request,
@@ -113,7 +113,7 @@ returns-in-Err-TooLong-clause-cut_off g c =
 pub returns-in-Err-TooLong-clause-complete : goal.returns-in-Err-TooLong-clause-complete
 returns-in-Err-TooLong-clause-complete g c =
     let left = g.S.Source.left c.args.source.now in
-    let long = λ (xs : List ℕ) h. subst (λ n. n < length xs) c.input_limit.ensures (more_left _ _ c.input_limit.result (c.in-Err-TooLong.ensures.too_long (ap (λ e. Err e) c.in-Err-TooLong.field-0-is)) xs h) in
+    let long = λ (xs : List ℕ) (h : left ≡ Some xs). subst (λ n. n < length xs) c.input_limit.ensures (more_left _ _ c.input_limit.result (c.in-Err-TooLong.ensures.too_long (ap (λ e. Err e) c.in-Err-TooLong.field-0-is)) xs h) in
     λ request xs status w i a quiet silent. request_complete c.in-Ok.request left _ _ c.put_text.result
     (answered_long c.in-Ok.request (sym c.if-not-reads.ensures) left _ _ c.put_text.result long c.put_text.ensures) c.needs_are_one.ensures c.bytes_have_one_reading.ensures c.text_tells_traces_apart.ensures
     request (same_Some _ _ (sym c.in-Ok.ensures.request ∙ w)) xs status i a silent

@@ -7,13 +7,13 @@ use Rattle.realm_top.proofs.Requests.{answers_checked, answers_audit, answers_up
 use Rattle.realm_top.proofs.input.answer.Goals as goal
 
 pub answer_audit-requires : goal.answer_audit-requires
-answer_audit-requires g c = subst (λ n. length c.args.bytes.now ≤ n) (limit_audit (purpose c.args.request.action) (sym c.if-audits.ensures)) c.requires.short
+answer_audit-requires g c = record { short = subst (λ n. length c.args.bytes.now ≤ n) (limit_audit (purpose c.args.request.action) (sym c.if-audits.ensures)) c.requires.short }
 
 pub answer_upgrade-requires : goal.answer_upgrade-requires
-answer_upgrade-requires g c = subst (λ n. length c.args.bytes.now ≤ n) (limit_upgrade (purpose c.args.request.action) (sym c.if-upgrades.ensures)) c.requires.short
+answer_upgrade-requires g c = record { short = subst (λ n. length c.args.bytes.now ≤ n) (limit_upgrade (purpose c.args.request.action) (sym c.if-upgrades.ensures)) c.requires.short }
 
 pub answer_graph-requires-clause-short : goal.answer_graph-requires-clause-short
-answer_graph-requires-clause-short g c =
+answer_graph-requires-clause-short g c = λ κs lives.
     let w = purpose c.args.request.action in
     subst (λ n. length c.args.bytes.now ≤ n) (limit_checked w (checked_else w c.requires.reads (sym c.if-audits.ensures) (sym c.if-upgrades.ensures))) c.requires.short
 

@@ -1,7 +1,7 @@
 use Rattle.std.proofs.Common.{sym, subst, arith}
 use Rattle.graph_model.specs.meaning.Rules.{Accepted}
 use Rattle.graph_gen.specs.MadeGraph.{made_graph}
-use Rattle.realm_top.specs.Answer.{Served, Judged, MadeAnswers}
+use Rattle.realm_top.specs.Answer.{Judged, MadeAnswers}
 use Rattle.realm_top.proofs.Delivering.{answered_by, judged_served}
 use Rattle.realm_top.proofs.MadeRequests.{text_made, served_made}
 use Rattle.realm_top.proofs.making.answer_made.Goals as goal

@@ -1,4 +1,4 @@
-use Rattle.std.proofs.Common.{◌≡◌, ◌<◌, ℕ, Some, length, ◌∙◌, subst}
+use Rattle.std.proofs.Common.{◌≡◌, ◌<◌, ℕ, Some, length, subst}
 use Rattle.std.specs.Prelude.{slice_get}
 use Rattle.graph_model.specs.graph.Graph.{GraphValue}
 use Rattle.run_words.proofs.Rejoining.{all_at_first}

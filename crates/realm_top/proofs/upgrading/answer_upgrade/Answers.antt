@@ -7,7 +7,7 @@ use Rattle.realm_top.proofs.UpgradeAnswers.{upgraded_answer, refused_upgrade}
 use Rattle.realm_top.proofs.upgrading.answer_upgrade.Goals as goal
 
 pub returns-in-Ok-clause-answered : goal.returns-in-Ok-clause-answered
-returns-in-Ok-clause-answered g c = upgraded_answer c.args.bytes.now c.in-Ok.graph c.upgrade.result _ _ c.put_graph_text.result c.in-Ok.ensures.text c.upgrade.ensures c.put_graph_text.ensures
+returns-in-Ok-clause-answered g c = upgraded_answer c.args.bytes.now c.in-Ok.graph c.upgrade-two.result _ _ c.put_graph_text.result c.in-Ok.ensures.text c.upgrade-two.ensures c.put_graph_text.ensures
 
 pub returns-in-Err-clause-answered : goal.returns-in-Err-clause-answered
 returns-in-Err-clause-answered g c =
