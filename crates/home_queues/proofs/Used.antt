@@ -1,10 +1,10 @@
 -- Parts that were used are the same parts.
-use Rattle.std.proofs.Common.{◌≡◌, ◌≢◌, ℕ, zero, suc, ◌^◌, ◌<◌, ◌≤◌, ◌⊎◌, Option, Some, None, IfSome, IfNone, List, [], ◌∷◌, ◌++◌, length, get_or, set, take, drop, refl, sym, ap, ◌∙◌, subst, ⊎_elim, arith, length-set, length-append, get_or-set_same, get_or-set_other}
-use Rattle.std.proofs.lemmas.List.{get_or_default, take-append-le, get_or_append_left, get_or-append_right}
+use Rattle.std.proofs.Common.{◌≡◌, ℕ, ◌<◌, ◌≤◌, List, ◌++◌, length, get_or, take, drop, refl, sym, ap, ◌∙◌, subst, arith, length-append}
+use Rattle.std.proofs.lemmas.List.{take-append-le, get_or_append_left, get_or-append_right}
 use Rattle.std.proofs.Math.Seq.{take-length}
 use mathlib.Core.Logic.{dite}
-use native.Mathlib.Decide.{ℕ_discrete, dec_lt}
-use Rattle.home_queues.specs.Hints.{Deque, HintsValue, IsSame, AreSame, IsPartAt, IsListOf, after_taken, after_empty}
+use native.Mathlib.Decide.{dec_lt}
+use Rattle.home_queues.specs.Hints.{Deque, HintsValue, IsSame, AreSame, IsPartAt, IsListOf}
 use Rattle.home_queues.specs.HomeLists.{parts_of, used_of}
 use Rattle.home_queues.specs.Lending.{with_used}
 use Rattle.home_queues.specs.declared.home_list.HomeList.{HomeList}

@@ -11,7 +11,7 @@ use realm_io::Hints;
 use std::marker::Model;
 use std::sync::Wait;
 
-/// How many hints a part gives at most: with this many no count over eight parts passes 2^63.
+/// How many hints a part gives at most, so that no count over eight parts passes 2^63.
 pub const MOST: u64 = 1 << 60;
 
 /// One part of the hints: a deque of its own, and the right to steal from the deques of the other seven.
