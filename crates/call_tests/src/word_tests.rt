@@ -104,8 +104,14 @@ fn refuses_words(rt: HostRuntime) -> Result<(), Fail> {
 /// Command lines with what is said of the word that is refused.
 const REFUSALS: [(&str, &str); 11] = [
     ("realm run", ""),
-    ("realm", "no action: run, check, eval, make, upgrade, audit or timeline"),
-    ("realm walk", "walk: run, check, eval, make, upgrade, audit or timeline"),
+    (
+        "realm",
+        "no action: run, check, eval, make, upgrade, audit or timeline",
+    ),
+    (
+        "realm walk",
+        "walk: run, check, eval, make, upgrade, audit or timeline",
+    ),
     ("realm run --workers 9", "--workers 9: 0 to 8"),
     ("realm run --slots=01", "--slots 01: 1 to 8192"),
     (

@@ -20,7 +20,9 @@ fn message(status: Status) -> Option<&'static str>
     ensures { is_some result ≡ has_message status }
 {
     match status {
-        Status::Usage => Some("usage: realm run|check|eval|make|upgrade|audit|timeline [OPTIONS] < INPUT"),
+        Status::Usage => Some(
+            "usage: realm run|check|eval|make|upgrade|audit|timeline [OPTIONS] < INPUT",
+        ),
         Status::ReadFault => Some("realm: the standard input can't be read"),
         Status::WriteFault => Some("realm: the standard output can't be written"),
         Status::NoMemory => Some("realm: out of memory"),

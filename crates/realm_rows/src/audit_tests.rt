@@ -113,7 +113,10 @@ fn audit_run<R: Threads + Wait + Sync + AllocGlobal>(
     graph: &str,
 ) -> Result<(), Fail> {
     let report = written(rt, command, graph)?;
-    let (_, items) = report.as_str().split_once("realm-trace 1\n").ok_or("no trace")?;
+    let (_, items) = report
+        .as_str()
+        .split_once("realm-trace 1\n")
+        .ok_or("no trace")?;
     let text = format!(in rt.alloc(); "{graph}realm-trace 1\n{items}")?;
     let row = Row {
         commands: &["audit"],

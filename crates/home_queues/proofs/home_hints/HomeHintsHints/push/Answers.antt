@@ -1,0 +1,8 @@
+use Rattle.std.proofs.Common.{arith}
+use Rattle.home_queues.proofs.PartSteps.{puts_one}
+use Rattle.home_queues.proofs.home_hints.HomeHintsHints.push.Goals as goal
+
+pub invariant_of-self : goal.invariant_of-self
+invariant_of-self g c =
+    let a = c.self.inside in
+    rw c.one_more.ensures (puts_one a.number a.lines a.own c.put.new.owner a.rights.items a.pushed a.taken c.args.line c.self.invariant c.if-line-self.true (omega arith) c.put.ensures.same.0 c.put.ensures.same.1 c.put.ensures.put)

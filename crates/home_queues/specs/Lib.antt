@@ -1,0 +1,12 @@
+pub mod DequeRule
+pub mod Counts
+pub mod Hints
+pub mod Parts
+pub mod Opening
+pub mod Closing
+pub mod Tallies
+pub mod Spreading
+pub mod HomeLists
+pub mod Lending
+pub mod Laws
+pub mod TallySums

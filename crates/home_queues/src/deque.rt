@@ -1,0 +1,129 @@
+//! One deque: its owner, and who may steal from it.
+ghost use Rattle.std.specs.Prelude.{◌≡◌, ◌+◌, ◌-◌, ◌<◌, ◌≤◌, ◌^◌, ◌⊎◌, IfOk, IfSome, MatchOption, [], ◌∷◌, length};
+ghost use Rattle.crossbeam_deque.specs.Handles.{IsPassOf, SameWorker, worker_deque, stealer_deque, worker_flavor, worker_view, worker_capacity, worker_index, view};
+ghost use Rattle.home_queues.specs.DequeRule.{first_view, with_lines, without_share, one_share, joined, with_put, with_taken, SawEmpty, IsDrained};
+
+use crate::deque_rule::{Bound, Cuts, DequeRule, Drains, Joins, Puts, SetsBound, Steals, Takes};
+use crate::deque_view::DequeView;
+use crossbeam_deque::{Pass, Steal, Stealer, Worker};
+use std::alloc::{AllocError, Global};
+use std::marker::Brand;
+
+/// The owner of a deque.
+pub(crate) type Owner = Worker<u32, Global, DequeView, DequeRule>;
+
+/// The right to steal from a deque.
+#[derive(Drop)]
+pub(crate) struct StealRight {
+    pub(crate) stealer: Stealer<u32, Global, DequeView, DequeRule>,
+    pub(crate) pass: Pass<u32, DequeView>,
+}
+
+/// How many hints each owner may put in, and for how many each deque has room from the start.
+pub const ROOM: u32 = 131_072;
+
+/// A deque for the numbers below `lines`, whose owner has all shares in it.
+pub(crate) fn new_owner(alloc: Global, lines: u32) -> Result<Owner, AllocError>
+    requires { 0 < lines }
+    ensures capacity { IfOk result (λ w. ROOM ≤ worker_capacity w) }
+    ensures new { IfOk result (λ w. (worker_flavor w ≡ 0) × (worker_index w ≡ 0)
+        × (worker_view w ≡ with_lines lines first_view)) }
+{
+    let mut owner = Owner::fifo_as(alloc, ROOM as usize)?;
+    set_bound::<Brand>(&mut owner, lines);
+    Ok(owner)
+}
+
+/// Tells the owner the bound. Nothing is done when the program runs.
+fn set_bound<B: Bound>(owner: &mut Owner, lines: u32)
+    requires first { worker_view owner.old ≡ first_view }
+    requires bound { (B.lines ≡ lines) × (0 < lines) }
+    ensures same { SameWorker owner.old owner.new × (worker_index owner.new ≡ worker_index owner.old) }
+    ensures set { worker_view owner.new ≡ with_lines lines first_view }
+{
+    let _bound = lines;
+    drop(owner.another::<SetsBound<B>>());
+}
+
+/// A right to steal from this deque, for which the owner gives one of its shares.
+pub(crate) fn new_right(owner: &mut Owner) -> Result<StealRight, AllocError>
+    requires { (0 < (worker_view owner.old).lines) × (1 < (worker_view owner.old).shares) }
+    ensures same { SameWorker owner.old owner.new × (worker_index owner.new ≡ worker_index owner.old) }
+    ensures cut { IfOk result (λ _. worker_view owner.new ≡ without_share (worker_view owner.old)) }
+    ensures at { IfOk result (λ r. (stealer_deque r.stealer ≡ worker_deque owner.old)
+        × IsPassOf (stealer_deque r.stealer) r.pass) }
+    ensures share { IfOk result (λ r. view r.pass ≡ one_share (worker_view owner.old)) }
+{
+    let stealer = owner.stealer()?;
+    let pass = owner.another::<Cuts>();
+    Ok(StealRight { stealer, pass })
+}
+
+/// Puts a number in at the back. There is room as long as the owner has put in fewer than `ROOM`.
+pub(crate) fn put(owner: &mut Owner, line: u32)
+    requires below { (line < (worker_view owner.old).lines) × (0 < (worker_view owner.old).shares) }
+    requires room { worker_index owner.old < worker_capacity owner.old }
+    ensures same { SameWorker owner.old owner.new × (worker_index owner.new ≡ worker_index owner.old + 1) }
+    ensures put { worker_view owner.new ≡ with_put (worker_view owner.old) (line ∷ []) }
+{
+    match owner.push_as::<Puts>(line) {
+        Ok(()) => {}
+        Err(_) => unreachable!(),
+    }
+}
+
+/// Takes the number at the front, or none where the deque was found empty.
+pub(crate) fn take(owner: &mut Owner) -> Option<u32>
+    requires fifo { worker_flavor owner.old ≡ 0 }
+    requires share { 0 < (worker_view owner.old).shares }
+    ensures same { SameWorker owner.old owner.new × (worker_index owner.new ≤ worker_index owner.old) }
+    ensures taken { MatchOption result
+        ((worker_view owner.new ≡ worker_view owner.old) × SawEmpty (worker_view owner.old))
+        (λ x. (worker_view owner.new ≡ with_taken (worker_view owner.old) (x ∷ []))
+        × (x < (worker_view owner.old).lines)) }
+{
+    owner.pop_as::<Takes>()
+}
+
+/// Tries once to steal the number at the front. None also where another was faster.
+pub(crate) fn steal(right: &mut StealRight) -> Option<u32>
+    requires at { IsPassOf (stealer_deque right.old.stealer) right.old.pass }
+    requires share { 0 < (view right.old.pass).shares }
+    ensures same { (right.new.stealer ≡ right.old.stealer)
+        × IsPassOf (stealer_deque right.old.stealer) right.new.pass }
+    ensures taken { MatchOption result (view right.new.pass ≡ view right.old.pass)
+        (λ x. (view right.new.pass ≡ with_taken (view right.old.pass) (x ∷ []))
+        × (x < (view right.old.pass).lines)) }
+{
+    match right.stealer.steal_as::<Steals>(&mut right.pass) {
+        Steal::Success(line) => Some(line),
+        Steal::Empty => None,
+        Steal::Retry => None,
+    }
+}
+
+/// Gives the owner back the share of a right to steal, with all that was stolen by it.
+pub(crate) fn give_back(owner: &mut Owner, right: StealRight)
+    requires at { IsPassOf (worker_deque owner.old) right.pass }
+    requires share { 0 < (worker_view owner.old).shares }
+    ensures same { SameWorker owner.old owner.new × (worker_index owner.new ≡ worker_index owner.old) }
+    ensures joined { worker_view owner.new ≡ joined (worker_view owner.old) (view right.pass) }
+{
+    let StealRight { stealer: _, pass } = right;
+    owner.absorb::<Joins>(pass);
+}
+
+/// Takes the number at the front, where the owner has all shares: once it gives none, none is left.
+pub(crate) fn take_last(owner: &mut Owner) -> Option<u32>
+    requires fifo { worker_flavor owner.old ≡ 0 }
+    requires all { (worker_view owner.old).shares ≡ 9 }
+    ensures same { SameWorker owner.old owner.new × (worker_index owner.new ≤ worker_index owner.old) }
+    ensures taken { MatchOption result
+        ((worker_view owner.new ≡ worker_view owner.old) × IsDrained (worker_view owner.old))
+        (λ x. (worker_view owner.new ≡ with_taken (worker_view owner.old) (x ∷ []))
+        × (x < (worker_view owner.old).lines)) }
+    ensures bound { IfSome result
+        (λ x. length (worker_view owner.new).taken ≤ length (worker_view owner.new).put) }
+{
+    owner.pop_as::<Drains>()
+}
