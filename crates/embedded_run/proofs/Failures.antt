@@ -1,5 +1,5 @@
 -- Failures that leave nothing but want of memory.
-use Rattle.std.proofs.Common.{◌≡◌, ◌∙◌, refl, sym, ap₂, ℕ, ◌≤◌, Bool, true, false, ap, arith}
+use Rattle.std.proofs.Common.{◌≡◌, ◌∙◌, refl, sym, subst, ap₂, ℕ, ◌≤◌, Bool, true, false, ap, arith}
 use Rattle.std.specs.Prelude.{Option, None}
 use Rattle.std.proofs.lemmas.Option.{none-some}
 use Rattle.graph_model.specs.declared.graph.why.Why.{Why}
@@ -38,13 +38,18 @@ is_memory _ = false
 
 -- what a refusal comes to, where an accepted graph is refused for want of memory alone
 pub refusal_fails : (g : GraphValue) (slots : ℕ) (why : CheckRefusal) → IsRefusal g why → (Accepted g → why ≡ refusal.NoMemory) → IsRunFailure g slots (failure_of why)
+unfolding is_memory
 refusal_fails g slots refusal.NoMemory is complete = tt
 refusal_fails g slots why is complete = (is, λ accepted. true≢false (sym (ap is_memory (complete accepted))))
 
 -- a graph that is accepted, and needs no more slots than there are
-pub accepted_or_memory : (g : GraphValue) (slots : ℕ) (e : Failure) → Accepted g → ((n : ℕ) → IsNeed g n → n ≤ slots) → IsRunFailure g slots e → e ≡ NoMemory
+accepted_or_memory : (g : GraphValue) (slots : ℕ) (e : Failure) → Accepted g → ((n : ℕ) → IsNeed g n → n ≤ slots) → IsRunFailure g slots e → e ≡ NoMemory
 accepted_or_memory g slots (Item why) accepted few is = absurd is
 accepted_or_memory g slots (Graph why) accepted few is = absurd (is.1 accepted)
 accepted_or_memory g slots (Slots need) accepted few is = absurd (let at_most : need ≤ slots = few need is.0 in omega (arith, is.1, at_most))
 accepted_or_memory g slots NoMemory accepted few is = refl
 accepted_or_memory g slots Output accepted few is = absurd is
+
+-- a run of a graph that is known
+pub ran_or_memory : (g h : GraphValue) (slots : ℕ) (e : Failure) → IsRunFailure g slots e → g ≡ h → Accepted h → ((n : ℕ) → IsNeed h n → n ≤ slots) → e ≡ NoMemory
+ran_or_memory g h slots e is same accepted few = accepted_or_memory h slots e accepted few (subst (λ x. IsRunFailure x slots e) same is)

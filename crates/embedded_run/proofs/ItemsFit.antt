@@ -3,6 +3,7 @@ use Rattle.std.proofs.Common.{◌≡◌, List, [], ◌∷◌, refl}
 use Rattle.std.specs.Prelude.{None}
 use Rattle.std.specs.Fmt.{digits}
 use Rattle.graph_model.specs.declared.graph.decl.Decl.{Decl}
+use Rattle.graph_model.specs.declared.graph.format.Format.TheVariants.{One}
 use Rattle.graph_model.specs.declared.graph.verb.Line.{Line}
 use Rattle.graph_model.specs.graph.Graph.{GraphValue}
 use Rattle.graph_model.specs.graph.Fits.{decl_fault, line_fault}
@@ -10,10 +11,10 @@ use Rattle.embedded_run.specs.SumGraph.{points_decl, columns_decl, sum_decls, on
 
 -- the graph with these declarations, and the graph with all of them and these lines
 abbrev pub declared : List Decl → GraphValue
-declared decls = record { «decls» = decls; lines = [] }
+declared decls = record { format = One; «decls» = decls; lines = [] }
 
 abbrev pub lined : List Line → GraphValue
-lined lines = record { decls = sum_decls; «lines» = lines }
+lined lines = record { format = One; decls = sum_decls; «lines» = lines }
 
 pub points_fit : decl_fault (declared []) points_decl ≡ None
 unfolding digits

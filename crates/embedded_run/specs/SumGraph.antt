@@ -3,6 +3,7 @@ use Rattle.std.specs.Prelude.{List, [], ◌∷◌, None, Some, codes}
 use Rattle.index_spaces.specs.declared.Op.TheVariants as op
 use Rattle.graph_model.specs.declared.graph.decl.Decl.{Decl}
 use Rattle.graph_model.specs.declared.graph.decl.Decl.TheVariants.{Space, Inst}
+use Rattle.graph_model.specs.declared.graph.format.Format.TheVariants.{One}
 use Rattle.graph_model.specs.declared.graph.verb.Line.{Line}
 use Rattle.graph_model.specs.declared.graph.verb.Verb.TheVariants as verb
 use Rattle.graph_model.specs.graph.Graph.{GraphValue}
@@ -34,4 +35,4 @@ abbrev pub sum_lines : List Line
 sum_lines = one_fill ∷ other_fill ∷ both_fills ∷ sum ∷ []
 
 abbrev pub sum_graph : GraphValue
-sum_graph = record { decls = sum_decls; lines = sum_lines }
+sum_graph = record { format = One; decls = sum_decls; lines = sum_lines }

@@ -1,6 +1,7 @@
 //! Building a graph item by item.
 
 ghost use Rattle.std.specs.Prelude.{◌≡◌, [], ◌∷◌, IsTrue, IfOk, IfErr, OnOk};
+ghost use Rattle.graph_model.specs.declared.graph.format.Format.TheVariants.{One};
 ghost use Rattle.graph_model.specs.graph.Name.{is_name};
 ghost use Rattle.graph_model.specs.graph.Fits.{decl_fault, line_fault, with_decl, with_line};
 ghost use Rattle.embedded_run.specs.Failures.{IsItemFailure};
@@ -44,7 +45,7 @@ fn offer(graph: &mut Graph, line: Line) -> Result<(), Failure>
 
 /// The graph without lines.
 fn declared(alloc: Global) -> Result<Graph, Failure>
-    ensures declared { IfOk result (λ g. g ≡ record { decls = sum_decls; lines = [] }) }
+    ensures declared { IfOk result (λ g. g ≡ record { format = One; decls = sum_decls; lines = [] }) }
     ensures refused { IfErr result (λ e. e ≡ Failure.NoMemory) }
 {
     let mut graph = Graph::new(alloc);
