@@ -1,0 +1,4 @@
+mod Failures
+mod ItemsFit
+mod SumAccepted
+mod SumNeed

@@ -1,0 +1,2 @@
+pub mod SumGraph
+pub mod Failures

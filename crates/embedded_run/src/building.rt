@@ -1,0 +1,140 @@
+//! Building a graph item by item.
+
+ghost use Rattle.std.specs.Prelude.{◌≡◌, [], ◌∷◌, IsTrue, IfOk, IfErr, OnOk};
+ghost use Rattle.graph_model.specs.declared.graph.format.Format.TheVariants.{One};
+ghost use Rattle.graph_model.specs.graph.Name.{is_name};
+ghost use Rattle.graph_model.specs.graph.Fits.{decl_fault, line_fault, with_decl, with_line};
+ghost use Rattle.embedded_run.specs.Failures.{IsItemFailure};
+ghost use Rattle.embedded_run.specs.SumGraph.{points_decl, columns_decl, sum_decls, sum_graph};
+
+use crate::failure::Failure;
+use graph_model::decl::Decl;
+use graph_model::graph::Graph;
+use graph_model::lists::{LineList, NameList};
+use graph_model::name::Name;
+use graph_model::verb::{Line, Verb};
+use index_spaces::space::Space;
+use index_spaces::{NoMemory, Op};
+use std::alloc::Global;
+
+/// Puts a declaration at the end, where it fits.
+fn declare(graph: &mut Graph, decl: Decl) -> Result<(), Failure>
+    requires first { graph.old.lines ≡ [] }
+    ensures added { OnOk result (graph.new ≡ with_decl graph.old decl) }
+    ensures refused { IfErr result (λ e. IsItemFailure (decl_fault graph.old decl) e) }
+{
+    decl.is_well_formed();
+    if let Some(why) = graph.decl_fault(&decl) {
+        return Err(Failure::Item(why));
+    }
+    graph.add_decl(decl)?;
+    Ok(())
+}
+
+/// Puts a line at the end, where it fits.
+fn offer(graph: &mut Graph, line: Line) -> Result<(), Failure>
+    ensures added { OnOk result (graph.new ≡ with_line graph.old line) }
+    ensures refused { IfErr result (λ e. IsItemFailure (line_fault graph.old line) e) }
+{
+    line.is_well_formed();
+    match graph.offer_line(line)? {
+        None => Ok(()),
+        Some(why) => Err(Failure::Item(why)),
+    }
+}
+
+/// The graph without lines.
+fn declared(alloc: Global) -> Result<Graph, Failure>
+    ensures declared { IfOk result (λ g. g ≡ record { format = One; decls = sum_decls; lines = [] }) }
+    ensures refused { IfErr result (λ e. e ≡ Failure.NoMemory) }
+{
+    let mut graph = Graph::new(alloc);
+    declare(&mut graph, points(alloc)?)?;
+    declare(&mut graph, columns(alloc)?)?;
+    Ok(graph)
+}
+
+/// The space of the columns.
+fn points(alloc: Global) -> Result<Decl, NoMemory>
+    ensures { IfOk result (λ d. d ≡ points_decl) }
+{
+    match Space::new(alloc, &[(0, 3)]) {
+        Ok(space) => Ok(Decl::Space {
+            name: Name::new(b"s").unwrap(),
+            space,
+        }),
+        Err(_) => Err(NoMemory),
+    }
+}
+
+/// The instance with the two columns.
+fn columns(alloc: Global) -> Result<Decl, NoMemory>
+    ensures { IfOk result (λ d. d ≡ columns_decl) }
+{
+    let mut fields = NameList::new(alloc);
+    fields.push(Name::new(b"x").unwrap())?;
+    fields.push(Name::new(b"y").unwrap())?;
+    Ok(Decl::Inst {
+        name: Name::new(b"a").unwrap(),
+        space: 0,
+        fields,
+    })
+}
+
+/// The graph in which two columns are filled, and then one is added to the other.
+pub(crate) fn sum_graph(alloc: Global) -> Result<Graph, Failure>
+    ensures graph { IfOk result (λ g. g ≡ sum_graph) }
+    ensures refused { IfErr result (λ e. e ≡ Failure.NoMemory) }
+{
+    let mut graph = declared(alloc)?;
+    offer(&mut graph, line(b"f", fill(0, 20), None))?;
+    offer(&mut graph, line(b"g", fill(1, 4), None))?;
+    offer(&mut graph, line(b"m", both(alloc)?, None))?;
+    offer(&mut graph, line(b"r", sum(), Some(2)))?;
+    Ok(graph)
+}
+
+/// A line of this name.
+fn line(name: &[u8], verb: Verb, on: Option<u32>) -> Line
+    requires { IsTrue (is_name name.now) }
+    ensures { result ≡ record { name = name.now; verb = verb; on = on } }
+{
+    Line {
+        name: Name::new(name).unwrap(),
+        verb,
+        on,
+    }
+}
+
+/// Each cell of a column becomes this value.
+fn fill(column: u32, value: u64) -> Verb
+    ensures { result ≡ Verb.Fill column 0 value }
+{
+    Verb::Fill {
+        target: column,
+        space: 0,
+        value,
+    }
+}
+
+/// A merge of the two fills.
+fn both(alloc: Global) -> Result<Verb, NoMemory>
+    ensures { IfOk result (λ v. v ≡ Verb.Merge (0 ∷ 1 ∷ [])) }
+{
+    let mut events = LineList::new(alloc);
+    events.push(0)?;
+    events.push(1)?;
+    Ok(Verb::Merge { events })
+}
+
+/// Column 0 is added to column 1.
+fn sum() -> Verb
+    ensures { result ≡ Verb.Reduce Op.Sum 0 1 0 }
+{
+    Verb::Reduce {
+        op: Op::Sum,
+        source: 0,
+        target: 1,
+        space: 0,
+    }
+}
