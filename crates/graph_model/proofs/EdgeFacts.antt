@@ -1,5 +1,5 @@
 -- Which edges a graph that fits has: none enters a user event that no line ends, and each arrival gives one to its phase.
-use Rattle.std.proofs.Common.{◌≡◌, ℕ, zero, suc, ◌+◌, true, false, ◌&&◌, ◌||◌, inl, inr, List, [], ◌∷◌, ◌++◌, length, refl, sym, ◌∙◌, ap, subst, append_assoc, length-append, arith}
+use Rattle.std.proofs.Common.{◌≡◌, ℕ, zero, suc, ◌+◌, Bool, true, false, ◌&&◌, ◌||◌, inl, inr, List, [], ◌∷◌, ◌++◌, length, refl, sym, ◌∙◌, ap, subst, append_assoc, length-append, arith}
 use Rattle.std.specs.Prelude.{Contains, not, Some, None, is_some, slice_get, option_map}
 use Rattle.std.specs.List.{list_any}
 use Rattle.std.proofs.lemmas.Bool.{true≢false, and_from, or_parts, not-false}
@@ -14,7 +14,7 @@ use Rattle.graph_model.specs.graph.Graph.{GraphValue, verb_at, line_passes, is_u
 use Rattle.graph_model.specs.graph.Edges.{edge, edges_from_some, verb_edges, line_edges, edges_after, edges}
 use Rattle.graph_model.specs.meaning.Path.{Path, HasPath, last, first}
 use Rattle.basics.proofs.ListFacts.{got_behind, got_in, contains_none, contains_here, passes_some}
-use Rattle.graph_model.specs.graph.Fits.{line_fault, line_tests, takes_no_on, verb_unlike, LinesFit, IsGraph}
+use Rattle.graph_model.specs.graph.Fits.{line_fault, line_tests, takes_no_on, format_lacks, verb_unlike, LinesFit, IsGraph}
 use Rattle.graph_model.proofs.ArriveLaws.{arrive_unlike}
 use Rattle.graph_model.proofs.GraphFacts.{none_first}
 use Rattle.graph_model.proofs.VerbFacts.{passes_verb, verb_passes, verb_line, user_is, phase_is, never_as, from_some_to, from_some_has, verb_edge_to}
@@ -46,8 +46,12 @@ arrival_edge g i p v w h =
     subst (λ n. Contains (edges g) (edge n p Passes)) len (r.2 (edge (length r.0) p Passes) (arrival_listed r.0 l.0 p v w l.2))
 
 -- a line that fits: its kind is right
-pub kind_fits : (g : GraphValue) (l : Line) → line_fault g l ≡ None → (verb_unlike g l.verb ≡ false) × ((takes_no_on l.verb && is_some l.on) ≡ false)
-kind_fits g l h = or_parts (verb_unlike g l.verb) (takes_no_on l.verb && is_some l.on) (none_first (line_tests g l) h (verb_unlike g l.verb || (takes_no_on l.verb && is_some l.on), why.Kind) (2, omega arith, refl))
+pub kind_fits : (g : GraphValue) (l : Line) → line_fault g l ≡ None → (verb_unlike g l.verb ≡ false) × ((takes_no_on l.verb && is_some l.on) ≡ false) × (format_lacks g.format l.verb ≡ false)
+kind_fits g l h =
+    let others : Bool = (takes_no_on l.verb && is_some l.on) || format_lacks g.format l.verb in
+    let first = or_parts (verb_unlike g l.verb) others (none_first (line_tests g l) h (verb_unlike g l.verb || others, why.Kind) (2, omega arith, refl)) in
+    let rest = or_parts (takes_no_on l.verb && is_some l.on) (format_lacks g.format l.verb) first.1 in
+    (first.0, rest.0, rest.1)
 
 -- an edge that enters a user event is of a line that ends it
 module _ (g : GraphValue) where

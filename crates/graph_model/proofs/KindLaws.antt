@@ -17,17 +17,18 @@ use Rattle.graph_model.specs.declared.graph.table.Parts.{Parts}
 use Rattle.graph_model.specs.declared.graph.verb.Access.{Access}
 use Rattle.graph_model.specs.declared.graph.verb.Mode.{Mode}
 use Rattle.graph_model.specs.declared.graph.verb.Verb.{Verb}
-use Rattle.graph_model.specs.declared.graph.verb.Verb.TheVariants.{User, Merge, MergeIgnore, Arrive, Reduce, Task}
+use Rattle.graph_model.specs.declared.graph.verb.Verb.TheVariants.{User, Merge, MergeIgnore, Arrive, Acquire, Reduce, Task}
 use Rattle.graph_model.specs.declared.graph.table.Kernel.{Kernel}
 use Rattle.graph_model.specs.declared.graph.table.Kernel.TheVariants.{Iota}
-use Rattle.graph_model.specs.graph.Table.{kind_places, kernel_kind, kernel_parts, arrive_kind, arrive_parts, verb_kind, verb_parts, verb_places, verb_of, Placed, any_placed, is_column, is_over, is_space, columns_first, in_order, each_in_order, is_row, part_in, parts_from}
+use Rattle.graph_model.specs.graph.Table.{kind_places, kernel_kind, kernel_parts, arrive_kind, arrive_parts, acquire_kind, acquire_parts, verb_kind, verb_parts, verb_places, verb_of, Placed, any_placed, is_column, is_over, is_space, columns_first, in_order, each_in_order, is_row, part_in, parts_from}
 use Rattle.graph_model.specs.graph.Graph.{verb_at}
 use Rattle.graph_model.specs.graph.Access.{access, access_at, access_in, accesses_of, verb_accesses, in_format, accesses}
 use Rattle.graph_model.specs.meaning.LineLaws.{AccessesAreFew}
 
--- an arrival that is spelled with its weight has another than 1, and 0 stands for the word before it
+-- an arrival that is spelled with its weight has another than 1; 0 stands for the words before a weight and behind a shared reservation
 abbrev pub NumbersFit : Kind → List ℕ → Type 0
 NumbersFit kinds.ArriveTimes ns = (slice_index ns 2 ≡ 0) × ((slice_index ns 3 == 1) ≡ false)
+NumbersFit kinds.AcquireShared ns = slice_index ns 1 ≡ 0
 NumbersFit k ns = Unit {0}
 
 -- the kind of the verb of a kind
@@ -46,6 +47,7 @@ parts_read kinds.User ns h = refl
 parts_read kinds.ArriveTimes ns h =
     ap (λ b. arrive_parts b (slice_index ns 0) (slice_index ns 1) (slice_index ns 3)) h.1
     ∙ ap (λ z. slice_index ns 0 ∷ slice_index ns 1 ∷ z ∷ slice_index ns 3 ∷ []) (sym h.0)
+parts_read kinds.AcquireShared ns h = ap (λ z. slice_index ns 0 ∷ z ∷ []) (sym h)
 parts_read k ns h = refl
 
 read_past : (i n m : ℕ) (ns : List ℕ) → read_from (suc i) n (m ∷ ns) ≡ read_from i n ns
@@ -71,6 +73,10 @@ arrive_again : (b : Bool) (p v w : ℕ) → (w == 1) ≡ b → verb_of (arrive_k
 arrive_again true p v w e = ap (Arrive p v) (sym (eqb-true w 1 e))
 arrive_again false p v w e = refl
 
+acquire_again : (b : Bool) (l : ℕ) → verb_of (acquire_kind b) (acquire_parts b l) ≡ Acquire l b
+acquire_again true l = refl
+acquire_again false l = refl
+
 again : (v : Verb) → MatchOption (verb_kind v) (Unit {0}) (λ k. verb_of k (verb_parts v) ≡ v)
 again User = refl
 again (Merge events) = tt
@@ -79,6 +85,7 @@ again (Reduce op.Sum a b s) = refl
 again (Reduce op.Min a b s) = refl
 again (Reduce op.Max a b s) = refl
 again (Arrive p v w) = arrive_again (w == 1) p v w refl
+again (Acquire l b) = acquire_again b l
 again (Task k) = kernel_again k
 again v = refl
 
@@ -94,12 +101,17 @@ arrive_each : (b : Bool) (p v w : ℕ) → length (arrive_parts b p v w) ≡ len
 arrive_each true p v w = refl
 arrive_each false p v w = refl
 
+acquire_each : (b : Bool) (l : ℕ) → length (acquire_parts b l) ≡ length (kind_places (acquire_kind b))
+acquire_each true l = refl
+acquire_each false l = refl
+
 pub part_for_each : (v : Verb) → length (verb_parts v) ≡ length (verb_places v)
 part_for_each User = refl
 part_for_each (Reduce op.Sum a b s) = refl
 part_for_each (Reduce op.Min a b s) = refl
 part_for_each (Reduce op.Max a b s) = refl
 part_for_each (Arrive p v w) = arrive_each (w == 1) p v w
+part_for_each (Acquire l b) = acquire_each b l
 part_for_each (Task k) = kernel_each k
 part_for_each v = refl
 

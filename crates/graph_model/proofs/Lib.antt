@@ -11,6 +11,7 @@ pub mod Cancelled
 pub mod Changes
 pub mod Confluence
 pub mod KindLaws
+pub mod AcquireLaws
 pub mod ArriveLaws
 pub mod GraphFacts
 pub mod GraphLaws

@@ -10,24 +10,25 @@ use Rattle.graph_model.specs.declared.graph.decl.Decl.{Decl}
 use Rattle.graph_model.specs.declared.graph.verb.Line.{Line}
 use Rattle.graph_model.specs.declared.graph.verb.Verb.{Verb}
 use Rattle.graph_model.specs.declared.graph.verb.Verb.TheVariants.{Acquire, Release}
-use Rattle.graph_model.specs.graph.Graph.{GraphValue, verb_at, line_passes, is_acquire, is_release_of, locks}
+use Rattle.graph_model.specs.graph.Graph.{GraphValue, verb_at, line_passes, is_acquire, is_shared, is_release_of, locks}
 use Rattle.graph_model.specs.meaning.Rules.{Acquires, Releases}
 use Rattle.graph_model.specs.declared.graph.verb.Access.{Access}
 use Rattle.graph_model.specs.graph.Access.{verb_accesses}
-use Rattle.graph_model.specs.graph.Fits.{is_used, repeats, line_tests, line_fault, verb_repeats, verb_unlike, takes_no_on, LinesFit, IsGraph}
+use Rattle.graph_model.specs.graph.Fits.{is_used, repeats, line_tests, line_fault, verb_repeats, verb_unlike, takes_no_on, format_lacks, LinesFit, IsGraph}
+use Rattle.graph_model.proofs.AcquireLaws.{acquire_unknown}
 use Rattle.graph_model.proofs.GraphFacts.{none_first, verb_known}
 use Rattle.graph_model.proofs.VerbFacts.{verb_line, acquire_is, release_is, is_acquire_from}
 use Rattle.graph_model.specs.declared.graph.why.Why.TheVariants as why
 
 -- the reservation of an acquire is declared
-pub lock_known : (g : GraphValue) → IsGraph g → (i k : ℕ) (l : Line) → slice_get g.lines i ≡ Some l → l.verb ≡ Acquire k → k < length (locks g)
-lock_known g f i k l at is = leb-false (length (locks g)) k (verb_known g f i l (Acquire k) at is).1
+pub lock_known : (g : GraphValue) → IsGraph g → (i k : ℕ) (l : Line) → slice_get g.lines i ≡ Some l → (s : Bool) → l.verb ≡ Acquire k s → k < length (locks g)
+lock_known g f i k l at s is = leb-false (length (locks g)) k (sym (acquire_unknown g k s) ∙ (verb_known g f i l (Acquire k s) at is).1)
 
 -- the same for any line that acquires it
 pub acquired_lock_known : (g : GraphValue) → IsGraph g → (i k : ℕ) → Acquires g i k → k < length (locks g)
 acquired_lock_known g f i k a =
-    let l = verb_line g i (Acquire k) (acquire_is g i k a) in
-    lock_known g f i k l.0 l.1 l.2
+    let l = verb_line g i (Acquire k (line_passes is_shared g i)) (acquire_is g i k a) in
+    lock_known g f i k l.0 l.1 (line_passes is_shared g i) l.2
 
 -- the lines of a graph before one of them, that line, and those after it
 pub record IsCut (fm : Format) (decls : List Decl) (all before : List Line) (l : Line) (behind : List Line) : Type 0 where
@@ -67,13 +68,13 @@ passes_before t [] more i h p = absurd (omega arith)
 passes_before t (x ∷ b) more zero h p = or_left (t x.verb) (list_any (λ (l : Line). t l.verb) b) p
 passes_before t (x ∷ b) more (suc i) h p = or_right (t x.verb) (list_any (λ (l : Line). t l.verb) b) (passes_before t b more i (omega arith) p)
 
-acquire_by : (v : Verb) → is_acquire v ≡ true → (l : ℕ) × (v ≡ Acquire l)
-acquire_by (Acquire l) h = (l, refl)
+acquire_by : (v : Verb) → is_acquire v ≡ true → (l : ℕ) × (s : Bool) × (v ≡ Acquire l s)
+acquire_by (Acquire l s) h = (l, s, refl)
 acquire_by v h = absurd (true≢false (sym h))
 
-some_acquire : (o : Option Verb) → option_map_or is_acquire o false ≡ true → (l : ℕ) × (o ≡ Some (Acquire l))
+some_acquire : (o : Option Verb) → option_map_or is_acquire o false ≡ true → (l : ℕ) × (s : Bool) × (o ≡ Some (Acquire l s))
 some_acquire None h = absurd (true≢false (sym h))
-some_acquire (Some v) h = let a = acquire_by v h in (a.0, ap Some a.1)
+some_acquire (Some v) h = let a = acquire_by v h in (a.0, a.1, ap Some a.2)
 
 -- the cut at a release
 release_cut : (g : GraphValue) → IsGraph g → (r q : ℕ) → Releases g r q → (b : List Line) × (l : Line) × (behind : List Line) × IsCut g.format g.decls g.lines b l behind × (length b ≡ r) × (l.verb ≡ Release q)
@@ -87,13 +88,14 @@ release_cut g f r q h =
 pub release_names : (g : GraphValue) → IsGraph g → (r q : ℕ) → Releases g r q → (l : ℕ) × Acquires g q l
 release_names g f r q h =
     let c = release_cut g f r q h in
-    let kind = or_parts (verb_unlike (record { format = g.format; decls = g.decls; lines = c.0 }) c.1.verb) (takes_no_on c.1.verb && is_some c.1.on)
-    (none_first (line_tests (record { format = g.format; decls = g.decls; lines = c.0 }) c.1) c.3.fits (verb_unlike (record { format = g.format; decls = g.decls; lines = c.0 }) c.1.verb || (takes_no_on c.1.verb && is_some c.1.on), why.Kind) (2, omega arith, refl)) in
+    let g' : GraphValue = record { format = g.format; decls = g.decls; lines = c.0 } in
+    let others : Bool = (takes_no_on c.1.verb && is_some c.1.on) || format_lacks g.format c.1.verb in
+    let kind = or_parts (verb_unlike g' c.1.verb) others (none_first (line_tests g' c.1) c.3.fits (verb_unlike g' c.1.verb || others, why.Kind) (2, omega arith, refl)) in
     let unlike : not (line_passes is_acquire (record { format = g.format; decls = g.decls; lines = c.0 }) q) ≡ false = ap (verb_unlike (record { format = g.format; decls = g.decls; lines = c.0 })) (sym c.5) ∙ kind.0 in
     let before : at_passes is_acquire c.0 q ≡ true = not-false (line_passes is_acquire (record { format = g.format; decls = g.decls; lines = c.0 }) q) unlike in
     let all : line_passes is_acquire g q ≡ true = ap (λ ls. at_passes is_acquire ls q) c.3.split ∙ passes_more is_acquire c.0 (c.1 ∷ c.2) q before in
     let l = some_acquire (verb_at g q) all in
-    (l.0, is_acquire_from g q l.0 l.1)
+    (l.0, is_acquire_from g q l.0 l.1 l.2)
 
 repeats_not : (g : GraphValue) (l : Line) → line_fault g l ≡ None → verb_repeats g l.verb ≡ false
 repeats_not g l h =

@@ -36,7 +36,7 @@ path_before g trace t {i} {j} (first e c p rest) h =
 
 module _ (g : GraphValue) (trace : List ℕ) (fits : IsGraph g) (ok : Accepted g) (t : IsLawful g trace) where
   released_first : (l q k r : ℕ) → HaveSections g l q k → Releases g r q → StandsBefore trace q k → StandsBefore trace r k
-  released_first l q k r h releases before = elim (t.sections l q k h.acquires.0 h.acquires.1 h.differ h.done.0 h.done.1) [
+  released_first l q k r h releases before = elim (t.sections l q k h.acquires.0 h.acquires.1 h.differ h.apart h.done.0 h.done.1) [
     | inl free ↦ subst (λ z. StandsBefore trace z k) (one_release g fits q free.0 r free.1 releases) free.2
     | inr free ↦ absurd (
         let own = ok.released k l h.acquires.1 in

@@ -23,13 +23,15 @@ use Rattle.graph_model.specs.graph.Edges.{edges}
 use Rattle.graph_model.specs.graph.Table.{verb_kind, verb_placed, kind_words, any_placed}
 use Rattle.graph_model.specs.graph.Access.{verb_accesses}
 use Rattle.graph_model.specs.graph.Spelling.{spelled, decl_words, place_word, verb_words, on_words, line_words, header, decls_text, lines_text, head}
-use Rattle.graph_model.specs.graph.Fits.{first_reason, is_inst, cell_count, is_used, decl_repeats, decl_unknown, decl_misnumbered, is_large, named_lines, on_lines, repeats, decl_fault, place_repeats, verb_repeats, place_unknown, place_unlike, takes_no_on, most_weight, verb_misnumbered, access_unknown, access_outside, arrives_late, merges_many, is_beyond, line_tests, line_fault, DeclsFit, LinesFit, IsGraph}
+use Rattle.graph_model.specs.graph.Fits.{first_reason, is_inst, cell_count, is_used, decl_repeats, decl_unknown, decl_misnumbered, is_large, named_lines, on_lines, repeats, decl_fault, place_repeats, verb_repeats, place_unknown, place_unlike, verb_unlike, takes_no_on, most_weight, verb_misnumbered, access_unknown, access_outside, arrives_late, merges_many, format_lacks, is_beyond, line_tests, line_fault, DeclsFit, LinesFit, IsGraph}
 use Rattle.graph_model.specs.graph.Names.{StandsFor, AreNamesOf}
 use Rattle.graph_model.specs.kept.Names.{NamesValue, named}
 use Rattle.graph_model.specs.kept.Rows.{RowsValue, AreRowsOf}
 use Rattle.graph_model.specs.kept.Tables.{IsWithinLimits}
 use Rattle.graph_model.specs.declared.kept.counts.Counts.{Counts}
 use Rattle.graph_model.specs.kept.Counts.{counts_of}
+use Rattle.graph_model.proofs.AcquireLaws.{none_lacks}
+use Rattle.graph_model.proofs.EdgeFacts.{kind_fits}
 use Rattle.graph_model.proofs.GraphFacts.{none_first}
 
 -- the same declarations and lines in a format
@@ -173,10 +175,12 @@ line_fits_in f ds ls l fits =
     let reaches_unknown : Bool = list_any (access_unknown g) (verb_accesses l.verb) in
     let outside : Bool = list_any (access_outside g) (verb_accesses l.verb) in
     let no_on : Bool = takes_no_on l.verb && is_some l.on in
+    let lacks : format_lacks f l.verb ≡ false = (kind_fits g l fits).2 in
     line_reasons_same _ _ _ _ _ _ _ _ _ _ _ _ _ _
     (ap (λ b. is_used g l.name || (b || columns_repeat)) (sym (verbs_repeat f Two ds ls l.verb)))
     (ap (λ (t : Place → ℕ → Bool). lines_unknown || (any_placed t (verb_placed l.verb) || reaches_unknown)) (sym (places_unknown f Two ds ls)))
-    (ap (λ (t : Place → ℕ → Bool). any_placed t (verb_placed l.verb) || no_on) (sym (places_unlike f Two ds ls)))
+    (ap (λ (t : Place → ℕ → Bool). any_placed t (verb_placed l.verb) || (no_on || format_lacks Two l.verb)) (sym (places_unlike f Two ds ls))
+    ∙ ap (λ b. verb_unlike g l.verb || (no_on || b)) (none_lacks l.verb ∙ sym lacks))
     (two ∙ sym number)
     refl
     (sym (arrive_late f Two ds ls l.verb))

@@ -167,6 +167,7 @@ exempt_on g i j x = record {
   one = x.one;
   other = x.other;
   different = x.different;
+  apart = x.apart;
   one_section = section_on g x.lock x.one i x.one_section;
   other_section = section_on g x.lock x.other j x.other_section;
 }
@@ -200,7 +201,7 @@ rivals_alike : (g : GraphValue) → rivals (upgraded g) ≡ rivals g
 rivals_alike g = λ i v. each v i
   where
     each : (v : Verb) → rivals (upgraded g) v ≡ rivals g v
-    each (Acquire l) = refl
+    each (Acquire l s) = refl
     each v = refl
 
 acquires_alike : (g : GraphValue) → acquires_after (upgraded g) ≡ acquires_after g

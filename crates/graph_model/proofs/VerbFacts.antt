@@ -1,13 +1,13 @@
 -- What a line is that passes a test of verbs, and where the edges lead that it gives.
-use Rattle.std.proofs.Common.{◌≡◌, ℕ, ◌<◌, Bool, true, false, List, [], ◌∷◌, length, refl, sym, ◌∙◌, ap, cond, ◌⊎◌, inl, inr}
+use Rattle.std.proofs.Common.{◌≡◌, ℕ, ◌<◌, Bool, true, false, ◌&&◌, List, [], ◌∷◌, length, refl, sym, ◌∙◌, ap, cond, ◌⊎◌, inl, inr}
 use Rattle.std.specs.Prelude.{Option, Some, None, option_map, slice_get, Contains, ◌==◌}
 use Rattle.std.specs.Option.{option_map_or}
 use Rattle.std.proofs.lemmas.Bool.{true≢false, eq-eqb, eqb-true, not-true}
 use Rattle.graph_model.specs.declared.graph.verb.Line.{Line}
 use Rattle.graph_model.specs.declared.graph.verb.Verb.{Verb}
 use Rattle.graph_model.specs.declared.graph.verb.Verb.TheVariants.{User, Trigger, Cancel, Merge, MergeIgnore, Phase, Arrive, Acquire, Release}
-use Rattle.graph_model.specs.graph.Graph.{GraphValue, verb_at, line_passes, is_acquire_of, is_release_of, is_user, is_phase, is_phase_of, ends_user, never_comes_as}
-use Rattle.graph_model.specs.meaning.Rules.{Acquires, Releases}
+use Rattle.graph_model.specs.graph.Graph.{GraphValue, verb_at, line_passes, is_acquire_of, is_shared, is_release_of, is_user, is_phase, is_phase_of, ends_user, never_comes_as}
+use Rattle.graph_model.specs.meaning.Rules.{Acquires, Releases, both_shared}
 use Rattle.std.specs.List.{list_any}
 use Rattle.std.proofs.lemmas.Option.{none-some, same_Some, slice_get_within}
 use Rattle.graph_model.specs.declared.graph.verb.Edge.{Edge}
@@ -17,8 +17,8 @@ use Rattle.graph_model.specs.graph.Edges.{edge, last_place, edges_from_some, ver
 use Rattle.graph_model.specs.meaning.Evaluation.{arrival_value}
 use Rattle.basics.proofs.ListFacts.{contains_none, contains_cases, map_contains}
 
-pub acquire_of_is : (l : ℕ) (v : Verb) → is_acquire_of l v ≡ true → v ≡ Acquire l
-acquire_of_is l (Acquire k) h = ap Acquire (eqb-true k l h)
+pub acquire_of_is : (l : ℕ) (v : Verb) → is_acquire_of l v ≡ true → v ≡ Acquire l (is_shared v)
+acquire_of_is l (Acquire k s) h = ap (λ n. Acquire n s) (eqb-true k l h)
 acquire_of_is l v h = absurd (true≢false (sym h))
 
 pub release_of_is : (q : ℕ) (v : Verb) → is_release_of q v ≡ true → v ≡ Release q
@@ -30,14 +30,18 @@ verb_is t w f None h = absurd (true≢false (sym h))
 verb_is t w f (Some v) h = ap Some (f v h)
 
 -- the verb of an acquire, and of a release
-pub acquire_is : (g : GraphValue) (q l : ℕ) → Acquires g q l → verb_at g q ≡ Some (Acquire l)
-acquire_is g q l h = verb_is (is_acquire_of l) (Acquire l) (acquire_of_is l) (verb_at g q) h
+acquire_some_is : (l : ℕ) (o : Option Verb) → option_map_or (is_acquire_of l) o false ≡ true → o ≡ Some (Acquire l (option_map_or is_shared o false))
+acquire_some_is l None h = absurd (true≢false (sym h))
+acquire_some_is l (Some v) h = ap Some (acquire_of_is l v h)
+
+pub acquire_is : (g : GraphValue) (q l : ℕ) → Acquires g q l → verb_at g q ≡ Some (Acquire l (line_passes is_shared g q))
+acquire_is g q l h = acquire_some_is l (verb_at g q) h
 
 pub release_is : (g : GraphValue) (r q : ℕ) → Releases g r q → verb_at g r ≡ Some (Release q)
 release_is g r q h = verb_is (is_release_of q) (Release q) (release_of_is q) (verb_at g r) h
 
-pub is_acquire_from : (g : GraphValue) (q l : ℕ) → verb_at g q ≡ Some (Acquire l) → Acquires g q l
-is_acquire_from g q l e = ap (λ o. option_map_or (is_acquire_of l) o false) e ∙ eq-eqb l l refl
+pub is_acquire_from : (g : GraphValue) (q l : ℕ) (s : Bool) → verb_at g q ≡ Some (Acquire l s) → Acquires g q l
+is_acquire_from g q l s e = ap (λ o. option_map_or (is_acquire_of l) o false) e ∙ eq-eqb l l refl
 
 pub is_release_from : (g : GraphValue) (r q : ℕ) → verb_at g r ≡ Some (Release q) → Releases g r q
 is_release_from g r q e = ap (λ o. option_map_or (is_release_of q) o false) e ∙ eq-eqb q q refl
@@ -74,11 +78,21 @@ release_same a b e = cc
 pub release_one : (g : GraphValue) (r a b : ℕ) → Releases g r a → Releases g r b → a ≡ b
 release_one g r a b h l = release_same a b (same_Some (Release a) (Release b) (sym (release_is g r a h) ∙ release_is g r b l))
 
-acquire_same : (a b : ℕ) → Acquire a ≡ Acquire b → a ≡ b
-acquire_same a b e = cc
+acquire_same : (a b : ℕ) (s t : Bool) → Acquire a s ≡ Acquire b t → a ≡ b
+acquire_same a b s t e = cc
 
 pub acquire_one : (g : GraphValue) (q a b : ℕ) → Acquires g q a → Acquires g q b → a ≡ b
-acquire_one g q a b h l = acquire_same a b (same_Some (Acquire a) (Acquire b) (sym (acquire_is g q a h) ∙ acquire_is g q b l))
+acquire_one g q a b h l = let s = line_passes is_shared g q in acquire_same a b s s (same_Some (Acquire a s) (Acquire b s) (sym (acquire_is g q a h) ∙ acquire_is g q b l))
+
+-- whether two acquires are both shared is asked of the two alike
+pub both_shared_swap : (g : GraphValue) (q k : ℕ) → both_shared g q k ≡ both_shared g k q
+both_shared_swap g q k = and_swap (line_passes is_shared g q) (line_passes is_shared g k)
+  where
+    and_swap : (a b : Bool) → (a && b) ≡ (b && a)
+    and_swap true true = refl
+    and_swap true false = refl
+    and_swap false true = refl
+    and_swap false false = refl
 
 -- a user event, a phase, an arrival
 pub user_is : (v : Verb) → is_user v ≡ true → v ≡ User
@@ -98,8 +112,8 @@ arrival_is p (Arrive k m w) n h = (w, arrival_cases k p m n (k == p) refl h)
 arrival_is p v n h = absurd (none-some n h)
 
 -- whether a line acquires a reservation
-pub acquire_some : (v : Verb) → ((l : ℕ) × (v ≡ Acquire l)) ⊎ ((l : ℕ) → is_acquire_of l v ≡ true → ⊥)
-acquire_some (Acquire k) = inl (k, refl)
+pub acquire_some : (v : Verb) → ((l : ℕ) × (s : Bool) × (v ≡ Acquire l s)) ⊎ ((l : ℕ) → is_acquire_of l v ≡ true → ⊥)
+acquire_some (Acquire k s) = inl (k, s, refl)
 acquire_some v = inr (λ l h. true≢false (sym h))
 
 -- a line that never comes is a phase, or a user event that no line ends

@@ -15,7 +15,7 @@ use Rattle.graph_model.specs.declared.graph.verb.Access.{Access}
 use Rattle.graph_model.specs.declared.graph.why.Why.{Why}
 use Rattle.graph_model.specs.declared.graph.why.Why.TheVariants as why
 use Rattle.graph_model.specs.declared.graph.verb.Verb.{Verb}
-use Rattle.graph_model.specs.declared.graph.verb.Verb.TheVariants.{Merge, MergeIgnore, Phase, Arrive}
+use Rattle.graph_model.specs.declared.graph.verb.Verb.TheVariants.{Merge, MergeIgnore, Phase, Arrive, Acquire}
 use Rattle.graph_model.specs.declared.graph.table.Place.{Place}
 use Rattle.graph_model.specs.declared.graph.table.Place.TheVariants as places
 use Rattle.graph_model.specs.graph.Table.{Placed, kind_takes_on, verb_kind, verb_placed, any_placed}
@@ -152,6 +152,11 @@ verb_unlike g v = any_placed (place_unlike g) (verb_placed v)
 abbrev pub takes_no_on : Verb → Bool
 takes_no_on v = not (option_map_or kind_takes_on (verb_kind v) false)
 
+-- a verb that the format has not
+abbrev pub format_lacks : Format → Verb → Bool
+format_lacks One (Acquire lock shared) = shared
+format_lacks _ _ = false
+
 -- the most that one arrival may count for
 abbrev pub most_weight : Format → ℕ
 most_weight One = 1
@@ -192,7 +197,7 @@ abbrev pub line_tests : GraphValue → Line → List (Bool × Why)
 line_tests g l =
     (is_used g l.name || (verb_repeats g l.verb || repeats nat_eq (map (λ (a : Access). a.column) (verb_accesses l.verb))), why.Twice)
     ∷ (line_unknown g l, why.Unknown)
-    ∷ (verb_unlike g l.verb || (takes_no_on l.verb && is_some l.on), why.Kind)
+    ∷ (verb_unlike g l.verb || ((takes_no_on l.verb && is_some l.on) || format_lacks g.format l.verb), why.Kind)
     ∷ (verb_misnumbered g.format l.verb, why.Number)
     ∷ (list_any (access_outside g) (verb_accesses l.verb), why.Outside)
     ∷ (arrives_late g l.verb, why.Arrivals)

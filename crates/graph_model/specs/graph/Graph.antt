@@ -97,7 +97,7 @@ is_phase (Phase b) = true
 is_phase _ = false
 
 abbrev pub is_acquire : Verb → Bool
-is_acquire (Acquire l) = true
+is_acquire (Acquire l s) = true
 is_acquire _ = false
 
 abbrev pub is_merge_ignore : Verb → Bool
@@ -111,8 +111,13 @@ is_phase_of b _ = false
 
 -- an acquire of this reservation
 abbrev pub is_acquire_of : ℕ → Verb → Bool
-is_acquire_of l (Acquire k) = k == l
+is_acquire_of l (Acquire k s) = k == l
 is_acquire_of l _ = false
+
+-- an acquire that is shared
+abbrev pub is_shared : Verb → Bool
+is_shared (Acquire l s) = s
+is_shared _ = false
 
 -- a release of this acquire
 abbrev pub is_release_of : ℕ → Verb → Bool

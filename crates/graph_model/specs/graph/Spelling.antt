@@ -66,6 +66,7 @@ place_word g places.Barrier n = barrier_name g n
 place_word g places.Space n = space_name g n
 place_word g places.Value n = decimal n
 place_word g places.Times n = codes "times"
+place_word g places.Shared n = codes "shared"
 place_word g places.Weight n = decimal n
 place_word g (places.Column mode over) n = column_name g n
 

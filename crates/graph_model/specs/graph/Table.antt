@@ -10,7 +10,7 @@ use Rattle.graph_model.specs.declared.graph.table.TheConstants.{MOST_PLACES}
 use Rattle.graph_model.specs.declared.graph.table.Kind.{Kind}
 use Rattle.graph_model.specs.declared.graph.table.Kind.TheVariants as kinds
 use Rattle.graph_model.specs.declared.graph.table.Place.{Place}
-use Rattle.graph_model.specs.declared.graph.table.Place.TheVariants.{User, Phase, Acquire, Lock, Barrier, Space, Value, Times, Weight, Column}
+use Rattle.graph_model.specs.declared.graph.table.Place.TheVariants.{User, Phase, Acquire, Lock, Barrier, Space, Value, Times, Weight, Shared, Column}
 use Rattle.graph_model.specs.declared.graph.table.Parts.{Parts}
 use Rattle.graph_model.specs.declared.graph.verb.Mode.TheVariants.{Read, Write, Sum, Least, Most}
 use Rattle.graph_model.specs.declared.graph.verb.Verb.{Verb}
@@ -44,6 +44,7 @@ kind_row kinds.Phase = without_on (codes "phase" ∷ []) (Barrier ∷ [])
 kind_row kinds.Arrive = with_on (codes "arrive" ∷ []) (Phase ∷ Value ∷ [])
 kind_row kinds.ArriveTimes = since_two (with_on (codes "arrive" ∷ []) (Phase ∷ Value ∷ Times ∷ Weight ∷ []))
 kind_row kinds.Acquire = with_on (codes "acquire" ∷ []) (Lock ∷ [])
+kind_row kinds.AcquireShared = since_two (with_on (codes "acquire" ∷ []) (Lock ∷ Shared ∷ []))
 kind_row kinds.Release = with_on (codes "release" ∷ []) (Acquire ∷ [])
 kind_row kinds.Fill = with_on (codes "fill" ∷ []) (Column Write 1 ∷ Space ∷ Value ∷ [])
 kind_row kinds.Copy = with_on (codes "copy" ∷ []) (Column Read 2 ∷ Column Write 2 ∷ Space ∷ [])
@@ -124,6 +125,11 @@ abbrev pub arrive_kind : Bool → Kind
 arrive_kind true = kinds.Arrive
 arrive_kind false = kinds.ArriveTimes
 
+-- an acquire that is not shared is spelled without a word for it
+abbrev pub acquire_kind : Bool → Kind
+acquire_kind false = kinds.Acquire
+acquire_kind true = kinds.AcquireShared
+
 abbrev pub verb_kind : Verb → Option Kind
 verb_kind verbs.User = Some kinds.User
 verb_kind (verbs.Trigger user) = Some kinds.Trigger
@@ -132,7 +138,7 @@ verb_kind (verbs.Merge events) = None
 verb_kind (verbs.MergeIgnore events) = None
 verb_kind (verbs.Phase barrier) = Some kinds.Phase
 verb_kind (verbs.Arrive phase value weight) = Some (arrive_kind (weight == 1))
-verb_kind (verbs.Acquire lock) = Some kinds.Acquire
+verb_kind (verbs.Acquire lock shared) = Some (acquire_kind shared)
 verb_kind (verbs.Release acquire) = Some kinds.Release
 verb_kind (verbs.Fill target space value) = Some kinds.Fill
 verb_kind (verbs.Copy source target space) = Some kinds.Copy
@@ -153,6 +159,10 @@ abbrev pub arrive_parts : Bool → ℕ → ℕ → ℕ → List ℕ
 arrive_parts true phase value weight = phase ∷ value ∷ []
 arrive_parts false phase value weight = phase ∷ value ∷ 0 ∷ weight ∷ []
 
+abbrev pub acquire_parts : Bool → ℕ → List ℕ
+acquire_parts false lock = lock ∷ []
+acquire_parts true lock = lock ∷ 0 ∷ []
+
 abbrev pub verb_parts : Verb → List ℕ
 verb_parts verbs.User = []
 verb_parts (verbs.Trigger user) = user ∷ []
@@ -161,7 +171,7 @@ verb_parts (verbs.Merge events) = []
 verb_parts (verbs.MergeIgnore events) = []
 verb_parts (verbs.Phase barrier) = barrier ∷ []
 verb_parts (verbs.Arrive phase value weight) = arrive_parts (weight == 1) phase value weight
-verb_parts (verbs.Acquire lock) = lock ∷ []
+verb_parts (verbs.Acquire lock shared) = acquire_parts shared lock
 verb_parts (verbs.Release acquire) = acquire ∷ []
 verb_parts (verbs.Fill target space value) = target ∷ space ∷ value ∷ []
 verb_parts (verbs.Copy source target space) = source ∷ target ∷ space ∷ []
@@ -176,7 +186,8 @@ verb_of kinds.Cancel n = verbs.Cancel (slice_index n 0)
 verb_of kinds.Phase n = verbs.Phase (slice_index n 0)
 verb_of kinds.Arrive n = verbs.Arrive (slice_index n 0) (slice_index n 1) 1
 verb_of kinds.ArriveTimes n = verbs.Arrive (slice_index n 0) (slice_index n 1) (slice_index n 3)
-verb_of kinds.Acquire n = verbs.Acquire (slice_index n 0)
+verb_of kinds.Acquire n = verbs.Acquire (slice_index n 0) false
+verb_of kinds.AcquireShared n = verbs.Acquire (slice_index n 0) true
 verb_of kinds.Release n = verbs.Release (slice_index n 0)
 verb_of kinds.Fill n = verbs.Fill (slice_index n 0) (slice_index n 1) (slice_index n 2)
 verb_of kinds.Copy n = verbs.Copy (slice_index n 0) (slice_index n 1) (slice_index n 2)

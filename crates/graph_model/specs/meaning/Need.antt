@@ -18,7 +18,7 @@ places test n (l ∷ ls) = cond (test l.verb) (n ∷ places test (n + 1) ls) (pl
 
 -- the acquires of the reservation that this verb acquires
 abbrev pub rivals : GraphValue → Verb → List ℕ
-rivals g (Acquire l) = places (is_acquire_of l) 0 g.lines
+rivals g (Acquire l s) = places (is_acquire_of l) 0 g.lines
 rivals g _ = []
 
 -- the acquires that may have to wait for this verb, as a release

@@ -7,7 +7,7 @@ use Rattle.graph_model.specs.graph.Graph.{GraphValue, verb_at}
 
 -- the reservation that a verb acquires, and the acquire that it releases
 abbrev pub taken_by : Verb → Option ℕ
-taken_by (Acquire l) = Some l
+taken_by (Acquire l s) = Some l
 taken_by _ = None
 
 abbrev pub freed_by : Verb → Option ℕ

@@ -1,10 +1,10 @@
 -- When a graph is accepted: six rules, and for each the least numbers at which it fails.
-use Rattle.std.specs.Prelude.{◌≡◌, ◌≢◌, ℕ, ◌<◌, ◌⊎◌, Bool, true, false, Contains, IsTrue, Some, slice_get}
+use Rattle.std.specs.Prelude.{◌≡◌, ◌≢◌, ℕ, ◌<◌, ◌⊎◌, Bool, true, false, ◌&&◌, Contains, IsTrue, Some, slice_get}
 use Rattle.graph_model.specs.declared.graph.verb.Access.{Access}
 use Rattle.graph_model.specs.declared.graph.verb.Line.{Line}
 use Rattle.graph_model.specs.declared.graph.verb.Mode.{Mode}
 use Rattle.graph_model.specs.declared.graph.verb.Mode.TheVariants.{Sum, Least, Most}
-use Rattle.graph_model.specs.graph.Graph.{GraphValue, line_passes, is_phase, is_acquire_of, is_release_of, is_merge_ignore, never_comes}
+use Rattle.graph_model.specs.graph.Graph.{GraphValue, line_passes, is_phase, is_acquire_of, is_shared, is_release_of, is_merge_ignore, never_comes}
 use Rattle.graph_model.specs.meaning.Path.{HasPath}
 use Rattle.graph_model.specs.graph.Access.{accesses, AccessesConflict, Conflict}
 
@@ -15,6 +15,10 @@ Acquires g q l = IsTrue (line_passes (is_acquire_of l) g q)
 -- line r releases what line q acquires
 abbrev pub Releases : GraphValue → ℕ → ℕ → Type 0
 Releases g r q = IsTrue (line_passes (is_release_of q) g r)
+
+-- two acquires that are both shared may hold one reservation together
+abbrev pub both_shared : GraphValue → ℕ → ℕ → Bool
+both_shared g q k = line_passes is_shared g q && line_passes is_shared g k
 
 -- line i lies in the section of the acquire q of reservation l: on a path from it to its release
 pub record Section (g : GraphValue) (l q i : ℕ) : Type 0 where
@@ -31,13 +35,14 @@ modes_commute Least Least = true
 modes_commute Most Most = true
 modes_commute _ _ = false
 
--- two lines that conflict by reductions of one kind alone, each in a section of an acquire of its own of one reservation
+-- two lines that conflict by reductions of one kind alone, each in a section of an acquire of its own of one reservation, which are not both shared
 pub record Exempt (g : GraphValue) (i j : ℕ) : Type 0 where
   pub commute : (a b : Access) → Contains (accesses g i) a → Contains (accesses g j) b → AccessesConflict g a b → IsTrue (modes_commute a.mode b.mode)
   pub lock : ℕ
   pub one : ℕ
   pub other : ℕ
   pub different : one ≢ other
+  pub apart : both_shared g one other ≡ false
   pub one_section : Section g lock one i
   pub other_section : Section g lock other j
 

@@ -1,10 +1,10 @@
 -- Traces: lists of lines in an order in which they may have ended.
-use Rattle.std.specs.Prelude.{◌≡◌, ◌≢◌, ℕ, ◌<◌, ◌⊎◌, ◌↔◌, List, Contains, IsTrue, slice_get, Some}
+use Rattle.std.specs.Prelude.{◌≡◌, ◌≢◌, ℕ, false, ◌<◌, ◌⊎◌, ◌↔◌, List, Contains, IsTrue, slice_get, Some}
 use Rattle.graph_model.specs.declared.meaning.outcome.End.TheVariants.{Done}
 use Rattle.graph_model.specs.declared.graph.verb.Edge.{Edge}
 use Rattle.graph_model.specs.graph.Graph.{GraphValue}
 use Rattle.graph_model.specs.graph.Edges.{edges}
-use Rattle.graph_model.specs.meaning.Rules.{Acquires, Releases}
+use Rattle.graph_model.specs.meaning.Rules.{Acquires, Releases, both_shared}
 use Rattle.graph_model.specs.meaning.Evaluation.{eval_end, is_ended}
 
 -- i stands in the trace at a place before one of j
@@ -17,16 +17,17 @@ pub record ListsEnded (g : GraphValue) (trace : List ℕ) : Type 0 where
   pub once : (k m i : ℕ) → slice_get trace k ≡ Some i → slice_get trace m ≡ Some i → k ≡ m
   pub sources : (e : Edge) → Contains (edges g) e → Contains trace e.to → StandsBefore trace e.from e.to
 
--- and the sections of one reservation stand one after the other
+-- and the sections of one reservation stand one after the other, unless both are shared
 pub record IsLawful (g : GraphValue) (trace : List ℕ) : Type 0 where
   pub lists : ListsEnded g trace
-  pub sections : (l q k : ℕ) → Acquires g q l → Acquires g k l → q ≢ k → eval_end g q ≡ Done → eval_end g k ≡ Done →
+  pub sections : (l q k : ℕ) → Acquires g q l → Acquires g k l → q ≢ k → both_shared g q k ≡ false → eval_end g q ≡ Done → eval_end g k ≡ Done →
       ((r : ℕ) × Releases g r q × StandsBefore trace r k) ⊎ ((r : ℕ) × Releases g r k × StandsBefore trace r q)
 
--- q and k are two acquires of one reservation that ended Done
+-- q and k are two acquires of one reservation, not both shared, that ended Done
 pub record HaveSections (g : GraphValue) (l q k : ℕ) : Type 0 where
   pub acquires : Acquires g q l × Acquires g k l
   pub differ : q ≢ k
+  pub apart : both_shared g q k ≡ false
   pub done : (eval_end g q ≡ Done) × (eval_end g k ≡ Done)
 
 -- the release of the one that stands first stands before the other: so between an acquire and its release stands no other acquire

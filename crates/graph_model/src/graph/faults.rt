@@ -4,7 +4,7 @@ ghost use Rattle.std.specs.Prelude.{◌≡◌, map, nat_eq, nat_le};
 ghost use Rattle.std.specs.List.{list_any};
 ghost use Rattle.graph_model.specs.declared.graph.verb.Access.{Access};
 ghost use Rattle.graph_model.specs.graph.Access.{present, columns_alike};
-ghost use Rattle.graph_model.specs.graph.Fits.{repeats, most_weight, decl_repeats, decl_misnumbered, is_large, named_lines, on_lines, takes_no_on, verb_misnumbered, merges_many};
+ghost use Rattle.graph_model.specs.graph.Fits.{repeats, most_weight, decl_repeats, decl_misnumbered, is_large, named_lines, on_lines, takes_no_on, format_lacks, verb_misnumbered, merges_many};
 
 use super::Graph;
 use crate::graph::access::{Accesses, verb_accesses};
@@ -73,7 +73,10 @@ impl Graph {
         if self.line_unknown(line, accesses) {
             return Some(Why::Unknown);
         }
-        if self.verb_unlike(&line.verb) || line.on.is_some() && takes_no_on(&line.verb) {
+        if self.verb_unlike(&line.verb)
+            || line.on.is_some() && takes_no_on(&line.verb)
+            || format_lacks(self.format, &line.verb)
+        {
             return Some(Why::Kind);
         }
         if verb_misnumbered(self.format, &line.verb) {
@@ -136,7 +139,7 @@ impl Graph {
     {
         match verb {
             Verb::Phase { barrier } => *barrier >= self.barriers(),
-            Verb::Acquire { lock } => *lock >= self.locks(),
+            Verb::Acquire { lock, .. } => *lock >= self.locks(),
             _ => false,
         }
     }
@@ -327,6 +330,16 @@ fn takes_no_on(verb: &Verb) -> bool
     match verb.kind() {
         Some(kind) => !kind.takes_on(),
         None => true,
+    }
+}
+
+/// Whether a verb is one that the format has not.
+fn format_lacks(format: Format, verb: &Verb) -> bool
+    ensures { result ≡ format_lacks format verb.now }
+{
+    match (format, verb) {
+        (Format::One, Verb::Acquire { shared, .. }) => *shared,
+        _ => false,
     }
 }
 

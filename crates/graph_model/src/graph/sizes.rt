@@ -121,6 +121,7 @@ impl Graph {
             Place::Space => self.space_size(parts.number(n)),
             Place::Value => number_size(parts.value(n)),
             Place::Times => word_size(b"times"),
+            Place::Shared => word_size(b"shared"),
             Place::Weight => number_size(u64::from(parts.number(n))),
             Place::Column(..) => self.column_size(parts.number(n)),
         }

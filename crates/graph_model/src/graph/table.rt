@@ -5,7 +5,7 @@ ghost use Rattle.basics.specs.Words.{contents};
 ghost use Rattle.graph_model.specs.graph.Table.{kind_words, kind_places, kind_takes_on, kind_since, is_row};
 ghost use Rattle.graph_model.specs.declared.graph.format.Format.TheVariants.{One, Two};
 
-use self::Place::{Acquire, Barrier, Column, Lock, Phase, Space, Times, User, Value, Weight};
+use self::Place::{Acquire, Barrier, Column, Lock, Phase, Shared, Space, Times, User, Value, Weight};
 use crate::graph::format::Format;
 use crate::graph::verb::Mode::{Least, Most, Read, Sum, Write};
 use crate::graph::verb::{Mode, Verb};
@@ -32,6 +32,8 @@ pub enum Place {
     Times,
     /// How many arrivals one counts for, where it counts for more than one.
     Weight,
+    /// The word `shared`.
+    Shared,
     /// A column, how it is used, and the number of the place that has the space over which it is.
     Column(Mode, usize),
 }
@@ -99,6 +101,7 @@ pub enum Kind {
     Arrive,
     ArriveTimes,
     Acquire,
+    AcquireShared,
     Release,
     Fill,
     Copy,
@@ -116,7 +119,7 @@ pub enum Kind {
 }
 
 /// All kinds.
-pub const KINDS: [Kind; 21] = [
+pub const KINDS: [Kind; 22] = [
     Kind::User,
     Kind::Trigger,
     Kind::Cancel,
@@ -124,6 +127,7 @@ pub const KINDS: [Kind; 21] = [
     Kind::Arrive,
     Kind::ArriveTimes,
     Kind::Acquire,
+    Kind::AcquireShared,
     Kind::Release,
     Kind::Fill,
     Kind::Copy,
@@ -222,6 +226,7 @@ impl Kind {
             Kind::Arrive => with_on(&[b"arrive"], &[Phase, Value]),
             Kind::ArriveTimes => since_two(with_on(&[b"arrive"], &[Phase, Value, Times, Weight])),
             Kind::Acquire => with_on(&[b"acquire"], &[Lock]),
+            Kind::AcquireShared => since_two(with_on(&[b"acquire"], &[Lock, Shared])),
             Kind::Release => with_on(&[b"release"], &[Acquire]),
             Kind::Fill => with_on(&[b"fill"], &[Column(Write, 1), Space, Value]),
             Kind::Copy => with_on(&[b"copy"], &[Column(Read, 2), Column(Write, 2), Space]),
@@ -368,7 +373,8 @@ impl Verb {
             Verb::Phase { .. } => Some(Kind::Phase),
             Verb::Arrive { weight: 1, .. } => Some(Kind::Arrive),
             Verb::Arrive { .. } => Some(Kind::ArriveTimes),
-            Verb::Acquire { .. } => Some(Kind::Acquire),
+            Verb::Acquire { shared: false, .. } => Some(Kind::Acquire),
+            Verb::Acquire { .. } => Some(Kind::AcquireShared),
             Verb::Release { .. } => Some(Kind::Release),
             Verb::Fill { .. } => Some(Kind::Fill),
             Verb::Copy { .. } => Some(Kind::Copy),
@@ -395,7 +401,7 @@ impl Verb {
                 value,
                 weight,
             } => valued([phase, 0, 0, weight, 0], [0, value, 0, 0, 0]),
-            Verb::Acquire { lock } => named([lock, 0, 0, 0, 0]),
+            Verb::Acquire { lock, .. } => named([lock, 0, 0, 0, 0]),
             Verb::Release { acquire } => named([acquire, 0, 0, 0, 0]),
             Verb::Fill {
                 target,
@@ -450,7 +456,14 @@ impl Verb {
                 value: v[1],
                 weight: n[3],
             },
-            Kind::Acquire => Verb::Acquire { lock: n[0] },
+            Kind::Acquire => Verb::Acquire {
+                lock: n[0],
+                shared: false,
+            },
+            Kind::AcquireShared => Verb::Acquire {
+                lock: n[0],
+                shared: true,
+            },
             Kind::Release => Verb::Release { acquire: n[0] },
             Kind::Fill => Verb::Fill {
                 target: n[0],

@@ -50,8 +50,11 @@ pub enum Verb {
         value: u64,
         weight: u32,
     },
+    /// An acquire that is shared holds its reservation beside others that are; any other holds it
+    /// alone.
     Acquire {
         lock: u32,
+        shared: bool,
     },
     Release {
         acquire: u32,
