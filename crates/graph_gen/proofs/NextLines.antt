@@ -131,10 +131,10 @@ module _ (ls : List Line) (st : Standing ls) (few : length ls ≤ 8192) where
         (within_sixty _ _ (size_cons (codes "reduce") _ 6 _ (lit≤ tt) (size_cons (codes "sum") _ 3 _ (lit≤ tt) (size_cons (column_name (lined ls) a) _ 5 _ (column_size ls a h) (size_cons (column_name (lined ls) d) _ 5 _ (column_size ls d k) (size_cons (codes "s") _ 1 10 (lit≤ tt) on_rest))))) (lit≤ tt))
         (edges_few ls (Reduce op.Sum a d 0) on (lit≤ tt)) tt (λ k l. refl)
 
-    pub acquire_fits : NextFits ls (Acquire 0) on
-    acquire_fits = fits_by ls (Acquire 0) on refl refl (both_false (list_any (λ i. nat_le (length ls) i) (on_lines on)) false (on_known (length ls) on b) refl) refl
+    pub acquire_fits : NextFits ls (Acquire 0 false) on
+    acquire_fits = fits_by ls (Acquire 0 false) on refl refl (both_false (list_any (λ i. nat_le (length ls) i) (on_lines on)) false (on_known (length ls) on b) refl) refl
         (within_sixty _ _ (size_cons (codes "acquire") _ 7 _ (lit≤ tt) (size_cons (codes "l") _ 1 10 (lit≤ tt) on_rest)) (lit≤ tt))
-        (edges_few ls (Acquire 0) on (lit≤ tt)) tt (λ k l. refl)
+        (edges_few ls (Acquire 0 false) on (lit≤ tt)) tt (λ k l. refl)
 
     -- the user event or the acquire that a line names stands, and no other line ended or released it
     module _ (u : ℕ) (stands : u < length ls) where

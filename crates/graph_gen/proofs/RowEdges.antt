@@ -80,7 +80,7 @@ section_edges : (ls : List Line) (d : Draw) (lasts : List (Option ℕ)) → edge
 section_edges ls d lasts =
     let n : ℕ = length ls in
     let o : Option ℕ = last_of lasts d.column in
-    let a : Line = made_line n (verb.Acquire 0) o in
+    let a : Line = made_line n (verb.Acquire 0 false) o in
     let s : Line = made_line (n + 1) (verb.Reduce op.Sum d.column total_column 0) (Some n) in
     let m : Line = made_line (n + 2) (verb.MergeIgnore ((n + 1) ∷ [])) None in
     ap (λ es. es ++ edge n (length (ls ++ a ∷ [])) Passes ∷ edge (n + 1) (length ((ls ++ a ∷ []) ++ s ∷ [])) Ignores ∷ edge (n + 2) (length (((ls ++ a ∷ []) ++ s ∷ []) ++ m ∷ [])) Passes ∷ []) (append-nil (edges_from_some Passes o n) ∙ from_lines Passes o n)

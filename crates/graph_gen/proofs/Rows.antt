@@ -108,9 +108,9 @@ module _ (d : Draw) (column : d.column < 8) (other : d.other < 8) (value : d.val
     section_row : nat_le 4 left ≡ true → RowFits ls (row_lines Section d lasts n)
     section_row h =
         let four : 4 ≤ left = leb-true 4 left h in
-        let a : Line = made_line n (verb.Acquire 0) on in
-        let fits_a : NextFits ls (verb.Acquire 0) on = acquire_fits ls st (omega arith) on (stand d.column) in
-        let one : Standing (ls ++ a ∷ []) = next_stands ls n (verb.Acquire 0) on refl (omega arith) st fits_a in
+        let a : Line = made_line n (verb.Acquire 0 false) on in
+        let fits_a : NextFits ls (verb.Acquire 0 false) on = acquire_fits ls st (omega arith) on (stand d.column) in
+        let one : Standing (ls ++ a ∷ []) = next_stands ls n (verb.Acquire 0 false) on refl (omega arith) st fits_a in
         let count_one : length (ls ++ a ∷ []) ≡ n + 1 = one_longer ls a in
         let s : Line = made_line (n + 1) (verb.Reduce op.Sum d.column 8 0) (Some n) in
         let fits_s : NextFits (ls ++ a ∷ []) (verb.Reduce op.Sum d.column 8 0) (Some n) = sum_fits (ls ++ a ∷ []) one (omega arith) (Some n) (before_some (length (ls ++ a ∷ [])) n (omega arith)) d.column 8 (omega arith) (lit< tt) (λ e. omega arith) in
@@ -126,7 +126,7 @@ module _ (d : Draw) (column : d.column < 8) (other : d.other < 8) (value : d.val
         let there : slice_get (((ls ++ a ∷ []) ++ s ∷ []) ++ m ∷ []) n ≡ Some a = got_old ((ls ++ a ∷ []) ++ s ∷ []) (m ∷ []) n (omega arith) ∙ (got_old (ls ++ a ∷ []) (s ∷ []) n (omega arith) ∙ at_end ls a) in
         let fits_r : NextFits (((ls ++ a ∷ []) ++ s ∷ []) ++ m ∷ []) (verb.Release n) (Some (n + 2)) = release_fits (((ls ++ a ∷ []) ++ s ∷ []) ++ m ∷ []) three (omega arith) (Some (n + 2)) (before_some (length (((ls ++ a ∷ []) ++ s ∷ []) ++ m ∷ [])) (n + 2) (omega arith)) n (omega arith) unreleased (ap (λ o. option_map_or is_acquire (option_map (λ (x : Line). x.verb) o) false) there) in
         let r : Line = made_line (n + 3) (verb.Release n) (Some (n + 2)) in
-        row_more ls (s ∷ m ∷ r ∷ []) n (verb.Acquire 0) on refl (omega arith) st fits_a
+        row_more ls (s ∷ m ∷ r ∷ []) n (verb.Acquire 0 false) on refl (omega arith) st fits_a
         (row_more (ls ++ a ∷ []) (m ∷ r ∷ []) (n + 1) (verb.Reduce op.Sum d.column 8 0) (Some n) count_one (omega arith) one fits_s
         (row_more ((ls ++ a ∷ []) ++ s ∷ []) (r ∷ []) (n + 2) (verb.MergeIgnore ((n + 1) ∷ [])) None count_two (omega arith) two fits_m
         (last_line (((ls ++ a ∷ []) ++ s ∷ []) ++ m ∷ []) (n + 3) (verb.Release n) (Some (n + 2)) count_three (omega arith) three fits_r)))

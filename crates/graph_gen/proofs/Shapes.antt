@@ -33,7 +33,7 @@ weight_least v i = bound (option_map_or is_user v false) i
 pub record Held (ls : List Line) (q : ℕ) : Type 0 where
   pub column : ℕ
   pub small : column < 8
-  pub acquire : verb_in ls q ≡ Some (verb.Acquire 0)
+  pub acquire : verb_in ls q ≡ Some (verb.Acquire 0 false)
   pub sum : verb_in ls (q + 1) ≡ Some (verb.Reduce op.Sum column total_column 0)
   pub merge : verb_in ls (q + 2) ≡ Some (verb.MergeIgnore ((q + 1) ∷ []))
   pub release : slice_get ls (q + 3) ≡ Some (made_line (q + 3) (verb.Release q) (Some (q + 2)))

@@ -1,5 +1,5 @@
 -- The generated graph of a seed and a size: draws from a state of 64 bits, and for each draw the lines of one row of a table.
-use Rattle.std.specs.Prelude.{ℕ, zero, suc, ◌+◌, ◌-◌, ◌*◌, ◌/◌, ◌%◌, ◌^◌, ◌==◌, nat_lt, nat_le, Bool, true, cond, not, ◌&&◌, List, [], ◌∷◌, ◌++◌, length, map, replicate, slice_index_or, slice_set, Option, Some, None, is_some, codes, decimal}
+use Rattle.std.specs.Prelude.{ℕ, zero, suc, ◌+◌, ◌-◌, ◌*◌, ◌/◌, ◌%◌, ◌^◌, ◌==◌, nat_lt, false, nat_le, Bool, true, cond, not, ◌&&◌, List, [], ◌∷◌, ◌++◌, length, map, replicate, slice_index_or, slice_set, Option, Some, None, is_some, codes, decimal}
 use Rattle.basics.specs.Lists.{numbers_below}
 use Rattle.index_spaces.specs.declared.Op.TheVariants as op
 use Rattle.graph_model.specs.declared.graph.format.Format.TheVariants.{One}
@@ -95,7 +95,7 @@ row_lines Sum d lasts n =
     ∷ []
 row_lines Event d lasts n = made_line n verb.User None ∷ made_line (n + 1) (verb.Trigger n) (last_of lasts d.column) ∷ []
 row_lines Section d lasts n =
-    made_line n (verb.Acquire 0) (last_of lasts d.column)
+    made_line n (verb.Acquire 0 false) (last_of lasts d.column)
     ∷ made_line (n + 1) (verb.Reduce op.Sum d.column total_column 0) (Some n)
     ∷ made_line (n + 2) (verb.MergeIgnore ((n + 1) ∷ [])) None
     ∷ made_line (n + 3) (verb.Release n) (Some (n + 2))

@@ -1,6 +1,6 @@
 //! The rows of the table of lines.
 
-ghost use Rattle.std.specs.Prelude.{◌≡◌, ◌<◌, IfOk, [], ◌∷◌, None, Some, ◌+◌};
+ghost use Rattle.std.specs.Prelude.{◌≡◌, ◌<◌, false, IfOk, [], ◌∷◌, None, Some, ◌+◌};
 ghost use Rattle.graph_gen.specs.MadeGraph.{last_of, is_open, row_taken, merged, made_line, row_lines};
 
 use crate::draw::{Draw, Row};
@@ -187,7 +187,7 @@ fn event(alloc: Global, first: u32, last: Option<u32>) -> Result<Vec<Line>, NoMe
 /// A section in which a column is added to the column of the sums.
 fn section(alloc: Global, first: u32, draw: &Draw, last: Option<u32>) -> Result<Vec<Line>, NoMemory>
     requires { first < MAX_LINES }
-    ensures { IfOk result (λ v. v.items ≡ made_line first (Verb.Acquire 0) last
+    ensures { IfOk result (λ v. v.items ≡ made_line first (Verb.Acquire 0 false) last
         ∷ made_line (first + 1) (Verb.Reduce Op.Sum draw.now.column 8 0) (Some first)
         ∷ made_line (first + 2) (Verb.MergeIgnore ((first + 1) ∷ [])) None
         ∷ made_line (first + 3) (Verb.Release first) (Some (first + 2))
@@ -201,7 +201,11 @@ fn section(alloc: Global, first: u32, draw: &Draw, last: Option<u32>) -> Result<
     };
     let events = merged(alloc, Some(first + 1), None)?;
     let free = Verb::Release { acquire: first };
-    let mut lines = one_line(alloc, first, Verb::Acquire { lock: 0 }, last)?;
+    let take = Verb::Acquire {
+        lock: 0,
+        shared: false,
+    };
+    let mut lines = one_line(alloc, first, take, last)?;
     put_line(alloc, &mut lines, first + 1, add, Some(first))?;
     put_line(
         alloc,

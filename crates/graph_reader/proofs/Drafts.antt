@@ -9,7 +9,7 @@ use Rattle.graph_model.specs.graph.Graph.{GraphValue}
 use Rattle.graph_model.specs.graph.Spelling.{column_name}
 use Rattle.graph_model.specs.graph.Fits.{first_reason, repeats}
 use Rattle.graph_reader.specs.Words.{pieces}
-use Rattle.graph_reader.specs.Draft.{Place, NewName, SpaceName, LockName, BarrierName, UserName, PhaseName, AcquireName, EventName, Column, Fields, Value, Times, Weight, Count, Intervals, Placed, is_own_word, Draft, number_in, column_number_of}
+use Rattle.graph_reader.specs.Draft.{Place, NewName, SpaceName, LockName, BarrierName, UserName, PhaseName, AcquireName, EventName, Column, Fields, Value, Times, Weight, Shared, Count, Intervals, Placed, is_own_word, Draft, number_in, column_number_of}
 use Rattle.graph_reader.specs.FirstFault.{misnamed, unknown, twice, unlike, misnumbered, misordered, event_word, column_word, item_fault, or_else, draft_tests, draft_fault, is_empty}
 use Rattle.graph_reader.proofs.TextLists.{each_from_none, same_bytes}
 use Rattle.graph_reader.proofs.WordFacts.{IsWord, AtLeast}
@@ -143,6 +143,7 @@ placed_columns g (AcquireName ∷ ps) (n ∷ ns) more f = placed_columns g ps ns
 placed_columns g (EventName ∷ ps) (n ∷ ns) more f = placed_columns g ps ns more f.1
 placed_columns g (Value ∷ ps) (n ∷ ns) more f = placed_columns g ps ns more f.1
 placed_columns g (Times ∷ ps) (n ∷ ns) more f = placed_columns g ps ns more f.1
+placed_columns g (Shared ∷ ps) (n ∷ ns) more f = placed_columns g ps ns more f.1
 placed_columns g (Weight ∷ ps) (n ∷ ns) more f = placed_columns g ps ns more f.1
 placed_columns g (Count ∷ ps) (n ∷ ns) more f = placed_columns g ps ns more f.1
 placed_columns g (NewName ∷ ps) (n ∷ ns) more f = placed_columns g ps ns more f.1
@@ -175,6 +176,7 @@ columns_read g h (AcquireName ∷ ps) (n ∷ ns) f = columns_read g h ps ns f.1
 columns_read g h (EventName ∷ ps) (n ∷ ns) f = columns_read g h ps ns f.1
 columns_read g h (Value ∷ ps) (n ∷ ns) f = columns_read g h ps ns f.1
 columns_read g h (Times ∷ ps) (n ∷ ns) f = columns_read g h ps ns f.1
+columns_read g h (Shared ∷ ps) (n ∷ ns) f = columns_read g h ps ns f.1
 columns_read g h (Weight ∷ ps) (n ∷ ns) f = columns_read g h ps ns f.1
 columns_read g h (Count ∷ ps) (n ∷ ns) f = columns_read g h ps ns f.1
 columns_read g h (NewName ∷ ps) (n ∷ ns) f = columns_read g h ps ns f.1

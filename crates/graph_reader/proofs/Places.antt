@@ -14,7 +14,7 @@ use Rattle.graph_model.specs.graph.Graph.{GraphValue, named_spaces, columns, loc
 use Rattle.graph_model.specs.graph.Spelling.{space_name, lock_name, barrier_name, line_name, column_name}
 use Rattle.graph_model.specs.graph.Fits.{repeats, is_used}
 use Rattle.graph_reader.specs.Words.{pieces, is_two_names, is_column, value_of, count_of, weight_of}
-use Rattle.graph_reader.specs.Draft.{Place, NewName, SpaceName, LockName, BarrierName, UserName, PhaseName, AcquireName, EventName, Column, Fields, Value, Times, Weight, Count, Intervals, is_own_word, line_number, column_number_of, number_in_place}
+use Rattle.graph_reader.specs.Draft.{Place, NewName, SpaceName, LockName, BarrierName, UserName, PhaseName, AcquireName, EventName, Column, Fields, Value, Times, Weight, Shared, Count, Intervals, is_own_word, line_number, column_number_of, number_in_place}
 use Rattle.graph_reader.specs.FirstFault.{misnamed, is_inst_name, has_column, first_piece, unknown, is_line_name, twice, unlike, misnumbered, misordered}
 use Rattle.graph_reader.proofs.TextLists.{same_bytes, bytes_same, found_of, found_is}
 use Rattle.graph_reader.proofs.WordFacts.{IsWord, name_is_word, decimal_is_word, value_of-decimal, value_of-spelled, count_of-decimal, count_of-spelled, weight_of-decimal, weight_of-spelled, column_pieces, joined_pieces, joined_is_word}
@@ -32,6 +32,7 @@ spell g EventName n = line_name g n
 spell g Column n = column_name g n
 spell g Value n = decimal n
 spell g Times n = codes "times"
+spell g Shared n = codes "shared"
 spell g Weight n = decimal n
 spell g Count n = decimal n
 spell g NewName n = []
@@ -59,6 +60,7 @@ FitsPlace g EventName n = n < length g.lines
 FitsPlace g Column n = n < length (columns g)
 FitsPlace g Value n = n < 2 ^ 64
 FitsPlace g Times n = n ≡ 0
+FitsPlace g Shared n = n ≡ 0
 FitsPlace g Weight n = (1 < n) × (n ≤ 8192)
 FitsPlace g Count n = (0 < n) × (n ≤ 8192)
 FitsPlace g NewName n = ⊥
@@ -283,6 +285,13 @@ times_reads g n h = record {
   word = record { some = refl; printed = (omega arith, (omega arith, (omega arith, (omega arith, (omega arith, tt))))) };
 }
 
+shared_reads : (g : GraphValue) (n : ℕ) → n ≡ 0 → Reads g Shared n (codes "shared")
+shared_reads g n h = record {
+  fine = record { named = refl; once = refl; known = refl; alike = refl; numbered = refl; ordered = refl };
+  number_is = sym h;
+  word = record { some = refl; printed = (omega arith, (omega arith, (omega arith, (omega arith, (omega arith, (omega arith, tt)))))) };
+}
+
 weight_reads : (g : GraphValue) (n : ℕ) → 1 < n → n ≤ 8192 → Reads g Weight n (decimal n)
 weight_reads g n h k = record {
   fine = record { named = refl; once = refl; known = refl; alike = refl; numbered = ap (λ (o : Option ℕ). not (is_some o)) (weight_of-decimal n h k); ordered = refl };
@@ -302,6 +311,7 @@ place_reads g h EventName n f = event_reads g n (line_name g n) (event_word_at g
 place_reads g h Column n f = column_reads g h n f
 place_reads g h Value n f = value_reads g n f
 place_reads g h Times n f = times_reads g n f
+place_reads g h Shared n f = shared_reads g n f
 place_reads g h Weight n f = weight_reads g n f.0 f.1
 place_reads g h Count n f = count_reads g n f.0 f.1
 place_reads g h NewName n f = absurd f
@@ -397,6 +407,7 @@ place_spelled g EventName w n o f = record { word_is = line_as g w (not-false (i
 place_spelled g Column w n o f = record { word_is = column_spelled g w f; bounded = tt }
 place_spelled g Value w n o f = value_spelled g w f
 place_spelled g Times w n o f = record { word_is = sym (same_bytes w (codes "times") o); bounded = tt }
+place_spelled g Shared w n o f = record { word_is = sym (same_bytes w (codes "shared") o); bounded = tt }
 place_spelled g Weight w n o f = weight_spelled g w f
 place_spelled g Count w n o f = count_spelled g w f
 place_spelled g NewName w n o f = absurd n

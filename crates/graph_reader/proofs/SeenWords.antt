@@ -43,6 +43,7 @@ module _ (g : GraphValue) (w : List ℕ) (o : Option Found) (f : IsFound g w o) 
   twice_is places.Acquire n = sym (line_test g w o f (λ i. list_any (λ (l : Line). is_release_of i l.verb) g.lines))
   twice_is places.Value n = absurd n
   twice_is places.Times n = absurd n
+  twice_is places.Shared n = absurd n
   twice_is places.Weight n = absurd n
   twice_is (places.Column mode over) n = absurd n
   twice_is p n = refl
@@ -56,12 +57,14 @@ module _ (g : GraphValue) (w : List ℕ) (o : Option Found) (f : IsFound g w o) 
   unlike_is places.Space n = ap not (sym (position_any (λ (x : List ℕ × List (ℕ × ℕ)). bytes_eq x.0 w) (named_spaces g) ∙ ap (λ (q : Option ℕ). is_some q) f.space))
   unlike_is places.Value n = absurd n
   unlike_is places.Times n = absurd n
+  unlike_is places.Shared n = absurd n
   unlike_is places.Weight n = absurd n
   unlike_is (places.Column mode over) n = absurd n
 
   pub unknown_is : (p : table.Place) → NamesThing p → not (is_some o) ≡ unknown g (as_place p) w
   unknown_is places.Value n = absurd n
   unknown_is places.Times n = absurd n
+  unknown_is places.Shared n = absurd n
   unknown_is places.Weight n = absurd n
   unknown_is (places.Column mode over) n = absurd n
   unknown_is p n = ap not (sym f.used)
@@ -72,6 +75,7 @@ module _ (g : GraphValue) (w : List ℕ) (o : Option Found) (f : IsFound g w o) 
   number_is places.Space n = ap (λ q. unwrap_or q 0) (sym f.space)
   number_is places.Value n = absurd n
   number_is places.Times n = absurd n
+  number_is places.Shared n = absurd n
   number_is places.Weight n = absurd n
   number_is (places.Column mode over) n = absurd n
   number_is p n = ap (λ q. unwrap_or q 0) (sym f.line)
@@ -79,6 +83,7 @@ module _ (g : GraphValue) (w : List ℕ) (o : Option Found) (f : IsFound g w o) 
 pub misnamed_is : (p : table.Place) (w : List ℕ) → NamesThing p → not (is_name w) ≡ misnamed (as_place p) w
 misnamed_is places.Value w n = absurd n
 misnamed_is places.Times w n = absurd n
+misnamed_is places.Shared w n = absurd n
 misnamed_is places.Weight w n = absurd n
 misnamed_is (places.Column mode over) w n = absurd n
 misnamed_is p w n = refl
@@ -86,6 +91,7 @@ misnamed_is p w n = refl
 pub name_plain : (p : table.Place) (w : List ℕ) → NamesThing p → (misnumbered (as_place p) w ≡ false) × (placed_value (as_place p) w ≡ 0)
 name_plain places.Value w n = absurd n
 name_plain places.Times w n = absurd n
+name_plain places.Shared w n = absurd n
 name_plain places.Weight w n = absurd n
 name_plain (places.Column mode over) w n = absurd n
 name_plain p w n = (refl, refl)

@@ -24,7 +24,7 @@ use Rattle.graph_reader.specs.Words.{pieces, value_of, count_of, weight_of, inte
 
 -- what stands in the place of a word
 pub data Place : Type 0 where
-  NewName SpaceName LockName BarrierName UserName PhaseName AcquireName EventName Column Fields Value Times Weight Count Intervals : Place
+  NewName SpaceName LockName BarrierName UserName PhaseName AcquireName EventName Column Fields Value Times Weight Shared Count Intervals : Place
 
 -- a word in its place
 abbrev pub Placed : Type 0
@@ -81,6 +81,7 @@ as_place places.Space = SpaceName
 as_place places.Value = Value
 as_place places.Times = Times
 as_place places.Weight = Weight
+as_place places.Shared = Shared
 as_place (places.Column mode over) = Column
 
 -- a form of an operation line: its fixed words, the places behind them, whether a precondition may follow, the format that brought it, and the verb by the numbers in the places
@@ -115,6 +116,7 @@ is_since Two One = false
 -- whether a word is the one that its place takes, where that takes one word alone
 abbrev pub is_own_word : Place → List ℕ → Bool
 is_own_word Times w = same_word w (codes "times")
+is_own_word Shared w = same_word w (codes "shared")
 is_own_word _ w = true
 
 -- whether the words behind the fixed ones fit the form, and the format has it

@@ -17,7 +17,7 @@ use Rattle.graph_model.specs.graph.Graph.{GraphValue, named_spaces, columns, loc
 use Rattle.graph_model.specs.graph.Spelling.{head, header}
 use Rattle.graph_model.specs.graph.Fits.{IsGraph, first_reason, is_used, repeats, decl_fault, line_fault}
 use Rattle.graph_reader.specs.Words.{pieces, value_of, count_of, weight_of, intervals_of, ascend_from, is_fields, is_column}
-use Rattle.graph_reader.specs.Draft.{Place, NewName, SpaceName, LockName, BarrierName, UserName, PhaseName, AcquireName, EventName, Column, Fields, Value, Times, Weight, Count, Intervals, Draft, draft, line_number}
+use Rattle.graph_reader.specs.Draft.{Place, NewName, SpaceName, LockName, BarrierName, UserName, PhaseName, AcquireName, EventName, Column, Fields, Value, Times, Weight, Shared, Count, Intervals, Draft, draft, line_number}
 use Rattle.graph_reader.specs.Text.{text}
 
 -- a word that is not spelled as a name, as fields or as a column, in the place of one
@@ -27,6 +27,7 @@ misnamed Fields w = not (is_fields w)
 misnamed Value w = false
 misnamed Times w = false
 misnamed Weight w = false
+misnamed Shared w = false
 misnamed Count w = false
 misnamed Intervals w = false
 misnamed _ w = not (is_name w)
@@ -50,6 +51,7 @@ unknown g Fields w = false
 unknown g Value w = false
 unknown g Times w = false
 unknown g Weight w = false
+unknown g Shared w = false
 unknown g Count w = false
 unknown g Intervals w = false
 unknown g Column w = not (is_used g (first_piece (pieces 46 w))) || (is_inst_name g (first_piece (pieces 46 w)) && not (has_column g (pieces 46 w)))

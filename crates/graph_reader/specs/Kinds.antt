@@ -71,6 +71,7 @@ abbrev pub NamesThing : table.Place → Type 0
 NamesThing places.Value = ⊥
 NamesThing places.Times = ⊥
 NamesThing places.Weight = ⊥
+NamesThing places.Shared = ⊥
 NamesThing (places.Column mode over) = ⊥
 NamesThing p = Unit {0}
 

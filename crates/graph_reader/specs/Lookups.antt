@@ -66,6 +66,7 @@ found_number places.Barrier o = found_barrier o
 found_number places.Value o = None
 found_number places.Times o = None
 found_number places.Weight o = None
+found_number places.Shared o = None
 found_number (places.Column mode over) o = None
 found_number p o = found_line o
 

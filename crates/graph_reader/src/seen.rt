@@ -2,7 +2,7 @@
 
 ghost use Rattle.std.specs.Prelude.{◌≡◌, ◌<◌, ◌||◌, ◌&&◌, ℕ, List, not, length, is_some, IfSome};
 ghost use Rattle.graph_model.specs.graph.Graph.{GraphValue};
-ghost use Rattle.graph_reader.specs.Draft.{as_place, Column, EventName, Value, Times, Weight};
+ghost use Rattle.graph_reader.specs.Draft.{as_place, Column, EventName, Value, Times, Weight, Shared};
 ghost use Rattle.graph_reader.specs.Lookups.{found_line, found_number, found_twice, found_alike, is_found_inst};
 ghost use Rattle.graph_reader.specs.Kinds.{Tells, NamesThing, column_seen};
 
@@ -36,7 +36,7 @@ fn number(place: Place, found: Option<Found>) -> Option<u32>
         Place::Lock => as_lock(found),
         Place::Barrier => as_barrier(found),
         Place::Space => as_space(found),
-        Place::Column(..) | Place::Value | Place::Times | Place::Weight => None,
+        Place::Column(..) | Place::Value | Place::Times | Place::Weight | Place::Shared => None,
     }
 }
 
@@ -163,9 +163,10 @@ fn see_value(word: &[u8]) -> Seen
     }
 }
 
-/// What is to be said of the word `times`, which a line has to have there to be of its form.
-fn see_times() -> Seen
-    ensures { (g : GraphValue) (w : List ℕ) → Tells g Times w result }
+/// What is to be said of a word that a line has to have there to be of its form.
+fn see_fixed() -> Seen
+    ensures times { (g : GraphValue) (w : List ℕ) → Tells g Times w result }
+    ensures shared { (g : GraphValue) (w : List ℕ) → Tells g Shared w result }
 {
     Seen {
         faults: Faults {
@@ -207,7 +208,8 @@ pub(crate) fn see(graph: &Graph, place: Place, word: &[u8]) -> Seen
             see_name(graph, place, word),
         Place::Column(..) => see_column(graph, word),
         Place::Value => see_value(word),
-        Place::Times => see_times(),
+        Place::Times => see_fixed(),
+        Place::Shared => see_fixed(),
         Place::Weight => see_weight(word),
     }
 }

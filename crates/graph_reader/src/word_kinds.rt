@@ -142,6 +142,7 @@ pub(crate) fn part_word(graph: &Graph, place: Place, parts: &Parts, i: usize) ->
         Place::Space => space_word(graph, parts.number(i)),
         Place::Value => Word::Number(parts.value(i)),
         Place::Times => Word::Fixed(b"times"),
+        Place::Shared => Word::Fixed(b"shared"),
         Place::Weight => Word::Number(u64::from(parts.number(i))),
         Place::Column(..) => column_word(graph, parts.number(i)),
     }

@@ -111,6 +111,7 @@ fn is_own_word(place: Place, word: &[u8]) -> bool
 {
     match place {
         Place::Times => word == b"times".as_slice(),
+        Place::Shared => word == b"shared".as_slice(),
         _ => true,
     }
 }
