@@ -2,15 +2,16 @@
 use Rattle.std.proofs.Common.{◌≡◌, ℕ, zero, suc, ◌+◌, ◌^◌, ◌<◌, ◌≤◌, true, false, ◌⊎◌, inl, inr, List, [], ◌∷◌, length, refl, sym, ◌∙◌, ap, ap₂, subst, arith}
 use Rattle.std.specs.Prelude.{Contains, Option, Some, slice_get, option_map}
 use Rattle.std.specs.Option.{option_map_or}
-use Rattle.std.proofs.lemmas.Bool.{true≢false, eq-eqb}
+use Rattle.std.proofs.lemmas.Bool.{true≢false, eq-eqb, and_left}
 use Rattle.std.proofs.lemmas.Option.{same_Some}
 use Rattle.graph_model.specs.declared.graph.verb.Access.{Access}
 use Rattle.graph_model.specs.declared.graph.verb.Edge.{Edge}
 use Rattle.graph_model.specs.declared.graph.verb.EdgeKind.TheVariants.{Passes, Ignores}
 use Rattle.graph_model.specs.declared.graph.verb.Line.{Line}
 use Rattle.graph_model.specs.declared.graph.verb.Mode.TheVariants as mode
+use Rattle.graph_model.specs.declared.graph.verb.Verb.{Verb}
 use Rattle.graph_model.specs.declared.graph.verb.Verb.TheVariants as verb
-use Rattle.graph_model.specs.graph.Graph.{GraphValue, is_phase, is_acquire_of, is_release_of, is_merge_ignore, line_passes}
+use Rattle.graph_model.specs.graph.Graph.{GraphValue, is_phase, is_acquire_of, is_shared, is_release_of, is_merge_ignore, line_passes}
 use Rattle.graph_model.specs.meaning.Path.{Path, HasPath, last, first}
 use Rattle.graph_model.specs.graph.Access.{access, modes_clash, AccessesConflict}
 use Rattle.graph_model.specs.graph.Edges.{edge}
@@ -135,6 +136,7 @@ module _ (ls : List Line) (shape : Shape ls) where
     one = q;
     other = r;
     different = λ s. omega arith;
+    apart = and_left (line_passes is_shared g q) (line_passes is_shared g r) (ap (λ (o : Option Verb). option_map_or is_shared o false) h.acquire);
     one_section = in_section q i h e;
     other_section = in_section r j k f;
   }

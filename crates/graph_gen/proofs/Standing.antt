@@ -16,7 +16,7 @@ use Rattle.graph_model.specs.graph.Graph.{GraphValue, ends_user, is_release_of}
 use Rattle.graph_model.specs.graph.Access.{verb_accesses}
 use Rattle.graph_model.specs.kept.Counts.{words_size}
 use Rattle.graph_model.specs.graph.Edges.{edges, line_edges}
-use Rattle.graph_model.specs.graph.Fits.{first_reason, repeats, is_used, with_line, is_beyond, verb_repeats, line_unknown, verb_unlike, takes_no_on, verb_misnumbered, access_outside, arrives_late, merges_many, line_fault, IsVerb, IsLine, LinesFit}
+use Rattle.graph_model.specs.graph.Fits.{first_reason, repeats, is_used, with_line, is_beyond, verb_repeats, line_unknown, verb_unlike, takes_no_on, format_lacks, verb_misnumbered, access_outside, arrives_late, merges_many, line_fault, IsVerb, IsLine, LinesFit}
 use Rattle.graph_model.specs.graph.Spelling.{spelled, verb_words, on_words, line_words, line_name, head}
 use Rattle.graph_model.proofs.CountLaws.{spelled_size}
 use Rattle.graph_model.proofs.GraphPush.{head_with_line}
@@ -68,7 +68,7 @@ pub record Sized (ws : List (List ℕ)) (n : ℕ) : Type 0 where
 
 -- what may be said against a line besides its name, its columns and the lines that it names
 abbrev pub against : List Line → Verb → Option ℕ → Bool
-against ls v on = verb_repeats (lined ls) v || (verb_unlike (lined ls) v || ((takes_no_on v && is_some on) || (verb_misnumbered One v || (arrives_late (lined ls) v || merges_many v))))
+against ls v on = verb_repeats (lined ls) v || (verb_unlike (lined ls) v || ((takes_no_on v && is_some on) || (format_lacks One v || (verb_misnumbered One v || (arrives_late (lined ls) v || merges_many v)))))
 
 -- what holds of a line that may come next
 pub record NextFits (ls : List Line) (v : Verb) (on : Option ℕ) : Type 0 where
@@ -169,12 +169,13 @@ module _ (ls : List Line) (n : ℕ) (v : Verb) (on : Option ℕ) (count : length
       let repeated = or_parts (verb_repeats (lined ls) v) _ fits.clear in
       let unlike = or_parts (verb_unlike (lined ls) v) _ repeated.1 in
       let bare = or_parts (takes_no_on v && is_some on) _ unlike.1 in
-      let counted = or_parts (verb_misnumbered One v) _ bare.1 in
+      let there = or_parts (format_lacks One v) _ bare.1 in
+      let counted = or_parts (verb_misnumbered One v) _ there.1 in
       let late = or_parts (arrives_late (lined ls) v) (merges_many v) counted.1 in
-      seven_false (is_used (lined ls) (made_name n) || (verb_repeats (lined ls) v || repeats nat_eq (map (λ (a : Access). a.column) (verb_accesses v)))) (line_unknown (lined ls) next) (verb_unlike (lined ls) v || (takes_no_on v && is_some on)) (verb_misnumbered One v)
+      seven_false (is_used (lined ls) (made_name n) || (verb_repeats (lined ls) v || repeats nat_eq (map (λ (a : Access). a.column) (verb_accesses v)))) (line_unknown (lined ls) next) (verb_unlike (lined ls) v || ((takes_no_on v && is_some on) || format_lacks One v)) (verb_misnumbered One v)
       (list_any (access_outside (lined ls)) (verb_accesses v)) (arrives_late (lined ls) v) (merges_many v || is_beyond (with_line (lined ls) next))
       (both_false (is_used (lined ls) (made_name n)) (verb_repeats (lined ls) v || repeats nat_eq (map (λ (a : Access). a.column) (verb_accesses v))) unused_name (both_false (verb_repeats (lined ls) v) (repeats nat_eq (map (λ (a : Access). a.column) (verb_accesses v))) repeated.0 fits.apart))
-      fits.known (both_false (verb_unlike (lined ls) v) (takes_no_on v && is_some on) unlike.0 bare.0) counted.0 fits.within late.0 (both_false (merges_many v) (is_beyond (with_line (lined ls) next)) late.1 beyond_not)
+      fits.known (both_false (verb_unlike (lined ls) v) ((takes_no_on v && is_some on) || format_lacks One v) unlike.0 (both_false (takes_no_on v && is_some on) (format_lacks One v) bare.0 there.0)) counted.0 fits.within late.0 (both_false (merges_many v) (is_beyond (with_line (lined ls) next)) late.1 beyond_not)
 
   next_is_line : IsLine next
   next_is_line = record { named = made_is_name n (omega arith); values = fits.values }
