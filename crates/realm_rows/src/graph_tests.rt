@@ -6,7 +6,8 @@ use realm_top::status::Status;
 use std::test::Fail;
 use test_texts::graphs::{
     CANCELLED_BARRIER, EMPTY, FAULTY_PATHS, KERNELS, LOCKED_MAXIMA, LOCKED_SUMS, MISSING_WEIGHT,
-    NINE_WAITERS, NO_TRIGGER, WAITER_ABOVE_TRIGGER, WEIGHTED_ARRIVALS,
+    NINE_WAITERS, NO_TRIGGER, ONE_SHARED_SUM, READERS_AND_WRITER, WAITER_ABOVE_TRIGGER,
+    WEIGHTED_ARRIVALS,
 };
 
 /// What writes a report: each engine, and the evaluation.
@@ -125,6 +126,15 @@ const ALL_DONE: &[(&[&str], &str, &str)] = &[
         ],
         LOCKED_SUMS,
         LOCKED_SUMS_CELLS,
+    ),
+    (RUNS, ONE_SHARED_SUM, LOCKED_SUMS_CELLS),
+    (
+        RUNS,
+        READERS_AND_WRITER,
+        "cells a.x 0..1 6 6\n\
+         cells a.y 0..1 5 5\n\
+         cells a.z 0..1 5 5\n\
+         done\n",
     ),
     (
         RUNS,

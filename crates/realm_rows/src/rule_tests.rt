@@ -3,8 +3,9 @@
 use crate::graph_tests::FILL;
 use crate::row::run_texts;
 use realm_top::status::Status;
+use std::alloc::Global;
 use std::test::Fail;
-use test_texts::graphs::{EMPTY, TWO_READERS, TWO_SECTIONS};
+use test_texts::graphs::{EMPTY, TWO_READERS, TWO_SECTIONS, TWO_SHARED_SECTIONS};
 
 /// Texts with the rule that is broken.
 const BROKEN: &[(&str, &str)] = &[
@@ -67,62 +68,6 @@ const BROKEN: &[(&str, &str)] = &[
          g = reduce sum a.y a.z s\n\
          end\n",
         "refused race f g\n",
-    ),
-    // reductions by the greatest value in two sections of one reservation, in format 1
-    (
-        "realm 1\n\
-         space s 0..1\n\
-         inst a s x,y,z\n\
-         lock l\n\
-         f = fill a.x s 3\n\
-         g = fill a.y s 4\n\
-         q = acquire l on f\n\
-         d = reduce max a.x a.z s on q\n\
-         m = mergei d\n\
-         r = release q on m\n\
-         k = acquire l on g\n\
-         e = reduce max a.y a.z s on k\n\
-         n = mergei e\n\
-         t = release k on n\n\
-         end\n",
-        "refused race d e\n",
-    ),
-    // a reduction by the greatest value and one by the least in two such sections
-    (
-        "realm 2\n\
-         space s 0..1\n\
-         inst a s x,y,z\n\
-         lock l\n\
-         f = fill a.x s 3\n\
-         g = fill a.y s 4\n\
-         q = acquire l on f\n\
-         d = reduce max a.x a.z s on q\n\
-         m = mergei d\n\
-         r = release q on m\n\
-         k = acquire l on g\n\
-         e = reduce min a.y a.z s on k\n\
-         n = mergei e\n\
-         t = release k on n\n\
-         end\n",
-        "refused race d e\n",
-    ),
-    (
-        "realm 2\n\
-         space s 0..1\n\
-         inst a s x,y,z\n\
-         lock l\n\
-         f = fill a.x s 3\n\
-         g = fill a.y s 4\n\
-         q = acquire l on f\n\
-         d = reduce min a.x a.z s on q\n\
-         m = mergei d\n\
-         r = release q on m\n\
-         k = acquire l on g\n\
-         e = reduce max a.y a.z s on k\n\
-         n = mergei e\n\
-         t = release k on n\n\
-         end\n",
-        "refused race d e\n",
     ),
     // two reductions by the greatest value outside any section
     (
@@ -221,12 +166,61 @@ const ACCEPTED: &[(&str, &str)] = &[
         "accepted need 1\n",
     ),
     (TWO_SECTIONS, "accepted need 6\n"),
+    (TWO_SHARED_SECTIONS, "accepted need 6\n"),
 ];
+
+/// Reductions of one column in two sections of one reservation: the format, for each section its reduction and what
+/// follows the reservation's name in its acquire, and whether the two are exempt.
+const SECTIONS: &[(u32, [&str; 2], [&str; 2], bool)] = &[
+    (1, ["sum", "sum"], ["", ""], true),
+    (1, ["max", "max"], ["", ""], false),
+    (2, ["max", "max"], ["", ""], true),
+    (2, ["min", "min"], ["", ""], true),
+    (2, ["max", "min"], ["", ""], false),
+    (2, ["min", "max"], ["", ""], false),
+    (2, ["max", "sum"], ["", ""], false),
+    (2, ["sum", "sum"], [" shared", " shared"], false),
+    (2, ["sum", "sum"], [" shared", ""], true),
+    (2, ["min", "min"], ["", " shared"], true),
+];
+
+/// The text of two such sections.
+fn sections(alloc: Global, format: u32, ops: [&str; 2], ways: [&str; 2]) -> Result<String, Fail> {
+    Ok(format!(in alloc; "realm {format}\n\
+         space s 0..1\n\
+         inst a s x,y,z\n\
+         lock l\n\
+         f = fill a.x s 3\n\
+         g = fill a.y s 4\n\
+         q = acquire l{} on f\n\
+         d = reduce {} a.x a.z s on q\n\
+         m = mergei d\n\
+         r = release q on m\n\
+         k = acquire l{} on g\n\
+         e = reduce {} a.y a.z s on k\n\
+         n = mergei e\n\
+         t = release k on n\n\
+         end\n", ways[0], ops[0], ways[1], ops[1])?)
+}
 
 #[test]
 fn broken(rt: HostRuntime) -> Result<(), Fail> {
     let commands = ["check", "run", "eval --trace"];
     run_texts(&rt, &commands, Status::Unfit, BROKEN)
+}
+
+#[test]
+fn exempt(rt: HostRuntime) -> Result<(), Fail> {
+    for (format, ops, ways, is_exempt) in SECTIONS {
+        let text = sections(rt.alloc(), *format, *ops, *ways)?;
+        let (status, told) = if *is_exempt {
+            (Status::Done, "accepted need 10\n")
+        } else {
+            (Status::Unfit, "refused race d e\n")
+        };
+        run_texts(&rt, &["check"], status, &[(text.as_str(), told)])?;
+    }
+    Ok(())
 }
 
 #[test]

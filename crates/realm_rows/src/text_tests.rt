@@ -187,6 +187,15 @@ const REFUSED: &[(&str, &str)] = &[
         "realm 2\nbarrier b 3 sum 0\np = phase b\nv = arrive p 5 times 2\nw = arrive p 1 times 2\nend\n",
         "refused line 5 arrivals\n",
     ),
+    // a shared acquire in format 1, and another word in the place of `shared`
+    (
+        "realm 1\nlock l\nq = acquire l shared\nend\n",
+        "refused line 3 syntax\n",
+    ),
+    (
+        "realm 2\nlock l\nq = acquire l share\nend\n",
+        "refused line 3 syntax\n",
+    ),
     // one point too many
     (
         "realm 1\nspace s 0..1048576\nend\n",

@@ -17,7 +17,8 @@ use std::test::Fail;
 use test_texts::generated::chain;
 use test_texts::graphs::{
     CANCELLED_BARRIER, EMPTY, FAULTY_PATHS, KERNELS, LOCKED_SUMS, MISSING_WEIGHT, NINE_WAITERS,
-    NO_TRIGGER, TWO_READERS, TWO_SECTIONS, WAITER_ABOVE_TRIGGER, WEIGHTED_ARRIVALS,
+    NO_TRIGGER, ONE_SHARED_SUM, READERS_AND_WRITER, TWO_READERS, TWO_SECTIONS,
+    TWO_SHARED_SECTIONS, WAITER_ABOVE_TRIGGER, WEIGHTED_ARRIVALS,
 };
 use test_texts::tiles;
 
@@ -138,7 +139,10 @@ fn small_graphs(rt: HostRuntime) -> Result<(), Fail> {
         (NO_TRIGGER, 3),
         (KERNELS, 9),
         (LOCKED_SUMS, 10),
+        (ONE_SHARED_SUM, 10),
+        (READERS_AND_WRITER, 13),
         (TWO_SECTIONS, 6),
+        (TWO_SHARED_SECTIONS, 6),
         (NINE_WAITERS, 11),
         (WEIGHTED_ARRIVALS, 3),
         (MISSING_WEIGHT, 2),

@@ -7,11 +7,12 @@ use std::alloc::Global;
 use std::test::Fail;
 use test_texts::graphs::{
     CANCELLED_BARRIER, EMPTY, FAULTY_PATHS, KERNELS, LOCKED_SUMS, MISSING_WEIGHT, NINE_WAITERS,
-    NO_TRIGGER, TWO_SECTIONS, WAITER_ABOVE_TRIGGER, WEIGHTED_ARRIVALS,
+    NO_TRIGGER, ONE_SHARED_SUM, READERS_AND_WRITER, TWO_SECTIONS, TWO_SHARED_SECTIONS,
+    WAITER_ABOVE_TRIGGER, WEIGHTED_ARRIVALS,
 };
 
 /// Texts of graphs that are run in words.
-pub(crate) const TEXTS: [&str; 11] = [
+pub(crate) const TEXTS: [&str; 14] = [
     EMPTY,
     WAITER_ABOVE_TRIGGER,
     FAULTY_PATHS,
@@ -19,7 +20,10 @@ pub(crate) const TEXTS: [&str; 11] = [
     NO_TRIGGER,
     KERNELS,
     LOCKED_SUMS,
+    ONE_SHARED_SUM,
+    READERS_AND_WRITER,
     TWO_SECTIONS,
+    TWO_SHARED_SECTIONS,
     NINE_WAITERS,
     WEIGHTED_ARRIVALS,
     MISSING_WEIGHT,

@@ -95,6 +95,23 @@ pub const LOCKED_SUMS: &str = "realm 1\n\
     t = release k on n\n\
     end\n";
 
+/// The same sums, of which one shares the reservation: the other excludes it.
+pub const ONE_SHARED_SUM: &str = "realm 2\n\
+    space s 0..1\n\
+    inst a s x,y,z\n\
+    lock l\n\
+    f = fill a.x s 3\n\
+    g = fill a.y s 4\n\
+    q = acquire l shared on f\n\
+    d = reduce sum a.x a.z s on q\n\
+    m = mergei d\n\
+    r = release q on m\n\
+    k = acquire l on g\n\
+    e = reduce sum a.y a.z s on k\n\
+    n = mergei e\n\
+    t = release k on n\n\
+    end\n";
+
 /// Reductions by the greatest value under one reservation.
 pub const LOCKED_MAXIMA: &str = "realm 2\n\
     space s 0..1\n\
@@ -121,6 +138,38 @@ pub const TWO_SECTIONS: &str = "realm 1\n\
     k = acquire l\n\
     n = mergei k\n\
     t = release k on n\n\
+    end\n";
+
+/// Two sections that share one reservation.
+pub const TWO_SHARED_SECTIONS: &str = "realm 2\n\
+    lock l\n\
+    q = acquire l shared\n\
+    m = mergei q\n\
+    r = release q on m\n\
+    k = acquire l shared\n\
+    n = mergei k\n\
+    t = release k on n\n\
+    end\n";
+
+/// Two copies of one column under shared acquires, beside a fill of it under an exclusive one, which waits for both.
+pub const READERS_AND_WRITER: &str = "realm 2\n\
+    space s 0..1\n\
+    inst a s x,y,z\n\
+    lock l\n\
+    f = fill a.x s 5\n\
+    q = acquire l shared on f\n\
+    c = copy a.x a.y s on q\n\
+    m = mergei c\n\
+    r = release q on m\n\
+    k = acquire l shared on f\n\
+    d = copy a.x a.z s on k\n\
+    n = mergei d\n\
+    t = release k on n\n\
+    o = merge r t\n\
+    w = acquire l on o\n\
+    g = fill a.x s 6 on w\n\
+    p = mergei g\n\
+    v = release w on p\n\
     end\n";
 
 /// Two copies that read the same column.

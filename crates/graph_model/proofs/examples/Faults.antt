@@ -1,12 +1,13 @@
 -- Items that small graphs refuse.
-use Rattle.std.specs.Prelude.{◌≡◌, [], ◌∷◌, Some, None, codes, refl}
+use Rattle.std.specs.Prelude.{◌≡◌, true, [], ◌∷◌, Some, None, codes, refl}
 use Rattle.std.specs.Fmt.{digits}
 use Rattle.graph_model.specs.declared.graph.decl.Decl.TheVariants.{Space, Inst}
-use Rattle.graph_model.specs.declared.graph.verb.Verb.TheVariants.{User, Trigger, Cancel, Arrive, Fill}
+use Rattle.graph_model.specs.declared.graph.format.Format.TheVariants.{Two}
+use Rattle.graph_model.specs.declared.graph.verb.Verb.TheVariants.{User, Trigger, Cancel, Arrive, Acquire, Fill}
 use Rattle.graph_model.specs.declared.graph.why.Why.TheVariants as why
 use Rattle.graph_model.specs.graph.Graph.{GraphValue}
 use Rattle.graph_model.specs.graph.Fits.{line_fault}
-use Rattle.graph_model.proofs.examples.Graphs.{graph, line, wrapping_sum, light_phase}
+use Rattle.graph_model.proofs.examples.Graphs.{graph, line, wrapping_sum, light_phase, one_section}
 
 -- a third arrival where two complete the phase
 wrapping_sum-full : line_fault wrapping_sum (line (codes "z") (Arrive 0 1 1) None) ≡ Some why.Arrivals
@@ -41,3 +42,12 @@ light_phase-weightless = refl
 wrapping_sum-weighted : line_fault wrapping_sum (line (codes "z") (Arrive 0 1 2) None) ≡ Some why.Number
 unfolding digits
 wrapping_sum-weighted = refl
+
+-- a shared acquire, which format 1 has not
+shared_in_format_one : line_fault one_section (line (codes "k") (Acquire 0 true) None) ≡ Some why.Kind
+unfolding digits
+shared_in_format_one = refl
+
+shared_in_format_two : line_fault (record one_section { format = Two }) (line (codes "k") (Acquire 0 true) None) ≡ None
+unfolding digits
+shared_in_format_two = refl
