@@ -5,6 +5,7 @@ ghost use Rattle.basics.specs.Numbers.{number_up_to};
 ghost use Rattle.graph_reader.specs.Words.{value_of, count_of, weight_of};
 
 use basics::number_up_to;
+use graph_model::limits::MAX_COUNT;
 use index_spaces::limits::LAST_POINT;
 
 /// The value that a word spells.
@@ -18,7 +19,7 @@ pub(crate) fn value(word: &[u8]) -> Option<u64>
 pub(crate) fn count(word: &[u8]) -> Option<u32>
     ensures { result ≡ count_of word.now }
 {
-    match number_up_to(word, 8192) {
+    match number_up_to(word, u64::from(MAX_COUNT)) {
         Some(0) => None,
         Some(n) => Some(n as u32),
         None => None,
@@ -29,7 +30,7 @@ pub(crate) fn count(word: &[u8]) -> Option<u32>
 pub(crate) fn weight(word: &[u8]) -> Option<u32>
     ensures { result ≡ weight_of word.now }
 {
-    match number_up_to(word, 8192) {
+    match number_up_to(word, u64::from(MAX_COUNT)) {
         Some(n) if n > 1 => Some(n as u32),
         _ => None,
     }

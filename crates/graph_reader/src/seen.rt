@@ -1,6 +1,6 @@
 //! What is to be said of a word in its place, by one look-up.
 
-ghost use Rattle.std.specs.Prelude.{◌≡◌, ◌<◌, ◌||◌, ◌&&◌, ℕ, List, not, length, is_some, IfSome};
+ghost use Rattle.std.specs.Prelude.{◌≡◌, false, ◌<◌, ◌||◌, ◌&&◌, ℕ, List, not, length, is_some, IfSome};
 ghost use Rattle.graph_model.specs.graph.Graph.{GraphValue};
 ghost use Rattle.graph_reader.specs.Draft.{as_place, Column, EventName, Value, Times, Weight, Shared};
 ghost use Rattle.graph_reader.specs.Lookups.{found_line, found_number, found_twice, found_alike, is_found_inst};
@@ -145,19 +145,26 @@ fn see_column(graph: &Graph, word: &[u8]) -> Seen
     }
 }
 
+/// Whether a word that names nothing is not the number that its place asks for.
+fn misnumbered(misnumbered: bool) -> Faults
+    ensures { result ≡ record { misnamed = false; twice = false; unknown = false; unlike = false; misnumbered = misnumbered } }
+{
+    Faults {
+        misnamed: false,
+        twice: false,
+        unknown: false,
+        unlike: false,
+        misnumbered,
+    }
+}
+
 /// What is to be said of a value.
 fn see_value(word: &[u8]) -> Seen
     ensures { (g : GraphValue) → Tells g Value word.now result }
 {
     let value = value(word);
     Seen {
-        faults: Faults {
-            misnamed: false,
-            twice: false,
-            unknown: false,
-            unlike: false,
-            misnumbered: value.is_none(),
-        },
+        faults: misnumbered(value.is_none()),
         number: 0,
         value: value.unwrap_or(0),
     }
@@ -169,13 +176,7 @@ fn see_fixed() -> Seen
     ensures shared { (g : GraphValue) (w : List ℕ) → Tells g Shared w result }
 {
     Seen {
-        faults: Faults {
-            misnamed: false,
-            twice: false,
-            unknown: false,
-            unlike: false,
-            misnumbered: false,
-        },
+        faults: misnumbered(false),
         number: 0,
         value: 0,
     }
@@ -187,13 +188,7 @@ fn see_weight(word: &[u8]) -> Seen
 {
     let weight = weight(word);
     Seen {
-        faults: Faults {
-            misnamed: false,
-            twice: false,
-            unknown: false,
-            unlike: false,
-            misnumbered: weight.is_none(),
-        },
+        faults: misnumbered(weight.is_none()),
         number: weight.unwrap_or(0),
         value: 0,
     }
