@@ -14,8 +14,8 @@ use index_spaces::NoMemory;
 use index_spaces::room::{filled, push, with_room};
 use std::alloc::Global;
 
-/// The reservation that guards each class, in sections of which all its members lie, and for each
-/// access of such a class the first place with a member of one in its section.
+/// The reservation that guards each class, in exclusive sections of which all its members lie, and
+/// for each access of such a class the first place with a member of one in its section.
 #[derive(Drop)]
 pub(crate) struct Guards {
     pub(crate) locks: Vec<Option<u32>>,
@@ -61,7 +61,8 @@ impl Guarding {
         })
     }
 
-    /// Proposes for each class of reductions a reservation in a section of which a member lies.
+    /// Proposes for each class of reductions a reservation in an exclusive section of which a member
+    /// lies.
     fn propose_all(&mut self, graph: &Graph, order: &[u32], classes: &Classes, held: &Held)
         requires placed { IsPlaced graph.now order.now }
         requires classes { AreClasses graph.now order.now classes.now.keys.items classes.now.of.items }
@@ -103,15 +104,15 @@ impl Guarding {
         requires openings { length self.old.openings.items ≡ length graph.now.lines }
         ensures locks { length self.new.locks.items ≡ length self.old.locks.items }
         ensures openings { length self.new.openings.items ≡ length self.old.openings.items }
-        ensures opened { AreOpened held.now order.now classes.now.of.items self.new.locks.items self.new.openings.items (length classes.now.of.items) }
+        ensures opened { AreOpened graph.now held.now order.now classes.now.of.items self.new.locks.items self.new.openings.items (length classes.now.of.items) }
     {
         for number in 0..3 * graph.lines() {
             self.open(graph, order, classes, held, number);
         }
     }
 
-    /// Opens the section of an access of a guarded class; where there is none, no reservation
-    /// guards the class.
+    /// Opens the exclusive section of an access of a guarded class; where there is none, no
+    /// reservation guards the class.
     fn open(&mut self, graph: &Graph, order: &[u32], classes: &Classes, held: &Held, number: u32)
         requires placed { IsPlaced graph.now order.now }
         requires classes { AreClasses graph.now order.now classes.now.keys.items classes.now.of.items }
@@ -119,10 +120,10 @@ impl Guarding {
         requires number { number < length classes.now.of.items }
         requires locks { length self.old.locks.items ≡ length classes.now.keys.items }
         requires openings { length self.old.openings.items ≡ length graph.now.lines }
-        requires opened { AreOpened held.now order.now classes.now.of.items self.old.locks.items self.old.openings.items number }
+        requires opened { AreOpened graph.now held.now order.now classes.now.of.items self.old.locks.items self.old.openings.items number }
         ensures locks { length self.new.locks.items ≡ length self.old.locks.items }
         ensures openings { length self.new.openings.items ≡ length self.old.openings.items }
-        ensures opened { AreOpened held.now order.now classes.now.of.items self.new.locks.items self.new.openings.items (number + 1) }
+        ensures opened { AreOpened graph.now held.now order.now classes.now.of.items self.new.locks.items self.new.openings.items (number + 1) }
     {
         let Some(class) = classes.of[number as usize] else {
             return;
@@ -131,7 +132,7 @@ impl Guarding {
             return;
         };
         let place = number / 3;
-        match held.acquire(graph, lock, order[place as usize]) {
+        match held.exclusive(graph, lock, order[place as usize]) {
             None => self.locks[class as usize] = None,
             Some(acquire) => {
                 let opening = self.openings[acquire as usize];
@@ -154,7 +155,7 @@ impl Guarding {
         requires held { IsHeld graph.now held.now }
         requires locks { length self.locks.items ≡ length classes.now.keys.items }
         requires openings { length self.openings.items ≡ length graph.now.lines }
-        requires opened { AreOpened held.now order.now classes.now.of.items self.locks.items self.openings.items (length classes.now.of.items) }
+        requires opened { AreOpened graph.now held.now order.now classes.now.of.items self.locks.items self.openings.items (length classes.now.of.items) }
         ensures { IfOk result (λ s. AreGuards graph.now order.now classes.now.keys.items classes.now.of.items s.locks.items s.starts.items) }
     {
         let mut starts = with_room(alloc, classes.of.len())?;
