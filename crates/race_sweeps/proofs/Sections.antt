@@ -55,9 +55,9 @@ kept_below g h is l i q e = acquire_below g l i q (section_kept g h is l i q e)
 pub acquire_known : (g : GraphValue) (h : Held) → IsHeld g h → (l i q : ℕ) (o : Option ℕ) → o ≡ acquire_in h l i → o ≡ Some q → q < length g.lines
 acquire_known g h is l i q o e at = kept_below g h is l i q (sym e ∙ at)
 
-pub section_some : (g : GraphValue) (h : Held) → IsHeld g h → (l i : ℕ) (o : Option ℕ) → IfSome o (λ q. (acquire_in h l i ≡ Some q) × (line_passes is_shared g q ≡ false)) → is_some o ≡ true → (q : ℕ) × Section g l q i
+pub section_some : (g : GraphValue) (h : Held) → IsHeld g h → (l i : ℕ) (o : Option ℕ) → IfSome o (λ q. (acquire_in h l i ≡ Some q) × (line_passes is_shared g q ≡ false)) → is_some o ≡ true → (q : ℕ) × (line_passes is_shared g q ≡ false) × Section g l q i
 section_some g h is l i None e some = absurd (true≢false (sym some))
-section_some g h is l i (Some q) e some = (q, section_kept g h is l i q e.0)
+section_some g h is l i (Some q) e some = (q, e.1, section_kept g h is l i q e.0)
 
 -- the acquire that a row keeps for a line
 pub kept_known : (g : GraphValue) (l : ℕ) (row : Vec (Option ℕ) Global) → IsHeldRow g l row → (i : ℕ) (o : Option ℕ) → o ≡ slice_index_or row.items i None → IfSome o (λ q. q < length g.lines)

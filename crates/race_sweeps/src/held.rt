@@ -63,7 +63,7 @@ impl Held {
     pub(crate) fn first_lock(&self, graph: &Graph, line: u32) -> Option<u32>
         requires held { IsHeld graph.now self.now }
         requires line { line < length graph.now.lines }
-        ensures { IfSome result (λ l. (q : ℕ) × Section graph.now l q line) }
+        ensures { IfSome result (λ l. (q : ℕ) × (line_passes is_shared graph.now q ≡ false) × Section graph.now l q line) }
     {
         for lock in 0..graph.locks() {
             if self.exclusive(graph, lock, line).is_some() {
