@@ -1,11 +1,11 @@
 -- In which sections two lines lie.
-use Rattle.std.proofs.Common.{◌≡◌, ℕ, ◌+◌, ◌<◌, ◌≤◌, true, false, not, ◌&&◌, inl, inr, List, length, refl, sym, ◌∙◌, ap, subst, arith}
+use Rattle.std.proofs.Common.{◌≡◌, ℕ, ◌+◌, ◌<◌, ◌≤◌, true, false, not, inl, inr, List, length, refl, sym, ◌∙◌, ap, subst, arith}
 use Rattle.std.specs.Prelude.{Option, Some, None, IfSome, Vec, is_some, slice_get}
 use Rattle.std.specs.Option.{option_map_or}
 use Rattle.std.specs.Global.{Global}
 use Rattle.std.specs.List.{slice_index_or}
 use Rattle.std.proofs.lemmas.Bool.{true≢false, cases_lt, cases_Bool}
-use Rattle.graph_model.specs.graph.Graph.{GraphValue, locks, line_passes, is_acquire_of, is_shared}
+use Rattle.graph_model.specs.graph.Graph.{GraphValue, locks, is_acquire_of}
 use Rattle.graph_model.specs.graph.Fits.{IsGraph}
 use Rattle.graph_model.specs.meaning.Rules.{Section, both_shared, modes_commute}
 use Rattle.graph_model.proofs.ReleaseFacts.{acquired_lock_known}
@@ -55,18 +55,18 @@ kept_below g h is l i q e = acquire_below g l i q (section_kept g h is l i q e)
 pub acquire_known : (g : GraphValue) (h : Held) → IsHeld g h → (l i q : ℕ) (o : Option ℕ) → o ≡ acquire_in h l i → o ≡ Some q → q < length g.lines
 acquire_known g h is l i q o e at = kept_below g h is l i q (sym e ∙ at)
 
-pub section_some : (g : GraphValue) (h : Held) → IsHeld g h → (l i : ℕ) (o : Option ℕ) → IfSome o (λ q. (acquire_in h l i ≡ Some q) × (line_passes is_shared g q ≡ false)) → is_some o ≡ true → (q : ℕ) × (line_passes is_shared g q ≡ false) × Section g l q i
+pub section_some : (g : GraphValue) (h : Held) → IsHeld g h → (l i : ℕ) (o : Option ℕ) → o ≡ acquire_in h l i → is_some o ≡ true → (q : ℕ) × Section g l q i
 section_some g h is l i None e some = absurd (true≢false (sym some))
-section_some g h is l i (Some q) e some = (q, e.1, section_kept g h is l i q e.0)
+section_some g h is l i (Some q) e some = (q, section_kept g h is l i q (sym e))
 
 -- the acquire that a row keeps for a line
 pub kept_known : (g : GraphValue) (l : ℕ) (row : Vec (Option ℕ) Global) → IsHeldRow g l row → (i : ℕ) (o : Option ℕ) → o ≡ slice_index_or row.items i None → IfSome o (λ q. q < length g.lines)
 kept_known g l row h i None e = tt
 kept_known g l row h i (Some q) e = acquire_below g l i q (h.is i q (sym e))
 
--- lines for which different acquires of one reservation are kept lie apart, where the first one is exclusive
-pub kept_apart : (g : GraphValue) (h : Held) → IsHeld g h → (l i j q k : ℕ) → acquire_in h l i ≡ Some q → acquire_in h l j ≡ Some k → (q ≡ k → ⊥) → line_passes is_shared g q ≡ false → LieApart g i j
-kept_apart g h is l i j q k a b apart alone = (l, q, k, apart, ap (λ s. s && line_passes is_shared g k) alone, section_kept g h is l i q a, section_kept g h is l j k b)
+-- lines for which different acquires of one reservation are kept lie apart, where these are not both shared
+pub kept_apart : (g : GraphValue) (h : Held) → IsHeld g h → (l i j q k : ℕ) → acquire_in h l i ≡ Some q → acquire_in h l j ≡ Some k → (q ≡ k → ⊥) → both_shared g q k ≡ false → LieApart g i j
+kept_apart g h is l i j q k a b apart alone = (l, q, k, apart, alone, section_kept g h is l i q a, section_kept g h is l j k b)
 
 pub none_read : (o p : Option ℕ) → o ≡ p → is_some o ≡ false → p ≡ None
 none_read o p e f = sym e ∙ none_of o f

@@ -1,6 +1,6 @@
 //! In which sections the lines lie.
 
-ghost use Rattle.std.specs.Prelude.{◌≡◌, ℕ, ◌<◌, ◌↔◌, false, length, Some, IsTrue, IfSome};
+ghost use Rattle.std.specs.Prelude.{◌≡◌, ℕ, ◌<◌, ◌↔◌, length, IsTrue, IfSome};
 ghost use Rattle.graph_model.specs.graph.Graph.{line_passes, is_shared};
 ghost use Rattle.graph_model.specs.meaning.Rules.{Section};
 ghost use Rattle.race_sweeps.specs.Held.{IsHeld, LieApart, Exclude, acquire_in};
@@ -44,29 +44,14 @@ impl Held {
         }
     }
 
-    /// The acquire of a reservation in whose section a line lies, where there is one that is
-    /// exclusive.
-    pub(crate) fn exclusive(&self, graph: &Graph, lock: u32, line: u32) -> Option<u32>
-        requires held { IsHeld graph.now self.now }
-        requires line { line < length graph.now.lines }
-        ensures { IfSome result (λ q. (acquire_in self.now lock line ≡ Some q) × (line_passes is_shared graph.now q ≡ false)) }
-    {
-        let acquire = self.acquire(graph, lock, line)?;
-        if is_shared(graph, acquire) {
-            None
-        } else {
-            Some(acquire)
-        }
-    }
-
-    /// The first reservation in an exclusive section of which a line lies.
+    /// The first reservation in a section of which a line lies.
     pub(crate) fn first_lock(&self, graph: &Graph, line: u32) -> Option<u32>
         requires held { IsHeld graph.now self.now }
         requires line { line < length graph.now.lines }
-        ensures { IfSome result (λ l. (q : ℕ) × (line_passes is_shared graph.now q ≡ false) × Section graph.now l q line) }
+        ensures { IfSome result (λ l. (q : ℕ) × Section graph.now l q line) }
     {
         for lock in 0..graph.locks() {
-            if self.exclusive(graph, lock, line).is_some() {
+            if self.acquire(graph, lock, line).is_some() {
                 return Some(lock);
             }
         }
@@ -103,7 +88,7 @@ pub fn exclude(graph: &Graph, one: Option<u32>, other: Option<u32>) -> bool
 }
 
 /// Whether a line is an acquire that is shared.
-fn is_shared(graph: &Graph, line: u32) -> bool
+pub(crate) fn is_shared(graph: &Graph, line: u32) -> bool
     requires { line < length graph.now.lines }
     ensures { result ≡ line_passes is_shared graph.now line }
 {
