@@ -7,7 +7,7 @@ use Rattle.std.proofs.lemmas.List.Elements.{Contains-append_cases, Contains-appe
 use Rattle.graph_model.specs.declared.graph.verb.Edge.{Edge}
 use Rattle.graph_model.specs.declared.graph.verb.EdgeKind.TheVariants.{Passes}
 use Rattle.graph_model.specs.declared.graph.verb.Verb.TheVariants.{Acquire, Release}
-use Rattle.graph_model.specs.graph.Graph.{GraphValue, never_comes, never_comes_as, locks}
+use Rattle.graph_model.specs.graph.Graph.{GraphValue, line_passes, is_shared, never_comes, never_comes_as, locks}
 use Rattle.graph_model.specs.graph.Edges.{edge, edges, edges_out_of}
 use Rattle.graph_model.specs.meaning.Need.{release_edges, IsHigh}
 use Rattle.graph_model.specs.meaning.Rules.{Acquires, Releases}
@@ -44,7 +44,7 @@ next_of_release g x l mark old waiting mid between new stack q rel acq a b = mar
       | inr k ↦ (
           let same_q : Some (Release k.0) ≡ Some (Release q) = sym (release_is g x k.0 k.2) ∙ release_is g x q rel in
           let q_is : k.0 ≡ q = cc in
-          let same_l : Some (Acquire k.1) ≡ Some (Acquire l) = sym (acquire_is g q k.1 (subst (λ z. Acquires g z k.1) q_is k.3)) ∙ acquire_is g q l acq in
+          let same_l : Some (Acquire k.1 (line_passes is_shared g q)) ≡ Some (Acquire l (line_passes is_shared g q)) = sym (acquire_is g q k.1 (subst (λ z. Acquires g z k.1) q_is k.3)) ∙ acquire_is g q l acq in
           let l_is : k.1 ≡ l = cc in
           inr (subst (λ z. Acquires g i z) l_is k.4))
     ])

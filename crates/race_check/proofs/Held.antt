@@ -1,5 +1,5 @@
 -- The reservation that a line acquires, by computing.
-use Rattle.std.proofs.Common.{◌≡◌, ℕ, ap}
+use Rattle.std.proofs.Common.{◌≡◌, ℕ, Bool, ap}
 use Rattle.std.specs.Prelude.{Option, Some, None, option_and_then}
 use Rattle.std.proofs.lemmas.Option.{none-some, same_Some}
 use Rattle.graph_model.specs.declared.graph.verb.Verb.{Verb}
@@ -9,9 +9,9 @@ use Rattle.graph_model.specs.meaning.Rules.{Acquires}
 use Rattle.graph_model.specs.meaning.Reservations.{taken_by, lock_at}
 use Rattle.graph_model.proofs.VerbFacts.{acquire_is, is_acquire_from}
 
-taken_from : (l : ℕ) (o : Option Verb) → option_and_then taken_by o ≡ Some l → o ≡ Some (Acquire l)
+taken_from : (l : ℕ) (o : Option Verb) → option_and_then taken_by o ≡ Some l → (s : Bool) × (o ≡ Some (Acquire l s))
 taken_from l None h = absurd (none-some l h)
-taken_from l (Some (Acquire k)) h = ap (λ x. Some (Acquire x)) (same_Some k l h)
+taken_from l (Some (Acquire k s)) h = (s, ap (λ x. Some (Acquire x s)) (same_Some k l h))
 taken_from l (Some User) h = absurd (none-some l h)
 taken_from l (Some (Trigger u)) h = absurd (none-some l h)
 taken_from l (Some (Cancel u)) h = absurd (none-some l h)
@@ -30,4 +30,4 @@ pub lock_is : (g : GraphValue) (q l : ℕ) → Acquires g q l → lock_at g q �
 lock_is g q l a = ap (option_and_then taken_by) (acquire_is g q l a)
 
 pub acquires_from : (g : GraphValue) (q l : ℕ) → lock_at g q ≡ Some l → Acquires g q l
-acquires_from g q l e = is_acquire_from g q l (taken_from l (verb_at g q) e)
+acquires_from g q l e = let t = taken_from l (verb_at g q) e in is_acquire_from g q l t.0 t.1

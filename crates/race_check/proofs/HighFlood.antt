@@ -162,8 +162,8 @@ release_edge_is g e c =
       a.0,
       v.0,
       is_release_from g e.from a.0 (subst (λ z. verb_at g z ≡ Some (Release a.0)) (ap (λ (x : Edge). x.from) k.2) a.1),
-      is_acquire_from g a.0 v.0 v.1,
-      subst (λ z. Acquires g z v.0) (ap (λ (x : Edge). x.to) k.2) v.2,
+      is_acquire_from g a.0 v.0 v.1 v.2,
+      subst (λ z. Acquires g z v.0) (ap (λ (x : Edge). x.to) k.2) v.3,
     )
   where
     flat_from : {X Y : Type 0} (f : X → List Y) (xs : List X) (y : Y) → Contains (flat_map f xs) y → (x : X) × Contains xs x × Contains (f x) y
@@ -186,9 +186,9 @@ release_edge_is g e c =
     place_from test n [] k c = absurd (contains_none k c)
     place_from test n (l ∷ ls) k c = place_by test n l ls k (test l.verb) refl c (place_from test (n + 1) ls k)
 
-    rivals_is : (o : Option Verb) (k : ℕ) → Contains (option_map_or (rivals g) o []) k → (l : ℕ) × (o ≡ Some (Acquire l)) × Acquires g k l
+    rivals_is : (o : Option Verb) (k : ℕ) → Contains (option_map_or (rivals g) o []) k → (l : ℕ) × (s : Bool) × (o ≡ Some (Acquire l s)) × Acquires g k l
     rivals_is None k c = absurd (contains_none k c)
-    rivals_is (Some (Acquire l)) k c = let i = place_from (is_acquire_of l) 0 g.lines k c in let at : k ≡ 0 + i.0 = i.1 in (l, refl, subst (λ z. Acquires g z l) (let z : i.0 ≡ k = omega arith in z) i.2)
+    rivals_is (Some (Acquire l s)) k c = let i = place_from (is_acquire_of l) 0 g.lines k c in let at : k ≡ 0 + i.0 = i.1 in (l, s, refl, subst (λ z. Acquires g z l) (let z : i.0 ≡ k = omega arith in z) i.2)
     rivals_is (Some User) k c = absurd (contains_none k c)
     rivals_is (Some (Trigger u)) k c = absurd (contains_none k c)
     rivals_is (Some (Cancel u)) k c = absurd (contains_none k c)
@@ -212,7 +212,7 @@ release_edge_is g e c =
     after_is (Some (MergeIgnore es)) k c = absurd (contains_none k c)
     after_is (Some (Phase b)) k c = absurd (contains_none k c)
     after_is (Some (Arrive p v w)) k c = absurd (contains_none k c)
-    after_is (Some (Acquire l)) k c = absurd (contains_none k c)
+    after_is (Some (Acquire l s)) k c = absurd (contains_none k c)
     after_is (Some (Fill t s v)) k c = absurd (contains_none k c)
     after_is (Some (Copy a b s)) k c = absurd (contains_none k c)
     after_is (Some (Reduce o a b s)) k c = absurd (contains_none k c)

@@ -72,10 +72,11 @@ free_by_sections g i j b forward backward below clash soft apart = (
     one = a.1.0;
     other = a.1.1;
     different = a.1.2;
-    one_section = a.1.3;
-    other_section = a.1.4;
+    apart = a.1.3;
+    one_section = a.1.4;
+    other_section = a.1.5;
   }))),
-  (λ rule. (let x = exempt_of g i j forward backward below clash rule in apart.1 (x.lock, (x.one, x.other, x.different, x.one_section, x.other_section)))),
+  (λ rule. (let x = exempt_of g i j forward backward below clash rule in apart.1 (x.lock, (x.one, x.other, x.different, x.apart, x.one_section, x.other_section)))),
 )
   where
     commutes : (x y : Access) → Contains (accesses g i) x → Contains (accesses g j) y → AccessesConflict g x y → modes_commute x.mode y.mode ≡ true

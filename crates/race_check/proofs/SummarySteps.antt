@@ -1,6 +1,6 @@
 -- The summaries of sections, acquire by acquire and line by line.
-use Rattle.std.proofs.Common.{◌≡◌, ℕ, zero, suc, ◌+◌, ◌*◌, ◌<◌, ◌≤◌, Bool, true, false, ◌&&◌, inl, inr, List, length, refl, sym, ◌∙◌, subst, arith}
-use Rattle.std.specs.Prelude.{◌≢◌, Option, Some, None, slice_get}
+use Rattle.std.proofs.Common.{◌≡◌, ℕ, zero, suc, ◌+◌, ◌*◌, ◌<◌, ◌≤◌, true, false, ◌&&◌, inl, inr, List, length, sym, ◌∙◌, subst, arith}
+use Rattle.std.specs.Prelude.{Option, Some, None, IfSome, slice_get}
 use Rattle.std.specs.List.{slice_index_or}
 use Rattle.std.specs.Int.{bit_at}
 use Rattle.std.proofs.lemmas.Bool.{true≢false, and_parts, and_from, cases_lt, cases_eq, ne_eqb}
@@ -11,32 +11,30 @@ use Rattle.graph_model.specs.graph.Fits.{IsGraph}
 use Rattle.graph_model.specs.meaning.Path.{HasPath}
 use Rattle.graph_model.specs.meaning.Rules.{Acquires, Section}
 use Rattle.race_sweeps.specs.Marks.{bit_in}
+use Rattle.race_sweeps.specs.Held.{Exclude}
 use Rattle.graph_model.specs.graph.Edges.{edges}
 use Rattle.graph_model.proofs.PathTable.{path_below}
 use Rattle.race_check.specs.Paths.{PathsValue, path_in, IsPathTable, EdgesBetween}
 use Rattle.section_sweeps.specs.Releases.{release_in, AreReleases}
-use Rattle.race_check.specs.Summaries.{IsSummaryTo, AreSummaries, AreSummedTo, AreInside, AreSummed, ApartIn, MayBeApartBy, IsNoted}
+use Rattle.race_check.specs.Summaries.{IsSummaryTo, AreSummaries, AreSummedTo, AreInside, AreSummed, AreAlone, ApartIn, IsNoted}
 use Rattle.race_check.specs.Words.{IsWordOf}
 use Rattle.race_check.specs.declared.summaries.Summary.{Summary}
 use Rattle.graph_model.proofs.VerbFacts.{passes_below}
 use Rattle.graph_model.proofs.ReleaseFacts.{acquired_lock_known}
-use Rattle.race_check.proofs.ExemptSummary.{summary_none, summary_skips, summary_first, summary_more, apart_is, apart_found}
+use Rattle.race_check.proofs.ExemptSummary.{summary_none, summary_skips, summary_notes, apart_is, apart_found}
 
 -- no acquire is summed
-pub sums_begun : (g : GraphValue) (first : List (Option ℕ)) (more : List Bool) → length first ≡ length g.lines → length more ≡ length g.lines → ((i : ℕ) → slice_index_or first i None ≡ None) → ((i : ℕ) → slice_index_or more i false ≡ false) →
-    (l : ℕ) → AreSummaries g l 0 first more
-sums_begun g first more a b nones falses l = record {
-  firsts = a;
-  mores = b;
-  each = λ i h. subst (λ o. IsSummaryTo g l i 0 o (slice_index_or more i false)) (sym (nones i)) (subst (λ m. IsSummaryTo g l i 0 None m) (sym (falses i)) (summary_none g l i));
+pub sums_begun : (g : GraphValue) (acquires : List (Option ℕ)) → length acquires ≡ length g.lines → ((i : ℕ) → slice_index_or acquires i None ≡ None) → (l : ℕ) → AreSummaries g l 0 acquires
+sums_begun g acquires size nones l = record {
+  size = size;
+  each = λ i h. subst (λ o. IsSummaryTo g l i 0 o) (sym (nones i)) (summary_none g l i);
 }
 
 -- an acquire of another reservation, or without a release, has no section
-pub sums_skip : (g : GraphValue) (l q : ℕ) (first : List (Option ℕ)) (more : List Bool) → ((i : ℕ) → Section g l q i → ⊥) → AreSummaries g l q first more → AreSummaries g l (q + 1) first more
-sums_skip g l q first more none s = record {
-  firsts = s.firsts;
-  mores = s.mores;
-  each = λ i h. summary_skips g l i q (slice_index_or first i None) (slice_index_or more i false) (s.each i h) (none i);
+pub sums_skip : (g : GraphValue) (l q : ℕ) (acquires : List (Option ℕ)) → ((i : ℕ) → Section g l q i → ⊥) → AreSummaries g l q acquires → AreSummaries g l (q + 1) acquires
+sums_skip g l q acquires none s = record {
+  size = s.size;
+  each = λ i h. summary_skips g l i q (slice_index_or acquires i None) (s.each i h) (none i);
 }
 
 pub no_release_no_section : (g : GraphValue) (releases : List (Option ℕ)) → AreReleases g releases → (l q : ℕ) → release_in releases q ≡ None → (i : ℕ) → Section g l q i → ⊥
@@ -46,60 +44,42 @@ pub not_acquire_no_section : (g : GraphValue) (l q : ℕ) → (Acquires g q l �
 not_acquire_no_section g l q none i s = none s.acquires
 
 -- all lines have it
-pub summing_done : (g : GraphValue) (l q n : ℕ) (first : List (Option ℕ)) (more : List Bool) → length g.lines ≤ n → AreSummedTo g l q n first more → AreSummaries g l (q + 1) first more
-summing_done g l q n first more all s = record { firsts = s.firsts; mores = s.mores; each = λ i b. s.low i (omega arith) b }
+pub summing_done : (g : GraphValue) (l q n : ℕ) (acquires : List (Option ℕ)) → length g.lines ≤ n → AreSummedTo g l q n acquires → AreSummaries g l (q + 1) acquires
+summing_done g l q n acquires all s = record { size = s.size; each = λ i b. s.low i (omega arith) b }
 
 -- one more line, which lies not in the section
-pub summing_skips : (g : GraphValue) (l q n : ℕ) (first : List (Option ℕ)) (more : List Bool) → (Section g l q n → ⊥) → AreSummedTo g l q n first more → AreSummedTo g l q (n + 1) first more
-summing_skips g l q n first more out s = record {
-  firsts = s.firsts;
-  mores = s.mores;
+pub summing_skips : (g : GraphValue) (l q n : ℕ) (acquires : List (Option ℕ)) → (Section g l q n → ⊥) → AreSummedTo g l q n acquires → AreSummedTo g l q (n + 1) acquires
+summing_skips g l q n acquires out s = record {
+  size = s.size;
   low = λ i h b. elim (cases_lt i n) [
     | inl l ↦ s.low i l b
-    | inr up ↦ summary_skips g l i q (slice_index_or first i None) (slice_index_or more i false) (s.high i up b) (λ x. out (subst (Section g l q) (let e : i ≡ n = omega arith in e) x))
+    | inr up ↦ summary_skips g l i q (slice_index_or acquires i None) (s.high i up b) (λ x. out (subst (Section g l q) (let e : i ≡ n = omega arith in e) x))
   ];
   high = λ i h b. s.high i (omega arith) b;
 }
 
 -- 64 lines more, none of which lies in the section
-pub summing_skips_all : (g : GraphValue) (l q w : ℕ) (first : List (Option ℕ)) (more : List Bool) → AreInside g l q w 0 → AreSummedTo g l q (w * 64) first more → AreSummedTo g l q (w * 64 + 64) first more
-summing_skips_all g l q w first more out s = up_to 64 (omega arith)
+pub summing_skips_all : (g : GraphValue) (l q w : ℕ) (acquires : List (Option ℕ)) → AreInside g l q w 0 → AreSummedTo g l q (w * 64) acquires → AreSummedTo g l q (w * 64 + 64) acquires
+summing_skips_all g l q w acquires out s = up_to 64 (omega arith)
   where
     no_bit : (b : ℕ) → bit_in 0 b ≡ false
     no_bit b = ne_eqb (bit_at 0 b) 1 (λ one. (let z : bit_at 0 b ≡ 0 = bit_at-zero b in absurd (omega arith)))
 
-    up_to : (k : ℕ) → k ≤ 64 → AreSummedTo g l q (w * 64 + k) first more
-    up_to zero h = subst (λ n. AreSummedTo g l q n first more) (let e : w * 64 ≡ w * 64 + 0 = omega arith in e) s
-    up_to (suc k) h = subst (λ n. AreSummedTo g l q n first more) (let e : w * 64 + k + 1 ≡ w * 64 + suc k = omega arith in e)
-        (summing_skips g l q (w * 64 + k) first more (λ x. true≢false (sym ((out k (omega arith)).1 x) ∙ no_bit k)) (up_to k (omega arith)))
+    up_to : (k : ℕ) → k ≤ 64 → AreSummedTo g l q (w * 64 + k) acquires
+    up_to zero h = subst (λ n. AreSummedTo g l q n acquires) (let e : w * 64 ≡ w * 64 + 0 = omega arith in e) s
+    up_to (suc k) h = subst (λ n. AreSummedTo g l q n acquires) (let e : w * 64 + k + 1 ≡ w * 64 + suc k = omega arith in e)
+        (summing_skips g l q (w * 64 + k) acquires (λ x. true≢false (sym ((out k (omega arith)).1 x) ∙ no_bit k)) (up_to k (omega arith)))
 
 -- or which does
-pub summing_notes : (g : GraphValue) (l q n : ℕ) (first : List (Option ℕ)) (more : List Bool) (first_after : List (Option ℕ)) (more_after : List Bool) → n < length g.lines → Section g l q n → IsNoted q n first more first_after more_after →
-    AreSummedTo g l q n first more → AreSummedTo g l q (n + 1) first_after more_after
-summing_notes g l q n first more first_after more_after below here noted s = record {
-  firsts = noted.firsts ∙ s.firsts;
-  mores = noted.mores ∙ s.mores;
+pub summing_notes : (g : GraphValue) (l q n : ℕ) (old new : List (Option ℕ)) → Section g l q n → IsNoted q n old new → AreSummedTo g l q n old → AreSummedTo g l q (n + 1) new
+summing_notes g l q n old new here noted s = record {
+  size = noted.size ∙ s.size;
   low = λ i h b. elim (cases_eq i n) [
-    | inl same ↦ subst (λ z. IsSummaryTo g l z (q + 1) (slice_index_or first_after z None) (slice_index_or more_after z false)) (sym same) (at_line (slice_index_or first n None) (slice_index_or more n false) refl refl)
-    | inr apart ↦ moved i apart (q + 1) (s.low i (omega (arith, apart)) b)
+    | inl same ↦ subst (λ z. IsSummaryTo g l z (q + 1) (slice_index_or new z None)) (sym same) (subst (λ o. IsSummaryTo g l n (q + 1) o) (sym noted.here) (summary_notes g l n q (q + 1) here))
+    | inr apart ↦ subst (λ o. IsSummaryTo g l i (q + 1) o) (sym (noted.others i apart)) (s.low i (omega (arith, apart)) b)
   ];
-  high = λ i h b. moved i (λ e. absurd (omega arith)) q (s.high i (omega arith) b);
+  high = λ i h b. subst (λ o. IsSummaryTo g l i q o) (sym (noted.others i (λ e. absurd (omega arith)))) (s.high i (omega arith) b);
 }
-  where
-    moved : (i : ℕ) → i ≢ n → (m : ℕ) → IsSummaryTo g l i m (slice_index_or first i None) (slice_index_or more i false) → IsSummaryTo g l i m (slice_index_or first_after i None) (slice_index_or more_after i false)
-    moved i apart m x = subst (λ o. IsSummaryTo g l i m o (slice_index_or more_after i false)) (sym (noted.other_first i apart)) (subst (λ b. IsSummaryTo g l i m (slice_index_or first i None) b) (sym (noted.other_more i apart)) x)
-
-    at_line : (o : Option ℕ) (m : Bool) → slice_index_or first n None ≡ o → slice_index_or more n false ≡ m → IsSummaryTo g l n (q + 1) (slice_index_or first_after n None) (slice_index_or more_after n false)
-    at_line None m e f =
-        let w = noted.was_none e in
-        let now : IsSummaryTo g l n q (slice_index_or first n None) (slice_index_or more n false) = s.high n (omega arith) below in
-        let single : slice_index_or more n false ≡ false = now.marked e in
-        subst (λ z. IsSummaryTo g l n (q + 1) z (slice_index_or more_after n false)) (sym w.0) (subst (λ b. IsSummaryTo g l n (q + 1) (Some q) b) (sym (w.1 ∙ single))
-        (summary_first g l n q (subst (λ b. IsSummaryTo g l n q None b) single (subst (λ z. IsSummaryTo g l n q z (slice_index_or more n false)) e now)) here))
-    at_line (Some k) m e f =
-        let w = noted.was_some k e in
-        subst (λ z. IsSummaryTo g l n (q + 1) z (slice_index_or more_after n false)) (sym w.0) (subst (λ b. IsSummaryTo g l n (q + 1) (Some k) b) (sym w.1)
-        (summary_more g l n q k (slice_index_or more n false) (subst (λ z. IsSummaryTo g l n q z (slice_index_or more n false)) e (s.high n (omega arith) below)) here))
 
 -- whether a line lies in a section, by its paths
 pub section_by_paths : (g : GraphValue) (t : PathsValue) (releases : List (Option ℕ)) → IsPathTable g t → AreReleases g releases → (l q r i : ℕ) → Acquires g q l → release_in releases q ≡ Some r → path_in t q i ≡ true → path_in t i r ≡ true → Section g l q i
@@ -126,17 +106,22 @@ lines_inside g t table between q r w word is b h set =
 
 -- two lines are apart in a reservation by their summaries
 module _ (g : GraphValue) (fits : IsGraph g) (summaries : List Summary) (summed : AreSummed g summaries) (i j : ℕ) (i_line : i < length g.lines) (j_line : j < length g.lines) where
-  pub apart_by : (l : ℕ) (s : Summary) → slice_get summaries l ≡ Some s → MayBeApartBy s.first.items s.more.items i j → ApartIn g l i j
-  apart_by l s at m = let each = (summed.each l s at).each in
-      apart_is g l i j (length g.lines) (length g.lines) (slice_index_or s.first.items i None) (slice_index_or s.first.items j None) (slice_index_or s.more.items i false) (slice_index_or s.more.items j false) (each i i_line) (each j j_line) m
+  pub apart_by : (l : ℕ) (s : Summary) → slice_get summaries l ≡ Some s → Exclude g (slice_index_or s.acquires.items i None) (slice_index_or s.acquires.items j None) → ApartIn g l i j
+  apart_by l s at x = let each = (summed.each l s at).each in
+      apart_is g l i j (length g.lines) (length g.lines) (slice_index_or s.acquires.items i None) (slice_index_or s.acquires.items j None) (each i i_line) (each j j_line) x
 
-  pub by_apart : (l : ℕ) (s : Summary) → slice_get summaries l ≡ Some s → ApartIn g l i j → MayBeApartBy s.first.items s.more.items i j
-  by_apart l s at a = let each = (summed.each l s at).each in
-      apart_found g l i j (length g.lines) (slice_index_or s.first.items i None) (slice_index_or s.first.items j None) (slice_index_or s.more.items i false) (slice_index_or s.more.items j false) (each i i_line) (each j j_line) a.0 a.1
-      (passes_below (is_acquire_of l) g a.0 a.3.acquires) (passes_below (is_acquire_of l) g a.1 a.4.acquires) a.2 a.3 a.4
+  pub by_apart : AreAlone g → (l : ℕ) (s : Summary) → slice_get summaries l ≡ Some s → ApartIn g l i j → Exclude g (slice_index_or s.acquires.items i None) (slice_index_or s.acquires.items j None)
+  by_apart alone l s at a = let each = (summed.each l s at).each in
+      apart_found g alone l i j (length g.lines) (slice_index_or s.acquires.items i None) (slice_index_or s.acquires.items j None) (each i i_line) (each j j_line) a.0 a.1
+      (passes_below (is_acquire_of l) g a.0 a.4.acquires) (passes_below (is_acquire_of l) g a.1 a.5.acquires) a.2 a.3 a.4 a.5
+
+  -- an acquire that is kept for a line is a line
+  pub kept_known : (l : ℕ) (s : Summary) → slice_get summaries l ≡ Some s → (k : ℕ) → k < length g.lines → (o : Option ℕ) → o ≡ slice_index_or s.acquires.items k None → IfSome o (λ q. q < length g.lines)
+  kept_known l s at k known None e = tt
+  kept_known l s at k known (Some q) e = passes_below (is_acquire_of l) g q (((summed.each l s at).each k known).is q (sym e)).acquires
 
   pub apart_known : (l : ℕ) → ApartIn g l i j → l < length summaries
-  apart_known l a = let b : l < length (locks g) = acquired_lock_known g fits a.0 l a.3.acquires in let c : length summaries ≡ length (locks g) = summed.count in omega arith
+  apart_known l a = let b : l < length (locks g) = acquired_lock_known g fits a.0 l a.4.acquires in let c : length summaries ≡ length (locks g) = summed.count in omega arith
 
 pub none_apart_more : (g : GraphValue) (i j n : ℕ) → ((k : ℕ) → k < n → ApartIn g k i j → ⊥) → (ApartIn g n i j → ⊥) → (k : ℕ) → k < n + 1 → ApartIn g k i j → ⊥
 none_apart_more g i j n none here k h a = elim (cases_lt k n) [ inl l ↦ none k l a | inr up ↦ here (subst (λ z. ApartIn g z i j) (let e : k ≡ n = omega arith in e) a) ]

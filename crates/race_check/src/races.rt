@@ -3,7 +3,7 @@
 ghost use Rattle.std.specs.Prelude.{◌≡◌, ℕ, ◌+◌, ◌*◌, ◌<◌, ◌≤◌, ◌↔◌, true, false, length, IsTrue, IfOk, MatchOption};
 ghost use Rattle.graph_model.specs.meaning.Path.{HasPath};
 ghost use Rattle.graph_model.specs.meaning.Rules.{Everywhere, EverywhereTwice, FailsFirst, FailsFirstTwice, RaceAt};
-ghost use Rattle.race_check.specs.Summaries.{AreSummed};
+ghost use Rattle.race_check.specs.Summaries.{AreSummed, AreAlone};
 ghost use Rattle.race_check.specs.Paths.{PathsValue, IsPathTable, words_for};
 ghost use Rattle.section_sweeps.specs.Releases.{AreReleases};
 ghost use Rattle.race_check.specs.Words.{IsWordOf};
@@ -25,7 +25,7 @@ use race_sweeps::clash::MOST_ACCESSES;
 use std::alloc::Global;
 
 /// The least line and the least line after it that conflict, have no path either way and are not
-/// exempt.
+/// exempt, where each line lies in at most one section of a reservation.
 pub(crate) fn first_race(
     alloc: Global,
     graph: &Graph,
@@ -34,6 +34,7 @@ pub(crate) fn first_race(
 ) -> Result<Option<(u32, u32)>, NoMemory>
     requires table { IsPathTable graph.now paths.now }
     requires releases { AreReleases graph.now releases.now }
+    requires alone { AreAlone graph.now }
     ensures { IfOk result (λ o. MatchOption o (EverywhereTwice (RaceAt graph.now))
         (λ p. (p.0 < length graph.now.lines) × (p.1 < length graph.now.lines) × FailsFirstTwice (RaceAt graph.now) p.0 p.1)) }
 {
@@ -67,6 +68,7 @@ impl Rivals {
     ) -> Result<Rivals, NoMemory>
         requires table { IsPathTable graph.now paths.now }
         requires summed { AreSummed graph.now summaries.items }
+        requires alone { AreAlone graph.now }
         ensures { IfOk result (AreRivals graph.now) }
     {
         Ok(Rivals {

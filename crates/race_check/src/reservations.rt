@@ -14,7 +14,7 @@ pub(crate) fn acquires(graph: &Graph, line: u32, wanted: u32) -> bool
     ensures { result ≡ line_passes (is_acquire_of wanted) graph.now line }
 {
     match &graph.line(line).verb {
-        Verb::Acquire { lock } => *lock == wanted,
+        Verb::Acquire { lock, .. } => *lock == wanted,
         _ => false,
     }
 }

@@ -1,11 +1,10 @@
-//! In which sections of each reservation a line lies: one acquire, and whether there is another.
+//! In which section of each reservation a line lies, by its acquire.
 
 ghost use Rattle.std.specs.Prelude.{◌≡◌, ℕ, ◌+◌, ◌*◌, ◌<◌, ◌↔◌, ◌&&◌, true, length, IsTrue, IfOk};
-ghost use Rattle.std.specs.List.{slice_index_or};
 ghost use Rattle.graph_model.specs.meaning.Rules.{Acquires};
 ghost use Rattle.race_check.specs.Paths.{IsPathTable, path_in, words_for};
 ghost use Rattle.section_sweeps.specs.Releases.{AreReleases};
-ghost use Rattle.race_check.specs.Summaries.{AreSummaries, AreSummedTo, AreInside, AreSummed, ApartIn, IsNoted, MayBeApartBy};
+ghost use Rattle.race_check.specs.Summaries.{AreSummaries, AreSummedTo, AreInside, AreSummed, AreAlone, ApartIn, IsNoted};
 ghost use Rattle.race_check.specs.Words.{IsWordOf};
 ghost use Rattle.race_sweeps.specs.Marks.{bit_in};
 ghost use Rattle.graph_model.specs.graph.Graph.{GraphValue, locks};
@@ -17,14 +16,13 @@ use graph_model::graph::Graph;
 use graph_model::laws::edges_between_lines;
 use index_spaces::NoMemory;
 use index_spaces::room::{filled, push};
+use race_sweeps::held::exclude;
 use std::alloc::Global;
 
-/// For each line the first acquire of a reservation in whose section it lies, and whether it lies
-/// in another's.
+/// For each line an acquire of a reservation in whose section it lies, where there is one.
 #[derive(Drop)]
 pub(crate) struct Summary {
-    first: Vec<Option<u32>>,
-    more: Vec<bool>,
+    acquires: Vec<Option<u32>>,
 }
 
 /// The summaries of all reservations.
@@ -56,7 +54,7 @@ fn summary_of(
 ) -> Result<Summary, NoMemory>
     requires table { IsPathTable graph.now paths.now }
     requires releases { AreReleases graph.now releases.now }
-    ensures { IfOk result (λ s. AreSummaries graph.now lock (length graph.now.lines) s.first.items s.more.items) }
+    ensures { IfOk result (λ s. AreSummaries graph.now lock (length graph.now.lines) s.acquires.items) }
 {
     let mut summary = Summary::new(alloc, graph)?;
     for acquire in 0..graph.lines() {
@@ -70,15 +68,10 @@ fn summary_of(
 impl Summary {
     /// No acquire is summed.
     fn new(alloc: Global, graph: &Graph) -> Result<Summary, NoMemory>
-        ensures { IfOk result (λ s. (l : ℕ) → AreSummaries graph.now l 0 s.first.items s.more.items) }
+        ensures { IfOk result (λ s. (l : ℕ) → AreSummaries graph.now l 0 s.acquires.items) }
     {
-        let lines = graph.lines();
-        let first = filled(alloc, None, lines as usize)?;
-        let mut more = Vec::new(alloc);
-        for _line in 0..lines {
-            push(&mut more, false)?;
-        }
-        Ok(Summary { first, more })
+        let acquires = filled(alloc, None, graph.lines() as usize)?;
+        Ok(Summary { acquires })
     }
 
     /// Adds an acquire, after those before it.
@@ -87,9 +80,9 @@ impl Summary {
         requires table { IsPathTable graph.now paths.now }
         requires releases { AreReleases graph.now releases.now }
         requires acquires { (l : ℕ) × Acquires graph.now acquire l
-            × AreSummaries graph.now l acquire self.old.first.items self.old.more.items }
-        ensures { (l : ℕ) → Acquires graph.now acquire l → AreSummaries graph.now l acquire self.old.first.items self.old.more.items
-            → AreSummaries graph.now l (acquire + 1) self.new.first.items self.new.more.items }
+            × AreSummaries graph.now l acquire self.old.acquires.items }
+        ensures { (l : ℕ) → Acquires graph.now acquire l → AreSummaries graph.now l acquire self.old.acquires.items
+            → AreSummaries graph.now l (acquire + 1) self.new.acquires.items }
     {
         edges_between_lines();
         let _ = graph.lines();
@@ -105,12 +98,10 @@ impl Summary {
     /// Notes that the lines of a word lie in the section of an acquire.
     fn note_all(&mut self, acquire: u32, word: usize, inside: u64)
         requires few { word < 128 }
-        requires firsts { (b : ℕ) → b < 64 → bit_in inside b ≡ true → word * 64 + b < length self.old.first.items }
-        requires mores { length self.old.more.items ≡ length self.old.first.items }
-        ensures firsts { length self.new.first.items ≡ length self.old.first.items }
-        ensures mores { length self.new.more.items ≡ length self.old.more.items }
-        ensures noted { (g : GraphValue) (l : ℕ) → AreInside g l acquire word inside → AreSummedTo g l acquire (word * 64) self.old.first.items self.old.more.items
-            → AreSummedTo g l acquire (word * 64 + 64) self.new.first.items self.new.more.items }
+        requires lines { (b : ℕ) → b < 64 → bit_in inside b ≡ true → word * 64 + b < length self.old.acquires.items }
+        ensures size { length self.new.acquires.items ≡ length self.old.acquires.items }
+        ensures noted { (g : GraphValue) (l : ℕ) → AreInside g l acquire word inside → AreSummedTo g l acquire (word * 64) self.old.acquires.items
+            → AreSummedTo g l acquire (word * 64 + 64) self.new.acquires.items }
     {
         if inside == 0 {
             return;
@@ -124,45 +115,25 @@ impl Summary {
 
     /// Notes that a line lies in the section of an acquire.
     fn note(&mut self, acquire: u32, line: u32)
-        requires first { line < length self.old.first.items }
-        requires more { line < length self.old.more.items }
-        ensures { IsNoted acquire line self.old.first.items self.old.more.items self.new.first.items self.new.more.items }
+        requires { line < length self.old.acquires.items }
+        ensures { IsNoted acquire line self.old.acquires.items self.new.acquires.items }
     {
-        if self.first[line as usize].is_none() {
-            self.first[line as usize] = Some(acquire);
-        } else {
-            self.more[line as usize] = true;
-        }
-    }
-
-    /// Whether two lines lie in sections of two different acquires.
-    fn are_apart(&self, one: u32, other: u32) -> bool
-        requires one_first { one < length self.now.first.items }
-        requires one_more { one < length self.now.more.items }
-        requires other_first { other < length self.now.first.items }
-        requires other_more { other < length self.now.more.items }
-        ensures { IsTrue result ↔ MayBeApartBy self.now.first.items self.now.more.items one other }
-    {
-        let Some(first) = self.first[one as usize] else {
-            return false;
-        };
-        let Some(second) = self.first[other as usize] else {
-            return false;
-        };
-        first != second || self.more[one as usize] || self.more[other as usize]
+        self.acquires[line as usize] = Some(acquire);
     }
 }
 
-/// Whether two lines lie in sections of two different acquires of one reservation.
+/// Whether two lines lie in sections of two different acquires of one reservation, not both shared.
 pub(crate) fn are_apart(graph: &Graph, summaries: &[Summary], one: u32, other: u32) -> bool
     requires one { one < length graph.now.lines }
     requires other { other < length graph.now.lines }
     requires summed { AreSummed graph.now summaries.now }
+    requires alone { AreAlone graph.now }
     ensures { IsTrue result ↔ ((l : ℕ) × ApartIn graph.now l one other) }
 {
     let _ = graph.lines();
     for summary in summaries {
-        if summary.are_apart(one, other) {
+        let acquires = &summary.acquires;
+        if exclude(graph, acquires[one as usize], acquires[other as usize]) {
             return true;
         }
     }

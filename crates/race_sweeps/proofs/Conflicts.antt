@@ -7,6 +7,7 @@ use Rattle.index_spaces.specs.Space.{has_point, points, Meet}
 use Rattle.index_spaces.proofs.LawFacts.{points_are_listed}
 use Rattle.basics.proofs.ListFacts.{some_passes, passes_some}
 use Rattle.graph_model.proofs.RulesTable.{meet, accesses_conflict}
+use Rattle.graph_model.proofs.VerbFacts.{both_shared_swap}
 use Rattle.race_sweeps.specs.Clash.{Clash, LinesClash}
 use Rattle.race_sweeps.specs.Held.{LieApart}
 use Rattle.graph_model.specs.declared.graph.verb.Access.{Access}
@@ -83,12 +84,13 @@ exempt_back g i j x = record {
   one = x.other;
   other = x.one;
   different = λ e. x.different (sym e);
+  apart = both_shared_swap g x.other x.one ∙ x.apart;
   one_section = x.other_section;
   other_section = x.one_section;
 }
 
 pub apart_back : (g : GraphValue) (i j : ℕ) → LieApart g i j → LieApart g j i
-apart_back g i j x = (x.0, x.2, x.1, (λ e. x.3 (sym e)), x.5, x.4)
+apart_back g i j x = (x.0, x.2, x.1, (λ e. x.3 (sym e)), both_shared_swap g x.2 x.1 ∙ x.4, x.6, x.5)
 
 -- whether two accesses clash other than by uses that commute, by computing
 abbrev clash_test : GraphValue → Access → Access → Bool

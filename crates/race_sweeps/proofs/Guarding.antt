@@ -1,20 +1,21 @@
 -- The guards of classes, one access more at a time.
-use Rattle.std.proofs.Common.{◌≡◌, ℕ, ◌+◌, ◌*◌, ◌/◌, ◌<◌, ◌≤◌, min, inl, inr, List, length, sym, ◌∙◌, ap, subst, arith}
+use Rattle.std.proofs.Common.{◌≡◌, ℕ, ◌+◌, ◌*◌, ◌/◌, ◌<◌, ◌≤◌, true, false, min, inl, inr, List, length, sym, ◌∙◌, ap, subst, arith}
 use Rattle.std.specs.Prelude.{Option, Some, None, slice_set, slice_index}
-use Rattle.std.proofs.lemmas.Bool.{cases_lt, cases_eq}
+use Rattle.std.proofs.lemmas.Bool.{cases_lt, cases_eq, cases_Bool, and_parts, cond-true}
 use Rattle.std.proofs.lemmas.Option.{none-some, same_Some}
 use Rattle.std.proofs.lemmas.List.{get_or_past, get_or-set_same, get_or-set_other}
 use Rattle.graph_model.specs.declared.graph.verb.Access.{Access}
-use Rattle.graph_model.specs.graph.Graph.{GraphValue}
+use Rattle.graph_model.specs.graph.Graph.{GraphValue, line_passes, is_shared}
+use Rattle.graph_model.specs.meaning.Rules.{both_shared}
 use Rattle.race_sweeps.specs.declared.held.Held.{Held}
 use Rattle.race_sweeps.specs.Classes.{class_at}
-use Rattle.race_sweeps.specs.Guards.{AreGuards, AreOpened, IsBeforeStart}
+use Rattle.race_sweeps.specs.Guards.{AreGuards, AreOpened, IsBeforeStart, slot_of}
 use Rattle.race_sweeps.specs.Held.{IsHeld, acquire_in}
 use Rattle.race_sweeps.proofs.Sections.{kept_apart}
 
-module _ (h : Held) (lines : List ℕ) (classes guards : List (Option ℕ)) (openings : List ℕ) (m : ℕ) (opened : AreOpened h lines classes guards openings m) where
+module _ (g : GraphValue) (h : Held) (lines : List ℕ) (classes guards : List (Option ℕ)) (openings : List ℕ) (m : ℕ) (opened : AreOpened g h lines classes guards openings m) where
   -- an access without a class, or of a class without a guard
-  pub opened_unguarded : ((d l : ℕ) → class_at classes m ≡ Some d → class_at guards d ≡ Some l → ⊥) → AreOpened h lines classes guards openings (m + 1)
+  pub opened_unguarded : ((d l : ℕ) → class_at classes m ≡ Some d → class_at guards d ≡ Some l → ⊥) → AreOpened g h lines classes guards openings (m + 1)
   opened_unguarded none r d l low class lock = elim (cases_lt r m) [
     | inl before ↦ opened r d l before class lock
     | inr up ↦ (let same : r ≡ m = omega arith in absurd (none d l (subst (λ z. class_at classes z ≡ Some d) same class) lock))
@@ -22,7 +23,7 @@ module _ (h : Held) (lines : List ℕ) (classes guards : List (Option ℕ)) (ope
 
   module _ (c : ℕ) (own : class_at classes m ≡ Some c) where
     -- a class that has a member outside of its guard loses it
-    pub opened_lost : c < length guards → AreOpened h lines classes (slice_set guards c None) openings (m + 1)
+    pub opened_lost : c < length guards → AreOpened g h lines classes (slice_set guards c None) openings (m + 1)
     opened_lost small r d l low class lock = elim (cases_eq d c) [
       | inl same ↦ absurd (none-some l (sym (get_or-set_same guards c None None small) ∙ subst (λ z. class_at (slice_set guards c None) z ≡ Some l) same lock))
       | inr apart ↦ elim (cases_lt r m) [
@@ -32,25 +33,26 @@ module _ (h : Held) (lines : List ℕ) (classes guards : List (Option ℕ)) (ope
     ]
 
     -- a section is opened at the place of a member
-    pub opened_more : (l q opening : ℕ) → class_at guards c ≡ Some l → acquire_in h l (slice_index lines (m / 3)) ≡ Some q → q < length openings → opening ≡ slice_index openings q → AreOpened h lines classes guards (slice_set openings q (min opening (m / 3))) (m + 1)
-    opened_more l q opening guard at small is r d k low class lock = elim (cases_lt r m) [
-      | inl before ↦ (let old = opened r d k before class lock in (old.0, old.1, lower old.0 (r / 3) old.2))
+    pub opened_more : (l q p opening : ℕ) → class_at guards c ≡ Some l → acquire_in h l (slice_index lines (m / 3)) ≡ Some q → p ≡ slot_of g l q → p < length openings → opening ≡ slice_index openings p → AreOpened g h lines classes guards (slice_set openings p (min opening (m / 3))) (m + 1)
+    opened_more l q p opening guard at slot small is r d k low class lock = elim (cases_lt r m) [
+      | inl before ↦ (let old = opened r d k before class lock in (old.0, old.1, lower (slot_of g k old.0) (r / 3) old.2))
       | inr up ↦ (
           let same : r ≡ m = omega arith in
           let one : d ≡ c = same_Some d c (sym class ∙ subst (λ z. class_at classes z ≡ Some c) (sym same) own) in
           let other : k ≡ l = same_Some k l (sym lock ∙ subst (λ z. class_at guards z ≡ Some l) (sym one) guard) in (
             q,
             subst (λ z. acquire_in h k (slice_index lines (z / 3)) ≡ Some q) (sym same) (subst (λ z. acquire_in h z (slice_index lines (m / 3)) ≡ Some q) (sym other) at),
-            (let e : slice_index (slice_set openings q (min opening (m / 3))) q ≡ min opening (m / 3) = get_or-set_same openings q (min opening (m / 3)) 0 small in omega arith),
+            subst (λ z. slice_index (slice_set openings p (min opening (m / 3))) (slot_of g z q) ≤ r / 3) (sym other) (subst (λ z. slice_index (slice_set openings p (min opening (m / 3))) z ≤ r / 3) slot
+                (let e : slice_index (slice_set openings p (min opening (m / 3))) p ≡ min opening (m / 3) = get_or-set_same openings p (min opening (m / 3)) 0 small in omega arith)),
           ))
     ]
       where
-        lower : (p x : ℕ) → slice_index openings p ≤ x → slice_index (slice_set openings q (min opening (m / 3))) p ≤ x
-        lower p x low = elim (cases_eq p q) [
+        lower : (o x : ℕ) → slice_index openings o ≤ x → slice_index (slice_set openings p (min opening (m / 3))) o ≤ x
+        lower o x low = elim (cases_eq o p) [
           | inl same ↦ (
-              let e : slice_index (slice_set openings q (min opening (m / 3))) p ≡ min opening (m / 3) = ap (slice_index (slice_set openings q (min opening (m / 3)))) same ∙ get_or-set_same openings q (min opening (m / 3)) 0 small in
-              let f : slice_index openings p ≡ opening = ap (slice_index openings) same ∙ sym is in omega arith)
-          | inr apart ↦ (let e : slice_index (slice_set openings q (min opening (m / 3))) p ≡ slice_index openings p = get_or-set_other openings q p (min opening (m / 3)) 0 apart in omega arith)
+              let e : slice_index (slice_set openings p (min opening (m / 3))) o ≡ min opening (m / 3) = ap (slice_index (slice_set openings p (min opening (m / 3)))) same ∙ get_or-set_same openings p (min opening (m / 3)) 0 small in
+              let f : slice_index openings o ≡ opening = ap (slice_index openings) same ∙ sym is in omega arith)
+          | inr apart ↦ (let e : slice_index (slice_set openings p (min opening (m / 3))) o ≡ slice_index openings o = get_or-set_other openings p o (min opening (m / 3)) 0 apart in omega arith)
         ]
 
 -- an access that has a class is one of the list
@@ -58,12 +60,21 @@ pub class_within : (classes : List (Option ℕ)) (r c : ℕ) → class_at classe
 class_within classes r c e = elim (cases_lt r (length classes)) [ inl low ↦ low | inr past ↦ absurd (none-some c (sym (get_or_past classes r None past) ∙ e)) ]
 
 -- the starts before a number are found
-abbrev pub AreStarts : Held → List ℕ → List (Option ℕ) → List (Option ℕ) → List ℕ → List ℕ → ℕ → Type 0
-AreStarts h lines classes guards openings starts m = (r x : ℕ) → r < m → x < slice_index starts r → IsBeforeStart h lines classes guards openings r x
+abbrev pub AreStarts : GraphValue → Held → List ℕ → List (Option ℕ) → List (Option ℕ) → List ℕ → List ℕ → ℕ → Type 0
+AreStarts g h lines classes guards openings starts m = (r x : ℕ) → r < m → x < slice_index starts r → IsBeforeStart g h lines classes guards openings r x
+
+-- acquires that are both shared have one slot
+shared_slots : (g : GraphValue) (l q k : ℕ) → both_shared g q k ≡ true → slot_of g l q ≡ slot_of g l k
+shared_slots g l q k h =
+    let both = and_parts (line_passes is_shared g q) (line_passes is_shared g k) h in
+    cond-true (line_passes is_shared g q) (length g.lines + l) q both.0 ∙ sym (cond-true (line_passes is_shared g k) (length g.lines + l) k both.1)
+
+slots_apart : (g : GraphValue) (l q k : ℕ) → (slot_of g l q ≡ slot_of g l k → ⊥) → both_shared g q k ≡ false
+slots_apart g l q k apart = elim (cases_Bool (both_shared g q k)) [ inl both ↦ absurd (apart (shared_slots g l q k both)) | inr alone ↦ alone ]
 
 -- two members of classes of one guard, of which one lies before the start of the other, lie apart
 pub guards_by : (g : GraphValue) (h : Held) → IsHeld g h → (lines : List ℕ) (keys : List Access) (classes guards : List (Option ℕ)) (openings starts : List ℕ) → length guards ≡ length keys → length starts ≡ length classes → ((r c : ℕ) → class_at classes r ≡ Some c → r < length classes) →
-    AreOpened h lines classes guards openings (length classes) → AreStarts h lines classes guards openings starts (length classes) → AreGuards g lines keys classes guards starts
+    AreOpened g h lines classes guards openings (length classes) → AreStarts g h lines classes guards openings starts (length classes) → AreGuards g lines keys classes guards starts
 guards_by g h is lines keys classes guards openings starts size numbers within opened started = record {
   size = size;
   numbers = numbers;
@@ -74,10 +85,10 @@ guards_by g h is lines keys classes guards openings starts size numbers within o
       let o = opened (3 * x + j) d both.lock (within (3 * x + j) d one) one both.guards_other in
       let at : (3 * x + j) / 3 ≡ x = omega arith in
       let to : (3 * u + k) / 3 ≡ u = omega arith in
+      let low : slice_index openings (slot_of g both.lock o.0) ≤ (3 * x + j) / 3 = o.2 in
+      let up : x < slice_index openings (slot_of g both.lock s.acquire) = subst (λ z. x < slice_index openings (slot_of g z s.acquire)) lock s.before in
+      let differ : slot_of g both.lock o.0 ≡ slot_of g both.lock s.acquire → ⊥ = (λ same. (let e : slice_index openings (slot_of g both.lock o.0) ≡ slice_index openings (slot_of g both.lock s.acquire) = ap (slice_index openings) same in absurd (omega arith))) in
       kept_apart g h is both.lock (slice_index lines x) (slice_index lines u) o.0 s.acquire (subst (λ z. acquire_in h both.lock (slice_index lines z) ≡ Some o.0) at o.1)
       (subst (λ z. acquire_in h both.lock (slice_index lines z) ≡ Some s.acquire) to (subst (λ z. acquire_in h z (slice_index lines ((3 * u + k) / 3)) ≡ Some s.acquire) lock s.acquire_is))
-      (λ same. (
-      let low : slice_index openings o.0 ≤ (3 * x + j) / 3 = o.2 in
-      let up : x < slice_index openings s.acquire = s.before in
-      let e : slice_index openings o.0 ≡ slice_index openings s.acquire = ap (slice_index openings) same in absurd (omega arith))));
+      (λ same. differ (ap (slot_of g both.lock) same)) (slots_apart g both.lock o.0 s.acquire differ));
 }

@@ -1,29 +1,29 @@
 -- In which sections two lines lie.
 use Rattle.std.proofs.Common.{◌≡◌, ℕ, ◌+◌, ◌<◌, ◌≤◌, true, false, not, inl, inr, List, length, refl, sym, ◌∙◌, ap, subst, arith}
-use Rattle.std.specs.Prelude.{Option, Some, None, Vec, is_some, slice_get}
+use Rattle.std.specs.Prelude.{Option, Some, None, IfSome, Vec, is_some, slice_get}
 use Rattle.std.specs.Option.{option_map_or}
 use Rattle.std.specs.Global.{Global}
 use Rattle.std.specs.List.{slice_index_or}
 use Rattle.std.proofs.lemmas.Bool.{true≢false, cases_lt, cases_Bool}
 use Rattle.graph_model.specs.graph.Graph.{GraphValue, locks, is_acquire_of}
 use Rattle.graph_model.specs.graph.Fits.{IsGraph}
-use Rattle.graph_model.specs.meaning.Rules.{Section, modes_commute}
+use Rattle.graph_model.specs.meaning.Rules.{Section, both_shared, modes_commute}
 use Rattle.graph_model.proofs.ReleaseFacts.{acquired_lock_known}
 use Rattle.graph_model.proofs.VerbFacts.{passes_below}
 use Rattle.std.proofs.lemmas.Option.{none-some, slice_get_past}
 use Rattle.race_sweeps.specs.declared.held.Held.{Held}
-use Rattle.race_sweeps.specs.Held.{IsHeld, IsHeldRow, LieApart, AreDifferent, acquire_in}
+use Rattle.race_sweeps.specs.Held.{IsHeld, IsHeldRow, LieApart, Exclude, acquire_in}
 use Rattle.race_sweeps.specs.Clash.{LinesClash}
 use Rattle.race_sweeps.specs.Settled.{IsSettled}
 
-different_apart : (g : GraphValue) (l : ℕ) (row : Vec (Option ℕ) Global) → IsHeldRow g l row → (i j : ℕ) (o p : Option ℕ) → slice_index_or row.items i None ≡ o → slice_index_or row.items j None ≡ p → AreDifferent o p → LieApart g i j
-different_apart g l row h i j (Some q) (Some k) e f d = (l, q, k, d, h.is i q e, h.is j k f)
-different_apart g l row h i j (Some q) None e f d = absurd d
-different_apart g l row h i j None (Some k) e f d = absurd d
-different_apart g l row h i j None None e f d = absurd d
+exclude_apart : (g : GraphValue) (l : ℕ) (row : Vec (Option ℕ) Global) → IsHeldRow g l row → (i j : ℕ) (o p : Option ℕ) → slice_index_or row.items i None ≡ o → slice_index_or row.items j None ≡ p → Exclude g o p → LieApart g i j
+exclude_apart g l row h i j (Some q) (Some k) e f d = (l, q, k, d.0, d.1, h.is i q e, h.is j k f)
+exclude_apart g l row h i j (Some q) None e f d = absurd d
+exclude_apart g l row h i j None (Some k) e f d = absurd d
+exclude_apart g l row h i j None None e f d = absurd d
 
-pub row_apart : (g : GraphValue) (l : ℕ) (row : Vec (Option ℕ) Global) → IsHeldRow g l row → (i j : ℕ) (o p : Option ℕ) → o ≡ slice_index_or row.items i None → p ≡ slice_index_or row.items j None → AreDifferent o p → LieApart g i j
-row_apart g l row h i j o p e f d = different_apart g l row h i j o p (sym e) (sym f) d
+pub row_apart : (g : GraphValue) (l : ℕ) (row : Vec (Option ℕ) Global) → IsHeldRow g l row → (i j : ℕ) (o p : Option ℕ) → o ≡ slice_index_or row.items i None → p ≡ slice_index_or row.items j None → Exclude g o p → LieApart g i j
+row_apart g l row h i j o p e f d = exclude_apart g l row h i j o p (sym e) (sym f) d
 
 none_of : (o : Option ℕ) → is_some o ≡ false → o ≡ None
 none_of None e = refl
@@ -49,16 +49,24 @@ section_from g l i q (Some row) each e = (each row refl).is i q e
 pub section_kept : (g : GraphValue) (h : Held) → IsHeld g h → (l i q : ℕ) → acquire_in h l i ≡ Some q → Section g l q i
 section_kept g h is l i q e = section_from g l i q (slice_get h.acquires.items l) (is.each l) e
 
+pub kept_below : (g : GraphValue) (h : Held) → IsHeld g h → (l i q : ℕ) → acquire_in h l i ≡ Some q → q < length g.lines
+kept_below g h is l i q e = acquire_below g l i q (section_kept g h is l i q e)
+
 pub acquire_known : (g : GraphValue) (h : Held) → IsHeld g h → (l i q : ℕ) (o : Option ℕ) → o ≡ acquire_in h l i → o ≡ Some q → q < length g.lines
-acquire_known g h is l i q o e at = acquire_below g l i q (section_kept g h is l i q (sym e ∙ at))
+acquire_known g h is l i q o e at = kept_below g h is l i q (sym e ∙ at)
 
 pub section_some : (g : GraphValue) (h : Held) → IsHeld g h → (l i : ℕ) (o : Option ℕ) → o ≡ acquire_in h l i → is_some o ≡ true → (q : ℕ) × Section g l q i
 section_some g h is l i None e some = absurd (true≢false (sym some))
 section_some g h is l i (Some q) e some = (q, section_kept g h is l i q (sym e))
 
--- lines for which different acquires of one reservation are kept lie apart
-pub kept_apart : (g : GraphValue) (h : Held) → IsHeld g h → (l i j q k : ℕ) → acquire_in h l i ≡ Some q → acquire_in h l j ≡ Some k → (q ≡ k → ⊥) → LieApart g i j
-kept_apart g h is l i j q k a b apart = (l, q, k, apart, section_kept g h is l i q a, section_kept g h is l j k b)
+-- the acquire that a row keeps for a line
+pub kept_known : (g : GraphValue) (l : ℕ) (row : Vec (Option ℕ) Global) → IsHeldRow g l row → (i : ℕ) (o : Option ℕ) → o ≡ slice_index_or row.items i None → IfSome o (λ q. q < length g.lines)
+kept_known g l row h i None e = tt
+kept_known g l row h i (Some q) e = acquire_below g l i q (h.is i q (sym e))
+
+-- lines for which different acquires of one reservation are kept lie apart, where these are not both shared
+pub kept_apart : (g : GraphValue) (h : Held) → IsHeld g h → (l i j q k : ℕ) → acquire_in h l i ≡ Some q → acquire_in h l j ≡ Some k → (q ≡ k → ⊥) → both_shared g q k ≡ false → LieApart g i j
+kept_apart g h is l i j q k a b apart alone = (l, q, k, apart, alone, section_kept g h is l i q a, section_kept g h is l j k b)
 
 pub none_read : (o p : Option ℕ) → o ≡ p → is_some o ≡ false → p ≡ None
 none_read o p e f = sym e ∙ none_of o f
@@ -79,6 +87,7 @@ exempt_by g i j soft a c = inr (inr (record {
   one = a.1;
   other = a.2;
   different = a.3;
-  one_section = a.4;
-  other_section = a.5;
+  apart = a.4;
+  one_section = a.5;
+  other_section = a.6;
 }))

@@ -74,14 +74,14 @@ module _ (g : GraphValue) where
   -- no sections set it apart from another one
   not_apart : (i w : ℕ) (a h : Access) → IsHard g w h.mode → IsTrue (modes_commute a.mode h.mode) → LieApart g i w → ⊥
   not_apart i w a h (inl write) commute apart = true≢false (sym commute ∙ (ap (modes_commute a.mode) write ∙ never_commutes a.mode))
-  not_apart i w a h (inr free) commute apart = free.1 apart.0 apart.2 apart.5
+  not_apart i w a h (inr free) commute apart = free.1 apart.0 apart.2 apart.6
 
   -- what lines that are settled tell of two of their accesses
   fine_by : (i j : ℕ) (a b : Access) → i ≢ j → Contains (accesses g i) a → Contains (accesses g j) b → AccessesConflict g a b → IsSettled g i j → IsFine g i j a b
   fine_by i j a b apart ha hb c settled = elim (settled (record { different = apart; one = a; other = b; one_in = ha; other_in = hb; conflict = c })) [
     | inl path ↦ inl path
     | inr (inl back) ↦ inr (inl back)
-    | inr (inr x) ↦ inr (inr (x.commute a b ha hb c, (x.lock, x.one, x.other, x.different, x.one_section, x.other_section)))
+    | inr (inr x) ↦ inr (inr (x.commute a b ha hb c, (x.lock, x.one, x.other, x.different, x.apart, x.one_section, x.other_section)))
   ]
 
   -- lines are settled where all their accesses that conflict are

@@ -1,7 +1,7 @@
 -- Classes of reductions whose members all lie in sections of one reservation, which guards them.
-use Rattle.std.specs.Prelude.{◌≡◌, ℕ, ◌+◌, ◌*◌, ◌/◌, ◌<◌, ◌≤◌, List, length, Option, Some, IsTrue, slice_get, slice_index}
+use Rattle.std.specs.Prelude.{◌≡◌, ℕ, ◌+◌, ◌*◌, ◌/◌, ◌<◌, ◌≤◌, cond, List, length, Option, Some, IsTrue, slice_get, slice_index}
 use Rattle.graph_model.specs.declared.graph.verb.Access.{Access}
-use Rattle.graph_model.specs.graph.Graph.{GraphValue}
+use Rattle.graph_model.specs.graph.Graph.{GraphValue, line_passes, is_shared}
 use Rattle.graph_model.specs.meaning.Rules.{modes_commute}
 use Rattle.race_sweeps.specs.declared.held.Held.{Held}
 use Rattle.race_sweeps.specs.Classes.{class_at}
@@ -24,17 +24,21 @@ pub record AreGuards (g : GraphValue) (lines : List ℕ) (keys : List Access) (c
   pub numbers : length starts ≡ length classes
   pub apart : (x j u k c d : ℕ) → j < 3 → k < 3 → class_at classes (3 * x + j) ≡ Some d → class_at classes (3 * u + k) ≡ Some c → AreGuarded keys guards c d → x < slice_index starts (3 * u + k) → LieApart g (slice_index lines x) (slice_index lines u)
 
--- the members below number m of a class that is guarded lie in sections of its guard, at or behind the place kept for the acquire
-abbrev pub AreOpened : Held → List ℕ → List (Option ℕ) → List (Option ℕ) → List ℕ → ℕ → Type 0
-AreOpened h lines classes guards openings m = (r d l : ℕ) → r < m → class_at classes r ≡ Some d → class_at guards d ≡ Some l →
-    (q : ℕ) × (acquire_in h l (slice_index lines (r / 3)) ≡ Some q) × (slice_index openings q ≤ r / 3)
+-- where the opening of an acquire of reservation l is kept: in a slot of its own, and in one for all that are shared
+abbrev pub slot_of : GraphValue → ℕ → ℕ → ℕ
+slot_of g l q = cond (line_passes is_shared g q) (length g.lines + l) q
 
--- the class of the access of number m is guarded, and place x lies before the one kept for the acquire of its section
-pub record IsBeforeStart (h : Held) (lines : List ℕ) (classes guards : List (Option ℕ)) (openings : List ℕ) (m x : ℕ) : Type 0 where
+-- the members below number m of a class that is guarded lie in sections of its guard, at or behind the opening of the acquire
+abbrev pub AreOpened : GraphValue → Held → List ℕ → List (Option ℕ) → List (Option ℕ) → List ℕ → ℕ → Type 0
+AreOpened g h lines classes guards openings m = (r d l : ℕ) → r < m → class_at classes r ≡ Some d → class_at guards d ≡ Some l →
+    (q : ℕ) × (acquire_in h l (slice_index lines (r / 3)) ≡ Some q) × (slice_index openings (slot_of g l q) ≤ r / 3)
+
+-- the class of the access of number m is guarded, and place x lies before the opening of the acquire of its section
+pub record IsBeforeStart (g : GraphValue) (h : Held) (lines : List ℕ) (classes guards : List (Option ℕ)) (openings : List ℕ) (m x : ℕ) : Type 0 where
   pub class : ℕ
   pub lock : ℕ
   pub acquire : ℕ
   pub class_is : class_at classes m ≡ Some class
   pub lock_is : class_at guards class ≡ Some lock
   pub acquire_is : acquire_in h lock (slice_index lines (m / 3)) ≡ Some acquire
-  pub before : x < slice_index openings acquire
+  pub before : x < slice_index openings (slot_of g lock acquire)

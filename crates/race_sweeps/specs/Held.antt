@@ -1,10 +1,10 @@
 -- In which sections the lines lie, by one acquire for each reservation.
-use Rattle.std.specs.Prelude.{◌≡◌, ◌≢◌, ℕ, ◌<◌, length, Option, Some, None, Vec, slice_get}
+use Rattle.std.specs.Prelude.{◌≡◌, ◌≢◌, ℕ, ◌<◌, false, length, Option, Some, None, Vec, slice_get}
 use Rattle.std.specs.Global.{Global}
 use Rattle.std.specs.List.{slice_index_or}
 use Rattle.std.specs.Option.{option_map_or}
 use Rattle.graph_model.specs.graph.Graph.{GraphValue, locks}
-use Rattle.graph_model.specs.meaning.Rules.{Section}
+use Rattle.graph_model.specs.meaning.Rules.{Section, both_shared}
 use Rattle.race_sweeps.specs.declared.held.Held.{Held}
 
 -- where an acquire is kept the line lies in its section, and where none is kept it lies in no section of the reservation
@@ -21,13 +21,13 @@ pub record IsHeld (g : GraphValue) (h : Held) : Type 0 where
 abbrev pub acquire_in : Held → ℕ → ℕ → Option ℕ
 acquire_in h l i = option_map_or (λ (row : Vec (Option ℕ) Global). slice_index_or row.items i None) (slice_get h.acquires.items l) None
 
--- two lines lie in sections of two different acquires of one reservation
+-- two lines lie in sections of two different acquires of one reservation, not both shared
 abbrev pub LieApart : GraphValue → ℕ → ℕ → Type 0
-LieApart g i j = (l : ℕ) × (q : ℕ) × (k : ℕ) × (q ≢ k) × Section g l q i × Section g l k j
+LieApart g i j = (l : ℕ) × (q : ℕ) × (k : ℕ) × (q ≢ k) × (both_shared g q k ≡ false) × Section g l q i × Section g l k j
 
--- both are there and they differ
-abbrev pub AreDifferent : Option ℕ → Option ℕ → Type 0
-AreDifferent (Some q) (Some k) = q ≢ k
-AreDifferent (Some q) None = ⊥
-AreDifferent None (Some k) = ⊥
-AreDifferent None None = ⊥
+-- two acquires are both there, they differ, and they are not both shared
+abbrev pub Exclude : GraphValue → Option ℕ → Option ℕ → Type 0
+Exclude g (Some q) (Some k) = (q ≢ k) × (both_shared g q k ≡ false)
+Exclude g (Some q) None = ⊥
+Exclude g None (Some k) = ⊥
+Exclude g None None = ⊥

@@ -18,7 +18,7 @@ use graph_model::verb::{Access, Mode};
 pub const MOST_ACCESSES: u32 = 3;
 
 /// Whether two lines do not conflict, or by uses that commute alone and in sections of two
-/// different acquires of one reservation.
+/// different acquires of one reservation, not both shared.
 pub(crate) fn is_exempt(graph: &Graph, held: &Held, one: u32, other: u32) -> bool
     requires one { one < length graph.now.lines }
     requires other { other < length graph.now.lines }

@@ -1,21 +1,24 @@
 //! The reservations that guard classes of reductions.
 
 ghost use Rattle.std.specs.Prelude.{◌≡◌, ℕ, ◌+◌, ◌*◌, ◌<◌, ◌≤◌, List, Option, Some, length, IfOk};
+ghost use Rattle.graph_model.specs.graph.Graph.{locks};
+ghost use Rattle.graph_model.specs.meaning.Rules.{Acquires};
 ghost use Rattle.race_sweeps.specs.Classes.{AreClasses, class_at};
-ghost use Rattle.race_sweeps.specs.Guards.{AreGuards, AreOpened, IsBeforeStart};
+ghost use Rattle.race_sweeps.specs.Guards.{AreGuards, AreOpened, IsBeforeStart, slot_of};
 ghost use Rattle.race_sweeps.specs.Held.{IsHeld};
 ghost use Rattle.race_sweeps.specs.Placed.{IsPlaced};
 
 use crate::clash::is_reduction;
 use crate::classes::Classes;
-use crate::held::Held;
+use crate::held::{Held, is_shared};
 use graph_model::graph::Graph;
 use index_spaces::NoMemory;
 use index_spaces::room::{filled, push, with_room};
 use std::alloc::Global;
 
 /// The reservation that guards each class, in sections of which all its members lie, and for each
-/// access of such a class the first place with a member of one in its section.
+/// access of such a class the first place with a member of one in its section, or in any shared one
+/// of the reservation where its section is shared.
 #[derive(Drop)]
 pub(crate) struct Guards {
     pub(crate) locks: Vec<Option<u32>>,
@@ -42,7 +45,7 @@ pub(crate) fn guards_of(
 }
 
 /// Guards under way: a reservation for each class, and for each acquire the first place with a
-/// member of a guarded class in its section.
+/// member of a guarded class in its section. The shared acquires of a reservation count as one.
 #[derive(Drop)]
 struct Guarding {
     locks: Vec<Option<u32>>,
@@ -53,11 +56,15 @@ impl Guarding {
     /// No class is guarded.
     fn new(alloc: Global, graph: &Graph, classes: &Classes) -> Result<Guarding, NoMemory>
         ensures locks { IfOk result (λ s. length s.locks.items ≡ length classes.now.keys.items) }
-        ensures openings { IfOk result (λ s. length s.openings.items ≡ length graph.now.lines) }
+        ensures openings { IfOk result (λ s. length s.openings.items ≡ length graph.now.lines + length (locks graph.now)) }
     {
         Ok(Guarding {
             locks: filled(alloc, None, classes.keys.len())?,
-            openings: filled(alloc, u32::MAX, graph.lines() as usize)?,
+            openings: filled(
+                alloc,
+                u32::MAX,
+                graph.lines() as usize + graph.locks() as usize,
+            )?,
         })
     }
 
@@ -100,10 +107,10 @@ impl Guarding {
         requires classes { AreClasses graph.now order.now classes.now.keys.items classes.now.of.items }
         requires held { IsHeld graph.now held.now }
         requires locks { length self.old.locks.items ≡ length classes.now.keys.items }
-        requires openings { length self.old.openings.items ≡ length graph.now.lines }
+        requires openings { length self.old.openings.items ≡ length graph.now.lines + length (locks graph.now) }
         ensures locks { length self.new.locks.items ≡ length self.old.locks.items }
         ensures openings { length self.new.openings.items ≡ length self.old.openings.items }
-        ensures opened { AreOpened held.now order.now classes.now.of.items self.new.locks.items self.new.openings.items (length classes.now.of.items) }
+        ensures opened { AreOpened graph.now held.now order.now classes.now.of.items self.new.locks.items self.new.openings.items (length classes.now.of.items) }
     {
         for number in 0..3 * graph.lines() {
             self.open(graph, order, classes, held, number);
@@ -118,11 +125,11 @@ impl Guarding {
         requires held { IsHeld graph.now held.now }
         requires number { number < length classes.now.of.items }
         requires locks { length self.old.locks.items ≡ length classes.now.keys.items }
-        requires openings { length self.old.openings.items ≡ length graph.now.lines }
-        requires opened { AreOpened held.now order.now classes.now.of.items self.old.locks.items self.old.openings.items number }
+        requires openings { length self.old.openings.items ≡ length graph.now.lines + length (locks graph.now) }
+        requires opened { AreOpened graph.now held.now order.now classes.now.of.items self.old.locks.items self.old.openings.items number }
         ensures locks { length self.new.locks.items ≡ length self.old.locks.items }
         ensures openings { length self.new.openings.items ≡ length self.old.openings.items }
-        ensures opened { AreOpened held.now order.now classes.now.of.items self.new.locks.items self.new.openings.items (number + 1) }
+        ensures opened { AreOpened graph.now held.now order.now classes.now.of.items self.new.locks.items self.new.openings.items (number + 1) }
     {
         let Some(class) = classes.of[number as usize] else {
             return;
@@ -134,8 +141,9 @@ impl Guarding {
         match held.acquire(graph, lock, order[place as usize]) {
             None => self.locks[class as usize] = None,
             Some(acquire) => {
-                let opening = self.openings[acquire as usize];
-                self.openings[acquire as usize] = opening.min(place);
+                let slot = slot_of(graph, lock, acquire);
+                let opening = self.openings[slot];
+                self.openings[slot] = opening.min(place);
             }
         }
     }
@@ -153,8 +161,8 @@ impl Guarding {
         requires classes { AreClasses graph.now order.now classes.now.keys.items classes.now.of.items }
         requires held { IsHeld graph.now held.now }
         requires locks { length self.locks.items ≡ length classes.now.keys.items }
-        requires openings { length self.openings.items ≡ length graph.now.lines }
-        requires opened { AreOpened held.now order.now classes.now.of.items self.locks.items self.openings.items (length classes.now.of.items) }
+        requires openings { length self.openings.items ≡ length graph.now.lines + length (locks graph.now) }
+        requires opened { AreOpened graph.now held.now order.now classes.now.of.items self.locks.items self.openings.items (length classes.now.of.items) }
         ensures { IfOk result (λ s. AreGuards graph.now order.now classes.now.keys.items classes.now.of.items s.locks.items s.starts.items) }
     {
         let mut starts = with_room(alloc, classes.of.len())?;
@@ -183,8 +191,8 @@ impl Guarding {
         requires held { IsHeld graph.now held.now }
         requires number { number < length classes.now.of.items }
         requires locks { length self.now.locks.items ≡ length classes.now.keys.items }
-        requires openings { length self.now.openings.items ≡ length graph.now.lines }
-        ensures { (x : ℕ) → x < result → IsBeforeStart held.now order.now classes.now.of.items self.now.locks.items self.now.openings.items number x }
+        requires openings { length self.now.openings.items ≡ length graph.now.lines + length (locks graph.now) }
+        ensures { (x : ℕ) → x < result → IsBeforeStart graph.now held.now order.now classes.now.of.items self.now.locks.items self.now.openings.items number x }
     {
         let Some(class) = classes.of[number as usize] else {
             return 0;
@@ -196,6 +204,21 @@ impl Guarding {
         let Some(acquire) = held.acquire(graph, lock, line) else {
             return 0;
         };
-        self.openings[acquire as usize]
+        self.openings[slot_of(graph, lock, acquire)]
+    }
+}
+
+/// The slot of an acquire's opening: one of its own, or one for all that are shared, since these
+/// do not exclude one another.
+fn slot_of(graph: &Graph, lock: u32, acquire: u32) -> usize
+    requires acquires { Acquires graph.now acquire lock }
+    ensures slot { result ≡ slot_of graph.now lock acquire }
+    ensures within { result < length graph.now.lines + length (locks graph.now) }
+{
+    let lines = graph.lines() as usize;
+    if is_shared(graph, acquire) {
+        lines + lock as usize
+    } else {
+        acquire as usize
     }
 }

@@ -1,10 +1,12 @@
 //! In which sections the lines lie.
 
-ghost use Rattle.std.specs.Prelude.{◌≡◌, ℕ, ◌<◌, length, IsTrue, IfSome};
+ghost use Rattle.std.specs.Prelude.{◌≡◌, ℕ, ◌<◌, ◌↔◌, length, IsTrue, IfSome};
+ghost use Rattle.graph_model.specs.graph.Graph.{line_passes, is_shared};
 ghost use Rattle.graph_model.specs.meaning.Rules.{Section};
-ghost use Rattle.race_sweeps.specs.Held.{IsHeld, LieApart, AreDifferent, acquire_in};
+ghost use Rattle.race_sweeps.specs.Held.{IsHeld, LieApart, Exclude, acquire_in};
 
 use graph_model::graph::Graph;
+use graph_model::verb::Verb;
 
 /// For each reservation and each line an acquire in whose section the line lies, where there is
 /// one.
@@ -14,7 +16,8 @@ pub struct Held {
 }
 
 impl Held {
-    /// Whether two lines lie in sections of two different acquires of one reservation.
+    /// Whether two lines lie in sections of two different acquires of one reservation, not both
+    /// shared.
     pub(crate) fn are_apart(&self, graph: &Graph, one: u32, other: u32) -> bool
         requires held { IsHeld graph.now self.now }
         requires one { one < length graph.now.lines }
@@ -22,7 +25,7 @@ impl Held {
         ensures { IsTrue result → LieApart graph.now one other }
     {
         for acquires in &self.acquires {
-            if differ(acquires[one as usize], acquires[other as usize]) {
+            if exclude(graph, acquires[one as usize], acquires[other as usize]) {
                 return true;
             }
         }
@@ -71,12 +74,26 @@ impl Held {
     }
 }
 
-/// Whether both are there and they differ.
-fn differ(one: Option<u32>, other: Option<u32>) -> bool
-    ensures { IsTrue result → AreDifferent one other }
+/// Whether two acquires are both there, they differ, and they are not both shared. Where they are
+/// of one reservation, no line of the section of one runs beside a line of the other's.
+pub fn exclude(graph: &Graph, one: Option<u32>, other: Option<u32>) -> bool
+    requires one { IfSome one (λ q. q < length graph.now.lines) }
+    requires other { IfSome other (λ q. q < length graph.now.lines) }
+    ensures { IsTrue result ↔ Exclude graph.now one other }
 {
-    match (one, other) {
-        (Some(one), Some(other)) => one != other,
+    let (Some(one), Some(other)) = (one, other) else {
+        return false;
+    };
+    one != other && !(is_shared(graph, one) && is_shared(graph, other))
+}
+
+/// Whether a line is an acquire that is shared.
+pub(crate) fn is_shared(graph: &Graph, line: u32) -> bool
+    requires { line < length graph.now.lines }
+    ensures { result ≡ line_passes is_shared graph.now line }
+{
+    match &graph.line(line).verb {
+        Verb::Acquire { shared, .. } => *shared,
         _ => false,
     }
 }

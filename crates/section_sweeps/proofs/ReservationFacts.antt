@@ -1,5 +1,5 @@
 -- What the verb of a line tells of the reservation that it acquires or frees.
-use Rattle.std.proofs.Common.{◌≡◌, ℕ, ◌<◌, length, ap, ◌∙◌}
+use Rattle.std.proofs.Common.{◌≡◌, ℕ, ◌<◌, Bool, length, ap, ◌∙◌}
 use Rattle.std.specs.Prelude.{Some, option_map, slice_get}
 use Rattle.graph_model.specs.declared.graph.verb.Line.{Line}
 use Rattle.graph_model.specs.declared.graph.verb.Verb.TheVariants.{Acquire, Release}
@@ -13,8 +13,8 @@ use Rattle.graph_model.proofs.ReleaseFacts.{lock_known, release_names}
 pub verb_of : (g : GraphValue) (i : ℕ) (l : Line) → slice_get g.lines i ≡ Some l → verb_at g i ≡ Some l.verb
 verb_of g i l e = ap (option_map (λ (x : Line). x.verb)) e
 
-pub acquired_here : (g : GraphValue) → IsGraph g → (i k : ℕ) (l : Line) → slice_get g.lines i ≡ Some l → l.verb ≡ Acquire k → Acquires g i k × (k < length (locks g))
-acquired_here g f i k l at is = (is_acquire_from g i k (verb_of g i l at ∙ ap Some is), lock_known g f i k l at is)
+pub acquired_here : (g : GraphValue) → IsGraph g → (i k : ℕ) (l : Line) → slice_get g.lines i ≡ Some l → (s : Bool) → l.verb ≡ Acquire k s → Acquires g i k × (k < length (locks g))
+acquired_here g f i k l at s is = (is_acquire_from g i k s (verb_of g i l at ∙ ap Some is), lock_known g f i k l at s is)
 
 pub released_here : (g : GraphValue) → IsGraph g → (i q : ℕ) (l : Line) → slice_get g.lines i ≡ Some l → l.verb ≡ Release q → Releases g i q × (q < length g.lines)
 released_here g f i q l at is =

@@ -14,7 +14,7 @@ pub fn acquired(graph: &Graph, line: u32) -> Option<u32>
         × (l < length (locks graph.now))) }
 {
     match &graph.line(line).verb {
-        Verb::Acquire { lock } => Some(*lock),
+        Verb::Acquire { lock, .. } => Some(*lock),
         _ => None,
     }
 }

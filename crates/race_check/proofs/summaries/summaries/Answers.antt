@@ -12,6 +12,6 @@ loop-lock-preserved c =
     let added = c.in_ok-summary.summary in
     record {
       count = ap length c.in_ok-push.ensures.ok ∙ (length-append before (added ∷ []) ∙ ap (λ n. n + 1) c.loop-lock.invariant.count);
-      each = subst (λ (xs : List Summary). (k : ℕ) (s : Summary) → slice_get xs k ≡ Some s → AreSummaries g k (length g.lines) s.first.items s.more.items) (sym c.in_ok-push.ensures.ok)
-          (each_pushed (λ k (s : Summary). AreSummaries g k (length g.lines) s.first.items s.more.items) before added c.loop-lock.lock c.loop-lock.invariant.count c.loop-lock.invariant.each c.in_ok-summary.ensures);
+      each = subst (λ (xs : List Summary). (k : ℕ) (s : Summary) → slice_get xs k ≡ Some s → AreSummaries g k (length g.lines) s.acquires.items) (sym c.in_ok-push.ensures.ok)
+          (each_pushed (λ k (s : Summary). AreSummaries g k (length g.lines) s.acquires.items) before added c.loop-lock.lock c.loop-lock.invariant.count c.loop-lock.invariant.each c.in_ok-summary.ensures);
     }

@@ -7,5 +7,5 @@ use Rattle.race_check.proofs.summaries.summaries.Given as goal
 abbrev pub invariant-loop-lock : goal.invariant-loop-lock
 invariant-loop-lock l = record {
   count : length l.summaries.items ≡ l.lock;
-  each : (k : ℕ) (s : Summary) → slice_get l.summaries.items k ≡ Some s → AreSummaries l.graph k (length l.graph.lines) s.first.items s.more.items;
+  each : (k : ℕ) (s : Summary) → slice_get l.summaries.items k ≡ Some s → AreSummaries l.graph k (length l.graph.lines) s.acquires.items;
 }

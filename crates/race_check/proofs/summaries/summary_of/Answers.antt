@@ -13,12 +13,12 @@ loop-acquire-preserved c =
     let q = c.loop-acquire.acquire in
     let before = c.loop-acquire.summary in
     elim c.if-acquires.branch [
-      | then-acquires w ↦ subst (λ (s : Summary). AreSummaries g l (q + 1) s.first.items s.more.items) (sym w.summary-is) (w.add.ensures l (sym c.acquires.ensures ∙ w.if-acquires.true) c.loop-acquire.invariant)
-      | else-acquires w ↦ subst (λ (s : Summary). AreSummaries g l (q + 1) s.first.items s.more.items) (sym w.summary-is)
-          (sums_skip g l q before.first.items before.more.items (not_acquire_no_section g l q (λ a. true≢false (sym a ∙ (sym c.acquires.ensures ∙ w.if-acquires.false)))) c.loop-acquire.invariant)
+      | then-acquires w ↦ subst (λ (s : Summary). AreSummaries g l (q + 1) s.acquires.items) (sym w.summary-is) (w.add.ensures l (sym c.acquires.ensures ∙ w.if-acquires.true) c.loop-acquire.invariant)
+      | else-acquires w ↦ subst (λ (s : Summary). AreSummaries g l (q + 1) s.acquires.items) (sym w.summary-is)
+          (sums_skip g l q before.acquires.items (not_acquire_no_section g l q (λ a. true≢false (sym a ∙ (sym c.acquires.ensures ∙ w.if-acquires.false)))) c.loop-acquire.invariant)
     ]
 
 pub returns : goal.returns
 returns c =
     let all : c.loop-acquire.acquire ≡ length c.args.graph.now.lines = omega arith in
-    subst (λ n. AreSummaries c.args.graph.now c.args.lock n c.loop-acquire.summary.first.items c.loop-acquire.summary.more.items) all c.loop-acquire.invariant
+    subst (λ n. AreSummaries c.args.graph.now c.args.lock n c.loop-acquire.summary.acquires.items) all c.loop-acquire.invariant

@@ -5,7 +5,6 @@ use Rattle.race_check.proofs.summaries.Summary.add.Given as goal
 
 abbrev pub invariant-loop-word : goal.invariant-loop-word
 invariant-loop-word l = record {
-  firsts : length l.self.first.items ≡ length l.graph.lines;
-  mores : length l.self.more.items ≡ length l.graph.lines;
-  summed : (k : ℕ) → Acquires l.graph l.acquire k → AreSummaries l.graph k l.acquire l.initial.self.first.items l.initial.self.more.items → AreSummedTo l.graph k l.acquire (l.word * 64) l.self.first.items l.self.more.items;
+  size : length l.self.acquires.items ≡ length l.graph.lines;
+  summed : (k : ℕ) → Acquires l.graph l.acquire k → AreSummaries l.graph k l.acquire l.initial.self.acquires.items → AreSummedTo l.graph k l.acquire (l.word * 64) l.self.acquires.items;
 }

@@ -3,4 +3,4 @@ use Rattle.race_check.proofs.SummarySteps.{sums_begun}
 use Rattle.race_check.proofs.summaries.Summary.new.Goals as goal
 
 pub returns : goal.returns
-returns c l = sums_begun c.args.graph.now c.in_ok-first.first.items c.loop-line.more.items (omega (arith, c.in_ok-first.ensures.size)) (omega (arith, c.loop-line.invariant.size)) c.in_ok-first.ensures.each c.loop-line.invariant.none l
+returns c l = sums_begun c.args.graph.now c.in_ok-acquires.acquires.items (omega (arith, c.in_ok-acquires.ensures.size)) c.in_ok-acquires.ensures.each l

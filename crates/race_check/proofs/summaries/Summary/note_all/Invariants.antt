@@ -5,8 +5,6 @@ use Rattle.race_check.proofs.summaries.Summary.note_all.Given as goal
 
 abbrev pub invariant-loop-bit : goal.invariant-loop-bit
 invariant-loop-bit l = record {
-  firsts : length l.self.first.items ≡ length l.initial.self.first.items;
-  mores : length l.self.more.items ≡ length l.initial.self.more.items;
-  noted : (g : GraphValue) (k : ℕ) → AreInside g k l.acquire l.word l.inside → AreSummedTo g k l.acquire (l.word * 64) l.initial.self.first.items l.initial.self.more.items
-      → AreSummedTo g k l.acquire (l.word * 64 + l.bit) l.self.first.items l.self.more.items;
+  size : length l.self.acquires.items ≡ length l.initial.self.acquires.items;
+  noted : (g : GraphValue) (k : ℕ) → AreInside g k l.acquire l.word l.inside → AreSummedTo g k l.acquire (l.word * 64) l.initial.self.acquires.items → AreSummedTo g k l.acquire (l.word * 64 + l.bit) l.self.acquires.items;
 }
