@@ -1,5 +1,5 @@
 -- A line that is put back, as the code puts it back.
-use Rattle.std.proofs.Common.{◌≡◌, ℕ, zero, suc, ◌+◌, ◌<◌, ◌≤◌, true, ◌⊎◌, inl, inr, List, [], ◌∷◌, ◌++◌, map, length, refl, sym, ◌∙◌, ap, subst, arith}
+use Rattle.std.proofs.Common.{Bool, ◌≡◌, ℕ, ◌+◌, ◌<◌, ◌≤◌, true, ◌⊎◌, inl, inr, List, [], ◌∷◌, ◌++◌, map, length, refl, sym, ◌∙◌, ap, subst, arith}
 use Rattle.std.specs.Prelude.{◌≢◌, Option, Some, None, IsSome, slice_get, slice_index, slice_index_or, slice_set}
 use Rattle.std.specs.Option.{option_map_or}
 use Rattle.std.proofs.lemmas.Bool.{true≢false, false≢true, eq-eqb}
@@ -9,7 +9,7 @@ use Rattle.index_spaces.specs.Column.{ColumnValue}
 use Rattle.graph_model.specs.declared.meaning.outcome.End.{End}
 use Rattle.graph_model.specs.declared.meaning.outcome.End.TheVariants.{Done, Faulted, Cancelled, Waiting}
 use Rattle.graph_model.specs.declared.graph.verb.Verb.{Verb}
-use Rattle.graph_model.specs.declared.graph.verb.Verb.TheVariants.{User, Trigger, Cancel, Merge, MergeIgnore, Phase, Arrive, Acquire, Release, Fill, Copy, Reduce, Task}
+use Rattle.graph_model.specs.declared.graph.verb.Verb.TheVariants.{Release}
 use Rattle.graph_model.specs.graph.Graph.{GraphValue, columns, column_space, verb_at, is_release_of}
 use Rattle.graph_model.specs.meaning.Rules.{Releases}
 use Rattle.graph_model.specs.meaning.Evaluation.{is_ended, evaluation, eval_end}
@@ -23,7 +23,7 @@ use Rattle.run_state.specs.Run.{LineStage, Ending, Ended, Place, Home, Had, Run,
 use Rattle.run_state.specs.Sound.{AccessesColumn, Sound}
 use Rattle.run_state.specs.WholeLine.{lock_of, all_home, all_back, columns_for, values_with, arrived_with, arrival_for, holders_without, freed_with, freed_lock, frees_by, frees_for, put_back_whole}
 use Rattle.run_state.specs.Laws.{PutBackKeepsRest, PutBackLeaves}
-use Rattle.run_state.proofs.Lists.{ended_over, listed_cases}
+use Rattle.run_state.proofs.Lists.{ended_over}
 use Rattle.graph_model.proofs.VerbFacts.{verb_passes}
 use Rattle.run_state.proofs.Started.{kept_is, started_below, started_ends}
 use Rattle.run_state.proofs.Known.{column_there}
@@ -33,7 +33,8 @@ use Rattle.run_core.specs.Core.{CoreValue, IsCore}
 use Rattle.run_core.specs.Events.{EventsValue}
 use Rattle.run_core.specs.Works.{FinishedValue, IsFinished, KeepsWork, cells_in}
 use Rattle.run_core.specs.Steps.{with_end, handle_at, fate_for}
-use Rattle.run_core.specs.Kept.{shown_stage, place_of, places_of, holding, Past, no_past, with_line, past_of, frees_as, frees_so_far, frees_in, frees, run_by, shown_core, AreKept}
+use Rattle.run_core.specs.Holders.{holders_by}
+use Rattle.run_core.specs.Kept.{shown_stage, place_of, places_of, Past, no_past, with_line, past_of, frees_as, frees_so_far, frees_in, frees, run_by, shown_core, AreKept}
 use Rattle.run_core.specs.declared.progress.Progress.{Progress}
 use Rattle.run_core.specs.declared.progress.Progress.TheVariants as progress
 use Rattle.run_core.proofs.PastFacts.{past_more, clock_from}
@@ -67,26 +68,15 @@ frees_evaluated {g} {run} s i begun = by_option (verb_at g i) refl
         kept_is s.on_lines q (ended_over (stage_at run.stages q) (acquire_is_ended s i q rel begun)))
 
 -- WHO HOLDS the reservation that is freed
-holding_one : (o : Option ℕ) (q : ℕ) → is_listed (holding o) q ≡ true → holding o ≡ q ∷ []
-holding_one None q h = absurd (false≢true h)
-holding_one (Some k) q h = ap (λ j. j ∷ []) (sym (elim (listed_cases k q [] h) [ inl e ↦ e | inr r ↦ absurd (false≢true r) ]))
-
-list_of_holding : (holders : List (Option ℕ)) (l : ℕ) → list_at (map holding holders) l ≡ holding (slice_index_or holders l None)
-list_of_holding [] l = refl
-list_of_holding (o ∷ os) zero = refl
-list_of_holding (o ∷ os) (suc l) = list_of_holding os l
-
-pub held_alone : (before : CoreValue) (holders : List (Option ℕ)) → before.run.holders ≡ map holding holders → IsCore before → (f : FinishedValue) → IsFinished before f →
-    (l q : ℕ) → frees_in before.graph before.run.stages f.line ≡ Some (l, q) → list_at (map holding holders) l ≡ q ∷ []
-held_alone before holders shows core f is l q frees =
+pub holder_freed : (before : CoreValue) → IsCore before → (f : FinishedValue) → IsFinished before f → (l q : ℕ) → frees_in before.graph before.run.stages f.line ≡ Some (l, q) → is_listed (list_at before.run.holders l) q ≡ true
+holder_freed before core f is l q frees =
     let s = core.sound in
     let found = frees_found before.graph before.run s core.at_rest f.line f.ends (cells_in f.held) (may_put before f is) (l, q) (frees_kept before.graph before.run f.line ∙ frees) in
     let over_q = ended_over (stage_at before.run.stages q) found.2 in
-    let listed : is_listed (list_at before.run.holders l) q ≡ true = elim (s.on_locks.timed_holds l q found.1 (s.on_times.over_timed q over_q) (λ e. done_apart (eval_end before.graph q) found.3 e)) [
+    elim (s.on_locks.timed_holds l q found.1 (s.on_times.over_timed q over_q) (λ e. done_apart (eval_end before.graph q) found.3 e)) [
       | inl held ↦ held
       | inr freed ↦ absurd (true≢false (sym (s.on_locks.freed_over f.line (subst (λ r. is_listed before.run.freed r ≡ true) (one_release before.graph s.graph q freed.0 f.line freed.1 found.0) freed.2)) ∙ ap stage_over is.is_out))
-    ] in
-    list_of_holding holders l ∙ holding_one (slice_index_or holders l None) q (ap (λ ks. is_listed ks q) (sym (list_of_holding holders l)) ∙ (ap (λ hs. is_listed (list_at hs l) q) (sym shows) ∙ listed))
+    ]
   where
     done_apart : (x : End) → x ≡ Done → x ≡ Cancelled → ⊥
     done_apart x a b = cc
@@ -113,14 +103,14 @@ past_with g past i x o e f = ap (λ y. record {
   freed = freed_with past.freed i y;
 }) f
 
-module _ (g : GraphValue) (stages : List Progress) (events : EventsValue) (homes homes' : List (Option ColumnValue)) (takers takers' values values' : List ℕ) (holders holders' : List (Option ℕ)) (trace : List ℕ)
-    (f : FinishedValue) (core : IsCore (shown_core g stages events homes takers values holders trace)) (is : IsFinished (shown_core g stages events homes takers values holders trace) f)
+module _ (g : GraphValue) (stages : List Progress) (events : EventsValue) (homes homes' : List (Option ColumnValue)) (takers takers' values values' : List ℕ) (marks marks' : List Bool) (trace : List ℕ)
+    (f : FinishedValue) (core : IsCore (shown_core g stages events homes takers values marks trace)) (is : IsFinished (shown_core g stages events homes takers values marks trace) f)
     (places : places_of homes' takers' ≡ all_home (places_of homes takers) (cells_in f.held) (columns_for g f.line f.ends))
     (arrives : values' ≡ values_with values (arrival_for g f.line f.ends))
-    (frees_now : map holding holders' ≡ holders_without (map holding holders) (frees_in g (map shown_stage stages) f.line))
+    (frees_now : holders_by g marks' ≡ holders_without (holders_by g marks) (frees_in g (map shown_stage stages) f.line))
   where
     abbrev shown_before : CoreValue
-    shown_before = shown_core g stages events homes takers values holders trace
+    shown_before = shown_core g stages events homes takers values marks trace
 
     freed_is : frees_for g shown_before.run f.line ≡ frees_in g (map shown_stage stages) f.line
     freed_is = frees_kept g shown_before.run f.line
@@ -140,14 +130,14 @@ module _ (g : GraphValue) (stages : List Progress) (events : EventsValue) (homes
     stages_are : map shown_stage (slice_set stages f.line (progress.Ended f.ends)) ≡ slice_set (slice_set (map shown_stage stages) f.line (Ending f.ends)) f.line (Ended f.ends)
     stages_are = map-set shown_stage stages f.line (progress.Ended f.ends) ∙ sym (set-set (map shown_stage stages) f.line (Ending f.ends) (Ended f.ends))
 
-    holders_are : map holding holders' ≡ holders_without (map holding holders) (frees_for g shown_before.run f.line)
-    holders_are = frees_now ∙ ap (holders_without (map holding holders)) (sym freed_is)
+    holders_are : holders_by g marks' ≡ holders_without (holders_by g marks) (frees_for g shown_before.run f.line)
+    holders_are = frees_now ∙ ap (holders_without (holders_by g marks)) (sym freed_is)
 
     pub ended_shown : (events' : EventsValue) → events' ≡ record { handles = events.handles; table = ended_with events.table (handle_at shown_before f.line) (fate_for f.ends) } →
-        shown_core g (slice_set stages f.line (progress.Ended f.ends)) events' homes' takers' values' holders' (trace ++ f.line ∷ []) ≡ with_end shown_before f
+        shown_core g (slice_set stages f.line (progress.Ended f.ends)) events' homes' takers' values' marks' (trace ++ f.line ∷ []) ≡ with_end shown_before f
     ended_shown events' e =
-        ap (λ (ev : EventsValue). core_of g (run_by (past_of g (trace ++ f.line ∷ [])) (map shown_stage (slice_set stages f.line (progress.Ended f.ends))) (places_of homes' takers') values' (map holding holders')) ev.handles ev.table) e
-        ∙ (ap (λ p. core_of g (run_by p (map shown_stage (slice_set stages f.line (progress.Ended f.ends))) (places_of homes' takers') values' (map holding holders')) events.handles (ended_with events.table (handle_at shown_before f.line) (fate_for f.ends))) past_is
+        ap (λ (ev : EventsValue). core_of g (run_by (past_of g (trace ++ f.line ∷ [])) (map shown_stage (slice_set stages f.line (progress.Ended f.ends))) (places_of homes' takers') values' (holders_by g marks')) ev.handles ev.table) e
+        ∙ (ap (λ p. core_of g (run_by p (map shown_stage (slice_set stages f.line (progress.Ended f.ends))) (places_of homes' takers') values' (holders_by g marks')) events.handles (ended_with events.table (handle_at shown_before f.line) (fate_for f.ends))) past_is
         ∙ ap (λ (r : List LineStage × List Place × List ℕ × List (List ℕ)). core_of g (run_by (past_after shown_before) r.0 r.1 r.2 r.3) events.handles (ended_with events.table (handle_at shown_before f.line) (fate_for f.ends)))
         (λ t. (stages_are t, places t, arrives t, holders_are t)))
       where

@@ -161,7 +161,7 @@ stood old new i j stands = elim stands.either [
 
 held_not_free : (g : GraphValue) (run : Run) (i : ℕ) (thing : Thing) → eval_end g i ≢ Cancelled → IsHeldBy g run i thing → IsFree g run i → ⊥
 held_not_free g run i thing runs held (inl cancelled) = runs cancelled
-held_not_free g run i (things.Lock l) runs held (inr free) = held.1 (free.0 l held.0)
+held_not_free g run i (things.Lock l) runs held (inr free) = true≢false (sym (free.0 l held.0 held.1.0 held.1.1) ∙ held.1.2)
 held_not_free g run i (things.Column c) runs held (inr free) = held.1.is_out (free.1 c (map_contains (λ (a : Access). a.column) (accesses g i) c (at_contains (column_list g i) held.1.place c held.1.column)))
 
 pub not_taken : (old new : CoreValue) (i : ℕ) (a : Attempt) → Attempts old new i a → ((w : WorkValue) → a ≢ attempts.Taken w) → IsStill old new × (length new.table.slots ≡ length old.table.slots) × (CanTake old.graph old.run i → ⊥)

@@ -1,5 +1,5 @@
 -- How a core begins, and what it gives when it is quiet.
-use Rattle.std.proofs.Common.{◌≡◌, ℕ, zero, suc, ◌+◌, ◌<◌, ◌≤◌, inl, inr, List, [], ◌∷◌, map, length, replicate, refl, sym, ◌∙◌, ap, subst, arith}
+use Rattle.std.proofs.Common.{false, Bool, ◌≡◌, ℕ, zero, suc, ◌+◌, ◌<◌, ◌≤◌, inl, inr, List, [], ◌∷◌, map, length, replicate, refl, sym, ◌∙◌, ap, subst, arith}
 use Rattle.std.specs.Prelude.{◌≢◌, Option, Some, None, IsSome, slice_get, slice_index, slice_index_or}
 use Rattle.std.specs.List.{range_with_len}
 use Rattle.std.proofs.lemmas.Bool.{true≢false, cases_lt, cases_order}
@@ -14,8 +14,8 @@ use Rattle.graph_model.specs.declared.meaning.outcome.Answer.{Answer}
 use Rattle.graph_model.specs.declared.meaning.outcome.Answer.TheVariants as shown_answers
 use Rattle.graph_model.specs.declared.meaning.outcome.Outcome.{Outcome}
 use Rattle.graph_model.specs.declared.graph.verb.Verb.{Verb}
-use Rattle.graph_model.specs.declared.graph.verb.Verb.TheVariants.{User, Trigger, Cancel, Merge, MergeIgnore, Phase, Arrive, Acquire, Release, Fill, Copy, Reduce, Task}
-use Rattle.graph_model.specs.graph.Graph.{GraphValue, columns, locks, column_space, verb_at}
+use Rattle.graph_model.specs.declared.graph.verb.Verb.TheVariants.{Phase}
+use Rattle.graph_model.specs.graph.Graph.{GraphValue, columns, column_space, verb_at}
 use Rattle.graph_model.specs.meaning.Effect.{zero_cells}
 use Rattle.graph_model.specs.meaning.Evaluation.{answer_of, column_of, outcome}
 use Rattle.graph_model.specs.meaning.Trace.{IsLawful}
@@ -31,7 +31,7 @@ use Rattle.basics.proofs.ListFacts.{got_contains}
 use Rattle.run_core.specs.Core.{CoreValue, unissued, answer_for, IsCore}
 use Rattle.run_core.specs.Events.{EventsValue}
 use Rattle.run_core.specs.Answers.{answer_shown, AsksHandles, phase_for, phase_of_line}
-use Rattle.run_core.specs.Kept.{shown_stage, place_of, places_of, holding, no_past, past_of, run_by, shown_core, AreKept}
+use Rattle.run_core.specs.Kept.{shown_stage, place_of, places_of, no_past, past_of, run_by, shown_core, AreKept}
 use Rattle.run_core.specs.declared.progress.Progress.{Progress}
 use Rattle.run_core.specs.declared.progress.Progress.TheVariants as progress
 use Rattle.run_core.proofs.PastFacts.{clock_from, at_time}
@@ -39,6 +39,7 @@ use Rattle.run_core.proofs.PlaceFacts.{place_is, is_there}
 use Rattle.run_core.proofs.TakenFacts.{column_eq}
 use Rattle.run_core.proofs.WorkFacts.{core_of}
 use Rattle.run_core.proofs.CoreFacts.{line_near}
+use Rattle.run_core.proofs.HolderFacts.{holders_first}
 use Rattle.run_state.proofs.Lists.{map_same}
 
 -- BEFORE ANY LINE IS ISSUED
@@ -50,13 +51,13 @@ places_first : (column : ℕ → ColumnValue) (t n k : ℕ) → places_of (map (
 places_first column t zero k = refl
 places_first column t (suc n) k = ap (λ ys. Home (column k).cells ∷ ys) (places_first column t n (k + 1))
 
-pub shown_first : (g : GraphValue) (stages : List Progress) (events : EventsValue) (homes : List (Option ColumnValue)) (takers values : List ℕ) (holders : List (Option ℕ)) (trace : List ℕ) (slots : ℕ) →
+pub shown_first : (g : GraphValue) (stages : List Progress) (events : EventsValue) (homes : List (Option ColumnValue)) (takers values : List ℕ) (marks : List Bool) (trace : List ℕ) (slots : ℕ) →
     stages ≡ replicate (length g.lines) progress.Unissued → events ≡ record { handles = []; table = fresh slots (length g.lines) 8191 } → homes ≡ all_home g zero_cells → takers ≡ replicate (length (columns g)) 0 →
-    values ≡ map (first_value g) (numbers_below (length g.lines)) → holders ≡ replicate (length (locks g)) None → trace ≡ [] →
-    shown_core g stages events homes takers values holders trace ≡ unissued g slots
-shown_first g stages events homes takers values holders trace slots s e h t v o r =
+    values ≡ map (first_value g) (numbers_below (length g.lines)) → marks ≡ replicate (length g.lines) false → trace ≡ [] →
+    shown_core g stages events homes takers values marks trace ≡ unissued g slots
+shown_first g stages events homes takers values marks trace slots s e h t v o r =
     (λ i. shown_core g (s i) (e i) (h i) (t i) (v i) (o i) (r i))
-    ∙ (λ i. core_of g (run_by (no_past g) (map_replicate shown_stage (length g.lines) 0 progress.Unissued i) (places_first (column_of g zero_cells) 0 (length (columns g)) 0 i) (map (first_value g) (numbers_below (length g.lines))) (map_replicate holding (length (locks g)) 0 None i)) [] (fresh slots (length g.lines) 8191))
+    ∙ (λ i. core_of g (run_by (no_past g) (map_replicate shown_stage (length g.lines) 0 progress.Unissued i) (places_first (column_of g zero_cells) 0 (length (columns g)) 0 i) (map (first_value g) (numbers_below (length g.lines))) (holders_first g i)) [] (fresh slots (length g.lines) 8191))
 
 pub kept_first : (g : GraphValue) (homes : List (Option ColumnValue)) (takers : List ℕ) → homes ≡ all_home g zero_cells → takers ≡ replicate (length (columns g)) 0 → AreKept g homes takers
 kept_first g homes takers h t = record {

@@ -1,5 +1,5 @@
 -- The core that is resumed from the states of its lines.
-use Rattle.std.proofs.Common.{◌≡◌, ℕ, suc, ◌<◌, ◌≤◌, true, inl, inr, List, [], ◌∷◌, map, length, refl, sym, ◌∙◌, ap, subst, arith}
+use Rattle.std.proofs.Common.{Bool, ◌≡◌, ℕ, suc, ◌<◌, ◌≤◌, true, inl, inr, List, [], ◌∷◌, map, length, refl, sym, ◌∙◌, ap, subst, arith}
 use Rattle.std.specs.Prelude.{Option, Some, None, slice_get, slice_index, slice_index_or}
 use Rattle.std.proofs.lemmas.Bool.{false≢true, cases_lt}
 use Rattle.std.proofs.lemmas.List.{ext_get_or, get_or-map, get_or_past, length-map}
@@ -16,14 +16,16 @@ use Rattle.run_state.proofs.Lists.{some_is, is_some_of, ended_over, stage_there}
 use Rattle.run_state.proofs.Started.{ended_started, started_below, kept_is}
 use Rattle.run_core.specs.Core.{CoreValue, IsCore}
 use Rattle.run_core.specs.Events.{EventsValue}
-use Rattle.run_core.specs.Kept.{shown_stage, place_of, places_of, holding, shown_core, AreKept}
+use Rattle.std.proofs.lemmas.List.FromFn.{length-map-range_with_len}
+use Rattle.run_core.specs.Holders.{holders_at, holders_by}
+use Rattle.run_core.specs.Kept.{shown_stage, place_of, places_of, shown_core, AreKept}
 use Rattle.run_core.specs.Steps.{stage_of}
-use Rattle.run_core.specs.Resumed.{blank_state, state_at, progress_by, progress_for, stage_is_over, over_at, handle_by, handle_of_issued, issued_handles, value_or_zero, HoldsNow, ShowState, InState}
+use Rattle.run_core.specs.Resumed.{blank_state, state_at, progress_by, progress_for, stage_is_over, over_at, handle_by, handle_of_issued, issued_handles, value_or_zero, HoldsNow, AreBeside, ShowState, InState}
 use Rattle.run_core.specs.declared.progress.Progress.{Progress}
 use Rattle.run_core.specs.declared.progress.Progress.TheVariants as progress
 use Rattle.run_core.specs.declared.states.LineState.{LineState}
 use Rattle.run_core.proofs.PlaceFacts.{place_is, length-places}
-use Rattle.run_core.proofs.ResumeFacts.{bool_same, HeldNow, held_alone, same_back, same_arrived, same_freed, same_holders, resumed_run, resumed_sound, resumed_at_rest, run_is}
+use Rattle.run_core.proofs.ResumeFacts.{bool_same, HeldNow, held_beside, same_back, same_arrived, same_freed, same_holders, resumed_run, resumed_sound, resumed_at_rest, run_is}
 
 stage_over : (st : LineStage) → stage_is_over (stage_of st) ≡ stage_ended st
 stage_over Unissued = refl
@@ -114,8 +116,8 @@ module _ (c : CoreValue) (core : IsCore c) (run : Run) (handles : List Handle) (
     held_holds : (q l : ℕ) → HeldNow c.graph run q l → HoldsNow c.graph lines q l
     held_holds q l h = record { acquires = h.acquires; over = over_is q ∙ h.ends; is_done = end_is q h.ends ∙ h.done; kept = λ r rel o. h.kept r rel (sym (over_is r) ∙ o) }
 
-    pub lines_alone : (l q k : ℕ) → HoldsNow c.graph lines q l → HoldsNow c.graph lines k l → q ≡ k
-    lines_alone l q k a b = held_alone c.graph run shows.sound shows.quiet l q k (holds_held q l a) (holds_held k l b)
+    pub lines_beside : AreBeside c.graph lines
+    lines_beside l q k a b ne = held_beside c.graph run shows.sound shows.quiet l q k (holds_held q l a) (holds_held k l b) ne
 
     -- the handles
     few_handles : length handles ≤ length lines
@@ -169,7 +171,7 @@ module _ (c : CoreValue) (core : IsCore c) (run : Run) (handles : List Handle) (
         ];
       }
 
-      module _ (holders : List (Option ℕ)) (each : length holders ≡ length (locks c.graph)) (only : (l q : ℕ) → is_listed (list_at (map holding holders) l) q ≡ true → HoldsNow c.graph lines q l) (all : (l q : ℕ) → HoldsNow c.graph lines q l → is_listed (list_at (map holding holders) l) q ≡ true)
+      module _ (marks : List Bool) (only : (l q : ℕ) → is_listed (list_at (holders_by c.graph marks) l) q ≡ true → HoldsNow c.graph lines q l) (all : (l q : ℕ) → HoldsNow c.graph lines q l → is_listed (list_at (holders_by c.graph marks) l) q ≡ true)
           (trace : List ℕ) (count : length trace ≡ count_below (over_at lines) (length lines)) (at : (i : ℕ) (s : LineState) → slice_get lines i ≡ Some s → stage_is_over s.stage ≡ true → slice_get trace s.time ≡ Some i)
         where
           pub long : length trace ≡ run.clock
@@ -187,25 +189,25 @@ module _ (c : CoreValue) (core : IsCore c) (run : Run) (handles : List Handle) (
           pub each_value : length values ≡ length c.graph.lines
           each_value = length-map phases value_or_zero ∙ shows.phases_show.each_line
 
-          pub each_lock : length (map holding holders) ≡ length (locks c.graph)
-          each_lock = length-map holders holding ∙ each
+          pub each_lock : length (holders_by c.graph marks) ≡ length (locks c.graph)
+          each_lock = length-map-range_with_len (holders_at c.graph marks) 0 (length (locks c.graph))
 
-          pub held_only : (l q : ℕ) → is_listed (list_at (map holding holders) l) q ≡ true → HeldNow c.graph run q l
+          pub held_only : (l q : ℕ) → is_listed (list_at (holders_by c.graph marks) l) q ≡ true → HeldNow c.graph run q l
           held_only l q h = holds_held q l (only l q h)
 
-          pub held_all : (l q : ℕ) → HeldNow c.graph run q l → is_listed (list_at (map holding holders) l) q ≡ true
+          pub held_all : (l q : ℕ) → HeldNow c.graph run q l → is_listed (list_at (holders_by c.graph marks) l) q ≡ true
           held_all l q h = all l q (held_holds q l h)
 
           abbrev pub the_run : Run
-          the_run = resumed_run c.graph run shows.sound shows.quiet trace long placed values each_value same_values (map holding holders) each_lock held_only held_all
+          the_run = resumed_run c.graph run shows.sound shows.quiet trace long placed values each_value same_values (holders_by c.graph marks) each_lock held_only held_all
 
           abbrev pub the_core : CoreValue
           the_core = record { graph = c.graph; «run» = the_run; «handles» = handles; «table» = table }
 
           pub is_core : IsCore the_core
           is_core = record {
-            sound = resumed_sound c.graph run shows.sound shows.quiet trace long placed values each_value same_values (map holding holders) each_lock held_only held_all;
-            at_rest = resumed_at_rest c.graph run shows.sound shows.quiet trace long placed values each_value same_values (map holding holders) each_lock held_only held_all;
+            sound = resumed_sound c.graph run shows.sound shows.quiet trace long placed values each_value same_values (holders_by c.graph marks) each_lock held_only held_all;
+            at_rest = resumed_at_rest c.graph run shows.sound shows.quiet trace long placed values each_value same_values (holders_by c.graph marks) each_lock held_only held_all;
             events = shows.events;
             slots = λ n need. subst (λ k. n ≤ k) (sym shows.slots) (core.slots n need);
           }
@@ -222,23 +224,23 @@ module _ (c : CoreValue) (core : IsCore c) (run : Run) (handles : List Handle) (
             «values» = same_values;
             back = same_back c.graph run shows.sound shows.quiet trace long placed;
             arrived = same_arrived c.graph run shows.sound shows.quiet trace long placed;
-            «holders» = same_holders c.graph run shows.sound shows.quiet trace long placed values each_value same_values (map holding holders) each_lock held_only held_all;
+            «holders» = same_holders c.graph run shows.sound shows.quiet trace long placed values each_value same_values (holders_by c.graph marks) each_lock held_only held_all;
             freed = same_freed c.graph run shows.sound shows.quiet trace long placed;
           }
 
           pub core_is : (stages : List Progress) (events : EventsValue) (vs : List ℕ) → stages ≡ map progress_for lines → events ≡ record { handles = issued_handles lines; table = table } → vs ≡ map value_or_zero phases →
-              shown_core c.graph stages events homes takers vs holders trace ≡ the_core
+              shown_core c.graph stages events homes takers vs marks trace ≡ the_core
           core_is stages events vs s e v =
-              (λ t. shown_core c.graph (s t) (e t) homes takers (v t) holders trace)
+              (λ t. shown_core c.graph (s t) (e t) homes takers (v t) marks trace)
               ∙ (λ t. record {
                 graph = c.graph;
-                «run» = run_is c.graph run shows.sound shows.quiet trace long placed values each_value same_values (map holding holders) each_lock held_only held_all (map shown_stage (map progress_for lines)) (places_of homes takers) same_stages same_places t;
+                «run» = run_is c.graph run shows.sound shows.quiet trace long placed values each_value same_values (holders_by c.graph marks) each_lock held_only held_all (map shown_stage (map progress_for lines)) (places_of homes takers) same_stages same_places t;
                 «handles» = same_handles t;
                 «table» = table;
               })
 
           pub resumed_is : (stages : List Progress) (events : EventsValue) (vs : List ℕ) → stages ≡ map progress_for lines → events ≡ record { handles = issued_handles lines; table = table } → vs ≡ map value_or_zero phases →
-              IsCore (shown_core c.graph stages events homes takers vs holders trace) × InState c.graph run handles table (shown_core c.graph stages events homes takers vs holders trace)
+              IsCore (shown_core c.graph stages events homes takers vs marks trace) × InState c.graph run handles table (shown_core c.graph stages events homes takers vs marks trace)
           resumed_is stages events vs s e v =
               let is = sym (core_is stages events vs s e v) in
               (subst IsCore is is_core, subst (InState c.graph run handles table) is in_state)

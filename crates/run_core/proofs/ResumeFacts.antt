@@ -13,7 +13,7 @@ use Rattle.graph_model.specs.declared.meaning.outcome.End.TheVariants.{Done, Fau
 use Rattle.graph_model.specs.declared.graph.verb.Verb.{Verb}
 use Rattle.graph_model.specs.declared.graph.verb.Verb.TheVariants.{User, Trigger, Cancel, Merge, MergeIgnore, Phase, Arrive, Acquire, Release, Fill, Copy, Reduce, Task}
 use Rattle.graph_model.specs.graph.Graph.{GraphValue, columns, locks, space_at, verb_at, line_passes}
-use Rattle.graph_model.specs.meaning.Rules.{Acquires, Releases}
+use Rattle.graph_model.specs.meaning.Rules.{Acquires, Releases, both_shared}
 use Rattle.graph_model.specs.declared.meaning.outcome.Verdict.TheVariants.{Fine}
 use Rattle.graph_model.specs.meaning.Effect.{Cells, verb_verdict, effect}
 use Rattle.graph_model.specs.meaning.Evaluation.{eval_end, evaluation, end_by, is_cancelled, step_by, cells_of, cells_of_lines, column_of, has_ended}
@@ -65,7 +65,7 @@ arrival_some g (Cancel k) a e = absurd (none-some a e)
 arrival_some g (Merge ks) a e = absurd (none-some a e)
 arrival_some g (MergeIgnore ks) a e = absurd (none-some a e)
 arrival_some g (Phase k) a e = absurd (none-some a e)
-arrival_some g (Acquire k) a e = absurd (none-some a e)
+arrival_some g (Acquire k s) a e = absurd (none-some a e)
 arrival_some g (Release k) a e = absurd (none-some a e)
 arrival_some g (Fill t s w) a e = absurd (none-some a e)
 arrival_some g (Copy x y s) a e = absurd (none-some a e)
@@ -90,7 +90,7 @@ some_arrival g (Cancel k) h = absurd (true≢false (sym h))
 some_arrival g (Merge ks) h = absurd (true≢false (sym h))
 some_arrival g (MergeIgnore ks) h = absurd (true≢false (sym h))
 some_arrival g (Phase k) h = absurd (true≢false (sym h))
-some_arrival g (Acquire k) h = absurd (true≢false (sym h))
+some_arrival g (Acquire k s) h = absurd (true≢false (sym h))
 some_arrival g (Release k) h = absurd (true≢false (sym h))
 some_arrival g (Fill t s w) h = absurd (true≢false (sym h))
 some_arrival g (Copy x y s) h = absurd (true≢false (sym h))
@@ -166,8 +166,8 @@ module _ (g : GraphValue) (run : Run) (s : Sound g run) (quiet : (i : ℕ) → s
         kept = λ r rel e. s.on_locks.freed_gone l q r rel (s.on_locks.ended_freed r q rel e is_done) h;
       }
 
-  pub held_alone : (l q k : ℕ) → HeldNow g run q l → HeldNow g run k l → q ≡ k
-  held_alone l q k a b = s.on_locks.holder_alone l q k (held_listed q l a) (held_listed k l b)
+  pub held_beside : (l q k : ℕ) → HeldNow g run q l → HeldNow g run k l → q ≢ k → both_shared g q k ≡ true
+  held_beside l q k a b ne = s.on_locks.holder_alone l q k (held_listed q l a) (held_listed k l b) ne
 
 module _ (g : GraphValue) (run : Run) (s : Sound g run) (quiet : (i : ℕ) → started run.stages i ≡ true → ended run.stages i ≡ true)
     (trace : List ℕ) (long : length trace ≡ run.clock) (placed : (i t : ℕ) → time_at run.times i ≡ Some t → slice_get trace t ≡ Some i)
@@ -294,7 +294,7 @@ module _ (g : GraphValue) (run : Run) (s : Sound g run) (quiet : (i : ℕ) → s
           holder_acquires = λ l q h. s.on_locks.holder_acquires l q (sym (same_holders l q) ∙ h);
           holder_started = λ l q h. s.on_locks.holder_started l q (sym (same_holders l q) ∙ h);
           holder_not_cancelled = λ l q h. s.on_locks.holder_not_cancelled l q (sym (same_holders l q) ∙ h);
-          holder_alone = λ l q k h j. s.on_locks.holder_alone l q k (sym (same_holders l q) ∙ h) (sym (same_holders l k) ∙ j);
+          holder_alone = λ l q k h j ne. s.on_locks.holder_alone l q k (sym (same_holders l q) ∙ h) (sym (same_holders l k) ∙ j) ne;
           timed_holds = timed_holds;
           freed_over = λ r h. ended_over (stage_at run.stages r) (freed_ended r h);
           freed_ended = λ r q rel h. s.on_locks.freed_ended r q rel (sym (same_freed r q rel) ∙ h);

@@ -1,7 +1,7 @@
 -- A line that is taken, as the code takes it.
-use Rattle.std.proofs.Common.{◌≡◌, ℕ, ◌<◌, true, false, List, [], map, length, refl, sym, ◌∙◌, ap, subst}
+use Rattle.std.proofs.Common.{Bool, ◌≡◌, ℕ, ◌<◌, true, false, List, [], map, length, refl, sym, ◌∙◌, ap, subst}
 use Rattle.std.specs.Prelude.{◌≢◌, Option, Some, None, IsSome, slice_index, slice_index_or, slice_set}
-use Rattle.std.proofs.lemmas.Bool.{true≢false, false≢true}
+use Rattle.std.proofs.lemmas.Bool.{true≢false, false≢true, false_from_ne_true}
 use Rattle.std.proofs.lemmas.List.{map-set, get_or-set_same}
 use Rattle.index_spaces.specs.Column.{ColumnValue}
 use Rattle.graph_model.specs.declared.meaning.outcome.End.TheVariants.{Cancelled}
@@ -9,7 +9,7 @@ use Rattle.graph_model.specs.graph.Graph.{GraphValue, columns}
 use Rattle.graph_model.specs.graph.Fits.{IsGraph}
 use Rattle.graph_model.specs.meaning.Evaluation.{eval_end}
 use Rattle.index_spaces.specs.Held.{held_at}
-use Rattle.run_state.specs.Run.{Unissued, Issued, Out, Home, stage_at, place_at, stage_issued, stage_out, out}
+use Rattle.run_state.specs.Run.{Unissued, Issued, Out, Home, stage_at, place_at, stage_issued, stage_out, out, is_listed, list_at, stage_started}
 use Rattle.run_state.specs.Sound.{AccessesColumn}
 use Rattle.run_state.specs.WholeLine.{column_list, lock_of, all_had, holders_with, take_whole}
 use Rattle.run_state.proofs.Known.{column_there}
@@ -20,7 +20,8 @@ use Rattle.run_core.specs.Core.{CoreValue, IsCore}
 use Rattle.run_core.specs.Events.{EventsValue}
 use Rattle.run_core.specs.Works.{WorkValue, column_now, IsWork, KeepsWork}
 use Rattle.run_core.specs.Steps.{IsDue, IsAtHome, HasLock, HasColumns, with_run, Takes}
-use Rattle.run_core.specs.Kept.{shown_stage, place_of, places_of, holding, past_of, run_by, shown_core, AreKept}
+use Rattle.run_core.specs.Holders.{holders_by}
+use Rattle.run_core.specs.Kept.{shown_stage, place_of, places_of, past_of, run_by, shown_core, AreKept}
 use Rattle.run_core.specs.declared.progress.Progress.{Progress}
 use Rattle.run_core.specs.declared.progress.Progress.TheVariants as progress
 use Rattle.run_core.proofs.CoreFacts.{core_claimed, core_taken, may_take, line_near}
@@ -28,11 +29,11 @@ use Rattle.run_core.proofs.WorkFacts.{core_of, keeps_work}
 use Rattle.run_core.proofs.PlaceFacts.{place_is, is_there}
 
 -- another stage of a line, as it is shown
-pub staged_shown : (g : GraphValue) (stages : List Progress) (events : EventsValue) (homes : List (Option ColumnValue)) (takers values : List ℕ) (holders : List (Option ℕ)) (trace : List ℕ) (i : ℕ) (p : Progress) →
-    shown_core g (slice_set stages i p) events homes takers values holders trace
-    ≡ with_run (shown_core g stages events homes takers values holders trace) (staged (shown_core g stages events homes takers values holders trace).run i (shown_stage p))
-staged_shown g stages events homes takers values holders trace i p =
-    ap (λ ss. with_run (shown_core g stages events homes takers values holders trace) (record (shown_core g stages events homes takers values holders trace).run { stages = ss })) (map-set shown_stage stages i p)
+pub staged_shown : (g : GraphValue) (stages : List Progress) (events : EventsValue) (homes : List (Option ColumnValue)) (takers values : List ℕ) (marks : List Bool) (trace : List ℕ) (i : ℕ) (p : Progress) →
+    shown_core g (slice_set stages i p) events homes takers values marks trace
+    ≡ with_run (shown_core g stages events homes takers values marks trace) (staged (shown_core g stages events homes takers values marks trace).run i (shown_stage p))
+staged_shown g stages events homes takers values marks trace i p =
+    ap (λ ss. with_run (shown_core g stages events homes takers values marks trace) (record (shown_core g stages events homes takers values marks trace).run { stages = ss })) (map-set shown_stage stages i p)
 
 -- the claim of a line that is cancelled
 pub claimed_core : ClaimOfCancelledKeepsRest → (before after now : CoreValue) (i : ℕ) → before ≡ now → after ≡ with_run before (claim before.run i) → IsCore before → IsDue now.graph now.run i → eval_end now.graph i ≡ Cancelled → IsCore after
@@ -71,18 +72,21 @@ claimed_works law before after now i same is core due k =
     (keeps_work before core (claim before.run i) before.handles before.table k (λ h. law before.run k i Out (out_apart before i k is_issued h))))
 
 -- A LINE WITH ITS COLUMNS, as it is shown
-pub taken_shown : (g : GraphValue) (stages : List Progress) (events : EventsValue) (homes homes' : List (Option ColumnValue)) (takers takers' values : List ℕ) (holders holders' : List (Option ℕ)) (trace : List ℕ) (i : ℕ) →
-    places_of homes' takers' ≡ all_had (places_of homes takers) i (column_list g i) → map holding holders' ≡ holders_with (map holding holders) i (lock_of g i) →
-    shown_core g (slice_set stages i progress.Out) events homes' takers' values holders' trace
-    ≡ with_run (shown_core g stages events homes takers values holders trace) (take_whole g (shown_core g stages events homes takers values holders trace).run i)
-taken_shown g stages events homes homes' takers takers' values holders holders' trace i places held =
-    ap (λ ss. core_of g (run_by (past_of g trace) ss (places_of homes' takers') values (map holding holders')) events.handles events.table) (map-set shown_stage stages i progress.Out)
-    ∙ (ap (λ ps. core_of g (run_by (past_of g trace) (slice_set (map shown_stage stages) i Out) ps values (map holding holders')) events.handles events.table) places
+pub taken_shown : (g : GraphValue) (stages : List Progress) (events : EventsValue) (homes homes' : List (Option ColumnValue)) (takers takers' values : List ℕ) (marks marks' : List Bool) (trace : List ℕ) (i : ℕ) →
+    places_of homes' takers' ≡ all_had (places_of homes takers) i (column_list g i) → holders_by g marks' ≡ holders_with (holders_by g marks) i (lock_of g i) →
+    shown_core g (slice_set stages i progress.Out) events homes' takers' values marks' trace
+    ≡ with_run (shown_core g stages events homes takers values marks trace) (take_whole g (shown_core g stages events homes takers values marks trace).run i)
+taken_shown g stages events homes homes' takers takers' values marks marks' trace i places held =
+    ap (λ ss. core_of g (run_by (past_of g trace) ss (places_of homes' takers') values (holders_by g marks')) events.handles events.table) (map-set shown_stage stages i progress.Out)
+    ∙ (ap (λ ps. core_of g (run_by (past_of g trace) (slice_set (map shown_stage stages) i Out) ps values (holders_by g marks')) events.handles events.table) places
     ∙ ap (λ hs. core_of g (run_by (past_of g trace) (slice_set (map shown_stage stages) i Out) (all_had (places_of homes takers) i (column_list g i)) values hs) events.handles events.table) held)
 
 -- what is asked of the run before is asked of the value
 pub may_take_now : (before now : CoreValue) (i : ℕ) → before ≡ now → IsDue now.graph now.run i → eval_end now.graph i ≢ Cancelled → HasLock now.graph now.run.holders i → HasColumns now.graph now.run.places i → MayTakeWhole before.graph before.run i
 may_take_now before now i same due runs lock columns = subst (λ (c : CoreValue). MayTakeWhole c.graph c.run i) (sym same) (may_take now i due runs lock columns)
+
+pub not_holding : (c : CoreValue) → IsCore c → (i : ℕ) → MayTakeWhole c.graph c.run i → (l : ℕ) → is_listed (list_at c.run.holders l) i ≡ false
+not_holding c core i may l = false_from_ne_true (is_listed (list_at c.run.holders l) i) (λ h. true≢false (sym (core.sound.on_locks.holder_started l i h) ∙ ap stage_started may.is_issued))
 
 pub taken_core : TakeKeepsRest → (before after : CoreValue) (i : ℕ) → after ≡ with_run before (take_whole before.graph before.run i) → IsCore before → MayTakeWhole before.graph before.run i → IsCore after
 taken_core law before after i is core may = subst IsCore (sym is) (core_taken law before core i may)

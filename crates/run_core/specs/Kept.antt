@@ -1,5 +1,5 @@
 -- How what the code keeps shows a core.
-use Rattle.std.specs.Prelude.{◌≡◌, ℕ, ◌+◌, List, [], ◌∷◌, length, map, Option, Some, None, slice_index_or, slice_set}
+use Rattle.std.specs.Prelude.{◌≡◌, ℕ, ◌+◌, Bool, List, [], ◌∷◌, length, map, Option, Some, None, slice_index_or, slice_set}
 use Rattle.std.specs.Option.{option_map_or}
 use Rattle.index_spaces.specs.declared.Op.{Op}
 use Rattle.basics.specs.Lists.{numbers_below}
@@ -12,6 +12,7 @@ use Rattle.run_state.specs.Run.{LineStage, Unissued, Issued, Out, Ended, Place, 
 use Rattle.run_state.specs.WholeLine.{lock_of, all_back, columns_for, arrived_with, arrival_by, arrival_for, freed_lock, freed_with}
 use Rattle.run_core.specs.Core.{CoreValue}
 use Rattle.run_core.specs.Events.{EventsValue}
+use Rattle.run_core.specs.Holders.{holders_by}
 use Rattle.run_core.specs.declared.progress.Progress.{Progress}
 use Rattle.run_core.specs.declared.progress.Progress.TheVariants as progress
 
@@ -36,11 +37,6 @@ places_of (x ∷ xs) (t ∷ ts) = place_of x t ∷ places_of xs ts
 abbrev pub takers_with : List ℕ → ℕ → List ℕ → List ℕ
 takers_with takers i [] = takers
 takers_with takers i (c ∷ cs) = takers_with (slice_set takers c i) i cs
-
--- the acquire that holds a reservation, as a list
-abbrev pub holding : Option ℕ → List ℕ
-holding None = []
-holding (Some q) = q ∷ []
 
 -- WHAT HAS HAPPENED, by the lines that have ended, in the order in which they did: their times, on which columns they were put back, which of them arrived, and which freed a reservation
 pub record Past : Type 0 where
@@ -109,10 +105,10 @@ abbrev pub arrival_of : GraphValue → ℕ → Option (Op × ℕ × ℕ)
 arrival_of g i = option_map_or (arrival_by g) (verb_at g i) None
 
 -- the core that is shown
-abbrev pub shown_core : GraphValue → List Progress → EventsValue → List (Option ColumnValue) → List ℕ → List ℕ → List (Option ℕ) → List ℕ → CoreValue
-shown_core g stages events homes takers values holders trace = record {
+abbrev pub shown_core : GraphValue → List Progress → EventsValue → List (Option ColumnValue) → List ℕ → List ℕ → List Bool → List ℕ → CoreValue
+shown_core g stages events homes takers values holding trace = record {
   graph = g;
-  run = run_by (past_of g trace) (map shown_stage stages) (places_of homes takers) values (map holding holders);
+  run = run_by (past_of g trace) (map shown_stage stages) (places_of homes takers) values (holders_by g holding);
   handles = events.handles;
   table = events.table;
 }

@@ -2,6 +2,7 @@ pub mod Events
 pub mod Core
 pub mod Works
 pub mod Sources
+pub mod Holders
 pub mod Kept
 pub mod Steps
 pub mod Findings

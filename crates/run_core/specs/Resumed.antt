@@ -1,11 +1,11 @@
 -- The state from which a core is resumed: what the states of the lines show, and the core that is in it.
-use Rattle.std.specs.Prelude.{◌≡◌, ◌<◌, ℕ, Bool, true, false, List, length, IsTrue, Option, Some, None, slice_get, slice_index, slice_index_or, filter_map}
+use Rattle.std.specs.Prelude.{◌≡◌, ◌≢◌, ◌<◌, ℕ, Bool, true, false, List, length, IsTrue, Option, Some, None, slice_get, slice_index, slice_index_or, filter_map}
 use Rattle.index_spaces.specs.Column.{ColumnValue}
 use Rattle.graph_model.specs.declared.meaning.outcome.End.{End}
 use Rattle.graph_model.specs.declared.meaning.outcome.End.TheVariants.{Done, Waiting}
 use Rattle.graph_model.specs.declared.graph.verb.Verb.TheVariants.{Phase}
 use Rattle.graph_model.specs.graph.Graph.{GraphValue, columns, column_space, verb_at}
-use Rattle.graph_model.specs.meaning.Rules.{Acquires, Releases}
+use Rattle.graph_model.specs.meaning.Rules.{Acquires, Releases, both_shared}
 use Rattle.gen_events.specs.declared.handle.Handle.{Handle}
 use Rattle.gen_events.specs.EventMap.{EventMap, no_event, IsFree}
 use Rattle.run_state.specs.Run.{Home, Run, is_listed, stage_at, time_at, place_at, list_at, end_so_far, started, ended}
@@ -66,6 +66,15 @@ pub record HoldsNow (g : GraphValue) (lines : List LineState) (q l : ℕ) : Type
   pub over : over_at lines q ≡ true
   pub is_done : (state_at lines q).end ≡ Done
   pub kept : (r : ℕ) → Releases g r q → over_at lines r ≡ true → ⊥
+
+-- two acquires that hold one reservation are both shared
+abbrev pub AreBeside : GraphValue → List LineState → Type 0
+AreBeside g lines = (l q k : ℕ) → HoldsNow g lines q l → HoldsNow g lines k l → q ≢ k → both_shared g q k ≡ true
+
+-- the holders are those whose release is below i
+pub record FoundBelow (g : GraphValue) (lines : List LineState) (holders : List (List ℕ)) (i : ℕ) : Type 0 where
+  pub only : (l q : ℕ) → is_listed (list_at holders l) q ≡ true → HoldsNow g lines q l × (r : ℕ) × (r < i) × Releases g r q
+  pub all : (l q r : ℕ) → r < i → Releases g r q → HoldsNow g lines q l → is_listed (list_at holders l) q ≡ true
 
 -- THE STATE THAT IS SHOWN. A run, and the handles of its issued lines
 pub record LinesShow (g : GraphValue) (run : Run) (handles : List Handle) (lines : List LineState) : Type 0 where

@@ -1,16 +1,16 @@
 -- What each call of a core does.
-use Rattle.std.specs.Prelude.{◌≡◌, ◌≢◌, ℕ, ◌<◌, ◌≤◌, ◌⊎◌, true, false, List, [], ◌∷◌, ◌++◌, length, Some, None, slice_get, slice_index_or}
+use Rattle.std.specs.Prelude.{◌≡◌, ◌≢◌, ℕ, ◌<◌, ◌≤◌, ◌⊎◌, true, false, List, [], ◌∷◌, ◌++◌, length, IsTrue, Some, None, slice_get, slice_index_or}
 use Rattle.graph_model.specs.declared.meaning.outcome.End.{End}
 use Rattle.graph_model.specs.declared.meaning.outcome.End.TheVariants.{Done, Faulted, Cancelled, Waiting}
 use Rattle.graph_model.specs.graph.Graph.{GraphValue, never_comes}
-use Rattle.graph_model.specs.meaning.Rules.{Acquires}
+use Rattle.graph_model.specs.meaning.Rules.{Acquires, both_shared}
 use Rattle.graph_model.specs.meaning.Evaluation.{eval_end}
 use Rattle.gen_events.specs.declared.handle.Handle.{Handle}
 use Rattle.gen_events.specs.declared.handle.Fate.{Fate}
 use Rattle.gen_events.specs.declared.handle.Fate.TheVariants.{Ok, Poison}
 use Rattle.gen_events.specs.EventMap.{no_event, created_at, placed_on, ended_with, next_handle, MayServe, IsFull, IsFree, Gives}
-use Rattle.run_state.specs.Run.{LineStage, Unissued, Issued, Out, Ending, Ended, Place, Had, Run, stage_at, place_at, list_at, ended}
-use Rattle.run_state.specs.Sound.{AccessesColumn}
+use Rattle.run_state.specs.Run.{LineStage, Unissued, Issued, Out, Ending, Ended, Place, Had, Run, is_listed, stage_at, place_at, list_at, ended}
+use Rattle.run_state.specs.Sound.{AccessesColumn, IsOpenTo}
 use Rattle.run_state.specs.Moves.{issue, claim}
 use Rattle.run_state.specs.WholeLine.{column_list, take_whole, put_back_whole}
 use Rattle.run_core.specs.Core.{CoreValue, WaitsFor}
@@ -68,9 +68,13 @@ pub record IsDue (g : GraphValue) (run : Run) (i : ℕ) : Type 0 where
   pub comes : never_comes g i ≡ false
   pub sources : HasSources g run.stages i
 
--- its reservation, where it acquires one, is free
+-- its reservation, where it acquires one, is open to it
 abbrev pub HasLock : GraphValue → List (List ℕ) → ℕ → Type 0
-HasLock g holders i = (l : ℕ) → Acquires g i l → list_at holders l ≡ []
+HasLock g holders i = (l : ℕ) → Acquires g i l → IsOpenTo g holders l i
+
+-- a holder of the reservation keeps the line out: the line or the holder is exclusive
+abbrev pub IsKeptOut : GraphValue → List (List ℕ) → ℕ → ℕ → Type 0
+IsKeptOut g holders l i = (k : ℕ) × IsTrue (is_listed (list_at holders l) k) × (both_shared g i k ≡ false)
 
 -- its columns are at home
 abbrev pub IsAtHome : List Place → ℕ → Type 0
@@ -88,7 +92,7 @@ pub record IsFirstOut (g : GraphValue) (places : List Place) (i c : ℕ) : Type 
 
 -- why a line that is due and won't be cancelled can't be taken
 abbrev pub IsHeldBy : GraphValue → Run → ℕ → Thing → Type 0
-IsHeldBy g run i (things.Lock l) = Acquires g i l × (list_at run.holders l ≢ [])
+IsHeldBy g run i (things.Lock l) = Acquires g i l × IsKeptOut g run.holders l i
 IsHeldBy g run i (things.Column c) = HasLock g run.holders i × IsFirstOut g run.places i c
 
 -- nothing changes but that the line is placed on the handle of j, where j has one and the line is free

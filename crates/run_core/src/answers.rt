@@ -43,6 +43,7 @@ pub enum Attempt {
     Never,
     /// This line is the least source that has not ended.
     NotYet(u32),
-    /// The reservation that it acquires is held, or this one, the first of its columns, is out.
+    /// The reservation that it acquires has a holder, and the two are not both shared, or this one,
+    /// the first of its columns, is out.
     Busy(Thing),
 }

@@ -4,6 +4,7 @@ ghost use Rattle.std.specs.Prelude.{◌≡◌, ◌≤◌, IfOk};
 
 use crate::columns::Columns;
 use crate::events::LineEvents;
+use crate::holders::Holders;
 use crate::phases::first_values;
 use crate::progress::Progress;
 use crate::run::outcome::OutcomeRoom;
@@ -39,8 +40,7 @@ pub struct Core<'g> {
     columns: Columns,
     // By line: the value of a phase so far, and 0 for other lines.
     values: Vec<u64>,
-    // By reservation: the acquire that holds it.
-    holders: Vec<Option<u32>>,
+    holders: Holders,
     // The ended lines, in the order in which they ended.
     trace: Vec<u32>,
     room: OutcomeRoom,
@@ -51,16 +51,18 @@ impl<'g> Model for Core<'g> {
     ghost use Rattle.std.specs.Vec.{vec_capacity};
     ghost use Rattle.run_core.specs.Core.{CoreValue, IsCore};
     ghost use Rattle.run_core.specs.Kept.{shown_core, AreKept};
+    ghost use Rattle.run_core.specs.Holders.{AreHeld};
 
     ghost Value = { CoreValue };
 
     ghost view = { λ a. shown_core a.checked.now.graph a.stages.items a.events a.columns.homes
-        a.columns.takers.items a.values.items a.holders.items a.trace.items };
+        a.columns.takers.items a.values.items a.holders.holding.items a.trace.items };
 
     ghost invariant = { λ a. record {
       core : IsCore (shown_core a.checked.now.graph a.stages.items a.events a.columns.homes
-          a.columns.takers.items a.values.items a.holders.items a.trace.items);
+          a.columns.takers.items a.values.items a.holders.holding.items a.trace.items);
       kept : AreKept a.checked.now.graph a.columns.homes a.columns.takers.items;
+      held : AreHeld a.checked.now.graph a.holders.holding.items a.holders.held.items;
       trace : length a.checked.now.graph.lines ≤ vec_capacity a.trace;
       ends : (a.room.ends.items ≡ []) × (length a.checked.now.graph.lines ≤ vec_capacity a.room.ends);
       answers : (a.room.answers.items ≡ []) × (length a.checked.now.graph.lines ≤ vec_capacity a.room.answers);
@@ -100,7 +102,7 @@ impl<'g> Core<'g> {
             events,
             columns: Columns { homes, takers },
             values: first_values(alloc, graph)?,
-            holders: filled(alloc, None, graph.locks() as usize)?,
+            holders: Holders::none(alloc, graph)?,
             trace: with_room(alloc, lines as usize)?,
             room: OutcomeRoom::new(alloc, lines as usize)?,
         })

@@ -19,14 +19,14 @@ use Rattle.graph_model.proofs.RulesTable.{implies, implied, accepted_by_tests}
 use Rattle.graph_model.proofs.examples.Fits.{one_fill-fits, two_sections-fits}
 use Rattle.graph_model.proofs.examples.Accepted.{two_sections-accepted, reserved_sums-accepted}
 use Rattle.graph_model.proofs.examples.Order.{reserved_sums-fits}
-use Rattle.run_state.specs.Run.{LineStage, Unissued, Issued, Out, Ending, Ended, Place, Home, Had, Run, stage_at, time_at, place_at, list_at, stage_issued, stage_out, stage_over, stage_ended, ended, issued}
+use Rattle.run_state.specs.Run.{LineStage, Unissued, Issued, Out, Ending, Ended, Place, Home, Had, Run, is_listed, stage_at, time_at, place_at, list_at, stage_issued, stage_out, stage_over, stage_ended, ended, issued}
 use Rattle.run_state.specs.Sound.{Sound}
 use Rattle.run_state.specs.Moves.{issue}
 use Rattle.run_state.specs.Work.{put_cells}
 use Rattle.run_state.specs.Start.{start}
 use Rattle.run_state.specs.Quiet.{Quiet, GivesOutcome}
 use Rattle.run_state.specs.WholeLine.{lock_of, take_whole, put_back_whole}
-use Rattle.run_state.proofs.Lists.{each_set, stage_there}
+use Rattle.run_state.proofs.Lists.{each_set, none_listed, stage_there}
 use Rattle.run_state.proofs.Stages.{issue-sound}
 use Rattle.run_state.proofs.Start.{start_is_sound, same_at}
 use Rattle.run_state.proofs.WholeLine.{acquires_lock, taken_is_sound, taken_is_at_rest}
@@ -135,7 +135,7 @@ may_take g run i h =
       comes = not-true (never_comes g i) b.0;
       sources = λ x cx to. implied (x.to == i) (ended run.stages x.from) (passes_each (λ (x : Edge). implies (x.to == i) (ended run.stages x.from)) (edges g) c.0 x cx) (eq-eqb x.to i to);
       not_cancelled = done_is (eval_end g i) d.0;
-      lock_free = λ l q. empty_is (list_at run.holders l) (ap (lock_is_free run) (sym (acquires_lock g i l q)) ∙ e.0);
+      lock_free = λ l q k held. absurd (none_listed k (subst (λ ks. is_listed ks k ≡ true) (empty_is (list_at run.holders l) (ap (lock_is_free run) (sym (acquires_lock g i l q)) ∙ e.0)) held));
       at_home = λ k x j. home_is (place_at run.places k) j (home_at run.places e.1 k);
     }
 

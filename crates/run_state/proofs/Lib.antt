@@ -7,6 +7,7 @@ pub mod Columns
 pub mod Times
 pub mod Stages
 pub mod Locks
+pub mod HolderLists
 pub mod Phases
 pub mod Work
 pub mod Stuck

@@ -1,12 +1,12 @@
 -- Facts about lists of entries, and about stages.
-use Rattle.std.proofs.Common.{◌≡◌, ℕ, ◌<◌, true, false, not, ◌⊎◌, inl, inr, List, [], ◌∷◌, length, map, refl, sym, ◌∙◌, ap, subst}
-use Rattle.std.specs.Prelude.{Contains, Option, Some, None, ◌==◌, is_some, slice_index_or, slice_set}
+use Rattle.std.proofs.Common.{◌≡◌, ℕ, ◌<◌, Bool, true, false, not, ◌⊎◌, inl, inr, List, [], ◌∷◌, length, map, refl, sym, ◌∙◌, ap, subst}
+use Rattle.std.specs.Prelude.{Contains, Option, Some, None, ◌==◌, nat_lt, cond, is_some, slice_index_or, slice_set}
 use Rattle.std.proofs.lemmas.List.{get_or-set_same, get_or-set_other, get_or_past}
 use Rattle.std.proofs.lemmas.Bool.{true≢false, cases_eq, cases_lt, eq-eqb, eqb-true, ne_eqb, or_cases, or_left, or_right, not_from_true, not_from_false}
 use Rattle.graph_model.specs.declared.meaning.outcome.End.{End}
 use Rattle.basics.proofs.ListFacts.{passes_some, some_passes, filter_contains, contains_filter}
 use Rattle.run_state.specs.Run.{LineStage, Unissued, Issued, Out, Ending, Ended, is_listed, stage_at, stage_issued, stage_out, stage_started, stage_over, stage_ended, kept_end, end_so_far}
-use Rattle.run_state.specs.Moves.{without}
+use Rattle.run_state.specs.Moves.{inserted, without}
 
 -- what holds of each entry, where one is set
 pub each_set : {X : Type 0} (P : ℕ → X → Type 0) (xs : List X) (d : X) (i : ℕ) (x : X) → i < length xs → P i x → ((k : ℕ) → (k ≡ i → ⊥) → P k (slice_index_or xs k d)) →
@@ -46,6 +46,38 @@ listed_without q k ks h =
 
 pub without_listed : (q k : ℕ) (ks : List ℕ) → is_listed ks k ≡ true → (k ≡ q → ⊥) → is_listed (without q ks) k ≡ true
 without_listed q k ks h ne = contains_listed (without q ks) k (contains_filter (λ k. not (k == q)) ks k (listed_contains ks k h) (not_from_false (k == q) (ne_eqb k q ne)))
+
+-- a number put into a list
+module _ (q j k : ℕ) (ks rest : List ℕ) where
+  put_there : (b : Bool) → (is_listed (k ∷ ks) j ≡ true → is_listed (k ∷ rest) j ≡ true) → is_listed (k ∷ ks) j ≡ true → is_listed (cond b (q ∷ k ∷ ks) (k ∷ rest)) j ≡ true
+  put_there true more h = listed_there q j (k ∷ ks) h
+  put_there false more h = more h
+
+  put_cases : (b : Bool) → (is_listed rest j ≡ true → (j ≡ q) ⊎ (is_listed ks j ≡ true)) → is_listed (cond b (q ∷ k ∷ ks) (k ∷ rest)) j ≡ true → (j ≡ q) ⊎ (is_listed (k ∷ ks) j ≡ true)
+  put_cases true old h = listed_cases q j (k ∷ ks) h
+  put_cases false old h = elim (listed_cases k j rest h) [
+    | inl e ↦ inr (subst (λ z. is_listed (k ∷ ks) z ≡ true) (sym e) (listed_here k ks))
+    | inr r ↦ elim (old r) [ inl e ↦ inl e | inr o ↦ inr (listed_there k j ks o) ]
+  ]
+
+put_here : (q k : ℕ) (ks rest : List ℕ) (b : Bool) → is_listed rest q ≡ true → is_listed (cond b (q ∷ k ∷ ks) (k ∷ rest)) q ≡ true
+put_here q k ks rest true h = listed_here q (k ∷ ks)
+put_here q k ks rest false h = listed_there k q rest h
+
+pub inserted_here : (q : ℕ) (ks : List ℕ) → is_listed (inserted q ks) q ≡ true
+inserted_here q [] = listed_here q []
+inserted_here q (k ∷ ks) = put_here q k ks (inserted q ks) (nat_lt q k) (inserted_here q ks)
+
+pub inserted_there : (q j : ℕ) (ks : List ℕ) → is_listed ks j ≡ true → is_listed (inserted q ks) j ≡ true
+inserted_there q j [] h = absurd (none_listed j h)
+inserted_there q j (k ∷ ks) h = put_there q j k ks (inserted q ks) (nat_lt q k) (λ l. elim (listed_cases k j ks l) [
+  | inl e ↦ subst (λ z. is_listed (k ∷ inserted q ks) z ≡ true) (sym e) (listed_here k (inserted q ks))
+  | inr r ↦ listed_there k j (inserted q ks) (inserted_there q j ks r)
+]) h
+
+pub inserted_cases : (q j : ℕ) (ks : List ℕ) → is_listed (inserted q ks) j ≡ true → (j ≡ q) ⊎ (is_listed ks j ≡ true)
+inserted_cases q j [] h = listed_cases q j [] h
+inserted_cases q j (k ∷ ks) h = put_cases q j k ks (inserted q ks) (nat_lt q k) (inserted_cases q j ks) h
 
 pub map_same : {X Y : Type 0} (f h : X → Y) (xs : List X) → ((x : X) → f x ≡ h x) → map f xs ≡ map h xs
 map_same f h [] e = refl

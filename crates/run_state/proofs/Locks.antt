@@ -2,19 +2,38 @@
 use Rattle.std.proofs.Common.{◌≡◌, ℕ, ◌<◌, true, ◌⊎◌, inl, inr, List, [], ◌∷◌, length, refl, sym, ◌∙◌, ap, subst, length-set}
 use Rattle.std.specs.Prelude.{◌≢◌, slice_set}
 use Rattle.std.proofs.lemmas.Bool.{true≢false, cases_eq}
+use Rattle.std.proofs.lemmas.List.{get_or-set_same}
 use Rattle.graph_model.specs.declared.meaning.outcome.End.TheVariants.{Done, Cancelled}
 use Rattle.graph_model.specs.graph.Graph.{GraphValue}
-use Rattle.graph_model.specs.meaning.Rules.{Acquires, Releases}
+use Rattle.graph_model.specs.meaning.Rules.{Acquires, Releases, both_shared}
 use Rattle.graph_model.specs.meaning.Evaluation.{eval_end}
 use Rattle.run_state.specs.Run.{Run, is_listed, stage_at, list_at, started, over, ended, timed}
 use Rattle.run_state.specs.Sound.{SoundLocks, Sound}
-use Rattle.run_state.specs.Moves.{hold, without, let_go, free}
-use Rattle.run_state.proofs.Lists.{each_set, listed_here, listed_there, listed_cases, listed_without, without_listed, none_listed, out_started, out_not_ended}
+use Rattle.run_state.specs.Moves.{inserted, hold, without, let_go, free}
+use Rattle.run_state.proofs.Lists.{each_set, inserted_here, inserted_there, inserted_cases, listed_here, listed_there, listed_cases, listed_without, without_listed, out_started, out_not_ended}
 use Rattle.graph_model.proofs.ReleaseFacts.{acquired_lock_known}
-use Rattle.graph_model.proofs.VerbFacts.{release_one, acquire_one}
-use Rattle.run_state.proofs.Columns.{with_one, one_more, one_cases}
+use Rattle.graph_model.proofs.VerbFacts.{release_one, acquire_one, both_shared_swap}
 use Rattle.run_state.proofs.SoundParts.{with_locks}
 use Rattle.run_state.specs.Premises.{MayHold, MayLetGo, MayFree}
+
+-- one number more in one of the lists
+module _ (lists : List (List ℕ)) (l q : ℕ) (there : l < length lists) where
+  unfoldable pub with_holder : List (List ℕ)
+  with_holder = slice_set lists l (inserted q (list_at lists l))
+
+  pub holder_more : (m k : ℕ) → is_listed (list_at lists m) k ≡ true → is_listed (list_at with_holder m) k ≡ true
+  unfolding with_holder
+  holder_more = each_set (λ m ks. (k : ℕ) → is_listed (list_at lists m) k ≡ true → is_listed ks k ≡ true) lists [] l (inserted q (list_at lists l)) there
+      (λ k h. inserted_there q k (list_at lists l) h) (λ m ne k h. h)
+
+  pub holder_new : is_listed (list_at with_holder l) q ≡ true
+  unfolding with_holder
+  holder_new = subst (λ ks. is_listed ks q ≡ true) (sym (get_or-set_same lists l (inserted q (list_at lists l)) [] there)) (inserted_here q (list_at lists l))
+
+  pub holder_cases : (m k : ℕ) → is_listed (list_at with_holder m) k ≡ true → ((m ≡ l) × (k ≡ q)) ⊎ (is_listed (list_at lists m) k ≡ true)
+  unfolding with_holder
+  holder_cases = each_set (λ m ks. (k : ℕ) → is_listed ks k ≡ true → ((m ≡ l) × (k ≡ q)) ⊎ (is_listed (list_at lists m) k ≡ true)) lists [] l (inserted q (list_at lists l)) there
+      (λ k h. elim (inserted_cases q k (list_at lists l) h) [ inl e ↦ inl (refl, e) | inr r ↦ inr r ]) (λ m ne k h. inr h)
 
 -- one number fewer in one of the lists
 module _ (lists : List (List ℕ)) (l q : ℕ) (there : l < length lists) where
@@ -35,32 +54,32 @@ module _ (lists : List (List ℕ)) (l q : ℕ) (there : l < length lists) where
 lock_there : {g : GraphValue} {run : Run} → Sound g run → (l q : ℕ) → Acquires g q l → l < length run.holders
 lock_there {g} {run} s l q a = subst (λ n. l < n) (sym s.on_locks.each_lock) (acquired_lock_known g s.graph q l a)
 
-hold_locks : {g : GraphValue} {run : Run} → Sound g run → (l q : ℕ) → MayHold g run l q → SoundLocks g run.stages run.times (slice_set run.holders l (q ∷ list_at run.holders l)) run.freed
-unfolding with_one
+hold_locks : {g : GraphValue} {run : Run} → Sound g run → (l q : ℕ) → MayHold g run l q → SoundLocks g run.stages run.times (slice_set run.holders l (inserted q (list_at run.holders l))) run.freed
+unfolding with_holder
 hold_locks {g} {run} s l q m =
     let t = s.on_locks in
     let there = lock_there s l q m.acquires in
-    let nobody : (k : ℕ) → is_listed (list_at run.holders l) k ≡ true → ⊥ = λ k h. none_listed k (subst (λ ks. is_listed ks k ≡ true) m.is_free h) in
+    let beside : (j k : ℕ) → j ≡ l → is_listed (list_at run.holders j) k ≡ true → both_shared g q k ≡ true = λ j k e h. m.is_free k (subst (λ x. is_listed (list_at run.holders x) k ≡ true) e h) in
     record {
-      each_lock = length-set run.holders l (q ∷ list_at run.holders l) ∙ t.each_lock;
-      holder_acquires = λ j k h. elim (one_cases run.holders l q there j k h) [ inl e ↦ subst (λ x. Acquires g k x) (sym e.0) (subst (λ x. Acquires g x l) (sym e.1) m.acquires) | inr r ↦ t.holder_acquires j k r ];
-      holder_started = λ j k h. elim (one_cases run.holders l q there j k h) [ inl e ↦ ap (started run.stages) e.1 ∙ out_started (stage_at run.stages q) m.is_out | inr r ↦ t.holder_started j k r ];
-      holder_not_cancelled = λ j k h. elim (one_cases run.holders l q there j k h) [ inl e ↦ subst (λ x. eval_end g x ≢ Cancelled) (sym e.1) m.not_cancelled | inr r ↦ t.holder_not_cancelled j k r ];
-      holder_alone = λ j a b ha hb. elim (one_cases run.holders l q there j a ha) [
-        | inl ea ↦ elim (one_cases run.holders l q there j b hb) [
-          | inl eb ↦ ea.1 ∙ sym eb.1
-          | inr rb ↦ absurd (nobody b (subst (λ x. is_listed (list_at run.holders x) b ≡ true) ea.0 rb))
+      each_lock = length-set run.holders l (inserted q (list_at run.holders l)) ∙ t.each_lock;
+      holder_acquires = λ j k h. elim (holder_cases run.holders l q there j k h) [ inl e ↦ subst (λ x. Acquires g k x) (sym e.0) (subst (λ x. Acquires g x l) (sym e.1) m.acquires) | inr r ↦ t.holder_acquires j k r ];
+      holder_started = λ j k h. elim (holder_cases run.holders l q there j k h) [ inl e ↦ ap (started run.stages) e.1 ∙ out_started (stage_at run.stages q) m.is_out | inr r ↦ t.holder_started j k r ];
+      holder_not_cancelled = λ j k h. elim (holder_cases run.holders l q there j k h) [ inl e ↦ subst (λ x. eval_end g x ≢ Cancelled) (sym e.1) m.not_cancelled | inr r ↦ t.holder_not_cancelled j k r ];
+      holder_alone = λ j a b ha hb ne. elim (holder_cases run.holders l q there j a ha) [
+        | inl ea ↦ elim (holder_cases run.holders l q there j b hb) [
+          | inl eb ↦ absurd (ne (ea.1 ∙ sym eb.1))
+          | inr rb ↦ subst (λ x. both_shared g x b ≡ true) (sym ea.1) (beside j b ea.0 rb)
         ]
-        | inr ra ↦ elim (one_cases run.holders l q there j b hb) [
-          | inl eb ↦ absurd (nobody a (subst (λ x. is_listed (list_at run.holders x) a ≡ true) eb.0 ra))
-          | inr rb ↦ t.holder_alone j a b ra rb
+        | inr ra ↦ elim (holder_cases run.holders l q there j b hb) [
+          | inl eb ↦ subst (λ x. both_shared g a x ≡ true) (sym eb.1) (both_shared_swap g a q ∙ beside j a eb.0 ra)
+          | inr rb ↦ t.holder_alone j a b ra rb ne
         ]
       ];
-      timed_holds = λ j k a h n. elim (t.timed_holds j k a h n) [ inl held ↦ inl (one_more run.holders l q there j k held) | inr f ↦ inr f ];
+      timed_holds = λ j k a h n. elim (t.timed_holds j k a h n) [ inl held ↦ inl (holder_more run.holders l q there j k held) | inr f ↦ inr f ];
       freed_over = t.freed_over;
       freed_ended = t.freed_ended;
       freed_done = t.freed_done;
-      freed_gone = λ j k r rel f h. elim (one_cases run.holders l q there j k h) [
+      freed_gone = λ j k r rel f h. elim (holder_cases run.holders l q there j k h) [
         | inl e ↦ true≢false (sym (t.freed_ended r k rel f) ∙ (ap (ended run.stages) e.1 ∙ out_not_ended (stage_at run.stages q) m.is_out))
         | inr old ↦ t.freed_gone j k r rel f old
       ];
@@ -69,7 +88,7 @@ hold_locks {g} {run} s l q m =
 
 -- a reservation taken
 pub hold-sound : {g : GraphValue} {run : Run} → Sound g run → (l q : ℕ) → MayHold g run l q → Sound g (hold run l q)
-hold-sound {g} {run} s l q m = with_locks s (slice_set run.holders l (q ∷ list_at run.holders l)) run.freed (hold_locks s l q m)
+hold-sound {g} {run} s l q m = with_locks s (slice_set run.holders l (inserted q (list_at run.holders l))) run.freed (hold_locks s l q m)
 
 -- one holder fewer
 less_locks : {g : GraphValue} {run : Run} → Sound g run → (l q : ℕ) → Acquires g q l → (freed : List ℕ)
@@ -87,7 +106,7 @@ less_locks {g} {run} s l q a freed timed_holds freed_over freed_ended freed_done
       holder_acquires = λ j k h. t.holder_acquires j k (was j k h);
       holder_started = λ j k h. t.holder_started j k (was j k h);
       holder_not_cancelled = λ j k h. t.holder_not_cancelled j k (was j k h);
-      holder_alone = λ j k i hk hi. t.holder_alone j k i (was j k hk) (was j i hi);
+      holder_alone = λ j k i hk hi ne. t.holder_alone j k i (was j k hk) (was j i hi) ne;
       timed_holds = timed_holds;
       freed_over = freed_over;
       freed_ended = freed_ended;

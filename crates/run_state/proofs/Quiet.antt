@@ -1,5 +1,5 @@
 -- In a quiet state no reservation is held, each line that is left waits in the evaluation, and the ends are those of the evaluation.
-use Rattle.std.proofs.Common.{◌≡◌, ℕ, zero, suc, ◌+◌, ◌<◌, ◌≤◌, true, false, inl, inr, List, length, refl, sym, ◌∙◌, ap, subst, arith}
+use Rattle.std.proofs.Common.{◌≡◌, ℕ, zero, suc, ◌+◌, ◌<◌, ◌≤◌, Bool, true, false, inl, inr, List, length, refl, sym, ◌∙◌, ap, subst, arith}
 use Rattle.std.specs.Prelude.{◌≢◌, Option, Some}
 use Rattle.std.specs.Option.{option_map_or}
 use Rattle.std.proofs.lemmas.Bool.{true≢false, cases_Bool, cases_lt, false_from_ne_true}
@@ -8,7 +8,7 @@ use Rattle.graph_model.specs.declared.meaning.outcome.Verdict.TheVariants.{Fine}
 use Rattle.graph_model.specs.declared.meaning.outcome.End.TheVariants.{Done, Cancelled, Waiting}
 use Rattle.graph_model.specs.declared.graph.verb.Verb.{Verb}
 use Rattle.graph_model.specs.declared.graph.verb.Verb.TheVariants.{Acquire, Release}
-use Rattle.graph_model.specs.graph.Graph.{GraphValue, space_at, never_comes, never_comes_as, verb_at, locks, is_acquire_of, is_release_of}
+use Rattle.graph_model.specs.graph.Graph.{GraphValue, space_at, never_comes, never_comes_as, verb_at, locks, is_acquire_of, is_shared, is_release_of}
 use Rattle.graph_model.specs.graph.Edges.{edges}
 use Rattle.graph_model.specs.meaning.Rules.{Acquires, Releases}
 use Rattle.graph_model.specs.meaning.Effect.{Cells, effect, verb_verdict}
@@ -29,8 +29,8 @@ use Rattle.run_state.proofs.Stuck.{Blocked, stuck_ended, stuck_issued, blocked}
 use Rattle.graph_model.proofs.EdgeFacts.{never_with_path}
 
 -- the end of an acquire that is not cancelled
-verdict_of : (space : ℕ → List (ℕ × ℕ)) (cells : Cells) (o : Option Verb) (l : ℕ) → o ≡ Some (Acquire l) → option_map_or (verb_verdict space cells) o Fine ≡ Fine
-verdict_of space cells o l e = ap (λ (x : Option Verb). option_map_or (verb_verdict space cells) x Fine) e
+verdict_of : (space : ℕ → List (ℕ × ℕ)) (cells : Cells) (o : Option Verb) (l : ℕ) (shared : Bool) → o ≡ Some (Acquire l shared) → option_map_or (verb_verdict space cells) o Fine ≡ Fine
+verdict_of space cells o l shared e = ap (λ (x : Option Verb). option_map_or (verb_verdict space cells) x Fine) e
 
 pub fine_done : (g : GraphValue) (i : ℕ) → ((cells : Cells) → (effect g i cells).verdict ≡ Fine) → has_ended (evaluation g) i ≡ true → eval_end g i ≢ Cancelled → eval_end g i ≡ Done
 fine_done g i fine h ne =
@@ -41,14 +41,14 @@ fine_done g i fine h ne =
 pub acquire_done : (g : GraphValue) (q l : ℕ) → Acquires g q l → has_ended (evaluation g) q ≡ true → eval_end g q ≢ Cancelled → eval_end g q ≡ Done
 acquire_done g q l a h ne =
     let v = passes_verb (is_acquire_of l) g q a in
-    fine_done g q (λ cells. verdict_of (space_at g) cells (verb_at g q) l (v.1 ∙ ap Some (acquire_of_is l v.0 v.2))) h ne
+    fine_done g q (λ cells. verdict_of (space_at g) cells (verb_at g q) l (is_shared v.0) (v.1 ∙ ap Some (acquire_of_is l v.0 v.2))) h ne
 
 -- a line that releases acquires nothing and comes
 pub release_no_acquire : (g : GraphValue) (r q l : ℕ) → Releases g r q → Acquires g r l → ⊥
 release_no_acquire g r q l rel acq =
     let v = passes_verb (is_release_of q) g r rel in
     let a : is_acquire_of l v.0 ≡ true = sym (verb_passes (is_acquire_of l) g r v.0 v.1) ∙ acq in
-    let both : Acquire l ≡ Release q = sym (acquire_of_is l v.0 a) ∙ release_of_is q v.0 v.2 in
+    let both : Acquire l (is_shared v.0) ≡ Release q = sym (acquire_of_is l v.0 a) ∙ release_of_is q v.0 v.2 in
     cc
 
 pub release_comes : (g : GraphValue) (r q : ℕ) → Releases g r q → never_comes g r ≡ false

@@ -1,14 +1,15 @@
 -- In a quiet state the ended lines, by their times, are a lawful trace.
-use Rattle.std.proofs.Common.{◌≡◌, ℕ, ◌<◌, ◌≤◌, true, ◌⊎◌, inl, inr, List, length, sym, ◌∙◌, ap, subst, arith}
+use Rattle.std.proofs.Common.{◌≡◌, ℕ, ◌<◌, ◌≤◌, true, false, ◌⊎◌, inl, inr, List, length, sym, ◌∙◌, ap, subst, arith}
 use Rattle.std.specs.Prelude.{Contains, ◌≢◌, Some, slice_get}
 use Rattle.std.proofs.lemmas.Bool.{cases_order}
 use Rattle.std.proofs.lemmas.Option.{same_Some, slice_get_within, slice_get-get_or}
 use Rattle.graph_model.specs.declared.meaning.outcome.End.{End}
 use Rattle.graph_model.specs.declared.meaning.outcome.End.TheVariants.{Done, Cancelled}
 use Rattle.graph_model.specs.graph.Graph.{GraphValue}
-use Rattle.graph_model.specs.meaning.Rules.{Acquires, Releases}
+use Rattle.graph_model.specs.meaning.Rules.{Acquires, Releases, both_shared}
 use Rattle.graph_model.specs.meaning.Evaluation.{is_ended, eval_end}
 use Rattle.basics.proofs.ListFacts.{count_below-max, got_contains}
+use Rattle.graph_model.proofs.VerbFacts.{both_shared_swap}
 use Rattle.graph_model.specs.meaning.Trace.{StandsBefore, IsLawful}
 use Rattle.run_state.specs.Run.{Run, stage_at, time_at, ended, timed}
 use Rattle.run_state.specs.Sound.{Sound}
@@ -80,16 +81,16 @@ module _ (g : GraphValue) (run : Run) (s : Sound g run) (q : Quiet g run) (trace
         | inr (inr above) ↦ (let x : u.0 < u.0 = t.ascending m k i i u.0 u.0 em ek above u.1 u.1 in absurd (omega arith))
       ]
 
-  sections : (l a b : ℕ) → Acquires g a l → Acquires g b l → a ≢ b → eval_end g a ≡ Done → eval_end g b ≡ Done →
+  sections : (l a b : ℕ) → Acquires g a l → Acquires g b l → a ≢ b → both_shared g a b ≡ false → eval_end g a ≡ Done → eval_end g b ≡ Done →
       ((r : ℕ) × Releases g r a × StandsBefore trace r b) ⊎ ((r : ℕ) × Releases g r b × StandsBefore trace r a)
-  sections l a b qa qb ne da db =
+  sections l a b qa qb ne apart da db =
       let ua = time_of a (evaluation_ended g run s q a (ap is_ended da)) in
       let ub = time_of b (evaluation_ended g run s q b (ap is_ended db)) in
       elim (cases_order ua.0 ub.0) [
         | inl same ↦ absurd (ne (s.on_times.distinct a b ub.0 (ua.1 ∙ ap Some same) ub.1))
-        | inr (inl below) ↦ inl (let r = s.on_times.sections_first l a b ua.0 ub.0 qa qb (done_not_cancelled (eval_end g a) da) (done_not_cancelled (eval_end g b) db) ua.1 ub.1 below in
+        | inr (inl below) ↦ inl (let r = s.on_times.sections_first l a b ua.0 ub.0 qa qb apart (done_not_cancelled (eval_end g a) da) (done_not_cancelled (eval_end g b) db) ua.1 ub.1 below in
             (r.0, r.2, by_times r.0 b r.1 ub.0 r.3 ub.1 r.4))
-        | inr (inr above) ↦ inr (let r = s.on_times.sections_first l b a ub.0 ua.0 qb qa (done_not_cancelled (eval_end g b) db) (done_not_cancelled (eval_end g a) da) ub.1 ua.1 above in
+        | inr (inr above) ↦ inr (let r = s.on_times.sections_first l b a ub.0 ua.0 qb qa (both_shared_swap g b a ∙ apart) (done_not_cancelled (eval_end g b) db) (done_not_cancelled (eval_end g a) da) ub.1 ua.1 above in
             (r.0, r.2, by_times r.0 a r.1 ua.0 r.3 ua.1 r.4))
       ]
 

@@ -130,6 +130,6 @@ module _ (g : GraphValue) (f : IsGraph g) (accepted : Accepted g) where
       all_drawn = λ t h. absurd (omega arith);
       clock_counts = sym (none_counted (timed (start g).times) (λ i h. not_timed i h) (length g.lines));
       sources_first = λ e c a b ea. absurd (no_time e.from a ea);
-      sections_first = λ l q k a b aq ak nq nk ea. absurd (no_time q a ea);
+      sections_first = λ l q k a b aq ak apart nq nk ea. absurd (no_time q a ea);
     };
   }

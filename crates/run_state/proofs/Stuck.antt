@@ -1,5 +1,5 @@
 -- A state in which nothing is out and nothing can be taken: what stands in the way of a line that is ready is a holder of its reservation.
-use Rattle.std.proofs.Common.{◌≡◌, ℕ, ◌<◌, true, false, inl, inr, List, [], ◌∷◌, refl, sym, ◌∙◌, ap}
+use Rattle.std.proofs.Common.{◌≡◌, ℕ, ◌<◌, true, false, inl, inr, List, [], ◌∷◌, refl, sym, ◌∙◌, ap, subst}
 use Rattle.std.specs.Prelude.{◌≢◌, Option, Some, None}
 use Rattle.std.proofs.lemmas.Bool.{true≢false, eq-eqb}
 use Rattle.std.proofs.lemmas.Option.{none-some}
@@ -7,9 +7,9 @@ use Rattle.graph_model.specs.declared.graph.verb.Verb.{Verb}
 use Rattle.graph_model.specs.graph.Graph.{GraphValue, verb_at, is_acquire_of}
 use Rattle.graph_model.specs.meaning.Rules.{Acquires}
 use Rattle.run_state.specs.Run.{LineStage, Unissued, Issued, Out, Ending, Ended, Run, Had, is_listed, stage_at, place_at, list_at, stage_issued, stage_out, stage_over, stage_ended, started, ended}
-use Rattle.run_state.specs.Sound.{Sound}
+use Rattle.run_state.specs.Sound.{IsOpenTo, Sound}
 use Rattle.run_state.specs.Quiet.{IsFree, Stuck}
-use Rattle.run_state.proofs.Lists.{listed_here, started_cases}
+use Rattle.run_state.proofs.Lists.{listed_here, none_listed, started_cases}
 use Rattle.graph_model.proofs.VerbFacts.{acquire_one, passes_verb, verb_passes, acquire_some}
 
 -- what is left of the stages where no line is out or ending
@@ -40,16 +40,16 @@ module _ (g : GraphValue) (run : Run) (s : Sound g run) (k : ℕ) (q : Stuck g r
   pub stuck_home : (c i : ℕ) → place_at run.places c ≢ Had i
   stuck_home c i e = true≢false (sym (s.on_columns.had_out c i e) ∙ q.none_out i)
 
-  holder_of : (l : ℕ) (ks : List ℕ) → list_at run.holders l ≡ ks → (list_at run.holders l ≡ [] → ⊥) → (h : ℕ) × (is_listed (list_at run.holders l) h ≡ true)
-  holder_of l [] e ne = absurd (ne e)
-  holder_of l (h ∷ hs) e ne = (h, ap (λ ks. is_listed ks h) e ∙ listed_here h hs)
+  holder_of : (l m : ℕ) (ks : List ℕ) → list_at run.holders l ≡ ks → (IsOpenTo g run.holders l m → ⊥) → (h : ℕ) × (is_listed (list_at run.holders l) h ≡ true)
+  holder_of l m [] e ne = absurd (ne (λ h held. absurd (none_listed h (ap (λ ks. is_listed ks h) (sym e) ∙ held))))
+  holder_of l m (h ∷ hs) e ne = (h, ap (λ ks. is_listed ks h) e ∙ listed_here h hs)
 
   blocked_by : (m : ℕ) → (IsFree g run m → ⊥) → (o : Option Verb) → verb_at g m ≡ o → Blocked g run m
   blocked_by m not_free None e = absurd (not_free (inr ((λ l b. let v = passes_verb (is_acquire_of l) g m b in absurd (none-some v.0 (sym e ∙ v.1))), λ c x j. stuck_home c j)))
   blocked_by m not_free (Some v) e = elim (acquire_some v) [
     | inl a ↦ (
-        let own : Acquires g m a.0 = verb_passes (is_acquire_of a.0) g m v e ∙ (ap (is_acquire_of a.0) a.1 ∙ eq-eqb a.0 a.0 refl) in
-        (a.0, own, holder_of a.0 (list_at run.holders a.0) refl (λ z. not_free (inr ((λ l b. ap (list_at run.holders) (acquire_one g m l a.0 b own) ∙ z), λ c x j. stuck_home c j)))))
+        let own : Acquires g m a.0 = verb_passes (is_acquire_of a.0) g m v e ∙ (ap (is_acquire_of a.0) a.2 ∙ eq-eqb a.0 a.0 refl) in
+        (a.0, own, holder_of a.0 m (list_at run.holders a.0) refl (λ z. not_free (inr ((λ l b. subst (λ x. IsOpenTo g run.holders x m) (sym (acquire_one g m l a.0 b own)) z), λ c x j. stuck_home c j)))))
     | inr n ↦ absurd (not_free (inr ((λ l b. absurd (n l (sym (verb_passes (is_acquire_of l) g m v e) ∙ b))), λ c x j. stuck_home c j)))
   ]
 

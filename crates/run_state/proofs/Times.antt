@@ -1,13 +1,13 @@
 -- A line that draws its time keeps the state sound.
-use Rattle.std.proofs.Common.{◌≡◌, ℕ, ◌+◌, ◌<◌, true, ◌⊎◌, inl, inr, List, length, refl, sym, ◌∙◌, ap, subst, length-set, arith}
+use Rattle.std.proofs.Common.{◌≡◌, ℕ, ◌+◌, ◌<◌, true, false, ◌⊎◌, inl, inr, List, length, refl, sym, ◌∙◌, ap, subst, length-set, arith}
 use Rattle.std.specs.Prelude.{◌≢◌, Option, Some, None, is_some, slice_set}
 use Rattle.std.proofs.lemmas.List.{get_or-set_same, get_or-set_other}
-use Rattle.std.proofs.lemmas.Bool.{true≢false, cases_order}
+use Rattle.std.proofs.lemmas.Bool.{true≢false, cases_eq, cases_order}
 use Rattle.std.proofs.lemmas.Option.{none-some, same_Some}
 use Rattle.graph_model.specs.declared.meaning.outcome.End.TheVariants.{Cancelled}
 use Rattle.graph_model.specs.graph.Graph.{GraphValue}
 use Rattle.graph_model.specs.meaning.Path.{last}
-use Rattle.graph_model.specs.meaning.Rules.{Acquires, Releases}
+use Rattle.graph_model.specs.meaning.Rules.{Acquires, Releases, both_shared}
 use Rattle.graph_model.specs.meaning.Evaluation.{eval_end}
 use Rattle.run_state.specs.Run.{Run, is_listed, stage_at, time_at, list_at, started, over, ended, timed}
 use Rattle.run_state.specs.Sound.{SoundLocks, SoundTimes, Sound}
@@ -37,10 +37,13 @@ module _ (g : GraphValue) (run : Run) (s : Sound g run) (i : ℕ) (m : MayDraw g
   earlier : (k t : ℕ) → time_at run.times k ≡ Some t → t < run.clock
   earlier = s.on_times.below_clock
 
-  section_before : (l q t : ℕ) → Acquires g q l → Acquires g i l → eval_end g q ≢ Cancelled → eval_end g i ≢ Cancelled → time_at run.times q ≡ Some t →
+  section_before : (l q t : ℕ) → Acquires g q l → Acquires g i l → both_shared g q i ≡ false → eval_end g q ≢ Cancelled → eval_end g i ≢ Cancelled → time_at run.times q ≡ Some t →
       (r u : ℕ) × Releases g r q × (time_at drawn r ≡ Some u) × (u < run.clock)
-  section_before l q t aq ai nq ni e = elim (s.on_locks.timed_holds l q aq (is_some_of (time_at run.times q) t e) nq) [
-    | inl held ↦ absurd (none-some t (sym m.untimed ∙ (ap (time_at run.times) (sym (s.on_locks.holder_alone l q i held (m.holds l ai ni))) ∙ e)))
+  section_before l q t aq ai apart nq ni e = elim (s.on_locks.timed_holds l q aq (is_some_of (time_at run.times q) t e) nq) [
+    | inl held ↦ elim (cases_eq q i) [
+      | inl same ↦ absurd (none-some t (sym m.untimed ∙ (ap (time_at run.times) (sym same) ∙ e)))
+      | inr ne ↦ absurd (true≢false (sym (s.on_locks.holder_alone l q i held (m.holds l ai ni) ne) ∙ apart))
+    ]
     | inr f ↦ (let u = some_is (time_at run.times f.0) (s.on_times.over_timed f.0 (s.on_locks.freed_over f.0 f.2)) in
         (f.0, u.0, f.1, time_stays f.0 u.0 u.1, earlier f.0 u.0 u.1))
   ]
@@ -85,15 +88,15 @@ module _ (g : GraphValue) (run : Run) (s : Sound g run) (i : ℕ) (m : MayDraw g
             | inr both ↦ t.sources_first e c u v old both
           ]
         ];
-        sections_first = λ l q k u v aq ak nq nk eu ev less. elim (time_cases q u eu) [
+        sections_first = λ l q k u v aq ak apart nq nk eu ev less. elim (time_cases q u eu) [
           | inl new ↦ elim (time_cases k v ev) [
             | inl both ↦ (let y : run.clock ≡ u = new.1 in let z : run.clock ≡ v = both.1 in absurd (omega arith))
             | inr old ↦ (let x : v < run.clock = earlier k v old in let y : run.clock ≡ u = new.1 in absurd (omega arith))
           ]
           | inr old ↦ elim (time_cases k v ev) [
-            | inl new ↦ (let b = section_before l q u aq (subst (λ x. Acquires g x l) new.0 ak) nq (subst (λ x. eval_end g x ≢ Cancelled) new.0 nk) old in
+            | inl new ↦ (let b = section_before l q u aq (subst (λ x. Acquires g x l) new.0 ak) (subst (λ x. both_shared g q x ≡ false) new.0 apart) nq (subst (λ x. eval_end g x ≢ Cancelled) new.0 nk) old in
                 (b.0, b.1, b.2, b.3, subst (λ x. b.1 < x) new.1 b.4))
-            | inr both ↦ (let b = t.sections_first l q k u v aq ak nq nk old both less in (b.0, b.1, b.2, time_stays b.0 b.1 b.3, b.4))
+            | inr both ↦ (let b = t.sections_first l q k u v aq ak apart nq nk old both less in (b.0, b.1, b.2, time_stays b.0 b.1 b.3, b.4))
           ]
         ];
       }

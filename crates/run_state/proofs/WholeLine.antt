@@ -16,14 +16,14 @@ use Rattle.graph_model.specs.meaning.Evaluation.{eval_end}
 use Rattle.basics.proofs.ListFacts.{contains_map, map_contains}
 use Rattle.run_state.specs.Run.{LineStage, Unissued, Issued, Out, Place, Home, Had, Run, is_listed, stage_at, place_at, list_at, stage_issued, stage_out, stage_started, stage_over, stage_ended, started, ended, timed}
 use Rattle.run_state.specs.Sound.{AccessesColumn, Sound}
-use Rattle.run_state.specs.Moves.{claim, column_out}
+use Rattle.run_state.specs.Moves.{claim, column_out, inserted}
 use Rattle.run_state.specs.WholeLine.{column_list, lock_by, lock_of, all_had, columns_out, holders_with, hold_some, take_whole}
 use Rattle.run_state.proofs.Lists.{each_set, listed_contains, contains_listed, listed_here, listed_there, listed_cases, none_listed, stage_there}
 use Rattle.run_state.proofs.Known.{column_there, columns_fresh}
 use Rattle.graph_model.proofs.ReleaseFacts.{acquired_lock_known}
-use Rattle.run_state.proofs.Columns.{with_one, one_more, one_new, column_out-sound}
+use Rattle.run_state.proofs.Columns.{column_out-sound}
 use Rattle.run_state.proofs.Stages.{claim-sound}
-use Rattle.run_state.proofs.Locks.{hold-sound}
+use Rattle.run_state.proofs.Locks.{with_holder, holder_more, holder_new, hold-sound}
 use Rattle.graph_model.proofs.VerbFacts.{passes_verb, acquire_of_is}
 use Rattle.run_state.proofs.Reductions.{Fresh}
 use Rattle.run_state.specs.AtRest.{AtRest, MayTakeWhole}
@@ -71,7 +71,7 @@ all_had_listed places i (d ∷ cs) c there f h = elim (listed_cases d c cs h) [
 
 -- a reservation where there is one
 lock_is : (l : ℕ) (v : Verb) → lock_by v ≡ Some l → is_acquire_of l v ≡ true
-lock_is l (Acquire k) h = eq-eqb k l (same_Some k l h)
+lock_is l (Acquire k s) h = eq-eqb k l (same_Some k l h)
 lock_is l _ h = absurd (none-some l h)
 
 pub lock_acquires : (g : GraphValue) (q l : ℕ) → lock_of g q ≡ Some l → Acquires g q l
@@ -89,15 +89,15 @@ hold_some-sound s i None m = s
 hold_some-sound s i (Some l) m = hold-sound s l i (m l refl)
 
 held_more : (holders : List (List ℕ)) (i : ℕ) (o : Option ℕ) → ((l : ℕ) → o ≡ Some l → l < length holders) → (l k : ℕ) → is_listed (list_at holders l) k ≡ true → is_listed (list_at (holders_with holders i o) l) k ≡ true
-unfolding with_one
+unfolding with_holder
 held_more holders i None there l k h = h
-held_more holders i (Some j) there l k h = one_more holders j i (there j refl) l k h
+held_more holders i (Some j) there l k h = holder_more holders j i (there j refl) l k h
 
 held_new : (holders : List (List ℕ)) (i l : ℕ) (o : Option ℕ) → o ≡ Some l → l < length holders → is_listed (list_at (holders_with holders i o) l) i ≡ true
-unfolding with_one
+unfolding with_holder
 held_new holders i l None e there = absurd (none-some l e)
 held_new holders i l (Some j) e there = let same : j ≡ l = same_Some j l e in
-    subst (λ z. is_listed (list_at (slice_set holders z (i ∷ list_at holders z)) l) i ≡ true) (sym same) (one_new holders l i there)
+    subst (λ z. is_listed (list_at (slice_set holders z (inserted i (list_at holders z))) l) i ≡ true) (sym same) (holder_new holders l i there)
 
 -- a line that goes on to a stage before its end leaves the run at rest, where each line keeps what it had
 pub goes_at_rest : {g : GraphValue} {run : Run} → AtRest g run → (i : ℕ) (s : LineStage) (places : List Place) (holders : List (List ℕ)) → i < length run.stages → stage_over s ≡ false → ended run.stages i ≡ false

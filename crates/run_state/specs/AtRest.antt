@@ -1,5 +1,5 @@
 -- What holds where whole lines are taken and put back.
-use Rattle.std.specs.Prelude.{◌≡◌, ◌≢◌, ℕ, false, List, [], Contains, IsTrue}
+use Rattle.std.specs.Prelude.{◌≡◌, ◌≢◌, ℕ, false, List, Contains, IsTrue}
 use Rattle.graph_model.specs.declared.meaning.outcome.End.{End}
 use Rattle.graph_model.specs.declared.meaning.outcome.End.TheVariants.{Cancelled}
 use Rattle.graph_model.specs.declared.graph.verb.Edge.{Edge}
@@ -8,7 +8,7 @@ use Rattle.graph_model.specs.graph.Edges.{edges}
 use Rattle.graph_model.specs.meaning.Rules.{Acquires}
 use Rattle.graph_model.specs.meaning.Evaluation.{eval_end}
 use Rattle.run_state.specs.Run.{Run, Issued, Out, Had, is_listed, stage_at, place_at, list_at, out, over, ended, timed}
-use Rattle.run_state.specs.Sound.{AccessesColumn}
+use Rattle.run_state.specs.Sound.{AccessesColumn, IsOpenTo}
 use Rattle.run_state.specs.Work.{put_cells}
 
 -- what holds of a run between two such steps, besides that it is sound
@@ -29,7 +29,7 @@ pub record MayTakeWhole (g : GraphValue) (run : Run) (i : ℕ) : Type 0 where
   pub comes : never_comes g i ≡ false
   pub sources : (e : Edge) → Contains (edges g) e → e.to ≡ i → IsTrue (ended run.stages e.from)
   pub not_cancelled : eval_end g i ≢ Cancelled
-  pub lock_free : (l : ℕ) → Acquires g i l → list_at run.holders l ≡ []
+  pub lock_free : (l : ℕ) → Acquires g i l → IsOpenTo g run.holders l i
   pub at_home : (c : ℕ) → AccessesColumn g i c → (k : ℕ) → place_at run.places c ≢ Had k
 
 -- a line that can be put back: it is out, ends as in the evaluation, and left on its columns what it does there

@@ -1,5 +1,5 @@
 -- What must hold for each step.
-use Rattle.std.specs.Prelude.{◌≡◌, ◌≢◌, ℕ, ◌<◌, false, List, [], length, Contains, IsTrue, Some, None, slice_get}
+use Rattle.std.specs.Prelude.{◌≡◌, ◌≢◌, ℕ, ◌<◌, false, List, length, Contains, IsTrue, Some, None, slice_get}
 use Rattle.index_spaces.specs.declared.Op.{Op}
 use Rattle.graph_model.specs.declared.graph.decl.BarrierInfo.{BarrierInfo}
 use Rattle.graph_model.specs.declared.meaning.outcome.End.{End}
@@ -11,7 +11,7 @@ use Rattle.graph_model.specs.graph.Edges.{edges}
 use Rattle.graph_model.specs.meaning.Rules.{Acquires, Releases}
 use Rattle.graph_model.specs.meaning.Evaluation.{eval_end}
 use Rattle.run_state.specs.Run.{Run, Unissued, Issued, Out, Ending, Had, is_listed, stage_at, time_at, place_at, list_at, issued, out, over, ended, timed}
-use Rattle.run_state.specs.Sound.{AccessesColumn, is_arrive, home_cells, value_for}
+use Rattle.run_state.specs.Sound.{AccessesColumn, is_arrive, home_cells, value_for, IsOpenTo}
 use Rattle.run_state.specs.Work.{put_cells}
 
 -- a line that is issued is the next one
@@ -53,12 +53,12 @@ pub record MayPutBackColumn (g : GraphValue) (run : Run) (c i : ℕ) (xs : List 
   pub has : place_at run.places c ≡ Had i
   pub changed : xs ≡ put_cells g i (list_at run.back c) c
 
--- an acquire takes its reservation, which none holds
+-- an acquire takes its reservation, which no other holds but shared ones where it is shared
 pub record MayHold (g : GraphValue) (run : Run) (l q : ℕ) : Type 0 where
   pub is_out : IsTrue (out run.stages q)
   pub acquires : Acquires g q l
   pub not_cancelled : eval_end g q ≢ Cancelled
-  pub is_free : list_at run.holders l ≡ []
+  pub is_free : IsOpenTo g run.holders l q
 
 -- an acquire lets its reservation go before it has a time
 pub record MayLetGo (g : GraphValue) (run : Run) (l q : ℕ) : Type 0 where

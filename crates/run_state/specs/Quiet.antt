@@ -13,13 +13,13 @@ use Rattle.graph_model.specs.graph.Edges.{edges, edges_into}
 use Rattle.graph_model.specs.meaning.Rules.{Acquires}
 use Rattle.graph_model.specs.meaning.Evaluation.{cancels, eval_end, answer_of, outcome}
 use Rattle.graph_model.specs.meaning.Trace.{IsLawful}
-use Rattle.run_state.specs.Run.{LineStage, Run, Issued, Place, Home, Had, stage_at, time_at, place_at, list_at, end_so_far, issued, ended, over, out}
-use Rattle.run_state.specs.Sound.{AccessesColumn}
+use Rattle.run_state.specs.Run.{LineStage, Run, Issued, Place, Home, Had, stage_at, time_at, place_at, end_so_far, issued, ended, over, out}
+use Rattle.run_state.specs.Sound.{AccessesColumn, IsOpenTo}
 
--- what a line needs besides its sources: it is cancelled, or its reservation is free and its columns are at home
+-- what a line needs besides its sources: it is cancelled, or its reservation is open to it and its columns are at home
 abbrev pub IsFree : GraphValue → Run → ℕ → Type 0
 IsFree g run i = (eval_end g i ≡ Cancelled)
-    ⊎ (((l : ℕ) → Acquires g i l → list_at run.holders l ≡ []) × ((c : ℕ) → AccessesColumn g i c → (k : ℕ) → place_at run.places c ≢ Had k))
+    ⊎ (((l : ℕ) → Acquires g i l → IsOpenTo g run.holders l i) × ((c : ℕ) → AccessesColumn g i c → (k : ℕ) → place_at run.places c ≢ Had k))
 
 -- a line that can be taken
 pub record CanTake (g : GraphValue) (run : Run) (i : ℕ) : Type 0 where

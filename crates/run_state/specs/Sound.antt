@@ -11,7 +11,7 @@ use Rattle.graph_model.specs.declared.graph.decl.BarrierInfo.{BarrierInfo}
 use Rattle.graph_model.specs.graph.Graph.{GraphValue, columns, locks, barriers, never_comes, verb_at, line_passes}
 use Rattle.graph_model.specs.graph.Edges.{edges}
 use Rattle.graph_model.specs.graph.Access.{accesses}
-use Rattle.graph_model.specs.meaning.Rules.{Acquires, Releases, Accepted}
+use Rattle.graph_model.specs.meaning.Rules.{Acquires, Releases, Accepted, both_shared}
 use Rattle.graph_model.specs.meaning.Evaluation.{eval_end, cells_of_lines, column_of, reduced_with, arrival_value}
 use Rattle.graph_model.specs.graph.Fits.{IsGraph}
 use Rattle.basics.specs.Lists.{count_below}
@@ -81,14 +81,19 @@ pub record SoundPhases (g : GraphValue) (stages : List LineStage) (values arrive
   -- an arrival that is ending or ended was put in, unless it is cancelled
   pub over_arrived : (i : ℕ) → IsTrue (over stages i) → IsTrue (line_passes is_arrive g i) → eval_end g i ≢ Cancelled → IsTrue (is_listed arrived i)
 
+-- an acquire can take a reservation beside its holders: it and they are shared, or nobody holds it
+abbrev pub IsOpenTo : GraphValue → List (List ℕ) → ℕ → ℕ → Type 0
+IsOpenTo g holders l q = (k : ℕ) → IsTrue (is_listed (list_at holders l) k) → IsTrue (both_shared g q k)
+
 -- the reservations
 pub record SoundLocks (g : GraphValue) (stages : List LineStage) (times : List (Option ℕ)) (holders : List (List ℕ)) (freed : List ℕ) : Type 0 where
   pub each_lock : length holders ≡ length (locks g)
-  -- a holder is an acquire of the reservation that is out, ending or ended and not cancelled, and it is the only one
+  -- a holder is an acquire of the reservation that is out, ending or ended and not cancelled
   pub holder_acquires : (l q : ℕ) → IsTrue (is_listed (list_at holders l) q) → Acquires g q l
   pub holder_started : (l q : ℕ) → IsTrue (is_listed (list_at holders l) q) → IsTrue (started stages q)
   pub holder_not_cancelled : (l q : ℕ) → IsTrue (is_listed (list_at holders l) q) → eval_end g q ≢ Cancelled
-  pub holder_alone : (l q k : ℕ) → IsTrue (is_listed (list_at holders l) q) → IsTrue (is_listed (list_at holders l) k) → q ≡ k
+  -- an exclusive holder is the only one: two holders are both shared
+  pub holder_alone : (l q k : ℕ) → IsTrue (is_listed (list_at holders l) q) → IsTrue (is_listed (list_at holders l) k) → q ≢ k → IsTrue (both_shared g q k)
   -- an acquire that has a time and is not cancelled holds, or a release of it has freed
   pub timed_holds : (l q : ℕ) → Acquires g q l → IsTrue (timed times q) → eval_end g q ≢ Cancelled →
       IsTrue (is_listed (list_at holders l) q) ⊎ ((r : ℕ) × Releases g r q × IsTrue (is_listed freed r))
@@ -114,8 +119,8 @@ pub record SoundTimes (g : GraphValue) (stages : List LineStage) (times : List (
   pub clock_counts : clock ≡ count_below (timed times) (length g.lines)
   -- a source comes before its target
   pub sources_first : (e : Edge) → Contains (edges g) e → (s t : ℕ) → time_at times e.from ≡ Some s → time_at times e.to ≡ Some t → s < t
-  -- of two acquires of one reservation, none cancelled, a release of the earlier comes before the later
-  pub sections_first : (l q k s t : ℕ) → Acquires g q l → Acquires g k l → eval_end g q ≢ Cancelled → eval_end g k ≢ Cancelled →
+  -- of two acquires of one reservation, not both shared and none cancelled, a release of the earlier comes before the later
+  pub sections_first : (l q k s t : ℕ) → Acquires g q l → Acquires g k l → both_shared g q k ≡ false → eval_end g q ≢ Cancelled → eval_end g k ≢ Cancelled →
       time_at times q ≡ Some s → time_at times k ≡ Some t → s < t → (r u : ℕ) × Releases g r q × (time_at times r ≡ Some u) × (u < t)
 
 -- a sound state of a run of an accepted graph

@@ -13,14 +13,14 @@ use Rattle.graph_model.specs.graph.Graph.{GraphValue, barriers, verb_at}
 use Rattle.graph_model.specs.graph.Access.{accesses}
 use Rattle.graph_model.specs.meaning.Evaluation.{combined}
 use Rattle.run_state.specs.Run.{Place, Home, Had, Run, stage_at, list_at, end_so_far}
-use Rattle.run_state.specs.Moves.{claim, without, draw, ending, close}
+use Rattle.run_state.specs.Moves.{claim, inserted, without, draw, ending, close}
 
 -- the columns of a line, and its reservation
 abbrev pub column_list : GraphValue → ℕ → List ℕ
 column_list g i = map (λ (a : Access). a.column) (accesses g i)
 
 abbrev pub lock_by : Verb → Option ℕ
-lock_by (Acquire l) = Some l
+lock_by (Acquire l shared) = Some l
 lock_by _ = None
 
 abbrev pub lock_of : GraphValue → ℕ → Option ℕ
@@ -37,7 +37,7 @@ columns_out run i cs = record run { places = all_had run.places i cs }
 -- a reservation taken, where there is one to take
 abbrev pub holders_with : List (List ℕ) → ℕ → Option ℕ → List (List ℕ)
 holders_with holders i None = holders
-holders_with holders i (Some l) = slice_set holders l (i ∷ list_at holders l)
+holders_with holders i (Some l) = slice_set holders l (inserted i (list_at holders l))
 
 abbrev pub hold_some : Run → ℕ → Option ℕ → Run
 hold_some run i o = record run { holders = holders_with run.holders i o }

@@ -43,7 +43,7 @@ pub fn column_back_keeps_sound()
     ensures { ColumnBackKeepsSound }
 {}
 
-/// Taking a free reservation keeps a state sound.
+/// Taking a reservation that is open to the acquire keeps a state sound.
 pub fn hold_keeps_sound()
     ensures { HoldKeepsSound }
 {}

@@ -77,7 +77,7 @@ impl<'g> Core<'g> {
         if is_cancelled(graph, i, self.stages.as_slice()) {
             return Finding::Cancelled;
         }
-        if let Some(lock) = busy_lock(graph, i, self.holders.as_slice()) {
+        if let Some(lock) = busy_lock(graph, i, &self.holders) {
             return Finding::Busy(Thing::Lock(lock));
         }
         match busy_column(graph, i, &self.columns) {

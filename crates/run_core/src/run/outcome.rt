@@ -63,7 +63,8 @@ impl<'g> Core<'g> {
 
     /// What a quiet run gives: the outcome of the evaluation, with the ended lines in the order in
     /// which they ended as the trace. Each answer is asked of the line's handle. Between an acquire that
-    /// is done and its release no other acquire of that reservation that is done stands in the trace.
+    /// is done and its release no other acquire of that reservation that is done stands in the trace,
+    /// unless both are shared.
     pub fn outcome(self) -> Outcome
         requires quiet { Quiet self.graph self.run }
         ensures outcome { result ≡ outcome self.entry.graph result.trace }

@@ -32,8 +32,8 @@ impl<'g> Core<'g> {
     ghost use Rattle.run_core.specs.WhatIsOut.{SameOut, OneMoreOut};
 
     /// Ends a line whose work was taken from this core, and its handle. Its columns come home, the
-    /// value of an arrival goes to its phase, and a release whose acquire is done frees the
-    /// reservation. The line stands last in the trace so far.
+    /// value of an arrival goes to its phase, and the acquire of a release, where it is done, holds its
+    /// reservation no more. The line stands last in the trace so far.
     pub fn put_back(&mut self, finished: Finished)
         requires { IsFinished self.old finished }
         ensures put { self.new ≡ with_end self.old finished }

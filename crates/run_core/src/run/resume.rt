@@ -2,18 +2,18 @@
 
 ghost use Rattle.std.specs.Prelude.{◌≡◌, ◌<◌, ◌≤◌, ◌+◌, ℕ, length, vec_len, map, cond, true, false, IfSome, IfNone, Some, slice_get, slice_set};
 ghost use Rattle.std.specs.Vec.{vec_capacity};
-ghost use Rattle.graph_model.specs.graph.Graph.{locks};
 ghost use Rattle.graph_model.specs.declared.meaning.outcome.End.TheVariants.{Done};
 ghost use Rattle.basics.specs.Lists.{count_below};
 ghost use Rattle.graph_model.specs.meaning.Rules.{Accepted, Releases};
 ghost use Rattle.run_state.specs.Run.{is_listed, list_at};
 ghost use Rattle.run_core.specs.declared.states.LineState.{LineState as TheState};
 ghost use Rattle.run_core.specs.declared.answers.Stage.{Stage as TheStage};
-ghost use Rattle.run_core.specs.Kept.{holding};
-ghost use Rattle.run_core.specs.Resumed.{progress_for, stage_is_over, over_at, value_or_zero, HoldsNow};
+ghost use Rattle.run_core.specs.Holders.{holders_by, AreHeld};
+ghost use Rattle.run_core.specs.Resumed.{progress_for, stage_is_over, over_at, value_or_zero, HoldsNow, AreBeside, FoundBelow};
 
 use crate::answers::Stage;
 use crate::columns::Columns;
+use crate::holders::{Holders, hold};
 use crate::progress::Progress;
 use crate::run::Core;
 use crate::states::{LineState, StateList};
@@ -152,13 +152,12 @@ fn trace_of(lines: &[LineState], trace: Vec<u32>) -> Vec<u32>
     trace
 }
 
-/// The acquire that holds a reservation until this line, and the reservation: where the line is a
-/// release that has not ended, of an acquire that is done.
-fn held_until(graph: &Graph, lines: &[LineState], release: u32) -> Option<(u32, u32)>
+/// The acquire that holds its reservation until this line: where the line is a release that has not
+/// ended, of an acquire that is done.
+fn held_until(graph: &Graph, lines: &[LineState], release: u32) -> Option<u32>
     requires known { release < length graph.now.lines }
     requires each { length lines.now ≡ length graph.now.lines }
-    ensures some { IfSome result (λ h. Releases graph.now release h.0 × HoldsNow graph.now lines.now h.0 h.1
-        × (h.1 < length (locks graph.now))) }
+    ensures some { IfSome result (λ q. Releases graph.now release q × (l : ℕ) × HoldsNow graph.now lines.now q l) }
     ensures none { IfNone result ((q l : ℕ) → Releases graph.now release q → HoldsNow graph.now lines.now q l → ⊥) }
 {
     let Verb::Release { acquire } = &graph.line(release).verb else {
@@ -171,36 +170,41 @@ fn held_until(graph: &Graph, lines: &[LineState], release: u32) -> Option<(u32, 
         return None;
     }
     match &graph.line(*acquire).verb {
-        Verb::Acquire { lock } => Some((*acquire, *lock)),
+        Verb::Acquire { .. } => Some(*acquire),
         _ => None,
     }
 }
 
-/// Lets an acquire hold a reservation, where there is one.
-fn hold_at(held: Option<(u32, u32)>, holders: &mut Vec<Option<u32>>)
-    requires { IfSome held (λ h. h.1 < length holders.old.items) }
-    ensures some { IfSome held (λ h. holders.new.items ≡ slice_set holders.old.items h.1 (Some h.0)) }
-    ensures none { IfNone held (holders.new.items ≡ holders.old.items) }
-    ensures each { length holders.new.items ≡ length holders.old.items }
+/// Lets the acquire of a release hold its reservation, where it does so until this release.
+fn hold_until(graph: &Graph, lines: &[LineState], release: u32, holders: &mut Holders)
+    requires known { release < length graph.now.lines }
+    requires each { length lines.now ≡ length graph.now.lines }
+    requires beside { AreBeside graph.now lines.now }
+    requires held { AreHeld graph.now holders.old.holding.items holders.old.held.items }
+    requires found { FoundBelow graph.now lines.now (holders_by graph.now holders.old.holding.items) release }
+    ensures held { AreHeld graph.now holders.new.holding.items holders.new.held.items }
+    ensures found { FoundBelow graph.now lines.now (holders_by graph.now holders.new.holding.items) (release + 1) }
 {
-    if let Some((acquire, lock)) = held {
-        holders[lock as usize] = Some(acquire);
+    let _ = graph.lines();
+    if let Some(acquire) = held_until(graph, lines, release) {
+        hold(graph, acquire, holders);
     }
 }
 
 /// The acquires that are done and not released, each at its reservation, where none stood before.
 /// Each acquire has its release, so one pass over the releases finds them.
-fn holders_of(graph: &Graph, lines: &[LineState], mut holders: Vec<Option<u32>>) -> Vec<Option<u32>>
+fn holders_of(graph: &Graph, lines: &[LineState], mut holders: Holders) -> Holders
     requires accepted { Accepted graph.now }
-    requires each { (length lines.now ≡ length graph.now.lines) × (length holders.items ≡ length (locks graph.now)) }
-    requires free { (l q : ℕ) → is_listed (list_at (map holding holders.items) l) q ≡ true → ⊥ }
-    requires alone { (l q k : ℕ) → HoldsNow graph.now lines.now q l → HoldsNow graph.now lines.now k l → q ≡ k }
-    ensures each { length result.items ≡ length holders.items }
-    ensures only { (l q : ℕ) → is_listed (list_at (map holding result.items) l) q ≡ true → HoldsNow graph.now lines.now q l }
-    ensures all { (l q : ℕ) → HoldsNow graph.now lines.now q l → is_listed (list_at (map holding result.items) l) q ≡ true }
+    requires each { length lines.now ≡ length graph.now.lines }
+    requires held { AreHeld graph.now holders.holding.items holders.held.items }
+    requires free { (l q : ℕ) → is_listed (list_at (holders_by graph.now holders.holding.items) l) q ≡ true → ⊥ }
+    requires beside { AreBeside graph.now lines.now }
+    ensures held { AreHeld graph.now result.holding.items result.held.items }
+    ensures only { (l q : ℕ) → is_listed (list_at (holders_by graph.now result.holding.items) l) q ≡ true → HoldsNow graph.now lines.now q l }
+    ensures all { (l q : ℕ) → HoldsNow graph.now lines.now q l → is_listed (list_at (holders_by graph.now result.holding.items) l) q ≡ true }
 {
     for line in 0..graph.lines() {
-        hold_at(held_until(graph, lines, line), &mut holders);
+        hold_until(graph, lines, line, &mut holders);
     }
     holders
 }

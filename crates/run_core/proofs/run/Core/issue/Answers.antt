@@ -34,21 +34,21 @@ pub invariant_of-self-2 : goal.invariant_of-self-2
 invariant_of-self-2 c =
     let s = c.self.inside in
     let differ = stages_differ s.stages.items (length s.events.handles) c.issued-next.result c.len.result c.issued-next.ensures (omega (arith, c.len.ensures, s.stages.ok.0)) c.if-next-len.false in
-    let is = staged_shown s.checked.now.graph s.stages.items c.create.new.self s.columns.homes s.columns.takers.items s.values.items s.holders.items s.trace.items c.issued-next.result progress.Issued in
+    let is = staged_shown s.checked.now.graph s.stages.items c.create.new.self s.columns.homes s.columns.takers.items s.values.items s.holders.holding.items s.trace.items c.issued-next.result progress.Issued in
     with_core c.self.invariant (issued_core c.issue_keeps_rest.ensures _ _ _ s.events c.create.new.self c.issued-next.result is c.issued-next.ensures c.self.invariant.core c.holds_a_map.ensures differ (c.if-not-create.ensures.made refl))
 
 pub returns-clause-answer : goal.returns-clause-answer
 returns-clause-answer c =
     let s = c.self.inside in
     let differ = stages_differ s.stages.items (length s.events.handles) c.issued-next.result c.len.result c.issued-next.ensures (omega (arith, c.len.ensures, s.stages.ok.0)) c.if-next-len.false in
-    let is = staged_shown s.checked.now.graph s.stages.items c.create.new.self s.columns.homes s.columns.takers.items s.values.items s.holders.items s.trace.items c.issued-next.result progress.Issued in
+    let is = staged_shown s.checked.now.graph s.stages.items c.create.new.self s.columns.homes s.columns.takers.items s.values.items s.holders.holding.items s.trace.items c.issued-next.result progress.Issued in
     issued_answer _ _ _ s.events c.create.new.self c.args.self.now c.issued-next.result c.self.view_is is c.issued-next.ensures c.self.invariant.core differ (c.if-not-create.ensures.made refl)
 
 pub returns-clause-works : goal.returns-clause-works
 returns-clause-works c =
     let s = c.self.inside in
     let differ = stages_differ s.stages.items (length s.events.handles) c.issued-next.result c.len.result c.issued-next.ensures (omega (arith, c.len.ensures, s.stages.ok.0)) c.if-next-len.false in
-    let is = staged_shown s.checked.now.graph s.stages.items c.create.new.self s.columns.homes s.columns.takers.items s.values.items s.holders.items s.trace.items c.issued-next.result progress.Issued in
+    let is = staged_shown s.checked.now.graph s.stages.items c.create.new.self s.columns.homes s.columns.takers.items s.values.items s.holders.holding.items s.trace.items c.issued-next.result progress.Issued in
     issued_works c.stage_leaves.ensures _ _ _ s.events c.create.new.self c.args.self.now c.issued-next.result c.self.view_is is c.issued-next.ensures c.self.invariant.core differ
 
 pub returns-clause-out : goal.returns-clause-out

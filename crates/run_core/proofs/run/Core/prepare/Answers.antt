@@ -1,5 +1,5 @@
 use Rattle.std.proofs.Common.{◌≡◌, ◌≤◌, ℕ, [], map, length, replicate, sym, ◌∙◌, ap, subst, arith}
-use Rattle.std.specs.Prelude.{Option, None}
+use Rattle.std.specs.Prelude.{false}
 use Rattle.basics.specs.Lists.{numbers_below}
 use Rattle.graph_model.specs.graph.Graph.{GraphValue, columns, locks}
 use Rattle.graph_model.specs.meaning.Effect.{zero_cells}
@@ -12,7 +12,9 @@ use Rattle.run_core.specs.Core.{unissued, IsCore}
 use Rattle.run_core.specs.Kept.{shown_core}
 use Rattle.run_core.specs.Events.{EventsValue}
 use Rattle.run_core.specs.declared.progress.Progress.TheVariants.{Unissued}
+use Rattle.run_core.specs.declared.holders.LockState.TheVariants.{Shared}
 use Rattle.run_core.proofs.CoreFacts.{core_unissued}
+use Rattle.run_core.proofs.HolderFacts.{none_held}
 use Rattle.run_core.proofs.OutcomeFacts.{shown_first, kept_first}
 use Rattle.run_core.proofs.OutFacts.{none_out_at_first}
 use Rattle.run_core.proofs.run.Core.prepare.Goals as goal
@@ -25,7 +27,7 @@ room_is : (g h : GraphValue) (n cap : ℕ) → h ≡ g → n ≡ length h.lines 
 room_is g h n cap e number is = (let z : length h.lines ≡ length g.lines = ap (λ (x : GraphValue). length x.lines) e in omega (arith, number, is, z))
 
 -- it shows a core in which no line is issued
-unissued_shown : (c : goal.In_ok-new) → shown_core c.args.checked.now.graph c.in_ok-filled.field-0.items (record { handles = c.events.inside.handles.items; table = c.events.inside.table }) c.in_ok-homes.homes c.in_ok-takers.takers.items c.in_ok-first_values.field-0.items c.in_ok-filled-2.field-0.items
+unissued_shown : (c : goal.In_ok-new) → shown_core c.args.checked.now.graph c.in_ok-filled.field-0.items (record { handles = c.events.inside.handles.items; table = c.events.inside.table }) c.in_ok-homes.homes c.in_ok-takers.takers.items c.in_ok-first_values.field-0.items c.in_ok-none.field-0.holding.items
     c.in_ok-with_room.field-0.items ≡ unissued c.args.checked.now.graph c.args.slots
 unissued_shown c =
     let g = c.args.checked.now.graph in
@@ -36,9 +38,8 @@ unissued_shown c =
     let homes = c.in_ok-homes.ensures ∙ ap (λ x. all_home x zero_cells) e in
     let takers = c.in_ok-takers.ensures.items ∙ ap (λ k. replicate k 0) (c.columns-columns.ensures.number ∙ ap (λ x. length (columns x)) e) in
     let values = c.in_ok-first_values.ensures ∙ ap (λ (x : GraphValue). map (first_value x) (numbers_below (length x.lines))) e in
-    let none : Option ℕ = None in
-    let holders = c.in_ok-filled-2.ensures.items ∙ ap (λ k. replicate k none) (c.locks.ensures.number ∙ ap (λ x. length (locks x)) e) in
-    shown_first g c.in_ok-filled.field-0.items _ c.in_ok-homes.homes c.in_ok-takers.takers.items c.in_ok-first_values.field-0.items c.in_ok-filled-2.field-0.items c.in_ok-with_room.field-0.items c.args.slots stages events homes takers values holders c.in_ok-with_room.ensures.items
+    let holders = c.in_ok-none.ensures.holding ∙ ap (λ (x : GraphValue). replicate (length x.lines) false) e in
+    shown_first g c.in_ok-filled.field-0.items _ c.in_ok-homes.homes c.in_ok-takers.takers.items c.in_ok-first_values.field-0.items c.in_ok-none.field-0.holding.items c.in_ok-with_room.field-0.items c.args.slots stages events homes takers values holders c.in_ok-with_room.ensures.items
 
 pub invariant_of-result-2 : goal.invariant_of-result-2
 invariant_of-result-2 c =
@@ -49,6 +50,7 @@ invariant_of-result-2 c =
           (λ k is. (let same : k ≡ c.need.result = c.needs_are_one.ensures g k c.need.result is c.need.ensures.need in let value = c.need.ensures.value in let enough = c.requires.enough in omega (arith, same, value, enough))) (length-replicate c.args.slots unused));
       kept = kept_first g c.in_ok-homes.homes c.in_ok-takers.takers.items (c.in_ok-homes.ensures ∙ ap (λ x. all_home x zero_cells) e)
           (c.in_ok-takers.ensures.items ∙ ap (λ k. replicate k 0) (c.columns-columns.ensures.number ∙ ap (λ x. length (columns x)) e));
+      held = none_held g c.in_ok-none.field-0.holding.items c.in_ok-none.field-0.held.items (c.in_ok-none.ensures.holding ∙ ap (λ (x : GraphValue). replicate (length x.lines) false) e) (c.in_ok-none.ensures.held ∙ ap (λ x. replicate (length (locks x)) (Shared 0)) e);
       trace = room_is g c.graph-graph.result.now c.lines-lines.result _ e c.lines-lines.ensures.number c.in_ok-with_room.ensures.room;
       ends = (c.in_ok-new.ensures.ends.0, room_is g c.graph-graph.result.now c.lines-lines.result _ e c.lines-lines.ensures.number c.in_ok-new.ensures.ends.1);
       answers = (c.in_ok-new.ensures.answers.0, room_is g c.graph-graph.result.now c.lines-lines.result _ e c.lines-lines.ensures.number c.in_ok-new.ensures.answers.1);

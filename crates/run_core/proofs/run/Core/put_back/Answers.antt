@@ -1,19 +1,21 @@
-use Rattle.std.proofs.Common.{◌≡◌, ◌≢◌, ◌≤◌, map, refl, sym, ◌∙◌, ap, subst, arith}
+use Rattle.std.proofs.Common.{◌≡◌, ◌≢◌, map, refl, sym, ◌∙◌, ap, subst, arith}
 use Rattle.std.specs.Prelude.{Some, slice_set}
 use Rattle.gen_events.specs.declared.handle.Handle.{Handle}
 use Rattle.gen_events.specs.declared.handle.Fate.{Fate}
 use Rattle.gen_events.specs.EventMap.{answer, answer_of, ended_with}
 use Rattle.run_state.specs.Sound.{AccessesColumn}
 use Rattle.run_state.specs.WholeLine.{all_home, columns_for, values_with, arrival_for, holders_without}
+use Rattle.run_state.specs.Run.{is_listed, list_at}
+use Rattle.run_core.specs.Holders.{holders_by, AreHeld}
 use Rattle.run_core.specs.Core.{IsCore}
 use Rattle.run_core.specs.Events.{EventsValue}
 use Rattle.run_core.specs.Steps.{with_end, handle_at, fate_for}
 use Rattle.run_core.proofs.RestFacts.{with_trace}
 use Rattle.run_core.specs.declared.progress.Progress.TheVariants.{Ended}
-use Rattle.run_core.specs.Kept.{shown_stage, places_of, holding, frees_in, shown_core}
+use Rattle.run_core.specs.Kept.{shown_stage, places_of, frees_in, shown_core}
 use Rattle.run_core.specs.Works.{cells_in}
 use Rattle.run_core.proofs.CoreFacts.{handle_pending}
-use Rattle.run_core.proofs.EndedFacts.{held_alone, ended_shown, column_is_out, column_is_held, trace_is_short, ended_kept, finished_of, finished_from, finished_is, ended_core, ended_is, ended_works}
+use Rattle.run_core.proofs.EndedFacts.{holder_freed, ended_shown, column_is_out, column_is_held, trace_is_short, ended_kept, finished_of, finished_from, finished_is, ended_core, ended_is, ended_works}
 use Rattle.run_core.proofs.OutFacts.{out_put}
 use Rattle.run_core.proofs.SlotsGiven.{ended_slots}
 use Rattle.run_core.proofs.run.Core.put_back.Goals as goal
@@ -32,11 +34,11 @@ settle-requires-clause-has c =
     let is = finished_is _ c.args.self.now c.args.finished c.into_parts-line.result c.self.view_is c.into_parts-line.ensures c.requires in
     λ runs k a. column_is_held _ _ is runs k (subst (λ g. AccessesColumn g c.into_parts-line.result.0 k) c.graph-graph.ensures.graph a)
 
-pub free-requires-clause-held : goal.free-requires-clause-held
-free-requires-clause-held c =
+pub free-requires-clause-holder : goal.free-requires-clause-holder
+free-requires-clause-holder c =
     let s = c.self.inside in
     let is = finished_is _ c.args.self.now c.args.finished c.into_parts-line.result c.self.view_is c.into_parts-line.ensures c.requires in
-    λ l q frees. held_alone _ s.holders.items refl c.self.invariant.core _ is l q
+    λ l q frees. ap (λ g. is_listed (list_at (holders_by g s.holders.holding.items) l) q) c.graph-graph.ensures.graph ∙ holder_freed _ c.self.invariant.core _ is l q
     (ap (λ g. frees_in g (map shown_stage s.stages.items) c.into_parts-line.result.0) (sym c.graph-graph.ensures.graph) ∙ (ap (λ ss. frees_in c.graph-graph.result.now (map shown_stage ss) c.into_parts-line.result.0) (sym c.as_slice.ensures.value) ∙ frees))
 
 pub push_within-requires : goal.push_within-requires
@@ -51,33 +53,34 @@ end-requires-clause-pending c =
     handle_pending _ c.self.invariant.core c.into_parts-line.result.0 is.is_out
 
 -- the core after is the one in which the line has ended
-ended : (c : goal.After-end) → shown_core c.self.inside.checked.now.graph (slice_set c.self.inside.stages.items c.into_parts-line.result.0 (Ended c.into_parts-line.result.1)) c.end.new.self c.settle.new.columns.homes c.settle.new.columns.takers.items c.settle.new.values.items c.free.new.holders.items
+ended : (c : goal.After-end) → shown_core c.self.inside.checked.now.graph (slice_set c.self.inside.stages.items c.into_parts-line.result.0 (Ended c.into_parts-line.result.1)) c.end.new.self c.settle.new.columns.homes c.settle.new.columns.takers.items c.settle.new.values.items c.free.new.holders.holding.items
     c.push_within.new.items.items
-    ≡ with_end (shown_core c.self.inside.checked.now.graph c.self.inside.stages.items c.self.inside.events c.self.inside.columns.homes c.self.inside.columns.takers.items c.self.inside.values.items c.self.inside.holders.items c.self.inside.trace.items) (finished_of c.into_parts-line.result)
+    ≡ with_end (shown_core c.self.inside.checked.now.graph c.self.inside.stages.items c.self.inside.events c.self.inside.columns.homes c.self.inside.columns.takers.items c.self.inside.values.items c.self.inside.holders.holding.items c.self.inside.trace.items) (finished_of c.into_parts-line.result)
 ended c =
     let s = c.self.inside in
     let r = c.into_parts-line.result in
     let is = finished_is _ c.args.self.now c.args.finished r c.self.view_is c.into_parts-line.ensures c.requires in
-    let h = handle_at (shown_core s.checked.now.graph s.stages.items s.events s.columns.homes s.columns.takers.items s.values.items s.holders.items s.trace.items) r.0 in
+    let h = handle_at (shown_core s.checked.now.graph s.stages.items s.events s.columns.homes s.columns.takers.items s.values.items s.holders.holding.items s.trace.items) r.0 in
     let e = c.graph-graph.ensures.graph in
     let events : c.end.new.self ≡ ended_events s.events h (fate_for r.1) = c.end.ensures.map ∙ ap (ended_events s.events h) c.fate_for.ensures in
     let places = c.settle.ensures.places ∙ ap (λ g. all_home (places_of s.columns.homes s.columns.takers.items) (cells_in r.2) (columns_for g r.0 r.1)) e in
     let arrives = c.settle.ensures.values ∙ ap (λ g. values_with s.values.items (arrival_for g r.0 r.1)) e in
-    let frees = c.free.ensures ∙ (ap (λ ss. holders_without (map holding s.holders.items) (frees_in c.graph-graph.result.now (map shown_stage ss) r.0)) c.as_slice.ensures.value ∙ ap (λ g. holders_without (map holding s.holders.items) (frees_in g (map shown_stage s.stages.items) r.0)) e) in
-    ap (shown_core s.checked.now.graph (slice_set s.stages.items r.0 (Ended r.1)) c.end.new.self c.settle.new.columns.homes c.settle.new.columns.takers.items c.settle.new.values.items c.free.new.holders.items) c.push_within.ensures.items
-    ∙ ended_shown s.checked.now.graph s.stages.items s.events s.columns.homes c.settle.new.columns.homes s.columns.takers.items c.settle.new.columns.takers.items s.values.items c.settle.new.values.items s.holders.items c.free.new.holders.items s.trace.items (finished_of r) c.self.invariant.core is places arrives frees c.end.new.self events
+    let frees = sym (ap (λ g. holders_by g c.free.new.holders.holding.items) e) ∙ (c.free.ensures.shown ∙ (ap (λ ss. holders_without (holders_by c.graph-graph.result.now s.holders.holding.items) (frees_in c.graph-graph.result.now (map shown_stage ss) r.0)) c.as_slice.ensures.value ∙ ap (λ g. holders_without (holders_by g s.holders.holding.items) (frees_in g (map shown_stage s.stages.items) r.0)) e)) in
+    ap (shown_core s.checked.now.graph (slice_set s.stages.items r.0 (Ended r.1)) c.end.new.self c.settle.new.columns.homes c.settle.new.columns.takers.items c.settle.new.values.items c.free.new.holders.holding.items) c.push_within.ensures.items
+    ∙ ended_shown s.checked.now.graph s.stages.items s.events s.columns.homes c.settle.new.columns.homes s.columns.takers.items c.settle.new.columns.takers.items s.values.items c.settle.new.values.items s.holders.holding.items c.free.new.holders.holding.items s.trace.items (finished_of r) c.self.invariant.core is places arrives frees c.end.new.self events
 
 pub invariant_of-self : goal.invariant_of-self
 invariant_of-self c =
     let s = c.self.inside in
     let r = c.into_parts-line.result in
     let is = finished_is _ c.args.self.now c.args.finished r c.self.view_is c.into_parts-line.ensures c.requires in
-    let h = handle_at (shown_core s.checked.now.graph s.stages.items s.events s.columns.homes s.columns.takers.items s.values.items s.holders.items s.trace.items) r.0 in
+    let h = handle_at (shown_core s.checked.now.graph s.stages.items s.events s.columns.homes s.columns.takers.items s.values.items s.holders.holding.items s.trace.items) r.0 in
     let events : c.end.new.self ≡ ended_events s.events h (fate_for r.1) = c.end.ensures.map ∙ ap (ended_events s.events h) c.fate_for.ensures in
     let here = subst (λ (v : EventsValue). answer v.table h ≡ Some (answer_of (fate_for r.1))) events (c.end.ensures.ended ∙ ap (λ f. Some (answer_of f)) c.fate_for.ensures) in
     let others = subst (λ (v : EventsValue). (k : Handle) → k ≢ h → answer v.table k ≡ answer s.events.table k) events c.end.ensures.others in
     with_trace c.self.invariant (ended_core c.put_back_keeps_rest.ensures _ _ (finished_of r) (ended c) c.self.invariant.core is here others)
     (ended_kept c.graph-graph.result.now _ c.graph-graph.ensures.graph s.columns.homes s.columns.takers.items c.settle.new.columns.homes c.settle.new.columns.takers.items c.self.invariant.kept (finished_of r) is c.settle.ensures.each.0 c.settle.ensures.each.1 c.settle.ensures.kept)
+    (subst (λ g. AreHeld g c.free.new.holders.holding.items c.free.new.holders.held.items) c.graph-graph.ensures.graph c.free.ensures.held)
     (let wide = c.push_within.ensures.capacity in let long = c.self.invariant.trace in omega (arith, wide, long))
 
 pub returns-clause-put : goal.returns-clause-put

@@ -1,10 +1,9 @@
-use Rattle.std.proofs.Common.{◌≡◌, ◌<◌, ℕ, true, length, ap, sym, ◌∙◌, subst, true≢false}
-use Rattle.graph_model.specs.meaning.Rules.{Releases}
+use Rattle.std.proofs.Common.{◌≡◌, ◌<◌, true, ap, sym, ◌∙◌, subst, true≢false}
 use Rattle.graph_model.proofs.ReleaseFacts.{one_release}
 use Rattle.run_core.specs.Resumed.{blank_state, over_at, stage_is_over}
 use Rattle.run_core.specs.declared.states.LineState.{LineState}
 use Rattle.run_core.proofs.OutcomeFacts.{any_default}
-use Rattle.run_core.proofs.HolderFacts.{lock_known, acquire_known, line_acquires, line_releases}
+use Rattle.run_core.proofs.HolderFacts.{acquire_known, line_acquires, line_releases}
 use Rattle.run_core.proofs.run.resume.held_until.Goals as goal
 
 pub bounds-lines-acquire : goal.bounds-lines-acquire
@@ -21,11 +20,11 @@ returns-in-Acquire-clause-some c =
     let releases = line_releases g c.args.release q c.line.result.now c.line.ensures.line c.in-Release.is in
     let is = c.is_done.ensures.yes c.if-not-is_done.false in (
       releases,
+      c.in-Acquire.lock,
       record {
-        acquires = line_acquires g q c.in-Acquire.lock c.line-2.result.now c.line-2.ensures.line c.in-Acquire.is;
+        acquires = line_acquires g q c.in-Acquire.lock c.in-Acquire.shared c.line-2.result.now c.line-2.ensures.line c.in-Acquire.is;
         over = ap (λ (s : LineState). stage_is_over s.stage) same ∙ is.0;
         is_done = ap (λ (s : LineState). s.end) same ∙ is.1;
         kept = λ r rel o. true≢false (sym (subst (λ z. over_at lines z ≡ true) (one_release g c.line.ensures.is_graph q r c.args.release rel releases) o) ∙ (ap (λ (s : LineState). stage_is_over s.stage) last ∙ (sym c.is_over.ensures ∙ c.if-is_over.false)));
       },
-      lock_known g c.line.ensures.is_graph q c.in-Acquire.lock c.line-2.result.now c.line-2.ensures.line c.in-Acquire.is,
     )
