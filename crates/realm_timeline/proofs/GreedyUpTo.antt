@@ -7,6 +7,7 @@ use Rattle.std.proofs.lemmas.Option.{same_Some}
 use Rattle.graph_model.specs.declared.graph.verb.Edge.{Edge}
 use Rattle.graph_model.specs.graph.Graph.{GraphValue}
 use Rattle.graph_model.specs.graph.Edges.{edges}
+use Rattle.graph_model.proofs.VerbFacts.{both_shared_swap}
 use Rattle.realm_timeline.specs.declared.slot.Slot.{Slot}
 use Rattle.realm_timeline.specs.Plan.{cost, Planned, HasSlot, IsPartialPlan, FinishedBy, ReleasedBy, AcquireSame, IsValid, IsMoment, IsReadyAt, IsFreeFor, MayStart}
 use Rattle.realm_timeline.specs.State.{IsGreedyUpTo}
@@ -14,7 +15,7 @@ use Rattle.realm_timeline.proofs.SlotFacts.{takes_time}
 use Rattle.realm_timeline.proofs.ConsistentStart.{slot_here, slot_there}
 
 pub acquires_swapped : (g : GraphValue) (i k : ℕ) → AcquireSame g i k → AcquireSame g k i
-acquires_swapped g i k r = record { different = λ e. r.different (sym e); lock = r.lock; one = r.other; other = r.one }
+acquires_swapped g i k r = record { different = λ e. r.different (sym e); apart = both_shared_swap g k i ∙ r.apart; lock = r.lock; one = r.other; other = r.one }
 
 -- a line that runs on a processor at time t, and is below another where it starts then
 pub record RunsBelow (plan : List (Option Slot)) (t r line : ℕ) : Type 0 where
