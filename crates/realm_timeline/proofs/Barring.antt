@@ -11,7 +11,7 @@ use Rattle.graph_model.specs.declared.graph.verb.Verb.TheVariants.{Acquire}
 use Rattle.graph_model.specs.graph.Graph.{GraphValue, verb_at, line_passes, is_acquire_of, is_shared}
 use Rattle.graph_model.specs.meaning.Rules.{Acquires, both_shared}
 use Rattle.graph_model.proofs.VerbFacts.{acquire_is}
-use Rattle.realm_timeline.specs.Plan.{AcquireSame}
+use Rattle.realm_timeline.specs.Plan.{Exclude}
 use Rattle.realm_timeline.specs.Queue.{QueueValue, queue_at, has_line, ChangesQueue, WithHolder, WithoutHolder}
 use Rattle.realm_timeline.specs.State.{exclusive_queue, shared_queue, verb_queue, queue_of, verb_bars, bars}
 use Rattle.realm_timeline.specs.Steps.{AddsHolder, RemovesHolder}
@@ -61,7 +61,7 @@ same_lock (Some v) b h = barred_as v b h
 pub bars_same : (g : GraphValue) (i k : ℕ) → bars g k (queue_of g i) ≡ true → (l : ℕ) × Acquires g i l × Acquires g k l × (both_shared g i k ≡ false)
 bars_same g i k h = same_lock (verb_at g i) (verb_at g k) h
 
-pub bars_other : (g : GraphValue) (i k : ℕ) → i ≢ k → bars g k (queue_of g i) ≡ true → AcquireSame g i k
+pub bars_other : (g : GraphValue) (i k : ℕ) → i ≢ k → bars g k (queue_of g i) ≡ true → Exclude g i k
 bars_other g i k apart h = let s = bars_same g i k h in record { different = apart; apart = s.3; lock = s.0; one = s.1; other = s.2 }
 
 bars_of : (l : ℕ) (s t : Bool) → (s && t) ≡ false → verb_bars (verb_queue (Acquire l s)) (Acquire l t) ≡ true
@@ -70,7 +70,7 @@ bars_of l true false h = or_right (2 * l + 2 == 2 * l + 1) (2 * l + 2 == 2 * l +
 bars_of l false true h = eq-eqb (2 * l + 1) (2 * l + 1) refl
 bars_of l false false h = or_left (2 * l + 1 == 2 * l + 1) (2 * l + 1 == 2 * l + 2) (eq-eqb (2 * l + 1) (2 * l + 1) refl)
 
-pub same_bars : (g : GraphValue) (i k : ℕ) → AcquireSame g i k → bars g k (queue_of g i) ≡ true
+pub same_bars : (g : GraphValue) (i k : ℕ) → Exclude g i k → bars g k (queue_of g i) ≡ true
 same_bars g i k a =
     let at_i = acquire_is g i a.lock a.one in
     let at_k = acquire_is g k a.lock a.other in

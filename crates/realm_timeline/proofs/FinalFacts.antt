@@ -17,7 +17,7 @@ use Rattle.std.specs.Option.{option_map_or}
 use Rattle.graph_model.specs.graph.Graph.{line_passes, is_shared, is_release_of, never_comes_as}
 use Rattle.graph_model.specs.declared.graph.verb.Verb.TheVariants.{Acquire, Release}
 use Rattle.realm_timeline.specs.declared.slot.Slot.{Slot}
-use Rattle.realm_timeline.specs.Plan.{Planned, slot_at, HasSlot, IsPlan, FinishedBy, ReleasedBy, AcquireSame, IsMoment, IsReadyAt, IsFreeFor, MayStart, StartsAt, IsGreedy}
+use Rattle.realm_timeline.specs.Plan.{Planned, slot_at, HasSlot, IsPlan, FinishedBy, ReleasedBy, Exclude, IsMoment, IsReadyAt, IsFreeFor, MayStart, StartsAt, IsGreedy}
 use Rattle.realm_timeline.specs.Queue.{queue_at, AllHeldOrEmpty}
 use Rattle.realm_timeline.specs.State.{State, queue_of, is_done, runs_at, IsQueued, Holds, HasStartedAll}
 use Rattle.realm_timeline.specs.Order.{IsOrder}
@@ -123,10 +123,10 @@ module _ (g : GraphValue) (graph : IsGraph g) (accepted : Accepted g) (p : ℕ) 
   is_plan = record { some = r.simulation.up_to_now.some; all = all_started }
 
   -- two acquires of one reservation do not start together
-  apart_acquires : (i k : ℕ) → AcquireSame g i k → (x y : Slot) → HasSlot s.slots i x → HasSlot s.slots k y → x.start ≡ y.start → ⊥
-  apart_acquires i k acquires_same x y hx hy same = elim (r.simulation.up_to_now.valid.sections i k acquires_same x y hx hy) [
-    | inl a ↦ released_late i x hx acquires_same.lock acquires_same.one y.start (omega arith) a
-    | inr b ↦ released_late k y hy acquires_same.lock acquires_same.other x.start (omega arith) b
+  apart_excluding : (i k : ℕ) → Exclude g i k → (x y : Slot) → HasSlot s.slots i x → HasSlot s.slots k y → x.start ≡ y.start → ⊥
+  apart_excluding i k excludes x y hx hy same = elim (r.simulation.up_to_now.valid.sections i k excludes x y hx hy) [
+    | inl a ↦ released_late i x hx excludes.lock excludes.one y.start (omega arith) a
+    | inr b ↦ released_late k y hy excludes.lock excludes.other x.start (omega arith) b
   ]
     where
       released_late : (i : ℕ) (x : Slot) → HasSlot s.slots i x → (l : ℕ) → Acquires g i l → (t : ℕ) → t ≤ x.start → ReleasedBy g s.slots t i → ⊥
@@ -162,7 +162,7 @@ module _ (g : GraphValue) (graph : IsGraph g) (accepted : Accepted g) (p : ℕ) 
     processor = starts.0.processor;
     known = r.simulation.up_to_now.some.processor i starts.0 starts.1;
     free = subst (λ u. IsFreeFor s.slots u i starts.0.processor) starts.2 (r.simulation.up_to_now.free i starts.0 starts.1);
-    first = λ k acquires_same below y h at. apart_acquires i k acquires_same starts.0 y starts.1 h (starts.2 ∙ sym at);
+    first = λ k excludes below y h at. apart_excluding i k excludes starts.0 y starts.1 h (starts.2 ∙ sym at);
   }
 
   is_greedy : IsGreedy g p s.slots

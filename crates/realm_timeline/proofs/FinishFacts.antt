@@ -94,7 +94,7 @@ module _ (g : GraphValue) (p : ℕ) (s new : State) (next : ℕ) (r : HasStarted
           };
           lowest_first = record {
             lower = λ i y h at. absurd (started_before i y h at);
-            acquires_same = λ i y h at. absurd (started_before i y h at);
+            excludes = λ i y h at. absurd (started_before i y h at);
           };
           small = record {
             time = (

@@ -13,7 +13,7 @@ use Rattle.graph_model.specs.graph.Fits.{IsGraph}
 use Rattle.basics.proofs.ListFacts.{count_below, fewer_below}
 use Rattle.graph_model.proofs.ReleaseFacts.{one_release}
 use Rattle.realm_timeline.specs.declared.slot.Slot.{Slot}
-use Rattle.realm_timeline.specs.Plan.{cost, Planned, slot_at, HasSlot, FinishedBy, ReleasedBy, AcquireSame, IsReadyAt, MayStart, StartsAt}
+use Rattle.realm_timeline.specs.Plan.{cost, Planned, slot_at, HasSlot, FinishedBy, ReleasedBy, Exclude, IsReadyAt, MayStart, StartsAt}
 use Rattle.realm_timeline.specs.Queue.{queue_at, has_line, IsUnheld, AllHeldOrEmpty, IsLowestPlace}
 use Rattle.realm_timeline.specs.State.{State, queue_of, bars, is_done, runs_at, IsQueued, NoneOlder, StartsNowBelow, IsGreedyUpTo, undone, IsSimulation, AllBusy, HasStartedAll}
 use Rattle.realm_timeline.specs.Steps.{IsFirstIdle, idle_count, Starts, slot_of}
@@ -21,7 +21,7 @@ use Rattle.realm_timeline.proofs.Barring.{bars_other, same_bars, some_holder}
 use Rattle.realm_timeline.proofs.SlotFacts.{one_slot}
 use Rattle.realm_timeline.proofs.ConsistentCounts.{source_done, sources_none}
 use Rattle.realm_timeline.proofs.ConsistentStart.{start_consistent, holders_now, slot_here, slot_there}
-use Rattle.realm_timeline.proofs.GreedyUpTo.{RunsBelow, acquires_swapped, more, finished_fewer, up_to_now_more}
+use Rattle.realm_timeline.proofs.GreedyUpTo.{RunsBelow, excludes_swapped, more, finished_fewer, up_to_now_more}
 
 -- the last edge of a path
 pub path_end : {all : List Edge} {i j : ℕ} → Path all i j → (e : Edge) × Contains all e × (e.to ≡ j) × ((e.from ≡ i) ⊎ Path all i e.from)
@@ -52,18 +52,18 @@ module _ (g : GraphValue) (graph : IsGraph g) (accepted : Accepted g) (p : ℕ) 
       let b : f.0.finish ≤ s.time = f.2 in
       omega arith
 
-  -- what holds against a line that no older acquire keeps from starting has started now, and so a lower acquire has
+  -- where a line is held back, but by no acquire that started before now, a lower acquire that it excludes has started now
   held_below : (i k : ℕ) → IsQueued g s i → has_line (queue_at s.queues (queue_of g i)).holders k ≡ true → NoneOlder g s i → StartsNowBelow g s i
   held_below i k w held older =
       let h = (simulation.consistent.holders (queue_of g i) k).0 held in
-      let r : AcquireSame g i k = bars_other g i k (λ e. none-some h.1.slot (sym w.waits ∙ subst (λ z. HasSlot s.slots z h.1.slot) (sym e) h.1.has)) h.0 in
+      let r : Exclude g i k = bars_other g i k (λ e. none-some h.1.slot (sym w.waits ∙ subst (λ z. HasSlot s.slots z h.1.slot) (sym e) h.1.has)) h.0 in
       elim (cases_lt h.1.slot.start s.time) [
         | inl before ↦ (
             let rel = older k r h.1.slot h.1.has before in
             absurd (true≢false (sym (simulation.done_lines.marked rel.0 rel.2) ∙ h.1.unreleased rel.0 rel.1)))
         | inr since ↦ (
             let early : h.1.slot.start ≤ s.time = simulation.up_to_now.early k h.1.slot h.1.has in
-            simulation.lowest_first.acquires_same k h.1.slot h.1.has (omega arith) i w r older)
+            simulation.lowest_first.excludes k h.1.slot h.1.has (omega arith) i w r older)
       ]
 
   module _ (new : State) (place q line : ℕ) (lowest : IsLowestPlace s.queues place) (idle : IsFirstIdle s.running q) (st : Starts g s new place q line) where
@@ -93,14 +93,14 @@ module _ (g : GraphValue) (graph : IsGraph g) (accepted : Accepted g) (p : ℕ) 
     unheld : IsUnheld (queue_at s.queues (queue_of g line))
     unheld = subst (λ z. IsUnheld (queue_at s.queues z)) (sym at_place) lowest.unheld
 
-    released : (i : ℕ) (y : Slot) → AcquireSame g i line → HasSlot s.slots i y → ReleasedBy g s.slots s.time i
-    released i y acquires_same h =
-        let r = accepted.released i acquires_same.lock acquires_same.one in
+    released : (i : ℕ) (y : Slot) → Exclude g i line → HasSlot s.slots i y → ReleasedBy g s.slots s.time i
+    released i y excludes h =
+        let r = accepted.released i excludes.lock excludes.one in
         elim (cases_Bool (is_done s.done r.0)) [
           | inl d ↦ (r.0, r.1, simulation.done_lines.finished r.0 d)
           | inr unf ↦ (
               let held : has_line (queue_at s.queues (queue_of g line)).holders i ≡ true = (simulation.consistent.holders (queue_of g line) i).1 (
-                same_bars g line i (acquires_swapped g i line acquires_same),
+                same_bars g line i (excludes_swapped g i line excludes),
                 record {
                   slot = y;
                   has = h;
@@ -187,9 +187,9 @@ module _ (g : GraphValue) (graph : IsGraph g) (accepted : Accepted g) (p : ℕ) 
         let fin : FinishedBy (slice_set s.slots line (Some (slot_of g s q line))) s.time rel.0 = subst (λ u. FinishedBy (slice_set s.slots line (Some (slot_of g s q line))) u rel.0) st.time (subst (λ xs. FinishedBy xs new.time rel.0) st.slots rel.2) in
         (rel.0, rel.1, finished_fewer g p s.slots s.time simulation.up_to_now line (slot_of g s q line) no_slot below refl refl s.time rel.0 (omega arith) fin)
 
-    -- of the acquires that start now and that line i excludes, the lowest is below it
-    acquires_same : (k : ℕ) (y : Slot) → HasSlot new.slots k y → y.start ≡ new.time → (i : ℕ) → IsQueued g new i → AcquireSame g i k → NoneOlder g new i → StartsNowBelow g new i
-    acquires_same k y h at i w r older =
+    -- where line i excludes an acquire that starts now, a lower one that it excludes starts now
+    excludes : (k : ℕ) (y : Slot) → HasSlot new.slots k y → y.start ≡ new.time → (i : ℕ) → IsQueued g new i → Exclude g i k → NoneOlder g new i → StartsNowBelow g new i
+    excludes k y h at i w r older =
         let old = was_waiting i w in
         elim (slot_case k y h) [
           | inl here ↦ elim (some_holder (queue_at s.queues (queue_of g i)).holders) [
@@ -197,9 +197,9 @@ module _ (g : GraphValue) (graph : IsGraph g) (accepted : Accepted g) (p : ℕ) 
             | inr free_queue ↦ (
                 let a : line ≤ lowest.line = line_lowest in
                 let b : lowest.line ≤ i = lowest.lowest (queue_of g i) i free_queue (simulation.consistent.all_queued i old.1) in
-                (line, slot_of g s q line, subst (AcquireSame g i) here.0 r, subst (λ xs. HasSlot xs line (slot_of g s q line)) (sym st.slots) (slot_here s.slots line (slot_of g s q line) below), sym st.time, not_same line i (omega arith) (λ e. old.0 (sym e))))
+                (line, slot_of g s q line, subst (Exclude g i) here.0 r, subst (λ xs. HasSlot xs line (slot_of g s q line)) (sym st.slots) (slot_here s.slots line (slot_of g s q line) below), sym st.time, not_same line i (omega arith) (λ e. old.0 (sym e))))
           ]
-          | inr there ↦ still_below i (simulation.lowest_first.acquires_same k y there (at ∙ st.time) i old.1 r (none_older i older))
+          | inr there ↦ still_below i (simulation.lowest_first.excludes k y there (at ∙ st.time) i old.1 r (none_older i older))
         ]
       where
         not_same : (k i : ℕ) → k ≤ i → (k ≡ i → ⊥) → k < i
@@ -222,7 +222,7 @@ module _ (g : GraphValue) (graph : IsGraph g) (accepted : Accepted g) (p : ℕ) 
             let o = finished_fewer g p s.slots s.time simulation.up_to_now line (slot_of g s q line) no_slot below refl refl s.time i (omega arith) f' in
             subst (λ xs. is_done xs i ≡ true) (sym st.done) (simulation.done_lines.marked i o));
       };
-      lowest_first = record { lower = lower; acquires_same = acquires_same };
+      lowest_first = record { lower = lower; excludes = excludes };
       small = record {
         time = subst (λ xs. new.time + 17179869184 * undone xs (length g.lines) ≤ 17179869184 * length g.lines) (sym st.done) (subst (λ u. u + 17179869184 * undone s.done (length g.lines) ≤ 17179869184 * length g.lines) (sym st.time) simulation.small.time);
         finishes = λ k y h unf. subst (λ xs. y.finish + 17179869184 * undone xs (length g.lines) ≤ 17179869184 * length g.lines + 17179869184) (sym st.done)

@@ -177,7 +177,7 @@ module _ (g : GraphValue) (p : ℕ) (s : State) (fresh : IsFresh g p s) where
       valid = record {
         apart = λ i j x y h. absurd (no_slots i x h);
         sources = λ e c x h. absurd (no_slots e.to x h);
-        sections = λ i j acquires_same x y h. absurd (no_slots i x h);
+        sections = λ i j excludes x y h. absurd (no_slots i x h);
       };
       moments = λ i x h. absurd (no_slots i x h);
       free = λ i x h. absurd (no_slots i x h);
@@ -187,7 +187,7 @@ module _ (g : GraphValue) (p : ℕ) (s : State) (fresh : IsFresh g p s) where
       greedy = λ u before. (let t : s.time ≡ 0 = fresh.time in absurd (omega arith));
     };
     done_lines = record { finished = λ i d. absurd (none_done i d); marked = λ i f. absurd (no_slots i f.0 f.1) };
-    lowest_first = record { lower = λ i x h. absurd (no_slots i x h); acquires_same = λ i x h. absurd (no_slots i x h) };
+    lowest_first = record { lower = λ i x h. absurd (no_slots i x h); excludes = λ i x h. absurd (no_slots i x h) };
     small = record {
       time = (let t : s.time ≡ 0 = fresh.time in let m : undone s.done (length g.lines) ≤ length g.lines = count_below-max (λ i. not (is_done s.done i)) (length g.lines) in omega arith);
       finishes = λ i x h. absurd (no_slots i x h);

@@ -73,7 +73,7 @@ abbrev pub ReleasedBy : GraphValue → List (Option Slot) → ℕ → ℕ → Ty
 ReleasedBy g plan t q = (r : ℕ) × Releases g r q × FinishedBy plan t r
 
 -- two acquires of one reservation that are not both shared, so that only one of them may hold it at a time
-pub record AcquireSame (g : GraphValue) (i k : ℕ) : Type 0 where
+pub record Exclude (g : GraphValue) (i k : ℕ) : Type 0 where
   pub different : i ≢ k
   pub apart : both_shared g i k ≡ false
   pub lock : ℕ
@@ -87,7 +87,7 @@ pub record IsValid (g : GraphValue) (plan : List (Option Slot)) : Type 0 where
   -- a line starts at or after the finish of each source
   pub sources : (e : Edge) → Contains (edges g) e → (s : Slot) → HasSlot plan e.to s → FinishedBy plan s.start e.from
   -- of two acquires of one reservation, not both shared, the release of one finishes at or before the start of the other
-  pub sections : (i k : ℕ) → AcquireSame g i k → (s t : Slot) → HasSlot plan i s → HasSlot plan k t → ReleasedBy g plan t.start i ⊎ ReleasedBy g plan s.start k
+  pub sections : (i k : ℕ) → Exclude g i k → (s t : Slot) → HasSlot plan i s → HasSlot plan k t → ReleasedBy g plan t.start i ⊎ ReleasedBy g plan s.start k
 
 -- a moment at which lines may start: time 0, or the finish of a line
 abbrev pub IsMoment : List (Option Slot) → ℕ → Type 0
@@ -101,7 +101,7 @@ pub record IsReadyAt (g : GraphValue) (plan : List (Option Slot)) (t i : ℕ) : 
   -- each of its sources has finished
   pub sources : (e : Edge) → Contains (edges g) e → e.to ≡ i → FinishedBy plan t e.from
   -- each acquire of its reservation, not both shared, that has started before has been released
-  pub unheld : (k : ℕ) → AcquireSame g i k → (s : Slot) → HasSlot plan k s → s.start < t → ReleasedBy g plan t k
+  pub unheld : (k : ℕ) → Exclude g i k → (s : Slot) → HasSlot plan k s → s.start < t → ReleasedBy g plan t k
 
 -- a processor is free for line i at time t: no line on it started before and finishes after, and no line below i starts on it then
 pub record IsFreeFor (plan : List (Option Slot)) (t i q : ℕ) : Type 0 where
@@ -113,7 +113,7 @@ pub record MayStart (g : GraphValue) (processors : ℕ) (plan : List (Option Slo
   pub processor : ℕ
   pub known : processor < processors
   pub free : IsFreeFor plan t i processor
-  pub first : (k : ℕ) → AcquireSame g i k → k < i → (s : Slot) → HasSlot plan k s → s.start ≢ t
+  pub first : (k : ℕ) → Exclude g i k → k < i → (s : Slot) → HasSlot plan k s → s.start ≢ t
 
 -- a line starts at time t
 abbrev pub StartsAt : List (Option Slot) → ℕ → ℕ → Type 0

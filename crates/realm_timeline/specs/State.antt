@@ -11,7 +11,7 @@ use Rattle.graph_model.specs.meaning.Rules.{Releases}
 use Rattle.basics.specs.Lists.{count_below}
 use Rattle.realm_timeline.specs.declared.slot.Slot.{Slot}
 use Rattle.realm_timeline.specs.declared.simulation.Simulation.{Simulation}
-use Rattle.realm_timeline.specs.Plan.{slot_at, HasSlot, IsPartialPlan, FinishedBy, ReleasedBy, AcquireSame, IsValid, IsMoment, IsReadyAt, IsFreeFor, MayStart, StartsAt}
+use Rattle.realm_timeline.specs.Plan.{slot_at, HasSlot, IsPartialPlan, FinishedBy, ReleasedBy, Exclude, IsValid, IsMoment, IsReadyAt, IsFreeFor, MayStart, StartsAt}
 use Rattle.realm_timeline.specs.Queue.{QueueValue, queue_at, has_line, IsUnheld, AllHeldOrEmpty}
 
 -- the time, the slots so far, the lines that have one in the order of their starts, whether each line has finished, how many edges it waits for, the queues, and the line that each processor runs
@@ -123,18 +123,18 @@ pub record DoneAreFinished (s : State) : Type 0 where
   pub finished : (i : ℕ) → is_done s.done i ≡ true → FinishedBy s.slots s.time i
   pub marked : (i : ℕ) → FinishedBy s.slots s.time i → is_done s.done i ≡ true
 
--- each acquire that line i excludes, and that has started before now, has been released
+-- each acquire that line i excludes and that has started before now has been released
 abbrev pub NoneOlder : GraphValue → State → ℕ → Type 0
-NoneOlder g s i = (m : ℕ) → AcquireSame g i m → (y : Slot) → HasSlot s.slots m y → y.start < s.time → ReleasedBy g s.slots s.time m
+NoneOlder g s i = (m : ℕ) → Exclude g i m → (y : Slot) → HasSlot s.slots m y → y.start < s.time → ReleasedBy g s.slots s.time m
 
 -- an acquire below line i, which line i excludes, has started now
 abbrev pub StartsNowBelow : GraphValue → State → ℕ → Type 0
-StartsNowBelow g s i = (m : ℕ) × (y : Slot) × AcquireSame g i m × HasSlot s.slots m y × (y.start ≡ s.time) × (m < i)
+StartsNowBelow g s i = (m : ℕ) × (y : Slot) × Exclude g i m × HasSlot s.slots m y × (y.start ≡ s.time) × (m < i)
 
--- a line that started now is below each line that is left in a queue that is not held; and where an acquire waits for one that started now, but for none that started earlier, a lower one has started now
+-- a line that started now is below each line that is left in a queue that is not held; and where an acquire waits that excludes one that started now, but none that started earlier and holds, it excludes a lower one that has started now
 pub record StartsLowestFirst (g : GraphValue) (s : State) : Type 0 where
   pub lower : (k : ℕ) (x : Slot) → HasSlot s.slots k x → x.start ≡ s.time → (i : ℕ) → IsQueued g s i → IsUnheld (queue_at s.queues (queue_of g i)) → k < i
-  pub acquires_same : (k : ℕ) (x : Slot) → HasSlot s.slots k x → x.start ≡ s.time → (i : ℕ) → IsQueued g s i → AcquireSame g i k → NoneOlder g s i → StartsNowBelow g s i
+  pub excludes : (k : ℕ) (x : Slot) → HasSlot s.slots k x → x.start ≡ s.time → (i : ℕ) → IsQueued g s i → Exclude g i k → NoneOlder g s i → StartsNowBelow g s i
 
 -- how many of the first n lines have not finished
 abbrev pub undone : List Bool → ℕ → ℕ
