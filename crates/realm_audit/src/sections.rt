@@ -89,7 +89,6 @@ impl Sections {
         ensures ends { stands_in self.old.opened.items acquire ≡ true → OpensSection self.new.opened.items self.old.opened.items acquire }
         ensures stays { stands_in self.old.opened.items acquire ≡ false → self.new ≡ self.old }
     {
-        let _ = graph.lines();
         if !self.opened[acquire as usize] {
             return;
         }
@@ -109,7 +108,6 @@ impl Sections {
         ensures counted { AreCounted graph.now self.new }
         ensures ends { OpensSection self.new.opened.items self.old.opened.items acquire }
     {
-        let _ = graph.lines();
         self.opened[acquire as usize] = false;
         count_down(&mut self.all, lock);
         if !shared {
