@@ -3,6 +3,7 @@
 use graph_reader::read_graph;
 use plain_eval::evaluation::eval;
 use race_check::check;
+use race_check::checked::Checked;
 use realm_audit::{AuditRefusal, audit, read_trace};
 use std::alloc::Global;
 use std::test::Fail;
@@ -24,9 +25,7 @@ impl Row<'_> {
         if self.trace.len() > 4_294_967_295 {
             return Err("long".into());
         }
-        let Ok(checked) = check(alloc, read_graph(alloc, self.graph.as_bytes())?) else {
-            return Err("refused".into());
-        };
+        let checked = accepted(alloc, self.graph)?;
         let trace = read_trace(alloc, checked.graph(), self.trace)?;
         let outcome = eval(alloc, &checked)?;
         let answer = audit(alloc, checked.graph(), &outcome.ends, &trace);
@@ -34,6 +33,14 @@ impl Row<'_> {
             return Ok(());
         }
         Err(Fail::new(format_args!("{answer:?} of a trace of {}", self.graph)))
+    }
+}
+
+/// The graph of a text that is accepted.
+fn accepted(alloc: Global, text: &str) -> Result<Checked, Fail> {
+    match check(alloc, read_graph(alloc, text.as_bytes())?) {
+        Ok(checked) => Ok(checked),
+        Err(_) => Err("refused".into()),
     }
 }
 
@@ -89,10 +96,59 @@ const OVERLAP: Row<'static> = Row {
     answer: Err(AuditRefusal::Overlap(3, 2)),
 };
 
+/// Three sections of one reservation, of which the last is not shared.
+const TWO_SHARED: &str = "realm 2\n\
+    lock l\n\
+    q = acquire l shared\n\
+    r = release q on q\n\
+    k = acquire l shared\n\
+    t = release k on k\n\
+    c = acquire l\n\
+    v = release c on c\n\
+    end\n";
+
+/// The two that are shared lie side by side, and the third comes after both.
+const SHARED_SECTIONS: Row<'static> = Row {
+    graph: TWO_SHARED,
+    trace: b"realm-trace 1\nat k\nat q\nat r\nat t\nat c\nat v\ndone\n",
+    answer: Ok(()),
+};
+
+/// The third begins within both of them, of which the least is told; within one of them, the other being over; and
+/// before one of them.
+const EXCLUSIVE_IN_TWO: Row<'static> = Row {
+    graph: TWO_SHARED,
+    trace: b"realm-trace 1\nat k\nat q\nat c\nat r\nat t\nat v\ndone\n",
+    answer: Err(AuditRefusal::Overlap(2, 0)),
+};
+
+const EXCLUSIVE_IN_ONE: Row<'static> = Row {
+    graph: TWO_SHARED,
+    trace: b"realm-trace 1\nat k\nat q\nat r\nat c\nat t\nat v\ndone\n",
+    answer: Err(AuditRefusal::Overlap(3, 2)),
+};
+
+const SHARED_IN_EXCLUSIVE: Row<'static> = Row {
+    graph: TWO_SHARED,
+    trace: b"realm-trace 1\nat c\nat q\nat r\nat v\nat k\nat t\ndone\n",
+    answer: Err(AuditRefusal::Overlap(1, 4)),
+};
+
 #[test]
 fn audits(rt: HostRuntime) -> Result<(), Fail> {
     for row in [
-        ALL, ONE_LESS, TWICE, TOO_EARLY, WAITING, FAULTS, SECTIONS, OVERLAP,
+        ALL,
+        ONE_LESS,
+        TWICE,
+        TOO_EARLY,
+        WAITING,
+        FAULTS,
+        SECTIONS,
+        OVERLAP,
+        SHARED_SECTIONS,
+        EXCLUSIVE_IN_TWO,
+        EXCLUSIVE_IN_ONE,
+        SHARED_IN_EXCLUSIVE,
     ] {
         row.run(rt.alloc())?;
     }
@@ -110,9 +166,7 @@ fn orders(rt: HostRuntime) -> Result<(), Fail> {
         LOCKED_SUMS,
         stencil.as_str(),
     ] {
-        let Ok(checked) = check(alloc, read_graph(alloc, graph.as_bytes())?) else {
-            return Err("refused".into());
-        };
+        let checked = accepted(alloc, graph)?;
         let outcome = eval(alloc, &checked)?;
         audit(alloc, checked.graph(), &outcome.ends, &outcome.trace)?;
     }

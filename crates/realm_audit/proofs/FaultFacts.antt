@@ -1,17 +1,18 @@
 -- The faults at a place, by what is kept of the items before it.
-use Rattle.std.proofs.Common.{◌≡◌, ℕ, ◌+◌, ◌≤◌, min, true, false, inl, inr, List, length, refl, sym, ◌∙◌, ap, subst, arith}
-use Rattle.std.specs.Prelude.{◌↔◌, ◌==◌, Bool, Contains, Option, Some, None, MatchOption, slice_get}
+use Rattle.std.proofs.Common.{◌≡◌, ℕ, Bool, ◌+◌, ◌≤◌, min, true, false, inl, inr, List, length, refl, sym, ◌∙◌, ap, subst, arith}
+use Rattle.std.specs.Prelude.{◌↔◌, ◌==◌, Contains, Option, Some, None, MatchOption, slice_get}
 use Rattle.std.specs.Option.{option_map_or}
 use Rattle.std.proofs.lemmas.Bool.{true≢false, false_from_ne_true, cases_eq, cases_lt}
 use Rattle.std.proofs.lemmas.Option.{same_Some}
 use Rattle.graph_model.specs.declared.graph.verb.Edge.{Edge}
 use Rattle.graph_model.specs.declared.graph.verb.EdgeKind.TheVariants.{Passes}
-use Rattle.graph_model.specs.graph.Graph.{GraphValue}
+use Rattle.graph_model.specs.graph.Graph.{GraphValue, line_passes, is_shared}
 use Rattle.basics.proofs.ListFacts.{got_contains, contains_map, filter_contains}
 use Rattle.graph_model.specs.graph.Edges.{edges, edges_into, sources}
+use Rattle.graph_model.specs.meaning.Rules.{both_shared}
 use Rattle.graph_model.proofs.VerbFacts.{acquire_one}
 use Rattle.realm_audit.specs.Lawful.{StandsEarlier, IsRepeatAt, IsSourceFaultAt, IsOverlapAt, IsMissing, IsLeast}
-use Rattle.realm_audit.specs.Prefix.{Takes, AreEarlier, AreHolders, stands_in, holder_in, IsLeft, IsLate, IsHolder}
+use Rattle.realm_audit.specs.Prefix.{Takes, AreEarlier, AreOpen, stands_in, IsLeft, IsLate, IsOpenBeside, IsRival}
 use Rattle.realm_audit.proofs.EndFacts.{source_edge, into_line}
 use Rattle.realm_audit.proofs.Earlier.{earlier_none, earlier_by, earlier_more, earlier_here, earlier_cases, earlier_listed, listed_earlier}
 
@@ -41,12 +42,19 @@ module _ (g : GraphValue) (trace : List ℕ) (k i : ℕ) (at : slice_get trace k
     (λ f. (subst (λ z. Contains (sources g z) j) (same_Some f.0 i (sym f.1 ∙ at)) f.2, (f.3, false_from_ne_true (stands_in stands j) (λ h. f.4 ((are j).0 h))))),
   )
 
-  pub holder_is : (holders : List (Option ℕ)) → AreHolders g trace k (holder_in holders) → (IsRepeatAt trace k → ⊥) → (q : ℕ) → IsHolder g holders i q ↔ IsOverlapAt g trace k q
-  holder_is holders are once q = (
-    (λ h. (let held = (are h.0 q).0 h.2 in
-        (i, at, (h.0, record { acquires = (held.0.0, h.1.0); differ = λ e. once (i, at, subst (λ z. StandsEarlier trace k z) e held.1.0); done = (held.0.1, h.1.1) }), held.1))),
-    (λ f. (let same = same_Some f.0 i (sym f.1 ∙ at) in let s = f.2.1 in
-        (f.2.0, subst (λ z. Takes g z f.2.0) same (s.acquires.1, s.done.1), (are f.2.0 q).1 ((s.acquires.0, s.done.0), f.3)))),
+  pub rival_is : (opened : List Bool) → AreOpen g trace k (stands_in opened) → (IsRepeatAt trace k → ⊥) → (q : ℕ) → IsRival g opened i q ↔ IsOverlapAt g trace k q
+  rival_is opened are once q = (
+    (λ h. (let b = h.2 in let o = (are q).0 b.is_open in
+        (i, at, (h.0, record { acquires = (b.acquires, h.1.0); differ = λ e. once (i, at, subst (λ z. StandsEarlier trace k z) e o.2.0); apart = b.apart; done = (o.1.1, h.1.1) }), o.2))),
+    (λ f. (let same = same_Some f.0 i (sym f.1 ∙ at) in let s = f.2.1 in (
+      f.2.0,
+      subst (λ z. Takes g z f.2.0) same (s.acquires.1, s.done.1),
+      record {
+        is_open = (are q).1 (f.2.0, (s.acquires.0, s.done.0), f.3);
+        acquires = s.acquires.0;
+        apart = subst (λ z. both_shared g q z ≡ false) same s.apart;
+      },
+    ))),
   )
 
 -- at the end of a trace the lines that are left are missing
@@ -56,12 +64,17 @@ missing_is g trace stands are j = (
   (λ m. (m.0, false_from_ne_true (stands_in stands j) (λ h. m.1 (earlier_listed trace (length trace) j ((are j).0 h))))),
 )
 
--- a reservation has one holder, and so its holder is the least
-pub one_holder : (g : GraphValue) (holders : List (Option ℕ)) (i q p : ℕ) → IsHolder g holders i q → IsHolder g holders i p → q ≡ p
-one_holder g holders i q p a b = same_Some q p (sym a.2 ∙ (ap (holder_in holders) (acquire_one g i a.0 b.0 a.1.0 b.1.0) ∙ b.2))
+-- the rivals of a line, by the reservation that it takes
+module _ (g : GraphValue) (opened : List Bool) (i l : ℕ) (shared : Bool) (takes : Takes g i l) (s : line_passes is_shared g i ≡ shared) where
+  pub rival_beside : (q : ℕ) → IsOpenBeside g opened l shared q ↔ IsRival g opened i q
+  rival_beside q = (
+    (λ b. (l, takes, subst (λ z. IsOpenBeside g opened l z q) (sym s) b)),
+    (λ r. subst (λ z. IsOpenBeside g opened z shared q) (acquire_one g i r.0 l r.1.0 takes.0) (subst (λ z. IsOpenBeside g opened r.0 z q) s r.2)),
+  )
 
-pub least_holder : (g : GraphValue) (holders : List (Option ℕ)) (i q : ℕ) → IsHolder g holders i q → IsLeast (IsHolder g holders i) q
-least_holder g holders i q h = record { here = h; below = λ m less other. (let same = one_holder g holders i q m h other in absurd (omega arith)) }
+  pub least_rival : (o : Option ℕ) → MatchOption o ((q : ℕ) → IsOpenBeside g opened l shared q → ⊥) (IsLeast (IsOpenBeside g opened l shared)) → MatchOption o ((q : ℕ) → IsRival g opened i q → ⊥) (IsLeast (IsRival g opened i))
+  least_rival None h = λ q r. h q ((rival_beside q).1 r)
+  least_rival (Some q) h = least_same (IsOpenBeside g opened l shared) (IsRival g opened i) rival_beside q h
 
 -- the least source of the first n edges that does not wait and is not among those that stand
 pub record IsLeastOf (g : GraphValue) (stands : List Bool) (es : List Edge) (n j : ℕ) : Type 0 where

@@ -4,7 +4,8 @@ pub mod TraceTexts
 pub mod EndFacts
 pub mod Earlier
 pub mod Closed
-pub mod HolderSteps
+pub mod SectionSteps
+pub mod SectionCounts
 pub mod FaultFacts
 pub mod Verdicts
 pub mod VerbReads

@@ -11,6 +11,7 @@ use Rattle.graph_model.specs.meaning.Evaluation.{eval_end, is_ended}
 use Rattle.graph_model.specs.meaning.Trace.{StandsBefore, ListsEnded, IsLawful, HaveSections}
 use Rattle.graph_model.specs.meaning.Laws.{OrderListsEnded, SectionsNeverOverlap}
 use Rattle.graph_model.proofs.ReleaseFacts.{one_release}
+use Rattle.graph_model.proofs.VerbFacts.{both_shared_swap}
 use Rattle.realm_audit.specs.declared.refusal.AuditRefusal.{AuditRefusal}
 use Rattle.realm_audit.specs.declared.refusal.AuditRefusal.TheVariants.{Repeat, Waits, Source, Overlap, Missing, NoMemory}
 use Rattle.realm_audit.specs.Lawful.{StandsEarlier, IsSoundBefore, IsRefusal, IsMissing}
@@ -57,7 +58,8 @@ module _ (law : OrderListsEnded) (g : GraphValue) (fits : IsGraph g) (ok : Accep
   pub sound_is_lawful : IsLawful g trace
   sound_is_lawful = record {
     lists = lists_ended;
-    sections = λ l q p a b differ dq dp. sections_apart l q p (record { acquires = (a, b); differ = differ; done = (dq, dp) }) (record { acquires = (b, a); differ = λ e. differ (sym e); done = (dp, dq) });
+    sections = λ l q p a b differ apart dq dp.
+        sections_apart l q p (record { acquires = (a, b); differ = differ; apart = apart; done = (dq, dp) }) (record { acquires = (b, a); differ = λ e. differ (sym e); apart = both_shared_swap g p q ∙ apart; done = (dp, dq) });
   }
 
 -- what stands before a line in a lawful trace stands before its place

@@ -19,7 +19,7 @@ ends_of g = map (eval_end g) (numbers_below (length g.lines))
 abbrev pub StandsEarlier : {X : Type 0} → List X → ℕ → X → Type 0
 StandsEarlier xs k x = (m : ℕ) × (m < k) × (slice_get xs m ≡ Some x)
 
--- two acquires that ended Done, whose sections may not overlap: here those of one reservation
+-- two acquires that ended Done, whose sections may not overlap: those of one reservation, unless both are shared
 abbrev pub Exclude : GraphValue → ℕ → ℕ → Type 0
 Exclude g q i = (l : ℕ) × HaveSections g l q i
 

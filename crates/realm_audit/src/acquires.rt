@@ -1,7 +1,7 @@
 //! The reservations that lines take and free.
 
 ghost use Rattle.std.specs.Prelude.{◌≡◌, ℕ, ◌<◌, length, MatchOption};
-ghost use Rattle.graph_model.specs.graph.Graph.{locks};
+ghost use Rattle.graph_model.specs.graph.Graph.{locks, line_passes, is_shared};
 ghost use Rattle.graph_model.specs.meaning.Rules.{Acquires, Releases};
 ghost use Rattle.realm_audit.specs.Lawful.{ends_of};
 ghost use Rattle.realm_audit.specs.Prefix.{Takes};
@@ -11,22 +11,23 @@ use graph_model::lists::EndList;
 use graph_model::outcome::End;
 use graph_model::verb::Verb;
 
-/// The reservation that a line acquires.
-fn acquired(graph: &Graph, line: u32) -> Option<u32>
+/// The reservation that a line acquires, and whether shared.
+pub(crate) fn acquired(graph: &Graph, line: u32) -> Option<(u32, bool)>
     requires { line < length graph.now.lines }
-    ensures { MatchOption result ((l : ℕ) → Acquires graph.now line l → ⊥) (λ l. Acquires graph.now line l
-        × (l < length (locks graph.now))) }
+    ensures { MatchOption result ((l : ℕ) → Acquires graph.now line l → ⊥) (λ x. Acquires graph.now line x.0
+        × (x.0 < length (locks graph.now)) × (line_passes is_shared graph.now line ≡ x.1)) }
 {
     match &graph.line(line).verb {
-        Verb::Acquire { lock } => Some(*lock),
+        Verb::Acquire { lock, shared } => Some((*lock, *shared)),
         _ => None,
     }
 }
 
 /// The acquire that a line releases.
-fn released(graph: &Graph, line: u32) -> Option<u32>
+pub(crate) fn released(graph: &Graph, line: u32) -> Option<u32>
     requires { line < length graph.now.lines }
-    ensures { MatchOption result ((q : ℕ) → Releases graph.now line q → ⊥) (λ q. Releases graph.now line q × (q < length graph.now.lines)) }
+    ensures { MatchOption result ((q : ℕ) → Releases graph.now line q → ⊥) (λ q. Releases graph.now line q
+        × ((l : ℕ) × Acquires graph.now q l)) }
 {
     match &graph.line(line).verb {
         Verb::Release { acquire } => Some(*acquire),
@@ -34,33 +35,18 @@ fn released(graph: &Graph, line: u32) -> Option<u32>
     }
 }
 
-/// The reservation that a line takes: that of an acquire that is done.
-pub(crate) fn taken(graph: &Graph, ends: &EndList, line: u32) -> Option<u32>
+/// The reservation that a line takes, and whether shared: that of an acquire that is done.
+pub(crate) fn taken(graph: &Graph, ends: &EndList, line: u32) -> Option<(u32, bool)>
     requires known { line < length graph.now.lines }
     requires ends { ends.now ≡ ends_of graph.now }
-    ensures { MatchOption result ((l : ℕ) → Takes graph.now line l → ⊥) (λ l. Takes graph.now line l × (l < length (locks graph.now))) }
+    ensures { MatchOption result ((l : ℕ) → Takes graph.now line l → ⊥) (λ x. Takes graph.now line x.0
+        × (x.0 < length (locks graph.now)) × (line_passes is_shared graph.now line ≡ x.1)) }
 {
-    let Some(lock) = acquired(graph, line) else {
+    let Some((lock, shared)) = acquired(graph, line) else {
         return None;
     };
     match ends.at(line) {
-        End::Done => Some(lock),
+        End::Done => Some((lock, shared)),
         _ => None,
-    }
-}
-
-/// The acquire that a line releases, and its reservation.
-pub(crate) fn freed(graph: &Graph, line: u32) -> Option<(u32, u32)>
-    requires { line < length graph.now.lines }
-    ensures { MatchOption result ((q : ℕ) → Releases graph.now line q → ⊥) (λ x. Releases graph.now line x.0
-        × Acquires graph.now x.0 x.1 × (x.1 < length (locks graph.now))) }
-{
-    let _ = graph.lines();
-    let Some(acquire) = released(graph, line) else {
-        return None;
-    };
-    match acquired(graph, acquire) {
-        Some(lock) => Some((acquire, lock)),
-        None => unreachable!(),
     }
 }

@@ -7,7 +7,6 @@ ghost use Rattle.realm_audit.specs.Reading.{AreLines};
 ghost use Rattle.realm_audit.specs.Prefix.{IsPrefix, IsLate};
 
 use crate::ends::waits;
-use crate::holders::holder;
 use crate::prefix::Prefix;
 use crate::refusal::AuditRefusal;
 use graph_model::graph::Graph;
@@ -41,7 +40,7 @@ pub(crate) fn judge_place(
     if let Some(source) = late_source(graph, ends, prefix, line) {
         return Err(AuditRefusal::Source(place, source));
     }
-    if let Some(acquire) = holder(graph, ends, prefix.holders.as_slice(), line) {
+    if let Some(acquire) = prefix.sections.rival(graph, ends, line) {
         return Err(AuditRefusal::Overlap(place, acquire));
     }
     Ok(())

@@ -4,12 +4,12 @@
 mod acquires;
 mod ends;
 mod faults;
-mod holders;
 pub mod input_parts;
 pub mod lawful;
 mod prefix;
 pub mod reading;
 pub mod refusal;
+mod sections;
 
 pub use input_parts::parts;
 pub use lawful::audit;

@@ -1,7 +1,7 @@
 //! What is kept of the items of a trace before a place.
 
 use crate::ends::waits;
-use crate::holders::{no_holders, pass};
+use crate::sections::Sections;
 use graph_model::graph::Graph;
 use graph_model::lists::{EndList, LineList};
 use graph_model::outcome::End;
@@ -9,13 +9,13 @@ use index_spaces::NoMemory;
 use index_spaces::room::filled;
 use std::alloc::Global;
 
-/// The lines that stand there, and the acquires whose sections are open.
+/// The lines that stand there, and the sections that are open.
 #[derive(Drop)]
 pub(crate) struct Prefix {
     /// For each line, whether it stands there.
     pub(crate) stands: Vec<bool>,
-    /// For each reservation, the acquire that holds it.
-    pub(crate) holders: Vec<Option<u32>>,
+    /// The sections that are open there.
+    pub(crate) sections: Sections,
 }
 
 impl Prefix {
@@ -31,7 +31,7 @@ impl Prefix {
     {
         Ok(Prefix {
             stands: filled(alloc, false, graph.lines() as usize)?,
-            holders: no_holders(alloc, graph)?,
+            sections: Sections::new(alloc, graph)?,
         })
     }
 
@@ -64,7 +64,7 @@ impl Prefix {
     {
         let line = trace.at(place);
         self.stands[line as usize] = true;
-        pass(&mut self.holders, graph, ends, trace, place);
+        self.sections.pass(graph, ends, trace, place);
     }
 
     /// The least line that ends and does not stand there.

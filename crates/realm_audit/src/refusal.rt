@@ -14,7 +14,8 @@ pub enum AuditRefusal {
     Waits(u32),
     /// Of the line at this place the source of the second number ends, but stands not earlier.
     Source(u32, u32),
-    /// At the acquire at this place the section of the acquire of the second number has not ended.
+    /// At the acquire at this place the section of the acquire of the second number has not ended, and
+    /// the two are not both shared.
     Overlap(u32, u32),
     /// This line ends, and is not in the trace.
     Missing(u32),

@@ -1,23 +1,18 @@
 -- The tables of a simulation stay consistent when a line waits for one edge fewer.
 use Rattle.std.proofs.Common.{◌≡◌, ℕ, ◌+◌, ◌-◌, ◌<◌, Bool, true, false, cond, not, inl, inr, List, [], ◌∷◌, length, refl, sym, ◌∙◌, ap, subst, arith}
-use Rattle.std.specs.Prelude.{◌==◌, ◌&&◌, Contains, Option, Some, None, slice_index, slice_set, count_by}
-use Rattle.std.specs.Option.{option_map_or}
+use Rattle.std.specs.Prelude.{◌↔◌, ◌==◌, ◌&&◌, Contains, Option, Some, None, slice_index, slice_set, count_by}
 use Rattle.std.specs.List.{slice_index_or}
 use Rattle.std.proofs.lemmas.Bool.{true≢false, cases_lt, cases_eq, eq-eqb, eqb-true, ne_eqb, and_parts, and_from, or_cases, or_left, or_right, not_from_false, not-true, false_from_ne_true}
 use Rattle.std.proofs.lemmas.List.{get_or_past, get_or-set_same, get_or-set_other, length-set}
 use Rattle.graph_model.specs.declared.graph.verb.Edge.{Edge}
-use Rattle.graph_model.specs.declared.graph.verb.Verb.{Verb}
-use Rattle.graph_model.specs.declared.graph.verb.Verb.TheVariants.{User, Trigger, Cancel, Merge, MergeIgnore, Phase, Arrive, Acquire, Release, Fill, Copy, Reduce, Task}
-use Rattle.graph_model.specs.graph.Graph.{GraphValue, never_comes, verb_at}
+use Rattle.graph_model.specs.graph.Graph.{GraphValue, never_comes}
 use Rattle.graph_model.specs.graph.Edges.{edges}
 use Rattle.graph_model.specs.meaning.Path.{HasPath}
-use Rattle.graph_model.specs.meaning.Rules.{Acquires}
 use Rattle.graph_model.proofs.PathLaws.{back_path}
-use Rattle.graph_model.proofs.VerbFacts.{is_acquire_from}
 use Rattle.realm_timeline.specs.declared.slot.Slot.{Slot}
 use Rattle.realm_timeline.specs.Plan.{slot_at, HasSlot}
 use Rattle.realm_timeline.specs.Queue.{QueueValue, queue_at, has_line}
-use Rattle.realm_timeline.specs.State.{State, verb_queue, queue_of, is_done, waits_for, IsQueued, IsConsistent}
+use Rattle.realm_timeline.specs.State.{State, queue_of, bars, is_done, waits_for, IsQueued, Holds, IsConsistent}
 use Rattle.realm_timeline.specs.Steps.{IsOffered, CountsDown}
 use Rattle.realm_timeline.proofs.EdgeCounts.{bit, count_cons, count_one, count_zero, none_counted, counted_none}
 
@@ -136,17 +131,17 @@ module _ (g : GraphValue) (p : ℕ) (s : State) (e : Edge) (rest : List Edge) (k
         ])
   ]
 
-  held_by : (b : Bool) → IsOffered g s.queues queues e.to b → (q : ℕ) → (queue_at queues q).held ≡ (queue_at s.queues q).held
-  held_by false same q = ap (λ x. (queue_at x q).held) same
-  held_by true changes q = elim (cases_eq q (queue_of g e.to)) [
-    | inl at ↦ subst (λ x. (queue_at queues x).held ≡ (queue_at s.queues x).held) (sym at) changes.here.held
-    | inr apart ↦ ap (λ x. x.held) (changes.others q apart)
+  holders_by : (b : Bool) → IsOffered g s.queues queues e.to b → (q : ℕ) → (queue_at queues q).holders ≡ (queue_at s.queues q).holders
+  holders_by false same q = ap (λ x. (queue_at x q).holders) same
+  holders_by true changes q = elim (cases_eq q (queue_of g e.to)) [
+    | inl at ↦ subst (λ x. (queue_at queues x).holders ≡ (queue_at s.queues x).holders) (sym at) changes.here.holders
+    | inr apart ↦ ap (λ x. x.holders) (changes.others q apart)
   ]
 
   passed : IsOffered g s.queues queues e.to ((slice_index s.left e.to - 1 == 0) && not (never_comes g e.to)) → IsConsistent g p after rest
   unfolding after
   passed offered =
-      let same : (q : ℕ) → (queue_at queues q).held ≡ (queue_at s.queues q).held = held_by ((slice_index s.left e.to - 1 == 0) && not (never_comes g e.to)) offered in
+      let same : (q : ℕ) → (queue_at queues q).holders ≡ (queue_at s.queues q).holders = holders_by ((slice_index s.left e.to - 1 == 0) && not (never_comes g e.to)) offered in
       record {
         slot_count = k.slot_count;
         done_count = k.done_count;
@@ -158,10 +153,7 @@ module _ (g : GraphValue) (p : ℕ) (s : State) (e : Edge) (rest : List Edge) (k
         finished_started = k.finished_started;
         queued = queued_by ((slice_index s.left e.to - 1 == 0) && not (never_comes g e.to)) refl offered;
         all_queued = all_queued_by ((slice_index s.left e.to - 1 == 0) && not (never_comes g e.to)) refl offered;
-        others_unheld = same 0 ∙ k.others_unheld;
-        held = λ l h. (let r = k.held l (sym (same (l + 1)) ∙ h) in (r.0, record { acquires = r.1.acquires; slot = r.1.slot; has = r.1.has; unreleased = r.1.unreleased }));
-        holds = λ l m h. same (l + 1) ∙ k.holds l m (record { acquires = h.acquires; slot = h.slot; has = h.has; unreleased = h.unreleased });
-        one_holds = λ l m n a c. k.one_holds l m n (record { acquires = a.acquires; slot = a.slot; has = a.has; unreleased = a.unreleased }) (record { acquires = c.acquires; slot = c.slot; has = c.has; unreleased = c.unreleased });
+        holders = λ q m. subst (λ hs. (has_line hs m ≡ true) ↔ ((bars g m q ≡ true) × Holds g s.slots s.done m)) (sym (same q)) (k.holders q m);
         runs = k.runs;
         running = k.running;
         ordered = k.ordered;
@@ -205,23 +197,3 @@ sources_none g p s k i all =
 pub path_started : (g : GraphValue) (p : ℕ) (s : State) → IsConsistent g p s [] → (i j : ℕ) → HasPath g i j → (x : Slot) → HasSlot s.slots j x → (y : Slot) × HasSlot s.slots i y
 path_started g p s k i j path x h = back_path (λ m. (y : Slot) × HasSlot s.slots m y)
     (λ e c to. k.finished_started e.from (source_done g p s k e.to (k.started_free e.to to.0 to.1) e c refl)) path (x, h)
-
--- a line in the queue of a reservation acquires it
-pub queue_acquires : (g : GraphValue) (i l : ℕ) → queue_of g i ≡ l + 1 → Acquires g i l
-queue_acquires g i l h = is_acquire_from g i l (by (verb_at g i) h)
-  where
-    by : (o : Option Verb) → option_map_or verb_queue o 0 ≡ l + 1 → o ≡ Some (Acquire l)
-    by None h = absurd (omega arith)
-    by (Some User) h = absurd (omega arith)
-    by (Some (Trigger u)) h = absurd (omega arith)
-    by (Some (Cancel u)) h = absurd (omega arith)
-    by (Some (Merge es)) h = absurd (omega arith)
-    by (Some (MergeIgnore es)) h = absurd (omega arith)
-    by (Some (Phase b)) h = absurd (omega arith)
-    by (Some (Arrive q v w)) h = absurd (omega arith)
-    by (Some (Acquire m)) h = ap (λ x. Some (Acquire x)) (let e : m ≡ l = omega arith in e)
-    by (Some (Release q)) h = absurd (omega arith)
-    by (Some (Fill t x v)) h = absurd (omega arith)
-    by (Some (Copy a b x)) h = absurd (omega arith)
-    by (Some (Reduce o a b x)) h = absurd (omega arith)
-    by (Some (Task t)) h = absurd (omega arith)

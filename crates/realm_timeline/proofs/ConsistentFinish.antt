@@ -1,25 +1,22 @@
 -- The tables of a simulation stay consistent when a line is marked as finished.
 use Rattle.std.proofs.Common.{◌≡◌, ℕ, ◌+◌, ◌<◌, Bool, true, false, not, inl, inr, List, [], length, refl, sym, ◌∙◌, ap, subst, arith}
-use Rattle.std.specs.Prelude.{◌==◌, ◌&&◌, Option, Some, None, slice_index, slice_set, count_by}
-use Rattle.std.proofs.lemmas.Bool.{true≢false, cases_eq, eq-eqb, eqb-true, false_from_ne_true}
+use Rattle.std.specs.Prelude.{◌==◌, ◌↔◌, ◌&&◌, Option, Some, None, slice_index, slice_set, count_by}
+use Rattle.std.proofs.lemmas.Bool.{true≢false, cases_eq, eq-eqb, eqb-true, ne_eqb, and_parts, and_from, and_left, not_from_false, not-true}
 use Rattle.std.proofs.lemmas.List.{get_or-set_same, get_or-set_other, length-set}
 use Rattle.std.proofs.lemmas.Option.{none-some, same_Some}
 use Rattle.graph_model.specs.declared.graph.verb.Edge.{Edge}
 use Rattle.graph_model.specs.graph.Graph.{GraphValue}
 use Rattle.graph_model.specs.graph.Edges.{edges, edges_out_of}
-use Rattle.graph_model.specs.meaning.Path.{HasPath}
-use Rattle.graph_model.specs.meaning.Rules.{Accepted, Acquires, Releases}
+use Rattle.graph_model.specs.meaning.Rules.{Accepted, Releases}
 use Rattle.graph_model.specs.graph.Fits.{IsGraph}
-use Rattle.graph_model.proofs.ReleaseFacts.{one_release, release_names}
 use Rattle.graph_model.proofs.VerbFacts.{release_one}
 use Rattle.realm_timeline.specs.declared.slot.Slot.{Slot}
 use Rattle.realm_timeline.specs.Plan.{HasSlot}
 use Rattle.realm_timeline.specs.Queue.{QueueValue, queue_at, has_line}
-use Rattle.realm_timeline.specs.State.{State, queue_of, is_done, runs_at, waits_for, Holds, IsConsistent}
+use Rattle.realm_timeline.specs.State.{State, queue_of, bars, is_done, runs_at, waits_for, Holds, IsConsistent}
 use Rattle.realm_timeline.specs.Steps.{Frees, MarksFinished}
-use Rattle.realm_timeline.proofs.CostFacts.{acquire_queue}
 use Rattle.realm_timeline.proofs.EdgeCounts.{bit, count_split, count_filter}
-use Rattle.realm_timeline.proofs.ConsistentCounts.{same_state, within, path_started}
+use Rattle.realm_timeline.proofs.ConsistentCounts.{same_state, within}
 
 -- one edge more counts as passed
 awaits_by : (a b c d : Bool) → (c ≡ true → (b ≡ false) × (d ≡ true)) → (c ≡ false → d ≡ b) → bit (a && not b) ≡ bit (a && not d) + bit (a && c)
@@ -85,40 +82,42 @@ module _ (g : GraphValue) (graph : IsGraph g) (accepted : Accepted g) (p : ℕ) 
 
   lines_by : (o : Option ℕ) → Frees g line s.queues queues o → (r : ℕ) → (queue_at queues r).lines ≡ (queue_at s.queues r).lines
   lines_by None f r = ap (λ x. (queue_at x r).lines) f.1
-  lines_by (Some a) f r = elim (cases_eq r (queue_of g a)) [
-    | inl at ↦ subst (λ x. (queue_at queues x).lines ≡ (queue_at s.queues x).lines) (sym at) f.1.here.lines
-    | inr apart ↦ ap (λ x. x.lines) (f.1.others r apart)
-  ]
+  lines_by (Some a) f r = f.1.lines r
 
-  -- the lock of an acquire that the line releases
-  held_elsewhere : (o : Option ℕ) → Frees g line s.queues queues o → (r : ℕ) → (queue_at queues r).held ≡ true → ((queue_at s.queues r).held ≡ true) × ((a : ℕ) → Releases g line a → queue_of g a ≡ r → ⊥)
-  held_elsewhere None f r h = (subst (λ x. (queue_at x r).held ≡ true) f.1 h, λ a rel at. f.0 a rel)
-  held_elsewhere (Some b) f r h = elim (cases_eq r (queue_of g b)) [
-    | inl at ↦ absurd (true≢false (sym (subst (λ x. (queue_at queues x).held ≡ true) at h) ∙ f.1.here.held_is))
-    | inr apart ↦ (subst (λ x. x.held ≡ true) (f.1.others r apart) h, λ a rel at. apart (sym at ∙ ap (queue_of g) (release_one g line a b rel f.0)))
-  ]
+  -- what holds from now on held before, and is not what the line releases
+  held_before : (o : Option ℕ) → Frees g line s.queues queues o → (r m : ℕ) → has_line (queue_at queues r).holders m ≡ true → (has_line (queue_at s.queues r).holders m ≡ true) × (bars g m r ≡ true → Releases g line m → ⊥)
+  held_before None f r m h = (subst (λ x. has_line (queue_at x r).holders m ≡ true) f.1 h, λ b rel. f.0 m rel)
+  held_before (Some a) f r m h =
+      let parts = and_parts (not ((m == a) && bars g a r)) (has_line (queue_at s.queues r).holders m) (sym (f.1.holders r m) ∙ h) in (
+        parts.1,
+        λ b rel. (
+            let same : m ≡ a = release_one g line m a rel f.0 in
+            true≢false (sym (and_from (m == a) (bars g a r) (eq-eqb m a same) (subst (λ z. bars g z r ≡ true) same b)) ∙ not-true ((m == a) && bars g a r) parts.0)),
+      )
 
-  still_held : (o : Option ℕ) → Frees g line s.queues queues o → (r : ℕ) → (queue_at s.queues r).held ≡ true → ((a : ℕ) → Releases g line a → queue_of g a ≡ r → ⊥) → (queue_at queues r).held ≡ true
-  still_held None f r h none = subst (λ x. (queue_at x r).held ≡ true) (sym f.1) h
-  still_held (Some b) f r h none = elim (cases_eq r (queue_of g b)) [
-    | inl at ↦ absurd (none b f.0 (sym at))
-    | inr apart ↦ subst (λ x. x.held ≡ true) (sym (f.1.others r apart)) h
-  ]
+  still_held : (o : Option ℕ) → Frees g line s.queues queues o → (r m : ℕ) → has_line (queue_at s.queues r).holders m ≡ true → (Releases g line m → ⊥) → has_line (queue_at queues r).holders m ≡ true
+  still_held None f r m h keeps = subst (λ x. has_line (queue_at x r).holders m ≡ true) (sym f.1) h
+  still_held (Some a) f r m h keeps = f.1.holders r m ∙ and_from (not ((m == a) && bars g a r)) (has_line (queue_at s.queues r).holders m)
+      (not_from_false ((m == a) && bars g a r) (and_left (m == a) (bars g a r) (ne_eqb m a (λ e. keeps (subst (Releases g line) (sym e) f.0))))) h
 
-  zero_unheld : (o : Option ℕ) → Frees g line s.queues queues o → (queue_at queues 0).held ≡ false
-  zero_unheld o f = false_from_ne_true (queue_at queues 0).held (λ h. true≢false (sym (held_elsewhere o f 0 h).0 ∙ k.others_unheld))
+  was_holding : (m : ℕ) → Holds g s.slots (slice_set s.done line true) m → Holds g s.slots s.done m
+  was_holding m h = record { slot = h.slot; has = h.has; unreleased = λ r rel. (not_done r (h.unreleased r rel)).1 }
 
-  was_held : (l m : ℕ) → Holds g after l m → Holds g s l m
-  unfolding after
-  was_held l m h = record { acquires = h.acquires; slot = h.slot; has = h.has; unreleased = λ r rel. (not_done r (h.unreleased r rel)).1 }
+  still_holding : (m : ℕ) → (Releases g line m → ⊥) → Holds g s.slots s.done m → Holds g s.slots (slice_set s.done line true) m
+  still_holding m keeps h = record {
+    slot = h.slot;
+    has = h.has;
+    unreleased = λ r rel. elim (cases_eq r line) [
+      | inl at ↦ absurd (keeps (subst (λ z. Releases g z m) at rel))
+      | inr apart ↦ done_there r apart ∙ h.unreleased r rel
+    ];
+  }
 
-  -- what the line releases holds until now
-  releaser_holds : (l a : ℕ) → Releases g line a → Acquires g a l → Holds g s l a
-  releaser_holds l a rel acq =
-      let r = accepted.released a l acq in
-      let same : r.0 ≡ line = one_release g graph a r.0 line r.1 rel in
-      let x = path_started g p s k a line (subst (HasPath g a) same r.2) started.0 started.1 in
-      record { acquires = acq; slot = x.0; has = x.1; unreleased = λ n other. subst (λ z. is_done s.done z ≡ false) (one_release g graph a line n rel other) unfinished }
+  holders : (o : Option ℕ) → Frees g line s.queues queues o → (r m : ℕ) → (has_line (queue_at queues r).holders m ≡ true) ↔ ((bars g m r ≡ true) × Holds g s.slots (slice_set s.done line true) m)
+  holders o f r m = (
+    (λ h. (let e = held_before o f r m h in let b = (k.holders r m).0 e.0 in (b.0, still_holding m (e.1 b.0) b.1))),
+    (λ b. still_held o f r m ((k.holders r m).1 (b.0, was_holding m b.1)) (λ rel. true≢false (sym done_here ∙ b.1.unreleased line rel))),
+  )
 
   left_processor : (o : Option ℕ) → Frees g line s.queues queues o → IsConsistent g p after (edges_out_of g line)
   unfolding after
@@ -136,28 +135,7 @@ module _ (g : GraphValue) (graph : IsGraph g) (accepted : Accepted g) (p : ℕ) 
     ];
     queued = λ r i h. (let w = k.queued r i (subst (λ x. has_line x i ≡ true) (lines_by o f r) h) in (record { line = w.0.line; free = w.0.free; comes = w.0.comes; waits = w.0.waits }, w.1));
     all_queued = λ i w. subst (λ x. has_line x i ≡ true) (sym (lines_by o f (queue_of g i))) (k.all_queued i (record { line = w.line; free = w.free; comes = w.comes; waits = w.waits }));
-    others_unheld = zero_unheld o f;
-    held = λ l h. (
-        let e = held_elsewhere o f (l + 1) h in
-        let r = k.held l e.0 in (
-          r.0,
-          record {
-            acquires = r.1.acquires;
-            slot = r.1.slot;
-            has = r.1.has;
-            unreleased = λ n rel. elim (cases_eq n line) [
-              | inl at ↦ absurd (e.1 r.0 (subst (λ x. Releases g x r.0) at rel) (acquire_queue g r.0 l r.1.acquires))
-              | inr apart ↦ done_there n apart ∙ r.1.unreleased n rel
-            ];
-          },
-        ));
-    holds = λ l m h. still_held o f (l + 1) (k.holds l m (was_held l m h)) (λ a rel at. (
-        let acq = release_names g graph line a rel in
-        let same : acq.0 + 1 ≡ l + 1 = sym (acquire_queue g a acq.0 acq.1) ∙ at in
-        let acq_l : Acquires g a l = subst (Acquires g a) (let e : acq.0 ≡ l = omega arith in e) acq.1 in
-        let one : a ≡ m = k.one_holds l a m (releaser_holds l a rel acq_l) (was_held l m h) in
-        true≢false (sym done_here ∙ h.unreleased line (subst (Releases g line) one rel))));
-    one_holds = λ l m n a b. k.one_holds l m n (was_held l m a) (was_held l n b);
+    holders = holders o f;
     runs = λ r m h. elim (cases_eq r q) [
       | inl at ↦ absurd (none-some m (sym (get_or-set_same s.running q None None q_below) ∙ subst (λ x. runs_at (slice_set s.running q None) x ≡ Some m) at h))
       | inr apart ↦ (

@@ -1,7 +1,7 @@
 -- The tables of a simulation stay consistent when a line starts.
-use Rattle.std.proofs.Common.{◌≡◌, ℕ, ◌+◌, ◌<◌, Bool, true, false, not, inl, inr, List, [], ◌∷◌, ◌++◌, length, take, refl, sym, ◌∙◌, ap, subst, length-append, arith}
-use Rattle.std.specs.Prelude.{◌==◌, ◌||◌, nat_lt, Contains, Option, Some, None, slice_index, slice_set}
-use Rattle.std.proofs.lemmas.Bool.{true≢false, cases_lt, cases_eq, eq-eqb, ne_eqb, lt-ltb, and_parts, and_from, or_left, or_right, not_from_false, not-true, false_from_ne_true}
+use Rattle.std.proofs.Common.{◌≡◌, ℕ, ◌+◌, ◌<◌, true, false, not, inl, inr, List, [], ◌∷◌, ◌++◌, length, take, refl, sym, ◌∙◌, ap, subst, length-append, arith}
+use Rattle.std.specs.Prelude.{◌==◌, ◌↔◌, ◌&&◌, ◌||◌, Contains, Option, Some, None, slice_index, slice_set}
+use Rattle.std.proofs.lemmas.Bool.{true≢false, cases_lt, cases_eq, eq-eqb, eqb-true, ne_eqb, or_cases, and_parts, and_from, or_left, or_right, not_from_false, not-true, false_from_ne_true}
 use Rattle.std.proofs.lemmas.List.{get_or_push, get_or_append_left, get_or-set_same, get_or-set_other, length-set, take-append-le, take_all}
 use Rattle.std.proofs.lemmas.List.Elements.{Contains-push, Contains-push_cases, Contains-append_left, Contains-get_or}
 use Rattle.std.proofs.lemmas.Option.{none-some, same_Some}
@@ -13,10 +13,9 @@ use Rattle.graph_model.proofs.ReleaseFacts.{one_release, release_names}
 use Rattle.realm_timeline.specs.declared.slot.Slot.{Slot}
 use Rattle.realm_timeline.specs.Plan.{slot_at, HasSlot}
 use Rattle.realm_timeline.specs.Queue.{QueueValue, queue_at, has_line, ChangesQueue, WithoutLine}
-use Rattle.realm_timeline.specs.State.{State, queue_of, is_done, runs_at, IsQueued, Holds, IsConsistent}
-use Rattle.realm_timeline.specs.Steps.{Starts, slot_of}
-use Rattle.realm_timeline.proofs.CostFacts.{acquire_queue}
-use Rattle.realm_timeline.proofs.ConsistentCounts.{same_state, source_done, path_started, queue_acquires}
+use Rattle.realm_timeline.specs.State.{State, queue_of, bars, is_done, runs_at, IsQueued, Holds, IsConsistent}
+use Rattle.realm_timeline.specs.Steps.{AddsHolder, Starts, slot_of}
+use Rattle.realm_timeline.proofs.ConsistentCounts.{same_state, source_done, path_started}
 
 -- one more slot
 pub slot_here : (slots : List (Option Slot)) (line : ℕ) (x : Slot) → line < length slots → slot_at (slice_set slots line (Some x)) line ≡ Some x
@@ -26,8 +25,8 @@ pub slot_there : (slots : List (Option Slot)) (line : ℕ) (x : Slot) (i : ℕ) 
 slot_there slots line x i apart = get_or-set_other slots line i (Some x) None apart
 
 module _ (g : GraphValue) (graph : IsGraph g) (accepted : Accepted g) (p : ℕ) (s : State) (k : IsConsistent g p s []) (place q line : ℕ) (x : Slot) (on : x.processor ≡ q)
-    (listed : has_line (queue_at s.queues place).lines line ≡ true) (unheld : (queue_at s.queues place).held ≡ false) (q_below : q < length s.running) (idle : runs_at s.running q ≡ None)
-    (queues : List QueueValue) (count : length queues ≡ length s.queues) (changes : ChangesQueue s.queues queues place (WithoutLine line place)) where
+    (listed : has_line (queue_at s.queues place).lines line ≡ true) (q_below : q < length s.running) (idle : runs_at s.running q ≡ None)
+    (between queues : List QueueValue) (count : length queues ≡ length s.queues) (changes : ChangesQueue s.queues between place (WithoutLine line)) (holds : AddsHolder g between queues line) where
   after : State
   after = record s { slots = slice_set s.slots line (Some x); order = s.order ++ line ∷ []; queues = queues; running = slice_set s.running q (Some line) }
 
@@ -87,73 +86,60 @@ module _ (g : GraphValue) (graph : IsGraph g) (accepted : Accepted g) (p : ℕ) 
   still_waiting i apart w = record { line = w.line; free = w.free; comes = w.comes; waits = slot_there s.slots line x i apart ∙ w.waits }
 
   queued : (r i : ℕ) → has_line (queue_at queues r).lines i ≡ true → IsQueued g after i × (queue_of g i ≡ r)
-  queued r i h = elim (cases_eq r place) [
-    | inl at ↦ (
-        let parts = and_parts (not (i == line)) (has_line (queue_at s.queues place).lines i) (sym (changes.here.lines i) ∙ subst (λ z. has_line (queue_at queues z).lines i ≡ true) at h) in
-        let w = k.queued place i parts.1 in
-        (still_waiting i (λ e. true≢false (sym (eq-eqb i line e) ∙ not-true (i == line) parts.0)) w.0, w.1 ∙ sym at))
-    | inr apart ↦ (
-        let w = k.queued r i (subst (λ z. has_line z.lines i ≡ true) (changes.others r apart) h) in
-        (still_waiting i (λ e. apart (sym w.1 ∙ (ap (queue_of g) e ∙ at_place))) w.0, w.1))
-  ]
+  queued r i h' =
+      let h : has_line (queue_at between r).lines i ≡ true = subst (λ z. has_line z i ≡ true) (holds.lines r) h' in
+      elim (cases_eq r place) [
+        | inl at ↦ (
+            let parts = and_parts (not (i == line)) (has_line (queue_at s.queues place).lines i) (sym (changes.here.lines i) ∙ subst (λ z. has_line (queue_at between z).lines i ≡ true) at h) in
+            let w = k.queued place i parts.1 in
+            (still_waiting i (λ e. true≢false (sym (eq-eqb i line e) ∙ not-true (i == line) parts.0)) w.0, w.1 ∙ sym at))
+        | inr apart ↦ (
+            let w = k.queued r i (subst (λ z. has_line z.lines i ≡ true) (changes.others r apart) h) in
+            (still_waiting i (λ e. apart (sym w.1 ∙ (ap (queue_of g) e ∙ at_place))) w.0, w.1))
+      ]
 
   all_queued : (i : ℕ) → IsQueued g after i → has_line (queue_at queues (queue_of g i)).lines i ≡ true
   all_queued i w' =
       let w = was_waiting i w' in
       let old : has_line (queue_at s.queues (queue_of g i)).lines i ≡ true = k.all_queued i w.1 in
-      elim (cases_eq (queue_of g i) place) [
-        | inl at ↦ subst (λ z. has_line (queue_at queues z).lines i ≡ true) (sym at)
+      subst (λ z. has_line z i ≡ true) (sym (holds.lines (queue_of g i))) (elim (cases_eq (queue_of g i) place) [
+        | inl at ↦ subst (λ z. has_line (queue_at between z).lines i ≡ true) (sym at)
             (changes.here.lines i ∙ and_from (not (i == line)) (has_line (queue_at s.queues place).lines i) (not_from_false (i == line) (ne_eqb i line w.0)) (subst (λ z. has_line (queue_at s.queues z).lines i ≡ true) at old))
         | inr apart ↦ subst (λ z. has_line z.lines i ≡ true) (sym (changes.others (queue_of g i) apart)) old
-      ]
+      ])
 
-  zero_by : (b : Bool) → (queue_at queues place).held ≡ ((queue_at s.queues place).held || nat_lt 0 place) → place ≡ 0 → (queue_at queues 0).held ≡ false
-  zero_by b h e =
-      let a : (queue_at queues 0).held ≡ ((queue_at s.queues 0).held || nat_lt 0 0) = subst (λ z. (queue_at queues z).held ≡ ((queue_at s.queues z).held || nat_lt 0 z)) e h in
-      a ∙ ap (λ z. z || false) k.others_unheld
-
-  others_unheld : (queue_at queues 0).held ≡ false
-  others_unheld = elim (cases_eq 0 place) [
-    | inl at ↦ zero_by true changes.here.held (sym at)
-    | inr apart ↦ ap (λ z. z.held) (changes.others 0 apart) ∙ k.others_unheld
+  same_holders : (q : ℕ) → (queue_at between q).holders ≡ (queue_at s.queues q).holders
+  same_holders r = elim (cases_eq r place) [
+    | inl at ↦ subst (λ z. (queue_at between z).holders ≡ (queue_at s.queues z).holders) (sym at) changes.here.holders
+    | inr apart ↦ ap (λ z. z.holders) (changes.others r apart)
   ]
 
-  now_held : (l : ℕ) → (queue_at s.queues (l + 1)).held ≡ true → (queue_at queues (l + 1)).held ≡ true
-  now_held l h = elim (cases_eq (l + 1) place) [
-    | inl at ↦ subst (λ z. (queue_at queues z).held ≡ true) (sym at) (changes.here.held ∙ or_left (queue_at s.queues place).held (nat_lt 0 place) (subst (λ z. (queue_at s.queues z).held ≡ true) at h))
-    | inr apart ↦ subst (λ z. z.held ≡ true) (sym (changes.others (l + 1) apart)) h
-  ]
+  was_holding : (m : ℕ) → (m ≡ line → ⊥) → Holds g (slice_set s.slots line (Some x)) s.done m → Holds g s.slots s.done m
+  was_holding m apart h = record { slot = h.slot; has = fewer m h.slot apart h.has; unreleased = h.unreleased }
 
-  was_holding : (l m : ℕ) → (m ≡ line → ⊥) → Holds g after l m → Holds g s l m
-  unfolding after
-  was_holding l m apart h = record { acquires = h.acquires; slot = h.slot; has = fewer m h.slot apart h.has; unreleased = h.unreleased }
+  now_holding : (m : ℕ) → Holds g s.slots s.done m → Holds g (slice_set s.slots line (Some x)) s.done m
+  now_holding m h = record { slot = h.slot; has = more m h.slot h.has; unreleased = h.unreleased }
 
-  now_holding : (l m : ℕ) → Holds g s l m → Holds g after l m
-  unfolding after
-  now_holding l m h = record { acquires = h.acquires; slot = h.slot; has = more m h.slot h.has; unreleased = h.unreleased }
+  line_holds : Holds g (slice_set s.slots line (Some x)) s.done line
+  line_holds = record { slot = x; has = here; unreleased = unreleased }
 
-  line_holds : (l : ℕ) → Acquires g line l → Holds g after l line
-  unfolding after
-  line_holds l a = record { acquires = a; slot = x; has = here; unreleased = unreleased }
+  -- the holders are those from before, and the line if it is an acquire
+  pub holders_now : (r m : ℕ) → has_line (queue_at queues r).holders m ≡ (((m == line) && bars g line r) || has_line (queue_at s.queues r).holders m)
+  holders_now r m = holds.holders r m ∙ ap (λ hs. ((m == line) && bars g line r) || has_line hs m) (same_holders r)
 
-  -- no other acquire of its reservation holds
-  no_other : (l m : ℕ) → Acquires g line l → Holds g s l m → ⊥
-  no_other l m a h =
-      let at : place ≡ l + 1 = sym at_place ∙ acquire_queue g line l a in
-      true≢false (sym (k.holds l m h) ∙ subst (λ z. (queue_at s.queues z).held ≡ false) at unheld)
-
-  one_holds : (l m n : ℕ) → Holds g after l m → Holds g after l n → m ≡ n
-  unfolding after
-  one_holds l m n a b = elim (cases_eq m line) [
-    | inl m_is ↦ elim (cases_eq n line) [
-      | inl n_is ↦ m_is ∙ sym n_is
-      | inr apart ↦ absurd (no_other l n (subst (λ z. Acquires g z l) m_is a.acquires) (was_holding l n apart b))
-    ]
-    | inr m_apart ↦ elim (cases_eq n line) [
-      | inl n_is ↦ absurd (no_other l m (subst (λ z. Acquires g z l) n_is b.acquires) (was_holding l m m_apart a))
-      | inr n_apart ↦ k.one_holds l m n (was_holding l m m_apart a) (was_holding l n n_apart b)
-    ]
-  ]
+  holders : (r m : ℕ) → (has_line (queue_at queues r).holders m ≡ true) ↔ ((bars g m r ≡ true) × Holds g (slice_set s.slots line (Some x)) s.done m)
+  holders r m = (
+    (λ h. elim (or_cases ((m == line) && bars g line r) (has_line (queue_at s.queues r).holders m) (sym (holders_now r m) ∙ h)) [
+      | inl new ↦ (
+          let parts = and_parts (m == line) (bars g line r) new in
+          subst (λ z. (bars g z r ≡ true) × Holds g (slice_set s.slots line (Some x)) s.done z) (sym (eqb-true m line parts.0)) (parts.1, line_holds))
+      | inr old ↦ (let b = (k.holders r m).0 old in (b.0, now_holding m b.1))
+    ]),
+    (λ b. holders_now r m ∙ elim (cases_eq m line) [
+      | inl at ↦ or_left ((m == line) && bars g line r) (has_line (queue_at s.queues r).holders m) (and_from (m == line) (bars g line r) (eq-eqb m line at) (subst (λ z. bars g z r ≡ true) at b.0))
+      | inr apart ↦ or_right ((m == line) && bars g line r) (has_line (queue_at s.queues r).holders m) ((k.holders r m).1 (b.0, was_holding m apart b.1))
+    ]),
+  )
 
   unlisted : Contains s.order line → ⊥
   unlisted c = let r = (k.ordered line).0 c in no_slot r.0 r.1
@@ -174,18 +160,7 @@ module _ (g : GraphValue) (graph : IsGraph g) (accepted : Accepted g) (p : ℕ) 
     finished_started = λ i h. (let r = k.finished_started i h in (r.0, more i r.0 r.1));
     queued = queued;
     all_queued = all_queued;
-    others_unheld = others_unheld;
-    held = λ l h. elim (cases_eq (l + 1) place) [
-      | inl at ↦ (line, line_holds l (queue_acquires g line l (at_place ∙ sym at)))
-      | inr apart ↦ (let r = k.held l (subst (λ z. z.held ≡ true) (changes.others (l + 1) apart) h) in (r.0, now_holding l r.0 r.1))
-    ];
-    holds = λ l m h. elim (cases_eq m line) [
-      | inl at ↦ (
-          let is : place ≡ l + 1 = sym at_place ∙ acquire_queue g line l (subst (λ z. Acquires g z l) at h.acquires) in
-          subst (λ z. (queue_at queues z).held ≡ true) is (changes.here.held ∙ or_right (queue_at s.queues place).held (nat_lt 0 place) (lt-ltb 0 place (omega arith))))
-      | inr apart ↦ now_held l (k.holds l m (was_holding l m apart h))
-    ];
-    one_holds = one_holds;
+    holders = holders;
     runs = λ r m h. elim (cases_eq r q) [
       | inl at ↦ (
           let is : line ≡ m = same_Some line m (sym (get_or-set_same s.running q (Some line) None q_below) ∙ subst (λ z. runs_at (slice_set s.running q (Some line)) z ≡ Some m) at h) in
@@ -231,11 +206,11 @@ module _ (g : GraphValue) (graph : IsGraph g) (accepted : Accepted g) (p : ℕ) 
         ]);
   }
 
-pub start_consistent : (g : GraphValue) → IsGraph g → Accepted g → (p : ℕ) (s new : State) (place q line : ℕ) → IsConsistent g p s [] → (queue_at s.queues place).held ≡ false → q < length s.running → runs_at s.running q ≡ None →
+pub start_consistent : (g : GraphValue) → IsGraph g → Accepted g → (p : ℕ) (s new : State) (place q line : ℕ) → IsConsistent g p s [] → q < length s.running → runs_at s.running q ≡ None →
     Starts g s new place q line → IsConsistent g p new []
 unfolding after
-start_consistent g graph accepted p s new place q line k unheld q_below idle st =
+start_consistent g graph accepted p s new place q line k q_below idle st =
     subst (λ x. IsConsistent g p x [])
     (same_state (record s { slots = slice_set s.slots line (Some (slot_of g s q line)); order = s.order ++ line ∷ []; queues = new.queues; running = slice_set s.running q (Some line) }) new
     (sym st.time) (sym st.slots) (sym st.order) (sym st.done) (sym st.left) refl (sym st.running))
-    (consistent_start g graph accepted p s k place q line (slot_of g s q line) refl st.listed unheld q_below idle new.queues st.queue_count st.queues)
+    (consistent_start g graph accepted p s k place q line (slot_of g s q line) refl st.listed q_below idle st.queues.0 new.queues st.queue_count st.queues.1 st.queues.2)

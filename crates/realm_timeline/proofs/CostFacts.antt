@@ -1,21 +1,20 @@
 -- How long a line takes, by its accesses one after the other, and its queue.
 use Rattle.std.proofs.Common.{◌≡◌, ℕ, ◌+◌, ◌*◌, ◌<◌, ◌≤◌, inl, inr, List, [], ◌∷◌, ◌++◌, length, take, sym, ◌∙◌, ap, arith}
 use Rattle.std.specs.Prelude.{Some, None, option_map, slice_get, sum_by}
-use Rattle.std.specs.Option.{option_map_or}
 use Rattle.std.proofs.lemmas.List.{take_more, take_all}
 use Rattle.std.proofs.lemmas.List.Sums.{sum_by_push}
 use Rattle.std.proofs.lemmas.Option.{none-some, slice_get_within, slice_get_cases, get_or_from_slice_get}
 use Rattle.graph_model.specs.declared.graph.verb.Access.{Access}
 use Rattle.graph_model.specs.declared.graph.verb.Line.{Line}
+use Rattle.graph_model.specs.declared.graph.verb.Verb.{Verb}
 use Rattle.graph_model.specs.declared.graph.verb.Verb.TheVariants.{Release}
 use Rattle.graph_model.specs.graph.Graph.{GraphValue, verb_at, is_acquire_of}
 use Rattle.graph_model.specs.graph.Fits.{IsGraph}
 use Rattle.graph_model.specs.graph.Access.{accesses}
-use Rattle.graph_model.specs.meaning.Rules.{Acquires, Releases}
-use Rattle.graph_model.proofs.VerbFacts.{acquire_is, is_release_from, passes_below}
+use Rattle.graph_model.specs.meaning.Rules.{Releases}
+use Rattle.graph_model.proofs.VerbFacts.{is_release_from, passes_below}
 use Rattle.graph_model.proofs.ReleaseFacts.{release_names}
 use Rattle.realm_timeline.specs.Plan.{access_size, cost}
-use Rattle.realm_timeline.specs.State.{verb_queue, queue_of}
 
 -- the cost after k accesses
 pub record CostUpTo (g : GraphValue) (i k c : ℕ) : Type 0 where
@@ -34,18 +33,17 @@ cost_more g i k c n a up at is few =
 pub cost_whole : (g : GraphValue) (i k c : ℕ) → CostUpTo g i k c → length (accesses g i) ≤ k → c ≡ cost g i
 cost_whole g i k c up few = up.cost ∙ ap (λ xs. 1 + sum_by (access_size g) xs) (take_all k (accesses g i) few)
 
--- the queue of an acquire
-pub acquire_queue : (g : GraphValue) (i l : ℕ) → Acquires g i l → queue_of g i ≡ l + 1
-acquire_queue g i l a = ap (λ o. option_map_or verb_queue o 0) (acquire_is g i l a)
-
 -- where no access of number k is read, there are at most k
 pub no_more : (xs : List Access) (k : ℕ) → slice_get xs k ≡ None → length xs ≤ k
 no_more xs k gone = elim (slice_get_cases xs k).1 [ inl some ↦ absurd (none-some some.0 (sym gone ∙ some.2)) | inr past ↦ past.0 ]
 
+-- the verb of a line that was read
+pub verb_of : (g : GraphValue) (i : ℕ) (l : Line) → slice_get g.lines i ≡ Some l → (v : Verb) → l.verb ≡ v → verb_at g i ≡ Some v
+verb_of g i l at v is = ap (option_map (λ (x : Line). x.verb)) at ∙ ap Some is
+
 -- the acquire that a line releases is a line
 pub released_line : (g : GraphValue) → IsGraph g → (i q : ℕ) (l : Line) → slice_get g.lines i ≡ Some l → l.verb ≡ Release q → Releases g i q × (q < length g.lines)
 released_line g graph i q l at is =
-    let verb : verb_at g i ≡ Some l.verb = ap (option_map (λ (x : Line). x.verb)) at in
-    let r : Releases g i q = is_release_from g i q (verb ∙ ap Some is) in
+    let r : Releases g i q = is_release_from g i q (verb_of g i l at (Release q) is) in
     let a = release_names g graph i q r in
     (r, passes_below (is_acquire_of a.0) g q a.1)

@@ -1,5 +1,5 @@
 -- A simulation in which no line runs and none may start: all lines that are to be planned have started, and the plan is greedy.
-use Rattle.std.proofs.Common.{◌≡◌, ℕ, zero, suc, ◌+◌, ◌<◌, ◌≤◌, Bool, true, false, inl, inr, length, refl, sym, ◌∙◌, ap, subst, arith}
+use Rattle.std.proofs.Common.{◌≡◌, ℕ, zero, suc, ◌+◌, ◌<◌, ◌≤◌, true, false, inl, inr, length, refl, sym, ◌∙◌, ap, subst, arith}
 use Rattle.std.specs.Prelude.{Option, Some, None}
 use Rattle.std.proofs.lemmas.Bool.{true≢false, cases_Bool, cases_order}
 use Rattle.std.proofs.lemmas.Option.{none-some}
@@ -14,21 +14,22 @@ use Rattle.graph_model.proofs.EdgeFacts.{never_with_path}
 use Rattle.graph_model.proofs.ReleaseFacts.{one_release, acquired_lock_known}
 use Rattle.graph_model.proofs.VerbFacts.{passes_below, acquire_is, release_is}
 use Rattle.std.specs.Option.{option_map_or}
-use Rattle.graph_model.specs.graph.Graph.{is_release_of, never_comes_as}
+use Rattle.graph_model.specs.graph.Graph.{line_passes, is_shared, is_release_of, never_comes_as}
 use Rattle.graph_model.specs.declared.graph.verb.Verb.TheVariants.{Acquire, Release}
 use Rattle.realm_timeline.specs.declared.slot.Slot.{Slot}
-use Rattle.realm_timeline.specs.Plan.{Planned, slot_at, HasSlot, IsPlan, FinishedBy, ReleasedBy, AcquireSame, IsMoment, IsReadyAt, IsFreeFor, MayStart, StartsAt, IsGreedy}
+use Rattle.realm_timeline.specs.Plan.{Planned, slot_at, HasSlot, IsPlan, FinishedBy, ReleasedBy, Exclude, IsMoment, IsReadyAt, IsFreeFor, MayStart, StartsAt, IsGreedy}
 use Rattle.realm_timeline.specs.Queue.{queue_at, AllHeldOrEmpty}
 use Rattle.realm_timeline.specs.State.{State, queue_of, is_done, runs_at, IsQueued, Holds, HasStartedAll}
 use Rattle.realm_timeline.specs.Order.{IsOrder}
 use Rattle.realm_timeline.proofs.SlotFacts.{one_slot, takes_time, path_finished}
 use Rattle.realm_timeline.proofs.Positions.{few_distinct}
-use Rattle.realm_timeline.proofs.ConsistentCounts.{sources_none, path_started, queue_acquires}
+use Rattle.realm_timeline.proofs.Barring.{bars_same, some_holder}
+use Rattle.realm_timeline.proofs.ConsistentCounts.{sources_none, path_started}
 
 -- the release of an acquire is a line, and is no acquire
 release_no_acquire : (g : GraphValue) (r q l : ℕ) → Releases g r q → Acquires g r l → ⊥
 release_no_acquire g r q l rel acq =
-    let both : Some (Acquire l) ≡ Some (Release q) = sym (acquire_is g r l acq) ∙ release_is g r q rel in
+    let both : Some (Acquire l (line_passes is_shared g r)) ≡ Some (Release q) = sym (acquire_is g r l acq) ∙ release_is g r q rel in
     cc
 
 -- the release comes
@@ -52,33 +53,29 @@ module _ (g : GraphValue) (graph : IsGraph g) (accepted : Accepted g) (p : ℕ) 
   ]
 
   -- a line that is ready acquires a reservation that another holds
-  blocked_by : (k q : ℕ) → queue_of g k ≡ q → IsQueued g s k → (queue_at s.queues q).held ≡ true → (l : ℕ) × Acquires g k l × ((m : ℕ) × Holds g s l m)
-  blocked_by k zero at w held = absurd (true≢false (sym held ∙ r.simulation.consistent.others_unheld))
-  blocked_by k (suc l) at w held =
-      let same : suc l ≡ l + 1 = omega arith in
-      (l, queue_acquires g k l (at ∙ same), r.simulation.consistent.held l (subst (λ z. (queue_at s.queues z).held ≡ true) same held))
-
-  ready_blocked : (k : ℕ) → IsReadyLine (edges g) (length g.lines) (never_comes g) (is_done s.done) k → (l : ℕ) × Acquires g k l × ((m : ℕ) × Holds g s l m)
+  ready_blocked : (k : ℕ) → IsReadyLine (edges g) (length g.lines) (never_comes g) (is_done s.done) k → (l : ℕ) × Acquires g k l × ((m : ℕ) × Acquires g m l × Holds g s.slots s.done m)
   ready_blocked k ready =
       let none : slot_at s.slots k ≡ None = by (slot_at s.slots k) refl in
       let w : IsQueued g s k = record { line = ready.below; free = sources_none g p s r.simulation.consistent k ready.sources; comes = ready.comes; waits = none } in
-      blocked_by k (queue_of g k) refl w (held (queue_at s.queues (queue_of g k)).held refl w)
+      elim (some_holder (queue_at s.queues (queue_of g k)).holders) [
+        | inl held ↦ (
+            let h = (r.simulation.consistent.holders (queue_of g k) held.0).0 held.1 in
+            let same = bars_same g k held.0 h.0 in
+            (same.0, same.1, (held.0, same.2, h.1)))
+        | inr free ↦ absurd (true≢false (sym (r.simulation.consistent.all_queued k w) ∙ all_held_or_empty (queue_of g k) k free))
+      ]
     where
       by : (o : Option Slot) → slot_at s.slots k ≡ o → o ≡ None
       by None h = refl
       by (Some x) h = absurd (true≢false (sym (all_done k x h) ∙ ready.left))
 
-      held : (b : Bool) → (queue_at s.queues (queue_of g k)).held ≡ b → IsQueued g s k → b ≡ true
-      held true h w = refl
-      held false h w = absurd (true≢false (sym (r.simulation.consistent.all_queued k w) ∙ all_held_or_empty (queue_of g k) k h))
-
   -- no reservation is held: the release of a holder stands behind a line that waits for a later reservation
-  nobody_holds_from : (m l h : ℕ) → length (locks g) ≤ l + m → Holds g s l h → ⊥
-  nobody_holds_from zero l h few held = (let b : l < length (locks g) = acquired_lock_known g graph h l held.acquires in absurd (omega arith))
+  nobody_holds_from : (m l h : ℕ) → length (locks g) ≤ l + m → Acquires g h l × Holds g s.slots s.done h → ⊥
+  nobody_holds_from zero l h few held = (let b : l < length (locks g) = acquired_lock_known g graph h l held.0 in absurd (omega arith))
   nobody_holds_from (suc m) l h few held =
-      let rel = accepted.released h l held.acquires in
-      let left : is_done s.done rel.0 ≡ false = held.unreleased rel.0 rel.1 in
-      let done : is_done s.done h ≡ true = all_done h held.slot held.has in
+      let rel = accepted.released h l held.0 in
+      let left : is_done s.done rel.0 ≡ false = held.1.unreleased rel.0 rel.1 in
+      let done : is_done s.done h ≡ true = all_done h held.1.slot held.1.has in
       elim (ready_or_never (edges g) (length g.lines) (never_comes g) (is_done s.done) (λ e c. (edges_in_range g graph e c).0) accepted.acyclic rel.0 (passes_below (is_release_of h) g rel.0 rel.1) left) [
         | inl ready ↦ (
             let b = ready_blocked ready.0 ready.1 in
@@ -87,17 +84,17 @@ module _ (g : GraphValue) (graph : IsGraph g) (accepted : Accepted g) (p : ℕ) 
               | inr path ↦ elim (accepted.sections rel.0 ready.0 h rel.1 path) [
                 | inl is ↦ true≢false (sym done ∙ (ap (is_done s.done) (sym is) ∙ ready.1.left))
                 | inr (inl before) ↦ (
-                    let x = path_started g p s r.simulation.consistent ready.0 h before held.slot held.has in
+                    let x = path_started g p s r.simulation.consistent ready.0 h before held.1.slot held.1.has in
                     true≢false (sym (all_done ready.0 x.0 x.1) ∙ ready.1.left))
                 | inr (inr within) ↦ (
-                    let above : l < b.0 = accepted.descends h ready.0 l b.0 (record { acquires = held.acquires; entered = within.0; release = rel.0; releases = rel.1; left = path }) b.1 in
-                    nobody_holds_from m b.0 b.2.0 (omega arith) b.2.1)
+                    let above : l < b.0 = accepted.descends h ready.0 l b.0 (record { acquires = held.0; entered = within.0; release = rel.0; releases = rel.1; left = path }) b.1 in
+                    nobody_holds_from m b.0 b.2.0 (omega arith) (b.2.1, b.2.2))
               ]
             ])
         | inr (inl never) ↦ true≢false (sym never ∙ release_comes g rel.0 h rel.1)
         | inr (inr some') ↦ elim (accepted.sections rel.0 some'.0 h rel.1 some'.2) [
-          | inl is ↦ (r.simulation.up_to_now.some.planned h held.slot held.has).comes (inl (ap (never_comes g) (sym is) ∙ some'.1))
-          | inr (inl before) ↦ (r.simulation.up_to_now.some.planned h held.slot held.has).comes (inr (some'.0, some'.1, before))
+          | inl is ↦ (r.simulation.up_to_now.some.planned h held.1.slot held.1.has).comes (inl (ap (never_comes g) (sym is) ∙ some'.1))
+          | inr (inl before) ↦ (r.simulation.up_to_now.some.planned h held.1.slot held.1.has).comes (inr (some'.0, some'.1, before))
           | inr (inr within) ↦ within.1 (never_with_path g graph h some'.0 within.0 some'.1) some'.1
         ]
       ]
@@ -107,7 +104,7 @@ module _ (g : GraphValue) (graph : IsGraph g) (accepted : Accepted g) (p : ℕ) 
   all_started i planned = elim (cases_Bool (is_done s.done i)) [
     | inl d ↦ r.simulation.consistent.finished_started i d
     | inr left ↦ elim (ready_or_never (edges g) (length g.lines) (never_comes g) (is_done s.done) (λ e c. (edges_in_range g graph e c).0) accepted.acyclic i planned.line left) [
-      | inl ready ↦ (let b = ready_blocked ready.0 ready.1 in absurd (nobody_holds_from (length (locks g)) b.0 b.2.0 (omega arith) b.2.1))
+      | inl ready ↦ (let b = ready_blocked ready.0 ready.1 in absurd (nobody_holds_from (length (locks g)) b.0 b.2.0 (omega arith) (b.2.1, b.2.2)))
       | inr reached ↦ absurd (planned.comes reached)
     ]
   ]
@@ -117,7 +114,7 @@ module _ (g : GraphValue) (graph : IsGraph g) (accepted : Accepted g) (p : ℕ) 
   unstarted_reached i below none = elim (cases_Bool (is_done s.done i)) [
     | inl d ↦ (let x = r.simulation.consistent.finished_started i d in absurd (none-some x.0 (sym none ∙ x.1)))
     | inr left ↦ elim (ready_or_never (edges g) (length g.lines) (never_comes g) (is_done s.done) (λ e c. (edges_in_range g graph e c).0) accepted.acyclic i below left) [
-      | inl ready ↦ (let b = ready_blocked ready.0 ready.1 in absurd (nobody_holds_from (length (locks g)) b.0 b.2.0 (omega arith) b.2.1))
+      | inl ready ↦ (let b = ready_blocked ready.0 ready.1 in absurd (nobody_holds_from (length (locks g)) b.0 b.2.0 (omega arith) (b.2.1, b.2.2)))
       | inr reached ↦ reached
     ]
   ]
@@ -126,10 +123,10 @@ module _ (g : GraphValue) (graph : IsGraph g) (accepted : Accepted g) (p : ℕ) 
   is_plan = record { some = r.simulation.up_to_now.some; all = all_started }
 
   -- two acquires of one reservation do not start together
-  apart_acquires : (i k : ℕ) → AcquireSame g i k → (x y : Slot) → HasSlot s.slots i x → HasSlot s.slots k y → x.start ≡ y.start → ⊥
-  apart_acquires i k acquires_same x y hx hy same = elim (r.simulation.up_to_now.valid.sections i k acquires_same x y hx hy) [
-    | inl a ↦ released_late i x hx acquires_same.lock acquires_same.one y.start (omega arith) a
-    | inr b ↦ released_late k y hy acquires_same.lock acquires_same.other x.start (omega arith) b
+  apart_excluding : (i k : ℕ) → Exclude g i k → (x y : Slot) → HasSlot s.slots i x → HasSlot s.slots k y → x.start ≡ y.start → ⊥
+  apart_excluding i k excludes x y hx hy same = elim (r.simulation.up_to_now.valid.sections i k excludes x y hx hy) [
+    | inl a ↦ released_late i x hx excludes.lock excludes.one y.start (omega arith) a
+    | inr b ↦ released_late k y hy excludes.lock excludes.other x.start (omega arith) b
   ]
     where
       released_late : (i : ℕ) (x : Slot) → HasSlot s.slots i x → (l : ℕ) → Acquires g i l → (t : ℕ) → t ≤ x.start → ReleasedBy g s.slots t i → ⊥
@@ -165,7 +162,7 @@ module _ (g : GraphValue) (graph : IsGraph g) (accepted : Accepted g) (p : ℕ) 
     processor = starts.0.processor;
     known = r.simulation.up_to_now.some.processor i starts.0 starts.1;
     free = subst (λ u. IsFreeFor s.slots u i starts.0.processor) starts.2 (r.simulation.up_to_now.free i starts.0 starts.1);
-    first = λ k acquires_same below y h at. apart_acquires i k acquires_same starts.0 y starts.1 h (starts.2 ∙ sym at);
+    first = λ k excludes below y h at. apart_excluding i k excludes starts.0 y starts.1 h (starts.2 ∙ sym at);
   }
 
   is_greedy : IsGreedy g p s.slots

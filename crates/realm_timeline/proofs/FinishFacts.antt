@@ -94,7 +94,7 @@ module _ (g : GraphValue) (p : ℕ) (s new : State) (next : ℕ) (r : HasStarted
           };
           lowest_first = record {
             lower = λ i y h at. absurd (started_before i y h at);
-            acquires_same = λ i y h at. absurd (started_before i y h at);
+            excludes = λ i y h at. absurd (started_before i y h at);
           };
           small = record {
             time = (
@@ -123,10 +123,7 @@ retimed g p s rest t k = record {
   finished_started = k.finished_started;
   queued = λ q i h. (let w = k.queued q i h in (record { line = w.0.line; free = w.0.free; comes = w.0.comes; waits = w.0.waits }, w.1));
   all_queued = λ i w. k.all_queued i (record { line = w.line; free = w.free; comes = w.comes; waits = w.waits });
-  others_unheld = k.others_unheld;
-  held = λ l h. (let r = k.held l h in (r.0, record { acquires = r.1.acquires; slot = r.1.slot; has = r.1.has; unreleased = r.1.unreleased }));
-  holds = λ l m h. k.holds l m (record { acquires = h.acquires; slot = h.slot; has = h.has; unreleased = h.unreleased });
-  one_holds = λ l m n a b. k.one_holds l m n (record { acquires = a.acquires; slot = a.slot; has = a.has; unreleased = a.unreleased }) (record { acquires = b.acquires; slot = b.slot; has = b.has; unreleased = b.unreleased });
+  holders = k.holders;
   runs = k.runs;
   running = k.running;
   ordered = k.ordered;

@@ -7,14 +7,15 @@ use Rattle.std.proofs.lemmas.Option.{same_Some}
 use Rattle.graph_model.specs.declared.graph.verb.Edge.{Edge}
 use Rattle.graph_model.specs.graph.Graph.{GraphValue}
 use Rattle.graph_model.specs.graph.Edges.{edges}
+use Rattle.graph_model.proofs.VerbFacts.{both_shared_swap}
 use Rattle.realm_timeline.specs.declared.slot.Slot.{Slot}
-use Rattle.realm_timeline.specs.Plan.{cost, Planned, HasSlot, IsPartialPlan, FinishedBy, ReleasedBy, AcquireSame, IsValid, IsMoment, IsReadyAt, IsFreeFor, MayStart}
+use Rattle.realm_timeline.specs.Plan.{cost, Planned, HasSlot, IsPartialPlan, FinishedBy, ReleasedBy, Exclude, IsValid, IsMoment, IsReadyAt, IsFreeFor, MayStart}
 use Rattle.realm_timeline.specs.State.{IsGreedyUpTo}
 use Rattle.realm_timeline.proofs.SlotFacts.{takes_time}
 use Rattle.realm_timeline.proofs.ConsistentStart.{slot_here, slot_there}
 
-pub acquires_swapped : (g : GraphValue) (i k : ℕ) → AcquireSame g i k → AcquireSame g k i
-acquires_swapped g i k r = record { different = λ e. r.different (sym e); lock = r.lock; one = r.other; other = r.one }
+pub excludes_swapped : (g : GraphValue) (i k : ℕ) → Exclude g i k → Exclude g k i
+excludes_swapped g i k r = record { different = λ e. r.different (sym e); apart = both_shared_swap g k i ∙ r.apart; lock = r.lock; one = r.other; other = r.one }
 
 -- a line that runs on a processor at time t, and is below another where it starts then
 pub record RunsBelow (plan : List (Option Slot)) (t r line : ℕ) : Type 0 where
@@ -79,7 +80,7 @@ module _ (g : GraphValue) (p : ℕ) (plan : List (Option Slot)) (t : ℕ) (sf : 
     planned = r.planned;
     waits = λ y h. r.waits y (more i y h);
     sources = λ e c to. finished_fewer u e.from early (r.sources e c to);
-    unheld = λ k acquires_same y h before. released_fewer u k early (r.unheld k acquires_same y (more k y h) before);
+    unheld = λ k excludes y h before. released_fewer u k early (r.unheld k excludes y (more k y h) before);
   }
 
   free_fewer : (u i q : ℕ) → IsFreeFor (slice_set plan line (Some x)) u i q → IsFreeFor plan u i q
@@ -93,10 +94,10 @@ module _ (g : GraphValue) (p : ℕ) (plan : List (Option Slot)) (t : ℕ) (sf : 
     processor = m.processor;
     known = m.known;
     free = free_fewer u i m.processor m.free;
-    first = λ k acquires_same lower y h. m.first k acquires_same lower y (more k y h);
+    first = λ k excludes lower y h. m.first k excludes lower y (more k y h);
   }
 
-  module _ (planned : Planned g line) (known : x.processor < p) (sources : (e : Edge) → Contains (edges g) e → e.to ≡ line → FinishedBy plan t e.from) (released : (i : ℕ) (y : Slot) → AcquireSame g i line → HasSlot plan i y → ReleasedBy g plan t i)
+  module _ (planned : Planned g line) (known : x.processor < p) (sources : (e : Edge) → Contains (edges g) e → e.to ≡ line → FinishedBy plan t e.from) (released : (i : ℕ) (y : Slot) → Exclude g i line → HasSlot plan i y → ReleasedBy g plan t i)
       (free : (i : ℕ) (y : Slot) → HasSlot plan i y → y.processor ≡ x.processor → y.finish ≤ t) (busy : (r : ℕ) → r < x.processor → RunsBelow plan t r line) where
     some_more : IsPartialPlan g p (slice_set plan line (Some x))
     some_more = record {
@@ -133,14 +134,14 @@ module _ (g : GraphValue) (p : ℕ) (plan : List (Option Slot)) (t : ℕ) (sf : 
         | inl new ↦ subst (λ u. FinishedBy (slice_set plan line (Some x)) u e.from) (sym (start_of y new.1)) (finished_more t e.from (sources e c new.0))
         | inr old ↦ finished_more y.start e.from (sf.valid.sources e c y old)
       ];
-      sections = λ i k acquires_same y z hy hz. elim (slot_case i y hy) [
+      sections = λ i k excludes y z hy hz. elim (slot_case i y hy) [
         | inl new ↦ elim (slot_case k z hz) [
-          | inl also ↦ absurd (acquires_same.different (new.0 ∙ sym also.0))
-          | inr old ↦ inr (subst (λ u. ReleasedBy g (slice_set plan line (Some x)) u k) (sym (start_of y new.1)) (released_more t k (released k z (subst (AcquireSame g k) new.0 (acquires_swapped g i k acquires_same)) old)))
+          | inl also ↦ absurd (excludes.different (new.0 ∙ sym also.0))
+          | inr old ↦ inr (subst (λ u. ReleasedBy g (slice_set plan line (Some x)) u k) (sym (start_of y new.1)) (released_more t k (released k z (subst (Exclude g k) new.0 (excludes_swapped g i k excludes)) old)))
         ]
         | inr old ↦ elim (slot_case k z hz) [
-          | inl new ↦ inl (subst (λ u. ReleasedBy g (slice_set plan line (Some x)) u i) (sym (start_of z new.1)) (released_more t i (released i y (subst (AcquireSame g i) new.0 acquires_same) old)))
-          | inr also ↦ elim (sf.valid.sections i k acquires_same y z old also) [ inl a ↦ inl (released_more z.start i a) | inr b ↦ inr (released_more y.start k b) ]
+          | inl new ↦ inl (subst (λ u. ReleasedBy g (slice_set plan line (Some x)) u i) (sym (start_of z new.1)) (released_more t i (released i y (subst (Exclude g i) new.0 excludes) old)))
+          | inr also ↦ elim (sf.valid.sections i k excludes y z old also) [ inl a ↦ inl (released_more z.start i a) | inr b ↦ inr (released_more y.start k b) ]
         ]
       ];
     }

@@ -64,7 +64,7 @@ module _ (g : GraphValue) (processors : ℕ) (graph : IsGraph g) (accepted : Acc
       | inr since ↦ since
     ];
     sources = λ e c to. finished_too a b t e.from is same (r.sources e c to);
-    unheld = λ k acquires_same s h before. released_too a b t k is same (r.unheld k acquires_same s (back k s h before) before);
+    unheld = λ k excludes s h before. released_too a b t k is same (r.unheld k excludes s (back k s h before) before);
   }
 
   free_too : (a b : List (Option Slot)) (t i q : ℕ) → SameBefore b a t → SameBeside b a t i → IsFreeFor a t i q → IsFreeFor b t i q
@@ -81,7 +81,7 @@ module _ (g : GraphValue) (processors : ℕ) (graph : IsGraph g) (accepted : Acc
     processor = m.processor;
     known = m.known;
     free = free_too a b t i m.processor back beside m.free;
-    first = λ k acquires_same below s h at. m.first k acquires_same below s (beside k s h at below) at;
+    first = λ k excludes below s h at. m.first k excludes below s (beside k s h at below) at;
   }
 
   -- a line that one plan starts, the other starts too, in the same slot

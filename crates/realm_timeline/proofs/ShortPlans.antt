@@ -142,9 +142,9 @@ module _ (g : GraphValue) (n : ℕ) (plan : List (Option Slot)) (none : Acquires
           planned = is.some.planned i s h;
           waits = λ r k. (let e : s.start ≡ r.start = ap (λ (x : Slot). x.start) (one_slot plan i s r h k) in omega arith);
           sources = sources;
-          unheld = λ k acquires_same. absurd (none i acquires_same.lock acquires_same.one);
+          unheld = λ k excludes. absurd (none i excludes.lock excludes.one);
         } in
-        let may : MayStart g (suc n) plan t i = record { processor = q; known = below; free = free; first = λ k acquires_same. absurd (none i acquires_same.lock acquires_same.one) } in
+        let may : MayStart g (suc n) plan t i = record { processor = q; known = below; free = free; first = λ k excludes. absurd (none i excludes.lock excludes.one) } in
         let starts : StartsAt plan t i = (greedy.each t i moment ready).1 may in
         let e : s.start ≡ starts.0.start = ap (λ (x : Slot). x.start) (one_slot plan i s starts.0 h starts.1) in
         let at : starts.0.start ≡ t = starts.2 in

@@ -1,27 +1,27 @@
 -- A simulation goes on: a line starts, or no more lines may.
-use Rattle.std.proofs.Common.{◌≡◌, ℕ, zero, suc, ◌+◌, ◌*◌, ◌<◌, ◌≤◌, true, false, ◌⊎◌, inl, inr, List, length, refl, sym, ◌∙◌, ap, subst, arith}
-use Rattle.std.specs.Prelude.{is_none, Contains, Option, Some, None, slice_index, slice_set}
-use Rattle.std.proofs.lemmas.Bool.{true≢false, cases_lt, cases_eq, cases_Bool, false_from_ne_true}
+use Rattle.std.proofs.Common.{◌≡◌, ℕ, ◌+◌, ◌*◌, ◌<◌, ◌≤◌, true, false, ◌⊎◌, inl, inr, List, length, refl, sym, ◌∙◌, ap, subst, arith}
+use Rattle.std.specs.Prelude.{◌==◌, ◌&&◌, is_none, Contains, Option, Some, None, slice_index, slice_set}
+use Rattle.std.proofs.lemmas.Bool.{true≢false, cases_lt, cases_eq, cases_Bool, false_from_ne_true, or_right}
 use Rattle.std.proofs.lemmas.List.{get_or-set_same, get_or-set_other, length-set}
 use Rattle.std.proofs.lemmas.Option.{none-some, same_Some}
 use Rattle.graph_model.specs.declared.graph.verb.Edge.{Edge}
 use Rattle.graph_model.specs.graph.Graph.{GraphValue, never_comes}
 use Rattle.graph_model.specs.graph.Edges.{edges}
 use Rattle.graph_model.specs.meaning.Path.{Path, last, first, Reached}
-use Rattle.graph_model.specs.meaning.Rules.{Accepted, Acquires}
+use Rattle.graph_model.specs.meaning.Rules.{Accepted}
 use Rattle.graph_model.specs.graph.Fits.{IsGraph}
 use Rattle.basics.proofs.ListFacts.{count_below, fewer_below}
 use Rattle.graph_model.proofs.ReleaseFacts.{one_release}
 use Rattle.realm_timeline.specs.declared.slot.Slot.{Slot}
-use Rattle.realm_timeline.specs.Plan.{cost, Planned, slot_at, HasSlot, FinishedBy, ReleasedBy, AcquireSame, IsReadyAt, MayStart, StartsAt}
-use Rattle.realm_timeline.specs.Queue.{queue_at, has_line, AllHeldOrEmpty, IsLowestPlace}
-use Rattle.realm_timeline.specs.State.{State, queue_of, is_done, runs_at, IsQueued, IsGreedyUpTo, undone, IsSimulation, AllBusy, HasStartedAll}
+use Rattle.realm_timeline.specs.Plan.{cost, Planned, slot_at, HasSlot, FinishedBy, ReleasedBy, Exclude, IsReadyAt, MayStart, StartsAt}
+use Rattle.realm_timeline.specs.Queue.{queue_at, has_line, IsUnheld, AllHeldOrEmpty, IsLowestPlace}
+use Rattle.realm_timeline.specs.State.{State, queue_of, bars, is_done, runs_at, IsQueued, NoneOlder, StartsNowBelow, IsGreedyUpTo, undone, IsSimulation, AllBusy, HasStartedAll}
 use Rattle.realm_timeline.specs.Steps.{IsFirstIdle, idle_count, Starts, slot_of}
-use Rattle.realm_timeline.proofs.CostFacts.{acquire_queue}
+use Rattle.realm_timeline.proofs.Barring.{bars_other, same_bars, some_holder}
 use Rattle.realm_timeline.proofs.SlotFacts.{one_slot}
-use Rattle.realm_timeline.proofs.ConsistentCounts.{source_done, sources_none, queue_acquires}
-use Rattle.realm_timeline.proofs.ConsistentStart.{start_consistent, slot_here, slot_there}
-use Rattle.realm_timeline.proofs.GreedyUpTo.{RunsBelow, more, finished_fewer, up_to_now_more}
+use Rattle.realm_timeline.proofs.ConsistentCounts.{source_done, sources_none}
+use Rattle.realm_timeline.proofs.ConsistentStart.{start_consistent, holders_now, slot_here, slot_there}
+use Rattle.realm_timeline.proofs.GreedyUpTo.{RunsBelow, excludes_swapped, more, finished_fewer, up_to_now_more}
 
 -- the last edge of a path
 pub path_end : {all : List Edge} {i j : ℕ} → Path all i j → (e : Edge) × Contains all e × (e.to ≡ j) × ((e.from ≡ i) ⊎ Path all i e.from)
@@ -52,6 +52,20 @@ module _ (g : GraphValue) (graph : IsGraph g) (accepted : Accepted g) (p : ℕ) 
       let b : f.0.finish ≤ s.time = f.2 in
       omega arith
 
+  -- where a line is held back, but by no acquire that started before now, a lower acquire that it excludes has started now
+  held_below : (i k : ℕ) → IsQueued g s i → has_line (queue_at s.queues (queue_of g i)).holders k ≡ true → NoneOlder g s i → StartsNowBelow g s i
+  held_below i k w held older =
+      let h = (simulation.consistent.holders (queue_of g i) k).0 held in
+      let r : Exclude g i k = bars_other g i k (λ e. none-some h.1.slot (sym w.waits ∙ subst (λ z. HasSlot s.slots z h.1.slot) (sym e) h.1.has)) h.0 in
+      elim (cases_lt h.1.slot.start s.time) [
+        | inl before ↦ (
+            let rel = older k r h.1.slot h.1.has before in
+            absurd (true≢false (sym (simulation.done_lines.marked rel.0 rel.2) ∙ h.1.unreleased rel.0 rel.1)))
+        | inr since ↦ (
+            let early : h.1.slot.start ≤ s.time = simulation.up_to_now.early k h.1.slot h.1.has in
+            simulation.lowest_first.excludes k h.1.slot h.1.has (omega arith) i w r older)
+      ]
+
   module _ (new : State) (place q line : ℕ) (lowest : IsLowestPlace s.queues place) (idle : IsFirstIdle s.running q) (st : Starts g s new place q line) where
     waiting : IsQueued g s line
     waiting = (simulation.consistent.queued place line st.listed).0
@@ -76,20 +90,24 @@ module _ (g : GraphValue) (graph : IsGraph g) (accepted : Accepted g) (p : ℕ) 
           (simulation.up_to_now.some.planned e.from f.0 f.1).comes));
     }
 
-    released : (i : ℕ) (y : Slot) → AcquireSame g i line → HasSlot s.slots i y → ReleasedBy g s.slots s.time i
-    released i y acquires_same h =
-        let r = accepted.released i acquires_same.lock acquires_same.one in
+    unheld : IsUnheld (queue_at s.queues (queue_of g line))
+    unheld = subst (λ z. IsUnheld (queue_at s.queues z)) (sym at_place) lowest.unheld
+
+    released : (i : ℕ) (y : Slot) → Exclude g i line → HasSlot s.slots i y → ReleasedBy g s.slots s.time i
+    released i y excludes h =
+        let r = accepted.released i excludes.lock excludes.one in
         elim (cases_Bool (is_done s.done r.0)) [
           | inl d ↦ (r.0, r.1, simulation.done_lines.finished r.0 d)
           | inr unf ↦ (
-              let held : (queue_at s.queues (acquires_same.lock + 1)).held ≡ true = simulation.consistent.holds acquires_same.lock i (record {
-                acquires = acquires_same.one;
-                slot = y;
-                has = h;
-                unreleased = λ n rel. subst (λ z. is_done s.done z ≡ false) (one_release g graph i r.0 n r.1 rel) unf;
-              }) in
-              let at : place ≡ acquires_same.lock + 1 = sym at_place ∙ acquire_queue g line acquires_same.lock acquires_same.other in
-              absurd (true≢false (sym held ∙ subst (λ z. (queue_at s.queues z).held ≡ false) at lowest.unheld)))
+              let held : has_line (queue_at s.queues (queue_of g line)).holders i ≡ true = (simulation.consistent.holders (queue_of g line) i).1 (
+                same_bars g line i (excludes_swapped g i line excludes),
+                record {
+                  slot = y;
+                  has = h;
+                  unreleased = λ n rel. subst (λ z. is_done s.done z ≡ false) (one_release g graph i r.0 n r.1 rel) unf;
+                },
+              ) in
+              absurd (true≢false (sym held ∙ unheld i)))
         ]
 
     free : (i : ℕ) (y : Slot) → HasSlot s.slots i y → y.processor ≡ q → y.finish ≤ s.time
@@ -109,7 +127,7 @@ module _ (g : GraphValue) (graph : IsGraph g) (accepted : Accepted g) (p : ℕ) 
           on = k.1.2;
           since = simulation.up_to_now.early b.0 k.1.0 k.1.1;
           until = undone_later b.0 k.1.0 k.1.1 k.0;
-          lower = λ at. simulation.lowest_first.lower b.0 k.1.0 k.1.1 at line waiting (subst (λ z. (queue_at s.queues z).held ≡ false) (sym at_place) lowest.unheld);
+          lower = λ at. simulation.lowest_first.lower b.0 k.1.0 k.1.1 at line waiting unheld;
         }
 
     x : Slot
@@ -123,11 +141,10 @@ module _ (g : GraphValue) (graph : IsGraph g) (accepted : Accepted g) (p : ℕ) 
         (let a : q < length s.running = idle.known in let b : length s.running ≡ p = simulation.consistent.processor_count in omega arith)
         (λ e c to. simulation.done_lines.finished e.from (sources_done e c to)) released free busy
 
-    unheld_before : (r : ℕ) → (queue_at new.queues r).held ≡ false → (queue_at s.queues r).held ≡ false
-    unheld_before r h = elim (cases_eq r place) [
-      | inl at ↦ subst (λ z. (queue_at s.queues z).held ≡ false) (sym at) lowest.unheld
-      | inr apart ↦ subst (λ z. z.held ≡ false) (st.queues.others r apart) h
-    ]
+    unheld_before : (r : ℕ) → IsUnheld (queue_at new.queues r) → IsUnheld (queue_at s.queues r)
+    unheld_before r h k = false_from_ne_true (has_line (queue_at s.queues r).holders k)
+        (λ old. true≢false (sym (holders_now g graph accepted p s simulation.consistent place q line (slot_of g s q line) refl st.listed idle.known idle.idle st.queues.0 new.queues st.queue_count st.queues.1 st.queues.2 r k
+        ∙ or_right ((k == line) && bars g line r) (has_line (queue_at s.queues r).holders k) old) ∙ h k))
 
     was_waiting : (i : ℕ) → IsQueued g new i → (i ≡ line → ⊥) × IsQueued g s i
     was_waiting i w =
@@ -146,40 +163,54 @@ module _ (g : GraphValue) (graph : IsGraph g) (accepted : Accepted g) (p : ℕ) 
     line_lowest : line ≤ lowest.line
     line_lowest = st.lowest lowest.line lowest.has
 
-    lower : (k : ℕ) (y : Slot) → HasSlot new.slots k y → y.start ≡ new.time → (i : ℕ) → IsQueued g new i → (queue_at new.queues (queue_of g i)).held ≡ false → k < i
-    lower k y h at i w unheld =
+    lower : (k : ℕ) (y : Slot) → HasSlot new.slots k y → y.start ≡ new.time → (i : ℕ) → IsQueued g new i → IsUnheld (queue_at new.queues (queue_of g i)) → k < i
+    lower k y h at i w free_queue =
         let old = was_waiting i w in
         elim (slot_case k y h) [
           | inl here ↦ (
               let a : line ≤ lowest.line = line_lowest in
-              let b : lowest.line ≤ i = lowest.lowest (queue_of g i) i (unheld_before (queue_of g i) unheld) (simulation.consistent.all_queued i old.1) in
+              let b : lowest.line ≤ i = lowest.lowest (queue_of g i) i (unheld_before (queue_of g i) free_queue) (simulation.consistent.all_queued i old.1) in
               let c : k ≡ line = here.0 in
               not_same k i (omega arith) (λ e. old.0 (sym e ∙ c)))
-          | inr there ↦ simulation.lowest_first.lower k y there (at ∙ st.time) i old.1 (unheld_before (queue_of g i) unheld)
+          | inr there ↦ simulation.lowest_first.lower k y there (at ∙ st.time) i old.1 (unheld_before (queue_of g i) free_queue)
         ]
       where
         not_same : (k i : ℕ) → k ≤ i → (k ≡ i → ⊥) → k < i
         not_same k i le ne = elim (cases_lt k i) [ inl l ↦ l | inr ge ↦ absurd (ne (omega arith)) ]
 
-    acquires_same : (k : ℕ) (y : Slot) → HasSlot new.slots k y → y.start ≡ new.time → (i : ℕ) → IsQueued g new i → AcquireSame g i k → k < i
-    acquires_same k y h at i w r =
+    more_slots : (i : ℕ) (y : Slot) → HasSlot s.slots i y → HasSlot new.slots i y
+    more_slots i y h = subst (λ xs. HasSlot xs i y) (sym st.slots) (more g p s.slots s.time simulation.up_to_now line (slot_of g s q line) no_slot below refl refl i y h)
+
+    none_older : (i : ℕ) → NoneOlder g new i → NoneOlder g s i
+    none_older i older m r y h before =
+        let rel : ReleasedBy g new.slots new.time m = older m r y (more_slots m y h) (subst (λ u. y.start < u) (sym st.time) before) in
+        let fin : FinishedBy (slice_set s.slots line (Some (slot_of g s q line))) s.time rel.0 = subst (λ u. FinishedBy (slice_set s.slots line (Some (slot_of g s q line))) u rel.0) st.time (subst (λ xs. FinishedBy xs new.time rel.0) st.slots rel.2) in
+        (rel.0, rel.1, finished_fewer g p s.slots s.time simulation.up_to_now line (slot_of g s q line) no_slot below refl refl s.time rel.0 (omega arith) fin)
+
+    -- where line i excludes an acquire that starts now, a lower one that it excludes starts now
+    excludes : (k : ℕ) (y : Slot) → HasSlot new.slots k y → y.start ≡ new.time → (i : ℕ) → IsQueued g new i → Exclude g i k → NoneOlder g new i → StartsNowBelow g new i
+    excludes k y h at i w r older =
         let old = was_waiting i w in
         elim (slot_case k y h) [
-          | inl here ↦ (
-              let is : Acquires g line r.lock = subst (λ z. Acquires g z r.lock) here.0 r.other in
-              let to : queue_of g i ≡ place = acquire_queue g i r.lock r.one ∙ (sym (acquire_queue g line r.lock is) ∙ at_place) in
-              let a : line ≤ i = st.lowest i (subst (λ z. has_line (queue_at s.queues z).lines i ≡ true) to (simulation.consistent.all_queued i old.1)) in
-              let c : k ≡ line = here.0 in
-              not_same k i (omega arith) (λ e. old.0 (sym e ∙ c)))
-          | inr there ↦ simulation.lowest_first.acquires_same k y there (at ∙ st.time) i old.1 r
+          | inl here ↦ elim (some_holder (queue_at s.queues (queue_of g i)).holders) [
+            | inl held ↦ still_below i (held_below i held.0 old.1 held.1 (none_older i older))
+            | inr free_queue ↦ (
+                let a : line ≤ lowest.line = line_lowest in
+                let b : lowest.line ≤ i = lowest.lowest (queue_of g i) i free_queue (simulation.consistent.all_queued i old.1) in
+                (line, slot_of g s q line, subst (Exclude g i) here.0 r, subst (λ xs. HasSlot xs line (slot_of g s q line)) (sym st.slots) (slot_here s.slots line (slot_of g s q line) below), sym st.time, not_same line i (omega arith) (λ e. old.0 (sym e))))
+          ]
+          | inr there ↦ still_below i (simulation.lowest_first.excludes k y there (at ∙ st.time) i old.1 r (none_older i older))
         ]
       where
         not_same : (k i : ℕ) → k ≤ i → (k ≡ i → ⊥) → k < i
         not_same k i le ne = elim (cases_lt k i) [ inl l ↦ l | inr ge ↦ absurd (ne (omega arith)) ]
+
+        still_below : (i : ℕ) → StartsNowBelow g s i → StartsNowBelow g new i
+        still_below i b = (b.0, b.1, b.2, more_slots b.0 b.1 b.3, b.4 ∙ sym st.time, b.5)
 
     started : IsSimulation g p new
     started = record {
-      consistent = start_consistent g graph accepted p s new place q line simulation.consistent lowest.unheld idle.known idle.idle st;
+      consistent = start_consistent g graph accepted p s new place q line simulation.consistent idle.known idle.idle st;
       up_to_now = subst (λ u. IsGreedyUpTo g p new.slots u) (sym st.time) (subst (λ xs. IsGreedyUpTo g p xs s.time) (sym st.slots) up_to_now_next);
       done_lines = record {
         finished = λ i d. (
@@ -191,7 +222,7 @@ module _ (g : GraphValue) (graph : IsGraph g) (accepted : Accepted g) (p : ℕ) 
             let o = finished_fewer g p s.slots s.time simulation.up_to_now line (slot_of g s q line) no_slot below refl refl s.time i (omega arith) f' in
             subst (λ xs. is_done xs i ≡ true) (sym st.done) (simulation.done_lines.marked i o));
       };
-      lowest_first = record { lower = lower; acquires_same = acquires_same };
+      lowest_first = record { lower = lower; excludes = excludes };
       small = record {
         time = subst (λ xs. new.time + 17179869184 * undone xs (length g.lines) ≤ 17179869184 * length g.lines) (sym st.done) (subst (λ u. u + 17179869184 * undone s.done (length g.lines) ≤ 17179869184 * length g.lines) (sym st.time) simulation.small.time);
         finishes = λ k y h unf. subst (λ xs. y.finish + 17179869184 * undone xs (length g.lines) ≤ 17179869184 * length g.lines + 17179869184) (sym st.done)
@@ -222,27 +253,10 @@ module _ (g : GraphValue) (graph : IsGraph g) (accepted : Accepted g) (p : ℕ) 
         ]
 
   -- no line may start any more
-  blocked : (i r : ℕ) → queue_of g i ≡ r → IsQueued g s i → IsReadyAt g s.slots s.time i → MayStart g p s.slots s.time i → (queue_at s.queues r).held ≡ true → ⊥
-  blocked i zero at w ready may held = true≢false (sym held ∙ simulation.consistent.others_unheld)
-  blocked i (suc l) at w ready may held =
-      let same : suc l ≡ l + 1 = omega arith in
-      let h = simulation.consistent.held l (subst (λ z. (queue_at s.queues z).held ≡ true) same held) in
-      let y : Slot = h.1.slot in
-      let acquires_same : AcquireSame g i h.0 = record {
-        different = λ e. none-some h.1.slot (sym w.waits ∙ subst (λ z. HasSlot s.slots z h.1.slot) (sym e) h.1.has);
-        lock = l;
-        one = queue_acquires g i l (at ∙ same);
-        other = h.1.acquires;
-      } in
-      elim (cases_lt h.1.slot.start s.time) [
-        | inl before ↦ (
-            let r = ready.unheld h.0 acquires_same h.1.slot h.1.has before in
-            true≢false (sym (simulation.done_lines.marked r.0 r.2) ∙ h.1.unreleased r.0 r.1))
-        | inr since ↦ (
-            let early : h.1.slot.start ≤ s.time = simulation.up_to_now.early h.0 h.1.slot h.1.has in
-            let now : h.1.slot.start ≡ s.time = omega arith in
-            may.first h.0 acquires_same (simulation.lowest_first.acquires_same h.0 h.1.slot h.1.has now i w acquires_same) h.1.slot h.1.has now)
-      ]
+  blocked : (i k : ℕ) → IsQueued g s i → IsReadyAt g s.slots s.time i → MayStart g p s.slots s.time i → has_line (queue_at s.queues (queue_of g i)).holders k ≡ true → ⊥
+  blocked i k w ready may held =
+      let b = held_below i k w held ready.unheld in
+      may.first b.0 b.2 b.5 b.1 b.3 b.4
 
   waits_when_ready : (i : ℕ) → IsReadyAt g s.slots s.time i → slot_at s.slots i ≡ None → IsQueued g s i
   waits_when_ready i ready none = record {
@@ -256,7 +270,7 @@ module _ (g : GraphValue) (graph : IsGraph g) (accepted : Accepted g) (p : ℕ) 
   greedy_by rest i ready may (Some y) h = (y, h, (let a : s.time ≤ y.start = ready.waits y h in let b : y.start ≤ s.time = simulation.up_to_now.early i y h in omega arith))
   greedy_by rest i ready may None none =
       let w : IsQueued g s i = waits_when_ready i ready none in
-      let unheld : (queue_at s.queues (queue_of g i)).held ≡ false = false_from_ne_true (queue_at s.queues (queue_of g i)).held (λ h. blocked i (queue_of g i) refl w ready may h) in
+      let unheld : IsUnheld (queue_at s.queues (queue_of g i)) = (λ k. false_from_ne_true (has_line (queue_at s.queues (queue_of g i)).holders k) (λ h. blocked i k w ready may h)) in
       elim rest [
         | inl busy ↦ (
             let known : may.processor < p = may.known in

@@ -67,9 +67,9 @@ ready_at_start g processors plan graph accepted is v i s h = record {
   planned = is.planned i s h;
   waits = λ s' h'. let e : s.start ≡ s'.start = ap (λ (x : Slot). x.start) (one_slot plan i s s' h h') in omega arith;
   sources = λ e c to. v.sources e c s (subst (λ x. HasSlot plan x s) (sym to) h);
-  unheld = λ k acquires_same t hk before. elim (v.sections i k acquires_same s t h hk) [
+  unheld = λ k excludes t hk before. elim (v.sections i k excludes s t h hk) [
     | inl mine ↦ (
-        let r = accepted.released i acquires_same.lock acquires_same.one in
+        let r = accepted.released i excludes.lock excludes.one in
         let same : mine.0 ≡ r.0 = one_release g graph i mine.0 r.0 mine.1 r.1 in
         let f : FinishedBy plan t.start i = path_finished g processors plan is v t.start i mine.0 (subst (HasPath g i) (sym same) r.2) mine.2 in
         let at : f.0 ≡ s = one_slot plan i f.0 s f.1 h in

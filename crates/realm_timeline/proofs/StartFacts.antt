@@ -1,5 +1,5 @@
 -- How a simulation begins: no line has started, and each waits for one edge more than enter it until it is offered.
-use Rattle.std.proofs.Common.{◌≡◌, ℕ, zero, suc, ◌+◌, ◌<◌, ◌≤◌, Bool, true, false, not, inl, inr, [], length, drop, map, replicate, refl, sym, ◌∙◌, ap, subst, arith}
+use Rattle.std.proofs.Common.{◌≡◌, ℕ, zero, suc, ◌+◌, ◌*◌, ◌<◌, ◌≤◌, Bool, true, false, not, inl, inr, [], length, drop, map, replicate, refl, sym, ◌∙◌, ap, subst, arith}
 use Rattle.std.specs.Prelude.{◌==◌, ◌&&◌, Contains, Some, None, slice_index, count_by}
 use Rattle.std.specs.List.{slice_index_or, range_with_len}
 use Rattle.std.proofs.lemmas.Bool.{true≢false, cases_lt, cases_eq, eq-eqb, ne_eqb}
@@ -117,15 +117,15 @@ module _ (g : GraphValue) (p : ℕ) (s : State) (fresh : IsFresh g p s) where
       let into : length (edges_into g i) ≡ count_by (λ (e : Edge). e.to == i) (edges g) = length-filter (λ (e : Edge). e.to == i) (edges g) in
       omega arith
 
-  module _ (graph : IsGraph g) (count : length s.left ≡ length g.lines) (counts : (i : ℕ) → i < length g.lines → slice_index s.left i ≡ length (edges_into g i) + 1) (queues : s.queues ≡ replicate (length (locks g) + 1) no_queue) where
+  module _ (graph : IsGraph g) (count : length s.left ≡ length g.lines) (counts : (i : ℕ) → i < length g.lines → slice_index s.left i ≡ length (edges_into g i) + 1) (queues : s.queues ≡ replicate (2 * length (locks g) + 1) no_queue) where
     queue_is : (q : ℕ) → queue_at s.queues q ≡ no_queue
-    queue_is q = ap (λ xs. queue_at xs q) queues ∙ replicate_at (length (locks g) + 1) q no_queue
+    queue_is q = ap (λ xs. queue_at xs q) queues ∙ replicate_at (2 * length (locks g) + 1) q no_queue
 
     none_listed : (q i : ℕ) → has_line (queue_at s.queues q).lines i ≡ true → ⊥
     none_listed q i h = true≢false (sym h ∙ ap (λ (x : QueueValue). has_line x.lines i) (queue_is q))
 
-    none_held : (q : ℕ) → (queue_at s.queues q).held ≡ false
-    none_held q = ap (λ (x : QueueValue). x.held) (queue_is q)
+    none_holds : (q k : ℕ) → has_line (queue_at s.queues q).holders k ≡ true → ⊥
+    none_holds q k h = true≢false (sym h ∙ ap (λ (x : QueueValue). has_line x.holders k) (queue_is q))
 
     left_is : (i : ℕ) → slice_index s.left i ≡ count_by (waits_for s.done i) (edges g) + count_by (λ (e : Edge). e.to == i) (first_edges g)
     left_is i =
@@ -148,17 +148,14 @@ module _ (g : GraphValue) (p : ℕ) (s : State) (fresh : IsFresh g p s) where
       slot_count = ap length fresh.slots ∙ length-replicate (length g.lines) None;
       done_count = ap length fresh.done ∙ length-replicate (length g.lines) false;
       left_count = count;
-      queue_count = ap length queues ∙ length-replicate (length (locks g) + 1) no_queue;
+      queue_count = ap length queues ∙ length-replicate (2 * length (locks g) + 1) no_queue;
       processor_count = ap length fresh.running ∙ length-replicate p None;
       left = left_is;
       started_free = λ i x h. absurd (no_slots i x h);
       finished_started = λ i d. absurd (none_done i d);
       queued = λ q i h. absurd (none_listed q i h);
       all_queued = λ i w. (let c : slice_index s.left i ≡ length (edges_into g i) + 1 = counts i w.line in let z : slice_index s.left i ≡ 0 = w.free in absurd (omega arith));
-      others_unheld = none_held 0;
-      held = λ l h. absurd (true≢false (sym h ∙ none_held (l + 1)));
-      holds = λ l k h. absurd (no_slots k h.slot h.has);
-      one_holds = λ l k m a b. absurd (no_slots k a.slot a.has);
+      holders = λ q k. ((λ h. absurd (none_holds q k h)), (λ h. absurd (no_slots k h.1.slot h.1.has)));
       runs = λ q k h. absurd (none_runs q k h);
       running = λ k x h unf. absurd (no_slots k x h);
       ordered = λ i. ((λ c. absurd (contains_none i (subst (λ xs. Contains xs i) fresh.order c))), (λ h. absurd (no_slots i h.0 h.1)));
@@ -180,7 +177,7 @@ module _ (g : GraphValue) (p : ℕ) (s : State) (fresh : IsFresh g p s) where
       valid = record {
         apart = λ i j x y h. absurd (no_slots i x h);
         sources = λ e c x h. absurd (no_slots e.to x h);
-        sections = λ i j acquires_same x y h. absurd (no_slots i x h);
+        sections = λ i j excludes x y h. absurd (no_slots i x h);
       };
       moments = λ i x h. absurd (no_slots i x h);
       free = λ i x h. absurd (no_slots i x h);
@@ -190,14 +187,14 @@ module _ (g : GraphValue) (p : ℕ) (s : State) (fresh : IsFresh g p s) where
       greedy = λ u before. (let t : s.time ≡ 0 = fresh.time in absurd (omega arith));
     };
     done_lines = record { finished = λ i d. absurd (none_done i d); marked = λ i f. absurd (no_slots i f.0 f.1) };
-    lowest_first = record { lower = λ i x h. absurd (no_slots i x h); acquires_same = λ i x h. absurd (no_slots i x h) };
+    lowest_first = record { lower = λ i x h. absurd (no_slots i x h); excludes = λ i x h. absurd (no_slots i x h) };
     small = record {
       time = (let t : s.time ≡ 0 = fresh.time in let m : undone s.done (length g.lines) ≤ length g.lines = count_below-max (λ i. not (is_done s.done i)) (length g.lines) in omega arith);
       finishes = λ i x h. absurd (no_slots i x h);
     };
   }
 
-pub fresh_consistent : (g : GraphValue) (p : ℕ) (s : State) → IsFresh g p s → IsGraph g → length s.left ≡ length g.lines → ((i : ℕ) → i < length g.lines → slice_index s.left i ≡ length (edges_into g i) + 1) → s.queues ≡ replicate (length (locks g) + 1) no_queue → IsConsistent g p s (first_edges g)
+pub fresh_consistent : (g : GraphValue) (p : ℕ) (s : State) → IsFresh g p s → IsGraph g → length s.left ≡ length g.lines → ((i : ℕ) → i < length g.lines → slice_index s.left i ≡ length (edges_into g i) + 1) → s.queues ≡ replicate (2 * length (locks g) + 1) no_queue → IsConsistent g p s (first_edges g)
 fresh_consistent g p s fresh graph count counts queues = consistent_first g p s fresh graph count counts queues
 
 pub fresh_begins : (g : GraphValue) (p : ℕ) (s : State) → IsFresh g p s → IsConsistent g p s [] → IsSimulation g p s

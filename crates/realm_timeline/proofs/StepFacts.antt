@@ -1,14 +1,14 @@
 -- What single steps of a simulation do to its parts.
-use Rattle.std.proofs.Common.{◌≡◌, ℕ, zero, suc, ◌+◌, ◌<◌, ◌≤◌, true, false, inl, inr, List, [], ◌∷◌, ◌++◌, length, sym, ◌∙◌, ap, subst, arith}
+use Rattle.std.proofs.Common.{◌≡◌, ℕ, zero, suc, ◌+◌, ◌<◌, ◌≤◌, true, inl, inr, List, [], ◌∷◌, ◌++◌, length, sym, ap, subst, arith}
 use Rattle.std.specs.Prelude.{Option, Some, None, is_some, slice_set}
 use Rattle.std.specs.List.{slice_index_or}
 use Rattle.std.proofs.lemmas.Bool.{true≢false, cases_lt}
 use Rattle.graph_model.specs.graph.Graph.{GraphValue}
 use Rattle.graph_model.specs.meaning.Rules.{Releases}
 use Rattle.realm_timeline.specs.Plan.{cost}
-use Rattle.realm_timeline.specs.Queue.{QueueValue, ChangesQueue, WithHeld, has_line, queue_at, WithoutLine}
-use Rattle.realm_timeline.specs.State.{State, queue_of, runs_at}
-use Rattle.realm_timeline.specs.Steps.{MarksFinished, Starts, slot_of}
+use Rattle.realm_timeline.specs.Queue.{QueueValue, ChangesQueue, has_line, queue_at, WithoutLine}
+use Rattle.realm_timeline.specs.State.{State, runs_at}
+use Rattle.realm_timeline.specs.Steps.{AddsHolder, RemovesHolder, MarksFinished, Starts, slot_of}
 
 -- a processor that is not idle runs a line
 pub runs_some : (running : List (Option ℕ)) (q : ℕ) (o : Option ℕ) → o ≡ slice_index_or running q o → q < length running → is_some o ≡ true → (k : ℕ) × (runs_at running q ≡ Some k)
@@ -27,18 +27,18 @@ busy_more running n below here p h = elim (cases_lt p n) [
 ]
 
 -- a line is marked as finished, and the reservation that it releases is free
-pub marks_release : (g : GraphValue) (old new : State) (processor line a q : ℕ) (mid : List QueueValue) → mid ≡ old.queues → Releases g line a → q ≡ queue_of g a → ChangesQueue mid new.queues q (WithHeld false) → length new.queues ≡ length mid →
+pub marks_release : (g : GraphValue) (old new : State) (processor line a : ℕ) → Releases g line a → RemovesHolder g old.queues new.queues a → length new.queues ≡ length old.queues →
     new.time ≡ old.time → new.slots ≡ old.slots → new.order ≡ old.order → new.left ≡ old.left → new.running ≡ slice_set old.running processor None → new.done ≡ slice_set old.done line true → MarksFinished g old new processor line
-marks_release g old new processor line a q mid same r at changes count time slots order left running done = record {
+marks_release g old new processor line a r removes count time slots order left running done = record {
   time = time;
   slots = slots;
   order = order;
   left = left;
   running = running;
   done = done;
-  queue_count = count ∙ ap length same;
+  queue_count = count;
   acquire = Some a;
-  frees = (r, subst (λ x. ChangesQueue x new.queues (queue_of g a) (WithHeld false)) same (subst (λ x. ChangesQueue mid new.queues x (WithHeld false)) at changes));
+  frees = (r, removes);
 }
 
 pub marks_other : (g : GraphValue) (old new : State) (processor line : ℕ) → ((a : ℕ) → Releases g line a → ⊥) → new.queues ≡ old.queues →
@@ -56,20 +56,20 @@ marks_other g old new processor line none queues time slots order left running d
 }
 
 -- a line starts
-pub starts_with : (g : GraphValue) (old new : State) (place processor line : ℕ) (mid : List QueueValue) (finish : ℕ) → mid ≡ old.queues → has_line (queue_at mid place).lines line ≡ true → ((i : ℕ) → has_line (queue_at mid place).lines i ≡ true → line ≤ i) →
-    ChangesQueue mid new.queues place (WithoutLine line place) → length new.queues ≡ length mid → cost g line ≤ 17179869184 →
+pub starts_with : (g : GraphValue) (old new : State) (place processor line : ℕ) (between : List QueueValue) → has_line (queue_at old.queues place).lines line ≡ true → ((i : ℕ) → has_line (queue_at old.queues place).lines i ≡ true → line ≤ i) →
+    ChangesQueue old.queues between place (WithoutLine line) → AddsHolder g between new.queues line → length new.queues ≡ length old.queues → cost g line ≤ 17179869184 →
     new.time ≡ old.time → new.slots ≡ slice_set old.slots line (Some (slot_of g old processor line)) → new.order ≡ old.order ++ line ∷ [] → new.done ≡ old.done → new.left ≡ old.left → new.running ≡ slice_set old.running processor (Some line) →
     Starts g old new place processor line
-starts_with g old new place processor line mid finish same listed lowest changes count few time slots order done left running = record {
-  listed = subst (λ x. has_line (queue_at x place).lines line ≡ true) same listed;
-  lowest = λ i h. lowest i (subst (λ x. has_line (queue_at x place).lines i ≡ true) (sym same) h);
+starts_with g old new place processor line between listed lowest taken holds count few time slots order done left running = record {
+  listed = listed;
+  lowest = lowest;
   time = time;
   slots = slots;
   order = order;
   done = done;
   left = left;
   running = running;
-  queue_count = count ∙ ap length same;
-  queues = subst (λ x. ChangesQueue x new.queues place (WithoutLine line place)) same changes;
+  queue_count = count;
+  queues = (between, taken, holds);
   few = few;
 }

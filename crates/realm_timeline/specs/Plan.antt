@@ -1,5 +1,5 @@
 -- Plans: for each line that is planned a processor, a start and a finish, in virtual time.
-use Rattle.std.specs.Prelude.{◌≡◌, ◌≢◌, ℕ, ◌+◌, ◌<◌, ◌≤◌, ◌⊎◌, ◌↔◌, max, List, [], ◌∷◌, length, sum_by, Contains, Option, Some, None}
+use Rattle.std.specs.Prelude.{◌≡◌, ◌≢◌, ℕ, false, ◌+◌, ◌<◌, ◌≤◌, ◌⊎◌, ◌↔◌, max, List, [], ◌∷◌, length, sum_by, Contains, Option, Some, None}
 use Rattle.std.specs.Option.{option_map_or}
 use Rattle.std.specs.List.{slice_index_or}
 use Rattle.basics.specs.Lists.{numbers_below}
@@ -10,7 +10,7 @@ use Rattle.graph_model.specs.graph.Graph.{GraphValue, space_at}
 use Rattle.graph_model.specs.graph.Edges.{edges}
 use Rattle.graph_model.specs.meaning.Path.{Reached}
 use Rattle.graph_model.specs.graph.Access.{accesses}
-use Rattle.graph_model.specs.meaning.Rules.{Acquires, Releases}
+use Rattle.graph_model.specs.meaning.Rules.{Acquires, Releases, both_shared}
 use Rattle.realm_timeline.specs.declared.slot.Slot.{Slot}
 
 -- how many points an access is of
@@ -72,9 +72,10 @@ FinishedBy plan t i = (s : Slot) × HasSlot plan i s × (s.finish ≤ t)
 abbrev pub ReleasedBy : GraphValue → List (Option Slot) → ℕ → ℕ → Type 0
 ReleasedBy g plan t q = (r : ℕ) × Releases g r q × FinishedBy plan t r
 
--- two acquires of one reservation
-pub record AcquireSame (g : GraphValue) (i k : ℕ) : Type 0 where
+-- two acquires of one reservation that are not both shared, so that only one of them may hold it at a time
+pub record Exclude (g : GraphValue) (i k : ℕ) : Type 0 where
   pub different : i ≢ k
+  pub apart : both_shared g i k ≡ false
   pub lock : ℕ
   pub one : Acquires g i lock
   pub other : Acquires g k lock
@@ -85,8 +86,8 @@ pub record IsValid (g : GraphValue) (plan : List (Option Slot)) : Type 0 where
   pub apart : (i k : ℕ) (s t : Slot) → HasSlot plan i s → HasSlot plan k t → i ≢ k → s.processor ≡ t.processor → (s.finish ≤ t.start) ⊎ (t.finish ≤ s.start)
   -- a line starts at or after the finish of each source
   pub sources : (e : Edge) → Contains (edges g) e → (s : Slot) → HasSlot plan e.to s → FinishedBy plan s.start e.from
-  -- of two acquires of one reservation the release of one finishes at or before the start of the other
-  pub sections : (i k : ℕ) → AcquireSame g i k → (s t : Slot) → HasSlot plan i s → HasSlot plan k t → ReleasedBy g plan t.start i ⊎ ReleasedBy g plan s.start k
+  -- of two acquires of one reservation, not both shared, the release of one finishes at or before the start of the other
+  pub sections : (i k : ℕ) → Exclude g i k → (s t : Slot) → HasSlot plan i s → HasSlot plan k t → ReleasedBy g plan t.start i ⊎ ReleasedBy g plan s.start k
 
 -- a moment at which lines may start: time 0, or the finish of a line
 abbrev pub IsMoment : List (Option Slot) → ℕ → Type 0
@@ -99,20 +100,20 @@ pub record IsReadyAt (g : GraphValue) (plan : List (Option Slot)) (t i : ℕ) : 
   pub waits : (s : Slot) → HasSlot plan i s → t ≤ s.start
   -- each of its sources has finished
   pub sources : (e : Edge) → Contains (edges g) e → e.to ≡ i → FinishedBy plan t e.from
-  -- each acquire of its reservation that has started before has been released
-  pub unheld : (k : ℕ) → AcquireSame g i k → (s : Slot) → HasSlot plan k s → s.start < t → ReleasedBy g plan t k
+  -- each acquire of its reservation, not both shared, that has started before has been released
+  pub unheld : (k : ℕ) → Exclude g i k → (s : Slot) → HasSlot plan k s → s.start < t → ReleasedBy g plan t k
 
 -- a processor is free for line i at time t: no line on it started before and finishes after, and no line below i starts on it then
 pub record IsFreeFor (plan : List (Option Slot)) (t i q : ℕ) : Type 0 where
   pub before : (k : ℕ) (s : Slot) → HasSlot plan k s → s.processor ≡ q → s.start < t → s.finish ≤ t
   pub beside : (k : ℕ) (s : Slot) → HasSlot plan k s → s.processor ≡ q → s.start ≡ t → i ≤ k
 
--- a processor is free for line i at time t, and no lower acquire of its reservation starts then
+-- a processor is free for line i at time t, and no lower acquire of its reservation, not both shared, starts then
 pub record MayStart (g : GraphValue) (processors : ℕ) (plan : List (Option Slot)) (t i : ℕ) : Type 0 where
   pub processor : ℕ
   pub known : processor < processors
   pub free : IsFreeFor plan t i processor
-  pub first : (k : ℕ) → AcquireSame g i k → k < i → (s : Slot) → HasSlot plan k s → s.start ≢ t
+  pub first : (k : ℕ) → Exclude g i k → k < i → (s : Slot) → HasSlot plan k s → s.start ≢ t
 
 -- a line starts at time t
 abbrev pub StartsAt : List (Option Slot) → ℕ → ℕ → Type 0

@@ -1,18 +1,18 @@
 -- The state of a simulation in virtual time, and what holds of it between two steps.
-use Rattle.std.specs.Prelude.{◌≡◌, ℕ, ◌+◌, ◌*◌, ◌<◌, ◌≤◌, ◌==◌, ◌⊎◌, ◌↔◌, Bool, true, false, not, ◌&&◌, List, [], length, take, Contains, Option, Some, None, slice_index, count_by}
+use Rattle.std.specs.Prelude.{◌≡◌, ℕ, ◌+◌, ◌*◌, ◌<◌, ◌≤◌, ◌==◌, ◌⊎◌, ◌↔◌, Bool, true, false, not, ◌&&◌, ◌||◌, List, [], length, take, Contains, Option, Some, None, slice_index, count_by}
 use Rattle.std.specs.Option.{option_map_or}
 use Rattle.std.specs.List.{slice_index_or}
 use Rattle.graph_model.specs.declared.graph.verb.Edge.{Edge}
 use Rattle.graph_model.specs.declared.graph.verb.Verb.{Verb}
 use Rattle.graph_model.specs.declared.graph.verb.Verb.TheVariants.{Acquire}
-use Rattle.graph_model.specs.graph.Graph.{GraphValue, verb_at, never_comes, locks}
+use Rattle.graph_model.specs.graph.Graph.{GraphValue, verb_at, line_passes, never_comes, locks}
 use Rattle.graph_model.specs.graph.Edges.{edges}
-use Rattle.graph_model.specs.meaning.Rules.{Acquires, Releases}
+use Rattle.graph_model.specs.meaning.Rules.{Releases}
 use Rattle.basics.specs.Lists.{count_below}
 use Rattle.realm_timeline.specs.declared.slot.Slot.{Slot}
 use Rattle.realm_timeline.specs.declared.simulation.Simulation.{Simulation}
-use Rattle.realm_timeline.specs.Plan.{slot_at, HasSlot, IsPartialPlan, FinishedBy, AcquireSame, IsValid, IsMoment, IsReadyAt, IsFreeFor, MayStart, StartsAt}
-use Rattle.realm_timeline.specs.Queue.{QueueValue, queue_at, has_line, AllHeldOrEmpty}
+use Rattle.realm_timeline.specs.Plan.{slot_at, HasSlot, IsPartialPlan, FinishedBy, ReleasedBy, Exclude, IsValid, IsMoment, IsReadyAt, IsFreeFor, MayStart, StartsAt}
+use Rattle.realm_timeline.specs.Queue.{QueueValue, queue_at, has_line, IsUnheld, AllHeldOrEmpty}
 
 -- the time, the slots so far, the lines that have one in the order of their starts, whether each line has finished, how many edges it waits for, the queues, and the line that each processor runs
 pub record State : Type 0 where
@@ -28,13 +28,30 @@ pub record State : Type 0 where
 abbrev pub state_of : Simulation → State
 state_of r = record { time = r.time; slots = r.slots.items; order = r.order.items; done = r.done.items; left = r.left.items; queues = r.queues.items; running = r.running.items }
 
--- the number of the queue of a line: one queue for the acquires of each reservation, and queue 0 for all other lines
+-- the numbers of the queues of a reservation: of its acquires that are not shared, and of those that are
+abbrev pub exclusive_queue : ℕ → ℕ
+exclusive_queue l = 2 * l + 1
+
+abbrev pub shared_queue : ℕ → ℕ
+shared_queue l = 2 * l + 2
+
+-- the number of the queue of a line: queue 0 is for all lines but acquires
 abbrev pub verb_queue : Verb → ℕ
-verb_queue (Acquire l) = l + 1
+verb_queue (Acquire l true) = shared_queue l
+verb_queue (Acquire l false) = exclusive_queue l
 verb_queue _ = 0
 
 abbrev pub queue_of : GraphValue → ℕ → ℕ
 queue_of g i = option_map_or verb_queue (verb_at g i) 0
+
+-- whether a line, once it holds its reservation, keeps those of a queue from starting: a shared acquire keeps only those from it that are not shared
+abbrev pub verb_bars : ℕ → Verb → Bool
+verb_bars q (Acquire l true) = q == exclusive_queue l
+verb_bars q (Acquire l false) = (q == exclusive_queue l) || (q == shared_queue l)
+verb_bars q _ = false
+
+abbrev pub bars : GraphValue → ℕ → ℕ → Bool
+bars g k q = line_passes (verb_bars q) g k
 
 -- whether a line has finished
 abbrev pub is_done : List Bool → ℕ → Bool
@@ -55,20 +72,19 @@ pub record IsQueued (g : GraphValue) (s : State) (i : ℕ) : Type 0 where
   pub comes : never_comes g i ≡ false
   pub waits : slot_at s.slots i ≡ None
 
--- line k is an acquire of reservation l that has started, and its release has not finished
-pub record Holds (g : GraphValue) (s : State) (l k : ℕ) : Type 0 where
-  pub acquires : Acquires g k l
+-- line k has started, and no release of it has finished
+pub record Holds (g : GraphValue) (slots : List (Option Slot)) (done : List Bool) (k : ℕ) : Type 0 where
   pub slot : Slot
-  pub has : HasSlot s.slots k slot
-  pub unreleased : (r : ℕ) → Releases g r k → is_done s.done r ≡ false
+  pub has : HasSlot slots k slot
+  pub unreleased : (r : ℕ) → Releases g r k → is_done done r ≡ false
 
 -- the tables agree with the slots and with the lines that have finished; the edges of `rest` are still counted, though their sources have finished
 pub record IsConsistent (g : GraphValue) (processors : ℕ) (s : State) (rest : List Edge) : Type 0 where
-  -- there is an entry for each line, a queue for each reservation and one more, and an entry for each processor
+  -- there is an entry for each line, two queues for each reservation and one more, and an entry for each processor
   pub slot_count : length s.slots ≡ length g.lines
   pub done_count : length s.done ≡ length g.lines
   pub left_count : length s.left ≡ length g.lines
-  pub queue_count : length s.queues ≡ length (locks g) + 1
+  pub queue_count : length s.queues ≡ 2 * length (locks g) + 1
   pub processor_count : length s.running ≡ processors
   -- each line waits for the edges from lines that have not finished; one that has started waits for none
   pub left : (i : ℕ) → slice_index s.left i ≡ count_by (waits_for s.done i) (edges g) + count_by (λ (e : Edge). e.to == i) rest
@@ -77,11 +93,8 @@ pub record IsConsistent (g : GraphValue) (processors : ℕ) (s : State) (rest : 
   -- the queues have exactly the lines that stand in them
   pub queued : (q i : ℕ) → has_line (queue_at s.queues q).lines i ≡ true → IsQueued g s i × (queue_of g i ≡ q)
   pub all_queued : (i : ℕ) → IsQueued g s i → has_line (queue_at s.queues (queue_of g i)).lines i ≡ true
-  -- a queue is held exactly while an acquire holds its reservation, and one acquire at most does
-  pub others_unheld : (queue_at s.queues 0).held ≡ false
-  pub held : (l : ℕ) → (queue_at s.queues (l + 1)).held ≡ true → (k : ℕ) × Holds g s l k
-  pub holds : (l k : ℕ) → Holds g s l k → (queue_at s.queues (l + 1)).held ≡ true
-  pub one_holds : (l k m : ℕ) → Holds g s l k → Holds g s l m → k ≡ m
+  -- the holders of a queue are exactly the acquires that hold a reservation, and bar its lines
+  pub holders : (q k : ℕ) → (has_line (queue_at s.queues q).holders k ≡ true) ↔ ((bars g k q ≡ true) × Holds g s.slots s.done k)
   -- a processor runs a line exactly while the line has started and not finished
   pub runs : (q k : ℕ) → runs_at s.running q ≡ Some k → (is_done s.done k ≡ false) × ((x : Slot) × HasSlot s.slots k x × (x.processor ≡ q))
   pub running : (k : ℕ) (x : Slot) → HasSlot s.slots k x → is_done s.done k ≡ false → runs_at s.running x.processor ≡ Some k
@@ -110,10 +123,18 @@ pub record DoneAreFinished (s : State) : Type 0 where
   pub finished : (i : ℕ) → is_done s.done i ≡ true → FinishedBy s.slots s.time i
   pub marked : (i : ℕ) → FinishedBy s.slots s.time i → is_done s.done i ≡ true
 
--- a line that started now is below each line that is left in a queue that is not held, and below each other acquire of its reservation that waits
+-- each acquire that line i excludes and that has started before now has been released
+abbrev pub NoneOlder : GraphValue → State → ℕ → Type 0
+NoneOlder g s i = (m : ℕ) → Exclude g i m → (y : Slot) → HasSlot s.slots m y → y.start < s.time → ReleasedBy g s.slots s.time m
+
+-- an acquire below line i, which line i excludes, has started now
+abbrev pub StartsNowBelow : GraphValue → State → ℕ → Type 0
+StartsNowBelow g s i = (m : ℕ) × (y : Slot) × Exclude g i m × HasSlot s.slots m y × (y.start ≡ s.time) × (m < i)
+
+-- a line that started now is below each line that is left in a queue that is not held; and where an acquire waits that excludes one that started now, but none that started earlier and holds, it excludes a lower one that has started now
 pub record StartsLowestFirst (g : GraphValue) (s : State) : Type 0 where
-  pub lower : (k : ℕ) (x : Slot) → HasSlot s.slots k x → x.start ≡ s.time → (i : ℕ) → IsQueued g s i → (queue_at s.queues (queue_of g i)).held ≡ false → k < i
-  pub acquires_same : (k : ℕ) (x : Slot) → HasSlot s.slots k x → x.start ≡ s.time → (i : ℕ) → IsQueued g s i → AcquireSame g i k → k < i
+  pub lower : (k : ℕ) (x : Slot) → HasSlot s.slots k x → x.start ≡ s.time → (i : ℕ) → IsQueued g s i → IsUnheld (queue_at s.queues (queue_of g i)) → k < i
+  pub excludes : (k : ℕ) (x : Slot) → HasSlot s.slots k x → x.start ≡ s.time → (i : ℕ) → IsQueued g s i → Exclude g i k → NoneOlder g s i → StartsNowBelow g s i
 
 -- how many of the first n lines have not finished
 abbrev pub undone : List Bool → ℕ → ℕ

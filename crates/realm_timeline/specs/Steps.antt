@@ -1,5 +1,5 @@
 -- The steps of a simulation: a line starts, finishes, or waits for one edge fewer.
-use Rattle.std.specs.Prelude.{◌≡◌, ℕ, ◌+◌, ◌-◌, ◌<◌, ◌≤◌, ◌==◌, Bool, true, false, not, ◌&&◌, List, [], ◌∷◌, ◌++◌, length, Option, Some, None, slice_index, slice_set, is_none, map}
+use Rattle.std.specs.Prelude.{◌≡◌, ℕ, ◌+◌, ◌-◌, ◌<◌, ◌≤◌, ◌==◌, Bool, true, false, not, ◌&&◌, ◌||◌, List, [], ◌∷◌, ◌++◌, length, Option, Some, None, slice_index, slice_set, is_none, map}
 use Rattle.graph_model.specs.declared.graph.verb.Edge.{Edge}
 use Rattle.graph_model.specs.graph.Graph.{GraphValue, never_comes}
 use Rattle.graph_model.specs.declared.graph.verb.EdgeKind.TheVariants as kind
@@ -9,8 +9,8 @@ use Rattle.graph_model.specs.meaning.Rules.{Releases}
 use Rattle.basics.specs.Lists.{count_below}
 use Rattle.realm_timeline.specs.declared.slot.Slot.{Slot}
 use Rattle.realm_timeline.specs.Plan.{cost}
-use Rattle.realm_timeline.specs.Queue.{QueueValue, queue_at, has_line, ChangesQueue, WithLine, WithHeld, WithoutLine}
-use Rattle.realm_timeline.specs.State.{State, queue_of, runs_at}
+use Rattle.realm_timeline.specs.Queue.{QueueValue, queue_at, has_line, ChangesQueue, WithLine, WithoutLine}
+use Rattle.realm_timeline.specs.State.{State, queue_of, bars, runs_at}
 
 -- the lowest processor that runs no line
 pub record IsFirstIdle (running : List (Option ℕ)) (q : ℕ) : Type 0 where
@@ -38,10 +38,20 @@ pub record CountsDown (g : GraphValue) (old new : State) (line : ℕ) : Type 0 w
   pub queue_count : length new.queues ≡ length old.queues
   pub queues : IsOffered g old.queues new.queues line ((slice_index old.left line - 1 == 0) && not (never_comes g line))
 
--- the reservation of the acquire that a line releases is held no longer
+-- line k holds its reservation, if it is an acquire, against the lines of the queues that it bars
+pub record AddsHolder (g : GraphValue) (old new : List QueueValue) (k : ℕ) : Type 0 where
+  pub lines : (q : ℕ) → (queue_at new q).lines ≡ (queue_at old q).lines
+  pub holders : (q i : ℕ) → has_line (queue_at new q).holders i ≡ (((i == k) && bars g k q) || has_line (queue_at old q).holders i)
+
+-- and holds it no longer
+pub record RemovesHolder (g : GraphValue) (old new : List QueueValue) (k : ℕ) : Type 0 where
+  pub lines : (q : ℕ) → (queue_at new q).lines ≡ (queue_at old q).lines
+  pub holders : (q i : ℕ) → has_line (queue_at new q).holders i ≡ (not ((i == k) && bars g k q) && has_line (queue_at old q).holders i)
+
+-- the acquire that a line releases holds its reservation no longer
 abbrev pub Frees : GraphValue → ℕ → List QueueValue → List QueueValue → Option ℕ → Type 0
 Frees g line old new None = ((k : ℕ) → Releases g line k → ⊥) × (new ≡ old)
-Frees g line old new (Some k) = Releases g line k × ChangesQueue old new (queue_of g k) (WithHeld false)
+Frees g line old new (Some k) = Releases g line k × RemovesHolder g old new k
 
 -- a line is marked as finished, its processor runs none, and the reservation that it releases is free
 pub record MarksFinished (g : GraphValue) (old new : State) (processor line : ℕ) : Type 0 where
@@ -77,7 +87,7 @@ pub record Starts (g : GraphValue) (old new : State) (place processor line : ℕ
   pub left : new.left ≡ old.left
   pub running : new.running ≡ slice_set old.running processor (Some line)
   pub queue_count : length new.queues ≡ length old.queues
-  pub queues : ChangesQueue old.queues new.queues place (WithoutLine line place)
+  pub queues : (between : List QueueValue) × ChangesQueue old.queues between place (WithoutLine line) × AddsHolder g between new.queues line
   pub few : cost g line ≤ 17179869184
 
 -- one edge more into each line, which is counted until the line is offered for the first time

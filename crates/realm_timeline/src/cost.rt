@@ -1,9 +1,10 @@
 //! What a line costs, and what it says of reservations.
 
-ghost use Rattle.std.specs.Prelude.{◌≡◌, ℕ, ◌+◌, ◌<◌, ◌≤◌, length, MatchOption};
+ghost use Rattle.std.specs.Prelude.{◌≡◌, ℕ, ◌+◌, ◌*◌, ◌<◌, ◌≤◌, false, length, Some, MatchOption};
 ghost use Rattle.realm_timeline.specs.Plan.{cost};
-ghost use Rattle.realm_timeline.specs.State.{queue_of};
-ghost use Rattle.graph_model.specs.graph.Graph.{locks};
+ghost use Rattle.realm_timeline.specs.State.{queue_of, exclusive_queue, shared_queue, bars};
+ghost use Rattle.graph_model.specs.graph.Graph.{locks, verb_at};
+ghost use Rattle.graph_model.specs.declared.graph.verb.Verb.TheVariants.{Acquire as AcquireOf};
 ghost use Rattle.graph_model.specs.meaning.Rules.{Releases};
 
 use graph_model::graph::Graph;
@@ -33,16 +34,50 @@ pub(crate) fn cost_of(graph: &Graph, line: u32) -> u64
 }
 
 /// The number of the queue of a line: queue 0 is for all lines but acquires, and each reservation has
-/// one for its acquires.
+/// one for its acquires that are not shared and one for those that are.
 pub(crate) fn queue_of(graph: &Graph, line: u32) -> u32
     requires { line < length graph.now.lines }
     ensures queue { result ≡ queue_of graph.now line }
-    ensures known { result < length (locks graph.now) + 1 }
+    ensures known { result < 2 * length (locks graph.now) + 1 }
 {
     let _ = graph.locks();
     match &graph.line(line).verb {
-        Verb::Acquire { lock } => *lock + 1,
+        Verb::Acquire { lock, shared } => {
+            if *shared {
+                shared_queue(*lock)
+            } else {
+                exclusive_queue(*lock)
+            }
+        }
         _ => 0,
+    }
+}
+
+/// The number of the queue of the acquires of a reservation that are not shared.
+pub(crate) fn exclusive_queue(lock: u32) -> u32
+    requires { lock < 64 }
+    ensures { result ≡ exclusive_queue lock }
+{
+    2 * lock + 1
+}
+
+/// The number of the queue of those that are shared.
+pub(crate) fn shared_queue(lock: u32) -> u32
+    requires { lock < 64 }
+    ensures { result ≡ shared_queue lock }
+{
+    2 * lock + 2
+}
+
+/// The reservation that a line acquires, and whether shared.
+pub(crate) fn acquired(graph: &Graph, line: u32) -> Option<(u32, bool)>
+    requires { line < length graph.now.lines }
+    ensures { MatchOption result ((q : ℕ) → bars graph.now line q ≡ false)
+        (λ x. (verb_at graph.now line ≡ Some (AcquireOf x.0 x.1)) × (x.0 < length (locks graph.now))) }
+{
+    match &graph.line(line).verb {
+        Verb::Acquire { lock, shared } => Some((*lock, *shared)),
+        _ => None,
     }
 }
 

@@ -1,7 +1,7 @@
 //! The simulation of a graph in virtual time: lines start as soon as they may, the lowest first, and
 //! time goes from one finish to the next.
 
-ghost use Rattle.std.specs.Prelude.{◌≡◌, ◌⊎◌, ℕ, ◌+◌, ◌-◌, ◌<◌, ◌≤◌, ◌==◌, true, false, [], ◌∷◌, ◌++◌, length, Some, None, slice_index, slice_set, not, ◌&&◌, replicate, min, OnOk, IfOk, IfSome, MatchOption};
+ghost use Rattle.std.specs.Prelude.{◌≡◌, ◌⊎◌, ℕ, ◌+◌, ◌-◌, ◌*◌, ◌<◌, ◌≤◌, ◌==◌, true, false, [], ◌∷◌, ◌++◌, length, Some, None, slice_index, slice_set, not, ◌&&◌, replicate, min, OnOk, IfOk, IfSome, MatchOption};
 ghost use Rattle.graph_model.specs.graph.Graph.{never_comes, locks};
 ghost use Rattle.graph_model.specs.graph.Edges.{edges_into, edges_out_of};
 ghost use Rattle.graph_model.specs.meaning.Path.{Reached};
@@ -15,7 +15,8 @@ ghost use Rattle.realm_timeline.specs.NextFinish.{IsNextFinish, IsSoonest, RunsH
 ghost use Rattle.realm_timeline.specs.Order.{IsOrder};
 
 use crate::cost::{cost_of, queue_of, released};
-use crate::queue::{Queue, insert_at, lowest_of, set_held_at, take_at};
+use crate::holding::{add_holder, remove_holder};
+use crate::queue::{Queue, insert_at, lowest_of, take_at};
 use crate::slot::Slot;
 use graph_model::graph::Graph;
 use graph_model::laws::edges_between_lines;
@@ -37,7 +38,7 @@ pub(crate) struct Simulation {
     /// For each line how many edges enter it from lines that have not finished.
     pub(crate) left: Vec<usize>,
     /// The lines that have not started, though their sources have finished: all but acquires in
-    /// queue 0, and the acquires of each reservation in one queue.
+    /// queue 0, and the acquires of each reservation in two queues.
     pub(crate) queues: Vec<Queue>,
     /// The line that each processor runs, if it runs one.
     pub(crate) running: Vec<Option<u32>>,
@@ -86,7 +87,7 @@ impl Simulation {
             order: Vec::new(alloc),
             done: filled(alloc, false, lines as usize)?,
             left: first_counts(alloc, graph)?,
-            queues: empty_queues(alloc, graph.locks() + 1)?,
+            queues: empty_queues(alloc, 2 * graph.locks() + 1)?,
             running: filled(alloc, None, processors as usize)?,
         };
         for line in 0..lines {
@@ -116,7 +117,7 @@ impl Simulation {
     /// lowest that runs no line. None where no line may start now.
     fn next_start(&self) -> Option<(u32, u32)>
         requires few { length self.now.running.items ≤ 8 }
-        requires queues { length self.now.queues.items ≤ 65 }
+        requires queues { length self.now.queues.items ≤ 129 }
         ensures { MatchOption result (AllBusy self.now.running.items ⊎ AllHeldOrEmpty self.now.queues.items)
             (λ x. IsLowestPlace self.now.queues.items x.0 × IsFirstIdle self.now.running.items x.1) }
     {
@@ -150,6 +151,7 @@ impl Simulation {
         let Some(line) = take_at(&mut self.queues, place) else {
             return Ok(());
         };
+        add_holder(&mut self.queues, graph, line)?;
         let finish = self.time + cost_of(graph, line);
         push(&mut self.order, line)?;
         self.slots[line as usize] = Some(Slot {
@@ -267,13 +269,13 @@ impl Simulation {
         requires processor { processor < length self.old.running.items }
         requires line { line < length graph.now.lines }
         requires done { length self.old.done.items ≡ length graph.now.lines }
-        requires queues { length self.old.queues.items ≡ length (locks graph.now) + 1 }
+        requires queues { length self.old.queues.items ≡ 2 * length (locks graph.now) + 1 }
         ensures { MarksFinished graph.now (state_of self.old) (state_of self.new) processor line }
     {
         self.running[processor as usize] = None;
         self.done[line as usize] = true;
         if let Some(acquire) = released(graph, line) {
-            set_held_at(&mut self.queues, queue_of(graph, acquire), false);
+            remove_holder(&mut self.queues, graph, acquire);
         }
     }
 
@@ -283,7 +285,7 @@ impl Simulation {
         requires line { line < length graph.now.lines }
         requires known { length self.old.left.items ≡ length graph.now.lines }
         requires waits { 0 < slice_index self.old.left.items line }
-        requires queues { length self.old.queues.items ≡ length (locks graph.now) + 1 }
+        requires queues { length self.old.queues.items ≡ 2 * length (locks graph.now) + 1 }
         ensures { OnOk result (CountsDown graph.now (state_of self.old) (state_of self.new) line) }
     {
         let left = self.left[line as usize] - 1;
@@ -296,7 +298,7 @@ impl Simulation {
 /// Puts a line into its queue if it is offered.
 fn offer(queues: &mut Vec<Queue>, graph: &Graph, line: u32, offered: bool) -> Result<(), NoMemory>
     requires line { line < length graph.now.lines }
-    requires queues { length queues.old.items ≡ length (locks graph.now) + 1 }
+    requires queues { length queues.old.items ≡ 2 * length (locks graph.now) + 1 }
     ensures count { OnOk result (length queues.new.items ≡ length queues.old.items) }
     ensures offered { OnOk result (IsOffered graph.now queues.old.items queues.new.items line offered) }
 {

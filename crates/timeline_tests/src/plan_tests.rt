@@ -114,6 +114,90 @@ const IN_A_ROW: Row<'static> = Row {
         done\n",
 };
 
+/// Two sections of one reservation that are both shared: side by side.
+const BOTH_SHARED: Row<'static> = Row {
+    graph: "realm 2\n\
+        space s 0..1\n\
+        inst a s x,y\n\
+        lock l\n\
+        q = acquire l shared\n\
+        d = fill a.x s 1 on q\n\
+        m = mergei d\n\
+        r = release q on m\n\
+        k = acquire l shared\n\
+        e = fill a.y s 2 on k\n\
+        n = mergei e\n\
+        t = release k on n\n\
+        end\n",
+    processors: 2,
+    text: "timeline 1\n\
+        op q 0 0 1\n\
+        op d 0 1 4\n\
+        op m 0 4 5\n\
+        op r 0 5 6\n\
+        op k 1 0 1\n\
+        op e 1 1 4\n\
+        op n 1 4 5\n\
+        op t 1 5 6\n\
+        critical 6 q d m r\n\
+        length 6\n\
+        done\n",
+};
+
+/// The same with one of them exclusive: one after the other.
+const ONE_EXCLUSIVE: Row<'static> = Row {
+    graph: "realm 2\n\
+        space s 0..1\n\
+        inst a s x,y\n\
+        lock l\n\
+        q = acquire l shared\n\
+        d = fill a.x s 1 on q\n\
+        m = mergei d\n\
+        r = release q on m\n\
+        k = acquire l\n\
+        e = fill a.y s 2 on k\n\
+        n = mergei e\n\
+        t = release k on n\n\
+        end\n",
+    processors: 2,
+    text: "timeline 1\n\
+        op q 0 0 1\n\
+        op d 0 1 4\n\
+        op m 0 4 5\n\
+        op r 0 5 6\n\
+        op k 0 6 7\n\
+        op e 0 7 10\n\
+        op n 0 10 11\n\
+        op t 0 11 12\n\
+        critical 6 q d m r\n\
+        length 12\n\
+        done\n",
+};
+
+/// An exclusive acquire waits for a shared one, and a shared one of a higher number does not wait for it.
+const OVERTAKEN: Row<'static> = Row {
+    graph: "realm 2\n\
+        lock l\n\
+        q = acquire l shared\n\
+        r = release q on q\n\
+        k = acquire l\n\
+        t = release k on k\n\
+        c = acquire l shared\n\
+        v = release c on c\n\
+        end\n",
+    processors: 2,
+    text: "timeline 1\n\
+        op q 0 0 1\n\
+        op r 0 1 2\n\
+        op k 0 2 3\n\
+        op t 0 3 4\n\
+        op c 1 0 1\n\
+        op v 1 1 2\n\
+        critical 2 q r\n\
+        length 4\n\
+        done\n",
+};
+
 /// No line at all.
 const NOTHING: Row<'static> = Row {
     graph: EMPTY,
@@ -132,6 +216,9 @@ fn timelines(rt: HostRuntime) -> Result<(), Fail> {
         UNTRIGGERED,
         SIDE_BY_SIDE,
         IN_A_ROW,
+        BOTH_SHARED,
+        ONE_EXCLUSIVE,
+        OVERTAKEN,
         NOTHING,
     ] {
         row.run(rt.alloc())?;

@@ -1,9 +1,9 @@
-use Rattle.std.proofs.Common.{sym, ◌∙◌, subst, arith}
+use Rattle.std.proofs.Common.{sym, ◌∙◌, arith}
 use Rattle.graph_model.specs.declared.meaning.outcome.End.TheVariants.{Waiting}
 use Rattle.realm_audit.specs.Lawful.{IsSourceFaultAt, IsOverlapAt}
-use Rattle.realm_audit.specs.Prefix.{IsLate, IsHolder}
+use Rattle.realm_audit.specs.Prefix.{IsLate, IsRival}
 use Rattle.realm_audit.proofs.EndFacts.{ends_size, end_at, not_wait_at}
-use Rattle.realm_audit.proofs.FaultFacts.{least_same, no_repeat, late_is, holder_is, least_holder}
+use Rattle.realm_audit.proofs.FaultFacts.{least_same, no_repeat, late_is, rival_is}
 use Rattle.realm_audit.proofs.faults.judge_place.Goals as goal
 
 pub waits-requires : goal.waits-requires
@@ -35,8 +35,8 @@ returns-in-Some-clause-refused c =
       least_same (IsLate g stands line) (IsSourceFaultAt g trace place) (late_is g trace place line at stands c.requires.prefix.earlier) c.in-Some.source c.in-Some.ensures,
     )
 
-pub returns-in-Some-holder-clause-refused : goal.returns-in-Some-holder-clause-refused
-returns-in-Some-holder-clause-refused c =
+pub returns-in-Some-rival-clause-refused : goal.returns-in-Some-rival-clause-refused
+returns-in-Some-rival-clause-refused c =
     let g = c.args.graph.now in
     let trace = c.args.trace.now in
     let place = c.args.place in
@@ -44,14 +44,13 @@ returns-in-Some-holder-clause-refused c =
     let at = c.at-line.ensures in
     let known = c.requires.lines place line at in
     let stands = c.args.prefix.now.stands.items in
-    let holders = c.args.prefix.now.holders.items in
+    let opened = c.args.prefix.now.sections.opened.items in
     let once = no_repeat g trace place line at stands c.requires.prefix.earlier (sym c.has.ensures ∙ c.if-has.false) in (
       c.requires.sound,
       once,
       not_wait_at g c.args.ends.now c.requires.ends trace place line at known c.waits.result c.waits.ensures c.if-waits.false,
       (λ j f. c.in_default.ensures j ((late_is g trace place line at stands c.requires.prefix.earlier j).1 f)),
-      least_same (IsHolder g holders line) (IsOverlapAt g trace place) (holder_is g trace place line at holders c.requires.prefix.holders.are once) c.in-Some-holder.acquire
-          (least_holder g holders line c.in-Some-holder.acquire (subst (λ hs. IsHolder g hs line c.in-Some-holder.acquire) c.as_slice.ensures.value c.in-Some-holder.ensures)),
+      least_same (IsRival g opened line) (IsOverlapAt g trace place) (rival_is g trace place line at opened c.requires.prefix.sections.are once) c.in-Some-rival.acquire c.in-Some-rival.ensures,
     )
 
 pub returns-clause-sound : goal.returns-clause-sound
@@ -63,11 +62,11 @@ returns-clause-sound c =
     let at = c.at-line.ensures in
     let known = c.requires.lines place line at in
     let stands = c.args.prefix.now.stands.items in
-    let holders = c.args.prefix.now.holders.items in
+    let opened = c.args.prefix.now.sections.opened.items in
     let once = no_repeat g trace place line at stands c.requires.prefix.earlier (sym c.has.ensures ∙ c.if-has.false) in
     record {
       once = once;
       ends = not_wait_at g c.args.ends.now c.requires.ends trace place line at known c.waits.result c.waits.ensures c.if-waits.false;
       sources = λ j f. c.in_default.ensures j ((late_is g trace place line at stands c.requires.prefix.earlier j).1 f);
-      sections = λ q f. c.in_default-holder.ensures q (subst (λ hs. IsHolder g hs line q) (sym c.as_slice.ensures.value) ((holder_is g trace place line at holders c.requires.prefix.holders.are once q).1 f));
+      sections = λ q f. c.in_default-rival.ensures q ((rival_is g trace place line at opened c.requires.prefix.sections.are once q).1 f);
     }

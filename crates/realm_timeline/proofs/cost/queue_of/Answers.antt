@@ -1,14 +1,23 @@
-use Rattle.std.proofs.Common.{◌<◌, length, arith}
-use Rattle.graph_model.specs.graph.Graph.{locks}
+use Rattle.std.proofs.Common.{arith}
 use Rattle.graph_model.proofs.ReleaseFacts.{lock_known}
 use Rattle.realm_timeline.proofs.cost.queue_of.Goals as goal
 
-pub overflow_add-result : goal.overflow_add-result
-overflow_add-result c =
-    let b : c.in-Acquire.lock < length (locks c.args.graph.now) = lock_known c.args.graph.now c.line.ensures.is_graph c.args.line c.in-Acquire.lock c.line.result.now c.line.ensures.line c.in-Acquire.is in
-    omega arith
+pub shared_queue-requires : goal.shared_queue-requires
+shared_queue-requires c =
+    let b = lock_known c.args.graph.now c.line.ensures.is_graph c.args.line c.in-Acquire.lock c.line.result.now c.line.ensures.line c.in-Acquire.shared c.in-Acquire.is in
+    omega (arith, b, c.locks.ensures.number, c.locks.ensures.few)
 
-pub returns-in-Acquire-clause-known : goal.returns-in-Acquire-clause-known
-returns-in-Acquire-clause-known c =
-    let b : c.in-Acquire.lock < length (locks c.args.graph.now) = lock_known c.args.graph.now c.line.ensures.is_graph c.args.line c.in-Acquire.lock c.line.result.now c.line.ensures.line c.in-Acquire.is in
-    omega arith
+pub exclusive_queue-requires : goal.exclusive_queue-requires
+exclusive_queue-requires c =
+    let b = lock_known c.args.graph.now c.line.ensures.is_graph c.args.line c.in-Acquire.lock c.line.result.now c.line.ensures.line c.in-Acquire.shared c.in-Acquire.is in
+    omega (arith, b, c.locks.ensures.number, c.locks.ensures.few)
+
+pub returns-then-shared-clause-known : goal.returns-then-shared-clause-known
+returns-then-shared-clause-known c =
+    let b = lock_known c.args.graph.now c.line.ensures.is_graph c.args.line c.in-Acquire.lock c.line.result.now c.line.ensures.line c.in-Acquire.shared c.in-Acquire.is in
+    omega (arith, b, c.shared_queue.ensures)
+
+pub returns-else-shared-clause-known : goal.returns-else-shared-clause-known
+returns-else-shared-clause-known c =
+    let b = lock_known c.args.graph.now c.line.ensures.is_graph c.args.line c.in-Acquire.lock c.line.result.now c.line.ensures.line c.in-Acquire.shared c.in-Acquire.is in
+    omega (arith, b, c.exclusive_queue.ensures)

@@ -15,5 +15,5 @@ returns c =
       size = length-set before line true ∙ c.requires.prefix.size;
       earlier = stands_more c.args.trace.now c.args.place line c.at-line.ensures (stands_in before) (stands_in (slice_set before line true)) c.requires.prefix.earlier
           (get_or-set_same before line true false below) (λ j apart. get_or-set_other before line j true false apart);
-      holders = c.pass.ensures;
+      sections = c.pass.ensures;
     }

@@ -7,5 +7,5 @@ pub returns : goal.returns
 returns c = λ trace. record {
   size = omega (arith, c.in_ok-filled.ensures.size, c.lines.ensures.number);
   earlier = none_stand trace (stands_in c.in_ok-filled.field-0.items) c.in_ok-filled.ensures.each;
-  holders = c.in_ok-no_holders.ensures trace;
+  sections = c.in_ok-new.ensures trace;
 }

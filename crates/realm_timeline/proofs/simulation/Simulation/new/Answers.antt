@@ -1,4 +1,4 @@
-use Rattle.std.proofs.Common.{◌∙◌, ◌+◌, false, replicate, ap, refl, arith}
+use Rattle.std.proofs.Common.{◌∙◌, ◌+◌, ◌*◌, false, replicate, ap, refl, arith}
 use Rattle.std.specs.Prelude.{None}
 use Rattle.realm_timeline.specs.Queue.{no_queue}
 use Rattle.realm_timeline.specs.State.{State, state_of}
@@ -40,5 +40,5 @@ loop-line-init c =
     } in
     record {
       fresh = f;
-      consistent = fresh_consistent c.args.graph.now c.args.processors s f c.lines-lines.ensures.is_graph c.in_ok-first_counts.ensures.count c.in_ok-first_counts.ensures.counts (c.in_ok-empty_queues.ensures ∙ ap (λ n. replicate (n + 1) no_queue) c.locks.ensures.number);
+      consistent = fresh_consistent c.args.graph.now c.args.processors s f c.lines-lines.ensures.is_graph c.in_ok-first_counts.ensures.count c.in_ok-first_counts.ensures.counts (c.in_ok-empty_queues.ensures ∙ ap (λ n. replicate (2 * n + 1) no_queue) c.locks.ensures.number);
     }

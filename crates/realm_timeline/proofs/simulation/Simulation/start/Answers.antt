@@ -1,4 +1,4 @@
-use Rattle.std.proofs.Common.{◌+◌, ◌*◌, ◌≤◌, length, refl, ap, subst, arith}
+use Rattle.std.proofs.Common.{◌+◌, ◌*◌, ◌≤◌, length, refl, ◌∙◌, ap, subst, arith}
 use Rattle.std.specs.Prelude.{Some, slice_set}
 use Rattle.realm_timeline.specs.State.{state_of, undone}
 use Rattle.realm_timeline.proofs.StepFacts.{starts_with}
@@ -12,8 +12,8 @@ overflow_add-finish c =
 pub returns : goal.returns
 returns c = (
   c.in-Some.line,
-  starts_with c.args.graph.now (state_of c.args.self.now) _ c.args.place c.args.processor c.in-Some.line c.args.self.now.queues.items c.cost_of.result refl
-      c.in-Some.ensures.line.0 c.in-Some.ensures.line.1 c.in-Some.ensures.line.2 c.take_at.ensures.count (subst (λ x. x ≤ 17179869184) c.cost_of.ensures.cost c.cost_of.ensures.few) refl
+  starts_with c.args.graph.now (state_of c.args.self.now) _ c.args.place c.args.processor c.in-Some.line c.take_at.new.queues.items
+      c.in-Some.ensures.line.0 c.in-Some.ensures.line.1 c.in-Some.ensures.line.2 c.in_ok-add_holder.ensures.holder (c.in_ok-add_holder.ensures.count ∙ c.take_at.ensures.count) (subst (λ x. x ≤ 17179869184) c.cost_of.ensures.cost c.cost_of.ensures.few) refl
       (ap (λ f. slice_set c.args.self.now.slots.items c.in-Some.line (Some (record { processor = c.args.processor; start = c.args.self.now.time; finish = c.args.self.now.time + f }))) c.cost_of.ensures.cost)
       c.in_ok-push.ensures.ok refl refl refl,
 )
