@@ -23,6 +23,7 @@ use Rattle.run_words.specs.declared.view.View.{View}
 use Rattle.run_words.specs.Layout.{size_of, turn_word, column_slot, desk_slot}
 use Rattle.run_words.specs.Views.{time_code, busy}
 use Rattle.run_words.specs.Rule.{ground_of, LineShown, handle_at, ColumnShown, column_with, lock_code, Fits, Shown, opener}
+use Rattle.run_words.proofs.LockCodes.{code_none}
 use Rattle.run_words.specs.Opening.{AreFirstWords, AreFirstSlots}
 
 pub got_elem : {X : Type 0} (xs : List X) (i : ℕ) (x : X) → slice_get xs i ≡ Some x → get_elem? xs i ≡ some x
@@ -79,7 +80,7 @@ opens g e ws xs graph accepted w x =
           shown = subst (λ p. ColumnShown g c p (get_or ws (turn_word z c) 0) (some (Cells (column_with g c (zeros g c)))))
               (sym (get_or-map-range_with_len (λ c. Home (zeros g c)) 0 (length (columns g)) c c (Home []) l (let q : 0 + c ≡ c = omega arith in q))) (w.columns c l, refl);
         };
-        locks = λ l h. w.locks l h ∙ ap lock_code (sym (same_at {X = List ℕ} [] (length (locks g)) l));
+        locks = λ l h. w.locks l h ∙ (sym (code_none g) ∙ ap (lock_code g) (sym (same_at {X = List ℕ} [] (length (locks g)) l)));
         clock = w.clock;
         desk = record {
           home = some (Tray x.tray);

@@ -1,5 +1,5 @@
 -- A line that is ending frees the reservation that it releases, where the acquire is done.
-use Rattle.std.proofs.Common.{◌≡◌, ◌≢◌, ℕ, zero, suc, ◌-◌, ◌<◌, ◌≤◌, false, length, List, [], refl, sym, ◌∙◌, ap, subst, arith}
+use Rattle.std.proofs.Common.{◌≡◌, ◌≢◌, ℕ, zero, suc, ◌-◌, ◌<◌, ◌≤◌, Bool, false, length, List, [], refl, sym, ◌∙◌, ap, subst, arith}
 use Rattle.std.specs.Prelude.{Contains, Some, slice_get}
 use Rattle.std.proofs.lemmas.Bool.{eq-eqb}
 use Rattle.std.proofs.lemmas.List.Elements.{Contains-append_right}
@@ -11,7 +11,7 @@ use Rattle.graph_model.specs.declared.meaning.outcome.End.{End}
 use Rattle.graph_model.specs.declared.meaning.outcome.End.TheVariants.{Done}
 use Rattle.graph_model.specs.declared.graph.verb.Line.{Line}
 use Rattle.graph_model.specs.declared.graph.verb.Verb.TheVariants.{Acquire, Release}
-use Rattle.graph_model.specs.graph.Graph.{GraphValue, locks, is_acquire_of, is_release_of}
+use Rattle.graph_model.specs.graph.Graph.{GraphValue, locks, line_passes, is_acquire_of, is_shared, is_release_of}
 use Rattle.graph_model.specs.graph.Fits.{IsGraph}
 use Rattle.graph_model.specs.meaning.Path.{HasPath}
 use Rattle.graph_model.specs.meaning.Rules.{Acquires, Releases, Accepted}
@@ -27,24 +27,24 @@ use Rattle.run_words.specs.Premises.{Has}
 use Rattle.run_words.specs.Laden.{IsEnding, IsReleased}
 
 -- the verbs of acquires and releases
-pub line_acquires : (g : GraphValue) (i l : ℕ) (line : Line) → slice_get g.lines i ≡ Some line → line.verb ≡ Acquire l → Acquires g i l
-line_acquires g i l line h e = verb_passes (is_acquire_of l) g i (Acquire l) (verb_is g i line h ∙ ap (λ v. Some v) e) ∙ eq-eqb l l refl
+pub line_acquires : (g : GraphValue) (i l : ℕ) (line : Line) → slice_get g.lines i ≡ Some line → (s : Bool) → line.verb ≡ Acquire l s → Acquires g i l
+line_acquires g i l line h s e = verb_passes (is_acquire_of l) g i (Acquire l s) (verb_is g i line h ∙ ap (λ v. Some v) e) ∙ eq-eqb l l refl
 
 pub line_releases : (g : GraphValue) (i q : ℕ) (line : Line) → slice_get g.lines i ≡ Some line → line.verb ≡ Release q → Releases g i q
 line_releases g i q line h e = verb_passes (is_release_of q) g i (Release q) (verb_is g i line h ∙ ap (λ v. Some v) e) ∙ eq-eqb q q refl
 
-pub lock_there : (g : GraphValue) → IsGraph g → (i l : ℕ) (line : Line) → slice_get g.lines i ≡ Some line → line.verb ≡ Acquire l → l < length (locks g)
-lock_there g is i l line h e = acquired_lock_known g is i l (line_acquires g i l line h e)
+pub lock_there : (g : GraphValue) → IsGraph g → (i l : ℕ) (line : Line) → slice_get g.lines i ≡ Some line → (s : Bool) → line.verb ≡ Acquire l s → l < length (locks g)
+lock_there g is i l line h s e = acquired_lock_known g is i l (line_acquires g i l line h s e)
 
 pub acquire_there : (g : GraphValue) → IsGraph g → (i q : ℕ) → Releases g i q → q < length g.lines
 acquire_there g is i q rel =
     let a = release_names g is i q rel in
-    verb_below g q (Acquire a.0) (acquire_is g q a.0 a.1)
+    verb_below g q (Acquire a.0 (line_passes is_shared g q)) (acquire_is g q a.0 a.1)
 
-pub is_acquire_there : (g : GraphValue) → IsGraph g → (i q : ℕ) → Releases g i q → (line : Line) → slice_get g.lines q ≡ Some line → ((l : ℕ) → line.verb ≡ Acquire l → ⊥) → ⊥
+pub is_acquire_there : (g : GraphValue) → IsGraph g → (i q : ℕ) → Releases g i q → (line : Line) → slice_get g.lines q ≡ Some line → ((l : ℕ) (s : Bool) → line.verb ≡ Acquire l s → ⊥) → ⊥
 is_acquire_there g is i q rel line h n =
     let a = release_names g is i q rel in
-    n a.0 (same_Some line.verb (Acquire a.0) (sym (verb_is g q line h) ∙ acquire_is g q a.0 a.1))
+    n a.0 (line_passes is_shared g q) (same_Some line.verb (Acquire a.0 (line_passes is_shared g q)) (sym (verb_is g q line h) ∙ acquire_is g q a.0 a.1))
 
 pub no_release : (g : GraphValue) (i : ℕ) (line : Line) → slice_get g.lines i ≡ Some line → ((q : ℕ) → line.verb ≡ Release q → ⊥) → (q : ℕ) → Releases g i q → ⊥
 no_release g i line h n q rel = n q (same_Some line.verb (Release q) (sym (verb_is g i line h) ∙ release_is g i q rel))

@@ -1,5 +1,5 @@
 -- A claimed line takes all that its work needs, or has its claim alone.
-use Rattle.std.proofs.Common.{◌≡◌, ◌≢◌, ℕ, ◌<◌, ◌+◌, ◌⊎◌, inl, inr, Bool, true, false, List, [], ◌∷◌, ◌++◌, length, refl, sym, ◌∙◌, ap, subst, ⊎_elim}
+use Rattle.std.proofs.Common.{◌≡◌, ◌≢◌, ℕ, ◌<◌, ◌≤◌, ◌+◌, ◌⊎◌, inl, inr, Bool, true, false, List, [], ◌∷◌, ◌++◌, length, refl, sym, ◌∙◌, ap, subst, ⊎_elim, append_assoc}
 use Rattle.std.specs.Prelude.{Contains, Some, None}
 use Rattle.std.specs.List.{list_any}
 use Rattle.std.proofs.lemmas.Bool.{true≢false}
@@ -8,7 +8,7 @@ use Rattle.std.proofs.lemmas.List.Elements.{Contains-append_left}
 use Rattle.index_spaces.specs.Column.{ColumnValue}
 use Rattle.graph_model.specs.declared.meaning.outcome.End.{End}
 use Rattle.graph_model.specs.declared.meaning.outcome.End.TheVariants.{Cancelled}
-use Rattle.graph_model.specs.graph.Graph.{GraphValue}
+use Rattle.graph_model.specs.graph.Graph.{GraphValue, line_passes, is_shared}
 use Rattle.graph_model.specs.graph.Edges.{edges_into}
 use Rattle.graph_model.specs.meaning.Rules.{Acquires}
 use Rattle.graph_model.specs.meaning.Evaluation.{eval_end}
@@ -25,17 +25,18 @@ use Rattle.run_words.specs.declared.content.Content.TheVariants.{Ticket}
 use Rattle.run_words.specs.declared.view.View.{View}
 use Rattle.run_words.specs.declared.words.Words.{Words}
 use Rattle.run_words.specs.Claims.{Claim, new_claim}
-use Rattle.run_words.specs.Layout.{size_of, lock_word}
+use Rattle.run_words.specs.Layout.{size_of, lock_word, half, alone_code}
 use Rattle.std.proofs.lemmas.List.{append-nil}
 use Rattle.run_words.specs.declared.works.WordWork.{WordWork}
 use Rattle.run_words.specs.Works.{IsWorkOf}
 use Rattle.run_words.specs.Words.{graph_of, events_of, IsSeatOf}
 use Rattle.run_words.specs.Rule.{ground_of, child}
-use Rattle.run_words.specs.Plays.{Sat, HasClaimed, claimed_at, saw_at, saw_all, on_claim, holding, lets_go, unclaims, child_of, parent_of, joined, looked_at, own_number}
-use Rattle.run_words.specs.Premises.{Has, IsBare, OnTop}
+use Rattle.run_words.specs.Plays.{Sat, HasClaimed, missed, claimed_at, saw_at, saw_all, on_claim, holding, lets_go, unclaims, child_of, parent_of, joined, looked_at, own_number}
+use Rattle.run_words.specs.Premises.{Has, MayLock, IsBare, OnTop}
 use Rattle.run_words.specs.Sources.{cancels_in}
 use Rattle.run_words.specs.Laden.{Taking}
-use Rattle.run_words.specs.Attempts.{IsClaimed, IsLoaded, IsRefused, HasAllOf, IsRefusedAll}
+use Rattle.run_words.specs.Attempts.{IsClaimed, IsHeldAfter, IsLoaded, IsRefused, HasAllOf, IsRefusedAll}
+use Rattle.run_words.proofs.AnswerFacts.{busy_later}
 use Rattle.run_words.proofs.Desking.{has_key}
 use Rattle.run_words.proofs.Turns.{sat}
 
@@ -91,14 +92,62 @@ bare_of g line v ticket b m held is_so cancelled is = record {
 }
 
 -- a line that holds its reservation lets it go
-pub may_let_go : (g : GraphValue) (line l : ℕ) (v : View) (h : Handle) (left : Left) (thing : Thing) (m : Sat) → Acquires g line l → IsRefused g line v (holding true (new_claim line h)) left thing m → Has m.0 (λ cl. Acquires g cl.line l × (cl.holds ≡ true) × (cl.time ≡ None))
-may_let_go g line l v h left thing m a r = (record (holding true (new_claim line h)) { columns = [] }, ap (λ (y : Sat). y.0.claim) r.2, (a, refl, refl))
+pub may_let_go : (g : GraphValue) (line l : ℕ) (v : View) (h : Handle) (left : Left) (thing : Thing) (m : Sat) → Acquires g line l → IsRefused g line v (holding true (new_claim line h)) left thing m → Has m.0 (λ cl. (cl.line ≡ line) × Acquires g line l × (cl.holds ≡ true) × (cl.time ≡ None))
+may_let_go g line l v h left thing m a r = (record (holding true (new_claim line h)) { columns = [] }, ap (λ (y : Sat). y.0.claim) r.2, (refl, a, refl, refl))
 
 pub refused_held : (g : GraphValue) (line : ℕ) (v : View) (ticket : Pending) (thing : Thing) (m n : Sat) → IsRefused g line v (holding true (new_claim line (handle_of ticket))) ((line, Ticket ticket) ∷ []) thing m → lets_go m n → IsRefusedAll g line v ticket thing n
 refused_held g line v ticket thing m n r go = (r.0, r.1, go ∙ ap (λ (y : Sat). sat (on_claim (holding false) y.0) y.1) r.2)
 
-pub refused_lock : (g : GraphValue) (line l r : ℕ) (v : View) (ticket : Pending) (m n : Sat) → IsClaimed line v ticket m → Acquires g line l → r ≢ 0 → r ≢ line + 1 → n ≡ (saw_at m.0 (lock_word (size_of g) l) r, m.1) → IsRefusedAll g line v ticket (things.Lock l) n
-refused_lock g line l r v ticket m n is a ne other q = ((lock_word (size_of g) l, r) ∷ [], (a, [], (r, refl, ne, other)), q ∙ ap (λ (y : Sat). sat (saw_at y.0 (lock_word (size_of g) l) r) y.1) is)
+-- the reservation was taken, at once or after its word was found
+pub held_at_once : (line : ℕ) (v : View) (ticket : Pending) (m n : Sat) → IsClaimed line v ticket m → n ≡ sat (on_claim (holding true) m.0) m.1 → IsHeldAfter line v ticket n
+held_at_once line v ticket m n is q = ([], q ∙ (ap (λ (y : Sat). sat (on_claim (holding true) y.0) y.1) is
+    ∙ ap (λ saw. sat (on_claim (holding true) (claimed_at (record v { saw = saw }) line (handle_of ticket))) ((line, Ticket ticket) ∷ [])) (sym (append-nil v.saw))))
+
+pub held_then : (line w r : ℕ) (v : View) (ticket : Pending) (m n o : Sat) → IsClaimed line v ticket m → missed w m r n → o ≡ sat (on_claim (holding true) n.0) n.1 → IsHeldAfter line v ticket o
+held_then line w r v ticket m n o is q p = ((w, r) ∷ [], p ∙ ap (λ (y : Sat). sat (on_claim (holding true) y.0) y.1) (q ∙ ap (λ (y : Sat). sat (saw_at y.0 w r) y.1) is))
+
+-- what was found before the reservation was taken adds to what was found
+pub all_later : (g : GraphValue) (line : ℕ) (b : Bool) (v : View) (found : List (ℕ × ℕ)) (ticket : Pending) (m : Sat) (held : List (ℕ × ColumnValue)) → HasAllOf g line b (saw_all v found) ticket m held → HasAllOf g line b v ticket m held
+all_later g line b v found ticket m held h = record {
+  saw = h.saw;
+  issued = h.issued;
+  ended = h.ended;
+  claim = h.claim;
+  named = h.named;
+  line_is = h.line_is;
+  going = h.going;
+  untimed = h.untimed;
+  fresh = h.fresh;
+  holds = h.holds;
+  bare = h.bare;
+  loaded = h.loaded;
+}
+
+pub refused_later : (g : GraphValue) (line : ℕ) (v : View) (found : List (ℕ × ℕ)) (ticket : Pending) (thing : Thing) (m : Sat) → IsRefusedAll g line (saw_all v found) ticket thing m → IsRefusedAll g line v ticket thing m
+refused_later g line v found ticket thing m h = (found ++ h.0, busy_later g line thing found h.0 h.1,
+    h.2 ∙ ap (λ saw. sat (claimed_at (record v { saw = saw }) line (handle_of ticket)) ((line, Ticket ticket) ∷ [])) (append_assoc v.saw found h.0))
+
+pub may_lock : (g : GraphValue) (line l : ℕ) (v : View) (ticket : Pending) (m : Sat) → IsClaimed line v ticket m → Acquires g line l → eval_end g line ≢ Cancelled → MayLock g line l m.0
+may_lock g line l v ticket m is a real = record { claim = new_claim line (handle_of ticket); has = ap (λ (y : Sat). y.0.claim) is; is_line = refl; going = refl; untaken = refl; acquires = a; real = real }
+
+pub may_lock_after : (g : GraphValue) (line l r : ℕ) (v : View) (ticket : Pending) (m n : Sat) → IsClaimed line v ticket m → missed (lock_word (size_of g) l) m r n → Acquires g line l → eval_end g line ≢ Cancelled → MayLock g line l n.0
+may_lock_after g line l r v ticket m n is q a real =
+    record { claim = new_claim line (handle_of ticket); has = ap (λ (y : Sat). y.0.claim) q ∙ ap (λ (y : Sat). y.0.claim) is; is_line = refl; going = refl; untaken = refl; acquires = a; real = real }
+
+-- its reservation was found with another line
+module _ (g : GraphValue) (line l : ℕ) (v : View) (ticket : Pending) (m : Sat) (is : IsClaimed line v ticket m) (a : Acquires g line l) where
+  abbrev word : ℕ
+  word = lock_word (size_of g) l
+
+  pub refused_held_lock : (r : ℕ) (n : Sat) → line_passes is_shared g line ≡ false → r ≢ 0 → r ≢ alone_code line → missed word m r n → IsRefusedAll g line v ticket (things.Lock l) n
+  refused_held_lock r n own ne other q = ((word, r) ∷ [], (a, [], inl (own, (r, refl, ne, other))), q ∙ ap (λ (y : Sat). sat (saw_at y.0 word r) y.1) is)
+
+  pub refused_alone : (r : ℕ) (n : Sat) → line_passes is_shared g line ≡ true → half ≤ r → missed word m r n → IsRefusedAll g line v ticket (things.Lock l) n
+  refused_alone r n own high q = ((word, r) ∷ [], (a, [], inr (own, inl (r, refl, high))), q ∙ ap (λ (y : Sat). sat (saw_at y.0 word r) y.1) is)
+
+  pub refused_changed : (r s : ℕ) (n o : Sat) → line_passes is_shared g line ≡ true → s ≢ r → missed word m r n → missed word n s o → IsRefusedAll g line v ticket (things.Lock l) o
+  refused_changed r s n o own ne q p = ((word, r) ∷ (word, s) ∷ [], (a, [], inr (own, inr (r, s, refl, ne))),
+      p ∙ (ap (λ (y : Sat). sat (saw_at y.0 word s) y.1) (q ∙ ap (λ (y : Sat). sat (saw_at y.0 word r) y.1) is) ∙ ap (λ found. sat (record (claimed_at v line (handle_of ticket)) { saw = found }) ((line, Ticket ticket) ∷ [])) (append_assoc v.saw ((word, r) ∷ []) ((word, s) ∷ []))))
 
 -- whether a claimed line is cancelled
 pub cancelled_so : (g : GraphValue) (e : Events) (line : ℕ) (b : Bool) (m n : Sat) → m.0.keys ≡ ground_of g e ∷ [] → HasClaimed line m n → b ≡ list_any (cancels_in g) (edges_into g line) → (b ≡ true → eval_end g line ≡ Cancelled) × (b ≡ false → eval_end g line ≢ Cancelled)

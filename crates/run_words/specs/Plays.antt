@@ -20,7 +20,7 @@ use Rattle.run_words.specs.declared.content.Desk.{Desk}
 use Rattle.run_words.specs.declared.content.Content.TheVariants.{Nothing, Ticket, Stub, Cells, Tray}
 use Rattle.run_words.specs.declared.view.View.{View}
 use Rattle.run_words.specs.Claims.{Ground, Claim, new_claim}
-use Rattle.run_words.specs.Layout.{size_of, turn_word, column_slot, desk_slot}
+use Rattle.run_words.specs.Layout.{size_of, turn_word, alone_code, column_slot, desk_slot}
 use Rattle.run_words.specs.Rule.{column_with, IsTray, child}
 
 -- what a seat has: its view, and the slots in its hand with what they hold
@@ -152,11 +152,15 @@ holding b cl = record cl { holds = b }
 
 -- r shows another line than the seat's, where that holds no reservation
 abbrev pub NotHeld : View → ℕ → Type 0
-NotHeld v r = (cl : Claim) → v.claim ≡ Some cl → cl.holds ≡ false → r ≡ cl.line + 1 → ⊥
+NotHeld v r = (cl : Claim) → v.claim ≡ Some cl → cl.holds ≡ false → r ≡ alone_code cl.line → ⊥
 
 -- the word w held r: where that is 0 the reservation was taken, else another line has it
 abbrev pub holds : ℕ → Sat → ℕ → Sat → Type 0
 holds w m r n = (r ≡ 0 → n ≡ (on_claim (holding true) m.0, m.1)) × ((r ≡ 0 → ⊥) → missed w m r n × NotHeld m.0 r)
+
+-- the word w held r: where that is what was found before, a share of the reservation was taken
+abbrev pub shares : ℕ → ℕ → Sat → ℕ → Sat → Type 0
+shares w before m r n = (r ≡ before → n ≡ (on_claim (holding true) m.0, m.1)) × ((r ≡ before → ⊥) → missed w m r n)
 
 -- the reservation was let go
 abbrev pub lets_go : Sat → Sat → Type 0

@@ -1,13 +1,15 @@
 -- The rule of the table of a run: its words, its slots at home and the views of its seats show one sound state of a run.
-use Rattle.std.specs.Prelude.{◌≡◌, ℕ, zero, suc, ◌+◌, ◌<◌, ◌≤◌, ◌↔◌, ◌≢◌, List, [], ◌∷◌, length, Contains, IsTrue, Some, None, slice_get, slice_index, slice_index_or}
+use Rattle.std.specs.Prelude.{◌≡◌, ℕ, zero, suc, ◌+◌, ◌<◌, ◌≤◌, ◌↔◌, ◌≢◌, List, [], ◌∷◌, length, Contains, IsTrue, cond, Option, Some, None, slice_get, slice_index, slice_index_or}
+use Rattle.std.specs.Option.{option_map_or}
 use Rattle.std.specs.Vec.{vec_capacity}
+use Rattle.basics.specs.Lists.{count_below}
 use mathlib.Core.Option.{none, some}
 use lib.ListN.{get_elem?}
 use Rattle.atomic_table.specs.Table.{State}
 use Rattle.index_spaces.specs.Column.{ColumnValue}
 use Rattle.graph_model.specs.declared.meaning.outcome.End.{End}
 use Rattle.graph_model.specs.declared.meaning.outcome.End.TheVariants.{Done, Faulted, Cancelled, Waiting}
-use Rattle.graph_model.specs.graph.Graph.{GraphValue, column_space}
+use Rattle.graph_model.specs.graph.Graph.{GraphValue, column_space, line_passes, is_shared}
 use Rattle.graph_model.specs.meaning.Rules.{Acquires}
 use Rattle.basics.specs.Sums.{total, only}
 use Rattle.gen_events.specs.Seats.{HasSeen, no_event, Begins}
@@ -26,7 +28,7 @@ use Rattle.run_words.specs.declared.content.Content.{Content}
 use Rattle.run_words.specs.declared.content.Content.TheVariants.{Nothing, Ticket, Stub, Cells, Tray}
 use Rattle.run_words.specs.declared.view.View.{View}
 use Rattle.run_words.specs.Claims.{Ground, Claim}
-use Rattle.run_words.specs.Layout.{Size, size_of, status_word, time_word, value_word, turn_word, lock_word, clock_word, desk_word, word_count, line_slot, column_slot, desk_slot, slot_count}
+use Rattle.run_words.specs.Layout.{Size, size_of, alone_code, status_word, time_word, value_word, turn_word, lock_word, clock_word, desk_word, word_count, line_slot, column_slot, desk_slot, slot_count}
 use Rattle.run_words.specs.Views.{time_code, runs_at, issues_at, owes_at, has_desk, busy, working}
 
 -- the graph of a run with the events of its lines
@@ -96,10 +98,14 @@ pub record ColumnAt (g : GraphValue) (c : ℕ) (place : Place) (w : ℕ) (homes 
   pub at : get_elem? homes slot ≡ some home
   pub shown : ColumnShown g c place w home
 
--- RESERVATIONS. The word of one with these holders
-abbrev pub lock_code : List ℕ → ℕ
-lock_code [] = 0
-lock_code (q ∷ qs) = q + 1
+-- RESERVATIONS. The holder that is exclusive, if there is one
+abbrev pub alone_in : GraphValue → List ℕ → Option ℕ
+alone_in g [] = None
+alone_in g (q ∷ qs) = cond (line_passes is_shared g q) (alone_in g qs) (Some q)
+
+-- the word of one with these holders: it tells the one that is exclusive, or else how many there are
+abbrev pub lock_code : GraphValue → List ℕ → ℕ
+lock_code g qs = option_map_or alone_code (alone_in g qs) (count_below (is_listed qs) (length g.lines))
 
 -- THE DESK, where these are the handles of the lines
 pub record IsTray (e : Events) (lines : ℕ) (handles : List Handle) (d : Desk) : Type 0 where
@@ -143,7 +149,7 @@ pub record WordsShow (g : GraphValue) (e : Events) (z : Size) (run : Run) (handl
   pub times : (i : ℕ) → i < z.lines → slice_index words (time_word z i) + owes i ≡ time_code (time_at run.times i)
   pub values : (p : ℕ) → p < z.lines → slice_index words (value_word z p) ≡ slice_index run.values p
   pub columns : (c : ℕ) → c < z.cols → ColumnAt g c (place_at run.places c) (slice_index words (turn_word z c)) homes (column_slot z c)
-  pub locks : (l : ℕ) → l < z.holds → slice_index words (lock_word z l) ≡ lock_code (list_at run.holders l)
+  pub locks : (l : ℕ) → l < z.holds → slice_index words (lock_word z l) ≡ lock_code g (list_at run.holders l)
   pub clock : slice_index words (clock_word z) ≡ run.clock
   pub desk : DeskAt e z.lines handles desks (slice_index words (desk_word z)) homes (desk_slot z)
 

@@ -1,8 +1,11 @@
-use Rattle.std.proofs.Common.{◌≡◌, ◌<◌, [], length, sym, subst}
+use Rattle.std.proofs.Common.{◌≡◌, ◌<◌, [], length, sym, ◌∙◌, ap, subst}
 use Rattle.std.specs.Prelude.{Some, Contains, slice_get}
 use Rattle.gen_events.proofs.Members.{Contains-head}
 use Rattle.graph_model.specs.graph.Fits.{IsGraph}
-use Rattle.graph_model.specs.graph.Graph.{GraphValue, locks}
+use Rattle.graph_model.specs.graph.Graph.{GraphValue, locks, is_shared}
+use Rattle.graph_model.specs.declared.graph.verb.Verb.TheVariants.{Acquire}
+use Rattle.graph_model.proofs.VerbFacts.{verb_passes}
+use Rattle.line_effects.proofs.EffectFacts.{verb_is}
 use Rattle.run_words.specs.Claims.{Ground}
 use Rattle.run_words.specs.Rule.{ground_of}
 use Rattle.run_words.specs.Words.{graph_of, events_of}
@@ -35,7 +38,7 @@ unreachable-requires c = is_acquire_there c.graph-graph.result.now c.line.ensure
     c.line-2.result.now c.line-2.ensures.line c.in_default-verb.not-Acquire
 
 pub free-requires-clause-known : goal.free-requires-clause-known
-free-requires-clause-known c = subst (λ (h : GraphValue). c.in-Acquire.lock < length (locks h)) c.graph-graph.ensures.graph (lock_there c.graph-graph.result.now c.line.ensures.is_graph c.in-Release.acquire c.in-Acquire.lock c.line-2.result.now c.line-2.ensures.line c.in-Acquire.is)
+free-requires-clause-known c = subst (λ (h : GraphValue). c.in-Acquire.lock < length (locks h)) c.graph-graph.ensures.graph (lock_there c.graph-graph.result.now c.line.ensures.is_graph c.in-Release.acquire c.in-Acquire.lock c.line-2.result.now c.line-2.ensures.line c.in-Acquire.shared c.in-Acquire.is)
 
 pub free-requires-clause-may : goal.free-requires-clause-may
 free-requires-clause-may c =
@@ -50,7 +53,7 @@ free-requires-clause-may c =
 
 pub free-requires-clause-acquire : goal.free-requires-clause-acquire
 free-requires-clause-acquire c = line_acquires (graph_of c.args.self.now) c.in-Release.acquire c.in-Acquire.lock c.line-2.result.now
-    (subst (λ (h : GraphValue). slice_get h.lines c.in-Release.acquire ≡ Some c.line-2.result.now) c.graph-graph.ensures.graph c.line-2.ensures.line) c.in-Acquire.is
+    (subst (λ (h : GraphValue). slice_get h.lines c.in-Release.acquire ≡ Some c.line-2.result.now) c.graph-graph.ensures.graph c.line-2.ensures.line) c.in-Acquire.shared c.in-Acquire.is
 
 pub free-requires-clause-done : goal.free-requires-clause-done
 free-requires-clause-done c =
@@ -72,3 +75,8 @@ returns-clause-released c = λ x v cl left i.
     let keys = subst (λ (l : _). Contains l (ground_of w (events_of c.args.self.now))) (sym c.requires.at.1) (Contains-head {A = Ground} (ground_of w (events_of c.args.self.now)) []) in
     has_released w (events_of c.args.self.now) c.args.line x v cl left c.args.seat.now.me i f c.graph-graph.ensures.accepted keys c.in-Release.acquire c.look-found.result
     (line_releases w c.args.line c.in-Release.acquire c.line.result.now at c.in-Release.is) c.look-found.new.seat.me c.look-found.ensures.looked.0 c.look-found.ensures.looked.1 c.free.new.seat.me c.free.ensures.freed)
+
+pub free-requires-clause-shared : goal.free-requires-clause-shared
+free-requires-clause-shared c = sym (verb_passes is_shared (graph_of c.args.self.now) c.in-Release.acquire (Acquire c.in-Acquire.lock c.in-Acquire.shared)
+    (verb_is (graph_of c.args.self.now) c.in-Release.acquire c.line-2.result.now (subst (λ (h : GraphValue). slice_get h.lines c.in-Release.acquire ≡ Some c.line-2.result.now) c.graph-graph.ensures.graph c.line-2.ensures.line)
+    ∙ ap Some c.in-Acquire.is))
