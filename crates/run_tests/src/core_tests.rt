@@ -12,7 +12,7 @@ use graph_model::outcome::Outcome;
 use plain_eval::evaluation::eval;
 use race_check::checked::Checked;
 use run_core::{Attempt, Core, Thing};
-use std::alloc::Global;
+use std::alloc::{AllocError, Global};
 use std::test::Fail;
 use test_texts::generated::chain;
 use test_texts::graphs::{
@@ -213,6 +213,49 @@ fn second_line_waits(rt: HostRuntime) -> Result<(), Fail> {
     ] {
         let found = second_waits_for(rt.alloc(), text, second)?;
         assert_eq!(rt; found, Some(thing));
+    }
+    Ok(())
+}
+
+/// Two sections of one reservation, with what follows each acquire.
+fn two_sections(alloc: Global, first: &str, second: &str) -> Result<String, AllocError> {
+    format!(in alloc; "realm 2\nlock l\nq = acquire l{first}\nm = mergei q\nr = release q on m\nk = acquire l{second}\nn = mergei k\nt = release k on n\nend\n")
+}
+
+/// What keeps the second acquire of these sections from being taken where all lines are issued and
+/// the first has ended and isn't released.
+fn second_acquire_waits_for(alloc: Global, text: &str) -> Result<Option<Thing>, Fail> {
+    let checked = checked(alloc, text)?;
+    if checked.need() > 8192 || checked.graph().lines() <= 3 {
+        return Err("graph".into());
+    }
+    let mut core = Core::prepare(alloc, &checked, 8192)?;
+    issue_all(&mut core);
+    let Attempt::Taken(work) = core.attempt(0) else {
+        return Err("first".into());
+    };
+    core.is_sound();
+    let finished = work.perform(core.graph());
+    core.put_back(finished);
+    match core.attempt(3) {
+        Attempt::Taken(_) => Ok(None),
+        Attempt::Busy(thing) => Ok(Some(thing)),
+        _ => Err("second".into()),
+    }
+}
+
+#[test]
+fn shared_sections(rt: HostRuntime) -> Result<(), Fail> {
+    for (first, second, thing) in [
+        (" shared", " shared", None),
+        ("", "", Some(Thing::Lock(0))),
+        ("", " shared", Some(Thing::Lock(0))),
+        (" shared", "", Some(Thing::Lock(0))),
+    ] {
+        let text = two_sections(rt.alloc(), first, second)?;
+        let found = second_acquire_waits_for(rt.alloc(), text.as_str())?;
+        assert_eq!(rt; found, thing);
+        assert!(rt; is_evaluated(rt.alloc(), text.as_str(), 6)?);
     }
     Ok(())
 }
