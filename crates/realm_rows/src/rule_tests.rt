@@ -186,7 +186,8 @@ const SECTIONS: &[(u32, [&str; 2], [&str; 2], bool)] = &[
 
 /// The text of two such sections.
 fn sections(alloc: Global, format: u32, ops: [&str; 2], ways: [&str; 2]) -> Result<String, Fail> {
-    Ok(format!(in alloc; "realm {format}\n\
+    Ok(format!(in alloc;
+        "realm {format}\n\
          space s 0..1\n\
          inst a s x,y,z\n\
          lock l\n\
@@ -200,7 +201,9 @@ fn sections(alloc: Global, format: u32, ops: [&str; 2], ways: [&str; 2]) -> Resu
          e = reduce {} a.y a.z s on k\n\
          n = mergei e\n\
          t = release k on n\n\
-         end\n", ways[0], ops[0], ways[1], ops[1])?)
+         end\n",
+        ways[0], ops[0], ways[1], ops[1]
+    )?)
 }
 
 #[test]

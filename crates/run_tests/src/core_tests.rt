@@ -17,8 +17,8 @@ use std::test::Fail;
 use test_texts::generated::chain;
 use test_texts::graphs::{
     CANCELLED_BARRIER, EMPTY, FAULTY_PATHS, KERNELS, LOCKED_SUMS, MISSING_WEIGHT, NINE_WAITERS,
-    NO_TRIGGER, ONE_SHARED_SUM, READERS_AND_WRITER, TWO_READERS, TWO_SECTIONS,
-    TWO_SHARED_SECTIONS, WAITER_ABOVE_TRIGGER, WEIGHTED_ARRIVALS,
+    NO_TRIGGER, ONE_SHARED_SUM, READERS_AND_WRITER, TWO_READERS, TWO_SECTIONS, TWO_SHARED_SECTIONS,
+    WAITER_ABOVE_TRIGGER, WEIGHTED_ARRIVALS,
 };
 use test_texts::tiles;
 
@@ -219,7 +219,9 @@ fn second_line_waits(rt: HostRuntime) -> Result<(), Fail> {
 
 /// Two sections of one reservation, with what follows each acquire.
 fn two_sections(alloc: Global, first: &str, second: &str) -> Result<String, AllocError> {
-    format!(in alloc; "realm 2\nlock l\nq = acquire l{first}\nm = mergei q\nr = release q on m\nk = acquire l{second}\nn = mergei k\nt = release k on n\nend\n")
+    format!(in alloc;
+        "realm 2\nlock l\nq = acquire l{first}\nm = mergei q\nr = release q on m\nk = acquire l{second}\nn = mergei k\nt = release k on n\nend\n"
+    )
 }
 
 /// What keeps the second acquire of these sections from being taken where all lines are issued and

@@ -100,8 +100,11 @@ refused_held g line v ticket thing m n r go = (r.0, r.1, go ∙ ap (λ (y : Sat)
 
 -- the reservation was taken, at once or after its word was found
 pub held_at_once : (line : ℕ) (v : View) (ticket : Pending) (m n : Sat) → IsClaimed line v ticket m → n ≡ sat (on_claim (holding true) m.0) m.1 → IsHeldAfter line v ticket n
-held_at_once line v ticket m n is q = ([], q ∙ (ap (λ (y : Sat). sat (on_claim (holding true) y.0) y.1) is
-    ∙ ap (λ saw. sat (on_claim (holding true) (claimed_at (record v { saw = saw }) line (handle_of ticket))) ((line, Ticket ticket) ∷ [])) (sym (append-nil v.saw))))
+held_at_once line v ticket m n is q = (
+  [],
+  q ∙ (ap (λ (y : Sat). sat (on_claim (holding true) y.0) y.1) is
+      ∙ ap (λ saw. sat (on_claim (holding true) (claimed_at (record v { saw = saw }) line (handle_of ticket))) ((line, Ticket ticket) ∷ [])) (sym (append-nil v.saw))),
+)
 
 pub held_then : (line w r : ℕ) (v : View) (ticket : Pending) (m n o : Sat) → IsClaimed line v ticket m → missed w m r n → o ≡ sat (on_claim (holding true) n.0) n.1 → IsHeldAfter line v ticket o
 held_then line w r v ticket m n o is q p = ((w, r) ∷ [], p ∙ ap (λ (y : Sat). sat (on_claim (holding true) y.0) y.1) (q ∙ ap (λ (y : Sat). sat (saw_at y.0 w r) y.1) is))
@@ -124,8 +127,11 @@ all_later g line b v found ticket m held h = record {
 }
 
 pub refused_later : (g : GraphValue) (line : ℕ) (v : View) (found : List (ℕ × ℕ)) (ticket : Pending) (thing : Thing) (m : Sat) → IsRefusedAll g line (saw_all v found) ticket thing m → IsRefusedAll g line v ticket thing m
-refused_later g line v found ticket thing m h = (found ++ h.0, busy_later g line thing found h.0 h.1,
-    h.2 ∙ ap (λ saw. sat (claimed_at (record v { saw = saw }) line (handle_of ticket)) ((line, Ticket ticket) ∷ [])) (append_assoc v.saw found h.0))
+refused_later g line v found ticket thing m h = (
+  found ++ h.0,
+  busy_later g line thing found h.0 h.1,
+  h.2 ∙ ap (λ saw. sat (claimed_at (record v { saw = saw }) line (handle_of ticket)) ((line, Ticket ticket) ∷ [])) (append_assoc v.saw found h.0),
+)
 
 pub may_lock : (g : GraphValue) (line l : ℕ) (v : View) (ticket : Pending) (m : Sat) → IsClaimed line v ticket m → Acquires g line l → eval_end g line ≢ Cancelled → MayLock g line l m.0
 may_lock g line l v ticket m is a real = record { claim = new_claim line (handle_of ticket); has = ap (λ (y : Sat). y.0.claim) is; is_line = refl; going = refl; untaken = refl; acquires = a; real = real }
@@ -146,8 +152,11 @@ module _ (g : GraphValue) (line l : ℕ) (v : View) (ticket : Pending) (m : Sat)
   refused_alone r n own high q = ((word, r) ∷ [], (a, [], inr (own, inl (r, refl, high))), q ∙ ap (λ (y : Sat). sat (saw_at y.0 word r) y.1) is)
 
   pub refused_changed : (r s : ℕ) (n o : Sat) → line_passes is_shared g line ≡ true → s ≢ r → missed word m r n → missed word n s o → IsRefusedAll g line v ticket (things.Lock l) o
-  refused_changed r s n o own ne q p = ((word, r) ∷ (word, s) ∷ [], (a, [], inr (own, inr (r, s, refl, ne))),
-      p ∙ (ap (λ (y : Sat). sat (saw_at y.0 word s) y.1) (q ∙ ap (λ (y : Sat). sat (saw_at y.0 word r) y.1) is) ∙ ap (λ found. sat (record (claimed_at v line (handle_of ticket)) { saw = found }) ((line, Ticket ticket) ∷ [])) (append_assoc v.saw ((word, r) ∷ []) ((word, s) ∷ []))))
+  refused_changed r s n o own ne q p = (
+    (word, r) ∷ (word, s) ∷ [],
+    (a, [], inr (own, inr (r, s, refl, ne))),
+    p ∙ (ap (λ (y : Sat). sat (saw_at y.0 word s) y.1) (q ∙ ap (λ (y : Sat). sat (saw_at y.0 word r) y.1) is) ∙ ap (λ found. sat (record (claimed_at v line (handle_of ticket)) { saw = found }) ((line, Ticket ticket) ∷ [])) (append_assoc v.saw ((word, r) ∷ []) ((word, s) ∷ []))),
+  )
 
 -- whether a claimed line is cancelled
 pub cancelled_so : (g : GraphValue) (e : Events) (line : ℕ) (b : Bool) (m n : Sat) → m.0.keys ≡ ground_of g e ∷ [] → HasClaimed line m n → b ≡ list_any (cancels_in g) (edges_into g line) → (b ≡ true → eval_end g line ≡ Cancelled) × (b ≡ false → eval_end g line ≢ Cancelled)

@@ -5,7 +5,9 @@ ghost use Rattle.basics.specs.Words.{contents};
 ghost use Rattle.graph_model.specs.graph.Table.{kind_words, kind_places, kind_takes_on, kind_since, is_row};
 ghost use Rattle.graph_model.specs.declared.graph.format.Format.TheVariants.{One, Two};
 
-use self::Place::{Acquire, Barrier, Column, Lock, Phase, Shared, Space, Times, User, Value, Weight};
+use self::Place::{
+    Acquire, Barrier, Column, Lock, Phase, Shared, Space, Times, User, Value, Weight,
+};
 use crate::graph::format::Format;
 use crate::graph::verb::Mode::{Least, Most, Read, Sum, Write};
 use crate::graph::verb::{Mode, Verb};
