@@ -11,6 +11,8 @@ use Rattle.command_line.specs.declared.request.Action.{Action}
 use Rattle.command_line.specs.declared.request.Action.TheVariants.{Run, Check, Eval, Make, Audit, Timeline, Upgrade}
 use Rattle.command_line.specs.declared.request.Engine.{Engine}
 use Rattle.command_line.specs.declared.request.Engine.TheVariants.{Words, Lock}
+use Rattle.command_line.specs.declared.request.HintKind.{HintKind}
+use Rattle.command_line.specs.declared.request.HintKind.TheVariants.{Queue, Homes}
 use Rattle.command_line.specs.declared.request.Request.{Request}
 
 -- an option with one value, and a flag
@@ -24,13 +26,14 @@ flag_rule name = record (new_rule name) { long = Some name; action = Some SetTru
 abbrev pub bare_command : App
 bare_command = record { top = record (new_app (codes "realm")).top { disable_help_flag = Bool.true; disable_version_flag = Bool.true }; subs = [] }
 
--- the simple command: an action, five options with one value each, and two flags
+-- the simple command: an action, six options with one value each, and two flags
 abbrev pub realm_command : App
-realm_command = with_rule (with_rule (with_rule (with_rule (with_rule (with_rule (with_rule (with_rule bare_command
+realm_command = with_rule (with_rule (with_rule (with_rule (with_rule (with_rule (with_rule (with_rule (with_rule bare_command
     (record (new_rule (codes "ACTION")) { required = Bool.true }))
     (option_rule (codes "workers")))
     (option_rule (codes "slots")))
     (option_rule (codes "engine")))
+    (option_rule (codes "hints")))
     (option_rule (codes "seed")))
     (option_rule (codes "size")))
     (flag_rule (codes "trace")))
@@ -55,6 +58,13 @@ engine_by_word word =
     else if bytes_eq word (codes "lock") then Some Lock
     else None
 
+-- the kind of hints that a word names
+abbrev pub hint_kind_by_word : Text → Option HintKind
+hint_kind_by_word word =
+    if bytes_eq word (codes "queue") then Some Queue
+    else if bytes_eq word (codes "homes") then Some Homes
+    else None
+
 -- the value of an option where its text is read, the default where it isn't given, and none where its text can't be read
 abbrev pub value_or : {X : Type 0} → X → (Text → Option X) → Option Text → Option X
 value_or default read given = option_map_or read given (Some default)
@@ -70,12 +80,14 @@ request_in rows =
     option_and_then (λ workers.
     option_and_then (λ slots.
     option_and_then (λ engine.
+    option_and_then (λ hints.
     option_and_then (λ seed.
     option_map (λ size. record {
       «action» = action;
       «workers» = workers;
       «slots» = slots;
       «engine» = engine;
+      «hints» = hints;
       «seed» = seed;
       «size» = size;
       trace = is_set (first_of (codes "trace") rows);
@@ -83,6 +95,7 @@ request_in rows =
     })
     (value_or 100 (number_between 1 MAX_SIZE) (first_of (codes "size") rows)))
     (value_or 1 number_of (first_of (codes "seed") rows)))
+    (value_or Queue hint_kind_by_word (first_of (codes "hints") rows)))
     (value_or Words engine_by_word (first_of (codes "engine") rows)))
     (value_or None (λ word. option_map (λ n. Some n) (number_between 1 MAX_SLOTS word)) (first_of (codes "slots") rows)))
     (value_or 4 (number_between 0 MAX_WORKERS) (first_of (codes "workers") rows)))

@@ -54,7 +54,7 @@ fn fault_of(error: &Error) -> WordsFault
     }
 }
 
-/// The command: an action, five options with a value each, and two flags.
+/// The command: an action, six options with a value each, and two flags.
 fn command<'a>(alloc: Global) -> Result<Command<'a>, AllocError>
     ensures { IfOk result (λ c. app_of c ≡ realm_command) }
 {
@@ -66,6 +66,7 @@ fn command<'a>(alloc: Global) -> Result<Command<'a>, AllocError>
         .arg(option(alloc, "workers"))?
         .arg(option(alloc, "slots"))?
         .arg(option(alloc, "engine"))?
+        .arg(option(alloc, "hints"))?
         .arg(option(alloc, "seed"))?
         .arg(option(alloc, "size"))?
         .arg(flag(alloc, "trace"))?

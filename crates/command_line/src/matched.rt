@@ -3,10 +3,10 @@
 ghost use Rattle.std.specs.Prelude.{◌≡◌, ◌≤◌, IfSome, List, Option, Some, None, option_map, option_and_then, codes};
 ghost use Rattle.clap.specs.Words.{Text, first_of, rows_of, found_of};
 ghost use Rattle.command_line.specs.Number.{number_of, number_between};
-ghost use Rattle.command_line.specs.Request.{action_by_word, engine_by_word, value_or, is_set, request_in};
+ghost use Rattle.command_line.specs.Request.{action_by_word, engine_by_word, hint_kind_by_word, value_or, is_set, request_in};
 
 use crate::number::{number, number_between};
-use crate::request::{Action, Engine, MAX_SIZE, MAX_SLOTS, MAX_WORKERS, Request};
+use crate::request::{Action, Engine, HintKind, MAX_SIZE, MAX_SLOTS, MAX_WORKERS, Request};
 use clap::ArgMatches;
 
 /// The action that a word names.
@@ -32,6 +32,17 @@ pub(crate) fn engine_by_word(word: &str) -> Option<Engine>
     match word {
         "words" => Some(Engine::Words),
         "lock" => Some(Engine::Lock),
+        _ => None,
+    }
+}
+
+/// The kind of hints that a word names.
+pub(crate) fn hint_kind_by_word(word: &str) -> Option<HintKind>
+    ensures { result ≡ hint_kind_by_word word.now }
+{
+    match word {
+        "queue" => Some(HintKind::Queue),
+        "homes" => Some(HintKind::Homes),
         _ => None,
     }
 }
@@ -86,6 +97,16 @@ fn engine(matches: &ArgMatches) -> Option<Engine>
     }
 }
 
+/// The kind of hints; none where the text names none.
+fn hints(matches: &ArgMatches) -> Option<HintKind>
+    ensures { result ≡ value_or HintKind.Queue hint_kind_by_word (first_of (codes "hints") (rows_of (found_of matches.now))) }
+{
+    match given(matches, "hints") {
+        None => Some(HintKind::Queue),
+        Some(word) => hint_kind_by_word(word),
+    }
+}
+
 /// The seed; none where the text is no number.
 fn seed(matches: &ArgMatches) -> Option<u64>
     ensures { result ≡ value_or 1 number_of (first_of (codes "seed") (rows_of (found_of matches.now))) }
@@ -107,6 +128,7 @@ pub(crate) fn request_in(matches: &ArgMatches) -> Option<Request>
         workers: number_or(matches, "workers", 4, 0, MAX_WORKERS)?,
         slots: slots(matches)?,
         engine: engine(matches)?,
+        hints: hints(matches)?,
         seed: seed(matches)?,
         size: number_or(matches, "size", 100, 1, MAX_SIZE)?,
         trace: is_set(matches, "trace"),

@@ -1,7 +1,7 @@
 //! Why a command line is refused, in one line for whoever typed it. No clause speaks of it.
 
 use crate::command;
-use crate::matched::{action_by_word, engine_by_word, given};
+use crate::matched::{action_by_word, engine_by_word, given, hint_kind_by_word};
 use crate::number::number;
 use crate::request::{MAX_SIZE, MAX_SLOTS, MAX_WORKERS};
 use clap::error::ErrorKind;
@@ -14,6 +14,7 @@ use std::fmt;
 enum Allowed {
     Action,
     Engine,
+    Hints,
     Number { least: u64, most: u64 },
 }
 
@@ -22,6 +23,7 @@ impl Allowed {
         match self {
             Allowed::Action => action_by_word(word).is_some(),
             Allowed::Engine => engine_by_word(word).is_some(),
+            Allowed::Hints => hint_kind_by_word(word).is_some(),
             Allowed::Number { least, most } => match number(word) {
                 Some(number) => *least <= number && number <= *most,
                 None => false,
@@ -35,6 +37,7 @@ impl fmt::Display for Allowed {
         match self {
             Allowed::Action => f.write_str("run, check, eval, make, upgrade, audit or timeline"),
             Allowed::Engine => f.write_str("words or lock"),
+            Allowed::Hints => f.write_str("queue or homes"),
             Allowed::Number { least, most } => write!(f, "{least} to {most}"),
         }
     }
@@ -48,7 +51,7 @@ struct Argument {
     allowed: Allowed,
 }
 
-const ARGUMENTS: [Argument; 6] = [
+const ARGUMENTS: [Argument; 7] = [
     Argument {
         id: "ACTION",
         shown: "",
@@ -74,6 +77,11 @@ const ARGUMENTS: [Argument; 6] = [
         id: "engine",
         shown: "--engine ",
         allowed: Allowed::Engine,
+    },
+    Argument {
+        id: "hints",
+        shown: "--hints ",
+        allowed: Allowed::Hints,
     },
     Argument {
         id: "seed",
@@ -135,6 +143,6 @@ fn refused_word(alloc: Global, error: &Error) -> Result<String, AllocError> {
         }
     }
     format!(in alloc;
-        "{said}: an action with --workers, --slots, --engine, --seed, --size, --trace, --text"
+        "{said}: an action with --workers, --slots, --engine, --hints, --seed, --size, --trace, --text"
     )
 }

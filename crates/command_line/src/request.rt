@@ -39,6 +39,15 @@ pub enum Engine {
     Lock,
 }
 
+/// Where workers that share the words of a run keep the hints by which they tell each other of lines.
+#[derive(Clone, Copy, Debug, PartialEq, Eq)]
+pub enum HintKind {
+    /// In one queue for all of them.
+    Queue,
+    /// In a deque of each worker's own, from which the others steal.
+    Homes,
+}
+
 /// An action with its options.
 #[derive(Clone, Copy, Debug, PartialEq, Eq)]
 pub struct Request {
@@ -49,6 +58,8 @@ pub struct Request {
     /// How many event slots a run has, from 1 to `MAX_SLOTS`, where it is given.
     pub slots: Option<u32>,
     pub engine: Engine,
+    /// Where the workers keep their hints. Only a run in words by some workers has any.
+    pub hints: HintKind,
     /// What a generated graph is drawn from.
     pub seed: u64,
     /// How many lines a generated graph has, from 1 to `MAX_SIZE`.

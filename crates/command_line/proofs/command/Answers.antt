@@ -16,5 +16,6 @@ returns c =
     let a4 = c.in_ok-arg-4.ensures.shape c.option-3.ensures.local ∙ ap₂ with_rule a3 c.option-3.ensures.rule in
     let a5 = c.in_ok-arg-5.ensures.shape c.option-4.ensures.local ∙ ap₂ with_rule a4 c.option-4.ensures.rule in
     let a6 = c.in_ok-arg-6.ensures.shape c.option-5.ensures.local ∙ ap₂ with_rule a5 c.option-5.ensures.rule in
-    let a7 = c.in_ok-arg-7.ensures.shape c.flag.ensures.local ∙ ap₂ with_rule a6 c.flag.ensures.rule in
-    IfOk-weaker c.arg-8.result _ _ (λ r h. h.shape c.flag-2.ensures.local ∙ ap₂ with_rule a7 c.flag-2.ensures.rule) c.arg-8.ensures
+    let a7 = c.in_ok-arg-7.ensures.shape c.option-6.ensures.local ∙ ap₂ with_rule a6 c.option-6.ensures.rule in
+    let a8 = c.in_ok-arg-8.ensures.shape c.flag.ensures.local ∙ ap₂ with_rule a7 c.flag.ensures.rule in
+    IfOk-weaker c.arg-9.result _ _ (λ r h. h.shape c.flag-2.ensures.local ∙ ap₂ with_rule a8 c.flag-2.ensures.rule) c.arg-9.ensures
