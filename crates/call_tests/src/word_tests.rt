@@ -1,6 +1,6 @@
 //! Command lines and what they ask for.
 
-use command_line::request::{Action, Engine, Request};
+use command_line::request::{Action, Engine, HintKind, Request};
 use command_line::{WordsFault, read_words, refusal};
 use std::alloc::Global;
 use std::test::Fail;
@@ -11,6 +11,7 @@ const RUN: Request = Request {
     workers: 4,
     slots: None,
     engine: Engine::Words,
+    hints: HintKind::Queue,
     seed: 1,
     size: 100,
     trace: false,
@@ -59,6 +60,23 @@ fn takes_options(rt: HostRuntime) -> Result<(), Fail> {
                 ..RUN
             },
         ),
+        ("realm run --hints queue", RUN),
+        (
+            "realm run --hints homes",
+            Request {
+                hints: HintKind::Homes,
+                ..RUN
+            },
+        ),
+        (
+            "realm check --engine lock --hints homes",
+            Request {
+                action: Action::Check,
+                engine: Engine::Lock,
+                hints: HintKind::Homes,
+                ..RUN
+            },
+        ),
         (
             "realm eval --workers 0",
             Request {
@@ -102,7 +120,7 @@ fn refuses_words(rt: HostRuntime) -> Result<(), Fail> {
 }
 
 /// Command lines with what is said of the word that is refused.
-const REFUSALS: [(&str, &str); 11] = [
+const REFUSALS: [(&str, &str); 13] = [
     ("realm run", ""),
     (
         "realm",
@@ -119,6 +137,14 @@ const REFUSALS: [(&str, &str); 11] = [
         "--engine free: words or lock",
     ),
     (
+        "realm run --workers 0 --hints free",
+        "--hints free: queue or homes",
+    ),
+    (
+        "realm check --hints",
+        "a value is required for '--hints <hints>' but none was supplied: queue or homes",
+    ),
+    (
         "realm make --seed 18446744073709551616",
         "--seed 18446744073709551616: 0 to 18446744073709551615",
     ),
@@ -133,7 +159,7 @@ const REFUSALS: [(&str, &str); 11] = [
     ),
     (
         "realm run --fast",
-        "unexpected argument '--fast' found: an action with --workers, --slots, --engine, --seed, --size, --trace, --text",
+        "unexpected argument '--fast' found: an action with --workers, --slots, --engine, --hints, --seed, --size, --trace, --text",
     ),
 ];
 

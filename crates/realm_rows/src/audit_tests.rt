@@ -89,7 +89,12 @@ fn audits(rt: HostRuntime) -> Result<(), Fail> {
     for audit in AUDITS {
         let text = format!(in rt.alloc(); "{}{}", audit.graph, audit.trace)?;
         let row = [(text.as_str(), audit.output)];
-        run_texts(&rt, &["audit", "audit --slots 1"], audit.status, &row)?;
+        run_texts(
+            &rt,
+            &["audit", "audit --slots 1 --hints homes"],
+            audit.status,
+            &row,
+        )?;
     }
     Ok(())
 }
@@ -137,6 +142,7 @@ fn traces_of_runs(rt: HostRuntime) -> Result<(), Fail> {
         stencil.as_str(),
     ] {
         audit_run(&rt, "run --workers 3 --trace --engine words", graph)?;
+        audit_run(&rt, "run --workers 3 --trace --hints homes", graph)?;
         audit_run(&rt, "run --workers 3 --trace --engine lock", graph)?;
     }
     Ok(())

@@ -1,4 +1,4 @@
-//! Runs through gates that look at the workers, by each engine. That workers share the work is shown here
+//! Runs through gates that look at the workers, by each engine and with each kind of hints. That workers share the work is shown here
 //! alone; no clause says it.
 
 use crate::graph_tests::FAULTY_PATHS_REPORT;
@@ -70,6 +70,7 @@ impl Gate for Meeting {
 const TWO_IOTAS: Row = Row {
     commands: &[
         "run --workers 2 --engine words",
+        "run --workers 2 --hints homes",
         "run --workers 2 --engine lock",
     ],
     text: "realm 1\n\
@@ -91,8 +92,10 @@ const TWO_IOTAS: Row = Row {
 const THREE_WAITERS: Row = Row {
     commands: &[
         "run --workers 3 --engine words",
+        "run --workers 3 --hints homes",
         "run --workers 3 --engine lock",
         "run --workers 4 --engine words",
+        "run --workers 4 --hints homes",
         "run --workers 4 --engine lock",
     ],
     text: "realm 1\n\
@@ -207,6 +210,7 @@ fn passes_are_the_trace(rt: HostRuntime) -> Result<(), Fail> {
     let alloc = rt.alloc();
     for command in [
         "run --workers 1 --trace --engine words",
+        "run --workers 1 --trace --hints homes",
         "run --workers 1 --trace --engine lock",
     ] {
         let passes = Passes::none();

@@ -9,8 +9,13 @@ use test_texts::graphs::{
     NINE_WAITERS, NO_TRIGGER, WAITER_ABOVE_TRIGGER, WEIGHTED_ARRIVALS,
 };
 
-/// What writes a report: each engine, and the evaluation.
-const RUNS: &[&str] = &["run --engine words", "run --engine lock", "eval"];
+/// What writes a report: each engine, with each kind of hints, and the evaluation.
+const RUNS: &[&str] = &[
+    "run --engine words",
+    "run --hints homes",
+    "run --engine lock",
+    "eval",
+];
 
 /// One fill.
 pub(crate) const FILL: &str = "realm 1\nspace s 0..3\ninst a s x\nf = fill a.x s 7\nend\n";
@@ -119,6 +124,9 @@ const ALL_DONE: &[(&[&str], &str, &str)] = &[
     (
         &[
             "run --workers 3 --engine words",
+            "run --workers 3 --engine words --hints queue",
+            "run --workers 3 --engine words --hints homes",
+            "run --workers 8 --hints homes",
             "run --workers 3 --engine lock",
             "run",
             "eval",
@@ -237,7 +245,7 @@ const COMMANDS: &[Row] = &[
         output: "needs 11 slots\n",
     },
     Row {
-        commands: &["check", "check --slots 10"],
+        commands: &["check", "check --slots 10 --hints homes"],
         text: NINE_WAITERS,
         status: Status::Done,
         output: "accepted need 11\n",

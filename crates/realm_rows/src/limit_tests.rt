@@ -210,6 +210,7 @@ fn lines(rt: HostRuntime) -> Result<(), Fail> {
     let (text, report) = chain_with_report(rt.alloc(), 8192)?;
     let table = [
         ("run --engine words", report.as_str()),
+        ("run --hints homes", report.as_str()),
         ("run --engine lock", report.as_str()),
     ];
     run_commands(&rt, text.as_str(), &table)

@@ -20,7 +20,7 @@ const DONE: &[(&[&str], &str)] = &[
         "made ops 1 done 1 faulted 0 cancelled 0 waiting 0 sum 1775040\n",
     ),
     (
-        &["make", "make --engine lock"],
+        &["make", "make --hints homes", "make --engine lock"],
         "made ops 100 done 99 faulted 1 cancelled 0 waiting 0 sum 45221600\n",
     ),
     (
@@ -36,6 +36,7 @@ const DONE: &[(&[&str], &str)] = &[
             "make --seed 7 --size 8192 --engine words --workers 1",
             "make --seed 7 --size 8192 --engine words --workers 4",
             "make --seed 7 --size 8192 --engine words --workers 8",
+            "make --seed 7 --size 8192 --hints homes --workers 4",
             "make --seed 7 --size 8192 --engine lock --workers 0",
             "make --seed 7 --size 8192 --engine lock --workers 1",
             "make --seed 7 --size 8192 --engine lock --workers 4",
@@ -70,7 +71,7 @@ const DECLARATIONS: &str = "realm 1\n\
 const TEXTS: &[(&str, &str)] = &[
     ("make --seed 1 --size 1 --text", "o0 = fill a5.v s 27735\n"),
     (
-        "make --seed 3 --size 2 --text --slots 1",
+        "make --seed 3 --size 2 --text --slots 1 --hints homes",
         "o0 = user\no1 = trigger o0\n",
     ),
 ];

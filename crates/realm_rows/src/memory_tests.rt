@@ -17,8 +17,9 @@ use test_texts::memory::after;
 use test_texts::tiles;
 
 /// What runs a graph.
-const COMMANDS: [&str; 3] = [
+const COMMANDS: [&str; 4] = [
     "run --workers 3 --engine words",
+    "run --workers 3 --hints homes",
     "run --workers 3 --engine lock",
     "eval",
 ];

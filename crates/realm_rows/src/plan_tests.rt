@@ -70,7 +70,7 @@ fn processors(rt: HostRuntime) -> Result<(), Fail> {
         done\n";
     let table = [
         ("timeline --workers 0", alone),
-        ("timeline --workers 1 --slots 1", alone),
+        ("timeline --workers 1 --slots 1 --hints homes", alone),
         ("timeline", beside),
     ];
     let two_fills = "realm 1\n\

@@ -44,6 +44,11 @@ fn tiled_stencil(rt: HostRuntime) -> Result<(), Fail> {
     let table = [
         ("check", "accepted need 427\n"),
         ("run --workers 4 --engine words", report.as_str()),
+        (
+            "run --workers 4 --engine words --hints homes",
+            report.as_str(),
+        ),
+        ("run --workers 8 --hints homes", report.as_str()),
         ("run --workers 4 --engine lock", report.as_str()),
         ("eval", report.as_str()),
     ];

@@ -24,7 +24,7 @@ fn unchecked(rt: HostRuntime) -> Result<(), Fail> {
     let two = format!(in rt.alloc(); "realm 2\n{reserved}")?;
     let table = [
         ("upgrade", two.as_str()),
-        ("upgrade --workers 0 --slots 1", two.as_str()),
+        ("upgrade --workers 0 --slots 1 --hints homes", two.as_str()),
     ];
     run_commands(&rt, one.as_str(), &table)
 }

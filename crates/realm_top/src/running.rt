@@ -4,10 +4,11 @@ ghost use Rattle.std.specs.Prelude.{◌≡◌, ℕ, ◌<◌, ◌≤◌, length, 
 ghost use Rattle.graph_model.specs.meaning.Evaluation.{outcome};
 ghost use Rattle.graph_model.specs.meaning.Trace.{IsLawful};
 
-use command_line::request::{Engine, MAX_SLOTS, MAX_WORKERS, Request};
+use command_line::request::{Engine, HintKind, MAX_SLOTS, MAX_WORKERS, Request};
 use free_engine::{HintQueue, Round, run_free};
 use graph_model::graph::Graph;
 use graph_model::outcome::Outcome;
+use home_queues::HomeQueues;
 use index_spaces::NoMemory;
 use lock_engine::{Turn, run_turn};
 use race_check::checked::Checked;
@@ -40,7 +41,10 @@ pub(crate) fn run_graph<R: Threads + Wait + Sync, G: Gate>(
         Engine::Words if request.workers == 0 || lines == 0 => {
             run_alone(rt, alloc, checked, slots, gate)
         }
-        Engine::Words => run_in_words(rt, alloc, checked, slots, request.workers, gate),
+        Engine::Words => match request.hints {
+            HintKind::Queue => run_in_words(rt, alloc, checked, slots, request.workers, gate),
+            HintKind::Homes => run_with_homes(rt, alloc, checked, slots, request.workers, gate),
+        },
     }
 }
 
@@ -115,4 +119,28 @@ fn run_in_words<R: Threads + Wait + Sync, G: Gate>(
     let mut hints = queue.hints(alloc, pass, workers)?;
     let (words, seat) = Words::prepare(alloc, checked, slots)?;
     Ok(run_free(rt, words, seat, gate, hints.parts()))
+}
+
+/// Runs a graph by workers that share its words, and keep their hints in deques of their own, from which the
+/// others steal. What is left in them at the end is of no use, so nothing is counted then.
+fn run_with_homes<R: Threads + Wait + Sync, G: Gate>(
+    rt: &R,
+    alloc: Global,
+    checked: &Checked,
+    slots: u32,
+    workers: u32,
+    gate: &G,
+) -> Result<Outcome, NoMemory>
+    requires slots { (checked.now.need ≤ slots) × (slots ≤ MAX_SLOTS) }
+    requires some { 0 < length checked.now.graph.lines }
+    requires workers { (1 ≤ workers) × (workers ≤ MAX_WORKERS) }
+    ensures outcome { IfOk result (λ o. o ≡ outcome checked.now.graph o.trace) }
+    ensures lawful { IfOk result (λ o. IsLawful checked.now.graph o.trace) }
+    ensures lines { IfOk result (λ o. (k i : ℕ) → slice_get o.trace k ≡ Some i → i < length checked.now.graph.lines) }
+{
+    let Ok((_homes, mut list)) = HomeQueues::new(alloc, checked.graph().lines(), workers) else {
+        return Err(NoMemory);
+    };
+    let (words, seat) = Words::prepare(alloc, checked, slots)?;
+    Ok(run_free(rt, words, seat, gate, list.parts()))
 }
