@@ -100,17 +100,20 @@ const OVERLAP: Row<'static> = Row {
 const TWO_SHARED: &str = "realm 2\n\
     lock l\n\
     q = acquire l shared\n\
-    r = release q on q\n\
+    m = mergei q\n\
+    r = release q on m\n\
     k = acquire l shared\n\
-    t = release k on k\n\
+    n = mergei k\n\
+    t = release k on n\n\
     c = acquire l\n\
-    v = release c on c\n\
+    o = mergei c\n\
+    v = release c on o\n\
     end\n";
 
 /// The two that are shared lie side by side, and the third comes after both.
 const SHARED_SECTIONS: Row<'static> = Row {
     graph: TWO_SHARED,
-    trace: b"realm-trace 1\nat k\nat q\nat r\nat t\nat c\nat v\ndone\n",
+    trace: b"realm-trace 1\nat k\nat q\nat m\nat r\nat n\nat t\nat c\nat o\nat v\ndone\n",
     answer: Ok(()),
 };
 
@@ -118,20 +121,20 @@ const SHARED_SECTIONS: Row<'static> = Row {
 /// before one of them.
 const EXCLUSIVE_IN_TWO: Row<'static> = Row {
     graph: TWO_SHARED,
-    trace: b"realm-trace 1\nat k\nat q\nat c\nat r\nat t\nat v\ndone\n",
+    trace: b"realm-trace 1\nat k\nat q\nat c\nat m\nat r\nat n\nat t\nat o\nat v\ndone\n",
     answer: Err(AuditRefusal::Overlap(2, 0)),
 };
 
 const EXCLUSIVE_IN_ONE: Row<'static> = Row {
     graph: TWO_SHARED,
-    trace: b"realm-trace 1\nat k\nat q\nat r\nat c\nat t\nat v\ndone\n",
-    answer: Err(AuditRefusal::Overlap(3, 2)),
+    trace: b"realm-trace 1\nat k\nat q\nat m\nat r\nat c\nat n\nat t\nat o\nat v\ndone\n",
+    answer: Err(AuditRefusal::Overlap(4, 3)),
 };
 
 const SHARED_IN_EXCLUSIVE: Row<'static> = Row {
     graph: TWO_SHARED,
-    trace: b"realm-trace 1\nat c\nat q\nat r\nat v\nat k\nat t\ndone\n",
-    answer: Err(AuditRefusal::Overlap(1, 4)),
+    trace: b"realm-trace 1\nat c\nat q\nat m\nat r\nat o\nat v\nat k\nat n\nat t\ndone\n",
+    answer: Err(AuditRefusal::Overlap(1, 6)),
 };
 
 #[test]

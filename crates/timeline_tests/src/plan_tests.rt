@@ -179,22 +179,28 @@ const OVERTAKEN: Row<'static> = Row {
     graph: "realm 2\n\
         lock l\n\
         q = acquire l shared\n\
-        r = release q on q\n\
+        m = mergei q\n\
+        r = release q on m\n\
         k = acquire l\n\
-        t = release k on k\n\
+        n = mergei k\n\
+        t = release k on n\n\
         c = acquire l shared\n\
-        v = release c on c\n\
+        o = mergei c\n\
+        v = release c on o\n\
         end\n",
     processors: 2,
     text: "timeline 1\n\
         op q 0 0 1\n\
-        op r 0 1 2\n\
-        op k 0 2 3\n\
-        op t 0 3 4\n\
+        op m 0 1 2\n\
+        op r 0 2 3\n\
+        op k 0 3 4\n\
+        op n 0 4 5\n\
+        op t 0 5 6\n\
         op c 1 0 1\n\
-        op v 1 1 2\n\
-        critical 2 q r\n\
-        length 4\n\
+        op o 1 1 2\n\
+        op v 1 2 3\n\
+        critical 3 q m r\n\
+        length 6\n\
         done\n",
 };
 
