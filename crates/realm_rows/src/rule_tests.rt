@@ -217,7 +217,7 @@ fn exempt(rt: HostRuntime) -> Result<(), Fail> {
     for (format, ops, ways, is_exempt) in SECTIONS {
         let text = sections(rt.alloc(), *format, *ops, *ways)?;
         let (status, told) = if *is_exempt {
-            (Status::Done, "accepted need 10\n")
+            (Status::Done, "accepted need 8\n")
         } else {
             (Status::Unfit, "refused race d e\n")
         };
