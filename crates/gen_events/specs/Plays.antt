@@ -102,8 +102,12 @@ scouted_at v i r = record (found_at v i r) { spare = cond (r % 4294967296 == 0) 
 abbrev pub Accounts : View → ℕ → ℕ → Type 0
 Accounts v i r = (x : Shape) → Contains v.keys x → v.makes ≡ 1 → (r % 4294967296 ≡ 4294967295 → (turns_of r ≡ 2 * x.last_gen + 2) × Contains v.made (handle_at i x.last_gen)) × (r % 4294967296 ≢ 0 → r % 4294967296 ≢ 4294967295 → (turns_of r ≡ 2 * (r / 4294967296) + 1) × Contains v.made (handle_at i (r / 4294967296)))
 
+-- the handles at the slot i that had been found to have ended had
+abbrev pub HadEnded : View → ℕ → ℕ → Type 0
+HadEnded v i r = (h : Handle) → Contains v.past h → h.slot ≡ i → 2 * h.gen_ + 2 ≤ turns_of r
+
 abbrev pub scouted : ℕ → Sat → ℕ → Sat → Type 0
-scouted i m r n = (n ≡ (scouted_at m.0 i r, m.1)) × Accounts m.0 i r
+scouted i m r n = (n ≡ (scouted_at m.0 i r, m.1)) × Accounts m.0 i r × HadEnded m.0 i r
 
 -- The Maker creates at a slot that it noted, which is still free
 abbrev pub made_at : View → Handle → View
@@ -280,3 +284,7 @@ forsaken v w = record {
 -- at the end, with the Maker's list alone
 abbrev pub gathered : View → View → View
 gathered v w = record (joined v w) { made = v.made }
+
+-- The Maker is told which handles another knows to have ended
+abbrev pub informed : View → View → View
+informed v w = record v { past = v.past ++ map (λ (p : Handle × Fate). p.0) w.known; spare = [] }

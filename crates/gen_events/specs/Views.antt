@@ -110,10 +110,18 @@ IsNew old new h = (new ≡ old ++ h ∷ []) × (Contains old h → ⊥)
 abbrev pub IsTaken : Shape → List Handle → ℕ → ℕ → Type 0
 IsTaken shape made i r = (h : Handle) × (h.slot ≡ i) × Contains made h × ((turns_of r ≡ 2 * h.gen_ + 1) ⊎ ((h.gen_ ≡ shape.last_gen) × (turns_of r ≡ 2 * h.gen_ + 2)))
 
+-- a handle of the list is the last of the slot i, or is one there that was not found to have ended
+abbrev pub IsHeld : Shape → List Handle → View → ℕ → Type 0
+IsHeld shape made v i = (h : Handle) × (h.slot ≡ i) × Contains made h × ((h.gen_ ≡ shape.last_gen) ⊎ (IsPast v h → ⊥))
+
 -- in between, each slot from low on and below high was looked at, and found taken
 abbrev pub Scanned : Shape → List Handle → View → View → ℕ → ℕ → Type 0
 Scanned shape made v w low high = (found : List (ℕ × ℕ)) × (w.saw ≡ v.saw ++ found)
     × ((i : ℕ) → low ≤ i → i < high → (r : ℕ) × Contains found (i, r) × IsTaken shape made i r)
+
+-- each slot from low on and below high is held so
+abbrev pub AreHeld : Shape → List Handle → View → ℕ → ℕ → Type 0
+AreHeld shape made v low high = (i : ℕ) → low ≤ i → i < high → IsHeld shape made v i
 
 -- the slot is the next one, unless that has served already
 abbrev pub ComesNext : List Handle → ℕ → ℕ → Type 0
@@ -122,6 +130,11 @@ ComesNext made next i = (i ≡ next) ⊎ ((h : Handle) × (h.slot ≡ next) × C
 abbrev pub IsFull : Shape → List Handle → View → View → Type 0
 IsFull shape made v w = (found : List (ℕ × ℕ)) × (w.saw ≡ v.saw ++ found)
     × ((i : ℕ) → i < shape.slots → (r : ℕ) × Contains found (i, r) × IsTaken shape made i r)
+
+-- each slot has a handle of the list that is the last of the slot, or whose end the seat does not know
+abbrev pub AreTaken : Shape → List Handle → View → Type 0
+AreTaken shape made v = (i : ℕ) → i < shape.slots
+    → (h : Handle) × (h.slot ≡ i) × Contains made h × ((h.gen_ ≡ shape.last_gen) ⊎ ((f : Fate) → Knows v h f → ⊥))
 
 -- the older handles of its slot are those of the generations below, and the seat has found each of them past
 pub record ComesAfter (made : List Handle) (w : View) (h : Handle) : Type 0 where

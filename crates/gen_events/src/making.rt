@@ -1,19 +1,20 @@
 //! Creating events, which the one Maker does.
 
-ghost use Rattle.gen_events.specs.Seats.{HasSeen, Grows, Keeps, SamePlacings, no_event};
-ghost use Rattle.gen_events.specs.Views.{lists, IsOf, IsAt, IsMakerOf, IsPendingOf, made_by, maker_lists, shape_of, handle_of, IsNew, IsFull, Scanned, IsWithin, ArePast, ComesAfter, ComesNext, GoesRound};
+ghost use Rattle.gen_events.specs.Seats.{HasSeen, Knows, IsPast, Grows, Keeps, SamePlacings, no_event};
+ghost use Rattle.gen_events.specs.declared.handle.Handle.{Handle as TheHandle};
+ghost use Rattle.gen_events.specs.Views.{lists, IsOf, IsAt, IsMakerOf, IsPendingOf, made_by, maker_lists, shape_of, handle_of, IsNew, IsFull, Scanned, AreHeld, AreTaken, IsWithin, ArePast, ComesAfter, ComesNext, GoesRound};
 ghost use Rattle.std.specs.Prelude.{◌≡◌, ◌≢◌, ◌%◌, ◌/◌, ◌<◌, ◌≤◌, ◌++◌, [], Contains, IfSome, IfNone};
 
 use crate::events::Events;
-use crate::handle::Handle;
-use crate::plays::{Both, Create, Grants, Reports, Scout};
+use crate::handle::{Fate, Handle};
+use crate::plays::{Both, Create, Grants, Informs, Reports, Scout};
 use crate::tokens::{Maker, Pending, Seat};
 
 impl Events {
     /// A new pending handle, which then stands at the end of the Maker's list, all of which the seat
     /// has then seen. Each older handle of its slot was found to have ended, and no slot serves twice
     /// before each has served. None comes where each slot was found retired or pending, as the seat
-    /// then shows.
+    /// then shows, and by no handle that the seat knew to have ended.
     pub fn create(&self, maker: &mut Maker, seat: &mut Seat) -> Option<Pending>
         requires maker { IsMakerOf self.now maker.old }
         requires at { IsAt self.now seat.old }
@@ -27,6 +28,47 @@ impl Events {
         ensures after { IfSome result (λ p. ComesAfter (made_by maker.old) (lists seat.new) (handle_of p)) }
         ensures none { IfNone result (made_by maker.new ≡ made_by maker.old) }
         ensures full { IfNone result (IsFull (shape_of self.now) (made_by maker.old) (lists seat.old) (lists seat.new)) }
+        ensures taken { IfNone result (AreTaken (shape_of self.now) (made_by maker.old) (lists seat.old)) }
+        ensures more_seen { (lists seat.new).seen ≡ (lists seat.old).seen ++ made_by maker.new }
+        ensures same_known { (lists seat.new).known ≡ (lists seat.old).known }
+        ensures same_placings { SamePlacings (lists seat.old) (lists seat.new) }
+        ensures same_left { (lists seat.new).left ≡ (lists seat.old).left }
+    {
+        let told = self.split(seat);
+        self.inform(maker, told);
+        self.create_informed(maker, seat)
+    }
+
+    // Tells the Maker which handles a seat knows to have ended, so that it finds none of them pending.
+    fn inform(&self, maker: &mut Maker, told: Seat)
+        requires maker { IsMakerOf self.now maker.old }
+        requires told { IsAt self.now told }
+        ensures maker { IsMakerOf self.now maker.new }
+        ensures made { made_by maker.new ≡ made_by maker.old }
+        ensures past { (h : TheHandle) (f : Fate) → Knows (lists told) h f → IsPast (maker_lists maker.new) h }
+    {
+        let Seat { inner } = told;
+        self.table
+            .shared
+            .join_seat::<Informs>(&mut maker.inner, inner);
+    }
+
+    // As `create`, by a Maker that was told. None comes where each slot is held by its last handle, or
+    // by one of which the Maker was not told that it has ended.
+    fn create_informed(&self, maker: &mut Maker, seat: &mut Seat) -> Option<Pending>
+        requires maker { IsMakerOf self.now maker.old }
+        requires at { IsAt self.now seat.old }
+        ensures maker { IsMakerOf self.now maker.new }
+        ensures at { IsAt self.now seat.new }
+        ensures grows { Grows (lists seat.old) (lists seat.new) }
+        ensures kept { Keeps (lists seat.old) (lists seat.new) }
+        ensures some { IfSome result (λ p. IsPendingOf self.now p × IsNew (made_by maker.old) (made_by maker.new) (handle_of p)
+            × HasSeen (lists seat.new) (handle_of p) × (handle_of p ≢ no_event)) }
+        ensures within { IfSome result (λ p. IsWithin (shape_of self.now) (handle_of p)) }
+        ensures after { IfSome result (λ p. ComesAfter (made_by maker.old) (lists seat.new) (handle_of p)) }
+        ensures none { IfNone result (made_by maker.new ≡ made_by maker.old) }
+        ensures full { IfNone result (IsFull (shape_of self.now) (made_by maker.old) (lists seat.old) (lists seat.new)) }
+        ensures held { IfNone result (AreHeld (shape_of self.now) (made_by maker.old) (maker_lists maker.old) 0 (shape_of self.now).slots) }
         ensures more_seen { (lists seat.new).seen ≡ (lists seat.old).seen ++ made_by maker.new }
         ensures same_known { (lists seat.new).known ≡ (lists seat.old).known }
         ensures same_placings { SamePlacings (lists seat.old) (lists seat.new) }
@@ -51,6 +93,7 @@ impl Events {
         ensures next { (maker.new.next ≡ maker.old.next)
             × IfSome result (λ r. maker.old.next < (shape_of self.now).slots → ComesNext (made_by maker.new) maker.old.next r.0) }
         ensures full { IfNone result (IsFull (shape_of self.now) (made_by maker.old) (maker_lists maker.old) (maker_lists maker.new)) }
+        ensures held { IfNone result (AreHeld (shape_of self.now) (made_by maker.old) (maker_lists maker.old) 0 (shape_of self.now).slots) }
     {
         let from = self.first_to_scan(maker);
         let Some(free) = self.scan(maker, from, self.shape.slots) else {
@@ -82,6 +125,8 @@ impl Events {
         ensures past { IfSome result (λ r. ArePast (made_by maker.new) (maker_lists maker.new) r.0 (r.1 / 4294967296)) }
         ensures next { (maker.new.next ≡ maker.old.next) × IfSome result (λ r. ComesNext (made_by maker.new) low r.0) }
         ensures none { IfNone result (Scanned (shape_of self.now) (made_by maker.old) (maker_lists maker.old) (maker_lists maker.new) low high) }
+        ensures held { IfNone result (AreHeld (shape_of self.now) (made_by maker.old) (maker_lists maker.old) low high) }
+        ensures known { (h : TheHandle) → IsPast (maker_lists maker.old) h → IsPast (maker_lists maker.new) h }
     {
         let mut slot = low;
         while slot < high {

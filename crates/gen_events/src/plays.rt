@@ -1,7 +1,7 @@
 //! The rule of the table, and the names of its steps, cuts and joins.
 
 ghost use Rattle.gen_events.specs.Rule.{Orderly, opener};
-ghost use Rattle.gen_events.specs.Plays.{looked, reads, marks, heeded, scouted, created, relinked, put, ended, walked, copy_of, dealt, dealer, all_dealt, none_left, granted, granter, receipted, maker_of, no_maker, report, reporter, chaser, unchased, emptier, joined, forsaken, gathered, no_view};
+ghost use Rattle.gen_events.specs.Plays.{looked, reads, marks, heeded, scouted, informed, created, relinked, put, ended, walked, copy_of, dealt, dealer, all_dealt, none_left, granted, granter, receipted, maker_of, no_maker, report, reporter, chaser, unchased, emptier, joined, forsaken, gathered, no_view};
 
 use crate::handle::Shape;
 use crate::view::View;
@@ -176,6 +176,15 @@ pub struct Gathers;
 
 impl Join<View> for Gathers {
     ghost both = { gathered };
+
+    ghost spent = { no_view };
+}
+
+/// The join in `create` that tells the Maker what a seat knows.
+pub struct Informs;
+
+impl Join<View> for Informs {
+    ghost both = { informed };
 
     ghost spent = { no_view };
 }

@@ -10,3 +10,4 @@ pub mod SummaryLines
 pub mod RunFacts
 pub mod UnlawfulLines
 pub mod Timelines
+pub mod Ending

@@ -22,7 +22,7 @@ use Rattle.realm_timeline.specs.Text.{timeline_text}
 use Rattle.graph_reader.specs.Text.{GraphText, text}
 use Rattle.graph_gen.specs.MadeGraph.{made_graph}
 use Rattle.realm_top.specs.declared.status.Status.{Status}
-use Rattle.realm_top.specs.declared.status.Status.TheVariants.{Done, Unread, Unfit, Slots, TooLong}
+use Rattle.realm_top.specs.declared.status.Status.TheVariants.{Done, Usage, Unread, Unfit, ReadFault, WriteFault, NoMemory, Slots, TooLong, Unlawful}
 use Rattle.realm_top.specs.Delivered.{Delivered, IsAnswered}
 use Rattle.realm_top.specs.Refused.{IsRefused, IsUnfit}
 use Rattle.realm_top.specs.AuditAnswer.{AUDIT_LIMIT, AuditAnswers, AuditAsks}
@@ -113,6 +113,28 @@ abbrev pub runs : Action → Bool → Bool
 runs Run texted = true
 runs Make texted = not texted
 runs _ texted = false
+
+-- whether an action's graph is checked, with a trace behind it or alone
+abbrev pub is_judging : Purpose → Bool
+is_judging Checking = true
+is_judging Auditing = true
+is_judging _ = false
+
+-- which statuses words that ask for this may end with, whatever the input and the streams are
+abbrev pub may_end_for : Purpose → Bool → Status → Bool
+may_end_for aim running Done = true
+may_end_for aim running Usage = false
+may_end_for aim running Unread = is_reading aim
+may_end_for aim running Unfit = is_judging aim
+may_end_for aim running ReadFault = is_reading aim
+may_end_for aim running WriteFault = true
+may_end_for aim running NoMemory = true
+may_end_for aim running Slots = running
+may_end_for aim running TooLong = is_reading aim
+may_end_for aim running Unlawful = is_auditing aim
+
+abbrev pub may_end : Request → Status → Bool
+may_end request status = may_end_for (purpose request.action) (runs request.action request.text) status
 
 -- a run that is given fewer slots than the need
 abbrev pub is_short_by : Bool → Option ℕ → ℕ → Bool

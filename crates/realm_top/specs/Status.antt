@@ -23,15 +23,6 @@ abbrev pub words_status : WordsFault → Status
 words_status fault.Usage = Usage
 words_status fault.NoMemory = NoMemory
 
--- the statuses that speak of an input
-abbrev pub is_of_input : Status → Bool
-is_of_input Unread = true
-is_of_input Unfit = true
-is_of_input ReadFault = true
-is_of_input TooLong = true
-is_of_input Unlawful = true
-is_of_input _ = false
-
 -- the statuses that refuse a request, with a text that says why
 abbrev pub is_refusal : Status → Bool
 is_refusal Unread = true

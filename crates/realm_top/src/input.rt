@@ -12,7 +12,7 @@ ghost use Rattle.realm_io.specs.Written.{Writes};
 ghost use Rattle.realm_top.specs.Texts.{unread_text, accepted_text, slots_text};
 ghost use Rattle.realm_top.specs.Delivered.{Delivers, IsAnswered};
 ghost use Rattle.realm_top.specs.Refused.{Refuses, Rejects};
-ghost use Rattle.realm_top.specs.Answer.{evaluation_text, report_with, run_text, runs, reads, audits, upgrades, input_limit, is_short, InputAnswers, Answered, Serves, Settled};
+ghost use Rattle.realm_top.specs.Answer.{evaluation_text, report_with, run_text, runs, reads, audits, upgrades, input_limit, is_short, may_end, InputAnswers, Answered, Serves, Settled};
 
 use crate::actions::{audits, upgrades};
 use crate::auditing::answer_audit;
@@ -51,6 +51,7 @@ pub(crate) fn answer<R: Threads + Wait + Sync, K: Sink, G: Gate>(
     requires short { length bytes.now ≤ input_limit request.action }
     requires workers { request.workers ≤ MAX_WORKERS }
     ensures answered { Answered request bytes.now (K.state sink.old) (K.state sink.new) result }
+    ensures of_action { may_end request result ≡ true }
     ensures no_memory { result ≡ Status.NoMemory → sink.new ≡ sink.old }
 {
     if audits(request.action) {

@@ -22,11 +22,11 @@ ghost use Rattle.graph_reader.specs.Text.{GraphText};
 ghost use Rattle.graph_gen.specs.MadeGraph.{made_graph};
 ghost use Rattle.command_line.specs.Request.{request_of_words, Asks};
 ghost use Rattle.command_line.specs.declared.request.Request.{Request};
-ghost use Rattle.realm_top.specs.Answer.{reads, checks, audits, upgrades, made_says, EndsByPaths, IsInput, Answers, AsksStatus, IsDone};
+ghost use Rattle.realm_top.specs.Answer.{reads, checks, audits, upgrades, made_says, EndsByPaths, may_end, IsInput, Answers, AsksStatus, IsDone};
 ghost use Rattle.realm_top.specs.AuditAnswer.{IsAudited};
 ghost use Rattle.realm_top.specs.UpgradeAnswer.{IsUpgraded};
 ghost use Rattle.realm_top.specs.Delivered.{Delivered, BrokenOff};
-ghost use Rattle.realm_top.specs.Status.{words_status, is_of_input, is_refusal};
+ghost use Rattle.realm_top.specs.Status.{words_status, is_refusal};
 ghost use Rattle.realm_top.specs.declared.status.Status.{Status};
 
 use crate::actions::{input_limit, reads};
@@ -103,11 +103,9 @@ pub fn realm<R: Threads + Wait + Sync, S: Source, K: Sink, G: Gate>(
         × ((bytes : List ℕ) → IsInput request.action (S.left source.old) bytes
         → (out : List ℕ) × Answers request bytes result out × Delivered (K.state sink.old) (K.state sink.new) out) }
 
-    // Unread, Unfit, TooLong, Unlawful and ReadFault: only where the action reads; Unlawful: only where it audits.
-    ensures of_input { is_of_input result ≡ true
-        → (request : Request) × Asks words.now request × (reads request.action ≡ true) }
-    ensures of_audit { result ≡ Status.Unlawful
-        → (request : Request) × Asks words.now request × (audits request.action ≡ true) }
+    // By the words alone: Unread, ReadFault and TooLong only where the action reads, Unfit where it checks a graph that it
+    // read, Slots where a graph is run, Unlawful where a trace is read; and Usage never where they ask for something.
+    ensures of_action { (request : Request) → Asks words.now request → may_end request result ≡ true }
 
     // ReadFault: a fault of reading was counted in this call, and nothing was written.
     ensures read_fault { result ≡ Status.ReadFault → Rose (S.faults source.old) (S.faults source.new) × (sink.new ≡ sink.old) }

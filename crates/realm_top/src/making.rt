@@ -1,9 +1,9 @@
 //! What is done by `make`, which reads nothing.
 
-ghost use Rattle.std.specs.Prelude.{◌≡◌, ℕ, ◌≤◌, ◌⊎◌, false, List};
+ghost use Rattle.std.specs.Prelude.{◌≡◌, ℕ, ◌≤◌, ◌⊎◌, false, true, List};
 ghost use Rattle.graph_gen.specs.MadeGraph.{made_graph};
 ghost use Rattle.realm_top.specs.Delivered.{IsAnswered};
-ghost use Rattle.realm_top.specs.Answer.{MadeAnswers, audits, upgrades};
+ghost use Rattle.realm_top.specs.Answer.{MadeAnswers, reads, may_end};
 
 use crate::input::{judge, put_graph_text};
 use crate::status::Status;
@@ -23,11 +23,12 @@ pub(crate) fn answer_made<R: Threads + Wait + Sync, K: Sink, G: Gate>(
     sink: &mut K,
     gate: &G,
 ) -> Status
-    requires checks { (audits request.action ≡ false) × (upgrades request.action ≡ false) }
+    requires makes { reads request.action ≡ false }
     requires size { (1 ≤ request.size) × (request.size ≤ MAX_SIZE) }
     requires workers { request.workers ≤ MAX_WORKERS }
     ensures answered { IsAnswered (MadeAnswers request.text request (made_graph request.seed request.size))
         (K.state sink.old) (K.state sink.new) result }
+    ensures of_action { may_end request result ≡ true }
     ensures no_memory { result ≡ Status.NoMemory → sink.new ≡ sink.old }
 {
     made_graphs_are_accepted();

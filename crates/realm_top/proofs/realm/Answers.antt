@@ -1,13 +1,9 @@
 use Rattle.std.proofs.Common.{◌≡◌, ◌<◌, ℕ, List, length, ap, Err, sym, subst, ◌∙◌}
 use Rattle.std.specs.Prelude.{Some}
 use Rattle.std.proofs.lemmas.Option.{same_Some}
-use Rattle.realm_top.specs.Answer.{purpose}
 use Rattle.realm_top.proofs.Delivering.{more_left, if_some, ends_by_paths}
-use Rattle.realm_top.proofs.Requests.{made_else, request_refused, request_cut_off, request_complete, request_done, request_audited, request_upgraded, request_made, answered_input, answered_long, answered_made, read_answered}
+use Rattle.realm_top.proofs.Requests.{request_refused, request_cut_off, request_complete, request_done, request_audited, request_upgraded, request_made, answered_input, answered_long, answered_made, read_answered}
 use Rattle.realm_top.proofs.realm.Goals as goal
-
-pub answer_made-requires-clause-checks : goal.answer_made-requires-clause-checks
-answer_made-requires-clause-checks g c = λ κs lives. made_else (purpose c.in-Ok.request.action) (sym c.if-not-reads.ensures)
 
 pub returns-then-not-reads-clause-made : goal.returns-then-not-reads-clause-made
 returns-then-not-reads-clause-made g c = λ e. (c.in-Ok.request, c.in-Ok.ensures.request, λ r. request_made c.in-Ok.request _ _ c.answer_made.result r c.answer_made.ensures.answered e)

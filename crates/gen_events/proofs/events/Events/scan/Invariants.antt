@@ -1,5 +1,7 @@
 use Rattle.std.proofs.Common.{◌≡◌, ◌-◌, ◌≤◌}
-use Rattle.gen_events.specs.Views.{IsOf, Scanned}
+use Rattle.gen_events.specs.declared.handle.Handle.{Handle}
+use Rattle.gen_events.specs.Seats.{IsPast}
+use Rattle.gen_events.specs.Views.{IsOf, Scanned, AreHeld}
 use Rattle.gen_events.proofs.events.Events.scan.Given as goal
 
 abbrev pub decreases-loop-slot : goal.decreases-loop-slot
@@ -10,5 +12,7 @@ invariant-loop-slot l = record {
   at : IsOf l.self l.maker.inner;
   from : l.low ≤ l.slot;
   made : (l.maker.inner.me.0.made ≡ l.fn.maker.inner.me.0.made) × (l.maker.next ≡ l.fn.maker.next);
+  held : AreHeld l.self.shape l.fn.maker.inner.me.0.made l.fn.maker.inner.me.0 l.low l.slot;
+  known : (h : Handle) → IsPast l.fn.maker.inner.me.0 h → IsPast l.maker.inner.me.0 h;
   scanned : Scanned l.self.shape l.fn.maker.inner.me.0.made l.fn.maker.inner.me.0 l.maker.inner.me.0 l.low l.slot;
 }

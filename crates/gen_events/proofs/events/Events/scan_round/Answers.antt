@@ -1,8 +1,8 @@
 use Rattle.std.proofs.Common.{◌∙◌, Option, Some, None, subst, sym, List, inr, arith}
 use Rattle.std.specs.Prelude.{IfNone, IfSome, Contains}
 use Rattle.gen_events.specs.declared.handle.Handle.{Handle}
-use Rattle.gen_events.specs.Views.{Scanned}
-use Rattle.gen_events.proofs.Scout.{full_round, has_served}
+use Rattle.gen_events.specs.Views.{Scanned, AreHeld}
+use Rattle.gen_events.proofs.Scout.{full_round, has_served, held_round}
 use Rattle.gen_events.proofs.events.Events.scan_round.Goals as goal
 
 none_of : {X : Type 0} (r : Option X) (P Q : Type 0) → IfNone r P → (P → Q) → IfNone r Q
@@ -26,3 +26,8 @@ returns-in_default-clause-next c =
           let t = has_served c.args.self.now.shape c.args.maker.now.inner.me.0.made c.args.maker.now.inner.me.0 c.scan.new.maker.inner.me.0 c.first_to_scan-from.result c.args.self.now.shape.slots c.in_default.ensures.none c.args.maker.now.next (omega (arith, c.first_to_scan-from.ensures.next near)) near in
           inr (t.0, t.1, subst (λ l. Contains l t.0) (sym made) t.2)),
     )
+
+pub returns-in_default-clause-held : goal.returns-in_default-clause-held
+returns-in_default-clause-held c = none_of c.scan-in_default.result _ _ c.scan-in_default.ensures.held
+    (λ low. held_round c.args.self.now.shape c.args.maker.now.inner.me.0.made c.args.maker.now.inner.me.0 c.scan.new.maker.inner.me.0 c.first_to_scan-from.result c.in_default.ensures.held
+    (subst (λ (l : List Handle). AreHeld c.args.self.now.shape l c.scan.new.maker.inner.me.0 0 c.first_to_scan-from.result) c.scan.ensures.made low) c.scan.ensures.known)

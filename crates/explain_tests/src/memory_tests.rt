@@ -1,0 +1,54 @@
+//! The calls that take memory. With ample memory each gives its answer. Where one request is refused, as by
+//! `tests/refused-memory`, it says so, and the same call made again gives its answer; the test ends with the name of
+//! the call then, which that script reads.
+
+ghost use Rattle.std.specs.Prelude.{◌≡◌, length};
+
+use explanations::paths::shortest_path;
+use explanations::races::least_shared;
+use graph_model::graph::Graph;
+use graph_reader::read_graph;
+use index_spaces::NoMemory;
+use std::alloc::Global;
+use std::test::Fail;
+use test_texts::graphs::LOCKED_SUMS;
+use test_texts::memory::after;
+
+#[test]
+fn each_call(rt: HostRuntime) -> Result<(), Fail> {
+    let alloc = rt.alloc();
+    let graph = read_graph(alloc, LOCKED_SUMS.as_bytes())?;
+    if graph.lines() != 10 {
+        return Err("before the calls".into());
+    }
+    path(alloc, &graph)?;
+    shared(alloc, &graph)
+}
+
+/// From the first fill to the release of its section.
+fn path(alloc: Global, graph: &Graph) -> Result<(), Fail>
+    requires { length graph.now.lines ≡ 10 }
+{
+    match shortest_path(alloc, graph, 0, 5) {
+        Ok(path) => after("shortest_path", false, path.is_some()),
+        Err(NoMemory) => after(
+            "shortest_path",
+            true,
+            shortest_path(alloc, graph, 0, 5).is_ok(),
+        ),
+    }
+}
+
+/// The two sums into one column.
+fn shared(alloc: Global, graph: &Graph) -> Result<(), Fail>
+    requires { length graph.now.lines ≡ 10 }
+{
+    match least_shared(alloc, graph, 3, 7) {
+        Ok(point) => after("least_shared", false, point.is_some()),
+        Err(NoMemory) => after(
+            "least_shared",
+            true,
+            least_shared(alloc, graph, 3, 7).is_ok(),
+        ),
+    }
+}

@@ -1,0 +1,8 @@
+use Rattle.std.proofs.Common.{take}
+use Rattle.std.specs.Prelude.{Contains}
+use Rattle.graph_model.specs.graph.Access.{accesses}
+use Rattle.explanations.specs.Shared.{IsLeastAmong}
+use Rattle.explanations.proofs.races.least_shared.Given as goal
+
+abbrev pub invariant-loop-k : goal.invariant-loop-k
+invariant-loop-k l = IsLeastAmong l.graph (λ a b. Contains (take l.k (accesses l.graph l.first)) a × Contains (accesses l.graph l.second) b) l.best

@@ -1,0 +1,8 @@
+use Rattle.std.proofs.Common.{◌≡◌, take}
+use Rattle.std.specs.Prelude.{Contains}
+use Rattle.graph_model.specs.graph.Access.{accesses}
+use Rattle.explanations.specs.Shared.{IsLeastAmong}
+use Rattle.explanations.proofs.races.shared_with.Given as goal
+
+abbrev pub invariant-loop-k : goal.invariant-loop-k
+invariant-loop-k l = IsLeastAmong l.graph (λ a b. (a ≡ l.one) × Contains (take l.k (accesses l.graph l.line)) b) l.best

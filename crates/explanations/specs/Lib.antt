@@ -1,0 +1,4 @@
+pub mod Paths
+pub mod Search
+pub mod Shared
+pub mod Meetings

@@ -1,0 +1,6 @@
+mod Lists
+mod Ends
+mod Slots
+mod Adding
+mod Telling
+mod Making

@@ -1,0 +1,11 @@
+//! What is recorded of a line.
+
+use gen_events::Handle;
+use graph_model::outcome::End;
+
+/// The event of a line, and how the line ended.
+#[derive(Clone, Copy, Debug, PartialEq, Eq)]
+pub struct Line {
+    pub handle: Handle,
+    pub end: End,
+}

@@ -1,0 +1,2 @@
+pub mod AskedHandles
+pub mod Graphs
