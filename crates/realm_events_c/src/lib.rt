@@ -1,0 +1,13 @@
+//! The shared events of `gen_events`, for callers in C.
+#![tactic(auto)]
+
+mod exports;
+mod held;
+mod inside;
+mod making;
+mod owed;
+mod owner;
+mod parts;
+mod place;
+mod status;
+mod token;
