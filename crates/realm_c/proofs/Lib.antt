@@ -1,1 +1,3 @@
+mod Auditing
+mod Handing
 mod Refusing

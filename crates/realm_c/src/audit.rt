@@ -48,7 +48,8 @@ pub extern "C" fn realm_audit(alloc: Global, text: &[u8], out: &mut Verdict) -> 
 
 impl Audited {
     fn status(self) -> u32
-        ensures { result ≡ audit_status self }
+        ensures number { result ≡ audit_status self }
+        ensures no_length { result ≢ 9 }
     {
         match self {
             Audited::Lawful => DONE,
@@ -86,9 +87,10 @@ fn audit_behind(alloc: Global, checked: &Checked, back: &[u8]) -> Audited
     requires short { length back.now < 2 ^ 32 }
     ensures says { TraceSays checked.now.graph back.now result }
 {
-    match read_trace(alloc, checked.graph(), back) {
+    let graph = checked.graph();
+    match read_trace(alloc, graph, back) {
         Ok(trace) => audit_trace(alloc, checked, &trace),
-        Err(TraceRefusal::Line(number)) => Audited::NoTrace(number_behind(checked.graph(), number)),
+        Err(TraceRefusal::Line(number)) => Audited::NoTrace(number_behind(graph, number)),
         Err(TraceRefusal::NoMemory) => Audited::Refused(Refusal::NoMemory),
     }
 }

@@ -52,7 +52,9 @@ pub extern "C" fn realm_eval(alloc: Global, text: &[u8], out: &mut [u8], written
 fn report_of(alloc: Global, checked: &Checked) -> Option<Vec<u8>>
     ensures { IfSome result (λ report. report.items ≡ evaluation_report checked.now.graph) }
 {
-    let outcome = eval(alloc, checked).ok()?;
+    let Ok(outcome) = eval(alloc, checked) else {
+        return None;
+    };
     report_text(alloc, checked.graph(), &outcome)
 }
 
@@ -62,6 +64,8 @@ fn report_text(alloc: Global, graph: &Graph, found: &Outcome) -> Option<Vec<u8>>
     ensures { IfSome result (λ report. report.items ≡ evaluation_report graph.now) }
 {
     let mut sink = TextSink::new(alloc);
-    put_report(&mut sink, graph, found).ok()?;
-    Some(sink.into_bytes())
+    match put_report(&mut sink, graph, found) {
+        Ok(()) => Some(sink.into_bytes()),
+        Err(_) => None,
+    }
 }

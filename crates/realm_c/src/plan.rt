@@ -73,8 +73,12 @@ fn plan_of(alloc: Global, checked: &Checked, processors: u32) -> Option<Vec<u8>>
     requires { (1 ≤ processors) × (processors ≤ 8) }
     ensures { IfSome result (λ found. IsTimelineText processors checked.now.graph found.items) }
 {
-    let timeline = plan(alloc, checked, processors).ok()?;
+    let Ok(timeline) = plan(alloc, checked, processors) else {
+        return None;
+    };
     let mut sink = TextSink::new(alloc);
-    put_timeline(&mut sink, checked.graph(), &timeline).ok()?;
-    Some(sink.into_bytes())
+    match put_timeline(&mut sink, checked.graph(), &timeline) {
+        Ok(()) => Some(sink.into_bytes()),
+        Err(_) => None,
+    }
 }

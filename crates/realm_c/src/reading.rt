@@ -30,6 +30,9 @@ impl Refusal {
     pub(crate) fn status(self) -> u32
         ensures number { result ≡ status_of self }
         ensures some { result ≢ 0 }
+        ensures no_usage { result ≢ 2 }
+        ensures no_cut { result ≢ 6 }
+        ensures no_length { result ≢ 9 }
     {
         match self {
             Refusal::Unread(..) => UNREAD,

@@ -52,6 +52,8 @@ pub(crate) fn graph_text(alloc: Global, graph: &Graph) -> Option<Vec<u8>>
     ensures { IfSome result (λ found. found.items ≡ text_of graph.now) }
 {
     let mut sink = TextSink::new(alloc);
-    put_graph(&mut sink, graph).ok()?;
-    Some(sink.into_bytes())
+    match put_graph(&mut sink, graph) {
+        Ok(()) => Some(sink.into_bytes()),
+        Err(_) => None,
+    }
 }
