@@ -1,15 +1,12 @@
 -- How refusals of a text and of its graph go together.
-use Rattle.std.proofs.Common.{◌≡◌, ◌≢◌, ℕ, List, subst}
+use Rattle.std.proofs.Common.{◌≡◌, ℕ, List, subst}
 use Rattle.graph_model.specs.declared.graph.why.Why.{Why}
 use Rattle.graph_model.specs.graph.Graph.{GraphValue}
 use Rattle.graph_model.specs.meaning.Rules.{Accepted}
 use Rattle.graph_reader.specs.FirstFault.{FirstFault}
 use Rattle.graph_reader.specs.Laws.{OneReading}
 use Rattle.graph_reader.specs.Text.{GraphText}
-use Rattle.race_check.specs.Refusal.{IsRefusal, NamesLines}
-use Rattle.race_check.specs.declared.checked.CheckRefusal.{CheckRefusal}
-use Rattle.race_check.specs.declared.checked.CheckRefusal.TheVariants as rule
-use Rattle.realm_c.specs.Refusals.{Breaks, IsReadRefusal, IsRuleRefusal, IsCheckRefusal}
+use Rattle.realm_c.specs.Refusals.{IsReadRefusal, IsRuleRefusal, IsCheckRefusal}
 use Rattle.realm_c.specs.declared.reading.Refusal.{Refusal}
 use Rattle.realm_c.specs.declared.reading.Refusal.TheVariants.{Unread, Unfit, NoMemory}
 
@@ -26,13 +23,9 @@ refused_as_judged bytes g (Unfit why) t x = (g, (t, x))
 refused_as_judged bytes g NoMemory t x = tt
 
 -- a text with a first fault has no graph
-pub no_graph : (bytes : List ℕ) → OneReading bytes → (n : ℕ) (why : Why) → FirstFault bytes n why → {X : Type 0} → (g : GraphValue) → GraphText bytes g → X
-no_graph bytes one n why fault g t = absurd (one.not_both (g, t) (n, (why, fault)))
+pub no_graph : (bytes : List ℕ) → OneReading bytes → (n : ℕ) (why : Why) → FirstFault bytes n why → (g : GraphValue) → GraphText bytes g → ⊥
+no_graph bytes one n why fault g t = one.not_both (g, t) (n, (why, fault))
 
 -- what holds where the graph of a text is accepted
 pub by_its_graph : (bytes : List ℕ) → OneReading bytes → (g : GraphValue) → GraphText bytes g → {X : Type 0} → (Accepted g → X) → (h : GraphValue) → GraphText bytes h → Accepted h → X
 by_its_graph bytes one g t f h u a = f (subst Accepted (one.one_graph h g u t) a)
-
--- a graph that was refused by a rule breaks it
-pub breaks : (g : GraphValue) (why : CheckRefusal) → why ≢ rule.NoMemory → IsRefusal g why → NamesLines g why → (Accepted g → why ≡ rule.NoMemory) → Breaks g why
-breaks g why ne r l complete = record { no_memory = ne; refused = r; lines = l; broken = λ a. ne (complete a) }

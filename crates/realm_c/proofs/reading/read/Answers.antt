@@ -7,4 +7,4 @@ pub returns-in-Err-Line-clause-complete : goal.returns-in-Err-Line-clause-comple
 returns-in-Err-Line-clause-complete c =
     let bytes = c.args.text.now in
     let fault : FirstFault bytes c.in-Err-Line.number c.in-Err-Line.why = search rules in
-    λ g t. no_graph bytes (c.bytes_have_one_reading.ensures bytes) c.in-Err-Line.number c.in-Err-Line.why fault g t
+    λ g t. absurd (no_graph bytes (c.bytes_have_one_reading.ensures bytes) c.in-Err-Line.number c.in-Err-Line.why fault g t)
