@@ -22,17 +22,17 @@ fault_of g h trace why e ne r l not = subst (λ x. HasFault x trace why) e (reco
 
 -- a trace that was read and judged
 pub found_says : (g : GraphValue) (bytes trace : List ℕ) → HasTrace g bytes trace → (a : Audited) → TraceFound g trace a → TraceSays g bytes a
-found_says g bytes trace h Lawful f = (trace, (h, f))
+found_says g bytes trace h Lawful f = (trace, h, f)
 found_says g bytes trace h (Refused r) f = f
 found_says g bytes trace h (NoTrace n) f = absurd f
-found_says g bytes trace h (Unlawful why) f = (trace, (h, f))
+found_says g bytes trace h (Unlawful why) f = (trace, h, f)
 
 -- what is behind the text of an accepted graph was judged
 pub text_says : (bytes : List ℕ) (g : GraphValue) → GraphText (graph_bytes bytes) g → Accepted g → (a : Audited) → TraceSays g (trace_bytes bytes) a → AuditSays bytes a
-text_says bytes g t acc Lawful s = (g, (t, (acc, s)))
+text_says bytes g t acc Lawful s = (g, t, acc, s)
 text_says bytes g t acc (Refused r) s = subst (IsCheckRefusal (graph_bytes bytes)) (sym s) tt
-text_says bytes g t acc (NoTrace n) s = (g, (t, (acc, s)))
-text_says bytes g t acc (Unlawful why) s = (g, (t, (acc, s)))
+text_says bytes g t acc (NoTrace n) s = (g, t, acc, s)
+text_says bytes g t acc (Unlawful why) s = (g, t, acc, s)
 
 -- the bytes behind a graph are the text of no trace, of a graph that is the same
 pub no_trace_of : (g h k : GraphValue) (bytes : List ℕ) (number n : ℕ) → g ≡ h → k ≡ h → IsTraceFault g bytes number → IsNoText g bytes → n ≡ line_count k + 1 + number → HasNoTrace h bytes n

@@ -19,12 +19,12 @@ refused_as_read bytes NoMemory x = tt
 -- a text whose graph is refused
 pub refused_as_judged : (bytes : List ℕ) (g : GraphValue) (r : Refusal) → GraphText bytes g → IsRuleRefusal g r → IsCheckRefusal bytes r
 refused_as_judged bytes g (Unread n why) t x = absurd x
-refused_as_judged bytes g (Unfit why) t x = (g, (t, x))
+refused_as_judged bytes g (Unfit why) t x = (g, t, x)
 refused_as_judged bytes g NoMemory t x = tt
 
 -- a text with a first fault has no graph
 pub no_graph : (bytes : List ℕ) → OneReading bytes → (n : ℕ) (why : Why) → FirstFault bytes n why → (g : GraphValue) → GraphText bytes g → ⊥
-no_graph bytes one n why fault g t = one.not_both (g, t) (n, (why, fault))
+no_graph bytes one n why fault g t = one.not_both (g, t) (n, why, fault)
 
 -- what holds where the graph of a text is accepted
 pub by_its_graph : (bytes : List ℕ) → OneReading bytes → (g : GraphValue) → GraphText bytes g → {X : Type 0} → (Accepted g → X) → (h : GraphValue) → GraphText bytes h → Accepted h → X
