@@ -1,0 +1,40 @@
+-- What becomes of a trace, from its parts to the whole input.
+use Rattle.std.proofs.Common.{◌≡◌, ◌≢◌, ℕ, ◌+◌, List, sym, subst, ◌∙◌}
+use Rattle.graph_model.specs.graph.Graph.{GraphValue}
+use Rattle.graph_model.specs.meaning.Rules.{Accepted}
+use Rattle.graph_model.specs.meaning.Trace.{IsLawful}
+use Rattle.graph_reader.specs.Text.{GraphText}
+use Rattle.realm_audit.specs.Lawful.{IsRefusal, NamesLines}
+use Rattle.graph_reader.specs.FirstFault.{line_count}
+use Rattle.realm_audit.specs.Reading.{IsTraceFault, IsNoText}
+use Rattle.realm_audit.specs.Parts.{graph_bytes, trace_bytes}
+use Rattle.realm_audit.specs.declared.refusal.AuditRefusal.{AuditRefusal}
+use Rattle.realm_audit.specs.declared.refusal.AuditRefusal.TheVariants as fault
+use Rattle.realm_top.specs.AuditAnswer.{HasTrace}
+use Rattle.realm_c.specs.Audits.{HasFault, HasNoTrace, TraceFound, TraceSays, AuditSays}
+use Rattle.realm_c.specs.Refusals.{IsCheckRefusal}
+use Rattle.realm_c.specs.declared.audit.Audited.{Audited}
+use Rattle.realm_c.specs.declared.audit.Audited.TheVariants.{Lawful, Refused, NoTrace, Unlawful}
+
+-- the fault of a trace, of a graph that is the same
+pub fault_of : (g h : GraphValue) (trace : List ℕ) (why : AuditRefusal) → g ≡ h → why ≢ fault.NoMemory → IsRefusal g trace why → NamesLines g trace why → (IsLawful g trace → ⊥) → HasFault h trace why
+fault_of g h trace why e ne r l not = subst (λ x. HasFault x trace why) e (record { no_memory = ne; refused = r; names = l; unlawful = not })
+
+-- a trace that was read and judged
+pub found_says : (g : GraphValue) (bytes trace : List ℕ) → HasTrace g bytes trace → (a : Audited) → TraceFound g trace a → TraceSays g bytes a
+found_says g bytes trace h Lawful f = (trace, h, f)
+found_says g bytes trace h (Refused r) f = f
+found_says g bytes trace h (NoTrace n) f = absurd f
+found_says g bytes trace h (Unlawful why) f = (trace, h, f)
+
+-- what is behind the text of an accepted graph was judged
+pub text_says : (bytes : List ℕ) (g : GraphValue) → GraphText (graph_bytes bytes) g → Accepted g → (a : Audited) → TraceSays g (trace_bytes bytes) a → AuditSays bytes a
+text_says bytes g t acc Lawful s = (g, t, acc, s)
+text_says bytes g t acc (Refused r) s = subst (IsCheckRefusal (graph_bytes bytes)) (sym s) tt
+text_says bytes g t acc (NoTrace n) s = (g, t, acc, s)
+text_says bytes g t acc (Unlawful why) s = (g, t, acc, s)
+
+-- the bytes behind a graph are the text of no trace, of a graph that is the same
+pub no_trace_of : (g h k : GraphValue) (bytes : List ℕ) (number n : ℕ) → g ≡ h → k ≡ h → IsTraceFault g bytes number → IsNoText g bytes → n ≡ line_count k + 1 + number → HasNoTrace h bytes n
+no_trace_of g h k bytes number n e f is none counted =
+    subst (λ x. HasNoTrace x bytes n) e (record { «number» = number; is_fault = is; no_text = none; «counted» = subst (λ x. n ≡ line_count x + 1 + number) (f ∙ sym e) counted })

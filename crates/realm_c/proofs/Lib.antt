@@ -1,0 +1,3 @@
+mod Auditing
+mod Handing
+mod Refusing

@@ -1,0 +1,65 @@
+-- What becomes of the text of a graph with that of a trace behind it.
+use Rattle.std.specs.Prelude.{◌≡◌, ◌≢◌, ℕ, ◌+◌, List}
+use Rattle.graph_model.specs.graph.Graph.{GraphValue}
+use Rattle.graph_model.specs.meaning.Rules.{Accepted}
+use Rattle.graph_model.specs.meaning.Trace.{IsLawful}
+use Rattle.graph_reader.specs.FirstFault.{line_count}
+use Rattle.graph_reader.specs.Text.{GraphText}
+use Rattle.realm_audit.specs.Lawful.{IsRefusal, NamesLines}
+use Rattle.realm_audit.specs.Parts.{graph_bytes, trace_bytes}
+use Rattle.realm_audit.specs.Reading.{IsTraceFault, IsNoText}
+use Rattle.realm_audit.specs.declared.refusal.AuditRefusal.{AuditRefusal}
+use Rattle.realm_audit.specs.declared.refusal.AuditRefusal.TheVariants as fault
+use Rattle.realm_top.specs.AuditAnswer.{HasTrace}
+use Rattle.realm_c.specs.Numbers.{nothing, verdict_of, no_trace, faulty}
+use Rattle.realm_c.specs.Refusals.{status_of, IsCheckRefusal}
+use Rattle.realm_c.specs.declared.audit.Audited.{Audited}
+use Rattle.realm_c.specs.declared.audit.Audited.TheVariants.{Lawful, Refused, NoTrace, Unlawful}
+use Rattle.realm_c.specs.declared.reading.Refusal.TheVariants.{NoMemory}
+use Rattle.realm_c.specs.declared.verdict.Verdict.{Verdict}
+
+-- the number of an answer, and what is told beside it
+abbrev pub audit_status : Audited → ℕ
+audit_status Lawful = 0
+audit_status (Refused r) = status_of r
+audit_status (NoTrace n) = 3
+audit_status (Unlawful why) = 10
+
+abbrev pub audit_verdict : Audited → Verdict
+audit_verdict Lawful = nothing
+audit_verdict (Refused r) = verdict_of r
+audit_verdict (NoTrace n) = no_trace n
+audit_verdict (Unlawful why) = faulty why
+
+-- the trace has this fault, and none comes before it
+pub record HasFault (g : GraphValue) (trace : List ℕ) (why : AuditRefusal) : Type 0 where
+  pub no_memory : why ≢ fault.NoMemory
+  pub refused : IsRefusal g trace why
+  pub names : NamesLines g trace why
+  pub unlawful : IsLawful g trace → ⊥
+
+-- the bytes behind the text of the graph are the text of no trace; the line of this number, counted from the first line of the graph's text, is the first with which none begins
+pub record HasNoTrace (g : GraphValue) (bytes : List ℕ) (n : ℕ) : Type 0 where
+  pub number : ℕ
+  pub is_fault : IsTraceFault g bytes number
+  pub no_text : IsNoText g bytes
+  pub counted : n ≡ line_count g + 1 + number
+
+-- what this says of a trace of an accepted graph; want of memory says nothing
+abbrev pub TraceFound : GraphValue → List ℕ → Audited → Type 0
+TraceFound g trace Lawful = IsLawful g trace
+TraceFound g trace (Refused r) = r ≡ NoMemory
+TraceFound g trace (NoTrace n) = ⊥
+TraceFound g trace (Unlawful why) = HasFault g trace why
+
+-- what this says of an accepted graph and the bytes behind its text; want of memory says nothing
+abbrev pub TraceSays : GraphValue → List ℕ → Audited → Type 0
+TraceSays g bytes Lawful = (trace : List ℕ) × HasTrace g bytes trace × IsLawful g trace
+TraceSays g bytes (Refused r) = r ≡ NoMemory
+TraceSays g bytes (NoTrace n) = HasNoTrace g bytes n
+TraceSays g bytes (Unlawful why) = (trace : List ℕ) × HasTrace g bytes trace × HasFault g trace why
+
+-- what this says of an input
+abbrev pub AuditSays : List ℕ → Audited → Type 0
+AuditSays bytes (Refused r) = IsCheckRefusal (graph_bytes bytes) r
+AuditSays bytes a = (g : GraphValue) × GraphText (graph_bytes bytes) g × Accepted g × TraceSays g (trace_bytes bytes) a

@@ -1,0 +1,5 @@
+pub mod Audits
+pub mod Buffers
+pub mod Numbers
+pub mod Refusals
+pub mod Words

@@ -1,0 +1,119 @@
+//! Whether a trace is lawful.
+
+ghost use Rattle.std.specs.Prelude.{◌≡◌, ◌≢◌, ◌+◌, ◌<◌, ◌≤◌, ◌^◌, length};
+ghost use Rattle.graph_reader.specs.FirstFault.{line_count};
+ghost use Rattle.realm_audit.specs.Reading.{AreLines};
+ghost use Rattle.realm_top.specs.AuditAnswer.{AUDIT_LIMIT};
+ghost use Rattle.realm_c.specs.Audits.{audit_status, audit_verdict, AuditSays, TraceFound, TraceSays};
+ghost use Rattle.realm_c.specs.declared.audit.Audited.{Audited as TheAudited};
+
+use crate::reading::{Refusal, read_checked};
+use crate::status::{DONE, TOO_LONG, UNLAWFUL, UNREAD};
+use crate::verdict::Verdict;
+use graph_model::graph::Graph;
+use graph_model::limits::MAX_TEXT;
+use graph_model::lists::LineList;
+use plain_eval::evaluation::eval;
+use race_check::checked::Checked;
+use realm_audit::{AuditRefusal, TraceRefusal, audit, parts, read_trace};
+use std::alloc::Global;
+
+/// What was found of the text of a graph with that of a trace behind it.
+#[derive(Clone, Copy, Debug, PartialEq, Eq)]
+pub(crate) enum Audited {
+    Lawful,
+    /// The graph is refused, or memory ran out.
+    Refused(Refusal),
+    /// This line is the first with which no text of a trace begins.
+    NoTrace(u64),
+    Unlawful(AuditRefusal),
+}
+
+/// Reads a graph from its text and a trace from the text behind it, and says whether the graph is accepted and the trace
+/// lawful: 0 where they are; 3, 4, 7, 9 or 10, with why. Each other answer than 7 and 9 says what it stands for.
+#[unsafe(no_mangle)]
+pub extern "C" fn realm_audit(alloc: Global, text: &[u8], out: &mut Verdict) -> u32
+    ensures too_long { result ≡ 9 → AUDIT_LIMIT < length text.now }
+    ensures short { result ≢ 9 → length text.now ≤ AUDIT_LIMIT }
+    ensures audited { result ≢ 9 → (a : TheAudited) × AuditSays text.now a × (result ≡ audit_status a) × (out.new ≡ audit_verdict a) }
+{
+    if text.len() as u64 > 2 * MAX_TEXT {
+        *out = Verdict::nothing();
+        return TOO_LONG;
+    }
+    let found = audit_text(alloc, text);
+    *out = found.verdict();
+    found.status()
+}
+
+impl Audited {
+    fn status(self) -> u32
+        ensures number { result ≡ audit_status self }
+        ensures no_length { result ≢ 9 }
+    {
+        match self {
+            Audited::Lawful => DONE,
+            Audited::Refused(refusal) => refusal.status(),
+            Audited::NoTrace(_) => UNREAD,
+            Audited::Unlawful(_) => UNLAWFUL,
+        }
+    }
+
+    fn verdict(self) -> Verdict
+        ensures { result ≡ audit_verdict self }
+    {
+        match self {
+            Audited::Lawful => Verdict::nothing(),
+            Audited::Refused(refusal) => Verdict::of(refusal),
+            Audited::NoTrace(number) => Verdict::no_trace(number),
+            Audited::Unlawful(why) => Verdict::faulty(why),
+        }
+    }
+}
+
+fn audit_text(alloc: Global, text: &[u8]) -> Audited
+    requires short { length text.now ≤ AUDIT_LIMIT }
+    ensures says { AuditSays text.now result }
+{
+    let (front, back) = parts(text);
+    match read_checked(alloc, front) {
+        Ok(checked) => audit_behind(alloc, &checked, back),
+        Err(refusal) => Audited::Refused(refusal),
+    }
+}
+
+/// Reads a trace behind an accepted graph, and judges it.
+fn audit_behind(alloc: Global, checked: &Checked, back: &[u8]) -> Audited
+    requires short { length back.now < 2 ^ 32 }
+    ensures says { TraceSays checked.now.graph back.now result }
+{
+    let graph = checked.graph();
+    match read_trace(alloc, graph, back) {
+        Ok(trace) => audit_trace(alloc, checked, &trace),
+        Err(TraceRefusal::Line(number)) => Audited::NoTrace(number_behind(graph, number)),
+        Err(TraceRefusal::NoMemory) => Audited::Refused(Refusal::NoMemory),
+    }
+}
+
+/// The number of a line behind the text of a graph, counted with the lines of that text.
+fn number_behind(graph: &Graph, number: u32) -> u64
+    ensures { result ≡ line_count graph.now + 1 + number }
+{
+    // the lines of the text that are no items are its first and its last
+    u64::from(graph.decls()) + u64::from(graph.lines()) + 2 + u64::from(number)
+}
+
+/// Evaluates a graph, and judges a trace of it.
+fn audit_trace(alloc: Global, checked: &Checked, trace: &LineList) -> Audited
+    requires lines { AreLines checked.now.graph trace.now }
+    ensures { TraceFound checked.now.graph trace.now result }
+{
+    let Ok(outcome) = eval(alloc, checked) else {
+        return Audited::Refused(Refusal::NoMemory);
+    };
+    match audit(alloc, checked.graph(), &outcome.ends, trace) {
+        Ok(()) => Audited::Lawful,
+        Err(AuditRefusal::NoMemory) => Audited::Refused(Refusal::NoMemory),
+        Err(why) => Audited::Unlawful(why),
+    }
+}

@@ -1,0 +1,51 @@
+//! The check of a graph.
+
+ghost use Rattle.std.specs.Prelude.{◌≡◌, ◌≢◌, ℕ, ◌<◌, ◌≤◌, ◌⊎◌, length};
+ghost use Rattle.graph_model.specs.graph.Graph.{GraphValue};
+ghost use Rattle.graph_model.specs.meaning.Need.{IsNeed};
+ghost use Rattle.graph_model.specs.meaning.Rules.{Accepted};
+ghost use Rattle.graph_reader.specs.Text.{GraphText};
+ghost use Rattle.realm_c.specs.Numbers.{needing, verdict_of};
+ghost use Rattle.realm_c.specs.Refusals.{status_of, IsCheckRefusal};
+ghost use Rattle.realm_c.specs.declared.reading.Refusal.{Refusal as TheRefusal};
+
+use crate::reading::read_checked;
+use crate::status::{DONE, TOO_LONG};
+use crate::verdict::Verdict;
+use graph_model::limits::{MAX_LINES, MAX_TEXT};
+use race_check::checked::Checked;
+use std::alloc::Global;
+
+/// Reads a graph from its text and checks it: 0 where it is accepted, with its need; else 3, 4, 7 or 9, with why.
+#[unsafe(no_mangle)]
+pub extern "C" fn realm_check(alloc: Global, text: &[u8], out: &mut Verdict) -> u32
+    ensures accepted { result ≡ 0 → (g : GraphValue) × (need : ℕ) × GraphText text.now g × Accepted g × IsNeed g need
+        × (need ≤ MAX_LINES) × (out.new ≡ needing need) }
+    ensures too_long { result ≡ 9 → MAX_TEXT < length text.now }
+    ensures short { result ≢ 9 → length text.now ≤ MAX_TEXT }
+    ensures refused { result ≢ 0 → result ≢ 9 → (r : TheRefusal) × IsCheckRefusal text.now r × (result ≡ status_of r) × (out.new ≡ verdict_of r) }
+    ensures complete { (g : GraphValue) → GraphText text.now g → Accepted g → (result ≡ 0) ⊎ (result ≡ 7) }
+{
+    if text.len() as u64 > MAX_TEXT {
+        *out = Verdict::nothing();
+        return TOO_LONG;
+    }
+    match read_checked(alloc, text) {
+        Ok(checked) => {
+            *out = Verdict::needing(need_of(&checked));
+            DONE
+        }
+        Err(refusal) => {
+            *out = Verdict::of(refusal);
+            refusal.status()
+        }
+    }
+}
+
+/// The need of an accepted graph, which is at most the most lines of one.
+fn need_of(checked: &Checked) -> u32
+    ensures need { (result ≡ checked.now.need) × (result ≤ MAX_LINES) }
+{
+    let _ = checked.graph().lines();
+    checked.need()
+}

@@ -1,0 +1,71 @@
+//! The evaluation of a graph.
+
+ghost use Rattle.std.specs.Prelude.{◌≡◌, ◌≢◌, ◌<◌, ◌≤◌, ◌⊎◌, length, IfSome};
+ghost use Rattle.graph_model.specs.graph.Graph.{GraphValue};
+ghost use Rattle.graph_model.specs.meaning.Evaluation.{outcome, order};
+ghost use Rattle.graph_model.specs.meaning.Rules.{Accepted};
+ghost use Rattle.graph_reader.specs.Text.{GraphText};
+ghost use Rattle.realm_top.specs.Answer.{evaluation_report};
+ghost use Rattle.realm_c.specs.Buffers.{Holds, IsCut};
+ghost use Rattle.realm_c.specs.Refusals.{status_of, IsCheckRefusal};
+ghost use Rattle.realm_c.specs.declared.reading.Refusal.{Refusal as TheRefusal};
+
+use crate::buffer::hand_out;
+use crate::reading::read_checked;
+use crate::status::{NO_MEMORY, TOO_LONG};
+use crate::text_sink::TextSink;
+use graph_model::graph::Graph;
+use graph_model::limits::MAX_TEXT;
+use graph_model::outcome::Outcome;
+use plain_eval::evaluation::eval;
+use race_check::checked::Checked;
+use realm_top::report::put_report;
+use std::alloc::Global;
+
+/// Reads a graph from its text, evaluates it on one thread, and puts the report of that into `out` with its length beside
+/// it: 0; 6 exactly where `out` is too short for it, and it is cut; else 3, 4, 7 or 9, and nothing is put.
+#[unsafe(no_mangle)]
+pub extern "C" fn realm_eval(alloc: Global, text: &[u8], out: &mut [u8], written: &mut u64) -> u32
+    ensures done { result ≡ 0 → (g : GraphValue) × GraphText text.now g × Accepted g × Holds (evaluation_report g) out.old out.new written.new }
+    ensures cut { result ≡ 6 → (g : GraphValue) × GraphText text.now g × Accepted g × IsCut (evaluation_report g) out.old out.new written.new }
+    ensures too_long { result ≡ 9 → MAX_TEXT < length text.now }
+    ensures short { result ≢ 9 → length text.now ≤ MAX_TEXT }
+    ensures refused { result ≢ 0 → result ≢ 6 → result ≢ 9 → (r : TheRefusal) × IsCheckRefusal text.now r × (result ≡ status_of r) }
+    ensures untouched { result ≢ 0 → result ≢ 6 → (out.new ≡ out.old) × (written.new ≡ 0) }
+    ensures complete { (g : GraphValue) → GraphText text.now g → Accepted g → (result ≡ 0) ⊎ ((result ≡ 6) ⊎ (result ≡ 7)) }
+{
+    *written = 0;
+    if text.len() as u64 > MAX_TEXT {
+        return TOO_LONG;
+    }
+    let checked = match read_checked(alloc, text) {
+        Ok(checked) => checked,
+        Err(refusal) => return refusal.status(),
+    };
+    match report_of(alloc, &checked) {
+        Some(report) => hand_out(report.as_slice(), out, written),
+        None => NO_MEMORY,
+    }
+}
+
+/// The report of the evaluation. None comes where memory ran out.
+fn report_of(alloc: Global, checked: &Checked) -> Option<Vec<u8>>
+    ensures { IfSome result (λ report. report.items ≡ evaluation_report checked.now.graph) }
+{
+    let Ok(outcome) = eval(alloc, checked) else {
+        return None;
+    };
+    report_text(alloc, checked.graph(), &outcome)
+}
+
+/// The text of the report.
+fn report_text(alloc: Global, graph: &Graph, found: &Outcome) -> Option<Vec<u8>>
+    requires { found.now ≡ outcome graph.now (order graph.now) }
+    ensures { IfSome result (λ report. report.items ≡ evaluation_report graph.now) }
+{
+    let mut sink = TextSink::new(alloc);
+    match put_report(&mut sink, graph, found) {
+        Ok(()) => Some(sink.into_bytes()),
+        Err(_) => None,
+    }
+}

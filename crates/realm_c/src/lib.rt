@@ -1,0 +1,17 @@
+//! Graphs and traces, for callers in C: each call takes a text, or numbers, and fills a verdict or a buffer.
+#![tactic(auto)]
+
+mod audit;
+mod buffer;
+mod check;
+mod eval;
+mod making;
+mod plan;
+mod reading;
+mod status;
+#[cfg(test)]
+mod tests;
+mod text_sink;
+mod upgrade;
+mod verdict;
+mod words;

@@ -1,0 +1,84 @@
+//! Plans in virtual time.
+
+ghost use Rattle.std.specs.Prelude.{◌≡◌, ◌≢◌, ℕ, ◌<◌, ◌≤◌, ◌⊎◌, List, length, true, false, IfSome};
+ghost use Rattle.graph_model.specs.graph.Graph.{GraphValue};
+ghost use Rattle.graph_model.specs.meaning.Rules.{Accepted};
+ghost use Rattle.graph_reader.specs.Text.{GraphText};
+ghost use Rattle.realm_top.specs.Answer.{IsTimelineText};
+ghost use Rattle.realm_c.specs.Buffers.{Holds, IsCut};
+ghost use Rattle.realm_c.specs.Refusals.{status_of, IsCheckRefusal};
+ghost use Rattle.realm_c.specs.declared.reading.Refusal.{Refusal as TheRefusal};
+
+use crate::buffer::hand_out;
+use crate::reading::read_checked;
+use crate::status::{NO_MEMORY, TOO_LONG, USAGE};
+use crate::text_sink::TextSink;
+use graph_model::limits::MAX_TEXT;
+use race_check::checked::Checked;
+use realm_timeline::text::put_timeline;
+use realm_timeline::timeline::plan;
+use std::alloc::Global;
+
+/// Reads a graph from its text, plans it on so many processors, and puts the text of the plan with its certificate into
+/// `out` with its length beside it: 0; 2 exactly where the processors are not 1 to 8; 6 exactly where `out` is too short
+/// for it, and it is cut; else 3, 4, 7 or 9, and nothing is put.
+#[unsafe(no_mangle)]
+pub extern "C" fn realm_plan(
+    alloc: Global,
+    text: &[u8],
+    processors: u32,
+    out: &mut [u8],
+    written: &mut u64,
+) -> u32
+    ensures done { result ≡ 0 → (g : GraphValue) × GraphText text.now g × Accepted g
+        × (plan : List ℕ) × IsTimelineText processors g plan × Holds plan out.old out.new written.new }
+    ensures cut { result ≡ 6 → (g : GraphValue) × GraphText text.now g × Accepted g
+        × (plan : List ℕ) × IsTimelineText processors g plan × IsCut plan out.old out.new written.new }
+    ensures usage { result ≡ 2 → (1 ≤ processors) × (processors ≤ 8) → ⊥ }
+    ensures few { result ≢ 2 → (1 ≤ processors) × (processors ≤ 8) }
+    ensures too_long { result ≡ 9 → MAX_TEXT < length text.now }
+    ensures short { result ≢ 9 → result ≢ 2 → length text.now ≤ MAX_TEXT }
+    ensures refused { result ≢ 0 → result ≢ 2 → result ≢ 6 → result ≢ 9 → (r : TheRefusal) × IsCheckRefusal text.now r × (result ≡ status_of r) }
+    ensures untouched { result ≢ 0 → result ≢ 6 → (out.new ≡ out.old) × (written.new ≡ 0) }
+    ensures complete { (g : GraphValue) → GraphText text.now g → Accepted g
+        → (result ≡ 0) ⊎ ((result ≡ 2) ⊎ ((result ≡ 6) ⊎ (result ≡ 7))) }
+{
+    *written = 0;
+    if !are_processors(processors) {
+        return USAGE;
+    }
+    if text.len() as u64 > MAX_TEXT {
+        return TOO_LONG;
+    }
+    let checked = match read_checked(alloc, text) {
+        Ok(checked) => checked,
+        Err(refusal) => return refusal.status(),
+    };
+    match plan_of(alloc, &checked, processors) {
+        Some(plan) => hand_out(plan.as_slice(), out, written),
+        None => NO_MEMORY,
+    }
+}
+
+/// Whether a plan may have so many processors.
+fn are_processors(processors: u32) -> bool
+    ensures yes { result ≡ true → (1 ≤ processors) × (processors ≤ 8) }
+    ensures no { result ≡ false → (1 ≤ processors) × (processors ≤ 8) → ⊥ }
+{
+    1 <= processors && processors <= 8
+}
+
+/// The text of the plan. None comes where memory ran out.
+fn plan_of(alloc: Global, checked: &Checked, processors: u32) -> Option<Vec<u8>>
+    requires { (1 ≤ processors) × (processors ≤ 8) }
+    ensures { IfSome result (λ found. IsTimelineText processors checked.now.graph found.items) }
+{
+    let Ok(timeline) = plan(alloc, checked, processors) else {
+        return None;
+    };
+    let mut sink = TextSink::new(alloc);
+    match put_timeline(&mut sink, checked.graph(), &timeline) {
+        Ok(()) => Some(sink.into_bytes()),
+        Err(_) => None,
+    }
+}

@@ -1,0 +1,59 @@
+//! The text of a graph in format 2.
+
+ghost use Rattle.std.specs.Prelude.{◌≡◌, ◌≢◌, ◌<◌, ◌≤◌, ◌⊎◌, length, IfSome};
+ghost use Rattle.graph_model.specs.graph.Graph.{GraphValue, upgraded};
+ghost use Rattle.graph_reader.specs.Text.{GraphText, text as text_of};
+ghost use Rattle.realm_c.specs.Buffers.{Holds, IsCut};
+ghost use Rattle.realm_c.specs.Refusals.{status_of, IsReadRefusal};
+ghost use Rattle.realm_c.specs.declared.reading.Refusal.{Refusal as TheRefusal};
+
+use crate::buffer::hand_out;
+use crate::reading::read;
+use crate::status::{NO_MEMORY, TOO_LONG};
+use crate::text_sink::TextSink;
+use graph_model::graph::Graph;
+use graph_model::limits::MAX_TEXT;
+use graph_reader::put_graph;
+use std::alloc::Global;
+
+/// Reads a graph from its text, and puts its text in format 2 into `out` with its length beside it, whether or not the
+/// graph is accepted: 0; 6 exactly where `out` is too short for it, and it is cut; else 3, 7 or 9, and nothing is put.
+#[unsafe(no_mangle)]
+pub extern "C" fn realm_upgrade(
+    alloc: Global,
+    text: &[u8],
+    out: &mut [u8],
+    written: &mut u64,
+) -> u32
+    ensures done { result ≡ 0 → (g : GraphValue) × GraphText text.now g × Holds (text_of (upgraded g)) out.old out.new written.new }
+    ensures cut { result ≡ 6 → (g : GraphValue) × GraphText text.now g × IsCut (text_of (upgraded g)) out.old out.new written.new }
+    ensures too_long { result ≡ 9 → MAX_TEXT < length text.now }
+    ensures short { result ≢ 9 → length text.now ≤ MAX_TEXT }
+    ensures refused { result ≢ 0 → result ≢ 6 → result ≢ 9 → (r : TheRefusal) × IsReadRefusal text.now r × (result ≡ status_of r) }
+    ensures untouched { result ≢ 0 → result ≢ 6 → (out.new ≡ out.old) × (written.new ≡ 0) }
+    ensures complete { (g : GraphValue) → GraphText text.now g → (result ≡ 0) ⊎ ((result ≡ 6) ⊎ (result ≡ 7)) }
+{
+    *written = 0;
+    if text.len() as u64 > MAX_TEXT {
+        return TOO_LONG;
+    }
+    let graph = match read(alloc, text) {
+        Ok(graph) => graph.upgrade(),
+        Err(refusal) => return refusal.status(),
+    };
+    match graph_text(alloc, &graph) {
+        Some(upgraded) => hand_out(upgraded.as_slice(), out, written),
+        None => NO_MEMORY,
+    }
+}
+
+/// The text of a graph. None comes where memory ran out.
+pub(crate) fn graph_text(alloc: Global, graph: &Graph) -> Option<Vec<u8>>
+    ensures { IfSome result (λ found. found.items ≡ text_of graph.now) }
+{
+    let mut sink = TextSink::new(alloc);
+    match put_graph(&mut sink, graph) {
+        Ok(()) => Some(sink.into_bytes()),
+        Err(_) => None,
+    }
+}
