@@ -1,0 +1,4 @@
+pub mod Entries
+pub mod Steps
+pub mod Naming
+pub mod Cells

@@ -1,0 +1,23 @@
+use Rattle.std.proofs.Common.{◌≡◌, ℕ, ◌+◌, ◌*◌, ◌<◌, ◌≤◌, length, take, ap, sym, ◌∙◌, refl, get_or, take_all, arith}
+use Rattle.std.specs.Prelude.{Some, sum_by, slice_get}
+use Rattle.index_spaces.specs.Space.{space_size}
+use Rattle.graph_model.specs.graph.Graph.{columns}
+use Rattle.session_text.proofs.Cells.{one_column, all_columns}
+use Rattle.session_text.proofs.so_far.cell_count.Goals as goal
+
+pub overflow_add-cells : goal.overflow_add-cells
+overflow_add-cells c = omega (arith, c.size.ensures.at_most, c.columns-c-end.ensures.few, c.loop-c.invariant.few)
+
+pub loop-c-preserved : goal.loop-c-preserved
+loop-c-preserved c =
+    let at : c.loop-c.c < length (columns c.args.graph.now) = omega arith in
+    record {
+      sum = one_column c.args.graph.now c.loop-c.c c.loop-c.cells c.from-cells.result at c.loop-c.invariant.sum (c.from-cells.ensures ∙ (c.size.ensures.size ∙ ap space_size c.column_space.ensures));
+      few = omega (arith, c.size.ensures.at_most, c.loop-c.invariant.few);
+    }
+
+pub returns-clause-few : goal.returns-clause-few
+returns-clause-few c = omega (arith, c.loop-c.invariant.few, c.columns-c-end.ensures.few)
+
+pub returns-clause-cells : goal.returns-clause-cells
+returns-clause-cells c = all_columns c.args.graph.now c.loop-c.c c.loop-c.cells (omega arith) c.loop-c.invariant.sum

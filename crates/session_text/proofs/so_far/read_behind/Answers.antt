@@ -1,0 +1,10 @@
+use Rattle.std.proofs.Common.{ℕ, ◌+◌, ◌≤◌, length, subst, arith}
+use Rattle.graph_reader.specs.Reading.{IsRefusal}
+use Rattle.session_text.proofs.Naming.{fault_within}
+use Rattle.session_text.proofs.so_far.read_behind.Goals as goal
+
+pub overflow_add-number : goal.overflow_add-number
+overflow_add-number c =
+    let f = subst (IsRefusal c.args.bytes.now) c.in-Err-Line.field-0-is c.in-Err-Line.ensures.refusal in
+    let n : c.in-Err-Line.inside ≤ length c.args.bytes.now + 2 = fault_within c.args.bytes.now c.in-Err-Line.inside c.in-Err-Line.why f in
+    omega (arith, n, c.requires.few)

@@ -1,0 +1,4 @@
+pub mod Session
+pub mod Fits
+pub mod FirstFault
+pub mod SoFar

@@ -1,0 +1,121 @@
+//! Links: their names, and what they name.
+
+ghost use Rattle.basics.specs.Words.{contents};
+ghost use Rattle.std.specs.Prelude.{◌≡◌, ◌∷◌, [], true, false, not, position, None, Some, IfOk, OnOk, MatchOption};
+ghost use Rattle.std.specs.List.{list_any};
+ghost use Rattle.std.specs.Str.{bytes_eq};
+ghost use Rattle.graph_model.specs.graph.Fits.{first_reason, is_used, line_fault, with_line};
+ghost use Rattle.graph_reader.specs.FirstFault.{is_line_name};
+ghost use Rattle.session_text.specs.Fits.{has_op, names_op, is_named, trigger_reason, with_trigger};
+ghost use Rattle.session_text.specs.FirstFault.{link_of};
+
+use crate::entry::{Entry, Link};
+use crate::words::word;
+use graph_model::found::Found;
+use graph_model::graph::Graph;
+use graph_model::name::Name;
+use graph_model::verb::{Line, Verb};
+use graph_model::why::Why;
+use index_spaces::NoMemory;
+
+/// The link of the words of its line. `None` exactly where one of them is not spelled as a name.
+pub(crate) fn link_of(words: &[&[u8]]) -> Option<Link>
+    ensures { MatchOption result (is_named (link_of (contents words.now)) ≡ false)
+        (λ l. (l ≡ link_of (contents words.now)) × (is_named l ≡ true)) }
+{
+    Some(Link {
+        line: Name::new(word(words, 1))?,
+        user: Name::new(word(words, 2))?,
+        graph: Name::new(word(words, 3))?,
+        op: Name::new(word(words, 4))?,
+    })
+}
+
+/// The number of the line of this name. `None` exactly where no line has it.
+fn find_line(graph: &Graph, name: &Name) -> Option<u32>
+    ensures { result ≡ position (λ l. bytes_eq l.name name.now) graph.now.lines }
+{
+    let _ = graph.lines();
+    match graph.find(name)? {
+        Found::Line(line) => Some(line),
+        _ => None,
+    }
+}
+
+/// Whether a line of the graph has this name.
+fn is_line_name(graph: &Graph, name: &Name) -> bool
+    ensures { result ≡ is_line_name graph.now name.now }
+{
+    find_line(graph, name).is_some()
+}
+
+/// Whether the graph has an operation of this name.
+fn has_op(entry: &Entry, name: &Name) -> bool
+    ensures { result ≡ has_op entry.now name.now }
+{
+    is_line_name(&entry.graph, name) || is_link_name(entry.links.items.as_slice(), name)
+}
+
+/// Whether one of these links has this name.
+fn is_link_name(links: &[Link], name: &Name) -> bool
+    ensures { result ≡ list_any (λ l. bytes_eq l.line name.now) links.now }
+{
+    links.iter().any(|link| link.line == *name)
+}
+
+/// Whether the graph that a link names is among these, and has its operation.
+pub(crate) fn names_op(before: &[Entry], link: &Link) -> bool
+    ensures { result ≡ names_op before.now link.now }
+{
+    before
+        .iter()
+        .any(|entry| entry.name == link.graph && has_op(entry, &link.op))
+}
+
+/// Puts the line of a link at the end as a trigger, where it fits, else the first reason that refuses it.
+pub(crate) fn add_trigger(graph: &mut Graph, link: &Link) -> Result<Option<Why>, NoMemory>
+    ensures fault { IfOk result (λ why. why ≡ trigger_reason graph.old link.now) }
+    ensures added { OnOk result (trigger_reason graph.old link.now ≡ None → graph.new ≡ with_trigger graph.old link.now) }
+{
+    match find_line(graph, &link.user) {
+        Some(user) => offer_trigger(graph, link.line, user),
+        None => Ok(Some(no_user_reason(graph, link))),
+    }
+}
+
+/// Puts a line that triggers the line of this number at the end, where it fits, else the first reason
+/// that refuses it.
+fn offer_trigger(graph: &mut Graph, name: Name, user: u32) -> Result<Option<Why>, NoMemory>
+    ensures fault { IfOk result (λ why. why ≡ line_fault graph.old (record { name = name; verb = Verb.Trigger user; on = None })) }
+    ensures added { OnOk result (line_fault graph.old (record { name = name; verb = Verb.Trigger user; on = None }) ≡ None
+        → graph.new ≡ with_line graph.old (record { name = name; verb = Verb.Trigger user; on = None })) }
+{
+    let line = Line {
+        name,
+        verb: Verb::Trigger { user },
+        on: None,
+    };
+    line.is_well_formed();
+    graph.offer_line(line)
+}
+
+/// Why the line of a link is refused whose user line is no line.
+fn no_user_reason(graph: &Graph, link: &Link) -> Why
+    ensures { Some result ≡ first_reason ((is_used graph.now link.now.line, Why.Twice) ∷ (not (is_used graph.now link.now.user), Why.Unknown) ∷ (true, Why.Kind) ∷ []) }
+{
+    if is_used(graph, &link.line) {
+        Why::Twice
+    } else if is_used(graph, &link.user) {
+        Why::Kind
+    } else {
+        Why::Unknown
+    }
+}
+
+/// Whether an item of the graph has this name.
+fn is_used(graph: &Graph, name: &Name) -> bool
+    ensures { result ≡ is_used graph.now name.now }
+{
+    let _ = graph.lines();
+    graph.find(name).is_some()
+}
