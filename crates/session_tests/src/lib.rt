@@ -11,4 +11,6 @@ mod memory_tests;
 #[cfg(test)]
 mod row_tests;
 #[cfg(test)]
+mod text_tests;
+#[cfg(test)]
 mod thread_tests;

@@ -1,16 +1,15 @@
 -- Graphs and links that are put at the end: they fit, and what their text, their lines and their cells are.
-use Rattle.std.proofs.Common.{◌≡◌, ℕ, ◌+◌, ◌≤◌, Bool, true, false, cond, List, [], ◌∷◌, ◌++◌, length, refl, sym, ◌∙◌, ap, subst, append_assoc, append-nil, length-append, arith}
-use Rattle.std.specs.Prelude.{Option, Some, None, flat_map, sum_by}
+use Rattle.std.proofs.Common.{◌≡◌, ℕ, ◌+◌, false, List, [], ◌∷◌, ◌++◌, length, refl, sym, ◌∙◌, ap, subst, append_assoc, append-nil, length-append, arith}
+use Rattle.std.specs.Prelude.{None, flat_map, sum_by}
 use Rattle.std.proofs.lemmas.Grind.{flat_map-append}
 use Rattle.std.proofs.lemmas.List.Sums.{sum_by_push}
 use Rattle.graph_model.specs.graph.Graph.{GraphValue}
 use Rattle.graph_model.specs.graph.Fits.{IsGraph, cell_count}
 use Rattle.graph_reader.specs.Text.{text}
-use Rattle.graph_reader.specs.FirstFault.{line_count}
 use Rattle.session_text.specs.declared.entry.Link.{Link}
 use Rattle.session_text.specs.declared.entry.Entry.{Entry}
 use Rattle.session_text.specs.Session.{graph_line, link_text, entry_text, first_text, session_head, entry_count, session_count}
-use Rattle.session_text.specs.Fits.{with_trigger, with_triggers, entry_lines, all_lines, all_cells, is_above, is_large, graph_reason, link_reason, with_link, bare_entry, LinksFit, EntryFits, EntriesFit, AreEntries}
+use Rattle.session_text.specs.Fits.{with_trigger, with_triggers, entry_lines, all_lines, all_cells, is_large, graph_reason, link_reason, with_link, bare_entry, LinksFit, EntryFits, EntriesFit, AreEntries}
 
 -- an entry with these links behind its own
 abbrev pub with_links : Entry → List Link → Entry

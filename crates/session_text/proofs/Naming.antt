@@ -1,7 +1,6 @@
 -- What is found of a name in a graph, and what the line of a link that triggers it is refused for.
-use Rattle.std.proofs.Common.{◌≡◌, ℕ, ◌+◌, ◌<◌, ◌≤◌, Bool, true, false, cond, not, List, [], ◌∷◌, length, refl, sym, ◌∙◌, ap, length-append, arith, inl, inr}
+use Rattle.std.proofs.Common.{◌≡◌, ℕ, ◌+◌, ◌≤◌, Bool, true, false, not, List, [], ◌∷◌, length, refl, sym, ◌∙◌, ap, length-append, arith, inl, inr}
 use Rattle.std.specs.Prelude.{Option, Some, None, is_some, MatchOption, position, unwrap_or, bytes_eq, codes}
-use Rattle.std.specs.List.{list_any}
 use Rattle.std.proofs.lemmas.Bool.{cond-true, cond-false}
 use Rattle.std.proofs.lemmas.Option.{none-some}
 use Rattle.graph_model.specs.declared.graph.found.Found.{Found}
@@ -15,10 +14,9 @@ use Rattle.graph_model.specs.graph.Names.{StandsFor}
 use Rattle.graph_model.specs.graph.Spelling.{head}
 use Rattle.graph_model.specs.graph.Fits.{IsGraph, first_reason, is_used, line_fault}
 use Rattle.graph_model.proofs.GraphPush.{long_head}
-use Rattle.graph_reader.specs.Draft.{line_number}
 use Rattle.graph_reader.specs.FirstFault.{is_line_name, line_count, FirstFault}
 use Rattle.graph_reader.specs.Text.{text}
-use Rattle.graph_reader.specs.Lookups.{IsFound, found_line}
+use Rattle.graph_reader.specs.Lookups.{found_line}
 use Rattle.graph_reader.proofs.Owners.{is_found, position_any}
 use Rattle.session_text.specs.declared.entry.Link.{Link}
 use Rattle.session_text.specs.Fits.{trigger_line, trigger_reason}

@@ -1,10 +1,10 @@
 -- What a line that was read adds to the graphs so far, and what is said of one that is refused.
-use Rattle.std.proofs.Common.{◌≡◌, ℕ, zero, suc, ◌+◌, ◌<◌, ◌≤◌, Bool, true, false, cond, not, ◌&&◌, ◌||◌, inl, inr, List, [], ◌∷◌, ◌++◌, ◌⊎◌, length, take, drop, refl, sym, ◌∙◌, ap, subst, append_assoc, append-nil, length-append, arith}
+use Rattle.std.proofs.Common.{◌≡◌, ℕ, ◌+◌, ◌<◌, ◌≤◌, Bool, true, false, cond, not, ◌&&◌, ◌||◌, inl, inr, List, [], ◌∷◌, ◌++◌, ◌⊎◌, length, refl, sym, ◌∙◌, ap, subst, append_assoc, append-nil, length-append, arith}
 use Rattle.std.specs.Prelude.{◌≢◌, ◌==◌, Option, Some, None, nat_lt, codes, flat_map, sum_by}
 use Rattle.std.specs.List.{list_any, join_with_byte}
 use Rattle.std.specs.Str.{bytes_eq}
-use Rattle.std.proofs.lemmas.Bool.{true≢false, cond-true, cond-false, and_parts, or_parts, or_from, or_left, or_right, lt-ltb, le-ltb, ltb-true, ltb-false, eqb-true}
-use Rattle.std.proofs.lemmas.Option.{none-some, same_Some}
+use Rattle.std.proofs.lemmas.Bool.{cond-true, cond-false, and_parts, or_parts, or_from, or_left, or_right, lt-ltb, le-ltb, ltb-true, ltb-false, eqb-true}
+use Rattle.std.proofs.lemmas.Option.{none-some}
 use Rattle.std.proofs.lemmas.List.{take-append-drop}
 use Rattle.std.proofs.lemmas.List.Sums.{sum_by-cons}
 use Rattle.std.proofs.lemmas.List.Folds.{list_any-append}
@@ -16,7 +16,7 @@ use Rattle.graph_model.specs.graph.Fits.{IsGraph, cell_count}
 use Rattle.graph_model.proofs.GraphPush.{long_head}
 use Rattle.graph_reader.specs.Words.{pieces}
 use Rattle.graph_reader.specs.Text.{text, GraphText}
-use Rattle.graph_reader.specs.FirstFault.{has_newline, first_line, is_empty, or_else, line_count, FirstFault}
+use Rattle.graph_reader.specs.FirstFault.{has_newline, first_line, is_empty, or_else, line_count}
 use Rattle.graph_reader.specs.Reading.{after_line}
 use Rattle.graph_reader.specs.Cuts.{IsCut}
 use Rattle.graph_reader.specs.declared.ReadRefusal.{ReadRefusal}
@@ -31,9 +31,9 @@ use Rattle.session_text.specs.declared.entry.Entry.{Entry}
 use Rattle.session_text.specs.declared.so_far.Last.{Last}
 use Rattle.session_text.specs.declared.so_far.SoFar.{SoFar}
 use Rattle.session_text.specs.Session.{graph_line, link_text, entry_text, first_text, closing, session_head, session_text, entry_count, session_count}
-use Rattle.session_text.specs.Fits.{with_trigger, with_triggers, trigger_reason, all_lines, all_cells, is_above, is_large, graph_reason, link_reason, with_link, bare_entry, names_op, is_named, EntryFits, AreEntries, SessionText}
+use Rattle.session_text.specs.Fits.{with_trigger, with_triggers, trigger_reason, all_lines, all_cells, is_above, is_large, graph_reason, link_reason, with_link, bare_entry, names_op, is_named, AreEntries, SessionText}
 use Rattle.session_text.specs.FirstFault.{word_at, is_graph_line, is_link_line, link_of, with_last, last_reason, words_reason, line_reason, next_reason, SessionFault, IsRefusal}
-use Rattle.session_text.specs.SoFar.{last_entry, entries_in, IsJudged, IsSoFar, HasRead, IsLineAt, IsRefusedBehind, added_reason, AddsLink, LinkAdded, GraphAdded}
+use Rattle.session_text.specs.SoFar.{last_entry, entries_in, IsJudged, IsSoFar, HasRead, IsLineAt, IsRefusedBehind, added_reason, LinkAdded, GraphAdded}
 use Rattle.session_text.proofs.Entries.{link_fits, push_entry, last_fits, bare_fits, triggers_push, lines_push, cells_push, count_push, head_push, head_link, count_link, lines_link, cells_link}
 
 -- a line that is refused by its words
@@ -42,11 +42,12 @@ refused_line bytes rest s ws after number w r l h =
     let before : List Entry = s.before.items in
     let last : Option Entry = last_entry s.last in
     let by_words : next_reason before last rest ≡ words_reason before last (pieces 32 (first_line rest)) = cond-true (has_newline rest) (line_reason before last (first_line rest)) (Some why.Missing) l.there
-        ∙ cond-false (bytes_eq (first_line rest) (codes "close")) None (words_reason before last (pieces 32 (first_line rest))) l.no_close in
+    ∙ cond-false (bytes_eq (first_line rest) (codes "close")) None (words_reason before last (pieces 32 (first_line rest))) l.no_close in
     inr (inl (record {
       before = before;
       last = last;
       rest = rest;
+      first = r.is_so_far.first;
       are_entries = r.is_so_far.entries;
       begins = r.begins;
       number_is = r.number_is;
@@ -59,6 +60,7 @@ missing_line bytes rest s number r h = inr (inl (record {
   before = s.before.items;
   last = last_entry s.last;
   rest = rest;
+  first = r.is_so_far.first;
   are_entries = r.is_so_far.entries;
   begins = r.begins;
   number_is = r.number_is;
@@ -146,6 +148,7 @@ so_far_link old new l r a h =
     let fits = last_fits before e (subst AreEntries was r.entries) in
     let judged : a.last_old.judged ≡ with_triggers e.graph e.links = subst IsJudged a.was r.judged in
     record {
+      first = λ none. absurd (none-some a.last_new.entry (sym none ∙ ap last_entry a.is));
       entries = subst AreEntries (sym is) (push_entry before (with_link e l) fits.0 (link_fits before e l fits.1 reason));
       judged = subst IsJudged (sym a.is) (a.adds.judged ∙ (ap (λ g. with_trigger g l) judged ∙ (sym (triggers_push e.graph e.links l) ∙ ap (λ (x : Entry). with_triggers x.graph x.links) (sym a.adds.entry))));
       lines = a.lines ∙ (ap (λ n. n + 1) (r.lines ∙ ap all_lines was) ∙ (sym (lines_link before e l) ∙ ap all_lines (sym is)));
@@ -181,6 +184,7 @@ so_far_graph old new name g lines cells r named graph a ls cs short =
     let every : cells ≡ all_cells (es ++ e ∷ []) = cs ∙ (ap (λ n. n + cell_count g) r.cells ∙ sym (cells_push es e)) in
     let few : is_large (es ++ e ∷ []) ≡ false = ap (λ n. is_above n (all_cells (es ++ e ∷ []))) (sym all) ∙ (ap (λ n. is_above lines n) (sym every) ∙ short) in
     record {
+      first = λ none. absurd (none-some e (sym none ∙ ap last_entry a.is));
       entries = subst AreEntries (sym is) (push_entry es e r.entries (bare_fits es name g named graph few));
       judged = subst IsJudged (sym a.is) refl;
       lines = a.lines_are ∙ (all ∙ ap all_lines (sym is));

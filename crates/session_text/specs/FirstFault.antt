@@ -5,10 +5,10 @@ use Rattle.std.specs.Str.{bytes_eq}
 use Rattle.graph_model.specs.declared.graph.why.Why.{Why}
 use Rattle.graph_model.specs.declared.graph.why.Why.TheVariants as why
 use Rattle.graph_model.specs.graph.Graph.{GraphValue}
-use Rattle.graph_model.specs.graph.Fits.{IsGraph, first_reason}
+use Rattle.graph_model.specs.graph.Fits.{IsGraph}
 use Rattle.graph_reader.specs.Words.{pieces}
 use Rattle.graph_reader.specs.Text.{text}
-use Rattle.graph_reader.specs.FirstFault.{has_newline, first_line, is_empty, or_else, line_count, FirstFault}
+use Rattle.graph_reader.specs.FirstFault.{has_newline, first_line, is_empty, line_count, FirstFault}
 use Rattle.graph_reader.specs.declared.ReadRefusal.{ReadRefusal}
 use Rattle.graph_reader.specs.declared.ReadRefusal.TheVariants as refusals
 use Rattle.realm_audit.specs.Parts.{graph_bytes}
@@ -66,6 +66,7 @@ pub record IsLineFault (bytes : List ℕ) (number : ℕ) (reason : Why) : Type 0
   pub before : List Entry
   pub last : Option Entry
   pub rest : List ℕ
+  pub first : last ≡ None → before ≡ []
   pub are_entries : AreEntries (with_last before last)
   pub begins : bytes ≡ session_head (with_last before last) ++ rest
   pub number_is : number ≡ session_count (with_last before last) + 1

@@ -1,5 +1,5 @@
 -- The one text of a session: graphs, one after the other, with links to operations of earlier ones.
-use Rattle.std.specs.Prelude.{◌≡◌, ℕ, ◌+◌, List, [], ◌∷◌, ◌++◌, length, flat_map, sum_by, codes}
+use Rattle.std.specs.Prelude.{ℕ, ◌+◌, List, [], ◌∷◌, ◌++◌, length, flat_map, sum_by, codes}
 use Rattle.graph_model.specs.graph.Spelling.{spelled}
 use Rattle.graph_reader.specs.Text.{text}
 use Rattle.graph_reader.specs.FirstFault.{line_count}

@@ -1,5 +1,5 @@
 -- What a reader keeps of the graphs and links so far.
-use Rattle.std.specs.Prelude.{◌≡◌, ℕ, ◌+◌, Bool, true, false, cond, List, [], ◌++◌, length, Option, Some, None, codes}
+use Rattle.std.specs.Prelude.{◌≡◌, ℕ, ◌+◌, Bool, true, false, cond, List, [], ◌++◌, Option, Some, None, codes}
 use Rattle.std.specs.Str.{bytes_eq}
 use Rattle.graph_model.specs.declared.graph.why.Why.{Why}
 use Rattle.graph_model.specs.declared.graph.why.Why.TheVariants as why
@@ -30,6 +30,7 @@ IsJudged None = Unit {0}
 IsJudged (Some l) = l.judged ≡ with_triggers l.entry.graph l.entry.links
 
 pub record IsSoFar (s : SoFar) : Type 0 where
+  pub first : last_entry s.last ≡ None → s.before.items ≡ []
   pub entries : AreEntries (entries_in s)
   pub judged : IsJudged s.last
   pub lines : s.lines ≡ all_lines (entries_in s)

@@ -67,9 +67,7 @@ fn is_link_name(links: &[Link], name: &Name) -> bool
 pub(crate) fn names_op(before: &[Entry], link: &Link) -> bool
     ensures { result ≡ names_op before.now link.now }
 {
-    before
-        .iter()
-        .any(|entry| entry.name == link.graph && has_op(entry, &link.op))
+    before.iter().any(|entry| entry.name == link.graph && has_op(entry, &link.op))
 }
 
 /// Puts the line of a link at the end as a trigger, where it fits, else the first reason that refuses it.

@@ -314,7 +314,12 @@ fn read_behind(alloc: Global, bytes: &[u8], number: u32) -> Result<Graph, ReadRe
 {
     match read_graph(alloc, bytes) {
         Ok(graph) => Ok(graph),
-        Err(ReadRefusal::Line { number: inside, why }) => Err(refused(number + inside, why)),
+        Err(
+            ReadRefusal::Line {
+                number: inside,
+                why,
+            },
+        ) => Err(refused(number + inside, why)),
         Err(ReadRefusal::NoMemory) => Err(ReadRefusal::NoMemory),
     }
 }

@@ -1,4 +1,4 @@
-use Rattle.std.proofs.Common.{◌≡◌, None, Some, ap, sym, ◌∙◌}
+use Rattle.std.proofs.Common.{None, Some, ap, sym}
 use Rattle.std.proofs.lemmas.Option.{none-some, same_Some}
 use Rattle.session_text.proofs.Naming.{found_place, no_place}
 use Rattle.session_text.proofs.links.find_line.Goals as goal

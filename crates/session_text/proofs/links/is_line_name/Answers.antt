@@ -1,5 +1,5 @@
 use Rattle.std.proofs.Common.{sym, ◌∙◌, ap}
-use Rattle.std.specs.Prelude.{is_some, Option}
+use Rattle.std.specs.Prelude.{is_some}
 use Rattle.session_text.proofs.Naming.{place_named}
 use Rattle.session_text.proofs.links.is_line_name.Goals as goal
 

@@ -1,4 +1,4 @@
-use Rattle.std.proofs.Common.{◌≡◌, ◌≢◌, ℕ, ◌+◌, ◌<◌, ◌≤◌, Bool, true, false, List, [], length, ap, sym, ◌∙◌, subst, refl, arith}
+use Rattle.std.proofs.Common.{◌≡◌, ℕ, ◌<◌, Bool, true, List, length, ap, sym, ◌∙◌, arith}
 use Rattle.std.specs.Prelude.{codes, bytes_eq}
 use Rattle.std.proofs.lemmas.Result.{IfOk-weaker, IfErr-weaker, err_from_is_err_and}
 use Rattle.basics.specs.Words.{contents}
@@ -6,7 +6,6 @@ use Rattle.graph_model.specs.declared.graph.why.Why.TheVariants as why
 use Rattle.graph_reader.specs.FirstFault.{first_line}
 use Rattle.graph_reader.specs.Reading.{after_line}
 use Rattle.graph_reader.proofs.LineSteps.{fewer_bytes}
-use Rattle.session_text.specs.SoFar.{IsLineAt}
 use Rattle.session_text.proofs.Steps.{few_lines, read_all, refused_close, missing_line, is_refusal, line_at, begin_read}
 use Rattle.realm_audit.proofs.Fronts.{stripped}
 use Rattle.session_text.proofs.reader.read_session.Goals as goal

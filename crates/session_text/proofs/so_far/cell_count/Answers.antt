@@ -1,5 +1,4 @@
-use Rattle.std.proofs.Common.{◌≡◌, ℕ, ◌+◌, ◌*◌, ◌<◌, ◌≤◌, length, take, ap, sym, ◌∙◌, refl, get_or, take_all, arith}
-use Rattle.std.specs.Prelude.{Some, sum_by, slice_get}
+use Rattle.std.proofs.Common.{◌<◌, length, ap, ◌∙◌, arith}
 use Rattle.index_spaces.specs.Space.{space_size}
 use Rattle.graph_model.specs.graph.Graph.{columns}
 use Rattle.session_text.proofs.Cells.{one_column, all_columns}

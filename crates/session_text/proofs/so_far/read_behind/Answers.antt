@@ -1,4 +1,4 @@
-use Rattle.std.proofs.Common.{ℕ, ◌+◌, ◌≤◌, length, subst, arith}
+use Rattle.std.proofs.Common.{◌+◌, ◌≤◌, length, subst, arith}
 use Rattle.graph_reader.specs.Reading.{IsRefusal}
 use Rattle.session_text.proofs.Naming.{fault_within}
 use Rattle.session_text.proofs.so_far.read_behind.Goals as goal

@@ -1,7 +1,7 @@
-use Rattle.std.proofs.Common.{◌≡◌, ◌+◌, ◌≤◌, sym, ap, ◌∙◌, subst, refl, arith}
+use Rattle.std.proofs.Common.{◌+◌, ◌≤◌, ap, subst, arith}
 use Rattle.graph_model.specs.declared.graph.why.Why.TheVariants as why
 use Rattle.graph_reader.specs.Text.{GraphText}
-use Rattle.session_text.proofs.Steps.{graph_read, refused_sum, refused_inside, is_refusal, few_cells}
+use Rattle.session_text.proofs.Steps.{graph_read, refused_sum, is_refusal, few_cells}
 use Rattle.session_text.proofs.so_far.SoFar.take_graph.Goals as goal
 
 pub overflow_add-cells : goal.overflow_add-cells

@@ -1,4 +1,4 @@
-use Rattle.std.proofs.Common.{◌≡◌, sym}
+use Rattle.std.proofs.Common.{sym}
 use Rattle.basics.specs.Words.{contents}
 use Rattle.graph_model.specs.declared.graph.why.Why.TheVariants as why
 use Rattle.session_text.specs.SoFar.{last_entry}

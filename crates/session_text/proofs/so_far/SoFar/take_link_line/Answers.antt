@@ -1,4 +1,4 @@
-use Rattle.std.proofs.Common.{◌≡◌, None, Some, sym, ◌∙◌}
+use Rattle.std.proofs.Common.{sym, ◌∙◌}
 use Rattle.session_text.proofs.Steps.{link_taken, refused_line, by_link_line, link_no_graph, is_refusal}
 use Rattle.basics.specs.Words.{contents}
 use Rattle.session_text.specs.SoFar.{last_entry}
