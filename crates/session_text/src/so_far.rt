@@ -307,19 +307,14 @@ pub(crate) fn refused(number: u32, why: Why) -> ReadRefusal
 }
 
 /// The graph whose text the bytes are that stand behind a line of this number.
-fn read_behind(alloc: Global, bytes: &[u8], number: u32) -> Result<Graph, ReadRefusal>
-    requires few { number + length bytes.now ≤ 3 * MAX_TEXT }
+fn read_behind(alloc: Global, bytes: &[u8], line: u32) -> Result<Graph, ReadRefusal>
+    requires few { line + length bytes.now ≤ 3 * MAX_TEXT }
     ensures text { IfOk result (λ g. GraphText bytes.now g) }
-    ensures refused { IfErr result (λ e. IsRefusedBehind bytes.now number e) }
+    ensures refused { IfErr result (λ e. IsRefusedBehind bytes.now line e) }
 {
     match read_graph(alloc, bytes) {
         Ok(graph) => Ok(graph),
-        Err(
-            ReadRefusal::Line {
-                number: inside,
-                why,
-            },
-        ) => Err(refused(number + inside, why)),
+        Err(ReadRefusal::Line { number, why }) => Err(refused(line + number, why)),
         Err(ReadRefusal::NoMemory) => Err(ReadRefusal::NoMemory),
     }
 }

@@ -3,8 +3,8 @@ use Rattle.graph_reader.specs.Reading.{IsRefusal}
 use Rattle.session_text.proofs.Naming.{fault_within}
 use Rattle.session_text.proofs.so_far.read_behind.Goals as goal
 
-pub overflow_add-number : goal.overflow_add-number
-overflow_add-number c =
+pub overflow_add-line : goal.overflow_add-line
+overflow_add-line c =
     let f = subst (IsRefusal c.args.bytes.now) c.in-Err-Line.field-0-is c.in-Err-Line.ensures.refusal in
-    let n : c.in-Err-Line.inside ≤ length c.args.bytes.now + 2 = fault_within c.args.bytes.now c.in-Err-Line.inside c.in-Err-Line.why f in
+    let n : c.in-Err-Line.number ≤ length c.args.bytes.now + 2 = fault_within c.args.bytes.now c.in-Err-Line.number c.in-Err-Line.why f in
     omega (arith, n, c.requires.few)
