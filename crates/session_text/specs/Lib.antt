@@ -2,3 +2,4 @@ pub mod Session
 pub mod Fits
 pub mod FirstFault
 pub mod SoFar
+pub mod Laws

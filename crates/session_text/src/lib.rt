@@ -6,6 +6,7 @@
 
 mod cuts;
 pub mod entry;
+pub mod laws;
 pub mod limits;
 mod links;
 mod reader;
