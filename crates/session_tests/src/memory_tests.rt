@@ -4,7 +4,9 @@
 
 use crate::asking::{ends_of, record_graph};
 use crate::row_tests::ONE;
+use graph_reader::ReadRefusal;
 use realm_session::{NoMemory, RecordRefusal, Session};
+use session_text::read_session;
 use std::alloc::Global;
 use std::test::Fail;
 use test_texts::memory::after;
@@ -27,6 +29,34 @@ fn enters(alloc: Global) -> Result<(), Fail> {
     }
 }
 
+/// The texts of two graphs, with a link.
+fn reads(alloc: Global) -> Result<(), Fail> {
+    let bytes = b"realm-session 1
+graph one
+realm 1
+k = user
+end
+graph two
+realm 1
+v = user
+end
+link c v one k
+close
+"
+        .as_slice();
+    match read_session(alloc, bytes) {
+        Ok(entries) => after("read_session", false, entries.len() == 2),
+        Err(refusal) => {
+            let again = read_session(alloc, bytes).is_ok();
+            after(
+                "read_session",
+                true,
+                refusal == ReadRefusal::NoMemory && again,
+            )
+        }
+    }
+}
+
 #[test]
 fn each_call(rt: HostRuntime) -> Result<(), Fail> {
     let alloc = rt.alloc();
@@ -34,5 +64,6 @@ fn each_call(rt: HostRuntime) -> Result<(), Fail> {
         Ok(_) => after("Session::new", false, true)?,
         Err(NoMemory) => after("Session::new", true, Session::new(alloc, 2).is_ok())?,
     }
-    enters(alloc)
+    enters(alloc)?;
+    reads(alloc)
 }

@@ -36,7 +36,10 @@ const READ: &[(&str, usize)] = &[
         3,
     ),
     // a graph of format 2, and one without lines
-    ("graph three\nrealm 2\nend\ngraph four\nrealm 1\nend\nclose\n", 4),
+    (
+        "graph three\nrealm 2\nend\ngraph four\nrealm 1\nend\nclose\n",
+        4,
+    ),
 ];
 
 /// What may not follow, with the first refused line and the reason.
@@ -80,7 +83,11 @@ const REFUSED: &[(&str, u32, Why)] = &[
     ("graph three\nclose\n", 19, Why::Header),
     ("graph three\nrealm 1\nlock\nend\nclose\n", 20, Why::Syntax),
     ("graph three\nrealm 1\nlock a\n", 21, Why::Missing),
-    ("graph three\nrealm 1\nend\nlink c v one k\nclose\n", 21, Why::Unknown),
+    (
+        "graph three\nrealm 1\nend\nlink c v one k\nclose\n",
+        21,
+        Why::Unknown,
+    ),
     ("close\n\n", 19, Why::Rest),
     ("close\nclose\n", 19, Why::Rest),
 ];
@@ -179,7 +186,15 @@ fn limits(rt: HostRuntime) -> Result<(), Fail> {
     // 8,191 lines, and one line or one link more
     let text = users(alloc, 1, 8190)?;
     let more = format!(in alloc; "{text}graph h\nrealm 1\nu = user\nend\n")?;
-    assert!(rt; is_limit(alloc, more.as_str(), 2, "graph i\nrealm 1\nv = user\nend\n", 8202)?);
+    assert!(rt;
+        is_limit(
+            alloc,
+            more.as_str(),
+            2,
+            "graph i\nrealm 1\nv = user\nend\n",
+            8202
+        )?
+    );
     assert!(rt; is_limit(alloc, more.as_str(), 2, "link l u g0 u0\n", 8199)?);
     // 4,194,304 cells, and one more
     let text = "realm-session 1
@@ -194,6 +209,14 @@ space s 0..1048575
 inst a s x,y
 end
 ";
-    assert!(rt; is_limit(alloc, text, 2, "graph three\nrealm 1\nspace s 0..0\ninst a s x\nend\n", 16)?);
+    assert!(rt;
+        is_limit(
+            alloc,
+            text,
+            2,
+            "graph three\nrealm 1\nspace s 0..0\ninst a s x\nend\n",
+            16
+        )?
+    );
     Ok(())
 }
