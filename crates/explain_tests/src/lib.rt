@@ -8,3 +8,5 @@ mod memory_tests;
 mod path_tests;
 #[cfg(test)]
 mod race_tests;
+#[cfg(test)]
+mod reach_tests;

@@ -6,6 +6,7 @@ ghost use Rattle.std.specs.Prelude.{◌≡◌, length};
 
 use explanations::paths::shortest_path;
 use explanations::races::least_shared;
+use explanations::reaches::{path_to, waiting_lines};
 use graph_model::graph::Graph;
 use graph_reader::read_graph;
 use index_spaces::NoMemory;
@@ -22,7 +23,8 @@ fn each_call(rt: HostRuntime) -> Result<(), Fail> {
         return Err("before the calls".into());
     }
     path(alloc, &graph)?;
-    shared(alloc, &graph)
+    shared(alloc, &graph)?;
+    waiting(alloc, &graph)
 }
 
 /// From the first fill to the release of its section.
@@ -49,6 +51,26 @@ fn shared(alloc: Global, graph: &Graph) -> Result<(), Fail>
             "least_shared",
             true,
             least_shared(alloc, graph, 3, 7).is_ok(),
+        ),
+    }
+}
+
+/// Why lines wait, and the way to one of them.
+fn waiting(alloc: Global, graph: &Graph) -> Result<(), Fail>
+    requires { length graph.now.lines ≡ 10 }
+{
+    let reaches = match waiting_lines(alloc, graph) {
+        Ok(reaches) => reaches,
+        Err(NoMemory) => {
+            return after("waiting_lines", true, waiting_lines(alloc, graph).is_ok());
+        }
+    };
+    match path_to(alloc, reaches.as_slice(), 0) {
+        Ok(path) => after("path_to", false, path.is_empty()),
+        Err(NoMemory) => after(
+            "path_to",
+            true,
+            path_to(alloc, reaches.as_slice(), 0).is_ok(),
         ),
     }
 }

@@ -51,7 +51,7 @@ impl Row<'_> {
 }
 
 /// Whether edges lead along these lines.
-fn follows(edges: &[Edge], lines: &[u32]) -> bool {
+pub(crate) fn follows(edges: &[Edge], lines: &[u32]) -> bool {
     if edges.len() >= lines.len() || edges.len() + 1 != lines.len() {
         return false;
     }

@@ -11,15 +11,17 @@ use Rattle.graph_model.specs.graph.Edges.{edges}
 use Rattle.graph_model.specs.graph.Fits.{IsGraph}
 use Rattle.graph_model.specs.meaning.Laws.{EdgesBetweenLines}
 use Rattle.explanations.specs.declared.search.Way.{Way}
-use Rattle.explanations.specs.declared.search.Way.TheVariants.{Onward, Back}
+use Rattle.explanations.specs.declared.search.Way.TheVariants.{Onward, Back, Faults}
 use Rattle.basics.proofs.ListFacts.{contains_none, filter_contains, contains_filter}
-use Rattle.explanations.specs.Search.{near_end, far_end, AreCounts, IsSearch, IsMarking, IsFarEnd, IsFarEndOfSome}
-use Rattle.explanations.proofs.Marking.{no_edge, some_or, counted_below, marks_more}
+use Rattle.explanations.specs.Search.{near_end, far_end, way_edges, AreCounts, IsMarking, IsFarEnd, IsFarEndOfSome}
+use Rattle.graph_model.specs.declared.meaning.outcome.End.{End}
+use Rattle.explanations.proofs.Marking.{no_edge, some_or, counted_below, marks_more, follow_in, in_follow}
 
 -- the ends of an edge are lines
 pub ends_known : EdgesBetweenLines → (g : GraphValue) → IsGraph g → (way : Way) (e : Edge) → Contains (edges g) e → (near_end way e < length g.lines) × (far_end way e < length g.lines)
 ends_known between g f Onward e c = between g e f c
 ends_known between g f Back e c = let b = between g e f c in (b.1, b.0)
+ends_known between g f Faults e c = between g e f c
 
 -- of the edges that a search follows from a line, and of those by which it comes to one
 pub on_known : EdgesBetweenLines → (g : GraphValue) → IsGraph g → (way : Way) (line k : ℕ) (es : List Edge) → es ≡ filter (λ e. near_end way e == line) (edges g) → k < length es → far_end way (slice_index_or es k no_edge) < length g.lines
@@ -34,22 +36,34 @@ pub nothing_in : (xs : List ℕ) (i : ℕ) → length xs ≡ 0 → Contains xs i
 nothing_in [] i e c = contains_none i c
 nothing_in (x ∷ xs) i e c = absurd (omega arith)
 
-module _ (all : List Edge) (near far : Edge → ℕ) where
-  -- one more line of a level
-  pub level_more : (count : ℕ) (old before mid between new after level : List ℕ) (k : ℕ) → k < length level → IsMarking (IsFarEndOfSome all near far (take k level)) count old before mid between →
-      IsMarking (IsFarEnd (filter (λ e. near e == slice_index level k) all) far) count mid between new after → IsMarking (IsFarEndOfSome all near far (take (k + 1) level)) count old before new after
-  level_more count old before mid between new after level k below a b = marks_more (IsFarEndOfSome all near far (take k level)) (IsFarEnd (filter (λ e. near e == slice_index level k) all) far) (IsFarEndOfSome all near far (take (k + 1) level)) count old before mid between new after a b
-      (λ i t. (t.0, t.1, subst (λ xs. Contains xs (near t.0)) (sym more) (Contains-append_left (take k level) (slice_index level k ∷ []) (near t.0) t.2), t.3))
-      (λ i t. (let f = filter_contains (λ (e : Edge). near e == slice_index level k) all t.0 t.1 in
-      (t.0, f.0, subst (λ xs. Contains xs (near t.0)) (sym more) (subst (λ x. Contains (take k level ++ slice_index level k ∷ []) x) (sym (eqb-true (near t.0) (slice_index level k) f.1)) (Contains-push (take k level) (slice_index level k))), t.2)))
-      (λ i t. elim (Contains-push_cases (take k level) (slice_index level k) (near t.0) (subst (λ xs. Contains xs (near t.0)) more t.2)) [
-        | inl c ↦ inl (t.0, t.1, c, t.3)
-        | inr e ↦ inr (t.0, contains_filter (λ (x : Edge). near x == slice_index level k) all t.0 t.1 (eq-eqb (near t.0) (slice_index level k) (sym e)), t.3)
-      ])
-    where
-      more : take (k + 1) level ≡ take k level ++ slice_index level k ∷ []
-      more = take_more level k 0 below
+-- a search under way that has followed the edges at all lines of lesser counts than d: the lines of count d are listed
+pub record IsSearch (all : List Edge) (near far : Edge → ℕ) (start : ℕ → Type 0) (counts : ℕ → ℕ) (d : ℕ) (level : List ℕ) : Type 0 where
+  pub starts : (i : ℕ) → start i → counts i ≡ 1
+  pub found : (i : ℕ) → 0 < counts i → (start i × (counts i ≡ 1)) ⊎ ((e : Edge) × Contains all e × (far e ≡ i) × (0 < counts (near e)) × (counts i ≡ counts (near e) + 1))
+  pub closed : (e : Edge) → Contains all e → 0 < counts (near e) → counts (near e) < d → (0 < counts (far e)) × (counts (far e) ≤ counts (near e) + 1)
+  pub most : (i : ℕ) → counts i ≤ d
+  pub last : (i : ℕ) → counts i ≡ d → Contains level i
+  pub listed : (i : ℕ) → Contains level i → counts i ≡ d
 
+-- one more line of a level
+pub level_more : (way : Way) (ends : List End) (es : List Edge) (count : ℕ) (old before mid between new after level : List ℕ) (k : ℕ) → k < length level → IsMarking (IsFarEndOfSome (way_edges way ends es) (near_end way) (far_end way) (take k level)) count old before mid between →
+    IsMarking (IsFarEnd (way_edges way ends (filter (λ e. near_end way e == slice_index level k) es)) (far_end way)) count mid between new after →
+    IsMarking (IsFarEndOfSome (way_edges way ends es) (near_end way) (far_end way) (take (k + 1) level)) count old before new after
+level_more way ends es count old before mid between new after level k below a b =
+    marks_more (IsFarEndOfSome (way_edges way ends es) (near_end way) (far_end way) (take k level)) (IsFarEnd (way_edges way ends (filter (λ e. near_end way e == slice_index level k) es)) (far_end way)) (IsFarEndOfSome (way_edges way ends es) (near_end way) (far_end way) (take (k + 1) level)) count old before mid between new after a b
+    (λ i t. (t.0, t.1, subst (λ xs. Contains xs (near_end way t.0)) (sym more) (Contains-append_left (take k level) (slice_index level k ∷ []) (near_end way t.0) t.2), t.3))
+    (λ i t. (let g = follow_in way ends (filter (λ e. near_end way e == slice_index level k) es) t.0 t.1 in
+    let f = filter_contains (λ (e : Edge). near_end way e == slice_index level k) es t.0 g.0 in
+    (t.0, in_follow way ends es t.0 f.0 g.1, subst (λ xs. Contains xs (near_end way t.0)) (sym more) (subst (λ x. Contains (take k level ++ slice_index level k ∷ []) x) (sym (eqb-true (near_end way t.0) (slice_index level k) f.1)) (Contains-push (take k level) (slice_index level k))), t.2)))
+    (λ i t. elim (Contains-push_cases (take k level) (slice_index level k) (near_end way t.0) (subst (λ xs. Contains xs (near_end way t.0)) more t.2)) [
+      | inl c ↦ inl (t.0, t.1, c, t.3)
+      | inr e ↦ (let g = follow_in way ends es t.0 t.1 in inr (t.0, in_follow way ends (filter (λ e. near_end way e == slice_index level k) es) t.0 (contains_filter (λ (x : Edge). near_end way x == slice_index level k) es t.0 g.0 (eq-eqb (near_end way t.0) (slice_index level k) (sym e))) g.1, t.3))
+    ])
+  where
+    more : take (k + 1) level ≡ take k level ++ slice_index level k ∷ []
+    more = take_more level k 0 below
+
+module _ (all : List Edge) (near far : Edge → ℕ) where
   module _ (start : ℕ → Type 0) where
     -- the starts are found
     pub search_begins : (old before new level : List ℕ) → ((i : ℕ) → slice_index old i ≡ 0) → length before ≡ 0 → IsMarking start 1 old before new level → IsSearch all near far start (slice_index new) 1 level

@@ -1,7 +1,12 @@
 pub mod Marking
+pub mod Origins
+pub mod ReachFacts
 pub mod Levels
 pub mod PathFacts
 pub mod Nearest
 pub mod Trails
 pub mod SharedFacts
 pub mod MeetingFacts
+pub mod WaysBack
+pub mod Causes
+pub mod SectionFacts

@@ -1,14 +1,19 @@
 -- Lines that a search finds, one by one.
-use Rattle.std.proofs.Common.{◌≡◌, ℕ, ◌+◌, ◌<◌, Bool, true, false, cond, ◌⊎◌, inl, inr, List, [], ◌∷◌, ◌++◌, length, refl, sym, ◌∙◌, ap, subst, arith, take}
+use Rattle.std.proofs.Common.{◌≡◌, ℕ, ◌+◌, ◌<◌, ◌≤◌, Bool, true, false, cond, ◌⊎◌, inl, inr, List, [], ◌∷◌, ◌++◌, length, refl, sym, ◌∙◌, ap, subst, arith, take}
 use Rattle.std.specs.Prelude.{Contains, ◌==◌, slice_index, slice_set}
 use Rattle.std.specs.List.{slice_index_or}
 use Rattle.std.proofs.lemmas.Bool.{cases_eq, cases_lt, eq-eqb, ne_eqb, true≢false}
 use Rattle.std.proofs.lemmas.List.{length-set, length-append, get_or-set_same, get_or-set_other, get_or_past, take_more}
 use Rattle.std.proofs.lemmas.List.Elements.{Contains-append_left, Contains-push, Contains-push_cases}
-use Rattle.std.proofs.lemmas.List.Sums.{sum_by-set}
+use Rattle.std.proofs.lemmas.List.Sums.{sum_by-set, count_by-le-length}
 use Rattle.graph_model.specs.declared.graph.verb.Edge.{Edge}
 use Rattle.graph_model.specs.declared.graph.verb.EdgeKind.TheVariants.{Passes}
-use Rattle.explanations.specs.Search.{unfound, IsMarking, IsFarEnd}
+use Rattle.graph_model.specs.declared.meaning.outcome.End.{End}
+use Rattle.basics.proofs.ListFacts.{filter_contains, contains_filter}
+use Rattle.explanations.specs.declared.search.Way.{Way}
+use Rattle.explanations.specs.declared.search.Way.TheVariants.{Onward, Back, Faults}
+use Rattle.explanations.specs.Reaches.{carries}
+use Rattle.explanations.specs.Search.{follows, way_edges, unfound, IsMarking, IsFarEnd}
 
 -- what is read past the end of a list of edges
 abbrev pub no_edge : Edge
@@ -34,6 +39,9 @@ unfound_set : (xs : List ℕ) (i y : ℕ) → i < length xs → slice_index xs i
 unfound_set xs i y h z s =
     let swap : unfound (slice_set xs i y) + cond (slice_index xs i == 0) 1 0 ≡ unfound xs + cond (y == 0) 1 0 = sum_by-set (λ m. cond (m == 0) 1 0) xs i y 0 h in
     omega (arith, one (slice_index xs i == 0) (eq-eqb (slice_index xs i) 0 z), no_one (y == 0) (ne_eqb y 0 (λ e. absurd (omega arith))))
+
+pub unfound_most : (xs : List ℕ) → unfound xs ≤ length xs
+unfound_most xs = count_by-le-length (λ m. m == 0) xs
 
 -- no line
 pub marks_none : (targets : ℕ → Type 0) (count : ℕ) (old before : List ℕ) → ((i : ℕ) → targets i → ⊥) → IsMarking targets count old before old before
@@ -118,16 +126,56 @@ lines_more count old before mid between new after lines k below a b = marks_more
     more : take (k + 1) lines ≡ take k lines ++ slice_index lines k ∷ []
     more = take_more lines k 0 below
 
+-- the same of other words for these lines
+pub marks_as : (S T : ℕ → Type 0) (count : ℕ) (old before new after : List ℕ) → ((i : ℕ) → S i → T i) → ((i : ℕ) → T i → S i) → IsMarking S count old before new after → IsMarking T count old before new after
+marks_as S T count old before new after into back m = record {
+  size = m.size;
+  keeps = m.keeps;
+  marks = λ i z h. (let k = m.marks i z h in (k.0, into i k.1, k.2));
+  covers = λ i t. m.covers i (back i t);
+  stays = m.stays;
+  fresh = m.fresh;
+  work = m.work;
+}
+
+-- the edges that a search follows
+pub follow_in : (way : Way) (ends : List End) (es : List Edge) (e : Edge) → Contains (way_edges way ends es) e → Contains es e × (follows way ends e ≡ true)
+follow_in Onward ends es e c = (c, refl)
+follow_in Back ends es e c = (c, refl)
+follow_in Faults ends es e c = filter_contains (carries ends) es e c
+
+pub in_follow : (way : Way) (ends : List End) (es : List Edge) (e : Edge) → Contains es e → follows way ends e ≡ true → Contains (way_edges way ends es) e
+in_follow Onward ends es e c f = c
+in_follow Back ends es e c f = c
+in_follow Faults ends es e c f = contains_filter (carries ends) es e c f
+
 -- one more edge of a list
-pub ends_more : (far : Edge → ℕ) (count : ℕ) (old before mid between new after : List ℕ) (es : List Edge) (k : ℕ) → k < length es → IsMarking (IsFarEnd (take k es) far) count old before mid between →
-    IsMarking (λ i. i ≡ far (slice_index_or es k no_edge)) count mid between new after → IsMarking (IsFarEnd (take (k + 1) es) far) count old before new after
-ends_more far count old before mid between new after es k below a b = marks_more (IsFarEnd (take k es) far) (λ i. i ≡ far (slice_index_or es k no_edge)) (IsFarEnd (take (k + 1) es) far) count old before mid between new after a b
-    (λ i t. (t.0, subst (λ xs. Contains xs t.0) (sym more) (Contains-append_left (take k es) (slice_index_or es k no_edge ∷ []) t.0 t.1), t.2))
-    (λ i e. (slice_index_or es k no_edge, subst (λ xs. Contains xs (slice_index_or es k no_edge)) (sym more) (Contains-push (take k es) (slice_index_or es k no_edge)), sym e))
-    (λ i t. elim (Contains-push_cases (take k es) (slice_index_or es k no_edge) t.0 (subst (λ xs. Contains xs t.0) more t.1)) [
-      | inl c ↦ inl (t.0, c, t.2)
-      | inr e ↦ inr (sym t.2 ∙ ap far (sym e))
-    ])
-  where
-    more : take (k + 1) es ≡ take k es ++ slice_index_or es k no_edge ∷ []
-    more = take_more es k no_edge below
+module _ (way : Way) (ends : List End) (far : Edge → ℕ) (count : ℕ) (es : List Edge) (k : ℕ) (below : k < length es) where
+  more : take (k + 1) es ≡ take k es ++ slice_index_or es k no_edge ∷ []
+  more = take_more es k no_edge below
+
+  longer : (i : ℕ) → IsFarEnd (way_edges way ends (take k es)) far i → IsFarEnd (way_edges way ends (take (k + 1) es)) far i
+  longer i t = let f = follow_in way ends (take k es) t.0 t.1 in
+      (t.0, in_follow way ends (take (k + 1) es) t.0 (subst (λ xs. Contains xs t.0) (sym more) (Contains-append_left (take k es) (slice_index_or es k no_edge ∷ []) t.0 f.0)) f.1, t.2)
+
+  shorter : (i : ℕ) → IsFarEnd (way_edges way ends (take (k + 1) es)) far i → IsFarEnd (way_edges way ends (take k es)) far i ⊎ ((i ≡ far (slice_index_or es k no_edge)) × (follows way ends (slice_index_or es k no_edge) ≡ true))
+  shorter i t = let f = follow_in way ends (take (k + 1) es) t.0 t.1 in
+      elim (Contains-push_cases (take k es) (slice_index_or es k no_edge) t.0 (subst (λ xs. Contains xs t.0) more f.0)) [
+        | inl c ↦ inl (t.0, in_follow way ends (take k es) t.0 c f.1, t.2)
+        | inr e ↦ inr (sym t.2 ∙ ap far (sym e), ap (follows way ends) e ∙ f.1)
+      ]
+
+  pub ends_more : (old before mid between new after : List ℕ) → follows way ends (slice_index_or es k no_edge) ≡ true → IsMarking (IsFarEnd (way_edges way ends (take k es)) far) count old before mid between →
+      IsMarking (λ i. i ≡ far (slice_index_or es k no_edge)) count mid between new after → IsMarking (IsFarEnd (way_edges way ends (take (k + 1) es)) far) count old before new after
+  ends_more old before mid between new after follow a b = marks_more (IsFarEnd (way_edges way ends (take k es)) far) (λ i. i ≡ far (slice_index_or es k no_edge)) (IsFarEnd (way_edges way ends (take (k + 1) es)) far) count old before mid between new after a b
+      longer
+      (λ i e. (slice_index_or es k no_edge, in_follow way ends (take (k + 1) es) (slice_index_or es k no_edge) (subst (λ xs. Contains xs (slice_index_or es k no_edge)) (sym more) (Contains-push (take k es) (slice_index_or es k no_edge))) follow, sym e))
+      (λ i t. elim (shorter i t) [ inl s ↦ inl s | inr e ↦ inr e.0 ])
+
+  -- that it does not follow
+  pub ends_skip : (old before new after : List ℕ) → follows way ends (slice_index_or es k no_edge) ≡ false → IsMarking (IsFarEnd (way_edges way ends (take k es)) far) count old before new after →
+      IsMarking (IsFarEnd (way_edges way ends (take (k + 1) es)) far) count old before new after
+  ends_skip old before new after not m = marks_as (IsFarEnd (way_edges way ends (take k es)) far) (IsFarEnd (way_edges way ends (take (k + 1) es)) far) count old before new after
+      longer
+      (λ i t. elim (shorter i t) [ inl s ↦ s | inr e ↦ absurd (true≢false (sym e.1 ∙ not)) ])
+      m

@@ -5,7 +5,14 @@ use Rattle.std.proofs.lemmas.Bool.{eq-eqb, eqb-true}
 use Rattle.std.proofs.lemmas.List.{length_push}
 use Rattle.basics.proofs.ListFacts.{filter_contains, contains_filter}
 use Rattle.graph_model.specs.declared.graph.verb.Edge.{Edge}
-use Rattle.explanations.specs.Search.{AreCounts, IsNearest, LeadsBack, IsTrail, IsTrailing}
+use Rattle.explanations.specs.Search.{AreCounts, IsNearest, LeadsBack, IsTrail}
+
+-- a trail under way: edges back as far as line `at`
+pub record IsTrailing (all : List Edge) (near far : Edge → ℕ) (counts : ℕ → ℕ) (i at : ℕ) (p : List Edge) : Type 0 where
+  pub found : 0 < counts at
+  pub some : 0 < length p
+  pub leads : LeadsBack all near far i at p
+  pub least : (e : Edge) → Contains all e → far e ≡ i → 0 < counts (near e) → length p + counts at ≤ counts (near e) + 1
 
 module _ (all : List Edge) (near far : Edge → ℕ) where
   pub leads_more : (i s : ℕ) (p : List Edge) (e : Edge) → LeadsBack all near far i s p → Contains all e → far e ≡ s → LeadsBack all near far i (near e) (p ++ e ∷ [])

@@ -1,4 +1,5 @@
 pub mod Paths
+pub mod Reaches
 pub mod Search
 pub mod Shared
 pub mod Meetings

@@ -6,5 +6,7 @@ pub mod laws;
 pub mod meetings;
 pub mod paths;
 pub mod races;
+pub mod reaches;
 mod search;
+pub mod sections;
 mod trail;

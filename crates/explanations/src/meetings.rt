@@ -5,7 +5,7 @@ ghost use Rattle.graph_model.specs.meaning.Path.{HasPath};
 ghost use Rattle.explanations.specs.Meetings.{IsNearestCommon, IsLeastBelow};
 
 use crate::paths::shortest_path;
-use crate::search::{Way, line_counts};
+use crate::search::{Way, search_from};
 use graph_model::graph::Graph;
 use graph_model::verb::Edge;
 use index_spaces::NoMemory;
@@ -35,8 +35,8 @@ pub fn nearest_common(
     ensures nearest { IfOk result (λ o. IfSome o (IsNearestCommon graph.now first second)) }
     ensures none { IfOk result (λ o. o ≡ None → (k : ℕ) → HasPath graph.now k first → HasPath graph.now k second → ⊥) }
 {
-    let ones = line_counts(alloc, graph, Way::Back, &[first])?;
-    let others = line_counts(alloc, graph, Way::Back, &[second])?;
+    let ones = search_from(alloc, graph, Way::Back, &[], &[first])?.counts;
+    let others = search_from(alloc, graph, Way::Back, &[], &[second])?.counts;
     let Some(line) = least_below(ones.as_slice(), others.as_slice(), graph.lines()) else {
         return Ok(None);
     };

@@ -5,7 +5,7 @@ ghost use Rattle.graph_model.specs.meaning.Path.{HasPath};
 ghost use Rattle.graph_model.specs.meaning.Rules.{NoCycleAt};
 ghost use Rattle.explanations.specs.Paths.{IsPath, IsShortest};
 
-use crate::search::{Way, line_counts};
+use crate::search::{Way, search_from};
 use crate::trail::trail;
 use graph_model::graph::Graph;
 use graph_model::verb::Edge;
@@ -25,8 +25,8 @@ pub fn shortest_path(
     ensures shortest { IfOk result (λ o. IfSome o (λ p. IsShortest graph.now from to p.items)) }
     ensures none { IfOk result (λ o. o ≡ None → HasPath graph.now from to → ⊥) }
 {
-    let counts = line_counts(alloc, graph, Way::Back, &[to])?;
-    trail(alloc, graph, Way::Back, counts.as_slice(), from)
+    let tree = search_from(alloc, graph, Way::Back, &[], &[to])?;
+    trail(alloc, graph, Way::Back, tree.counts.as_slice(), from)
 }
 
 /// A cycle through a line of as few edges as can be, edge by edge, from the line back to it. `None`

@@ -1,12 +1,17 @@
-//! Searches from some lines, edge by edge, for how far the other lines are from these.
+//! Searches from some lines, edge by edge, for how far the other lines are from these, and by which edges they are found.
 
-ghost use Rattle.std.specs.Prelude.{◌≡◌, ℕ, ◌<◌, ◌≤◌, ◌==◌, filter, length, Contains, slice_index, OnOk, IfOk};
+ghost use Rattle.std.specs.Prelude.{◌≡◌, ℕ, ◌+◌, ◌<◌, ◌==◌, List, filter, length, Contains, slice_index, OnOk, IfOk};
+ghost use Rattle.graph_model.specs.declared.graph.verb.Edge.{Edge};
+ghost use Rattle.graph_model.specs.declared.graph.verb.EdgeKind.{EdgeKind};
 ghost use Rattle.graph_model.specs.graph.Edges.{edges};
-ghost use Rattle.explanations.specs.Search.{near_end, far_end, AreCounts, IsMarking, IsFarEnd, IsFarEndOfSome};
+ghost use Rattle.graph_model.specs.meaning.Evaluation.{cancels, is_ended};
+ghost use Rattle.explanations.specs.Reaches.{end_at, carries};
+ghost use Rattle.explanations.specs.Search.{near_end, far_end, follows, way_edges, origin_at, no_origin, AreCounts, AreOrigins, IsOrigin, IsMarking, IsFarEnd, IsFarEndOfSome};
 
 use graph_model::graph::Graph;
 use graph_model::laws::edges_between_lines;
-use graph_model::verb::Edge;
+use graph_model::outcome::End;
+use graph_model::verb::{Edge, EdgeKind};
 use index_spaces::NoMemory;
 use index_spaces::room::{filled, push};
 use std::alloc::Global;
@@ -19,6 +24,24 @@ pub(crate) enum Way {
     Onward,
     /// From a line to those that it waits for.
     Back,
+    /// From a line to those that it cancels, by the ends of lines.
+    Faults,
+}
+
+/// Where the way to a line begins, and the last edge of it.
+#[derive(Clone, Copy, Debug, PartialEq, Eq)]
+pub(crate) struct Origin {
+    pub(crate) start: u32,
+    /// `None` where the line is the start.
+    pub(crate) by: Option<Edge>,
+}
+
+/// What a search leaves: for each line the least number of lines on the way from a start to it, itself and the start
+/// included, 1 for a start, and 0 where no way leads from any start to it; and for each line that counts its origin.
+#[derive(Drop)]
+pub(crate) struct Tree {
+    pub(crate) counts: Vec<u32>,
+    pub(crate) origins: Vec<Origin>,
 }
 
 /// The edges that a search follows from a line.
@@ -27,8 +50,53 @@ pub(crate) fn edges_at(graph: &Graph, way: Way, line: u32) -> &[Edge]
     ensures { result.now ≡ filter (λ e. near_end way e == line) (edges graph.now) }
 {
     match way {
-        Way::Onward => graph.edges_from(line),
+        Way::Onward | Way::Faults => graph.edges_from(line),
         Way::Back => graph.edges_into(line),
+    }
+}
+
+/// Whether a search follows an edge.
+pub(crate) fn follows(way: Way, ends: &[End], edge: Edge) -> bool
+    ensures { result ≡ follows way ends.now edge }
+{
+    match way {
+        Way::Onward | Way::Back => true,
+        Way::Faults => carries(ends, edge),
+    }
+}
+
+/// Whether an edge cancels the line that waits.
+fn carries(ends: &[End], edge: Edge) -> bool
+    ensures { result ≡ carries ends.now edge }
+{
+    let cancels = match edge.kind {
+        EdgeKind::Faults => true,
+        EdgeKind::Passes => is_fault(end_at(ends, edge.from)),
+        EdgeKind::Ignores => false,
+    };
+    cancels && is_ended(end_at(ends, edge.to))
+}
+
+fn is_ended(end: End) -> bool
+    ensures { result ≡ is_ended end }
+{
+    !matches!(end, End::Waiting)
+}
+
+/// Whether a fault passes on from a line that ended so.
+fn is_fault(end: End) -> bool
+    ensures { result ≡ cancels EdgeKind.Passes end }
+{
+    matches!(end, End::Faulted | End::Cancelled)
+}
+
+/// How a line ended.
+pub(crate) fn end_at(ends: &[End], line: u32) -> End
+    ensures { result ≡ end_at ends.now line }
+{
+    match ends.get(line as usize) {
+        Some(end) => *end,
+        None => End::Waiting,
     }
 }
 
@@ -37,7 +105,7 @@ pub(crate) fn near_end(way: Way, edge: Edge) -> u32
     ensures { result ≡ near_end way edge }
 {
     match way {
-        Way::Onward => edge.from,
+        Way::Onward | Way::Faults => edge.from,
         Way::Back => edge.to,
     }
 }
@@ -47,98 +115,135 @@ pub(crate) fn far_end(way: Way, edge: Edge) -> u32
     ensures { result ≡ far_end way edge }
 {
     match way {
-        Way::Onward => edge.to,
+        Way::Onward | Way::Faults => edge.to,
         Way::Back => edge.from,
     }
 }
 
-/// For each line the least number of lines on the way from a start to it, itself and the start
-/// included: 1 for a start, and 0 where no way leads from any start to it.
-pub(crate) fn line_counts(
+/// A search from some lines, which reads the ends of lines where it follows faults.
+pub(crate) fn search_from(
     alloc: Global,
     graph: &Graph,
     way: Way,
+    ends: &[End],
     starts: &[u32],
-) -> Result<Vec<u32>, NoMemory>
+) -> Result<Tree, NoMemory>
     requires { (i : ℕ) → Contains starts.now i → i < length graph.now.lines }
-    ensures size { IfOk result (λ v. length v.items ≡ length graph.now.lines) }
-    ensures counts { IfOk result (λ v. AreCounts (edges graph.now) (near_end way) (far_end way) (Contains starts.now) (slice_index v.items)) }
+    ensures size { IfOk result (λ t. length t.counts.items ≡ length graph.now.lines) }
+    ensures counts { IfOk result (λ t. AreCounts (way_edges way ends.now (edges graph.now)) (near_end way) (far_end way) (Contains starts.now) (slice_index t.counts.items)) }
+    ensures origins { IfOk result (λ t. AreOrigins (way_edges way ends.now (edges graph.now)) (near_end way) (far_end way) starts.now t.counts.items t.origins.items) }
 {
     let _ = graph.lines();
     let mut search = Search::new(alloc, graph)?;
-    search.find_all(starts, 1)?;
+    search.find_starts(starts)?;
     let mut count = 1;
     'levels: while !search.found.is_empty() {
         let level = mem::replace(&mut search.found, Vec::new(alloc));
         count += 1;
-        search.follow_all(graph, way, level.as_slice(), count)?;
+        search.follow_all(graph, way, ends, level.as_slice(), count)?;
     }
-    Ok(search.counts)
+    Ok(search.tree)
 }
 
-/// A search under way: the counts so far, and the lines that the last step found.
+/// A search under way: what it leaves so far, and the lines that the last step found.
 #[derive(Drop)]
 struct Search {
-    counts: Vec<u32>,
+    tree: Tree,
     found: Vec<u32>,
 }
 
 impl Search {
     /// No line is found.
     fn new(alloc: Global, graph: &Graph) -> Result<Search, NoMemory>
-        ensures size { IfOk result (λ s. length s.counts.items ≡ length graph.now.lines) }
-        ensures none { IfOk result (λ s. (i : ℕ) → slice_index s.counts.items i ≡ 0) }
+        ensures size { IfOk result (λ s. length s.tree.counts.items ≡ length graph.now.lines) }
+        ensures none { IfOk result (λ s. (i : ℕ) → slice_index s.tree.counts.items i ≡ 0) }
+        ensures origins { IfOk result (λ s. length s.tree.origins.items ≡ length graph.now.lines) }
         ensures found { IfOk result (λ s. length s.found.items ≡ 0) }
     {
         let counts = filled(alloc, 0, graph.lines() as usize)?;
+        let none = Origin { start: 0, by: None };
+        let origins = filled(alloc, none, graph.lines() as usize)?;
         Ok(Search {
-            counts,
+            tree: Tree { counts, origins },
             found: Vec::new(alloc),
         })
     }
 
     /// Finds a line, where it was not found before.
-    fn find(&mut self, line: u32, count: u32) -> Result<(), NoMemory>
-        requires known { line < length self.old.counts.items }
+    fn find(&mut self, line: u32, count: u32, origin: Origin) -> Result<(), NoMemory>
+        requires known { line < length self.old.tree.counts.items }
+        requires size { length self.old.tree.origins.items ≡ length self.old.tree.counts.items }
         requires some { 0 < count }
-        ensures { OnOk result
-            (IsMarking (λ i. i ≡ line) count self.old.counts.items self.old.found.items self.new.counts.items self.new.found.items) }
+        ensures marking { OnOk result
+            (IsMarking (λ i. i ≡ line) count self.old.tree.counts.items self.old.found.items self.new.tree.counts.items self.new.found.items) }
+        ensures size { OnOk result (length self.new.tree.origins.items ≡ length self.old.tree.origins.items) }
+        ensures origins { OnOk result ((all : List Edge) (near far : Edge → ℕ) (starts : List ℕ)
+            → IsOrigin all near far starts self.old.tree.counts.items self.old.tree.origins.items line count origin
+            → AreOrigins all near far starts self.old.tree.counts.items self.old.tree.origins.items
+            → AreOrigins all near far starts self.new.tree.counts.items self.new.tree.origins.items) }
     {
-        if self.counts[line as usize] == 0 {
+        if self.tree.counts[line as usize] == 0 {
             push(&mut self.found, line)?;
-            self.counts[line as usize] = count;
+            self.tree.counts[line as usize] = count;
+            self.tree.origins[line as usize] = origin;
         }
         Ok(())
     }
 
-    /// Finds some lines.
-    fn find_all(&mut self, lines: &[u32], count: u32) -> Result<(), NoMemory>
-        requires known { (i : ℕ) → Contains lines.now i → i < length self.old.counts.items }
-        requires some { 0 < count }
-        ensures { OnOk result
-            (IsMarking (Contains lines.now) count self.old.counts.items self.old.found.items self.new.counts.items self.new.found.items) }
+    /// Finds the lines with which a search begins.
+    fn find_starts(&mut self, starts: &[u32]) -> Result<(), NoMemory>
+        requires known { (i : ℕ) → Contains starts.now i → i < length self.old.tree.counts.items }
+        requires none { (i : ℕ) → slice_index self.old.tree.counts.items i ≡ 0 }
+        requires size { length self.old.tree.origins.items ≡ length self.old.tree.counts.items }
+        ensures marking { OnOk result
+            (IsMarking (Contains starts.now) 1 self.old.tree.counts.items self.old.found.items self.new.tree.counts.items self.new.found.items) }
+        ensures origins { OnOk result ((all : List Edge) (near far : Edge → ℕ)
+            → AreOrigins all near far starts.now self.new.tree.counts.items self.new.tree.origins.items) }
     {
-        for line in lines {
-            self.find(*line, count)?;
+        for line in starts {
+            let own = Origin {
+                start: *line,
+                by: None,
+            };
+            self.find(*line, 1, own)?;
         }
         Ok(())
     }
 
     /// Follows the edges at a line.
-    fn follow(&mut self, graph: &Graph, way: Way, line: u32, count: u32) -> Result<(), NoMemory>
+    fn follow(
+        &mut self,
+        graph: &Graph,
+        way: Way,
+        ends: &[End],
+        line: u32,
+        count: u32,
+    ) -> Result<(), NoMemory>
         requires known { line < length graph.now.lines }
-        requires size { length self.old.counts.items ≡ length graph.now.lines }
-        requires some { 0 < count }
-        ensures { OnOk result
-            (IsMarking (IsFarEnd (filter (λ e. near_end way e == line) (edges graph.now)) (far_end way)) count
-            self.old.counts.items self.old.found.items self.new.counts.items self.new.found.items) }
+        requires size { length self.old.tree.counts.items ≡ length graph.now.lines }
+        requires origins_size { length self.old.tree.origins.items ≡ length graph.now.lines }
+        requires some { 0 < slice_index self.old.tree.counts.items line }
+        requires next { count ≡ slice_index self.old.tree.counts.items line + 1 }
+        ensures marking { OnOk result
+            (IsMarking (IsFarEnd (way_edges way ends.now (filter (λ e. near_end way e == line) (edges graph.now))) (far_end way)) count
+            self.old.tree.counts.items self.old.found.items self.new.tree.counts.items self.new.found.items) }
+        ensures origins_size { OnOk result (length self.new.tree.origins.items ≡ length graph.now.lines) }
+        ensures origins { OnOk result ((starts : List ℕ)
+            → AreOrigins (way_edges way ends.now (edges graph.now)) (near_end way) (far_end way) starts self.old.tree.counts.items self.old.tree.origins.items
+            → AreOrigins (way_edges way ends.now (edges graph.now)) (near_end way) (far_end way) starts self.new.tree.counts.items self.new.tree.origins.items) }
     {
         edges_between_lines();
         let _ = graph.lines();
         let edges = edges_at(graph, way, line);
         for edge in edges {
-            let found = far_end(way, *edge);
-            self.find(found, count)?;
+            if follows(way, ends, *edge) {
+                let origin = Origin {
+                    start: self.tree.origins[line as usize].start,
+                    by: Some(*edge),
+                };
+                let found = far_end(way, *edge);
+                self.find(found, count, origin)?;
+            }
         }
         Ok(())
     }
@@ -148,18 +253,25 @@ impl Search {
         &mut self,
         graph: &Graph,
         way: Way,
+        ends: &[End],
         level: &[u32],
         count: u32,
     ) -> Result<(), NoMemory>
         requires known { (i : ℕ) → Contains level.now i → i < length graph.now.lines }
-        requires size { length self.old.counts.items ≡ length graph.now.lines }
-        requires some { 0 < count }
-        ensures { OnOk result
-            (IsMarking (IsFarEndOfSome (edges graph.now) (near_end way) (far_end way) level.now) count
-            self.old.counts.items self.old.found.items self.new.counts.items self.new.found.items) }
+        requires size { length self.old.tree.counts.items ≡ length graph.now.lines }
+        requires origins_size { length self.old.tree.origins.items ≡ length graph.now.lines }
+        requires some { 1 < count }
+        requires next { (i : ℕ) → Contains level.now i → count ≡ slice_index self.old.tree.counts.items i + 1 }
+        ensures marking { OnOk result
+            (IsMarking (IsFarEndOfSome (way_edges way ends.now (edges graph.now)) (near_end way) (far_end way) level.now) count
+            self.old.tree.counts.items self.old.found.items self.new.tree.counts.items self.new.found.items) }
+        ensures origins_size { OnOk result (length self.new.tree.origins.items ≡ length graph.now.lines) }
+        ensures origins { OnOk result ((starts : List ℕ)
+            → AreOrigins (way_edges way ends.now (edges graph.now)) (near_end way) (far_end way) starts self.old.tree.counts.items self.old.tree.origins.items
+            → AreOrigins (way_edges way ends.now (edges graph.now)) (near_end way) (far_end way) starts self.new.tree.counts.items self.new.tree.origins.items) }
     {
         for line in level {
-            self.follow(graph, way, *line, count)?;
+            self.follow(graph, way, ends, *line, count)?;
         }
         Ok(())
     }

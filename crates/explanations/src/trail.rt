@@ -84,7 +84,7 @@ fn edges_back(graph: &Graph, way: Way, line: u32) -> &[Edge]
     ensures { result.now ≡ filter (λ e. far_end way e == line) (edges graph.now) }
 {
     match way {
-        Way::Onward => graph.edges_into(line),
+        Way::Onward | Way::Faults => graph.edges_into(line),
         Way::Back => graph.edges_from(line),
     }
 }

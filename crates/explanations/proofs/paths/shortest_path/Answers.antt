@@ -9,11 +9,11 @@ use Rattle.explanations.proofs.paths.shortest_path.Goals as goal
 pub returns-clause-shortest : goal.returns-clause-shortest
 returns-clause-shortest c =
     answer_shortest c.args.graph.now c.args.to (slice_index c.as_slice.result.now)
-    (subst (λ xs. AreCounts (edges c.args.graph.now) (near_end Back) (far_end Back) (Contains (c.args.to ∷ [])) (slice_index xs)) (sym c.as_slice.ensures.value) c.in_ok-counts.ensures.counts)
+    (subst (λ xs. AreCounts (edges c.args.graph.now) (near_end Back) (far_end Back) (Contains (c.args.to ∷ [])) (slice_index xs)) (sym c.as_slice.ensures.value) c.in_ok-tree.ensures.counts)
     c.args.from c.trail.result c.trail.ensures
 
 pub returns-clause-none : goal.returns-clause-none
 returns-clause-none c =
     answer_none c.args.graph.now c.args.to (slice_index c.as_slice.result.now)
-    (subst (λ xs. AreCounts (edges c.args.graph.now) (near_end Back) (far_end Back) (Contains (c.args.to ∷ [])) (slice_index xs)) (sym c.as_slice.ensures.value) c.in_ok-counts.ensures.counts)
+    (subst (λ xs. AreCounts (edges c.args.graph.now) (near_end Back) (far_end Back) (Contains (c.args.to ∷ [])) (slice_index xs)) (sym c.as_slice.ensures.value) c.in_ok-tree.ensures.counts)
     c.args.from c.trail.result c.trail.ensures

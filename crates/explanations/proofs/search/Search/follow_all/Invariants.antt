@@ -1,7 +1,12 @@
-use Rattle.std.proofs.Common.{take}
+use Rattle.std.proofs.Common.{◌≡◌, ℕ, List, length, take}
 use Rattle.graph_model.specs.graph.Edges.{edges}
-use Rattle.explanations.specs.Search.{near_end, far_end, IsMarking, IsFarEndOfSome}
+use Rattle.explanations.specs.Search.{near_end, far_end, way_edges, AreOrigins, IsMarking, IsFarEndOfSome}
 use Rattle.explanations.proofs.search.Search.follow_all.Given as goal
 
 abbrev pub invariant-loop-line : goal.invariant-loop-line
-invariant-loop-line l = IsMarking (IsFarEndOfSome (edges l.graph) (near_end l.way) (far_end l.way) (take l.line-index l.level)) l.count l.initial.self.counts.items l.initial.self.found.items l.self.counts.items l.self.found.items
+invariant-loop-line l = record {
+  marking : IsMarking (IsFarEndOfSome (way_edges l.way l.ends (edges l.graph)) (near_end l.way) (far_end l.way) (take l.line-index l.level)) l.count l.initial.self.tree.counts.items l.initial.self.found.items l.self.tree.counts.items l.self.found.items;
+  origins_size : length l.self.tree.origins.items ≡ length l.graph.lines;
+  origins : (starts : List ℕ) → AreOrigins (way_edges l.way l.ends (edges l.graph)) (near_end l.way) (far_end l.way) starts l.initial.self.tree.counts.items l.initial.self.tree.origins.items →
+      AreOrigins (way_edges l.way l.ends (edges l.graph)) (near_end l.way) (far_end l.way) starts l.self.tree.counts.items l.self.tree.origins.items;
+}

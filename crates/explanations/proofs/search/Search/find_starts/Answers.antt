@@ -1,0 +1,22 @@
+use Rattle.std.proofs.Common.{◌≡◌, ◌∙◌, sym, refl, inl, arith, length}
+use Rattle.std.specs.Prelude.{slice_index}
+use Rattle.std.proofs.lemmas.List.Elements.{Contains-get_or}
+use Rattle.explanations.proofs.Marking.{lines_more}
+use Rattle.explanations.proofs.Origins.{origins_none}
+use Rattle.explanations.proofs.search.Search.find_starts.Goals as goal
+
+pub find-requires-clause-known : goal.find-requires-clause-known
+find-requires-clause-known c =
+    omega (arith, c.requires.known (slice_index c.args.starts.now c.loop-line.line-index) (Contains-get_or c.args.starts.now c.loop-line.line-index 0 c.loop-line-test.true), c.loop-line.invariant.marking.size)
+
+pub loop-line-preserved : goal.loop-line-preserved
+loop-line-preserved c =
+    let m = lines_more 1 c.args.self.now.tree.counts.items c.args.self.now.found.items c.loop-line.self.tree.counts.items c.loop-line.self.found.items c.find.new.self.tree.counts.items c.find.new.self.found.items
+    c.args.starts.now c.loop-line.line-index c.loop-line-test.true c.loop-line.invariant.marking c.in_ok-find.ensures.marking in
+    record {
+      marking = m;
+      size = c.in_ok-find.ensures.size ∙ (c.loop-line.invariant.size ∙ sym c.in_ok-find.ensures.marking.size);
+      origins = λ all near far. c.in_ok-find.ensures.origins all near far c.args.starts.now
+          (inl (Contains-get_or c.args.starts.now c.loop-line.line-index 0 c.loop-line-test.true, refl, refl))
+          (c.loop-line.invariant.origins all near far);
+    }

@@ -1,0 +1,6 @@
+use Rattle.std.proofs.Common.{ℕ, ◌<◌}
+use Rattle.graph_model.specs.meaning.Rules.{Releases}
+use Rattle.explanations.proofs.sections.release_of.Given as goal
+
+abbrev pub invariant-loop-line : goal.invariant-loop-line
+invariant-loop-line l = (r : ℕ) → r < l.line → Releases l.graph r l.acquire → ⊥
