@@ -4,7 +4,7 @@ use Rattle.basics.specs.Sums.{total, below}
 use Rattle.gen_events.specs.EventMap.{EventMap, answer, IsEventMap, IsCreated, IsPlaced, HasEnded}
 use Rattle.gen_events.specs.Plays.{Coherent}
 use Rattle.gen_events.specs.Seats.{HasSeen, Knows, IsPast, Grows, Keeps, IsBare, SamePlacings, SameGiven, FoundPending, no_event}
-use Rattle.gen_events.specs.Views.{lists, answer_of, caught_lists, caught_on, ended_by, fate_of, given_by, handle_of, made_by, number_of, rest_of, shape_of, ComesAfter, IsFull, IsMakerOf, IsNew, IsOver, IsWithin, Watched}
+use Rattle.gen_events.specs.Views.{lists, answer_of, caught_lists, caught_on, ended_by, fate_of, given_by, handle_of, made_by, number_of, rest_of, shape_of, AreTaken, ComesAfter, IsFull, IsMakerOf, IsNew, IsOver, IsWithin, Watched}
 use Rattle.gen_events.specs.declared.events.Events.{Events}
 use Rattle.gen_events.specs.declared.handle.Answer.{Answer}
 use Rattle.gen_events.specs.declared.handle.Answer.TheVariants.{Pending, Triggered, Poisoned}
@@ -112,12 +112,13 @@ pub record Creates (shape : Shape) (made new : List Handle) (v w : View) (h : Ha
   pub same_placings : SamePlacings v w
   pub same_left : w.left ≡ v.left
 
--- each slot was found retired or pending, and nothing was created
+-- each slot was found retired or pending, by a handle of whose end the seat did not know, and nothing was created
 pub record FindsFull (shape : Shape) (made new : List Handle) (v w : View) : Type 0 where
   pub grows : Grows v w
   pub kept : Keeps v w
   pub none : new ≡ made
   pub full : IsFull shape made v w
+  pub taken : AreTaken shape made v
   pub more_seen : w.seen ≡ v.seen ++ new
   pub same_known : w.known ≡ v.known
   pub same_placings : SamePlacings v w

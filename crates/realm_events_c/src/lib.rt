@@ -10,4 +10,6 @@ mod owner;
 mod parts;
 mod place;
 mod status;
+#[cfg(test)]
+mod tests;
 mod token;
