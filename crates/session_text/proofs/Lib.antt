@@ -4,6 +4,5 @@ pub mod Naming
 pub mod Cells
 pub mod Parts
 pub mod GraphEnds
-
 pub mod Stops
 pub mod OneText
