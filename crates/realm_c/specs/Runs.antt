@@ -1,7 +1,6 @@
 -- Runs whose lines the threads of a caller perform: what a handle holds, and what each call did.
-use Rattle.std.specs.Prelude.{◌≡◌, ℕ, ◌<◌, ◌≤◌, Option, Some, None, List}
+use Rattle.std.specs.Prelude.{◌≡◌, ℕ, Option, Some, None}
 use Rattle.graph_model.specs.graph.Graph.{GraphValue}
-use Rattle.graph_model.specs.declared.meaning.outcome.Outcome.{Outcome}
 use Rattle.run_core.specs.Core.{CoreValue, IsCore}
 use Rattle.run_core.specs.Finishing.{NothingOut}
 use Rattle.run_core.specs.Steps.{Attempts, Issues}
@@ -11,7 +10,6 @@ use Rattle.run_core.specs.declared.answers.Attempt.{Attempt}
 use Rattle.run_core.specs.declared.answers.Attempt.TheVariants as attempts
 use Rattle.run_core.specs.declared.answers.Issue.{Issue}
 use Rattle.run_core.specs.declared.answers.Issue.TheVariants as issues
-use Rattle.run_core.specs.declared.answers.Thing.{Thing}
 use Rattle.run_core.specs.declared.answers.Thing.TheVariants as things
 use Rattle.realm_c.specs.declared.token.Over.{Over}
 use Rattle.realm_c.specs.declared.token.Taken.{Taken}
