@@ -67,6 +67,50 @@ uint32_t realm_plan(const uint8_t *text, size_t length, uint32_t processors, uin
 enum realm_word_kind { REALM_WHY_WORD = 0, REALM_RULE_WORD = 1, REALM_FAULT_WORD = 2 };
 uint32_t realm_word(uint32_t kind, uint32_t number, uint8_t *out, size_t room, uint64_t *written);
 
+/* A run of a graph whose lines the program's own threads perform, and the work of one line. Of zero bytes both are empty;
+   only the calls below write them. One call at a time works on a run, so the program has a lock for it; realm_work_perform
+   takes no run, so lines are performed side by side. Whatever the threads do, the report is that of realm_eval.
+
+   What nothing checks, and the program must keep: an `out` is empty before the call; the structs are moved and never
+   copied; line is below the number of operations of the graph; work goes back into the run of which it was taken, once. */
+struct realm_run { void *at; };
+struct realm_work { void *at; };
+enum realm_run_status {
+    REALM_RUN_DONE = 0, REALM_RUN_NOT_YET = 1, REALM_RUN_BUSY_LOCK = 2, REALM_RUN_BUSY_COLUMN = 3, REALM_RUN_NONE = 4,
+    REALM_RUN_FULL = 5, REALM_RUN_NO_ROOM = 6, REALM_RUN_NO_MEMORY = 7, REALM_RUN_SLOTS = 8, REALM_RUN_OVER = 9,
+    REALM_RUN_NEVER = 10, REALM_RUN_WRONG = 11
+};
+
+/* Checks a graph as realm_check does, and begins a run of it with so many event slots, at most 8,192; 0 stands for the
+   greater of 256 and the need. DONE; SLOTS where they are fewer than verdict->need; else as realm_check, and USAGE. The
+   graph stays in memory until the process ends. */
+uint32_t realm_run_new(const uint8_t *text, size_t length, uint32_t slots, struct realm_run *out, struct realm_verdict *verdict);
+
+/* Issues the next operation of the text. DONE with its number; NONE where all are issued; FULL where no slot is free. */
+uint32_t realm_run_issue(struct realm_run *run, uint32_t *line);
+
+/* Takes an issued operation. DONE with its work; NOT_YET where it waits for the operation `other`, whose end will wake it;
+   BUSY_LOCK, BUSY_COLUMN where the reservation or the column `other` is with another operation: try again after a
+   realm_run_put_back; OVER where it is not issued, is out or has ended; NEVER where it never comes; NO_MEMORY. */
+uint32_t realm_run_take(struct realm_run *run, uint32_t line, struct realm_work *out, uint32_t *other);
+
+/* Performs an operation that was taken. Always DONE. */
+uint32_t realm_work_perform(struct realm_work *work);
+
+/* Puts an operation back that was performed: it ends. Always DONE; the work is used up. */
+uint32_t realm_run_put_back(struct realm_run *run, struct realm_work *work);
+
+/* An operation that waited for one that has ended, each once. DONE; NONE. */
+uint32_t realm_run_woken(struct realm_run *run, uint32_t *line);
+
+/* Does what is left on the calling thread, and gives the report. No work may be out. DONE, NO_ROOM, NO_MEMORY; it may be
+   called again. */
+uint32_t realm_run_report(struct realm_run *run, uint8_t *out, size_t room, uint64_t *written);
+
+/* Frees a run, or work that is not to be put back; a run that lacks it gives no report. */
+void realm_run_free(struct realm_run *run);
+void realm_work_free(struct realm_work *work);
+
 #ifdef __cplusplus
 }
 #endif

@@ -1,20 +1,23 @@
 -- What becomes of a trace, from its parts to the whole input.
-use Rattle.std.proofs.Common.{◌≡◌, ◌≢◌, ℕ, ◌+◌, List, sym, subst, ◌∙◌}
+use Rattle.std.proofs.Common.{◌≡◌, ◌≢◌, ℕ, ◌+◌, ◌⊎◌, List, refl, inl, inr, sym, subst, ◌∙◌}
 use Rattle.graph_model.specs.graph.Graph.{GraphValue}
 use Rattle.graph_model.specs.meaning.Rules.{Accepted}
 use Rattle.graph_model.specs.meaning.Trace.{IsLawful}
+use Rattle.graph_reader.specs.Laws.{OneReading}
 use Rattle.graph_reader.specs.Text.{GraphText}
 use Rattle.realm_audit.specs.Lawful.{IsRefusal, NamesLines}
 use Rattle.graph_reader.specs.FirstFault.{line_count}
-use Rattle.realm_audit.specs.Reading.{IsTraceFault, IsNoText}
+use Rattle.realm_audit.specs.Reading.{IsTraceFault, IsNoText, TextTells}
 use Rattle.realm_audit.specs.Parts.{graph_bytes, trace_bytes}
 use Rattle.realm_audit.specs.declared.refusal.AuditRefusal.{AuditRefusal}
 use Rattle.realm_audit.specs.declared.refusal.AuditRefusal.TheVariants as fault
 use Rattle.realm_top.specs.AuditAnswer.{HasTrace}
-use Rattle.realm_c.specs.Audits.{HasFault, HasNoTrace, TraceFound, TraceSays, AuditSays}
+use Rattle.realm_c.specs.Audits.{HasFault, HasNoTrace, TraceFound, TraceSays, AuditSays, audit_status}
 use Rattle.realm_c.specs.Refusals.{IsCheckRefusal}
 use Rattle.realm_c.specs.declared.audit.Audited.{Audited}
 use Rattle.realm_c.specs.declared.audit.Audited.TheVariants.{Lawful, Refused, NoTrace, Unlawful}
+use Rattle.realm_c.specs.declared.reading.Refusal.TheVariants.{Unread, Unfit, NoMemory}
+use Rattle.realm_c.proofs.Refusing.{no_graph}
 
 -- the fault of a trace, of a graph that is the same
 pub fault_of : (g h : GraphValue) (trace : List ℕ) (why : AuditRefusal) → g ≡ h → why ≢ fault.NoMemory → IsRefusal g trace why → NamesLines g trace why → (IsLawful g trace → ⊥) → HasFault h trace why
@@ -38,3 +41,21 @@ text_says bytes g t acc (Unlawful why) s = (g, t, acc, s)
 pub no_trace_of : (g h k : GraphValue) (bytes : List ℕ) (number n : ℕ) → g ≡ h → k ≡ h → IsTraceFault g bytes number → IsNoText g bytes → n ≡ line_count k + 1 + number → HasNoTrace h bytes n
 no_trace_of g h k bytes number n e f is none counted =
     subst (λ x. HasNoTrace x bytes n) e (record { «number» = number; is_fault = is; no_text = none; «counted» = subst (λ x. n ≡ line_count x + 1 + number) (f ∙ sym e) counted })
+
+-- an accepted graph with a lawful trace behind it is found so, or memory ran out
+pub lawful_is_found : (bytes : List ℕ) → OneReading (graph_bytes bytes) → TextTells → (a : Audited) → AuditSays bytes a
+    → (g : GraphValue) (trace : List ℕ) → GraphText (graph_bytes bytes) g → Accepted g → HasTrace g (trace_bytes bytes) trace → IsLawful g trace
+    → (audit_status a ≡ 0) ⊎ (audit_status a ≡ 7)
+lawful_is_found bytes one tells Lawful s g trace t acc h l = inl refl
+lawful_is_found bytes one tells (Refused (Unread n why)) s g trace t acc h l = absurd (no_graph (graph_bytes bytes) one n why s g t)
+lawful_is_found bytes one tells (Refused (Unfit why)) s g trace t acc h l = absurd (s.2.broken (subst Accepted (one.one_graph g s.0 t s.1) acc))
+lawful_is_found bytes one tells (Refused NoMemory) s g trace t acc h l = inr refl
+lawful_is_found bytes one tells (NoTrace n) s g trace t acc h l =
+    let k = subst (λ x. HasTrace x (trace_bytes bytes) trace) (one.one_graph g s.0 t s.1) h in
+    absurd (s.3.no_text trace k.lines k.text)
+lawful_is_found bytes one tells (Unlawful why) s g trace t acc h l =
+    let e = one.one_graph g s.0 t s.1 in
+    let k = subst (λ x. HasTrace x (trace_bytes bytes) trace) e h in
+    let other = s.3.1 in
+    let same = tells s.0 s.1.is_graph trace s.3.0 k.lines other.lines (k.text ∙ sym other.text) in
+    absurd (s.3.2.unlawful (subst (IsLawful s.0) same (subst (λ x. IsLawful x trace) e l)))

@@ -1,3 +1,4 @@
+pub mod AsBox
 mod Auditing
 mod Handing
 mod Refusing

@@ -1,9 +1,14 @@
 //! Whether a trace is lawful.
 
-ghost use Rattle.std.specs.Prelude.{◌≡◌, ◌≢◌, ◌+◌, ◌<◌, ◌≤◌, ◌^◌, length};
+ghost use Rattle.std.specs.Prelude.{◌≡◌, ◌≢◌, ℕ, ◌+◌, ◌<◌, ◌≤◌, ◌^◌, ◌⊎◌, List, length};
+ghost use Rattle.graph_model.specs.graph.Graph.{GraphValue};
+ghost use Rattle.graph_model.specs.meaning.Rules.{Accepted};
+ghost use Rattle.graph_model.specs.meaning.Trace.{IsLawful};
 ghost use Rattle.graph_reader.specs.FirstFault.{line_count};
+ghost use Rattle.graph_reader.specs.Text.{GraphText};
+ghost use Rattle.realm_audit.specs.Parts.{graph_bytes, trace_bytes};
 ghost use Rattle.realm_audit.specs.Reading.{AreLines};
-ghost use Rattle.realm_top.specs.AuditAnswer.{AUDIT_LIMIT};
+ghost use Rattle.realm_top.specs.AuditAnswer.{AUDIT_LIMIT, HasTrace};
 ghost use Rattle.realm_c.specs.Audits.{audit_status, audit_verdict, AuditSays, TraceFound, TraceSays};
 ghost use Rattle.realm_c.specs.declared.audit.Audited.{Audited as TheAudited};
 
@@ -13,8 +18,10 @@ use crate::verdict::Verdict;
 use graph_model::graph::Graph;
 use graph_model::limits::MAX_TEXT;
 use graph_model::lists::LineList;
+use graph_reader::laws::bytes_have_one_reading;
 use plain_eval::evaluation::eval;
 use race_check::checked::Checked;
+use realm_audit::reading::text_tells_traces_apart;
 use realm_audit::{AuditRefusal, TraceRefusal, audit, parts, read_trace};
 use std::alloc::Global;
 
@@ -36,7 +43,11 @@ pub extern "C" fn realm_audit(alloc: Global, text: &[u8], out: &mut Verdict) -> 
     ensures too_long { result ≡ 9 → AUDIT_LIMIT < length text.now }
     ensures short { result ≢ 9 → length text.now ≤ AUDIT_LIMIT }
     ensures audited { result ≢ 9 → (a : TheAudited) × AuditSays text.now a × (result ≡ audit_status a) × (out.new ≡ audit_verdict a) }
+    ensures complete { (g : GraphValue) (trace : List ℕ) → length text.now ≤ AUDIT_LIMIT → GraphText (graph_bytes text.now) g → Accepted g
+        → HasTrace g (trace_bytes text.now) trace → IsLawful g trace → (result ≡ 0) ⊎ (result ≡ 7) }
 {
+    bytes_have_one_reading();
+    text_tells_traces_apart();
     if text.len() as u64 > 2 * MAX_TEXT {
         *out = Verdict::nothing();
         return TOO_LONG;

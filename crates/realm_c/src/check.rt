@@ -43,7 +43,7 @@ pub extern "C" fn realm_check(alloc: Global, text: &[u8], out: &mut Verdict) -> 
 }
 
 /// The need of an accepted graph, which is at most the most lines of one.
-fn need_of(checked: &Checked) -> u32
+pub(crate) fn need_of(checked: &Checked) -> u32
     ensures need { (result ≡ checked.now.need) × (result ≤ MAX_LINES) }
 {
     let _ = checked.graph().lines();

@@ -59,8 +59,8 @@ fn report_of(alloc: Global, checked: &Checked) -> Option<Vec<u8>>
 }
 
 /// The text of the report.
-fn report_text(alloc: Global, graph: &Graph, found: &Outcome) -> Option<Vec<u8>>
-    requires { found.now ≡ outcome graph.now (order graph.now) }
+pub(crate) fn report_text(alloc: Global, graph: &Graph, found: &Outcome) -> Option<Vec<u8>>
+    requires { found.now ≡ outcome graph.now found.now.trace }
     ensures { IfSome result (λ report. report.items ≡ evaluation_report graph.now) }
 {
     let mut sink = TextSink::new(alloc);

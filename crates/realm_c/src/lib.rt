@@ -5,13 +5,18 @@ mod audit;
 mod buffer;
 mod check;
 mod eval;
+mod held;
+mod inside;
 mod making;
+mod parts;
 mod plan;
 mod reading;
+mod running;
 mod status;
 #[cfg(test)]
 mod tests;
 mod text_sink;
+mod token;
 mod upgrade;
 mod verdict;
 mod words;

@@ -1,5 +1,4 @@
 use Rattle.std.proofs.Common.{◌≡◌, [], ap, ◌∙◌}
-use Rattle.graph_model.specs.meaning.Evaluation.{order}
 use Rattle.realm_top.specs.Texts.{report}
 use Rattle.realm_top.proofs.Fitting.{outcome_fits, report_is}
 use Rattle.realm_c.specs.Buffers.{TextSinkValue}
@@ -7,11 +6,11 @@ use Rattle.realm_c.proofs.Handing.{taken_is}
 use Rattle.realm_c.proofs.eval.report_text.Goals as goal
 
 pub put_report-requires : goal.put_report-requires
-put_report-requires c = outcome_fits c.args.graph.now c.args.found.now (order c.args.graph.now) c.requires
+put_report-requires c = outcome_fits c.args.graph.now c.args.found.now c.args.found.now.trace c.requires
 
 pub returns-in-Ok : goal.returns-in-Ok
 returns-in-Ok c =
     let graph = c.args.graph.now in
     let found = c.args.found.now in
     let empty : c.new-sink.result.taken ≡ [] = ap (λ (s : TextSinkValue). s.taken) c.new-sink.ensures in
-    c.into_bytes.ensures ∙ (taken_is _ _ (report graph found) empty c.in-Ok.ensures.ok ∙ report_is graph found (order graph) c.requires)
+    c.into_bytes.ensures ∙ (taken_is _ _ (report graph found) empty c.in-Ok.ensures.ok ∙ report_is graph found found.trace c.requires)

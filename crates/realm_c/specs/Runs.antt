@@ -1,0 +1,106 @@
+-- Runs whose lines the threads of a caller perform: what a handle holds, and what each call did.
+use Rattle.std.specs.Prelude.{◌≡◌, ℕ, Option, Some, None}
+use Rattle.graph_model.specs.graph.Graph.{GraphValue}
+use Rattle.run_core.specs.Core.{CoreValue, IsCore}
+use Rattle.run_core.specs.Finishing.{NothingOut}
+use Rattle.run_core.specs.Steps.{Attempts, Issues}
+use Rattle.run_core.specs.WhatIsOut.{OutAfter, SameOut}
+use Rattle.run_core.specs.Works.{FinishedValue, IsWork, KeepsWork}
+use Rattle.run_core.specs.declared.answers.Attempt.{Attempt}
+use Rattle.run_core.specs.declared.answers.Attempt.TheVariants as attempts
+use Rattle.run_core.specs.declared.answers.Issue.{Issue}
+use Rattle.run_core.specs.declared.answers.Issue.TheVariants as issues
+use Rattle.run_core.specs.declared.answers.Thing.TheVariants as things
+use Rattle.realm_c.specs.declared.token.Over.{Over}
+use Rattle.realm_c.specs.declared.token.Taken.{Taken}
+use Rattle.realm_c.specs.declared.token.Token.{Token}
+use Rattle.realm_c.specs.declared.token.Token.TheVariants as token
+
+-- the handle holds something of that kind, of which this is so
+abbrev pub HoldsRun : Option Token → (CoreValue → Type 0) → Type 0
+HoldsRun (Some (token.Run c)) f = f c
+HoldsRun _ f = ⊥
+
+abbrev pub HoldsTaken : Option Token → (Taken → Type 0) → Type 0
+HoldsTaken (Some (token.Taken t)) f = f t
+HoldsTaken _ f = ⊥
+
+abbrev pub HoldsFinished : Option Token → (FinishedValue → Type 0) → Type 0
+HoldsFinished (Some (token.Finished x)) f = f x
+HoldsFinished _ f = ⊥
+
+abbrev pub HoldsOver : Option Token → (Over → Type 0) → Type 0
+HoldsOver (Some (token.Over o)) f = f o
+HoldsOver _ f = ⊥
+
+-- the handle holds something
+abbrev pub HoldsAny : Option Token → Type 0
+HoldsAny o = (t : Token) × (o ≡ Some t)
+
+-- what a handle holds that a value was put into, where it is one
+abbrev pub held_of : Token → Option Token
+held_of token.Empty = None
+held_of t = Some t
+
+-- it holds a run of this graph of which no work is out, or what such a run gave in the end
+abbrev pub MayReport : Option Token → GraphValue → Type 0
+MayReport (Some (token.Run c)) g = (c.graph ≡ g) × NothingOut c
+MayReport (Some (token.Over o)) g = o.graph.now ≡ g
+MayReport _ g = ⊥
+
+-- the number of what issuing answers
+abbrev pub issue_number : Issue → ℕ
+issue_number (issues.Issued i) = 0
+issue_number issues.All = 4
+issue_number issues.NoSlot = 5
+issue_number issues.Other = 11
+
+-- the line that was issued, where one was
+abbrev pub issued_line : Issue → ℕ → ℕ
+issued_line (issues.Issued i) before = i
+issued_line _ before = before
+
+-- the number of what taking a line answers
+abbrev pub attempt_number : Attempt → ℕ
+attempt_number (attempts.Taken w) = 0
+attempt_number (attempts.NotYet j) = 1
+attempt_number (attempts.Busy (things.Lock l)) = 2
+attempt_number (attempts.Busy (things.Column c)) = 3
+attempt_number (attempts.Over s) = 9
+attempt_number attempts.Never = 10
+
+-- what is told beside it: the line that is waited for, or the reservation or the column that is out
+abbrev pub other_of : Attempt → ℕ → ℕ
+other_of (attempts.NotYet j) before = j
+other_of (attempts.Busy (things.Lock l)) before = l
+other_of (attempts.Busy (things.Column c)) before = c
+other_of _ before = before
+
+-- the work that was taken, of this graph
+abbrev pub IsTaken : Attempt → GraphValue → Option Token → Type 0
+IsTaken (attempts.Taken w) g held = HoldsTaken held (λ t. (t.work ≡ w) × (t.graph.now ≡ g))
+IsTaken _ g held = held ≡ None
+
+-- the work is that of a line which is out of some core of its graph
+abbrev pub IsOfRun : Taken → Type 0
+IsOfRun t = (c : CoreValue) × IsCore c × (c.graph ≡ t.graph.now) × IsWork c t.work
+
+-- the next line was issued, or none was, and this was answered
+pub record IssuedBy (c d : CoreValue) (number before after : ℕ) : Type 0 where
+  pub answer : Issue
+  pub did : Issues c d answer
+  pub number_is : number ≡ issue_number answer
+  pub line_is : after ≡ issued_line answer before
+  pub out : SameOut c d
+  pub works : (k : ℕ) → KeepsWork c d k
+
+-- a line was to be taken, and this was answered
+pub record TakenBy (c d : CoreValue) (line number before after : ℕ) (held : Option Token) : Type 0 where
+  pub answer : Attempt
+  pub did : Attempts c d line answer
+  pub number_is : number ≡ attempt_number answer
+  pub other_is : after ≡ other_of answer before
+  pub out : OutAfter c d answer
+  pub works : (k : ℕ) → KeepsWork c d k
+  pub sound : IsCore d
+  pub work : IsTaken answer d.graph held

@@ -1,0 +1,96 @@
+//! The handles of C.
+
+ghost use Rattle.std.specs.Prelude.{◌≡◌, Option, Some, None, IfSome};
+ghost use Rattle.realm_c.specs.Held.{held_owns};
+ghost use Rattle.realm_c.specs.Runs.{held_of};
+ghost use Rattle.realm_c.specs.declared.token.Token.{Token as TheToken};
+
+use crate::parts::Parts;
+use crate::token::Token;
+use std::alloc::Global;
+use std::marker::Model;
+
+/// A handle of C: empty, or a box of what it holds. A struct of zero bytes is empty.
+///
+/// It may go to another thread with each kind of value, as `token::may_cross` shows.
+#[repr(C)]
+#[derive(Drop)]
+pub struct Held {
+    at: *mut u8,
+    alloc: Global,
+    pub ghost value: { Option TheToken },
+}
+
+impl Model for Held {
+    ghost also_owns = { λ h. held_owns h.alloc h.at h.value };
+}
+
+impl Held {
+    pub(crate) fn of_parts(parts: Parts<Token, Global>) -> Held
+        ensures { result.value ≡ Some parts.value }
+    {
+        let Parts { ptr, alloc } = parts;
+        Held {
+            at: ptr as *mut u8,
+            alloc,
+        }
+    }
+
+    pub(crate) fn into_parts(self) -> Parts<Token, Global>
+        requires { (v : TheToken) × (self.value ≡ Some v) }
+        ensures { self.value ≡ Some result.value }
+    {
+        let Held { at, alloc } = self;
+        Parts {
+            ptr: at as *mut Token,
+            alloc,
+        }
+    }
+
+    pub(crate) fn empty(alloc: Global) -> Held
+        ensures { result.value ≡ None }
+    {
+        Held {
+            at: std::ptr::null_mut(),
+            alloc,
+        }
+    }
+}
+
+/// A box for what a call makes. None comes where memory ran out.
+pub(crate) fn room(alloc: Global) -> Option<Box<Token, Global>>
+    ensures { IfSome result (λ b. b.value ≡ Token.Empty) }
+{
+    Box::new(alloc, Token::Empty).ok()
+}
+
+impl Held {
+    /// Takes what the handle holds.
+    pub(crate) fn take(&mut self, alloc: Global) -> Box<Token, Global>
+        requires { (v : TheToken) × (self.old.value ≡ Some v) }
+        ensures taken { self.old.value ≡ Some result.value }
+        ensures empty { self.new.value ≡ None }
+    {
+        let held = std::mem::replace(self, Held::empty(alloc));
+        held.into_parts().into_box()
+    }
+
+    /// Has the empty handle hold what was put into the room, where it was.
+    pub(crate) fn fill(&mut self, room: Box<Token, Global>)
+        requires { self.old.value ≡ None }
+        ensures { self.new.value ≡ held_of room.value }
+    {
+        match &*room {
+            Token::Empty => (),
+            _ => self.put(room),
+        }
+    }
+
+    /// Has the empty handle hold this.
+    pub(crate) fn put(&mut self, token: Box<Token, Global>)
+        requires { self.old.value ≡ None }
+        ensures { self.new.value ≡ Some token.value }
+    {
+        *self = Held::of_parts(Parts::of(token));
+    }
+}
