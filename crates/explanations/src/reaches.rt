@@ -91,13 +91,23 @@ pub fn path_to(alloc: Global, reaches: &[Option<Reach>], line: u32) -> Result<Ve
     Ok(edges)
 }
 
+/// How a line is reached. `None` also where there is no such line.
+pub fn reach_at(reaches: &[Option<Reach>], line: u32) -> Option<Reach>
+    ensures { result ≡ reach_at reaches.now line }
+{
+    match reaches.get(line as usize) {
+        Some(reach) => *reach,
+        None => None,
+    }
+}
+
 /// The last edge of the way to a line.
 fn edge_to(reaches: &[Option<Reach>], line: u32) -> Option<Edge>
     ensures { result ≡ option_and_then (λ (m : Reach). m.by) (reach_at reaches.now line) }
 {
-    match reaches.get(line as usize) {
-        Some(Some(reach)) => reach.by,
-        _ => None,
+    match reach_at(reaches, line) {
+        Some(reach) => reach.by,
+        None => None,
     }
 }
 

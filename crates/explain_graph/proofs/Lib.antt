@@ -1,0 +1,3 @@
+pub mod RefusalFacts
+pub mod CauseFacts
+pub mod NamedItems

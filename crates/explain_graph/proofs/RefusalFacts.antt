@@ -1,0 +1,67 @@
+-- What the refusals of the checker tell of paths, acquires and releases.
+use Rattle.std.proofs.Common.{◌≡◌, ◌≢◌, ℕ, ◌+◌, ◌<◌, ◌≤◌, Bool, true, false, inl, inr, length, refl, sym, ◌∙◌, subst, arith}
+use Rattle.std.specs.Prelude.{Option, Some, None, IsTrue, IfSome, MatchOption, Vec}
+use Rattle.std.specs.Global.{Global}
+use Rattle.std.proofs.lemmas.Bool.{true≢false, cases_lt}
+use Rattle.std.proofs.lemmas.Option.{same_Some}
+use Rattle.graph_model.specs.declared.graph.verb.Edge.{Edge}
+use Rattle.graph_model.specs.graph.Graph.{GraphValue, line_passes, is_phase, is_acquire_of, never_comes}
+use Rattle.graph_model.specs.graph.Fits.{IsGraph}
+use Rattle.graph_model.specs.meaning.Path.{HasPath}
+use Rattle.graph_model.specs.meaning.Reservations.{lock_at, acquire_at}
+use Rattle.graph_model.specs.meaning.Rules.{Acquires, Releases, Section, SectionAt, DescendsAt}
+use Rattle.graph_model.proofs.VerbFacts.{passes_below, release_one}
+use Rattle.graph_model.proofs.ReleaseFacts.{release_names, one_release}
+use Rattle.explanations.specs.Paths.{IsShortest}
+use Rattle.explanations.specs.Meetings.{IsNearestCommon}
+use Rattle.explanations.specs.declared.meetings.Meeting.{Meeting}
+use Rattle.explanations.proofs.PathFacts.{paths_listed}
+use Rattle.explanations.proofs.SectionFacts.{releases_from, lock_is}
+
+not_false : (b : Bool) → (b ≡ false → ⊥) → b ≡ true
+not_false true h = refl
+not_false false h = absurd (h refl)
+
+pub path_of : (g : GraphValue) (i j : ℕ) (p : Vec Edge Global) → IsShortest g i j p.items → HasPath g i j
+path_of g i j p s = (paths_listed.each g i j p.items s.path).0
+
+-- an acquire in the section of another
+module _ (g : GraphValue) (i j l k r : ℕ) (fails : DescendsAt g i j → ⊥) (release : Releases g r i) where
+  pub left_there : IsGraph g → (HasPath g j r → ⊥) → ⊥
+  left_there graph not = fails (λ x y s a. absurd (not (subst (λ z. HasPath g j z) (one_release g graph i s.release r s.releases release) s.left)))
+
+  pub not_below : lock_at g i ≡ Some l → lock_at g j ≡ Some k → k ≤ l
+  not_below outer inner = elim (cases_lt l k) [
+    | inl lower ↦ absurd (fails (λ x y s a. (let same : l ≡ x = same_Some l x (sym outer ∙ lock_is g i x s.acquires) in let other : k ≡ y = same_Some k y (sym inner ∙ lock_is g j y a) in omega arith)))
+    | inr up ↦ up
+  ]
+
+-- a line that a release waits for
+module _ (g : GraphValue) (i j q : ℕ) (acquire : acquire_at g i ≡ Some q) where
+  pub releases : Releases g i q
+  releases = releases_from g i q acquire
+
+  pub acquire_line : IsGraph g → q < length g.lines
+  acquire_line graph = let l = release_names g graph i q releases in passes_below (is_acquire_of l.0) g q l.1
+
+  module _ (fails : SectionAt g i j → ⊥) where
+    pub differ : j ≢ q
+    differ e = fails (λ x r p. inl (e ∙ release_one g i q x releases r))
+
+    pub not_before : HasPath g j q → ⊥
+    not_before path = fails (λ x r p. inr (inl (subst (λ z. HasPath g j z) (release_one g i q x releases r) path)))
+
+    by_phase : HasPath g q j → (IsTrue (line_passes is_phase g j) → IsTrue (never_comes g j) → ⊥) → ⊥
+    by_phase path not = fails (λ x r p. inr (inr (subst (λ z. HasPath g z j) (release_one g i q x releases r) path, not)))
+
+    pub entered_of : (o : Option (Vec Edge Global)) → IfSome o (λ p. IsShortest g q j p.items) → (o ≡ None → HasPath g q j → ⊥) →
+        MatchOption o (HasPath g q j → ⊥) (λ p. IsShortest g q j p.items × IsTrue (line_passes is_phase g j) × IsTrue (never_comes g j))
+    entered_of None s none = none refl
+    entered_of (Some p) s none =
+        let path = path_of g q j p s in
+        (s, not_false (line_passes is_phase g j) (λ f. by_phase path (λ a b. true≢false (sym a ∙ f))), not_false (never_comes g j) (λ f. by_phase path (λ a b. true≢false (sym b ∙ f))))
+
+-- the nearest line that leads to two
+pub meeting_of : (g : GraphValue) (i j : ℕ) (o : Option Meeting) → IfSome o (IsNearestCommon g i j) → (o ≡ None → (k : ℕ) → HasPath g k i → HasPath g k j → ⊥) → MatchOption o ((k : ℕ) → HasPath g k i → HasPath g k j → ⊥) (IsNearestCommon g i j)
+meeting_of g i j None s none = none refl
+meeting_of g i j (Some m) s none = s

@@ -1,0 +1,103 @@
+-- What each explanation says of a graph.
+use Rattle.std.specs.Prelude.{◌≡◌, ◌≢◌, ℕ, ◌<◌, ◌≤◌, false, length, Contains, IsTrue, Option, Some, None, MatchOption, IfSome, List, slice_get}
+use Rattle.graph_model.specs.declared.graph.verb.Line.{Line}
+use Rattle.graph_model.specs.declared.graph.verb.Edge.{Edge}
+use Rattle.graph_model.specs.graph.Edges.{edges}
+use Rattle.explanations.specs.declared.meetings.Meeting.{Meeting}
+use Rattle.graph_model.specs.graph.Graph.{GraphValue, locks, columns, line_passes, is_phase, is_merge_ignore, never_comes}
+use Rattle.graph_model.specs.meaning.Path.{HasPath}
+use Rattle.graph_model.specs.meaning.Rules.{Acquires, Releases, Section, Exempt, modes_commute}
+use Rattle.race_check.specs.declared.checked.CheckRefusal.{CheckRefusal}
+use Rattle.race_check.specs.declared.checked.CheckRefusal.TheVariants as refusal
+use Rattle.explanations.specs.Paths.{IsShortest}
+use Rattle.explanations.specs.Shared.{AreUses, IsLeastShared}
+use Rattle.explanations.specs.Meetings.{IsNearestCommon}
+use Rattle.explain_graph.specs.declared.reasons.CycleReason.{CycleReason}
+use Rattle.explain_graph.specs.declared.reasons.UnreleasedReason.{UnreleasedReason}
+use Rattle.explain_graph.specs.declared.reasons.SectionReason.{SectionReason}
+use Rattle.explain_graph.specs.declared.reasons.DescendsReason.{DescendsReason}
+use Rattle.explain_graph.specs.declared.reasons.ReleaseReason.{ReleaseReason}
+use Rattle.explain_graph.specs.declared.reasons.ConflictReason.{ConflictReason}
+use Rattle.explain_graph.specs.declared.explanation.Explanation.{Explanation}
+use Rattle.explain_graph.specs.declared.explanation.Explanation.TheVariants.{Cycle, Unreleased, Section as OutsideSection, Descends, ReleaseFault, Race}
+
+-- a shortest cycle through line i
+pub record IsCycleReason (g : GraphValue) (i : ℕ) (r : CycleReason) : Type 0 where
+  pub line : r.line ≡ i
+  pub cycle : IsShortest g i i r.cycle.items
+
+-- line i acquires the reservation, and no line releases it, or the one that does does not wait for it
+pub record IsUnreleasedReason (g : GraphValue) (i : ℕ) (r : UnreleasedReason) : Type 0 where
+  pub acquire : r.acquire ≡ i
+  pub lock : Acquires g i r.lock
+  pub release : MatchOption r.release ((k : ℕ) → Releases g k i → ⊥) (λ k. Releases g k i × (HasPath g i k → ⊥))
+
+-- line i releases the acquire, and waits for line j, which neither is that nor comes before it, and does not come after it either or is a phase that never comes
+pub record IsSectionReason (g : GraphValue) (i j : ℕ) (r : SectionReason) : Type 0 where
+  pub release : r.release ≡ i
+  pub line : r.line ≡ j
+  pub releases : Releases g i r.acquire
+  pub path : IsShortest g j i r.path.items
+  pub differ : j ≢ r.acquire
+  pub not_before : HasPath g j r.acquire → ⊥
+  pub entered : MatchOption r.entered (HasPath g r.acquire j → ⊥) (λ p. IsShortest g r.acquire j p.items × IsTrue (line_passes is_phase g j) × IsTrue (never_comes g j))
+
+-- line j lies in the section of line i, and the reservation that it acquires is not declared below that of line i
+pub record IsDescendsReason (g : GraphValue) (i j : ℕ) (r : DescendsReason) : Type 0 where
+  pub outer : r.outer ≡ i
+  pub inner : r.inner ≡ j
+  pub outer_lock : Acquires g i r.outer_lock
+  pub inner_lock : Acquires g j r.inner_lock
+  pub not_below : r.inner_lock ≤ r.outer_lock
+  pub release : Releases g r.release i
+  pub entered : IsShortest g i j r.entered.items
+  pub left : IsShortest g j r.release r.left.items
+
+-- line i releases the acquire, and is on no line or on one that is no merge that ignores faults
+pub record IsReleaseReason (g : GraphValue) (i : ℕ) (r : ReleaseReason) : Type 0 where
+  pub release : r.release ≡ i
+  pub releases : Releases g i r.acquire
+  pub line : (l : Line) × (slice_get g.lines i ≡ Some l) × (l.on ≡ r.on)
+  pub on : IfSome r.on (λ m. line_passes is_merge_ignore g m ≡ false)
+
+-- the acquires in whose sections a line lies
+pub record AreSectionsOf (g : GraphValue) (i : ℕ) (acquires : List ℕ) : Type 0 where
+  pub sound : (q : ℕ) → Contains acquires q → (l : ℕ) × Section g l q i
+  pub complete : (l q : ℕ) → Section g l q i → Contains acquires q
+
+-- where lines i and j meet, that neither waits for the other, which line both wait for, and, where what they do there may come in either order, the sections in which they lie, which do not set them apart
+pub record IsConflictReason (g : GraphValue) (i j : ℕ) (r : ConflictReason) : Type 0 where
+  pub first : r.first ≡ i
+  pub second : r.second ≡ j
+  pub shared : IsLeastShared g (AreUses g i j) r.race.shared
+  pub forward : HasPath g i j → ⊥
+  pub backward : HasPath g j i → ⊥
+  pub meeting : MatchOption r.race.meeting ((k : ℕ) → HasPath g k i → HasPath g k j → ⊥) (IsNearestCommon g i j)
+  pub sections : MatchOption r.sections (modes_commute r.race.shared.one.mode r.race.shared.other.mode ≡ false) (λ s. AreSectionsOf g i s.first.items × AreSectionsOf g j s.second.items)
+  pub not_exempt : Exempt g i j → ⊥
+
+-- an explanation of just this refusal
+abbrev pub IsExplanation : GraphValue → CheckRefusal → Explanation → Type 0
+IsExplanation g (refusal.Cycle i) (Cycle r) = IsCycleReason g i r
+IsExplanation g (refusal.Unreleased i) (Unreleased r) = IsUnreleasedReason g i r
+IsExplanation g (refusal.Section i j) (OutsideSection r) = IsSectionReason g i j r
+IsExplanation g (refusal.Descends i j) (Descends r) = IsDescendsReason g i j r
+IsExplanation g (refusal.ReleaseFault i) (ReleaseFault r) = IsReleaseReason g i r
+IsExplanation g (refusal.Race i j) (Race r) = IsConflictReason g i j r
+IsExplanation g why r = ⊥
+
+-- edges of a graph
+abbrev pub AreEdges : GraphValue → List Edge → Type 0
+AreEdges g es = (e : Edge) → Contains es e → Contains (edges g) e
+
+abbrev pub NamesMeeting : GraphValue → Meeting → Type 0
+NamesMeeting g m = (m.line < length g.lines) × AreEdges g m.to_first.items × AreEdges g m.to_second.items
+
+-- the numbers of an explanation are those of lines, reservations and columns, and its edges are edges of the graph
+abbrev pub NamesItems : GraphValue → Explanation → Type 0
+NamesItems g (Cycle r) = (r.line < length g.lines) × AreEdges g r.cycle.items
+NamesItems g (Unreleased r) = (r.acquire < length g.lines) × (r.lock < length (locks g))
+NamesItems g (OutsideSection r) = (r.release < length g.lines) × (r.line < length g.lines) × AreEdges g r.path.items × IfSome r.entered (λ p. AreEdges g p.items)
+NamesItems g (Descends r) = (r.outer < length g.lines) × (r.inner < length g.lines) × (r.outer_lock < length (locks g)) × (r.inner_lock < length (locks g)) × AreEdges g r.entered.items × AreEdges g r.left.items
+NamesItems g (ReleaseFault r) = r.release < length g.lines
+NamesItems g (Race r) = (r.first < length g.lines) × (r.second < length g.lines) × (r.race.shared.one.column < length (columns g)) × IfSome r.race.meeting (NamesMeeting g)

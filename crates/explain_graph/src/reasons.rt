@@ -1,0 +1,238 @@
+//! What explains each refusal of the checker.
+
+ghost use Rattle.std.specs.Prelude.{◌≡◌, ℕ, ◌<◌, length, IfOk};
+ghost use Rattle.graph_model.specs.meaning.Rules.{IsCycle, IsUnreleased, IsOutsideSection, IsNotDescending, IsReleaseFault, IsRace, modes_commute};
+ghost use Rattle.explain_graph.specs.Explanation.{IsCycleReason, IsUnreleasedReason, IsSectionReason, IsDescendsReason, IsReleaseReason, IsConflictReason};
+
+use explanations::paths::{shortest_cycle, shortest_path};
+use explanations::races::{RaceReason, explain_race};
+use explanations::sections::{freed, lock_of, release_of, sections_of};
+use graph_model::graph::Graph;
+use graph_model::laws::edges_between_lines;
+use graph_model::verb::{Edge, Mode};
+use index_spaces::NoMemory;
+use std::alloc::Global;
+
+/// A line, and a shortest cycle through it.
+#[derive(Drop)]
+pub struct CycleReason {
+    pub line: u32,
+    pub cycle: Vec<Edge>,
+}
+
+/// An acquire of a reservation, and the line that releases it but does not wait for it. `None` where
+/// no line releases it.
+#[derive(Clone, Copy, Debug, PartialEq, Eq)]
+pub struct UnreleasedReason {
+    pub acquire: u32,
+    pub lock: u32,
+    pub release: Option<u32>,
+}
+
+/// A release of an acquire, and a line that it waits for, with a shortest path from there. The line
+/// does not come before the acquire. Where it comes after it, with a shortest path, it is a phase
+/// that never comes.
+#[derive(Drop)]
+pub struct SectionReason {
+    pub release: u32,
+    pub line: u32,
+    pub acquire: u32,
+    pub path: Vec<Edge>,
+    pub entered: Option<Vec<Edge>>,
+}
+
+/// An acquire in the section of another, of a reservation that is not declared below the other's,
+/// with shortest paths from the outer acquire to it and from it to the outer one's release.
+#[derive(Drop)]
+pub struct DescendsReason {
+    pub outer: u32,
+    pub inner: u32,
+    pub outer_lock: u32,
+    pub inner_lock: u32,
+    pub release: u32,
+    pub entered: Vec<Edge>,
+    pub left: Vec<Edge>,
+}
+
+/// A release of an acquire, and the line that it is on, which is no merge that ignores faults.
+#[derive(Clone, Copy, Debug, PartialEq, Eq)]
+pub struct ReleaseReason {
+    pub release: u32,
+    pub acquire: u32,
+    pub on: Option<u32>,
+}
+
+/// The acquires in whose sections two lines lie.
+#[derive(Drop)]
+pub struct Sections {
+    pub first: Vec<u32>,
+    pub second: Vec<u32>,
+}
+
+/// Two lines that race, and why they do. Where both reduce into the point that they share in one
+/// way, the sections in which they lie, which do not set them apart.
+#[derive(Drop)]
+pub struct ConflictReason {
+    pub first: u32,
+    pub second: u32,
+    pub race: RaceReason,
+    pub sections: Option<Sections>,
+}
+
+/// Explains a cycle.
+pub(crate) fn explain_cycle(
+    alloc: Global,
+    graph: &Graph,
+    line: u32,
+) -> Result<CycleReason, NoMemory>
+    requires line { line < length graph.now.lines }
+    requires refused { IsCycle graph.now line }
+    ensures { IfOk result (IsCycleReason graph.now line) }
+{
+    match shortest_cycle(alloc, graph, line)? {
+        Some(cycle) => Ok(CycleReason { line, cycle }),
+        None => unreachable!(),
+    }
+}
+
+/// Explains an acquire that is not released.
+pub(crate) fn explain_unreleased(graph: &Graph, acquire: u32) -> UnreleasedReason
+    requires { IsUnreleased graph.now acquire }
+    ensures { IsUnreleasedReason graph.now acquire result }
+{
+    match lock_of(graph, acquire) {
+        Some(lock) => UnreleasedReason {
+            acquire,
+            lock,
+            release: release_of(graph, acquire),
+        },
+        None => unreachable!(),
+    }
+}
+
+/// Explains a line that its release must not wait for.
+pub(crate) fn explain_section(
+    alloc: Global,
+    graph: &Graph,
+    release: u32,
+    line: u32,
+) -> Result<SectionReason, NoMemory>
+    requires release { release < length graph.now.lines }
+    requires line { line < length graph.now.lines }
+    requires refused { IsOutsideSection graph.now release line }
+    ensures { IfOk result (IsSectionReason graph.now release line) }
+{
+    let _ = graph.lines();
+    let Some(acquire) = freed(graph, release) else {
+        unreachable!();
+    };
+    let Some(path) = shortest_path(alloc, graph, line, release)? else {
+        unreachable!();
+    };
+    let entered = shortest_path(alloc, graph, acquire, line)?;
+    Ok(SectionReason {
+        release,
+        line,
+        acquire,
+        path,
+        entered,
+    })
+}
+
+/// Explains an acquire in the section of another.
+pub(crate) fn explain_descends(
+    alloc: Global,
+    graph: &Graph,
+    outer: u32,
+    inner: u32,
+) -> Result<DescendsReason, NoMemory>
+    requires outer { outer < length graph.now.lines }
+    requires inner { inner < length graph.now.lines }
+    requires refused { IsNotDescending graph.now outer inner }
+    ensures { IfOk result (IsDescendsReason graph.now outer inner) }
+{
+    let _ = graph.lines();
+    let Some(outer_lock) = lock_of(graph, outer) else {
+        unreachable!();
+    };
+    let Some(inner_lock) = lock_of(graph, inner) else {
+        unreachable!();
+    };
+    let Some(release) = release_of(graph, outer) else {
+        unreachable!();
+    };
+    let Some(entered) = shortest_path(alloc, graph, outer, inner)? else {
+        unreachable!();
+    };
+    let Some(left) = shortest_path(alloc, graph, inner, release)? else {
+        unreachable!();
+    };
+    Ok(DescendsReason {
+        outer,
+        inner,
+        outer_lock,
+        inner_lock,
+        release,
+        entered,
+        left,
+    })
+}
+
+/// Explains a release that a fault could keep from its end.
+pub(crate) fn explain_release(graph: &Graph, release: u32) -> ReleaseReason
+    requires line { release < length graph.now.lines }
+    requires refused { IsReleaseFault graph.now release }
+    ensures { IsReleaseReason graph.now release result }
+{
+    match freed(graph, release) {
+        Some(acquire) => ReleaseReason {
+            release,
+            acquire,
+            on: graph.line(release).on,
+        },
+        None => unreachable!(),
+    }
+}
+
+/// Explains a race.
+pub(crate) fn explain_conflict(
+    alloc: Global,
+    graph: &Graph,
+    first: u32,
+    second: u32,
+) -> Result<ConflictReason, NoMemory>
+    requires first { first < length graph.now.lines }
+    requires second { second < length graph.now.lines }
+    requires refused { IsRace graph.now first second }
+    ensures { IfOk result (IsConflictReason graph.now first second) }
+{
+    let race = explain_race(alloc, graph, first, second)?;
+    if !modes_commute(race.shared.one.mode, race.shared.other.mode) {
+        return Ok(ConflictReason {
+            first,
+            second,
+            race,
+            sections: None,
+        });
+    }
+    let sections = Some(Sections {
+        first: sections_of(alloc, graph, first)?,
+        second: sections_of(alloc, graph, second)?,
+    });
+    Ok(ConflictReason {
+        first,
+        second,
+        race,
+        sections,
+    })
+}
+
+/// Whether two uses may come in either order.
+fn modes_commute(one: Mode, other: Mode) -> bool
+    ensures { result ≡ modes_commute one other }
+{
+    matches!(
+        (one, other),
+        (Mode::Sum, Mode::Sum) | (Mode::Least, Mode::Least) | (Mode::Most, Mode::Most)
+    )
+}

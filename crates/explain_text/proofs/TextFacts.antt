@@ -1,0 +1,69 @@
+-- Texts that grow at their end.
+use Rattle.std.proofs.Common.{◌≡◌, ℕ, ◌+◌, ◌<◌, ◌≤◌, true, false, List, [], ◌∷◌, ◌++◌, length, take, refl, sym, ◌∙◌, ap, subst, append_assoc, arith}
+use Rattle.std.specs.Prelude.{Result, Ok, Err, OnOk, slice_index, codes, ◌==◌}
+use Rattle.std.proofs.lemmas.Bool.{true≢false, eqb-true}
+use Rattle.std.specs.List.{slice_index_or}
+use Rattle.std.proofs.lemmas.List.{take_more, take_all, append-nil}
+use Rattle.graph_model.specs.declared.graph.verb.Edge.{Edge}
+use Rattle.graph_model.specs.graph.Graph.{GraphValue}
+use Rattle.explain_text.specs.Refused.{in_sections}
+use Rattle.explain_text.specs.Lines.{by_number, numbered, edge_text, edges_text, lines_text}
+
+-- one part, and then the rest
+pub then_put : (old mid new a b : List ℕ) → mid ≡ old ++ a → new ≡ mid ++ b → new ≡ old ++ (a ++ b)
+then_put old mid new a b first second = second ∙ (ap (λ z. z ++ b) first ∙ append_assoc old a b)
+
+pub then_puts : {X E : Type 0} (r : Result X E) (old mid new a b : List ℕ) → mid ≡ old ++ a → OnOk r (new ≡ mid ++ b) → OnOk r (new ≡ old ++ (a ++ b))
+then_puts (Ok x) old mid new a b first second = then_put old mid new a b first second
+then_puts (Err e) old mid new a b first second = tt
+
+-- the same text by other words
+pub puts_as : {X E : Type 0} (r : Result X E) (old new a b : List ℕ) → a ≡ b → OnOk r (new ≡ old ++ a) → OnOk r (new ≡ old ++ b)
+puts_as (Ok x) old new a b same is = is ∙ ap (λ z. old ++ z) same
+puts_as (Err e) old new a b same is = tt
+
+pub put_as : (old new a b : List ℕ) → a ≡ b → new ≡ old ++ a → new ≡ old ++ b
+put_as old new a b same is = is ∙ ap (λ z. old ++ z) same
+
+-- no edge, and one more
+pub edges_begin : (g : GraphValue) (ls : List (List ℕ)) (old : List ℕ) → old ≡ old ++ edges_text g ls []
+edges_begin g ls old = sym (append-nil old)
+
+edges_push : (g : GraphValue) (ls : List (List ℕ)) (es : List Edge) (e : Edge) → edges_text g ls (es ++ e ∷ []) ≡ edges_text g ls es ++ edge_text g ls e
+edges_push g ls [] e = append-nil (edge_text g ls e)
+edges_push g ls (x ∷ es) e = ap (λ z. edge_text g ls x ++ z) (edges_push g ls es e) ∙ sym (append_assoc (edge_text g ls x) (edges_text g ls es) (edge_text g ls e))
+
+pub edges_more : (g : GraphValue) (ls : List (List ℕ)) (old mid new : List ℕ) (es : List Edge) (k : ℕ) (d : Edge) → k < length es → mid ≡ old ++ edges_text g ls (take k es) → new ≡ mid ++ edge_text g ls (slice_index_or es k d) →
+    new ≡ old ++ edges_text g ls (take (k + 1) es)
+edges_more g ls old mid new es k d below first second =
+    then_put old mid new (edges_text g ls (take k es)) (edge_text g ls (slice_index_or es k d)) first second
+    ∙ ap (λ z. old ++ z) (sym (ap (edges_text g ls) (take_more es k d below) ∙ edges_push g ls (take k es) (slice_index_or es k d)))
+
+pub edges_end : (g : GraphValue) (ls : List (List ℕ)) (old new : List ℕ) (es : List Edge) (k : ℕ) → length es ≤ k → new ≡ old ++ edges_text g ls (take k es) → new ≡ old ++ edges_text g ls es
+edges_end g ls old new es k past is = is ∙ ap (λ xs. old ++ edges_text g ls xs) (take_all k es past)
+
+-- the same of lines
+pub lines_begin : (g : GraphValue) (ls : List (List ℕ)) (old : List ℕ) → old ≡ old ++ lines_text g ls []
+lines_begin g ls old = sym (append-nil old)
+
+lines_push : (g : GraphValue) (ls : List (List ℕ)) (is : List ℕ) (i : ℕ) → lines_text g ls (is ++ i ∷ []) ≡ lines_text g ls is ++ numbered g ls i
+lines_push g ls [] i = append-nil (numbered g ls i)
+lines_push g ls (x ∷ is) i = ap (λ z. numbered g ls x ++ z) (lines_push g ls is i) ∙ sym (append_assoc (numbered g ls x) (lines_text g ls is) (numbered g ls i))
+
+pub lines_more : (g : GraphValue) (ls : List (List ℕ)) (old mid new : List ℕ) (is : List ℕ) (k : ℕ) → k < length is → mid ≡ old ++ lines_text g ls (take k is) → new ≡ mid ++ numbered g ls (slice_index is k) →
+    new ≡ old ++ lines_text g ls (take (k + 1) is)
+lines_more g ls old mid new is k below first second =
+    then_put old mid new (lines_text g ls (take k is)) (numbered g ls (slice_index is k)) first second
+    ∙ ap (λ z. old ++ z) (sym (ap (lines_text g ls) (take_more is k 0 below) ∙ lines_push g ls (take k is) (slice_index is k)))
+
+pub lines_end : (g : GraphValue) (ls : List (List ℕ)) (old new : List ℕ) (is : List ℕ) (k : ℕ) → length is ≤ k → new ≡ old ++ lines_text g ls (take k is) → new ≡ old ++ lines_text g ls is
+lines_end g ls old new is k past e = e ∙ ap (λ xs. old ++ lines_text g ls xs) (take_all k is past)
+
+-- the sections of a line, of which there are none or some
+pub in_none : (g : GraphValue) (ls : List (List ℕ)) (i : ℕ) (qs : List ℕ) → (length qs == 0) ≡ true → by_number g i ++ codes " lies in no section\n" ≡ in_sections g ls i qs
+in_none g ls i [] e = refl
+in_none g ls i (q ∷ qs) e = absurd (let z : length (q ∷ qs) ≡ 0 = eqb-true (length (q ∷ qs)) 0 e in omega arith)
+
+pub in_some : (g : GraphValue) (ls : List (List ℕ)) (i : ℕ) (qs : List ℕ) → (length qs == 0) ≡ false → by_number g i ++ (codes " lies in the section of\n" ++ lines_text g ls qs) ≡ in_sections g ls i qs
+in_some g ls i [] e = absurd (true≢false e)
+in_some g ls i (q ∷ qs) e = refl

@@ -1,0 +1,20 @@
+use Rattle.std.proofs.Common.{ap, sym}
+use Rattle.std.specs.Prelude.{codes, decimal, None}
+use Rattle.std.specs.Option.{option_map_or}
+use Rattle.graph_model.specs.declared.graph.verb.Line.{Line}
+use Rattle.basics.specs.Words.{contents}
+use Rattle.graph_model.specs.graph.Spelling.{line_name, lock_name, column_name}
+use Rattle.explain_text.specs.Lines.{by_number, numbered, mode_word, edges_text, lines_text}
+use Rattle.explain_text.specs.Refused.{refused_one, refused_two, unreleased_by, entered_text, on_text, shared_text, meeting_text, advice_by, on_of, advice_text, in_sections, sections_text}
+use Rattle.explain_text.proofs.TextFacts.{then_puts, puts_as, put_as}
+use Rattle.explain_text.proofs.conflict.put_advice.Goals as goal
+
+pub returns : goal.returns
+returns c =
+    let g = c.args.graph.now in
+    let r = c.put_advice_by.result in
+    (then_puts r _ _ _ (codes "to order them, put ") _ c.in_ok-put.ensures
+    (then_puts r _ _ _ (by_number g c.args.second) _ c.in_ok-put_by_number.ensures
+    (then_puts r _ _ _ (codes " ") _ c.in_ok-put-2.ensures
+    (puts_as r c.put-2.new.self c.put_advice_by.new.text (advice_by g c.line.result.now.on c.args.first) (advice_by g (on_of g c.args.second) c.args.first)
+    (ap (λ o. advice_by g o c.args.first) (sym (ap (λ o. option_map_or (λ (l : Line). l.on) o None) c.line.ensures.line))) c.put_advice_by.ensures))))

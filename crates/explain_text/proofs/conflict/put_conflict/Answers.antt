@@ -1,0 +1,22 @@
+use Rattle.std.proofs.Common.{ap}
+use Rattle.std.specs.Prelude.{codes, decimal}
+use Rattle.basics.specs.Words.{contents}
+use Rattle.graph_model.specs.graph.Spelling.{line_name, lock_name, column_name}
+use Rattle.explain_text.specs.Lines.{by_number, numbered, mode_word, edges_text, lines_text}
+use Rattle.explain_text.specs.Refused.{refused_one, refused_two, unreleased_by, entered_text, on_text, shared_text, meeting_text, advice_by, on_of, advice_text, in_sections, sections_text}
+use Rattle.explain_text.proofs.TextFacts.{then_puts, puts_as, put_as}
+use Rattle.explain_text.proofs.conflict.put_conflict.Goals as goal
+
+pub returns : goal.returns
+returns c =
+    let g = c.args.graph.now in
+    let ls = contents c.args.lines.now in
+    let r = c.put_sections.result in
+    (then_puts r _ _ _ (refused_two g (codes "race") c.args.reason.now.first c.args.reason.now.second) _ c.in_ok-put_refused_two.ensures
+    (then_puts r _ _ _ (numbered g ls c.args.reason.now.first) _ c.in_ok-put_numbered.ensures
+    (then_puts r _ _ _ (numbered g ls c.args.reason.now.second) _ c.in_ok-put_numbered-2.ensures
+    (then_puts r _ _ _ (shared_text g c.args.reason.now.race.shared c.args.reason.now.first c.args.reason.now.second) _ c.in_ok-put_shared.ensures
+    (then_puts r _ _ _ (codes "neither waits for the other\n") _ c.in_ok-put.ensures
+    (then_puts r _ _ _ (meeting_text g ls c.args.reason.now.race.meeting) _ c.in_ok-put_meeting.ensures
+    (then_puts r _ _ _ (advice_text g c.args.reason.now.first c.args.reason.now.second) _ c.in_ok-put_advice.ensures
+    c.put_sections.ensures)))))))

@@ -1,0 +1,59 @@
+-- Lines of a graph's text, with their numbers, and why they wait.
+use Rattle.std.specs.Prelude.{ℕ, ◌+◌, List, [], ◌∷◌, ◌++◌, length, codes, decimal}
+use Rattle.std.specs.List.{slice_index_or}
+use Rattle.graph_model.specs.declared.graph.verb.Edge.{Edge}
+use Rattle.graph_model.specs.declared.graph.verb.Mode.{Mode}
+use Rattle.graph_model.specs.declared.graph.verb.Mode.TheVariants.{Read, Write, Sum, Least, Most}
+use Rattle.graph_model.specs.graph.Graph.{GraphValue}
+use Rattle.explain_graph.specs.declared.causes.Cause.{Cause}
+use Rattle.explain_graph.specs.declared.causes.Cause.TheVariants.{On, Merge, MergeIgnore, Trigger, Cancel, Arrival, PhaseOrder}
+use Rattle.explain_graph.specs.Causes.{cause_in}
+
+-- the number of a line in the text, from 1: the first line names the format, and the declarations come before the operations
+abbrev pub line_number : GraphValue → ℕ → ℕ
+line_number g i = i + length g.decls + 2
+
+-- the line of the text
+abbrev pub line_of : GraphValue → List (List ℕ) → ℕ → List ℕ
+line_of g ls i = slice_index_or ls (i + length g.decls + 1) []
+
+abbrev pub by_number : GraphValue → ℕ → List ℕ
+by_number g i = codes "line " ++ decimal (line_number g i)
+
+-- a line with its number
+abbrev pub numbered : GraphValue → List (List ℕ) → ℕ → List ℕ
+numbered g ls i = by_number g i ++ (codes ": " ++ (line_of g ls i ++ codes "\n"))
+
+abbrev pub cause_word : Cause → List ℕ
+cause_word On = codes "on"
+cause_word Merge = codes "merge"
+cause_word MergeIgnore = codes "mergei"
+cause_word Trigger = codes "trigger"
+cause_word Cancel = codes "cancel"
+cause_word Arrival = codes "arrival"
+cause_word PhaseOrder = codes "phase order"
+
+-- how a use of a column is told
+abbrev pub mode_word : Mode → List ℕ
+mode_word Read = codes "reads"
+mode_word Write = codes "writes"
+mode_word Sum = codes "adds to"
+mode_word Least = codes "takes the least into"
+mode_word Most = codes "takes the greatest into"
+
+-- for which line another waits, and why
+abbrev pub waits_for : GraphValue → Edge → List ℕ
+waits_for g e = by_number g e.to ++ (codes " waits for " ++ (by_number g e.from ++ (codes " (" ++ (cause_word (cause_in g e) ++ codes ")"))))
+
+abbrev pub edge_text : GraphValue → List (List ℕ) → Edge → List ℕ
+edge_text g ls e = waits_for g e ++ (codes ": " ++ (line_of g ls e.to ++ codes "\n"))
+
+-- the same of edges, one after the other
+abbrev pub edges_text : GraphValue → List (List ℕ) → List Edge → List ℕ
+edges_text g ls [] = []
+edges_text g ls (e ∷ es) = edge_text g ls e ++ edges_text g ls es
+
+-- lines, one after the other
+abbrev pub lines_text : GraphValue → List (List ℕ) → List ℕ → List ℕ
+lines_text g ls [] = []
+lines_text g ls (i ∷ is) = numbered g ls i ++ lines_text g ls is

@@ -1,0 +1,17 @@
+//! Explanations as text for people, a fact on each line.
+#![tactic(auto)]
+
+pub mod accepted;
+mod conflict;
+mod lines;
+pub mod refused;
+pub mod split;
+pub mod text;
+pub mod unread;
+mod words;
+
+pub use accepted::{put_cancelled, put_need, put_waiting, put_ways};
+pub use refused::put_explanation;
+pub use split::split_lines;
+pub use text::Text;
+pub use unread::put_unread;

@@ -1,0 +1,126 @@
+//! Lines of a graph's text with their numbers, and why they wait.
+
+ghost use Rattle.std.specs.Prelude.{◌≡◌, ◌++◌, Contains, codes, OnOk};
+ghost use Rattle.basics.specs.Words.{contents};
+ghost use Rattle.graph_model.specs.graph.Edges.{edges};
+ghost use Rattle.graph_model.specs.graph.Spelling.{line_name};
+ghost use Rattle.explain_graph.specs.Explanation.{AreEdges};
+ghost use Rattle.explain_text.specs.Lines.{line_number, line_of, by_number, numbered, waits_for, edge_text, edges_text, lines_text};
+
+use crate::text::Text;
+use crate::words::cause_word;
+use explain_graph::cause_of;
+use graph_model::graph::Graph;
+use graph_model::verb::Edge;
+use index_spaces::NoMemory;
+
+/// Puts `line` and the number of a line.
+pub(crate) fn put_by_number(text: &mut Text, graph: &Graph, i: u32) -> Result<(), NoMemory>
+    ensures { OnOk result (text.new ≡ text.old ++ by_number graph.now i) }
+{
+    let number = u64::from(i) + u64::from(graph.decls()) + 2;
+    text.put(b"line ")?;
+    text.put_number(number)
+}
+
+/// A line of the text that was read.
+fn line_of<'a>(graph: &Graph, lines: &[&'a [u8]], i: u32) -> &'a [u8]
+    ensures { result.now ≡ line_of graph.now (contents lines.now) i }
+{
+    let place = i as usize + graph.decls() as usize + 1;
+    match lines.get(place) {
+        Some(line) => line,
+        None => b"",
+    }
+}
+
+/// Puts a line as it was read, behind a colon.
+pub(crate) fn put_line(
+    text: &mut Text,
+    graph: &Graph,
+    lines: &[&[u8]],
+    i: u32,
+) -> Result<(), NoMemory>
+    ensures { OnOk result (text.new ≡ text.old ++ (codes ": " ++ (line_of graph.now (contents lines.now) i ++ codes "\n"))) }
+{
+    text.put(b": ")?;
+    text.put(line_of(graph, lines, i))?;
+    text.put(b"\n")
+}
+
+/// Puts a line with its number.
+pub(crate) fn put_numbered(
+    text: &mut Text,
+    graph: &Graph,
+    lines: &[&[u8]],
+    i: u32,
+) -> Result<(), NoMemory>
+    ensures { OnOk result (text.new ≡ text.old ++ numbered graph.now (contents lines.now) i) }
+{
+    put_by_number(text, graph, i)?;
+    put_line(text, graph, lines, i)
+}
+
+/// Puts the name of a line; none where there is no such line.
+pub(crate) fn put_name(text: &mut Text, graph: &Graph, i: u32) -> Result<(), NoMemory>
+    ensures { OnOk result (text.new ≡ text.old ++ line_name graph.now i) }
+{
+    if i >= graph.lines() {
+        return Ok(());
+    }
+    text.put(graph.line(i).name.bytes())
+}
+
+/// Puts for which line another waits, and why.
+pub(crate) fn put_waits(text: &mut Text, graph: &Graph, edge: Edge) -> Result<(), NoMemory>
+    requires { Contains (edges graph.now) edge }
+    ensures { OnOk result (text.new ≡ text.old ++ waits_for graph.now edge) }
+{
+    let cause = cause_of(graph, edge);
+    put_by_number(text, graph, edge.to)?;
+    text.put(b" waits for ")?;
+    put_by_number(text, graph, edge.from)?;
+    text.put(b" (")?;
+    text.put(cause_word(cause))?;
+    text.put(b")")
+}
+
+/// Puts the same with the line that waits.
+fn put_edge(text: &mut Text, graph: &Graph, lines: &[&[u8]], edge: Edge) -> Result<(), NoMemory>
+    requires { Contains (edges graph.now) edge }
+    ensures { OnOk result (text.new ≡ text.old ++ edge_text graph.now (contents lines.now) edge) }
+{
+    put_waits(text, graph, edge)?;
+    put_line(text, graph, lines, edge.to)
+}
+
+/// Puts edges, one after the other.
+pub(crate) fn put_edges(
+    text: &mut Text,
+    graph: &Graph,
+    lines: &[&[u8]],
+    path: &[Edge],
+) -> Result<(), NoMemory>
+    requires { AreEdges graph.now path.now }
+    ensures { OnOk result (text.new ≡ text.old ++ edges_text graph.now (contents lines.now) path.now) }
+{
+    for edge in path {
+        put_edge(text, graph, lines, *edge)?;
+    }
+    Ok(())
+}
+
+/// Puts lines, one after the other.
+pub(crate) fn put_lines(
+    text: &mut Text,
+    graph: &Graph,
+    lines: &[&[u8]],
+    numbers: &[u32],
+) -> Result<(), NoMemory>
+    ensures { OnOk result (text.new ≡ text.old ++ lines_text graph.now (contents lines.now) numbers.now) }
+{
+    for i in numbers {
+        put_numbered(text, graph, lines, *i)?;
+    }
+    Ok(())
+}

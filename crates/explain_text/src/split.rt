@@ -1,0 +1,37 @@
+//! The lines of a text.
+
+ghost use Rattle.std.specs.Prelude.{◌≡◌, ◌==◌, false, MatchOption, IfOk};
+ghost use Rattle.std.specs.List.{list_any};
+ghost use Rattle.basics.specs.Words.{contents};
+ghost use Rattle.graph_reader.specs.Cuts.{IsCut};
+ghost use Rattle.graph_reader.specs.Words.{pieces};
+
+use index_spaces::NoMemory;
+use index_spaces::room::push;
+use std::alloc::Global;
+
+/// The pieces of bytes between their newlines: one more than there are of these.
+pub fn split_lines(alloc: Global, bytes: &[u8]) -> Result<Vec<&[u8]>, NoMemory>
+    ensures { IfOk result (λ v. contents v.items ≡ pieces 10 bytes.now) }
+{
+    let mut lines = Vec::new(alloc);
+    let mut rest = bytes;
+    while let Some((line, after)) = cut(rest) {
+        push(&mut lines, line)?;
+        rest = after;
+    }
+    push(&mut lines, rest)?;
+    Ok(lines)
+}
+
+/// The bytes before the first newline and those behind it. `None` exactly where there is none.
+fn cut(bytes: &[u8]) -> Option<(&[u8], &[u8])>
+    ensures { MatchOption result (list_any (λ b. b == 10) bytes.now ≡ false) (λ x. IsCut 10 bytes.now x.0.now x.1.now) }
+{
+    for (i, b) in bytes.iter().enumerate() {
+        if *b == b'\n' {
+            return Some((&bytes[..i], &bytes[i + 1..]));
+        }
+    }
+    None
+}

@@ -1,0 +1,2 @@
+pub mod EdgeFacts
+pub mod Endings

@@ -1,0 +1,93 @@
+//! The answer to the bytes of an input.
+
+ghost use Rattle.std.specs.Prelude.{◌≡◌, IfOk};
+ghost use Rattle.basics.specs.Words.{contents};
+ghost use Rattle.explain_text.specs.Unread.{unread_text};
+ghost use Rattle.explain_top.specs.Answer.{IsAnswer, IsUnfitText};
+ghost use Rattle.race_check.specs.Refusal.{IsRefusal, NamesLines};
+
+use crate::accepted::put_accepted;
+use explain_graph::explain;
+use explain_text::{Text, put_explanation, put_unread, split_lines};
+use graph_model::why::Why;
+use graph_reader::{ReadRefusal, read_graph};
+use index_spaces::NoMemory;
+use race_check::check;
+use race_check::checked::{CheckRefusal, Unfit};
+use std::alloc::Global;
+
+/// What becomes of an input.
+#[derive(Clone, Copy, Debug, PartialEq, Eq)]
+pub enum Verdict {
+    /// It is the text of a graph that is accepted.
+    Accepted,
+    /// It is the text of a graph that breaks a rule.
+    Unfit,
+    /// It is the text of no graph.
+    Unread,
+}
+
+/// What becomes of an input, and the text that says why.
+#[derive(Drop)]
+pub struct Answer {
+    pub verdict: Verdict,
+    pub text: Text,
+}
+
+/// Reads and checks a graph as `realm check` does, and says why it is refused or what it needs, and why
+/// lines wait; where the ends of lines are asked for, also why lines are cancelled.
+pub fn explain_bytes(alloc: Global, bytes: &[u8], ends: bool) -> Result<Answer, NoMemory>
+    ensures { IfOk result (λ a. IsAnswer ends bytes.now a.verdict a.text) }
+{
+    let lines = split_lines(alloc, bytes)?;
+    match read_graph(alloc, bytes) {
+        Ok(graph) => match check(alloc, graph) {
+            Ok(checked) => {
+                let text = put_accepted(alloc, &checked, lines.as_slice(), ends)?;
+                Ok(Answer {
+                    verdict: Verdict::Accepted,
+                    text,
+                })
+            }
+            Err(unfit) => {
+                let text = put_unfit(alloc, &unfit, lines.as_slice())?;
+                Ok(Answer {
+                    verdict: Verdict::Unfit,
+                    text,
+                })
+            }
+        },
+        Err(ReadRefusal::Line { number, why }) => {
+            let text = put_refused(alloc, lines.as_slice(), number, why)?;
+            Ok(Answer {
+                verdict: Verdict::Unread,
+                text,
+            })
+        }
+        Err(ReadRefusal::NoMemory) => Err(NoMemory),
+    }
+}
+
+/// The text on a graph that is refused.
+fn put_unfit(alloc: Global, unfit: &Unfit, lines: &[&[u8]]) -> Result<Text, NoMemory>
+    requires lines { NamesLines unfit.now.graph unfit.now.why }
+    requires refused { IsRefusal unfit.now.graph unfit.now.why }
+    ensures { IfOk result (λ t. IsUnfitText unfit.now.graph unfit.now.why (contents lines.now) t) }
+{
+    if unfit.why == CheckRefusal::NoMemory {
+        return Err(NoMemory);
+    }
+    let explanation = explain(alloc, &unfit.graph, unfit.why)?;
+    let mut text = Text::new(alloc);
+    put_explanation(&mut text, &unfit.graph, lines, &explanation)?;
+    Ok(text)
+}
+
+/// The text on bytes that are no graph's.
+fn put_refused(alloc: Global, lines: &[&[u8]], number: u32, why: Why) -> Result<Text, NoMemory>
+    ensures { IfOk result (λ t. t ≡ unread_text (contents lines.now) number why) }
+{
+    let mut text = Text::new(alloc);
+    put_unread(&mut text, lines, number, why)?;
+    Ok(text)
+}

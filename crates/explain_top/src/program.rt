@@ -1,0 +1,104 @@
+//! What the program does with its streams.
+
+ghost use Rattle.std.specs.Prelude.{◌≡◌, ◌⊎◌, ℕ, List, Some};
+ghost use Rattle.realm_io.specs.Counts.{Rose};
+ghost use Rattle.explain_top.specs.Answer.{IsAnswer};
+ghost use Rattle.explain_top.specs.Program.{exit_number, status_of, Delivered, IsAnswered};
+ghost use Rattle.explain_top.specs.declared.answer.Verdict.{Verdict};
+
+use crate::answer::{Verdict, explain_bytes};
+use realm_io::{ReadEnd, Sink, Source, put, read_all};
+use std::alloc::Global;
+
+/// The most bytes of an input.
+const MAX_INPUT: u32 = 1_048_576;
+
+/// How the program ends.
+#[derive(Clone, Copy, Debug, PartialEq, Eq)]
+pub enum Status {
+    /// The graph is accepted.
+    Accepted,
+    /// The words are not those of the program.
+    Usage,
+    /// The input is the text of no graph.
+    Unread,
+    /// The graph breaks a rule.
+    Unfit,
+    /// A read failed.
+    ReadFault,
+    /// A write or a flush failed.
+    WriteFault,
+    /// Memory ran out, before anything was written.
+    NoMemory,
+    /// The input has more than 1,048,576 bytes.
+    TooLong,
+}
+
+impl Status {
+    /// The exit status of the program.
+    pub fn number(&self) -> u8
+        ensures { result ≡ exit_number self.now }
+    {
+        match self {
+            Status::Accepted => 0,
+            Status::Usage => 2,
+            Status::Unread => 3,
+            Status::Unfit => 4,
+            Status::ReadFault => 5,
+            Status::WriteFault => 6,
+            Status::NoMemory => 7,
+            Status::TooLong => 9,
+        }
+    }
+}
+
+/// Reads all of the input, and writes what the checker says of it and why.
+pub fn run<S: Source, K: Sink>(alloc: Global, source: &mut S, sink: &mut K, ends: bool) -> Status
+    // Accepted, Unfit and Unread: exactly this is so of the input, and the text that says why was written and flushed.
+    ensures answered { (bytes : List ℕ) (verdict : Verdict) → S.left source.old ≡ Some bytes → result ≡ status_of verdict
+        → (out : List ℕ) × IsAnswer ends bytes verdict out × Delivered (K.state sink.old) (K.state sink.new) out }
+    ensures read_fault { result ≡ Status.ReadFault → Rose (S.faults source.old) (S.faults source.new) }
+    ensures write_fault { result ≡ Status.WriteFault → Rose (K.state sink.old).faults (K.state sink.new).faults }
+    ensures no_memory { result ≡ Status.NoMemory → sink.new ≡ sink.old }
+    ensures usage { result ≡ Status.Usage → ⊥ }
+{
+    match read_all(alloc, source, MAX_INPUT) {
+        Ok(bytes) => answer(alloc, bytes.as_slice(), sink, ends),
+        Err(ReadEnd::TooLong) => put_text(sink, b"input too long\n", Status::TooLong),
+        Err(ReadEnd::ReadFault) => Status::ReadFault,
+        Err(ReadEnd::NoMemory) => Status::NoMemory,
+    }
+}
+
+/// Writes what the checker says of the bytes and why.
+fn answer<K: Sink>(alloc: Global, bytes: &[u8], sink: &mut K, ends: bool) -> Status
+    ensures answered { IsAnswered ends bytes.now (K.state sink.old) (K.state sink.new) result }
+    ensures no_memory { result ≡ Status.NoMemory → sink.new ≡ sink.old }
+{
+    match explain_bytes(alloc, bytes, ends) {
+        Ok(answer) => put_text(sink, answer.text.bytes(), status_of(answer.verdict)),
+        Err(_) => Status::NoMemory,
+    }
+}
+
+/// The status of a verdict.
+fn status_of(verdict: Verdict) -> Status
+    ensures { result ≡ status_of verdict }
+{
+    match verdict {
+        Verdict::Accepted => Status::Accepted,
+        Verdict::Unfit => Status::Unfit,
+        Verdict::Unread => Status::Unread,
+    }
+}
+
+/// Writes and flushes a text.
+fn put_text<K: Sink>(sink: &mut K, text: &[u8], status: Status) -> Status
+    ensures { ((result ≡ status) × Delivered (K.state sink.old) (K.state sink.new) text.now)
+        ⊎ ((result ≡ Status.WriteFault) × Rose (K.state sink.old).faults (K.state sink.new).faults) }
+{
+    if put(sink, text).is_err() || sink.flush().is_err() {
+        return Status::WriteFault;
+    }
+    status
+}
