@@ -47,7 +47,7 @@ bools_agree false true h i = i refl
 bools_agree false false h i = refl
 
 -- lines that only order do nothing
-alone_uses : (v : Verb) → orders_alone v ≡ true → uses_columns v ≡ true → ⊥
+pub alone_uses : (v : Verb) → orders_alone v ≡ true → uses_columns v ≡ true → ⊥
 alone_uses User h u = true≢false (sym h)
 alone_uses (Trigger k) h u = true≢false (sym h)
 alone_uses (Cancel k) h u = true≢false (sym h)

@@ -40,7 +40,7 @@ flat_in (p ∷ ps) i c = elim (Contains-append_cases p (flat_map (λ p. p) ps) i
   | inr rest ↦ (let r = flat_in ps i rest in (r.0, contains_there p ps r.0 r.1, r.2))
 ]
 
-in_flat : (ps : List (List ℕ)) (p : List ℕ) (i : ℕ) → Contains ps p → Contains p i → Contains (flat_map (λ p. p) ps) i
+pub in_flat : (ps : List (List ℕ)) (p : List ℕ) (i : ℕ) → Contains ps p → Contains p i → Contains (flat_map (λ p. p) ps) i
 in_flat [] p i c d = absurd (contains_none p c)
 in_flat (q ∷ ps) p i c d = elim (contains_cases q ps p c) [
   | inl same ↦ Contains-append_left q (flat_map (λ p. p) ps) i (subst (λ x. Contains x i) (sym same) d)

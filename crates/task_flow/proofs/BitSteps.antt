@@ -1,0 +1,100 @@
+-- Rows of bits: a bit that is set, and a row that is joined word by word.
+use Rattle.std.proofs.Common.{◌≡◌, ℕ, zero, suc, ◌*◌, ◌/◌, ◌%◌, ◌^◌, ◌<◌, ◌≤◌, max, Bool, true, ◌||◌, ◌⊎◌, inl, inr, List, length, sym, ◌∙◌, ap, subst, arith}
+use Rattle.std.specs.Prelude.{◌==◌, slice_index, slice_set}
+use Rattle.std.specs.List.{slice_index_or}
+use Rattle.std.specs.Int.{bit_at}
+use Rattle.std.specs.Int.RustNames.{bit_or}
+use mir.Syntax.{w64}
+use Rattle.std.proofs.lemmas.Bool.{true≢false, cases_eq, cases_lt, cases_Bool, eq-eqb, eqb-true, or_left, or_right, or_cases, false_from_ne_true}
+use Rattle.std.proofs.lemmas.Nat.Bits.{bit_at_or, bit_at-lt, bit_at_set_same, bit_at_set_other}
+use Rattle.std.proofs.lemmas.List.{get_or-set_same, get_or-set_other, get_or_past, get_or_read}
+use Rattle.task_flow.specs.Bits.{word_bit}
+
+-- a test that passes where one of two does
+by_cases : (x a b : Bool) → (x ≡ true → (a ≡ true) ⊎ (b ≡ true)) → ((a ≡ true) ⊎ (b ≡ true) → x ≡ true) → x ≡ (a || b)
+by_cases x a b f g = elim (cases_Bool (a || b)) [
+  | inl yes' ↦ g (or_cases a b yes') ∙ sym yes'
+  | inr no' ↦ false_from_ne_true x (λ h. elim (f h) [ inl l ↦ true≢false (sym (or_left a b l) ∙ no') | inr r ↦ true≢false (sym (or_right a b r) ∙ no') ]) ∙ sym no'
+]
+
+one_or : (x y : ℕ) → x < 2 → y < 2 → ((max x y ≡ 1) → ((x ≡ 1) ⊎ (y ≡ 1))) × (((x ≡ 1) ⊎ (y ≡ 1)) → (max x y ≡ 1))
+one_or x y a b = ((λ h. by x a h), (λ h. elim h [ inl e ↦ omega arith | inr e ↦ omega arith ]))
+  where
+    by : (z : ℕ) → z < 2 → max z y ≡ 1 → (z ≡ 1) ⊎ (y ≡ 1)
+    by zero c h = inr (omega arith)
+    by (suc z) c h = inl (omega arith)
+
+joined_bit : (old add new : List ℕ) → ((w : ℕ) → slice_index new w ≡ bit_or (slice_index old w) (slice_index add w)) → (j : ℕ) → word_bit new j ≡ (word_bit old j || word_bit add j)
+joined_bit old add new same j =
+    let a : bit_at (slice_index old (j / 64)) (j % 64) < 2 = bit_at-lt (slice_index old (j / 64)) (j % 64) in
+    let b : bit_at (slice_index add (j / 64)) (j % 64) < 2 = bit_at-lt (slice_index add (j / 64)) (j % 64) in
+    let iff = one_or (bit_at (slice_index old (j / 64)) (j % 64)) (bit_at (slice_index add (j / 64)) (j % 64)) a b in
+    let is : bit_at (slice_index new (j / 64)) (j % 64) ≡ max (bit_at (slice_index old (j / 64)) (j % 64)) (bit_at (slice_index add (j / 64)) (j % 64)) =
+    ap (λ w. bit_at w (j % 64)) (same (j / 64)) ∙ bit_at_or (slice_index old (j / 64)) (slice_index add (j / 64)) (j % 64) in
+    by_cases (word_bit new j) (word_bit old j) (word_bit add j)
+    (λ h. elim (iff.0 (sym is ∙ eqb-true _ _ h)) [ inl e ↦ inl (eq-eqb _ _ e) | inr e ↦ inr (eq-eqb _ _ e) ])
+    (λ h. elim h [ inl e ↦ eq-eqb _ _ (is ∙ iff.1 (inl (eqb-true _ _ e))) | inr e ↦ eq-eqb _ _ (is ∙ iff.1 (inr (eqb-true _ _ e))) ])
+
+set_bit : (words : List ℕ) (j : ℕ) → j / 64 < length words → (k : ℕ) →
+    ((word_bit (slice_set words (j / 64) (bit_or (slice_index words (j / 64)) (1 * 2 ^ (j % 64) % 2 ^ 64))) k ≡ true) → ((word_bit words k ≡ true) ⊎ (j ≡ k)))
+    × (((word_bit words k ≡ true) ⊎ (j ≡ k)) → (word_bit (slice_set words (j / 64) (bit_or (slice_index words (j / 64)) (1 * 2 ^ (j % 64) % 2 ^ 64))) k ≡ true))
+set_bit words j room k = elim (cases_eq (k / 64) (j / 64)) [
+  | inr apart ↦ (
+      let same : slice_index (slice_set words (j / 64) (bit_or (slice_index words (j / 64)) (1 * 2 ^ (j % 64) % 2 ^ 64))) (k / 64) ≡ slice_index words (k / 64) = get_or-set_other words (j / 64) (k / 64) _ 0 apart in
+      let bits : word_bit (slice_set words (j / 64) (bit_or (slice_index words (j / 64)) (1 * 2 ^ (j % 64) % 2 ^ 64))) k ≡ word_bit words k = ap (λ w. bit_at w (k % 64) == 1) same in
+      ((λ h. inl (sym bits ∙ h)), (λ h. elim h [ inl o ↦ bits ∙ o | inr e ↦ absurd (apart (ap (λ x. x / 64) (sym e))) ])))
+  | inl at ↦ (
+      let here : slice_index (slice_set words (j / 64) (bit_or (slice_index words (j / 64)) (1 * 2 ^ (j % 64) % 2 ^ 64))) (k / 64) ≡ bit_or (slice_index words (j / 64)) (1 * 2 ^ (j % 64) % 2 ^ 64) =
+      ap (slice_index (slice_set words (j / 64) (bit_or (slice_index words (j / 64)) (1 * 2 ^ (j % 64) % 2 ^ 64)))) at ∙ get_or-set_same words (j / 64) _ 0 room in
+      let within : j % 64 < 64 = omega arith in
+      elim (cases_eq (k % 64) (j % 64)) [
+        | inl low ↦ (
+          (λ h. inr (let e : j ≡ k = omega arith in e)),
+          (λ h. eq-eqb _ _ (ap (λ w. bit_at w (k % 64)) here ∙ (ap (bit_at (bit_or (slice_index words (j / 64)) (1 * 2 ^ (j % 64) % 2 ^ 64))) low ∙ bit_at_set_same w64 (slice_index words (j / 64)) (j % 64) within))),
+        )
+        | inr apart ↦ (
+            let bits : word_bit (slice_set words (j / 64) (bit_or (slice_index words (j / 64)) (1 * 2 ^ (j % 64) % 2 ^ 64))) k ≡ word_bit words k =
+            ap (λ w. bit_at w (k % 64) == 1) here ∙ (ap (λ b. b == 1) (bit_at_set_other w64 (slice_index words (j / 64)) (j % 64) within (k % 64) apart) ∙ ap (λ w. bit_at (slice_index words w) (k % 64) == 1) (sym at)) in
+            ((λ h. inl (sym bits ∙ h)), (λ h. elim h [ inl o ↦ bits ∙ o | inr e ↦ absurd (apart (ap (λ x. x % 64) (sym e))) ])))
+      ])
+]
+
+bit_added : (words : List ℕ) (j : ℕ) → j / 64 < length words → (k : ℕ) → word_bit (slice_set words (j / 64) (bit_or (slice_index words (j / 64)) (1 * 2 ^ (j % 64) % 2 ^ 64))) k ≡ (word_bit words k || (j == k))
+bit_added words j room k =
+    let s = set_bit words j room k in
+    by_cases _ (word_bit words k) (j == k) (λ h. elim (s.0 h) [ inl a ↦ inl a | inr e ↦ inr (eq-eqb j k e) ]) (λ h. s.1 (elim h [ inl a ↦ inl a | inr e ↦ inr (eqb-true j k e) ]))
+
+set_at : (words : List ℕ) (j cell : ℕ) → j / 64 < length words → cell ≡ slice_index_or words (j / 64) cell → (k : ℕ) →
+    word_bit (slice_set words (j / 64) (bit_or cell (1 * 2 ^ (j % 64) % 2 ^ 64))) k ≡ (word_bit words k || (j == k))
+set_at words j cell h is k =
+    subst (λ z. word_bit (slice_set words (j / 64) (bit_or z (1 * 2 ^ (j % 64) % 2 ^ 64))) k ≡ (word_bit words k || (j == k))) (sym (get_or_read words (j / 64) cell h is 0)) (bit_added words j h k)
+
+-- a bit set in the words of a row
+pub set_in_row : (words row : List ℕ) (j cell : ℕ) → words ≡ row → j / 64 < length row → cell ≡ slice_index_or words (j / 64) cell → (k : ℕ) →
+    word_bit (slice_set words (j / 64) (bit_or cell (1 * 2 ^ (j % 64) % 2 ^ 64))) k ≡ (word_bit row k || (j == k))
+set_in_row words row j cell same h is k =
+    subst (λ r. word_bit (slice_set words (j / 64) (bit_or cell (1 * 2 ^ (j % 64) % 2 ^ 64))) k ≡ (word_bit r k || (j == k))) same
+    (set_at words j cell (let l : length words ≡ length row = ap length same in omega arith) is k)
+
+-- the words below w are joined
+pub record IsJoined (old add row : List ℕ) (w : ℕ) : Type 0 where
+  pub size : length row ≡ length old
+  pub joined : (v : ℕ) → v < w → slice_index row v ≡ bit_or (slice_index old v) (slice_index add v)
+  pub left : (v : ℕ) → w ≤ v → slice_index row v ≡ slice_index old v
+
+joined_all : (old add row : List ℕ) (w : ℕ) → length old ≡ length add → length old ≤ w → IsJoined old add row w → (j : ℕ) → word_bit row j ≡ (word_bit old j || word_bit add j)
+joined_all old add row w size all is = joined_bit old add row (λ v. elim (cases_lt v w) [
+  | inl l ↦ is.joined v l
+  | inr past ↦ (
+      let none : slice_index old v ≡ 0 = get_or_past old v 0 (omega arith) in
+      let also : slice_index add v ≡ 0 = get_or_past add v 0 (omega arith) in
+      is.left v past ∙ (none ∙ (ap (λ x. bit_or x 0) (sym none) ∙ ap (bit_or (slice_index old v)) (sym also))))
+])
+
+-- all words of a row are joined
+pub joined_rows : (old add words more row : List ℕ) (w : ℕ) → words ≡ old → more ≡ add → length old ≡ length add → length words ≤ w → IsJoined words more row w →
+    (j : ℕ) → word_bit row j ≡ (word_bit old j || word_bit add j)
+joined_rows old add words more row w a b size all is =
+    subst (λ o. (j : ℕ) → word_bit row j ≡ (word_bit o j || word_bit add j)) a
+    (subst (λ m. (j : ℕ) → word_bit row j ≡ (word_bit words j || word_bit m j)) b
+    (joined_all words more row w (ap length a ∙ (size ∙ ap length (sym b))) all is))

@@ -1,0 +1,24 @@
+-- The declarations of a flow, put one by one into a graph.
+use Rattle.std.proofs.Common.{◌≡◌, ℕ, zero, suc, ◌+◌, List, [], ◌∷◌, ◌++◌, take, sym, ◌∙◌, ap, subst, append_assoc, append-nil}
+use Rattle.std.specs.Prelude.{Some, None, slice_get}
+use Rattle.std.proofs.lemmas.Option.{none-some, same_Some}
+use Rattle.graph_model.specs.declared.graph.decl.Decl.{Decl}
+use Rattle.graph_model.specs.declared.graph.format.Format.{Format}
+use Rattle.graph_model.specs.graph.Graph.{GraphValue}
+use Rattle.graph_model.specs.graph.Fits.{decl_fault, with_decl, IsDecl, DeclsFit}
+use Rattle.task_flow.specs.Fitting.{lined}
+use Rattle.task_flow.proofs.Scans.{take_more}
+
+fits_at : (fm : Format) (before ds : List Decl) → DeclsFit fm before ds → (k : ℕ) (d : Decl) → slice_get ds k ≡ Some d → IsDecl d × (decl_fault (lined fm (before ++ take k ds) []) d ≡ None)
+fits_at fm before [] f k d at = absurd (none-some d at)
+fits_at fm before (e ∷ ds) f zero d at = (subst IsDecl (same_Some e d at) f.0, subst (λ x. decl_fault (lined fm x []) d ≡ None) (sym (append-nil before)) (subst (λ x. decl_fault (lined fm before []) x ≡ None) (same_Some e d at) f.1))
+fits_at fm before (e ∷ ds) f (suc k) d at = let r = fits_at fm (before ++ e ∷ []) ds f.2 k d at in (r.0, subst (λ x. decl_fault (lined fm x []) d ≡ None) (append_assoc before (e ∷ []) (take k ds)) r.1)
+
+-- the next declaration fits, as it fits the flow
+pub decl_fits : (g : GraphValue) (fm : Format) (ds : List Decl) (k : ℕ) (d e : Decl) → DeclsFit fm [] ds → g ≡ lined fm (take k ds) [] → slice_get ds k ≡ Some d → e ≡ d → IsDecl e × (decl_fault g e ≡ None)
+decl_fits g fm ds k d e f is at same =
+    let r = fits_at fm [] ds f k d at in
+    subst (λ x. IsDecl x × (decl_fault g x ≡ None)) (sym same) (r.0, subst (λ x. decl_fault x d ≡ None) (sym is) r.1)
+
+pub decl_more : (g h : GraphValue) (fm : Format) (ds : List Decl) (k : ℕ) (d e : Decl) → g ≡ lined fm (take k ds) [] → slice_get ds k ≡ Some d → e ≡ d → h ≡ with_decl g e → h ≡ lined fm (take (k + 1) ds) []
+decl_more g h fm ds k d e is at same added = added ∙ (ap (λ x. with_decl x e) is ∙ (ap (λ x. with_decl (lined fm (take k ds) []) x) same ∙ ap (λ x. lined fm x []) (sym (take_more ds k d at))))

@@ -1,0 +1,208 @@
+-- What is made only grows, and one step of the loops that make it.
+use Rattle.std.proofs.Common.{◌≡◌, ℕ, zero, suc, ◌+◌, ◌-◌, ◌<◌, ◌≤◌, min, inl, inr, List, [], ◌∷◌, ◌++◌, length, map, take, drop, refl, sym, ◌∙◌, ap, subst, append_assoc, length-append, length-drop, arith}
+use Rattle.std.specs.Prelude.{◌≢◌, Option, Some, None, find, bytes_eq, slice_get, option_map, Result, Err}
+use Rattle.std.proofs.lemmas.Bool.{cases_lt}
+use Rattle.std.proofs.lemmas.List.{length-map}
+use Rattle.std.proofs.lemmas.Option.{none-some, same_Some}
+use Rattle.graph_model.specs.declared.graph.limits.TheConstants.{MAX_LINES}
+use Rattle.graph_model.specs.declared.graph.verb.Line.{Line}
+use Rattle.graph_model.specs.declared.graph.verb.Verb.TheVariants.{Merge}
+use Rattle.task_flow.specs.declared.making.Merged.{Merged}
+use Rattle.std.specs.Option.{option_map_or}
+use Rattle.task_flow.specs.Construction.{Made, Parts, wait_for, with_flow_line, new_name, merge_line, with_merge, merge_by, merge_for, with_event, event_for, place_in, events_for}
+use Rattle.task_flow.specs.Making.{IsPast, merge_of}
+use Rattle.task_flow.proofs.Lists.{length_with}
+use Rattle.task_flow.proofs.Scans.{take_more, take_whole, find_map}
+
+merge_by_longer : (o : Option (List ℕ × ℕ)) (es : List ℕ) (m : Made) → length m.lines ≤ length (merge_by o es m).0.lines
+merge_by_longer (Some x) es m = omega arith
+merge_by_longer None es m = let l : length (m.lines ++ merge_line (m.first + length m.lines) es ∷ []) ≡ length m.lines + 1 = length-append m.lines (merge_line (m.first + length m.lines) es ∷ []) in omega arith
+
+pub merge_longer : (es : List ℕ) (m : Made) → length m.lines ≤ length (merge_for es m).0.lines
+merge_longer es m = merge_by_longer (find (λ (x : List ℕ × ℕ). bytes_eq x.0 es) m.merges) es m
+
+pub event_longer : (n : ℕ) (es : List ℕ) (m : Made) → length m.lines ≤ length (event_for n es m).0.lines
+event_longer zero es m = omega arith
+event_longer (suc n) [] m = omega arith
+event_longer (suc n) (e ∷ []) m = omega arith
+event_longer (suc n) (e ∷ d ∷ es) m =
+    let r = merge_for (take 64 (e ∷ d ∷ es)) m in
+    let a : length m.lines ≤ length r.0.lines = merge_longer (take 64 (e ∷ d ∷ es)) m in
+    let b : length r.0.lines ≤ length (event_for n (with_event (drop 64 (e ∷ d ∷ es)) r.1) r.0).0.lines = event_longer n (with_event (drop 64 (e ∷ d ∷ es)) r.1) r.0 in
+    omega arith
+
+pub events_longer : (es : List ℕ) (ps : List (List ℕ)) (m : Made) → length m.lines ≤ length (events_for es ps m).0.lines
+events_longer es [] m = omega arith
+events_longer es (p ∷ ps) m =
+    let r = event_for (length p) (map (place_in m) p) m in
+    let a : length m.lines ≤ length r.0.lines = event_longer (length p) (map (place_in m) p) m in
+    let b : length r.0.lines ≤ length (events_for (option_map_or (with_event es) r.1 es) ps r.0).0.lines = events_longer (option_map_or (with_event es) r.1 es) ps r.0 in
+    omega arith
+
+pub past_more : (a b : Made) → length a.lines ≤ length b.lines → IsPast a → IsPast b
+past_more a b h p = let q : 8192 < length a.lines = p in omega arith
+
+length_drop : (k : ℕ) (xs : List ℕ) → length (drop k xs) ≤ length xs
+length_drop zero xs = omega arith
+length_drop (suc k) [] = omega arith
+length_drop (suc k) (x ∷ xs) = let l : length (drop k xs) ≤ length xs = length_drop k xs in omega arith
+
+-- one merge of a list with more than one event
+pub record MergeStep (n : ℕ) (es : List ℕ) (m : Made) : Type 0 where
+  pub left : ℕ
+  pub shorter : length (with_event (drop 64 es) (merge_for (take 64 es) m).1) < length es
+  pub enough : length (with_event (drop 64 es) (merge_for (take 64 es) m).1) ≤ left
+  pub same : event_for n es m ≡ event_for left (with_event (drop 64 es) (merge_for (take 64 es) m).1) (merge_for (take 64 es) m).0
+
+pub merge_step : (n : ℕ) (es : List ℕ) (m : Made) → 1 < length es → length es ≤ n → MergeStep n es m
+merge_step n [] m some enough = absurd (omega arith)
+merge_step n (e ∷ []) m some enough = absurd (let h : 1 < 1 = some in omega arith)
+merge_step zero (e ∷ d ∷ es) m some enough = absurd (let h : suc (suc (length es)) ≤ 0 = enough in omega arith)
+merge_step (suc n) (e ∷ d ∷ es) m some enough =
+    let merged = (merge_for (take 64 (e ∷ d ∷ es)) m).1 in
+    let a : length (with_event (drop 64 (e ∷ d ∷ es)) merged) ≤ length (drop 64 (e ∷ d ∷ es)) + 1 = length_with (drop 64 (e ∷ d ∷ es)) merged in
+    let b : length (drop 62 es) ≤ length es = length_drop 62 es in
+    let h : suc (suc (length es)) ≤ suc n = enough in
+    record { left = n; shorter = (let z : length (with_event (drop 64 (e ∷ d ∷ es)) merged) < suc (suc (length es)) = omega arith in z); enough = omega arith; same = refl }
+
+-- a limit that a merge passes is passed in the end
+pub past_merge : (n : ℕ) (es : List ℕ) (m : Made) → 1 < length es → length es ≤ n → IsPast (merge_for (take 64 es) m).0 → IsPast (event_for n es m).0
+past_merge n es m some enough p =
+    let s = merge_step n es m some enough in
+    subst (λ (r : Made × Option ℕ). IsPast r.0) (sym s.same) (past_more (merge_for (take 64 es) m).0 (event_for s.left (with_event (drop 64 es) (merge_for (take 64 es) m).1) (merge_for (take 64 es) m).0).0 (event_longer s.left _ (merge_for (take 64 es) m).0) p)
+
+abbrev pub first_of : List ℕ → Option ℕ
+first_of [] = None
+first_of (e ∷ es) = Some e
+
+-- at most one event is left
+pub event_end : (n : ℕ) (es : List ℕ) (m : Made) → length es ≤ 1 → length es ≤ n → event_for n es m ≡ (m, first_of es)
+event_end zero [] m h enough = refl
+event_end (suc n) [] m h enough = refl
+event_end zero (e ∷ []) m h enough = absurd (let g : 1 ≤ 0 = enough in omega arith)
+event_end (suc n) (e ∷ []) m h enough = refl
+event_end n (e ∷ d ∷ es) m h enough = absurd (let g : suc (suc (length es)) ≤ 1 = h in omega arith)
+
+abbrev pub made : List Line → List ℕ → List (List ℕ × ℕ) → ℕ → Made
+made lines places merges first = record { lines = lines; places = places; merges = merges; first = first }
+
+pub take_least : (xs : List ℕ) (n i : ℕ) → n ≡ min (length xs) 64 → n ≤ i → i ≤ n → take i xs ≡ take 64 xs
+take_least xs n i is low high = elim (cases_lt (length xs) 64) [
+  | inl few ↦ (let a : length xs ≤ i = omega arith in let b : length xs ≤ 64 = omega arith in take_whole xs i a ∙ sym (take_whole xs 64 b))
+  | inr many ↦ ap (λ k. take k xs) (let e : i ≡ 64 = omega arith in e)
+]
+
+got_drop : (k j : ℕ) (xs : List ℕ) (x : ℕ) → slice_get xs (k + j) ≡ Some x → slice_get (drop k xs) j ≡ Some x
+got_drop zero j xs x h = subst (λ z. slice_get xs z ≡ Some x) (let e : 0 + j ≡ j = omega arith in e) h
+got_drop (suc k) j [] x h = absurd (none-some x h)
+got_drop (suc k) j (y ∷ ys) x h = got_drop k j ys x (subst (λ z. slice_get (y ∷ ys) z ≡ Some x) (let e : suc k + j ≡ suc (k + j) = omega arith in e) h)
+
+pub rest_more : (xs rest rest' : List ℕ) (i x : ℕ) → 64 ≤ i → slice_get xs i ≡ Some x → rest ≡ take (i - 64) (drop 64 xs) → rest' ≡ rest ++ x ∷ [] → rest' ≡ take ((i + 1) - 64) (drop 64 xs)
+rest_more xs rest rest' i x low at is pushed =
+    let there : slice_get (drop 64 xs) (i - 64) ≡ Some x = got_drop 64 (i - 64) xs x (subst (λ z. slice_get xs z ≡ Some x) (let e : i ≡ 64 + (i - 64) = omega arith in e) at) in
+    pushed ∙ (ap (λ zs. zs ++ x ∷ []) is ∙ (sym (take_more (drop 64 xs) (i - 64) x there) ∙ ap (λ k. take k (drop 64 xs)) (let e : (i - 64) + 1 ≡ (i + 1) - 64 = omega arith in e)))
+
+pub rest_whole : (xs : List ℕ) (n i : ℕ) → n ≡ length xs → n ≤ i → take (i - 64) (drop 64 xs) ≡ drop 64 xs
+rest_whole xs n i is h = take_whole (drop 64 xs) (i - 64) (let l : length (drop 64 xs) ≡ length xs - 64 = length-drop 64 xs in omega arith)
+
+-- the merge that was found, or the new one
+pub found_merge : (es : List ℕ) (m : Made) (items : List Merged) (line : ℕ) → m.merges ≡ map merge_of items → Some line ≡ option_map (λ (x : Merged). x.line) (find (λ (x : Merged). bytes_eq x.events es) items) → ◌≡◌ {A = Made × ℕ} (m, line) (merge_for es m)
+found_merge es m items line is h = by (find (λ (x : List ℕ × ℕ). bytes_eq x.0 es) m.merges) (h ∙ (there (find (λ (x : Merged). bytes_eq x.events es) items) ∙ sym (ap (option_map (λ (x : List ℕ × ℕ). x.1)) (ap (find (λ (x : List ℕ × ℕ). bytes_eq x.0 es)) is ∙ find_map (λ (x : List ℕ × ℕ). bytes_eq x.0 es) merge_of items))))
+  where
+    there : (o : Option Merged) → option_map (λ (x : Merged). x.line) o ≡ option_map (λ (x : List ℕ × ℕ). x.1) (option_map merge_of o)
+    there None = refl
+    there (Some x) = refl
+
+    by : (o : Option (List ℕ × ℕ)) → Some line ≡ option_map (λ (x : List ℕ × ℕ). x.1) o → ◌≡◌ {A = Made × ℕ} (m, line) (merge_by o es m)
+    by None e = absurd (none-some line (sym e))
+    by (Some x) e = ap (λ z. (m, z)) (same_Some line x.1 e)
+
+none_found : (es : List ℕ) (m : Made) (items : List Merged) → m.merges ≡ map merge_of items → None ≡ option_map (λ (x : Merged). x.line) (find (λ (x : Merged). bytes_eq x.events es) items) → find (λ (x : List ℕ × ℕ). bytes_eq x.0 es) m.merges ≡ None
+none_found es m items is h = ap (find (λ (x : List ℕ × ℕ). bytes_eq x.0 es)) is ∙ (find_map (λ (x : List ℕ × ℕ). bytes_eq x.0 es) merge_of items ∙ by (find (λ (x : Merged). bytes_eq x.events es) items) h)
+  where
+    by : (o : Option Merged) → None ≡ option_map (λ (x : Merged). x.line) o → option_map merge_of o ≡ None
+    by None e = refl
+    by (Some x) e = absurd (none-some x.line e)
+
+pub new_merge : (es : List ℕ) (m : Made) (items : List Merged) → m.merges ≡ map merge_of items → None ≡ option_map (λ (x : Merged). x.line) (find (λ (x : Merged). bytes_eq x.events es) items) → ◌≡◌ {A = Made × ℕ} (with_merge es m, length m.lines) (merge_for es m)
+new_merge es m items is h = sym (ap (λ o. merge_by o es m) (none_found es m items is h))
+
+pub new_past : (es : List ℕ) (m : Made) (items : List Merged) → m.merges ≡ map merge_of items → None ≡ option_map (λ (x : Merged). x.line) (find (λ (x : Merged). bytes_eq x.events es) items) → MAX_LINES ≤ length m.lines → IsPast (merge_for es m).0
+new_past es m items is h full = subst (λ (r : Made × ℕ). IsPast r.0) (new_merge es m items is h)
+    (let l : length (m.lines ++ merge_line (m.first + length m.lines) es ∷ []) ≡ length m.lines + 1 = length-append m.lines (merge_line (m.first + length m.lines) es ∷ []) in let f : 8192 ≤ length m.lines = full in let r : 8192 < length (m.lines ++ merge_line (m.first + length m.lines) es ∷ []) = omega arith in r)
+
+map_push : (items : List Merged) (x : Merged) → map merge_of (items ++ x ∷ []) ≡ map merge_of items ++ merge_of x ∷ []
+map_push [] x = refl
+map_push (y ∷ ys) x = ap (λ zs. merge_of y ∷ zs) (map_push ys x)
+
+-- what stands with a merge more
+pub pushed_merge : (lines row row' : List Line) (places : List ℕ) (items items' : List Merged) (first line : ℕ) (es key name : List ℕ) → row' ≡ row ++ record { name = name; verb = Merge es; «on» = None } ∷ [] → name ≡ new_name (first + line) → line ≡ length (lines ++ row) →
+    items' ≡ items ++ record { events = key; line = line } ∷ [] → key ≡ es → ◌≡◌ {A = Made × ℕ} (made (lines ++ row') places (map merge_of items') first, line) (with_merge es (made (lines ++ row) places (map merge_of items) first), length (lines ++ row))
+pushed_merge lines row row' places items items' first line es key name r n at i k =
+    let all : lines ++ row' ≡ (lines ++ row) ++ merge_line (first + length (lines ++ row)) es ∷ [] = ap (λ xs. lines ++ xs) r ∙ (sym (append_assoc lines row (record { name = name; verb = Merge es; «on» = None } ∷ [])) ∙ (ap (λ z. (lines ++ row) ++ record { name = z; verb = Merge es; «on» = None } ∷ []) n ∙ ap (λ z. (lines ++ row) ++ record { name = new_name (first + z); verb = Merge es; «on» = None } ∷ []) at)) in
+    let noted : map merge_of items' ≡ map merge_of items ++ (es, length (lines ++ row)) ∷ [] = ap (map merge_of) i ∙ (map_push items (record { events = key; line = line }) ∙ (ap (λ z. map merge_of items ++ (z, line) ∷ []) k ∙ ap (λ z. map merge_of items ++ (es, z) ∷ []) at)) in
+    let pair : Made → ℕ → Made × ℕ = λ a b. (a, b) in
+    ap (λ z. pair (made z places (map merge_of items') first) line) all ∙ (ap (λ z. pair (made ((lines ++ row) ++ merge_line (first + length (lines ++ row)) es ∷ []) places z first) line) noted
+    ∙ ap (λ z. pair (made ((lines ++ row) ++ merge_line (first + length (lines ++ row)) es ∷ []) places (map merge_of items ++ (es, length (lines ++ row)) ∷ []) first) z) at)
+
+-- a turn of the loop that merges events
+pub record Turn (n : ℕ) (es : List ℕ) (m : Made) (left' : List ℕ) (made' : Made) : Type 0 where
+  pub shorter : length left' < length es
+  pub same : (k : ℕ) × (length left' ≤ k) × (event_for k left' made' ≡ event_for n es m)
+
+pub turn : (n : ℕ) (es : List ℕ) (m : Made) (front : List ℕ) (made' : Made) (merge : ℕ) (left' : List ℕ) → 1 < length es → length es ≤ n → front ≡ take 64 es → ◌≡◌ {A = Made × ℕ} (made', merge) (merge_for front m) → left' ≡ with_event (drop 64 es) merge → Turn n es m left' made'
+turn n es m front made' merge left' some enough f e l =
+    let s = merge_step n es m some enough in
+    let r : Made × ℕ = merge_for (take 64 es) m in
+    let both : ◌≡◌ {A = Made × ℕ} (made', merge) r = e ∙ ap (λ xs. merge_for xs m) f in
+    let left_is : left' ≡ with_event (drop 64 es) r.1 = l ∙ ap (λ (z : Made × ℕ). with_event (drop 64 es) z.1) both in
+    let made_is : made' ≡ r.0 = ap (λ (z : Made × ℕ). z.0) both in
+    record {
+      shorter = subst (λ z. length z < length es) (sym left_is) s.shorter;
+      same = (s.left, subst (λ z. length z ≤ s.left) (sym left_is) s.enough, ap (λ z. event_for s.left z made') left_is ∙ (ap (λ z. event_for s.left (with_event (drop 64 es) r.1) z) made_is ∙ sym s.same));
+    }
+
+pub turn_past : (n : ℕ) (es : List ℕ) (m : Made) (front : List ℕ) (target : Made × Option ℕ) → 1 < length es → length es ≤ n → front ≡ take 64 es → event_for n es m ≡ target → IsPast (merge_for front m).0 → IsPast target.0
+turn_past n es m front target some enough f same p = subst (λ (r : Made × Option ℕ). IsPast r.0) same (past_merge n es m some enough (subst (λ xs. IsPast (merge_for xs m).0) f p))
+
+pub end_some : (n : ℕ) (es : List ℕ) (m : Made) (x : ℕ) (target : Made × Option ℕ) → length es ≡ 1 → length es ≤ n → slice_get es 0 ≡ Some x → event_for n es m ≡ target → ◌≡◌ {A = Made × Option ℕ} (m, Some x) target
+end_some n [] m x target one enough at same = absurd (none-some x at)
+end_some n (e ∷ []) m x target one enough at same = let pair : Option ℕ → Made × Option ℕ = λ o. (m, o) in ap pair (sym at) ∙ (sym (event_end n (e ∷ []) m (omega arith) enough) ∙ same)
+end_some n (e ∷ d ∷ es) m x target one enough at same = absurd (let h : suc (suc (length es)) ≡ 1 = one in omega arith)
+
+pub end_none : (n : ℕ) (es : List ℕ) (m : Made) (target : Made × Option ℕ) → length es ≤ 1 → length es ≢ 1 → length es ≤ n → event_for n es m ≡ target → ◌≡◌ {A = Made × Option ℕ} (m, None) target
+end_none n [] m target few some enough same = sym (event_end n [] m (omega arith) enough) ∙ same
+end_none n (e ∷ []) m target few some enough same = absurd (some refl)
+end_none n (e ∷ d ∷ es) m target few some enough same = absurd (let h : suc (suc (length es)) ≤ 1 = few in omega arith)
+
+-- one part more
+pub events_more : (es : List ℕ) (p : List ℕ) (ps : List (List ℕ)) (m : Made) (places : List ℕ) (made' : Made) (o : Option ℕ) (es' : List ℕ) → places ≡ map (place_in m) p → ◌≡◌ {A = Made × Option ℕ} (made', o) (event_for (length places) places m) → es' ≡ option_map_or (with_event es) o es → events_for es' ps made' ≡ events_for es (p ∷ ps) m
+events_more es p ps m places made' o es' is e l =
+    let r : Made × Option ℕ = event_for (length p) (map (place_in m) p) m in
+    let size : length places ≡ length p = ap length is ∙ length-map p (place_in m) in
+    let both : ◌≡◌ {A = Made × Option ℕ} (made', o) r = e ∙ (ap (λ n. event_for n places m) size ∙ ap (λ xs. event_for (length p) xs m) is) in
+    ap (λ z. events_for z ps made') (l ∙ ap (λ (z : Made × Option ℕ). option_map_or (with_event es) z.1 es) both) ∙ ap (λ (z : Made × Option ℕ). events_for (option_map_or (with_event es) r.1 es) ps z.0) both
+
+pub events_past : (es : List ℕ) (p : List ℕ) (ps : List (List ℕ)) (m : Made) (places : List ℕ) (target : Made × List ℕ) → places ≡ map (place_in m) p → events_for es (p ∷ ps) m ≡ target → IsPast (event_for (length places) places m).0 → IsPast target.0
+events_past es p ps m places target is same h =
+    let r : Made × Option ℕ = event_for (length p) (map (place_in m) p) m in
+    let size : length places ≡ length p = ap length is ∙ length-map p (place_in m) in
+    let past : IsPast r.0 = subst (λ (z : Made × Option ℕ). IsPast z.0) (ap (λ n. event_for n places m) size ∙ ap (λ xs. event_for (length p) xs m) is) h in
+    subst (λ (z : Made × List ℕ). IsPast z.0) same (past_more r.0 (events_for es (p ∷ ps) m).0 (events_longer (option_map_or (with_event es) r.1 es) ps r.0) past)
+
+-- an error that is passed on
+pub err_same : {T E : Type 0} (r : Result T E) (y x z : E) → r ≡ Err y → y ≡ x → r ≡ Err z → x ≡ z
+err_same {T = T} {E = E} r y x z p q h = let e : ◌≡◌ {A = Result T E} (Err y) (Err z) = sym p ∙ h in sym q ∙ err_inside y z e
+  where
+    err_inside : (a b : E) → ◌≡◌ {A = Result T E} (Err a) (Err b) → a ≡ b
+    err_inside a b e = cc
+
+-- a limit that the large parts pass is passed in the end
+pub wait_past : (p : Parts) (m : Made) (es : List ℕ) (ps : List (List ℕ)) → es ≡ map (place_in m) p.small → ps ≡ p.large → IsPast (events_for es ps m).0 → IsPast (wait_for p m).0
+wait_past p m es ps e l h =
+    let r : Made × List ℕ = events_for (map (place_in m) p.small) p.large m in
+    let past : IsPast r.0 = subst (λ (z : Made × List ℕ). IsPast z.0) (ap (λ xs. events_for xs ps m) e ∙ ap (λ xs. events_for (map (place_in m) p.small) xs m) l) h in
+    past_more r.0 (event_for (length r.1) r.1 r.0).0 (event_longer (length r.1) r.1 r.0) past
+
+pub line_past : (l : Line) (r : Made × Option ℕ) → MAX_LINES ≤ length r.0.lines → IsPast (with_flow_line l r)
+line_past l r h = let k : length (r.0.lines ++ record { name = l.name; verb = l.verb; «on» = r.1 } ∷ []) ≡ length r.0.lines + 1 = length-append r.0.lines (record { name = l.name; verb = l.verb; «on» = r.1 } ∷ []) in let f : 8192 ≤ length r.0.lines = h in let z : 8192 < length (r.0.lines ++ record { name = l.name; verb = l.verb; «on» = r.1 } ∷ []) = omega arith in z

@@ -1,0 +1,384 @@
+-- What stands while the graph of a flow is made: each line is one of the flow or a merge, and each has leaves, the lines of the flow that lead to it through merges alone.
+use Rattle.std.proofs.Common.{◌≡◌, ℕ, zero, suc, ◌+◌, ◌<◌, ◌≤◌, true, false, ◌⊎◌, inl, inr, List, [], ◌∷◌, ◌++◌, length, map, take, drop, refl, sym, ◌∙◌, ap, subst, length-append, arith}
+use Rattle.std.specs.Prelude.{◌↔◌, Contains, Option, Some, None, find, flat_map, nat_eq, slice_get, slice_index_or, bytes_eq}
+use Rattle.std.specs.Option.{option_map_or}
+use Rattle.std.proofs.lemmas.Bool.{true≢false}
+use Rattle.std.proofs.lemmas.List.{length-map}
+use Rattle.std.proofs.lemmas.List.Elements.{Contains-append_cases, Contains-append_left, Contains-append_right}
+use Rattle.std.proofs.lemmas.Option.{slice_get_within, slice_get-get_or}
+use Rattle.std.proofs.lemmas.Slice.Eq.{bytes_eq-Decides}
+use Rattle.basics.proofs.ListFacts.{contains_cases, contains_none, contains_here, contains_there, contains_map, map_contains, find_is}
+use Rattle.graph_model.specs.declared.graph.verb.Line.{Line}
+use Rattle.graph_model.specs.declared.graph.verb.Verb.TheVariants.{Merge}
+use Rattle.graph_model.specs.graph.Graph.{GraphValue}
+use Rattle.graph_model.specs.graph.Fits.{repeats}
+use Rattle.task_flow.specs.Flow.{IsFlow, uses_columns}
+use Rattle.task_flow.specs.Construction.{Made, Parts, all_of, new_name, merge_line, with_merge, merge_by, merge_for, with_event, event_for, place_in, events_for, wait_for, no_line, line_in}
+use Rattle.task_flow.proofs.Lists.{Falls, falls_differ, take_within, drop_within, split_cases, take_once, drop_once, with_event_once, with_event_cases, old_in, new_in, length_with, got_left, got_end, got_cases, at_left, at_end}
+use Rattle.task_flow.proofs.SourceFacts.{sources_of}
+
+-- a line of the flow leads to line e
+abbrev pub Leaf : List (List ℕ) → ℕ → ℕ → Type 0
+Leaf labels e x = Contains (slice_index_or labels e []) x
+
+abbrev pub LeafOf : List (List ℕ) → List ℕ → ℕ → Type 0
+LeafOf labels es x = (e : ℕ) × Contains es e × Leaf labels e x
+
+-- an event below line k whose leaves are those of a rule, or none where the rule holds of none
+abbrev pub Waits : List (List ℕ) → ℕ → Option ℕ → (ℕ → Type 0) → Type 0
+Waits labels k None P = (x : ℕ) → P x → ⊥
+Waits labels k (Some e) P = (e < k) × ((x : ℕ) → P x ↔ Leaf labels e x)
+
+-- line k is a line of the flow
+pub record IsOwn (f : GraphValue) (n : ℕ) (m : Made) (labels : List (List ℕ)) (k : ℕ) (l : Line) : Type 0 where
+  pub line : ℕ
+  pub below : line < n
+  pub place : place_in m line ≡ k
+  pub name : l.name ≡ (line_in f line).name
+  pub verb : l.verb ≡ (line_in f line).verb
+  pub label : slice_index_or labels k [] ≡ line ∷ []
+  pub waits : Waits labels k l.on (λ x. Contains (sources_of f false line) x)
+
+-- line k is a merge
+pub record IsMerge (m : Made) (labels : List (List ℕ)) (k : ℕ) (l : Line) : Type 0 where
+  pub events : List ℕ
+  pub verb : l.verb ≡ Merge events
+  pub on : l.on ≡ None
+  pub name : l.name ≡ new_name (m.first + k)
+  pub some : 0 < length events
+  pub few : length events ≤ 64
+  pub once : repeats nat_eq events ≡ false
+  pub below : (e : ℕ) → Contains events e → e < k
+  pub leaves : (x : ℕ) → Leaf labels k x ↔ LeafOf labels events x
+  pub noted : Contains m.merges (events, k)
+
+pub record Standing (f : GraphValue) (n : ℕ) (m : Made) (labels : List (List ℕ)) : Type 0 where
+  pub labelled : length labels ≡ length m.lines
+  pub places : length m.places ≡ n
+  pub tally : length m.lines ≡ n + length m.merges
+  pub rises : (i j : ℕ) → i < j → j < n → place_in m i < place_in m j
+  pub own : (i : ℕ) → i < n → (l : Line) × (slice_get m.lines (place_in m i) ≡ Some l) × (l.name ≡ (line_in f i).name) × (l.verb ≡ (line_in f i).verb) × (slice_index_or labels (place_in m i) [] ≡ i ∷ [])
+  pub each : (k : ℕ) (l : Line) → slice_get m.lines k ≡ Some l → IsOwn f n m labels k l ⊎ IsMerge m labels k l
+  pub merged : (es : List ℕ) (e : ℕ) → Contains m.merges (es, e) → (l : Line) × (slice_get m.lines e ≡ Some l) × (l.verb ≡ Merge es)
+
+-- what stands after more merges
+pub record Grown (f : GraphValue) (n : ℕ) (m : Made) (labels : List (List ℕ)) (m' : Made) : Type 0 where
+  pub labels' : List (List ℕ)
+  pub stands : Standing f n m' labels'
+  pub longer : length m.lines ≤ length m'.lines
+  pub places : m'.places ≡ m.places
+  pub first : m'.first ≡ m.first
+  pub same : (k : ℕ) → k < length m.lines → slice_index_or labels' k [] ≡ slice_index_or labels k []
+
+waits_iff : (labels : List (List ℕ)) (k : ℕ) (o : Option ℕ) (P Q : ℕ → Type 0) → ((x : ℕ) → P x ↔ Q x) → Waits labels k o P → Waits labels k o Q
+waits_iff labels k None P Q h w = λ x q. w x ((h x).1 q)
+waits_iff labels k (Some e) P Q h w = (w.0, λ x. (λ q. (w.1 x).0 ((h x).1 q), λ l. (h x).0 ((w.1 x).1 l)))
+
+-- labels that agree on the events that are named
+pub waits_same : (labels labels' : List (List ℕ)) (k k' : ℕ) (o : Option ℕ) (P : ℕ → Type 0) → k ≤ k' → ((e : ℕ) → e < k → slice_index_or labels' e [] ≡ slice_index_or labels e []) → Waits labels k o P → Waits labels' k' o P
+waits_same labels labels' k k' None P b h w = w
+waits_same labels labels' k k' (Some e) P b h w = let c : e < k = w.0 in (omega arith, λ x. (λ p. subst (λ z. Contains z x) (sym (h e c)) ((w.1 x).0 p), λ l. (w.1 x).1 (subst (λ z. Contains z x) (h e c) l)))
+
+pub leaves_same : (labels labels' : List (List ℕ)) (es : List ℕ) → ((e : ℕ) → Contains es e → slice_index_or labels' e [] ≡ slice_index_or labels e []) → (x : ℕ) → LeafOf labels es x ↔ LeafOf labels' es x
+leaves_same labels labels' es h x = (λ r. (r.0, r.1, subst (λ z. Contains z x) (sym (h r.0 r.1)) r.2), λ r. (r.0, r.1, subst (λ z. Contains z x) (h r.0 r.1) r.2))
+
+flat_leaf : (labels : List (List ℕ)) (es : List ℕ) (x : ℕ) → Contains (flat_map (λ e. slice_index_or labels e []) es) x ↔ LeafOf labels es x
+flat_leaf labels es x = (to es, λ r. back es r.0 r.1 r.2)
+  where
+    to : (es : List ℕ) → Contains (flat_map (λ e. slice_index_or labels e []) es) x → LeafOf labels es x
+    to [] c = absurd (contains_none x c)
+    to (e ∷ es) c = elim (Contains-append_cases (slice_index_or labels e []) (flat_map (λ e. slice_index_or labels e []) es) x c) [
+      | inl here ↦ (e, contains_here e es, here)
+      | inr there ↦ (let r = to es there in (r.0, contains_there e es r.0 r.1, r.2))
+    ]
+
+    back : (es : List ℕ) (e : ℕ) → Contains es e → Leaf labels e x → Contains (flat_map (λ e. slice_index_or labels e []) es) x
+    back [] e c l = absurd (contains_none e c)
+    back (d ∷ es) e c l = elim (contains_cases d es e c) [
+      | inl same ↦ Contains-append_left (slice_index_or labels d []) (flat_map (λ e. slice_index_or labels e []) es) x (subst (λ z. Leaf labels z x) (sym same) l)
+      | inr rest ↦ Contains-append_right (slice_index_or labels d []) (flat_map (λ e. slice_index_or labels e []) es) x (back es e rest l)
+    ]
+
+merge_same : (es ds : List ℕ) → Merge es ≡ Merge ds → es ≡ ds
+merge_same es ds h = cc
+
+abbrev grown_none : (f : GraphValue) (n : ℕ) (m : Made) (labels : List (List ℕ)) → Standing f n m labels → Grown f n m labels m
+grown_none f n m labels st = record { labels' = labels; stands = st; longer = omega arith; places = refl; first = refl; same = λ k h. refl }
+
+abbrev grown_more : (f : GraphValue) (n : ℕ) (m : Made) (labels : List (List ℕ)) (m1 m2 : Made) (g : Grown f n m labels m1) → Grown f n m1 g.labels' m2 → Grown f n m labels m2
+grown_more f n m labels m1 m2 g h =
+    let a : length m.lines ≤ length m1.lines = g.longer in
+    let b : length m1.lines ≤ length m2.lines = h.longer in
+    record { labels' = h.labels'; stands = h.stands; longer = omega arith; places = h.places ∙ g.places; first = h.first ∙ g.first; same = λ k c. h.same k (omega arith) ∙ g.same k c }
+
+module _ (f : GraphValue) (flow : IsFlow f) (n : ℕ) (within : n ≤ length f.lines) where
+  pub own_uses : (i : ℕ) → i < n → uses_columns (line_in f i).verb ≡ true
+  own_uses i h = flow.uses i (line_in f i) (slice_get-get_or f.lines i no_line (omega arith))
+
+  -- a merge more
+  module _ (m : Made) (labels : List (List ℕ)) (st : Standing f n m labels) (es : List ℕ) (some : 0 < length es) (few : length es ≤ 64) (once : repeats nat_eq es ≡ false) (below : (e : ℕ) → Contains es e → e < length m.lines) where
+    abbrev label : List ℕ
+    label = flat_map (λ e. slice_index_or labels e []) es
+
+    abbrev labels_more : List (List ℕ)
+    labels_more = labels ++ label ∷ []
+
+    kept : (k : ℕ) → k < length m.lines → slice_index_or labels_more k [] ≡ slice_index_or labels k []
+    kept k h = let l : length labels ≡ length m.lines = st.labelled in at_left labels label [] k (omega arith)
+
+    new_label : slice_index_or labels_more (length m.lines) [] ≡ label
+    new_label = ap (λ z. slice_index_or labels_more z []) (sym st.labelled) ∙ at_end labels label []
+
+    own_stays : (k : ℕ) (l : Line) → k < length m.lines → IsOwn f n m labels k l → IsOwn f n (with_merge es m) labels_more k l
+    own_stays k l h o = record { line = o.line; below = o.below; place = o.place; name = o.name; verb = o.verb; label = kept k h ∙ o.label; waits = waits_same labels labels_more k k l.on _ (omega arith) (λ e c. kept e (omega arith)) o.waits }
+
+    merge_stays : (k : ℕ) (l : Line) → k < length m.lines → IsMerge m labels k l → IsMerge (with_merge es m) labels_more k l
+    merge_stays k l h o =
+        let e_kept : (e : ℕ) → Contains o.events e → slice_index_or labels_more e [] ≡ slice_index_or labels e [] = λ e c. (let b : e < k = o.below e c in kept e (omega arith)) in
+        let s = leaves_same labels labels_more o.events e_kept in
+        record {
+          events = o.events;
+          verb = o.verb;
+          on = o.on;
+          name = o.name;
+          some = o.some;
+          few = o.few;
+          once = o.once;
+          below = o.below;
+          leaves = λ x. (λ c. (s x).0 ((o.leaves x).0 (subst (λ z. Contains z x) (kept k h) c)), λ r. subst (λ z. Contains z x) (sym (kept k h)) ((o.leaves x).1 ((s x).1 r)));
+          noted = Contains-append_left m.merges ((es, length m.lines) ∷ []) (o.events, k) o.noted;
+        }
+
+    merge_new : IsMerge (with_merge es m) labels_more (length m.lines) (merge_line (m.first + length m.lines) es)
+    merge_new =
+        let s = leaves_same labels labels_more es (λ e c. kept e (below e c)) in
+        record {
+          events = es;
+          verb = refl;
+          on = refl;
+          name = refl;
+          some = some;
+          few = few;
+          once = once;
+          below = below;
+          leaves = λ x. (λ c. (s x).0 ((flat_leaf labels es x).0 (subst (λ z. Contains z x) new_label c)), λ r. subst (λ z. Contains z x) (sym new_label) ((flat_leaf labels es x).1 ((s x).1 r)));
+          noted = Contains-append_right m.merges ((es, length m.lines) ∷ []) (es, length m.lines) (contains_here (es, length m.lines) []);
+        }
+
+    merge_stands : Standing f n (with_merge es m) labels_more
+    merge_stands =
+        let new : Line = merge_line (m.first + length m.lines) es in
+        let count : length (m.lines ++ new ∷ []) ≡ length m.lines + 1 = length-append m.lines (new ∷ []) in
+        let marks : length labels_more ≡ length labels + 1 = length-append labels (label ∷ []) in
+        let more : length (m.merges ++ (es, length m.lines) ∷ []) ≡ length m.merges + 1 = length-append m.merges ((es, length m.lines) ∷ []) in
+        record {
+          labelled = marks ∙ (ap (λ z. z + 1) st.labelled ∙ sym count);
+          places = st.places;
+          tally = (let t : length m.lines ≡ n + length m.merges = st.tally in omega arith);
+          rises = st.rises;
+          own = λ i h. (let o = st.own i h in let b : place_in m i < length m.lines = slice_get_within m.lines (place_in m i) o.0 o.1 in (o.0, got_left m.lines new (place_in m i) b ∙ o.1, o.2, o.3, kept (place_in m i) b ∙ o.4));
+          each = λ k l at. elim (got_cases m.lines new k l at) [
+            | inl old ↦ elim (st.each k l old.1) [ inl o ↦ inl (own_stays k l old.0 o) | inr o ↦ inr (merge_stays k l old.0 o) ]
+            | inr now ↦ inr (subst (λ z. IsMerge (with_merge es m) labels_more z l) (sym now.0) (subst (λ z. IsMerge (with_merge es m) labels_more (length m.lines) z) now.1 merge_new))
+          ];
+          merged = λ ds e c. elim (Contains-append_cases m.merges ((es, length m.lines) ∷ []) (ds, e) c) [
+            | inl old ↦ (let r = st.merged ds e old in (r.0, got_left m.lines new e (slice_get_within m.lines e r.0 r.1) ∙ r.1, r.2))
+            | inr now ↦ elim (contains_cases (es, length m.lines) [] (ds, e) now) [
+              | inl same ↦ (new, subst (λ z. slice_get (m.lines ++ new ∷ []) z ≡ Some new) (ap (λ (x : List ℕ × ℕ). x.1) same) (got_end m.lines new), ap (λ (x : List ℕ × ℕ). Merge x.0) same)
+              | inr none ↦ absurd (contains_none (ds, e) none)
+            ]
+          ];
+        }
+
+    abbrev merge_grows : Grown f n m labels (with_merge es m)
+    merge_grows = record {
+      labels' = labels_more;
+      stands = merge_stands;
+      longer = (let count : length (m.lines ++ merge_line (m.first + length m.lines) es ∷ []) ≡ length m.lines + 1 = length-append m.lines (merge_line (m.first + length m.lines) es ∷ []) in omega arith);
+      places = refl;
+      first = refl;
+      same = kept;
+    }
+
+    -- a merge for these events
+    abbrev MergeOf : Made × ℕ → Type 0
+    MergeOf r = (g : Grown f n m labels r.0) × (r.1 < length r.0.lines) × ((x : ℕ) → LeafOf labels es x ↔ Leaf g.labels' r.1 x)
+
+    found_is : (x : List ℕ × ℕ) → Contains m.merges x → x.0 ≡ es → MergeOf (m, x.1)
+    found_is x c is =
+        let l = st.merged x.0 x.1 c in (
+          grown_none f n m labels st,
+          slice_get_within m.lines x.1 l.0 l.1,
+          elim (st.each x.1 l.0 l.1) [
+            | inl o ↦ absurd (true≢false (sym (own_uses o.line o.below) ∙ ap uses_columns (sym o.verb ∙ l.2)))
+            | inr o ↦ (let same : o.events ≡ es = merge_same o.events x.0 (sym o.verb ∙ l.2) ∙ is in λ y. (
+              λ r. (o.leaves y).1 (subst (λ z. LeafOf labels z y) (sym same) r),
+              λ r. subst (λ z. LeafOf labels z y) same ((o.leaves y).0 r),
+            ))
+          ],
+        )
+
+    merge_by_is : (o : Option (List ℕ × ℕ)) → find (λ (x : List ℕ × ℕ). bytes_eq x.0 es) m.merges ≡ o → MergeOf (merge_by o es m)
+    merge_by_is (Some x) h = let r = find_is (λ (x : List ℕ × ℕ). bytes_eq x.0 es) m.merges x h in found_is x r.0 ((bytes_eq-Decides x.0 es).0 r.1)
+    merge_by_is None h = (
+      merge_grows,
+      (let count : length (m.lines ++ merge_line (m.first + length m.lines) es ∷ []) ≡ length m.lines + 1 = length-append m.lines (merge_line (m.first + length m.lines) es ∷ []) in omega arith),
+      λ x. (λ r. subst (λ z. Contains z x) (sym new_label) ((flat_leaf labels es x).1 r), λ c. (flat_leaf labels es x).0 (subst (λ z. Contains z x) new_label c)),
+    )
+
+    pub merge_for_is : MergeOf (merge_for es m)
+    merge_for_is = merge_by_is (find (λ (x : List ℕ × ℕ). bytes_eq x.0 es) m.merges) refl
+
+  -- one event for these
+  abbrev pub EventOf : Made → List (List ℕ) → List ℕ → Made × Option ℕ → Type 0
+  EventOf m labels es r = (g : Grown f n m labels r.0) × Waits g.labels' (length r.0.lines) r.1 (λ x. LeafOf labels es x)
+
+  length_take : (k : ℕ) (xs : List ℕ) → length (take k xs) ≤ k
+  length_take zero xs = omega arith
+  length_take (suc k) [] = omega arith
+  length_take (suc k) (x ∷ xs) = let l : length (take k xs) ≤ k = length_take k xs in omega arith
+
+  length_drop : (k : ℕ) (xs : List ℕ) → length (drop k xs) ≤ length xs
+  length_drop zero xs = omega arith
+  length_drop (suc k) [] = omega arith
+  length_drop (suc k) (x ∷ xs) = let l : length (drop k xs) ≤ length xs = length_drop k xs in omega arith
+
+  pub event_for_is : (fuel : ℕ) (es : List ℕ) (m : Made) (labels : List (List ℕ)) → Standing f n m labels → length es ≤ fuel → repeats nat_eq es ≡ false → ((e : ℕ) → Contains es e → e < length m.lines) → EventOf m labels es (event_for fuel es m)
+  event_for_is zero [] m labels st h once below = (grown_none f n m labels st, λ x r. contains_none r.0 r.1)
+  event_for_is zero (e ∷ es) m labels st h once below = absurd (let g : suc (length es) ≤ 0 = h in omega arith)
+  event_for_is (suc fuel) [] m labels st h once below = (grown_none f n m labels st, λ x r. contains_none r.0 r.1)
+  event_for_is (suc fuel) (e ∷ []) m labels st h once below = (
+    grown_none f n m labels st,
+    (
+      below e (contains_here e []),
+      λ x. (
+        λ r. elim (contains_cases e [] r.0 r.1) [ inl same ↦ subst (λ z. Leaf labels z x) (sym same) r.2 | inr none ↦ absurd (contains_none r.0 none) ],
+        λ l. (e, contains_here e [], l),
+      ),
+    ),
+  )
+  event_for_is (suc fuel) (e ∷ d ∷ es) m labels st h once below =
+      let all : List ℕ = e ∷ d ∷ es in
+      let front : List ℕ = take 64 (e ∷ d ∷ es) in
+      let rest : List ℕ = drop 64 (e ∷ d ∷ es) in
+      let one = merge_for_is m labels st front (let z : 0 < suc (length (take 63 (d ∷ es))) = omega arith in z) (length_take 64 (e ∷ d ∷ es)) (take_once 64 (e ∷ d ∷ es) once) (λ x c. below x (take_within 64 (e ∷ d ∷ es) x c)) in
+      let g = one.0 in
+      let made = merge_for front m in
+      let longer : length m.lines ≤ length made.0.lines = g.longer in
+      let shorter : length rest + 2 ≤ length all = (let l : length (drop 62 es) ≤ length es = length_drop 62 es in omega arith) in
+      let grow : length (with_event rest made.1) ≤ length rest + 1 = length_with rest made.1 in
+      let two = event_for_is fuel (with_event rest made.1) made.0 g.labels' g.stands (let b : length all ≤ suc fuel = h in omega arith) (with_event_once rest made.1 (drop_once 64 (e ∷ d ∷ es) once)) (λ x c. elim (with_event_cases rest made.1 x c) [
+        | inl old ↦ (let b : x < length m.lines = below x (drop_within 64 (e ∷ d ∷ es) x old) in omega arith)
+        | inr new ↦ subst (λ z. z < length made.0.lines) (sym new) one.1
+      ]) in
+      let kept : (x : ℕ) → Contains rest x → slice_index_or g.labels' x [] ≡ slice_index_or labels x [] = λ x c. g.same x (below x (drop_within 64 (e ∷ d ∷ es) x c)) in (
+        grown_more f n m labels made.0 (event_for fuel (with_event rest made.1) made.0).0 g two.0,
+        waits_iff (two.0).labels' (length (event_for fuel (with_event rest made.1) made.0).0.lines) (event_for fuel (with_event rest made.1) made.0).1 (λ x. LeafOf g.labels' (with_event rest made.1) x) (λ x. LeafOf labels (e ∷ d ∷ es) x) (λ x. (
+          λ r. elim (with_event_cases rest made.1 r.0 r.1) [
+            | inl old ↦ (r.0, drop_within 64 (e ∷ d ∷ es) r.0 old, subst (λ z. Contains z x) (kept r.0 old) r.2)
+            | inr new ↦ (let s = (one.2 x).1 (subst (λ z. Leaf g.labels' z x) new r.2) in (s.0, take_within 64 (e ∷ d ∷ es) s.0 s.1, s.2))
+          ],
+          λ r. elim (split_cases 64 (e ∷ d ∷ es) r.0 r.1) [
+            | inl a ↦ (made.1, new_in rest made.1, (one.2 x).0 (r.0, a, r.2))
+            | inr b ↦ (r.0, old_in rest made.1 r.0 b, subst (λ z. Contains z x) (sym (kept r.0 b)) r.2)
+          ],
+        )) two.1,
+      )
+
+  -- the places of lines of the flow, and what leads to them
+  pub place_below : (m : Made) (labels : List (List ℕ)) → Standing f n m labels → (i : ℕ) → i < n → place_in m i < length m.lines
+  place_below m labels st i h = let o = st.own i h in slice_get_within m.lines (place_in m i) o.0 o.1
+
+  places_leaf : (m : Made) (labels : List (List ℕ)) → Standing f n m labels → (p : List ℕ) → ((i : ℕ) → Contains p i → i < n) → (x : ℕ) → LeafOf labels (map (place_in m) p) x ↔ Contains p x
+  places_leaf m labels st p within_p x = (
+    (λ r. (
+        let i = map_contains (place_in m) p r.0 r.1 in
+        let is : slice_index_or labels r.0 [] ≡ i.0 ∷ [] = ap (λ z. slice_index_or labels z []) (sym i.2) ∙ (st.own i.0 (within_p i.0 i.1)).4 in
+        elim (contains_cases i.0 [] x (subst (λ z. Contains z x) is r.2)) [ inl same ↦ subst (λ z. Contains p z) same i.1 | inr none ↦ absurd (contains_none x none) ])),
+    (λ c. (place_in m x, contains_map (place_in m) p x c, subst (λ z. Contains z x) (sym (st.own x (within_p x c)).4) (contains_here x []))),
+  )
+
+  places_once : (m : Made) (labels : List (List ℕ)) → Standing f n m labels → (p : List ℕ) → Falls p → ((i : ℕ) → Contains p i → i < n) → repeats nat_eq (map (place_in m) p) ≡ false
+  places_once m labels st p falls within_p = falls_differ (place_in m) n p st.rises within_p falls
+
+  -- lines of the flow that fall
+  pub record IsPart (p : List ℕ) : Type 0 where
+    pub falls : Falls p
+    pub below : (i : ℕ) → Contains p i → i < n
+
+  part_event : (p : List ℕ) (m : Made) (labels : List (List ℕ)) → Standing f n m labels → IsPart p → (let r = event_for (length p) (map (place_in m) p) m in (g : Grown f n m labels r.0) × Waits g.labels' (length r.0.lines) r.1 (λ x. Contains p x))
+  part_event p m labels st h =
+      let size : length (map (place_in m) p) ≡ length p = length-map p (place_in m) in
+      let e = event_for_is (length p) (map (place_in m) p) m labels st (omega arith) (places_once m labels st p h.falls h.below) (λ x c. (let i = map_contains (place_in m) p x c in subst (λ z. z < length m.lines) i.2 (place_below m labels st i.0 (h.below i.0 i.1)))) in
+      (e.0, waits_iff (e.0).labels' _ _ (λ x. LeafOf labels (map (place_in m) p) x) (λ x. Contains p x) (places_leaf m labels st p h.below) e.1)
+
+  -- events, and what leads to them
+  abbrev pub EventsOf : Made → List (List ℕ) → (ℕ → Type 0) → Made × List ℕ → Type 0
+  EventsOf m labels P r = (g : Grown f n m labels r.0) × (repeats nat_eq r.1 ≡ false) × ((e : ℕ) → Contains r.1 e → e < length r.0.lines) × ((x : ℕ) → LeafOf g.labels' r.1 x ↔ P x)
+
+  -- an event more
+  pub record EventMore (es : List ℕ) (labels : List (List ℕ)) (count : ℕ) (o : Option ℕ) (p : List ℕ) : Type 0 where
+    pub once : repeats nat_eq (option_map_or (with_event es) o es) ≡ false
+    pub below : (e : ℕ) → Contains (option_map_or (with_event es) o es) e → e < count
+    pub leaves : (x : ℕ) → LeafOf labels (option_map_or (with_event es) o es) x ↔ (LeafOf labels es x ⊎ Contains p x)
+
+  event_more : (es : List ℕ) (labels : List (List ℕ)) (count : ℕ) (o : Option ℕ) (p : List ℕ) → repeats nat_eq es ≡ false → ((e : ℕ) → Contains es e → e < count) → Waits labels count o (λ x. Contains p x) → EventMore es labels count o p
+  event_more es labels count None p once below w = record {
+    once = once;
+    below = below;
+    leaves = λ x. (λ r. inl r, λ r. elim r [ inl a ↦ a | inr c ↦ absurd (w x c) ]);
+  }
+  event_more es labels count (Some e) p once below w = record {
+    once = with_event_once es e once;
+    below = λ x c. elim (with_event_cases es e x c) [ inl old ↦ below x old | inr new ↦ subst (λ z. z < count) (sym new) w.0 ];
+    leaves = λ x. (
+      λ r. elim (with_event_cases es e r.0 r.1) [ inl old ↦ inl (r.0, old, r.2) | inr new ↦ inr ((w.1 x).1 (subst (λ z. Leaf labels z x) new r.2)) ],
+      λ r. elim r [ inl a ↦ (a.0, old_in es e a.0 a.1, a.2) | inr c ↦ (e, new_in es e, (w.1 x).0 c) ],
+    );
+  }
+
+  events_for_is : (es : List ℕ) (ps : List (List ℕ)) (m : Made) (labels : List (List ℕ)) → Standing f n m labels → repeats nat_eq es ≡ false → ((e : ℕ) → Contains es e → e < length m.lines) → ((p : List ℕ) → Contains ps p → IsPart p) →
+      EventsOf m labels (λ x. LeafOf labels es x ⊎ Contains (flat_map (λ p. p) ps) x) (events_for es ps m)
+  events_for_is es [] m labels st once below parts = (grown_none f n m labels st, once, below, λ x. (λ r. inl r, λ r. elim r [ inl a ↦ a | inr c ↦ absurd (contains_none x c) ]))
+  events_for_is es (p ∷ ps) m labels st once below parts =
+      let one = part_event p m labels st (parts p (contains_here p ps)) in
+      let made = event_for (length p) (map (place_in m) p) m in
+      let g = one.0 in
+      let longer : length m.lines ≤ length made.0.lines = g.longer in
+      let more = event_more es g.labels' (length made.0.lines) made.1 p once (λ e c. (let b : e < length m.lines = below e c in omega arith)) one.1 in
+      let two = events_for_is (option_map_or (with_event es) made.1 es) ps made.0 g.labels' g.stands more.once more.below (λ q c. parts q (contains_there p ps q c)) in
+      let s = leaves_same labels g.labels' es (λ e c. g.same e (below e c)) in (
+        grown_more f n m labels made.0 _ g two.0,
+        two.1,
+        two.2,
+        λ x. (
+          λ r. elim ((two.3 x).0 r) [
+            | inl a ↦ elim ((more.leaves x).0 a) [ inl b ↦ inl ((s x).1 b) | inr c ↦ inr (Contains-append_left p (flat_map (λ p. p) ps) x c) ]
+            | inr c ↦ inr (Contains-append_right p (flat_map (λ p. p) ps) x c)
+          ],
+          λ r. (two.3 x).1 (elim r [
+            | inl a ↦ inl ((more.leaves x).1 (inl ((s x).0 a)))
+            | inr c ↦ elim (Contains-append_cases p (flat_map (λ p. p) ps) x c) [ inl own ↦ inl ((more.leaves x).1 (inr own)) | inr rest ↦ inr rest ]
+          ]),
+        ),
+      )
+
+  -- what a line with these sources waits for
+  pub wait_for_is : (p : Parts) (m : Made) (labels : List (List ℕ)) → Standing f n m labels → IsPart p.small → ((q : List ℕ) → Contains p.large q → IsPart q) →
+      (let r = wait_for p m in (g : Grown f n m labels r.0) × Waits g.labels' (length r.0.lines) r.1 (λ x. Contains (all_of p) x))
+  wait_for_is p m labels st small large =
+      let one = events_for_is (map (place_in m) p.small) p.large m labels st (places_once m labels st p.small small.falls small.below) (λ x c. (let i = map_contains (place_in m) p.small x c in subst (λ z. z < length m.lines) i.2 (place_below m labels st i.0 (small.below i.0 i.1)))) large in
+      let made = events_for (map (place_in m) p.small) p.large m in
+      let two = event_for_is (length made.1) made.1 made.0 (one.0).labels' (one.0).stands (omega arith) one.1 one.2 in (
+        grown_more f n m labels made.0 _ one.0 two.0,
+        waits_iff (two.0).labels' _ _ (λ x. LeafOf (one.0).labels' made.1 x) (λ x. Contains (all_of p) x) (λ x. (
+          λ r. elim ((one.3 x).0 r) [
+            | inl a ↦ Contains-append_left p.small (flat_map (λ q. q) p.large) x ((places_leaf m labels st p.small small.below x).0 a)
+            | inr c ↦ Contains-append_right p.small (flat_map (λ q. q) p.large) x c
+          ],
+          λ c. (one.3 x).1 (elim (Contains-append_cases p.small (flat_map (λ q. q) p.large) x c) [
+            | inl a ↦ inl ((places_leaf m labels st p.small small.below x).1 a)
+            | inr b ↦ inr b
+          ]),
+        )) two.1,
+      )

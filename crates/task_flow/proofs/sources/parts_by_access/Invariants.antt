@@ -1,0 +1,13 @@
+use Rattle.std.proofs.Common.{◌≡◌, ◌≤◌, take, length}
+use Rattle.std.specs.Prelude.{filter, not}
+use Rattle.graph_model.specs.graph.Access.{accesses}
+use Rattle.task_flow.specs.Rows.{parts_at}
+use Rattle.task_flow.specs.Construction.{is_large}
+use Rattle.task_flow.proofs.sources.parts_by_access.Given as goal
+
+abbrev pub invariant-loop-k : goal.invariant-loop-k
+invariant-loop-k l = record {
+  few_left : l.k ≤ length (accesses l.flow l.line);
+  large : l.large.items ≡ filter is_large (parts_at l.flow l.line (take l.k (accesses l.flow l.line)));
+  few : l.few.items ≡ filter (λ p. not (is_large p)) (parts_at l.flow l.line (take l.k (accesses l.flow l.line)));
+}

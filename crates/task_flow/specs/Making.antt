@@ -1,0 +1,35 @@
+-- What stands in the code while a graph is made.
+use Rattle.std.specs.Prelude.{◌≡◌, ℕ, ◌+◌, ◌<◌, false, is_some, List, [], ◌++◌, length, map}
+use Rattle.graph_model.specs.declared.graph.limits.TheConstants.{MAX_LINES}
+use Rattle.graph_model.specs.graph.Graph.{GraphValue}
+use Rattle.task_flow.specs.Construction.{Made, made_after, first_number, number_from, is_over}
+use Rattle.task_flow.specs.Rows.{AreRows}
+use Rattle.task_flow.specs.declared.making.Making.{Making}
+use Rattle.task_flow.specs.declared.making.Merged.{Merged}
+
+abbrev pub merge_of : Merged → List ℕ × ℕ
+merge_of x = (x.events, x.line)
+
+-- the lines of the graph, and those that are to be put into it
+abbrev pub made_of : Making → Made
+made_of m = record { lines = m.graph.lines ++ m.row.items; places = m.places.items; merges = map merge_of m.merges.items; first = m.first }
+
+-- there are more lines than a graph may have
+abbrev pub IsPast : Made → Type 0
+IsPast m = MAX_LINES < length m.lines
+
+-- what stands after the first n lines of a flow
+pub record IsMaking (f : GraphValue) (n : ℕ) (m : Making) : Type 0 where
+  pub format : m.graph.format ≡ f.format
+  pub decls : m.graph.decls ≡ f.decls
+  pub row : m.row.items ≡ []
+  pub made : made_of m ≡ made_after f (number_from f) n
+  pub named : m.named ≡ is_some (first_number f)
+  pub alone : m.named ≡ false → length m.graph.lines ≡ n
+
+-- what stands after line n of a flow: its row, the lines so far, and that the graph is within the limits
+pub record IsNext (f : GraphValue) (n words : ℕ) (rows : List (List ℕ)) (m : Making) : Type 0 where
+  pub rows_are : AreRows f words rows
+  pub count : length rows ≡ n + 1
+  pub making : IsMaking f (n + 1) m
+  pub within : is_over f n ≡ false

@@ -1,0 +1,56 @@
+//! The graph of a flow.
+
+ghost use Rattle.std.specs.Prelude.{◌≡◌, ℕ, ◌<◌, false, length, IfOk, OnOk, IfErr};
+ghost use Rattle.task_flow.specs.Flow.{IsFlow};
+ghost use Rattle.task_flow.specs.Written.{MeansFlow};
+ghost use Rattle.task_flow.specs.Construction.{is_over, written};
+ghost use Rattle.task_flow.specs.Refusal.{IsFlowRefusal};
+
+use crate::laws::means_by_sources;
+use crate::making::{Making, Stop};
+use crate::rows::Rows;
+use graph_model::graph::Graph;
+use index_spaces::NoMemory;
+use std::alloc::Global;
+
+/// Why no graph is made of a flow.
+#[derive(Clone, Copy, Debug, PartialEq, Eq)]
+pub enum FlowRefusal {
+    /// With this line of the flow, counted from 0, the graph passes a limit.
+    Limit { line: u32 },
+    NoMemory,
+}
+
+impl From<NoMemory> for FlowRefusal {
+    ghost use Rattle.task_flow.specs.declared.make.FlowRefusal.TheVariants.{NoMemory as Wants};
+
+    ghost from_gives = { λ _ e. e ≡ Wants };
+
+    fn from(_: NoMemory) -> FlowRefusal {
+        FlowRefusal::NoMemory
+    }
+}
+
+/// The graph of a flow: its lines in their order, with the merges and preconditions that they need
+/// to be done in parallel as if they were done one after the other. `Limit` comes exactly where the
+/// graph would pass a limit, with the first line with which it does.
+pub fn make_graph(alloc: Global, flow: &Graph) -> Result<Graph, FlowRefusal>
+    requires { IsFlow flow.now }
+    ensures graph { IfOk result (λ g. g ≡ written flow.now) }
+    ensures means { IfOk result (λ g. MeansFlow flow.now false g) }
+    ensures within { OnOk result ((j : ℕ) → j < length flow.now.lines → is_over flow.now j ≡ false) }
+    ensures refusal { IfErr result (λ e. IsFlowRefusal flow.now e) }
+{
+    means_by_sources();
+    let mut making = Making::new(alloc, flow)?;
+    let mut rows = Rows::new(alloc, flow);
+    for line in 0..flow.lines() {
+        match making.add_next(alloc, flow, &mut rows) {
+            Ok(()) => {}
+            Err(Stop::Limit) => return Err(FlowRefusal::Limit { line }),
+            Err(Stop::NoMemory) => return Err(FlowRefusal::NoMemory),
+        }
+    }
+    let _ = making.graph.lines();
+    Ok(making.graph)
+}

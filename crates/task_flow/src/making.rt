@@ -1,0 +1,329 @@
+//! What stands while the graph of a flow is made.
+
+ghost use Rattle.std.specs.Prelude.{◌≡◌, ℕ, ◌+◌, ◌≤◌, ◌<◌, [], length, take, drop, map, find, bytes_eq, not, ◌&&◌, nat_lt, false, true, option_map, IsTrue, IfOk, OnOk};
+ghost use Rattle.graph_model.specs.graph.Fits.{is_beyond};
+ghost use Rattle.task_flow.specs.Flow.{IsFlow, uses_columns};
+ghost use Rattle.task_flow.specs.Rows.{AreRows};
+ghost use Rattle.task_flow.specs.Construction.{merge_for, with_event, event_for, events_for, place_in, wait_for, with_flow_line, is_over};
+ghost use Rattle.task_flow.specs.Fitting.{AreToFit, with_lines};
+
+use crate::copies::{copy_of_lines, copy_of_verb, declared};
+use crate::numbers::{first_number, new_name};
+use crate::rows::Rows;
+use crate::sources::{Parts, add_row, has, parts_of};
+use graph_model::graph::Graph;
+use graph_model::limits::{MAX_EVENTS, MAX_LINES};
+use graph_model::lists::LineList;
+use graph_model::verb::{Line, Verb};
+use index_spaces::NoMemory;
+use index_spaces::room::push;
+use std::alloc::Global;
+use std::mem;
+
+/// Why no more is made.
+#[derive(Clone, Copy, Debug, PartialEq, Eq)]
+pub(crate) enum Stop {
+    /// There would be more lines than a graph may have.
+    Limit,
+    NoMemory,
+}
+
+impl From<NoMemory> for Stop {
+    ghost use Rattle.task_flow.specs.declared.making.Stop.TheVariants.{NoMemory as Wants};
+
+    ghost from_gives = { λ _ e. e ≡ Wants };
+
+    fn from(_: NoMemory) -> Stop {
+        Stop::NoMemory
+    }
+}
+
+/// A merge that stands: its events and its line.
+#[derive(Drop)]
+pub(crate) struct Merged {
+    pub(crate) events: LineList,
+    pub(crate) line: u32,
+}
+
+/// The graph so far, the lines that are to be put into it next, the place of each line of the flow,
+/// the merges, and the first number of the names, where there is one.
+#[derive(Drop)]
+pub(crate) struct Making {
+    pub(crate) graph: Graph,
+    pub(crate) row: Vec<Line>,
+    pub(crate) places: Vec<u32>,
+    pub(crate) merges: Vec<Merged>,
+    pub(crate) named: bool,
+    pub(crate) first: u64,
+    ghost small: { first ≤ 100000000000000000 },
+}
+
+impl Making {
+    ghost use Rattle.task_flow.specs.Making.{made_of, IsPast, IsMaking, IsNext};
+    ghost use Rattle.task_flow.specs.declared.making.Merged.{Merged};
+
+    /// The declarations of a flow, and none of its lines.
+    pub(crate) fn new(alloc: Global, flow: &Graph) -> Result<Making, NoMemory>
+        requires { IsFlow flow.now }
+        ensures { IfOk result (IsMaking flow.now 0) }
+    {
+        let numbers = first_number(flow);
+        let graph = declared(alloc, flow)?;
+        Ok(Making {
+            graph,
+            row: Vec::new(alloc),
+            places: Vec::new(alloc),
+            merges: Vec::new(alloc),
+            named: numbers.is_some(),
+            first: numbers.unwrap_or(0),
+        })
+    }
+
+    /// Whether the merge of these events stands, and where.
+    fn found(&self, events: &LineList) -> Option<u32>
+        ensures { result ≡ option_map (λ (x : Merged). x.line) (find (λ (x : Merged). bytes_eq x.events events.now) self.now.merges.items) }
+    {
+        self.merges
+            .iter()
+            .find(|merged| are_same(&merged.events, events))
+            .map(|merged| merged.line)
+    }
+
+    /// The number of the next line. `Limit` where there are as many as a graph may have.
+    fn next_line(&self) -> Result<u32, Stop>
+        ensures ok { IfOk result (λ n. n ≡ length (made_of self.now).lines) }
+        ensures few { OnOk result (length (made_of self.now).lines < MAX_LINES) }
+        ensures limit { result ≡ Err Stop.Limit → MAX_LINES ≤ length (made_of self.now).lines }
+    {
+        let count = u64::from(self.graph.lines()) + self.row.len() as u64;
+        if count < MAX_LINES {
+            Ok(count as u32)
+        } else {
+            Err(Stop::Limit)
+        }
+    }
+
+    /// The merge of these events: the one that stands, or a new one.
+    fn merge_for(&mut self, alloc: Global, events: LineList) -> Result<u32, Stop>
+        ensures ok { IfOk result (λ e. (made_of self.new, e) ≡ merge_for events (made_of self.old)) }
+        ensures graph { self.new.graph ≡ self.old.graph }
+        ensures named { self.new.named ≡ self.old.named }
+        ensures limit { result ≡ Err Stop.Limit → IsPast (merge_for events (made_of self.old)).0 }
+    {
+        match self.found(&events) {
+            Some(line) => return Ok(line),
+            None => {}
+        }
+        let line = self.next_line()?;
+        let name = new_name(alloc, self.first, line)?;
+        let key = copy_of_lines(alloc, &events)?;
+        let verb = Verb::Merge { events };
+        let on = None;
+        push(&mut self.row, Line { name, verb, on })?;
+        push(&mut self.merges, Merged { events: key, line })?;
+        Ok(line)
+    }
+
+    /// One event for these: they are merged by 64, and then the merges, until one is left.
+    fn event_for(&mut self, alloc: Global, events: LineList) -> Result<Option<u32>, Stop>
+        ensures ok { IfOk result (λ e. (made_of self.new, e) ≡ event_for (length events) events (made_of self.old)) }
+        ensures graph { self.new.graph ≡ self.old.graph }
+        ensures named { self.new.named ≡ self.old.named }
+        ensures limit { result ≡ Err Stop.Limit → IsPast (event_for (length events) events (made_of self.old)).0 }
+    {
+        let mut left = events;
+        while left.len() > 1 {
+            let front = front_of(alloc, &left)?;
+            let merge = self.merge_for(alloc, front)?;
+            left = rest_of(alloc, &left, merge)?;
+        }
+        if left.len() == 1 {
+            Ok(Some(left.at(0)))
+        } else {
+            Ok(None)
+        }
+    }
+
+    /// These events and one for each large part.
+    fn events_for(
+        &mut self,
+        alloc: Global,
+        events: LineList,
+        large: &[LineList],
+    ) -> Result<LineList, Stop>
+        ensures ok { IfOk result (λ es. (made_of self.new, es) ≡ events_for events large.now (made_of self.old)) }
+        ensures graph { self.new.graph ≡ self.old.graph }
+        ensures named { self.new.named ≡ self.old.named }
+        ensures limit { result ≡ Err Stop.Limit → IsPast (events_for events large.now (made_of self.old)).0 }
+    {
+        let mut all = events;
+        for part in large {
+            let places = self.places_of(alloc, part)?;
+            if let Some(event) = self.event_for(alloc, places)? {
+                add_event(&mut all, event)?;
+            }
+        }
+        Ok(all)
+    }
+
+    /// The places of some lines of the flow.
+    fn places_of(&self, alloc: Global, lines: &LineList) -> Result<LineList, NoMemory>
+        ensures { IfOk result (λ places. places ≡ map (place_in (made_of self.now)) lines.now) }
+    {
+        let mut places = LineList::new(alloc);
+        for line in lines.items.as_slice() {
+            let place = self.places.get(*line as usize).copied().unwrap_or(0);
+            places.push(place)?;
+        }
+        Ok(places)
+    }
+
+    /// What a line of the flow with these sources waits for.
+    fn wait_for(&mut self, alloc: Global, parts: &Parts) -> Result<Option<u32>, Stop>
+        ensures ok { IfOk result (λ e. (made_of self.new, e) ≡ wait_for parts.now (made_of self.old)) }
+        ensures graph { self.new.graph ≡ self.old.graph }
+        ensures named { self.new.named ≡ self.old.named }
+        ensures limit { result ≡ Err Stop.Limit → IsPast (wait_for parts.now (made_of self.old)).0 }
+    {
+        let small = self.places_of(alloc, &parts.small)?;
+        let events = self.events_for(alloc, small, parts.large.as_slice())?;
+        self.event_for(alloc, events)
+    }
+
+    /// Makes a line of the flow.
+    fn push_flow_line(&mut self, line: &Line, on: Option<u32>) -> Result<(), Stop>
+        requires { IsTrue (uses_columns line.now.verb) }
+        ensures ok { OnOk result (made_of self.new ≡ with_flow_line line.now (made_of self.old, on)) }
+        ensures few { OnOk result (length (made_of self.new).lines ≤ MAX_LINES) }
+        ensures graph { self.new.graph ≡ self.old.graph }
+        ensures named { self.new.named ≡ self.old.named }
+        ensures limit { result ≡ Err Stop.Limit → IsPast (with_flow_line line.now (made_of self.old, on)) }
+    {
+        let place = self.next_line()?;
+        let name = line.name;
+        let verb = copy_of_verb(&line.verb);
+        push(&mut self.row, Line { name, verb, on })?;
+        push(&mut self.places, place)?;
+        Ok(())
+    }
+
+    /// Makes a line of the flow with these sources, and the merges before it.
+    fn make_line(&mut self, alloc: Global, line: &Line, parts: &Parts) -> Result<(), Stop>
+        requires { IsTrue (uses_columns line.now.verb) }
+        ensures ok { OnOk result (made_of self.new ≡ with_flow_line line.now (wait_for parts.now (made_of self.old))) }
+        ensures few { OnOk result (length (made_of self.new).lines ≤ MAX_LINES) }
+        ensures graph { self.new.graph ≡ self.old.graph }
+        ensures named { self.new.named ≡ self.old.named }
+        ensures limit { result ≡ Err Stop.Limit → IsPast (with_flow_line line.now (wait_for parts.now (made_of self.old))) }
+    {
+        let on = self.wait_for(alloc, parts)?;
+        self.push_flow_line(line, on)
+    }
+
+    /// Puts the lines that are made into the graph. `Limit` where it passes one.
+    fn put_row(&mut self, alloc: Global) -> Result<(), Stop>
+        requires { AreToFit self.old.graph.format self.old.graph.decls self.old.graph.lines self.old.row.items }
+        ensures ok { OnOk result (self.new.graph ≡ with_lines self.old.graph self.old.row.items) }
+        ensures row { OnOk result (self.new.row.items ≡ []) }
+        ensures made { OnOk result (made_of self.new ≡ made_of self.old) }
+        ensures named { OnOk result (self.new.named ≡ self.old.named) }
+        ensures within { OnOk result ((self.old.row.items ≡ [] → ⊥) → is_beyond (with_lines self.old.graph self.old.row.items) ≡ false) }
+        ensures limit { result ≡ Err Stop.Limit → is_beyond (with_lines self.old.graph self.old.row.items) ≡ true }
+    {
+        let row = mem::replace(&mut self.row, Vec::new(alloc));
+        put_lines(&mut self.graph, row)
+    }
+
+    /// Whether merges are to be put into the graph and no name is left for them.
+    fn wants_names(&self) -> bool
+        ensures { result ≡ (not self.now.named && nat_lt 1 (length self.now.row.items)) }
+    {
+        !self.named && self.row.len() > 1
+    }
+
+    /// Makes the next line of the flow, and puts it and the merges before it into the graph.
+    pub(crate) fn add_next(
+        &mut self,
+        alloc: Global,
+        flow: &Graph,
+        rows: &mut Rows,
+    ) -> Result<(), Stop>
+        requires flow { IsFlow flow.now }
+        requires rows { AreRows flow.now rows.old.words rows.old.rows.items }
+        requires next { length rows.old.rows.items < length flow.now.lines }
+        requires making { IsMaking flow.now (length rows.old.rows.items) self.old }
+        ensures ok { OnOk result (IsNext flow.now (length rows.old.rows.items) rows.new.words rows.new.rows.items self.new) }
+        ensures limit { result ≡ Err Stop.Limit → is_over flow.now (length rows.old.rows.items) ≡ true }
+    {
+        let _ = flow.lines();
+        let line = rows.rows.len() as u32;
+        let parts = parts_of(alloc, flow, rows)?;
+        self.make_line(alloc, flow.line(line), &parts)?;
+        if self.wants_names() {
+            return Err(Stop::Limit);
+        }
+        self.put_row(alloc)?;
+        add_row(alloc, flow, rows, &parts)?;
+        Ok(())
+    }
+}
+
+/// Whether two lists are the same.
+fn are_same(one: &LineList, other: &LineList) -> bool
+    ensures { result ≡ bytes_eq one.now other.now }
+{
+    one.items.as_slice() == other.items.as_slice()
+}
+
+/// The first of some events, at most as many as a merge names.
+fn front_of(alloc: Global, events: &LineList) -> Result<LineList, NoMemory>
+    ensures { IfOk result (λ front. front ≡ take 64 events.now) }
+{
+    let mut front = LineList::new(alloc);
+    for i in 0..events.len().min(MAX_EVENTS) {
+        front.push(events.at(i))?;
+    }
+    Ok(front)
+}
+
+/// The other events, and one more.
+fn rest_of(alloc: Global, events: &LineList, event: u32) -> Result<LineList, NoMemory>
+    ensures { IfOk result (λ rest. rest ≡ with_event (drop 64 events.now) event) }
+{
+    let mut rest = LineList::new(alloc);
+    for i in MAX_EVENTS..events.len() {
+        rest.push(events.at(i))?;
+    }
+    add_event(&mut rest, event)?;
+    Ok(rest)
+}
+
+/// Puts an event at the end of a list that doesn't have it.
+fn add_event(events: &mut LineList, event: u32) -> Result<(), NoMemory>
+    ensures { OnOk result (events.new ≡ with_event events.old event) }
+{
+    if has(events, event) {
+        return Ok(());
+    }
+    // A list has fewer than 2^32 items.
+    if events.len() == u32::MAX {
+        return Err(NoMemory);
+    }
+    events.push(event)
+}
+
+/// Puts lines at the end of a graph. `Limit` where it passes one.
+fn put_lines(graph: &mut Graph, row: Vec<Line>) -> Result<(), Stop>
+    requires { AreToFit graph.old.format graph.old.decls graph.old.lines row.items }
+    ensures ok { OnOk result (graph.new ≡ with_lines graph.old row.items) }
+    ensures within { OnOk result ((row.items ≡ [] → ⊥) → is_beyond (with_lines graph.old row.items) ≡ false) }
+    ensures limit { result ≡ Err Stop.Limit → is_beyond (with_lines graph.old row.items) ≡ true }
+{
+    for line in row {
+        line.is_well_formed();
+        if graph.offer_line(line)?.is_some() {
+            return Err(Stop::Limit);
+        }
+    }
+    Ok(())
+}
