@@ -1,0 +1,2 @@
+pub mod Leaner
+pub mod LinkSteps

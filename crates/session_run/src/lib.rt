@@ -1,0 +1,4 @@
+//! Running the graphs of a session, one after the other, each with its links as lines.
+#![tactic(auto)]
+
+mod linking;
