@@ -224,13 +224,17 @@ fits_as : (g : GraphValue) (ks : List Line) (l : Link) (u : ℕ) (b : Bool) → 
     is_beyond (with_line (longer g ks) (link_as l (ender b u))) ≡ false → line_fault (longer g ks) (link_as l (ender b u)) ≡ None
 fits_as g ks l u true used ends passes near beyond = none_where_each_fails (line_tests (longer g ks) (link_as l (Trigger u))) (
   or_from (is_used (longer g ks) l.line) (list_any (ends_it u) (g.lines ++ ks) || false) used (or_from (list_any (ends_it u) (g.lines ++ ks)) false ends refl),
-  (or_from (nat_le (length (g.lines ++ ks)) u || false) false (or_from (nat_le (length (g.lines ++ ks)) u) false (far_off g ks u near) refl) refl,
-    (or_from (not (line_passes is_user (longer g ks) u)) (format_lacks g.format (Trigger u)) (ap not passes) (lacks_no_trigger g.format u), (refl, (refl, (refl, (beyond, tt)))))),
+  (
+    or_from (nat_le (length (g.lines ++ ks)) u || false) false (or_from (nat_le (length (g.lines ++ ks)) u) false (far_off g ks u near) refl) refl,
+    (or_from (not (line_passes is_user (longer g ks) u)) (format_lacks g.format (Trigger u)) (ap not passes) (lacks_no_trigger g.format u), (refl, (refl, (refl, (beyond, tt))))),
+  ),
 )
 fits_as g ks l u false used ends passes near beyond = none_where_each_fails (line_tests (longer g ks) (link_as l (Cancel u))) (
   or_from (is_used (longer g ks) l.line) (list_any (ends_it u) (g.lines ++ ks) || false) used (or_from (list_any (ends_it u) (g.lines ++ ks)) false ends refl),
-  (or_from (nat_le (length (g.lines ++ ks)) u || false) false (or_from (nat_le (length (g.lines ++ ks)) u) false (far_off g ks u near) refl) refl,
-    (or_from (not (line_passes is_user (longer g ks) u)) (format_lacks g.format (Cancel u)) (ap not passes) (lacks_no_cancel g.format u), (refl, (refl, (refl, (beyond, tt)))))),
+  (
+    or_from (nat_le (length (g.lines ++ ks)) u || false) false (or_from (nat_le (length (g.lines ++ ks)) u) false (far_off g ks u near) refl) refl,
+    (or_from (not (line_passes is_user (longer g ks) u)) (format_lacks g.format (Cancel u)) (ap not passes) (lacks_no_cancel g.format u), (refl, (refl, (refl, (beyond, tt))))),
+  ),
 )
 
 -- what a trigger that fits after the first lines says of its user line

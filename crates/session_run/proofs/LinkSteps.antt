@@ -1,10 +1,10 @@
 -- The graph of an entry with the lines of its links so far.
-use Rattle.std.proofs.Common.{◌≡◌, ℕ, zero, suc, ◌+◌, ◌<◌, ◌≤◌, Bool, true, false, List, [], ◌∷◌, ◌++◌, length, map, refl, sym, ◌∙◌, ap, subst, append_assoc, append-nil, length-append, arith}
+use Rattle.std.proofs.Common.{◌≡◌, ℕ, zero, suc, ◌+◌, ◌<◌, ◌≤◌, Bool, true, false, List, [], ◌∷◌, ◌++◌, length, map, take, refl, sym, ◌∙◌, ap, subst, append_assoc, append-nil, length-append, arith}
 use Rattle.std.specs.Prelude.{◌==◌, Option, Some, None, slice_get, option_map, bytes_eq}
 use Rattle.std.specs.Option.{option_map_or}
 use Rattle.std.specs.List.{list_any}
 use Rattle.std.proofs.lemmas.Bool.{true≢false, or_parts, or_from}
-use Rattle.std.proofs.lemmas.List.{map-append}
+use Rattle.std.proofs.lemmas.List.{map-append, take_more}
 use Rattle.std.proofs.lemmas.List.Folds.{list_any-append}
 use Rattle.gen_events.specs.declared.handle.Answer.{Answer}
 use Rattle.gen_events.specs.declared.handle.Answer.TheVariants.{Pending, Triggered, Poisoned}
@@ -13,13 +13,18 @@ use Rattle.graph_model.specs.declared.graph.verb.Verb.TheVariants.{Trigger, Canc
 use Rattle.graph_model.specs.graph.Graph.{GraphValue, line_passes, is_user, ends_user}
 use Rattle.graph_model.specs.graph.Edges.{edges}
 use Rattle.graph_model.specs.graph.Spelling.{head}
-use Rattle.graph_model.specs.graph.Fits.{with_line}
+use Rattle.graph_model.specs.graph.Fits.{with_line, line_fault}
 use Rattle.graph_reader.specs.Draft.{line_number}
 use Rattle.session_text.specs.declared.entry.Link.{Link}
-use Rattle.session_text.specs.Fits.{trigger_line, with_trigger, with_triggers}
+use Rattle.std.proofs.lemmas.Option.{none-some, same_Some, slice_get_within, get_or_from_slice_get}
+use Rattle.graph_model.specs.declared.graph.why.Why.{Why}
+use Rattle.graph_reader.specs.FirstFault.{or_else, is_line_name}
+use Rattle.session_text.specs.declared.entry.Entry.{Entry}
+use Rattle.session_text.specs.Fits.{trigger_line, with_trigger, with_triggers, trigger_reason, LinksFit}
+use Rattle.session_run.specs.Running.{CanLink}
 use Rattle.session_text.proofs.Entries.{triggers_push}
 use Rattle.session_run.specs.Linked.{LinkedGraph, link_answer, cancel_line, with_answer, with_links}
-use Rattle.session_run.proofs.Leaner.{longer, name_of, link_as, ender, ends_it, IsLeaner, LinkFits, pushed, text_push, text_less, count_less, edges_count, edges_less}
+use Rattle.session_run.proofs.Leaner.{longer, name_of, link_as, ender, ends_it, IsLeaner, LinkFits, pushed, text_push, text_less, count_less, edges_count, edges_less, link_fits}
 
 -- the last of the lines is no user line
 snoc_passes : (xs : List Line) (t : Line) (i : ℕ) → is_user t.verb ≡ false → option_map_or is_user (option_map (λ (l : Line). l.verb) (slice_get (xs ++ t ∷ []) i)) false ≡ true → option_map_or is_user (option_map (λ (l : Line). l.verb) (slice_get xs i)) false ≡ true
@@ -88,13 +93,13 @@ no_links before g = record {
   lines_are = itself g;
   linked = refl;
   leaner = record {
-      names = λ w h. h;
-      ends = λ u h. h;
-      users = λ i h. passes_within g.lines i (ap (λ ls. option_map_or is_user (option_map (λ (l : Line). l.verb) (slice_get ls i)) false) (sym (append-nil g.lines)) ∙ h);
-      text = omega arith;
-      count = omega arith;
-      edges = omega arith;
-    };
+    names = λ w h. h;
+    ends = λ u h. h;
+    users = λ i h. passes_within g.lines i (ap (λ ls. option_map_or is_user (option_map (λ (l : Line). l.verb) (slice_get ls i)) false) (sym (append-nil g.lines)) ∙ h);
+    text = omega arith;
+    count = omega arith;
+    edges = omega arith;
+  };
   counted = refl;
 }
 
@@ -145,3 +150,48 @@ module _ (before : List LinkedGraph) (g : GraphValue) (done : List Link) (k : Gr
 
   pub one_link : Linking before g (done ++ l ∷ []) (with_answer k l (link_answer before l))
   one_link = lines_by (link_answer before l) refl
+
+-- the line of a link that fits
+or_else_none : (a b : Option Why) → or_else a b ≡ None → (a ≡ None) × (b ≡ None)
+or_else_none None b h = (refl, h)
+or_else_none (Some w) b h = absurd (none-some w (sym h))
+
+-- one of the links, after those before it
+pub fits_at : (before : List Entry) (name : List ℕ) (g : GraphValue) (done : List Link) (ls : List Link) (i : ℕ) (l : Link) → LinksFit before (record { name = name; graph = g; links = done }) ls → slice_get ls i ≡ Some l
+    → trigger_reason (with_triggers g (done ++ take i ls)) l ≡ None
+fits_at before name g done [] i l f h = absurd (none-some l h)
+fits_at before name g done (k ∷ ls) zero l f h =
+    let same : k ≡ l = same_Some k l h in
+    ap (λ ds. trigger_reason (with_triggers g ds) l) (append-nil done)
+    ∙ (ap (trigger_reason (with_triggers g done)) (sym same) ∙ (or_else_none _ _ (or_else_none _ _ f.0).1).0)
+fits_at before name g done (k ∷ ls) (suc i) l f h =
+    ap (λ ds. trigger_reason (with_triggers g ds) l) (sym (append_assoc done (k ∷ []) (take i ls))) ∙ fits_at before name g (done ++ k ∷ []) ls i l f.1 h
+
+pub link_there : (before : List LinkedGraph) (g : GraphValue) (ls : List Link) (i : ℕ) (k : GraphValue) (l : Link) (c : CanLink g ls) → (s : Linking before g (take i ls) k) → slice_get ls i ≡ Some l → LinkFits g s.triggers s.lines l
+link_there before g ls i k l c s h = link_fits g s.triggers s.lines l s.leaner (ap (λ t. trigger_reason t l) (sym s.triggers_are) ∙ fits_at c.0 c.1 g [] ls i l c.2 h)
+
+-- what is asked of a link that is put at the end
+pub record CanPut (k : GraphValue) (l : Link) : Type 0 where
+  pub user : is_line_name k l.user ≡ true
+  pub trigger : line_fault k (trigger_line k l) ≡ None
+  pub cancel : line_fault k (cancel_line k l) ≡ None
+
+pub can_put : (before : List LinkedGraph) (g : GraphValue) (ls : List Link) (i : ℕ) (k : GraphValue) (l : Link) (c : CanLink g ls) → Linking before g (take i ls) k → slice_get ls i ≡ Some l → CanPut k l
+can_put before g ls i k l c s h =
+    let f = link_there before g ls i k l c s h in
+    subst (λ t. CanPut t l) (sym s.lines_are) (record { user = f.named; trigger = f.trigger; cancel = f.cancel })
+
+pub linked_more : (before : List LinkedGraph) (g : GraphValue) (ls : List Link) (i : ℕ) (k next : GraphValue) (l : Link) (c : CanLink g ls) → Linking before g (take i ls) k → slice_get ls i ≡ Some l → next ≡ with_answer k l (link_answer before l) → Linking before g (take (i + 1) ls) next
+linked_more before g ls i k next l c s h e =
+    let more : take (i + 1) ls ≡ take i ls ++ l ∷ [] = take_more ls i l (slice_get_within ls i l h) ∙ ap (λ x. take i ls ++ x ∷ []) (get_or_from_slice_get ls i l l h) in
+    subst (λ t. Linking before g t next) (sym more) (subst (Linking before g (take i ls ++ l ∷ [])) (sym e) (one_link before g (take i ls) k l s (link_there before g ls i k l c s h)))
+
+take_all : {X : Type 0} (xs : List X) (n : ℕ) → n ≡ length xs → take n xs ≡ xs
+take_all [] zero e = refl
+take_all [] (suc n) e = absurd (omega arith)
+take_all (x ∷ xs) zero e = absurd (omega arith)
+take_all (x ∷ xs) (suc n) e = ap (λ l. x ∷ l) (take_all xs n (omega arith))
+
+-- all links are put
+pub all_linked : (before : List LinkedGraph) (g : GraphValue) (ls : List Link) (n : ℕ) (k : GraphValue) → n ≡ length ls → Linking before g (take n ls) k → (k ≡ with_links before g ls) × (length k.lines ≤ length g.lines + length ls)
+all_linked before g ls n k e s = let t = subst (λ x. Linking before g x k) (take_all ls n e) s in (sym t.linked, omega (arith, ap (λ (h : GraphValue). length h.lines) t.lines_are, length-append g.lines t.lines, t.leaner.count, t.counted))

@@ -2,3 +2,6 @@
 #![tactic(auto)]
 
 mod linking;
+mod running;
+
+pub use running::{Linked, RanGraph, Running};
