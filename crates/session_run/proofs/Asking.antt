@@ -57,7 +57,7 @@ pub no_graph : (r : Running) (l : Link) → graph_place r.graphs.items l ≡ Non
 no_graph r l h =
     let none : find (named l.graph) r.graphs.items ≡ None = find_none (named l.graph) r.graphs.items (position_any (named l.graph) r.graphs.items ∙ ap (λ (o : Option ℕ). is_some o) h) in
     ap (λ (o : Option LinkedGraph). option_map_or (λ (x : LinkedGraph). answer_at x.graph l.op) o Pending)
-      (find_map linked_of (λ (x : LinkedGraph). bytes_eq x.name l.graph) r.graphs.items ∙ ap (option_map linked_of) none)
+    (find_map linked_of (λ (x : LinkedGraph). bytes_eq x.name l.graph) r.graphs.items ∙ ap (option_map linked_of) none)
 
 -- the graph at this place has it
 pub graph_there : (r : Running) (l : Link) (k : ℕ) (x : RanGraph) → graph_place r.graphs.items l ≡ Some k → x ≡ slice_index_or r.graphs.items k x → link_answer (ran_by r) l ≡ answer_at x.checked.graph l.op
@@ -65,7 +65,7 @@ graph_there r l k x h e =
     let p = position-Some (named l.graph) r.graphs.items k x h in
     let some : find (named l.graph) r.graphs.items ≡ Some x = find_at (named l.graph) r.graphs.items k x p.0 p.1 p.2 ∙ ap (λ y. Some y) (sym e) in
     ap (λ (o : Option LinkedGraph). option_map_or (λ (y : LinkedGraph). answer_at y.graph l.op) o Pending)
-      (find_map linked_of (λ (y : LinkedGraph). bytes_eq y.name l.graph) r.graphs.items ∙ ap (option_map linked_of) some)
+    (find_map linked_of (λ (y : LinkedGraph). bytes_eq y.name l.graph) r.graphs.items ∙ ap (option_map linked_of) some)
 
 -- lists that are the same, item by item
 same_at : {X Y Z : Type 0} (f : X → Z) (g : Y → Z) (xs : List X) (ys : List Y) (k : ℕ) (y : Y) → map f xs ≡ map g ys → slice_get ys k ≡ Some y → (x : X) × (slice_get xs k ≡ Some x) × (f x ≡ g y)

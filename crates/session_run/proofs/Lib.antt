@@ -1,3 +1,5 @@
 pub mod Asking
 pub mod Leaner
 pub mod LinkSteps
+pub mod Recording
+pub mod Refusals

@@ -4,4 +4,4 @@
 mod linking;
 mod running;
 
-pub use running::{Linked, RanGraph, Running};
+pub use running::{Linked, RanGraph, RecordFault, Running};

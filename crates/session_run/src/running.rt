@@ -1,20 +1,24 @@
 //! The graphs of a session that were run, and what is asked of them.
 
-ghost use Rattle.std.specs.Prelude.{◌≡◌, ◌+◌, ◌<◌, ◌≤◌, [], length, IfOk, OnOk};
-ghost use Rattle.realm_session.specs.Sessions.{recorded_by, IsSeatOf};
+ghost use Rattle.std.specs.Prelude.{◌≡◌, ℕ, ◌+◌, ◌<◌, ◌≤◌, ◌++◌, ◌∷◌, [], ◌↔◌, length, map, IfOk, IfErr, OnOk};
+ghost use Rattle.realm_session.specs.Recorded.{graph_at, handle_in, lines_in, need_with};
+ghost use Rattle.realm_session.specs.declared.limits.TheConstants.{MAX_RECORDED};
+ghost use Rattle.session_text.specs.declared.limits.TheConstants.{MAX_GRAPHS, MAX_SESSION_LINES};
+ghost use Rattle.realm_session.specs.Sessions.{recorded_by, IsRecorderOf, IsSeatOf};
 ghost use Rattle.gen_events.specs.declared.limits.TheConstants.{MAX_SLOTS};
 ghost use Rattle.session_run.specs.Linked.{link_answer, with_links};
-ghost use Rattle.session_run.specs.Running.{graph_place, op_place, ran_by, slots_of, CanLink, IsRunning, TellsAll};
+ghost use Rattle.session_run.specs.Running.{graph_place, line_total, op_place, ran_by, slots_needed, slots_of, CanLink, Entered, IsOutcome, IsRunning, TellsAll};
 
 use crate::linking::add_link;
 use gen_events::{Answer, Handle, Seat};
 use graph_model::checked::Checked;
 use graph_model::graph::Graph;
-use graph_model::lists::ItemList;
+use graph_model::lists::{EndList, ItemList};
 use graph_model::name::Name;
 use graph_model::outcome::Outcome;
 use index_spaces::NoMemory;
-use realm_session::{Recorder, Session};
+use index_spaces::room::push;
+use realm_session::{RecordRefusal, Recorder, Session};
 use session_text::{Entry, Link, find_line};
 use std::alloc::Global;
 
@@ -33,6 +37,69 @@ pub struct Running {
     pub(crate) session: Session,
     pub(crate) recorder: Recorder,
     pub(crate) graphs: Vec<RanGraph>,
+}
+
+/// Why a graph that was run is not recorded.
+#[derive(Clone, Copy, Debug, PartialEq, Eq)]
+pub enum RecordFault {
+    /// So many slots are needed, more than there are.
+    Slots(u32),
+    /// Memory ran out.
+    NoMemory,
+}
+
+/// The handles of the lines of a graph that was recorded, in order.
+fn handles_of(
+    alloc: Global,
+    recorder: &Recorder,
+    graph: u32,
+    lines: u32,
+) -> Result<ItemList<Handle>, NoMemory>
+    requires lines { lines ≡ length (graph_at (recorded_by recorder.now) graph) }
+    ensures { IfOk result (λ hs. hs ≡ map handle_in (graph_at (recorded_by recorder.now) graph)) }
+{
+    let mut handles = ItemList::new(alloc);
+    for line in 0..lines {
+        handles.push(recorder.handle_of(graph, line))?;
+    }
+    Ok(handles)
+}
+
+/// Records how the lines of a graph ended: their handles.
+fn enter_lines(
+    session: &Session,
+    alloc: Global,
+    recorder: &mut Recorder,
+    ends: &EndList,
+) -> Result<ItemList<Handle>, RecordFault>
+    requires recorder { IsRecorderOf session.now recorder.old }
+    requires graphs { length (recorded_by recorder.old).graphs < 4294967295 }
+    requires few { length (lines_in (recorded_by recorder.old).graphs) + length ends.now ≤ MAX_RECORDED }
+    ensures recorder { IsRecorderOf session.now recorder.new }
+    ensures entered { IfOk result (λ hs. Entered (recorded_by recorder.old) (recorded_by recorder.new) ends.now hs) }
+    ensures short { (n : ℕ) → (result ≡ Err (RecordFault.Slots n)) ↔
+        (((recorded_by recorder.old).slots < n) × (n ≡ need_with (recorded_by recorder.old).graphs ends.now)) }
+{
+    match session.enter(alloc, recorder, ends) {
+        Ok(number) => match handles_of(alloc, recorder, number, ends.len()) {
+            Ok(handles) => Ok(handles),
+            Err(NoMemory) => Err(RecordFault::NoMemory),
+        },
+        Err(RecordRefusal::Slots(need)) => Err(RecordFault::Slots(need)),
+        Err(RecordRefusal::NoMemory) => Err(RecordFault::NoMemory),
+        Err(RecordRefusal::Full) => unreachable!(),
+    }
+}
+
+/// Puts a graph behind those that were run.
+fn keep(graphs: &mut Vec<RanGraph>, graph: RanGraph) -> Result<(), RecordFault>
+    ensures ok { OnOk result (graphs.new.items ≡ graphs.old.items ++ graph ∷ []) }
+    ensures err { IfErr result (λ e. e ≡ RecordFault.NoMemory) }
+{
+    match push(graphs, graph) {
+        Ok(()) => Ok(()),
+        Err(NoMemory) => Err(RecordFault::NoMemory),
+    }
 }
 
 /// The place of the graph that a link names.
@@ -93,6 +160,50 @@ impl Running {
         match linked {
             Ok(()) => Ok(Linked { name, graph }),
             Err(NoMemory) => Err(NoMemory),
+        }
+    }
+
+    /// Records a graph that was run, behind those before it. `Slots` comes exactly where more slots are
+    /// needed than there are, else `NoMemory` where memory ran out.
+    pub fn record(
+        self,
+        alloc: Global,
+        name: Name,
+        checked: Checked,
+        outcome: Outcome,
+    ) -> Result<Running, RecordFault>
+        requires running { IsRunning self }
+        requires outcome { IsOutcome checked.graph outcome }
+        requires graphs { length (ran_by self) < MAX_GRAPHS }
+        requires few { line_total (ran_by self) + length checked.graph.lines ≤ MAX_SESSION_LINES }
+        ensures running { IfOk result (λ r. IsRunning r) }
+        ensures ran { IfOk result (λ r. ran_by r ≡ ran_by self ++ record { name = name; graph = checked.graph } ∷ []) }
+        ensures slots { IfOk result (λ r. slots_of r ≡ slots_of self) }
+        ensures short { (n : ℕ) → (result ≡ Err (RecordFault.Slots n)) ↔
+            ((slots_of self < n) × (n ≡ slots_needed (ran_by self ++ record { name = name; graph = checked.graph } ∷ []))) }
+    {
+        let Running {
+            session,
+            mut recorder,
+            mut graphs,
+        } = self;
+        let handles = match enter_lines(&session, alloc, &mut recorder, &outcome.ends) {
+            Ok(handles) => handles,
+            Err(fault) => return Err(fault),
+        };
+        let graph = RanGraph {
+            name,
+            checked,
+            outcome,
+            handles,
+        };
+        match keep(&mut graphs, graph) {
+            Ok(()) => Ok(Running {
+                session,
+                recorder,
+                graphs,
+            }),
+            Err(fault) => Err(fault),
         }
     }
 

@@ -45,4 +45,4 @@ returns-clause-answer c =
     let h = c.handle_of-handle.ensures.line in
     let same = same_Some h.0 d.line (sym h.1 ∙ d.is_line) in
     c.ask.ensures.answer h.0 h.3 (c.requires.tells h.0 h.2)
-      ∙ (ap (λ (y : Line). answer_for y.end) same ∙ (ap answer_for d.ended ∙ sym (graph_there r l k x (ap (λ xs. graph_place xs l) (sym c.as_slice.ensures.value) ∙ sym c.in-Some.ensures) c.index.ensures ∙ answer_there x.checked.graph l i place)))
+    ∙ (ap (λ (y : Line). answer_for y.end) same ∙ (ap answer_for d.ended ∙ sym (graph_there r l k x (ap (λ xs. graph_place xs l) (sym c.as_slice.ensures.value) ∙ sym c.in-Some.ensures) c.index.ensures ∙ answer_there x.checked.graph l i place)))
