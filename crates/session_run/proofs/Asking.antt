@@ -19,7 +19,7 @@ use Rattle.graph_model.specs.graph.Graph.{GraphValue}
 use Rattle.graph_model.specs.meaning.Evaluation.{eval_end}
 use Rattle.graph_reader.proofs.Owners.{position_any}
 use Rattle.realm_session.specs.declared.line.Line.{Line}
-use Rattle.realm_session.specs.Recorded.{graph_at, lines_in, end_in, answer_for}
+use Rattle.realm_session.specs.Recorded.{graph_at, lines_in, end_in, handle_in, answer_for}
 use Rattle.realm_session.specs.Sessions.{recorded_by}
 use Rattle.session_text.specs.declared.entry.Link.{Link}
 use Rattle.session_run.specs.declared.running.RanGraph.{RanGraph}
@@ -123,3 +123,11 @@ place_within g l i h = (position-Some (λ (x : GraphLine). bytes_eq x.name l.op)
 
 pub graph_within : (r : Running) (l : Link) (k : ℕ) (x : RanGraph) → graph_place r.graphs.items l ≡ Some k → x ≡ slice_index_or r.graphs.items k x → slice_get r.graphs.items k ≡ Some x
 graph_within r l k x h e = slice_get-get_or r.graphs.items k x (position-Some (named l.graph) r.graphs.items k x h).0 ∙ ap (λ y. Some y) (sym e)
+
+-- the handle of a line is that of its event
+pub handle_there : (r : Running) (k i : ℕ) (x : RanGraph) → IsRunning r → slice_get r.graphs.items k ≡ Some x → (d : RecordedLine r k i x) → slice_get x.handles i ≡ Some d.line.handle
+handle_there r k i x is at d =
+    let gs : List (List Line) = (recorded_by r.recorder).graphs in
+    let g = same_at (map handle_in) (λ (y : RanGraph). y.handles) gs r.graphs.items k x is.handles at in
+    let here : graph_at (recorded_by r.recorder) k ≡ g.0 = get_or_from_slice_get gs k g.0 [] g.1 in
+    ap (λ hs. slice_get hs i) (sym g.2) ∙ (slice_get-map handle_in g.0 i ∙ ap (option_map handle_in) (ap (λ ls. slice_get ls i) (sym here) ∙ d.is_line))

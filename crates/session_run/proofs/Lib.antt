@@ -1,4 +1,5 @@
 pub mod Asking
+pub mod Closing
 pub mod Leaner
 pub mod LinkSteps
 pub mod Recording

@@ -25,9 +25,10 @@ refusal_same : (m n : ℕ) → refused (refusal.Slots m) ≡ refused (refusal.Sl
 refusal_same m n e = cc
 
 pub slots_told : (X : Type 0) (res : Result ℕ RecordRefusal) (F A B : Type 0) (m n : ℕ) → res ≡ refused (refusal.Slots m) → F → (res ≡ refused (refusal.Slots n)) ↔ (F × A × B) → (failed X (fault.Slots m) ≡ failed X (fault.Slots n)) ↔ (A × B)
-slots_told X res F A B m n is f told =
-    (λ e. (let t = told.0 (is ∙ ap (λ k. refused (refusal.Slots k)) (fault_same X m n e)) in (t.1, t.2)),
-     λ h. ap (λ k. failed X (fault.Slots k)) (refusal_same m n (sym is ∙ told.1 (f, h.0, h.1))))
+slots_told X res F A B m n is f told = (
+  λ e. (let t = told.0 (is ∙ ap (λ k. refused (refusal.Slots k)) (fault_same X m n e)) in (t.1, t.2)),
+  λ h. ap (λ k. failed X (fault.Slots k)) (refusal_same m n (sym is ∙ told.1 (f, h.0, h.1))),
+)
 
 pub no_slots_told : (X : Type 0) (res : Result ℕ RecordRefusal) (F A B : Type 0) (n : ℕ) (e : Result X RecordFault) → (res ≡ refused (refusal.Slots n) → ⊥) → (e ≡ failed X (fault.Slots n) → ⊥) → F → (res ≡ refused (refusal.Slots n)) ↔ (F × A × B) → (e ≡ failed X (fault.Slots n)) ↔ (A × B)
 no_slots_told X res F A B n e never not f told = (λ k. absurd (not k), λ h. absurd (never (told.1 (f, h.0, h.1))))

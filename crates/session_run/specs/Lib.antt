@@ -1,2 +1,3 @@
+pub mod Ended
 pub mod Linked
 pub mod Running
