@@ -14,4 +14,5 @@ mod so_far;
 mod words;
 
 pub use entry::{Entry, Link};
+pub use links::find_line;
 pub use reader::read_session;

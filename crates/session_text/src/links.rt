@@ -32,7 +32,7 @@ pub(crate) fn link_of(words: &[&[u8]]) -> Option<Link>
 }
 
 /// The number of the line of this name. `None` exactly where no line has it.
-fn find_line(graph: &Graph, name: &Name) -> Option<u32>
+pub fn find_line(graph: &Graph, name: &Name) -> Option<u32>
     ensures { result ≡ position (λ l. bytes_eq l.name name.now) graph.now.lines }
 {
     let _ = graph.lines();

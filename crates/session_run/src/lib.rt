@@ -1,0 +1,9 @@
+//! Running the graphs of a session, one after the other, each with its links as lines.
+#![tactic(auto)]
+
+mod ended;
+mod linking;
+mod running;
+
+pub use ended::Ended;
+pub use running::{Linked, RanGraph, RecordFault, Running};
