@@ -89,6 +89,7 @@ pub record IsUnfitAnswer (bytes out : List ℕ) : Type 0 where
   pub why : CheckRefusal
   pub is_text : GraphText bytes graph
   pub refused : IsRefusal graph why
+  pub broken : Accepted graph → ⊥
   pub text : IsUnfitText graph why (pieces 10 bytes) out
 
 -- the bytes are the text of no graph, and the answer tells the first refused line with its first reason

@@ -1,5 +1,5 @@
 -- How the program ends.
-use Rattle.std.specs.Prelude.{◌≡◌, ℕ, ◌⊎◌, Bool, List, length}
+use Rattle.std.specs.Prelude.{◌≡◌, ℕ, ◌⊎◌, Bool, List, length, codes}
 use Rattle.std.specs.Option.{option_map}
 use Rattle.realm_io.specs.Counts.{Rose}
 use Rattle.realm_io.specs.SinkState.{SinkState}
@@ -25,6 +25,10 @@ abbrev pub status_of : Verdict → Status
 status_of verdict.Accepted = Accepted
 status_of verdict.Unfit = Unfit
 status_of verdict.Unread = Unread
+
+-- what is written where the input is too long
+abbrev pub too_long_text : List ℕ
+too_long_text = codes "input too long\n"
 
 -- all of a text was taken and flushed
 pub record Delivered (old new : SinkState) (out : List ℕ) : Type 0 where

@@ -1,6 +1,6 @@
 //! The answer to the bytes of an input.
 
-ghost use Rattle.std.specs.Prelude.{◌≡◌, IfOk};
+ghost use Rattle.std.specs.Prelude.{◌≡◌, ◌≢◌, IfOk, OnOk};
 ghost use Rattle.basics.specs.Words.{contents};
 ghost use Rattle.explain_text.specs.Unread.{unread_text};
 ghost use Rattle.explain_top.specs.Answer.{IsAnswer, IsUnfitText};
@@ -72,7 +72,8 @@ pub fn explain_bytes(alloc: Global, bytes: &[u8], ends: bool) -> Result<Answer, 
 fn put_unfit(alloc: Global, unfit: &Unfit, lines: &[&[u8]]) -> Result<Text, NoMemory>
     requires lines { NamesLines unfit.now.graph unfit.now.why }
     requires refused { IsRefusal unfit.now.graph unfit.now.why }
-    ensures { IfOk result (λ t. IsUnfitText unfit.now.graph unfit.now.why (contents lines.now) t) }
+    ensures text { IfOk result (λ t. IsUnfitText unfit.now.graph unfit.now.why (contents lines.now) t) }
+    ensures a_rule { OnOk result (unfit.now.why ≢ CheckRefusal.NoMemory) }
 {
     if unfit.why == CheckRefusal::NoMemory {
         return Err(NoMemory);

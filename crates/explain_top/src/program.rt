@@ -1,12 +1,17 @@
 //! What the program does with its streams.
 
-ghost use Rattle.std.specs.Prelude.{◌≡◌, ◌⊎◌, ℕ, List, Some};
+ghost use Rattle.std.specs.Prelude.{◌≡◌, ◌⊎◌, ℕ, ◌<◌, List, length, Some};
+ghost use Rattle.graph_model.specs.declared.graph.limits.TheConstants.{MAX_TEXT};
+ghost use Rattle.graph_model.specs.graph.Graph.{GraphValue};
+ghost use Rattle.graph_model.specs.meaning.Rules.{Accepted};
+ghost use Rattle.graph_reader.specs.Text.{GraphText};
 ghost use Rattle.realm_io.specs.Counts.{Rose};
 ghost use Rattle.explain_top.specs.Answer.{IsAnswer};
-ghost use Rattle.explain_top.specs.Program.{exit_number, status_of, Delivered, IsAnswered};
+ghost use Rattle.explain_top.specs.Program.{exit_number, status_of, too_long_text, Delivered, IsAnswered};
 ghost use Rattle.explain_top.specs.declared.answer.Verdict.{Verdict};
 
 use crate::answer::{Verdict, explain_bytes};
+use graph_reader::laws::bytes_have_one_reading;
 use realm_io::{ReadEnd, Sink, Source, put, read_all};
 use std::alloc::Global;
 
@@ -57,11 +62,23 @@ pub fn run<S: Source, K: Sink>(alloc: Global, source: &mut S, sink: &mut K, ends
     // Accepted, Unfit and Unread: exactly this is so of the input, and the text that says why was written and flushed.
     ensures answered { (bytes : List ℕ) (verdict : Verdict) → S.left source.old ≡ Some bytes → result ≡ status_of verdict
         → (out : List ℕ) × IsAnswer ends bytes verdict out × Delivered (K.state sink.old) (K.state sink.new) out }
-    ensures read_fault { result ≡ Status.ReadFault → Rose (S.faults source.old) (S.faults source.new) }
+
+    // TooLong: more than 1,048,576 bytes were left, and the line that says so was written and flushed.
+    ensures too_long { result ≡ Status.TooLong → (bytes : List ℕ) → S.left source.old ≡ Some bytes
+        → (MAX_TEXT < length bytes) × Delivered (K.state sink.old) (K.state sink.new) too_long_text }
+
+    // ReadFault, WriteFault: such a fault was counted in this call. NoMemory and ReadFault: nothing was written.
+    ensures read_fault { result ≡ Status.ReadFault → Rose (S.faults source.old) (S.faults source.new) × (sink.new ≡ sink.old) }
     ensures write_fault { result ≡ Status.WriteFault → Rose (K.state sink.old).faults (K.state sink.new).faults }
     ensures no_memory { result ≡ Status.NoMemory → sink.new ≡ sink.old }
     ensures usage { result ≡ Status.Usage → ⊥ }
+
+    // The text of a graph that is accepted is answered so, unless a fault was counted or memory ran out.
+    ensures complete { (bytes : List ℕ) (g : GraphValue) → S.left source.old ≡ Some bytes → GraphText bytes g → Accepted g
+        → ¬ (Rose (S.faults source.old) (S.faults source.new)) → ¬ (Rose (K.state sink.old).faults (K.state sink.new).faults)
+        → (result ≡ Status.Accepted) ⊎ (result ≡ Status.NoMemory) }
 {
+    bytes_have_one_reading();
     match read_all(alloc, source, MAX_INPUT) {
         Ok(bytes) => answer(alloc, bytes.as_slice(), sink, ends),
         Err(ReadEnd::TooLong) => put_text(sink, b"input too long\n", Status::TooLong),
