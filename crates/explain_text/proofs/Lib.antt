@@ -1,2 +1,3 @@
 pub mod TextFacts
 pub mod AcceptedFacts
+pub mod NamedFacts

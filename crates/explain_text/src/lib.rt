@@ -4,6 +4,8 @@
 pub mod accepted;
 mod conflict;
 mod lines;
+mod named;
+pub mod naming;
 pub mod refused;
 pub mod split;
 pub mod text;
@@ -11,6 +13,7 @@ pub mod unread;
 mod words;
 
 pub use accepted::{put_cancelled, put_need, put_waiting, put_ways};
+pub use naming::{NamedWord, named_words, put_named_words};
 pub use refused::put_explanation;
 pub use split::split_lines;
 pub use text::Text;

@@ -14,22 +14,29 @@ use std::alloc::Global;
 pub fn split_lines(alloc: Global, bytes: &[u8]) -> Result<Vec<&[u8]>, NoMemory>
     ensures { IfOk result (λ v. contents v.items ≡ pieces 10 bytes.now) }
 {
-    let mut lines = Vec::new(alloc);
-    let mut rest = bytes;
-    while let Some((line, after)) = cut(rest) {
-        push(&mut lines, line)?;
-        rest = after;
-    }
-    push(&mut lines, rest)?;
-    Ok(lines)
+    split(alloc, bytes, b'\n')
 }
 
-/// The bytes before the first newline and those behind it. `None` exactly where there is none.
-fn cut(bytes: &[u8]) -> Option<(&[u8], &[u8])>
-    ensures { MatchOption result (list_any (λ b. b == 10) bytes.now ≡ false) (λ x. IsCut 10 bytes.now x.0.now x.1.now) }
+/// The pieces of bytes between the separators.
+pub(crate) fn split(alloc: Global, bytes: &[u8], separator: u8) -> Result<Vec<&[u8]>, NoMemory>
+    ensures { IfOk result (λ v. contents v.items ≡ pieces separator bytes.now) }
+{
+    let mut parts = Vec::new(alloc);
+    let mut rest = bytes;
+    while let Some((part, after)) = cut(rest, separator) {
+        push(&mut parts, part)?;
+        rest = after;
+    }
+    push(&mut parts, rest)?;
+    Ok(parts)
+}
+
+/// The bytes before the first `stop` and those behind it. `None` exactly where there is none.
+pub(crate) fn cut(bytes: &[u8], stop: u8) -> Option<(&[u8], &[u8])>
+    ensures { MatchOption result (list_any (λ b. b == stop) bytes.now ≡ false) (λ x. IsCut stop bytes.now x.0.now x.1.now) }
 {
     for (i, b) in bytes.iter().enumerate() {
-        if *b == b'\n' {
+        if *b == stop {
             return Some((&bytes[..i], &bytes[i + 1..]));
         }
     }

@@ -24,6 +24,8 @@ use Rattle.explain_graph.specs.declared.explanation.Explanation.{Explanation}
 use Rattle.explain_graph.specs.declared.ways.Way.{Way}
 use Rattle.explain_text.specs.Accepted.{need_text, each_text, waiting_text, cancelled_text, ways_text}
 use Rattle.explain_text.specs.Refused.{explanation_text}
+use Rattle.explain_text.specs.Named.{IsNamedWord, named_texts}
+use Rattle.explain_text.specs.declared.naming.NamedWord.{NamedWord}
 use Rattle.explain_text.specs.Unread.{unread_text}
 use Rattle.explain_top.specs.declared.answer.Verdict.{Verdict}
 use Rattle.explain_top.specs.declared.answer.Verdict.TheVariants as verdict
@@ -75,6 +77,12 @@ IsAcceptedText ends c ls out = (mid : List ℕ) × IsWaitingText c.graph ls (nee
 abbrev pub IsUnfitText : GraphValue → CheckRefusal → List (List ℕ) → List ℕ → Type 0
 IsUnfitText g why ls out = (x : Explanation) × IsExplanation g why x × (out ≡ explanation_text g ls x)
 
+-- the text on a line that is refused, with lines that give the names which words of it stand for
+pub record IsUnreadText (ls : List (List ℕ)) (number : ℕ) (why : Why) (out : List ℕ) : Type 0 where
+  pub words : List NamedWord
+  pub named : (x : NamedWord) → Contains words x → IsNamedWord ls number x
+  pub text : out ≡ unread_text ls number why ++ named_texts ls words
+
 -- the bytes are the text of an accepted graph with this need, and the answer is its text
 pub record IsAcceptedAnswer (ends : Bool) (bytes out : List ℕ) : Type 0 where
   pub checked : CheckedValue
@@ -97,7 +105,7 @@ pub record IsUnreadAnswer (bytes out : List ℕ) : Type 0 where
   pub number : ℕ
   pub why : Why
   pub refused : FirstFault bytes number why
-  pub text : out ≡ unread_text (pieces 10 bytes) number why
+  pub text : IsUnreadText (pieces 10 bytes) number why out
 
 abbrev pub IsAnswer : Bool → List ℕ → Verdict → List ℕ → Type 0
 IsAnswer ends bytes verdict.Accepted out = IsAcceptedAnswer ends bytes out

@@ -1,14 +1,17 @@
 //! The answer to the bytes of an input.
 
-ghost use Rattle.std.specs.Prelude.{◌≡◌, ◌≢◌, IfOk, OnOk};
+ghost use Rattle.std.specs.Prelude.{◌≢◌, length, Contains, IfOk, OnOk};
 ghost use Rattle.basics.specs.Words.{contents};
-ghost use Rattle.explain_text.specs.Unread.{unread_text};
-ghost use Rattle.explain_top.specs.Answer.{IsAnswer, IsUnfitText};
+ghost use Rattle.explain_text.specs.Named.{IsNamedWord, IsInside};
+ghost use Rattle.explain_text.specs.declared.naming.NamedWord.{NamedWord};
+ghost use Rattle.explain_top.specs.Answer.{IsAnswer, IsUnfitText, IsUnreadText};
 ghost use Rattle.race_check.specs.Refusal.{IsRefusal, NamesLines};
 
 use crate::accepted::put_accepted;
 use explain_graph::explain;
-use explain_text::{Text, put_explanation, put_unread, split_lines};
+use explain_text::{
+    NamedWord, Text, named_words, put_explanation, put_named_words, put_unread, split_lines,
+};
 use graph_model::why::Why;
 use graph_reader::{ReadRefusal, read_graph};
 use index_spaces::NoMemory;
@@ -86,9 +89,29 @@ fn put_unfit(alloc: Global, unfit: &Unfit, lines: &[&[u8]]) -> Result<Text, NoMe
 
 /// The text on bytes that are no graph's.
 fn put_refused(alloc: Global, lines: &[&[u8]], number: u32, why: Why) -> Result<Text, NoMemory>
-    ensures { IfOk result (λ t. t ≡ unread_text (contents lines.now) number why) }
+    ensures { IfOk result (IsUnreadText (contents lines.now) number why) }
 {
+    let words = words_for(alloc, lines, number, why)?;
     let mut text = Text::new(alloc);
     put_unread(&mut text, lines, number, why)?;
+    put_named_words(&mut text, lines, words.as_slice())?;
     Ok(text)
+}
+
+/// The words of the line that are told with the lines that give them, for a reason that names speak of.
+fn words_for<'a>(
+    alloc: Global,
+    lines: &[&'a [u8]],
+    number: u32,
+    why: Why,
+) -> Result<Vec<NamedWord<'a>>, NoMemory>
+    ensures named { IfOk result (λ v. (x : NamedWord) → Contains v.items x → IsNamedWord (contents lines.now) number x) }
+    ensures inside { IfOk result (λ v. (x : NamedWord) → Contains v.items x → IsInside (length lines.now) x) }
+{
+    match why {
+        Why::Twice | Why::Unknown | Why::Kind | Why::Outside | Why::Arrivals => {
+            named_words(alloc, lines, number)
+        }
+        _ => Ok(Vec::new(alloc)),
+    }
 }

@@ -1,0 +1,60 @@
+-- Lines that give names.
+use Rattle.std.proofs.Common.{inl, inr, ◌≡◌, ℕ, ◌+◌, ◌-◌, ◌<◌, ◌≤◌, Bool, true, false, cond, List, [], ◌∷◌, ◌++◌, length, take, drop, map, refl, sym, ◌∙◌, ap, subst, append_assoc, arith}
+use Rattle.std.specs.Prelude.{Contains, Option, Some, None, IfSome}
+use Rattle.std.specs.Borrow.{Bor}
+use Rattle.std.specs.List.{slice_index_or}
+use Rattle.std.specs.Str.{bytes_eq}
+use Rattle.std.proofs.lemmas.Option.{none-some, same_Some}
+use Rattle.std.proofs.lemmas.List.{take-map, drop-map, take_more, append-nil, length-drop, length-map, length-take, take_all}
+use Rattle.std.proofs.lemmas.List.Elements.{Contains-push_cases}
+use Rattle.basics.specs.Words.{contents}
+use Rattle.graph_reader.specs.Words.{pieces}
+use Rattle.explain_text.specs.Named.{given_name, first_giving, named_text, named_texts}
+use Rattle.explain_text.specs.declared.naming.NamedWord.{NamedWord}
+use Rattle.explain_text.proofs.TextFacts.{then_put}
+
+giving_by : (n k m : ℕ) (b : Bool) (rest : Option ℕ) → cond b (Some n) rest ≡ Some k → n < m → (rest ≡ Some k → k < m) → k < m
+giving_by n k m true rest e below later = subst (λ z. z < m) (same_Some n k e) below
+giving_by n k m false rest e below later = later e
+
+-- a line that was found is one of these
+pub giving_below : (w : List ℕ) (n : ℕ) (ls : List (List ℕ)) (k : ℕ) → first_giving w n ls ≡ Some k → k < n + length ls
+giving_below w n [] k e = absurd (none-some k e)
+giving_below w n (l ∷ ls) k e = giving_by n k (n + length (l ∷ ls)) (bytes_eq (given_name (pieces 32 l)) w) (first_giving w (n + 1) ls) e (omega arith) (λ r. (let b : k < n + 1 + length ls = giving_below w (n + 1) ls k r in omega arith))
+
+some_below : (o : Option ℕ) (m : ℕ) → ((k : ℕ) → o ≡ Some k → k < m) → IfSome o (λ k. k < m)
+some_below None m h = tt
+some_below (Some k) m h = h k refl
+
+pub given_inside : (w : List ℕ) (n m : ℕ) (ls : List (List ℕ)) (o : Option ℕ) → o ≡ first_giving w n ls → n + length ls ≤ m → IfSome o (λ k. k < m)
+given_inside w n m ls o is few = some_below o m (λ k e. (let b : k < n + length ls = giving_below w n ls k (sym is ∙ e) in omega arith))
+
+-- words, one after the other
+named_push : (ls : List (List ℕ)) (xs : List NamedWord) (x : NamedWord) → named_texts ls (xs ++ x ∷ []) ≡ named_texts ls xs ++ named_text ls x
+named_push ls [] x = append-nil (named_text ls x)
+named_push ls (y ∷ xs) x = ap (λ z. named_text ls y ++ z) (named_push ls xs x) ∙ sym (append_assoc (named_text ls y) (named_texts ls xs) (named_text ls x))
+
+pub named_more : (ls : List (List ℕ)) (old mid new : List ℕ) (xs : List NamedWord) (k : ℕ) (x : NamedWord) → k < length xs → mid ≡ old ++ named_texts ls (take k xs) → new ≡ mid ++ named_text ls (slice_index_or xs k x) → new ≡ old ++ named_texts ls (take (k + 1) xs)
+named_more ls old mid new xs k x below first second =
+    then_put old mid new (named_texts ls (take k xs)) (named_text ls (slice_index_or xs k x)) first second
+    ∙ ap (λ z. old ++ z) (sym (ap (named_texts ls) (take_more xs k x below) ∙ named_push ls (take k xs) (slice_index_or xs k x)))
+
+-- as many lines at most
+pub take_few : (n : ℕ) (ls : List (List ℕ)) → 0 + length (take n ls) ≤ length ls
+take_few n ls = omega (arith, length-take n ls)
+
+pub drop_few : (n : ℕ) (ls : List (List ℕ)) → n ≤ length ls → n + length (drop n ls) ≤ length ls
+drop_few n ls within = omega (arith, length-drop n ls)
+
+pub front_of : (n : ℕ) (lines : List (Bor (List ℕ))) → contents (take n lines) ≡ take n (contents lines)
+front_of n lines = sym (take-map (λ (r : Bor (List ℕ)). r.now) n lines)
+
+pub back_of : (n : ℕ) (lines : List (Bor (List ℕ))) → contents (take (length lines - n) (drop n lines)) ≡ drop n (contents lines)
+back_of n lines = ap contents (take_all (length lines - n) (drop n lines) (omega (arith, length-drop n lines))) ∙ sym (drop-map (λ (r : Bor (List ℕ)). r.now) n lines)
+
+pub lines_size : (lines : List (Bor (List ℕ))) → length (contents lines) ≡ length lines
+lines_size lines = simp length-map
+
+-- one more word of a list
+pub each_word : (P : NamedWord → Type 0) (xs ys : List NamedWord) (x : NamedWord) → ys ≡ xs ++ x ∷ [] → P x → ((y : NamedWord) → Contains xs y → P y) → (y : NamedWord) → Contains ys y → P y
+each_word P xs ys x more here each y c = elim (Contains-push_cases xs x y (subst (λ zs. Contains zs y) more c)) [ inl b ↦ each y b | inr e ↦ subst P e here ]

@@ -1,0 +1,52 @@
+-- The names that lines of a text give, and which lines the words of a line name.
+use Rattle.std.specs.Prelude.{◌≡◌, ℕ, ◌+◌, ◌-◌, ◌||◌, Bool, cond, List, [], ◌∷◌, ◌++◌, take, drop, codes, decimal, ◌<◌, IfSome, Option, Some, None}
+use Rattle.std.specs.List.{slice_index_or}
+use Rattle.std.specs.Str.{bytes_eq}
+use Rattle.graph_reader.specs.Words.{pieces}
+use Rattle.explain_text.specs.declared.naming.NamedWord.{NamedWord}
+
+-- the words with which a declaration begins
+abbrev pub declares : List ℕ → Bool
+declares w = bytes_eq w (codes "space") || (bytes_eq w (codes "inst") || (bytes_eq w (codes "lock") || bytes_eq w (codes "barrier")))
+
+-- the name that a line gives: that of an operation stands before the sign, that of a declaration behind its word
+abbrev pub given_by : List ℕ → List ℕ → List ℕ
+given_by first second = cond (bytes_eq second (codes "=")) first (cond (declares first) second [])
+
+abbrev pub given_name : List (List ℕ) → List ℕ
+given_name (first ∷ second ∷ rest) = given_by first second
+given_name _ = []
+
+-- the first of some lines that gives a name, where the first of them has number n
+abbrev pub first_giving : List ℕ → ℕ → List (List ℕ) → Option ℕ
+first_giving w n [] = None
+first_giving w n (l ∷ ls) = cond (bytes_eq (given_name (pieces 32 l)) w) (Some n) (first_giving w (n + 1) ls)
+
+-- a word, the topmost line above line `number` that gives it as a name, and the topmost line below that does
+pub record IsNamedWord (ls : List (List ℕ)) (number : ℕ) (x : NamedWord) : Type 0 where
+  pub above : x.above ≡ first_giving x.word.now 0 (take (number - 1) ls)
+  pub below : x.below ≡ first_giving x.word.now number (drop number ls)
+
+-- these are lines of the text
+pub record IsInside (n : ℕ) (x : NamedWord) : Type 0 where
+  pub above : IfSome x.above (λ k. k < n)
+  pub below : IfSome x.below (λ k. k < n)
+
+-- what is told of a word: the line above that gives it, or that none does, and the line below, where one does
+abbrev pub place_text : List (List ℕ) → ℕ → List ℕ
+place_text ls k = decimal (k + 1) ++ (codes ": " ++ (slice_index_or ls k [] ++ codes "\n"))
+
+abbrev pub below_text : List (List ℕ) → List ℕ → Option ℕ → List ℕ
+below_text ls w None = codes "no line above gives " ++ (w ++ codes "\n")
+below_text ls w (Some k) = codes "no line above gives " ++ (w ++ (codes ", but line " ++ place_text ls k))
+
+abbrev pub named_by : List (List ℕ) → List ℕ → Option ℕ → Option ℕ → List ℕ
+named_by ls w (Some k) below = w ++ (codes " is given by line " ++ place_text ls k)
+named_by ls w None below = below_text ls w below
+
+abbrev pub named_text : List (List ℕ) → NamedWord → List ℕ
+named_text ls x = named_by ls x.word.now x.above x.below
+
+abbrev pub named_texts : List (List ℕ) → List NamedWord → List ℕ
+named_texts ls [] = []
+named_texts ls (x ∷ xs) = named_text ls x ++ named_texts ls xs
