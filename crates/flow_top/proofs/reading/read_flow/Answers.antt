@@ -1,0 +1,7 @@
+use Rattle.std.proofs.Common.{List, ℕ, ◌∙◌, subst}
+use Rattle.graph_reader.specs.Text.{GraphText}
+use Rattle.flow_top.proofs.FlowLines.{flow_of, flow_text}
+use Rattle.flow_top.proofs.reading.read_flow.Goals as goal
+
+pub returns-in-None-clause-text : goal.returns-in-None-clause-text
+returns-in-None-clause-text c = flow_text c.args.bytes.now c.in-Some.rest.now c.in-Ok.graph c.in-Some.ensures (subst (λ (xs : List ℕ). GraphText xs c.in-Ok.graph) (c.as_slice.ensures.value ∙ c.in_ok-text.ensures) c.in-Ok.ensures.text) c.in-None.ensures

@@ -1,0 +1,30 @@
+//! From the text of a flow to the text of its graph.
+#![tactic(auto)]
+
+mod answer;
+mod reading;
+mod writing;
+
+pub use answer::answer_flow;
+use graph_model::why::Why;
+use index_spaces::NoMemory;
+pub use reading::read_flow;
+
+/// Why bytes are no flow's text, or the text of a flow that has no graph.
+#[derive(Clone, Copy, Debug, PartialEq, Eq)]
+pub enum FlowFault {
+    /// This line, counted from 1, is refused for this reason.
+    Line { number: u32, why: Why },
+    NoMemory,
+}
+
+impl From<NoMemory> for FlowFault {
+    ghost use Rattle.std.specs.Prelude.{◌≡◌};
+    ghost use Rattle.flow_top.specs.declared.FlowFault.TheVariants.{NoMemory as Wants};
+
+    ghost from_gives = { λ _ e. e ≡ Wants };
+
+    fn from(_: NoMemory) -> FlowFault {
+        FlowFault::NoMemory
+    }
+}

@@ -1,0 +1,92 @@
+//! Reading a flow from its text.
+
+ghost use Rattle.std.specs.Prelude.{◌≡◌, ◌<◌, ◌++◌, ℕ, length, None, Some, slice_get, IfOk, IfErr, MatchOption, is_none, ◌&&◌};
+ghost use Rattle.graph_model.specs.graph.Graph.{GraphValue};
+ghost use Rattle.graph_model.specs.graph.Spelling.{header};
+ghost use Rattle.graph_model.specs.declared.graph.format.Format.TheVariants.{One};
+ghost use Rattle.task_flow.specs.Flow.{IsFlow, uses_columns};
+ghost use Rattle.flow_top.specs.FlowText.{flow_header, HasNoFlowHeader, FlowText, AreFlowLines, IsFirstOther, IsReadFault, is_flow_line};
+
+use crate::FlowFault;
+use graph_model::graph::Graph;
+use graph_model::verb::{Line, Verb};
+use graph_model::why::Why;
+use graph_reader::{ReadRefusal, read_graph};
+use index_spaces::NoMemory;
+use std::alloc::Global;
+
+/// The flow whose text the bytes are. Where they are no flow's text: the first line that would be
+/// refused in the text of a graph with these items; or else the first line that a flow has not,
+/// with `Syntax`.
+pub fn read_flow(alloc: Global, bytes: &[u8]) -> Result<Graph, FlowFault>
+    ensures text { IfOk result (λ f. FlowText bytes.now f) }
+    ensures refusal { IfErr result (λ e. IsReadFault bytes.now e) }
+{
+    let Some(rest) = behind_header(bytes) else {
+        return Err(FlowFault::Line {
+            number: 1,
+            why: Why::Header,
+        });
+    };
+    let text = as_graph_text(alloc, rest)?;
+    match read_graph(alloc, text.as_slice()) {
+        Ok(graph) => match first_other(&graph) {
+            None => Ok(graph),
+            Some(line) => Err(FlowFault::Line {
+                number: graph.decls() + line + 2,
+                why: Why::Syntax,
+            }),
+        },
+        Err(ReadRefusal::Line { number, why }) => Err(FlowFault::Line { number, why }),
+        Err(ReadRefusal::NoMemory) => Err(FlowFault::NoMemory),
+    }
+}
+
+/// The bytes behind the first line of a flow's text. `None` exactly where they begin with another.
+fn behind_header(bytes: &[u8]) -> Option<&[u8]>
+    ensures { MatchOption result (HasNoFlowHeader bytes.now) (λ rest. bytes.now ≡ flow_header ++ rest.now) }
+{
+    bytes.strip_prefix(b"realm-flow 1\n".as_slice())
+}
+
+/// The same items as a graph's text has them.
+fn as_graph_text(alloc: Global, rest: &[u8]) -> Result<Vec<u8>, NoMemory>
+    ensures { IfOk result (λ text. text.items ≡ header One ++ rest.now) }
+{
+    let mut text = Vec::new(alloc);
+    if text.extend_from_slice(b"realm 1\n").is_err() {
+        return Err(NoMemory);
+    }
+    if text.extend_from_slice(rest).is_err() {
+        return Err(NoMemory);
+    }
+    Ok(text)
+}
+
+/// The first line that a flow has not.
+fn first_other(graph: &Graph) -> Option<u32>
+    ensures { MatchOption result (AreFlowLines graph.now) (IsFirstOther graph.now) }
+{
+    for line in 0..graph.lines() {
+        if !is_flow_line(graph.line(line)) {
+            return Some(line);
+        }
+    }
+    None
+}
+
+/// Whether a line uses columns and waits for nothing.
+fn is_flow_line(line: &Line) -> bool
+    ensures { result ≡ is_flow_line line.now }
+{
+    uses_columns(&line.verb) && line.on.is_none()
+}
+
+fn uses_columns(verb: &Verb) -> bool
+    ensures { result ≡ uses_columns verb.now }
+{
+    matches!(
+        verb,
+        Verb::Fill { .. } | Verb::Copy { .. } | Verb::Reduce { .. } | Verb::Task { .. }
+    )
+}
