@@ -10,3 +10,5 @@ mod path_tests;
 mod race_tests;
 #[cfg(test)]
 mod reach_tests;
+#[cfg(test)]
+mod text_tests;

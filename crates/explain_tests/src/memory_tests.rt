@@ -4,6 +4,7 @@
 
 ghost use Rattle.std.specs.Prelude.{◌≡◌, length};
 
+use explain_top::{Verdict, explain_bytes};
 use explanations::paths::shortest_path;
 use explanations::races::least_shared;
 use explanations::reaches::{path_to, waiting_lines};
@@ -12,7 +13,7 @@ use graph_reader::read_graph;
 use index_spaces::NoMemory;
 use std::alloc::Global;
 use std::test::Fail;
-use test_texts::graphs::LOCKED_SUMS;
+use test_texts::graphs::{FAULTY_PATHS, LOCKED_SUMS};
 use test_texts::memory::after;
 
 #[test]
@@ -24,7 +25,33 @@ fn each_call(rt: HostRuntime) -> Result<(), Fail> {
     }
     path(alloc, &graph)?;
     shared(alloc, &graph)?;
-    waiting(alloc, &graph)
+    waiting(alloc, &graph)?;
+    for (bytes, verdict) in [
+        (FAULTY_PATHS, Verdict::Accepted),
+        (CYCLE, Verdict::Unfit),
+        (SECOND_NAME, Verdict::Unread),
+    ] {
+        explained(alloc, bytes, verdict)?;
+    }
+    Ok(())
+}
+
+/// A cycle of three lines.
+const CYCLE: &str = "realm 1\nu = user\nx = merge u\nt = trigger u on x\nend\n";
+
+/// A name that is given twice.
+const SECOND_NAME: &str = "realm 1\nu = user\nu = user\nend\n";
+
+/// What becomes of a text, and why, with the ends of lines.
+fn explained(alloc: Global, bytes: &str, verdict: Verdict) -> Result<(), Fail> {
+    match explain_bytes(alloc, bytes.as_bytes(), true) {
+        Ok(answer) => after("explain_bytes", false, answer.verdict == verdict),
+        Err(NoMemory) => after(
+            "explain_bytes",
+            true,
+            explain_bytes(alloc, bytes.as_bytes(), true).is_ok(),
+        ),
+    }
 }
 
 /// From the first fill to the release of its section.

@@ -1,0 +1,87 @@
+//! What is said of a text, line by line, as it was worked out by hand.
+
+use explain_top::{Verdict, explain_bytes};
+use std::alloc::Global;
+use std::test::Fail;
+
+/// A text, whether the ends of its lines are asked for, and what is said of it.
+#[derive(Clone, Copy)]
+struct Row<'a> {
+    bytes: &'a str,
+    ends: bool,
+    verdict: Verdict,
+    text: &'a str,
+}
+
+impl Row<'_> {
+    /// Fails where something else is said.
+    fn run(&self, alloc: Global) -> Result<(), Fail> {
+        let answer = explain_bytes(alloc, self.bytes.as_bytes(), self.ends)?;
+        if answer.verdict == self.verdict && answer.text.bytes() == self.text.as_bytes() {
+            return Ok(());
+        }
+        Err(Fail::new(format_args!("{}", self.text)))
+    }
+}
+
+const ROWS: [Row<'static>; 6] = [
+    Row {
+        bytes: "realm 1\nspace s 4..9\ninst i s x\na = user\nb = merge a\nf = fill i.x s 1 on a\n\
+            g = fill i.x s 2 on b\nt = trigger a\nend\n",
+        ends: false,
+        verdict: Verdict::Unfit,
+        text: "refused race f g\nline 6: f = fill i.x s 1 on a\nline 7: g = fill i.x s 2 on b\n\
+            both use column i.x at point 4: line 6 writes it, line 7 writes it\nneither waits for the other\n\
+            the nearest line that leads to both:\nline 4: a = user\nto the first:\n\
+            line 6 waits for line 4 (on): f = fill i.x s 1 on a\nto the second:\n\
+            line 5 waits for line 4 (merge): b = merge a\n\
+            line 7 waits for line 5 (on): g = fill i.x s 2 on b\n\
+            to order them, put line 7 on a merge of b and f\n",
+    },
+    Row {
+        bytes: "realm 1\nbarrier b 1 sum 0\np = phase b\nq = phase b\nv = arrive p 1 on q\nw = arrive q 1\nend\n",
+        ends: false,
+        verdict: Verdict::Unfit,
+        text: "refused cycle p\nline 3: p = phase b\na shortest cycle through it:\n\
+            line 4 waits for line 3 (phase order): q = phase b\nline 5 waits for line 4 (on): v = arrive p 1 on q\n\
+            line 3 waits for line 5 (arrival): p = phase b\n",
+    },
+    Row {
+        bytes: "realm 1\na = user\nm = mergei a\nend\n",
+        ends: true,
+        verdict: Verdict::Accepted,
+        text: "accepted need 2\nline 2 never comes: a = user\n\
+            line 3 waits for line 2 (mergei), and line 2 never comes: m = mergei a\n\
+            the way from line 2 to line 3:\nline 3 waits for line 2 (mergei): m = mergei a\n",
+    },
+    Row {
+        bytes: "realm 1\na = user\nm = merge a\nc = cancel a\nend\n",
+        ends: true,
+        verdict: Verdict::Accepted,
+        text: "accepted need 3\nline 2 is cancelled by line 4 (cancel), and line 4 cancels: a = user\n\
+            line 3 is cancelled by line 2 (merge), and line 4 cancels: m = merge a\nline 4 cancels: c = cancel a\n\
+            the way from line 4 to line 3:\nline 2 waits for line 4 (cancel): a = user\n\
+            line 3 waits for line 2 (merge): m = merge a\n",
+    },
+    Row {
+        bytes: "realm 1\nm = merge b\nb = user\nend\n",
+        ends: false,
+        verdict: Verdict::Unread,
+        text: "refused line 2 unknown\nline 2: m = merge b\nno line above gives b, but line 3: b = user\n",
+    },
+    Row {
+        bytes: "realm 1\nlock b\nb = user\nend\n",
+        ends: false,
+        verdict: Verdict::Unread,
+        text: "refused line 3 twice\nline 3: b = user\nb is given by line 2: lock b\n",
+    },
+];
+
+#[test]
+fn texts(rt: HostRuntime) -> Result<(), Fail> {
+    let alloc = rt.alloc();
+    for row in &ROWS {
+        row.run(alloc)?;
+    }
+    Ok(())
+}
