@@ -1,1 +1,2 @@
 pub mod FlowLines
+pub mod Delivering

@@ -1,2 +1,3 @@
 pub mod FlowText
 pub mod Answer
+pub mod Served

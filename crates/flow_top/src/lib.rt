@@ -3,12 +3,15 @@
 
 mod answer;
 mod reading;
+mod serving;
+pub mod status;
 mod writing;
 
 pub use answer::answer_flow;
 use graph_model::why::Why;
 use index_spaces::NoMemory;
 pub use reading::read_flow;
+pub use serving::serve_flow;
 
 /// Why bytes are no flow's text, or the text of a flow that has no graph.
 #[derive(Clone, Copy, Debug, PartialEq, Eq)]

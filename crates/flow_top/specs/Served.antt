@@ -1,0 +1,69 @@
+-- What becomes of the text that answers a flow.
+use Rattle.std.specs.Prelude.{◌≡◌, ℕ, ◌<◌, ◌≤◌, ◌⊎◌, List, [], ◌∷◌, ◌++◌, length, codes, decimal}
+use Rattle.std.specs.Option.{option_map}
+use Rattle.realm_io.specs.SinkState.{SinkState}
+use Rattle.realm_io.specs.Counts.{Rose}
+use Rattle.realm_io.specs.Told.{with_more, TookPrefix}
+use Rattle.graph_model.specs.declared.graph.limits.TheConstants.{MAX_TEXT}
+use Rattle.graph_model.specs.declared.graph.why.Why.{Why}
+use Rattle.graph_model.specs.declared.graph.why.Why.TheVariants.{Header, Syntax, Name, Twice, Unknown, Kind, Number, Space, Outside, Arrivals, Limit, Missing, Rest}
+use Rattle.flow_top.specs.Answer.{IsFlowAnswer, IsAnswerFault}
+use Rattle.flow_top.specs.declared.FlowFault.TheVariants as fault
+use Rattle.flow_top.specs.declared.status.FlowStatus.{FlowStatus}
+use Rattle.flow_top.specs.declared.status.FlowStatus.TheVariants.{Done, Unread, ReadFault, WriteFault, NoMemory, TooLong}
+
+-- the exit status of the program
+abbrev pub exit_number : FlowStatus → ℕ
+exit_number Done = 0
+exit_number Unread = 3
+exit_number ReadFault = 5
+exit_number WriteFault = 6
+exit_number NoMemory = 7
+exit_number TooLong = 9
+
+abbrev pub why_word : Why → List ℕ
+why_word Header = codes "header"
+why_word Syntax = codes "syntax"
+why_word Name = codes "name"
+why_word Twice = codes "twice"
+why_word Unknown = codes "unknown"
+why_word Kind = codes "kind"
+why_word Number = codes "number"
+why_word Space = codes "space"
+why_word Outside = codes "outside"
+why_word Arrivals = codes "arrivals"
+why_word Limit = codes "limit"
+why_word Missing = codes "missing"
+why_word Rest = codes "rest"
+
+-- the line for a refusal
+abbrev pub refused_text : ℕ → Why → List ℕ
+refused_text number why = codes "refused line " ++ (decimal number ++ (codes " " ++ (why_word why ++ (10 ∷ []))))
+
+-- the text that goes with a status
+abbrev pub FlowAnswers : List ℕ → FlowStatus → List ℕ → Type 0
+FlowAnswers bytes Done out = IsFlowAnswer bytes out
+FlowAnswers bytes Unread out = (number : ℕ) × (why : Why) × IsAnswerFault bytes (fault.Line number why) × (out ≡ refused_text number why)
+FlowAnswers bytes TooLong out = (MAX_TEXT < length bytes) × (out ≡ codes "input too long" ++ 10 ∷ [])
+FlowAnswers bytes _ out = ⊥
+
+-- all of the text was taken, and all that was taken is flushed
+pub record Delivered (old new : SinkState) (out : List ℕ) : Type 0 where
+  pub took : new.taken ≡ with_more old.taken out
+  pub flushed : new.flushed ≡ option_map length new.taken
+  pub count : old.faults ≤ new.faults
+
+-- a prefix of the text was taken, no more is flushed than before, and a fault was counted
+pub record BrokenOff (old new : SinkState) (out : List ℕ) : Type 0 where
+  pub took : TookPrefix old.taken new.taken out
+  pub flushed : new.flushed ≡ old.flushed
+  pub count : old.faults ≤ new.faults
+  pub rose : Rose old.faults new.faults
+
+-- a text that goes with a status was delivered, or a fault broke it off
+abbrev pub Delivers : SinkState → SinkState → FlowStatus → FlowStatus → List ℕ → Type 0
+Delivers old new wanted result out = ((result ≡ wanted) × Delivered old new out) ⊎ ((result ≡ WriteFault) × BrokenOff old new out)
+
+-- an answer was given for these bytes, unless memory ran out or a read failed
+abbrev pub IsServed : List ℕ → SinkState → SinkState → FlowStatus → Type 0
+IsServed bytes old new result = (result ≡ NoMemory) ⊎ ((result ≡ ReadFault) ⊎ ((wanted : FlowStatus) × (out : List ℕ) × FlowAnswers bytes wanted out × Delivers old new wanted result out))

@@ -1,0 +1,111 @@
+//! The top call: from a source with the text of a flow to a sink with that of its graph.
+
+ghost use Rattle.std.specs.Prelude.{◌≡◌, ℕ, ◌≤◌, ◌⊎◌, [], IfOk, IfSome};
+ghost use Rattle.std.specs.Io.KnownBytes.{IsAtEnd};
+ghost use Rattle.realm_io.specs.Counts.{Rose};
+ghost use Rattle.flow_top.specs.Served.{why_word, refused_text, Delivers, IsServed};
+ghost use Rattle.std.specs.String.{string_bytes};
+
+use crate::FlowFault;
+use crate::answer::answer_flow;
+use crate::status::FlowStatus;
+use graph_model::why::Why;
+use index_spaces::NoMemory;
+use realm_io::{ReadEnd, Sink, Source, put, read_all};
+use std::alloc::Global;
+
+/// The most bytes of a flow's text.
+const MOST_BYTES: u32 = 1_048_576;
+
+/// Reads the text of a flow and writes that of its graph. Where there is none it writes the one
+/// line that says why. Nothing of a graph is written before the whole graph is made.
+pub fn serve_flow<S: Source, K: Sink>(alloc: Global, source: &mut S, sink: &mut K) -> FlowStatus
+    // What was left of the source is the text of a flow, and that of its graph, which means it, was
+    // written and flushed; or the line with the first reason that refuses it; or a fault of writing
+    // broke that off.
+    ensures served { IfSome (S.left source.old) (λ bytes. IsServed bytes (K.state sink.old) (K.state sink.new) result) }
+
+    // Done: all of the input was read.
+    ensures at_end { result ≡ FlowStatus.Done → IsAtEnd (S.left source.new) }
+
+    // ReadFault: a fault of reading was counted, and nothing was written.
+    ensures read_fault { result ≡ FlowStatus.ReadFault → Rose (S.faults source.old) (S.faults source.new) × (sink.new ≡ sink.old) }
+
+    // NoMemory: before anything was written.
+    ensures no_memory { result ≡ FlowStatus.NoMemory → sink.new ≡ sink.old }
+{
+    match read_all(alloc, source, MOST_BYTES) {
+        Ok(bytes) => serve_bytes(alloc, bytes.as_slice(), sink),
+        Err(ReadEnd::TooLong) => put_text(sink, b"input too long\n", FlowStatus::TooLong),
+        Err(ReadEnd::ReadFault) => FlowStatus::ReadFault,
+        Err(ReadEnd::NoMemory) => FlowStatus::NoMemory,
+    }
+}
+
+/// Answers the bytes of a flow.
+fn serve_bytes<K: Sink>(alloc: Global, bytes: &[u8], sink: &mut K) -> FlowStatus
+    ensures served { IsServed bytes.now (K.state sink.old) (K.state sink.new) result }
+    ensures read_fault { result ≡ FlowStatus.ReadFault → ⊥ }
+    ensures no_memory { result ≡ FlowStatus.NoMemory → sink.new ≡ sink.old }
+{
+    match answer_flow(alloc, bytes) {
+        Ok(text) => put_text(sink, text.as_slice(), FlowStatus::Done),
+        Err(FlowFault::Line { number, why }) => match refused_text(alloc, number, why) {
+            Ok(text) => put_text(sink, text.as_bytes(), FlowStatus::Unread),
+            Err(NoMemory) => FlowStatus::NoMemory,
+        },
+        Err(FlowFault::NoMemory) => FlowStatus::NoMemory,
+    }
+}
+
+/// The line for a refusal.
+fn refused_text(alloc: Global, number: u32, why: Why) -> Result<String, NoMemory>
+    ensures { IfOk result (λ text. string_bytes text ≡ refused_text number why) }
+{
+    let word = why_word(why);
+    match format!(in alloc; "refused line {number} {word}\n") {
+        Ok(text) => Ok(text),
+        Err(_) => Err(NoMemory),
+    }
+}
+
+/// The word for a reason.
+fn why_word(why: Why) -> &'static str
+    ensures { result.now ≡ why_word why }
+{
+    match why {
+        Why::Header => "header",
+        Why::Syntax => "syntax",
+        Why::Name => "name",
+        Why::Twice => "twice",
+        Why::Unknown => "unknown",
+        Why::Kind => "kind",
+        Why::Number => "number",
+        Why::Space => "space",
+        Why::Outside => "outside",
+        Why::Arrivals => "arrivals",
+        Why::Limit => "limit",
+        Why::Missing => "missing",
+        Why::Rest => "rest",
+    }
+}
+
+/// Writes a text and flushes it.
+fn put_text<K: Sink>(sink: &mut K, text: &[u8], status: FlowStatus) -> FlowStatus
+    ensures { Delivers (K.state sink.old) (K.state sink.new) status result text.now }
+{
+    match put(sink, text) {
+        Ok(()) => flush(sink, status),
+        Err(_) => FlowStatus::WriteFault,
+    }
+}
+
+/// Flushes a text that was written.
+fn flush<K: Sink>(sink: &mut K, status: FlowStatus) -> FlowStatus
+    ensures { Delivers (K.state sink.old) (K.state sink.new) status result [] }
+{
+    match sink.flush() {
+        Ok(()) => status,
+        Err(_) => FlowStatus::WriteFault,
+    }
+}
