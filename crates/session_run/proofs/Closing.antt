@@ -1,7 +1,7 @@
 -- What the events of closed graphs answer.
-use Rattle.std.proofs.Common.{◌≡◌, ℕ, ◌<◌, length, sym, ◌∙◌, ap, subst, get_or}
-use Rattle.std.specs.Prelude.{Some, slice_get, slice_index_or}
-use Rattle.std.proofs.lemmas.Option.{same_Some, get_or_from_slice_get}
+use Rattle.std.proofs.Common.{◌≡◌, ℕ, sym, ◌∙◌, subst}
+use Rattle.std.specs.Prelude.{slice_index_or}
+use Rattle.std.proofs.lemmas.Option.{get_or_from_slice_get}
 use Rattle.session_run.specs.declared.running.RanGraph.{RanGraph}
 use Rattle.session_run.specs.declared.ended.Ended.{Ended}
 use Rattle.session_run.specs.Ended.{EventOf, HasLine, IsEnded}

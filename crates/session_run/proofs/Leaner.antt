@@ -1,24 +1,21 @@
 -- Where a link fits after a graph and its earlier links, each taken as a trigger, it fits after the graph and the lines that these add, as a trigger and as a cancel.
-use Rattle.std.proofs.Common.{◌≡◌, ℕ, zero, suc, ◌+◌, ◌-◌, ◌<◌, ◌≤◌, Bool, true, false, cond, not, ◌||◌, ◌&&◌, List, [], ◌∷◌, ◌++◌, length, map, filter, inl, inr, refl, sym, ◌∙◌, ap, subst, append_assoc, append-nil, length-append, arith}
+use Rattle.std.proofs.Common.{◌≡◌, ℕ, zero, suc, ◌+◌, ◌<◌, ◌≤◌, Bool, true, false, cond, not, ◌||◌, List, [], ◌∷◌, ◌++◌, length, map, filter, refl, sym, ◌∙◌, ap, append_assoc, length-append, arith}
 use Rattle.std.specs.Prelude.{Option, Some, None, position, unwrap_or, is_some, nat_lt, nat_le, codes, slice_get, bytes_eq}
 use Rattle.std.specs.Option.{option_map_or}
 use Rattle.std.specs.List.{list_any, position_or_len, join_with_byte, AllByRecursion}
 use Rattle.std.proofs.lemmas.Bool.{true≢false, cond-true, cond-false, or_parts, or_from, le-ltb, lt-leb, ltb-true, ltb-false, lt-ltb}
-use Rattle.std.proofs.lemmas.Option.{none-some, same_Some}
 use Rattle.std.proofs.lemmas.List.{map-append}
 use Rattle.std.proofs.lemmas.List.Folds.{list_any-append}
-use Rattle.graph_model.specs.declared.graph.decl.Decl.{Decl}
 use Rattle.graph_model.specs.declared.graph.verb.Line.{Line}
 use Rattle.graph_model.specs.declared.graph.verb.Verb.{Verb}
 use Rattle.graph_model.specs.declared.graph.verb.Verb.TheVariants.{Trigger, Cancel}
 use Rattle.graph_model.specs.declared.graph.format.Format.{Format}
 use Rattle.graph_model.specs.declared.graph.format.Format.TheVariants.{One, Two}
-use Rattle.graph_model.specs.declared.graph.why.Why.{Why}
 use Rattle.graph_model.specs.declared.graph.why.Why.TheVariants as why
-use Rattle.graph_model.specs.graph.Graph.{GraphValue, columns, locks, barriers, decl_name, line_passes, is_user, ends_user, verb_at}
+use Rattle.graph_model.specs.graph.Graph.{GraphValue, columns, locks, barriers, decl_name, line_passes, is_user, ends_user}
 use Rattle.graph_model.specs.graph.Edges.{edges, line_edges}
 use Rattle.graph_model.specs.graph.Spelling.{head, spelled, line_words, line_name}
-use Rattle.graph_model.specs.graph.Fits.{IsGraph, first_reason, names, is_used, with_line, line_fault, line_tests, cell_count, is_inst, is_beyond, format_lacks}
+use Rattle.graph_model.specs.graph.Fits.{first_reason, is_used, with_line, line_fault, line_tests, cell_count, is_inst, is_beyond, format_lacks}
 use Rattle.graph_model.proofs.GraphPush.{head_with_line}
 use Rattle.graph_model.proofs.RowLaws.{edges_push}
 use Rattle.graph_reader.specs.Draft.{line_number}
@@ -26,7 +23,7 @@ use Rattle.graph_reader.specs.FirstFault.{is_line_name}
 use Rattle.graph_reader.proofs.GraphNames.{each_fails, none_where_each_fails}
 use Rattle.graph_reader.proofs.Owners.{position_any}
 use Rattle.session_text.specs.declared.entry.Link.{Link}
-use Rattle.session_text.specs.Fits.{trigger_line, with_trigger, trigger_reason}
+use Rattle.session_text.specs.Fits.{trigger_line, trigger_reason}
 use Rattle.session_text.proofs.Naming.{never_fits}
 use Rattle.session_run.specs.Linked.{cancel_line}
 

@@ -4,3 +4,4 @@ pub mod Leaner
 pub mod LinkSteps
 pub mod Recording
 pub mod Refusals
+pub mod Sequence

@@ -10,11 +10,8 @@ use Rattle.gen_events.specs.declared.handle.Answer.{Answer}
 use Rattle.gen_events.specs.declared.handle.Answer.TheVariants.{Pending, Triggered, Poisoned}
 use Rattle.graph_model.specs.declared.graph.verb.Line.{Line}
 use Rattle.graph_model.specs.declared.graph.verb.Verb.TheVariants.{Trigger, Cancel}
-use Rattle.graph_model.specs.graph.Graph.{GraphValue, line_passes, is_user, ends_user}
-use Rattle.graph_model.specs.graph.Edges.{edges}
-use Rattle.graph_model.specs.graph.Spelling.{head}
+use Rattle.graph_model.specs.graph.Graph.{GraphValue, line_passes, is_user}
 use Rattle.graph_model.specs.graph.Fits.{with_line, line_fault}
-use Rattle.graph_reader.specs.Draft.{line_number}
 use Rattle.session_text.specs.declared.entry.Link.{Link}
 use Rattle.std.proofs.lemmas.Option.{none-some, same_Some, slice_get_within, get_or_from_slice_get}
 use Rattle.graph_model.specs.declared.graph.why.Why.{Why}

@@ -1,5 +1,5 @@
 -- One graph more that was run and recorded.
-use Rattle.std.proofs.Common.{◌≡◌, ℕ, zero, suc, ◌+◌, ◌<◌, ◌≤◌, List, [], ◌∷◌, ◌++◌, length, map, take, refl, sym, ◌∙◌, ap, subst, arith, length-append, get_or, inl, inr, ◌⊎◌, ⊎_elim}
+use Rattle.std.proofs.Common.{◌≡◌, ℕ, zero, suc, ◌+◌, ◌<◌, List, [], ◌∷◌, ◌++◌, length, map, take, refl, sym, ◌∙◌, ap, subst, arith, length-append, inl, inr, ◌⊎◌, ⊎_elim}
 use Rattle.std.specs.Prelude.{Some, slice_get, slice_index_or, Contains}
 use Rattle.std.specs.Global.{Global}
 use Rattle.std.specs.declared.vec.Vec.{Vec}
@@ -15,7 +15,7 @@ use Rattle.graph_model.specs.declared.meaning.outcome.End.{End}
 use Rattle.graph_model.specs.graph.Graph.{GraphValue}
 use Rattle.graph_model.specs.meaning.Evaluation.{eval_end}
 use Rattle.realm_session.specs.declared.line.Line.{Line}
-use Rattle.realm_session.specs.Recorded.{waits, waiting_in, lines_in, end_in, handle_in, need, need_with}
+use Rattle.realm_session.specs.Recorded.{waits, waiting_in, lines_in, end_in, handle_in, need_with}
 use Rattle.session_run.specs.declared.running.RanGraph.{RanGraph}
 use Rattle.graph_model.specs.declared.meaning.outcome.Outcome.{Outcome}
 use Rattle.realm_session.specs.declared.recorder.Recorder.{Recorder}

@@ -1,6 +1,7 @@
 -- Where more slots are needed than there are.
-use Rattle.std.proofs.Common.{◌≡◌, ℕ, ◌+◌, ◌<◌, ◌≤◌, List, [], ◌∷◌, ◌++◌, length, sym, ◌∙◌, ap, arith}
-use Rattle.std.specs.Prelude.{Result, Ok, Err, ◌↔◌}
+use Rattle.std.proofs.Common.{◌≡◌, ℕ, ◌<◌, ◌≤◌, refl, sym, ◌∙◌, ap}
+use Rattle.std.specs.Prelude.{Result, Ok, Err, ◌↔◌, nat_lt, Bool, true, false}
+use Rattle.std.proofs.lemmas.Bool.{ltb-true, ltb-false}
 use Rattle.realm_session.specs.declared.refusal.RecordRefusal.{RecordRefusal}
 use Rattle.realm_session.specs.declared.refusal.RecordRefusal.TheVariants as refusal
 use Rattle.session_run.specs.declared.running.RecordFault.{RecordFault}
@@ -56,3 +57,11 @@ failure_same X e f h = cc
 
 pub same_failed : (X Y : Type 0) (e : RecordFault) (n : ℕ) → failed X e ≡ failed X (fault.Slots n) → failed Y e ≡ failed Y (fault.Slots n)
 same_failed X Y e n h = ap (failed Y) (failure_same X e (fault.Slots n) h)
+
+-- where no refusal came there are slots enough
+pub enough : (X : Type 0) (res : Result X RecordFault) (x : X) (slots need : ℕ) → res ≡ given X x → (res ≡ failed X (fault.Slots need)) ↔ ((slots < need) × (need ≡ need)) → need ≤ slots
+enough X res x slots need is told = by_test (nat_lt slots need) refl
+  where
+    by_test : (b : Bool) → nat_lt slots need ≡ b → need ≤ slots
+    by_test true e = absurd (ok_no_fault X x need (sym is ∙ told.1 (ltb-true slots need e, refl)))
+    by_test false e = ltb-false slots need e

@@ -1,3 +1,4 @@
 pub mod Ended
 pub mod Linked
 pub mod Running
+pub mod Session

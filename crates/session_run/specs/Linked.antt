@@ -1,11 +1,11 @@
 -- The graphs of a session with their links as lines: each link by the answer of the operation that it names.
-use Rattle.std.specs.Prelude.{ℕ, List, [], ◌∷◌, ◌++◌, Option, Some, None, find, position}
+use Rattle.std.specs.Prelude.{ℕ, List, [], ◌∷◌, ◌++◌, None, find, position}
 use Rattle.std.specs.Option.{option_map_or}
 use Rattle.std.specs.Str.{bytes_eq}
 use Rattle.gen_events.specs.declared.handle.Answer.{Answer}
 use Rattle.gen_events.specs.declared.handle.Answer.TheVariants.{Pending, Triggered, Poisoned}
 use Rattle.graph_model.specs.declared.graph.verb.Line.{Line}
-use Rattle.graph_model.specs.declared.graph.verb.Verb.TheVariants.{Trigger, Cancel}
+use Rattle.graph_model.specs.declared.graph.verb.Verb.TheVariants.{Cancel}
 use Rattle.graph_model.specs.graph.Graph.{GraphValue}
 use Rattle.graph_model.specs.graph.Fits.{with_line}
 use Rattle.graph_model.specs.meaning.Evaluation.{eval_end}

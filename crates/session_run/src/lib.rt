@@ -4,6 +4,8 @@
 mod ended;
 mod linking;
 mod running;
+mod session;
 
 pub use ended::Ended;
 pub use running::{Linked, RanGraph, RecordFault, Running};
+pub use session::{Engine, RunFault, UnfitGraph};

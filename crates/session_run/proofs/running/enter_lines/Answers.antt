@@ -1,4 +1,4 @@
-use Rattle.std.proofs.Common.{◌≡◌, sym, ◌∙◌, ap}
+use Rattle.std.proofs.Common.{sym, ◌∙◌, ap}
 use Rattle.realm_session.specs.declared.refusal.RecordRefusal.TheVariants as refusal
 use Rattle.session_run.proofs.Refusals.{refused, slots_told, no_slots_told, ok_no_slots, memory_no_slots, no_memory_fault, ok_no_fault}
 use Rattle.session_run.proofs.running.enter_lines.Goals as goal

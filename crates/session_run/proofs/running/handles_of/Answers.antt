@@ -1,6 +1,6 @@
-use Rattle.std.proofs.Common.{◌≡◌, map, take, ap, ◌∙◌, sym, subst}
+use Rattle.std.proofs.Common.{ap, ◌∙◌, sym}
 use Rattle.std.specs.Prelude.{◌++◌, ◌∷◌, []}
-use Rattle.realm_session.specs.Recorded.{graph_at, handle_in}
+use Rattle.realm_session.specs.Recorded.{graph_at}
 use Rattle.realm_session.specs.Sessions.{recorded_by}
 use Rattle.session_run.proofs.Recording.{handles_more}
 use Rattle.session_run.proofs.running.handles_of.Goals as goal

@@ -1,10 +1,7 @@
-use Rattle.std.proofs.Common.{◌≡◌, sym, ◌∙◌, ap, subst}
-use Rattle.std.proofs.lemmas.Option.{slice_get_within, get_or_from_slice_get}
-use Rattle.std.proofs.lemmas.List.{take_more}
-use Rattle.std.specs.Prelude.{slice_get, Some}
+use Rattle.std.proofs.Common.{◌∙◌, ap}
 use Rattle.session_run.specs.Linked.{with_answer}
 use Rattle.session_run.specs.Running.{ran_by}
-use Rattle.session_run.proofs.LinkSteps.{Linking, no_links, can_put, linked_more, all_linked}
+use Rattle.session_run.proofs.LinkSteps.{no_links, can_put, linked_more}
 use Rattle.session_run.proofs.running.Running.add_links.Goals as goal
 
 pub loop-place-init : goal.loop-place-init

@@ -1,4 +1,4 @@
-use Rattle.std.proofs.Common.{◌≡◌, length, take}
+use Rattle.std.proofs.Common.{take}
 use Rattle.realm_session.specs.Sessions.{recorded_by, IsSeatOf}
 use Rattle.session_run.specs.Running.{ran_by, TellsAll}
 use Rattle.session_run.proofs.LinkSteps.{Linking}

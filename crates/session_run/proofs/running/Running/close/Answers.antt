@@ -1,4 +1,4 @@
-use Rattle.std.proofs.Common.{◌≡◌, ◌∙◌, ap}
+use Rattle.std.proofs.Common.{◌∙◌, ap}
 use Rattle.std.specs.Prelude.{Some}
 use Rattle.realm_session.specs.Recorded.{answer_for}
 use Rattle.session_run.proofs.Asking.{recorded_line, handle_there}
