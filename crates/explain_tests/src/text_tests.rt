@@ -24,7 +24,7 @@ impl Row<'_> {
     }
 }
 
-const ROWS: [Row<'static>; 6] = [
+const ROWS: [Row<'static>; 7] = [
     Row {
         bytes: "realm 1\nspace s 4..9\ninst i s x\na = user\nb = merge a\nf = fill i.x s 1 on a\n\
             g = fill i.x s 2 on b\nt = trigger a\nend\n",
@@ -68,6 +68,13 @@ const ROWS: [Row<'static>; 6] = [
         ends: false,
         verdict: Verdict::Unread,
         text: "refused line 2 unknown\nline 2: m = merge b\nno line above gives b, but line 3: b = user\n",
+    },
+    Row {
+        bytes: "realm 1\nspace s 0..9,20..1048595\nend\n",
+        ends: false,
+        verdict: Verdict::Unread,
+        text: "refused line 2 limit\nline 2: space s 0..9,20..1048595\n\
+            points of a space: 1048586, and at most 1048576\n",
     },
     Row {
         bytes: "realm 1\nlock b\nb = user\nend\n",

@@ -18,7 +18,7 @@ pub fn split_lines(alloc: Global, bytes: &[u8]) -> Result<Vec<&[u8]>, NoMemory>
 }
 
 /// The pieces of bytes between the separators.
-pub(crate) fn split(alloc: Global, bytes: &[u8], separator: u8) -> Result<Vec<&[u8]>, NoMemory>
+pub fn split(alloc: Global, bytes: &[u8], separator: u8) -> Result<Vec<&[u8]>, NoMemory>
     ensures { IfOk result (λ v. contents v.items ≡ pieces separator bytes.now) }
 {
     let mut parts = Vec::new(alloc);

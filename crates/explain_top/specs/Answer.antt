@@ -1,5 +1,5 @@
 -- What is answered to the bytes of an input.
-use Rattle.std.specs.Prelude.{◌≡◌, ◌≢◌, ℕ, ◌<◌, ◌↔◌, Bool, true, false, List, ◌++◌, length, map, Contains, Option, Some, None, IsSome}
+use Rattle.std.specs.Prelude.{◌≡◌, ◌≢◌, ℕ, ◌<◌, ◌↔◌, Bool, true, false, List, ◌++◌, length, map, Contains, Option, Some, None, IsSome, IfSome}
 use Rattle.basics.specs.Lists.{numbers_below}
 use Rattle.graph_model.specs.declared.graph.why.Why.{Why}
 use Rattle.graph_model.specs.declared.meaning.outcome.End.{End}
@@ -27,6 +27,8 @@ use Rattle.explain_text.specs.Refused.{explanation_text}
 use Rattle.explain_text.specs.Named.{IsNamedWord, named_texts}
 use Rattle.explain_text.specs.declared.naming.NamedWord.{NamedWord}
 use Rattle.explain_text.specs.Unread.{unread_text}
+use Rattle.explain_top.specs.Limits.{limit_text}
+use Rattle.explain_top.specs.declared.limits.Passed.{Passed}
 use Rattle.explain_top.specs.declared.answer.Verdict.{Verdict}
 use Rattle.explain_top.specs.declared.answer.Verdict.TheVariants as verdict
 
@@ -77,11 +79,13 @@ IsAcceptedText ends c ls out = (mid : List ℕ) × IsWaitingText c.graph ls (nee
 abbrev pub IsUnfitText : GraphValue → CheckRefusal → List (List ℕ) → List ℕ → Type 0
 IsUnfitText g why ls out = (x : Explanation) × IsExplanation g why x × (out ≡ explanation_text g ls x)
 
--- the text on a line that is refused, with lines that give the names which words of it stand for
+-- the text on a line that is refused, with a quantity that is above its bound where one is told, and lines that give the names which words of it stand for
 pub record IsUnreadText (ls : List (List ℕ)) (number : ℕ) (why : Why) (out : List ℕ) : Type 0 where
   pub words : List NamedWord
   pub named : (x : NamedWord) → Contains words x → IsNamedWord ls number x
-  pub text : out ≡ unread_text ls number why ++ named_texts ls words
+  pub limit : Option Passed
+  pub passes : IfSome limit (λ p. p.bound < p.value)
+  pub text : out ≡ unread_text ls number why ++ (limit_text limit ++ named_texts ls words)
 
 -- the bytes are the text of an accepted graph with this need, and the answer is its text
 pub record IsAcceptedAnswer (ends : Bool) (bytes out : List ℕ) : Type 0 where

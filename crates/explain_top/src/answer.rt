@@ -1,13 +1,15 @@
 //! The answer to the bytes of an input.
 
-ghost use Rattle.std.specs.Prelude.{◌≢◌, length, Contains, IfOk, OnOk};
+ghost use Rattle.std.specs.Prelude.{◌≢◌, ◌<◌, length, Contains, IfOk, OnOk, IfSome};
 ghost use Rattle.basics.specs.Words.{contents};
 ghost use Rattle.explain_text.specs.Named.{IsNamedWord, IsInside};
 ghost use Rattle.explain_text.specs.declared.naming.NamedWord.{NamedWord};
 ghost use Rattle.explain_top.specs.Answer.{IsAnswer, IsUnfitText, IsUnreadText};
+ghost use Rattle.explain_top.specs.declared.limits.Passed.{Passed};
 ghost use Rattle.race_check.specs.Refusal.{IsRefusal, NamesLines};
 
 use crate::accepted::put_accepted;
+use crate::limits::{Passed, passed_limit, put_limit};
 use explain_graph::explain;
 use explain_text::{
     NamedWord, Text, named_words, put_explanation, put_named_words, put_unread, split_lines,
@@ -92,8 +94,10 @@ fn put_refused(alloc: Global, lines: &[&[u8]], number: u32, why: Why) -> Result<
     ensures { IfOk result (IsUnreadText (contents lines.now) number why) }
 {
     let words = words_for(alloc, lines, number, why)?;
+    let passed = limit_for(alloc, lines, number, why)?;
     let mut text = Text::new(alloc);
     put_unread(&mut text, lines, number, why)?;
+    put_limit(&mut text, passed)?;
     put_named_words(&mut text, lines, words.as_slice())?;
     Ok(text)
 }
@@ -113,5 +117,20 @@ fn words_for<'a>(
             named_words(alloc, lines, number)
         }
         _ => Ok(Vec::new(alloc)),
+    }
+}
+
+/// The quantity that the line passes, where that is the reason.
+fn limit_for(
+    alloc: Global,
+    lines: &[&[u8]],
+    number: u32,
+    why: Why,
+) -> Result<Option<Passed>, NoMemory>
+    ensures { IfOk result (λ o. IfSome o (λ (p : Passed). p.bound < p.value)) }
+{
+    match why {
+        Why::Limit => passed_limit(alloc, lines, number),
+        _ => Ok(None),
     }
 }

@@ -3,6 +3,7 @@
 
 mod accepted;
 pub mod answer;
+pub mod limits;
 pub mod program;
 
 pub use answer::{Answer, Verdict, explain_bytes};
