@@ -8,4 +8,4 @@ mod session;
 
 pub use ended::Ended;
 pub use running::{Linked, RanGraph, RecordFault, Running};
-pub use session::{Engine, RunFault, UnfitGraph};
+pub use session::{Engine, RunFault, UnfitGraph, run_session};

@@ -11,6 +11,10 @@ mod memory_tests;
 #[cfg(test)]
 mod row_tests;
 #[cfg(test)]
+mod run_tests;
+#[cfg(test)]
+mod running;
+#[cfg(test)]
 mod text_tests;
 #[cfg(test)]
 mod thread_tests;

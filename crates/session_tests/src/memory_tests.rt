@@ -4,8 +4,10 @@
 
 use crate::asking::{ends_of, record_graph};
 use crate::row_tests::ONE;
+use crate::running::{entries_of, run_entries, run_text};
 use graph_reader::ReadRefusal;
 use realm_session::{NoMemory, RecordRefusal, Session};
+use session_run::RunFault;
 use session_text::read_session;
 use std::alloc::Global;
 use std::test::Fail;
@@ -30,8 +32,7 @@ fn enters(alloc: Global) -> Result<(), Fail> {
 }
 
 /// The texts of two graphs, with a link.
-fn reads(alloc: Global) -> Result<(), Fail> {
-    let bytes = b"realm-session 1
+const TEXT: &str = "realm-session 1
 graph one
 realm 1
 k = user
@@ -42,8 +43,13 @@ v = user
 end
 link c v one k
 close
-"
-        .as_slice();
+";
+
+fn reads(alloc: Global) -> Result<(), Fail> {
+    let bytes = TEXT.as_bytes();
+    if bytes.len() > 1_048_576 {
+        return Err("a long text".into());
+    }
     match read_session(alloc, bytes) {
         Ok(entries) => after("read_session", false, entries.len() == 2),
         Err(refusal) => {
@@ -57,6 +63,27 @@ close
     }
 }
 
+/// Runs the graphs, whose one slot and another for each of the two lines that wait are enough.
+fn runs(alloc: Global) -> Result<(), Fail> {
+    let Some(entries) = entries_of(alloc, TEXT) else {
+        return Err("no memory".into());
+    };
+    match run_entries(alloc, entries, 3) {
+        Ok(ended) => after("run_session", false, ended.graphs.len() == 2),
+        Err(fault) => {
+            let again = run_text(alloc, TEXT, 3).is_ok();
+            after("run_session", true, is_no_memory(&fault) && again)
+        }
+    }
+}
+
+fn is_no_memory(fault: &RunFault) -> bool {
+    match fault {
+        RunFault::NoMemory => true,
+        _ => false,
+    }
+}
+
 #[test]
 fn each_call(rt: HostRuntime) -> Result<(), Fail> {
     let alloc = rt.alloc();
@@ -65,5 +92,6 @@ fn each_call(rt: HostRuntime) -> Result<(), Fail> {
         Err(NoMemory) => after("Session::new", true, Session::new(alloc, 2).is_ok())?,
     }
     enters(alloc)?;
-    reads(alloc)
+    reads(alloc)?;
+    runs(alloc)
 }

@@ -7,7 +7,7 @@ use std::alloc::{AllocError, Global};
 use std::test::Fail;
 
 /// Two graphs, up to the last line of the second.
-const TWO_GRAPHS: &str = "realm-session 1
+pub(crate) const TWO_GRAPHS: &str = "realm-session 1
 graph one
 realm 1
 space s 0..0

@@ -6,6 +6,7 @@ use Rattle.session_run.proofs.running.Running.close.Goals as goal
 
 pub returns-clause-ended : goal.returns-clause-ended
 returns-clause-ended c = record {
+  few = c.requires.running.few;
   outcomes = c.requires.running.outcomes;
   events = λ k i x at near.
       let d = recorded_line c.args.self k i x c.requires.running at near in
