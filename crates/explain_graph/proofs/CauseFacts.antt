@@ -1,6 +1,6 @@
 -- Each edge of a graph has a cause.
 use Rattle.std.proofs.Common.{◌≡◌, ℕ, suc, ◌+◌, Bool, true, false, cond, ◌⊎◌, inl, inr, List, [], ◌∷◌, ◌++◌, length, refl, sym, ◌∙◌, ap, subst, append_assoc, arith}
-use Rattle.std.specs.Prelude.{Contains, ◌==◌, Option, Some, None, slice_get, option_map, map}
+use Rattle.std.specs.Prelude.{Contains, ◌==◌, Option, Some, None, slice_get, option_map}
 use Rattle.std.specs.Option.{option_map_or}
 use Rattle.std.specs.List.{list_any}
 use Rattle.std.proofs.lemmas.Bool.{true≢false, eq-eqb, eqb-true}

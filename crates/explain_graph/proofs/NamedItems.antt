@@ -1,5 +1,5 @@
 -- What an explanation names.
-use Rattle.std.proofs.Common.{◌≡◌, ℕ, ◌<◌, inl, inr, List, [], ◌∷◌, length, sym, subst, arith}
+use Rattle.std.proofs.Common.{ℕ, ◌<◌, inl, inr, List, [], ◌∷◌, length, sym, subst, arith}
 use Rattle.std.specs.Prelude.{Contains, Option, Some, None, IsTrue, IfSome, MatchOption, Vec}
 use Rattle.std.specs.Global.{Global}
 use Rattle.basics.proofs.ListFacts.{contains_none, contains_cases}

@@ -1,5 +1,5 @@
 -- What the refusals of the checker tell of paths, acquires and releases.
-use Rattle.std.proofs.Common.{◌≡◌, ◌≢◌, ℕ, ◌+◌, ◌<◌, ◌≤◌, Bool, true, false, inl, inr, length, refl, sym, ◌∙◌, subst, arith}
+use Rattle.std.proofs.Common.{◌≡◌, ◌≢◌, ℕ, ◌<◌, ◌≤◌, Bool, true, false, inl, inr, length, refl, sym, ◌∙◌, subst, arith}
 use Rattle.std.specs.Prelude.{Option, Some, None, IsTrue, IfSome, MatchOption, Vec}
 use Rattle.std.specs.Global.{Global}
 use Rattle.std.proofs.lemmas.Bool.{true≢false, cases_lt}
@@ -9,7 +9,7 @@ use Rattle.graph_model.specs.graph.Graph.{GraphValue, line_passes, is_phase, is_
 use Rattle.graph_model.specs.graph.Fits.{IsGraph}
 use Rattle.graph_model.specs.meaning.Path.{HasPath}
 use Rattle.graph_model.specs.meaning.Reservations.{lock_at, acquire_at}
-use Rattle.graph_model.specs.meaning.Rules.{Acquires, Releases, Section, SectionAt, DescendsAt}
+use Rattle.graph_model.specs.meaning.Rules.{Releases, SectionAt, DescendsAt}
 use Rattle.graph_model.proofs.VerbFacts.{passes_below, release_one}
 use Rattle.graph_model.proofs.ReleaseFacts.{release_names, one_release}
 use Rattle.explanations.specs.Paths.{IsShortest}

@@ -1,5 +1,5 @@
 -- What each explanation says of a graph.
-use Rattle.std.specs.Prelude.{◌≡◌, ◌≢◌, ℕ, ◌<◌, ◌≤◌, false, length, Contains, IsTrue, Option, Some, None, MatchOption, IfSome, List, slice_get}
+use Rattle.std.specs.Prelude.{◌≡◌, ◌≢◌, ℕ, ◌<◌, ◌≤◌, false, length, Contains, IsTrue, Some, MatchOption, IfSome, List, slice_get}
 use Rattle.graph_model.specs.declared.graph.verb.Line.{Line}
 use Rattle.graph_model.specs.declared.graph.verb.Edge.{Edge}
 use Rattle.graph_model.specs.graph.Edges.{edges}

@@ -1,6 +1,6 @@
 -- The edges by which lines are reached, and those of whole ways, are edges of the graph.
 use Rattle.std.proofs.Common.{◌≡◌, List, sym, subst}
-use Rattle.std.specs.Prelude.{Contains, Option, filter}
+use Rattle.std.specs.Prelude.{Contains, Option}
 use Rattle.basics.proofs.ListFacts.{filter_contains}
 use Rattle.graph_model.specs.declared.graph.verb.Edge.{Edge}
 use Rattle.graph_model.specs.declared.meaning.outcome.End.{End}

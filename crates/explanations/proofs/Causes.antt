@@ -1,11 +1,10 @@
 -- Which lines are reached: those that wait, and those that are cancelled.
 use Rattle.std.proofs.Common.{◌≡◌, ◌≢◌, ℕ, zero, suc, ◌+◌, ◌<◌, ◌⊎◌, inl, inr, Bool, true, false, List, [], ◌∷◌, ◌++◌, length, map, refl, sym, ◌∙◌, ap, subst, arith}
-use Rattle.std.specs.Prelude.{Contains, ◌↔◌, ◌&&◌, Option, Some, None, IsTrue, IsSome, filter, slice_get, ◌==◌}
-use Rattle.std.specs.List.{list_any}
+use Rattle.std.specs.Prelude.{Contains, ◌↔◌, ◌&&◌, Option, Some, None, IsTrue, IsSome, slice_get, ◌==◌}
 use Rattle.std.proofs.lemmas.Bool.{true≢false, and_parts, eq-eqb}
 use Rattle.std.proofs.lemmas.Option.{slice_get_read}
 use Rattle.std.proofs.lemmas.List.FromFn.{get_or-map-range_with_len}
-use Rattle.basics.proofs.ListFacts.{got_contains, contains_here, filter_contains, contains_filter, passes_some}
+use Rattle.basics.proofs.ListFacts.{got_contains, filter_contains, contains_filter, passes_some}
 use Rattle.basics.specs.Lists.{numbers_below}
 use Rattle.graph_model.specs.declared.graph.verb.Edge.{Edge}
 use Rattle.graph_model.specs.declared.graph.verb.EdgeKind.{EdgeKind}
@@ -17,10 +16,9 @@ use Rattle.graph_model.specs.graph.Edges.{edges, edges_out_of}
 use Rattle.graph_model.specs.graph.Fits.{IsGraph}
 use Rattle.graph_model.specs.meaning.Path.{HasPath, Reached}
 use Rattle.graph_model.specs.meaning.Evaluation.{cancels, is_ended, eval_end, order, Unbroken, faults, faulted, on}
-use Rattle.graph_model.specs.meaning.Trace.{ListsEnded}
 use Rattle.graph_model.specs.meaning.Laws.{EdgesBetweenLines, CancelledWhereUnbroken, OrderListsEnded}
 use Rattle.explanations.specs.declared.reaches.Reach.{Reach}
-use Rattle.explanations.specs.Paths.{Leads, IsPath, path_edges}
+use Rattle.explanations.specs.Paths.{Leads, path_edges}
 use Rattle.explanations.specs.Reaches.{reach_at, end_at, carries, fault_edges, is_faulting, begins_fault, IsNever, IsFault, IsReached, AreLinked}
 use Rattle.explanations.proofs.PathFacts.{is_path, paths_listed}
 use Rattle.explanations.proofs.ReachFacts.{leads_from_line, leads_push, some_is}

@@ -1,12 +1,11 @@
 -- How lines are reached, by what a search that goes onward has left.
-use Rattle.std.proofs.Common.{◌≡◌, ℕ, zero, suc, ◌+◌, ◌-◌, ◌<◌, ◌≤◌, ◌⊎◌, inl, inr, Bool, true, false, cond, List, [], ◌∷◌, ◌++◌, length, refl, sym, ◌∙◌, ap, subst, arith}
+use Rattle.std.proofs.Common.{◌≡◌, ℕ, zero, suc, ◌+◌, ◌-◌, ◌<◌, ◌≤◌, inl, inr, Bool, true, false, cond, List, [], ◌∷◌, ◌++◌, length, refl, sym, ◌∙◌, ap, subst, arith}
 use Rattle.std.specs.Prelude.{Contains, ◌==◌, Option, Some, None, IsTrue, IsSome, slice_index}
 use Rattle.std.proofs.lemmas.Bool.{cases_lt, ne_eqb}
 use Rattle.std.proofs.lemmas.List.{length_push}
 use Rattle.std.proofs.lemmas.List.Elements.{Contains-append_left, Contains-push, Contains-push_cases}
 use Rattle.std.proofs.lemmas.Option.{none-some, same_Some}
 use Rattle.graph_model.specs.declared.graph.verb.Edge.{Edge}
-use Rattle.graph_model.specs.declared.meaning.outcome.End.{End}
 use Rattle.explanations.specs.declared.reaches.Reach.{Reach}
 use Rattle.explanations.specs.declared.search.Origin.{Origin}
 use Rattle.explanations.specs.declared.search.Way.{Way}

@@ -1,9 +1,9 @@
 -- Sections of a line, by what two searches from it found.
-use Rattle.std.proofs.Common.{◌≡◌, ◌≢◌, ℕ, ◌+◌, ◌<◌, ◌≤◌, inl, inr, List, [], ◌∷◌, ◌++◌, length, refl, sym, ◌∙◌, ap, subst, arith}
-use Rattle.std.specs.Prelude.{Contains, Option, Some, None, IsSome, slice_get, slice_index, option_map}
+use Rattle.std.proofs.Common.{◌≡◌, ℕ, ◌+◌, ◌<◌, inl, inr, List, [], ◌∷◌, ◌++◌, length, refl, sym, ap, subst, arith}
+use Rattle.std.specs.Prelude.{Contains, Option, Some, None, IsSome, slice_index}
 use Rattle.std.specs.Option.{option_and_then}
 use Rattle.std.proofs.lemmas.Bool.{cases_lt}
-use Rattle.std.proofs.lemmas.Option.{none-some, same_Some, slice_get_within}
+use Rattle.std.proofs.lemmas.Option.{none-some, same_Some}
 use Rattle.std.proofs.lemmas.List.Elements.{Contains-append_left, Contains-push, Contains-push_cases}
 use Rattle.basics.proofs.ListFacts.{contains_here, contains_cases, contains_none}
 use Rattle.graph_model.specs.declared.graph.verb.Verb.{Verb}
@@ -14,9 +14,8 @@ use Rattle.graph_model.specs.meaning.Path.{HasPath}
 use Rattle.graph_model.specs.meaning.Reservations.{taken_by, freed_by, lock_at, acquire_at}
 use Rattle.graph_model.specs.meaning.Rules.{Acquires, Releases, Section, NoCycleAt}
 use Rattle.graph_model.proofs.VerbFacts.{passes_below, release_is, is_release_from, acquire_is, is_acquire_from}
-use Rattle.explanations.specs.declared.search.Way.TheVariants.{Onward, Back}
-use Rattle.explanations.specs.declared.search.Origin.{Origin}
-use Rattle.explanations.specs.Paths.{Leads, IsPath, path_edges}
+use Rattle.explanations.specs.declared.search.Way.TheVariants.{Back}
+use Rattle.explanations.specs.Paths.{Leads, path_edges}
 use Rattle.explanations.specs.Search.{near_end, far_end, origin_at, AreCounts, AreOrigins, IsFound}
 use Rattle.explanations.proofs.PathFacts.{is_path, paths_listed}
 use Rattle.explanations.proofs.MeetingFacts.{path_there, count_of_path}

@@ -1,4 +1,4 @@
-use Rattle.std.proofs.Common.{inl, inr, ◌++◌, ◌∷◌, [], subst}
+use Rattle.std.proofs.Common.{inl, inr, subst}
 use Rattle.std.specs.Prelude.{Contains, IfSome}
 use Rattle.std.proofs.lemmas.List.Elements.{Contains-push_cases}
 use Rattle.explain_graph.specs.Ways.{IsWay}

@@ -1,10 +1,8 @@
-use Rattle.std.proofs.Common.{ap}
-use Rattle.std.specs.Prelude.{codes, decimal}
+use Rattle.std.specs.Prelude.{codes}
 use Rattle.basics.specs.Words.{contents}
-use Rattle.graph_model.specs.graph.Spelling.{line_name, lock_name, column_name}
-use Rattle.explain_text.specs.Lines.{by_number, numbered, mode_word, edges_text, lines_text}
-use Rattle.explain_text.specs.Refused.{refused_one, refused_two, unreleased_by, entered_text, on_text, shared_text, meeting_text, advice_by, on_of, advice_text, in_sections, sections_text}
-use Rattle.explain_text.proofs.TextFacts.{then_puts, puts_as, put_as}
+use Rattle.explain_text.specs.Lines.{numbered}
+use Rattle.explain_text.specs.Refused.{refused_two, shared_text, meeting_text, advice_text}
+use Rattle.explain_text.proofs.TextFacts.{then_puts}
 use Rattle.explain_text.proofs.conflict.put_conflict.Goals as goal
 
 pub returns : goal.returns

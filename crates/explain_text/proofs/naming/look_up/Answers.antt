@@ -1,4 +1,4 @@
-use Rattle.std.proofs.Common.{◌≡◌, ◌+◌, ◌≤◌, ◌-◌, ◌∙◌, ap, sym, subst, take, drop, length, arith}
+use Rattle.std.proofs.Common.{◌≡◌, ◌+◌, ◌≤◌, ◌-◌, ◌∙◌, ap, sym, subst, take, drop, length}
 use Rattle.basics.specs.Words.{contents}
 use Rattle.explain_text.specs.Named.{first_giving}
 use Rattle.explain_text.proofs.NamedFacts.{given_inside, take_few, drop_few, front_of, back_of, lines_size}

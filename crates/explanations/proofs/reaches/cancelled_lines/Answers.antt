@@ -1,4 +1,4 @@
-use Rattle.std.proofs.Common.{◌≡◌, ◌∙◌, ℕ, ◌<◌, List, length, subst}
+use Rattle.std.proofs.Common.{◌≡◌, ℕ, ◌<◌, List, length, subst}
 use Rattle.std.specs.Prelude.{Some, IsTrue, IsSome}
 use Rattle.graph_model.specs.declared.graph.verb.Edge.{Edge}
 use Rattle.explanations.specs.declared.reaches.Reach.{Reach}

@@ -1,5 +1,5 @@
-use Rattle.std.proofs.Common.{sym, ◌∙◌}
-use Rattle.explanations.proofs.WaysBack.{back_begins, back_more, back_ends, steps_fall}
+use Rattle.std.proofs.Common.{sym}
+use Rattle.explanations.proofs.WaysBack.{back_more, back_ends}
 use Rattle.explanations.proofs.reaches.path_to.Goals as goal
 
 pub loop-edge-preserved : goal.loop-edge-preserved

@@ -1,4 +1,4 @@
-use Rattle.std.proofs.Common.{◌≡◌, ◌<◌, ◌∙◌, length, sym, subst}
+use Rattle.std.proofs.Common.{length, subst}
 use Rattle.std.specs.Prelude.{Contains, slice_index}
 use Rattle.graph_model.specs.graph.Edges.{edges}
 use Rattle.explanations.specs.Search.{near_end, far_end, way_edges, is_start, AreCounts, AreOrigins}

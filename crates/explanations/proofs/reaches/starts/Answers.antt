@@ -1,6 +1,4 @@
-use Rattle.std.proofs.Common.{◌≡◌, ◌∙◌, ap, sym, subst, arith}
-use Rattle.std.specs.Prelude.{Vec}
-use Rattle.std.specs.Global.{Global}
+use Rattle.std.proofs.Common.{◌∙◌, sym, arith}
 use Rattle.explanations.specs.Search.{is_start}
 use Rattle.explanations.proofs.ReachFacts.{listed_more, all_more, all_skip}
 use Rattle.explanations.proofs.reaches.starts.Goals as goal

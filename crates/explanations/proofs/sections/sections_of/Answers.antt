@@ -1,10 +1,6 @@
-use Rattle.std.proofs.Common.{◌≡◌, ℕ, ◌<◌, ◌∷◌, [], ◌∙◌, sym, subst, refl, arith, length}
-use Rattle.std.specs.Prelude.{Contains, Some, None, IfSome, IsSome, slice_index}
+use Rattle.std.proofs.Common.{◌≡◌, ◌<◌, ◌∙◌, sym, subst, arith, length}
 use Rattle.std.proofs.lemmas.Option.{same_Some}
-use Rattle.graph_model.specs.graph.Edges.{edges}
-use Rattle.graph_model.specs.meaning.Reservations.{acquire_at, lock_at}
-use Rattle.explanations.specs.declared.search.Way.TheVariants.{Back}
-use Rattle.explanations.specs.Search.{near_end, far_end, AreCounts, AreOrigins, IsFound}
+use Rattle.explanations.specs.Search.{IsFound}
 use Rattle.explanations.proofs.SectionFacts.{IsSectionBy, found_more, found_all, found_skip, is_section, section_by, release_line}
 use Rattle.explanations.proofs.sections.sections_of.Goals as goal
 use Rattle.explanations.proofs.sections.sections_of.Goals.{in-Some+in_ok-push, in_default}

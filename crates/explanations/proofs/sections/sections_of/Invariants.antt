@@ -1,7 +1,5 @@
-use Rattle.std.proofs.Common.{◌≡◌, ℕ, ◌<◌}
-use Rattle.std.specs.Prelude.{Contains, IsSome, Some}
-use Rattle.graph_model.specs.meaning.Reservations.{acquire_at, lock_at}
-use Rattle.explanations.specs.Search.{IsFound}
+use Rattle.std.proofs.Common.{ℕ, ◌<◌}
+use Rattle.std.specs.Prelude.{Contains}
 use Rattle.explanations.proofs.SectionFacts.{IsSectionBy}
 use Rattle.explanations.proofs.sections.sections_of.Given as goal
 

@@ -1,8 +1,7 @@
-use Rattle.std.proofs.Common.{◌≡◌, ◌∙◌, sym, refl, inl, arith, length}
+use Rattle.std.proofs.Common.{◌∙◌, sym, refl, inl, arith}
 use Rattle.std.specs.Prelude.{slice_index}
 use Rattle.std.proofs.lemmas.List.Elements.{Contains-get_or}
 use Rattle.explanations.proofs.Marking.{lines_more}
-use Rattle.explanations.proofs.Origins.{origins_none}
 use Rattle.explanations.proofs.search.Search.find_starts.Goals as goal
 
 pub find-requires-clause-known : goal.find-requires-clause-known

@@ -1,5 +1,5 @@
-use Rattle.std.proofs.Common.{◌≡◌, ◌<◌, ◌+◌, ◌∙◌, ap, sym, refl, inr, subst, arith, length, []}
-use Rattle.std.specs.Prelude.{Contains, ◌==◌, filter, slice_index, Some}
+use Rattle.std.proofs.Common.{◌≡◌, ◌<◌, ◌+◌, ◌∙◌, sym, subst, arith, length}
+use Rattle.std.specs.Prelude.{Contains, ◌==◌, slice_index}
 use Rattle.std.specs.List.{slice_index_or}
 use Rattle.std.proofs.lemmas.Bool.{eqb-true}
 use Rattle.std.proofs.lemmas.List.{get_or_read}
@@ -7,8 +7,7 @@ use Rattle.std.proofs.lemmas.List.Elements.{Contains-get_or}
 use Rattle.basics.proofs.ListFacts.{filter_contains}
 use Rattle.graph_model.specs.declared.graph.verb.Edge.{Edge}
 use Rattle.graph_model.specs.graph.Edges.{edges}
-use Rattle.explanations.specs.declared.search.Origin.{Origin}
-use Rattle.explanations.specs.Search.{near_end, far_end, way_edges, no_origin, origin_at, IsMarking, IsOrigin}
+use Rattle.explanations.specs.Search.{near_end, far_end, way_edges, no_origin, origin_at, IsMarking}
 use Rattle.explanations.proofs.Marking.{no_edge, ends_more, ends_skip, in_follow}
 use Rattle.explanations.proofs.Origins.{origin_found}
 use Rattle.explanations.proofs.Levels.{on_known}
