@@ -36,7 +36,10 @@ impl Row<'_> {
 
 const ROWS: &[Row<'static>] = &[
     // No line at all.
-    Row { flow: "", graph: "" },
+    Row {
+        flow: "",
+        graph: "",
+    },
     // A reader after a writer, and a writer after a reader.
     Row {
         flow: "f = fill a.x s 1\nc = copy a.x a.y s\ng = fill a.x s 2\n",
@@ -94,15 +97,47 @@ const REFUSED: &[(&str, u32, Why)] = &[
     ("realm-flow 1\nend\nend\n", 3, Why::Rest),
     ("realm-flow 1\nu = user\nend\n", 2, Why::Syntax),
     ("realm-flow 1\nlock l\nq = acquire l\nend\n", 3, Why::Syntax),
-    ("realm-flow 1\nspace s 0..3\ninst a s x\nf = fill a.x s 1\ng = fill a.x s 1 on f\nend\n", 5, Why::Syntax),
-    ("realm-flow 1\nspace s 0..3\ninst a s x\nf = fill a.x s 1\nf = fill a.x s 1\nend\n", 5, Why::Twice),
-    ("realm-flow 1\nspace s 0..3\ninst a s x\nf = fill a.z s 1\nend\n", 4, Why::Unknown),
-    ("realm-flow 1\nspace s 0..3\ninst a s x\nf = fill a.x a 1\nend\n", 4, Why::Kind),
-    ("realm-flow 1\nspace s 0..3\ninst a s x\nf = fill a.x s 01\nend\n", 4, Why::Number),
-    ("realm-flow 1\nspace s 0..3\nspace t 0..4\ninst a s x\nf = fill a.x t 1\nend\n", 5, Why::Outside),
+    (
+        "realm-flow 1\nspace s 0..3\ninst a s x\nf = fill a.x s 1\ng = fill a.x s 1 on f\nend\n",
+        5,
+        Why::Syntax,
+    ),
+    (
+        "realm-flow 1\nspace s 0..3\ninst a s x\nf = fill a.x s 1\nf = fill a.x s 1\nend\n",
+        5,
+        Why::Twice,
+    ),
+    (
+        "realm-flow 1\nspace s 0..3\ninst a s x\nf = fill a.z s 1\nend\n",
+        4,
+        Why::Unknown,
+    ),
+    (
+        "realm-flow 1\nspace s 0..3\ninst a s x\nf = fill a.x a 1\nend\n",
+        4,
+        Why::Kind,
+    ),
+    (
+        "realm-flow 1\nspace s 0..3\ninst a s x\nf = fill a.x s 01\nend\n",
+        4,
+        Why::Number,
+    ),
+    (
+        "realm-flow 1\nspace s 0..3\nspace t 0..4\ninst a s x\nf = fill a.x t 1\nend\n",
+        5,
+        Why::Outside,
+    ),
     // A fault of a graph's text goes before a line that a flow has not.
-    ("realm-flow 1\nu = user\nf = full a.x s 1\nend\n", 3, Why::Syntax),
-    ("realm-flow 1\nspace s 0..3\nu = user\nf = fill a.x s 1\nend\n", 4, Why::Unknown),
+    (
+        "realm-flow 1\nu = user\nf = full a.x s 1\nend\n",
+        3,
+        Why::Syntax,
+    ),
+    (
+        "realm-flow 1\nspace s 0..3\nu = user\nf = fill a.x s 1\nend\n",
+        4,
+        Why::Unknown,
+    ),
 ];
 
 #[test]
@@ -129,12 +164,19 @@ fn limit(rt: HostRuntime) -> Result<(), Fail> {
     let mut text = String::new(alloc);
     text.push_str("realm-flow 1\nspace s 0..3\ninst a s x,y\n")?;
     for line in 0..3000u32 {
-        let some = format!(in alloc; "f{line} = fill a.x s 1\ng{line} = fill a.y s 1\nh{line} = task axpy a.x a.y s 2\n")?;
+        let some = format!(in alloc;
+            "f{line} = fill a.x s 1\ng{line} = fill a.y s 1\nh{line} = task axpy a.x a.y s 2\n"
+        )?;
         text.push_str(some.as_str())?;
     }
     text.push_str("end\n")?;
     match answer_flow(alloc, text.as_bytes()) {
-        Err(FlowFault::Line { why: Why::Limit, .. }) => Ok(()),
+        Err(
+            FlowFault::Line {
+                why: Why::Limit,
+                ..
+            },
+        ) => Ok(()),
         Err(fault) => Err(Fail::new(format_args!("{fault:?}"))),
         Ok(_) => Err("a graph".into()),
     }

@@ -12,7 +12,8 @@ use task_flow::{FlowRefusal, make_graph};
 use test_texts::memory::after;
 
 /// A flow whose graph has a merge.
-const FLOW: &[u8] = b"realm-flow 1\nspace s 0..3\ninst a s x,y\nf = fill a.x s 1\ng = fill a.y s 2\n\
+const FLOW: &[u8] =
+    b"realm-flow 1\nspace s 0..3\ninst a s x,y\nf = fill a.x s 1\ng = fill a.y s 2\n\
     h = reduce sum a.x a.y s\nend\n";
 
 /// Makes the graph of the flow.
@@ -41,9 +42,7 @@ fn an_answer(rt: HostRuntime) -> Result<(), Fail> {
     let alloc = rt.alloc();
     match answer_flow(alloc, FLOW) {
         Ok(text) => after("answer_flow", false, text.len() == 128),
-        Err(FlowFault::NoMemory) => {
-            after("answer_flow", true, answer_flow(alloc, FLOW).is_ok())
-        }
+        Err(FlowFault::NoMemory) => { after("answer_flow", true, answer_flow(alloc, FLOW).is_ok()) }
         Err(FlowFault::Line { .. }) => after("answer_flow", false, false),
     }
 }

@@ -6,8 +6,11 @@ use realm_io::{MemorySink, MemorySource};
 use std::alloc::Global;
 use std::test::Fail;
 
-const FLOW: &[u8] = b"realm-flow 1\nspace s 0..3\ninst a s x\nf = fill a.x s 1\ng = fill a.x s 2\nend\n";
-const GRAPH: &[u8] = b"realm 1\nspace s 0..3\ninst a s x\nf = fill a.x s 1\ng = fill a.x s 2 on f\nend\n";
+const FLOW: &[u8] =
+    b"realm-flow 1\nspace s 0..3\ninst a s x\nf = fill a.x s 1\ng = fill a.x s 2\nend\n";
+
+const GRAPH: &[u8] =
+    b"realm 1\nspace s 0..3\ninst a s x\nf = fill a.x s 1\ng = fill a.x s 2 on f\nend\n";
 
 /// Serves a text, with these calls of the source and the sink failing.
 fn serves(
@@ -35,7 +38,12 @@ fn a_graph(rt: HostRuntime) -> Result<(), Fail> {
 
 #[test]
 fn a_refusal(rt: HostRuntime) -> Result<(), Fail> {
-    serves(rt.alloc(), GRAPH, (&[], &[]), (FlowStatus::Unread, b"refused line 1 header\n"))
+    serves(
+        rt.alloc(),
+        GRAPH,
+        (&[], &[]),
+        (FlowStatus::Unread, b"refused line 1 header\n"),
+    )
 }
 
 #[test]

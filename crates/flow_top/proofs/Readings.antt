@@ -1,5 +1,5 @@
 -- A flow's text has one flow, and the text that answers it one graph.
-use Rattle.std.proofs.Common.{◌≡◌, ℕ, false, List, ◌++◌, refl, sym, ◌∙◌, ap, subst}
+use Rattle.std.proofs.Common.{◌≡◌, ℕ, false, List, ◌++◌, sym, ◌∙◌, subst}
 use Rattle.std.proofs.lemmas.List.{append_cancel_left}
 use Rattle.graph_model.specs.declared.graph.format.Format.TheVariants.{One}
 use Rattle.graph_model.specs.graph.Graph.{GraphValue}
@@ -15,7 +15,7 @@ use Rattle.flow_top.specs.Laws.{Answered}
 
 one_flow : (reads : (bs : List ℕ) → OneReading bs) (bytes : List ℕ) (f h : GraphValue) → FlowText bytes f → FlowText bytes h → h ≡ f
 one_flow reads bytes f h a b = (reads (header One ++ a.rest)).one_graph h f
-  (subst (λ (rest : List ℕ). GraphText (header One ++ rest) h) (append_cancel_left flow_header b.rest a.rest (sym b.begins ∙ a.begins)) b.is_text) a.is_text
+    (subst (λ (rest : List ℕ). GraphText (header One ++ rest) h) (append_cancel_left flow_header b.rest a.rest (sym b.begins ∙ a.begins)) b.is_text) a.is_text
 
 pub answered : ((bs : List ℕ) → OneReading bs) → (bytes out : List ℕ) → IsFlowAnswer bytes out → Answered bytes out
 answered reads bytes out a = record {
