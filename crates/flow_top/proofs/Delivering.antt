@@ -1,9 +1,9 @@
 -- A text that is written and then flushed, and input that is read to its end.
-use Rattle.std.proofs.Common.{◌≡◌, ℕ, ◌+◌, ◌<◌, ◌≤◌, List, [], ◌++◌, length, sym, ◌∙◌, ap, subst, inl, inr, append-nil, length-append, arith}
+use Rattle.std.proofs.Common.{◌≡◌, ℕ, ◌≤◌, List, [], ◌++◌, sym, ◌∙◌, ap, subst, inl, inr, append-nil, arith}
 use Rattle.std.specs.Prelude.{Option, Some, None, IfSome}
 use Rattle.std.specs.Io.KnownBytes.{Consumes, IsAtEnd}
 use Rattle.realm_io.specs.SinkState.{SinkState}
-use Rattle.realm_io.specs.Told.{TookPrefix, Lost}
+use Rattle.realm_io.specs.Told.{TookPrefix}
 use Rattle.realm_io.specs.Written.{Wrote}
 use Rattle.realm_io.proofs.ToldFacts.{with_more-nil, took_after, rose_later}
 use Rattle.flow_top.specs.declared.status.FlowStatus.{FlowStatus}

@@ -1,15 +1,14 @@
 -- The text of a graph of format 1 whose lines are all those of a flow is, behind its first line, that of a flow.
-use Rattle.std.proofs.Common.{◌≡◌, ℕ, Bool, true, false, ◌&&◌, List, [], ◌++◌, refl, sym, ◌∙◌, ap, append_assoc, arith}
-use Rattle.std.specs.Prelude.{Option, Some, None, is_none, slice_get, slice_index, IsTrue}
+use Rattle.std.proofs.Common.{◌≡◌, ℕ, Bool, true, false, List, [], ◌++◌, refl, sym, ◌∙◌, ap, append_assoc, arith}
+use Rattle.std.specs.Prelude.{Option, Some, None, is_none, slice_index, IsTrue}
 use Rattle.std.proofs.lemmas.Bool.{true≢false, and_parts}
 use Rattle.graph_model.specs.declared.graph.format.Format.{Format}
 use Rattle.graph_model.specs.declared.graph.format.Format.TheVariants.{One, Two}
-use Rattle.graph_model.specs.declared.graph.verb.Line.{Line}
 use Rattle.graph_model.specs.graph.Graph.{GraphValue}
-use Rattle.graph_model.specs.graph.Spelling.{header, head, decls_text, lines_text}
-use Rattle.graph_reader.specs.Text.{closing, text, GraphText}
+use Rattle.graph_model.specs.graph.Spelling.{header, decls_text, lines_text}
+use Rattle.graph_reader.specs.Text.{closing, GraphText}
 use Rattle.task_flow.specs.Flow.{IsFlow, uses_columns}
-use Rattle.flow_top.specs.FlowText.{flow_header, FlowText, is_flow_line, AreFlowLines}
+use Rattle.flow_top.specs.FlowText.{flow_header, FlowText, AreFlowLines}
 
 none_is : (o : Option ℕ) → is_none o ≡ true → o ≡ None
 none_is None h = refl

@@ -1,2 +1,3 @@
 pub mod FlowLines
 pub mod Delivering
+pub mod Readings

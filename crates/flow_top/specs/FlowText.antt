@@ -5,7 +5,7 @@ use Rattle.graph_model.specs.declared.graph.verb.Line.{Line}
 use Rattle.graph_model.specs.declared.graph.why.Why.{Why}
 use Rattle.graph_model.specs.declared.graph.why.Why.TheVariants as why
 use Rattle.graph_model.specs.graph.Graph.{GraphValue}
-use Rattle.graph_model.specs.graph.Spelling.{header, spelled}
+use Rattle.graph_model.specs.graph.Spelling.{header}
 use Rattle.graph_reader.specs.Text.{GraphText}
 use Rattle.graph_reader.specs.FirstFault.{FirstFault}
 use Rattle.task_flow.specs.Flow.{IsFlow, uses_columns}

@@ -1,3 +1,4 @@
 pub mod FlowText
 pub mod Answer
 pub mod Served
+pub mod Laws

@@ -1,6 +1,6 @@
 use Rattle.std.proofs.Common.{List, ℕ, ◌∙◌, subst}
 use Rattle.graph_reader.specs.Text.{GraphText}
-use Rattle.flow_top.proofs.FlowLines.{flow_of, flow_text}
+use Rattle.flow_top.proofs.FlowLines.{flow_text}
 use Rattle.flow_top.proofs.reading.read_flow.Goals as goal
 
 pub returns-in-None-clause-text : goal.returns-in-None-clause-text
