@@ -1,4 +1,5 @@
 pub mod Ended
+pub mod Laws
 pub mod Linked
 pub mod Running
 pub mod Session

@@ -2,6 +2,7 @@
 #![tactic(auto)]
 
 mod ended;
+pub mod laws;
 mod linking;
 mod running;
 mod session;
