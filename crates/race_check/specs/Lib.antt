@@ -4,6 +4,7 @@ pub mod Search
 pub mod Refusal
 pub mod High
 pub mod Sweep
+pub mod NeedLine
 pub mod Words
 pub mod RuleWords
 pub mod Races

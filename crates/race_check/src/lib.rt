@@ -20,17 +20,20 @@ mod rows;
 mod sections;
 mod summaries;
 
-ghost use Rattle.std.specs.Prelude.{◌≡◌, ℕ, List, IfOk, IfErr};
+ghost use Rattle.std.specs.Prelude.{◌≡◌, ℕ, List, length, IfOk, IfErr, MatchOption};
 ghost use Rattle.graph_model.specs.graph.Graph.{upgraded};
 ghost use Rattle.graph_model.specs.meaning.Evaluation.{outcome};
 ghost use Rattle.graph_model.specs.meaning.Need.{IsNeed};
 ghost use Rattle.graph_model.specs.meaning.Rules.{Accepted};
+ghost use Rattle.race_check.specs.NeedLine.{IsNeedLine};
 ghost use Rattle.race_check.specs.Refusal.{IsRefusal, NamesLines};
 
 use crate::checked::{CheckRefusal, Checked, Unfit};
 use crate::judge::judge;
+use crate::need::need_line_of;
 use graph_model::graph::Graph;
 use graph_model::laws::upgrade_keeps_meaning;
+use index_spaces::NoMemory;
 use std::alloc::Global;
 
 /// Accepts a graph, or gives it back unchanged with the first rule that fails and the least lines
@@ -46,6 +49,15 @@ pub fn check(alloc: Global, graph: Graph) -> Result<Checked, Unfit>
         Ok(need) => Ok(Checked::new(graph, need)),
         Err(why) => Err(Unfit { graph, why }),
     }
+}
+
+/// The topmost line at which the need of a graph is reached: so many lines may be open there at once,
+/// itself and lines above it. `None` exactly where the graph has no lines.
+pub fn need_line(alloc: Global, checked: &Checked) -> Result<Option<u32>, NoMemory>
+    ensures { IfOk result (λ o. MatchOption o (length checked.now.graph.lines ≡ 0) (IsNeedLine checked.now.graph checked.now.need)) }
+{
+    let need = checked.need();
+    need_line_of(alloc, checked.graph(), need)
 }
 
 /// The accepted graph in format 2, which is accepted too, with the same need and the same outcome.
