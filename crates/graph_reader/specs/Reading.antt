@@ -1,5 +1,5 @@
 -- What the reader of one line gives.
-use Rattle.std.specs.Prelude.{Bool, nat_le, ◌&&◌, length, slice_index_or, codes, cond, not, Option, Result, Ok, Err, ◌≡◌, ℕ, List, Some, None, ◌⊎◌, ◌==◌, [], ◌∷◌, true, false}
+use Rattle.std.specs.Prelude.{Bool, nat_le, nat_lt, ◌+◌, ◌&&◌, length, slice_index_or, codes, cond, not, Option, Result, Ok, Err, ◌≡◌, ℕ, List, Some, None, ◌⊎◌, ◌==◌, [], ◌∷◌, true, false}
 use Rattle.std.specs.List.{after_first, list_all}
 use Rattle.std.proofs.Common.{inl, inr}
 use Rattle.graph_model.specs.declared.graph.decl.Decl.{Decl}
@@ -15,7 +15,11 @@ use Rattle.index_spaces.specs.declared.space.SpaceFault.TheVariants as spaces
 use Rattle.std.specs.Str.{bytes_eq}
 use Rattle.graph_reader.specs.Words.{pieces, ascend_from}
 use Rattle.graph_reader.specs.Draft.{Draft, draft, SpaceName, space_number}
-use Rattle.graph_reader.specs.FirstFault.{words_fault, draft_fault, unlike, or_else, FirstFault}
+use Rattle.graph_reader.specs.FirstFault.{words_fault, draft_fault, unlike, or_else, FirstFault, IsHeaderFault, IsLineFault, IsRestFault}
+use Rattle.graph_reader.specs.Text.{GraphText}
+use Rattle.graph_model.specs.declared.graph.limits.TheConstants.{MAX_TEXT}
+use Rattle.graph_reader.specs.declared.reader.Reading.{Reading}
+use Rattle.graph_reader.specs.declared.reader.Reading.TheVariants as readings
 use Rattle.graph_reader.specs.declared.item.Item.{Item}
 use Rattle.graph_reader.specs.declared.item.Item.TheVariants as items
 use Rattle.graph_reader.specs.declared.item.ItemError.{ItemError}
@@ -32,6 +36,24 @@ item_value (items.Line l) = inr l
 abbrev pub IsRefusal : List ℕ → ReadRefusal → Type 0
 IsRefusal bytes (refusals.Line number reason) = FirstFault bytes number reason
 IsRefusal bytes refusals.NoMemory = Unit {0}
+
+-- a refused line, with the graph of the lines above it where the reason is one of a line between the first and the closing one
+abbrev pub IsUnreadBy : List ℕ → ℕ → Why → Option GraphValue → Type 0
+IsUnreadBy bytes number reason None = IsHeaderFault bytes number reason ⊎ IsRestFault bytes number reason
+IsUnreadBy bytes number reason (Some g) = (f : IsLineFault bytes number reason) × (f.before ≡ g)
+
+-- what bytes are read as: a graph's text, or their first refused line with its first reason
+abbrev pub IsReadAs : List ℕ → Reading → Type 0
+IsReadAs bytes (readings.Graph g) = GraphText bytes g
+IsReadAs bytes (readings.Refused u) = IsUnreadBy bytes u.number u.why u.above
+
+-- a text of so many bytes that is closed in the line of this number, with more bytes behind it
+abbrev pub more_reading : GraphValue → ℕ → List ℕ → Reading
+more_reading g number [] = readings.Graph g
+more_reading g number (b ∷ bs) = readings.Refused (record { number = number + 1; why = why.Rest; above = None })
+
+abbrev pub closed_reading : GraphValue → ℕ → List ℕ → ℕ → Reading
+closed_reading g number after bytes = cond (nat_lt MAX_TEXT bytes) (readings.Refused (record { number = number; why = why.Limit; above = Some g })) (more_reading g number after)
 
 -- the bytes behind the first newline
 abbrev pub after_line : List ℕ → List ℕ

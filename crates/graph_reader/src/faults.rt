@@ -1,25 +1,25 @@
-//! What refuses the words of an operation line.
+//! What refuses words of an operation line.
 
 ghost use Rattle.std.specs.Prelude.{◌≡◌, ◌||◌};
 
 /// What is to be said of one of the words at least.
 #[derive(Clone, Copy)]
-pub(crate) struct Faults {
+pub struct Faults {
     /// It is not spelled as its place asks, where it asks for names.
-    pub(crate) misnamed: bool,
+    pub misnamed: bool,
     /// It names what was ended or released already.
-    pub(crate) twice: bool,
+    pub twice: bool,
     /// It names what is not declared, or a field that its instance has not.
-    pub(crate) unknown: bool,
+    pub unknown: bool,
     /// It names a thing of another kind than its place takes.
-    pub(crate) unlike: bool,
+    pub unlike: bool,
     /// It is not spelled as the number that its place asks for.
-    pub(crate) misnumbered: bool,
+    pub misnumbered: bool,
 }
 
 impl Faults {
     /// With those of more words.
-    pub(crate) fn with(self, more: Faults) -> Faults
+    pub fn with(self, more: Faults) -> Faults
         ensures misnamed { result.misnamed ≡ (self.misnamed || more.misnamed) }
         ensures twice { result.twice ≡ (self.twice || more.twice) }
         ensures unknown { result.unknown ≡ (self.unknown || more.unknown) }

@@ -58,7 +58,7 @@ fn each_interval(alloc: Global, words: &[&[u8]]) -> Result<Option<Vec<(u32, u32)
 }
 
 /// The intervals that a word spells, with a comma between each two.
-pub(crate) fn intervals(alloc: Global, word: &[u8]) -> Result<Option<Vec<(u32, u32)>>, NoMemory>
+pub fn intervals(alloc: Global, word: &[u8]) -> Result<Option<Vec<(u32, u32)>>, NoMemory>
     ensures { IfOk result (λ o. Gives (λ v. v.items) o (intervals_of word.now)) }
 {
     let words = split(alloc, word, b',')?;

@@ -4,25 +4,25 @@
 mod checks;
 mod cuts;
 mod decls;
-mod faults;
+pub mod faults;
 mod forms;
-mod intervals;
+pub mod intervals;
 mod item;
 pub mod laws;
 mod lines;
 mod lookup;
 mod merges;
-mod names;
-mod numbers;
+pub mod names;
+pub mod numbers;
 mod parts;
 mod reader;
-mod seen;
+pub mod seen;
 mod word_kinds;
-mod words;
+pub mod words;
 mod writer;
 
 use graph_model::why::Why;
-pub use reader::read_graph;
+pub use reader::{Reading, Unread, read_graph, read_text};
 pub use word_kinds::{put_column_name, put_interval};
 pub use writer::put_graph;
 

@@ -13,7 +13,7 @@ use std::alloc::Global;
 use std::collections::BTreeSet;
 
 /// The words as names. `None` exactly where one of them is spelled otherwise.
-pub(crate) fn names_of(alloc: Global, words: &[&[u8]]) -> Result<Option<Vec<Name>>, NoMemory>
+pub fn names_of(alloc: Global, words: &[&[u8]]) -> Result<Option<Vec<Name>>, NoMemory>
     ensures { IfOk result (λ o. MatchOption o (list_all is_name (contents words.now) ≡ false)
         (λ v. (v.items ≡ contents words.now) × (list_all is_name (contents words.now) ≡ true))) }
 {
@@ -30,7 +30,7 @@ pub(crate) fn names_of(alloc: Global, words: &[&[u8]]) -> Result<Option<Vec<Name
 }
 
 /// Whether a name stands there twice.
-pub(crate) fn has_repeat(alloc: Global, names: &[Name]) -> Result<bool, NoMemory>
+pub fn has_repeat(alloc: Global, names: &[Name]) -> Result<bool, NoMemory>
     ensures { IfOk result (λ b. b ≡ repeats bytes_eq names.now) }
 {
     let mut seen = BTreeSet::new(alloc);

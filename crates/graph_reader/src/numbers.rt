@@ -16,7 +16,7 @@ pub(crate) fn value(word: &[u8]) -> Option<u64>
 }
 
 /// The number of arrivals that a word spells, from 1 to 8,192.
-pub(crate) fn count(word: &[u8]) -> Option<u32>
+pub fn count(word: &[u8]) -> Option<u32>
     ensures { result ≡ count_of word.now }
 {
     match number_up_to(word, u64::from(MAX_COUNT)) {

@@ -1,11 +1,12 @@
 //! Reading a graph from its text.
 
-ghost use Rattle.std.specs.Prelude.{◌≡◌, ◌++◌, None, OnOk, IfOk, IfErr, MatchOption};
+ghost use Rattle.std.specs.Prelude.{◌≡◌, ◌++◌, ◌-◌, ◌^◌, ◌<◌, Some, None, OnOk, OnErr, IfOk, IfErr, MatchOption};
 ghost use Rattle.graph_model.specs.graph.Spelling.{header};
 ghost use Rattle.graph_reader.specs.FirstFault.{HasNoHeader};
 ghost use Rattle.graph_reader.specs.Words.{pieces};
 ghost use Rattle.graph_reader.specs.Text.{GraphText};
-ghost use Rattle.graph_reader.specs.Reading.{item_value, with_value, open_fault, MayFollow, IsOpenError, IsTaken, IsWordsError, IsRefusal};
+ghost use Rattle.graph_reader.specs.Reading.{item_value, with_value, open_fault, MayFollow, IsOpenError, IsTaken, IsWordsError, IsRefusal, IsReadAs, closed_reading};
+ghost use Rattle.graph_reader.specs.declared.reader.Reading.{Reading};
 
 use crate::ReadRefusal;
 use crate::cuts::cut;
@@ -14,6 +15,7 @@ use crate::lines::read_item;
 use graph_model::format::Format;
 use graph_model::graph::Graph;
 use graph_model::why::Why;
+use index_spaces::NoMemory;
 use std::alloc::Global;
 
 /// The bytes that a text may have.
@@ -32,11 +34,12 @@ fn read_header(bytes: &[u8]) -> Option<(Format, &[u8])>
     }
 }
 
-/// Puts an item at the end, where it fits.
+/// Puts an item at the end, where it fits; else the graph stays as it was.
 fn add_item(graph: &mut Graph, item: Item) -> Result<(), ItemError>
     requires { MayFollow graph.old (item_value item) }
     ensures added { OnOk result ((open_fault graph.old (item_value item) ≡ None) × (graph.new ≡ with_value graph.old (item_value item))) }
     ensures refused { IfErr result (IsOpenError graph.old (item_value item)) }
+    ensures stays { OnErr result (graph.new ≡ graph.old) }
 {
     match item {
         Item::Decl(decl) => match graph.add_decl(decl) {
@@ -51,7 +54,8 @@ fn add_item(graph: &mut Graph, item: Item) -> Result<(), ItemError>
     }
 }
 
-/// Puts what a line of the text spells at the end. The list serves for its words.
+/// Puts what a line of the text spells at the end; where it spells nothing that fits, the graph stays as it was. The list
+/// serves for its words.
 fn take_line<'a>(
     alloc: Global,
     graph: &mut Graph,
@@ -60,9 +64,87 @@ fn take_line<'a>(
 ) -> Result<(), ItemError>
     ensures taken { OnOk result (IsTaken graph.old (pieces 32 line.now) graph.new) }
     ensures refused { IfErr result (IsWordsError graph.old (pieces 32 line.now)) }
+    ensures stays { OnErr result (graph.new ≡ graph.old) }
 {
     let item = read_item(alloc, graph, words, line)?;
     add_item(graph, item)
+}
+
+/// What bytes are read as.
+#[derive(Drop)]
+pub enum Reading {
+    /// They are the text of this graph.
+    Graph(Graph),
+    /// They are the text of no graph.
+    Refused(Unread),
+}
+
+/// The first refused line of bytes, counted from 1, and the first reason that refuses it.
+#[derive(Drop)]
+pub struct Unread {
+    pub number: u32,
+    pub why: Why,
+    /// The graph of the lines above it. `None` where that is no such line: the first one has to name
+    /// the format, and no line may stand below the closing one.
+    pub above: Option<Graph>,
+}
+
+/// What bytes are read as.
+pub fn read_text(alloc: Global, bytes: &[u8]) -> Result<Reading, NoMemory>
+    ensures { IfOk result (IsReadAs bytes.now) }
+{
+    let Some((format, mut rest)) = read_header(bytes) else {
+        return Ok(Reading::Refused(Unread {
+            number: 1,
+            why: Why::Header,
+            above: None,
+        }));
+    };
+    let mut graph = Graph::of_format(alloc, format);
+    let mut words = Vec::new(alloc);
+    let mut number: u32 = 2;
+    while let Some((line, after)) = cut(rest, b'\n') {
+        if line == b"end".as_slice() {
+            return Ok(closed(graph, number, after, bytes.len() - after.len()));
+        }
+        match take_line(alloc, &mut graph, &mut words, line) {
+            Ok(()) => {}
+            Err(ItemError::Refused(why)) => return Ok(refused_behind(graph, number, why)),
+            Err(ItemError::NoMemory) => return Err(NoMemory),
+        }
+        rest = after;
+        number += 1;
+    }
+    Ok(refused_behind(graph, number, Why::Missing))
+}
+
+/// A line that is refused behind the text of a graph that is not closed.
+fn refused_behind(graph: Graph, number: u32, why: Why) -> Reading
+    ensures { result ≡ Reading.Refused (record { number = number; why = why; above = Some graph }) }
+{
+    Reading::Refused(Unread {
+        number,
+        why,
+        above: Some(graph),
+    })
+}
+
+/// A text that is closed in the line of this number, with the bytes behind it and how many there are before these.
+fn closed(graph: Graph, number: u32, after: &[u8], bytes: usize) -> Reading
+    requires { number < 2 ^ 32 - 1 }
+    ensures { result ≡ closed_reading graph number after.now bytes }
+{
+    if bytes > MAX_BYTES {
+        return refused_behind(graph, number, Why::Limit);
+    }
+    if after.is_empty() {
+        return Reading::Graph(graph);
+    }
+    Reading::Refused(Unread {
+        number: number + 1,
+        why: Why::Rest,
+        above: None,
+    })
 }
 
 /// The graph whose text the bytes are. `Line` exactly where they are no graph's text: the first
@@ -72,45 +154,9 @@ pub fn read_graph(alloc: Global, bytes: &[u8]) -> Result<Graph, ReadRefusal>
     ensures text { IfOk result (λ g. GraphText bytes.now g) }
     ensures refusal { IfErr result (λ e. IsRefusal bytes.now e) }
 {
-    let Some((format, mut rest)) = read_header(bytes) else {
-        return Err(ReadRefusal::Line {
-            number: 1,
-            why: Why::Header,
-        });
-    };
-    let mut graph = Graph::of_format(alloc, format);
-    let mut words = Vec::new(alloc);
-    let mut number: u32 = 2;
-    while let Some((line, after)) = cut(rest, b'\n') {
-        if line == b"end".as_slice() {
-            if bytes.len() - after.len() > MAX_BYTES {
-                return Err(ReadRefusal::Line {
-                    number,
-                    why: Why::Limit,
-                });
-            }
-            if !after.is_empty() {
-                return Err(ReadRefusal::Line {
-                    number: number + 1,
-                    why: Why::Rest,
-                });
-            }
-            return Ok(graph);
-        }
-        match take_line(alloc, &mut graph, &mut words, line) {
-            Ok(()) => {}
-            Err(ItemError::Refused(why)) => {
-                return Err(ReadRefusal::Line { number, why });
-            }
-            Err(ItemError::NoMemory) => {
-                return Err(ReadRefusal::NoMemory);
-            }
-        }
-        rest = after;
-        number += 1;
+    match read_text(alloc, bytes) {
+        Ok(Reading::Graph(graph)) => Ok(graph),
+        Ok(Reading::Refused(Unread { number, why, .. })) => Err(ReadRefusal::Line { number, why }),
+        Err(NoMemory) => Err(ReadRefusal::NoMemory),
     }
-    Err(ReadRefusal::Line {
-        number,
-        why: Why::Missing,
-    })
 }

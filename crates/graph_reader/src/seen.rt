@@ -19,13 +19,13 @@ use graph_model::table::Place;
 
 /// What is to be said of a word in its place.
 #[derive(Clone, Copy)]
-pub(crate) struct Seen {
+pub struct Seen {
     /// What refuses it.
-    pub(crate) faults: Faults,
+    pub faults: Faults,
     /// The number of what it names, or 0.
-    pub(crate) number: u32,
+    pub number: u32,
     /// The value that it spells, or 0.
-    pub(crate) value: u64,
+    pub value: u64,
 }
 
 fn number(place: Place, found: Option<Found>) -> Option<u32>
@@ -89,7 +89,7 @@ fn see_name(graph: &Graph, place: Place, word: &[u8]) -> Seen
 }
 
 /// What is to be said of the name of an event.
-pub(crate) fn see_event(graph: &Graph, word: &[u8]) -> Seen
+pub fn see_event(graph: &Graph, word: &[u8]) -> Seen
     ensures { Tells graph.now EventName word.now result }
 {
     let Lookup { misnamed, found } = look_up(graph, word);
@@ -195,7 +195,7 @@ fn see_weight(word: &[u8]) -> Seen
 }
 
 /// What is to be said of a word in its place.
-pub(crate) fn see(graph: &Graph, place: Place, word: &[u8]) -> Seen
+pub fn see(graph: &Graph, place: Place, word: &[u8]) -> Seen
     ensures { Tells graph.now (as_place place) word.now result }
 {
     match place {

@@ -32,7 +32,7 @@ pub(crate) fn split_into<'a>(
 }
 
 /// The pieces of bytes between the separators.
-pub(crate) fn split(alloc: Global, bytes: &[u8], separator: u8) -> Result<Vec<&[u8]>, NoMemory>
+pub fn split(alloc: Global, bytes: &[u8], separator: u8) -> Result<Vec<&[u8]>, NoMemory>
     ensures { IfOk result (λ v. contents v.items ≡ pieces separator bytes.now) }
 {
     let mut words = Vec::new(alloc);
@@ -41,7 +41,7 @@ pub(crate) fn split(alloc: Global, bytes: &[u8], separator: u8) -> Result<Vec<&[
 }
 
 /// The word at a place, or no byte where there is none.
-pub(crate) fn word<'a>(words: &[&'a [u8]], i: usize) -> &'a [u8]
+pub fn word<'a>(words: &[&'a [u8]], i: usize) -> &'a [u8]
     ensures { result.now ≡ slice_index_or (contents words.now) i [] }
 {
     match words.get(i) {
@@ -51,7 +51,7 @@ pub(crate) fn word<'a>(words: &[&'a [u8]], i: usize) -> &'a [u8]
 }
 
 /// The words behind the first `n`.
-pub(crate) fn behind<'a, 'b>(words: &'b [&'a [u8]], n: usize) -> &'b [&'a [u8]]
+pub fn behind<'a, 'b>(words: &'b [&'a [u8]], n: usize) -> &'b [&'a [u8]]
     requires { n ≤ length words.now }
     ensures { contents result.now ≡ drop n (contents words.now) }
 {
@@ -88,7 +88,7 @@ pub(crate) fn place_count(kind: Kind) -> usize
 }
 
 /// Whether `on` and a word follow the words of a kind.
-pub(crate) fn has_on(kind: Kind, rest: &[&[u8]]) -> bool
+pub fn has_on(kind: Kind, rest: &[&[u8]]) -> bool
     ensures { result ≡ has_on (form_of kind) (contents rest.now) }
 {
     let places = place_count(kind);
@@ -144,7 +144,7 @@ fn is_of_kind(format: Format, words: &[&[u8]], kind: Kind) -> bool
 }
 
 /// The kind of the words behind the sign.
-pub(crate) fn kind_of(format: Format, words: &[&[u8]]) -> Option<Kind>
+pub fn kind_of(format: Format, words: &[&[u8]]) -> Option<Kind>
     ensures { result ≡ find (λ k. is_of_form format (contents words.now) (form_of k)) KINDS }
 {
     KINDS

@@ -1,6 +1,6 @@
 use Rattle.std.proofs.Common.{length}
 use Rattle.graph_reader.proofs.ReadSoFar.{ReadSoFar}
-use Rattle.graph_reader.proofs.reader.read_graph.Given as goal
+use Rattle.graph_reader.proofs.reader.read_text.Given as goal
 
 abbrev pub invariant-loop-line : goal.invariant-loop-line
 invariant-loop-line l = ReadSoFar l.fn.bytes l.graph l.rest l.number
