@@ -19,7 +19,7 @@ down_below (suc n) i c = elim (contains_cases n (down_from n) i c) [
   | inr rest ↦ (let b : i < n = down_below n i rest in omega arith)
 ]
 
-below_down : (n i : ℕ) → i < n → Contains (down_from n) i
+pub below_down : (n i : ℕ) → i < n → Contains (down_from n) i
 below_down zero i h = absurd (omega arith)
 below_down (suc n) i h = elim (cases_order i n) [
   | inl same ↦ subst (λ x. Contains (n ∷ down_from n) x) (sym same) (contains_here n (down_from n))
@@ -27,10 +27,10 @@ below_down (suc n) i h = elim (cases_order i n) [
   | inr (inr above) ↦ absurd (omega arith)
 ]
 
-has_contains : (ks : List ℕ) (i : ℕ) → has ks i ≡ true → Contains ks i
+pub has_contains : (ks : List ℕ) (i : ℕ) → has ks i ≡ true → Contains ks i
 has_contains ks i h = let s = some_passes (λ k. k == i) ks h in subst (λ x. Contains ks x) (eqb-true s.0 i s.2) s.1
 
-contains_has : (ks : List ℕ) (i : ℕ) → Contains ks i → has ks i ≡ true
+pub contains_has : (ks : List ℕ) (i : ℕ) → Contains ks i → has ks i ≡ true
 contains_has ks i c = passes_some (λ k. k == i) ks i c (eq-eqb i i refl)
 
 flat_in : (ps : List (List ℕ)) (i : ℕ) → Contains (flat_map (λ p. p) ps) i → (p : List ℕ) × Contains ps p × Contains p i
@@ -171,7 +171,7 @@ module _ (f : GraphValue) (commute : Bool) where
         ],
       )
 
-  chain_chain : {i k j : ℕ} → Chain f commute i k → Chain f commute k j → Chain f commute i j
+  pub chain_chain : {i k j : ℕ} → Chain f commute i k → Chain f commute k j → Chain f commute i j
   chain_chain c (last d) = chain_push f commute c d
   chain_chain c (first d r) = chain_chain (chain_push f commute c d) r
 

@@ -1,8 +1,8 @@
 -- The loops that find the sources of a line, by rows of what reaches the lines above it.
-use Rattle.std.proofs.Common.{◌≡◌, ℕ, zero, suc, ◌+◌, ◌-◌, ◌<◌, ◌≤◌, Bool, true, false, cond, not, ◌||◌, ◌⊎◌, inl, inr, List, [], ◌∷◌, ◌++◌, length, take, refl, sym, ◌∙◌, ap, subst, append_assoc, append-nil, length-append, arith}
+use Rattle.std.proofs.Common.{◌≡◌, ℕ, zero, suc, ◌+◌, ◌/◌, ◌<◌, ◌≤◌, Bool, true, false, cond, not, ◌||◌, inl, inr, List, [], ◌∷◌, ◌++◌, length, take, refl, sym, ◌∙◌, ap, subst, append_assoc, append-nil, length-append, arith}
 use Rattle.std.specs.Prelude.{Contains, ◌==◌, filter, flat_map, Some, slice_get, slice_index_or}
 use Rattle.std.specs.List.{list_any}
-use Rattle.std.proofs.lemmas.Bool.{true≢false, cases_Bool, cases_lt}
+use Rattle.std.proofs.lemmas.Bool.{cases_Bool, cases_lt}
 use Rattle.std.proofs.lemmas.List.Folds.{list_any-append}
 use Rattle.std.proofs.lemmas.List.Concat.{flat_map-append}
 use Rattle.std.proofs.lemmas.List.Elements.{Contains-append_cases, filter-append}
@@ -13,7 +13,7 @@ use Rattle.graph_model.specs.graph.Access.{accesses}
 use Rattle.task_flow.specs.Meaning.{accesses_tie}
 use Rattle.task_flow.specs.Bits.{word_bit}
 use Rattle.task_flow.specs.Rows.{AreRows, parts_at}
-use Rattle.task_flow.specs.Construction.{Parts, down_from, is_large, is_reached, least, reaches, parts_of, all_of, sources_after, tied_by}
+use Rattle.task_flow.specs.Construction.{Parts, down_from, has, is_large, is_reached, least, reaches, parts_of, all_of, sources_after, tied_by}
 use Rattle.task_flow.proofs.FlowSide.{depends_below}
 use Rattle.task_flow.proofs.Lists.{at_left, at_end, down_below, least_within}
 use Rattle.task_flow.proofs.Scans.{take_more}
@@ -37,17 +37,17 @@ or_turn true false = refl
 or_turn false true = refl
 or_turn false false = refl
 
-module _ (f : GraphValue) where
+module _ (f : GraphValue) (commute : Bool) where
   abbrev pub table : ℕ → List (List ℕ)
-  table n = sources_after f false n
+  table n = sources_after f commute n
 
-  first_has_none : (k : ℕ) → Contains (sources_of f false 0) k → ⊥
-  first_has_none k c = let b : k < 0 = depends_below f false k 0 (sources_sound f false 0 k c) in absurd (omega arith)
+  first_has_none : (k : ℕ) → Contains (sources_of f commute 0) k → ⊥
+  first_has_none k c = let b : k < 0 = depends_below f commute k 0 (sources_sound f commute 0 k c) in absurd (omega arith)
 
   -- what reaches a line is the same by longer tables and in more steps
   none_reaches : (n m i : ℕ) → 0 < n → reaches (table n) m i 0 ≡ false
   none_reaches n zero i h = refl
-  none_reaches n (suc m) i h = ap (list_any (λ z. (z == i) || reaches (table n) m i z)) (table_at f false n 0 h) ∙ (any_same (λ z. (z == i) || reaches (table n) m i z) (λ z. false) (sources_of f false 0) (λ z c. absurd (first_has_none z c)) ∙ all_false (sources_of f false 0))
+  none_reaches n (suc m) i h = ap (list_any (λ z. (z == i) || reaches (table n) m i z)) (table_at f commute n 0 h) ∙ (any_same (λ z. (z == i) || reaches (table n) m i z) (λ z. false) (sources_of f commute 0) (λ z c. absurd (first_has_none z c)) ∙ all_false (sources_of f commute 0))
     where
       all_false : (xs : List ℕ) → list_any (λ z. false) xs ≡ false
       all_false [] = refl
@@ -59,19 +59,19 @@ module _ (f : GraphValue) where
   agree (suc bound) n zero n' m' (suc k) i h a b c d = absurd (let x : suc k ≤ 0 = c in omega arith)
   agree (suc bound) n (suc m) n' zero (suc k) i h a b c d = absurd (let x : suc k ≤ 0 = d in omega arith)
   agree (suc bound) n (suc m) n' (suc m') (suc k) i h a b c d =
-      ap (list_any (λ z. (z == i) || reaches (table n) m i z)) (table_at f false n (suc k) a)
-      ∙ (any_same (λ z. (z == i) || reaches (table n) m i z) (λ z. (z == i) || reaches (table n') m' i z) (sources_of f false (suc k)) (λ z e.
-      let below : z < suc k = depends_below f false z (suc k) (sources_sound f false (suc k) z e) in
+      ap (list_any (λ z. (z == i) || reaches (table n) m i z)) (table_at f commute n (suc k) a)
+      ∙ (any_same (λ z. (z == i) || reaches (table n) m i z) (λ z. (z == i) || reaches (table n') m' i z) (sources_of f commute (suc k)) (λ z e.
+      let below : z < suc k = depends_below f commute z (suc k) (sources_sound f commute (suc k) z e) in
       ap (λ x. (z == i) || x) (agree bound n m n' m' z i (omega arith) (omega arith) (omega arith) (omega arith) (omega arith)))
-      ∙ ap (list_any (λ z. (z == i) || reaches (table n') m' i z)) (sym (table_at f false n' (suc k) b)))
+      ∙ ap (list_any (λ z. (z == i) || reaches (table n') m' i z)) (sym (table_at f commute n' (suc k) b)))
 
   -- the row of the next line, and of the lines before it
-  pub row_next : (n i : ℕ) → is_reached (table n) (sources_of f false n) i ≡ reaches (table (n + 1)) n i n
+  pub row_next : (n i : ℕ) → is_reached (table n) (sources_of f commute n) i ≡ reaches (table (n + 1)) n i n
   row_next n i = sym (ap (λ z. reaches (table z) n i n) (let e : n + 1 ≡ suc n = omega arith in e)
       ∙ (agree (suc n) (suc n) n (suc n) (suc n) n i (omega arith) (omega arith) (omega arith) (omega arith) (omega arith)
-      ∙ (ap (list_any (λ z. (z == i) || reaches (table (suc n)) n i z)) (table_at f false (suc n) n (omega arith))
-      ∙ any_same (λ z. (z == i) || reaches (table (suc n)) n i z) (λ z. (z == i) || reaches (table n) z i z) (sources_of f false n) (λ z e.
-      let below : z < n = depends_below f false z n (sources_sound f false n z e) in
+      ∙ (ap (list_any (λ z. (z == i) || reaches (table (suc n)) n i z)) (table_at f commute (suc n) n (omega arith))
+      ∙ any_same (λ z. (z == i) || reaches (table (suc n)) n i z) (λ z. (z == i) || reaches (table n) z i z) (sources_of f commute n) (λ z e.
+      let below : z < n = depends_below f commute z n (sources_sound f commute n z e) in
       ap (λ x. (z == i) || x) (agree n (suc n) n n z z i (omega arith) (omega arith) (omega arith) (omega arith) (omega arith))))))
 
   pub row_keeps : (n k i : ℕ) → k < n → reaches (table n) k i k ≡ reaches (table (n + 1)) k i k
@@ -98,81 +98,111 @@ module _ (f : GraphValue) where
       flat : flat_map (λ (p : List ℕ). p) (take (j + 1) kept) ≡ flat_map (λ (p : List ℕ). p) (take j kept) ++ part
       flat = ap (flat_map (λ (p : List ℕ). p)) (take_more kept j part at) ∙ (flat_map-append (λ (p : List ℕ). p) (take j kept) (part ∷ []) ∙ ap (λ xs. flat_map (λ (p : List ℕ). p) (take j kept) ++ xs) (append-nil part))
 
-  -- one step down through the lines that are asked for
-  filter_down : (t : ℕ → Bool) (i : ℕ) (b : Bool) → t i ≡ b → filter t (down_from (suc i)) ≡ cond b (i ∷ filter t (down_from i)) (filter t (down_from i))
-  filter_down t i b e = ap (λ x. cond x (i ∷ filter t (down_from i)) (filter t (down_from i))) e
+  -- from one line that is asked for down to the next
+  filter_gap : (t : ℕ → Bool) (low high : ℕ) → low ≤ high → ((i : ℕ) → low ≤ i → i < high → t i ≡ false) → filter t (down_from high) ≡ filter t (down_from low)
+  filter_gap t low zero h none = ap (λ z. filter t (down_from z)) (let e : zero ≡ low = omega arith in e)
+  filter_gap t low (suc high) h none = elim (cases_lt high low) [
+    | inl top ↦ ap (λ z. filter t (down_from z)) (let e : suc high ≡ low = omega arith in e)
+    | inr more ↦ ap (λ x. cond x (high ∷ filter t (down_from high)) (filter t (down_from high))) (none high more (omega arith)) ∙ filter_gap t low high more (λ i a b. none i a (omega arith))
+  ]
 
-  one_down : (line : ℕ) → 0 < line → down_from line ≡ (line - 1) ∷ down_from (line - 1)
-  one_down zero h = absurd (omega arith)
-  one_down (suc line) h = ap (λ z. z ∷ down_from z) (let e : line ≡ suc line - 1 = omega arith in e)
+  filter_next : (t : ℕ → Bool) (line above : ℕ) → line < above → t line ≡ true → ((i : ℕ) → line < i → i < above → t i ≡ false) → filter t (down_from above) ≡ line ∷ filter t (down_from line)
+  filter_next t line above h asked none =
+      filter_gap t (suc line) above (omega arith) (λ i a b. none i (omega arith) b) ∙ ap (λ x. cond x (line ∷ filter t (down_from line)) (filter t (down_from line))) asked
 
   -- a line that is kept
-  pub least_keeps : (n : ℕ) (t : ℕ → Bool) (start all part part' : List ℕ) (line : ℕ) → 0 < line → all ≡ part ++ least (table n) (start ++ part) (filter t (down_from line)) → is_reached (table n) (start ++ part) (line - 1) ≡ false → t (line - 1) ≡ true → part' ≡ part ++ (line - 1) ∷ [] →
-      all ≡ part' ++ least (table n) (start ++ part') (filter t (down_from (line - 1)))
-  least_keeps n t start all part part' line h is out asked pushed =
-      let i = line - 1 in
-      let rest = filter t (down_from (line - 1)) in
-      is ∙ (ap (λ xs. part ++ least (table n) (start ++ part) xs) (ap (filter t) (one_down line h) ∙ ap (λ x. cond x (i ∷ rest) rest) asked)
-      ∙ (ap (λ x. part ++ cond x (least (table n) (start ++ part) rest) (i ∷ least (table n) ((start ++ part) ++ i ∷ []) rest)) out
-      ∙ (sym (append_assoc part (i ∷ []) (least (table n) ((start ++ part) ++ i ∷ []) rest))
-      ∙ (ap (λ ks. (part ++ i ∷ []) ++ least (table n) ks rest) (append_assoc start part (i ∷ []))
+  pub least_keeps : (n : ℕ) (t : ℕ → Bool) (start all part part' : List ℕ) (above line : ℕ) → line < above → t line ≡ true → ((i : ℕ) → line < i → i < above → t i ≡ false) → all ≡ part ++ least (table n) (start ++ part) (filter t (down_from above)) → is_reached (table n) (start ++ part) line ≡ false → part' ≡ part ++ line ∷ [] →
+      all ≡ part' ++ least (table n) (start ++ part') (filter t (down_from line))
+  least_keeps n t start all part part' above line h asked none is out pushed =
+      let rest = filter t (down_from line) in
+      is ∙ (ap (λ xs. part ++ least (table n) (start ++ part) xs) (filter_next t line above h asked none)
+      ∙ (ap (λ x. part ++ cond x (least (table n) (start ++ part) rest) (line ∷ least (table n) ((start ++ part) ++ line ∷ []) rest)) out
+      ∙ (sym (append_assoc part (line ∷ []) (least (table n) ((start ++ part) ++ line ∷ []) rest))
+      ∙ (ap (λ ks. (part ++ line ∷ []) ++ least (table n) ks rest) (append_assoc start part (line ∷ []))
       ∙ ap (λ p. p ++ least (table n) (start ++ p) rest) (sym pushed)))))
 
-  -- a line that is not: it is reached, or not asked for
-  pub least_skips : (n : ℕ) (t : ℕ → Bool) (start all part : List ℕ) (line : ℕ) → 0 < line → all ≡ part ++ least (table n) (start ++ part) (filter t (down_from line)) → (is_reached (table n) (start ++ part) (line - 1) ≡ true) ⊎ (t (line - 1) ≡ false) →
-      all ≡ part ++ least (table n) (start ++ part) (filter t (down_from (line - 1)))
-  least_skips n t start all part line h is why = is ∙ (ap (λ xs. part ++ least (table n) (start ++ part) xs) (ap (filter t) (one_down line h)) ∙ ap (λ xs. part ++ xs) (by (t (line - 1)) refl))
-    where
-      by : (b : Bool) → t (line - 1) ≡ b → least (table n) (start ++ part) (cond b ((line - 1) ∷ filter t (down_from (line - 1))) (filter t (down_from (line - 1)))) ≡ least (table n) (start ++ part) (filter t (down_from (line - 1)))
-      by false e = refl
-      by true e = elim why [
-        | inl reached ↦ ap (λ x. cond x (least (table n) (start ++ part) (filter t (down_from (line - 1)))) ((line - 1) ∷ least (table n) ((start ++ part) ++ (line - 1) ∷ []) (filter t (down_from (line - 1))))) reached
-        | inr fails ↦ absurd (true≢false (sym e ∙ fails))
-      ]
+  -- a line that is reached
+  pub least_skips : (n : ℕ) (t : ℕ → Bool) (start all part : List ℕ) (above line : ℕ) → line < above → t line ≡ true → ((i : ℕ) → line < i → i < above → t i ≡ false) → all ≡ part ++ least (table n) (start ++ part) (filter t (down_from above)) → is_reached (table n) (start ++ part) line ≡ true →
+      all ≡ part ++ least (table n) (start ++ part) (filter t (down_from line))
+  least_skips n t start all part above line h asked none is reached =
+      let rest = filter t (down_from line) in
+      is ∙ (ap (λ xs. part ++ least (table n) (start ++ part) xs) (filter_next t line above h asked none)
+      ∙ ap (λ x. part ++ cond x (least (table n) (start ++ part) rest) (line ∷ least (table n) ((start ++ part) ++ line ∷ []) rest)) reached)
+
+  -- no line is left
+  pub least_ends : (n : ℕ) (t : ℕ → Bool) (start all part : List ℕ) (above : ℕ) → ((i : ℕ) → i < above → t i ≡ false) → all ≡ part ++ least (table n) (start ++ part) (filter t (down_from above)) → part ≡ all
+  least_ends n t start all part above none is = sym (is ∙ (ap (λ xs. part ++ least (table n) (start ++ part) xs) (filter_gap t 0 above (omega arith) (λ i a b. none i b)) ∙ append-nil part))
 
   -- the parts of the first accesses, and one more
-  pub part_joins : (n : ℕ) (t : List ℕ → Bool) (bs : List Access) (k : ℕ) (b : Access) (part : List ℕ) (old new : List (List ℕ)) → slice_get bs k ≡ Some b → part ≡ least (table n) [] (tied_by f false n b) → t part ≡ true → old ≡ filter t (parts_at f n (take k bs)) → new ≡ old ++ part ∷ [] →
-      new ≡ filter t (parts_at f n (take (k + 1) bs))
+  pub part_joins : (n : ℕ) (t : List ℕ → Bool) (bs : List Access) (k : ℕ) (b : Access) (part : List ℕ) (old new : List (List ℕ)) → slice_get bs k ≡ Some b → part ≡ least (table n) [] (tied_by f commute n b) → t part ≡ true → old ≡ filter t (parts_at f commute n (take k bs)) → new ≡ old ++ part ∷ [] →
+      new ≡ filter t (parts_at f commute n (take (k + 1) bs))
   part_joins n t bs k b part old new at is yes' was pushed =
-      pushed ∙ (ap (λ xs. xs ++ part ∷ []) was ∙ sym (split n t bs k b at ∙ ap (λ xs. filter t (parts_at f n (take k bs)) ++ xs) (ap (λ z. filter t (z ∷ [])) (sym is) ∙ ap (λ x. cond x (part ∷ []) []) yes')))
+      pushed ∙ (ap (λ xs. xs ++ part ∷ []) was ∙ sym (split n t bs k b at ∙ ap (λ xs. filter t (parts_at f commute n (take k bs)) ++ xs) (ap (λ z. filter t (z ∷ [])) (sym is) ∙ ap (λ x. cond x (part ∷ []) []) yes')))
     where
-      split : (n : ℕ) (t : List ℕ → Bool) (bs : List Access) (k : ℕ) (b : Access) → slice_get bs k ≡ Some b → filter t (parts_at f n (take (k + 1) bs)) ≡ filter t (parts_at f n (take k bs)) ++ filter t (least (table n) [] (tied_by f false n b) ∷ [])
-      split n t bs k b at = ap (λ xs. filter t (parts_at f n xs)) (take_more bs k b at) ∙ (ap (filter t) (map_join (take k bs)) ∙ filter-append t (parts_at f n (take k bs)) (least (table n) [] (tied_by f false n b) ∷ []))
+      split : (n : ℕ) (t : List ℕ → Bool) (bs : List Access) (k : ℕ) (b : Access) → slice_get bs k ≡ Some b → filter t (parts_at f commute n (take (k + 1) bs)) ≡ filter t (parts_at f commute n (take k bs)) ++ filter t (least (table n) [] (tied_by f commute n b) ∷ [])
+      split n t bs k b at = ap (λ xs. filter t (parts_at f commute n xs)) (take_more bs k b at) ∙ (ap (filter t) (map_join (take k bs)) ∙ filter-append t (parts_at f commute n (take k bs)) (least (table n) [] (tied_by f commute n b) ∷ []))
         where
-          map_join : (xs : List Access) → parts_at f n (xs ++ b ∷ []) ≡ parts_at f n xs ++ least (table n) [] (tied_by f false n b) ∷ []
+          map_join : (xs : List Access) → parts_at f commute n (xs ++ b ∷ []) ≡ parts_at f commute n xs ++ least (table n) [] (tied_by f commute n b) ∷ []
           map_join [] = refl
-          map_join (x ∷ xs) = ap (λ ys. least (table n) [] (tied_by f false n x) ∷ ys) (map_join xs)
+          map_join (x ∷ xs) = ap (λ ys. least (table n) [] (tied_by f commute n x) ∷ ys) (map_join xs)
 
-  pub part_stays : (n : ℕ) (t : List ℕ → Bool) (bs : List Access) (k : ℕ) (b : Access) (part : List ℕ) (old : List (List ℕ)) → slice_get bs k ≡ Some b → part ≡ least (table n) [] (tied_by f false n b) → t part ≡ false → old ≡ filter t (parts_at f n (take k bs)) →
-      old ≡ filter t (parts_at f n (take (k + 1) bs))
+  pub part_stays : (n : ℕ) (t : List ℕ → Bool) (bs : List Access) (k : ℕ) (b : Access) (part : List ℕ) (old : List (List ℕ)) → slice_get bs k ≡ Some b → part ≡ least (table n) [] (tied_by f commute n b) → t part ≡ false → old ≡ filter t (parts_at f commute n (take k bs)) →
+      old ≡ filter t (parts_at f commute n (take (k + 1) bs))
   part_stays n t bs k b part old at is fails was =
-      was ∙ sym (ap (λ xs. filter t (parts_at f n xs)) (take_more bs k b at) ∙ (ap (filter t) (map_join (take k bs)) ∙ (filter-append t (parts_at f n (take k bs)) (least (table n) [] (tied_by f false n b) ∷ [])
-      ∙ (ap (λ xs. filter t (parts_at f n (take k bs)) ++ xs) (ap (λ z. filter t (z ∷ [])) (sym is) ∙ ap (λ x. cond x (part ∷ []) []) fails) ∙ append-nil (filter t (parts_at f n (take k bs)))))))
+      was ∙ sym (ap (λ xs. filter t (parts_at f commute n xs)) (take_more bs k b at) ∙ (ap (filter t) (map_join (take k bs)) ∙ (filter-append t (parts_at f commute n (take k bs)) (least (table n) [] (tied_by f commute n b) ∷ [])
+      ∙ (ap (λ xs. filter t (parts_at f commute n (take k bs)) ++ xs) (ap (λ z. filter t (z ∷ [])) (sym is) ∙ ap (λ x. cond x (part ∷ []) []) fails) ∙ append-nil (filter t (parts_at f commute n (take k bs)))))))
     where
-      map_join : (xs : List Access) → parts_at f n (xs ++ b ∷ []) ≡ parts_at f n xs ++ least (table n) [] (tied_by f false n b) ∷ []
+      map_join : (xs : List Access) → parts_at f commute n (xs ++ b ∷ []) ≡ parts_at f commute n xs ++ least (table n) [] (tied_by f commute n b) ∷ []
       map_join [] = refl
-      map_join (x ∷ xs) = ap (λ ys. least (table n) [] (tied_by f false n x) ∷ ys) (map_join xs)
+      map_join (x ∷ xs) = ap (λ ys. least (table n) [] (tied_by f commute n x) ∷ ys) (map_join xs)
 
-  large_by : (n : ℕ) (b : Access) (bs : List Access) (i : ℕ) (x : Bool) → Contains (flat_map (λ (p : List ℕ). p) (cond x (least (table n) [] (tied_by f false n b) ∷ filter is_large (parts_at f n bs)) (filter is_large (parts_at f n bs)))) i →
-      (Contains (flat_map (λ (p : List ℕ). p) (filter is_large (parts_at f n bs))) i → i < n) → i < n
-  large_by n b bs i false d again = again d
-  large_by n b bs i true d again = elim (Contains-append_cases (least (table n) [] (tied_by f false n b)) (flat_map (λ (p : List ℕ). p) (filter is_large (parts_at f n bs))) i d) [
-    | inl own ↦ down_below n i (filter_contains (λ i. list_any (λ a. accesses_tie f false a b) (accesses f i)) (down_from n) i (least_within (table n) [] (tied_by f false n b) i own)).0
+  kept_by : (t : List ℕ → Bool) (n : ℕ) (b : Access) (bs : List Access) (i : ℕ) (x : Bool) → Contains (flat_map (λ (p : List ℕ). p) (cond x (least (table n) [] (tied_by f commute n b) ∷ filter t (parts_at f commute n bs)) (filter t (parts_at f commute n bs)))) i →
+      (Contains (flat_map (λ (p : List ℕ). p) (filter t (parts_at f commute n bs))) i → i < n) → i < n
+  kept_by t n b bs i false d again = again d
+  kept_by t n b bs i true d again = elim (Contains-append_cases (least (table n) [] (tied_by f commute n b)) (flat_map (λ (p : List ℕ). p) (filter t (parts_at f commute n bs))) i d) [
+    | inl own ↦ down_below n i (filter_contains (λ i. list_any (λ a. accesses_tie f commute a b) (accesses f i)) (down_from n) i (least_within (table n) [] (tied_by f commute n b) i own)).0
     | inr rest ↦ again rest
   ]
 
-  -- the lines of the large parts of line n stand above it
-  pub large_below : (n : ℕ) (bs : List Access) (i : ℕ) → Contains (flat_map (λ p. p) (filter is_large (parts_at f n bs))) i → i < n
-  large_below n [] i c = absurd (contains_none i c)
-  large_below n (b ∷ bs) i c = large_by n b bs i (is_large (least (table n) [] (tied_by f false n b))) c (large_below n bs i)
+  -- the lines of the parts of line n that pass a test stand above it
+  pub parts_below : (t : List ℕ → Bool) (n : ℕ) (bs : List Access) (i : ℕ) → Contains (flat_map (λ p. p) (filter t (parts_at f commute n bs))) i → i < n
+  parts_below t n [] i c = absurd (contains_none i c)
+  parts_below t n (b ∷ bs) i c = kept_by t n b bs i (t (least (table n) [] (tied_by f commute n b))) c (parts_below t n bs i)
 
-  pub source_below : (n i : ℕ) → Contains (sources_of f false n) i → i < n
-  source_below n i c = depends_below f false i n (sources_sound f false n i c)
+  pub large_below : (n : ℕ) (bs : List Access) (i : ℕ) → Contains (flat_map (λ p. p) (filter is_large (parts_at f commute n bs))) i → i < n
+  large_below n bs i c = parts_below is_large n bs i c
+
+  -- the lines with some bits are those of some parts
+  pub among : (bits : ℕ → Bool) (few : List (List ℕ)) (xs : List ℕ) → ((i : ℕ) → bits i ≡ list_any (λ p. has p i) few) → filter bits xs ≡ filter (λ i. list_any (λ p. has p i) few) xs
+  among bits few [] same = refl
+  among bits few (x ∷ xs) same = ap (λ b. cond b (x ∷ filter bits xs) (filter bits xs)) (same x) ∙ ap (λ ys. cond (list_any (λ p. has p x) few) (x ∷ ys) ys) (among bits few xs same)
+
+  -- the parts of a line, large and small
+  pub parts_are : (n : ℕ) (p : Parts) (few : List (List ℕ)) (bits : ℕ → Bool) → p.large ≡ filter is_large (parts_at f commute n (accesses f n)) → few ≡ filter (λ q. not (is_large q)) (parts_at f commute n (accesses f n)) →
+      ((i : ℕ) → bits i ≡ list_any (λ q. has q i) few) → p.small ≡ least (table n) (flat_map (λ q. q) p.large) (filter bits (down_from n)) → p ≡ parts_of f commute (table n) n
+  parts_are n p few bits large is same small =
+      let make : List (List ℕ) → List ℕ → Parts = λ xs ys. record { large = xs; small = ys } in
+      let ps = parts_at f commute n (accesses f n) in
+      ap (λ xs. make xs p.small) large
+      ∙ ap (make (filter is_large ps)) (small ∙ (ap (λ xs. least (table n) (flat_map (λ q. q) xs) (filter bits (down_from n))) large
+      ∙ ap (least (table n) (flat_map (λ q. q) (filter is_large ps))) (among bits few (down_from n) same ∙ ap (λ qs. filter (λ i. list_any (λ q. has q i) qs) (down_from n)) is)))
+
+  pub source_below : (n i : ℕ) → Contains (sources_of f commute n) i → i < n
+  source_below n i c = depends_below f commute i n (sources_sound f commute n i c)
+
+  -- no row
+  pub rows_none : (words : ℕ) (rows : List (List ℕ)) → rows ≡ [] → words ≡ (length f.lines + 63) / 64 → AreRows f commute words rows
+  rows_none words rows none is = subst (AreRows f commute words) (sym none) (record {
+    some = omega arith;
+    words_are = is;
+    size = λ k h. absurd (omega arith);
+    bits = λ k i h. absurd (omega arith);
+  })
 
   -- the rows with one more
-  pub rows_more : (words : ℕ) (rows rows' : List (List ℕ)) (row : List ℕ) → AreRows f words rows → length rows < length f.lines → rows' ≡ rows ++ row ∷ [] → length row ≡ words → ((i : ℕ) → word_bit row i ≡ is_reached (table (length rows)) (sources_of f false (length rows)) i) →
-      AreRows f words rows'
-  rows_more words rows rows' row a next pushed size bits = subst (AreRows f words) (sym pushed) (record {
+  pub rows_more : (words : ℕ) (rows rows' : List (List ℕ)) (row : List ℕ) → AreRows f commute words rows → length rows < length f.lines → rows' ≡ rows ++ row ∷ [] → length row ≡ words → ((i : ℕ) → word_bit row i ≡ is_reached (table (length rows)) (sources_of f commute (length rows)) i) →
+      AreRows f commute words rows'
+  rows_more words rows rows' row a next pushed size bits = subst (AreRows f commute words) (sym pushed) (record {
     some = (let l : length (rows ++ row ∷ []) ≡ length rows + 1 = length-append rows (row ∷ []) in omega arith);
     words_are = a.words_are;
     size = λ k h. (let l : length (rows ++ row ∷ []) ≡ length rows + 1 = length-append rows (row ∷ []) in elim (cases_lt k (length rows)) [
@@ -189,14 +219,14 @@ module _ (f : GraphValue) where
   })
 
   -- the row of the sources of a line: of its large parts, and then of the others
-  pub row_of_parts : (n : ℕ) (p : Parts) (i : ℕ) (old new : Bool) → p ≡ parts_of f false (table n) n → old ≡ is_reached (table n) (flat_map (λ q. q) p.large) i → new ≡ (old || is_reached (table n) p.small i) → new ≡ is_reached (table n) (sources_of f false n) i
+  pub row_of_parts : (n : ℕ) (p : Parts) (i : ℕ) (old new : Bool) → p ≡ parts_of f commute (table n) n → old ≡ is_reached (table n) (flat_map (λ q. q) p.large) i → new ≡ (old || is_reached (table n) p.small i) → new ≡ is_reached (table n) (sources_of f commute n) i
   row_of_parts n p i old new is was joined =
       joined ∙ (ap (λ b. b || is_reached (table n) p.small i) was ∙ (or_turn (is_reached (table n) (flat_map (λ q. q) p.large) i) (is_reached (table n) p.small i)
       ∙ (sym (list_any-append (λ k. (k == i) || reaches (table n) k i k) p.small (flat_map (λ q. q) p.large)) ∙ ap (λ q. is_reached (table n) (all_of q) i) is)))
 
   -- a part that is kept where a test passes
-  pub part_kept : (n : ℕ) (t : List ℕ → Bool) (bs : List Access) (k : ℕ) (b : Access) (part : List ℕ) (old new : List (List ℕ)) → slice_get bs k ≡ Some b → part ≡ least (table n) [] (tied_by f false n b) → old ≡ filter t (parts_at f n (take k bs)) → new ≡ cond (t part) (old ++ part ∷ []) old →
-      new ≡ filter t (parts_at f n (take (k + 1) bs))
+  pub part_kept : (n : ℕ) (t : List ℕ → Bool) (bs : List Access) (k : ℕ) (b : Access) (part : List ℕ) (old new : List (List ℕ)) → slice_get bs k ≡ Some b → part ≡ least (table n) [] (tied_by f commute n b) → old ≡ filter t (parts_at f commute n (take k bs)) → new ≡ cond (t part) (old ++ part ∷ []) old →
+      new ≡ filter t (parts_at f commute n (take (k + 1) bs))
   part_kept n t bs k b part old new at is was kept = elim (cases_Bool (t part)) [
     | inl passes ↦ part_joins n t bs k b part old new at is passes was (kept ∙ ap (λ x. cond x (old ++ part ∷ []) old) passes)
     | inr fails ↦ kept ∙ (ap (λ x. cond x (old ++ part ∷ []) old) fails ∙ part_stays n t bs k b part old at is fails was)

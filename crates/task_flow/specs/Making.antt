@@ -3,9 +3,10 @@ use Rattle.std.specs.Prelude.{◌≡◌, ℕ, ◌+◌, ◌<◌, false, is_some, 
 use Rattle.graph_model.specs.declared.graph.limits.TheConstants.{MAX_LINES}
 use Rattle.graph_model.specs.graph.Graph.{GraphValue}
 use Rattle.task_flow.specs.Construction.{Made, made_after, first_number, number_from, is_over}
-use Rattle.task_flow.specs.Rows.{AreRows}
+use Rattle.task_flow.specs.Rows.{IsKept}
 use Rattle.task_flow.specs.declared.making.Making.{Making}
 use Rattle.task_flow.specs.declared.making.Merged.{Merged}
+use Rattle.task_flow.specs.declared.rows.Rows.{Rows}
 
 abbrev pub merge_of : Merged → List ℕ × ℕ
 merge_of x = (x.events, x.line)
@@ -28,8 +29,8 @@ pub record IsMaking (f : GraphValue) (n : ℕ) (m : Making) : Type 0 where
   pub alone : m.named ≡ false → length m.graph.lines ≡ n
 
 -- what stands after line n of a flow: its row, the lines so far, and that the graph is within the limits
-pub record IsNext (f : GraphValue) (n words : ℕ) (rows : List (List ℕ)) (m : Making) : Type 0 where
-  pub rows_are : AreRows f words rows
-  pub count : length rows ≡ n + 1
+pub record IsNext (f : GraphValue) (n : ℕ) (rows : Rows) (m : Making) : Type 0 where
+  pub rows_are : IsKept f false rows
+  pub count : length rows.rows.items ≡ n + 1
   pub making : IsMaking f (n + 1) m
   pub within : is_over f n ≡ false

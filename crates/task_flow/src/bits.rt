@@ -1,6 +1,6 @@
 //! Rows of bits.
 
-ghost use Rattle.std.specs.Prelude.{◌≡◌, ℕ, ◌<◌, ◌/◌, ◌==◌, ◌||◌, false, length, IfOk};
+ghost use Rattle.std.specs.Prelude.{◌≡◌, ℕ, ◌<◌, ◌≤◌, ◌*◌, ◌/◌, ◌==◌, ◌||◌, true, false, length, IfOk, MatchOption};
 ghost use Rattle.task_flow.specs.Bits.{word_bit};
 
 use index_spaces::NoMemory;
@@ -39,6 +39,26 @@ impl Bits {
         ensures { result ≡ word_bit self.now j }
     {
         self.words[j as usize / 64] >> (j % 64) & 1 == 1
+    }
+
+    /// The greatest number below a bound whose bit is set.
+    pub(crate) fn last_below(&self, bound: u32) -> Option<u32>
+        requires { bound ≤ 64 * length self.now }
+        ensures { MatchOption result ((j : ℕ) → j < bound → word_bit self.now j ≡ false) (λ k. (k < bound) × (word_bit self.now k ≡ true) × ((j : ℕ) → k < j → j < bound → word_bit self.now j ≡ false)) }
+    {
+        let mut left = bound;
+        while left > 0 {
+            let last = left - 1;
+            if self.words[last as usize / 64] == 0 {
+                left = last - last % 64;
+                continue;
+            }
+            if self.test(last) {
+                return Some(last);
+            }
+            left = last;
+        }
+        None
     }
 
     /// Sets the bit of a number.

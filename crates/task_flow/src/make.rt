@@ -43,7 +43,7 @@ pub fn make_graph(alloc: Global, flow: &Graph) -> Result<Graph, FlowRefusal>
 {
     means_by_sources();
     let mut making = Making::new(alloc, flow)?;
-    let mut rows = Rows::new(alloc, flow);
+    let mut rows = Rows::new(alloc, flow)?;
     for line in 0..flow.lines() {
         match making.add_next(alloc, flow, &mut rows) {
             Ok(()) => {}

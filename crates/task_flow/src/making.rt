@@ -3,7 +3,7 @@
 ghost use Rattle.std.specs.Prelude.{◌≡◌, ℕ, ◌+◌, ◌≤◌, ◌<◌, [], length, take, drop, map, find, bytes_eq, not, ◌&&◌, nat_lt, false, true, option_map, IsTrue, IfOk, OnOk};
 ghost use Rattle.graph_model.specs.graph.Fits.{is_beyond};
 ghost use Rattle.task_flow.specs.Flow.{IsFlow, uses_columns};
-ghost use Rattle.task_flow.specs.Rows.{AreRows};
+ghost use Rattle.task_flow.specs.Rows.{IsKept};
 ghost use Rattle.task_flow.specs.Construction.{merge_for, with_event, event_for, events_for, place_in, wait_for, with_flow_line, is_over};
 ghost use Rattle.task_flow.specs.Fitting.{AreToFit, with_lines};
 
@@ -249,21 +249,21 @@ impl Making {
         rows: &mut Rows,
     ) -> Result<(), Stop>
         requires flow { IsFlow flow.now }
-        requires rows { AreRows flow.now rows.old.words rows.old.rows.items }
+        requires rows { IsKept flow.now false rows.old }
         requires next { length rows.old.rows.items < length flow.now.lines }
         requires making { IsMaking flow.now (length rows.old.rows.items) self.old }
-        ensures ok { OnOk result (IsNext flow.now (length rows.old.rows.items) rows.new.words rows.new.rows.items self.new) }
+        ensures ok { OnOk result (IsNext flow.now (length rows.old.rows.items) rows.new self.new) }
         ensures limit { result ≡ Err Stop.Limit → is_over flow.now (length rows.old.rows.items) ≡ true }
     {
         let _ = flow.lines();
         let line = rows.rows.len() as u32;
-        let parts = parts_of(alloc, flow, rows)?;
+        let parts = parts_of(alloc, flow, false, rows)?;
         self.make_line(alloc, flow.line(line), &parts)?;
         if self.wants_names() {
             return Err(Stop::Limit);
         }
         self.put_row(alloc)?;
-        add_row(alloc, flow, rows, &parts)?;
+        add_row(alloc, flow, false, rows, &parts)?;
         Ok(())
     }
 }

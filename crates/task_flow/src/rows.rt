@@ -1,30 +1,37 @@
-//! Which lines reach which.
+//! What is kept of the lines so far: which lines reach which, and how the columns are used.
 
-ghost use Rattle.std.specs.Prelude.{◌≡◌, ℕ, ◌<◌, ◌/◌, ◌==◌, ◌||◌, [], length, slice_index_or};
+ghost use Rattle.std.specs.Prelude.{◌≡◌, ℕ, ◌<◌, ◌/◌, ◌==◌, ◌||◌, [], length, slice_index_or, IfOk};
 ghost use Rattle.task_flow.specs.Bits.{word_bit};
-ghost use Rattle.task_flow.specs.Rows.{AreRows};
 
 use crate::bits::Bits;
+use crate::uses::Uses;
 use graph_model::graph::Graph;
+use index_spaces::NoMemory;
 use std::alloc::Global;
 
-/// For each of the first lines of a flow a row with a bit for each line that reaches it.
+/// For each of the first lines of a flow a row with a bit for each line that reaches it, and the
+/// classes of their uses.
 #[derive(Drop)]
 pub(crate) struct Rows {
     pub(crate) words: usize,
     pub(crate) rows: Vec<Bits>,
+    pub(crate) uses: Uses,
 }
 
 impl Rows {
-    /// No row.
-    pub(crate) fn new(alloc: Global, flow: &Graph) -> Rows
-        ensures rows { AreRows flow.now result.words result.rows.items }
-        ensures none { result.rows.items ≡ [] }
+    ghost use Rattle.task_flow.specs.Rows.{IsKept};
+
+    /// No row and no use.
+    pub(crate) fn new(alloc: Global, flow: &Graph) -> Result<Rows, NoMemory>
+        ensures kept { (commute : _) → IfOk result (λ r. IsKept flow.now commute r) }
+        ensures none { IfOk result (λ r. r.rows.items ≡ []) }
     {
-        Rows {
+        let uses = Uses::new(alloc, flow)?;
+        Ok(Rows {
             words: (flow.lines() as usize + 63) / 64,
             rows: Vec::new(alloc),
-        }
+            uses,
+        })
     }
 
     /// Sets the bits of a line and of those that reach it.

@@ -1,16 +1,15 @@
 //! The sources of the lines.
 
 ghost use Rattle.std.specs.Prelude.{◌≡◌, ℕ, ◌+◌, ◌<◌, ◌/◌, ◌||◌, ◌++◌, [], ◌∷◌, cond, false, length, filter, flat_map, not, Contains, IfOk, OnOk};
-ghost use Rattle.graph_model.specs.graph.Graph.{named_spaces};
 ghost use Rattle.graph_model.specs.graph.Access.{accesses};
 ghost use Rattle.task_flow.specs.Bits.{word_bit};
 ghost use Rattle.std.specs.List.{list_any};
-ghost use Rattle.task_flow.specs.Rows.{AreRows, IsAskable, is_asked, parts_at};
+ghost use Rattle.task_flow.specs.Rows.{AreRows, IsKept, parts_at};
 ghost use Rattle.task_flow.specs.Construction.{down_from, tied_by, has, is_large, is_reached, least, parts_of, sources_after};
 
 use crate::bits::Bits;
 use crate::rows::Rows;
-use crate::ties::{MOST_ACCESSES, is_tied};
+use crate::ties::MOST_ACCESSES;
 use graph_model::graph::Graph;
 use graph_model::line_laws::{accesses_are_few, accesses_fit};
 use graph_model::lists::LineList;
@@ -38,36 +37,6 @@ impl Model for Parts {
     ghost view = { λ a. record { large = a.large.items; small = a.small } };
 }
 
-/// Which lines are asked for.
-#[derive(Drop)]
-pub(crate) enum Ask {
-    /// Those that an access ties.
-    Tied(Access),
-    /// Those of some lists.
-    Among(Vec<LineList>),
-}
-
-impl Ask {
-    /// Whether a line is asked for.
-    fn wants(&self, flow: &Graph, line: u32) -> bool
-        requires line { line < length flow.now.lines }
-        requires askable { IsAskable flow.now self.now }
-        ensures { result ≡ is_asked flow.now self.now line }
-    {
-        match self {
-            Ask::Tied(access) => is_tied(flow, line, *access),
-            Ask::Among(parts) => is_among(parts.as_slice(), line),
-        }
-    }
-}
-
-/// Whether a line is in one of these lists.
-fn is_among(parts: &[LineList], line: u32) -> bool
-    ensures { result ≡ list_any (λ p. has p line) parts.now }
-{
-    parts.iter().any(|part| has(part, line))
-}
-
 /// Whether a line is in a list.
 pub(crate) fn has(part: &LineList, line: u32) -> bool
     ensures { result ≡ has part.now line }
@@ -76,13 +45,19 @@ pub(crate) fn has(part: &LineList, line: u32) -> bool
 }
 
 /// The sources of the line that comes next, by the rows of those before it.
-pub(crate) fn parts_of(alloc: Global, flow: &Graph, rows: &Rows) -> Result<Parts, NoMemory>
-    requires rows { AreRows flow.now rows.now.words rows.now.rows.items }
+pub(crate) fn parts_of(
+    alloc: Global,
+    flow: &Graph,
+    commute: bool,
+    rows: &Rows,
+) -> Result<Parts, NoMemory>
+    requires rows { IsKept flow.now commute rows.now }
     requires next { length rows.now.rows.items < length flow.now.lines }
-    ensures { IfOk result (λ p. p ≡ parts_of flow.now false (sources_after flow.now false (length rows.now.rows.items)) (length rows.now.rows.items)) }
+    ensures { IfOk result (λ p. p ≡ parts_of flow.now commute (sources_after flow.now commute (length rows.now.rows.items)) (length rows.now.rows.items)) }
 {
-    let (large, few) = parts_by_access(alloc, flow, rows)?;
-    let small = least(alloc, flow, rows, large.as_slice(), &Ask::Among(few))?;
+    let (large, few) = parts_by_access(alloc, flow, commute, rows)?;
+    let asked = rows.asked_among(alloc, few.as_slice())?;
+    let small = least(alloc, flow, commute, rows, large.as_slice(), &asked)?;
     Ok(Parts { large, small })
 }
 
@@ -91,12 +66,13 @@ pub(crate) fn parts_of(alloc: Global, flow: &Graph, rows: &Rows) -> Result<Parts
 fn parts_by_access(
     alloc: Global,
     flow: &Graph,
+    commute: bool,
     rows: &Rows,
 ) -> Result<(Vec<LineList>, Vec<LineList>), NoMemory>
-    requires rows { AreRows flow.now rows.now.words rows.now.rows.items }
+    requires rows { IsKept flow.now commute rows.now }
     requires next { length rows.now.rows.items < length flow.now.lines }
-    ensures large { IfOk result (λ r. r.0.items ≡ filter is_large (parts_at flow.now (length rows.now.rows.items) (accesses flow.now (length rows.now.rows.items)))) }
-    ensures few { IfOk result (λ r. r.1.items ≡ filter (λ p. not (is_large p)) (parts_at flow.now (length rows.now.rows.items) (accesses flow.now (length rows.now.rows.items)))) }
+    ensures large { IfOk result (λ r. r.0.items ≡ filter is_large (parts_at flow.now commute (length rows.now.rows.items) (accesses flow.now (length rows.now.rows.items)))) }
+    ensures few { IfOk result (λ r. r.1.items ≡ filter (λ p. not (is_large p)) (parts_at flow.now commute (length rows.now.rows.items) (accesses flow.now (length rows.now.rows.items)))) }
 {
     accesses_fit();
     accesses_are_few();
@@ -108,7 +84,8 @@ fn parts_by_access(
         let Some(access) = flow.access(line, k) else {
             break;
         };
-        let part = least(alloc, flow, rows, &[], &Ask::Tied(access))?;
+        let asked = rows.asked_by(alloc, flow, commute, access)?;
+        let part = least(alloc, flow, commute, rows, &[], &asked)?;
         keep_part(&mut large, &mut few, part)?;
     }
     Ok((large, few))
@@ -130,31 +107,29 @@ fn keep_part(
     }
 }
 
-/// Of the lines that are asked for above the next line, the highest first, those that reach none
-/// of the others and none of those that are kept.
+/// Of the lines with these bits, the highest first, those that reach none of the others and none of
+/// those that are kept.
 fn least(
     alloc: Global,
     flow: &Graph,
+    commute: bool,
     rows: &Rows,
     kept: &[LineList],
-    ask: &Ask,
+    asked: &Bits,
 ) -> Result<LineList, NoMemory>
-    requires rows { AreRows flow.now rows.now.words rows.now.rows.items }
+    requires rows { AreRows flow.now commute rows.now.words rows.now.rows.items }
     requires next { length rows.now.rows.items < length flow.now.lines }
     requires kept { (i : ℕ) → Contains (flat_map (λ p. p) kept.now) i → i < length rows.now.rows.items }
-    requires askable { IsAskable flow.now ask.now }
-    ensures { IfOk result (λ part. part ≡ least (sources_after flow.now false (length rows.now.rows.items)) (flat_map (λ p. p) kept.now) (filter (is_asked flow.now ask.now) (down_from (length rows.now.rows.items)))) }
+    requires asked { length asked.now ≡ rows.now.words }
+    ensures { IfOk result (λ part. part ≡ least (sources_after flow.now commute (length rows.now.rows.items)) (flat_map (λ p. p) kept.now) (filter (word_bit asked.now) (down_from (length rows.now.rows.items)))) }
 {
-    let mut mask = mask_of(alloc, flow, rows, kept)?;
+    let mut mask = mask_of(alloc, flow, commute, rows, kept)?;
     let mut part = LineList::new(alloc);
     let _ = flow.lines();
-    let mut line = rows.rows.len() as u32;
-    while line > 0 {
-        line -= 1;
+    let mut above = rows.rows.len() as u32;
+    'lines: while let Some(line) = asked.last_below(above) {
+        above = line;
         if mask.test(line) {
-            continue;
-        }
-        if !ask.wants(flow, line) {
             continue;
         }
         part.push(line)?;
@@ -164,26 +139,32 @@ fn least(
 }
 
 /// A bit for each line of some lists, and for each that reaches one of them.
-fn mask_of(alloc: Global, flow: &Graph, rows: &Rows, kept: &[LineList]) -> Result<Bits, NoMemory>
-    requires rows { AreRows flow.now rows.now.words rows.now.rows.items }
+fn mask_of(
+    alloc: Global,
+    flow: &Graph,
+    commute: bool,
+    rows: &Rows,
+    kept: &[LineList],
+) -> Result<Bits, NoMemory>
+    requires rows { AreRows flow.now commute rows.now.words rows.now.rows.items }
     requires kept { (i : ℕ) → Contains (flat_map (λ p. p) kept.now) i → i < length rows.now.rows.items }
     ensures size { IfOk result (λ mask. length mask ≡ rows.now.words) }
-    ensures bits { IfOk result (λ mask. (i : ℕ) → word_bit mask i ≡ is_reached (sources_after flow.now false (length rows.now.rows.items)) (flat_map (λ p. p) kept.now) i) }
+    ensures bits { IfOk result (λ mask. (i : ℕ) → word_bit mask i ≡ is_reached (sources_after flow.now commute (length rows.now.rows.items)) (flat_map (λ p. p) kept.now) i) }
 {
     let mut mask = Bits::zeros(alloc, rows.words)?;
     for part in kept {
-        reach_all(flow, rows, &mut mask, part);
+        reach_all(flow, commute, rows, &mut mask, part);
     }
     Ok(mask)
 }
 
 /// Sets the bits of the lines of a list, and of those that reach one of them.
-fn reach_all(flow: &Graph, rows: &Rows, mask: &mut Bits, part: &LineList)
-    requires rows { AreRows flow.now rows.now.words rows.now.rows.items }
+fn reach_all(flow: &Graph, commute: bool, rows: &Rows, mask: &mut Bits, part: &LineList)
+    requires rows { AreRows flow.now commute rows.now.words rows.now.rows.items }
     requires size { length mask.old ≡ rows.now.words }
     requires part { (i : ℕ) → Contains part.now i → i < length rows.now.rows.items }
     ensures size { length mask.new ≡ length mask.old }
-    ensures bits { (i : ℕ) → word_bit mask.new i ≡ (word_bit mask.old i || is_reached (sources_after flow.now false (length rows.now.rows.items)) part.now i) }
+    ensures bits { (i : ℕ) → word_bit mask.new i ≡ (word_bit mask.old i || is_reached (sources_after flow.now commute (length rows.now.rows.items)) part.now i) }
 {
     for line in part.items.as_slice() {
         rows.reach(mask, *line);
@@ -194,17 +175,21 @@ fn reach_all(flow: &Graph, rows: &Rows, mask: &mut Bits, part: &LineList)
 pub(crate) fn add_row(
     alloc: Global,
     flow: &Graph,
+    commute: bool,
     rows: &mut Rows,
     parts: &Parts,
 ) -> Result<(), NoMemory>
-    requires rows { AreRows flow.now rows.old.words rows.old.rows.items }
+    requires rows { IsKept flow.now commute rows.old }
     requires next { length rows.old.rows.items < length flow.now.lines }
-    requires parts { parts.now ≡ parts_of flow.now false (sources_after flow.now false (length rows.old.rows.items)) (length rows.old.rows.items) }
-    ensures rows { OnOk result (AreRows flow.now rows.new.words rows.new.rows.items) }
+    requires parts { parts.now ≡ parts_of flow.now commute (sources_after flow.now commute (length rows.old.rows.items)) (length rows.old.rows.items) }
+    ensures rows { OnOk result (IsKept flow.now commute rows.new) }
     ensures more { OnOk result (length rows.new.rows.items ≡ length rows.old.rows.items + 1) }
 {
-    let mut row = mask_of(alloc, flow, rows, parts.large.as_slice())?;
-    reach_all(flow, rows, &mut row, &parts.small);
+    let _ = flow.lines();
+    let line = rows.rows.len() as u32;
+    let mut row = mask_of(alloc, flow, commute, rows, parts.large.as_slice())?;
+    reach_all(flow, commute, rows, &mut row, &parts.small);
     push(&mut rows.rows, row)?;
+    rows.uses.add_line(alloc, flow, commute, line)?;
     Ok(())
 }

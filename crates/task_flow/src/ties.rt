@@ -1,58 +1,20 @@
-//! Which accesses tie lines.
+//! Which uses have an order.
 
-ghost use Rattle.std.specs.Prelude.{◌≡◌, ℕ, ◌<◌, false, length, IfOk};
-ghost use Rattle.std.specs.List.{list_any};
-ghost use Rattle.graph_model.specs.graph.Graph.{named_spaces};
-ghost use Rattle.graph_model.specs.graph.Access.{accesses};
-ghost use Rattle.task_flow.specs.Meaning.{order_counts, accesses_tie};
+ghost use Rattle.std.specs.Prelude.{◌≡◌};
+ghost use Rattle.task_flow.specs.Meaning.{order_counts};
 
-use graph_model::graph::Graph;
-use graph_model::line_laws::accesses_fit;
-use graph_model::verb::{Access, Mode};
-use index_spaces::laws::points_are_listed;
+use graph_model::verb::Mode;
 
 /// A line has at most three accesses.
 pub(crate) const MOST_ACCESSES: u32 = 3;
 
-/// Whether an access of a line and this one are of one column at a shared point, in modes whose
-/// order counts.
-pub(crate) fn is_tied(flow: &Graph, line: u32, access: Access) -> bool
-    requires line { line < length flow.now.lines }
-    requires space { access.space < length (named_spaces flow.now) }
-    ensures { result ≡ list_any (λ a. accesses_tie flow.now false a access) (accesses flow.now line) }
+/// Whether the order of two uses counts: not both are reads and, where sums commute, not both sums.
+pub(crate) fn order_counts(commute: bool, one: Mode, other: Mode) -> bool
+    ensures { result ≡ order_counts commute one other }
 {
-    accesses_fit();
-    let _ = flow.lines();
-    for k in 0..MOST_ACCESSES {
-        let Some(other) = flow.access(line, k) else {
-            return false;
-        };
-        if ties(flow, other, access) {
-            return true;
-        }
+    match (one, other) {
+        (Mode::Read, Mode::Read) => false,
+        (Mode::Sum, Mode::Sum) => !commute,
+        _ => true,
     }
-    false
-}
-
-/// Whether two accesses are of one column at a shared point, in modes whose order counts.
-fn ties(flow: &Graph, one: Access, other: Access) -> bool
-    requires one { one.space < length (named_spaces flow.now) }
-    requires other { other.space < length (named_spaces flow.now) }
-    ensures { result ≡ accesses_tie flow.now false one other }
-{
-    points_are_listed();
-    if one.column != other.column {
-        return false;
-    }
-    if !order_counts(one.mode, other.mode) {
-        return false;
-    }
-    flow.space(one.space).meets(flow.space(other.space))
-}
-
-/// Whether the order of two uses counts: not both are reads.
-fn order_counts(one: Mode, other: Mode) -> bool
-    ensures { result ≡ order_counts false one other }
-{
-    !matches!((one, other), (Mode::Read, Mode::Read))
 }
