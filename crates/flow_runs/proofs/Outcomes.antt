@@ -1,0 +1,101 @@
+-- The outcome of a graph that means a flow.
+use Rattle.std.proofs.Common.{◌≡◌, ◌⊎◌, inl, inr, ℕ, zero, suc, ◌+◌, ◌<◌, false, List, [], ◌∷◌, ◌++◌, length, refl, sym, ◌∙◌, ap, subst, append-nil, arith}
+use Rattle.std.specs.Prelude.{map, filter_map, flat_map, Some, slice_get}
+use Rattle.std.specs.Option.{option_map_or}
+use Rattle.std.specs.List.{AllByRecursion, range_with_len}
+use Rattle.std.proofs.lemmas.Option.{slice_get_within, get_or_from_slice_get}
+use Rattle.std.proofs.lemmas.List.FromFn.{length-map-range_with_len, get_or-map-range_with_len}
+use Rattle.std.proofs.lemmas.List.Concat.{flat_map-append}
+use Rattle.std.proofs.lemmas.List.Elements.{filter_map-append}
+use Rattle.basics.specs.Lists.{numbers_below}
+use Rattle.index_spaces.specs.Space.{points}
+use Rattle.realm_io.specs.SinkState.{SinkState}
+use Rattle.graph_model.specs.declared.graph.decl.Decl.{Decl}
+use Rattle.graph_model.specs.graph.Graph.{GraphValue, space_of, columns_of, named_spaces, columns, column_space}
+use Rattle.graph_model.specs.meaning.Evaluation.{order, outcome, column_of, evaluation, cells_of, eval_end}
+use Rattle.graph_reader.specs.Laws.{OneReading}
+use Rattle.command_line.specs.declared.request.Action.TheVariants.{Run, Eval}
+use Rattle.command_line.specs.declared.request.Request.{Request}
+use Rattle.task_flow.specs.Meaning.{flow_cells}
+use Rattle.task_flow.specs.Construction.{written}
+use Rattle.task_flow.specs.Written.{IsLock, Keeps, MeansFlow}
+use Rattle.flow_top.specs.Answer.{IsFlowAnswer}
+use Rattle.realm_top.specs.Texts.{report}
+use Rattle.realm_top.specs.Delivered.{Delivered}
+use Rattle.realm_top.specs.Answer.{IsDone, Says, trace_part}
+use Rattle.flow_runs.specs.Ran.{IsFlowOutcome, RanFlow}
+
+-- an element stands at each place
+got : {X : Type 0} (xs : List X) (i : ℕ) → i < length xs → (x : X) × (slice_get xs i ≡ Some x)
+got [] i h = absurd (omega arith)
+got (x ∷ xs) zero h = (x, refl)
+got (x ∷ xs) (suc i) h = got xs i (omega arith)
+
+no_spaces : (ds : List Decl) → AllByRecursion IsLock ds → filter_map space_of ds ≡ []
+no_spaces [] h = refl
+no_spaces (d ∷ ds) h = subst (λ x. filter_map space_of (x ∷ ds) ≡ []) (sym h.0.1) (no_spaces ds h.1)
+
+no_columns : (ds : List Decl) → AllByRecursion IsLock ds → flat_map columns_of ds ≡ []
+no_columns [] h = refl
+no_columns (d ∷ ds) h = subst (λ x. flat_map columns_of (x ∷ ds) ≡ []) (sym h.0.1) (no_columns ds h.1)
+
+spaces_same : (f g : GraphValue) (place : ℕ → ℕ) → Keeps f g place → named_spaces g ≡ named_spaces f
+spaces_same f g place k = ap (filter_map space_of) k.decls
+    ∙ (filter_map-append space_of f.decls k.locks ∙ (ap (λ x. named_spaces f ++ x) (no_spaces k.locks k.only_locks) ∙ append-nil (named_spaces f)))
+
+columns_same : (f g : GraphValue) (place : ℕ → ℕ) → Keeps f g place → columns g ≡ columns f
+columns_same f g place k = ap (flat_map columns_of) k.decls
+    ∙ (flat_map-append columns_of f.decls k.locks ∙ (ap (λ x. columns f ++ x) (no_columns k.locks k.only_locks) ∙ append-nil (columns f)))
+
+column_space_same : (f g : GraphValue) (place : ℕ → ℕ) → Keeps f g place → (c : ℕ) → column_space g c ≡ column_space f c
+column_space_same f g place k c =
+    ap (λ cs. option_map_or (λ x. option_map_or (λ y. y.1) (slice_get (named_spaces g) x.space) []) (slice_get cs c) []) (columns_same f g place k)
+    ∙ ap (λ ss. option_map_or (λ x. option_map_or (λ y. y.1) (slice_get ss x.space) []) (slice_get (columns f) c) []) (spaces_same f g place k)
+
+map_same : {X Y : Type 0} (a b : X → Y) (xs : List X) → ((x : X) → a x ≡ b x) → map a xs ≡ map b xs
+map_same a b [] h = refl
+map_same a b (x ∷ xs) h = ap (λ y. y ∷ map a xs) (h x) ∙ ap (λ ys. b x ∷ ys) (map_same a b xs h)
+
+column_same : (f g : GraphValue) (m : MeansFlow f false g) (c : ℕ) → column_of g (cells_of (evaluation g)) c ≡ column_of f (flow_cells f false) c
+column_same f g m c =
+    ap (λ s. record { space = s; cells = map (cells_of (evaluation g) c) (points s) }) (column_space_same f g m.place m.keeps c)
+    ∙ ap (λ cs. record { space = column_space f c; cells = cs }) (map_same (cells_of (evaluation g) c) (flow_cells f false c) (points (column_space f c)) (m.cells c))
+
+-- the value at a place of a list of values at numbers
+get_at : {X : Type 0} (h : ℕ → X) (n i : ℕ) → i < n → slice_get (map h (range_with_len 0 n)) i ≡ Some (h i)
+get_at h n i b = (let l : i < length (map h (range_with_len 0 n)) = subst (λ m. i < m) (sym (length-map-range_with_len h 0 n)) b in let x = got (map h (range_with_len 0 n)) i l in
+    let e : 0 + i ≡ i = omega arith in
+    x.1 ∙ ap Some (sym (get_or_from_slice_get (map h (range_with_len 0 n)) i x.0 (h i) x.1) ∙ get_or-map-range_with_len h 0 n i i (h i) b e))
+
+place_within : (f g : GraphValue) (place : ℕ → ℕ) → Keeps f g place → (i : ℕ) → i < length f.lines → place i < length g.lines
+place_within f g place k i h = (let l = got f.lines i h in let m = k.line i l.0 l.1 in slice_get_within g.lines (place i) m.0 m.1)
+
+pub is_outcome : (f g : GraphValue) → MeansFlow f false g → IsFlowOutcome f g (outcome g (order g))
+is_outcome f g m = record {
+  place = m.place;
+  keeps = m.keeps;
+  ends = λ i h. get_at (eval_end g) (length g.lines) (m.place i) (place_within f g m.place m.keeps i h) ∙ ap Some (m.ends i h);
+  columns_are = map_same (column_of g (cells_of (evaluation g))) (column_of f (flow_cells f false)) (numbers_below (length (columns g))) (column_same f g m)
+      ∙ ap (λ cs. map (column_of f (flow_cells f false)) (numbers_below (length cs))) (columns_same f g m.place m.keeps);
+}
+
+-- what `run` and `eval` say of an accepted graph begins with its report
+reported : (request : Request) (g : GraphValue) (need : ℕ) (out : List ℕ) → (request.action ≡ Run) ⊎ (request.action ≡ Eval) → Says request.action request g need out →
+    (rest : List ℕ) × (out ≡ report g (outcome g (order g)) ++ rest)
+reported request g need out (inl e) s = (let r = subst (λ a. Says a request g need out) e s in (trace_part request.trace g r.0, r.2))
+reported request g need out (inr e) s = (trace_part request.trace g (order g), subst (λ a. Says a request g need out) e s)
+
+pub ran : ((bs : List ℕ) → OneReading bs) → (bytes text : List ℕ) → IsFlowAnswer bytes text → (request : Request) → (request.action ≡ Run) ⊎ (request.action ≡ Eval) →
+    (old new : SinkState) → IsDone request text old new → RanFlow bytes text old new
+ran reads bytes text a request act old new d =
+    let same = (reads text).one_graph (written a.flow) d.graph a.out_is d.text in
+    let r = reported request d.graph d.need d.out act d.says in
+    record {
+      flow = a.flow;
+      is_text = a.is_text;
+      graph = d.graph;
+      graph_text = d.text;
+      is_outcome = is_outcome a.flow d.graph (subst (λ (w : GraphValue). MeansFlow a.flow false w) same a.means);
+      trace_text = r.0;
+      delivered = subst (Delivered old new) r.1 d.delivered;
+    }
