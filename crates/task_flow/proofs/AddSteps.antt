@@ -1,5 +1,5 @@
 -- One line of a flow more, with the merges before it.
-use Rattle.std.proofs.Common.{◌≡◌, ℕ, suc, ◌+◌, ◌<◌, ◌≤◌, Bool, true, false, not, ◌&&◌, inl, inr, List, [], ◌∷◌, ◌++◌, length, map, refl, sym, ◌∙◌, ap, subst, append-nil, length-append, arith}
+use Rattle.std.proofs.Common.{◌≡◌, ℕ, suc, ◌+◌, ◌<◌, ◌≤◌, Bool, true, false, not, ◌&&◌, inl, inr, List, [], ◌∷◌, ◌++◌, length, refl, sym, ◌∙◌, ap, subst, append-nil, length-append, arith}
 use Rattle.std.specs.Prelude.{Option, Some, None, nat_lt, is_some, is_none, slice_get, unwrap_or, find}
 use Rattle.std.specs.Option.{option_map_or}
 use Rattle.std.specs.List.{range_with_len}
@@ -12,7 +12,7 @@ use Rattle.graph_model.specs.graph.Fits.{is_beyond, is_used}
 use Rattle.task_flow.specs.Flow.{IsFlow}
 use Rattle.task_flow.specs.Construction.{Made, Parts, new_name, parts_of, sources_after, wait_for, with_flow_line, no_line, line_in, first_number, number_from, made_after, graph_of, written, is_over}
 use Rattle.task_flow.specs.Fitting.{lined, with_lines, AreToFit}
-use Rattle.task_flow.specs.Making.{made_of, merge_of, IsPast, IsMaking}
+use Rattle.task_flow.specs.Making.{made_of, IsPast, IsMaking}
 use Rattle.task_flow.specs.declared.making.Making.{Making}
 use Rattle.task_flow.proofs.NameScan.{is_free}
 use Rattle.task_flow.proofs.Lists.{both_not}
@@ -177,15 +177,14 @@ first_is f o e = ap (λ x. unwrap_or x 0) e ∙ unwrapped (first_number f)
 abbrev made_with : List Line → List ℕ → List (List ℕ × ℕ) → ℕ → Made
 made_with lines places merges first = record { lines = lines; places = places; merges = merges; first = first }
 
-pub making_first : (f : GraphValue) (m : Making) → m.graph ≡ lined f.format f.decls [] → m.row.items ≡ [] → m.places.items ≡ [] → m.merges.items ≡ [] → m.first ≡ number_from f → m.named ≡ is_some (first_number f) → IsMaking f 0 m
+pub making_first : (f : GraphValue) (m : Making) → m.graph ≡ lined f.format f.decls [] → m.row.items ≡ [] → m.places.items ≡ [] → m.merges ≡ [] → m.first ≡ number_from f → m.named ≡ is_some (first_number f) → IsMaking f 0 m
 making_first f m graph row places merges first named =
     let lines : m.graph.lines ++ m.row.items ≡ [] = ap (λ xs. m.graph.lines ++ xs) row ∙ (append-nil m.graph.lines ∙ ap (λ (g : GraphValue). g.lines) graph) in
-    let noted : map merge_of m.merges.items ≡ [] = ap (map merge_of) merges in
     record {
       format = ap (λ (g : GraphValue). g.format) graph;
       decls = ap (λ (g : GraphValue). g.decls) graph;
       row = row;
-      made = ap (λ x. made_with x m.places.items (map merge_of m.merges.items) m.first) lines ∙ (ap (λ x. made_with [] x (map merge_of m.merges.items) m.first) places ∙ (ap (λ x. made_with [] [] x m.first) noted ∙ ap (λ x. made_with [] [] [] x) first));
+      made = ap (λ x. made_with x m.places.items m.merges m.first) lines ∙ (ap (λ x. made_with [] x m.merges m.first) places ∙ (ap (λ x. made_with [] [] x m.first) merges ∙ ap (λ x. made_with [] [] [] x) first));
       named = named;
       alone = λ h. ap (λ (g : GraphValue). length g.lines) graph;
     }

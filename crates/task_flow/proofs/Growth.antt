@@ -7,12 +7,11 @@ use Rattle.std.proofs.lemmas.Option.{none-some, same_Some}
 use Rattle.graph_model.specs.declared.graph.limits.TheConstants.{MAX_LINES}
 use Rattle.graph_model.specs.declared.graph.verb.Line.{Line}
 use Rattle.graph_model.specs.declared.graph.verb.Verb.TheVariants.{Merge}
-use Rattle.task_flow.specs.declared.making.Merged.{Merged}
 use Rattle.std.specs.Option.{option_map_or}
 use Rattle.task_flow.specs.Construction.{Made, Parts, wait_for, with_flow_line, new_name, merge_line, with_merge, merge_by, merge_for, with_event, event_for, place_in, events_for}
-use Rattle.task_flow.specs.Making.{IsPast, merge_of}
+use Rattle.task_flow.specs.Making.{IsPast}
 use Rattle.task_flow.proofs.Lists.{length_with}
-use Rattle.task_flow.proofs.Scans.{take_more, take_whole, find_map}
+use Rattle.task_flow.proofs.Scans.{take_more, take_whole}
 
 merge_by_longer : (o : Option (List ℕ × ℕ)) (es : List ℕ) (m : Made) → length m.lines ≤ length (merge_by o es m).0.lines
 merge_by_longer (Some x) es m = omega arith
@@ -106,44 +105,33 @@ pub rest_whole : (xs : List ℕ) (n i : ℕ) → n ≡ length xs → n ≤ i →
 rest_whole xs n i is h = take_whole (drop 64 xs) (i - 64) (let l : length (drop 64 xs) ≡ length xs - 64 = length-drop 64 xs in omega arith)
 
 -- the merge that was found, or the new one
-pub found_merge : (es : List ℕ) (m : Made) (items : List Merged) (line : ℕ) → m.merges ≡ map merge_of items → Some line ≡ option_map (λ (x : Merged). x.line) (find (λ (x : Merged). bytes_eq x.events es) items) → ◌≡◌ {A = Made × ℕ} (m, line) (merge_for es m)
-found_merge es m items line is h = by (find (λ (x : List ℕ × ℕ). bytes_eq x.0 es) m.merges) (h ∙ (there (find (λ (x : Merged). bytes_eq x.events es) items) ∙ sym (ap (option_map (λ (x : List ℕ × ℕ). x.1)) (ap (find (λ (x : List ℕ × ℕ). bytes_eq x.0 es)) is ∙ find_map (λ (x : List ℕ × ℕ). bytes_eq x.0 es) merge_of items))))
+pub found_merge : (es : List ℕ) (m : Made) (line : ℕ) → Some line ≡ option_map (λ (x : List ℕ × ℕ). x.1) (find (λ (x : List ℕ × ℕ). bytes_eq x.0 es) m.merges) → ◌≡◌ {A = Made × ℕ} (m, line) (merge_for es m)
+found_merge es m line h = by (find (λ (x : List ℕ × ℕ). bytes_eq x.0 es) m.merges) h
   where
-    there : (o : Option Merged) → option_map (λ (x : Merged). x.line) o ≡ option_map (λ (x : List ℕ × ℕ). x.1) (option_map merge_of o)
-    there None = refl
-    there (Some x) = refl
-
     by : (o : Option (List ℕ × ℕ)) → Some line ≡ option_map (λ (x : List ℕ × ℕ). x.1) o → ◌≡◌ {A = Made × ℕ} (m, line) (merge_by o es m)
     by None e = absurd (none-some line (sym e))
     by (Some x) e = ap (λ z. (m, z)) (same_Some line x.1 e)
 
-none_found : (es : List ℕ) (m : Made) (items : List Merged) → m.merges ≡ map merge_of items → None ≡ option_map (λ (x : Merged). x.line) (find (λ (x : Merged). bytes_eq x.events es) items) → find (λ (x : List ℕ × ℕ). bytes_eq x.0 es) m.merges ≡ None
-none_found es m items is h = ap (find (λ (x : List ℕ × ℕ). bytes_eq x.0 es)) is ∙ (find_map (λ (x : List ℕ × ℕ). bytes_eq x.0 es) merge_of items ∙ by (find (λ (x : Merged). bytes_eq x.events es) items) h)
+pub new_merge : (es : List ℕ) (m : Made) → None ≡ option_map (λ (x : List ℕ × ℕ). x.1) (find (λ (x : List ℕ × ℕ). bytes_eq x.0 es) m.merges) → ◌≡◌ {A = Made × ℕ} (with_merge es m, length m.lines) (merge_for es m)
+new_merge es m h = by (find (λ (x : List ℕ × ℕ). bytes_eq x.0 es) m.merges) h
   where
-    by : (o : Option Merged) → None ≡ option_map (λ (x : Merged). x.line) o → option_map merge_of o ≡ None
+    by : (o : Option (List ℕ × ℕ)) → None ≡ option_map (λ (x : List ℕ × ℕ). x.1) o → ◌≡◌ {A = Made × ℕ} (with_merge es m, length m.lines) (merge_by o es m)
     by None e = refl
-    by (Some x) e = absurd (none-some x.line e)
+    by (Some x) e = absurd (none-some x.1 e)
 
-pub new_merge : (es : List ℕ) (m : Made) (items : List Merged) → m.merges ≡ map merge_of items → None ≡ option_map (λ (x : Merged). x.line) (find (λ (x : Merged). bytes_eq x.events es) items) → ◌≡◌ {A = Made × ℕ} (with_merge es m, length m.lines) (merge_for es m)
-new_merge es m items is h = sym (ap (λ o. merge_by o es m) (none_found es m items is h))
-
-pub new_past : (es : List ℕ) (m : Made) (items : List Merged) → m.merges ≡ map merge_of items → None ≡ option_map (λ (x : Merged). x.line) (find (λ (x : Merged). bytes_eq x.events es) items) → MAX_LINES ≤ length m.lines → IsPast (merge_for es m).0
-new_past es m items is h full = subst (λ (r : Made × ℕ). IsPast r.0) (new_merge es m items is h)
+pub new_past : (es : List ℕ) (m : Made) → None ≡ option_map (λ (x : List ℕ × ℕ). x.1) (find (λ (x : List ℕ × ℕ). bytes_eq x.0 es) m.merges) → MAX_LINES ≤ length m.lines → IsPast (merge_for es m).0
+new_past es m h full = subst (λ (r : Made × ℕ). IsPast r.0) (new_merge es m h)
     (let l : length (m.lines ++ merge_line (m.first + length m.lines) es ∷ []) ≡ length m.lines + 1 = length-append m.lines (merge_line (m.first + length m.lines) es ∷ []) in let f : 8192 ≤ length m.lines = full in let r : 8192 < length (m.lines ++ merge_line (m.first + length m.lines) es ∷ []) = omega arith in r)
 
-map_push : (items : List Merged) (x : Merged) → map merge_of (items ++ x ∷ []) ≡ map merge_of items ++ merge_of x ∷ []
-map_push [] x = refl
-map_push (y ∷ ys) x = ap (λ zs. merge_of y ∷ zs) (map_push ys x)
-
 -- what stands with a merge more
-pub pushed_merge : (lines row row' : List Line) (places : List ℕ) (items items' : List Merged) (first line : ℕ) (es key name : List ℕ) → row' ≡ row ++ record { name = name; verb = Merge es; «on» = None } ∷ [] → name ≡ new_name (first + line) → line ≡ length (lines ++ row) →
-    items' ≡ items ++ record { events = key; line = line } ∷ [] → key ≡ es → ◌≡◌ {A = Made × ℕ} (made (lines ++ row') places (map merge_of items') first, line) (with_merge es (made (lines ++ row) places (map merge_of items) first), length (lines ++ row))
-pushed_merge lines row row' places items items' first line es key name r n at i k =
+pub pushed_merge : (lines row row' : List Line) (places : List ℕ) (items items' : List (List ℕ × ℕ)) (first line : ℕ) (es name : List ℕ) → row' ≡ row ++ record { name = name; verb = Merge es; «on» = None } ∷ [] → name ≡ new_name (first + line) → line ≡ length (lines ++ row) →
+    items' ≡ items ++ (es, line) ∷ [] → ◌≡◌ {A = Made × ℕ} (made (lines ++ row') places items' first, line) (with_merge es (made (lines ++ row) places items first), length (lines ++ row))
+pushed_merge lines row row' places items items' first line es name r n at i =
     let all : lines ++ row' ≡ (lines ++ row) ++ merge_line (first + length (lines ++ row)) es ∷ [] = ap (λ xs. lines ++ xs) r ∙ (sym (append_assoc lines row (record { name = name; verb = Merge es; «on» = None } ∷ [])) ∙ (ap (λ z. (lines ++ row) ++ record { name = z; verb = Merge es; «on» = None } ∷ []) n ∙ ap (λ z. (lines ++ row) ++ record { name = new_name (first + z); verb = Merge es; «on» = None } ∷ []) at)) in
-    let noted : map merge_of items' ≡ map merge_of items ++ (es, length (lines ++ row)) ∷ [] = ap (map merge_of) i ∙ (map_push items (record { events = key; line = line }) ∙ (ap (λ z. map merge_of items ++ (z, line) ∷ []) k ∙ ap (λ z. map merge_of items ++ (es, z) ∷ []) at)) in
+    let noted : items' ≡ items ++ (es, length (lines ++ row)) ∷ [] = i ∙ ap (λ z. items ++ (es, z) ∷ []) at in
     let pair : Made → ℕ → Made × ℕ = λ a b. (a, b) in
-    ap (λ z. pair (made z places (map merge_of items') first) line) all ∙ (ap (λ z. pair (made ((lines ++ row) ++ merge_line (first + length (lines ++ row)) es ∷ []) places z first) line) noted
-    ∙ ap (λ z. pair (made ((lines ++ row) ++ merge_line (first + length (lines ++ row)) es ∷ []) places (map merge_of items ++ (es, length (lines ++ row)) ∷ []) first) z) at)
+    ap (λ z. pair (made z places items' first) line) all ∙ (ap (λ z. pair (made ((lines ++ row) ++ merge_line (first + length (lines ++ row)) es ∷ []) places z first) line) noted
+    ∙ ap (λ z. pair (made ((lines ++ row) ++ merge_line (first + length (lines ++ row)) es ∷ []) places (items ++ (es, length (lines ++ row)) ∷ []) first) z) at)
 
 -- a turn of the loop that merges events
 pub record Turn (n : ℕ) (es : List ℕ) (m : Made) (left' : List ℕ) (made' : Made) : Type 0 where

@@ -1,19 +1,15 @@
 -- What stands in the code while a graph is made.
-use Rattle.std.specs.Prelude.{◌≡◌, ℕ, ◌+◌, ◌<◌, false, is_some, List, [], ◌++◌, length, map}
+use Rattle.std.specs.Prelude.{◌≡◌, ℕ, ◌+◌, ◌<◌, false, is_some, [], ◌++◌, length}
 use Rattle.graph_model.specs.declared.graph.limits.TheConstants.{MAX_LINES}
 use Rattle.graph_model.specs.graph.Graph.{GraphValue}
 use Rattle.task_flow.specs.Construction.{Made, made_after, first_number, number_from, is_over}
 use Rattle.task_flow.specs.Rows.{IsKept}
 use Rattle.task_flow.specs.declared.making.Making.{Making}
-use Rattle.task_flow.specs.declared.making.Merged.{Merged}
 use Rattle.task_flow.specs.declared.rows.Rows.{Rows}
-
-abbrev pub merge_of : Merged → List ℕ × ℕ
-merge_of x = (x.events, x.line)
 
 -- the lines of the graph, and those that are to be put into it
 abbrev pub made_of : Making → Made
-made_of m = record { lines = m.graph.lines ++ m.row.items; places = m.places.items; merges = map merge_of m.merges.items; first = m.first }
+made_of m = record { lines = m.graph.lines ++ m.row.items; places = m.places.items; merges = m.merges; first = m.first }
 
 -- there are more lines than a graph may have
 abbrev pub IsPast : Made → Type 0

@@ -6,7 +6,7 @@ ghost use Rattle.task_flow.specs.Flow.{IsFlow, uses_columns};
 
 use graph_model::decl::Decl;
 use graph_model::graph::Graph;
-use graph_model::lists::{LineList, NameList};
+use graph_model::lists::NameList;
 use graph_model::name::Name;
 use graph_model::verb::Verb;
 use index_spaces::NoMemory;
@@ -81,17 +81,6 @@ fn copy_of_names(alloc: Global, names: &NameList) -> Result<NameList, NoMemory>
     let mut copy = NameList::new(alloc);
     for name in names.items.as_slice() {
         copy.push(*name)?;
-    }
-    Ok(copy)
-}
-
-/// A copy of a list of lines.
-pub(crate) fn copy_of_lines(alloc: Global, lines: &LineList) -> Result<LineList, NoMemory>
-    ensures { IfOk result (λ n. n ≡ lines.now) }
-{
-    let mut copy = LineList::new(alloc);
-    for line in lines.items.as_slice() {
-        copy.push(*line)?;
     }
     Ok(copy)
 }

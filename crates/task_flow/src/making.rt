@@ -1,13 +1,14 @@
 //! What stands while the graph of a flow is made.
 
-ghost use Rattle.std.specs.Prelude.{◌≡◌, ℕ, ◌+◌, ◌≤◌, ◌<◌, [], length, take, drop, map, find, bytes_eq, not, ◌&&◌, nat_lt, false, true, option_map, IsTrue, IfOk, OnOk};
+ghost use Rattle.std.specs.Prelude.{◌≡◌, ℕ, ◌+◌, ◌≤◌, ◌<◌, [], length, take, drop, map, not, ◌&&◌, nat_lt, false, true, IsTrue, IfOk, OnOk};
 ghost use Rattle.graph_model.specs.graph.Fits.{is_beyond};
 ghost use Rattle.task_flow.specs.Flow.{IsFlow, uses_columns};
 ghost use Rattle.task_flow.specs.Rows.{IsKept};
 ghost use Rattle.task_flow.specs.Construction.{merge_for, with_event, event_for, events_for, place_in, wait_for, with_flow_line, is_over};
 ghost use Rattle.task_flow.specs.Fitting.{AreToFit, with_lines};
 
-use crate::copies::{copy_of_lines, copy_of_verb, declared};
+use crate::copies::{copy_of_verb, declared};
+use crate::merges::Merges;
 use crate::numbers::{first_number, new_name};
 use crate::rows::Rows;
 use crate::sources::{Parts, add_row, has, parts_of};
@@ -38,13 +39,6 @@ impl From<NoMemory> for Stop {
     }
 }
 
-/// A merge that stands: its events and its line.
-#[derive(Drop)]
-pub(crate) struct Merged {
-    pub(crate) events: LineList,
-    pub(crate) line: u32,
-}
-
 /// The graph so far, the lines that are to be put into it next, the place of each line of the flow,
 /// the merges, and the first number of the names, where there is one.
 #[derive(Drop)]
@@ -52,7 +46,7 @@ pub(crate) struct Making {
     pub(crate) graph: Graph,
     pub(crate) row: Vec<Line>,
     pub(crate) places: Vec<u32>,
-    pub(crate) merges: Vec<Merged>,
+    pub(crate) merges: Merges,
     pub(crate) named: bool,
     pub(crate) first: u64,
     ghost small: { first ≤ 100000000000000000 },
@@ -60,7 +54,6 @@ pub(crate) struct Making {
 
 impl Making {
     ghost use Rattle.task_flow.specs.Making.{made_of, IsPast, IsMaking, IsNext};
-    ghost use Rattle.task_flow.specs.declared.making.Merged.{Merged};
 
     /// The declarations of a flow, and none of its lines.
     pub(crate) fn new(alloc: Global, flow: &Graph) -> Result<Making, NoMemory>
@@ -73,20 +66,10 @@ impl Making {
             graph,
             row: Vec::new(alloc),
             places: Vec::new(alloc),
-            merges: Vec::new(alloc),
+            merges: Merges::new(alloc),
             named: numbers.is_some(),
             first: numbers.unwrap_or(0),
         })
-    }
-
-    /// Whether the merge of these events stands, and where.
-    fn found(&self, events: &LineList) -> Option<u32>
-        ensures { result ≡ option_map (λ (x : Merged). x.line) (find (λ (x : Merged). bytes_eq x.events events.now) self.now.merges.items) }
-    {
-        self.merges
-            .iter()
-            .find(|merged| are_same(&merged.events, events))
-            .map(|merged| merged.line)
     }
 
     /// The number of the next line. `Limit` where there are as many as a graph may have.
@@ -110,17 +93,16 @@ impl Making {
         ensures named { self.new.named ≡ self.old.named }
         ensures limit { result ≡ Err Stop.Limit → IsPast (merge_for events (made_of self.old)).0 }
     {
-        match self.found(&events) {
+        match self.merges.find(&events) {
             Some(line) => return Ok(line),
             None => {}
         }
         let line = self.next_line()?;
         let name = new_name(alloc, self.first, line)?;
-        let key = copy_of_lines(alloc, &events)?;
+        self.merges.add(alloc, &events, line)?;
         let verb = Verb::Merge { events };
         let on = None;
         push(&mut self.row, Line { name, verb, on })?;
-        push(&mut self.merges, Merged { events: key, line })?;
         Ok(line)
     }
 
@@ -266,13 +248,6 @@ impl Making {
         add_row(alloc, flow, false, rows, &parts)?;
         Ok(())
     }
-}
-
-/// Whether two lists are the same.
-fn are_same(one: &LineList, other: &LineList) -> bool
-    ensures { result ≡ bytes_eq one.now other.now }
-{
-    one.items.as_slice() == other.items.as_slice()
 }
 
 /// The first of some events, at most as many as a merge names.

@@ -7,4 +7,4 @@ pub invariant_of-result : goal.invariant_of-result
 invariant_of-result c = record { small = rw c.unwrap_or.ensures (first_small c.args.flow.now c.first_number-numbers.result c.first_number-numbers.ensures) }
 
 pub returns : goal.returns
-returns c = making_first c.args.flow.now _ c.in_ok-graph.ensures c.new.ensures.items c.new-2.ensures.items c.new-3.ensures.items (c.unwrap_or.ensures ∙ first_is c.args.flow.now c.first_number-numbers.result c.first_number-numbers.ensures) (c.is_some.ensures ∙ ap is_some c.first_number-numbers.ensures)
+returns c = making_first c.args.flow.now _ c.in_ok-graph.ensures c.new.ensures.items c.new-2.ensures.items c.new-3.ensures (c.unwrap_or.ensures ∙ first_is c.args.flow.now c.first_number-numbers.result c.first_number-numbers.ensures) (c.is_some.ensures ∙ ap is_some c.first_number-numbers.ensures)
