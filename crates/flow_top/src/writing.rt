@@ -6,7 +6,6 @@ ghost use Rattle.graph_reader.specs.Text.{text};
 use graph_model::graph::Graph;
 use graph_reader::put_graph;
 use index_spaces::NoMemory;
-use index_spaces::room::filled;
 use realm_io::MemorySink;
 use std::alloc::Global;
 
@@ -33,5 +32,8 @@ pub(crate) fn graph_text(alloc: Global, graph: &Graph) -> Result<Vec<u8>, NoMemo
 
 /// Room for so many bytes.
 fn room_for(alloc: Global, count: usize) -> Result<Vec<u8>, NoMemory> {
-    filled(alloc, 0, count)
+    match vec![in alloc; 0; count] {
+        Ok(room) => Ok(room),
+        Err(_) => Err(NoMemory),
+    }
 }

@@ -1,8 +1,8 @@
 -- The loops that find the sources of a line, by rows of what reaches the lines above it.
-use Rattle.std.proofs.Common.{◌≡◌, ℕ, zero, suc, ◌+◌, ◌/◌, ◌<◌, ◌≤◌, Bool, true, false, cond, not, ◌||◌, inl, inr, List, [], ◌∷◌, ◌++◌, length, take, refl, sym, ◌∙◌, ap, subst, append_assoc, append-nil, length-append, arith}
-use Rattle.std.specs.Prelude.{Contains, ◌==◌, filter, flat_map, Some, slice_get, slice_index_or}
+use Rattle.std.proofs.Common.{◌≡◌, ℕ, zero, suc, ◌+◌, ◌/◌, ◌<◌, ◌≤◌, Bool, true, false, cond, not, ◌⊎◌, inl, inr, ◌||◌, List, [], ◌∷◌, ◌++◌, length, take, refl, sym, ◌∙◌, ap, subst, append_assoc, append-nil, length-append, arith}
+use Rattle.std.specs.Prelude.{Contains, ◌==◌, ◌&&◌, filter, flat_map, Some, slice_get, slice_index_or}
 use Rattle.std.specs.List.{list_any}
-use Rattle.std.proofs.lemmas.Bool.{cases_Bool, cases_lt}
+use Rattle.std.proofs.lemmas.Bool.{true≢false, cases_Bool, cases_lt, and_parts}
 use Rattle.std.proofs.lemmas.List.Folds.{list_any-append}
 use Rattle.std.proofs.lemmas.List.Concat.{flat_map-append}
 use Rattle.std.proofs.lemmas.List.Elements.{Contains-append_cases, filter-append}
@@ -98,40 +98,49 @@ module _ (f : GraphValue) (commute : Bool) where
       flat : flat_map (λ (p : List ℕ). p) (take (j + 1) kept) ≡ flat_map (λ (p : List ℕ). p) (take j kept) ++ part
       flat = ap (flat_map (λ (p : List ℕ). p)) (take_more kept j part at) ∙ (flat_map-append (λ (p : List ℕ). p) (take j kept) (part ∷ []) ∙ ap (λ xs. flat_map (λ (p : List ℕ). p) (take j kept) ++ xs) (append-nil part))
 
-  -- from one line that is asked for down to the next
-  filter_gap : (t : ℕ → Bool) (low high : ℕ) → low ≤ high → ((i : ℕ) → low ≤ i → i < high → t i ≡ false) → filter t (down_from high) ≡ filter t (down_from low)
-  filter_gap t low zero h none = ap (λ z. filter t (down_from z)) (let e : zero ≡ low = omega arith in e)
-  filter_gap t low (suc high) h none = elim (cases_lt high low) [
-    | inl top ↦ ap (λ z. filter t (down_from z)) (let e : suc high ≡ low = omega arith in e)
-    | inr more ↦ ap (λ x. cond x (high ∷ filter t (down_from high)) (filter t (down_from high))) (none high more (omega arith)) ∙ filter_gap t low high more (λ i a b. none i a (omega arith))
+  -- from one line that is asked for and not reached down to the next
+  gap_by : (ks : List ℕ) (n high : ℕ) (t : ℕ → Bool) (b : Bool) → t high ≡ b → (t high ≡ false) ⊎ (is_reached (table n) ks high ≡ true) → least (table n) ks (cond b (high ∷ filter t (down_from high)) (filter t (down_from high))) ≡ least (table n) ks (filter t (down_from high))
+  gap_by ks n high t false e why = refl
+  gap_by ks n high t true e (inl fails) = absurd (true≢false (sym e ∙ fails))
+  gap_by ks n high t true e (inr reached) = ap (λ x. cond x (least (table n) ks (filter t (down_from high))) (high ∷ least (table n) (ks ++ high ∷ []) (filter t (down_from high)))) reached
+
+  least_gap : (n : ℕ) (ks : List ℕ) (t : ℕ → Bool) (low high : ℕ) → low ≤ high → ((i : ℕ) → low ≤ i → i < high → (t i ≡ false) ⊎ (is_reached (table n) ks i ≡ true)) → least (table n) ks (filter t (down_from high)) ≡ least (table n) ks (filter t (down_from low))
+  least_gap n ks t low zero h none = ap (λ z. least (table n) ks (filter t (down_from z))) (let e : zero ≡ low = omega arith in e)
+  least_gap n ks t low (suc high) h none = elim (cases_lt high low) [
+    | inl top ↦ ap (λ z. least (table n) ks (filter t (down_from z))) (let e : suc high ≡ low = omega arith in e)
+    | inr more ↦ gap_by ks n high t (t high) refl (none high more (omega arith)) ∙ least_gap n ks t low high more (λ i a b. none i a (omega arith))
   ]
 
-  filter_next : (t : ℕ → Bool) (line above : ℕ) → line < above → t line ≡ true → ((i : ℕ) → line < i → i < above → t i ≡ false) → filter t (down_from above) ≡ line ∷ filter t (down_from line)
-  filter_next t line above h asked none =
-      filter_gap t (suc line) above (omega arith) (λ i a b. none i (omega arith) b) ∙ ap (λ x. cond x (line ∷ filter t (down_from line)) (filter t (down_from line))) asked
+  -- a line that is not shown is not asked for, or reached
+  hidden_why : (n : ℕ) (ks : List ℕ) (t m : ℕ → Bool) (i : ℕ) → m i ≡ is_reached (table n) ks i → (t i && not (m i)) ≡ false → (t i ≡ false) ⊎ (is_reached (table n) ks i ≡ true)
+  hidden_why n ks t m i is h = by (t i) (m i) is h
+    where
+      by : (a b : Bool) → b ≡ is_reached (table n) ks i → (a && not b) ≡ false → (a ≡ false) ⊎ (is_reached (table n) ks i ≡ true)
+      by false b e f = inl refl
+      by true true e f = inr (sym e)
+      by true false e f = absurd (true≢false f)
 
   -- a line that is kept
-  pub least_keeps : (n : ℕ) (t : ℕ → Bool) (start all part part' : List ℕ) (above line : ℕ) → line < above → t line ≡ true → ((i : ℕ) → line < i → i < above → t i ≡ false) → all ≡ part ++ least (table n) (start ++ part) (filter t (down_from above)) → is_reached (table n) (start ++ part) line ≡ false → part' ≡ part ++ line ∷ [] →
-      all ≡ part' ++ least (table n) (start ++ part') (filter t (down_from line))
-  least_keeps n t start all part part' above line h asked none is out pushed =
+  pub least_keeps : (n : ℕ) (t m : ℕ → Bool) (start all part part' : List ℕ) (above line : ℕ) → ((i : ℕ) → m i ≡ is_reached (table n) (start ++ part) i) → line < above → (t line && not (m line)) ≡ true → ((i : ℕ) → line < i → i < above → (t i && not (m i)) ≡ false) →
+      all ≡ part ++ least (table n) (start ++ part) (filter t (down_from above)) → part' ≡ part ++ line ∷ [] → all ≡ part' ++ least (table n) (start ++ part') (filter t (down_from line))
+  least_keeps n t m start all part part' above line mask h shown none is pushed =
       let rest = filter t (down_from line) in
-      is ∙ (ap (λ xs. part ++ least (table n) (start ++ part) xs) (filter_next t line above h asked none)
+      let both = and_parts (t line) (not (m line)) shown in
+      let out : is_reached (table n) (start ++ part) line ≡ false = sym (mask line) ∙ false_by (m line) both.1 in
+      is ∙ (ap (λ xs. part ++ xs) (least_gap n (start ++ part) t (suc line) above (omega arith) (λ i a b. hidden_why n (start ++ part) t m i (mask i) (none i (omega arith) b)))
+      ∙ (ap (λ x. part ++ least (table n) (start ++ part) (cond x (line ∷ rest) rest)) both.0
       ∙ (ap (λ x. part ++ cond x (least (table n) (start ++ part) rest) (line ∷ least (table n) ((start ++ part) ++ line ∷ []) rest)) out
       ∙ (sym (append_assoc part (line ∷ []) (least (table n) ((start ++ part) ++ line ∷ []) rest))
       ∙ (ap (λ ks. (part ++ line ∷ []) ++ least (table n) ks rest) (append_assoc start part (line ∷ []))
-      ∙ ap (λ p. p ++ least (table n) (start ++ p) rest) (sym pushed)))))
-
-  -- a line that is reached
-  pub least_skips : (n : ℕ) (t : ℕ → Bool) (start all part : List ℕ) (above line : ℕ) → line < above → t line ≡ true → ((i : ℕ) → line < i → i < above → t i ≡ false) → all ≡ part ++ least (table n) (start ++ part) (filter t (down_from above)) → is_reached (table n) (start ++ part) line ≡ true →
-      all ≡ part ++ least (table n) (start ++ part) (filter t (down_from line))
-  least_skips n t start all part above line h asked none is reached =
-      let rest = filter t (down_from line) in
-      is ∙ (ap (λ xs. part ++ least (table n) (start ++ part) xs) (filter_next t line above h asked none)
-      ∙ ap (λ x. part ++ cond x (least (table n) (start ++ part) rest) (line ∷ least (table n) ((start ++ part) ++ line ∷ []) rest)) reached)
+      ∙ ap (λ p. p ++ least (table n) (start ++ p) rest) (sym pushed))))))
+    where
+      false_by : (b : Bool) → not b ≡ true → b ≡ false
+      false_by false e = refl
+      false_by true e = sym e
 
   -- no line is left
-  pub least_ends : (n : ℕ) (t : ℕ → Bool) (start all part : List ℕ) (above : ℕ) → ((i : ℕ) → i < above → t i ≡ false) → all ≡ part ++ least (table n) (start ++ part) (filter t (down_from above)) → part ≡ all
-  least_ends n t start all part above none is = sym (is ∙ (ap (λ xs. part ++ least (table n) (start ++ part) xs) (filter_gap t 0 above (omega arith) (λ i a b. none i b)) ∙ append-nil part))
+  pub least_ends : (n : ℕ) (t m : ℕ → Bool) (start all part : List ℕ) (above : ℕ) → ((i : ℕ) → m i ≡ is_reached (table n) (start ++ part) i) → ((i : ℕ) → i < above → (t i && not (m i)) ≡ false) → all ≡ part ++ least (table n) (start ++ part) (filter t (down_from above)) → part ≡ all
+  least_ends n t m start all part above mask none is = sym (is ∙ (ap (λ xs. part ++ xs) (least_gap n (start ++ part) t 0 above (omega arith) (λ i a b. hidden_why n (start ++ part) t m i (mask i) (none i b))) ∙ append-nil part))
 
   -- the parts of the first accesses, and one more
   pub part_joins : (n : ℕ) (t : List ℕ → Bool) (bs : List Access) (k : ℕ) (b : Access) (part : List ℕ) (old new : List (List ℕ)) → slice_get bs k ≡ Some b → part ≡ least (table n) [] (tied_by f commute n b) → t part ≡ true → old ≡ filter t (parts_at f commute n (take k bs)) → new ≡ old ++ part ∷ [] →

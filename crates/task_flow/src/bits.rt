@@ -1,7 +1,8 @@
 //! Rows of bits.
 
-ghost use Rattle.std.specs.Prelude.{◌≡◌, ℕ, ◌<◌, ◌≤◌, ◌*◌, ◌/◌, ◌==◌, ◌||◌, true, false, length, IfOk, MatchOption};
-ghost use Rattle.task_flow.specs.Bits.{word_bit};
+ghost use Rattle.std.specs.Prelude.{◌≡◌, ℕ, ◌<◌, ◌≤◌, ◌*◌, ◌/◌, ◌==◌, ◌||◌, ◌&&◌, nat_le, not, true, false, length, IfOk, MatchOption};
+ghost use Rattle.std.specs.Int.{bit_at};
+ghost use Rattle.task_flow.specs.Bits.{word_bit, is_shown, IsShownWord};
 
 use index_spaces::NoMemory;
 use std::alloc::Global;
@@ -41,22 +42,31 @@ impl Bits {
         self.words[j as usize / 64] >> (j % 64) & 1 == 1
     }
 
-    /// The greatest number below a bound whose bit is set.
-    pub(crate) fn last_below(&self, bound: u32) -> Option<u32>
-        requires { bound ≤ 64 * length self.now }
-        ensures { MatchOption result ((j : ℕ) → j < bound → word_bit self.now j ≡ false) (λ k. (k < bound) × (word_bit self.now k ≡ true) × ((j : ℕ) → k < j → j < bound → word_bit self.now j ≡ false)) }
+    /// The word of a number, with the bits that are set here, are not hidden and are of no greater
+    /// number.
+    fn shown_word(&self, hidden: &Bits, last: u32) -> u64
+        requires size { length hidden.now ≡ length self.now }
+        requires last { last / 64 < length self.now }
+        ensures { IsShownWord self.now hidden.now last result }
+    {
+        let word = last as usize / 64;
+        shown_bits(self.words[word], hidden.words[word], last % 64)
+    }
+
+    /// The greatest number below a bound whose bit is set here and not hidden.
+    pub(crate) fn last_below(&self, hidden: &Bits, bound: u32) -> Option<u32>
+        requires size { length hidden.now ≡ length self.now }
+        requires bound { bound ≤ 64 * length self.now }
+        ensures { MatchOption result ((j : ℕ) → j < bound → is_shown self.now hidden.now j ≡ false) (λ k. (k < bound) × (is_shown self.now hidden.now k ≡ true) × ((j : ℕ) → k < j → j < bound → is_shown self.now hidden.now j ≡ false)) }
     {
         let mut left = bound;
         while left > 0 {
             let last = left - 1;
-            if self.words[last as usize / 64] == 0 {
-                left = last - last % 64;
-                continue;
+            left = last - last % 64;
+            let word = self.shown_word(hidden, last);
+            if word != 0 {
+                return Some(left + word.ilog2());
             }
-            if self.test(last) {
-                return Some(last);
-            }
-            left = last;
         }
         None
     }
@@ -80,4 +90,12 @@ impl Bits {
             self.words[w] |= add.words[w];
         }
     }
+}
+
+/// The bits of a word that are not those of another, up to a place.
+fn shown_bits(word: u64, hidden: u64, place: u32) -> u64
+    requires { place < 64 }
+    ensures { (i : ℕ) → i < 64 → (bit_at result i == 1) ≡ (nat_le i place && ((bit_at word i == 1) && not (bit_at hidden i == 1))) }
+{
+    word & !hidden & (u64::MAX >> (63 - place))
 }

@@ -127,11 +127,8 @@ fn least(
     let mut part = LineList::new(alloc);
     let _ = flow.lines();
     let mut above = rows.rows.len() as u32;
-    'lines: while let Some(line) = asked.last_below(above) {
+    'lines: while let Some(line) = asked.last_below(&mask, above) {
         above = line;
-        if mask.test(line) {
-            continue;
-        }
         part.push(line)?;
         rows.reach(&mut mask, line);
     }

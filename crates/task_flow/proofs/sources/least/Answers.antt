@@ -2,20 +2,8 @@ use Rattle.std.proofs.Common.{◌≡◌, ◌<◌, ◌≤◌, ◌+◌, ◌++◌, 
 use Rattle.std.specs.Prelude.{flat_map, slice_index_or}
 use Rattle.task_flow.specs.Bits.{word_bit}
 use Rattle.task_flow.specs.Construction.{is_reached, sources_after}
-use Rattle.task_flow.proofs.SourceSteps.{reach_more, least_keeps, least_skips, least_ends}
+use Rattle.task_flow.proofs.SourceSteps.{reach_more, least_keeps, least_ends}
 use Rattle.task_flow.proofs.sources.least.Goals as goal
-
-pub lines-preserved-then-test : goal.lines-preserved-then-test
-lines-preserved-then-test c =
-    let f = c.args.flow.now in
-    let n = length c.args.rows.now.rows.items in
-    let next = c.in-Some.ensures in
-    let start = flat_map (λ p. p) c.args.kept.now in record {
-      size = c.lines.invariant.size;
-      few = (let b = c.lines.invariant.few in let l = next.0 in omega (arith, b, l));
-      bits = c.lines.invariant.bits;
-      rest = least_skips f c.args.commute n (word_bit c.args.asked.now) start _ c.lines.part c.lines.above c.in-Some.line next.0 next.1 next.2 c.lines.invariant.rest (sym (c.lines.invariant.bits c.in-Some.line) ∙ (sym c.test.ensures ∙ c.if-test.true));
-    }
 
 pub lines-preserved : goal.lines-preserved
 lines-preserved c =
@@ -34,9 +22,9 @@ lines-preserved c =
       bits = λ j. reach_more f c.args.commute n (start ++ c.lines.part) line j (word_bit c.lines.mask j) (word_bit c.reach.new.mask j) (word_bit (slice_index_or c.args.rows.now.rows.items line []) j)
           (c.reach.ensures.bits j) (c.lines.invariant.bits j) (c.requires.rows.bits line j (omega arith))
           ∙ ap (λ xs. is_reached (sources_after f c.args.commute n) xs j) (append_assoc start c.lines.part (line ∷ []) ∙ ap (λ xs. start ++ xs) (sym pushed));
-      rest = least_keeps f c.args.commute n (word_bit c.args.asked.now) start _ c.lines.part c.push.new.self c.lines.above line next.0 next.1 next.2 c.lines.invariant.rest (sym (c.lines.invariant.bits line) ∙ (sym c.test.ensures ∙ c.if-test.false)) pushed;
+      rest = least_keeps f c.args.commute n (word_bit c.args.asked.now) (word_bit c.lines.mask) start _ c.lines.part c.push.new.self c.lines.above line c.lines.invariant.bits next.0 next.1 next.2 c.lines.invariant.rest pushed;
     }
 
 pub returns : goal.returns
 returns c =
-    least_ends c.args.flow.now c.args.commute (length c.args.rows.now.rows.items) (word_bit c.args.asked.now) (flat_map (λ p. p) c.args.kept.now) _ c.lines.part c.lines.above c.in_default.ensures c.lines.invariant.rest
+    least_ends c.args.flow.now c.args.commute (length c.args.rows.now.rows.items) (word_bit c.args.asked.now) (word_bit c.lines.mask) (flat_map (λ p. p) c.args.kept.now) _ c.lines.part c.lines.above c.lines.invariant.bits c.in_default.ensures c.lines.invariant.rest
