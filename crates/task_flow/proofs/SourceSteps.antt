@@ -37,17 +37,17 @@ or_turn true false = refl
 or_turn false true = refl
 or_turn false false = refl
 
-module _ (f : GraphValue) where
+module _ (f : GraphValue) (commute : Bool) where
   abbrev pub table : ℕ → List (List ℕ)
-  table n = sources_after f false n
+  table n = sources_after f commute n
 
-  first_has_none : (k : ℕ) → Contains (sources_of f false 0) k → ⊥
-  first_has_none k c = let b : k < 0 = depends_below f false k 0 (sources_sound f false 0 k c) in absurd (omega arith)
+  first_has_none : (k : ℕ) → Contains (sources_of f commute 0) k → ⊥
+  first_has_none k c = let b : k < 0 = depends_below f commute k 0 (sources_sound f commute 0 k c) in absurd (omega arith)
 
   -- what reaches a line is the same by longer tables and in more steps
   none_reaches : (n m i : ℕ) → 0 < n → reaches (table n) m i 0 ≡ false
   none_reaches n zero i h = refl
-  none_reaches n (suc m) i h = ap (list_any (λ z. (z == i) || reaches (table n) m i z)) (table_at f false n 0 h) ∙ (any_same (λ z. (z == i) || reaches (table n) m i z) (λ z. false) (sources_of f false 0) (λ z c. absurd (first_has_none z c)) ∙ all_false (sources_of f false 0))
+  none_reaches n (suc m) i h = ap (list_any (λ z. (z == i) || reaches (table n) m i z)) (table_at f commute n 0 h) ∙ (any_same (λ z. (z == i) || reaches (table n) m i z) (λ z. false) (sources_of f commute 0) (λ z c. absurd (first_has_none z c)) ∙ all_false (sources_of f commute 0))
     where
       all_false : (xs : List ℕ) → list_any (λ z. false) xs ≡ false
       all_false [] = refl
@@ -59,19 +59,19 @@ module _ (f : GraphValue) where
   agree (suc bound) n zero n' m' (suc k) i h a b c d = absurd (let x : suc k ≤ 0 = c in omega arith)
   agree (suc bound) n (suc m) n' zero (suc k) i h a b c d = absurd (let x : suc k ≤ 0 = d in omega arith)
   agree (suc bound) n (suc m) n' (suc m') (suc k) i h a b c d =
-      ap (list_any (λ z. (z == i) || reaches (table n) m i z)) (table_at f false n (suc k) a)
-      ∙ (any_same (λ z. (z == i) || reaches (table n) m i z) (λ z. (z == i) || reaches (table n') m' i z) (sources_of f false (suc k)) (λ z e.
-      let below : z < suc k = depends_below f false z (suc k) (sources_sound f false (suc k) z e) in
+      ap (list_any (λ z. (z == i) || reaches (table n) m i z)) (table_at f commute n (suc k) a)
+      ∙ (any_same (λ z. (z == i) || reaches (table n) m i z) (λ z. (z == i) || reaches (table n') m' i z) (sources_of f commute (suc k)) (λ z e.
+      let below : z < suc k = depends_below f commute z (suc k) (sources_sound f commute (suc k) z e) in
       ap (λ x. (z == i) || x) (agree bound n m n' m' z i (omega arith) (omega arith) (omega arith) (omega arith) (omega arith)))
-      ∙ ap (list_any (λ z. (z == i) || reaches (table n') m' i z)) (sym (table_at f false n' (suc k) b)))
+      ∙ ap (list_any (λ z. (z == i) || reaches (table n') m' i z)) (sym (table_at f commute n' (suc k) b)))
 
   -- the row of the next line, and of the lines before it
-  pub row_next : (n i : ℕ) → is_reached (table n) (sources_of f false n) i ≡ reaches (table (n + 1)) n i n
+  pub row_next : (n i : ℕ) → is_reached (table n) (sources_of f commute n) i ≡ reaches (table (n + 1)) n i n
   row_next n i = sym (ap (λ z. reaches (table z) n i n) (let e : n + 1 ≡ suc n = omega arith in e)
       ∙ (agree (suc n) (suc n) n (suc n) (suc n) n i (omega arith) (omega arith) (omega arith) (omega arith) (omega arith)
-      ∙ (ap (list_any (λ z. (z == i) || reaches (table (suc n)) n i z)) (table_at f false (suc n) n (omega arith))
-      ∙ any_same (λ z. (z == i) || reaches (table (suc n)) n i z) (λ z. (z == i) || reaches (table n) z i z) (sources_of f false n) (λ z e.
-      let below : z < n = depends_below f false z n (sources_sound f false n z e) in
+      ∙ (ap (list_any (λ z. (z == i) || reaches (table (suc n)) n i z)) (table_at f commute (suc n) n (omega arith))
+      ∙ any_same (λ z. (z == i) || reaches (table (suc n)) n i z) (λ z. (z == i) || reaches (table n) z i z) (sources_of f commute n) (λ z e.
+      let below : z < n = depends_below f commute z n (sources_sound f commute n z e) in
       ap (λ x. (z == i) || x) (agree n (suc n) n n z z i (omega arith) (omega arith) (omega arith) (omega arith) (omega arith))))))
 
   pub row_keeps : (n k i : ℕ) → k < n → reaches (table n) k i k ≡ reaches (table (n + 1)) k i k
@@ -131,48 +131,48 @@ module _ (f : GraphValue) where
       ]
 
   -- the parts of the first accesses, and one more
-  pub part_joins : (n : ℕ) (t : List ℕ → Bool) (bs : List Access) (k : ℕ) (b : Access) (part : List ℕ) (old new : List (List ℕ)) → slice_get bs k ≡ Some b → part ≡ least (table n) [] (tied_by f false n b) → t part ≡ true → old ≡ filter t (parts_at f n (take k bs)) → new ≡ old ++ part ∷ [] →
-      new ≡ filter t (parts_at f n (take (k + 1) bs))
+  pub part_joins : (n : ℕ) (t : List ℕ → Bool) (bs : List Access) (k : ℕ) (b : Access) (part : List ℕ) (old new : List (List ℕ)) → slice_get bs k ≡ Some b → part ≡ least (table n) [] (tied_by f commute n b) → t part ≡ true → old ≡ filter t (parts_at f commute n (take k bs)) → new ≡ old ++ part ∷ [] →
+      new ≡ filter t (parts_at f commute n (take (k + 1) bs))
   part_joins n t bs k b part old new at is yes' was pushed =
-      pushed ∙ (ap (λ xs. xs ++ part ∷ []) was ∙ sym (split n t bs k b at ∙ ap (λ xs. filter t (parts_at f n (take k bs)) ++ xs) (ap (λ z. filter t (z ∷ [])) (sym is) ∙ ap (λ x. cond x (part ∷ []) []) yes')))
+      pushed ∙ (ap (λ xs. xs ++ part ∷ []) was ∙ sym (split n t bs k b at ∙ ap (λ xs. filter t (parts_at f commute n (take k bs)) ++ xs) (ap (λ z. filter t (z ∷ [])) (sym is) ∙ ap (λ x. cond x (part ∷ []) []) yes')))
     where
-      split : (n : ℕ) (t : List ℕ → Bool) (bs : List Access) (k : ℕ) (b : Access) → slice_get bs k ≡ Some b → filter t (parts_at f n (take (k + 1) bs)) ≡ filter t (parts_at f n (take k bs)) ++ filter t (least (table n) [] (tied_by f false n b) ∷ [])
-      split n t bs k b at = ap (λ xs. filter t (parts_at f n xs)) (take_more bs k b at) ∙ (ap (filter t) (map_join (take k bs)) ∙ filter-append t (parts_at f n (take k bs)) (least (table n) [] (tied_by f false n b) ∷ []))
+      split : (n : ℕ) (t : List ℕ → Bool) (bs : List Access) (k : ℕ) (b : Access) → slice_get bs k ≡ Some b → filter t (parts_at f commute n (take (k + 1) bs)) ≡ filter t (parts_at f commute n (take k bs)) ++ filter t (least (table n) [] (tied_by f commute n b) ∷ [])
+      split n t bs k b at = ap (λ xs. filter t (parts_at f commute n xs)) (take_more bs k b at) ∙ (ap (filter t) (map_join (take k bs)) ∙ filter-append t (parts_at f commute n (take k bs)) (least (table n) [] (tied_by f commute n b) ∷ []))
         where
-          map_join : (xs : List Access) → parts_at f n (xs ++ b ∷ []) ≡ parts_at f n xs ++ least (table n) [] (tied_by f false n b) ∷ []
+          map_join : (xs : List Access) → parts_at f commute n (xs ++ b ∷ []) ≡ parts_at f commute n xs ++ least (table n) [] (tied_by f commute n b) ∷ []
           map_join [] = refl
-          map_join (x ∷ xs) = ap (λ ys. least (table n) [] (tied_by f false n x) ∷ ys) (map_join xs)
+          map_join (x ∷ xs) = ap (λ ys. least (table n) [] (tied_by f commute n x) ∷ ys) (map_join xs)
 
-  pub part_stays : (n : ℕ) (t : List ℕ → Bool) (bs : List Access) (k : ℕ) (b : Access) (part : List ℕ) (old : List (List ℕ)) → slice_get bs k ≡ Some b → part ≡ least (table n) [] (tied_by f false n b) → t part ≡ false → old ≡ filter t (parts_at f n (take k bs)) →
-      old ≡ filter t (parts_at f n (take (k + 1) bs))
+  pub part_stays : (n : ℕ) (t : List ℕ → Bool) (bs : List Access) (k : ℕ) (b : Access) (part : List ℕ) (old : List (List ℕ)) → slice_get bs k ≡ Some b → part ≡ least (table n) [] (tied_by f commute n b) → t part ≡ false → old ≡ filter t (parts_at f commute n (take k bs)) →
+      old ≡ filter t (parts_at f commute n (take (k + 1) bs))
   part_stays n t bs k b part old at is fails was =
-      was ∙ sym (ap (λ xs. filter t (parts_at f n xs)) (take_more bs k b at) ∙ (ap (filter t) (map_join (take k bs)) ∙ (filter-append t (parts_at f n (take k bs)) (least (table n) [] (tied_by f false n b) ∷ [])
-      ∙ (ap (λ xs. filter t (parts_at f n (take k bs)) ++ xs) (ap (λ z. filter t (z ∷ [])) (sym is) ∙ ap (λ x. cond x (part ∷ []) []) fails) ∙ append-nil (filter t (parts_at f n (take k bs)))))))
+      was ∙ sym (ap (λ xs. filter t (parts_at f commute n xs)) (take_more bs k b at) ∙ (ap (filter t) (map_join (take k bs)) ∙ (filter-append t (parts_at f commute n (take k bs)) (least (table n) [] (tied_by f commute n b) ∷ [])
+      ∙ (ap (λ xs. filter t (parts_at f commute n (take k bs)) ++ xs) (ap (λ z. filter t (z ∷ [])) (sym is) ∙ ap (λ x. cond x (part ∷ []) []) fails) ∙ append-nil (filter t (parts_at f commute n (take k bs)))))))
     where
-      map_join : (xs : List Access) → parts_at f n (xs ++ b ∷ []) ≡ parts_at f n xs ++ least (table n) [] (tied_by f false n b) ∷ []
+      map_join : (xs : List Access) → parts_at f commute n (xs ++ b ∷ []) ≡ parts_at f commute n xs ++ least (table n) [] (tied_by f commute n b) ∷ []
       map_join [] = refl
-      map_join (x ∷ xs) = ap (λ ys. least (table n) [] (tied_by f false n x) ∷ ys) (map_join xs)
+      map_join (x ∷ xs) = ap (λ ys. least (table n) [] (tied_by f commute n x) ∷ ys) (map_join xs)
 
-  large_by : (n : ℕ) (b : Access) (bs : List Access) (i : ℕ) (x : Bool) → Contains (flat_map (λ (p : List ℕ). p) (cond x (least (table n) [] (tied_by f false n b) ∷ filter is_large (parts_at f n bs)) (filter is_large (parts_at f n bs)))) i →
-      (Contains (flat_map (λ (p : List ℕ). p) (filter is_large (parts_at f n bs))) i → i < n) → i < n
+  large_by : (n : ℕ) (b : Access) (bs : List Access) (i : ℕ) (x : Bool) → Contains (flat_map (λ (p : List ℕ). p) (cond x (least (table n) [] (tied_by f commute n b) ∷ filter is_large (parts_at f commute n bs)) (filter is_large (parts_at f commute n bs)))) i →
+      (Contains (flat_map (λ (p : List ℕ). p) (filter is_large (parts_at f commute n bs))) i → i < n) → i < n
   large_by n b bs i false d again = again d
-  large_by n b bs i true d again = elim (Contains-append_cases (least (table n) [] (tied_by f false n b)) (flat_map (λ (p : List ℕ). p) (filter is_large (parts_at f n bs))) i d) [
-    | inl own ↦ down_below n i (filter_contains (λ i. list_any (λ a. accesses_tie f false a b) (accesses f i)) (down_from n) i (least_within (table n) [] (tied_by f false n b) i own)).0
+  large_by n b bs i true d again = elim (Contains-append_cases (least (table n) [] (tied_by f commute n b)) (flat_map (λ (p : List ℕ). p) (filter is_large (parts_at f commute n bs))) i d) [
+    | inl own ↦ down_below n i (filter_contains (λ i. list_any (λ a. accesses_tie f commute a b) (accesses f i)) (down_from n) i (least_within (table n) [] (tied_by f commute n b) i own)).0
     | inr rest ↦ again rest
   ]
 
   -- the lines of the large parts of line n stand above it
-  pub large_below : (n : ℕ) (bs : List Access) (i : ℕ) → Contains (flat_map (λ p. p) (filter is_large (parts_at f n bs))) i → i < n
+  pub large_below : (n : ℕ) (bs : List Access) (i : ℕ) → Contains (flat_map (λ p. p) (filter is_large (parts_at f commute n bs))) i → i < n
   large_below n [] i c = absurd (contains_none i c)
-  large_below n (b ∷ bs) i c = large_by n b bs i (is_large (least (table n) [] (tied_by f false n b))) c (large_below n bs i)
+  large_below n (b ∷ bs) i c = large_by n b bs i (is_large (least (table n) [] (tied_by f commute n b))) c (large_below n bs i)
 
-  pub source_below : (n i : ℕ) → Contains (sources_of f false n) i → i < n
-  source_below n i c = depends_below f false i n (sources_sound f false n i c)
+  pub source_below : (n i : ℕ) → Contains (sources_of f commute n) i → i < n
+  source_below n i c = depends_below f commute i n (sources_sound f commute n i c)
 
   -- the rows with one more
-  pub rows_more : (words : ℕ) (rows rows' : List (List ℕ)) (row : List ℕ) → AreRows f words rows → length rows < length f.lines → rows' ≡ rows ++ row ∷ [] → length row ≡ words → ((i : ℕ) → word_bit row i ≡ is_reached (table (length rows)) (sources_of f false (length rows)) i) →
-      AreRows f words rows'
-  rows_more words rows rows' row a next pushed size bits = subst (AreRows f words) (sym pushed) (record {
+  pub rows_more : (words : ℕ) (rows rows' : List (List ℕ)) (row : List ℕ) → AreRows f commute words rows → length rows < length f.lines → rows' ≡ rows ++ row ∷ [] → length row ≡ words → ((i : ℕ) → word_bit row i ≡ is_reached (table (length rows)) (sources_of f commute (length rows)) i) →
+      AreRows f commute words rows'
+  rows_more words rows rows' row a next pushed size bits = subst (AreRows f commute words) (sym pushed) (record {
     some = (let l : length (rows ++ row ∷ []) ≡ length rows + 1 = length-append rows (row ∷ []) in omega arith);
     words_are = a.words_are;
     size = λ k h. (let l : length (rows ++ row ∷ []) ≡ length rows + 1 = length-append rows (row ∷ []) in elim (cases_lt k (length rows)) [
@@ -189,14 +189,14 @@ module _ (f : GraphValue) where
   })
 
   -- the row of the sources of a line: of its large parts, and then of the others
-  pub row_of_parts : (n : ℕ) (p : Parts) (i : ℕ) (old new : Bool) → p ≡ parts_of f false (table n) n → old ≡ is_reached (table n) (flat_map (λ q. q) p.large) i → new ≡ (old || is_reached (table n) p.small i) → new ≡ is_reached (table n) (sources_of f false n) i
+  pub row_of_parts : (n : ℕ) (p : Parts) (i : ℕ) (old new : Bool) → p ≡ parts_of f commute (table n) n → old ≡ is_reached (table n) (flat_map (λ q. q) p.large) i → new ≡ (old || is_reached (table n) p.small i) → new ≡ is_reached (table n) (sources_of f commute n) i
   row_of_parts n p i old new is was joined =
       joined ∙ (ap (λ b. b || is_reached (table n) p.small i) was ∙ (or_turn (is_reached (table n) (flat_map (λ q. q) p.large) i) (is_reached (table n) p.small i)
       ∙ (sym (list_any-append (λ k. (k == i) || reaches (table n) k i k) p.small (flat_map (λ q. q) p.large)) ∙ ap (λ q. is_reached (table n) (all_of q) i) is)))
 
   -- a part that is kept where a test passes
-  pub part_kept : (n : ℕ) (t : List ℕ → Bool) (bs : List Access) (k : ℕ) (b : Access) (part : List ℕ) (old new : List (List ℕ)) → slice_get bs k ≡ Some b → part ≡ least (table n) [] (tied_by f false n b) → old ≡ filter t (parts_at f n (take k bs)) → new ≡ cond (t part) (old ++ part ∷ []) old →
-      new ≡ filter t (parts_at f n (take (k + 1) bs))
+  pub part_kept : (n : ℕ) (t : List ℕ → Bool) (bs : List Access) (k : ℕ) (b : Access) (part : List ℕ) (old new : List (List ℕ)) → slice_get bs k ≡ Some b → part ≡ least (table n) [] (tied_by f commute n b) → old ≡ filter t (parts_at f commute n (take k bs)) → new ≡ cond (t part) (old ++ part ∷ []) old →
+      new ≡ filter t (parts_at f commute n (take (k + 1) bs))
   part_kept n t bs k b part old new at is was kept = elim (cases_Bool (t part)) [
     | inl passes ↦ part_joins n t bs k b part old new at is passes was (kept ∙ ap (λ x. cond x (old ++ part ∷ []) old) passes)
     | inr fails ↦ kept ∙ (ap (λ x. cond x (old ++ part ∷ []) old) fails ∙ part_stays n t bs k b part old at is fails was)

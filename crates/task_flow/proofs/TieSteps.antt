@@ -19,7 +19,7 @@ is_true true h = refl
 is_true false h = h
 
 -- whether two spaces meet, by the points of one
-meets_by : PointsAreListed → (s t : List (ℕ × ℕ)) (b : Bool) → IsTrue b ↔ Meet s t → b ≡ list_any (has_point s) (points t)
+pub meets_by : PointsAreListed → (s t : List (ℕ × ℕ)) (b : Bool) → IsTrue b ↔ Meet s t → b ≡ list_any (has_point s) (points t)
 meets_by listed s t true h =
     let p = h.0 refl in
     sym (passes_some (has_point s) (points t) p.0 ((listed t p.0).1 p.2) (is_true (has_point s p.0) p.1))
@@ -27,9 +27,9 @@ meets_by listed s t false h = sym (false_from_ne_true (list_any (has_point s) (p
     let x = some_passes (has_point s) (points t) e in
     true≢false (sym (is_true false (h.1 (x.0, true_is (has_point s x.0) x.2, (listed t x.0).0 x.1))))))
 
-pub ties_meet : PointsAreListed → (f : GraphValue) (a b : Access) (s t : List (ℕ × ℕ)) (r : Bool) → s ≡ space_at f a.space → t ≡ space_at f b.space → IsTrue r ↔ Meet s t → (a.column == b.column) ≡ true → order_counts false a.mode b.mode ≡ true →
-    r ≡ accesses_tie f false a b
-ties_meet listed f a b s t r es et h column counts =
+pub ties_meet : PointsAreListed → (f : GraphValue) (commute : Bool) (a b : Access) (s t : List (ℕ × ℕ)) (r : Bool) → s ≡ space_at f a.space → t ≡ space_at f b.space → IsTrue r ↔ Meet s t → (a.column == b.column) ≡ true → order_counts commute a.mode b.mode ≡ true →
+    r ≡ accesses_tie f commute a b
+ties_meet listed f commute a b s t r es et h column counts =
     meets_by listed s t r h
     ∙ (ap (λ x. list_any (has_point x) (points t)) es ∙ (ap (λ x. list_any (has_point (space_at f a.space)) (points x)) et
-    ∙ sym (ap (λ x. x && (order_counts false a.mode b.mode && list_any (has_point (space_at f a.space)) (points (space_at f b.space)))) column ∙ ap (λ x. x && list_any (has_point (space_at f a.space)) (points (space_at f b.space))) counts)))
+    ∙ sym (ap (λ x. x && (order_counts commute a.mode b.mode && list_any (has_point (space_at f a.space)) (points (space_at f b.space)))) column ∙ ap (λ x. x && list_any (has_point (space_at f a.space)) (points (space_at f b.space))) counts)))

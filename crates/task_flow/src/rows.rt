@@ -1,6 +1,6 @@
 //! Which lines reach which.
 
-ghost use Rattle.std.specs.Prelude.{◌≡◌, ℕ, ◌<◌, ◌/◌, ◌==◌, ◌||◌, [], length, slice_index_or};
+ghost use Rattle.std.specs.Prelude.{◌≡◌, ℕ, Bool, ◌<◌, ◌/◌, ◌==◌, ◌||◌, [], length, slice_index_or};
 ghost use Rattle.task_flow.specs.Bits.{word_bit};
 ghost use Rattle.task_flow.specs.Rows.{AreRows};
 
@@ -18,7 +18,7 @@ pub(crate) struct Rows {
 impl Rows {
     /// No row.
     pub(crate) fn new(alloc: Global, flow: &Graph) -> Rows
-        ensures rows { AreRows flow.now result.words result.rows.items }
+        ensures rows { (commute : Bool) → AreRows flow.now commute result.words result.rows.items }
         ensures none { result.rows.items ≡ [] }
     {
         Rows {

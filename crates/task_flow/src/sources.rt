@@ -1,6 +1,6 @@
 //! The sources of the lines.
 
-ghost use Rattle.std.specs.Prelude.{◌≡◌, ℕ, ◌+◌, ◌<◌, ◌/◌, ◌||◌, ◌++◌, [], ◌∷◌, cond, false, length, filter, flat_map, not, Contains, IfOk, OnOk};
+ghost use Rattle.std.specs.Prelude.{◌≡◌, ℕ, ◌+◌, ◌<◌, ◌/◌, ◌||◌, ◌++◌, [], ◌∷◌, cond, length, filter, flat_map, not, Contains, IfOk, OnOk};
 ghost use Rattle.graph_model.specs.graph.Graph.{named_spaces};
 ghost use Rattle.graph_model.specs.graph.Access.{accesses};
 ghost use Rattle.task_flow.specs.Bits.{word_bit};
@@ -49,13 +49,13 @@ pub(crate) enum Ask {
 
 impl Ask {
     /// Whether a line is asked for.
-    fn wants(&self, flow: &Graph, line: u32) -> bool
+    fn wants(&self, flow: &Graph, commute: bool, line: u32) -> bool
         requires line { line < length flow.now.lines }
         requires askable { IsAskable flow.now self.now }
-        ensures { result ≡ is_asked flow.now self.now line }
+        ensures { result ≡ is_asked flow.now commute self.now line }
     {
         match self {
-            Ask::Tied(access) => is_tied(flow, line, *access),
+            Ask::Tied(access) => is_tied(flow, commute, line, *access),
             Ask::Among(parts) => is_among(parts.as_slice(), line),
         }
     }
@@ -76,13 +76,25 @@ pub(crate) fn has(part: &LineList, line: u32) -> bool
 }
 
 /// The sources of the line that comes next, by the rows of those before it.
-pub(crate) fn parts_of(alloc: Global, flow: &Graph, rows: &Rows) -> Result<Parts, NoMemory>
-    requires rows { AreRows flow.now rows.now.words rows.now.rows.items }
+pub(crate) fn parts_of(
+    alloc: Global,
+    flow: &Graph,
+    commute: bool,
+    rows: &Rows,
+) -> Result<Parts, NoMemory>
+    requires rows { AreRows flow.now commute rows.now.words rows.now.rows.items }
     requires next { length rows.now.rows.items < length flow.now.lines }
-    ensures { IfOk result (λ p. p ≡ parts_of flow.now false (sources_after flow.now false (length rows.now.rows.items)) (length rows.now.rows.items)) }
+    ensures { IfOk result (λ p. p ≡ parts_of flow.now commute (sources_after flow.now commute (length rows.now.rows.items)) (length rows.now.rows.items)) }
 {
-    let (large, few) = parts_by_access(alloc, flow, rows)?;
-    let small = least(alloc, flow, rows, large.as_slice(), &Ask::Among(few))?;
+    let (large, few) = parts_by_access(alloc, flow, commute, rows)?;
+    let small = least(
+        alloc,
+        flow,
+        commute,
+        rows,
+        large.as_slice(),
+        &Ask::Among(few),
+    )?;
     Ok(Parts { large, small })
 }
 
@@ -91,12 +103,13 @@ pub(crate) fn parts_of(alloc: Global, flow: &Graph, rows: &Rows) -> Result<Parts
 fn parts_by_access(
     alloc: Global,
     flow: &Graph,
+    commute: bool,
     rows: &Rows,
 ) -> Result<(Vec<LineList>, Vec<LineList>), NoMemory>
-    requires rows { AreRows flow.now rows.now.words rows.now.rows.items }
+    requires rows { AreRows flow.now commute rows.now.words rows.now.rows.items }
     requires next { length rows.now.rows.items < length flow.now.lines }
-    ensures large { IfOk result (λ r. r.0.items ≡ filter is_large (parts_at flow.now (length rows.now.rows.items) (accesses flow.now (length rows.now.rows.items)))) }
-    ensures few { IfOk result (λ r. r.1.items ≡ filter (λ p. not (is_large p)) (parts_at flow.now (length rows.now.rows.items) (accesses flow.now (length rows.now.rows.items)))) }
+    ensures large { IfOk result (λ r. r.0.items ≡ filter is_large (parts_at flow.now commute (length rows.now.rows.items) (accesses flow.now (length rows.now.rows.items)))) }
+    ensures few { IfOk result (λ r. r.1.items ≡ filter (λ p. not (is_large p)) (parts_at flow.now commute (length rows.now.rows.items) (accesses flow.now (length rows.now.rows.items)))) }
 {
     accesses_fit();
     accesses_are_few();
@@ -108,7 +121,7 @@ fn parts_by_access(
         let Some(access) = flow.access(line, k) else {
             break;
         };
-        let part = least(alloc, flow, rows, &[], &Ask::Tied(access))?;
+        let part = least(alloc, flow, commute, rows, &[], &Ask::Tied(access))?;
         keep_part(&mut large, &mut few, part)?;
     }
     Ok((large, few))
@@ -135,17 +148,18 @@ fn keep_part(
 fn least(
     alloc: Global,
     flow: &Graph,
+    commute: bool,
     rows: &Rows,
     kept: &[LineList],
     ask: &Ask,
 ) -> Result<LineList, NoMemory>
-    requires rows { AreRows flow.now rows.now.words rows.now.rows.items }
+    requires rows { AreRows flow.now commute rows.now.words rows.now.rows.items }
     requires next { length rows.now.rows.items < length flow.now.lines }
     requires kept { (i : ℕ) → Contains (flat_map (λ p. p) kept.now) i → i < length rows.now.rows.items }
     requires askable { IsAskable flow.now ask.now }
-    ensures { IfOk result (λ part. part ≡ least (sources_after flow.now false (length rows.now.rows.items)) (flat_map (λ p. p) kept.now) (filter (is_asked flow.now ask.now) (down_from (length rows.now.rows.items)))) }
+    ensures { IfOk result (λ part. part ≡ least (sources_after flow.now commute (length rows.now.rows.items)) (flat_map (λ p. p) kept.now) (filter (is_asked flow.now commute ask.now) (down_from (length rows.now.rows.items)))) }
 {
-    let mut mask = mask_of(alloc, flow, rows, kept)?;
+    let mut mask = mask_of(alloc, flow, commute, rows, kept)?;
     let mut part = LineList::new(alloc);
     let _ = flow.lines();
     let mut line = rows.rows.len() as u32;
@@ -154,7 +168,7 @@ fn least(
         if mask.test(line) {
             continue;
         }
-        if !ask.wants(flow, line) {
+        if !ask.wants(flow, commute, line) {
             continue;
         }
         part.push(line)?;
@@ -164,26 +178,32 @@ fn least(
 }
 
 /// A bit for each line of some lists, and for each that reaches one of them.
-fn mask_of(alloc: Global, flow: &Graph, rows: &Rows, kept: &[LineList]) -> Result<Bits, NoMemory>
-    requires rows { AreRows flow.now rows.now.words rows.now.rows.items }
+fn mask_of(
+    alloc: Global,
+    flow: &Graph,
+    commute: bool,
+    rows: &Rows,
+    kept: &[LineList],
+) -> Result<Bits, NoMemory>
+    requires rows { AreRows flow.now commute rows.now.words rows.now.rows.items }
     requires kept { (i : ℕ) → Contains (flat_map (λ p. p) kept.now) i → i < length rows.now.rows.items }
     ensures size { IfOk result (λ mask. length mask ≡ rows.now.words) }
-    ensures bits { IfOk result (λ mask. (i : ℕ) → word_bit mask i ≡ is_reached (sources_after flow.now false (length rows.now.rows.items)) (flat_map (λ p. p) kept.now) i) }
+    ensures bits { IfOk result (λ mask. (i : ℕ) → word_bit mask i ≡ is_reached (sources_after flow.now commute (length rows.now.rows.items)) (flat_map (λ p. p) kept.now) i) }
 {
     let mut mask = Bits::zeros(alloc, rows.words)?;
     for part in kept {
-        reach_all(flow, rows, &mut mask, part);
+        reach_all(flow, commute, rows, &mut mask, part);
     }
     Ok(mask)
 }
 
 /// Sets the bits of the lines of a list, and of those that reach one of them.
-fn reach_all(flow: &Graph, rows: &Rows, mask: &mut Bits, part: &LineList)
-    requires rows { AreRows flow.now rows.now.words rows.now.rows.items }
+fn reach_all(flow: &Graph, commute: bool, rows: &Rows, mask: &mut Bits, part: &LineList)
+    requires rows { AreRows flow.now commute rows.now.words rows.now.rows.items }
     requires size { length mask.old ≡ rows.now.words }
     requires part { (i : ℕ) → Contains part.now i → i < length rows.now.rows.items }
     ensures size { length mask.new ≡ length mask.old }
-    ensures bits { (i : ℕ) → word_bit mask.new i ≡ (word_bit mask.old i || is_reached (sources_after flow.now false (length rows.now.rows.items)) part.now i) }
+    ensures bits { (i : ℕ) → word_bit mask.new i ≡ (word_bit mask.old i || is_reached (sources_after flow.now commute (length rows.now.rows.items)) part.now i) }
 {
     for line in part.items.as_slice() {
         rows.reach(mask, *line);
@@ -194,17 +214,18 @@ fn reach_all(flow: &Graph, rows: &Rows, mask: &mut Bits, part: &LineList)
 pub(crate) fn add_row(
     alloc: Global,
     flow: &Graph,
+    commute: bool,
     rows: &mut Rows,
     parts: &Parts,
 ) -> Result<(), NoMemory>
-    requires rows { AreRows flow.now rows.old.words rows.old.rows.items }
+    requires rows { AreRows flow.now commute rows.old.words rows.old.rows.items }
     requires next { length rows.old.rows.items < length flow.now.lines }
-    requires parts { parts.now ≡ parts_of flow.now false (sources_after flow.now false (length rows.old.rows.items)) (length rows.old.rows.items) }
-    ensures rows { OnOk result (AreRows flow.now rows.new.words rows.new.rows.items) }
+    requires parts { parts.now ≡ parts_of flow.now commute (sources_after flow.now commute (length rows.old.rows.items)) (length rows.old.rows.items) }
+    ensures rows { OnOk result (AreRows flow.now commute rows.new.words rows.new.rows.items) }
     ensures more { OnOk result (length rows.new.rows.items ≡ length rows.old.rows.items + 1) }
 {
-    let mut row = mask_of(alloc, flow, rows, parts.large.as_slice())?;
-    reach_all(flow, rows, &mut row, &parts.small);
+    let mut row = mask_of(alloc, flow, commute, rows, parts.large.as_slice())?;
+    reach_all(flow, commute, rows, &mut row, &parts.small);
     push(&mut rows.rows, row)?;
     Ok(())
 }

@@ -1,4 +1,4 @@
-use Rattle.std.proofs.Common.{false, ◌||◌, length, ◌∙◌, ap, subst}
+use Rattle.std.proofs.Common.{◌||◌, length, ◌∙◌, ap, subst}
 use Rattle.std.specs.Prelude.{Contains, flat_map}
 use Rattle.std.proofs.lemmas.List.Elements.{Contains-append_left}
 use Rattle.graph_model.specs.graph.Access.{accesses}
@@ -11,20 +11,20 @@ pub mask_of-requires-clause-kept : goal.mask_of-requires-clause-kept
 mask_of-requires-clause-kept c =
     let f = c.args.flow.now in
     let n = length c.args.rows.now.rows.items in
-    λ i d. large_below f n (accesses f n) i (subst (λ xs. Contains (flat_map (λ p. p) xs) i) (c.as_slice.ensures.value ∙ (ap (λ (p : Parts). p.large) c.parts.view_is ∙ ap (λ (p : Parts). p.large) c.requires.parts)) d)
+    λ i d. large_below f c.args.commute n (accesses f n) i (subst (λ xs. Contains (flat_map (λ p. p) xs) i) (c.as_slice.ensures.value ∙ (ap (λ (p : Parts). p.large) c.parts.view_is ∙ ap (λ (p : Parts). p.large) c.requires.parts)) d)
 
 pub reach_all-requires-clause-part : goal.reach_all-requires-clause-part
 reach_all-requires-clause-part c =
     let f = c.args.flow.now in
     let n = length c.args.rows.now.rows.items in
-    λ i d. source_below f n i (Contains-append_left _ _ i (subst (λ xs. Contains xs i) (ap (λ (p : Parts). p.small) c.parts.view_is ∙ ap (λ (p : Parts). p.small) c.requires.parts) d))
+    λ i d. source_below f c.args.commute n i (Contains-append_left _ _ i (subst (λ xs. Contains xs i) (ap (λ (p : Parts). p.small) c.parts.view_is ∙ ap (λ (p : Parts). p.small) c.requires.parts) d))
 
 pub returns-clause-rows : goal.returns-clause-rows
 returns-clause-rows c =
     let f = c.args.flow.now in
     let n = length c.args.rows.now.rows.items in
     let p = c.args.parts.now in
-    rows_more f c.args.rows.now.words c.args.rows.now.rows.items c.push.new.items.items c.reach_all.new.mask c.requires.rows c.requires.next c.in_ok-push.ensures.ok (c.reach_all.ensures.size ∙ c.in_ok-row.ensures.size)
-    (λ i. row_of_parts f n p i (word_bit c.in_ok-row.row i) (word_bit c.reach_all.new.mask i) c.requires.parts
-    (c.in_ok-row.ensures.bits i ∙ ap (λ xs. is_reached (sources_after f false n) (flat_map (λ q. q) xs) i) (c.as_slice.ensures.value ∙ ap (λ (p : Parts). p.large) c.parts.view_is))
-    (c.reach_all.ensures.bits i ∙ ap (λ xs. word_bit c.in_ok-row.row i || is_reached (sources_after f false n) xs i) (ap (λ (p : Parts). p.small) c.parts.view_is)))
+    rows_more f c.args.commute c.args.rows.now.words c.args.rows.now.rows.items c.push.new.items.items c.reach_all.new.mask c.requires.rows c.requires.next c.in_ok-push.ensures.ok (c.reach_all.ensures.size ∙ c.in_ok-row.ensures.size)
+    (λ i. row_of_parts f c.args.commute n p i (word_bit c.in_ok-row.row i) (word_bit c.reach_all.new.mask i) c.requires.parts
+    (c.in_ok-row.ensures.bits i ∙ ap (λ xs. is_reached (sources_after f c.args.commute n) (flat_map (λ q. q) xs) i) (c.as_slice.ensures.value ∙ ap (λ (p : Parts). p.large) c.parts.view_is))
+    (c.reach_all.ensures.bits i ∙ ap (λ xs. word_bit c.in_ok-row.row i || is_reached (sources_after f c.args.commute n) xs i) (ap (λ (p : Parts). p.small) c.parts.view_is)))

@@ -1,4 +1,4 @@
-use Rattle.std.proofs.Common.{◌≡◌, ◌<◌, ◌≤◌, ◌+◌, ◌-◌, ◌++◌, [], ◌∷◌, inl, inr, false, length, sym, ◌∙◌, ap, length-append, append_assoc, arith}
+use Rattle.std.proofs.Common.{◌≡◌, ◌<◌, ◌≤◌, ◌+◌, ◌-◌, ◌++◌, [], ◌∷◌, inl, inr, length, sym, ◌∙◌, ap, length-append, append_assoc, arith}
 use Rattle.std.specs.Prelude.{flat_map, slice_index_or}
 use Rattle.task_flow.specs.Bits.{word_bit}
 use Rattle.task_flow.specs.Rows.{is_asked}
@@ -14,7 +14,7 @@ loop-line-preserved-then-test c =
       size = c.loop-line.invariant.size;
       few = (let b = c.loop-line.invariant.few in omega (arith, b));
       bits = c.loop-line.invariant.bits;
-      rest = least_skips f n (is_asked f c.args.ask.now) start _ c.loop-line.part c.loop-line.line c.loop-line-test.true c.loop-line.invariant.rest (inl (sym (c.loop-line.invariant.bits (c.loop-line.line - 1)) ∙ (sym c.test.ensures ∙ c.if-test.true)));
+      rest = least_skips f c.args.commute n (is_asked f c.args.commute c.args.ask.now) start _ c.loop-line.part c.loop-line.line c.loop-line-test.true c.loop-line.invariant.rest (inl (sym (c.loop-line.invariant.bits (c.loop-line.line - 1)) ∙ (sym c.test.ensures ∙ c.if-test.true)));
     }
 
 pub loop-line-preserved-then-not-wants : goal.loop-line-preserved-then-not-wants
@@ -25,7 +25,7 @@ loop-line-preserved-then-not-wants c =
       size = c.loop-line.invariant.size;
       few = (let b = c.loop-line.invariant.few in omega (arith, b));
       bits = c.loop-line.invariant.bits;
-      rest = least_skips f n (is_asked f c.args.ask.now) start _ c.loop-line.part c.loop-line.line c.loop-line-test.true c.loop-line.invariant.rest (inr (sym c.wants.ensures ∙ c.if-not-wants.true));
+      rest = least_skips f c.args.commute n (is_asked f c.args.commute c.args.ask.now) start _ c.loop-line.part c.loop-line.line c.loop-line-test.true c.loop-line.invariant.rest (inr (sym c.wants.ensures ∙ c.if-not-wants.true));
     }
 
 pub loop-line-preserved : goal.loop-line-preserved
@@ -41,8 +41,8 @@ loop-line-preserved c =
     record {
       size = c.reach.ensures.size ∙ c.loop-line.invariant.size;
       few = omega arith;
-      bits = λ j. reach_more f n (start ++ c.loop-line.part) (c.loop-line.line - 1) j (word_bit c.loop-line.mask j) (word_bit c.reach.new.mask j) (word_bit (slice_index_or c.args.rows.now.rows.items (c.loop-line.line - 1) []) j)
+      bits = λ j. reach_more f c.args.commute n (start ++ c.loop-line.part) (c.loop-line.line - 1) j (word_bit c.loop-line.mask j) (word_bit c.reach.new.mask j) (word_bit (slice_index_or c.args.rows.now.rows.items (c.loop-line.line - 1) []) j)
           (c.reach.ensures.bits j) (c.loop-line.invariant.bits j) (c.requires.rows.bits (c.loop-line.line - 1) j (omega arith))
-          ∙ ap (λ xs. is_reached (sources_after f false n) xs j) (append_assoc start c.loop-line.part ((c.loop-line.line - 1) ∷ []) ∙ ap (λ xs. start ++ xs) (sym pushed));
-      rest = least_keeps f n (is_asked f c.args.ask.now) start _ c.loop-line.part c.push.new.self c.loop-line.line c.loop-line-test.true c.loop-line.invariant.rest (sym (c.loop-line.invariant.bits (c.loop-line.line - 1)) ∙ (sym c.test.ensures ∙ c.if-test.false)) (sym c.wants.ensures ∙ c.if-not-wants.false) pushed;
+          ∙ ap (λ xs. is_reached (sources_after f c.args.commute n) xs j) (append_assoc start c.loop-line.part ((c.loop-line.line - 1) ∷ []) ∙ ap (λ xs. start ++ xs) (sym pushed));
+      rest = least_keeps f c.args.commute n (is_asked f c.args.commute c.args.ask.now) start _ c.loop-line.part c.push.new.self c.loop-line.line c.loop-line-test.true c.loop-line.invariant.rest (sym (c.loop-line.invariant.bits (c.loop-line.line - 1)) ∙ (sym c.test.ensures ∙ c.if-test.false)) (sym c.wants.ensures ∙ c.if-not-wants.false) pushed;
     }

@@ -15,6 +15,6 @@ pub loop-part-preserved : goal.loop-part-preserved
 loop-part-preserved c =
     let kept = c.args.kept.now in record {
       size = c.reach_all.ensures.size ∙ c.loop-part.invariant.size;
-      bits = λ i. flat_after c.args.flow.now (length c.args.rows.now.rows.items) kept c.loop-part.part-index c.part-item.result i (word_bit c.loop-part.mask i) (word_bit c.reach_all.new.mask i)
+      bits = λ i. flat_after c.args.flow.now c.args.commute (length c.args.rows.now.rows.items) kept c.loop-part.part-index c.part-item.result i (word_bit c.loop-part.mask i) (word_bit c.reach_all.new.mask i)
           (slice_get_read kept (length kept) c.loop-part.part-index c.part-item.result refl c.loop-part-test.true c.part-item.is) (c.reach_all.ensures.bits i) (c.loop-part.invariant.bits i);
     }

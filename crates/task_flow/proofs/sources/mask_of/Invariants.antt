@@ -1,4 +1,4 @@
-use Rattle.std.proofs.Common.{◌≡◌, ℕ, take, length, false}
+use Rattle.std.proofs.Common.{◌≡◌, ℕ, take, length}
 use Rattle.std.specs.Prelude.{flat_map}
 use Rattle.task_flow.specs.Bits.{word_bit}
 use Rattle.task_flow.specs.Construction.{is_reached, sources_after}
@@ -7,5 +7,5 @@ use Rattle.task_flow.proofs.sources.mask_of.Given as goal
 abbrev pub invariant-loop-part : goal.invariant-loop-part
 invariant-loop-part l = record {
   size : length l.mask ≡ l.rows.words;
-  bits : (i : ℕ) → word_bit l.mask i ≡ is_reached (sources_after l.flow false (length l.rows.rows.items)) (flat_map (λ p. p) (take l.part-index l.kept)) i;
+  bits : (i : ℕ) → word_bit l.mask i ≡ is_reached (sources_after l.flow l.commute (length l.rows.rows.items)) (flat_map (λ p. p) (take l.part-index l.kept)) i;
 }

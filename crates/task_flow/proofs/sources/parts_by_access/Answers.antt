@@ -1,4 +1,4 @@
-use Rattle.std.proofs.Common.{◌≡◌, ◌<◌, ◌++◌, [], ◌∷◌, not, false, length, sym, ◌∙◌, subst, rules, arith}
+use Rattle.std.proofs.Common.{◌≡◌, ◌<◌, ◌++◌, [], ◌∷◌, not, length, sym, ◌∙◌, subst, rules, arith}
 use Rattle.std.specs.Prelude.{Some, slice_get}
 use Rattle.std.proofs.lemmas.Option.{slice_get_within}
 use Rattle.basics.proofs.ListFacts.{got_contains}
@@ -17,10 +17,10 @@ loop-k-preserved c =
     let n = c.len-line.result in
     let same : length c.args.rows.now.rows.items ≡ c.len-line.result = search rules in
     let at : slice_get (accesses f n) c.loop-k.k ≡ Some c.in-Some.access = sym c.in-Some.ensures in
-    let part : c.in_ok-part.part ≡ least (sources_after f false n) [] (tied_by f false n c.in-Some.access) = subst (λ z. c.in_ok-part.part ≡ least (sources_after f false z) [] (tied_by f false z c.in-Some.access)) same c.in_ok-part.ensures in
+    let part : c.in_ok-part.part ≡ least (sources_after f c.args.commute n) [] (tied_by f c.args.commute n c.in-Some.access) = subst (λ z. c.in_ok-part.part ≡ least (sources_after f c.args.commute z) [] (tied_by f c.args.commute z c.in-Some.access)) same c.in_ok-part.ensures in
     let within : c.loop-k.k < length (accesses f n) = slice_get_within (accesses f n) c.loop-k.k c.in-Some.access at in
     record {
       few_left = omega arith;
-      large = part_kept f n is_large (accesses f n) c.loop-k.k c.in-Some.access c.in_ok-part.part c.loop-k.large.items c.keep_part.new.large.items at part c.loop-k.invariant.large c.in_ok-keep_part.ensures.large;
-      few = part_kept f n (λ p. not (is_large p)) (accesses f n) c.loop-k.k c.in-Some.access c.in_ok-part.part c.loop-k.few.items c.keep_part.new.few.items at part c.loop-k.invariant.few (c.in_ok-keep_part.ensures.few ∙ cond_not f (is_large c.in_ok-part.part) c.loop-k.few.items (c.loop-k.few.items ++ c.in_ok-part.part ∷ []));
+      large = part_kept f c.args.commute n is_large (accesses f n) c.loop-k.k c.in-Some.access c.in_ok-part.part c.loop-k.large.items c.keep_part.new.large.items at part c.loop-k.invariant.large c.in_ok-keep_part.ensures.large;
+      few = part_kept f c.args.commute n (λ p. not (is_large p)) (accesses f n) c.loop-k.k c.in-Some.access c.in_ok-part.part c.loop-k.few.items c.keep_part.new.few.items at part c.loop-k.invariant.few (c.in_ok-keep_part.ensures.few ∙ cond_not f c.args.commute (is_large c.in_ok-part.part) c.loop-k.few.items (c.loop-k.few.items ++ c.in_ok-part.part ∷ []));
     }

@@ -8,4 +8,4 @@ pub least-requires-clause-kept : goal.least-requires-clause-kept
 least-requires-clause-kept c =
     let f = c.args.flow.now in
     let n = length c.args.rows.now.rows.items in
-    λ i d. large_below f n (accesses f n) i (subst (λ xs. Contains (flat_map (λ p. p) xs) i) (c.as_slice.ensures.value ∙ c.in_ok-large.ensures.large) d)
+    λ i d. large_below f c.args.commute n (accesses f n) i (subst (λ xs. Contains (flat_map (λ p. p) xs) i) (c.as_slice.ensures.value ∙ c.in_ok-large.ensures.large) d)

@@ -34,6 +34,6 @@ loop-line-preserved c =
     record {
       items = c.loop-line.invariant.items;
       size = c.reach.ensures.size ∙ c.loop-line.invariant.size;
-      bits = λ i. reach_after c.args.flow.now (length c.args.rows.now.rows.items) items c.loop-line.line-index (get_or items c.loop-line.line-index 0) i (word_bit c.args.mask.now i) (word_bit c.loop-line.mask i) (word_bit c.reach.new.mask i)
+      bits = λ i. reach_after c.args.flow.now c.args.commute (length c.args.rows.now.rows.items) items c.loop-line.line-index (get_or items c.loop-line.line-index 0) i (word_bit c.args.mask.now i) (word_bit c.loop-line.mask i) (word_bit c.reach.new.mask i)
           (word_bit (slice_index_or c.args.rows.now.rows.items (get_or items c.loop-line.line-index 0) []) i) at (c.reach.ensures.bits i) (c.loop-line.invariant.bits i) (c.requires.rows.bits (get_or items c.loop-line.line-index 0) i below);
     }

@@ -1,4 +1,4 @@
-use Rattle.std.proofs.Common.{◌≡◌, ◌||◌, ℕ, take, length, false}
+use Rattle.std.proofs.Common.{◌≡◌, ◌||◌, ℕ, take, length}
 use Rattle.task_flow.specs.Bits.{word_bit}
 use Rattle.task_flow.specs.Construction.{is_reached, sources_after}
 use Rattle.task_flow.proofs.sources.reach_all.Given as goal
@@ -7,5 +7,5 @@ abbrev pub invariant-loop-line : goal.invariant-loop-line
 invariant-loop-line l = record {
   items : l.line-items ≡ l.part;
   size : length l.mask ≡ length l.initial.mask;
-  bits : (i : ℕ) → word_bit l.mask i ≡ (word_bit l.initial.mask i || is_reached (sources_after l.flow false (length l.rows.rows.items)) (take l.line-index l.line-items) i);
+  bits : (i : ℕ) → word_bit l.mask i ≡ (word_bit l.initial.mask i || is_reached (sources_after l.flow l.commute (length l.rows.rows.items)) (take l.line-index l.line-items) i);
 }
