@@ -1,17 +1,20 @@
 -- Each line of the graph of a flow fits after those before it, unless the graph passes a limit with it.
-use Rattle.std.proofs.Common.{◌≡◌, ℕ, zero, suc, ◌+◌, ◌-◌, ◌*◌, ◌^◌, ◌<◌, ◌≤◌, Bool, true, false, cond, ◌&&◌, ◌||◌, ◌⊎◌, inl, inr, List, [], ◌∷◌, ◌++◌, length, map, take, refl, sym, ◌∙◌, ap, subst, append_assoc, append-nil, length-append, arith, lit<, lit≤}
-use Rattle.std.specs.Prelude.{◌≢◌, Contains, Option, Some, None, filter, nat_eq, nat_lt, nat_le, is_some, find, option_map, slice_get}
+use Rattle.std.proofs.Common.{◌≡◌, ℕ, zero, suc, ◌+◌, ◌-◌, ◌*◌, ◌^◌, ◌<◌, ◌≤◌, Bool, true, false, cond, not, ◌&&◌, ◌||◌, ◌⊎◌, inl, inr, List, [], ◌∷◌, ◌++◌, length, map, take, refl, sym, ◌∙◌, ap, subst, append_assoc, append-nil, length-append, arith, lit<, lit≤}
+use Rattle.std.specs.Prelude.{◌≢◌, ◌==◌, Contains, Option, Some, None, filter, filter_map, nat_eq, nat_lt, nat_le, is_some, find, option_map, slice_get}
 use Rattle.std.specs.Option.{option_map_or}
-use Rattle.std.specs.List.{list_any, range_with_len}
+use Rattle.std.specs.List.{list_any, list_all, range_with_len, AllByRecursion}
 use Rattle.std.specs.Str.{bytes_eq}
 use Rattle.std.proofs.Math.Nat.{pow-le-pow_right, pow-suc}
-use Rattle.std.proofs.lemmas.Bool.{true≢false, cases_order, or_parts, or_cases, or_left, or_right, false_from_ne_true, ltb-true, lt-ltb, leb-true, not-true}
+use Rattle.std.proofs.lemmas.Bool.{true≢false, cases_order, or_parts, or_cases, or_left, or_right, false_from_ne_true, ltb-true, lt-ltb, leb-true, eqb-true, not-true}
 use Rattle.std.proofs.lemmas.Option.{none-some, same_Some, slice_get_within, slice_get-get_or}
 use Rattle.std.proofs.lemmas.Slice.Eq.{bytes_eq-Decides}
 use Rattle.std.proofs.lemmas.List.Elements.{Contains-append_cases, Contains-append_left, Contains-append_right}
 use Rattle.basics.proofs.ListFacts.{contains_cases, contains_none, contains_here, contains_there, contains_map, map_contains, some_passes, passes_some, got_contains, got_behind, find_is, from_contains}
+use Rattle.index_spaces.specs.Space.{has_point, points}
 use Rattle.index_spaces.specs.declared.Op.TheVariants as op
+use Rattle.graph_model.specs.declared.graph.decl.ColumnInfo.{ColumnInfo}
 use Rattle.graph_model.specs.declared.graph.decl.Decl.{Decl}
+use Rattle.graph_model.specs.declared.graph.decl.Decl.TheVariants.{Lock}
 use Rattle.graph_model.specs.declared.graph.format.Format.{Format}
 use Rattle.graph_model.specs.declared.graph.format.Format.TheVariants.{One, Two}
 use Rattle.graph_model.specs.declared.graph.table.Kernel.TheVariants as kernel
@@ -20,23 +23,25 @@ use Rattle.graph_model.specs.declared.graph.verb.Line.{Line}
 use Rattle.graph_model.specs.declared.graph.verb.Verb.{Verb}
 use Rattle.graph_model.specs.declared.graph.verb.Verb.TheVariants.{User, Trigger, Cancel, Merge, MergeIgnore, Phase, Arrive, Acquire, Release, Fill, Copy, Reduce, Task}
 use Rattle.graph_model.specs.declared.graph.why.Why.TheVariants as why
-use Rattle.graph_model.specs.graph.Graph.{GraphValue, decl_name, columns, locks, barriers}
+use Rattle.graph_model.specs.graph.Graph.{GraphValue, decl_name, lock_of, named_spaces, columns, locks, barriers, line_passes, is_acquire, is_release_of}
 use Rattle.graph_model.specs.declared.graph.limits.TheConstants.{MAX_INSTS, MAX_COLUMNS, MAX_CELLS, MAX_LOCKS, MAX_BARRIERS}
 use Rattle.graph_model.specs.graph.Access.{verb_accesses}
 use Rattle.graph_model.specs.graph.Edges.{edges, line_edges}
-use Rattle.graph_model.specs.graph.Fits.{first_reason, repeats, names, is_used, is_inst, cell_count, with_line, is_beyond, verb_repeats, named_lines, on_lines, line_unknown, verb_unknown, verb_unlike, takes_no_on, format_lacks, verb_misnumbered, access_outside, arrives_late, merges_many, line_tests, line_fault, LinesFit}
+use Rattle.graph_model.specs.graph.Fits.{first_reason, repeats, names, is_used, is_inst, cell_count, with_line, is_beyond, verb_repeats, named_lines, on_lines, line_unknown, verb_unknown, verb_unlike, takes_no_on, format_lacks, verb_misnumbered, access_unknown, access_outside, arrives_late, merges_many, line_tests, line_fault, LinesFit}
 use Rattle.graph_model.specs.graph.Spelling.{head, spelled, line_words}
 use Rattle.graph_model.proofs.GraphFacts.{none_first}
 use Rattle.graph_model.proofs.GraphPush.{head_with_line}
 use Rattle.graph_model.proofs.RowLaws.{edges_push}
 use Rattle.task_flow.specs.Flow.{IsFlow, uses_columns}
-use Rattle.task_flow.specs.Construction.{Made, new_name, takes_width, place_in, no_line, line_in, graph_of}
+use Rattle.task_flow.specs.Written.{IsLock, orders_alone}
+use Rattle.task_flow.specs.Construction.{Made, is_contended, lock_for, new_name, takes_width, place_in, no_line, line_in, reservations, graph_of}
 use Rattle.task_flow.specs.Fitting.{lined, with_lines, AreToFit}
 use Rattle.task_flow.specs.Making.{IsPast}
 use Rattle.task_flow.proofs.Names.{new_differ, unused}
 use Rattle.task_flow.proofs.NameScan.{is_free, power_most}
 use Rattle.task_flow.proofs.Lists.{both_not}
-use Rattle.task_flow.proofs.Standing.{Waits, IsMerge, Standing, own_uses}
+use Rattle.task_flow.proofs.Standing.{Waits, IsOwn, IsSection, Standing, new_line, own_uses}
+use Rattle.task_flow.proofs.Reservations.{spaces_stay, columns_stay}
 
 -- a line of lines that fit fits after those before it
 fits_after : (fm : Format) (decls : List Decl) (before ls : List Line) → LinesFit fm decls before ls → (k : ℕ) (l : Line) → slice_get ls k ≡ Some l → line_fault (lined fm decls (before ++ take k ls)) l ≡ None
@@ -99,9 +104,22 @@ own_in_format One (Copy x y s) h = refl
 own_in_format One (Reduce o x y s) h = refl
 own_in_format One (Task k) h = refl
 
-merge_in_format : (fm : Format) (es : List ℕ) → format_lacks fm (Merge es) ≡ false
-merge_in_format One es = refl
-merge_in_format Two es = refl
+alone_in_format : (fm : Format) (v : Verb) → orders_alone v ≡ true → format_lacks fm v ≡ false
+alone_in_format Two v h = refl
+alone_in_format One (Acquire l true) h = absurd (true≢false (sym h))
+alone_in_format One (Acquire l false) h = refl
+alone_in_format One User h = refl
+alone_in_format One (Trigger u) h = refl
+alone_in_format One (Cancel u) h = refl
+alone_in_format One (Merge es) h = refl
+alone_in_format One (MergeIgnore es) h = refl
+alone_in_format One (Phase u) h = refl
+alone_in_format One (Arrive p v w) h = refl
+alone_in_format One (Release q) h = refl
+alone_in_format One (Fill t s v) h = refl
+alone_in_format One (Copy x y s) h = refl
+alone_in_format One (Reduce o x y s) h = refl
+alone_in_format One (Task k) h = refl
 
 and_no : (a b : Bool) → a ≡ false → (a && b) ≡ false
 and_no a b h = ap (λ x. x && b) h
@@ -120,11 +138,23 @@ on_below labels k (Some x) P w e c = elim (contains_cases x [] e c) [ inl same �
 same_line : (l : Line) (v : Verb) (o : Option ℕ) → l.verb ≡ v → l.on ≡ o → record { name = l.name; verb = v; «on» = o } ≡ l
 same_line l v o e f = ap (λ z. record { name = l.name; verb = z; «on» = o }) (sym e) ∙ ap (λ z. record { name = l.name; verb = l.verb; «on» = z }) (sym f)
 
+-- what a graph has of columns and spaces decides which accesses are known and lie inside
+abbrev space_by : List (List ℕ × List (ℕ × ℕ)) → ℕ → List (ℕ × ℕ)
+space_by ss s = option_map_or (λ (x : List ℕ × List (ℕ × ℕ)). x.1) (slice_get ss s) []
+
+abbrev outside_by : List ColumnInfo → List (List ℕ × List (ℕ × ℕ)) → Access → Bool
+outside_by cs ss a = not (list_all (has_point (option_map_or (λ (x : ColumnInfo). space_by ss x.space) (slice_get cs a.column) [])) (points (space_by ss a.space)))
+
+unknown_same : (g h : GraphValue) (xs : List Access) → columns g ≡ columns h → named_spaces g ≡ named_spaces h → list_any (access_unknown g) xs ≡ list_any (access_unknown h) xs
+unknown_same g h xs c s = ap (λ cs. list_any (λ (a : Access). nat_le (length cs) a.column || nat_le (length (named_spaces g)) a.space) xs) c ∙ ap (λ ss. list_any (λ (a : Access). nat_le (length (columns h)) a.column || nat_le (length ss) a.space) xs) s
+
+outside_same : (g h : GraphValue) (xs : List Access) → columns g ≡ columns h → named_spaces g ≡ named_spaces h → list_any (access_outside g) xs ≡ list_any (access_outside h) xs
+outside_same g h xs c s = ap (λ cs. list_any (outside_by cs (named_spaces g)) xs) c ∙ ap (λ ss. list_any (outside_by (columns h) ss) xs) s
+
 -- a line of a flow after other lines
-own_fault : (g : GraphValue) (l : Line) (before : List Line) (name : List ℕ) (on : Option ℕ) → uses_columns l.verb ≡ true → line_fault (lined g.format g.decls before) l ≡ None → is_used g name ≡ false → ((e : ℕ) → Contains (on_lines on) e → e < length g.lines) →
+own_fault : (g own : GraphValue) → columns g ≡ columns own → named_spaces g ≡ named_spaces own → (l : Line) (name : List ℕ) (on : Option ℕ) → uses_columns l.verb ≡ true → line_fault own l ≡ None → is_used g name ≡ false → ((e : ℕ) → Contains (on_lines on) e → e < length g.lines) →
     line_fault g (record { name = name; verb = l.verb; «on» = on }) ≡ cond (is_beyond (with_line g (record { name = name; verb = l.verb; «on» = on }))) (Some why.Limit) None
-own_fault g l before name on uses fits fresh below =
-    let own = lined g.format g.decls before in
+own_fault g own cols spaces l name on uses fits fresh below =
     let v = l.verb in
     let c = own_clear g v uses in
     let new : Line = record { name = name; verb = v; «on» = on } in
@@ -133,9 +163,9 @@ own_fault g l before name on uses fits fresh below =
     let within : list_any (access_outside own) (verb_accesses v) ≡ false = none_first (line_tests own l) fits (list_any (access_outside own) (verb_accesses v), why.Outside) (4, omega arith, refl) in
     six_false (is_used g name || (verb_repeats g v || repeats nat_eq (map (λ (a : Access). a.column) (verb_accesses v)))) (line_unknown g new) (verb_unlike g v || ((takes_no_on v && is_some on) || format_lacks g.format v)) (verb_misnumbered g.format v) (list_any (access_outside g) (verb_accesses v)) (arrives_late g v) (merges_many v || is_beyond (with_line g new))
     (both_not (is_used g name) _ fresh (both_not (verb_repeats g v) _ c.twice once.1))
-    (both_not (list_any (λ i. nat_le (length g.lines) i) (named_lines v ++ on_lines on)) _ (ap (λ xs. list_any (λ i. nat_le (length g.lines) i) (xs ++ on_lines on)) c.named ∙ none_past (on_lines on) (length g.lines) below) (both_not (verb_unknown g v) _ c.unknown known.1))
+    (both_not (list_any (λ i. nat_le (length g.lines) i) (named_lines v ++ on_lines on)) _ (ap (λ xs. list_any (λ i. nat_le (length g.lines) i) (xs ++ on_lines on)) c.named ∙ none_past (on_lines on) (length g.lines) below) (both_not (verb_unknown g v) _ c.unknown (unknown_same g own (verb_accesses v) cols spaces ∙ known.1)))
     (both_not (verb_unlike g v) _ c.unlike (both_not (takes_no_on v && is_some on) _ (and_no (takes_no_on v) (is_some on) c.bare) (own_in_format g.format v uses)))
-    c.number within c.late
+    c.number (outside_same g own (verb_accesses v) cols spaces ∙ within) c.late
     ∙ ap (λ b. cond (b || is_beyond (with_line g new)) (Some why.Limit) None) c.many
 
 -- a merge after other lines
@@ -146,17 +176,63 @@ merge_fault g name es fresh once some few below =
     six_false (is_used g name || (repeats nat_eq es || false)) (line_unknown g new) (verb_unlike g (Merge es) || ((takes_no_on (Merge es) && false) || format_lacks g.format (Merge es))) (nat_lt (length es) 1) false false (nat_lt 64 (length es) || is_beyond (with_line g new))
     (both_not (is_used g name) _ fresh (both_not (repeats nat_eq es) false once refl))
     (both_not (list_any (λ i. nat_le (length g.lines) i) (es ++ [])) _ (ap (list_any (λ i. nat_le (length g.lines) i)) (append-nil es) ∙ none_past es (length g.lines) below) refl)
-    (merge_in_format g.format es) (false_from_ne_true (nat_lt (length es) 1) (λ h. (let b : length es < 1 = ltb-true (length es) 1 h in let no : ⊥ = absurd (omega arith) in no))) refl refl
+    (alone_in_format g.format (Merge es) refl) (false_from_ne_true (nat_lt (length es) 1) (λ h. (let b : length es < 1 = ltb-true (length es) 1 h in let no : ⊥ = absurd (omega arith) in no))) refl refl
     ∙ ap (λ b. cond (b || is_beyond (with_line g new)) (Some why.Limit) None) (false_from_ne_true (nat_lt 64 (length es)) (λ h. (let b : 64 < length es = ltb-true 64 (length es) h in let no : ⊥ = absurd (omega arith) in no)))
 
+-- the lines of a section after other lines
+acquire_fault : (g : GraphValue) (name : List ℕ) (lock : ℕ) (on : Option ℕ) → is_used g name ≡ false → lock < length (locks g) → ((e : ℕ) → Contains (on_lines on) e → e < length g.lines) →
+    line_fault g (record { name = name; verb = Acquire lock false; «on» = on }) ≡ cond (is_beyond (with_line g (record { name = name; verb = Acquire lock false; «on» = on }))) (Some why.Limit) None
+acquire_fault g name lock on fresh known below =
+    let new : Line = record { name = name; verb = Acquire lock false; «on» = on } in
+    six_false (is_used g name || false) (line_unknown g new) (false || (false || format_lacks g.format (Acquire lock false))) false false false (is_beyond (with_line g new))
+    (both_not (is_used g name) false fresh refl)
+    (both_not (list_any (λ i. nat_le (length g.lines) i) (on_lines on)) _ (none_past (on_lines on) (length g.lines) below) (both_not (nat_le (length (locks g)) lock) false (false_from_ne_true (nat_le (length (locks g)) lock) (λ h. (let b : length (locks g) ≤ lock = leb-true (length (locks g)) lock h in let no : ⊥ = absurd (omega arith) in no))) refl))
+    (alone_in_format g.format (Acquire lock false) refl) refl refl refl
+
+ignore_fault : (g : GraphValue) (name : List ℕ) (e : ℕ) → is_used g name ≡ false → e < length g.lines →
+    line_fault g (record { name = name; verb = MergeIgnore (e ∷ []); «on» = None }) ≡ cond (is_beyond (with_line g (record { name = name; verb = MergeIgnore (e ∷ []); «on» = None }))) (Some why.Limit) None
+ignore_fault g name e fresh below =
+    let new : Line = record { name = name; verb = MergeIgnore (e ∷ []); «on» = None } in
+    six_false (is_used g name || false) (line_unknown g new) (verb_unlike g (MergeIgnore (e ∷ [])) || ((takes_no_on (MergeIgnore (e ∷ [])) && false) || format_lacks g.format (MergeIgnore (e ∷ [])))) false false false (is_beyond (with_line g new))
+    (both_not (is_used g name) false fresh refl)
+    (both_not (list_any (λ i. nat_le (length g.lines) i) (e ∷ [])) _ (none_past (e ∷ []) (length g.lines) (λ x c. elim (contains_cases e [] x c) [ inl same ↦ subst (λ z. z < length g.lines) same below | inr none ↦ absurd (contains_none x none) ])) refl)
+    (alone_in_format g.format (MergeIgnore (e ∷ [])) refl) refl refl refl
+
+release_fault : (g : GraphValue) (name : List ℕ) (q e : ℕ) → is_used g name ≡ false → list_any (λ (l : Line). is_release_of q l.verb) g.lines ≡ false → line_passes is_acquire g q ≡ true → q < length g.lines → e < length g.lines →
+    line_fault g (record { name = name; verb = Release q; «on» = Some e }) ≡ cond (is_beyond (with_line g (record { name = name; verb = Release q; «on» = Some e }))) (Some why.Limit) None
+release_fault g name q e fresh once acquires above below =
+    let new : Line = record { name = name; verb = Release q; «on» = Some e } in
+    six_false (is_used g name || (list_any (λ (l : Line). is_release_of q l.verb) g.lines || false)) (line_unknown g new) (not (line_passes is_acquire g q) || (false || format_lacks g.format (Release q))) false false false (is_beyond (with_line g new))
+    (both_not (is_used g name) _ fresh (both_not (list_any (λ (l : Line). is_release_of q l.verb) g.lines) false once refl))
+    (both_not (list_any (λ i. nat_le (length g.lines) i) (q ∷ e ∷ [])) _ (none_past (q ∷ e ∷ []) (length g.lines) (λ x c. elim (contains_cases q (e ∷ []) x c) [
+      | inl same ↦ subst (λ z. z < length g.lines) same above
+      | inr rest ↦ elim (contains_cases e [] x rest) [ inl same ↦ subst (λ z. z < length g.lines) same below | inr none ↦ absurd (contains_none x none) ]
+    ])) refl)
+    (both_not (not (line_passes is_acquire g q)) _ (ap not acquires) (alone_in_format g.format (Release q) refl)) refl refl refl
+
+own_releases : (q : ℕ) (v : Verb) → uses_columns v ≡ true → is_release_of q v ≡ false
+own_releases q User h = absurd (true≢false (sym h))
+own_releases q (Trigger u) h = absurd (true≢false (sym h))
+own_releases q (Cancel u) h = absurd (true≢false (sym h))
+own_releases q (Merge es) h = absurd (true≢false (sym h))
+own_releases q (MergeIgnore es) h = absurd (true≢false (sym h))
+own_releases q (Phase u) h = absurd (true≢false (sym h))
+own_releases q (Arrive p v w) h = absurd (true≢false (sym h))
+own_releases q (Acquire k s) h = absurd (true≢false (sym h))
+own_releases q (Release k) h = absurd (true≢false (sym h))
+own_releases q (Fill t s v) h = refl
+own_releases q (Copy x y s) h = refl
+own_releases q (Reduce o x y s) h = refl
+own_releases q (Task kernel) h = refl
+
 -- names of a flow's own
-used_decl : (g : GraphValue) (name : List ℕ) → is_used g name ≡ false → (d : Decl) → Contains g.decls d → name ≢ decl_name d
+pub used_decl : (g : GraphValue) (name : List ℕ) → is_used g name ≡ false → (d : Decl) → Contains g.decls d → name ≢ decl_name d
 used_decl g name free d c same = true≢false (sym (passes_some (bytes_eq name) (names g) (decl_name d) (Contains-append_left (map decl_name g.decls) (map (λ (l : Line). l.name) g.lines) (decl_name d) (contains_map decl_name g.decls d c)) ((bytes_eq-Decides name (decl_name d)).1 same)) ∙ free)
 
 used_line : (g : GraphValue) (name : List ℕ) → is_used g name ≡ false → (l : Line) → Contains g.lines l → name ≢ l.name
 used_line g name free l c same = true≢false (sym (passes_some (bytes_eq name) (names g) l.name (Contains-append_right (map decl_name g.decls) (map (λ (l : Line). l.name) g.lines) l.name (contains_map (λ (l : Line). l.name) g.lines l c)) ((bytes_eq-Decides name l.name).1 same)) ∙ free)
 
-unused_where : (g : GraphValue) (name : List ℕ) → ((d : Decl) → Contains g.decls d → name ≢ decl_name d) → ((l : Line) → Contains g.lines l → name ≢ l.name) → is_used g name ≡ false
+pub unused_where : (g : GraphValue) (name : List ℕ) → ((d : Decl) → Contains g.decls d → name ≢ decl_name d) → ((l : Line) → Contains g.lines l → name ≢ l.name) → is_used g name ≡ false
 unused_where g name decls lines = false_from_ne_true (is_used g name) (λ h.
     let s = some_passes (bytes_eq name) (names g) h in
     let same : name ≡ s.0 = (bytes_eq-Decides name s.0).0 s.2 in
@@ -179,9 +255,16 @@ got_front [] ys k x at = absurd (none-some x at)
 got_front (y ∷ xs) ys zero x at = at
 got_front (y ∷ xs) ys (suc k) x at = got_front xs ys k x at
 
--- the lines of what stands fit one after the other
-module _ (f : GraphValue) (flow : IsFlow f) (n : ℕ) (within : n ≤ length f.lines) (m : Made) (labels : List (List ℕ)) (st : Standing f n m labels) (few : length m.lines ≤ 8192) (small : m.first + 8192 ≤ 2 ^ 64)
-    (fresh : (k : ℕ) → k < 8192 → (is_used f (new_name (m.first + k)) ≡ false) ⊎ (m.merges ≡ [])) where
+got_before : {X : Type 0} (xs ys : List X) (k : ℕ) → k < length xs → slice_get (xs ++ ys) k ≡ slice_get xs k
+got_before [] ys k h = absurd (omega arith)
+got_before (x ∷ xs) ys zero h = refl
+got_before (x ∷ xs) ys (suc k) h = got_before xs ys k (let b : suc k < suc (length xs) = h in omega arith)
+
+-- the lines of what stands fit one after the other, behind the declarations of the flow and these reservations
+module _ (f : GraphValue) (commute : Bool) (flow : IsFlow f) (n : ℕ) (within : n ≤ length f.lines) (m : Made) (labels : List (List ℕ)) (st : Standing f commute n m labels) (few : length m.lines ≤ 8192) (small : m.first + 65536 ≤ 2 ^ 64)
+    (rs : List Decl) (are : AllByRecursion IsLock rs) (reserved : (d : Decl) → Contains rs d → (k : ℕ) × (k < 64) × (d ≡ Lock (new_name (m.first + (8192 + k)))) × (is_used f (new_name (m.first + (8192 + k))) ≡ false))
+    (room : 0 < st.guards → (i : ℕ) → i < n → is_contended f commute i ≡ true → lock_for f commute i < length (filter_map lock_of (f.decls ++ rs)))
+    (fresh : (k : ℕ) → k < 8192 → (is_used f (new_name (m.first + k)) ≡ false) ⊎ ((m.merges ≡ []) × (st.guards ≡ 0))) where
   own_fits : (i : ℕ) → i < n → line_fault (lined f.format f.decls (take i f.lines)) (line_in f i) ≡ None
   own_fits i h = fits_after f.format f.decls [] f.lines flow.fits.lines i (line_in f i) (slice_get-get_or f.lines i no_line (omega arith))
 
@@ -191,23 +274,51 @@ module _ (f : GraphValue) (flow : IsFlow f) (n : ℕ) (within : n ≤ length f.l
   own_got : (i : ℕ) → i < n → slice_get f.lines i ≡ Some (line_in f i)
   own_got i h = slice_get-get_or f.lines i no_line (omega arith)
 
-  merge_free : (k : ℕ) (l : Line) → slice_get m.lines k ≡ Some l → IsMerge m labels k l → is_used f l.name ≡ false
-  merge_free k l at o =
+  abbrev Section : ℕ → Type 0
+  Section q = IsSection f commute n m labels q
+
+  section_line : (k q : ℕ) (l x : Line) → slice_get m.lines k ≡ Some l → k ≡ q → slice_get m.lines q ≡ Some x → l ≡ x
+  section_line k q l x at is there = same_Some l x (sym at ∙ (ap (slice_get m.lines) is ∙ there))
+
+  -- a line of the flow, or one with the number of its place in its name
+  line_name : (k : ℕ) (l : Line) → slice_get m.lines k ≡ Some l → IsOwn f commute n m labels k l ⊎ ((l.name ≡ new_name (m.first + k)) × (is_used f (new_name (m.first + k)) ≡ false))
+  line_name k l at =
       let below : k < length m.lines = slice_get_within m.lines k l at in
-      elim (fresh k (omega arith)) [
-        | inl free ↦ ap (is_used f) o.name ∙ free
-        | inr none ↦ absurd (contains_none (o.events, k) (subst (λ z. Contains z (o.events, k)) none o.noted))
+      elim (st.each k l at) [
+        | inl o ↦ inl o
+        | inr (inl o) ↦ inr (o.name, elim (fresh k (omega arith)) [ inl free ↦ free | inr none ↦ absurd (contains_none (o.events, k) (subst (λ z. Contains z (o.events, k)) none.0 o.noted)) ])
+        | inr (inr o) ↦ inr (
+          elim o.3 [
+            | inl a ↦ ap (λ (x : Line). x.name) (section_line k o.1 l _ at a (o.2).acquire) ∙ ap (λ z. new_name (m.first + z)) (sym a)
+            | inr (inl b) ↦ ap (λ (x : Line). x.name) (section_line k (o.1 + 2) l _ at b (o.2).merge) ∙ ap (λ z. new_name (m.first + z)) (sym b)
+            | inr (inr c) ↦ ap (λ (x : Line). x.name) (section_line k (o.1 + 3) l _ at c (o.2).release) ∙ ap (λ z. new_name (m.first + z)) (sym c)
+          ],
+          elim (fresh k (omega arith)) [ inl free ↦ free | inr none ↦ (let a : 0 < st.guards = o.0 in let b : st.guards ≡ 0 = none.1 in absurd (omega arith)) ],
+        )
       ]
 
-  not_decl : (k : ℕ) (l : Line) → slice_get m.lines k ≡ Some l → (d : Decl) → Contains f.decls d → l.name ≢ decl_name d
-  not_decl k l at d c = elim (st.each k l at) [
-    | inl o ↦ (λ same. used_decl (lined f.format f.decls (take o.line f.lines)) (line_in f o.line).name (own_free o.line o.below) d c (sym o.name ∙ same))
-    | inr o ↦ used_decl f l.name (merge_free k l at o) d c
+  differ : (i j : ℕ) → i < 65536 → j < 65536 → i ≢ j → new_name (m.first + i) ≢ new_name (m.first + j)
+  differ i j a b ne same = true≢false (sym ((bytes_eq-Decides (new_name (m.first + i)) (new_name (m.first + j))).1 same) ∙ new_differ (m.first + i) (m.first + j) (omega arith) (omega arith) (λ e. ne (let z : i ≡ j = omega arith in z)))
+
+  not_decl : (k : ℕ) (l : Line) → slice_get m.lines k ≡ Some l → (d : Decl) → Contains (f.decls ++ rs) d → l.name ≢ decl_name d
+  not_decl k l at d c = elim (Contains-append_cases f.decls rs d c) [
+    | inl old ↦ elim (line_name k l at) [
+      | inl o ↦ (λ same. used_decl (lined f.format f.decls (take o.line f.lines)) (line_in f o.line).name (own_free o.line o.below) d old (sym o.name ∙ same))
+      | inr o ↦ used_decl f l.name (ap (is_used f) o.0 ∙ o.1) d old
+    ]
+    | inr lock ↦ (
+        let r = reserved d lock in
+        let below : k < length m.lines = slice_get_within m.lines k l at in
+        let less : r.0 < 64 = r.1 in
+        elim (line_name k l at) [
+          | inl o ↦ (λ same. used_line f (new_name (m.first + (8192 + r.0))) r.3 (line_in f o.line) (got_contains f.lines o.line (line_in f o.line) (own_got o.line o.below)) (sym (ap decl_name r.2) ∙ (sym same ∙ o.name)))
+          | inr o ↦ (λ same. differ k (8192 + r.0) (omega arith) (omega arith) (λ e. (let q : k ≡ 8192 + r.0 = e in let no : ⊥ = absurd (omega arith) in no)) (sym o.0 ∙ (same ∙ ap decl_name r.2)))
+        ])
   ]
 
   not_line : (k j : ℕ) (l x : Line) → j < k → slice_get m.lines k ≡ Some l → slice_get m.lines j ≡ Some x → l.name ≢ x.name
-  not_line k j l x less at there = elim (st.each k l at) [
-    | inl o ↦ elim (st.each j x there) [
+  not_line k j l x less at there = elim (line_name k l at) [
+    | inl o ↦ elim (line_name j x there) [
       | inl p ↦ (λ same.
           let lower : p.line < o.line = elim (cases_order p.line o.line) [
             | inl e ↦ (let q : place_in m p.line ≡ place_in m o.line = ap (place_in m) e in let a : place_in m p.line ≡ j = p.place in let b : place_in m o.line ≡ k = o.place in absurd (omega arith))
@@ -215,43 +326,84 @@ module _ (f : GraphValue) (flow : IsFlow f) (n : ℕ) (within : n ≤ length f.l
             | inr (inr above) ↦ (let q : place_in m o.line < place_in m p.line = st.rises o.line p.line above p.below in let a : place_in m p.line ≡ j = p.place in let b : place_in m o.line ≡ k = o.place in absurd (omega arith))
           ] in
           used_line (lined f.format f.decls (take o.line f.lines)) (line_in f o.line).name (own_free o.line o.below) (line_in f p.line) (got_take f.lines o.line p.line (line_in f p.line) lower (own_got p.line p.below)) (sym o.name ∙ (same ∙ p.name)))
-      | inr p ↦ (λ same. used_line f x.name (merge_free j x there p) (line_in f o.line) (got_contains f.lines o.line (line_in f o.line) (own_got o.line o.below)) (sym same ∙ o.name))
+      | inr p ↦ (λ same. used_line f x.name (ap (is_used f) p.0 ∙ p.1) (line_in f o.line) (got_contains f.lines o.line (line_in f o.line) (own_got o.line o.below)) (sym same ∙ o.name))
     ]
-    | inr o ↦ elim (st.each j x there) [
-      | inl p ↦ (λ same. used_line f l.name (merge_free k l at o) (line_in f p.line) (got_contains f.lines p.line (line_in f p.line) (own_got p.line p.below)) (same ∙ p.name))
+    | inr o ↦ elim (line_name j x there) [
+      | inl p ↦ (λ same. used_line f l.name (ap (is_used f) o.0 ∙ o.1) (line_in f p.line) (got_contains f.lines p.line (line_in f p.line) (own_got p.line p.below)) (same ∙ p.name))
       | inr p ↦ (λ same.
           let below : k < length m.lines = slice_get_within m.lines k l at in
-          true≢false (sym ((bytes_eq-Decides (new_name (m.first + k)) (new_name (m.first + j))).1 (sym o.name ∙ (same ∙ p.name))) ∙ new_differ (m.first + k) (m.first + j) (omega arith) (omega arith) (omega arith)))
+          differ k j (omega arith) (omega arith) (λ e. (let q : k ≡ j = e in let no : ⊥ = absurd (omega arith) in no)) (sym o.0 ∙ (same ∙ p.0)))
     ]
   ]
 
-  name_free : (b : List Line) (l : Line) (rest : List Line) → m.lines ≡ b ++ l ∷ rest → is_used (lined f.format f.decls b) l.name ≡ false
+  name_free : (b : List Line) (l : Line) (rest : List Line) → m.lines ≡ b ++ l ∷ rest → is_used (lined f.format (f.decls ++ rs) b) l.name ≡ false
   name_free b l rest is =
       let at : slice_get m.lines (length b) ≡ Some l = ap (λ xs. slice_get xs (length b)) is ∙ got_behind b l rest in
-      unused_where (lined f.format f.decls b) l.name (not_decl (length b) l at) (λ x c. (let r = got_of b x c in not_line (length b) r.0 l x r.1 at (ap (λ xs. slice_get xs r.0) is ∙ got_front b (l ∷ rest) r.0 x r.2)))
+      unused_where (lined f.format (f.decls ++ rs) b) l.name (not_decl (length b) l at) (λ x c. (let r = got_of b x c in not_line (length b) r.0 l x r.1 at (ap (λ xs. slice_get xs r.0) is ∙ got_front b (l ∷ rest) r.0 x r.2)))
+
+  -- no line above a release releases the same
+  not_release : (k q j : ℕ) (x : Line) → k ≡ q + 3 → j < k → slice_get m.lines j ≡ Some x → is_release_of q x.verb ≡ false
+  not_release k q j x is less there = elim (st.each j x there) [
+    | inl o ↦ ap (is_release_of q) o.verb ∙ own_releases q (line_in f o.line).verb (own_uses f commute flow n within o.line o.below)
+    | inr (inl o) ↦ ap (is_release_of q) o.verb
+    | inr (inr o) ↦ elim o.3 [
+      | inl a ↦ ap (λ (z : Line). is_release_of q z.verb) (section_line j o.1 x _ there a (o.2).acquire)
+      | inr (inl b) ↦ ap (λ (z : Line). is_release_of q z.verb) (section_line j (o.1 + 2) x _ there b (o.2).merge)
+      | inr (inr c) ↦ ap (λ (z : Line). is_release_of q z.verb) (section_line j (o.1 + 3) x _ there c (o.2).release)
+          ∙ false_from_ne_true (o.1 == q) (λ e. (let same : o.1 ≡ q = eqb-true o.1 q e in let no : ⊥ = absurd (omega arith) in no))
+    ]
+  ]
 
   abbrev FitsAt : List Line → Line → Type 0
-  FitsAt b l = line_fault (lined f.format f.decls b) l ≡ cond (is_beyond (lined f.format f.decls (b ++ l ∷ []))) (Some why.Limit) None
+  FitsAt b l = line_fault (lined f.format (f.decls ++ rs) b) l ≡ cond (is_beyond (lined f.format (f.decls ++ rs) (b ++ l ∷ []))) (Some why.Limit) None
+
+  on_all : (k : ℕ) (o : Option ℕ) (P : ℕ → Type 0) → Waits labels k o P → (e : ℕ) → Contains (on_lines o) e → e < k
+  on_all k o P w = on_below labels k o P w
+
+  section_fits : (b : List Line) (l : Line) (rest : List Line) → m.lines ≡ b ++ l ∷ rest → is_used (lined f.format (f.decls ++ rs) b) l.name ≡ false → 0 < st.guards → (q : ℕ) → Section q → (length b ≡ q) ⊎ ((length b ≡ q + 2) ⊎ (length b ≡ q + 3)) → FitsAt b l
+  section_fits b l rest is free some q s which =
+      let at : slice_get m.lines (length b) ≡ Some l = ap (λ xs. slice_get xs (length b)) is ∙ got_behind b l rest in
+      elim which [
+        | inl a ↦ (
+            let line = section_line (length b) q l _ at a s.acquire in
+            subst (FitsAt b) (same_line l (Acquire (lock_for f commute s.line) false) s.on (ap (λ (z : Line). z.verb) line) (ap (λ (z : Line). z.on) line))
+            (acquire_fault (lined f.format (f.decls ++ rs) b) l.name (lock_for f commute s.line) s.on free (room some s.line s.below s.contended) (subst (λ z. (e : ℕ) → Contains (on_lines s.on) e → e < z) (sym a) (on_all q s.on _ s.waits))))
+        | inr (inl a) ↦ (
+            let line = section_line (length b) (q + 2) l _ at a s.merge in
+            subst (FitsAt b) (same_line l (MergeIgnore ((q + 1) ∷ [])) None (ap (λ (z : Line). z.verb) line) (ap (λ (z : Line). z.on) line))
+            (ignore_fault (lined f.format (f.decls ++ rs) b) l.name (q + 1) free (omega arith)))
+        | inr (inr a) ↦ (
+            let line = section_line (length b) (q + 3) l _ at a s.release in
+            let there : slice_get b q ≡ Some (new_line (m.first + q) (Acquire (lock_for f commute s.line) false) s.on) = sym (got_before b (l ∷ rest) q (omega arith)) ∙ (ap (λ xs. slice_get xs q) (sym is) ∙ s.acquire) in
+            subst (FitsAt b) (same_line l (Release q) (Some (q + 2)) (ap (λ (z : Line). z.verb) line) (ap (λ (z : Line). z.on) line))
+            (release_fault (lined f.format (f.decls ++ rs) b) l.name q (q + 2) free
+            (false_from_ne_true (list_any (λ (x : Line). is_release_of q x.verb) b) (λ h.
+            let x = some_passes (λ (x : Line). is_release_of q x.verb) b h in
+            let r = got_of b x.0 x.1 in
+            true≢false (sym x.2 ∙ not_release (length b) q r.0 x.0 a r.1 (ap (λ xs. slice_get xs r.0) is ∙ got_front b (l ∷ rest) r.0 x.0 r.2))))
+            (ap (λ (o : Option Line). option_map_or is_acquire (option_map (λ (x : Line). x.verb) o) false) there) (omega arith) (omega arith)))
+      ]
 
   fits_at : (b : List Line) (l : Line) (rest : List Line) → m.lines ≡ b ++ l ∷ rest → FitsAt b l
   fits_at b l rest is =
       let at : slice_get m.lines (length b) ≡ Some l = ap (λ xs. slice_get xs (length b)) is ∙ got_behind b l rest in
-      let free : is_used (lined f.format f.decls b) l.name ≡ false = name_free b l rest is in
+      let free : is_used (lined f.format (f.decls ++ rs) b) l.name ≡ false = name_free b l rest is in
       elim (st.each (length b) l at) [
         | inl o ↦ subst (FitsAt b) (same_line l (line_in f o.line).verb l.on o.verb refl)
-            (own_fault (lined f.format f.decls b) (line_in f o.line) (take o.line f.lines) l.name l.on (own_uses f flow n within o.line o.below) (own_fits o.line o.below) free (on_below labels (length b) l.on _ o.waits))
-        | inr o ↦ subst (FitsAt b) (same_line l (Merge o.events) None o.verb o.on) (merge_fault (lined f.format f.decls b) l.name o.events free o.once o.some o.few o.below)
+            (own_fault (lined f.format (f.decls ++ rs) b) (lined f.format f.decls (take o.line f.lines)) (columns_stay f.decls rs are) (spaces_stay f.decls rs are) (line_in f o.line) l.name l.on (own_uses f commute flow n within o.line o.below) (own_fits o.line o.below) free (on_below labels (length b) l.on _ o.waits))
+        | inr (inl o) ↦ subst (FitsAt b) (same_line l (Merge o.events) None o.verb o.on) (merge_fault (lined f.format (f.decls ++ rs) b) l.name o.events free o.once o.some o.few o.below)
+        | inr (inr o) ↦ section_fits b l rest is free o.0 o.1 o.2 o.3
       ]
 
-  pub fit_from : (b row : List Line) → m.lines ≡ b ++ row → AreToFit f.format f.decls b row
+  pub fit_from : (b row : List Line) → m.lines ≡ b ++ row → AreToFit f.format (f.decls ++ rs) b row
   fit_from b [] is = tt
   fit_from b (l ∷ row) is = (fits_at b l row is, fit_from (b ++ l ∷ []) row (is ∙ sym (append_assoc b (l ∷ []) row)))
 
 -- a graph that passes a limit still does with more lines
-or_more : (a a' b b' : Bool) → (a ≡ true → a' ≡ true) → (b ≡ true → b' ≡ true) → (a || b) ≡ true → (a' || b') ≡ true
+pub or_more : (a a' b b' : Bool) → (a ≡ true → a' ≡ true) → (b ≡ true → b' ≡ true) → (a || b) ≡ true → (a' || b') ≡ true
 or_more a a' b b' f g h = elim (or_cases a b h) [ inl l ↦ or_left a' b' (f l) | inr r ↦ or_right a' b' (g r) ]
 
-lt_more : (c x y : ℕ) → x ≤ y → nat_lt c x ≡ true → nat_lt c y ≡ true
+pub lt_more : (c x y : ℕ) → x ≤ y → nat_lt c x ≡ true → nat_lt c y ≡ true
 lt_more c x y h l = let a : c < x = ltb-true c x l in lt-ltb c y (omega arith)
 
 or_eight : (t t' i c e k b n n' d d' : Bool) → (t ≡ true → t' ≡ true) → (n ≡ true → n' ≡ true) → (d ≡ true → d' ≡ true) → (t || (i || (c || (e || (k || (b || (n || d))))))) ≡ true → (t' || (i || (c || (e || (k || (b || (n' || d'))))))) ≡ true
@@ -279,11 +431,11 @@ beyond_more g [] h = subst (λ xs. is_beyond (lined g.format g.decls xs) ≡ tru
 beyond_more g (l ∷ ls) h = subst (λ xs. is_beyond (lined g.format g.decls xs) ≡ true) (append_assoc g.lines (l ∷ []) ls) (beyond_more (with_line g l) ls (beyond_line g l h))
 
 -- too many lines are beyond
-pub past_beyond : (f : GraphValue) (m : Made) → IsPast m → is_beyond (graph_of f m) ≡ true
-past_beyond f m h = or_seventh (nat_lt 1048576 (length (head (graph_of f m)))) (nat_lt MAX_INSTS (length (filter is_inst f.decls))) (nat_lt MAX_COLUMNS (length (columns (graph_of f m)))) (nat_lt MAX_CELLS (cell_count (graph_of f m))) (nat_lt MAX_LOCKS (length (locks (graph_of f m)))) (nat_lt MAX_BARRIERS (length (barriers (graph_of f m)))) (nat_lt 8192 (length m.lines)) (nat_lt 65536 (length (edges (graph_of f m)))) (lt-ltb 8192 (length m.lines) h)
+pub past_beyond : (f : GraphValue) (commute : Bool) (m : Made) → IsPast m → is_beyond (graph_of f commute m) ≡ true
+past_beyond f commute m h = or_seventh (nat_lt 1048576 (length (head (graph_of f commute m)))) (nat_lt MAX_INSTS (length (filter is_inst (f.decls ++ reservations f commute)))) (nat_lt MAX_COLUMNS (length (columns (graph_of f commute m)))) (nat_lt MAX_CELLS (cell_count (graph_of f commute m))) (nat_lt MAX_LOCKS (length (locks (graph_of f commute m)))) (nat_lt MAX_BARRIERS (length (barriers (graph_of f commute m)))) (nat_lt 8192 (length m.lines)) (nat_lt 65536 (length (edges (graph_of f commute m)))) (lt-ltb 8192 (length m.lines) h)
 
 -- no name of the flow is one of the numbers from its first number on
-fresh_by : (f : GraphValue) (w k : ℕ) → 5 ≤ w → w < 18 → list_any (takes_width (w + 1)) (names f) ≡ false → k < 8192 → is_used f (new_name (10 ^ w + k)) ≡ false
+fresh_by : (f : GraphValue) (w k : ℕ) → 5 ≤ w → w < 18 → list_any (takes_width (w + 1)) (names f) ≡ false → k < 65536 → is_used f (new_name (10 ^ w + k)) ≡ false
 fresh_by f w k low high none h =
     let base : 10 ^ 5 ≤ 10 ^ w = pow-le-pow_right (lit< tt) low in
     let top : 10 ^ w ≤ 10 ^ 17 = pow-le-pow_right (lit< tt) (let s : w ≤ 17 = omega arith in s) in
@@ -291,7 +443,7 @@ fresh_by f w k low high none h =
     let same : 10 ^ (w + 1) ≡ 10 ^ suc w = ap (λ z. 10 ^ z) (let e : w + 1 ≡ suc w = omega arith in e) in
     unused f w (10 ^ w + k) none (omega arith) (omega arith) (omega arith)
 
-pub fresh_from : (f : GraphValue) (k : ℕ) → k < 8192 → (o : Option ℕ) → find (is_free f) (range_with_len 6 13) ≡ o → is_some (option_map (λ w. 10 ^ (w - 1)) o) ≡ true → is_used f (new_name (option_map_or (λ n. n) (option_map (λ w. 10 ^ (w - 1)) o) 0 + k)) ≡ false
+pub fresh_from : (f : GraphValue) (k : ℕ) → k < 65536 → (o : Option ℕ) → find (is_free f) (range_with_len 6 13) ≡ o → is_some (option_map (λ w. 10 ^ (w - 1)) o) ≡ true → is_used f (new_name (option_map_or (λ n. n) (option_map (λ w. 10 ^ (w - 1)) o) 0 + k)) ≡ false
 fresh_from f k h None is some = absurd (true≢false (sym some))
 fresh_from f k h (Some w) is some =
     let r = find_is (is_free f) (range_with_len 6 13) w is in

@@ -3,10 +3,17 @@ use Rattle.std.specs.Prelude.{◌≡◌, ℕ, zero, suc, ◌+◌, ◌-◌, ◌^�
 use Rattle.std.specs.Char.{is_ascii_digit}
 use Rattle.std.specs.Option.{option_map_or}
 use Rattle.std.specs.List.{list_any, list_all, range_with_len}
+use Rattle.index_spaces.specs.Space.{has_point, points}
+use Rattle.graph_model.specs.declared.graph.decl.Decl.{Decl}
+use Rattle.graph_model.specs.declared.graph.decl.Decl.TheVariants.{Lock}
+use Rattle.graph_model.specs.declared.graph.limits.TheConstants.{MAX_LINES, MAX_LOCKS}
 use Rattle.graph_model.specs.declared.graph.verb.Access.{Access}
+use Rattle.graph_model.specs.declared.graph.verb.Mode.{Mode}
+use Rattle.graph_model.specs.declared.graph.verb.Mode.TheVariants.{Sum}
 use Rattle.graph_model.specs.declared.graph.verb.Line.{Line}
-use Rattle.graph_model.specs.declared.graph.verb.Verb.TheVariants.{User, Merge}
-use Rattle.graph_model.specs.graph.Graph.{GraphValue}
+use Rattle.graph_model.specs.declared.graph.verb.Verb.{Verb}
+use Rattle.graph_model.specs.declared.graph.verb.Verb.TheVariants.{User, Merge, MergeIgnore, Acquire, Release}
+use Rattle.graph_model.specs.graph.Graph.{GraphValue, space_at, locks}
 use Rattle.graph_model.specs.graph.Access.{accesses}
 use Rattle.graph_model.specs.graph.Fits.{names, is_beyond}
 use Rattle.task_flow.specs.Meaning.{accesses_tie}
@@ -62,6 +69,60 @@ abbrev pub sources_after : GraphValue → Bool → ℕ → List (List ℕ)
 sources_after f commute zero = []
 sources_after f commute (suc n) = sources_after f commute n ++ all_of (parts_of f commute (sources_after f commute n) n) ∷ []
 
+-- the access by which a line adds to a column
+abbrev pub mode_is_sum : Mode → Bool
+mode_is_sum Sum = true
+mode_is_sum _ = false
+
+abbrev pub is_sum : Access → Bool
+is_sum a = mode_is_sum a.mode
+
+abbrev pub summed : GraphValue → ℕ → Option Access
+summed f i = find is_sum (accesses f i)
+
+-- two accesses of one column at a shared point
+abbrev pub cells_meet : GraphValue → Option Access → Option Access → Bool
+cells_meet f (Some a) (Some b) = (a.column == b.column) && list_any (has_point (space_at f a.space)) (points (space_at f b.space))
+cells_meet f _ _ = false
+
+-- two lines that add to one cell, the lower of which the upper doesn't reach
+abbrev pub are_rivals : GraphValue → List (List ℕ) → ℕ → ℕ → Bool
+are_rivals f sources i j = not (reaches sources j i j) && cells_meet f (summed f i) (summed f j)
+
+-- line k is one of two rivals, the lower of which is line j, or stands above it
+abbrev pub contends_with : GraphValue → List (List ℕ) → ℕ → ℕ → Bool
+contends_with f sources k j = list_any (λ i. are_rivals f sources i j && ((i == k) || (j == k))) (down_from j)
+
+abbrev pub contends_below : GraphValue → List (List ℕ) → ℕ → ℕ → Bool
+contends_below f sources k n = list_any (contends_with f sources k) (down_from n)
+
+abbrev pub with_event : List ℕ → ℕ → List ℕ
+with_event es e = cond (has es e) es (es ++ e ∷ [])
+
+-- where sums commute: a sum that shares a cell with another, while no chain ties them
+unfoldable pub is_contended : GraphValue → Bool → ℕ → Bool
+is_contended f commute k = commute && contends_below f (sources_after f commute (length f.lines)) k (length f.lines)
+
+abbrev pub summed_column : GraphValue → ℕ → ℕ
+summed_column f i = option_map_or (λ (a : Access). a.column) (summed f i) 0
+
+-- the columns of the contended sums among the first n lines
+abbrev pub needed : GraphValue → Bool → ℕ → List ℕ
+needed f commute zero = []
+needed f commute (suc n) = cond (is_contended f commute n) (with_event (needed f commute n) (summed_column f n)) (needed f commute n)
+
+-- the number of the reservation for the column that a line adds to
+abbrev pub place_of : List ℕ → ℕ → ℕ
+place_of [] c = 0
+place_of (x ∷ xs) c = cond (x == c) 0 (suc (place_of xs c))
+
+abbrev pub lock_for : GraphValue → Bool → ℕ → ℕ
+lock_for f commute j = length (locks f) + place_of (needed f commute (length f.lines)) (summed_column f j)
+
+-- where the line is contended
+abbrev pub lock_of : GraphValue → Bool → ℕ → Option ℕ
+lock_of f commute j = cond (is_contended f commute j) (Some (lock_for f commute j)) None
+
 -- what stands after some lines: the graph's lines, the place of each line of the flow among them, and the merges by their events. The merge at line k has the name of first + k
 pub record Made : Type 0 where
   pub lines : List Line
@@ -86,9 +147,6 @@ merge_by None es m = (with_merge es m, length m.lines)
 abbrev pub merge_for : List ℕ → Made → Made × ℕ
 merge_for es m = merge_by (find (λ (x : List ℕ × ℕ). bytes_eq x.0 es) m.merges) es m
 
-abbrev pub with_event : List ℕ → ℕ → List ℕ
-with_event es e = cond (has es e) es (es ++ e ∷ [])
-
 -- one event for these: they are merged by 64, and then the merges, until one is left. The number bounds the steps
 abbrev pub event_for : ℕ → List ℕ → Made → Made × Option ℕ
 event_for zero es m = (m, None)
@@ -111,6 +169,18 @@ wait_for p m = (let r = events_for (map (place_in m) p.small) p.large m in event
 abbrev pub with_flow_line : Line → Made × Option ℕ → Made
 with_flow_line l r = record { lines = r.0.lines ++ record { name = l.name; verb = l.verb; «on» = r.1 } ∷ []; places = r.0.places ++ length r.0.lines ∷ []; merges = r.0.merges; first = r.0.first }
 
+-- a line more that is none of the flow
+abbrev pub with_new : Verb → Option ℕ → Made → Made
+with_new v on m = record { lines = m.lines ++ record { name = new_name (m.first + length m.lines); «verb» = v; «on» = on } ∷ []; places = m.places; merges = m.merges; first = m.first }
+
+-- a line of the flow in a section of its own: before it an acquire, which waits for what the line waits for; behind it a merge that ignores its fault, and the release
+abbrev pub in_section : ℕ → Line → Made × Option ℕ → Made
+in_section lock l r = (let q = length r.0.lines in with_new (Release q) (Some (q + 2)) (with_new (MergeIgnore ((q + 1) ∷ [])) None (with_flow_line l (with_new (Acquire lock false) r.1 r.0, Some q))))
+
+abbrev pub with_line_by : Option ℕ → Line → Made × Option ℕ → Made
+with_line_by (Some lock) l r = in_section lock l r
+with_line_by None l r = with_flow_line l r
+
 abbrev pub no_line : Line
 no_line = record { name = []; verb = User; «on» = None }
 
@@ -130,23 +200,38 @@ unfoldable pub number_from : GraphValue → ℕ
 number_from f = option_map_or (λ n. n) (first_number f) 0
 
 -- after the first n lines
-abbrev pub made_after : GraphValue → ℕ → ℕ → Made
-made_after f first zero = record { lines = []; places = []; merges = []; first = first }
-made_after f first (suc n) = with_flow_line (line_in f n) (wait_for (parts_of f false (sources_after f false n) n) (made_after f first n))
+abbrev pub made_after : GraphValue → Bool → ℕ → ℕ → Made
+made_after f commute first zero = record { lines = []; places = []; merges = []; first = first }
+made_after f commute first (suc n) = with_line_by (lock_of f commute n) (line_in f n) (wait_for (parts_of f commute (sources_after f commute n) n) (made_after f commute first n))
 
-abbrev pub graph_of : GraphValue → Made → GraphValue
-graph_of f m = record { format = f.format; decls = f.decls; lines = m.lines }
+-- a reservation for each of these columns, behind the flow's declarations. No line has the number of their names
+abbrev pub locks_from : ℕ → List ℕ → List Decl
+locks_from n [] = []
+locks_from n (c ∷ cs) = Lock (new_name n) ∷ locks_from (suc n) cs
+
+unfoldable pub reservations : GraphValue → Bool → List Decl
+reservations f commute = option_map_or (λ first. locks_from (first + MAX_LINES) (needed f commute (length f.lines))) (first_number f) []
+
+abbrev pub graph_of : GraphValue → Bool → Made → GraphValue
+graph_of f commute m = record { format = f.format; decls = f.decls ++ reservations f commute; lines = m.lines }
 
 -- the graph of a flow
-unfoldable pub written : GraphValue → GraphValue
-written f = graph_of f (made_after f (number_from f) (length f.lines))
+unfoldable pub written : GraphValue → Bool → GraphValue
+written f commute = graph_of f commute (made_after f commute (number_from f) (length f.lines))
 
--- with line j of the flow the graph passes a limit, or wants a name and none is left
-unfoldable pub is_over : GraphValue → ℕ → Bool
-is_over f j = (let m = made_after f (number_from f) (suc j) in is_beyond (graph_of f m) || (is_none (first_number f) && nat_lt (suc j) (length m.lines)))
+-- the first n lines need more reservations than a graph may have
+abbrev pub wants_many : GraphValue → Bool → ℕ → Bool
+wants_many f commute n = nat_lt MAX_LOCKS (length (locks f) + length (needed f commute n))
+
+-- line j of the flow needs one reservation too many; or the reservations are few enough, and with line j the graph passes a limit, or wants a name and none is left
+abbrev pub is_over_by : GraphValue → Bool → ℕ → Made → Bool
+is_over_by f commute j m = wants_many f commute (suc j) || (not (wants_many f commute (length f.lines)) && (is_beyond (graph_of f commute m) || (is_none (first_number f) && nat_lt (suc j) (length m.lines))))
+
+unfoldable pub is_over : GraphValue → Bool → ℕ → Bool
+is_over f commute j = is_over_by f commute j (made_after f commute (number_from f) (suc j))
 
 -- the first line of the flow with which it does
-pub record IsFirstOver (f : GraphValue) (j : ℕ) : Type 0 where
+pub record IsFirstOver (f : GraphValue) (commute : Bool) (j : ℕ) : Type 0 where
   pub line : j < length f.lines
-  pub over : is_over f j ≡ true
-  pub before : (i : ℕ) → i < j → is_over f i ≡ false
+  pub over : is_over f commute j ≡ true
+  pub before : (i : ℕ) → i < j → is_over f commute i ≡ false

@@ -1,11 +1,13 @@
 -- What stands in the code while a graph is made.
-use Rattle.std.specs.Prelude.{◌≡◌, ℕ, ◌+◌, ◌<◌, false, is_some, [], ◌++◌, length}
+use Rattle.std.specs.Prelude.{◌≡◌, ℕ, ◌+◌, ◌<◌, ◌/◌, Bool, false, is_some, [], ◌++◌, length}
 use Rattle.graph_model.specs.declared.graph.limits.TheConstants.{MAX_LINES}
 use Rattle.graph_model.specs.graph.Graph.{GraphValue}
-use Rattle.task_flow.specs.Construction.{Made, made_after, first_number, number_from, is_over}
+use Rattle.task_flow.specs.Construction.{Made, is_contended, needed, wants_many, made_after, reservations, first_number, number_from, is_over}
+use Rattle.task_flow.specs.Bits.{word_bit}
 use Rattle.task_flow.specs.Rows.{IsKept}
 use Rattle.task_flow.specs.declared.making.Making.{Making}
 use Rattle.task_flow.specs.declared.rows.Rows.{Rows}
+use Rattle.task_flow.specs.declared.sections.Sections.{Sections}
 
 -- the lines of the graph, and those that are to be put into it
 abbrev pub made_of : Making → Made
@@ -16,17 +18,24 @@ abbrev pub IsPast : Made → Type 0
 IsPast m = MAX_LINES < length m.lines
 
 -- what stands after the first n lines of a flow
-pub record IsMaking (f : GraphValue) (n : ℕ) (m : Making) : Type 0 where
+pub record IsMaking (f : GraphValue) (commute : Bool) (n : ℕ) (m : Making) : Type 0 where
   pub format : m.graph.format ≡ f.format
-  pub decls : m.graph.decls ≡ f.decls
+  pub decls : m.graph.decls ≡ f.decls ++ reservations f commute
   pub row : m.row.items ≡ []
-  pub made : made_of m ≡ made_after f (number_from f) n
+  pub made : made_of m ≡ made_after f commute (number_from f) n
   pub named : m.named ≡ is_some (first_number f)
   pub alone : m.named ≡ false → length m.graph.lines ≡ n
 
 -- what stands after line n of a flow: its row, the lines so far, and that the graph is within the limits
-pub record IsNext (f : GraphValue) (n : ℕ) (rows : Rows) (m : Making) : Type 0 where
-  pub rows_are : IsKept f false rows
+pub record IsNext (f : GraphValue) (commute : Bool) (n : ℕ) (rows : Rows) (m : Making) : Type 0 where
+  pub rows_are : IsKept f commute rows
   pub count : length rows.rows.items ≡ n + 1
-  pub making : IsMaking f (n + 1) m
-  pub within : is_over f n ≡ false
+  pub making : IsMaking f commute (n + 1) m
+  pub within : is_over f commute n ≡ false
+
+-- the contended sums of a flow, and the columns of the reservations that they need, which are few enough
+pub record AreSections (f : GraphValue) (s : Sections) : Type 0 where
+  pub size : length s.contended ≡ (length f.lines + 63) / 64
+  pub contended : (k : ℕ) → word_bit s.contended k ≡ is_contended f s.commute k
+  pub columns : s.columns ≡ needed f s.commute (length f.lines)
+  pub few : wants_many f s.commute (length f.lines) ≡ false

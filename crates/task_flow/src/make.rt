@@ -9,8 +9,10 @@ ghost use Rattle.task_flow.specs.Refusal.{IsFlowRefusal};
 use crate::laws::means_by_sources;
 use crate::making::{Making, Stop};
 use crate::rows::Rows;
+use crate::sections::Sections;
 use graph_model::graph::Graph;
 use index_spaces::NoMemory;
+use index_spaces::laws::points_are_listed;
 use std::alloc::Global;
 
 /// Why no graph is made of a flow.
@@ -32,20 +34,28 @@ impl From<NoMemory> for FlowRefusal {
 }
 
 /// The graph of a flow: its lines in their order, with the merges and preconditions that they need
-/// to be done in parallel as if they were done one after the other. `Limit` comes exactly where the
-/// graph would pass a limit, with the first line with which it does.
-pub fn make_graph(alloc: Global, flow: &Graph) -> Result<Graph, FlowRefusal>
+/// to be done in parallel as if they were done one after the other; and where sums commute, which
+/// `commute` says, with the sections in which two sums into one cell go one at a time in either
+/// order. `Limit` comes exactly where the graph would pass a limit, with the first line with which
+/// it does.
+pub fn make_graph(alloc: Global, flow: &Graph, commute: bool) -> Result<Graph, FlowRefusal>
     requires { IsFlow flow.now }
-    ensures graph { IfOk result (λ g. g ≡ written flow.now) }
-    ensures means { IfOk result (λ g. MeansFlow flow.now false g) }
-    ensures within { OnOk result ((j : ℕ) → j < length flow.now.lines → is_over flow.now j ≡ false) }
-    ensures refusal { IfErr result (λ e. IsFlowRefusal flow.now e) }
+    ensures graph { IfOk result (λ g. g ≡ written flow.now commute) }
+    ensures means { IfOk result (λ g. MeansFlow flow.now commute g) }
+    ensures within { OnOk result ((j : ℕ) → j < length flow.now.lines → is_over flow.now commute j ≡ false) }
+    ensures refusal { IfErr result (λ e. IsFlowRefusal flow.now commute e) }
 {
     means_by_sources();
-    let mut making = Making::new(alloc, flow)?;
+    points_are_listed();
+    let sections = Sections::new(alloc, flow, commute)?;
+    let mut making = match Making::new(alloc, flow, &sections) {
+        Ok(making) => making,
+        Err(Stop::Limit) => return Err(FlowRefusal::Limit { line: 0 }),
+        Err(Stop::NoMemory) => return Err(FlowRefusal::NoMemory),
+    };
     let mut rows = Rows::new(alloc, flow)?;
     for line in 0..flow.lines() {
-        match making.add_next(alloc, flow, &mut rows) {
+        match making.add_next(alloc, flow, &mut rows, &sections) {
             Ok(()) => {}
             Err(Stop::Limit) => return Err(FlowRefusal::Limit { line }),
             Err(Stop::NoMemory) => return Err(FlowRefusal::NoMemory),

@@ -4,13 +4,15 @@ ghost use Rattle.std.specs.Prelude.{◌≡◌, ℕ, ◌+◌, ◌≤◌, ◌<◌,
 ghost use Rattle.graph_model.specs.graph.Fits.{is_beyond};
 ghost use Rattle.task_flow.specs.Flow.{IsFlow, uses_columns};
 ghost use Rattle.task_flow.specs.Rows.{IsKept};
-ghost use Rattle.task_flow.specs.Construction.{merge_for, with_event, event_for, events_for, place_in, wait_for, with_flow_line, is_over};
+ghost use Rattle.task_flow.specs.Construction.{merge_for, with_event, event_for, events_for, place_in, wait_for, with_new, with_flow_line, in_section, with_line_by, is_over};
 ghost use Rattle.task_flow.specs.Fitting.{AreToFit, with_lines};
 
-use crate::copies::{copy_of_verb, declared};
+use crate::copies::copy_of_verb;
+use crate::locks::declared_with_locks;
 use crate::merges::Merges;
 use crate::numbers::{first_number, new_name};
 use crate::rows::Rows;
+use crate::sections::Sections;
 use crate::sources::{Parts, add_row, has, parts_of};
 use graph_model::graph::Graph;
 use graph_model::limits::{MAX_EVENTS, MAX_LINES};
@@ -53,15 +55,19 @@ pub(crate) struct Making {
 }
 
 impl Making {
-    ghost use Rattle.task_flow.specs.Making.{made_of, IsPast, IsMaking, IsNext};
+    ghost use Rattle.task_flow.specs.Making.{made_of, IsPast, IsMaking, IsNext, AreSections};
 
-    /// The declarations of a flow, and none of its lines.
-    pub(crate) fn new(alloc: Global, flow: &Graph) -> Result<Making, NoMemory>
-        requires { IsFlow flow.now }
-        ensures { IfOk result (IsMaking flow.now 0) }
+    /// The declarations of a flow and the reservations of its sections, and none of its lines.
+    /// `Limit` where that is too much for any of its lines.
+    pub(crate) fn new(alloc: Global, flow: &Graph, sections: &Sections) -> Result<Making, Stop>
+        requires flow { IsFlow flow.now }
+        requires sections { AreSections flow.now sections.now }
+        ensures ok { IfOk result (IsMaking flow.now sections.now.commute 0) }
+        ensures some { result ≡ Err Stop.Limit → 0 < length flow.now.lines }
+        ensures limit { result ≡ Err Stop.Limit → is_over flow.now sections.now.commute 0 ≡ true }
     {
         let numbers = first_number(flow);
-        let graph = declared(alloc, flow)?;
+        let graph = declared_with_locks(alloc, flow, numbers, sections)?;
         Ok(Making {
             graph,
             row: Vec::new(alloc),
@@ -172,10 +178,26 @@ impl Making {
         self.event_for(alloc, events)
     }
 
-    /// Makes a line of the flow.
-    fn push_flow_line(&mut self, line: &Line, on: Option<u32>) -> Result<(), Stop>
+    /// Makes a line that is none of the flow, and gives its number.
+    fn push_new(&mut self, alloc: Global, verb: Verb, on: Option<u32>) -> Result<u32, Stop>
+        ensures ok { OnOk result (made_of self.new ≡ with_new verb on (made_of self.old)) }
+        ensures line { IfOk result (λ n. n ≡ length (made_of self.old).lines) }
+        ensures few { OnOk result (length (made_of self.new).lines ≤ MAX_LINES) }
+        ensures graph { self.new.graph ≡ self.old.graph }
+        ensures named { self.new.named ≡ self.old.named }
+        ensures limit { result ≡ Err Stop.Limit → IsPast (with_new verb on (made_of self.old)) }
+    {
+        let line = self.next_line()?;
+        let name = new_name(alloc, self.first, line)?;
+        push(&mut self.row, Line { name, verb, on })?;
+        Ok(line)
+    }
+
+    /// Makes a line of the flow, and gives its number.
+    fn push_flow_line(&mut self, line: &Line, on: Option<u32>) -> Result<u32, Stop>
         requires { IsTrue (uses_columns line.now.verb) }
         ensures ok { OnOk result (made_of self.new ≡ with_flow_line line.now (made_of self.old, on)) }
+        ensures line { IfOk result (λ n. n ≡ length (made_of self.old).lines) }
         ensures few { OnOk result (length (made_of self.new).lines ≤ MAX_LINES) }
         ensures graph { self.new.graph ≡ self.old.graph }
         ensures named { self.new.named ≡ self.old.named }
@@ -186,20 +208,54 @@ impl Making {
         let verb = copy_of_verb(&line.verb);
         push(&mut self.row, Line { name, verb, on })?;
         push(&mut self.places, place)?;
-        Ok(())
+        Ok(place)
     }
 
-    /// Makes a line of the flow with these sources, and the merges before it.
-    fn make_line(&mut self, alloc: Global, line: &Line, parts: &Parts) -> Result<(), Stop>
+    /// Makes a line of the flow in a section of its own.
+    fn push_section(
+        &mut self,
+        alloc: Global,
+        lock: u32,
+        line: &Line,
+        on: Option<u32>,
+    ) -> Result<u32, Stop>
         requires { IsTrue (uses_columns line.now.verb) }
-        ensures ok { OnOk result (made_of self.new ≡ with_flow_line line.now (wait_for parts.now (made_of self.old))) }
+        ensures ok { OnOk result (made_of self.new ≡ in_section lock line.now (made_of self.old, on)) }
         ensures few { OnOk result (length (made_of self.new).lines ≤ MAX_LINES) }
         ensures graph { self.new.graph ≡ self.old.graph }
         ensures named { self.new.named ≡ self.old.named }
-        ensures limit { result ≡ Err Stop.Limit → IsPast (with_flow_line line.now (wait_for parts.now (made_of self.old))) }
+        ensures limit { result ≡ Err Stop.Limit → IsPast (in_section lock line.now (made_of self.old, on)) }
+    {
+        let shared = false;
+        let acquire = self.push_new(alloc, Verb::Acquire { lock, shared }, on)?;
+        let sum = self.push_flow_line(line, Some(acquire))?;
+        let mut events = LineList::new(alloc);
+        events.push(sum)?;
+        let merge = self.push_new(alloc, Verb::MergeIgnore { events }, None)?;
+        self.push_new(alloc, Verb::Release { acquire }, Some(merge))
+    }
+
+    /// Makes a line of the flow with these sources, and the merges before it; in a section of a
+    /// reservation, where there is one.
+    fn make_line(
+        &mut self,
+        alloc: Global,
+        line: &Line,
+        parts: &Parts,
+        lock: Option<u32>,
+    ) -> Result<u32, Stop>
+        requires { IsTrue (uses_columns line.now.verb) }
+        ensures ok { OnOk result (made_of self.new ≡ with_line_by lock line.now (wait_for parts.now (made_of self.old))) }
+        ensures few { OnOk result (length (made_of self.new).lines ≤ MAX_LINES) }
+        ensures graph { self.new.graph ≡ self.old.graph }
+        ensures named { self.new.named ≡ self.old.named }
+        ensures limit { result ≡ Err Stop.Limit → IsPast (with_line_by lock line.now (wait_for parts.now (made_of self.old))) }
     {
         let on = self.wait_for(alloc, parts)?;
-        self.push_flow_line(line, on)
+        match lock {
+            Some(lock) => self.push_section(alloc, lock, line, on),
+            None => self.push_flow_line(line, on),
+        }
     }
 
     /// Puts the lines that are made into the graph. `Limit` where it passes one.
@@ -216,36 +272,39 @@ impl Making {
         put_lines(&mut self.graph, row)
     }
 
-    /// Whether merges are to be put into the graph and no name is left for them.
+    /// Whether lines are to be put into the graph beside the flow's and no name is left for them.
     fn wants_names(&self) -> bool
         ensures { result ≡ (not self.now.named && nat_lt 1 (length self.now.row.items)) }
     {
         !self.named && self.row.len() > 1
     }
 
-    /// Makes the next line of the flow, and puts it and the merges before it into the graph.
+    /// Makes the next line of the flow, and puts it and the lines that go with it into the graph.
     pub(crate) fn add_next(
         &mut self,
         alloc: Global,
         flow: &Graph,
         rows: &mut Rows,
+        sections: &Sections,
     ) -> Result<(), Stop>
         requires flow { IsFlow flow.now }
-        requires rows { IsKept flow.now false rows.old }
+        requires sections { AreSections flow.now sections.now }
+        requires rows { IsKept flow.now sections.now.commute rows.old }
         requires next { length rows.old.rows.items < length flow.now.lines }
-        requires making { IsMaking flow.now (length rows.old.rows.items) self.old }
-        ensures ok { OnOk result (IsNext flow.now (length rows.old.rows.items) rows.new self.new) }
-        ensures limit { result ≡ Err Stop.Limit → is_over flow.now (length rows.old.rows.items) ≡ true }
+        requires making { IsMaking flow.now sections.now.commute (length rows.old.rows.items) self.old }
+        ensures ok { OnOk result (IsNext flow.now sections.now.commute (length rows.old.rows.items) rows.new self.new) }
+        ensures limit { result ≡ Err Stop.Limit → is_over flow.now sections.now.commute (length rows.old.rows.items) ≡ true }
     {
         let _ = flow.lines();
         let line = rows.rows.len() as u32;
-        let parts = parts_of(alloc, flow, false, rows)?;
-        self.make_line(alloc, flow.line(line), &parts)?;
+        let parts = parts_of(alloc, flow, sections.commute, rows)?;
+        let lock = sections.lock_of(flow, line);
+        self.make_line(alloc, flow.line(line), &parts, lock)?;
         if self.wants_names() {
             return Err(Stop::Limit);
         }
         self.put_row(alloc)?;
-        add_row(alloc, flow, false, rows, &parts)?;
+        add_row(alloc, flow, sections.commute, rows, &parts)?;
         Ok(())
     }
 }
@@ -274,7 +333,7 @@ fn rest_of(alloc: Global, events: &LineList, event: u32) -> Result<LineList, NoM
 }
 
 /// Puts an event at the end of a list that doesn't have it.
-fn add_event(events: &mut LineList, event: u32) -> Result<(), NoMemory>
+pub(crate) fn add_event(events: &mut LineList, event: u32) -> Result<(), NoMemory>
     ensures { OnOk result (events.new ≡ with_event events.old event) }
 {
     if has(events, event) {

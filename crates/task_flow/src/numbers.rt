@@ -8,7 +8,6 @@ ghost use Rattle.graph_model.specs.graph.Fits.{names};
 ghost use Rattle.task_flow.specs.Construction.{new_name, takes_width, first_number};
 
 use graph_model::graph::Graph;
-use graph_model::limits::MAX_LINES;
 use graph_model::name::Name;
 use index_spaces::NoMemory;
 use std::alloc::Global;
@@ -16,7 +15,7 @@ use std::alloc::Global;
 /// The name of an `m` and a number.
 pub(crate) fn new_name(alloc: Global, first: u64, line: u32) -> Result<Name, NoMemory>
     requires first { first ≤ 100000000000000000 }
-    requires line { line < MAX_LINES }
+    requires line { line < 65536 }
     ensures { IfOk result (λ name. name ≡ new_name (first + line)) }
 {
     let number = first + u64::from(line);

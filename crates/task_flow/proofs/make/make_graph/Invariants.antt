@@ -6,8 +6,8 @@ use Rattle.task_flow.proofs.make.make_graph.Given as goal
 
 abbrev pub invariant-loop-line : goal.invariant-loop-line
 invariant-loop-line l = record {
-  rows : IsKept l.flow false l.rows;
+  rows : IsKept l.flow l.sections.commute l.rows;
   count : length l.rows.rows.items ≡ l.line;
-  making : IsMaking l.flow l.line l.making;
-  within : (j : ℕ) → j < l.line → is_over l.flow j ≡ false;
+  making : IsMaking l.flow l.sections.commute l.line l.making;
+  within : (j : ℕ) → j < l.line → is_over l.flow l.sections.commute j ≡ false;
 }
