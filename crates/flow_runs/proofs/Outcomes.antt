@@ -1,5 +1,5 @@
 -- The outcome of a graph that means a flow.
-use Rattle.std.proofs.Common.{◌≡◌, ◌⊎◌, inl, inr, ℕ, zero, suc, ◌+◌, ◌<◌, false, List, [], ◌∷◌, ◌++◌, length, refl, sym, ◌∙◌, ap, subst, append-nil, arith}
+use Rattle.std.proofs.Common.{◌≡◌, ◌⊎◌, inl, inr, ℕ, zero, suc, ◌+◌, ◌<◌, Bool, List, [], ◌∷◌, ◌++◌, length, refl, sym, ◌∙◌, ap, subst, append-nil, arith}
 use Rattle.std.specs.Prelude.{map, filter_map, flat_map, Some, slice_get}
 use Rattle.std.specs.Option.{option_map_or}
 use Rattle.std.specs.List.{AllByRecursion, range_with_len}
@@ -56,10 +56,10 @@ map_same : {X Y : Type 0} (a b : X → Y) (xs : List X) → ((x : X) → a x ≡
 map_same a b [] h = refl
 map_same a b (x ∷ xs) h = ap (λ y. y ∷ map a xs) (h x) ∙ ap (λ ys. b x ∷ ys) (map_same a b xs h)
 
-column_same : (f g : GraphValue) (m : MeansFlow f false g) (c : ℕ) → column_of g (cells_of (evaluation g)) c ≡ column_of f (flow_cells f false) c
-column_same f g m c =
+column_same : (f : GraphValue) (commute : Bool) (g : GraphValue) (m : MeansFlow f commute g) (c : ℕ) → column_of g (cells_of (evaluation g)) c ≡ column_of f (flow_cells f commute) c
+column_same f commute g m c =
     ap (λ s. record { space = s; cells = map (cells_of (evaluation g) c) (points s) }) (column_space_same f g m.place m.keeps c)
-    ∙ ap (λ cs. record { space = column_space f c; cells = cs }) (map_same (cells_of (evaluation g) c) (flow_cells f false c) (points (column_space f c)) (m.cells c))
+    ∙ ap (λ cs. record { space = column_space f c; cells = cs }) (map_same (cells_of (evaluation g) c) (flow_cells f commute c) (points (column_space f c)) (m.cells c))
 
 -- the value at a place of a list of values at numbers
 get_at : {X : Type 0} (h : ℕ → X) (n i : ℕ) → i < n → slice_get (map h (range_with_len 0 n)) i ≡ Some (h i)
@@ -70,13 +70,13 @@ get_at h n i b = (let l : i < length (map h (range_with_len 0 n)) = subst (λ m.
 place_within : (f g : GraphValue) (place : ℕ → ℕ) → Keeps f g place → (i : ℕ) → i < length f.lines → place i < length g.lines
 place_within f g place k i h = (let l = got f.lines i h in let m = k.line i l.0 l.1 in slice_get_within g.lines (place i) m.0 m.1)
 
-pub is_outcome : (f g : GraphValue) → MeansFlow f false g → IsFlowOutcome f g (outcome g (order g))
-is_outcome f g m = record {
+pub is_outcome : (f : GraphValue) (commute : Bool) (g : GraphValue) → MeansFlow f commute g → IsFlowOutcome f commute g (outcome g (order g))
+is_outcome f commute g m = record {
   place = m.place;
   keeps = m.keeps;
   ends = λ i h. get_at (eval_end g) (length g.lines) (m.place i) (place_within f g m.place m.keeps i h) ∙ ap Some (m.ends i h);
-  columns_are = map_same (column_of g (cells_of (evaluation g))) (column_of f (flow_cells f false)) (numbers_below (length (columns g))) (column_same f g m)
-      ∙ ap (λ cs. map (column_of f (flow_cells f false)) (numbers_below (length cs))) (columns_same f g m.place m.keeps);
+  columns_are = map_same (column_of g (cells_of (evaluation g))) (column_of f (flow_cells f commute)) (numbers_below (length (columns g))) (column_same f commute g m)
+      ∙ ap (λ cs. map (column_of f (flow_cells f commute)) (numbers_below (length cs))) (columns_same f g m.place m.keeps);
 }
 
 -- what `run` and `eval` say of an accepted graph begins with its report
@@ -85,17 +85,17 @@ reported : (request : Request) (g : GraphValue) (need : ℕ) (out : List ℕ) �
 reported request g need out (inl e) s = (let r = subst (λ a. Says a request g need out) e s in (trace_part request.trace g r.0, r.2))
 reported request g need out (inr e) s = (trace_part request.trace g (order g), subst (λ a. Says a request g need out) e s)
 
-pub ran : ((bs : List ℕ) → OneReading bs) → (bytes text : List ℕ) → IsFlowAnswer bytes text → (request : Request) → (request.action ≡ Run) ⊎ (request.action ≡ Eval) →
-    (old new : SinkState) → IsDone request text old new → RanFlow bytes text old new
-ran reads bytes text a request act old new d =
-    let same = (reads text).one_graph (written a.flow) d.graph a.out_is d.text in
+pub ran : ((bs : List ℕ) → OneReading bs) → (bytes : List ℕ) (commute : Bool) (text : List ℕ) → IsFlowAnswer bytes commute text → (request : Request) → (request.action ≡ Run) ⊎ (request.action ≡ Eval) →
+    (old new : SinkState) → IsDone request text old new → RanFlow bytes commute text old new
+ran reads bytes commute text a request act old new d =
+    let same = (reads text).one_graph (written a.flow commute) d.graph a.out_is d.text in
     let r = reported request d.graph d.need d.out act d.says in
     record {
       flow = a.flow;
       is_text = a.is_text;
       graph = d.graph;
       graph_text = d.text;
-      is_outcome = is_outcome a.flow d.graph (subst (λ (w : GraphValue). MeansFlow a.flow false w) same a.means);
+      is_outcome = is_outcome a.flow commute d.graph (subst (λ (w : GraphValue). MeansFlow a.flow commute w) same a.means);
       trace_text = r.0;
       delivered = subst (Delivered old new) r.1 d.delivered;
     }

@@ -16,13 +16,13 @@ struct Row<'a> {
 }
 
 impl Row<'_> {
-    /// Has the graph written, and fails where it is another one.
-    fn run(&self, alloc: Global) -> Result<(), Fail> {
+    /// Has the graph written, where sums commute or not, and fails where it is another one.
+    fn run(&self, alloc: Global, commute: bool) -> Result<(), Fail> {
         let flow = self.flow;
         let graph = self.graph;
         let text = format!(in alloc; "realm-flow 1\n{ABOVE}{flow}end\n")?;
         let wanted = format!(in alloc; "realm 1\n{ABOVE}{graph}end\n")?;
-        match answer_flow(alloc, text.as_bytes()) {
+        match answer_flow(alloc, text.as_bytes(), commute) {
             Ok(out) => {
                 if out.as_slice() == wanted.as_bytes() {
                     return Ok(());
@@ -83,9 +83,97 @@ const ROWS: &[Row<'static>] = &[
 fn graphs(rt: HostRuntime) -> Result<(), Fail> {
     let alloc = rt.alloc();
     for row in ROWS {
-        row.run(alloc)?;
+        row.run(alloc, false)?;
     }
     Ok(())
+}
+
+/// Flows and their graphs where sums commute. A name has the number of its line behind 100000, or, of a reservation,
+/// its number behind 108192.
+const COMMUTING: &[Row<'static>] = &[
+    // Two sums into one column go in either order, in sections of one reservation.
+    Row {
+        flow: "f = reduce sum a.x a.z s\ng = reduce sum a.y a.z s\n",
+        graph: "lock m108192\nm100000 = acquire m108192\nf = reduce sum a.x a.z s on m100000\nm100002 = mergei f\n\
+            m100003 = release m100000 on m100002\nm100004 = acquire m108192\ng = reduce sum a.y a.z s on m100004\n\
+            m100006 = mergei g\nm100007 = release m100004 on m100006\n",
+    },
+    // The acquire waits for what the sum depends on, and a reader for the sums themselves.
+    Row {
+        flow: "w = fill a.x s 1\nf = reduce sum a.x a.z s\ng = reduce sum a.y a.z s\nh = task expect a.z s 0 9\n",
+        graph: "lock m108192\nw = fill a.x s 1\nm100001 = acquire m108192 on w\nf = reduce sum a.x a.z s on m100001\n\
+            m100003 = mergei f\nm100004 = release m100001 on m100003\nm100005 = acquire m108192\n\
+            g = reduce sum a.y a.z s on m100005\nm100007 = mergei g\nm100008 = release m100005 on m100007\n\
+            m100009 = merge g f\nh = task expect a.z s 0 9 on m100009\n",
+    },
+    // Sums into two columns, each with a reservation.
+    Row {
+        flow: "f = reduce sum a.x a.y t\ng = task axpy a.x a.z s 3\nh = reduce sum a.x a.z s\ni = reduce sum a.x a.y s\n",
+        graph: "lock m108192\nlock m108193\nm100000 = acquire m108192\nf = reduce sum a.x a.y t on m100000\n\
+            m100002 = mergei f\nm100003 = release m100000 on m100002\nm100004 = acquire m108193\n\
+            g = task axpy a.x a.z s 3 on m100004\nm100006 = mergei g\nm100007 = release m100004 on m100006\n\
+            m100008 = acquire m108193\nh = reduce sum a.x a.z s on m100008\nm100010 = mergei h\n\
+            m100011 = release m100008 on m100010\nm100012 = acquire m108192\ni = reduce sum a.x a.y s on m100012\n\
+            m100014 = mergei i\nm100015 = release m100012 on m100014\n",
+    },
+    // Two sums that a chain ties need no section.
+    Row {
+        flow: "f = reduce sum a.x a.z s\nc = copy a.z a.x s\ng = reduce sum a.x a.z s\n",
+        graph: "f = reduce sum a.x a.z s\nc = copy a.z a.x s on f\ng = reduce sum a.x a.z s on c\n",
+    },
+    // Nor do sums into cells that differ.
+    Row {
+        flow: "f = reduce sum a.x a.z t\ng = reduce sum a.y a.z u\n",
+        graph: "f = reduce sum a.x a.z t\ng = reduce sum a.y a.z u\n",
+    },
+    // Least values are written in order.
+    Row {
+        flow: "f = reduce min a.x a.z s\ng = reduce min a.y a.z s\n",
+        graph: "f = reduce min a.x a.z s\ng = reduce min a.y a.z s on f\n",
+    },
+];
+
+#[test]
+fn sections(rt: HostRuntime) -> Result<(), Fail> {
+    let alloc = rt.alloc();
+    for row in COMMUTING {
+        row.run(alloc, true)?;
+    }
+    Ok(())
+}
+
+/// Two sums into each of 65 columns: the first one into the last column, line 133 of the text, wants a reservation
+/// too many. Where sums don't commute none is wanted.
+#[test]
+fn reservations(rt: HostRuntime) -> Result<(), Fail> {
+    let alloc = rt.alloc();
+    let mut text = String::new(alloc);
+    text.push_str("realm-flow 1\nspace s 0..3\ninst a s x\ninst b s c0")?;
+    for column in 1..65u32 {
+        let field = format!(in alloc; ",c{column}")?;
+        text.push_str(field.as_str())?;
+    }
+    text.push_str("\n")?;
+    for column in 0..65u32 {
+        let sums = format!(in alloc;
+            "f{column} = reduce sum a.x b.c{column} s\ng{column} = reduce sum a.x b.c{column} s\n"
+        )?;
+        text.push_str(sums.as_str())?;
+    }
+    text.push_str("end\n")?;
+    if let Err(fault) = answer_flow(alloc, text.as_bytes(), false) {
+        return Err(Fail::new(format_args!("{fault:?}")));
+    }
+    match answer_flow(alloc, text.as_bytes(), true) {
+        Err(
+            FlowFault::Line {
+                number: 133,
+                why: Why::Limit,
+            },
+        ) => Ok(()),
+        Err(fault) => Err(Fail::new(format_args!("{fault:?}"))),
+        Ok(_) => Err("a graph".into()),
+    }
 }
 
 /// Bytes that are no flow's text, with the line and the reason.
@@ -145,7 +233,7 @@ fn refusals(rt: HostRuntime) -> Result<(), Fail> {
     let alloc = rt.alloc();
     for &(text, number, why) in REFUSED {
         let wanted = FlowFault::Line { number, why };
-        match answer_flow(alloc, text.as_bytes()) {
+        match answer_flow(alloc, text.as_bytes(), false) {
             Ok(_) => return Err(Fail::new(format_args!("a graph of {text}"))),
             Err(fault) => {
                 if fault != wanted {
@@ -170,7 +258,7 @@ fn limit(rt: HostRuntime) -> Result<(), Fail> {
         text.push_str(some.as_str())?;
     }
     text.push_str("end\n")?;
-    match answer_flow(alloc, text.as_bytes()) {
+    match answer_flow(alloc, text.as_bytes(), false) {
         Err(
             FlowFault::Line {
                 why: Why::Limit,

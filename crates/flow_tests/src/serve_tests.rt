@@ -24,7 +24,7 @@ fn serves(
     let writes = Vec::from_slice(alloc, failing.1)?;
     let mut source = MemorySource::new(bytes, 7, reads);
     let mut sink = MemorySink::new(vec![in alloc; 0u8; 4096]?, 5, writes);
-    let status = serve_flow(alloc, &mut source, &mut sink);
+    let status = serve_flow(alloc, &mut source, &mut sink, false);
     if status == wanted.0 && sink.taken() == wanted.1 {
         return Ok(());
     }

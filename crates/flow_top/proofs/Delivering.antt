@@ -1,5 +1,5 @@
 -- A text that is written and then flushed, and input that is read to its end.
-use Rattle.std.proofs.Common.{◌≡◌, ℕ, ◌≤◌, List, [], ◌++◌, sym, ◌∙◌, ap, subst, inl, inr, append-nil, arith}
+use Rattle.std.proofs.Common.{◌≡◌, ℕ, ◌≤◌, Bool, List, [], ◌++◌, sym, ◌∙◌, ap, subst, inl, inr, append-nil, arith}
 use Rattle.std.specs.Prelude.{Option, Some, None, IfSome}
 use Rattle.std.specs.Io.KnownBytes.{Consumes, IsAtEnd}
 use Rattle.realm_io.specs.SinkState.{SinkState}
@@ -28,7 +28,7 @@ written_then_flushed r s t wanted result out w (inr b) = inr (
   },
 )
 
-pub served_all : (old new : Option (List ℕ)) (bs b : List ℕ) (s t : SinkState) (result : FlowStatus) → Consumes old new bs → IsAtEnd new → b ≡ bs → IsServed b s t result → IfSome old (λ bytes. IsServed bytes s t result)
-served_all None new bs b s t result c e is h = tt
-served_all (Some ys) None bs b s t result c e is h = absurd c
-served_all (Some ys) (Some zs) bs b s t result c e is h = subst (λ xs. IsServed xs s t result) (is ∙ sym (c ∙ (ap (λ r. bs ++ r) e ∙ append-nil bs))) h
+pub served_all : (old new : Option (List ℕ)) (commute : Bool) (bs b : List ℕ) (s t : SinkState) (result : FlowStatus) → Consumes old new bs → IsAtEnd new → b ≡ bs → IsServed b commute s t result → IfSome old (λ bytes. IsServed bytes commute s t result)
+served_all None new commute bs b s t result c e is h = tt
+served_all (Some ys) None commute bs b s t result c e is h = absurd c
+served_all (Some ys) (Some zs) commute bs b s t result c e is h = subst (λ xs. IsServed xs commute s t result) (is ∙ sym (c ∙ (ap (λ r. bs ++ r) e ∙ append-nil bs))) h

@@ -1,5 +1,5 @@
 -- A flow's text has one flow, and the text that answers it one graph.
-use Rattle.std.proofs.Common.{◌≡◌, ℕ, false, List, ◌++◌, sym, ◌∙◌, subst}
+use Rattle.std.proofs.Common.{◌≡◌, ℕ, Bool, List, ◌++◌, sym, ◌∙◌, subst}
 use Rattle.std.proofs.lemmas.List.{append_cancel_left}
 use Rattle.graph_model.specs.declared.graph.format.Format.TheVariants.{One}
 use Rattle.graph_model.specs.graph.Graph.{GraphValue}
@@ -17,11 +17,11 @@ one_flow : (reads : (bs : List ℕ) → OneReading bs) (bytes : List ℕ) (f h :
 one_flow reads bytes f h a b = (reads (header One ++ a.rest)).one_graph h f
     (subst (λ (rest : List ℕ). GraphText (header One ++ rest) h) (append_cancel_left flow_header b.rest a.rest (sym b.begins ∙ a.begins)) b.is_text) a.is_text
 
-pub answered : ((bs : List ℕ) → OneReading bs) → (bytes out : List ℕ) → IsFlowAnswer bytes out → Answered bytes out
-answered reads bytes out a = record {
+pub answered : ((bs : List ℕ) → OneReading bs) → (bytes : List ℕ) (commute : Bool) (out : List ℕ) → IsFlowAnswer bytes commute out → Answered bytes commute out
+answered reads bytes commute out a = record {
   flow = a.flow;
   is_text = a.is_text;
   one_flow = λ h t. one_flow reads bytes a.flow h a.is_text t;
-  accepted = λ g t. subst Accepted ((reads out).one_graph (written a.flow) g a.out_is t) a.means.accepted;
-  means = λ g t. subst (λ (w : GraphValue). MeansFlow a.flow false w) ((reads out).one_graph (written a.flow) g a.out_is t) a.means;
+  accepted = λ g t. subst Accepted ((reads out).one_graph (written a.flow commute) g a.out_is t) a.means.accepted;
+  means = λ g t. subst (λ (w : GraphValue). MeansFlow a.flow commute w) ((reads out).one_graph (written a.flow commute) g a.out_is t) a.means;
 }

@@ -1,5 +1,5 @@
 -- What is answered for the text of a flow.
-use Rattle.std.specs.Prelude.{◌≡◌, ℕ, ◌+◌, ◌<◌, ◌⊎◌, false, List, length}
+use Rattle.std.specs.Prelude.{◌≡◌, ℕ, ◌+◌, ◌<◌, ◌⊎◌, Bool, List, length}
 use Rattle.graph_model.specs.declared.graph.limits.TheConstants.{MAX_TEXT}
 use Rattle.graph_model.specs.declared.graph.why.Why.{Why}
 use Rattle.graph_model.specs.declared.graph.why.Why.TheVariants as why
@@ -11,30 +11,30 @@ use Rattle.flow_top.specs.FlowText.{FlowText, IsReadFault}
 use Rattle.flow_top.specs.declared.FlowFault.{FlowFault}
 use Rattle.flow_top.specs.declared.FlowFault.TheVariants as fault
 
--- the bytes are the text of a flow, and these that of its graph, which means it
-pub record IsFlowAnswer (bytes out : List ℕ) : Type 0 where
+-- the bytes are the text of a flow, and these that of its graph, which means it, where sums commute or not
+pub record IsFlowAnswer (bytes : List ℕ) (commute : Bool) (out : List ℕ) : Type 0 where
   pub flow : GraphValue
   pub is_text : FlowText bytes flow
-  pub out_is : GraphText out (written flow)
-  pub means : MeansFlow flow false (written flow)
+  pub out_is : GraphText out (written flow commute)
+  pub means : MeansFlow flow commute (written flow commute)
 
 -- with a line of the flow its graph passes a limit
-pub record IsLimitFault (bytes : List ℕ) (number : ℕ) (reason : Why) : Type 0 where
+pub record IsLimitFault (bytes : List ℕ) (commute : Bool) (number : ℕ) (reason : Why) : Type 0 where
   pub flow : GraphValue
   pub is_text : FlowText bytes flow
   pub line : ℕ
-  pub over : IsFirstOver flow line
+  pub over : IsFirstOver flow commute line
   pub number_is : number ≡ length flow.decls + line + 2
   pub reason_is : reason ≡ why.Limit
 
 -- with its closing line the text of the graph is too long
-pub record IsLengthFault (bytes : List ℕ) (number : ℕ) (reason : Why) : Type 0 where
+pub record IsLengthFault (bytes : List ℕ) (commute : Bool) (number : ℕ) (reason : Why) : Type 0 where
   pub flow : GraphValue
   pub is_text : FlowText bytes flow
-  pub too_long : MAX_TEXT < length (text (written flow))
+  pub too_long : MAX_TEXT < length (text (written flow commute))
   pub number_is : number ≡ length flow.decls + length flow.lines + 2
   pub reason_is : reason ≡ why.Limit
 
-abbrev pub IsAnswerFault : List ℕ → FlowFault → Type 0
-IsAnswerFault bytes (fault.Line number reason) = IsReadFault bytes (fault.Line number reason) ⊎ (IsLimitFault bytes number reason ⊎ IsLengthFault bytes number reason)
-IsAnswerFault bytes fault.NoMemory = Unit {0}
+abbrev pub IsAnswerFault : List ℕ → Bool → FlowFault → Type 0
+IsAnswerFault bytes commute (fault.Line number reason) = IsReadFault bytes (fault.Line number reason) ⊎ (IsLimitFault bytes commute number reason ⊎ IsLengthFault bytes commute number reason)
+IsAnswerFault bytes commute fault.NoMemory = Unit {0}

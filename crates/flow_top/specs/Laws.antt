@@ -1,5 +1,5 @@
 -- What ties the answer for a flow to those who read it.
-use Rattle.std.specs.Prelude.{◌≡◌, ℕ, false, List}
+use Rattle.std.specs.Prelude.{◌≡◌, ℕ, Bool, List}
 use Rattle.graph_model.specs.graph.Graph.{GraphValue}
 use Rattle.graph_model.specs.meaning.Rules.{Accepted}
 use Rattle.graph_reader.specs.Text.{GraphText}
@@ -8,12 +8,12 @@ use Rattle.flow_top.specs.FlowText.{FlowText}
 use Rattle.flow_top.specs.Answer.{IsFlowAnswer}
 
 -- the bytes are the text of one flow, and whatever graph is read from the other ones is accepted and means it
-pub record Answered (bytes out : List ℕ) : Type 0 where
+pub record Answered (bytes : List ℕ) (commute : Bool) (out : List ℕ) : Type 0 where
   pub flow : GraphValue
   pub is_text : FlowText bytes flow
   pub one_flow : (h : GraphValue) → FlowText bytes h → h ≡ flow
   pub accepted : (g : GraphValue) → GraphText out g → Accepted g
-  pub means : (g : GraphValue) → GraphText out g → MeansFlow flow false g
+  pub means : (g : GraphValue) → GraphText out g → MeansFlow flow commute g
 
 abbrev pub AnswersAreRead : Type 0
-AnswersAreRead = (bytes out : List ℕ) → IsFlowAnswer bytes out → Answered bytes out
+AnswersAreRead = (bytes : List ℕ) (commute : Bool) (out : List ℕ) → IsFlowAnswer bytes commute out → Answered bytes commute out

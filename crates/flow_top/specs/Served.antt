@@ -1,5 +1,5 @@
 -- What becomes of the text that answers a flow.
-use Rattle.std.specs.Prelude.{◌≡◌, ℕ, ◌<◌, ◌≤◌, ◌⊎◌, List, [], ◌∷◌, ◌++◌, length, codes, decimal}
+use Rattle.std.specs.Prelude.{◌≡◌, ℕ, ◌<◌, ◌≤◌, ◌⊎◌, Bool, List, [], ◌∷◌, ◌++◌, length, codes, decimal}
 use Rattle.std.specs.Option.{option_map}
 use Rattle.realm_io.specs.SinkState.{SinkState}
 use Rattle.realm_io.specs.Counts.{Rose}
@@ -41,11 +41,11 @@ abbrev pub refused_text : ℕ → Why → List ℕ
 refused_text number why = codes "refused line " ++ (decimal number ++ (codes " " ++ (why_word why ++ (10 ∷ []))))
 
 -- the text that goes with a status
-abbrev pub FlowAnswers : List ℕ → FlowStatus → List ℕ → Type 0
-FlowAnswers bytes Done out = IsFlowAnswer bytes out
-FlowAnswers bytes Unread out = (number : ℕ) × (why : Why) × IsAnswerFault bytes (fault.Line number why) × (out ≡ refused_text number why)
-FlowAnswers bytes TooLong out = (MAX_TEXT < length bytes) × (out ≡ codes "input too long" ++ 10 ∷ [])
-FlowAnswers bytes _ out = ⊥
+abbrev pub FlowAnswers : List ℕ → Bool → FlowStatus → List ℕ → Type 0
+FlowAnswers bytes commute Done out = IsFlowAnswer bytes commute out
+FlowAnswers bytes commute Unread out = (number : ℕ) × (why : Why) × IsAnswerFault bytes commute (fault.Line number why) × (out ≡ refused_text number why)
+FlowAnswers bytes commute TooLong out = (MAX_TEXT < length bytes) × (out ≡ codes "input too long" ++ 10 ∷ [])
+FlowAnswers bytes commute _ out = ⊥
 
 -- all of the text was taken, and all that was taken is flushed
 pub record Delivered (old new : SinkState) (out : List ℕ) : Type 0 where
@@ -65,5 +65,5 @@ abbrev pub Delivers : SinkState → SinkState → FlowStatus → FlowStatus → 
 Delivers old new wanted result out = ((result ≡ wanted) × Delivered old new out) ⊎ ((result ≡ WriteFault) × BrokenOff old new out)
 
 -- an answer was given for these bytes, unless memory ran out or a read failed
-abbrev pub IsServed : List ℕ → SinkState → SinkState → FlowStatus → Type 0
-IsServed bytes old new result = (result ≡ NoMemory) ⊎ ((result ≡ ReadFault) ⊎ ((wanted : FlowStatus) × (out : List ℕ) × FlowAnswers bytes wanted out × Delivers old new wanted result out))
+abbrev pub IsServed : List ℕ → Bool → SinkState → SinkState → FlowStatus → Type 0
+IsServed bytes commute old new result = (result ≡ NoMemory) ⊎ ((result ≡ ReadFault) ⊎ ((wanted : FlowStatus) × (out : List ℕ) × FlowAnswers bytes commute wanted out × Delivers old new wanted result out))

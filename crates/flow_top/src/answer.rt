@@ -11,17 +11,18 @@ use graph_model::why::Why;
 use std::alloc::Global;
 use task_flow::{FlowRefusal, make_graph};
 
-/// The text of the graph of the flow whose text the bytes are. `Line` where they are no flow's
+/// The text of the graph of the flow whose text the bytes are; `commute` says whether sums into one
+/// cell may go in either order. `Line` where they are no flow's
 /// text, with the line of the flow with which its graph passes a limit, or with its closing line
 /// where the graph's text is too long.
-pub fn answer_flow(alloc: Global, bytes: &[u8]) -> Result<Vec<u8>, FlowFault>
-    ensures answer { IfOk result (λ v. IsFlowAnswer bytes.now v.items) }
-    ensures refusal { IfErr result (λ e. IsAnswerFault bytes.now e) }
+pub fn answer_flow(alloc: Global, bytes: &[u8], commute: bool) -> Result<Vec<u8>, FlowFault>
+    ensures answer { IfOk result (λ v. IsFlowAnswer bytes.now commute v.items) }
+    ensures refusal { IfErr result (λ e. IsAnswerFault bytes.now commute e) }
 {
     let flow = read_flow(alloc, bytes)?;
     let decls = flow.decls();
     let lines = flow.lines();
-    let graph = match make_graph(alloc, &flow) {
+    let graph = match make_graph(alloc, &flow, commute) {
         Ok(graph) => graph,
         Err(FlowRefusal::Limit { line }) => {
             return Err(FlowFault::Line {

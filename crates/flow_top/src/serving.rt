@@ -17,13 +17,18 @@ use std::alloc::Global;
 /// The most bytes of a flow's text.
 const MOST_BYTES: u32 = 1_048_576;
 
-/// Reads the text of a flow and writes that of its graph. Where there is none it writes the one
-/// line that says why. Nothing of a graph is written before the whole graph is made.
-pub fn serve_flow<S: Source, K: Sink>(alloc: Global, source: &mut S, sink: &mut K) -> FlowStatus
+/// Reads the text of a flow and writes that of its graph, in which sums commute or not. Where there
+/// is none it writes the one line that says why. Nothing of a graph is written before the whole graph is made.
+pub fn serve_flow<S: Source, K: Sink>(
+    alloc: Global,
+    source: &mut S,
+    sink: &mut K,
+    commute: bool,
+) -> FlowStatus
     // What was left of the source is the text of a flow, and that of its graph, which means it, was
     // written and flushed; or the line with the first reason that refuses it; or a fault of writing
     // broke that off.
-    ensures served { IfSome (S.left source.old) (λ bytes. IsServed bytes (K.state sink.old) (K.state sink.new) result) }
+    ensures served { IfSome (S.left source.old) (λ bytes. IsServed bytes commute (K.state sink.old) (K.state sink.new) result) }
 
     // Done: all of the input was read.
     ensures at_end { result ≡ FlowStatus.Done → IsAtEnd (S.left source.new) }
@@ -35,7 +40,7 @@ pub fn serve_flow<S: Source, K: Sink>(alloc: Global, source: &mut S, sink: &mut 
     ensures no_memory { result ≡ FlowStatus.NoMemory → sink.new ≡ sink.old }
 {
     match read_all(alloc, source, MOST_BYTES) {
-        Ok(bytes) => serve_bytes(alloc, bytes.as_slice(), sink),
+        Ok(bytes) => serve_bytes(alloc, bytes.as_slice(), sink, commute),
         Err(ReadEnd::TooLong) => put_text(sink, b"input too long\n", FlowStatus::TooLong),
         Err(ReadEnd::ReadFault) => FlowStatus::ReadFault,
         Err(ReadEnd::NoMemory) => FlowStatus::NoMemory,
@@ -43,12 +48,12 @@ pub fn serve_flow<S: Source, K: Sink>(alloc: Global, source: &mut S, sink: &mut 
 }
 
 /// Answers the bytes of a flow.
-fn serve_bytes<K: Sink>(alloc: Global, bytes: &[u8], sink: &mut K) -> FlowStatus
-    ensures served { IsServed bytes.now (K.state sink.old) (K.state sink.new) result }
+fn serve_bytes<K: Sink>(alloc: Global, bytes: &[u8], sink: &mut K, commute: bool) -> FlowStatus
+    ensures served { IsServed bytes.now commute (K.state sink.old) (K.state sink.new) result }
     ensures read_fault { result ≡ FlowStatus.ReadFault → ⊥ }
     ensures no_memory { result ≡ FlowStatus.NoMemory → sink.new ≡ sink.old }
 {
-    match answer_flow(alloc, bytes) {
+    match answer_flow(alloc, bytes, commute) {
         Ok(text) => put_text(sink, text.as_slice(), FlowStatus::Done),
         Err(FlowFault::Line { number, why }) => match refused_text(alloc, number, why) {
             Ok(text) => put_text(sink, text.as_bytes(), FlowStatus::Unread),

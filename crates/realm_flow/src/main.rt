@@ -29,30 +29,38 @@ fn message(status: FlowStatus) -> Option<&'static str>
     }
 }
 
-/// Whether the program was called with no word behind its name.
-fn is_called_alone<R: Env + AllocGlobal>(rt: &R) -> bool {
-    match env::args(rt) {
-        Ok(args) => args.count() <= 1,
-        Err(_) => false,
+/// Whether sums commute, or `None` where the words are not those of the program.
+fn asks_to_commute<R: Env + AllocGlobal>(rt: &R) -> Option<bool> {
+    let Ok(args) = env::args(rt) else {
+        return None;
+    };
+    let mut commute = false;
+    for (i, word) in args.enumerate() {
+        match (i, word.as_str()) {
+            (0, _) => {}
+            (1, "--commute") => commute = true,
+            _ => return None,
+        }
     }
+    Some(commute)
 }
 
 /// Reads a flow and writes its graph, over the standard streams.
-fn run<R: AllocGlobal + Input + Print>(rt: &R) -> FlowStatus {
+fn run<R: AllocGlobal + Input + Print>(rt: &R, commute: bool) -> FlowStatus {
     let Ok(writer) = BufWriter::with_capacity(rt.alloc(), GATHERED, io::writer(rt)) else {
         return FlowStatus::NoMemory;
     };
     let mut source = StdSource::new(rt.reader());
     let mut sink = StdSink::new(writer);
-    serve_flow(rt.alloc(), &mut source, &mut sink)
+    serve_flow(rt.alloc(), &mut source, &mut sink, commute)
 }
 
 fn main(rt: HostRuntime) -> ExitCode {
-    if !is_called_alone(&rt) {
-        let _ = rt.eprintln("usage: realm-flow < FLOW");
+    let Some(commute) = asks_to_commute(&rt) else {
+        let _ = rt.eprintln("usage: realm-flow [--commute] < FLOW");
         return ExitCode::from(USAGE);
-    }
-    let status = run(&rt);
+    };
+    let status = run(&rt, commute);
     if let Some(line) = message(status) {
         let _ = rt.eprintln(line);
     }
