@@ -1,5 +1,5 @@
 -- Rows of bits: a bit that is set, and a row that is joined word by word.
-use Rattle.std.proofs.Common.{◌≡◌, ℕ, zero, suc, ◌*◌, ◌/◌, ◌%◌, ◌^◌, ◌<◌, ◌≤◌, max, Bool, true, ◌||◌, ◌⊎◌, inl, inr, List, length, sym, ◌∙◌, ap, subst, arith}
+use Rattle.std.proofs.Common.{◌≡◌, ℕ, zero, suc, ◌*◌, ◌/◌, ◌%◌, ◌^◌, ◌<◌, ◌≤◌, min, max, Bool, true, false, ◌||◌, ◌⊎◌, inl, inr, List, length, sym, ◌∙◌, ap, subst, arith}
 use Rattle.std.specs.Prelude.{◌==◌, slice_index, slice_set}
 use Rattle.std.specs.List.{slice_index_or}
 use Rattle.std.specs.Int.{bit_at}
@@ -8,7 +8,7 @@ use mir.Syntax.{w64}
 use Rattle.std.proofs.lemmas.Bool.{true≢false, cases_eq, cases_lt, cases_Bool, eq-eqb, eqb-true, or_left, or_right, or_cases, false_from_ne_true}
 use Rattle.std.proofs.lemmas.Nat.Bits.{bit_at_or, bit_at-lt, bit_at_set_same, bit_at_set_other}
 use Rattle.std.proofs.lemmas.List.{get_or-set_same, get_or-set_other, get_or_past, get_or_read}
-use Rattle.task_flow.specs.Bits.{word_bit}
+use Rattle.task_flow.specs.Bits.{word_bit, AreNoneBelow}
 
 -- a test that passes where one of two does
 by_cases : (x a b : Bool) → (x ≡ true → (a ≡ true) ⊎ (b ≡ true)) → ((a ≡ true) ⊎ (b ≡ true) → x ≡ true) → x ≡ (a || b)
@@ -98,3 +98,21 @@ joined_rows old add words more row w a b size all is =
     subst (λ o. (j : ℕ) → word_bit row j ≡ (word_bit o j || word_bit add j)) a
     (subst (λ m. (j : ℕ) → word_bit row j ≡ (word_bit words j || word_bit m j)) b
     (joined_all words more row w (ap length a ∙ (size ∙ ap length (sym b))) all is))
+
+either_false : (a b : Bool) → a ≡ false → b ≡ false → (a || b) ≡ false
+either_false false b ea eb = eb
+either_false true b ea eb = ea
+
+-- no bit below the lesser of two numbers, where one more is set
+pub none_set : (row words new : List ℕ) (n low less : ℕ) → words ≡ row → AreNoneBelow words low → less ≡ min low n → ((k : ℕ) → word_bit new k ≡ (word_bit row k || (n == k))) → AreNoneBelow new less
+none_set row words new n low less same none is set j h =
+    set j
+    ∙ either_false (word_bit row j) (n == j) (ap (λ ws. word_bit ws j) (sym same) ∙ none j (let b : j < min low n = subst (λ z. j < z) is h in omega arith))
+    (false_from_ne_true (n == j) (λ e. (let b : j < min low n = subst (λ z. j < z) is h in let g : n ≡ j = eqb-true n j e in absurd (omega arith))))
+
+-- where the bits of another row are set
+pub none_joined : (old add words more new : List ℕ) (low low' less : ℕ) → words ≡ old → more ≡ add → AreNoneBelow words low → AreNoneBelow more low' → less ≡ min low low' → ((k : ℕ) → word_bit new k ≡ (word_bit old k || word_bit add k)) → AreNoneBelow new less
+none_joined old add words more new low low' less same also none none' is joined j h =
+    joined j
+    ∙ either_false (word_bit old j) (word_bit add j) (ap (λ ws. word_bit ws j) (sym same) ∙ none j (let b : j < min low low' = subst (λ z. j < z) is h in omega arith))
+    (ap (λ ws. word_bit ws j) (sym also) ∙ none' j (let b : j < min low low' = subst (λ z. j < z) is h in omega arith))

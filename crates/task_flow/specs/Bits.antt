@@ -1,10 +1,14 @@
 -- Rows of bits, 64 to a word.
-use Rattle.std.specs.Prelude.{◌≡◌, ℕ, ◌+◌, ◌-◌, ◌<◌, ◌/◌, ◌%◌, ◌==◌, ◌&&◌, nat_le, not, Bool, List, slice_index}
+use Rattle.std.specs.Prelude.{◌≡◌, ℕ, ◌+◌, ◌-◌, ◌<◌, ◌/◌, ◌%◌, ◌==◌, ◌&&◌, nat_le, not, Bool, false, List, slice_index}
 use Rattle.std.specs.Int.{bit_at}
 
 -- the bit of a number in a row of words
 abbrev pub word_bit : List ℕ → ℕ → Bool
 word_bit words j = bit_at (slice_index words (j / 64)) (j % 64) == 1
+
+-- no number below this one has its bit set
+abbrev pub AreNoneBelow : List ℕ → ℕ → Type 0
+AreNoneBelow words low = (j : ℕ) → j < low → word_bit words j ≡ false
 
 -- the bit of a number that is set in one row and not in another
 abbrev pub is_shown : List ℕ → List ℕ → ℕ → Bool

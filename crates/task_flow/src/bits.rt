@@ -8,18 +8,23 @@ use index_spaces::NoMemory;
 use std::alloc::Global;
 use std::marker::Model;
 
-/// A row of bits, 64 to a word: bit `j % 64` of word `j / 64` is that of number `j`.
+/// A row of bits, 64 to a word: bit `j % 64` of word `j / 64` is that of number `j`. No bit is set
+/// of a number below the low one.
 #[derive(Drop)]
 pub(crate) struct Bits {
     words: Vec<u64>,
+    low: u32,
 }
 
 impl Model for Bits {
     ghost use Rattle.std.specs.Prelude.{ℕ, List};
+    ghost use Rattle.task_flow.specs.Bits.{AreNoneBelow};
 
     ghost Value = { List ℕ };
 
     ghost view = { λ a. a.words.items };
+
+    ghost invariant = { λ a. AreNoneBelow a.words.items a.low };
 }
 
 impl Bits {
@@ -31,7 +36,10 @@ impl Bits {
         let Ok(words) = vec![in alloc; 0; words] else {
             return Err(NoMemory);
         };
-        Ok(Bits { words })
+        Ok(Bits {
+            words,
+            low: u32::MAX,
+        })
     }
 
     /// Whether the bit of a number is set.
@@ -60,7 +68,7 @@ impl Bits {
         ensures { MatchOption result ((j : ℕ) → j < bound → is_shown self.now hidden.now j ≡ false) (λ k. (k < bound) × (is_shown self.now hidden.now k ≡ true) × ((j : ℕ) → k < j → j < bound → is_shown self.now hidden.now j ≡ false)) }
     {
         let mut left = bound;
-        while left > 0 {
+        while left > self.low {
             let last = left - 1;
             left = last - last % 64;
             let word = self.shown_word(hidden, last);
@@ -78,6 +86,7 @@ impl Bits {
         ensures bits { (k : ℕ) → word_bit self.new k ≡ (word_bit self.old k || (j == k)) }
     {
         self.words[j as usize / 64] |= 1 << (j % 64);
+        self.low = self.low.min(j);
     }
 
     /// Sets the bits of another row of as many words.
@@ -89,6 +98,7 @@ impl Bits {
         for w in 0..self.words.len() {
             self.words[w] |= add.words[w];
         }
+        self.low = self.low.min(add.low);
     }
 }
 

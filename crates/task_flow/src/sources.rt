@@ -1,6 +1,6 @@
 //! The sources of the lines.
 
-ghost use Rattle.std.specs.Prelude.{◌≡◌, ℕ, ◌+◌, ◌<◌, ◌/◌, ◌||◌, ◌++◌, [], ◌∷◌, cond, false, length, filter, flat_map, not, Contains, IfOk, OnOk};
+ghost use Rattle.std.specs.Prelude.{◌≡◌, ℕ, ◌+◌, ◌<◌, ◌/◌, ◌||◌, ◌++◌, [], ◌∷◌, cond, false, length, filter, flat_map, not, Contains, IfOk, OnOk, MatchOption};
 ghost use Rattle.graph_model.specs.graph.Access.{accesses};
 ghost use Rattle.task_flow.specs.Bits.{word_bit};
 ghost use Rattle.std.specs.List.{list_any};
@@ -55,10 +55,27 @@ pub(crate) fn parts_of(
     requires next { length rows.now.rows.items < length flow.now.lines }
     ensures { IfOk result (λ p. p ≡ parts_of flow.now commute (sources_after flow.now commute (length rows.now.rows.items)) (length rows.now.rows.items)) }
 {
-    let (large, few) = parts_by_access(alloc, flow, commute, rows)?;
+    let (large, mut few) = parts_by_access(alloc, flow, commute, rows)?;
+    // The least of one part is that part.
+    if let Some(small) = only_part(large.as_slice(), &mut few) {
+        return Ok(Parts { large, small });
+    }
     let asked = rows.asked_among(alloc, few.as_slice())?;
     let small = least(alloc, flow, commute, rows, large.as_slice(), &asked)?;
     Ok(Parts { large, small })
+}
+
+/// Takes the one part out, where there is only one and none is large.
+fn only_part(large: &[LineList], few: &mut Vec<LineList>) -> Option<LineList>
+    ensures { MatchOption result (few.new.items ≡ few.old.items) (λ p. (large.now ≡ []) × (few.old.items ≡ p ∷ [])) }
+{
+    if !large.is_empty() {
+        return None;
+    }
+    if few.len() != 1 {
+        return None;
+    }
+    few.pop()
 }
 
 /// For each access of the next line the least of the lines that it ties: the large parts, and the

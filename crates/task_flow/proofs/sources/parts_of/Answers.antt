@@ -1,22 +1,28 @@
-use Rattle.std.proofs.Common.{◌≡◌, ◌<◌, ◌≤◌, ◌+◌, ◌/◌, not, length, ◌∙◌, subst, arith}
+use Rattle.std.proofs.Common.{◌≡◌, ◌<◌, ◌≤◌, ◌+◌, ◌/◌, not, length, sym, ◌∙◌, subst, arith}
 use Rattle.std.specs.Prelude.{Contains, flat_map}
 use Rattle.graph_model.specs.graph.Access.{accesses}
 use Rattle.task_flow.specs.Construction.{is_large}
+use Rattle.task_flow.proofs.AgainSteps.{only_part}
 use Rattle.task_flow.proofs.SourceSteps.{large_below, parts_below}
 use Rattle.task_flow.proofs.sources.parts_of.Goals as goal
+
+pub returns-in-Some : goal.returns-in-Some
+returns-in-Some c =
+    let none = sym c.as_slice.ensures.value ∙ c.in-Some.ensures.0 in
+    only_part c.args.flow.now c.args.commute (length c.args.rows.now.rows.items) _ c.in_ok-large.few.items c.in_ok-large.ensures.large c.in_ok-large.ensures.few none c.in-Some.ensures.1
 
 pub least-requires-clause-kept : goal.least-requires-clause-kept
 least-requires-clause-kept c =
     let f = c.args.flow.now in
     let n = length c.args.rows.now.rows.items in
-    λ i d. large_below f c.args.commute n (accesses f n) i (subst (λ xs. Contains (flat_map (λ p. p) xs) i) (c.as_slice-2.ensures.value ∙ c.in_ok-large.ensures.large) d)
+    λ i d. large_below f c.args.commute n (accesses f n) i (subst (λ xs. Contains (flat_map (λ p. p) xs) i) (c.as_slice-3.ensures.value ∙ c.in_ok-large.ensures.large) d)
 
 pub asked_among-requires : goal.asked_among-requires
 asked_among-requires c =
     let f = c.args.flow.now in
     λ i d. (
     let below : i < length c.args.rows.now.rows.items = parts_below f c.args.commute (λ p. not (is_large p)) (length c.args.rows.now.rows.items) (accesses f (length c.args.rows.now.rows.items)) i
-    (subst (λ xs. Contains (flat_map (λ p. p) xs) i) (c.as_slice.ensures.value ∙ c.in_ok-large.ensures.few) d) in
+    (subst (λ xs. Contains (flat_map (λ p. p) xs) i) (c.as_slice-2.ensures.value ∙ (c.in_default.ensures ∙ c.in_ok-large.ensures.few)) d) in
     let some : length c.args.rows.now.rows.items ≤ length c.args.flow.now.lines = c.requires.rows.rows.some in
     let words : c.args.rows.now.words ≡ (length c.args.flow.now.lines + 63) / 64 = c.requires.rows.rows.words_are in
     omega arith)
