@@ -1,10 +1,13 @@
-/* Graphs and traces by their texts. What each call gives is a proved clause of the crate realm_c. Link librealm_c.a and the
-   allocator's archive liblibc_c.a.
+/* Graphs and traces by their texts. What each call gives is a proved clause of the crate realm_c, but where this page says
+   that it is not proved. Link librealm_c.a and the allocator's archive liblibc_c.a.
 
-   What nothing checks, and the program must keep: pointers are not null, even where a length is 0; text may be read for
-   length bytes, out written for room bytes; text, out, written and verdict are apart, and nobody else reads or writes them
-   during the call; malloc gives blocks that are aligned to 16 bytes. Calls take 32 KiB of stack. Calls of several threads
-   have nothing in common. */
+   What nothing checks, and the program must keep:
+   - pointers are not null, even where a length is 0; text may be read for length bytes, out written for room bytes; text, out,
+     written, verdict and what else a call is given are apart, and nobody else reads or writes them during the call;
+   - malloc, realloc and free are those of one allocator, and its blocks are aligned to 16 bytes. No call is made from a signal
+     handler, nor in a child that a process with threads has forked.
+   Calls on texts have nothing in common, so threads may make them at one time. Each is tried in a program with 64 KiB of
+   stack, which is not proved to be enough. */
 #ifndef REALM_H
 #define REALM_H
 #include <stddef.h>
@@ -13,32 +16,39 @@
 extern "C" {
 #endif
 
-/* The answers: the numbers are those of the program's exit status.
+/* The answers. The numbers are those of the program's exit status, but NO_ROOM, which the program has not.
      DONE       what was asked for was done
      USAGE      a number is not within its range
      UNREAD     the text is no graph's, or for realm_audit not followed by a trace's
      UNFIT      the graph breaks a rule
      NO_ROOM    out is too short: it is filled with the first part, and written is the length that it would need
      NO_MEMORY  memory was refused
+     SLOTS      a run is to have fewer event slots than its graph needs
      TOO_LONG   the text has more than 1,048,576 bytes, for realm_audit more than 2,097,152
      UNLAWFUL   the trace is not lawful
    After an answer but DONE and NO_ROOM out is as it was and written is 0. */
 enum realm_status {
     REALM_DONE = 0, REALM_USAGE = 2, REALM_UNREAD = 3, REALM_UNFIT = 4, REALM_NO_ROOM = 6, REALM_NO_MEMORY = 7,
-    REALM_TOO_LONG = 9, REALM_UNLAWFUL = 10
+    REALM_SLOTS = 8, REALM_TOO_LONG = 9, REALM_UNLAWFUL = 10
 };
 
+/* The rules, and the faults of a trace. */
+enum realm_rule {
+    REALM_CYCLE = 1, REALM_UNRELEASED = 2, REALM_SECTION = 3, REALM_DESCENDS = 4, REALM_RELEASE = 5, REALM_RACE = 6
+};
+enum realm_fault { REALM_REPEAT = 1, REALM_WAITS = 2, REALM_SOURCE = 3, REALM_OVERLAP = 4, REALM_MISSING = 5 };
+
 /* What is told of a text, by the answer. What the answer does not speak of is 0. Lines of the graph are its operations,
-   counted from 0. */
+   counted from 0, and places of a trace are counted from 0: so whether a 0 tells of one is told by the rule or the fault. */
 struct realm_verdict {
-    uint32_t need;     /* DONE of realm_check: how many event slots are enough for any run, at most 8,192 */
-    uint32_t rule;     /* UNFIT: the number of the first rule that is broken, from 1 */
-    uint32_t first;    /* UNFIT: the least line at which it is; UNLAWFUL: the other line of the fault */
-    uint32_t second;   /* UNFIT: the second line */
+    uint32_t need;     /* DONE of realm_check and SLOTS: how many event slots are enough for any run, at most 8,192 */
+    uint32_t rule;     /* UNFIT: the first rule that is broken */
+    uint32_t first;    /* UNFIT: the least line at which it is. UNLAWFUL: for SOURCE, OVERLAP and MISSING the other line */
+    uint32_t second;   /* UNFIT: for SECTION, DESCENDS and RACE the second line; the other rules name one */
     uint64_t line;     /* UNREAD: the first refused line of the text, from 1 */
     uint32_t why;      /* UNREAD: the number of its first reason, from 1 */
-    uint32_t fault;    /* UNLAWFUL: the number of the first fault of the trace, from 1 */
-    uint32_t place;    /* UNLAWFUL: its place in the trace, from 0 */
+    uint32_t fault;    /* UNLAWFUL: the first fault of the trace */
+    uint32_t place;    /* UNLAWFUL: its place in the trace; MISSING has none */
 };
 
 /* Is the text that of a graph which keeps the six rules, among them that it is free of races and of cycles?
@@ -68,46 +78,62 @@ enum realm_word_kind { REALM_WHY_WORD = 0, REALM_RULE_WORD = 1, REALM_FAULT_WORD
 uint32_t realm_word(uint32_t kind, uint32_t number, uint8_t *out, size_t room, uint64_t *written);
 
 /* A run of a graph whose lines the program's own threads perform, and the work of one line. Of zero bytes both are empty;
-   only the calls below write them. One call at a time works on a run, so the program has a lock for it; realm_work_perform
-   takes no run, so lines are performed side by side. Whatever the threads do, the report is that of realm_eval.
+   only the calls below write them. Threads issue, take and put back under a lock of the program's, and perform their lines
+   side by side, since realm_work_perform takes no run. Whatever they do, the report is that of realm_eval.
 
-   What nothing checks, and the program must keep: an `out` is empty before the call; the structs are moved and never
-   copied; line is below the number of operations of the graph; work goes back into the run of which it was taken, once. */
+   What nothing checks, and the program must keep:
+   - an `out` is empty before the call, and each other run or work is not: an empty one is read at null, also to be freed;
+   - the structs are moved and never copied: after an assignment the source is zeroed or forgotten;
+   - one call at a time works on a run, and one on a work. Either may pass to another thread by a lock, by a thread's start or
+     join, or by a sequentially consistent atomic;
+   - line is below the number of operations of the graph;
+   - work is performed once, and then put back once, into the run of which it was taken; or it is freed;
+   - a report asks that no work is out, and that none was freed before it was put back. After a report a run may be reported
+     again and freed, and nothing else is done with it. */
 struct realm_run { void *at; };
 struct realm_work { void *at; };
+
+/* The answers of the calls on runs, but of realm_run_new, whose numbers are those of realm_status. WRONG comes in the place of
+   what a call says only where a struct holds something else than the call asks for, as work that was performed before, which
+   no clause allows; such work is lost. */
 enum realm_run_status {
     REALM_RUN_DONE = 0, REALM_RUN_NOT_YET = 1, REALM_RUN_BUSY_LOCK = 2, REALM_RUN_BUSY_COLUMN = 3, REALM_RUN_NONE = 4,
-    REALM_RUN_FULL = 5, REALM_RUN_NO_ROOM = 6, REALM_RUN_NO_MEMORY = 7, REALM_RUN_SLOTS = 8, REALM_RUN_OVER = 9,
-    REALM_RUN_NEVER = 10, REALM_RUN_WRONG = 11
+    REALM_RUN_FULL = 5, REALM_RUN_NO_ROOM = 6, REALM_RUN_NO_MEMORY = 7, REALM_RUN_OVER = 9, REALM_RUN_NEVER = 10,
+    REALM_RUN_WRONG = 11
 };
 
 /* Checks a graph as realm_check does, and begins a run of it with so many event slots, at most 8,192; 0 stands for the
-   greater of 256 and the need. DONE; SLOTS where they are fewer than verdict->need; else as realm_check, and USAGE. The
-   graph stays in memory until the process ends. */
+   greater of 256 and the need. DONE; SLOTS exactly where the graph is accepted and they are fewer than its need, want of
+   memory aside; USAGE exactly where they are more than 8,192; UNREAD, UNFIT, NO_MEMORY, TOO_LONG. After each answer but DONE
+   out is empty. The graph stays in memory until the process ends, and nothing frees it; so may one whose run could not begin
+   for want of memory, so a call that is made again may keep a second one. */
 uint32_t realm_run_new(const uint8_t *text, size_t length, uint32_t slots, struct realm_run *out, struct realm_verdict *verdict);
 
-/* Issues the next operation of the text. DONE with its number; NONE where all are issued; FULL where no slot is free. */
+/* Issues the next operation of the text. DONE with its number; NONE exactly where all are issued; FULL exactly where one is
+   left and no slot is free. */
 uint32_t realm_run_issue(struct realm_run *run, uint32_t *line);
 
-/* Takes an issued operation. DONE with its work; NOT_YET where it waits for the operation `other`, whose end will wake it;
+/* Takes an issued operation. DONE with its work; NOT_YET where it waits for the operation `other`: if that is issued,
+   realm_run_woken gives the line once it has ended, or before; if it is not, nothing does, so try again when it is issued;
    BUSY_LOCK, BUSY_COLUMN where the reservation or the column `other` is with another operation: try again after a
-   realm_run_put_back; OVER where it is not issued, is out or has ended; NEVER where it never comes; NO_MEMORY. */
+   realm_run_put_back; OVER where it is not issued, is out or has ended; NEVER where it never comes; NO_MEMORY, and then
+   nothing changed. */
 uint32_t realm_run_take(struct realm_run *run, uint32_t line, struct realm_work *out, uint32_t *other);
 
-/* Performs an operation that was taken. Always DONE. */
+/* Performs an operation that was taken. DONE always. */
 uint32_t realm_work_perform(struct realm_work *work);
 
-/* Puts an operation back that was performed: it ends. Always DONE; the work is used up. */
+/* Puts an operation back that was performed: it ends. DONE always; the work is used up, and its struct is empty. */
 uint32_t realm_run_put_back(struct realm_run *run, struct realm_work *work);
 
-/* An operation that waited for one that has ended, each once. DONE; NONE. */
+/* An operation that waited for one that has ended, each once. DONE; NONE where there is none. */
 uint32_t realm_run_woken(struct realm_run *run, uint32_t *line);
 
-/* Does what is left on the calling thread, and gives the report. No work may be out. DONE, NO_ROOM, NO_MEMORY; it may be
-   called again. */
+/* Does what is left on the calling thread, and gives the report. DONE, NO_ROOM, NO_MEMORY; it may be called again. */
 uint32_t realm_run_report(struct realm_run *run, uint8_t *out, size_t room, uint64_t *written);
 
-/* Frees a run, or work that is not to be put back; a run that lacks it gives no report. */
+/* Frees a run, or work that is not to be put back: its operation is out for good, so the run gives no report. Of a run the
+   graph alone stays, which is tried and not proved. The struct is then empty. */
 void realm_run_free(struct realm_run *run);
 void realm_work_free(struct realm_work *work);
 

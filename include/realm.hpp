@@ -1,5 +1,5 @@
 // A C++20 face of realm.h and realm_events.h: results in place of buffers, and handles that move and are never copied. It adds
-// no claim.
+// no claim, and what those ask of the program it has to keep here too: a call works only on handles that are not empty.
 #pragma once
 #include "realm.h"
 #include "realm_events.h"
@@ -72,35 +72,71 @@ inline std::string word(uint32_t kind, uint32_t number) {
     return text_of([=](uint8_t *out, size_t room, uint64_t *written) { return realm_word(kind, number, out, room, written); }).text;
 }
 
-namespace events {
-
-// A handle that is moved and never copied, and freed where it isn't empty.
-class Held {
+// A handle of C that is moved and never copied, and freed where it isn't empty.
+template <typename Raw, void (*Free)(Raw *)> class Handle {
   public:
-    Held() = default;
-    Held(Held &&other) noexcept : held{std::exchange(other.held.at, nullptr)} {}
-    Held &operator=(Held &&other) noexcept {
+    Handle() = default;
+    Handle(Handle &&other) noexcept : held{std::exchange(other.held.at, nullptr)} {}
+    Handle &operator=(Handle &&other) noexcept {
         if (this != &other) {
             free();
             held.at = std::exchange(other.held.at, nullptr);
         }
         return *this;
     }
-    Held(const Held &) = delete;
-    Held &operator=(const Held &) = delete;
-    ~Held() { free(); }
+    Handle(const Handle &) = delete;
+    Handle &operator=(const Handle &) = delete;
+    ~Handle() { free(); }
     explicit operator bool() const { return held.at != nullptr; }
     void free() {
-        if (held.at) realm_events_free(&held);
+        if (held.at) Free(&held);
     }
-    realm_held held{nullptr};
+    Raw held{nullptr};
 };
+
+// The work of one operation. A run whose work was freed before it was put back gives no report.
+struct Work : Handle<realm_work, realm_work_free> {
+    uint32_t perform() { return realm_work_perform(&held); }
+};
+
+struct Run : Handle<realm_run, realm_run_free> {
+    // Begins a run in the place of what was held; 0 slots are as many as needed, and 256 at least. Where the status is not
+    // REALM_DONE there is none.
+    Answer begin(std::string_view text, uint32_t slots = 0) {
+        free();
+        Answer found{};
+        found.status = realm_run_new(bytes(text), text.size(), slots, &held, &found.verdict);
+        return found;
+    }
+    uint32_t issue(uint32_t &line) { return realm_run_issue(&held, &line); }
+    uint32_t take(uint32_t line, Work &out, uint32_t &other) {
+        out.free();
+        return realm_run_take(&held, line, &out.held, &other);
+    }
+    void put_back(Work &&work) { realm_run_put_back(&held, &work.held); }
+    uint32_t woken(uint32_t &line) { return realm_run_woken(&held, &line); }
+    Text report() {
+        return text_of([this](uint8_t *out, size_t room, uint64_t *written) { return realm_run_report(&held, out, room, written); });
+    }
+};
+
+namespace events {
+
+using Held = Handle<realm_held, realm_events_free>;
 
 // Each kind of handle is a type of its own, so that a call is given the kind that it asks for.
 struct Receipt : Held {};
 struct Waiter : Held { uint32_t number = 0; };
+struct Owner;
 
 struct Place : Held {
+    Place() = default;
+    Place(Place &&) = default;
+    Place &operator=(Place &&) = default;
+    // An owner is a place, but no other place may take it up.
+    Place(Owner &&) = delete;
+    Place &operator=(Owner &&) = delete;
+    void join(Owner &&) = delete;
     uint32_t look(realm_handle handle) { return realm_events_look(&held, handle); }
     uint32_t watch(realm_handle handle, Waiter &waiter) { return realm_events_watch(&held, handle, &waiter.held); }
     void join(Place &&other) { realm_events_join(&held, &other.held); }
@@ -123,7 +159,10 @@ struct Ended : Held {
         if (realm_events_receipt(&held, &out.held)) return std::nullopt;
         return out;
     }
-    uint32_t next(Waiter &out) { return realm_events_next(&held, &out.held, &out.number); }
+    uint32_t next(Waiter &out) {
+        out.free();
+        return realm_events_next(&held, &out.held, &out.number);
+    }
     // Only after `next` has answered REALM_EVENTS_NONE.
     Place place() && {
         Place out;
@@ -163,8 +202,15 @@ struct Owner : Place {
         if (realm_events_new(slots, waiters, last_gen, &out.held)) return std::nullopt;
         return out;
     }
-    uint32_t create(Pending &out) { return realm_events_create(&held, &out.held, &out.handle); }
-    uint32_t waiter(Waiter &out) { return realm_events_waiter(&held, &out.held, &out.number); }
+    // What `out` held before is freed: of a pending, its event stays pending for good.
+    uint32_t create(Pending &out) {
+        out.free();
+        return realm_events_create(&held, &out.held, &out.handle);
+    }
+    uint32_t waiter(Waiter &out) {
+        out.free();
+        return realm_events_waiter(&held, &out.held, &out.number);
+    }
     // None where another handle of the table is held; the owner stays then.
     std::optional<Closed> close() {
         if (realm_events_close(&held)) return std::nullopt;

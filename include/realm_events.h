@@ -1,5 +1,6 @@
 /* Generational events that threads share with no lock. What each call asks and gives is a proved clause of the crate
-   realm_events_c; where this page says `seen` or `knows`, that is the list of a seat of which the clauses speak.
+   realm_events_c, but where this page says that it is not proved; where it says `seen` or `knows`, that is the list of a seat
+   of which the clauses speak.
    Link librealm_events_c.a and the allocator's archive liblibc_c.a. */
 #ifndef REALM_EVENTS_H
 #define REALM_EVENTS_H
@@ -20,13 +21,16 @@ extern "C" {
 
    What nothing checks, and the program must keep:
    - what each call asks of the kinds of its handles and of the table that they belong to;
-   - an `out` handle is empty before the call. It is still empty after each answer but 0;
+   - an event that realm_events_watch or realm_events_look is given is one that the place has seen, and one that
+     realm_events_closed_look is given was created in that table: the handle of another table is read out of bounds;
+   - an `out` handle is empty before the call, and it is still empty after each answer but 0. Each other handle is not empty: an
+     empty one is read at null, also by realm_events_free;
    - the struct is moved and never copied: after an assignment the source is zeroed or forgotten;
    - one call at a time works on a handle. It may pass to another thread by a lock, by a thread's start or join, or by a
      sequentially consistent atomic; one that is closed stays with the thread that closed it;
    - pointers are not null, and those of one call are apart;
-   - malloc gives blocks that are aligned to 16 bytes. No call is made from a signal handler, nor in a child that a
-     process with threads has forked. */
+   - malloc, realloc and free are those of one allocator, and its blocks are aligned to 16 bytes. No call is made from a
+     signal handler, nor in a child that a process with threads has forked. */
 struct realm_held { void *at; };
 #define REALM_EMPTY {0}
 
@@ -34,7 +38,8 @@ struct realm_held { void *at; };
    each is one generation of it. */
 struct realm_handle { uint32_t slot, gen; };
 
-/* The handle of no event, which counts as seen by every place and as ended with Ok. */
+/* The handle of no event, which counts as seen by every place and as ended with Ok. These are the braces of an initializer:
+   in an expression write (struct realm_handle)REALM_NO_EVENT, and in C++ realm_handle REALM_NO_EVENT. */
 #define REALM_NO_EVENT {4294967295u, 0}
 
 enum realm_fate { REALM_OK = 0, REALM_POISON = 1 };
@@ -93,11 +98,12 @@ uint32_t realm_events_learn(struct realm_held *place, struct realm_held *receipt
    PENDING only where the slot's word, as this call loaded it, showed it pending and the place did not know of an end. */
 uint32_t realm_events_look(struct realm_held *place, struct realm_handle handle);
 
-/* Closes the table. DONE: the handle is then a `closed`, and answers for each event that was created. REFUSED: another
-   place, pending or ended handle of the table is still held, and nothing changed: free or join it first. Takes no memory. */
+/* Closes the table. DONE: the handle is then a `closed`, and answers for each event that was created. REFUSED: nothing
+   changed. It comes where another place, pending or ended handle of the table is still held: free or join it first. That it
+   comes exactly then is not proved. Takes no memory. */
 uint32_t realm_events_close(struct realm_held *owner);
 
-/* What became of an event of the closed table: as of a look. The handle was created there. */
+/* What became of an event that was created in the closed table: as of a look. */
 uint32_t realm_events_closed_look(struct realm_held *closed, struct realm_handle handle);
 
 /* The pending event on which the waiter of this number still stood. DONE; NONE exactly where it stood on none. */

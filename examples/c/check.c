@@ -2,13 +2,6 @@
 #include "realm.h"
 #include "realm_files.h"
 
-/* Writes the word of a number and a space before it. */
-static void put_word(uint32_t kind, uint32_t number) {
-    uint8_t word[16];
-    uint64_t length;
-    if (realm_word(kind, number, word, sizeof word, &length) == REALM_DONE) printf(" %.*s", (int)length, (char *)word);
-}
-
 int main(int argc, char **argv) {
     if (argc != 2) return REALM_USAGE;
     struct realm_text text = read_file(argv[1]);
@@ -24,7 +17,9 @@ int main(int argc, char **argv) {
         /* the program names the operations; the library tells their numbers */
         printf("refused");
         put_word(REALM_RULE_WORD, verdict.rule);
-        printf(" %u %u\n", verdict.first, verdict.second);
+        printf(" %u", verdict.first);
+        if (verdict.rule == REALM_SECTION || verdict.rule == REALM_DESCENDS || verdict.rule == REALM_RACE) printf(" %u", verdict.second);
+        putchar('\n');
     }
     if (status == REALM_TOO_LONG) printf("input too long\n");
     free(text.bytes);

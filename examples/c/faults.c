@@ -1,5 +1,5 @@
-/* Each allocation fails in turn: a call then says that memory was refused, or does without, and no block is lost.
-   Link with -Wl,--wrap=malloc,--wrap=realloc,--wrap=free */
+/* Each allocation fails in turn: a call then says that memory was refused, or does without, and no block is lost but those of
+   the graph of a run. Link with -Wl,--wrap=malloc,--wrap=realloc,--wrap=free */
 #include "realm.h"
 #include "realm_events.h"
 #include <stdio.h>
@@ -29,6 +29,42 @@ static uint32_t upgrade(void) { return realm_upgrade(BYTES(text), out, sizeof ou
 static uint32_t plan(void) { return realm_plan(BYTES(text), 2, out, sizeof out, &written); }
 static uint32_t make(void) { return realm_make(3, 20, out, sizeof out, &written); }
 
+/* An operation is taken, performed and put back, and the report does the others. */
+static uint32_t run(void) {
+    struct realm_run run = {0};
+    struct realm_work work = {0};
+    struct realm_verdict v;
+    uint32_t line, other, status = realm_run_new(BYTES(text), 0, &run, &v);
+    if (!status) status = realm_run_issue(&run, &line);
+    if (!status) status = realm_run_issue(&run, &line);
+    if (!status) status = realm_run_issue(&run, &line);
+    /* `f` waits for `u`, which ends after `t` */
+    if (!status) status = realm_run_take(&run, 1, &work, &other) == REALM_RUN_NOT_YET ? realm_run_take(&run, 2, &work, &other) : REALM_NO_MEMORY;
+    if (!status) {
+        realm_work_perform(&work);
+        realm_run_put_back(&run, &work);
+    }
+    while (!status && realm_run_woken(&run, &line) == REALM_RUN_DONE) {}
+    if (!status) status = realm_run_report(&run, out, sizeof out, &written);
+    if (run.at) realm_run_free(&run);
+    return status;
+}
+
+/* Work is freed in the place of being put back, and then its run. */
+static uint32_t dropped(void) {
+    struct realm_run run = {0};
+    struct realm_work work = {0};
+    struct realm_verdict v;
+    uint32_t line, other, status = realm_run_new(BYTES(text), 4, &run, &v);
+    if (!status) status = realm_run_issue(&run, &line);
+    if (!status) status = realm_run_issue(&run, &line);
+    if (!status) status = realm_run_issue(&run, &line);
+    if (!status) status = realm_run_take(&run, 2, &work, &other);
+    if (work.at) realm_work_free(&work);
+    if (run.at) realm_run_free(&run);
+    return status;
+}
+
 static uint32_t events(void) {
     struct realm_held owner = REALM_EMPTY, place = REALM_EMPTY, pending = REALM_EMPTY, waiter = REALM_EMPTY, next = REALM_EMPTY, receipt = REALM_EMPTY;
     struct realm_handle handle;
@@ -47,15 +83,18 @@ static uint32_t events(void) {
     return status;
 }
 
-static int tries(const char *name, uint32_t (*call)(void)) {
-    long spared = 0;
+/* A call loses no block; one that begins a run loses those of its graph, all of them, or it lost none as it failed. */
+static int tries(const char *name, uint32_t (*call)(void), int keeps) {
+    long spared = 0, kept = 0;
     for (long n = 0;; n++) {
         long before = live;
         left = n;
         uint32_t status = call();
         int failed = left < 0;
         left = -1;
-        if (live != before) { printf("%s: %ld blocks lost at failure %ld\n", name, live - before, n); return 1; }
+        long lost = live - before;
+        if (lost && (!keeps || (kept && lost != kept))) { printf("%s: %ld blocks lost at failure %ld\n", name, lost, n); return 1; }
+        if (lost) kept = lost;
         if (!failed && status) { printf("%s: status %u\n", name, status); return 1; }
         if (!failed) { printf("%s: %ld allocations, each refused in turn, and %ld of them were not needed\n", name, n, spared); return 0; }
         if (status == 0) spared++;
@@ -64,6 +103,7 @@ static int tries(const char *name, uint32_t (*call)(void)) {
 }
 
 int main(void) {
-    return tries("check", check) | tries("audit", audit) | tries("eval", eval) | tries("upgrade", upgrade) | tries("plan", plan) |
-           tries("make", make) | tries("events", events);
+    return tries("check", check, 0) | tries("audit", audit, 0) | tries("eval", eval, 0) | tries("upgrade", upgrade, 0) |
+           tries("plan", plan, 0) | tries("make", make, 0) | tries("run", run, 1) | tries("dropped work", dropped, 1) |
+           tries("events", events, 0);
 }

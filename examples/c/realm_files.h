@@ -1,6 +1,7 @@
-/* Reading a whole file, for the examples. */
+/* Reading a whole file, and writing the words of a verdict, for the examples. */
 #ifndef REALM_FILES_H
 #define REALM_FILES_H
+#include "realm.h"
 #include <stdint.h>
 #include <stdio.h>
 #include <stdlib.h>
@@ -22,5 +23,12 @@ static struct realm_text read_file(const char *name) {
     if (ferror(file)) { perror(name); exit(5); }
     fclose(file);
     return text;
+}
+
+/* Writes the word of a number, and a space before it. */
+static inline void put_word(uint32_t kind, uint32_t number) {
+    uint8_t word[16];
+    uint64_t length;
+    if (realm_word(kind, number, word, sizeof word, &length) == REALM_DONE) printf(" %.*s", (int)length, (char *)word);
 }
 #endif

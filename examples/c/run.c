@@ -32,7 +32,7 @@ static int take(struct realm_work *work) {
     while (next_line(&line)) {
         uint32_t status = realm_run_take(&run, line, work, &other);
         if (status == REALM_RUN_DONE) return 1;
-        /* one that waits for an issued line is woken by its end */
+        /* one that waits for an issued line is woken by its end, and one that waits for another is tried again later */
         int is_woken = status == REALM_RUN_NOT_YET && other < issued_count;
         if (status <= REALM_RUN_BUSY_COLUMN && !is_woken) try_later(line);
         if (status == REALM_RUN_NO_MEMORY) { failed = 1; return 0; }

@@ -7,19 +7,32 @@
 static struct realm_text text = {0, 0};
 static unsigned long long one, two;
 
+/* A number of 32 bits: one that is larger is as much beyond each range as the largest. */
+static uint32_t number(unsigned long long n) { return n < UINT32_MAX ? (uint32_t)n : UINT32_MAX; }
+
 static uint32_t call(const char *action, uint8_t *out, size_t room, uint64_t *written) {
     if (!strcmp(action, "eval")) return realm_eval(text.bytes, text.length, out, room, written);
     if (!strcmp(action, "upgrade")) return realm_upgrade(text.bytes, text.length, out, room, written);
-    if (!strcmp(action, "plan")) return realm_plan(text.bytes, text.length, (uint32_t)one, out, room, written);
-    return realm_make(one, (uint32_t)two, out, room, written);
+    if (!strcmp(action, "plan")) return realm_plan(text.bytes, text.length, number(one), out, room, written);
+    return realm_make(one, number(two), out, room, written);
 }
 
 static int audit(void) {
     struct realm_verdict verdict;
     uint32_t status = realm_audit(text.bytes, text.length, &verdict);
-    if (status == REALM_DONE) puts("lawful");
-    if (status == REALM_UNLAWFUL) printf("unlawful %u %u %u\n", verdict.fault, verdict.place + 1, verdict.first);
-    if (status == REALM_UNREAD) printf("refused line %llu\n", (unsigned long long)verdict.line);
+    if (status == REALM_DONE) printf("lawful");
+    if (status == REALM_UNLAWFUL) {
+        /* the program names the operations; the library tells their numbers, and the place, which the program counts from 1 */
+        printf("unlawful");
+        put_word(REALM_FAULT_WORD, verdict.fault);
+        if (verdict.fault != REALM_MISSING) printf(" %u", verdict.place + 1);
+        if (verdict.fault >= REALM_SOURCE) printf(" %u", verdict.first);
+    }
+    if (status == REALM_UNREAD) {
+        printf("refused line %llu", (unsigned long long)verdict.line);
+        put_word(REALM_WHY_WORD, verdict.why);
+    }
+    putchar('\n');
     free(text.bytes);
     return (int)status;
 }

@@ -1,4 +1,4 @@
-// The check and the evaluation of files, and events that two threads share. Usage: main FILE..
+// The check, the evaluation and a run of files, and events that two threads share. Usage: main FILE..
 #include "realm.hpp"
 #include <fstream>
 #include <iostream>
@@ -32,14 +32,39 @@ static int events() {
     return !is_well;
 }
 
+// What the check says, but for the names of operations, which are told by their numbers.
+static std::string said(const realm::Answer &found) {
+    const realm_verdict &v = found.verdict;
+    bool has_two = v.rule == REALM_SECTION || v.rule == REALM_DESCENDS || v.rule == REALM_RACE;
+    switch (found.status) {
+    case REALM_DONE: return "accepted need " + std::to_string(v.need);
+    case REALM_UNREAD: return "refused line " + std::to_string(v.line) + " " + realm::word(REALM_WHY_WORD, v.why);
+    case REALM_UNFIT: return "refused " + realm::word(REALM_RULE_WORD, v.rule) + " " + std::to_string(v.first) + (has_two ? " " + std::to_string(v.second) : "");
+    case REALM_TOO_LONG: return "input too long";
+    default: return "no memory";
+    }
+}
+
+// The report of a run: operations are issued, taken, performed and put back as long as they come in the order of the text.
+static std::string run(const std::string &text) {
+    realm::Run run;
+    realm::Work work;
+    uint32_t line, other;
+    if (run.begin(text).status != REALM_DONE) return {};
+    while (run.issue(line) == REALM_RUN_DONE && run.take(line, work, other) == REALM_RUN_DONE) {
+        work.perform();
+        run.put_back(std::move(work));
+    }
+    return run.report().text;
+}
+
 int main(int argc, char **argv) {
     for (int i = 1; i < argc; i++) {
         std::ifstream file(argv[i], std::ios::binary);
         std::string text{std::istreambuf_iterator<char>(file), {}};
-        auto found = realm::check(text);
-        std::cout << argv[i] << ": status " << found.status << " need " << found.verdict.need << "\n";
-        if (auto report = realm::eval(text)) std::cout << report.text;
+        std::cout << argv[i] << ": " << said(realm::check(text)) << "\n";
+        if (auto report = realm::eval(text)) std::cout << report.text << (run(text) == report.text ? "run so\n" : "run otherwise\n");
     }
-    std::cout << "no text: " << realm::word(REALM_WHY_WORD, realm::check({}).verdict.why) << "\n";
+    std::cout << "no text: " << said(realm::check({})) << "\n";
     return events();
 }

@@ -1,6 +1,7 @@
 """The check, the evaluation, plans and audits of graphs by their texts, over librealm.so by ctypes.
 
-As a program: REALM_SO=FOLDER/librealm.so python3 realm.py FILE.. writes what the library says of each file.
+REALM_SO names the library's file, and PYTHONPATH this file's folder. As a program: realm.py FILE.. writes what the library
+says of each file.
 """
 
 import ctypes
@@ -10,6 +11,8 @@ from dataclasses import dataclass
 
 DONE, USAGE, UNREAD, UNFIT, NO_ROOM, NO_MEMORY, TOO_LONG, UNLAWFUL = 0, 2, 3, 4, 6, 7, 9, 10
 WHY, RULE, FAULT = 0, 1, 2
+SECTION, DESCENDS, RACE = 3, 4, 6
+SOURCE, OVERLAP, MISSING = 3, 4, 5
 
 
 class Verdict(ctypes.Structure):
@@ -27,9 +30,9 @@ class Verdict(ctypes.Structure):
     ]
 
 
-@dataclass
+@dataclass(eq=False)
 class Refused(Exception):
-    """A text that was refused: the status, and the reason in words."""
+    """A text or a number that was refused: the status, and the reason in words."""
 
     status: int
     reason: str
@@ -76,17 +79,41 @@ def word(kind, number):
     return (_text(LIB.realm_word, kind, number)[1] or b"").decode()
 
 
+def _unfit(verdict):
+    """The rule that is broken, and its lines: one, or for some rules two."""
+    rule = word(RULE, verdict.rule)
+    if verdict.rule in (SECTION, DESCENDS, RACE):
+        return f"{rule} at operations {verdict.first} and {verdict.second}"
+    return f"{rule} at operation {verdict.first}"
+
+
+def _unlawful(verdict):
+    """The fault of a trace, and what it names: its place, another line, or both."""
+    fault = word(FAULT, verdict.fault)
+    if verdict.fault == MISSING:
+        return f"{fault} operation {verdict.first}"
+    other = f" with operation {verdict.first}" if verdict.fault in (SOURCE, OVERLAP) else ""
+    return f"{fault} at place {verdict.place + 1}{other}"
+
+
 def _refused(status, verdict):
     if status == NO_MEMORY:
         return MemoryError()
     reasons = {
-        USAGE: "a number is beyond its range",
-        UNREAD: f"line {verdict.line} {word(WHY, verdict.why)}",
-        UNFIT: f"{word(RULE, verdict.rule)} at operations {verdict.first} and {verdict.second}",
-        TOO_LONG: "input too long",
-        UNLAWFUL: f"{word(FAULT, verdict.fault)} at place {verdict.place + 1}",
+        USAGE: lambda: "a number is beyond its range",
+        UNREAD: lambda: f"line {verdict.line} {word(WHY, verdict.why)}",
+        UNFIT: lambda: _unfit(verdict),
+        TOO_LONG: lambda: "input too long",
+        UNLAWFUL: lambda: _unlawful(verdict),
     }
-    return Refused(status, reasons[status])
+    return Refused(status, reasons[status]())
+
+
+def _within(number, least, most):
+    """The number, which ctypes would cut to its low bits where it is beyond its type."""
+    if not least <= number <= most:
+        raise _refused(USAGE, Verdict())
+    return number
 
 
 def _judge(call, text):
@@ -109,8 +136,9 @@ def audit(text: bytes) -> None:
 
 def _graph_text(call, text, *arguments):
     status, found = _text(call, text, len(text), *arguments)
+    if status in (UNREAD, UNFIT):
+        _judge(LIB.realm_check, text)
     if status != DONE:
-        check(text)
         raise _refused(status, Verdict())
     return found
 
@@ -127,12 +155,12 @@ def upgrade(text: bytes) -> bytes:
 
 def plan(text: bytes, processors: int) -> bytes:
     """A plan in virtual time on 1 to 8 processors, with its critical chain."""
-    return _graph_text(LIB.realm_plan, text, processors)
+    return _graph_text(LIB.realm_plan, text, _within(processors, 1, 8))
 
 
 def make(seed: int, size: int) -> bytes:
     """The text of a generated graph of 1 to 8,192 operations."""
-    status, found = _text(LIB.realm_make, seed, size)
+    status, found = _text(LIB.realm_make, _within(seed, 0, 2**64 - 1), _within(size, 1, 8192))
     if status != DONE:
         raise _refused(status, Verdict())
     return found

@@ -11,6 +11,8 @@ use Rattle.realm_audit.specs.Reading.{IsTraceFault, IsNoText}
 use Rattle.realm_audit.specs.declared.refusal.AuditRefusal.{AuditRefusal}
 use Rattle.realm_audit.specs.declared.refusal.AuditRefusal.TheVariants as fault
 use Rattle.realm_top.specs.AuditAnswer.{HasTrace}
+use Rattle.realm_top.specs.Status.{exit_number}
+use Rattle.realm_top.specs.declared.status.Status.TheVariants as status
 use Rattle.realm_c.specs.Numbers.{nothing, verdict_of, no_trace, faulty}
 use Rattle.realm_c.specs.Refusals.{status_of, IsCheckRefusal}
 use Rattle.realm_c.specs.declared.audit.Audited.{Audited}
@@ -18,12 +20,12 @@ use Rattle.realm_c.specs.declared.audit.Audited.TheVariants.{Lawful, Refused, No
 use Rattle.realm_c.specs.declared.reading.Refusal.TheVariants.{NoMemory}
 use Rattle.realm_c.specs.declared.verdict.Verdict.{Verdict}
 
--- the number of an answer, and what is told beside it
+-- the number of an answer, which is the exit status of the program for it, and what is told beside it
 abbrev pub audit_status : Audited → ℕ
-audit_status Lawful = 0
+audit_status Lawful = exit_number status.Done
 audit_status (Refused r) = status_of r
-audit_status (NoTrace n) = 3
-audit_status (Unlawful why) = 10
+audit_status (NoTrace n) = exit_number status.Unread
+audit_status (Unlawful why) = exit_number status.Unlawful
 
 abbrev pub audit_verdict : Audited → Verdict
 audit_verdict Lawful = nothing

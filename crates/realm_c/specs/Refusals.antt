@@ -7,14 +7,16 @@ use Rattle.graph_reader.specs.FirstFault.{FirstFault}
 use Rattle.race_check.specs.Refusal.{IsRefusal, NamesLines}
 use Rattle.race_check.specs.declared.checked.CheckRefusal.{CheckRefusal}
 use Rattle.race_check.specs.declared.checked.CheckRefusal.TheVariants as rule
+use Rattle.realm_top.specs.Status.{exit_number}
+use Rattle.realm_top.specs.declared.status.Status.TheVariants as status
 use Rattle.realm_c.specs.declared.reading.Refusal.{Refusal}
 use Rattle.realm_c.specs.declared.reading.Refusal.TheVariants.{Unread, Unfit, NoMemory}
 
--- the number of a refusal
+-- the number of a refusal: the exit status of the program for it
 abbrev pub status_of : Refusal → ℕ
-status_of (Unread n why) = 3
-status_of (Unfit why) = 4
-status_of NoMemory = 7
+status_of (Unread n why) = exit_number status.Unread
+status_of (Unfit why) = exit_number status.Unfit
+status_of NoMemory = exit_number status.NoMemory
 
 -- the bytes are the text of no graph, and this says why; want of memory says nothing
 abbrev pub IsReadRefusal : List ℕ → Refusal → Type 0

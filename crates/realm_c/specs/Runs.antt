@@ -1,7 +1,7 @@
 -- Runs whose lines the threads of a caller perform: what a handle holds, and what each call did.
-use Rattle.std.specs.Prelude.{◌≡◌, ℕ, Option, Some, None}
+use Rattle.std.specs.Prelude.{◌≡◌, ℕ, Option, Some, None, max, cond, ◌==◌}
 use Rattle.graph_model.specs.graph.Graph.{GraphValue}
-use Rattle.run_core.specs.Core.{CoreValue, IsCore}
+use Rattle.run_core.specs.Core.{CoreValue, IsCore, slots_given}
 use Rattle.run_core.specs.Finishing.{NothingOut}
 use Rattle.run_core.specs.Steps.{Attempts, Issues}
 use Rattle.run_core.specs.WhatIsOut.{OutAfter, SameOut}
@@ -11,6 +11,7 @@ use Rattle.run_core.specs.declared.answers.Attempt.TheVariants as attempts
 use Rattle.run_core.specs.declared.answers.Issue.{Issue}
 use Rattle.run_core.specs.declared.answers.Issue.TheVariants as issues
 use Rattle.run_core.specs.declared.answers.Thing.TheVariants as things
+use Rattle.realm_c.specs.declared.running.TheConstants.{DEFAULT_SLOTS}
 use Rattle.realm_c.specs.declared.token.Over.{Over}
 use Rattle.realm_c.specs.declared.token.Taken.{Taken}
 use Rattle.realm_c.specs.declared.token.Token.{Token}
@@ -47,6 +48,10 @@ abbrev pub MayReport : Option Token → GraphValue → Type 0
 MayReport (Some (token.Run c)) g = (c.graph ≡ g) × NothingOut c
 MayReport (Some (token.Over o)) g = o.graph.now ≡ g
 MayReport _ g = ⊥
+
+-- how many slots a run has: those that are asked for, and where 0 are the greater of 256 and the need
+abbrev pub slots_for : ℕ → ℕ → ℕ
+slots_for asked need = cond (asked == 0) (max need DEFAULT_SLOTS) asked
 
 -- the number of what issuing answers
 abbrev pub issue_number : Issue → ℕ
@@ -91,6 +96,7 @@ pub record IssuedBy (c d : CoreValue) (number before after : ℕ) : Type 0 where
   pub did : Issues c d answer
   pub number_is : number ≡ issue_number answer
   pub line_is : after ≡ issued_line answer before
+  pub slots : slots_given d ≡ slots_given c
   pub out : SameOut c d
   pub works : (k : ℕ) → KeepsWork c d k
 
@@ -100,6 +106,7 @@ pub record TakenBy (c d : CoreValue) (line number before after : ℕ) (held : Op
   pub did : Attempts c d line answer
   pub number_is : number ≡ attempt_number answer
   pub other_is : after ≡ other_of answer before
+  pub slots : slots_given d ≡ slots_given c
   pub out : OutAfter c d answer
   pub works : (k : ℕ) → KeepsWork c d k
   pub sound : IsCore d

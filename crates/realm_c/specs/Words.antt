@@ -1,8 +1,10 @@
 -- The words of reasons, rules and faults by their numbers.
-use Rattle.std.specs.Prelude.{◌≡◌, ℕ, ◌≤◌, ◌⊎◌, List, codes}
+use Rattle.std.specs.Prelude.{◌≡◌, ◌≢◌, ℕ, ◌≤◌, ◌⊎◌, List, codes}
 use Rattle.graph_model.specs.declared.graph.why.Why.{Why}
 use Rattle.race_check.specs.declared.checked.CheckRefusal.{CheckRefusal}
+use Rattle.race_check.specs.declared.checked.CheckRefusal.TheVariants as rule
 use Rattle.realm_audit.specs.declared.refusal.AuditRefusal.{AuditRefusal}
+use Rattle.realm_audit.specs.declared.refusal.AuditRefusal.TheVariants as fault
 use Rattle.realm_top.specs.Texts.{why_word}
 use Rattle.realm_c.specs.Numbers.{why_number, rule_number, fault_number, rule_word, fault_word}
 
@@ -12,10 +14,10 @@ IsReasonWord n word = ((why : Why) × (n ≡ why_number why) × (word ≡ why_wo
 
 -- the words of the rule, and of the fault of a trace, with this number; want of memory has none
 abbrev pub IsRuleWord : ℕ → List ℕ → Type 0
-IsRuleWord n word = (why : CheckRefusal) × (n ≡ rule_number why) × (word ≡ rule_word why)
+IsRuleWord n word = (why : CheckRefusal) × (why ≢ rule.NoMemory) × (n ≡ rule_number why) × (word ≡ rule_word why)
 
 abbrev pub IsFaultWord : ℕ → List ℕ → Type 0
-IsFaultWord n word = (why : AuditRefusal) × (n ≡ fault_number why) × (word ≡ fault_word why)
+IsFaultWord n word = (why : AuditRefusal) × (why ≢ fault.NoMemory) × (n ≡ fault_number why) × (word ≡ fault_word why)
 
 -- the word of this kind and number
 abbrev pub IsWord : ℕ → ℕ → List ℕ → Type 0

@@ -10,6 +10,7 @@ ghost use Rattle.realm_audit.specs.Parts.{graph_bytes, trace_bytes};
 ghost use Rattle.realm_audit.specs.Reading.{AreLines};
 ghost use Rattle.realm_top.specs.AuditAnswer.{AUDIT_LIMIT, HasTrace};
 ghost use Rattle.realm_c.specs.Audits.{audit_status, audit_verdict, AuditSays, TraceFound, TraceSays};
+ghost use Rattle.realm_c.specs.Numbers.{nothing};
 ghost use Rattle.realm_c.specs.declared.audit.Audited.{Audited as TheAudited};
 
 use crate::reading::{Refusal, read_checked};
@@ -42,6 +43,7 @@ pub(crate) enum Audited {
 pub extern "C" fn realm_audit(alloc: Global, text: &[u8], out: &mut Verdict) -> u32
     ensures too_long { result ≡ 9 → AUDIT_LIMIT < length text.now }
     ensures short { result ≢ 9 → length text.now ≤ AUDIT_LIMIT }
+    ensures untold { result ≡ 9 → out.new ≡ nothing }
     ensures audited { result ≢ 9 → (a : TheAudited) × AuditSays text.now a × (result ≡ audit_status a) × (out.new ≡ audit_verdict a) }
     ensures complete { (g : GraphValue) (trace : List ℕ) → length text.now ≤ AUDIT_LIMIT → GraphText (graph_bytes text.now) g → Accepted g
         → HasTrace g (trace_bytes text.now) trace → IsLawful g trace → (result ≡ 0) ⊎ (result ≡ 7) }

@@ -5,7 +5,7 @@ ghost use Rattle.graph_model.specs.graph.Graph.{GraphValue};
 ghost use Rattle.graph_model.specs.meaning.Need.{IsNeed};
 ghost use Rattle.graph_model.specs.meaning.Rules.{Accepted};
 ghost use Rattle.graph_reader.specs.Text.{GraphText};
-ghost use Rattle.realm_c.specs.Numbers.{needing, verdict_of};
+ghost use Rattle.realm_c.specs.Numbers.{needing, nothing, verdict_of};
 ghost use Rattle.realm_c.specs.Refusals.{status_of, IsCheckRefusal};
 ghost use Rattle.realm_c.specs.declared.reading.Refusal.{Refusal as TheRefusal};
 
@@ -23,6 +23,7 @@ pub extern "C" fn realm_check(alloc: Global, text: &[u8], out: &mut Verdict) -> 
         × (need ≤ MAX_LINES) × (out.new ≡ needing need) }
     ensures too_long { result ≡ 9 → MAX_TEXT < length text.now }
     ensures short { result ≢ 9 → length text.now ≤ MAX_TEXT }
+    ensures untold { result ≡ 9 → out.new ≡ nothing }
     ensures refused { result ≢ 0 → result ≢ 9 → (r : TheRefusal) × IsCheckRefusal text.now r × (result ≡ status_of r) × (out.new ≡ verdict_of r) }
     ensures complete { (g : GraphValue) → GraphText text.now g → Accepted g → (result ≡ 0) ⊎ (result ≡ 7) }
 {

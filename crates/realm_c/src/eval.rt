@@ -5,7 +5,7 @@ ghost use Rattle.graph_model.specs.graph.Graph.{GraphValue};
 ghost use Rattle.graph_model.specs.meaning.Evaluation.{outcome, order};
 ghost use Rattle.graph_model.specs.meaning.Rules.{Accepted};
 ghost use Rattle.graph_reader.specs.Text.{GraphText};
-ghost use Rattle.realm_top.specs.Answer.{evaluation_report};
+ghost use Rattle.realm_top.specs.Answer.{evaluation_report, EndsByPaths};
 ghost use Rattle.realm_c.specs.Buffers.{Holds, IsCut};
 ghost use Rattle.realm_c.specs.Refusals.{status_of, IsCheckRefusal};
 ghost use Rattle.realm_c.specs.declared.reading.Refusal.{Refusal as TheRefusal};
@@ -15,6 +15,7 @@ use crate::reading::read_checked;
 use crate::status::{NO_MEMORY, TOO_LONG};
 use crate::text_sink::TextSink;
 use graph_model::graph::Graph;
+use graph_model::laws::{cancelled_where_unbroken, waits_where_reached};
 use graph_model::limits::MAX_TEXT;
 use graph_model::outcome::Outcome;
 use plain_eval::evaluation::eval;
@@ -33,7 +34,12 @@ pub extern "C" fn realm_eval(alloc: Global, text: &[u8], out: &mut [u8], written
     ensures refused { result ≢ 0 → result ≢ 6 → result ≢ 9 → (r : TheRefusal) × IsCheckRefusal text.now r × (result ≡ status_of r) }
     ensures untouched { result ≢ 0 → result ≢ 6 → (out.new ≡ out.old) × (written.new ≡ 0) }
     ensures complete { (g : GraphValue) → GraphText text.now g → Accepted g → (result ≡ 0) ⊎ ((result ≡ 6) ⊎ (result ≡ 7)) }
+
+    // A line waits exactly where one that never comes reaches it, and a line is cancelled exactly where an unbroken path
+    // from a fault reaches it.
+    ensures paths { (g : GraphValue) → GraphText text.now g → Accepted g → EndsByPaths g }
 {
+    ends_by_paths(text);
     *written = 0;
     if text.len() as u64 > MAX_TEXT {
         return TOO_LONG;
@@ -46,6 +52,14 @@ pub extern "C" fn realm_eval(alloc: Global, text: &[u8], out: &mut [u8], written
         Some(report) => hand_out(report.as_slice(), out, written),
         None => NO_MEMORY,
     }
+}
+
+/// How the lines of an accepted graph end, by paths.
+fn ends_by_paths(text: &[u8])
+    ensures { (g : GraphValue) → GraphText text.now g → Accepted g → EndsByPaths g }
+{
+    waits_where_reached();
+    cancelled_where_unbroken();
 }
 
 /// The report of the evaluation. None comes where memory ran out.

@@ -6,7 +6,7 @@ ghost use Rattle.graph_model.specs.graph.Graph.{GraphValue};
 ghost use Rattle.graph_model.specs.meaning.Evaluation.{outcome};
 ghost use Rattle.gen_events.specs.declared.limits.TheConstants.{MAX_SLOTS};
 ghost use Rattle.realm_top.specs.Answer.{evaluation_report};
-ghost use Rattle.run_core.specs.Core.{CoreValue, IsCore, unissued};
+ghost use Rattle.run_core.specs.Core.{CoreValue, IsCore, slots_given, unissued};
 ghost use Rattle.run_core.specs.Finishing.{NothingOut};
 ghost use Rattle.run_core.specs.Steps.{Attempts, Wakes, with_end};
 ghost use Rattle.run_core.specs.WhatIsOut.{SameOut, OneMoreOut};
@@ -26,7 +26,7 @@ use std::alloc::Global;
 pub(crate) fn begin(alloc: Global, checked: Checked, slots: u32) -> Option<Box<Token, Global>>
     requires enough { checked.need ≤ slots }
     requires most { slots ≤ MAX_SLOTS }
-    ensures { IfSome result (λ b. HoldsRun (Some b.value) (λ c. (c ≡ unissued checked.graph slots) × NothingOut c)) }
+    ensures { IfSome result (λ b. HoldsRun (Some b.value) (λ c. (c ≡ unissued checked.graph slots) × (slots_given c ≡ slots) × NothingOut c)) }
 {
     let Ok(mut made) = Box::new(alloc, Token::Empty) else {
         return None;
@@ -124,7 +124,8 @@ pub(crate) fn put_back_in(token: &mut Token, work: Token) -> u32
     requires { HoldsRun (Some token.old) (λ c. HoldsFinished (Some work) (IsFinished c)) }
     ensures done { result ≡ 0 }
     ensures put { HoldsRun (Some token.old) (λ c. HoldsFinished (Some work) (λ f. HoldsRun (Some token.new) (λ d.
-        (d ≡ with_end c f) × OneMoreOut d c f.line × ((k : ℕ) → k ≢ f.line → KeepsWork c d k)))) }
+        (d ≡ with_end c f) × (slots_given d ≡ slots_given c) × OneMoreOut d c f.line
+        × ((k : ℕ) → k ≢ f.line → KeepsWork c d k)))) }
 {
     match (token, work) {
         (Token::Run(core), Token::Finished(finished)) => {
@@ -140,7 +141,8 @@ pub(crate) fn woken_in(token: &mut Token, line: &mut u32) -> u32
     ensures answers { (result ≡ 0) ⊎ (result ≡ 4) }
     ensures woken { result ≡ 0 → HoldsRun (Some token.old) (λ c. HoldsRun (Some token.new) (λ d. Wakes c line.new d × (line.new < length c.graph.lines))) }
     ensures none { result ≡ 4 → HoldsRun (Some token.old) (λ c. c.table.caught ≡ []) × (token.new ≡ token.old) × (line.new ≡ line.old) }
-    ensures out { HoldsRun (Some token.old) (λ c. HoldsRun (Some token.new) (λ d. SameOut c d × ((k : ℕ) → KeepsWork c d k))) }
+    ensures out { HoldsRun (Some token.old) (λ c. HoldsRun (Some token.new) (λ d. (slots_given d ≡ slots_given c) × SameOut c d
+        × ((k : ℕ) → KeepsWork c d k))) }
 {
     let Token::Run(core) = token else {
         return WRONG;

@@ -8,7 +8,7 @@ ghost use Rattle.graph_model.specs.meaning.Rules.{Accepted};
 ghost use Rattle.gen_events.specs.declared.limits.TheConstants.{MAX_SLOTS};
 ghost use Rattle.graph_reader.specs.Text.{GraphText};
 ghost use Rattle.realm_top.specs.Answer.{evaluation_report};
-ghost use Rattle.run_core.specs.Core.{CoreValue, IsCore, unissued};
+ghost use Rattle.run_core.specs.Core.{CoreValue, IsCore, slots_given, unissued};
 ghost use Rattle.run_core.specs.Finishing.{NothingOut};
 ghost use Rattle.run_core.specs.Steps.{Wakes, with_end};
 ghost use Rattle.run_core.specs.WhatIsOut.{SameOut, OneMoreOut};
@@ -16,7 +16,7 @@ ghost use Rattle.run_core.specs.Works.{IsFinished, IsWork, KeepsWork};
 ghost use Rattle.realm_c.specs.Buffers.{Holds, IsCut};
 ghost use Rattle.realm_c.specs.Numbers.{needing, nothing, verdict_of};
 ghost use Rattle.realm_c.specs.Refusals.{status_of, IsCheckRefusal};
-ghost use Rattle.realm_c.specs.Runs.{HoldsAny, HoldsFinished, HoldsRun, HoldsTaken, IsOfRun, IssuedBy, MayReport, TakenBy};
+ghost use Rattle.realm_c.specs.Runs.{HoldsAny, HoldsFinished, HoldsRun, HoldsTaken, IsOfRun, IssuedBy, MayReport, TakenBy, slots_for};
 ghost use Rattle.realm_c.specs.declared.reading.Refusal.{Refusal as TheRefusal};
 
 use crate::buffer::hand_out;
@@ -28,17 +28,18 @@ use crate::inside::{
 use crate::reading::read_checked;
 use crate::status::{DONE, NO_MEMORY, SLOTS, TOO_LONG, USAGE};
 use crate::verdict::Verdict;
-use graph_model::limits::MAX_TEXT;
+use graph_model::limits::{MAX_LINES, MAX_TEXT};
 use race_check::checked::Checked;
 use run_core::MAX_SLOTS;
 use std::alloc::Global;
 
 /// The slots of a run for which no number is given, where they are enough.
-const DEFAULT_SLOTS: u32 = 256;
+pub const DEFAULT_SLOTS: u32 = 256;
 
 /// Reads a graph from its text, checks it, and begins a run of it in which no line is issued, with this many event
-/// slots; 0 stands for the greater of 256 and its need. 0; 2 where there are more than 8,192 slots; 8 where they are
-/// fewer than the graph needs; else 3, 4, 7 or 9, as a check. The graph stays in memory until the process ends.
+/// slots; 0 stands for the greater of 256 and its need. 0; 2 exactly where there are more than 8,192 slots; 8 exactly where
+/// they are fewer than an accepted graph needs, want of memory aside; else 3, 4, 7 or 9, as a check. The graph stays in
+/// memory until the process ends, and may do so where memory ran out.
 #[unsafe(no_mangle)]
 pub extern "C" fn realm_run_new(
     alloc: Global,
@@ -48,16 +49,20 @@ pub extern "C" fn realm_run_new(
     out: &mut Verdict,
 ) -> u32
     requires empty { run.old.value ≡ None }
-    ensures begun { result ≡ 0 → (g : GraphValue) × (given : ℕ) × GraphText text.now g × Accepted g × (slots ≢ 0 → given ≡ slots)
-        × HoldsRun run.new.value (λ c. (c ≡ unissued g given) × NothingOut c) }
+    ensures begun { result ≡ 0 → (g : GraphValue) × (need : ℕ) × GraphText text.now g × Accepted g × IsNeed g need
+        × (need ≤ slots_for slots need)
+        × HoldsRun run.new.value (λ c. (c ≡ unissued g (slots_for slots need)) × (slots_given c ≡ slots_for slots need) × NothingOut c) }
     ensures usage { result ≡ 2 → MAX_SLOTS < slots }
     ensures few { result ≢ 2 → slots ≤ MAX_SLOTS }
     ensures too_long { result ≡ 9 → MAX_TEXT < length text.now }
+    ensures short { result ≢ 9 → result ≢ 2 → length text.now ≤ MAX_TEXT }
     ensures slots { result ≡ 8 → (g : GraphValue) × (need : ℕ) × GraphText text.now g × Accepted g × IsNeed g need
-        × (slots < need) × (slots ≢ 0) × (out.new ≡ needing need) }
+        × (need ≤ MAX_LINES) × (slots < need) × (slots ≢ 0) × (out.new ≡ needing need) }
     ensures refused { result ≢ 0 → result ≢ 2 → result ≢ 8 → result ≢ 9 → (r : TheRefusal) × IsCheckRefusal text.now r × (result ≡ status_of r) × (out.new ≡ verdict_of r) }
+    ensures untold { (result ≡ 0) ⊎ ((result ≡ 2) ⊎ (result ≡ 9)) → out.new ≡ nothing }
     ensures none { result ≢ 0 → run.new.value ≡ None }
-    ensures complete { (g : GraphValue) → GraphText text.now g → Accepted g → slots ≡ 0 → (result ≡ 0) ⊎ (result ≡ 7) }
+    ensures complete { (g : GraphValue) → GraphText text.now g → Accepted g → slots ≤ MAX_SLOTS
+        → (result ≡ 0) ⊎ ((result ≡ 7) ⊎ (result ≡ 8)) }
 {
     *out = Verdict::nothing();
     if slots > MAX_SLOTS {
@@ -79,7 +84,7 @@ pub extern "C" fn realm_run_new(
 /// are fewer than the need.
 fn slots_for(given: u32, need: u32) -> Option<u32>
     requires most { (given ≤ MAX_SLOTS) × (need ≤ MAX_SLOTS) }
-    ensures some { IfSome result (λ slots. (need ≤ slots) × (slots ≤ MAX_SLOTS) × (given ≢ 0 → slots ≡ given)) }
+    ensures some { IfSome result (λ slots. (slots ≡ slots_for given need) × (need ≤ slots) × (slots ≤ MAX_SLOTS)) }
     ensures none { IfNone result ((given < need) × (given ≢ 0)) }
 {
     if given == 0 {
@@ -94,10 +99,11 @@ fn begin_run(alloc: Global, checked: Checked, slots: u32, run: &mut Held, out: &
     requires few { slots ≤ MAX_SLOTS }
     requires nothing { out.old ≡ nothing }
     ensures answers { (result ≡ 0) ⊎ ((result ≡ 7) ⊎ (result ≡ 8)) }
-    ensures begun { result ≡ 0 → (given : ℕ) × (slots ≢ 0 → given ≡ slots)
-        × HoldsRun run.new.value (λ c. (c ≡ unissued checked.graph given) × NothingOut c) }
-    ensures no_memory { result ≡ 7 → out.new ≡ nothing }
-    ensures slots { result ≡ 8 → (slots < checked.need) × (slots ≢ 0) × (out.new ≡ needing checked.need) }
+    ensures begun { result ≡ 0 → (checked.need ≤ slots_for slots checked.need)
+        × HoldsRun run.new.value (λ c. (c ≡ unissued checked.graph (slots_for slots checked.need))
+        × (slots_given c ≡ slots_for slots checked.need) × NothingOut c) }
+    ensures untold { result ≢ 8 → out.new ≡ nothing }
+    ensures slots { result ≡ 8 → (checked.need ≤ MAX_LINES) × (slots < checked.need) × (slots ≢ 0) × (out.new ≡ needing checked.need) }
     ensures none { result ≢ 0 → run.new.value ≡ None }
 {
     let need = need_of(&checked);
@@ -174,7 +180,8 @@ pub extern "C" fn realm_run_put_back(alloc: Global, run: &mut Held, work: &mut H
     requires { HoldsRun run.old.value (λ c. HoldsFinished work.old.value (IsFinished c)) }
     ensures done { result ≡ 0 }
     ensures put { HoldsRun run.old.value (λ c. HoldsFinished work.old.value (λ f. HoldsRun run.new.value (λ d.
-        (d ≡ with_end c f) × OneMoreOut d c f.line × ((k : ℕ) → k ≢ f.line → KeepsWork c d k)))) }
+        (d ≡ with_end c f) × (slots_given d ≡ slots_given c) × OneMoreOut d c f.line
+        × ((k : ℕ) → k ≢ f.line → KeepsWork c d k)))) }
     ensures used { work.new.value ≡ None }
 {
     let mut token = run.take(alloc);
@@ -190,7 +197,8 @@ pub extern "C" fn realm_run_woken(alloc: Global, run: &mut Held, line: &mut u32)
     ensures answers { (result ≡ 0) ⊎ (result ≡ 4) }
     ensures woken { result ≡ 0 → HoldsRun run.old.value (λ c. HoldsRun run.new.value (λ d. Wakes c line.new d × (line.new < length c.graph.lines))) }
     ensures none { result ≡ 4 → HoldsRun run.old.value (λ c. c.table.caught ≡ []) × (run.new.value ≡ run.old.value) × (line.new ≡ line.old) }
-    ensures out { HoldsRun run.old.value (λ c. HoldsRun run.new.value (λ d. SameOut c d × ((k : ℕ) → KeepsWork c d k))) }
+    ensures out { HoldsRun run.old.value (λ c. HoldsRun run.new.value (λ d. (slots_given d ≡ slots_given c) × SameOut c d
+        × ((k : ℕ) → KeepsWork c d k))) }
 {
     let mut token = run.take(alloc);
     let status = woken_in(&mut token, line);

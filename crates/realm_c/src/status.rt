@@ -1,4 +1,5 @@
-//! The numbers of the answers, which are those of the program's exit status.
+//! The numbers of the answers: first those that are the program's exit status too, but `NO_ROOM`, and then those of
+//! the calls on runs.
 
 /// What was asked for was done.
 pub(crate) const DONE: u32 = 0;
@@ -17,6 +18,9 @@ pub(crate) const NO_ROOM: u32 = 6;
 
 /// Memory ran out.
 pub(crate) const NO_MEMORY: u32 = 7;
+
+/// A run has fewer event slots than its graph needs.
+pub(crate) const SLOTS: u32 = 8;
 
 /// There are more bytes than a text may have.
 pub(crate) const TOO_LONG: u32 = 9;
@@ -38,9 +42,6 @@ pub(crate) const NONE: u32 = 4;
 
 /// Each slot is pending.
 pub(crate) const FULL: u32 = 5;
-
-/// A run has fewer event slots than its graph needs.
-pub(crate) const SLOTS: u32 = 8;
 
 /// A line is not issued, is out, or has ended.
 pub(crate) const OVER: u32 = 9;

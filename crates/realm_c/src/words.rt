@@ -16,6 +16,7 @@ pub extern "C" fn realm_word(kind: u32, number: u32, out: &mut [u8], written: &m
     ensures done { result ≡ 0 → (word : List ℕ) × IsWord kind number word × Holds word out.old out.new written.new }
     ensures cut { result ≡ 6 → (word : List ℕ) × IsWord kind number word × IsCut word out.old out.new written.new }
     ensures usage { result ≡ 2 → HasWord kind number → ⊥ }
+    ensures has { result ≢ 2 → HasWord kind number }
     ensures untouched { result ≡ 2 → (out.new ≡ out.old) × (written.new ≡ 0) }
 {
     *written = 0;
@@ -28,6 +29,7 @@ pub extern "C" fn realm_word(kind: u32, number: u32, out: &mut [u8], written: &m
 /// The word of this kind and number.
 fn word_of(kind: u32, number: u32) -> Option<&'static [u8]>
     ensures some { IfSome result (λ word. IsWord kind number word.now) }
+    ensures has { IfSome result (λ _. HasWord kind number) }
     ensures none { IfNone result (HasWord kind number → ⊥) }
 {
     match kind {
@@ -41,6 +43,7 @@ fn word_of(kind: u32, number: u32) -> Option<&'static [u8]>
 /// The word of a reason, of which 14 is that for the text of a trace.
 fn reason_word(number: u32) -> Option<&'static [u8]>
     ensures some { IfSome result (λ word. IsReasonWord number word.now) }
+    ensures has { IfSome result (λ _. (1 ≤ number) × (number ≤ 14)) }
     ensures none { IfNone result ((1 ≤ number) × (number ≤ 14) → ⊥) }
 {
     match number {
@@ -65,6 +68,7 @@ fn reason_word(number: u32) -> Option<&'static [u8]>
 /// The word of a rule.
 fn rule_word(number: u32) -> Option<&'static [u8]>
     ensures some { IfSome result (λ word. IsRuleWord number word.now) }
+    ensures has { IfSome result (λ _. (1 ≤ number) × (number ≤ 6)) }
     ensures none { IfNone result ((1 ≤ number) × (number ≤ 6) → ⊥) }
 {
     match number {
@@ -81,6 +85,7 @@ fn rule_word(number: u32) -> Option<&'static [u8]>
 /// The word of a fault of a trace.
 fn fault_word(number: u32) -> Option<&'static [u8]>
     ensures some { IfSome result (λ word. IsFaultWord number word.now) }
+    ensures has { IfSome result (λ _. (1 ≤ number) × (number ≤ 5)) }
     ensures none { IfNone result ((1 ≤ number) × (number ≤ 5) → ⊥) }
 {
     match number {

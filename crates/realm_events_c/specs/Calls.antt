@@ -4,7 +4,7 @@ use Rattle.basics.specs.Sums.{total, below}
 use Rattle.gen_events.specs.EventMap.{EventMap, answer, IsEventMap, IsCreated, IsPlaced, HasEnded}
 use Rattle.gen_events.specs.Plays.{Coherent}
 use Rattle.gen_events.specs.Seats.{HasSeen, Knows, IsPast, Grows, Keeps, IsBare, SamePlacings, SameGiven, FoundPending, no_event}
-use Rattle.gen_events.specs.Views.{lists, answer_of, caught_lists, caught_on, ended_by, fate_of, given_by, handle_of, made_by, number_of, rest_of, shape_of, AreTaken, ComesAfter, IsFull, IsMakerOf, IsNew, IsOver, IsWithin, Watched}
+use Rattle.gen_events.specs.Views.{answer_of, caught_lists, caught_on, ended_by, fate_of, given_by, rest_of, shape_of, AreTaken, ComesAfter, IsFull, IsNew, IsOver, IsWithin, Watched}
 use Rattle.gen_events.specs.declared.events.Events.{Events}
 use Rattle.gen_events.specs.declared.handle.Answer.{Answer}
 use Rattle.gen_events.specs.declared.handle.Answer.TheVariants.{Pending, Triggered, Poisoned}
@@ -13,9 +13,7 @@ use Rattle.gen_events.specs.declared.handle.Fate.TheVariants.{Ok, Poison}
 use Rattle.gen_events.specs.declared.handle.Handle.{Handle}
 use Rattle.gen_events.specs.declared.handle.Shape.{Shape}
 use Rattle.gen_events.specs.declared.tokens.Caught.{Caught}
-use Rattle.gen_events.specs.declared.tokens.Maker.{Maker}
 use Rattle.gen_events.specs.declared.tokens.Receipt.{Receipt}
-use Rattle.gen_events.specs.declared.tokens.Seat.{Seat}
 use Rattle.gen_events.specs.declared.tokens.Waiter.{Waiter}
 use Rattle.gen_events.specs.declared.tokens.Watch.{Watch}
 use Rattle.gen_events.specs.declared.tokens.Watch.TheVariants.{Over}

@@ -1,4 +1,4 @@
--- `empty` makes a handle that owns nothing.
+-- `empty` makes a handle that is null and owns nothing.
 use mathlib.Core.Path.{refl, sym, subst}
 use mathlib.Core.List.{List, [], ◌∷◌, ◌++◌}
 use lib.Dec.{T, lit<}
@@ -20,7 +20,7 @@ use types.Run.{no_more, and_then, lit, returns, enter}
 use types.ByLocal.{alloc_all, pass_all, free_all, look_at, get, sets}
 use denote.Exit.{yes}
 use denote.RattleType.{Valss}
-use denote.RawPtr.{RawPtr, null_ptr, ptr_val}
+use denote.RawPtr.{Ptr, RawPtr, null_ptr, ptr_val}
 use denote.Signature.{Slot, plain, type_at}
 use denote.Steps.{nothing}
 use denote.Struct.Struct.{within}
@@ -58,7 +58,7 @@ module _ {M : Type 1} {𝓤 : Ura M} (𝓛 : Logic 𝓤) (at_mem : Memory → SP
       handle_tells E.al ! a z.0.4.0 (λ hv ev fa.
       let w : Val = vstruct (vcons (ptr_val null_ptr) (vcons hv vnil)) in
       let typed : T (has_ty (box_ty E) w) × WT w = (and_tt (has_ty (α E.al) hv) fa.0, (record { fits = lit< tt }, (fa.1, tt))) in
-      nothing ! $ nothing ! $ move ! (2 ∷ 0 ∷ []) $ fjoin ! $ feq_i ! (List Val) (ptr_val null_ptr ∷ []) (ptr_val null_ptr ∷ []) refl $ fjoin ! $
+      feq_i ! Ptr null_ptr null_ptr refl $ nothing ! $ move ! (2 ∷ 0 ∷ []) $ fjoin ! $ feq_i ! (List Val) (ptr_val null_ptr ∷ []) (ptr_val null_ptr ∷ []) refl $ fjoin ! $
       feq_i ! (List Val) (w ∷ []) (w ∷ []) refl $ fjoin ! $
       fpack ! (Valss (RawPtr ∷ P E ∷ [])) (within (shape (owning E)) (null_ptr, (a, tt)) (w ∷ [])) (ptr_val null_ptr ∷ [], (hv ∷ [], tt)) $ fjoin ! $
       use1 𝓛 (‵ (To.own_val made (w ∷ []))) (id⊢ 𝓤 _) $ move ! (1 ∷ 2 ∷ []) $ drop ! $ drop ! $
