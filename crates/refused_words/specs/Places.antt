@@ -1,0 +1,63 @@
+-- In which place each word of a line stands, by the forms of lines.
+use Rattle.std.specs.Prelude.{ℕ, ◌-◌, ◌==◌, nat_lt, Bool, cond, ◌&&◌, ◌||◌, List, [], length, drop, find, Option, Some, None, option_map, slice_index_or, slice_get, codes}
+use Rattle.std.specs.Option.{option_map_or}
+use Rattle.graph_model.specs.declared.graph.format.Format.{Format}
+use Rattle.graph_model.specs.declared.graph.table.Kind.{Kind}
+use Rattle.graph_model.specs.declared.graph.table.TheConstants.{KINDS}
+use Rattle.graph_model.specs.graph.Table.{kind_words, kind_places}
+use Rattle.graph_reader.specs.Draft.{Place, NewName, SpaceName, EventName, Fields, Value, Count, Intervals, same_word, as_place, form_of, has_on, is_of_form}
+use Rattle.graph_reader.specs.Reading.{is_operation}
+use Rattle.refused_words.specs.declared.places.WordPlace.{WordPlace}
+use Rattle.refused_words.specs.declared.places.WordPlace.TheVariants as words
+
+abbrev pub place_value : WordPlace → Place
+place_value words.NewName = NewName
+place_value words.Fields = Fields
+place_value words.Count = Count
+place_value words.Intervals = Intervals
+place_value words.Event = EventName
+place_value (words.Of p) = as_place p
+
+-- the words of declarations, by their numbers
+abbrev pub space_place : ℕ → Option Place
+space_place k = cond (k == 1) (Some NewName) (cond (k == 2) (Some Intervals) None)
+
+abbrev pub inst_place : ℕ → Option Place
+inst_place k = cond (k == 1) (Some NewName) (cond (k == 2) (Some SpaceName) (cond (k == 3) (Some Fields) None))
+
+abbrev pub lock_place : ℕ → Option Place
+lock_place k = cond (k == 1) (Some NewName) None
+
+abbrev pub barrier_place : ℕ → Option Place
+barrier_place k = cond (k == 1) (Some NewName) (cond (k == 2) (Some Count) (cond (k == 4) (Some Value) None))
+
+-- a word of a declaration that begins so
+abbrev pub decl_place : List ℕ → ℕ → Option Place
+decl_place w k =
+    cond (same_word w (codes "space")) (space_place k)
+    (cond (same_word w (codes "inst")) (inst_place k)
+    (cond (same_word w (codes "lock")) (lock_place k)
+    (cond (same_word w (codes "barrier")) (barrier_place k) None)))
+
+-- a word behind the fixed ones of a kind: one for each place, and then `on` and an event
+abbrev pub behind_kind : Kind → List (List ℕ) → ℕ → Option Place
+behind_kind kind rest k = cond (nat_lt k (length (kind_places kind))) (option_map as_place (slice_get (kind_places kind) k))
+    (cond ((k - length (kind_places kind) == 1) && has_on (form_of kind) rest) (Some EventName) None)
+
+abbrev pub kind_place : Kind → List (List ℕ) → ℕ → Option Place
+kind_place kind ws k = cond (nat_lt k (length (kind_words kind)) || nat_lt (length ws) (length (kind_words kind))) None (behind_kind kind (drop (length (kind_words kind)) ws) (k - length (kind_words kind)))
+
+abbrev pub is_merge : List (List ℕ) → Bool
+is_merge ws = same_word (slice_index_or ws 0 []) (codes "merge") || same_word (slice_index_or ws 0 []) (codes "mergei")
+
+-- a word behind the sign: those of a merge are events
+abbrev pub verb_place : Format → List (List ℕ) → ℕ → Option Place
+verb_place format ws k = cond (is_merge ws) (cond (k == 0) None (Some EventName))
+    (option_map_or (λ kind. kind_place kind ws k) (find (λ kind. is_of_form format ws (form_of kind)) KINDS) None)
+
+abbrev pub operation_place : Format → List (List ℕ) → ℕ → Option Place
+operation_place format ws k = cond (k == 0) (Some NewName) (cond (k == 1) None (verb_place format (drop 2 ws) (k - 2)))
+
+-- the word of number k
+unfoldable pub place_at : Format → List (List ℕ) → ℕ → Option Place
+place_at format ws k = cond (nat_lt k (length ws)) (cond (is_operation ws) (operation_place format ws k) (decl_place (slice_index_or ws 0 []) k)) None
