@@ -1,3 +1,4 @@
+pub mod FarthestFacts
 pub mod RefusalFacts
 pub mod CauseFacts
 pub mod NamedItems

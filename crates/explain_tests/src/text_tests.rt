@@ -24,7 +24,7 @@ impl Row<'_> {
     }
 }
 
-const ROWS: [Row<'static>; 7] = [
+const ROWS: [Row<'static>; 10] = [
     Row {
         bytes: "realm 1\nspace s 4..9\ninst i s x\na = user\nb = merge a\nf = fill i.x s 1 on a\n\
             g = fill i.x s 2 on b\nt = trigger a\nend\n",
@@ -50,7 +50,7 @@ const ROWS: [Row<'static>; 7] = [
         bytes: "realm 1\na = user\nm = mergei a\nend\n",
         ends: true,
         verdict: Verdict::Accepted,
-        text: "accepted need 2\nline 2 never comes: a = user\n\
+        text: "accepted need 2\nneed 2, reached at line 3: m = mergei a\nline 2 never comes: a = user\n\
             line 3 waits for line 2 (mergei), and line 2 never comes: m = mergei a\n\
             the way from line 2 to line 3:\nline 3 waits for line 2 (mergei): m = mergei a\n",
     },
@@ -58,7 +58,7 @@ const ROWS: [Row<'static>; 7] = [
         bytes: "realm 1\na = user\nm = merge a\nc = cancel a\nend\n",
         ends: true,
         verdict: Verdict::Accepted,
-        text: "accepted need 3\nline 2 is cancelled by line 4 (cancel), and line 4 cancels: a = user\n\
+        text: "accepted need 3\nneed 3, reached at line 4: c = cancel a\nline 2 is cancelled by line 4 (cancel), and line 4 cancels: a = user\n\
             line 3 is cancelled by line 2 (merge), and line 4 cancels: m = merge a\nline 4 cancels: c = cancel a\n\
             the way from line 4 to line 3:\nline 2 waits for line 4 (cancel): a = user\n\
             line 3 waits for line 2 (merge): m = merge a\n",
@@ -67,20 +67,43 @@ const ROWS: [Row<'static>; 7] = [
         bytes: "realm 1\nm = merge b\nb = user\nend\n",
         ends: false,
         verdict: Verdict::Unread,
-        text: "refused line 2 unknown\nline 2: m = merge b\nno line above gives b, but line 3: b = user\n",
+        text: "refused line 2 unknown\nline 2: m = merge b\n                  ^\n\
+            no line above gives b, but line 3: b = user\n",
     },
     Row {
         bytes: "realm 1\nspace s 0..9,20..1048595\nend\n",
         ends: false,
         verdict: Verdict::Unread,
-        text: "refused line 2 limit\nline 2: space s 0..9,20..1048595\n\
+        text: "refused line 2 limit\nline 2: space s 0..9,20..1048595\nthe whole line is refused\n\
             points of a space: 1048586, and at most 1048576\n",
     },
     Row {
         bytes: "realm 1\nlock b\nb = user\nend\n",
         ends: false,
         verdict: Verdict::Unread,
-        text: "refused line 3 twice\nline 3: b = user\nb is given by line 2: lock b\n",
+        text: "refused line 3 twice\nline 3: b = user\n        ^\nb is given by line 2: lock b\n",
+    },
+    Row {
+        bytes: "realm 2\nlock l\nq = acquire l\nm = mergei q\nr = release q on m\ns = release q on m\nend\n",
+        ends: false,
+        verdict: Verdict::Unread,
+        text: "refused line 6 twice\nline 6: s = release q on m\n                    ^\n\
+            line 5 did so already: r = release q on m\nq is given by line 3: q = acquire l\n\
+            m is given by line 4: m = mergei q\n",
+    },
+    Row {
+        bytes: "realm 1\na = user\nb = user\nm = merge a b a\nend\n",
+        ends: false,
+        verdict: Verdict::Unread,
+        text: "refused line 4 twice\nline 4: m = merge a b a\n                      ^\n\
+            a is given by line 2: a = user\nb is given by line 3: b = user\na is given by line 2: a = user\n",
+    },
+    Row {
+        bytes: "realm 1\nspace s 0..3\ninst a s x,y,x\nend\n",
+        ends: false,
+        verdict: Verdict::Unread,
+        text: "refused line 3 twice\nline 3: inst a s x,y,x\n                 ^^^^^\n\
+            s is given by line 2: space s 0..3\n",
     },
 ];
 

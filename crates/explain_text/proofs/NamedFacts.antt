@@ -1,15 +1,16 @@
 -- Lines that give names.
-use Rattle.std.proofs.Common.{inl, inr, ◌≡◌, ℕ, ◌+◌, ◌-◌, ◌<◌, ◌≤◌, Bool, true, false, cond, List, [], ◌∷◌, ◌++◌, length, take, drop, refl, sym, ◌∙◌, ap, subst, append_assoc, arith}
-use Rattle.std.specs.Prelude.{Contains, Option, Some, None, IfSome}
+use Rattle.std.proofs.Common.{inl, inr, ◌≡◌, ℕ, suc, map, ◌+◌, ◌-◌, ◌<◌, ◌≤◌, Bool, true, false, cond, List, [], ◌∷◌, ◌++◌, length, take, drop, refl, sym, ◌∙◌, ap, subst, append_assoc, arith}
+use Rattle.std.specs.Prelude.{Contains, Option, Some, None, IfSome, option_map}
 use Rattle.std.specs.Borrow.{Bor}
 use Rattle.std.specs.List.{slice_index_or}
 use Rattle.std.specs.Str.{bytes_eq}
+use Rattle.std.proofs.lemmas.Bool.{cases_lt}
 use Rattle.std.proofs.lemmas.Option.{none-some, same_Some}
-use Rattle.std.proofs.lemmas.List.{take-map, drop-map, take_more, append-nil, length-drop, length-map, length-take, take_all}
+use Rattle.std.proofs.lemmas.List.{take-map, drop-map, take_more, append-nil, length-drop, length-map, map-append, length-take, take_all, nil_from_length}
 use Rattle.std.proofs.lemmas.List.Elements.{Contains-push_cases}
 use Rattle.basics.specs.Words.{contents}
 use Rattle.graph_reader.specs.Words.{pieces}
-use Rattle.explain_text.specs.Named.{given_name, first_giving, named_text, named_texts}
+use Rattle.explain_text.specs.Named.{given_name, first_giving, named_text, named_texts, option_list, told_words}
 use Rattle.explain_text.specs.declared.naming.NamedWord.{NamedWord}
 use Rattle.explain_text.proofs.TextFacts.{then_put}
 
@@ -58,3 +59,29 @@ lines_size lines = simp length-map
 -- one more word of a list
 pub each_word : (P : NamedWord → Type 0) (xs ys : List NamedWord) (x : NamedWord) → ys ≡ xs ++ x ∷ [] → P x → ((y : NamedWord) → Contains xs y → P y) → (y : NamedWord) → Contains ys y → P y
 each_word P xs ys x more here each y c = elim (Contains-push_cases xs x y (subst (λ zs. Contains zs y) more c)) [ inl b ↦ each y b | inr e ↦ subst P e here ]
+
+-- the names that are told of one more word
+told_push : (f : ℕ → Option (List ℕ)) (k : ℕ) → told_words f (k + 1) ≡ told_words f k ++ option_list (f k)
+told_push f k = let one : k + 1 ≡ suc k = omega arith in ap (told_words f) one
+
+pub told_none : (f : ℕ → Option (List ℕ)) (k : ℕ) (xs : List NamedWord) (o : Option NamedWord) → o ≡ None → option_map (λ (x : NamedWord). x.word.now) o ≡ f k → map (λ (x : NamedWord). x.word.now) xs ≡ told_words f k →
+    map (λ (x : NamedWord). x.word.now) xs ≡ told_words f (k + 1)
+told_none f k xs o none word before =
+    let empty : f k ≡ None = sym word ∙ ap (option_map (λ (x : NamedWord). x.word.now)) none in
+    before ∙ sym (told_push f k ∙ (ap (λ z. told_words f k ++ option_list z) empty ∙ append-nil (told_words f k)))
+
+pub told_some : (f : ℕ → Option (List ℕ)) (k : ℕ) (xs ys : List NamedWord) (o : Option NamedWord) (x : NamedWord) → o ≡ Some x → ys ≡ xs ++ x ∷ [] → option_map (λ (x : NamedWord). x.word.now) o ≡ f k →
+    map (λ (x : NamedWord). x.word.now) xs ≡ told_words f k → map (λ (x : NamedWord). x.word.now) ys ≡ told_words f (k + 1)
+told_some f k xs ys o x some more word before =
+    let here : f k ≡ Some x.word.now = sym word ∙ ap (option_map (λ (x : NamedWord). x.word.now)) some in
+    ap (map (λ (x : NamedWord). x.word.now)) more ∙ (map-append (λ (x : NamedWord). x.word.now) xs (x ∷ [])
+    ∙ (ap (λ z. z ++ x.word.now ∷ []) before ∙ sym (told_push f k ∙ ap (λ z. told_words f k ++ option_list z) here)))
+
+-- a line below is one of the text
+pub below_inside : (w : List ℕ) (n : ℕ) (ls : List (List ℕ)) (o : Option ℕ) → o ≡ first_giving w n (drop n ls) → IfSome o (λ k. k < length ls)
+below_inside w n ls o is = elim (cases_lt (length ls) n) [
+  | inl past ↦ (
+      let none : drop n ls ≡ [] = nil_from_length (drop n ls) (let size : length (drop n ls) ≡ length ls - n = length-drop n ls in omega arith) in
+      subst (λ z. IfSome z (λ k. k < length ls)) (sym (is ∙ ap (first_giving w n) none)) tt)
+  | inr within ↦ given_inside w n (length ls) (drop n ls) o is (drop_few n ls within)
+]

@@ -1,12 +1,16 @@
 -- Texts that grow at their end.
-use Rattle.std.proofs.Common.{◌≡◌, ℕ, ◌+◌, ◌<◌, ◌≤◌, true, false, List, [], ◌∷◌, ◌++◌, length, take, refl, sym, ◌∙◌, ap, append_assoc, arith}
-use Rattle.std.specs.Prelude.{Result, Ok, Err, OnOk, slice_index, codes, ◌==◌}
+use Rattle.std.proofs.Common.{◌≡◌, ℕ, ◌+◌, ◌<◌, ◌≤◌, true, false, List, [], ◌∷◌, ◌++◌, length, take, map, refl, sym, ◌∙◌, ap, append_assoc, arith}
+use Rattle.std.specs.Prelude.{Result, Ok, Err, OnOk, slice_index, codes, flat_map, ◌==◌}
+use Rattle.std.specs.Borrow.{Bor}
 use Rattle.std.proofs.lemmas.Bool.{true≢false, eqb-true}
 use Rattle.std.specs.List.{slice_index_or}
-use Rattle.std.proofs.lemmas.List.{take_more, take_all, append-nil}
+use Rattle.std.proofs.lemmas.List.{take_more, take_all, append-nil, map-append}
+use Rattle.std.proofs.lemmas.Grind.{flat_map-append}
+use Rattle.basics.specs.Words.{contents}
 use Rattle.graph_model.specs.declared.graph.verb.Edge.{Edge}
 use Rattle.graph_model.specs.graph.Graph.{GraphValue}
 use Rattle.explain_text.specs.Refused.{in_sections}
+use Rattle.explain_text.specs.Unread.{blank_word}
 use Rattle.explain_text.specs.Lines.{by_number, numbered, edge_text, edges_text, lines_text}
 
 -- one part, and then the rest
@@ -67,3 +71,20 @@ in_none g ls i (q ∷ qs) e = absurd (let z : length (q ∷ qs) ≡ 0 = eqb-true
 pub in_some : (g : GraphValue) (ls : List (List ℕ)) (i : ℕ) (qs : List ℕ) → (length qs == 0) ≡ false → by_number g i ++ (codes " lies in the section of\n" ++ lines_text g ls qs) ≡ in_sections g ls i qs
 in_some g ls i [] e = absurd (true≢false e)
 in_some g ls i (q ∷ qs) e = refl
+
+-- spaces as wide as one more word
+pub blanks_more : (words : List (Bor (List ℕ))) (k : ℕ) (d : Bor (List ℕ)) (old mid wide new : List ℕ) → k < length words → mid ≡ old ++ flat_map blank_word (contents (take k words)) →
+    wide ≡ mid ++ map (λ b. 32) (slice_index_or words k d).now → new ≡ wide ++ codes " " → new ≡ old ++ flat_map blank_word (contents (take (k + 1) words))
+blanks_more words k d old mid wide new below first second third =
+    let x = slice_index_or words k d in
+    let front = flat_map blank_word (contents (take k words)) in
+    let pushed : flat_map blank_word (contents (take (k + 1) words)) ≡ front ++ blank_word x.now =
+    ap (λ ws. flat_map blank_word (contents ws)) (take_more words k d below) ∙ (ap (flat_map blank_word) (map-append (λ (w : Bor (List ℕ)). w.now) (take k words) (x ∷ []))
+    ∙ (flat_map-append blank_word (contents (take k words)) (x.now ∷ []) ∙ ap (λ z. front ++ z) (append-nil (blank_word x.now)))) in
+    then_put old mid new front (blank_word x.now) first (then_put mid wide new (map (λ b. 32) x.now) (codes " ") second third) ∙ ap (λ z. old ++ z) (sym pushed)
+
+-- a byte for one more byte
+pub byte_more : (bytes : List ℕ) (byte k : ℕ) (old mid new : List ℕ) → k < length bytes → mid ≡ old ++ map (λ b. byte) (take k bytes) → new ≡ mid ++ byte ∷ [] → new ≡ old ++ map (λ b. byte) (take (k + 1) bytes)
+byte_more bytes byte k old mid new below first second =
+    then_put old mid new (map (λ b. byte) (take k bytes)) (byte ∷ []) first second
+    ∙ ap (λ z. old ++ z) (sym (ap (map (λ b. byte)) (take_more bytes k 0 below) ∙ map-append (λ b. byte) (take k bytes) (slice_index_or bytes k 0 ∷ [])))

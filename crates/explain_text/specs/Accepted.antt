@@ -22,6 +22,11 @@ need_text n = codes "accepted need " ++ (decimal n ++ codes "\n")
 abbrev pub and_line : GraphValue → List (List ℕ) → ℕ → List ℕ
 and_line g ls i = codes ": " ++ (line_of g ls i ++ codes "\n")
 
+-- the line at which the need is reached
+abbrev pub need_line_text : GraphValue → List (List ℕ) → ℕ → Option ℕ → List ℕ
+need_line_text g ls n None = []
+need_line_text g ls n (Some k) = codes "need " ++ (decimal n ++ (codes ", reached at " ++ (by_number g k ++ and_line g ls k)))
+
 -- why a line waits: it never comes, or the line that it waits for, and the one with which that begins
 abbrev pub waiting_by : GraphValue → List (List ℕ) → ℕ → ℕ → Option Edge → List ℕ
 waiting_by g ls i start None = by_number g i ++ (codes " never comes" ++ and_line g ls i)

@@ -1,8 +1,12 @@
 -- The names that lines of a text give, and which lines the words of a line name.
-use Rattle.std.specs.Prelude.{◌≡◌, ℕ, ◌+◌, ◌-◌, ◌||◌, Bool, cond, List, [], ◌∷◌, ◌++◌, take, drop, codes, decimal, ◌<◌, IfSome, Option, Some, None}
+use Rattle.std.specs.Prelude.{◌≡◌, ℕ, zero, suc, is_some, ◌+◌, ◌-◌, ◌||◌, Bool, cond, List, [], ◌∷◌, ◌++◌, take, drop, codes, decimal, ◌<◌, IfSome, Option, Some, None}
 use Rattle.std.specs.List.{slice_index_or}
 use Rattle.std.specs.Str.{bytes_eq}
+use Rattle.graph_model.specs.declared.graph.format.Format.{Format}
 use Rattle.graph_reader.specs.Words.{pieces}
+use Rattle.graph_reader.specs.Draft.{Place, NewName, SpaceName, LockName, BarrierName, UserName, PhaseName, AcquireName, EventName, Column}
+use Rattle.graph_reader.specs.FirstFault.{first_piece}
+use Rattle.refused_words.specs.Places.{place_at}
 use Rattle.explain_text.specs.declared.naming.NamedWord.{NamedWord}
 
 -- the words with which a declaration begins
@@ -26,6 +30,40 @@ first_giving w n (l ∷ ls) = cond (bytes_eq (given_name (pieces 32 l)) w) (Some
 pub record IsNamedWord (ls : List (List ℕ)) (number : ℕ) (x : NamedWord) : Type 0 where
   pub above : x.above ≡ first_giving x.word.now 0 (take (number - 1) ls)
   pub below : x.below ≡ first_giving x.word.now number (drop number ls)
+
+-- the name that a word stands for in its place, but for that of a new name
+abbrev pub name_in : Place → List ℕ → Option (List ℕ)
+name_in SpaceName w = Some w
+name_in LockName w = Some w
+name_in BarrierName w = Some w
+name_in UserName w = Some w
+name_in PhaseName w = Some w
+name_in AcquireName w = Some w
+name_in EventName w = Some w
+name_in Column w = Some (first_piece (pieces 46 w))
+name_in _ w = None
+
+-- a new name is told where a line above gives it too
+abbrev pub told_new : List (List ℕ) → ℕ → List ℕ → Option (List ℕ)
+told_new ls number w = cond (is_some (first_giving w 0 (take (number - 1) ls))) (Some w) None
+
+abbrev pub told_in : List (List ℕ) → ℕ → Option Place → List ℕ → Option (List ℕ)
+told_in ls number None w = None
+told_in ls number (Some NewName) w = told_new ls number w
+told_in ls number (Some p) w = name_in p w
+
+-- the name that is told of word k of line `number`
+abbrev pub told_word : Format → List (List ℕ) → ℕ → List (List ℕ) → ℕ → Option (List ℕ)
+told_word format ls number ws k = told_in ls number (place_at format ws k) (slice_index_or ws k [])
+
+abbrev pub option_list : {X : Type 0} → Option X → List X
+option_list None = []
+option_list (Some x) = x ∷ []
+
+-- the names that are told of the first n words
+abbrev pub told_words : (ℕ → Option (List ℕ)) → ℕ → List (List ℕ)
+told_words f zero = []
+told_words f (suc n) = told_words f n ++ option_list (f n)
 
 -- these are lines of the text
 pub record IsInside (n : ℕ) (x : NamedWord) : Type 0 where

@@ -1,8 +1,10 @@
 -- The text of a line that is refused.
-use Rattle.std.specs.Prelude.{ℕ, ◌-◌, List, [], ◌++◌, codes, decimal}
+use Rattle.std.specs.Prelude.{ℕ, ◌-◌, List, [], ◌++◌, map, flat_map, take, codes, decimal, Option, Some, None}
 use Rattle.std.specs.List.{slice_index_or}
 use Rattle.graph_model.specs.declared.graph.why.Why.{Why}
 use Rattle.graph_model.specs.declared.graph.why.Why.TheVariants as why
+use Rattle.graph_model.specs.graph.Graph.{GraphValue}
+use Rattle.explain_text.specs.Lines.{by_number, line_of}
 
 abbrev pub why_word : Why → List ℕ
 why_word why.Header = codes "header"
@@ -23,3 +25,18 @@ why_word why.Rest = codes "rest"
 abbrev pub unread_text : List (List ℕ) → ℕ → Why → List ℕ
 unread_text ls number reason =
     codes "refused line " ++ (decimal number ++ (codes " " ++ (why_word reason ++ (codes "\nline " ++ (decimal number ++ (codes ": " ++ (slice_index_or ls (number - 1) [] ++ codes "\n")))))))
+
+-- spaces as wide as a word with a space behind it
+abbrev pub blank_word : List ℕ → List ℕ
+blank_word w = map (λ b. 32) w ++ codes " "
+
+-- `^` below each byte of a word of the line that was put with its number; or that the whole line is refused
+abbrev pub mark_text : ℕ → List (List ℕ) → Option ℕ → List ℕ
+mark_text number ws None = codes "the whole line is refused\n"
+mark_text number ws (Some k) =
+    codes "     " ++ (map (λ d. 32) (decimal number) ++ (codes "  " ++ (flat_map blank_word (take k ws) ++ (map (λ b. 94) (slice_index_or ws k []) ++ codes "\n"))))
+
+-- the line that has done already what the refused line would do
+abbrev pub ended_text : GraphValue → List (List ℕ) → Option ℕ → List ℕ
+ended_text g ls None = []
+ended_text g ls (Some i) = by_number g i ++ (codes " did so already" ++ (codes ": " ++ (line_of g ls i ++ codes "\n")))

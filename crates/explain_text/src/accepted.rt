@@ -5,7 +5,7 @@ ghost use Rattle.basics.specs.Words.{contents};
 ghost use Rattle.graph_model.specs.graph.Edges.{edges};
 ghost use Rattle.explanations.specs.Reaches.{end_at};
 ghost use Rattle.explain_graph.specs.Explanation.{AreEdges};
-ghost use Rattle.explain_text.specs.Accepted.{AreByEdges, AreWayEdges, need_text, and_line, waiting_by, waiting_text, fault_word, cancelled_by, cancelled_text, each_text, way_text, ways_text};
+ghost use Rattle.explain_text.specs.Accepted.{AreByEdges, AreWayEdges, need_text, need_line_text, and_line, waiting_by, waiting_text, fault_word, cancelled_by, cancelled_text, each_text, way_text, ways_text};
 
 use crate::lines::{put_by_number, put_edges, put_line, put_waits};
 use crate::text::Text;
@@ -25,6 +25,26 @@ pub fn put_need(text: &mut Text, need: u32) -> Result<(), NoMemory>
     text.put(b"accepted need ")?;
     text.put_number(u64::from(need))?;
     text.put(b"\n")
+}
+
+/// Puts the line at which the need is reached, where the graph has lines.
+pub fn put_need_line(
+    text: &mut Text,
+    graph: &Graph,
+    lines: &[&[u8]],
+    need: u32,
+    line: Option<u32>,
+) -> Result<(), NoMemory>
+    ensures { OnOk result (text.new ≡ text.old ++ need_line_text graph.now (contents lines.now) need line) }
+{
+    let Some(line) = line else {
+        return Ok(());
+    };
+    text.put(b"need ")?;
+    text.put_number(u64::from(need))?;
+    text.put(b", reached at ")?;
+    put_by_number(text, graph, line)?;
+    put_line(text, graph, lines, line)
 }
 
 /// Puts why lines wait, a line of the text for each: that it never comes, or the next line on the way

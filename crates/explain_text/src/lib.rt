@@ -12,9 +12,9 @@ pub mod text;
 pub mod unread;
 mod words;
 
-pub use accepted::{put_cancelled, put_need, put_waiting, put_ways};
+pub use accepted::{put_cancelled, put_need, put_need_line, put_waiting, put_ways};
 pub use naming::{NamedWord, named_words, put_named_words};
 pub use refused::put_explanation;
 pub use split::split_lines;
 pub use text::Text;
-pub use unread::put_unread;
+pub use unread::{line_at, put_ended, put_mark, put_unread};

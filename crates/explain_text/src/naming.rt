@@ -1,16 +1,21 @@
 //! What the words of a refused line name.
 
-ghost use Rattle.std.specs.Prelude.{◌≡◌, ◌++◌, ◌<◌, ◌≤◌, length, Contains, IfOk, IfSome, OnOk};
+ghost use Rattle.std.specs.Prelude.{◌≡◌, ◌++◌, ◌<◌, length, map, option_map, Contains, IfOk, IfSome, OnOk};
 ghost use Rattle.basics.specs.Words.{contents};
-ghost use Rattle.explain_text.specs.Named.{IsNamedWord, IsInside, place_text, below_text, named_by, named_text, named_texts};
+ghost use Rattle.graph_reader.specs.Words.{pieces};
+ghost use Rattle.graph_reader.specs.FirstFault.{first_piece};
+ghost use Rattle.refused_words.specs.Places.{place_value};
+ghost use Rattle.explain_text.specs.Named.{IsNamedWord, IsInside, name_in, told_new, told_word, told_words, place_text, below_text, named_by, named_text, named_texts};
 ghost use Rattle.explain_text.specs.declared.naming.NamedWord.{NamedWord};
 
-use crate::named::{first_giving, given_name};
-use crate::split::{cut, split};
+use crate::named::first_giving;
+use crate::split::{back, cut, front};
 use crate::text::Text;
-use graph_model::name::Name;
+use graph_model::format::Format;
+use graph_model::table::Place;
 use index_spaces::NoMemory;
 use index_spaces::room::push;
+use refused_words::{WordPlace, place_at};
 use std::alloc::Global;
 
 /// A word of a line, the topmost line above that gives it as a name, and the topmost line below that
@@ -22,83 +27,104 @@ pub struct NamedWord<'a> {
     pub below: Option<usize>,
 }
 
-/// The words of a line that stand for names, each with the lines that give it; the name that the line
-/// gives itself first, where a line above gives it too. The line is counted from 1.
+/// The words of a line that stand for names, each with the lines that give it, by the places in which
+/// they stand; the name that the line gives itself only where a line above gives it too. The line is
+/// counted from 1.
 pub fn named_words<'a>(
     alloc: Global,
+    format: Format,
     lines: &[&'a [u8]],
     number: u32,
+    words: &[&'a [u8]],
 ) -> Result<Vec<NamedWord<'a>>, NoMemory>
+    ensures words { IfOk result (λ v. map (λ (x : NamedWord). x.word.now) v.items ≡ told_words (told_word format (contents lines.now) number (contents words.now)) (length words.now)) }
     ensures named { IfOk result (λ v. (x : NamedWord) → Contains v.items x → IsNamedWord (contents lines.now) number x) }
     ensures inside { IfOk result (λ v. (x : NamedWord) → Contains v.items x → IsInside (length lines.now) x) }
 {
     let mut found = Vec::new(alloc);
-    let place = number as usize;
-    if place == 0 || place > lines.len() {
-        return Ok(found);
-    }
-    let line = lines[place - 1];
-    let own = look_up(lines, number, given_name(line));
-    if own.above.is_some() {
-        push(&mut found, own)?;
-    }
-    let words = split(alloc, line, b' ')?;
-    for word in used_words(words.as_slice()) {
-        let part = before_dot(word);
-        if is_spelled(part) {
-            push(&mut found, look_up(lines, number, part))?;
+    for k in 0..words.len() {
+        if let Some(named) = named_word(format, lines, number, words, k) {
+            push(&mut found, named)?;
         }
     }
     Ok(found)
 }
 
+/// The word of number `k`, where it stands for a name that is told.
+fn named_word<'a>(
+    format: Format,
+    lines: &[&'a [u8]],
+    number: u32,
+    words: &[&'a [u8]],
+    k: usize,
+) -> Option<NamedWord<'a>>
+    requires { k < length words.now }
+    ensures word { option_map (λ (x : NamedWord). x.word.now) result ≡ told_word format (contents lines.now) number (contents words.now) k }
+    ensures named { IfSome result (IsNamedWord (contents lines.now) number) }
+    ensures inside { IfSome result (IsInside (length lines.now)) }
+{
+    let word = words[k];
+    match place_at(format, words, k) {
+        None => None,
+        Some(WordPlace::NewName) => given_above(lines, number, word),
+        Some(place) => {
+            let name = name_in(place, word)?;
+            Some(look_up(lines, number, name))
+        }
+    }
+}
+
+/// The name that a line gives, where a line above gives it too.
+fn given_above<'a>(lines: &[&'a [u8]], number: u32, word: &'a [u8]) -> Option<NamedWord<'a>>
+    ensures word { option_map (λ (x : NamedWord). x.word.now) result ≡ told_new (contents lines.now) number word.now }
+    ensures named { IfSome result (IsNamedWord (contents lines.now) number) }
+    ensures inside { IfSome result (IsInside (length lines.now)) }
+{
+    let own = look_up(lines, number, word);
+    if own.above.is_some() { Some(own) } else { None }
+}
+
+/// The name that a word stands for in a place that is not that of a new name.
+fn name_in(place: WordPlace, word: &[u8]) -> Option<&[u8]>
+    ensures { option_map (λ x. x.now) result ≡ name_in (place_value place) word.now }
+{
+    match place {
+        WordPlace::Event => Some(word),
+        WordPlace::Of(Place::Column(..)) => Some(before_dot(word)),
+        WordPlace::Of(
+            Place::User
+            | Place::Phase
+            | Place::Acquire
+            | Place::Lock
+            | Place::Barrier
+            | Place::Space,
+        ) => Some(word),
+        _ => None,
+    }
+}
+
 /// Looks a word up among the names that lines give.
 fn look_up<'a>(lines: &[&'a [u8]], number: u32, word: &'a [u8]) -> NamedWord<'a>
-    requires some { 0 < number }
-    requires within { number ≤ length lines.now }
+    ensures word { result.word.now ≡ word.now }
     ensures named { IsNamedWord (contents lines.now) number result }
     ensures inside { IsInside (length lines.now) result }
 {
     let place = number as usize;
-    let _ = lines.len();
     NamedWord {
         word,
-        above: first_giving(word, 0, &lines[..place - 1]),
-        below: first_giving(word, place, &lines[place..]),
+        above: first_giving(word, 0, front(lines, place.saturating_sub(1))),
+        below: first_giving(word, place, back(lines, place)),
     }
-}
-
-/// The words behind those that say what a line is.
-fn used_words<'a, 'b>(words: &'b [&'a [u8]]) -> &'b [&'a [u8]] {
-    match words {
-        [_, sign, verb, rest @ ..] if *sign == b"=".as_slice() => match rest {
-            [_, others @ ..] if has_second(verb) => others,
-            _ => rest,
-        },
-        [first, _, _, ..] if *first == b"inst".as_slice() => &words[2..3],
-        _ => &[],
-    }
-}
-
-/// Whether a second word follows a verb that says what it does.
-fn has_second(verb: &[u8]) -> bool {
-    verb == b"task".as_slice() || verb == b"reduce".as_slice()
 }
 
 /// The front of a word that names a column, else the word.
-fn before_dot(word: &[u8]) -> &[u8] {
+fn before_dot(word: &[u8]) -> &[u8]
+    ensures { result.now ≡ first_piece (pieces 46 word.now) }
+{
     match cut(word, b'.') {
         Some((front, _)) => front,
         None => word,
     }
-}
-
-/// Whether a word may be a name, and is none of the words that stand between names.
-fn is_spelled(word: &[u8]) -> bool {
-    Name::new(word).is_some()
-        && word != b"on".as_slice()
-        && word != b"times".as_slice()
-        && word != b"shared".as_slice()
 }
 
 /// Puts which lines give the names that words stand for.

@@ -1,6 +1,6 @@
 //! The lines of a text.
 
-ghost use Rattle.std.specs.Prelude.{◌≡◌, ◌==◌, false, MatchOption, IfOk};
+ghost use Rattle.std.specs.Prelude.{◌≡◌, ◌==◌, false, take, drop, MatchOption, IfOk};
 ghost use Rattle.std.specs.List.{list_any};
 ghost use Rattle.basics.specs.Words.{contents};
 ghost use Rattle.graph_reader.specs.Cuts.{IsCut};
@@ -41,4 +41,18 @@ pub(crate) fn cut(bytes: &[u8], stop: u8) -> Option<(&[u8], &[u8])>
         }
     }
     None
+}
+
+/// The first `n` parts, or all where there are fewer.
+pub(crate) fn front<'a, 'b>(parts: &'b [&'a [u8]], n: usize) -> &'b [&'a [u8]]
+    ensures { contents result.now ≡ take n (contents parts.now) }
+{
+    if n < parts.len() { &parts[..n] } else { parts }
+}
+
+/// The parts behind the first `n`.
+pub(crate) fn back<'a, 'b>(parts: &'b [&'a [u8]], n: usize) -> &'b [&'a [u8]]
+    ensures { contents result.now ≡ drop n (contents parts.now) }
+{
+    if n < parts.len() { &parts[n..] } else { &[] }
 }

@@ -1,6 +1,6 @@
 //! Text that grows at its end.
 
-ghost use Rattle.std.specs.Prelude.{◌≡◌, ◌++◌, [], decimal, OnOk};
+ghost use Rattle.std.specs.Prelude.{◌≡◌, ◌++◌, [], decimal, map, OnOk};
 
 use index_spaces::NoMemory;
 use itoa::Buffer;
@@ -54,5 +54,23 @@ impl Text {
     {
         let mut buffer = Buffer::new();
         self.put(buffer.format(number).as_bytes())
+    }
+
+    /// Puts a byte at the end, as often as there are bytes.
+    pub fn put_for_each(&mut self, bytes: &[u8], byte: u8) -> Result<(), NoMemory>
+        ensures { OnOk result (self.new ≡ self.old ++ map (λ b. byte) bytes.now) }
+    {
+        for _each in bytes {
+            self.put(&[byte])?;
+        }
+        Ok(())
+    }
+
+    /// Puts spaces at the end, as many as a number has decimal digits.
+    pub fn put_number_blank(&mut self, number: u64) -> Result<(), NoMemory>
+        ensures { OnOk result (self.new ≡ self.old ++ map (λ d. 32) (decimal number)) }
+    {
+        let mut buffer = Buffer::new();
+        self.put_for_each(buffer.format(number).as_bytes(), b' ')
     }
 }

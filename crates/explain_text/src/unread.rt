@@ -1,12 +1,16 @@
 //! A line that is refused, as text.
 
-ghost use Rattle.std.specs.Prelude.{◌≡◌, ◌++◌, ◌-◌, [], OnOk};
+ghost use Rattle.std.specs.Prelude.{◌≡◌, ◌++◌, ◌-◌, [], flat_map, OnOk};
 ghost use Rattle.std.specs.List.{slice_index_or};
 ghost use Rattle.basics.specs.Words.{contents};
-ghost use Rattle.explain_text.specs.Unread.{why_word, unread_text};
+ghost use Rattle.explain_text.specs.Unread.{why_word, unread_text, blank_word, mark_text, ended_text};
 
+use crate::lines::{put_by_number, put_line};
+use crate::split::front;
 use crate::text::Text;
+use graph_model::graph::Graph;
 use graph_model::why::Why;
+use graph_reader::words::word;
 use index_spaces::NoMemory;
 
 /// Puts the line that `realm check` writes of a line that is refused, and then the line itself.
@@ -24,8 +28,57 @@ pub fn put_unread(text: &mut Text, lines: &[&[u8]], number: u32, why: Why) -> Re
     text.put(b"\n")
 }
 
+/// Puts, below a line that was put with its number, `^` below each byte of one of its words, by the
+/// number of the word from 0; or that the whole line is refused.
+pub fn put_mark(
+    text: &mut Text,
+    number: u32,
+    words: &[&[u8]],
+    mark: Option<usize>,
+) -> Result<(), NoMemory>
+    ensures { OnOk result (text.new ≡ text.old ++ mark_text number (contents words.now) mark) }
+{
+    let Some(k) = mark else {
+        return text.put(b"the whole line is refused\n");
+    };
+    text.put(b"     ")?;
+    text.put_number_blank(u64::from(number))?;
+    text.put(b"  ")?;
+    put_blanks(text, front(words, k))?;
+    text.put_for_each(word(words, k), b'^')?;
+    text.put(b"\n")
+}
+
+/// Puts spaces as wide as words with a space behind each.
+fn put_blanks(text: &mut Text, words: &[&[u8]]) -> Result<(), NoMemory>
+    ensures { OnOk result (text.new ≡ text.old ++ flat_map blank_word (contents words.now)) }
+{
+    for word in words {
+        text.put_for_each(word, b' ')?;
+        text.put(b" ")?;
+    }
+    Ok(())
+}
+
+/// Puts the line that has ended or released already what a word names, where there is one.
+pub fn put_ended(
+    text: &mut Text,
+    graph: &Graph,
+    lines: &[&[u8]],
+    ended: Option<u32>,
+) -> Result<(), NoMemory>
+    ensures { OnOk result (text.new ≡ text.old ++ ended_text graph.now (contents lines.now) ended) }
+{
+    let Some(line) = ended else {
+        return Ok(());
+    };
+    put_by_number(text, graph, line)?;
+    text.put(b" did so already")?;
+    put_line(text, graph, lines, line)
+}
+
 /// A line by its number, counted from 1.
-fn line_at<'a>(lines: &[&'a [u8]], number: u32) -> &'a [u8]
+pub fn line_at<'a>(lines: &[&'a [u8]], number: u32) -> &'a [u8]
     ensures { result.now ≡ slice_index_or (contents lines.now) (number - 1) [] }
 {
     match lines.get(number.saturating_sub(1) as usize) {

@@ -7,6 +7,7 @@ use Rattle.std.proofs.lemmas.List.{append-nil, length-append}
 use Rattle.graph_model.specs.graph.Graph.{GraphValue}
 use Rattle.graph_model.specs.meaning.Rules.{Accepted}
 use Rattle.graph_reader.specs.Laws.{OneReading}
+use Rattle.graph_reader.proofs.ReadSoFar.{first_fault}
 use Rattle.graph_reader.specs.Text.{GraphText}
 use Rattle.realm_io.specs.Counts.{Rose}
 use Rattle.realm_io.specs.Told.{Lost}
@@ -69,7 +70,7 @@ more_left (Some ys) (Some zs) n l xs h =
 is_accepted : (ends : Bool) (bytes out : List ℕ) → OneReading bytes → (g : GraphValue) → GraphText bytes g → Accepted g → (v : Verdict) → IsAnswer ends bytes v out → v ≡ verdict.Accepted
 is_accepted ends bytes out one g t acc verdict.Accepted a = refl
 is_accepted ends bytes out one g t acc verdict.Unfit a = absurd (a.broken (subst Accepted (one.one_graph g a.graph t a.is_text) acc))
-is_accepted ends bytes out one g t acc verdict.Unread a = absurd (one.not_both (g, t) (a.number, a.why, a.refused))
+is_accepted ends bytes out one g t acc verdict.Unread a = absurd (one.not_both (g, t) (a.number, a.why, first_fault bytes a.number a.why a.above a.refused))
 
 pub accepted_is_answered : (ends : Bool) (bytes read : List ℕ) (old new : SinkState) (result : Status) → read ≡ bytes → OneReading bytes → (g : GraphValue) → GraphText bytes g → Accepted g
     → (Rose old.faults new.faults → ⊥) → IsAnswered ends read old new result → (result ≡ status.Accepted) ⊎ (result ≡ status.NoMemory)

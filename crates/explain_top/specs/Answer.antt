@@ -1,7 +1,10 @@
 -- What is answered to the bytes of an input.
-use Rattle.std.specs.Prelude.{◌≡◌, ◌≢◌, ℕ, ◌<◌, ◌↔◌, Bool, true, false, List, ◌++◌, length, map, Contains, Option, Some, None, IsSome, IfSome}
+use Rattle.std.specs.Prelude.{◌≡◌, ◌≢◌, ℕ, ◌-◌, ◌<◌, ◌↔◌, Bool, true, false, cond, List, [], ◌++◌, length, map, Contains, Option, Some, None, IsSome, IfSome, MatchOption}
 use Rattle.basics.specs.Lists.{numbers_below}
+use Rattle.std.specs.List.{slice_index_or}
+use Rattle.graph_model.specs.declared.graph.format.Format.{Format}
 use Rattle.graph_model.specs.declared.graph.why.Why.{Why}
+use Rattle.graph_model.specs.declared.graph.why.Why.TheVariants as reasons
 use Rattle.graph_model.specs.declared.meaning.outcome.End.{End}
 use Rattle.graph_model.specs.declared.meaning.outcome.End.TheVariants.{Cancelled}
 use Rattle.graph_model.specs.graph.Graph.{GraphValue}
@@ -11,22 +14,25 @@ use Rattle.graph_model.specs.meaning.Evaluation.{eval_end}
 use Rattle.graph_model.specs.meaning.Need.{IsNeed}
 use Rattle.graph_model.specs.meaning.Path.{Reached}
 use Rattle.graph_model.specs.meaning.Rules.{Accepted}
-use Rattle.graph_reader.specs.FirstFault.{FirstFault}
+use Rattle.graph_reader.specs.Reading.{IsUnreadBy}
 use Rattle.graph_reader.specs.Text.{GraphText}
 use Rattle.graph_reader.specs.Words.{pieces}
+use Rattle.race_check.specs.NeedLine.{IsNeedLine}
 use Rattle.race_check.specs.Refusal.{IsRefusal}
 use Rattle.race_check.specs.declared.checked.CheckRefusal.{CheckRefusal}
 use Rattle.explanations.specs.Reaches.{reach_at, IsReached, AreLinked, IsNever, IsFault, fault_edges}
 use Rattle.explanations.specs.declared.reaches.Reach.{Reach}
 use Rattle.explain_graph.specs.Explanation.{IsExplanation}
-use Rattle.explain_graph.specs.Ways.{IsWay}
+use Rattle.explain_graph.specs.Ways.{AreLongest}
 use Rattle.explain_graph.specs.declared.explanation.Explanation.{Explanation}
 use Rattle.explain_graph.specs.declared.ways.Way.{Way}
-use Rattle.explain_text.specs.Accepted.{need_text, each_text, waiting_text, cancelled_text, ways_text}
+use Rattle.explain_text.specs.Accepted.{need_text, need_line_text, each_text, waiting_text, cancelled_text, ways_text}
 use Rattle.explain_text.specs.Refused.{explanation_text}
-use Rattle.explain_text.specs.Named.{IsNamedWord, named_texts}
+use Rattle.explain_text.specs.Named.{IsNamedWord, told_word, told_words, named_texts}
 use Rattle.explain_text.specs.declared.naming.NamedWord.{NamedWord}
-use Rattle.explain_text.specs.Unread.{unread_text}
+use Rattle.explain_text.specs.Unread.{unread_text, mark_text, ended_text}
+use Rattle.refused_words.specs.Refused.{IsRefusedWord}
+use Rattle.refused_words.specs.Ends.{IsEndedBy}
 use Rattle.explain_top.specs.Limits.{limit_text}
 use Rattle.explain_top.specs.declared.limits.Passed.{Passed}
 use Rattle.explain_top.specs.declared.answer.Verdict.{Verdict}
@@ -47,16 +53,12 @@ pub record AreCancelled (g : GraphValue) (ends : List End) (reaches : List (Opti
   pub linked : AreLinked (fault_edges g ends) reaches
   pub exact : (i : ℕ) → i < length g.lines → (eval_end g i ≡ Cancelled) ↔ ((m : Reach) × (reach_at reaches i ≡ Some m) × (m.by ≢ None))
 
--- whole ways to lines that are reached
-abbrev pub AreWays : List (Option Reach) → List Way → Type 0
-AreWays reaches ways = (w : Way) → Contains ways w → IsWay reaches w
-
 -- a text with what is told of the lines that wait, of those that are cancelled, and of these where it is asked for
 pub record IsWaitingText (g : GraphValue) (ls : List (List ℕ)) (old new : List ℕ) : Type 0 where
   pub reaches : List (Option Reach)
   pub ways : List Way
   pub are_waiting : AreWaiting g reaches
-  pub are_ways : AreWays reaches ways
+  pub are_ways : AreLongest reaches ways
   pub text : new ≡ old ++ (each_text (waiting_text g ls) 0 reaches ++ ways_text g ls ways)
 
 pub record IsCancelledText (g : GraphValue) (ls : List (List ℕ)) (old new : List ℕ) : Type 0 where
@@ -64,28 +66,57 @@ pub record IsCancelledText (g : GraphValue) (ls : List (List ℕ)) (old new : Li
   pub reaches : List (Option Reach)
   pub ways : List Way
   pub are_cancelled : AreCancelled g ends reaches
-  pub are_ways : AreWays reaches ways
+  pub are_ways : AreLongest reaches ways
   pub text : new ≡ old ++ (each_text (cancelled_text g ls ends) 0 reaches ++ ways_text g ls ways)
 
 abbrev pub IsEndsText : Bool → GraphValue → List (List ℕ) → List ℕ → List ℕ → Type 0
 IsEndsText false g ls old new = new ≡ old
 IsEndsText true g ls old new = IsCancelledText g ls old new
 
--- the text on an accepted graph
+-- the text on an accepted graph: its need with the line at which that is reached, where there are lines, and what is told of these
 abbrev pub IsAcceptedText : Bool → CheckedValue → List (List ℕ) → List ℕ → Type 0
-IsAcceptedText ends c ls out = (mid : List ℕ) × IsWaitingText c.graph ls (need_text c.need) mid × IsEndsText ends c.graph ls mid out
+IsAcceptedText ends c ls out =
+    (line : Option ℕ) × MatchOption line (length c.graph.lines ≡ 0) (IsNeedLine c.graph c.need)
+    × ((mid : List ℕ) × IsWaitingText c.graph ls (need_text c.need ++ need_line_text c.graph ls c.need line) mid × IsEndsText ends c.graph ls mid out)
 
 -- the text on a graph that is refused so
 abbrev pub IsUnfitText : GraphValue → CheckRefusal → List (List ℕ) → List ℕ → Type 0
 IsUnfitText g why ls out = (x : Explanation) × IsExplanation g why x × (out ≡ explanation_text g ls x)
 
--- the text on a line that is refused, with a quantity that is above its bound where one is told, and lines that give the names which words of it stand for
-pub record IsUnreadText (ls : List (List ℕ)) (number : ℕ) (why : Why) (out : List ℕ) : Type 0 where
-  pub words : List NamedWord
-  pub named : (x : NamedWord) → Contains words x → IsNamedWord ls number x
+-- whether a reason speaks of names
+abbrev pub tells_names : Why → Bool
+tells_names reasons.Twice = true
+tells_names reasons.Unknown = true
+tells_names reasons.Kind = true
+tells_names reasons.Outside = true
+tells_names reasons.Arrivals = true
+tells_names _ = false
+
+-- the names that words of a line stand for, where the reason speaks of names, each with the lines that give it
+pub record AreNamed (format : Format) (ls : List (List ℕ)) (number : ℕ) (ws : List (List ℕ)) (reason : Why) (named : List NamedWord) : Type 0 where
+  pub words : map (λ (x : NamedWord). x.word.now) named ≡ cond (tells_names reason) (told_words (told_word format ls number ws) (length ws)) []
+  pub each : (x : NamedWord) → Contains named x → IsNamedWord ls number x
+
+-- the words of line `number`
+abbrev pub words_of : List (List ℕ) → ℕ → List (List ℕ)
+words_of ls number = pieces 32 (slice_index_or ls (number - 1) [])
+
+-- a text with what is told of a line that is refused behind a graph: the word that is, or that it is as a whole; a quantity that is above its bound; the line that has done already what it would do; and the names
+pub record IsMarkedText (ls : List (List ℕ)) (number : ℕ) (reason : Why) (g : GraphValue) (old new : List ℕ) : Type 0 where
+  pub mark : Option ℕ
+  pub is_mark : IsRefusedWord g reason (words_of ls number) mark
   pub limit : Option Passed
   pub passes : IfSome limit (λ p. p.bound < p.value)
-  pub text : out ≡ unread_text ls number why ++ (limit_text limit ++ named_texts ls words)
+  pub ended : Option ℕ
+  pub is_ended : MatchOption mark (ended ≡ None) (λ k. IsEndedBy g (words_of ls number) k ended)
+  pub named : List NamedWord
+  pub are_named : AreNamed g.format ls number (words_of ls number) reason named
+  pub text : new ≡ old ++ (mark_text number (words_of ls number) mark ++ (limit_text limit ++ (ended_text g ls ended ++ named_texts ls named)))
+
+-- the text on a refused line, behind the graph of the lines above it where it is between the first line and the closing one
+abbrev pub IsUnreadText : List (List ℕ) → ℕ → Why → Option GraphValue → List ℕ → Type 0
+IsUnreadText ls number reason None out = out ≡ unread_text ls number reason ++ mark_text number [] None
+IsUnreadText ls number reason (Some g) out = IsMarkedText ls number reason g (unread_text ls number reason) out
 
 -- the bytes are the text of an accepted graph with this need, and the answer is its text
 pub record IsAcceptedAnswer (ends : Bool) (bytes out : List ℕ) : Type 0 where
@@ -104,12 +135,13 @@ pub record IsUnfitAnswer (bytes out : List ℕ) : Type 0 where
   pub broken : Accepted graph → ⊥
   pub text : IsUnfitText graph why (pieces 10 bytes) out
 
--- the bytes are the text of no graph, and the answer tells the first refused line with its first reason
+-- the bytes are the text of no graph, and the answer tells the first refused line with its first reason, and behind which graph that is
 pub record IsUnreadAnswer (bytes out : List ℕ) : Type 0 where
   pub number : ℕ
   pub why : Why
-  pub refused : FirstFault bytes number why
-  pub text : IsUnreadText (pieces 10 bytes) number why out
+  pub above : Option GraphValue
+  pub refused : IsUnreadBy bytes number why above
+  pub text : IsUnreadText (pieces 10 bytes) number why above out
 
 abbrev pub IsAnswer : Bool → List ℕ → Verdict → List ℕ → Type 0
 IsAnswer ends bytes verdict.Accepted out = IsAcceptedAnswer ends bytes out

@@ -7,16 +7,17 @@ ghost use Rattle.graph_model.specs.meaning.Evaluation.{eval_end};
 ghost use Rattle.explain_top.specs.Answer.{IsWaitingText, IsEndsText, IsCancelledText, IsAcceptedText};
 
 use explain_graph::longest_ways;
-use explain_text::{Text, put_cancelled, put_need, put_waiting, put_ways};
+use explain_text::{Text, put_cancelled, put_need, put_need_line, put_waiting, put_ways};
 use explanations::reaches::{cancelled_lines, waiting_lines};
 use graph_model::checked::Checked;
 use graph_model::graph::Graph;
 use graph_model::lists::EndList;
 use index_spaces::NoMemory;
 use plain_eval::evaluation::eval;
+use race_check::need_line;
 use std::alloc::Global;
 
-/// The need, why lines wait, and where it is asked for why lines are cancelled.
+/// The need and the line at which it is reached, why lines wait, and where it is asked for why lines are cancelled.
 pub(crate) fn put_accepted(
     alloc: Global,
     checked: &Checked,
@@ -26,7 +27,10 @@ pub(crate) fn put_accepted(
     ensures { IfOk result (IsAcceptedText ends checked.now (contents lines.now)) }
 {
     let mut text = Text::new(alloc);
-    put_need(&mut text, checked.need())?;
+    let need = checked.need();
+    let line = need_line(alloc, checked)?;
+    put_need(&mut text, need)?;
+    put_need_line(&mut text, checked.graph(), lines, need, line)?;
     put_all_waiting(alloc, &mut text, checked.graph(), lines)?;
     put_ends(alloc, &mut text, checked, lines, ends)?;
     Ok(text)

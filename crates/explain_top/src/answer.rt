@@ -1,24 +1,30 @@
 //! The answer to the bytes of an input.
 
-ghost use Rattle.std.specs.Prelude.{◌≢◌, ◌<◌, length, Contains, IfOk, OnOk, IfSome};
+ghost use Rattle.std.specs.Prelude.{◌≡◌, ◌≢◌, ◌<◌, length, Contains, None, IfOk, OnOk, IfSome, MatchOption};
 ghost use Rattle.basics.specs.Words.{contents};
-ghost use Rattle.explain_text.specs.Named.{IsNamedWord, IsInside};
+ghost use Rattle.refused_words.specs.Ends.{IsEndedBy};
+ghost use Rattle.explain_text.specs.Named.{IsInside};
 ghost use Rattle.explain_text.specs.declared.naming.NamedWord.{NamedWord};
-ghost use Rattle.explain_top.specs.Answer.{IsAnswer, IsUnfitText, IsUnreadText};
+ghost use Rattle.explain_top.specs.Answer.{IsAnswer, IsUnfitText, IsUnreadText, IsMarkedText, AreNamed};
 ghost use Rattle.explain_top.specs.declared.limits.Passed.{Passed};
 ghost use Rattle.race_check.specs.Refusal.{IsRefusal, NamesLines};
 
 use crate::accepted::put_accepted;
 use crate::limits::{Passed, passed_limit, put_limit};
 use explain_graph::explain;
+use explain_text::split::split;
 use explain_text::{
-    NamedWord, Text, named_words, put_explanation, put_named_words, put_unread, split_lines,
+    NamedWord, Text, line_at, named_words, put_ended, put_explanation, put_mark, put_named_words,
+    put_unread, split_lines,
 };
+use graph_model::format::Format;
+use graph_model::graph::Graph;
 use graph_model::why::Why;
-use graph_reader::{ReadRefusal, read_graph};
+use graph_reader::{Reading, Unread, read_text};
 use index_spaces::NoMemory;
 use race_check::check;
 use race_check::checked::{CheckRefusal, Unfit};
+use refused_words::{ended_by, refused_word};
 use std::alloc::Global;
 
 /// What becomes of an input.
@@ -45,8 +51,8 @@ pub fn explain_bytes(alloc: Global, bytes: &[u8], ends: bool) -> Result<Answer, 
     ensures { IfOk result (λ a. IsAnswer ends bytes.now a.verdict a.text) }
 {
     let lines = split_lines(alloc, bytes)?;
-    match read_graph(alloc, bytes) {
-        Ok(graph) => match check(alloc, graph) {
+    match read_text(alloc, bytes)? {
+        Reading::Graph(graph) => match check(alloc, graph) {
             Ok(checked) => {
                 let text = put_accepted(alloc, &checked, lines.as_slice(), ends)?;
                 Ok(Answer {
@@ -62,14 +68,13 @@ pub fn explain_bytes(alloc: Global, bytes: &[u8], ends: bool) -> Result<Answer, 
                 })
             }
         },
-        Err(ReadRefusal::Line { number, why }) => {
-            let text = put_refused(alloc, lines.as_slice(), number, why)?;
+        Reading::Refused(unread) => {
+            let text = put_refused(alloc, lines.as_slice(), &unread)?;
             Ok(Answer {
                 verdict: Verdict::Unread,
                 text,
             })
         }
-        Err(ReadRefusal::NoMemory) => Err(NoMemory),
     }
 }
 
@@ -90,31 +95,65 @@ fn put_unfit(alloc: Global, unfit: &Unfit, lines: &[&[u8]]) -> Result<Text, NoMe
 }
 
 /// The text on bytes that are no graph's.
-fn put_refused(alloc: Global, lines: &[&[u8]], number: u32, why: Why) -> Result<Text, NoMemory>
-    ensures { IfOk result (IsUnreadText (contents lines.now) number why) }
+fn put_refused(alloc: Global, lines: &[&[u8]], unread: &Unread) -> Result<Text, NoMemory>
+    ensures { IfOk result (IsUnreadText (contents lines.now) unread.now.number unread.now.why unread.now.above) }
 {
-    let words = words_for(alloc, lines, number, why)?;
-    let passed = limit_for(alloc, lines, number, why)?;
     let mut text = Text::new(alloc);
-    put_unread(&mut text, lines, number, why)?;
-    put_limit(&mut text, passed)?;
-    put_named_words(&mut text, lines, words.as_slice())?;
+    put_unread(&mut text, lines, unread.number, unread.why)?;
+    match &unread.above {
+        Some(graph) => put_behind(alloc, &mut text, graph, lines, unread.number, unread.why)?,
+        None => put_mark(&mut text, unread.number, &[], None)?,
+    }
     Ok(text)
 }
 
-/// The words of the line that are told with the lines that give them, for a reason that names speak of.
-fn words_for<'a>(
+/// Puts, of a line that is refused behind a graph, which word is, and what that word clashes with.
+fn put_behind(
     alloc: Global,
-    lines: &[&'a [u8]],
+    text: &mut Text,
+    graph: &Graph,
+    lines: &[&[u8]],
     number: u32,
     why: Why,
+) -> Result<(), NoMemory>
+    ensures { OnOk result (IsMarkedText (contents lines.now) number why graph.now text.old text.new) }
+{
+    let words = split(alloc, line_at(lines, number), b' ')?;
+    let mark = refused_word(alloc, graph, words.as_slice(), why)?;
+    let ended = ended_for(graph, words.as_slice(), mark);
+    let named = named_for(alloc, graph.format(), lines, number, words.as_slice(), why)?;
+    let passed = limit_for(alloc, graph, words.as_slice(), why)?;
+    put_mark(text, number, words.as_slice(), mark)?;
+    put_limit(text, passed)?;
+    put_ended(text, graph, lines, ended)?;
+    put_named_words(text, lines, named.as_slice())
+}
+
+/// The line that has done already what the refused word would do.
+fn ended_for(graph: &Graph, words: &[&[u8]], mark: Option<usize>) -> Option<u32>
+    ensures { MatchOption mark (result ≡ None) (λ k. IsEndedBy graph.now (contents words.now) k result) }
+{
+    match mark {
+        Some(k) => ended_by(graph, words, k),
+        None => None,
+    }
+}
+
+/// The words of the line that are told with the lines that give them, for a reason that names speak of.
+fn named_for<'a>(
+    alloc: Global,
+    format: Format,
+    lines: &[&'a [u8]],
+    number: u32,
+    words: &[&'a [u8]],
+    why: Why,
 ) -> Result<Vec<NamedWord<'a>>, NoMemory>
-    ensures named { IfOk result (λ v. (x : NamedWord) → Contains v.items x → IsNamedWord (contents lines.now) number x) }
+    ensures named { IfOk result (λ v. AreNamed format (contents lines.now) number (contents words.now) why v.items) }
     ensures inside { IfOk result (λ v. (x : NamedWord) → Contains v.items x → IsInside (length lines.now) x) }
 {
     match why {
         Why::Twice | Why::Unknown | Why::Kind | Why::Outside | Why::Arrivals => {
-            named_words(alloc, lines, number)
+            named_words(alloc, format, lines, number, words)
         }
         _ => Ok(Vec::new(alloc)),
     }
@@ -123,14 +162,14 @@ fn words_for<'a>(
 /// The quantity that the line passes, where that is the reason.
 fn limit_for(
     alloc: Global,
-    lines: &[&[u8]],
-    number: u32,
+    graph: &Graph,
+    words: &[&[u8]],
     why: Why,
 ) -> Result<Option<Passed>, NoMemory>
     ensures { IfOk result (λ o. IfSome o (λ (p : Passed). p.bound < p.value)) }
 {
     match why {
-        Why::Limit => passed_limit(alloc, lines, number),
+        Why::Limit => passed_limit(alloc, graph, words),
         _ => Ok(None),
     }
 }

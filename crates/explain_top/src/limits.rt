@@ -14,7 +14,6 @@ use graph_model::limits::{
     MAX_BARRIERS, MAX_CELLS, MAX_COLUMNS, MAX_EDGES, MAX_EVENTS, MAX_INSTS, MAX_LINES, MAX_LOCKS,
 };
 use graph_model::name::Name;
-use graph_reader::read_graph;
 use index_spaces::NoMemory;
 use index_spaces::limits::{LAST_POINT, MAX_INTERVALS, MAX_POINTS};
 use std::alloc::Global;
@@ -27,43 +26,17 @@ pub struct Passed {
     pub bound: u64,
 }
 
-/// The quantity that a line brings above its bound, after the lines above it. `None` where the lines
-/// above are those of no graph, or none is found. The line is counted from 1.
+/// The quantity that a line with these words brings above its bound, behind a graph. `None` where none
+/// is found.
 pub(crate) fn passed_limit(
     alloc: Global,
-    lines: &[&[u8]],
-    number: u32,
+    graph: &Graph,
+    words: &[&[u8]],
 ) -> Result<Option<Passed>, NoMemory>
     ensures { IfOk result (λ o. IfSome o (λ (p : Passed). p.bound < p.value)) }
 {
-    let place = number as usize;
-    if place == 0 || place > lines.len() {
-        return Ok(None);
-    }
-    let text = closed(alloc, &lines[..place - 1])?;
-    let Ok(graph) = read_graph(alloc, text.as_slice()) else {
-        return Ok(None);
-    };
-    let words = split(alloc, lines[place - 1], b' ')?;
-    Ok(passed_by(alloc, &graph, words.as_slice())?.filter(|passed| passed.value > passed.bound))
-}
-
-/// Lines with a line that closes them.
-fn closed(alloc: Global, lines: &[&[u8]]) -> Result<Vec<u8>, NoMemory> {
-    let mut text = Vec::new(alloc);
-    for line in lines {
-        extend(&mut text, line)?;
-        extend(&mut text, b"\n")?;
-    }
-    extend(&mut text, b"end\n")?;
-    Ok(text)
-}
-
-fn extend(text: &mut Vec<u8>, bytes: &[u8]) -> Result<(), NoMemory> {
-    match text.extend_from_slice(bytes) {
-        Ok(()) => Ok(()),
-        Err(_) => Err(NoMemory),
-    }
+    let passed = passed_by(alloc, graph, words)?;
+    Ok(passed.filter(|passed| passed.value > passed.bound))
 }
 
 /// The quantity that counts for a line with these words.

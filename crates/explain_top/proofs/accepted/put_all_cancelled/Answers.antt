@@ -2,7 +2,7 @@ use Rattle.std.proofs.Common.{ap, subst}
 use Rattle.basics.specs.Words.{contents}
 use Rattle.explain_text.specs.Accepted.{each_text, cancelled_text, ways_text}
 use Rattle.explain_text.proofs.TextFacts.{then_put, put_as}
-use Rattle.explain_top.specs.Answer.{AreWays}
+use Rattle.explain_graph.specs.Ways.{AreLongest}
 use Rattle.explanations.specs.Reaches.{fault_edges}
 use Rattle.explain_top.proofs.EdgeFacts.{by_edges, ways_in, fault_in}
 use Rattle.explain_top.proofs.accepted.put_all_cancelled.Goals as goal
@@ -28,7 +28,7 @@ returns c =
       reaches = v;
       ways = c.in_ok-ways.ways.items;
       are_cancelled = record { ends_are = c.requires; size = e.size; reached = e.reached; linked = e.linked; exact = e.exact };
-      are_ways = subst (λ rs. AreWays rs c.in_ok-ways.ways.items) c.as_slice.ensures.value c.in_ok-ways.ensures;
+      are_ways = subst (λ rs. AreLongest rs c.in_ok-ways.ways.items) c.as_slice.ensures.value c.in_ok-ways.ensures;
       text = then_put c.args.text.now c.put_cancelled.new.text c.put_ways.new.text (each_text (cancelled_text g ls c.args.ends.now) 0 v) (ways_text g ls c.in_ok-ways.ways.items)
           (put_as _ _ _ _ (ap (each_text (cancelled_text g ls c.args.ends.now) 0) c.as_slice-2.ensures.value) c.in_ok-put_cancelled.ensures)
           (put_as _ _ _ _ (ap (ways_text g ls) c.as_slice-3.ensures.value) c.in_ok-put_ways.ensures);

@@ -1,3 +1,8 @@
+use Rattle.std.proofs.Common.{ap, subst}
+use Rattle.basics.specs.Words.{contents}
+use Rattle.explain_graph.specs.Ways.{AreLongest}
+use Rattle.explain_text.specs.Accepted.{each_text, waiting_text, ways_text}
+use Rattle.explain_text.proofs.TextFacts.{then_put, put_as}
 use Rattle.graph_model.specs.graph.Edges.{edges}
 use Rattle.explain_top.proofs.EdgeFacts.{by_edges, ways_in}
 use Rattle.explain_top.proofs.accepted.put_all_waiting.Goals as goal
@@ -8,3 +13,19 @@ put_waiting-requires-clause-edges c = by_edges c.args.graph.now (edges c.args.gr
 pub put_ways-requires : goal.put_ways-requires
 put_ways-requires c =
     ways_in c.args.graph.now (edges c.args.graph.now) (λ e m. m) c.in_ok-reaches.reaches.items c.as_slice.result.now c.as_slice.ensures.value c.in_ok-reaches.ensures.linked c.in_ok-ways.ways.items c.as_slice-3.result.now c.as_slice-3.ensures.value c.in_ok-ways.ensures
+
+pub returns : goal.returns
+returns c =
+    let g = c.args.graph.now in
+    let ls = contents c.args.lines.now in
+    let v = c.in_ok-reaches.reaches.items in
+    let e = c.in_ok-reaches.ensures in
+    record {
+      reaches = v;
+      ways = c.in_ok-ways.ways.items;
+      are_waiting = record { size = e.size; reached = e.reached; linked = e.linked; exact = e.exact };
+      are_ways = subst (λ rs. AreLongest rs c.in_ok-ways.ways.items) c.as_slice.ensures.value c.in_ok-ways.ensures;
+      text = then_put c.args.text.now c.put_waiting.new.text c.put_ways.new.text (each_text (waiting_text g ls) 0 v) (ways_text g ls c.in_ok-ways.ways.items)
+          (put_as _ _ _ _ (ap (each_text (waiting_text g ls) 0) c.as_slice-2.ensures.value) c.in_ok-put_waiting.ensures)
+          (put_as _ _ _ _ (ap (ways_text g ls) c.as_slice-3.ensures.value) c.in_ok-put_ways.ensures);
+    }

@@ -1,5 +1,5 @@
 use Rattle.std.proofs.Common.{◌∙◌, sym}
-use Rattle.explain_top.proofs.Endings.{all_read, answered_of, more_left, accepted_is_answered}
+use Rattle.explain_top.proofs.Endings.{all_read, answered_of, accepted_is_answered}
 use Rattle.explain_top.proofs.program.run.Goals as goal
 
 pub returns-in-Ok-clause-answered : goal.returns-in-Ok-clause-answered
