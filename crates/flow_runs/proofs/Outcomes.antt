@@ -20,9 +20,8 @@ use Rattle.task_flow.specs.Meaning.{flow_cells}
 use Rattle.task_flow.specs.Construction.{written}
 use Rattle.task_flow.specs.Written.{IsLock, Keeps, MeansFlow}
 use Rattle.flow_top.specs.Answer.{IsFlowAnswer}
-use Rattle.realm_top.specs.Texts.{report}
 use Rattle.realm_top.specs.Delivered.{Delivered}
-use Rattle.realm_top.specs.Answer.{IsDone, Says, trace_part}
+use Rattle.realm_top.specs.Answer.{report_with, IsDone, Says}
 use Rattle.flow_runs.specs.Ran.{IsFlowOutcome, RanFlow}
 
 -- an element stands at each place
@@ -79,14 +78,14 @@ is_outcome f commute g m = record {
       ∙ ap (λ cs. map (column_of f (flow_cells f commute)) (numbers_below (length cs))) (columns_same f g m.place m.keeps);
 }
 
--- what `run` and `eval` say of an accepted graph begins with its report
+-- what `run` and `eval` say of an accepted graph is its report with some trace
 reported : (request : Request) (g : GraphValue) (need : ℕ) (out : List ℕ) → (request.action ≡ Run) ⊎ (request.action ≡ Eval) → Says request.action request g need out →
-    (rest : List ℕ) × (out ≡ report g (outcome g (order g)) ++ rest)
-reported request g need out (inl e) s = (let r = subst (λ a. Says a request g need out) e s in (trace_part request.trace g r.0, r.2))
-reported request g need out (inr e) s = (trace_part request.trace g (order g), subst (λ a. Says a request g need out) e s)
+    (trace : List ℕ) × (out ≡ report_with request.trace g trace)
+reported request g need out (inl e) s = (let r = subst (λ a. Says a request g need out) e s in (r.0, r.2))
+reported request g need out (inr e) s = (order g, subst (λ a. Says a request g need out) e s)
 
 pub ran : ((bs : List ℕ) → OneReading bs) → (bytes : List ℕ) (commute : Bool) (text : List ℕ) → IsFlowAnswer bytes commute text → (request : Request) → (request.action ≡ Run) ⊎ (request.action ≡ Eval) →
-    (old new : SinkState) → IsDone request text old new → RanFlow bytes commute text old new
+    (old new : SinkState) → IsDone request text old new → RanFlow bytes commute text request.trace old new
 ran reads bytes commute text a request act old new d =
     let same = (reads text).one_graph (written a.flow commute) d.graph a.out_is d.text in
     let r = reported request d.graph d.need d.out act d.says in
@@ -96,6 +95,6 @@ ran reads bytes commute text a request act old new d =
       graph = d.graph;
       graph_text = d.text;
       is_outcome = is_outcome a.flow commute d.graph (subst (λ (w : GraphValue). MeansFlow a.flow commute w) same a.means);
-      trace_text = r.0;
+      trace = r.0;
       delivered = subst (Delivered old new) r.1 d.delivered;
     }

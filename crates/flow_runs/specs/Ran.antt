@@ -1,5 +1,5 @@
 -- What is written where the graph of a flow is run or evaluated.
-use Rattle.std.specs.Prelude.{◌≡◌, ◌⊎◌, ℕ, ◌<◌, Bool, List, ◌++◌, length, map, Some, slice_get}
+use Rattle.std.specs.Prelude.{◌≡◌, ◌⊎◌, ℕ, ◌<◌, Bool, List, length, map, Some, slice_get}
 use Rattle.basics.specs.Lists.{numbers_below}
 use Rattle.realm_io.specs.SinkState.{SinkState}
 use Rattle.graph_model.specs.declared.meaning.outcome.Outcome.{Outcome}
@@ -12,9 +12,8 @@ use Rattle.task_flow.specs.Meaning.{flow_end, flow_cells}
 use Rattle.task_flow.specs.Written.{Keeps}
 use Rattle.flow_top.specs.FlowText.{FlowText}
 use Rattle.flow_top.specs.Answer.{IsFlowAnswer}
-use Rattle.realm_top.specs.Texts.{report}
 use Rattle.realm_top.specs.Delivered.{Delivered}
-use Rattle.realm_top.specs.Answer.{IsDone}
+use Rattle.realm_top.specs.Answer.{report_with, IsDone}
 
 -- an outcome of a graph that keeps the lines of a flow: each of these ended, and each column has the cells, as the flow means where sums commute or not
 pub record IsFlowOutcome (f : GraphValue) (commute : Bool) (g : GraphValue) (o : Outcome) : Type 0 where
@@ -23,16 +22,16 @@ pub record IsFlowOutcome (f : GraphValue) (commute : Bool) (g : GraphValue) (o :
   pub ends : (i : ℕ) → i < length f.lines → slice_get o.ends (place i) ≡ Some (flow_end f commute i)
   pub columns_are : o.columns ≡ map (column_of f (flow_cells f commute)) (numbers_below (length (columns f)))
 
--- the bytes are the text of a flow, and the report of such an outcome of its graph was written, with a trace behind it where that was asked for
-pub record RanFlow (bytes : List ℕ) (commute : Bool) (text : List ℕ) (old new : SinkState) : Type 0 where
+-- the bytes are the text of a flow, and the report of such an outcome of its graph was written, with the text of a trace behind it where that was asked for
+pub record RanFlow (bytes : List ℕ) (commute : Bool) (text : List ℕ) (traced : Bool) (old new : SinkState) : Type 0 where
   pub flow : GraphValue
   pub is_text : FlowText bytes flow
   pub graph : GraphValue
   pub graph_text : GraphText text graph
   pub is_outcome : IsFlowOutcome flow commute graph (outcome graph (order graph))
-  pub trace_text : List ℕ
-  pub delivered : Delivered old new (report graph (outcome graph (order graph)) ++ trace_text)
+  pub trace : List ℕ
+  pub delivered : Delivered old new (report_with traced graph trace)
 
 abbrev pub RunsMeanFlows : Type 0
 RunsMeanFlows = (bytes : List ℕ) (commute : Bool) (text : List ℕ) → IsFlowAnswer bytes commute text → (request : Request) → (request.action ≡ Run) ⊎ (request.action ≡ Eval) →
-    (old new : SinkState) → IsDone request text old new → RanFlow bytes commute text old new
+    (old new : SinkState) → IsDone request text old new → RanFlow bytes commute text request.trace old new
