@@ -124,11 +124,11 @@ const REFUSALS: [(&str, &str); 13] = [
     ("realm run", ""),
     (
         "realm",
-        "no action: run, check, eval, make, upgrade, audit or timeline",
+        "no action: run, check, eval, make, upgrade, audit, timeline or session",
     ),
     (
         "realm walk",
-        "walk: run, check, eval, make, upgrade, audit or timeline",
+        "walk: run, check, eval, make, upgrade, audit, timeline or session",
     ),
     ("realm run --workers 9", "--workers 9: 0 to 8"),
     ("realm run --slots=01", "--slots 01: 1 to 8192"),

@@ -8,7 +8,7 @@ use Rattle.clap.specs.declared.builder.action.ArgAction.TheVariants.{SetTrue}
 use Rattle.command_line.specs.Number.{number_of, number_between}
 use Rattle.command_line.specs.declared.request.TheConstants.{MAX_WORKERS, MAX_SLOTS, MAX_SIZE}
 use Rattle.command_line.specs.declared.request.Action.{Action}
-use Rattle.command_line.specs.declared.request.Action.TheVariants.{Run, Check, Eval, Make, Audit, Timeline, Upgrade}
+use Rattle.command_line.specs.declared.request.Action.TheVariants.{Run, Check, Eval, Make, Audit, Timeline, Upgrade, Session}
 use Rattle.command_line.specs.declared.request.Engine.{Engine}
 use Rattle.command_line.specs.declared.request.Engine.TheVariants.{Words, Lock}
 use Rattle.command_line.specs.declared.request.HintKind.{HintKind}
@@ -49,6 +49,7 @@ action_by_word word =
     else if bytes_eq word (codes "audit") then Some Audit
     else if bytes_eq word (codes "timeline") then Some Timeline
     else if bytes_eq word (codes "upgrade") then Some Upgrade
+    else if bytes_eq word (codes "session") then Some Session
     else None
 
 -- the engine that a word names

@@ -6,14 +6,14 @@ mod number;
 mod refused;
 pub mod request;
 
-ghost use Rattle.std.specs.Prelude.{◌≡◌, ◌≤◌, ◌⊎◌, List, None, false, MatchResult, IfOk};
+ghost use Rattle.std.specs.Prelude.{◌≡◌, ◌≤◌, ◌⊎◌, List, None, false, MatchResult, IfOk, IfSome};
 ghost use Rattle.clap.specs.Words.{app_of, rule_of, kind_of};
 ghost use Rattle.command_line.specs.Request.{realm_command, option_rule, flag_rule, request_of_words, Asks};
 ghost use Rattle.command_line.specs.Faults.{fault_by_kind};
 ghost use Rattle.command_line.specs.declared.WordsFault.{WordsFault};
 
 use crate::matched::request_in;
-use crate::request::{MAX_SIZE, MAX_WORKERS, Request};
+use crate::request::{MAX_SIZE, MAX_SLOTS, MAX_WORKERS, Request};
 use clap::error::ErrorKind;
 use clap::{Arg, ArgAction, Command, Error};
 pub use refused::refusal;
@@ -34,6 +34,7 @@ pub fn read_words<'a>(alloc: Global, words: &'a [String]) -> Result<Request, Wor
         (λ fault. (fault ≡ WordsFault.NoMemory) ⊎ (request_of_words words.now ≡ None)) }
     ensures size { IfOk result (λ request. (1 ≤ request.size) × (request.size ≤ MAX_SIZE)) }
     ensures workers { IfOk result (λ request. request.workers ≤ MAX_WORKERS) }
+    ensures slots { IfOk result (λ request. IfSome request.slots (λ n. (1 ≤ n) × (n ≤ MAX_SLOTS))) }
 {
     let Ok(command) = command(alloc) else {
         return Err(WordsFault::NoMemory);

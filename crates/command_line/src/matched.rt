@@ -21,6 +21,7 @@ pub(crate) fn action_by_word(word: &str) -> Option<Action>
         "audit" => Some(Action::Audit),
         "timeline" => Some(Action::Timeline),
         "upgrade" => Some(Action::Upgrade),
+        "session" => Some(Action::Session),
         _ => None,
     }
 }
@@ -78,8 +79,9 @@ fn number_or(matches: &ArgMatches, id: &str, default: u32, least: u32, most: u32
 
 /// The number of slots, if it is given; none where the text is no number of its range.
 fn slots(matches: &ArgMatches) -> Option<Option<u32>>
-    ensures { result ≡ value_or None (λ word. option_map (λ n. Some n) (number_between 1 MAX_SLOTS word))
+    ensures value { result ≡ value_or None (λ word. option_map (λ n. Some n) (number_between 1 MAX_SLOTS word))
         (first_of (codes "slots") (rows_of (found_of matches.now))) }
+    ensures within { IfSome result (λ slots. IfSome slots (λ n. (1 ≤ n) × (n ≤ MAX_SLOTS))) }
 {
     match given(matches, "slots") {
         None => Some(None),
@@ -122,6 +124,7 @@ pub(crate) fn request_in(matches: &ArgMatches) -> Option<Request>
     ensures request { result ≡ request_in (rows_of (found_of matches.now)) }
     ensures size { IfSome result (λ request. (1 ≤ request.size) × (request.size ≤ MAX_SIZE)) }
     ensures workers { IfSome result (λ request. request.workers ≤ MAX_WORKERS) }
+    ensures slots { IfSome result (λ request. IfSome request.slots (λ n. (1 ≤ n) × (n ≤ MAX_SLOTS))) }
 {
     Some(Request {
         action: action_by_word(given(matches, "ACTION")?)?,

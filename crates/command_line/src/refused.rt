@@ -35,7 +35,9 @@ impl Allowed {
 impl fmt::Display for Allowed {
     fn fmt<W: fmt::Write>(&self, f: &mut fmt::Formatter<W>) -> fmt::Result {
         match self {
-            Allowed::Action => f.write_str("run, check, eval, make, upgrade, audit or timeline"),
+            Allowed::Action => f.write_str(
+                "run, check, eval, make, upgrade, audit, timeline or session",
+            ),
             Allowed::Engine => f.write_str("words or lock"),
             Allowed::Hints => f.write_str("queue or homes"),
             Allowed::Number { least, most } => write!(f, "{least} to {most}"),

@@ -28,6 +28,9 @@ pub enum Action {
     Timeline,
     /// A graph is read, and its text in format 2 is written.
     Upgrade,
+    /// Graphs with links to earlier ones are read, checked and run one after the other, and their
+    /// reports and what their events answer are written.
+    Session,
 }
 
 /// What runs a graph.
@@ -55,7 +58,8 @@ pub struct Request {
     /// How many workers run a graph, at most `MAX_WORKERS`; with 0 the caller does all. A timeline has as many
     /// processors, but one at least.
     pub workers: u32,
-    /// How many event slots a run has, from 1 to `MAX_SLOTS`, where it is given.
+    /// How many event slots a run has, or all graphs of a session together, from 1 to `MAX_SLOTS`,
+    /// where it is given.
     pub slots: Option<u32>,
     pub engine: Engine,
     /// Where the workers keep their hints. Only a run in words by some workers has any.

@@ -5,7 +5,8 @@ ghost use Rattle.graph_model.specs.graph.Graph.{GraphValue};
 ghost use Rattle.graph_model.specs.meaning.Evaluation.{outcome, order};
 ghost use Rattle.graph_model.specs.meaning.Rules.{Accepted};
 ghost use Rattle.graph_reader.specs.Text.{GraphText};
-ghost use Rattle.realm_top.specs.Answer.{evaluation_report, EndsByPaths};
+ghost use Rattle.realm_top.specs.Answer.{EndsByPaths};
+ghost use Rattle.run_report.specs.Report.{evaluation_report};
 ghost use Rattle.realm_c.specs.Buffers.{Holds, IsCut};
 ghost use Rattle.realm_c.specs.Refusals.{status_of, IsCheckRefusal};
 ghost use Rattle.realm_c.specs.declared.reading.Refusal.{Refusal as TheRefusal};
@@ -20,7 +21,7 @@ use graph_model::limits::MAX_TEXT;
 use graph_model::outcome::Outcome;
 use plain_eval::evaluation::eval;
 use race_check::checked::Checked;
-use realm_top::report::put_report;
+use run_report::put_report;
 use std::alloc::Global;
 
 /// Reads a graph from its text, evaluates it on one thread, and puts the report of that into `out` with its length beside

@@ -5,7 +5,7 @@ ghost use Rattle.std.specs.Prelude.{◌≡◌, ◌≢◌, ℕ, ◌<◌, ◌≤�
 ghost use Rattle.graph_model.specs.graph.Graph.{GraphValue};
 ghost use Rattle.graph_model.specs.meaning.Evaluation.{outcome};
 ghost use Rattle.gen_events.specs.declared.limits.TheConstants.{MAX_SLOTS};
-ghost use Rattle.realm_top.specs.Answer.{evaluation_report};
+ghost use Rattle.run_report.specs.Report.{evaluation_report};
 ghost use Rattle.run_core.specs.Core.{CoreValue, IsCore, slots_given, unissued};
 ghost use Rattle.run_core.specs.Finishing.{NothingOut};
 ghost use Rattle.run_core.specs.Steps.{Attempts, Wakes, with_end};

@@ -7,7 +7,7 @@ ghost use Rattle.graph_model.specs.meaning.Need.{IsNeed};
 ghost use Rattle.graph_model.specs.meaning.Rules.{Accepted};
 ghost use Rattle.gen_events.specs.declared.limits.TheConstants.{MAX_SLOTS};
 ghost use Rattle.graph_reader.specs.Text.{GraphText};
-ghost use Rattle.realm_top.specs.Answer.{evaluation_report};
+ghost use Rattle.run_report.specs.Report.{evaluation_report};
 ghost use Rattle.run_core.specs.Core.{CoreValue, IsCore, slots_given, unissued};
 ghost use Rattle.run_core.specs.Finishing.{NothingOut};
 ghost use Rattle.run_core.specs.Steps.{Wakes, with_end};

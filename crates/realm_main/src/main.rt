@@ -21,7 +21,7 @@ fn message(status: Status) -> Option<&'static str>
 {
     match status {
         Status::Usage => Some(
-            "usage: realm run|check|eval|make|upgrade|audit|timeline [OPTIONS] < INPUT",
+            "usage: realm run|check|eval|make|upgrade|audit|timeline|session [OPTIONS] < INPUT",
         ),
         Status::ReadFault => Some("realm: the standard input can't be read"),
         Status::WriteFault => Some("realm: the standard output can't be written"),
@@ -102,7 +102,9 @@ mod tests {
             (Status::Done, None),
             (
                 Status::Usage,
-                Some("usage: realm run|check|eval|make|upgrade|audit|timeline [OPTIONS] < INPUT"),
+                Some(
+                    "usage: realm run|check|eval|make|upgrade|audit|timeline|session [OPTIONS] < INPUT",
+                ),
             ),
             (Status::Unread, None),
             (Status::Unfit, None),

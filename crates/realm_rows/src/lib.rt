@@ -25,6 +25,8 @@ mod row;
 #[cfg(test)]
 mod rule_tests;
 #[cfg(test)]
+mod session_tests;
+#[cfg(test)]
 mod text_tests;
 #[cfg(test)]
 mod tile_tests;

@@ -5,6 +5,7 @@
 use crate::generated::all_done;
 use crate::graph_tests::{FAULTY_PATHS_REPORT, LOCKED_SUMS_CELLS};
 use crate::row::words;
+use crate::session_tests::{two_linked, two_reports};
 use crate::tile_tests;
 use realm_io::{OpenGate, SureSink, SureSource};
 use realm_top::realm;
@@ -25,7 +26,7 @@ const COMMANDS: [&str; 4] = [
 ];
 
 /// Calls `realm` with a command line over a text, and ends where it is refused memory.
-fn run_one<R: Threads + Wait + Sync + AllocGlobal>(
+pub(crate) fn run_one<R: Threads + Wait + Sync + AllocGlobal>(
     rt: &R,
     command: &str,
     text: &str,
@@ -109,4 +110,19 @@ fn other_actions(rt: HostRuntime) -> Result<(), Fail> {
     )?;
     run_one(&rt, "timeline", text, plan)?;
     run_one(&rt, "audit", traced.as_str(), "lawful\n")
+}
+
+// graphs of a session, and their events
+#[test]
+fn sessions(rt: HostRuntime) -> Result<(), Fail> {
+    let text = two_linked(rt.alloc(), "close\n")?;
+    let report = two_reports(rt.alloc())?;
+    for command in [
+        "session --workers 3 --engine words",
+        "session --workers 3 --hints homes",
+        "session --workers 3 --engine lock",
+    ] {
+        run_one(&rt, command, text.as_str(), report.as_str())?;
+    }
+    Ok(())
 }

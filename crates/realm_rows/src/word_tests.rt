@@ -58,6 +58,8 @@ const REFUSED: Row = Row {
         "audit --hints free",
         "timeline --hints free",
         "upgrade --hints free",
+        "session --slots 0",
+        "session --seed 01",
         "run --trace=true",
         "make --seed 01",
         "make --seed 18446744073709551616",

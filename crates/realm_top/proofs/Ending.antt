@@ -1,14 +1,14 @@
 -- With which statuses an answer may end, by what the words ask for.
 use Rattle.std.proofs.Common.{◌≡◌, ℕ, List, refl, sym, ◌∙◌, ap, inl, inr}
-use Rattle.std.specs.Prelude.{Bool, true, false, Option, None, Some}
+use Rattle.std.specs.Prelude.{Bool, true, false, Option}
 use Rattle.std.proofs.lemmas.Bool.{true≢false}
 use Rattle.graph_model.specs.graph.Graph.{GraphValue}
 use Rattle.command_line.specs.declared.request.Request.{Request}
 use Rattle.realm_io.specs.SinkState.{SinkState}
 use Rattle.realm_top.specs.declared.status.Status.{Status}
-use Rattle.realm_top.specs.declared.status.Status.TheVariants.{Done, Usage, Unread, Unfit, ReadFault, WriteFault, NoMemory, Slots, TooLong, Unlawful}
+use Rattle.realm_top.specs.declared.status.Status.TheVariants.{Done, Usage, Unfit, WriteFault, NoMemory, Slots, Unlawful}
 use Rattle.realm_top.specs.Delivered.{IsAnswered}
-use Rattle.realm_top.specs.Answer.{Purpose, Checking, Auditing, Upgrading, Making, purpose, is_reading, runs, is_short, is_short_by, may_end, may_end_for, MadeAnswers, Answers, AnswersFor}
+use Rattle.realm_top.specs.Answer.{Purpose, Checking, Auditing, Upgrading, InSession, Making, purpose, is_reading, runs, is_short, is_short_by, may_end, may_end_for, MadeAnswers, Answers, AnswersFor}
 
 -- too few slots are found of a run alone
 short_by : (running : Bool) (slots : Option ℕ) (need : ℕ) → is_short_by running slots need ≡ true → running ≡ true
@@ -40,6 +40,9 @@ ends_for Upgrading request bytes Usage out a = absurd a
 ends_for Upgrading request bytes Unfit out a = absurd a
 ends_for Upgrading request bytes Unlawful out a = absurd a
 ends_for Upgrading request bytes _ out a = refl
+ends_for InSession request bytes Usage out a = absurd a.2
+ends_for InSession request bytes Unlawful out a = absurd a.2
+ends_for InSession request bytes _ out a = refl
 ends_for Making request bytes status out a = ends_made request.text request _ status out a
 
 -- and so does what was delivered of it
@@ -61,6 +64,7 @@ made_for Making running status h e = e
 made_for Checking running status h e = absurd (true≢false h)
 made_for Auditing running status h e = absurd (true≢false h)
 made_for Upgrading running status h e = absurd (true≢false h)
+made_for InSession running status h e = absurd (true≢false h)
 
 pub made_ends : (request : Request) (g : GraphValue) (s t : SinkState) (result : Status) → is_reading (purpose request.action) ≡ false → IsAnswered (MadeAnswers request.text request g) s t result → may_end request result ≡ true
 made_ends request g s t result h a = made_for (purpose request.action) (runs request.action request.text) result h

@@ -1,9 +1,8 @@
-pub mod WordLines
-pub mod ReportRest
-pub mod Fitting
+pub mod RefusedLines
 pub mod Delivering
 pub mod AuditAnswers
 pub mod UpgradeAnswers
+pub mod SessionAnswers
 pub mod MadeRequests
 pub mod Requests
 pub mod SummaryLines

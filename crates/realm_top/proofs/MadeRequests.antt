@@ -6,7 +6,7 @@ use Rattle.realm_io.specs.SinkState.{SinkState}
 use Rattle.realm_io.specs.Written.{Wrote, Stopped}
 use Rattle.command_line.specs.declared.request.Request.{Request}
 use Rattle.command_line.specs.declared.request.Action.{Action}
-use Rattle.command_line.specs.declared.request.Action.TheVariants.{Run, Check, Eval, Make, Audit, Timeline, Upgrade}
+use Rattle.command_line.specs.declared.request.Action.TheVariants.{Run, Check, Eval, Make, Audit, Timeline, Upgrade, Session}
 use Rattle.graph_model.specs.graph.Graph.{GraphValue}
 use Rattle.graph_model.specs.meaning.Evaluation.{outcome}
 use Rattle.graph_model.specs.declared.meaning.outcome.Outcome.{Outcome}
@@ -28,6 +28,7 @@ says_made Eval request g need out r e = absurd (true≢false r)
 says_made Timeline request g need out r e = absurd (true≢false r)
 says_made Audit request g need out r e = absurd (true≢false r)
 says_made Upgrade request g need out r e = absurd (true≢false r)
+says_made Session request g need out r e = absurd (true≢false r)
 says_made Make request g need out r e = e
 
 pub done_says : (texted : Bool) (request : Request) (g : GraphValue) (out : List ℕ) → reads request.action ≡ false → MadeAnswers texted request g Done out → out ≡ made_says texted g
@@ -75,6 +76,7 @@ run_reports Eval traced g trace ne = refl
 run_reports Timeline traced g trace ne = refl
 run_reports Audit traced g trace ne = refl
 run_reports Upgrade traced g trace ne = refl
+run_reports Session traced g trace ne = refl
 
 -- the same of a graph that is the same
 pub wrote_run : (s t : SinkState) (x : Action) (traced : Bool) (g h : GraphValue) (trace : List ℕ) → g ≡ h → Wrote s t (run_text x traced g trace) → Wrote s t (run_text x traced h trace)

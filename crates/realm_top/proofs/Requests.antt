@@ -1,5 +1,5 @@
 -- What follows for the answers to a request, whatever its action.
-use Rattle.std.proofs.Common.{◌≡◌, ℕ, ◌<◌, List, length, refl, sym, ◌∙◌, subst, inr}
+use Rattle.std.proofs.Common.{◌≡◌, ℕ, ◌<◌, ◌≤◌, List, length, refl, sym, ◌∙◌, subst, inr}
 use Rattle.std.specs.Prelude.{true, false, Option, Some, ◌⊎◌}
 use Rattle.std.proofs.lemmas.Bool.{true≢false, false≢true}
 use Rattle.std.specs.Io.KnownBytes.{Consumes, IsAtEnd}
@@ -10,6 +10,10 @@ use Rattle.graph_model.specs.meaning.Laws.{OneNeed}
 use Rattle.graph_reader.specs.Laws.{OneReading}
 use Rattle.graph_gen.specs.MadeGraph.{made_graph}
 use Rattle.realm_audit.specs.Parts.{graph_bytes}
+use Rattle.graph_model.specs.declared.graph.limits.TheConstants.{MAX_TEXT}
+use Rattle.session_text.specs.Laws.{OneSession}
+use Rattle.session_run.specs.Laws.{OneEnd}
+use Rattle.session_run.specs.Linked.{LinkedGraph}
 use Rattle.realm_audit.specs.Reading.{TextTells}
 use Rattle.realm_top.specs.declared.status.Status.{Status}
 use Rattle.realm_top.specs.declared.status.Status.TheVariants.{Done, WriteFault, NoMemory, TooLong}
@@ -17,14 +21,16 @@ use Rattle.realm_top.specs.Status.{is_refusal}
 use Rattle.realm_top.specs.Texts.{too_long_text}
 use Rattle.realm_top.specs.Delivered.{Delivered, BrokenOff, Delivers, IsAnswered}
 use Rattle.realm_top.specs.AuditAnswer.{AuditAnswers, IsAudited}
-use Rattle.realm_top.specs.Answer.{Purpose, Checking, Auditing, Upgrading, Making, purpose, is_checking, is_auditing, is_upgrading, is_reading, limit_for, reads, checks, audits, upgrades, input_limit, made_says, InputAnswers, MadeAnswers, IsInputFor, IsInput, AnswersFor, Answers, AsksFor, AsksStatus, Answered, IsDone}
+use Rattle.realm_top.specs.Answer.{Purpose, Checking, Auditing, Upgrading, InSession, Making, purpose, is_checking, is_auditing, is_upgrading, is_in_session, is_reading, limit_for, reads, checks, audits, upgrades, runs_session, input_limit, made_says, InputAnswers, MadeAnswers, IsInputFor, IsInput, AnswersFor, Answers, AsksFor, AsksStatus, Answered, IsDone}
 use Rattle.realm_top.specs.UpgradeAnswer.{UpgradeAnswers, IsUpgraded}
+use Rattle.realm_top.specs.SessionAnswer.{session_slots, SessionAnswers, IsSessionDone}
 use Rattle.realm_top.proofs.UpgradeAnswers.{one_upgrade}
+use Rattle.realm_top.proofs.SessionAnswers.{one_session}
 use Rattle.realm_top.proofs.Delivering.{one_answer, all_read, answered_as, refused_as, cut_off_as, complete_as, answered_by}
 use Rattle.realm_top.proofs.AuditAnswers.{one_audit}
 use Rattle.realm_top.proofs.MadeRequests.{made_one, not_made, done_says}
 
--- BY WHAT AN ACTION HAS TO DO WITH: its answers are those to a graph alone, those of an audit, those of an upgrade, or those to a graph that is made
+-- BY WHAT AN ACTION HAS TO DO WITH: its answers are those to a graph alone, those of an audit, those of an upgrade, those of a session, or those to a graph that is made
 pub checked_answers : (w : Purpose) (request : Request) (bytes : List ℕ) → is_checking w ≡ true → (status : Status) (out : List ℕ) → AnswersFor w request bytes status out → InputAnswers request bytes status out
 checked_answers Checking request bytes y status out a = a
 checked_answers w request bytes y status out a = absurd (false≢true y)
@@ -49,6 +55,14 @@ pub answers_upgrade : (w : Purpose) (request : Request) (bytes : List ℕ) → i
 answers_upgrade Upgrading request bytes y status out a = a
 answers_upgrade w request bytes y status out a = absurd (false≢true y)
 
+session_answers : (w : Purpose) (request : Request) (bytes : List ℕ) → is_in_session w ≡ true → (status : Status) (out : List ℕ) → AnswersFor w request bytes status out → SessionAnswers (session_slots request.slots) bytes status out
+session_answers InSession request bytes y status out a = a
+session_answers w request bytes y status out a = absurd (false≢true y)
+
+pub answers_session : (w : Purpose) (request : Request) (bytes : List ℕ) → is_in_session w ≡ true → (status : Status) (out : List ℕ) → SessionAnswers (session_slots request.slots) bytes status out → AnswersFor w request bytes status out
+answers_session InSession request bytes y status out a = a
+answers_session w request bytes y status out a = absurd (false≢true y)
+
 answers_made : (w : Purpose) (request : Request) (bytes : List ℕ) → is_reading w ≡ false → (status : Status) (out : List ℕ) → MadeAnswers request.text request (made_graph request.seed request.size) status out → AnswersFor w request bytes status out
 answers_made Making request bytes r status out a = a
 answers_made w request bytes r status out a = absurd (true≢false r)
@@ -71,17 +85,22 @@ pub limit_upgrade : (w : Purpose) → is_upgrading w ≡ true → limit_for w �
 limit_upgrade Upgrading y = refl
 limit_upgrade w y = absurd (false≢true y)
 
--- what is made is neither
-pub made_else : (w : Purpose) → is_reading w ≡ false → (is_auditing w ≡ false) × (is_upgrading w ≡ false)
-made_else Making r = (refl, refl)
+pub limit_session : (w : Purpose) → is_in_session w ≡ true → limit_for w ≡ 1048576
+limit_session InSession y = refl
+limit_session w y = absurd (false≢true y)
+
+-- what is made is none of these
+pub made_else : (w : Purpose) → is_reading w ≡ false → (is_auditing w ≡ false) × (is_upgrading w ≡ false) × (is_in_session w ≡ false)
+made_else Making r = (refl, refl, refl)
 made_else w r = absurd (true≢false r)
 
--- what is read and is neither audited nor upgraded is checked
-pub checked_else : (w : Purpose) → is_reading w ≡ true → is_auditing w ≡ false → is_upgrading w ≡ false → is_checking w ≡ true
-checked_else Checking r a u = refl
-checked_else Auditing r a u = absurd (true≢false a)
-checked_else Upgrading r a u = absurd (true≢false u)
-checked_else Making r a u = absurd (false≢true r)
+-- what is read and is none of these is checked
+pub checked_else : (w : Purpose) → is_reading w ≡ true → is_auditing w ≡ false → is_upgrading w ≡ false → is_in_session w ≡ false → is_checking w ≡ true
+checked_else Checking r a u s = refl
+checked_else Auditing r a u s = absurd (true≢false a)
+checked_else Upgrading r a u s = absurd (true≢false u)
+checked_else InSession r a u s = absurd (true≢false s)
+checked_else Making r a u s = absurd (false≢true r)
 
 long_by : (w : Purpose) (request : Request) (bytes : List ℕ) → is_reading w ≡ true → limit_for w < length bytes → AnswersFor w request bytes TooLong too_long_text
 long_by Making request bytes r l = absurd (false≢true r)
@@ -92,14 +111,16 @@ unfaulted_by : (w : Purpose) (request : Request) (bytes out : List ℕ) → Answ
 unfaulted_by Checking request bytes out a = (a.2).1
 unfaulted_by Auditing request bytes out a = ((((a.1).2).1).2)
 unfaulted_by Upgrading request bytes out a = a
+unfaulted_by InSession request bytes out a = a.2
 unfaulted_by Making request bytes out a = not_made request.text request (made_graph request.seed request.size) WriteFault out (λ x. cc) (λ x. cc) a
 
 -- the answer is the one that is asked for
-module _ (needs : OneNeed) (one : (xs : List ℕ) → OneReading xs) (tells : TextTells) where
+module _ (needs : OneNeed) (one : (xs : List ℕ) → OneReading xs) (tells : TextTells) (sessions : (xs : List ℕ) → length xs ≤ MAX_TEXT → OneSession xs) (ends : (slots : ℕ) (gs : List LinkedGraph) → OneEnd slots gs) where
   one_by : (w : Purpose) (request : Request) (bytes : List ℕ) (s t : Status) (out : List ℕ) → AnswersFor w request bytes s out → AsksFor w request bytes t → s ≡ t
   one_by Checking request bytes s t out a b = one_answer request needs bytes (one bytes) s t out a b
   one_by Auditing request bytes s t out a b = one_audit tells bytes (one (graph_bytes bytes)) s t out a b
   one_by Upgrading request bytes s t out a b = one_upgrade bytes (one bytes) s t out a b
+  one_by InSession request bytes s t out a b = one_session (session_slots request.slots) bytes (sessions bytes) (ends (session_slots request.slots)) s t out a b
   one_by Making request bytes s t out a b = made_one request.text request (made_graph request.seed request.size) needs s t out a b
 
 -- A REQUEST THAT WAS ANSWERED by its input, where it has one
@@ -113,11 +134,11 @@ module _ (request : Request) (left : Option (List ℕ)) (s t : SinkState) (resul
   pub request_cut_off : result ≡ WriteFault → (xs : List ℕ) → IsInput request.action left xs → (status : Status) × (out : List ℕ) × Answers request xs status out × BrokenOff s t out
   request_cut_off e xs i = cut_off_as (Answers request xs) s t result (unfaulted_by (purpose request.action) request xs) (all xs i) e
 
-  pub request_complete : OneNeed → ((xs : List ℕ) → OneReading xs) → TextTells → (q : Request) → request ≡ q → (xs : List ℕ) (status : Status) → IsInput q.action left xs → AsksStatus q xs status → (Rose s.faults t.faults → ⊥) → (result ≡ status) ⊎ (result ≡ NoMemory)
-  request_complete needs one tells q same xs status i a silent =
+  pub request_complete : OneNeed → ((xs : List ℕ) → OneReading xs) → TextTells → ((xs : List ℕ) → length xs ≤ MAX_TEXT → OneSession xs) → ((slots : ℕ) (gs : List LinkedGraph) → OneEnd slots gs) → (q : Request) → request ≡ q → (xs : List ℕ) (status : Status) → IsInput q.action left xs → AsksStatus q xs status → (Rose s.faults t.faults → ⊥) → (result ≡ status) ⊎ (result ≡ NoMemory)
+  request_complete needs one tells sessions ends q same xs status i a silent =
       let input = subst (λ (x : Request). IsInput x.action left xs) (sym same) i in
       let asks = subst (λ (x : Request). AsksStatus x xs status) (sym same) a in
-      complete_as (Answers request xs) s t result status (λ wanted out b. one_by needs one tells (purpose request.action) request xs wanted status out b asks) (all xs input) silent
+      complete_as (Answers request xs) s t result status (λ wanted out b. one_by needs one tells sessions ends (purpose request.action) request xs wanted status out b asks) (all xs input) silent
 
 -- an input that was read to its end, one that is too long, and a graph that was made
 pub read_answered : (request : Request) (old new : Option (List ℕ)) (bs b : List ℕ) (s t : SinkState) (result : Status) → Consumes old new bs → IsAtEnd new → b ≡ bs → Answered request b s t result → (xs : List ℕ) → old ≡ Some xs → Answered request xs s t result
@@ -152,6 +173,12 @@ request_upgraded request xs s t result y h e =
     let d = answered_as (Answers request xs) s t result Done h e (λ x. cc) (λ x. cc) in
     let a = upgrade_answers (purpose request.action) request xs y Done d.0 d.1 in
     record { graph = a.0; text_is = a.1; delivered = subst (Delivered s t) a.2 d.2 }
+
+pub request_session : (request : Request) (xs : List ℕ) (s t : SinkState) (result : Status) → runs_session request.action ≡ true → Answered request xs s t result → result ≡ Done → IsSessionDone (session_slots request.slots) xs s t
+request_session request xs s t result y h e =
+    let d = answered_as (Answers request xs) s t result Done h e (λ x. cc) (λ x. cc) in
+    let a = session_answers (purpose request.action) request xs y Done d.0 d.1 in
+    record { entries = a.0; text = a.1; ran = a.2.0; delivered = subst (Delivered s t) a.2.1 d.2 }
 
 pub request_made : (request : Request) (s t : SinkState) (result : Status) → reads request.action ≡ false → IsAnswered (MadeAnswers request.text request (made_graph request.seed request.size)) s t result → result ≡ Done → Delivered s t (made_says request.text (made_graph request.seed request.size))
 request_made request s t result r h e =

@@ -1,5 +1,5 @@
 -- What a request is to answer, and what it is to write, by the bytes of its input where it has one.
-use Rattle.std.specs.Prelude.{◌≡◌, ℕ, ◌+◌, ◌-◌, ◌*◌, ◌<◌, ◌≤◌, nat_lt, max, Bool, true, false, not, List, [], ◌++◌, length, Option, Some, ◌↔◌}
+use Rattle.std.specs.Prelude.{◌≡◌, ℕ, ◌+◌, ◌-◌, ◌*◌, ◌<◌, ◌≤◌, nat_lt, max, Bool, true, false, not, ◌||◌, List, [], ◌++◌, length, Option, Some, ◌↔◌}
 use Rattle.realm_io.specs.SinkState.{SinkState}
 use Rattle.graph_model.specs.graph.Graph.{GraphValue}
 use Rattle.graph_model.specs.declared.graph.limits.TheConstants.{MAX_TEXT}
@@ -10,7 +10,7 @@ use Rattle.graph_model.specs.meaning.Need.{IsNeed}
 use Rattle.graph_model.specs.meaning.Trace.{IsLawful}
 use Rattle.graph_model.specs.meaning.Evaluation.{eval_end, outcome, order, Unbroken}
 use Rattle.command_line.specs.declared.request.Action.{Action}
-use Rattle.command_line.specs.declared.request.Action.TheVariants.{Run, Check, Eval, Make, Audit, Timeline, Upgrade}
+use Rattle.command_line.specs.declared.request.Action.TheVariants.{Run, Check, Eval, Make, Audit, Timeline, Upgrade, Session}
 use Rattle.command_line.specs.declared.request.Request.{Request}
 use Rattle.realm_trace.specs.Text.{trace_text}
 use Rattle.realm_timeline.specs.Timeline.{TimelineValue}
@@ -27,11 +27,9 @@ use Rattle.realm_top.specs.Delivered.{Delivered, IsAnswered}
 use Rattle.realm_top.specs.Refused.{IsRefused, IsUnfit}
 use Rattle.realm_top.specs.AuditAnswer.{AUDIT_LIMIT, AuditAnswers, AuditAsks}
 use Rattle.realm_top.specs.UpgradeAnswer.{UpgradeAnswers, UpgradeAsks}
-use Rattle.realm_top.specs.Texts.{report, made_text, too_long_text, accepted_text, slots_text}
-
--- the text that is the report of the one-thread evaluation of a graph
-abbrev pub evaluation_report : GraphValue → List ℕ
-evaluation_report g = report g (outcome g (order g))
+use Rattle.realm_top.specs.SessionAnswer.{session_slots, SessionAnswers, SessionAsks}
+use Rattle.run_report.specs.Report.{evaluation_report}
+use Rattle.realm_top.specs.Texts.{made_text, too_long_text, accepted_text, slots_text}
 
 -- how lines end in the evaluation, by paths: a line waits exactly where one that never comes reaches it, itself included, and a line is cancelled exactly where an unbroken path from a fault reaches it
 pub record EndsByPaths (g : GraphValue) : Type 0 where
@@ -55,9 +53,9 @@ evaluation_text traced g = report_with traced g (order g)
 abbrev pub IsRunText : Bool → GraphValue → List ℕ → Type 0
 IsRunText traced g out = (trace : List ℕ) × IsLawful g trace × (out ≡ report_with traced g trace)
 
--- what an action is for: a graph is read and checked, such a graph with a trace behind it, a graph is read alone, or one is made
+-- what an action is for: a graph is read and checked, such a graph with a trace behind it, a graph is read alone, the graphs of a session are read and checked, or one is made
 pub data Purpose : Type 0 where
-  Checking Auditing Upgrading Making : Purpose
+  Checking Auditing Upgrading InSession Making : Purpose
 
 abbrev pub purpose : Action → Purpose
 purpose Run = Checking
@@ -66,6 +64,7 @@ purpose Eval = Checking
 purpose Timeline = Checking
 purpose Audit = Auditing
 purpose Upgrade = Upgrading
+purpose Session = InSession
 purpose Make = Making
 
 abbrev pub is_checking : Purpose → Bool
@@ -79,6 +78,10 @@ is_auditing _ = false
 abbrev pub is_upgrading : Purpose → Bool
 is_upgrading Upgrading = true
 is_upgrading _ = false
+
+abbrev pub is_in_session : Purpose → Bool
+is_in_session InSession = true
+is_in_session _ = false
 
 abbrev pub is_reading : Purpose → Bool
 is_reading Making = false
@@ -100,6 +103,10 @@ audits action = is_auditing (purpose action)
 abbrev pub upgrades : Action → Bool
 upgrades action = is_upgrading (purpose action)
 
+-- whether it is the text of a session, whose graphs are checked
+abbrev pub runs_session : Action → Bool
+runs_session action = is_in_session (purpose action)
+
 -- the most bytes that the input may have
 abbrev pub limit_for : Purpose → ℕ
 limit_for Auditing = AUDIT_LIMIT
@@ -108,16 +115,17 @@ limit_for _ = MAX_TEXT
 abbrev pub input_limit : Action → ℕ
 input_limit action = limit_for (purpose action)
 
--- whether a graph is run: by `run`, and by `make` where the graph's text is not asked for
+-- whether one graph is run: by `run`, and by `make` where the graph's text is not asked for
 abbrev pub runs : Action → Bool → Bool
 runs Run texted = true
 runs Make texted = not texted
 runs _ texted = false
 
--- whether an action's graph is checked, with a trace behind it or alone
+-- whether an action's graph is checked, with a trace behind it or alone, or its graphs are
 abbrev pub is_judging : Purpose → Bool
 is_judging Checking = true
 is_judging Auditing = true
+is_judging InSession = true
 is_judging _ = false
 
 -- which statuses words that ask for this may end with, whatever the input and the streams are
@@ -129,7 +137,7 @@ may_end_for aim running Unfit = is_judging aim
 may_end_for aim running ReadFault = is_reading aim
 may_end_for aim running WriteFault = true
 may_end_for aim running NoMemory = true
-may_end_for aim running Slots = running
+may_end_for aim running Slots = is_in_session aim || running
 may_end_for aim running TooLong = is_reading aim
 may_end_for aim running Unlawful = is_auditing aim
 
@@ -172,7 +180,7 @@ pub record IsTimelineText (processors : ℕ) (g : GraphValue) (out : List ℕ) :
 abbrev pub processors_for : Request → ℕ
 processors_for request = max request.workers 1
 
--- what an action writes of an accepted graph with this need; `audit` and `upgrade` have answers of their own
+-- what an action writes of an accepted graph with this need; `audit`, `upgrade` and `session` have answers of their own
 abbrev pub Says : Action → Request → GraphValue → ℕ → List ℕ → Type 0
 Says Run request g need out = IsRunText request.trace g out
 Says Eval request g need out = out ≡ evaluation_text request.trace g
@@ -181,6 +189,7 @@ Says Timeline request g need out = IsTimelineText (processors_for request) g out
 Says Make request g need out = out ≡ made_says false g
 Says Audit request g need out = ⊥
 Says Upgrade request g need out = ⊥
+Says Session request g need out = ⊥
 
 -- what becomes of an accepted graph, and the text that goes with it
 abbrev pub Served : Request → GraphValue → Status → List ℕ → Type 0
@@ -218,6 +227,7 @@ abbrev pub AnswersFor : Purpose → Request → List ℕ → Status → List ℕ
 AnswersFor Checking request bytes status out = InputAnswers request bytes status out
 AnswersFor Auditing request bytes status out = AuditAnswers bytes status out
 AnswersFor Upgrading request bytes status out = UpgradeAnswers bytes status out
+AnswersFor InSession request bytes status out = SessionAnswers (session_slots request.slots) bytes status out
 AnswersFor Making request bytes status out = MadeAnswers request.text request (made_graph request.seed request.size) status out
 
 abbrev pub Answers : Request → List ℕ → Status → List ℕ → Type 0
@@ -251,6 +261,7 @@ abbrev pub AsksFor : Purpose → Request → List ℕ → Status → Type 0
 AsksFor Checking request bytes status = InputAsks request bytes status
 AsksFor Auditing request bytes status = AuditAsks bytes status
 AsksFor Upgrading request bytes status = UpgradeAsks bytes status
+AsksFor InSession request bytes status = SessionAsks (session_slots request.slots) bytes status
 AsksFor Making request bytes status = MadeAsks request.text request (made_graph request.seed request.size) status
 
 abbrev pub AsksStatus : Request → List ℕ → Status → Type 0

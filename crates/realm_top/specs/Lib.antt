@@ -4,4 +4,5 @@ pub mod Delivered
 pub mod Refused
 pub mod AuditAnswer
 pub mod UpgradeAnswer
+pub mod SessionAnswer
 pub mod Answer

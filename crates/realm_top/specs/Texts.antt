@@ -1,76 +1,19 @@
 -- The texts that are written.
-use Rattle.std.specs.Prelude.{◌≡◌, ℕ, ◌+◌, Bool, true, false, List, [], ◌∷◌, ◌++◌, length, map, take, drop, count_by, sum, sum_by, slice_index_or, Option, Some, None, codes, decimal}
-use Rattle.index_spaces.specs.Space.{interval_points}
+use Rattle.std.specs.Prelude.{ℕ, ◌+◌, Bool, true, false, List, [], ◌∷◌, length, count_by, sum, sum_by, slice_index_or, Option, Some, None, codes, decimal}
 use Rattle.index_spaces.specs.Column.{ColumnValue}
 use Rattle.graph_model.specs.declared.meaning.outcome.Outcome.{Outcome}
 use Rattle.graph_model.specs.declared.meaning.outcome.End.{End}
 use Rattle.graph_model.specs.declared.meaning.outcome.End.TheVariants.{Done, Faulted, Cancelled, Waiting}
-use Rattle.graph_model.specs.declared.meaning.outcome.Answer.{Answer}
-use Rattle.graph_model.specs.declared.meaning.outcome.Answer.TheVariants.{Triggered, Poisoned, Pending}
-use Rattle.graph_model.specs.declared.graph.verb.Line.{Line}
 use Rattle.graph_model.specs.declared.graph.why.Why.{Why}
 use Rattle.graph_model.specs.declared.graph.why.Why.TheVariants.{Header, Syntax, Name, Twice, Unknown, Kind, Number, Space, Outside, Arrivals, Limit, Missing, Rest}
 use Rattle.graph_model.specs.meaning.Effect.{wrapped}
-use Rattle.graph_model.specs.graph.Graph.{GraphValue, is_phase, columns}
-use Rattle.graph_model.specs.graph.Spelling.{spelled, column_name, line_name, interval_word}
+use Rattle.graph_model.specs.graph.Graph.{GraphValue}
+use Rattle.graph_model.specs.graph.Spelling.{spelled, line_name}
 use Rattle.race_check.specs.declared.checked.CheckRefusal.{CheckRefusal}
 use Rattle.race_check.specs.declared.checked.CheckRefusal.TheVariants as refusal
+use Rattle.session_run.specs.declared.session.UnfitGraph.{UnfitGraph}
 use Rattle.realm_audit.specs.declared.refusal.AuditRefusal.{AuditRefusal}
 use Rattle.realm_audit.specs.declared.refusal.AuditRefusal.TheVariants as audit
-
-abbrev pub end_word : End → List ℕ
-end_word Done = codes "done"
-end_word Faulted = codes "faulted"
-end_word Cancelled = codes "cancelled"
-end_word Waiting = codes "waiting"
-
-abbrev pub answer_word : Answer → List ℕ
-answer_word Triggered = codes "triggered"
-answer_word Poisoned = codes "poisoned"
-answer_word Pending = codes "pending"
-
--- the line of an operation: how it ended, and what its handle answers
-abbrev pub op_text : Line → End → Answer → List ℕ
-op_text l e a = spelled (codes "op" ∷ l.name ∷ end_word e ∷ answer_word a ∷ [])
-
-abbrev pub op_texts : List Line → List End → List Answer → List ℕ
-op_texts (l ∷ ls) (e ∷ es) (a ∷ as') = op_text l e a ++ op_texts ls es as'
-op_texts _ _ _ = []
-
-abbrev pub value_word : Option ℕ → List ℕ
-value_word None = codes "-"
-value_word (Some v) = decimal v
-
--- the line of a phase with its value, and none for another line
-abbrev pub phase_text : Line → Bool → Option ℕ → List ℕ
-phase_text l true v = spelled (codes "phase" ∷ l.name ∷ value_word v ∷ [])
-phase_text l false v = []
-
-abbrev pub phase_texts : List Line → List (Option ℕ) → List ℕ
-phase_texts (l ∷ ls) (v ∷ vs) = phase_text l (is_phase l.verb) v ++ phase_texts ls vs
-phase_texts _ _ = []
-
--- the line of the cells of one interval
-abbrev pub interval_text : List ℕ → ℕ × ℕ → List ℕ → List ℕ
-interval_text name i cells = spelled (codes "cells" ∷ name ∷ interval_word i ∷ map decimal cells)
-
--- what stands before the cells in that line
-abbrev pub interval_front : List ℕ → ℕ × ℕ → List ℕ
-interval_front name i = codes "cells " ++ (name ++ 32 ∷ interval_word i)
-
--- the lines of a column's cells, one for each interval
-abbrev pub cells_texts : List ℕ → List (ℕ × ℕ) → List ℕ → List ℕ
-cells_texts name [] cells = []
-cells_texts name (i ∷ is) cells = interval_text name i (take (length (interval_points i)) cells) ++ cells_texts name is (drop (length (interval_points i)) cells)
-
--- the lines of columns, of which the first has number c
-abbrev pub column_texts : GraphValue → ℕ → List ColumnValue → List ℕ
-column_texts g c [] = []
-column_texts g c (x ∷ xs) = cells_texts (column_name g c) x.space x.cells ++ column_texts g (c + 1) xs
-
--- the report of an outcome
-abbrev pub report : GraphValue → Outcome → List ℕ
-report g o = codes "realm-report 1\n" ++ (op_texts g.lines o.ends o.answers ++ (phase_texts g.lines o.phases ++ (column_texts g 0 o.columns ++ codes "done\n")))
 
 -- whether two ends are one
 abbrev pub same_end : End → End → Bool
@@ -92,13 +35,6 @@ cell_sum cs = wrapped (sum_by (λ (c : ColumnValue). sum c.cells) cs)
 abbrev pub made_text : GraphValue → Outcome → List ℕ
 made_text g o = spelled (codes "made" ∷ codes "ops" ∷ decimal (length g.lines) ∷ codes "done" ∷ decimal (ended_so Done o) ∷ codes "faulted" ∷ decimal (ended_so Faulted o)
     ∷ codes "cancelled" ∷ decimal (ended_so Cancelled o) ∷ codes "waiting" ∷ decimal (ended_so Waiting o) ∷ codes "sum" ∷ decimal (cell_sum o.columns) ∷ [])
-
--- the lists of an outcome are as long as the graph's
-pub record FitsGraph (g : GraphValue) (o : Outcome) : Type 0 where
-  pub ends : length o.ends ≡ length g.lines
-  pub answers : length o.answers ≡ length g.lines
-  pub phases : length o.phases ≡ length g.lines
-  pub columns : length o.columns ≡ length (columns g)
 
 -- the word for a reason
 abbrev pub why_word : Why → List ℕ
@@ -148,6 +84,25 @@ unfit_text g (refusal.Descends i j) = Some (broken_by_two g (codes "descends") i
 unfit_text g (refusal.ReleaseFault i) = Some (broken_by_one g (codes "release") i)
 unfit_text g (refusal.Race i j) = Some (broken_by_two g (codes "race") i j)
 unfit_text g refusal.NoMemory = None
+
+-- the same of a graph of a session, with its name
+abbrev pub broken_by_one_in : GraphValue → List ℕ → ℕ → List ℕ → List ℕ
+broken_by_one_in g rule i name = spelled (codes "refused" ∷ rule ∷ line_name g i ∷ codes "in" ∷ name ∷ [])
+
+abbrev pub broken_by_two_in : GraphValue → List ℕ → ℕ → ℕ → List ℕ → List ℕ
+broken_by_two_in g rule i j name = spelled (codes "refused" ∷ rule ∷ line_name g i ∷ line_name g j ∷ codes "in" ∷ name ∷ [])
+
+abbrev pub unfit_in_by : GraphValue → List ℕ → CheckRefusal → Option (List ℕ)
+unfit_in_by g name (refusal.Cycle i) = Some (broken_by_one_in g (codes "cycle") i name)
+unfit_in_by g name (refusal.Unreleased i) = Some (broken_by_one_in g (codes "unreleased") i name)
+unfit_in_by g name (refusal.Section i j) = Some (broken_by_two_in g (codes "section") i j name)
+unfit_in_by g name (refusal.Descends i j) = Some (broken_by_two_in g (codes "descends") i j name)
+unfit_in_by g name (refusal.ReleaseFault i) = Some (broken_by_one_in g (codes "release") i name)
+unfit_in_by g name (refusal.Race i j) = Some (broken_by_two_in g (codes "race") i j name)
+unfit_in_by g name refusal.NoMemory = None
+
+abbrev pub unfit_in_text : UnfitGraph → Option (List ℕ)
+unfit_in_text u = unfit_in_by u.graph u.name u.why
 
 -- the line for a trace that is lawful
 abbrev pub lawful_text : List ℕ

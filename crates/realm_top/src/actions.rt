@@ -1,7 +1,7 @@
 //! What actions read.
 
 ghost use Rattle.std.specs.Prelude.{◌≡◌};
-ghost use Rattle.realm_top.specs.Answer.{reads, audits, upgrades, input_limit};
+ghost use Rattle.realm_top.specs.Answer.{reads, audits, upgrades, runs_session, input_limit};
 
 use command_line::request::Action;
 use graph_model::limits::MAX_TEXT;
@@ -38,6 +38,16 @@ pub(crate) fn upgrades(action: Action) -> bool
 {
     match action {
         Action::Upgrade => true,
+        _ => false,
+    }
+}
+
+/// Whether an action runs the graphs of a session.
+pub(crate) fn runs_session(action: Action) -> bool
+    ensures { result ≡ runs_session action }
+{
+    match action {
+        Action::Session => true,
         _ => false,
     }
 }

@@ -1,6 +1,6 @@
 //! What is done with an input that was read to its end.
 
-ghost use Rattle.std.specs.Prelude.{◌≡◌, ℕ, ◌<◌, ◌≤◌, ◌⊎◌, List, [], true, false, length, Some, slice_get, IfOk};
+ghost use Rattle.std.specs.Prelude.{◌≡◌, ℕ, ◌<◌, ◌≤◌, ◌⊎◌, List, [], true, false, length, Some, slice_get, IfOk, IfSome};
 ghost use Rattle.graph_model.specs.meaning.Evaluation.{outcome};
 ghost use Rattle.graph_model.specs.meaning.Trace.{IsLawful};
 ghost use Rattle.graph_model.specs.declared.graph.why.Why.{Why};
@@ -12,18 +12,18 @@ ghost use Rattle.realm_io.specs.Written.{Writes};
 ghost use Rattle.realm_top.specs.Texts.{unread_text, accepted_text, slots_text};
 ghost use Rattle.realm_top.specs.Delivered.{Delivers, IsAnswered};
 ghost use Rattle.realm_top.specs.Refused.{Refuses, Rejects};
-ghost use Rattle.realm_top.specs.Answer.{evaluation_text, report_with, run_text, runs, reads, audits, upgrades, input_limit, is_short, may_end, InputAnswers, Answered, Serves, Settled};
+ghost use Rattle.realm_top.specs.Answer.{evaluation_text, report_with, run_text, runs, reads, audits, upgrades, runs_session, input_limit, is_short, may_end, InputAnswers, Answered, Serves, Settled};
 
-use crate::actions::{audits, upgrades};
+use crate::actions::{audits, runs_session, upgrades};
 use crate::auditing::answer_audit;
 use crate::planning::plan_graph;
 use crate::refusal::{put_accepted, put_broken, put_slots, put_unread};
-use crate::report::put_parts;
 use crate::running::run_graph;
+use crate::sessions::answer_session;
 use crate::status::Status;
 use crate::summary::put_summary;
 use crate::upgrading::answer_upgrade;
-use command_line::request::{Action, MAX_WORKERS, Request};
+use command_line::request::{Action, MAX_SLOTS, MAX_WORKERS, Request};
 use graph_model::graph::Graph;
 use graph_model::limits::MAX_TEXT;
 use graph_model::outcome::Outcome;
@@ -34,6 +34,7 @@ use race_check::check;
 use race_check::checked::{CheckRefusal, Checked, Unfit};
 use realm_io::{Gate, Sink, WriteFault, put};
 use realm_trace::put_trace;
+use run_report::put_evaluation;
 use std::alloc::Global;
 use std::sync::Wait;
 use std::thread::Threads;
@@ -50,6 +51,7 @@ pub(crate) fn answer<R: Threads + Wait + Sync, K: Sink, G: Gate>(
     requires reads { reads request.action ≡ true }
     requires short { length bytes.now ≤ input_limit request.action }
     requires workers { request.workers ≤ MAX_WORKERS }
+    requires slots { IfSome request.slots (λ n. (1 ≤ n) × (n ≤ MAX_SLOTS)) }
     ensures answered { Answered request bytes.now (K.state sink.old) (K.state sink.new) result }
     ensures of_action { may_end request result ≡ true }
     ensures no_memory { result ≡ Status.NoMemory → sink.new ≡ sink.old }
@@ -58,6 +60,8 @@ pub(crate) fn answer<R: Threads + Wait + Sync, K: Sink, G: Gate>(
         answer_audit(alloc, bytes, sink)
     } else if upgrades(request.action) {
         answer_upgrade(alloc, bytes, sink)
+    } else if runs_session(request.action) {
+        answer_session(rt, alloc, request, bytes, sink, gate)
     } else {
         answer_graph(rt, alloc, request, bytes, sink, gate)
     }
@@ -72,7 +76,7 @@ fn answer_graph<R: Threads + Wait + Sync, K: Sink, G: Gate>(
     sink: &mut K,
     gate: &G,
 ) -> Status
-    requires checks { (audits request.action ≡ false) × (upgrades request.action ≡ false) }
+    requires checks { (audits request.action ≡ false) × (upgrades request.action ≡ false) × (runs_session request.action ≡ false) }
     requires short { length bytes.now ≤ MAX_TEXT }
     requires workers { request.workers ≤ MAX_WORKERS }
     ensures answered { IsAnswered (InputAnswers request bytes.now) (K.state sink.old) (K.state sink.new) result }
@@ -93,7 +97,7 @@ pub(crate) fn judge<R: Threads + Wait + Sync, K: Sink, G: Gate>(
     sink: &mut K,
     gate: &G,
 ) -> Status
-    requires checks { (audits request.action ≡ false) × (upgrades request.action ≡ false) }
+    requires checks { (audits request.action ≡ false) × (upgrades request.action ≡ false) × (runs_session request.action ≡ false) }
     requires workers { request.workers ≤ MAX_WORKERS }
     ensures settled { Settled request graph (K.state sink.old) (K.state sink.new) result }
     ensures no_memory { result ≡ Status.NoMemory → sink.new ≡ sink.old }
@@ -113,7 +117,7 @@ fn serve<R: Threads + Wait + Sync, K: Sink, G: Gate>(
     sink: &mut K,
     gate: &G,
 ) -> Status
-    requires checks { (audits request.action ≡ false) × (upgrades request.action ≡ false) }
+    requires checks { (audits request.action ≡ false) × (upgrades request.action ≡ false) × (runs_session request.action ≡ false) }
     requires workers { request.workers ≤ MAX_WORKERS }
     ensures served { Serves request checked.now.graph (K.state sink.old) (K.state sink.new) result }
     ensures no_memory { result ≡ Status.NoMemory → sink.new ≡ sink.old }
@@ -127,7 +131,7 @@ fn serve<R: Threads + Wait + Sync, K: Sink, G: Gate>(
         Action::Eval => evaluate(alloc, request.trace, checked, sink),
         Action::Check => put_need(sink, checked.need()),
         Action::Timeline => plan_graph(alloc, request.workers, checked, sink),
-        Action::Audit | Action::Upgrade => unreachable!(),
+        Action::Audit | Action::Upgrade | Action::Session => unreachable!(),
     }
 }
 
@@ -220,7 +224,7 @@ fn put_outcome<K: Sink>(
     requires lines { (k i : ℕ) → slice_get found.now.trace k ≡ Some i → i < length graph.now.lines }
     ensures { Writes (K.state sink.old) (K.state sink.new) result (report_with trace graph.now found.now.trace) }
 {
-    put_parts(sink, graph, found)?;
+    put_evaluation(sink, graph, found)?;
     if trace {
         put_trace(sink, graph, &found.trace)
     } else {
@@ -246,7 +250,7 @@ fn put_need<K: Sink>(sink: &mut K, need: u32) -> Status
 }
 
 /// Writes how many slots a run needs that was given fewer.
-fn put_short<K: Sink>(sink: &mut K, need: u32) -> Status
+pub(crate) fn put_short<K: Sink>(sink: &mut K, need: u32) -> Status
     ensures { Delivers (K.state sink.old) (K.state sink.new) Status.Slots result (slots_text need) }
 {
     match put_slots(sink, need) {
@@ -284,7 +288,7 @@ pub(crate) fn refuse<K: Sink>(sink: &mut K, refusal: ReadRefusal) -> Status
 }
 
 /// Writes which line is refused and why, and flushes it.
-fn put_refusal<K: Sink>(sink: &mut K, number: u32, why: Why) -> Status
+pub(crate) fn put_refusal<K: Sink>(sink: &mut K, number: u32, why: Why) -> Status
     ensures { Delivers (K.state sink.old) (K.state sink.new) Status.Unread result (unread_text number why) }
 {
     match put_unread(sink, number, why) {

@@ -7,8 +7,8 @@ mod input;
 mod making;
 mod planning;
 mod refusal;
-pub mod report;
 mod running;
+mod sessions;
 pub mod status;
 mod summary;
 mod unlawful;
@@ -22,9 +22,10 @@ ghost use Rattle.graph_reader.specs.Text.{GraphText};
 ghost use Rattle.graph_gen.specs.MadeGraph.{made_graph};
 ghost use Rattle.command_line.specs.Request.{request_of_words, Asks};
 ghost use Rattle.command_line.specs.declared.request.Request.{Request};
-ghost use Rattle.realm_top.specs.Answer.{reads, checks, audits, upgrades, made_says, EndsByPaths, may_end, IsInput, Answers, AsksStatus, IsDone};
+ghost use Rattle.realm_top.specs.Answer.{reads, checks, audits, upgrades, runs_session, made_says, EndsByPaths, may_end, IsInput, Answers, AsksStatus, IsDone};
 ghost use Rattle.realm_top.specs.AuditAnswer.{IsAudited};
 ghost use Rattle.realm_top.specs.UpgradeAnswer.{IsUpgraded};
+ghost use Rattle.realm_top.specs.SessionAnswer.{session_slots, IsSessionDone};
 ghost use Rattle.realm_top.specs.Delivered.{Delivered, BrokenOff};
 ghost use Rattle.realm_top.specs.Status.{words_status, is_refusal};
 ghost use Rattle.realm_top.specs.declared.status.Status.{Status};
@@ -38,13 +39,16 @@ use graph_model::laws::{cancelled_where_unbroken, needs_are_one, waits_where_rea
 use graph_reader::laws::bytes_have_one_reading;
 use realm_audit::reading::text_tells_traces_apart;
 use realm_io::{Gate, ReadEnd, Sink, Source, read_all};
+use session_run::laws::sessions_have_one_end;
+use session_text::laws::bytes_have_one_session;
 use std::alloc::Global;
 use std::sync::Wait;
 use std::thread::Threads;
 
 /// Does what the words ask for. `run`, `check`, `eval` and `timeline` read a graph and check it; `audit`
-/// reads a graph with a trace behind it; `upgrade` reads a graph and does not check it; `make` reads
-/// nothing and makes a graph of the seed and the size.
+/// reads a graph with a trace behind it; `upgrade` reads a graph and does not check it; `session` reads
+/// graphs with links to earlier ones, and checks and runs one after the other; `make` reads nothing and
+/// makes a graph of the seed and the size.
 ///
 /// `words` are the program's name, the word of the action, and options. A graph is run by as many
 /// workers as they say. A worker passes the gate before it performs a line, and may wait there and for
@@ -80,6 +84,11 @@ pub fn realm<R: Threads + Wait + Sync, S: Source, K: Sink, G: Gate>(
     ensures upgraded { result ≡ Status.Done → (request : Request) × Asks words.now request × (upgrades request.action ≡ true
         → IfSome (S.left source.old) (λ bytes. IsUpgraded bytes (K.state sink.old) (K.state sink.new))) }
 
+    // Done, of `session`: the input is the one text of a session, each of its graphs with its links as lines is accepted, the
+    // events of the lines that wait have slots enough, and the report of the session was written and flushed.
+    ensures session { result ≡ Status.Done → (request : Request) × Asks words.now request × (runs_session request.action ≡ true
+        → IfSome (S.left source.old) (λ bytes. IsSessionDone (session_slots request.slots) bytes (K.state sink.old) (K.state sink.new))) }
+
     // And all of the input was read.
     ensures at_end { result ≡ Status.Done → (request : Request) × Asks words.now request × (reads request.action ≡ true
         → IsAtEnd (S.left source.new)) }
@@ -97,14 +106,14 @@ pub fn realm<R: Threads + Wait + Sync, S: Source, K: Sink, G: Gate>(
 
     // Unread, Unfit, Slots, TooLong and Unlawful: the input, or the graph that was made, asks for that status, and the
     // text that says why was written and flushed: the first refused line with its first reason, the first rule that
-    // fails with the least lines, the need, that more was left than 1,048,576 bytes, and for `audit` than 2,097,152, or
-    // the first fault of the trace.
+    // fails with the least lines, for `session` of the first graph that cannot run and with its name, the need, that more
+    // was left than 1,048,576 bytes, and for `audit` than 2,097,152, or the first fault of the trace.
     ensures refused { is_refusal result ≡ true → (request : Request) × Asks words.now request
         × ((bytes : List ℕ) → IsInput request.action (S.left source.old) bytes
         → (out : List ℕ) × Answers request bytes result out × Delivered (K.state sink.old) (K.state sink.new) out) }
 
     // By the words alone: Unread, ReadFault and TooLong only where the action reads, Unfit where it checks a graph that it
-    // read, Slots where a graph is run, Unlawful where a trace is read; and Usage never where they ask for something.
+    // read, Slots where graphs are run, Unlawful where a trace is read; and Usage never where they ask for something.
     ensures of_action { (request : Request) → Asks words.now request → may_end request result ≡ true }
 
     // ReadFault: a fault of reading was counted in this call, and nothing was written.
@@ -133,6 +142,8 @@ pub fn realm<R: Threads + Wait + Sync, S: Source, K: Sink, G: Gate>(
     cancelled_where_unbroken();
     needs_are_one();
     text_tells_traces_apart();
+    bytes_have_one_session();
+    sessions_have_one_end();
     let request = match read_words(alloc, words) {
         Ok(request) => request,
         Err(fault) => return words_status(fault),

@@ -10,9 +10,9 @@ pub enum Status {
     Done,
     /// The words name no action.
     Usage,
-    /// The input is no text that is read: not that of a graph, or behind it not that of a trace.
+    /// The input is no text that is read: not that of a graph or a session, or behind it not that of a trace.
     Unread,
-    /// The graph breaks a rule.
+    /// A graph breaks a rule.
     Unfit,
     /// A read failed.
     ReadFault,
@@ -20,7 +20,7 @@ pub enum Status {
     WriteFault,
     /// Memory ran out, before anything was written.
     NoMemory,
-    /// The run was given too few slots.
+    /// The run, or the session, was given too few slots.
     Slots,
     /// The input has more bytes than the action takes: 1,048,576, and for `audit` 2,097,152.
     TooLong,

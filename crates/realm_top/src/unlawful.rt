@@ -7,12 +7,12 @@ ghost use Rattle.realm_audit.specs.Lawful.{NamesLines};
 ghost use Rattle.realm_audit.specs.declared.refusal.AuditRefusal.{AuditRefusal};
 ghost use Rattle.realm_top.specs.Texts.{trace_refused_text, unlawful_at, unlawful_with, unlawful_without, unlawful_text};
 
-use crate::report::{put_five, put_four, put_three};
 use graph_model::graph::Graph;
 use graph_model::lists::LineList;
 use itoa::Buffer;
 use realm_audit::AuditRefusal;
 use realm_io::{Sink, WriteFault};
+use run_report::{put_five, put_four, put_three};
 
 /// Writes that the line of this number, counted from 1, is the first with which no text of a trace begins.
 pub(crate) fn put_trace_refused<K: Sink>(sink: &mut K, number: u64) -> Result<(), WriteFault>

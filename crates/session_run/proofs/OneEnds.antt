@@ -1,6 +1,6 @@
 -- The first refusal of a session's graphs is one.
 use Rattle.std.proofs.Common.{◌≡◌, ◌≢◌, ℕ, ◌≤◌, ◌⊎◌, List, [], ◌∷◌, ◌++◌, inl, inr, ⊎_elim, refl, sym, ◌∙◌, ap, subst, arith}
-use Rattle.std.proofs.lemmas.List.Elements.{Contains-append_right}
+use Rattle.std.proofs.lemmas.List.Elements.{Contains-append_left, Contains-append_right}
 use Rattle.basics.proofs.Sums.{total-append}
 use Rattle.graph_model.specs.graph.Graph.{GraphValue}
 use Rattle.graph_model.specs.meaning.Rules.{Accepted}
@@ -15,6 +15,7 @@ use Rattle.session_run.specs.Linked.{LinkedGraph}
 use Rattle.session_run.specs.Running.{ends_of, slots_needed}
 use Rattle.session_run.specs.Session.{CanRun, Refuses, Stops}
 use Rattle.session_run.specs.Laws.{OneEnd}
+use Rattle.session_run.proofs.Recording.{push_cases}
 
 -- a rule fails at some lines, and so not for all
 broken_by : (g : GraphValue) (why : CheckRefusal) → why ≢ refusal.NoMemory → IsRefusal g why → Accepted g → ⊥
@@ -60,6 +61,21 @@ one_graph slots gs e f m n s t =
     ⊎_elim (λ k. k) (λ k. absurd (⊎_elim (λ d. refused_over slots s.before d.0 t.before s.graph e m s.refused d.1 t.ran) (λ d. refused_over slots t.before d.0 s.before t.graph f n t.refused d.1 s.ran) k))
     (compare s.before t.before s.graph t.graph s.behind t.behind (sym s.split ∙ t.split))
 
+-- where graphs run, each of them does behind those before it
+runs_over : (slots : ℕ) (b d c : List LinkedGraph) (x : LinkedGraph) → c ≡ b ++ x ∷ d → CanRun slots c → CanRun slots (b ++ x ∷ [])
+runs_over slots b d c x e r =
+    let whole = subst (CanRun slots) e r in
+    let o = ran_over slots b d x whole in
+    record {
+      accepted = λ y h. ⊎_elim (λ k. whole.accepted y (Contains-append_left b (x ∷ d) y k)) (λ k. subst (λ (z : LinkedGraph). Accepted z.graph) k o.0) (push_cases b x y h);
+      enough = o.1;
+    }
+
+first_is : (slots : ℕ) (gs : List LinkedGraph) (f : RunFault) → f ≢ fault.NoMemory → (s : Stops slots gs f) → (before behind : List LinkedGraph) (x : LinkedGraph) → gs ≡ before ++ x ∷ behind → CanRun slots before → (CanRun slots (before ++ x ∷ []) → ⊥) → (s.before ≡ before) × (s.graph ≡ x)
+first_is slots gs f n s before behind x e r not =
+    ⊎_elim (λ k. k) (λ k. absurd (⊎_elim (λ d. refused_over slots s.before d.0 before s.graph f n s.refused d.1 r) (λ d. not (runs_over slots before d.0 s.before x d.1 s.ran)) k))
+    (compare s.before before s.graph x s.behind behind (sym s.split ∙ e))
+
 slots_are : (n : ℕ) → fault.Slots n ≢ fault.NoMemory
 slots_are n e = cc
 
@@ -77,4 +93,6 @@ one_end slots gs = record {
   not_both = λ f n c s. refused_over slots s.before s.behind gs s.graph f n s.refused s.split c;
   one_graph = one_graph slots gs;
   one_kind = one_kind slots gs;
+  each_runs = λ before behind x e c. runs_over slots before behind gs x e c;
+  first_is = first_is slots gs;
 }

@@ -9,4 +9,4 @@ mod session;
 
 pub use ended::Ended;
 pub use running::{Linked, RanGraph, RecordFault, Running};
-pub use session::{Engine, RunFault, UnfitGraph, run_session};
+pub use session::{RunFault, UnfitGraph, run_session};

@@ -1,15 +1,16 @@
 //! Running the graphs of a session in order.
 
 ghost use Rattle.std.specs.Prelude.{◌≡◌, ℕ, ◌+◌, ◌<◌, ◌≤◌, ◌++◌, ◌∷◌, [], List, length, map, IfOk, IfErr};
+ghost use Rattle.std.specs.Fn.{FnReturnsAt};
 ghost use Rattle.gen_events.specs.declared.limits.TheConstants.{MAX_SLOTS};
 ghost use Rattle.graph_model.specs.meaning.Rules.{Accepted};
-ghost use Rattle.race_check.specs.Refusal.{IsRefusal};
+ghost use Rattle.race_check.specs.Refusal.{IsRefusal, NamesLines};
 ghost use Rattle.session_text.specs.declared.limits.TheConstants.{MAX_GRAPHS, MAX_SESSION_LINES};
 ghost use Rattle.session_text.specs.Fits.{AreEntries};
 ghost use Rattle.session_run.specs.Ended.{IsEnded};
 ghost use Rattle.session_run.specs.Linked.{LinkedGraph, linked, linked_entry};
-ghost use Rattle.session_run.specs.Running.{line_total, linked_of, ran_by, slots_needed, slots_of, IsOutcome, IsRunning};
-ghost use Rattle.session_run.specs.Session.{AreNext, CanRun, CanRunNext, Refuses, StopsOr};
+ghost use Rattle.session_run.specs.Running.{line_total, linked_of, ran_by, slots_needed, slots_of, IsRunning};
+ghost use Rattle.session_run.specs.Session.{AreNext, CanRun, CanRunNext, GivesOutcomes, Refuses, StopsOr};
 
 use crate::ended::Ended;
 use crate::running::{Linked, RecordFault, Running};
@@ -22,13 +23,6 @@ use race_check::check;
 use race_check::checked::{CheckRefusal, Unfit};
 use session_text::Entry;
 use std::alloc::Global;
-
-/// What runs a graph that is accepted.
-pub trait Engine {
-    /// What a run of the graph gives.
-    fn run(&self, alloc: Global, checked: &Checked) -> Result<Outcome, NoMemory>
-        ensures outcome { IfOk result (λ o. IsOutcome checked.now.graph o) };
-}
 
 /// A graph with its links that was not accepted, and why.
 #[derive(Drop)]
@@ -52,6 +46,7 @@ pub enum RunFault {
 /// What is said of a graph of this name that was not accepted.
 fn unfit_fault(name: Name, unfit: Unfit) -> RunFault
     requires refused { IsRefusal unfit.graph unfit.why }
+    requires names { NamesLines unfit.graph unfit.why }
     ensures { (slots : ℕ) (before : List LinkedGraph) → Refuses slots before (record { name = name; graph = unfit.graph }) result }
 {
     match unfit.why {
@@ -64,16 +59,18 @@ fn unfit_fault(name: Name, unfit: Unfit) -> RunFault
     }
 }
 
-/// Runs the graphs of a session by the engine, in order, each with its links as lines, and records each
-/// before the next is checked. The first that is refused ends it.
-pub fn run_session<E: Engine>(
+/// Runs the graphs of a session in order, each with its links as lines and by a call of `run`, and records
+/// each before the next is checked. The first that is refused ends it.
+pub fn run_session<F: Fn(&Checked) -> Result<Outcome, NoMemory>>(
     alloc: Global,
-    engine: &E,
+    run: &F,
     entries: Vec<Entry>,
     slots: u32,
 ) -> Result<Ended, RunFault>
     requires slots { (0 < slots) × (slots ≤ MAX_SLOTS) }
     requires entries { AreEntries entries.items }
+    requires callable { F.IsAlwaysCallable run.now }
+    requires outcomes { GivesOutcomes (FnReturnsAt F.Fn run.now) }
     ensures ended { IfOk result (λ e. IsEnded e) }
     ensures linked { IfOk result (λ e. map linked_of e.graphs.items ≡ linked entries.items) }
     ensures ran { IfOk result (λ _. CanRun slots (linked entries.items)) }
@@ -85,7 +82,7 @@ pub fn run_session<E: Engine>(
         Err(NoMemory) => return Err(RunFault::NoMemory),
     };
     while !entries.is_empty() {
-        running = match run_next(alloc, engine, running, entries.remove(0)) {
+        running = match run_next(alloc, run, running, entries.remove(0)) {
             Ok(running) => running,
             Err(fault) => return Err(fault),
         };
@@ -93,15 +90,17 @@ pub fn run_session<E: Engine>(
     Ok(running.close())
 }
 
-/// Runs the next graph of a session by the engine, and records it behind those that were run.
-fn run_next<E: Engine>(
+/// Runs the next graph of a session, and records it behind those that were run.
+fn run_next<F: Fn(&Checked) -> Result<Outcome, NoMemory>>(
     alloc: Global,
-    engine: &E,
+    run: &F,
     running: Running,
     entry: Entry,
 ) -> Result<Running, RunFault>
     requires running { IsRunning running }
     requires next { CanRunNext (ran_by running) entry }
+    requires callable { F.IsAlwaysCallable run.now }
+    requires outcomes { GivesOutcomes (FnReturnsAt F.Fn run.now) }
     ensures running { IfOk result (λ r. IsRunning r) }
     ensures slots { IfOk result (λ r. slots_of r ≡ slots_of running) }
     ensures ran { IfOk result (λ r. ran_by r ≡ ran_by running ++ linked_entry (ran_by running) entry ∷ []) }
@@ -115,15 +114,15 @@ fn run_next<E: Engine>(
         Err(NoMemory) => return Err(RunFault::NoMemory),
     };
     match check(alloc, graph) {
-        Ok(checked) => run_checked(alloc, engine, running, name, checked),
+        Ok(checked) => run_checked(alloc, run, running, name, checked),
         Err(unfit) => Err(unfit_fault(name, unfit)),
     }
 }
 
 /// Runs a graph that is accepted, and records it behind those that were run.
-fn run_checked<E: Engine>(
+fn run_checked<F: Fn(&Checked) -> Result<Outcome, NoMemory>>(
     alloc: Global,
-    engine: &E,
+    run: &F,
     running: Running,
     name: Name,
     checked: Checked,
@@ -131,13 +130,15 @@ fn run_checked<E: Engine>(
     requires running { IsRunning running }
     requires graphs { length (ran_by running) < MAX_GRAPHS }
     requires few { line_total (ran_by running) + length checked.graph.lines ≤ MAX_SESSION_LINES }
+    requires callable { F.IsAlwaysCallable run.now }
+    requires outcomes { GivesOutcomes (FnReturnsAt F.Fn run.now) }
     ensures running { IfOk result (λ r. IsRunning r) }
     ensures slots { IfOk result (λ r. slots_of r ≡ slots_of running) }
     ensures ran { IfOk result (λ r. ran_by r ≡ ran_by running ++ record { name = name; graph = checked.graph } ∷ []) }
     ensures enough { IfOk result (λ r. slots_needed (ran_by r) ≤ slots_of running) }
     ensures refused { IfErr result (λ fault. Refuses (slots_of running) (ran_by running) (record { name = name; graph = checked.graph }) fault) }
 {
-    let Ok(outcome) = engine.run(alloc, &checked) else {
+    let Ok(outcome) = run(&checked) else {
         return Err(RunFault::NoMemory);
     };
     let _ = checked.graph();

@@ -5,22 +5,11 @@ ghost use Rattle.session_text.specs.Fits.{AreEntries};
 ghost use Rattle.session_run.specs.Ended.{IsEnded};
 
 use graph_model::checked::Checked;
-use graph_model::outcome::Outcome;
-use index_spaces::NoMemory;
 use plain_eval::evaluation::eval;
 use realm_session::Answer;
-use session_run::{Ended, Engine, RunFault, run_session};
+use session_run::{Ended, RunFault, run_session};
 use session_text::{Entry, read_session};
 use std::alloc::{AllocError, Global};
-
-/// Runs a graph by its evaluation.
-struct Plain;
-
-impl Engine for Plain {
-    fn run(&self, alloc: Global, checked: &Checked) -> Result<Outcome, NoMemory> {
-        eval(alloc, checked)
-    }
-}
 
 /// The graphs of a text. `None` where it is no text of a session, or memory ran out.
 pub(crate) fn entries_of(alloc: Global, text: &str) -> Option<Vec<Entry>>
@@ -33,7 +22,7 @@ pub(crate) fn entries_of(alloc: Global, text: &str) -> Option<Vec<Entry>>
     read_session(alloc, bytes).ok()
 }
 
-/// Runs the graphs of a session with so many slots, of which there are some.
+/// Runs the graphs of a session with so many slots, of which there are some, each by its evaluation.
 pub(crate) fn run_entries(alloc: Global, entries: Vec<Entry>, slots: u32) -> Result<Ended, RunFault>
     requires { AreEntries entries.items }
     ensures { IfOk result IsEnded }
@@ -41,7 +30,8 @@ pub(crate) fn run_entries(alloc: Global, entries: Vec<Entry>, slots: u32) -> Res
     if slots == 0 || slots > 8_192 {
         return Err(RunFault::Slots(0));
     }
-    run_session(alloc, &Plain, entries, slots)
+    let run = |checked: &Checked| eval(alloc, checked);
+    run_session(alloc, &run, entries, slots)
 }
 
 /// Runs the graphs of a text with so many slots. `Slots(0)` where it is no text of a session.

@@ -2,7 +2,7 @@ use Rattle.std.proofs.Common.{◌≡◌, ◌<◌, ℕ, List, length, ap, Err, sy
 use Rattle.std.specs.Prelude.{Some}
 use Rattle.std.proofs.lemmas.Option.{same_Some}
 use Rattle.realm_top.proofs.Delivering.{more_left, if_some, ends_by_paths}
-use Rattle.realm_top.proofs.Requests.{request_refused, request_cut_off, request_complete, request_done, request_audited, request_upgraded, request_made, answered_input, answered_long, answered_made, read_answered}
+use Rattle.realm_top.proofs.Requests.{request_refused, request_cut_off, request_complete, request_done, request_audited, request_upgraded, request_session, request_made, answered_input, answered_long, answered_made, read_answered}
 use Rattle.realm_top.proofs.realm.Goals as goal
 
 pub returns-then-not-reads-clause-made : goal.returns-then-not-reads-clause-made
@@ -22,7 +22,7 @@ pub returns-then-not-reads-clause-complete : goal.returns-then-not-reads-clause-
 returns-then-not-reads-clause-complete g c =
     let left = g.S.Source.left c.args.source.now in
     λ request xs status w i a quiet silent.
-    request_complete c.in-Ok.request left _ _ c.answer_made.result (answered_made c.in-Ok.request (sym c.if-not-reads.ensures) left _ _ c.answer_made.result c.answer_made.ensures.answered) c.needs_are_one.ensures c.bytes_have_one_reading.ensures c.text_tells_traces_apart.ensures
+    request_complete c.in-Ok.request left _ _ c.answer_made.result (answered_made c.in-Ok.request (sym c.if-not-reads.ensures) left _ _ c.answer_made.result c.answer_made.ensures.answered) c.needs_are_one.ensures c.bytes_have_one_reading.ensures c.text_tells_traces_apart.ensures c.bytes_have_one_session.ensures c.sessions_have_one_end.ensures
     request (same_Some _ _ (sym c.in-Ok.ensures.request ∙ w)) xs status i a silent
 
 pub returns-in-Ok-read_all-clause-done : goal.returns-in-Ok-read_all-clause-done
@@ -59,6 +59,14 @@ returns-in-Ok-read_all-clause-upgraded g c = λ e. (
       (read_answered c.in-Ok.request _ _ c.in-Ok-read_all.bytes.items _ _ _ c.answer.result c.in-Ok-read_all.ensures.all c.in-Ok-read_all.ensures.end c.as_slice.ensures.value c.answer.ensures.answered xs h) e),
 )
 
+pub returns-in-Ok-read_all-clause-session : goal.returns-in-Ok-read_all-clause-session
+returns-in-Ok-read_all-clause-session g c = λ e. (
+  c.in-Ok.request,
+  c.in-Ok.ensures.request,
+  λ y. if_some (g.S.Source.left c.args.source.now) _ (λ xs h. request_session c.in-Ok.request xs _ _ c.answer.result y
+      (read_answered c.in-Ok.request _ _ c.in-Ok-read_all.bytes.items _ _ _ c.answer.result c.in-Ok-read_all.ensures.all c.in-Ok-read_all.ensures.end c.as_slice.ensures.value c.answer.ensures.answered xs h) e),
+)
+
 pub returns-in-Ok-read_all-clause-refused : goal.returns-in-Ok-read_all-clause-refused
 returns-in-Ok-read_all-clause-refused g c =
     let left = g.S.Source.left c.args.source.now in
@@ -83,7 +91,7 @@ pub returns-in-Ok-read_all-clause-complete : goal.returns-in-Ok-read_all-clause-
 returns-in-Ok-read_all-clause-complete g c =
     let left = g.S.Source.left c.args.source.now in
     λ request xs status w i a quiet silent. request_complete c.in-Ok.request left _ _ c.answer.result
-    (answered_input c.in-Ok.request (sym c.if-not-reads.ensures) left _ c.in-Ok-read_all.bytes.items _ _ _ c.answer.result c.in-Ok-read_all.ensures.all c.in-Ok-read_all.ensures.end c.as_slice.ensures.value c.answer.ensures.answered) c.needs_are_one.ensures c.bytes_have_one_reading.ensures c.text_tells_traces_apart.ensures
+    (answered_input c.in-Ok.request (sym c.if-not-reads.ensures) left _ c.in-Ok-read_all.bytes.items _ _ _ c.answer.result c.in-Ok-read_all.ensures.all c.in-Ok-read_all.ensures.end c.as_slice.ensures.value c.answer.ensures.answered) c.needs_are_one.ensures c.bytes_have_one_reading.ensures c.text_tells_traces_apart.ensures c.bytes_have_one_session.ensures c.sessions_have_one_end.ensures
     request (same_Some _ _ (sym c.in-Ok.ensures.request ∙ w)) xs status i a silent
 
 pub returns-in-Err-TooLong-clause-refused : goal.returns-in-Err-TooLong-clause-refused
@@ -111,5 +119,5 @@ returns-in-Err-TooLong-clause-complete g c =
     let left = g.S.Source.left c.args.source.now in
     let long = λ (xs : List ℕ) (h : left ≡ Some xs). subst (λ n. n < length xs) c.input_limit.ensures (more_left _ _ c.input_limit.result (c.in-Err-TooLong.ensures.too_long (ap (λ e. Err e) c.in-Err-TooLong.field-0-is)) xs h) in
     λ request xs status w i a quiet silent. request_complete c.in-Ok.request left _ _ c.put_text.result
-    (answered_long c.in-Ok.request (sym c.if-not-reads.ensures) left _ _ c.put_text.result long c.put_text.ensures) c.needs_are_one.ensures c.bytes_have_one_reading.ensures c.text_tells_traces_apart.ensures
+    (answered_long c.in-Ok.request (sym c.if-not-reads.ensures) left _ _ c.put_text.result long c.put_text.ensures) c.needs_are_one.ensures c.bytes_have_one_reading.ensures c.text_tells_traces_apart.ensures c.bytes_have_one_session.ensures c.sessions_have_one_end.ensures
     request (same_Some _ _ (sym c.in-Ok.ensures.request ∙ w)) xs status i a silent

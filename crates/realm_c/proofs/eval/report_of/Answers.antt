@@ -1,6 +1,6 @@
 use Rattle.std.proofs.Common.{ap, ◌∙◌}
 use Rattle.std.proofs.lemmas.Option.{IfSome_then}
-use Rattle.realm_top.specs.Answer.{evaluation_report}
+use Rattle.run_report.specs.Report.{evaluation_report}
 use Rattle.realm_c.proofs.eval.report_of.Goals as goal
 
 pub returns : goal.returns

@@ -1,9 +1,10 @@
 use Rattle.std.proofs.Common.{◌≤◌, length, sym, subst}
 use Rattle.realm_top.specs.AuditAnswer.{AuditAnswers}
 use Rattle.realm_top.specs.UpgradeAnswer.{UpgradeAnswers}
+use Rattle.realm_top.specs.SessionAnswer.{session_slots, SessionAnswers}
 use Rattle.realm_top.specs.Answer.{InputAnswers, Answers, purpose}
 use Rattle.realm_top.proofs.Delivering.{answered_by}
-use Rattle.realm_top.proofs.Requests.{answers_checked, answers_audit, answers_upgrade, limit_checked, limit_audit, limit_upgrade, checked_else}
+use Rattle.realm_top.proofs.Requests.{answers_checked, answers_audit, answers_upgrade, answers_session, limit_checked, limit_audit, limit_upgrade, limit_session, checked_else}
 use Rattle.realm_top.proofs.input.answer.Goals as goal
 
 pub answer_audit-requires : goal.answer_audit-requires
@@ -12,10 +13,13 @@ answer_audit-requires g c = record { short = subst (λ n. length c.args.bytes.no
 pub answer_upgrade-requires : goal.answer_upgrade-requires
 answer_upgrade-requires g c = record { short = subst (λ n. length c.args.bytes.now ≤ n) (limit_upgrade (purpose c.args.request.action) (sym c.if-upgrades.ensures)) c.requires.short }
 
+pub answer_session-requires-clause-short : goal.answer_session-requires-clause-short
+answer_session-requires-clause-short g c = λ κs lives. subst (λ n. length c.args.bytes.now ≤ n) (limit_session (purpose c.args.request.action) (sym c.if-runs_session.ensures)) c.requires.short
+
 pub answer_graph-requires-clause-short : goal.answer_graph-requires-clause-short
 answer_graph-requires-clause-short g c = λ κs lives.
     let w = purpose c.args.request.action in
-    subst (λ n. length c.args.bytes.now ≤ n) (limit_checked w (checked_else w c.requires.reads (sym c.if-audits.ensures) (sym c.if-upgrades.ensures))) c.requires.short
+    subst (λ n. length c.args.bytes.now ≤ n) (limit_checked w (checked_else w c.requires.reads (sym c.if-audits.ensures) (sym c.if-upgrades.ensures) (sym c.if-runs_session.ensures))) c.requires.short
 
 pub returns-then-audits-clause-answered : goal.returns-then-audits-clause-answered
 returns-then-audits-clause-answered g c =
@@ -29,9 +33,15 @@ returns-then-upgrades-clause-answered g c =
     let bytes = c.args.bytes.now in
     answered_by (UpgradeAnswers bytes) _ _ c.answer_upgrade.result (Answers request bytes) (answers_upgrade (purpose request.action) request bytes (sym c.if-upgrades.ensures)) c.answer_upgrade.ensures.answered
 
-pub returns-else-upgrades-clause-answered : goal.returns-else-upgrades-clause-answered
-returns-else-upgrades-clause-answered g c =
+pub returns-then-runs_session-clause-answered : goal.returns-then-runs_session-clause-answered
+returns-then-runs_session-clause-answered g c =
     let request = c.args.request in
     let bytes = c.args.bytes.now in
-    let checked = checked_else (purpose request.action) c.requires.reads (sym c.if-audits.ensures) (sym c.if-upgrades.ensures) in
+    answered_by (SessionAnswers (session_slots request.slots) bytes) _ _ c.answer_session.result (Answers request bytes) (answers_session (purpose request.action) request bytes (sym c.if-runs_session.ensures)) c.answer_session.ensures.answered
+
+pub returns-else-runs_session-clause-answered : goal.returns-else-runs_session-clause-answered
+returns-else-runs_session-clause-answered g c =
+    let request = c.args.request in
+    let bytes = c.args.bytes.now in
+    let checked = checked_else (purpose request.action) c.requires.reads (sym c.if-audits.ensures) (sym c.if-upgrades.ensures) (sym c.if-runs_session.ensures) in
     answered_by (InputAnswers request bytes) _ _ c.answer_graph.result (Answers request bytes) (answers_checked (purpose request.action) request bytes checked) c.answer_graph.ensures.answered

@@ -1,6 +1,6 @@
 use Rattle.std.proofs.Common.{◌∙◌, subst}
 use Rattle.realm_io.specs.Written.{Writes}
-use Rattle.realm_top.proofs.Fitting.{words_are}
+use Rattle.realm_top.proofs.RefusedLines.{words_are}
 use Rattle.realm_top.proofs.refusal.put_unread.Goals as goal
 
 pub returns : goal.returns

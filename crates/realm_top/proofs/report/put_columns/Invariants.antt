@@ -1,9 +1,0 @@
-use Rattle.std.proofs.Common.{drop}
-use Rattle.realm_top.specs.Texts.{column_texts}
-use Rattle.realm_io.proofs.WrittenLaws.{Progress}
-use Rattle.realm_top.proofs.report.put_columns.Given as goal
-
-abbrev pub invariant-loop-c : goal.invariant-loop-c
-invariant-loop-c g l =
-    Progress (g.K.Sink.state l.initial.sink) (g.K.Sink.state l.sink)
-    (column_texts l.graph 0 l.outcome.columns) (column_texts l.graph l.c (drop l.c l.outcome.columns))

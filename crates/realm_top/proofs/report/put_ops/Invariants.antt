@@ -1,9 +1,0 @@
-use Rattle.std.proofs.Common.{drop}
-use Rattle.realm_top.specs.Texts.{op_texts}
-use Rattle.realm_io.proofs.WrittenLaws.{Progress}
-use Rattle.realm_top.proofs.report.put_ops.Given as goal
-
-abbrev pub invariant-loop-i : goal.invariant-loop-i
-invariant-loop-i g l =
-    Progress (g.K.Sink.state l.initial.sink) (g.K.Sink.state l.sink)
-    (op_texts l.graph.lines l.outcome.ends l.outcome.answers) (op_texts (drop l.i l.graph.lines) (drop l.i l.outcome.ends) (drop l.i l.outcome.answers))

@@ -1,9 +1,0 @@
-use Rattle.std.proofs.Common.{drop}
-use Rattle.realm_top.specs.Texts.{phase_texts}
-use Rattle.realm_io.proofs.WrittenLaws.{Progress}
-use Rattle.realm_top.proofs.report.put_phases.Given as goal
-
-abbrev pub invariant-loop-i : goal.invariant-loop-i
-invariant-loop-i g l =
-    Progress (g.K.Sink.state l.initial.sink) (g.K.Sink.state l.sink)
-    (phase_texts l.graph.lines l.outcome.phases) (phase_texts (drop l.i l.graph.lines) (drop l.i l.outcome.phases))

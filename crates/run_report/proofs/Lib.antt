@@ -1,0 +1,3 @@
+pub mod WordLines
+pub mod ReportRest
+pub mod Fitting

@@ -1,0 +1,9 @@
+use Rattle.std.proofs.Common.{drop}
+use Rattle.run_report.specs.Report.{op_texts}
+use Rattle.realm_io.proofs.WrittenLaws.{Progress}
+use Rattle.run_report.proofs.report.put_ops.Given as goal
+
+abbrev pub invariant-loop-i : goal.invariant-loop-i
+invariant-loop-i g l =
+    Progress (g.K.Sink.state l.initial.sink) (g.K.Sink.state l.sink)
+    (op_texts l.graph.lines l.outcome.ends l.outcome.answers) (op_texts (drop l.i l.graph.lines) (drop l.i l.outcome.ends) (drop l.i l.outcome.answers))

@@ -1,0 +1,8 @@
+//! The report of an outcome, and lines of words.
+#![tactic(auto)]
+
+mod report;
+mod words;
+
+pub use report::{put_evaluation, put_report};
+pub use words::{put_five, put_four, put_six, put_three, put_two};

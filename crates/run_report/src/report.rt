@@ -1,0 +1,254 @@
+//! The report of an outcome.
+
+ghost use Rattle.std.specs.Prelude.{◌≡◌, ℕ, ◌<◌, ◌≤◌, length, ◌+◌, ◌-◌, true, map, take, drop, flat_map, [], ◌∷◌, ◌++◌, decimal, OnOk, OnErr};
+ghost use Rattle.realm_io.specs.Counts.{Rose};
+ghost use Rattle.realm_io.specs.Told.{with_more, TookPrefix};
+ghost use Rattle.graph_model.specs.graph.Spelling.{spelled, interval_word};
+ghost use Rattle.run_report.specs.Report.{FitsGraph, end_word, answer_word, op_text, op_texts, phase_text, phase_texts, interval_front, interval_text, cells_texts, column_texts, report, evaluation_report};
+ghost use Rattle.index_spaces.specs.Space.{space_size, IsSpace};
+ghost use Rattle.graph_model.specs.graph.Graph.{is_phase};
+ghost use Rattle.graph_model.specs.meaning.Evaluation.{outcome};
+ghost use Rattle.realm_io.specs.Written.{Writes};
+
+use crate::words::{put_four, put_three};
+use graph_model::graph::Graph;
+use graph_model::name::Name;
+use graph_model::outcome::{Answer, End, Outcome};
+use graph_model::verb::{Line, Verb};
+use graph_reader::{put_column_name, put_interval};
+use index_spaces::column::Column;
+use index_spaces::limits::MAX_POINTS;
+use itoa::Buffer;
+use realm_io::{Sink, WriteFault, put_bytes, put_decimal};
+
+fn end_word(end: End) -> &'static [u8]
+    ensures { result.now ≡ end_word end }
+{
+    match end {
+        End::Done => b"done",
+        End::Faulted => b"faulted",
+        End::Cancelled => b"cancelled",
+        End::Waiting => b"waiting",
+    }
+}
+
+fn answer_word(answer: Answer) -> &'static [u8]
+    ensures { result.now ≡ answer_word answer }
+{
+    match answer {
+        Answer::Triggered => b"triggered",
+        Answer::Poisoned => b"poisoned",
+        Answer::Pending => b"pending",
+    }
+}
+
+/// Writes the line of an operation.
+fn put_op<K: Sink>(sink: &mut K, line: &Line, end: End, answer: Answer) -> Result<(), WriteFault>
+    ensures { Writes (K.state sink.old) (K.state sink.new) result (op_text line.now end answer) }
+{
+    put_four(
+        sink,
+        b"op",
+        line.name.bytes(),
+        end_word(end),
+        answer_word(answer),
+    )
+}
+
+/// Writes the lines of the operations.
+fn put_ops<K: Sink>(sink: &mut K, graph: &Graph, outcome: &Outcome) -> Result<(), WriteFault>
+    requires { FitsGraph graph.now outcome.now }
+    ensures { Writes (K.state sink.old) (K.state sink.new) result (op_texts graph.now.lines outcome.now.ends outcome.now.answers) }
+{
+    for i in 0..graph.lines() {
+        put_op(
+            sink,
+            graph.line(i),
+            outcome.ends.at(i),
+            outcome.answers.at(i),
+        )?;
+    }
+    Ok(())
+}
+
+/// Writes the line of a phase with its value.
+fn put_phase<K: Sink>(sink: &mut K, line: &Line, value: Option<u64>) -> Result<(), WriteFault>
+    ensures { Writes (K.state sink.old) (K.state sink.new) result (phase_text line.now true value) }
+{
+    match value {
+        None => put_three(sink, b"phase", line.name.bytes(), b"-"),
+        Some(value) => {
+            let mut buffer = Buffer::new();
+            let word = buffer.format(value).as_bytes();
+            put_three(sink, b"phase", line.name.bytes(), word)
+        }
+    }
+}
+
+/// Writes the line of a phase, and nothing for another line.
+fn put_if_phase<K: Sink>(sink: &mut K, line: &Line, value: Option<u64>) -> Result<(), WriteFault>
+    ensures { Writes (K.state sink.old) (K.state sink.new) result (phase_text line.now (is_phase line.now.verb) value) }
+{
+    match line.verb {
+        Verb::Phase { .. } => put_phase(sink, line, value),
+        _ => put_bytes(sink, b""),
+    }
+}
+
+/// Writes the lines of the phases.
+fn put_phases<K: Sink>(sink: &mut K, graph: &Graph, outcome: &Outcome) -> Result<(), WriteFault>
+    requires { FitsGraph graph.now outcome.now }
+    ensures { Writes (K.state sink.old) (K.state sink.new) result (phase_texts graph.now.lines outcome.now.phases) }
+{
+    for i in 0..graph.lines() {
+        put_if_phase(sink, graph.line(i), outcome.phases.at(i))?;
+    }
+    Ok(())
+}
+
+/// Writes what stands before the cells of an interval.
+fn put_interval_front<K: Sink>(
+    sink: &mut K,
+    inst: &Name,
+    field: &Name,
+    interval: (u32, u32),
+) -> Result<(), WriteFault>
+    ensures { Writes (K.state sink.old) (K.state sink.new) result (interval_front (inst.now ++ 46 ∷ field.now) interval) }
+{
+    put_bytes(sink, b"cells ")?;
+    put_column_name(sink, inst, field)?;
+    put_bytes(sink, b" ")?;
+    put_interval(sink, interval.0, interval.1)
+}
+
+/// Writes a cell and the space before it.
+fn put_cell<K: Sink>(sink: &mut K, cell: u64) -> Result<(), WriteFault>
+    ensures { Writes (K.state sink.old) (K.state sink.new) result (32 ∷ decimal cell) }
+{
+    put_bytes(sink, b" ")?;
+    put_decimal(sink, cell)
+}
+
+/// Writes the cells of the points of these ranks, each with a space before it.
+fn put_cells<K: Sink>(sink: &mut K, column: &Column, first: u32, end: u32) -> Result<(), WriteFault>
+    requires ordered { first ≤ end }
+    requires within { end ≤ length column.now.cells }
+    requires full { length column.now.cells ≡ space_size column.now.space }
+    ensures { Writes (K.state sink.old) (K.state sink.new) result
+        (flat_map (λ v. 32 ∷ decimal v) (take (end - first) (drop first column.now.cells))) }
+{
+    for rank in first..end {
+        put_cell(sink, column.at(rank))?;
+    }
+    Ok(())
+}
+
+/// Writes the line of an interval whose points have the ranks from `first` up to `end`.
+fn put_interval_line<K: Sink>(
+    sink: &mut K,
+    inst: &Name,
+    field: &Name,
+    interval: (u32, u32),
+    column: &Column,
+    first: u32,
+    end: u32,
+) -> Result<(), WriteFault>
+    requires long { end ≡ first + (interval.1 + 1 - interval.0) }
+    requires within { end ≤ length column.now.cells }
+    requires full { length column.now.cells ≡ space_size column.now.space }
+    ensures { Writes (K.state sink.old) (K.state sink.new) result
+        (interval_text (inst.now ++ 46 ∷ field.now) interval (take (interval.1 + 1 - interval.0) (drop first column.now.cells))) }
+{
+    put_interval_front(sink, inst, field, interval)?;
+    put_cells(sink, column, first, end)?;
+    put_bytes(sink, b"\n")
+}
+
+/// Writes the lines of a column's intervals.
+fn put_intervals<K: Sink>(
+    sink: &mut K,
+    inst: &Name,
+    field: &Name,
+    column: &Column,
+    intervals: &[(u32, u32)],
+) -> Result<(), WriteFault>
+    requires is_space { IsSpace intervals.now }
+    requires small { space_size intervals.now ≤ MAX_POINTS }
+    requires full { length column.now.cells ≡ space_size intervals.now }
+    requires over { column.now.space ≡ intervals.now }
+    ensures { Writes (K.state sink.old) (K.state sink.new) result
+        (cells_texts (inst.now ++ 46 ∷ field.now) intervals.now column.now.cells) }
+{
+    let mut first = 0;
+    for interval in intervals {
+        let end = first + (interval.1 - interval.0) + 1;
+        put_interval_line(sink, inst, field, *interval, column, first, end)?;
+        first = end;
+    }
+    Ok(())
+}
+
+/// Writes the lines of a column.
+fn put_column<K: Sink>(
+    sink: &mut K,
+    inst: &Name,
+    field: &Name,
+    column: &Column,
+) -> Result<(), WriteFault>
+    ensures { Writes (K.state sink.old) (K.state sink.new) result
+        (cells_texts (inst.now ++ 46 ∷ field.now) column.now.space column.now.cells) }
+{
+    let space = column.space();
+    let _ = space.size();
+    put_intervals(sink, inst, field, column, space.intervals())
+}
+
+/// Writes the lines of the columns.
+fn put_columns<K: Sink>(sink: &mut K, graph: &Graph, outcome: &Outcome) -> Result<(), WriteFault>
+    requires { FitsGraph graph.now outcome.now }
+    ensures { Writes (K.state sink.old) (K.state sink.new) result (column_texts graph.now 0 outcome.now.columns) }
+{
+    for c in 0..graph.columns() {
+        let (inst, field) = graph.column_name(c);
+        put_column(sink, &inst, &field, outcome.columns.at(c))?;
+    }
+    Ok(())
+}
+
+/// Writes the report of an outcome: a line for each operation with its end and the answer of its handle, one for
+/// each phase with its value, one for each interval of each column with its cells. After a fault the sink has
+/// taken a prefix of it.
+pub fn put_report<K: Sink>(sink: &mut K, graph: &Graph, outcome: &Outcome) -> Result<(), WriteFault>
+    requires { FitsGraph graph.now outcome.now }
+    ensures ok { OnOk result ((K.state sink.new).taken ≡ with_more (K.state sink.old).taken (report graph.now outcome.now)) }
+    ensures fault { OnErr result (Rose (K.state sink.old).faults (K.state sink.new).faults) }
+    ensures took { OnErr result (TookPrefix (K.state sink.old).taken (K.state sink.new).taken (report graph.now outcome.now)) }
+    ensures flushed { (K.state sink.new).flushed ≡ (K.state sink.old).flushed }
+    ensures count { (K.state sink.old).faults ≤ (K.state sink.new).faults }
+{
+    put_parts(sink, graph, outcome)
+}
+
+/// Writes the report of an evaluation, from an outcome of it.
+pub fn put_evaluation<K: Sink>(
+    sink: &mut K,
+    graph: &Graph,
+    found: &Outcome,
+) -> Result<(), WriteFault>
+    requires { found.now ≡ outcome graph.now found.now.trace }
+    ensures { Writes (K.state sink.old) (K.state sink.new) result (evaluation_report graph.now) }
+{
+    put_parts(sink, graph, found)
+}
+
+/// Writes the parts of the report.
+fn put_parts<K: Sink>(sink: &mut K, graph: &Graph, outcome: &Outcome) -> Result<(), WriteFault>
+    requires { FitsGraph graph.now outcome.now }
+    ensures { Writes (K.state sink.old) (K.state sink.new) result (report graph.now outcome.now) }
+{
+    put_bytes(sink, b"realm-report 1\n")?;
+    put_ops(sink, graph, outcome)?;
+    put_phases(sink, graph, outcome)?;
+    put_columns(sink, graph, outcome)?;
+    put_bytes(sink, b"done\n")
+}
