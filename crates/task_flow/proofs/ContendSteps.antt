@@ -1,14 +1,19 @@
 -- The sum of a line, and the rivals of lines.
-use Rattle.std.proofs.Common.{◌≡◌, ℕ, zero, suc, ◌+◌, ◌<◌, ◌≤◌, Bool, true, false, cond, not, ◌&&◌, ◌||◌, List, [], ◌∷◌, ◌++◌, length, take, refl, sym, ◌∙◌, ap, append-nil, arith}
-use Rattle.std.specs.Prelude.{◌↔◌, IsTrue, Option, Some, None, find, slice_get, ◌==◌, nat_lt, is_none}
-use Rattle.std.specs.List.{list_any}
-use Rattle.std.proofs.lemmas.Bool.{true≢false, lt-ltb, le-ltb, ltb-false}
+use Rattle.std.proofs.Common.{◌≡◌, ℕ, zero, suc, ◌+◌, ◌<◌, ◌≤◌, Bool, true, false, cond, not, ◌&&◌, ◌||◌, inl, inr, List, [], ◌∷◌, ◌++◌, length, take, refl, sym, ◌∙◌, ap, subst, append-nil, arith}
+use Rattle.std.specs.Prelude.{◌↔◌, IsTrue, Option, Some, None, find, slice_get, ◌==◌, nat_lt, is_none, slice_set}
+use Rattle.std.specs.List.{list_any, slice_index_or}
+use Rattle.std.specs.Option.{option_map_or}
+use Rattle.std.proofs.lemmas.Bool.{true≢false, cases_eq, cases_lt, cases_order, lt-ltb, le-ltb, ltb-false, eq-eqb, eqb-true, and_parts, and_from, or_left, or_right, false_from_ne_true}
+use Rattle.std.proofs.lemmas.List.{get_or-set_same, get_or-set_other, get_or_read, length-set}
 use Rattle.std.proofs.lemmas.Option.{none-some, same_Some}
 use Rattle.index_spaces.specs.Space.{has_point, points, Meet}
 use Rattle.index_spaces.specs.Laws.{PointsAreListed}
 use Rattle.graph_model.specs.declared.graph.verb.Access.{Access}
-use Rattle.graph_model.specs.graph.Graph.{GraphValue, space_at, locks}
-use Rattle.task_flow.specs.Construction.{down_from, sources_after, are_rivals, cells_meet, summed, contends_with, contends_below, with_event, needed, is_contended, summed_column, place_of, wants_many, made_after, number_from, first_number, graph_of, is_over, IsFirstOver}
+use Rattle.graph_model.specs.graph.Graph.{GraphValue, space_at, columns, locks}
+use Rattle.task_flow.specs.Bits.{word_bit, is_shown}
+use Rattle.task_flow.specs.Sums.{adds_to, AreSums}
+use Rattle.task_flow.specs.Rows.{AreRows}
+use Rattle.task_flow.specs.Construction.{down_from, reaches, sources_after, are_rivals, cells_meet, summed, contends_with, contends_below, with_event, needed, is_contended, summed_column, place_of, wants_many, made_after, number_from, first_number, graph_of, is_over, IsFirstOver}
 use Rattle.graph_model.specs.graph.Fits.{is_beyond}
 use Rattle.task_flow.specs.declared.sections.Sections.{Sections}
 use Rattle.task_flow.specs.Making.{AreSections}
@@ -57,18 +62,6 @@ pub cells_are : PointsAreListed → (f : GraphValue) (a b : Access) (s t : List 
 cells_are listed f a b s t r es et h column =
     meets_by listed s t r h ∙ (ap (λ x. list_any (has_point x) (points t)) es ∙ (ap (λ x. list_any (has_point (space_at f a.space)) (points x)) et ∙ sym (ap (λ x. x && list_any (has_point (space_at f a.space)) (points (space_at f b.space))) column)))
 
--- two lines that are rivals, by their sums
-pub rivals_by : (f : GraphValue) (sources : List (List ℕ)) (i j : ℕ) (b : Bool) (x y : Option Access) (r : Bool) → b ≡ false → x ≡ summed f i → y ≡ summed f j → r ≡ cells_meet f x y → r ≡ (not b && cells_meet f (summed f i) (summed f j))
-rivals_by f sources i j b x y r e ex ey er = er ∙ (ap (λ o. cells_meet f o y) ex ∙ (ap (cells_meet f (summed f i)) ey ∙ sym (ap (λ z. not z && cells_meet f (summed f i) (summed f j)) e)))
-
-pub not_met : (f : GraphValue) (y : Option Access) → false ≡ cells_meet f None y
-not_met f None = refl
-not_met f (Some y) = refl
-
-pub met_none : (f : GraphValue) (x : Option Access) → false ≡ cells_meet f x None
-met_none f None = refl
-met_none f (Some x) = refl
-
 or_swap : (a b c : Bool) → ((a || b) || c) ≡ (a || (b || c))
 or_swap true b c = refl
 or_swap false b c = refl
@@ -88,22 +81,146 @@ module _ (t : ℕ → Bool) where
   down_more k start old new is was =
       is ∙ (ap (λ b. b || t k) was ∙ (or_swap start (list_any t (down_from k)) (t k) ∙ (ap (λ b. start || b) (or_turn (list_any t (down_from k)) (t k)) ∙ ap (λ b. start || b) (sym (down_one k)))))
 
--- a line that is no rival of those above it, and one that is
-pub rivals_step : (f : GraphValue) (sources : List (List ℕ)) (k i j : ℕ) (start old one two : Bool) → are_rivals f sources i j ≡ true → one ≡ (old || (i == k)) → two ≡ (one || (j == k)) → old ≡ (start || list_any (λ x. are_rivals f sources x j && ((x == k) || (j == k))) (down_from i)) →
-    two ≡ (start || list_any (λ x. are_rivals f sources x j && ((x == k) || (j == k))) (down_from (i + 1)))
-rivals_step f sources k i j start old one two rivals is is' was =
-    down_more (λ x. are_rivals f sources x j && ((x == k) || (j == k))) i start old two
-    (is' ∙ (ap (λ b. b || (j == k)) is ∙ (or_swap old (i == k) (j == k) ∙ ap (λ b. old || (b && ((i == k) || (j == k)))) (sym rivals)))) was
+-- lines that fail a test are passed over
+pub down_past : (t : ℕ → Bool) (high low : ℕ) → low ≤ high → ((j : ℕ) → low ≤ j → j < high → t j ≡ false) → list_any t (down_from high) ≡ list_any t (down_from low)
+down_past t zero low h fails = ap (λ z. list_any t (down_from z)) (let e : 0 ≡ low = omega arith in e)
+down_past t (suc high) low h fails = elim (cases_lt high low) [
+  | inl below ↦ ap (λ z. list_any t (down_from z)) (let e : suc high ≡ low = omega arith in e)
+  | inr above ↦ ap (λ b. b || list_any t (down_from high)) (fails high above (omega arith)) ∙ down_past t high low above (λ j a b. fails j a (omega arith))
+]
 
-pub rivals_skip : (f : GraphValue) (sources : List (List ℕ)) (k i j : ℕ) (start old : Bool) → are_rivals f sources i j ≡ false → old ≡ (start || list_any (λ x. are_rivals f sources x j && ((x == k) || (j == k))) (down_from i)) →
-    old ≡ (start || list_any (λ x. are_rivals f sources x j && ((x == k) || (j == k))) (down_from (i + 1)))
-rivals_skip f sources k i j start old rivals was =
-    down_more (λ x. are_rivals f sources x j && ((x == k) || (j == k))) i start old old
-    (sym (ap (λ b. old || (b && ((i == k) || (j == k)))) rivals ∙ or_none old)) was
+-- the rivals of a line among those that add to its column and do not reach it
+module _ (f : GraphValue) (sources : List (List ℕ)) (line : ℕ) (sum : Access) (is_sum : Some sum ≡ summed f line) (adding hidden : List ℕ) (adds : (k : ℕ) → word_bit adding k ≡ (nat_lt k line && adds_to f sum.column k)) (reached : (k : ℕ) → word_bit hidden k ≡ reaches sources line k line) where
+  abbrev test : ℕ → ℕ → Bool
+  test k x = are_rivals f sources x line && ((x == k) || (line == k))
+
+  by_sum : (x : ℕ) → are_rivals f sources x line ≡ (not (reaches sources line x line) && cells_meet f (summed f x) (Some sum))
+  by_sum x = ap (λ o. not (reaches sources line x line) && cells_meet f (summed f x) o) (sym is_sum)
+
+  and_true : (b : Bool) → (b && true) ≡ b
+  and_true true = refl
+  and_true false = refl
+
+  no_cells : (o : Option Access) → option_map_or (λ (a : Access). a.column == sum.column) o false ≡ false → cells_meet f o (Some sum) ≡ false
+  no_cells None h = refl
+  no_cells (Some a) h = ap (λ b. b && list_any (has_point (space_at f a.space)) (points (space_at f sum.space))) h
+
+  hidden_no : (x : ℕ) → x < line → is_shown adding hidden x ≡ false → are_rivals f sources x line ≡ false
+  hidden_no x below fails = by_sum x ∙ by (reaches sources line x line) refl
+    where
+      by : (r : Bool) → reaches sources line x line ≡ r → (not r && cells_meet f (summed f x) (Some sum)) ≡ false
+      by true e = refl
+      by false e =
+          let shown : (word_bit adding x && true) ≡ false = sym (ap (λ b. word_bit adding x && not b) (reached x ∙ e)) ∙ fails in
+          let none : (nat_lt x line && adds_to f sum.column x) ≡ false = sym (adds x) ∙ (sym (and_true (word_bit adding x)) ∙ shown) in
+          no_cells (summed f x) (sym (ap (λ b. b && adds_to f sum.column x) (lt-ltb x line below)) ∙ none)
+
+  shown_by : (x : ℕ) (r : Bool) → is_shown adding hidden x ≡ true → r ≡ cells_meet f (summed f x) (Some sum) → are_rivals f sources x line ≡ r
+  shown_by x r shown is =
+      let p = and_parts (word_bit adding x) (not (word_bit hidden x)) shown in
+      by_sum x ∙ (ap (λ b. b && cells_meet f (summed f x) (Some sum)) (ap not (sym (reached x)) ∙ p.1) ∙ sym is)
+
+  -- what is set so far, and the rivals that are still to come
+  abbrev pub LeftAt : ℕ → ℕ → Bool → Bool → Type 0
+  LeftAt k above start old = (start || list_any (test k) (down_from line)) ≡ (old || list_any (test k) (down_from above))
+
+  passed : (k above x : ℕ) → above ≤ line → x < above → ((j : ℕ) → x < j → j < above → is_shown adding hidden j ≡ false) → list_any (test k) (down_from above) ≡ (test k x || list_any (test k) (down_from x))
+  passed k above x most below none = down_past (test k) above (suc x) below (λ j a b. ap (λ r. r && ((j == k) || (line == k))) (hidden_no j (omega arith) (none j a b)))
+
+  pub left_meets : (k above x : ℕ) (start old one two r : Bool) → above ≤ line → x < above → is_shown adding hidden x ≡ true → ((j : ℕ) → x < j → j < above → is_shown adding hidden j ≡ false) → r ≡ cells_meet f (summed f x) (Some sum) → r ≡ true →
+      one ≡ (old || (x == k)) → two ≡ (one || (line == k)) → LeftAt k above start old → LeftAt k x start two
+  left_meets k above x start old one two r most below shown none is meets one_is two_is left =
+      left ∙ (ap (λ b. old || b) (passed k above x most below none ∙ ap (λ b. (b && ((x == k) || (line == k))) || list_any (test k) (down_from x)) (shown_by x r shown is ∙ meets))
+      ∙ (sym (or_swap old ((x == k) || (line == k)) (list_any (test k) (down_from x)))
+      ∙ ap (λ b. b || list_any (test k) (down_from x)) (sym (two_is ∙ (ap (λ b. b || (line == k)) one_is ∙ or_swap old (x == k) (line == k))))))
+
+  pub left_misses : (k above x : ℕ) (start old r : Bool) → above ≤ line → x < above → is_shown adding hidden x ≡ true → ((j : ℕ) → x < j → j < above → is_shown adding hidden j ≡ false) → r ≡ cells_meet f (summed f x) (Some sum) → r ≡ false → LeftAt k above start old → LeftAt k x start old
+  left_misses k above x start old r most below shown none is misses left =
+      left ∙ ap (λ b. old || b) (passed k above x most below none ∙ ap (λ b. (b && ((x == k) || (line == k))) || list_any (test k) (down_from x)) (shown_by x r shown is ∙ misses))
+
+  pub left_ends : (k above : ℕ) (start old : Bool) → above ≤ line → ((j : ℕ) → j < above → is_shown adding hidden j ≡ false) → LeftAt k above start old → old ≡ (start || contends_with f sources k line)
+  left_ends k above start old most none left =
+      sym (left ∙ (ap (λ b. old || b) (down_past (test k) above 0 (omega arith) (λ j a b. ap (λ r. r && ((j == k) || (line == k))) (hidden_no j (omega arith) (none j b)))) ∙ or_none old))
+    where
+      or_none : (b : Bool) → (b || false) ≡ b
+      or_none true = refl
+      or_none false = refl
+
+-- the bits of a column and of a row
+pub adds_at : (f : GraphValue) (n words : ℕ) (sums : List (List ℕ)) (c : ℕ) (row : List ℕ) → AreSums f n words sums → c < length (columns f) → row ≡ slice_index_or sums c row → (k : ℕ) → word_bit row k ≡ (nat_lt k n && adds_to f c k)
+adds_at f n words sums c row s h is k =
+    let count : length sums ≡ length (columns f) = s.count in
+    let within : c < length sums = omega arith in
+    ap (λ w. word_bit w k) (get_or_read sums c row within is []) ∙ s.bits c k within
+
+pub reached_at : (f : GraphValue) (commute : Bool) (rows : List (List ℕ)) (line : ℕ) (row : List ℕ) → AreRows f commute rows → length rows ≡ length f.lines → line < length f.lines → row ≡ slice_index_or rows line row → (k : ℕ) → word_bit row k ≡ reaches (sources_after f commute (length f.lines)) line k line
+reached_at f commute rows line row r all h is k =
+    let within : line < length rows = omega arith in
+    ap (λ w. word_bit w k) (get_or_read rows line row within is []) ∙ (r.bits line k within ∙ ap (λ n. reaches (sources_after f commute n) line k line) all)
+
+-- one line more
+lt_one : (k n : ℕ) → nat_lt k (n + 1) ≡ (nat_lt k n || (n == k))
+lt_one k n = elim (cases_order k n) [
+  | inl same ↦ lt-ltb k (n + 1) (omega arith) ∙ sym (or_right (nat_lt k n) (n == k) (eq-eqb n k (sym same)))
+  | inr (inl below) ↦ lt-ltb k (n + 1) (omega arith) ∙ sym (or_left (nat_lt k n) (n == k) (lt-ltb k n below))
+  | inr (inr above) ↦ le-ltb k (n + 1) (omega arith) ∙ sym (both_false (nat_lt k n) (n == k) (le-ltb k n (omega arith)) (false_from_ne_true (n == k) (λ h. (let e : n ≡ k = eqb-true n k h in let no' : ⊥ = absurd (omega arith) in no'))))
+]
   where
-    or_none : (b : Bool) → (b || false) ≡ b
-    or_none true = refl
-    or_none false = refl
+    both_false : (a b : Bool) → a ≡ false → b ≡ false → (a || b) ≡ false
+    both_false a b e h = ap (λ x. x || b) e ∙ h
+
+-- a line that adds to no column, or to another one
+adds_past : (f : GraphValue) (c k n : ℕ) → adds_to f c n ≡ false → (nat_lt k n && adds_to f c k) ≡ (nat_lt k (n + 1) && adds_to f c k)
+adds_past f c k n fails = elim (cases_eq n k) [
+  | inl same ↦ (let no' : adds_to f c k ≡ false = ap (adds_to f c) (sym same) ∙ fails in ap (λ b. nat_lt k n && b) no' ∙ (none (nat_lt k n) ∙ sym (ap (λ b. nat_lt k (n + 1) && b) no' ∙ none (nat_lt k (n + 1)))))
+  | inr apart ↦ sym (ap (λ b. b && adds_to f c k) (lt_one k n ∙ (ap (λ b. nat_lt k n || b) (false_from_ne_true (n == k) (λ h. apart (eqb-true n k h))) ∙ or_false (nat_lt k n))))
+]
+  where
+    none : (b : Bool) → (b && false) ≡ false
+    none true = refl
+    none false = refl
+
+    or_false : (b : Bool) → (b || false) ≡ b
+    or_false true = refl
+    or_false false = refl
+
+adds_here : (f : GraphValue) (c k n : ℕ) → adds_to f c n ≡ true → ((nat_lt k n && adds_to f c k) || (n == k)) ≡ (nat_lt k (n + 1) && adds_to f c k)
+adds_here f c k n passes = elim (cases_eq n k) [
+  | inl same ↦ or_right (nat_lt k n && adds_to f c k) (n == k) (eq-eqb n k same) ∙ sym (and_from (nat_lt k (n + 1)) (adds_to f c k) (lt-ltb k (n + 1) (omega arith)) (ap (adds_to f c) (sym same) ∙ passes))
+  | inr apart ↦ (
+      let no' : (n == k) ≡ false = false_from_ne_true (n == k) (λ h. apart (eqb-true n k h)) in
+      ap (λ b. (nat_lt k n && adds_to f c k) || b) no' ∙ (or_false (nat_lt k n && adds_to f c k) ∙ sym (ap (λ b. b && adds_to f c k) (lt_one k n ∙ (ap (λ b. nat_lt k n || b) no' ∙ or_false (nat_lt k n))))))
+]
+  where
+    or_false : (b : Bool) → (b || false) ≡ b
+    or_false true = refl
+    or_false false = refl
+
+pub sums_skip : (f : GraphValue) (n words : ℕ) (sums : List (List ℕ)) → None ≡ summed f n → AreSums f n words sums → AreSums f (n + 1) words sums
+sums_skip f n words sums none s = record {
+  count = s.count;
+  size = s.size;
+  bits = λ c k h. s.bits c k h ∙ adds_past f c k n (ap (λ (o : Option Access). option_map_or (λ (a : Access). a.column == c) o false) (sym none));
+}
+
+pub sums_add : (f : GraphValue) (n words : ℕ) (sums new : List (List ℕ)) (sum : Access) (old row : List ℕ) → Some sum ≡ summed f n → sum.column < length sums → old ≡ slice_index_or sums sum.column old → length row ≡ length old → ((k : ℕ) → word_bit row k ≡ (word_bit old k || (n == k))) → new ≡ slice_set sums sum.column row →
+    AreSums f n words sums → AreSums f (n + 1) words new
+sums_add f n words sums new sum old row is within old_is size bits set s =
+    let adds : adds_to f sum.column n ≡ true = ap (λ (o : Option Access). option_map_or (λ (a : Access). a.column == sum.column) o false) (sym is) ∙ eq-eqb sum.column sum.column refl in
+    let was : old ≡ slice_index_or sums sum.column [] = get_or_read sums sum.column old within old_is [] in
+    subst (AreSums f (n + 1) words) (sym set) (record {
+      count = length-set sums sum.column row ∙ s.count;
+      size = λ c h. elim (cases_eq c sum.column) [
+        | inl same ↦ ap (λ z. length (slice_index_or (slice_set sums sum.column row) z [])) same ∙ (ap length (get_or-set_same sums sum.column row [] within) ∙ (size ∙ (ap length was ∙ s.size sum.column within)))
+        | inr apart ↦ ap length (get_or-set_other sums sum.column c row [] apart) ∙ s.size c (subst (λ z. c < z) (length-set sums sum.column row) h)
+      ];
+      bits = λ c k h. elim (cases_eq c sum.column) [
+        | inl same ↦ subst (λ z. word_bit (slice_index_or (slice_set sums sum.column row) z []) k ≡ (nat_lt k (n + 1) && adds_to f z k)) (sym same)
+            (ap (λ w. word_bit w k) (get_or-set_same sums sum.column row [] within) ∙ (bits k ∙ (ap (λ w. word_bit w k || (n == k)) was ∙ (ap (λ b. b || (n == k)) (s.bits sum.column k within) ∙ adds_here f sum.column k n adds))))
+        | inr apart ↦ ap (λ w. word_bit w k) (get_or-set_other sums sum.column c row [] apart) ∙ (s.bits c k (subst (λ z. c < z) (length-set sums sum.column row) h)
+            ∙ adds_past f c k n (ap (λ (o : Option Access). option_map_or (λ (a : Access). a.column == c) o false) (sym is) ∙ false_from_ne_true (sum.column == c) (λ e. apart (sym (eqb-true sum.column c e)))))
+      ];
+    })
 
 pub contended_is : (f : GraphValue) (commute : Bool) (k n : ℕ) (b : Bool) → commute ≡ true → length f.lines ≤ n → n ≤ length f.lines → b ≡ contends_below f (sources_after f commute (length f.lines)) k n → b ≡ is_contended f commute k
 unfolding is_contended
@@ -117,6 +234,26 @@ free_is f commute k b e is = is ∙ sym (ap (λ c. c && contends_below f (source
 -- the next line
 pub contends_next : (f : GraphValue) (sources : List (List ℕ)) (k j : ℕ) (old new : Bool) → new ≡ (old || contends_with f sources k j) → old ≡ contends_below f sources k j → new ≡ contends_below f sources k (j + 1)
 contends_next f sources k j old new is was = down_more (contends_with f sources k) j false old new is was
+
+-- a line without a sum contends with none
+no_rivals : (f : GraphValue) (sources : List (List ℕ)) (k j : ℕ) → None ≡ summed f j → contends_with f sources k j ≡ false
+no_rivals f sources k j none = down_past (λ i. are_rivals f sources i j && ((i == k) || (j == k))) j 0 (omega arith) (λ i a b. ap (λ o. (not (reaches sources j i j) && cells_meet f (summed f i) o) && ((i == k) || (j == k))) (sym none)
+    ∙ (ap (λ c. (not (reaches sources j i j) && c) && ((i == k) || (j == k))) (met_none (summed f i)) ∙ ap (λ c. c && ((i == k) || (j == k))) (and_false (not (reaches sources j i j)))))
+  where
+    met_none : (x : Option Access) → cells_meet f x None ≡ false
+    met_none None = refl
+    met_none (Some x) = refl
+
+    and_false : (b : Bool) → (b && false) ≡ false
+    and_false true = refl
+    and_false false = refl
+
+pub contends_skip : (f : GraphValue) (sources : List (List ℕ)) (k j : ℕ) (old : Bool) → None ≡ summed f j → old ≡ contends_below f sources k j → old ≡ contends_below f sources k (j + 1)
+contends_skip f sources k j old none was = contends_next f sources k j old old (sym (ap (λ b. old || b) (no_rivals f sources k j none) ∙ or_none old)) was
+  where
+    or_none : (b : Bool) → (b || false) ≡ b
+    or_none true = refl
+    or_none false = refl
 
 -- the columns of the first lines, with one more
 needed_one : (f : GraphValue) (commute : Bool) (n : ℕ) (b : Bool) → is_contended f commute n ≡ b → needed f commute (n + 1) ≡ cond b (with_event (needed f commute n) (summed_column f n)) (needed f commute n)

@@ -53,7 +53,7 @@ impl Bits {
     /// The word of a number, with the bits that are set here, are not hidden and are of no greater
     /// number.
     fn shown_word(&self, hidden: &Bits, last: u32) -> u64
-        requires size { length hidden.now ≡ length self.now }
+        requires hidden { last / 64 < length hidden.now }
         requires last { last / 64 < length self.now }
         ensures { IsShownWord self.now hidden.now last result }
     {
@@ -63,7 +63,7 @@ impl Bits {
 
     /// The greatest number below a bound whose bit is set here and not hidden.
     pub(crate) fn last_below(&self, hidden: &Bits, bound: u32) -> Option<u32>
-        requires size { length hidden.now ≡ length self.now }
+        requires hidden { bound ≤ 64 * length hidden.now }
         requires bound { bound ≤ 64 * length self.now }
         ensures { MatchOption result ((j : ℕ) → j < bound → is_shown self.now hidden.now j ≡ false) (λ k. (k < bound) × (is_shown self.now hidden.now k ≡ true) × ((j : ℕ) → k < j → j < bound → is_shown self.now hidden.now j ≡ false)) }
     {

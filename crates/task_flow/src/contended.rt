@@ -1,17 +1,19 @@
 //! Which sums are contended.
 
-ghost use Rattle.std.specs.Prelude.{◌≡◌, ℕ, ◌+◌, ◌<◌, ◌/◌, ◌==◌, ◌||◌, ◌&&◌, length, IfOk, IfSome};
+ghost use Rattle.std.specs.Prelude.{◌≡◌, ℕ, ◌+◌, ◌<◌, ◌/◌, ◌==◌, ◌||◌, ◌&&◌, length, Some, IfOk, IfSome};
 ghost use Rattle.std.specs.List.{list_any};
 ghost use Rattle.index_spaces.specs.Space.{has_point, points};
-ghost use Rattle.graph_model.specs.graph.Graph.{named_spaces, space_at};
+ghost use Rattle.graph_model.specs.graph.Graph.{named_spaces, columns, space_at};
 ghost use Rattle.graph_model.specs.graph.Access.{accesses};
 ghost use Rattle.task_flow.specs.Bits.{word_bit};
 ghost use Rattle.task_flow.specs.Rows.{AreRows};
-ghost use Rattle.task_flow.specs.Construction.{sources_after, summed, summed_column, cells_meet, are_rivals, contends_with, is_contended};
+ghost use Rattle.task_flow.specs.Sums.{AreSums};
+ghost use Rattle.task_flow.specs.Construction.{sources_after, summed, summed_column, cells_meet, contends_with, is_contended};
 
 use crate::bits::Bits;
 use crate::rows::Rows;
 use crate::sources::{add_row, parts_of};
+use crate::sums::Sums;
 use crate::ties::MOST_ACCESSES;
 use graph_model::graph::Graph;
 use graph_model::line_laws::{accesses_are_few, accesses_fit};
@@ -32,8 +34,14 @@ pub(crate) fn contended(alloc: Global, flow: &Graph, commute: bool) -> Result<Bi
         return Ok(bits);
     }
     let rows = all_rows(alloc, flow, commute)?;
+    let mut sums = Sums::new(alloc, flow)?;
     for line in 0..lines {
-        mark_rivals(flow, commute, &rows, &mut bits, line);
+        let Some(sum) = summed(flow, line) else {
+            sums.skip(flow, line);
+            continue;
+        };
+        mark_rivals(flow, commute, &rows, &sums, &mut bits, line, sum);
+        sums.add(flow, line, sum);
     }
     Ok(bits)
 }
@@ -51,42 +59,51 @@ fn all_rows(alloc: Global, flow: &Graph, commute: bool) -> Result<Rows, NoMemory
     Ok(rows)
 }
 
-/// Sets the bits of a line and of its rivals above it.
-fn mark_rivals(flow: &Graph, commute: bool, rows: &Rows, bits: &mut Bits, line: u32)
+/// Sets the bits of a line and of its rivals above it, which are among the lines that add to the
+/// same column and do not reach it.
+fn mark_rivals(
+    flow: &Graph,
+    commute: bool,
+    rows: &Rows,
+    sums: &Sums,
+    bits: &mut Bits,
+    line: u32,
+    sum: Access,
+)
     requires rows { AreRows flow.now commute rows.now.rows.items }
     requires all { length rows.now.rows.items ≡ length flow.now.lines }
+    requires sums { AreSums flow.now line ((length flow.now.lines + 63) / 64) sums.now.columns.items }
     requires line { line < length flow.now.lines }
+    requires sum { Some sum ≡ summed flow.now line }
+    requires column { sum.column < length (columns flow.now) }
+    requires space { sum.space < length (named_spaces flow.now) }
     requires size { length bits.old ≡ (length flow.now.lines + 63) / 64 }
     ensures size { length bits.new ≡ length bits.old }
     ensures bits { (k : ℕ) → word_bit bits.new k ≡ (word_bit bits.old k || contends_with flow.now (sources_after flow.now commute (length flow.now.lines)) k line) }
 {
-    for above in 0..line {
-        if !are_rivals(flow, commute, rows, above, line) {
+    let hidden = &rows.rows[line as usize];
+    let adding = &sums.columns[sum.column as usize];
+    let mut above = line;
+    'others: while let Some(other) = adding.last_below(hidden, above) {
+        above = other;
+        if !meets_sum(flow, other, sum) {
             continue;
         }
-        bits.set(above);
+        bits.set(other);
         bits.set(line);
     }
 }
 
-/// Whether two lines add to one cell, and the upper doesn't reach the lower.
-fn are_rivals(flow: &Graph, commute: bool, rows: &Rows, above: u32, line: u32) -> bool
-    requires rows { AreRows flow.now commute rows.now.rows.items }
-    requires all { length rows.now.rows.items ≡ length flow.now.lines }
-    requires above { above < line }
+/// Whether a line adds to a cell of this access.
+fn meets_sum(flow: &Graph, line: u32, sum: Access) -> bool
     requires line { line < length flow.now.lines }
-    ensures { result ≡ are_rivals flow.now (sources_after flow.now commute (length flow.now.lines)) above line }
+    requires space { sum.space < length (named_spaces flow.now) }
+    ensures { result ≡ cells_meet flow.now (summed flow.now line) (Some sum) }
 {
-    if rows.rows[line as usize].test(above) {
-        return false;
+    match summed(flow, line) {
+        Some(other) => cells_meet(flow, other, sum),
+        None => false,
     }
-    let Some(one) = summed(flow, above) else {
-        return false;
-    };
-    let Some(other) = summed(flow, line) else {
-        return false;
-    };
-    cells_meet(flow, one, other)
 }
 
 /// Whether two accesses are of one column at a shared point.
@@ -106,6 +123,7 @@ fn cells_meet(flow: &Graph, one: Access, other: Access) -> bool
 fn summed(flow: &Graph, line: u32) -> Option<Access>
     requires { line < length flow.now.lines }
     ensures access { result ≡ summed flow.now line }
+    ensures column { IfSome result (λ a. a.column < length (columns flow.now)) }
     ensures space { IfSome result (λ a. a.space < length (named_spaces flow.now)) }
 {
     accesses_fit();

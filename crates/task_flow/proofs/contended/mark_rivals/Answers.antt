@@ -1,19 +1,39 @@
-use Rattle.std.proofs.Common.{length, sym, ◌∙◌}
+use Rattle.std.proofs.Common.{◌<◌, ◌≤◌, length, ◌∙◌, arith}
 use Rattle.task_flow.specs.Bits.{word_bit}
 use Rattle.task_flow.specs.Construction.{sources_after}
-use Rattle.task_flow.proofs.ContendSteps.{rivals_step, rivals_skip}
+use Rattle.task_flow.proofs.ContendSteps.{left_meets, left_misses, left_ends, adds_at, reached_at}
 use Rattle.task_flow.proofs.contended.mark_rivals.Goals as goal
 
-pub loop-above-preserved-then-not-are_rivals : goal.loop-above-preserved-then-not-are_rivals
-loop-above-preserved-then-not-are_rivals c = record {
-  size = c.loop-above.invariant.size;
-  bits = λ k. rivals_skip c.args.flow.now (sources_after c.args.flow.now c.args.commute (length c.args.flow.now.lines)) k c.loop-above.above c.args.line (word_bit c.args.bits.now k) (word_bit c.loop-above.bits k)
-      (sym c.are_rivals.ensures ∙ c.if-not-are_rivals.true) (c.loop-above.invariant.bits k);
-}
+pub others-preserved-then-not-meets_sum : goal.others-preserved-then-not-meets_sum
+others-preserved-then-not-meets_sum c =
+    let f = c.args.flow.now in
+    let next = c.in-Some.ensures in
+    let less : c.in-Some.other < c.others.above = next.0 in
+    let most : c.others.above ≤ c.args.line = c.others.invariant.most in
+    record {
+      size = c.others.invariant.size;
+      most = omega arith;
+      left = λ k. left_misses f (sources_after f c.args.commute (length f.lines)) c.args.line c.args.sum c.requires.sum c.index-adding.result.now c.index-hidden.result.now (adds_at f c.args.line _ c.args.sums.now.columns.items c.args.sum.column c.index-adding.result.now c.requires.sums c.requires.column c.index-adding.ensures)
+          (reached_at f c.args.commute c.args.rows.now.rows.items c.args.line c.index-hidden.result.now c.requires.rows c.requires.all c.requires.line c.index-hidden.ensures) k c.others.above c.in-Some.other (word_bit c.args.bits.now k) (word_bit c.others.bits k) c.meets_sum.result
+          c.others.invariant.most next.0 next.1 next.2 c.meets_sum.ensures c.if-not-meets_sum.true (c.others.invariant.left k);
+    }
 
-pub loop-above-preserved : goal.loop-above-preserved
-loop-above-preserved c = record {
-  size = c.set-in-loop-above.ensures.size ∙ (c.set.ensures.size ∙ c.loop-above.invariant.size);
-  bits = λ k. rivals_step c.args.flow.now (sources_after c.args.flow.now c.args.commute (length c.args.flow.now.lines)) k c.loop-above.above c.args.line (word_bit c.args.bits.now k) (word_bit c.loop-above.bits k) (word_bit c.set.new.self k) (word_bit c.set-in-loop-above.new.self k)
-      (sym c.are_rivals.ensures ∙ c.if-not-are_rivals.false) (c.set.ensures.bits k) (c.set-in-loop-above.ensures.bits k) (c.loop-above.invariant.bits k);
-}
+pub others-preserved : goal.others-preserved
+others-preserved c =
+    let f = c.args.flow.now in
+    let next = c.in-Some.ensures in
+    let less : c.in-Some.other < c.others.above = next.0 in
+    let most : c.others.above ≤ c.args.line = c.others.invariant.most in
+    record {
+      size = c.set-in-Some.ensures.size ∙ (c.set.ensures.size ∙ c.others.invariant.size);
+      most = omega arith;
+      left = λ k. left_meets f (sources_after f c.args.commute (length f.lines)) c.args.line c.args.sum c.requires.sum c.index-adding.result.now c.index-hidden.result.now (adds_at f c.args.line _ c.args.sums.now.columns.items c.args.sum.column c.index-adding.result.now c.requires.sums c.requires.column c.index-adding.ensures)
+          (reached_at f c.args.commute c.args.rows.now.rows.items c.args.line c.index-hidden.result.now c.requires.rows c.requires.all c.requires.line c.index-hidden.ensures) k c.others.above c.in-Some.other (word_bit c.args.bits.now k) (word_bit c.others.bits k) (word_bit c.set.new.self k) (word_bit c.set-in-Some.new.self k) c.meets_sum.result
+          c.others.invariant.most next.0 next.1 next.2 c.meets_sum.ensures c.if-not-meets_sum.false (c.set.ensures.bits k) (c.set-in-Some.ensures.bits k) (c.others.invariant.left k);
+    }
+
+pub returns-clause-bits : goal.returns-clause-bits
+returns-clause-bits c =
+    let f = c.args.flow.now in
+    λ k. left_ends f (sources_after f c.args.commute (length f.lines)) c.args.line c.args.sum c.requires.sum c.index-adding.result.now c.index-hidden.result.now (adds_at f c.args.line _ c.args.sums.now.columns.items c.args.sum.column c.index-adding.result.now c.requires.sums c.requires.column c.index-adding.ensures)
+    (reached_at f c.args.commute c.args.rows.now.rows.items c.args.line c.index-hidden.result.now c.requires.rows c.requires.all c.requires.line c.index-hidden.ensures) k c.others.above (word_bit c.args.bits.now k) (word_bit c.others.bits k) c.others.invariant.most c.in_default.ensures (c.others.invariant.left k)
