@@ -4,6 +4,7 @@ use Rattle.std.specs.Prelude.{◌==◌, slice_index, slice_set}
 use Rattle.std.specs.List.{slice_index_or}
 use Rattle.std.specs.Int.{bit_at}
 use Rattle.std.specs.Int.RustNames.{bit_or}
+use Rattle.std.specs.Int.Bits.{or_zero_r}
 use mir.Syntax.{w64}
 use Rattle.std.proofs.lemmas.Bool.{true≢false, cases_eq, cases_lt, cases_Bool, eq-eqb, eqb-true, or_left, or_right, or_cases, false_from_ne_true}
 use Rattle.std.proofs.lemmas.Nat.Bits.{bit_at_or, bit_at-lt, bit_at_set_same, bit_at_set_other}
@@ -82,22 +83,21 @@ pub record IsJoined (old add row : List ℕ) (w : ℕ) : Type 0 where
   pub joined : (v : ℕ) → v < w → slice_index row v ≡ bit_or (slice_index old v) (slice_index add v)
   pub left : (v : ℕ) → w ≤ v → slice_index row v ≡ slice_index old v
 
-joined_all : (old add row : List ℕ) (w : ℕ) → length old ≡ length add → length old ≤ w → IsJoined old add row w → (j : ℕ) → word_bit row j ≡ (word_bit old j || word_bit add j)
-joined_all old add row w size all is = joined_bit old add row (λ v. elim (cases_lt v w) [
+joined_all : (old add row : List ℕ) (w : ℕ) → length add ≤ w → IsJoined old add row w → (j : ℕ) → word_bit row j ≡ (word_bit old j || word_bit add j)
+joined_all old add row w all is = joined_bit old add row (λ v. elim (cases_lt v w) [
   | inl l ↦ is.joined v l
   | inr past ↦ (
-      let none : slice_index old v ≡ 0 = get_or_past old v 0 (omega arith) in
-      let also : slice_index add v ≡ 0 = get_or_past add v 0 (omega arith) in
-      is.left v past ∙ (none ∙ (ap (λ x. bit_or x 0) (sym none) ∙ ap (bit_or (slice_index old v)) (sym also))))
+      let none : slice_index add v ≡ 0 = get_or_past add v 0 (omega arith) in
+      is.left v past ∙ (sym (or_zero_r (slice_index old v)) ∙ ap (bit_or (slice_index old v)) (sym none)))
 ])
 
 -- all words of a row are joined
-pub joined_rows : (old add words more row : List ℕ) (w : ℕ) → words ≡ old → more ≡ add → length old ≡ length add → length words ≤ w → IsJoined words more row w →
+pub joined_rows : (old add words more row : List ℕ) (w : ℕ) → words ≡ old → more ≡ add → length more ≤ w → IsJoined words more row w →
     (j : ℕ) → word_bit row j ≡ (word_bit old j || word_bit add j)
-joined_rows old add words more row w a b size all is =
+joined_rows old add words more row w a b all is =
     subst (λ o. (j : ℕ) → word_bit row j ≡ (word_bit o j || word_bit add j)) a
     (subst (λ m. (j : ℕ) → word_bit row j ≡ (word_bit words j || word_bit m j)) b
-    (joined_all words more row w (ap length a ∙ (size ∙ ap length (sym b))) all is))
+    (joined_all words more row w all is))
 
 either_false : (a b : Bool) → a ≡ false → b ≡ false → (a || b) ≡ false
 either_false false b ea eb = eb

@@ -1,5 +1,5 @@
 -- The loops that find the sources of a line, by rows of what reaches the lines above it.
-use Rattle.std.proofs.Common.{◌≡◌, ℕ, zero, suc, ◌+◌, ◌/◌, ◌<◌, ◌≤◌, Bool, true, false, cond, not, ◌⊎◌, inl, inr, ◌||◌, List, [], ◌∷◌, ◌++◌, length, take, refl, sym, ◌∙◌, ap, subst, append_assoc, append-nil, length-append, arith}
+use Rattle.std.proofs.Common.{◌≡◌, ℕ, zero, suc, ◌+◌, ◌<◌, ◌≤◌, Bool, true, false, cond, not, ◌⊎◌, inl, inr, ◌||◌, List, [], ◌∷◌, ◌++◌, length, take, refl, sym, ◌∙◌, ap, subst, append_assoc, append-nil, length-append, arith}
 use Rattle.std.specs.Prelude.{Contains, ◌==◌, ◌&&◌, filter, flat_map, Some, slice_get, slice_index_or}
 use Rattle.std.specs.List.{list_any}
 use Rattle.std.proofs.lemmas.Bool.{true≢false, cases_Bool, cases_lt, and_parts}
@@ -12,7 +12,7 @@ use Rattle.graph_model.specs.graph.Graph.{GraphValue}
 use Rattle.graph_model.specs.graph.Access.{accesses}
 use Rattle.task_flow.specs.Meaning.{accesses_tie}
 use Rattle.task_flow.specs.Bits.{word_bit}
-use Rattle.task_flow.specs.Rows.{AreRows, parts_at}
+use Rattle.task_flow.specs.Rows.{AreRows, parts_at, words_for}
 use Rattle.task_flow.specs.Construction.{Parts, down_from, has, is_large, is_reached, least, reaches, parts_of, all_of, sources_after, tied_by}
 use Rattle.task_flow.proofs.FlowSide.{depends_below}
 use Rattle.task_flow.proofs.Lists.{at_left, at_end, down_below, least_within}
@@ -200,23 +200,21 @@ module _ (f : GraphValue) (commute : Bool) where
   source_below n i c = depends_below f commute i n (sources_sound f commute n i c)
 
   -- no row
-  pub rows_none : (words : ℕ) (rows : List (List ℕ)) → rows ≡ [] → words ≡ (length f.lines + 63) / 64 → AreRows f commute words rows
-  rows_none words rows none is = subst (AreRows f commute words) (sym none) (record {
+  pub rows_none : (rows : List (List ℕ)) → rows ≡ [] → AreRows f commute rows
+  rows_none rows none = subst (AreRows f commute) (sym none) (record {
     some = omega arith;
-    words_are = is;
     size = λ k h. absurd (omega arith);
     bits = λ k i h. absurd (omega arith);
   })
 
   -- the rows with one more
-  pub rows_more : (words : ℕ) (rows rows' : List (List ℕ)) (row : List ℕ) → AreRows f commute words rows → length rows < length f.lines → rows' ≡ rows ++ row ∷ [] → length row ≡ words → ((i : ℕ) → word_bit row i ≡ is_reached (table (length rows)) (sources_of f commute (length rows)) i) →
-      AreRows f commute words rows'
-  rows_more words rows rows' row a next pushed size bits = subst (AreRows f commute words) (sym pushed) (record {
+  pub rows_more : (rows rows' : List (List ℕ)) (row : List ℕ) → AreRows f commute rows → length rows < length f.lines → rows' ≡ rows ++ row ∷ [] → length row ≡ words_for (length rows) → ((i : ℕ) → word_bit row i ≡ is_reached (table (length rows)) (sources_of f commute (length rows)) i) →
+      AreRows f commute rows'
+  rows_more rows rows' row a next pushed size bits = subst (AreRows f commute) (sym pushed) (record {
     some = (let l : length (rows ++ row ∷ []) ≡ length rows + 1 = length-append rows (row ∷ []) in omega arith);
-    words_are = a.words_are;
     size = λ k h. (let l : length (rows ++ row ∷ []) ≡ length rows + 1 = length-append rows (row ∷ []) in elim (cases_lt k (length rows)) [
       | inl old ↦ ap length (at_left rows row [] k old) ∙ a.size k old
-      | inr new ↦ (let e : k ≡ length rows = omega arith in ap (λ z. length (slice_index_or (rows ++ row ∷ []) z [])) e ∙ (ap length (at_end rows row []) ∙ size))
+      | inr new ↦ (let e : k ≡ length rows = omega arith in ap (λ z. length (slice_index_or (rows ++ row ∷ []) z [])) e ∙ (ap length (at_end rows row []) ∙ (size ∙ ap words_for (sym e))))
     ]);
     bits = λ k i h. (let l : length (rows ++ row ∷ []) ≡ length rows + 1 = length-append rows (row ∷ []) in (elim (cases_lt k (length rows)) [
       | inl old ↦ ap (λ w. word_bit w i) (at_left rows row [] k old) ∙ (a.bits k i old ∙ (row_keeps (length rows) k i old ∙ ap (λ z. reaches (table z) k i k) (sym l)))

@@ -73,7 +73,7 @@ impl ColumnUses {
 }
 
 impl Rows {
-    ghost use Rattle.task_flow.specs.Rows.{IsKept};
+    ghost use Rattle.task_flow.specs.Rows.{IsKept, words_for};
 
     /// Bits of lines that an access of the next line ties: each line that it ties has one, or a
     /// chain to a line that has.
@@ -87,21 +87,21 @@ impl Rows {
         requires kept { IsKept flow.now commute self.now }
         requires column { access.column < length (columns flow.now) }
         requires space { access.space < length (named_spaces flow.now) }
-        ensures size { IfOk result (λ row. length row ≡ self.now.words) }
+        ensures size { IfOk result (λ row. length row ≡ words_for (length self.now.rows.items)) }
         ensures asked { IfOk result (λ row. AreAsked flow.now commute (length self.now.rows.items) access row) }
     {
-        let mut row = Bits::zeros(alloc, self.words)?;
+        let mut row = Bits::zeros(alloc, self.words())?;
         self.uses.columns[access.column as usize].set_asked(flow, commute, access, &mut row);
         Ok(row)
     }
 
     /// Bits of the lines of some lists.
     pub(crate) fn asked_among(&self, alloc: Global, parts: &[LineList]) -> Result<Bits, NoMemory>
-        requires { (i : ℕ) → Contains (flat_map (λ p. p) parts.now) i → i / 64 < self.now.words }
-        ensures size { IfOk result (λ row. length row ≡ self.now.words) }
+        requires { (i : ℕ) → Contains (flat_map (λ p. p) parts.now) i → i / 64 < words_for (length self.now.rows.items) }
+        ensures size { IfOk result (λ row. length row ≡ words_for (length self.now.rows.items)) }
         ensures bits { IfOk result (λ row. (i : ℕ) → word_bit row i ≡ list_any (λ p. has p i) parts.now) }
     {
-        let mut row = Bits::zeros(alloc, self.words)?;
+        let mut row = Bits::zeros(alloc, self.words())?;
         for part in parts {
             set_all(&mut row, part);
         }

@@ -89,13 +89,13 @@ impl Bits {
         self.low = self.low.min(j);
     }
 
-    /// Sets the bits of another row of as many words.
+    /// Sets the bits of another row, of no more words.
     pub(crate) fn join(&mut self, add: &Bits)
-        requires { length self.old ≡ length add.now }
+        requires { length add.now ≤ length self.old }
         ensures size { length self.new ≡ length self.old }
         ensures bits { (j : ℕ) → word_bit self.new j ≡ (word_bit self.old j || word_bit add.now j) }
     {
-        for w in 0..self.words.len() {
+        for w in 0..add.words.len() {
             self.words[w] |= add.words[w];
         }
         self.low = self.low.min(add.low);

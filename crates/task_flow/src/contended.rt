@@ -40,7 +40,7 @@ pub(crate) fn contended(alloc: Global, flow: &Graph, commute: bool) -> Result<Bi
 
 /// The rows of all lines.
 fn all_rows(alloc: Global, flow: &Graph, commute: bool) -> Result<Rows, NoMemory>
-    ensures rows { IfOk result (λ rows. AreRows flow.now commute rows.words rows.rows.items) }
+    ensures rows { IfOk result (λ rows. AreRows flow.now commute rows.rows.items) }
     ensures all { IfOk result (λ rows. length rows.rows.items ≡ length flow.now.lines) }
 {
     let mut rows = Rows::new(alloc, flow)?;
@@ -53,7 +53,7 @@ fn all_rows(alloc: Global, flow: &Graph, commute: bool) -> Result<Rows, NoMemory
 
 /// Sets the bits of a line and of its rivals above it.
 fn mark_rivals(flow: &Graph, commute: bool, rows: &Rows, bits: &mut Bits, line: u32)
-    requires rows { AreRows flow.now commute rows.now.words rows.now.rows.items }
+    requires rows { AreRows flow.now commute rows.now.rows.items }
     requires all { length rows.now.rows.items ≡ length flow.now.lines }
     requires line { line < length flow.now.lines }
     requires size { length bits.old ≡ (length flow.now.lines + 63) / 64 }
@@ -71,7 +71,7 @@ fn mark_rivals(flow: &Graph, commute: bool, rows: &Rows, bits: &mut Bits, line: 
 
 /// Whether two lines add to one cell, and the upper doesn't reach the lower.
 fn are_rivals(flow: &Graph, commute: bool, rows: &Rows, above: u32, line: u32) -> bool
-    requires rows { AreRows flow.now commute rows.now.words rows.now.rows.items }
+    requires rows { AreRows flow.now commute rows.now.rows.items }
     requires all { length rows.now.rows.items ≡ length flow.now.lines }
     requires above { above < line }
     requires line { line < length flow.now.lines }

@@ -1,6 +1,6 @@
 //! What is kept of the lines so far: which lines reach which, and how the columns are used.
 
-ghost use Rattle.std.specs.Prelude.{◌≡◌, ℕ, ◌<◌, ◌/◌, ◌==◌, ◌||◌, [], length, slice_index_or, IfOk};
+ghost use Rattle.std.specs.Prelude.{◌≡◌, ℕ, ◌<◌, ◌≤◌, ◌/◌, ◌==◌, ◌||◌, [], length, slice_index_or, IfOk};
 ghost use Rattle.task_flow.specs.Bits.{word_bit};
 
 use crate::bits::Bits;
@@ -13,13 +13,12 @@ use std::alloc::Global;
 /// classes of their uses.
 #[derive(Drop)]
 pub(crate) struct Rows {
-    pub(crate) words: usize,
     pub(crate) rows: Vec<Bits>,
     pub(crate) uses: Uses,
 }
 
 impl Rows {
-    ghost use Rattle.task_flow.specs.Rows.{IsKept};
+    ghost use Rattle.task_flow.specs.Rows.{IsKept, words_for};
 
     /// No row and no use.
     pub(crate) fn new(alloc: Global, flow: &Graph) -> Result<Rows, NoMemory>
@@ -28,17 +27,23 @@ impl Rows {
     {
         let uses = Uses::new(alloc, flow)?;
         Ok(Rows {
-            words: (flow.lines() as usize + 63) / 64,
             rows: Vec::new(alloc),
             uses,
         })
+    }
+
+    /// How many words the row of the next line has.
+    pub(crate) fn words(&self) -> usize
+        ensures { result ≡ words_for (length self.now.rows.items) }
+    {
+        self.rows.len() / 64 + 1
     }
 
     /// Sets the bits of a line and of those that reach it.
     pub(crate) fn reach(&self, mask: &mut Bits, line: u32)
         requires line { line < length self.now.rows.items }
         requires line_bit { line / 64 < length mask.old }
-        requires size { length (slice_index_or self.now.rows.items line []) ≡ length mask.old }
+        requires size { length (slice_index_or self.now.rows.items line []) ≤ length mask.old }
         ensures size { length mask.new ≡ length mask.old }
         ensures bits { (i : ℕ) → word_bit mask.new i ≡ (word_bit mask.old i || ((line == i) || word_bit (slice_index_or self.now.rows.items line []) i)) }
     {

@@ -4,7 +4,7 @@ ghost use Rattle.std.specs.Prelude.{◌≡◌, ℕ, ◌+◌, ◌<◌, ◌/◌, �
 ghost use Rattle.graph_model.specs.graph.Access.{accesses};
 ghost use Rattle.task_flow.specs.Bits.{word_bit};
 ghost use Rattle.std.specs.List.{list_any};
-ghost use Rattle.task_flow.specs.Rows.{AreRows, IsKept, parts_at};
+ghost use Rattle.task_flow.specs.Rows.{AreRows, IsKept, parts_at, words_for};
 ghost use Rattle.task_flow.specs.Construction.{down_from, tied_by, has, is_large, is_reached, least, parts_of, sources_after};
 
 use crate::bits::Bits;
@@ -134,10 +134,10 @@ fn least(
     kept: &[LineList],
     asked: &Bits,
 ) -> Result<LineList, NoMemory>
-    requires rows { AreRows flow.now commute rows.now.words rows.now.rows.items }
+    requires rows { AreRows flow.now commute rows.now.rows.items }
     requires next { length rows.now.rows.items < length flow.now.lines }
     requires kept { (i : ℕ) → Contains (flat_map (λ p. p) kept.now) i → i < length rows.now.rows.items }
-    requires asked { length asked.now ≡ rows.now.words }
+    requires asked { length asked.now ≡ words_for (length rows.now.rows.items) }
     ensures { IfOk result (λ part. part ≡ least (sources_after flow.now commute (length rows.now.rows.items)) (flat_map (λ p. p) kept.now) (filter (word_bit asked.now) (down_from (length rows.now.rows.items)))) }
 {
     let mut mask = mask_of(alloc, flow, commute, rows, kept)?;
@@ -160,12 +160,12 @@ fn mask_of(
     rows: &Rows,
     kept: &[LineList],
 ) -> Result<Bits, NoMemory>
-    requires rows { AreRows flow.now commute rows.now.words rows.now.rows.items }
+    requires rows { AreRows flow.now commute rows.now.rows.items }
     requires kept { (i : ℕ) → Contains (flat_map (λ p. p) kept.now) i → i < length rows.now.rows.items }
-    ensures size { IfOk result (λ mask. length mask ≡ rows.now.words) }
+    ensures size { IfOk result (λ mask. length mask ≡ words_for (length rows.now.rows.items)) }
     ensures bits { IfOk result (λ mask. (i : ℕ) → word_bit mask i ≡ is_reached (sources_after flow.now commute (length rows.now.rows.items)) (flat_map (λ p. p) kept.now) i) }
 {
-    let mut mask = Bits::zeros(alloc, rows.words)?;
+    let mut mask = Bits::zeros(alloc, rows.words())?;
     for part in kept {
         reach_all(flow, commute, rows, &mut mask, part);
     }
@@ -174,8 +174,8 @@ fn mask_of(
 
 /// Sets the bits of the lines of a list, and of those that reach one of them.
 fn reach_all(flow: &Graph, commute: bool, rows: &Rows, mask: &mut Bits, part: &LineList)
-    requires rows { AreRows flow.now commute rows.now.words rows.now.rows.items }
-    requires size { length mask.old ≡ rows.now.words }
+    requires rows { AreRows flow.now commute rows.now.rows.items }
+    requires size { length mask.old ≡ words_for (length rows.now.rows.items) }
     requires part { (i : ℕ) → Contains part.now i → i < length rows.now.rows.items }
     ensures size { length mask.new ≡ length mask.old }
     ensures bits { (i : ℕ) → word_bit mask.new i ≡ (word_bit mask.old i || is_reached (sources_after flow.now commute (length rows.now.rows.items)) part.now i) }

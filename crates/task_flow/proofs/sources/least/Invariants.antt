@@ -1,12 +1,13 @@
 use Rattle.std.proofs.Common.{◌≡◌, ◌+◌, ◌≤◌, ℕ, ◌++◌, length}
 use Rattle.std.specs.Prelude.{filter, flat_map}
 use Rattle.task_flow.specs.Bits.{word_bit}
+use Rattle.task_flow.specs.Rows.{words_for}
 use Rattle.task_flow.specs.Construction.{down_from, is_reached, least, sources_after}
 use Rattle.task_flow.proofs.sources.least.Given as goal
 
 abbrev pub invariant-lines : goal.invariant-lines
 invariant-lines l = record {
-  size : length l.mask ≡ l.rows.words;
+  size : length l.mask ≡ words_for (length l.rows.rows.items);
   few : length l.part + l.above ≤ length l.rows.rows.items;
   bits : (i : ℕ) → word_bit l.mask i ≡ is_reached (sources_after l.flow l.commute (length l.rows.rows.items)) (flat_map (λ p. p) l.kept ++ l.part) i;
   rest : least (sources_after l.flow l.commute (length l.rows.rows.items)) (flat_map (λ p. p) l.kept) (filter (word_bit l.asked) (down_from (length l.rows.rows.items)))

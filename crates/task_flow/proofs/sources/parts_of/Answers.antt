@@ -1,4 +1,4 @@
-use Rattle.std.proofs.Common.{◌≡◌, ◌<◌, ◌≤◌, ◌+◌, ◌/◌, not, length, sym, ◌∙◌, subst, arith}
+use Rattle.std.proofs.Common.{◌<◌, not, length, sym, ◌∙◌, subst, arith}
 use Rattle.std.specs.Prelude.{Contains, flat_map}
 use Rattle.graph_model.specs.graph.Access.{accesses}
 use Rattle.task_flow.specs.Construction.{is_large}
@@ -23,6 +23,4 @@ asked_among-requires c =
     λ i d. (
     let below : i < length c.args.rows.now.rows.items = parts_below f c.args.commute (λ p. not (is_large p)) (length c.args.rows.now.rows.items) (accesses f (length c.args.rows.now.rows.items)) i
     (subst (λ xs. Contains (flat_map (λ p. p) xs) i) (c.as_slice-2.ensures.value ∙ (c.in_default.ensures ∙ c.in_ok-large.ensures.few)) d) in
-    let some : length c.args.rows.now.rows.items ≤ length c.args.flow.now.lines = c.requires.rows.rows.some in
-    let words : c.args.rows.now.words ≡ (length c.args.flow.now.lines + 63) / 64 = c.requires.rows.rows.words_are in
     omega arith)

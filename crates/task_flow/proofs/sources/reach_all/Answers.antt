@@ -1,4 +1,4 @@
-use Rattle.std.proofs.Common.{◌≡◌, ◌<◌, ◌≤◌, ◌+◌, ◌/◌, [], length, sym, ◌∙◌, ap, arith, get_or}
+use Rattle.std.proofs.Common.{◌≡◌, ◌<◌, ◌+◌, ◌/◌, [], length, sym, ◌∙◌, ap, arith, get_or}
 use Rattle.std.specs.Prelude.{Some, slice_get, slice_index_or}
 use Rattle.std.proofs.lemmas.Option.{slice_get-get_or}
 use Rattle.basics.proofs.ListFacts.{got_contains}
@@ -15,16 +15,16 @@ pub reach-requires-clause-line_bit : goal.reach-requires-clause-line_bit
 reach-requires-clause-line_bit c =
     let items = c.as_slice-line-items.result.now in
     let below : get_or items c.loop-line.line-index 0 < length c.args.rows.now.rows.items = c.requires.part (get_or items c.loop-line.line-index 0) (got_contains c.args.part.now c.loop-line.line-index (get_or items c.loop-line.line-index 0) (ap (λ xs. slice_get xs c.loop-line.line-index) (sym c.loop-line.invariant.items) ∙ slice_get-get_or items c.loop-line.line-index 0 c.loop-line-test.true)) in
-    let some : length c.args.rows.now.rows.items ≤ length c.args.flow.now.lines = c.requires.rows.some in
-    let words : c.args.rows.now.words ≡ (length c.args.flow.now.lines + 63) / 64 = c.requires.rows.words_are in
-    let size : length c.loop-line.mask ≡ c.args.rows.now.words = c.loop-line.invariant.size ∙ c.requires.size in
+    let size : length c.loop-line.mask ≡ length c.args.rows.now.rows.items / 64 + 1 = c.loop-line.invariant.size ∙ c.requires.size in
     omega arith
 
 pub reach-requires-clause-size : goal.reach-requires-clause-size
 reach-requires-clause-size c =
     let items = c.as_slice-line-items.result.now in
     let below : get_or items c.loop-line.line-index 0 < length c.args.rows.now.rows.items = c.requires.part (get_or items c.loop-line.line-index 0) (got_contains c.args.part.now c.loop-line.line-index (get_or items c.loop-line.line-index 0) (ap (λ xs. slice_get xs c.loop-line.line-index) (sym c.loop-line.invariant.items) ∙ slice_get-get_or items c.loop-line.line-index 0 c.loop-line-test.true)) in
-    c.requires.rows.size (get_or items c.loop-line.line-index 0) below ∙ sym (c.loop-line.invariant.size ∙ c.requires.size)
+    let row : length (slice_index_or c.args.rows.now.rows.items (get_or items c.loop-line.line-index 0) []) ≡ get_or items c.loop-line.line-index 0 / 64 + 1 = c.requires.rows.size (get_or items c.loop-line.line-index 0) below in
+    let size : length c.loop-line.mask ≡ length c.args.rows.now.rows.items / 64 + 1 = c.loop-line.invariant.size ∙ c.requires.size in
+    omega arith
 
 pub loop-line-preserved : goal.loop-line-preserved
 loop-line-preserved c =

@@ -21,8 +21,7 @@ set_asked-requires-clause-groups c =
     let n = length c.args.self.now.rows.items in
     let below : i < length c.args.self.now.rows.items = group_below c.args.flow.now c.args.commute n c.args.access c.args.access.column c.index.result.now.classes.items k x i (c.requires.kept.uses.each c.args.access.column c.index.result.now at) got h in
     let some : length c.args.self.now.rows.items ≤ length c.args.flow.now.lines = c.requires.kept.rows.some in
-    let words : c.args.self.now.words ≡ (length c.args.flow.now.lines + 63) / 64 = c.requires.kept.rows.words_are in
-    let size : length c.in_ok-row.row ≡ c.args.self.now.words = c.in_ok-row.ensures.size in
+    let size : length c.in_ok-row.row ≡ length c.args.self.now.rows.items / 64 + 1 = c.in_ok-row.ensures.size ∙ c.words.ensures in
     omega arith)
 
 pub returns-clause-asked : goal.returns-clause-asked

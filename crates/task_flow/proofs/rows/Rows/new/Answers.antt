@@ -1,10 +1,10 @@
-use Rattle.std.proofs.Common.{◌+◌, ◌/◌, length, sym, ap, subst}
+use Rattle.std.proofs.Common.{length, sym, subst}
 use Rattle.task_flow.specs.Uses.{AreUses, uses_before}
 use Rattle.task_flow.proofs.SourceSteps.{rows_none}
 use Rattle.task_flow.proofs.rows.Rows.new.Goals as goal
 
 pub returns-clause-kept : goal.returns-clause-kept
 returns-clause-kept c = λ commute. record {
-  rows = rows_none c.args.flow.now commute _ c.new-2.result.items c.new-2.ensures.items (ap (λ n. (n + 63) / 64) c.lines.ensures.number);
+  rows = rows_none c.args.flow.now commute c.new-2.result.items c.new-2.ensures.items;
   uses = subst (λ xs. AreUses c.args.flow.now commute (uses_before c.args.flow.now (length xs)) c.in_ok-uses.uses.columns.items) (sym c.new-2.ensures.items) (c.in_ok-uses.ensures commute);
 }
