@@ -245,13 +245,14 @@ fn refusals(rt: HostRuntime) -> Result<(), Fail> {
     Ok(())
 }
 
-/// A flow whose graph passes a limit: each line but the first two wants a merge of its own.
+/// A flow whose graph passes a limit: each third line wants a merge of its own, so that 2,048 times three lines make
+/// 8,192, and the next one, line 6,148 of the text, is one too many.
 #[test]
 fn limit(rt: HostRuntime) -> Result<(), Fail> {
     let alloc = rt.alloc();
     let mut text = String::new(alloc);
     text.push_str("realm-flow 1\nspace s 0..3\ninst a s x,y\n")?;
-    for line in 0..3000u32 {
+    for line in 0..2100u32 {
         let some = format!(in alloc;
             "f{line} = fill a.x s 1\ng{line} = fill a.y s 1\nh{line} = task axpy a.x a.y s 2\n"
         )?;
@@ -261,8 +262,8 @@ fn limit(rt: HostRuntime) -> Result<(), Fail> {
     match answer_flow(alloc, text.as_bytes(), false) {
         Err(
             FlowFault::Line {
+                number: 6148,
                 why: Why::Limit,
-                ..
             },
         ) => Ok(()),
         Err(fault) => Err(Fail::new(format_args!("{fault:?}"))),
