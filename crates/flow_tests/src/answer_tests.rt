@@ -215,16 +215,35 @@ const REFUSED: &[(&str, u32, Why)] = &[
         5,
         Why::Outside,
     ),
-    // A fault of a graph's text goes before a line that a flow has not.
+    // A line that a flow has not goes before what a graph is refused for below it.
     (
         "realm-flow 1\nu = user\nf = full a.x s 1\nend\n",
-        3,
+        2,
         Why::Syntax,
     ),
     (
         "realm-flow 1\nspace s 0..3\nu = user\nf = fill a.x s 1\nend\n",
-        4,
+        3,
+        Why::Syntax,
+    ),
+    ("realm-flow 1\nu = user\nend\nend\n", 2, Why::Syntax),
+    ("realm-flow 1\nm = merge e\n", 2, Why::Syntax),
+    // And what a graph is refused for above such a line before that.
+    (
+        "realm-flow 1\nspace s 0..3\nf = fill a.x s 1\nu = user\nend\n",
+        3,
         Why::Unknown,
+    ),
+    // In one line `syntax` goes before what a graph is refused for.
+    (
+        "realm-flow 1\nspace s 0..3\ninst a s x\nf = fill a.x s 1 on nothing\nend\n",
+        4,
+        Why::Syntax,
+    ),
+    (
+        "realm-flow 1\nspace s 0..3\ns = user\nend\n",
+        3,
+        Why::Syntax,
     ),
 ];
 
