@@ -1,6 +1,8 @@
 //! What is said of a text, line by line, as it was worked out by hand.
 
+use explain_text::Text;
 use explain_top::{Verdict, explain_bytes};
+use index_spaces::NoMemory;
 use std::alloc::Global;
 use std::test::Fail;
 
@@ -112,6 +114,76 @@ fn texts(rt: HostRuntime) -> Result<(), Fail> {
     let alloc = rt.alloc();
     for row in &ROWS {
         row.run(alloc)?;
+    }
+    Ok(())
+}
+
+/// Lines that differ in a number alone: what stands before it and behind it.
+fn put_each(text: &mut Text, before: &[u8], count: u64, behind: &[u8]) -> Result<(), NoMemory> {
+    for i in 0..count {
+        text.put(before)?;
+        text.put_number(i)?;
+        text.put(behind)?;
+    }
+    Ok(())
+}
+
+/// A graph of 65,536 edges, as many as there may be, by 1,024 merges of 64 events, and a fill on one of these.
+fn fill_behind_all_edges(alloc: Global) -> Result<Text, NoMemory> {
+    let mut text = Text::new(alloc);
+    text.put(b"realm 1\nspace s 0..3\ninst a s x\n")?;
+    put_each(&mut text, b"u", 64, b" = user\n")?;
+    for i in 0..1024 {
+        text.put(b"m")?;
+        text.put_number(i)?;
+        text.put(b" = merge")?;
+        put_each(&mut text, b" u", 64, b"")?;
+        text.put(b"\n")?;
+    }
+    text.put(b"f = fill a.x s 1 on u0\nend\n")?;
+    Ok(text)
+}
+
+/// A merge of 65 events, of which one has the name `on`.
+fn merge_of_many(alloc: Global) -> Result<Text, NoMemory> {
+    let mut text = Text::new(alloc);
+    text.put(b"realm 1\non = user\n")?;
+    put_each(&mut text, b"u", 64, b" = user\n")?;
+    text.put(b"m = merge")?;
+    put_each(&mut text, b" u", 63, b"")?;
+    text.put(b" on u63\nend\n")?;
+    Ok(text)
+}
+
+/// One reservation more than there may be.
+fn many_locks(alloc: Global) -> Result<Text, NoMemory> {
+    let mut text = Text::new(alloc);
+    text.put(b"realm 1\n")?;
+    put_each(&mut text, b"lock l", 65, b"\n")?;
+    text.put(b"end\n")?;
+    Ok(text)
+}
+
+/// Whether what is said of a text ends so.
+fn ends_so(alloc: Global, text: &Text, end: &[u8]) -> Result<bool, NoMemory> {
+    let answer = explain_bytes(alloc, text.bytes(), false)?;
+    Ok(answer.verdict == Verdict::Unread && answer.text.bytes().ends_with(end))
+}
+
+#[test]
+fn limits(rt: HostRuntime) -> Result<(), Fail> {
+    let alloc = rt.alloc();
+    let edges = fill_behind_all_edges(alloc)?;
+    if !ends_so(alloc, &edges, b"the whole line is refused\nedges: 65537, and at most 65536\n")? {
+        return Err("edges".into());
+    }
+    let events = merge_of_many(alloc)?;
+    if !ends_so(alloc, &events, b"the whole line is refused\nevents of a merge: 65, and at most 64\n")? {
+        return Err("events".into());
+    }
+    let locks = many_locks(alloc)?;
+    if !ends_so(alloc, &locks, b"the whole line is refused\nreservations: 65, and at most 64\n")? {
+        return Err("reservations".into());
     }
     Ok(())
 }

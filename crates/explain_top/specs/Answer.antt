@@ -1,5 +1,5 @@
 -- What is answered to the bytes of an input.
-use Rattle.std.specs.Prelude.{◌≡◌, ◌≢◌, ℕ, ◌-◌, ◌<◌, ◌↔◌, Bool, true, false, cond, List, [], ◌++◌, length, map, Contains, Option, Some, None, IsSome, IfSome, MatchOption}
+use Rattle.std.specs.Prelude.{◌≡◌, ◌≢◌, ℕ, ◌-◌, ◌<◌, ◌↔◌, Bool, true, false, cond, List, [], ◌++◌, length, map, Contains, Option, Some, None, IsSome, MatchOption, option_map}
 use Rattle.basics.specs.Lists.{numbers_below}
 use Rattle.std.specs.List.{slice_index_or}
 use Rattle.graph_model.specs.declared.graph.format.Format.{Format}
@@ -33,7 +33,7 @@ use Rattle.explain_text.specs.declared.naming.NamedWord.{NamedWord}
 use Rattle.explain_text.specs.Unread.{unread_text, mark_text, ended_text}
 use Rattle.refused_words.specs.Refused.{IsRefusedWord}
 use Rattle.refused_words.specs.Ends.{IsEndedBy}
-use Rattle.explain_top.specs.Limits.{limit_text}
+use Rattle.explain_top.specs.Limits.{told, limit_for, limit_text}
 use Rattle.explain_top.specs.declared.limits.Passed.{Passed}
 use Rattle.explain_top.specs.declared.answer.Verdict.{Verdict}
 use Rattle.explain_top.specs.declared.answer.Verdict.TheVariants as verdict
@@ -101,12 +101,12 @@ pub record AreNamed (format : Format) (ls : List (List ℕ)) (number : ℕ) (ws 
 abbrev pub words_of : List (List ℕ) → ℕ → List (List ℕ)
 words_of ls number = pieces 32 (slice_index_or ls (number - 1) [])
 
--- a text with what is told of a line that is refused behind a graph: the word that is, or that it is as a whole; a quantity that is above its bound; the line that has done already what it would do; and the names
+-- a text with what is told of a line that is refused behind a graph: the word that is, or that it is as a whole; for `limit` the first quantity that is above its bound; the line that has done already what it would do; and the names
 pub record IsMarkedText (ls : List (List ℕ)) (number : ℕ) (reason : Why) (g : GraphValue) (old new : List ℕ) : Type 0 where
   pub mark : Option ℕ
   pub is_mark : IsRefusedWord g reason (words_of ls number) mark
   pub limit : Option Passed
-  pub passes : IfSome limit (λ p. p.bound < p.value)
+  pub is_limit : option_map told limit ≡ limit_for g reason (words_of ls number)
   pub ended : Option ℕ
   pub is_ended : MatchOption mark (ended ≡ None) (λ k. IsEndedBy g (words_of ls number) k ended)
   pub named : List NamedWord

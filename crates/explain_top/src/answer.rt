@@ -1,12 +1,12 @@
 //! The answer to the bytes of an input.
 
-ghost use Rattle.std.specs.Prelude.{◌≡◌, ◌≢◌, ◌<◌, length, Contains, None, IfOk, OnOk, IfSome, MatchOption};
+ghost use Rattle.std.specs.Prelude.{◌≡◌, ◌≢◌, length, option_map, Contains, None, IfOk, OnOk, MatchOption};
 ghost use Rattle.basics.specs.Words.{contents};
 ghost use Rattle.refused_words.specs.Ends.{IsEndedBy};
 ghost use Rattle.explain_text.specs.Named.{IsInside};
 ghost use Rattle.explain_text.specs.declared.naming.NamedWord.{NamedWord};
 ghost use Rattle.explain_top.specs.Answer.{IsAnswer, IsUnfitText, IsUnreadText, IsMarkedText, AreNamed};
-ghost use Rattle.explain_top.specs.declared.limits.Passed.{Passed};
+ghost use Rattle.explain_top.specs.Limits.{told, limit_for};
 ghost use Rattle.race_check.specs.Refusal.{IsRefusal, NamesLines};
 
 use crate::accepted::put_accepted;
@@ -159,14 +159,14 @@ fn named_for<'a>(
     }
 }
 
-/// The quantity that the line passes, where that is the reason.
+/// The first quantity that the line brings above its bound, where that is the reason.
 fn limit_for(
     alloc: Global,
     graph: &Graph,
     words: &[&[u8]],
     why: Why,
 ) -> Result<Option<Passed>, NoMemory>
-    ensures { IfOk result (λ o. IfSome o (λ (p : Passed). p.bound < p.value)) }
+    ensures { IfOk result (λ o. option_map told o ≡ limit_for graph.now why (contents words.now)) }
 {
     match why {
         Why::Limit => passed_limit(alloc, graph, words),

@@ -7,5 +7,5 @@ mod refused;
 mod spelled;
 
 pub use ends::ended_by;
-pub use places::{WordPlace, place_at};
+pub use places::{WordPlace, is_merge, is_operation, place_at};
 pub use refused::refused_word;

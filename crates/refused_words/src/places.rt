@@ -43,7 +43,7 @@ pub fn place_at(format: Format, words: &[&[u8]], k: usize) -> Option<WordPlace>
 }
 
 /// Whether the words are those of an operation line.
-fn is_operation(words: &[&[u8]]) -> bool
+pub fn is_operation(words: &[&[u8]]) -> bool
     ensures { result ≡ is_operation (contents words.now) }
 {
     words.len() >= 2 && word(words, 1) == b"=".as_slice()
@@ -133,8 +133,8 @@ fn operation_place(format: Format, words: &[&[u8]], k: usize) -> Option<WordPlac
     verb_place(format, behind(words, 2), k - 2)
 }
 
-/// Whether the words behind the sign are those of a merge.
-fn is_merge(words: &[&[u8]]) -> bool
+/// Whether these words, behind the sign of a line, are those of a merge.
+pub fn is_merge(words: &[&[u8]]) -> bool
     ensures { result ≡ is_merge (contents words.now) }
 {
     word(words, 0) == b"merge".as_slice() || word(words, 0) == b"mergei".as_slice()
