@@ -90,7 +90,7 @@ const ROWS: [Row<'static>; 10] = [
         ends: false,
         verdict: Verdict::Unread,
         text: "refused line 6 twice\nline 6: s = release q on m\n                    ^\n\
-            line 5 did so already: r = release q on m\nq is given by line 3: q = acquire l\n\
+            line 5 has ended or released it already: r = release q on m\nq is given by line 3: q = acquire l\n\
             m is given by line 4: m = mergei q\n",
     },
     Row {

@@ -89,7 +89,7 @@ in_sections g ls i (q ∷ qs) = by_number g i ++ (codes " lies in the section of
 abbrev pub sections_text : GraphValue → List (List ℕ) → Option Sections → ℕ → ℕ → List ℕ
 sections_text g ls None i j = []
 sections_text g ls (Some s) i j =
-    codes "no reservation sets them apart: one that both acquire before and release behind, not both shared\n" ++ (in_sections g ls i s.first.items ++ in_sections g ls j s.second.items)
+    codes "no reservation sets them apart: each would lie in a section of it, by an acquire of its own, not both shared\n" ++ (in_sections g ls i s.first.items ++ in_sections g ls j s.second.items)
 
 abbrev pub race_text : GraphValue → List (List ℕ) → ConflictReason → List ℕ
 race_text g ls r =

@@ -39,4 +39,4 @@ mark_text number ws (Some k) =
 -- the line that has done already what the refused line would do
 abbrev pub ended_text : GraphValue → List (List ℕ) → Option ℕ → List ℕ
 ended_text g ls None = []
-ended_text g ls (Some i) = by_number g i ++ (codes " did so already" ++ (codes ": " ++ (line_of g ls i ++ codes "\n")))
+ended_text g ls (Some i) = by_number g i ++ (codes " has ended or released it already" ++ (codes ": " ++ (line_of g ls i ++ codes "\n")))

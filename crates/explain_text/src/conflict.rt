@@ -157,7 +157,7 @@ fn put_sections(
         return Ok(());
     };
     text.put(
-        b"no reservation sets them apart: one that both acquire before and release behind, not both shared\n",
+        b"no reservation sets them apart: each would lie in a section of it, by an acquire of its own, not both shared\n",
     )?;
     put_in_sections(text, graph, lines, first, sections.first.as_slice())?;
     put_in_sections(text, graph, lines, second, sections.second.as_slice())

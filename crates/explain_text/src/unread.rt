@@ -73,7 +73,7 @@ pub fn put_ended(
         return Ok(());
     };
     put_by_number(text, graph, line)?;
-    text.put(b" did so already")?;
+    text.put(b" has ended or released it already")?;
     put_line(text, graph, lines, line)
 }
 
