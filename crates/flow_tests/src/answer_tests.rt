@@ -215,16 +215,38 @@ const REFUSED: &[(&str, u32, Why)] = &[
         5,
         Why::Outside,
     ),
-    // A fault of a graph's text goes before a line that a flow has not.
+    // A line that a flow has not goes before what a graph is refused for below it.
     (
         "realm-flow 1\nu = user\nf = full a.x s 1\nend\n",
-        3,
+        2,
         Why::Syntax,
     ),
     (
         "realm-flow 1\nspace s 0..3\nu = user\nf = fill a.x s 1\nend\n",
-        4,
+        3,
+        Why::Syntax,
+    ),
+    ("realm-flow 1\nu = user\nend\nend\n", 2, Why::Syntax),
+    ("realm-flow 1\nm = merge e\n", 2, Why::Syntax),
+    // But not where it stands behind the closing line, or lacks its newline.
+    ("realm-flow 1\nend\nu = user\n", 3, Why::Rest),
+    ("realm-flow 1\nu = user", 2, Why::Missing),
+    // And what a graph is refused for above such a line before that.
+    (
+        "realm-flow 1\nspace s 0..3\nf = fill a.x s 1\nu = user\nend\n",
+        3,
         Why::Unknown,
+    ),
+    // In one line `syntax` goes before what a graph is refused for.
+    (
+        "realm-flow 1\nspace s 0..3\ninst a s x\nf = fill a.x s 1 on nothing\nend\n",
+        4,
+        Why::Syntax,
+    ),
+    (
+        "realm-flow 1\nspace s 0..3\ns = user\nend\n",
+        3,
+        Why::Syntax,
     ),
 ];
 
@@ -245,13 +267,14 @@ fn refusals(rt: HostRuntime) -> Result<(), Fail> {
     Ok(())
 }
 
-/// A flow whose graph passes a limit: each line but the first two wants a merge of its own.
+/// A flow whose graph passes a limit: each third line wants a merge of its own, so that 2,048 times three lines make
+/// 8,192, and the next one, line 6,148 of the text, is one too many.
 #[test]
 fn limit(rt: HostRuntime) -> Result<(), Fail> {
     let alloc = rt.alloc();
     let mut text = String::new(alloc);
     text.push_str("realm-flow 1\nspace s 0..3\ninst a s x,y\n")?;
-    for line in 0..3000u32 {
+    for line in 0..2100u32 {
         let some = format!(in alloc;
             "f{line} = fill a.x s 1\ng{line} = fill a.y s 1\nh{line} = task axpy a.x a.y s 2\n"
         )?;
@@ -261,8 +284,8 @@ fn limit(rt: HostRuntime) -> Result<(), Fail> {
     match answer_flow(alloc, text.as_bytes(), false) {
         Err(
             FlowFault::Line {
+                number: 6148,
                 why: Why::Limit,
-                ..
             },
         ) => Ok(()),
         Err(fault) => Err(Fail::new(format_args!("{fault:?}"))),

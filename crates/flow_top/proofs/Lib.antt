@@ -1,3 +1,4 @@
 pub mod FlowLines
 pub mod Delivering
 pub mod Readings
+pub mod WordForms

@@ -1,5 +1,13 @@
 -- The text of a flow, and why bytes are none.
-use Rattle.std.specs.Prelude.{◌≡◌, ℕ, ◌+◌, ◌<◌, ◌⊎◌, Bool, true, false, ◌&&◌, List, [], ◌∷◌, ◌++◌, length, Some, is_none, slice_get, codes}
+use Rattle.std.specs.Prelude.{◌≡◌, ℕ, ◌+◌, ◌-◌, ◌<◌, ◌⊎◌, Bool, true, false, ◌&&◌, List, [], ◌∷◌, ◌++◌, length, drop, find, nat_le, ◌||◌, Option, Some, None, is_none, slice_get, slice_index_or, codes}
+use Rattle.std.specs.Option.{option_map_or}
+use Rattle.graph_model.specs.declared.graph.table.Kind.{Kind}
+use Rattle.graph_model.specs.declared.graph.table.Kind.TheVariants as kinds
+use Rattle.graph_model.specs.declared.graph.table.TheConstants.{KINDS}
+use Rattle.graph_model.specs.graph.Table.{kind_words}
+use Rattle.graph_reader.specs.Draft.{same_word, form_of, has_on, is_of_form}
+use Rattle.graph_reader.specs.Reading.{is_operation}
+use Rattle.graph_reader.specs.Words.{pieces}
 use Rattle.graph_model.specs.declared.graph.format.Format.TheVariants.{One}
 use Rattle.graph_model.specs.declared.graph.verb.Line.{Line}
 use Rattle.graph_model.specs.declared.graph.why.Why.{Why}
@@ -40,27 +48,89 @@ pub record IsFirstOther (g : GraphValue) (line : ℕ) : Type 0 where
   pub is_other : is_flow_line other ≡ false
   pub before : (i : ℕ) (l : Line) → i < line → slice_get g.lines i ≡ Some l → is_flow_line l ≡ true
 
--- the first line is another, the items are refused as those of a graph, or they are those of a graph with a line that a flow has not
+-- the words of the line of number i of a text, from 0
+abbrev pub words_of_line : List ℕ → ℕ → List (List ℕ)
+words_of_line text i = pieces 32 (slice_index_or (pieces 10 text) i [])
+
+-- the kinds of lines that no flow has
+abbrev pub is_event_kind : Kind → Bool
+is_event_kind kinds.User = true
+is_event_kind kinds.Trigger = true
+is_event_kind kinds.Cancel = true
+is_event_kind kinds.Phase = true
+is_event_kind kinds.Arrive = true
+is_event_kind kinds.ArriveTimes = true
+is_event_kind kinds.Acquire = true
+is_event_kind kinds.AcquireShared = true
+is_event_kind kinds.Release = true
+is_event_kind _ = false
+
+-- whether words of a kind have `on` behind them
+abbrev pub waits : Kind → List (List ℕ) → Bool
+waits kind ws = nat_le (length (kind_words kind)) (length ws) && has_on (form_of kind) (drop (length (kind_words kind)) ws)
+
+abbrev pub is_merge : List (List ℕ) → Bool
+is_merge ws = same_word (slice_index_or ws 0 []) (codes "merge") || same_word (slice_index_or ws 0 []) (codes "mergei")
+
+-- whether the words behind the sign have the form of a line that graphs have and flows have not
+abbrev pub is_other_verb : List (List ℕ) → Bool
+is_other_verb ws = is_merge ws || option_map_or (λ kind. is_event_kind kind || waits kind ws) (find (λ kind. is_of_form One ws (form_of kind)) KINDS) false
+
+unfoldable pub is_other_form : List (List ℕ) → Bool
+is_other_form ws = is_operation ws && is_other_verb (drop 2 ws)
+
+-- the first line of another form among the first n lines of a text, from 0, or there is none
+abbrev pub IsFirstForm : List ℕ → ℕ → Option ℕ → Type 0
+IsFirstForm text n (Some line) = (line < n) × (is_other_form (words_of_line text line) ≡ true) × ((i : ℕ) → i < line → is_other_form (words_of_line text i) ≡ false)
+IsFirstForm text n None = (i : ℕ) → i < n → is_other_form (words_of_line text i) ≡ false
+
+-- the first line is another
 pub record IsHeaderFault (bytes : List ℕ) (number : ℕ) (reason : Why) : Type 0 where
   pub first : number ≡ 1
   pub reason_is : reason ≡ why.Header
   pub no_header : HasNoFlowHeader bytes
 
-pub record IsItemFault (bytes : List ℕ) (number : ℕ) (reason : Why) : Type 0 where
-  pub rest : List ℕ
-  pub begins : bytes ≡ flow_header ++ rest
-  pub refused : FirstFault (header One ++ rest) number reason
+-- how many lines are judged by their words, of a text that is refused as a graph's in this line: not what follows the last newline or the closing line
+abbrev pub judged_lines : ℕ → Why → ℕ
+judged_lines number why.Missing = number - 1
+judged_lines number why.Rest = number - 1
+judged_lines number _ = number
 
-pub record IsFormFault (bytes : List ℕ) (number : ℕ) (reason : Why) : Type 0 where
-  pub rest : List ℕ
-  pub begins : bytes ≡ flow_header ++ rest
+-- the text is refused as a graph's, and of the lines that are judged none has words of a form that no flow has
+pub record IsItemFault (text : List ℕ) (number : ℕ) (reason : Why) : Type 0 where
+  pub refused : FirstFault text number reason
+  pub none_other : IsFirstForm text (judged_lines number reason) None
+
+-- the text is refused as a graph's, and of the lines that are judged this is the first whose words have a form that no flow has
+pub record IsWordsFault (text : List ℕ) (number : ℕ) (reason : Why) : Type 0 where
+  pub last : ℕ
+  pub graph_reason : Why
+  pub refused : FirstFault text last graph_reason
+  pub line : ℕ
+  pub other : IsFirstForm text (judged_lines last graph_reason) (Some line)
+  pub number_is : number ≡ line + 1
+  pub reason_is : reason ≡ why.Syntax
+
+-- the text is that of a graph with a line that a flow has not
+pub record IsFormFault (text : List ℕ) (number : ℕ) (reason : Why) : Type 0 where
   pub graph : GraphValue
-  pub is_text : GraphText (header One ++ rest) graph
+  pub is_text : GraphText text graph
   pub line : ℕ
   pub other : IsFirstOther graph line
   pub number_is : number ≡ length graph.decls + line + 2
   pub reason_is : reason ≡ why.Syntax
 
+-- the text was refused as a graph's
+abbrev pub IsRefusedText : List ℕ → FlowFault → Type 0
+IsRefusedText text (fault.Line number reason) = IsItemFault text number reason ⊎ IsWordsFault text number reason
+IsRefusedText text fault.NoMemory = Unit {0}
+
+-- the same items as a graph's text has them, and why they are no flow's
+pub record IsTextFault (bytes : List ℕ) (number : ℕ) (reason : Why) : Type 0 where
+  pub rest : List ℕ
+  pub begins : bytes ≡ flow_header ++ rest
+  pub refused : IsRefusedText (header One ++ rest) (fault.Line number reason) ⊎ IsFormFault (header One ++ rest) number reason
+
 abbrev pub IsReadFault : List ℕ → FlowFault → Type 0
-IsReadFault bytes (fault.Line number reason) = IsHeaderFault bytes number reason ⊎ (IsItemFault bytes number reason ⊎ IsFormFault bytes number reason)
+IsReadFault bytes (fault.Line number reason) = IsHeaderFault bytes number reason ⊎ IsTextFault bytes number reason
 IsReadFault bytes fault.NoMemory = Unit {0}

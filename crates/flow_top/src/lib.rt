@@ -3,6 +3,7 @@
 
 mod answer;
 pub mod laws;
+mod other_forms;
 mod reading;
 mod serving;
 pub mod status;

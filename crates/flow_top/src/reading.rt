@@ -5,19 +5,21 @@ ghost use Rattle.graph_model.specs.graph.Graph.{GraphValue};
 ghost use Rattle.graph_model.specs.graph.Spelling.{header};
 ghost use Rattle.graph_model.specs.declared.graph.format.Format.TheVariants.{One};
 ghost use Rattle.task_flow.specs.Flow.{IsFlow, uses_columns};
-ghost use Rattle.flow_top.specs.FlowText.{flow_header, HasNoFlowHeader, FlowText, AreFlowLines, IsFirstOther, IsReadFault, is_flow_line};
+ghost use Rattle.flow_top.specs.FlowText.{flow_header, HasNoFlowHeader, FlowText, AreFlowLines, IsFirstOther, IsFirstForm, IsRefusedText, IsReadFault, is_flow_line, judged_lines};
+ghost use Rattle.graph_reader.specs.FirstFault.{FirstFault};
 
 use crate::FlowFault;
+use crate::other_forms::is_other_line;
 use graph_model::graph::Graph;
 use graph_model::verb::{Line, Verb};
 use graph_model::why::Why;
+use graph_reader::words::{split, word};
 use graph_reader::{ReadRefusal, read_graph};
 use index_spaces::NoMemory;
 use std::alloc::Global;
 
-/// The flow whose text the bytes are. Where they are no flow's text: the first line that would be
-/// refused in the text of a graph with these items; or else the first line that a flow has not,
-/// with `Syntax`.
+/// The flow whose text the bytes are. Where they are no flow's text: the first line that a flow has
+/// not, with `Syntax`, or that would be refused in the text of a graph with these items.
 pub fn read_flow(alloc: Global, bytes: &[u8]) -> Result<Graph, FlowFault>
     ensures text { IfOk result (λ f. FlowText bytes.now f) }
     ensures refusal { IfErr result (λ e. IsReadFault bytes.now e) }
@@ -37,7 +39,9 @@ pub fn read_flow(alloc: Global, bytes: &[u8]) -> Result<Graph, FlowFault>
                 why: Why::Syntax,
             }),
         },
-        Err(ReadRefusal::Line { number, why }) => Err(FlowFault::Line { number, why }),
+        Err(ReadRefusal::Line { number, why }) => {
+            Err(refused_text(alloc, text.as_slice(), number, why))
+        }
         Err(ReadRefusal::NoMemory) => Err(FlowFault::NoMemory),
     }
 }
@@ -61,6 +65,45 @@ fn as_graph_text(alloc: Global, rest: &[u8]) -> Result<Vec<u8>, NoMemory>
         return Err(NoMemory);
     }
     Ok(text)
+}
+
+/// Why a text is no flow's, where that of a graph is refused in this line for this reason.
+fn refused_text(alloc: Global, text: &[u8], number: u32, why: Why) -> FlowFault
+    requires { FirstFault text.now number why }
+    ensures { IsRefusedText text.now result }
+{
+    match first_form(alloc, text, judged_lines(number, why)) {
+        Ok(Some(line)) => FlowFault::Line {
+            number: line + 1,
+            why: Why::Syntax,
+        },
+        Ok(None) => FlowFault::Line { number, why },
+        Err(NoMemory) => FlowFault::NoMemory,
+    }
+}
+
+/// How many lines are judged by their words: bytes behind the last newline or the closing line are
+/// refused for standing there, whatever their words.
+fn judged_lines(number: u32, why: Why) -> u32
+    ensures { result ≡ judged_lines number why }
+{
+    match why {
+        Why::Missing | Why::Rest => number.saturating_sub(1),
+        _ => number,
+    }
+}
+
+/// The first of so many lines whose words have a form that no flow has, from 0.
+fn first_form(alloc: Global, text: &[u8], number: u32) -> Result<Option<u32>, NoMemory>
+    ensures { IfOk result (IsFirstForm text.now number) }
+{
+    let lines = split(alloc, text, b'\n')?;
+    for line in 0..number {
+        if is_other_line(alloc, word(lines.as_slice(), line as usize))? {
+            return Ok(Some(line));
+        }
+    }
+    Ok(None)
 }
 
 /// The first line that a flow has not.

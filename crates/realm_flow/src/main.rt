@@ -29,20 +29,32 @@ fn message(status: FlowStatus) -> Option<&'static str>
     }
 }
 
-/// Whether sums commute, or `None` where the words are not those of the program.
-fn asks_to_commute<R: Env + AllocGlobal>(rt: &R) -> Option<bool> {
-    let Ok(args) = env::args(rt) else {
-        return None;
+/// How the program ends where its words are not read.
+#[derive(Clone, Copy)]
+enum WordsFault {
+    /// They are not those of the program.
+    Usage,
+    NoMemory,
+}
+
+/// Whether sums commute, by the words of the command line.
+fn asks_to_commute<R: Env + AllocGlobal>(rt: &R) -> Result<bool, WordsFault> {
+    let args = match env::args(rt) {
+        Ok(args) => args,
+        Err(error) if error.kind() == io::ErrorKind::OutOfMemory => {
+            return Err(WordsFault::NoMemory);
+        }
+        Err(_) => return Err(WordsFault::Usage),
     };
     let mut commute = false;
     for (i, word) in args.enumerate() {
         match (i, word.as_str()) {
             (0, _) => {}
             (1, "--commute") => commute = true,
-            _ => return None,
+            _ => return Err(WordsFault::Usage),
         }
     }
-    Some(commute)
+    Ok(commute)
 }
 
 /// Reads a flow and writes its graph, over the standard streams.
@@ -56,11 +68,14 @@ fn run<R: AllocGlobal + Input + Print>(rt: &R, commute: bool) -> FlowStatus {
 }
 
 fn main(rt: HostRuntime) -> ExitCode {
-    let Some(commute) = asks_to_commute(&rt) else {
-        let _ = rt.eprintln("usage: realm-flow [--commute] < FLOW");
-        return ExitCode::from(USAGE);
+    let status = match asks_to_commute(&rt) {
+        Ok(commute) => run(&rt, commute),
+        Err(WordsFault::NoMemory) => FlowStatus::NoMemory,
+        Err(WordsFault::Usage) => {
+            let _ = rt.eprintln("usage: realm-flow [--commute] < FLOW");
+            return ExitCode::from(USAGE);
+        }
     };
-    let status = run(&rt, commute);
     if let Some(line) = message(status) {
         let _ = rt.eprintln(line);
     }

@@ -1,7 +1,21 @@
-use Rattle.std.proofs.Common.{List, ℕ, ◌∙◌, subst}
+use Rattle.std.proofs.Common.{List, ℕ, ◌+◌, ◌∙◌, subst, ap, refl, inr}
 use Rattle.graph_reader.specs.Text.{GraphText}
 use Rattle.flow_top.proofs.FlowLines.{flow_text}
 use Rattle.flow_top.proofs.reading.read_flow.Goals as goal
 
 pub returns-in-None-clause-text : goal.returns-in-None-clause-text
 returns-in-None-clause-text c = flow_text c.args.bytes.now c.in-Some.rest.now c.in-Ok.graph c.in-Some.ensures (subst (λ (xs : List ℕ). GraphText xs c.in-Ok.graph) (c.as_slice.ensures.value ∙ c.in_ok-text.ensures) c.in-Ok.ensures.text) c.in-None.ensures
+
+pub returns-in-Ok-clause-refusal : goal.returns-in-Ok-clause-refusal
+returns-in-Ok-clause-refusal c = inr (record {
+  rest = c.in-Some.rest.now;
+  begins = c.in-Some.ensures;
+  refused = inr (record {
+    graph = c.in-Ok.graph;
+    is_text = subst (λ (xs : List ℕ). GraphText xs c.in-Ok.graph) (c.as_slice.ensures.value ∙ c.in_ok-text.ensures) c.in-Ok.ensures.text;
+    line = c.in-Some-first_other.line;
+    other = c.in-Some-first_other.ensures;
+    number_is = ap (λ n. n + c.in-Some-first_other.line + 2) c.decls.ensures.number;
+    reason_is = refl;
+  });
+})

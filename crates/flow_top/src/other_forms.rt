@@ -1,0 +1,83 @@
+//! Words in the form of a line that graphs have and flows have not.
+
+ghost use Rattle.basics.specs.Words.{contents};
+ghost use Rattle.std.specs.Prelude.{◌≡◌, IfOk};
+ghost use Rattle.graph_reader.specs.Reading.{is_operation};
+ghost use Rattle.graph_reader.specs.Words.{pieces};
+ghost use Rattle.flow_top.specs.FlowText.{is_event_kind, waits, is_merge, is_other_verb, is_other_form};
+
+use graph_model::format::Format;
+use graph_model::table::Kind;
+use graph_reader::words::{behind, has_on, kind_of, split, word};
+use index_spaces::NoMemory;
+use std::alloc::Global;
+
+/// Whether the words of a line have the form of one that no flow has: an event verb, or `on`.
+pub(crate) fn is_other_line(alloc: Global, line: &[u8]) -> Result<bool, NoMemory>
+    ensures { IfOk result (λ b. b ≡ is_other_form (pieces 32 line.now)) }
+{
+    let words = split(alloc, line, b' ')?;
+    Ok(is_other_form(words.as_slice()))
+}
+
+#[tactic(auto, unfolding(crate::specs::FlowText::is_other_form))]
+fn is_other_form(words: &[&[u8]]) -> bool
+    ensures { result ≡ is_other_form (contents words.now) }
+{
+    if is_operation(words) {
+        is_other_verb(behind(words, 2))
+    } else {
+        false
+    }
+}
+
+/// Whether the words are those of an operation line.
+fn is_operation(words: &[&[u8]]) -> bool
+    ensures { result ≡ is_operation (contents words.now) }
+{
+    words.len() >= 2 && word(words, 1) == b"=".as_slice()
+}
+
+/// Whether the words behind the sign have the form of a line that no flow has.
+fn is_other_verb(words: &[&[u8]]) -> bool
+    ensures { result ≡ is_other_verb (contents words.now) }
+{
+    if is_merge(words) {
+        return true;
+    }
+    match kind_of(Format::One, words) {
+        Some(kind) => is_event_kind(kind) || waits(kind, words),
+        None => false,
+    }
+}
+
+fn is_merge(words: &[&[u8]]) -> bool
+    ensures { result ≡ is_merge (contents words.now) }
+{
+    word(words, 0) == b"merge".as_slice() || word(words, 0) == b"mergei".as_slice()
+}
+
+/// Whether words of a kind have `on` behind them.
+fn waits(kind: Kind, words: &[&[u8]]) -> bool
+    ensures { result ≡ waits kind (contents words.now) }
+{
+    let fixed = kind.words().len();
+    words.len() >= fixed && has_on(kind, behind(words, fixed))
+}
+
+fn is_event_kind(kind: Kind) -> bool
+    ensures { result ≡ is_event_kind kind }
+{
+    matches!(
+        kind,
+        Kind::User
+            | Kind::Trigger
+            | Kind::Cancel
+            | Kind::Phase
+            | Kind::Arrive
+            | Kind::ArriveTimes
+            | Kind::Acquire
+            | Kind::AcquireShared
+            | Kind::Release
+    )
+}
