@@ -1,6 +1,7 @@
 //! From the text of a flow to that of its graph.
 
-ghost use Rattle.std.specs.Prelude.{◌≡◌, IfOk, IfErr};
+ghost use Rattle.std.specs.Prelude.{◌≡◌, ◌+◌, ◌<◌, ◌^◌, IfOk, IfErr, length, nat_lt};
+ghost use Rattle.graph_model.specs.declared.graph.limits.TheConstants.{MAX_TEXT as most_bytes};
 ghost use Rattle.flow_top.specs.Answer.{IsFlowAnswer, IsAnswerFault};
 
 use crate::FlowFault;
@@ -26,18 +27,33 @@ pub fn answer_flow(alloc: Global, bytes: &[u8], commute: bool) -> Result<Vec<u8>
         Ok(graph) => graph,
         Err(FlowRefusal::Limit { line }) => {
             return Err(FlowFault::Line {
-                number: decls + line + 2,
+                number: number_in_text(decls, line),
                 why: Why::Limit,
             });
         }
         Err(FlowRefusal::NoMemory) => return Err(FlowFault::NoMemory),
     };
     let text = graph_text(alloc, &graph)?;
-    if text.len() as u64 > MAX_TEXT {
+    if is_too_long(text.as_slice()) {
         return Err(FlowFault::Line {
-            number: decls + lines + 2,
+            number: number_in_text(decls, lines),
             why: Why::Limit,
         });
     }
     Ok(text)
+}
+
+/// The number in the text, from 1, of the line of this number below so many declarations, from 0.
+fn number_in_text(decls: u32, line: u32) -> u32
+    requires { decls + line + 2 < 2 ^ 32 }
+    ensures { result ≡ decls + line + 2 }
+{
+    decls + line + 2
+}
+
+/// Whether the text of a graph may not be so long.
+fn is_too_long(text: &[u8]) -> bool
+    ensures { result ≡ nat_lt most_bytes (length text.now) }
+{
+    text.len() as u64 > MAX_TEXT
 }
