@@ -292,3 +292,60 @@ fn limit(rt: HostRuntime) -> Result<(), Fail> {
         Ok(_) => Err("a graph".into()),
     }
 }
+
+/// How many lines the long flows have.
+const LONG_LINES: u32 = 6_095;
+
+/// A chain of fills with names of 31 characters, so that the text of its graph has 1,048,576 bytes,
+/// and so many more. Each line has 172 bytes, the first 35 less, twelve lines 9 more and one 7 more;
+/// the declarations have 152, the closing line 4.
+fn long_flow(alloc: Global, more: u32) -> Result<String, Fail> {
+    let space = "spacespacespacespacespacespaces";
+    let inst = "instinstinstinstinstinstinstins";
+    let field = "fieldfieldfieldfieldfieldfieldf";
+    let mut text = String::new(alloc);
+    let above = format!(in alloc;
+        "realm-flow 1\nspace {space} 0..0\ninst {inst} {space} {field}\n"
+    )?;
+    text.push_str(above.as_str())?;
+    for line in 0..LONG_LINES {
+        let value = match line {
+            0..=11 => "1000000000",
+            12 => "10000000",
+            _ if line - 13 < more => "10",
+            _ => "1",
+        };
+        let number = 100_000 + line;
+        let fill = format!(in alloc;
+            "linelinelinelinelineline_{number} = fill {inst}.{field} {space} {value}\n"
+        )?;
+        text.push_str(fill.as_str())?;
+    }
+    text.push_str("end\n")?;
+    Ok(text)
+}
+
+#[test]
+fn longest_text(rt: HostRuntime) -> Result<(), Fail> {
+    let alloc = rt.alloc();
+    let longest = long_flow(alloc, 0)?;
+    match answer_flow(alloc, longest.as_bytes(), false) {
+        Ok(text) if text.len() == 1_048_576 => {}
+        Ok(text) => {
+            let len = text.len();
+            return Err(Fail::new(format_args!("{len} bytes")));
+        }
+        Err(fault) => return Err(Fail::new(format_args!("{fault:?}"))),
+    }
+    let longer = long_flow(alloc, 1)?;
+    match answer_flow(alloc, longer.as_bytes(), false) {
+        Err(
+            FlowFault::Line {
+                number: 6_099,
+                why: Why::Limit,
+            },
+        ) => Ok(()),
+        Err(fault) => Err(Fail::new(format_args!("{fault:?}"))),
+        Ok(_) => Err("a graph".into()),
+    }
+}

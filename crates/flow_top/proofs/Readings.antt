@@ -22,6 +22,8 @@ answered reads bytes commute out a = record {
   flow = a.flow;
   is_text = a.is_text;
   one_flow = λ h t. one_flow reads bytes a.flow h a.is_text t;
+  graph = written a.flow commute;
+  graph_text = a.out_is;
   accepted = λ g t. subst Accepted ((reads out).one_graph (written a.flow commute) g a.out_is t) a.means.accepted;
   means = λ g t. subst (λ (w : GraphValue). MeansFlow a.flow commute w) ((reads out).one_graph (written a.flow commute) g a.out_is t) a.means;
 }

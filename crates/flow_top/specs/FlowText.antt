@@ -73,16 +73,16 @@ abbrev pub is_merge : List (List ℕ) → Bool
 is_merge ws = same_word (slice_index_or ws 0 []) (codes "merge") || same_word (slice_index_or ws 0 []) (codes "mergei")
 
 -- whether the words behind the sign have the form of a line that graphs have and flows have not
-abbrev pub is_other_verb : List (List ℕ) → Bool
-is_other_verb ws = is_merge ws || option_map_or (λ kind. is_event_kind kind || waits kind ws) (find (λ kind. is_of_form One ws (form_of kind)) KINDS) false
+abbrev pub is_verb_unlike_flow : List (List ℕ) → Bool
+is_verb_unlike_flow ws = is_merge ws || option_map_or (λ kind. is_event_kind kind || waits kind ws) (find (λ kind. is_of_form One ws (form_of kind)) KINDS) false
 
-unfoldable pub is_other_form : List (List ℕ) → Bool
-is_other_form ws = is_operation ws && is_other_verb (drop 2 ws)
+unfoldable pub is_unlike_flow : List (List ℕ) → Bool
+is_unlike_flow ws = is_operation ws && is_verb_unlike_flow (drop 2 ws)
 
 -- the first line of another form among the first n lines of a text, from 0, or there is none
-abbrev pub IsFirstForm : List ℕ → ℕ → Option ℕ → Type 0
-IsFirstForm text n (Some line) = (line < n) × (is_other_form (words_of_line text line) ≡ true) × ((i : ℕ) → i < line → is_other_form (words_of_line text i) ≡ false)
-IsFirstForm text n None = (i : ℕ) → i < n → is_other_form (words_of_line text i) ≡ false
+abbrev pub IsFirstUnlikeFlow : List ℕ → ℕ → Option ℕ → Type 0
+IsFirstUnlikeFlow text n (Some line) = (line < n) × (is_unlike_flow (words_of_line text line) ≡ true) × ((i : ℕ) → i < line → is_unlike_flow (words_of_line text i) ≡ false)
+IsFirstUnlikeFlow text n None = (i : ℕ) → i < n → is_unlike_flow (words_of_line text i) ≡ false
 
 -- the first line is another
 pub record IsHeaderFault (bytes : List ℕ) (number : ℕ) (reason : Why) : Type 0 where
@@ -99,7 +99,7 @@ judged_lines number _ = number
 -- the text is refused as a graph's, and of the lines that are judged none has words of a form that no flow has
 pub record IsItemFault (text : List ℕ) (number : ℕ) (reason : Why) : Type 0 where
   pub refused : FirstFault text number reason
-  pub none_other : IsFirstForm text (judged_lines number reason) None
+  pub none_other : IsFirstUnlikeFlow text (judged_lines number reason) None
 
 -- the text is refused as a graph's, and of the lines that are judged this is the first whose words have a form that no flow has
 pub record IsWordsFault (text : List ℕ) (number : ℕ) (reason : Why) : Type 0 where
@@ -107,7 +107,7 @@ pub record IsWordsFault (text : List ℕ) (number : ℕ) (reason : Why) : Type 0
   pub graph_reason : Why
   pub refused : FirstFault text last graph_reason
   pub line : ℕ
-  pub other : IsFirstForm text (judged_lines last graph_reason) (Some line)
+  pub other : IsFirstUnlikeFlow text (judged_lines last graph_reason) (Some line)
   pub number_is : number ≡ line + 1
   pub reason_is : reason ≡ why.Syntax
 
@@ -121,15 +121,15 @@ pub record IsFormFault (text : List ℕ) (number : ℕ) (reason : Why) : Type 0 
   pub reason_is : reason ≡ why.Syntax
 
 -- the text was refused as a graph's
-abbrev pub IsRefusedText : List ℕ → FlowFault → Type 0
-IsRefusedText text (fault.Line number reason) = IsItemFault text number reason ⊎ IsWordsFault text number reason
-IsRefusedText text fault.NoMemory = Unit {0}
+abbrev pub IsFaultOfText : List ℕ → FlowFault → Type 0
+IsFaultOfText text (fault.Line number reason) = IsItemFault text number reason ⊎ IsWordsFault text number reason
+IsFaultOfText text fault.NoMemory = Unit {0}
 
 -- the same items as a graph's text has them, and why they are no flow's
 pub record IsTextFault (bytes : List ℕ) (number : ℕ) (reason : Why) : Type 0 where
   pub rest : List ℕ
   pub begins : bytes ≡ flow_header ++ rest
-  pub refused : IsRefusedText (header One ++ rest) (fault.Line number reason) ⊎ IsFormFault (header One ++ rest) number reason
+  pub refused : IsFaultOfText (header One ++ rest) (fault.Line number reason) ⊎ IsFormFault (header One ++ rest) number reason
 
 abbrev pub IsReadFault : List ℕ → FlowFault → Type 0
 IsReadFault bytes (fault.Line number reason) = IsHeaderFault bytes number reason ⊎ IsTextFault bytes number reason

@@ -7,11 +7,13 @@ use Rattle.task_flow.specs.Written.{MeansFlow}
 use Rattle.flow_top.specs.FlowText.{FlowText}
 use Rattle.flow_top.specs.Answer.{IsFlowAnswer}
 
--- the bytes are the text of one flow, and whatever graph is read from the other ones is accepted and means it
+-- the bytes are the text of one flow, the other ones that of a graph, and whatever graph is read from these is accepted and means the flow
 pub record Answered (bytes : List ℕ) (commute : Bool) (out : List ℕ) : Type 0 where
   pub flow : GraphValue
   pub is_text : FlowText bytes flow
   pub one_flow : (h : GraphValue) → FlowText bytes h → h ≡ flow
+  pub graph : GraphValue
+  pub graph_text : GraphText out graph
   pub accepted : (g : GraphValue) → GraphText out g → Accepted g
   pub means : (g : GraphValue) → GraphText out g → MeansFlow flow commute g
 

@@ -42,8 +42,8 @@ refused_text number why = codes "refused line " ++ (decimal number ++ (codes " "
 
 -- the text that goes with a status
 abbrev pub FlowAnswers : List ℕ → Bool → FlowStatus → List ℕ → Type 0
-FlowAnswers bytes commute Done out = IsFlowAnswer bytes commute out
-FlowAnswers bytes commute Unread out = (number : ℕ) × (why : Why) × IsAnswerFault bytes commute (fault.Line number why) × (out ≡ refused_text number why)
+FlowAnswers bytes commute Done out = (length bytes ≤ MAX_TEXT) × IsFlowAnswer bytes commute out
+FlowAnswers bytes commute Unread out = (length bytes ≤ MAX_TEXT) × (number : ℕ) × (why : Why) × IsAnswerFault bytes commute (fault.Line number why) × (out ≡ refused_text number why)
 FlowAnswers bytes commute TooLong out = (MAX_TEXT < length bytes) × (out ≡ codes "input too long" ++ 10 ∷ [])
 FlowAnswers bytes commute _ out = ⊥
 

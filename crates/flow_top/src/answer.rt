@@ -13,9 +13,9 @@ use std::alloc::Global;
 use task_flow::{FlowRefusal, make_graph};
 
 /// The text of the graph of the flow whose text the bytes are; `commute` says whether sums into one
-/// cell may go in either order. `Line` where they are no flow's
-/// text, with the line of the flow with which its graph passes a limit, or with its closing line
-/// where the graph's text is too long.
+/// cell may go in either order. `Line` comes where the bytes are no flow's text; with `Limit` also
+/// where the graph passes a limit, at the line of the flow with which it does, and where only its
+/// closing line makes the graph's text too long, at the closing line of the flow.
 pub fn answer_flow(alloc: Global, bytes: &[u8], commute: bool) -> Result<Vec<u8>, FlowFault>
     ensures answer { IfOk result (λ v. IsFlowAnswer bytes.now commute v.items) }
     ensures refusal { IfErr result (λ e. IsAnswerFault bytes.now commute e) }

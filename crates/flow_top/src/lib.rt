@@ -3,10 +3,10 @@
 
 mod answer;
 pub mod laws;
-mod other_forms;
 mod reading;
 mod serving;
 pub mod status;
+mod unlike_flow;
 mod writing;
 
 pub use answer::answer_flow;
@@ -20,6 +20,7 @@ pub use serving::serve_flow;
 pub enum FlowFault {
     /// This line, counted from 1, is refused for this reason.
     Line { number: u32, why: Why },
+    /// Memory ran out.
     NoMemory,
 }
 

@@ -5,11 +5,11 @@ ghost use Rattle.graph_model.specs.graph.Graph.{GraphValue};
 ghost use Rattle.graph_model.specs.graph.Spelling.{header};
 ghost use Rattle.graph_model.specs.declared.graph.format.Format.TheVariants.{One};
 ghost use Rattle.task_flow.specs.Flow.{IsFlow, uses_columns};
-ghost use Rattle.flow_top.specs.FlowText.{flow_header, HasNoFlowHeader, FlowText, AreFlowLines, IsFirstOther, IsFirstForm, IsRefusedText, IsReadFault, is_flow_line, judged_lines};
+ghost use Rattle.flow_top.specs.FlowText.{flow_header, HasNoFlowHeader, FlowText, AreFlowLines, IsFirstOther, IsFirstUnlikeFlow, IsFaultOfText, IsReadFault, is_flow_line, judged_lines};
 ghost use Rattle.graph_reader.specs.FirstFault.{FirstFault};
 
 use crate::FlowFault;
-use crate::other_forms::is_other_line;
+use crate::unlike_flow::is_line_unlike_flow;
 use graph_model::graph::Graph;
 use graph_model::verb::{Line, Verb};
 use graph_model::why::Why;
@@ -40,7 +40,7 @@ pub fn read_flow(alloc: Global, bytes: &[u8]) -> Result<Graph, FlowFault>
             }),
         },
         Err(ReadRefusal::Line { number, why }) => {
-            Err(refused_text(alloc, text.as_slice(), number, why))
+            Err(fault_of_text(alloc, text.as_slice(), number, why))
         }
         Err(ReadRefusal::NoMemory) => Err(FlowFault::NoMemory),
     }
@@ -68,11 +68,11 @@ fn as_graph_text(alloc: Global, rest: &[u8]) -> Result<Vec<u8>, NoMemory>
 }
 
 /// Why a text is no flow's, where that of a graph is refused in this line for this reason.
-fn refused_text(alloc: Global, text: &[u8], number: u32, why: Why) -> FlowFault
+fn fault_of_text(alloc: Global, text: &[u8], number: u32, why: Why) -> FlowFault
     requires { FirstFault text.now number why }
-    ensures { IsRefusedText text.now result }
+    ensures { IsFaultOfText text.now result }
 {
-    match first_form(alloc, text, judged_lines(number, why)) {
+    match first_unlike_flow(alloc, text, judged_lines(number, why)) {
         Ok(Some(line)) => FlowFault::Line {
             number: line + 1,
             why: Why::Syntax,
@@ -94,12 +94,12 @@ fn judged_lines(number: u32, why: Why) -> u32
 }
 
 /// The first of so many lines whose words have a form that no flow has, from 0.
-fn first_form(alloc: Global, text: &[u8], number: u32) -> Result<Option<u32>, NoMemory>
-    ensures { IfOk result (IsFirstForm text.now number) }
+fn first_unlike_flow(alloc: Global, text: &[u8], number: u32) -> Result<Option<u32>, NoMemory>
+    ensures { IfOk result (IsFirstUnlikeFlow text.now number) }
 {
     let lines = split(alloc, text, b'\n')?;
     for line in 0..number {
-        if is_other_line(alloc, word(lines.as_slice(), line as usize))? {
+        if is_line_unlike_flow(alloc, word(lines.as_slice(), line as usize))? {
             return Ok(Some(line));
         }
     }

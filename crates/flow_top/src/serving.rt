@@ -1,21 +1,20 @@
 //! The top call: from a source with the text of a flow to a sink with that of its graph.
 
-ghost use Rattle.std.specs.Prelude.{◌≡◌, ℕ, ◌≤◌, ◌⊎◌, [], IfOk, IfSome};
+ghost use Rattle.std.specs.Prelude.{◌≡◌, ℕ, ◌≤◌, ◌⊎◌, [], length, IfOk, IfSome};
 ghost use Rattle.std.specs.Io.KnownBytes.{IsAtEnd};
 ghost use Rattle.realm_io.specs.Counts.{Rose};
+ghost use Rattle.graph_model.specs.declared.graph.limits.TheConstants.{MAX_TEXT as most_bytes};
 ghost use Rattle.flow_top.specs.Served.{why_word, refused_text, Delivers, IsServed};
 ghost use Rattle.std.specs.String.{string_bytes};
 
 use crate::FlowFault;
 use crate::answer::answer_flow;
 use crate::status::FlowStatus;
+use graph_model::limits::MAX_TEXT;
 use graph_model::why::Why;
 use index_spaces::NoMemory;
 use realm_io::{ReadEnd, Sink, Source, put, read_all};
 use std::alloc::Global;
-
-/// The most bytes of a flow's text.
-const MOST_BYTES: u32 = 1_048_576;
 
 /// Reads the text of a flow and writes that of its graph, in which sums commute or not. Where there
 /// is none it writes the one line that says why. Nothing of a graph is written before the whole graph is made.
@@ -39,7 +38,7 @@ pub fn serve_flow<S: Source, K: Sink>(
     // NoMemory: before anything was written.
     ensures no_memory { result ≡ FlowStatus.NoMemory → sink.new ≡ sink.old }
 {
-    match read_all(alloc, source, MOST_BYTES) {
+    match read_all(alloc, source, MAX_TEXT as u32) {
         Ok(bytes) => serve_bytes(alloc, bytes.as_slice(), sink, commute),
         Err(ReadEnd::TooLong) => put_text(sink, b"input too long\n", FlowStatus::TooLong),
         Err(ReadEnd::ReadFault) => FlowStatus::ReadFault,
@@ -49,6 +48,7 @@ pub fn serve_flow<S: Source, K: Sink>(
 
 /// Answers the bytes of a flow.
 fn serve_bytes<K: Sink>(alloc: Global, bytes: &[u8], sink: &mut K, commute: bool) -> FlowStatus
+    requires { length bytes.now ≤ most_bytes }
     ensures served { IsServed bytes.now commute (K.state sink.old) (K.state sink.new) result }
     ensures read_fault { result ≡ FlowStatus.ReadFault → ⊥ }
     ensures no_memory { result ≡ FlowStatus.NoMemory → sink.new ≡ sink.old }

@@ -4,7 +4,7 @@ ghost use Rattle.basics.specs.Words.{contents};
 ghost use Rattle.std.specs.Prelude.{◌≡◌, IfOk};
 ghost use Rattle.graph_reader.specs.Reading.{is_operation};
 ghost use Rattle.graph_reader.specs.Words.{pieces};
-ghost use Rattle.flow_top.specs.FlowText.{is_event_kind, waits, is_merge, is_other_verb, is_other_form};
+ghost use Rattle.flow_top.specs.FlowText.{is_event_kind, waits, is_merge, is_verb_unlike_flow, is_unlike_flow};
 
 use graph_model::format::Format;
 use graph_model::table::Kind;
@@ -13,19 +13,19 @@ use index_spaces::NoMemory;
 use std::alloc::Global;
 
 /// Whether the words of a line have the form of one that no flow has: an event verb, or `on`.
-pub(crate) fn is_other_line(alloc: Global, line: &[u8]) -> Result<bool, NoMemory>
-    ensures { IfOk result (λ b. b ≡ is_other_form (pieces 32 line.now)) }
+pub(crate) fn is_line_unlike_flow(alloc: Global, line: &[u8]) -> Result<bool, NoMemory>
+    ensures { IfOk result (λ b. b ≡ is_unlike_flow (pieces 32 line.now)) }
 {
     let words = split(alloc, line, b' ')?;
-    Ok(is_other_form(words.as_slice()))
+    Ok(is_unlike_flow(words.as_slice()))
 }
 
-#[tactic(auto, unfolding(crate::specs::FlowText::is_other_form))]
-fn is_other_form(words: &[&[u8]]) -> bool
-    ensures { result ≡ is_other_form (contents words.now) }
+#[tactic(auto, unfolding(crate::specs::FlowText::is_unlike_flow))]
+fn is_unlike_flow(words: &[&[u8]]) -> bool
+    ensures { result ≡ is_unlike_flow (contents words.now) }
 {
     if is_operation(words) {
-        is_other_verb(behind(words, 2))
+        is_verb_unlike_flow(behind(words, 2))
     } else {
         false
     }
@@ -39,8 +39,8 @@ fn is_operation(words: &[&[u8]]) -> bool
 }
 
 /// Whether the words behind the sign have the form of a line that no flow has.
-fn is_other_verb(words: &[&[u8]]) -> bool
-    ensures { result ≡ is_other_verb (contents words.now) }
+fn is_verb_unlike_flow(words: &[&[u8]]) -> bool
+    ensures { result ≡ is_verb_unlike_flow (contents words.now) }
 {
     if is_merge(words) {
         return true;
