@@ -86,7 +86,7 @@ module _ (f : GraphValue) (commute : Bool) where
   ]
 
   -- one more use of line n
-  pub uses_next : PointsAreListed → AccessesFit → IsGraph f → (n k : ℕ) (a : Access) (cs new : List ColumnUses) (x y : ColumnUses) → slice_get (accesses f n) k ≡ Some a → a.column < length cs → x ≡ slice_index_or cs a.column x → PutsUse commute x.classes.items a n y.classes.items → new ≡ slice_set cs a.column y →
+  pub uses_next : PointsAreListed → AccessesFit → IsGraph f → (n k : ℕ) (a : Access) (cs new : List ColumnUses) (x y : ColumnUses) → slice_get (accesses f n) k ≡ Some a → a.column < length cs → x ≡ slice_index_or cs a.column x → PutsUse commute x.classes.items a (space_at f a.space) n y.classes.items → new ≡ slice_set cs a.column y →
       AreUses f commute (uses_before f n ++ uses_at n (take k (accesses f n))) cs → AreUses f commute (uses_before f n ++ uses_at n (take (k + 1) (accesses f n))) new
   uses_next listed fits graph n k a cs new x y at within is puts set are =
       let c : Contains (accesses f n) a = got_contains (accesses f n) k a at in

@@ -1,15 +1,15 @@
 -- Rows of bits: a bit that is set, and a row that is joined word by word.
-use Rattle.std.proofs.Common.{◌≡◌, ℕ, zero, suc, ◌*◌, ◌/◌, ◌%◌, ◌^◌, ◌<◌, ◌≤◌, min, max, Bool, true, false, ◌||◌, ◌⊎◌, inl, inr, List, length, sym, ◌∙◌, ap, subst, arith}
-use Rattle.std.specs.Prelude.{◌==◌, slice_index, slice_set}
+use Rattle.std.proofs.Common.{◌≡◌, ℕ, zero, suc, ◌*◌, ◌/◌, ◌%◌, ◌^◌, ◌<◌, ◌≤◌, min, max, Bool, true, false, ◌||◌, ◌⊎◌, refl, inl, inr, List, length, sym, ◌∙◌, ap, subst, arith}
+use Rattle.std.specs.Prelude.{◌==◌, nat_lt, slice_index, slice_set}
 use Rattle.std.specs.List.{slice_index_or}
 use Rattle.std.specs.Int.{bit_at}
 use Rattle.std.specs.Int.RustNames.{bit_or}
 use Rattle.std.specs.Int.Bits.{or_zero_r}
 use mir.Syntax.{w64}
-use Rattle.std.proofs.lemmas.Bool.{true≢false, cases_eq, cases_lt, cases_Bool, eq-eqb, eqb-true, or_left, or_right, or_cases, false_from_ne_true}
-use Rattle.std.proofs.lemmas.Nat.Bits.{bit_at_or, bit_at-lt, bit_at_set_same, bit_at_set_other}
-use Rattle.std.proofs.lemmas.List.{get_or-set_same, get_or-set_other, get_or_past, get_or_read}
-use Rattle.task_flow.specs.Bits.{word_bit, AreNoneBelow}
+use Rattle.std.proofs.lemmas.Bool.{true≢false, cases_eq, cases_lt, cases_Bool, eq-eqb, eqb-true, or_left, or_right, or_cases, lt-ltb, le-ltb, false_from_ne_true}
+use Rattle.std.proofs.lemmas.Nat.Bits.{bit_at_or, bit_at-lt, bit_at_ones, bit_at_set_same, bit_at_set_other}
+use Rattle.std.proofs.lemmas.List.{get_or-set_same, get_or-set_other, get_or_read}
+use Rattle.task_flow.specs.Bits.{word_bit, AreNoneBelow, AreFull}
 
 -- a test that passes where one of two does
 by_cases : (x a b : Bool) → (x ≡ true → (a ≡ true) ⊎ (b ≡ true)) → ((a ≡ true) ⊎ (b ≡ true) → x ≡ true) → x ≡ (a || b)
@@ -25,13 +25,13 @@ one_or x y a b = ((λ h. by x a h), (λ h. elim h [ inl e ↦ omega arith | inr 
     by zero c h = inr (omega arith)
     by (suc z) c h = inl (omega arith)
 
-joined_bit : (old add new : List ℕ) → ((w : ℕ) → slice_index new w ≡ bit_or (slice_index old w) (slice_index add w)) → (j : ℕ) → word_bit new j ≡ (word_bit old j || word_bit add j)
-joined_bit old add new same j =
+joined_bit : (old add new : List ℕ) (j : ℕ) → slice_index new (j / 64) ≡ bit_or (slice_index old (j / 64)) (slice_index add (j / 64)) → word_bit new j ≡ (word_bit old j || word_bit add j)
+joined_bit old add new j same =
     let a : bit_at (slice_index old (j / 64)) (j % 64) < 2 = bit_at-lt (slice_index old (j / 64)) (j % 64) in
     let b : bit_at (slice_index add (j / 64)) (j % 64) < 2 = bit_at-lt (slice_index add (j / 64)) (j % 64) in
     let iff = one_or (bit_at (slice_index old (j / 64)) (j % 64)) (bit_at (slice_index add (j / 64)) (j % 64)) a b in
     let is : bit_at (slice_index new (j / 64)) (j % 64) ≡ max (bit_at (slice_index old (j / 64)) (j % 64)) (bit_at (slice_index add (j / 64)) (j % 64)) =
-    ap (λ w. bit_at w (j % 64)) (same (j / 64)) ∙ bit_at_or (slice_index old (j / 64)) (slice_index add (j / 64)) (j % 64) in
+    ap (λ w. bit_at w (j % 64)) same ∙ bit_at_or (slice_index old (j / 64)) (slice_index add (j / 64)) (j % 64) in
     by_cases (word_bit new j) (word_bit old j) (word_bit add j)
     (λ h. elim (iff.0 (sym is ∙ eqb-true _ _ h)) [ inl e ↦ inl (eq-eqb _ _ e) | inr e ↦ inr (eq-eqb _ _ e) ])
     (λ h. elim h [ inl e ↦ eq-eqb _ _ (is ∙ iff.1 (inl (eqb-true _ _ e))) | inr e ↦ eq-eqb _ _ (is ∙ iff.1 (inr (eqb-true _ _ e))) ])
@@ -77,27 +77,68 @@ set_in_row words row j cell same h is k =
     subst (λ r. word_bit (slice_set words (j / 64) (bit_or cell (1 * 2 ^ (j % 64) % 2 ^ 64))) k ≡ (word_bit r k || (j == k))) same
     (set_at words j cell (let l : length words ≡ length row = ap length same in omega arith) is k)
 
--- the words below w are joined
-pub record IsJoined (old add row : List ℕ) (w : ℕ) : Type 0 where
+-- a word with all bits
+pub word_full : (words : List ℕ) (j : ℕ) → slice_index words (j / 64) ≡ 18446744073709551615 → word_bit words j ≡ true
+word_full words j is = eq-eqb _ _ (ap (λ w. bit_at w (j % 64)) is ∙ bit_at_ones 64 (j % 64) (let h : j % 64 < 64 = omega arith in h))
+
+-- the words from one on below w are joined
+pub record IsJoined (old add row : List ℕ) (start w : ℕ) : Type 0 where
   pub size : length row ≡ length old
-  pub joined : (v : ℕ) → v < w → slice_index row v ≡ bit_or (slice_index old v) (slice_index add v)
+  pub joined : (v : ℕ) → start ≤ v → v < w → slice_index row v ≡ bit_or (slice_index old v) (slice_index add v)
+  pub before : (v : ℕ) → v < start → slice_index row v ≡ slice_index old v
   pub left : (v : ℕ) → w ≤ v → slice_index row v ≡ slice_index old v
 
-joined_all : (old add row : List ℕ) (w : ℕ) → length add ≤ w → IsJoined old add row w → (j : ℕ) → word_bit row j ≡ (word_bit old j || word_bit add j)
-joined_all old add row w all is = joined_bit old add row (λ v. elim (cases_lt v w) [
-  | inl l ↦ is.joined v l
-  | inr past ↦ (
-      let none : slice_index add v ≡ 0 = get_or_past add v 0 (omega arith) in
-      is.left v past ∙ (sym (or_zero_r (slice_index old v)) ∙ ap (bit_or (slice_index old v)) (sym none)))
+-- all words of a row are joined, where those before have all bits
+pub joined_rows : (old add words row : List ℕ) (start w : ℕ) → words ≡ old → AreFull words start → ((v : ℕ) → w ≤ v → slice_index add v ≡ 0) → IsJoined words add row start w → (j : ℕ) → word_bit row j ≡ (word_bit old j || word_bit add j)
+joined_rows old add words row start w same full none is j = by_words (elim (cases_lt (j / 64) start) [
+  | inl l ↦ word_full row j (is.before (j / 64) l ∙ full (j / 64) l) ∙ sym (or_left (word_bit words j) (word_bit add j) (word_full words j (full (j / 64) l)))
+  | inr h ↦ elim (cases_lt (j / 64) w) [
+    | inl l ↦ joined_bit words add row j (is.joined (j / 64) h l)
+    | inr past ↦ joined_bit words add row j (is.left (j / 64) past ∙ (sym (or_zero_r (slice_index words (j / 64))) ∙ ap (bit_or (slice_index words (j / 64))) (sym (none (j / 64) past))))
+  ]
 ])
+  where
+    by_words : word_bit row j ≡ (word_bit words j || word_bit add j) → word_bit row j ≡ (word_bit old j || word_bit add j)
+    by_words e = subst (λ o. word_bit row j ≡ (word_bit o j || word_bit add j)) same e
 
--- all words of a row are joined
-pub joined_rows : (old add words more row : List ℕ) (w : ℕ) → words ≡ old → more ≡ add → length more ≤ w → IsJoined words more row w →
-    (j : ℕ) → word_bit row j ≡ (word_bit old j || word_bit add j)
-joined_rows old add words more row w a b all is =
-    subst (λ o. (j : ℕ) → word_bit row j ≡ (word_bit o j || word_bit add j)) a
-    (subst (λ m. (j : ℕ) → word_bit row j ≡ (word_bit words j || word_bit m j)) b
-    (joined_all words more row w all is))
+-- the words from one on below w have all bits
+pub record IsFilled (old row : List ℕ) (start w : ℕ) : Type 0 where
+  pub size : length row ≡ length old
+  pub filled : (v : ℕ) → start ≤ v → v < w → slice_index row v ≡ 18446744073709551615
+  pub before : (v : ℕ) → v < start → slice_index row v ≡ slice_index old v
+  pub left : (v : ℕ) → w ≤ v → slice_index row v ≡ slice_index old v
+
+none_or : (b : Bool) → b ≡ (b || false)
+none_or true = refl
+none_or false = refl
+
+pub filled_rows : (old words row : List ℕ) (start full w : ℕ) → words ≡ old → AreFull words start → w ≤ max start full → full ≤ w → IsFilled words row start w → (j : ℕ) → word_bit row j ≡ (word_bit old j || nat_lt (j / 64) full)
+filled_rows old words row start full w same all most end is j = by_words (elim (cases_lt (j / 64) start) [
+  | inl l ↦ word_full row j (is.before (j / 64) l ∙ all (j / 64) l) ∙ sym (or_left (word_bit words j) (nat_lt (j / 64) full) (word_full words j (all (j / 64) l)))
+  | inr h ↦ elim (cases_lt (j / 64) w) [
+    | inl l ↦ word_full row j (is.filled (j / 64) h l) ∙ sym (or_right (word_bit words j) (nat_lt (j / 64) full) (lt-ltb (j / 64) full (below (j / 64) h l)))
+    | inr past ↦ ap (λ x. bit_at x (j % 64) == 1) (is.left (j / 64) past) ∙ (none_or (word_bit words j) ∙ ap (λ z. word_bit words j || z) (sym (le-ltb (j / 64) full (omega (arith, end, past)))))
+  ]
+])
+  where
+    by_words : word_bit row j ≡ (word_bit words j || nat_lt (j / 64) full) → word_bit row j ≡ (word_bit old j || nat_lt (j / 64) full)
+    by_words e = subst (λ o. word_bit row j ≡ (word_bit o j || nat_lt (j / 64) full)) same e
+
+    below : (v : ℕ) → start ≤ v → v < w → v < full
+    below v h l = omega (arith, most, h, l)
+
+-- and then more words at the front have all bits
+pub full_more : (words row : List ℕ) (start full w most : ℕ) → AreFull words start → most ≡ max start full → full ≤ w → IsFilled words row start w → AreFull row most
+full_more words row start full w most all is end filled v h = elim (cases_lt v start) [
+  | inl l ↦ filled.before v l ∙ all v l
+  | inr g ↦ filled.filled v g (let b : v < max start full = subst (λ z. v < z) is h in omega (arith, b, g, end))
+]
+
+-- fewer do where one is set
+pub full_set : (words : List ℕ) (v x full less : ℕ) → AreFull words full → less ≡ min full v → AreFull (slice_set words v x) less
+full_set words v x full less all is w h =
+    let b : w < min full v = subst (λ z. w < z) is h in
+    get_or-set_other words v w x 0 (λ e. (let d : w ≡ v = e in absurd (omega (arith, b, d)))) ∙ all w (omega (arith, b))
 
 either_false : (a b : Bool) → a ≡ false → b ≡ false → (a || b) ≡ false
 either_false false b ea eb = eb
@@ -110,9 +151,15 @@ none_set row words new n low less same none is set j h =
     ∙ either_false (word_bit row j) (n == j) (ap (λ ws. word_bit ws j) (sym same) ∙ none j (let b : j < min low n = subst (λ z. j < z) is h in omega arith))
     (false_from_ne_true (n == j) (λ e. (let b : j < min low n = subst (λ z. j < z) is h in let g : n ≡ j = eqb-true n j e in absurd (omega arith))))
 
--- where the bits of another row are set
-pub none_joined : (old add words more new : List ℕ) (low low' less : ℕ) → words ≡ old → more ≡ add → AreNoneBelow words low → AreNoneBelow more low' → less ≡ min low low' → ((k : ℕ) → word_bit new k ≡ (word_bit old k || word_bit add k)) → AreNoneBelow new less
-none_joined old add words more new low low' less same also none none' is joined j h =
-    joined j
-    ∙ either_false (word_bit old j) (word_bit add j) (ap (λ ws. word_bit ws j) (sym same) ∙ none j (let b : j < min low low' = subst (λ z. j < z) is h in omega arith))
-    (ap (λ ws. word_bit ws j) (sym also) ∙ none' j (let b : j < min low low' = subst (λ z. j < z) is h in omega arith))
+-- a row whose first words were filled, since another has all bits there, and that was joined with it then
+pub filled_joined : (old add mid new : List ℕ) (full : ℕ) → ((j : ℕ) → j / 64 < full → word_bit add j ≡ true) → ((j : ℕ) → word_bit mid j ≡ (word_bit old j || nat_lt (j / 64) full)) → ((j : ℕ) → word_bit new j ≡ (word_bit mid j || word_bit add j)) →
+    (j : ℕ) → word_bit new j ≡ (word_bit old j || word_bit add j)
+filled_joined old add mid new full all filled joined j = joined j ∙ (ap (λ b. b || word_bit add j) (filled j) ∙ elim (cases_lt (j / 64) full) [
+  | inl l ↦ by_all (word_bit old j) (nat_lt (j / 64) full) (word_bit add j) (all j l)
+  | inr past ↦ ap (λ b. (word_bit old j || b) || word_bit add j) (le-ltb (j / 64) full past) ∙ ap (λ b. b || word_bit add j) (sym (none_or (word_bit old j)))
+])
+  where
+    by_all : (a b d : Bool) → d ≡ true → ((a || b) || d) ≡ (a || d)
+    by_all true b d e = refl
+    by_all false true d e = sym e
+    by_all false false d e = refl

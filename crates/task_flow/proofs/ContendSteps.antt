@@ -153,10 +153,10 @@ adds_at f n words sums c row s h is k =
     let within : c < length sums = omega arith in
     ap (λ w. word_bit w k) (get_or_read sums c row within is []) ∙ s.bits c k within
 
-pub reached_at : (f : GraphValue) (commute : Bool) (rows : List (List ℕ)) (line : ℕ) (row : List ℕ) → AreRows f commute rows → length rows ≡ length f.lines → line < length f.lines → row ≡ slice_index_or rows line row → (k : ℕ) → word_bit row k ≡ reaches (sources_after f commute (length f.lines)) line k line
-reached_at f commute rows line row r all h is k =
+pub reached_by : (f : GraphValue) (commute : Bool) (rows : List (List ℕ)) (line : ℕ) (row : List ℕ) → AreRows f commute rows → length rows ≡ length f.lines → line < length f.lines → ((k : ℕ) → word_bit row k ≡ word_bit (slice_index_or rows line []) k) → (k : ℕ) → word_bit row k ≡ reaches (sources_after f commute (length f.lines)) line k line
+reached_by f commute rows line row r all h is k =
     let within : line < length rows = omega arith in
-    ap (λ w. word_bit w k) (get_or_read rows line row within is []) ∙ (r.bits line k within ∙ ap (λ n. reaches (sources_after f commute n) line k line) all)
+    is k ∙ (r.bits line k within ∙ ap (λ n. reaches (sources_after f commute n) line k line) all)
 
 -- one line more
 lt_one : (k n : ℕ) → nat_lt k (n + 1) ≡ (nat_lt k n || (n == k))

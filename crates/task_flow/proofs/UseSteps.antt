@@ -8,10 +8,12 @@ use Rattle.basics.proofs.ListFacts.{contains_cases, contains_none, contains_here
 use Rattle.graph_model.specs.declared.graph.verb.Access.{Access}
 use Rattle.graph_model.specs.declared.graph.verb.Mode.{Mode}
 use Rattle.graph_model.specs.declared.graph.verb.Mode.TheVariants.{Read, Write, Sum, Least, Most}
-use Rattle.graph_model.specs.graph.Graph.{GraphValue, named_spaces}
+use Rattle.graph_model.specs.graph.Graph.{GraphValue, named_spaces, space_at}
 use Rattle.graph_model.specs.graph.Access.{accesses}
 use Rattle.task_flow.specs.Meaning.{order_counts}
 use Rattle.task_flow.specs.Uses.{uses_at, uses_before, IsClass, AreClasses, AreUses, with_use, first_use, PutsUse, joins, begins}
+use Rattle.task_flow.specs.Ends.{AreEnds}
+use Rattle.task_flow.specs.declared.ends.Ends.{Ends}
 use Rattle.task_flow.specs.declared.uses.Class.{Class}
 use Rattle.task_flow.specs.declared.uses.ColumnUses.{ColumnUses}
 use Rattle.task_flow.proofs.Lists.{got_left, got_end, got_cases}
@@ -76,6 +78,7 @@ module _ (f : GraphValue) (commute : Bool) where
   class_stays : (us : List (ℕ × Access)) (c : ℕ) (x : Class) (n : ℕ) (a : Access) → (a.column ≡ c → a.space ≡ x.space → ⊥) → IsClass f commute us c x → IsClass f commute (us ++ (n, a) ∷ []) c x
   class_stays us c x n a other is = record {
     fits = is.fits;
+    ends_are = is.ends_are;
     latest_use = λ i h. (let u = is.latest_use i h in (u.0, old_use us n a (i, u.0) u.1, u.2, u.3, u.4));
     before_use = λ i h. (let u = is.before_use i h in (u.0, old_use us n a (i, u.0) u.1, u.2, u.3, u.4));
     latest_hold = λ i b u col sp. elim (end_cases us n a i b u) [
@@ -93,9 +96,10 @@ module _ (f : GraphValue) (commute : Bool) where
   TiesSo us n a = (i : ℕ) (b : Access) → Contains us (i, b) → b.column ≡ a.column → b.space ≡ a.space → order_counts commute b.mode a.mode ≡ true → Follows f commute i n
 
   class_turns : (us : List (ℕ × Access)) (c : ℕ) (x : Class) (n : ℕ) (a : Access) → a.column ≡ c → x.space ≡ a.space → TiesSo us n a → order_counts commute x.mode a.mode ≡ true → IsClass f commute us c x →
-      IsClass f commute (us ++ (n, a) ∷ []) c (record { space = x.space; mode = a.mode; latest = n ∷ []; before = x.latest })
+      IsClass f commute (us ++ (n, a) ∷ []) c (record { space = x.space; ends = x.ends; mode = a.mode; latest = n ∷ []; before = x.latest })
   class_turns us c x n a col sp ties counts is = record {
     fits = is.fits;
+    ends_are = is.ends_are;
     latest_use = λ i h. elim (contains_cases n [] i h) [
       | inl same ↦ (a, subst (λ z. Contains (us ++ (n, a) ∷ []) (z, a)) same (new_use us n a), col, sym sp, refl)
       | inr none ↦ absurd (contains_none i none)
@@ -115,9 +119,10 @@ module _ (f : GraphValue) (commute : Bool) where
   }
 
   class_adds : (us : List (ℕ × Access)) (c : ℕ) (x : Class) (n : ℕ) (a : Access) → a.column ≡ c → x.space ≡ a.space → order_counts commute x.mode a.mode ≡ false → IsClass f commute us c x →
-      IsClass f commute (us ++ (n, a) ∷ []) c (record { space = x.space; mode = x.mode; latest = x.latest ++ n ∷ []; before = x.before })
+      IsClass f commute (us ++ (n, a) ∷ []) c (record { space = x.space; ends = x.ends; mode = x.mode; latest = x.latest ++ n ∷ []; before = x.before })
   class_adds us c x n a col sp none is = record {
     fits = is.fits;
+    ends_are = is.ends_are;
     latest_use = λ i h. elim (Contains-append_cases x.latest (n ∷ []) i h) [
       | inl old ↦ (let u = is.latest_use i old in (u.0, old_use us n a (i, u.0) u.1, u.2, u.3, u.4))
       | inr new ↦ elim (contains_cases n [] i new) [
@@ -136,9 +141,10 @@ module _ (f : GraphValue) (commute : Bool) where
     ];
   }
 
-  class_begins : (us : List (ℕ × Access)) (n : ℕ) (a : Access) → a.space < length (named_spaces f) → ((i : ℕ) (b : Access) → Contains us (i, b) → b.column ≡ a.column → b.space ≡ a.space → ⊥) → IsClass f commute (us ++ (n, a) ∷ []) a.column (first_use a n)
-  class_begins us n a fits none = record {
+  class_begins : (us : List (ℕ × Access)) (n : ℕ) (a : Access) (e : Ends) → AreEnds (space_at f a.space) e → a.space < length (named_spaces f) → ((i : ℕ) (b : Access) → Contains us (i, b) → b.column ≡ a.column → b.space ≡ a.space → ⊥) → IsClass f commute (us ++ (n, a) ∷ []) a.column (first_use a e n)
+  class_begins us n a e ends fits none = record {
     fits = fits;
+    ends_are = ends;
     latest_use = λ i h. elim (contains_cases n [] i h) [
       | inl same ↦ (a, subst (λ z. Contains (us ++ (n, a) ∷ []) (z, a)) same (new_use us n a), refl, refl, refl)
       | inr no' ↦ absurd (contains_none i no')
@@ -156,8 +162,8 @@ module _ (f : GraphValue) (commute : Bool) where
 
   class_joins : (us : List (ℕ × Access)) (c : ℕ) (x : Class) (n : ℕ) (a : Access) → a.column ≡ c → x.space ≡ a.space → TiesSo us n a → IsClass f commute us c x → IsClass f commute (us ++ (n, a) ∷ []) c (with_use commute x a.mode n)
   class_joins us c x n a col sp ties is =
-      let turned : Class = record { space = x.space; mode = a.mode; latest = n ∷ []; before = x.latest } in
-      let added : Class = record { space = x.space; mode = x.mode; latest = x.latest ++ n ∷ []; before = x.before } in
+      let turned : Class = record { space = x.space; ends = x.ends; mode = a.mode; latest = n ∷ []; before = x.latest } in
+      let added : Class = record { space = x.space; ends = x.ends; mode = x.mode; latest = x.latest ++ n ∷ []; before = x.before } in
       elim (cases_Bool (order_counts commute x.mode a.mode)) [
         | inl yes' ↦ subst (IsClass f commute (us ++ (n, a) ∷ []) c) (sym (ap (λ z. cond z turned added) yes')) (class_turns us c x n a col sp ties yes' is)
         | inr no' ↦ subst (IsClass f commute (us ++ (n, a) ∷ []) c) (sym (ap (λ z. cond z turned added) no')) (class_adds us c x n a col sp no' is)
@@ -166,7 +172,7 @@ module _ (f : GraphValue) (commute : Bool) where
   space_stays : (x : Class) (m : Mode) (n : ℕ) → (with_use commute x m n).space ≡ x.space
   space_stays x m n = by (order_counts commute x.mode m)
     where
-      by : (b : Bool) → (cond {A = Class} b (record { space = x.space; mode = m; latest = n ∷ []; before = x.latest }) (record { space = x.space; mode = x.mode; latest = x.latest ++ n ∷ []; before = x.before })).space ≡ x.space
+      by : (b : Bool) → (cond {A = Class} b (record { space = x.space; ends = x.ends; mode = m; latest = n ∷ []; before = x.latest }) (record { space = x.space; ends = x.ends; mode = x.mode; latest = x.latest ++ n ∷ []; before = x.before })).space ≡ x.space
       by true = refl
       by false = refl
 
@@ -216,13 +222,13 @@ module _ (f : GraphValue) (commute : Bool) where
         ];
       }
 
-  classes_begin : (us : List (ℕ × Access)) (xs : List Class) (n : ℕ) (a : Access) → a.space < length (named_spaces f) → ((k : ℕ) (x : Class) → slice_get xs k ≡ Some x → x.space ≡ a.space → ⊥) → AreClasses f commute us a.column xs →
-      AreClasses f commute (us ++ (n, a) ∷ []) a.column (xs ++ first_use a n ∷ [])
-  classes_begin us xs n a fits none are =
-      let y = first_use a n in record {
+  classes_begin : (us : List (ℕ × Access)) (xs : List Class) (n : ℕ) (a : Access) (e : Ends) → AreEnds (space_at f a.space) e → a.space < length (named_spaces f) → ((k : ℕ) (x : Class) → slice_get xs k ≡ Some x → x.space ≡ a.space → ⊥) → AreClasses f commute us a.column xs →
+      AreClasses f commute (us ++ (n, a) ∷ []) a.column (xs ++ first_use a e n ∷ [])
+  classes_begin us xs n a e ends fits none are =
+      let y = first_use a e n in record {
         each = λ l z got. elim (got_cases xs y l z got) [
           | inl old ↦ class_stays us a.column z n a (λ col same. none l z old.1 (sym same)) (are.each l z old.1)
-          | inr new ↦ subst (IsClass f commute (us ++ (n, a) ∷ []) a.column) new.1 (class_begins us n a fits (λ i b u col sp. (let v = are.all i b u col in none v.0 v.1 v.2 (v.3 ∙ sp))))
+          | inr new ↦ subst (IsClass f commute (us ++ (n, a) ∷ []) a.column) new.1 (class_begins us n a e ends fits (λ i b u col sp. (let v = are.all i b u col in none v.0 v.1 v.2 (v.3 ∙ sp))))
         ];
         apart = λ l m z w got got' same. elim (got_cases xs y l z got) [
           | inl old ↦ elim (got_cases xs y m w got') [
@@ -240,12 +246,12 @@ module _ (f : GraphValue) (commute : Bool) where
         ];
       }
 
-  classes_put : (us : List (ℕ × Access)) (xs ys : List Class) (n : ℕ) (a : Access) → a.space < length (named_spaces f) → TiesSo us n a → PutsUse commute xs a n ys → AreClasses f commute us a.column xs → AreClasses f commute (us ++ (n, a) ∷ []) a.column ys
+  classes_put : (us : List (ℕ × Access)) (xs ys : List Class) (n : ℕ) (a : Access) → a.space < length (named_spaces f) → TiesSo us n a → PutsUse commute xs a (space_at f a.space) n ys → AreClasses f commute us a.column xs → AreClasses f commute (us ++ (n, a) ∷ []) a.column ys
   classes_put us xs ys n a fits ties (joins k x at sp is) are = subst (AreClasses f commute (us ++ (n, a) ∷ []) a.column) (sym is) (classes_join us xs n a k x ties at sp are)
-  classes_put us xs ys n a fits ties (begins none is) are = subst (AreClasses f commute (us ++ (n, a) ∷ []) a.column) (sym is) (classes_begin us xs n a fits none are)
+  classes_put us xs ys n a fits ties (begins e ends none is) are = subst (AreClasses f commute (us ++ (n, a) ∷ []) a.column) (sym is) (classes_begin us xs n a e ends fits none are)
 
   -- the classes of all columns with one use more
-  pub uses_put : (us : List (ℕ × Access)) (cs : List ColumnUses) (n : ℕ) (a : Access) (x y : ColumnUses) → a.space < length (named_spaces f) → TiesSo us n a → slice_get cs a.column ≡ Some x → PutsUse commute x.classes.items a n y.classes.items → AreUses f commute us cs →
+  pub uses_put : (us : List (ℕ × Access)) (cs : List ColumnUses) (n : ℕ) (a : Access) (x y : ColumnUses) → a.space < length (named_spaces f) → TiesSo us n a → slice_get cs a.column ≡ Some x → PutsUse commute x.classes.items a (space_at f a.space) n y.classes.items → AreUses f commute us cs →
       AreUses f commute (us ++ (n, a) ∷ []) (slice_set cs a.column y)
   uses_put us cs n a x y fits ties at puts are = record {
     count = length_set cs a.column y ∙ are.count;
@@ -281,7 +287,7 @@ module _ (f : GraphValue) (commute : Bool) where
   ]
 
 -- one more use of a column by the loop's values
-pub joined : (commute : Bool) (xs ys : List Class) (a : Access) (n k : ℕ) (x y z : Class) → slice_get xs k ≡ Some x → x.space ≡ a.space → k < length xs → y ≡ slice_index_or xs k y → z ≡ with_use commute y a.mode n → ys ≡ slice_set xs k z → PutsUse commute xs a n ys
-joined commute xs ys a n k x y z at sp within is made set =
+pub joined : (commute : Bool) (xs ys : List Class) (a : Access) (s : List (ℕ × ℕ)) (n k : ℕ) (x y z : Class) → slice_get xs k ≡ Some x → x.space ≡ a.space → k < length xs → y ≡ slice_index_or xs k y → z ≡ with_use commute y a.mode n → ys ≡ slice_set xs k z → PutsUse commute xs a s n ys
+joined commute xs ys a s n k x y z at sp within is made set =
     let got : slice_get xs k ≡ Some y = slice_get_read xs (length xs) k y refl within is in
     joins k y got (ap (λ (v : Class). v.space) (same_Some y x (sym got ∙ at)) ∙ sp) (set ∙ ap (slice_set xs k) made)

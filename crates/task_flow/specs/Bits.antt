@@ -10,6 +10,10 @@ word_bit words j = bit_at (slice_index words (j / 64)) (j % 64) == 1
 abbrev pub AreNoneBelow : List ℕ → ℕ → Type 0
 AreNoneBelow words low = (j : ℕ) → j < low → word_bit words j ≡ false
 
+-- so many words at the front have all bits
+abbrev pub AreFull : List ℕ → ℕ → Type 0
+AreFull words full = (w : ℕ) → w < full → slice_index words w ≡ 18446744073709551615
+
 -- the bit of a number that is set in one row and not in another
 abbrev pub is_shown : List ℕ → List ℕ → ℕ → Bool
 is_shown words hidden j = word_bit words j && not (word_bit hidden j)

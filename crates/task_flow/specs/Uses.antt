@@ -9,6 +9,8 @@ use Rattle.graph_model.specs.graph.Access.{accesses}
 use Rattle.task_flow.specs.Bits.{word_bit}
 use Rattle.task_flow.specs.Construction.{has, tied_by}
 use Rattle.task_flow.specs.Meaning.{order_counts, Chain}
+use Rattle.task_flow.specs.Ends.{AreEnds}
+use Rattle.task_flow.specs.declared.ends.Ends.{Ends}
 use Rattle.task_flow.specs.declared.uses.Class.{Class}
 use Rattle.task_flow.specs.declared.uses.ColumnUses.{ColumnUses}
 
@@ -28,6 +30,7 @@ IsHeld f commute ks i = (k : ℕ) × Contains ks k × ((k ≡ i) ⊎ Chain f com
 -- a class of column c after these uses: the latest, which are in one mode, stand for all of them; and where that mode has no order against itself, those before stand for all that have an order against it
 pub record IsClass (f : GraphValue) (commute : Bool) (us : List (ℕ × Access)) (c : ℕ) (x : Class) : Type 0 where
   pub fits : x.space < length (named_spaces f)
+  pub ends_are : AreEnds (space_at f x.space) x.ends
   pub latest_use : (i : ℕ) → Contains x.latest i → (a : Access) × Contains us (i, a) × (a.column ≡ c) × (a.space ≡ x.space) × (a.mode ≡ x.mode)
   pub before_use : (i : ℕ) → Contains x.before i → (a : Access) × Contains us (i, a) × (a.column ≡ c) × (a.space ≡ x.space) × (order_counts commute a.mode x.mode ≡ true)
   pub latest_hold : (i : ℕ) (a : Access) → Contains us (i, a) → a.column ≡ c → a.space ≡ x.space → IsHeld f commute x.latest i
@@ -46,15 +49,15 @@ pub record AreUses (f : GraphValue) (commute : Bool) (us : List (ℕ × Access))
 
 -- a class with one more use
 abbrev pub with_use : Bool → Class → Mode → ℕ → Class
-with_use commute x mode n = cond (order_counts commute x.mode mode) (record { space = x.space; mode = mode; latest = n ∷ []; before = x.latest }) (record { space = x.space; mode = x.mode; latest = x.latest ++ n ∷ []; before = x.before })
+with_use commute x mode n = cond (order_counts commute x.mode mode) (record { space = x.space; ends = x.ends; mode = mode; latest = n ∷ []; before = x.latest }) (record { space = x.space; ends = x.ends; mode = x.mode; latest = x.latest ++ n ∷ []; before = x.before })
 
-abbrev pub first_use : Access → ℕ → Class
-first_use a n = record { space = a.space; mode = a.mode; latest = n ∷ []; before = [] }
+abbrev pub first_use : Access → Ends → ℕ → Class
+first_use a e n = record { space = a.space; ends = e; mode = a.mode; latest = n ∷ []; before = [] }
 
--- the classes of a column with one more use: its class has it, or is new
-pub data PutsUse (commute : Bool) (old : List Class) (a : Access) (n : ℕ) (new : List Class) : Type 0 where
-  joins : (k : ℕ) (x : Class) → slice_get old k ≡ Some x → x.space ≡ a.space → new ≡ slice_set old k (with_use commute x a.mode n) → PutsUse commute old a n new
-  begins : ((k : ℕ) (x : Class) → slice_get old k ≡ Some x → x.space ≡ a.space → ⊥) → new ≡ old ++ first_use a n ∷ [] → PutsUse commute old a n new
+-- the classes of a column with one more use, over this space: its class has it, or is new
+pub data PutsUse (commute : Bool) (old : List Class) (a : Access) (s : List (ℕ × ℕ)) (n : ℕ) (new : List Class) : Type 0 where
+  joins : (k : ℕ) (x : Class) → slice_get old k ≡ Some x → x.space ≡ a.space → new ≡ slice_set old k (with_use commute x a.mode n) → PutsUse commute old a s n new
+  begins : (e : Ends) → AreEnds s e → ((k : ℕ) (x : Class) → slice_get old k ≡ Some x → x.space ≡ a.space → ⊥) → new ≡ old ++ first_use a e n ∷ [] → PutsUse commute old a s n new
 
 -- the lines of a class that stand for those that a use in this mode has an order against
 abbrev pub group_for : Bool → Class → Mode → List ℕ

@@ -2,12 +2,14 @@
 
 ghost use Rattle.std.specs.Prelude.{◌≡◌, ℕ, ◌<◌, ◌/◌, ◌||◌, ◌&&◌, length, flat_map, Contains, Some, slice_get, IfOk};
 ghost use Rattle.std.specs.List.{list_any};
-ghost use Rattle.graph_model.specs.graph.Graph.{named_spaces, columns};
+ghost use Rattle.graph_model.specs.graph.Graph.{named_spaces, columns, space_at};
 ghost use Rattle.task_flow.specs.Bits.{word_bit};
 ghost use Rattle.task_flow.specs.Construction.{has};
+ghost use Rattle.task_flow.specs.Ends.{AreEnds};
 ghost use Rattle.task_flow.specs.Uses.{AreAsked, group_for, spaces_meet, stands_in};
 
 use crate::bits::Bits;
+use crate::ends::{are_apart, ends_of};
 use crate::rows::Rows;
 use crate::ties::order_counts;
 use crate::uses::{Class, ColumnUses};
@@ -59,11 +61,17 @@ impl ColumnUses {
     fn set_asked(&self, flow: &Graph, commute: bool, access: Access, row: &mut Bits)
         requires space { access.space < length (named_spaces flow.now) }
         requires spaces { (k : ℕ) (x : Class) → slice_get self.now.classes.items k ≡ Some x → x.space < length (named_spaces flow.now) }
+        requires ends { (k : ℕ) (x : Class) → slice_get self.now.classes.items k ≡ Some x → AreEnds (space_at flow.now x.space) x.ends }
         requires groups { (k : ℕ) (x : Class) (i : ℕ) → slice_get self.now.classes.items k ≡ Some x → Contains (group_for commute x access.mode) i → i / 64 < length row.old }
         ensures size { length row.new ≡ length row.old }
         ensures bits { (i : ℕ) → word_bit row.new i ≡ (word_bit row.old i || list_any (λ x. stands_in flow.now commute access x i) self.now.classes.items) }
     {
+        points_are_listed();
+        let ends = ends_of(flow.space(access.space));
         for class in self.classes.as_slice() {
+            if are_apart(class.ends, ends) {
+                continue;
+            }
             if !spaces_meet(flow, class.space, access.space) {
                 continue;
             }

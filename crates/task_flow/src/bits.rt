@@ -1,44 +1,52 @@
 //! Rows of bits.
 
-ghost use Rattle.std.specs.Prelude.{◌≡◌, ℕ, ◌<◌, ◌≤◌, ◌*◌, ◌/◌, ◌==◌, ◌||◌, ◌&&◌, nat_le, not, true, false, length, IfOk, MatchOption};
+ghost use Rattle.std.specs.Prelude.{◌≡◌, ℕ, ◌<◌, ◌≤◌, ◌*◌, ◌/◌, ◌==◌, ◌||◌, ◌&&◌, nat_lt, nat_le, not, true, false, length, IfOk, MatchOption};
 ghost use Rattle.std.specs.Int.{bit_at};
 ghost use Rattle.task_flow.specs.Bits.{word_bit, is_shown, IsShownWord};
 
+use crate::row::Row;
 use index_spaces::NoMemory;
+use index_spaces::room::with_room;
 use std::alloc::Global;
 use std::marker::Model;
 
 /// A row of bits, 64 to a word: bit `j % 64` of word `j / 64` is that of number `j`. No bit is set
-/// of a number below the low one.
+/// of a number below the low one, and at the front so many words are known to have all bits.
 #[derive(Drop)]
 pub(crate) struct Bits {
     words: Vec<u64>,
     low: u32,
+    full: usize,
 }
 
 impl Model for Bits {
     ghost use Rattle.std.specs.Prelude.{ℕ, List};
-    ghost use Rattle.task_flow.specs.Bits.{AreNoneBelow};
+    ghost use Rattle.task_flow.specs.Bits.{AreNoneBelow, AreFull};
 
     ghost Value = { List ℕ };
 
     ghost view = { λ a. a.words.items };
 
-    ghost invariant = { λ a. AreNoneBelow a.words.items a.low };
+    ghost invariant = { λ a. record {
+      none : AreNoneBelow a.words.items a.low;
+      all : AreFull a.words.items a.full;
+    } };
 }
 
 impl Bits {
     /// So many words without a bit.
-    pub(crate) fn zeros(alloc: Global, words: usize) -> Result<Bits, NoMemory>
-        ensures size { IfOk result (λ b. length b ≡ words) }
+    pub(crate) fn zeros(alloc: Global, count: usize) -> Result<Bits, NoMemory>
+        ensures size { IfOk result (λ b. length b ≡ count) }
         ensures bits { IfOk result (λ b. (j : ℕ) → word_bit b j ≡ false) }
     {
-        let Ok(words) = vec![in alloc; 0; words] else {
+        let mut words = with_room(alloc, count)?;
+        if words.resize(count, 0).is_err() {
             return Err(NoMemory);
-        };
+        }
         Ok(Bits {
             words,
             low: u32::MAX,
+            full: 0,
         })
     }
 
@@ -85,20 +93,61 @@ impl Bits {
         ensures size { length self.new ≡ length self.old }
         ensures bits { (k : ℕ) → word_bit self.new k ≡ (word_bit self.old k || (j == k)) }
     {
+        let low = self.low.min(j);
+        let full = self.full.min(j as usize / 64);
         self.words[j as usize / 64] |= 1 << (j % 64);
-        self.low = self.low.min(j);
+        self.low = low;
+        self.full = full;
     }
 
-    /// Sets the bits of another row, of no more words.
-    pub(crate) fn join(&mut self, add: &Bits)
-        requires { length add.now ≤ length self.old }
+    /// Sets the bits of a row that is kept, of no more words.
+    pub(crate) fn join(&mut self, row: &Row)
+        requires { length row.now ≤ length self.old }
         ensures size { length self.new ≡ length self.old }
-        ensures bits { (j : ℕ) → word_bit self.new j ≡ (word_bit self.old j || word_bit add.now j) }
+        ensures bits { (j : ℕ) → word_bit self.new j ≡ (word_bit self.old j || word_bit row.now j) }
     {
-        for w in 0..add.words.len() {
-            self.words[w] |= add.words[w];
+        self.fill(row.full());
+        self.join_behind(row);
+    }
+
+    /// Sets the bits of a row that is kept, from the first word that may not have all bits.
+    fn join_behind(&mut self, row: &Row)
+        requires { length row.now ≤ length self.old }
+        ensures size { length self.new ≡ length self.old }
+        ensures bits { (j : ℕ) → word_bit self.new j ≡ (word_bit self.old j || word_bit row.now j) }
+    {
+        for w in self.full..row.used() {
+            self.words[w] |= row.word(w);
         }
-        self.low = self.low.min(add.low);
+        self.low = 0;
+    }
+
+    /// Sets all bits of so many words at the front.
+    fn fill(&mut self, full: usize)
+        requires { full ≤ length self.old }
+        ensures size { length self.new ≡ length self.old }
+        ensures bits { (j : ℕ) → word_bit self.new j ≡ (word_bit self.old j || nat_lt (j / 64) full) }
+    {
+        for w in self.full..full {
+            self.words[w] = u64::MAX;
+        }
+        let more = self.full.max(full);
+        self.low = 0;
+        self.full = more;
+    }
+
+    /// Its words.
+    pub(crate) fn words(&self) -> &[u64]
+        ensures { result.now ≡ self.now }
+    {
+        self.words.as_slice()
+    }
+
+    /// Whether it is known that no number below this one has its bit set.
+    pub(crate) fn has_none_below(&self, bound: u32) -> bool
+        ensures { result ≡ true → (j : ℕ) → j < bound → word_bit self.now j ≡ false }
+    {
+        bound <= self.low
     }
 }
 

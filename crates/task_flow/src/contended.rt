@@ -1,6 +1,6 @@
 //! Which sums are contended.
 
-ghost use Rattle.std.specs.Prelude.{◌≡◌, ℕ, ◌+◌, ◌<◌, ◌/◌, ◌==◌, ◌||◌, ◌&&◌, length, Some, IfOk, IfSome};
+ghost use Rattle.std.specs.Prelude.{◌≡◌, ℕ, ◌+◌, ◌<◌, ◌/◌, ◌==◌, ◌||◌, ◌&&◌, length, Some, IfOk, OnOk, IfSome};
 ghost use Rattle.std.specs.List.{list_any};
 ghost use Rattle.index_spaces.specs.Space.{has_point, points};
 ghost use Rattle.graph_model.specs.graph.Graph.{named_spaces, columns, space_at};
@@ -40,7 +40,7 @@ pub(crate) fn contended(alloc: Global, flow: &Graph, commute: bool) -> Result<Bi
             sums.skip(flow, line);
             continue;
         };
-        mark_rivals(flow, commute, &rows, &sums, &mut bits, line, sum);
+        mark_rivals(alloc, flow, commute, &rows, &sums, &mut bits, line, sum)?;
         sums.add(flow, line, sum);
     }
     Ok(bits)
@@ -62,6 +62,7 @@ fn all_rows(alloc: Global, flow: &Graph, commute: bool) -> Result<Rows, NoMemory
 /// Sets the bits of a line and of its rivals above it, which are among the lines that add to the
 /// same column and do not reach it.
 fn mark_rivals(
+    alloc: Global,
     flow: &Graph,
     commute: bool,
     rows: &Rows,
@@ -69,7 +70,7 @@ fn mark_rivals(
     bits: &mut Bits,
     line: u32,
     sum: Access,
-)
+) -> Result<(), NoMemory>
     requires rows { AreRows flow.now commute rows.now.rows.items }
     requires all { length rows.now.rows.items ≡ length flow.now.lines }
     requires sums { AreSums flow.now line ((length flow.now.lines + 63) / 64) sums.now.columns.items }
@@ -78,13 +79,13 @@ fn mark_rivals(
     requires column { sum.column < length (columns flow.now) }
     requires space { sum.space < length (named_spaces flow.now) }
     requires size { length bits.old ≡ (length flow.now.lines + 63) / 64 }
-    ensures size { length bits.new ≡ length bits.old }
-    ensures bits { (k : ℕ) → word_bit bits.new k ≡ (word_bit bits.old k || contends_with flow.now (sources_after flow.now commute (length flow.now.lines)) k line) }
+    ensures size { OnOk result (length bits.new ≡ length bits.old) }
+    ensures bits { OnOk result ((k : ℕ) → word_bit bits.new k ≡ (word_bit bits.old k || contends_with flow.now (sources_after flow.now commute (length flow.now.lines)) k line)) }
 {
-    let hidden = &rows.rows[line as usize];
+    let hidden = rows.reaching(alloc, line)?;
     let adding = &sums.columns[sum.column as usize];
     let mut above = line;
-    'others: while let Some(other) = adding.last_below(hidden, above) {
+    'others: while let Some(other) = adding.last_below(&hidden, above) {
         above = other;
         if !meets_sum(flow, other, sum) {
             continue;
@@ -92,6 +93,7 @@ fn mark_rivals(
         bits.set(other);
         bits.set(line);
     }
+    Ok(())
 }
 
 /// Whether a line adds to a cell of this access.

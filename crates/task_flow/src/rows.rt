@@ -4,6 +4,7 @@ ghost use Rattle.std.specs.Prelude.{◌≡◌, ℕ, ◌<◌, ◌≤◌, ◌/◌,
 ghost use Rattle.task_flow.specs.Bits.{word_bit};
 
 use crate::bits::Bits;
+use crate::row::Row;
 use crate::uses::Uses;
 use graph_model::graph::Graph;
 use index_spaces::NoMemory;
@@ -13,7 +14,7 @@ use std::alloc::Global;
 /// classes of their uses.
 #[derive(Drop)]
 pub(crate) struct Rows {
-    pub(crate) rows: Vec<Bits>,
+    pub(crate) rows: Vec<Row>,
     pub(crate) uses: Uses,
 }
 
@@ -37,6 +38,18 @@ impl Rows {
         ensures { result ≡ words_for (length self.now.rows.items) }
     {
         self.rows.len() / 64 + 1
+    }
+
+    /// A bit for each line that reaches this one.
+    pub(crate) fn reaching(&self, alloc: Global, line: u32) -> Result<Bits, NoMemory>
+        requires { line < length self.now.rows.items }
+        ensures size { IfOk result (λ b. length b ≡ length (slice_index_or self.now.rows.items line [])) }
+        ensures bits { IfOk result (λ b. (i : ℕ) → word_bit b i ≡ word_bit (slice_index_or self.now.rows.items line []) i) }
+    {
+        let row = &self.rows[line as usize];
+        let mut bits = Bits::zeros(alloc, row.size())?;
+        bits.join(row);
+        Ok(bits)
     }
 
     /// Sets the bits of a line and of those that reach it.

@@ -8,6 +8,7 @@ ghost use Rattle.task_flow.specs.Rows.{AreRows, IsKept, parts_at, words_for};
 ghost use Rattle.task_flow.specs.Construction.{down_from, tied_by, has, is_large, is_reached, least, parts_of, sources_after};
 
 use crate::bits::Bits;
+use crate::row::Row;
 use crate::rows::Rows;
 use crate::ties::MOST_ACCESSES;
 use graph_model::graph::Graph;
@@ -147,6 +148,9 @@ fn least(
     'lines: while let Some(line) = asked.last_below(&mask, above) {
         above = line;
         part.push(line)?;
+        if asked.has_none_below(line) {
+            return Ok(part);
+        }
         rows.reach(&mut mask, line);
     }
     Ok(part)
@@ -201,8 +205,9 @@ pub(crate) fn add_row(
 {
     let _ = flow.lines();
     let line = rows.rows.len() as u32;
-    let mut row = mask_of(alloc, flow, commute, rows, parts.large.as_slice())?;
-    reach_all(flow, commute, rows, &mut row, &parts.small);
+    let mut mask = mask_of(alloc, flow, commute, rows, parts.large.as_slice())?;
+    reach_all(flow, commute, rows, &mut mask, &parts.small);
+    let row = Row::of(alloc, &mask)?;
     push(&mut rows.rows, row)?;
     rows.uses.add_line(alloc, flow, commute, line)?;
     Ok(())

@@ -4,6 +4,7 @@ ghost use Rattle.std.specs.Prelude.{◌≡◌, ◌<◌, ◌+◌, [], IfOk, OnOk,
 ghost use Rattle.graph_model.specs.graph.Graph.{columns};
 ghost use Rattle.task_flow.specs.Meaning.{order_counts};
 
+use crate::ends::{Ends, ends_of};
 use crate::ties::{MOST_ACCESSES, order_counts};
 use graph_model::graph::Graph;
 use graph_model::line_laws::{accesses_are_few, accesses_fit};
@@ -12,15 +13,17 @@ use graph_model::verb::{Access, Mode};
 use index_spaces::NoMemory;
 use index_spaces::laws::points_are_listed;
 use index_spaces::room::push;
+use index_spaces::space::Space;
 use std::alloc::Global;
 use std::mem;
 
-/// The uses of a column over one space: the lines of the latest, which have no order among
-/// themselves and all have this mode, and those of the ones before, which have an order against
-/// them.
+/// The uses of a column over one space with these ends: the lines of the latest, which have no order
+/// among themselves and all have this mode, and those of the ones before, which have an order
+/// against them.
 #[derive(Drop)]
 pub(crate) struct Class {
     pub(crate) space: u32,
+    pub(crate) ends: Ends,
     pub(crate) mode: Mode,
     pub(crate) latest: LineList,
     pub(crate) before: LineList,
@@ -39,16 +42,19 @@ pub(crate) struct Uses {
 }
 
 impl Class {
+    ghost use Rattle.task_flow.specs.Ends.{AreEnds};
     ghost use Rattle.task_flow.specs.Uses.{with_use, first_use};
 
     /// The class of a first use.
-    fn of_first(alloc: Global, access: Access, line: u32) -> Result<Class, NoMemory>
-        ensures { IfOk result (λ x. x ≡ first_use access line) }
+    fn of_first(alloc: Global, space: &Space, access: Access, line: u32) -> Result<Class, NoMemory>
+        ensures ends { IfOk result (λ x. AreEnds space.now x.ends) }
+        ensures class { IfOk result (λ x. x ≡ first_use access x.ends line) }
     {
         let mut latest = LineList::new(alloc);
         latest.push(line)?;
         Ok(Class {
             space: access.space,
+            ends: ends_of(space),
             mode: access.mode,
             latest,
             before: LineList::new(alloc),
@@ -86,16 +92,17 @@ impl ColumnUses {
     fn add(
         &mut self,
         alloc: Global,
+        space: &Space,
         commute: bool,
         access: Access,
         line: u32,
     ) -> Result<(), NoMemory>
-        ensures { OnOk result (PutsUse commute self.old.classes.items access line self.new.classes.items) }
+        ensures { OnOk result (PutsUse commute self.old.classes.items access space.now line self.new.classes.items) }
     {
         match self.place_of(access.space) {
             Some(place) => self.classes[place].add(alloc, commute, access.mode, line)?,
             None => {
-                let class = Class::of_first(alloc, access, line)?;
+                let class = Class::of_first(alloc, space, access, line)?;
                 push(&mut self.classes, class)?;
             }
         }
@@ -139,7 +146,8 @@ impl Uses {
             let Some(access) = flow.access(line, k) else {
                 break;
             };
-            self.columns[access.column as usize].add(alloc, commute, access, line)?;
+            let space = flow.space(access.space);
+            self.columns[access.column as usize].add(alloc, space, commute, access, line)?;
         }
         Ok(())
     }

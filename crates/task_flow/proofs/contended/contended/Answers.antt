@@ -16,9 +16,9 @@ loop-line-preserved-in_default c = record {
 
 pub loop-line-preserved : goal.loop-line-preserved
 loop-line-preserved c = record {
-  size = c.mark_rivals.ensures.size ∙ c.loop-line.invariant.size;
+  size = c.in_ok-mark_rivals.ensures.size ∙ c.loop-line.invariant.size;
   sums = c.add.ensures;
-  bits = λ k. contends_next c.args.flow.now (sources_after c.args.flow.now c.args.commute (length c.args.flow.now.lines)) k c.loop-line.line (word_bit c.loop-line.bits k) (word_bit c.mark_rivals.new.bits k) (c.mark_rivals.ensures.bits k) (c.loop-line.invariant.bits k);
+  bits = λ k. contends_next c.args.flow.now (sources_after c.args.flow.now c.args.commute (length c.args.flow.now.lines)) k c.loop-line.line (word_bit c.loop-line.bits k) (word_bit c.mark_rivals.new.bits k) (c.in_ok-mark_rivals.ensures.bits k) (c.loop-line.invariant.bits k);
 }
 
 pub returns-clause-bits : goal.returns-clause-bits

@@ -25,12 +25,12 @@ returns-clause-rows c =
     let f = c.args.flow.now in
     let n = length c.args.rows.now.rows.items in
     let p = c.args.parts.now in
-    let count : length c.push.new.items.items ≡ length c.args.rows.now.rows.items + 1 = ap length c.in_ok-push.ensures.ok ∙ length-append c.args.rows.now.rows.items (c.reach_all.new.mask ∷ []) in
+    let count : length c.push.new.items.items ≡ length c.args.rows.now.rows.items + 1 = ap length c.in_ok-push.ensures.ok ∙ length-append c.args.rows.now.rows.items (c.in_ok-row.row ∷ []) in
     let same : c.len-line.result ≡ length c.args.rows.now.rows.items = search rules in
     record {
-      rows = rows_more f c.args.commute c.args.rows.now.rows.items c.push.new.items.items c.reach_all.new.mask c.requires.rows.rows c.requires.next c.in_ok-push.ensures.ok (c.reach_all.ensures.size ∙ c.in_ok-row.ensures.size)
-          (λ i. row_of_parts f c.args.commute n p i (word_bit c.in_ok-row.row i) (word_bit c.reach_all.new.mask i) c.requires.parts
-          (c.in_ok-row.ensures.bits i ∙ ap (λ xs. is_reached (sources_after f c.args.commute n) (flat_map (λ q. q) xs) i) (c.as_slice.ensures.value ∙ ap (λ (p : Parts). p.large) c.parts.view_is))
-          (c.reach_all.ensures.bits i ∙ ap (λ xs. word_bit c.in_ok-row.row i || is_reached (sources_after f c.args.commute n) xs i) (ap (λ (p : Parts). p.small) c.parts.view_is)));
+      rows = rows_more f c.args.commute c.args.rows.now.rows.items c.push.new.items.items c.in_ok-row.row c.requires.rows.rows c.requires.next c.in_ok-push.ensures.ok (c.in_ok-row.ensures.size ∙ (c.reach_all.ensures.size ∙ c.in_ok-mask.ensures.size))
+          (λ i. c.in_ok-row.ensures.bits i ∙ row_of_parts f c.args.commute n p i (word_bit c.in_ok-mask.mask i) (word_bit c.reach_all.new.mask i) c.requires.parts
+          (c.in_ok-mask.ensures.bits i ∙ ap (λ xs. is_reached (sources_after f c.args.commute n) (flat_map (λ q. q) xs) i) (c.as_slice.ensures.value ∙ ap (λ (p : Parts). p.large) c.parts.view_is))
+          (c.reach_all.ensures.bits i ∙ ap (λ xs. word_bit c.in_ok-mask.mask i || is_reached (sources_after f c.args.commute n) xs i) (ap (λ (p : Parts). p.small) c.parts.view_is)));
       uses = subst (λ m. AreUses f c.args.commute (uses_before f m) c.add_line.new.self.columns.items) (ap (λ m. m + 1) same ∙ sym count) c.in_ok-add_line.ensures;
     }

@@ -1,4 +1,4 @@
-use Rattle.std.proofs.Common.{◌≡◌, ◌<◌, ◌≤◌, ◌+◌, ◌++◌, [], ◌∷◌, length, sym, ◌∙◌, ap, length-append, append_assoc, arith}
+use Rattle.std.proofs.Common.{◌≡◌, ◌<◌, ◌≤◌, ◌+◌, ◌++◌, [], ◌∷◌, ◌&&◌, not, length, refl, sym, ◌∙◌, ap, length-append, append_assoc, arith}
 use Rattle.std.specs.Prelude.{flat_map, slice_index_or}
 use Rattle.task_flow.specs.Bits.{word_bit}
 use Rattle.task_flow.specs.Construction.{is_reached, sources_after}
@@ -24,6 +24,18 @@ lines-preserved c =
           ∙ ap (λ xs. is_reached (sources_after f c.args.commute n) xs j) (append_assoc start c.lines.part (line ∷ []) ∙ ap (λ xs. start ++ xs) (sym pushed));
       rest = least_keeps f c.args.commute n (word_bit c.args.asked.now) (word_bit c.lines.mask) start _ c.lines.part c.push.new.self c.lines.above line c.lines.invariant.bits next.0 next.1 next.2 c.lines.invariant.rest pushed;
     }
+
+pub returns-then-has_none_below : goal.returns-then-has_none_below
+returns-then-has_none_below c =
+    let f = c.args.flow.now in
+    let n = length c.args.rows.now.rows.items in
+    let line = c.in-Some.line in
+    let next = c.in-Some.ensures in
+    let start = flat_map (λ p. p) c.args.kept.now in
+    let part = c.push.new.self in
+    least_ends f c.args.commute n (word_bit c.args.asked.now) (is_reached (sources_after f c.args.commute n) (start ++ part)) start _ part line (λ i. refl)
+    (λ i low. ap (λ b. b && not (is_reached (sources_after f c.args.commute n) (start ++ part) i)) (c.has_none_below.ensures c.if-has_none_below.true i low))
+    (least_keeps f c.args.commute n (word_bit c.args.asked.now) (word_bit c.lines.mask) start _ c.lines.part part c.lines.above line c.lines.invariant.bits next.0 next.1 next.2 c.lines.invariant.rest c.in_ok-push.ensures.ok)
 
 pub returns : goal.returns
 returns c =

@@ -12,6 +12,13 @@ set_asked-requires-clause-spaces c =
     let at = slice_get_read cs (length cs) c.args.access.column c.index.result.now refl within c.index.ensures in
     λ k x got. ((c.requires.kept.uses.each c.args.access.column c.index.result.now at).each k x got).fits
 
+pub set_asked-requires-clause-ends : goal.set_asked-requires-clause-ends
+set_asked-requires-clause-ends c =
+    let cs = c.args.self.now.uses.columns.items in
+    let within : c.args.access.column < length cs = (let a = c.requires.column in let b = c.requires.kept.uses.count in omega (arith, a, b)) in
+    let at = slice_get_read cs (length cs) c.args.access.column c.index.result.now refl within c.index.ensures in
+    λ k x got. ((c.requires.kept.uses.each c.args.access.column c.index.result.now at).each k x got).ends_are
+
 pub set_asked-requires-clause-groups : goal.set_asked-requires-clause-groups
 set_asked-requires-clause-groups c =
     let cs = c.args.self.now.uses.columns.items in

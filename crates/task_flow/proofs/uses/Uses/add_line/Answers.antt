@@ -1,9 +1,10 @@
-use Rattle.std.proofs.Common.{◌≡◌, ◌<◌, ◌≤◌, length, sym, refl, arith}
+use Rattle.std.proofs.Common.{◌≡◌, ◌<◌, ◌≤◌, length, sym, refl, subst, arith}
 use Rattle.std.specs.Prelude.{Some, slice_get}
 use Rattle.std.proofs.lemmas.Option.{slice_get_within}
 use Rattle.basics.proofs.ListFacts.{got_contains}
 use Rattle.graph_model.specs.graph.Graph.{columns}
 use Rattle.graph_model.specs.graph.Access.{accesses}
+use Rattle.task_flow.specs.Uses.{PutsUse}
 use Rattle.task_flow.proofs.AskSteps.{uses_next, uses_whole}
 use Rattle.task_flow.proofs.Scans.{got_beyond}
 use Rattle.task_flow.proofs.uses.Uses.add_line.Goals as goal
@@ -23,7 +24,7 @@ loop-k-preserved c =
     record {
       few = omega arith;
       uses = uses_next c.args.flow.now c.args.commute c.points_are_listed.ensures c.accesses_fit.ensures c.lines.ensures.is_graph c.args.line c.loop-k.k c.in-Some.access c.loop-k.self.columns.items _ c.index_mut.result.now c.add.new.self
-          at (omega arith) c.index_mut.ensures.value c.in_ok-add.ensures refl c.loop-k.invariant.uses;
+          at (omega arith) c.index_mut.ensures.value (subst (λ s. PutsUse c.args.commute c.index_mut.result.now.classes.items c.in-Some.access s c.args.line c.add.new.self.classes.items) c.space-space.ensures c.in_ok-add.ensures) refl c.loop-k.invariant.uses;
     }
 
 pub returns-after-loop-k : goal.returns-after-loop-k
@@ -33,3 +34,7 @@ returns-after-loop-k c =
 
 pub returns-in_default : goal.returns-in_default
 returns-in_default c = uses_whole c.args.flow.now c.args.commute c.args.line c.loop-k.k c.loop-k.self.columns.items (got_beyond (accesses c.args.flow.now c.args.line) c.loop-k.k (sym c.in_default.ensures)) c.loop-k.invariant.uses
+
+pub space-space-requires : goal.space-space-requires
+space-space-requires c =
+    (c.accesses_fit.ensures c.args.flow.now c.args.line c.in-Some.access c.lines.ensures.is_graph (got_contains (accesses c.args.flow.now c.args.line) c.loop-k.k c.in-Some.access (sym c.in-Some.ensures))).space
