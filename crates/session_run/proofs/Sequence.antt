@@ -39,7 +39,7 @@ final_short before name g done (l ∷ ls) h f =
 not_large : (es : List Entry) → is_large es ≡ false → all_lines es ≤ MAX_SESSION_LINES
 not_large es h = ltb-false MAX_SESSION_LINES (all_lines es) (or_parts (nat_lt MAX_SESSION_LINES (all_lines es)) (nat_lt MAX_CELLS (all_cells es)) h).0
 
-entry_few : (before : List Entry) (e : Entry) → EntryFits before e → all_lines (before ++ e ∷ []) ≤ MAX_SESSION_LINES
+pub entry_few : (before : List Entry) (e : Entry) → EntryFits before e → all_lines (before ++ e ∷ []) ≤ MAX_SESSION_LINES
 entry_few before e f = not_large (before ++ e ∷ []) (final_short before e.name e.graph [] e.links f.short f.links)
 
 reason_none : (b : Bool) (w : Why) (ts : List (Bool × Why)) → first_reason ((b, w) ∷ ts) ≡ None → (b ≡ false) × (first_reason ts ≡ None)
@@ -69,7 +69,7 @@ can_next before e es a = record {
   few = omega (arith, entry_few a.entries e a.fit.0, lines_push a.entries e, a.lines);
 }
 
-next_after : (before : List LinkedGraph) (e : Entry) (es : List Entry) → AreNext before (e ∷ es) → AreNext (before ++ linked_entry before e ∷ []) es
+pub next_after : (before : List LinkedGraph) (e : Entry) (es : List Entry) → AreNext before (e ∷ es) → AreNext (before ++ linked_entry before e ∷ []) es
 next_after before e es a = record {
   entries = a.entries ++ e ∷ [];
   fit = a.fit.1;
