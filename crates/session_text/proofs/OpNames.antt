@@ -1,8 +1,8 @@
 -- The operations that graphs have, found by the names of the same graphs with their links as triggers.
-use Rattle.std.proofs.Common.{◌≡◌, ℕ, zero, suc, Bool, true, false, ◌||◌, List, [], ◌∷◌, take, refl, sym, ◌∙◌, ap}
-use Rattle.std.specs.Prelude.{Some, slice_get, bytes_eq}
+use Rattle.std.proofs.Common.{◌≡◌, ℕ, zero, suc, ◌+◌, ◌<◌, Bool, true, false, ◌||◌, List, [], ◌∷◌, ◌++◌, length, get_or, take, refl, sym, ◌∙◌, ap, arith}
+use Rattle.std.specs.Prelude.{bytes_eq}
 use Rattle.std.specs.List.{list_any}
-use Rattle.std.proofs.lemmas.Option.{none-some, same_Some}
+use Rattle.std.proofs.lemmas.List.{take_more}
 use Rattle.std.proofs.lemmas.List.Folds.{list_any-append}
 use Rattle.graph_model.specs.declared.graph.verb.Line.{Line}
 use Rattle.graph_model.specs.graph.Graph.{GraphValue}
@@ -15,6 +15,10 @@ use Rattle.session_text.specs.SoFar.{judged_of}
 or_false : (b : Bool) → (b || false) ≡ b
 or_false true = refl
 or_false false = refl
+
+or_true : (b : Bool) → (b || true) ≡ true
+or_true true = refl
+or_true false = refl
 
 or_more : (a b c : Bool) → ((a || (b || false)) || c) ≡ (a || (b || c))
 or_more true b c = refl
@@ -32,22 +36,14 @@ triggered_names g (l ∷ ls) w =
 pub judged_names : (e : Entry) (w : List ℕ) → is_line_name (judged_of e) w ≡ has_op e w
 judged_names e w = triggered_names e.graph e.links w
 
--- one that is among those up to a place, and one more that is not
+-- one that is there, and one more that is not
 module _ {X : Type 0} (f : X → Bool) where
-  pub any_at : (xs : List X) (k : ℕ) (x : X) → slice_get xs k ≡ Some x → f x ≡ true → list_any f xs ≡ true
-  any_at [] k x at is = absurd (none-some x at)
-  any_at (y ∷ ys) zero x at is = ap (λ b. b || list_any f ys) (ap f (same_Some y x at) ∙ is)
-  any_at (y ∷ ys) (suc k) x at is = ap (λ b. f y || b) (any_at ys k x at is) ∙ or_true (f y)
-    where
-      or_true : (b : Bool) → (b || true) ≡ true
-      or_true true = refl
-      or_true false = refl
+  pub any_at : (xs : List X) (k : ℕ) (x : X) → k < length xs → x ≡ get_or xs k x → f x ≡ true → list_any f xs ≡ true
+  any_at [] k x lt at is = absurd (omega (arith, lt))
+  any_at (y ∷ ys) zero x lt at is = ap (λ b. b || list_any f ys) (ap f (sym at) ∙ is)
+  any_at (y ∷ ys) (suc k) x lt at is = ap (λ b. f y || b) (any_at ys k x (omega (arith, lt)) at is) ∙ or_true (f y)
 
-  pub none_more : (xs : List X) (k : ℕ) (x : X) → slice_get xs k ≡ Some x → f x ≡ false → list_any f (take k xs) ≡ false → list_any f (take (suc k) xs) ≡ false
-  none_more [] k x at is none = refl
-  none_more (y ∷ ys) zero x at is none = ap (λ b. b || false) (ap f (same_Some y x at) ∙ is)
-  none_more (y ∷ ys) (suc k) x at is none = more (f y) none
-    where
-      more : (b : Bool) → (b || list_any f (take k ys)) ≡ false → (b || list_any f (take (suc k) ys)) ≡ false
-      more true h = h
-      more false h = none_more ys k x at is h
+  pub none_more : (xs : List X) (k : ℕ) (x : X) → k < length xs → x ≡ get_or xs k x → f x ≡ false → list_any f (take k xs) ≡ false → list_any f (take (k + 1) xs) ≡ false
+  none_more xs k x lt at is none =
+      let more : take (k + 1) xs ≡ take k xs ++ x ∷ [] = take_more xs k x lt ∙ ap (λ y. take k xs ++ y ∷ []) (sym at) in
+      ap (list_any f) more ∙ (list_any-append f (take k xs) (x ∷ []) ∙ (ap (λ b. b || (f x || false)) none ∙ ap (λ b. b || false) is))
