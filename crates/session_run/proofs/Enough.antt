@@ -12,7 +12,7 @@ use Rattle.session_run.specs.Linked.{LinkedGraph, linked_entry, linked_after, li
 use Rattle.session_run.specs.Running.{ends_of, line_total, slots_needed}
 use Rattle.session_run.specs.Session.{AreNext}
 use Rattle.session_run.proofs.Recording.{ends_count}
-use Rattle.session_run.proofs.Sequence.{entry_few, next_after}
+use Rattle.session_run.proofs.Sequence.{next_after, next_few}
 
 few_wait : (ends : List End) → total waits ends ≤ length ends
 few_wait [] = omega arith
@@ -29,7 +29,7 @@ few_lines : (before : List LinkedGraph) (es : List Entry) → (a : AreNext befor
 few_lines before [] a few = omega (arith, ap line_total (append-nil before), a.lines, few)
 few_lines before (e ∷ es) a few =
     let behind : List LinkedGraph = before ++ linked_entry before e ∷ [] in
-    subst (λ gs. line_total gs ≤ MAX_SESSION_LINES) (append_assoc before (linked_entry before e ∷ []) (linked_after behind es)) (few_lines behind es (next_after before e es a) (entry_few a.entries e a.fit.0))
+    subst (λ gs. line_total gs ≤ MAX_SESSION_LINES) (append_assoc before (linked_entry before e ∷ []) (linked_after behind es)) (few_lines behind es (next_after before e es a) (next_few before e es a))
 
 pub most_are_enough : (es : List Entry) → AreEntries es → slots_needed (linked es) ≤ MAX_SLOTS
 most_are_enough es f = omega (arith, few_slots (linked es), few_lines [] es (record { entries = []; fit = f; count = refl; lines = omega arith }) (omega arith))

@@ -39,7 +39,7 @@ final_short before name g done (l ∷ ls) h f =
 not_large : (es : List Entry) → is_large es ≡ false → all_lines es ≤ MAX_SESSION_LINES
 not_large es h = ltb-false MAX_SESSION_LINES (all_lines es) (or_parts (nat_lt MAX_SESSION_LINES (all_lines es)) (nat_lt MAX_CELLS (all_cells es)) h).0
 
-pub entry_few : (before : List Entry) (e : Entry) → EntryFits before e → all_lines (before ++ e ∷ []) ≤ MAX_SESSION_LINES
+entry_few : (before : List Entry) (e : Entry) → EntryFits before e → all_lines (before ++ e ∷ []) ≤ MAX_SESSION_LINES
 entry_few before e f = not_large (before ++ e ∷ []) (final_short before e.name e.graph [] e.links f.short f.links)
 
 reason_none : (b : Bool) (w : Why) (ts : List (Bool × Why)) → first_reason ((b, w) ∷ ts) ≡ None → (b ≡ false) × (first_reason ts ≡ None)
@@ -76,6 +76,10 @@ next_after before e es a = record {
   count = omega (arith, length-append before (linked_entry before e ∷ []), length-append a.entries (e ∷ []), a.count);
   lines = omega (arith, total-append (λ (x : LinkedGraph). length x.graph.lines) before (linked_entry before e ∷ []), lines_push a.entries e, links_few before e.graph e.links, a.lines);
 }
+
+pub next_few : (before : List LinkedGraph) (e : Entry) (es : List Entry) (a : AreNext before (e ∷ es)) → all_lines (next_after before e es a).entries ≤ MAX_SESSION_LINES
+unfolding next_after
+next_few before e es a = entry_few a.entries e a.fit.0
 
 -- some of the graphs have run
 pub record IsMidway (all : List LinkedGraph) (slots : ℕ) (r : Running) (rest : List Entry) : Type 0 where
