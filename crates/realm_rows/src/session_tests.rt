@@ -327,7 +327,7 @@ fn most_cells(rt: HostRuntime) -> Result<(), Fail> {
     let report = format!(in alloc;
         "graph one\nrealm-report 1\n{cells}done\ngraph two\nrealm-report 1\n{cells}done\ndone\n"
     )?;
-    run_one(&rt, "session", text.as_str(), report.as_str())?;
+    run_one(&rt, "session --workers 0", text.as_str(), report.as_str())?;
     let more = format!(in alloc; "{front}graph h\nrealm 1\nspace s 0..0\ninst a s x\nend\n")?;
     let passed = [(more.as_str(), "refused line 16 limit\n")];
     run_texts(&rt, &["session"], Status::Unread, &passed)

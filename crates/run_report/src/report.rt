@@ -19,7 +19,7 @@ use graph_reader::{put_column_name, put_interval};
 use index_spaces::column::Column;
 use index_spaces::limits::MAX_POINTS;
 use itoa::Buffer;
-use realm_io::{Sink, WriteFault, put_bytes, put_decimal};
+use realm_io::{Sink, WriteFault, put_bytes};
 
 fn end_word(end: End) -> &'static [u8]
     ensures { result.now ≡ end_word end }
@@ -122,11 +122,11 @@ fn put_interval_front<K: Sink>(
 }
 
 /// Writes a cell and the space before it.
-fn put_cell<K: Sink>(sink: &mut K, cell: u64) -> Result<(), WriteFault>
+fn put_cell<K: Sink>(sink: &mut K, buffer: &mut Buffer, cell: u64) -> Result<(), WriteFault>
     ensures { Writes (K.state sink.old) (K.state sink.new) result (32 ∷ decimal cell) }
 {
     put_bytes(sink, b" ")?;
-    put_decimal(sink, cell)
+    put_bytes(sink, buffer.format(cell).as_bytes())
 }
 
 /// Writes the cells of the points of these ranks, each with a space before it.
@@ -137,8 +137,10 @@ fn put_cells<K: Sink>(sink: &mut K, column: &Column, first: u32, end: u32) -> Re
     ensures { Writes (K.state sink.old) (K.state sink.new) result
         (flat_map (λ v. 32 ∷ decimal v) (take (end - first) (drop first column.now.cells))) }
 {
+    // one for all cells, since there may be millions of them
+    let mut buffer = Buffer::new();
     for rank in first..end {
-        put_cell(sink, column.at(rank))?;
+        put_cell(sink, &mut buffer, column.at(rank))?;
     }
     Ok(())
 }

@@ -1,5 +1,6 @@
 pub mod Asking
 pub mod Closing
+pub mod Enough
 pub mod Leaner
 pub mod LinkSteps
 pub mod OneEnds

@@ -69,13 +69,17 @@ can_next before e es a = record {
   few = omega (arith, entry_few a.entries e a.fit.0, lines_push a.entries e, a.lines);
 }
 
-next_after : (before : List LinkedGraph) (e : Entry) (es : List Entry) → AreNext before (e ∷ es) → AreNext (before ++ linked_entry before e ∷ []) es
+pub next_after : (before : List LinkedGraph) (e : Entry) (es : List Entry) → AreNext before (e ∷ es) → AreNext (before ++ linked_entry before e ∷ []) es
 next_after before e es a = record {
   entries = a.entries ++ e ∷ [];
   fit = a.fit.1;
   count = omega (arith, length-append before (linked_entry before e ∷ []), length-append a.entries (e ∷ []), a.count);
   lines = omega (arith, total-append (λ (x : LinkedGraph). length x.graph.lines) before (linked_entry before e ∷ []), lines_push a.entries e, links_few before e.graph e.links, a.lines);
 }
+
+pub next_few : (before : List LinkedGraph) (e : Entry) (es : List Entry) (a : AreNext before (e ∷ es)) → all_lines (next_after before e es a).entries ≤ MAX_SESSION_LINES
+unfolding next_after
+next_few before e es a = entry_few a.entries e a.fit.0
 
 -- some of the graphs have run
 pub record IsMidway (all : List LinkedGraph) (slots : ℕ) (r : Running) (rest : List Entry) : Type 0 where

@@ -20,7 +20,7 @@ pub struct Ended {
 
 impl Running {
     /// Closes the table: no graph is recorded any more.
-    pub fn close(self) -> Ended
+    pub(crate) fn close(self) -> Ended
         requires running { IsRunning self }
         ensures graphs { result.graphs.items ≡ self.graphs.items }
         ensures ended { IsEnded result }

@@ -8,5 +8,5 @@ mod running;
 mod session;
 
 pub use ended::Ended;
-pub use running::{Linked, RanGraph, RecordFault, Running};
+pub use running::RanGraph;
 pub use session::{RunFault, UnfitGraph, run_session};

@@ -33,7 +33,7 @@ pub struct RanGraph {
 
 /// The graphs that were run so far, and their events.
 #[derive(Drop)]
-pub struct Running {
+pub(crate) struct Running {
     pub(crate) session: Session,
     pub(crate) recorder: Recorder,
     pub(crate) graphs: Vec<RanGraph>,
@@ -41,7 +41,7 @@ pub struct Running {
 
 /// Why a graph that was run is not recorded.
 #[derive(Clone, Copy, Debug, PartialEq, Eq)]
-pub enum RecordFault {
+pub(crate) enum RecordFault {
     /// So many slots are needed, more than there are.
     Slots(u32),
     /// Memory ran out.
@@ -118,14 +118,14 @@ fn op_of(graph: &RanGraph, link: &Link) -> Option<u32>
 
 /// The name of a graph, and the graph with its links as lines.
 #[derive(Drop)]
-pub struct Linked {
-    pub name: Name,
-    pub graph: Graph,
+pub(crate) struct Linked {
+    pub(crate) name: Name,
+    pub(crate) graph: Graph,
 }
 
 impl Running {
     /// No graph yet, and so many slots for events.
-    pub fn new(alloc: Global, slots: u32) -> Result<Running, NoMemory>
+    pub(crate) fn new(alloc: Global, slots: u32) -> Result<Running, NoMemory>
         requires slots { (0 < slots) × (slots ≤ MAX_SLOTS) }
         ensures running { IfOk result (λ r. IsRunning r) }
         ensures none { IfOk result (λ r. (ran_by r ≡ []) × (slots_of r ≡ slots)) }
@@ -141,7 +141,7 @@ impl Running {
     }
 
     /// The next graph with its links as lines, each by what is answered for its operation.
-    pub fn link(&mut self, entry: Entry) -> Result<Linked, NoMemory>
+    pub(crate) fn link(&mut self, entry: Entry) -> Result<Linked, NoMemory>
         requires running { IsRunning self.old }
         requires fits { CanLink entry.graph entry.links }
         ensures running { IsRunning self.new }
@@ -165,7 +165,7 @@ impl Running {
 
     /// Records a graph that was run, behind those before it. `Slots` comes exactly where more slots are
     /// needed than there are, else `NoMemory` where memory ran out.
-    pub fn record(
+    pub(crate) fn record(
         self,
         alloc: Global,
         name: Name,

@@ -1,13 +1,15 @@
 //! What tests do with a session: they record graphs, and ask for all lines of one.
 
-ghost use Rattle.std.specs.Prelude.{ℕ, ◌≡◌, ◌<◌, ◌≤◌, ◌+◌, length, IfOk};
+ghost use Rattle.std.specs.Prelude.{ℕ, ◌≡◌, ◌<◌, ◌≤◌, ◌+◌, length, Contains, IfOk};
+ghost use Rattle.gen_events.specs.EventMap.{IsCreated};
+ghost use Rattle.gen_events.specs.declared.handle.Handle.{Handle as TheHandle};
 ghost use Rattle.realm_session.specs.Recorded.{IsRecorded, graph_at};
 ghost use Rattle.realm_session.specs.Sessions.{recorded_by, IsRecorderOf, IsSeatOf, Tells};
 ghost use Rattle.realm_session.specs.declared.line.Line.{Line as TheLine};
 
 use graph_model::lists::EndList;
 use graph_model::outcome::End;
-use realm_session::{Answer, RecordRefusal, Recorder, Seat, Session};
+use realm_session::{Answer, Handle, Left, RecordRefusal, Recorder, Seat, Session};
 use std::alloc::{AllocError, Global};
 
 /// A list of ends.
@@ -62,6 +64,38 @@ pub(crate) fn graph_answers(
     agrees
 }
 
+/// The handles of the first lines of a graph, so many.
+pub(crate) fn handles_of(
+    alloc: Global,
+    recorder: &Recorder,
+    graph: u32,
+    lines: u32,
+) -> Result<Vec<Handle>, AllocError>
+    requires lines { lines ≤ length (graph_at (recorded_by recorder.now) graph) }
+    ensures { IfOk result (λ v. (h : TheHandle) → Contains v.items h → (x : TheLine) × IsRecorded (recorded_by recorder.now) x × (x.handle ≡ h)) }
+{
+    let mut handles = Vec::new(alloc);
+    for line in 0..lines {
+        handles.push(recorder.handle_of(graph, line))?;
+    }
+    Ok(handles)
+}
+
+/// Whether there are as many handles as answers, and each answers so, of what a session left.
+pub(crate) fn left_answers(left: &Left, handles: &[Handle], wanted: &[Answer]) -> bool
+    requires { (h : TheHandle) → Contains handles.now h → IsCreated left.now h }
+{
+    if handles.len() != wanted.len() {
+        return false;
+    }
+    for (place, handle) in handles.iter().enumerate() {
+        if left.look(*handle) != wanted[place] {
+            return false;
+        }
+    }
+    true
+}
+
 /// Records a graph: its number.
 pub(crate) fn record_graph(
     session: &Session,
@@ -90,6 +124,7 @@ pub(crate) fn enter_times(
     requires recorder { IsRecorderOf session.now recorder.old }
     requires graphs { length (recorded_by recorder.old).graphs + times < 4294967295 }
     ensures recorder { IsRecorderOf session.now recorder.new }
+    ensures kept { (g : ℕ) → length (graph_at (recorded_by recorder.old) g) ≤ length (graph_at (recorded_by recorder.new) g) }
     ensures graphs { length (recorded_by recorder.new).graphs ≤ length (recorded_by recorder.old).graphs + times }
 {
     for _turn in 0..times {

@@ -2,13 +2,13 @@
 //! `tests/refused-memory`, it says so, and the same call made again gives its answer; the test ends with the name of
 //! the call then, which that script reads.
 
-use crate::asking::{ends_of, record_graph};
-use crate::row_tests::ONE;
-use crate::running::{entries_of, run_entries, run_text};
+use crate::asking::{ends_of, graph_answers, record_graph};
+use crate::row_tests::{ONE, ONE_ANSWERS};
+use crate::running::{entries_of, event_lines, run_entries, run_text};
 use graph_reader::ReadRefusal;
 use realm_session::{NoMemory, RecordRefusal, Session};
 use session_run::RunFault;
-use session_text::read_session;
+use session_text::{Entry, Link, read_session};
 use std::alloc::Global;
 use std::test::Fail;
 use test_texts::memory::after;
@@ -19,7 +19,10 @@ fn enters(alloc: Global) -> Result<(), Fail> {
         return Err("no memory".into());
     };
     match record_graph(&session, alloc, &mut recorder, &ends) {
-        Ok(graph) => after("Session::enter", false, graph == 0),
+        Ok(graph) => {
+            let answers = graph_answers(&session, &mut recorder, graph, &ONE_ANSWERS);
+            after("Session::enter", false, graph == 0 && answers)
+        }
         Err(refusal) => {
             let again = record_graph(&session, alloc, &mut recorder, &ends) == Ok(0);
             after(
@@ -45,13 +48,38 @@ link c v one k
 close
 ";
 
+/// The events of these graphs: `k` waits, so the link adds no line.
+const EVENTS: &str = "event one k pending
+event two v pending
+";
+
+fn is_the_link(link: &Link) -> bool {
+    link.line.bytes() == b"c".as_slice()
+        && link.user.bytes() == b"v".as_slice()
+        && link.graph.bytes() == b"one".as_slice()
+        && link.op.bytes() == b"k".as_slice()
+}
+
+/// Whether these are the two graphs, each with one line.
+fn are_the_two(entries: &[Entry]) -> bool {
+    let [one, two] = entries else {
+        return false;
+    };
+    let [link] = two.links.items.as_slice() else {
+        return false;
+    };
+    let is_named = one.name.bytes() == b"one".as_slice() && two.name.bytes() == b"two".as_slice();
+    let is_read = one.graph.lines() == 1 && two.graph.lines() == 1 && one.links.len() == 0;
+    is_named && is_read && is_the_link(link)
+}
+
 fn reads(alloc: Global) -> Result<(), Fail> {
     let bytes = TEXT.as_bytes();
     if bytes.len() > 1_048_576 {
         return Err("a long text".into());
     }
     match read_session(alloc, bytes) {
-        Ok(entries) => after("read_session", false, entries.len() == 2),
+        Ok(entries) => after("read_session", false, are_the_two(entries.as_slice())),
         Err(refusal) => {
             let again = read_session(alloc, bytes).is_ok();
             after(
@@ -69,7 +97,10 @@ fn runs(alloc: Global) -> Result<(), Fail> {
         return Err("no memory".into());
     };
     match run_entries(alloc, entries, 3) {
-        Ok(ended) => after("run_session", false, ended.graphs.len() == 2),
+        Ok(ended) => {
+            let events = event_lines(alloc, &ended)?;
+            after("run_session", false, events.as_slice() == EVENTS.as_bytes())
+        }
         Err(fault) => {
             let again = run_text(alloc, TEXT, 3).is_ok();
             after("run_session", true, is_no_memory(&fault) && again)

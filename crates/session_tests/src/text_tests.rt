@@ -5,6 +5,7 @@ use graph_reader::ReadRefusal;
 use session_text::read_session;
 use std::alloc::{AllocError, Global};
 use std::test::Fail;
+use test_texts::generated::numbered;
 
 /// Two graphs, up to the last line of the second.
 pub(crate) const TWO_GRAPHS: &str = "realm-session 1
@@ -218,5 +219,24 @@ end
             16
         )?
     );
+    Ok(())
+}
+
+// two graphs of 2,000 users, each with a link: those of the first to one line, those of the second to these links
+#[test]
+fn links_to_links(rt: HostRuntime) -> Result<(), Fail> {
+    let alloc = rt.alloc();
+    let users = numbered(alloc, 2000, "u# = user\n")?;
+    let to_line = numbered(alloc, 2000, "link l# u# a u\n")?;
+    let to_links = numbered(alloc, 2000, "link l# u# b l#\n")?;
+    let text = format!(in alloc;
+        "realm-session 1\ngraph a\nrealm 1\nu = user\nend\n\
+        graph b\nrealm 1\n{users}end\n{to_line}\
+        graph c\nrealm 1\n{users}end\n{to_links}"
+    )?;
+    let whole = format!(in alloc; "{text}close\n")?;
+    assert!(rt; reads(alloc, whole.as_str(), 3));
+    let one_more = format!(in alloc; "{text}graph d\nrealm 1\nu = user\nend\nlink l u b l2000\n")?;
+    assert!(rt; refuses(alloc, one_more.as_str(), 8016, Why::Unknown));
     Ok(())
 }

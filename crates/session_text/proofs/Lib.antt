@@ -6,3 +6,4 @@ pub mod Parts
 pub mod GraphEnds
 pub mod Stops
 pub mod OneText
+pub mod OpNames

@@ -1,11 +1,11 @@
 -- What a line that was read adds to the graphs so far, and what is said of one that is refused.
-use Rattle.std.proofs.Common.{◌≡◌, ℕ, ◌+◌, ◌<◌, ◌≤◌, Bool, true, false, cond, not, ◌&&◌, ◌||◌, inl, inr, List, [], ◌∷◌, ◌++◌, ◌⊎◌, length, refl, sym, ◌∙◌, ap, subst, append_assoc, append-nil, length-append, arith}
+use Rattle.std.proofs.Common.{◌≡◌, ℕ, ◌+◌, ◌<◌, ◌≤◌, Bool, true, false, cond, not, ◌&&◌, ◌||◌, inl, inr, List, [], ◌∷◌, ◌++◌, ◌⊎◌, length, map, refl, sym, ◌∙◌, ap, subst, append_assoc, append-nil, length-append, arith}
 use Rattle.std.specs.Prelude.{◌≢◌, ◌==◌, Option, Some, None, nat_lt, codes, flat_map, sum_by}
 use Rattle.std.specs.List.{list_any, join_with_byte}
 use Rattle.std.specs.Str.{bytes_eq}
 use Rattle.std.proofs.lemmas.Bool.{cond-true, cond-false, and_parts, or_parts, or_from, or_left, or_right, lt-ltb, le-ltb, ltb-true, ltb-false, eqb-true}
 use Rattle.std.proofs.lemmas.Option.{none-some}
-use Rattle.std.proofs.lemmas.List.{take-append-drop}
+use Rattle.std.proofs.lemmas.List.{take-append-drop, map-append}
 use Rattle.std.proofs.lemmas.List.Sums.{sum_by-cons}
 use Rattle.std.proofs.lemmas.List.Folds.{list_any-append}
 use Rattle.graph_model.specs.declared.graph.why.Why.{Why}
@@ -33,7 +33,7 @@ use Rattle.session_text.specs.declared.so_far.SoFar.{SoFar}
 use Rattle.session_text.specs.Session.{graph_line, link_text, entry_text, first_text, closing, session_head, session_text, entry_count, session_count}
 use Rattle.session_text.specs.Fits.{with_trigger, with_triggers, trigger_reason, all_lines, all_cells, is_above, is_large, graph_reason, link_reason, with_link, bare_entry, names_op, is_named, AreEntries, SessionText}
 use Rattle.session_text.specs.FirstFault.{word_at, is_graph_line, is_link_line, link_of, with_last, last_reason, words_reason, line_reason, next_reason, SessionFault, IsRefusal}
-use Rattle.session_text.specs.SoFar.{last_entry, entries_in, IsJudged, IsSoFar, HasRead, IsLineAt, IsRefusedBehind, added_reason, LinkAdded, GraphAdded}
+use Rattle.session_text.specs.SoFar.{last_entry, entries_in, judged_of, with_judged, IsJudged, IsSoFar, HasRead, IsLineAt, IsRefusedBehind, added_reason, LinkAdded, GraphAdded}
 use Rattle.session_text.proofs.Entries.{link_fits, push_entry, last_fits, bare_fits, triggers_push, lines_push, cells_push, count_push, head_push, head_link, count_link, lines_link, cells_link}
 
 -- a line that is refused by its words
@@ -150,6 +150,7 @@ so_far_link old new l r a h =
     record {
       first = λ none. absurd (none-some a.last_new.entry (sym none ∙ ap last_entry a.is));
       entries = subst AreEntries (sym is) (push_entry before (with_link e l) fits.0 (link_fits before e l fits.1 reason));
+      judged_before = a.judged ∙ (r.judged_before ∙ ap (map judged_of) (sym a.before));
       judged = subst IsJudged (sym a.is) (a.adds.judged ∙ (ap (λ g. with_trigger g l) judged ∙ (sym (triggers_push e.graph e.links l) ∙ ap (λ (x : Entry). with_triggers x.graph x.links) (sym a.adds.entry))));
       lines = a.lines ∙ (ap (λ n. n + 1) (r.lines ∙ ap all_lines was) ∙ (sym (lines_link before e l) ∙ ap all_lines (sym is)));
       cells = a.cells ∙ (r.cells ∙ (ap all_cells was ∙ (sym (cells_link before e l) ∙ ap all_cells (sym is))));
@@ -173,6 +174,11 @@ link_taken bytes rest old new ws after number r at k a h =
       number_is = (let n : number ≡ session_count (entries_in old) + 1 = r.number_is in omega arith);
     }
 
+-- the graphs so far with their links as triggers, by those before the last
+judged_with : (before : List Entry) (judged : List GraphValue) (last : Option Last) → judged ≡ map judged_of before → IsJudged last → with_judged judged last ≡ map judged_of (with_last before (last_entry last))
+judged_with before judged None h j = h
+judged_with before judged (Some l) h j = ap (λ gs. gs ++ l.judged ∷ []) h ∙ (ap (λ g. map judged_of before ++ g ∷ []) j ∙ sym (map-append judged_of before (l.entry ∷ [])))
+
 -- a graph was added to those so far
 pub so_far_graph : (old new : SoFar) (name : List ℕ) (g : GraphValue) (lines cells : ℕ) → IsSoFar old → graph_reason (entries_in old) name ≡ None → IsGraph g →
     GraphAdded old (record { entry = bare_entry name g; judged = g }) lines cells new → lines ≡ old.lines + length g.lines → cells ≡ old.cells + cell_count g → is_above lines cells ≡ false → IsSoFar new
@@ -187,6 +193,7 @@ so_far_graph old new name g lines cells r named graph a ls cs short =
       first = λ none. absurd (none-some e (sym none ∙ ap last_entry a.is));
       entries = subst AreEntries (sym is) (push_entry es e r.entries (bare_fits es name g named graph few));
       judged = subst IsJudged (sym a.is) refl;
+      judged_before = a.judged ∙ (judged_with old.before.items old.judged.items old.last r.judged_before r.judged ∙ ap (map judged_of) (sym a.before));
       lines = a.lines_are ∙ (all ∙ ap all_lines (sym is));
       cells = a.cells_are ∙ (every ∙ ap all_cells (sym is));
       short = ap is_large is ∙ few;

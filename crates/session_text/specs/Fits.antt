@@ -33,9 +33,13 @@ with_triggers g (l ∷ ls) = with_triggers (with_trigger g l) ls
 abbrev pub has_op : Entry → List ℕ → Bool
 has_op e w = is_line_name e.graph w || list_any (λ (l : Link). bytes_eq l.line w) e.links
 
+-- a link names this graph, and an operation of it
+abbrev pub names_op_of : Link → Entry → Bool
+names_op_of l e = bytes_eq e.name l.graph && has_op e l.op
+
 -- the graph that a link names is among these, and has its operation
 abbrev pub names_op : List Entry → Link → Bool
-names_op before l = list_any (λ (e : Entry). bytes_eq e.name l.graph && has_op e l.op) before
+names_op before l = list_any (names_op_of l) before
 
 -- the names of a link are spelled as names
 abbrev pub is_named : Link → Bool

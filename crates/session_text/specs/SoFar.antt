@@ -1,8 +1,9 @@
 -- What a reader keeps of the graphs and links so far.
-use Rattle.std.specs.Prelude.{◌≡◌, ℕ, ◌+◌, Bool, true, false, cond, List, [], ◌++◌, Option, Some, None, codes}
+use Rattle.std.specs.Prelude.{◌≡◌, ℕ, ◌+◌, Bool, true, false, cond, List, [], ◌∷◌, ◌++◌, map, Option, Some, None, codes}
 use Rattle.std.specs.Str.{bytes_eq}
 use Rattle.graph_model.specs.declared.graph.why.Why.{Why}
 use Rattle.graph_model.specs.declared.graph.why.Why.TheVariants as why
+use Rattle.graph_model.specs.graph.Graph.{GraphValue}
 use Rattle.graph_reader.specs.declared.ReadRefusal.{ReadRefusal}
 use Rattle.graph_reader.specs.declared.ReadRefusal.TheVariants as refusals
 use Rattle.graph_reader.specs.Words.{pieces}
@@ -24,15 +25,28 @@ last_entry (Some l) = Some l.entry
 abbrev pub entries_in : SoFar → List Entry
 entries_in s = with_last s.before.items (last_entry s.last)
 
+-- a graph with its links as triggers
+abbrev pub judged_of : Entry → GraphValue
+judged_of e = with_triggers e.graph e.links
+
+-- the graphs so far, as they are kept with their links as triggers
+abbrev pub with_judged : List GraphValue → Option Last → List GraphValue
+with_judged before None = before
+with_judged before (Some l) = before ++ l.judged ∷ []
+
+abbrev pub judged_in : SoFar → List GraphValue
+judged_in s = with_judged s.judged.items s.last
+
 -- the last graph with its links as triggers
 abbrev pub IsJudged : Option Last → Type 0
 IsJudged None = Unit {0}
-IsJudged (Some l) = l.judged ≡ with_triggers l.entry.graph l.entry.links
+IsJudged (Some l) = l.judged ≡ judged_of l.entry
 
 pub record IsSoFar (s : SoFar) : Type 0 where
   pub first : last_entry s.last ≡ None → s.before.items ≡ []
   pub entries : AreEntries (entries_in s)
   pub judged : IsJudged s.last
+  pub judged_before : s.judged.items ≡ map judged_of s.before.items
   pub lines : s.lines ≡ all_lines (entries_in s)
   pub cells : s.cells ≡ all_cells (entries_in s)
   pub short : is_large (entries_in s) ≡ false
@@ -79,12 +93,14 @@ pub record LinkAdded (old : SoFar) (l : Link) (new : SoFar) : Type 0 where
   pub is : new.last ≡ Some last_new
   pub adds : AddsLink last_old l last_new
   pub before : new.before.items ≡ old.before.items
+  pub judged : new.judged.items ≡ old.judged.items
   pub lines : new.lines ≡ old.lines + 1
   pub cells : new.cells ≡ old.cells
 
 -- one graph more at the end, with which there are so many lines and cells
 pub record GraphAdded (old : SoFar) (last : Last) (lines cells : ℕ) (new : SoFar) : Type 0 where
   pub before : new.before.items ≡ entries_in old
+  pub judged : new.judged.items ≡ judged_in old
   pub is : new.last ≡ Some last
   pub lines_are : new.lines ≡ lines
   pub cells_are : new.cells ≡ cells

@@ -1,13 +1,13 @@
 //! Links: their names, and what they name.
 
 ghost use Rattle.basics.specs.Words.{contents};
-ghost use Rattle.std.specs.Prelude.{◌≡◌, ◌∷◌, [], true, false, not, position, None, Some, IfOk, OnOk, MatchOption};
-ghost use Rattle.std.specs.List.{list_any};
+ghost use Rattle.std.specs.Prelude.{◌≡◌, ◌∷◌, [], true, false, not, map, position, None, Some, IfOk, OnOk, MatchOption};
 ghost use Rattle.std.specs.Str.{bytes_eq};
 ghost use Rattle.graph_model.specs.graph.Fits.{first_reason, is_used, line_fault, with_line};
 ghost use Rattle.graph_reader.specs.FirstFault.{is_line_name};
-ghost use Rattle.session_text.specs.Fits.{has_op, names_op, is_named, trigger_reason, with_trigger};
+ghost use Rattle.session_text.specs.Fits.{names_op, names_op_of, is_named, trigger_reason, with_trigger};
 ghost use Rattle.session_text.specs.FirstFault.{link_of};
+ghost use Rattle.session_text.specs.SoFar.{judged_of};
 
 use crate::entry::{Entry, Link};
 use crate::words::word;
@@ -49,25 +49,27 @@ fn is_line_name(graph: &Graph, name: &Name) -> bool
     find_line(graph, name).is_some()
 }
 
-/// Whether the graph has an operation of this name.
-fn has_op(entry: &Entry, name: &Name) -> bool
-    ensures { result ≡ has_op entry.now name.now }
+/// Whether a link names this graph, and an operation of it. `judged` is the graph with its links as triggers, so that
+/// the table of its names finds a link as it finds a line.
+fn names_op_of(entry: &Entry, judged: &Graph, link: &Link) -> bool
+    requires judged { judged.now ≡ judged_of entry.now }
+    ensures { result ≡ names_op_of link.now entry.now }
 {
-    is_line_name(&entry.graph, name) || is_link_name(entry.links.items.as_slice(), name)
+    entry.name == link.graph && is_line_name(judged, &link.op)
 }
 
-/// Whether one of these links has this name.
-fn is_link_name(links: &[Link], name: &Name) -> bool
-    ensures { result ≡ list_any (λ l. bytes_eq l.line name.now) links.now }
-{
-    links.iter().any(|link| link.line == *name)
-}
-
-/// Whether the graph that a link names is among these, and has its operation.
-pub(crate) fn names_op(before: &[Entry], link: &Link) -> bool
+/// Whether the graph that a link names is among these, and has its operation. Beside them stand the same graphs with
+/// their links as triggers.
+pub(crate) fn names_op(before: &[Entry], judged: &[Graph], link: &Link) -> bool
+    requires judged { judged.now ≡ map judged_of before.now }
     ensures { result ≡ names_op before.now link.now }
 {
-    before.iter().any(|entry| entry.name == link.graph && has_op(entry, &link.op))
+    for (place, entry) in before.iter().enumerate() {
+        if names_op_of(entry, &judged[place], link) {
+            return true;
+        }
+    }
+    false
 }
 
 /// Puts the line of a link at the end as a trigger, where it fits, else the first reason that refuses it.

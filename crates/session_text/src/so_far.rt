@@ -11,7 +11,7 @@ ghost use Rattle.graph_reader.specs.FirstFault.{is_empty};
 ghost use Rattle.session_text.specs.Fits.{bare_entry, graph_reason, is_above};
 ghost use Rattle.session_text.specs.FirstFault.{word_at, is_graph_line, is_link_line, link_of, last_reason};
 ghost use Rattle.session_text.specs.declared.limits.TheConstants.{MAX_SESSION_LINES};
-ghost use Rattle.session_text.specs.SoFar.{last_entry, entries_in, IsSoFar, ReadsOn, RefusedThere, IsRefusedBehind, added_reason, AddsLink, LinkAdded, GraphAdded, GraphTaken, GraphRefused};
+ghost use Rattle.session_text.specs.SoFar.{last_entry, entries_in, judged_in, IsSoFar, ReadsOn, RefusedThere, IsRefusedBehind, added_reason, AddsLink, LinkAdded, GraphAdded, GraphTaken, GraphRefused};
 
 use crate::entry::{Entry, Link};
 use crate::limits::{MAX_GRAPHS, MAX_SESSION_LINES};
@@ -59,6 +59,8 @@ impl Last {
 #[derive(Drop)]
 pub(crate) struct SoFar {
     pub(crate) before: Vec<Entry>,
+    // The graphs before the last one, each with its links as triggers: its table of names has its links too.
+    pub(crate) judged: Vec<Graph>,
     pub(crate) last: Option<Last>,
     pub(crate) lines: u32,
     pub(crate) cells: u64,
@@ -79,6 +81,7 @@ impl SoFar {
     {
         SoFar {
             before: Vec::new(alloc),
+            judged: Vec::new(alloc),
             last: None,
             lines: 0,
             cells: 0,
@@ -250,12 +253,14 @@ impl SoFar {
     /// Puts the last graph to those before it.
     fn close_last(&mut self) -> Result<(), NoMemory>
         ensures before { OnOk result (self.new.before.items ≡ entries_in self.old) }
+        ensures judged { OnOk result (self.new.judged.items ≡ judged_in self.old) }
         ensures last { OnOk result (self.new.last ≡ None) }
     {
-        match self.last.take() {
-            Some(last) => push(&mut self.before, last.entry),
-            None => Ok(()),
-        }
+        let Some(last) = self.last.take() else {
+            return Ok(());
+        };
+        push(&mut self.judged, last.judged)?;
+        push(&mut self.before, last.entry)
     }
 
     /// All graphs.
@@ -277,7 +282,7 @@ impl SoFar {
         let Some(link) = link_of(words) else {
             return Ok(Some(Why::Name));
         };
-        if !names_op(self.before.as_slice(), &link) {
+        if !names_op(self.before.as_slice(), self.judged.as_slice(), &link) {
             return Ok(Some(Why::Unknown));
         }
         let Some(mut last) = self.last.take() else {

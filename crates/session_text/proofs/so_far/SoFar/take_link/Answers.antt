@@ -1,13 +1,16 @@
-use Rattle.std.proofs.Common.{◌≡◌, true, ap, sym, ◌∙◌, subst, refl}
+use Rattle.std.proofs.Common.{◌≡◌, true, map, ap, sym, ◌∙◌, subst, refl}
 use Rattle.std.specs.Prelude.{nat_lt, is_some}
 use Rattle.std.proofs.lemmas.Bool.{true≢false}
 use Rattle.basics.specs.Words.{contents}
 use Rattle.session_text.specs.Fits.{names_op}
 use Rattle.session_text.specs.FirstFault.{link_of, last_reason}
-use Rattle.session_text.specs.SoFar.{last_entry, added_reason, AddsLink}
+use Rattle.session_text.specs.SoFar.{last_entry, judged_of, added_reason, AddsLink}
 use Rattle.session_text.proofs.Steps.{added_is, few_links}
 use Rattle.session_text.proofs.so_far.SoFar.take_link.Goals.{In-Some-take, In_ok-why}
 use Rattle.session_text.proofs.so_far.SoFar.take_link.Goals as goal
+
+pub names_op-requires : goal.names_op-requires
+names_op-requires c = record { judged = c.as_slice-2.ensures.value ∙ (c.requires.so_far.judged_before ∙ ap (map judged_of) (sym c.as_slice.ensures.value)) }
 
 pub add_link-requires : goal.add_link-requires
 add_link-requires c = record { few = few_links c.args.self.now c.in-Some-take.last c.requires.so_far (sym c.in-Some-take.ensures.value) }
@@ -31,6 +34,7 @@ returns-then-is_none-clause-added c = λ none. record {
   is = refl;
   adds = subst (λ l. AddsLink c.in-Some-take.last l c.add_link.new.self) c.in-Some.ensures.0 (c.in_ok-why.ensures.added (sym (reason (goal.at.returns-then-is_none-clause-added c).In_ok-why) ∙ none));
   before = refl;
+  judged = refl;
   lines = refl;
   cells = refl;
 }
