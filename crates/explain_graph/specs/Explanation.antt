@@ -65,7 +65,7 @@ pub record AreSectionsOf (g : GraphValue) (i : ℕ) (acquires : List ℕ) : Type
   pub sound : (q : ℕ) → Contains acquires q → (l : ℕ) × Section g l q i
   pub complete : (l q : ℕ) → Section g l q i → Contains acquires q
 
--- where lines i and j meet, that neither waits for the other, which line both wait for, and, where what they do there may come in either order, the sections in which they lie, which do not set them apart
+-- where lines i and j meet, that neither waits for the other, which line both wait for, whether what they do there may come in either order, and the sections in which they lie, which do not set them apart
 pub record IsConflictReason (g : GraphValue) (i j : ℕ) (r : ConflictReason) : Type 0 where
   pub first : r.first ≡ i
   pub second : r.second ≡ j
@@ -73,7 +73,9 @@ pub record IsConflictReason (g : GraphValue) (i j : ℕ) (r : ConflictReason) : 
   pub forward : HasPath g i j → ⊥
   pub backward : HasPath g j i → ⊥
   pub meeting : MatchOption r.race.meeting ((k : ℕ) → HasPath g k i → HasPath g k j → ⊥) (IsNearestCommon g i j)
-  pub sections : MatchOption r.sections (modes_commute r.race.shared.one.mode r.race.shared.other.mode ≡ false) (λ s. AreSectionsOf g i s.first.items × AreSectionsOf g j s.second.items)
+  pub commutes : r.commutes ≡ modes_commute r.race.shared.one.mode r.race.shared.other.mode
+  pub first_sections : AreSectionsOf g i r.sections.first.items
+  pub second_sections : AreSectionsOf g j r.sections.second.items
   pub not_exempt : Exempt g i j → ⊥
 
 -- an explanation of just this refusal

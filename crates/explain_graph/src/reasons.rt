@@ -69,14 +69,15 @@ pub struct Sections {
     pub second: Vec<u32>,
 }
 
-/// Two lines that race, and why they do. Where both reduce into the point that they share in one
-/// way, the sections in which they lie, which do not set them apart.
+/// Two lines that race, and why they do, with the sections in which they lie, which do not set them
+/// apart, and whether both reduce in one way into the point that they share.
 #[derive(Drop)]
 pub struct ConflictReason {
     pub first: u32,
     pub second: u32,
     pub race: RaceReason,
-    pub sections: Option<Sections>,
+    pub commutes: bool,
+    pub sections: Sections,
 }
 
 /// Explains a cycle.
@@ -207,22 +208,16 @@ pub(crate) fn explain_conflict(
     ensures { IfOk result (IsConflictReason graph.now first second) }
 {
     let race = explain_race(alloc, graph, first, second)?;
-    if !modes_commute(race.shared.one.mode, race.shared.other.mode) {
-        return Ok(ConflictReason {
-            first,
-            second,
-            race,
-            sections: None,
-        });
-    }
-    let sections = Some(Sections {
+    let commutes = modes_commute(race.shared.one.mode, race.shared.other.mode);
+    let sections = Sections {
         first: sections_of(alloc, graph, first)?,
         second: sections_of(alloc, graph, second)?,
-    });
+    };
     Ok(ConflictReason {
         first,
         second,
         race,
+        commutes,
         sections,
     })
 }

@@ -9,7 +9,7 @@ use Rattle.std.proofs.lemmas.Grind.{flat_map-append}
 use Rattle.basics.specs.Words.{contents}
 use Rattle.graph_model.specs.declared.graph.verb.Edge.{Edge}
 use Rattle.graph_model.specs.graph.Graph.{GraphValue}
-use Rattle.explain_text.specs.Refused.{in_sections}
+use Rattle.explain_text.specs.Refused.{in_sections, order_text, held_text, advice_text}
 use Rattle.explain_text.specs.Unread.{blank_word}
 use Rattle.explain_text.specs.Lines.{by_number, numbered, edge_text, edges_text, lines_text}
 
@@ -71,6 +71,22 @@ in_none g ls i (q ∷ qs) e = absurd (let z : length (q ∷ qs) ≡ 0 = eqb-true
 pub in_some : (g : GraphValue) (ls : List (List ℕ)) (i : ℕ) (qs : List ℕ) → (length qs == 0) ≡ false → by_number g i ++ (codes " lies in the section of\n" ++ lines_text g ls qs) ≡ in_sections g ls i qs
 in_some g ls i [] e = absurd (true≢false e)
 in_some g ls i (q ∷ qs) e = refl
+
+-- what would order two lines, of which the second lies in no section or in some
+pub advice_none : (g : GraphValue) (ls : List (List ℕ)) (i j : ℕ) (qs : List ℕ) → (length qs == 0) ≡ true → order_text g i j ≡ advice_text g ls i j qs
+advice_none g ls i j [] e = refl
+advice_none g ls i j (q ∷ qs) e = absurd (let z : length (q ∷ qs) ≡ 0 = eqb-true (length (q ∷ qs)) 0 e in omega arith)
+
+pub advice_some : (g : GraphValue) (ls : List (List ℕ)) (i j : ℕ) (qs : List ℕ) → (length qs == 0) ≡ false → held_text g ls i j qs ≡ advice_text g ls i j qs
+advice_some g ls i j [] e = absurd (true≢false e)
+advice_some g ls i j (q ∷ qs) e = refl
+
+-- the text of one more number
+pub each_more : (f : ℕ → List ℕ) (old mid new : List ℕ) (is : List ℕ) (k : ℕ) → k < length is → mid ≡ old ++ flat_map f (take k is) → new ≡ mid ++ f (slice_index is k) → new ≡ old ++ flat_map f (take (k + 1) is)
+each_more f old mid new is k below first second =
+    let pushed : flat_map f (take (k + 1) is) ≡ flat_map f (take k is) ++ f (slice_index is k) =
+    ap (flat_map f) (take_more is k 0 below) ∙ (flat_map-append f (take k is) (slice_index is k ∷ []) ∙ ap (λ z. flat_map f (take k is) ++ z) (append-nil (f (slice_index is k)))) in
+    then_put old mid new (flat_map f (take k is)) (f (slice_index is k)) first second ∙ ap (λ z. old ++ z) (sym pushed)
 
 -- spaces as wide as one more word
 pub blanks_more : (words : List (Bor (List ℕ))) (k : ℕ) (d : Bor (List ℕ)) (old mid wide new : List ℕ) → k < length words → mid ≡ old ++ flat_map blank_word (contents (take k words)) →

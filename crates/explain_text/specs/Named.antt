@@ -65,6 +65,27 @@ abbrev pub told_words : (ℕ → Option (List ℕ)) → ℕ → List (List ℕ)
 told_words f zero = []
 told_words f (suc n) = told_words f n ++ option_list (f n)
 
+-- the third word of a line: of an instance its space
+abbrev pub third_of : List (List ℕ) → List ℕ
+third_of (first ∷ second ∷ third ∷ rest) = third
+third_of _ = []
+
+-- that of the topmost line above line `number` that gives a name
+abbrev pub third_at : List (List ℕ) → Option ℕ → List ℕ
+third_at ls None = []
+third_at ls (Some k) = third_of (pieces 32 (slice_index_or ls k []))
+
+abbrev pub over_word : List (List ℕ) → ℕ → List ℕ → List ℕ
+over_word ls number inst = third_at ls (first_giving inst 0 (take (number - 1) ls))
+
+-- the space over which the instance of a column is declared
+abbrev pub space_in : List (List ℕ) → ℕ → Option Place → List ℕ → Option (List ℕ)
+space_in ls number (Some Column) w = Some (over_word ls number (first_piece (pieces 46 w)))
+space_in ls number _ w = None
+
+abbrev pub space_word : Format → List (List ℕ) → ℕ → List (List ℕ) → ℕ → Option (List ℕ)
+space_word format ls number ws k = space_in ls number (place_at format ws k) (slice_index_or ws k [])
+
 -- these are lines of the text
 pub record IsInside (n : ℕ) (x : NamedWord) : Type 0 where
   pub above : IfSome x.above (λ k. k < n)

@@ -1,11 +1,14 @@
 -- The text of each explanation.
-use Rattle.std.specs.Prelude.{ℕ, List, [], ◌∷◌, ◌++◌, codes, decimal, Option, Some, None, slice_get, Vec}
+use Rattle.std.specs.Prelude.{ℕ, ◌==◌, Bool, false, cond, List, [], ◌∷◌, ◌++◌, flat_map, codes, decimal, Option, Some, None, slice_get, Vec}
 use Rattle.std.specs.Option.{option_map_or}
+use Rattle.std.specs.List.{list_any}
 use Rattle.std.specs.Global.{Global}
 use Rattle.graph_model.specs.declared.graph.verb.Edge.{Edge}
 use Rattle.graph_model.specs.declared.graph.verb.Line.{Line}
 use Rattle.graph_model.specs.graph.Graph.{GraphValue}
 use Rattle.graph_model.specs.graph.Spelling.{line_name, lock_name, column_name}
+use Rattle.graph_model.specs.meaning.Reservations.{lock_at}
+use Rattle.graph_model.specs.meaning.Rules.{both_shared}
 use Rattle.explanations.specs.declared.meetings.Meeting.{Meeting}
 use Rattle.explanations.specs.declared.races.SharedPoint.{SharedPoint}
 use Rattle.explain_graph.specs.declared.reasons.CycleReason.{CycleReason}
@@ -70,6 +73,11 @@ meeting_text g ls None = codes "no line leads to both\n"
 meeting_text g ls (Some m) =
     codes "the nearest line that leads to both:\n" ++ (numbered g ls m.line ++ (codes "to the first:\n" ++ (edges_text g ls m.to_first.items ++ (codes "to the second:\n" ++ edges_text g ls m.to_second.items))))
 
+-- the sections in which a line lies
+abbrev pub in_sections : GraphValue → List (List ℕ) → ℕ → List ℕ → List ℕ
+in_sections g ls i [] = by_number g i ++ codes " lies in no section\n"
+in_sections g ls i (q ∷ qs) = by_number g i ++ (codes " lies in the section of\n" ++ lines_text g ls (q ∷ qs))
+
 -- what would order them: the second is to wait for the first
 abbrev pub advice_by : GraphValue → Option ℕ → ℕ → List ℕ
 advice_by g None i = codes "on " ++ (line_name g i ++ codes "\n")
@@ -78,24 +86,64 @@ advice_by g (Some e) i = codes "on a merge of " ++ (line_name g e ++ (codes " an
 abbrev pub on_of : GraphValue → ℕ → Option ℕ
 on_of g j = option_map_or (λ (l : Line). l.on) (slice_get g.lines j) None
 
-abbrev pub advice_text : GraphValue → ℕ → ℕ → List ℕ
-advice_text g i j = codes "to order them, put " ++ (by_number g j ++ (codes " " ++ advice_by g (on_of g j) i))
+abbrev pub order_text : GraphValue → ℕ → ℕ → List ℕ
+order_text g i j = codes "to order them, put " ++ (by_number g j ++ (codes " " ++ advice_by g (on_of g j) i))
 
--- the sections in which a line lies
-abbrev pub in_sections : GraphValue → List (List ℕ) → ℕ → List ℕ → List ℕ
-in_sections g ls i [] = by_number g i ++ codes " lies in no section\n"
-in_sections g ls i (q ∷ qs) = by_number g i ++ (codes " lies in the section of\n" ++ lines_text g ls (q ∷ qs))
+-- a line in a section may wait for another only where that comes before the acquire or behind it
+abbrev pub held_text : GraphValue → List (List ℕ) → ℕ → ℕ → List ℕ → List ℕ
+held_text g ls i j qs =
+    codes "to order them, let " ++ (by_number g j ++ (codes " wait for " ++ (by_number g i ++ (codes ", where that comes before each of these acquires or behind it:\n" ++ in_sections g ls j qs))))
 
-abbrev pub sections_text : GraphValue → List (List ℕ) → Option Sections → ℕ → ℕ → List ℕ
-sections_text g ls None i j = []
-sections_text g ls (Some s) i j =
-    codes "no reservation sets them apart: one that both acquire before and release behind, not both shared\n" ++ (in_sections g ls i s.first.items ++ in_sections g ls j s.second.items)
+abbrev pub advice_text : GraphValue → List (List ℕ) → ℕ → ℕ → List ℕ → List ℕ
+advice_text g ls i j [] = order_text g i j
+advice_text g ls i j (q ∷ qs) = held_text g ls i j (q ∷ qs)
+
+-- two acquires of one reservation
+abbrev pub are_equal : Option ℕ → Option ℕ → Bool
+are_equal (Some l) (Some k) = l == k
+are_equal _ _ = false
+
+abbrev pub of_one_lock : GraphValue → ℕ → ℕ → Bool
+of_one_lock g q k = are_equal (lock_at g q) (lock_at g k)
+
+-- why they set no two lines apart that lie in their sections: they are one acquire, or both are shared
+abbrev pub pair_by : GraphValue → ℕ → ℕ → List ℕ
+pair_by g q k =
+    cond (q == k) (codes "both lie in one section, that of " ++ (by_number g q ++ codes "\n"))
+    (cond (both_shared g q k) (by_number g q ++ (codes " and " ++ (by_number g k ++ codes " share one reservation\n"))) [])
+
+abbrev pub pair_text : GraphValue → ℕ → ℕ → List ℕ
+pair_text g q k = cond (of_one_lock g q k) (pair_by g q k) []
+
+-- of each acquire of the one list with each of the other
+abbrev pub pairs_with : GraphValue → List ℕ → ℕ → List ℕ
+pairs_with g ks q = flat_map (pair_text g q) ks
+
+abbrev pub pairs_text : GraphValue → List ℕ → List ℕ → List ℕ
+pairs_text g qs ks = flat_map (pairs_with g ks) qs
+
+-- that there are none
+abbrev pub have_pair : GraphValue → List ℕ → List ℕ → Bool
+have_pair g qs ks = list_any (λ q. list_any (of_one_lock g q) ks) qs
+
+abbrev pub none_text : Bool → List ℕ
+none_text some = cond some [] (codes "no two sections of theirs are of one reservation\n")
+
+-- what would set apart two reductions of one kind, and why their sections do not
+abbrev pub apart_text : GraphValue → List (List ℕ) → Sections → ℕ → ℕ → List ℕ
+apart_text g ls s i j =
+    codes "sections of one reservation would set them apart, by an acquire for each, not both shared\n"
+    ++ (in_sections g ls i s.first.items ++ (in_sections g ls j s.second.items ++ (pairs_text g s.first.items s.second.items ++ none_text (have_pair g s.first.items s.second.items))))
+
+abbrev pub sections_text : GraphValue → List (List ℕ) → Bool → Sections → ℕ → ℕ → List ℕ
+sections_text g ls commutes s i j = cond commutes (apart_text g ls s i j) []
 
 abbrev pub race_text : GraphValue → List (List ℕ) → ConflictReason → List ℕ
 race_text g ls r =
     refused_two g (codes "race") r.first r.second
     ++ (numbered g ls r.first ++ (numbered g ls r.second ++ (shared_text g r.race.shared r.first r.second
-    ++ (codes "neither waits for the other\n" ++ (meeting_text g ls r.race.meeting ++ (advice_text g r.first r.second ++ sections_text g ls r.sections r.first r.second))))))
+    ++ (codes "neither waits for the other\n" ++ (meeting_text g ls r.race.meeting
+    ++ (advice_text g ls r.first r.second r.sections.second.items ++ sections_text g ls r.commutes r.sections r.first r.second))))))
 
 abbrev pub explanation_text : GraphValue → List (List ℕ) → Explanation → List ℕ
 explanation_text g ls (Cycle r) = cycle_text g ls r

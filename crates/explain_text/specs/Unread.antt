@@ -4,6 +4,7 @@ use Rattle.std.specs.List.{slice_index_or}
 use Rattle.graph_model.specs.declared.graph.why.Why.{Why}
 use Rattle.graph_model.specs.declared.graph.why.Why.TheVariants as why
 use Rattle.graph_model.specs.graph.Graph.{GraphValue}
+use Rattle.refused_words.specs.declared.limits.Quantity.{Quantity}
 use Rattle.explain_text.specs.Lines.{by_number, line_of}
 
 abbrev pub why_word : Why → List ℕ
@@ -39,4 +40,12 @@ mark_text number ws (Some k) =
 -- the line that has done already what the refused line would do
 abbrev pub ended_text : GraphValue → List (List ℕ) → Option ℕ → List ℕ
 ended_text g ls None = []
-ended_text g ls (Some i) = by_number g i ++ (codes " did so already" ++ (codes ": " ++ (line_of g ls i ++ codes "\n")))
+ended_text g ls (Some i) = by_number g i ++ (codes " has ended or released it already" ++ (codes ": " ++ (line_of g ls i ++ codes "\n")))
+
+-- a quantity with its value and its bound
+abbrev pub passed_text : Quantity → List ℕ
+passed_text p = p.name.now ++ (codes ": " ++ (decimal p.value ++ (codes ", and at most " ++ (decimal p.bound ++ codes "\n"))))
+
+abbrev pub limit_text : Option Quantity → List ℕ
+limit_text None = []
+limit_text (Some p) = passed_text p

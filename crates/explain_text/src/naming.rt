@@ -5,7 +5,7 @@ ghost use Rattle.basics.specs.Words.{contents};
 ghost use Rattle.graph_reader.specs.Words.{pieces};
 ghost use Rattle.graph_reader.specs.FirstFault.{first_piece};
 ghost use Rattle.refused_words.specs.Places.{place_value};
-ghost use Rattle.explain_text.specs.Named.{IsNamedWord, IsInside, name_in, told_new, told_word, told_words, place_text, below_text, named_by, named_text, named_texts};
+ghost use Rattle.explain_text.specs.Named.{IsNamedWord, IsInside, name_in, told_new, told_word, told_words, third_of, over_word, space_word, place_text, below_text, named_by, named_text, named_texts};
 ghost use Rattle.explain_text.specs.declared.naming.NamedWord.{NamedWord};
 
 use crate::named::first_giving;
@@ -100,6 +100,77 @@ fn name_in(place: WordPlace, word: &[u8]) -> Option<&[u8]>
             | Place::Space,
         ) => Some(word),
         _ => None,
+    }
+}
+
+/// The spaces over which the instances of a line's columns are declared, one for each word that is a
+/// column, each with the lines that give it. The line is counted from 1.
+pub fn column_spaces<'a>(
+    alloc: Global,
+    format: Format,
+    lines: &[&'a [u8]],
+    number: u32,
+    words: &[&'a [u8]],
+) -> Result<Vec<NamedWord<'a>>, NoMemory>
+    ensures words { IfOk result (λ v. map (λ (x : NamedWord). x.word.now) v.items ≡ told_words (space_word format (contents lines.now) number (contents words.now)) (length words.now)) }
+    ensures named { IfOk result (λ v. (x : NamedWord) → Contains v.items x → IsNamedWord (contents lines.now) number x) }
+    ensures inside { IfOk result (λ v. (x : NamedWord) → Contains v.items x → IsInside (length lines.now) x) }
+{
+    let mut found = Vec::new(alloc);
+    for k in 0..words.len() {
+        if let Some(named) = column_space(format, lines, number, words, k) {
+            push(&mut found, named)?;
+        }
+    }
+    Ok(found)
+}
+
+/// The space over which the instance of the word of number `k` is declared, where that is a column.
+fn column_space<'a>(
+    format: Format,
+    lines: &[&'a [u8]],
+    number: u32,
+    words: &[&'a [u8]],
+    k: usize,
+) -> Option<NamedWord<'a>>
+    requires { k < length words.now }
+    ensures word { option_map (λ (x : NamedWord). x.word.now) result ≡ space_word format (contents lines.now) number (contents words.now) k }
+    ensures named { IfSome result (IsNamedWord (contents lines.now) number) }
+    ensures inside { IfSome result (IsInside (length lines.now)) }
+{
+    let word = words[k];
+    match place_at(format, words, k) {
+        Some(WordPlace::Of(Place::Column(..))) => {
+            let space = over_word(lines, number, before_dot(word));
+            Some(look_up(lines, number, space))
+        }
+        _ => None,
+    }
+}
+
+/// The third word of the line above that gives this name: of an instance its space.
+fn over_word<'a>(lines: &[&'a [u8]], number: u32, inst: &'a [u8]) -> &'a [u8]
+    ensures { result.now ≡ over_word (contents lines.now) number inst.now }
+{
+    match look_up(lines, number, inst).above {
+        Some(place) => third_word(lines[place]),
+        None => b"",
+    }
+}
+
+/// The third word of a line, none where there is none.
+fn third_word(line: &[u8]) -> &[u8]
+    ensures { result.now ≡ third_of (pieces 32 line.now) }
+{
+    let Some((_, behind)) = cut(line, b' ') else {
+        return b"";
+    };
+    let Some((_, rest)) = cut(behind, b' ') else {
+        return b"";
+    };
+    match cut(rest, b' ') {
+        Some((third, _)) => third,
+        None => rest,
     }
 }
 

@@ -3,7 +3,7 @@
 ghost use Rattle.std.specs.Prelude.{◌≡◌, ◌++◌, ◌-◌, [], flat_map, OnOk};
 ghost use Rattle.std.specs.List.{slice_index_or};
 ghost use Rattle.basics.specs.Words.{contents};
-ghost use Rattle.explain_text.specs.Unread.{why_word, unread_text, blank_word, mark_text, ended_text};
+ghost use Rattle.explain_text.specs.Unread.{why_word, unread_text, blank_word, mark_text, ended_text, passed_text, limit_text};
 
 use crate::lines::{put_by_number, put_line};
 use crate::split::front;
@@ -12,6 +12,7 @@ use graph_model::graph::Graph;
 use graph_model::why::Why;
 use graph_reader::words::word;
 use index_spaces::NoMemory;
+use refused_words::Quantity;
 
 /// Puts the line that `realm check` writes of a line that is refused, and then the line itself.
 pub fn put_unread(text: &mut Text, lines: &[&[u8]], number: u32, why: Why) -> Result<(), NoMemory>
@@ -73,8 +74,30 @@ pub fn put_ended(
         return Ok(());
     };
     put_by_number(text, graph, line)?;
-    text.put(b" did so already")?;
+    text.put(b" has ended or released it already")?;
     put_line(text, graph, lines, line)
+}
+
+/// Puts the quantity that a line brings above its bound, where there is one.
+pub fn put_limit(text: &mut Text, passed: Option<Quantity>) -> Result<(), NoMemory>
+    ensures { OnOk result (text.new ≡ text.old ++ limit_text passed) }
+{
+    match passed {
+        Some(quantity) => put_passed(text, quantity),
+        None => Ok(()),
+    }
+}
+
+/// Puts a quantity with its value and its bound.
+fn put_passed(text: &mut Text, quantity: Quantity) -> Result<(), NoMemory>
+    ensures { OnOk result (text.new ≡ text.old ++ passed_text quantity) }
+{
+    text.put(quantity.name)?;
+    text.put(b": ")?;
+    text.put_number(quantity.value)?;
+    text.put(b", and at most ")?;
+    text.put_number(quantity.bound)?;
+    text.put(b"\n")
 }
 
 /// A line by its number, counted from 1.

@@ -1,21 +1,20 @@
 //! The answer to the bytes of an input.
 
-ghost use Rattle.std.specs.Prelude.{◌≡◌, ◌≢◌, ◌<◌, length, Contains, None, IfOk, OnOk, IfSome, MatchOption};
+ghost use Rattle.std.specs.Prelude.{◌≡◌, ◌≢◌, length, option_map, Contains, None, IfOk, OnOk, MatchOption};
 ghost use Rattle.basics.specs.Words.{contents};
 ghost use Rattle.refused_words.specs.Ends.{IsEndedBy};
+ghost use Rattle.refused_words.specs.Limits.{quantity_value};
 ghost use Rattle.explain_text.specs.Named.{IsInside};
 ghost use Rattle.explain_text.specs.declared.naming.NamedWord.{NamedWord};
-ghost use Rattle.explain_top.specs.Answer.{IsAnswer, IsUnfitText, IsUnreadText, IsMarkedText, AreNamed};
-ghost use Rattle.explain_top.specs.declared.limits.Passed.{Passed};
+ghost use Rattle.explain_top.specs.Answer.{IsAnswer, IsUnfitText, IsUnreadText, IsMarkedText, AreNamed, AreSpaces, limit_for};
 ghost use Rattle.race_check.specs.Refusal.{IsRefusal, NamesLines};
 
 use crate::accepted::put_accepted;
-use crate::limits::{Passed, passed_limit, put_limit};
 use explain_graph::explain;
 use explain_text::split::split;
 use explain_text::{
-    NamedWord, Text, line_at, named_words, put_ended, put_explanation, put_mark, put_named_words,
-    put_unread, split_lines,
+    NamedWord, Text, column_spaces, line_at, named_words, put_ended, put_explanation, put_limit,
+    put_mark, put_named_words, put_unread, split_lines,
 };
 use graph_model::format::Format;
 use graph_model::graph::Graph;
@@ -24,7 +23,7 @@ use graph_reader::{Reading, Unread, read_text};
 use index_spaces::NoMemory;
 use race_check::check;
 use race_check::checked::{CheckRefusal, Unfit};
-use refused_words::{ended_by, refused_word};
+use refused_words::{Quantity, ended_by, passed_limit, refused_word};
 use std::alloc::Global;
 
 /// What becomes of an input.
@@ -122,11 +121,13 @@ fn put_behind(
     let mark = refused_word(alloc, graph, words.as_slice(), why)?;
     let ended = ended_for(graph, words.as_slice(), mark);
     let named = named_for(alloc, graph.format(), lines, number, words.as_slice(), why)?;
+    let spaces = spaces_for(alloc, graph.format(), lines, number, words.as_slice(), why)?;
     let passed = limit_for(alloc, graph, words.as_slice(), why)?;
     put_mark(text, number, words.as_slice(), mark)?;
     put_limit(text, passed)?;
     put_ended(text, graph, lines, ended)?;
-    put_named_words(text, lines, named.as_slice())
+    put_named_words(text, lines, named.as_slice())?;
+    put_named_words(text, lines, spaces.as_slice())
 }
 
 /// The line that has done already what the refused word would do.
@@ -159,14 +160,32 @@ fn named_for<'a>(
     }
 }
 
-/// The quantity that the line passes, where that is the reason.
+/// The spaces of the columns that the line names, for the reason that speaks of them.
+fn spaces_for<'a>(
+    alloc: Global,
+    format: Format,
+    lines: &[&'a [u8]],
+    number: u32,
+    words: &[&'a [u8]],
+    why: Why,
+) -> Result<Vec<NamedWord<'a>>, NoMemory>
+    ensures spaces { IfOk result (λ v. AreSpaces format (contents lines.now) number (contents words.now) why v.items) }
+    ensures inside { IfOk result (λ v. (x : NamedWord) → Contains v.items x → IsInside (length lines.now) x) }
+{
+    match why {
+        Why::Outside => column_spaces(alloc, format, lines, number, words),
+        _ => Ok(Vec::new(alloc)),
+    }
+}
+
+/// The quantity that the line brings above its bound, where that is the reason.
 fn limit_for(
     alloc: Global,
     graph: &Graph,
     words: &[&[u8]],
     why: Why,
-) -> Result<Option<Passed>, NoMemory>
-    ensures { IfOk result (λ o. IfSome o (λ (p : Passed). p.bound < p.value)) }
+) -> Result<Option<Quantity>, NoMemory>
+    ensures { IfOk result (λ o. option_map quantity_value o ≡ limit_for graph.now (contents words.now) why) }
 {
     match why {
         Why::Limit => passed_limit(alloc, graph, words),

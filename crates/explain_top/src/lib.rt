@@ -3,7 +3,6 @@
 
 mod accepted;
 pub mod answer;
-pub mod limits;
 pub mod program;
 
 pub use answer::{Answer, Verdict, explain_bytes};

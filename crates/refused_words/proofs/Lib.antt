@@ -1,1 +1,2 @@
 pub mod RefusedFacts
+pub mod LimitFacts

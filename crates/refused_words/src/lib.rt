@@ -1,11 +1,15 @@
-//! Which word of a refused line is refused, and which line above it has ended what that word names.
+//! Which word of a refused line is refused, which line above it has ended what that word names, and which quantity the line brings above its greatest value.
 #![tactic(auto)]
 
+mod declared;
 mod ends;
+pub mod limits;
+mod operations;
 mod places;
 mod refused;
 mod spelled;
 
 pub use ends::ended_by;
+pub use limits::{Quantity, passed_limit};
 pub use places::{WordPlace, place_at};
 pub use refused::refused_word;

@@ -43,7 +43,7 @@ pub fn place_at(format: Format, words: &[&[u8]], k: usize) -> Option<WordPlace>
 }
 
 /// Whether the words are those of an operation line.
-fn is_operation(words: &[&[u8]]) -> bool
+pub(crate) fn is_operation(words: &[&[u8]]) -> bool
     ensures { result ≡ is_operation (contents words.now) }
 {
     words.len() >= 2 && word(words, 1) == b"=".as_slice()

@@ -2,20 +2,6 @@ use Rattle.std.proofs.Common.{◌∙◌, refl, sym, inr}
 use Rattle.explain_graph.proofs.RefusalFacts.{meeting_of}
 use Rattle.explain_graph.proofs.reasons.explain_conflict.Goals as goal
 
-pub returns-then-not-modes_commute : goal.returns-then-not-modes_commute
-returns-then-not-modes_commute c =
-    let e = c.in_ok-race.ensures in
-    record {
-      first = refl;
-      second = refl;
-      shared = e.shared;
-      forward = e.forward;
-      backward = e.backward;
-      meeting = meeting_of c.args.graph.now c.args.first c.args.second c.in_ok-race.race.meeting e.meeting e.none;
-      sections = sym c.modes_commute.ensures ∙ c.if-not-modes_commute.true;
-      not_exempt = λ x. c.requires.refused.5.here (λ before conflict. inr (inr x));
-    }
-
 pub returns : goal.returns
 returns c =
     let e = c.in_ok-race.ensures in
@@ -26,6 +12,8 @@ returns c =
       forward = e.forward;
       backward = e.backward;
       meeting = meeting_of c.args.graph.now c.args.first c.args.second c.in_ok-race.race.meeting e.meeting e.none;
-      sections = (record { sound = c.in_ok-sections_of.ensures.sound; complete = c.in_ok-sections_of.ensures.complete }, record { sound = c.in_ok-sections_of-2.ensures.sound; complete = c.in_ok-sections_of-2.ensures.complete });
+      commutes = c.modes_commute-commutes.ensures;
+      first_sections = record { sound = c.in_ok-sections_of.ensures.sound; complete = c.in_ok-sections_of.ensures.complete };
+      second_sections = record { sound = c.in_ok-sections_of-2.ensures.sound; complete = c.in_ok-sections_of-2.ensures.complete };
       not_exempt = λ x. c.requires.refused.5.here (λ before conflict. inr (inr x));
     }

@@ -1,0 +1,330 @@
+-- The quantities of a graph with one more item.
+use Rattle.std.proofs.Common.{◌≡◌, ℕ, zero, suc, ◌+◌, ◌-◌, ◌<◌, ◌≤◌, Bool, true, false, cond, List, [], ◌∷◌, ◌++◌, length, map, take, drop, get_or, refl, sym, ◌∙◌, ap, subst, append_assoc, arith, ⊎_elim}
+use Rattle.std.specs.Prelude.{Option, Some, None, option_map, bytes_eq, filter_map, unwrap_or, find, filter, sum_by, is_some, codes, slice_index_or, ◌==◌, Contains, nat_lt}
+use Rattle.std.specs.Option.{option_map_or}
+use Rattle.std.proofs.lemmas.Bool.{cases_lt, eq-eqb, ne_eqb, cond-true, cond-false, true≢false}
+use Rattle.std.proofs.lemmas.List.{length-append, length-map, length-drop, append-nil, take_more}
+use Rattle.std.proofs.lemmas.Option.{slice_get-get_or}
+use Rattle.std.proofs.lemmas.List.Elements.{filter-append, filter_map-append}
+use Rattle.std.proofs.lemmas.List.Sums.{sum_by-append, sum_by-cons}
+use Rattle.std.proofs.lemmas.List.FromFn.{length-range_with_len}
+use Rattle.std.proofs.lemmas.Grind.{flat_map-append}
+use Rattle.basics.specs.Sums.{below}
+use Rattle.basics.proofs.ListFacts.{contains_here, contains_there}
+use Rattle.index_spaces.specs.Space.{space_size, points, interval_points}
+use Rattle.graph_model.specs.declared.graph.limits.TheConstants.{MAX_INSTS, MAX_COLUMNS, MAX_CELLS, MAX_LOCKS, MAX_BARRIERS, MAX_LINES, MAX_EDGES, MAX_EVENTS}
+use Rattle.graph_model.specs.declared.graph.decl.ColumnInfo.{ColumnInfo}
+use Rattle.graph_model.specs.declared.graph.decl.Decl.{Decl}
+use Rattle.graph_model.specs.declared.graph.decl.Decl.TheVariants.{Inst, Lock, Barrier}
+use Rattle.graph_model.specs.declared.graph.format.Format.{Format}
+use Rattle.graph_model.specs.declared.graph.table.Kind.{Kind}
+use Rattle.graph_model.specs.declared.graph.table.Kind.TheVariants as kinds
+use Rattle.graph_model.specs.declared.graph.verb.Edge.{Edge}
+use Rattle.graph_model.specs.declared.graph.verb.EdgeKind.{EdgeKind}
+use Rattle.graph_model.specs.declared.graph.verb.EdgeKind.TheVariants as edge_kinds
+use Rattle.graph_model.specs.declared.graph.verb.Line.{Line}
+use Rattle.graph_model.specs.declared.graph.verb.Verb.TheVariants.{Phase, Merge, MergeIgnore}
+use Rattle.graph_model.specs.graph.Graph.{GraphValue, lock_of, barrier_of, columns, locks, barriers, space_at, column_space, is_phase_of}
+use Rattle.graph_model.specs.graph.Edges.{edges, edges_into, last_place, edges_from_some, line_edges, verb_edges}
+use Rattle.graph_model.specs.graph.Fits.{IsGraph, LinesFit, is_inst, cell_count, with_decl, with_line}
+use Rattle.graph_model.specs.graph.Table.{verb_of}
+use Rattle.graph_model.specs.declared.kept.counts.Counts.{Counts}
+use Rattle.graph_model.proofs.RowLaws.{edges_push}
+use Rattle.graph_model.proofs.CountLaws.{counts_with_decl, cells_of_fields}
+use Rattle.graph_model.proofs.TableLaws.{limits_line}
+use Rattle.graph_reader.specs.Draft.{BarrierName, form_of, has_on, line_draft, merge_draft, lock_draft, barrier_draft, barrier_with, inst_draft, inst_with, op_of, space_number}
+use Rattle.graph_reader.proofs.LineShapes.{find_mapped, lock_shape, barrier_shape, inst_shape}
+use Rattle.graph_reader.specs.Kinds.{kind_draft, kind_verb, kind_line, named_number}
+use Rattle.graph_reader.specs.Merges.{merge_verb, merge_line}
+use Rattle.graph_reader.specs.Words.{pieces, count_of, value_of}
+use Rattle.index_spaces.specs.declared.Op.{Op}
+use Rattle.refused_words.specs.Limits.{QuantityValue, quantity_value, quantity, is_above, verb_quantities, limit_in, inst_limit}
+use Rattle.refused_words.specs.declared.limits.Quantity.{Quantity}
+
+lines_more : (g : GraphValue) (l : Line) → length (with_line g l).lines ≡ length g.lines + 1
+lines_more g l = length-append g.lines (l ∷ [])
+
+edges_more : (g : GraphValue) (l : Line) → length (edges (with_line g l)) ≡ length (edges g) + length (line_edges g.lines l)
+edges_more g l = ap length (edges_push g l) ∙ length-append (edges g) (line_edges g.lines l)
+
+-- a merge
+merge_edges : (g : GraphValue) (ignores : Bool) (name : List ℕ) (es : List (List ℕ)) → length (line_edges g.lines (merge_line g ignores name es)) ≡ length es
+merge_edges g true name es = length-map _ _ ∙ length-map es _
+merge_edges g false name es = length-map _ _ ∙ length-map es _
+
+abbrev merge_quantities : GraphValue → ℕ → List QuantityValue
+merge_quantities g n =
+    quantity (codes "operations") (length g.lines + 1) MAX_LINES
+    ∷ quantity (codes "events of a merge") n MAX_EVENTS
+    ∷ quantity (codes "edges") (length (edges g) + n) MAX_EDGES
+    ∷ []
+
+same_merge : (lines events edges n m k : ℕ) → lines ≡ n → events ≡ m → edges ≡ k →
+    find is_above (quantity (codes "operations") lines MAX_LINES ∷ quantity (codes "events of a merge") events MAX_EVENTS ∷ quantity (codes "edges") edges MAX_EDGES ∷ [])
+    ≡ find is_above (quantity (codes "operations") n MAX_LINES ∷ quantity (codes "events of a merge") m MAX_EVENTS ∷ quantity (codes "edges") k MAX_EDGES ∷ [])
+same_merge lines events edges n m k a b c = cc
+
+merge_some : (g : GraphValue) (name : List ℕ) (ignores : Bool) (es : List (List ℕ)) → 0 < length es → limit_in g (merge_draft g name (merge_verb ignores) es) ≡ find is_above (merge_quantities g (length es))
+merge_some g name ignores [] some = absurd (omega arith)
+merge_some g name true (e ∷ es) some =
+    same_merge _ _ _ _ _ _ (lines_more g (merge_line g true name (e ∷ es))) (length-map (e ∷ es) _) (edges_more g (merge_line g true name (e ∷ es)) ∙ ap (λ k. length (edges g) + k) (merge_edges g true name (e ∷ es)))
+merge_some g name false (e ∷ es) some =
+    same_merge _ _ _ _ _ _ (lines_more g (merge_line g false name (e ∷ es))) (length-map (e ∷ es) _) (edges_more g (merge_line g false name (e ∷ es)) ∙ ap (λ k. length (edges g) + k) (merge_edges g false name (e ∷ es)))
+
+same_three : (a b c x y z : QuantityValue) → a ≡ x → b ≡ y → c ≡ z → find is_above (a ∷ b ∷ c ∷ []) ≡ find is_above (x ∷ y ∷ z ∷ [])
+same_three a b c x y z p q r = cc
+
+pub merge_limit : (g : GraphValue) (name : List ℕ) (ignores : Bool) (ws : List (List ℕ)) (n : ℕ) (a b c : QuantityValue) → 2 ≤ length ws → n ≡ length ws - 1 → a ≡ quantity (codes "operations") (length g.lines + 1) MAX_LINES →
+    b ≡ quantity (codes "events of a merge") n MAX_EVENTS → c ≡ quantity (codes "edges") (length (edges g) + n) MAX_EDGES → find is_above (a ∷ b ∷ c ∷ []) ≡ limit_in g (merge_draft g name (merge_verb ignores) (drop 1 ws))
+merge_limit g name ignores ws n a b c some is first second third =
+    let left : length (drop 1 ws) ≡ length ws - 1 = length-drop 1 ws in
+    let same : n ≡ length (drop 1 ws) = omega arith in
+    same_three _ _ _ _ _ _ first (second ∙ ap (λ k. quantity (codes "events of a merge") k MAX_EVENTS) same) (third ∙ ap (λ k. quantity (codes "edges") (length (edges g) + k) MAX_EDGES) same)
+    ∙ sym (merge_some g name ignores (drop 1 ws) (omega arith))
+
+pub merge_none : (g : GraphValue) (name : List ℕ) (ignores : Bool) (ws : List (List ℕ)) → length ws < 2 → None ≡ limit_in g (merge_draft g name (merge_verb ignores) (drop 1 ws))
+merge_none g name ignores [] few = refl
+merge_none g name ignores (a ∷ []) few = refl
+merge_none g name ignores (a ∷ b ∷ bs) few = absurd (omega arith)
+
+-- a line that begins so is a merge
+pub as_merge : (g : GraphValue) (name : List ℕ) (ws : List (List ℕ)) (v : List ℕ) → v ≡ slice_index_or ws 0 [] → bytes_eq v (codes "merge") ≡ true → line_draft g name ws ≡ merge_draft g name (merge_verb false) (drop 1 ws)
+as_merge g name [] v e b = absurd (true≢false (sym b ∙ ap (λ x. bytes_eq x (codes "merge")) e))
+as_merge g name (w ∷ ws) v e b = cond-true (bytes_eq w (codes "merge")) (merge_draft g name Merge ws) _ (ap (λ x. bytes_eq x (codes "merge")) (sym e) ∙ b)
+
+pub as_mergei : (g : GraphValue) (name : List ℕ) (ws : List (List ℕ)) (v : List ℕ) → v ≡ slice_index_or ws 0 [] → bytes_eq v (codes "merge") ≡ false → bytes_eq v (codes "mergei") ≡ true → line_draft g name ws ≡ merge_draft g name (merge_verb true) (drop 1 ws)
+as_mergei g name [] v e b c = absurd (true≢false (sym c ∙ ap (λ x. bytes_eq x (codes "mergei")) e))
+as_mergei g name (w ∷ ws) v e b c = cond-false (bytes_eq w (codes "merge")) (merge_draft g name Merge ws) _ (ap (λ x. bytes_eq x (codes "merge")) (sym e) ∙ b)
+    ∙ cond-true (bytes_eq w (codes "mergei")) (merge_draft g name MergeIgnore ws) _ (ap (λ x. bytes_eq x (codes "mergei")) (sym e) ∙ c)
+
+pub first_of : (qs : List Quantity) → option_map quantity_value (find (λ (q : Quantity). nat_lt q.bound q.value) qs) ≡ find is_above (map quantity_value qs)
+first_of qs = sym (find_mapped is_above quantity_value qs)
+
+-- a line of a kind
+no_events : (kind : Kind) (ns : List ℕ) → verb_quantities (verb_of kind ns) ≡ []
+no_events kinds.User ns = refl
+no_events kind ns = refl
+
+pub edge_if : (kind : EdgeKind) (o : Option ℕ) (i : ℕ) → length (edges_from_some kind o i) ≡ cond (is_some o) 1 0
+edge_if kind None i = refl
+edge_if kind (Some e) i = refl
+
+on_there : (b : Bool) (e : ℕ) → is_some (cond b (Some e) None) ≡ b
+on_there true e = refl
+on_there false e = refl
+
+same_kind : (lines edges n k : ℕ) (qs : List QuantityValue) → lines ≡ n → edges ≡ k → qs ≡ [] →
+    find is_above (quantity (codes "operations") lines MAX_LINES ∷ qs ++ quantity (codes "edges") edges MAX_EDGES ∷ [])
+    ≡ find is_above (quantity (codes "operations") n MAX_LINES ∷ quantity (codes "edges") k MAX_EDGES ∷ [])
+same_kind lines edges n k qs a b c =
+    ap (λ xs. find is_above (quantity (codes "operations") lines MAX_LINES ∷ xs ++ quantity (codes "edges") edges MAX_EDGES ∷ [])) c
+    ∙ (let same : find is_above (quantity (codes "operations") lines MAX_LINES ∷ quantity (codes "edges") edges MAX_EDGES ∷ []) ≡ find is_above (quantity (codes "operations") n MAX_LINES ∷ quantity (codes "edges") k MAX_EDGES ∷ []) = cc in same)
+
+kind_some : (g : GraphValue) (kind : Kind) (name : List ℕ) (ws : List (List ℕ)) (given on : ℕ) → given ≡ length (verb_edges g.lines (length g.lines) (kind_verb g kind ws)) → on ≡ cond (has_on (form_of kind) ws) 1 0 →
+    limit_in g (Some (kind_draft g kind name ws)) ≡ find is_above (quantity (codes "operations") (length g.lines + 1) MAX_LINES ∷ quantity (codes "edges") (length (edges g) + (given + on)) MAX_EDGES ∷ [])
+kind_some g kind name ws given on is there =
+    let l : Line = kind_line g kind name ws in
+    let by_on : length (edges_from_some edge_kinds.Passes l.on (length g.lines)) ≡ on = edge_if edge_kinds.Passes l.on (length g.lines) ∙ (ap (λ b. cond b 1 0) (on_there (has_on (form_of kind) ws) _) ∙ sym there) in
+    let both : length (line_edges g.lines l) ≡ length (edges_from_some edge_kinds.Passes l.on (length g.lines)) + length (verb_edges g.lines (length g.lines) l.verb) = length-append (edges_from_some edge_kinds.Passes l.on (length g.lines)) (verb_edges g.lines (length g.lines) l.verb) in
+    let all : length (edges (with_line g l)) ≡ length (edges g) + length (line_edges g.lines l) = edges_more g l in
+    let verb : given ≡ length (verb_edges g.lines (length g.lines) l.verb) = is in
+    let sum : length (edges (with_line g l)) ≡ length (edges g) + (given + on) = omega arith in
+    same_kind _ _ _ _ (verb_quantities l.verb) (lines_more g l) sum (no_events kind _)
+
+same_two : (a b x y : QuantityValue) → a ≡ x → b ≡ y → find is_above (a ∷ b ∷ []) ≡ find is_above (x ∷ y ∷ [])
+same_two a b x y p q = cc
+
+pub kind_limit : (g : GraphValue) (kind : Kind) (name : List ℕ) (ws : List (List ℕ)) (given on : ℕ) (a b : QuantityValue) → given ≡ length (verb_edges g.lines (length g.lines) (kind_verb g kind ws)) → on ≡ cond (has_on (form_of kind) ws) 1 0 →
+    a ≡ quantity (codes "operations") (length g.lines + 1) MAX_LINES → b ≡ quantity (codes "edges") (length (edges g) + (given + on)) MAX_EDGES → find is_above (a ∷ b ∷ []) ≡ limit_in g (Some (kind_draft g kind name ws))
+kind_limit g kind name ws given on a b is there first second = same_two _ _ _ _ first second ∙ sym (kind_some g kind name ws given on is there)
+
+pub phase_verb : (g : GraphValue) (ws : List (List ℕ)) → 0 < length ws → kind_verb g kinds.Phase ws ≡ Phase (named_number g BarrierName (slice_index_or ws 0 []))
+phase_verb g [] some = absurd (omega arith)
+phase_verb g (w ∷ ws) some = refl
+
+pub phase_gives : (g : GraphValue) (ws : List (List ℕ)) (b : ℕ) (there : Bool) → 0 < length ws → b ≡ named_number g BarrierName (slice_index_or ws 0 []) → there ≡ is_some (last_place (is_phase_of b) 0 g.lines None) →
+    cond there 1 0 ≡ length (verb_edges g.lines (length g.lines) (kind_verb g kinds.Phase ws))
+phase_gives g ws b there some named is =
+    ap (λ t. cond t 1 0) is ∙ (sym (edge_if edge_kinds.Ignores (last_place (is_phase_of b) 0 g.lines None) (length g.lines))
+    ∙ (ap (λ n. length (verb_edges g.lines (length g.lines) (Phase n))) named ∙ ap (λ v. length (verb_edges g.lines (length g.lines) v)) (sym (phase_verb g ws some))))
+
+-- sums over the numbers below a bound
+below_same : (f h : ℕ → ℕ) → ((i : ℕ) → f i ≡ h i) → (n : ℕ) → below f n ≡ below h n
+below_same f h same zero = refl
+below_same f h same (suc n) = let a : below f n ≡ below h n = below_same f h same n in let b : f n ≡ h n = same n in omega arith
+
+below_plus : (f h : ℕ → ℕ) (n : ℕ) → below (λ i. f i + h i) n ≡ below f n + below h n
+below_plus f h zero = refl
+below_plus f h (suc n) = let a : below (λ i. f i + h i) n ≡ below f n + below h n = below_plus f h n in omega arith
+
+below_none : (n : ℕ) → below (λ i. 0) n ≡ 0
+below_none zero = refl
+below_none (suc n) = let a : below (λ i. 0) n ≡ 0 = below_none n in omega arith
+
+pub below_le : (f : ℕ → ℕ) (m n : ℕ) → m ≤ n → below f m ≤ below f n
+below_le f m zero h = let e : m ≡ 0 = omega arith in let same : below f m ≡ below f 0 = ap (below f) e in omega arith
+below_le f m (suc n) h = ⊎_elim
+    (λ (lt : m < suc n). let a : below f m ≤ below f n = below_le f m n (omega arith) in (let b : below f m ≤ below f (suc n) = omega arith in b))
+    (λ (ge : suc n ≤ m). let e : m ≡ suc n = omega arith in let same : below f m ≡ below f (suc n) = ap (below f) e in (let b : below f m ≤ below f (suc n) = omega arith in b))
+    (cases_lt m (suc n))
+
+-- one number is hit once
+abbrev hits : ℕ → ℕ → ℕ
+hits k i = cond (k == i) 1 0
+
+no_hit : (k n : ℕ) → n ≤ k → below (hits k) n ≡ 0
+no_hit k zero h = refl
+no_hit k (suc n) h =
+    let a : below (hits k) n ≡ 0 = no_hit k n (omega arith) in
+    let b : hits k n ≡ 0 = ap (λ t. cond t 1 0) (ne_eqb k n (λ e. absurd (omega (arith, e)))) in
+    omega arith
+
+one_hit : (k n : ℕ) → k < n → below (hits k) n ≡ 1
+one_hit k zero h = absurd (omega arith)
+one_hit k (suc n) h = ⊎_elim
+    (λ (lt : k < n).
+    let a : below (hits k) n ≡ 1 = one_hit k n lt in
+    let b : hits k n ≡ 0 = ap (λ t. cond t 1 0) (ne_eqb k n (λ e. absurd (omega (arith, e)))) in
+    (let c : below (hits k) (suc n) ≡ 1 = omega arith in c))
+    (λ (ge : n ≤ k).
+    let a : below (hits k) n ≡ 0 = no_hit k n ge in
+    let b : hits k n ≡ 1 = ap (λ t. cond t 1 0) (eq-eqb k n (let e : k ≡ n = omega arith in e)) in
+    (let c : below (hits k) (suc n) ≡ 1 = omega arith in c))
+    (cases_lt k n)
+
+-- each edge enters one line
+abbrev entering : List Edge → ℕ → ℕ
+entering es i = length (filter (λ (e : Edge). e.to == i) es)
+
+entering_more : (e : Edge) (es : List Edge) (i : ℕ) → entering (e ∷ es) i ≡ hits e.to i + entering es i
+entering_more e es i = by_test (e.to == i)
+  where
+    by_test : (b : Bool) → length (cond b (e ∷ filter (λ (x : Edge). x.to == i) es) (filter (λ (x : Edge). x.to == i) es)) ≡ cond b 1 0 + entering es i
+    by_test true = omega arith
+    by_test false = omega arith
+
+all_enter : (n : ℕ) (es : List Edge) → ((e : Edge) → Contains es e → e.to < n) → below (entering es) n ≡ length es
+all_enter n [] to = below_none n
+all_enter n (e ∷ es) to =
+    let split : below (entering (e ∷ es)) n ≡ below (λ i. hits e.to i + entering es i) n = below_same (entering (e ∷ es)) (λ i. hits e.to i + entering es i) (entering_more e es) n in
+    let sum : below (λ i. hits e.to i + entering es i) n ≡ below (hits e.to) n + below (entering es) n = below_plus (hits e.to) (entering es) n in
+    let first : below (hits e.to) n ≡ 1 = one_hit e.to n (to e (contains_here e es)) in
+    let rest : below (entering es) n ≡ length es = all_enter n es (λ x c. to x (contains_there e es x c)) in
+    omega arith
+
+abbrev pub entering_line : GraphValue → ℕ → ℕ
+entering_line g i = length (edges_into g i)
+
+-- a graph has few edges
+abbrev of_lines : Format → List Decl → List Line → GraphValue
+of_lines fm ds ls = record { format = fm; decls = ds; lines = ls }
+
+few_with : (fm : Format) (ds : List Decl) (b ls : List Line) → length (edges (of_lines fm ds b)) ≤ 65536 → LinesFit fm ds b ls → length (edges (of_lines fm ds (b ++ ls))) ≤ 65536
+few_with fm ds b [] few f = subst (λ xs. length (edges (of_lines fm ds xs)) ≤ 65536) (sym (append-nil b)) few
+few_with fm ds b (l ∷ ls) few f = subst (λ xs. length (edges (of_lines fm ds xs)) ≤ 65536) (append_assoc b (l ∷ []) ls) (few_with fm ds (b ++ l ∷ []) ls (limits_line (of_lines fm ds b) l f.1).few_edges f.2)
+
+few_edges : (g : GraphValue) → IsGraph g → length (edges g) ≤ 65536
+few_edges g fits = few_with g.format g.decls [] g.lines (omega arith) fits.lines
+
+pub all_edges : (g : GraphValue) → ((e : Edge) → Contains (edges g) e → e.to < length g.lines) → below (entering_line g) (length g.lines) ≡ length (edges g)
+all_edges g to = all_enter (length g.lines) (edges g) to
+
+pub edges_so_far : (g : GraphValue) → IsGraph g → ((e : Edge) → Contains (edges g) e → e.to < length g.lines) → (n : ℕ) → n ≤ length g.lines → below (entering_line g) n ≤ 65536
+edges_so_far g fits to n h =
+    let a : below (entering_line g) n ≤ below (entering_line g) (length g.lines) = below_le (entering_line g) n (length g.lines) h in
+    let b : below (entering_line g) (length g.lines) ≡ length (edges g) = all_edges g to in
+    let c : length (edges g) ≤ 65536 = few_edges g fits in
+    omega arith
+
+-- the sums of loops
+abbrev pub column_cells : GraphValue → ColumnInfo → ℕ
+column_cells g c = space_size (space_at g c.space)
+
+pub cells_next : (g : GraphValue) (c n size : ℕ) (d : ColumnInfo) → c < length (columns g) → n ≡ sum_by (column_cells g) (take c (columns g)) → size ≡ space_size (column_space g c) → n + size ≡ sum_by (column_cells g) (take (c + 1) (columns g))
+cells_next g c n size d below is this =
+    let x : ColumnInfo = get_or (columns g) c d in
+    let here : space_size (column_space g c) ≡ column_cells g x = ap (λ o. space_size (option_map_or (λ (y : ColumnInfo). space_at g y.space) o [])) (slice_get-get_or (columns g) c d below) in
+    let more : sum_by (column_cells g) (take (c + 1) (columns g)) ≡ sum_by (column_cells g) (take c (columns g) ++ x ∷ []) = ap (sum_by (column_cells g)) (take_more (columns g) c d below) in
+    let split : sum_by (column_cells g) (take c (columns g) ++ x ∷ []) ≡ sum_by (column_cells g) (take c (columns g)) + sum_by (column_cells g) (x ∷ []) = sum_by-append (column_cells g) (take c (columns g)) (x ∷ []) in
+    let one : sum_by (column_cells g) (x ∷ []) ≡ column_cells g x + 0 = sum_by-cons (column_cells g) x [] in
+    omega arith
+
+filter_one : (d : Decl) → length (filter is_inst (d ∷ [])) ≡ cond (is_inst d) 1 0
+filter_one d = by_test (is_inst d)
+  where
+    by_test : (b : Bool) → length (cond b (d ∷ []) []) ≡ cond b 1 0
+    by_test true = refl
+    by_test false = refl
+
+pub insts_next : (ds : List Decl) (k n : ℕ) (d : Decl) → k < length ds → n ≡ length (filter is_inst (take k ds)) → n + cond (is_inst (get_or ds k d)) 1 0 ≡ length (filter is_inst (take (k + 1) ds))
+insts_next ds k n d below is =
+    let x : Decl = get_or ds k d in
+    let more : length (filter is_inst (take (k + 1) ds)) ≡ length (filter is_inst (take k ds ++ x ∷ [])) = ap (λ xs. length (filter is_inst xs)) (take_more ds k d below) in
+    let split : length (filter is_inst (take k ds ++ x ∷ [])) ≡ length (filter is_inst (take k ds)) + length (filter is_inst (x ∷ [])) = ap length (filter-append is_inst (take k ds) (x ∷ [])) ∙ length-append (filter is_inst (take k ds)) (filter is_inst (x ∷ [])) in
+    let one : length (filter is_inst (x ∷ [])) ≡ cond (is_inst x) 1 0 = filter_one x in
+    omega arith
+
+pub points_next : (is : List (ℕ × ℕ)) (k n size : ℕ) (d : ℕ × ℕ) → k < length is → n ≡ space_size (take k is) → size ≡ (get_or is k d).1 + 1 - (get_or is k d).0 → n + size ≡ space_size (take (k + 1) is)
+points_next is k n size d below was this =
+    let x : ℕ × ℕ = get_or is k d in
+    let more : space_size (take (k + 1) is) ≡ space_size (take k is ++ x ∷ []) = ap space_size (take_more is k d below) in
+    let split : space_size (take k is ++ x ∷ []) ≡ length (points (take k is)) + length (points (x ∷ [])) = ap length (flat_map-append interval_points (take k is) (x ∷ [])) ∙ length-append (points (take k is)) (points (x ∷ [])) in
+    let one : length (points (x ∷ [])) ≡ x.1 + 1 - x.0 = ap length (append-nil (interval_points x)) ∙ length-range_with_len x.0 (x.1 + 1 - x.0) in
+    omega arith
+
+-- an instance
+same_inst : (insts cols cells i c m : ℕ) → insts ≡ i → cols ≡ c → cells ≡ m →
+    find is_above (quantity (codes "instances") insts MAX_INSTS ∷ quantity (codes "columns") cols MAX_COLUMNS ∷ quantity (codes "cells") cells MAX_CELLS ∷ [])
+    ≡ find is_above (quantity (codes "instances") i MAX_INSTS ∷ quantity (codes "columns") c MAX_COLUMNS ∷ quantity (codes "cells") m MAX_CELLS ∷ [])
+same_inst insts cols cells i c m a b d = cc
+
+pub inst_with_limit : (g : GraphValue) → IsGraph g → (name space word : List ℕ) → limit_in g (Some (inst_with g name space word)) ≡ inst_limit g (space_number g space) (length (pieces 44 word))
+inst_with_limit g fits name space word =
+    let d : Decl = Inst name (space_number g space) (pieces 44 word) in
+    let counts = counts_with_decl g d fits in
+    same_inst _ _ _ _ _ _ (ap (λ (x : Counts). x.insts) counts)
+    (ap (λ (x : Counts). x.columns) counts ∙ ap (λ n. length (columns g) + n) (length-map (pieces 44 word) _))
+    (ap (λ (x : Counts). x.cells) counts ∙ ap (λ n. cell_count g + n) (cells_of_fields g name (space_number g space) (pieces 44 word)))
+
+pub inst_is_limit : (g : GraphValue) → IsGraph g → (ws : List (List ℕ)) (space fields : ℕ) → length ws ≡ 4 → space ≡ space_number g (slice_index_or ws 2 []) → fields ≡ length (pieces 44 (slice_index_or ws 3 [])) →
+    inst_limit g space fields ≡ limit_in g (inst_draft g (drop 1 ws))
+inst_is_limit g fits ws space fields four named spelled =
+    ap (λ n. inst_limit g n fields) named ∙ (ap (inst_limit g (space_number g (slice_index_or ws 2 []))) spelled
+    ∙ (sym (inst_with_limit g fits (slice_index_or ws 1 []) (slice_index_or ws 2 []) (slice_index_or ws 3 [])) ∙ ap (limit_in g) (sym (inst_shape g ws four))))
+
+-- a reservation, and a barrier
+same_one : (name : List ℕ) (n m bound : ℕ) (a : QuantityValue) → a ≡ quantity name n bound → n ≡ m → find is_above (a ∷ []) ≡ find is_above (quantity name m bound ∷ [])
+same_one name n m bound a is e = ap (λ q. find is_above (q ∷ [])) (is ∙ ap (λ k. quantity name k bound) e)
+
+pub lock_limit : (g : GraphValue) (ws : List (List ℕ)) (a : QuantityValue) → length ws ≡ 2 → a ≡ quantity (codes "reservations") (length (locks g) + 1) MAX_LOCKS → find is_above (a ∷ []) ≡ limit_in g (lock_draft g (drop 1 ws))
+lock_limit g ws a two is =
+    let d : Decl = Lock (slice_index_or ws 1 []) in
+    let more : length (locks (with_decl g d)) ≡ length (locks g) + 1 = ap length (filter_map-append lock_of g.decls (d ∷ [])) ∙ length-append (locks g) (filter_map lock_of (d ∷ [])) in
+    same_one (codes "reservations") _ _ MAX_LOCKS a is (sym more) ∙ ap (limit_in g) (sym (lock_shape g ws two))
+
+barrier_by : (g : GraphValue) (ws : List (List ℕ)) (a : QuantityValue) (o : Option Op) → length ws ≡ 5 → op_of (slice_index_or ws 3 []) ≡ o → is_some o ≡ true → a ≡ quantity (codes "barriers") (length (barriers g) + 1) MAX_BARRIERS → find is_above (a ∷ []) ≡ limit_in g (barrier_draft g (drop 1 ws))
+barrier_by g ws a None five op there is = absurd (true≢false (sym there))
+barrier_by g ws a (Some o) five op there is =
+    let d : Decl = Barrier (slice_index_or ws 1 []) (unwrap_or (count_of (slice_index_or ws 2 [])) 0) o (unwrap_or (value_of (slice_index_or ws 4 [])) 0) in
+    let more : length (barriers (with_decl g d)) ≡ length (barriers g) + 1 = ap length (filter_map-append barrier_of g.decls (d ∷ [])) ∙ length-append (barriers g) (filter_map barrier_of (d ∷ [])) in
+    same_one (codes "barriers") _ _ MAX_BARRIERS a is (sym more)
+    ∙ ap (limit_in g) (sym (barrier_shape g ws five ∙ ap (option_map (λ x. barrier_with (slice_index_or ws 1 []) (slice_index_or ws 2 []) x (slice_index_or ws 4 []))) op))
+
+pub barrier_limit : (g : GraphValue) (ws : List (List ℕ)) (a : QuantityValue) → length ws ≡ 5 → is_some (op_of (slice_index_or ws 3 [])) ≡ true → a ≡ quantity (codes "barriers") (length (barriers g) + 1) MAX_BARRIERS → find is_above (a ∷ []) ≡ limit_in g (barrier_draft g (drop 1 ws))
+barrier_limit g ws a five there is = barrier_by g ws a (op_of (slice_index_or ws 3 [])) five refl there is
+
+pub below_next : (f : ℕ → ℕ) (n : ℕ) → below f (n + 1) ≡ below f n + f n
+below_next f n = let one : n + 1 ≡ suc n = omega arith in ap (below f) one
+
+-- one that is above, and one that is not
+pub above_first : (a x y : QuantityValue) → a ≡ x → is_above x ≡ true → Some a ≡ find is_above (x ∷ y ∷ [])
+above_first a x y p h = ap Some p ∙ sym (cond-true (is_above x) (Some x) (cond (is_above y) (Some y) None) h)
+
+pub above_later : (b x y : QuantityValue) → b ≡ y → is_above x ≡ false → find is_above (b ∷ []) ≡ find is_above (x ∷ y ∷ [])
+above_later b x y p h = ap (λ q. find is_above (q ∷ [])) p ∙ sym (cond-false (is_above x) (Some x) (cond (is_above y) (Some y) None) h)
+
+pub above_second : (a b x y z : QuantityValue) → a ≡ x → b ≡ y → is_above y ≡ true → find is_above (a ∷ b ∷ []) ≡ find is_above (x ∷ y ∷ z ∷ [])
+above_second a b x y z p q h = same_two a b x y p q ∙ ap (cond (is_above x) (Some x)) (cond-true (is_above y) (Some y) None h ∙ sym (cond-true (is_above y) (Some y) (cond (is_above z) (Some z) None) h))
+
+pub above_third : (a c x y z : QuantityValue) → a ≡ x → c ≡ z → is_above y ≡ false → find is_above (a ∷ c ∷ []) ≡ find is_above (x ∷ y ∷ z ∷ [])
+above_third a c x y z p r h = same_two a c x z p r ∙ ap (cond (is_above x) (Some x)) (sym (cond-false (is_above y) (Some y) (cond (is_above z) (Some z) None) h))

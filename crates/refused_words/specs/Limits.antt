@@ -1,0 +1,79 @@
+-- The quantities of a graph that have greatest values, and which of them an item at its end brings above that.
+use Rattle.std.specs.Prelude.{ℕ, ◌+◌, ◌*◌, nat_lt, Bool, List, [], ◌∷◌, ◌++◌, length, filter, find, codes, Option, None, ◌⊎◌}
+use Rattle.std.specs.Option.{option_map_or}
+use Rattle.std.proofs.Common.{inl, inr}
+use Rattle.index_spaces.specs.Space.{space_size}
+use Rattle.index_spaces.specs.declared.limits.TheConstants.{MAX_INTERVALS, MAX_POINTS}
+use Rattle.graph_model.specs.declared.graph.limits.TheConstants.{MAX_INSTS, MAX_COLUMNS, MAX_CELLS, MAX_LOCKS, MAX_BARRIERS, MAX_LINES, MAX_EDGES, MAX_EVENTS}
+use Rattle.graph_model.specs.declared.graph.decl.Decl.{Decl}
+use Rattle.graph_model.specs.declared.graph.decl.Decl.TheVariants.{Space, Inst, Lock, Barrier}
+use Rattle.graph_model.specs.declared.graph.verb.Line.{Line}
+use Rattle.graph_model.specs.declared.graph.verb.Verb.{Verb}
+use Rattle.graph_model.specs.declared.graph.verb.Verb.TheVariants.{Merge, MergeIgnore}
+use Rattle.graph_model.specs.graph.Graph.{GraphValue, columns, locks, barriers, space_at}
+use Rattle.graph_model.specs.graph.Edges.{edges}
+use Rattle.graph_model.specs.graph.Fits.{is_inst, cell_count, with_decl, with_line}
+use Rattle.graph_reader.specs.Draft.{Draft, draft}
+use Rattle.refused_words.specs.declared.limits.Quantity.{Quantity}
+
+-- a quantity with its greatest value
+pub record QuantityValue : Type 0 where
+  pub name : List ℕ
+  pub value : ℕ
+  pub bound : ℕ
+
+abbrev pub quantity_value : Quantity → QuantityValue
+quantity_value q = record { name = q.name.now; value = q.value; bound = q.bound }
+
+abbrev pub quantity : List ℕ → ℕ → ℕ → QuantityValue
+quantity name value bound = record { name = name; value = value; bound = bound }
+
+abbrev pub is_above : QuantityValue → Bool
+is_above q = nat_lt q.bound q.value
+
+-- of a space, and of a graph at whose end a declaration stands
+abbrev pub space_quantities : List (ℕ × ℕ) → List QuantityValue
+space_quantities is = quantity (codes "intervals of a space") (length is) MAX_INTERVALS ∷ quantity (codes "points of a space") (space_size is) MAX_POINTS ∷ []
+
+abbrev pub decl_quantities : GraphValue → Decl → List QuantityValue
+decl_quantities g (Space name space) = space_quantities space
+decl_quantities g (Inst name space fields) =
+    quantity (codes "instances") (length (filter is_inst g.decls)) MAX_INSTS
+    ∷ quantity (codes "columns") (length (columns g)) MAX_COLUMNS
+    ∷ quantity (codes "cells") (cell_count g) MAX_CELLS
+    ∷ []
+decl_quantities g (Lock name) = quantity (codes "reservations") (length (locks g)) MAX_LOCKS ∷ []
+decl_quantities g (Barrier name count op first) = quantity (codes "barriers") (length (barriers g)) MAX_BARRIERS ∷ []
+
+-- of a merge, and of a graph at whose end a line stands
+abbrev pub verb_quantities : Verb → List QuantityValue
+verb_quantities (Merge events) = quantity (codes "events of a merge") (length events) MAX_EVENTS ∷ []
+verb_quantities (MergeIgnore events) = quantity (codes "events of a merge") (length events) MAX_EVENTS ∷ []
+verb_quantities _ = []
+
+abbrev pub line_quantities : GraphValue → Line → List QuantityValue
+line_quantities g l = quantity (codes "operations") (length g.lines) MAX_LINES ∷ verb_quantities l.verb ++ quantity (codes "edges") (length (edges g)) MAX_EDGES ∷ []
+
+-- of a graph with a declaration or a line at its end, those that it is part of
+abbrev pub item_quantities : GraphValue → Decl ⊎ Line → List QuantityValue
+item_quantities g (inl d) = decl_quantities (with_decl g d) d
+item_quantities g (inr l) = line_quantities (with_line g l) l
+
+-- the first that is above its bound with what was spelled at the end of the graph
+abbrev pub limit_in : GraphValue → Option Draft → Option QuantityValue
+limit_in g o = option_map_or (λ (d : Draft). find is_above (item_quantities g d.item)) o None
+
+-- what a line of these words brings above its bound
+abbrev pub limit_of : GraphValue → List (List ℕ) → Option QuantityValue
+limit_of g ws = limit_in g (draft g ws)
+
+-- the same of a space of these intervals, and of an instance of so many fields over the space of this number
+abbrev pub intervals_limit : List (ℕ × ℕ) → Option QuantityValue
+intervals_limit is = find is_above (space_quantities is)
+
+abbrev pub inst_limit : GraphValue → ℕ → ℕ → Option QuantityValue
+inst_limit g space fields = find is_above (
+    quantity (codes "instances") (length (filter is_inst g.decls) + 1) MAX_INSTS
+    ∷ quantity (codes "columns") (length (columns g) + fields) MAX_COLUMNS
+    ∷ quantity (codes "cells") (cell_count g + fields * space_size (space_at g space)) MAX_CELLS
+    ∷ [])

@@ -1,0 +1,196 @@
+//! The quantities that a declaration is part of.
+
+ghost use Rattle.basics.specs.Words.{contents};
+ghost use Rattle.std.specs.Prelude.{◌≡◌, ℕ, ◌≤◌, ◌<◌, ◌+◌, ◌-◌, length, drop, filter, option_map, is_some, IfOk};
+ghost use Rattle.index_spaces.specs.Space.{space_size};
+ghost use Rattle.graph_model.specs.graph.Graph.{GraphValue, space_at};
+ghost use Rattle.graph_model.specs.graph.Fits.{is_inst, cell_count};
+ghost use Rattle.graph_reader.specs.Draft.{op_of, decl_draft, space_draft, inst_draft, lock_draft, barrier_draft, SpaceName};
+ghost use Rattle.graph_reader.specs.Kinds.{named_number};
+ghost use Rattle.refused_words.specs.Limits.{quantity_value, limit_in, intervals_limit, inst_limit};
+
+use crate::limits::{Quantity, first_above, one_if, with_bound};
+use graph_model::decl::Decl;
+use graph_model::graph::Graph;
+use graph_model::limits::{MAX_BARRIERS, MAX_CELLS, MAX_COLUMNS, MAX_INSTS, MAX_LOCKS};
+use graph_model::table::Place;
+use graph_reader::intervals::intervals;
+use graph_reader::seen::see;
+use graph_reader::words::{split, word};
+use index_spaces::NoMemory;
+use index_spaces::limits::{MAX_INTERVALS, MAX_POINTS};
+use std::alloc::Global;
+
+/// Of a declaration.
+pub(crate) fn of_declaration(
+    alloc: Global,
+    graph: &Graph,
+    words: &[&[u8]],
+) -> Result<Option<Quantity>, NoMemory>
+    ensures { IfOk result (λ o. option_map quantity_value o ≡ limit_in graph.now (decl_draft graph.now (contents words.now))) }
+{
+    let kind = word(words, 0);
+    if kind == b"space".as_slice() {
+        return of_space(alloc, words);
+    }
+    if kind == b"inst".as_slice() {
+        return of_inst(alloc, graph, words);
+    }
+    if kind == b"lock".as_slice() {
+        return Ok(of_lock(graph, words));
+    }
+    if kind == b"barrier".as_slice() {
+        return Ok(of_barrier(graph, words));
+    }
+    Ok(None)
+}
+
+/// Of a space: its intervals, and its points.
+fn of_space(alloc: Global, words: &[&[u8]]) -> Result<Option<Quantity>, NoMemory>
+    ensures { IfOk result (λ o. (g : GraphValue) → option_map quantity_value o ≡ limit_in g (space_draft g (drop 1 (contents words.now)))) }
+{
+    if words.len() != 3 {
+        return Ok(None);
+    }
+    match intervals(alloc, word(words, 2))? {
+        Some(pairs) => Ok(of_intervals(pairs.as_slice())),
+        None => Ok(None),
+    }
+}
+
+fn of_intervals(pairs: &[(u32, u32)]) -> Option<Quantity>
+    ensures { option_map quantity_value result ≡ intervals_limit pairs.now }
+{
+    let count = pairs.len() as u64;
+    let intervals = with_bound(b"intervals of a space", count, MAX_INTERVALS as u64);
+    if count > MAX_INTERVALS as u64 {
+        return Some(intervals);
+    }
+    let points = with_bound(
+        b"points of a space",
+        point_count(pairs),
+        u64::from(MAX_POINTS),
+    );
+    first_above(&[points])
+}
+
+/// How many points intervals have: none where one is reversed.
+fn point_count(pairs: &[(u32, u32)]) -> u64
+    requires { length pairs.now ≤ MAX_INTERVALS }
+    ensures { result ≡ space_size pairs.now }
+{
+    let mut points: u64 = 0;
+    for pair in pairs {
+        points += interval_size(*pair);
+    }
+    points
+}
+
+fn interval_size(pair: (u32, u32)) -> u64
+    ensures size { result ≡ pair.1 + 1 - pair.0 }
+    ensures few { result ≤ 4294967296 }
+{
+    (u64::from(pair.1) + 1).saturating_sub(u64::from(pair.0))
+}
+
+/// Of an instance: the instances, the columns and the cells.
+fn of_inst(alloc: Global, graph: &Graph, words: &[&[u8]]) -> Result<Option<Quantity>, NoMemory>
+    ensures { IfOk result (λ o. option_map quantity_value o ≡ limit_in graph.now (inst_draft graph.now (drop 1 (contents words.now)))) }
+{
+    if words.len() != 4 {
+        return Ok(None);
+    }
+    let _ = graph.lines();
+    let fields = split(alloc, word(words, 3), b',')?;
+    let space = see(graph, Place::Space, word(words, 2)).number;
+    Ok(of_fields(graph, space, fields.len() as u64))
+}
+
+/// Of an instance of so many fields over the space of this number.
+fn of_fields(graph: &Graph, space: u32, fields: u64) -> Option<Quantity>
+    requires { fields ≤ 9223372036854775807 }
+    ensures { option_map quantity_value result ≡ inst_limit graph.now space fields }
+{
+    let insts = with_bound(b"instances", inst_count(graph) + 1, MAX_INSTS);
+    let count = u64::from(graph.columns()) + fields;
+    let columns = with_bound(b"columns", count, MAX_COLUMNS);
+    if count > MAX_COLUMNS {
+        return first_above(&[insts, columns]);
+    }
+    let cells = with_bound(
+        b"cells",
+        cell_count(graph) + fields * points_of(graph, space),
+        MAX_CELLS,
+    );
+    first_above(&[insts, cells])
+}
+
+/// How many instances a graph has.
+fn inst_count(graph: &Graph) -> u64
+    ensures count { result ≡ length (filter is_inst graph.now.decls) }
+    ensures few { result ≤ 4294967295 }
+{
+    let mut count: u64 = 0;
+    for d in 0..graph.decls() {
+        count += one_if(is_inst(graph.decl(d)));
+    }
+    count
+}
+
+fn is_inst(decl: &Decl) -> bool
+    ensures { result ≡ is_inst decl.now }
+{
+    matches!(decl, Decl::Inst { .. })
+}
+
+/// How many cells the columns of a graph have.
+fn cell_count(graph: &Graph) -> u64
+    ensures count { result ≡ cell_count graph.now }
+    ensures few { result ≤ 1099511627776 }
+{
+    let mut count: u64 = 0;
+    for c in 0..graph.columns() {
+        count += u64::from(graph.column_space(c).size());
+    }
+    count
+}
+
+/// How many points a space has: none where it is not declared.
+fn points_of(graph: &Graph, s: u32) -> u64
+    ensures points { result ≡ space_size (space_at graph.now s) }
+    ensures few { result ≤ 4294967295 }
+{
+    if s >= graph.spaces() {
+        return 0;
+    }
+    u64::from(graph.space(s).size())
+}
+
+/// Of a reservation: the reservations.
+fn of_lock(graph: &Graph, words: &[&[u8]]) -> Option<Quantity>
+    ensures { option_map quantity_value result ≡ limit_in graph.now (lock_draft graph.now (drop 1 (contents words.now))) }
+{
+    if words.len() != 2 {
+        return None;
+    }
+    let locks = with_bound(b"reservations", u64::from(graph.locks()) + 1, MAX_LOCKS);
+    first_above(&[locks])
+}
+
+/// Of a barrier: the barriers.
+fn of_barrier(graph: &Graph, words: &[&[u8]]) -> Option<Quantity>
+    ensures { option_map quantity_value result ≡ limit_in graph.now (barrier_draft graph.now (drop 1 (contents words.now))) }
+{
+    if words.len() != 5 || !is_reduction(word(words, 3)) {
+        return None;
+    }
+    let barriers = with_bound(b"barriers", u64::from(graph.barriers()) + 1, MAX_BARRIERS);
+    first_above(&[barriers])
+}
+
+/// Whether a word names a reduction.
+fn is_reduction(word: &[u8]) -> bool
+    ensures { result ≡ is_some (op_of word.now) }
+{
+    word == b"sum".as_slice() || word == b"min".as_slice() || word == b"max".as_slice()
+}

@@ -1,0 +1,107 @@
+//! The quantities that an operation line is part of.
+
+ghost use Rattle.basics.specs.Words.{contents};
+ghost use Rattle.std.specs.Prelude.{◌≡◌, ℕ, ◌≤◌, ◌+◌, Bool, List, Some, None, codes, drop, length, option_map, is_some};
+ghost use Rattle.graph_model.specs.graph.Graph.{is_phase_of};
+ghost use Rattle.graph_model.specs.graph.Edges.{edges, last_place, verb_edges};
+ghost use Rattle.graph_reader.specs.Draft.{merge_draft};
+ghost use Rattle.graph_reader.specs.Kinds.{HasPlaces, kind_draft, kind_verb};
+ghost use Rattle.graph_reader.specs.Merges.{merge_verb};
+ghost use Rattle.refused_words.specs.Limits.{quantity_value, quantity, limit_in};
+
+use crate::limits::{Quantity, first_above, one_if, with_bound};
+use graph_model::graph::Graph;
+use graph_model::laws::edges_between_lines;
+use graph_model::limits::{MAX_EDGES, MAX_EVENTS, MAX_LINES};
+use graph_model::table::{Kind, Place};
+use graph_model::verb::Verb;
+use graph_reader::seen::see;
+use graph_reader::words::{has_on, word};
+
+/// Of a merge, by the words behind its sign.
+pub(crate) fn of_merge(graph: &Graph, words: &[&[u8]]) -> Option<Quantity>
+    ensures { (name : List ℕ) (ignores : Bool) → option_map quantity_value result ≡ limit_in graph.now (merge_draft graph.now name (merge_verb ignores) (drop 1 (contents words.now))) }
+{
+    if words.len() < 2 {
+        return None;
+    }
+    let count = words.len() as u64 - 1;
+    let merged = with_bound(b"events of a merge", count, u64::from(MAX_EVENTS));
+    first_above(&[operations(graph), merged, edges(graph, count)])
+}
+
+/// Of a line of a kind, by the words behind the fixed ones.
+pub(crate) fn of_kind(graph: &Graph, kind: Kind, rest: &[&[u8]]) -> Option<Quantity>
+    requires { HasPlaces kind (contents rest.now) }
+    ensures { (name : List ℕ) → option_map quantity_value result ≡ limit_in graph.now (Some (kind_draft graph.now kind name (contents rest.now))) }
+{
+    let given = edges_of_kind(graph, kind, rest) + one_if(has_on(kind, rest));
+    first_above(&[operations(graph), edges(graph, given)])
+}
+
+/// The operations of a graph with one more.
+fn operations(graph: &Graph) -> Quantity
+    ensures { quantity_value result ≡ quantity (codes "operations") (length graph.now.lines + 1) MAX_LINES }
+{
+    with_bound(b"operations", u64::from(graph.lines()) + 1, MAX_LINES)
+}
+
+/// The edges of a graph with so many more.
+fn edges(graph: &Graph, more: u64) -> Quantity
+    requires { more ≤ 9223372036854775807 }
+    ensures { quantity_value result ≡ quantity (codes "edges") (length (edges graph.now) + more) MAX_EDGES }
+{
+    with_bound(b"edges", edge_count(graph) + more, MAX_EDGES)
+}
+
+/// How many edges a graph has.
+fn edge_count(graph: &Graph) -> u64
+    ensures count { result ≡ length (edges graph.now) }
+    ensures few { result ≤ MAX_EDGES }
+{
+    edges_between_lines();
+    let mut count: u64 = 0;
+    for line in 0..graph.lines() {
+        count += graph.edges_into(line).len() as u64;
+    }
+    count
+}
+
+/// How many edges a line of a kind gives by what it does.
+fn edges_of_kind(graph: &Graph, kind: Kind, rest: &[&[u8]]) -> u64
+    requires { HasPlaces kind (contents rest.now) }
+    ensures count { result ≡ length (verb_edges graph.now.lines (length graph.now.lines) (kind_verb graph.now kind (contents rest.now))) }
+    ensures few { result ≤ 1 }
+{
+    match kind {
+        Kind::Trigger | Kind::Cancel | Kind::Arrive | Kind::ArriveTimes => 1,
+        Kind::Phase => {
+            let barrier = see(graph, Place::Barrier, word(rest, 0)).number;
+            one_if(has_phase(graph, barrier))
+        }
+        _ => 0,
+    }
+}
+
+/// Whether a graph has a phase of this barrier.
+fn has_phase(graph: &Graph, barrier: u32) -> bool
+    ensures { result ≡ is_some (last_place (is_phase_of barrier) 0 graph.now.lines None) }
+{
+    let mut i = graph.lines();
+    while i > 0 {
+        i -= 1;
+        if is_phase_of(&graph.line(i).verb, barrier) {
+            return true;
+        }
+    }
+    false
+}
+
+fn is_phase_of(verb: &Verb, wanted: u32) -> bool
+    ensures { result ≡ is_phase_of wanted verb.now }
+{
+    match verb {
+        Verb::Phase { barrier } => *barrier == wanted,
+        _ => false,
+    }
+}
