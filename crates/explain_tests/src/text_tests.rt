@@ -140,7 +140,7 @@ const ROWS: [Row<'static>; 15] = [
             the nearest line that leads to both:\nline 5: q = acquire l\nto the first:\n\
             line 6 waits for line 5 (on): f = reduce sum a.x a.y s on q\nto the second:\n\
             line 7 waits for line 5 (on): g = reduce sum a.x a.y s on q\n\
-            to order them, let line 7 wait for line 6, where that comes before each of these acquires or behind it:\n\
+            to order them, let line 7 wait for line 6, where that lies in each of these sections too or comes before its acquire:\n\
             line 7 lies in the section of\nline 5: q = acquire l\n\
             sections of one reservation would set them apart, by an acquire for each, not both shared\n\
             line 6 lies in the section of\nline 5: q = acquire l\nline 7 lies in the section of\nline 5: q = acquire l\n\
@@ -154,7 +154,7 @@ const ROWS: [Row<'static>; 15] = [
         text: "refused race f g\nline 5: f = reduce sum a.x a.y s\nline 7: g = reduce sum a.x a.y s on q\n\
             both use column a.y at point 0: line 5 adds to it, line 7 adds to it\nneither waits for the other\n\
             no line leads to both\n\
-            to order them, let line 7 wait for line 5, where that comes before each of these acquires or behind it:\n\
+            to order them, let line 7 wait for line 5, where that lies in each of these sections too or comes before its acquire:\n\
             line 7 lies in the section of\nline 6: q = acquire l\n\
             sections of one reservation would set them apart, by an acquire for each, not both shared\n\
             line 5 lies in no section\nline 7 lies in the section of\nline 6: q = acquire l\n\

@@ -89,10 +89,10 @@ on_of g j = option_map_or (λ (l : Line). l.on) (slice_get g.lines j) None
 abbrev pub order_text : GraphValue → ℕ → ℕ → List ℕ
 order_text g i j = codes "to order them, put " ++ (by_number g j ++ (codes " " ++ advice_by g (on_of g j) i))
 
--- a line in a section may wait for another only where that comes before the acquire or behind it
+-- a line in a section may wait for another where that lies in the section too, or comes before its acquire
 abbrev pub held_text : GraphValue → List (List ℕ) → ℕ → ℕ → List ℕ → List ℕ
 held_text g ls i j qs =
-    codes "to order them, let " ++ (by_number g j ++ (codes " wait for " ++ (by_number g i ++ (codes ", where that comes before each of these acquires or behind it:\n" ++ in_sections g ls j qs))))
+    codes "to order them, let " ++ (by_number g j ++ (codes " wait for " ++ (by_number g i ++ (codes ", where that lies in each of these sections too or comes before its acquire:\n" ++ in_sections g ls j qs))))
 
 abbrev pub advice_text : GraphValue → List (List ℕ) → ℕ → ℕ → List ℕ → List ℕ
 advice_text g ls i j [] = order_text g i j

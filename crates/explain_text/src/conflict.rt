@@ -168,7 +168,7 @@ fn put_held(
     put_by_number(text, graph, second)?;
     text.put(b" wait for ")?;
     put_by_number(text, graph, first)?;
-    text.put(b", where that comes before each of these acquires or behind it:\n")?;
+    text.put(b", where that lies in each of these sections too or comes before its acquire:\n")?;
     put_in_sections(text, graph, lines, second, acquires)
 }
 

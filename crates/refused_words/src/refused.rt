@@ -19,7 +19,7 @@ use index_spaces::NoMemory;
 use std::alloc::Global;
 
 /// The first word of a line that this reason refuses behind a graph, by its number from 0. `None`
-/// exactly where the reason is one of no single word.
+/// exactly where it refuses none of them by itself.
 pub fn refused_word(
     alloc: Global,
     graph: &Graph,

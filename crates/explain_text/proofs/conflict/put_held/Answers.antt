@@ -13,4 +13,4 @@ returns c =
     (then_puts r _ _ _ (by_number g c.args.second) _ c.in_ok-put_by_number.ensures
     (then_puts r _ _ _ (codes " wait for ") _ c.in_ok-put-2.ensures
     (then_puts r _ _ _ (by_number g c.args.first) _ c.in_ok-put_by_number-2.ensures
-    (then_puts r _ _ _ (codes ", where that comes before each of these acquires or behind it:\n") (in_sections g (contents c.args.lines.now) c.args.second c.args.acquires.now) c.in_ok-put-3.ensures c.put_in_sections.ensures)))))
+    (then_puts r _ _ _ (codes ", where that lies in each of these sections too or comes before its acquire:\n") (in_sections g (contents c.args.lines.now) c.args.second c.args.acquires.now) c.in_ok-put-3.ensures c.put_in_sections.ensures)))))
