@@ -1,10 +1,10 @@
 //! The answer to the bytes of an input.
 
-ghost use Rattle.std.specs.Prelude.{◌≡◌, ◌≢◌, length, option_map, Contains, None, IfOk, OnOk, MatchOption};
+ghost use Rattle.std.specs.Prelude.{◌≡◌, ◌≢◌, ◌++◌, length, option_map, Contains, None, IfOk, OnOk, MatchOption};
 ghost use Rattle.basics.specs.Words.{contents};
 ghost use Rattle.refused_words.specs.Ends.{IsEndedBy};
 ghost use Rattle.refused_words.specs.Limits.{quantity_value};
-ghost use Rattle.explain_text.specs.Named.{IsInside};
+ghost use Rattle.explain_text.specs.Named.{IsInside, named_texts};
 ghost use Rattle.explain_text.specs.declared.naming.NamedWord.{NamedWord};
 ghost use Rattle.explain_top.specs.Answer.{IsAnswer, IsUnfitText, IsUnreadText, IsMarkedText, AreNamed, AreSpaces, limit_for};
 ghost use Rattle.race_check.specs.Refusal.{IsRefusal, NamesLines};
@@ -126,8 +126,22 @@ fn put_behind(
     put_mark(text, number, words.as_slice(), mark)?;
     put_limit(text, passed)?;
     put_ended(text, graph, lines, ended)?;
-    put_named_words(text, lines, named.as_slice())?;
-    put_named_words(text, lines, spaces.as_slice())
+    put_names(text, lines, named.as_slice(), spaces.as_slice())
+}
+
+/// Puts names, and then the spaces of columns.
+fn put_names(
+    text: &mut Text,
+    lines: &[&[u8]],
+    named: &[NamedWord],
+    spaces: &[NamedWord],
+) -> Result<(), NoMemory>
+    requires named { (x : NamedWord) → Contains named.now x → IsInside (length lines.now) x }
+    requires spaces { (x : NamedWord) → Contains spaces.now x → IsInside (length lines.now) x }
+    ensures { OnOk result (text.new ≡ text.old ++ (named_texts (contents lines.now) named.now ++ named_texts (contents lines.now) spaces.now)) }
+{
+    put_named_words(text, lines, named)?;
+    put_named_words(text, lines, spaces)
 }
 
 /// The line that has done already what the refused word would do.
