@@ -6,7 +6,7 @@ use Rattle.session_tests.proofs.asking.handles_of.Goals as goal
 pub loop-line-preserved : goal.loop-line-preserved
 loop-line-preserved c = λ h d.
     let x = c.handle_of.ensures.line in
-    elim (Contains-push_cases c.loop-line.handles.items c.handle_of.result h (subst (λ hs. Contains hs h) c.in_ok-push.ensures.ok d)) [
+    elim (Contains-push_cases c.loop-line.handles.items c.handle_of.result h (subst (λ hs. Contains hs h) c.in_ok-push.ensures.items d)) [
       | inl old ↦ c.loop-line.invariant h old
       | inr new ↦ (x.0, x.2, x.3 ∙ new)
     ]
