@@ -1,2 +1,3 @@
 pub mod EdgeFacts
 pub mod Endings
+pub mod Marking
