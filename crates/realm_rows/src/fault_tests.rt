@@ -28,7 +28,7 @@ const RUN: Call = Call {
 
 /// Two graphs, with a link to an operation that is done.
 const SESSION: Call = Call {
-    command: "session --workers 0",
+    command: "session --workers 0 --slots 2",
     text: "realm-session 1
 graph a
 realm 1
