@@ -1,11 +1,12 @@
 //! The text of a graph, in memory.
 
-ghost use Rattle.std.specs.Prelude.{◌≡◌, IfOk};
+ghost use Rattle.std.specs.Prelude.{◌≡◌, length, IfOk};
 ghost use Rattle.graph_reader.specs.Text.{text};
 
 use graph_model::graph::Graph;
 use graph_reader::put_graph;
 use index_spaces::NoMemory;
+use index_spaces::room::with_room;
 use realm_io::MemorySink;
 use std::alloc::Global;
 
@@ -31,9 +32,12 @@ pub(crate) fn graph_text(alloc: Global, graph: &Graph) -> Result<Vec<u8>, NoMemo
 }
 
 /// Room for so many bytes.
-fn room_for(alloc: Global, count: usize) -> Result<Vec<u8>, NoMemory> {
-    match vec![in alloc; 0; count] {
-        Ok(room) => Ok(room),
-        Err(_) => Err(NoMemory),
+fn room_for(alloc: Global, count: usize) -> Result<Vec<u8>, NoMemory>
+    ensures { IfOk result (λ v. length v.items ≡ count) }
+{
+    let mut room = with_room(alloc, count)?;
+    if room.resize(count, 0).is_err() {
+        return Err(NoMemory);
     }
+    Ok(room)
 }
