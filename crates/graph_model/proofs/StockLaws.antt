@@ -1,39 +1,44 @@
 -- One more edge of a list of edges.
-use Rattle.std.proofs.Common.{◌≡◌, ℕ, zero, suc, ◌+◌, ◌-◌, ◌<◌, ◌≤◌, ◌⊎◌, inl, inr, cond, eqb, List, [], ◌∷◌, ◌++◌, length, map, length-append, take, drop, get_or, refl, sym, ◌∙◌, ap, subst, add-one, append_assoc, drop-cons, arith}
-use Rattle.std.specs.Prelude.{Contains, filter}
+use Rattle.std.proofs.Common.{◌≡◌, ℕ, zero, suc, ◌+◌, ◌-◌, ◌<◌, ◌≤◌, Bool, true, false, cond, eqb, List, [], ◌∷◌, ◌++◌, length, map, length-append, take, drop, get_or, refl, sym, ◌∙◌, ap, subst, add-one, append_assoc, drop-cons, arith}
+use Rattle.std.specs.Prelude.{filter}
 use Rattle.std.proofs.lemmas.List.{take_more, same_lists, map-append, take-map, get_or_default}
 use Rattle.std.proofs.Math.ListN.{get_or-map}
 use Rattle.std.proofs.Math.Seq.{take-append_seam}
-use Rattle.std.proofs.lemmas.List.Elements.{Contains-append_cases, filter-append}
+use Rattle.std.proofs.lemmas.List.Elements.{filter-append}
+use Rattle.std.proofs.lemmas.List.Filters.{length-filter_more}
 use Rattle.graph_model.specs.declared.graph.verb.Edge.{Edge}
 use Rattle.graph_model.specs.declared.graph.verb.EdgeKind.TheVariants.{Passes}
 use Rattle.graph_model.specs.declared.kept.mark.Mark.{Mark}
 use Rattle.graph_model.specs.declared.kept.side.Side.{Side}
 use Rattle.graph_model.specs.declared.kept.side.Side.TheVariants.{From, To}
 use Rattle.graph_model.specs.declared.graph.verb.Verb.{Verb}
-use Rattle.graph_model.specs.kept.Rows.{Stock, edges_at, room_at, KeepsEdges, end_of, HasRoom, AddsEdge, AddsEdges, mark_at, fresh_mark, Marks, RowsValue, AddsRow}
-use Rattle.basics.proofs.ListFacts.{contains_none, contains_cases, contains_there}
+use Rattle.graph_model.specs.kept.Rows.{Stock, edges_at, room_at, KeepsEdges, KeepsRoom, end_of, ends_at, HasRoom, AddsEdge, AddsEdges, mark_at, fresh_mark, Marks, RowsValue, AddsRow}
 
 -- what is read past the end of a list of edges
 abbrev pub no_edge : Edge
 no_edge = record { from = 0; to = 0; kind = Passes }
 
-taken : {X : Type 0} (xs : List X) (i : ℕ) (d e : X) → i < length xs → Contains (take (i + 1) xs) e → Contains (take i xs) e ⊎ (get_or xs i d ≡ e)
-taken xs i d e h c = elim (Contains-append_cases (take i xs) (get_or xs i d ∷ []) e (subst (λ ys. Contains ys e) (take_more xs i d h) c)) [
-  | inl a ↦ inl a
-  | inr b ↦ (elim (contains_cases (get_or xs i d) [] e b) [ inl s ↦ inr s | inr n ↦ absurd (contains_none e n) ])
-]
+-- how many edges with an end are left, where the first has it or not
+one_first : {X : Type 0} (is_it : Bool) (x : X) (xs : List X) → length (cond is_it (x ∷ xs) xs) ≡ cond is_it 1 0 + length xs
+one_first true x xs = omega arith
+one_first false x xs = omega arith
 
-dropped : {X : Type 0} (xs : List X) (i : ℕ) (d e : X) → i < length xs → Contains (drop (i + 1) xs) e → Contains (drop i xs) e
-dropped xs i d e h c = subst (λ ys. Contains ys e) (sym (drop-cons xs i d h)) (contains_there (get_or xs i d) (drop (suc i) xs) e (subst (λ n. Contains (drop n xs) e) (add-one i) c))
+ends_drop : (side : Side) (given : List Edge) (i : ℕ) (d : Edge) (j : ℕ) → i < length given → ends_at side (drop i given) j ≡ cond (eqb (end_of side (get_or given i d)) j) 1 0 + ends_at side (drop (i + 1) given) j
+ends_drop side given i d j h =
+    let e : Edge = get_or given i d in
+    let p : Edge → Bool = λ x. eqb (end_of side x) j in
+    ap (λ es. length (filter p es)) (drop-cons given i d h)
+    ∙ (one_first (p e) e (filter p (drop (suc i) given))
+    ∙ ap (λ n. cond (p e) 1 0 + length (filter p (drop n given))) (sym (add-one i)))
 
--- one more edge that there is room for
-pub room_more : (side : Side) (old new : List Stock) (given : List Edge) (i n : ℕ) (d : Edge) → i < length given → HasRoom side old (take i given) n → KeepsEdges old new → n ≤ room_at new (end_of side (get_or given i d)) → HasRoom side new (take (i + 1) given) n
-room_more side old new given i n d h room keeps here = record {
-  at = λ x c. elim (taken given i d x h c) [
-    | inl before ↦ (let r : n ≤ room_at old (end_of side x) = room.at x before in let k : room_at old (end_of side x) ≤ room_at new (end_of side x) = keeps.room (end_of side x) in omega arith)
-    | inr same ↦ subst (λ y. n ≤ room_at new (end_of side y)) same here
-  ];
+-- one more edge that room is kept for
+pub room_more : (side : Side) (old new : List Stock) (given : List Edge) (i : ℕ) (d : Edge) → i < length given → HasRoom side old (take i given) → KeepsRoom old new (end_of side (get_or given i d)) → HasRoom side new (take (i + 1) given)
+room_more side old new given i d h room more = record {
+  at = λ j.
+    let r : ends_at side (take i given) j ≤ room_at old j = room.at j in
+    let k : room_at old j + cond (eqb (end_of side (get_or given i d)) j) 1 0 ≤ room_at new j = more.at j in
+    let t : ends_at side (take (i + 1) given) j ≡ ends_at side (take i given) j + cond (eqb (end_of side (get_or given i d)) j) 1 0 = length-filter_more (λ x. eqb (end_of side x) j) given i d h in
+    omega arith;
 }
 
 pub keeps_both : (a b c : List Stock) → KeepsEdges a b → KeepsEdges b c → KeepsEdges a c
@@ -55,12 +60,15 @@ adds_more side first old new given i d h before here =
           ∙ ap (λ es. edges_at first j ++ es) (sym (ap (filter (λ x. eqb (end_of side x) j)) more ∙ filter-append (λ x. eqb (end_of side x) j) (take i given) (e ∷ [])))));
     }
 
-pub room_left : (side : Side) (old new : List Stock) (given : List Edge) (i : ℕ) (d : Edge) → i < length given → AddsEdge old new (end_of side (get_or given i d)) (get_or given i d) →
-    ((x : Edge) → Contains (drop i given) x → length given ≤ room_at old (end_of side x) + i) → (x : Edge) → Contains (drop (i + 1) given) x → length given ≤ room_at new (end_of side x) + (i + 1)
-room_left side old new given i d h here before x c =
-    let b : length given ≤ room_at old (end_of side x) + i = before x (dropped given i d x h c) in
-    let k : room_at old (end_of side x) ≤ room_at new (end_of side x) + 1 = here.room (end_of side x) in
-    omega arith
+-- room for the edges that are left
+pub room_left : (side : Side) (old new : List Stock) (given : List Edge) (i : ℕ) (d : Edge) → i < length given → AddsEdge old new (end_of side (get_or given i d)) (get_or given i d) → HasRoom side old (drop i given) → HasRoom side new (drop (i + 1) given)
+room_left side old new given i d h here room = record {
+  at = λ j.
+    let r : ends_at side (drop i given) j ≤ room_at old j = room.at j in
+    let k : room_at old j ≤ room_at new j + cond (eqb (end_of side (get_or given i d)) j) 1 0 = here.room j in
+    let t : ends_at side (drop i given) j ≡ cond (eqb (end_of side (get_or given i d)) j) 1 0 + ends_at side (drop (i + 1) given) j = ends_drop side given i d j h in
+    omega arith;
+}
 
 -- the edges alone
 abbrev pub edge_lists : List Stock → List (List Edge)

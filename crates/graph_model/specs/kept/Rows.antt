@@ -10,7 +10,7 @@ use Rattle.graph_model.specs.declared.kept.side.Side.TheVariants.{From, To}
 use Rattle.graph_model.specs.graph.Graph.{GraphValue, ends_user, is_release_of, arrival_weight, arrivals}
 use Rattle.graph_model.specs.graph.Edges.{edges_into, edges_out_of}
 
--- edges, and how many more there is room for
+-- edges, and for how many more of them room is kept
 pub record Stock : Type 0 where
   pub edges : List Edge
   pub room : ℕ
@@ -39,15 +39,23 @@ end_of To e = e.to
 pub record EndsBelow (side : Side) (given : List Edge) (n : ℕ) : Type 0 where
   pub below : (e : Edge) → Contains given e → end_of side e < n
 
--- there is room for so many edges at the ends of these
-pub record HasRoom (side : Side) (stocks : List Stock) (given : List Edge) (many : ℕ) : Type 0 where
-  pub at : (e : Edge) → Contains given e → many ≤ room_at stocks (end_of side e)
+-- how many edges have this end
+abbrev pub ends_at : Side → List Edge → ℕ → ℕ
+ends_at side given i = length (filter (λ e. end_of side e == i) given)
 
--- one more edge at a place
+-- room is kept for each of these edges at the end of it
+pub record HasRoom (side : Side) (stocks : List Stock) (given : List Edge) : Type 0 where
+  pub at : (i : ℕ) → ends_at side given i ≤ room_at stocks i
+
+-- room is kept for one more edge at a place
+pub record KeepsRoom (old new : List Stock) (place : ℕ) : Type 0 where
+  pub at : (i : ℕ) → room_at old i + cond (place == i) 1 0 ≤ room_at new i
+
+-- one more edge at a place, in the room that was kept there
 pub record AddsEdge (old new : List Stock) (place : ℕ) (e : Edge) : Type 0 where
   pub count : length new ≡ length old
   pub edges : (i : ℕ) → edges_at new i ≡ edges_at old i ++ cond (place == i) (e ∷ []) []
-  pub room : (i : ℕ) → room_at old i ≤ room_at new i + 1
+  pub room : (i : ℕ) → room_at old i ≤ room_at new i + cond (place == i) 1 0
 
 -- each of these edges is added at an end of it
 pub record AddsEdges (side : Side) (old new : List Stock) (given : List Edge) : Type 0 where

@@ -104,11 +104,11 @@ impl Rows {
     }
 }
 
-/// Adds an empty list of edges, and makes room at an end of each of these edges.
+/// Adds an empty list of edges, and keeps room for each of these edges at an end of it.
 fn open(alloc: Global, stocks: &mut Vec<Stock>, side: Side, given: &[Edge]) -> Result<(), NoMemory>
     requires { EndsBelow side given.now (length stocks.old.items + 1) }
     ensures opened { OnOk result (map (λ s. s.edges) stocks.new.items ≡ map (λ s. s.edges) stocks.old.items ++ [] ∷ []) }
-    ensures room { OnOk result (HasRoom side stocks.new.items given.now (length given.now)) }
+    ensures room { OnOk result (HasRoom side stocks.new.items given.now) }
     ensures err { OnErr result (map (λ s. s.edges) stocks.new.items ≡ map (λ s. s.edges) stocks.old.items) }
 {
     push(stocks, Stock::new(alloc))?;

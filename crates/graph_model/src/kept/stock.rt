@@ -2,7 +2,7 @@
 
 ghost use Rattle.std.specs.Prelude.{◌≡◌, ◌<◌, ◌≤◌, ◌+◌, [], ◌∷◌, ◌++◌, length, vec_len, OnOk};
 ghost use Rattle.std.specs.Vec.{vec_capacity};
-ghost use Rattle.graph_model.specs.kept.Rows.{room_at, KeepsEdges, EndsBelow, HasRoom, AddsEdge, AddsEdges};
+ghost use Rattle.graph_model.specs.kept.Rows.{KeepsEdges, EndsBelow, HasRoom, KeepsRoom, AddsEdge, AddsEdges, room_at};
 
 use crate::graph::verb::Edge;
 use crate::kept::side::Side;
@@ -15,17 +15,18 @@ use std::marker::Model;
 /// How many edges are kept without an allocation.
 const FEW: usize = 2;
 
-/// Edges, seen with how many more there is room for. All stand in `few` while there are no more
+/// Edges, seen with how many more room is kept for. All stand in `few` while there are no more
 /// than it holds, and else all in `many`: most lines have one or two edges at an end, and room for
 /// these takes no allocation.
 #[derive(Drop)]
 pub(crate) struct Stock {
     few: ArrayVec<Edge, FEW>,
     many: Vec<Edge>,
+    kept: usize,
 }
 
 impl Model for Stock {
-    ghost use Rattle.std.specs.Prelude.{◌≡◌, ◌<◌, ◌-◌, [], ◌++◌, length, max};
+    ghost use Rattle.std.specs.Prelude.{◌≡◌, ◌<◌, ◌≤◌, ◌+◌, [], ◌++◌, length, max};
     ghost use Rattle.std.specs.Vec.{vec_capacity};
     ghost use Rattle.graph_model.specs.kept.Rows.{Stock as StockValue};
 
@@ -33,10 +34,13 @@ impl Model for Stock {
 
     ghost view = { λ a. record {
       edges = a.few.items ++ a.many.items;
-      room = max 2 (vec_capacity a.many) - length (a.few.items ++ a.many.items);
+      room = a.kept;
     } };
 
-    ghost invariant = { λ a. 0 < length a.many.items → (a.few.items ≡ []) × (2 < length a.many.items) };
+    ghost invariant = { λ a. record {
+      apart : 0 < length a.many.items → (a.few.items ≡ []) × (2 < length a.many.items);
+      room : length a.few.items + length a.many.items + a.kept ≤ max 2 (vec_capacity a.many);
+    } };
 }
 
 impl Stock {
@@ -46,6 +50,7 @@ impl Stock {
         Stock {
             few: ArrayVec::new(),
             many: Vec::new(alloc),
+            kept: 0,
         }
     }
 
@@ -59,18 +64,19 @@ impl Stock {
         }
     }
 
-    fn reserve(&mut self, more: usize) -> Result<(), NoMemory>
+    /// Keeps room for one more edge.
+    fn keep_room(&mut self) -> Result<(), NoMemory>
         ensures edges { self.new.edges ≡ self.old.edges }
         ensures keeps { self.old.room ≤ self.new.room }
-        ensures room { OnOk result (more ≤ self.new.room) }
+        ensures more { OnOk result (self.new.room ≡ self.old.room + 1) }
     {
-        if self.many.is_empty() && more <= self.few.remaining_capacity() {
-            return Ok(());
+        let kept = self.kept.checked_add(1).ok_or(NoMemory)?;
+        if !self.many.is_empty() || kept > self.few.remaining_capacity() {
+            let more = self.few.len().checked_add(kept).ok_or(NoMemory)?;
+            reserve(&mut self.many, more)?;
         }
-        let Some(all) = self.few.len().checked_add(more) else {
-            return Err(NoMemory);
-        };
-        reserve(&mut self.many, all)
+        self.kept = kept;
+        Ok(())
     }
 
     fn push(&mut self, edge: Edge)
@@ -83,6 +89,7 @@ impl Stock {
         } else {
             push_many(&mut self.few, &mut self.many, edge);
         }
+        self.kept -= 1;
     }
 }
 
@@ -100,14 +107,14 @@ fn push_many(few: &mut ArrayVec<Edge, FEW>, many: &mut Vec<Edge>, edge: Edge)
     push_within(many, edge);
 }
 
-/// Makes room at an end of each edge for as many edges as are given.
+/// Keeps room for each edge at an end of it.
 pub(crate) fn make_room(stocks: &mut [Stock], side: Side, given: &[Edge]) -> Result<(), NoMemory>
     requires { EndsBelow side given.now (length stocks.old) }
     ensures keeps { KeepsEdges stocks.old stocks.new }
-    ensures room { OnOk result (HasRoom side stocks.new given.now (length given.now)) }
+    ensures room { OnOk result (HasRoom side stocks.new given.now) }
 {
     for edge in given {
-        reserve_at(stocks, side.of(edge), given.len())?;
+        keep_room_at(stocks, side.of(edge))?;
     }
     Ok(())
 }
@@ -115,7 +122,7 @@ pub(crate) fn make_room(stocks: &mut [Stock], side: Side, given: &[Edge]) -> Res
 /// Adds each edge at an end of it.
 pub(crate) fn add_all(stocks: &mut [Stock], side: Side, given: &[Edge])
     requires below { EndsBelow side given.now (length stocks.old) }
-    requires room { HasRoom side stocks.old given.now (length given.now) }
+    requires room { HasRoom side stocks.old given.now }
     ensures { AddsEdges side stocks.old stocks.new given.now }
 {
     for edge in given {
@@ -123,13 +130,13 @@ pub(crate) fn add_all(stocks: &mut [Stock], side: Side, given: &[Edge])
     }
 }
 
-fn reserve_at(stocks: &mut [Stock], place: u32, more: usize) -> Result<(), NoMemory>
+fn keep_room_at(stocks: &mut [Stock], place: u32) -> Result<(), NoMemory>
     requires { place < length stocks.old }
     ensures keeps { KeepsEdges stocks.old stocks.new }
-    ensures room { OnOk result (more ≤ room_at stocks.new place) }
+    ensures room { OnOk result (KeepsRoom stocks.old stocks.new place) }
 {
     let stock = &mut stocks[place as usize];
-    stock.reserve(more)
+    stock.keep_room()
 }
 
 fn push_at(stocks: &mut [Stock], place: u32, edge: Edge)
