@@ -1,8 +1,7 @@
 -- What an acquire names and spells, whether it is shared or not.
-use Rattle.std.proofs.Common.{◌≡◌, ℕ, Bool, true, false, not, List, [], refl}
+use Rattle.std.proofs.Common.{◌≡◌, ℕ, Bool, true, false, [], refl}
 use Rattle.std.specs.Prelude.{nat_le, length}
-use Rattle.graph_model.specs.declared.graph.format.Format.{Format}
-use Rattle.graph_model.specs.declared.graph.format.Format.TheVariants.{One, Two}
+use Rattle.graph_model.specs.declared.graph.format.Format.TheVariants.{Two}
 use Rattle.graph_model.specs.declared.graph.verb.Verb.{Verb}
 use Rattle.graph_model.specs.declared.graph.verb.Verb.TheVariants.{Acquire}
 use Rattle.graph_model.specs.graph.Graph.{GraphValue, locks}
