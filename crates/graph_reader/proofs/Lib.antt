@@ -13,6 +13,7 @@ pub mod TextTells
 pub mod ReadSoFar
 pub mod Prefixes
 pub mod WholeText
+pub mod TextLines
 pub mod ExampleReadings
 pub mod CutBytes
 pub mod WordLists

@@ -26,7 +26,7 @@ get_left [] ys n h = absurd (omega arith)
 get_left (x ∷ xs) ys zero h = refl
 get_left (x ∷ xs) ys (suc n) h = get_left xs ys n (omega arith)
 
-abbrev graph_of : Format → List Decl → List Line → GraphValue
+abbrev pub graph_of : Format → List Decl → List Line → GraphValue
 graph_of fm decls lines = record { format = fm; decls = decls; lines = lines }
 
 space_kept : (fm : Format) (ds es : List Decl) (ks ls : List Line) (n : ℕ) → n < length (named_spaces (graph_of fm ds ks)) → space_name (graph_of fm ds ks) n ≡ space_name (graph_of fm (ds ++ es) ls) n
