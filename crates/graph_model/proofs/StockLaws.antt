@@ -35,10 +35,10 @@ ends_drop side given i d j h =
 pub room_more : (side : Side) (old new : List Stock) (given : List Edge) (i : ℕ) (d : Edge) → i < length given → HasRoom side old (take i given) → KeepsRoom old new (end_of side (get_or given i d)) → HasRoom side new (take (i + 1) given)
 room_more side old new given i d h room more = record {
   at = λ j.
-    let r : ends_at side (take i given) j ≤ room_at old j = room.at j in
-    let k : room_at old j + cond (eqb (end_of side (get_or given i d)) j) 1 0 ≤ room_at new j = more.at j in
-    let t : ends_at side (take (i + 1) given) j ≡ ends_at side (take i given) j + cond (eqb (end_of side (get_or given i d)) j) 1 0 = length-filter_more (λ x. eqb (end_of side x) j) given i d h in
-    omega arith;
+      let r : ends_at side (take i given) j ≤ room_at old j = room.at j in
+      let k : room_at old j + cond (eqb (end_of side (get_or given i d)) j) 1 0 ≤ room_at new j = more.at j in
+      let t : ends_at side (take (i + 1) given) j ≡ ends_at side (take i given) j + cond (eqb (end_of side (get_or given i d)) j) 1 0 = length-filter_more (λ x. eqb (end_of side x) j) given i d h in
+      omega arith;
 }
 
 pub keeps_both : (a b c : List Stock) → KeepsEdges a b → KeepsEdges b c → KeepsEdges a c
@@ -64,10 +64,10 @@ adds_more side first old new given i d h before here =
 pub room_left : (side : Side) (old new : List Stock) (given : List Edge) (i : ℕ) (d : Edge) → i < length given → AddsEdge old new (end_of side (get_or given i d)) (get_or given i d) → HasRoom side old (drop i given) → HasRoom side new (drop (i + 1) given)
 room_left side old new given i d h here room = record {
   at = λ j.
-    let r : ends_at side (drop i given) j ≤ room_at old j = room.at j in
-    let k : room_at old j ≤ room_at new j + cond (eqb (end_of side (get_or given i d)) j) 1 0 = here.room j in
-    let t : ends_at side (drop i given) j ≡ cond (eqb (end_of side (get_or given i d)) j) 1 0 + ends_at side (drop (i + 1) given) j = ends_drop side given i d j h in
-    omega arith;
+      let r : ends_at side (drop i given) j ≤ room_at old j = room.at j in
+      let k : room_at old j ≤ room_at new j + cond (eqb (end_of side (get_or given i d)) j) 1 0 = here.room j in
+      let t : ends_at side (drop i given) j ≡ cond (eqb (end_of side (get_or given i d)) j) 1 0 + ends_at side (drop (i + 1) given) j = ends_drop side given i d j h in
+      omega arith;
 }
 
 -- the edges alone
