@@ -3,3 +3,4 @@ pub mod Refused
 pub mod Accepted
 pub mod Named
 pub mod Unread
+pub mod Laws

@@ -3,6 +3,7 @@
 
 pub mod accepted;
 mod conflict;
+pub mod laws;
 mod lines;
 mod named;
 pub mod naming;
