@@ -1,3 +1,4 @@
 pub mod TextFacts
 pub mod AcceptedFacts
 pub mod NamedFacts
+mod LineLaws

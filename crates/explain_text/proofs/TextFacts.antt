@@ -1,17 +1,15 @@
 -- Texts that grow at their end.
-use Rattle.std.proofs.Common.{◌≡◌, ℕ, ◌+◌, ◌<◌, ◌≤◌, true, false, List, [], ◌∷◌, ◌++◌, length, take, map, refl, sym, ◌∙◌, ap, append_assoc, arith}
-use Rattle.std.specs.Prelude.{Result, Ok, Err, OnOk, slice_index, codes, flat_map, ◌==◌}
+use Rattle.std.proofs.Common.{◌≡◌, ℕ, ◌+◌, ◌<◌, ◌≤◌, List, [], ◌∷◌, ◌++◌, length, take, map, sym, ◌∙◌, ap, append_assoc}
+use Rattle.std.specs.Prelude.{Result, Ok, Err, OnOk, codes, flat_map}
 use Rattle.std.specs.Borrow.{Bor}
-use Rattle.std.proofs.lemmas.Bool.{true≢false, eqb-true}
 use Rattle.std.specs.List.{slice_index_or}
 use Rattle.std.proofs.lemmas.List.{take_more, take_all, append-nil, map-append}
 use Rattle.std.proofs.lemmas.Grind.{flat_map-append}
 use Rattle.basics.specs.Words.{contents}
 use Rattle.graph_model.specs.declared.graph.verb.Edge.{Edge}
 use Rattle.graph_model.specs.graph.Graph.{GraphValue}
-use Rattle.explain_text.specs.Refused.{in_sections, order_text, held_text, advice_text}
 use Rattle.explain_text.specs.Unread.{blank_word}
-use Rattle.explain_text.specs.Lines.{by_number, numbered, edge_text, edges_text, lines_text}
+use Rattle.explain_text.specs.Lines.{edge_text, edges_text}
 
 -- one part, and then the rest
 pub then_put : (old mid new a b : List ℕ) → mid ≡ old ++ a → new ≡ mid ++ b → new ≡ old ++ (a ++ b)
@@ -45,48 +43,6 @@ edges_more g ls old mid new es k d below first second =
 
 pub edges_end : (g : GraphValue) (ls : List (List ℕ)) (old new : List ℕ) (es : List Edge) (k : ℕ) → length es ≤ k → new ≡ old ++ edges_text g ls (take k es) → new ≡ old ++ edges_text g ls es
 edges_end g ls old new es k past is = is ∙ ap (λ xs. old ++ edges_text g ls xs) (take_all k es past)
-
--- the same of lines
-pub lines_begin : (g : GraphValue) (ls : List (List ℕ)) (old : List ℕ) → old ≡ old ++ lines_text g ls []
-lines_begin g ls old = sym (append-nil old)
-
-lines_push : (g : GraphValue) (ls : List (List ℕ)) (is : List ℕ) (i : ℕ) → lines_text g ls (is ++ i ∷ []) ≡ lines_text g ls is ++ numbered g ls i
-lines_push g ls [] i = append-nil (numbered g ls i)
-lines_push g ls (x ∷ is) i = ap (λ z. numbered g ls x ++ z) (lines_push g ls is i) ∙ sym (append_assoc (numbered g ls x) (lines_text g ls is) (numbered g ls i))
-
-pub lines_more : (g : GraphValue) (ls : List (List ℕ)) (old mid new : List ℕ) (is : List ℕ) (k : ℕ) → k < length is → mid ≡ old ++ lines_text g ls (take k is) → new ≡ mid ++ numbered g ls (slice_index is k) →
-    new ≡ old ++ lines_text g ls (take (k + 1) is)
-lines_more g ls old mid new is k below first second =
-    then_put old mid new (lines_text g ls (take k is)) (numbered g ls (slice_index is k)) first second
-    ∙ ap (λ z. old ++ z) (sym (ap (lines_text g ls) (take_more is k 0 below) ∙ lines_push g ls (take k is) (slice_index is k)))
-
-pub lines_end : (g : GraphValue) (ls : List (List ℕ)) (old new : List ℕ) (is : List ℕ) (k : ℕ) → length is ≤ k → new ≡ old ++ lines_text g ls (take k is) → new ≡ old ++ lines_text g ls is
-lines_end g ls old new is k past e = e ∙ ap (λ xs. old ++ lines_text g ls xs) (take_all k is past)
-
--- the sections of a line, of which there are none or some
-pub in_none : (g : GraphValue) (ls : List (List ℕ)) (i : ℕ) (qs : List ℕ) → (length qs == 0) ≡ true → by_number g i ++ codes " lies in no section\n" ≡ in_sections g ls i qs
-in_none g ls i [] e = refl
-in_none g ls i (q ∷ qs) e = absurd (let z : length (q ∷ qs) ≡ 0 = eqb-true (length (q ∷ qs)) 0 e in omega arith)
-
-pub in_some : (g : GraphValue) (ls : List (List ℕ)) (i : ℕ) (qs : List ℕ) → (length qs == 0) ≡ false → by_number g i ++ (codes " lies in the section of\n" ++ lines_text g ls qs) ≡ in_sections g ls i qs
-in_some g ls i [] e = absurd (true≢false e)
-in_some g ls i (q ∷ qs) e = refl
-
--- what would order two lines, of which the second lies in no section or in some
-pub advice_none : (g : GraphValue) (ls : List (List ℕ)) (i j : ℕ) (qs : List ℕ) → (length qs == 0) ≡ true → order_text g i j ≡ advice_text g ls i j qs
-advice_none g ls i j [] e = refl
-advice_none g ls i j (q ∷ qs) e = absurd (let z : length (q ∷ qs) ≡ 0 = eqb-true (length (q ∷ qs)) 0 e in omega arith)
-
-pub advice_some : (g : GraphValue) (ls : List (List ℕ)) (i j : ℕ) (qs : List ℕ) → (length qs == 0) ≡ false → held_text g ls i j qs ≡ advice_text g ls i j qs
-advice_some g ls i j [] e = absurd (true≢false e)
-advice_some g ls i j (q ∷ qs) e = refl
-
--- the text of one more number
-pub each_more : (f : ℕ → List ℕ) (old mid new : List ℕ) (is : List ℕ) (k : ℕ) → k < length is → mid ≡ old ++ flat_map f (take k is) → new ≡ mid ++ f (slice_index is k) → new ≡ old ++ flat_map f (take (k + 1) is)
-each_more f old mid new is k below first second =
-    let pushed : flat_map f (take (k + 1) is) ≡ flat_map f (take k is) ++ f (slice_index is k) =
-    ap (flat_map f) (take_more is k 0 below) ∙ (flat_map-append f (take k is) (slice_index is k ∷ []) ∙ ap (λ z. flat_map f (take k is) ++ z) (append-nil (f (slice_index is k)))) in
-    then_put old mid new (flat_map f (take k is)) (f (slice_index is k)) first second ∙ ap (λ z. old ++ z) (sym pushed)
 
 -- spaces as wide as one more word
 pub blanks_more : (words : List (Bor (List ℕ))) (k : ℕ) (d : Bor (List ℕ)) (old mid wide new : List ℕ) → k < length words → mid ≡ old ++ flat_map blank_word (contents (take k words)) →

@@ -1,5 +1,5 @@
 pub mod Lines
-pub mod Refused
 pub mod Accepted
 pub mod Named
 pub mod Unread
+pub mod Laws

@@ -2,8 +2,6 @@
 use Rattle.std.specs.Prelude.{ℕ, ◌+◌, List, [], ◌∷◌, ◌++◌, length, codes, decimal}
 use Rattle.std.specs.List.{slice_index_or}
 use Rattle.graph_model.specs.declared.graph.verb.Edge.{Edge}
-use Rattle.graph_model.specs.declared.graph.verb.Mode.{Mode}
-use Rattle.graph_model.specs.declared.graph.verb.Mode.TheVariants.{Read, Write, Sum, Least, Most}
 use Rattle.graph_model.specs.graph.Graph.{GraphValue}
 use Rattle.explain_graph.specs.declared.causes.Cause.{Cause}
 use Rattle.explain_graph.specs.declared.causes.Cause.TheVariants.{On, Merge, MergeIgnore, Trigger, Cancel, Arrival, PhaseOrder}
@@ -33,14 +31,6 @@ cause_word Cancel = codes "cancel"
 cause_word Arrival = codes "arrival"
 cause_word PhaseOrder = codes "phase order"
 
--- how a use of a column is told
-abbrev pub mode_word : Mode → List ℕ
-mode_word Read = codes "reads"
-mode_word Write = codes "writes"
-mode_word Sum = codes "adds to"
-mode_word Least = codes "takes the least into"
-mode_word Most = codes "takes the greatest into"
-
 -- for which line another waits, and why
 abbrev pub waits_for : GraphValue → Edge → List ℕ
 waits_for g e = by_number g e.to ++ (codes " waits for " ++ (by_number g e.from ++ (codes " (" ++ (cause_word (cause_in g e) ++ codes ")"))))
@@ -52,8 +42,3 @@ edge_text g ls e = waits_for g e ++ (codes ": " ++ (line_of g ls e.to ++ codes "
 abbrev pub edges_text : GraphValue → List (List ℕ) → List Edge → List ℕ
 edges_text g ls [] = []
 edges_text g ls (e ∷ es) = edge_text g ls e ++ edges_text g ls es
-
--- lines, one after the other
-abbrev pub lines_text : GraphValue → List (List ℕ) → List ℕ → List ℕ
-lines_text g ls [] = []
-lines_text g ls (i ∷ is) = numbered g ls i ++ lines_text g ls is

@@ -2,11 +2,10 @@
 #![tactic(auto)]
 
 pub mod accepted;
-mod conflict;
-mod lines;
+pub mod laws;
+pub mod lines;
 mod named;
 pub mod naming;
-pub mod refused;
 pub mod split;
 pub mod text;
 pub mod unread;
@@ -14,7 +13,6 @@ mod words;
 
 pub use accepted::{put_cancelled, put_need, put_need_line, put_waiting, put_ways};
 pub use naming::{NamedWord, column_spaces, named_words, put_named_words};
-pub use refused::put_explanation;
 pub use split::split_lines;
 pub use text::Text;
 pub use unread::{line_at, put_ended, put_limit, put_mark, put_unread};

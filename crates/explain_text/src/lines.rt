@@ -3,9 +3,8 @@
 ghost use Rattle.std.specs.Prelude.{◌≡◌, ◌++◌, Contains, codes, OnOk};
 ghost use Rattle.basics.specs.Words.{contents};
 ghost use Rattle.graph_model.specs.graph.Edges.{edges};
-ghost use Rattle.graph_model.specs.graph.Spelling.{line_name};
 ghost use Rattle.explain_graph.specs.Explanation.{AreEdges};
-ghost use Rattle.explain_text.specs.Lines.{line_number, line_of, by_number, numbered, waits_for, edge_text, edges_text, lines_text};
+ghost use Rattle.explain_text.specs.Lines.{line_number, line_of, by_number, numbered, waits_for, edge_text, edges_text};
 
 use crate::text::Text;
 use crate::words::cause_word;
@@ -15,7 +14,7 @@ use graph_model::verb::Edge;
 use index_spaces::NoMemory;
 
 /// Puts `line` and the number of a line.
-pub(crate) fn put_by_number(text: &mut Text, graph: &Graph, i: u32) -> Result<(), NoMemory>
+pub fn put_by_number(text: &mut Text, graph: &Graph, i: u32) -> Result<(), NoMemory>
     ensures { OnOk result (text.new ≡ text.old ++ by_number graph.now i) }
 {
     let number = u64::from(i) + u64::from(graph.decls()) + 2;
@@ -49,26 +48,11 @@ pub(crate) fn put_line(
 }
 
 /// Puts a line with its number.
-pub(crate) fn put_numbered(
-    text: &mut Text,
-    graph: &Graph,
-    lines: &[&[u8]],
-    i: u32,
-) -> Result<(), NoMemory>
+pub fn put_numbered(text: &mut Text, graph: &Graph, lines: &[&[u8]], i: u32) -> Result<(), NoMemory>
     ensures { OnOk result (text.new ≡ text.old ++ numbered graph.now (contents lines.now) i) }
 {
     put_by_number(text, graph, i)?;
     put_line(text, graph, lines, i)
-}
-
-/// Puts the name of a line; none where there is no such line.
-pub(crate) fn put_name(text: &mut Text, graph: &Graph, i: u32) -> Result<(), NoMemory>
-    ensures { OnOk result (text.new ≡ text.old ++ line_name graph.now i) }
-{
-    if i >= graph.lines() {
-        return Ok(());
-    }
-    text.put(graph.line(i).name.bytes())
 }
 
 /// Puts for which line another waits, and why.
@@ -95,7 +79,7 @@ fn put_edge(text: &mut Text, graph: &Graph, lines: &[&[u8]], edge: Edge) -> Resu
 }
 
 /// Puts edges, one after the other.
-pub(crate) fn put_edges(
+pub fn put_edges(
     text: &mut Text,
     graph: &Graph,
     lines: &[&[u8]],
@@ -106,21 +90,6 @@ pub(crate) fn put_edges(
 {
     for edge in path {
         put_edge(text, graph, lines, *edge)?;
-    }
-    Ok(())
-}
-
-/// Puts lines, one after the other.
-pub(crate) fn put_lines(
-    text: &mut Text,
-    graph: &Graph,
-    lines: &[&[u8]],
-    numbers: &[u32],
-) -> Result<(), NoMemory>
-    ensures { OnOk result (text.new ≡ text.old ++ lines_text graph.now (contents lines.now) numbers.now) }
-{
-    for i in numbers {
-        put_numbered(text, graph, lines, *i)?;
     }
     Ok(())
 }

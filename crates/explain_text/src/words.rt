@@ -1,12 +1,11 @@
-//! Words for causes, for uses of columns and for faults.
+//! Words for causes and for faults.
 
 ghost use Rattle.std.specs.Prelude.{◌≡◌};
 ghost use Rattle.explain_text.specs.Accepted.{fault_word};
-ghost use Rattle.explain_text.specs.Lines.{cause_word, mode_word};
+ghost use Rattle.explain_text.specs.Lines.{cause_word};
 
 use explain_graph::Cause;
 use graph_model::outcome::End;
-use graph_model::verb::Mode;
 
 /// The word for a cause.
 pub(crate) fn cause_word(cause: Cause) -> &'static [u8]
@@ -20,19 +19,6 @@ pub(crate) fn cause_word(cause: Cause) -> &'static [u8]
         Cause::Cancel => b"cancel",
         Cause::Arrival => b"arrival",
         Cause::PhaseOrder => b"phase order",
-    }
-}
-
-/// How a line uses a column.
-pub(crate) fn mode_word(mode: Mode) -> &'static [u8]
-    ensures { result.now ≡ mode_word mode }
-{
-    match mode {
-        Mode::Read => b"reads",
-        Mode::Write => b"writes",
-        Mode::Sum => b"adds to",
-        Mode::Least => b"takes the least into",
-        Mode::Most => b"takes the greatest into",
     }
 }
 

@@ -27,10 +27,10 @@ use Rattle.explain_graph.specs.Ways.{AreLongest}
 use Rattle.explain_graph.specs.declared.explanation.Explanation.{Explanation}
 use Rattle.explain_graph.specs.declared.ways.Way.{Way}
 use Rattle.explain_text.specs.Accepted.{need_text, need_line_text, each_text, waiting_text, cancelled_text, ways_text}
-use Rattle.explain_text.specs.Refused.{explanation_text}
 use Rattle.explain_text.specs.Named.{IsNamedWord, told_word, told_words, space_word, named_texts}
 use Rattle.explain_text.specs.declared.naming.NamedWord.{NamedWord}
 use Rattle.explain_text.specs.Unread.{unread_text, mark_text, limit_text, ended_text}
+use Rattle.refusal_text.specs.Refused.{explanation_text}
 use Rattle.refused_words.specs.Refused.{IsRefusedWord}
 use Rattle.refused_words.specs.Ends.{IsEndedBy}
 use Rattle.refused_words.specs.Limits.{QuantityValue, quantity_value, limit_of}

@@ -13,8 +13,8 @@ use crate::accepted::put_accepted;
 use explain_graph::explain;
 use explain_text::split::split;
 use explain_text::{
-    NamedWord, Text, column_spaces, line_at, named_words, put_ended, put_explanation, put_limit,
-    put_mark, put_named_words, put_unread, split_lines,
+    NamedWord, Text, column_spaces, line_at, named_words, put_ended, put_limit, put_mark,
+    put_named_words, put_unread, split_lines,
 };
 use graph_model::format::Format;
 use graph_model::graph::Graph;
@@ -23,6 +23,7 @@ use graph_reader::{Reading, Unread, read_text};
 use index_spaces::NoMemory;
 use race_check::check;
 use race_check::checked::{CheckRefusal, Unfit};
+use refusal_text::put_explanation;
 use refused_words::{Quantity, ended_by, passed_limit, refused_word};
 use std::alloc::Global;
 

@@ -1,0 +1,34 @@
+-- What is told as a line of the text is that line.
+use Rattle.std.proofs.Common.{◌≡◌, ℕ, ◌+◌, ◌-◌, List, [], length, sym, ◌∙◌, ap, arith}
+use Rattle.std.specs.Prelude.{Some, slice_get}
+use Rattle.std.specs.List.{join_with_byte}
+use Rattle.std.proofs.lemmas.Option.{get_or_from_slice_get}
+use Rattle.graph_model.specs.declared.graph.verb.Line.{Line}
+use Rattle.graph_model.specs.graph.Graph.{GraphValue}
+use Rattle.graph_model.specs.graph.Spelling.{line_words}
+use Rattle.graph_reader.specs.Words.{pieces}
+use Rattle.graph_reader.specs.Laws.{StandsAt, OperationsStand, LinesStand, refused_line}
+use Rattle.graph_reader.proofs.TextLines.{lines_stand}
+use Rattle.explain_text.specs.Lines.{line_number, line_of}
+use Rattle.explain_text.specs.Laws.{TellsLine, TellsLines, TellsOwnLines}
+
+tells_line : (bytes : List ℕ) (g : GraphValue) (i : ℕ) (l : Line) → StandsAt bytes g i l → TellsLine bytes g i l
+tells_line bytes g i l s =
+    let line : line_of g (pieces 10 bytes) i ≡ join_with_byte 32 (line_words g l) = get_or_from_slice_get (pieces 10 bytes) (i + length g.decls + 1) (join_with_byte 32 (line_words g l)) [] s.line in
+    record {
+      number = ap (slice_get (pieces 10 bytes)) (let j : line_number g i - 1 ≡ i + length g.decls + 1 = omega arith in j) ∙ (s.line ∙ ap (λ x. Some x) (sym line));
+      line = line;
+      words = ap (pieces 32) line ∙ s.words;
+    }
+
+tells_lines : (bytes : List ℕ) (g : GraphValue) → OperationsStand bytes g → TellsLines bytes g
+tells_lines bytes g s i l at = tells_line bytes g i l (s i l at)
+
+pub tells_own_lines : (bytes : List ℕ) → TellsOwnLines bytes
+tells_own_lines bytes =
+    let stand : LinesStand bytes = lines_stand bytes in
+    record {
+      of_text = λ g t. tells_lines bytes g (stand.of_text g t);
+      above = λ n w f. tells_lines bytes f.before (stand.above_line n w f);
+      refused = λ n w f. get_or_from_slice_get (pieces 10 bytes) (n - 1) (refused_line bytes n w f) [] (stand.refused n w f);
+    }

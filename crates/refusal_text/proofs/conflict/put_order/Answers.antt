@@ -1,0 +1,18 @@
+use Rattle.std.proofs.Common.{ap, sym}
+use Rattle.std.specs.Prelude.{codes, None}
+use Rattle.std.specs.Option.{option_map_or}
+use Rattle.graph_model.specs.declared.graph.verb.Line.{Line}
+use Rattle.explain_text.specs.Lines.{by_number}
+use Rattle.refusal_text.specs.Refused.{advice_by, on_of}
+use Rattle.explain_text.proofs.TextFacts.{then_puts, puts_as}
+use Rattle.refusal_text.proofs.conflict.put_order.Goals as goal
+
+pub returns : goal.returns
+returns c =
+    let g = c.args.graph.now in
+    let r = c.put_advice_by.result in
+    (then_puts r _ _ _ (codes "to order them, put ") _ c.in_ok-put.ensures
+    (then_puts r _ _ _ (by_number g c.args.second) _ c.in_ok-put_by_number.ensures
+    (then_puts r _ _ _ (codes " ") _ c.in_ok-put-2.ensures
+    (puts_as r c.put-2.new.self c.put_advice_by.new.text (advice_by g c.line.result.now.on c.args.first) (advice_by g (on_of g c.args.second) c.args.first)
+    (ap (λ o. advice_by g o c.args.first) (sym (ap (λ o. option_map_or (λ (l : Line). l.on) o None) c.line.ensures.line))) c.put_advice_by.ensures))))

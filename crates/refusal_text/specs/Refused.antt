@@ -1,0 +1,169 @@
+-- The text of each explanation.
+use Rattle.std.specs.Prelude.{ℕ, ◌==◌, Bool, false, cond, List, [], ◌∷◌, ◌++◌, flat_map, codes, decimal, Option, Some, None, slice_get, Vec}
+use Rattle.std.specs.Option.{option_map_or}
+use Rattle.std.specs.List.{list_any}
+use Rattle.std.specs.Global.{Global}
+use Rattle.graph_model.specs.declared.graph.verb.Edge.{Edge}
+use Rattle.graph_model.specs.declared.graph.verb.Line.{Line}
+use Rattle.graph_model.specs.declared.graph.verb.Mode.{Mode}
+use Rattle.graph_model.specs.declared.graph.verb.Mode.TheVariants.{Read, Write, Sum, Least, Most}
+use Rattle.graph_model.specs.graph.Graph.{GraphValue}
+use Rattle.graph_model.specs.graph.Spelling.{line_name, lock_name, column_name}
+use Rattle.graph_model.specs.meaning.Reservations.{lock_at}
+use Rattle.graph_model.specs.meaning.Rules.{both_shared}
+use Rattle.explanations.specs.declared.meetings.Meeting.{Meeting}
+use Rattle.explanations.specs.declared.races.SharedPoint.{SharedPoint}
+use Rattle.explain_graph.specs.declared.reasons.CycleReason.{CycleReason}
+use Rattle.explain_graph.specs.declared.reasons.UnreleasedReason.{UnreleasedReason}
+use Rattle.explain_graph.specs.declared.reasons.SectionReason.{SectionReason}
+use Rattle.explain_graph.specs.declared.reasons.DescendsReason.{DescendsReason}
+use Rattle.explain_graph.specs.declared.reasons.ReleaseReason.{ReleaseReason}
+use Rattle.explain_graph.specs.declared.reasons.ConflictReason.{ConflictReason}
+use Rattle.explain_graph.specs.declared.reasons.Sections.{Sections}
+use Rattle.explain_graph.specs.declared.explanation.Explanation.{Explanation}
+use Rattle.explain_graph.specs.declared.explanation.Explanation.TheVariants.{Cycle, Unreleased, Section, Descends, ReleaseFault, Race}
+use Rattle.explain_text.specs.Lines.{by_number, numbered, edges_text}
+
+-- how a use of a column is told
+abbrev pub mode_word : Mode → List ℕ
+mode_word Read = codes "reads"
+mode_word Write = codes "writes"
+mode_word Sum = codes "adds to"
+mode_word Least = codes "takes the least into"
+mode_word Most = codes "takes the greatest into"
+
+-- lines, one after the other
+abbrev pub lines_text : GraphValue → List (List ℕ) → List ℕ → List ℕ
+lines_text g ls [] = []
+lines_text g ls (i ∷ is) = numbered g ls i ++ lines_text g ls is
+
+-- the line that `realm check` writes
+abbrev pub refused_one : GraphValue → List ℕ → ℕ → List ℕ
+refused_one g rule i = codes "refused " ++ (rule ++ (codes " " ++ (line_name g i ++ codes "\n")))
+
+abbrev pub refused_two : GraphValue → List ℕ → ℕ → ℕ → List ℕ
+refused_two g rule i j = codes "refused " ++ (rule ++ (codes " " ++ (line_name g i ++ (codes " " ++ (line_name g j ++ codes "\n")))))
+
+abbrev pub cycle_text : GraphValue → List (List ℕ) → CycleReason → List ℕ
+cycle_text g ls r = refused_one g (codes "cycle") r.line ++ (numbered g ls r.line ++ (codes "a shortest cycle through it:\n" ++ edges_text g ls r.cycle.items))
+
+abbrev pub unreleased_by : GraphValue → List (List ℕ) → Option ℕ → List ℕ
+unreleased_by g ls None = codes "no line releases it\n"
+unreleased_by g ls (Some k) = codes "its release does not wait for it:\n" ++ numbered g ls k
+
+abbrev pub unreleased_text : GraphValue → List (List ℕ) → UnreleasedReason → List ℕ
+unreleased_text g ls r = refused_one g (codes "unreleased") r.acquire ++ (numbered g ls r.acquire ++ unreleased_by g ls r.release)
+
+abbrev pub entered_text : GraphValue → List (List ℕ) → Option (Vec Edge Global) → List ℕ
+entered_text g ls None = codes "and not after it\n"
+entered_text g ls (Some p) = codes "and after it, but never:\n" ++ edges_text g ls p.items
+
+abbrev pub section_text : GraphValue → List (List ℕ) → SectionReason → List ℕ
+section_text g ls r =
+    refused_two g (codes "section") r.release r.line
+    ++ (numbered g ls r.release ++ (numbered g ls r.line ++ (codes "the release waits for that line:\n" ++ (edges_text g ls r.path.items
+    ++ (codes "which comes not before the acquire\n" ++ (numbered g ls r.acquire ++ entered_text g ls r.entered))))))
+
+abbrev pub descends_text : GraphValue → List (List ℕ) → DescendsReason → List ℕ
+descends_text g ls r =
+    refused_two g (codes "descends") r.outer r.inner
+    ++ (numbered g ls r.outer ++ (numbered g ls r.inner ++ (codes "the second lies in the section of the first:\n" ++ (edges_text g ls r.entered.items ++ (edges_text g ls r.left.items
+    ++ (codes "reservation " ++ (lock_name g r.inner_lock ++ (codes " is not declared below " ++ (lock_name g r.outer_lock ++ codes "\n")))))))))
+
+abbrev pub on_text : GraphValue → List (List ℕ) → Option ℕ → List ℕ
+on_text g ls None = codes "it is on no line, and has to be on a mergei\n"
+on_text g ls (Some m) = codes "it has to be on a mergei, and is on\n" ++ numbered g ls m
+
+abbrev pub release_text : GraphValue → List (List ℕ) → ReleaseReason → List ℕ
+release_text g ls r = refused_one g (codes "release") r.release ++ (numbered g ls r.release ++ on_text g ls r.on)
+
+-- the column and the point that two lines share, and how they use it
+abbrev pub shared_text : GraphValue → SharedPoint → ℕ → ℕ → List ℕ
+shared_text g s i j =
+    codes "both use column " ++ (column_name g s.one.column ++ (codes " at point " ++ (decimal s.point
+    ++ (codes ": " ++ (by_number g i ++ (codes " " ++ (mode_word s.one.mode ++ (codes " it, " ++ (by_number g j ++ (codes " " ++ (mode_word s.other.mode ++ codes " it\n")))))))))))
+
+abbrev pub meeting_text : GraphValue → List (List ℕ) → Option Meeting → List ℕ
+meeting_text g ls None = codes "no line leads to both\n"
+meeting_text g ls (Some m) =
+    codes "the nearest line that leads to both:\n" ++ (numbered g ls m.line ++ (codes "to the first:\n" ++ (edges_text g ls m.to_first.items ++ (codes "to the second:\n" ++ edges_text g ls m.to_second.items))))
+
+-- the sections in which a line lies
+abbrev pub in_sections : GraphValue → List (List ℕ) → ℕ → List ℕ → List ℕ
+in_sections g ls i [] = by_number g i ++ codes " lies in no section\n"
+in_sections g ls i (q ∷ qs) = by_number g i ++ (codes " lies in the section of\n" ++ lines_text g ls (q ∷ qs))
+
+-- what would order them: the second is to wait for the first
+abbrev pub advice_by : GraphValue → Option ℕ → ℕ → List ℕ
+advice_by g None i = codes "on " ++ (line_name g i ++ codes "\n")
+advice_by g (Some e) i = codes "on a merge of " ++ (line_name g e ++ (codes " and " ++ (line_name g i ++ codes "\n")))
+
+abbrev pub on_of : GraphValue → ℕ → Option ℕ
+on_of g j = option_map_or (λ (l : Line). l.on) (slice_get g.lines j) None
+
+abbrev pub order_text : GraphValue → ℕ → ℕ → List ℕ
+order_text g i j = codes "to order them, put " ++ (by_number g j ++ (codes " " ++ advice_by g (on_of g j) i))
+
+-- a line in a section may wait for another where that lies in the section too, or comes before its acquire
+abbrev pub held_text : GraphValue → List (List ℕ) → ℕ → ℕ → List ℕ → List ℕ
+held_text g ls i j qs =
+    codes "to order them, let " ++ (by_number g j ++ (codes " wait for " ++ (by_number g i ++ (codes ", where that lies in each of these sections too or comes before its acquire:\n" ++ in_sections g ls j qs))))
+
+abbrev pub advice_text : GraphValue → List (List ℕ) → ℕ → ℕ → List ℕ → List ℕ
+advice_text g ls i j [] = order_text g i j
+advice_text g ls i j (q ∷ qs) = held_text g ls i j (q ∷ qs)
+
+-- two acquires of one reservation
+abbrev pub are_equal : Option ℕ → Option ℕ → Bool
+are_equal (Some l) (Some k) = l == k
+are_equal _ _ = false
+
+abbrev pub of_one_lock : GraphValue → ℕ → ℕ → Bool
+of_one_lock g q k = are_equal (lock_at g q) (lock_at g k)
+
+-- why they set no two lines apart that lie in their sections: they are one acquire, or both are shared
+abbrev pub pair_by : GraphValue → ℕ → ℕ → List ℕ
+pair_by g q k =
+    cond (q == k) (codes "both lie in one section, that of " ++ (by_number g q ++ codes "\n"))
+    (cond (both_shared g q k) (by_number g q ++ (codes " and " ++ (by_number g k ++ codes " share one reservation\n"))) [])
+
+abbrev pub pair_text : GraphValue → ℕ → ℕ → List ℕ
+pair_text g q k = cond (of_one_lock g q k) (pair_by g q k) []
+
+-- of each acquire of the one list with each of the other
+abbrev pub pairs_with : GraphValue → List ℕ → ℕ → List ℕ
+pairs_with g ks q = flat_map (pair_text g q) ks
+
+abbrev pub pairs_text : GraphValue → List ℕ → List ℕ → List ℕ
+pairs_text g qs ks = flat_map (pairs_with g ks) qs
+
+-- that there are none
+abbrev pub have_pair : GraphValue → List ℕ → List ℕ → Bool
+have_pair g qs ks = list_any (λ q. list_any (of_one_lock g q) ks) qs
+
+abbrev pub none_text : Bool → List ℕ
+none_text some = cond some [] (codes "no two sections of theirs are of one reservation\n")
+
+-- what would set apart two reductions of one kind, and why their sections do not
+abbrev pub apart_text : GraphValue → List (List ℕ) → Sections → ℕ → ℕ → List ℕ
+apart_text g ls s i j =
+    codes "sections of one reservation would set them apart, by an acquire for each, not both shared\n"
+    ++ (in_sections g ls i s.first.items ++ (in_sections g ls j s.second.items ++ (pairs_text g s.first.items s.second.items ++ none_text (have_pair g s.first.items s.second.items))))
+
+abbrev pub sections_text : GraphValue → List (List ℕ) → Bool → Sections → ℕ → ℕ → List ℕ
+sections_text g ls commutes s i j = cond commutes (apart_text g ls s i j) []
+
+abbrev pub race_text : GraphValue → List (List ℕ) → ConflictReason → List ℕ
+race_text g ls r =
+    refused_two g (codes "race") r.first r.second
+    ++ (numbered g ls r.first ++ (numbered g ls r.second ++ (shared_text g r.race.shared r.first r.second
+    ++ (codes "neither waits for the other\n" ++ (meeting_text g ls r.race.meeting
+    ++ (advice_text g ls r.first r.second r.sections.second.items ++ sections_text g ls r.commutes r.sections r.first r.second))))))
+
+abbrev pub explanation_text : GraphValue → List (List ℕ) → Explanation → List ℕ
+explanation_text g ls (Cycle r) = cycle_text g ls r
+explanation_text g ls (Unreleased r) = unreleased_text g ls r
+explanation_text g ls (Section r) = section_text g ls r
+explanation_text g ls (Descends r) = descends_text g ls r
+explanation_text g ls (ReleaseFault r) = release_text g ls r
+explanation_text g ls (Race r) = race_text g ls r

@@ -1,0 +1,8 @@
+//! Why a graph is refused, as text for people, a fact on each line.
+#![tactic(auto)]
+
+mod conflict;
+mod lines;
+mod refused;
+
+pub use refused::put_explanation;

@@ -1,0 +1,36 @@
+//! Names of lines, and lines with their numbers.
+
+ghost use Rattle.std.specs.Prelude.{◌≡◌, ◌++◌, OnOk};
+ghost use Rattle.basics.specs.Words.{contents};
+ghost use Rattle.graph_model.specs.graph.Spelling.{line_name};
+ghost use Rattle.refusal_text.specs.Refused.{lines_text};
+
+use explain_text::Text;
+use explain_text::lines::put_numbered;
+use graph_model::graph::Graph;
+use index_spaces::NoMemory;
+
+/// Puts the name of a line; none where there is no such line.
+pub(crate) fn put_name(text: &mut Text, graph: &Graph, i: u32) -> Result<(), NoMemory>
+    ensures { OnOk result (text.new ≡ text.old ++ line_name graph.now i) }
+{
+    if i >= graph.lines() {
+        return Ok(());
+    }
+    text.put(graph.line(i).name.bytes())
+}
+
+/// Puts lines, one after the other.
+pub(crate) fn put_lines(
+    text: &mut Text,
+    graph: &Graph,
+    lines: &[&[u8]],
+    numbers: &[u32],
+) -> Result<(), NoMemory>
+    ensures { OnOk result (text.new ≡ text.old ++ lines_text graph.now (contents lines.now) numbers.now) }
+{
+    for i in numbers {
+        put_numbered(text, graph, lines, *i)?;
+    }
+    Ok(())
+}

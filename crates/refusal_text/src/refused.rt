@@ -1,0 +1,215 @@
+//! Why a graph is refused, as text.
+
+ghost use Rattle.std.specs.Prelude.{◌≡◌, ◌<◌, ◌++◌, length, IfSome, OnOk};
+ghost use Rattle.basics.specs.Words.{contents};
+ghost use Rattle.graph_model.specs.graph.Graph.{locks};
+ghost use Rattle.graph_model.specs.graph.Spelling.{lock_name};
+ghost use Rattle.explain_graph.specs.Explanation.{AreEdges, NamesItems};
+ghost use Rattle.refusal_text.specs.Refused.{refused_one, refused_two, cycle_text, unreleased_by, unreleased_text, entered_text, section_text, descends_text, on_text, release_text, explanation_text};
+
+use crate::conflict::put_conflict;
+use crate::lines::put_name;
+use explain_graph::Explanation;
+use explain_graph::reasons::{
+    CycleReason, DescendsReason, ReleaseReason, SectionReason, UnreleasedReason,
+};
+use explain_text::Text;
+use explain_text::lines::{put_edges, put_numbered};
+use graph_model::graph::Graph;
+use graph_model::verb::Edge;
+use index_spaces::NoMemory;
+
+/// Puts why a graph is refused, by the lines of the text that it was read from: the line that
+/// `realm check` writes, and then a fact on each line.
+pub fn put_explanation(
+    text: &mut Text,
+    graph: &Graph,
+    lines: &[&[u8]],
+    explanation: &Explanation,
+) -> Result<(), NoMemory>
+    requires { NamesItems graph.now explanation.now }
+    ensures { OnOk result (text.new ≡ text.old ++ explanation_text graph.now (contents lines.now) explanation.now) }
+{
+    match explanation {
+        Explanation::Cycle(reason) => put_cycle(text, graph, lines, reason),
+        Explanation::Unreleased(reason) => put_unreleased(text, graph, lines, reason),
+        Explanation::Section(reason) => put_section(text, graph, lines, reason),
+        Explanation::Descends(reason) => put_descends(text, graph, lines, reason),
+        Explanation::ReleaseFault(reason) => put_release(text, graph, lines, reason),
+        Explanation::Race(reason) => put_conflict(text, graph, lines, reason),
+    }
+}
+
+/// Puts the line that `realm check` writes of one line.
+fn put_refused_one(text: &mut Text, graph: &Graph, rule: &[u8], i: u32) -> Result<(), NoMemory>
+    ensures { OnOk result (text.new ≡ text.old ++ refused_one graph.now rule.now i) }
+{
+    text.put(b"refused ")?;
+    text.put(rule)?;
+    text.put(b" ")?;
+    put_name(text, graph, i)?;
+    text.put(b"\n")
+}
+
+/// Puts the line that `realm check` writes of two lines.
+pub(crate) fn put_refused_two(
+    text: &mut Text,
+    graph: &Graph,
+    rule: &[u8],
+    i: u32,
+    j: u32,
+) -> Result<(), NoMemory>
+    ensures { OnOk result (text.new ≡ text.old ++ refused_two graph.now rule.now i j) }
+{
+    text.put(b"refused ")?;
+    text.put(rule)?;
+    text.put(b" ")?;
+    put_name(text, graph, i)?;
+    text.put(b" ")?;
+    put_name(text, graph, j)?;
+    text.put(b"\n")
+}
+
+/// Puts why a line waits for itself.
+fn put_cycle(
+    text: &mut Text,
+    graph: &Graph,
+    lines: &[&[u8]],
+    reason: &CycleReason,
+) -> Result<(), NoMemory>
+    requires { AreEdges graph.now reason.now.cycle.items }
+    ensures { OnOk result (text.new ≡ text.old ++ cycle_text graph.now (contents lines.now) reason.now) }
+{
+    put_refused_one(text, graph, b"cycle", reason.line)?;
+    put_numbered(text, graph, lines, reason.line)?;
+    text.put(b"a shortest cycle through it:\n")?;
+    put_edges(text, graph, lines, reason.cycle.as_slice())
+}
+
+/// Puts why an acquire is not released.
+fn put_unreleased(
+    text: &mut Text,
+    graph: &Graph,
+    lines: &[&[u8]],
+    reason: &UnreleasedReason,
+) -> Result<(), NoMemory>
+    ensures { OnOk result (text.new ≡ text.old ++ unreleased_text graph.now (contents lines.now) reason.now) }
+{
+    put_refused_one(text, graph, b"unreleased", reason.acquire)?;
+    put_numbered(text, graph, lines, reason.acquire)?;
+    put_unreleased_by(text, graph, lines, reason.release)
+}
+
+/// Puts the release that does not wait for its acquire, if there is one.
+fn put_unreleased_by(
+    text: &mut Text,
+    graph: &Graph,
+    lines: &[&[u8]],
+    release: Option<u32>,
+) -> Result<(), NoMemory>
+    ensures { OnOk result (text.new ≡ text.old ++ unreleased_by graph.now (contents lines.now) release) }
+{
+    let Some(release) = release else {
+        return text.put(b"no line releases it\n");
+    };
+    text.put(b"its release does not wait for it:\n")?;
+    put_numbered(text, graph, lines, release)
+}
+
+/// Puts why a release must not wait for a line.
+fn put_section(
+    text: &mut Text,
+    graph: &Graph,
+    lines: &[&[u8]],
+    reason: &SectionReason,
+) -> Result<(), NoMemory>
+    requires path { AreEdges graph.now reason.now.path.items }
+    requires entered { IfSome reason.now.entered (λ p. AreEdges graph.now p.items) }
+    ensures { OnOk result (text.new ≡ text.old ++ section_text graph.now (contents lines.now) reason.now) }
+{
+    put_refused_two(text, graph, b"section", reason.release, reason.line)?;
+    put_numbered(text, graph, lines, reason.release)?;
+    put_numbered(text, graph, lines, reason.line)?;
+    text.put(b"the release waits for that line:\n")?;
+    put_edges(text, graph, lines, reason.path.as_slice())?;
+    text.put(b"which comes not before the acquire\n")?;
+    put_numbered(text, graph, lines, reason.acquire)?;
+    put_entered(text, graph, lines, &reason.entered)
+}
+
+/// Puts the way from the acquire to the line, if there is one.
+fn put_entered(
+    text: &mut Text,
+    graph: &Graph,
+    lines: &[&[u8]],
+    entered: &Option<Vec<Edge>>,
+) -> Result<(), NoMemory>
+    requires { IfSome entered.now (λ p. AreEdges graph.now p.items) }
+    ensures { OnOk result (text.new ≡ text.old ++ entered_text graph.now (contents lines.now) entered.now) }
+{
+    let Some(path) = entered else {
+        return text.put(b"and not after it\n");
+    };
+    text.put(b"and after it, but never:\n")?;
+    put_edges(text, graph, lines, path.as_slice())
+}
+
+/// Puts why an acquire must not lie in the section of another.
+fn put_descends(
+    text: &mut Text,
+    graph: &Graph,
+    lines: &[&[u8]],
+    reason: &DescendsReason,
+) -> Result<(), NoMemory>
+    requires entered { AreEdges graph.now reason.now.entered.items }
+    requires left { AreEdges graph.now reason.now.left.items }
+    requires inner { reason.now.inner_lock < length (locks graph.now) }
+    requires outer { reason.now.outer_lock < length (locks graph.now) }
+    ensures { OnOk result (text.new ≡ text.old ++ descends_text graph.now (contents lines.now) reason.now) }
+{
+    put_refused_two(text, graph, b"descends", reason.outer, reason.inner)?;
+    put_numbered(text, graph, lines, reason.outer)?;
+    put_numbered(text, graph, lines, reason.inner)?;
+    text.put(b"the second lies in the section of the first:\n")?;
+    put_edges(text, graph, lines, reason.entered.as_slice())?;
+    put_edges(text, graph, lines, reason.left.as_slice())?;
+    text.put(b"reservation ")?;
+    put_lock(text, graph, reason.inner_lock)?;
+    text.put(b" is not declared below ")?;
+    put_lock(text, graph, reason.outer_lock)?;
+    text.put(b"\n")
+}
+
+/// Puts the name of a reservation.
+fn put_lock(text: &mut Text, graph: &Graph, lock: u32) -> Result<(), NoMemory>
+    requires { lock < length (locks graph.now) }
+    ensures { OnOk result (text.new ≡ text.old ++ lock_name graph.now lock) }
+{
+    let name = graph.lock_name(lock);
+    text.put(name.bytes())
+}
+
+/// Puts why a fault could keep a release from its end.
+fn put_release(
+    text: &mut Text,
+    graph: &Graph,
+    lines: &[&[u8]],
+    reason: &ReleaseReason,
+) -> Result<(), NoMemory>
+    ensures { OnOk result (text.new ≡ text.old ++ release_text graph.now (contents lines.now) reason.now) }
+{
+    put_refused_one(text, graph, b"release", reason.release)?;
+    put_numbered(text, graph, lines, reason.release)?;
+    put_on(text, graph, lines, reason.on)
+}
+
+/// Puts the line that a release is on, if there is one.
+fn put_on(text: &mut Text, graph: &Graph, lines: &[&[u8]], on: Option<u32>) -> Result<(), NoMemory>
+    ensures { OnOk result (text.new ≡ text.old ++ on_text graph.now (contents lines.now) on) }
+{
+    let Some(on) = on else {
+        return text.put(b"it is on no line, and has to be on a mergei\n");
+    };
+    text.put(b"it has to be on a mergei, and is on\n")?;
+    put_numbered(text, graph, lines, on)
+}
