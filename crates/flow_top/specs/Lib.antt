@@ -2,3 +2,4 @@ pub mod FlowText
 pub mod Answer
 pub mod Served
 pub mod Laws
+pub mod TextSinks

@@ -24,7 +24,7 @@ use Rattle.task_flow.specs.declared.uses.ColumnUses.{ColumnUses}
 use Rattle.task_flow.proofs.Lists.{down_below}
 use Rattle.task_flow.proofs.Scans.{take_more, take_whole}
 use Rattle.task_flow.proofs.SourceFacts.{below_down, has_contains, contains_has}
-use Rattle.task_flow.proofs.UseSteps.{alike, alone, TiesSo, use_stands, stands_use, uses_put}
+use Rattle.task_flow.proofs.UseSteps.{alike, alone, TiesSo, ReachSo, use_stands, stands_use, uses_put}
 
 or_none : (b : Bool) → (b || false) ≡ b
 or_none true = refl
@@ -86,13 +86,13 @@ module _ (f : GraphValue) (commute : Bool) where
   ]
 
   -- one more use of line n
-  pub uses_next : PointsAreListed → AccessesFit → IsGraph f → (n k : ℕ) (a : Access) (cs new : List ColumnUses) (x y : ColumnUses) → slice_get (accesses f n) k ≡ Some a → a.column < length cs → x ≡ slice_index_or cs a.column x → PutsUse commute x.classes.items a (space_at f a.space) n y.classes.items → new ≡ slice_set cs a.column y →
+  pub uses_next : PointsAreListed → AccessesFit → IsGraph f → (n k : ℕ) (a : Access) (row : List ℕ) (cs new : List ColumnUses) (x y : ColumnUses) → ReachSo f commute row n → slice_get (accesses f n) k ≡ Some a → a.column < length cs → x ≡ slice_index_or cs a.column x → PutsUse commute x.classes.items a (space_at f a.space) n row y.classes.items → new ≡ slice_set cs a.column y →
       AreUses f commute (uses_before f n ++ uses_at n (take k (accesses f n))) cs → AreUses f commute (uses_before f n ++ uses_at n (take (k + 1) (accesses f n))) new
-  uses_next listed fits graph n k a cs new x y at within is puts set are =
+  uses_next listed fits graph n k a row cs new x y reach at within is puts set are =
       let c : Contains (accesses f n) a = got_contains (accesses f n) k a at in
       subst (AreUses f commute (uses_before f n ++ uses_at n (take (k + 1) (accesses f n)))) (sym set)
       (subst (λ us. AreUses f commute us (slice_set cs a.column y)) (append_assoc (uses_before f n) (uses_at n (take k (accesses f n))) ((n, a) ∷ []) ∙ ap (λ us. uses_before f n ++ us) (sym (ap (uses_at n) (take_more (accesses f n) k a at) ∙ pushed (take k (accesses f n)))))
-      (uses_put f commute (uses_before f n ++ uses_at n (take k (accesses f n))) cs n a x y (fits f n a graph c).space (ties_so listed fits graph n k a c) (slice_get_read cs (length cs) a.column x refl within is) puts are))
+      (uses_put f commute (uses_before f n ++ uses_at n (take k (accesses f n))) cs n a row x y (fits f n a graph c).space (ties_so listed fits graph n k a c) reach (slice_get_read cs (length cs) a.column x refl within is) puts are))
     where
       pushed : (bs : List Access) → uses_at n (bs ++ a ∷ []) ≡ uses_at n bs ++ (n, a) ∷ []
       pushed [] = refl

@@ -2,7 +2,7 @@
 use Rattle.std.proofs.Common.{◌≡◌, ℕ, zero, suc, ◌+◌, ◌<◌, ◌≤◌, Bool, true, false, cond, not, ◌⊎◌, inl, inr, ◌||◌, List, [], ◌∷◌, ◌++◌, length, take, refl, sym, ◌∙◌, ap, subst, append_assoc, append-nil, length-append, arith}
 use Rattle.std.specs.Prelude.{Contains, ◌==◌, ◌&&◌, filter, flat_map, Some, slice_get, slice_index_or}
 use Rattle.std.specs.List.{list_any}
-use Rattle.std.proofs.lemmas.Bool.{true≢false, cases_Bool, cases_lt, and_parts}
+use Rattle.std.proofs.lemmas.Bool.{true≢false, cases_Bool, cases_lt, and_parts, eqb-true}
 use Rattle.std.proofs.lemmas.List.Folds.{list_any-append}
 use Rattle.std.proofs.lemmas.List.Concat.{flat_map-append}
 use Rattle.std.proofs.lemmas.List.Elements.{Contains-append_cases, filter-append}
@@ -10,14 +10,14 @@ use Rattle.basics.proofs.ListFacts.{contains_none, contains_here, contains_there
 use Rattle.graph_model.specs.declared.graph.verb.Access.{Access}
 use Rattle.graph_model.specs.graph.Graph.{GraphValue}
 use Rattle.graph_model.specs.graph.Access.{accesses}
-use Rattle.task_flow.specs.Meaning.{accesses_tie}
-use Rattle.task_flow.specs.Bits.{word_bit}
+use Rattle.task_flow.specs.Meaning.{accesses_tie, Chain}
+use Rattle.task_flow.specs.Bits.{word_bit, IsOnly}
 use Rattle.task_flow.specs.Rows.{AreRows, parts_at, words_for}
 use Rattle.task_flow.specs.Construction.{Parts, down_from, has, is_large, is_reached, least, reaches, parts_of, all_of, sources_after, tied_by}
 use Rattle.task_flow.proofs.FlowSide.{depends_below}
 use Rattle.task_flow.proofs.Lists.{at_left, at_end, down_below, least_within}
 use Rattle.task_flow.proofs.Scans.{take_more}
-use Rattle.task_flow.proofs.SourceFacts.{sources_of, table_at, sources_sound}
+use Rattle.task_flow.proofs.SourceFacts.{sources_of, table_at, sources_sound, reaches_chain}
 
 any_same : {X : Type 0} (p q : X → Bool) (xs : List X) → ((x : X) → Contains xs x → p x ≡ q x) → list_any p xs ≡ list_any q xs
 any_same p q [] h = refl
@@ -141,6 +141,20 @@ module _ (f : GraphValue) (commute : Bool) where
   -- no line is left
   pub least_ends : (n : ℕ) (t m : ℕ → Bool) (start all part : List ℕ) (above : ℕ) → ((i : ℕ) → m i ≡ is_reached (table n) (start ++ part) i) → ((i : ℕ) → i < above → (t i && not (m i)) ≡ false) → all ≡ part ++ least (table n) (start ++ part) (filter t (down_from above)) → part ≡ all
   least_ends n t m start all part above mask none is = sym (is ∙ (ap (λ xs. part ++ xs) (least_gap n (start ++ part) t 0 above (omega arith) (λ i a b. hidden_why n (start ++ part) t m i (mask i) (none i b))) ∙ append-nil part))
+
+  -- the only line that is asked for, where none is kept
+  pub least_only : (n : ℕ) (kept : List (List ℕ)) (row : List ℕ) (bound line : ℕ) → (length kept == 0) ≡ true → bound ≡ n → IsOnly row bound line → least (table n) (flat_map (λ p. p) kept) (filter (word_bit row) (down_from n)) ≡ line ∷ []
+  least_only n (k ∷ ks) row bound line none is only = absurd (let e : suc (length ks) ≡ 0 = eqb-true (suc (length ks)) 0 none in omega arith)
+  least_only n [] row bound line none is given =
+      let only : IsOnly row n line = subst (λ m. IsOnly row m line) is given in
+      let all = least (table n) [] (filter (word_bit row) (down_from n)) in
+      let mask : ℕ → Bool = is_reached (table n) (line ∷ []) in
+      sym (least_ends n (word_bit row) mask [] all (line ∷ []) line (λ i. refl) (λ i low. ap (λ b. b && not (mask i)) (only.lower i low))
+      (least_keeps n (word_bit row) (λ i. false) [] all [] (line ∷ []) n line (λ i. refl) only.below (ap (λ b. b && true) only.set) (λ i above low. ap (λ b. b && true) (only.higher i above low)) refl refl))
+
+  -- a line whose bit is set has a chain to the line whose sources these are
+  pub row_chains : (n i : ℕ) (bit : Bool) → bit ≡ is_reached (table n) (sources_of f commute n) i → bit ≡ true → Chain f commute i n
+  row_chains n i bit is set = reaches_chain f commute (n + 1) n i n (omega arith) (sym (row_next n i) ∙ (sym is ∙ set))
 
   -- the parts of the first accesses, and one more
   pub part_joins : (n : ℕ) (t : List ℕ → Bool) (bs : List Access) (k : ℕ) (b : Access) (part : List ℕ) (old new : List (List ℕ)) → slice_get bs k ≡ Some b → part ≡ least (table n) [] (tied_by f commute n b) → t part ≡ true → old ≡ filter t (parts_at f commute n (take k bs)) → new ≡ old ++ part ∷ [] →

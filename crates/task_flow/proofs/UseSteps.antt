@@ -1,17 +1,18 @@
 -- The classes of the uses of columns, with one use more.
 use Rattle.std.proofs.Common.{◌≡◌, ℕ, zero, suc, ◌<◌, Bool, true, false, cond, ◌⊎◌, inl, inr, List, [], ◌∷◌, ◌++◌, length, refl, sym, ◌∙◌, ap, subst, arith}
-use Rattle.std.specs.Prelude.{Contains, Some, slice_get, slice_set, slice_index_or}
+use Rattle.std.specs.Prelude.{Contains, filter, not, Some, slice_get, slice_set, slice_index_or}
 use Rattle.std.proofs.lemmas.Bool.{true≢false, cases_Bool, cases_eq, cases_order}
 use Rattle.std.proofs.lemmas.Option.{none-some, same_Some, slice_get_within, slice_get_read}
 use Rattle.std.proofs.lemmas.List.Elements.{Contains-append_cases, Contains-append_left, Contains-append_right}
-use Rattle.basics.proofs.ListFacts.{contains_cases, contains_none, contains_here, contains_map, map_contains}
+use Rattle.basics.proofs.ListFacts.{contains_cases, contains_none, contains_here, contains_map, map_contains, filter_contains, contains_filter}
 use Rattle.graph_model.specs.declared.graph.verb.Access.{Access}
 use Rattle.graph_model.specs.declared.graph.verb.Mode.{Mode}
 use Rattle.graph_model.specs.declared.graph.verb.Mode.TheVariants.{Read, Write, Sum, Least, Most}
 use Rattle.graph_model.specs.graph.Graph.{GraphValue, named_spaces, space_at}
 use Rattle.graph_model.specs.graph.Access.{accesses}
-use Rattle.task_flow.specs.Meaning.{order_counts}
-use Rattle.task_flow.specs.Uses.{uses_at, uses_before, IsClass, AreClasses, AreUses, with_use, first_use, PutsUse, joins, begins}
+use Rattle.task_flow.specs.Bits.{word_bit}
+use Rattle.task_flow.specs.Meaning.{order_counts, Chain}
+use Rattle.task_flow.specs.Uses.{uses_at, uses_before, IsClass, AreClasses, AreUses, IsRest, HasUse, with_use, first_use, PutsUse, joins, begins}
 use Rattle.task_flow.specs.Ends.{AreEnds}
 use Rattle.task_flow.specs.declared.ends.Ends.{Ends}
 use Rattle.task_flow.specs.declared.uses.Class.{Class}
@@ -118,13 +119,17 @@ module _ (f : GraphValue) (commute : Bool) where
     ];
   }
 
-  class_adds : (us : List (ℕ × Access)) (c : ℕ) (x : Class) (n : ℕ) (a : Access) → a.column ≡ c → x.space ≡ a.space → order_counts commute x.mode a.mode ≡ false → IsClass f commute us c x →
-      IsClass f commute (us ++ (n, a) ∷ []) c (record { space = x.space; ends = x.ends; mode = x.mode; latest = x.latest ++ n ∷ []; before = x.before })
-  class_adds us c x n a col sp none is = record {
+  -- lines with these bits have a chain to this one
+  abbrev pub ReachSo : List ℕ → ℕ → Type 0
+  ReachSo row n = (i : ℕ) → word_bit row i ≡ true → Chain f commute i n
+
+  class_adds : (us : List (ℕ × Access)) (c : ℕ) (x : Class) (n : ℕ) (a : Access) (row rest : List ℕ) → a.column ≡ c → x.space ≡ a.space → ReachSo row n → IsRest row x.latest rest → order_counts commute x.mode a.mode ≡ false → IsClass f commute us c x →
+      IsClass f commute (us ++ (n, a) ∷ []) c (record { space = x.space; ends = x.ends; mode = x.mode; latest = rest ++ n ∷ []; before = x.before })
+  class_adds us c x n a row rest col sp reach left none is = record {
     fits = is.fits;
     ends_are = is.ends_are;
-    latest_use = λ i h. elim (Contains-append_cases x.latest (n ∷ []) i h) [
-      | inl old ↦ (let u = is.latest_use i old in (u.0, old_use us n a (i, u.0) u.1, u.2, u.3, u.4))
+    latest_use = λ i h. elim (Contains-append_cases rest (n ∷ []) i h) [
+      | inl old ↦ (let u = is.latest_use i (left.kept i old) in (u.0, old_use us n a (i, u.0) u.1, u.2, u.3, u.4))
       | inr new ↦ elim (contains_cases n [] i new) [
         | inl same ↦ (a, subst (λ z. Contains (us ++ (n, a) ∷ []) (z, a)) same (new_use us n a), col, sym sp, sym (alike commute x.mode a.mode none))
         | inr no' ↦ absurd (contains_none i no')
@@ -132,8 +137,13 @@ module _ (f : GraphValue) (commute : Bool) where
     ];
     before_use = λ i h. (let u = is.before_use i h in (u.0, old_use us n a (i, u.0) u.1, u.2, u.3, u.4));
     latest_hold = λ i b u bcol bsp. elim (end_cases us n a i b u) [
-      | inl old ↦ (let k = is.latest_hold i b old bcol bsp in (k.0, Contains-append_left x.latest (n ∷ []) k.0 k.1, k.2))
-      | inr new ↦ (n, Contains-append_right x.latest (n ∷ []) n (contains_here n []), inl new.0)
+      | inl old ↦ (
+          let k = is.latest_hold i b old bcol bsp in
+          elim (left.gone k.0 k.1) [
+            | inl stays ↦ (k.0, Contains-append_left rest (n ∷ []) k.0 stays, k.2)
+            | inr gone ↦ (n, Contains-append_right rest (n ∷ []) n (contains_here n []), follow f commute i k.0 n k.2 (inr (reach k.0 gone)))
+          ])
+      | inr new ↦ (n, Contains-append_right rest (n ∷ []) n (contains_here n []), inl new.0)
     ];
     before_hold = λ own i b u bcol bsp o. elim (end_cases us n a i b u) [
       | inl old ↦ is.before_hold own i b old bcol bsp o
@@ -160,19 +170,20 @@ module _ (f : GraphValue) (commute : Bool) where
     ];
   }
 
-  class_joins : (us : List (ℕ × Access)) (c : ℕ) (x : Class) (n : ℕ) (a : Access) → a.column ≡ c → x.space ≡ a.space → TiesSo us n a → IsClass f commute us c x → IsClass f commute (us ++ (n, a) ∷ []) c (with_use commute x a.mode n)
-  class_joins us c x n a col sp ties is =
+  class_joins : (us : List (ℕ × Access)) (c : ℕ) (x : Class) (n : ℕ) (a : Access) (row rest : List ℕ) → a.column ≡ c → x.space ≡ a.space → TiesSo us n a → ReachSo row n → IsRest row x.latest rest → IsClass f commute us c x →
+      IsClass f commute (us ++ (n, a) ∷ []) c (with_use commute x rest a.mode n)
+  class_joins us c x n a row rest col sp ties reach left is =
       let turned : Class = record { space = x.space; ends = x.ends; mode = a.mode; latest = n ∷ []; before = x.latest } in
-      let added : Class = record { space = x.space; ends = x.ends; mode = x.mode; latest = x.latest ++ n ∷ []; before = x.before } in
+      let added : Class = record { space = x.space; ends = x.ends; mode = x.mode; latest = rest ++ n ∷ []; before = x.before } in
       elim (cases_Bool (order_counts commute x.mode a.mode)) [
         | inl yes' ↦ subst (IsClass f commute (us ++ (n, a) ∷ []) c) (sym (ap (λ z. cond z turned added) yes')) (class_turns us c x n a col sp ties yes' is)
-        | inr no' ↦ subst (IsClass f commute (us ++ (n, a) ∷ []) c) (sym (ap (λ z. cond z turned added) no')) (class_adds us c x n a col sp no' is)
+        | inr no' ↦ subst (IsClass f commute (us ++ (n, a) ∷ []) c) (sym (ap (λ z. cond z turned added) no')) (class_adds us c x n a row rest col sp reach left no' is)
       ]
 
-  space_stays : (x : Class) (m : Mode) (n : ℕ) → (with_use commute x m n).space ≡ x.space
-  space_stays x m n = by (order_counts commute x.mode m)
+  space_stays : (x : Class) (rest : List ℕ) (m : Mode) (n : ℕ) → (with_use commute x rest m n).space ≡ x.space
+  space_stays x rest m n = by (order_counts commute x.mode m)
     where
-      by : (b : Bool) → (cond {A = Class} b (record { space = x.space; ends = x.ends; mode = m; latest = n ∷ []; before = x.latest }) (record { space = x.space; ends = x.ends; mode = x.mode; latest = x.latest ++ n ∷ []; before = x.before })).space ≡ x.space
+      by : (b : Bool) → (cond {A = Class} b (record { space = x.space; ends = x.ends; mode = m; latest = n ∷ []; before = x.latest }) (record { space = x.space; ends = x.ends; mode = x.mode; latest = rest ++ n ∷ []; before = x.before })).space ≡ x.space
       by true = refl
       by false = refl
 
@@ -187,13 +198,13 @@ module _ (f : GraphValue) (commute : Bool) where
     ];
   }
 
-  classes_join : (us : List (ℕ × Access)) (xs : List Class) (n : ℕ) (a : Access) (k : ℕ) (x : Class) → TiesSo us n a → slice_get xs k ≡ Some x → x.space ≡ a.space → AreClasses f commute us a.column xs →
-      AreClasses f commute (us ++ (n, a) ∷ []) a.column (slice_set xs k (with_use commute x a.mode n))
-  classes_join us xs n a k x ties at sp are =
-      let y = with_use commute x a.mode n in
-      let keeps : y.space ≡ x.space = space_stays x a.mode n in record {
+  classes_join : (us : List (ℕ × Access)) (xs : List Class) (n : ℕ) (a : Access) (k : ℕ) (x : Class) (row rest : List ℕ) → TiesSo us n a → ReachSo row n → IsRest row x.latest rest → slice_get xs k ≡ Some x → x.space ≡ a.space → AreClasses f commute us a.column xs →
+      AreClasses f commute (us ++ (n, a) ∷ []) a.column (slice_set xs k (with_use commute x rest a.mode n))
+  classes_join us xs n a k x row rest ties reach left at sp are =
+      let y = with_use commute x rest a.mode n in
+      let keeps : y.space ≡ x.space = space_stays x rest a.mode n in record {
         each = λ l z got. elim (set_cases xs k x y l z at got) [
-          | inl here ↦ subst (IsClass f commute (us ++ (n, a) ∷ []) a.column) here.1 (class_joins us a.column x n a refl sp ties (are.each k x at))
+          | inl here ↦ subst (IsClass f commute (us ++ (n, a) ∷ []) a.column) here.1 (class_joins us a.column x n a row rest refl sp ties reach left (are.each k x at))
           | inr there ↦ class_stays us a.column z n a (λ col same. there.0 (are.apart l k z x there.1 at (sym same ∙ sym sp))) (are.each l z there.1)
         ];
         apart = λ l m z w got got' same. elim (set_cases xs k x y l z at got) [
@@ -246,18 +257,20 @@ module _ (f : GraphValue) (commute : Bool) where
         ];
       }
 
-  classes_put : (us : List (ℕ × Access)) (xs ys : List Class) (n : ℕ) (a : Access) → a.space < length (named_spaces f) → TiesSo us n a → PutsUse commute xs a (space_at f a.space) n ys → AreClasses f commute us a.column xs → AreClasses f commute (us ++ (n, a) ∷ []) a.column ys
-  classes_put us xs ys n a fits ties (joins k x at sp is) are = subst (AreClasses f commute (us ++ (n, a) ∷ []) a.column) (sym is) (classes_join us xs n a k x ties at sp are)
-  classes_put us xs ys n a fits ties (begins e ends none is) are = subst (AreClasses f commute (us ++ (n, a) ∷ []) a.column) (sym is) (classes_begin us xs n a e ends fits none are)
+  classes_put : (us : List (ℕ × Access)) (xs ys : List Class) (n : ℕ) (a : Access) (row : List ℕ) → a.space < length (named_spaces f) → TiesSo us n a → ReachSo row n → PutsUse commute xs a (space_at f a.space) n row ys → AreClasses f commute us a.column xs →
+      AreClasses f commute (us ++ (n, a) ∷ []) a.column ys
+  classes_put us xs ys n a row fits ties reach (joins k x y at sp has is) are =
+      subst (AreClasses f commute (us ++ (n, a) ∷ []) a.column) (sym (is ∙ ap (slice_set xs k) has.has_use)) (classes_join us xs n a k x row has.rest ties reach has.is_rest at sp are)
+  classes_put us xs ys n a row fits ties reach (begins e ends none is) are = subst (AreClasses f commute (us ++ (n, a) ∷ []) a.column) (sym is) (classes_begin us xs n a e ends fits none are)
 
   -- the classes of all columns with one use more
-  pub uses_put : (us : List (ℕ × Access)) (cs : List ColumnUses) (n : ℕ) (a : Access) (x y : ColumnUses) → a.space < length (named_spaces f) → TiesSo us n a → slice_get cs a.column ≡ Some x → PutsUse commute x.classes.items a (space_at f a.space) n y.classes.items → AreUses f commute us cs →
+  pub uses_put : (us : List (ℕ × Access)) (cs : List ColumnUses) (n : ℕ) (a : Access) (row : List ℕ) (x y : ColumnUses) → a.space < length (named_spaces f) → TiesSo us n a → ReachSo row n → slice_get cs a.column ≡ Some x → PutsUse commute x.classes.items a (space_at f a.space) n row y.classes.items → AreUses f commute us cs →
       AreUses f commute (us ++ (n, a) ∷ []) (slice_set cs a.column y)
-  uses_put us cs n a x y fits ties at puts are = record {
+  uses_put us cs n a row x y fits ties reach at puts are = record {
     count = length_set cs a.column y ∙ are.count;
     each = λ c z got. elim (set_cases cs a.column x y c z at got) [
       | inl here ↦ subst (λ i. AreClasses f commute (us ++ (n, a) ∷ []) i z.classes.items) (sym here.0)
-          (subst (λ (v : ColumnUses). AreClasses f commute (us ++ (n, a) ∷ []) a.column v.classes.items) here.1 (classes_put us x.classes.items y.classes.items n a fits ties puts (are.each a.column x at)))
+          (subst (λ (v : ColumnUses). AreClasses f commute (us ++ (n, a) ∷ []) a.column v.classes.items) here.1 (classes_put us x.classes.items y.classes.items n a row fits ties reach puts (are.each a.column x at)))
       | inr there ↦ classes_stay us c z.classes.items n a (λ col. there.0 (sym col)) (are.each c z there.1)
     ];
   }
@@ -287,7 +300,17 @@ module _ (f : GraphValue) (commute : Bool) where
   ]
 
 -- one more use of a column by the loop's values
-pub joined : (commute : Bool) (xs ys : List Class) (a : Access) (s : List (ℕ × ℕ)) (n k : ℕ) (x y z : Class) → slice_get xs k ≡ Some x → x.space ≡ a.space → k < length xs → y ≡ slice_index_or xs k y → z ≡ with_use commute y a.mode n → ys ≡ slice_set xs k z → PutsUse commute xs a s n ys
-joined commute xs ys a s n k x y z at sp within is made set =
+pub joined : (commute : Bool) (xs ys : List Class) (a : Access) (s : List (ℕ × ℕ)) (n k : ℕ) (row : List ℕ) (x y z : Class) → slice_get xs k ≡ Some x → x.space ≡ a.space → k < length xs → y ≡ slice_index_or xs k y → HasUse commute y a.mode n row z → ys ≡ slice_set xs k z → PutsUse commute xs a s n row ys
+joined commute xs ys a s n k row x y z at sp within is made set =
     let got : slice_get xs k ≡ Some y = slice_get_read xs (length xs) k y refl within is in
-    joins k y got (ap (λ (v : Class). v.space) (same_Some y x (sym got ∙ at)) ∙ sp) (set ∙ ap (slice_set xs k) made)
+    joins k y z got (ap (λ (v : Class). v.space) (same_Some y x (sym got ∙ at)) ∙ sp) made set
+
+-- a list without those that have a bit
+pub rest_filtered : (row old rest : List ℕ) → rest ≡ filter (λ i. not (word_bit row i)) old → IsRest row old rest
+rest_filtered row old rest is = record {
+  kept = λ i c. (filter_contains (λ i. not (word_bit row i)) old i (subst (λ xs. Contains xs i) is c)).0;
+  gone = λ i c. elim (cases_Bool (word_bit row i)) [
+    | inl set' ↦ inr set'
+    | inr none ↦ inl (subst (λ xs. Contains xs i) (sym is) (contains_filter (λ i. not (word_bit row i)) old i c (ap not none)))
+  ];
+}

@@ -47,17 +47,28 @@ pub record AreUses (f : GraphValue) (commute : Bool) (us : List (ℕ × Access))
   pub count : length cs ≡ length (columns f)
   pub each : (c : ℕ) (x : ColumnUses) → slice_get cs c ≡ Some x → AreClasses f commute us c x.classes.items
 
--- a class with one more use
-abbrev pub with_use : Bool → Class → Mode → ℕ → Class
-with_use commute x mode n = cond (order_counts commute x.mode mode) (record { space = x.space; ends = x.ends; mode = mode; latest = n ∷ []; before = x.latest }) (record { space = x.space; ends = x.ends; mode = x.mode; latest = x.latest ++ n ∷ []; before = x.before })
+-- what is left of a list of lines: those with these bits may be left out
+pub record IsRest (row : List ℕ) (old rest : List ℕ) : Type 0 where
+  pub kept : (i : ℕ) → Contains rest i → Contains old i
+  pub gone : (i : ℕ) → Contains old i → Contains rest i ⊎ (word_bit row i ≡ true)
+
+-- a class with one more use, beside so much of its latest lines where the order does not count
+abbrev pub with_use : Bool → Class → List ℕ → Mode → ℕ → Class
+with_use commute x rest mode n = cond (order_counts commute x.mode mode) (record { space = x.space; ends = x.ends; mode = mode; latest = n ∷ []; before = x.latest }) (record { space = x.space; ends = x.ends; mode = x.mode; latest = rest ++ n ∷ []; before = x.before })
+
+-- a class with one more use, by a line that is reached by those with these bits
+pub record HasUse (commute : Bool) (x : Class) (mode : Mode) (n : ℕ) (row : List ℕ) (y : Class) : Type 0 where
+  pub rest : List ℕ
+  pub is_rest : IsRest row x.latest rest
+  pub has_use : y ≡ with_use commute x rest mode n
 
 abbrev pub first_use : Access → Ends → ℕ → Class
 first_use a e n = record { space = a.space; ends = e; mode = a.mode; latest = n ∷ []; before = [] }
 
 -- the classes of a column with one more use, over this space: its class has it, or is new
-pub data PutsUse (commute : Bool) (old : List Class) (a : Access) (s : List (ℕ × ℕ)) (n : ℕ) (new : List Class) : Type 0 where
-  joins : (k : ℕ) (x : Class) → slice_get old k ≡ Some x → x.space ≡ a.space → new ≡ slice_set old k (with_use commute x a.mode n) → PutsUse commute old a s n new
-  begins : (e : Ends) → AreEnds s e → ((k : ℕ) (x : Class) → slice_get old k ≡ Some x → x.space ≡ a.space → ⊥) → new ≡ old ++ first_use a e n ∷ [] → PutsUse commute old a s n new
+pub data PutsUse (commute : Bool) (old : List Class) (a : Access) (s : List (ℕ × ℕ)) (n : ℕ) (row : List ℕ) (new : List Class) : Type 0 where
+  joins : (k : ℕ) (x y : Class) → slice_get old k ≡ Some x → x.space ≡ a.space → HasUse commute x a.mode n row y → new ≡ slice_set old k y → PutsUse commute old a s n row new
+  begins : (e : Ends) → AreEnds s e → ((k : ℕ) (x : Class) → slice_get old k ≡ Some x → x.space ≡ a.space → ⊥) → new ≡ old ++ first_use a e n ∷ [] → PutsUse commute old a s n row new
 
 -- the lines of a class that stand for those that a use in this mode has an order against
 abbrev pub group_for : Bool → Class → Mode → List ℕ

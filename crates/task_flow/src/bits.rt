@@ -1,8 +1,8 @@
 //! Rows of bits.
 
-ghost use Rattle.std.specs.Prelude.{◌≡◌, ℕ, ◌<◌, ◌≤◌, ◌*◌, ◌/◌, ◌==◌, ◌||◌, ◌&&◌, nat_lt, nat_le, not, true, false, length, IfOk, MatchOption};
+ghost use Rattle.std.specs.Prelude.{◌≡◌, ℕ, [], ◌+◌, ◌-◌, ◌<◌, ◌≤◌, ◌*◌, ◌/◌, ◌%◌, ◌==◌, ◌||◌, ◌&&◌, nat_lt, nat_le, not, true, false, length, slice_index, IfOk, IfSome, MatchOption};
 ghost use Rattle.std.specs.Int.{bit_at};
-ghost use Rattle.task_flow.specs.Bits.{word_bit, is_shown, IsShownWord};
+ghost use Rattle.task_flow.specs.Bits.{word_bit, is_shown, AreFull, IsOnly, IsShownWord};
 
 use crate::row::Row;
 use index_spaces::NoMemory;
@@ -50,6 +50,34 @@ impl Bits {
         })
     }
 
+    /// No words.
+    fn none(alloc: Global) -> Bits
+        ensures { result ≡ [] }
+    {
+        Bits {
+            words: Vec::new(alloc),
+            low: u32::MAX,
+            full: 0,
+        }
+    }
+
+    /// The word of this number, or 0.
+    fn word_at(&self, w: usize) -> u64
+        ensures { result ≡ slice_index self.now w }
+    {
+        match self.words.get(w) {
+            Some(word) => *word,
+            None => 0,
+        }
+    }
+
+    /// Whether there is a bit of a number, and it is set.
+    pub(crate) fn has(&self, j: u32) -> bool
+        ensures { result ≡ word_bit self.now j }
+    {
+        self.word_at(j as usize / 64) >> (j % 64) & 1 == 1
+    }
+
     /// Whether the bit of a number is set.
     pub(crate) fn test(&self, j: u32) -> bool
         requires { j / 64 < length self.now }
@@ -61,17 +89,15 @@ impl Bits {
     /// The word of a number, with the bits that are set here, are not hidden and are of no greater
     /// number.
     fn shown_word(&self, hidden: &Bits, last: u32) -> u64
-        requires hidden { last / 64 < length hidden.now }
         requires last { last / 64 < length self.now }
         ensures { IsShownWord self.now hidden.now last result }
     {
         let word = last as usize / 64;
-        shown_bits(self.words[word], hidden.words[word], last % 64)
+        shown_bits(self.words[word], hidden.word_at(word), last % 64)
     }
 
     /// The greatest number below a bound whose bit is set here and not hidden.
     pub(crate) fn last_below(&self, hidden: &Bits, bound: u32) -> Option<u32>
-        requires hidden { bound ≤ 64 * length hidden.now }
         requires bound { bound ≤ 64 * length self.now }
         ensures { MatchOption result ((j : ℕ) → j < bound → is_shown self.now hidden.now j ≡ false) (λ k. (k < bound) × (is_shown self.now hidden.now k ≡ true) × ((j : ℕ) → k < j → j < bound → is_shown self.now hidden.now j ≡ false)) }
     {
@@ -85,6 +111,19 @@ impl Bits {
             }
         }
         None
+    }
+
+    /// The number below a bound whose bit is set, where it is known that there is just one.
+    pub(crate) fn only_below(&self, alloc: Global, bound: u32) -> Option<u32>
+        requires { bound ≤ 64 * length self.now }
+        ensures { IfSome result (IsOnly self.now bound) }
+    {
+        let line = self.last_below(&Bits::none(alloc), bound)?;
+        if self.has_none_below(line) {
+            Some(line)
+        } else {
+            None
+        }
     }
 
     /// Sets the bit of a number.
@@ -106,18 +145,21 @@ impl Bits {
         ensures size { length self.new ≡ length self.old }
         ensures bits { (j : ℕ) → word_bit self.new j ≡ (word_bit self.old j || word_bit row.now j) }
     {
-        self.fill(row.full());
-        self.join_behind(row);
+        let (full, words) = row.parts();
+        self.fill(full);
+        self.join_words(full, words);
     }
 
-    /// Sets the bits of a row that is kept, from the first word that may not have all bits.
-    fn join_behind(&mut self, row: &Row)
-        requires { length row.now ≤ length self.old }
+    /// Sets the bits of words that stand from a place on.
+    fn join_words(&mut self, place: usize, words: &[u64])
+        requires { place + length words.now ≤ length self.old }
         ensures size { length self.new ≡ length self.old }
-        ensures bits { (j : ℕ) → word_bit self.new j ≡ (word_bit self.old j || word_bit row.now j) }
+        ensures bits { (j : ℕ) → word_bit self.new j ≡ (word_bit self.old j || (nat_le place (j / 64) && (bit_at (slice_index words.now (j / 64 - place)) (j % 64) == 1))) }
     {
-        for w in self.full..row.used() {
-            self.words[w] |= row.word(w);
+        // Those before have all bits.
+        let first = self.full.saturating_sub(place);
+        for i in first..words.len() {
+            self.words[place + i] |= words[i];
         }
         self.low = 0;
     }
@@ -134,6 +176,13 @@ impl Bits {
         let more = self.full.max(full);
         self.low = 0;
         self.full = more;
+    }
+
+    /// How many words at its front are known to have all bits.
+    pub(crate) fn full(&self) -> usize
+        ensures { AreFull self.now result }
+    {
+        self.full
     }
 
     /// Its words.

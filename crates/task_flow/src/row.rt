@@ -1,7 +1,7 @@
 //! Rows of bits that are kept.
 
-ghost use Rattle.std.specs.Prelude.{◌≡◌, ℕ, ◌<◌, ◌≤◌, ◌/◌, true, length, slice_index, IfOk};
-ghost use Rattle.task_flow.specs.Bits.{word_bit};
+ghost use Rattle.std.specs.Prelude.{◌≡◌, ℕ, ◌+◌, ◌-◌, ◌<◌, ◌≤◌, ◌/◌, true, length, slice_index, IfOk};
+ghost use Rattle.task_flow.specs.Bits.{word_bit, AreFull};
 
 use crate::bits::Bits;
 use index_spaces::NoMemory;
@@ -14,7 +14,6 @@ use std::marker::Model;
 pub(crate) struct Row {
     full: usize,
     words: Vec<u64>,
-    used: usize,
     size: usize,
 }
 
@@ -25,10 +24,7 @@ impl Model for Row {
 
     ghost view = { λ a. replicate a.full 18446744073709551615 ++ (a.words.items ++ replicate (a.size - (a.full + length a.words.items)) 0) };
 
-    ghost invariant = { λ a. record {
-      used : a.used ≡ a.full + length a.words.items;
-      within : a.used ≤ a.size;
-    } };
+    ghost invariant = { λ a. a.full + length a.words.items ≤ a.size };
 }
 
 impl Row {
@@ -39,14 +35,13 @@ impl Row {
     {
         let all = bits.words();
         let used = used_words(all);
-        let full = full_words(all, used);
+        let full = full_words(all, used, bits.full());
         let Ok(words) = Vec::from_slice(alloc, &all[full..used]) else {
             return Err(NoMemory);
         };
         Ok(Row {
             full,
             words,
-            used,
             size: all.len(),
         })
     }
@@ -58,34 +53,13 @@ impl Row {
         self.size
     }
 
-    /// How many words at its front have all bits.
-    pub(crate) fn full(&self) -> usize
-        ensures within { result ≤ length self.now }
-        ensures all { (j : ℕ) → j / 64 < result → word_bit self.now j ≡ true }
+    /// How many words at its front have all bits, and the words behind them. No other one has a bit.
+    pub(crate) fn parts(&self) -> (usize, &[u64])
+        ensures within { result.0 + length result.1.now ≤ length self.now }
+        ensures full { (j : ℕ) → j / 64 < result.0 → word_bit self.now j ≡ true }
+        ensures words { (w : ℕ) → result.0 ≤ w → slice_index self.now w ≡ slice_index result.1.now (w - result.0) }
     {
-        self.full
-    }
-
-    /// How many words there are up to the last that is kept. No other one has a bit.
-    pub(crate) fn used(&self) -> usize
-        ensures within { result ≤ length self.now }
-        ensures none { (w : ℕ) → result ≤ w → slice_index self.now w ≡ 0 }
-    {
-        self.used
-    }
-
-    /// The word of this number.
-    pub(crate) fn word(&self, w: usize) -> u64
-        requires { w < length self.now }
-        ensures { result ≡ slice_index self.now w }
-    {
-        if w < self.full {
-            return u64::MAX;
-        }
-        match self.words.get(w - self.full) {
-            Some(word) => *word,
-            None => 0,
-        }
+        (self.full, self.words.as_slice())
     }
 }
 
@@ -104,13 +78,14 @@ fn used_words(words: &[u64]) -> usize
     used
 }
 
-/// How many of the first words have all bits.
-fn full_words(words: &[u64], used: usize) -> usize
-    requires { used ≤ length words.now }
+/// How many of the first words have all bits, where so many are known to.
+fn full_words(words: &[u64], used: usize, known: usize) -> usize
+    requires used { used ≤ length words.now }
+    requires known { AreFull words.now known }
     ensures within { result ≤ used }
     ensures all { (w : ℕ) → w < result → slice_index words.now w ≡ 18446744073709551615 }
 {
-    let mut full = 0;
+    let mut full = known.min(used);
     while full < used {
         if words[full] != u64::MAX {
             break;

@@ -141,10 +141,16 @@ fn least(
     requires asked { length asked.now ≡ words_for (length rows.now.rows.items) }
     ensures { IfOk result (λ part. part ≡ least (sources_after flow.now commute (length rows.now.rows.items)) (flat_map (λ p. p) kept.now) (filter (word_bit asked.now) (down_from (length rows.now.rows.items)))) }
 {
-    let mut mask = mask_of(alloc, flow, commute, rows, kept)?;
-    let mut part = LineList::new(alloc);
     let _ = flow.lines();
     let mut above = rows.rows.len() as u32;
+    let mut part = LineList::new(alloc);
+    if kept.is_empty() {
+        if let Some(line) = asked.only_below(alloc, above) {
+            part.push(line)?;
+            return Ok(part);
+        }
+    }
+    let mut mask = mask_of(alloc, flow, commute, rows, kept)?;
     'lines: while let Some(line) = asked.last_below(&mask, above) {
         above = line;
         part.push(line)?;
@@ -209,6 +215,6 @@ pub(crate) fn add_row(
     reach_all(flow, commute, rows, &mut mask, &parts.small);
     let row = Row::of(alloc, &mask)?;
     push(&mut rows.rows, row)?;
-    rows.uses.add_line(alloc, flow, commute, line)?;
+    rows.uses.add_line(alloc, flow, commute, line, &mask)?;
     Ok(())
 }

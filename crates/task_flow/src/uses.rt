@@ -1,9 +1,12 @@
 //! Which lines stand for the uses of the columns.
 
-ghost use Rattle.std.specs.Prelude.{◌≡◌, ◌<◌, ◌+◌, [], IfOk, OnOk, IfSome, MatchOption, ℕ, Some, length, slice_get, slice_set, cond};
+ghost use Rattle.std.specs.Prelude.{◌≡◌, ◌<◌, ◌+◌, true, [], IfOk, OnOk, IfSome, MatchOption, ℕ, Some, length, slice_get, slice_set, cond};
 ghost use Rattle.graph_model.specs.graph.Graph.{columns};
-ghost use Rattle.task_flow.specs.Meaning.{order_counts};
+ghost use Rattle.task_flow.specs.Bits.{word_bit};
+ghost use Rattle.task_flow.specs.Meaning.{order_counts, Chain};
+ghost use Rattle.task_flow.specs.Uses.{IsRest};
 
+use crate::bits::Bits;
 use crate::ends::{Ends, ends_of};
 use crate::ties::{MOST_ACCESSES, order_counts};
 use graph_model::graph::Graph;
@@ -19,7 +22,7 @@ use std::mem;
 
 /// The uses of a column over one space with these ends: the lines of the latest, which have no order
 /// among themselves and all have this mode, and those of the ones before, which have an order
-/// against them.
+/// against them. Of the latest some that reach others of them may be left out.
 #[derive(Drop)]
 pub(crate) struct Class {
     pub(crate) space: u32,
@@ -43,7 +46,7 @@ pub(crate) struct Uses {
 
 impl Class {
     ghost use Rattle.task_flow.specs.Ends.{AreEnds};
-    ghost use Rattle.task_flow.specs.Uses.{with_use, first_use};
+    ghost use Rattle.task_flow.specs.Uses.{HasUse, first_use};
 
     /// The class of a first use.
     fn of_first(alloc: Global, space: &Space, access: Access, line: u32) -> Result<Class, NoMemory>
@@ -61,19 +64,39 @@ impl Class {
         })
     }
 
-    /// Puts one more use into the class.
-    fn add(&mut self, alloc: Global, commute: bool, mode: Mode, line: u32) -> Result<(), NoMemory>
-        ensures { OnOk result (self.new ≡ with_use commute self.old mode line) }
+    /// Puts one more use into the class, by a line that is reached by those with these bits.
+    fn add(
+        &mut self,
+        alloc: Global,
+        commute: bool,
+        mode: Mode,
+        line: u32,
+        reaching: &Bits,
+    ) -> Result<(), NoMemory>
+        ensures { OnOk result (HasUse commute self.old mode line reaching.now self.new) }
     {
         if order_counts(commute, self.mode, mode) {
             self.before = mem::replace(&mut self.latest, LineList::new(alloc));
             self.mode = mode;
+            return self.latest.push(line);
         }
+        leave_out(&mut self.latest, reaching);
         // A list has fewer than 2^32 items.
         if self.latest.len() == u32::MAX {
             return Err(NoMemory);
         }
         self.latest.push(line)
+    }
+}
+
+/// Takes the lines with these bits out of a list, where its first line has one: so lists stay short
+/// where new lines reach the old, and a line costs no more where none does.
+fn leave_out(lines: &mut LineList, reaching: &Bits)
+    ensures { IsRest reaching.now lines.old lines.new }
+{
+    match lines.items.first() {
+        Some(first) if reaching.has(*first) => lines.items.retain(|line| !reaching.has(*line)),
+        _ => {}
     }
 }
 
@@ -96,11 +119,12 @@ impl ColumnUses {
         commute: bool,
         access: Access,
         line: u32,
+        reaching: &Bits,
     ) -> Result<(), NoMemory>
-        ensures { OnOk result (PutsUse commute self.old.classes.items access space.now line self.new.classes.items) }
+        ensures { OnOk result (PutsUse commute self.old.classes.items access space.now line reaching.now self.new.classes.items) }
     {
         match self.place_of(access.space) {
-            Some(place) => self.classes[place].add(alloc, commute, access.mode, line)?,
+            Some(place) => { self.classes[place].add(alloc, commute, access.mode, line, reaching)? }
             None => {
                 let class = Class::of_first(alloc, space, access, line)?;
                 push(&mut self.classes, class)?;
@@ -126,15 +150,17 @@ impl Uses {
         Ok(Uses { columns })
     }
 
-    /// Puts the uses of the next line in.
+    /// Puts the uses of the next line in, which is reached by those with these bits.
     pub(crate) fn add_line(
         &mut self,
         alloc: Global,
         flow: &Graph,
         commute: bool,
         line: u32,
+        reaching: &Bits,
     ) -> Result<(), NoMemory>
         requires line { line < length flow.now.lines }
+        requires reaching { (i : ℕ) → word_bit reaching.now i ≡ true → Chain flow.now commute i line }
         requires uses { AreUses flow.now commute (uses_before flow.now line) self.old.columns.items }
         ensures { OnOk result (AreUses flow.now commute (uses_before flow.now (line + 1)) self.new.columns.items) }
     {
@@ -147,7 +173,9 @@ impl Uses {
                 break;
             };
             let space = flow.space(access.space);
-            self.columns[access.column as usize].add(alloc, space, commute, access, line)?;
+            self.columns[access.column as usize].add(
+                alloc, space, commute, access, line, reaching,
+            )?;
         }
         Ok(())
     }

@@ -3,9 +3,10 @@ use Rattle.std.specs.Prelude.{Contains, flat_map}
 use Rattle.std.proofs.lemmas.List.Elements.{Contains-append_left}
 use Rattle.graph_model.specs.graph.Access.{accesses}
 use Rattle.task_flow.specs.Bits.{word_bit}
+use Rattle.task_flow.specs.Meaning.{Chain}
 use Rattle.task_flow.specs.Construction.{Parts, is_reached, sources_after}
 use Rattle.task_flow.specs.Uses.{AreUses, uses_before}
-use Rattle.task_flow.proofs.SourceSteps.{large_below, source_below, rows_more, row_of_parts}
+use Rattle.task_flow.proofs.SourceSteps.{large_below, source_below, rows_more, row_of_parts, row_chains}
 use Rattle.task_flow.proofs.sources.add_row.Goals as goal
 
 pub mask_of-requires-clause-kept : goal.mask_of-requires-clause-kept
@@ -19,6 +20,16 @@ reach_all-requires-clause-part c =
     let f = c.args.flow.now in
     let n = length c.args.rows.now.rows.items in
     λ i d. source_below f c.args.commute n i (Contains-append_left _ _ i (subst (λ xs. Contains xs i) (ap (λ (p : Parts). p.small) c.parts.view_is ∙ ap (λ (p : Parts). p.small) c.requires.parts) d))
+
+pub add_line-requires-clause-reaching : goal.add_line-requires-clause-reaching
+add_line-requires-clause-reaching c =
+    let f = c.args.flow.now in
+    let n = length c.args.rows.now.rows.items in
+    let p = c.args.parts.now in
+    let same : c.len-line.result ≡ n = search rules in
+    λ i set'. subst (λ m. Chain f c.args.commute i m) (sym same) (row_chains f c.args.commute n i (word_bit c.reach_all.new.mask i) (row_of_parts f c.args.commute n p i (word_bit c.in_ok-mask.mask i) (word_bit c.reach_all.new.mask i) c.requires.parts
+    (c.in_ok-mask.ensures.bits i ∙ ap (λ xs. is_reached (sources_after f c.args.commute n) (flat_map (λ q. q) xs) i) (c.as_slice.ensures.value ∙ ap (λ (q : Parts). q.large) c.parts.view_is))
+    (c.reach_all.ensures.bits i ∙ ap (λ xs. word_bit c.in_ok-mask.mask i || is_reached (sources_after f c.args.commute n) xs i) (ap (λ (q : Parts). q.small) c.parts.view_is))) set')
 
 pub returns-clause-rows : goal.returns-clause-rows
 returns-clause-rows c =

@@ -8,7 +8,6 @@ pub returns : goal.returns
 returns c =
     let word = c.args.last / 64 in
     let one : c.args.last / 64 < length c.self.inside.words.items = (let l = ap length c.self.view_is in let r = c.requires.last in omega (arith, l, r)) in
-    let two : c.args.last / 64 < length c.hidden.inside.words.items = (let l = ap length c.hidden.view_is in let r = c.requires.hidden in omega (arith, l, r)) in
-    is_shown_word c.args.self.now c.args.hidden.now c.args.last c.index.result.now c.index-2.result.now c.shown_bits.result
+    is_shown_word c.args.self.now c.args.hidden.now c.args.last c.index.result.now c.word_at.result c.shown_bits.result
     (get_or_read c.self.inside.words.items word c.index.result.now one c.index.ensures 0 ∙ ap (λ ws. slice_index ws word) c.self.view_is)
-    (get_or_read c.hidden.inside.words.items word c.index-2.result.now two c.index-2.ensures 0 ∙ ap (λ ws. slice_index ws word) c.hidden.view_is) c.shown_bits.ensures
+    c.word_at.ensures c.shown_bits.ensures

@@ -23,8 +23,8 @@ loop-k-preserved c =
     let count : length c.loop-k.self.columns.items ≡ length (columns c.args.flow.now) = c.loop-k.invariant.uses.count in
     record {
       few = omega arith;
-      uses = uses_next c.args.flow.now c.args.commute c.points_are_listed.ensures c.accesses_fit.ensures c.lines.ensures.is_graph c.args.line c.loop-k.k c.in-Some.access c.loop-k.self.columns.items _ c.index_mut.result.now c.add.new.self
-          at (omega arith) c.index_mut.ensures.value (subst (λ s. PutsUse c.args.commute c.index_mut.result.now.classes.items c.in-Some.access s c.args.line c.add.new.self.classes.items) c.space-space.ensures c.in_ok-add.ensures) refl c.loop-k.invariant.uses;
+      uses = uses_next c.args.flow.now c.args.commute c.points_are_listed.ensures c.accesses_fit.ensures c.lines.ensures.is_graph c.args.line c.loop-k.k c.in-Some.access c.args.reaching.now c.loop-k.self.columns.items _ c.index_mut.result.now c.add.new.self
+          c.requires.reaching at (omega arith) c.index_mut.ensures.value (subst (λ s. PutsUse c.args.commute c.index_mut.result.now.classes.items c.in-Some.access s c.args.line c.args.reaching.now c.add.new.self.classes.items) c.space-space.ensures c.in_ok-add.ensures) refl c.loop-k.invariant.uses;
     }
 
 pub returns-after-loop-k : goal.returns-after-loop-k
