@@ -26,7 +26,7 @@ impl Row<'_> {
     }
 }
 
-const ROWS: [Row<'static>; 15] = [
+const ROWS: [Row<'static>; 16] = [
     Row {
         bytes: "realm 1\nspace s 4..9\ninst i s x\na = user\nb = merge a\nf = fill i.x s 1 on a\n\
             g = fill i.x s 2 on b\nt = trigger a\nend\n",
@@ -118,9 +118,16 @@ const ROWS: [Row<'static>; 15] = [
         bytes: "realm 1\nspace s 0..3\nspace r 2..4\ninst a s x\ninst b r y\nf = copy b.y a.x r\nend\n",
         ends: false,
         verdict: Verdict::Unread,
-        text: "refused line 6 outside\nline 6: f = copy b.y a.x r\nthe whole line is refused\n\
+        text: "refused line 6 outside\nline 6: f = copy b.y a.x r\n                     ^^^\n\
             b is given by line 5: inst b r y\na is given by line 4: inst a s x\nr is given by line 3: space r 2..4\n\
-            r is given by line 3: space r 2..4\ns is given by line 2: space s 0..3\n",
+            s is given by line 2: space s 0..3\n",
+    },
+    Row {
+        bytes: "realm 1\na = user\nen",
+        ends: false,
+        verdict: Verdict::Unread,
+        text: "refused line 3 missing\nline 3: en\n\
+            the text ends here: a line `end`, with its newline, is missing\n",
     },
     Row {
         bytes: "realm 1\nspace s 0..3\ninst a s x\nlock l\nq = acquire l\nf = task axpy a.x a.y s 1 on q\nend\n",

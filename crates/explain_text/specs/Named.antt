@@ -109,3 +109,7 @@ named_text ls x = named_by ls x.word.now x.above x.below
 abbrev pub named_texts : List (List ℕ) → List NamedWord → List ℕ
 named_texts ls [] = []
 named_texts ls (x ∷ xs) = named_text ls x ++ named_texts ls xs
+
+abbrev pub space_text : List (List ℕ) → Option NamedWord → List ℕ
+space_text ls None = []
+space_text ls (Some x) = named_text ls x

@@ -37,6 +37,11 @@ mark_text number ws None = codes "the whole line is refused\n"
 mark_text number ws (Some k) =
     codes "     " ++ (map (λ d. 32) (decimal number) ++ (codes "  " ++ (flat_map blank_word (take k ws) ++ (map (λ b. 94) (slice_index_or ws k []) ++ codes "\n"))))
 
+-- what of the line is refused; for Missing there is no whole line
+abbrev pub refused_text : Why → ℕ → List (List ℕ) → Option ℕ → List ℕ
+refused_text why.Missing number ws mark = codes "the text ends here: a line `end`, with its newline, is missing\n"
+refused_text _ number ws mark = mark_text number ws mark
+
 -- the line that has done already what the refused line would do
 abbrev pub ended_text : GraphValue → List (List ℕ) → Option ℕ → List ℕ
 ended_text g ls None = []

@@ -12,7 +12,7 @@ pub mod unread;
 mod words;
 
 pub use accepted::{put_cancelled, put_need, put_need_line, put_waiting, put_ways};
-pub use naming::{NamedWord, column_spaces, named_words, put_named_words};
+pub use naming::{NamedWord, column_space, named_words, put_named_words, put_space};
 pub use split::split_lines;
 pub use text::Text;
-pub use unread::{line_at, put_ended, put_limit, put_mark, put_unread};
+pub use unread::{line_at, put_ended, put_limit, put_mark, put_refused, put_unread};

@@ -5,7 +5,7 @@ ghost use Rattle.basics.specs.Words.{contents};
 ghost use Rattle.graph_reader.specs.Words.{pieces};
 ghost use Rattle.graph_reader.specs.FirstFault.{first_piece};
 ghost use Rattle.refused_words.specs.Places.{place_value};
-ghost use Rattle.explain_text.specs.Named.{IsNamedWord, IsInside, name_in, told_new, told_word, told_words, third_of, over_word, space_word, place_text, below_text, named_by, named_text, named_texts};
+ghost use Rattle.explain_text.specs.Named.{IsNamedWord, IsInside, name_in, told_new, told_word, told_words, third_of, over_word, space_word, place_text, below_text, named_by, named_text, named_texts, space_text};
 ghost use Rattle.explain_text.specs.declared.naming.NamedWord.{NamedWord};
 
 use crate::named::first_giving;
@@ -13,6 +13,7 @@ use crate::split::{back, cut, front};
 use crate::text::Text;
 use graph_model::format::Format;
 use graph_model::table::Place;
+use graph_reader::words::word;
 use index_spaces::NoMemory;
 use index_spaces::room::push;
 use refused_words::{WordPlace, place_at};
@@ -103,45 +104,22 @@ fn name_in(place: WordPlace, word: &[u8]) -> Option<&[u8]>
     }
 }
 
-/// The spaces over which the instances of a line's columns are declared, one for each word that is a
-/// column, each with the lines that give it. The line is counted from 1.
-pub fn column_spaces<'a>(
-    alloc: Global,
-    format: Format,
-    lines: &[&'a [u8]],
-    number: u32,
-    words: &[&'a [u8]],
-) -> Result<Vec<NamedWord<'a>>, NoMemory>
-    ensures words { IfOk result (λ v. map (λ (x : NamedWord). x.word.now) v.items ≡ told_words (space_word format (contents lines.now) number (contents words.now)) (length words.now)) }
-    ensures named { IfOk result (λ v. (x : NamedWord) → Contains v.items x → IsNamedWord (contents lines.now) number x) }
-    ensures inside { IfOk result (λ v. (x : NamedWord) → Contains v.items x → IsInside (length lines.now) x) }
-{
-    let mut found = Vec::new(alloc);
-    for k in 0..words.len() {
-        if let Some(named) = column_space(format, lines, number, words, k) {
-            push(&mut found, named)?;
-        }
-    }
-    Ok(found)
-}
-
-/// The space over which the instance of the word of number `k` is declared, where that is a column.
-fn column_space<'a>(
+/// The space over which the instance of the word of number `k` is declared, with the lines that give
+/// it, where that word is a column. The line is counted from 1.
+pub fn column_space<'a>(
     format: Format,
     lines: &[&'a [u8]],
     number: u32,
     words: &[&'a [u8]],
     k: usize,
 ) -> Option<NamedWord<'a>>
-    requires { k < length words.now }
     ensures word { option_map (λ (x : NamedWord). x.word.now) result ≡ space_word format (contents lines.now) number (contents words.now) k }
     ensures named { IfSome result (IsNamedWord (contents lines.now) number) }
     ensures inside { IfSome result (IsInside (length lines.now)) }
 {
-    let word = words[k];
     match place_at(format, words, k) {
         Some(WordPlace::Of(Place::Column(..))) => {
-            let space = over_word(lines, number, before_dot(word));
+            let space = over_word(lines, number, before_dot(word(words, k)));
             Some(look_up(lines, number, space))
         }
         _ => None,
@@ -211,6 +189,21 @@ pub fn put_named_words(
         put_named(text, lines, word)?;
     }
     Ok(())
+}
+
+/// Puts which line gives a word as a name, where there is such a word.
+pub fn put_space(
+    text: &mut Text,
+    lines: &[&[u8]],
+    space: &Option<NamedWord>,
+) -> Result<(), NoMemory>
+    requires { IfSome space.now (IsInside (length lines.now)) }
+    ensures { OnOk result (text.new ≡ text.old ++ space_text (contents lines.now) space.now) }
+{
+    match space {
+        Some(word) => put_named(text, lines, word),
+        None => Ok(()),
+    }
 }
 
 /// Puts which line gives the name that a word stands for.

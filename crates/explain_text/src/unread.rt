@@ -3,7 +3,7 @@
 ghost use Rattle.std.specs.Prelude.{◌≡◌, ◌++◌, ◌-◌, [], flat_map, OnOk};
 ghost use Rattle.std.specs.List.{slice_index_or};
 ghost use Rattle.basics.specs.Words.{contents};
-ghost use Rattle.explain_text.specs.Unread.{why_word, unread_text, blank_word, mark_text, ended_text, passed_text, limit_text};
+ghost use Rattle.explain_text.specs.Unread.{why_word, unread_text, blank_word, mark_text, refused_text, ended_text, passed_text, limit_text};
 
 use crate::lines::{put_by_number, put_line};
 use crate::split::front;
@@ -27,6 +27,24 @@ pub fn put_unread(text: &mut Text, lines: &[&[u8]], number: u32, why: Why) -> Re
     text.put(b": ")?;
     text.put(line_at(lines, number))?;
     text.put(b"\n")
+}
+
+/// Puts which word of a line that was put with its number is refused, or that the text ends there.
+pub fn put_refused(
+    text: &mut Text,
+    why: Why,
+    number: u32,
+    words: &[&[u8]],
+    mark: Option<usize>,
+) -> Result<(), NoMemory>
+    ensures { OnOk result (text.new ≡ text.old ++ refused_text why number (contents words.now) mark) }
+{
+    match why {
+        Why::Missing => {
+            text.put(b"the text ends here: a line `end`, with its newline, is missing\n")
+        }
+        _ => put_mark(text, number, words, mark),
+    }
 }
 
 /// Puts, below a line that was put with its number, `^` below each byte of one of its words, by the

@@ -1,5 +1,5 @@
 -- What is answered to the bytes of an input.
-use Rattle.std.specs.Prelude.{◌≡◌, ◌≢◌, ℕ, ◌-◌, ◌<◌, ◌↔◌, Bool, true, false, cond, List, [], ◌++◌, length, map, Contains, Option, Some, None, IsSome, MatchOption, option_map}
+use Rattle.std.specs.Prelude.{◌≡◌, ◌≢◌, ℕ, ◌-◌, ◌<◌, ◌↔◌, Bool, true, false, cond, List, [], ◌++◌, length, map, Contains, Option, Some, None, IfSome, IsSome, MatchOption, option_map}
 use Rattle.basics.specs.Lists.{numbers_below}
 use Rattle.std.specs.List.{slice_index_or}
 use Rattle.graph_model.specs.declared.graph.format.Format.{Format}
@@ -27,9 +27,9 @@ use Rattle.explain_graph.specs.Ways.{AreLongest}
 use Rattle.explain_graph.specs.declared.explanation.Explanation.{Explanation}
 use Rattle.explain_graph.specs.declared.ways.Way.{Way}
 use Rattle.explain_text.specs.Accepted.{need_text, need_line_text, each_text, waiting_text, cancelled_text, ways_text}
-use Rattle.explain_text.specs.Named.{IsNamedWord, told_word, told_words, space_word, named_texts}
+use Rattle.explain_text.specs.Named.{IsNamedWord, told_word, told_words, space_word, named_texts, space_text}
 use Rattle.explain_text.specs.declared.naming.NamedWord.{NamedWord}
-use Rattle.explain_text.specs.Unread.{unread_text, mark_text, limit_text, ended_text}
+use Rattle.explain_text.specs.Unread.{unread_text, mark_text, refused_text, limit_text, ended_text}
 use Rattle.refusal_text.specs.Refused.{explanation_text}
 use Rattle.refused_words.specs.Refused.{IsRefusedWord}
 use Rattle.refused_words.specs.Ends.{IsEndedBy}
@@ -92,22 +92,20 @@ tells_names reasons.Outside = true
 tells_names reasons.Arrivals = true
 tells_names _ = false
 
--- names, where they are told: those of the words of a line, each with the lines that give it
-pub record AreTold (tells : Bool) (name_of : ℕ → Option (List ℕ)) (words : ℕ) (ls : List (List ℕ)) (number : ℕ) (named : List NamedWord) : Type 0 where
-  pub words_are : map (λ (x : NamedWord). x.word.now) named ≡ cond tells (told_words name_of words) []
+-- the names that words of line `number` stand for, where the reason speaks of names, each with the lines that give it
+pub record AreNamed (format : Format) (ls : List (List ℕ)) (number : ℕ) (ws : List (List ℕ)) (reason : Why) (named : List NamedWord) : Type 0 where
+  pub words_are : map (λ (x : NamedWord). x.word.now) named ≡ cond (tells_names reason) (told_words (told_word format ls number ws) (length ws)) []
   pub each : (x : NamedWord) → Contains named x → IsNamedWord ls number x
 
--- the names that words of line `number` stand for, where the reason speaks of names
-abbrev pub AreNamed : Format → List (List ℕ) → ℕ → List (List ℕ) → Why → List NamedWord → Type 0
-AreNamed format ls number ws reason named = AreTold (tells_names reason) (told_word format ls number ws) (length ws) ls number named
+-- for Outside, the space over which the instance of the column is declared that is refused
+abbrev pub space_for : Format → List (List ℕ) → ℕ → List (List ℕ) → Why → Option ℕ → Option (List ℕ)
+space_for format ls number ws reasons.Outside (Some k) = space_word format ls number ws k
+space_for format ls number ws _ mark = None
 
--- for Outside, the spaces over which the instances of its columns are declared
-abbrev pub tells_spaces : Why → Bool
-tells_spaces reasons.Outside = true
-tells_spaces _ = false
-
-abbrev pub AreSpaces : Format → List (List ℕ) → ℕ → List (List ℕ) → Why → List NamedWord → Type 0
-AreSpaces format ls number ws reason spaces = AreTold (tells_spaces reason) (space_word format ls number ws) (length ws) ls number spaces
+-- that space, where it is told, with the lines that give it
+pub record IsSpace (format : Format) (ls : List (List ℕ)) (number : ℕ) (ws : List (List ℕ)) (reason : Why) (mark : Option ℕ) (space : Option NamedWord) : Type 0 where
+  pub word_is : option_map (λ (x : NamedWord). x.word.now) space ≡ space_for format ls number ws reason mark
+  pub named : IfSome space (IsNamedWord ls number)
 
 -- for Limit, what the line of these words brings above its bound
 abbrev pub limit_for : GraphValue → List (List ℕ) → Why → Option QuantityValue
@@ -118,7 +116,7 @@ limit_for g ws _ = None
 abbrev pub words_of : List (List ℕ) → ℕ → List (List ℕ)
 words_of ls number = pieces 32 (slice_index_or ls (number - 1) [])
 
--- a text with what is told of a line that is refused behind a graph: the word that is, or that it is as a whole; for Limit the first quantity that the line brings above its bound; the line that has done already what it would do; the names; and for Outside the spaces of its columns
+-- a text with what is told of a line that is refused behind a graph: the word that is, or that it is as a whole, or that the text ends before it does; for Limit the first quantity that the line brings above its bound; the line that has done already what it would do; the names; and for Outside the space of the column that is refused
 pub record IsMarkedText (ls : List (List ℕ)) (number : ℕ) (reason : Why) (g : GraphValue) (old new : List ℕ) : Type 0 where
   pub mark : Option ℕ
   pub is_mark : IsRefusedWord g reason (words_of ls number) mark
@@ -128,9 +126,9 @@ pub record IsMarkedText (ls : List (List ℕ)) (number : ℕ) (reason : Why) (g 
   pub is_ended : MatchOption mark (ended ≡ None) (λ k. IsEndedBy g (words_of ls number) k ended)
   pub named : List NamedWord
   pub are_named : AreNamed g.format ls number (words_of ls number) reason named
-  pub spaces : List NamedWord
-  pub are_spaces : AreSpaces g.format ls number (words_of ls number) reason spaces
-  pub text : new ≡ old ++ (mark_text number (words_of ls number) mark ++ (limit_text limit ++ (ended_text g ls ended ++ (named_texts ls named ++ named_texts ls spaces))))
+  pub space : Option NamedWord
+  pub is_space : IsSpace g.format ls number (words_of ls number) reason mark space
+  pub text : new ≡ old ++ (refused_text reason number (words_of ls number) mark ++ (limit_text limit ++ (ended_text g ls ended ++ (named_texts ls named ++ space_text ls space))))
 
 -- the text on a refused line, behind the graph of the lines above it where it is between the first line and the closing one
 abbrev pub IsUnreadText : List (List ℕ) → ℕ → Why → Option GraphValue → List ℕ → Type 0

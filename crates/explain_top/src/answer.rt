@@ -1,20 +1,20 @@
 //! The answer to the bytes of an input.
 
-ghost use Rattle.std.specs.Prelude.{◌≡◌, ◌≢◌, ◌++◌, length, option_map, Contains, None, IfOk, OnOk, MatchOption};
+ghost use Rattle.std.specs.Prelude.{◌≡◌, ◌≢◌, ◌++◌, length, option_map, Contains, None, IfOk, IfSome, OnOk, MatchOption};
 ghost use Rattle.basics.specs.Words.{contents};
 ghost use Rattle.refused_words.specs.Ends.{IsEndedBy};
 ghost use Rattle.refused_words.specs.Limits.{quantity_value};
-ghost use Rattle.explain_text.specs.Named.{IsInside, named_texts};
+ghost use Rattle.explain_text.specs.Named.{IsInside, named_texts, space_text};
 ghost use Rattle.explain_text.specs.declared.naming.NamedWord.{NamedWord};
-ghost use Rattle.explain_top.specs.Answer.{IsAnswer, IsUnfitText, IsUnreadText, IsMarkedText, AreNamed, AreSpaces, limit_for};
+ghost use Rattle.explain_top.specs.Answer.{IsAnswer, IsUnfitText, IsUnreadText, IsMarkedText, AreNamed, IsSpace, limit_for};
 ghost use Rattle.race_check.specs.Refusal.{IsRefusal, NamesLines};
 
 use crate::accepted::put_accepted;
 use explain_graph::explain;
 use explain_text::split::split;
 use explain_text::{
-    NamedWord, Text, column_spaces, line_at, named_words, put_ended, put_limit, put_mark,
-    put_named_words, put_unread, split_lines,
+    NamedWord, Text, column_space, line_at, named_words, put_ended, put_limit, put_mark,
+    put_named_words, put_refused, put_space, put_unread, split_lines,
 };
 use graph_model::format::Format;
 use graph_model::graph::Graph;
@@ -69,7 +69,7 @@ pub fn explain_bytes(alloc: Global, bytes: &[u8], ends: bool) -> Result<Answer, 
             }
         },
         Reading::Refused(unread) => {
-            let text = put_refused(alloc, lines.as_slice(), &unread)?;
+            let text = put_unread_text(alloc, lines.as_slice(), &unread)?;
             Ok(Answer {
                 verdict: Verdict::Unread,
                 text,
@@ -95,7 +95,7 @@ fn put_unfit(alloc: Global, unfit: &Unfit, lines: &[&[u8]]) -> Result<Text, NoMe
 }
 
 /// The text on bytes that are no graph's.
-fn put_refused(alloc: Global, lines: &[&[u8]], unread: &Unread) -> Result<Text, NoMemory>
+fn put_unread_text(alloc: Global, lines: &[&[u8]], unread: &Unread) -> Result<Text, NoMemory>
     ensures { IfOk result (IsUnreadText (contents lines.now) unread.now.number unread.now.why unread.now.above) }
 {
     let mut text = Text::new(alloc);
@@ -122,27 +122,27 @@ fn put_behind(
     let mark = refused_word(alloc, graph, words.as_slice(), why)?;
     let ended = ended_for(graph, words.as_slice(), mark);
     let named = named_for(alloc, graph.format(), lines, number, words.as_slice(), why)?;
-    let spaces = spaces_for(alloc, graph.format(), lines, number, words.as_slice(), why)?;
+    let space = space_for(graph.format(), lines, number, words.as_slice(), why, mark);
     let passed = limit_for(alloc, graph, words.as_slice(), why)?;
-    put_mark(text, number, words.as_slice(), mark)?;
+    put_refused(text, why, number, words.as_slice(), mark)?;
     put_limit(text, passed)?;
     put_ended(text, graph, lines, ended)?;
-    put_names(text, lines, named.as_slice(), spaces.as_slice())
+    put_names(text, lines, named.as_slice(), &space)
 }
 
-/// Puts names, and then the spaces of columns.
+/// Puts names, and then the space of a column.
 fn put_names(
     text: &mut Text,
     lines: &[&[u8]],
     named: &[NamedWord],
-    spaces: &[NamedWord],
+    space: &Option<NamedWord>,
 ) -> Result<(), NoMemory>
     requires named { (x : NamedWord) → Contains named.now x → IsInside (length lines.now) x }
-    requires spaces { (x : NamedWord) → Contains spaces.now x → IsInside (length lines.now) x }
-    ensures { OnOk result (text.new ≡ text.old ++ (named_texts (contents lines.now) named.now ++ named_texts (contents lines.now) spaces.now)) }
+    requires space { IfSome space.now (IsInside (length lines.now)) }
+    ensures { OnOk result (text.new ≡ text.old ++ (named_texts (contents lines.now) named.now ++ space_text (contents lines.now) space.now)) }
 {
     put_named_words(text, lines, named)?;
-    put_named_words(text, lines, spaces)
+    put_space(text, lines, space)
 }
 
 /// The line that has done already what the refused word would do.
@@ -175,21 +175,21 @@ fn named_for<'a>(
     }
 }
 
-/// The spaces of the columns that the line names, for the reason that speaks of them.
-fn spaces_for<'a>(
-    alloc: Global,
+/// The space of the column that is refused, for the reason that speaks of it.
+fn space_for<'a>(
     format: Format,
     lines: &[&'a [u8]],
     number: u32,
     words: &[&'a [u8]],
     why: Why,
-) -> Result<Vec<NamedWord<'a>>, NoMemory>
-    ensures spaces { IfOk result (λ v. AreSpaces format (contents lines.now) number (contents words.now) why v.items) }
-    ensures inside { IfOk result (λ v. (x : NamedWord) → Contains v.items x → IsInside (length lines.now) x) }
+    mark: Option<usize>,
+) -> Option<NamedWord<'a>>
+    ensures space { IsSpace format (contents lines.now) number (contents words.now) why mark result }
+    ensures inside { IfSome result (IsInside (length lines.now)) }
 {
-    match why {
-        Why::Outside => column_spaces(alloc, format, lines, number, words),
-        _ => Ok(Vec::new(alloc)),
+    match (why, mark) {
+        (Why::Outside, Some(k)) => column_space(format, lines, number, words, k),
+        _ => None,
     }
 }
 

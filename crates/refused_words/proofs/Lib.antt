@@ -1,2 +1,4 @@
 pub mod RefusedFacts
 pub mod LimitFacts
+mod RepeatFacts
+mod UseFacts

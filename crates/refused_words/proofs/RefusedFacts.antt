@@ -1,48 +1,19 @@
--- What a test of a word says of the line.
-use Rattle.std.proofs.Common.{◌≡◌, ℕ, Bool, true, false, inl, inr, List, [], refl, sym, ◌∙◌, ap}
-use Rattle.std.specs.Prelude.{Option, Some, None, ◌&&◌, not}
+-- The first word that is refused, and the line that has ended what a word names.
+use Rattle.std.proofs.Common.{◌≡◌, ℕ, ◌<◌, Bool, true, false, inl, inr, List, [], length, refl, sym, ◌∙◌, ap, subst, arith}
+use Rattle.std.specs.Prelude.{Option, Some, None, ◌==◌, ◌&&◌, not}
 use Rattle.std.specs.Option.{option_map_or}
 use Rattle.std.specs.List.{slice_index_or}
-use Rattle.std.proofs.lemmas.Bool.{true≢false}
+use Rattle.std.proofs.lemmas.Bool.{true≢false, cases_lt, eqb-true, eq-eqb}
+use Rattle.graph_model.specs.declared.graph.format.Format.{Format}
 use Rattle.graph_model.specs.declared.graph.verb.Verb.{Verb}
 use Rattle.graph_model.specs.declared.graph.why.Why.{Why}
-use Rattle.graph_model.specs.declared.graph.why.Why.TheVariants as reasons
 use Rattle.graph_model.specs.graph.Graph.{GraphValue, verb_at, line_passes}
 use Rattle.graph_reader.specs.Draft.{Place, NewName, SpaceName, LockName, BarrierName, UserName, PhaseName, AcquireName, EventName, Column, Fields, Value, Times, Weight, Shared, Count, Intervals, line_number}
 use Rattle.graph_reader.specs.FirstFault.{twice}
 use Rattle.graph_reader.specs.Kinds.{named_number}
 use Rattle.refused_words.specs.Places.{place_at}
-use Rattle.refused_words.specs.Refused.{refuses, same_list, StandsBefore, IsRefusedAt}
+use Rattle.refused_words.specs.Refused.{refuses_at, IsRepeat, IsFirstRepeat, IsRefusedAt}
 use Rattle.refused_words.specs.Ends.{ends, ends_at, ends_named, IsFirstEnding, IsEndedBy}
-
-same_none : (o : Option Place) → same_list o None ≡ false
-same_none None = refl
-same_none (Some NewName) = refl
-same_none (Some SpaceName) = refl
-same_none (Some LockName) = refl
-same_none (Some BarrierName) = refl
-same_none (Some UserName) = refl
-same_none (Some PhaseName) = refl
-same_none (Some AcquireName) = refl
-same_none (Some EventName) = refl
-same_none (Some Column) = refl
-same_none (Some Fields) = refl
-same_none (Some Value) = refl
-same_none (Some Times) = refl
-same_none (Some Weight) = refl
-same_none (Some Shared) = refl
-same_none (Some Count) = refl
-same_none (Some Intervals) = refl
-
--- a word that stands in no place is not refused
-pub none_refused : (g : GraphValue) (reason : Why) (ws : List (List ℕ)) (k : ℕ) → place_at g.format ws k ≡ None → IsRefusedAt g reason ws k → ⊥
-none_refused g reason ws k none (inl h) = true≢false (sym h ∙ ap (λ o. option_map_or (λ p. refuses g reason p (slice_index_or ws k [])) o false) none)
-none_refused g reason ws k none (inr h) = true≢false (sym h.1.2 ∙ (ap (same_list (place_at g.format ws h.1.0)) none ∙ same_none (place_at g.format ws h.1.0)))
-
--- nor one whose test fails, unless it stands before it
-pub fine_at : (g : GraphValue) (reason : Why) (ws : List (List ℕ)) (k : ℕ) (p : Place) → place_at g.format ws k ≡ Some p → refuses g reason p (slice_index_or ws k []) ≡ false → (reason ≡ reasons.Twice → StandsBefore g.format ws k → ⊥) → IsRefusedAt g reason ws k → ⊥
-fine_at g reason ws k p is fine none (inl h) = true≢false (sym h ∙ (ap (λ o. option_map_or (λ p. refuses g reason p (slice_index_or ws k [])) o false) is ∙ fine))
-fine_at g reason ws k p is fine none (inr h) = none h.0 h.1
 
 -- the number in a place is that of a line wherever a line could end it
 same_ends : (g : GraphValue) (p : Place) (w : List ℕ) (v : Verb) → ends p (named_number g p w) v ≡ ends p (line_number g w) v
@@ -79,3 +50,23 @@ module _ (g : GraphValue) (ws : List (List ℕ)) (k : ℕ) (p : Place) (n : ℕ)
 pub not_false : (b : Bool) → not b ≡ false → b ≡ true
 not_false true e = refl
 not_false false e = absurd (true≢false e)
+
+-- a word of this number repeats one before it, where the first that does has it
+pub at_repeat : (fm : Format) (why : Why) (ws : List (List ℕ)) (o : Option ℕ) (k : ℕ) → IsFirstRepeat fm why ws o → option_map_or (λ n. n == k) o false ≡ true → IsRepeat fm why ws k
+at_repeat fm why ws None k f h = absurd (true≢false (sym h))
+at_repeat fm why ws (Some r) k f h = subst (IsRepeat fm why ws) (eqb-true r k h) f.1
+
+-- and none does, where it has another and no word above repeats one
+pub no_repeat : (fm : Format) (why : Why) (ws : List (List ℕ)) (o : Option ℕ) (k : ℕ) → IsFirstRepeat fm why ws o → option_map_or (λ n. n == k) o false ≡ false → k < length ws → ((j : ℕ) → j < k → IsRepeat fm why ws j → ⊥) → IsRepeat fm why ws k → ⊥
+no_repeat fm why ws None k f h below none again = f k below again
+no_repeat fm why ws (Some r) k f h below none again = elim (cases_lt r k) [
+  | inl less ↦ none r less f.1
+  | inr most ↦ elim (cases_lt k r) [
+    | inl more ↦ f.2 k more again
+    | inr same ↦ true≢false (sym (eq-eqb r k (let e : r ≡ k = omega arith in e)) ∙ h)
+  ]
+]
+
+pub fine_at : (g : GraphValue) (why : Why) (ws : List (List ℕ)) (k : ℕ) → refuses_at g why ws k ≡ false → (IsRepeat g.format why ws k → ⊥) → IsRefusedAt g why ws k → ⊥
+fine_at g why ws k fine none (inl h) = true≢false (sym h ∙ fine)
+fine_at g why ws k fine none (inr h) = none h

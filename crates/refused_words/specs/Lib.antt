@@ -1,4 +1,6 @@
 pub mod Places
 pub mod Refused
+pub mod Uses
+pub mod Repeats
 pub mod Ends
 pub mod Limits

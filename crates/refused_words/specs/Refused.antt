@@ -1,12 +1,20 @@
 -- The first word of a line that a reason refuses.
-use Rattle.std.specs.Prelude.{◌≡◌, ℕ, ◌<◌, ◌⊎◌, Bool, true, false, not, ◌&&◌, List, [], length, Option, Some, None, slice_index_or}
+use Rattle.std.specs.Prelude.{◌≡◌, ℕ, ◌<◌, ◌⊎◌, nat_eq, Bool, true, false, not, ◌&&◌, ◌||◌, List, [], length, Option, Some, None, slice_index_or}
+use Rattle.std.specs.List.{list_any}
 use Rattle.std.specs.Option.{option_map_or}
 use Rattle.std.specs.Str.{bytes_eq}
+use Rattle.std.proofs.Common.{inl, inr}
+use Rattle.graph_model.specs.declared.graph.decl.Decl.{Decl}
 use Rattle.graph_model.specs.declared.graph.format.Format.{Format}
+use Rattle.graph_model.specs.declared.graph.verb.Access.{Access}
+use Rattle.graph_model.specs.declared.graph.verb.Line.{Line}
 use Rattle.graph_model.specs.declared.graph.why.Why.{Why}
 use Rattle.graph_model.specs.declared.graph.why.Why.TheVariants as reasons
 use Rattle.graph_model.specs.graph.Graph.{GraphValue}
-use Rattle.graph_reader.specs.Draft.{Place, PhaseName, EventName, Column}
+use Rattle.graph_model.specs.graph.Access.{verb_accesses}
+use Rattle.graph_model.specs.graph.Fits.{access_outside}
+use Rattle.graph_reader.specs.Words.{pieces}
+use Rattle.graph_reader.specs.Draft.{Place, PhaseName, EventName, Column, Draft, draft, column_number_of}
 use Rattle.graph_reader.specs.FirstFault.{misnamed, twice, unknown, unlike, misnumbered, misordered}
 use Rattle.refused_words.specs.Places.{place_at}
 
@@ -25,22 +33,56 @@ refuses g reasons.Space p w = misordered p w
 refuses g reasons.Arrivals p w = is_phase_name p
 refuses g _ p w = false
 
+-- the columns that a line uses, each over a space; a declaration uses none
+abbrev pub item_accesses : Decl ⊎ Line → List Access
+item_accesses (inl d) = []
+item_accesses (inr l) = verb_accesses l.verb
+
+abbrev pub draft_accesses : Option Draft → List Access
+draft_accesses o = option_map_or (λ (d : Draft). item_accesses d.item) o []
+
+-- a use of this column over a space that has points which its own has not
+abbrev pub leaves_column : GraphValue → ℕ → Access → Bool
+leaves_column g column a = nat_eq a.column column && access_outside g a
+
+-- the line of these words uses the column that a word names so
+abbrev pub clashes : GraphValue → List (List ℕ) → Why → Place → List ℕ → Bool
+clashes g ws reasons.Outside Column w = list_any (leaves_column g (column_number_of g (pieces 46 w))) (draft_accesses (draft g ws))
+clashes g ws _ p w = false
+
+abbrev pub refuses_in : GraphValue → List (List ℕ) → Why → Place → List ℕ → Bool
+refuses_in g ws reason p w = refuses g reason p w || clashes g ws reason p w
+
 abbrev pub refuses_at : GraphValue → Why → List (List ℕ) → ℕ → Bool
-refuses_at g reason ws k = option_map_or (λ p. refuses g reason p (slice_index_or ws k [])) (place_at g.format ws k) false
+refuses_at g reason ws k = option_map_or (λ p. refuses_in g ws reason p (slice_index_or ws k [])) (place_at g.format ws k) false
 
 -- two events, or two columns
+abbrev pub is_event : Option Place → Bool
+is_event (Some EventName) = true
+is_event _ = false
+
+abbrev pub is_column : Option Place → Bool
+is_column (Some Column) = true
+is_column _ = false
+
 abbrev pub same_list : Option Place → Option Place → Bool
-same_list (Some EventName) (Some EventName) = true
-same_list (Some Column) (Some Column) = true
-same_list _ _ = false
+same_list p q = (is_event p && is_event q) || (is_column p && is_column q)
 
 -- word k stands before it in the line as an event, or as a column, too
 abbrev pub StandsBefore : Format → List (List ℕ) → ℕ → Type 0
 StandsBefore format ws k = (j : ℕ) × (j < k) × (same_list (place_at format ws j) (place_at format ws k) ≡ true) × (bytes_eq (slice_index_or ws j []) (slice_index_or ws k []) ≡ true)
 
+-- for Twice a word that does, the first or none
+abbrev pub IsRepeat : Format → Why → List (List ℕ) → ℕ → Type 0
+IsRepeat format reason ws k = (reason ≡ reasons.Twice) × StandsBefore format ws k
+
+abbrev pub IsFirstRepeat : Format → Why → List (List ℕ) → Option ℕ → Type 0
+IsFirstRepeat format reason ws (Some k) = (k < length ws) × IsRepeat format reason ws k × ((j : ℕ) → j < k → IsRepeat format reason ws j → ⊥)
+IsFirstRepeat format reason ws None = (j : ℕ) → j < length ws → IsRepeat format reason ws j → ⊥
+
 -- a reason refuses word k
 abbrev pub IsRefusedAt : GraphValue → Why → List (List ℕ) → ℕ → Type 0
-IsRefusedAt g reason ws k = (refuses_at g reason ws k ≡ true) ⊎ ((reason ≡ reasons.Twice) × StandsBefore g.format ws k)
+IsRefusedAt g reason ws k = (refuses_at g reason ws k ≡ true) ⊎ IsRepeat g.format reason ws k
 
 -- word k is the first, or none is refused
 abbrev pub IsRefusedWord : GraphValue → Why → List (List ℕ) → Option ℕ → Type 0

@@ -5,8 +5,11 @@ mod declared;
 mod ends;
 pub mod limits;
 mod operations;
+mod outside;
 mod places;
 mod refused;
+mod repeats;
+mod seen_words;
 mod spelled;
 
 pub use ends::ended_by;

@@ -134,7 +134,7 @@ fn operation_place(format: Format, words: &[&[u8]], k: usize) -> Option<WordPlac
 }
 
 /// Whether the words behind the sign are those of a merge.
-fn is_merge(words: &[&[u8]]) -> bool
+pub(crate) fn is_merge(words: &[&[u8]]) -> bool
     ensures { result ≡ is_merge (contents words.now) }
 {
     word(words, 0) == b"merge".as_slice() || word(words, 0) == b"mergei".as_slice()

@@ -1,14 +1,16 @@
 //! The word of a line that a reason refuses.
 
 ghost use Rattle.basics.specs.Words.{contents};
-ghost use Rattle.std.specs.Prelude.{◌≡◌, ℕ, ◌<◌, true, false, length, option_map, IfOk};
+ghost use Rattle.std.specs.Prelude.{◌≡◌, ◌==◌, false, IfOk};
+ghost use Rattle.std.specs.Option.{option_map_or};
 ghost use Rattle.graph_reader.specs.Draft.{as_place, NewName, EventName, Count};
 ghost use Rattle.refused_words.specs.Places.{place_value};
-ghost use Rattle.refused_words.specs.Refused.{refuses, same_list, StandsBefore, refuses_at, IsRefusedAt, IsRefusedWord};
+ghost use Rattle.refused_words.specs.Refused.{refuses, clashes, refuses_at, IsRefusedWord};
 
+use crate::outside::leaves_column;
 use crate::places::{WordPlace, place_at};
+use crate::repeats::first_repeat;
 use crate::spelled::{refuses_fields, refuses_intervals};
-use graph_model::format::Format;
 use graph_model::graph::Graph;
 use graph_model::table::Place;
 use graph_model::why::Why;
@@ -28,7 +30,11 @@ pub fn refused_word(
 ) -> Result<Option<usize>, NoMemory>
     ensures { IfOk result (IsRefusedWord graph.now why (contents words.now)) }
 {
+    let repeat = first_repeat(alloc, graph.format(), words, why)?;
     for k in 0..words.len() {
+        if is_number(repeat, k) {
+            return Ok(Some(k));
+        }
         if is_refused(alloc, graph, words, why, k)? {
             return Ok(Some(k));
         }
@@ -36,7 +42,16 @@ pub fn refused_word(
     Ok(None)
 }
 
-/// Whether a reason refuses the word of number `k`.
+fn is_number(number: Option<usize>, k: usize) -> bool
+    ensures { result ≡ option_map_or (λ n. n == k) number false }
+{
+    match number {
+        Some(n) => n == k,
+        None => false,
+    }
+}
+
+/// Whether a reason refuses the word of number `k`, wherever it stands besides.
 fn is_refused(
     alloc: Global,
     graph: &Graph,
@@ -44,19 +59,32 @@ fn is_refused(
     why: Why,
     k: usize,
 ) -> Result<bool, NoMemory>
-    ensures refused { IfOk result (λ b. b ≡ true → IsRefusedAt graph.now why (contents words.now) k) }
-    ensures fine { IfOk result (λ b. b ≡ false → IsRefusedAt graph.now why (contents words.now) k → ⊥) }
+    ensures { IfOk result (λ b. b ≡ refuses_at graph.now why (contents words.now) k) }
 {
-    let format = graph.format();
-    let Some(place) = place_at(format, words, k) else {
+    let Some(place) = place_at(graph.format(), words, k) else {
         return Ok(false);
     };
-    if refuses(alloc, graph, why, place, word(words, k))? {
+    let word = word(words, k);
+    if clashes(graph, words, why, place, word) {
         return Ok(true);
     }
-    match why {
-        Why::Twice => Ok(stands_before(format, words, k)),
-        _ => Ok(false),
+    refuses(alloc, graph, why, place, word)
+}
+
+/// Whether the line uses the column that a word names over points that this column has not, where
+/// that is the reason.
+fn clashes(graph: &Graph, words: &[&[u8]], why: Why, place: WordPlace, word: &[u8]) -> bool
+    ensures { result ≡ clashes graph.now (contents words.now) why (place_value place) word.now }
+{
+    match place {
+        WordPlace::Of(Place::Column(mode, over)) => match why {
+            Why::Outside => {
+                let column = see(graph, Place::Column(mode, over), word).number;
+                leaves_column(graph, words, column)
+            }
+            _ => false,
+        },
+        _ => false,
     }
 }
 
@@ -119,32 +147,4 @@ fn refuses_of(graph: &Graph, why: Why, place: Place, word: &[u8]) -> bool
         Why::Arrivals => matches!(place, Place::Phase),
         _ => false,
     }
-}
-
-/// Whether the word of number `k` stands before it in the line, as an event or as a column too.
-fn stands_before(format: Format, words: &[&[u8]], k: usize) -> bool
-    ensures there { result ≡ true → StandsBefore format (contents words.now) k }
-    ensures none { result ≡ false → StandsBefore format (contents words.now) k → ⊥ }
-{
-    let place = place_at(format, words, k);
-    for j in 0..k {
-        if same_list(place_at(format, words, j), place) && word(words, j) == word(words, k) {
-            return true;
-        }
-    }
-    false
-}
-
-/// Whether two words are both events, or both columns.
-fn same_list(one: Option<WordPlace>, other: Option<WordPlace>) -> bool
-    ensures { result ≡ same_list (option_map place_value one) (option_map place_value other) }
-{
-    matches!(
-        (one, other),
-        (Some(WordPlace::Event), Some(WordPlace::Event))
-            | (
-                Some(WordPlace::Of(Place::Column(..))),
-                Some(WordPlace::Of(Place::Column(..)))
-            )
-    )
 }

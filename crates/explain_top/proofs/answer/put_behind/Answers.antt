@@ -5,10 +5,10 @@ use Rattle.graph_reader.specs.Words.{pieces}
 use Rattle.refused_words.specs.Refused.{IsRefusedWord}
 use Rattle.refused_words.specs.Ends.{IsEndedBy}
 use Rattle.refused_words.specs.Limits.{quantity_value}
-use Rattle.explain_text.specs.Named.{named_texts}
-use Rattle.explain_text.specs.Unread.{mark_text, limit_text, ended_text}
+use Rattle.explain_text.specs.Named.{named_texts, space_text}
+use Rattle.explain_text.specs.Unread.{refused_text, limit_text, ended_text}
 use Rattle.explain_text.proofs.TextFacts.{then_puts}
-use Rattle.explain_top.specs.Answer.{AreNamed, AreSpaces, limit_for}
+use Rattle.explain_top.specs.Answer.{AreNamed, IsSpace, limit_for}
 use Rattle.explain_top.proofs.Marking.{marked}
 use Rattle.explain_top.proofs.answer.put_behind.Goals as goal
 
@@ -25,16 +25,15 @@ returns c =
     let limit = c.in_ok-passed.passed in
     let ended = c.ended_for-ended.result in
     let named = c.in_ok-named.named.items in
-    let spaces = c.in_ok-spaces.spaces.items in
-    marked r ls number why g old new mark limit ended named spaces (contents c.in_ok-words.words.items)
+    let space = c.space_for-space.result in
+    marked r ls number why g old new mark limit ended named space (contents c.in_ok-words.words.items)
     (c.in_ok-words.ensures ∙ ap (pieces 32) c.line_at.ensures)
     (subst (λ w. IsRefusedWord g why (contents w) mark) c.as_slice.ensures.value c.in_ok-mark.ensures)
     (subst (λ w. option_map quantity_value limit ≡ limit_for g (contents w) why) c.as_slice-5.ensures.value c.in_ok-passed.ensures)
     (subst (λ w. MatchOption mark (ended ≡ None) (λ k. IsEndedBy g (contents w) k ended)) c.as_slice-2.ensures.value c.ended_for-ended.ensures)
     (subst (λ f. AreNamed f ls number (contents c.in_ok-words.words.items) why named) c.format.ensures (subst (λ w. AreNamed c.format.result ls number (contents w) why named) c.as_slice-3.ensures.value c.in_ok-named.ensures.named))
-    (subst (λ f. AreSpaces f ls number (contents c.in_ok-words.words.items) why spaces) c.format-2.ensures (subst (λ w. AreSpaces c.format-2.result ls number (contents w) why spaces) c.as_slice-4.ensures.value c.in_ok-spaces.ensures.spaces))
-    (then_puts r _ _ _ (mark_text number (contents c.in_ok-words.words.items) mark) _ (subst (λ w. c.put_mark.new.text ≡ old ++ mark_text number (contents w) mark) c.as_slice-6.ensures.value c.in_ok-put_mark.ensures)
+    (subst (λ f. IsSpace f ls number (contents c.in_ok-words.words.items) why mark space) c.format-2.ensures (subst (λ w. IsSpace c.format-2.result ls number (contents w) why mark space) c.as_slice-4.ensures.value c.space_for-space.ensures.space))
+    (then_puts r _ _ _ (refused_text why number (contents c.in_ok-words.words.items) mark) _ (subst (λ w. c.put_refused.new.text ≡ old ++ refused_text why number (contents w) mark) c.as_slice-6.ensures.value c.in_ok-put_refused.ensures)
     (then_puts r _ _ _ (limit_text limit) _ c.in_ok-put_limit.ensures
     (then_puts r _ _ _ (ended_text g ls ended) _ c.in_ok-put_ended.ensures
-    (subst (λ w. OnOk r (new ≡ c.put_ended.new.text ++ (named_texts ls named ++ named_texts ls w))) c.as_slice-8.ensures.value
-    (subst (λ w. OnOk r (new ≡ c.put_ended.new.text ++ (named_texts ls w ++ named_texts ls c.as_slice-8.result.now))) c.as_slice-7.ensures.value c.put_names.ensures)))))
+    (subst (λ w. OnOk r (new ≡ c.put_ended.new.text ++ (named_texts ls w ++ space_text ls space))) c.as_slice-7.ensures.value c.put_names.ensures))))
