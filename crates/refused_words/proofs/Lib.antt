@@ -4,3 +4,4 @@ mod RepeatFacts
 mod UseFacts
 mod PlaceFacts
 mod WordFacts
+mod QuantityFacts
