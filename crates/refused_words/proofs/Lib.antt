@@ -2,3 +2,6 @@ pub mod RefusedFacts
 pub mod LimitFacts
 mod RepeatFacts
 mod UseFacts
+mod PlaceFacts
+mod WordFacts
+mod QuantityFacts

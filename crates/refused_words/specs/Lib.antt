@@ -4,3 +4,4 @@ pub mod Uses
 pub mod Repeats
 pub mod Ends
 pub mod Limits
+pub mod Laws

@@ -3,6 +3,7 @@
 
 mod declared;
 mod ends;
+pub mod laws;
 pub mod limits;
 mod operations;
 mod outside;
