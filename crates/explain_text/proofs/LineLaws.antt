@@ -29,6 +29,7 @@ tells_own_lines bytes =
     let stand : LinesStand bytes = lines_stand bytes in
     record {
       of_text = λ g t. tells_lines bytes g (stand.of_text g t);
-      above = λ n w f. tells_lines bytes f.before (stand.above_line n w f);
+      above_line = λ n w f. tells_lines bytes f.before (stand.above_line n w f);
+      above_rest = λ n w f. tells_lines bytes f.before (stand.above_rest n w f);
       refused = λ n w f. get_or_from_slice_get (pieces 10 bytes) (n - 1) (refused_line bytes n w f) [] (stand.refused n w f);
     }

@@ -7,7 +7,7 @@ use Rattle.graph_model.specs.graph.Graph.{GraphValue}
 use Rattle.graph_model.specs.graph.Spelling.{line_words}
 use Rattle.graph_reader.specs.Words.{pieces}
 use Rattle.graph_reader.specs.Text.{GraphText}
-use Rattle.graph_reader.specs.FirstFault.{IsLineFault, FirstFault}
+use Rattle.graph_reader.specs.FirstFault.{IsLineFault, IsRestFault, FirstFault}
 use Rattle.graph_reader.specs.Laws.{refused_line}
 use Rattle.explain_text.specs.Lines.{line_number, line_of}
 
@@ -20,8 +20,9 @@ pub record TellsLine (bytes : List ℕ) (g : GraphValue) (i : ℕ) (l : Line) : 
 abbrev pub TellsLines : List ℕ → GraphValue → Type 0
 TellsLines bytes g = (i : ℕ) (l : Line) → slice_get g.lines i ≡ Some l → TellsLine bytes g i l
 
--- so of each operation of a graph that bytes are the text of, and of one above a refused line; and what is told as that line is it
+-- so of each operation of a graph that bytes are the text of, and of each one above a refused line, also above one behind the closing line; and what is told as that line is it
 pub record TellsOwnLines (bytes : List ℕ) : Type 0 where
   pub of_text : (g : GraphValue) → GraphText bytes g → TellsLines bytes g
-  pub above : (number : ℕ) (reason : Why) (f : IsLineFault bytes number reason) → TellsLines bytes f.before
+  pub above_line : (number : ℕ) (reason : Why) (f : IsLineFault bytes number reason) → TellsLines bytes f.before
+  pub above_rest : (number : ℕ) (reason : Why) (f : IsRestFault bytes number reason) → TellsLines bytes f.before
   pub refused : (number : ℕ) (reason : Why) (f : FirstFault bytes number reason) → slice_index_or (pieces 10 bytes) (number - 1) [] ≡ refused_line bytes number reason f

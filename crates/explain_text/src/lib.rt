@@ -1,4 +1,5 @@
-//! Explanations as text for people, a fact on each line.
+//! Text for people, a fact on each line: lines with their numbers, why they wait, are cancelled or
+//! are refused.
 #![tactic(auto)]
 
 pub mod accepted;
@@ -12,7 +13,7 @@ pub mod unread;
 mod words;
 
 pub use accepted::{put_cancelled, put_need, put_need_line, put_waiting, put_ways};
-pub use naming::{NamedWord, column_space, named_words, put_named_words, put_space};
+pub use naming::{NamedWord, named_space, named_words, put_named_words, put_space};
 pub use split::split_lines;
 pub use text::Text;
 pub use unread::{line_at, put_ended, put_limit, put_mark, put_refused, put_unread};

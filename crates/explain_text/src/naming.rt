@@ -106,7 +106,7 @@ fn name_in(place: WordPlace, word: &[u8]) -> Option<&[u8]>
 
 /// The space over which the instance of the word of number `k` is declared, with the lines that give
 /// it, where that word is a column. The line is counted from 1.
-pub fn column_space<'a>(
+pub fn named_space<'a>(
     format: Format,
     lines: &[&'a [u8]],
     number: u32,

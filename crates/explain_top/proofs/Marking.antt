@@ -10,7 +10,7 @@ use Rattle.refused_words.specs.declared.limits.Quantity.{Quantity}
 use Rattle.explain_text.specs.Named.{named_texts, space_text}
 use Rattle.explain_text.specs.declared.naming.NamedWord.{NamedWord}
 use Rattle.explain_text.specs.Unread.{refused_text, limit_text, ended_text}
-use Rattle.explain_top.specs.Answer.{IsMarkedText, AreNamed, IsSpace, limit_for, words_of}
+use Rattle.explain_top.specs.Answer.{IsMarkedText, AreNamed, TellsSpace, limit_for, words_of}
 
 -- what is found out about a line of these words
 record Found (ls : List (List ℕ)) (number : ℕ) (reason : Why) (g : GraphValue) (mark : Option ℕ) (limit : Option Quantity) (ended : Option ℕ) (named : List NamedWord) (space : Option NamedWord) (ws : List (List ℕ)) : Type 0 where
@@ -18,7 +18,7 @@ record Found (ls : List (List ℕ)) (number : ℕ) (reason : Why) (g : GraphValu
   pub is_limit : option_map quantity_value limit ≡ limit_for g ws reason
   pub is_ended : MatchOption mark (ended ≡ None) (λ k. IsEndedBy g ws k ended)
   pub are_named : AreNamed g.format ls number ws reason named
-  pub is_space : IsSpace g.format ls number ws reason mark space
+  pub is_space : TellsSpace g.format ls number ws reason mark space
 
 -- and the text on it
 abbrev pub told : List (List ℕ) → ℕ → Why → GraphValue → Option ℕ → Option Quantity → Option ℕ → List NamedWord → Option NamedWord → List (List ℕ) → List ℕ
@@ -31,7 +31,7 @@ marked_by (Err x) ls number reason g old new mark limit ended named space f t = 
 
 pub marked : {X E : Type 0} (r : Result X E) (ls : List (List ℕ)) (number : ℕ) (reason : Why) (g : GraphValue) (old new : List ℕ) (mark : Option ℕ) (limit : Option Quantity) (ended : Option ℕ) (named : List NamedWord) (space : Option NamedWord) (ws : List (List ℕ))
     → ws ≡ words_of ls number → IsRefusedWord g reason ws mark → option_map quantity_value limit ≡ limit_for g ws reason → MatchOption mark (ended ≡ None) (λ k. IsEndedBy g ws k ended)
-    → AreNamed g.format ls number ws reason named → IsSpace g.format ls number ws reason mark space → OnOk r (new ≡ old ++ told ls number reason g mark limit ended named space ws) → OnOk r (IsMarkedText ls number reason g old new)
+    → AreNamed g.format ls number ws reason named → TellsSpace g.format ls number ws reason mark space → OnOk r (new ≡ old ++ told ls number reason g mark limit ended named space ws) → OnOk r (IsMarkedText ls number reason g old new)
 marked r ls number reason g old new mark limit ended named space ws same m l e n s t = marked_by r ls number reason g old new mark limit ended named space
     (subst (Found ls number reason g mark limit ended named space) same (record { is_mark = m; is_limit = l; is_ended = e; are_named = n; is_space = s }))
     (subst (λ w. OnOk r (new ≡ old ++ told ls number reason g mark limit ended named space w)) same t)

@@ -103,7 +103,7 @@ space_for format ls number ws reasons.Outside (Some k) = space_word format ls nu
 space_for format ls number ws _ mark = None
 
 -- that space, where it is told, with the lines that give it
-pub record IsSpace (format : Format) (ls : List (List ℕ)) (number : ℕ) (ws : List (List ℕ)) (reason : Why) (mark : Option ℕ) (space : Option NamedWord) : Type 0 where
+pub record TellsSpace (format : Format) (ls : List (List ℕ)) (number : ℕ) (ws : List (List ℕ)) (reason : Why) (mark : Option ℕ) (space : Option NamedWord) : Type 0 where
   pub word_is : option_map (λ (x : NamedWord). x.word.now) space ≡ space_for format ls number ws reason mark
   pub named : IfSome space (IsNamedWord ls number)
 
@@ -116,7 +116,7 @@ limit_for g ws _ = None
 abbrev pub words_of : List (List ℕ) → ℕ → List (List ℕ)
 words_of ls number = pieces 32 (slice_index_or ls (number - 1) [])
 
--- a text with what is told of a line that is refused behind a graph: the word that is, or that it is as a whole, or that the text ends before it does; for Limit the first quantity that the line brings above its bound; the line that has done already what it would do; the names; and for Outside the space of the column that is refused
+-- a text with what is told of a line that is refused behind a graph: the word that is, or that the whole line is, or for Missing that the text ends there; for Limit the first quantity that the line brings above its bound; the line that has done already what it would do; the names; and for Outside the space of the column that is refused
 pub record IsMarkedText (ls : List (List ℕ)) (number : ℕ) (reason : Why) (g : GraphValue) (old new : List ℕ) : Type 0 where
   pub mark : Option ℕ
   pub is_mark : IsRefusedWord g reason (words_of ls number) mark
@@ -127,7 +127,7 @@ pub record IsMarkedText (ls : List (List ℕ)) (number : ℕ) (reason : Why) (g 
   pub named : List NamedWord
   pub are_named : AreNamed g.format ls number (words_of ls number) reason named
   pub space : Option NamedWord
-  pub is_space : IsSpace g.format ls number (words_of ls number) reason mark space
+  pub is_space : TellsSpace g.format ls number (words_of ls number) reason mark space
   pub text : new ≡ old ++ (refused_text reason number (words_of ls number) mark ++ (limit_text limit ++ (ended_text g ls ended ++ (named_texts ls named ++ space_text ls space))))
 
 -- the text on a refused line, behind the graph of the lines above it where it is between the first line and the closing one

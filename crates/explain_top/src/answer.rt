@@ -6,14 +6,14 @@ ghost use Rattle.refused_words.specs.Ends.{IsEndedBy};
 ghost use Rattle.refused_words.specs.Limits.{quantity_value};
 ghost use Rattle.explain_text.specs.Named.{IsInside, named_texts, space_text};
 ghost use Rattle.explain_text.specs.declared.naming.NamedWord.{NamedWord};
-ghost use Rattle.explain_top.specs.Answer.{IsAnswer, IsUnfitText, IsUnreadText, IsMarkedText, AreNamed, IsSpace, limit_for};
+ghost use Rattle.explain_top.specs.Answer.{IsAnswer, IsUnfitText, IsUnreadText, IsMarkedText, AreNamed, TellsSpace, limit_for};
 ghost use Rattle.race_check.specs.Refusal.{IsRefusal, NamesLines};
 
 use crate::accepted::put_accepted;
 use explain_graph::explain;
 use explain_text::split::split;
 use explain_text::{
-    NamedWord, Text, column_space, line_at, named_words, put_ended, put_limit, put_mark,
+    NamedWord, Text, line_at, named_space, named_words, put_ended, put_limit, put_mark,
     put_named_words, put_refused, put_space, put_unread, split_lines,
 };
 use graph_model::format::Format;
@@ -184,11 +184,11 @@ fn space_for<'a>(
     why: Why,
     mark: Option<usize>,
 ) -> Option<NamedWord<'a>>
-    ensures space { IsSpace format (contents lines.now) number (contents words.now) why mark result }
+    ensures space { TellsSpace format (contents lines.now) number (contents words.now) why mark result }
     ensures inside { IfSome result (IsInside (length lines.now)) }
 {
     match (why, mark) {
-        (Why::Outside, Some(k)) => column_space(format, lines, number, words, k),
+        (Why::Outside, Some(k)) => named_space(format, lines, number, words, k),
         _ => None,
     }
 }

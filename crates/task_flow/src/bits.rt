@@ -113,7 +113,8 @@ impl Bits {
         None
     }
 
-    /// The number below a bound whose bit is set, where it is known that there is just one.
+    /// The number below a bound whose bit is set, where it is known that there is just one; `None` may
+    /// also be the answer where there is one.
     pub(crate) fn only_below(&self, alloc: Global, bound: u32) -> Option<u32>
         requires { bound ≤ 64 * length self.now }
         ensures { IfSome result (IsOnly self.now bound) }

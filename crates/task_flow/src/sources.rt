@@ -145,6 +145,7 @@ fn least(
     let mut above = rows.rows.len() as u32;
     let mut part = LineList::new(alloc);
     if kept.is_empty() {
+        // Most lines wait for one line alone: no mask of what reaches it is needed then.
         if let Some(line) = asked.only_below(alloc, above) {
             part.push(line)?;
             return Ok(part);

@@ -90,7 +90,7 @@ impl Class {
 }
 
 /// Takes the lines with these bits out of a list, where its first line has one: so lists stay short
-/// where new lines reach the old, and a line costs no more where none does.
+/// where the old lines reach the new, and a line costs no more where the first does not.
 fn leave_out(lines: &mut LineList, reaching: &Bits)
     ensures { IsRest reaching.now lines.old lines.new }
 {

@@ -8,7 +8,7 @@ use Rattle.refused_words.specs.Limits.{quantity_value}
 use Rattle.explain_text.specs.Named.{named_texts, space_text}
 use Rattle.explain_text.specs.Unread.{refused_text, limit_text, ended_text}
 use Rattle.explain_text.proofs.TextFacts.{then_puts}
-use Rattle.explain_top.specs.Answer.{AreNamed, IsSpace, limit_for}
+use Rattle.explain_top.specs.Answer.{AreNamed, TellsSpace, limit_for}
 use Rattle.explain_top.proofs.Marking.{marked}
 use Rattle.explain_top.proofs.answer.put_behind.Goals as goal
 
@@ -32,7 +32,7 @@ returns c =
     (subst (λ w. option_map quantity_value limit ≡ limit_for g (contents w) why) c.as_slice-5.ensures.value c.in_ok-passed.ensures)
     (subst (λ w. MatchOption mark (ended ≡ None) (λ k. IsEndedBy g (contents w) k ended)) c.as_slice-2.ensures.value c.ended_for-ended.ensures)
     (subst (λ f. AreNamed f ls number (contents c.in_ok-words.words.items) why named) c.format.ensures (subst (λ w. AreNamed c.format.result ls number (contents w) why named) c.as_slice-3.ensures.value c.in_ok-named.ensures.named))
-    (subst (λ f. IsSpace f ls number (contents c.in_ok-words.words.items) why mark space) c.format-2.ensures (subst (λ w. IsSpace c.format-2.result ls number (contents w) why mark space) c.as_slice-4.ensures.value c.space_for-space.ensures.space))
+    (subst (λ f. TellsSpace f ls number (contents c.in_ok-words.words.items) why mark space) c.format-2.ensures (subst (λ w. TellsSpace c.format-2.result ls number (contents w) why mark space) c.as_slice-4.ensures.value c.space_for-space.ensures.space))
     (then_puts r _ _ _ (refused_text why number (contents c.in_ok-words.words.items) mark) _ (subst (λ w. c.put_refused.new.text ≡ old ++ refused_text why number (contents w) mark) c.as_slice-6.ensures.value c.in_ok-put_refused.ensures)
     (then_puts r _ _ _ (limit_text limit) _ c.in_ok-put_limit.ensures
     (then_puts r _ _ _ (ended_text g ls ended) _ c.in_ok-put_ended.ensures
