@@ -4,4 +4,5 @@ mod RepeatFacts
 mod UseFacts
 mod PlaceFacts
 mod WordFacts
+mod StandingFacts
 mod QuantityFacts

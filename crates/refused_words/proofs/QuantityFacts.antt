@@ -1,12 +1,13 @@
 -- A line that Limit refuses brings a quantity above its bound.
-use Rattle.std.proofs.Common.{◌≡◌, ℕ, Bool, true, false, cond, ◌||◌, ◌⊎◌, inl, inr, List, [], ◌∷◌, ◌++◌, length, refl, sym, ◌∙◌, ap, append-nil, append_assoc}
-use Rattle.std.specs.Prelude.{Option, Some, None, is_some, find, filter, nat_lt, codes}
+use Rattle.std.proofs.Common.{◌≡◌, ℕ, ◌+◌, Bool, true, false, cond, ◌||◌, ◌⊎◌, inl, inr, List, [], ◌∷◌, ◌++◌, length, refl, sym, ◌∙◌, ap, append-nil, append_assoc, arith}
+use Rattle.std.specs.Prelude.{Option, Some, None, is_some, find, filter, filter_map, nat_lt, codes}
 use Rattle.std.specs.Option.{option_map_or}
 use Rattle.std.specs.List.{list_any}
 use Rattle.std.proofs.lemmas.Bool.{true≢false, or_parts, or_cases}
 use Rattle.std.proofs.lemmas.Option.{none-some}
 use Rattle.graph_model.specs.declared.graph.limits.TheConstants.{MAX_TEXT, MAX_INSTS, MAX_COLUMNS, MAX_CELLS, MAX_LOCKS, MAX_BARRIERS, MAX_LINES, MAX_EDGES, MAX_EVENTS}
 use Rattle.graph_model.specs.declared.graph.decl.Decl.{Decl}
+use Rattle.graph_model.specs.declared.graph.decl.Decl.TheVariants.{Space, Inst, Lock, Barrier}
 use Rattle.graph_model.specs.declared.graph.format.Format.{Format}
 use Rattle.graph_model.specs.declared.graph.format.Format.TheVariants.{One, Two}
 use Rattle.graph_model.specs.declared.graph.verb.Line.{Line}
@@ -15,15 +16,20 @@ use Rattle.graph_model.specs.declared.graph.verb.Verb.TheVariants.{Merge, MergeI
 use Rattle.graph_model.specs.declared.graph.why.Why.{Why}
 use Rattle.graph_model.specs.declared.graph.why.Why.TheVariants as reasons
 use Rattle.graph_model.specs.graph.Edges.{edges}
-use Rattle.graph_model.specs.graph.Fits.{IsGraph, DeclsFit, LinesFit, decl_tests, line_tests, line_fault, is_large, is_beyond, merges_many, is_inst, cell_count, with_line}
-use Rattle.graph_model.specs.graph.Graph.{GraphValue, columns, locks, barriers}
+use Rattle.graph_model.specs.graph.Fits.{IsGraph, DeclsFit, LinesFit, decl_tests, line_tests, decl_fault, line_fault, is_large, is_beyond, merges_many, is_inst, cell_count, with_decl, with_line}
+use Rattle.graph_model.specs.graph.Graph.{GraphValue, columns_of, lock_of, barrier_of, columns, locks, barriers}
 use Rattle.graph_model.specs.graph.Spelling.{head}
+use Rattle.graph_model.specs.declared.kept.counts.Counts.{Counts}
+use Rattle.graph_model.specs.kept.Counts.{cells_of_decl}
+use Rattle.graph_model.proofs.CountLaws.{counts_with_decl}
+use Rattle.index_spaces.specs.Space.{space_size}
+use Rattle.index_spaces.specs.declared.limits.TheConstants.{MAX_INTERVALS, MAX_POINTS}
 use Rattle.graph_reader.specs.Draft.{Draft, draft}
 use Rattle.graph_reader.specs.FirstFault.{words_fault, draft_fault, item_fault, or_else, is_empty}
 use Rattle.graph_reader.proofs.GraphNames.{each_fails}
 use Rattle.graph_reader.proofs.Spelled.{chosen}
-use Rattle.refused_words.specs.Limits.{QuantityValue, quantity, is_above, verb_quantities, line_quantities, item_quantities, limit_in, limit_of}
-
+use Rattle.refused_words.specs.Limits.{QuantityValue, quantity, is_above, decl_quantities, verb_quantities, line_quantities, item_quantities, limit_in, limit_of}
+use Rattle.refused_words.specs.Laws.{is_long_with, is_long_in, is_long_by}
 
 abbrev of_items : Format → List Decl → List Line → GraphValue
 of_items fm ds ls = record { format = fm; decls = ds; lines = ls }
@@ -115,12 +121,12 @@ line_quantity g l f h = elim (or_cases (merges_many l.verb) (is_beyond (with_lin
   | inl m ↦ inl (some_above (line_quantities (with_line g l) l) (ap (λ b. is_above (quantity (codes "operations") (length (with_line g l).lines) MAX_LINES) || b) (any_before (verb_quantities l.verb) _ (many_events l.verb m)) ∙ or_true (is_above (quantity (codes "operations") (length (with_line g l).lines) MAX_LINES))))
   | inr o ↦ elim (over (nat_lt MAX_TEXT (length (head (with_line g l)))) (nat_lt MAX_INSTS (length (filter is_inst g.decls))) (nat_lt MAX_COLUMNS (length (columns g))) (nat_lt MAX_CELLS (cell_count g)) (nat_lt MAX_LOCKS (length (locks g))) (nat_lt MAX_BARRIERS (length (barriers g)))
       (nat_lt MAX_LINES (length (with_line g l).lines)) (nat_lt MAX_EDGES (length (edges (with_line g l)))) (nat_lt MAX_TEXT (length (head g))) (nat_lt MAX_LINES (length g.lines)) (nat_lt MAX_EDGES (length (edges g))) (graph_within g f) o) [
-    | inl t ↦ inr t
-    | inr r ↦ elim r [
-      | inl n ↦ inl (some_above (line_quantities (with_line g l) l) (ap (λ b. b || list_any is_above (verb_quantities l.verb ++ quantity (codes "edges") (length (edges (with_line g l))) MAX_EDGES ∷ [])) n))
-      | inr e ↦ inl (some_above (line_quantities (with_line g l) l) (ap (λ b. is_above (quantity (codes "operations") (length (with_line g l).lines) MAX_LINES) || b) (any_last (verb_quantities l.verb) (quantity (codes "edges") (length (edges (with_line g l))) MAX_EDGES) e) ∙ or_true (is_above (quantity (codes "operations") (length (with_line g l).lines) MAX_LINES))))
-    ]
-  ]
+        | inl t ↦ inr t
+        | inr r ↦ elim r [
+          | inl n ↦ inl (some_above (line_quantities (with_line g l) l) (ap (λ b. b || list_any is_above (verb_quantities l.verb ++ quantity (codes "edges") (length (edges (with_line g l))) MAX_EDGES ∷ [])) n))
+          | inr e ↦ inl (some_above (line_quantities (with_line g l) l) (ap (λ b. is_above (quantity (codes "operations") (length (with_line g l).lines) MAX_LINES) || b) (any_last (verb_quantities l.verb) (quantity (codes "edges") (length (edges (with_line g l))) MAX_EDGES) e) ∙ or_true (is_above (quantity (codes "operations") (length (with_line g l).lines) MAX_LINES))))
+        ]
+      ]
 ]
   where
     or_true : (b : Bool) → (b || true) ≡ true
@@ -137,13 +143,155 @@ words_limit false false false false true f item h = absurd (cc)
 words_limit false false false false false true item h = absurd (cc)
 words_limit false false false false false false item h = h
 
-pub limit_quantity : (g : GraphValue) (ws : List (List ℕ)) (d : Draft) (l : Line) → IsGraph g → draft g ws ≡ Some d → d.item ≡ inr l → words_fault g ws ≡ Some reasons.Limit →
-    (is_some (limit_of g ws) ≡ true) ⊎ (nat_lt MAX_TEXT (length (head (with_line g l))) ≡ true)
-limit_quantity g ws d l f drafted item h = elim (chosen (list_any is_empty ws) (Some reasons.Syntax) _ (Some reasons.Limit) h) [
+-- a declaration
+decl_limit : (a b c d : Bool) → cond a (Some reasons.Twice) (cond b (Some reasons.Unknown) (cond c (Some reasons.Number) (cond d (Some reasons.Limit) None))) ≡ Some reasons.Limit → d ≡ true
+decl_limit true b c d h = absurd (cc)
+decl_limit false true c d h = absurd (cc)
+decl_limit false false true d h = absurd (cc)
+decl_limit false false false true h = refl
+decl_limit false false false false h = absurd (none-some reasons.Limit h)
+
+-- which of the quantities is above, where those of the lines are as before
+over_decl : (t i c m k b n e : Bool) → n ≡ false → e ≡ false → (t || (i || (c || (m || (k || (b || (n || e))))))) ≡ true → (t ≡ true) ⊎ ((i || (c || (m || (k || b)))) ≡ true)
+over_decl true i c m k b n e p q h = inl refl
+over_decl false true c m k b n e p q h = inr refl
+over_decl false false true m k b n e p q h = inr refl
+over_decl false false false true k b n e p q h = inr refl
+over_decl false false false false true b n e p q h = inr refl
+over_decl false false false false false true n e p q h = inr refl
+over_decl false false false false false false true e p q h = absurd (true≢false p)
+over_decl false false false false false false false e p q h = absurd (true≢false (sym h ∙ q))
+
+over_space : (i c m k b : Bool) → i ≡ false → c ≡ false → m ≡ false → k ≡ false → b ≡ false → (i || (c || (m || (k || b)))) ≡ true → ⊥
+over_space true c m k b p q r s t h = true≢false p
+over_space false true m k b p q r s t h = true≢false q
+over_space false false true k b p q r s t h = true≢false r
+over_space false false false true b p q r s t h = true≢false s
+over_space false false false false b p q r s t h = true≢false (sym h ∙ t)
+
+over_inst : (i c m k b : Bool) → k ≡ false → b ≡ false → (i || (c || (m || (k || b)))) ≡ true → (i || (c || (m || false))) ≡ true
+over_inst true c m k b s t h = refl
+over_inst false true m k b s t h = refl
+over_inst false false true k b s t h = refl
+over_inst false false false true b s t h = absurd (true≢false s)
+over_inst false false false false b s t h = absurd (true≢false (sym h ∙ t))
+
+over_lock : (i c m k b : Bool) → i ≡ false → c ≡ false → m ≡ false → b ≡ false → (i || (c || (m || (k || b)))) ≡ true → (k || false) ≡ true
+over_lock true c m k b p q r t h = absurd (true≢false p)
+over_lock false true m k b p q r t h = absurd (true≢false q)
+over_lock false false true k b p q r t h = absurd (true≢false r)
+over_lock false false false true b p q r t h = refl
+over_lock false false false false b p q r t h = absurd (true≢false (sym h ∙ t))
+
+over_barrier : (i c m k b : Bool) → i ≡ false → c ≡ false → m ≡ false → k ≡ false → (i || (c || (m || (k || b)))) ≡ true → (b || false) ≡ true
+over_barrier true c m k b p q r s h = absurd (true≢false p)
+over_barrier false true m k b p q r s h = absurd (true≢false q)
+over_barrier false false true k b p q r s h = absurd (true≢false r)
+over_barrier false false false true b p q r s h = absurd (true≢false s)
+over_barrier false false false false b p q r s h = ap (λ x. x || false) h
+
+or_none : (a b : Bool) → (a || b) ≡ true → (a || (b || false)) ≡ true
+or_none true b h = refl
+or_none false b h = ap (λ x. x || false) h
+
+-- a quantity to which nothing is added is within its bound as before
+still : (bound a b more : ℕ) → a ≡ b + more → more ≡ 0 → nat_lt bound b ≡ false → nat_lt bound a ≡ false
+still bound a b more e none h = ap (nat_lt bound) (let same : a ≡ b = omega arith in same) ∙ h
+
+module _ (g : GraphValue) (f : IsGraph g) where
+  within : (nat_lt MAX_TEXT (length (head g)) ≡ false) × ((nat_lt MAX_INSTS (length (filter is_inst g.decls)) ≡ false) × ((nat_lt MAX_COLUMNS (length (columns g)) ≡ false) × ((nat_lt MAX_CELLS (cell_count g) ≡ false)
+      × ((nat_lt MAX_LOCKS (length (locks g)) ≡ false) × ((nat_lt MAX_BARRIERS (length (barriers g)) ≡ false) × ((nat_lt MAX_LINES (length g.lines) ≡ false) × (nat_lt MAX_EDGES (length (edges g)) ≡ false)))))))
+  within =
+      let p = or_parts (nat_lt MAX_TEXT (length (head g))) _ (graph_within g f) in
+      let q = or_parts (nat_lt MAX_INSTS (length (filter is_inst g.decls))) _ p.1 in
+      let r = or_parts (nat_lt MAX_COLUMNS (length (columns g))) _ q.1 in
+      let s = or_parts (nat_lt MAX_CELLS (cell_count g)) _ r.1 in
+      let u = or_parts (nat_lt MAX_LOCKS (length (locks g))) _ s.1 in
+      let v = or_parts (nat_lt MAX_BARRIERS (length (barriers g))) _ u.1 in
+      let w = or_parts (nat_lt MAX_LINES (length g.lines)) _ v.1 in
+      (p.0, (q.0, (r.0, (s.0, (u.0, (v.0, (w.0, w.1)))))))
+
+  -- what a declaration leaves as it was
+  module _ (d : Decl) where
+    abbrev more : GraphValue
+    more = with_decl g d
+
+    abbrev above_insts : Bool
+    above_insts = nat_lt MAX_INSTS (length (filter is_inst more.decls))
+
+    abbrev above_columns : Bool
+    above_columns = nat_lt MAX_COLUMNS (length (columns more))
+
+    abbrev above_cells : Bool
+    above_cells = nat_lt MAX_CELLS (cell_count more)
+
+    abbrev above_locks : Bool
+    above_locks = nat_lt MAX_LOCKS (length (locks more))
+
+    abbrev above_barriers : Bool
+    above_barriers = nat_lt MAX_BARRIERS (length (barriers more))
+
+    insts_still : length (filter is_inst (d ∷ [])) ≡ 0 → nat_lt MAX_INSTS (length (filter is_inst more.decls)) ≡ false
+    insts_still none = still MAX_INSTS _ _ _ (ap (λ (x : Counts). x.insts) (counts_with_decl g d f)) none within.1.0
+
+    columns_still : length (columns_of d) ≡ 0 → nat_lt MAX_COLUMNS (length (columns more)) ≡ false
+    columns_still none = still MAX_COLUMNS _ _ _ (ap (λ (x : Counts). x.columns) (counts_with_decl g d f)) none within.1.1.0
+
+    cells_still : cells_of_decl g d ≡ 0 → nat_lt MAX_CELLS (cell_count more) ≡ false
+    cells_still none = still MAX_CELLS _ _ _ (ap (λ (x : Counts). x.cells) (counts_with_decl g d f)) none within.1.1.1.0
+
+    locks_still : length (filter_map lock_of (d ∷ [])) ≡ 0 → nat_lt MAX_LOCKS (length (locks more)) ≡ false
+    locks_still none = still MAX_LOCKS _ _ _ (ap (λ (x : Counts). x.locks) (counts_with_decl g d f)) none within.1.1.1.1.0
+
+    barriers_still : length (filter_map barrier_of (d ∷ [])) ≡ 0 → nat_lt MAX_BARRIERS (length (barriers more)) ≡ false
+    barriers_still none = still MAX_BARRIERS _ _ _ (ap (λ (x : Counts). x.barriers) (counts_with_decl g d f)) none within.1.1.1.1.1.0
+
+    beyond_by : is_beyond more ≡ true → (nat_lt MAX_TEXT (length (head more)) ≡ true)
+        ⊎ ((nat_lt MAX_INSTS (length (filter is_inst more.decls)) || (nat_lt MAX_COLUMNS (length (columns more)) || (nat_lt MAX_CELLS (cell_count more) || (nat_lt MAX_LOCKS (length (locks more)) || nat_lt MAX_BARRIERS (length (barriers more)))))) ≡ true)
+    beyond_by h = over_decl (nat_lt MAX_TEXT (length (head more))) (nat_lt MAX_INSTS (length (filter is_inst more.decls))) (nat_lt MAX_COLUMNS (length (columns more))) (nat_lt MAX_CELLS (cell_count more)) (nat_lt MAX_LOCKS (length (locks more))) (nat_lt MAX_BARRIERS (length (barriers more)))
+        (nat_lt MAX_LINES (length g.lines)) (nat_lt MAX_EDGES (length (edges g))) within.1.1.1.1.1.1.0 within.1.1.1.1.1.1.1 h
+
+  beyond_above : (d : Decl) → is_beyond (with_decl g d) ≡ true → (list_any is_above (decl_quantities (with_decl g d) d) ≡ true) ⊎ (is_long_with g (inl d) ≡ true)
+  beyond_above (Space name space) h = elim (beyond_by (Space name space) h) [
+    | inl t ↦ inr t
+    | inr o ↦ absurd (over_space (above_insts (Space name space)) (above_columns (Space name space)) (above_cells (Space name space)) (above_locks (Space name space)) (above_barriers (Space name space)) (insts_still (Space name space) refl) (columns_still (Space name space) refl) (cells_still (Space name space) refl) (locks_still (Space name space) refl) (barriers_still (Space name space) refl) o)
+  ]
+  beyond_above (Inst name space fields) h = elim (beyond_by (Inst name space fields) h) [
+    | inl t ↦ inr t
+    | inr o ↦ inl (over_inst (above_insts (Inst name space fields)) (above_columns (Inst name space fields)) (above_cells (Inst name space fields)) (above_locks (Inst name space fields)) (above_barriers (Inst name space fields)) (locks_still (Inst name space fields) refl) (barriers_still (Inst name space fields) refl) o)
+  ]
+  beyond_above (Lock name) h = elim (beyond_by (Lock name) h) [
+    | inl t ↦ inr t
+    | inr o ↦ inl (over_lock (above_insts (Lock name)) (above_columns (Lock name)) (above_cells (Lock name)) (above_locks (Lock name)) (above_barriers (Lock name)) (insts_still (Lock name) refl) (columns_still (Lock name) refl) (cells_still (Lock name) refl) (barriers_still (Lock name) refl) o)
+  ]
+  beyond_above (Barrier name count op first) h = elim (beyond_by (Barrier name count op first) h) [
+    | inl t ↦ inr t
+    | inr o ↦ inl (over_barrier (above_insts (Barrier name count op first)) (above_columns (Barrier name count op first)) (above_cells (Barrier name count op first)) (above_locks (Barrier name count op first)) (above_barriers (Barrier name count op first)) (insts_still (Barrier name count op first) refl) (columns_still (Barrier name count op first) refl) (cells_still (Barrier name count op first) refl) (locks_still (Barrier name count op first) refl) o)
+  ]
+
+  large_above : (d : Decl) → is_large d ≡ true → list_any is_above (decl_quantities (with_decl g d) d) ≡ true
+  large_above (Space name space) h = or_none (nat_lt MAX_INTERVALS (length space)) (nat_lt MAX_POINTS (space_size space)) h
+  large_above d h = absurd (true≢false (sym h))
+
+  decl_quantity : (d : Decl) → decl_fault g d ≡ Some reasons.Limit → (is_some (find is_above (decl_quantities (with_decl g d) d)) ≡ true) ⊎ (is_long_with g (inl d) ≡ true)
+  decl_quantity d h = elim (or_cases (is_large d) (is_beyond (with_decl g d)) (decl_limit _ _ _ (is_large d || is_beyond (with_decl g d)) h)) [
+    | inl a ↦ inl (some_above (decl_quantities (with_decl g d) d) (large_above d a))
+    | inr b ↦ elim (beyond_above d b) [
+      | inl a ↦ inl (some_above (decl_quantities (with_decl g d) d) a)
+      | inr t ↦ inr t
+    ]
+  ]
+
+  item_quantity : (i : Decl ⊎ Line) → item_fault g i ≡ Some reasons.Limit → (is_some (find is_above (item_quantities g i)) ≡ true) ⊎ (is_long_with g i ≡ true)
+  item_quantity (inl d) h = decl_quantity d h
+  item_quantity (inr l) h = line_quantity g l f h
+
+  draft_quantity : (o : Option Draft) → option_map_or (draft_fault g) o (Some reasons.Syntax) ≡ Some reasons.Limit → (is_some (limit_in g o) ≡ true) ⊎ (is_long_in g o ≡ true)
+  draft_quantity None h = absurd (cc)
+  draft_quantity (Some d) h = item_quantity d.item (words_limit _ _ _ _ _ _ (item_fault g d.item) h)
+
+pub limit_quantity : (g : GraphValue) (ws : List (List ℕ)) → IsGraph g → words_fault g ws ≡ Some reasons.Limit → (is_some (limit_of g ws) ≡ true) ⊎ (is_long_by g ws ≡ true)
+limit_quantity g ws f h = elim (chosen (list_any is_empty ws) (Some reasons.Syntax) _ (Some reasons.Limit) h) [
   | inl e ↦ (let same = e.1 in absurd (cc))
-  | inr e ↦ (
-      let fault : draft_fault g d ≡ Some reasons.Limit = sym (ap (λ (o : Option Draft). option_map_or (draft_fault g) o (Some reasons.Syntax)) drafted) ∙ e.1 in
-      let left : line_fault g l ≡ Some reasons.Limit = sym (ap (item_fault g) item) ∙ words_limit _ _ _ _ _ _ (item_fault g d.item) fault in
-      let spelled : limit_of g ws ≡ find is_above (line_quantities (with_line g l) l) = ap (limit_in g) drafted ∙ ap (λ i. find is_above (item_quantities g i)) item in
-      elim (line_quantity g l f left) [ inl a ↦ inl (ap is_some spelled ∙ a) | inr t ↦ inr t ])
+  | inr e ↦ draft_quantity g f (draft g ws) e.1
 ]

@@ -1,14 +1,14 @@
 //! Laws of refused lines. Each function only states one.
 
-ghost use Rattle.refused_words.specs.Laws.{LimitHasQuantity, OutsideHasWord};
+ghost use Rattle.refused_words.specs.Laws.{LimitHasQuantity, RefusedHasWord};
 
-/// A line that is refused for what it uses outside of a column has a refused word.
-pub fn outside_has_word()
-    ensures { OutsideHasWord }
+/// A line that is refused for how a name is spelled, for the order of intervals, for what it uses
+/// outside of a column or for its arrivals has a refused word.
+pub fn refused_has_word()
+    ensures { RefusedHasWord }
 {}
 
-/// An operation that is refused by a limit brings a quantity above its bound, unless it is the length
-/// of the text.
+/// A line that is refused by a limit brings a quantity above its bound, unless it makes the text too long.
 pub fn limit_has_quantity()
     ensures { LimitHasQuantity }
 {}

@@ -1,0 +1,448 @@
+-- Each word that a line spells stands in its place at some number.
+use Rattle.std.proofs.Common.{◌≡◌, ℕ, suc, ◌+◌, ◌-◌, ◌<◌, ◌≤◌, Bool, true, false, cond, ◌&&◌, ◌||◌, ◌⊎◌, inl, inr, List, [], ◌∷◌, ◌++◌, length, map, drop, refl, sym, ◌∙◌, ap, subst, arith}
+use Rattle.std.specs.Prelude.{Option, Some, None, option_map, slice_get, find, codes, zip, ◌==◌}
+use Rattle.std.specs.Option.{option_map_or}
+use Rattle.std.specs.List.{list_any}
+use Rattle.std.proofs.lemmas.Bool.{true≢false, and_parts, or_cases, eqb-true, cond-true, cond-false}
+use Rattle.std.proofs.lemmas.Option.{none-some, same_Some}
+use Rattle.std.proofs.lemmas.List.{length-map, length-drop}
+use Rattle.index_spaces.specs.declared.Op.{Op}
+use Rattle.graph_model.specs.declared.graph.decl.Decl.{Decl}
+use Rattle.graph_model.specs.declared.graph.verb.Line.{Line}
+use Rattle.graph_model.specs.declared.graph.why.Why.{Why}
+use Rattle.graph_model.specs.declared.graph.why.Why.TheVariants as reasons
+use Rattle.graph_model.specs.declared.graph.table.Kind.{Kind}
+use Rattle.graph_model.specs.declared.graph.table.Kind.TheVariants as kinds
+use Rattle.graph_model.specs.declared.graph.table.Place as table
+use Rattle.graph_model.specs.declared.graph.table.TheConstants.{KINDS}
+use Rattle.graph_model.specs.graph.Fits.{arrives_late}
+use Rattle.graph_model.specs.graph.Graph.{GraphValue}
+use Rattle.graph_model.specs.graph.Table.{kind_places, kind_words}
+use Rattle.graph_reader.specs.Draft.{Place, NewName, SpaceName, EventName, Fields, Value, Count, Intervals, Placed, Draft, draft, as_place, form_of, has_on, on_placed, is_of_form, same_word, merge_draft, line_draft, decl_draft_after, decl_draft, space_draft, inst_draft, lock_draft, barrier_draft, barrier_with, op_of}
+use Rattle.graph_reader.specs.FirstFault.{misnamed, misordered, draft_fault, item_fault, words_fault, or_else, is_empty}
+use Rattle.graph_reader.specs.Kinds.{HasPlaces, kind_draft}
+use Rattle.graph_reader.specs.Merges.{merge_verb}
+use Rattle.graph_reader.specs.Reading.{is_operation}
+use Rattle.graph_reader.proofs.LineShapes.{line_by_sign, decl_by_sign, line_kind, found_passes, places_there}
+use Rattle.graph_reader.proofs.Spelled.{chosen}
+use Rattle.refused_words.specs.Places.{is_merge, space_place, inst_place, lock_place, barrier_place, decl_place, place_at}
+use Rattle.refused_words.specs.Refused.{is_phase_name, refuses, refuses_in, clashes}
+use Rattle.refused_words.specs.Laws.{HasRefusedWord, has_word}
+use Rattle.refused_words.proofs.LimitFacts.{as_merge, as_mergei}
+use Rattle.refused_words.proofs.PlaceFacts.{at, place_of_operation, place_of_decl, verb_at, merge_at, on_at, at_behind, below_behind}
+use Rattle.refused_words.proofs.WordFacts.{first_place, word_at, word_below, word_place, outside_word}
+
+or_true : (b : Bool) → (b || true) ≡ true
+or_true true = refl
+or_true false = refl
+
+or_last : (b : Bool) → (b || false) ≡ true → b ≡ true
+or_last true h = refl
+or_last false h = h
+
+-- a word passes a test in the place in which it stands
+abbrev Stands : GraphValue → List (List ℕ) → (Place → List ℕ → Bool) → Type 0
+Stands g ws t = (k : ℕ) × (k < length ws) × (option_map_or (λ p. t p (at ws k)) (place_at g.format ws k) false ≡ true)
+
+stands_at : (g : GraphValue) (ws : List (List ℕ)) (t : Place → List ℕ → Bool) (k : ℕ) (p : Place) (w : List ℕ) → k < length ws → place_at g.format ws k ≡ Some p → at ws k ≡ w → t p w ≡ true → Stands g ws t
+stands_at g ws t k p w below is same h = (k, below, ap (λ o. option_map_or (λ q. t q (at ws k)) o false) is ∙ (ap (t p) same ∙ h))
+
+abbrev passes : (Place → List ℕ → Bool) → List Placed → Bool
+passes t xs = list_any (λ (x : Place × List ℕ). t x.0 x.1) xs
+
+abbrev draft_placed : Option Draft → List Placed
+draft_placed o = option_map_or (λ (d : Draft). d.placed) o []
+
+-- where one of these words passes, one that stands in the line does
+abbrev Shows : GraphValue → List (List ℕ) → (Place → List ℕ → Bool) → Option Draft → Type 0
+Shows g ws t o = passes t (draft_placed o) ≡ true → Stands g ws t
+
+either_shows : (g : GraphValue) (ws : List (List ℕ)) (t : Place → List ℕ → Bool) (b : Bool) (x y : Option Draft) → (b ≡ true → Shows g ws t x) → (b ≡ false → Shows g ws t y) → Shows g ws t (cond b x y)
+either_shows g ws t true x y f h = f refl
+either_shows g ws t false x y f h = h refl
+
+-- a declaration
+module _ (g : GraphValue) (w : List ℕ) (t : Place → List ℕ → Bool) where
+  space_shows : (ws : List (List ℕ)) → ((k : ℕ) → k < length (w ∷ ws) → place_at g.format (w ∷ ws) k ≡ space_place k) → Shows g (w ∷ ws) t (space_draft g ws)
+  space_shows [] is h = absurd (true≢false (sym h))
+  space_shows (a ∷ []) is h = absurd (true≢false (sym h))
+  space_shows (a ∷ b ∷ []) is h = elim (or_cases (t NewName a) (t Intervals b || false) h) [
+    | inl p ↦ stands_at g (w ∷ a ∷ b ∷ []) t 1 NewName a (omega arith) (is 1 (omega arith)) refl p
+    | inr q ↦ stands_at g (w ∷ a ∷ b ∷ []) t 2 Intervals b (omega arith) (is 2 (omega arith)) refl (or_last (t Intervals b) q)
+  ]
+  space_shows (a ∷ b ∷ c ∷ cs) is h = absurd (true≢false (sym h))
+
+  inst_shows : (ws : List (List ℕ)) → ((k : ℕ) → k < length (w ∷ ws) → place_at g.format (w ∷ ws) k ≡ inst_place k) → Shows g (w ∷ ws) t (inst_draft g ws)
+  inst_shows [] is h = absurd (true≢false (sym h))
+  inst_shows (a ∷ []) is h = absurd (true≢false (sym h))
+  inst_shows (a ∷ b ∷ []) is h = absurd (true≢false (sym h))
+  inst_shows (a ∷ b ∷ c ∷ []) is h = elim (or_cases (t NewName a) (t SpaceName b || (t Fields c || false)) h) [
+    | inl p ↦ stands_at g (w ∷ a ∷ b ∷ c ∷ []) t 1 NewName a (omega arith) (is 1 (omega arith)) refl p
+    | inr q ↦ elim (or_cases (t SpaceName b) (t Fields c || false) q) [
+      | inl p ↦ stands_at g (w ∷ a ∷ b ∷ c ∷ []) t 2 SpaceName b (omega arith) (is 2 (omega arith)) refl p
+      | inr r ↦ stands_at g (w ∷ a ∷ b ∷ c ∷ []) t 3 Fields c (omega arith) (is 3 (omega arith)) refl (or_last (t Fields c) r)
+    ]
+  ]
+  inst_shows (a ∷ b ∷ c ∷ d ∷ ds) is h = absurd (true≢false (sym h))
+
+  lock_shows : (ws : List (List ℕ)) → ((k : ℕ) → k < length (w ∷ ws) → place_at g.format (w ∷ ws) k ≡ lock_place k) → Shows g (w ∷ ws) t (lock_draft g ws)
+  lock_shows [] is h = absurd (true≢false (sym h))
+  lock_shows (a ∷ []) is h = stands_at g (w ∷ a ∷ []) t 1 NewName a (omega arith) (is 1 (omega arith)) refl (or_last (t NewName a) h)
+  lock_shows (a ∷ b ∷ bs) is h = absurd (true≢false (sym h))
+
+  barrier_by : (a b c d : List ℕ) (o : Option Op) → ((k : ℕ) → k < length (w ∷ a ∷ b ∷ c ∷ d ∷ []) → place_at g.format (w ∷ a ∷ b ∷ c ∷ d ∷ []) k ≡ barrier_place k) → Shows g (w ∷ a ∷ b ∷ c ∷ d ∷ []) t (option_map (λ op. barrier_with a b op d) o)
+  barrier_by a b c d None is h = absurd (true≢false (sym h))
+  barrier_by a b c d (Some op) is h = elim (or_cases (t NewName a) (t Count b || (t Value d || false)) h) [
+    | inl p ↦ stands_at g (w ∷ a ∷ b ∷ c ∷ d ∷ []) t 1 NewName a (omega arith) (is 1 (omega arith)) refl p
+    | inr q ↦ elim (or_cases (t Count b) (t Value d || false) q) [
+      | inl p ↦ stands_at g (w ∷ a ∷ b ∷ c ∷ d ∷ []) t 2 Count b (omega arith) (is 2 (omega arith)) refl p
+      | inr r ↦ stands_at g (w ∷ a ∷ b ∷ c ∷ d ∷ []) t 4 Value d (omega arith) (is 4 (omega arith)) refl (or_last (t Value d) r)
+    ]
+  ]
+
+  barrier_shows : (ws : List (List ℕ)) → ((k : ℕ) → k < length (w ∷ ws) → place_at g.format (w ∷ ws) k ≡ barrier_place k) → Shows g (w ∷ ws) t (barrier_draft g ws)
+  barrier_shows [] is h = absurd (true≢false (sym h))
+  barrier_shows (a ∷ []) is h = absurd (true≢false (sym h))
+  barrier_shows (a ∷ b ∷ []) is h = absurd (true≢false (sym h))
+  barrier_shows (a ∷ b ∷ c ∷ []) is h = absurd (true≢false (sym h))
+  barrier_shows (a ∷ b ∷ c ∷ d ∷ []) is h = barrier_by a b c d (op_of c) is h
+  barrier_shows (a ∷ b ∷ c ∷ d ∷ e ∷ es) is h = absurd (true≢false (sym h))
+
+  decl_shows : (ws : List (List ℕ)) → is_operation (w ∷ ws) ≡ false → Shows g (w ∷ ws) t (decl_draft g (w ∷ ws))
+  decl_shows ws other =
+      let is : (k : ℕ) → k < length (w ∷ ws) → place_at g.format (w ∷ ws) k ≡ decl_place w k = λ k l. place_of_decl g.format (w ∷ ws) k l other in
+      either_shows g (w ∷ ws) t (same_word w (codes "space")) (space_draft g ws) (cond (same_word w (codes "inst")) (inst_draft g ws) (cond (same_word w (codes "lock")) (lock_draft g ws) (cond (same_word w (codes "barrier")) (barrier_draft g ws) None)))
+      (λ a. space_shows ws (λ k l. is k l ∙ cond-true (same_word w (codes "space")) (space_place k) _ a))
+      (λ a. either_shows g (w ∷ ws) t (same_word w (codes "inst")) (inst_draft g ws) (cond (same_word w (codes "lock")) (lock_draft g ws) (cond (same_word w (codes "barrier")) (barrier_draft g ws) None))
+      (λ b. inst_shows ws (λ k l. is k l ∙ (cond-false (same_word w (codes "space")) (space_place k) _ a ∙ cond-true (same_word w (codes "inst")) (inst_place k) _ b)))
+      (λ b. either_shows g (w ∷ ws) t (same_word w (codes "lock")) (lock_draft g ws) (cond (same_word w (codes "barrier")) (barrier_draft g ws) None)
+      (λ c. lock_shows ws (λ k l. is k l ∙ (cond-false (same_word w (codes "space")) (space_place k) _ a ∙ (cond-false (same_word w (codes "inst")) (inst_place k) _ b ∙ cond-true (same_word w (codes "lock")) (lock_place k) _ c))))
+      (λ c. either_shows g (w ∷ ws) t (same_word w (codes "barrier")) (barrier_draft g ws) None
+      (λ d. barrier_shows ws (λ k l. is k l
+      ∙ (cond-false (same_word w (codes "space")) (space_place k) _ a ∙ (cond-false (same_word w (codes "inst")) (inst_place k) _ b ∙ (cond-false (same_word w (codes "lock")) (lock_place k) _ c ∙ cond-true (same_word w (codes "barrier")) (barrier_place k) None d)))))
+      (λ d h. absurd (true≢false (sym h))))))
+
+after_shows : (g : GraphValue) (ws : List (List ℕ)) (t : Place → List ℕ → Bool) (ls : List Line) → is_operation ws ≡ false → Shows g ws t (decl_draft_after g ls ws)
+after_shows g [] t [] other h = absurd (true≢false (sym h))
+after_shows g (w ∷ ws) t [] other h = decl_shows g w t ws other h
+after_shows g ws t (l ∷ ls) other h = absurd (true≢false (sym h))
+
+-- a word of several that all stand in one place, and one of several that stand each in its own
+some_of : (t : Place → List ℕ → Bool) (p : Place) (ws : List (List ℕ)) → passes t (map (λ w. (p, w)) ws) ≡ true → (i : ℕ) × (i < length ws) × (t p (at ws i) ≡ true)
+some_of t p [] h = absurd (true≢false (sym h))
+some_of t p (w ∷ ws) h = elim (or_cases (t p w) (passes t (map (λ x. (p, x)) ws)) h) [
+  | inl a ↦ (0, omega arith, a)
+  | inr b ↦ (let r = some_of t p ws b in (suc r.0, (let below : r.0 < length ws = r.1 in let more : suc r.0 < suc (length ws) = omega arith in more), r.2))
+]
+
+some_in : (t : Place → List ℕ → Bool) (ps : List table.Place) (ws : List (List ℕ)) → passes t (zip (map as_place ps) ws) ≡ true →
+    (i : ℕ) × (i < length ps) × (i < length ws) × (option_map_or (λ p. t p (at ws i)) (option_map as_place (slice_get ps i)) false ≡ true)
+some_in t [] ws h = absurd (true≢false (sym h))
+some_in t (p ∷ ps) [] h = absurd (true≢false (sym h))
+some_in t (p ∷ ps) (w ∷ ws) h = elim (or_cases (t (as_place p) w) (passes t (zip (map as_place ps) ws)) h) [
+  | inl a ↦ (0, omega arith, omega arith, a)
+  | inr b ↦ (let r = some_in t ps ws b in (
+    suc r.0,
+    (let below : r.0 < length ps = r.1 in let more : suc r.0 < suc (length ps) = omega arith in more),
+    (let below : r.0 < length ws = r.2 in let more : suc r.0 < suc (length ws) = omega arith in more),
+    r.3,
+  ))
+]
+
+either_part : (t : Place → List ℕ → Bool) (xs ys : List Placed) → passes t (xs ++ ys) ≡ true → (passes t xs ≡ true) ⊎ (passes t ys ≡ true)
+either_part t [] ys h = inr h
+either_part t (x ∷ xs) ys h = elim (or_cases (t x.0 x.1) (passes t (xs ++ ys)) h) [
+  | inl a ↦ inl (ap (λ b. b || passes t xs) a)
+  | inr b ↦ elim (either_part t xs ys b) [
+    | inl c ↦ inl (ap (λ b. t x.0 x.1 || b) c ∙ or_true (t x.0 x.1))
+    | inr d ↦ inr d
+  ]
+]
+
+-- an operation
+module _ (g : GraphValue) (ws : List (List ℕ)) (t : Place → List ℕ → Bool) (operation : is_operation ws ≡ true) (some : 0 < length ws) where
+  name_shows : t NewName (at ws 0) ≡ true → Stands g ws t
+  name_shows h = stands_at g ws t 0 NewName (at ws 0) some (first_place g ws operation) refl h
+
+  merged_at : (es : List (List ℕ)) (i : ℕ) → es ≡ drop 1 (drop 2 ws) → is_merge (drop 2 ws) ≡ true → i < length es → t EventName (at es i) ≡ true → Stands g ws t
+  merged_at es i same m inside h =
+      let below : i < length (drop 1 (drop 2 ws)) = subst (λ xs. i < length xs) same inside in
+      let first : i + 1 < length (drop 2 ws) = below_behind (drop 2 ws) 1 i (i + 1) (omega arith) below in
+      let second : i + 1 + 2 < length ws = below_behind ws 2 (i + 1) (i + 1 + 2) (omega arith) first in
+      stands_at g ws t (i + 1 + 2) EventName (at es i) second
+      (place_of_operation g.format ws (i + 1 + 2) second operation ∙ (verb_at g.format ws (i + 1 + 2) (i + 1) refl ∙ merge_at g.format (drop 2 ws) i m))
+      (sym (at_behind ws 2 (i + 1) (i + 1 + 2) (omega arith)) ∙ (sym (at_behind (drop 2 ws) 1 i (i + 1) (omega arith)) ∙ ap (λ xs. at xs i) (sym same)))
+      h
+
+  merged : (es : List (List ℕ)) → es ≡ drop 1 (drop 2 ws) → is_merge (drop 2 ws) ≡ true → (t NewName (at ws 0) || passes t (map (λ w. (EventName, w)) es)) ≡ true → Stands g ws t
+  merged es same m h = elim (or_cases (t NewName (at ws 0)) (passes t (map (λ w. (EventName, w)) es)) h) [
+    | inl a ↦ name_shows a
+    | inr b ↦ (let r = some_of t EventName es b in merged_at es r.0 same m r.1 r.2)
+  ]
+
+  merge_shows : (ignores : Bool) (es : List (List ℕ)) → es ≡ drop 1 (drop 2 ws) → is_merge (drop 2 ws) ≡ true → Shows g ws t (merge_draft g (at ws 0) (merge_verb ignores) es)
+  merge_shows ignores [] same m h = absurd (true≢false (sym h))
+  merge_shows ignores (e ∷ es) same m h = merged (e ∷ es) same m h
+
+  module _ (kind : Kind) (other : is_merge (drop 2 ws) ≡ false) (found : find (λ k. is_of_form g.format (drop 2 ws) (form_of k)) KINDS ≡ Some kind) where
+    abbrev rest : List (List ℕ)
+    rest = drop (length (kind_words kind)) (drop 2 ws)
+
+    fixed : 0 < length rest → length (kind_words kind) ≤ length (drop 2 ws)
+    fixed l = let s : length rest ≡ length (drop 2 ws) - length (kind_words kind) = length-drop (length (kind_words kind)) (drop 2 ws) in omega arith
+
+    on_stands : (i : ℕ) → i ≡ length (kind_places kind) + 1 → i < length rest → has_on (form_of kind) rest ≡ true → t EventName (at rest i) ≡ true → Stands g ws t
+    on_stands i last l e h =
+        let long : length (kind_words kind) ≤ length (drop 2 ws) = fixed (omega arith) in
+        let below : i + length (kind_words kind) + 2 < length ws = word_below g ws operation kind other found long i l in
+        stands_at g ws t (i + length (kind_words kind) + 2) EventName (at rest i) below
+        (place_of_operation g.format ws (i + length (kind_words kind) + 2) below operation
+        ∙ (verb_at g.format ws (i + length (kind_words kind) + 2) (i + length (kind_words kind)) refl ∙ on_at g.format kind (drop 2 ws) other found long (i + length (kind_words kind)) i refl last e))
+        (sym (word_at g ws operation kind other found long i))
+        h
+
+    on_shows : (b : Bool) → has_on (form_of kind) rest ≡ b → passes t (cond b ((EventName, at rest (length (form_of kind).places + 1)) ∷ []) []) ≡ true → Stands g ws t
+    on_shows false e h = absurd (true≢false (sym h))
+    on_shows true e h =
+        let both = and_parts ((form_of kind).takes_on) _ e in
+        let sized : length rest ≡ length (form_of kind).places + 2 = eqb-true (length rest) (length (form_of kind).places + 2) (and_parts (length rest == length (form_of kind).places + 2) _ both.1).0 in
+        let l : length (form_of kind).places + 1 < length rest = omega arith in
+        on_stands (length (form_of kind).places + 1) (ap (λ m. m + 1) (length-map (kind_places kind) as_place)) l e (or_last (t EventName (at rest (length (form_of kind).places + 1))) h)
+
+    place_stands : (i : ℕ) → i < length (kind_places kind) → i < length rest → option_map_or (λ p. t p (at rest i)) (option_map as_place (slice_get (kind_places kind) i)) false ≡ true → Stands g ws t
+    place_stands i within l h =
+        let long : length (kind_words kind) ≤ length (drop 2 ws) = fixed (omega arith) in (
+          i + length (kind_words kind) + 2,
+          word_below g ws operation kind other found long i l,
+          ap (λ o. option_map_or (λ p. t p (at ws (i + length (kind_words kind) + 2))) o false) (word_place g ws operation kind other found long i l within)
+              ∙ (ap (λ w. option_map_or (λ p. t p w) (option_map as_place (slice_get (kind_places kind) i)) false) (sym (word_at g ws operation kind other found long i)) ∙ h),
+        )
+
+    kind_shows : Shows g ws t (Some (kind_draft g kind (at ws 0) rest))
+    kind_shows h = elim (or_cases (t NewName (at ws 0)) (passes t (zip (map as_place (kind_places kind)) rest ++ on_placed (form_of kind) rest)) h) [
+      | inl a ↦ name_shows a
+      | inr b ↦ elim (either_part t (zip (map as_place (kind_places kind)) rest) (on_placed (form_of kind) rest) b) [
+        | inl c ↦ (let r = some_in t (kind_places kind) rest c in place_stands r.0 r.1 r.2 r.3)
+        | inr d ↦ on_shows (has_on (form_of kind) rest) refl d
+      ]
+    ]
+
+  shows_by : (o p : Option Draft) → o ≡ p → Shows g ws t p → Shows g ws t o
+  shows_by o p e f h = f (sym (ap (λ x. passes t (draft_placed x)) e) ∙ h)
+
+  operation_in : (m i : Bool) → same_word (at (drop 2 ws) 0) (codes "merge") ≡ m → same_word (at (drop 2 ws) 0) (codes "mergei") ≡ i →
+      (o : Option Kind) → find (λ k. is_of_form g.format (drop 2 ws) (form_of k)) KINDS ≡ o → Shows g ws t (draft g ws)
+  operation_in true i e f o k = shows_by _ _ (line_by_sign g ws operation ∙ as_merge g (at ws 0) (drop 2 ws) (at (drop 2 ws) 0) refl e)
+      (merge_shows false (drop 1 (drop 2 ws)) refl (ap (λ b. b || same_word (at (drop 2 ws) 0) (codes "mergei")) e))
+  operation_in false true e f o k = shows_by _ _ (line_by_sign g ws operation ∙ as_mergei g (at ws 0) (drop 2 ws) (at (drop 2 ws) 0) refl e f)
+      (merge_shows true (drop 1 (drop 2 ws)) refl (ap (λ b. b || same_word (at (drop 2 ws) 0) (codes "mergei")) e ∙ f))
+  operation_in false false e f None k = shows_by _ None (line_by_sign g ws operation ∙ line_kind g (at ws 0) (drop 2 ws) (at (drop 2 ws) 0) None refl e f k) (λ h. absurd (true≢false (sym h)))
+  operation_in false false e f (Some kind) k = shows_by _ _ (line_by_sign g ws operation ∙ line_kind g (at ws 0) (drop 2 ws) (at (drop 2 ws) 0) (Some kind) refl e f k)
+      (kind_shows kind (ap (λ b. b || same_word (at (drop 2 ws) 0) (codes "mergei")) e ∙ f) k)
+
+draft_by : (g : GraphValue) (ws : List (List ℕ)) (t : Place → List ℕ → Bool) (b : Bool) → is_operation ws ≡ b → Shows g ws t (draft g ws)
+draft_by g [] t true e h = absurd (true≢false (sym e))
+draft_by g (w ∷ ws) t true e h = operation_in g (w ∷ ws) t e (omega arith) _ _ refl refl _ refl h
+draft_by g ws t false e h = after_shows g ws t g.lines e (sym (ap (λ x. passes t (draft_placed x)) (decl_by_sign g ws e)) ∙ h)
+
+draft_shows : (g : GraphValue) (ws : List (List ℕ)) (t : Place → List ℕ → Bool) → list_any (λ (x : Place × List ℕ). t x.0 x.1) (draft_placed (draft g ws)) ≡ true → Stands g ws t
+draft_shows g ws t h = draft_by g ws t (is_operation ws) refl h
+
+-- a word that is refused by what stands in its place
+refused_in : (g : GraphValue) (ws : List (List ℕ)) (reason : Why) (w : List ℕ) (o : Option Place) → option_map_or (λ p. refuses g reason p w) o false ≡ true → option_map_or (λ p. refuses_in g ws reason p w) o false ≡ true
+refused_in g ws reason w None h = absurd (true≢false (sym h))
+refused_in g ws reason w (Some p) h = ap (λ b. b || clashes g ws reason p w) h
+
+stands_refused : (g : GraphValue) (ws : List (List ℕ)) (reason : Why) → Stands g ws (refuses g reason) → HasRefusedWord g reason ws
+stands_refused g ws reason s = (s.0, s.1, inl (refused_in g ws reason (at ws s.0) (place_at g.format ws s.0) s.2))
+
+-- a reason that no test has is not given
+decl_only : (a b c d : Bool) (r : Why) → (reasons.Twice ≡ r → ⊥) → (reasons.Unknown ≡ r → ⊥) → (reasons.Number ≡ r → ⊥) → (reasons.Limit ≡ r → ⊥) →
+    cond a (Some reasons.Twice) (cond b (Some reasons.Unknown) (cond c (Some reasons.Number) (cond d (Some reasons.Limit) None))) ≡ Some r → ⊥
+decl_only true b c d r p q s t h = p (same_Some reasons.Twice r h)
+decl_only false true c d r p q s t h = q (same_Some reasons.Unknown r h)
+decl_only false false true d r p q s t h = s (same_Some reasons.Number r h)
+decl_only false false false true r p q s t h = t (same_Some reasons.Limit r h)
+decl_only false false false false r p q s t h = none-some r h
+
+line_only : (a b c d e f i : Bool) (r : Why) → (reasons.Twice ≡ r → ⊥) → (reasons.Unknown ≡ r → ⊥) → (reasons.Kind ≡ r → ⊥) → (reasons.Number ≡ r → ⊥) → (reasons.Outside ≡ r → ⊥) → (reasons.Arrivals ≡ r → ⊥) → (reasons.Limit ≡ r → ⊥) →
+    cond a (Some reasons.Twice) (cond b (Some reasons.Unknown) (cond c (Some reasons.Kind) (cond d (Some reasons.Number) (cond e (Some reasons.Outside) (cond f (Some reasons.Arrivals) (cond i (Some reasons.Limit) None)))))) ≡ Some r → ⊥
+line_only true b c d e f i r p q s t u v x h = p (same_Some reasons.Twice r h)
+line_only false true c d e f i r p q s t u v x h = q (same_Some reasons.Unknown r h)
+line_only false false true d e f i r p q s t u v x h = s (same_Some reasons.Kind r h)
+line_only false false false true e f i r p q s t u v x h = t (same_Some reasons.Number r h)
+line_only false false false false true f i r p q s t u v x h = u (same_Some reasons.Outside r h)
+line_only false false false false false true i r p q s t u v x h = v (same_Some reasons.Arrivals r h)
+line_only false false false false false false true r p q s t u v x h = x (same_Some reasons.Limit r h)
+line_only false false false false false false false r p q s t u v x h = none-some r h
+
+no_name : (g : GraphValue) (i : Decl ⊎ Line) → item_fault g i ≡ Some reasons.Name → ⊥
+no_name g (inl d) h = decl_only _ _ _ _ reasons.Name (λ e. cc) (λ e. cc) (λ e. cc) (λ e. cc) h
+no_name g (inr l) h = line_only _ _ _ _ _ _ _ reasons.Name (λ e. cc) (λ e. cc) (λ e. cc) (λ e. cc) (λ e. cc) (λ e. cc) (λ e. cc) h
+
+no_order : (g : GraphValue) (i : Decl ⊎ Line) → item_fault g i ≡ Some reasons.Space → ⊥
+no_order g (inl d) h = decl_only _ _ _ _ reasons.Space (λ e. cc) (λ e. cc) (λ e. cc) (λ e. cc) h
+no_order g (inr l) h = line_only _ _ _ _ _ _ _ reasons.Space (λ e. cc) (λ e. cc) (λ e. cc) (λ e. cc) (λ e. cc) (λ e. cc) (λ e. cc) h
+
+words_name : (a b c d e f : Bool) (item : Option Why) → (item ≡ Some reasons.Name → ⊥) →
+    or_else (cond a (Some reasons.Name) (cond b (Some reasons.Twice) (cond c (Some reasons.Unknown) (cond d (Some reasons.Kind) (cond e (Some reasons.Number) (cond f (Some reasons.Space) None)))))) item ≡ Some reasons.Name → a ≡ true
+words_name true b c d e f item none h = refl
+words_name false true c d e f item none h = absurd (cc)
+words_name false false true d e f item none h = absurd (cc)
+words_name false false false true e f item none h = absurd (cc)
+words_name false false false false true f item none h = absurd (cc)
+words_name false false false false false true item none h = absurd (cc)
+words_name false false false false false false item none h = absurd (none h)
+
+words_order : (a b c d e f : Bool) (item : Option Why) → (item ≡ Some reasons.Space → ⊥) →
+    or_else (cond a (Some reasons.Name) (cond b (Some reasons.Twice) (cond c (Some reasons.Unknown) (cond d (Some reasons.Kind) (cond e (Some reasons.Number) (cond f (Some reasons.Space) None)))))) item ≡ Some reasons.Space → f ≡ true
+words_order true b c d e f item none h = absurd (cc)
+words_order false true c d e f item none h = absurd (cc)
+words_order false false true d e f item none h = absurd (cc)
+words_order false false false true e f item none h = absurd (cc)
+words_order false false false false true f item none h = absurd (cc)
+words_order false false false false false true item none h = refl
+words_order false false false false false false item none h = absurd (none h)
+
+draft_name : (g : GraphValue) (o : Option Draft) → option_map_or (draft_fault g) o (Some reasons.Syntax) ≡ Some reasons.Name → passes misnamed (draft_placed o) ≡ true
+draft_name g None h = absurd (cc)
+draft_name g (Some d) h = words_name _ _ _ _ _ _ (item_fault g d.item) (no_name g d.item) h
+
+draft_order : (g : GraphValue) (o : Option Draft) → option_map_or (draft_fault g) o (Some reasons.Syntax) ≡ Some reasons.Space → passes misordered (draft_placed o) ≡ true
+draft_order g None h = absurd (cc)
+draft_order g (Some d) h = words_order _ _ _ _ _ _ (item_fault g d.item) (no_order g d.item) h
+
+filled : (g : GraphValue) (ws : List (List ℕ)) (r : Why) → (reasons.Syntax ≡ r → ⊥) → words_fault g ws ≡ Some r → option_map_or (draft_fault g) (draft g ws) (Some reasons.Syntax) ≡ Some r
+filled g ws r other h = elim (chosen (list_any is_empty ws) (Some reasons.Syntax) _ (Some r) h) [
+  | inl e ↦ absurd (other (same_Some reasons.Syntax r e.1))
+  | inr e ↦ e.1
+]
+
+name_word : (g : GraphValue) (ws : List (List ℕ)) → words_fault g ws ≡ Some reasons.Name → HasRefusedWord g reasons.Name ws
+name_word g ws h = stands_refused g ws reasons.Name (draft_shows g ws misnamed (draft_name g (draft g ws) (filled g ws reasons.Name (λ e. cc) h)))
+
+space_word : (g : GraphValue) (ws : List (List ℕ)) → words_fault g ws ≡ Some reasons.Space → HasRefusedWord g reasons.Space ws
+space_word g ws h = stands_refused g ws reasons.Space (draft_shows g ws misordered (draft_order g (draft g ws) (filled g ws reasons.Space (λ e. cc) h)))
+
+-- an arrival names a phase
+abbrev item_late : GraphValue → Decl ⊎ Line → Bool
+item_late g (inl d) = false
+item_late g (inr l) = arrives_late g l.verb
+
+abbrev draft_late : GraphValue → Option Draft → Bool
+draft_late g o = option_map_or (λ (d : Draft). item_late g d.item) o false
+
+abbrev phase_test : Place → List ℕ → Bool
+phase_test p w = is_phase_name p
+
+abbrev NamesPhase : GraphValue → Option Draft → Type 0
+NamesPhase g o = draft_late g o ≡ true → passes phase_test (draft_placed o) ≡ true
+
+kind_late : (g : GraphValue) (kind : Kind) (name : List ℕ) (rest : List (List ℕ)) → HasPlaces kind rest → NamesPhase g (Some (kind_draft g kind name rest))
+kind_late g kinds.Arrive name [] there h = absurd (let l : 2 ≤ 0 = there in omega arith)
+kind_late g kinds.Arrive name (w ∷ ws) there h = refl
+kind_late g kinds.ArriveTimes name [] there h = absurd (let l : 4 ≤ 0 = there in omega arith)
+kind_late g kinds.ArriveTimes name (w ∷ ws) there h = refl
+kind_late g kind name ws there h = absurd (true≢false (sym h))
+
+merge_late : (g : GraphValue) (name : List ℕ) (ignores : Bool) (es : List (List ℕ)) → NamesPhase g (merge_draft g name (merge_verb ignores) es)
+merge_late g name ignores [] h = absurd (true≢false (sym h))
+merge_late g name true (e ∷ es) h = absurd (true≢false (sym h))
+merge_late g name false (e ∷ es) h = absurd (true≢false (sym h))
+
+late_by : (g : GraphValue) (o p : Option Draft) → o ≡ p → NamesPhase g p → NamesPhase g o
+late_by g o p e f = subst (λ x. NamesPhase g x) (sym e) f
+
+late_in : (g : GraphValue) (name : List ℕ) (ws : List (List ℕ)) (m i : Bool) → same_word (at ws 0) (codes "merge") ≡ m → same_word (at ws 0) (codes "mergei") ≡ i →
+    (o : Option Kind) → find (λ k. is_of_form g.format ws (form_of k)) KINDS ≡ o → NamesPhase g (line_draft g name ws)
+late_in g name ws true i e f o k = late_by g _ _ (as_merge g name ws (at ws 0) refl e) (merge_late g name false (drop 1 ws))
+late_in g name ws false true e f o k = late_by g _ _ (as_mergei g name ws (at ws 0) refl e f) (merge_late g name true (drop 1 ws))
+late_in g name ws false false e f None k = late_by g _ None (line_kind g name ws (at ws 0) None refl e f k) (λ h. absurd (true≢false (sym h)))
+late_in g name ws false false e f (Some kind) k = late_by g _ _ (line_kind g name ws (at ws 0) (Some kind) refl e f k)
+    (kind_late g kind name (drop (length (form_of kind).words) ws) (places_there g.format kind ws (found_passes (λ x. is_of_form g.format ws (form_of x)) KINDS kind k)))
+
+space_late : (g : GraphValue) (ws : List (List ℕ)) → draft_late g (space_draft g ws) ≡ false
+space_late g [] = refl
+space_late g (a ∷ []) = refl
+space_late g (a ∷ b ∷ []) = refl
+space_late g (a ∷ b ∷ c ∷ cs) = refl
+
+inst_late : (g : GraphValue) (ws : List (List ℕ)) → draft_late g (inst_draft g ws) ≡ false
+inst_late g [] = refl
+inst_late g (a ∷ []) = refl
+inst_late g (a ∷ b ∷ []) = refl
+inst_late g (a ∷ b ∷ c ∷ []) = refl
+inst_late g (a ∷ b ∷ c ∷ d ∷ ds) = refl
+
+lock_late : (g : GraphValue) (ws : List (List ℕ)) → draft_late g (lock_draft g ws) ≡ false
+lock_late g [] = refl
+lock_late g (a ∷ []) = refl
+lock_late g (a ∷ b ∷ bs) = refl
+
+barrier_late_by : (g : GraphValue) (a b d : List ℕ) (o : Option Op) → draft_late g (option_map (λ op. barrier_with a b op d) o) ≡ false
+barrier_late_by g a b d None = refl
+barrier_late_by g a b d (Some op) = refl
+
+barrier_late : (g : GraphValue) (ws : List (List ℕ)) → draft_late g (barrier_draft g ws) ≡ false
+barrier_late g [] = refl
+barrier_late g (a ∷ []) = refl
+barrier_late g (a ∷ b ∷ []) = refl
+barrier_late g (a ∷ b ∷ c ∷ []) = refl
+barrier_late g (a ∷ b ∷ c ∷ d ∷ []) = barrier_late_by g a b d (op_of c)
+barrier_late g (a ∷ b ∷ c ∷ d ∷ e ∷ es) = refl
+
+either_late : (g : GraphValue) (b : Bool) (x y : Option Draft) → draft_late g x ≡ false → draft_late g y ≡ false → draft_late g (cond b x y) ≡ false
+either_late g true x y h k = h
+either_late g false x y h k = k
+
+after_late : (g : GraphValue) (ls : List Line) (ws : List (List ℕ)) → draft_late g (decl_draft_after g ls ws) ≡ false
+after_late g [] [] = refl
+after_late g [] (w ∷ ws) =
+    either_late g (same_word w (codes "space")) _ _ (space_late g ws)
+    (either_late g (same_word w (codes "inst")) _ _ (inst_late g ws)
+    (either_late g (same_word w (codes "lock")) _ _ (lock_late g ws)
+    (either_late g (same_word w (codes "barrier")) _ _ (barrier_late g ws) refl)))
+after_late g (l ∷ ls) ws = refl
+
+draft_phase : (g : GraphValue) (ws : List (List ℕ)) (b : Bool) → is_operation ws ≡ b → NamesPhase g (draft g ws)
+draft_phase g ws true e h = late_by g _ _ (line_by_sign g ws e) (late_in g (at ws 0) (drop 2 ws) _ _ refl refl _ refl) h
+draft_phase g ws false e h = absurd (true≢false (sym h ∙ (ap (draft_late g) (decl_by_sign g ws e) ∙ after_late g g.lines ws)))
+
+line_late : (a b c d e f i : Bool) →
+    cond a (Some reasons.Twice) (cond b (Some reasons.Unknown) (cond c (Some reasons.Kind) (cond d (Some reasons.Number) (cond e (Some reasons.Outside) (cond f (Some reasons.Arrivals) (cond i (Some reasons.Limit) None)))))) ≡ Some reasons.Arrivals → f ≡ true
+line_late true b c d e f i h = absurd (cc)
+line_late false true c d e f i h = absurd (cc)
+line_late false false true d e f i h = absurd (cc)
+line_late false false false true e f i h = absurd (cc)
+line_late false false false false true f i h = absurd (cc)
+line_late false false false false false true i h = refl
+line_late false false false false false false true h = absurd (cc)
+line_late false false false false false false false h = absurd (none-some reasons.Arrivals h)
+
+words_late : (a b c d e f : Bool) (item : Option Why) →
+    or_else (cond a (Some reasons.Name) (cond b (Some reasons.Twice) (cond c (Some reasons.Unknown) (cond d (Some reasons.Kind) (cond e (Some reasons.Number) (cond f (Some reasons.Space) None)))))) item ≡ Some reasons.Arrivals → item ≡ Some reasons.Arrivals
+words_late true b c d e f item h = absurd (cc)
+words_late false true c d e f item h = absurd (cc)
+words_late false false true d e f item h = absurd (cc)
+words_late false false false true e f item h = absurd (cc)
+words_late false false false false true f item h = absurd (cc)
+words_late false false false false false true item h = absurd (cc)
+words_late false false false false false false item h = h
+
+arrives : (g : GraphValue) (i : Decl ⊎ Line) → item_fault g i ≡ Some reasons.Arrivals → item_late g i ≡ true
+arrives g (inl d) h = absurd (decl_only _ _ _ _ reasons.Arrivals (λ e. cc) (λ e. cc) (λ e. cc) (λ e. cc) h)
+arrives g (inr l) h = line_late _ _ _ _ _ (arrives_late g l.verb) _ h
+
+draft_arrives : (g : GraphValue) (o : Option Draft) → option_map_or (draft_fault g) o (Some reasons.Syntax) ≡ Some reasons.Arrivals → draft_late g o ≡ true
+draft_arrives g None h = absurd (cc)
+draft_arrives g (Some d) h = arrives g d.item (words_late _ _ _ _ _ _ (item_fault g d.item) h)
+
+arrivals_word : (g : GraphValue) (ws : List (List ℕ)) → words_fault g ws ≡ Some reasons.Arrivals → HasRefusedWord g reasons.Arrivals ws
+arrivals_word g ws h = stands_refused g ws reasons.Arrivals (draft_shows g ws phase_test (draft_phase g ws (is_operation ws) refl (draft_arrives g (draft g ws) (filled g ws reasons.Arrivals (λ e. cc) h))))
+
+pub refused_word : (g : GraphValue) (reason : Why) (ws : List (List ℕ)) → has_word reason ≡ true → words_fault g ws ≡ Some reason → HasRefusedWord g reason ws
+refused_word g reasons.Name ws is h = name_word g ws h
+refused_word g reasons.Space ws is h = space_word g ws h
+refused_word g reasons.Outside ws is h = outside_word g ws h
+refused_word g reasons.Arrivals ws is h = arrivals_word g ws h
+refused_word g reason ws is h = absurd (true≢false (sym is))
