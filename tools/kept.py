@@ -1,0 +1,56 @@
+"""What was proved is kept, each library under a sum of all that its proof rests on, for all checkouts of one user.
+
+It lies in $REALM_KEPT, else in realm-proved below $XDG_CACHE_HOME or ~/.cache. Whoever can write there is trusted as whoever can write to a
+checkout's own out/. `rt ci` proves from nothing and takes nothing from there.
+"""
+
+import os
+import pathlib
+import shutil
+import tempfile
+import time
+
+# Days after which a library that no build has used is removed.
+DAYS = 14
+
+
+class Kept:
+    """The folder of proved libraries."""
+
+    def __init__(self):
+        cache = os.environ.get("XDG_CACHE_HOME") or os.path.expanduser("~/.cache")
+        self.folder = pathlib.Path(os.environ.get("REALM_KEPT") or f"{cache}/realm-proved")
+        self.folder.mkdir(parents=True, exist_ok=True)
+
+    def library(self, name, key):
+        """Where the library of this crate and sum lies. Its parent folder holds it alone."""
+        return self.folder / f"{name}-{key[:32]}" / f"{name}.rlib"
+
+    def find(self, name, key):
+        """The library if it is kept, which now counts as used."""
+        library = self.library(name, key)
+        if not library.is_dir():
+            return None
+        os.utime(library.parent)
+        return library
+
+    def room(self, name):
+        """A new folder on the same disk, for a library that is being built."""
+        return pathlib.Path(tempfile.mkdtemp(prefix=f".{name}-", dir=self.folder))
+
+    def keep(self, name, key, room):
+        """Takes over a folder that holds the built library; where another build was faster, that one's stays."""
+        try:
+            os.rename(room, self.library(name, key).parent)
+        except OSError:
+            shutil.rmtree(room, ignore_errors=True)
+
+    def clear(self):
+        """Removes what was not used for long."""
+        oldest = time.time() - DAYS * 86400
+        for it in self.folder.iterdir():
+            try:
+                if it.stat().st_mtime < oldest:
+                    shutil.rmtree(it, ignore_errors=True)
+            except FileNotFoundError:
+                pass
