@@ -1,0 +1,150 @@
+/* Each call of the libraries for C on a small text or event, and how it answers. Usage: library_calls; the status is 0 where all answer so. */
+#include "realm.h"
+#include "realm_events.h"
+#include <stdio.h>
+#include <string.h>
+
+static int wrong;
+
+/* Notes a number that is not the wanted one, with the line on which it stands. */
+static void wants(int line, uint64_t found, uint64_t wanted) {
+    if (found == wanted) return;
+    printf("library_calls.c:%d: %llu, and not %llu\n", line, (unsigned long long)found, (unsigned long long)wanted);
+    wrong = 1;
+}
+
+#define WANTS(found, wanted) wants(__LINE__, (found), (wanted))
+
+static void wants_text(int line, const uint8_t *out, uint64_t written, const char *wanted) {
+    wants(line, written, strlen(wanted));
+    if (written == strlen(wanted)) wants(line, memcmp(out, wanted, written) != 0, 0);
+}
+
+#define WANTS_TEXT(wanted) wants_text(__LINE__, out, written, (wanted))
+#define TEXT(text) (const uint8_t *)(text), strlen(text)
+
+static const char plainest[] = "realm 1\nend\n";
+static const char one_fill[] = "realm 1\nspace s 0..0\ninst a s x\nf = fill a.x s 7\nend\n";
+
+static void verdicts_of_the_plainest_graph(void) {
+    struct realm_verdict verdict;
+    WANTS(realm_check(TEXT(plainest), &verdict), REALM_DONE);
+    WANTS(verdict.need, 1);
+    WANTS(realm_audit(TEXT("realm 1\nend\nrealm-trace 1\ndone\n"), &verdict), REALM_DONE);
+    WANTS(realm_audit(TEXT(plainest), &verdict), REALM_UNREAD);
+    WANTS(verdict.line, 3);
+}
+
+static void texts_of_small_graphs(void) {
+    uint8_t out[64];
+    uint64_t written = 0;
+    WANTS(realm_eval(TEXT(plainest), out, sizeof out, &written), REALM_DONE);
+    WANTS_TEXT("realm-report 1\ndone\n");
+    WANTS(realm_upgrade(TEXT(plainest), out, sizeof out, &written), REALM_DONE);
+    WANTS_TEXT("realm 2\nend\n");
+    WANTS(realm_plan(TEXT(plainest), 1, out, sizeof out, &written), REALM_DONE);
+    WANTS_TEXT("timeline 1\ncritical 0\nlength 0\ndone\n");
+    WANTS(realm_make(1, 0, out, sizeof out, &written), REALM_USAGE);
+    WANTS(realm_make(1, 1, out, sizeof out, &written), REALM_NO_ROOM);
+    WANTS(realm_word(REALM_RULE_WORD, REALM_RACE, out, sizeof out, &written), REALM_DONE);
+    WANTS_TEXT("race");
+}
+
+static void a_line_of_a_run(void) {
+    struct realm_run run = {0};
+    struct realm_work work = {0};
+    struct realm_verdict verdict;
+    uint32_t line = 9, other = 9;
+    WANTS(realm_run_new(TEXT(one_fill), 0, &run, &verdict), REALM_DONE);
+    WANTS(realm_run_issue(&run, &line), REALM_RUN_DONE);
+    WANTS(line, 0);
+    WANTS(realm_run_take(&run, 0, &work, &other), REALM_RUN_DONE);
+    WANTS(realm_work_perform(&work), REALM_RUN_DONE);
+    WANTS(realm_run_put_back(&run, &work), REALM_RUN_DONE);
+    WANTS(realm_run_issue(&run, &line), REALM_RUN_NONE);
+    WANTS(realm_run_woken(&run, &line), REALM_RUN_NONE);
+    realm_run_free(&run);
+}
+
+static void the_report_of_a_run(void) {
+    struct realm_run run = {0};
+    struct realm_verdict verdict;
+    uint8_t out[57];
+    uint64_t written = 0;
+    WANTS(realm_run_new(TEXT(one_fill), 8193, &run, &verdict), REALM_USAGE);
+    WANTS(realm_run_new(TEXT(one_fill), 0, &run, &verdict), REALM_DONE);
+    WANTS(realm_run_report(&run, out, sizeof out, &written), REALM_RUN_DONE);
+    WANTS_TEXT("realm-report 1\nop f done triggered\ncells a.x 0..0 7\ndone\n");
+    realm_run_free(&run);
+}
+
+static void an_event_that_ends_with_poison(void) {
+    struct realm_held owner = REALM_EMPTY, pending = REALM_EMPTY, receipt = REALM_EMPTY;
+    struct realm_handle handle, told = {9, 9};
+    WANTS(realm_events_new(1, 1, 9, &owner), REALM_EVENTS_DONE);
+    WANTS(realm_events_create(&owner, &pending, &handle), REALM_EVENTS_DONE);
+    WANTS(handle.slot, 0);
+    WANTS(handle.gen, 0);
+    WANTS(realm_events_end(&pending, REALM_POISON), REALM_EVENTS_DONE);
+    WANTS(realm_events_look(&owner, handle), REALM_POISONED);
+    WANTS(realm_events_receipt(&pending, &receipt), REALM_EVENTS_DONE);
+    WANTS(realm_events_learn(&owner, &receipt, &told), REALM_POISON);
+    WANTS(told.slot, 0);
+    WANTS(told.gen, 0);
+    realm_events_free(&pending);
+    WANTS(realm_events_close(&owner), REALM_EVENTS_DONE);
+    realm_events_free(&owner);
+}
+
+static void a_waiter_on_an_event_that_is_left(void) {
+    struct realm_held owner = REALM_EMPTY, place = REALM_EMPTY, pending = REALM_EMPTY, waiter = REALM_EMPTY;
+    struct realm_handle handle, found = {9, 9};
+    uint32_t number = 9;
+    WANTS(realm_events_new(0, 1, 9, &owner), REALM_EVENTS_REFUSED);
+    WANTS(realm_events_new(1, 1, 9, &owner), REALM_EVENTS_DONE);
+    WANTS(realm_events_waiter(&owner, &waiter, &number), REALM_EVENTS_DONE);
+    WANTS(number, 0);
+    WANTS(realm_events_create(&owner, &pending, &handle), REALM_EVENTS_DONE);
+    WANTS(realm_events_watch(&owner, handle, &waiter), REALM_PLACED);
+    WANTS(realm_events_split(&owner, &place), REALM_EVENTS_DONE);
+    WANTS(realm_events_join(&owner, &place), REALM_EVENTS_DONE);
+    WANTS(realm_events_close(&owner), REALM_EVENTS_REFUSED);
+    WANTS(realm_events_leave(&pending), REALM_EVENTS_DONE);
+    realm_events_free(&pending);
+    WANTS(realm_events_close(&owner), REALM_EVENTS_DONE);
+    WANTS(realm_events_closed_look(&owner, (struct realm_handle)REALM_NO_EVENT), REALM_TRIGGERED);
+    WANTS(realm_events_closed_place(&owner, 0, &found), REALM_EVENTS_DONE);
+    WANTS(found.slot, handle.slot);
+    WANTS(found.gen, handle.gen);
+    realm_events_free(&owner);
+}
+
+static void a_waiter_that_is_caught(void) {
+    struct realm_held owner = REALM_EMPTY, pending = REALM_EMPTY, waiter = REALM_EMPTY, caught = REALM_EMPTY;
+    struct realm_handle handle;
+    uint32_t number = 9, given = 9;
+    WANTS(realm_events_new(1, 1, 0, &owner), REALM_EVENTS_DONE);
+    WANTS(realm_events_waiter(&owner, &waiter, &number), REALM_EVENTS_DONE);
+    WANTS(realm_events_create(&owner, &pending, &handle), REALM_EVENTS_DONE);
+    WANTS(realm_events_watch(&owner, handle, &waiter), REALM_PLACED);
+    WANTS(realm_events_end(&pending, REALM_OK), REALM_EVENTS_DONE);
+    WANTS(realm_events_next(&pending, &caught, &given), REALM_EVENTS_DONE);
+    WANTS(given, number);
+    realm_events_free(&caught);
+    WANTS(realm_events_next(&pending, &caught, &given), REALM_EVENTS_NONE);
+    WANTS(realm_events_join(&owner, &pending), REALM_EVENTS_DONE);
+    WANTS(realm_events_create(&owner, &pending, &handle), REALM_EVENTS_FULL);
+    realm_events_free(&owner);
+}
+
+int main(void) {
+    verdicts_of_the_plainest_graph();
+    texts_of_small_graphs();
+    a_line_of_a_run();
+    the_report_of_a_run();
+    an_event_that_ends_with_poison();
+    a_waiter_on_an_event_that_is_left();
+    a_waiter_that_is_caught();
+    if (!wrong) puts("library_calls: all calls answer as they should");
+    return wrong;
+}
