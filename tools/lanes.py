@@ -6,8 +6,8 @@ import time
 
 # Bytes that one proof may take: the most that was seen is 2.8 GB, of graph_model with three jobs.
 EACH = 2_600_000_000
-# More jobs than these shorten no proof.
-MOST_JOBS = 4
+# More jobs than these shorten no proof; and what a proof gets whose chain decides when all ends.
+MOST_JOBS, CHAIN_JOBS = 4, 3
 
 
 def processors():
@@ -48,6 +48,12 @@ def planned_seconds(waits, seconds, count):
     return now
 
 
+def jobs_for(chain, work, count, idle, ready):
+    """How many jobs a proof gets, with the chain that it begins, where so much work is left, so many lanes are idle and so many proofs are ready."""
+    decides = chain > work / count
+    return min(MOST_JOBS, idle, max(idle // ready, CHAIN_JOBS if decides else 1))
+
+
 def run(waits, seconds, work, told):
     """Calls `work(task, jobs)` for each task once those that it waits for have ended well, and `told()` after each end and now and then.
 
@@ -74,7 +80,8 @@ def run(waits, seconds, work, told):
                 idle = count - sum(running.values())
                 if idle <= 0:
                     break
-                running[task] = max(1, min(MOST_JOBS, idle // (len(ready) - at)))
+                todo = sum(seconds[it] for it in left)
+                running[task] = jobs_for(chain[task], todo, count, idle, len(ready) - at)
                 left.remove(task)
                 threading.Thread(target=one, args=(task, running[task]), daemon=True).start()
             turn.wait(timeout=1)
