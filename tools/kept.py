@@ -10,8 +10,8 @@ import shutil
 import tempfile
 import time
 
-# Days after which a library that no build has used is removed.
-DAYS = 14
+# So many libraries are kept, of 5 to 150 MiB each: those that were used last.
+MOST = 160
 
 
 class Kept:
@@ -46,11 +46,8 @@ class Kept:
             shutil.rmtree(room, ignore_errors=True)
 
     def clear(self):
-        """Removes what was not used for long."""
-        oldest = time.time() - DAYS * 86400
-        for it in self.folder.iterdir():
-            try:
-                if it.stat().st_mtime < oldest:
-                    shutil.rmtree(it, ignore_errors=True)
-            except FileNotFoundError:
-                pass
+        """Removes what was not used for longest, and what a build that was stopped left."""
+        found = sorted(((it.stat().st_mtime, it) for it in self.folder.iterdir()), reverse=True)
+        left = [it for used, it in found if it.name.startswith(".") and used < time.time() - 86400]
+        for it in [*[it for _, it in found if not it.name.startswith(".")][MOST:], *left]:
+            shutil.rmtree(it, ignore_errors=True)
