@@ -1,5 +1,5 @@
 /* Graphs and traces by their texts. What each call gives is a proved clause of the crate realm_c, but where this page says
-   that it is not proved. Link librealm_c.a and the allocator's archive liblibc_c.a.
+   that it is not proved. Link librealm.a or librealm.so.
 
    What nothing checks, and the program must keep:
    - pointers are not null, even where a length is 0; text may be read for length bytes, out written for room bytes; text, out,

@@ -1,7 +1,7 @@
 /* Generational events that threads share with no lock. What each call asks and gives is a proved clause of the crate
    realm_events_c, but where this page says that it is not proved; where it says `seen` or `knows`, that is the list of a seat
    of which the clauses speak.
-   Link librealm_events_c.a and the allocator's archive liblibc_c.a. */
+   Link librealm_events.a or librealm.so. */
 #ifndef REALM_EVENTS_H
 #define REALM_EVENTS_H
 #include <stdint.h>

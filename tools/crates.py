@@ -98,8 +98,12 @@ class Crates:
         words += ["--logic-built", f"{self.kit}/logic_built"]
         return [*words, *(["--crate-type", "staticlib"] if name in self.static else []), *more]
 
+    def made(self, name):
+        """The name of what a crate's build writes: the object of a program, a static library's archive, or a library."""
+        return f"{name}.o" if self.is_program(name) else f"lib{name}.a" if name in self.static else f"{name}.rlib"
+
     def build_words(self, name, libraries, made, jobs):
-        """The command that proves a crate and builds it: a library's statements, else the object of a program."""
+        """The command that proves a crate and builds it: a library's statements, else what is compiled of it."""
         toolchain = ["--toolchain", f"{self.kit}/toolchain"]
         if self.is_program(name):
             kind = [*toolchain, "--backend", "llvm"]

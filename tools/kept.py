@@ -26,13 +26,22 @@ class Kept:
         """Where the library of this crate and sum lies. Its parent folder holds it alone."""
         return self.folder / f"{name}-{key[:32]}" / f"{name}.rlib"
 
+    def archive(self, name, key):
+        """The same of a static library, which is one file."""
+        return self.library(name, key).with_name(f"lib{name}.a")
+
     def find(self, name, key):
         """The library if it is kept, which now counts as used."""
-        library = self.library(name, key)
-        if not library.is_dir():
+        return self.used(self.library(name, key))
+
+    def find_archive(self, name, key):
+        return self.used(self.archive(name, key))
+
+    def used(self, kept):
+        if not kept.exists():
             return None
-        os.utime(library.parent)
-        return library
+        os.utime(kept.parent)
+        return kept
 
     def room(self, name):
         """A new folder on the same disk, for a library that is being built."""

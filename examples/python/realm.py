@@ -1,7 +1,7 @@
 """The check, the evaluation, plans and audits of graphs by their texts, over librealm.so by ctypes.
 
-REALM_SO names the library's file, and PYTHONPATH this file's folder. As a program: realm.py FILE.. writes what the library
-says of each file.
+PYTHONPATH names this file's folder. The library is the file that REALM_SO names, else that of the installation to which this file
+belongs, else one that the system finds. As a program: realm.py FILE.. writes what the library says of each file.
 """
 
 import ctypes
@@ -41,8 +41,14 @@ class Refused(Exception):
         return self.reason
 
 
+def _file():
+    """The library's file: for PREFIX/share/realm/python/realm.py that is PREFIX/lib/librealm.so."""
+    prefix, is_installed, _ = os.path.realpath(__file__).rpartition("/share/realm/python/")
+    return os.environ.get("REALM_SO") or (f"{prefix}/lib/librealm.so" if is_installed else "librealm.so")
+
+
 def _library():
-    lib = ctypes.CDLL(os.environ.get("REALM_SO", "./librealm.so"))
+    lib = ctypes.CDLL(_file())
     u32, u64, size, text = ctypes.c_uint32, ctypes.c_uint64, ctypes.c_size_t, ctypes.c_char_p
     buffer, verdict = [text, size, ctypes.POINTER(u64)], [ctypes.POINTER(Verdict)]
     arguments = {
