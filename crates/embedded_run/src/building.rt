@@ -5,7 +5,7 @@ ghost use Rattle.graph_model.specs.declared.graph.format.Format.TheVariants.{One
 ghost use Rattle.graph_model.specs.graph.Name.{is_name};
 ghost use Rattle.graph_model.specs.graph.Fits.{decl_fault, line_fault, with_decl, with_line};
 ghost use Rattle.embedded_run.specs.Failures.{IsItemFailure};
-ghost use Rattle.embedded_run.specs.SumGraph.{points_decl, columns_decl, sum_decls, sum_graph};
+ghost use Rattle.embedded_run.specs.SumGraph.{points_decl, columns_decl, sum_decls, one_fill, other_fill, both_fills, lined, sum_graph};
 
 use crate::failure::Failure;
 use graph_model::decl::Decl;
@@ -81,15 +81,34 @@ fn columns(alloc: Global) -> Result<Decl, NoMemory>
     })
 }
 
-/// The graph in which two columns are filled, and then one is added to the other.
-pub(crate) fn sum_graph(alloc: Global) -> Result<Graph, Failure>
-    ensures graph { IfOk result (λ g. g ≡ sum_graph) }
+/// The graph in which both columns are filled.
+fn filled(alloc: Global) -> Result<Graph, Failure>
+    ensures graph { IfOk result (λ g. g ≡ lined (one_fill ∷ other_fill ∷ [])) }
     ensures refused { IfErr result (λ e. e ≡ Failure.NoMemory) }
 {
     let mut graph = declared(alloc)?;
     offer(&mut graph, line(b"f", fill(0, 20), None))?;
     offer(&mut graph, line(b"g", fill(1, 4), None))?;
-    offer(&mut graph, line(b"m", both(alloc)?, None))?;
+    Ok(graph)
+}
+
+/// The same with a merge of the fills.
+fn merged(alloc: Global) -> Result<Graph, Failure>
+    ensures graph { IfOk result (λ g. g ≡ lined (one_fill ∷ other_fill ∷ both_fills ∷ [])) }
+    ensures refused { IfErr result (λ e. e ≡ Failure.NoMemory) }
+{
+    let mut graph = filled(alloc)?;
+    let merge = both(alloc)?;
+    offer(&mut graph, line(b"m", merge, None))?;
+    Ok(graph)
+}
+
+/// The graph in which two columns are filled, and then one is added to the other.
+pub(crate) fn sum_graph(alloc: Global) -> Result<Graph, Failure>
+    ensures graph { IfOk result (λ g. g ≡ sum_graph) }
+    ensures refused { IfErr result (λ e. e ≡ Failure.NoMemory) }
+{
+    let mut graph = merged(alloc)?;
     offer(&mut graph, line(b"r", sum(), Some(2)))?;
     Ok(graph)
 }
