@@ -27,10 +27,10 @@ pub fn answer_unrun<K: Sink>(
     ensures served { Serves request.now checked.now.graph (K.state sink.old) (K.state sink.new) result }
     ensures no_memory { result ≡ Status.NoMemory → sink.new ≡ sink.old }
 {
-    let _ = checked.graph();
+    let need = checked.need();
     match request.action {
         Action::Eval => evaluate(alloc, request.trace, checked, sink),
-        Action::Check => put_need(sink, checked.need()),
+        Action::Check => put_need(sink, need),
         Action::Timeline => plan_graph(alloc, request.workers, checked, sink),
         _ => unreachable!(),
     }
