@@ -159,7 +159,7 @@ module _ (needs : OneNeed) (one : (xs : List ℕ) → OneReading xs) (tells : Te
 
 -- A REQUEST THAT WAS ANSWERED by its input, where no read failed: what was answered by the status
 module _ (request : Request) (left : Option (List ℕ)) (s t : SinkState) (result : Status) (all : (result ≡ ReadFault) ⊎ AnsweredBy request left s t result) where
-  aim : Purpose
+  abbrev aim : Purpose
   aim = purpose request.action
 
   no_read_fault : (status : Status) → result ≡ status → status ≢ ReadFault → AnsweredBy request left s t result
