@@ -1,6 +1,6 @@
 -- Failures that leave nothing but want of memory.
 use Rattle.std.proofs.Common.{◌≡◌, ◌∙◌, refl, sym, subst, ap₂, ℕ, ◌≤◌, Bool, true, false, ap, arith}
-use Rattle.std.specs.Prelude.{Option, None}
+use Rattle.std.specs.Prelude.{Option, None, Result, Ok, Err, IfErr}
 use Rattle.std.proofs.lemmas.Option.{none-some}
 use Rattle.graph_model.specs.declared.graph.why.Why.{Why}
 use Rattle.graph_model.specs.declared.graph.decl.Decl.{Decl}
@@ -31,6 +31,15 @@ declared_or_memory g h d f e is at same fits = fits_or_memory (decl_fault g d) e
 
 pub offered_or_memory : (g h : GraphValue) (l m : Line) (e : Failure) → IsItemFailure (line_fault g l) e → g ≡ h → l ≡ m → line_fault h m ≡ None → e ≡ NoMemory
 offered_or_memory g h l m e is at same fits = fits_or_memory (line_fault g l) e (ap₂ line_fault at same ∙ fits) is
+
+-- the same of the graph with it
+pub declares_or_memory : {A : Type 0} (r : Result A Failure) (g h : GraphValue) (d f : Decl) → IfErr r (IsItemFailure (decl_fault g d)) → g ≡ h → d ≡ f → decl_fault h f ≡ None → IfErr r (λ e. e ≡ NoMemory)
+declares_or_memory (Ok a) g h d f is at same fits = tt
+declares_or_memory (Err e) g h d f is at same fits = declared_or_memory g h d f e is at same fits
+
+pub offers_or_memory : {A : Type 0} (r : Result A Failure) (g h : GraphValue) (l m : Line) → IfErr r (IsItemFailure (line_fault g l)) → g ≡ h → l ≡ m → line_fault h m ≡ None → IfErr r (λ e. e ≡ NoMemory)
+offers_or_memory (Ok a) g h l m is at same fits = tt
+offers_or_memory (Err e) g h l m is at same fits = offered_or_memory g h l m e is at same fits
 
 is_memory : CheckRefusal → Bool
 is_memory refusal.NoMemory = true

@@ -4,17 +4,13 @@ use Rattle.std.specs.Prelude.{None}
 use Rattle.std.specs.Fmt.{digits}
 use Rattle.graph_model.specs.declared.graph.decl.Decl.{Decl}
 use Rattle.graph_model.specs.declared.graph.format.Format.TheVariants.{One}
-use Rattle.graph_model.specs.declared.graph.verb.Line.{Line}
 use Rattle.graph_model.specs.graph.Graph.{GraphValue}
 use Rattle.graph_model.specs.graph.Fits.{decl_fault, line_fault}
-use Rattle.embedded_run.specs.SumGraph.{points_decl, columns_decl, sum_decls, one_fill, other_fill, both_fills, sum}
+use Rattle.embedded_run.specs.SumGraph.{points_decl, columns_decl, lined, one_fill, other_fill, both_fills, sum}
 
--- the graph with these declarations, and the graph with all of them and these lines
+-- the graph with these declarations
 abbrev pub declared : List Decl → GraphValue
 declared decls = record { format = One; «decls» = decls; lines = [] }
-
-abbrev pub lined : List Line → GraphValue
-lined lines = record { format = One; decls = sum_decls; «lines» = lines }
 
 pub points_fit : decl_fault (declared []) points_decl ≡ None
 unfolding digits

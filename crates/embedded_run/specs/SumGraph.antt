@@ -34,5 +34,9 @@ sum = record { name = codes "r"; verb = verb.Reduce op.Sum 0 1 0; on = Some 2 }
 abbrev pub sum_lines : List Line
 sum_lines = one_fill ∷ other_fill ∷ both_fills ∷ sum ∷ []
 
+-- the graph with these lines
+abbrev pub lined : List Line → GraphValue
+lined lines = record { format = One; decls = sum_decls; «lines» = lines }
+
 abbrev pub sum_graph : GraphValue
-sum_graph = record { format = One; decls = sum_decls; lines = sum_lines }
+sum_graph = lined sum_lines

@@ -5,7 +5,7 @@ ghost use Rattle.graph_model.specs.declared.graph.format.Format.TheVariants.{One
 ghost use Rattle.graph_model.specs.graph.Name.{is_name};
 ghost use Rattle.graph_model.specs.graph.Fits.{decl_fault, line_fault, with_decl, with_line};
 ghost use Rattle.embedded_run.specs.Failures.{IsItemFailure};
-ghost use Rattle.embedded_run.specs.SumGraph.{points_decl, columns_decl, sum_decls, sum_graph};
+ghost use Rattle.embedded_run.specs.SumGraph.{points_decl, columns_decl, sum_decls, one_fill, other_fill, both_fills, lined, sum_graph};
 
 use crate::failure::Failure;
 use graph_model::decl::Decl;
@@ -17,41 +17,40 @@ use index_spaces::space::Space;
 use index_spaces::{NoMemory, Op};
 use std::alloc::Global;
 
-/// Puts a declaration at the end, where it fits.
-fn declare(graph: &mut Graph, decl: Decl) -> Result<(), Failure>
-    requires first { graph.old.lines ≡ [] }
-    ensures added { OnOk result (graph.new ≡ with_decl graph.old decl) }
-    ensures refused { IfErr result (λ e. IsItemFailure (decl_fault graph.old decl) e) }
+/// The graph with a declaration more, where it fits.
+fn declare(mut graph: Graph, decl: Decl) -> Result<Graph, Failure>
+    requires first { graph.lines ≡ [] }
+    ensures added { IfOk result (λ g. g ≡ with_decl graph decl) }
+    ensures refused { IfErr result (λ e. IsItemFailure (decl_fault graph decl) e) }
 {
     decl.is_well_formed();
     if let Some(why) = graph.decl_fault(&decl) {
         return Err(Failure::Item(why));
     }
     graph.add_decl(decl)?;
-    Ok(())
+    Ok(graph)
 }
 
-/// Puts a line at the end, where it fits.
-fn offer(graph: &mut Graph, line: Line) -> Result<(), Failure>
-    ensures added { OnOk result (graph.new ≡ with_line graph.old line) }
-    ensures refused { IfErr result (λ e. IsItemFailure (line_fault graph.old line) e) }
+/// The graph with a line more, where it fits.
+fn offer(mut graph: Graph, line: Line) -> Result<Graph, Failure>
+    ensures added { IfOk result (λ g. g ≡ with_line graph line) }
+    ensures refused { IfErr result (λ e. IsItemFailure (line_fault graph line) e) }
 {
     line.is_well_formed();
     match graph.offer_line(line)? {
-        None => Ok(()),
+        None => Ok(graph),
         Some(why) => Err(Failure::Item(why)),
     }
 }
 
 /// The graph without lines.
 fn declared(alloc: Global) -> Result<Graph, Failure>
-    ensures declared { IfOk result (λ g. g ≡ record { format = One; decls = sum_decls; lines = [] }) }
+    ensures declared { IfOk result (λ g. g ≡ lined []) }
     ensures refused { IfErr result (λ e. e ≡ Failure.NoMemory) }
 {
-    let mut graph = Graph::new(alloc);
-    declare(&mut graph, points(alloc)?)?;
-    declare(&mut graph, columns(alloc)?)?;
-    Ok(graph)
+    let points = points(alloc)?;
+    let graph = declare(Graph::new(alloc), points)?;
+    declare(graph, columns(alloc)?)
 }
 
 /// The space of the columns.
@@ -81,17 +80,33 @@ fn columns(alloc: Global) -> Result<Decl, NoMemory>
     })
 }
 
+/// The graph in which both columns are filled.
+fn filled(alloc: Global) -> Result<Graph, Failure>
+    ensures graph { IfOk result (λ g. g ≡ lined (one_fill ∷ other_fill ∷ [])) }
+    ensures refused { IfErr result (λ e. e ≡ Failure.NoMemory) }
+{
+    let graph = declared(alloc)?;
+    let graph = offer(graph, line(b"f", fill(0, 20), None))?;
+    offer(graph, line(b"g", fill(1, 4), None))
+}
+
+/// The same with a merge of the fills.
+fn merged(alloc: Global) -> Result<Graph, Failure>
+    ensures graph { IfOk result (λ g. g ≡ lined (one_fill ∷ other_fill ∷ both_fills ∷ [])) }
+    ensures refused { IfErr result (λ e. e ≡ Failure.NoMemory) }
+{
+    let merge = both(alloc)?;
+    let graph = filled(alloc)?;
+    offer(graph, line(b"m", merge, None))
+}
+
 /// The graph in which two columns are filled, and then one is added to the other.
 pub(crate) fn sum_graph(alloc: Global) -> Result<Graph, Failure>
     ensures graph { IfOk result (λ g. g ≡ sum_graph) }
     ensures refused { IfErr result (λ e. e ≡ Failure.NoMemory) }
 {
-    let mut graph = declared(alloc)?;
-    offer(&mut graph, line(b"f", fill(0, 20), None))?;
-    offer(&mut graph, line(b"g", fill(1, 4), None))?;
-    offer(&mut graph, line(b"m", both(alloc)?, None))?;
-    offer(&mut graph, line(b"r", sum(), Some(2)))?;
-    Ok(graph)
+    let graph = merged(alloc)?;
+    offer(graph, line(b"r", sum(), Some(2)))
 }
 
 /// A line of this name.

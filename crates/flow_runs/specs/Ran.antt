@@ -12,8 +12,8 @@ use Rattle.task_flow.specs.Meaning.{flow_end, flow_cells}
 use Rattle.task_flow.specs.Written.{Keeps}
 use Rattle.flow_top.specs.FlowText.{FlowText}
 use Rattle.flow_top.specs.Answer.{IsFlowAnswer}
-use Rattle.realm_top.specs.Delivered.{Delivered}
-use Rattle.realm_top.specs.Answer.{report_with, IsDone}
+use Rattle.graph_answers.specs.Delivered.{Delivered}
+use Rattle.graph_answers.specs.Answer.{report_with, IsDone}
 
 -- an outcome of a graph that keeps the lines of a flow: each of these ended, and each column has the cells, as the flow means where sums commute or not
 pub record IsFlowOutcome (f : GraphValue) (commute : Bool) (g : GraphValue) (o : Outcome) : Type 0 where

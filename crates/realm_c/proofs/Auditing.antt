@@ -11,7 +11,7 @@ use Rattle.realm_audit.specs.Reading.{IsTraceFault, IsNoText, TextTells}
 use Rattle.realm_audit.specs.Parts.{graph_bytes, trace_bytes}
 use Rattle.realm_audit.specs.declared.refusal.AuditRefusal.{AuditRefusal}
 use Rattle.realm_audit.specs.declared.refusal.AuditRefusal.TheVariants as fault
-use Rattle.realm_top.specs.AuditAnswer.{HasTrace}
+use Rattle.graph_answers.specs.AuditAnswer.{HasTrace}
 use Rattle.realm_c.specs.Audits.{HasFault, HasNoTrace, TraceFound, TraceSays, AuditSays, audit_status}
 use Rattle.realm_c.specs.Refusals.{IsCheckRefusal}
 use Rattle.realm_c.specs.declared.audit.Audited.{Audited}

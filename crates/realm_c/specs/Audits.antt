@@ -10,9 +10,9 @@ use Rattle.realm_audit.specs.Parts.{graph_bytes, trace_bytes}
 use Rattle.realm_audit.specs.Reading.{IsTraceFault, IsNoText}
 use Rattle.realm_audit.specs.declared.refusal.AuditRefusal.{AuditRefusal}
 use Rattle.realm_audit.specs.declared.refusal.AuditRefusal.TheVariants as fault
-use Rattle.realm_top.specs.AuditAnswer.{HasTrace}
-use Rattle.realm_top.specs.Status.{exit_number}
-use Rattle.realm_top.specs.declared.status.Status.TheVariants as status
+use Rattle.graph_answers.specs.AuditAnswer.{HasTrace}
+use Rattle.graph_answers.specs.Status.{exit_number}
+use Rattle.graph_answers.specs.declared.status.Status.TheVariants as status
 use Rattle.realm_c.specs.Numbers.{nothing, verdict_of, no_trace, faulty}
 use Rattle.realm_c.specs.Refusals.{status_of, IsCheckRefusal}
 use Rattle.realm_c.specs.declared.audit.Audited.{Audited}

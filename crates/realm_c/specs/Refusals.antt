@@ -7,8 +7,8 @@ use Rattle.graph_reader.specs.FirstFault.{FirstFault}
 use Rattle.race_check.specs.Refusal.{IsRefusal, NamesLines}
 use Rattle.race_check.specs.declared.checked.CheckRefusal.{CheckRefusal}
 use Rattle.race_check.specs.declared.checked.CheckRefusal.TheVariants as rule
-use Rattle.realm_top.specs.Status.{exit_number}
-use Rattle.realm_top.specs.declared.status.Status.TheVariants as status
+use Rattle.graph_answers.specs.Status.{exit_number}
+use Rattle.graph_answers.specs.declared.status.Status.TheVariants as status
 use Rattle.realm_c.specs.declared.reading.Refusal.{Refusal}
 use Rattle.realm_c.specs.declared.reading.Refusal.TheVariants.{Unread, Unfit, NoMemory}
 

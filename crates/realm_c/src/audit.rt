@@ -8,7 +8,7 @@ ghost use Rattle.graph_reader.specs.FirstFault.{line_count};
 ghost use Rattle.graph_reader.specs.Text.{GraphText};
 ghost use Rattle.realm_audit.specs.Parts.{graph_bytes, trace_bytes};
 ghost use Rattle.realm_audit.specs.Reading.{AreLines};
-ghost use Rattle.realm_top.specs.AuditAnswer.{AUDIT_LIMIT, HasTrace};
+ghost use Rattle.graph_answers.specs.AuditAnswer.{AUDIT_LIMIT, HasTrace};
 ghost use Rattle.realm_c.specs.Audits.{audit_status, audit_verdict, AuditSays, TraceFound, TraceSays};
 ghost use Rattle.realm_c.specs.Numbers.{nothing};
 ghost use Rattle.realm_c.specs.declared.audit.Audited.{Audited as TheAudited};

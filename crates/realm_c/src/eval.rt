@@ -5,7 +5,7 @@ ghost use Rattle.graph_model.specs.graph.Graph.{GraphValue};
 ghost use Rattle.graph_model.specs.meaning.Evaluation.{outcome, order};
 ghost use Rattle.graph_model.specs.meaning.Rules.{Accepted};
 ghost use Rattle.graph_reader.specs.Text.{GraphText};
-ghost use Rattle.realm_top.specs.Answer.{EndsByPaths};
+ghost use Rattle.graph_answers.specs.Answer.{EndsByPaths};
 ghost use Rattle.run_report.specs.Report.{evaluation_report};
 ghost use Rattle.realm_c.specs.Buffers.{Holds, IsCut};
 ghost use Rattle.realm_c.specs.Refusals.{status_of, IsCheckRefusal};

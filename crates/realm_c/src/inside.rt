@@ -22,24 +22,39 @@ use race_check::checked::Checked;
 use run_core::{Attempt, Core, Finished, Issue, MAX_SLOTS, Thing};
 use std::alloc::Global;
 
-/// A run in which no line is issued, in a box. None comes where memory ran out.
+/// Keeps an accepted graph in memory until the process ends. None comes where memory ran out.
+fn keep(alloc: Global, checked: Checked) -> Option<&'static Checked>
+    ensures { IfSome result (λ kept. kept.now ≡ checked) }
+{
+    let Ok(kept) = Box::new(alloc, checked) else {
+        return None;
+    };
+    let kept: &'static Checked = Box::leak(kept);
+    Some(kept)
+}
+
+/// A run in which no line is issued. None comes where memory ran out.
+fn prepare(alloc: Global, checked: Checked, slots: u32) -> Option<Core<'static>>
+    requires enough { checked.need ≤ slots }
+    requires most { slots ≤ MAX_SLOTS }
+    ensures { IfSome result (λ c. (c ≡ unissued checked.graph slots) × (slots_given c ≡ slots) × NothingOut c) }
+{
+    match keep(alloc, checked) {
+        Some(kept) => Core::prepare(alloc, kept, slots).ok(),
+        None => None,
+    }
+}
+
+/// The same in a box.
 pub(crate) fn begin(alloc: Global, checked: Checked, slots: u32) -> Option<Box<Token, Global>>
     requires enough { checked.need ≤ slots }
     requires most { slots ≤ MAX_SLOTS }
     ensures { IfSome result (λ b. HoldsRun (Some b.value) (λ c. (c ≡ unissued checked.graph slots) × (slots_given c ≡ slots) × NothingOut c)) }
 {
-    let Ok(mut made) = Box::new(alloc, Token::Empty) else {
-        return None;
-    };
-    let Ok(kept) = Box::new(alloc, checked) else {
-        return None;
-    };
-    let kept: &'static Checked = Box::leak(kept);
-    let Ok(core) = Core::prepare(alloc, kept, slots) else {
-        return None;
-    };
-    *made = Token::Run(core);
-    Some(made)
+    match prepare(alloc, checked, slots) {
+        Some(core) => Box::new(alloc, Token::Run(core)).ok(),
+        None => None,
+    }
 }
 
 pub(crate) fn issue_in(token: &mut Token, line: &mut u32) -> u32

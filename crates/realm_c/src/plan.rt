@@ -4,7 +4,7 @@ ghost use Rattle.std.specs.Prelude.{◌≡◌, ◌≢◌, ℕ, ◌<◌, ◌≤�
 ghost use Rattle.graph_model.specs.graph.Graph.{GraphValue};
 ghost use Rattle.graph_model.specs.meaning.Rules.{Accepted};
 ghost use Rattle.graph_reader.specs.Text.{GraphText};
-ghost use Rattle.realm_top.specs.Answer.{IsTimelineText};
+ghost use Rattle.graph_answers.specs.Answer.{IsTimelineText};
 ghost use Rattle.realm_c.specs.Buffers.{Holds, IsCut};
 ghost use Rattle.realm_c.specs.Refusals.{status_of, IsCheckRefusal};
 ghost use Rattle.realm_c.specs.declared.reading.Refusal.{Refusal as TheRefusal};

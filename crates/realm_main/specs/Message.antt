@@ -1,7 +1,7 @@
 -- When the program says something on the standard error.
 use Rattle.std.specs.Prelude.{Bool, true, false}
-use Rattle.realm_top.specs.declared.status.Status.{Status}
-use Rattle.realm_top.specs.declared.status.Status.TheVariants.{Usage, ReadFault, WriteFault, NoMemory}
+use Rattle.graph_answers.specs.declared.status.Status.{Status}
+use Rattle.graph_answers.specs.declared.status.Status.TheVariants.{Usage, ReadFault, WriteFault, NoMemory}
 
 -- the statuses of which no text on the standard output tells
 abbrev pub has_message : Status → Bool

@@ -5,7 +5,7 @@ ghost use Rattle.std.specs.Prelude.{◌≡◌, is_some};
 ghost use Rattle.realm_main.specs.Message.{has_message};
 
 use command_line::refusal;
-use realm_io::{OpenGate, StdSink, StdSource};
+use realm_io::{OpenGate, Sink, StdSink, StdSource};
 use realm_top::realm;
 use realm_top::status::Status;
 use std::env::{self, Env};
@@ -49,13 +49,21 @@ fn words<R: Env + AllocGlobal>(rt: &R) -> Result<Vec<String>, Status> {
 /// How many bytes are gathered before they are written on.
 const GATHERED: usize = 65_536;
 
-/// Runs what the words ask for over the standard streams.
+/// Does what the words ask for over the standard streams.
 fn run<R: AllocGlobal + Input + Print + Threads + Wait + Sync>(rt: &R, words: &[String]) -> Status {
-    let Ok(writer) = BufWriter::with_capacity(rt.alloc(), GATHERED, io::writer(rt)) else {
-        return Status::NoMemory;
-    };
+    match BufWriter::with_capacity(rt.alloc(), GATHERED, io::writer(rt)) {
+        Ok(writer) => run_into(rt, words, StdSink::new(writer)),
+        Err(_) => Status::NoMemory,
+    }
+}
+
+/// Does what the words ask for over the standard input and this sink.
+fn run_into<R: AllocGlobal + Input + Threads + Wait + Sync, K: Sink + Drop>(
+    rt: &R,
+    words: &[String],
+    mut sink: K,
+) -> Status {
     let mut source = StdSource::new(rt.reader());
-    let mut sink = StdSink::new(writer);
     realm(rt, rt.alloc(), words, &mut source, &mut sink, &OpenGate)
 }
 

@@ -5,10 +5,11 @@ use Rattle.std.proofs.lemmas.Bool.{true≢false}
 use Rattle.graph_model.specs.graph.Graph.{GraphValue}
 use Rattle.command_line.specs.declared.request.Request.{Request}
 use Rattle.realm_io.specs.SinkState.{SinkState}
-use Rattle.realm_top.specs.declared.status.Status.{Status}
-use Rattle.realm_top.specs.declared.status.Status.TheVariants.{Done, Usage, Unfit, WriteFault, NoMemory, Slots, Unlawful}
-use Rattle.realm_top.specs.Delivered.{IsAnswered}
-use Rattle.realm_top.specs.Answer.{Purpose, Checking, Auditing, Upgrading, InSession, Making, purpose, is_reading, runs, is_short, is_short_by, may_end, may_end_for, MadeAnswers, Answers, AnswersFor}
+use Rattle.graph_answers.specs.declared.status.Status.{Status}
+use Rattle.graph_answers.specs.declared.status.Status.TheVariants.{Done, Usage, Unfit, WriteFault, NoMemory, Slots, Unlawful}
+use Rattle.graph_answers.specs.Delivered.{IsAnswered}
+use Rattle.realm_top.specs.Answer.{Purpose, Checking, Auditing, Upgrading, InSession, Making, purpose, is_reading, may_end, may_end_for, MadeAnswers, Answers, AnswersFor}
+use Rattle.graph_answers.specs.Answer.{runs, is_short, is_short_by}
 
 -- too few slots are found of a run alone
 short_by : (running : Bool) (slots : Option ℕ) (need : ℕ) → is_short_by running slots need ≡ true → running ≡ true

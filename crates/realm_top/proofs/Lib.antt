@@ -1,12 +1,4 @@
-pub mod RefusedLines
-pub mod Delivering
-pub mod AuditAnswers
-pub mod UpgradeAnswers
 pub mod SessionAnswers
 pub mod MadeRequests
 pub mod Requests
-pub mod SummaryLines
-pub mod RunFacts
-pub mod UnlawfulLines
-pub mod Timelines
 pub mod Ending

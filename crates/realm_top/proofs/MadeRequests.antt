@@ -13,12 +13,13 @@ use Rattle.graph_model.specs.declared.meaning.outcome.Outcome.{Outcome}
 use Rattle.graph_model.specs.meaning.Laws.{OneNeed}
 use Rattle.graph_reader.specs.Text.{text}
 use Rattle.graph_gen.specs.MadeGraph.{made_graph}
-use Rattle.realm_top.specs.declared.status.Status.{Status}
-use Rattle.realm_top.specs.declared.status.Status.TheVariants.{Done, Slots}
-use Rattle.realm_top.specs.Texts.{made_text}
-use Rattle.realm_top.specs.Delivered.{Delivers, IsAnswered}
-use Rattle.realm_top.specs.Answer.{reads, report_with, made_says, run_text, Says, Served, MadeAnswers, MadeAsks}
-use Rattle.realm_top.proofs.Delivering.{enough_by_need, few_or_enough}
+use Rattle.graph_answers.specs.declared.status.Status.{Status}
+use Rattle.graph_answers.specs.declared.status.Status.TheVariants.{Done, Slots}
+use Rattle.graph_answers.specs.Texts.{made_text}
+use Rattle.graph_answers.specs.Delivered.{Delivers, IsAnswered}
+use Rattle.realm_top.specs.Answer.{reads, MadeAnswers, MadeAsks}
+use Rattle.graph_answers.specs.Answer.{report_with, made_says, run_text, Says, Served}
+use Rattle.graph_answers.proofs.Delivering.{enough_by_need, few_or_enough}
 
 -- what an action that reads nothing writes
 says_made : (x : Action) (request : Request) (g : GraphValue) (need : ℕ) (out : List ℕ) → reads x ≡ false → Says x request g need out → out ≡ made_says false g

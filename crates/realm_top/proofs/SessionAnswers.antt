@@ -18,12 +18,13 @@ use Rattle.session_run.specs.Laws.{OneEnd}
 use Rattle.session_run.specs.Running.{linked_of, slots_needed}
 use Rattle.session_run.specs.Session.{CanRun, Stops}
 use Rattle.session_report.specs.Report.{session_report}
-use Rattle.realm_top.specs.declared.status.Status.{Status}
-use Rattle.realm_top.specs.declared.status.Status.TheVariants.{Done, Unread, Unfit, WriteFault, NoMemory, Slots, TooLong}
-use Rattle.realm_top.specs.Delivered.{Delivers, IsAnswered}
-use Rattle.realm_top.specs.Texts.{unfit_in_by, unfit_in_text, slots_text}
+use Rattle.graph_answers.specs.declared.status.Status.{Status}
+use Rattle.graph_answers.specs.declared.status.Status.TheVariants.{Done, Unread, Unfit, WriteFault, NoMemory, Slots, TooLong}
+use Rattle.graph_answers.specs.Delivered.{Delivers, IsAnswered}
+use Rattle.realm_top.specs.SessionTexts.{unfit_in_by, unfit_in_text}
+use Rattle.graph_answers.specs.Texts.{slots_text}
 use Rattle.realm_top.specs.SessionAnswer.{IsNoSession, RefusesSession, GraphsAnswer, SessionAnswers, RunsUpTo, GraphsAsk, SessionAsks}
-use Rattle.realm_top.proofs.Delivering.{accepted_or_unfit, broken_text, too_short}
+use Rattle.graph_answers.proofs.Delivering.{accepted_or_unfit, broken_text, too_short}
 
 -- a graph of a session that breaks a rule has a text
 pub unfit_in_has_text : (u : UnfitGraph) → u.why ≢ refusal.NoMemory → (out : List ℕ) × (unfit_in_text u ≡ Some out)

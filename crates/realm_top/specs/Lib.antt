@@ -1,8 +1,4 @@
-pub mod Texts
-pub mod Status
-pub mod Delivered
-pub mod Refused
-pub mod AuditAnswer
-pub mod UpgradeAnswer
+pub mod SessionTexts
 pub mod SessionAnswer
 pub mod Answer
+pub mod Laws

@@ -2,17 +2,13 @@
 #![tactic(auto)]
 
 mod actions;
-mod auditing;
+mod answering;
 mod input;
+mod laws;
 mod making;
-mod planning;
-mod refusal;
 mod running;
+mod session_refusal;
 mod sessions;
-pub mod status;
-mod summary;
-mod unlawful;
-mod upgrading;
 
 ghost use Rattle.std.specs.Prelude.{◌≡◌, ℕ, ◌≤◌, ◌⊎◌, List, None, true, false, IfSome};
 ghost use Rattle.std.specs.Io.KnownBytes.{IsAtEnd};
@@ -22,25 +18,21 @@ ghost use Rattle.graph_reader.specs.Text.{GraphText};
 ghost use Rattle.graph_gen.specs.MadeGraph.{made_graph};
 ghost use Rattle.command_line.specs.Request.{request_of_words, Asks};
 ghost use Rattle.command_line.specs.declared.request.Request.{Request};
-ghost use Rattle.realm_top.specs.Answer.{reads, checks, audits, upgrades, runs_session, made_says, EndsByPaths, may_end, IsInput, Answers, AsksStatus, IsDone};
-ghost use Rattle.realm_top.specs.AuditAnswer.{IsAudited};
-ghost use Rattle.realm_top.specs.UpgradeAnswer.{IsUpgraded};
+ghost use Rattle.realm_top.specs.Answer.{reads, checks, audits, upgrades, runs_session, may_end, IsInput, Answers, AsksStatus};
+ghost use Rattle.graph_answers.specs.Answer.{made_says, EndsByPaths, IsDone};
+ghost use Rattle.graph_answers.specs.AuditAnswer.{IsAudited};
+ghost use Rattle.graph_answers.specs.UpgradeAnswer.{IsUpgraded};
 ghost use Rattle.realm_top.specs.SessionAnswer.{session_slots, IsSessionDone};
-ghost use Rattle.realm_top.specs.Delivered.{Delivered, BrokenOff};
-ghost use Rattle.realm_top.specs.Status.{words_status, is_refusal};
-ghost use Rattle.realm_top.specs.declared.status.Status.{Status};
+ghost use Rattle.graph_answers.specs.Delivered.{Delivered, BrokenOff};
+ghost use Rattle.graph_answers.specs.Status.{words_status, is_refusal};
+ghost use Rattle.graph_answers.specs.declared.status.Status.{Status};
 
-use crate::actions::{input_limit, reads};
-use crate::input::{answer, put_text};
-use crate::making::answer_made;
-use crate::status::Status;
+use crate::answering::answer_request;
+use crate::laws::{answers_are_one, paths_tell_ends};
 use command_line::{WordsFault, read_words};
-use graph_model::laws::{cancelled_where_unbroken, needs_are_one, waits_where_reached};
-use graph_reader::laws::bytes_have_one_reading;
-use realm_audit::reading::text_tells_traces_apart;
-use realm_io::{Gate, ReadEnd, Sink, Source, read_all};
-use session_run::laws::sessions_have_one_end;
-use session_text::laws::bytes_have_one_session;
+pub use graph_answers::status;
+use graph_answers::status::Status;
+use realm_io::{Gate, Sink, Source};
 use std::alloc::Global;
 use std::sync::Wait;
 use std::thread::Threads;
@@ -137,25 +129,11 @@ pub fn realm<R: Threads + Wait + Sync, S: Source, K: Sink, G: Gate>(
     // No count falls.
     ensures counts { (S.faults source.old ≤ S.faults source.new) × ((K.state sink.old).faults ≤ (K.state sink.new).faults) }
 {
-    bytes_have_one_reading();
-    waits_where_reached();
-    cancelled_where_unbroken();
-    needs_are_one();
-    text_tells_traces_apart();
-    bytes_have_one_session();
-    sessions_have_one_end();
-    let request = match read_words(alloc, words) {
-        Ok(request) => request,
-        Err(fault) => return words_status(fault),
-    };
-    if !reads(request.action) {
-        return answer_made(rt, alloc, request, sink, gate);
-    }
-    match read_all(alloc, source, input_limit(request.action)) {
-        Ok(bytes) => answer(rt, alloc, request, bytes.as_slice(), sink, gate),
-        Err(ReadEnd::TooLong) => put_text(sink, b"input too long\n", Status::TooLong),
-        Err(ReadEnd::ReadFault) => Status::ReadFault,
-        Err(ReadEnd::NoMemory) => Status::NoMemory,
+    answers_are_one();
+    paths_tell_ends();
+    match read_words(alloc, words) {
+        Ok(request) => answer_request(rt, alloc, request, source, sink, gate),
+        Err(fault) => words_status(fault),
     }
 }
 

@@ -1,13 +1,14 @@
 //! What is done by `make`, which reads nothing.
 
-ghost use Rattle.std.specs.Prelude.{◌≡◌, ℕ, ◌≤◌, ◌⊎◌, false, true, List};
+ghost use Rattle.std.specs.Prelude.{◌≡◌, ◌≤◌, false, true};
 ghost use Rattle.graph_gen.specs.MadeGraph.{made_graph};
-ghost use Rattle.realm_top.specs.Delivered.{IsAnswered};
+ghost use Rattle.graph_answers.specs.Delivered.{IsAnswered};
 ghost use Rattle.realm_top.specs.Answer.{MadeAnswers, reads, may_end};
 
-use crate::input::{judge, put_graph_text};
-use crate::status::Status;
+use crate::input::judge;
 use command_line::request::{MAX_SIZE, MAX_WORKERS, Request};
+use graph_answers::status::Status;
+use graph_answers::upgrading::put_graph_text;
 use graph_gen::laws::made_graphs_are_accepted;
 use graph_gen::make::make;
 use realm_io::{Gate, Sink};

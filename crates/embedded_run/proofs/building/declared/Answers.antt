@@ -2,17 +2,16 @@ use Rattle.std.proofs.Common.{[], ◌∷◌, ◌∙◌, ap₂}
 use Rattle.std.proofs.lemmas.Result.{err_from_is_err_and}
 use Rattle.graph_model.specs.graph.Fits.{with_decl}
 use Rattle.embedded_run.specs.SumGraph.{points_decl, columns_decl}
-use Rattle.embedded_run.proofs.Failures.{declared_or_memory}
+use Rattle.embedded_run.proofs.Failures.{declared_or_memory, declares_or_memory}
 use Rattle.embedded_run.proofs.ItemsFit.{declared, points_fit, columns_fit}
 use Rattle.embedded_run.proofs.building.declared.Goals as goal
 
-pub returns-in_err-declare-clause-refused : goal.returns-in_err-declare-clause-refused
-returns-in_err-declare-clause-refused c =
-    let p = err_from_is_err_and c.from_residual-in_err-declare.result c.from_residual-in_err-declare.ensures.1 in
-    rw (p.1, p.2) (declared_or_memory _ (declared []) _ points_decl _ c.in_err-declare.ensures.refused c.new-graph.ensures c.in_ok-points.ensures points_fit)
+pub returns-in_err-graph-clause-refused : goal.returns-in_err-graph-clause-refused
+returns-in_err-graph-clause-refused c =
+    let p = err_from_is_err_and c.from_residual-in_err-graph.result c.from_residual-in_err-graph.ensures.1 in
+    rw (p.1, p.2) (declared_or_memory _ (declared []) _ points_decl _ c.in_err-graph.ensures.refused c.new.ensures c.in_ok-points.ensures points_fit)
 
-pub returns-in_err-declare-2-clause-refused : goal.returns-in_err-declare-2-clause-refused
-returns-in_err-declare-2-clause-refused c =
-    let p = err_from_is_err_and c.from_residual-in_err-declare-2.result c.from_residual-in_err-declare-2.ensures.1 in
-    rw (p.1, p.2) (declared_or_memory _ (declared (points_decl ∷ [])) _ columns_decl _ c.in_err-declare-2.ensures.refused
-    (c.in_ok-declare.ensures.added ∙ ap₂ with_decl c.new-graph.ensures c.in_ok-points.ensures) c.in_ok-columns.ensures columns_fit)
+pub returns-clause-refused : goal.returns-clause-refused
+returns-clause-refused c =
+    declares_or_memory c.declare-2.result _ (declared (points_decl ∷ [])) _ columns_decl c.declare-2.ensures.refused
+    (c.in_ok-graph.ensures.added ∙ ap₂ with_decl c.new.ensures c.in_ok-points.ensures) c.in_ok-columns.ensures columns_fit

@@ -1,48 +1,11 @@
-use Rattle.std.proofs.Common.{◌≡◌, [], ◌∷◌, ◌∙◌, ap, ap₂}
-use Rattle.std.specs.Prelude.{None, Some, codes}
-use Rattle.std.proofs.lemmas.Result.{err_from_is_err_and}
-use Rattle.graph_model.specs.graph.Fits.{with_line}
-use Rattle.embedded_run.specs.SumGraph.{one_fill, other_fill, both_fills, sum}
-use Rattle.embedded_run.proofs.Failures.{offered_or_memory}
-use Rattle.embedded_run.proofs.ItemsFit.{lined, one_fill_fits, other_fill_fits, both_fills_fit, sum_fits}
+use Rattle.std.proofs.Common.{◌≡◌, [], ◌∷◌, ◌∙◌, ap}
+use Rattle.std.specs.Prelude.{Some, codes}
+use Rattle.embedded_run.specs.SumGraph.{lined, one_fill, other_fill, both_fills, sum}
+use Rattle.embedded_run.proofs.Failures.{offers_or_memory}
+use Rattle.embedded_run.proofs.ItemsFit.{sum_fits}
 use Rattle.embedded_run.proofs.building.sum_graph.Goals as goal
 
-pub returns-in_err-offer-clause-refused : goal.returns-in_err-offer-clause-refused
-returns-in_err-offer-clause-refused c =
-    let none : c.in_ok-graph.graph ≡ lined [] = c.in_ok-graph.ensures.declared in
-    let line_1 : c.line.result ≡ one_fill = c.line.ensures ∙ ap (λ v. record { name = codes "f"; verb = v; on = None }) c.fill.ensures in
-    let p = err_from_is_err_and c.from_residual-in_err-offer.result c.from_residual-in_err-offer.ensures.1 in
-    rw (p.1, p.2) (offered_or_memory _ (lined []) _ one_fill _ c.in_err-offer.ensures.refused none line_1 one_fill_fits)
-
-pub returns-in_err-offer-2-clause-refused : goal.returns-in_err-offer-2-clause-refused
-returns-in_err-offer-2-clause-refused c =
-    let none : c.in_ok-graph.graph ≡ lined [] = c.in_ok-graph.ensures.declared in
-    let line_1 : c.line.result ≡ one_fill = c.line.ensures ∙ ap (λ v. record { name = codes "f"; verb = v; on = None }) c.fill.ensures in
-    let with_1 : c.offer.new.graph ≡ lined (one_fill ∷ []) = c.in_ok-offer.ensures.added ∙ ap₂ with_line none line_1 in
-    let line_2 : c.line-2.result ≡ other_fill = c.line-2.ensures ∙ ap (λ v. record { name = codes "g"; verb = v; on = None }) c.fill-2.ensures in
-    let p = err_from_is_err_and c.from_residual-in_err-offer-2.result c.from_residual-in_err-offer-2.ensures.1 in
-    rw (p.1, p.2) (offered_or_memory _ (lined (one_fill ∷ [])) _ other_fill _ c.in_err-offer-2.ensures.refused with_1 line_2 other_fill_fits)
-
-pub returns-in_err-offer-3-clause-refused : goal.returns-in_err-offer-3-clause-refused
-returns-in_err-offer-3-clause-refused c =
-    let none : c.in_ok-graph.graph ≡ lined [] = c.in_ok-graph.ensures.declared in
-    let line_1 : c.line.result ≡ one_fill = c.line.ensures ∙ ap (λ v. record { name = codes "f"; verb = v; on = None }) c.fill.ensures in
-    let with_1 : c.offer.new.graph ≡ lined (one_fill ∷ []) = c.in_ok-offer.ensures.added ∙ ap₂ with_line none line_1 in
-    let line_2 : c.line-2.result ≡ other_fill = c.line-2.ensures ∙ ap (λ v. record { name = codes "g"; verb = v; on = None }) c.fill-2.ensures in
-    let with_2 : c.offer-2.new.graph ≡ lined (one_fill ∷ other_fill ∷ []) = c.in_ok-offer-2.ensures.added ∙ ap₂ with_line with_1 line_2 in
-    let line_3 : c.line-3.result ≡ both_fills = c.line-3.ensures ∙ ap (λ v. record { name = codes "m"; verb = v; on = None }) c.in_ok-both.ensures in
-    let p = err_from_is_err_and c.from_residual-in_err-offer-3.result c.from_residual-in_err-offer-3.ensures.1 in
-    rw (p.1, p.2) (offered_or_memory _ (lined (one_fill ∷ other_fill ∷ [])) _ both_fills _ c.in_err-offer-3.ensures.refused with_2 line_3 both_fills_fit)
-
-pub returns-in_err-offer-4-clause-refused : goal.returns-in_err-offer-4-clause-refused
-returns-in_err-offer-4-clause-refused c =
-    let none : c.in_ok-graph.graph ≡ lined [] = c.in_ok-graph.ensures.declared in
-    let line_1 : c.line.result ≡ one_fill = c.line.ensures ∙ ap (λ v. record { name = codes "f"; verb = v; on = None }) c.fill.ensures in
-    let with_1 : c.offer.new.graph ≡ lined (one_fill ∷ []) = c.in_ok-offer.ensures.added ∙ ap₂ with_line none line_1 in
-    let line_2 : c.line-2.result ≡ other_fill = c.line-2.ensures ∙ ap (λ v. record { name = codes "g"; verb = v; on = None }) c.fill-2.ensures in
-    let with_2 : c.offer-2.new.graph ≡ lined (one_fill ∷ other_fill ∷ []) = c.in_ok-offer-2.ensures.added ∙ ap₂ with_line with_1 line_2 in
-    let line_3 : c.line-3.result ≡ both_fills = c.line-3.ensures ∙ ap (λ v. record { name = codes "m"; verb = v; on = None }) c.in_ok-both.ensures in
-    let with_3 : c.offer-3.new.graph ≡ lined (one_fill ∷ other_fill ∷ both_fills ∷ []) = c.in_ok-offer-3.ensures.added ∙ ap₂ with_line with_2 line_3 in
-    let line_4 : c.line-4.result ≡ sum = c.line-4.ensures ∙ ap (λ v. record { name = codes "r"; verb = v; on = Some 2 }) c.sum.ensures in
-    let p = err_from_is_err_and c.from_residual-in_err-offer-4.result c.from_residual-in_err-offer-4.ensures.1 in
-    rw (p.1, p.2) (offered_or_memory _ (lined (one_fill ∷ other_fill ∷ both_fills ∷ [])) _ sum _ c.in_err-offer-4.ensures.refused with_3 line_4 sum_fits)
+pub returns-clause-refused : goal.returns-clause-refused
+returns-clause-refused c =
+    let last : c.line.result ≡ sum = c.line.ensures ∙ ap (λ v. record { name = codes "r"; verb = v; on = Some 2 }) c.sum.ensures in
+    offers_or_memory c.offer.result _ (lined (one_fill ∷ other_fill ∷ both_fills ∷ [])) _ sum c.offer.ensures.refused c.in_ok-graph.ensures.graph last sum_fits

@@ -1,7 +1,7 @@
 use Rattle.std.proofs.Common.{◌≡◌, ◌+◌, subst}
 use Rattle.graph_reader.specs.FirstFault.{line_count}
 use Rattle.realm_audit.specs.Reading.{IsRefusal}
-use Rattle.realm_top.proofs.AuditAnswers.{trace_of}
+use Rattle.graph_answers.proofs.AuditAnswers.{trace_of}
 use Rattle.realm_c.proofs.Auditing.{found_says, no_trace_of}
 use Rattle.realm_c.proofs.audit.audit_behind.Goals as goal
 

@@ -1,9 +1,10 @@
 use Rattle.std.proofs.Common.{◌≤◌, length, sym, subst}
-use Rattle.realm_top.specs.AuditAnswer.{AuditAnswers}
-use Rattle.realm_top.specs.UpgradeAnswer.{UpgradeAnswers}
+use Rattle.graph_answers.specs.AuditAnswer.{AuditAnswers}
+use Rattle.graph_answers.specs.UpgradeAnswer.{UpgradeAnswers}
 use Rattle.realm_top.specs.SessionAnswer.{session_slots, SessionAnswers}
-use Rattle.realm_top.specs.Answer.{InputAnswers, Answers, purpose}
-use Rattle.realm_top.proofs.Delivering.{answered_by}
+use Rattle.graph_answers.specs.Answer.{InputAnswers}
+use Rattle.realm_top.specs.Answer.{Answers, purpose}
+use Rattle.graph_answers.proofs.Delivering.{answered_by}
 use Rattle.realm_top.proofs.Requests.{answers_checked, answers_audit, answers_upgrade, answers_session, limit_checked, limit_audit, limit_upgrade, limit_session, checked_else}
 use Rattle.realm_top.proofs.input.answer.Goals as goal
 

@@ -1,8 +1,8 @@
 use Rattle.std.proofs.Common.{subst}
 use Rattle.graph_reader.specs.Reading.{IsRefusal}
-use Rattle.realm_top.specs.Refused.{Refuses}
-use Rattle.realm_top.specs.Answer.{InputAnswers, Judged}
-use Rattle.realm_top.proofs.Delivering.{answered_by, judged_input, refused_input}
+use Rattle.graph_answers.specs.Refused.{Refuses}
+use Rattle.graph_answers.specs.Answer.{InputAnswers, Judged}
+use Rattle.graph_answers.proofs.Delivering.{answered_by, judged_input, refused_input}
 use Rattle.realm_top.proofs.input.answer_graph.Goals as goal
 
 pub returns-in-Ok-clause-answered : goal.returns-in-Ok-clause-answered

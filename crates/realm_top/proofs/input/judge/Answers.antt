@@ -1,6 +1,6 @@
-use Rattle.realm_top.specs.Refused.{Rejects}
-use Rattle.realm_top.specs.Answer.{Served, Judged}
-use Rattle.realm_top.proofs.Delivering.{answered_by, served_judged, rejected_judged}
+use Rattle.graph_answers.specs.Refused.{Rejects}
+use Rattle.graph_answers.specs.Answer.{Served, Judged}
+use Rattle.graph_answers.proofs.Delivering.{answered_by, served_judged, rejected_judged}
 use Rattle.realm_top.proofs.input.judge.Goals as goal
 
 pub returns-in-Ok-clause-settled : goal.returns-in-Ok-clause-settled

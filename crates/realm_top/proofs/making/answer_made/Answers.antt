@@ -1,8 +1,9 @@
 use Rattle.std.proofs.Common.{sym, subst, arith}
 use Rattle.graph_model.specs.meaning.Rules.{Accepted}
 use Rattle.graph_gen.specs.MadeGraph.{made_graph}
-use Rattle.realm_top.specs.Answer.{Judged, MadeAnswers, purpose}
-use Rattle.realm_top.proofs.Delivering.{answered_by, judged_served}
+use Rattle.graph_answers.specs.Answer.{Judged}
+use Rattle.realm_top.specs.Answer.{MadeAnswers, purpose}
+use Rattle.graph_answers.proofs.Delivering.{answered_by, judged_served}
 use Rattle.realm_top.proofs.Ending.{made_ends}
 use Rattle.realm_top.proofs.MadeRequests.{text_made, served_made}
 use Rattle.realm_top.proofs.Requests.{made_else}

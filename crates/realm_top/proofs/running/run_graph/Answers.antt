@@ -1,6 +1,6 @@
 use Rattle.std.proofs.Common.{◌≡◌, ◌≤◌, length, ◌∙◌, ap, arith}
 use Rattle.graph_model.specs.graph.Graph.{GraphValue}
-use Rattle.realm_top.proofs.RunFacts.{need_is_small}
+use Rattle.graph_answers.proofs.RunFacts.{need_is_small}
 use Rattle.realm_top.proofs.running.run_graph.Goals as goal
 
 pub slots_for-slots-requires : goal.slots_for-slots-requires

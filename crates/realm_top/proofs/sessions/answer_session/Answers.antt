@@ -1,6 +1,6 @@
 use Rattle.session_run.specs.Linked.{linked}
 use Rattle.realm_top.specs.SessionAnswer.{session_slots, RefusesSession, GraphsAnswer, SessionAnswers}
-use Rattle.realm_top.proofs.Delivering.{answered_by}
+use Rattle.graph_answers.proofs.Delivering.{answered_by}
 use Rattle.realm_top.proofs.SessionAnswers.{entries_answered, refused_session}
 use Rattle.realm_top.proofs.sessions.answer_session.Goals as goal
 

@@ -1,7 +1,7 @@
 use Rattle.std.proofs.Common.{refl, inr, subst}
 use Rattle.session_text.specs.FirstFault.{IsRefusal}
-use Rattle.realm_top.specs.declared.status.Status.TheVariants.{Unread}
-use Rattle.realm_top.specs.Texts.{unread_text}
+use Rattle.graph_answers.specs.declared.status.Status.TheVariants.{Unread}
+use Rattle.graph_answers.specs.Texts.{unread_text}
 use Rattle.realm_top.proofs.sessions.refuse_session.Goals as goal
 
 pub returns-in-Line-clause-refused : goal.returns-in-Line-clause-refused

@@ -1,0 +1,36 @@
+-- What follows for the answers of `upgrade`.
+use Rattle.std.proofs.Common.{◌≡◌, ℕ, ◌≤◌, List, length, refl, ap, inr}
+use Rattle.graph_model.specs.graph.Graph.{GraphValue, upgraded}
+use Rattle.graph_reader.specs.Text.{GraphText, text}
+use Rattle.graph_reader.specs.Laws.{OneReading}
+use Rattle.realm_io.specs.SinkState.{SinkState}
+use Rattle.graph_answers.specs.declared.status.Status.{Status}
+use Rattle.graph_answers.specs.declared.status.Status.TheVariants.{Done, Unread, TooLong}
+use Rattle.graph_answers.specs.Delivered.{Delivers, IsAnswered}
+use Rattle.graph_answers.specs.Refused.{Refuses}
+use Rattle.graph_answers.specs.UpgradeAnswer.{UpgradeAnswers, UpgradeAsks}
+use Rattle.graph_answers.proofs.Delivering.{text_or_refused, too_short}
+
+-- the answer to an input is the one that it asks for
+pub one_upgrade : (bytes : List ℕ) → OneReading bytes → (s t : Status) (o : List ℕ) → UpgradeAnswers bytes s o → UpgradeAsks bytes t → s ≡ t
+one_upgrade bytes one Done Done o a b = refl
+one_upgrade bytes one Done Unread o a b = absurd (b.1 a.0 a.1)
+one_upgrade bytes one Done TooLong o a b = absurd (too_short bytes (a.1).short b)
+one_upgrade bytes one Done _ o a b = absurd b
+one_upgrade bytes one Unread Done o a b = absurd (text_or_refused bytes o one b.0 b.1 a.1)
+one_upgrade bytes one Unread Unread o a b = refl
+one_upgrade bytes one Unread TooLong o a b = absurd (too_short bytes a.0 b)
+one_upgrade bytes one Unread _ o a b = absurd b
+one_upgrade bytes one TooLong Done o a b = absurd (too_short bytes (b.1).short a.0)
+one_upgrade bytes one TooLong Unread o a b = absurd (too_short bytes b.0 a.0)
+one_upgrade bytes one TooLong TooLong o a b = refl
+one_upgrade bytes one TooLong _ o a b = absurd b
+one_upgrade bytes one _ t o a b = absurd a
+
+-- the text of a graph in format 2 is an answer to its text, and so is what is refused
+pub upgraded_answer : (bytes : List ℕ) (g h : GraphValue) (s t : SinkState) (result : Status) → GraphText bytes g → h ≡ upgraded g → Delivers s t Done result (text h) → IsAnswered (UpgradeAnswers bytes) s t result
+upgraded_answer bytes g h s t result u e d = inr (Done, text h, (g, u, ap text e), d)
+
+pub refused_upgrade : (bytes : List ℕ) → length bytes ≤ 1048576 → (status : Status) (out : List ℕ) → Refuses bytes status out → UpgradeAnswers bytes status out
+refused_upgrade bytes short Unread out r = (short, r)
+refused_upgrade bytes short _ out r = absurd r

@@ -1,0 +1,6 @@
+use Rattle.graph_answers.specs.Texts.{unread_text}
+use Rattle.graph_answers.proofs.Delivering.{written_then_flushed}
+use Rattle.graph_answers.proofs.refusing.put_refusal.Goals as goal
+
+pub returns-in-Ok : goal.returns-in-Ok
+returns-in-Ok g c = written_then_flushed _ _ _ _ c.flush.result (unread_text c.args.number c.args.why) c.in-Ok.ensures c.flush.ensures

@@ -1,0 +1,17 @@
+use Rattle.std.proofs.Common.{refl, inr}
+use Rattle.graph_answers.specs.declared.status.Status.TheVariants.{Unread}
+use Rattle.graph_answers.specs.Texts.{unread_text}
+use Rattle.graph_answers.proofs.refusing.refuse.Goals as goal
+
+pub returns-in-Line-clause-refused : goal.returns-in-Line-clause-refused
+returns-in-Line-clause-refused g c = λ bytes fault. inr (
+  Unread,
+  unread_text c.in-Line.number c.in-Line.why,
+  record {
+    number = c.in-Line.number;
+    why = c.in-Line.why;
+    fault = fault c.in-Line.number c.in-Line.why c.in-Line.is;
+    says = refl;
+  },
+  c.put_refusal.ensures,
+)

@@ -1,0 +1,16 @@
+use Rattle.std.proofs.Common.{subst}
+use Rattle.graph_reader.specs.Reading.{IsRefusal}
+use Rattle.graph_answers.specs.Refused.{Refuses}
+use Rattle.graph_answers.specs.UpgradeAnswer.{UpgradeAnswers}
+use Rattle.graph_answers.proofs.Delivering.{answered_by}
+use Rattle.graph_answers.proofs.UpgradeAnswers.{upgraded_answer, refused_upgrade}
+use Rattle.graph_answers.proofs.upgrading.answer_upgrade.Goals as goal
+
+pub returns-in-Ok-clause-answered : goal.returns-in-Ok-clause-answered
+returns-in-Ok-clause-answered g c = upgraded_answer c.args.bytes.now c.in-Ok.graph c.upgrade-two.result _ _ c.put_graph_text.result c.in-Ok.ensures.text c.upgrade-two.ensures c.put_graph_text.ensures
+
+pub returns-in-Err-clause-answered : goal.returns-in-Err-clause-answered
+returns-in-Err-clause-answered g c =
+    let bytes = c.args.bytes.now in
+    answered_by (Refuses bytes) _ _ c.refuse.result (UpgradeAnswers bytes) (refused_upgrade bytes c.requires.short)
+    (c.refuse.ensures.refused bytes (λ number why e. subst (IsRefusal bytes) e c.in-Err.ensures.refusal))

@@ -1,0 +1,31 @@
+-- What `upgrade` is to answer, and what it is to write.
+use Rattle.std.specs.Prelude.{◌≡◌, ℕ, ◌<◌, ◌≤◌, List, length}
+use Rattle.graph_model.specs.graph.Graph.{GraphValue, upgraded}
+use Rattle.graph_model.specs.declared.graph.limits.TheConstants.{MAX_TEXT}
+use Rattle.graph_reader.specs.Text.{GraphText, text}
+use Rattle.realm_io.specs.SinkState.{SinkState}
+use Rattle.graph_answers.specs.declared.status.Status.{Status}
+use Rattle.graph_answers.specs.declared.status.Status.TheVariants.{Done, Unread, TooLong}
+use Rattle.graph_answers.specs.Delivered.{Delivered}
+use Rattle.graph_answers.specs.Refused.{IsRefused}
+use Rattle.graph_answers.specs.Texts.{too_long_text}
+
+-- the answer to an input of these bytes, and the text that goes with it: the text of the graph in format 2, whether or not it is accepted
+abbrev pub UpgradeAnswers : List ℕ → Status → List ℕ → Type 0
+UpgradeAnswers bytes Done out = (g : GraphValue) × GraphText bytes g × (out ≡ text (upgraded g))
+UpgradeAnswers bytes Unread out = (length bytes ≤ MAX_TEXT) × IsRefused bytes out
+UpgradeAnswers bytes TooLong out = (MAX_TEXT < length bytes) × (out ≡ too_long_text)
+UpgradeAnswers bytes _ out = ⊥
+
+-- the status that an input of these bytes asks for
+abbrev pub UpgradeAsks : List ℕ → Status → Type 0
+UpgradeAsks bytes Done = (g : GraphValue) × GraphText bytes g
+UpgradeAsks bytes Unread = (length bytes ≤ MAX_TEXT) × ((g : GraphValue) → GraphText bytes g → ⊥)
+UpgradeAsks bytes TooLong = MAX_TEXT < length bytes
+UpgradeAsks bytes _ = ⊥
+
+-- an upgrade was done with these bytes: they are the one text of a graph, and its text in format 2 was written and flushed
+pub record IsUpgraded (bytes : List ℕ) (old new : SinkState) : Type 0 where
+  pub graph : GraphValue
+  pub text_is : GraphText bytes graph
+  pub delivered : Delivered old new (text (upgraded graph))

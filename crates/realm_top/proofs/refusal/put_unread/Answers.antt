@@ -1,7 +1,0 @@
-use Rattle.std.proofs.Common.{◌∙◌, subst}
-use Rattle.realm_io.specs.Written.{Writes}
-use Rattle.realm_top.proofs.RefusedLines.{words_are}
-use Rattle.realm_top.proofs.refusal.put_unread.Goals as goal
-
-pub returns : goal.returns
-returns g c = subst (Writes _ _ c.put_four.result) (words_are c.as_bytes-digits.result.now c.why_word.result.now c.args.number c.args.why (c.as_bytes-digits.ensures.value ∙ c.format.ensures.text) c.why_word.ensures) c.put_four.ensures

@@ -1,6 +1,0 @@
-use Rattle.std.proofs.Common.{◌≡◌, take}
-use Rattle.realm_top.specs.Texts.{cell_sum}
-use Rattle.realm_top.proofs.summary.cell_sum.Given as goal
-
-abbrev pub invariant-loop-column : goal.invariant-loop-column
-invariant-loop-column l = l.so_far ≡ cell_sum (take l.column-index l.columns)
