@@ -1,7 +1,9 @@
 -- What a line that was read adds to the graphs so far, and what is said of one that is refused.
 use Rattle.std.proofs.Common.{◌≡◌, ℕ, ◌+◌, ◌<◌, ◌≤◌, Bool, true, false, cond, not, ◌&&◌, ◌||◌, inl, inr, List, [], ◌∷◌, ◌++◌, ◌⊎◌, length, map, refl, sym, ◌∙◌, ap, subst, append_assoc, append-nil, length-append, arith}
-use Rattle.std.specs.Prelude.{◌≢◌, ◌==◌, Option, Some, None, nat_lt, codes, flat_map, sum_by}
+use Rattle.std.specs.Prelude.{◌≢◌, ◌==◌, Option, Some, None, Result, Ok, Err, OnOk, IfOk, IfErr, nat_lt, codes, flat_map, sum_by}
 use Rattle.std.specs.List.{list_any, join_with_byte}
+use Rattle.std.specs.Option.{option_map_or}
+use Rattle.std.specs.Result.{result_and}
 use Rattle.std.specs.Str.{bytes_eq}
 use Rattle.std.proofs.lemmas.Bool.{cond-true, cond-false, and_parts, or_parts, or_from, or_left, or_right, lt-ltb, le-ltb, ltb-true, ltb-false, eqb-true}
 use Rattle.std.proofs.lemmas.Option.{none-some}
@@ -33,7 +35,7 @@ use Rattle.session_text.specs.declared.so_far.SoFar.{SoFar}
 use Rattle.session_text.specs.Session.{graph_line, link_text, entry_text, first_text, closing, session_head, session_text, entry_count, session_count}
 use Rattle.session_text.specs.Fits.{with_trigger, with_triggers, trigger_reason, all_lines, all_cells, is_above, is_large, graph_reason, link_reason, with_link, bare_entry, names_op, is_named, AreEntries, SessionText}
 use Rattle.session_text.specs.FirstFault.{word_at, is_graph_line, is_link_line, link_of, with_last, last_reason, words_reason, line_reason, next_reason, SessionFault, IsRefusal}
-use Rattle.session_text.specs.SoFar.{last_entry, entries_in, judged_of, with_judged, IsJudged, IsSoFar, HasRead, IsLineAt, IsRefusedBehind, added_reason, LinkAdded, GraphAdded}
+use Rattle.session_text.specs.SoFar.{last_entry, entries_in, judged_of, with_judged, IsJudged, IsSoFar, HasRead, IsLineAt, IsRefusedBehind, added_reason, LinkAdded, GraphAdded, bare_last, AllowsLink, LastAdded}
 use Rattle.session_text.proofs.Entries.{link_fits, push_entry, last_fits, bare_fits, triggers_push, lines_push, cells_push, count_push, head_push, head_link, count_link, lines_link, cells_link}
 
 -- a line that is refused by its words
@@ -218,20 +220,21 @@ graph_taken bytes behind left old new name g number next r t after is_new is aft
       number_is = (let n : number ≡ session_count es + 1 = r.number_is in omega arith);
     }
 
-few_sums : (lines cells : ℕ) → lines ≤ 8191 → cells ≤ 4194304 → is_above lines cells ≡ false
-few_sums lines cells a b = or_from (nat_lt 8191 lines) (nat_lt 4194304 cells) (le-ltb 8191 lines a) (le-ltb 4194304 cells b)
+-- the text of a graph was read twice
+pub read_twice : (bytes name : List ℕ) (g judged : GraphValue) (links : List Link) → GraphText bytes g → GraphText bytes judged → links ≡ [] → (record { entry = record { name = name; graph = g; links = links }; judged = judged }) ≡ bare_last name g
+read_twice bytes name g judged links t s none =
+    ap (λ (x : List Link). record { entry = record { name = name; graph = g; links = x }; judged = judged }) none ∙ ap (λ (x : GraphValue). record { entry = bare_entry name g; judged = x }) (one_graph bytes judged g s t)
 
--- the text of a graph was read twice, and put to those so far
-pub graph_read : (bytes behind left : List ℕ) (old new : SoFar) (name : List ℕ) (g judged : GraphValue) (links : List Link) (lines cells number next : ℕ) → HasRead bytes old (graph_line name ++ behind) number → graph_reason (entries_in old) name ≡ None →
-    GraphText (graph_bytes behind) g → GraphText (graph_bytes behind) judged → links ≡ [] → GraphAdded old (record { entry = record { name = name; graph = g; links = links }; judged = judged }) lines cells new →
-    lines ≡ old.lines + length g.lines → cells ≡ old.cells + cell_count g → lines ≤ 8191 → cells ≤ 4194304 → left ≡ trace_bytes behind → next ≡ number + line_count g + 2 → HasRead bytes new left next
-graph_read bytes behind left old new name g judged links lines cells number next r named t s none a ls cs few small after after_end =
-    let last : Last = record { entry = record { name = name; graph = g; links = links }; judged = judged } in
-    let bare : last ≡ record { entry = bare_entry name g; judged = g } =
-    ap (λ (x : List Link). record { entry = record { name = name; graph = g; links = x }; judged = judged }) none ∙ ap (λ (x : GraphValue). record { entry = bare_entry name g; judged = x }) (one_graph (graph_bytes behind) judged g s t) in
-    let added : GraphAdded old (record { entry = bare_entry name g; judged = g }) lines cells new = subst (λ (x : Last). GraphAdded old x lines cells new) bare a in
-    let is : entries_in new ≡ entries_in old ++ bare_entry name g ∷ [] = entries_are new (record { entry = bare_entry name g; judged = g }) added.is ∙ ap (λ x. x ++ bare_entry name g ∷ []) added.before in
-    graph_taken bytes behind left old new name g number next r t after (so_far_graph old new name g lines cells r.is_so_far named t.is_graph added ls cs (few_sums lines cells few small)) is after_end
+-- a graph that was read was put to those so far
+pub graph_read : (bytes behind left : List ℕ) (old new : SoFar) (last : Last) (lines cells number next : ℕ) → HasRead bytes old (graph_line last.entry.name ++ behind) number → graph_reason (entries_in old) last.entry.name ≡ None →
+    GraphText (graph_bytes behind) last.entry.graph → last ≡ bare_last last.entry.name last.entry.graph → GraphAdded old last lines cells new →
+    lines ≡ old.lines + length last.entry.graph.lines → cells ≡ old.cells + cell_count last.entry.graph → is_above lines cells ≡ false → left ≡ trace_bytes behind → next ≡ number + line_count last.entry.graph + 2 → HasRead bytes new left next
+graph_read bytes behind left old new last lines cells number next r named t bare a ls cs few after after_end =
+    let name : List ℕ = last.entry.name in
+    let g : GraphValue = last.entry.graph in
+    let added : GraphAdded old (bare_last name g) lines cells new = subst (λ (x : Last). GraphAdded old x lines cells new) bare a in
+    let is : entries_in new ≡ entries_in old ++ bare_entry name g ∷ [] = entries_are new (bare_last name g) added.is ∙ ap (λ x. x ++ bare_entry name g ∷ []) added.before in
+    graph_taken bytes behind left old new name g number next r t after (so_far_graph old new name g lines cells r.is_so_far named t.is_graph added ls cs few) is after_end
 
 -- a line of a graph's text is refused
 pub refused_inside : (bytes behind : List ℕ) (old : SoFar) (name : List ℕ) (number : ℕ) (e : ReadRefusal) → HasRead bytes old (graph_line name ++ behind) number → graph_reason (entries_in old) name ≡ None → IsRefusedBehind (graph_bytes behind) number e → IsRefusal bytes e
@@ -249,12 +252,8 @@ refused_inside bytes behind old name number (refusals.Line n w) r named h = inr 
 refused_inside bytes behind old name number refusals.NoMemory r named h = tt
 
 -- a sum is passed with the last line of a graph's text
-many_sums : (lines cells : ℕ) → (8191 < lines) ⊎ ((lines ≤ 8191) × (4194304 < cells)) → is_above lines cells ≡ true
-many_sums lines cells (inl a) = or_left (nat_lt 8191 lines) (nat_lt 4194304 cells) (lt-ltb 8191 lines a)
-many_sums lines cells (inr b) = or_right (nat_lt 8191 lines) (nat_lt 4194304 cells) (lt-ltb 4194304 cells b.1)
-
 pub refused_sum : (bytes behind : List ℕ) (old : SoFar) (name : List ℕ) (g : GraphValue) (lines cells number at : ℕ) → HasRead bytes old (graph_line name ++ behind) number → graph_reason (entries_in old) name ≡ None → GraphText (graph_bytes behind) g →
-    lines ≡ old.lines + length g.lines → cells ≡ old.cells + cell_count g → (8191 < lines) ⊎ ((lines ≤ 8191) × (4194304 < cells)) → at ≡ number + line_count g + 1 → SessionFault bytes at why.Limit
+    lines ≡ old.lines + length g.lines → cells ≡ old.cells + cell_count g → is_above lines cells ≡ true → at ≡ number + line_count g + 1 → SessionFault bytes at why.Limit
 refused_sum bytes behind old name g lines cells number at r named t ls cs above at_end =
     let es : List Entry = entries_in old in
     let e : Entry = bare_entry name g in
@@ -269,7 +268,7 @@ refused_sum bytes behind old name g lines cells number at r named t ls cs above 
       named = named;
       is_graph = t.is_graph;
       begins = r.begins ∙ ap (λ x. session_head es ++ (graph_line name ++ x)) (both_parts behind ∙ ap (λ x. x ++ trace_bytes behind) t.is_text);
-      passed = ap (λ n. is_above n (all_cells (es ++ e ∷ []))) (sym all) ∙ (ap (λ n. is_above lines n) (sym every) ∙ many_sums lines cells above);
+      passed = ap (λ n. is_above n (all_cells (es ++ e ∷ []))) (sym all) ∙ (ap (λ n. is_above lines n) (sym every) ∙ above);
       number_is = (let n : number ≡ session_count es + 1 = r.number_is in omega arith);
       reason_is = refl;
     }))))
@@ -346,13 +345,6 @@ refused_rest bytes rest s number r there h some = inr (inr (inr (inr (record {
 -- a refusal of a line
 pub is_refusal : (bytes : List ℕ) (e : ReadRefusal) (n : ℕ) (w : Why) → e ≡ refusals.Line n w → SessionFault bytes n w → IsRefusal bytes e
 is_refusal bytes e n w is f = subst (IsRefusal bytes) (sym is) f
-
-pub refused_close : (bytes rest after : List ℕ) (s : SoFar) (number : ℕ) (e : ReadRefusal) → HasRead bytes s rest number → has_newline rest ≡ true → bytes_eq (first_line rest) (codes "close") ≡ true → after ≡ after_line rest →
-    (e ≢ refusals.NoMemory → (after ≢ []) × (e ≡ refusals.Line (number + 1) why.Rest)) → IsRefusal bytes e
-refused_close bytes rest after s number (refusals.Line n w) r there h is f =
-    let p = f (λ q. cc) in
-    is_refusal bytes (refusals.Line n w) (number + 1) why.Rest p.1 (refused_rest bytes rest s number r there h (λ q. p.0 (is ∙ q)))
-refused_close bytes rest after s number refusals.NoMemory r there h is f = tt
 
 -- the bytes up to the line before a graph's text
 pub at_graph : (bytes rest name : List ℕ) (s : SoFar) (ws : List (List ℕ)) (after : List ℕ) (number : ℕ) → HasRead bytes s rest number → IsLineAt rest ws after → is_graph_line ws ≡ true → name ≡ word_at ws 1 → HasRead bytes s (graph_line name ++ after) number
@@ -442,3 +434,33 @@ few_cells s r =
     let few : all_cells (entries_in s) ≤ 4194304 = ltb-false 4194304 (all_cells (entries_in s)) (or_parts (nat_lt 8191 (all_lines (entries_in s))) (nat_lt 4194304 (all_cells (entries_in s))) r.short).1 in
     let e : s.cells ≡ all_cells (entries_in s) = r.cells in
     omega arith
+
+-- a link can be counted in the last graph
+pub may_link : (old : SoFar) (last : Option Last) → IsSoFar old → old.last ≡ last → AllowsLink last
+may_link old None r is = tt
+may_link old (Some last) r is = few_links old last r is
+
+-- the reasons of a link after whatever graph is the last
+pub added_to : (old : SoFar) (last : Option Last) (l : Link) (b : Bool) → IsSoFar old → old.last ≡ last → is_named l ≡ true → names_op old.before.items l ≡ true → nat_lt old.lines 8191 ≡ b → last_reason old.before.items (last_entry old.last) l ≡ option_map_or (λ (x : Last). added_reason x l b) last (Some why.Unknown)
+added_to old None l b r is named names room = ap (λ o. last_reason old.before.items (last_entry o) l) is ∙ no_last old.before.items l named
+added_to old (Some last) l b r is named names room = added_is old last l b r is named names room
+
+-- a link was put to the last graph
+pub link_put : (old new : SoFar) (last : Option Last) (l : Link) (b : Bool) → old.last ≡ last → LastAdded last l b new.last → option_map_or (λ (x : Last). added_reason x l b) last (Some why.Unknown) ≡ None
+    → new.before.items ≡ old.before.items → new.judged.items ≡ old.judged.items → new.lines ≡ old.lines + 1 → new.cells ≡ old.cells → LinkAdded old l new
+link_put old new None l b is a none before judged lines cells = absurd (none-some why.Unknown (sym none))
+link_put old new (Some last) l b is a none before judged lines cells =
+    let p = a none in
+    record { last_old = last; last_new = p.0; was = is; is = p.1; adds = p.2; before = before; judged = judged; lines = lines; cells = cells }
+
+-- the graphs are those of the text where it was read to its end
+pub text_of_both : {A V : Type 0} (bytes : List ℕ) (s : SoFar) (r : Result A ReadRefusal) (e : Result V ReadRefusal) (items : V → List Entry) → OnOk r (SessionText bytes (entries_in s)) → IfOk e (λ v. items v ≡ entries_in s)
+    → IfOk (result_and r e) (λ v. SessionText bytes (items v))
+text_of_both bytes s (Ok x) (Ok v) items text all = subst (SessionText bytes) (sym all) text
+text_of_both bytes s (Ok x) (Err w) items text all = tt
+text_of_both bytes s (Err w) e items text all = tt
+
+pub refusal_of_both : {A V : Type 0} (bytes : List ℕ) (r : Result A ReadRefusal) (e : Result V ReadRefusal) → IfErr r (IsRefusal bytes) → IfErr e (λ w. w ≡ refusals.NoMemory) → IfErr (result_and r e) (IsRefusal bytes)
+refusal_of_both bytes (Ok x) (Ok v) refused wants = tt
+refusal_of_both bytes (Ok x) (Err w) refused wants = subst (IsRefusal bytes) (sym wants) tt
+refusal_of_both bytes (Err w) e refused wants = refused

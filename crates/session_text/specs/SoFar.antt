@@ -1,20 +1,22 @@
 -- What a reader keeps of the graphs and links so far.
-use Rattle.std.specs.Prelude.{◌≡◌, ℕ, ◌+◌, Bool, true, false, cond, List, [], ◌∷◌, ◌++◌, map, Option, Some, None, codes}
+use Rattle.std.specs.Prelude.{◌≡◌, ℕ, ◌+◌, ◌<◌, length, Bool, true, false, cond, List, [], ◌∷◌, ◌++◌, map, Option, Some, None, codes}
 use Rattle.std.specs.Str.{bytes_eq}
 use Rattle.graph_model.specs.declared.graph.why.Why.{Why}
 use Rattle.graph_model.specs.declared.graph.why.Why.TheVariants as why
 use Rattle.graph_model.specs.graph.Graph.{GraphValue}
 use Rattle.graph_reader.specs.declared.ReadRefusal.{ReadRefusal}
 use Rattle.graph_reader.specs.declared.ReadRefusal.TheVariants as refusals
+use Rattle.graph_reader.specs.Text.{GraphText}
 use Rattle.graph_reader.specs.Words.{pieces}
 use Rattle.graph_reader.specs.FirstFault.{has_newline, first_line, or_else, FirstFault}
 use Rattle.graph_reader.specs.Reading.{after_line}
+use Rattle.realm_audit.specs.Parts.{graph_bytes, trace_bytes}
 use Rattle.session_text.specs.declared.entry.Entry.{Entry}
 use Rattle.session_text.specs.declared.entry.Link.{Link}
 use Rattle.session_text.specs.declared.so_far.Last.{Last}
 use Rattle.session_text.specs.declared.so_far.SoFar.{SoFar}
 use Rattle.session_text.specs.Session.{graph_line, session_head, session_count}
-use Rattle.session_text.specs.Fits.{AreEntries, with_trigger, with_triggers, with_link, trigger_reason, all_lines, all_cells, is_large}
+use Rattle.session_text.specs.Fits.{bare_entry, AreEntries, with_trigger, with_triggers, with_link, trigger_reason, all_lines, all_cells, is_large}
 use Rattle.session_text.specs.FirstFault.{with_last, IsRefusal}
 
 abbrev pub last_entry : Option Last → Option Entry
@@ -85,6 +87,16 @@ pub record AddsLink (old : Last) (l : Link) (new : Last) : Type 0 where
   pub entry : new.entry ≡ with_link old.entry l
   pub judged : new.judged ≡ with_trigger old.judged l
 
+-- a link can be counted in the last graph
+abbrev pub AllowsLink : Option Last → Type 0
+AllowsLink None = Unit {0}
+AllowsLink (Some l) = length l.entry.links < 4294967295
+
+-- one link more in the last graph, where no reason refuses it
+abbrev pub LastAdded : Option Last → Link → Bool → Option Last → Type 0
+LastAdded None l has_room new = Unit {0}
+LastAdded (Some old) l has_room new = added_reason old l has_room ≡ None → (last : Last) × (new ≡ Some last) × AddsLink old l last
+
 -- one link more in the last graph of those so far
 pub record LinkAdded (old : SoFar) (l : Link) (new : SoFar) : Type 0 where
   pub last_old : Last
@@ -111,3 +123,15 @@ GraphTaken old name behind number new left next = (bytes : List ℕ) → HasRead
 
 abbrev pub GraphRefused : SoFar → List ℕ → List ℕ → ℕ → ReadRefusal → Type 0
 GraphRefused old name behind number e = (bytes : List ℕ) → HasRead bytes old (graph_line name ++ behind) number → IsRefusal bytes e
+
+-- a graph as it is read, before any link
+abbrev pub bare_last : List ℕ → GraphValue → Last
+bare_last name g = record { entry = bare_entry name g; judged = g }
+
+-- the same where the text of that graph was read, behind which these bytes are left
+abbrev pub LastTaken : SoFar → Last → List ℕ → ℕ → SoFar → List ℕ → ℕ → Type 0
+LastTaken old last after number new left next = (bytes behind : List ℕ) → HasRead bytes old (graph_line last.entry.name ++ behind) number → GraphText (graph_bytes behind) last.entry.graph → after ≡ trace_bytes behind
+    → HasRead bytes new left next
+
+abbrev pub LastRefused : SoFar → Last → ℕ → ReadRefusal → Type 0
+LastRefused old last number e = (bytes behind : List ℕ) → HasRead bytes old (graph_line last.entry.name ++ behind) number → GraphText (graph_bytes behind) last.entry.graph → IsRefusal bytes e

@@ -1,15 +1,14 @@
 //! Reading a session from its text.
 
-ghost use Rattle.std.specs.Prelude.{◌≡◌, ◌≢◌, ◌+◌, ◌<◌, ◌≤◌, [], length, IfOk, IfErr};
+ghost use Rattle.std.specs.Prelude.{◌≡◌, ◌≢◌, ◌+◌, ◌<◌, ◌≤◌, [], length, IfOk, IfErr, OnOk};
 ghost use Rattle.graph_model.specs.declared.graph.limits.TheConstants.{MAX_TEXT};
 ghost use Rattle.session_text.specs.Fits.{SessionText};
 ghost use Rattle.session_text.specs.FirstFault.{IsRefusal};
-ghost use Rattle.session_text.specs.SoFar.{entries_in};
+ghost use Rattle.session_text.specs.SoFar.{entries_in, IsSoFar};
 
 use crate::cuts::cut;
 use crate::entry::Entry;
 use crate::so_far::{SoFar, refused};
-use crate::words::split_into;
 use graph_model::why::Why;
 use graph_reader::ReadRefusal;
 use std::alloc::Global;
@@ -22,37 +21,44 @@ pub fn read_session(alloc: Global, bytes: &[u8]) -> Result<Vec<Entry>, ReadRefus
     ensures text { IfOk result (λ v. SessionText bytes.now v.items) }
     ensures refusal { IfErr result (λ e. IsRefusal bytes.now e) }
 {
+    let mut so_far = SoFar::new(alloc);
+    let read = read_lines(alloc, &mut so_far, bytes);
+    let entries = so_far.into_entries();
+    read.and(entries)
+}
+
+/// Reads all lines, where no graph was read.
+fn read_lines(alloc: Global, so_far: &mut SoFar, bytes: &[u8]) -> Result<(), ReadRefusal>
+    requires short { length bytes.now ≤ MAX_TEXT }
+    requires none { entries_in so_far.old ≡ [] }
+    requires is_so_far { IsSoFar so_far.old }
+    ensures text { OnOk result (SessionText bytes.now (entries_in so_far.new)) }
+    ensures refusal { IfErr result (λ e. IsRefusal bytes.now e) }
+{
     let Some(mut rest) = bytes.strip_prefix(b"realm-session 1\n".as_slice()) else {
         return Err(refused(1, Why::Header));
     };
-    let mut so_far = SoFar::new(alloc);
     let mut words = Vec::new(alloc);
     let mut number: u32 = 2;
     while let Some((line, after)) = cut(rest, b'\n') {
         if line == b"close".as_slice() {
-            return close(so_far, after, number);
+            return close(after, number);
         }
-        let Ok(()) = split_into(&mut words, line) else {
-            return Err(ReadRefusal::NoMemory);
-        };
-        let next = so_far.take_line(alloc, words.as_slice(), after, number)?;
+        let next = so_far.read_line(alloc, &mut words, line, after, number)?;
         rest = next.bytes;
         number = next.number;
     }
     Err(refused(number, Why::Missing))
 }
 
-/// The graphs, where nothing follows the closing line of this number.
-fn close(so_far: SoFar, after: &[u8], number: u32) -> Result<Vec<Entry>, ReadRefusal>
+/// Nothing follows the closing line of this number, else that is refused.
+fn close(after: &[u8], number: u32) -> Result<(), ReadRefusal>
     requires few { number < u32.MAX }
-    ensures closed { IfOk result (λ v. (v.items ≡ entries_in so_far) × (after.now ≡ [])) }
-    ensures rest { IfErr result (λ e. (e ≢ ReadRefusal.NoMemory) → (after.now ≢ []) × (e ≡ ReadRefusal.Line (number + 1) Why.Rest)) }
+    ensures closed { OnOk result (after.now ≡ []) }
+    ensures rest { IfErr result (λ e. (after.now ≢ []) × (e ≡ ReadRefusal.Line (number + 1) Why.Rest)) }
 {
     if !after.is_empty() {
         return Err(refused(number + 1, Why::Rest));
     }
-    match so_far.into_entries() {
-        Ok(entries) => Ok(entries),
-        Err(_) => Err(ReadRefusal::NoMemory),
-    }
+    Ok(())
 }

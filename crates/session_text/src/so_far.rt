@@ -3,20 +3,22 @@
 ghost use Rattle.basics.specs.Words.{contents};
 ghost use Rattle.std.specs.Prelude.{◌≡◌, ℕ, ◌+◌, ◌*◌, ◌<◌, ◌≤◌, ◌++◌, ◌∷◌, [], List, None, Some, true, false, length, IfOk, IfErr, OnOk, MatchResult};
 ghost use Rattle.std.specs.List.{list_any};
+ghost use Rattle.std.specs.Option.{option_map_or};
 ghost use Rattle.std.specs.Str.{bytes_eq};
 ghost use Rattle.graph_model.specs.graph.Fits.{cell_count};
 ghost use Rattle.graph_model.specs.declared.graph.limits.TheConstants.{MAX_TEXT, MAX_CELLS};
 ghost use Rattle.graph_reader.specs.Text.{GraphText};
-ghost use Rattle.graph_reader.specs.FirstFault.{is_empty};
-ghost use Rattle.session_text.specs.Fits.{bare_entry, graph_reason, is_above};
+ghost use Rattle.graph_reader.specs.FirstFault.{is_empty, line_count};
+ghost use Rattle.graph_reader.specs.Words.{pieces};
+ghost use Rattle.session_text.specs.Fits.{graph_reason, is_above};
 ghost use Rattle.session_text.specs.FirstFault.{word_at, is_graph_line, is_link_line, link_of, last_reason};
 ghost use Rattle.session_text.specs.declared.limits.TheConstants.{MAX_SESSION_LINES};
-ghost use Rattle.session_text.specs.SoFar.{last_entry, entries_in, judged_in, IsSoFar, ReadsOn, RefusedThere, IsRefusedBehind, added_reason, AddsLink, LinkAdded, GraphAdded, GraphTaken, GraphRefused};
+ghost use Rattle.session_text.specs.SoFar.{last_entry, entries_in, judged_in, IsSoFar, ReadsOn, RefusedThere, IsRefusedBehind, added_reason, AddsLink, LinkAdded, GraphAdded, GraphTaken, GraphRefused, bare_last, LastTaken, LastRefused, AllowsLink, LastAdded};
 
 use crate::entry::{Entry, Link};
 use crate::limits::{MAX_GRAPHS, MAX_SESSION_LINES};
 use crate::links::{add_trigger, link_of, names_op};
-use crate::words::{any_empty, is_graph_line, is_link_line, word};
+use crate::words::{any_empty, is_graph_line, is_link_line, split_into, word};
 use graph_model::graph::Graph;
 use graph_model::limits::MAX_CELLS;
 use graph_model::lists::ItemList;
@@ -66,6 +68,22 @@ pub(crate) struct SoFar {
     pub(crate) cells: u64,
 }
 
+/// How many operation lines, links and cells there are with one graph more.
+#[derive(Clone, Copy)]
+pub(crate) struct Sums {
+    pub(crate) lines: u32,
+    pub(crate) cells: u64,
+}
+
+impl Sums {
+    /// Whether one of them is too large.
+    fn is_above(&self) -> bool
+        ensures { result ≡ is_above self.now.lines self.now.cells }
+    {
+        self.lines > MAX_SESSION_LINES || self.cells > MAX_CELLS
+    }
+}
+
 /// What follows lines that were read, and the number of the line there.
 #[derive(Drop)]
 pub(crate) struct Rest<'a> {
@@ -88,8 +106,30 @@ impl SoFar {
         }
     }
 
+    /// Reads this line, which is not the closing one, and the text of a graph behind it where it is the
+    /// line before one. The list of words serves one line after the other.
+    pub(crate) fn read_line<'a>(
+        &mut self,
+        alloc: Global,
+        words: &mut Vec<&'a [u8]>,
+        line: &'a [u8],
+        after: &'a [u8],
+        number: u32,
+    ) -> Result<Rest<'a>, ReadRefusal>
+        requires so_far { IsSoFar self.old }
+        requires few { number + length after.now ≤ 3 * MAX_TEXT }
+        ensures taken { IfOk result (λ x. ReadsOn self.old (pieces 32 line.now) after.now number self.new x.bytes.now x.number) }
+        ensures shorter { IfOk result (λ x. length x.bytes.now ≤ length after.now) }
+        ensures refused { IfErr result (λ e. RefusedThere self.old (pieces 32 line.now) after.now number e) }
+    {
+        match split_into(words, line) {
+            Ok(()) => self.take_line(alloc, words.as_slice(), after, number),
+            Err(NoMemory) => Err(ReadRefusal::NoMemory),
+        }
+    }
+
     /// Reads a line of these words, and the text of a graph behind it where it is the line before one.
-    pub(crate) fn take_line<'a>(
+    fn take_line<'a>(
         &mut self,
         alloc: Global,
         words: &[&[u8]],
@@ -216,59 +256,88 @@ impl SoFar {
         ensures refused { IfErr result (λ e. GraphRefused self.old name bytes.now number e) }
     {
         let (front, back) = parts(bytes);
-        let graph = read_behind(alloc, front, number)?;
-        // The links are judged in a graph of their own, in which each of them is a trigger.
-        let judged = read_behind(alloc, front, number)?;
-        let end = number + graph.decls() + graph.lines() + 2;
-        let lines = self.lines + graph.lines();
-        let cells = self.cells + cell_count(&graph);
-        if lines > MAX_SESSION_LINES || cells > MAX_CELLS {
-            return Err(refused(end, Why::Limit));
+        match read_last(alloc, name, front, number) {
+            Ok(last) => self.take_last(last, back, number),
+            Err(refusal) => Err(refusal),
         }
-        let links = ItemList::new(alloc);
-        let last = Last {
-            entry: Entry { name, graph, links },
-            judged,
-        };
-        let Ok(()) = self.add_graph(last, lines, cells) else {
+    }
+
+    /// Puts a graph at the end whose text was read behind a line of this number. It is refused where a
+    /// sum is too large with it.
+    fn take_last<'a>(
+        &mut self,
+        last: Last,
+        after: &'a [u8],
+        number: u32,
+    ) -> Result<Rest<'a>, ReadRefusal>
+        requires so_far { IsSoFar self.old }
+        requires few { number + line_count last.entry.graph + 4 ≤ 3 * MAX_TEXT }
+        requires named { graph_reason (entries_in self.old) last.entry.name ≡ None }
+        requires bare { last ≡ bare_last last.entry.name last.entry.graph }
+        ensures taken { IfOk result (λ x. LastTaken self.old last after.now number self.new x.bytes.now x.number) }
+        ensures rest { IfOk result (λ x. x.bytes.now ≡ after.now) }
+        ensures refused { IfErr result (λ e. LastRefused self.old last number e) }
+    {
+        let end = end_line(&last.entry.graph, number);
+        let sums = self.sums_with(&last.entry.graph);
+        let Ok(()) = self.add_graph(last, sums) else {
             return Err(ReadRefusal::NoMemory);
         };
+        if sums.is_above() {
+            return Err(refused(end, Why::Limit));
+        }
         Ok(Rest {
-            bytes: back,
+            bytes: after,
             number: end + 1,
         })
     }
 
-    /// Puts a graph at the end, with which there are so many lines and cells.
-    fn add_graph(&mut self, last: Last, lines: u32, cells: u64) -> Result<(), NoMemory>
-        ensures { OnOk result (GraphAdded self.old last lines cells self.new) }
+    /// The sums with a graph more.
+    fn sums_with(&self, graph: &Graph) -> Sums
+        requires { IsSoFar self.now }
+        ensures lines { result.lines ≡ self.now.lines + length graph.now.lines }
+        ensures cells { result.cells ≡ self.now.cells + cell_count graph.now }
     {
-        self.close_last()?;
-        self.last = Some(last);
-        self.lines = lines;
-        self.cells = cells;
-        Ok(())
+        let lines = self.lines + graph.lines();
+        let cells = self.cells + cell_count(graph);
+        Sums { lines, cells }
     }
 
-    /// Puts the last graph to those before it.
-    fn close_last(&mut self) -> Result<(), NoMemory>
-        ensures before { OnOk result (self.new.before.items ≡ entries_in self.old) }
-        ensures judged { OnOk result (self.new.judged.items ≡ judged_in self.old) }
-        ensures last { OnOk result (self.new.last ≡ None) }
+    /// Puts a graph at the end, with which there are these sums.
+    fn add_graph(&mut self, last: Last, sums: Sums) -> Result<(), NoMemory>
+        ensures { OnOk result (GraphAdded self.old last sums.lines sums.cells self.new) }
     {
-        let Some(last) = self.last.take() else {
-            return Ok(());
-        };
-        push(&mut self.judged, last.judged)?;
-        push(&mut self.before, last.entry)
+        self.lines = sums.lines;
+        self.cells = sums.cells;
+        match self.last.replace(last) {
+            Some(previous) => self.add_before(previous),
+            None => Ok(()),
+        }
+    }
+
+    /// Puts a graph to those before the last one.
+    fn add_before(&mut self, graph: Last) -> Result<(), NoMemory>
+        ensures before { OnOk result (self.new.before.items ≡ self.old.before.items ++ graph.entry ∷ []) }
+        ensures judged { OnOk result (self.new.judged.items ≡ self.old.judged.items ++ graph.judged ∷ []) }
+        ensures last { self.new.last ≡ self.old.last }
+        ensures lines { self.new.lines ≡ self.old.lines }
+        ensures cells { self.new.cells ≡ self.old.cells }
+    {
+        let judged = push(&mut self.judged, graph.judged);
+        let before = push(&mut self.before, graph.entry);
+        judged.and(before)
     }
 
     /// All graphs.
-    pub(crate) fn into_entries(mut self) -> Result<Vec<Entry>, NoMemory>
-        ensures { IfOk result (λ v. v.items ≡ entries_in self) }
+    pub(crate) fn into_entries(self) -> Result<Vec<Entry>, ReadRefusal>
+        ensures all { IfOk result (λ v. v.items ≡ entries_in self) }
+        ensures wants { IfErr result (λ e. e ≡ ReadRefusal.NoMemory) }
     {
-        self.close_last()?;
-        Ok(self.before)
+        let SoFar { before, last, .. } = self;
+        match last {
+            Some(last) => with_entry(before, last.entry),
+            None => Ok(before),
+        }
     }
 
     /// Puts the link of these words at the end of the last graph's, where it fits, else the first
@@ -285,15 +354,24 @@ impl SoFar {
         if !names_op(self.before.as_slice(), self.judged.as_slice(), &link) {
             return Ok(Some(Why::Unknown));
         }
-        let Some(mut last) = self.last.take() else {
-            return Ok(Some(Why::Unknown));
-        };
-        let why = last.add_link(link, self.lines < MAX_SESSION_LINES)?;
-        self.last = Some(last);
+        let why = add_link(&mut self.last, link, self.lines < MAX_SESSION_LINES)?;
         if why.is_none() {
             self.lines += 1;
         }
         Ok(why)
+    }
+}
+
+/// Puts a link at the end of the last graph's, where there is one and the link fits, else the first
+/// reason that refuses it.
+fn add_link(last: &mut Option<Last>, link: Link, has_room: bool) -> Result<Option<Why>, NoMemory>
+    requires few { AllowsLink last.old }
+    ensures fault { IfOk result (λ why. why ≡ option_map_or (λ l. added_reason l link has_room) last.old (Some Why.Unknown)) }
+    ensures added { OnOk result (LastAdded last.old link has_room last.new) }
+{
+    match last {
+        Some(last) => last.add_link(link, has_room),
+        None => Ok(Some(Why::Unknown)),
     }
 }
 
@@ -309,6 +387,50 @@ pub(crate) fn refused(number: u32, why: Why) -> ReadRefusal
     ensures { result ≡ ReadRefusal.Line number why }
 {
     ReadRefusal::Line { number, why }
+}
+
+/// These graphs, and one more at the end.
+fn with_entry(mut entries: Vec<Entry>, entry: Entry) -> Result<Vec<Entry>, ReadRefusal>
+    ensures all { IfOk result (λ v. v.items ≡ entries.items ++ entry ∷ []) }
+    ensures wants { IfErr result (λ e. e ≡ ReadRefusal.NoMemory) }
+{
+    match push(&mut entries, entry) {
+        Ok(()) => Ok(entries),
+        Err(NoMemory) => Err(ReadRefusal::NoMemory),
+    }
+}
+
+/// The number of the last line of a graph's text that stands behind a line of this number.
+fn end_line(graph: &Graph, number: u32) -> u32
+    requires { number + line_count graph.now + 4 ≤ 3 * MAX_TEXT }
+    ensures { result ≡ number + line_count graph.now + 1 }
+{
+    number + graph.decls() + graph.lines() + 2
+}
+
+/// The graph of this name whose text the bytes are that stand behind a line of this number. It is read
+/// twice: its links are judged in a graph of their own, in which each of them is a trigger.
+fn read_last(alloc: Global, name: Name, bytes: &[u8], line: u32) -> Result<Last, ReadRefusal>
+    requires few { line + length bytes.now ≤ 3 * MAX_TEXT }
+    ensures text { IfOk result (λ last. GraphText bytes.now last.entry.graph) }
+    ensures name { IfOk result (λ last. last.entry.name ≡ name) }
+    ensures bare { IfOk result (λ last. last ≡ bare_last last.entry.name last.entry.graph) }
+    ensures refused { IfErr result (λ e. IsRefusedBehind bytes.now line e) }
+{
+    let graph = read_behind(alloc, bytes, line)?;
+    match read_behind(alloc, bytes, line) {
+        Ok(judged) => {
+            let links = ItemList::new(alloc);
+            Ok(Last {
+                entry: Entry { name, graph, links },
+                judged,
+            })
+        }
+        Err(refusal) => {
+            drop(graph);
+            Err(refusal)
+        }
+    }
 }
 
 /// The graph whose text the bytes are that stand behind a line of this number.

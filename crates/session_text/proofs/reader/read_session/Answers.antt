@@ -1,66 +1,16 @@
-use Rattle.std.proofs.Common.{◌≡◌, ℕ, ◌<◌, Bool, true, List, length, ap, sym, ◌∙◌, arith}
-use Rattle.std.specs.Prelude.{codes, bytes_eq}
-use Rattle.std.proofs.lemmas.Result.{IfOk-weaker, IfErr-weaker, err_from_is_err_and}
-use Rattle.basics.specs.Words.{contents}
-use Rattle.graph_model.specs.declared.graph.why.Why.TheVariants as why
-use Rattle.graph_reader.specs.FirstFault.{first_line}
-use Rattle.graph_reader.specs.Reading.{after_line}
-use Rattle.graph_reader.proofs.LineSteps.{fewer_bytes}
-use Rattle.session_text.proofs.Steps.{few_lines, read_all, refused_close, missing_line, is_refusal, line_at, begin_read}
-use Rattle.realm_audit.proofs.Fronts.{stripped}
+use Rattle.std.proofs.Common.{sym, subst}
+use Rattle.std.specs.Prelude.{IfOk, IfErr}
+use Rattle.session_text.specs.Fits.{SessionText}
+use Rattle.session_text.specs.FirstFault.{IsRefusal}
+use Rattle.session_text.proofs.Steps.{text_of_both, refusal_of_both}
 use Rattle.session_text.proofs.reader.read_session.Goals as goal
 
--- what the comparison with `close` says of the first line
-is_close : (line first : List ℕ) (b : Bool) → b ≡ bytes_eq line (codes "close") → line ≡ first → bytes_eq first (codes "close") ≡ b
-is_close line first b h e = ap (λ x. bytes_eq x (codes "close")) (sym e) ∙ sym h
-
-pub loop-line-init : goal.loop-line-init
-loop-line-init c = begin_read c.args.bytes.now c.in-Some.rest.now c.new-so_far.result c.new-so_far.ensures.none c.new-so_far.ensures.is_so_far
-    (stripped c.args.bytes.now c.as_slice.result.now (codes "realm-session 1\n") c.in-Some.rest c.as_slice.ensures c.in-Some.ensures.cases)
-
-pub close-requires : goal.close-requires
-close-requires c = let n = few_lines c.args.bytes.now c.loop-line.rest.now c.loop-line.so_far c.loop-line.number c.loop-line.invariant in omega (arith, n, c.requires.short)
-
-pub returns-then-eq-clause-text : goal.returns-then-eq-clause-text
-returns-then-eq-clause-text c =
-    let d = c.in-Some-cut.ensures in
-    let s : bytes_eq (first_line c.loop-line.rest.now) (codes "close") ≡ true = is_close c.in-Some-cut.line.now (first_line c.loop-line.rest.now) true (c.if-eq.ensures ∙ ap (bytes_eq c.in-Some-cut.line.now) c.as_slice-in-Some-cut.ensures) d.front_is in
-    IfOk-weaker c.close.result _ _ (λ v h. read_all c.args.bytes.now c.loop-line.rest.now c.loop-line.so_far v.items c.loop-line.number c.loop-line.invariant c.requires.short d.there s (sym d.back_is ∙ h.1) h.0) c.close.ensures.closed
-
-pub returns-then-eq-clause-refusal : goal.returns-then-eq-clause-refusal
-returns-then-eq-clause-refusal c =
-    let d = c.in-Some-cut.ensures in
-    let s : bytes_eq (first_line c.loop-line.rest.now) (codes "close") ≡ true = is_close c.in-Some-cut.line.now (first_line c.loop-line.rest.now) true (c.if-eq.ensures ∙ ap (bytes_eq c.in-Some-cut.line.now) c.as_slice-in-Some-cut.ensures) d.front_is in
-    IfErr-weaker c.close.result _ _ (λ e h. refused_close c.args.bytes.now c.loop-line.rest.now c.in-Some-cut.after.now c.loop-line.so_far c.loop-line.number e c.loop-line.invariant d.there s d.back_is h) c.close.ensures.rest
-
-pub take_line-requires-clause-so_far : goal.take_line-requires-clause-so_far
-take_line-requires-clause-so_far c = c.loop-line.invariant.is_so_far
-
-pub take_line-requires-clause-few : goal.take_line-requires-clause-few
-take_line-requires-clause-few c =
-    let d = c.in-Some-cut.ensures in
-    let n = few_lines c.args.bytes.now c.loop-line.rest.now c.loop-line.so_far c.loop-line.number c.loop-line.invariant in
-    let l : length (after_line c.loop-line.rest.now) < length c.loop-line.rest.now = fewer_bytes c.loop-line.rest.now d.there in
-    let e : length c.in-Some-cut.after.now ≡ length (after_line c.loop-line.rest.now) = ap length d.back_is in
-    omega (arith, n, l, e, c.requires.short)
-
-pub returns-in_err-next-clause-refusal : goal.returns-in_err-next-clause-refusal
-returns-in_err-next-clause-refusal c =
-    let p = err_from_is_err_and c.from_residual.result c.from_residual.ensures.1 in
-    let refused = c.in_err-next.ensures.refused c.args.bytes.now c.loop-line.rest.now c.loop-line.invariant (line_at c.loop-line.rest.now c.in-Some-cut.line.now c.in-Some-cut.after.now (contents c.as_slice-in-Some-cut-2.result.now) c.in-Some-cut.ensures
-    (ap (bytes_eq c.in-Some-cut.line.now) (sym c.as_slice-in-Some-cut.ensures) ∙ sym c.if-eq.ensures) (ap contents c.as_slice-in-Some-cut-2.ensures.value ∙ c.in-Ok.ensures)) in
-    rw (p.1, p.2) refused
-
-pub loop-line-smaller : goal.loop-line-smaller
-loop-line-smaller c =
-    let d = c.in-Some-cut.ensures in
-    let l : length (after_line c.loop-line.rest.now) < length c.loop-line.rest.now = fewer_bytes c.loop-line.rest.now d.there in
-    let e : length c.in-Some-cut.after.now ≡ length (after_line c.loop-line.rest.now) = ap length d.back_is in
-    omega (arith, l, e, c.in_ok-next.ensures.shorter)
-
-pub loop-line-preserved : goal.loop-line-preserved
-loop-line-preserved c = c.in_ok-next.ensures.taken c.args.bytes.now c.loop-line.rest.now c.loop-line.invariant (line_at c.loop-line.rest.now c.in-Some-cut.line.now c.in-Some-cut.after.now (contents c.as_slice-in-Some-cut-2.result.now) c.in-Some-cut.ensures
-    (ap (bytes_eq c.in-Some-cut.line.now) (sym c.as_slice-in-Some-cut.ensures) ∙ sym c.if-eq.ensures) (ap contents c.as_slice-in-Some-cut-2.ensures.value ∙ c.in-Ok.ensures))
+pub returns-clause-text : goal.returns-clause-text
+returns-clause-text c =
+    subst (λ r. IfOk r (λ v. SessionText c.args.bytes.now v.items)) (sym c.and.ensures)
+    (text_of_both c.args.bytes.now c.read_lines-read.new.so_far c.read_lines-read.result c.into_entries-entries.result (λ v. v.items) c.read_lines-read.ensures.text c.into_entries-entries.ensures.all)
 
 pub returns-clause-refusal : goal.returns-clause-refusal
-returns-clause-refusal c = is_refusal c.args.bytes.now c.refused-2.result c.loop-line.number why.Missing c.refused-2.ensures (missing_line c.args.bytes.now c.loop-line.rest.now c.loop-line.so_far c.loop-line.number c.loop-line.invariant c.in_default-cut.ensures)
+returns-clause-refusal c =
+    subst (λ r. IfErr r (IsRefusal c.args.bytes.now)) (sym c.and.ensures)
+    (refusal_of_both c.args.bytes.now c.read_lines-read.result c.into_entries-entries.result c.read_lines-read.ensures.refusal c.into_entries-entries.ensures.wants)

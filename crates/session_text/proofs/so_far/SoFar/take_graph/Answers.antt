@@ -1,27 +1,42 @@
-use Rattle.std.proofs.Common.{◌+◌, ◌≤◌, ap, subst, arith}
-use Rattle.graph_model.specs.declared.graph.why.Why.TheVariants as why
-use Rattle.graph_reader.specs.Text.{GraphText}
-use Rattle.session_text.proofs.Steps.{graph_read, refused_sum, is_refusal, few_cells}
+use Rattle.std.proofs.Common.{◌≡◌, ℕ, ◌+◌, ◌≤◌, List, ◌++◌, length, length-take, length-drop, ap, sym, ◌∙◌, subst, arith}
+use Rattle.std.proofs.lemmas.Result.{IfOk-weaker, IfErr-weaker}
+use Rattle.graph_reader.specs.FirstFault.{line_count}
+use Rattle.graph_reader.specs.Text.{text, GraphText}
+use Rattle.realm_audit.specs.Parts.{before_end, graph_bytes, trace_bytes}
+use Rattle.session_text.specs.Session.{graph_line}
+use Rattle.session_text.specs.Fits.{graph_reason}
+use Rattle.session_text.specs.SoFar.{entries_in, HasRead, IsRefusedBehind}
+use Rattle.session_text.proofs.Steps.{long_graph, refused_inside}
 use Rattle.session_text.proofs.so_far.SoFar.take_graph.Goals as goal
 
-pub overflow_add-cells : goal.overflow_add-cells
-overflow_add-cells c = let few : c.args.self.now.cells ≤ 4194304 = few_cells c.args.self.now c.requires.so_far in omega (arith, few, c.cell_count.ensures.few)
+pub take_last-requires-clause-few : goal.take_last-requires-clause-few
+take_last-requires-clause-few c =
+    let b = c.args.bytes.now in
+    let g = c.in-Ok.last.entry.graph in
+    let long : line_count g + 4 ≤ length (text g) = long_graph g in
+    let whole : length (graph_bytes b) ≡ length (text g) = ap length (sym c.parts.ensures.graph ∙ c.in-Ok.ensures.text.is_text) in
+    let part : length (graph_bytes b) ≤ length b = omega (arith, length-take (before_end b + 4) b) in
+    omega (arith, long, whole, part, c.requires.few)
 
-pub returns-then-lines-gt-MAX_SESSION_LINES-clause-refused : goal.returns-then-lines-gt-MAX_SESSION_LINES-clause-refused
-returns-then-lines-gt-MAX_SESSION_LINES-clause-refused c = λ bytes r.
-    let s = c.args.self.now in
-    let g = c.in_ok-graph.graph in
-    is_refusal bytes c.refused.result (c.args.number + c.decls.result + c.lines.result + 2) why.Limit c.refused.ensures
-    (refused_sum bytes c.args.bytes.now s c.args.name g (s.lines + c.lines-2.result) (s.cells + c.cell_count.result) c.args.number (c.args.number + c.decls.result + c.lines.result + 2) r c.requires.named
-    (subst (λ b. GraphText b g) c.parts.ensures.graph c.in_ok-graph.ensures.text) (ap (λ n. s.lines + n) c.lines-2.ensures.number) (ap (λ n. s.cells + n) c.cell_count.ensures.cells)
-    c.then-lines-gt-MAX_SESSION_LINES.either (omega (arith, c.decls.ensures.number, c.lines.ensures.number)))
+pub take_last-requires-clause-named : goal.take_last-requires-clause-named
+take_last-requires-clause-named c = ap (graph_reason (entries_in c.args.self.now)) c.in-Ok.ensures.name ∙ c.requires.named
 
-pub returns-clause-taken : goal.returns-clause-taken
-returns-clause-taken c = λ bytes r.
-    let s = c.args.self.now in
-    let g = c.in_ok-graph.graph in
-    graph_read bytes c.args.bytes.now c.parts.result.1.now s c.add_graph.new.self c.args.name g c.in_ok-judged.judged c.new-links.result (s.lines + c.lines-2.result) (s.cells + c.cell_count.result) c.args.number
-    (c.args.number + c.decls.result + c.lines.result + 2 + 1) r c.requires.named
-    (subst (λ b. GraphText b g) c.parts.ensures.graph c.in_ok-graph.ensures.text) (subst (λ b. GraphText b c.in_ok-judged.judged) c.parts.ensures.graph c.in_ok-judged.ensures.text) c.new-links.ensures c.in-Ok.ensures
-    (ap (λ n. s.lines + n) c.lines-2.ensures.number) (ap (λ n. s.cells + n) c.cell_count.ensures.cells)
-    c.if-lines-gt-MAX_SESSION_LINES.false c.if-cells-gt-MAX_CELLS.false c.parts.ensures.trace (omega (arith, c.decls.ensures.number, c.lines.ensures.number))
+pub returns-in-Ok-clause-taken : goal.returns-in-Ok-clause-taken
+returns-in-Ok-clause-taken c = IfOk-weaker c.take_last.result _ _ (λ x taken bytes r.
+    taken bytes c.args.bytes.now (subst (λ n. HasRead bytes c.args.self.now (graph_line n ++ c.args.bytes.now) c.args.number) (sym c.in-Ok.ensures.name) r)
+    (subst (λ b. GraphText b c.in-Ok.last.entry.graph) c.parts.ensures.graph c.in-Ok.ensures.text) c.parts.ensures.trace) c.take_last.ensures.taken
+
+pub returns-in-Ok-clause-shorter : goal.returns-in-Ok-clause-shorter
+returns-in-Ok-clause-shorter c =
+    let b = c.args.bytes.now in
+    let left : length (trace_bytes b) ≤ length b = omega (arith, length-drop (before_end b + 4) b) in
+    IfOk-weaker c.take_last.result _ _ (λ x rest. subst (λ xs. length xs ≤ length b) (sym (rest ∙ c.parts.ensures.trace)) left) c.take_last.ensures.rest
+
+pub returns-in-Ok-clause-refused : goal.returns-in-Ok-clause-refused
+returns-in-Ok-clause-refused c = IfErr-weaker c.take_last.result _ _ (λ e refused bytes r.
+    refused bytes c.args.bytes.now (subst (λ n. HasRead bytes c.args.self.now (graph_line n ++ c.args.bytes.now) c.args.number) (sym c.in-Ok.ensures.name) r)
+    (subst (λ b. GraphText b c.in-Ok.last.entry.graph) c.parts.ensures.graph c.in-Ok.ensures.text)) c.take_last.ensures.refused
+
+pub returns-in-Err-clause-refused : goal.returns-in-Err-clause-refused
+returns-in-Err-clause-refused c = λ bytes r.
+    refused_inside bytes c.args.bytes.now c.args.self.now c.args.name c.args.number c.in-Err.refusal r c.requires.named (subst (λ b. IsRefusedBehind b c.args.number c.in-Err.refusal) c.parts.ensures.graph c.in-Err.ensures.refused)

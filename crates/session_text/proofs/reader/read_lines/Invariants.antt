@@ -1,6 +1,6 @@
 use Rattle.std.proofs.Common.{length}
 use Rattle.session_text.specs.SoFar.{HasRead}
-use Rattle.session_text.proofs.reader.read_session.Given as goal
+use Rattle.session_text.proofs.reader.read_lines.Given as goal
 
 abbrev pub invariant-loop-line : goal.invariant-loop-line
 invariant-loop-line l = HasRead l.fn.bytes l.so_far l.rest l.number
