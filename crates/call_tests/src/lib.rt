@@ -1,24 +1,31 @@
-//! Tests of the crates below the run, by public calls alone. It has no code of its own, so that its
-//! tests are proved once, and those crates are proved without them.
+//! Tests of calls that no row of `row_runner` makes, by public calls alone: of the crates below the run, of what explains
+//! a graph, and of the command line; and each call that takes memory. It has no code of its own, so that its tests are
+//! proved once, and those crates are proved without them.
 #![tactic(auto)]
 
 #[cfg(test)]
-mod effect_tests;
+mod audit_memory_tests;
 #[cfg(test)]
-mod event_tests;
+mod explain_memory_tests;
 #[cfg(test)]
-mod event_thread_tests;
+mod flow_memory_tests;
+#[cfg(test)]
+mod graph_memory_tests;
 #[cfg(test)]
 mod graph_tests;
 #[cfg(test)]
 mod io_tests;
 #[cfg(test)]
-mod memory_tests;
+mod path_tests;
 #[cfg(test)]
-mod reader_tests;
+mod race_tests;
+#[cfg(test)]
+mod reach_tests;
+#[cfg(test)]
+mod session_memory_tests;
 #[cfg(test)]
 mod space_tests;
 #[cfg(test)]
-mod table_tests;
+mod timeline_memory_tests;
 #[cfg(test)]
 mod word_tests;

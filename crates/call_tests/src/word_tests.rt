@@ -1,4 +1,4 @@
-//! Command lines and what they ask for.
+//! Command lines, what they ask for, and what is said of a word that is refused.
 
 use command_line::request::{Action, Engine, HintKind, Request};
 use command_line::{WordsFault, read_words, refusal};
@@ -106,15 +106,6 @@ fn takes_options(rt: HostRuntime) -> Result<(), Fail> {
         ),
     ] {
         assert_eq!(rt; request(rt.alloc(), line)?, Ok(wanted));
-    }
-    Ok(())
-}
-
-// more are refused in `realm_rows`
-#[test]
-fn refuses_words(rt: HostRuntime) -> Result<(), Fail> {
-    for line in ["realm", "realm walk", "realm run --workers 9"] {
-        assert_eq!(rt; request(rt.alloc(), line)?, Err(WordsFault::Usage));
     }
     Ok(())
 }

@@ -1,9 +1,0 @@
-use Rattle.gen_events.specs.Seats.{Keeps}
-use Rattle.gen_events.specs.Views.{lists, IsAt}
-use Rattle.call_tests.proofs.event_tests.answers.Given as goal
-
-abbrev pub invariant-loop-handle : goal.invariant-loop-handle
-invariant-loop-handle l = record {
-  at : IsAt l.events l.seat;
-  kept : Keeps (lists l.fn.seat) (lists l.seat);
-}

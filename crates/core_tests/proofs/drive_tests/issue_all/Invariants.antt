@@ -1,5 +1,0 @@
-use Rattle.run_core.specs.WhatIsOut.{SameOut}
-use Rattle.core_tests.proofs.drive_tests.issue_all.Given as goal
-
-abbrev pub invariant-loop-turn : goal.invariant-loop-turn
-invariant-loop-turn l = SameOut l.initial.core l.core

@@ -1,0 +1,4 @@
+pub mod AskedHandles
+pub mod Graphs
+pub mod Growing
+pub mod SameParts

@@ -1,0 +1,9 @@
+use Rattle.gen_events.specs.Seats.{Keeps}
+use Rattle.gen_events.specs.Views.{lists, IsAt}
+use Rattle.event_tests.proofs.shared_thread_tests.agree.Given as goal
+
+abbrev pub invariant-loop-handle : goal.invariant-loop-handle
+invariant-loop-handle l = record {
+  at : IsAt l.events l.seat;
+  kept : Keeps (lists l.fn.seat) (lists l.seat);
+}

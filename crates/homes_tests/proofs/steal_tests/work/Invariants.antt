@@ -1,5 +1,0 @@
-use Rattle.home_queues.specs.Hints.{IsSame}
-use Rattle.homes_tests.proofs.steal_tests.work.Given as goal
-
-abbrev pub invariant-loop-turn : goal.invariant-loop-turn
-invariant-loop-turn g l = IsSame l.initial.part l.part

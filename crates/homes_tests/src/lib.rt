@@ -1,8 +1,0 @@
-//! Tests of hints with a deque for each worker, by public calls alone. It has no code of its own, so that its
-//! tests are proved once, and the crates below are proved without them.
-#![tactic(auto)]
-
-#[cfg(test)]
-mod memory_tests;
-#[cfg(test)]
-mod steal_tests;

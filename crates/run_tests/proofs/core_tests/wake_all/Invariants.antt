@@ -1,0 +1,5 @@
+use Rattle.run_core.specs.WhatIsOut.{SameOut}
+use Rattle.run_tests.proofs.core_tests.wake_all.Given as goal
+
+abbrev pub invariant-loop-turn : goal.invariant-loop-turn
+invariant-loop-turn l = SameOut l.initial.core l.core

@@ -1,0 +1,5 @@
+use Rattle.run_words.proofs.Rejoining.{all_at_first}
+use Rattle.run_tests.proofs.prepared.prepared.Goals as goal
+
+pub returns-clause-all : goal.returns-clause-all
+returns-clause-all c = all_at_first _ c.in_ok-prepare.ensures.first

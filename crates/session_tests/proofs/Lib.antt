@@ -1,2 +1,0 @@
-pub mod AskedHandles
-pub mod Graphs

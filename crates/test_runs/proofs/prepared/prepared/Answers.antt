@@ -1,5 +1,0 @@
-use Rattle.run_words.proofs.Rejoining.{all_at_first}
-use Rattle.test_runs.proofs.prepared.prepared.Goals as goal
-
-pub returns-clause-all : goal.returns-clause-all
-returns-clause-all c = all_at_first _ c.in_ok-prepare.ensures.first

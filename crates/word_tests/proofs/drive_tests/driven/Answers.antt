@@ -1,5 +1,0 @@
-use Rattle.run_words.proofs.Rejoining.{all_still}
-use Rattle.word_tests.proofs.drive_tests.driven.Goals as goal
-
-pub closed-requires-clause-all : goal.closed-requires-clause-all
-closed-requires-clause-all c = all_still c.in_ok-words.seat c.drive-ended.new.seat c.in_ok-words.ensures.all c.drive-ended.ensures.back
