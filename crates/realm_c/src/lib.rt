@@ -13,8 +13,6 @@ mod plan;
 mod reading;
 mod running;
 mod status;
-#[cfg(test)]
-mod tests;
 mod text_sink;
 mod token;
 mod upgrade;

@@ -10,6 +10,4 @@ mod owner;
 mod parts;
 mod place;
 mod status;
-#[cfg(test)]
-mod tests;
 mod token;

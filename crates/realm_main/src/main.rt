@@ -98,38 +98,3 @@ fn main(rt: HostRuntime) -> ExitCode {
     };
     ExitCode::from(status.number())
 }
-
-#[cfg(test)]
-mod tests {
-    use super::*;
-    use std::test::Fail;
-
-    #[test]
-    fn says_what_failed(rt: HostRuntime) -> Result<(), Fail> {
-        for (status, line) in [
-            (Status::Done, None),
-            (
-                Status::Usage,
-                Some(
-                    "usage: realm run|check|eval|make|upgrade|audit|timeline|session [OPTIONS] < INPUT",
-                ),
-            ),
-            (Status::Unread, None),
-            (Status::Unfit, None),
-            (Status::Slots, None),
-            (
-                Status::ReadFault,
-                Some("realm: the standard input can't be read"),
-            ),
-            (
-                Status::WriteFault,
-                Some("realm: the standard output can't be written"),
-            ),
-            (Status::NoMemory, Some("realm: out of memory")),
-            (Status::TooLong, None),
-        ] {
-            assert_eq!(rt; message(status).unwrap_or(""), line.unwrap_or(""));
-        }
-        Ok(())
-    }
-}
