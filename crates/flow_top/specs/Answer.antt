@@ -36,6 +36,33 @@ pub record IsLengthFault (bytes : List ℕ) (commute : Bool) (number : ℕ) (rea
   pub number_is : number ≡ length flow.decls + length flow.lines + 2
   pub reason_is : reason ≡ why.Limit
 
+-- these bytes are the text of the graph of a flow, which means it
+pub record AnswersFlow (flow : GraphValue) (commute : Bool) (out : List ℕ) : Type 0 where
+  pub out_is : GraphText out (written flow commute)
+  pub means : MeansFlow flow commute (written flow commute)
+
+-- the graph of a flow passes a limit with a line of it, or its text is too long with its closing line
+pub record IsLineOver (flow : GraphValue) (commute : Bool) (number : ℕ) (reason : Why) : Type 0 where
+  pub line : ℕ
+  pub over : IsFirstOver flow commute line
+  pub number_is : number ≡ length flow.decls + line + 2
+  pub reason_is : reason ≡ why.Limit
+
+pub record IsEndOver (flow : GraphValue) (commute : Bool) (number : ℕ) (reason : Why) : Type 0 where
+  pub within : (j : ℕ) → j < length flow.lines → is_over flow commute j ≡ false
+  pub too_long : MAX_TEXT < length (text (written flow commute))
+  pub number_is : number ≡ length flow.decls + length flow.lines + 2
+  pub reason_is : reason ≡ why.Limit
+
+abbrev pub IsFaultOfFlow : GraphValue → Bool → FlowFault → Type 0
+IsFaultOfFlow flow commute (fault.Line number reason) = IsLineOver flow commute number reason ⊎ IsEndOver flow commute number reason
+IsFaultOfFlow flow commute fault.NoMemory = Unit {0}
+
+-- the text of a graph that ends with this line is too long
+abbrev pub IsTooLong : GraphValue → ℕ → FlowFault → Type 0
+IsTooLong g end (fault.Line number reason) = (MAX_TEXT < length (text g)) × (number ≡ end) × (reason ≡ why.Limit)
+IsTooLong g end fault.NoMemory = Unit {0}
+
 abbrev pub IsAnswerFault : List ℕ → Bool → FlowFault → Type 0
 IsAnswerFault bytes commute (fault.Line number reason) = IsReadFault bytes (fault.Line number reason) ⊎ (IsLimitFault bytes commute number reason ⊎ IsLengthFault bytes commute number reason)
 IsAnswerFault bytes commute fault.NoMemory = Unit {0}

@@ -2,11 +2,15 @@
 
 ghost use Rattle.std.specs.Prelude.{◌≡◌, ◌+◌, ◌<◌, ◌^◌, IfOk, IfErr, length, nat_lt};
 ghost use Rattle.graph_model.specs.declared.graph.limits.TheConstants.{MAX_TEXT as most_bytes};
-ghost use Rattle.flow_top.specs.Answer.{IsFlowAnswer, IsAnswerFault};
+ghost use Rattle.graph_model.specs.graph.Fits.{IsGraph};
+ghost use Rattle.graph_reader.specs.Text.{GraphText};
+ghost use Rattle.task_flow.specs.Flow.{IsFlow};
+ghost use Rattle.flow_top.specs.Answer.{IsFlowAnswer, IsAnswerFault, AnswersFlow, IsTooLong, IsFaultOfFlow};
 
 use crate::FlowFault;
 use crate::reading::read_flow;
 use crate::writing::graph_text;
+use graph_model::graph::Graph;
 use graph_model::limits::MAX_TEXT;
 use graph_model::why::Why;
 use std::alloc::Global;
@@ -20,27 +24,47 @@ pub fn answer_flow(alloc: Global, bytes: &[u8], commute: bool) -> Result<Vec<u8>
     ensures answer { IfOk result (λ v. IsFlowAnswer bytes.now commute v.items) }
     ensures refusal { IfErr result (λ e. IsAnswerFault bytes.now commute e) }
 {
-    let flow = read_flow(alloc, bytes)?;
-    let decls = flow.decls();
-    let lines = flow.lines();
-    let graph = match make_graph(alloc, &flow, commute) {
-        Ok(graph) => graph,
-        Err(FlowRefusal::Limit { line }) => {
-            return Err(FlowFault::Line {
-                number: number_in_text(decls, line),
-                why: Why::Limit,
-            });
-        }
-        Err(FlowRefusal::NoMemory) => return Err(FlowFault::NoMemory),
-    };
-    let text = graph_text(alloc, &graph)?;
+    match read_flow(alloc, bytes) {
+        Ok(flow) => answer_read(alloc, &flow, commute),
+        Err(fault) => Err(fault),
+    }
+}
+
+/// The text of the graph of a flow.
+fn answer_read(alloc: Global, flow: &Graph, commute: bool) -> Result<Vec<u8>, FlowFault>
+    requires flow { IsFlow flow.now }
+    requires few { length flow.now.decls + length flow.now.lines + 2 < 2 ^ 32 }
+    ensures answer { IfOk result (λ v. AnswersFlow flow.now commute v.items) }
+    ensures refusal { IfErr result (λ e. IsFaultOfFlow flow.now commute e) }
+{
+    match make_graph(alloc, flow, commute) {
+        Ok(graph) => text_within(alloc, &graph, number_in_text(flow.decls(), flow.lines())),
+        Err(FlowRefusal::Limit { line }) => Err(at_limit(number_in_text(flow.decls(), line))),
+        Err(FlowRefusal::NoMemory) => Err(FlowFault::NoMemory),
+    }
+}
+
+/// The text of a graph. Where it is too long the line of this number is refused, with which it ends.
+fn text_within(alloc: Global, graph: &Graph, end: u32) -> Result<Vec<u8>, FlowFault>
+    requires { IsGraph graph.now }
+    ensures text { IfOk result (λ v. GraphText v.items graph.now) }
+    ensures refusal { IfErr result (IsTooLong graph.now end) }
+{
+    let text = graph_text(alloc, graph)?;
     if is_too_long(text.as_slice()) {
-        return Err(FlowFault::Line {
-            number: number_in_text(decls, lines),
-            why: Why::Limit,
-        });
+        return Err(at_limit(end));
     }
     Ok(text)
+}
+
+/// A limit is passed with the line of this number.
+fn at_limit(number: u32) -> FlowFault
+    ensures { result ≡ FlowFault.Line number Why.Limit }
+{
+    FlowFault::Line {
+        number,
+        why: Why::Limit,
+    }
 }
 
 /// The number in the text, from 1, of the line of this number below so many declarations, from 0.

@@ -44,11 +44,19 @@ fn never_phases(alloc: Global, graph: &Graph, words: usize) -> Result<Vec<u64>, 
 {
     let mut row = empty_row(alloc, words)?;
     for line in 0..graph.lines() {
-        if is_phase(graph, line) && graph.never_comes(line) {
+        if is_never_phase(graph, line) {
             add_line(&mut row, line);
         }
     }
     Ok(row)
+}
+
+/// Whether a line is a phase that never comes.
+fn is_never_phase(graph: &Graph, line: u32) -> bool
+    requires { line < length graph.now.lines }
+    ensures { result ≡ (line_passes is_phase graph.now line && never_comes graph.now line) }
+{
+    is_phase(graph, line) && graph.never_comes(line)
 }
 
 /// Whether a line is a phase.

@@ -1,7 +1,9 @@
 //! The graph of a flow.
 
 ghost use Rattle.std.specs.Prelude.{◌≡◌, ℕ, ◌<◌, false, length, IfOk, OnOk, IfErr};
+ghost use Rattle.graph_model.specs.graph.Fits.{IsGraph};
 ghost use Rattle.task_flow.specs.Flow.{IsFlow};
+ghost use Rattle.task_flow.specs.Making.{IsMaking, AreSections};
 ghost use Rattle.task_flow.specs.Written.{MeansFlow};
 ghost use Rattle.task_flow.specs.Construction.{is_over, written};
 ghost use Rattle.task_flow.specs.Refusal.{IsFlowRefusal};
@@ -48,19 +50,57 @@ pub fn make_graph(alloc: Global, flow: &Graph, commute: bool) -> Result<Graph, F
     means_by_sources();
     points_are_listed();
     let sections = Sections::new(alloc, flow, commute)?;
-    let mut making = match Making::new(alloc, flow, &sections) {
-        Ok(making) => making,
-        Err(Stop::Limit) => return Err(FlowRefusal::Limit { line: 0 }),
-        Err(Stop::NoMemory) => return Err(FlowRefusal::NoMemory),
-    };
+    match Making::new(alloc, flow, &sections) {
+        Ok(making) => with_lines(alloc, flow, making, &sections),
+        Err(Stop::Limit) => Err(FlowRefusal::Limit { line: 0 }),
+        Err(Stop::NoMemory) => Err(FlowRefusal::NoMemory),
+    }
+}
+
+/// The graph with all lines of the flow, from that with none of them.
+fn with_lines(
+    alloc: Global,
+    flow: &Graph,
+    mut making: Making,
+    sections: &Sections,
+) -> Result<Graph, FlowRefusal>
+    requires flow { IsFlow flow.now }
+    requires sections { AreSections flow.now sections.now }
+    requires none { IsMaking flow.now sections.now.commute 0 making }
+    ensures graph { IfOk result (λ g. (g ≡ written flow.now sections.now.commute) × IsGraph g) }
+    ensures within { OnOk result ((j : ℕ) → j < length flow.now.lines → is_over flow.now sections.now.commute j ≡ false) }
+    ensures refusal { IfErr result (λ e. IsFlowRefusal flow.now sections.now.commute e) }
+{
+    match add_lines(alloc, flow, &mut making, sections) {
+        Ok(()) => {
+            let _ = making.graph.lines();
+            Ok(making.graph)
+        }
+        Err(refusal) => Err(refusal),
+    }
+}
+
+/// Puts all lines of the flow, and the lines that go with them, into the graph.
+fn add_lines(
+    alloc: Global,
+    flow: &Graph,
+    making: &mut Making,
+    sections: &Sections,
+) -> Result<(), FlowRefusal>
+    requires flow { IsFlow flow.now }
+    requires sections { AreSections flow.now sections.now }
+    requires none { IsMaking flow.now sections.now.commute 0 making.old }
+    ensures all { OnOk result (IsMaking flow.now sections.now.commute (length flow.now.lines) making.new) }
+    ensures within { OnOk result ((j : ℕ) → j < length flow.now.lines → is_over flow.now sections.now.commute j ≡ false) }
+    ensures refusal { IfErr result (λ e. IsFlowRefusal flow.now sections.now.commute e) }
+{
     let mut rows = Rows::new(alloc, flow)?;
     for line in 0..flow.lines() {
-        match making.add_next(alloc, flow, &mut rows, &sections) {
+        match making.add_next(alloc, flow, &mut rows, sections) {
             Ok(()) => {}
             Err(Stop::Limit) => return Err(FlowRefusal::Limit { line }),
             Err(Stop::NoMemory) => return Err(FlowRefusal::NoMemory),
         }
     }
-    let _ = making.graph.lines();
-    Ok(making.graph)
+    Ok(())
 }

@@ -2,7 +2,7 @@ use Rattle.std.proofs.Common.{◌≡◌, ◌<◌, ℕ, false, length}
 use Rattle.task_flow.specs.Construction.{is_over}
 use Rattle.task_flow.specs.Rows.{IsKept}
 use Rattle.task_flow.specs.Making.{IsMaking}
-use Rattle.task_flow.proofs.make.make_graph.Given as goal
+use Rattle.task_flow.proofs.make.add_lines.Given as goal
 
 abbrev pub invariant-loop-line : goal.invariant-loop-line
 invariant-loop-line l = record {

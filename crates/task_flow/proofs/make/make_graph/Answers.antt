@@ -1,6 +1,8 @@
-use Rattle.std.proofs.Common.{◌≡◌, true, Err, length, ◌∙◌, ap, subst, arith}
+use Rattle.std.proofs.Common.{◌≡◌, ℕ, ◌<◌, true, false, Err, length, ◌∙◌, ap, subst, arith}
+use Rattle.std.specs.Prelude.{OnOk, IfErr}
+use Rattle.std.proofs.lemmas.Result.{IfOk-weaker}
 use Rattle.task_flow.specs.Construction.{written, is_over}
-use Rattle.task_flow.proofs.AddSteps.{making_done}
+use Rattle.task_flow.specs.Refusal.{IsFlowRefusal}
 use Rattle.task_flow.proofs.Writing.{written_means}
 use Rattle.task_flow.proofs.make.make_graph.Goals as goal
 
@@ -12,21 +14,15 @@ returns-in-Err-Limit-clause-refusal c =
       before = λ i h. absurd (omega arith);
     }
 
-pub loop-line-init : goal.loop-line-init
-loop-line-init c = record {
-  rows = c.in_ok-rows.ensures.kept c.in_ok-sections.sections.commute;
-  count = ap length c.in_ok-rows.ensures.none;
-  making = c.in-Ok.ensures.ok;
-  within = λ j h. absurd (omega arith);
-}
+pub returns-in-Ok-clause-graph : goal.returns-in-Ok-clause-graph
+returns-in-Ok-clause-graph c = IfOk-weaker c.with_lines.result _ _ (λ g h. h.0 ∙ ap (written c.args.flow.now) c.in_ok-sections.ensures.commute) c.with_lines.ensures.graph
 
-pub returns-clause-graph : goal.returns-clause-graph
-returns-clause-graph c =
-    let all : c.loop-line.line ≡ length c.args.flow.now.lines = (let n = c.lines-line-end.ensures.number in let t = c.loop-line-test.false in let e = c.loop-line.auto.line-end in omega (arith, n, t, e)) in
-    making_done c.args.flow.now c.in_ok-sections.sections.commute c.loop-line.line c.loop-line.making c.loop-line.invariant.making all ∙ ap (written c.args.flow.now) c.in_ok-sections.ensures.commute
+pub returns-in-Ok-clause-means : goal.returns-in-Ok-clause-means
+returns-in-Ok-clause-means c = IfOk-weaker c.with_lines.result _ _ (λ g h.
+    written_means c.means_by_sources.ensures c.points_are_listed.ensures c.args.flow.now c.args.commute c.requires g (h.0 ∙ ap (written c.args.flow.now) c.in_ok-sections.ensures.commute) h.1) c.with_lines.ensures.graph
 
-pub returns-clause-means : goal.returns-clause-means
-returns-clause-means c =
-    let all : c.loop-line.line ≡ length c.args.flow.now.lines = (let n = c.lines-line-end.ensures.number in let t = c.loop-line-test.false in let e = c.loop-line.auto.line-end in omega (arith, n, t, e)) in
-    written_means c.means_by_sources.ensures c.points_are_listed.ensures c.args.flow.now c.args.commute c.requires c.loop-line.making.graph
-    (making_done c.args.flow.now c.in_ok-sections.sections.commute c.loop-line.line c.loop-line.making c.loop-line.invariant.making all ∙ ap (written c.args.flow.now) c.in_ok-sections.ensures.commute) c.lines.ensures.is_graph
+pub returns-in-Ok-clause-within : goal.returns-in-Ok-clause-within
+returns-in-Ok-clause-within c = subst (λ z. OnOk c.with_lines.result ((j : ℕ) → j < length c.args.flow.now.lines → is_over c.args.flow.now z j ≡ false)) c.in_ok-sections.ensures.commute c.with_lines.ensures.within
+
+pub returns-in-Ok-clause-refusal : goal.returns-in-Ok-clause-refusal
+returns-in-Ok-clause-refusal c = subst (λ z. IfErr c.with_lines.result (λ e. IsFlowRefusal c.args.flow.now z e)) c.in_ok-sections.ensures.commute c.with_lines.ensures.refusal
