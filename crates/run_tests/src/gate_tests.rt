@@ -88,12 +88,7 @@ const TWO_IOTAS: Meetings = Meetings {
         f = task iota a.x s 1\n\
         g = task iota a.y s 2\n\
         end\n",
-    output: "realm-report 1\n\
-        op f done triggered\n\
-        op g done triggered\n\
-        cells a.x 0..0 1\n\
-        cells a.y 0..0 2\n\
-        done\n",
+    output: "realm-report 1\nop f done triggered\nop g done triggered\ncells a.x 0..0 1\ncells a.y 0..0 2\ndone\n",
     first: 0,
     lines: 2,
 };
@@ -116,16 +111,8 @@ const THREE_WAITERS: Meetings = Meetings {
         h = task iota a.y s 2 on f\n\
         i = task iota a.z s 3 on f\n\
         end\n",
-    output: "realm-report 1\n\
-        op f done triggered\n\
-        op g done triggered\n\
-        op h done triggered\n\
-        op i done triggered\n\
-        cells a.w 0..0 7\n\
-        cells a.x 0..0 1\n\
-        cells a.y 0..0 2\n\
-        cells a.z 0..0 3\n\
-        done\n",
+    output: "realm-report 1\nop f done triggered\nop g done triggered\nop h done triggered\nop i done triggered\n\
+        cells a.w 0..0 7\ncells a.x 0..0 1\ncells a.y 0..0 2\ncells a.z 0..0 3\ndone\n",
     first: 1,
     lines: 3,
 };
@@ -233,33 +220,13 @@ fn traced(alloc: Global, passes: &Passes) -> Result<String, Fail> {
     Ok(text)
 }
 
-/// The report, and one of its traces. Each has as many bytes.
-const TRACED: &str = "realm-report 1\n\
-    op f done triggered\n\
-    op k faulted poisoned\n\
-    op c cancelled poisoned\n\
-    op m cancelled poisoned\n\
-    op n done triggered\n\
-    op g done triggered\n\
-    cells a.x 0..1 7 7\n\
-    cells a.y 0..1 9 9\n\
-    done\n\
-    realm-trace 1\n\
-    at f\n\
-    at k\n\
-    at c\n\
-    at m\n\
-    at n\n\
-    at g\n\
-    done\n";
-
 /// Whether each line passed the gate of a run with this command line once, in the order of its trace.
 fn passes_so<R: Threads + Wait + Sync + AllocGlobal>(rt: &R, command: &str) -> Result<bool, Fail> {
     let passes = Passes::none();
     let row = Row {
         command,
         text: FAULTY_PATHS,
-        output: TRACED,
+        output: FAULTY_PATHS_REPORT,
     };
     let (status, sink) = row.run(rt, &passes)?;
     let wanted = traced(rt.alloc(), &passes)?;

@@ -26,4 +26,6 @@ mod realm_memory_tests;
 #[cfg(test)]
 mod row;
 #[cfg(test)]
+mod turn_tests;
+#[cfg(test)]
 mod word_tests;

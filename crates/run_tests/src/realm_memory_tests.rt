@@ -100,8 +100,8 @@ fn other_actions(rt: HostRuntime) -> Result<(), Fail> {
     run_one(&rt, "audit", traced.as_str(), "lawful\n")
 }
 
-/// Two graphs, up to the last line of the second, which is the 17th.
-const TWO_GRAPHS: &str = "realm-session 1
+/// Two graphs; the second has links to an operation that faulted and to one that waits.
+const SESSION: &str = "realm-session 1
 graph one
 realm 1
 space s 0..0
@@ -118,23 +118,19 @@ v = user
 w = user
 f = fill a.x s 1 on v
 end
-";
-
-/// The links of the second graph: to an operation that faulted, and to one that waits.
-const LINKS: &str = "link c v one k
+link c v one k
 link d w one u
+close
 ";
 
-const REPORT_OF_ONE: &str = "graph one
+const SESSION_REPORT: &str = "graph one
 realm-report 1
 op f done triggered
 op k faulted poisoned
 op u waiting pending
 cells a.x 0..0 7
 done
-";
-
-const REPORT_OF_TWO: &str = "graph two
+graph two
 realm-report 1
 op v cancelled poisoned
 op w waiting pending
@@ -142,28 +138,25 @@ op f cancelled poisoned
 op c done triggered
 cells a.x 0..0 0
 done
-";
-
-const EVENTS: &str = "event one f triggered
+event one f triggered
 event one k poisoned
 event one u pending
 event two v poisoned
 event two w pending
 event two f poisoned
 event two c triggered
+done
 ";
 
 // graphs of a session, and their events
 #[test]
 fn sessions(rt: HostRuntime) -> Result<(), Fail> {
-    let text = format!(in rt.alloc(); "{TWO_GRAPHS}{LINKS}close\n")?;
-    let report = format!(in rt.alloc(); "{REPORT_OF_ONE}{REPORT_OF_TWO}{EVENTS}done\n")?;
     for command in [
         "session --workers 3 --engine words",
         "session --workers 3 --hints homes",
         "session --workers 3 --engine lock",
     ] {
-        run_one(&rt, command, text.as_str(), report.as_str())?;
+        run_one(&rt, command, SESSION, SESSION_REPORT)?;
     }
     Ok(())
 }

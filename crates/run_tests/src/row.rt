@@ -40,7 +40,7 @@ fn ended<R: Threads + Wait + Sync + AllocGlobal, G: Gate>(
 }
 
 impl Row<'_> {
-    /// How `realm` ends, whose workers pass this gate, and the sink that it wrote to, with room for the output.
+    /// How `realm` ends, whose workers pass this gate, and the sink that it wrote to, with room for a short trace too.
     pub(crate) fn run<R: Threads + Wait + Sync + AllocGlobal, G: Gate>(
         &self,
         rt: &R,
@@ -48,7 +48,8 @@ impl Row<'_> {
     ) -> Result<(Status, SureSink), Fail> {
         let words = words(rt.alloc(), self.command)?;
         let bytes = Vec::from_slice(rt.alloc(), self.text.as_bytes())?;
-        let sink = SureSink::new(vec![in rt.alloc(); 0u8; self.output.len()]?);
+        let room = self.output.len().saturating_add(64);
+        let sink = SureSink::new(vec![in rt.alloc(); 0u8; room]?);
         Ok(ended(rt, words.as_slice(), SureSource::new(bytes), sink, gate))
     }
 
