@@ -22,9 +22,9 @@ mod race_tests;
 #[cfg(test)]
 mod reach_tests;
 #[cfg(test)]
-mod session_memory_tests;
+mod reader_tests;
 #[cfg(test)]
-mod space_tests;
+mod session_memory_tests;
 #[cfg(test)]
 mod timeline_memory_tests;
 #[cfg(test)]

@@ -1,5 +1,5 @@
 //! Tests of what threads share and of who waits for whom, in chosen orders, by public calls alone: tables of events,
-//! sessions, hints with a deque for each worker, and workers that sleep. It has no code of its own, so that its tests
+//! sessions, hints with a deque for each worker, and workers that sleep; and of spaces. It has no code of its own, so that its tests
 //! are proved once, and the crates below are proved without them.
 #![tactic(auto)]
 
@@ -17,6 +17,8 @@ mod session_thread_tests;
 mod shared_tests;
 #[cfg(test)]
 mod shared_thread_tests;
+#[cfg(test)]
+mod space_tests;
 #[cfg(test)]
 mod steal_tests;
 #[cfg(test)]

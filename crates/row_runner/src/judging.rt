@@ -28,6 +28,13 @@ const ENGINES: [&str; 3] = [
     "--engine lock",
 ];
 
+/// The command line whose report a run has.
+const EVALUATION: Command<'static> = Command {
+    program: Program::Realm,
+    line: "realm eval",
+    each_engine: false,
+};
+
 /// No call fails.
 const SURE: Outside<'static> = Outside {
     piece: 65_536,
@@ -183,17 +190,16 @@ fn trace_in(output: &[u8]) -> Option<&[u8]> {
     None
 }
 
-/// Calls a program and has the trace that it writes audited, behind the same input; whether it is lawful.
-fn is_traced<R: Threads + Wait + Sync + AllocGlobal + Print>(
+/// Whether `realm audit` calls a trace of the input's graph lawful.
+fn is_lawful<R: Threads + Wait + Sync + AllocGlobal + Print>(
     rt: &R,
     tally: &mut Tally,
-    row: &Row,
-    call: &Call,
+    row: &str,
+    graph: &[u8],
+    trace: &[u8],
 ) -> Result<bool, Fault> {
-    let answer = call_over(rt, call, &SURE, ROOM)?;
-    tally.calls = tally.calls.saturating_add(1);
-    let mut input = Vec::from_slice(rt.alloc(), call.input)?;
-    input.extend_from_slice(trace_in(answer.sink.taken()).unwrap_or(&[]))?;
+    let mut input = Vec::from_slice(rt.alloc(), graph)?;
+    input.extend_from_slice(trace)?;
     let words = words_of(rt.alloc(), "realm audit", "")?;
     let audit = Call {
         program: Program::Realm,
@@ -204,7 +210,30 @@ fn is_traced<R: Threads + Wait + Sync + AllocGlobal + Print>(
         status: 0,
         output: Some(b"lawful\n"),
     };
-    compare(rt, tally, row.name, &audit, &SURE, &end)
+    compare(rt, tally, row, &audit, &SURE, &end)
+}
+
+/// Calls a program; whether it writes the report of the evaluation, and behind it a lawful trace.
+fn is_traced<R: Threads + Wait + Sync + AllocGlobal + Print>(
+    rt: &R,
+    tally: &mut Tally,
+    row: &Row,
+    call: &Call,
+) -> Result<bool, Fault> {
+    let answer = call_over(rt, call, &SURE, ROOM)?;
+    tally.calls = tally.calls.saturating_add(1);
+    let trace = trace_in(answer.sink.taken()).unwrap_or(&[]);
+    let mut wanted = output_of(rt, &EVALUATION, call.input)?.output;
+    wanted.extend_from_slice(trace)?;
+    let end = End {
+        status: row.status,
+        output: Some(wanted.as_slice()),
+    };
+    if !ended_so(&answer, &end) {
+        tell(rt, row.name, call, &end, &answer)?;
+        return Ok(false);
+    }
+    is_lawful(rt, tally, row.name, call.input, trace)
 }
 
 /// Calls a program with these words in all ways that the row asks for; whether each call ends so.
@@ -259,21 +288,30 @@ fn try_commands<R: Threads + Wait + Sync + AllocGlobal + Print>(
     Ok(true)
 }
 
+/// How a command line ends over an input, and what it writes.
+#[derive(Drop)]
+struct Written {
+    status: u8,
+    output: Vec<u8>,
+}
+
 /// What a command line writes over an input.
 fn output_of<R: Threads + Wait + Sync + AllocGlobal>(
     rt: &R,
-    alloc: Global,
     command: &Command,
     input: &[u8],
-) -> Result<Vec<u8>, Fault> {
-    let words = words_of(alloc, command.line, "")?;
+) -> Result<Written, Fault> {
+    let words = words_of(rt.alloc(), command.line, "")?;
     let call = Call {
         program: command.program,
         words: words.as_slice(),
         input,
     };
     let answer = call_over(rt, &call, &SURE, ROOM)?;
-    Ok(Vec::from_slice(alloc, answer.sink.taken())?)
+    Ok(Written {
+        status: answer.status,
+        output: Vec::from_slice(rt.alloc(), answer.sink.taken())?,
+    })
 }
 
 /// The same, as often as the row says.
@@ -301,8 +339,9 @@ pub(crate) fn try_row<R: Threads + Wait + Sync + AllocGlobal + Print>(
         Wanted::Bytes(bytes) => try_often(rt, tally, row, Some(bytes.as_slice())),
         Wanted::Any | Wanted::Traced => try_often(rt, tally, row, None),
         Wanted::Of(command) => {
-            let bytes = output_of(rt, rt.alloc(), command, row.input.as_slice())?;
-            try_often(rt, tally, row, Some(bytes.as_slice()))
+            let other = output_of(rt, command, row.input.as_slice())?;
+            let is_as_wanted = try_often(rt, tally, row, Some(other.output.as_slice()))?;
+            Ok(is_as_wanted && other.status == row.status)
         }
     }
 }

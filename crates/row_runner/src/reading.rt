@@ -77,17 +77,34 @@ fn take_text<'f>(
     }
 }
 
+/// Takes what is wanted of the output, where nothing was wanted before.
+fn set_output<'f>(row: &mut Row<'f>, wanted: Wanted<'f>, number: u32) -> Result<(), Fault> {
+    if !row.has_no_output() {
+        return Err(Fault::Line(number, "a second output"));
+    }
+    row.output = wanted;
+    Ok(())
+}
+
 /// Takes a line that says one thing by itself; whether it is one.
-fn take_phrase(row: &mut Row, text: &str) -> bool {
-    match text {
-        "output any" => row.output = Wanted::Any,
-        "output with a lawful trace" => row.output = Wanted::Traced,
+fn take_phrase(row: &mut Row, line: &FileLine) -> Result<bool, Fault> {
+    match line.text {
+        "output any" => set_output(row, Wanted::Any, line.number)?,
+        "output with a lawful trace" => set_output(row, Wanted::Traced, line.number)?,
         "each read fails" => row.each = Each::Read,
         "each write fails" => row.each = Each::Write,
         "each cut" => row.each = Each::Cut,
-        _ => return false,
+        _ => return Ok(false),
     }
-    true
+    Ok(true)
+}
+
+/// A number that is not 0.
+fn count_of(word: &str, number: u32) -> Result<u32, Fault> {
+    match number_of(word, number)? {
+        0 => Err(Fault::Line(number, "0 calls or bytes")),
+        count => Ok(count),
+    }
 }
 
 /// Takes a line of a keyword and what belongs to it; whether it is one.
@@ -100,19 +117,19 @@ fn take_keyword<'f>(row: &mut Row<'f>, line: &FileLine<'f>) -> Result<bool, Faul
     } else if let Some(words) = line.text.strip_prefix("each engine $ ") {
         row.commands.push(command(words, true, number)?)?;
     } else if let Some(words) = line.text.strip_prefix("output of $ ") {
-        row.output = Wanted::Of(command(words, false, number)?);
+        set_output(row, Wanted::Of(command(words, false, number)?), number)?;
     } else if let Some(word) = line.text.strip_prefix("status ") {
         row.status = status_of(word, number)?;
     } else if let Some(word) = line.text.strip_prefix("piece ") {
-        row.piece = number_of(word, number)? as usize;
+        row.piece = count_of(word, number)? as usize;
     } else if let Some(word) = line.text.strip_prefix("times ") {
-        row.times = number_of(word, number)?;
+        row.times = count_of(word, number)?;
     } else if let Some(words) = line.text.strip_prefix("failing reads ") {
         add_numbers(&mut row.failing_reads, words, number)?;
     } else if let Some(words) = line.text.strip_prefix("failing writes ") {
         add_numbers(&mut row.failing_writes, words, number)?;
     } else {
-        return Ok(take_phrase(row, line.text));
+        return take_phrase(row, line);
     }
     Ok(true)
 }
@@ -151,6 +168,12 @@ pub(crate) fn read_row<'f>(
     }
     if row.commands.is_empty() {
         return Err(Fault::Line(head.number, "a row without a command line"));
+    }
+    if !row.is_tried() {
+        return Err(Fault::Line(
+            head.number,
+            "a trace, or writes that fail, with an output that is not compared",
+        ));
     }
     Ok(row)
 }

@@ -77,4 +77,24 @@ impl<'f> Row<'f> {
             times: 1,
         }
     }
+
+    /// Whether nothing was said of the output.
+    pub(crate) fn has_no_output(&self) -> bool {
+        match &self.output {
+            Wanted::Bytes(bytes) => bytes.is_empty(),
+            _ => false,
+        }
+    }
+
+    /// Whether all that the row says is tried: failing calls want an output that is compared.
+    pub(crate) fn is_tried(&self) -> bool {
+        match (&self.output, self.each) {
+            (Wanted::Any, Each::Write) => false,
+            (Wanted::Traced, Each::Nothing) => {
+                self.failing_reads.is_empty() && self.failing_writes.is_empty()
+            }
+            (Wanted::Traced, _) => false,
+            _ => true,
+        }
+    }
 }
