@@ -108,6 +108,11 @@ def write_tree(prefix, libraries, more):
     before, names = listed(prefix), sorted([*made, *copied, *LINKS, SUMS, LIST])
     folders = folders_of(names)
     new_folders = [it for it in folders if it in before or not (prefix / it).is_dir()]
+    foreign = [at for at in names if at not in before and os.path.lexists(prefix / at)]
+    if foreign:
+        raise FileExistsError(0, "it stands there and no installation put it there: move it away, or install elsewhere", str(prefix / foreign[0]))
+    # (first, so that bin/uninstall knows what an installation wrote that was stopped)
+    put_list(prefix, {*names, *(it for it in before if not it.endswith("/"))}, {*new_folders, *(it for it in before if it.endswith("/"))})
     for at, text in made.items():
         put(prefix / at, lambda new, text=text: new.write_text(text))
     for at, origin in copied.items():
@@ -118,11 +123,17 @@ def write_tree(prefix, libraries, more):
         put(prefix / at, lambda new, to=to: new.symlink_to(to))
     sums = (f"{hashlib.sha256((prefix / at).read_bytes()).hexdigest()}  {at}\n" for at in sorted([*made, *copied]))
     put(prefix / SUMS, lambda new: new.write_text("".join(sums)))
-    put(prefix / LIST, lambda new: new.write_text("".join(f"{it}\n" for it in [*names, *new_folders])))
+    put_list(prefix, names, new_folders)
     for at in before - {*names, *folders}:
         if not at.endswith("/"):
             (prefix / at).unlink(missing_ok=True)
     return names
+
+
+def put_list(prefix, names, folders):
+    """Writes the list of what bin/uninstall takes away: files, and then folders, those within others first."""
+    lines = [*sorted(names), *sorted(folders, key=lambda it: (-it.count("/"), it))]
+    put(prefix / LIST, lambda new: new.write_text("".join(f"{it}\n" for it in lines)))
 
 
 def folders_of(names):

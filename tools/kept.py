@@ -1,62 +1,91 @@
 """What was proved is kept, each library under a sum of all that its proof rests on, for all checkouts of one user.
 
-It lies in $REALM_KEPT, else in realm-proved below $XDG_CACHE_HOME or ~/.cache. Whoever can write there is trusted as whoever can write to a
-checkout's own out/. `rt ci` proves from nothing and takes nothing from there.
+It lies in $REALM_KEPT, else in realm-proved below $XDG_CACHE_HOME or ~/.cache, else, where no file can be made there, in out/kept. Whoever can write
+there is trusted as whoever can write to a checkout's own out/. `rt ci` proves from nothing and takes nothing from there.
 """
 
 import os
 import pathlib
+import re
 import shutil
 import tempfile
 import time
 
-# So many libraries are kept, of 5 to 150 MiB each: those that were used last.
-MOST = 160
+from crates import ROOT
+
+# So many are kept, of 1 to 150 MiB each: those that were used last. One that was used within these seconds stays in any case.
+MOST, USED_NOW = 160, 3 * 3600
+# The names of what is kept, of what is being built, and of what is being removed. Nothing else in the folder is ever touched.
+NAME, PASSING = re.compile(r"[a-z0-9_]+-[0-9a-f]{32}"), re.compile(r"\.(new|old)-[a-z0-9_]+-\w+")
+
+
+def folder():
+    """The folder, which is made where it isn't there."""
+    cache = os.environ.get("XDG_CACHE_HOME") or os.path.expanduser("~/.cache")
+    for it in (os.environ.get("REALM_KEPT") or f"{cache}/realm-proved", ROOT / "out/kept"):
+        try:
+            os.makedirs(it, exist_ok=True)
+        except OSError:
+            continue
+        if os.access(it, os.W_OK):
+            return pathlib.Path(it)
+    raise SystemExit("realm: no folder can be written to in which what is proved could be kept: set REALM_KEPT")
 
 
 class Kept:
-    """The folder of proved libraries."""
+    """The folder of what was proved."""
 
     def __init__(self):
-        cache = os.environ.get("XDG_CACHE_HOME") or os.path.expanduser("~/.cache")
-        self.folder = pathlib.Path(os.environ.get("REALM_KEPT") or f"{cache}/realm-proved")
-        self.folder.mkdir(parents=True, exist_ok=True)
+        self.folder = folder()
+
+    def place(self, name, key):
+        """The folder that holds one crate's library, archive or program alone."""
+        return self.folder / f"{name}-{key[:32]}"
 
     def library(self, name, key):
-        """Where the library of this crate and sum lies. Its parent folder holds it alone."""
-        return self.folder / f"{name}-{key[:32]}" / f"{name}.rlib"
+        return self.place(name, key) / f"{name}.rlib"
 
-    def archive(self, name, key):
-        """The same of a static library, which is one file."""
-        return self.library(name, key).with_name(f"lib{name}.a")
-
-    def find(self, name, key):
-        """The library if it is kept, which now counts as used."""
-        return self.used(self.library(name, key))
-
-    def find_archive(self, name, key):
-        return self.used(self.archive(name, key))
-
-    def used(self, kept):
-        if not kept.exists():
+    def find(self, name, key, made=None):
+        """What was made of a crate, its library if nothing is said, where it is kept. It then counts as used."""
+        found = self.place(name, key) / (made or f"{name}.rlib")
+        try:
+            os.utime(found.parent)
+        except FileNotFoundError:
             return None
-        os.utime(kept.parent)
-        return kept
+        return found if found.exists() else None
 
     def room(self, name):
-        """A new folder on the same disk, for a library that is being built."""
-        return pathlib.Path(tempfile.mkdtemp(prefix=f".{name}-", dir=self.folder))
+        """A new folder on the same disk, for what is being built."""
+        return pathlib.Path(tempfile.mkdtemp(prefix=f".new-{name}-", dir=self.folder))
 
     def keep(self, name, key, room):
-        """Takes over a folder that holds the built library; where another build was faster, that one's stays."""
+        """Takes over a folder that holds what was built; where another build was faster, that one's stays."""
         try:
-            os.rename(room, self.library(name, key).parent)
+            os.rename(room, self.place(name, key))
         except OSError:
             shutil.rmtree(room, ignore_errors=True)
 
+    def entries(self, pattern):
+        """The names of the folder that are of this pattern, with the time of their last use, the latest first."""
+        found = []
+        for it in os.scandir(self.folder):
+            try:
+                if pattern.fullmatch(it.name):
+                    found.append((it.stat(follow_symlinks=False).st_mtime, it.name))
+            except FileNotFoundError:
+                pass
+        return sorted(found, reverse=True)
+
     def clear(self):
         """Removes what was not used for longest, and what a build that was stopped left."""
-        found = sorted(((it.stat().st_mtime, it) for it in self.folder.iterdir()), reverse=True)
-        left = [it for used, it in found if it.name.startswith(".") and used < time.time() - 86400]
-        for it in [*[it for _, it in found if not it.name.startswith(".")][MOST:], *left]:
-            shutil.rmtree(it, ignore_errors=True)
+        now = time.time()
+        for used, name in self.entries(NAME)[MOST:]:
+            # (renamed first, so that nobody finds a half of it)
+            if now - used > USED_NOW:
+                try:
+                    os.rename(self.folder / name, self.folder / f".old-{name}")
+                except OSError:
+                    pass
+        for used, name in self.entries(PASSING):
+            if name.startswith(".old-") or now - used > 24 * 3600:
+                shutil.rmtree(self.folder / name, ignore_errors=True)

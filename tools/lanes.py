@@ -1,8 +1,8 @@
 """Proofs side by side: as many at once as there are processors and as memory holds, those with the longest chain of others behind them first."""
 
 import os
+import sys
 import threading
-import time
 
 # Bytes that one proof may take: the most that was seen is 2.8 GB, of graph_model with three jobs.
 EACH = 2_600_000_000
@@ -66,7 +66,7 @@ def run(waits, seconds, work, told):
         try:
             well = work(task, jobs)
         except Exception as error:  # (a thread that dies would leave the others waiting)
-            print(f"{task}: {error}", flush=True)
+            print(f"{task}: {error}", file=sys.stderr, flush=True)
             well = False
         with turn:
             del running[task]

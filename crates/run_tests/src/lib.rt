@@ -1,6 +1,6 @@
-//! Tests of runs: graphs whose lines are attempted in chosen orders, workers with hints of many kinds, gates that look at
-//! the workers, and each call of a run that takes memory; by public calls alone. It has no code of its own, so that its
-//! tests are proved once, and the crates below are proved without them.
+//! Tests of runs: graphs whose lines are attempted in chosen orders, workers with hints of many kinds, and each call of an
+//! engine that takes memory; by public calls alone. It has no code of its own, so that its tests are proved once, and the
+//! crates below are proved without them.
 #![tactic(auto)]
 
 #[cfg(test)]
@@ -9,8 +9,6 @@ mod core_tests;
 mod engine_memory_tests;
 #[cfg(test)]
 mod free_tests;
-#[cfg(test)]
-mod gate_tests;
 #[cfg(test)]
 mod graphs;
 #[cfg(test)]
@@ -21,10 +19,6 @@ mod orders;
 mod outcomes;
 #[cfg(test)]
 mod prepared;
-#[cfg(test)]
-mod realm_memory_tests;
-#[cfg(test)]
-mod row;
 #[cfg(test)]
 mod turn_tests;
 #[cfg(test)]
