@@ -9,7 +9,7 @@ from lanes import processors
 LIST = ROOT / "bench/gate.seconds"
 # What a crate that is not listed takes, by its lines.
 EACH_CRATE, EACH_LINE = 20, 0.05
-TURNS = 2_000_000
+TURNS, TIMES = 400_000, 12
 
 
 def listed():
@@ -41,9 +41,9 @@ def loop(_=None):
 
 
 def machine_loop():
-    """The least of that loop where all processors do it at once, as they do while crates are proved."""
+    """The least of that loop where all processors do it at once, as they do while crates are proved: some are held up by what runs beside."""
     with concurrent.futures.ProcessPoolExecutor(processors()) as pool:
-        return min(pool.map(loop, range(2 * processors())))
+        return min(pool.map(loop, range(TIMES * processors())))
 
 
 def machine_factor():
