@@ -1,5 +1,5 @@
 -- Effects that are none of our verbs': bodies that overwrite, accumulate and fault keep to the accesses of a graph, and are evaluated from first cells that are not 0.
-use Rattle.std.proofs.Common.{◌≡◌, ℕ, zero, suc, ◌+◌, ◌*◌, Bool, true, false, not, cond, List, [], ◌∷◌, map, refl, sym, ◌∙◌, ap, arith}
+use Rattle.std.proofs.Common.{◌≡◌, ℕ, zero, suc, ◌+◌, ◌*◌, Bool, true, not, cond, List, [], ◌∷◌, map, refl, sym, ◌∙◌, ap, arith}
 use Rattle.std.specs.Prelude.{◌==◌, Contains, nat_lt, Some, None, codes}
 use Rattle.std.proofs.lemmas.Bool.{true≢false, eq-eqb, not-true}
 use Rattle.index_spaces.specs.Column.{ColumnValue}
