@@ -6,12 +6,13 @@ use Rattle.std.proofs.lemmas.Option.{none-some, same_Some}
 use Rattle.graph_model.specs.declared.graph.verb.Edge.{Edge}
 use Rattle.graph_model.specs.graph.Graph.{GraphValue}
 use Rattle.graph_model.specs.graph.Edges.{edges}
-use Rattle.graph_model.specs.meaning.Evaluation.{Step, has_ended, eval_end, is_ended, evaluation, order}
+use Rattle.graph_model.specs.meaning.Effect.{Cells, zero_cells, Effects, effect}
+use Rattle.graph_model.specs.meaning.Evaluation.{Step, has_ended, end_with, eval_end, is_ended, evaluation_with, order_with, order}
 use Rattle.basics.proofs.ListFacts.{got_contains, got_in, got_behind, contains_none, contains_cases, some_passes, passes_some, map_contains, contains_map}
-use Rattle.graph_model.proofs.Waiting.{end_in_left, end_in_ended, steps_end}
-use Rattle.graph_model.proofs.Turns.{turns_after}
+use Rattle.graph_model.proofs.Waiting.{end_in_left, end_in_ended, steps_end_with}
+use Rattle.graph_model.proofs.Turns.{turns_with}
 use Rattle.graph_model.proofs.Confluence.{Fresh, steps_fresh, order_round}
-use Rattle.graph_model.specs.meaning.Laws.{OrderListsEnded}
+use Rattle.graph_model.specs.meaning.Laws.{OrderListsEnded, OrderListsEndedWith}
 use Rattle.graph_model.specs.meaning.Trace.{StandsBefore}
 
 -- the lines of steps
@@ -24,10 +25,10 @@ listed_ended ss i c = let m = map_contains (λ (s : Step). s.line) ss i c in pas
 ended_listed : (ss : List Step) (i : ℕ) → has_ended ss i ≡ true → Contains (lines_of ss) i
 ended_listed ss i h = let s = some_passes (λ (s : Step). s.line == i) ss h in subst (λ k. Contains (lines_of ss) k) (eqb-true s.0.line i s.2) (contains_map (λ (s : Step). s.line) ss s.0 s.1)
 
-pub listed_iff_ended : (g : GraphValue) (i : ℕ) → Contains (order g) i ↔ IsTrue (is_ended (eval_end g i))
-listed_iff_ended g i = (
-  λ c. end_in_ended (evaluation g) i (steps_end g (length g.lines)) (listed_ended (evaluation g) i c),
-  λ h. ended_listed (evaluation g) i (true_from_ne_false (has_ended (evaluation g) i) (λ f. true≢false (sym h ∙ ap is_ended (end_in_left (evaluation g) i f)))),
+pub listed_iff_ended_with : (does : Effects) (first : Cells) (g : GraphValue) (i : ℕ) → Contains (order_with does first g) i ↔ IsTrue (is_ended (end_with does first g i))
+listed_iff_ended_with does first g i = (
+  λ c. end_in_ended (evaluation_with does first g) i (steps_end_with does first g (length g.lines)) (listed_ended (evaluation_with does first g) i c),
+  λ h. ended_listed (evaluation_with does first g) i (true_from_ne_false (has_ended (evaluation_with does first g) i) (λ f. true≢false (sym h ∙ ap is_ended (end_in_left (evaluation_with does first g) i f)))),
 )
 
 -- a listed item has a place
@@ -46,17 +47,24 @@ once_in (s ∷ ss) f (suc k) zero i hk hm = absurd (true≢false (sym (listed_en
 once_in (s ∷ ss) f (suc k) (suc m) i hk hm = ap suc (once_in ss f.1 k m i hk hm)
 
 -- each source of a line stands before it
-pub source_before : (g : GraphValue) (e : Edge) → Contains (edges g) e → Contains (order g) e.to → StandsBefore (order g) e.from e.to
-source_before g e c to =
-    let t = turns_after g (length g.lines) e.to (listed_ended (evaluation g) e.to to) in
+pub source_before : (does : Effects) (first : Cells) (g : GraphValue) (e : Edge) → Contains (edges g) e → Contains (order_with does first g) e.to → StandsBefore (order_with does first g) e.from e.to
+source_before does first g e c to =
+    let t = turns_with does first g (length g.lines) e.to (listed_ended (evaluation_with does first g) e.to to) in
     let there : Contains (lines_of t.0) e.from = ended_listed t.0 e.from (t.1.ready.sources e c refl) in
     let k = listed_is_got (lines_of t.0) e.from there in
-    subst (λ xs. StandsBefore xs e.from e.to) (sym (order_round g e.to t.0 t.1))
+    subst (λ xs. StandsBefore xs e.from e.to) (sym (order_round does first g e.to t.0 t.1))
     (k.0, length (lines_of t.0), got_in (lines_of t.0) (e.to ∷ lines_of t.1.after) k.0 e.from k.2, got_behind (lines_of t.0) e.to (lines_of t.1.after), k.1)
 
-pub order_lists_ended : OrderListsEnded
-order_lists_ended g = record {
-  ended = listed_iff_ended g;
-  once = once_in (evaluation g) (steps_fresh g (length g.lines));
-  sources = λ e c to. source_before g e c to;
+pub order_lists_ended_with : OrderListsEndedWith
+order_lists_ended_with does first g = record {
+  ended = listed_iff_ended_with does first g;
+  once = once_in (evaluation_with does first g) (steps_fresh does first g (length g.lines));
+  sources = λ e c to. source_before does first g e c to;
 }
+
+-- the same with the effects of the graph's verbs, and cells of 0
+pub listed_iff_ended : (g : GraphValue) (i : ℕ) → Contains (order g) i ↔ IsTrue (is_ended (eval_end g i))
+listed_iff_ended g i = listed_iff_ended_with (effect g) zero_cells g i
+
+pub order_lists_ended : OrderListsEnded
+order_lists_ended g = order_lists_ended_with (effect g) zero_cells g

@@ -6,3 +6,4 @@ pub mod Rules
 pub mod Runs
 pub mod Order
 pub mod Faults
+pub mod AnyEffects

@@ -67,6 +67,10 @@ pub record Effect : Type 0 where
   pub verdict : Verdict
   pub changes : List CellChange
 
+-- what each line does, by its number, to the cells before it
+abbrev pub Effects : Type 0
+Effects = ℕ → Cells → Effect
+
 -- a change at each of the points
 abbrev pub changes_at : (ℕ → Change) → ℕ → List ℕ → List CellChange
 changes_at f column ps = map (λ p. record { column = column; point = p; change = f p }) ps

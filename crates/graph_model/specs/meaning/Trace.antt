@@ -1,5 +1,6 @@
 -- Traces: lists of lines in an order in which they may have ended.
 use Rattle.std.specs.Prelude.{◌≡◌, ◌≢◌, ℕ, false, ◌<◌, ◌⊎◌, ◌↔◌, List, Contains, IsTrue, slice_get, Some}
+use Rattle.graph_model.specs.declared.meaning.outcome.End.{End}
 use Rattle.graph_model.specs.declared.meaning.outcome.End.TheVariants.{Done}
 use Rattle.graph_model.specs.declared.graph.verb.Edge.{Edge}
 use Rattle.graph_model.specs.graph.Graph.{GraphValue}
@@ -11,11 +12,15 @@ use Rattle.graph_model.specs.meaning.Evaluation.{eval_end, is_ended}
 abbrev pub StandsBefore : List ℕ → ℕ → ℕ → Type 0
 StandsBefore trace i j = (k m : ℕ) × (slice_get trace k ≡ Some i) × (slice_get trace m ≡ Some j) × (k < m)
 
--- a trace lists the lines that end in the evaluation, each once, each after its sources
-pub record ListsEnded (g : GraphValue) (trace : List ℕ) : Type 0 where
-  pub ended : (i : ℕ) → Contains trace i ↔ IsTrue (is_ended (eval_end g i))
+-- a trace lists the lines that end, where lines end so, each once, each after its sources
+pub record ListsEndedBy (g : GraphValue) (ends : ℕ → End) (trace : List ℕ) : Type 0 where
+  pub ended : (i : ℕ) → Contains trace i ↔ IsTrue (is_ended (ends i))
   pub once : (k m i : ℕ) → slice_get trace k ≡ Some i → slice_get trace m ≡ Some i → k ≡ m
   pub sources : (e : Edge) → Contains (edges g) e → Contains trace e.to → StandsBefore trace e.from e.to
+
+-- a trace lists the lines that end in the evaluation
+abbrev pub ListsEnded : GraphValue → List ℕ → Type 0
+ListsEnded g trace = ListsEndedBy g (eval_end g) trace
 
 -- and the sections of one reservation stand one after the other, unless both are shared
 pub record IsLawful (g : GraphValue) (trace : List ℕ) : Type 0 where

@@ -1,6 +1,6 @@
 //! What holds of all graphs, for callers to cite. No function here does anything.
 
-ghost use Rattle.graph_model.specs.meaning.Laws.{PathsCompose, EdgesBetweenLines, ChangesWithinAccesses, ReadyWhereUnreached, WaitsWhereReached, CancelledWhereUnbroken, OrderListsEnded, ChangesNameEachCellOnce, OrderIrrelevant, OneNeed, SectionsNeverOverlap, UpgradeKeepsMeaning};
+ghost use Rattle.graph_model.specs.meaning.Laws.{PathsCompose, EdgesBetweenLines, ChangesWithinAccesses, ReadyWhereUnreached, WaitsWhereReached, WaitsWhereReachedWith, CancelledWhereUnbroken, CancelledWhereUnbrokenWith, OrderListsEnded, OrderListsEndedWith, ChangesNameEachCellOnce, VerbsKeepToAccesses, OrderIrrelevant, OrderIrrelevantWith, OneNeed, SectionsNeverOverlap, UpgradeKeepsMeaning};
 
 use index_spaces::laws::points_ascend;
 
@@ -26,14 +26,29 @@ pub fn waits_where_reached()
     ensures { WaitsWhereReached }
 {}
 
+/// The same, whatever the lines do to the cells and whatever these are first.
+pub fn waits_where_reached_for_all_effects()
+    ensures { WaitsWhereReachedWith }
+{}
+
 /// A line is cancelled exactly where an unbroken path from a fault reaches it.
 pub fn cancelled_where_unbroken()
     ensures { CancelledWhereUnbroken }
 {}
 
+/// The same, whatever the lines do to the cells and whatever these are first.
+pub fn cancelled_where_unbroken_for_all_effects()
+    ensures { CancelledWhereUnbrokenWith }
+{}
+
 /// The order of the evaluation lists the lines that end, each once and after its sources.
 pub fn order_lists_ended()
     ensures { OrderListsEnded }
+{}
+
+/// The same, whatever the lines do to the cells and whatever these are first.
+pub fn order_lists_ended_for_all_effects()
+    ensures { OrderListsEndedWith }
 {}
 
 /// Each change of a line lies within one of its accesses, and is of its mode.
@@ -48,10 +63,21 @@ pub fn changes_name_each_cell_once()
     points_ascend();
 }
 
+/// The effects of a graph's verbs keep to its accesses: their changes lie within them, and they
+/// rest on no cells but those that are read, or written other than by reductions.
+pub fn verbs_keep_to_accesses()
+    ensures { VerbsKeepToAccesses }
+{}
+
 /// In an accepted graph a line ends and changes the cells as in the evaluation, whatever ready
 /// lines came before it.
 pub fn order_is_irrelevant()
     ensures { OrderIrrelevant }
+{}
+
+/// The same of lines that do anything that keeps to their accesses, whatever the cells are first.
+pub fn order_is_irrelevant_for_all_effects()
+    ensures { OrderIrrelevantWith }
 {}
 
 /// A graph has one need.

@@ -8,6 +8,9 @@ use Rattle.plain_eval.proofs.OrderFacts.{trace_of_lines}
 use Rattle.plain_eval.proofs.PhaseFacts.{end_given}
 use Rattle.plain_eval.proofs.evaluation.eval.Goals as goal
 
+pub returns-clause-outcome : goal.returns-clause-outcome
+returns-clause-outcome c = subst (λ g. IfOk c.outcome_of.result (λ o. o ≡ outcome g (order g))) c.graph-graph.ensures.graph c.outcome_of.ensures
+
 pub returns-clause-waiting : goal.returns-clause-waiting
 returns-clause-waiting c =
     let fits = subst IsGraph c.graph-graph.ensures.graph c.lines.ensures.is_graph in
