@@ -50,7 +50,6 @@ const EMPTY: Counts = Counts {
 };
 
 /// A graph, seen as its format, its declarations and its lines.
-#[derive(Drop)]
 pub struct Graph {
     format: Format,
     decls: Vec<Decl>,
@@ -63,6 +62,24 @@ pub struct Graph {
     counts: Counts,
     /// The edges of the last line, whose room serves the next one.
     given: Vec<Edge>,
+}
+
+impl Drop for Graph {
+    // Written out, it is one call at each exit of a function that owns a graph: a derived one is
+    // proved there again, list by list.
+    fn drop(self) {
+        let Graph {
+            format: _,
+            decls: _,
+            lines: _,
+            accesses: _,
+            tables: _,
+            names: _,
+            rows: _,
+            counts: _,
+            given: _,
+        } = self;
+    }
 }
 
 impl Model for Graph {
@@ -215,13 +232,11 @@ impl Graph {
     }
 
     /// The graph of format 2 with the same declarations and lines. It takes no memory.
-    pub fn upgrade(self) -> Graph
+    pub fn upgrade(mut self) -> Graph
         ensures { result ≡ upgraded self }
     {
-        Graph {
-            format: Format::Two,
-            ..self
-        }
+        self.format = Format::Two;
+        self
     }
 
     /// How many declarations there are.

@@ -3,8 +3,8 @@ use Rattle.graph_model.specs.graph.Graph.{GraphValue}
 use Rattle.graph_model.proofs.Upgrade.{upgraded_fits, upgraded_limits, upgraded_names, upgraded_rows, upgraded_counts}
 use Rattle.graph_model.proofs.graph.Graph.upgrade.Goals as goal
 
-pub invariant_of-result : goal.invariant_of-result
-invariant_of-result c =
+pub invariant_of-self : goal.invariant_of-self
+invariant_of-self c =
     let g : GraphValue = record { format = c.self.inside.format; decls = c.self.inside.decls.items; lines = c.self.inside.lines.items } in
     record {
       fits = upgraded_fits g c.self.invariant.fits;
