@@ -126,20 +126,20 @@ accumulate-early : (cells : Cells) → AgreeWhereUsed five_lines 2 cells (cells_
 accumulate-early = (order_is_irrelevant_with bodies first five_lines 2 one_ended (λ c k. one_ended k) five_lines-accepted bodies-keep refl (ready_among bodies)).0
 
 -- The premise is needed. Line 2 copies w, which is none of its accesses: its changes then rest on whether line 0 has ended, and such effects do not keep to the accesses.
-abbrev peek : Cells → Effect
-peek cells = effect_of Fine (changes_at (λ p. Set (cells 3 p)) 1 two_points)
+abbrev unlisted_read : Cells → Effect
+unlisted_read cells = effect_of Fine (changes_at (λ p. Set (cells 3 p)) 1 two_points)
 
-abbrev with_peek : Effects
-with_peek i cells = cond (i == 2) (peek cells) (bodies i cells)
+abbrev with_unlisted_read : Effects
+with_unlisted_read i cells = cond (i == 2) (unlisted_read cells) (bodies i cells)
 
 abbrev changes_of_y : ℕ → ℕ → List CellChange
 changes_of_y a b = record { column = 1; point = 0; change = Set a } ∷ record { column = 1; point = 1; change = Set b } ∷ []
 
-peek-evaluated : changes_with with_peek first five_lines 2 ≡ changes_of_y 70 71
-peek-evaluated = refl
+unlisted_read-evaluated : changes_with with_unlisted_read first five_lines 2 ≡ changes_of_y 70 71
+unlisted_read-evaluated = refl
 
-peek-early : (step_on_with with_peek first five_lines 2 (cells_put_with with_peek first five_lines (λ c k. one_ended k))).changes ≡ changes_of_y 31 32
-peek-early = refl
+unlisted_read-early : (step_on_with with_unlisted_read first five_lines 2 (cells_put_with with_unlisted_read first five_lines (λ c k. one_ended k))).changes ≡ changes_of_y 31 32
+unlisted_read-early = refl
 
 -- cells that are 0, but for 1 in w
 abbrev one_in_w : Cells
@@ -151,14 +151,14 @@ unused_w a listed ne p h = sym (ap (λ b. cond b 1 0) (not-true (a.column == 3) 
 zero_or_one : (a b : ℕ) → a ≡ 0 → b ≡ 1 → a ≡ b → ⊥
 zero_or_one a b p q e = omega arith
 
-with_peek-refused : KeepsToAccesses five_lines with_peek → ⊥
-with_peek-refused keeps = zero_or_one _ _ refl refl (ap (λ (e : Effect). cells_after zero_cells e.changes 1 0) (keeps.agrees 2 zero_cells one_in_w unused_w))
+with_unlisted_read-refused : KeepsToAccesses five_lines with_unlisted_read → ⊥
+with_unlisted_read-refused keeps = zero_or_one _ _ refl refl (ap (λ (e : Effect). cells_after zero_cells e.changes 1 0) (keeps.agrees 2 zero_cells one_in_w unused_w))
 
 -- nor do effects that write a column which is none of the line's accesses
-abbrev with_stray : Effects
-with_stray i cells = cond (i == 0) (overwrite 0 70) (bodies i cells)
+abbrev with_unlisted_write : Effects
+with_unlisted_write i cells = cond (i == 0) (overwrite 0 70) (bodies i cells)
 
-with_stray-refused : KeepsToAccesses five_lines with_stray → ⊥
-with_stray-refused keeps =
+with_unlisted_write-refused : KeepsToAccesses five_lines with_unlisted_write → ⊥
+with_unlisted_write-refused keeps =
     let w = keeps.within 0 zero_cells (record { column = 0; point = 0; change = Set 70 }) (0, omega arith, refl) in
     true≢false (sym (passes_each (λ (a : Access). not (a.column == 0)) (accesses five_lines 0) refl w.access w.listed) ∙ ap not (eq-eqb w.access.column 0 w.column))

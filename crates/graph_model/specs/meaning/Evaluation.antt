@@ -1,5 +1,6 @@
--- The evaluation of a graph: again and again the lowest line that is ready ends, and its effect is applied. A word that takes `does` or `first` is
--- over any effects and any first cells, and ends in _with; the word without it is the same with the effects of the graph's verbs, and cells of 0.
+-- The evaluation of a graph: again and again the lowest line that is ready ends, and its effect is applied.
+-- A word that takes `does` or `first` is over any effects and any first cells, and its name ends in _with.
+-- The word that stands below it is the same with the effects of the graph's verbs, from cells of 0.
 use Rattle.std.specs.Prelude.{◌≡◌, ◌≢◌, ℕ, zero, suc, ◌+◌, min, max, ◌==◌, Bool, true, false, cond, not, ◌&&◌, List, [], ◌∷◌, ◌++◌, length, map, filter, filter_map, flat_map, fold, find, Contains, IsTrue, Option, Some, None, slice_get}
 use Rattle.std.specs.Option.{option_map_or}
 use Rattle.std.specs.List.{list_any, list_all}

@@ -42,18 +42,20 @@ ReadyWhereUnreached = (g : GraphValue) (ended : ℕ → Bool) (i : ℕ) → IsGr
 abbrev pub WaitsWhereReached : Type 0
 WaitsWhereReached = (g : GraphValue) (i : ℕ) → IsGraph g → Everywhere (NoCycleAt g) → i < length g.lines → (eval_end g i ≡ Waiting) ↔ Reached g i
 
--- the same, whatever the lines do
+-- the same, whatever the lines do to the cells and whatever these are first
 abbrev pub WaitsWhereReachedWith : Type 0
-WaitsWhereReachedWith = (does : Effects) (first : Cells) (g : GraphValue) (i : ℕ) → IsGraph g → Everywhere (NoCycleAt g) → i < length g.lines →
+WaitsWhereReachedWith = (does : Effects) (first : Cells) (g : GraphValue) (i : ℕ) →
+    IsGraph g → Everywhere (NoCycleAt g) → i < length g.lines →
     (end_with does first g i ≡ Waiting) ↔ Reached g i
 
 -- a line is cancelled exactly where an unbroken path from a fault reaches it
 abbrev pub CancelledWhereUnbroken : Type 0
 CancelledWhereUnbroken = (g : GraphValue) (i : ℕ) → (eval_end g i ≡ Cancelled) ↔ Unbroken g i
 
--- the same, whatever the lines do
+-- the same, whatever the lines do to the cells and whatever these are first
 abbrev pub CancelledWhereUnbrokenWith : Type 0
-CancelledWhereUnbrokenWith = (does : Effects) (first : Cells) (g : GraphValue) (i : ℕ) → (end_with does first g i ≡ Cancelled) ↔ UnbrokenBy g (end_with does first g) i
+CancelledWhereUnbrokenWith = (does : Effects) (first : Cells) (g : GraphValue) (i : ℕ) →
+    (end_with does first g i ≡ Cancelled) ↔ UnbrokenBy g (end_with does first g) i
 
 -- no two changes of a line are of one cell
 abbrev pub ChangesNameEachCellOnce : Type 0
@@ -63,7 +65,7 @@ ChangesNameEachCellOnce = (g : GraphValue) (i : ℕ) (cells : Cells) → IsGraph
 abbrev pub OrderListsEnded : Type 0
 OrderListsEnded = (g : GraphValue) → ListsEnded g (order g)
 
--- the same, whatever the lines do
+-- the same, whatever the lines do to the cells and whatever these are first
 abbrev pub OrderListsEndedWith : Type 0
 OrderListsEndedWith = (does : Effects) (first : Cells) (g : GraphValue) → ListsEndedBy g (end_with does first g) (order_with does first g)
 
@@ -88,8 +90,10 @@ pub record IsWithinAccess (space : ℕ → List (ℕ × ℕ)) (accesses : List A
 abbrev pub ChangesWithinAccesses : Type 0
 ChangesWithinAccesses = (g : GraphValue) (i : ℕ) (cells : Cells) (x : CellChange) → Contains (effect g i cells).changes x → IsWithinAccess (space_at g) (accesses g i) x
 
--- line i is ready after some lines have ended, in any order. On each column the changes of some lines were put back: of all that ended and change it, and of none whose sources have not ended.
-pub record IsReadyAmongWith (does : Effects) (first : Cells) (g : GraphValue) (i : ℕ) (ended : ℕ → Bool) (put : ℕ → ℕ → Bool) : Type 0 where
+-- line i is ready after some lines have ended, in any order. On each column the changes of some lines were put back: of all that ended
+-- and change it, and of none whose sources have not ended.
+pub record IsReadyAmongWith (does : Effects) (first : Cells) (g : GraphValue) (i : ℕ) (ended : ℕ → Bool) (put : ℕ → ℕ → Bool)
+    : Type 0 where
   pub closed : (e : Edge) → Contains (edges g) e → ended e.to ≡ true → ended e.from ≡ true
   pub ready : (e : Edge) → Contains (edges g) e → e.to ≡ i → ended e.from ≡ true
   pub left : ended i ≡ false
@@ -97,6 +101,7 @@ pub record IsReadyAmongWith (does : Effects) (first : Cells) (g : GraphValue) (i
   pub put_ready : (c k : ℕ) → put c k ≡ true → (e : Edge) → Contains (edges g) e → e.to ≡ k → ended e.from ≡ true
   pub kept : (k : ℕ) (x : CellChange) → ended k ≡ true → Contains (changes_with does first g k) x → put x.column k ≡ true
 
+-- the same with the effects of the graph's verbs, from cells of 0
 abbrev pub IsReadyAmong : GraphValue → ℕ → (ℕ → Bool) → (ℕ → ℕ → Bool) → Type 0
 IsReadyAmong g i ended put = IsReadyAmongWith (effect g) zero_cells g i ended put
 
@@ -104,6 +109,7 @@ IsReadyAmong g i ended put = IsReadyAmongWith (effect g) zero_cells g i ended pu
 abbrev pub cells_put_with : Effects → Cells → GraphValue → (ℕ → ℕ → Bool) → Cells
 cells_put_with does first g put column point = cells_of_lines_with does first g (put column) column point
 
+-- the same with the effects of the graph's verbs, from cells of 0
 abbrev pub cells_put : GraphValue → (ℕ → ℕ → Bool) → Cells
 cells_put g put = cells_put_with (effect g) zero_cells g put
 
@@ -125,6 +131,7 @@ VerbsKeepToAccesses = (g : GraphValue) → KeepsToAccesses g (effect g)
 abbrev pub step_on_with : Effects → Cells → GraphValue → ℕ → Cells → Step
 step_on_with does first g i cells = step_by i (is_cancelled g (evaluation_with does first g) i) (does i cells)
 
+-- the same with the effects of the graph's verbs, from cells of 0
 abbrev pub step_on : GraphValue → ℕ → Cells → Step
 step_on g i cells = step_on_with (effect g) zero_cells g i cells
 
@@ -137,6 +144,7 @@ pub record DoesAsEvaluatedWith (does : Effects) (first : Cells) (g : GraphValue)
   pub ends : (step_on_with does first g i cells).ends ≡ end_with does first g i
   pub changes : (step_on_with does first g i cells).changes ≡ changes_with does first g i
 
+-- the same with the effects of the graph's verbs, from cells of 0
 abbrev pub DoesAsEvaluated : GraphValue → ℕ → Cells → Type 0
 DoesAsEvaluated g i cells = DoesAsEvaluatedWith (effect g) zero_cells g i cells
 
@@ -148,10 +156,12 @@ OrderIrrelevant = (g : GraphValue) (i : ℕ) (ended : ℕ → Bool) (put : ℕ �
 
 -- the same of any effects that keep to their accesses, from any first cells
 abbrev pub OrderIrrelevantWith : Type 0
-OrderIrrelevantWith = (does : Effects) (first : Cells) (g : GraphValue) (i : ℕ) (ended : ℕ → Bool) (put : ℕ → ℕ → Bool) → Accepted g → KeepsToAccesses g does →
+OrderIrrelevantWith = (does : Effects) (first : Cells) (g : GraphValue) (i : ℕ) (ended : ℕ → Bool) (put : ℕ → ℕ → Bool) →
+    Accepted g → KeepsToAccesses g does →
     IsTrue (is_ended (end_with does first g i)) → IsReadyAmongWith does first g i ended put →
     ((cells : Cells) → AgreeWhereUsed g i cells (cells_put_with does first g put) → DoesAsEvaluatedWith does first g i cells)
-    × ((c p : ℕ) → cells_after (cells_put_with does first g put) (changes_with does first g i) c p ≡ cells_put_with does first g (put_with i put) c p)
+    × ((c p : ℕ) → cells_after (cells_put_with does first g put) (changes_with does first g i) c p
+        ≡ cells_put_with does first g (put_with i put) c p)
 
 -- a graph has one need
 abbrev pub OneNeed : Type 0

@@ -26,7 +26,8 @@ pub fn waits_where_reached()
     ensures { WaitsWhereReached }
 {}
 
-/// The same, whatever the lines do to the cells and whatever these are first.
+/// In a graph without a cycle an evaluation leaves a line waiting exactly where one that never comes
+/// reaches it, whatever the lines do to the cells and whatever these are first.
 pub fn waits_where_reached_for_all_effects()
     ensures { WaitsWhereReachedWith }
 {}
@@ -36,7 +37,8 @@ pub fn cancelled_where_unbroken()
     ensures { CancelledWhereUnbroken }
 {}
 
-/// The same, whatever the lines do to the cells and whatever these are first.
+/// A line is cancelled exactly where an unbroken path from a fault reaches it, whatever the lines do
+/// to the cells and whatever these are first.
 pub fn cancelled_where_unbroken_for_all_effects()
     ensures { CancelledWhereUnbrokenWith }
 {}
@@ -46,7 +48,8 @@ pub fn order_lists_ended()
     ensures { OrderListsEnded }
 {}
 
-/// The same, whatever the lines do to the cells and whatever these are first.
+/// The order of an evaluation lists the lines that end, each once and after its sources, whatever the
+/// lines do to the cells and whatever these are first.
 pub fn order_lists_ended_for_all_effects()
     ensures { OrderListsEndedWith }
 {}
@@ -75,7 +78,9 @@ pub fn order_is_irrelevant()
     ensures { OrderIrrelevant }
 {}
 
-/// The same of lines that do anything that keeps to their accesses, whatever the cells are first.
+/// In an accepted graph whose lines do anything that keeps to their accesses, a line ends and changes
+/// the cells as in the evaluation, whatever ready lines came before it and whatever the cells are
+/// first.
 pub fn order_is_irrelevant_for_all_effects()
     ensures { OrderIrrelevantWith }
 {}
