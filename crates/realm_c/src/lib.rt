@@ -8,7 +8,6 @@ mod eval;
 mod held;
 mod inside;
 mod making;
-mod parts;
 mod plan;
 mod reading;
 mod running;
