@@ -1,9 +1,8 @@
 -- What becomes of the text that answers a flow.
 use Rattle.std.specs.Prelude.{◌≡◌, ℕ, ◌<◌, ◌≤◌, ◌⊎◌, Bool, List, [], ◌∷◌, ◌++◌, length, codes, decimal}
-use Rattle.std.specs.Option.{option_map}
 use Rattle.realm_io.specs.SinkState.{SinkState}
-use Rattle.realm_io.specs.Counts.{Rose}
-use Rattle.realm_io.specs.Told.{with_more, TookPrefix}
+use Rattle.program_io.specs.Delivered as program
+use Rattle.program_io.specs.Delivered.{too_long_text}
 use Rattle.graph_model.specs.declared.graph.limits.TheConstants.{MAX_TEXT}
 use Rattle.graph_model.specs.declared.graph.why.Why.{Why}
 use Rattle.graph_model.specs.declared.graph.why.Why.TheVariants.{Header, Syntax, Name, Twice, Unknown, Kind, Number, Space, Outside, Arrivals, Limit, Missing, Rest}
@@ -44,25 +43,12 @@ refused_text number why = codes "refused line " ++ (decimal number ++ (codes " "
 abbrev pub FlowAnswers : List ℕ → Bool → FlowStatus → List ℕ → Type 0
 FlowAnswers bytes commute Done out = (length bytes ≤ MAX_TEXT) × IsFlowAnswer bytes commute out
 FlowAnswers bytes commute Unread out = (length bytes ≤ MAX_TEXT) × (number : ℕ) × (why : Why) × IsAnswerFault bytes commute (fault.Line number why) × (out ≡ refused_text number why)
-FlowAnswers bytes commute TooLong out = (MAX_TEXT < length bytes) × (out ≡ codes "input too long" ++ 10 ∷ [])
+FlowAnswers bytes commute TooLong out = (MAX_TEXT < length bytes) × (out ≡ too_long_text)
 FlowAnswers bytes commute _ out = ⊥
-
--- all of the text was taken, and all that was taken is flushed
-pub record Delivered (old new : SinkState) (out : List ℕ) : Type 0 where
-  pub took : new.taken ≡ with_more old.taken out
-  pub flushed : new.flushed ≡ option_map length new.taken
-  pub count : old.faults ≤ new.faults
-
--- a prefix of the text was taken, no more is flushed than before, and a fault was counted
-pub record BrokenOff (old new : SinkState) (out : List ℕ) : Type 0 where
-  pub took : TookPrefix old.taken new.taken out
-  pub flushed : new.flushed ≡ old.flushed
-  pub count : old.faults ≤ new.faults
-  pub rose : Rose old.faults new.faults
 
 -- a text that goes with a status was delivered, or a fault broke it off
 abbrev pub Delivers : SinkState → SinkState → FlowStatus → FlowStatus → List ℕ → Type 0
-Delivers old new wanted result out = ((result ≡ wanted) × Delivered old new out) ⊎ ((result ≡ WriteFault) × BrokenOff old new out)
+Delivers old new wanted result out = program.Delivers WriteFault old new wanted result out
 
 -- an answer was given for these bytes, unless memory ran out or a read failed
 abbrev pub IsServed : List ℕ → Bool → SinkState → SinkState → FlowStatus → Type 0

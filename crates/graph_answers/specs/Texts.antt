@@ -55,10 +55,6 @@ why_word Rest = codes "rest"
 abbrev pub unread_text : ℕ → Why → List ℕ
 unread_text number why = spelled (codes "refused" ∷ codes "line" ∷ decimal number ∷ why_word why ∷ [])
 
--- the line for an input that is too long
-abbrev pub too_long_text : List ℕ
-too_long_text = codes "input too long\n"
-
 -- the line for a graph that is accepted, with its need
 abbrev pub accepted_text : ℕ → List ℕ
 accepted_text need = spelled (codes "accepted" ∷ codes "need" ∷ decimal need ∷ [])
