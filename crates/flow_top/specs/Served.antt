@@ -5,7 +5,7 @@ use Rattle.program_io.specs.Delivered as program
 use Rattle.program_io.specs.Delivered.{too_long_text}
 use Rattle.graph_model.specs.declared.graph.limits.TheConstants.{MAX_TEXT}
 use Rattle.graph_model.specs.declared.graph.why.Why.{Why}
-use Rattle.graph_model.specs.declared.graph.why.Why.TheVariants.{Header, Syntax, Name, Twice, Unknown, Kind, Number, Space, Outside, Arrivals, Limit, Missing, Rest}
+use Rattle.graph_model.specs.graph.Spelling.{why_word}
 use Rattle.flow_top.specs.Answer.{IsFlowAnswer, IsAnswerFault}
 use Rattle.flow_top.specs.declared.FlowFault.TheVariants as fault
 use Rattle.flow_top.specs.declared.status.FlowStatus.{FlowStatus}
@@ -19,21 +19,6 @@ exit_number ReadFault = 5
 exit_number WriteFault = 6
 exit_number NoMemory = 7
 exit_number TooLong = 9
-
-abbrev pub why_word : Why → List ℕ
-why_word Header = codes "header"
-why_word Syntax = codes "syntax"
-why_word Name = codes "name"
-why_word Twice = codes "twice"
-why_word Unknown = codes "unknown"
-why_word Kind = codes "kind"
-why_word Number = codes "number"
-why_word Space = codes "space"
-why_word Outside = codes "outside"
-why_word Arrivals = codes "arrivals"
-why_word Limit = codes "limit"
-why_word Missing = codes "missing"
-why_word Rest = codes "rest"
 
 -- the line for a refusal
 abbrev pub refused_text : ℕ → Why → List ℕ

@@ -4,7 +4,7 @@ ghost use Rattle.std.specs.Prelude.{◌≡◌, ℕ, ◌≤◌, ◌⊎◌, length
 ghost use Rattle.std.specs.Io.KnownBytes.{IsAtEnd};
 ghost use Rattle.realm_io.specs.Counts.{Rose};
 ghost use Rattle.graph_model.specs.declared.graph.limits.TheConstants.{MAX_TEXT as most_bytes};
-ghost use Rattle.flow_top.specs.Served.{why_word, refused_text, IsServed};
+ghost use Rattle.flow_top.specs.Served.{refused_text, IsServed};
 ghost use Rattle.std.specs.String.{string_bytes};
 
 use crate::FlowFault;
@@ -68,30 +68,9 @@ fn serve_bytes<K: Sink>(alloc: Global, bytes: &[u8], sink: &mut K, commute: bool
 fn refused_text(alloc: Global, number: u32, why: Why) -> Result<String, NoMemory>
     ensures { IfOk result (λ text. string_bytes text ≡ refused_text number why) }
 {
-    let word = why_word(why);
+    let word = why.word();
     match format!(in alloc; "refused line {number} {word}\n") {
         Ok(text) => Ok(text),
         Err(_) => Err(NoMemory),
-    }
-}
-
-/// The word for a reason.
-fn why_word(why: Why) -> &'static str
-    ensures { result.now ≡ why_word why }
-{
-    match why {
-        Why::Header => "header",
-        Why::Syntax => "syntax",
-        Why::Name => "name",
-        Why::Twice => "twice",
-        Why::Unknown => "unknown",
-        Why::Kind => "kind",
-        Why::Number => "number",
-        Why::Space => "space",
-        Why::Outside => "outside",
-        Why::Arrivals => "arrivals",
-        Why::Limit => "limit",
-        Why::Missing => "missing",
-        Why::Rest => "rest",
     }
 }
