@@ -12,7 +12,6 @@ mod plan;
 mod reading;
 mod running;
 mod status;
-mod text_sink;
 mod token;
 mod upgrade;
 mod verdict;
