@@ -1,7 +1,6 @@
 //! What the program does with its streams.
 
 ghost use Rattle.std.specs.Prelude.{◌≡◌, ◌⊎◌, ℕ, ◌<◌, List, length, Some};
-ghost use Rattle.graph_model.specs.declared.graph.limits.TheConstants.{MAX_TEXT};
 ghost use Rattle.graph_model.specs.graph.Graph.{GraphValue};
 ghost use Rattle.graph_model.specs.meaning.Rules.{Accepted};
 ghost use Rattle.graph_reader.specs.Text.{GraphText};
@@ -12,13 +11,11 @@ ghost use Rattle.explain_top.specs.Program.{exit_number, status_of, Answers, IsA
 ghost use Rattle.explain_top.specs.declared.answer.Verdict.{Verdict};
 
 use crate::answer::{Verdict, explain_bytes};
+use graph_model::limits::MAX_TEXT;
 use graph_reader::laws::bytes_have_one_reading;
 use program_io::{ProgramStatus, put_text, put_too_long};
 use realm_io::{ReadEnd, Sink, Source, read_all};
 use std::alloc::Global;
-
-/// The most bytes of an input.
-const MAX_INPUT: u32 = 1_048_576;
 
 /// How the program ends.
 #[derive(Clone, Copy, Debug, PartialEq, Eq)]
@@ -95,7 +92,7 @@ pub fn run<S: Source, K: Sink>(alloc: Global, source: &mut S, sink: &mut K, ends
         → (result ≡ Status.Accepted) ⊎ (result ≡ Status.NoMemory) }
 {
     bytes_have_one_reading();
-    match read_all(alloc, source, MAX_INPUT) {
+    match read_all(alloc, source, MAX_TEXT as u32) {
         Ok(bytes) => answer(alloc, bytes.as_slice(), sink, ends),
         Err(ReadEnd::TooLong) => put_too_long(sink, Status::TooLong),
         Err(ReadEnd::ReadFault) => Status::ReadFault,
