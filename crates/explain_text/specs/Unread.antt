@@ -4,23 +4,9 @@ use Rattle.std.specs.List.{slice_index_or}
 use Rattle.graph_model.specs.declared.graph.why.Why.{Why}
 use Rattle.graph_model.specs.declared.graph.why.Why.TheVariants as why
 use Rattle.graph_model.specs.graph.Graph.{GraphValue}
+use Rattle.graph_model.specs.graph.Spelling.{why_word}
 use Rattle.refused_words.specs.declared.limits.Quantity.{Quantity}
 use Rattle.explain_text.specs.Lines.{by_number, line_of}
-
-abbrev pub why_word : Why → List ℕ
-why_word why.Header = codes "header"
-why_word why.Syntax = codes "syntax"
-why_word why.Name = codes "name"
-why_word why.Twice = codes "twice"
-why_word why.Unknown = codes "unknown"
-why_word why.Kind = codes "kind"
-why_word why.Number = codes "number"
-why_word why.Space = codes "space"
-why_word why.Outside = codes "outside"
-why_word why.Arrivals = codes "arrivals"
-why_word why.Limit = codes "limit"
-why_word why.Missing = codes "missing"
-why_word why.Rest = codes "rest"
 
 -- the line that `realm check` writes, and the line itself
 abbrev pub unread_text : List (List ℕ) → ℕ → Why → List ℕ

@@ -3,7 +3,7 @@
 ghost use Rattle.std.specs.Prelude.{◌≡◌, ◌++◌, ◌-◌, [], flat_map, OnOk};
 ghost use Rattle.std.specs.List.{slice_index_or};
 ghost use Rattle.basics.specs.Words.{contents};
-ghost use Rattle.explain_text.specs.Unread.{why_word, unread_text, blank_word, mark_text, refused_text, ended_text, passed_text, limit_text};
+ghost use Rattle.explain_text.specs.Unread.{unread_text, blank_word, mark_text, refused_text, ended_text, passed_text, limit_text};
 
 use crate::lines::{put_by_number, put_line};
 use crate::split::front;
@@ -21,7 +21,7 @@ pub fn put_unread(text: &mut Text, lines: &[&[u8]], number: u32, why: Why) -> Re
     text.put(b"refused line ")?;
     text.put_number(u64::from(number))?;
     text.put(b" ")?;
-    text.put(why_word(why))?;
+    text.put(why.word().as_bytes())?;
     text.put(b"\nline ")?;
     text.put_number(u64::from(number))?;
     text.put(b": ")?;
@@ -125,26 +125,5 @@ pub fn line_at<'a>(lines: &[&'a [u8]], number: u32) -> &'a [u8]
     match lines.get(number.saturating_sub(1) as usize) {
         Some(line) => line,
         None => b"",
-    }
-}
-
-/// The word for a reason.
-fn why_word(why: Why) -> &'static [u8]
-    ensures { result.now ≡ why_word why }
-{
-    match why {
-        Why::Header => b"header",
-        Why::Syntax => b"syntax",
-        Why::Name => b"name",
-        Why::Twice => b"twice",
-        Why::Unknown => b"unknown",
-        Why::Kind => b"kind",
-        Why::Number => b"number",
-        Why::Space => b"space",
-        Why::Outside => b"outside",
-        Why::Arrivals => b"arrivals",
-        Why::Limit => b"limit",
-        Why::Missing => b"missing",
-        Why::Rest => b"rest",
     }
 }

@@ -1,9 +1,9 @@
 -- How the program ends.
-use Rattle.std.specs.Prelude.{◌≡◌, ℕ, ◌⊎◌, Bool, List, length, codes}
-use Rattle.std.specs.Option.{option_map}
-use Rattle.realm_io.specs.Counts.{Rose}
+use Rattle.std.specs.Prelude.{◌≡◌, ℕ, ◌<◌, Bool, List, length}
+use Rattle.graph_model.specs.declared.graph.limits.TheConstants.{MAX_TEXT}
 use Rattle.realm_io.specs.SinkState.{SinkState}
-use Rattle.realm_io.specs.Told.{with_more}
+use Rattle.program_io.specs.Delivered as program
+use Rattle.program_io.specs.Delivered.{too_long_text}
 use Rattle.explain_top.specs.Answer.{IsAnswer}
 use Rattle.explain_top.specs.declared.answer.Verdict.{Verdict}
 use Rattle.explain_top.specs.declared.answer.Verdict.TheVariants as verdict
@@ -26,17 +26,18 @@ status_of verdict.Accepted = Accepted
 status_of verdict.Unfit = Unfit
 status_of verdict.Unread = Unread
 
--- what is written where the input is too long
-abbrev pub too_long_text : List ℕ
-too_long_text = codes "input too long\n"
+-- the answer to an input of these bytes, and the text that goes with it
+abbrev pub Answers : Bool → List ℕ → Status → List ℕ → Type 0
+Answers ends bytes Accepted out = IsAnswer ends bytes verdict.Accepted out
+Answers ends bytes Unfit out = IsAnswer ends bytes verdict.Unfit out
+Answers ends bytes Unread out = IsAnswer ends bytes verdict.Unread out
+Answers ends bytes TooLong out = (MAX_TEXT < length bytes) × (out ≡ too_long_text)
+Answers ends bytes _ out = ⊥
 
--- all of a text was taken and flushed
-pub record Delivered (old new : SinkState) (out : List ℕ) : Type 0 where
-  pub took : new.taken ≡ with_more old.taken out
-  pub flushed : new.flushed ≡ option_map length new.taken
+-- a text that goes with a status was delivered, or a fault broke it off
+abbrev pub Delivers : SinkState → SinkState → Status → Status → List ℕ → Type 0
+Delivers old new wanted result out = program.Delivers WriteFault old new wanted result out
 
--- the answer to these bytes was delivered, a write failed, or memory ran out
+-- an input of these bytes was answered, unless memory ran out
 abbrev pub IsAnswered : Bool → List ℕ → SinkState → SinkState → Status → Type 0
-IsAnswered ends bytes old new result =
-    ((v : Verdict) × (out : List ℕ) × (result ≡ status_of v) × IsAnswer ends bytes v out × Delivered old new out)
-    ⊎ (((result ≡ WriteFault) × Rose old.faults new.faults) ⊎ (result ≡ NoMemory))
+IsAnswered ends bytes old new result = program.IsAnswered WriteFault NoMemory (Answers ends bytes) old new result

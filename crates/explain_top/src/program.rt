@@ -1,22 +1,21 @@
 //! What the program does with its streams.
 
 ghost use Rattle.std.specs.Prelude.{◌≡◌, ◌⊎◌, ℕ, ◌<◌, List, length, Some};
-ghost use Rattle.graph_model.specs.declared.graph.limits.TheConstants.{MAX_TEXT};
 ghost use Rattle.graph_model.specs.graph.Graph.{GraphValue};
 ghost use Rattle.graph_model.specs.meaning.Rules.{Accepted};
 ghost use Rattle.graph_reader.specs.Text.{GraphText};
 ghost use Rattle.realm_io.specs.Counts.{Rose};
 ghost use Rattle.explain_top.specs.Answer.{IsAnswer};
-ghost use Rattle.explain_top.specs.Program.{exit_number, status_of, too_long_text, Delivered, IsAnswered};
+ghost use Rattle.program_io.specs.Delivered.{Delivered, BrokenOff, too_long_text};
+ghost use Rattle.explain_top.specs.Program.{exit_number, status_of, Answers, IsAnswered};
 ghost use Rattle.explain_top.specs.declared.answer.Verdict.{Verdict};
 
 use crate::answer::{Verdict, explain_bytes};
+use graph_model::limits::MAX_TEXT;
 use graph_reader::laws::bytes_have_one_reading;
-use realm_io::{ReadEnd, Sink, Source, put, read_all};
+use program_io::{ProgramStatus, put_text, put_too_long};
+use realm_io::{ReadEnd, Sink, Source, read_all};
 use std::alloc::Global;
-
-/// The most bytes of an input.
-const MAX_INPUT: u32 = 1_048_576;
 
 /// How the program ends.
 #[derive(Clone, Copy, Debug, PartialEq, Eq)]
@@ -57,6 +56,16 @@ impl Status {
     }
 }
 
+impl ProgramStatus for Status {
+    ghost use Rattle.explain_top.specs.declared.program.Status.TheVariants.{WriteFault};
+
+    ghost write_fault = { WriteFault };
+
+    fn write_fault() -> Status {
+        Status::WriteFault
+    }
+}
+
 /// Reads all of the input, and writes what the checker says of it and why.
 pub fn run<S: Source, K: Sink>(alloc: Global, source: &mut S, sink: &mut K, ends: bool) -> Status
     // Accepted, Unfit and Unread: exactly this is so of the input, and the text that says why was written and flushed.
@@ -70,6 +79,10 @@ pub fn run<S: Source, K: Sink>(alloc: Global, source: &mut S, sink: &mut K, ends
     // ReadFault, WriteFault: such a fault was counted in this call. NoMemory and ReadFault: nothing was written.
     ensures read_fault { result ≡ Status.ReadFault → Rose (S.faults source.old) (S.faults source.new) × (sink.new ≡ sink.old) }
     ensures write_fault { result ≡ Status.WriteFault → Rose (K.state sink.old).faults (K.state sink.new).faults }
+
+    // WriteFault: a prefix was taken of the text that is written without it.
+    ensures cut_off { result ≡ Status.WriteFault → (bytes : List ℕ) → S.left source.old ≡ Some bytes → (status : Status) × (out : List ℕ)
+        × Answers ends bytes status out × BrokenOff (K.state sink.old) (K.state sink.new) out }
     ensures no_memory { result ≡ Status.NoMemory → sink.new ≡ sink.old }
     ensures usage { result ≡ Status.Usage → ⊥ }
 
@@ -79,9 +92,9 @@ pub fn run<S: Source, K: Sink>(alloc: Global, source: &mut S, sink: &mut K, ends
         → (result ≡ Status.Accepted) ⊎ (result ≡ Status.NoMemory) }
 {
     bytes_have_one_reading();
-    match read_all(alloc, source, MAX_INPUT) {
+    match read_all(alloc, source, MAX_TEXT as u32) {
         Ok(bytes) => answer(alloc, bytes.as_slice(), sink, ends),
-        Err(ReadEnd::TooLong) => put_text(sink, b"input too long\n", Status::TooLong),
+        Err(ReadEnd::TooLong) => put_too_long(sink, Status::TooLong),
         Err(ReadEnd::ReadFault) => Status::ReadFault,
         Err(ReadEnd::NoMemory) => Status::NoMemory,
     }
@@ -107,15 +120,4 @@ fn status_of(verdict: Verdict) -> Status
         Verdict::Unfit => Status::Unfit,
         Verdict::Unread => Status::Unread,
     }
-}
-
-/// Writes and flushes a text.
-fn put_text<K: Sink>(sink: &mut K, text: &[u8], status: Status) -> Status
-    ensures { ((result ≡ status) × Delivered (K.state sink.old) (K.state sink.new) text.now)
-        ⊎ ((result ≡ Status.WriteFault) × Rose (K.state sink.old).faults (K.state sink.new).faults) }
-{
-    if put(sink, text).is_err() || sink.flush().is_err() {
-        return Status::WriteFault;
-    }
-    status
 }

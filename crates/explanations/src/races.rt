@@ -11,15 +11,13 @@ ghost use Rattle.explanations.specs.Shared.{AreUses, IsLeastShared, IsLeastAmong
 
 use crate::meetings::{Meeting, nearest_common};
 use graph_model::graph::Graph;
+use graph_model::limits::MOST_ACCESSES;
 use graph_model::line_laws::{accesses_are_few, accesses_fit};
 use graph_model::verb::{Access, Mode};
 use index_spaces::NoMemory;
 use index_spaces::laws::{point_of_rank, points_ascend, rank_of_point};
 use index_spaces::space::Space;
 use std::alloc::Global;
-
-/// A line has at most three accesses.
-const MOST_ACCESSES: u32 = 3;
 
 /// A point at which two lines use one column, and how each uses it.
 #[derive(Clone, Copy, Debug, PartialEq, Eq)]

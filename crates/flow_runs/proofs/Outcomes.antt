@@ -20,7 +20,7 @@ use Rattle.task_flow.specs.Meaning.{flow_cells}
 use Rattle.task_flow.specs.Construction.{written}
 use Rattle.task_flow.specs.Written.{IsLock, Keeps, MeansFlow}
 use Rattle.flow_top.specs.Answer.{IsFlowAnswer}
-use Rattle.graph_answers.specs.Delivered.{Delivered}
+use Rattle.program_io.specs.Delivered.{Delivered}
 use Rattle.graph_answers.specs.Answer.{report_with, IsDone, Says}
 use Rattle.flow_runs.specs.Ran.{IsFlowOutcome, RanFlow}
 

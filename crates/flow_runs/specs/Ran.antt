@@ -12,7 +12,7 @@ use Rattle.task_flow.specs.Meaning.{flow_end, flow_cells}
 use Rattle.task_flow.specs.Written.{Keeps}
 use Rattle.flow_top.specs.FlowText.{FlowText}
 use Rattle.flow_top.specs.Answer.{IsFlowAnswer}
-use Rattle.graph_answers.specs.Delivered.{Delivered}
+use Rattle.program_io.specs.Delivered.{Delivered}
 use Rattle.graph_answers.specs.Answer.{report_with, IsDone}
 
 -- an outcome of a graph that keeps the lines of a flow: each of these ended, and each column has the cells, as the flow means where sums commute or not

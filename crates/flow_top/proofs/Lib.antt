@@ -1,4 +1,3 @@
 pub mod FlowLines
-pub mod Delivering
 pub mod Readings
 pub mod WordForms

@@ -2,4 +2,3 @@ pub mod FlowText
 pub mod Answer
 pub mod Served
 pub mod Laws
-pub mod TextSinks

@@ -1,12 +1,11 @@
 -- What becomes of the text that answers a flow.
 use Rattle.std.specs.Prelude.{◌≡◌, ℕ, ◌<◌, ◌≤◌, ◌⊎◌, Bool, List, [], ◌∷◌, ◌++◌, length, codes, decimal}
-use Rattle.std.specs.Option.{option_map}
 use Rattle.realm_io.specs.SinkState.{SinkState}
-use Rattle.realm_io.specs.Counts.{Rose}
-use Rattle.realm_io.specs.Told.{with_more, TookPrefix}
+use Rattle.program_io.specs.Delivered as program
+use Rattle.program_io.specs.Delivered.{too_long_text}
 use Rattle.graph_model.specs.declared.graph.limits.TheConstants.{MAX_TEXT}
 use Rattle.graph_model.specs.declared.graph.why.Why.{Why}
-use Rattle.graph_model.specs.declared.graph.why.Why.TheVariants.{Header, Syntax, Name, Twice, Unknown, Kind, Number, Space, Outside, Arrivals, Limit, Missing, Rest}
+use Rattle.graph_model.specs.graph.Spelling.{why_word}
 use Rattle.flow_top.specs.Answer.{IsFlowAnswer, IsAnswerFault}
 use Rattle.flow_top.specs.declared.FlowFault.TheVariants as fault
 use Rattle.flow_top.specs.declared.status.FlowStatus.{FlowStatus}
@@ -21,21 +20,6 @@ exit_number WriteFault = 6
 exit_number NoMemory = 7
 exit_number TooLong = 9
 
-abbrev pub why_word : Why → List ℕ
-why_word Header = codes "header"
-why_word Syntax = codes "syntax"
-why_word Name = codes "name"
-why_word Twice = codes "twice"
-why_word Unknown = codes "unknown"
-why_word Kind = codes "kind"
-why_word Number = codes "number"
-why_word Space = codes "space"
-why_word Outside = codes "outside"
-why_word Arrivals = codes "arrivals"
-why_word Limit = codes "limit"
-why_word Missing = codes "missing"
-why_word Rest = codes "rest"
-
 -- the line for a refusal
 abbrev pub refused_text : ℕ → Why → List ℕ
 refused_text number why = codes "refused line " ++ (decimal number ++ (codes " " ++ (why_word why ++ (10 ∷ []))))
@@ -44,25 +28,12 @@ refused_text number why = codes "refused line " ++ (decimal number ++ (codes " "
 abbrev pub FlowAnswers : List ℕ → Bool → FlowStatus → List ℕ → Type 0
 FlowAnswers bytes commute Done out = (length bytes ≤ MAX_TEXT) × IsFlowAnswer bytes commute out
 FlowAnswers bytes commute Unread out = (length bytes ≤ MAX_TEXT) × (number : ℕ) × (why : Why) × IsAnswerFault bytes commute (fault.Line number why) × (out ≡ refused_text number why)
-FlowAnswers bytes commute TooLong out = (MAX_TEXT < length bytes) × (out ≡ codes "input too long" ++ 10 ∷ [])
+FlowAnswers bytes commute TooLong out = (MAX_TEXT < length bytes) × (out ≡ too_long_text)
 FlowAnswers bytes commute _ out = ⊥
-
--- all of the text was taken, and all that was taken is flushed
-pub record Delivered (old new : SinkState) (out : List ℕ) : Type 0 where
-  pub took : new.taken ≡ with_more old.taken out
-  pub flushed : new.flushed ≡ option_map length new.taken
-  pub count : old.faults ≤ new.faults
-
--- a prefix of the text was taken, no more is flushed than before, and a fault was counted
-pub record BrokenOff (old new : SinkState) (out : List ℕ) : Type 0 where
-  pub took : TookPrefix old.taken new.taken out
-  pub flushed : new.flushed ≡ old.flushed
-  pub count : old.faults ≤ new.faults
-  pub rose : Rose old.faults new.faults
 
 -- a text that goes with a status was delivered, or a fault broke it off
 abbrev pub Delivers : SinkState → SinkState → FlowStatus → FlowStatus → List ℕ → Type 0
-Delivers old new wanted result out = ((result ≡ wanted) × Delivered old new out) ⊎ ((result ≡ WriteFault) × BrokenOff old new out)
+Delivers old new wanted result out = program.Delivers WriteFault old new wanted result out
 
 -- an answer was given for these bytes, unless memory ran out or a read failed
 abbrev pub IsServed : List ℕ → Bool → SinkState → SinkState → FlowStatus → Type 0

@@ -6,7 +6,6 @@ pub mod laws;
 mod reading;
 mod serving;
 pub mod status;
-mod text_sink;
 mod unlike_flow;
 mod writing;
 

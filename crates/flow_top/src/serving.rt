@@ -1,10 +1,10 @@
 //! The top call: from a source with the text of a flow to a sink with that of its graph.
 
-ghost use Rattle.std.specs.Prelude.{◌≡◌, ℕ, ◌≤◌, ◌⊎◌, [], length, IfOk, IfSome};
+ghost use Rattle.std.specs.Prelude.{◌≡◌, ℕ, ◌≤◌, ◌⊎◌, length, IfOk, IfSome};
 ghost use Rattle.std.specs.Io.KnownBytes.{IsAtEnd};
 ghost use Rattle.realm_io.specs.Counts.{Rose};
 ghost use Rattle.graph_model.specs.declared.graph.limits.TheConstants.{MAX_TEXT as most_bytes};
-ghost use Rattle.flow_top.specs.Served.{why_word, refused_text, Delivers, IsServed};
+ghost use Rattle.flow_top.specs.Served.{refused_text, IsServed};
 ghost use Rattle.std.specs.String.{string_bytes};
 
 use crate::FlowFault;
@@ -13,7 +13,8 @@ use crate::status::FlowStatus;
 use graph_model::limits::MAX_TEXT;
 use graph_model::why::Why;
 use index_spaces::NoMemory;
-use realm_io::{ReadEnd, Sink, Source, put, read_all};
+use program_io::{put_text, put_too_long};
+use realm_io::{ReadEnd, Sink, Source, read_all};
 use std::alloc::Global;
 
 /// Reads the text of a flow and writes that of its graph, in which sums commute or not. Where there
@@ -40,7 +41,7 @@ pub fn serve_flow<S: Source, K: Sink>(
 {
     match read_all(alloc, source, MAX_TEXT as u32) {
         Ok(bytes) => serve_bytes(alloc, bytes.as_slice(), sink, commute),
-        Err(ReadEnd::TooLong) => put_text(sink, b"input too long\n", FlowStatus::TooLong),
+        Err(ReadEnd::TooLong) => put_too_long(sink, FlowStatus::TooLong),
         Err(ReadEnd::ReadFault) => FlowStatus::ReadFault,
         Err(ReadEnd::NoMemory) => FlowStatus::NoMemory,
     }
@@ -67,50 +68,9 @@ fn serve_bytes<K: Sink>(alloc: Global, bytes: &[u8], sink: &mut K, commute: bool
 fn refused_text(alloc: Global, number: u32, why: Why) -> Result<String, NoMemory>
     ensures { IfOk result (λ text. string_bytes text ≡ refused_text number why) }
 {
-    let word = why_word(why);
+    let word = why.word();
     match format!(in alloc; "refused line {number} {word}\n") {
         Ok(text) => Ok(text),
         Err(_) => Err(NoMemory),
-    }
-}
-
-/// The word for a reason.
-fn why_word(why: Why) -> &'static str
-    ensures { result.now ≡ why_word why }
-{
-    match why {
-        Why::Header => "header",
-        Why::Syntax => "syntax",
-        Why::Name => "name",
-        Why::Twice => "twice",
-        Why::Unknown => "unknown",
-        Why::Kind => "kind",
-        Why::Number => "number",
-        Why::Space => "space",
-        Why::Outside => "outside",
-        Why::Arrivals => "arrivals",
-        Why::Limit => "limit",
-        Why::Missing => "missing",
-        Why::Rest => "rest",
-    }
-}
-
-/// Writes a text and flushes it.
-fn put_text<K: Sink>(sink: &mut K, text: &[u8], status: FlowStatus) -> FlowStatus
-    ensures { Delivers (K.state sink.old) (K.state sink.new) status result text.now }
-{
-    match put(sink, text) {
-        Ok(()) => flush(sink, status),
-        Err(_) => FlowStatus::WriteFault,
-    }
-}
-
-/// Flushes a text that was written.
-fn flush<K: Sink>(sink: &mut K, status: FlowStatus) -> FlowStatus
-    ensures { Delivers (K.state sink.old) (K.state sink.new) status result [] }
-{
-    match sink.flush() {
-        Ok(()) => status,
-        Err(_) => FlowStatus::WriteFault,
     }
 }

@@ -3,6 +3,8 @@
 ghost use Rattle.std.specs.Prelude.{◌≡◌};
 ghost use Rattle.flow_top.specs.Served.{exit_number};
 
+use program_io::ProgramStatus;
+
 /// How the top call ended.
 #[derive(Clone, Copy, Debug, PartialEq, Eq)]
 pub enum FlowStatus {
@@ -33,5 +35,15 @@ impl FlowStatus {
             FlowStatus::NoMemory => 7,
             FlowStatus::TooLong => 9,
         }
+    }
+}
+
+impl ProgramStatus for FlowStatus {
+    ghost use Rattle.flow_top.specs.declared.status.FlowStatus.TheVariants.{WriteFault};
+
+    ghost write_fault = { WriteFault };
+
+    fn write_fault() -> FlowStatus {
+        FlowStatus::WriteFault
     }
 }

@@ -7,6 +7,7 @@ ghost use Rattle.run_words.specs.Works.{IsWokenOf, IsWorkOf};
 ghost use Rattle.run_words.specs.declared.words.Words.{Words as TheWords};
 
 use graph_model::graph::Graph;
+use graph_model::limits::MOST_ACCESSES;
 use graph_model::verb::Verb;
 use idle_workers::spin;
 use realm_io::Gate;
@@ -16,9 +17,6 @@ use std::sync::Wait;
 
 /// How often a worker tries to issue a line while another one has the desk's turn, which is short.
 const MOST_ISSUES: u32 = 8;
-
-/// A line has at most three accesses.
-const MOST_ACCESSES: u32 = 3;
 
 /// Whether a line has the column of the access k of another one.
 fn has_column_of(graph: &Graph, line: u32, other: u32, k: u32) -> bool {

@@ -1,13 +1,10 @@
--- A text that is written and then flushed, and what follows for the answers of the top call.
-use Rattle.std.proofs.Common.{◌≡◌, ◌≢◌, ℕ, ◌+◌, ◌≤◌, List, [], ◌++◌, length, refl, sym, ◌∙◌, ap, subst, inl, inr, append-nil, length-append, ◌<◌, arith}
-use Rattle.std.specs.Prelude.{Bool, true, false, Option, Some, None, ◌⊎◌, IfSome}
+-- What follows for the answers of the top call.
+use Rattle.std.proofs.Common.{◌≡◌, ◌≢◌, ℕ, ◌≤◌, List, length, refl, sym, ◌∙◌, ap, subst, inr, ◌<◌, arith}
+use Rattle.std.specs.Prelude.{Bool, true, false, Option, Some, None, IfSome}
 use Rattle.realm_io.specs.SinkState.{SinkState}
-use Rattle.realm_io.specs.Counts.{Rose}
-use Rattle.realm_io.specs.Told.{TookPrefix, Lost}
-use Rattle.realm_io.proofs.ToldFacts.{with_more-nil, took_after, rose_later}
 use Rattle.command_line.specs.declared.request.Request.{Request}
 use Rattle.graph_answers.specs.declared.status.Status.{Status}
-use Rattle.graph_answers.specs.declared.status.Status.TheVariants.{Done, Unread, Unfit, WriteFault, NoMemory, Slots, TooLong}
+use Rattle.graph_answers.specs.declared.status.Status.TheVariants.{Done, Unread, Unfit, Slots, TooLong}
 use Rattle.realm_io.specs.Written.{Wrote, Stopped}
 use Rattle.graph_reader.specs.Text.{GraphText}
 use Rattle.graph_reader.specs.Laws.{OneReading}
@@ -15,7 +12,9 @@ use Rattle.race_check.specs.Refusal.{IsRefusal}
 use Rattle.race_check.specs.declared.checked.CheckRefusal.{CheckRefusal}
 use Rattle.race_check.specs.declared.checked.CheckRefusal.TheVariants as refusal
 use Rattle.graph_answers.specs.Refused.{IsRefused, IsUnfit, Refuses, Rejects}
-use Rattle.graph_answers.specs.Delivered.{Delivered, BrokenOff, Delivers, IsAnswered}
+use Rattle.program_io.specs.Delivered.{Delivered}
+use Rattle.program_io.proofs.Public.{answered_as}
+use Rattle.graph_answers.specs.Delivered.{Delivers, IsAnswered}
 use Rattle.graph_answers.specs.Answer.{report_with, is_short, EndsByPaths, Served, Judged, InputAnswers, EnoughSlots, TooFewSlots, InputAsks}
 use Rattle.graph_answers.specs.Status.{is_refusal}
 use Rattle.graph_answers.specs.Texts.{unfit_text}
@@ -23,32 +22,8 @@ use Rattle.graph_model.specs.graph.Graph.{GraphValue}
 use Rattle.graph_model.specs.meaning.Rules.{Accepted}
 use Rattle.graph_model.specs.meaning.Need.{IsNeed}
 use Rattle.graph_model.specs.meaning.Laws.{OneNeed, WaitsWhereReached, CancelledWhereUnbroken}
-use Rattle.std.specs.Io.KnownBytes.{Consumes, IsAtEnd}
 use Rattle.std.proofs.lemmas.Bool.{true≢false}
-use Rattle.std.proofs.lemmas.Option.{none-some, same_Some}
-
--- a text that was written, and then a flush
-pub written_then_flushed : (r s t : SinkState) (wanted result : Status) (out : List ℕ) → Wrote r s out → Delivers s t wanted result [] → Delivers r t wanted result out
-written_then_flushed r s t wanted result out w (inl d) = inl (
-  d.0,
-  record {
-    took = (d.1).took ∙ (with_more-nil s.taken ∙ w.taken);
-    flushed = (d.1).flushed;
-    count = (let x : r.faults ≤ s.faults = w.count in let y : s.faults ≤ t.faults = (d.1).count in omega arith);
-  },
-)
-written_then_flushed r s t wanted result out w (inr b) = inr (
-  b.0,
-  record {
-    took = subst (TookPrefix r.taken t.taken) (append-nil out) (took_after r.taken s.taken t.taken out [] w.taken (b.1).took);
-    flushed = (b.1).flushed ∙ w.flushed;
-    count = (let x : r.faults ≤ s.faults = w.count in let y : s.faults ≤ t.faults = (b.1).count in omega arith);
-    rose = rose_later r.faults s.faults t.faults w.count (b.1).rose;
-  },
-)
-
-pub stopped_is_broken : (r s : SinkState) (out : List ℕ) → Stopped r s out → BrokenOff r s out
-stopped_is_broken r s out h = record { took = h.took; flushed = h.flushed; count = h.count; rose = h.rose }
+use Rattle.std.proofs.lemmas.Option.{none-some}
 
 -- bytes are not both a text and refused
 pub text_or_refused : (bytes out : List ℕ) → OneReading bytes → (g : GraphValue) → GraphText bytes g → IsRefused bytes out → ⊥
@@ -129,54 +104,13 @@ one_answer request needs bytes one TooLong TooLong o a b = refl
 one_answer request needs bytes one TooLong _ o a b = absurd b
 one_answer request needs bytes one _ t o a b = absurd (a.2).1
 
--- all that was left was read
-pub all_read : (old new : Option (List ℕ)) (bs : List ℕ) → Consumes old new bs → IsAtEnd new → (xs : List ℕ) → old ≡ Some xs → xs ≡ bs
-all_read None new bs c e xs h = absurd (none-some xs h)
-all_read (Some ys) None bs c e xs h = absurd c
-all_read (Some ys) (Some zs) bs c e xs h = sym (same_Some ys xs h) ∙ (c ∙ (ap (λ r. bs ++ r) e ∙ append-nil bs))
-
--- more was left than the limit
-pub more_left : (old new : Option (List ℕ)) (n : ℕ) → Lost old new (n + 1) → (xs : List ℕ) → old ≡ Some xs → n < length xs
-more_left None new n l xs h = absurd (none-some xs h)
-more_left (Some ys) None n l xs h = absurd l.2
-more_left (Some ys) (Some zs) n l xs h =
-    let e : length ys ≡ length (l.0 ++ zs) = ap length l.2 in
-    let f : length (l.0 ++ zs) ≡ length l.0 + length zs = length-append l.0 zs in
-    let g : length l.0 ≡ n + 1 = l.1 in
-    let i : length ys ≡ length xs = ap length (same_Some ys xs h) in
-    omega arith
-
 pub if_some : (o : Option (List ℕ)) (P : List ℕ → Type 0) → ((xs : List ℕ) → o ≡ Some xs → P xs) → IfSome o P
 if_some None P h = tt
 if_some (Some xs) P h = h xs refl
 
--- ANSWERS, each of them a status with its text: what was answered by the status
-module _ (A : Status → List ℕ → Type 0) (s t : SinkState) (result : Status) where
-  pub answered_as : (status : Status) → IsAnswered A s t result → result ≡ status → (status ≢ NoMemory) → (status ≢ WriteFault) → (out : List ℕ) × A status out × Delivered s t out
-  answered_as status (inl n) e a b = absurd (a (sym e ∙ n))
-  answered_as status (inr (wanted, out, w, inl d)) e a b = (out, subst (λ x. A x out) (sym d.0 ∙ e) w, d.1)
-  answered_as status (inr (wanted, out, w, inr d)) e a b = absurd (b (sym e ∙ d.0))
-
-  -- a refusal goes with its text
-  pub refused_as : IsAnswered A s t result → is_refusal result ≡ true → (out : List ℕ) × A result out × Delivered s t out
-  refused_as h r = answered_as result h refl (λ e. true≢false (sym r ∙ ap is_refusal e)) (λ e. true≢false (sym r ∙ ap is_refusal e))
-
-  -- a write that failed broke off the text of the answer
-  pub cut_off_as : ((out : List ℕ) → A WriteFault out → ⊥) → IsAnswered A s t result → result ≡ WriteFault → (status : Status) × (out : List ℕ) × A status out × BrokenOff s t out
-  cut_off_as never (inl n) e = absurd (let x : NoMemory ≡ WriteFault = sym n ∙ e in cc)
-  cut_off_as never (inr (wanted, out, a, inl d)) e = absurd (never out (subst (λ w. A w out) (sym d.0 ∙ e) a))
-  cut_off_as never (inr (wanted, out, a, inr b)) e = (wanted, out, a, b.1)
-
-  -- without a fault the answer is the one that goes with this status, where each does
-  pub complete_as : (status : Status) → ((wanted : Status) (out : List ℕ) → A wanted out → wanted ≡ status) → IsAnswered A s t result → (Rose s.faults t.faults → ⊥) → (result ≡ status) ⊎ (result ≡ NoMemory)
-  complete_as status one (inl n) h = inr n
-  complete_as status one (inr (wanted, out, a, inl d)) h = inl (d.0 ∙ one wanted out a)
-  complete_as status one (inr (wanted, out, a, inr c)) h = absurd (h (c.1).rose)
-
-  -- answers of one kind are answers of another
-  pub answered_by : (B : Status → List ℕ → Type 0) → ((wanted : Status) (out : List ℕ) → A wanted out → B wanted out) → IsAnswered A s t result → IsAnswered B s t result
-  answered_by B change (inl n) = inl n
-  answered_by B change (inr (wanted, out, a, d)) = inr (wanted, out, change wanted out a, d)
+-- a refusal goes with its text
+pub refused_as : (A : Status → List ℕ → Type 0) (s t : SinkState) (result : Status) → IsAnswered A s t result → is_refusal result ≡ true → (out : List ℕ) × A result out × Delivered s t out
+refused_as A s t result h r = answered_as A s t result result h refl (λ e. true≢false (sym r ∙ ap is_refusal e)) (λ e. true≢false (sym r ∙ ap is_refusal e))
 
 -- what becomes of a graph that was read is the answer to its text, and so is what is refused
 pub judged_input : (request : Request) (bytes : List ℕ) (g : GraphValue) → GraphText bytes g → (status : Status) (out : List ℕ) → Judged request g status out → InputAnswers request bytes status out

@@ -1,9 +1,9 @@
 -- The line for a text that is refused, where its words are known.
 use Rattle.std.proofs.Common.{◌≡◌, ℕ, List, [], ◌∷◌, ◌∙◌, ap}
 use Rattle.std.specs.Prelude.{codes, decimal}
-use Rattle.graph_model.specs.graph.Spelling.{spelled}
+use Rattle.graph_model.specs.graph.Spelling.{spelled, why_word}
 use Rattle.graph_model.specs.declared.graph.why.Why.{Why}
-use Rattle.graph_answers.specs.Texts.{why_word, unread_text}
+use Rattle.graph_answers.specs.Texts.{unread_text}
 
 -- a line of words, where two of them are known
 pub words_are : (digits word : List ℕ) (number : ℕ) (why : Why) → digits ≡ decimal number → word ≡ why_word why → spelled (codes "refused" ∷ codes "line" ∷ digits ∷ word ∷ []) ≡ unread_text number why

@@ -22,10 +22,11 @@ use Rattle.realm_timeline.specs.Text.{timeline_text}
 use Rattle.graph_reader.specs.Text.{GraphText, text}
 use Rattle.graph_answers.specs.declared.status.Status.{Status}
 use Rattle.graph_answers.specs.declared.status.Status.TheVariants.{Done, Unread, Unfit, Slots, TooLong}
-use Rattle.graph_answers.specs.Delivered.{Delivered, IsAnswered}
+use Rattle.program_io.specs.Delivered.{Delivered, too_long_text}
+use Rattle.graph_answers.specs.Delivered.{IsAnswered}
 use Rattle.graph_answers.specs.Refused.{IsRefused, IsUnfit}
 use Rattle.run_report.specs.Report.{evaluation_report}
-use Rattle.graph_answers.specs.Texts.{made_text, too_long_text, accepted_text, slots_text}
+use Rattle.graph_answers.specs.Texts.{made_text, accepted_text, slots_text}
 
 -- how lines end in the evaluation, by paths: a line waits exactly where one that never comes reaches it, itself included, and a line is cancelled exactly where an unbroken path from a fault reaches it
 pub record EndsByPaths (g : GraphValue) : Type 0 where

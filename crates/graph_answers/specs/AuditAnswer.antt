@@ -11,9 +11,9 @@ use Rattle.realm_audit.specs.Reading.{AreLines, IsNoText}
 use Rattle.realm_io.specs.SinkState.{SinkState}
 use Rattle.graph_answers.specs.declared.status.Status.{Status}
 use Rattle.graph_answers.specs.declared.status.Status.TheVariants.{Done, Unread, Unfit, TooLong, Unlawful}
-use Rattle.graph_answers.specs.Delivered.{Delivered}
+use Rattle.program_io.specs.Delivered.{Delivered, too_long_text}
 use Rattle.graph_answers.specs.Refused.{IsRefused, IsUnfit, IsNoTrace, IsUnlawful}
-use Rattle.graph_answers.specs.Texts.{too_long_text, lawful_text}
+use Rattle.graph_answers.specs.Texts.{lawful_text}
 
 -- the most bytes that the input may have
 abbrev pub AUDIT_LIMIT : ℕ

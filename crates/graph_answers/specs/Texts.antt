@@ -5,10 +5,9 @@ use Rattle.graph_model.specs.declared.meaning.outcome.Outcome.{Outcome}
 use Rattle.graph_model.specs.declared.meaning.outcome.End.{End}
 use Rattle.graph_model.specs.declared.meaning.outcome.End.TheVariants.{Done, Faulted, Cancelled, Waiting}
 use Rattle.graph_model.specs.declared.graph.why.Why.{Why}
-use Rattle.graph_model.specs.declared.graph.why.Why.TheVariants.{Header, Syntax, Name, Twice, Unknown, Kind, Number, Space, Outside, Arrivals, Limit, Missing, Rest}
 use Rattle.graph_model.specs.meaning.Effect.{wrapped}
 use Rattle.graph_model.specs.graph.Graph.{GraphValue}
-use Rattle.graph_model.specs.graph.Spelling.{spelled, line_name}
+use Rattle.graph_model.specs.graph.Spelling.{spelled, line_name, why_word}
 use Rattle.race_check.specs.declared.checked.CheckRefusal.{CheckRefusal}
 use Rattle.race_check.specs.declared.checked.CheckRefusal.TheVariants as refusal
 use Rattle.realm_audit.specs.declared.refusal.AuditRefusal.{AuditRefusal}
@@ -35,29 +34,9 @@ abbrev pub made_text : GraphValue → Outcome → List ℕ
 made_text g o = spelled (codes "made" ∷ codes "ops" ∷ decimal (length g.lines) ∷ codes "done" ∷ decimal (ended_so Done o) ∷ codes "faulted" ∷ decimal (ended_so Faulted o)
     ∷ codes "cancelled" ∷ decimal (ended_so Cancelled o) ∷ codes "waiting" ∷ decimal (ended_so Waiting o) ∷ codes "sum" ∷ decimal (cell_sum o.columns) ∷ [])
 
--- the word for a reason
-abbrev pub why_word : Why → List ℕ
-why_word Header = codes "header"
-why_word Syntax = codes "syntax"
-why_word Name = codes "name"
-why_word Twice = codes "twice"
-why_word Unknown = codes "unknown"
-why_word Kind = codes "kind"
-why_word Number = codes "number"
-why_word Space = codes "space"
-why_word Outside = codes "outside"
-why_word Arrivals = codes "arrivals"
-why_word Limit = codes "limit"
-why_word Missing = codes "missing"
-why_word Rest = codes "rest"
-
 -- the line for a text whose line of this number is refused
 abbrev pub unread_text : ℕ → Why → List ℕ
 unread_text number why = spelled (codes "refused" ∷ codes "line" ∷ decimal number ∷ why_word why ∷ [])
-
--- the line for an input that is too long
-abbrev pub too_long_text : List ℕ
-too_long_text = codes "input too long\n"
 
 -- the line for a graph that is accepted, with its need
 abbrev pub accepted_text : ℕ → List ℕ

@@ -6,9 +6,8 @@ use Rattle.graph_reader.specs.Text.{GraphText, text}
 use Rattle.realm_io.specs.SinkState.{SinkState}
 use Rattle.graph_answers.specs.declared.status.Status.{Status}
 use Rattle.graph_answers.specs.declared.status.Status.TheVariants.{Done, Unread, TooLong}
-use Rattle.graph_answers.specs.Delivered.{Delivered}
+use Rattle.program_io.specs.Delivered.{Delivered, too_long_text}
 use Rattle.graph_answers.specs.Refused.{IsRefused}
-use Rattle.graph_answers.specs.Texts.{too_long_text}
 
 -- the answer to an input of these bytes, and the text that goes with it: the text of the graph in format 2, whether or not it is accepted
 abbrev pub UpgradeAnswers : List ℕ → Status → List ℕ → Type 0

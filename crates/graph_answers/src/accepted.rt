@@ -5,12 +5,12 @@ ghost use Rattle.graph_answers.specs.Answer.{runs_nothing, Serves};
 ghost use Rattle.graph_answers.specs.Delivered.{Delivers};
 ghost use Rattle.graph_answers.specs.Texts.{accepted_text};
 
-use crate::delivery::flush;
 use crate::evaluating::evaluate;
 use crate::planning::plan_graph;
 use crate::refusal::put_accepted;
 use crate::status::Status;
 use command_line::request::{Action, MAX_WORKERS, Request};
+use program_io::flush;
 use race_check::checked::Checked;
 use realm_io::Sink;
 use std::alloc::Global;

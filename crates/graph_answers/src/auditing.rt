@@ -9,7 +9,6 @@ ghost use Rattle.graph_answers.specs.AuditAnswer.{AUDIT_LIMIT, AuditAnswers, Par
 ghost use Rattle.graph_answers.specs.Delivered.{Delivers, IsAnswered};
 ghost use Rattle.graph_answers.specs.Texts.{trace_refused_text, unlawful_text};
 
-use crate::delivery::{flush, put_text};
 use crate::refusing::{refuse, reject};
 use crate::status::Status;
 use crate::unlawful::{put_trace_refused, put_unlawful};
@@ -17,6 +16,7 @@ use graph_model::graph::Graph;
 use graph_model::lists::LineList;
 use graph_reader::read_graph;
 use plain_eval::evaluation::eval;
+use program_io::{flush, put_text};
 use race_check::check;
 use race_check::checked::Checked;
 use realm_audit::{AuditRefusal, TraceRefusal, audit, parts, read_trace};

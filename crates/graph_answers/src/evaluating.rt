@@ -6,11 +6,11 @@ ghost use Rattle.realm_io.specs.Written.{Writes};
 ghost use Rattle.graph_answers.specs.Answer.{evaluation_text, report_with};
 ghost use Rattle.graph_answers.specs.Delivered.{Delivers};
 
-use crate::delivery::flush;
 use crate::status::Status;
 use graph_model::graph::Graph;
 use graph_model::outcome::Outcome;
 use plain_eval::evaluation::eval;
+use program_io::flush;
 use race_check::checked::Checked;
 use realm_io::{Sink, WriteFault, put};
 use realm_trace::put_trace;

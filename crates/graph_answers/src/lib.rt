@@ -4,7 +4,6 @@
 
 pub mod accepted;
 pub mod auditing;
-pub mod delivery;
 pub mod evaluating;
 mod planning;
 mod refusal;

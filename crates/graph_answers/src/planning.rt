@@ -4,9 +4,9 @@ ghost use Rattle.std.specs.Prelude.{◌≡◌, ℕ, ◌≤◌, ◌⊎◌, max, L
 ghost use Rattle.graph_answers.specs.Answer.{IsTimelineText};
 ghost use Rattle.graph_answers.specs.Delivered.{Delivers};
 
-use crate::delivery::flush;
 use crate::status::Status;
 use command_line::request::MAX_WORKERS;
+use program_io::flush;
 use race_check::checked::Checked;
 use realm_io::Sink;
 use realm_timeline::text::put_timeline;

@@ -3,7 +3,7 @@
 ghost use Rattle.std.specs.Prelude.{◌≡◌, ◌≢◌, ◌<◌, ℕ, List, Some, length};
 ghost use Rattle.race_check.specs.Refusal.{NamesLines};
 ghost use Rattle.race_check.specs.declared.checked.CheckRefusal.{CheckRefusal};
-ghost use Rattle.graph_answers.specs.Texts.{why_word, unread_text, accepted_text, slots_text, broken_by_one, broken_by_two, unfit_text};
+ghost use Rattle.graph_answers.specs.Texts.{unread_text, accepted_text, slots_text, broken_by_one, broken_by_two, unfit_text};
 ghost use Rattle.realm_io.specs.Written.{Writes};
 
 use graph_model::graph::Graph;
@@ -13,34 +13,13 @@ use race_check::checked::CheckRefusal;
 use realm_io::{Sink, WriteFault};
 use run_report::{put_four, put_three};
 
-/// The word for a reason.
-fn why_word(why: Why) -> &'static [u8]
-    ensures { result.now ≡ why_word why }
-{
-    match why {
-        Why::Header => b"header",
-        Why::Syntax => b"syntax",
-        Why::Name => b"name",
-        Why::Twice => b"twice",
-        Why::Unknown => b"unknown",
-        Why::Kind => b"kind",
-        Why::Number => b"number",
-        Why::Space => b"space",
-        Why::Outside => b"outside",
-        Why::Arrivals => b"arrivals",
-        Why::Limit => b"limit",
-        Why::Missing => b"missing",
-        Why::Rest => b"rest",
-    }
-}
-
 /// Writes that the line of this number, counted from 1, is refused for this reason.
 pub(crate) fn put_unread<K: Sink>(sink: &mut K, number: u32, why: Why) -> Result<(), WriteFault>
     ensures { Writes (K.state sink.old) (K.state sink.new) result (unread_text number why) }
 {
     let mut buffer = Buffer::new();
     let digits = buffer.format(number).as_bytes();
-    put_four(sink, b"refused", b"line", digits, why_word(why))
+    put_four(sink, b"refused", b"line", digits, why.word().as_bytes())
 }
 
 /// Writes that a graph is accepted, with its need.

@@ -9,11 +9,11 @@ ghost use Rattle.graph_answers.specs.Texts.{unread_text, slots_text};
 ghost use Rattle.graph_answers.specs.Delivered.{Delivers, IsAnswered};
 ghost use Rattle.graph_answers.specs.Refused.{Refuses, Rejects};
 
-use crate::delivery::flush;
 use crate::refusal::{put_broken, put_slots, put_unread};
 use crate::status::Status;
 use graph_model::why::Why;
 use graph_reader::ReadRefusal;
+use program_io::flush;
 use race_check::checked::{CheckRefusal, Unfit};
 use realm_io::Sink;
 

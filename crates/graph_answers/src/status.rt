@@ -3,6 +3,8 @@
 ghost use Rattle.std.specs.Prelude.{◌≡◌};
 ghost use Rattle.graph_answers.specs.Status.{exit_number};
 
+use program_io::ProgramStatus;
+
 /// How the top call ended.
 #[derive(Clone, Copy, Debug, PartialEq, Eq)]
 pub enum Status {
@@ -45,5 +47,15 @@ impl Status {
             Status::TooLong => 9,
             Status::Unlawful => 10,
         }
+    }
+}
+
+impl ProgramStatus for Status {
+    ghost use Rattle.graph_answers.specs.declared.status.Status.TheVariants.{WriteFault};
+
+    ghost write_fault = { WriteFault };
+
+    fn write_fault() -> Status {
+        Status::WriteFault
     }
 }

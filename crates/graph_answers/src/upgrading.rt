@@ -5,12 +5,12 @@ ghost use Rattle.graph_reader.specs.Text.{text};
 ghost use Rattle.graph_answers.specs.Delivered.{Delivers, IsAnswered};
 ghost use Rattle.graph_answers.specs.UpgradeAnswer.{UpgradeAnswers};
 
-use crate::delivery::flush;
 use crate::refusing::refuse;
 use crate::status::Status;
 use graph_model::graph::Graph;
 use graph_model::limits::MAX_TEXT;
 use graph_reader::{put_graph, read_graph};
+use program_io::flush;
 use realm_io::Sink;
 use std::alloc::Global;
 

@@ -111,7 +111,7 @@ impl Model for Graph {
 impl Graph {
     ghost use Rattle.std.specs.Prelude.{◌≡◌, [], length, ◌<◌, ◌≤◌, slice_get, position, false, None, OnOk, OnErr, IfOk, IfSome, MatchOption, option_map};
     ghost use Rattle.graph_model.specs.declared.graph.format.Format.TheVariants.{One};
-    ghost use Rattle.graph_model.specs.graph.Graph.{upgraded, verb_at, named_spaces, space_of, columns, locks, barriers, space_at, column_space, never_comes, ends_user, is_release_of};
+    ghost use Rattle.graph_model.specs.graph.Graph.{upgraded, verb_at, named_spaces, space_of, columns, locks, barriers, space_at, column_space, never_comes, line_passes, is_shared, ends_user, is_release_of};
     ghost use Rattle.std.specs.List.{list_any};
     ghost use Rattle.graph_model.specs.kept.Rows.{mark_of};
     ghost use Rattle.graph_model.specs.graph.Edges.{edges_into, edges_out_of};
@@ -422,6 +422,17 @@ impl Graph {
             Verb::User => !self.rows.mark(i).ended,
             Verb::Phase { barrier } => self.rows.mark(i).arrivals
                 < self.tables.barrier(*barrier).count,
+            _ => false,
+        }
+    }
+
+    /// Whether a line is an acquire that is shared.
+    pub fn is_shared(&self, i: u32) -> bool
+        requires { i < length self.now.lines }
+        ensures { result ≡ line_passes is_shared self.now i }
+    {
+        match &self.line(i).verb {
+            Verb::Acquire { shared, .. } => *shared,
             _ => false,
         }
     }

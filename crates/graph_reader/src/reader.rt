@@ -14,12 +14,10 @@ use crate::item::{Item, ItemError};
 use crate::lines::read_item;
 use graph_model::format::Format;
 use graph_model::graph::Graph;
+use graph_model::limits::MAX_TEXT;
 use graph_model::why::Why;
 use index_spaces::NoMemory;
 use std::alloc::Global;
-
-/// The bytes that a text may have.
-const MAX_BYTES: usize = 1_048_576;
 
 /// The format that the first line names, and the bytes behind it. `None` exactly where they begin with no such line.
 fn read_header(bytes: &[u8]) -> Option<(Format, &[u8])>
@@ -134,7 +132,7 @@ fn closed(graph: Graph, number: u32, after: &[u8], bytes: usize) -> Reading
     requires { number < 2 ^ 32 - 1 }
     ensures { result ≡ closed_reading graph number after.now bytes }
 {
-    if bytes > MAX_BYTES {
+    if bytes as u64 > MAX_TEXT {
         return refused_behind(graph, number, Why::Limit);
     }
     if after.is_empty() {

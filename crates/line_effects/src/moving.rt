@@ -6,12 +6,10 @@ ghost use Rattle.graph_model.specs.graph.Graph.{columns};
 ghost use Rattle.line_effects.specs.Moved.{moves, AreMoved, AreBack};
 
 use graph_model::graph::Graph;
+use graph_model::limits::MOST_ACCESSES;
 use graph_model::line_laws::{accesses_fit, columns_differ};
 use index_spaces::held::Held;
 use instances::Homes;
-
-/// A line moves at most three columns.
-pub const MOST_COLUMNS: u32 = 3;
 
 /// The column of this number among those that a line moves.
 pub fn moved_column(graph: &Graph, line: u32, k: u32) -> Option<u32>
@@ -37,7 +35,7 @@ pub fn take_columns(graph: &Graph, line: u32, homes: &mut Homes) -> Held
     columns_differ();
     let _ = graph.lines();
     let mut held = Held::none();
-    for k in 0..MOST_COLUMNS {
+    for k in 0..MOST_ACCESSES {
         if let Some(c) = moved_column(graph, line, k) {
             take_column(homes, &mut held, c);
         }
@@ -69,7 +67,7 @@ pub fn give_columns(graph: &Graph, line: u32, mut held: Held, homes: &mut Homes)
 {
     columns_differ();
     let _ = graph.lines();
-    for k in 0..MOST_COLUMNS {
+    for k in 0..MOST_ACCESSES {
         if let Some(c) = moved_column(graph, line, k) {
             let column = held.take(c);
             homes.give(c, column);

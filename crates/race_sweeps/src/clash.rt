@@ -11,11 +11,9 @@ ghost use Rattle.race_sweeps.specs.Settled.{IsSettled};
 
 use crate::held::Held;
 use graph_model::graph::Graph;
+pub use graph_model::limits::MOST_ACCESSES;
 use graph_model::line_laws::accesses_fit;
 use graph_model::verb::{Access, Mode};
-
-/// A line has at most three accesses.
-pub const MOST_ACCESSES: u32 = 3;
 
 /// Whether two lines do not conflict, or by uses that commute alone and in sections of two
 /// different acquires of one reservation, not both shared.

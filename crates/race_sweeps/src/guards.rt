@@ -10,7 +10,7 @@ ghost use Rattle.race_sweeps.specs.Placed.{IsPlaced};
 
 use crate::clash::is_reduction;
 use crate::classes::Classes;
-use crate::held::{Held, is_shared};
+use crate::held::Held;
 use graph_model::graph::Graph;
 use index_spaces::NoMemory;
 use index_spaces::room::{filled, push, with_room};
@@ -216,7 +216,7 @@ fn slot_of(graph: &Graph, lock: u32, acquire: u32) -> usize
     ensures within { result < length graph.now.lines + length (locks graph.now) }
 {
     let lines = graph.lines() as usize;
-    if is_shared(graph, acquire) {
+    if graph.is_shared(acquire) {
         lines + lock as usize
     } else {
         acquire as usize

@@ -1,12 +1,10 @@
 //! In which sections the lines lie.
 
 ghost use Rattle.std.specs.Prelude.{◌≡◌, ℕ, ◌<◌, ◌↔◌, length, IsTrue, IfSome};
-ghost use Rattle.graph_model.specs.graph.Graph.{line_passes, is_shared};
 ghost use Rattle.graph_model.specs.meaning.Rules.{Section};
 ghost use Rattle.race_sweeps.specs.Held.{IsHeld, LieApart, Exclude, acquire_in};
 
 use graph_model::graph::Graph;
-use graph_model::verb::Verb;
 
 /// For each reservation and each line an acquire in whose section the line lies, where there is
 /// one.
@@ -84,16 +82,5 @@ pub fn exclude(graph: &Graph, one: Option<u32>, other: Option<u32>) -> bool
     let (Some(one), Some(other)) = (one, other) else {
         return false;
     };
-    one != other && !(is_shared(graph, one) && is_shared(graph, other))
-}
-
-/// Whether a line is an acquire that is shared.
-pub(crate) fn is_shared(graph: &Graph, line: u32) -> bool
-    requires { line < length graph.now.lines }
-    ensures { result ≡ line_passes is_shared graph.now line }
-{
-    match &graph.line(line).verb {
-        Verb::Acquire { shared, .. } => *shared,
-        _ => false,
-    }
+    one != other && !(graph.is_shared(one) && graph.is_shared(other))
 }

@@ -8,7 +8,7 @@ use Rattle.std_heap.specs.contracts.GlobalAllocator.TheImpl.{ghosts, dict}
 use Rattle.std_heap.proofs.Global.TheLaws as heap
 use Rattle.realm_c.specs.contracts.token.Token as Token
 use Rattle.realm_c.proofs.token.Token.TheLaws as token
-use Rattle.realm_c.specs.contracts.parts.Parts as Parts
+use Rattle.c_handles.specs.contracts.parts.Parts as Parts
 use Rattle.realm_c.specs.contracts.held.Held as Held
 
 abbrev pub E : Bx

@@ -1,16 +1,5 @@
 -- A text that is handed out in a caller's buffer.
-use Rattle.std.specs.Prelude.{◌≡◌, ℕ, ◌<◌, List, length, take, drop, Some, None}
-use Rattle.realm_io.specs.SinkState.{SinkState}
-
--- a sink that keeps all bytes: those that it took, how many of them were flushed, and the count of faults
-pub record TextSinkValue : Type 0 where
-  pub taken : List ℕ
-  pub flushed : ℕ
-  pub faults : ℕ
-
--- what it tells: all but its calls
-abbrev pub told_of : TextSinkValue → SinkState
-told_of s = record { taken = Some s.taken; flushed = Some s.flushed; calls = None; empty_writes = None; faults = s.faults }
+use Rattle.std.specs.Prelude.{◌≡◌, ℕ, ◌<◌, List, length, take, drop}
 
 -- the buffer begins with all of the text, and what stands behind it stays
 pub record Holds (text old new : List ℕ) (written : ℕ) : Type 0 where

@@ -14,13 +14,13 @@ ghost use Rattle.realm_c.specs.declared.reading.Refusal.{Refusal as TheRefusal};
 use crate::buffer::hand_out;
 use crate::reading::read_checked;
 use crate::status::{NO_MEMORY, TOO_LONG};
-use crate::text_sink::TextSink;
 use graph_model::graph::Graph;
 use graph_model::laws::{cancelled_where_unbroken, waits_where_reached};
 use graph_model::limits::MAX_TEXT;
 use graph_model::outcome::Outcome;
 use plain_eval::evaluation::eval;
 use race_check::checked::Checked;
+use realm_io::TextSink;
 use run_report::put_report;
 use std::alloc::Global;
 

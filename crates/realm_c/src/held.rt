@@ -5,7 +5,7 @@ ghost use Rattle.realm_c.specs.Held.{held_owns};
 ghost use Rattle.realm_c.specs.Runs.{held_of};
 ghost use Rattle.realm_c.specs.declared.token.Token.{Token as TheToken};
 
-use crate::parts::Parts;
+use c_handles::Parts;
 use crate::token::Token;
 use std::alloc::Global;
 use std::marker::Model;

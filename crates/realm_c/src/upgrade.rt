@@ -10,10 +10,10 @@ ghost use Rattle.realm_c.specs.declared.reading.Refusal.{Refusal as TheRefusal};
 use crate::buffer::hand_out;
 use crate::reading::read;
 use crate::status::{NO_MEMORY, TOO_LONG};
-use crate::text_sink::TextSink;
 use graph_model::graph::Graph;
 use graph_model::limits::MAX_TEXT;
 use graph_reader::put_graph;
+use realm_io::TextSink;
 use std::alloc::Global;
 
 /// Reads a graph from its text, and puts its text in format 2 into `out` with its length beside it, whether or not the

@@ -2,10 +2,15 @@
 
 ghost use Rattle.std.specs.Prelude.{◌≡◌, ◌≢◌, ℕ, ◌≤◌, ◌⊎◌, List, IfSome, IfNone};
 ghost use Rattle.realm_c.specs.Buffers.{Holds, IsCut};
+ghost use Rattle.realm_c.specs.Numbers.{why_number};
 ghost use Rattle.realm_c.specs.Words.{IsWord, HasWord, IsReasonWord, IsRuleWord, IsFaultWord};
 
 use crate::buffer::hand_out;
 use crate::status::USAGE;
+use graph_model::why::Why;
+
+// The number of the word for the text of a trace.
+const TRACE: u32 = 14;
 
 /// Puts a word into `out` with its length beside it: of the reason of this number where `kind` is 0, of the rule where it
 /// is 1, of the fault of a trace where it is 2. 0; 2 exactly where there is no such word; 6 exactly where `out` is too
@@ -46,21 +51,35 @@ fn reason_word(number: u32) -> Option<&'static [u8]>
     ensures has { IfSome result (λ _. (1 ≤ number) × (number ≤ 14)) }
     ensures none { IfNone result ((1 ≤ number) × (number ≤ 14) → ⊥) }
 {
+    if number == TRACE {
+        return Some(b"trace");
+    }
+    match why_by(number) {
+        Some(why) => Some(why.word().as_bytes()),
+        None => None,
+    }
+}
+
+/// The reason with this number.
+fn why_by(number: u32) -> Option<Why>
+    ensures some { IfSome result (λ why. number ≡ why_number why) }
+    ensures has { IfSome result (λ _. (1 ≤ number) × (number ≤ 13)) }
+    ensures none { IfNone result ((1 ≤ number) × (number ≤ 13) → ⊥) }
+{
     match number {
-        1 => Some(b"header"),
-        2 => Some(b"syntax"),
-        3 => Some(b"name"),
-        4 => Some(b"twice"),
-        5 => Some(b"unknown"),
-        6 => Some(b"kind"),
-        7 => Some(b"number"),
-        8 => Some(b"space"),
-        9 => Some(b"outside"),
-        10 => Some(b"arrivals"),
-        11 => Some(b"limit"),
-        12 => Some(b"missing"),
-        13 => Some(b"rest"),
-        14 => Some(b"trace"),
+        1 => Some(Why::Header),
+        2 => Some(Why::Syntax),
+        3 => Some(Why::Name),
+        4 => Some(Why::Twice),
+        5 => Some(Why::Unknown),
+        6 => Some(Why::Kind),
+        7 => Some(Why::Number),
+        8 => Some(Why::Space),
+        9 => Some(Why::Outside),
+        10 => Some(Why::Arrivals),
+        11 => Some(Why::Limit),
+        12 => Some(Why::Missing),
+        13 => Some(Why::Rest),
         _ => None,
     }
 }

@@ -7,7 +7,6 @@ mod inside;
 mod making;
 mod owed;
 mod owner;
-mod parts;
 mod place;
 mod status;
 mod token;

@@ -1,5 +1,6 @@
 pub mod Counts
 pub mod Told
 pub mod Memory
+pub mod TextSinks
 pub mod SinkState
 pub mod Written

@@ -13,6 +13,7 @@ pub mod reading;
 pub mod sinks;
 pub mod sources;
 pub mod sure;
+pub mod text_sink;
 pub mod writing;
 
 pub use adapters::{StdSink, StdSource};
@@ -24,4 +25,5 @@ pub use reading::{ReadEnd, read_all};
 pub use sinks::Sink;
 pub use sources::{Failed, Source};
 pub use sure::{SureSink, SureSource};
+pub use text_sink::TextSink;
 pub use writing::{WriteFault, put, put_bytes, put_decimal, put_number};

@@ -8,11 +8,9 @@ ghost use Rattle.graph_model.specs.declared.graph.verb.Verb.TheVariants.{Acquire
 ghost use Rattle.graph_model.specs.meaning.Rules.{Releases};
 
 use graph_model::graph::Graph;
+use graph_model::limits::MOST_ACCESSES;
 use graph_model::line_laws::{accesses_are_few, accesses_fit};
 use graph_model::verb::Verb;
-
-/// A line has at most three accesses.
-const MOST_ACCESSES: u32 = 3;
 
 /// How long a line takes in virtual time: 1, and 1 more for each point of each access.
 pub(crate) fn cost_of(graph: &Graph, line: u32) -> u64

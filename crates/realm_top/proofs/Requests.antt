@@ -20,8 +20,8 @@ use Rattle.realm_audit.specs.Reading.{TextTells}
 use Rattle.graph_answers.specs.declared.status.Status.{Status}
 use Rattle.graph_answers.specs.declared.status.Status.TheVariants.{Done, ReadFault, WriteFault, NoMemory, TooLong}
 use Rattle.graph_answers.specs.Status.{is_refusal}
-use Rattle.graph_answers.specs.Texts.{too_long_text}
-use Rattle.graph_answers.specs.Delivered.{Delivered, BrokenOff, Delivers, IsAnswered}
+use Rattle.program_io.specs.Delivered.{too_long_text, Delivered, BrokenOff}
+use Rattle.graph_answers.specs.Delivered.{Delivers, IsAnswered}
 use Rattle.graph_answers.specs.AuditAnswer.{AuditAnswers, IsAudited}
 use Rattle.realm_top.specs.Answer.{Purpose, Checking, Auditing, Upgrading, InSession, Making, purpose, is_checking, is_auditing, is_upgrading, is_in_session, is_reading, limit_for, reads, checks, audits, upgrades, runs_session, input_limit, MadeAnswers, IsInputFor, IsInput, AnswersFor, Answers, AsksFor, AsksStatus, Answered, AnsweredBy}
 use Rattle.realm_top.specs.Laws.{AnswersAreOne, PathsTellEnds}
@@ -30,7 +30,8 @@ use Rattle.graph_answers.specs.UpgradeAnswer.{UpgradeAnswers, IsUpgraded}
 use Rattle.realm_top.specs.SessionAnswer.{session_slots, SessionAnswers, IsSessionDone}
 use Rattle.graph_answers.proofs.UpgradeAnswers.{one_upgrade}
 use Rattle.realm_top.proofs.SessionAnswers.{one_session}
-use Rattle.graph_answers.proofs.Delivering.{one_answer, all_read, if_some, answered_as, refused_as, cut_off_as, complete_as, answered_by}
+use Rattle.program_io.proofs.Public.{all_read, answered_as, cut_off_as, complete_as, answered_by}
+use Rattle.graph_answers.proofs.Delivering.{one_answer, if_some, refused_as}
 use Rattle.graph_answers.proofs.AuditAnswers.{one_audit}
 use Rattle.realm_top.proofs.MadeRequests.{made_one, not_made, done_says}
 
@@ -172,7 +173,7 @@ module _ (request : Request) (left : Option (List ℕ)) (s t : SinkState) (resul
   request_refused e xs i = refused_as (Answers request xs) s t result (no_read_fault result refl (λ fault. true≢false (sym e ∙ ap is_refusal fault)) xs i) e
 
   pub request_cut_off : result ≡ WriteFault → (xs : List ℕ) → IsInput request.action left xs → (status : Status) × (out : List ℕ) × Answers request xs status out × BrokenOff s t out
-  request_cut_off e xs i = cut_off_as (Answers request xs) s t result (unfaulted_by aim request xs) (no_read_fault WriteFault e (λ x. cc) xs i) e
+  request_cut_off e xs i = cut_off_as (Answers request xs) s t result (λ x. cc) (unfaulted_by aim request xs) (no_read_fault WriteFault e (λ x. cc) xs i) e
 
   pub request_complete : AnswersAreOne → (result ≡ ReadFault → ⊥) → (q : Request) → request ≡ q → (xs : List ℕ) (status : Status) → IsInput q.action left xs → AsksStatus q xs status → (Rose s.faults t.faults → ⊥) → (result ≡ status) ⊎ (result ≡ NoMemory)
   request_complete one quiet q same xs status i a silent =
@@ -229,4 +230,4 @@ pub answered_long : (request : Request) → reads request.action ≡ true → (o
 answered_long request r old s t result long d xs i = inr (TooLong, too_long_text, long_by (purpose request.action) request xs r (long xs (told (purpose request.action) old xs r i)), d)
 
 pub answered_made : (request : Request) → reads request.action ≡ false → (old : Option (List ℕ)) (s t : SinkState) (result : Status) → IsAnswered (MadeAnswers request.text request (made_graph request.seed request.size)) s t result → AnsweredBy request old s t result
-answered_made request r old s t result a xs i = answered_by (MadeAnswers request.text request (made_graph request.seed request.size)) s t result (Answers request xs) (answers_made (purpose request.action) request xs r) a
+answered_made request r old s t result a xs i = answered_by (MadeAnswers request.text request (made_graph request.seed request.size)) (Answers request xs) s t result (answers_made (purpose request.action) request xs r) a

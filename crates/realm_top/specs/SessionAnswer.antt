@@ -16,8 +16,8 @@ use Rattle.session_report.specs.Report.{session_report}
 use Rattle.realm_io.specs.SinkState.{SinkState}
 use Rattle.graph_answers.specs.declared.status.Status.{Status}
 use Rattle.graph_answers.specs.declared.status.Status.TheVariants.{Done, Unread, Unfit, Slots, TooLong}
-use Rattle.graph_answers.specs.Delivered.{Delivered}
-use Rattle.graph_answers.specs.Texts.{unread_text, slots_text, too_long_text}
+use Rattle.program_io.specs.Delivered.{Delivered, too_long_text}
+use Rattle.graph_answers.specs.Texts.{unread_text, slots_text}
 use Rattle.realm_top.specs.SessionTexts.{unfit_in_text}
 
 -- how many slots the events of all graphs have: as many as are given, or 8,192

@@ -9,8 +9,8 @@ use crate::actions::{input_limit, reads};
 use crate::input::answer;
 use crate::making::answer_made;
 use command_line::request::{MAX_SIZE, MAX_SLOTS, MAX_WORKERS, Request};
-use graph_answers::delivery::put_text;
 use graph_answers::status::Status;
+use program_io::put_too_long;
 use realm_io::{Gate, ReadEnd, Sink, Source, read_all};
 use std::alloc::Global;
 use std::sync::Wait;
@@ -66,7 +66,7 @@ fn answer_read<R: Threads + Wait + Sync, S: Source, K: Sink, G: Gate>(
 {
     match read_all(alloc, source, input_limit(request.action)) {
         Ok(bytes) => answer(rt, alloc, request, bytes.as_slice(), sink, gate),
-        Err(ReadEnd::TooLong) => put_text(sink, b"input too long\n", Status::TooLong),
+        Err(ReadEnd::TooLong) => put_too_long(sink, Status::TooLong),
         Err(ReadEnd::ReadFault) => Status::ReadFault,
         Err(ReadEnd::NoMemory) => Status::NoMemory,
     }

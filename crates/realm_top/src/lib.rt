@@ -23,7 +23,7 @@ ghost use Rattle.graph_answers.specs.Answer.{made_says, EndsByPaths, IsDone};
 ghost use Rattle.graph_answers.specs.AuditAnswer.{IsAudited};
 ghost use Rattle.graph_answers.specs.UpgradeAnswer.{IsUpgraded};
 ghost use Rattle.realm_top.specs.SessionAnswer.{session_slots, IsSessionDone};
-ghost use Rattle.graph_answers.specs.Delivered.{Delivered, BrokenOff};
+ghost use Rattle.program_io.specs.Delivered.{Delivered, BrokenOff};
 ghost use Rattle.graph_answers.specs.Status.{words_status, is_refusal};
 ghost use Rattle.graph_answers.specs.declared.status.Status.{Status};
 

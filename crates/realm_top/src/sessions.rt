@@ -17,11 +17,11 @@ ghost use Rattle.realm_top.specs.SessionAnswer.{session_slots, RefusesSession, G
 use crate::running::run_graph;
 use crate::session_refusal::put_broken_in;
 use command_line::request::{MAX_SLOTS, MAX_WORKERS, Request};
-use graph_answers::delivery::flush;
 use graph_answers::refusing::{put_refusal, put_short};
 use graph_answers::status::Status;
 use graph_model::checked::Checked;
 use graph_reader::ReadRefusal;
+use program_io::flush;
 use realm_io::{Gate, Sink};
 use session_report::put_session;
 use session_run::{Ended, RunFault, UnfitGraph, run_session};

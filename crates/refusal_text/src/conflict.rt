@@ -19,7 +19,7 @@ use explanations::meetings::Meeting;
 use explanations::races::SharedPoint;
 use explanations::sections::lock_of;
 use graph_model::graph::Graph;
-use graph_model::verb::{Mode, Verb};
+use graph_model::verb::Mode;
 use index_spaces::NoMemory;
 
 /// Puts why two lines race.
@@ -365,16 +365,11 @@ fn both_shared(graph: &Graph, one: u32, other: u32) -> bool
     is_shared(graph, one) && is_shared(graph, other)
 }
 
+/// The same of one line, which need not be one of the graph.
 fn is_shared(graph: &Graph, line: u32) -> bool
     ensures { result ≡ line_passes is_shared graph.now line }
 {
-    if line >= graph.lines() {
-        return false;
-    }
-    match graph.line(line).verb {
-        Verb::Acquire { shared, .. } => shared,
-        _ => false,
-    }
+    line < graph.lines() && graph.is_shared(line)
 }
 
 /// Puts the acquires in whose sections a line lies.

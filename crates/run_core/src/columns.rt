@@ -11,10 +11,11 @@ ghost use Rattle.run_core.specs.Kept.{places_of, takers_with};
 ghost use Rattle.run_core.specs.Steps.{HasColumns, IsFirstOut};
 
 use graph_model::graph::Graph;
+use graph_model::limits::MOST_ACCESSES;
 use index_spaces::held::Held;
 use instances::Homes;
 use line_effects::moving;
-use line_effects::moving::{MOST_COLUMNS, moved_column};
+use line_effects::moving::moved_column;
 
 /// The columns, each at home or out, and for each the line that took it last.
 #[derive(Drop)]
@@ -48,7 +49,7 @@ fn note_taker(graph: &Graph, line: u32, takers: &mut Vec<u32>)
     requires each { length takers.old.items ≡ length (graph_columns graph.now) }
     ensures { takers.new.items ≡ takers_with takers.old.items line (column_list graph.now line) }
 {
-    for k in 0..MOST_COLUMNS {
+    for k in 0..MOST_ACCESSES {
         if let Some(c) = moved_column(graph, line, k) {
             takers[c as usize] = line;
         }
@@ -80,7 +81,7 @@ pub(crate) fn busy_column(graph: &Graph, line: u32, columns: &Columns) -> Option
     ensures { MatchOption result (HasColumns graph.now (places_of columns.now.homes columns.now.takers.items) line)
         (IsFirstOut graph.now (places_of columns.now.homes columns.now.takers.items) line) }
 {
-    for k in 0..MOST_COLUMNS {
+    for k in 0..MOST_ACCESSES {
         if let Some(c) = moved_column(graph, line, k) {
             if columns.homes.is_out(c) {
                 return Some(c);

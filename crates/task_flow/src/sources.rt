@@ -10,8 +10,8 @@ ghost use Rattle.task_flow.specs.Construction.{down_from, tied_by, has, is_large
 use crate::bits::Bits;
 use crate::row::Row;
 use crate::rows::Rows;
-use crate::ties::MOST_ACCESSES;
 use graph_model::graph::Graph;
+use graph_model::limits::MOST_ACCESSES;
 use graph_model::line_laws::{accesses_are_few, accesses_fit};
 use graph_model::lists::LineList;
 use graph_model::verb::Access;

@@ -5,9 +5,6 @@ ghost use Rattle.task_flow.specs.Meaning.{order_counts};
 
 use graph_model::verb::Mode;
 
-/// A line has at most three accesses.
-pub(crate) const MOST_ACCESSES: u32 = 3;
-
 /// Whether the order of two uses counts: not both are reads and, where sums commute, not both sums.
 pub(crate) fn order_counts(commute: bool, one: Mode, other: Mode) -> bool
     ensures { result ≡ order_counts commute one other }

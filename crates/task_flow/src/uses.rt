@@ -8,8 +8,9 @@ ghost use Rattle.task_flow.specs.Uses.{IsRest};
 
 use crate::bits::Bits;
 use crate::ends::{Ends, ends_of};
-use crate::ties::{MOST_ACCESSES, order_counts};
+use crate::ties::order_counts;
 use graph_model::graph::Graph;
+use graph_model::limits::MOST_ACCESSES;
 use graph_model::line_laws::{accesses_are_few, accesses_fit};
 use graph_model::lists::LineList;
 use graph_model::verb::{Access, Mode};

@@ -13,6 +13,8 @@ use Rattle.graph_model.specs.declared.graph.verb.Verb.{Verb}
 use Rattle.graph_model.specs.declared.graph.verb.Verb.TheVariants.{Merge, MergeIgnore}
 use Rattle.graph_model.specs.declared.graph.table.Place.{Place}
 use Rattle.graph_model.specs.declared.graph.table.Place.TheVariants as places
+use Rattle.graph_model.specs.declared.graph.why.Why.{Why}
+use Rattle.graph_model.specs.declared.graph.why.Why.TheVariants as why
 use Rattle.graph_model.specs.graph.Table.{Placed, kind_words, verb_kind, verb_placed}
 use Rattle.graph_model.specs.graph.Graph.{GraphValue, ColumnInfo, BarrierInfo, named_spaces, columns, locks, barriers}
 
@@ -106,3 +108,19 @@ lines_text f decls before (l ∷ ls) = spelled (line_words (record { format = f;
 -- the text of a graph up to its closing line
 abbrev pub head : GraphValue → List ℕ
 head g = header g.format ++ (decls_text g.format [] g.decls ++ lines_text g.format g.decls [] g.lines)
+
+-- the word of a reason
+abbrev pub why_word : Why → List ℕ
+why_word why.Header = codes "header"
+why_word why.Syntax = codes "syntax"
+why_word why.Name = codes "name"
+why_word why.Twice = codes "twice"
+why_word why.Unknown = codes "unknown"
+why_word why.Kind = codes "kind"
+why_word why.Number = codes "number"
+why_word why.Space = codes "space"
+why_word why.Outside = codes "outside"
+why_word why.Arrivals = codes "arrivals"
+why_word why.Limit = codes "limit"
+why_word why.Missing = codes "missing"
+why_word why.Rest = codes "rest"

@@ -24,6 +24,9 @@ pub const MAX_LINES: u64 = 8_192;
 /// The most edges.
 pub const MAX_EDGES: u64 = 65_536;
 
+/// The most accesses of a line.
+pub const MOST_ACCESSES: u32 = 3;
+
 /// The most lines that a merge names.
 pub const MAX_EVENTS: u32 = 64;
 

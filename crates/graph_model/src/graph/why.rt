@@ -30,3 +30,29 @@ pub enum Why {
     /// There are bytes after the last line.
     Rest,
 }
+
+impl Why {
+    ghost use Rattle.std.specs.Prelude.{◌≡◌};
+    ghost use Rattle.graph_model.specs.graph.Spelling.{why_word};
+
+    /// The word of the reason, as it stands behind `refused line N`.
+    pub fn word(self) -> &'static str
+        ensures { result.now ≡ why_word self }
+    {
+        match self {
+            Why::Header => "header",
+            Why::Syntax => "syntax",
+            Why::Name => "name",
+            Why::Twice => "twice",
+            Why::Unknown => "unknown",
+            Why::Kind => "kind",
+            Why::Number => "number",
+            Why::Space => "space",
+            Why::Outside => "outside",
+            Why::Arrivals => "arrivals",
+            Why::Limit => "limit",
+            Why::Missing => "missing",
+            Why::Rest => "rest",
+        }
+    }
+}

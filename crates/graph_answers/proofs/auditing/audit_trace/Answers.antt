@@ -1,7 +1,7 @@
 use Rattle.std.proofs.Common.{sym, subst}
 use Rattle.realm_audit.specs.Reading.{IsRefusal}
 use Rattle.graph_answers.specs.AuditAnswer.{LawfulAnswers, TraceAnswers}
-use Rattle.graph_answers.proofs.Delivering.{answered_by}
+use Rattle.program_io.proofs.Public.{answered_by}
 use Rattle.graph_answers.proofs.AuditAnswers.{lawful_trace, trace_of, no_trace_answered}
 use Rattle.graph_answers.proofs.auditing.audit_trace.Goals as goal
 
@@ -10,7 +10,7 @@ returns-in-Ok-clause-read g c =
     let back = c.args.back.now in
     let graph = c.args.checked.now.graph in
     let trace = c.in-Ok.trace in
-    answered_by (LawfulAnswers graph trace) _ _ c.judge_trace.result (TraceAnswers graph back) (lawful_trace graph back trace (trace_of c.graph-graph.result.now graph back trace c.graph-graph.ensures.graph c.in-Ok.ensures.text c.in-Ok.ensures.lines)) c.judge_trace.ensures.judged
+    answered_by (LawfulAnswers graph trace) (TraceAnswers graph back) _ _ c.judge_trace.result (lawful_trace graph back trace (trace_of c.graph-graph.result.now graph back trace c.graph-graph.ensures.graph c.in-Ok.ensures.text c.in-Ok.ensures.lines)) c.judge_trace.ensures.judged
 
 pub returns-in-Err-Line-clause-read : goal.returns-in-Err-Line-clause-read
 returns-in-Err-Line-clause-read g c =

@@ -1,7 +1,7 @@
 use Rattle.std.proofs.Common.{◌+◌}
 use Rattle.graph_reader.specs.FirstFault.{line_count}
 use Rattle.graph_answers.specs.Texts.{trace_refused_text}
-use Rattle.graph_answers.proofs.Delivering.{written_then_flushed}
+use Rattle.program_io.proofs.Public.{written_then_flushed}
 use Rattle.graph_answers.proofs.AuditAnswers.{wrote_number}
 use Rattle.graph_answers.proofs.auditing.put_no_trace.Goals as goal
 

@@ -2,7 +2,8 @@ use Rattle.std.proofs.Common.{inr, ap}
 use Rattle.graph_model.specs.declared.meaning.outcome.Outcome.{Outcome}
 use Rattle.graph_model.specs.meaning.Evaluation.{order}
 use Rattle.graph_answers.specs.Answer.{evaluation_text}
-use Rattle.graph_answers.proofs.Delivering.{written_then_flushed, wrote_of}
+use Rattle.program_io.proofs.Public.{written_then_flushed}
+use Rattle.graph_answers.proofs.Delivering.{wrote_of}
 use Rattle.graph_answers.proofs.evaluating.evaluate.Goals as goal
 
 pub returns-in-Ok-put_outcome-clause-done : goal.returns-in-Ok-put_outcome-clause-done

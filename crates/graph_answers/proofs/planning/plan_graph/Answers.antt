@@ -1,6 +1,6 @@
 use Rattle.std.proofs.Common.{refl, inr}
 use Rattle.realm_timeline.specs.Text.{timeline_text}
-use Rattle.graph_answers.proofs.Delivering.{written_then_flushed, stopped_is_broken}
+use Rattle.program_io.proofs.Public.{written_then_flushed, stopped_is_broken}
 use Rattle.graph_answers.proofs.Timelines.{timeline_certified, wrote_timeline, stopped_timeline}
 use Rattle.graph_answers.proofs.planning.plan_graph.Goals as goal
 

@@ -1,5 +1,5 @@
 use Rattle.graph_answers.specs.Texts.{slots_text}
-use Rattle.graph_answers.proofs.Delivering.{written_then_flushed}
+use Rattle.program_io.proofs.Public.{written_then_flushed}
 use Rattle.graph_answers.proofs.refusing.put_short.Goals as goal
 
 pub returns-in-Ok : goal.returns-in-Ok

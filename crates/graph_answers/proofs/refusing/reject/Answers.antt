@@ -1,6 +1,7 @@
 use Rattle.std.proofs.Common.{rules, ◌≢◌, refl, inr}
 use Rattle.race_check.specs.declared.checked.CheckRefusal.TheVariants.{NoMemory}
-use Rattle.graph_answers.proofs.Delivering.{broken_text, unfit_rejected, written_then_flushed, stopped_is_broken}
+use Rattle.program_io.proofs.Public.{written_then_flushed, stopped_is_broken}
+use Rattle.graph_answers.proofs.Delivering.{broken_text, unfit_rejected}
 use Rattle.graph_answers.proofs.refusing.reject.Goals as goal
 
 pub returns-in-Ok-clause-rejected : goal.returns-in-Ok-clause-rejected

@@ -2,7 +2,7 @@ use Rattle.std.proofs.Common.{subst}
 use Rattle.graph_reader.specs.Reading.{IsRefusal}
 use Rattle.graph_answers.specs.Refused.{Refuses}
 use Rattle.graph_answers.specs.UpgradeAnswer.{UpgradeAnswers}
-use Rattle.graph_answers.proofs.Delivering.{answered_by}
+use Rattle.program_io.proofs.Public.{answered_by}
 use Rattle.graph_answers.proofs.UpgradeAnswers.{upgraded_answer, refused_upgrade}
 use Rattle.graph_answers.proofs.upgrading.answer_upgrade.Goals as goal
 
@@ -12,5 +12,5 @@ returns-in-Ok-clause-answered g c = upgraded_answer c.args.bytes.now c.in-Ok.gra
 pub returns-in-Err-clause-answered : goal.returns-in-Err-clause-answered
 returns-in-Err-clause-answered g c =
     let bytes = c.args.bytes.now in
-    answered_by (Refuses bytes) _ _ c.refuse.result (UpgradeAnswers bytes) (refused_upgrade bytes c.requires.short)
+    answered_by (Refuses bytes) (UpgradeAnswers bytes) _ _ c.refuse.result (refused_upgrade bytes c.requires.short)
     (c.refuse.ensures.refused bytes (λ number why e. subst (IsRefusal bytes) e c.in-Err.ensures.refusal))

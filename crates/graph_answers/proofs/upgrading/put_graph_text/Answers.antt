@@ -1,6 +1,6 @@
 use Rattle.graph_reader.specs.Text.{text}
 use Rattle.graph_answers.specs.declared.status.Status.TheVariants.{Done}
-use Rattle.graph_answers.proofs.Delivering.{written_then_flushed}
+use Rattle.program_io.proofs.Public.{written_then_flushed}
 use Rattle.graph_answers.proofs.upgrading.put_graph_text.Goals as goal
 
 pub returns-in-Ok : goal.returns-in-Ok

@@ -1,7 +1,7 @@
 use Rattle.std.proofs.Common.{◌≡◌, [], ap, ◌∙◌}
 use Rattle.run_report.specs.Report.{report}
 use Rattle.run_report.proofs.Fitting.{outcome_fits, report_is}
-use Rattle.realm_c.specs.Buffers.{TextSinkValue}
+use Rattle.realm_io.specs.TextSinks.{TextSinkValue}
 use Rattle.realm_c.proofs.Handing.{taken_is}
 use Rattle.realm_c.proofs.eval.report_text.Goals as goal
 

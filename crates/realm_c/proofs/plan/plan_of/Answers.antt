@@ -3,7 +3,7 @@ use Rattle.graph_model.specs.graph.Graph.{GraphValue}
 use Rattle.realm_timeline.specs.Text.{timeline_text}
 use Rattle.graph_answers.specs.Answer.{IsTimelineText}
 use Rattle.graph_answers.proofs.Timelines.{timeline_certified}
-use Rattle.realm_c.specs.Buffers.{TextSinkValue}
+use Rattle.realm_io.specs.TextSinks.{TextSinkValue}
 use Rattle.realm_c.proofs.Handing.{taken_is}
 use Rattle.realm_c.proofs.plan.plan_of.Goals as goal
 

@@ -1,6 +1,6 @@
 use Rattle.std.proofs.Common.{◌≡◌, [], ap, ◌∙◌}
 use Rattle.graph_reader.specs.Text.{text}
-use Rattle.realm_c.specs.Buffers.{TextSinkValue}
+use Rattle.realm_io.specs.TextSinks.{TextSinkValue}
 use Rattle.realm_c.proofs.Handing.{taken_is}
 use Rattle.realm_c.proofs.upgrade.graph_text.Goals as goal
 

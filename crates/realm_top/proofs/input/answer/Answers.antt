@@ -4,7 +4,7 @@ use Rattle.graph_answers.specs.UpgradeAnswer.{UpgradeAnswers}
 use Rattle.realm_top.specs.SessionAnswer.{session_slots, SessionAnswers}
 use Rattle.graph_answers.specs.Answer.{InputAnswers}
 use Rattle.realm_top.specs.Answer.{Answers, purpose}
-use Rattle.graph_answers.proofs.Delivering.{answered_by}
+use Rattle.program_io.proofs.Public.{answered_by}
 use Rattle.realm_top.proofs.Requests.{answers_checked, answers_audit, answers_upgrade, answers_session, limit_checked, limit_audit, limit_upgrade, limit_session, checked_else}
 use Rattle.realm_top.proofs.input.answer.Goals as goal
 
@@ -26,23 +26,23 @@ pub returns-then-audits-clause-answered : goal.returns-then-audits-clause-answer
 returns-then-audits-clause-answered g c =
     let request = c.args.request in
     let bytes = c.args.bytes.now in
-    answered_by (AuditAnswers bytes) _ _ c.answer_audit.result (Answers request bytes) (answers_audit (purpose request.action) request bytes (sym c.if-audits.ensures)) c.answer_audit.ensures.answered
+    answered_by (AuditAnswers bytes) (Answers request bytes) _ _ c.answer_audit.result (answers_audit (purpose request.action) request bytes (sym c.if-audits.ensures)) c.answer_audit.ensures.answered
 
 pub returns-then-upgrades-clause-answered : goal.returns-then-upgrades-clause-answered
 returns-then-upgrades-clause-answered g c =
     let request = c.args.request in
     let bytes = c.args.bytes.now in
-    answered_by (UpgradeAnswers bytes) _ _ c.answer_upgrade.result (Answers request bytes) (answers_upgrade (purpose request.action) request bytes (sym c.if-upgrades.ensures)) c.answer_upgrade.ensures.answered
+    answered_by (UpgradeAnswers bytes) (Answers request bytes) _ _ c.answer_upgrade.result (answers_upgrade (purpose request.action) request bytes (sym c.if-upgrades.ensures)) c.answer_upgrade.ensures.answered
 
 pub returns-then-runs_session-clause-answered : goal.returns-then-runs_session-clause-answered
 returns-then-runs_session-clause-answered g c =
     let request = c.args.request in
     let bytes = c.args.bytes.now in
-    answered_by (SessionAnswers (session_slots request.slots) bytes) _ _ c.answer_session.result (Answers request bytes) (answers_session (purpose request.action) request bytes (sym c.if-runs_session.ensures)) c.answer_session.ensures.answered
+    answered_by (SessionAnswers (session_slots request.slots) bytes) (Answers request bytes) _ _ c.answer_session.result (answers_session (purpose request.action) request bytes (sym c.if-runs_session.ensures)) c.answer_session.ensures.answered
 
 pub returns-else-runs_session-clause-answered : goal.returns-else-runs_session-clause-answered
 returns-else-runs_session-clause-answered g c =
     let request = c.args.request in
     let bytes = c.args.bytes.now in
     let checked = checked_else (purpose request.action) c.requires.reads (sym c.if-audits.ensures) (sym c.if-upgrades.ensures) (sym c.if-runs_session.ensures) in
-    answered_by (InputAnswers request bytes) _ _ c.answer_graph.result (Answers request bytes) (answers_checked (purpose request.action) request bytes checked) c.answer_graph.ensures.answered
+    answered_by (InputAnswers request bytes) (Answers request bytes) _ _ c.answer_graph.result (answers_checked (purpose request.action) request bytes checked) c.answer_graph.ensures.answered

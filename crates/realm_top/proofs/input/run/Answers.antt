@@ -1,6 +1,6 @@
 use Rattle.std.proofs.Common.{inr, refl}
 use Rattle.graph_answers.specs.Answer.{run_text}
-use Rattle.graph_answers.proofs.Delivering.{written_then_flushed, stopped_is_broken}
+use Rattle.program_io.proofs.Public.{written_then_flushed, stopped_is_broken}
 use Rattle.realm_top.proofs.MadeRequests.{wrote_run, stopped_run}
 use Rattle.realm_top.proofs.input.run.Goals as goal
 

@@ -3,7 +3,8 @@ use Rattle.graph_model.specs.meaning.Rules.{Accepted}
 use Rattle.graph_gen.specs.MadeGraph.{made_graph}
 use Rattle.graph_answers.specs.Answer.{Judged}
 use Rattle.realm_top.specs.Answer.{MadeAnswers, purpose}
-use Rattle.graph_answers.proofs.Delivering.{answered_by, judged_served}
+use Rattle.program_io.proofs.Public.{answered_by}
+use Rattle.graph_answers.proofs.Delivering.{judged_served}
 use Rattle.realm_top.proofs.Ending.{made_ends}
 use Rattle.realm_top.proofs.MadeRequests.{text_made, served_made}
 use Rattle.realm_top.proofs.Requests.{made_else}
@@ -19,7 +20,7 @@ pub returns-else-request-clause-answered : goal.returns-else-request-clause-answ
 returns-else-request-clause-answered g c =
     let request = c.args.request in
     let accepted = subst Accepted (sym c.in-Ok.ensures.graph) (c.made_graphs_are_accepted.ensures request.seed request.size (omega arith) c.requires.size.0 c.requires.size.1) in
-    answered_by (Judged request c.in-Ok.graph) _ _ c.judge.result (MadeAnswers request.text request (made_graph request.seed request.size))
+    answered_by (Judged request c.in-Ok.graph) (MadeAnswers request.text request (made_graph request.seed request.size)) _ _ c.judge.result
     (λ status out j. served_made request c.in-Ok.graph c.if-request.false c.in-Ok.ensures.graph status out (judged_served request c.in-Ok.graph accepted status out j)) c.judge.ensures.settled
 
 pub returns-else-request-clause-of_action : goal.returns-else-request-clause-of_action

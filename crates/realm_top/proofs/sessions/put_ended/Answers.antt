@@ -1,7 +1,7 @@
 use Rattle.std.specs.Prelude.{map}
 use Rattle.session_run.specs.Running.{linked_of}
 use Rattle.session_report.specs.Report.{session_report}
-use Rattle.graph_answers.proofs.Delivering.{written_then_flushed}
+use Rattle.program_io.proofs.Public.{written_then_flushed}
 use Rattle.realm_top.proofs.sessions.put_ended.Goals as goal
 
 pub returns-in-Ok : goal.returns-in-Ok

@@ -1,4 +1,4 @@
-use Rattle.graph_answers.proofs.Delivering.{written_then_flushed}
+use Rattle.program_io.proofs.Public.{written_then_flushed}
 use Rattle.realm_top.proofs.sessions.reject_in.Goals as goal
 
 pub returns-in-Ok : goal.returns-in-Ok

@@ -5,20 +5,21 @@ ghost use Rattle.std.specs.Option.{option_map};
 ghost use Rattle.realm_io.specs.Counts.{Rose, next_count};
 ghost use Rattle.realm_io.specs.Told.{with_more};
 
-use realm_io::{Failed, Sink};
+use crate::sinks::Sink;
+use crate::sources::Failed;
 use std::alloc::Global;
 use std::marker::Model;
 
 /// A sink that keeps all bytes in memory. A write fails where memory ran out.
 #[derive(Drop)]
-pub(crate) struct TextSink {
+pub struct TextSink {
     bytes: Vec<u8>,
     flushed: usize,
     faults: u64,
 }
 
 impl Model for TextSink {
-    ghost use Rattle.realm_c.specs.Buffers.{TextSinkValue};
+    ghost use Rattle.realm_io.specs.TextSinks.{TextSinkValue};
 
     ghost Value = { TextSinkValue };
 
@@ -27,18 +28,25 @@ impl Model for TextSink {
 
 impl TextSink {
     /// An empty sink.
-    pub(crate) fn new(alloc: Global) -> TextSink
+    pub fn new(alloc: Global) -> TextSink
         ensures { result ≡ record { taken = []; flushed = 0; faults = 0 } }
     {
+        TextSink::with_bytes(Vec::new(alloc))
+    }
+
+    /// A sink that took these bytes.
+    pub fn with_bytes(bytes: Vec<u8>) -> TextSink
+        ensures { result ≡ record { taken = bytes.items; flushed = 0; faults = 0 } }
+    {
         TextSink {
-            bytes: Vec::new(alloc),
+            bytes,
             flushed: 0,
             faults: 0,
         }
     }
 
     /// All bytes that it took.
-    pub(crate) fn into_bytes(self) -> Vec<u8>
+    pub fn into_bytes(self) -> Vec<u8>
         ensures { result.items ≡ self.taken }
     {
         self.bytes
@@ -46,7 +54,7 @@ impl TextSink {
 }
 
 impl Sink for TextSink {
-    ghost use Rattle.realm_c.specs.Buffers.{told_of};
+    ghost use Rattle.realm_io.specs.TextSinks.{told_of};
 
     ghost state = { λ s. told_of s };
 

@@ -1,5 +1,5 @@
-use Rattle.flow_top.proofs.Delivering.{written_then_flushed}
-use Rattle.flow_top.proofs.serving.put_text.Goals as goal
+use Rattle.program_io.proofs.Public.{written_then_flushed}
+use Rattle.program_io.proofs.delivery.put_text.Goals as goal
 
 pub returns-in-Ok : goal.returns-in-Ok
 returns-in-Ok g c =
