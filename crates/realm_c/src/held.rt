@@ -5,8 +5,8 @@ ghost use Rattle.realm_c.specs.Held.{held_owns};
 ghost use Rattle.realm_c.specs.Runs.{held_of};
 ghost use Rattle.realm_c.specs.declared.token.Token.{Token as TheToken};
 
-use c_handles::Parts;
 use crate::token::Token;
+use c_handles::Parts;
 use std::alloc::Global;
 use std::marker::Model;
 

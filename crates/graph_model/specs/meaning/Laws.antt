@@ -161,7 +161,7 @@ OrderIrrelevantWith = (does : Effects) (first : Cells) (g : GraphValue) (i : ℕ
     IsTrue (is_ended (end_with does first g i)) → IsReadyAmongWith does first g i ended put →
     ((cells : Cells) → AgreeWhereUsed g i cells (cells_put_with does first g put) → DoesAsEvaluatedWith does first g i cells)
     × ((c p : ℕ) → cells_after (cells_put_with does first g put) (changes_with does first g i) c p
-        ≡ cells_put_with does first g (put_with i put) c p)
+    ≡ cells_put_with does first g (put_with i put) c p)
 
 -- a graph has one need
 abbrev pub OneNeed : Type 0
