@@ -1,5 +1,5 @@
--- Conflicts and exemptions, seen from the other line.
-use Rattle.std.proofs.Common.{◌≡◌, ℕ, Bool, true, false, not, ◌&&◌, ◌⊎◌, inl, inr, List, refl, sym, ◌∙◌}
+-- Sections that lie apart seen from the other line; clashes of accesses and of lines, by computing.
+use Rattle.std.proofs.Common.{◌≡◌, ℕ, Bool, true, false, not, ◌&&◌, ◌⊎◌, inl, inr, List, sym, ◌∙◌}
 use Rattle.std.specs.Prelude.{◌==◌}
 use Rattle.std.specs.List.{list_any}
 use Rattle.std.proofs.lemmas.Bool.{true≢false, eq-eqb, eqb-true, and_parts, and_from, cases_Bool}
@@ -12,82 +12,9 @@ use Rattle.race_sweeps.specs.Clash.{Clash, LinesClash}
 use Rattle.race_sweeps.specs.Held.{LieApart}
 use Rattle.graph_model.specs.declared.graph.verb.Access.{Access}
 use Rattle.graph_model.specs.declared.graph.verb.Mode.{Mode}
-use Rattle.graph_model.specs.declared.graph.verb.Mode.TheVariants.{Read, Write, Sum, Least, Most}
 use Rattle.graph_model.specs.graph.Graph.{GraphValue, space_at}
-use Rattle.graph_model.specs.graph.Access.{accesses, AccessesConflict, Conflict, modes_clash}
-use Rattle.graph_model.specs.meaning.Rules.{Exempt, modes_commute}
-
-clash_back : (a b : Mode) → modes_clash a b ≡ modes_clash b a
-clash_back Read Read = refl
-clash_back Read Write = refl
-clash_back Read Sum = refl
-clash_back Read Least = refl
-clash_back Read Most = refl
-clash_back Write Read = refl
-clash_back Write Write = refl
-clash_back Write Sum = refl
-clash_back Write Least = refl
-clash_back Write Most = refl
-clash_back Sum Read = refl
-clash_back Sum Write = refl
-clash_back Sum Sum = refl
-clash_back Sum Least = refl
-clash_back Sum Most = refl
-clash_back Least Read = refl
-clash_back Least Write = refl
-clash_back Least Sum = refl
-clash_back Least Least = refl
-clash_back Least Most = refl
-clash_back Most Read = refl
-clash_back Most Write = refl
-clash_back Most Sum = refl
-clash_back Most Least = refl
-clash_back Most Most = refl
-
-pub commute_back : (a b : Mode) → modes_commute a b ≡ modes_commute b a
-commute_back Read Read = refl
-commute_back Read Write = refl
-commute_back Read Sum = refl
-commute_back Read Least = refl
-commute_back Read Most = refl
-commute_back Write Read = refl
-commute_back Write Write = refl
-commute_back Write Sum = refl
-commute_back Write Least = refl
-commute_back Write Most = refl
-commute_back Sum Read = refl
-commute_back Sum Write = refl
-commute_back Sum Sum = refl
-commute_back Sum Least = refl
-commute_back Sum Most = refl
-commute_back Least Read = refl
-commute_back Least Write = refl
-commute_back Least Sum = refl
-commute_back Least Least = refl
-commute_back Least Most = refl
-commute_back Most Read = refl
-commute_back Most Write = refl
-commute_back Most Sum = refl
-commute_back Most Least = refl
-commute_back Most Most = refl
-
-pub conflict_back : (g : GraphValue) (a b : Access) → AccessesConflict g a b → AccessesConflict g b a
-conflict_back g a b c = record { column = sym c.column; meet = (c.meet.0, c.meet.2, c.meet.1); clash = clash_back b.mode a.mode ∙ c.clash }
-
-pub lines_back : (g : GraphValue) (i j : ℕ) → Conflict g i j → Conflict g j i
-lines_back g i j c = record { different = λ e. c.different (sym e); one = c.other; other = c.one; one_in = c.other_in; other_in = c.one_in; conflict = conflict_back g c.one c.other c.conflict }
-
-pub exempt_back : (g : GraphValue) (i j : ℕ) → Exempt g i j → Exempt g j i
-exempt_back g i j x = record {
-  commute = λ a b ha hb c. commute_back a.mode b.mode ∙ x.commute b a hb ha (conflict_back g a b c);
-  lock = x.lock;
-  one = x.other;
-  other = x.one;
-  different = λ e. x.different (sym e);
-  apart = both_shared_swap g x.other x.one ∙ x.apart;
-  one_section = x.other_section;
-  other_section = x.one_section;
-}
+use Rattle.graph_model.specs.graph.Access.{accesses, AccessesConflict, modes_clash}
+use Rattle.graph_model.specs.meaning.Rules.{modes_commute}
 
 pub apart_back : (g : GraphValue) (i j : ℕ) → LieApart g i j → LieApart g j i
 apart_back g i j x = (x.0, x.2, x.1, (λ e. x.3 (sym e)), both_shared_swap g x.2 x.1 ∙ x.4, x.6, x.5)

@@ -18,7 +18,8 @@ use Rattle.race_sweeps.specs.Placed.{IsPlaced}
 use Rattle.race_sweeps.specs.Scan.{IsHard, HasHard, AreAnsweredAt}
 use Rattle.race_sweeps.specs.Settled.{IsSettled}
 use Rattle.race_sweeps.specs.Held.{LieApart}
-use Rattle.race_sweeps.proofs.Conflicts.{lines_back, exempt_back, conflict_back, commute_back, apart_back, lines_decided}
+use Rattle.graph_model.proofs.Races.{conflict_back, commute_back, lines_back, exempt_back}
+use Rattle.race_sweeps.proofs.Conflicts.{apart_back, lines_decided}
 use Rattle.race_sweeps.proofs.AccessSteps.{access_there}
 use Rattle.race_sweeps.proofs.Sections.{exempt_by}
 

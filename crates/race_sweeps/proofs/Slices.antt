@@ -17,7 +17,7 @@ use Rattle.race_sweeps.specs.ScanState.{AreGrouped}
 use Rattle.race_sweeps.specs.Settled.{IsSettled}
 use Rattle.race_sweeps.specs.Table.{IsTable}
 use Rattle.race_sweeps.proofs.AccessSteps.{few_accesses}
-use Rattle.race_sweeps.proofs.Conflicts.{conflict_back, commute_back}
+use Rattle.graph_model.proofs.Races.{conflict_back, commute_back}
 
 -- the class of an access
 class_by : (keys : List Access) (o : Option ℕ) (a : Access) → key_of keys o ≡ Some a → (c : ℕ) × (o ≡ Some c) × (slice_get keys c ≡ Some a)
