@@ -1,6 +1,6 @@
 -- A line that is ending is closed, and its seat is joined.
-use Rattle.std.proofs.Common.{◌≡◌, ℕ, ◌+◌, ◌-◌, List, [], ◌∷◌, sym, ◌∙◌, ap, subst, arith}
-use Rattle.std.specs.Prelude.{Contains, None}
+use Rattle.std.proofs.Common.{◌≡◌, ℕ, ◌+◌, ◌-◌, List, [], ◌∷◌, refl, sym, ◌∙◌, ap, subst, arith}
+use Rattle.std.specs.Prelude.{Contains, Some, None}
 use Rattle.std.proofs.lemmas.List.Elements.{Contains-append_right}
 use Rattle.gen_events.proofs.Members.{Contains-head}
 use Rattle.gen_events.specs.Views.{IsReceiptOf, handle_of, ended_by, fate_of}
@@ -8,6 +8,8 @@ use Rattle.gen_events.specs.declared.events.Events.{Events}
 use Rattle.gen_events.specs.declared.tokens.Pending.{Pending}
 use Rattle.gen_events.specs.declared.tokens.Receipt.{Receipt}
 use Rattle.graph_model.specs.declared.meaning.outcome.End.{End}
+use Rattle.graph_model.specs.declared.meaning.outcome.End.TheVariants.{Done, Faulted, Cancelled, Waiting}
+use Rattle.index_spaces.specs.Column.{ColumnValue}
 use Rattle.graph_model.specs.graph.Graph.{GraphValue}
 use Rattle.graph_model.specs.meaning.Rules.{Releases}
 use Rattle.run_words.specs.declared.content.Content.{Content}
@@ -17,8 +19,19 @@ use Rattle.run_words.specs.Claims.{Claim}
 use Rattle.run_words.specs.Rule.{end_code, fate_for}
 use Rattle.run_words.specs.Plays.{Sat, closed_at, closes, end_of_code}
 use Rattle.run_words.specs.Premises.{Has, IsOver, HasNoRights, OnTop}
-use Rattle.run_words.specs.Laden.{IsEnding, IsReleased}
+use Rattle.run_words.specs.Laden.{Laden, WorkDone, IsEnding, IsReleased}
+use Rattle.run_words.specs.Works.{event_of}
 use Rattle.run_words.proofs.Looks.{code_end}
+
+-- the handle of the line whose work is done
+laden_event : (g : GraphValue) (line k : ℕ) (v : View) (cl : Claim) (left : List (ℕ × Content)) (m : Sat) (held : List (ℕ × ColumnValue)) → Laden g line k v cl left m held → event_of m.0.claim ≡ Some cl.event
+laden_event g line k v cl left m held l = ap (λ (u : View). event_of u.claim) l.now
+
+pub done_event : (g : GraphValue) (line : ℕ) (x : End) (v : View) (cl : Claim) (left : List (ℕ × Content)) (m : Sat) (held : List (ℕ × ColumnValue)) → WorkDone g line x v cl left m held → event_of m.0.claim ≡ Some cl.event
+done_event g line Done v cl left m held d = laden_event g line 3 v cl left m held (d.laden (λ e. (let z : end_code Done ≡ end_code Cancelled = ap end_code e in omega (arith, z))))
+done_event g line Faulted v cl left m held d = laden_event g line 3 v cl left m held (d.laden (λ e. (let z : end_code Faulted ≡ end_code Cancelled = ap end_code e in omega (arith, z))))
+done_event g line Cancelled v cl left m held d = ap (λ (y : Sat). event_of y.0.claim) (d.bare refl)
+done_event g line Waiting v cl left m held d = laden_event g line 3 v cl left m held (d.laden (λ e. (let z : end_code Waiting ≡ end_code Cancelled = ap end_code e in omega (arith, z))))
 
 -- the event has ended, and its receipt lies in the line's slot
 pub stubbed : (line : ℕ) (x : End) (v : View) (cl : Claim) (left : List (ℕ × Content)) (m n : Sat) (stub : Receipt) → IsEnding line x v cl left m → n ≡ (m.0, (line, Stub stub) ∷ []) → IsEnding line x v cl ((line, Stub stub) ∷ []) n

@@ -87,4 +87,5 @@ is_refused g line k c r v cl left m held before at ne other free t = (
   t.1.now
       ∙ (ap (λ (l : Pairs). sat (record (saw_at (saw_all v before) (turn_word (size_of g) c) r) { claim = Some (record cl { columns = l }) }) (Rattle.run_words.specs.Laden.hand_of (size_of g) l left)) t.1.stacked
       ∙ ap (λ (u : View). sat (record u { claim = Some (record cl { columns = [] }) }) left) (saw_more v before ((turn_word (size_of g) c, r) ∷ []))),
+  tt,
 )

@@ -1,5 +1,5 @@
 -- The steps that end a line, close it, and give up a claim.
-use Rattle.std.proofs.Common.{◌≡◌, ℕ, ◌<◌, ◌+◌, ◌-◌, true, inl, inr, List, ◌∷◌, length, set, get_or, refl, sym, ◌∙◌, ap, subst, arith, get_or-set_same, ⊎_elim, cond, ne_eqb}
+use Rattle.std.proofs.Common.{◌≡◌, ℕ, ◌<◌, ◌+◌, ◌-◌, true, inl, inr, List, [], ◌∷◌, ◌++◌, length, set, get_or, refl, sym, ◌∙◌, ap, subst, arith, get_or-set_same, ⊎_elim, cond, ne_eqb}
 use Rattle.std.specs.Prelude.{Contains, Option, Some, None, ◌↔◌, is_some}
 use Rattle.std.proofs.lemmas.Bool.{true≢false, cases_eq, false_from_ne_true}
 use Rattle.std.proofs.lemmas.Option.{none-some}
@@ -30,7 +30,7 @@ use Rattle.run_words.specs.declared.content.Content.TheVariants.{Ticket, Stub}
 use Rattle.run_words.specs.Layout.{size_of}
 use Rattle.run_words.specs.Views.{time_code, claim_at, runs_at, late, issues_at, late_at, owes_at, has_desk, busy, working}
 use Rattle.run_words.specs.Rule.{end_code, fate_for, LineShown, handle_at, Progress, Fits, Shown}
-use Rattle.run_words.specs.Plays.{Sat, on_claim, end_of_code, ending_with, ends, closed_at, closes, unclaims}
+use Rattle.run_words.specs.Plays.{Sat, on_claim, end_of_code, ending_with, ends, closed_at, closes, line_claimed, unclaims}
 use Rattle.run_words.specs.Premises.{IsBare, IsThrough, IsOver}
 use Rattle.run_words.proofs.Aside.{aside_staged, progress_on, other_set}
 use Rattle.run_words.proofs.Frames.{at_line, desk_again, words_set, slots_set, slots_same}
@@ -215,7 +215,7 @@ module _ (g : GraphValue) (e : Events) (s : St) (o : Shown g e s) (id : ℕ) (v 
     free_of = late_none cl.stored cl.time bare.time
 
     abbrev w : View
-    w = record v { claim = None }
+    w = record v { gave_up = v.gave_up ++ i ∷ []; claim = None }
 
     unclaim_fits : Fits g e (unclaim o.run i) o.handles w
     unclaim_fits =
@@ -262,9 +262,9 @@ pub unclaims_allow : (g : GraphValue) (e : Events) (slots id : ℕ) (v : View) (
     → Allows (Shown g e) slots id (v, hand) cl.line (λ _. 2) (λ _. unclaims (v, hand))
 unclaims_allow g e slots id v hand left cl ticket has bare tops of named =
     subst (λ l. Allows (Shown g e) slots id (v, l) cl.line (λ _. 2) (λ _. unclaims (v, l))) (sym tops) (λ s o wide me low. (
-      record v { claim = None },
+      record v { gave_up = v.gave_up ++ cl.line ∷ []; claim = None },
       gives,
       tt,
       unclaim_rule g e s o id v me cl has bare ticket of named,
-      refl,
+      ap (λ (c : Option Claim). sat (record v { gave_up = v.gave_up ++ line_claimed c; claim = None }) left) (sym has),
     ))

@@ -1,5 +1,5 @@
 -- The steps that take, let go and free a reservation.
-use Rattle.std.proofs.Common.{◌≡◌, ◌≢◌, ℕ, ◌<◌, ◌≤◌, ◌+◌, ◌-◌, ◌%◌, ◌^◌, Bool, true, false, List, [], ◌∷◌, length, set, get_or, refl, sym, ◌∙◌, ap, subst, arith, get_or-set_same, ⊎_elim, inl, inr}
+use Rattle.std.proofs.Common.{◌≡◌, ◌≢◌, ℕ, ◌<◌, ◌≤◌, ◌+◌, ◌-◌, ◌%◌, ◌^◌, Bool, true, false, List, [], ◌∷◌, ◌++◌, length, set, get_or, refl, sym, ◌∙◌, ap, subst, arith, get_or-set_same, ⊎_elim, inl, inr}
 use Rattle.std.specs.Prelude.{Contains, Option, Some, None, option_map, ◌==◌, IsTrue, slice_get, slice_index}
 use Rattle.std.proofs.lemmas.Bool.{true≢false, false_from_ne_true, cases_eq, and_parts, and_from}
 use Rattle.std.proofs.lemmas.Option.{same_Some}
@@ -31,13 +31,20 @@ use Rattle.run_state.specs.Sound.{IsOpenTo}
 use Rattle.run_words.specs.Layout.{size_of, lock_word, half, alone_code}
 use Rattle.run_words.specs.Views.{issues_at, late_at, owes_at, has_desk, working}
 use Rattle.run_words.specs.Rule.{lock_code, Progress, WordsShow, Shown}
-use Rattle.run_words.specs.Plays.{Sat, holding, NotHeld, missed, holds, shares, lets_go, has_freed, frees, saw_at}
+use Rattle.run_words.specs.Plays.{Sat, holding, NotHeld, missed, holds, shares, let_go_at, line_claimed, lets_go, has_freed, frees, saw_at}
 use Rattle.run_words.proofs.Aside.{aside_hold, aside_let_go, aside_free, listed_set, without_beside, inserted_beside}
 use Rattle.run_words.proofs.LockCodes.{none_alone, all_shared, only_alone, code_alone, code_shared, code_none, zero_none, low_shared, code_names}
 use Rattle.run_words.proofs.Frames.{at_lock, words_set}
 use Rattle.run_words.proofs.Steps.{St, board, sum_same, claim_goes}
 use Rattle.run_words.proofs.Looks.{saw_rule, kept_word}
 use Rattle.run_words.proofs.Turns.{with_claim, on_claimed, sat}
+
+-- the view of a seat that let its reservation go
+abbrev parted : View → Claim → View
+parted v cl = record v { let_go = v.let_go ++ cl.line ∷ []; claim = Some (holding false cl) }
+
+let_went : (v : View) (cl : Claim) → v.claim ≡ Some cl → parted v cl ≡ let_go_at v
+let_went v cl has = ap (λ (c : Option Claim). record v { let_go = v.let_go ++ line_claimed c; claim = option_map (holding false) c }) (sym has)
 
 abbrev is_done : End → Bool
 is_done Done = true
@@ -97,10 +104,10 @@ module _ (g : GraphValue) (e : Events) (s : St) (o : Shown g e s) (id : ℕ) (v 
       let most : count_below (is_listed ks) (length g.lines) ≤ length g.lines = count_below-max (is_listed ks) (length g.lines) in
       omega (arith, now, then, fewer, most, few)
 
-  lock_words : (x : ℕ) (qs freed : List ℕ) (d : Claim) → x ≡ lock_code g qs → ((k : ℕ) → late_at k (Some d) ≡ late_at k (Some cl))
-      → WordsShow g e (size_of g) (record o.run { holders = set o.run.holders l qs; freed = freed }) o.handles (λ k. total (issues_at k) (set s.views id (with_claim v d))) (λ k. total (owes_at k) (set s.views id (with_claim v d))) (total has_desk (set s.views id (with_claim v d))) (set s.words (lock_word (size_of g) l) x) s.homes
-  lock_words x qs freed d code same =
-      let w : View = with_claim v d in
+  lock_words : (gone : List ℕ) (x : ℕ) (qs freed : List ℕ) (d : Claim) → x ≡ lock_code g qs → ((k : ℕ) → late_at k (Some d) ≡ late_at k (Some cl))
+      → WordsShow g e (size_of g) (record o.run { holders = set o.run.holders l qs; freed = freed }) o.handles (λ k. total (issues_at k) (set s.views id (record v { let_go = gone; claim = Some d }))) (λ k. total (owes_at k) (set s.views id (record v { let_go = gone; claim = Some d }))) (total has_desk (set s.views id (record v { let_go = gone; claim = Some d }))) (set s.words (lock_word (size_of g) l) x) s.homes
+  lock_words gone x qs freed d code same =
+      let w : View = record v { let_go = gone; claim = Some d } in
       at_lock g e (size_of g) o.run o.handles (λ k. total (issues_at k) s.views) (λ k. total (owes_at k) s.views) (total has_desk s.views) s.words s.homes o.words
       (λ k. total (issues_at k) (set s.views id w)) (λ k. total (owes_at k) (set s.views id w)) (total has_desk (set s.views id w))
       (λ k. sum_same (issues_at k) s.views id v w me refl)
@@ -130,7 +137,7 @@ module _ (g : GraphValue) (e : Events) (s : St) (o : Shown g e s) (id : ℕ) (v 
       })
       (hold-sound o.sound l i (record { is_out = ap stage_out (progress.stage ∙ ap working going); acquires = acquires; not_cancelled = real; is_free = free }))
       (λ j. refl)
-      (lock_words x qs o.run.freed (holding true cl) code (λ k. refl))
+      (lock_words v.let_go x qs o.run.freed (holding true cl) code (λ k. refl))
 
   -- taken alone, where none holds
   pub hold_rule : cl.ends ≡ None → Acquires g i l → eval_end g i ≢ Cancelled → shared i ≡ false → get_or s.words (lock_word (size_of g) l) 0 ≡ 0
@@ -160,10 +167,10 @@ module _ (g : GraphValue) (e : Events) (s : St) (o : Shown g e s) (id : ℕ) (v 
       true≢false (sym listed ∙ (progress.holds l acquires ∙ (ap (λ (y : Claim). y.holds) same ∙ not)))
 
   -- let go
-  pub let_go_rule : (x : ℕ) → Acquires g i l → cl.holds ≡ true → cl.time ≡ None → x ≡ lock_code g (without i ks) → Shown g e (board (set s.words (lock_word (size_of g) l) x) s.homes (set s.views id (with_claim v (holding false cl))))
+  pub let_go_rule : (x : ℕ) → Acquires g i l → cl.holds ≡ true → cl.time ≡ None → x ≡ lock_code g (without i ks) → Shown g e (board (set s.words (lock_word (size_of g) l) x) s.homes (set s.views id (parted v cl)))
   let_go_rule x acquires held untimed code =
       let qs : List ℕ = without i ks in
-      claim_goes g e s o id v (with_claim v (holding false cl)) me cl (holding false cl) has refl refl refl (let_go o.run l i) (set s.words (lock_word (size_of g) l) x) s.homes
+      claim_goes g e s o id v (parted v cl) me cl (holding false cl) has refl refl refl (let_go o.run l i) (set s.words (lock_word (size_of g) l) x) s.homes
       (aside_let_go l i o.run)
       (record {
         stage = progress.stage;
@@ -178,7 +185,7 @@ module _ (g : GraphValue) (e : Events) (s : St) (o : Shown g e s) (id : ℕ) (v 
       })
       (let_go-sound o.sound l i (record { acquires = acquires; untimed = ap Rattle.std.specs.Prelude.is_some (progress.time ∙ untimed) }))
       (λ j. refl)
-      (lock_words x qs o.run.freed (holding false cl) code (λ k. refl))
+      (lock_words (v.let_go ++ i ∷ []) x qs o.run.freed (holding false cl) code (λ k. refl))
 
   -- freed by the release of an acquire that is ended and done
   module _ (q : ℕ) (x : End) (over : cl.ends ≡ Some x) (releases : Releases g i q) (acquires : Acquires g q l) (done : Contains v.ended (q, Done)) (not_yet : cl.freed ≡ false) where
@@ -210,7 +217,7 @@ module _ (g : GraphValue) (e : Events) (s : St) (o : Shown g e s) (id : ℕ) (v 
         })
         (free-sound o.sound i l q (record { is_over = ap stage_over (progress.stage ∙ ap working over); releases = releases; acquires = acquires; acquire_ended = ap stage_ended acquire_ended; acquire_done = acquire_done }))
         (λ j. refl)
-        (lock_words y qs (i ∷ o.run.freed) (has_freed cl) code (λ k. refl))
+        (lock_words v.let_go y qs (i ∷ o.run.freed) (has_freed cl) code (λ k. refl))
 
 -- a word that is loaded, and one that is found to be what the line asks for
 pub loads_allow : (g : GraphValue) (e : Events) (slots id l : ℕ) (m : Sat) → Allows (Shown g e) slots id m (lock_word (size_of g) l) (λ n. n) (missed (lock_word (size_of g) l) m)
@@ -269,7 +276,7 @@ module _ (g : GraphValue) (e : Events) (slots id l : ℕ) (m : Sat) (cl : Claim)
   module _ (acquires : Acquires g cl.line l) (held : cl.holds ≡ true) (untimed : cl.time ≡ None) where
     went : (s : St) (o : Shown g e s) (me : get_elem? s.views id ≡ some m.0) (x : ℕ) → x ≡ lock_code g (without cl.line (list_at o.run.holders l))
         → (w : View) × (a : Act Content) × Valid s.homes m.1 a × Shown g e (stepped s word x id m.1 w a) × lets_go m (w, carried_after m.1 a)
-    went s o me x code = (with_claim m.0 (holding false cl), keeps, tt, let_go_rule g e s o id m.0 me l cl has near x acquires held untimed code, ap (λ (y : View). sat y m.1) (on_claimed (holding false) m.0 cl has))
+    went s o me x code = (parted m.0 cl, keeps, tt, let_go_rule g e s o id m.0 me l cl has near x acquires held untimed code, ap (λ (y : View). sat y m.1) (let_went m.0 cl has))
 
     has_it : (s : St) (o : Shown g e s) (me : get_elem? s.views id ≡ some m.0) → is_listed (list_at o.run.holders l) cl.line ≡ true
     has_it s o me = ((o.each_view id m.0 me).claim cl has).holds l acquires ∙ held

@@ -31,11 +31,11 @@ use Rattle.run_words.specs.declared.works.WordWork.{WordWork}
 use Rattle.run_words.specs.Works.{IsWorkOf}
 use Rattle.run_words.specs.Words.{graph_of, events_of, IsSeatOf}
 use Rattle.run_words.specs.Rule.{ground_of, child}
-use Rattle.run_words.specs.Plays.{Sat, HasClaimed, missed, claimed_at, saw_at, saw_all, on_claim, holding, lets_go, unclaims, child_of, parent_of, joined, looked_at, own_number}
+use Rattle.run_words.specs.Plays.{Sat, HasClaimed, missed, claimed_at, saw_at, saw_all, on_claim, holding, let_go_at, lets_go, gave_up_at, unclaims, child_of, parent_of, joined, looked_at, own_number}
 use Rattle.run_words.specs.Premises.{Has, MayLock, IsBare, OnTop}
 use Rattle.run_words.specs.Sources.{cancels_in}
 use Rattle.run_words.specs.Laden.{Taking}
-use Rattle.run_words.specs.Attempts.{IsClaimed, IsHeldAfter, IsLoaded, IsRefused, HasAllOf, IsRefusedAll}
+use Rattle.run_words.specs.Attempts.{IsClaimed, IsHeldAfter, IsLoaded, IsRefused, HasAllOf, IsRefusedAll, IsColumn, LetGoFor}
 use Rattle.run_words.proofs.AnswerFacts.{busy_later}
 use Rattle.run_words.proofs.Desking.{has_key}
 use Rattle.run_words.proofs.Turns.{sat}
@@ -95,8 +95,16 @@ bare_of g line v ticket b m held is_so cancelled is = record {
 pub may_let_go : (g : GraphValue) (line l : ℕ) (v : View) (h : Handle) (left : Left) (thing : Thing) (m : Sat) → Acquires g line l → IsRefused g line v (holding true (new_claim line h)) left thing m → Has m.0 (λ cl. (cl.line ≡ line) × Acquires g line l × (cl.holds ≡ true) × (cl.time ≡ None))
 may_let_go g line l v h left thing m a r = (record (holding true (new_claim line h)) { columns = [] }, ap (λ (y : Sat). y.0.claim) r.2, (refl, a, refl, refl))
 
+column_any : (x : Thing) (before after : List ℕ) → IsColumn x → LetGoFor x before after
+column_any (things.Lock l) before after c = absurd c
+column_any (things.Column c) before after d = tt
+
 pub refused_held : (g : GraphValue) (line : ℕ) (v : View) (ticket : Pending) (thing : Thing) (m n : Sat) → IsRefused g line v (holding true (new_claim line (handle_of ticket))) ((line, Ticket ticket) ∷ []) thing m → lets_go m n → IsRefusedAll g line v ticket thing n
-refused_held g line v ticket thing m n r go = (r.0, r.1, go ∙ ap (λ (y : Sat). sat (on_claim (holding false) y.0) y.1) r.2)
+refused_held g line v ticket thing m n r go = (r.0, v.let_go ++ line ∷ [], r.1, column_any thing v.let_go (v.let_go ++ line ∷ []) r.3, go ∙ ap (λ (y : Sat). sat (let_go_at y.0) y.1) r.2)
+
+-- of one that takes no reservation
+pub refused_bare : (g : GraphValue) (line : ℕ) (v : View) (ticket : Pending) (thing : Thing) (m : Sat) → IsRefused g line v (new_claim line (handle_of ticket)) ((line, Ticket ticket) ∷ []) thing m → IsRefusedAll g line v ticket thing m
+refused_bare g line v ticket thing m r = (r.0, v.let_go, r.1, column_any thing v.let_go v.let_go r.3, r.2)
 
 -- the reservation was taken, at once or after its word was found
 pub held_at_once : (line : ℕ) (v : View) (ticket : Pending) (m n : Sat) → IsClaimed line v ticket m → n ≡ sat (on_claim (holding true) m.0) m.1 → IsHeldAfter line v ticket n
@@ -129,8 +137,10 @@ all_later g line b v found ticket m held h = record {
 pub refused_later : (g : GraphValue) (line : ℕ) (v : View) (found : List (ℕ × ℕ)) (ticket : Pending) (thing : Thing) (m : Sat) → IsRefusedAll g line (saw_all v found) ticket thing m → IsRefusedAll g line v ticket thing m
 refused_later g line v found ticket thing m h = (
   found ++ h.0,
-  busy_later g line thing found h.0 h.1,
-  h.2 ∙ ap (λ saw. sat (claimed_at (record v { saw = saw }) line (handle_of ticket)) ((line, Ticket ticket) ∷ [])) (append_assoc v.saw found h.0),
+  h.1,
+  busy_later g line thing found h.0 h.2,
+  h.3,
+  h.4 ∙ ap (λ saw. sat (claimed_at (record v { saw = saw; let_go = h.1 }) line (handle_of ticket)) ((line, Ticket ticket) ∷ [])) (append_assoc v.saw found h.0),
 )
 
 pub may_lock : (g : GraphValue) (line l : ℕ) (v : View) (ticket : Pending) (m : Sat) → IsClaimed line v ticket m → Acquires g line l → eval_end g line ≢ Cancelled → MayLock g line l m.0
@@ -146,15 +156,17 @@ module _ (g : GraphValue) (line l : ℕ) (v : View) (ticket : Pending) (m : Sat)
   word = lock_word (size_of g) l
 
   pub refused_held_lock : (r : ℕ) (n : Sat) → line_passes is_shared g line ≡ false → r ≢ 0 → r ≢ alone_code line → missed word m r n → IsRefusedAll g line v ticket (things.Lock l) n
-  refused_held_lock r n own ne other q = ((word, r) ∷ [], (a, [], inl (own, (r, refl, ne, other))), q ∙ ap (λ (y : Sat). sat (saw_at y.0 word r) y.1) is)
+  refused_held_lock r n own ne other q = ((word, r) ∷ [], v.let_go, (a, [], inl (own, (r, refl, ne, other))), refl, q ∙ ap (λ (y : Sat). sat (saw_at y.0 word r) y.1) is)
 
   pub refused_alone : (r : ℕ) (n : Sat) → line_passes is_shared g line ≡ true → half ≤ r → missed word m r n → IsRefusedAll g line v ticket (things.Lock l) n
-  refused_alone r n own high q = ((word, r) ∷ [], (a, [], inr (own, inl (r, refl, high))), q ∙ ap (λ (y : Sat). sat (saw_at y.0 word r) y.1) is)
+  refused_alone r n own high q = ((word, r) ∷ [], v.let_go, (a, [], inr (own, inl (r, refl, high))), refl, q ∙ ap (λ (y : Sat). sat (saw_at y.0 word r) y.1) is)
 
   pub refused_changed : (r s : ℕ) (n o : Sat) → line_passes is_shared g line ≡ true → s ≢ r → missed word m r n → missed word n s o → IsRefusedAll g line v ticket (things.Lock l) o
   refused_changed r s n o own ne q p = (
     (word, r) ∷ (word, s) ∷ [],
+    v.let_go,
     (a, [], inr (own, inr (r, s, refl, ne))),
+    refl,
     p ∙ (ap (λ (y : Sat). sat (saw_at y.0 word s) y.1) (q ∙ ap (λ (y : Sat). sat (saw_at y.0 word r) y.1) is) ∙ ap (λ found. sat (record (claimed_at v line (handle_of ticket)) { saw = found }) ((line, Ticket ticket) ∷ [])) (append_assoc v.saw ((word, r) ∷ []) ((word, s) ∷ []))),
   )
 
@@ -173,12 +185,12 @@ pub may_unclaim : (g : GraphValue) (e : Events) (line : ℕ) (v : View) (ticket 
     → Has m.0 (λ cl. (cl.line ≡ line) × IsBare cl × ((ticket : Pending) × OnTop line (Ticket ticket) m.1 × IsPendingOf e ticket × (handle_of ticket ≡ cl.event)))
 may_unclaim g e line v ticket thing m r of = (
   new_claim line (handle_of ticket),
-  ap (λ (y : Sat). y.0.claim) r.2,
-  (refl, record { going = refl; columns = refl; puts = refl; held = refl; arrived = refl; time = refl }, (ticket, ([], ap (λ (y : Sat). y.1) r.2), of, refl)),
+  ap (λ (y : Sat). y.0.claim) r.4,
+  (refl, record { going = refl; columns = refl; puts = refl; held = refl; arrived = refl; time = refl }, (ticket, ([], ap (λ (y : Sat). y.1) r.4), of, refl)),
 )
 
-pub unclaimed : (g : GraphValue) (line : ℕ) (v : View) (ticket : Pending) (thing : Thing) (m n : Sat) (r : IsRefusedAll g line v ticket thing m) → v.claim ≡ None → unclaims m n → n ≡ (saw_all v r.0, [])
-unclaimed g line v ticket thing m n r none u = u ∙ (ap (λ (y : Sat). sat (record y.0 { claim = None }) (Rattle.atomic_table.specs.Table.rest y.1)) r.2 ∙ ap (λ (c : Rattle.std.specs.Prelude.Option Claim). sat (record (saw_all v r.0) { claim = c }) []) (sym none))
+pub unclaimed : (g : GraphValue) (line : ℕ) (v : View) (ticket : Pending) (thing : Thing) (m n : Sat) (r : IsRefusedAll g line v ticket thing m) → v.claim ≡ None → unclaims m n → n ≡ (record (saw_all v r.0) { let_go = r.1; gave_up = v.gave_up ++ line ∷ [] }, [])
+unclaimed g line v ticket thing m n r none u = u ∙ (ap (λ (y : Sat). sat (gave_up_at y.0) (Rattle.atomic_table.specs.Table.rest y.1)) r.4 ∙ ap (λ (c : Rattle.std.specs.Prelude.Option Claim). sat (record (saw_all v r.0) { let_go = r.1; gave_up = v.gave_up ++ line ∷ []; claim = c }) []) (sym none))
 
 by_bool : (b : Bool) → (b ≡ true) ⊎ (b ≡ false)
 by_bool true = inl refl
@@ -240,3 +252,13 @@ module _ (v0 : View) (hand : Left) (a t : Sat) (w : View) (parent : a ≡ (paren
 
   pub joined_ended : (i : ℕ) (x : End) → Contains v0.ended (i, x) → Contains t.0.ended (i, x)
   joined_ended i x c = subst (λ (l : List (ℕ × End)). Contains l (i, x)) (sym (ap (λ (y : Sat). y.0.ended) whole)) (Contains-append_left v0.ended w.ended (i, x) c)
+
+  pub joined_gave : t.0.gave_up ≡ v0.gave_up ++ w.gave_up
+  joined_gave = ap (λ (y : Sat). y.0.gave_up) whole
+
+  pub joined_none : w.gave_up ≡ [] → t.0.gave_up ≡ v0.gave_up
+  joined_none none = joined_gave ∙ (ap (λ (l : List ℕ). v0.gave_up ++ l) none ∙ append-nil v0.gave_up)
+
+  pub joined_let_go : (x : Thing) → LetGoFor x [] w.let_go → LetGoFor x v0.let_go t.0.let_go
+  joined_let_go (things.Lock l) none = ap (λ (y : Sat). y.0.let_go) whole ∙ (ap (λ (l : List ℕ). v0.let_go ++ l) none ∙ append-nil v0.let_go)
+  joined_let_go (things.Column c) any = tt

@@ -162,9 +162,18 @@ holds w m r n = (r ≡ 0 → n ≡ (on_claim (holding true) m.0, m.1)) × ((r �
 abbrev pub shares : ℕ → ℕ → Sat → ℕ → Sat → Type 0
 shares w before m r n = (r ≡ before → n ≡ (on_claim (holding true) m.0, m.1)) × ((r ≡ before → ⊥) → missed w m r n)
 
+-- the line of a claim, where there is one
+abbrev pub line_claimed : Option Claim → List ℕ
+line_claimed None = []
+line_claimed (Some cl) = cl.line ∷ []
+
+-- the claim has its reservation no more, and that it was let go is noted
+abbrev pub let_go_at : View → View
+let_go_at v = record v { let_go = v.let_go ++ line_claimed v.claim; claim = option_map (holding false) v.claim }
+
 -- the reservation was let go
 abbrev pub lets_go : Sat → Sat → Type 0
-lets_go m n = n ≡ (on_claim (holding false) m.0, m.1)
+lets_go m n = n ≡ (let_go_at m.0, m.1)
 
 -- the claim has freed a reservation
 abbrev pub has_freed : Claim → Claim
@@ -218,9 +227,13 @@ closed_at v i x = record v { claim = None; issued = v.issued ++ i ∷ []; ended 
 abbrev pub closes : ℕ → ℕ → Sat → Sat → Type 0
 closes i stored m n = n ≡ (closed_at m.0 i (end_of_code (stored - 8)), rest m.1)
 
+-- the seat has no claim, and that it gave one up is noted
+abbrev pub gave_up_at : View → View
+gave_up_at v = record v { gave_up = v.gave_up ++ line_claimed v.claim; claim = None }
+
 -- or it gave up its claim, and the line's slot
 abbrev pub unclaims : Sat → Sat → Type 0
-unclaims m n = n ≡ (record m.0 { claim = None }, rest m.1)
+unclaims m n = n ≡ (gave_up_at m.0, rest m.1)
 
 -- THE DESK. The seat has its turn, and knows the handles of the lines and what lay on the desk
 abbrev pub with_desk : View → List Handle → Desk → View
@@ -295,7 +308,7 @@ gives_up_issue m n = n ≡ (without_issue m.0, rest m.1)
 
 -- CUTTING AND JOINING. The view of a seat that was joined into another
 abbrev pub no_view : View
-no_view = record { keys = []; mine = []; births = 0; splits = []; issued = []; ended = []; named = []; saw = []; trays = []; laid = []; claim = None; issuing = None; desk = None }
+no_view = record { keys = []; mine = []; births = 0; splits = []; issued = []; ended = []; named = []; saw = []; trays = []; laid = []; gave_up = []; let_go = []; claim = None; issuing = None; desk = None }
 
 -- the number of a seat itself
 abbrev pub own_number : List ℕ → ℕ
@@ -321,6 +334,8 @@ joined v w = record v {
   saw = v.saw ++ w.saw;
   trays = v.trays ++ w.trays;
   laid = v.laid ++ w.laid;
+  gave_up = v.gave_up ++ w.gave_up;
+  let_go = v.let_go ++ w.let_go;
 }
 
 -- what issuing in the desk's turn leaves of a view

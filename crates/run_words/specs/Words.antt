@@ -49,6 +49,14 @@ splits_of s = s.inner.me.0.splits
 abbrev pub saw_of : WordSeat → List (ℕ × ℕ)
 saw_of s = s.inner.me.0.saw
 
+-- the lines whose claims it gave up
+abbrev pub gave_up_of : WordSeat → List ℕ
+gave_up_of s = s.inner.me.0.gave_up
+
+-- the lines of which it let the reservation go, where they had done nothing
+abbrev pub let_go_of : WordSeat → List ℕ
+let_go_of s = s.inner.me.0.let_go
+
 -- its seat at the events
 abbrev pub events_seat : WordSeat → Seat
 events_seat s = s.events

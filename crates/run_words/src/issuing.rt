@@ -14,7 +14,7 @@ ghost use Rattle.run_words.specs.Layout.{size_of, desk_slot, desk_word};
 ghost use Rattle.run_words.specs.Plays.{issued_at, without_issue, with_desk, without_desk, missed, after_issue};
 ghost use Rattle.run_words.specs.Premises.{IsNumbered};
 ghost use Rattle.run_words.specs.Rule.{IsTray};
-ghost use Rattle.run_words.specs.Standing.{KeepsWaiters};
+ghost use Rattle.run_words.specs.Standing.{KeepsWaiters, IssuesInTurn, IsStill};
 ghost use Rattle.run_words.specs.Words.{graph_of, events_of, IsSeatOf, IsAt, KnowsIssued, KnowsEnded, KnowsHandles, IsEventSeat, FoundTaken, events_seat, numbers_of, splits_of};
 
 use crate::content::{Content, Desk};
@@ -158,6 +158,9 @@ impl<'g> Words<'g> {
         ensures kept { Keeps (lists events.old) (lists events.new) }
         ensures full { result ≡ Issue.NoSlot
             → AllPending (shape_of (events_of self.now)) desk.new.handles.items (lists events.old) (lists events.new) }
+        ensures grown { (i : ℕ) → result ≡ Issue.Issued i → (length desk.old.handles.items ≡ i)
+            × (h : TheHandle) × (desk.new.handles.items ≡ desk.old.handles.items ++ h ∷ []) }
+        ensures same { result ≡ Issue.NoSlot → desk.new.handles.items ≡ desk.old.handles.items }
         ensures not_other { result ≡ Issue.Other → ⊥ }
     {
         let lines = self.base.checked.graph().lines();
@@ -172,10 +175,11 @@ impl<'g> Words<'g> {
         }
     }
 
-    /// Issues the next line in file order, in the desk's turn. NoSlot comes only where loads of this
-    /// call, which the seat then shows, found each event slot pending; All only where the
-    /// seat then knows every line issued; Other only where the desk's turn was found in another's
-    /// hand. The waiters stay on the desk.
+    /// Issues the next line in file order, in the desk's turn: as many lines as its number were issued
+    /// before it. NoSlot comes only where loads of this call, which the seat then shows, found each
+    /// event slot pending; All only where the seat then knows every line issued; Other only where the
+    /// desk's turn was found in another's hand, and then nothing was done or learnt. No handle is new
+    /// but that of the line that is issued, and the waiters stay on the desk.
     pub fn issue(&self, seat: &mut WordSeat) -> Issue
         requires at { IsAt self.now seat.old }
         ensures at { IsAt self.now seat.new }
@@ -187,7 +191,11 @@ impl<'g> Words<'g> {
         ensures full { result ≡ Issue.NoSlot → (handles : List TheHandle) × KnowsHandles seat.new handles
             × AllPending (shape_of (events_of self.now)) handles (lists (events_seat seat.old)) (lists (events_seat seat.new)) }
         ensures waiters { result ≢ Issue.Other → KeepsWaiters seat.old seat.new }
+        ensures grown { (i : ℕ) → result ≡ Issue.Issued i → (h : TheHandle) × IssuesInTurn self.now seat.old seat.new i (h ∷ []) }
+        ensures none_full { result ≡ Issue.NoSlot → (k : ℕ) × IssuesInTurn self.now seat.old seat.new k [] }
+        ensures none_left { result ≡ Issue.All → IssuesInTurn self.now seat.old seat.new (length (graph_of self.now).lines) [] }
         ensures other { result ≡ Issue.Other → FoundTaken seat.old seat.new (desk_word (size_of (graph_of self.now))) }
+        ensures still { result ≡ Issue.Other → IsStill self.now seat.old seat.new }
         ensures numbers { (numbers_of seat.new ≡ numbers_of seat.old) × (splits_of seat.new ≡ splits_of seat.old) }
     {
         let Some(mut desk) = self.take_tray(&mut seat.inner) else {

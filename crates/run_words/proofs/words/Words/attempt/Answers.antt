@@ -1,5 +1,6 @@
 use Rattle.std.proofs.Common.{ℕ, List, [], ◌∷◌, ◌≡◌, refl, ap, sym, subst, ◌∙◌}
 use Rattle.std.specs.Prelude.{Contains}
+use Rattle.std.proofs.lemmas.List.{append-nil}
 use Rattle.std.proofs.lemmas.List.Elements.{Contains-append_left}
 use Rattle.gen_events.proofs.Members.{Contains-head}
 use Rattle.graph_model.specs.declared.meaning.outcome.End.{End}
@@ -26,6 +27,32 @@ returns-clause-kept_issued c = λ j k. c.attempt_due.ensures.kept_issued j (reco
 pub returns-clause-kept_ended : goal.returns-clause-kept_ended
 returns-clause-kept_ended c = λ j x k. c.attempt_due.ensures.kept_ended j x (record { known = subst (λ (l : List (ℕ × End)). Contains l (j, x)) (sym (ap (λ (m : Sat). m.0.ended) c.look-word.ensures.looked.0)) (Contains-append_left c.args.seat.now.inner.me.0.ended _ (j, x) k.known) })
 
+pub returns-then-word-ne2-clause-answer : goal.returns-then-word-ne2-clause-answer
+returns-then-word-ne2-clause-answer c =
+    let n = c.look-word.ensures.looked.0 in
+    let v = c.args.seat.now.inner.me.0 in (
+      c.look-word.result,
+      ((c.args.i, c.look-word.result) ∷ [], ap (λ (m : Sat). m.0.saw) n, Contains-head {A = ℕ × ℕ} (c.args.i, c.look-word.result) []),
+      c.stage_shown.ensures,
+      c.if-word-ne2.true,
+      ([], ap (λ (m : Sat). m.0.mine) n ∙ sym (append-nil v.mine), ap (λ (m : Sat). m.0.splits) n ∙ sym (append-nil v.splits)),
+      ap (λ (m : Sat). m.0.gave_up) n,
+    )
+
+pub returns-then-never_comes-clause-answer : goal.returns-then-never_comes-clause-answer
+returns-then-never_comes-clause-answer c =
+    let n = c.look-word.ensures.looked.0 in
+    let v = c.args.seat.now.inner.me.0 in (
+      subst (λ (g : GraphValue). never_comes g c.args.i ≡ Rattle.std.specs.Prelude.true) c.graph-graph.ensures.graph (sym c.never_comes.ensures ∙ c.if-never_comes.true),
+      (
+        (c.args.i, c.look-word.result) ∷ [],
+        ap (λ (m : Sat). m.0.saw) n,
+        subst (λ (r : ℕ). Contains {X = ℕ × ℕ} ((c.args.i, r) ∷ []) (c.args.i, 2)) (sym c.if-word-ne2.false) (Contains-head {A = ℕ × ℕ} (c.args.i, 2) []),
+      ),
+      ([], ap (λ (m : Sat). m.0.mine) n ∙ sym (append-nil v.mine), ap (λ (m : Sat). m.0.splits) n ∙ sym (append-nil v.splits)),
+      ap (λ (m : Sat). m.0.gave_up) n,
+    )
+
 pub returns-clause-answer : goal.returns-clause-answer
 returns-clause-answer c =
     let n = c.look-word.ensures.looked.0 in
@@ -36,6 +63,8 @@ returns-clause-answer c =
       splits = ap (λ (m : Sat). m.0.splits) n;
       trays = ap (λ (m : Sat). m.0.trays) n;
       laid = ap (λ (m : Sat). m.0.laid) n;
+      gave_up = ap (λ (m : Sat). m.0.gave_up) n;
+      let_go = ap (λ (m : Sat). m.0.let_go) n;
       events = refl;
     })
     c.attempt_due.new.seat c.args.self.now c.args.i c.attempt_due.result

@@ -1,5 +1,6 @@
-use Rattle.std.proofs.Common.{arith, ℕ, ◌<◌, ◌++◌, [], ◌∷◌, List, length, ap, sym, subst, ◌∙◌}
+use Rattle.std.proofs.Common.{arith, ℕ, ◌<◌, ◌++◌, [], ◌∷◌, List, length, refl, ap, sym, subst, ◌∙◌}
 use Rattle.std.specs.Prelude.{Contains}
+use Rattle.std.proofs.lemmas.List.{append-nil}
 use Rattle.std.proofs.lemmas.List.Elements.{Contains-append_left, Contains-append_right}
 use Rattle.graph_model.specs.declared.meaning.outcome.End.{End}
 use Rattle.basics.proofs.ListFacts.{contains_below}
@@ -57,3 +58,60 @@ returns-clause-waiters c = λ _.
     let n = c.issue_in_turn-answer.ensures.now in
     let all = issue_chain c.args.seat.now.inner.me.0 c.args.seat.now.inner.me.1 c.take_tray.new.seat.me c.issue_in_turn-answer.new.seat.me c.give_tray.new.seat.me c.in-Some.desk.handles.items c.issue_in_turn-answer.new.desk.handles.items c.in-Some.desk c.issue_in_turn-answer.new.desk n.0 _ c.in-Some.ensures.taken n.1 c.give_tray.ensures.given in
     (c.in-Some.desk, c.issue_in_turn-answer.new.desk, ap (λ (m : Sat). m.0.trays) all, ap (λ (m : Sat). m.0.laid) all, c.issue_in_turn-answer.ensures.waiters)
+
+pub returns-clause-grown : goal.returns-clause-grown
+returns-clause-grown c = λ i is.
+    let n = c.issue_in_turn-answer.ensures.now in
+    let all = issue_chain c.args.seat.now.inner.me.0 c.args.seat.now.inner.me.1 c.take_tray.new.seat.me c.issue_in_turn-answer.new.seat.me c.give_tray.new.seat.me c.in-Some.desk.handles.items c.issue_in_turn-answer.new.desk.handles.items c.in-Some.desk c.issue_in_turn-answer.new.desk n.0 _ c.in-Some.ensures.taken n.1 c.give_tray.ensures.given in
+    let g = c.issue_in_turn-answer.ensures.grown i is in (
+      g.1,
+      record {
+        before = c.in-Some.desk;
+        after = c.issue_in_turn-answer.new.desk;
+        took = ap (λ (m : Sat). m.0.trays) all;
+        gave = ap (λ (m : Sat). m.0.laid) all;
+        tray = c.in-Some.ensures.tray.0;
+        laid = c.issue_in_turn-answer.ensures.tray;
+        count = g.0;
+        grown = g.2;
+      },
+    )
+
+pub returns-clause-none_full : goal.returns-clause-none_full
+returns-clause-none_full c = λ is.
+    let n = c.issue_in_turn-answer.ensures.now in
+    let all = issue_chain c.args.seat.now.inner.me.0 c.args.seat.now.inner.me.1 c.take_tray.new.seat.me c.issue_in_turn-answer.new.seat.me c.give_tray.new.seat.me c.in-Some.desk.handles.items c.issue_in_turn-answer.new.desk.handles.items c.in-Some.desk c.issue_in_turn-answer.new.desk n.0 _ c.in-Some.ensures.taken n.1 c.give_tray.ensures.given in (
+      length c.in-Some.desk.handles.items,
+      record {
+        before = c.in-Some.desk;
+        after = c.issue_in_turn-answer.new.desk;
+        took = ap (λ (m : Sat). m.0.trays) all;
+        gave = ap (λ (m : Sat). m.0.laid) all;
+        tray = c.in-Some.ensures.tray.0;
+        laid = c.issue_in_turn-answer.ensures.tray;
+        count = refl;
+        grown = c.issue_in_turn-answer.ensures.same is ∙ sym (append-nil c.in-Some.desk.handles.items);
+      },
+    )
+
+pub returns-clause-none_left : goal.returns-clause-none_left
+returns-clause-none_left c = λ is.
+    let n = c.issue_in_turn-answer.ensures.now in
+    let all = issue_chain c.args.seat.now.inner.me.0 c.args.seat.now.inner.me.1 c.take_tray.new.seat.me c.issue_in_turn-answer.new.seat.me c.give_tray.new.seat.me c.in-Some.desk.handles.items c.issue_in_turn-answer.new.desk.handles.items c.in-Some.desk c.issue_in_turn-answer.new.desk n.0 _ c.in-Some.ensures.taken n.1 c.give_tray.ensures.given in
+    let r = c.issue_in_turn-answer.ensures.all is in
+    record {
+      before = c.in-Some.desk;
+      after = c.issue_in_turn-answer.new.desk;
+      took = ap (λ (m : Sat). m.0.trays) all;
+      gave = ap (λ (m : Sat). m.0.laid) all;
+      tray = c.in-Some.ensures.tray.0;
+      laid = c.issue_in_turn-answer.ensures.tray;
+      count = ap (λ (x : List Handle). length x) (sym r.1) ∙ r.0;
+      grown = r.1 ∙ sym (append-nil c.in-Some.desk.handles.items);
+    }
+
+pub returns-in_default-clause-still : goal.returns-in_default-clause-still
+returns-in_default-clause-still c = λ _. let m = c.in_default.ensures.none in (m.0, m.1, m.2, refl)
+
+pub returns-clause-still : goal.returns-clause-still
+returns-clause-still c = λ is. absurd (c.issue_in_turn-answer.ensures.not_other is)

@@ -51,3 +51,12 @@ returns-in-Moved-clause-told c = inr (
   subst (λ n. HasWaiter n c.lay-in-Moved.new.desk) c.in-Moved.ensures.told.2.0 c.lay-in-Moved.ensures.laid,
   inr (lists c.join.new.seat, (c.join.ensures.kept.0, (_, c.join.ensures.seen), (_, c.join.ensures.placed)), c.in-Moved.ensures.told.0),
 )
+
+pub returns-in-Placed-clause-kept : goal.returns-in-Placed-clause-kept
+returns-in-Placed-clause-kept c = (λ h s. c.in-Placed.ensures.kept.0 h (c.join.ensures.kept.0.0 h s), λ h f k. c.in-Placed.ensures.kept.1 h f (c.join.ensures.kept.0.1 h f k))
+
+pub returns-in-Over-clause-kept : goal.returns-in-Over-clause-kept
+returns-in-Over-clause-kept c = (λ h s. c.in-Over.ensures.kept.0 h (c.join.ensures.kept.0.0 h s), λ h f k. c.in-Over.ensures.kept.1 h f (c.join.ensures.kept.0.1 h f k))
+
+pub returns-in-Moved-clause-kept : goal.returns-in-Moved-clause-kept
+returns-in-Moved-clause-kept c = (λ h s. c.in-Moved.ensures.kept.0 h (c.join.ensures.kept.0.0 h s), λ h f k. c.in-Moved.ensures.kept.1 h f (c.join.ensures.kept.0.1 h f k))
