@@ -1,5 +1,5 @@
 -- Two works of one run at once.
-use Rattle.std.specs.Prelude.{◌≡◌, ℕ, ◌⊎◌, Contains, Some, None}
+use Rattle.std.specs.Prelude.{◌≡◌, ◌⊎◌, Contains, Some, None}
 use Rattle.graph_model.specs.declared.meaning.outcome.End.{End}
 use Rattle.gen_events.specs.Seats.{no_event}
 use Rattle.run_words.specs.declared.view.View.{View}

@@ -18,7 +18,7 @@ use atomic_table::{Join, Play, Split};
 use run_state::laws::unordered_do_not_conflict;
 
 /// The claim of a seat goes to one that is split off.
-struct Moves;
+pub struct Moves;
 
 impl Split<View> for Moves {
     ghost left = { without_claim };
@@ -27,7 +27,7 @@ impl Split<View> for Moves {
 }
 
 /// Two seats that clash are joined, which never happens.
-struct Clashes;
+pub struct Clashes;
 
 impl Join<View> for Clashes {
     ghost both = { λ _ _. nobody };
@@ -36,7 +36,7 @@ impl Join<View> for Clashes {
 }
 
 /// A step that no seat makes.
-struct Never;
+pub struct Never;
 
 impl Play<Content, View> for Never {
     ghost then = { λ _ _ _ _. ⊥ };

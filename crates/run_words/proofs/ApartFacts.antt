@@ -1,7 +1,7 @@
 -- Two works of one run at once: seats that clash are not there together.
 use Rattle.std.proofs.Common.{◌≡◌, ℕ, Bool, true, false, ◌+◌, ◌-◌, ◌<◌, ◌≤◌, zero, suc, inl, inr, List, [], ◌∷◌, ◌++◌, length, set, refl, sym, ◌∙◌, ap, subst, arith, ⊎_elim}
-use Rattle.std.specs.Prelude.{Contains, Some, None}
-use Rattle.std.proofs.lemmas.Option.{none-some, same_Some}
+use Rattle.std.specs.Prelude.{Contains, Option, Some}
+use Rattle.std.proofs.lemmas.Option.{none-some}
 use Rattle.std.proofs.lemmas.List.Elements.{Contains-append_right}
 use mathlib.Core.Option.{some, some-ne-none}
 use lib.ListN.{get_elem?}
@@ -16,20 +16,20 @@ use Rattle.graph_model.specs.meaning.Path.{HasPath}
 use Rattle.gen_events.specs.Seats.{no_event}
 use Rattle.gen_events.specs.declared.events.Events.{Events}
 use Rattle.gen_events.specs.declared.handle.Handle.{Handle}
-use Rattle.run_state.specs.Run.{Run, Ended, stage_at}
+use Rattle.run_state.specs.Run.{Run}
 use Rattle.run_words.specs.declared.content.Content.{Content}
 use Rattle.run_words.specs.declared.view.View.{View}
 use Rattle.run_words.specs.declared.base.Base.{Base}
 use Rattle.run_words.specs.declared.words.Words.{Words}
 use Rattle.run_words.specs.declared.works.WordWork.{WordWork}
 use Rattle.run_words.specs.Apart.{StaysWork, Clash, without_claim, with_claim, nobody}
-use Rattle.run_words.specs.Claims.{Claim, Ground, new_claim}
+use Rattle.run_words.specs.Claims.{Claim, new_claim}
 use Rattle.run_words.specs.Plays.{Sat, no_view, parent_of, child_of, end_of_code, ended_by, looked_at, Told}
 use Rattle.run_words.specs.Premises.{Has}
 use Rattle.run_words.specs.Rule.{Fits, AreNumbered, Shown, ground_of}
-use Rattle.run_words.specs.Views.{runs_at, issues_at, owes_at, has_desk, claim_at, late_at}
+use Rattle.run_words.specs.Views.{runs_at, issues_at, owes_at, has_desk}
 use Rattle.run_words.specs.Words.{graph_of, events_of, IsSeatOf}
-use Rattle.run_words.specs.Works.{IsWorkOf, Loaded}
+use Rattle.run_words.specs.Works.{IsWorkOf}
 use Rattle.run_words.proofs.AtKey.{KeyShown, Kept}
 use Rattle.run_words.proofs.Desking.{has_key}
 use Rattle.run_words.proofs.Numbers.{split_numbers}
@@ -146,8 +146,11 @@ looked_clash v u w i r is high line mine theirs = record {
   other = theirs.0;
   one_has = ap (λ (y : View). y.claim) is ∙ mine.1;
   other_has = theirs.1;
-  clash = inr (end_of_code (r - 8), subst (λ (l : List (ℕ × End)). Contains l (theirs.0.line, end_of_code (r - 8))) (sym (ap (λ (y : View). y.ended) is))
-      (subst (λ j. Contains {X = ℕ × End} (v.ended ++ ended_by i r) (j, end_of_code (r - 8))) (sym theirs.2) (Contains-append_right v.ended (ended_by i r) (i, end_of_code (r - 8)) (ended_shown i r high))));
+  clash = inr (
+    end_of_code (r - 8),
+    subst (λ (l : List (ℕ × End)). Contains l (theirs.0.line, end_of_code (r - 8))) (sym (ap (λ (y : View). y.ended) is))
+        (subst (λ j. Contains {X = ℕ × End} (v.ended ++ ended_by i r) (j, end_of_code (r - 8))) (sym theirs.2) (Contains-append_right v.ended (ended_by i r) (i, end_of_code (r - 8)) (ended_shown i r high))),
+  );
 }
 
 pub no_path_beside : (g : GraphValue) (e : Events) (v : View) (i r line : ℕ) → v.keys ≡ ground_of g e ∷ [] → Told v i r → r < 8 → Has v (λ cl. cl.line ≡ line) → HasPath g i line → ⊥
@@ -159,12 +162,16 @@ no_path_beside g e v i r line keys told low mine path =
 abbrev looks : ℕ → ℕ → Sat → Sat
 looks i r m = (looked_at m.0 i r, m.1)
 
+claim_by : (b : Bool) (o : Option Claim) (x : Claim) → (b ≡ true → o ≡ Some x) → (b ≡ false → o ≡ Some x) → o ≡ Some x
+claim_by true o x cancelled runs = cancelled refl
+claim_by false o x cancelled runs = runs refl
+
 pub has_line : (w : Words) (k : WordWork) → IsWorkOf w k → Has k.inner.me.0 (λ cl. cl.line ≡ k.line)
-has_line w k x = has_by k.is_cancelled (λ b. ap (λ (m : Sat). m.0.claim) (x.cancelled b).1) (λ b. ap (λ (m : Sat). m.0.claim) (x.loaded b).now)
-  where
-    has_by : (b : Bool) → (b ≡ true → k.inner.me.0.claim ≡ Some x.claim) → (b ≡ false → k.inner.me.0.claim ≡ Some x.claim) → Has k.inner.me.0 (λ cl. cl.line ≡ k.line)
-    has_by true yes no = (x.claim, yes refl, x.line_is)
-    has_by false yes no = (x.claim, no refl, x.line_is)
+has_line w k x = (
+  x.claim,
+  claim_by k.is_cancelled k.inner.me.0.claim x.claim (λ b. ap (λ (m : Sat). m.0.claim) (x.cancelled b).1) (λ b. ap (λ (m : Sat). m.0.claim) (x.loaded b).now),
+  x.line_is,
+)
 
 pub work_looked : (w : Words) (k : WordWork) (p : table.Seat Content View) → IsWorkOf w k → IsSeatOf w p → (i r : ℕ) → p.me ≡ (looked_at k.inner.me.0 i r, k.inner.me.1) → IsWorkOf w (record k { inner = p })
 work_looked w k p x at i r is = record {
