@@ -1,6 +1,7 @@
--- Which lines are out of a core after a call.
-use Rattle.std.specs.Prelude.{◌≡◌, ◌≢◌, ℕ, true, false}
+-- Which lines are out of a core after a call, and what may be out together.
+use Rattle.std.specs.Prelude.{◌≡◌, ◌≢◌, ℕ, true, false, IsTrue}
 use Rattle.run_state.specs.Run.{out}
+use Rattle.run_state.specs.Apart.{DoNotConflict}
 use Rattle.run_core.specs.Core.{CoreValue}
 use Rattle.run_core.specs.declared.answers.Attempt.{Attempt}
 use Rattle.run_core.specs.declared.answers.Attempt.TheVariants as attempts
@@ -21,3 +22,12 @@ pub record OneMoreOut (old new : CoreValue) (i : ℕ) : Type 0 where
 abbrev pub OutAfter : CoreValue → CoreValue → Attempt → Type 0
 OutAfter old new (attempts.Taken w) = OneMoreOut old new w.line
 OutAfter old new _ = SameOut old new
+
+-- the line conflicts with no line that is out, but where both reduce and are exempt
+abbrev pub IsApart : CoreValue → ℕ → Type 0
+IsApart c i = (j : ℕ) → IsTrue (out c.run.stages j) → DoNotConflict c.graph i j
+
+-- a line that was taken is apart from those that were out before
+abbrev pub TakenApart : CoreValue → Attempt → Type 0
+TakenApart old (attempts.Taken w) = IsApart old w.line
+TakenApart old _ = Unit {0}

@@ -3,6 +3,7 @@ pub mod Counts
 pub mod Known
 pub mod SoundParts
 pub mod Started
+pub mod Apart
 pub mod Columns
 pub mod Times
 pub mod Stages

@@ -6,6 +6,7 @@ use Rattle.graph_model.specs.declared.meaning.outcome.End.TheVariants.{Done, Can
 use Rattle.graph_model.specs.declared.graph.verb.Edge.{Edge}
 use Rattle.graph_model.specs.graph.Graph.{GraphValue, line_passes, never_comes}
 use Rattle.graph_model.specs.graph.Edges.{edges}
+use Rattle.graph_model.specs.meaning.Path.{HasPath}
 use Rattle.graph_model.specs.meaning.Rules.{Releases, Accepted}
 use Rattle.graph_model.specs.meaning.Effect.{Cells, effect}
 use Rattle.graph_model.specs.meaning.Evaluation.{eval_end, end_by, column_of}
@@ -19,6 +20,7 @@ use Rattle.run_state.specs.Premises.{MayIssue, MayClaim, MayUnclaim, MayTakeColu
 use Rattle.run_state.specs.WholeLine.{take_whole, put_back_whole}
 use Rattle.run_state.specs.AtRest.{AtRest, MayTakeWhole, MayPutBack, Undisturbed}
 use Rattle.run_state.specs.Start.{start}
+use Rattle.run_state.specs.Apart.{DoNotConflict}
 use Rattle.run_state.specs.Quiet.{kept_cancels, CanTake, Quiet, Stuck, left_among, ByTimes, GivesOutcome}
 
 -- a run begins sound and at rest
@@ -169,3 +171,11 @@ ClockIsSmall = (g : GraphValue) (run : Run) → Sound g run → run.clock ≤ le
 -- where none of the first k lines can be taken, and a line is left to issue, fewer of them are left than the need
 abbrev pub LeftBelowNeed : Type 0
 LeftBelowNeed = (g : GraphValue) (run : Run) (k need : ℕ) → Sound g run → Stuck g run k → k < length g.lines → IsNeed g need → left_among run k < need
+
+-- two different lines of an accepted graph with no path between them do not conflict, but where both reduce and are exempt
+abbrev pub UnorderedDoNotConflict : Type 0
+UnorderedDoNotConflict = (g : GraphValue) (i j : ℕ) → Accepted g → i ≢ j → (HasPath g i j → ⊥) → (HasPath g j i → ⊥) → DoNotConflict g i j
+
+-- nor do, in a sound state, two different lines that are out
+abbrev pub OutDoNotConflict : Type 0
+OutDoNotConflict = (g : GraphValue) (run : Run) (i j : ℕ) → Sound g run → i ≢ j → IsTrue (out run.stages i) → IsTrue (out run.stages j) → DoNotConflict g i j

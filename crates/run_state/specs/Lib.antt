@@ -7,4 +7,5 @@ pub mod WholeLine
 pub mod AtRest
 pub mod Quiet
 pub mod Start
+pub mod Apart
 pub mod Laws

@@ -1,6 +1,6 @@
 //! What holds of the states of all runs, for callers to cite. No function here does anything.
 
-ghost use Rattle.run_state.specs.Laws.{StartIsSound, StartIsAtRest, IssueKeepsSound, ClaimKeepsSound, UnclaimKeepsSound, ColumnOutKeepsSound, ColumnUnusedKeepsSound, ColumnBackKeepsSound, HoldKeepsSound, LetGoKeepsSound, ArriveKeepsSound, DrawKeepsSound, EndingKeepsSound, FreeKeepsSound, CloseKeepsSound, IssueKeepsRest, TakeKeepsRest, ClaimOfCancelledKeepsRest, PutBackKeepsRest, CanTakeWhole, CancelledByKeptEnds, TakenHolds, ListsHold, WorkIsAsEvaluated, WorkGivesCells, PerformedMayBePutBack, CancelledMayBePutBack, HoldsAllStays, MayPutBackStays, StageLeaves, ColumnOutLeaves, ColumnUnusedLeaves, ColumnBackLeaves, TakeLeaves, PutBackLeaves, BackAtRest, ArrivedAtRest, FreedAtRest, QuietGivesOutcome, SlotsAreByTimes, ClockIsSmall, LeftBelowNeed};
+ghost use Rattle.run_state.specs.Laws.{StartIsSound, StartIsAtRest, IssueKeepsSound, ClaimKeepsSound, UnclaimKeepsSound, ColumnOutKeepsSound, ColumnUnusedKeepsSound, ColumnBackKeepsSound, HoldKeepsSound, LetGoKeepsSound, ArriveKeepsSound, DrawKeepsSound, EndingKeepsSound, FreeKeepsSound, CloseKeepsSound, IssueKeepsRest, TakeKeepsRest, ClaimOfCancelledKeepsRest, PutBackKeepsRest, CanTakeWhole, CancelledByKeptEnds, TakenHolds, ListsHold, WorkIsAsEvaluated, WorkGivesCells, PerformedMayBePutBack, CancelledMayBePutBack, HoldsAllStays, MayPutBackStays, StageLeaves, ColumnOutLeaves, ColumnUnusedLeaves, ColumnBackLeaves, TakeLeaves, PutBackLeaves, BackAtRest, ArrivedAtRest, FreedAtRest, QuietGivesOutcome, SlotsAreByTimes, ClockIsSmall, LeftBelowNeed, UnorderedDoNotConflict, OutDoNotConflict};
 
 /// A run of an accepted graph begins in a sound state.
 pub fn start_is_sound()
@@ -213,4 +213,15 @@ pub fn clock_is_small()
 /// left than the need of the graph: with as many slots as the need one is free.
 pub fn left_below_need()
     ensures { LeftBelowNeed }
+{}
+
+/// Two different lines of an accepted graph with no path between them conflict nowhere but where both
+/// reduce and are exempt.
+pub fn unordered_do_not_conflict()
+    ensures { UnorderedDoNotConflict }
+{}
+
+/// Two different lines that are out together conflict nowhere but where both reduce and are exempt.
+pub fn out_do_not_conflict()
+    ensures { OutDoNotConflict }
 {}

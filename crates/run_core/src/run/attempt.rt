@@ -10,7 +10,7 @@ use crate::holders::busy_lock;
 use crate::progress::Progress;
 use crate::run::Core;
 use crate::sources::{is_cancelled, least_left};
-use run_state::laws::cancelled_by_kept_ends;
+use run_state::laws::{cancelled_by_kept_ends, claim_keeps_sound, out_do_not_conflict};
 
 /// What is found of a line that is to be taken.
 #[derive(Clone, Copy)]
@@ -29,11 +29,12 @@ impl<'g> Core<'g> {
     ghost use Rattle.run_core.specs.Steps.{Attempts, StandsBy, IsLeastLeft};
     ghost use Rattle.run_core.specs.Findings.{IsFound};
     ghost use Rattle.run_core.specs.Works.{KeepsWork};
-    ghost use Rattle.run_core.specs.WhatIsOut.{OutAfter};
+    ghost use Rattle.run_core.specs.WhatIsOut.{OutAfter, TakenApart};
     ghost use Rattle.graph_model.specs.graph.Graph.{never_comes};
 
     /// Tries to take a line. What is answered is the first that holds of the answers in the order of
-    /// their enum's documentation. NotYet also places the line on the handle of its source, where
+    /// their enum's documentation. A line that is taken conflicts with none that is out, but where both
+    /// reduce and are exempt. NotYet also places the line on the handle of its source, where
     /// that is issued and the line's waiter is free; it isn't free while it is placed, or caught and
     /// not yet given by `next_woken`.
     pub fn attempt(&mut self, i: u32) -> Attempt
@@ -41,8 +42,12 @@ impl<'g> Core<'g> {
         ensures answer { Attempts self.old self.new i result }
         ensures works { (k : ℕ) → KeepsWork self.old self.new k }
         ensures out { OutAfter self.old self.new result }
+        ensures apart { TakenApart self.old result }
         ensures slots { slots_given self.new ≡ slots_given self.old }
     {
+        out_do_not_conflict();
+        claim_keeps_sound();
+        self.is_sound();
         match self.finding(i) {
             Finding::Over(stage) => Attempt::Over(stage),
             Finding::Never => Attempt::Never,

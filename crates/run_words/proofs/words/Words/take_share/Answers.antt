@@ -1,5 +1,3 @@
-use Rattle.std.proofs.Common.{◌∷◌, [], ◌∙◌, ap}
-use Rattle.run_words.specs.Plays.{Sat, saw_all}
 use Rattle.run_words.specs.Layout.{size_of, lock_word}
 use Rattle.run_words.specs.Words.{graph_of}
 use Rattle.run_words.proofs.TakeFacts.{may_lock_after, held_then, refused_alone, refused_changed}

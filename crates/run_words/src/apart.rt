@@ -1,0 +1,95 @@
+//! Two works of one run at once.
+
+ghost use Rattle.std.specs.Prelude.{ℕ, ◌≡◌, ◌≢◌, ◌<◌, length};
+ghost use Rattle.graph_model.specs.meaning.Path.{HasPath};
+ghost use Rattle.run_state.specs.Apart.{DoNotConflict};
+ghost use Rattle.run_words.specs.Apart.{StaysWork, Clash, with_claim, without_claim, nobody};
+ghost use Rattle.run_words.specs.Plays.{no_view, looked_at};
+ghost use Rattle.run_words.specs.Premises.{Has};
+ghost use Rattle.run_words.specs.Words.{graph_of, IsSeatOf};
+ghost use Rattle.run_words.specs.Works.{IsWorkOf, work_line};
+
+use crate::content::Content;
+use crate::moves::Place;
+use crate::view::View;
+use crate::words::Words;
+use crate::works::WordWork;
+use atomic_table::{Join, Play, Split};
+use run_state::laws::unordered_do_not_conflict;
+
+/// The claim of a seat goes to one that is split off.
+pub struct Moves;
+
+impl Split<View> for Moves {
+    ghost left = { without_claim };
+
+    ghost right = { with_claim };
+}
+
+/// Two seats that clash are joined, which never happens.
+pub struct Clashes;
+
+impl Join<View> for Clashes {
+    ghost both = { λ _ _. nobody };
+
+    ghost spent = { no_view };
+}
+
+/// A step that no seat makes.
+pub struct Never;
+
+impl Play<Content, View> for Never {
+    ghost then = { λ _ _ _ _. ⊥ };
+}
+
+impl<'g> Words<'g> {
+    /// No two seats clash. So this is never called when the program runs.
+    fn refute(&self, one: &mut Place, other: &mut Place)
+        requires at { IsSeatOf self.now one.old × IsSeatOf self.now other.old }
+        requires clash { Clash one.old.me.0 other.old.me.0 }
+        ensures { ⊥ }
+    {
+        let moved = self.table.shared.split_seat::<Moves>(one);
+        self.table.shared.join_seat::<Clashes>(other, moved);
+        self.table.shared.load::<Never>(other, 0);
+    }
+
+    /// The seat of one line looks at another line that is out with the other seat. It finds it not
+    /// ended, so no path leads from there to its own line.
+    fn look_beside(&self, one: &mut Place, other: &mut Place, line: u32, beside: u32)
+        requires at { IsSeatOf self.now one.old × IsSeatOf self.now other.old }
+        requires line { Has one.old.me.0 (λ cl. cl.line ≡ line) }
+        requires beside { Has other.old.me.0 (λ cl. cl.line ≡ beside) }
+        requires near { beside < length (graph_of self.now).lines }
+        ensures at { IsSeatOf self.now one.new }
+        ensures looked { (r : ℕ) × (one.new.me ≡ (looked_at one.old.me.0 beside r, one.old.me.1)) }
+        ensures stays { other.new ≡ other.old }
+        ensures no_path { HasPath (graph_of self.now) beside line → ⊥ }
+    {
+        let word = self.look(one, beside);
+        if word >= 8 {
+            self.refute(one, other);
+            unreachable!()
+        }
+    }
+
+    /// Two works of this run are of different lines, and these conflict nowhere but where both reduce
+    /// and are exempt. Each stays the work that it is: its seat looks once at the other's line.
+    pub fn works_apart(&self, one: &mut WordWork, other: &mut WordWork)
+        requires one { IsWorkOf self.now one.old }
+        requires other { IsWorkOf self.now other.old }
+        ensures one { StaysWork self.now one.old one.new }
+        ensures other { StaysWork self.now other.old other.new }
+        ensures different { work_line one.old ≢ work_line other.old }
+        ensures apart { DoNotConflict (graph_of self.now) (work_line one.old) (work_line other.old) }
+    {
+        unordered_do_not_conflict();
+        let _ = self.base.checked.graph();
+        if one.line == other.line {
+            self.refute(&mut one.inner, &mut other.inner);
+            unreachable!()
+        }
+        self.look_beside(&mut one.inner, &mut other.inner, one.line, other.line);
+        self.look_beside(&mut other.inner, &mut one.inner, other.line, one.line);
+    }
+}
