@@ -6,13 +6,14 @@ use Rattle.std.proofs.lemmas.List.{get_or-set_same, get_or-set_other, set-set}
 use Rattle.graph_model.specs.graph.Graph.{GraphValue}
 use Rattle.gen_events.specs.declared.handle.Handle.{Handle}
 use Rattle.run_state.specs.Run.{LineStage, Unissued, Issued, Out, Ending, Ended, stage_out, stage_issued, out}
+use Rattle.run_state.specs.Sound.{Sound}
 use Rattle.run_state.specs.Moves.{claim}
-use Rattle.run_state.specs.Laws.{ClaimKeepsSound, OutDoNotConflict}
+use Rattle.run_state.specs.Laws.{ClaimKeepsSound, OutConflictOnlyExempt}
 use Rattle.run_state.proofs.Start.{same_at}
 use Rattle.run_core.specs.Core.{CoreValue, IsCore, unissued}
 use Rattle.run_core.specs.Works.{WorkValue, FinishedValue, IsFinished}
 use Rattle.run_core.specs.Steps.{Issues, IsDue, Takes, with_end, with_issue, IsLeft}
-use Rattle.run_core.specs.WhatIsOut.{SameOut, OneMoreOut, IsApart}
+use Rattle.run_core.specs.WhatIsOut.{SameOut, OneMoreOut, ConflictsOnlyExempt}
 use Rattle.run_core.specs.Finishing.{NothingOut}
 use Rattle.run_core.specs.declared.answers.Issue.TheVariants as issues
 use Rattle.run_core.proofs.CoreFacts.{may_issue, may_claim, line_near}
@@ -64,11 +65,14 @@ out_taken old new w takes = record {
     gone : GoesOut old new w.line
     gone = goes_out old new w takes
 
--- AND IS APART FROM THOSE THAT ARE OUT: once it is claimed, it is out beside them
-pub apart_taken : OutDoNotConflict → ClaimKeepsSound → (old : CoreValue) → IsCore old → (i : ℕ) → IsDue old.graph old.run i → IsApart old i
-apart_taken law claims old core i due j is_out =
-    law old.graph (claim old.run i) i j (claims old.graph old.run i core.sound (may_claim old i due)) (λ e. other (sym e)) (out_here old.run.stages i Out near) (out_else old.run.stages i Out j other ∙ is_out)
+-- AND CONFLICTS WITH THOSE THAT ARE OUT ONLY WHERE THEY ARE EXEMPT: once it is claimed, it is out beside them
+pub taken_only_exempt : OutConflictOnlyExempt → ClaimKeepsSound → (old : CoreValue) → IsCore old → (i : ℕ) → IsDue old.graph old.run i → ConflictsOnlyExempt old i
+taken_only_exempt law claims old core i due j is_out =
+    law old.graph (claim old.run i).stages i j claimed.accepted claimed.on_lines (out_here old.run.stages i Out near) (out_else old.run.stages i Out j other ∙ is_out)
   where
+    claimed : Sound old.graph (claim old.run i)
+    claimed = claims old.graph old.run i core.sound (may_claim old i due)
+
     near : i < length old.run.stages
     near = line_near old core i (ap stage_issued due.is_issued)
 

@@ -1,7 +1,7 @@
 -- Which lines are out of a core after a call, and what may be out together.
 use Rattle.std.specs.Prelude.{◌≡◌, ◌≢◌, ℕ, true, false, IsTrue}
 use Rattle.run_state.specs.Run.{out}
-use Rattle.run_state.specs.Apart.{DoNotConflict}
+use Rattle.run_state.specs.Apart.{ConflictOnlyExempt}
 use Rattle.run_core.specs.Core.{CoreValue}
 use Rattle.run_core.specs.declared.answers.Attempt.{Attempt}
 use Rattle.run_core.specs.declared.answers.Attempt.TheVariants as attempts
@@ -24,10 +24,10 @@ OutAfter old new (attempts.Taken w) = OneMoreOut old new w.line
 OutAfter old new _ = SameOut old new
 
 -- the line conflicts with no line that is out, but where both reduce and are exempt
-abbrev pub IsApart : CoreValue → ℕ → Type 0
-IsApart c i = (j : ℕ) → IsTrue (out c.run.stages j) → DoNotConflict c.graph i j
+abbrev pub ConflictsOnlyExempt : CoreValue → ℕ → Type 0
+ConflictsOnlyExempt c i = (j : ℕ) → IsTrue (out c.run.stages j) → ConflictOnlyExempt c.graph i j
 
--- a line that was taken is apart from those that were out before
-abbrev pub TakenApart : CoreValue → Attempt → Type 0
-TakenApart old (attempts.Taken w) = IsApart old w.line
-TakenApart old _ = Unit {0}
+-- a line that was taken conflicts so with those that were out before
+abbrev pub TakenConflictsOnlyExempt : CoreValue → Attempt → Type 0
+TakenConflictsOnlyExempt old (attempts.Taken w) = ConflictsOnlyExempt old w.line
+TakenConflictsOnlyExempt old _ = Unit {0}

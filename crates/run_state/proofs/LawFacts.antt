@@ -16,7 +16,7 @@ use Rattle.run_state.proofs.QuietOutcome as outcome_facts
 use Rattle.run_state.proofs.QuietTrace as trace_facts
 use Rattle.run_state.proofs.Slots as slots_facts
 use Rattle.run_state.proofs.Apart as apart_facts
-use Rattle.run_state.specs.Laws.{StartIsSound, StartIsAtRest, IssueKeepsSound, ClaimKeepsSound, UnclaimKeepsSound, ColumnOutKeepsSound, ColumnUnusedKeepsSound, ColumnBackKeepsSound, HoldKeepsSound, LetGoKeepsSound, ArriveKeepsSound, DrawKeepsSound, EndingKeepsSound, FreeKeepsSound, CloseKeepsSound, IssueKeepsRest, TakeKeepsRest, ClaimOfCancelledKeepsRest, PutBackKeepsRest, CanTakeWhole, CancelledByKeptEnds, TakenHolds, ListsHold, WorkIsAsEvaluated, WorkGivesCells, PerformedMayBePutBack, CancelledMayBePutBack, HoldsAllStays, MayPutBackStays, StageLeaves, ColumnOutLeaves, ColumnUnusedLeaves, ColumnBackLeaves, TakeLeaves, PutBackLeaves, BackAtRest, ArrivedAtRest, FreedAtRest, QuietGivesOutcome, SlotsAreByTimes, ClockIsSmall, LeftBelowNeed, UnorderedDoNotConflict, OutDoNotConflict}
+use Rattle.run_state.specs.Laws.{StartIsSound, StartIsAtRest, IssueKeepsSound, ClaimKeepsSound, UnclaimKeepsSound, ColumnOutKeepsSound, ColumnUnusedKeepsSound, ColumnBackKeepsSound, HoldKeepsSound, LetGoKeepsSound, ArriveKeepsSound, DrawKeepsSound, EndingKeepsSound, FreeKeepsSound, CloseKeepsSound, IssueKeepsRest, TakeKeepsRest, ClaimOfCancelledKeepsRest, PutBackKeepsRest, CanTakeWhole, CancelledByKeptEnds, TakenHolds, ListsHold, WorkIsAsEvaluated, WorkGivesCells, PerformedMayBePutBack, CancelledMayBePutBack, HoldsAllStays, MayPutBackStays, StageLeaves, ColumnOutLeaves, ColumnUnusedLeaves, ColumnBackLeaves, TakeLeaves, PutBackLeaves, BackAtRest, ArrivedAtRest, FreedAtRest, QuietGivesOutcome, SlotsAreByTimes, ClockIsSmall, LeftBelowNeed, UnorderedConflictOnlyExempt, OutConflictOnlyExempt}
 
 pub start_is_sound : StartIsSound
 start_is_sound g f a = start_facts.start_is_sound g f a
@@ -144,8 +144,8 @@ clock_is_small g run s = trace_facts.clock_small s
 pub left_below_need : LeftBelowNeed
 left_below_need g run k need s q b n = slots_facts.left_below_need g run s k q b need n
 
-pub unordered_do_not_conflict : UnorderedDoNotConflict
-unordered_do_not_conflict g i j accepted other forth back = apart_facts.unordered_apart g accepted i j other forth back
+pub unordered_conflict_only_exempt : UnorderedConflictOnlyExempt
+unordered_conflict_only_exempt g i j accepted forth back = apart_facts.unordered_only_exempt g accepted i j forth back
 
-pub out_do_not_conflict : OutDoNotConflict
-out_do_not_conflict g run i j s other hi hj = apart_facts.out_apart s.accepted s.on_lines i j other hi hj
+pub out_conflict_only_exempt : OutConflictOnlyExempt
+out_conflict_only_exempt g stages i j accepted s hi hj = apart_facts.out_only_exempt accepted s i j hi hj

@@ -13,14 +13,14 @@ use Rattle.graph_model.specs.meaning.Evaluation.{eval_end, end_by, column_of}
 use Rattle.graph_model.specs.graph.Fits.{IsGraph}
 use Rattle.graph_model.specs.meaning.Need.{IsNeed}
 use Rattle.run_state.specs.Run.{LineStage, Run, Out, Home, Had, is_listed, stage_at, time_at, place_at, list_at, out, ended}
-use Rattle.run_state.specs.Sound.{AccessesColumn, is_arrive, home_cells, Sound}
+use Rattle.run_state.specs.Sound.{AccessesColumn, is_arrive, home_cells, SoundLines, Sound}
 use Rattle.run_state.specs.Moves.{staged, issue, claim, unclaim, ending, close, column_out, column_unused, column_back, arrive, hold, let_go, free, draw}
 use Rattle.run_state.specs.Work.{HoldsAll, cells_from, performed, put_cells, PerformsAsEvaluated}
 use Rattle.run_state.specs.Premises.{MayIssue, MayClaim, MayUnclaim, MayTakeColumn, MayReturnColumn, MayPutBackColumn, MayHold, MayLetGo, MayArrive, MayDraw, MayEnd, MayFree, MayClose}
 use Rattle.run_state.specs.WholeLine.{take_whole, put_back_whole}
 use Rattle.run_state.specs.AtRest.{AtRest, MayTakeWhole, MayPutBack, Undisturbed}
 use Rattle.run_state.specs.Start.{start}
-use Rattle.run_state.specs.Apart.{DoNotConflict}
+use Rattle.run_state.specs.Apart.{ConflictOnlyExempt}
 use Rattle.run_state.specs.Quiet.{kept_cancels, CanTake, Quiet, Stuck, left_among, ByTimes, GivesOutcome}
 
 -- a run begins sound and at rest
@@ -172,10 +172,11 @@ ClockIsSmall = (g : GraphValue) (run : Run) → Sound g run → run.clock ≤ le
 abbrev pub LeftBelowNeed : Type 0
 LeftBelowNeed = (g : GraphValue) (run : Run) (k need : ℕ) → Sound g run → Stuck g run k → k < length g.lines → IsNeed g need → left_among run k < need
 
--- two different lines of an accepted graph with no path between them do not conflict, but where both reduce and are exempt
-abbrev pub UnorderedDoNotConflict : Type 0
-UnorderedDoNotConflict = (g : GraphValue) (i j : ℕ) → Accepted g → i ≢ j → (HasPath g i j → ⊥) → (HasPath g j i → ⊥) → DoNotConflict g i j
+-- two lines of an accepted graph with no path between them conflict only where both reduce and are exempt
+abbrev pub UnorderedConflictOnlyExempt : Type 0
+UnorderedConflictOnlyExempt = (g : GraphValue) (i j : ℕ) → Accepted g → (HasPath g i j → ⊥) → (HasPath g j i → ⊥) → ConflictOnlyExempt g i j
 
 -- nor do, in a sound state, two different lines that are out
-abbrev pub OutDoNotConflict : Type 0
-OutDoNotConflict = (g : GraphValue) (run : Run) (i j : ℕ) → Sound g run → i ≢ j → IsTrue (out run.stages i) → IsTrue (out run.stages j) → DoNotConflict g i j
+abbrev pub OutConflictOnlyExempt : Type 0
+OutConflictOnlyExempt = (g : GraphValue) (stages : List LineStage) (i j : ℕ) → Accepted g → SoundLines g stages →
+    IsTrue (out stages i) → IsTrue (out stages j) → ConflictOnlyExempt g i j

@@ -1,6 +1,6 @@
 //! What holds of the states of all runs, for callers to cite. No function here does anything.
 
-ghost use Rattle.run_state.specs.Laws.{StartIsSound, StartIsAtRest, IssueKeepsSound, ClaimKeepsSound, UnclaimKeepsSound, ColumnOutKeepsSound, ColumnUnusedKeepsSound, ColumnBackKeepsSound, HoldKeepsSound, LetGoKeepsSound, ArriveKeepsSound, DrawKeepsSound, EndingKeepsSound, FreeKeepsSound, CloseKeepsSound, IssueKeepsRest, TakeKeepsRest, ClaimOfCancelledKeepsRest, PutBackKeepsRest, CanTakeWhole, CancelledByKeptEnds, TakenHolds, ListsHold, WorkIsAsEvaluated, WorkGivesCells, PerformedMayBePutBack, CancelledMayBePutBack, HoldsAllStays, MayPutBackStays, StageLeaves, ColumnOutLeaves, ColumnUnusedLeaves, ColumnBackLeaves, TakeLeaves, PutBackLeaves, BackAtRest, ArrivedAtRest, FreedAtRest, QuietGivesOutcome, SlotsAreByTimes, ClockIsSmall, LeftBelowNeed, UnorderedDoNotConflict, OutDoNotConflict};
+ghost use Rattle.run_state.specs.Laws.{StartIsSound, StartIsAtRest, IssueKeepsSound, ClaimKeepsSound, UnclaimKeepsSound, ColumnOutKeepsSound, ColumnUnusedKeepsSound, ColumnBackKeepsSound, HoldKeepsSound, LetGoKeepsSound, ArriveKeepsSound, DrawKeepsSound, EndingKeepsSound, FreeKeepsSound, CloseKeepsSound, IssueKeepsRest, TakeKeepsRest, ClaimOfCancelledKeepsRest, PutBackKeepsRest, CanTakeWhole, CancelledByKeptEnds, TakenHolds, ListsHold, WorkIsAsEvaluated, WorkGivesCells, PerformedMayBePutBack, CancelledMayBePutBack, HoldsAllStays, MayPutBackStays, StageLeaves, ColumnOutLeaves, ColumnUnusedLeaves, ColumnBackLeaves, TakeLeaves, PutBackLeaves, BackAtRest, ArrivedAtRest, FreedAtRest, QuietGivesOutcome, SlotsAreByTimes, ClockIsSmall, LeftBelowNeed, UnorderedConflictOnlyExempt, OutConflictOnlyExempt};
 
 /// A run of an accepted graph begins in a sound state.
 pub fn start_is_sound()
@@ -215,13 +215,13 @@ pub fn left_below_need()
     ensures { LeftBelowNeed }
 {}
 
-/// Two different lines of an accepted graph with no path between them conflict nowhere but where both
-/// reduce and are exempt.
-pub fn unordered_do_not_conflict()
-    ensures { UnorderedDoNotConflict }
+/// Two lines of an accepted graph with no path between them conflict only where both reduce and are
+/// exempt.
+pub fn unordered_conflict_only_exempt()
+    ensures { UnorderedConflictOnlyExempt }
 {}
 
-/// Two different lines that are out together conflict nowhere but where both reduce and are exempt.
-pub fn out_do_not_conflict()
-    ensures { OutDoNotConflict }
+/// Two lines that are out together conflict only where both reduce and are exempt.
+pub fn out_conflict_only_exempt()
+    ensures { OutConflictOnlyExempt }
 {}

@@ -22,7 +22,7 @@ use Rattle.run_words.specs.declared.view.View.{View}
 use Rattle.run_words.specs.declared.base.Base.{Base}
 use Rattle.run_words.specs.declared.words.Words.{Words}
 use Rattle.run_words.specs.declared.works.WordWork.{WordWork}
-use Rattle.run_words.specs.Apart.{StaysWork, Clash, without_claim, with_claim, nobody}
+use Rattle.run_words.specs.Apart.{StaysWork, AreNeverTogether, without_claim, with_claim, impossible_view}
 use Rattle.run_words.specs.Claims.{Claim, new_claim}
 use Rattle.run_words.specs.Plays.{Sat, no_view, parent_of, child_of, end_of_code, ended_by, looked_at, Told}
 use Rattle.run_words.specs.Premises.{Has}
@@ -112,35 +112,35 @@ claim_moves g e id v c has s o me =
     (moved_numbers s.views o.numbers id v me own.0 own.1 own.2)
 
 -- SEATS THAT CLASH are not there together
-no_clash : (g : GraphValue) (e : Events) (s : St) → Shown g e s → (j k : ℕ) (v w : View) → (k ≡ j → ⊥) → get_elem? s.views j ≡ some v → get_elem? s.views k ≡ some w → Clash v w → ⊥
+no_clash : (g : GraphValue) (e : Events) (s : St) → Shown g e s → (j k : ℕ) (v w : View) → (k ≡ j → ⊥) → get_elem? s.views j ≡ some v → get_elem? s.views k ≡ some w → AreNeverTogether v w → ⊥
 no_clash g e s o j k v w other at there x = elim x.clash [
   | inl same ↦ works_alone g e s o j v v at x.one.line k w x.one x.other other there x.one_has refl x.other_has (sym same)
   | inr (end, known) ↦ working_not_over x.other.ends end (sym ((o.each_view k w there).claim x.other x.other_has).stage ∙ (o.each_view j v at).ended x.other.line end known)
 ]
 
-clash_joins : (g : GraphValue) (e : Events) (id other : ℕ) (v w both spent : View) → Clash w v → Joins (Shown g e) id v other w both spent
+clash_joins : (g : GraphValue) (e : Events) (id other : ℕ) (v w both spent : View) → AreNeverTogether w v → Joins (Shown g e) id v other w both spent
 clash_joins g e id other v w both spent x s o me apart them = absurd (no_clash g e s o other id w v (λ q. apart (sym q)) (sym (set_else s.views id other both apart) ∙ them) me x)
 
-pub moved_clash : (v w : View) → Clash v w → Clash (with_claim v) w
+pub moved_clash : (v w : View) → AreNeverTogether v w → AreNeverTogether (with_claim v) w
 moved_clash v w x = record { one = x.one; other = x.other; one_has = x.one_has; other_has = x.other_has; clash = x.clash }
 
-nobody_steps : (g : GraphValue) (e : Events) (slots id i : ℕ) (hand : List (ℕ × Content)) → Allows (Shown g e) slots id (nobody, hand) i (λ n. n) (λ _ _. ⊥)
-nobody_steps g e slots id i hand s o wide me low = absurd (none-some (new_claim 0 no_event) (sym ((o.each_view id nobody me).idle refl).0))
+impossible_steps : (g : GraphValue) (e : Events) (slots id i : ℕ) (hand : List (ℕ × Content)) → Allows (Shown g e) slots id (impossible_view, hand) i (λ n. n) (λ _ _. ⊥)
+impossible_steps g e slots id i hand s o wide me low = absurd (none-some (new_claim 0 no_event) (sym ((o.each_view id impossible_view me).idle refl).0))
 
 -- the same, by the table's key
 module _ (w : Words) where
   pub move_step : (id : ℕ) (v : View) (c : Claim) → v.claim ≡ Some c → Splits (Kept w) id v (without_claim v) (with_claim v)
   move_step id v c has = subst (λ (b : Base). Splits (KeyShown b) id v (without_claim v) (with_claim v)) (sym w.keyed) (claim_moves (graph_of w) (events_of w) id v c has)
 
-  pub clash_step : (id other : ℕ) (v u : View) → Clash u v → Joins (Kept w) id v other u nobody no_view
-  clash_step id other v u x = subst (λ (b : Base). Joins (KeyShown b) id v other u nobody no_view) (sym w.keyed) (clash_joins (graph_of w) (events_of w) id other v u nobody no_view x)
+  pub clash_step : (id other : ℕ) (v u : View) → AreNeverTogether u v → Joins (Kept w) id v other u impossible_view no_view
+  clash_step id other v u x = subst (λ (b : Base). Joins (KeyShown b) id v other u impossible_view no_view) (sym w.keyed) (clash_joins (graph_of w) (events_of w) id other v u impossible_view no_view x)
 
-  pub never_step : (slots id i : ℕ) (m : Sat) (hand : List (ℕ × Content)) → m ≡ (nobody, hand) → Allows (Kept w) slots id m i (λ n. n) (λ _ _. ⊥)
+  pub never_step : (slots id i : ℕ) (m : Sat) (hand : List (ℕ × Content)) → m ≡ (impossible_view, hand) → Allows (Kept w) slots id m i (λ n. n) (λ _ _. ⊥)
   never_step slots id i m hand is = subst (λ (b : Base). Allows (KeyShown b) slots id m i (λ n. n) (λ _ _. ⊥)) (sym w.keyed)
-      (subst (λ (y : Sat). Allows (Shown (graph_of w) (events_of w)) slots id y i (λ n. n) (λ _ _. ⊥)) (sym is) (nobody_steps (graph_of w) (events_of w) slots id i hand))
+      (subst (λ (y : Sat). Allows (Shown (graph_of w) (events_of w)) slots id y i (λ n. n) (λ _ _. ⊥)) (sym is) (impossible_steps (graph_of w) (events_of w) slots id i hand))
 
 -- A SEAT LOOKS AT THE LINE OF ANOTHER
-pub looked_clash : (v u w : View) (i r : ℕ) → u ≡ looked_at v i r → 8 ≤ r → (line : ℕ) → Has v (λ cl. cl.line ≡ line) → Has w (λ cl. cl.line ≡ i) → Clash u w
+pub looked_clash : (v u w : View) (i r : ℕ) → u ≡ looked_at v i r → 8 ≤ r → (line : ℕ) → Has v (λ cl. cl.line ≡ line) → Has w (λ cl. cl.line ≡ i) → AreNeverTogether u w
 looked_clash v u w i r is high line mine theirs = record {
   one = mine.0;
   other = theirs.0;
@@ -203,5 +203,5 @@ stays_work w k p q x at (r, i, is) same = subst (λ (s : table.Seat Content View
     (record { work = work_looked w k q x at i r is; line = refl; numbers = ap (λ (m : Sat). m.0.mine) is; splits = ap (λ (m : Sat). m.0.splits) is })
 
 -- TWO WORKS OF ONE LINE clash
-pub same_clash : (v w : View) (i j : ℕ) → i ≡ j → Has v (λ cl. cl.line ≡ i) → Has w (λ cl. cl.line ≡ j) → Clash v w
+pub same_clash : (v w : View) (i j : ℕ) → i ≡ j → Has v (λ cl. cl.line ≡ i) → Has w (λ cl. cl.line ≡ j) → AreNeverTogether v w
 same_clash v w i j same mine theirs = record { one = mine.0; other = theirs.0; one_has = mine.1; other_has = theirs.1; clash = inl (mine.2 ∙ (same ∙ sym theirs.2)) }

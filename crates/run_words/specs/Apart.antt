@@ -10,15 +10,15 @@ use Rattle.run_words.specs.Claims.{Claim, new_claim}
 use Rattle.run_words.specs.Plays.{no_view, parent_of, child_of}
 use Rattle.run_words.specs.Works.{IsWorkOf, work_line}
 
--- it is still the work of the same line, with the same numbers of its seat
+-- the second is still the work of the same line, with the same numbers of its seat
 pub record StaysWork (w : Words) (old new : WordWork) : Type 0 where
   pub work : IsWorkOf w new
   pub line : work_line new ≡ work_line old
   pub numbers : work_numbers new ≡ work_numbers old
   pub splits : work_splits new ≡ work_splits old
 
--- SEATS THAT CLASH: both have the work of one line, or the first knows that the line has ended whose work the second has
-pub record Clash (v w : View) : Type 0 where
+-- SEATS THAT ARE NEVER THERE TOGETHER: both have the work of one line, or the first knows that the line has ended whose work the second has
+pub record AreNeverTogether (v w : View) : Type 0 where
   pub one : Claim
   pub other : Claim
   pub one_has : v.claim ≡ Some one
@@ -29,10 +29,10 @@ pub record Clash (v w : View) : Type 0 where
 abbrev pub without_claim : View → View
 without_claim v = record (parent_of v) { claim = None }
 
--- and that one
+-- the seat that was split off, with the claim
 abbrev pub with_claim : View → View
 with_claim v = record (child_of v) { claim = v.claim }
 
 -- a view that no seat has: it has the work of a line, and no number
-abbrev pub nobody : View
-nobody = record no_view { claim = Some (new_claim 0 no_event) }
+abbrev pub impossible_view : View
+impossible_view = record no_view { claim = Some (new_claim 0 no_event) }

@@ -2,8 +2,8 @@
 
 ghost use Rattle.std.specs.Prelude.{ℕ, ◌≡◌, ◌≢◌, ◌<◌, length};
 ghost use Rattle.graph_model.specs.meaning.Path.{HasPath};
-ghost use Rattle.run_state.specs.Apart.{DoNotConflict};
-ghost use Rattle.run_words.specs.Apart.{StaysWork, Clash, with_claim, without_claim, nobody};
+ghost use Rattle.run_state.specs.Apart.{ConflictOnlyExempt};
+ghost use Rattle.run_words.specs.Apart.{StaysWork, AreNeverTogether, with_claim, without_claim, impossible_view};
 ghost use Rattle.run_words.specs.Plays.{no_view, looked_at};
 ghost use Rattle.run_words.specs.Premises.{Has};
 ghost use Rattle.run_words.specs.Words.{graph_of, IsSeatOf};
@@ -15,43 +15,44 @@ use crate::view::View;
 use crate::words::Words;
 use crate::works::WordWork;
 use atomic_table::{Join, Play, Split};
-use run_state::laws::unordered_do_not_conflict;
+use run_state::laws::unordered_conflict_only_exempt;
 
 /// The claim of a seat goes to one that is split off.
-pub struct Moves;
+pub struct GiveClaim;
 
-impl Split<View> for Moves {
+impl Split<View> for GiveClaim {
     ghost left = { without_claim };
 
     ghost right = { with_claim };
 }
 
-/// Two seats that clash are joined, which never happens.
-pub struct Clashes;
+/// Two seats that are never there together are joined, which never happens.
+pub struct ImpossibleJoin;
 
-impl Join<View> for Clashes {
-    ghost both = { λ _ _. nobody };
+impl Join<View> for ImpossibleJoin {
+    ghost both = { λ _ _. impossible_view };
 
     ghost spent = { no_view };
 }
 
 /// A step that no seat makes.
-pub struct Never;
+pub struct NoStep;
 
-impl Play<Content, View> for Never {
+impl Play<Content, View> for NoStep {
     ghost then = { λ _ _ _ _. ⊥ };
 }
 
 impl<'g> Words<'g> {
-    /// No two seats clash. So this is never called when the program runs.
+    /// Such seats are never there together, so this is never called when the program runs. A seat is
+    /// joined only without a claim: the claim goes first to one that is split off.
     fn refute(&self, one: &mut Place, other: &mut Place)
         requires at { IsSeatOf self.now one.old × IsSeatOf self.now other.old }
-        requires clash { Clash one.old.me.0 other.old.me.0 }
+        requires clash { AreNeverTogether one.old.me.0 other.old.me.0 }
         ensures { ⊥ }
     {
-        let moved = self.table.shared.split_seat::<Moves>(one);
-        self.table.shared.join_seat::<Clashes>(other, moved);
-        self.table.shared.load::<Never>(other, 0);
+        let moved = self.table.shared.split_seat::<GiveClaim>(one);
+        self.table.shared.join_seat::<ImpossibleJoin>(other, moved);
+        self.table.shared.load::<NoStep>(other, 0);
     }
 
     /// The seat of one line looks at another line that is out with the other seat. It finds it not
@@ -73,17 +74,17 @@ impl<'g> Words<'g> {
         }
     }
 
-    /// Two works of this run are of different lines, and these conflict nowhere but where both reduce
-    /// and are exempt. Each stays the work that it is: its seat looks once at the other's line.
+    /// Shows that two works of this run are of different lines, which conflict only where both reduce
+    /// and are exempt. Each stays the work that it is, and looks once at the other's line.
     pub fn works_apart(&self, one: &mut WordWork, other: &mut WordWork)
         requires one { IsWorkOf self.now one.old }
         requires other { IsWorkOf self.now other.old }
         ensures one { StaysWork self.now one.old one.new }
         ensures other { StaysWork self.now other.old other.new }
         ensures different { work_line one.old ≢ work_line other.old }
-        ensures apart { DoNotConflict (graph_of self.now) (work_line one.old) (work_line other.old) }
+        ensures conflicts { ConflictOnlyExempt (graph_of self.now) (work_line one.old) (work_line other.old) }
     {
-        unordered_do_not_conflict();
+        unordered_conflict_only_exempt();
         let _ = self.base.checked.graph();
         if one.line == other.line {
             self.refute(&mut one.inner, &mut other.inner);

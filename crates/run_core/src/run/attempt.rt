@@ -10,7 +10,7 @@ use crate::holders::busy_lock;
 use crate::progress::Progress;
 use crate::run::Core;
 use crate::sources::{is_cancelled, least_left};
-use run_state::laws::{cancelled_by_kept_ends, claim_keeps_sound, out_do_not_conflict};
+use run_state::laws::{cancelled_by_kept_ends, claim_keeps_sound, out_conflict_only_exempt};
 
 /// What is found of a line that is to be taken.
 #[derive(Clone, Copy)]
@@ -29,7 +29,7 @@ impl<'g> Core<'g> {
     ghost use Rattle.run_core.specs.Steps.{Attempts, StandsBy, IsLeastLeft};
     ghost use Rattle.run_core.specs.Findings.{IsFound};
     ghost use Rattle.run_core.specs.Works.{KeepsWork};
-    ghost use Rattle.run_core.specs.WhatIsOut.{OutAfter, TakenApart};
+    ghost use Rattle.run_core.specs.WhatIsOut.{OutAfter, TakenConflictsOnlyExempt};
     ghost use Rattle.graph_model.specs.graph.Graph.{never_comes};
 
     /// Tries to take a line. What is answered is the first that holds of the answers in the order of
@@ -42,10 +42,10 @@ impl<'g> Core<'g> {
         ensures answer { Attempts self.old self.new i result }
         ensures works { (k : ℕ) → KeepsWork self.old self.new k }
         ensures out { OutAfter self.old self.new result }
-        ensures apart { TakenApart self.old result }
+        ensures conflicts { TakenConflictsOnlyExempt self.old result }
         ensures slots { slots_given self.new ≡ slots_given self.old }
     {
-        out_do_not_conflict();
+        out_conflict_only_exempt();
         claim_keeps_sound();
         self.is_sound();
         match self.finding(i) {

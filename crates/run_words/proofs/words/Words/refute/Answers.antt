@@ -1,5 +1,5 @@
 use Rattle.std.proofs.Common.{sym, ◌∙◌, ap, subst, arith}
-use Rattle.run_words.specs.Apart.{Clash}
+use Rattle.run_words.specs.Apart.{AreNeverTogether}
 use Rattle.run_words.specs.Plays.{Sat}
 use Rattle.run_words.proofs.ApartFacts.{move_step, clash_step, moved_clash, never_step}
 use Rattle.run_words.proofs.words.Words.refute.Goals as goal
@@ -14,7 +14,7 @@ join_seat-requires c =
       e.3 ∙ c.requires.at.0.0,
       ap (λ (m : Sat). m.1) e.4,
       omega (arith, c.args.self.now.sized.0),
-      clash_step c.args.self.now _ _ _ _ (subst (λ (m : Sat). Clash m.0 c.args.other.now.me.0) (sym e.4) (moved_clash _ _ c.requires.clash)),
+      clash_step c.args.self.now _ _ _ _ (subst (λ (m : Sat). AreNeverTogether m.0 c.args.other.now.me.0) (sym e.4) (moved_clash _ _ c.requires.clash)),
     )
 
 pub load-requires : goal.load-requires
