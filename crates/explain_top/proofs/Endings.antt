@@ -1,5 +1,5 @@
 -- How the program ends tells what became of the input.
-use Rattle.std.proofs.Common.{◌≡◌, ◌≢◌, ℕ, ◌<◌, ◌≤◌, ◌⊎◌, inl, inr, Bool, List, length, refl, sym, ap, subst, arith}
+use Rattle.std.proofs.Common.{◌≡◌, ℕ, ◌+◌, ◌<◌, ◌≤◌, ◌⊎◌, inr, Bool, List, length, refl, sym, subst, arith}
 use Rattle.std.specs.Prelude.{Option, Some}
 use Rattle.std.specs.Io.KnownBytes.{Consumes, IsAtEnd}
 use Rattle.graph_model.specs.declared.graph.limits.TheConstants.{MAX_TEXT}
@@ -21,10 +21,16 @@ use Rattle.explain_top.specs.declared.program.Status.TheVariants.{Accepted as Fi
 use Rattle.explain_top.specs.Program.{status_of, Delivers, Answers, IsAnswered}
 
 -- the answer that goes with the status of a verdict
-pub verdict_answers : (ends : Bool) (bytes out : List ℕ) (v : Verdict) → IsAnswer ends bytes v out → Answers ends bytes (status_of v) out
+verdict_answers : (ends : Bool) (bytes out : List ℕ) (v : Verdict) → IsAnswer ends bytes v out → Answers ends bytes (status_of v) out
 verdict_answers ends bytes out verdict.Accepted a = a
 verdict_answers ends bytes out verdict.Unfit a = a
 verdict_answers ends bytes out verdict.Unread a = a
+
+-- it was delivered with that status
+pub answered_with : (ends : Bool) (bytes : List ℕ) (v : Verdict) (text shown : List ℕ) (s t : SinkState) (result status : Status) → IsAnswer ends bytes v text → shown ≡ text → status ≡ status_of v
+    → Delivers s t status result shown → IsAnswered ends bytes s t result
+answered_with ends bytes v text shown s t result status a same is d =
+    inr (status_of v, text, verdict_answers ends bytes text v a, subst (λ w. Delivers s t w result text) is (subst (λ out. Delivers s t status result out) same d))
 
 -- the text of an accepted graph is answered so
 is_accepted : (ends : Bool) (bytes : List ℕ) → OneReading bytes → (g : GraphValue) → GraphText bytes g → Accepted g → (status : Status) (out : List ℕ) → Answers ends bytes status out → status ≡ Fine
@@ -45,7 +51,7 @@ module _ (ends : Bool) (bytes : List ℕ) (s t : SinkState) (result : Status) (a
   too_long is = let d = answered_as (Answers ends bytes) s t result TooLong answered is (λ x. cc) (λ x. cc) in (d.1.0, subst (Delivered s t) d.1.1 d.2)
 
   pub broken_off : result ≡ WriteFault → (status : Status) × (out : List ℕ) × Answers ends bytes status out × BrokenOff s t out
-  broken_off is = cut_off_as (Answers ends bytes) s t result (λ x. cc) (λ out a. a) answered is
+  broken_off is = cut_off_as {write_fault = WriteFault} {no_memory = NoMemory} (Answers ends bytes) s t result (λ x. cc) (λ out a. a) answered is
 
   pub usage_never : result ≡ Usage → ⊥
   usage_never is = (answered_as (Answers ends bytes) s t result Usage answered is (λ x. cc) (λ x. cc)).1

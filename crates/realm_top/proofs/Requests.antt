@@ -173,7 +173,7 @@ module _ (request : Request) (left : Option (List ℕ)) (s t : SinkState) (resul
   request_refused e xs i = refused_as (Answers request xs) s t result (no_read_fault result refl (λ fault. true≢false (sym e ∙ ap is_refusal fault)) xs i) e
 
   pub request_cut_off : result ≡ WriteFault → (xs : List ℕ) → IsInput request.action left xs → (status : Status) × (out : List ℕ) × Answers request xs status out × BrokenOff s t out
-  request_cut_off e xs i = cut_off_as (Answers request xs) s t result (λ x. cc) (unfaulted_by aim request xs) (no_read_fault WriteFault e (λ x. cc) xs i) e
+  request_cut_off e xs i = cut_off_as {write_fault = WriteFault} {no_memory = NoMemory} (Answers request xs) s t result (λ x. cc) (unfaulted_by aim request xs) (no_read_fault WriteFault e (λ x. cc) xs i) e
 
   pub request_complete : AnswersAreOne → (result ≡ ReadFault → ⊥) → (q : Request) → request ≡ q → (xs : List ℕ) (status : Status) → IsInput q.action left xs → AsksStatus q xs status → (Rose s.faults t.faults → ⊥) → (result ≡ status) ⊎ (result ≡ NoMemory)
   request_complete one quiet q same xs status i a silent =
