@@ -1,21 +1,18 @@
 -- The accesses of a line, one after the other.
-use Rattle.std.proofs.Common.{◌≡◌, ℕ, ◌+◌, ◌<◌, ◌≤◌, false, List, [], length, sym, ◌∙◌, ap, subst, take, ◌∷◌, ◌++◌}
-use Rattle.std.specs.Prelude.{Some, Contains, ◌==◌, slice_get}
+use Rattle.std.proofs.Common.{◌≡◌, ℕ, zero, suc, ◌+◌, ◌<◌, ◌≤◌, ◌⊎◌, inl, inr, Bool, List, [], length, refl, sym, ◌∙◌, ap, subst, take, ◌∷◌, ◌++◌, arith}
+use Rattle.std.specs.Prelude.{Some, Contains, ◌↔◌, IsTrue, slice_get, Vec}
+use Rattle.std.specs.Global.{Global}
 use Rattle.std.specs.List.{slice_index_or}
-use Rattle.std.proofs.lemmas.Bool.{eqb-true, false_from_ne_true}
-use Rattle.std.proofs.lemmas.Option.{slice_get_within, get_or_from_slice_get, slice_get-get_or}
+use Rattle.std.proofs.lemmas.Option.{none-some, same_Some, slice_get_within, get_or_from_slice_get, slice_get-get_or}
 use Rattle.std.proofs.lemmas.List.{take_more, take_all}
 use Rattle.graph_model.specs.declared.graph.verb.Access.{Access}
 use Rattle.graph_model.specs.graph.Graph.{GraphValue, columns}
 use Rattle.graph_model.specs.graph.Access.{accesses}
 use Rattle.graph_model.specs.graph.Fits.{IsGraph}
 use Rattle.graph_model.specs.meaning.LineLaws.{AccessesFit}
-use Rattle.basics.proofs.ListFacts.{some_passes}
+use Rattle.race_sweeps.specs.Clash.{LinesClash}
 use Rattle.race_sweeps.proofs.AccessSteps.{access_read, no_access}
-use Rattle.race_check.specs.Races.{uses, AreSpacesKnown}
-
-pub uses_not : (g : GraphValue) (c i : ℕ) → ((a : Access) → Contains (accesses g i) a → c ≡ a.column → ⊥) → false ≡ uses g c i
-uses_not g c i none = sym (false_from_ne_true (uses g c i) (λ h. (let s = some_passes (λ (b : Access). c == b.column) (accesses g i) h in none s.0 s.1 (eqb-true c s.0.column s.2))))
+use Rattle.race_check.specs.Races.{AreAccesses, AreSpacesKnown, ListsClash}
 
 pub column_known : AccessesFit → (g : GraphValue) → IsGraph g → (i k : ℕ) (a : Access) → slice_get (accesses g i) k ≡ Some a → a.column < length (columns g)
 column_known law g f i k a at = (law g i a f (access_read (accesses g i) k a at)).column
@@ -37,3 +34,23 @@ first_all xs list k few so_far = so_far ∙ take_all k xs few
 -- the accesses of a line, as a list that was made for it, are over spaces of the graph
 pub spaces_known : AccessesFit → (g : GraphValue) → IsGraph g → (i : ℕ) (xs : List Access) → xs ≡ accesses g i → AreSpacesKnown g xs
 spaces_known law g f i xs is a c = (law g i a f (subst (λ ys. Contains ys a) is c)).space
+
+-- the accesses of a line, read from their table
+pub accesses_read : (g : GraphValue) (lists : List (Vec Access Global)) → AreAccesses g lists → (i : ℕ) (v : Vec Access Global) (xs : List Access) → i < length g.lines → v ≡ slice_index_or lists i v → xs ≡ v.items → xs ≡ accesses g i
+accesses_read g lists are i v xs h read same = same ∙ are.each i v (slice_get-get_or lists i v (let c : length lists ≡ length g.lines = are.count in omega arith) ∙ ap Some (sym read))
+
+pub clash_of_lists : (g : GraphValue) (commuting b : Bool) (i j : ℕ) (xs ys : List Access) → xs ≡ accesses g i → ys ≡ accesses g j → IsTrue b ↔ ListsClash g commuting xs ys → IsTrue b ↔ LinesClash g commuting i j
+clash_of_lists g commuting b i j xs ys e f k = subst (λ us. IsTrue b ↔ ListsClash g commuting us (accesses g j)) e (subst (λ vs. IsTrue b ↔ ListsClash g commuting xs vs) f k)
+
+-- what holds of each item of a list, with one more at its end
+pushed_cases : {X : Type 0} (xs : List X) (x : X) (k : ℕ) (v : X) → slice_get (xs ++ x ∷ []) k ≡ Some v → (slice_get xs k ≡ Some v) ⊎ ((k ≡ length xs) × (x ≡ v))
+pushed_cases [] x zero v e = inr (refl, same_Some x v e)
+pushed_cases [] x (suc k) v e = absurd (none-some v e)
+pushed_cases (y ∷ ys) x zero v e = inl e
+pushed_cases (y ∷ ys) x (suc k) v e = elim (pushed_cases ys x k v e) [ inl a ↦ inl a | inr b ↦ inr ((let at : k ≡ length ys = b.0 in let r : suc k ≡ suc (length ys) = omega arith in r), b.1) ]
+
+pub each_pushed : {X : Type 0} (P : ℕ → X → Type 0) (xs : List X) (x : X) (n : ℕ) → length xs ≡ n → ((k : ℕ) (v : X) → slice_get xs k ≡ Some v → P k v) → P n x → (k : ℕ) (v : X) → slice_get (xs ++ x ∷ []) k ≡ Some v → P k v
+each_pushed P xs x n size each here k v at = elim (pushed_cases xs x k v at) [
+  | inl before ↦ each k v before
+  | inr last ↦ subst (λ z. P k z) last.1 (subst (λ m. P m x) (sym size ∙ sym last.0) here)
+]

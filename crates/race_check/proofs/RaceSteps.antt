@@ -1,59 +1,25 @@
 -- Races, suspect by suspect.
-use Rattle.std.proofs.Common.{◌≡◌, ℕ, ◌+◌, ◌-◌, ◌*◌, ◌<◌, ◌≤◌, ◌^◌, Bool, true, false, not, ◌||◌, inl, inr, List, [], ◌∷◌, ◌++◌, length, take, sym, ◌∙◌, ap, subst, arith}
-use Rattle.std.specs.Prelude.{Some, Contains, ◌==◌, ◌↔◌, IsTrue, slice_get, Vec}
-use Rattle.std.specs.Global.{Global}
-use Rattle.std.specs.List.{list_any, slice_index_or}
-use Rattle.std.specs.Int.{bit_at, bit_not}
+use Rattle.std.proofs.Common.{◌≡◌, ℕ, ◌+◌, ◌<◌, ◌^◌, Bool, true, false, not, inl, inr, length, refl, sym, ◌∙◌, ap, subst, arith}
+use Rattle.std.specs.Prelude.{Contains, ◌↔◌, IsTrue, slice_index}
+use Rattle.std.specs.Int.{bit_not}
 use Rattle.std.specs.Int.RustNames.{bit_or}
 use lib.Bits.{bit_and}
 use mir.Syntax.{w64}
-use Rattle.std.proofs.lemmas.Bool.{true≢false, ne_eqb, cases_lt, cases_Bool, and_parts, and_from, or_cases, or_parts, not-true}
-use Rattle.std.proofs.lemmas.Nat.{or_lt}
-use Rattle.std.proofs.lemmas.Nat.Bits.{bit_at-zero}
-use Rattle.std.proofs.lemmas.List.{take_more, take_all}
-use Rattle.std.proofs.lemmas.Option.{slice_get_within, get_or_from_slice_get, slice_get-get_or}
+use Rattle.std.proofs.lemmas.Bool.{true≢false, cases_Bool, and_parts, and_from, or_cases, not-true}
 use Rattle.graph_model.specs.declared.graph.verb.Access.{Access}
 use Rattle.graph_model.specs.graph.Graph.{GraphValue}
-use Rattle.graph_model.specs.meaning.Path.{HasPath}
+use Rattle.graph_model.specs.graph.Edges.{edges}
 use Rattle.graph_model.specs.graph.Access.{accesses, AccessesConflict, Conflict}
-use Rattle.graph_model.specs.meaning.Rules.{RaceAt, Exempt, modes_commute, Everywhere, FailsFirst}
-use Rattle.basics.proofs.ListFacts.{some_passes}
-use Rattle.race_check.specs.Paths.{PathsValue, path_in, IsPathTable}
-use Rattle.race_check.specs.Races.{AreAccesses, ListsClash, uses, shares_column, is_suspect}
-use Rattle.race_check.specs.Summaries.{ApartIn}
-use Rattle.race_check.specs.Words.{IsWordOf}
+use Rattle.graph_model.specs.meaning.Path.{HasPath}
+use Rattle.graph_model.specs.meaning.Rules.{RaceAt, Exempt, modes_commute}
+use Rattle.graph_model.proofs.PathTable.{path_below}
 use Rattle.race_sweeps.specs.Clash.{LinesClash}
 use Rattle.race_sweeps.specs.Marks.{bit_in}
-use Rattle.race_check.proofs.RuleWords.{conflict_shares, shares_by, users_more}
-use Rattle.race_sweeps.proofs.AccessSteps.{access_there}
-use Rattle.race_check.proofs.WordScan.{word_and, word_or, word_not, word_same}
-
--- what a suspect is
-pub suspect_shares : (g : GraphValue) (t : PathsValue) (i j : ℕ) → is_suspect g t i j ≡ true → shares_column g i j ≡ true
-suspect_shares g t i j h = (and_parts (shares_column g i j) (not (path_in t i j || path_in t j i)) h).0
-
-no_paths : (g : GraphValue) (t : PathsValue) (i j : ℕ) → is_suspect g t i j ≡ true → (path_in t i j ≡ false) × (path_in t j i ≡ false)
-no_paths g t i j h = or_parts (path_in t i j) (path_in t j i) (not-true (path_in t i j || path_in t j i) (and_parts (shares_column g i j) (not (path_in t i j || path_in t j i)) h).1)
-
-pub suspect_forward : (g : GraphValue) (t : PathsValue) (i j : ℕ) → IsPathTable g t → is_suspect g t i j ≡ true → HasPath g i j → ⊥
-suspect_forward g t i j table h p = true≢false (sym (table.is_test.passes i j p) ∙ (no_paths g t i j h).0)
-
-pub suspect_backward : (g : GraphValue) (t : PathsValue) (i j : ℕ) → IsPathTable g t → is_suspect g t i j ≡ true → HasPath g j i → ⊥
-suspect_backward g t i j table h p = true≢false (sym (table.is_test.passes j i p) ∙ (no_paths g t i j h).1)
-
--- it is a line
-pub user_known : (g : GraphValue) (i j : ℕ) → shares_column g i j ≡ true → j < length g.lines
-user_known g i j h =
-    let a = some_passes (λ (a : Access). uses g a.column j) (accesses g i) h in
-    let b = some_passes (λ (b : Access). a.0.column == b.column) (accesses g j) a.2 in
-    access_there g j b.0 b.1
-
--- what is no suspect races with nothing
-pub unsuspected_free : (g : GraphValue) (t : PathsValue) (i j : ℕ) → IsPathTable g t → is_suspect g t i j ≡ false → RaceAt g i j
-unsuspected_free g t i j table h below c = elim (cases_Bool (path_in t i j || path_in t j i)) [
-  | inl p ↦ elim (or_cases (path_in t i j) (path_in t j i) p) [ inl a ↦ inl (table.is_test.holds i j a) | inr b ↦ inr (inl (table.is_test.holds j i b)) ]
-  | inr none ↦ absurd (true≢false (sym (and_from (shares_column g i j) (not (path_in t i j || path_in t j i)) (conflict_shares g i j (c.one, c.other, c.one_in, c.other_in, c.conflict)) (ap not none)) ∙ h))
-]
+use Rattle.race_sweeps.proofs.Bits.{bit_in-and, bit_in-or, bit_in-not, or_old, or_new}
+use Rattle.race_check.specs.Paths.{EdgesBetween}
+use Rattle.race_check.specs.Races.{IsRivals, IsSuspects}
+use Rattle.race_check.specs.Summaries.{ApartIn}
+use Rattle.race_check.specs.declared.races.Rivals.{Rivals}
 
 clash_conflicts : (g : GraphValue) (i j : ℕ) → i < j → LinesClash g true i j → Conflict g i j
 clash_conflicts g i j below c = record { different = λ e. absurd (omega arith); one = c.0; other = c.2.0; one_in = c.1; other_in = c.2.1; conflict = c.2.2.conflict }
@@ -85,51 +51,24 @@ free_by_sections g i j b forward backward below clash soft apart = (
       | inr no' ↦ absurd (soft (x, hx, (y, hy, record { conflict = conflict; counts = ap not no' })))
     ]
 
--- the users of the first accesses' columns
-abbrev pub shares_first : GraphValue → ℕ → ℕ → ℕ → Bool
-shares_first g i k j = list_any (λ (a : Access). uses g a.column j) (take k (accesses g i))
-
-pub shares_more : (g : GraphValue) (i k w x y : ℕ) (a : Access) → slice_get (accesses g i) k ≡ Some a → IsWordOf (shares_first g i k) w x → IsWordOf (uses g a.column) w y → IsWordOf (shares_first g i (k + 1)) w (bit_or x y)
-shares_more g i k w x y a at p q =
-    let more : take (k + 1) (accesses g i) ≡ take k (accesses g i) ++ a ∷ [] = take_more (accesses g i) k a (slice_get_within (accesses g i) k a at) ∙ ap (λ z. take k (accesses g i) ++ z ∷ []) (get_or_from_slice_get (accesses g i) k a a at) in
-    word_same (shares_by g (take k (accesses g i) ++ a ∷ [])) (shares_first g i (k + 1)) w (bit_or x y) (λ j. ap (list_any (λ (c : Access). uses g c.column j)) (sym more)) (users_more g (take k (accesses g i)) a w x y p q)
-
--- the first accesses are all of them
-pub shares_all : (g : GraphValue) (i k w x : ℕ) → length (accesses g i) ≤ k → IsWordOf (shares_first g i k) w x → IsWordOf (shares_column g i) w x
-shares_all g i k w x few p = word_same (shares_first g i k) (shares_column g i) w x (λ j. ap (list_any (λ (c : Access). uses g c.column j)) (take_all k (accesses g i) few)) p
-
--- the suspects of a word
-pub suspects_of : (g : GraphValue) (t : PathsValue) (i w sharing behind before : ℕ) → behind < 2 ^ 64 → before < 2 ^ 64 → IsWordOf (shares_column g i) w sharing → IsWordOf (path_in t i) w behind → IsWordOf (λ j. path_in t j i) w before →
-    IsWordOf (is_suspect g t i) w (bit_and sharing (bit_not w64 (bit_or behind before)))
-suspects_of g t i w sharing behind before fits_behind fits_before a b c =
-    word_and (shares_column g i) (λ j. not (path_in t i j || path_in t j i)) w sharing (bit_not w64 (bit_or behind before)) a
-    (word_not (λ j. path_in t i j || path_in t j i) w (bit_or behind before) (or_lt 64 behind before fits_behind fits_before) (word_or (path_in t i) (λ j. path_in t j i) w behind before b c))
-
--- no suspects
-pub none_free : (g : GraphValue) (t : PathsValue) (i w word : ℕ) → IsPathTable g t → IsWordOf (is_suspect g t i) w word → word ≡ 0 → (j : ℕ) → w * 64 ≤ j → j < w * 64 + 64 → RaceAt g i j
-none_free g t i w word table is none j low high =
-    let b : j - w * 64 < 64 = omega arith in
-    let at : w * 64 + (j - w * 64) ≡ j = omega arith in
-    let unset : bit_in word (j - w * 64) ≡ false = ap (λ z. bit_in z (j - w * 64)) none ∙ ne_eqb (bit_at 0 (j - w * 64)) 1 (λ one. (let z : bit_at 0 (j - w * 64) ≡ 0 = bit_at-zero (j - w * 64) in absurd (omega arith))) in
-    unsuspected_free g t i j table (ap (is_suspect g t i) (sym at) ∙ (sym (is (j - w * 64) b) ∙ unset))
-
-pub race_found : (g : GraphValue) (i w j : ℕ) → ((k : ℕ) → k < w * 64 → RaceAt g i k) → (j < length g.lines) × (RaceAt g i j → ⊥) × ((k : ℕ) → w * 64 ≤ k → k < j → RaceAt g i k) → (j < length g.lines) × FailsFirst (RaceAt g i) j
-race_found g i w j before f = (f.0, record { here = f.1; before = λ k h. elim (cases_lt k (w * 64)) [ inl l ↦ before k l | inr up ↦ f.2 k up h ] })
-
-pub race_none : (g : GraphValue) (i w : ℕ) → ((j : ℕ) → length g.lines ≤ j → RaceAt g i j) → length g.lines ≤ w * 64 → ((k : ℕ) → k < w * 64 → RaceAt g i k) → Everywhere (RaceAt g i)
-race_none g i w beyond all before j = elim (cases_lt j (w * 64)) [ inl l ↦ before j l | inr up ↦ beyond j (omega arith) ]
-
--- a line that uses a column is a line
-pub uses_known : (g : GraphValue) (c j : ℕ) → uses g c j ≡ true → j < length g.lines
-uses_known g c j h = let b = some_passes (λ (b : Access). c == b.column) (accesses g j) h in access_there g j b.0 b.1
-
--- the bit of a suspect
-pub suspect_at : (test : ℕ → Bool) (w word bit : ℕ) (b : Bool) → IsWordOf test w word → bit < 64 → b ≡ bit_in word bit → test (w * 64 + bit) ≡ b
-suspect_at test w word bit b is h e = sym (is bit h) ∙ sym e
-
--- the accesses of a line, read from their table
-pub accesses_read : (g : GraphValue) (lists : List (Vec Access Global)) → AreAccesses g lists → (i : ℕ) (v : Vec Access Global) (xs : List Access) → i < length g.lines → v ≡ slice_index_or lists i v → xs ≡ v.items → xs ≡ accesses g i
-accesses_read g lists are i v xs h read same = same ∙ are.each i v (slice_get-get_or lists i v (let c : length lists ≡ length g.lines = are.count in omega arith) ∙ ap Some (sym read))
-
-pub clash_of_lists : (g : GraphValue) (commuting b : Bool) (i j : ℕ) (xs ys : List Access) → xs ≡ accesses g i → ys ≡ accesses g j → IsTrue b ↔ ListsClash g commuting xs ys → IsTrue b ↔ LinesClash g commuting i j
-clash_of_lists g commuting b i j xs ys e f k = subst (λ us. IsTrue b ↔ ListsClash g commuting us (accesses g j)) e (subst (λ vs. IsTrue b ↔ ListsClash g commuting xs vs) f k)
+-- the suspects by a word of those that are asked, and two of those that are settled by a path
+pub are_suspects : (g : GraphValue) → EdgesBetween g → (r : Rivals) → IsRivals g r → (j asked x y : ℕ) → j < length g.lines → bit_or x y < 2 ^ 64 → x ≡ slice_index r.behind.passed.items j → y ≡ slice_index r.before.passed.items j →
+    ((b : ℕ) → b < 64 → Conflict g (r.first + b) j → bit_in asked b ≡ true) → IsSuspects g r.first j (bit_and asked (bit_not w64 (bit_or x y)))
+are_suspects g between r is j asked x y known fits at_x at_y all = record {
+  forward = λ b few set path. (
+      let low = (path_below (edges g) (length g.lines) between path).0 in
+      true≢false (sym (or_old x y b (ap (λ z. bit_in z b) at_x ∙ is.behind_is.all j b (r.first + b) few low refl path)) ∙ gone b few set));
+  backward = λ b few set path. (
+      let low = (path_below (edges g) (length g.lines) between path).1 in
+      true≢false (sym (or_new x y b (ap (λ z. bit_in z b) at_y ∙ is.before_is.all j b (r.first + b) few low refl path)) ∙ gone b few set));
+  free = λ b few unset below c. elim (cases_Bool (bit_in (bit_or x y) b)) [
+    | inl some ↦ elim (or_cases (bit_in x b) (bit_in y b) (sym (bit_in-or x y b) ∙ some)) [
+      | inl f ↦ (let p = is.behind_is.is j b (ap (λ z. bit_in z b) (sym at_x) ∙ f) in inl (subst (λ z. HasPath g z j) (sym p.1) p.2))
+      | inr f ↦ (let p = is.before_is.is j b (ap (λ z. bit_in z b) (sym at_y) ∙ f) in inr (inl (subst (λ z. HasPath g j z) (sym p.1) p.2)))
+    ]
+    | inr none ↦ absurd (true≢false (sym (bit_in-and asked (bit_not w64 (bit_or x y)) b ∙ and_from (bit_in asked b) (bit_in (bit_not w64 (bit_or x y)) b) (all b few c) (bit_in-not (bit_or x y) b fits few ∙ ap not none)) ∙ unset))
+  ];
+}
+  where
+    gone : (b : ℕ) → b < 64 → bit_in (bit_and asked (bit_not w64 (bit_or x y))) b ≡ true → bit_in (bit_or x y) b ≡ false
+    gone b few set = not-true (bit_in (bit_or x y) b) (sym (bit_in-not (bit_or x y) b fits few) ∙ (and_parts (bit_in asked b) (bit_in (bit_not w64 (bit_or x y)) b) (sym (bit_in-and asked (bit_not w64 (bit_or x y)) b) ∙ set)).1)

@@ -10,7 +10,6 @@ use Rattle.graph_model.specs.graph.Fits.{IsGraph, on_lines, named_lines}
 use Rattle.graph_model.specs.meaning.Rules.{Acquires, Releases, ReleasedAt, ReleaseFaultAt, Everywhere}
 use Rattle.graph_model.proofs.GraphFacts.{named_below}
 use Rattle.basics.proofs.ListFacts.{contains_here}
-use Rattle.race_check.specs.Paths.{PathsValue, path_in, IsPathTable}
 use Rattle.section_sweeps.specs.Releases.{release_in, AreReleases}
 use Rattle.graph_model.proofs.VerbFacts.{passes_below, release_is, is_release_from, release_of_is}
 use Rattle.section_sweeps.proofs.ReservationFacts.{verb_of}
@@ -32,12 +31,12 @@ released_none g i none = ((λ h l a. absurd (none l a)), (λ r. refl))
 pub release_known : (g : GraphValue) (releases : List (Option ℕ)) → AreReleases g releases → (i r : ℕ) → release_in releases i ≡ Some r → r < length g.lines
 release_known g releases are i r e = passes_below (is_release_of i) g r (are.table.0 i r e)
 
-pub released_by_path : (g : GraphValue) (t : PathsValue) (releases : List (Option ℕ)) → IsPathTable g t → AreReleases g releases → (i l r : ℕ) (b : Bool) → Acquires g i l → b ≡ path_in t i r → release_in releases i ≡ Some r → IsTrue b ↔ ReleasedAt g i
-released_by_path g t releases paths are i l r b a is e = (
-  (λ h k x. (r, are.table.0 i r e, paths.is_test.holds i r (sym is ∙ h))),
+pub released_by : (g : GraphValue) (releases : List (Option ℕ)) → AreReleases g releases → (i l r : ℕ) (b : Bool) → Acquires g i l → (IsTrue b ↔ HasPath g i r) → release_in releases i ≡ Some r → IsTrue b ↔ ReleasedAt g i
+released_by g releases are i l r b a is e = (
+  (λ h k x. (r, are.table.0 i r e, is.0 h)),
   (λ rule. (let k = rule l a in
       let same : r ≡ k.0 = same_Some r k.0 (sym e ∙ are.table.1 i k.0 k.1) in
-      is ∙ paths.is_test.passes i r (subst (λ z. HasPath g i z) (sym same) k.2))),
+      is.1 (subst (λ z. HasPath g i z) (sym same) k.2))),
 )
 
 pub released_missing : (g : GraphValue) (releases : List (Option ℕ)) → AreReleases g releases → (i l : ℕ) → Acquires g i l → release_in releases i ≡ None → IsTrue false ↔ ReleasedAt g i

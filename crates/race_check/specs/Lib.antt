@@ -5,8 +5,7 @@ pub mod Refusal
 pub mod High
 pub mod Sweep
 pub mod NeedLine
-pub mod Words
-pub mod RuleWords
 pub mod Races
 pub mod Summaries
-pub mod Rivals
+pub mod Blocks
+pub mod Inside

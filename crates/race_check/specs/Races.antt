@@ -1,12 +1,17 @@
--- Which lines use a column, and which conflict.
-use Rattle.std.specs.Prelude.{◌≡◌, ℕ, ◌<◌, ◌==◌, Bool, not, ◌&&◌, ◌||◌, List, length, Contains, Some, Vec, slice_get}
+-- Which lines conflict, and which may race.
+use Rattle.std.specs.Prelude.{◌≡◌, ℕ, ◌+◌, ◌<◌, true, false, Bool, List, length, Contains, Some, Vec, slice_get}
 use Rattle.std.specs.Global.{Global}
-use Rattle.std.specs.List.{list_any}
 use Rattle.graph_model.specs.declared.graph.verb.Access.{Access}
 use Rattle.graph_model.specs.graph.Graph.{GraphValue, columns, named_spaces}
-use Rattle.graph_model.specs.graph.Access.{accesses}
+use Rattle.graph_model.specs.graph.Access.{accesses, is_read}
+use Rattle.graph_model.specs.meaning.Path.{HasPath}
+use Rattle.graph_model.specs.meaning.Rules.{RaceAt}
 use Rattle.race_sweeps.specs.Clash.{Clash}
-use Rattle.race_check.specs.Paths.{PathsValue, path_in, word_bit, words_for}
+use Rattle.race_sweeps.specs.Marks.{bit_in}
+use Rattle.section_sweeps.specs.Passing.{HasBit}
+use Rattle.race_check.specs.Blocks.{ArePassedOn, ArePassedBack}
+use Rattle.race_check.specs.declared.asked.Asked.{Asked}
+use Rattle.race_check.specs.declared.races.Rivals.{Rivals}
 
 -- two lists have accesses that clash
 abbrev pub ListsClash : GraphValue → Bool → List Access → List Access → Type 0
@@ -21,23 +26,28 @@ pub record AreAccesses (g : GraphValue) (lists : List (Vec Access Global)) : Typ
   pub count : length lists ≡ length g.lines
   pub each : (i : ℕ) (list : Vec Access Global) → slice_get lists i ≡ Some list → list.items ≡ accesses g i
 
--- line j uses column c
-abbrev pub uses : GraphValue → ℕ → ℕ → Bool
-uses g c j = list_any (λ (b : Access). c == b.column) (accesses g j)
+-- the columns of an access are asked about bit b: those that it changes in two lists, and those that it reads in one
+pub record IsAsked (used changed : List ℕ) (a : Access) (b : ℕ) : Type 0 where
+  pub uses : HasBit used a.column b
+  pub changes : is_read a.mode ≡ false → HasBit changed a.column b
 
--- line j uses a column that line i uses
-abbrev pub shares_column : GraphValue → ℕ → ℕ → Bool
-shares_column g i j = list_any (λ (a : Access). uses g a.column j) (accesses g i)
+-- they are asked about the lines from `first` up to `end`
+pub record AreAsked (g : GraphValue) (first end : ℕ) (s : Asked) : Type 0 where
+  pub used_size : length s.used.items ≡ length (columns g)
+  pub changed_size : length s.changed.items ≡ length (columns g)
+  pub each : (b : ℕ) (a : Access) → first + b < end → Contains (accesses g (first + b)) a → IsAsked s.used.items s.changed.items a b
 
--- a line with a column in common and no path either way: what has to be looked at
-abbrev pub is_suspect : GraphValue → PathsValue → ℕ → ℕ → Bool
-is_suspect g t i j = shares_column g i j && not (path_in t i j || path_in t j i)
+-- what is looked up of the 64 lines from the first one on
+pub record IsRivals (g : GraphValue) (r : Rivals) : Type 0 where
+  pub known : r.first < length g.lines
+  pub behind_is : ArePassedOn g (λ q i. q ≡ i) r.first r.behind
+  pub before_is : ArePassedBack g (λ q i. q ≡ i) r.first r.before
+  pub end : ℕ
+  pub within : (b : ℕ) → b < 64 → r.first + b < length g.lines → r.first + b < end
+  pub asked_is : AreAsked g r.first end r.asked
 
--- a row of the lines that use a column, and such a row for each column
-pub record IsUserRow (g : GraphValue) (c : ℕ) (row : List ℕ) : Type 0 where
-  pub size : length row ≡ words_for (length g.lines)
-  pub bits : (j : ℕ) → word_bit row j ≡ uses g c j
-
-pub record AreUserRows (g : GraphValue) (rows : List (Vec ℕ Global)) : Type 0 where
-  pub count : length rows ≡ length (columns g)
-  pub each : (c : ℕ) (row : Vec ℕ Global) → slice_get rows c ≡ Some row → IsUserRow g c row.items
+-- a bit tells of a line without a path to line j or from it, and the others do not race with it
+pub record IsSuspects (g : GraphValue) (first j word : ℕ) : Type 0 where
+  pub forward : (b : ℕ) → b < 64 → bit_in word b ≡ true → HasPath g (first + b) j → ⊥
+  pub backward : (b : ℕ) → b < 64 → bit_in word b ≡ true → HasPath g j (first + b) → ⊥
+  pub free : (b : ℕ) → b < 64 → bit_in word b ≡ false → RaceAt g (first + b) j

@@ -1,13 +1,14 @@
-//! Which lines use a column, and which conflict.
+//! Which lines conflict.
 
 ghost use Rattle.std.specs.Prelude.{◌≡◌, ◌<◌, ◌↔◌, length, Contains, IsTrue, IfOk};
 ghost use Rattle.graph_model.specs.declared.graph.verb.Access.{Access};
 ghost use Rattle.graph_model.specs.graph.Graph.{named_spaces};
 ghost use Rattle.graph_model.specs.graph.Access.{accesses};
-ghost use Rattle.race_check.specs.Races.{AreAccesses, AreSpacesKnown, ListsClash, uses};
-ghost use Rattle.race_sweeps.specs.Clash.{Clash};
+ghost use Rattle.race_check.specs.Races.{AreAccesses, AreSpacesKnown, ListsClash};
+ghost use Rattle.race_sweeps.specs.Clash.{Clash, LinesClash};
 
 use graph_model::graph::Graph;
+use graph_model::line_laws::accesses_fit;
 use graph_model::verb::Access;
 use index_spaces::NoMemory;
 use index_spaces::room::push;
@@ -41,9 +42,29 @@ fn accesses_of(alloc: Global, graph: &Graph, line: u32) -> Result<Vec<Access>, N
     Ok(list)
 }
 
+/// Whether two lines clash, by uses that commute too where these count.
+pub(crate) fn lines_clash(
+    graph: &Graph,
+    accesses: &[Vec<Access>],
+    one: u32,
+    other: u32,
+    commuting: bool,
+) -> bool
+    requires one { one < length graph.now.lines }
+    requires other { other < length graph.now.lines }
+    requires accesses { AreAccesses graph.now accesses.now }
+    ensures { IsTrue result ↔ LinesClash graph.now commuting one other }
+{
+    accesses_fit();
+    let _ = graph.lines();
+    let ones = accesses[one as usize].as_slice();
+    let others = accesses[other as usize].as_slice();
+    some_clash(graph, ones, others, commuting)
+}
+
 /// Whether some of these accesses and some of the others are of one column at a shared point and
 /// are not both reads, and, unless uses that commute count too, do not commute.
-pub(crate) fn some_clash(graph: &Graph, ones: &[Access], others: &[Access], commuting: bool) -> bool
+fn some_clash(graph: &Graph, ones: &[Access], others: &[Access], commuting: bool) -> bool
     requires ones { AreSpacesKnown graph.now ones.now }
     requires others { AreSpacesKnown graph.now others.now }
     ensures { IsTrue result ↔ ListsClash graph.now commuting ones.now others.now }
@@ -64,22 +85,6 @@ fn clashes_with(graph: &Graph, one: Access, others: &[Access], commuting: bool) 
 {
     for other in others {
         if clash(graph, one, *other, commuting) {
-            return true;
-        }
-    }
-    false
-}
-
-/// Whether a line uses a column.
-pub(crate) fn uses(graph: &Graph, line: u32, column: u32) -> bool
-    requires { line < length graph.now.lines }
-    ensures { result ≡ uses graph.now column line }
-{
-    for k in 0..MOST_ACCESSES {
-        let Some(access) = graph.access(line, k) else {
-            return false;
-        };
-        if column == access.column {
             return true;
         }
     }

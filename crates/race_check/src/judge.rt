@@ -1,26 +1,29 @@
 //! The six rules in turn.
 
-ghost use Rattle.std.specs.Prelude.{OnOk, IfOk, IfErr};
+ghost use Rattle.std.specs.Prelude.{◌≡◌, length, OnOk, IfOk, IfErr};
 ghost use Rattle.graph_model.specs.meaning.Need.{IsNeed};
 ghost use Rattle.graph_model.specs.meaning.Rules.{Accepted, Everywhere, EverywhereTwice, NoCycleAt, ReleasedAt, SectionAt, DescendsAt, ReleaseFaultAt, RaceAt};
-ghost use Rattle.race_check.specs.Order.{IsOrdered};
-ghost use Rattle.race_check.specs.Paths.{IsPathTable};
-ghost use Rattle.section_sweeps.specs.Releases.{AreReleases};
 ghost use Rattle.race_check.specs.Refusal.{IsRefusal, NamesLines};
+ghost use Rattle.race_sweeps.specs.Placed.{IsOrder};
+ghost use Rattle.section_sweeps.specs.Sections.{AreSections};
+ghost use Rattle.section_sweeps.specs.Table.{IsTable};
 
 use crate::checked::CheckRefusal;
 use crate::cycle::first_cycle;
 use crate::descends::first_climbing;
+use crate::keeping::sections_of_lines;
 use crate::need::need_of;
 use crate::order::Order;
-use crate::paths::PathTable;
-use crate::quick::is_accepted_at_once;
 use crate::races::first_race;
 use crate::release_faults::first_release_fault;
 use crate::releases::first_unreleased;
 use crate::sections::first_outside;
 use graph_model::graph::Graph;
-use section_sweeps::releases::releases;
+use graph_model::laws::edges_between_lines;
+use race_sweeps::are_settled;
+use race_sweeps::held::Held;
+use section_sweeps::held_sections;
+use section_sweeps::table::Table;
 use std::alloc::Global;
 
 /// The need of a graph that is accepted, and otherwise the first rule that fails with the least
@@ -32,101 +35,108 @@ pub(crate) fn judge(alloc: Global, graph: &Graph) -> Result<u32, CheckRefusal>
     ensures lines { IfErr result (NamesLines graph.now) }
 {
     let order = acyclic(alloc, graph)?;
-    all_rules(alloc, graph, &order)?;
+    other_rules(alloc, graph, order.lines.as_slice())?;
     let need = need_of(alloc, graph)?;
     Ok(need)
 }
 
-/// The six rules of a graph without a cycle, with tables of paths only where the graph is not
-/// accepted at once.
-fn all_rules(alloc: Global, graph: &Graph, order: &Order) -> Result<(), CheckRefusal>
-    requires ordered { IsOrdered graph.now order.now.lines.items order.now.left.items }
+/// The rules of a graph without a cycle.
+fn other_rules(alloc: Global, graph: &Graph, order: &[u32]) -> Result<(), CheckRefusal>
+    requires order { IsOrder graph.now order.now }
+    requires count { length order.now ≡ length graph.now.lines }
     requires acyclic { Everywhere (NoCycleAt graph.now) }
     ensures accepted { OnOk result (Accepted graph.now) }
     ensures refused { IfErr result (IsRefusal graph.now) }
     ensures lines { IfErr result (NamesLines graph.now) }
 {
-    if is_accepted_at_once(alloc, graph, order)? {
-        return Ok(());
-    }
-    all_rules_by_paths(alloc, graph, order)
-}
-
-/// The six rules of a graph without a cycle, by tables of paths.
-fn all_rules_by_paths(alloc: Global, graph: &Graph, order: &Order) -> Result<(), CheckRefusal>
-    requires ordered { IsOrdered graph.now order.now.lines.items order.now.left.items }
-    requires acyclic { Everywhere (NoCycleAt graph.now) }
-    ensures accepted { OnOk result (Accepted graph.now) }
-    ensures refused { IfErr result (IsRefusal graph.now) }
-    ensures lines { IfErr result (NamesLines graph.now) }
-{
-    let paths = PathTable::new(alloc, graph, order)?;
-    let releases = releases(alloc, graph)?;
-    all_released(graph, &paths, releases.as_slice())?;
-    all_in_sections(alloc, graph, &paths)?;
-    all_descend(alloc, graph, &paths, releases.as_slice())?;
+    let held = sections(alloc, graph, order)?;
     all_on_merges(graph)?;
-    no_races(alloc, graph, &paths, releases.as_slice())?;
+    no_races(alloc, graph, order, &held)?;
     Ok(())
 }
 
 /// No line has a path to itself: then the order has all lines.
 fn acyclic(alloc: Global, graph: &Graph) -> Result<Order, CheckRefusal>
-    ensures ordered { IfOk result (λ o. IsOrdered graph.now o.lines.items o.left.items) }
+    ensures order { IfOk result (λ o. IsOrder graph.now o.lines.items) }
+    ensures count { IfOk result (λ o. length o.lines.items ≡ length graph.now.lines) }
     ensures acyclic { OnOk result (Everywhere (NoCycleAt graph.now)) }
     ensures refused { IfErr result (IsRefusal graph.now) }
     ensures lines { IfErr result (NamesLines graph.now) }
 {
+    edges_between_lines();
+    let _ = graph.lines();
     let order = Order::new(alloc, graph)?;
-    match first_cycle(alloc, graph, &order)? {
+    let found = first_cycle(alloc, graph, &order)?;
+    match found {
         None => Ok(order),
         Some(line) => Err(CheckRefusal::Cycle(line)),
     }
 }
 
+/// The three rules of sections, and in which sections the lines lie.
+fn sections(alloc: Global, graph: &Graph, order: &[u32]) -> Result<Held, CheckRefusal>
+    requires order { IsOrder graph.now order.now }
+    requires count { length order.now ≡ length graph.now.lines }
+    requires acyclic { Everywhere (NoCycleAt graph.now) }
+    ensures sections { IfOk result (AreSections graph.now) }
+    ensures refused { IfErr result (IsRefusal graph.now) }
+    ensures lines { IfErr result (NamesLines graph.now) }
+{
+    match held_sections(alloc, graph, order)? {
+        Some(held) => Ok(held),
+        None => sections_by_rule(alloc, graph, order),
+    }
+}
+
+/// The same, rule by rule.
+fn sections_by_rule(alloc: Global, graph: &Graph, order: &[u32]) -> Result<Held, CheckRefusal>
+    requires order { IsOrder graph.now order.now }
+    requires count { length order.now ≡ length graph.now.lines }
+    requires acyclic { Everywhere (NoCycleAt graph.now) }
+    ensures sections { IfOk result (AreSections graph.now) }
+    ensures refused { IfErr result (IsRefusal graph.now) }
+    ensures lines { IfErr result (NamesLines graph.now) }
+{
+    let table = Table::new(alloc, graph, order)?;
+    all_released(alloc, graph, &table)?;
+    all_in_sections(alloc, graph, &table)?;
+    all_descend(alloc, graph, &table)?;
+    let held = sections_of_lines(alloc, graph, &table)?;
+    Ok(held)
+}
+
 /// Each acquire has a release with a path from it.
-fn all_released(
-    graph: &Graph,
-    paths: &PathTable,
-    releases: &[Option<u32>],
-) -> Result<(), CheckRefusal>
-    requires table { IsPathTable graph.now paths.now }
-    requires releases { AreReleases graph.now releases.now }
+fn all_released(alloc: Global, graph: &Graph, table: &Table) -> Result<(), CheckRefusal>
+    requires table { IsTable graph.now table.now }
     requires acyclic { Everywhere (NoCycleAt graph.now) }
     ensures released { OnOk result (Everywhere (ReleasedAt graph.now)) }
     ensures refused { IfErr result (IsRefusal graph.now) }
     ensures lines { IfErr result (NamesLines graph.now) }
 {
-    match first_unreleased(graph, paths, releases) {
+    match first_unreleased(alloc, graph, table)? {
         None => Ok(()),
         Some(line) => Err(CheckRefusal::Unreleased(line)),
     }
 }
 
 /// Each line before a release lies in its section, or before that.
-fn all_in_sections(alloc: Global, graph: &Graph, paths: &PathTable) -> Result<(), CheckRefusal>
-    requires table { IsPathTable graph.now paths.now }
+fn all_in_sections(alloc: Global, graph: &Graph, table: &Table) -> Result<(), CheckRefusal>
+    requires table { IsTable graph.now table.now }
     requires acyclic { Everywhere (NoCycleAt graph.now) }
     requires released { Everywhere (ReleasedAt graph.now) }
     ensures sections { OnOk result (EverywhereTwice (SectionAt graph.now)) }
     ensures refused { IfErr result (IsRefusal graph.now) }
     ensures lines { IfErr result (NamesLines graph.now) }
 {
-    match first_outside(alloc, graph, paths)? {
+    match first_outside(alloc, graph, table)? {
         None => Ok(()),
         Some((release, line)) => Err(CheckRefusal::Section(release, line)),
     }
 }
 
 /// Each section acquires only reservations that are declared later.
-fn all_descend(
-    alloc: Global,
-    graph: &Graph,
-    paths: &PathTable,
-    releases: &[Option<u32>],
-) -> Result<(), CheckRefusal>
-    requires table { IsPathTable graph.now paths.now }
-    requires releases { AreReleases graph.now releases.now }
+fn all_descend(alloc: Global, graph: &Graph, table: &Table) -> Result<(), CheckRefusal>
+    requires table { IsTable graph.now table.now }
     requires acyclic { Everywhere (NoCycleAt graph.now) }
     requires released { Everywhere (ReleasedAt graph.now) }
     requires sections { EverywhereTwice (SectionAt graph.now) }
@@ -134,7 +144,7 @@ fn all_descend(
     ensures refused { IfErr result (IsRefusal graph.now) }
     ensures lines { IfErr result (NamesLines graph.now) }
 {
-    match first_climbing(alloc, graph, paths, releases)? {
+    match first_climbing(alloc, graph, table)? {
         None => Ok(()),
         Some((acquire, line)) => Err(CheckRefusal::Descends(acquire, line)),
     }
@@ -157,24 +167,20 @@ fn all_on_merges(graph: &Graph) -> Result<(), CheckRefusal>
 }
 
 /// Lines that conflict have a path one way or the other, or are exempt.
-fn no_races(
-    alloc: Global,
-    graph: &Graph,
-    paths: &PathTable,
-    releases: &[Option<u32>],
-) -> Result<(), CheckRefusal>
-    requires table { IsPathTable graph.now paths.now }
-    requires releases { AreReleases graph.now releases.now }
+fn no_races(alloc: Global, graph: &Graph, order: &[u32], held: &Held) -> Result<(), CheckRefusal>
+    requires order { IsOrder graph.now order.now }
+    requires count { length order.now ≡ length graph.now.lines }
+    requires sections { AreSections graph.now held.now }
     requires acyclic { Everywhere (NoCycleAt graph.now) }
-    requires released { Everywhere (ReleasedAt graph.now) }
-    requires sections { EverywhereTwice (SectionAt graph.now) }
-    requires descends { EverywhereTwice (DescendsAt graph.now) }
     requires release_faults { Everywhere (ReleaseFaultAt graph.now) }
     ensures races { OnOk result (EverywhereTwice (RaceAt graph.now)) }
     ensures refused { IfErr result (IsRefusal graph.now) }
     ensures lines { IfErr result (NamesLines graph.now) }
 {
-    match first_race(alloc, graph, paths, releases)? {
+    if are_settled(alloc, graph, order, held)? {
+        return Ok(());
+    }
+    match first_race(alloc, graph, order, held)? {
         None => Ok(()),
         Some((one, other)) => Err(CheckRefusal::Race(one, other)),
     }

@@ -1,24 +1,24 @@
 //! The check of a graph: accepted, or refused by the first of six rules that fails.
 #![tactic(auto)]
 
-mod bits;
+mod apart;
+mod asked;
+mod blocks;
 pub mod checked;
 mod conflicts;
 mod cycle;
 mod descends;
 mod high;
+mod inside;
 mod judge;
+mod keeping;
 mod need;
 mod order;
-mod paths;
-mod quick;
 mod races;
 mod release_faults;
 mod releases;
 mod reservations;
-mod rows;
 mod sections;
-mod summaries;
 
 ghost use Rattle.std.specs.Prelude.{◌≡◌, ℕ, List, length, IfOk, IfErr, MatchOption};
 ghost use Rattle.graph_model.specs.graph.Graph.{upgraded};

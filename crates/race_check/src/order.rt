@@ -24,7 +24,8 @@ impl Order {
     /// Puts as many lines into the order as cycles leave: the lines as they are numbered, where
     /// each edge leads to a higher number.
     pub(crate) fn new(alloc: Global, graph: &Graph) -> Result<Order, NoMemory>
-        ensures { IfOk result (λ o. IsOrdered graph.now o.lines.items o.left.items) }
+        ensures ordered { IfOk result (λ o. IsOrdered graph.now o.lines.items o.left.items) }
+        ensures few { IfOk result (λ o. length o.lines.items ≤ length graph.now.lines) }
     {
         edges_between_lines();
         if all_edges_ascend(graph) {
@@ -37,7 +38,8 @@ impl Order {
     /// The lines as they are numbered.
     fn as_numbered(alloc: Global, graph: &Graph) -> Result<Order, NoMemory>
         requires { (e : Edge) → Contains (edges graph.now) e → e.from < e.to }
-        ensures { IfOk result (λ o. IsOrdered graph.now o.lines.items o.left.items) }
+        ensures ordered { IfOk result (λ o. IsOrdered graph.now o.lines.items o.left.items) }
+        ensures few { IfOk result (λ o. length o.lines.items ≤ length graph.now.lines) }
     {
         edges_between_lines();
         let count = graph.lines();
@@ -80,7 +82,8 @@ impl Order {
     fn with_others(mut self, graph: &Graph) -> Result<Order, NoMemory>
         requires counted { IsCounted graph.now self.lines.items self.left.items (length graph.now.lines) }
         requires room { HasRoom graph.now self.lines.items }
-        ensures { IfOk result (λ o. IsOrdered graph.now o.lines.items o.left.items) }
+        ensures ordered { IfOk result (λ o. IsOrdered graph.now o.lines.items o.left.items) }
+        ensures few { IfOk result (λ o. length o.lines.items ≤ length graph.now.lines) }
     {
         edges_between_lines();
         let _ = graph.lines();

@@ -1,28 +1,62 @@
 //! The rule that each acquire has a release behind it.
 
-ghost use Rattle.std.specs.Prelude.{◌≡◌, ℕ, ◌<◌, ◌↔◌, length, Option, None, IsTrue, IfOk, MatchOption};
-ghost use Rattle.std.specs.List.{slice_index_or};
+ghost use Rattle.std.specs.Prelude.{◌≡◌, ℕ, ◌+◌, ◌-◌, ◌<◌, ◌≤◌, ◌↔◌, length, IsTrue, IfOk, MatchOption};
 ghost use Rattle.graph_model.specs.meaning.Rules.{Everywhere, FailsFirst, ReleasedAt};
-ghost use Rattle.race_check.specs.Paths.{IsPathTable};
-ghost use Rattle.section_sweeps.specs.Releases.{AreReleases};
+ghost use Rattle.race_check.specs.Blocks.{ArePassedOn, IsFirstIn};
+ghost use Rattle.section_sweeps.specs.Table.{IsTable};
 
-use crate::paths::PathTable;
+use crate::blocks::lines_from;
 use graph_model::graph::Graph;
+use graph_model::laws::edges_between_lines;
+use index_spaces::NoMemory;
+use section_sweeps::blocks::passed_forward;
+use section_sweeps::passing::{Passing, has_bit};
 use section_sweeps::reservations::acquired;
+use section_sweeps::table::Table;
+use std::alloc::Global;
 
-/// The least acquire that has no release with a path from it.
+/// The least acquire that has no release with a path from it, 64 lines at a time.
 pub(crate) fn first_unreleased(
+    alloc: Global,
     graph: &Graph,
-    paths: &PathTable,
-    releases: &[Option<u32>],
-) -> Option<u32>
-    requires table { IsPathTable graph.now paths.now }
-    requires releases { AreReleases graph.now releases.now }
-    ensures { MatchOption result (Everywhere (ReleasedAt graph.now)) (λ i. (i < length graph.now.lines)
-        × FailsFirst (ReleasedAt graph.now) i) }
+    table: &Table,
+) -> Result<Option<u32>, NoMemory>
+    requires { IsTable graph.now table.now }
+    ensures { IfOk result (λ o. MatchOption o (Everywhere (ReleasedAt graph.now)) (λ i. (i < length graph.now.lines)
+        × FailsFirst (ReleasedAt graph.now) i)) }
 {
-    for line in 0..graph.lines() {
-        if !is_released(graph, paths, releases, line) {
+    edges_between_lines();
+    let lines = graph.lines();
+    let mut first = 0;
+    while first < lines {
+        let end = lines.min(first + 64);
+        let of = lines_from(alloc, first, end)?;
+        let of = of.as_slice();
+        let behind = passed_forward(alloc, graph, table, of, lines)?;
+        if let Some(line) = first_unreleased_of(graph, table, &behind, first, end) {
+            return Ok(Some(line));
+        }
+        first = end;
+    }
+    Ok(None)
+}
+
+/// The least acquire of a block that has no release with a path from it.
+fn first_unreleased_of(
+    graph: &Graph,
+    table: &Table,
+    behind: &Passing,
+    first: u32,
+    end: u32,
+) -> Option<u32>
+    requires table { IsTable graph.now table.now }
+    requires behind { ArePassedOn graph.now (λ q i. q ≡ i) first behind.now }
+    requires few { end - first ≤ 64 }
+    requires ends { end ≤ length graph.now.lines }
+    ensures { MatchOption result ((i : ℕ) → first ≤ i → i < end → ReleasedAt graph.now i) (IsFirstIn (ReleasedAt graph.now) first end) }
+{
+    for line in first..end {
+        if !is_released(graph, table, behind, line, line - first) {
             return Some(line);
         }
     }
@@ -30,17 +64,18 @@ pub(crate) fn first_unreleased(
 }
 
 /// Whether a line has a path to its release, if it is an acquire.
-fn is_released(graph: &Graph, paths: &PathTable, releases: &[Option<u32>], line: u32) -> bool
+fn is_released(graph: &Graph, table: &Table, behind: &Passing, line: u32, bit: u32) -> bool
     requires known { line < length graph.now.lines }
-    requires table { IsPathTable graph.now paths.now }
-    requires releases { AreReleases graph.now releases.now }
+    requires table { IsTable graph.now table.now }
+    requires bit { bit < 64 }
+    requires behind { (first : ℕ) × (first + bit ≡ line) × ArePassedOn graph.now (λ q i. q ≡ i) first behind.now }
     ensures { IsTrue result ↔ ReleasedAt graph.now line }
 {
     let Some(_lock) = acquired(graph, line) else {
         return true;
     };
-    match releases[line as usize] {
-        Some(release) => paths.has_path(line, release),
+    match table.releases[line as usize] {
+        Some(release) => has_bit(behind.passed(release), bit),
         None => false,
     }
 }

@@ -1,54 +1,134 @@
 //! The rule that what comes before a release lies before its acquire or in its section.
 
-ghost use Rattle.std.specs.Prelude.{◌≡◌, ℕ, ◌<◌, ◌+◌, ◌&&◌, IsTrue, length, OnOk, IfOk, MatchOption};
+ghost use Rattle.std.specs.Prelude.{◌≡◌, ℕ, ◌<◌, ◌&&◌, true, length, IfOk, MatchOption};
 ghost use Rattle.graph_model.specs.graph.Graph.{line_passes, is_phase, never_comes};
-ghost use Rattle.graph_model.specs.meaning.Rules.{Everywhere, EverywhereTwice, FailsFirst, FailsFirstTwice, SectionAt};
-ghost use Rattle.race_check.specs.Paths.{IsPathTable, word_bit, words_for};
-ghost use Rattle.race_check.specs.Words.{IsWordOf};
-ghost use Rattle.race_check.specs.RuleWords.{lies_outside, AreNeverPhases};
+ghost use Rattle.graph_model.specs.meaning.Rules.{EverywhereTwice, FailsFirstTwice, SectionAt};
+ghost use Rattle.race_check.specs.Blocks.{FailsFirstIn, HoldsIn};
+ghost use Rattle.race_check.specs.Inside.{AreOutside, AreSides, MayCome};
+ghost use Rattle.race_sweeps.specs.Marks.{bit_in};
+ghost use Rattle.section_sweeps.specs.Passing.{HasBit};
+ghost use Rattle.section_sweeps.specs.Table.{IsTable};
 
-use crate::paths::PathTable;
-use crate::rows::{add_line, empty_row, word_at, word_of_line};
+use crate::blocks::{acquires_from, lowest, releasing_from};
 use graph_model::graph::Graph;
 use graph_model::laws::edges_between_lines;
 use graph_model::verb::Verb;
 use index_spaces::NoMemory;
-use section_sweeps::reservations::released;
+use section_sweeps::blocks::{passed_back, passed_forward};
+use section_sweeps::passing::Passing;
+use section_sweeps::table::Table;
 use std::alloc::Global;
 
 /// The least release and the least line that has a path to it and is neither its acquire, nor
-/// before the acquire, nor behind it and no phase that never comes.
+/// before the acquire, nor behind it and no phase that never comes; 64 lines at a time.
 pub(crate) fn first_outside(
     alloc: Global,
     graph: &Graph,
-    paths: &PathTable,
+    table: &Table,
 ) -> Result<Option<(u32, u32)>, NoMemory>
-    requires { IsPathTable graph.now paths.now }
+    requires { IsTable graph.now table.now }
     ensures { IfOk result (λ o. MatchOption o (EverywhereTwice (SectionAt graph.now))
         (λ p. (p.0 < length graph.now.lines) × (p.1 < length graph.now.lines) × FailsFirstTwice (SectionAt graph.now) p.0 p.1)) }
 {
     edges_between_lines();
-    let dead = never_phases(alloc, graph, paths.words())?;
-    for release in 0..graph.lines() {
-        if let Some(line) = first_outside_of(graph, paths, dead.as_slice(), release) {
-            return Ok(Some((release, line)));
+    let lines = graph.lines();
+    let mut first = 0;
+    while first < lines {
+        let found = first_outside_of(alloc, graph, table, first)?;
+        if let Some(pair) = found {
+            return Ok(Some(pair));
         }
+        first += 64;
     }
     Ok(None)
 }
 
-/// A row of the phases that never come.
-fn never_phases(alloc: Global, graph: &Graph, words: usize) -> Result<Vec<u64>, NoMemory>
-    requires { words ≡ words_for (length graph.now.lines) }
-    ensures { IfOk result (λ v. AreNeverPhases graph.now v.items) }
+/// The least of a block of releases.
+fn first_outside_of(
+    alloc: Global,
+    graph: &Graph,
+    table: &Table,
+    first: u32,
+) -> Result<Option<(u32, u32)>, NoMemory>
+    requires table { IsTable graph.now table.now }
+    requires first { first < length graph.now.lines }
+    ensures { IfOk result (λ o. MatchOption o (HoldsIn (SectionAt graph.now) first (length graph.now.lines))
+        (λ p. (p.0 < length graph.now.lines) × (p.1 < length graph.now.lines) × FailsFirstIn (SectionAt graph.now) first (length graph.now.lines) p.0 p.1)) }
 {
-    let mut row = empty_row(alloc, words)?;
-    for line in 0..graph.lines() {
-        if is_never_phase(graph, line) {
-            add_line(&mut row, line);
+    edges_between_lines();
+    let lines = graph.lines();
+    let sides = Sides::new(alloc, graph, table, first)?;
+    let mut limit = 64;
+    let mut found = 0;
+    for line in 0..lines {
+        if let Some(bit) = lowest(sides.outside(graph, line), limit) {
+            limit = bit;
+            found = line;
         }
     }
-    Ok(row)
+    if limit < 64 {
+        return Ok(Some((first + limit, found)));
+    }
+    Ok(None)
+}
+
+/// Of 64 lines from a first one on: which lines have a path to them, and to and from the acquires
+/// that they release.
+#[derive(Drop)]
+struct Sides {
+    to_releases: Passing,
+    to_acquires: Passing,
+    behind: Passing,
+}
+
+impl Sides {
+    fn new(alloc: Global, graph: &Graph, table: &Table, first: u32) -> Result<Sides, NoMemory>
+        requires table { IsTable graph.now table.now }
+        requires first { first < length graph.now.lines }
+        ensures { IfOk result (AreSides graph.now first) }
+    {
+        edges_between_lines();
+        let lines = graph.lines();
+        let end = lines.min(first + 64);
+        let acquires = acquires_from(alloc, graph, first, end)?;
+        let releases = releasing_from(alloc, graph, first, end)?;
+        let acquires = acquires.as_slice();
+        let releases = releases.as_slice();
+        let to_releases = passed_back(alloc, graph, table, releases, 0)?;
+        let to_acquires = passed_back(alloc, graph, table, acquires, 0)?;
+        let behind = passed_forward(alloc, graph, table, acquires, lines)?;
+        Ok(Sides {
+            to_releases,
+            to_acquires,
+            behind,
+        })
+    }
+
+    /// The releases of the block to which a line has a path, though it neither is nor has a path to
+    /// the acquire, nor has a path from it and may come.
+    fn outside(&self, graph: &Graph, line: u32) -> u64
+        requires line { line < length graph.now.lines }
+        requires sides { (first : ℕ) × AreSides graph.now first self.now }
+        ensures { (first : ℕ) → AreSides graph.now first self.now → AreOutside graph.now first line result }
+    {
+        edges_between_lines();
+        let _ = graph.lines();
+        let allowed = self.to_acquires.bits(line) | self.entered(graph, line);
+        self.to_releases.passed(line) & !allowed
+    }
+
+    /// The releases of the block behind whose acquires a line may come.
+    fn entered(&self, graph: &Graph, line: u32) -> u64
+        requires line { line < length graph.now.lines }
+        requires size { length self.now.behind.passed.items ≡ length graph.now.lines }
+        ensures is { (b : ℕ) → bit_in result b ≡ true → HasBit self.now.behind.passed.items line b × MayCome graph.now line }
+        ensures all { (b : ℕ) → HasBit self.now.behind.passed.items line b → MayCome graph.now line → bit_in result b ≡ true }
+    {
+        if is_never_phase(graph, line) {
+            return 0;
+        }
+        self.behind.passed(line)
+    }
 }
 
 /// Whether a line is a phase that never comes.
@@ -68,41 +148,4 @@ fn is_phase(graph: &Graph, line: u32) -> bool
         Verb::Phase { .. } => true,
         _ => false,
     }
-}
-
-/// The least line that this line, as a release, may not come after.
-fn first_outside_of(graph: &Graph, paths: &PathTable, dead: &[u64], release: u32) -> Option<u32>
-    requires known { release < length graph.now.lines }
-    requires table { IsPathTable graph.now paths.now }
-    requires dead { AreNeverPhases graph.now dead.now }
-    ensures { MatchOption result (Everywhere (SectionAt graph.now release)) (λ j. (j < length graph.now.lines)
-        × FailsFirst (SectionAt graph.now release) j) }
-{
-    edges_between_lines();
-    let _ = graph.lines();
-    let Some(acquire) = released(graph, release) else {
-        return None;
-    };
-    for word in 0..paths.words() {
-        let outside = outside_word(paths, dead, release, acquire, word);
-        if outside != 0 {
-            return Some(word as u32 * 64 + outside.trailing_zeros());
-        }
-    }
-    None
-}
-
-/// The lines with a path to a release that lie outside the section of its acquire, 64 of them.
-fn outside_word(paths: &PathTable, dead: &[u64], release: u32, acquire: u32, word: usize) -> u64
-    requires release { release < paths.now.lines }
-    requires acquire { acquire < paths.now.lines }
-    requires word { word < words_for paths.now.lines }
-    requires dead { length dead.now ≡ words_for paths.now.lines }
-    ensures { IsWordOf (lies_outside paths.now dead.now release acquire) word result }
-{
-    let own = word_of_line(acquire, word);
-    let before = word_at(paths.back_row(acquire), word);
-    let behind = word_at(paths.row(acquire), word);
-    let dead = word_at(dead, word);
-    word_at(paths.back_row(release), word) & !(own | (before | (behind & !dead)))
 }

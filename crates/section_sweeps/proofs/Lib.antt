@@ -9,3 +9,4 @@ pub mod Concluding
 pub mod RuleSteps
 pub mod Finishing
 pub mod SweepingDown
+pub mod Blocking

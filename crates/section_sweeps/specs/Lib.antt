@@ -3,3 +3,4 @@ pub mod Table
 pub mod Passing
 pub mod Group
 pub mod Sections
+pub mod Blocks

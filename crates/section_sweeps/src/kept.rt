@@ -14,7 +14,7 @@ use race_sweeps::held::Held;
 use std::alloc::Global;
 
 /// No acquire is kept.
-pub(crate) fn nothing_kept(alloc: Global, graph: &Graph) -> Result<Held, NoMemory>
+pub fn nothing_kept(alloc: Global, graph: &Graph) -> Result<Held, NoMemory>
     ensures { IfOk result (AreHeldSoFar graph.now) }
 {
     let mut acquires = Vec::new(alloc);
@@ -26,7 +26,7 @@ pub(crate) fn nothing_kept(alloc: Global, graph: &Graph) -> Result<Held, NoMemor
 }
 
 /// Keeps some acquires of a group, in whose sections a line lies.
-pub(crate) fn keep_all(held: &mut Held, graph: &Graph, acquires: &[u32], line: u32, inside: u64)
+pub fn keep_all(held: &mut Held, graph: &Graph, acquires: &[u32], line: u32, inside: u64)
     requires line { line < length graph.now.lines }
     requires few { length acquires.now ≤ 64 }
     requires acquires { (b : ℕ) → b < length acquires.now → slice_index acquires.now b < length graph.now.lines }

@@ -2,14 +2,15 @@
 //! acquires at a time.
 #![tactic(auto)]
 
+pub mod blocks;
 mod group;
-mod kept;
-mod passing;
+pub mod kept;
+pub mod passing;
 pub mod releases;
 pub mod reservations;
-mod rules;
+pub mod rules;
 mod sweep;
-mod table;
+pub mod table;
 
 ghost use Rattle.std.specs.Prelude.{IfOk, IfSome};
 ghost use Rattle.race_sweeps.specs.Placed.{IsOrder};

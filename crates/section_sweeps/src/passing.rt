@@ -15,9 +15,9 @@ use std::alloc::Global;
 
 /// For each line its own bits, and those that it was passed along edges.
 #[derive(Drop)]
-pub(crate) struct Passing {
-    pub(crate) own: Vec<u64>,
-    pub(crate) passed: Vec<u64>,
+pub struct Passing {
+    pub own: Vec<u64>,
+    pub passed: Vec<u64>,
 }
 
 impl Passing {
@@ -34,7 +34,7 @@ impl Passing {
     }
 
     /// The bits of a line.
-    pub(crate) fn bits(&self, line: u32) -> u64
+    pub fn bits(&self, line: u32) -> u64
         requires own { line < length self.now.own.items }
         requires passed { line < length self.now.passed.items }
         ensures { result ≡ bits_at self.now.own.items self.now.passed.items line }
@@ -43,7 +43,7 @@ impl Passing {
     }
 
     /// The bits that a line was passed.
-    pub(crate) fn passed(&self, line: u32) -> u64
+    pub fn passed(&self, line: u32) -> u64
         requires { line < length self.now.passed.items }
         ensures { result ≡ slice_index self.now.passed.items line }
     {
@@ -114,7 +114,7 @@ impl Passing {
 }
 
 /// Whether a word has this bit.
-pub(crate) fn has_bit(word: u64, bit: u32) -> bool
+pub fn has_bit(word: u64, bit: u32) -> bool
     requires { bit < 64 }
     ensures { result ≡ bit_in word bit }
 {

@@ -29,6 +29,25 @@ pub(crate) fn sweep_up(behind: &mut Passing, graph: &Graph, table: &Table, low: 
     }
 }
 
+/// Passes bits back, from a place down to another.
+pub(crate) fn sweep_back(before: &mut Passing, graph: &Graph, table: &Table, low: u32, high: u32)
+    requires table { IsTable graph.now table.now }
+    requires size { IsSized (length graph.now.lines) before.old }
+    requires high { high ≤ length graph.now.lines }
+    requires ends { (i b : ℕ) → HasBit before.old.own.items i b → slice_index table.now.places.items i < high }
+    requires none { HaveNone before.old.passed.items }
+    ensures own { before.new.own ≡ before.old.own }
+    ensures size { IsSized (length graph.now.lines) before.new }
+    ensures is { AreFromBehind graph.now before.new.own.items before.new.passed.items }
+    ensures all { ArePassedDown graph.now table.now.places.items before.new.own.items before.new.passed.items low }
+{
+    let mut place = high;
+    while place > low {
+        place -= 1;
+        before.pass_from_targets(graph, table.lines[place as usize]);
+    }
+}
+
 /// Passes the bits of acquires and those of releases back, from a place down to another, and
 /// further while a source stands there of a line that has a path to a release and none to its
 /// acquire. Gives the place that it came to.

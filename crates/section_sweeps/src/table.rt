@@ -13,15 +13,15 @@ use std::alloc::Global;
 
 /// The line at each place, the place of each line, and the release of each acquire.
 #[derive(Drop)]
-pub(crate) struct Table {
-    pub(crate) lines: Vec<u32>,
-    pub(crate) places: Vec<u32>,
-    pub(crate) releases: Vec<Option<u32>>,
+pub struct Table {
+    pub lines: Vec<u32>,
+    pub places: Vec<u32>,
+    pub releases: Vec<Option<u32>>,
 }
 
 impl Table {
     /// The table of a graph, by an order of all its lines.
-    pub(crate) fn new(alloc: Global, graph: &Graph, order: &[u32]) -> Result<Table, NoMemory>
+    pub fn new(alloc: Global, graph: &Graph, order: &[u32]) -> Result<Table, NoMemory>
         requires placed { IsOrder graph.now order.now }
         requires count { length order.now ≡ length graph.now.lines }
         ensures { IfOk result (IsTable graph.now) }

@@ -3,7 +3,7 @@ use Rattle.std.specs.Prelude.{Some, Vec, slice_get}
 use Rattle.std.specs.Global.{Global}
 use Rattle.graph_model.specs.declared.graph.verb.Access.{Access}
 use Rattle.graph_model.specs.graph.Access.{accesses}
-use Rattle.race_check.proofs.PairSteps.{each_pushed}
+use Rattle.race_check.proofs.AccessSteps.{each_pushed}
 use Rattle.race_check.proofs.conflicts.accesses_of_lines.Goals as goal
 
 pub loop-line-preserved : goal.loop-line-preserved

@@ -1,6 +1,9 @@
-use Rattle.std.proofs.Common.{ℕ, ◌<◌}
+use Rattle.std.proofs.Common.{ℕ, ◌-◌, ◌<◌, length}
 use Rattle.graph_model.specs.meaning.Rules.{Everywhere, DescendsAt}
 use Rattle.race_check.proofs.descends.first_climbing.Given as goal
 
-abbrev pub invariant-loop-acquire : goal.invariant-loop-acquire
-invariant-loop-acquire l = record { before : (k : ℕ) → k < l.acquire → Everywhere (DescendsAt l.graph k) }
+abbrev pub invariant-loop-first : goal.invariant-loop-first
+invariant-loop-first l = record { before : (k : ℕ) → k < l.first → Everywhere (DescendsAt l.graph k) }
+
+abbrev pub decreases-loop-first : goal.decreases-loop-first
+decreases-loop-first l = length l.graph.lines - l.first

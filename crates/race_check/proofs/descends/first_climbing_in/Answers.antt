@@ -1,53 +1,36 @@
-use Rattle.std.proofs.Common.{◌<◌, length, sym, subst, ap, ◌∙◌, arith}
+use Rattle.std.proofs.Common.{◌≡◌, ◌+◌, ℕ, length, arith, sym, subst}
 use Rattle.graph_model.specs.meaning.Rules.{DescendsAt}
-use Rattle.race_check.specs.Paths.{words_for}
-use Rattle.race_check.specs.RuleWords.{lies_inside, IsLowRow}
-use Rattle.race_check.proofs.RuleSteps.{release_known}
-use Rattle.race_check.proofs.PairSteps.{scan_fails, scan_holds, climbing_fails, descending_holds, descends_past, no_acquire, no_release, read_item}
+use Rattle.race_check.proofs.BeyondLines.{descends_beyond}
+use Rattle.race_check.proofs.BlockSteps.{least_none, least_keep, least_take, least_fails, least_holds}
+use Rattle.race_check.specs.Blocks.{IsLeast}
 use Rattle.race_check.proofs.descends.first_climbing_in.Goals as goal
+use Rattle.race_check.proofs.descends.first_climbing_in.Goals.{in-Some, in_default}
 
-pub returns-in_default : goal.returns-in_default
-returns-in_default c = no_acquire c.args.graph.now c.args.acquire c.in_default.ensures
+pub climbed_by-requires-clause-inside : goal.climbed_by-requires-clause-inside
+climbed_by-requires-clause-inside c = c.of.ensures c.args.first c.in_ok-inside.ensures
 
-pub inside_word-climbing-requires-clause-release : goal.inside_word-climbing-requires-clause-release
-inside_word-climbing-requires-clause-release c =
-    subst (λ n. c.in-Some-releases.release < n) (sym c.requires.table.lines) (release_known c.args.graph.now c.args.releases.now c.requires.releases c.args.acquire c.in-Some-releases.release c.in-Some-releases.is)
+pub loop-line-init : goal.loop-line-init
+loop-line-init c = record { least = least_none (DescendsAt c.args.graph.now) c.args.first 0 0 (λ b m h. absurd (omega arith)) }
 
-pub inside_word-climbing-requires-clause-among : goal.inside_word-climbing-requires-clause-among
-inside_word-climbing-requires-clause-among c =
-    let low = c.requires.rows.each c.in-Some.lock c.index-rows-lock.result (read_item c.args.rows.now c.in-Some.lock c.index-rows-lock.result (omega (arith, c.in-Some.ensures.1, c.requires.rows.count)) c.index-rows-lock.is) in
-    ap length c.as_slice-low.ensures.value ∙ (low.size ∙ ap words_for (sym c.requires.table.lines))
+pub loop-line-preserved : goal.loop-line-preserved
+loop-line-preserved c =
+    let R : ℕ → ℕ → Type 0 = DescendsAt c.args.graph.now in
+    let first = c.args.first in
+    let n = c.loop-line.line in
+    let inv = c.loop-line.invariant.least in
+    elim c.match-climbed_by.branch [
+      | in-Some w ↦ record {
+        least = subst (λ z. IsLeast R first z c.match-climbed_by.found (n + 1)) (sym w.limit-is) (subst (λ z. IsLeast R first w.in-Some.bit z (n + 1)) (sym w.found-is)
+            (least_take R first c.loop-line.limit c.loop-line.found n w.in-Some.bit inv (w.in-Some.ensures)));
+      }
+      | in_default w ↦ record {
+        least = subst (λ z. IsLeast R first z c.match-climbed_by.found (n + 1)) (sym w.limit-is) (subst (λ z. IsLeast R first c.loop-line.limit z (n + 1)) (sym w.found-is)
+            (least_keep R first c.loop-line.limit c.loop-line.found n inv (w.in_default.ensures)));
+      }
+    ]
 
-pub returns-then-climbing-ne0 : goal.returns-then-climbing-ne0
-returns-then-climbing-ne0 c =
-    let between = c.edges_between_lines.ensures in
-    let g = c.args.graph.now in
-    let fits = c.lines.ensures.is_graph in
-    let t = c.args.paths.now in
-    let rs = c.args.releases.now in
-    let q = c.args.acquire in
-    let l = c.in-Some.lock in
-    let r = c.in-Some-releases.release in
-    let low = c.as_slice-low.result.now in
-    let row = subst (IsLowRow g l) (sym c.as_slice-low.ensures.value) (c.requires.rows.each l c.index-rows-lock.result (read_item c.args.rows.now l c.index-rows-lock.result (omega (arith, c.in-Some.ensures.1, c.requires.rows.count)) c.index-rows-lock.is)) in
-    scan_fails (DescendsAt g q) (lies_inside t low q r) (climbing_fails between g fits t c.requires.table rs c.requires.releases low q l r c.in-Some.ensures.0 c.in-Some-releases.is row)
-    (descending_holds between g fits t c.requires.table rs c.requires.releases low q l r c.in-Some.ensures.0 c.in-Some-releases.is row)
-    (length g.lines) (descends_past between g fits t c.requires.table rs c.requires.releases low q l r c.in-Some.ensures.0 c.in-Some-releases.is row) c.loop-word.word c.inside_word-climbing.result c.inside_word-climbing.ensures c.loop-word.invariant c.if-climbing-ne0.true c.inside_word-climbing.type_inv
-
-pub returns-in_default-releases : goal.returns-in_default-releases
-returns-in_default-releases c = no_release c.args.graph.now c.args.releases.now c.requires.releases c.args.acquire c.in_default-releases.is
+pub returns-then-limit-lt64 : goal.returns-then-limit-lt64
+returns-then-limit-lt64 c = least_fails (DescendsAt c.args.graph.now) c.args.first c.loop-line.limit c.loop-line.found (length c.args.graph.now.lines) (λ i j h. descends_beyond c.args.graph.now (λ e k. c.edges_between_lines.ensures c.args.graph.now e c.lines-lines.ensures.is_graph k) i j h) c.if-limit-lt64.true (subst (λ z. IsLeast (DescendsAt c.args.graph.now) c.args.first c.loop-line.limit c.loop-line.found z) (let e : c.loop-line.line ≡ length c.args.graph.now.lines = omega (arith, c.loop-line-test.false, c.loop-line.auto.line-end, c.lines-lines.ensures.number) in e) c.loop-line.invariant.least)
 
 pub returns : goal.returns
-returns c =
-    let between = c.edges_between_lines.ensures in
-    let g = c.args.graph.now in
-    let fits = c.lines.ensures.is_graph in
-    let t = c.args.paths.now in
-    let rs = c.args.releases.now in
-    let q = c.args.acquire in
-    let l = c.in-Some.lock in
-    let r = c.in-Some-releases.release in
-    let low = c.as_slice-low.result.now in
-    let row = subst (IsLowRow g l) (sym c.as_slice-low.ensures.value) (c.requires.rows.each l c.index-rows-lock.result (read_item c.args.rows.now l c.index-rows-lock.result (omega (arith, c.in-Some.ensures.1, c.requires.rows.count)) c.index-rows-lock.is)) in
-    scan_holds (DescendsAt g q) (lies_inside t low q r) (descending_holds between g fits t c.requires.table rs c.requires.releases low q l r c.in-Some.ensures.0 c.in-Some-releases.is row) (length g.lines) c.loop-word.word
-    (descends_past between g fits t c.requires.table rs c.requires.releases low q l r c.in-Some.ensures.0 c.in-Some-releases.is row) c.loop-word.invariant (omega (arith, c.requires.table.lines, c.words-word-end.ensures.number))
+returns c = least_holds (DescendsAt c.args.graph.now) c.args.first c.loop-line.limit c.loop-line.found (length c.args.graph.now.lines) c.if-limit-lt64.false (subst (λ z. IsLeast (DescendsAt c.args.graph.now) c.args.first c.loop-line.limit c.loop-line.found z) (let e : c.loop-line.line ≡ length c.args.graph.now.lines = omega (arith, c.loop-line-test.false, c.loop-line.auto.line-end, c.lines-lines.ensures.number) in e) c.loop-line.invariant.least)

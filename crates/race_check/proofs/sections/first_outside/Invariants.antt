@@ -1,6 +1,9 @@
-use Rattle.std.proofs.Common.{ℕ, ◌<◌}
+use Rattle.std.proofs.Common.{ℕ, ◌-◌, ◌<◌, length}
 use Rattle.graph_model.specs.meaning.Rules.{Everywhere, SectionAt}
 use Rattle.race_check.proofs.sections.first_outside.Given as goal
 
-abbrev pub invariant-loop-release : goal.invariant-loop-release
-invariant-loop-release l = record { before : (k : ℕ) → k < l.release → Everywhere (SectionAt l.graph k) }
+abbrev pub invariant-loop-first : goal.invariant-loop-first
+invariant-loop-first l = record { before : (k : ℕ) → k < l.first → Everywhere (SectionAt l.graph k) }
+
+abbrev pub decreases-loop-first : goal.decreases-loop-first
+decreases-loop-first l = length l.graph.lines - l.first

@@ -1,36 +1,34 @@
-use Rattle.std.proofs.Common.{length, arith}
+use Rattle.std.proofs.Common.{◌≡◌, ◌+◌, ℕ, length, arith, sym, subst}
 use Rattle.graph_model.specs.meaning.Rules.{SectionAt}
-use Rattle.race_check.specs.RuleWords.{lies_outside}
-use Rattle.race_check.proofs.WordScan.{scan_more}
-use Rattle.race_check.proofs.PairSteps.{scan_fails, scan_holds, outside_fails, inside_holds, section_past, no_section}
+use Rattle.race_check.proofs.BeyondLines.{section_beyond}
+use Rattle.race_check.proofs.BlockSteps.{least_none, least_keep, least_take, least_fails, least_holds}
+use Rattle.race_check.specs.Blocks.{IsLeast}
+use Rattle.race_check.proofs.Insides.{lowest_fails, lowest_holds}
 use Rattle.race_check.proofs.sections.first_outside_of.Goals as goal
+use Rattle.race_check.proofs.sections.first_outside_of.Goals.{in-Some, in_default}
 
-pub returns-in_default : goal.returns-in_default
-returns-in_default c = no_section c.args.graph.now c.args.release c.in_default.ensures
+pub loop-line-init : goal.loop-line-init
+loop-line-init c = record { least = least_none (SectionAt c.args.graph.now) c.args.first 0 0 (λ b m h. absurd (omega arith)) }
 
-pub returns-then-outside-ne0 : goal.returns-then-outside-ne0
-returns-then-outside-ne0 c =
-    let between = c.edges_between_lines.ensures in
-    let g = c.args.graph.now in
-    let fits = c.lines.ensures.is_graph in
-    let t = c.args.paths.now in
-    let dead = c.args.dead.now in
-    let r = c.args.release in
-    let q = c.in-Some.acquire in
-    scan_fails (SectionAt g r) (lies_outside t dead r q) (outside_fails between g fits t c.requires.table dead c.requires.dead r q c.in-Some.ensures.0) (inside_holds between g fits t c.requires.table dead c.requires.dead r q c.in-Some.ensures.0)
-    (length g.lines) (section_past between g fits t c.requires.table dead c.requires.dead r q c.in-Some.ensures.0) c.loop-word.word c.outside_word-outside.result c.outside_word-outside.ensures c.loop-word.invariant c.if-outside-ne0.true c.outside_word-outside.type_inv
+pub loop-line-preserved : goal.loop-line-preserved
+loop-line-preserved c =
+    let R : ℕ → ℕ → Type 0 = SectionAt c.args.graph.now in
+    let first = c.args.first in
+    let n = c.loop-line.line in
+    let inv = c.loop-line.invariant.least in
+    elim c.match-lowest.branch [
+      | in-Some w ↦ record {
+        least = subst (λ z. IsLeast R first z c.match-lowest.found (n + 1)) (sym w.limit-is) (subst (λ z. IsLeast R first w.in-Some.bit z (n + 1)) (sym w.found-is)
+            (least_take R first c.loop-line.limit c.loop-line.found n w.in-Some.bit inv (lowest_fails c.args.graph.now first c.loop-line.limit n w.in-Some.bit c.outside.result c.loop-line.invariant.least.few (c.outside.ensures first c.in_ok-sides.ensures) w.in-Some.ensures)));
+      }
+      | in_default w ↦ record {
+        least = subst (λ z. IsLeast R first z c.match-lowest.found (n + 1)) (sym w.limit-is) (subst (λ z. IsLeast R first c.loop-line.limit z (n + 1)) (sym w.found-is)
+            (least_keep R first c.loop-line.limit c.loop-line.found n inv (lowest_holds c.args.graph.now first c.loop-line.limit n c.outside.result c.loop-line.invariant.least.few (c.outside.ensures first c.in_ok-sides.ensures) w.in_default.ensures)));
+      }
+    ]
 
-pub loop-word-preserved : goal.loop-word-preserved
-loop-word-preserved c = scan_more (lies_outside c.args.paths.now c.args.dead.now c.args.release c.in-Some.acquire) c.loop-word.word c.outside_word-outside.result c.outside_word-outside.ensures c.loop-word.invariant c.if-outside-ne0.false
+pub returns-then-limit-lt64 : goal.returns-then-limit-lt64
+returns-then-limit-lt64 c = least_fails (SectionAt c.args.graph.now) c.args.first c.loop-line.limit c.loop-line.found (length c.args.graph.now.lines) (λ i j h. section_beyond c.args.graph.now (λ e k. c.edges_between_lines.ensures c.args.graph.now e c.lines-lines.ensures.is_graph k) i j h) c.if-limit-lt64.true (subst (λ z. IsLeast (SectionAt c.args.graph.now) c.args.first c.loop-line.limit c.loop-line.found z) (let e : c.loop-line.line ≡ length c.args.graph.now.lines = omega (arith, c.loop-line-test.false, c.loop-line.auto.line-end, c.lines-lines.ensures.number) in e) c.loop-line.invariant.least)
 
 pub returns : goal.returns
-returns c =
-    let between = c.edges_between_lines.ensures in
-    let g = c.args.graph.now in
-    let fits = c.lines.ensures.is_graph in
-    let t = c.args.paths.now in
-    let dead = c.args.dead.now in
-    let r = c.args.release in
-    let q = c.in-Some.acquire in
-    scan_holds (SectionAt g r) (lies_outside t dead r q) (inside_holds between g fits t c.requires.table dead c.requires.dead r q c.in-Some.ensures.0) (length g.lines) c.loop-word.word
-    (section_past between g fits t c.requires.table dead c.requires.dead r q c.in-Some.ensures.0) c.loop-word.invariant (omega (arith, c.requires.table.lines, c.words-word-end.ensures.number))
+returns c = least_holds (SectionAt c.args.graph.now) c.args.first c.loop-line.limit c.loop-line.found (length c.args.graph.now.lines) c.if-limit-lt64.false (subst (λ z. IsLeast (SectionAt c.args.graph.now) c.args.first c.loop-line.limit c.loop-line.found z) (let e : c.loop-line.line ≡ length c.args.graph.now.lines = omega (arith, c.loop-line-test.false, c.loop-line.auto.line-end, c.lines-lines.ensures.number) in e) c.loop-line.invariant.least)

@@ -1,12 +1,24 @@
-use Rattle.std.proofs.Common.{inr, arith}
-use Rattle.race_check.proofs.BeyondLines.{race_beyond}
-use Rattle.race_check.proofs.RaceSteps.{race_found, race_none}
+use Rattle.std.proofs.Common.{◌+◌, ◌≡◌, ap, ◌∙◌, arith, inl, inr, subst}
+use Rattle.std.specs.Int.{bit_at}
+use Rattle.std.proofs.lemmas.Bool.{cases_lt, ne_eqb}
+use Rattle.std.proofs.lemmas.Nat.Bits.{bit_at-zero}
+use Rattle.graph_model.specs.meaning.Rules.{RaceAt}
+use Rattle.race_sweeps.specs.Marks.{bit_in}
 use Rattle.race_check.proofs.races.Rivals.first_of.Goals as goal
 
-pub returns-in-Some : goal.returns-in-Some
-returns-in-Some c = race_found c.args.graph.now c.args.line c.loop-word.word c.in-Some.other c.loop-word.invariant.before c.in-Some.ensures
+pub returns-then-suspects-eq0 : goal.returns-then-suspects-eq0
+returns-then-suspects-eq0 c b h = c.suspects-suspects.ensures.free b (omega (arith, h, c.requires.limit)) (ap (λ z. bit_in z b) c.if-suspects-eq0.true ∙ ne_eqb (bit_at 0 b) 1 (λ one. (let z : bit_at 0 b ≡ 0 = bit_at-zero b in absurd (omega arith))))
+
+pub returns-then-is_race : goal.returns-then-is_race
+returns-then-is_race c = record { below = c.loop-bit-test.true; here = c.is_race.ensures.race c.if-is_race.true; before = c.loop-bit.invariant.before }
+
+pub loop-bit-preserved : goal.loop-bit-preserved
+loop-bit-preserved c = record {
+  before = λ k h. elim (cases_lt k c.loop-bit.bit) [
+    | inl l ↦ c.loop-bit.invariant.before k l
+    | inr up ↦ subst (λ z. RaceAt c.args.graph.now (c.args.self.now.first + z) c.args.line) (let e : c.loop-bit.bit ≡ k = omega arith in e) (c.is_race.ensures.free c.if-is_race.false)
+  ];
+}
 
 pub returns : goal.returns
-returns c =
-    let g = c.args.graph.now in
-    race_none g c.args.line c.loop-word.word (λ j h. race_beyond g (λ e k. c.edges_between_lines.ensures g e c.lines.ensures.is_graph k) c.args.line j (inr h)) (omega (arith, c.requires.table.lines, c.words-word-end.ensures.number)) c.loop-word.invariant.before
+returns c b h = c.loop-bit.invariant.before b (omega (arith, h, c.loop-bit-test.false))

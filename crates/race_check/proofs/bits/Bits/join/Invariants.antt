@@ -1,5 +1,0 @@
-use Rattle.race_check.proofs.BitSteps.{IsJoined}
-use Rattle.race_check.proofs.bits.Bits.join.Given as goal
-
-abbrev pub invariant-loop-w : goal.invariant-loop-w
-invariant-loop-w l = IsJoined l.initial.self-inside.words.items l.add-inside.words.items l.self-inside.words.items l.w

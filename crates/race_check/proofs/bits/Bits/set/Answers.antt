@@ -1,5 +1,0 @@
-use Rattle.race_check.proofs.BitSteps.{set_in_row}
-use Rattle.race_check.proofs.bits.Bits.set.Goals as goal
-
-pub returns-clause-bits : goal.returns-clause-bits
-returns-clause-bits c = set_in_row c.self.inside.words.items c.args.self.now c.args.j c.index_mut.result.now c.self.view_is c.requires c.index_mut.ensures.value
