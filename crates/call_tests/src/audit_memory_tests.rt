@@ -4,8 +4,8 @@
 
 ghost use Rattle.realm_audit.specs.Reading.{AreLines};
 
-use graph_model::lists::LineList;
 use graph_reader::read_graph;
+use graph_terms::lists::LineList;
 use plain_eval::evaluation::eval;
 use race_check::check;
 use race_check::checked::Checked;

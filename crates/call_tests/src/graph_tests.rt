@@ -1,13 +1,13 @@
 //! What a graph says of its items, and refusals that no text meets.
 
-use graph_model::decl::Decl;
-use graph_model::found::Found;
 use graph_model::graph::Graph;
-use graph_model::lists::{LineList, NameList};
-use graph_model::name::Name;
-use graph_model::verb::{Access, Edge, EdgeKind, Line, Mode, Verb};
-use graph_model::why::Why;
 use graph_reader::read_graph;
+use graph_terms::decl::Decl;
+use graph_terms::found::Found;
+use graph_terms::lists::{LineList, NameList};
+use graph_terms::name::Name;
+use graph_terms::verb::{Access, Edge, EdgeKind, Line, Mode, Verb};
+use graph_terms::why::Why;
 use std::alloc::Global;
 use std::test::Fail;
 

@@ -2,8 +2,8 @@
 
 use explanations::paths::{shortest_cycle, shortest_path};
 use graph_model::graph::Graph;
-use graph_model::verb::Edge;
 use graph_reader::read_graph;
+use graph_terms::verb::Edge;
 use std::alloc::Global;
 use std::test::Fail;
 use test_texts::graphs::WAITER_ABOVE_TRIGGER;

@@ -1,8 +1,8 @@
 //! Where two lines that conflict meet.
 
 use explanations::races::{SharedPoint, least_shared};
-use graph_model::verb::{Access, Mode};
 use graph_reader::read_graph;
+use graph_terms::verb::{Access, Mode};
 use std::alloc::Global;
 use std::test::Fail;
 

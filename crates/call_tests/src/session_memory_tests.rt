@@ -6,7 +6,7 @@ ghost use Rattle.std.specs.Prelude.{IfOk, IfSome};
 ghost use Rattle.session_text.specs.Fits.{AreEntries};
 ghost use Rattle.session_run.specs.Ended.{IsEnded};
 
-use graph_model::checked::Checked;
+use checked_graph::Checked;
 use graph_reader::ReadRefusal;
 use plain_eval::evaluation::eval;
 use realm_session::Answer;

@@ -8,8 +8,8 @@ use Rattle.index_spaces.specs.Column.{ColumnValue}
 use Rattle.index_spaces.specs.Held.{held_at, HoldsOtherwise}
 use Rattle.index_spaces.specs.Run.{reduced_cell}
 use Rattle.index_spaces.proofs.WriteFacts.{holds_over}
-use Rattle.graph_model.specs.meaning.Effect.{cell_after, reduced}
-use Rattle.graph_model.specs.meaning.HeldCells.{HoldsOver}
+use Rattle.graph_meaning.specs.Effect.{cell_after, reduced}
+use Rattle.graph_meaning.specs.HeldCells.{HoldsOver}
 
 -- a reduction of two cells is what the change leaves
 pub reduced_is : (o : Op) (a b : ℕ) → reduced_cell o a b ≡ cell_after (reduced o b) a

@@ -5,10 +5,10 @@ ghost use Rattle.std.specs.Prelude.{◌≢◌};
 ghost use Rattle.index_spaces.specs.Space.{IsWithin};
 ghost use Rattle.index_spaces.specs.Column.{cell_of};
 ghost use Rattle.index_spaces.specs.Run.{reduced_cell, WritesPoints};
-ghost use Rattle.graph_model.specs.declared.graph.verb.Verb.TheVariants.{Fill, Copy, Reduce};
-ghost use Rattle.graph_model.specs.meaning.HeldCells.{HoldsOver, MakesVerb};
+ghost use Rattle.graph_terms.specs.declared.verb.Verb.TheVariants.{Fill, Copy, Reduce};
+ghost use Rattle.graph_meaning.specs.HeldCells.{HoldsOver, MakesVerb};
 
-use graph_model::held_cells::{cells_by_point, changes_by_point};
+use graph_meaning::held_cells::{cells_by_point, changes_by_point};
 use index_spaces::Op;
 use index_spaces::column::Column;
 use index_spaces::held::Held;

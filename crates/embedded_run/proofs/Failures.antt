@@ -2,15 +2,15 @@
 use Rattle.std.proofs.Common.{◌≡◌, ◌∙◌, refl, sym, subst, ap₂, ℕ, ◌≤◌, Bool, true, false, ap, arith}
 use Rattle.std.specs.Prelude.{Option, None, Result, Ok, Err, IfErr}
 use Rattle.std.proofs.lemmas.Option.{none-some}
-use Rattle.graph_model.specs.declared.graph.why.Why.{Why}
-use Rattle.graph_model.specs.declared.graph.decl.Decl.{Decl}
-use Rattle.graph_model.specs.declared.graph.verb.Line.{Line}
-use Rattle.graph_model.specs.graph.Graph.{GraphValue}
-use Rattle.graph_model.specs.graph.Fits.{decl_fault, line_fault}
+use Rattle.graph_terms.specs.declared.why.Why.{Why}
+use Rattle.graph_terms.specs.declared.decl.Decl.{Decl}
+use Rattle.graph_terms.specs.declared.verb.Line.{Line}
+use Rattle.graph_terms.specs.Graph.{GraphValue}
+use Rattle.graph_terms.specs.Fits.{decl_fault, line_fault}
 use Rattle.embedded_run.specs.declared.failure.Failure.{Failure}
 use Rattle.embedded_run.specs.declared.failure.Failure.TheVariants.{Item, Graph, Slots, NoMemory, Output}
-use Rattle.graph_model.specs.meaning.Need.{IsNeed}
-use Rattle.graph_model.specs.meaning.Rules.{Accepted}
+use Rattle.graph_meaning.specs.Need.{IsNeed}
+use Rattle.graph_meaning.specs.Rules.{Accepted}
 use Rattle.race_check.specs.declared.checked.CheckRefusal.{CheckRefusal}
 use Rattle.race_check.specs.declared.checked.CheckRefusal.TheVariants as refusal
 use Rattle.race_check.specs.Refusal.{IsRefusal}

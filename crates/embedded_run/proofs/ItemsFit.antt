@@ -2,10 +2,10 @@
 use Rattle.std.proofs.Common.{◌≡◌, List, [], ◌∷◌, refl}
 use Rattle.std.specs.Prelude.{None}
 use Rattle.std.specs.Fmt.{digits}
-use Rattle.graph_model.specs.declared.graph.decl.Decl.{Decl}
-use Rattle.graph_model.specs.declared.graph.format.Format.TheVariants.{One}
-use Rattle.graph_model.specs.graph.Graph.{GraphValue}
-use Rattle.graph_model.specs.graph.Fits.{decl_fault, line_fault}
+use Rattle.graph_terms.specs.declared.decl.Decl.{Decl}
+use Rattle.graph_terms.specs.declared.format.Format.TheVariants.{One}
+use Rattle.graph_terms.specs.Graph.{GraphValue}
+use Rattle.graph_terms.specs.Fits.{decl_fault, line_fault}
 use Rattle.embedded_run.specs.SumGraph.{points_decl, columns_decl, lined, one_fill, other_fill, both_fills, sum}
 
 -- the graph with these declarations

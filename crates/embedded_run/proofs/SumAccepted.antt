@@ -4,16 +4,16 @@ use Rattle.std.specs.Prelude.{Contains, IsTrue, option_map}
 use Rattle.std.specs.Option.{option_map_or}
 use Rattle.std.proofs.lemmas.Bool.{true≢false}
 use Rattle.basics.proofs.ListFacts.{contains_cases, contains_here, contains_there, contains_none}
-use Rattle.graph_model.specs.declared.graph.verb.Access.{Access}
-use Rattle.graph_model.specs.declared.graph.verb.Edge.{Edge}
-use Rattle.graph_model.specs.declared.graph.verb.EdgeKind.TheVariants.{Passes}
-use Rattle.graph_model.specs.declared.graph.verb.Line.{Line}
-use Rattle.graph_model.specs.declared.graph.verb.Mode.TheVariants.{Write}
-use Rattle.graph_model.specs.graph.Graph.{line_passes, is_acquire_of, is_release_of}
-use Rattle.graph_model.specs.graph.Access.{access, accesses}
-use Rattle.graph_model.specs.graph.Edges.{edge, edges}
-use Rattle.graph_model.specs.meaning.Path.{HasPath, last, first}
-use Rattle.graph_model.specs.meaning.Rules.{RaceAt, EverywhereTwice, Accepted}
+use Rattle.graph_terms.specs.declared.verb.Access.{Access}
+use Rattle.graph_terms.specs.declared.verb.Edge.{Edge}
+use Rattle.graph_terms.specs.declared.verb.EdgeKind.TheVariants.{Passes}
+use Rattle.graph_terms.specs.declared.verb.Line.{Line}
+use Rattle.graph_terms.specs.declared.verb.Mode.TheVariants.{Write}
+use Rattle.graph_terms.specs.Graph.{line_passes, is_acquire_of, is_release_of}
+use Rattle.graph_terms.specs.Access.{access, accesses}
+use Rattle.graph_terms.specs.Edges.{edge, edges}
+use Rattle.graph_meaning.specs.Path.{HasPath, last, first}
+use Rattle.graph_meaning.specs.Rules.{RaceAt, EverywhereTwice, Accepted}
 use Rattle.embedded_run.specs.SumGraph.{sum_graph}
 
 -- the fills lead to the merge, and the merge to the sum

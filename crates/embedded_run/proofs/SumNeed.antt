@@ -2,7 +2,7 @@
 use Rattle.std.proofs.Common.{ℕ, zero, suc, ◌≤◌, List, [], ◌∷◌, length, take, arith}
 use Rattle.std.specs.Prelude.{nat_lt}
 use Rattle.std.proofs.lemmas.List.Sums.{count_by-le-length}
-use Rattle.graph_model.specs.meaning.Need.{open_at, IsNeed}
+use Rattle.graph_meaning.specs.Need.{open_at, IsNeed}
 use Rattle.embedded_run.specs.SumGraph.{sum_graph}
 
 take_few : (k : ℕ) (xs : List ℕ) → length (take k xs) ≤ k

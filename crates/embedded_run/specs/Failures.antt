@@ -1,9 +1,9 @@
 -- The cause of each failure.
 use Rattle.std.specs.Prelude.{◌≡◌, ℕ, ◌<◌, Option, Some}
-use Rattle.graph_model.specs.declared.graph.why.Why.{Why}
-use Rattle.graph_model.specs.graph.Graph.{GraphValue}
-use Rattle.graph_model.specs.meaning.Need.{IsNeed}
-use Rattle.graph_model.specs.meaning.Rules.{Accepted}
+use Rattle.graph_terms.specs.declared.why.Why.{Why}
+use Rattle.graph_terms.specs.Graph.{GraphValue}
+use Rattle.graph_meaning.specs.Need.{IsNeed}
+use Rattle.graph_meaning.specs.Rules.{Accepted}
 use Rattle.race_check.specs.declared.checked.CheckRefusal.{CheckRefusal}
 use Rattle.race_check.specs.declared.checked.CheckRefusal.TheVariants as refusal
 use Rattle.race_check.specs.Refusal.{IsRefusal}

@@ -1,18 +1,18 @@
 //! Building a graph item by item.
 
 ghost use Rattle.std.specs.Prelude.{◌≡◌, [], ◌∷◌, IsTrue, IfOk, IfErr, OnOk};
-ghost use Rattle.graph_model.specs.declared.graph.format.Format.TheVariants.{One};
-ghost use Rattle.graph_model.specs.graph.Name.{is_name};
-ghost use Rattle.graph_model.specs.graph.Fits.{decl_fault, line_fault, with_decl, with_line};
+ghost use Rattle.graph_terms.specs.declared.format.Format.TheVariants.{One};
+ghost use Rattle.graph_terms.specs.Name.{is_name};
+ghost use Rattle.graph_terms.specs.Fits.{decl_fault, line_fault, with_decl, with_line};
 ghost use Rattle.embedded_run.specs.Failures.{IsItemFailure};
 ghost use Rattle.embedded_run.specs.SumGraph.{points_decl, columns_decl, sum_decls, one_fill, other_fill, both_fills, lined, sum_graph};
 
 use crate::failure::Failure;
-use graph_model::decl::Decl;
 use graph_model::graph::Graph;
-use graph_model::lists::{LineList, NameList};
-use graph_model::name::Name;
-use graph_model::verb::{Line, Verb};
+use graph_terms::decl::Decl;
+use graph_terms::lists::{LineList, NameList};
+use graph_terms::name::Name;
+use graph_terms::verb::{Line, Verb};
 use index_spaces::space::Space;
 use index_spaces::{NoMemory, Op};
 use std::alloc::Global;

@@ -3,7 +3,7 @@
 ghost use Rattle.std.specs.Prelude.{◌≡◌};
 ghost use Rattle.embedded_run.specs.declared.failure.Failure.{Failure};
 
-use graph_model::why::Why;
+use graph_terms::why::Why;
 use index_spaces::NoMemory;
 use race_check::checked::CheckRefusal;
 use std::io;

@@ -1,13 +1,13 @@
 //! Reading an outcome.
 
 ghost use Rattle.std.specs.Prelude.{◌≡◌, IfOk, IfErr};
-ghost use Rattle.graph_model.specs.meaning.Evaluation.{outcome};
+ghost use Rattle.graph_meaning.specs.Evaluation.{outcome};
 ghost use Rattle.embedded_run.specs.SumGraph.{sum_graph};
 
 use crate::building::sum_graph;
 use crate::failure::Failure;
 use crate::running::run_graph;
-use graph_model::outcome::{End, Outcome};
+use graph_terms::outcome::{End, Outcome};
 use realm_io::Gate;
 use std::alloc::Global;
 use std::sync::Wait;

@@ -1,14 +1,14 @@
 //! Checking a graph, and running it by workers.
 
 ghost use Rattle.std.specs.Prelude.{◌≡◌, ◌<◌, ◌≤◌, length, IfOk, IfErr};
-ghost use Rattle.graph_model.specs.meaning.Evaluation.{outcome};
-ghost use Rattle.graph_model.specs.meaning.Trace.{IsLawful};
+ghost use Rattle.graph_meaning.specs.Evaluation.{outcome};
+ghost use Rattle.graph_meaning.specs.Trace.{IsLawful};
 ghost use Rattle.embedded_run.specs.Failures.{failure_of, IsRunFailure};
 
 use crate::failure::Failure;
 use free_engine::{HintQueue, run_free};
 use graph_model::graph::Graph;
-use graph_model::outcome::Outcome;
+use graph_terms::outcome::Outcome;
 use index_spaces::NoMemory;
 use race_check::check;
 use race_check::checked::{CheckRefusal, Checked};

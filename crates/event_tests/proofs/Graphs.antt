@@ -2,7 +2,7 @@
 use Rattle.std.proofs.Common.{◌≡◌, ℕ, zero, suc, ◌+◌, ◌≤◌, List, [], ◌∷◌, ◌++◌, length, map, sym, refl, ap, ◌∙◌, subst, arith, Result, Ok, Err}
 use Rattle.std.specs.Prelude.{slice_index_or, IfOk, OnOk, OnErr}
 use Rattle.std.proofs.lemmas.List.{length-append, length-map}
-use Rattle.graph_model.specs.declared.meaning.outcome.End.{End}
+use Rattle.graph_terms.specs.declared.outcome.End.{End}
 use Rattle.realm_session.specs.declared.line.Line.{Line}
 use Rattle.realm_session.specs.declared.refusal.RecordRefusal.{RecordRefusal}
 use Rattle.realm_session.specs.Recorded.{RecordedGraphs, Adds, graph_at, end_in}

@@ -7,8 +7,8 @@ ghost use Rattle.realm_session.specs.Recorded.{IsRecorded, graph_at};
 ghost use Rattle.realm_session.specs.Sessions.{recorded_by, IsRecorderOf, IsSeatOf, Tells};
 ghost use Rattle.realm_session.specs.declared.line.Line.{Line as TheLine};
 
-use graph_model::lists::EndList;
-use graph_model::outcome::End;
+use graph_terms::lists::EndList;
+use graph_terms::outcome::End;
 use realm_session::{Answer, Handle, Left, RecordRefusal, Recorder, Seat, Session};
 use std::alloc::{AllocError, Global};
 

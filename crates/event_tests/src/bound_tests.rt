@@ -5,8 +5,8 @@ ghost use Rattle.realm_session.specs.Recorded.{graph_at};
 ghost use Rattle.realm_session.specs.Sessions.{recorded_by, IsRecorderOf};
 
 use crate::asking::{ends_of, enter_times, graph_answers, handles_of, left_answers, record_graph};
-use graph_model::lists::EndList;
-use graph_model::outcome::End;
+use graph_terms::lists::EndList;
+use graph_terms::outcome::End;
 use realm_session::{Answer, RecordRefusal, Recorder, Session};
 use std::alloc::{AllocError, Global};
 use std::test::Fail;

@@ -5,7 +5,7 @@ ghost use Rattle.realm_session.specs.Recorded.{graph_at};
 ghost use Rattle.realm_session.specs.Sessions.{recorded_by, IsRecorderOf};
 
 use crate::asking::{ends_of, graph_answers, record_graph};
-use graph_model::outcome::End;
+use graph_terms::outcome::End;
 use realm_session::{Answer, Recorder, Session};
 use std::test::Fail;
 

@@ -8,7 +8,7 @@ ghost use Rattle.realm_session.specs.Sessions.{recorded_by, IsRecorderOf, IsSeat
 
 use crate::asking::{ends_of, enter_times, record_graph};
 use crate::session_tests::{ONE, ONE_ANSWERS, TWO};
-use graph_model::lists::EndList;
+use graph_terms::lists::EndList;
 use realm_session::{Handle, Recorder, Seat, Session};
 use std::alloc::Global;
 use std::test::Fail;

@@ -7,14 +7,14 @@ use Rattle.std.proofs.lemmas.Bool.{true≢false, eq-eqb, eqb-true}
 use Rattle.std.proofs.lemmas.Option.{none-some, same_Some, cond_some}
 use Rattle.std.proofs.lemmas.List.Elements.{Contains-append_cases}
 use Rattle.basics.proofs.ListFacts.{contains_none, contains_cases, map_contains, passes_some, some_passes, got_behind, got_in}
-use Rattle.graph_model.specs.declared.graph.verb.Edge.{Edge}
-use Rattle.graph_model.specs.declared.graph.verb.EdgeKind.{EdgeKind}
-use Rattle.graph_model.specs.declared.graph.verb.EdgeKind.TheVariants.{Passes, Ignores, Faults}
-use Rattle.graph_model.specs.declared.graph.verb.Line.{Line}
-use Rattle.graph_model.specs.declared.graph.verb.Verb.{Verb}
-use Rattle.graph_model.specs.declared.graph.verb.Verb.TheVariants as verb
-use Rattle.graph_model.specs.graph.Graph.{GraphValue, verb_at, is_phase_of}
-use Rattle.graph_model.specs.graph.Edges.{edge, last_place, edges_from_some, verb_edges, line_edges, edges_after, edges}
+use Rattle.graph_terms.specs.declared.verb.Edge.{Edge}
+use Rattle.graph_terms.specs.declared.verb.EdgeKind.{EdgeKind}
+use Rattle.graph_terms.specs.declared.verb.EdgeKind.TheVariants.{Passes, Ignores, Faults}
+use Rattle.graph_terms.specs.declared.verb.Line.{Line}
+use Rattle.graph_terms.specs.declared.verb.Verb.{Verb}
+use Rattle.graph_terms.specs.declared.verb.Verb.TheVariants as verb
+use Rattle.graph_terms.specs.Graph.{GraphValue, verb_at, is_phase_of}
+use Rattle.graph_terms.specs.Edges.{edge, last_place, edges_from_some, verb_edges, line_edges, edges_after, edges}
 use Rattle.explain_graph.specs.declared.causes.Cause.{Cause}
 use Rattle.explain_graph.specs.declared.causes.Cause.TheVariants.{On, Merge, MergeIgnore, Trigger, Cancel, Arrival, PhaseOrder}
 use Rattle.explain_graph.specs.Causes.{IsCause, is_on, source_cause, order_cause, target_cause}

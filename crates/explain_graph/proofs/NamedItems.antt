@@ -3,14 +3,14 @@ use Rattle.std.proofs.Common.{ℕ, ◌<◌, inl, inr, List, [], ◌∷◌, lengt
 use Rattle.std.specs.Prelude.{Contains, Option, Some, None, IsTrue, IfSome, MatchOption, Vec}
 use Rattle.std.specs.Global.{Global}
 use Rattle.basics.proofs.ListFacts.{contains_none, contains_cases}
-use Rattle.graph_model.specs.declared.graph.verb.Edge.{Edge}
-use Rattle.graph_model.specs.graph.Graph.{GraphValue, line_passes, is_phase, never_comes}
-use Rattle.graph_model.specs.graph.Edges.{edges}
-use Rattle.graph_model.specs.graph.Fits.{IsGraph}
-use Rattle.graph_model.specs.meaning.Laws.{EdgesBetweenLines}
-use Rattle.graph_model.specs.meaning.LineLaws.{AccessesFit}
-use Rattle.graph_model.specs.meaning.Path.{HasPath}
-use Rattle.graph_model.proofs.ReleaseFacts.{acquired_lock_known}
+use Rattle.graph_terms.specs.declared.verb.Edge.{Edge}
+use Rattle.graph_terms.specs.Graph.{GraphValue, line_passes, is_phase, never_comes}
+use Rattle.graph_terms.specs.Edges.{edges}
+use Rattle.graph_terms.specs.Fits.{IsGraph}
+use Rattle.graph_meaning.specs.Laws.{EdgesBetweenLines}
+use Rattle.graph_meaning.specs.LineLaws.{AccessesFit}
+use Rattle.graph_meaning.specs.Path.{HasPath}
+use Rattle.graph_terms.proofs.ReleaseFacts.{acquired_lock_known}
 use Rattle.race_check.specs.declared.checked.CheckRefusal.{CheckRefusal}
 use Rattle.race_check.specs.declared.checked.CheckRefusal.TheVariants as refusal
 use Rattle.race_check.specs.Refusal.{NamesLines}

@@ -4,14 +4,14 @@ use Rattle.std.specs.Prelude.{Option, Some, None, IsTrue, IfSome, MatchOption, V
 use Rattle.std.specs.Global.{Global}
 use Rattle.std.proofs.lemmas.Bool.{true≢false, cases_lt}
 use Rattle.std.proofs.lemmas.Option.{same_Some}
-use Rattle.graph_model.specs.declared.graph.verb.Edge.{Edge}
-use Rattle.graph_model.specs.graph.Graph.{GraphValue, line_passes, is_phase, is_acquire_of, never_comes}
-use Rattle.graph_model.specs.graph.Fits.{IsGraph}
-use Rattle.graph_model.specs.meaning.Path.{HasPath}
-use Rattle.graph_model.specs.meaning.Reservations.{lock_at, acquire_at}
-use Rattle.graph_model.specs.meaning.Rules.{Releases, SectionAt, DescendsAt}
-use Rattle.graph_model.proofs.VerbFacts.{passes_below, release_one}
-use Rattle.graph_model.proofs.ReleaseFacts.{release_names, one_release}
+use Rattle.graph_terms.specs.declared.verb.Edge.{Edge}
+use Rattle.graph_terms.specs.Graph.{GraphValue, line_passes, is_phase, is_acquire_of, never_comes}
+use Rattle.graph_terms.specs.Fits.{IsGraph}
+use Rattle.graph_meaning.specs.Path.{HasPath}
+use Rattle.graph_terms.specs.Reservations.{lock_at, acquire_at, Releases}
+use Rattle.graph_meaning.specs.Rules.{SectionAt, DescendsAt}
+use Rattle.graph_terms.proofs.VerbFacts.{passes_below, release_one}
+use Rattle.graph_terms.proofs.ReleaseFacts.{release_names, one_release}
 use Rattle.explanations.specs.Paths.{IsShortest}
 use Rattle.explanations.specs.Meetings.{IsNearestCommon}
 use Rattle.explanations.specs.declared.meetings.Meeting.{Meeting}

@@ -1,12 +1,13 @@
 -- What each explanation says of a graph.
 use Rattle.std.specs.Prelude.{◌≡◌, ◌≢◌, ℕ, ◌<◌, ◌≤◌, false, length, Contains, IsTrue, Some, MatchOption, IfSome, List, slice_get}
-use Rattle.graph_model.specs.declared.graph.verb.Line.{Line}
-use Rattle.graph_model.specs.declared.graph.verb.Edge.{Edge}
-use Rattle.graph_model.specs.graph.Edges.{edges}
+use Rattle.graph_terms.specs.declared.verb.Line.{Line}
+use Rattle.graph_terms.specs.declared.verb.Edge.{Edge}
+use Rattle.graph_terms.specs.Edges.{edges}
 use Rattle.explanations.specs.declared.meetings.Meeting.{Meeting}
-use Rattle.graph_model.specs.graph.Graph.{GraphValue, locks, columns, line_passes, is_phase, is_merge_ignore, never_comes}
-use Rattle.graph_model.specs.meaning.Path.{HasPath}
-use Rattle.graph_model.specs.meaning.Rules.{Acquires, Releases, Section, Exempt, modes_commute}
+use Rattle.graph_terms.specs.Graph.{GraphValue, locks, columns, line_passes, is_phase, is_merge_ignore, never_comes}
+use Rattle.graph_meaning.specs.Path.{HasPath}
+use Rattle.graph_terms.specs.Reservations.{Acquires, Releases}
+use Rattle.graph_meaning.specs.Rules.{Section, Exempt, modes_commute}
 use Rattle.race_check.specs.declared.checked.CheckRefusal.{CheckRefusal}
 use Rattle.race_check.specs.declared.checked.CheckRefusal.TheVariants as refusal
 use Rattle.explanations.specs.Paths.{IsShortest}

@@ -2,7 +2,7 @@
 use Rattle.std.specs.Prelude.{◌≡◌, ℕ, ◌<◌, ◌≤◌, ◌⊎◌, List, map, filter_map, length, Option, Some, None, Contains}
 use Rattle.std.specs.List.{slice_index_or}
 use Rattle.std.specs.Option.{option_map_or, option_and_then}
-use Rattle.graph_model.specs.declared.graph.verb.Edge.{Edge}
+use Rattle.graph_terms.specs.declared.verb.Edge.{Edge}
 use Rattle.explanations.specs.Paths.{Leads}
 use Rattle.explanations.specs.Reaches.{reach_at, AreLinked}
 use Rattle.explanations.specs.declared.reaches.Reach.{Reach}

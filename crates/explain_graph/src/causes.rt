@@ -2,13 +2,13 @@
 
 ghost use Rattle.std.specs.Prelude.{◌≡◌, ◌<◌, ◌==◌, length, Contains};
 ghost use Rattle.std.specs.List.{list_any};
-ghost use Rattle.graph_model.specs.graph.Edges.{edges};
+ghost use Rattle.graph_terms.specs.Edges.{edges};
 ghost use Rattle.explain_graph.specs.Causes.{IsCause, cause_in, is_on, source_cause, target_cause};
 
+use graph_meaning::laws::edges_between_lines;
 use graph_model::graph::Graph;
-use graph_model::laws::edges_between_lines;
-use graph_model::lists::LineList;
-use graph_model::verb::{Edge, Line, Verb};
+use graph_terms::lists::LineList;
+use graph_terms::verb::{Edge, Line, Verb};
 
 /// Why a line waits for another, as the lines say it.
 #[derive(Clone, Copy, Debug, PartialEq, Eq)]

@@ -10,9 +10,9 @@ use crate::reasons::{
     explain_conflict, explain_cycle, explain_descends, explain_release, explain_section,
     explain_unreleased,
 };
+use graph_meaning::laws::edges_between_lines;
+use graph_meaning::line_laws::accesses_fit;
 use graph_model::graph::Graph;
-use graph_model::laws::edges_between_lines;
-use graph_model::line_laws::accesses_fit;
 use index_spaces::NoMemory;
 use race_check::checked::CheckRefusal;
 use std::alloc::Global;

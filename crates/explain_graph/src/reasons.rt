@@ -1,15 +1,15 @@
 //! What explains each refusal of the checker.
 
 ghost use Rattle.std.specs.Prelude.{◌≡◌, ℕ, ◌<◌, length, IfOk};
-ghost use Rattle.graph_model.specs.meaning.Rules.{IsCycle, IsUnreleased, IsOutsideSection, IsNotDescending, IsReleaseFault, IsRace, modes_commute};
+ghost use Rattle.graph_meaning.specs.Rules.{IsCycle, IsUnreleased, IsOutsideSection, IsNotDescending, IsReleaseFault, IsRace, modes_commute};
 ghost use Rattle.explain_graph.specs.Explanation.{IsCycleReason, IsUnreleasedReason, IsSectionReason, IsDescendsReason, IsReleaseReason, IsConflictReason};
 
 use explanations::paths::{shortest_cycle, shortest_path};
 use explanations::races::{RaceReason, explain_race};
 use explanations::sections::{freed, lock_of, release_of, sections_of};
+use graph_meaning::laws::edges_between_lines;
 use graph_model::graph::Graph;
-use graph_model::laws::edges_between_lines;
-use graph_model::verb::{Edge, Mode};
+use graph_terms::verb::{Edge, Mode};
 use index_spaces::NoMemory;
 use std::alloc::Global;
 

@@ -2,12 +2,12 @@
 
 ghost use Rattle.std.specs.Prelude.{◌≡◌, ◌≢◌, ℕ, ◌<◌, nat_lt, cond, List, length, None, Some, IfOk, IsSome};
 ghost use Rattle.std.specs.List.{slice_index_or};
-ghost use Rattle.graph_model.specs.declared.graph.verb.Edge.{Edge};
+ghost use Rattle.graph_terms.specs.declared.verb.Edge.{Edge};
 ghost use Rattle.explanations.specs.Reaches.{AreLinked, reach_at};
 ghost use Rattle.explain_graph.specs.Ways.{IsWay, AreFarthest, AreLongest, steps_to};
 
 use explanations::reaches::{Reach, path_to, reach_at};
-use graph_model::verb::Edge;
+use graph_terms::verb::Edge;
 use index_spaces::NoMemory;
 use index_spaces::room::{filled, push};
 use std::alloc::Global;

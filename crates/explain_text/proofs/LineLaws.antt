@@ -3,9 +3,9 @@ use Rattle.std.proofs.Common.{◌≡◌, ℕ, ◌+◌, ◌-◌, List, [], length
 use Rattle.std.specs.Prelude.{Some, slice_get}
 use Rattle.std.specs.List.{join_with_byte}
 use Rattle.std.proofs.lemmas.Option.{get_or_from_slice_get}
-use Rattle.graph_model.specs.declared.graph.verb.Line.{Line}
-use Rattle.graph_model.specs.graph.Graph.{GraphValue}
-use Rattle.graph_model.specs.graph.Spelling.{line_words}
+use Rattle.graph_terms.specs.declared.verb.Line.{Line}
+use Rattle.graph_terms.specs.Graph.{GraphValue}
+use Rattle.graph_terms.specs.Spelling.{line_words}
 use Rattle.graph_reader.specs.Words.{pieces}
 use Rattle.graph_reader.specs.Laws.{StandsAt, OperationsStand, LinesStand, refused_line}
 use Rattle.graph_reader.proofs.TextLines.{lines_stand}

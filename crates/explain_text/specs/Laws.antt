@@ -1,10 +1,10 @@
 -- That what is told as a line of the text is that line.
 use Rattle.std.specs.Prelude.{◌≡◌, ◌-◌, ℕ, List, [], Some, slice_get}
 use Rattle.std.specs.List.{slice_index_or, join_with_byte}
-use Rattle.graph_model.specs.declared.graph.verb.Line.{Line}
-use Rattle.graph_model.specs.declared.graph.why.Why.{Why}
-use Rattle.graph_model.specs.graph.Graph.{GraphValue}
-use Rattle.graph_model.specs.graph.Spelling.{line_words}
+use Rattle.graph_terms.specs.declared.verb.Line.{Line}
+use Rattle.graph_terms.specs.declared.why.Why.{Why}
+use Rattle.graph_terms.specs.Graph.{GraphValue}
+use Rattle.graph_terms.specs.Spelling.{line_words}
 use Rattle.graph_reader.specs.Words.{pieces}
 use Rattle.graph_reader.specs.Text.{GraphText}
 use Rattle.graph_reader.specs.FirstFault.{IsLineFault, IsRestFault, FirstFault}

@@ -2,7 +2,7 @@
 use Rattle.std.specs.Prelude.{◌≡◌, ℕ, zero, suc, is_some, ◌+◌, ◌-◌, ◌||◌, Bool, cond, List, [], ◌∷◌, ◌++◌, take, drop, codes, decimal, ◌<◌, IfSome, Option, Some, None}
 use Rattle.std.specs.List.{slice_index_or}
 use Rattle.std.specs.Str.{bytes_eq}
-use Rattle.graph_model.specs.declared.graph.format.Format.{Format}
+use Rattle.graph_terms.specs.declared.format.Format.{Format}
 use Rattle.graph_reader.specs.Words.{pieces}
 use Rattle.graph_reader.specs.Draft.{Place, NewName, SpaceName, LockName, BarrierName, UserName, PhaseName, AcquireName, EventName, Column}
 use Rattle.graph_reader.specs.FirstFault.{first_piece}

@@ -2,7 +2,7 @@
 
 ghost use Rattle.std.specs.Prelude.{◌≡◌, ◌<◌, ◌++◌, codes, length, Some, Contains, IfSome, OnOk};
 ghost use Rattle.basics.specs.Words.{contents};
-ghost use Rattle.graph_model.specs.graph.Edges.{edges};
+ghost use Rattle.graph_terms.specs.Edges.{edges};
 ghost use Rattle.explanations.specs.Reaches.{end_at};
 ghost use Rattle.explain_graph.specs.Explanation.{AreEdges};
 ghost use Rattle.explain_text.specs.Accepted.{AreByEdges, AreWayEdges, need_text, need_line_text, and_line, waiting_by, waiting_text, fault_word, cancelled_by, cancelled_text, each_text, way_text, ways_text};
@@ -13,9 +13,9 @@ use crate::words::{cause_word, fault_word};
 use explain_graph::{Way, cause_of};
 use explanations::reaches::Reach;
 use graph_model::graph::Graph;
-use graph_model::lists::EndList;
-use graph_model::outcome::End;
-use graph_model::verb::Edge;
+use graph_terms::lists::EndList;
+use graph_terms::outcome::End;
+use graph_terms::verb::Edge;
 use index_spaces::NoMemory;
 
 /// Puts that a graph is accepted, with its need.

@@ -2,7 +2,7 @@
 
 ghost use Rattle.std.specs.Prelude.{◌≡◌, ◌++◌, Contains, codes, OnOk};
 ghost use Rattle.basics.specs.Words.{contents};
-ghost use Rattle.graph_model.specs.graph.Edges.{edges};
+ghost use Rattle.graph_terms.specs.Edges.{edges};
 ghost use Rattle.explain_graph.specs.Explanation.{AreEdges};
 ghost use Rattle.explain_text.specs.Lines.{line_number, line_of, by_number, numbered, waits_for, edge_text, edges_text};
 
@@ -10,7 +10,7 @@ use crate::text::Text;
 use crate::words::cause_word;
 use explain_graph::cause_of;
 use graph_model::graph::Graph;
-use graph_model::verb::Edge;
+use graph_terms::verb::Edge;
 use index_spaces::NoMemory;
 
 /// Puts `line` and the number of a line.

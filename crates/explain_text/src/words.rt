@@ -5,7 +5,7 @@ ghost use Rattle.explain_text.specs.Accepted.{fault_word};
 ghost use Rattle.explain_text.specs.Lines.{cause_word};
 
 use explain_graph::Cause;
-use graph_model::outcome::End;
+use graph_terms::outcome::End;
 
 /// The word for a cause.
 pub(crate) fn cause_word(cause: Cause) -> &'static [u8]

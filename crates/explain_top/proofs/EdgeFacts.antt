@@ -2,10 +2,10 @@
 use Rattle.std.proofs.Common.{◌≡◌, List, sym, subst}
 use Rattle.std.specs.Prelude.{Contains, Option}
 use Rattle.basics.proofs.ListFacts.{filter_contains}
-use Rattle.graph_model.specs.declared.graph.verb.Edge.{Edge}
-use Rattle.graph_model.specs.declared.meaning.outcome.End.{End}
-use Rattle.graph_model.specs.graph.Graph.{GraphValue}
-use Rattle.graph_model.specs.graph.Edges.{edges}
+use Rattle.graph_terms.specs.declared.verb.Edge.{Edge}
+use Rattle.graph_terms.specs.declared.outcome.End.{End}
+use Rattle.graph_terms.specs.Graph.{GraphValue}
+use Rattle.graph_terms.specs.Edges.{edges}
 use Rattle.explanations.specs.Reaches.{AreLinked, carries, fault_edges}
 use Rattle.explanations.specs.declared.reaches.Reach.{Reach}
 use Rattle.explain_graph.specs.declared.ways.Way.{Way}

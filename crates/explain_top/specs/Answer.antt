@@ -2,18 +2,18 @@
 use Rattle.std.specs.Prelude.{◌≡◌, ◌≢◌, ℕ, ◌-◌, ◌<◌, ◌↔◌, Bool, true, false, cond, List, [], ◌++◌, length, map, Contains, Option, Some, None, IfSome, IsSome, MatchOption, option_map}
 use Rattle.basics.specs.Lists.{numbers_below}
 use Rattle.std.specs.List.{slice_index_or}
-use Rattle.graph_model.specs.declared.graph.format.Format.{Format}
-use Rattle.graph_model.specs.declared.graph.why.Why.{Why}
-use Rattle.graph_model.specs.declared.graph.why.Why.TheVariants as reasons
-use Rattle.graph_model.specs.declared.meaning.outcome.End.{End}
-use Rattle.graph_model.specs.declared.meaning.outcome.End.TheVariants.{Cancelled}
-use Rattle.graph_model.specs.graph.Graph.{GraphValue}
-use Rattle.graph_model.specs.graph.Edges.{edges}
-use Rattle.graph_model.specs.meaning.Checked.{CheckedValue}
-use Rattle.graph_model.specs.meaning.Evaluation.{eval_end}
-use Rattle.graph_model.specs.meaning.Need.{IsNeed}
-use Rattle.graph_model.specs.meaning.Path.{Reached}
-use Rattle.graph_model.specs.meaning.Rules.{Accepted}
+use Rattle.graph_terms.specs.declared.format.Format.{Format}
+use Rattle.graph_terms.specs.declared.why.Why.{Why}
+use Rattle.graph_terms.specs.declared.why.Why.TheVariants as reasons
+use Rattle.graph_terms.specs.declared.outcome.End.{End}
+use Rattle.graph_terms.specs.declared.outcome.End.TheVariants.{Cancelled}
+use Rattle.graph_terms.specs.Graph.{GraphValue}
+use Rattle.graph_terms.specs.Edges.{edges}
+use Rattle.checked_graph.specs.Checked.{CheckedValue}
+use Rattle.graph_meaning.specs.Evaluation.{eval_end}
+use Rattle.graph_meaning.specs.Need.{IsNeed}
+use Rattle.graph_meaning.specs.Path.{Reached}
+use Rattle.graph_meaning.specs.Rules.{Accepted}
 use Rattle.graph_reader.specs.Reading.{IsUnreadBy}
 use Rattle.graph_reader.specs.Text.{GraphText}
 use Rattle.graph_reader.specs.Words.{pieces}

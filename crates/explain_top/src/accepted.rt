@@ -3,15 +3,15 @@
 ghost use Rattle.std.specs.Prelude.{◌≡◌, map, length, IfOk, OnOk};
 ghost use Rattle.basics.specs.Lists.{numbers_below};
 ghost use Rattle.basics.specs.Words.{contents};
-ghost use Rattle.graph_model.specs.meaning.Evaluation.{eval_end};
+ghost use Rattle.graph_meaning.specs.Evaluation.{eval_end};
 ghost use Rattle.explain_top.specs.Answer.{IsWaitingText, IsEndsText, IsCancelledText, IsAcceptedText};
 
+use checked_graph::Checked;
 use explain_graph::longest_ways;
 use explain_text::{Text, put_cancelled, put_need, put_need_line, put_waiting, put_ways};
 use explanations::reaches::{cancelled_lines, waiting_lines};
-use graph_model::checked::Checked;
 use graph_model::graph::Graph;
-use graph_model::lists::EndList;
+use graph_terms::lists::EndList;
 use index_spaces::NoMemory;
 use plain_eval::evaluation::eval;
 use race_check::need_line;

@@ -16,10 +16,10 @@ use explain_text::{
     NamedWord, Text, line_at, named_space, named_words, put_ended, put_limit, put_mark,
     put_named_words, put_refused, put_space, put_unread, split_lines,
 };
-use graph_model::format::Format;
 use graph_model::graph::Graph;
-use graph_model::why::Why;
 use graph_reader::{Reading, Unread, read_text};
+use graph_terms::format::Format;
+use graph_terms::why::Why;
 use index_spaces::NoMemory;
 use race_check::check;
 use race_check::checked::{CheckRefusal, Unfit};

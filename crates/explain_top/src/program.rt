@@ -1,8 +1,8 @@
 //! What the program does with its streams.
 
 ghost use Rattle.std.specs.Prelude.{◌≡◌, ◌⊎◌, ℕ, ◌<◌, List, length, Some};
-ghost use Rattle.graph_model.specs.graph.Graph.{GraphValue};
-ghost use Rattle.graph_model.specs.meaning.Rules.{Accepted};
+ghost use Rattle.graph_terms.specs.Graph.{GraphValue};
+ghost use Rattle.graph_meaning.specs.Rules.{Accepted};
 ghost use Rattle.graph_reader.specs.Text.{GraphText};
 ghost use Rattle.realm_io.specs.Counts.{Rose};
 ghost use Rattle.explain_top.specs.Answer.{IsAnswer};
@@ -11,8 +11,8 @@ ghost use Rattle.explain_top.specs.Program.{exit_number, status_of, Answers, IsA
 ghost use Rattle.explain_top.specs.declared.answer.Verdict.{Verdict};
 
 use crate::answer::{Verdict, explain_bytes};
-use graph_model::limits::MAX_TEXT;
 use graph_reader::laws::bytes_have_one_reading;
+use graph_terms::limits::MAX_TEXT;
 use program_io::{ProgramStatus, put_text, put_too_long};
 use realm_io::{ReadEnd, Sink, Source, read_all};
 use std::alloc::Global;

@@ -6,17 +6,17 @@ use Rattle.std.proofs.lemmas.Option.{slice_get_read}
 use Rattle.std.proofs.lemmas.List.FromFn.{get_or-map-range_with_len}
 use Rattle.basics.proofs.ListFacts.{got_contains, filter_contains, contains_filter, passes_some}
 use Rattle.basics.specs.Lists.{numbers_below}
-use Rattle.graph_model.specs.declared.graph.verb.Edge.{Edge}
-use Rattle.graph_model.specs.declared.graph.verb.EdgeKind.{EdgeKind}
-use Rattle.graph_model.specs.declared.graph.verb.EdgeKind.TheVariants.{Passes, Ignores, Faults}
-use Rattle.graph_model.specs.declared.meaning.outcome.End.{End}
-use Rattle.graph_model.specs.declared.meaning.outcome.End.TheVariants.{Done, Faulted, Cancelled, Waiting}
-use Rattle.graph_model.specs.graph.Graph.{GraphValue, never_comes}
-use Rattle.graph_model.specs.graph.Edges.{edges, edges_out_of}
-use Rattle.graph_model.specs.graph.Fits.{IsGraph}
-use Rattle.graph_model.specs.meaning.Path.{HasPath, Reached}
-use Rattle.graph_model.specs.meaning.Evaluation.{cancels, is_ended, eval_end, order, Unbroken, faults, faulted, on}
-use Rattle.graph_model.specs.meaning.Laws.{EdgesBetweenLines, CancelledWhereUnbroken, OrderListsEnded}
+use Rattle.graph_terms.specs.declared.verb.Edge.{Edge}
+use Rattle.graph_terms.specs.declared.verb.EdgeKind.{EdgeKind}
+use Rattle.graph_terms.specs.declared.verb.EdgeKind.TheVariants.{Passes, Ignores, Faults}
+use Rattle.graph_terms.specs.declared.outcome.End.{End}
+use Rattle.graph_terms.specs.declared.outcome.End.TheVariants.{Done, Faulted, Cancelled, Waiting}
+use Rattle.graph_terms.specs.Graph.{GraphValue, never_comes}
+use Rattle.graph_terms.specs.Edges.{edges, edges_out_of}
+use Rattle.graph_terms.specs.Fits.{IsGraph}
+use Rattle.graph_meaning.specs.Path.{HasPath, Reached}
+use Rattle.graph_meaning.specs.Evaluation.{cancels, is_ended, eval_end, order, Unbroken, faults, faulted, on}
+use Rattle.graph_meaning.specs.Laws.{EdgesBetweenLines, CancelledWhereUnbroken, OrderListsEnded}
 use Rattle.explanations.specs.declared.reaches.Reach.{Reach}
 use Rattle.explanations.specs.Paths.{Leads, path_edges}
 use Rattle.explanations.specs.Reaches.{reach_at, end_at, carries, fault_edges, is_faulting, begins_fault, IsNever, IsFault, IsReached, AreLinked}

@@ -5,16 +5,16 @@ use Rattle.std.specs.List.{slice_index_or}
 use Rattle.std.proofs.lemmas.Bool.{cases_lt, eq-eqb, eqb-true}
 use Rattle.std.proofs.lemmas.List.{take_more}
 use Rattle.std.proofs.lemmas.List.Elements.{Contains-get_or, Contains-append_left, Contains-push, Contains-push_cases}
-use Rattle.graph_model.specs.declared.graph.verb.Edge.{Edge}
-use Rattle.graph_model.specs.graph.Graph.{GraphValue}
-use Rattle.graph_model.specs.graph.Edges.{edges}
-use Rattle.graph_model.specs.graph.Fits.{IsGraph}
-use Rattle.graph_model.specs.meaning.Laws.{EdgesBetweenLines}
+use Rattle.graph_terms.specs.declared.verb.Edge.{Edge}
+use Rattle.graph_terms.specs.Graph.{GraphValue}
+use Rattle.graph_terms.specs.Edges.{edges}
+use Rattle.graph_terms.specs.Fits.{IsGraph}
+use Rattle.graph_meaning.specs.Laws.{EdgesBetweenLines}
 use Rattle.explanations.specs.declared.search.Way.{Way}
 use Rattle.explanations.specs.declared.search.Way.TheVariants.{Onward, Back, Faults}
 use Rattle.basics.proofs.ListFacts.{contains_none, filter_contains, contains_filter}
 use Rattle.explanations.specs.Search.{near_end, far_end, way_edges, AreCounts, IsMarking, IsFarEnd, IsFarEndOfSome}
-use Rattle.graph_model.specs.declared.meaning.outcome.End.{End}
+use Rattle.graph_terms.specs.declared.outcome.End.{End}
 use Rattle.explanations.proofs.Marking.{no_edge, some_or, counted_below, marks_more, follow_in, in_follow}
 
 -- the ends of an edge are lines

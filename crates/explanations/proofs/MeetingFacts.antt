@@ -3,10 +3,10 @@ use Rattle.std.proofs.Common.{◌≡◌, ℕ, zero, suc, ◌+◌, ◌<◌, ◌�
 use Rattle.std.specs.Prelude.{Contains, Some, None, Option}
 use Rattle.std.proofs.lemmas.Bool.{cases_lt}
 use Rattle.basics.proofs.ListFacts.{contains_here, contains_cases, contains_none}
-use Rattle.graph_model.specs.declared.graph.verb.Edge.{Edge}
-use Rattle.graph_model.specs.graph.Graph.{GraphValue}
-use Rattle.graph_model.specs.graph.Edges.{edges}
-use Rattle.graph_model.specs.meaning.Path.{HasPath}
+use Rattle.graph_terms.specs.declared.verb.Edge.{Edge}
+use Rattle.graph_terms.specs.Graph.{GraphValue}
+use Rattle.graph_terms.specs.Edges.{edges}
+use Rattle.graph_meaning.specs.Path.{HasPath}
 use Rattle.explanations.specs.Paths.{Leads, IsPath, IsShortest, path_edges}
 use Rattle.explanations.specs.Meetings.{IsLeastBelow}
 use Rattle.explanations.specs.declared.search.Way.TheVariants.{Back}

@@ -5,7 +5,7 @@ use Rattle.std.specs.List.{slice_index_or}
 use Rattle.std.proofs.lemmas.List.{take_more, take_all}
 use Rattle.std.proofs.lemmas.List.Elements.{Contains-append_left, Contains-push, Contains-push_cases}
 use Rattle.basics.proofs.ListFacts.{contains_none}
-use Rattle.graph_model.specs.declared.graph.verb.Edge.{Edge}
+use Rattle.graph_terms.specs.declared.verb.Edge.{Edge}
 use Rattle.explanations.specs.Search.{IsNearest}
 use Rattle.explanations.proofs.Marking.{no_edge}
 

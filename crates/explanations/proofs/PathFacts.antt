@@ -4,10 +4,10 @@ use Rattle.std.specs.Prelude.{Contains, Option, Some, None, Result, Ok, Err, Vec
 use Rattle.std.specs.Global.{Global}
 use Rattle.index_spaces.specs.declared.NoMemory.{NoMemory}
 use Rattle.basics.proofs.ListFacts.{contains_here, contains_cases, contains_none}
-use Rattle.graph_model.specs.declared.graph.verb.Edge.{Edge}
-use Rattle.graph_model.specs.graph.Graph.{GraphValue}
-use Rattle.graph_model.specs.graph.Edges.{edges}
-use Rattle.graph_model.specs.meaning.Path.{Path, last, first, HasPath}
+use Rattle.graph_terms.specs.declared.verb.Edge.{Edge}
+use Rattle.graph_terms.specs.Graph.{GraphValue}
+use Rattle.graph_terms.specs.Edges.{edges}
+use Rattle.graph_meaning.specs.Path.{Path, last, first, HasPath}
 use Rattle.explanations.specs.Paths.{Leads, IsPath, IsShortest, path_edges, PathsAreLists}
 use Rattle.explanations.specs.declared.search.Way.TheVariants.{Back}
 use Rattle.explanations.specs.Search.{near_end, far_end, AreCounts, LeadsBack, IsTrail}

@@ -6,14 +6,14 @@ use Rattle.std.proofs.lemmas.Bool.{cases_lt}
 use Rattle.std.proofs.lemmas.Option.{none-some, same_Some}
 use Rattle.std.proofs.lemmas.List.Elements.{Contains-append_left, Contains-push, Contains-push_cases}
 use Rattle.basics.proofs.ListFacts.{contains_here, contains_cases, contains_none}
-use Rattle.graph_model.specs.declared.graph.verb.Verb.{Verb}
-use Rattle.graph_model.specs.declared.graph.verb.Verb.TheVariants.{Acquire, Release}
-use Rattle.graph_model.specs.graph.Graph.{GraphValue, verb_at, is_release_of}
-use Rattle.graph_model.specs.graph.Edges.{edges}
-use Rattle.graph_model.specs.meaning.Path.{HasPath}
-use Rattle.graph_model.specs.meaning.Reservations.{taken_by, freed_by, lock_at, acquire_at}
-use Rattle.graph_model.specs.meaning.Rules.{Acquires, Releases, Section, NoCycleAt}
-use Rattle.graph_model.proofs.VerbFacts.{passes_below, release_is, is_release_from, acquire_is, is_acquire_from}
+use Rattle.graph_terms.specs.declared.verb.Verb.{Verb}
+use Rattle.graph_terms.specs.declared.verb.Verb.TheVariants.{Acquire, Release}
+use Rattle.graph_terms.specs.Graph.{GraphValue, verb_at, is_release_of}
+use Rattle.graph_terms.specs.Edges.{edges}
+use Rattle.graph_meaning.specs.Path.{HasPath}
+use Rattle.graph_terms.specs.Reservations.{taken_by, freed_by, lock_at, acquire_at, Acquires, Releases}
+use Rattle.graph_meaning.specs.Rules.{Section, NoCycleAt}
+use Rattle.graph_terms.proofs.VerbFacts.{passes_below, release_is, is_release_from, acquire_is, is_acquire_from}
 use Rattle.explanations.specs.declared.search.Way.TheVariants.{Back}
 use Rattle.explanations.specs.Paths.{Leads, path_edges}
 use Rattle.explanations.specs.Search.{near_end, far_end, origin_at, AreCounts, AreOrigins, IsFound}

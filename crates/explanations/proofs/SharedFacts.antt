@@ -8,9 +8,9 @@ use Rattle.std.proofs.lemmas.Bool.Decides.{nat_tests}
 use Rattle.std.proofs.lemmas.Option.{none-some, slice_get_within, get_or_from_slice_get, slice_get-get_or}
 use Rattle.std.proofs.lemmas.List.{take_more, take_all}
 use Rattle.std.proofs.lemmas.List.Elements.{Contains-append_left, Contains-push, Contains-push_cases}
-use Rattle.graph_model.specs.declared.graph.verb.Access.{Access}
-use Rattle.graph_model.specs.graph.Graph.{GraphValue}
-use Rattle.graph_model.specs.graph.Access.{Conflict}
+use Rattle.graph_terms.specs.declared.verb.Access.{Access}
+use Rattle.graph_terms.specs.Graph.{GraphValue}
+use Rattle.graph_terms.specs.Access.{Conflict}
 use Rattle.explanations.specs.declared.races.SharedPoint.{SharedPoint}
 use Rattle.explanations.specs.Shared.{AreUses, IsLeastShared, IsLeastAmong, is_before, lesser_of}
 

@@ -4,7 +4,7 @@ use Rattle.std.specs.Prelude.{Contains, ◌==◌, filter, Some, None}
 use Rattle.std.proofs.lemmas.Bool.{eq-eqb, eqb-true}
 use Rattle.std.proofs.lemmas.List.{length_push}
 use Rattle.basics.proofs.ListFacts.{filter_contains, contains_filter}
-use Rattle.graph_model.specs.declared.graph.verb.Edge.{Edge}
+use Rattle.graph_terms.specs.declared.verb.Edge.{Edge}
 use Rattle.explanations.specs.Search.{AreCounts, IsNearest, LeadsBack, IsTrail}
 
 -- a trail under way: edges back as far as line `at`

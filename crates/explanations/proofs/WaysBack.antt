@@ -4,7 +4,7 @@ use Rattle.std.specs.Prelude.{Option, Some, None, reverse}
 use Rattle.std.specs.Option.{option_and_then, option_map_or}
 use Rattle.std.proofs.lemmas.Option.{none-some, same_Some}
 use Rattle.std.proofs.lemmas.List.{reverse-append, length-reverse, length_push}
-use Rattle.graph_model.specs.declared.graph.verb.Edge.{Edge}
+use Rattle.graph_terms.specs.declared.verb.Edge.{Edge}
 use Rattle.explanations.specs.declared.reaches.Reach.{Reach}
 use Rattle.explanations.specs.Paths.{Leads}
 use Rattle.explanations.specs.Reaches.{reach_at, AreLinked}

@@ -1,7 +1,7 @@
 -- Lines that two lines both come after.
 use Rattle.std.specs.Prelude.{ℕ, ◌+◌, ◌<◌, ◌≤◌, List, length, Option, MatchOption}
-use Rattle.graph_model.specs.declared.graph.verb.Edge.{Edge}
-use Rattle.graph_model.specs.graph.Graph.{GraphValue}
+use Rattle.graph_terms.specs.declared.verb.Edge.{Edge}
+use Rattle.graph_terms.specs.Graph.{GraphValue}
 use Rattle.explanations.specs.Paths.{IsPath, IsShortest}
 use Rattle.explanations.specs.declared.meetings.Meeting.{Meeting}
 

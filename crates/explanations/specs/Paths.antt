@@ -1,9 +1,9 @@
 -- Paths as lists of edges that can be followed one by one.
 use Rattle.std.specs.Prelude.{◌≡◌, ℕ, ◌<◌, ◌≤◌, List, [], ◌∷◌, length, Contains}
-use Rattle.graph_model.specs.declared.graph.verb.Edge.{Edge}
-use Rattle.graph_model.specs.graph.Graph.{GraphValue}
-use Rattle.graph_model.specs.graph.Edges.{edges}
-use Rattle.graph_model.specs.meaning.Path.{Path, last, first, HasPath}
+use Rattle.graph_terms.specs.declared.verb.Edge.{Edge}
+use Rattle.graph_terms.specs.Graph.{GraphValue}
+use Rattle.graph_terms.specs.Edges.{edges}
+use Rattle.graph_meaning.specs.Path.{Path, last, first, HasPath}
 
 -- the edges lead from line i to line j: each of the list is there, and begins where the one before it ends
 abbrev pub Leads : List Edge → ℕ → ℕ → List Edge → Type 0

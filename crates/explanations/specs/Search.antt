@@ -1,13 +1,13 @@
 -- Searches from some lines along edges, and what they leave: for each line how many lines stand on the way to it, where that way begins, and its last edge.
 use Rattle.std.specs.Prelude.{◌≡◌, ◌≢◌, ℕ, ◌+◌, ◌-◌, ◌<◌, ◌≤◌, ◌==◌, ◌⊎◌, Bool, true, false, cond, List, [], ◌∷◌, length, filter, Contains, count_by, slice_index, Option, Some, None, MatchOption}
 use Rattle.std.specs.List.{slice_index_or}
-use Rattle.graph_model.specs.declared.graph.verb.Edge.{Edge}
-use Rattle.graph_model.specs.declared.meaning.outcome.End.{End}
+use Rattle.graph_terms.specs.declared.verb.Edge.{Edge}
+use Rattle.graph_terms.specs.declared.outcome.End.{End}
 use Rattle.explanations.specs.declared.reaches.Reach.{Reach}
 use Rattle.explanations.specs.declared.search.Origin.{Origin}
 use Rattle.explanations.specs.declared.search.Way.{Way}
 use Rattle.explanations.specs.declared.search.Way.TheVariants.{Onward, Back, Faults}
-use Rattle.graph_model.specs.graph.Graph.{GraphValue, never_comes}
+use Rattle.graph_terms.specs.Graph.{GraphValue, never_comes}
 use Rattle.explanations.specs.Reaches.{carries, end_at, begins_fault}
 
 -- the ends of an edge as a search in this way comes to them

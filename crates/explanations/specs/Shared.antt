@@ -1,9 +1,9 @@
 -- Points at which two lines use one column, not both only to read.
 use Rattle.std.specs.Prelude.{◌≡◌, ℕ, ◌<◌, ◌≤◌, ◌⊎◌, Bool, cond, nat_lt, ◌==◌, ◌&&◌, ◌||◌, Contains, IsTrue, Option, Some, None, MatchOption}
 use Rattle.index_spaces.specs.Space.{has_point}
-use Rattle.graph_model.specs.declared.graph.verb.Access.{Access}
-use Rattle.graph_model.specs.graph.Graph.{GraphValue, space_at}
-use Rattle.graph_model.specs.graph.Access.{accesses, modes_clash}
+use Rattle.graph_terms.specs.declared.verb.Access.{Access}
+use Rattle.graph_terms.specs.Graph.{GraphValue, space_at}
+use Rattle.graph_terms.specs.Access.{accesses, modes_clash}
 use Rattle.explanations.specs.declared.races.SharedPoint.{SharedPoint}
 
 -- two uses of one column, each over a space that has the point, in modes that clash

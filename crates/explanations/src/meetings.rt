@@ -1,13 +1,13 @@
 //! Lines that two lines both come after.
 
 ghost use Rattle.std.specs.Prelude.{◌≡◌, ◌≢◌, ℕ, ◌+◌, ◌<◌, length, slice_index, None, IfOk, IfSome};
-ghost use Rattle.graph_model.specs.meaning.Path.{HasPath};
+ghost use Rattle.graph_meaning.specs.Path.{HasPath};
 ghost use Rattle.explanations.specs.Meetings.{IsNearestCommon, IsLeastBelow};
 
 use crate::paths::shortest_path;
 use crate::search::{Way, search_from};
 use graph_model::graph::Graph;
-use graph_model::verb::Edge;
+use graph_terms::verb::Edge;
 use index_spaces::NoMemory;
 use std::alloc::Global;
 

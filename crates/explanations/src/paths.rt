@@ -1,14 +1,14 @@
 //! Shortest paths and cycles.
 
 ghost use Rattle.std.specs.Prelude.{◌≡◌, ◌<◌, length, None, IfOk, IfSome};
-ghost use Rattle.graph_model.specs.meaning.Path.{HasPath};
-ghost use Rattle.graph_model.specs.meaning.Rules.{NoCycleAt};
+ghost use Rattle.graph_meaning.specs.Path.{HasPath};
+ghost use Rattle.graph_meaning.specs.Rules.{NoCycleAt};
 ghost use Rattle.explanations.specs.Paths.{IsPath, IsShortest};
 
 use crate::search::{Way, search_from};
 use crate::trail::trail;
 use graph_model::graph::Graph;
-use graph_model::verb::Edge;
+use graph_terms::verb::Edge;
 use index_spaces::NoMemory;
 use std::alloc::Global;
 

@@ -2,18 +2,18 @@
 
 ghost use Rattle.std.specs.Prelude.{◌≡◌, ℕ, ◌<◌, ◌≤◌, length, Contains, None, IsTrue, IfOk, IfSome};
 ghost use Rattle.index_spaces.specs.Space.{has_point};
-ghost use Rattle.graph_model.specs.graph.Graph.{named_spaces};
-ghost use Rattle.graph_model.specs.graph.Access.{accesses, modes_clash, Conflict};
-ghost use Rattle.graph_model.specs.meaning.Path.{HasPath};
-ghost use Rattle.graph_model.specs.meaning.Rules.{IsRace};
+ghost use Rattle.graph_terms.specs.Graph.{named_spaces};
+ghost use Rattle.graph_terms.specs.Access.{accesses, modes_clash, Conflict};
+ghost use Rattle.graph_meaning.specs.Path.{HasPath};
+ghost use Rattle.graph_meaning.specs.Rules.{IsRace};
 ghost use Rattle.explanations.specs.Meetings.{IsNearestCommon};
 ghost use Rattle.explanations.specs.Shared.{AreUses, IsLeastShared, IsLeastAmong, lesser_of, is_before};
 
 use crate::meetings::{Meeting, nearest_common};
+use graph_meaning::line_laws::{accesses_are_few, accesses_fit};
 use graph_model::graph::Graph;
-use graph_model::limits::MOST_ACCESSES;
-use graph_model::line_laws::{accesses_are_few, accesses_fit};
-use graph_model::verb::{Access, Mode};
+use graph_terms::limits::MOST_ACCESSES;
+use graph_terms::verb::{Access, Mode};
 use index_spaces::NoMemory;
 use index_spaces::laws::{point_of_rank, points_ascend, rank_of_point};
 use index_spaces::space::Space;

@@ -1,17 +1,17 @@
 //! Searches from some lines, edge by edge, for how far the other lines are from these, and by which edges they are found.
 
 ghost use Rattle.std.specs.Prelude.{◌≡◌, ℕ, ◌+◌, ◌<◌, ◌==◌, List, filter, length, Contains, slice_index, OnOk, IfOk};
-ghost use Rattle.graph_model.specs.declared.graph.verb.Edge.{Edge};
-ghost use Rattle.graph_model.specs.declared.graph.verb.EdgeKind.{EdgeKind};
-ghost use Rattle.graph_model.specs.graph.Edges.{edges};
-ghost use Rattle.graph_model.specs.meaning.Evaluation.{cancels, is_ended};
+ghost use Rattle.graph_terms.specs.declared.verb.Edge.{Edge};
+ghost use Rattle.graph_terms.specs.declared.verb.EdgeKind.{EdgeKind};
+ghost use Rattle.graph_terms.specs.Edges.{edges};
+ghost use Rattle.graph_meaning.specs.Evaluation.{cancels, is_ended};
 ghost use Rattle.explanations.specs.Reaches.{end_at, carries};
 ghost use Rattle.explanations.specs.Search.{near_end, far_end, follows, way_edges, origin_at, no_origin, AreCounts, AreOrigins, IsOrigin, IsMarking, IsFarEnd, IsFarEndOfSome};
 
+use graph_meaning::laws::edges_between_lines;
 use graph_model::graph::Graph;
-use graph_model::laws::edges_between_lines;
-use graph_model::outcome::End;
-use graph_model::verb::{Edge, EdgeKind};
+use graph_terms::outcome::End;
+use graph_terms::verb::{Edge, EdgeKind};
 use index_spaces::NoMemory;
 use index_spaces::room::{filled, push};
 use std::alloc::Global;

@@ -1,13 +1,13 @@
 //! The sections in which a line lies.
 
 ghost use Rattle.std.specs.Prelude.{◌≡◌, ℕ, ◌<◌, ◌↔◌, length, Contains, IfOk, IfSome, IsSome, IsTrue, Some, None};
-ghost use Rattle.graph_model.specs.meaning.Reservations.{acquire_at, lock_at};
-ghost use Rattle.graph_model.specs.meaning.Rules.{NoCycleAt, Releases, Section};
+ghost use Rattle.graph_terms.specs.Reservations.{acquire_at, lock_at, Releases};
+ghost use Rattle.graph_meaning.specs.Rules.{NoCycleAt, Section};
 ghost use Rattle.explanations.specs.Search.{IsFound};
 
 use crate::search::{Way, search_from};
 use graph_model::graph::Graph;
-use graph_model::verb::Verb;
+use graph_terms::verb::Verb;
 use index_spaces::NoMemory;
 use index_spaces::room::push;
 use std::alloc::Global;

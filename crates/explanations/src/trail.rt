@@ -1,14 +1,14 @@
 //! Ways back to a start of a search, by the counts that it left.
 
 ghost use Rattle.std.specs.Prelude.{◌≡◌, ℕ, ◌+◌, ◌<◌, ◌==◌, ◌++◌, ◌∷◌, [], List, filter, length, Contains, slice_index, IfOk, IfSome, MatchOption};
-ghost use Rattle.graph_model.specs.declared.graph.verb.Edge.{Edge};
-ghost use Rattle.graph_model.specs.graph.Edges.{edges};
+ghost use Rattle.graph_terms.specs.declared.verb.Edge.{Edge};
+ghost use Rattle.graph_terms.specs.Edges.{edges};
 ghost use Rattle.explanations.specs.Search.{near_end, far_end, AreCounts, IsNearest, IsTrail};
 
 use crate::search::{Way, near_end};
+use graph_meaning::laws::edges_between_lines;
 use graph_model::graph::Graph;
-use graph_model::laws::edges_between_lines;
-use graph_model::verb::Edge;
+use graph_terms::verb::Edge;
 use index_spaces::NoMemory;
 use index_spaces::room::push;
 use std::alloc::Global;

@@ -10,9 +10,9 @@ use Rattle.std.proofs.lemmas.List.Elements.{filter_map-append}
 use Rattle.basics.specs.Lists.{numbers_below}
 use Rattle.index_spaces.specs.Space.{points}
 use Rattle.realm_io.specs.SinkState.{SinkState}
-use Rattle.graph_model.specs.declared.graph.decl.Decl.{Decl}
-use Rattle.graph_model.specs.graph.Graph.{GraphValue, space_of, columns_of, named_spaces, columns, column_space}
-use Rattle.graph_model.specs.meaning.Evaluation.{order, outcome, column_of, evaluation, cells_of, eval_end}
+use Rattle.graph_terms.specs.declared.decl.Decl.{Decl}
+use Rattle.graph_terms.specs.Graph.{GraphValue, space_of, columns_of, named_spaces, columns, column_space}
+use Rattle.graph_meaning.specs.Evaluation.{order, outcome, column_of, evaluation, cells_of, eval_end}
 use Rattle.graph_reader.specs.Laws.{OneReading}
 use Rattle.command_line.specs.declared.request.Action.TheVariants.{Run, Eval}
 use Rattle.command_line.specs.declared.request.Request.{Request}

@@ -2,9 +2,9 @@
 use Rattle.std.specs.Prelude.{◌≡◌, ◌⊎◌, ℕ, ◌<◌, Bool, List, length, map, Some, slice_get}
 use Rattle.basics.specs.Lists.{numbers_below}
 use Rattle.realm_io.specs.SinkState.{SinkState}
-use Rattle.graph_model.specs.declared.meaning.outcome.Outcome.{Outcome}
-use Rattle.graph_model.specs.graph.Graph.{GraphValue, columns}
-use Rattle.graph_model.specs.meaning.Evaluation.{order, outcome, column_of}
+use Rattle.graph_terms.specs.declared.outcome.Outcome.{Outcome}
+use Rattle.graph_terms.specs.Graph.{GraphValue, columns}
+use Rattle.graph_meaning.specs.Evaluation.{order, outcome, column_of}
 use Rattle.graph_reader.specs.Text.{GraphText}
 use Rattle.command_line.specs.declared.request.Action.TheVariants.{Run, Eval}
 use Rattle.command_line.specs.declared.request.Request.{Request}

@@ -2,10 +2,10 @@
 use Rattle.std.proofs.Common.{◌≡◌, ℕ, Bool, true, false, List, [], ◌++◌, refl, sym, ◌∙◌, ap, append_assoc, arith}
 use Rattle.std.specs.Prelude.{Option, Some, None, is_none, slice_index, IsTrue}
 use Rattle.std.proofs.lemmas.Bool.{true≢false, and_parts}
-use Rattle.graph_model.specs.declared.graph.format.Format.{Format}
-use Rattle.graph_model.specs.declared.graph.format.Format.TheVariants.{One, Two}
-use Rattle.graph_model.specs.graph.Graph.{GraphValue}
-use Rattle.graph_model.specs.graph.Spelling.{header, decls_text, lines_text}
+use Rattle.graph_terms.specs.declared.format.Format.{Format}
+use Rattle.graph_terms.specs.declared.format.Format.TheVariants.{One, Two}
+use Rattle.graph_terms.specs.Graph.{GraphValue}
+use Rattle.graph_terms.specs.Spelling.{header, decls_text, lines_text}
 use Rattle.graph_reader.specs.Text.{closing, GraphText}
 use Rattle.task_flow.specs.Flow.{IsFlow, uses_columns}
 use Rattle.flow_top.specs.FlowText.{flow_header, FlowText, AreFlowLines}

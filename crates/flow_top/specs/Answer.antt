@@ -1,9 +1,9 @@
 -- What is answered for the text of a flow.
 use Rattle.std.specs.Prelude.{◌≡◌, ℕ, ◌+◌, ◌<◌, ◌⊎◌, Bool, false, List, length}
-use Rattle.graph_model.specs.declared.graph.limits.TheConstants.{MAX_TEXT}
-use Rattle.graph_model.specs.declared.graph.why.Why.{Why}
-use Rattle.graph_model.specs.declared.graph.why.Why.TheVariants as why
-use Rattle.graph_model.specs.graph.Graph.{GraphValue}
+use Rattle.graph_terms.specs.declared.limits.TheConstants.{MAX_TEXT}
+use Rattle.graph_terms.specs.declared.why.Why.{Why}
+use Rattle.graph_terms.specs.declared.why.Why.TheVariants as why
+use Rattle.graph_terms.specs.Graph.{GraphValue}
 use Rattle.graph_reader.specs.Text.{text, GraphText}
 use Rattle.task_flow.specs.Construction.{IsFirstOver, is_over, written}
 use Rattle.task_flow.specs.Written.{MeansFlow}

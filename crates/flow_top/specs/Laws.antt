@@ -1,7 +1,7 @@
 -- What ties the answer for a flow to those who read it.
 use Rattle.std.specs.Prelude.{◌≡◌, ℕ, Bool, List}
-use Rattle.graph_model.specs.graph.Graph.{GraphValue}
-use Rattle.graph_model.specs.meaning.Rules.{Accepted}
+use Rattle.graph_terms.specs.Graph.{GraphValue}
+use Rattle.graph_meaning.specs.Rules.{Accepted}
 use Rattle.graph_reader.specs.Text.{GraphText}
 use Rattle.task_flow.specs.Written.{MeansFlow}
 use Rattle.flow_top.specs.FlowText.{FlowText}

@@ -1,8 +1,8 @@
 //! From the text of a flow to that of its graph.
 
 ghost use Rattle.std.specs.Prelude.{◌≡◌, ◌+◌, ◌<◌, ◌^◌, IfOk, IfErr, length, nat_lt};
-ghost use Rattle.graph_model.specs.declared.graph.limits.TheConstants.{MAX_TEXT as most_bytes};
-ghost use Rattle.graph_model.specs.graph.Fits.{IsGraph};
+ghost use Rattle.graph_terms.specs.declared.limits.TheConstants.{MAX_TEXT as most_bytes};
+ghost use Rattle.graph_terms.specs.Fits.{IsGraph};
 ghost use Rattle.graph_reader.specs.Text.{GraphText};
 ghost use Rattle.task_flow.specs.Flow.{IsFlow};
 ghost use Rattle.flow_top.specs.Answer.{IsFlowAnswer, IsAnswerFault, AnswersFlow, IsTooLong, IsFaultOfFlow};
@@ -11,8 +11,8 @@ use crate::FlowFault;
 use crate::reading::read_flow;
 use crate::writing::graph_text;
 use graph_model::graph::Graph;
-use graph_model::limits::MAX_TEXT;
-use graph_model::why::Why;
+use graph_terms::limits::MAX_TEXT;
+use graph_terms::why::Why;
 use std::alloc::Global;
 use task_flow::{FlowRefusal, make_graph};
 

@@ -10,7 +10,7 @@ mod unlike_flow;
 mod writing;
 
 pub use answer::answer_flow;
-use graph_model::why::Why;
+use graph_terms::why::Why;
 use index_spaces::NoMemory;
 pub use reading::read_flow;
 pub use serving::serve_flow;

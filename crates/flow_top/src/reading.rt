@@ -1,9 +1,9 @@
 //! Reading a flow from its text.
 
 ghost use Rattle.std.specs.Prelude.{◌≡◌, ◌<◌, ◌++◌, ℕ, length, None, Some, slice_get, IfOk, IfErr, MatchOption, is_none, ◌&&◌};
-ghost use Rattle.graph_model.specs.graph.Graph.{GraphValue};
-ghost use Rattle.graph_model.specs.graph.Spelling.{header};
-ghost use Rattle.graph_model.specs.declared.graph.format.Format.TheVariants.{One};
+ghost use Rattle.graph_terms.specs.Graph.{GraphValue};
+ghost use Rattle.graph_terms.specs.Spelling.{header};
+ghost use Rattle.graph_terms.specs.declared.format.Format.TheVariants.{One};
 ghost use Rattle.task_flow.specs.Flow.{IsFlow, uses_columns};
 ghost use Rattle.flow_top.specs.FlowText.{flow_header, HasNoFlowHeader, FlowText, AreFlowLines, IsFirstOther, IsFirstUnlikeFlow, IsFaultOfText, IsReadFault, is_flow_line, judged_lines};
 ghost use Rattle.graph_reader.specs.FirstFault.{FirstFault};
@@ -11,10 +11,10 @@ ghost use Rattle.graph_reader.specs.FirstFault.{FirstFault};
 use crate::FlowFault;
 use crate::unlike_flow::is_line_unlike_flow;
 use graph_model::graph::Graph;
-use graph_model::verb::{Line, Verb};
-use graph_model::why::Why;
 use graph_reader::words::{split, word};
 use graph_reader::{ReadRefusal, read_graph};
+use graph_terms::verb::{Line, Verb};
+use graph_terms::why::Why;
 use index_spaces::NoMemory;
 use std::alloc::Global;
 

@@ -3,15 +3,15 @@
 ghost use Rattle.std.specs.Prelude.{◌≡◌, ℕ, ◌≤◌, ◌⊎◌, length, IfOk, IfSome};
 ghost use Rattle.std.specs.Io.KnownBytes.{IsAtEnd};
 ghost use Rattle.realm_io.specs.Counts.{Rose};
-ghost use Rattle.graph_model.specs.declared.graph.limits.TheConstants.{MAX_TEXT as most_bytes};
+ghost use Rattle.graph_terms.specs.declared.limits.TheConstants.{MAX_TEXT as most_bytes};
 ghost use Rattle.flow_top.specs.Served.{refused_text, IsServed};
 ghost use Rattle.std.specs.String.{string_bytes};
 
 use crate::FlowFault;
 use crate::answer::answer_flow;
 use crate::status::FlowStatus;
-use graph_model::limits::MAX_TEXT;
-use graph_model::why::Why;
+use graph_terms::limits::MAX_TEXT;
+use graph_terms::why::Why;
 use index_spaces::NoMemory;
 use program_io::{put_text, put_too_long};
 use realm_io::{ReadEnd, Sink, Source, read_all};

@@ -6,9 +6,9 @@ ghost use Rattle.graph_reader.specs.Reading.{is_operation};
 ghost use Rattle.graph_reader.specs.Words.{pieces};
 ghost use Rattle.flow_top.specs.FlowText.{is_event_kind, waits, is_merge, is_verb_unlike_flow, is_unlike_flow};
 
-use graph_model::format::Format;
-use graph_model::table::Kind;
 use graph_reader::words::{behind, has_on, kind_of, split, word};
+use graph_terms::format::Format;
+use graph_terms::table::Kind;
 use index_spaces::NoMemory;
 use std::alloc::Global;
 

@@ -4,8 +4,8 @@ ghost use Rattle.std.specs.Prelude.{◌≡◌, IfOk};
 ghost use Rattle.graph_reader.specs.Text.{text};
 
 use graph_model::graph::Graph;
-use graph_model::limits::MAX_TEXT;
 use graph_reader::put_graph;
+use graph_terms::limits::MAX_TEXT;
 use index_spaces::NoMemory;
 use index_spaces::room::with_room;
 use realm_io::TextSink;

@@ -1,12 +1,12 @@
 //! A run by workers that share its words.
 
 ghost use Rattle.std.specs.Prelude.{◌≡◌, ◌≤◌, ◌<◌, ℕ, Some, length, slice_get};
-ghost use Rattle.graph_model.specs.meaning.Evaluation.{outcome as evaluated};
-ghost use Rattle.graph_model.specs.meaning.Trace.{IsLawful, SectionsApart};
+ghost use Rattle.graph_meaning.specs.Evaluation.{outcome as evaluated};
+ghost use Rattle.graph_meaning.specs.Trace.{IsLawful, SectionsApart};
 ghost use Rattle.run_words.specs.Words.{graph_of, IsAt, HasAll};
 
 use crate::workers::run_workers;
-use graph_model::outcome::Outcome;
+use graph_terms::outcome::Outcome;
 use idle_workers::Waiting;
 use realm_io::{Gate, Hints};
 use run_words::{WordSeat, Words};

@@ -7,8 +7,8 @@ ghost use Rattle.run_words.specs.Works.{IsWokenOf, IsWorkOf};
 ghost use Rattle.run_words.specs.declared.words.Words.{Words as TheWords};
 
 use graph_model::graph::Graph;
-use graph_model::limits::MOST_ACCESSES;
-use graph_model::verb::Verb;
+use graph_terms::limits::MOST_ACCESSES;
+use graph_terms::verb::Verb;
 use idle_workers::spin;
 use realm_io::Gate;
 use run_core::Issue;

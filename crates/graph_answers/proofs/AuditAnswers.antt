@@ -1,10 +1,10 @@
 -- What follows for the answers of `audit`.
 use Rattle.std.proofs.Common.{◌≡◌, ◌≢◌, ℕ, ◌+◌, ◌<◌, ◌≤◌, List, length, refl, sym, ◌∙◌, subst, inl, inr, arith}
 use Rattle.std.specs.Prelude.{Some}
-use Rattle.graph_model.specs.graph.Graph.{GraphValue}
-use Rattle.graph_model.specs.graph.Fits.{IsGraph}
-use Rattle.graph_model.specs.meaning.Rules.{Accepted}
-use Rattle.graph_model.specs.meaning.Trace.{IsLawful}
+use Rattle.graph_terms.specs.Graph.{GraphValue}
+use Rattle.graph_terms.specs.Fits.{IsGraph}
+use Rattle.graph_meaning.specs.Rules.{Accepted}
+use Rattle.graph_meaning.specs.Trace.{IsLawful}
 use Rattle.graph_reader.specs.Text.{GraphText}
 use Rattle.graph_reader.specs.Laws.{OneReading}
 use Rattle.realm_audit.specs.Parts.{graph_bytes, trace_bytes}

@@ -18,10 +18,10 @@ use Rattle.graph_answers.specs.Delivered.{Delivers, IsAnswered}
 use Rattle.graph_answers.specs.Answer.{report_with, is_short, EndsByPaths, Served, Judged, InputAnswers, EnoughSlots, TooFewSlots, InputAsks}
 use Rattle.graph_answers.specs.Status.{is_refusal}
 use Rattle.graph_answers.specs.Texts.{unfit_text}
-use Rattle.graph_model.specs.graph.Graph.{GraphValue}
-use Rattle.graph_model.specs.meaning.Rules.{Accepted}
-use Rattle.graph_model.specs.meaning.Need.{IsNeed}
-use Rattle.graph_model.specs.meaning.Laws.{OneNeed, WaitsWhereReached, CancelledWhereUnbroken}
+use Rattle.graph_terms.specs.Graph.{GraphValue}
+use Rattle.graph_meaning.specs.Rules.{Accepted}
+use Rattle.graph_meaning.specs.Need.{IsNeed}
+use Rattle.graph_meaning.specs.Laws.{OneNeed, WaitsWhereReached, CancelledWhereUnbroken}
 use Rattle.std.proofs.lemmas.Bool.{true≢false}
 use Rattle.std.proofs.lemmas.Option.{none-some}
 

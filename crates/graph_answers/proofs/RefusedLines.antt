@@ -1,8 +1,8 @@
 -- The line for a text that is refused, where its words are known.
 use Rattle.std.proofs.Common.{◌≡◌, ℕ, List, [], ◌∷◌, ◌∙◌, ap}
 use Rattle.std.specs.Prelude.{codes, decimal}
-use Rattle.graph_model.specs.graph.Spelling.{spelled, why_word}
-use Rattle.graph_model.specs.declared.graph.why.Why.{Why}
+use Rattle.graph_terms.specs.Spelling.{spelled, why_word}
+use Rattle.graph_terms.specs.declared.why.Why.{Why}
 use Rattle.graph_answers.specs.Texts.{unread_text}
 
 -- a line of words, where two of them are known

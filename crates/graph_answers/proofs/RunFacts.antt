@@ -3,8 +3,8 @@ use Rattle.std.proofs.Common.{◌≡◌, ℕ, zero, suc, ◌+◌, ◌<◌, ◌�
 use Rattle.std.specs.Prelude.{Contains, nat_lt}
 use Rattle.std.proofs.lemmas.List.Sums.{count_by-le-length}
 use Rattle.basics.specs.Lists.{numbers_below}
-use Rattle.graph_model.specs.graph.Graph.{GraphValue}
-use Rattle.graph_model.specs.meaning.Need.{open_at, largest, IsNeed}
+use Rattle.graph_terms.specs.Graph.{GraphValue}
+use Rattle.graph_meaning.specs.Need.{open_at, largest, IsNeed}
 use Rattle.basics.proofs.ListFacts.{contains_here, contains_there, map_contains, below_contains}
 
 largest_at_most : (xs : List ℕ) (m : ℕ) → ((x : ℕ) → Contains xs x → x ≤ m) → largest xs ≤ m

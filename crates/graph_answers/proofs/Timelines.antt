@@ -1,7 +1,7 @@
 -- That the text of a timeline has its certificate.
 use Rattle.std.proofs.Common.{◌≡◌, ℕ, ◌+◌, ◌-◌, ◌*◌, ◌≤◌, List, refl, subst}
 use Rattle.std.specs.Prelude.{Option}
-use Rattle.graph_model.specs.graph.Graph.{GraphValue}
+use Rattle.graph_terms.specs.Graph.{GraphValue}
 use Rattle.realm_io.specs.SinkState.{SinkState}
 use Rattle.realm_io.specs.Written.{Wrote, Stopped}
 use Rattle.realm_timeline.specs.Timeline.{TimelineValue}

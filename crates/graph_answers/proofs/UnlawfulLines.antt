@@ -2,9 +2,9 @@
 use Rattle.std.proofs.Common.{◌≡◌, ℕ, List, [], ◌∷◌, sym, ◌∙◌, ap}
 use Rattle.std.specs.Prelude.{codes, decimal, Some, slice_get}
 use Rattle.std.specs.Option.{option_map_or}
-use Rattle.graph_model.specs.graph.Graph.{GraphValue}
-use Rattle.graph_model.specs.declared.graph.verb.Line.{Line}
-use Rattle.graph_model.specs.graph.Spelling.{spelled}
+use Rattle.graph_terms.specs.Graph.{GraphValue}
+use Rattle.graph_terms.specs.declared.verb.Line.{Line}
+use Rattle.graph_terms.specs.Spelling.{spelled}
 use Rattle.graph_answers.specs.Texts.{trace_refused_text, unlawful_without}
 
 pub missing_is : (g : GraphValue) (j : ℕ) (l : Line) (name : List ℕ) → slice_get g.lines j ≡ Some l → name ≡ l.name → spelled (codes "unlawful" ∷ codes "missing" ∷ name ∷ []) ≡ unlawful_without g j

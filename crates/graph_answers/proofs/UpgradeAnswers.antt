@@ -1,6 +1,6 @@
 -- What follows for the answers of `upgrade`.
 use Rattle.std.proofs.Common.{◌≡◌, ℕ, ◌≤◌, List, length, refl, ap, inr}
-use Rattle.graph_model.specs.graph.Graph.{GraphValue, upgraded}
+use Rattle.graph_terms.specs.Graph.{GraphValue, upgraded}
 use Rattle.graph_reader.specs.Text.{GraphText, text}
 use Rattle.graph_reader.specs.Laws.{OneReading}
 use Rattle.realm_io.specs.SinkState.{SinkState}

@@ -1,14 +1,14 @@
 -- What is to be answered, and written, for the text of a graph alone that is checked, and for an accepted graph.
 use Rattle.std.specs.Prelude.{◌≡◌, ℕ, ◌+◌, ◌-◌, ◌*◌, ◌<◌, ◌≤◌, nat_lt, max, Bool, true, false, not, List, [], ◌++◌, length, Option, Some, ◌↔◌}
 use Rattle.realm_io.specs.SinkState.{SinkState}
-use Rattle.graph_model.specs.graph.Graph.{GraphValue}
-use Rattle.graph_model.specs.declared.graph.limits.TheConstants.{MAX_TEXT}
-use Rattle.graph_model.specs.declared.meaning.outcome.End.TheVariants.{Cancelled, Waiting}
-use Rattle.graph_model.specs.meaning.Path.{Reached}
-use Rattle.graph_model.specs.meaning.Rules.{Accepted}
-use Rattle.graph_model.specs.meaning.Need.{IsNeed}
-use Rattle.graph_model.specs.meaning.Trace.{IsLawful}
-use Rattle.graph_model.specs.meaning.Evaluation.{eval_end, outcome, order, Unbroken}
+use Rattle.graph_terms.specs.Graph.{GraphValue}
+use Rattle.graph_terms.specs.declared.limits.TheConstants.{MAX_TEXT}
+use Rattle.graph_terms.specs.declared.outcome.End.TheVariants.{Cancelled, Waiting}
+use Rattle.graph_meaning.specs.Path.{Reached}
+use Rattle.graph_meaning.specs.Rules.{Accepted}
+use Rattle.graph_meaning.specs.Need.{IsNeed}
+use Rattle.graph_meaning.specs.Trace.{IsLawful}
+use Rattle.graph_meaning.specs.Evaluation.{eval_end, outcome, order, Unbroken}
 use Rattle.command_line.specs.declared.request.Action.{Action}
 use Rattle.command_line.specs.declared.request.Action.TheVariants.{Run, Check, Eval, Make, Audit, Timeline, Upgrade, Session}
 use Rattle.command_line.specs.declared.request.Request.{Request}

@@ -1,9 +1,9 @@
 -- What `audit` is to answer, and what it is to write. Its input is the text of a graph, and behind it that of a trace.
 use Rattle.std.specs.Prelude.{◌≡◌, ℕ, ◌*◌, ◌<◌, ◌≤◌, List, length, ◌⊎◌}
-use Rattle.graph_model.specs.graph.Graph.{GraphValue}
-use Rattle.graph_model.specs.declared.graph.limits.TheConstants.{MAX_TEXT}
-use Rattle.graph_model.specs.meaning.Rules.{Accepted}
-use Rattle.graph_model.specs.meaning.Trace.{IsLawful}
+use Rattle.graph_terms.specs.Graph.{GraphValue}
+use Rattle.graph_terms.specs.declared.limits.TheConstants.{MAX_TEXT}
+use Rattle.graph_meaning.specs.Rules.{Accepted}
+use Rattle.graph_meaning.specs.Trace.{IsLawful}
 use Rattle.graph_reader.specs.Text.{GraphText}
 use Rattle.realm_trace.specs.Text.{trace_text}
 use Rattle.realm_audit.specs.Parts.{graph_bytes, trace_bytes}

@@ -1,7 +1,7 @@
 -- What is refused, and the text that says why.
 use Rattle.std.specs.Prelude.{◌≡◌, ℕ, ◌+◌, List, Some}
-use Rattle.graph_model.specs.graph.Graph.{GraphValue}
-use Rattle.graph_model.specs.declared.graph.why.Why.{Why}
+use Rattle.graph_terms.specs.Graph.{GraphValue}
+use Rattle.graph_terms.specs.declared.why.Why.{Why}
 use Rattle.graph_reader.specs.FirstFault.{FirstFault, line_count}
 use Rattle.race_check.specs.declared.checked.CheckRefusal.{CheckRefusal}
 use Rattle.race_check.specs.Refusal.{IsRefusal}

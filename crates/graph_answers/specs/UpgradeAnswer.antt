@@ -1,7 +1,7 @@
 -- What `upgrade` is to answer, and what it is to write.
 use Rattle.std.specs.Prelude.{◌≡◌, ℕ, ◌<◌, ◌≤◌, List, length}
-use Rattle.graph_model.specs.graph.Graph.{GraphValue, upgraded}
-use Rattle.graph_model.specs.declared.graph.limits.TheConstants.{MAX_TEXT}
+use Rattle.graph_terms.specs.Graph.{GraphValue, upgraded}
+use Rattle.graph_terms.specs.declared.limits.TheConstants.{MAX_TEXT}
 use Rattle.graph_reader.specs.Text.{GraphText, text}
 use Rattle.realm_io.specs.SinkState.{SinkState}
 use Rattle.graph_answers.specs.declared.status.Status.{Status}

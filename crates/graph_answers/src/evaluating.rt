@@ -1,14 +1,14 @@
 //! What is answered of an accepted graph by its evaluation.
 
 ghost use Rattle.std.specs.Prelude.{◌≡◌, ℕ, ◌<◌, ◌⊎◌, [], length, Some, slice_get};
-ghost use Rattle.graph_model.specs.meaning.Evaluation.{outcome};
+ghost use Rattle.graph_meaning.specs.Evaluation.{outcome};
 ghost use Rattle.realm_io.specs.Written.{Writes};
 ghost use Rattle.graph_answers.specs.Answer.{evaluation_text, report_with};
 ghost use Rattle.graph_answers.specs.Delivered.{Delivers};
 
 use crate::status::Status;
 use graph_model::graph::Graph;
-use graph_model::outcome::Outcome;
+use graph_terms::outcome::Outcome;
 use plain_eval::evaluation::eval;
 use program_io::flush;
 use race_check::checked::Checked;

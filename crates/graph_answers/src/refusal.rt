@@ -7,7 +7,7 @@ ghost use Rattle.graph_answers.specs.Texts.{unread_text, accepted_text, slots_te
 ghost use Rattle.realm_io.specs.Written.{Writes};
 
 use graph_model::graph::Graph;
-use graph_model::why::Why;
+use graph_terms::why::Why;
 use itoa::Buffer;
 use race_check::checked::CheckRefusal;
 use realm_io::{Sink, WriteFault};

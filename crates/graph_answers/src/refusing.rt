@@ -1,7 +1,7 @@
 //! What is answered where a text or a graph is refused, or a run is given too few slots.
 
 ghost use Rattle.std.specs.Prelude.{◌≡◌, ℕ, List};
-ghost use Rattle.graph_model.specs.declared.graph.why.Why.{Why};
+ghost use Rattle.graph_terms.specs.declared.why.Why.{Why};
 ghost use Rattle.graph_reader.specs.FirstFault.{FirstFault};
 ghost use Rattle.graph_reader.specs.declared.ReadRefusal.TheVariants.{Line};
 ghost use Rattle.race_check.specs.Refusal.{IsRefusal, NamesLines};
@@ -11,8 +11,8 @@ ghost use Rattle.graph_answers.specs.Refused.{Refuses, Rejects};
 
 use crate::refusal::{put_broken, put_slots, put_unread};
 use crate::status::Status;
-use graph_model::why::Why;
 use graph_reader::ReadRefusal;
+use graph_terms::why::Why;
 use program_io::flush;
 use race_check::checked::{CheckRefusal, Unfit};
 use realm_io::Sink;

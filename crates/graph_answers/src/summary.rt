@@ -1,12 +1,12 @@
 //! The line that sums up how a graph that was made ran.
 
 ghost use Rattle.std.specs.Prelude.{◌≡◌, ◌++◌, count_by, sum, decimal, flat_map};
-ghost use Rattle.graph_model.specs.meaning.Effect.{wrapped};
+ghost use Rattle.graph_meaning.specs.Effect.{wrapped};
 ghost use Rattle.realm_io.specs.Written.{Writes};
 ghost use Rattle.graph_answers.specs.Texts.{same_end, cell_sum, made_text};
 
 use graph_model::graph::Graph;
-use graph_model::outcome::{End, Outcome};
+use graph_terms::outcome::{End, Outcome};
 use index_spaces::column::Column;
 use realm_io::{Sink, WriteFault, put_bytes, put_decimal};
 

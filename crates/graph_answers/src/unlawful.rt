@@ -8,7 +8,7 @@ ghost use Rattle.realm_audit.specs.declared.refusal.AuditRefusal.{AuditRefusal};
 ghost use Rattle.graph_answers.specs.Texts.{trace_refused_text, unlawful_at, unlawful_with, unlawful_without, unlawful_text};
 
 use graph_model::graph::Graph;
-use graph_model::lists::LineList;
+use graph_terms::lists::LineList;
 use itoa::Buffer;
 use realm_audit::AuditRefusal;
 use realm_io::{Sink, WriteFault};

@@ -4,20 +4,21 @@ use Rattle.std.specs.Prelude.{Contains, Option, Some, slice_get, option_map}
 use Rattle.std.specs.Option.{option_map_or}
 use Rattle.std.proofs.lemmas.Bool.{true≢false, eq-eqb, and_left}
 use Rattle.std.proofs.lemmas.Option.{same_Some}
-use Rattle.graph_model.specs.declared.graph.verb.Access.{Access}
-use Rattle.graph_model.specs.declared.graph.verb.Edge.{Edge}
-use Rattle.graph_model.specs.declared.graph.verb.EdgeKind.TheVariants.{Passes, Ignores}
-use Rattle.graph_model.specs.declared.graph.verb.Line.{Line}
-use Rattle.graph_model.specs.declared.graph.verb.Mode.TheVariants as mode
-use Rattle.graph_model.specs.declared.graph.verb.Verb.{Verb}
-use Rattle.graph_model.specs.declared.graph.verb.Verb.TheVariants as verb
-use Rattle.graph_model.specs.graph.Graph.{GraphValue, is_phase, is_acquire_of, is_shared, is_release_of, is_merge_ignore, line_passes}
-use Rattle.graph_model.specs.meaning.Path.{Path, HasPath, last, first}
-use Rattle.graph_model.specs.graph.Access.{access, modes_clash, AccessesConflict}
-use Rattle.graph_model.specs.graph.Edges.{edge}
-use Rattle.graph_model.specs.meaning.Rules.{Releases, Section, modes_commute, Exempt, NoCycleAt, ReleasedAt, SectionAt, DescendsAt, ReleaseFaultAt, RaceAt, Everywhere, EverywhereTwice, Accepted}
+use Rattle.graph_terms.specs.declared.verb.Access.{Access}
+use Rattle.graph_terms.specs.declared.verb.Edge.{Edge}
+use Rattle.graph_terms.specs.declared.verb.EdgeKind.TheVariants.{Passes, Ignores}
+use Rattle.graph_terms.specs.declared.verb.Line.{Line}
+use Rattle.graph_terms.specs.declared.verb.Mode.TheVariants as mode
+use Rattle.graph_terms.specs.declared.verb.Verb.{Verb}
+use Rattle.graph_terms.specs.declared.verb.Verb.TheVariants as verb
+use Rattle.graph_terms.specs.Graph.{GraphValue, is_phase, is_acquire_of, is_shared, is_release_of, is_merge_ignore, line_passes}
+use Rattle.graph_meaning.specs.Path.{Path, HasPath, last, first}
+use Rattle.graph_terms.specs.Access.{access, modes_clash, AccessesConflict}
+use Rattle.graph_terms.specs.Edges.{edge}
+use Rattle.graph_terms.specs.Reservations.{Releases}
+use Rattle.graph_meaning.specs.Rules.{Section, modes_commute, Exempt, NoCycleAt, ReleasedAt, SectionAt, DescendsAt, ReleaseFaultAt, RaceAt, Everywhere, EverywhereTwice, Accepted}
 use Rattle.basics.proofs.ListFacts.{contains_cases, contains_none}
-use Rattle.graph_model.proofs.PathLaws.{path_append}
+use Rattle.graph_meaning.proofs.PathLaws.{path_append}
 use Rattle.graph_gen.specs.MadeGraph.{next_state, row_lines, total_column, made_line, Made, unmade, drawn, after_draws, made_graph}
 use Rattle.graph_gen.proofs.Standing.{lined}
 use Rattle.graph_gen.proofs.Draws.{next_draw, next_row, draw_column, draw_other, Kept, kept_draws, one_more_is, stays}

@@ -4,14 +4,14 @@ use Rattle.std.specs.Prelude.{Contains, Option, slice_get, option_map}
 use Rattle.std.specs.Option.{option_map_or}
 use Rattle.std.proofs.lemmas.Bool.{cases_order}
 use Rattle.std.proofs.lemmas.List.Elements.{Contains-append_left, Contains-append_right, Contains-append_cases}
-use Rattle.graph_model.specs.declared.graph.format.Format.TheVariants.{One}
-use Rattle.graph_model.specs.declared.graph.verb.Access.{Access}
-use Rattle.graph_model.specs.declared.graph.verb.Edge.{Edge}
-use Rattle.graph_model.specs.declared.graph.verb.Line.{Line}
-use Rattle.graph_model.specs.declared.graph.verb.Verb.{Verb}
-use Rattle.graph_model.specs.graph.Access.{verb_accesses, in_format}
-use Rattle.graph_model.specs.graph.Edges.{line_edges, edges_after}
-use Rattle.graph_model.specs.meaning.Path.{Path, last, first}
+use Rattle.graph_terms.specs.declared.format.Format.TheVariants.{One}
+use Rattle.graph_terms.specs.declared.verb.Access.{Access}
+use Rattle.graph_terms.specs.declared.verb.Edge.{Edge}
+use Rattle.graph_terms.specs.declared.verb.Line.{Line}
+use Rattle.graph_terms.specs.declared.verb.Verb.{Verb}
+use Rattle.graph_terms.specs.Access.{verb_accesses, in_format}
+use Rattle.graph_terms.specs.Edges.{line_edges, edges_after}
+use Rattle.graph_meaning.specs.Path.{Path, last, first}
 
 -- what a line of this number does and uses, and the edges of lines
 abbrev pub verb_in : List Line → ℕ → Option Verb

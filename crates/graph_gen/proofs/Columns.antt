@@ -5,17 +5,17 @@ use Rattle.std.proofs.lemmas.Bool.{true≢false, cases_Bool, cases_order, eqb-tr
 use Rattle.std.proofs.lemmas.Option.{none-some, same_Some}
 use Rattle.std.proofs.lemmas.List.{get_or-set_other, length-set}
 use Rattle.std.proofs.lemmas.Grind.{get_or-set_at}
-use Rattle.graph_model.specs.declared.graph.verb.Access.{Access}
-use Rattle.graph_model.specs.declared.graph.verb.Edge.{Edge}
-use Rattle.graph_model.specs.declared.graph.verb.EdgeKind.TheVariants.{Passes, Ignores}
-use Rattle.graph_model.specs.declared.graph.verb.Line.{Line}
-use Rattle.graph_model.specs.declared.graph.verb.Mode.TheVariants as mode
-use Rattle.graph_model.specs.graph.Access.{access}
-use Rattle.graph_model.specs.graph.Edges.{edge}
-use Rattle.graph_model.specs.graph.Fits.{on_lines}
-use Rattle.graph_model.specs.meaning.Path.{Path, last, first}
+use Rattle.graph_terms.specs.declared.verb.Access.{Access}
+use Rattle.graph_terms.specs.declared.verb.Edge.{Edge}
+use Rattle.graph_terms.specs.declared.verb.EdgeKind.TheVariants.{Passes, Ignores}
+use Rattle.graph_terms.specs.declared.verb.Line.{Line}
+use Rattle.graph_terms.specs.declared.verb.Mode.TheVariants as mode
+use Rattle.graph_terms.specs.Access.{access}
+use Rattle.graph_terms.specs.Edges.{edge}
+use Rattle.graph_terms.specs.Fits.{on_lines}
+use Rattle.graph_meaning.specs.Path.{Path, last, first}
 use Rattle.basics.proofs.ListFacts.{contains_cases, contains_none, contains_here, contains_there}
-use Rattle.graph_model.proofs.PathLaws.{path_append}
+use Rattle.graph_meaning.proofs.PathLaws.{path_append}
 use Rattle.graph_gen.specs.declared.draw.Row.{Row}
 use Rattle.graph_gen.specs.declared.draw.Row.TheVariants.{Fill, Iota, Expect, Settle, Copy, Sum, Event, Section}
 use Rattle.graph_gen.specs.declared.draw.Draw.{Draw}

@@ -4,11 +4,11 @@ use Rattle.std.specs.Prelude.{Option, Some, None, nat_lt, replicate}
 use Rattle.std.specs.Fmt.{digits}
 use Rattle.std.proofs.lemmas.Bool.{lt-ltb, ltb-true, ltb-false}
 use Rattle.std.proofs.lemmas.Option.{none-some}
-use Rattle.graph_model.specs.declared.graph.format.Format.{Format}
-use Rattle.graph_model.specs.declared.graph.format.Format.TheVariants.{One}
-use Rattle.graph_model.specs.declared.graph.verb.Line.{Line}
-use Rattle.graph_model.specs.declared.graph.decl.Decl.{Decl}
-use Rattle.graph_model.specs.graph.Fits.{DeclsFit, LinesFit, IsGraph}
+use Rattle.graph_terms.specs.declared.format.Format.{Format}
+use Rattle.graph_terms.specs.declared.format.Format.TheVariants.{One}
+use Rattle.graph_terms.specs.declared.verb.Line.{Line}
+use Rattle.graph_terms.specs.declared.decl.Decl.{Decl}
+use Rattle.graph_terms.specs.Fits.{DeclsFit, LinesFit, IsGraph}
 use Rattle.graph_gen.specs.declared.draw.Row.{Row}
 use Rattle.graph_gen.specs.declared.draw.Row.TheVariants.{Fill}
 use Rattle.graph_gen.specs.declared.draw.Draw.{Draw}

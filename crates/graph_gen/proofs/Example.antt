@@ -2,8 +2,8 @@
 use Rattle.std.specs.Prelude.{◌≡◌, ◌/◌, ◌^◌, [], ◌∷◌, None, codes}
 use Rattle.std.proofs.Common.{refl}
 use Rattle.std.specs.Fmt.{digits}
-use Rattle.graph_model.specs.declared.graph.format.Format.TheVariants.{One}
-use Rattle.graph_model.specs.declared.graph.verb.Verb.TheVariants.{Fill}
+use Rattle.graph_terms.specs.declared.format.Format.TheVariants.{One}
+use Rattle.graph_terms.specs.declared.verb.Verb.TheVariants.{Fill}
 use Rattle.graph_gen.specs.declared.draw.Row.TheVariants.{Copy}
 use Rattle.graph_gen.specs.MadeGraph.{made_decls, next_state, draw_of, made_graph}
 

@@ -1,13 +1,13 @@
 -- A generated graph of two sections: by computing it is accepted, and its sums conflict with no path either way, so that they have to be exempt.
 use Rattle.std.proofs.Common.{inl, inr, refl, arith, lit<, lit≤}
-use Rattle.graph_model.specs.declared.graph.verb.Mode.TheVariants.{Sum}
-use Rattle.graph_model.specs.graph.Graph.{GraphValue}
-use Rattle.graph_model.specs.graph.Access.{access, Conflict}
-use Rattle.graph_model.specs.graph.Edges.{edges}
-use Rattle.graph_model.specs.meaning.Path.{HasPath}
-use Rattle.graph_model.specs.meaning.Rules.{Exempt, Accepted}
-use Rattle.graph_model.proofs.PathTable.{no_path_by_table}
-use Rattle.graph_model.proofs.RulesTable.{accepted_by_computing, meets_itself, conflict_by}
+use Rattle.graph_terms.specs.declared.verb.Mode.TheVariants.{Sum}
+use Rattle.graph_terms.specs.Graph.{GraphValue}
+use Rattle.graph_terms.specs.Access.{access, Conflict}
+use Rattle.graph_terms.specs.Edges.{edges}
+use Rattle.graph_meaning.specs.Path.{HasPath}
+use Rattle.graph_meaning.specs.Rules.{Exempt, Accepted}
+use Rattle.graph_meaning.proofs.PathTable.{no_path_by_table}
+use Rattle.graph_meaning.proofs.RulesTable.{accepted_by_computing, meets_itself, conflict_by}
 use Rattle.graph_gen.specs.MadeGraph.{made_graph}
 use Rattle.graph_gen.proofs.Acceptance.{made_accepted}
 

@@ -5,20 +5,20 @@ use Rattle.std.specs.Option.{option_map_or}
 use Rattle.std.specs.List.{list_any}
 use Rattle.std.proofs.lemmas.Bool.{false_from_ne_true, leb-true, eqb-true}
 use Rattle.index_spaces.specs.declared.Op.TheVariants as op
-use Rattle.graph_model.specs.declared.graph.verb.Access.{Access}
-use Rattle.graph_model.specs.declared.graph.verb.Line.{Line}
-use Rattle.graph_model.specs.declared.graph.verb.Mode.{Mode}
-use Rattle.graph_model.specs.declared.graph.verb.Mode.TheVariants.{Read, Write, Sum}
-use Rattle.graph_model.specs.declared.graph.verb.EdgeKind.{EdgeKind}
-use Rattle.graph_model.specs.declared.graph.verb.EdgeKind.TheVariants.{Passes}
-use Rattle.graph_model.specs.declared.graph.verb.Verb.{Verb}
-use Rattle.graph_model.specs.declared.graph.verb.Verb.TheVariants.{User, Trigger, Merge, MergeIgnore, Acquire, Release, Fill, Copy, Reduce, Task}
-use Rattle.graph_model.specs.declared.graph.table.Kernel.TheVariants.{Iota, Expect}
-use Rattle.graph_model.specs.graph.Graph.{is_user, is_acquire, ends_user, is_release_of}
-use Rattle.graph_model.specs.graph.Access.{access, verb_accesses}
-use Rattle.graph_model.specs.graph.Edges.{edges_from_some, verb_edges, line_edges}
-use Rattle.graph_model.specs.graph.Fits.{on_lines, access_unknown, access_outside, repeats, line_unknown, IsVerb}
-use Rattle.graph_model.specs.graph.Spelling.{column_name, line_name, verb_words, on_words}
+use Rattle.graph_terms.specs.declared.verb.Access.{Access}
+use Rattle.graph_terms.specs.declared.verb.Line.{Line}
+use Rattle.graph_terms.specs.declared.verb.Mode.{Mode}
+use Rattle.graph_terms.specs.declared.verb.Mode.TheVariants.{Read, Write, Sum}
+use Rattle.graph_terms.specs.declared.verb.EdgeKind.{EdgeKind}
+use Rattle.graph_terms.specs.declared.verb.EdgeKind.TheVariants.{Passes}
+use Rattle.graph_terms.specs.declared.verb.Verb.{Verb}
+use Rattle.graph_terms.specs.declared.verb.Verb.TheVariants.{User, Trigger, Merge, MergeIgnore, Acquire, Release, Fill, Copy, Reduce, Task}
+use Rattle.graph_terms.specs.declared.table.Kernel.TheVariants.{Iota, Expect}
+use Rattle.graph_terms.specs.Graph.{is_user, is_acquire, ends_user, is_release_of}
+use Rattle.graph_terms.specs.Access.{access, verb_accesses}
+use Rattle.graph_terms.specs.Edges.{edges_from_some, verb_edges, line_edges}
+use Rattle.graph_terms.specs.Fits.{on_lines, access_unknown, access_outside, repeats, line_unknown, IsVerb}
+use Rattle.graph_terms.specs.Spelling.{column_name, line_name, verb_words, on_words}
 use Rattle.graph_gen.specs.MadeGraph.{made_line}
 use Rattle.graph_gen.proofs.LineNames.{decimal_short}
 use Rattle.graph_gen.proofs.Standing.{lined, both_false, against, Standing, NextFits, Sized, size_cons, size_none, within_sixty, name_size}

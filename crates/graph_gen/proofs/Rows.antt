@@ -9,11 +9,11 @@ use Rattle.std.proofs.lemmas.List.{get_or-set_other, length-set}
 use Rattle.std.proofs.lemmas.List.Folds.{list_any-append}
 use Rattle.std.proofs.lemmas.Grind.{get_or-set_at}
 use Rattle.index_spaces.specs.declared.Op.TheVariants as op
-use Rattle.graph_model.specs.declared.graph.verb.Line.{Line}
-use Rattle.graph_model.specs.declared.graph.verb.Verb.{Verb}
-use Rattle.graph_model.specs.declared.graph.verb.Verb.TheVariants as verb
-use Rattle.graph_model.specs.declared.graph.table.Kernel.TheVariants as kernel
-use Rattle.graph_model.specs.graph.Graph.{is_user, is_acquire, ends_user, is_release_of}
+use Rattle.graph_terms.specs.declared.verb.Line.{Line}
+use Rattle.graph_terms.specs.declared.verb.Verb.{Verb}
+use Rattle.graph_terms.specs.declared.verb.Verb.TheVariants as verb
+use Rattle.graph_terms.specs.declared.table.Kernel.TheVariants as kernel
+use Rattle.graph_terms.specs.Graph.{is_user, is_acquire, ends_user, is_release_of}
 use Rattle.graph_gen.specs.declared.draw.Row.{Row}
 use Rattle.graph_gen.specs.declared.draw.Row.TheVariants.{Fill, Iota, Expect, Settle, Copy, Sum, Event, Section}
 use Rattle.graph_gen.specs.declared.draw.Draw.{Draw}

@@ -4,14 +4,14 @@ use Rattle.std.specs.Prelude.{Contains, Option, Some, slice_get}
 use Rattle.std.specs.Option.{option_map_or}
 use Rattle.std.proofs.lemmas.Option.{slice_get_within}
 use Rattle.index_spaces.specs.declared.Op.TheVariants as op
-use Rattle.graph_model.specs.declared.graph.verb.Access.{Access}
-use Rattle.graph_model.specs.declared.graph.verb.Edge.{Edge}
-use Rattle.graph_model.specs.declared.graph.verb.EdgeKind.TheVariants.{Passes, Ignores}
-use Rattle.graph_model.specs.declared.graph.verb.Line.{Line}
-use Rattle.graph_model.specs.declared.graph.verb.Verb.{Verb}
-use Rattle.graph_model.specs.declared.graph.verb.Verb.TheVariants as verb
-use Rattle.graph_model.specs.graph.Graph.{is_user, is_acquire_of, is_release_of}
-use Rattle.graph_model.specs.graph.Edges.{edge, edges_after}
+use Rattle.graph_terms.specs.declared.verb.Access.{Access}
+use Rattle.graph_terms.specs.declared.verb.Edge.{Edge}
+use Rattle.graph_terms.specs.declared.verb.EdgeKind.TheVariants.{Passes, Ignores}
+use Rattle.graph_terms.specs.declared.verb.Line.{Line}
+use Rattle.graph_terms.specs.declared.verb.Verb.{Verb}
+use Rattle.graph_terms.specs.declared.verb.Verb.TheVariants as verb
+use Rattle.graph_terms.specs.Graph.{is_user, is_acquire_of, is_release_of}
+use Rattle.graph_terms.specs.Edges.{edge, edges_after}
 use Rattle.graph_gen.specs.MadeGraph.{total_column, made_line}
 use Rattle.graph_gen.proofs.AddedLines.{verb_in, uses_of, uses_in, edges_in, old_or_new, got_old, verb_old, verb_new, edge_old, edge_cases}
 

@@ -7,20 +7,20 @@ use Rattle.std.specs.Str.{bytes_eq}
 use Rattle.std.proofs.lemmas.Bool.{false_from_ne_true, ltb-true, or_parts}
 use Rattle.std.proofs.lemmas.List.Folds.{list_any-append}
 use Rattle.std.proofs.lemmas.List.Sums.{sum_by-cons}
-use Rattle.graph_model.specs.declared.graph.verb.Access.{Access}
-use Rattle.graph_model.specs.declared.graph.format.Format.TheVariants.{One}
-use Rattle.graph_model.specs.declared.graph.verb.Line.{Line}
-use Rattle.graph_model.specs.declared.graph.why.Why.TheVariants as why
-use Rattle.graph_model.specs.declared.graph.verb.Verb.{Verb}
-use Rattle.graph_model.specs.graph.Graph.{GraphValue, ends_user, is_release_of}
-use Rattle.graph_model.specs.graph.Access.{verb_accesses}
-use Rattle.graph_model.specs.kept.Counts.{words_size}
-use Rattle.graph_model.specs.graph.Edges.{edges, line_edges}
-use Rattle.graph_model.specs.graph.Fits.{first_reason, repeats, is_used, with_line, is_beyond, verb_repeats, line_unknown, verb_unlike, takes_no_on, format_lacks, verb_misnumbered, access_outside, arrives_late, merges_many, line_fault, IsVerb, IsLine, LinesFit}
-use Rattle.graph_model.specs.graph.Spelling.{spelled, verb_words, on_words, line_words, line_name, head}
+use Rattle.graph_terms.specs.declared.verb.Access.{Access}
+use Rattle.graph_terms.specs.declared.format.Format.TheVariants.{One}
+use Rattle.graph_terms.specs.declared.verb.Line.{Line}
+use Rattle.graph_terms.specs.declared.why.Why.TheVariants as why
+use Rattle.graph_terms.specs.declared.verb.Verb.{Verb}
+use Rattle.graph_terms.specs.Graph.{GraphValue, ends_user, is_release_of}
+use Rattle.graph_terms.specs.Access.{verb_accesses}
+use Rattle.graph_indexes.specs.Counts.{words_size}
+use Rattle.graph_terms.specs.Edges.{edges, line_edges}
+use Rattle.graph_terms.specs.Fits.{first_reason, repeats, is_used, with_line, is_beyond, verb_repeats, line_unknown, verb_unlike, takes_no_on, format_lacks, verb_misnumbered, access_outside, arrives_late, merges_many, line_fault, IsVerb, IsLine, LinesFit}
+use Rattle.graph_terms.specs.Spelling.{spelled, verb_words, on_words, line_words, line_name, head}
 use Rattle.graph_model.proofs.CountLaws.{spelled_size}
-use Rattle.graph_model.proofs.GraphPush.{head_with_line}
-use Rattle.graph_model.proofs.RowLaws.{edges_push}
+use Rattle.graph_terms.proofs.GraphPush.{head_with_line}
+use Rattle.graph_terms.proofs.EdgeFacts.{edges_push}
 use Rattle.graph_gen.specs.MadeGraph.{made_decls, made_name, made_line}
 use Rattle.graph_gen.proofs.LineNames.{made_is_name, made_differ, made_short}
 

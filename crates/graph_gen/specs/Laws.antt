@@ -1,8 +1,8 @@
 -- What holds of all generated graphs.
 use Rattle.std.specs.Prelude.{◌≡◌, ℕ, ◌<◌, ◌≤◌, ◌^◌, length}
-use Rattle.graph_model.specs.declared.graph.limits.TheConstants.{MAX_LINES}
-use Rattle.graph_model.specs.graph.Fits.{IsGraph}
-use Rattle.graph_model.specs.meaning.Rules.{Accepted}
+use Rattle.graph_terms.specs.declared.limits.TheConstants.{MAX_LINES}
+use Rattle.graph_terms.specs.Fits.{IsGraph}
+use Rattle.graph_meaning.specs.Rules.{Accepted}
 use Rattle.graph_gen.specs.MadeGraph.{made_graph}
 
 -- a generated graph is a graph of as many lines as its size says

@@ -1,14 +1,14 @@
 //! The declarations of a generated graph.
 
 ghost use Rattle.std.specs.Prelude.{◌≡◌, ◌++◌, [], ◌∷◌, OnOk, IfOk, IsTrue, codes};
-ghost use Rattle.graph_model.specs.declared.graph.format.Format.TheVariants.{One};
-ghost use Rattle.graph_model.specs.graph.Name.{is_name};
+ghost use Rattle.graph_terms.specs.declared.format.Format.TheVariants.{One};
+ghost use Rattle.graph_terms.specs.Name.{is_name};
 ghost use Rattle.graph_gen.specs.MadeGraph.{made_decls};
 
-use graph_model::decl::Decl;
 use graph_model::graph::Graph;
-use graph_model::lists::NameList;
-use graph_model::name::Name;
+use graph_terms::decl::Decl;
+use graph_terms::lists::NameList;
+use graph_terms::name::Name;
 use index_spaces::NoMemory;
 use index_spaces::room::push;
 use index_spaces::space::Space;

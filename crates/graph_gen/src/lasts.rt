@@ -4,7 +4,7 @@ ghost use Rattle.std.specs.Prelude.{◌≡◌, ◌<◌, replicate, None, Some, s
 ghost use Rattle.graph_gen.specs.MadeGraph.{last_of, lasts_after};
 
 use crate::draw::{Draw, Row};
-use graph_model::limits::MAX_LINES;
+use graph_terms::limits::MAX_LINES;
 
 /// The last line of each of the eight columns, where there is one.
 #[derive(Clone, Copy)]

@@ -3,8 +3,8 @@
 ghost use Rattle.std.specs.Prelude.{◌≡◌, ◌++◌, [], ◌∷◌, OnOk, IfOk};
 ghost use Rattle.graph_gen.specs.MadeGraph.{made_name, made_line};
 
-use graph_model::name::Name;
-use graph_model::verb::{Line, Verb};
+use graph_terms::name::Name;
+use graph_terms::verb::{Line, Verb};
 use index_spaces::NoMemory;
 use index_spaces::room::push;
 use std::alloc::Global;

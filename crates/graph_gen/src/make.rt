@@ -1,8 +1,8 @@
 //! Graphs that are generated.
 
 ghost use Rattle.std.specs.Prelude.{◌≡◌, ℕ, ◌<◌, ◌≤◌, ◌^◌, ◌++◌, length, IfOk, OnOk};
-ghost use Rattle.graph_model.specs.declared.graph.format.Format.TheVariants.{One};
-ghost use Rattle.graph_model.specs.graph.Fits.{LinesFit};
+ghost use Rattle.graph_terms.specs.declared.format.Format.TheVariants.{One};
+ghost use Rattle.graph_terms.specs.Fits.{LinesFit};
 ghost use Rattle.graph_gen.specs.MadeGraph.{made_decls, made_of, unmade, one_more, after_draws, made_graph};
 
 use crate::declarations::declared;
@@ -10,8 +10,8 @@ use crate::draw::{Draw, next_state};
 use crate::lasts::Lasts;
 use crate::row::{row_lines, row_taken};
 use graph_model::graph::Graph;
-use graph_model::limits::MAX_LINES;
-use graph_model::verb::Line;
+use graph_terms::limits::MAX_LINES;
+use graph_terms::verb::Line;
 use index_spaces::NoMemory;
 use std::alloc::Global;
 

@@ -6,9 +6,9 @@ ghost use Rattle.graph_gen.specs.MadeGraph.{last_of, is_open, row_taken, merged,
 use crate::draw::{Draw, Row};
 use crate::lasts::Lasts;
 use crate::line::put_line;
-use graph_model::limits::MAX_LINES;
-use graph_model::lists::LineList;
-use graph_model::verb::{Kernel, Line, Verb};
+use graph_terms::limits::MAX_LINES;
+use graph_terms::lists::LineList;
+use graph_terms::verb::{Kernel, Line, Verb};
 use index_spaces::{NoMemory, Op};
 use std::alloc::Global;
 

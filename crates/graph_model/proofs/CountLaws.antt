@@ -9,29 +9,30 @@ use Rattle.std.proofs.lemmas.List.{take_all}
 use Rattle.std.proofs.lemmas.List.Elements.{filter-append, filter_map-append}
 use Rattle.std.proofs.lemmas.List.Sums.{sum_by-append, sum_by-cons}
 use Rattle.index_spaces.specs.Space.{space_size, AscendAbove, IsSpace}
-use Rattle.graph_model.specs.declared.graph.format.Format.{Format}
-use Rattle.graph_model.specs.declared.kept.counts.Counts.{Counts}
-use Rattle.graph_model.specs.declared.graph.decl.Decl.{Decl}
-use Rattle.graph_model.specs.declared.graph.decl.Decl.TheVariants as decl
-use Rattle.graph_model.specs.declared.graph.verb.Access.{Access}
-use Rattle.graph_model.specs.declared.graph.verb.Line.{Line}
-use Rattle.graph_model.specs.declared.graph.verb.Verb.{Verb}
-use Rattle.graph_model.specs.declared.graph.verb.Verb.TheVariants.{Merge, MergeIgnore}
-use Rattle.graph_model.specs.graph.Graph.{GraphValue, ColumnInfo, BarrierInfo, space_of, columns_of, lock_of, barrier_of, named_spaces, columns, locks, barriers, space_at}
-use Rattle.graph_model.specs.declared.graph.table.Place.{Place}
-use Rattle.graph_model.specs.declared.graph.table.Place.TheVariants.{Lock, Barrier, Space, Column}
-use Rattle.graph_model.specs.graph.Table.{kind_words, verb_kind, verb_parts, verb_places, any_placed, is_row}
-use Rattle.graph_model.specs.graph.Access.{access, accesses_of, verb_accesses}
-use Rattle.graph_model.proofs.KindLaws.{part_for_each, verb_is_row, none_placed, none_of_accesses, column_access, space_access, map_placed}
-use Rattle.graph_model.specs.graph.Edges.{edges, line_edges}
-use Rattle.graph_model.specs.graph.Fits.{is_inst, cell_count, with_decl, with_line, access_unknown, place_unknown, verb_unknown, line_fault, LinesFit, IsGraph}
-use Rattle.graph_model.specs.graph.Spelling.{spelled, space_name, column_name, decl_words, place_word, verb_words, on_words, line_words, header, decls_text, lines_text, head, comma_word, interval_word}
-use Rattle.graph_model.specs.kept.Counts.{words_size, cells_of_decl, counts_of}
-use Rattle.graph_model.proofs.GraphFacts.{fits_known}
-use Rattle.graph_model.proofs.GraphPush.{head_with_line, decls_text_push}
+use Rattle.graph_terms.specs.declared.format.Format.{Format}
+use Rattle.graph_indexes.specs.declared.counts.Counts.{Counts}
+use Rattle.graph_terms.specs.declared.decl.Decl.{Decl}
+use Rattle.graph_terms.specs.declared.decl.Decl.TheVariants as decl
+use Rattle.graph_terms.specs.declared.verb.Access.{Access}
+use Rattle.graph_terms.specs.declared.verb.Line.{Line}
+use Rattle.graph_terms.specs.declared.verb.Verb.{Verb}
+use Rattle.graph_terms.specs.declared.verb.Verb.TheVariants.{Merge, MergeIgnore}
+use Rattle.graph_terms.specs.Graph.{GraphValue, space_of, columns_of, lock_of, barrier_of, named_spaces, columns, locks, barriers, space_at}
+use Rattle.graph_terms.specs.declared.decl.ColumnInfo.{ColumnInfo}
+use Rattle.graph_terms.specs.declared.decl.BarrierInfo.{BarrierInfo}
+use Rattle.graph_terms.specs.declared.table.Place.{Place}
+use Rattle.graph_terms.specs.declared.table.Place.TheVariants.{Lock, Barrier, Space, Column}
+use Rattle.graph_terms.specs.Table.{kind_words, verb_kind, verb_parts, verb_places, any_placed, is_row}
+use Rattle.graph_terms.specs.Access.{access, accesses_of, verb_accesses}
+use Rattle.graph_terms.proofs.KindLaws.{part_for_each, verb_is_row, none_placed, none_of_accesses, column_access, space_access, map_placed}
+use Rattle.graph_terms.specs.Edges.{edges, line_edges}
+use Rattle.graph_terms.specs.Fits.{is_inst, cell_count, with_decl, with_line, access_unknown, place_unknown, verb_unknown, line_fault, LinesFit, IsGraph}
+use Rattle.graph_terms.specs.Spelling.{spelled, space_name, column_name, decl_words, place_word, verb_words, on_words, line_words, header, decls_text, lines_text, head, comma_word, interval_word}
+use Rattle.graph_indexes.specs.Counts.{words_size, cells_of_decl, counts_of}
+use Rattle.graph_terms.proofs.GraphFacts.{fits_known, columns_known}
+use Rattle.graph_terms.proofs.GraphPush.{head_with_line, decls_text_push}
 use Rattle.basics.proofs.ListFacts.{contains_here, contains_there}
-use Rattle.graph_model.proofs.RowLaws.{edges_push}
-use Rattle.graph_model.proofs.TableLaws.{columns_known}
+use Rattle.graph_terms.proofs.EdgeFacts.{edges_push}
 
 -- the length of words
 pub words_cons : (w : List ℕ) (ws : List (List ℕ)) → words_size (w ∷ ws) ≡ (length w + 1) + words_size ws

@@ -11,21 +11,22 @@ use Rattle.std.proofs.lemmas.List.Quantifiers.{position-Some}
 use Rattle.std.proofs.lemmas.List.Sums.{position_or_len_is}
 use Rattle.std.proofs.lemmas.Option.{none-some, same_Some}
 use Rattle.std.proofs.lemmas.Slice.Eq.{bytes_eq-Decides}
-use Rattle.graph_model.specs.declared.graph.decl.Decl.{Decl}
-use Rattle.graph_model.specs.declared.graph.decl.Decl.TheVariants.{Space, Inst, Lock, Barrier}
-use Rattle.graph_model.specs.declared.graph.found.Found.{Found}
-use Rattle.graph_model.specs.declared.graph.found.Found.TheVariants as found
+use Rattle.graph_terms.specs.declared.decl.Decl.{Decl}
+use Rattle.graph_terms.specs.declared.decl.Decl.TheVariants.{Space, Inst, Lock, Barrier}
+use Rattle.graph_terms.specs.declared.found.Found.{Found}
+use Rattle.graph_terms.specs.declared.found.Found.TheVariants as found
 use Rattle.index_spaces.specs.declared.Op.TheVariants as op
-use Rattle.graph_model.specs.declared.graph.verb.Line.{Line}
-use Rattle.graph_model.specs.declared.graph.verb.Verb.TheVariants.{User}
-use Rattle.graph_model.specs.graph.Graph.{GraphValue, BarrierInfo, decl_name, space_of, lock_of, barrier_of, named_spaces, locks, barriers}
-use Rattle.graph_model.specs.graph.Fits.{is_inst, is_used, repeats, decl_repeats, verb_repeats, decl_tests, decl_fault, line_tests, line_fault, with_decl, with_line}
-use Rattle.graph_model.specs.declared.graph.verb.Access.{Access}
-use Rattle.graph_model.specs.declared.graph.why.Why.TheVariants as why
-use Rattle.graph_model.specs.graph.Access.{verb_accesses}
-use Rattle.graph_model.proofs.GraphFacts.{none_first}
-use Rattle.graph_model.specs.graph.Names.{is_inst_named, StandsFor, found_decl, AreNamesOf}
-use Rattle.graph_model.specs.kept.Names.{NamesValue, named}
+use Rattle.graph_terms.specs.declared.verb.Line.{Line}
+use Rattle.graph_terms.specs.declared.verb.Verb.TheVariants.{User}
+use Rattle.graph_terms.specs.Graph.{GraphValue, decl_name, space_of, lock_of, barrier_of, named_spaces, locks, barriers}
+use Rattle.graph_terms.specs.declared.decl.BarrierInfo.{BarrierInfo}
+use Rattle.graph_terms.specs.Fits.{is_inst, is_used, repeats, decl_repeats, verb_repeats, decl_tests, decl_fault, line_tests, line_fault, with_decl, with_line}
+use Rattle.graph_terms.specs.declared.verb.Access.{Access}
+use Rattle.graph_terms.specs.declared.why.Why.TheVariants as why
+use Rattle.graph_terms.specs.Access.{verb_accesses}
+use Rattle.graph_terms.proofs.GraphFacts.{none_first}
+use Rattle.graph_terms.specs.Names.{is_inst_named, StandsFor, found_decl}
+use Rattle.graph_indexes.specs.Names.{AreNamesOf, NamesValue, named}
 
 -- the first place that passes
 position_is : {X : Type 0} (p : X → Bool) (xs : List X) (k : ℕ) (d : X) → k < length xs → p (get_or xs k d) ≡ true → ((j : ℕ) → j < k → p (get_or xs j d) ≡ false) → position p xs ≡ Some k

@@ -1,5 +1,5 @@
 -- The edges and the rows of a graph with one more line.
-use Rattle.std.proofs.Common.{◌≡◌, ℕ, ◌+◌, ◌*◌, zero-add, ◌<◌, ◌≤◌, Bool, true, false, cond, ◌||◌, List, [], ◌∷◌, ◌++◌, length, refl, sym, ◌∙◌, ap, subst, append-nil, append_assoc, length-append, arith, get_or}
+use Rattle.std.proofs.Common.{◌≡◌, ℕ, ◌+◌, ◌*◌, zero-add, ◌<◌, ◌≤◌, Bool, true, false, cond, ◌||◌, List, [], ◌∷◌, ◌++◌, length, refl, sym, ◌∙◌, ap, subst, length-append, arith, get_or}
 use Rattle.std.specs.Prelude.{◌==◌, Contains, filter, None, nat_lt}
 use Rattle.std.proofs.lemmas.Bool.{or_parts, ltb-false}
 use Rattle.std.proofs.lemmas.Option.{slice_get-get_or}
@@ -7,33 +7,24 @@ use Rattle.std.specs.List.{list_any}
 use Rattle.std.proofs.lemmas.List.Elements.{filter-append, Contains-append_left}
 use Rattle.std.proofs.lemmas.List.Folds.{list_any-append}
 use Rattle.std.proofs.lemmas.List.Sums.{sum_by-append, sum_by-le}
-use Rattle.graph_model.specs.declared.graph.format.Format.{Format}
-use Rattle.graph_model.specs.declared.graph.format.Format.TheVariants.{One, Two}
-use Rattle.graph_model.specs.declared.graph.decl.Decl.{Decl}
-use Rattle.graph_model.specs.declared.kept.mark.Mark.{Mark}
-use Rattle.graph_model.specs.declared.kept.side.Side.TheVariants.{From, To}
-use Rattle.graph_model.specs.declared.graph.verb.Edge.{Edge}
-use Rattle.graph_model.specs.declared.graph.verb.Line.{Line}
-use Rattle.graph_model.specs.declared.graph.verb.Verb.{Verb}
-use Rattle.graph_model.specs.declared.graph.verb.Verb.TheVariants.{Trigger, Cancel, Arrive, Release}
-use Rattle.graph_model.specs.graph.Graph.{GraphValue, ends_user, is_release_of, arrival_weight, arrivals}
-use Rattle.graph_model.specs.graph.Edges.{line_edges, edges_after, edges, edges_into, edges_out_of}
-use Rattle.graph_model.specs.graph.Fits.{named_lines, on_lines, most_weight, verb_misnumbered, line_tests, line_fault, with_decl, with_line, IsGraph}
-use Rattle.graph_model.specs.kept.Rows.{RowsValue, NamesBelow, EndsBelow, mark_after, mark_of, AddsRow, AreRowsOf}
-use Rattle.graph_model.specs.declared.graph.why.Why.TheVariants as why
-use Rattle.graph_model.proofs.GraphFacts.{line_ends, named_below, none_first, fit_at}
-use Rattle.graph_model.proofs.ArriveLaws.{arrive_names}
+use Rattle.graph_terms.specs.declared.format.Format.{Format}
+use Rattle.graph_terms.specs.declared.format.Format.TheVariants.{One, Two}
+use Rattle.graph_terms.specs.declared.decl.Decl.{Decl}
+use Rattle.graph_indexes.specs.declared.mark.Mark.{Mark}
+use Rattle.graph_indexes.specs.declared.side.Side.TheVariants.{From, To}
+use Rattle.graph_terms.specs.declared.verb.Edge.{Edge}
+use Rattle.graph_terms.specs.declared.verb.Line.{Line}
+use Rattle.graph_terms.specs.declared.verb.Verb.{Verb}
+use Rattle.graph_terms.specs.declared.verb.Verb.TheVariants.{Trigger, Cancel, Arrive, Release}
+use Rattle.graph_terms.specs.Graph.{GraphValue, ends_user, is_release_of, arrival_weight, arrivals}
+use Rattle.graph_terms.specs.Edges.{line_edges, edges, edges_into, edges_out_of}
+use Rattle.graph_terms.specs.Fits.{named_lines, on_lines, most_weight, verb_misnumbered, line_tests, line_fault, with_decl, with_line, IsGraph}
+use Rattle.graph_indexes.specs.Rows.{RowsValue, NamesBelow, EndsBelow, mark_after, mark_of, AddsRow, AreRowsOf}
+use Rattle.graph_terms.specs.declared.why.Why.TheVariants as why
+use Rattle.graph_terms.proofs.GraphFacts.{line_ends, named_below, none_first, fit_at}
+use Rattle.graph_terms.proofs.ArriveLaws.{arrive_names}
 use Rattle.basics.proofs.ListFacts.{contains_here}
-
-edges_after_push : (before ls : List Line) (l : Line) → edges_after before (ls ++ l ∷ []) ≡ edges_after before ls ++ line_edges (before ++ ls) l
-edges_after_push before [] l = append-nil (line_edges before l) ∙ ap (λ xs. line_edges xs l) (sym (append-nil before))
-edges_after_push before (k ∷ ls) l =
-    ap (λ es. line_edges before k ++ es) (edges_after_push (before ++ k ∷ []) ls l ∙ ap (λ xs. edges_after (before ++ k ∷ []) ls ++ line_edges xs l) (append_assoc before (k ∷ []) ls))
-    ∙ sym (append_assoc (line_edges before k) (edges_after (before ++ k ∷ []) ls) (line_edges (before ++ k ∷ ls) l))
-
--- the edges of one more line come last
-pub edges_push : (g : GraphValue) (l : Line) → edges (with_line g l) ≡ edges g ++ line_edges g.lines l
-edges_push g l = edges_after_push [] g.lines l
+use Rattle.graph_terms.proofs.EdgeFacts.{edges_push}
 
 into_push : (g : GraphValue) (l : Line) (i : ℕ) → edges_into (with_line g l) i ≡ edges_into g i ++ filter (λ e. e.to == i) (line_edges g.lines l)
 into_push g l i = ap (filter (λ (e : Edge). e.to == i)) (edges_push g l) ∙ filter-append (λ (e : Edge). e.to == i) (edges g) (line_edges g.lines l)

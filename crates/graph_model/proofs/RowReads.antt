@@ -2,19 +2,19 @@
 use Rattle.std.proofs.Common.{◌≡◌, ℕ, ◌+◌, ◌*◌, ◌^◌, ◌<◌, ◌≤◌, false, List, [], length, refl, sym, ◌∙◌, ap, subst, arith, get_or}
 use Rattle.std.specs.Prelude.{Option, Some, None, nat_lt, not, option_map, slice_get}
 use Rattle.std.specs.Option.{option_map_or}
-use Rattle.std.proofs.lemmas.Bool.{leb-false}
 use Rattle.std.proofs.lemmas.Option.{get_or_from_slice_get, slice_get_read}
-use Rattle.graph_model.specs.declared.kept.mark.Mark.{Mark}
-use Rattle.graph_model.specs.declared.graph.verb.Edge.{Edge}
-use Rattle.graph_model.specs.declared.graph.verb.Line.{Line}
-use Rattle.graph_model.specs.declared.graph.verb.Verb.{Verb}
-use Rattle.graph_model.specs.declared.graph.verb.Verb.TheVariants.{User, Phase}
-use Rattle.graph_model.specs.graph.Graph.{GraphValue, BarrierInfo, arrival_weight, barriers, barrier_count, verb_at, never_comes, never_comes_as}
-use Rattle.graph_model.specs.graph.Edges.{edges_into, edges_out_of}
-use Rattle.graph_model.specs.graph.Fits.{IsGraph, line_fault}
-use Rattle.graph_model.specs.kept.Rows.{RowsValue, mark_at, mark_of, AreRowsOf}
-use Rattle.graph_model.proofs.GraphFacts.{verb_known}
+use Rattle.graph_indexes.specs.declared.mark.Mark.{Mark}
+use Rattle.graph_terms.specs.declared.verb.Edge.{Edge}
+use Rattle.graph_terms.specs.declared.verb.Line.{Line}
+use Rattle.graph_terms.specs.declared.verb.Verb.{Verb}
+use Rattle.graph_terms.specs.declared.verb.Verb.TheVariants.{User, Phase}
+use Rattle.graph_terms.specs.Graph.{GraphValue, arrival_weight, barriers, barrier_count, verb_at, never_comes, never_comes_as}
+use Rattle.graph_terms.specs.declared.decl.BarrierInfo.{BarrierInfo}
+use Rattle.graph_terms.specs.Edges.{edges_into, edges_out_of}
+use Rattle.graph_terms.specs.Fits.{IsGraph, line_fault}
+use Rattle.graph_indexes.specs.Rows.{RowsValue, mark_at, mark_of, AreRowsOf}
 use Rattle.graph_model.proofs.RowLaws.{few_arrivals, line_weight_few}
+use Rattle.graph_terms.proofs.GraphFacts.{barrier_known}
 
 -- a line of a graph has a row
 pub row_is : (g now : GraphValue) (rows : RowsValue) (i : ℕ) → g ≡ now → AreRowsOf g rows → i < length now.lines → i < length rows.marks
@@ -42,10 +42,6 @@ verb_read g now i l same h is =
 -- a line of a verb that never comes, by the test of that verb
 pub never_of : (g : GraphValue) (i : ℕ) (v : Verb) → verb_at g i ≡ Some v → never_comes g i ≡ never_comes_as g i v
 never_of g i v e = ap (λ o. option_map_or (never_comes_as g i) o false) e
-
--- the barrier of a phase is declared
-pub barrier_known : (g : GraphValue) → IsGraph g → (i b : ℕ) (l : Line) → slice_get g.lines i ≡ Some l → l.verb ≡ Phase b → b < length (barriers g)
-barrier_known g f i b l at is = leb-false (length (barriers g)) b (verb_known g f i l (Phase b) at is).1
 
 -- a line never comes by its verb and its mark
 pub never_user : (g now : GraphValue) (i : ℕ) (l : Line) (m : Mark) → g ≡ now → i < length now.lines → l ≡ get_or g.lines i l → l.verb ≡ User → m ≡ mark_of g i → not m.ended ≡ never_comes now i

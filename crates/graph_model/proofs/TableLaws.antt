@@ -1,26 +1,26 @@
 -- What the tables of a graph give, and that its numbers are within the limits.
-use Rattle.std.proofs.Common.{◌≡◌, ℕ, zero, suc, ◌+◌, ◌<◌, ◌≤◌, false, ◌||◌, inl, inr, List, [], ◌∷◌, ◌++◌, length, refl, sym, ◌∙◌, ap, subst, append_assoc, length-append, arith, get_or}
-use Rattle.std.specs.Prelude.{Contains, filter, filter_map, flat_map, Option, Some, None, option_map, slice_get, nat_lt}
+use Rattle.std.proofs.Common.{◌≡◌, ℕ, zero, suc, ◌+◌, ◌<◌, ◌≤◌, false, ◌||◌, List, [], ◌∷◌, ◌++◌, length, refl, sym, ◌∙◌, ap, arith, get_or}
+use Rattle.std.specs.Prelude.{filter, filter_map, flat_map, Option, Some, None, option_map, slice_get, nat_lt}
 use Rattle.std.specs.List.{cons_option}
 use Rattle.std.specs.Option.{option_map_or}
-use Rattle.std.proofs.lemmas.Bool.{or_parts, ltb-false, leb-false}
-use Rattle.std.proofs.lemmas.Option.{none-some, same_Some, slice_get_within, get_or_from_slice_get, slice_get_read, slice_get-get_or}
+use Rattle.std.proofs.lemmas.Bool.{or_parts, ltb-false}
+use Rattle.std.proofs.lemmas.Option.{none-some, same_Some, slice_get_within, slice_get_read, slice_get-get_or}
 use Rattle.std.proofs.lemmas.Grind.{flat_map-append}
 use Rattle.std.proofs.lemmas.List.{append-nil}
-use Rattle.std.proofs.lemmas.List.Elements.{filter_map-append, Contains-append_cases}
-use Rattle.graph_model.specs.declared.graph.format.Format.{Format}
-use Rattle.graph_model.specs.declared.graph.decl.Decl.{Decl}
-use Rattle.graph_model.specs.declared.graph.decl.Decl.TheVariants.{Space, Inst, Lock, Barrier}
-use Rattle.graph_model.specs.declared.graph.verb.Line.{Line}
-use Rattle.graph_model.specs.declared.graph.why.Why.TheVariants as why
-use Rattle.graph_model.specs.graph.Graph.{GraphValue, ColumnInfo, BarrierInfo, space_of, columns_of, lock_of, barrier_of, named_spaces, columns, locks, barriers}
-use Rattle.graph_model.specs.graph.Fits.{is_inst, is_large, is_beyond, cell_count, merges_many, decl_unknown, decl_tests, decl_fault, line_tests, line_fault, with_decl, with_line, DeclsFit, IsGraph}
-use Rattle.graph_model.specs.graph.Edges.{edges}
-use Rattle.graph_model.specs.graph.Spelling.{head}
-use Rattle.graph_model.specs.kept.Tables.{TablesValue, places_of, tables_of, tables_with, IsWithinLimits}
-use Rattle.graph_model.proofs.GraphPush.{long_head}
-use Rattle.graph_model.proofs.GraphFacts.{none_first}
-use Rattle.basics.proofs.ListFacts.{contains_none, map_contains}
+use Rattle.std.proofs.lemmas.List.Elements.{filter_map-append}
+use Rattle.graph_terms.specs.declared.decl.Decl.{Decl}
+use Rattle.graph_terms.specs.declared.decl.Decl.TheVariants.{Space, Inst, Lock, Barrier}
+use Rattle.graph_terms.specs.declared.verb.Line.{Line}
+use Rattle.graph_terms.specs.declared.why.Why.TheVariants as why
+use Rattle.graph_terms.specs.Graph.{GraphValue, space_of, columns_of, lock_of, barrier_of, named_spaces, columns, locks, barriers}
+use Rattle.graph_terms.specs.declared.decl.ColumnInfo.{ColumnInfo}
+use Rattle.graph_terms.specs.declared.decl.BarrierInfo.{BarrierInfo}
+use Rattle.graph_terms.specs.Fits.{is_inst, is_large, is_beyond, cell_count, merges_many, decl_tests, decl_fault, line_tests, line_fault, with_decl, with_line}
+use Rattle.graph_terms.specs.Edges.{edges}
+use Rattle.graph_terms.specs.Spelling.{head}
+use Rattle.graph_indexes.specs.Tables.{TablesValue, places_of, tables_of, tables_with, IsWithinLimits}
+use Rattle.graph_terms.proofs.GraphPush.{long_head}
+use Rattle.graph_terms.proofs.GraphFacts.{none_first}
 
 cons_before : (o : Option ℕ) (a b c : List ℕ) → a ≡ b ++ c → cons_option o a ≡ cons_option o b ++ c
 cons_before None a b c e = e
@@ -172,29 +172,6 @@ space_decl_is xs s d known gives =
     let at : slice_get xs s ≡ Some x = slice_get-get_or xs s ([], []) known in
     let space : option_map_or (λ (y : List ℕ × List (ℕ × ℕ)). y.1) (slice_get xs s) [] ≡ x.1 = ap (λ (o : Option (List ℕ × List (ℕ × ℕ))). option_map_or (λ (y : List ℕ × List (ℕ × ℕ)). y.1) o []) at in
     (x.0, space_of_is d x (gives ∙ at) ∙ ap (λ z. Space x.0 z) (sym space), at ∙ ap (λ z. Some (x.0, z)) (sym space))
-
--- the space of a column is declared
-pub columns_known : (fm : Format) (before ds : List Decl) → DeclsFit fm before ds → (x : ColumnInfo) → Contains (flat_map columns_of ds) x → x.space < length (filter_map space_of (before ++ ds))
-columns_known fm before [] f x c = absurd (contains_none x c)
-columns_known fm before (d ∷ ds) f x c = elim (Contains-append_cases (columns_of d) (flat_map columns_of ds) x c) [
-  | inl here ↦ (let k : x.space < length (filter_map space_of before) = known_here fm before d f.1 x here in
-      let e : length (filter_map space_of (before ++ d ∷ ds)) ≡ length (filter_map space_of before) + length (filter_map space_of (d ∷ ds)) =
-      ap length (filter_map-append space_of before (d ∷ ds)) ∙ length-append (filter_map space_of before) (filter_map space_of (d ∷ ds)) in omega arith)
-  | inr there ↦ subst (λ l. x.space < length (filter_map space_of l)) (append_assoc before (d ∷ []) ds) (columns_known fm (before ++ d ∷ []) ds f.2 x there)
-]
-  where
-    known_here : (fm : Format) (before : List Decl) (d : Decl) → decl_fault (record { format = fm; decls = before; lines = [] }) d ≡ None → (x : ColumnInfo) → Contains (columns_of d) x → x.space < length (filter_map space_of before)
-    known_here fm before (Space name space) h x c = absurd (contains_none x c)
-    known_here fm before (Inst name space fields) h x c =
-        let g : GraphValue = record { format = fm; decls = before; lines = [] } in
-        let m = map_contains (λ f. record { inst = name; field = f; space = space }) fields x c in
-        let known : decl_unknown g (Inst name space fields) ≡ false = none_first (decl_tests g (Inst name space fields)) h (decl_unknown g (Inst name space fields), why.Unknown) (1, omega arith, refl) in
-        subst (λ (y : ColumnInfo). y.space < length (filter_map space_of before)) m.2 (leb-false (length (filter_map space_of before)) space known)
-    known_here fm before (Lock name) h x c = absurd (contains_none x c)
-    known_here fm before (Barrier name count op first) h x c = absurd (contains_none x c)
-
-pub column_space_known : (g : GraphValue) → IsGraph g → (c : ℕ) (x : ColumnInfo) → slice_get (columns g) c ≡ Some x → x.space < length (named_spaces g)
-column_space_known g f c x e = columns_known g.format [] g.decls f.decls x (c, slice_get_within (columns g) c x e, get_or_from_slice_get (columns g) c x x e)
 
 -- a graph with one more declaration, and with one more line, is within the limits
 pub limits_decl : (g : GraphValue) (d : Decl) → decl_fault g d ≡ None → IsWithinLimits (with_decl g d)

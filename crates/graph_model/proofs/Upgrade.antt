@@ -4,35 +4,35 @@ use Rattle.std.specs.Prelude.{Option, Some, None, codes, nat_lt, nat_le, nat_eq,
 use Rattle.std.specs.Option.{option_map_or}
 use Rattle.std.specs.List.{list_any}
 use Rattle.std.proofs.lemmas.Bool.{or_parts, or_from, ltb-false, le-ltb}
-use Rattle.graph_model.specs.declared.graph.format.Format.{Format}
-use Rattle.graph_model.specs.declared.graph.format.Format.TheVariants.{One, Two}
-use Rattle.graph_model.specs.declared.graph.decl.Decl.{Decl}
-use Rattle.graph_model.specs.declared.graph.decl.Decl.TheVariants as decl
-use Rattle.graph_model.specs.declared.graph.found.Found.{Found}
-use Rattle.graph_model.specs.declared.graph.found.Found.TheVariants as found
-use Rattle.graph_model.specs.declared.graph.table.Place.{Place}
-use Rattle.graph_model.specs.declared.graph.table.Place.TheVariants as places
-use Rattle.graph_model.specs.declared.graph.verb.Access.{Access}
-use Rattle.graph_model.specs.declared.graph.verb.Line.{Line}
-use Rattle.graph_model.specs.declared.graph.verb.Verb.{Verb}
-use Rattle.graph_model.specs.declared.graph.verb.Verb.TheVariants.{Merge, MergeIgnore, Arrive}
-use Rattle.graph_model.specs.declared.graph.why.Why.{Why}
-use Rattle.graph_model.specs.declared.graph.why.Why.TheVariants as why
-use Rattle.graph_model.specs.graph.Graph.{GraphValue, upgraded, decl_name, columns, locks, barriers}
-use Rattle.graph_model.specs.graph.Edges.{edges}
-use Rattle.graph_model.specs.graph.Table.{verb_kind, verb_placed, kind_words, any_placed}
-use Rattle.graph_model.specs.graph.Access.{verb_accesses}
-use Rattle.graph_model.specs.graph.Spelling.{spelled, decl_words, place_word, verb_words, on_words, line_words, header, decls_text, lines_text, head}
-use Rattle.graph_model.specs.graph.Fits.{first_reason, is_inst, cell_count, is_used, decl_repeats, decl_unknown, decl_misnumbered, is_large, named_lines, on_lines, repeats, decl_fault, place_repeats, verb_repeats, place_unknown, place_unlike, verb_unlike, takes_no_on, most_weight, verb_misnumbered, access_unknown, access_outside, arrives_late, merges_many, format_lacks, is_beyond, line_tests, line_fault, DeclsFit, LinesFit, IsGraph}
-use Rattle.graph_model.specs.graph.Names.{StandsFor, AreNamesOf}
-use Rattle.graph_model.specs.kept.Names.{NamesValue, named}
-use Rattle.graph_model.specs.kept.Rows.{RowsValue, AreRowsOf}
-use Rattle.graph_model.specs.kept.Tables.{IsWithinLimits}
-use Rattle.graph_model.specs.declared.kept.counts.Counts.{Counts}
-use Rattle.graph_model.specs.kept.Counts.{counts_of}
-use Rattle.graph_model.proofs.AcquireLaws.{none_lacks}
-use Rattle.graph_model.proofs.EdgeFacts.{kind_fits}
-use Rattle.graph_model.proofs.GraphFacts.{none_first}
+use Rattle.graph_terms.specs.declared.format.Format.{Format}
+use Rattle.graph_terms.specs.declared.format.Format.TheVariants.{One, Two}
+use Rattle.graph_terms.specs.declared.decl.Decl.{Decl}
+use Rattle.graph_terms.specs.declared.decl.Decl.TheVariants as decl
+use Rattle.graph_terms.specs.declared.found.Found.{Found}
+use Rattle.graph_terms.specs.declared.found.Found.TheVariants as found
+use Rattle.graph_terms.specs.declared.table.Place.{Place}
+use Rattle.graph_terms.specs.declared.table.Place.TheVariants as places
+use Rattle.graph_terms.specs.declared.verb.Access.{Access}
+use Rattle.graph_terms.specs.declared.verb.Line.{Line}
+use Rattle.graph_terms.specs.declared.verb.Verb.{Verb}
+use Rattle.graph_terms.specs.declared.verb.Verb.TheVariants.{Merge, MergeIgnore, Arrive}
+use Rattle.graph_terms.specs.declared.why.Why.{Why}
+use Rattle.graph_terms.specs.declared.why.Why.TheVariants as why
+use Rattle.graph_terms.specs.Graph.{GraphValue, upgraded, decl_name, columns, locks, barriers}
+use Rattle.graph_terms.specs.Edges.{edges}
+use Rattle.graph_terms.specs.Table.{verb_kind, verb_placed, kind_words, any_placed}
+use Rattle.graph_terms.specs.Access.{verb_accesses}
+use Rattle.graph_terms.specs.Spelling.{spelled, decl_words, place_word, verb_words, on_words, line_words, header, decls_text, lines_text, head}
+use Rattle.graph_terms.specs.Fits.{first_reason, is_inst, cell_count, is_used, decl_repeats, decl_unknown, decl_misnumbered, is_large, named_lines, on_lines, repeats, decl_fault, place_repeats, verb_repeats, place_unknown, place_unlike, verb_unlike, takes_no_on, most_weight, verb_misnumbered, access_unknown, access_outside, arrives_late, merges_many, format_lacks, is_beyond, line_tests, line_fault, DeclsFit, LinesFit, IsGraph}
+use Rattle.graph_terms.specs.Names.{StandsFor}
+use Rattle.graph_indexes.specs.Names.{AreNamesOf, NamesValue, named}
+use Rattle.graph_indexes.specs.Rows.{RowsValue, AreRowsOf}
+use Rattle.graph_indexes.specs.Tables.{IsWithinLimits}
+use Rattle.graph_indexes.specs.declared.counts.Counts.{Counts}
+use Rattle.graph_indexes.specs.Counts.{counts_of}
+use Rattle.graph_terms.proofs.AcquireLaws.{none_lacks}
+use Rattle.graph_terms.proofs.EdgeFacts.{kind_fits}
+use Rattle.graph_terms.proofs.GraphFacts.{none_first}
 
 -- the same declarations and lines in a format
 abbrev of : Format → List Decl → List Line → GraphValue

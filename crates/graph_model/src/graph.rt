@@ -1,36 +1,26 @@
 //! What a graph is: declarations and lines, and which items fit.
 
-pub(crate) mod access;
-pub mod decl;
 pub(crate) mod edges;
 mod faults;
-pub mod format;
-pub mod found;
-pub mod limits;
-pub mod lists;
-pub mod name;
 mod quantities;
 pub(crate) mod repeats;
 mod sizes;
-pub mod table;
-pub mod verb;
-pub mod why;
 pub(crate) mod words;
 
-use crate::graph::access::{Accesses, in_format, verb_accesses};
-use crate::graph::decl::{BarrierInfo, Decl};
 use crate::graph::edges::list_edges;
-use crate::graph::format::Format;
-use crate::graph::found::Found;
-use crate::graph::limits::{MAX_BARRIERS, MAX_COLUMNS, MAX_LINES, MAX_LOCKS};
-use crate::graph::name::Name;
-use crate::graph::verb::{Access, Edge, Line, Verb};
-use crate::graph::why::Why;
-use crate::kept::counts::Counts;
-use crate::kept::mark::Mark;
-use crate::kept::names::Names;
-use crate::kept::rows::Rows;
-use crate::kept::tables::Tables;
+use graph_indexes::counts::Counts;
+use graph_indexes::mark::Mark;
+use graph_indexes::names::Names;
+use graph_indexes::rows::Rows;
+use graph_indexes::tables::Tables;
+use graph_terms::access::{Accesses, in_format, verb_accesses};
+use graph_terms::decl::{BarrierInfo, Decl};
+use graph_terms::format::Format;
+use graph_terms::found::Found;
+use graph_terms::limits::{MAX_BARRIERS, MAX_COLUMNS, MAX_LINES, MAX_LOCKS};
+use graph_terms::name::Name;
+use graph_terms::verb::{Access, Edge, Line, Verb};
+use graph_terms::why::Why;
 use index_spaces::NoMemory;
 use index_spaces::room::{push_within, reserve};
 use index_spaces::space::Space;
@@ -84,16 +74,16 @@ impl Drop for Graph {
 
 impl Model for Graph {
     ghost use Rattle.std.specs.Prelude.{◌≡◌, map};
-    ghost use Rattle.graph_model.specs.graph.Graph.{GraphValue};
-    ghost use Rattle.graph_model.specs.graph.Access.{kept_accesses};
+    ghost use Rattle.graph_terms.specs.Graph.{GraphValue};
+    ghost use Rattle.graph_terms.specs.Access.{kept_accesses};
 
     ghost Value = { GraphValue };
 
-    ghost use Rattle.graph_model.specs.graph.Fits.{IsGraph};
-    ghost use Rattle.graph_model.specs.kept.Tables.{tables_of, IsWithinLimits};
-    ghost use Rattle.graph_model.specs.graph.Names.{AreNamesOf};
-    ghost use Rattle.graph_model.specs.kept.Rows.{AreRowsOf};
-    ghost use Rattle.graph_model.specs.kept.Counts.{counts_of};
+    ghost use Rattle.graph_terms.specs.Fits.{IsGraph};
+    ghost use Rattle.graph_indexes.specs.Tables.{tables_of, IsWithinLimits};
+    ghost use Rattle.graph_indexes.specs.Names.{AreNamesOf};
+    ghost use Rattle.graph_indexes.specs.Rows.{AreRowsOf};
+    ghost use Rattle.graph_indexes.specs.Counts.{counts_of};
 
     ghost view = { λ a. record { format = a.format; decls = a.decls.items; lines = a.lines.items } };
 
@@ -110,16 +100,16 @@ impl Model for Graph {
 
 impl Graph {
     ghost use Rattle.std.specs.Prelude.{◌≡◌, [], length, ◌<◌, ◌≤◌, slice_get, position, false, None, OnOk, OnErr, IfOk, IfSome, MatchOption, option_map};
-    ghost use Rattle.graph_model.specs.declared.graph.format.Format.TheVariants.{One};
-    ghost use Rattle.graph_model.specs.graph.Graph.{upgraded, verb_at, named_spaces, space_of, columns, locks, barriers, space_at, column_space, never_comes, line_passes, is_shared, ends_user, is_release_of};
+    ghost use Rattle.graph_terms.specs.declared.format.Format.TheVariants.{One};
+    ghost use Rattle.graph_terms.specs.Graph.{upgraded, verb_at, named_spaces, space_of, columns, locks, barriers, space_at, column_space, never_comes, line_passes, is_shared, ends_user, is_release_of};
     ghost use Rattle.std.specs.List.{list_any};
-    ghost use Rattle.graph_model.specs.kept.Rows.{mark_of};
-    ghost use Rattle.graph_model.specs.graph.Edges.{edges_into, edges_out_of};
-    ghost use Rattle.graph_model.specs.graph.Access.{accesses, verb_accesses, kept_accesses};
+    ghost use Rattle.graph_indexes.specs.Rows.{mark_of};
+    ghost use Rattle.graph_terms.specs.Edges.{edges_into, edges_out_of};
+    ghost use Rattle.graph_terms.specs.Access.{accesses, verb_accesses, kept_accesses};
     ghost use Rattle.std.specs.Option.{option_map_or};
-    ghost use Rattle.graph_model.specs.kept.Counts.{counts_of};
-    ghost use Rattle.graph_model.specs.graph.Names.{StandsFor, found_decl, is_column_named};
-    ghost use Rattle.graph_model.specs.graph.Fits.{IsGraph, IsDecl, IsLine, decl_fault, line_fault, with_decl, with_line, is_used};
+    ghost use Rattle.graph_indexes.specs.Counts.{counts_of};
+    ghost use Rattle.graph_terms.specs.Names.{StandsFor, found_decl, is_column_named};
+    ghost use Rattle.graph_terms.specs.Fits.{IsGraph, IsDecl, IsLine, decl_fault, line_fault, with_decl, with_line, is_used};
 
     /// The graph of format 1 with no declaration and no line. It takes no memory.
     pub fn new(alloc: Global) -> Graph

@@ -4,12 +4,12 @@ use Rattle.std.specs.Prelude.{Option, Some, None, is_some, position, unwrap_or, 
 use Rattle.std.specs.List.{list_any}
 use Rattle.std.proofs.lemmas.Bool.{true≢false, and_parts}
 use Rattle.std.proofs.lemmas.Option.{none-some, same_Some}
-use Rattle.graph_model.specs.declared.graph.decl.ColumnInfo.{ColumnInfo}
-use Rattle.graph_model.specs.graph.Name.{is_name}
-use Rattle.graph_model.specs.graph.Graph.{GraphValue, columns}
-use Rattle.graph_model.specs.graph.Names.{is_column_named}
-use Rattle.graph_model.specs.graph.Fits.{IsGraph, is_used}
-use Rattle.graph_model.specs.declared.graph.found.Found.{Found}
+use Rattle.graph_terms.specs.declared.decl.ColumnInfo.{ColumnInfo}
+use Rattle.graph_terms.specs.Name.{is_name}
+use Rattle.graph_terms.specs.Graph.{GraphValue, columns}
+use Rattle.graph_terms.specs.Names.{is_column_named}
+use Rattle.graph_terms.specs.Fits.{IsGraph, is_used}
+use Rattle.graph_terms.specs.declared.found.Found.{Found}
 use Rattle.graph_reader.specs.Words.{pieces, is_two_names, is_column}
 use Rattle.graph_reader.specs.Cuts.{two_pieces}
 use Rattle.graph_reader.specs.Draft.{Column, column_number_of}

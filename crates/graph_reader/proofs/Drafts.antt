@@ -4,10 +4,10 @@ use Rattle.std.specs.Prelude.{Option, Some, None, bytes_eq, nat_eq, filter_map, 
 use Rattle.std.specs.List.{list_any, list_all, AllByRecursion, cons_option}
 use Rattle.std.proofs.lemmas.Bool.{or_parts, or_from, and_parts, false_from_ne_true, eqb-false, not-true, leb-true}
 use Rattle.std.proofs.lemmas.Option.{none-some}
-use Rattle.graph_model.specs.declared.graph.why.Why.{Why}
-use Rattle.graph_model.specs.graph.Graph.{GraphValue}
-use Rattle.graph_model.specs.graph.Spelling.{column_name}
-use Rattle.graph_model.specs.graph.Fits.{first_reason, repeats}
+use Rattle.graph_terms.specs.declared.why.Why.{Why}
+use Rattle.graph_terms.specs.Graph.{GraphValue}
+use Rattle.graph_terms.specs.Spelling.{column_name}
+use Rattle.graph_terms.specs.Fits.{first_reason, repeats}
 use Rattle.graph_reader.specs.Words.{pieces}
 use Rattle.graph_reader.specs.Draft.{Place, NewName, SpaceName, LockName, BarrierName, UserName, PhaseName, AcquireName, EventName, Column, Fields, Value, Times, Weight, Shared, Count, Intervals, Placed, is_own_word, Draft, number_in, column_number_of}
 use Rattle.graph_reader.specs.FirstFault.{misnamed, unknown, twice, unlike, misnumbered, misordered, event_word, column_word, item_fault, or_else, draft_tests, draft_fault, is_empty}

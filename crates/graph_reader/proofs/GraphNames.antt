@@ -6,16 +6,16 @@ use Rattle.std.proofs.lemmas.Bool.{true≢false, or_parts, or_from, and_left, an
 use Rattle.std.proofs.lemmas.Option.{none-some, same_Some}
 use Rattle.std.proofs.lemmas.List.{map-append}
 use Rattle.std.proofs.lemmas.List.Elements.{Contains-append_left, Contains-append_right}
-use Rattle.graph_model.specs.declared.graph.format.Format.{Format}
-use Rattle.graph_model.specs.declared.graph.decl.Decl.{Decl}
-use Rattle.graph_model.specs.declared.graph.decl.Decl.TheVariants as decl
-use Rattle.graph_model.specs.declared.graph.verb.Line.{Line}
-use Rattle.graph_model.specs.declared.graph.why.Why.{Why}
-use Rattle.graph_model.specs.graph.Name.{is_name}
-use Rattle.graph_model.specs.declared.graph.decl.ColumnInfo.{ColumnInfo}
-use Rattle.graph_model.specs.declared.graph.decl.BarrierInfo.{BarrierInfo}
-use Rattle.graph_model.specs.graph.Graph.{GraphValue, decl_name, space_of, columns_of, lock_of, barrier_of, named_spaces, columns, locks, barriers}
-use Rattle.graph_model.specs.graph.Fits.{first_reason, repeats, names, is_used, decl_repeats, decl_tests, line_tests, IsDecl, DeclsFit, LinesFit, IsGraph}
+use Rattle.graph_terms.specs.declared.format.Format.{Format}
+use Rattle.graph_terms.specs.declared.decl.Decl.{Decl}
+use Rattle.graph_terms.specs.declared.decl.Decl.TheVariants as decl
+use Rattle.graph_terms.specs.declared.verb.Line.{Line}
+use Rattle.graph_terms.specs.declared.why.Why.{Why}
+use Rattle.graph_terms.specs.Name.{is_name}
+use Rattle.graph_terms.specs.declared.decl.ColumnInfo.{ColumnInfo}
+use Rattle.graph_terms.specs.declared.decl.BarrierInfo.{BarrierInfo}
+use Rattle.graph_terms.specs.Graph.{GraphValue, decl_name, space_of, columns_of, lock_of, barrier_of, named_spaces, columns, locks, barriers}
+use Rattle.graph_terms.specs.Fits.{first_reason, repeats, names, is_used, decl_repeats, decl_tests, line_tests, IsDecl, DeclsFit, LinesFit, IsGraph}
 use Rattle.basics.proofs.ListFacts.{passes_some, contains_map, contains_here, contains_there}
 use Rattle.graph_reader.proofs.TextLists.{same_bytes, bytes_same, any_left, any_append, each_contained, each_append, repeats_left, repeats_right, repeats_append, repeats_map, repeats_push, found_of, found_is, mapped_from}
 

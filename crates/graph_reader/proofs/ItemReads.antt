@@ -2,9 +2,9 @@
 use Rattle.std.proofs.Common.{◌≡◌, ℕ, ◌+◌, true, false, ◌⊎◌, inl, inr, List, refl, sym, ◌∙◌, ap, subst}
 use Rattle.std.specs.Prelude.{Some, None, Result, Ok, Err, OnOk, IfErr, codes, bytes_eq}
 use Rattle.std.proofs.lemmas.Option.{same_Some}
-use Rattle.graph_model.specs.declared.graph.decl.Decl.{Decl}
-use Rattle.graph_model.specs.declared.graph.verb.Line.{Line}
-use Rattle.graph_model.specs.graph.Graph.{GraphValue}
+use Rattle.graph_terms.specs.declared.decl.Decl.{Decl}
+use Rattle.graph_terms.specs.declared.verb.Line.{Line}
+use Rattle.graph_terms.specs.Graph.{GraphValue}
 use Rattle.graph_reader.specs.Words.{pieces}
 use Rattle.graph_reader.specs.Draft.{Draft, draft}
 use Rattle.graph_reader.specs.FirstFault.{has_newline, first_line, words_fault}

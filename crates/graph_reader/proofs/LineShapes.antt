@@ -6,19 +6,19 @@ use Rattle.std.specs.Option.{option_map_or}
 use Rattle.std.proofs.lemmas.Bool.{true≢false, and_parts, ne_eqb, le-leb, leb-true, cond-true, cond-false, eqb-true}
 use Rattle.std.proofs.lemmas.Option.{none-some, same_Some}
 use Rattle.index_spaces.specs.declared.Op.{Op}
-use Rattle.graph_model.specs.declared.graph.format.Format.{Format}
-use Rattle.graph_model.specs.declared.graph.decl.Decl.{Decl}
-use Rattle.graph_model.specs.declared.graph.verb.Line.{Line}
-use Rattle.graph_model.specs.declared.graph.verb.Verb.{Verb}
-use Rattle.graph_model.specs.declared.graph.why.Why.TheVariants as why
+use Rattle.graph_terms.specs.declared.format.Format.{Format}
+use Rattle.graph_terms.specs.declared.decl.Decl.{Decl}
+use Rattle.graph_terms.specs.declared.verb.Line.{Line}
+use Rattle.graph_terms.specs.declared.verb.Verb.{Verb}
+use Rattle.graph_terms.specs.declared.why.Why.TheVariants as why
 use Rattle.graph_reader.specs.declared.item.ItemError.TheVariants as errors
 use Rattle.graph_reader.specs.FirstFault.{is_empty, words_fault, draft_fault}
-use Rattle.graph_model.specs.declared.graph.verb.Verb.TheVariants.{Merge, MergeIgnore}
-use Rattle.graph_model.specs.graph.Graph.{GraphValue}
+use Rattle.graph_terms.specs.declared.verb.Verb.TheVariants.{Merge, MergeIgnore}
+use Rattle.graph_terms.specs.Graph.{GraphValue}
 use Rattle.graph_reader.specs.declared.item.ItemError.{ItemError}
-use Rattle.graph_model.specs.declared.graph.table.Kind.{Kind}
-use Rattle.graph_model.specs.declared.graph.table.Kind.TheVariants as kinds
-use Rattle.graph_model.specs.declared.graph.table.TheConstants.{KINDS}
+use Rattle.graph_terms.specs.declared.table.Kind.{Kind}
+use Rattle.graph_terms.specs.declared.table.Kind.TheVariants as kinds
+use Rattle.graph_terms.specs.declared.table.TheConstants.{KINDS}
 use Rattle.graph_reader.specs.Kinds.{kind_draft, HasPlaces}
 use Rattle.graph_reader.specs.Reading.{open_fault, IsDeclRead, IsDeclOf, IsLineOf, IsWordsError, is_operation}
 use Rattle.graph_reader.specs.Draft.{Placed, Draft, draft, merge_with, decl_draft_after, form_of, form_draft, is_since, is_own_word, is_of_form, same_word, merge_draft, line_draft, decl_draft, space_draft, inst_draft, lock_draft, barrier_draft, space_with, inst_with, lock_with, barrier_with, op_of}

@@ -4,13 +4,13 @@ use Rattle.std.proofs.lemmas.Bool.{and_parts, and_from}
 use Rattle.std.specs.Cmp.Derive.{one_truth}
 use Rattle.std.specs.Prelude.{Option, Some, None, Err, is_some, nat_eq, bytes_eq, filter_map}
 use Rattle.std.specs.List.{list_any, list_all}
-use Rattle.graph_model.specs.declared.graph.verb.Verb.{Verb}
-use Rattle.graph_model.specs.declared.graph.why.Why.{Why}
-use Rattle.graph_model.specs.declared.graph.why.Why.TheVariants as why
-use Rattle.graph_model.specs.graph.Graph.{GraphValue}
-use Rattle.graph_model.specs.graph.Spelling.{line_name}
-use Rattle.graph_model.specs.graph.Name.{is_name}
-use Rattle.graph_model.specs.graph.Fits.{IsGraph, first_reason, repeats, is_used, line_fault}
+use Rattle.graph_terms.specs.declared.verb.Verb.{Verb}
+use Rattle.graph_terms.specs.declared.why.Why.{Why}
+use Rattle.graph_terms.specs.declared.why.Why.TheVariants as why
+use Rattle.graph_terms.specs.Graph.{GraphValue}
+use Rattle.graph_terms.specs.Spelling.{line_name}
+use Rattle.graph_terms.specs.Name.{is_name}
+use Rattle.graph_terms.specs.Fits.{IsGraph, first_reason, repeats, is_used, line_fault}
 use Rattle.graph_reader.specs.Draft.{Place, EventName, Placed, merge_with, line_number}
 use Rattle.graph_reader.specs.FirstFault.{misnamed, twice, unknown, unlike, misnumbered, misordered, event_word, column_word, is_line_name, draft_tests, draft_fault, or_else, item_fault}
 use Rattle.graph_reader.specs.Merges.{merge_verb, merge_line, merge_reason, all_lines, IsMergeError}

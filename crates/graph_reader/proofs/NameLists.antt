@@ -8,7 +8,7 @@ use Rattle.std.proofs.lemmas.Bool.{true≢false}
 use Rattle.std.proofs.lemmas.List.{take_more, map-append}
 use Rattle.std.proofs.lemmas.List.Folds.{list_any-append}
 use Rattle.std.proofs.lemmas.Map.Text.{is_eq-slice_cmp}
-use Rattle.graph_model.specs.graph.Fits.{repeats}
+use Rattle.graph_terms.specs.Fits.{repeats}
 use Rattle.graph_reader.proofs.TextLists.{same_bytes, bytes_same, repeats_push}
 use Rattle.graph_reader.proofs.Places.{bytes_flip}
 use Rattle.graph_reader.proofs.WordLists.{words_of}

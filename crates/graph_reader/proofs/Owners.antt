@@ -6,18 +6,18 @@ use Rattle.std.specs.List.{list_any, position_or_len, AllByRecursion, cons_optio
 use Rattle.std.proofs.lemmas.Bool.{ltb-true, true≢false, or_parts, or_from, cond-false, cond-true, le-ltb, lt-ltb, not_from_false}
 use Rattle.std.proofs.lemmas.Option.{none-some, same_Some}
 use Rattle.std.proofs.lemmas.List.Folds.{list_any-append}
-use Rattle.graph_model.specs.declared.graph.decl.ColumnInfo.{ColumnInfo}
-use Rattle.graph_model.specs.declared.graph.decl.BarrierInfo.{BarrierInfo}
-use Rattle.graph_model.specs.declared.graph.format.Format.{Format}
-use Rattle.graph_model.specs.declared.graph.decl.Decl.{Decl}
-use Rattle.graph_model.specs.declared.graph.decl.Decl.TheVariants as decl
-use Rattle.graph_model.specs.declared.graph.found.Found.{Found}
-use Rattle.graph_model.specs.declared.graph.found.Found.TheVariants as found
-use Rattle.graph_model.specs.declared.graph.verb.Line.{Line}
-use Rattle.graph_model.specs.graph.Name.{is_name}
-use Rattle.graph_model.specs.graph.Graph.{GraphValue, decl_name, space_of, columns_of, lock_of, barrier_of, named_spaces, locks, barriers}
-use Rattle.graph_model.specs.graph.Names.{StandsFor, is_inst_named}
-use Rattle.graph_model.specs.graph.Fits.{repeats, names, is_used, is_inst, decl_misnumbered, decl_tests, DeclsFit, IsGraph}
+use Rattle.graph_terms.specs.declared.decl.ColumnInfo.{ColumnInfo}
+use Rattle.graph_terms.specs.declared.decl.BarrierInfo.{BarrierInfo}
+use Rattle.graph_terms.specs.declared.format.Format.{Format}
+use Rattle.graph_terms.specs.declared.decl.Decl.{Decl}
+use Rattle.graph_terms.specs.declared.decl.Decl.TheVariants as decl
+use Rattle.graph_terms.specs.declared.found.Found.{Found}
+use Rattle.graph_terms.specs.declared.found.Found.TheVariants as found
+use Rattle.graph_terms.specs.declared.verb.Line.{Line}
+use Rattle.graph_terms.specs.Name.{is_name}
+use Rattle.graph_terms.specs.Graph.{GraphValue, decl_name, space_of, columns_of, lock_of, barrier_of, named_spaces, locks, barriers}
+use Rattle.graph_terms.specs.Names.{StandsFor, is_inst_named}
+use Rattle.graph_terms.specs.Fits.{repeats, names, is_used, is_inst, decl_misnumbered, decl_tests, DeclsFit, IsGraph}
 use Rattle.graph_reader.specs.FirstFault.{is_inst_name}
 use Rattle.graph_reader.specs.Lookups.{IsFound}
 use Rattle.graph_reader.proofs.TextLists.{same_bytes, bytes_differ, any_right, any_map, first_is, each_append, each_map}

@@ -5,14 +5,14 @@ use Rattle.std.specs.Option.{option_map_or}
 use Rattle.std.specs.List.{list_any, join_with_byte}
 use Rattle.std.proofs.lemmas.Bool.{true≢false, or_parts, or_from, and_right, and_parts, and_from, not_from_true, not-false}
 use Rattle.std.proofs.lemmas.Option.{none-some, same_Some}
-use Rattle.graph_model.specs.declared.graph.verb.Line.{Line}
-use Rattle.graph_model.specs.declared.graph.verb.Verb.{Verb}
-use Rattle.graph_model.specs.graph.Name.{is_name}
-use Rattle.graph_model.specs.declared.graph.decl.ColumnInfo.{ColumnInfo}
-use Rattle.graph_model.specs.declared.graph.decl.BarrierInfo.{BarrierInfo}
-use Rattle.graph_model.specs.graph.Graph.{GraphValue, named_spaces, columns, locks, barriers, line_passes, is_user, is_phase, is_acquire, is_release_of, ends_user}
-use Rattle.graph_model.specs.graph.Spelling.{space_name, lock_name, barrier_name, line_name, column_name}
-use Rattle.graph_model.specs.graph.Fits.{repeats, is_used}
+use Rattle.graph_terms.specs.declared.verb.Line.{Line}
+use Rattle.graph_terms.specs.declared.verb.Verb.{Verb}
+use Rattle.graph_terms.specs.Name.{is_name}
+use Rattle.graph_terms.specs.declared.decl.ColumnInfo.{ColumnInfo}
+use Rattle.graph_terms.specs.declared.decl.BarrierInfo.{BarrierInfo}
+use Rattle.graph_terms.specs.Graph.{GraphValue, named_spaces, columns, locks, barriers, line_passes, is_user, is_phase, is_acquire, is_release_of, ends_user}
+use Rattle.graph_terms.specs.Spelling.{space_name, lock_name, barrier_name, line_name, column_name}
+use Rattle.graph_terms.specs.Fits.{repeats, is_used}
 use Rattle.graph_reader.specs.Words.{pieces, is_two_names, is_column, value_of, count_of, weight_of}
 use Rattle.graph_reader.specs.Draft.{Place, NewName, SpaceName, LockName, BarrierName, UserName, PhaseName, AcquireName, EventName, Column, Fields, Value, Times, Weight, Shared, Count, Intervals, is_own_word, line_number, column_number_of, number_in_place}
 use Rattle.graph_reader.specs.FirstFault.{misnamed, is_inst_name, has_column, first_piece, unknown, is_line_name, twice, unlike, misnumbered, misordered}

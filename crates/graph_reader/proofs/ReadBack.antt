@@ -7,16 +7,16 @@ use Rattle.std.proofs.lemmas.Bool.{true≢false, or_parts, false_from_ne_true, n
 use Rattle.std.proofs.lemmas.List.Elements.{filter_map-append}
 use Rattle.index_spaces.specs.declared.Op.{Op}
 use Rattle.index_spaces.specs.declared.Op.TheVariants as op
-use Rattle.graph_model.specs.declared.graph.decl.Decl.{Decl}
-use Rattle.graph_model.specs.declared.graph.decl.Decl.TheVariants as decl
-use Rattle.graph_model.specs.declared.graph.verb.Line.{Line}
-use Rattle.graph_model.specs.declared.graph.verb.Verb.{Verb}
-use Rattle.graph_model.specs.declared.graph.verb.Verb.TheVariants.{Merge, MergeIgnore}
-use Rattle.graph_model.specs.declared.graph.why.Why.TheVariants.{Syntax}
-use Rattle.graph_model.specs.graph.Name.{is_name}
-use Rattle.graph_model.specs.graph.Graph.{GraphValue, decl_name, named_spaces}
-use Rattle.graph_model.specs.graph.Spelling.{space_name, line_name, column_name, op_word, interval_word, comma_word, decl_words, verb_words, on_words, line_words}
-use Rattle.graph_model.specs.graph.Fits.{repeats, on_lines, is_used, decl_repeats, decl_unknown, decl_misnumbered, decl_tests, decl_fault, line_fault, IsDecl, IsLine, IsGraph}
+use Rattle.graph_terms.specs.declared.decl.Decl.{Decl}
+use Rattle.graph_terms.specs.declared.decl.Decl.TheVariants as decl
+use Rattle.graph_terms.specs.declared.verb.Line.{Line}
+use Rattle.graph_terms.specs.declared.verb.Verb.{Verb}
+use Rattle.graph_terms.specs.declared.verb.Verb.TheVariants.{Merge, MergeIgnore}
+use Rattle.graph_terms.specs.declared.why.Why.TheVariants.{Syntax}
+use Rattle.graph_terms.specs.Name.{is_name}
+use Rattle.graph_terms.specs.Graph.{GraphValue, decl_name, named_spaces}
+use Rattle.graph_terms.specs.Spelling.{space_name, line_name, column_name, op_word, interval_word, comma_word, decl_words, verb_words, on_words, line_words}
+use Rattle.graph_terms.specs.Fits.{repeats, on_lines, is_used, decl_repeats, decl_unknown, decl_misnumbered, decl_tests, decl_fault, line_fault, IsDecl, IsLine, IsGraph}
 use Rattle.graph_reader.specs.Words.{pieces, intervals_of, ascend_from, is_fields}
 use Rattle.graph_reader.specs.Draft.{number_in_place, NewName, SpaceName, EventName, Fields, Value, Count, Intervals, Placed, Draft, Form, number_in, same_word, has_on, on_placed, form_draft, merge_draft, line_number, space_number, column_number_of, op_of, barrier_with, decl_draft, decl_draft_after, draft}
 use Rattle.graph_reader.specs.FirstFault.{event_word, column_word, item_fault, draft_fault, words_fault, is_empty}

@@ -5,18 +5,18 @@ use Rattle.std.specs.Option.{option_map_or}
 use Rattle.std.specs.List.{AllByRecursion}
 use Rattle.std.proofs.lemmas.Bool.{leb-false}
 use Rattle.std.proofs.lemmas.List.Elements.{filter_map-append}
-use Rattle.graph_model.specs.declared.graph.format.Format.{Format}
-use Rattle.graph_model.specs.declared.graph.decl.Decl.{Decl}
-use Rattle.graph_model.specs.declared.graph.decl.Decl.TheVariants as decl
-use Rattle.graph_model.specs.declared.graph.verb.Line.{Line}
-use Rattle.graph_model.specs.declared.graph.verb.Verb.{Verb}
-use Rattle.graph_model.specs.declared.graph.verb.Verb.TheVariants.{Merge, MergeIgnore}
-use Rattle.graph_model.specs.declared.graph.table.Place.{Place}
-use Rattle.graph_model.specs.declared.graph.table.Place.TheVariants.{User, Phase, Acquire}
-use Rattle.graph_model.specs.graph.Table.{Placed, kind_words, verb_kind, verb_places, verb_parts}
-use Rattle.graph_model.specs.graph.Graph.{GraphValue, space_of, named_spaces}
-use Rattle.graph_model.specs.graph.Spelling.{space_name, line_name, comma_word, spelled, decl_words, place_word, placed_words, verb_words, on_words, line_words, header, decls_text, lines_text, head}
-use Rattle.graph_model.specs.graph.Fits.{decl_unknown, named_line, named_lines, on_lines, DeclsFit, LinesFit, IsGraph}
+use Rattle.graph_terms.specs.declared.format.Format.{Format}
+use Rattle.graph_terms.specs.declared.decl.Decl.{Decl}
+use Rattle.graph_terms.specs.declared.decl.Decl.TheVariants as decl
+use Rattle.graph_terms.specs.declared.verb.Line.{Line}
+use Rattle.graph_terms.specs.declared.verb.Verb.{Verb}
+use Rattle.graph_terms.specs.declared.verb.Verb.TheVariants.{Merge, MergeIgnore}
+use Rattle.graph_terms.specs.declared.table.Place.{Place}
+use Rattle.graph_terms.specs.declared.table.Place.TheVariants.{User, Phase, Acquire}
+use Rattle.graph_terms.specs.Table.{Placed, kind_words, verb_kind, verb_places, verb_parts}
+use Rattle.graph_terms.specs.Graph.{GraphValue, space_of, named_spaces}
+use Rattle.graph_terms.specs.Spelling.{space_name, line_name, comma_word, spelled, decl_words, place_word, placed_words, verb_words, on_words, line_words, header, decls_text, lines_text, head}
+use Rattle.graph_terms.specs.Fits.{decl_unknown, named_line, named_lines, on_lines, DeclsFit, LinesFit, IsGraph}
 use Rattle.graph_reader.specs.Text.{closing, text}
 use Rattle.graph_reader.proofs.ReadBack.{known_decl_of}
 use Rattle.graph_reader.proofs.VerbForms.{known_line_of}

@@ -4,13 +4,13 @@ use Rattle.std.specs.Prelude.{bytes_eq, zip, slice_index, slice_index_or, slice_
 use Rattle.std.specs.List.{list_any, list_all, starts_with}
 use Rattle.std.proofs.lemmas.List.{length-map, get_or-set_same, get_or-set_other}
 use Rattle.std.proofs.lemmas.Bool.{cases_eq}
-use Rattle.graph_model.specs.declared.graph.table.Kind.{Kind}
-use Rattle.graph_model.specs.declared.graph.table.Place as table
-use Rattle.graph_model.specs.declared.graph.table.Place.TheVariants as places
-use Rattle.graph_model.specs.graph.Table.{kind_places, is_column, part_in, parts_from}
-use Rattle.graph_model.specs.declared.graph.table.Parts.{Parts}
-use Rattle.graph_model.specs.graph.Graph.{GraphValue}
-use Rattle.graph_model.specs.graph.Fits.{repeats}
+use Rattle.graph_terms.specs.declared.table.Kind.{Kind}
+use Rattle.graph_terms.specs.declared.table.Place as table
+use Rattle.graph_terms.specs.declared.table.Place.TheVariants as places
+use Rattle.graph_terms.specs.Table.{kind_places, is_column, part_in, parts_from}
+use Rattle.graph_terms.specs.declared.table.Parts.{Parts}
+use Rattle.graph_terms.specs.Graph.{GraphValue}
+use Rattle.graph_terms.specs.Fits.{repeats}
 use Rattle.graph_reader.specs.Draft.{Placed, is_own_word, as_place, form_of, same_word, number_in_place, number_in}
 use Rattle.graph_reader.specs.Kinds.{words_in, column_words, named_number, placed_value}
 

@@ -4,14 +4,14 @@ use Rattle.std.specs.Prelude.{Some, zip, slice_get, slice_index_or, flat_map, co
 use Rattle.std.specs.List.{join_with_byte}
 use Rattle.std.proofs.lemmas.Bool.{ne_eqb}
 use Rattle.std.proofs.lemmas.Grind.{flat_map-append}
-use Rattle.graph_model.specs.declared.graph.table.Place.{Place}
-use Rattle.graph_model.specs.declared.graph.table.Parts.{Parts}
-use Rattle.graph_model.specs.graph.Graph.{GraphValue}
-use Rattle.graph_model.specs.declared.graph.table.Kind.{Kind}
-use Rattle.graph_model.specs.declared.graph.verb.Verb.{Verb}
+use Rattle.graph_terms.specs.declared.table.Place.{Place}
+use Rattle.graph_terms.specs.declared.table.Parts.{Parts}
+use Rattle.graph_terms.specs.Graph.{GraphValue}
+use Rattle.graph_terms.specs.declared.table.Kind.{Kind}
+use Rattle.graph_terms.specs.declared.verb.Verb.{Verb}
 use Rattle.std.specs.Option.{option_map_or}
-use Rattle.graph_model.specs.graph.Table.{kind_words, kind_places, verb_kind, verb_places, verb_parts, verb_placed, part_in, parts_from}
-use Rattle.graph_model.specs.graph.Spelling.{spelled, interval_word, comma_word, place_word, placed_words}
+use Rattle.graph_terms.specs.Table.{kind_words, kind_places, verb_kind, verb_places, verb_parts, verb_placed, part_in, parts_from}
+use Rattle.graph_terms.specs.Spelling.{spelled, interval_word, comma_word, place_word, placed_words}
 use Rattle.graph_reader.specs.WrittenWords.{spaced, row_words, part_text, comma_before, comma_from}
 use Rattle.std.proofs.lemmas.Option.{none-some, same_Some}
 

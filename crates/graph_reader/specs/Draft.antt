@@ -5,21 +5,21 @@ use Rattle.std.specs.Str.{bytes_eq}
 use Rattle.std.proofs.Common.{inl, inr}
 use Rattle.index_spaces.specs.declared.Op.{Op}
 use Rattle.index_spaces.specs.declared.Op.TheVariants as op
-use Rattle.graph_model.specs.declared.graph.decl.Decl.{Decl}
-use Rattle.graph_model.specs.declared.graph.decl.Decl.TheVariants as decl
-use Rattle.graph_model.specs.declared.graph.verb.Line.{Line}
-use Rattle.graph_model.specs.declared.graph.verb.Verb.{Verb}
-use Rattle.graph_model.specs.declared.graph.verb.Verb.TheVariants.{Merge, MergeIgnore}
-use Rattle.graph_model.specs.declared.graph.table.Kind.{Kind}
-use Rattle.graph_model.specs.declared.graph.table.TheConstants.{KINDS}
-use Rattle.graph_model.specs.declared.graph.table.Place as table
-use Rattle.graph_model.specs.declared.graph.table.Place.TheVariants as places
-use Rattle.graph_model.specs.declared.graph.format.Format.{Format}
-use Rattle.graph_model.specs.declared.graph.format.Format.TheVariants.{One, Two}
-use Rattle.graph_model.specs.graph.Table.{kind_words, kind_places, kind_takes_on, kind_since, verb_of}
-use Rattle.graph_model.specs.declared.graph.decl.ColumnInfo.{ColumnInfo}
-use Rattle.graph_model.specs.declared.graph.decl.BarrierInfo.{BarrierInfo}
-use Rattle.graph_model.specs.graph.Graph.{GraphValue, named_spaces, columns, locks, barriers}
+use Rattle.graph_terms.specs.declared.decl.Decl.{Decl}
+use Rattle.graph_terms.specs.declared.decl.Decl.TheVariants as decl
+use Rattle.graph_terms.specs.declared.verb.Line.{Line}
+use Rattle.graph_terms.specs.declared.verb.Verb.{Verb}
+use Rattle.graph_terms.specs.declared.verb.Verb.TheVariants.{Merge, MergeIgnore}
+use Rattle.graph_terms.specs.declared.table.Kind.{Kind}
+use Rattle.graph_terms.specs.declared.table.TheConstants.{KINDS}
+use Rattle.graph_terms.specs.declared.table.Place as table
+use Rattle.graph_terms.specs.declared.table.Place.TheVariants as places
+use Rattle.graph_terms.specs.declared.format.Format.{Format}
+use Rattle.graph_terms.specs.declared.format.Format.TheVariants.{One, Two}
+use Rattle.graph_terms.specs.Table.{kind_words, kind_places, kind_takes_on, kind_since, verb_of}
+use Rattle.graph_terms.specs.declared.decl.ColumnInfo.{ColumnInfo}
+use Rattle.graph_terms.specs.declared.decl.BarrierInfo.{BarrierInfo}
+use Rattle.graph_terms.specs.Graph.{GraphValue, named_spaces, columns, locks, barriers}
 use Rattle.graph_reader.specs.Words.{pieces, value_of, count_of, weight_of, intervals_of}
 
 -- what stands in the place of a word

@@ -2,25 +2,25 @@
 use Rattle.std.specs.Prelude.{◌≡◌, ℕ, ◌+◌, ◌≤◌, Bool, false, cond, not, ◌&&◌, ◌||◌, List, [], ◌∷◌, ◌++◌, length, map, zip, slice_index_or, unwrap_or, filter_map, is_some, Option, Some, None, Result, Ok, Err}
 use Rattle.std.specs.List.{list_any}
 use Rattle.std.proofs.Common.{inr}
-use Rattle.graph_model.specs.declared.graph.verb.Line.{Line}
-use Rattle.graph_model.specs.declared.graph.verb.Verb.{Verb}
-use Rattle.graph_model.specs.declared.graph.why.Why.{Why}
-use Rattle.graph_model.specs.graph.Graph.{GraphValue}
+use Rattle.graph_terms.specs.declared.verb.Line.{Line}
+use Rattle.graph_terms.specs.declared.verb.Verb.{Verb}
+use Rattle.graph_terms.specs.declared.why.Why.{Why}
+use Rattle.graph_terms.specs.Graph.{GraphValue}
 use Rattle.graph_reader.specs.Words.{value_of}
 use Rattle.graph_reader.specs.Draft.{as_place, form_of, form_draft, has_on, on_placed, line_number, Draft, Placed, number_in_place, number_in}
 use Rattle.graph_reader.specs.Draft as draft
-use Rattle.graph_model.specs.declared.graph.why.Why.TheVariants as why
-use Rattle.graph_model.specs.graph.Fits.{first_reason, is_used, repeats, line_fault}
+use Rattle.graph_terms.specs.declared.why.Why.TheVariants as why
+use Rattle.graph_terms.specs.Fits.{first_reason, is_used, repeats, line_fault}
 use Rattle.std.specs.Str.{bytes_eq}
 use Rattle.graph_reader.specs.FirstFault.{misnamed, twice, unknown, unlike, misnumbered, draft_fault, column_word}
-use Rattle.graph_model.specs.declared.graph.table.Kind.{Kind}
-use Rattle.graph_model.specs.declared.graph.found.Found.{Found}
+use Rattle.graph_terms.specs.declared.table.Kind.{Kind}
+use Rattle.graph_terms.specs.declared.found.Found.{Found}
 use Rattle.graph_reader.specs.Lookups.{is_found_inst}
 use Rattle.graph_reader.specs.declared.seen.Seen.{Seen}
 use Rattle.graph_reader.specs.declared.faults.Faults.{Faults}
-use Rattle.graph_model.specs.declared.graph.table.Place as table
-use Rattle.graph_model.specs.graph.Table.{kind_places}
-use Rattle.graph_model.specs.declared.graph.table.Place.TheVariants as places
+use Rattle.graph_terms.specs.declared.table.Place as table
+use Rattle.graph_terms.specs.Table.{kind_places}
+use Rattle.graph_terms.specs.declared.table.Place.TheVariants as places
 
 -- the words of a line of a kind, behind the fixed ones, in their places
 abbrev pub kind_draft : GraphValue → Kind → List ℕ → List (List ℕ) → Draft

@@ -1,18 +1,18 @@
 -- What a word stands for in a graph.
 use Rattle.std.specs.Prelude.{◌≡◌, ℕ, Bool, true, false, cond, ◌&&◌, List, [], ◌∷◌, Option, Some, None, is_some, position}
 use Rattle.std.specs.Str.{bytes_eq}
-use Rattle.graph_model.specs.declared.graph.decl.ColumnInfo.{ColumnInfo}
-use Rattle.graph_model.specs.declared.graph.decl.BarrierInfo.{BarrierInfo}
-use Rattle.graph_model.specs.declared.graph.found.Found.{Found}
-use Rattle.graph_model.specs.declared.graph.found.Found.TheVariants as found
-use Rattle.graph_model.specs.declared.graph.verb.Line.{Line}
-use Rattle.graph_model.specs.declared.graph.table.Place.{Place}
-use Rattle.graph_model.specs.declared.graph.table.Place.TheVariants as places
+use Rattle.graph_terms.specs.declared.decl.ColumnInfo.{ColumnInfo}
+use Rattle.graph_terms.specs.declared.decl.BarrierInfo.{BarrierInfo}
+use Rattle.graph_terms.specs.declared.found.Found.{Found}
+use Rattle.graph_terms.specs.declared.found.Found.TheVariants as found
+use Rattle.graph_terms.specs.declared.verb.Line.{Line}
+use Rattle.graph_terms.specs.declared.table.Place.{Place}
+use Rattle.graph_terms.specs.declared.table.Place.TheVariants as places
 use Rattle.std.specs.Option.{option_map_or}
 use Rattle.std.specs.List.{list_any}
-use Rattle.graph_model.specs.graph.Graph.{GraphValue, named_spaces, columns, locks, barriers, line_passes, is_user, is_phase, is_acquire, is_release_of, ends_user}
-use Rattle.graph_model.specs.graph.Fits.{is_used}
-use Rattle.graph_model.specs.graph.Name.{is_name}
+use Rattle.graph_terms.specs.Graph.{GraphValue, named_spaces, columns, locks, barriers, line_passes, is_user, is_phase, is_acquire, is_release_of, ends_user}
+use Rattle.graph_terms.specs.Fits.{is_used}
+use Rattle.graph_terms.specs.Name.{is_name}
 use Rattle.graph_reader.specs.FirstFault.{is_inst_name}
 use Rattle.graph_reader.specs.Words.{pieces}
 use Rattle.graph_reader.specs.Cuts.{two_pieces}

@@ -2,14 +2,14 @@
 use Rattle.std.specs.Prelude.{Bool, nat_le, nat_lt, ◌+◌, ◌&&◌, length, slice_index_or, codes, cond, not, Option, Result, Ok, Err, ◌≡◌, ℕ, List, Some, None, ◌⊎◌, ◌==◌, [], ◌∷◌, true, false}
 use Rattle.std.specs.List.{after_first, list_all}
 use Rattle.std.proofs.Common.{inl, inr}
-use Rattle.graph_model.specs.declared.graph.decl.Decl.{Decl}
-use Rattle.graph_model.specs.declared.graph.verb.Line.{Line}
-use Rattle.graph_model.specs.graph.Graph.{GraphValue}
-use Rattle.graph_model.specs.graph.Fits.{first_reason, repeats, is_used, with_decl, with_line, decl_fault, line_fault, IsDecl, IsLine}
-use Rattle.graph_model.specs.declared.graph.decl.Decl.TheVariants as decl
-use Rattle.graph_model.specs.declared.graph.why.Why.{Why}
-use Rattle.graph_model.specs.declared.graph.why.Why.TheVariants as why
-use Rattle.graph_model.specs.graph.Name.{is_name}
+use Rattle.graph_terms.specs.declared.decl.Decl.{Decl}
+use Rattle.graph_terms.specs.declared.verb.Line.{Line}
+use Rattle.graph_terms.specs.Graph.{GraphValue}
+use Rattle.graph_terms.specs.Fits.{first_reason, repeats, is_used, with_decl, with_line, decl_fault, line_fault, IsDecl, IsLine}
+use Rattle.graph_terms.specs.declared.decl.Decl.TheVariants as decl
+use Rattle.graph_terms.specs.declared.why.Why.{Why}
+use Rattle.graph_terms.specs.declared.why.Why.TheVariants as why
+use Rattle.graph_terms.specs.Name.{is_name}
 use Rattle.index_spaces.specs.declared.space.SpaceFault.{SpaceFault}
 use Rattle.index_spaces.specs.declared.space.SpaceFault.TheVariants as spaces
 use Rattle.std.specs.Str.{bytes_eq}
@@ -17,7 +17,7 @@ use Rattle.graph_reader.specs.Words.{pieces, ascend_from}
 use Rattle.graph_reader.specs.Draft.{Draft, draft, SpaceName, space_number}
 use Rattle.graph_reader.specs.FirstFault.{words_fault, draft_fault, unlike, or_else, FirstFault, IsHeaderFault, IsLineFault, IsRestFault}
 use Rattle.graph_reader.specs.Text.{GraphText}
-use Rattle.graph_model.specs.declared.graph.limits.TheConstants.{MAX_TEXT}
+use Rattle.graph_terms.specs.declared.limits.TheConstants.{MAX_TEXT}
 use Rattle.graph_reader.specs.declared.reader.Reading.{Reading}
 use Rattle.graph_reader.specs.declared.reader.Reading.TheVariants as readings
 use Rattle.graph_reader.specs.declared.item.Item.{Item}

@@ -1,12 +1,12 @@
 -- The words of lines that are written.
 use Rattle.std.specs.Prelude.{ℕ, ◌+◌, ◌==◌, cond, List, [], ◌++◌, ◌∷◌, decimal, flat_map, zip}
 use Rattle.std.specs.Option.{option_map_or}
-use Rattle.graph_model.specs.declared.graph.table.Place.{Place}
-use Rattle.graph_model.specs.declared.graph.table.Parts.{Parts}
-use Rattle.graph_model.specs.declared.graph.verb.Verb.{Verb}
-use Rattle.graph_model.specs.graph.Graph.{GraphValue}
-use Rattle.graph_model.specs.graph.Table.{kind_words, verb_kind, verb_placed, parts_from}
-use Rattle.graph_model.specs.graph.Spelling.{interval_word, placed_words}
+use Rattle.graph_terms.specs.declared.table.Place.{Place}
+use Rattle.graph_terms.specs.declared.table.Parts.{Parts}
+use Rattle.graph_terms.specs.declared.verb.Verb.{Verb}
+use Rattle.graph_terms.specs.Graph.{GraphValue}
+use Rattle.graph_terms.specs.Table.{kind_words, verb_kind, verb_placed, parts_from}
+use Rattle.graph_terms.specs.Spelling.{interval_word, placed_words}
 use Rattle.graph_reader.specs.declared.word_kinds.Word.{Word}
 use Rattle.graph_reader.specs.declared.word_kinds.Word.TheVariants as words
 

@@ -1,11 +1,11 @@
 //! Tests of one word, and of the verb of a line.
 
 ghost use Rattle.std.specs.Prelude.{◌≡◌};
-ghost use Rattle.graph_model.specs.graph.Name.{is_name};
-ghost use Rattle.graph_model.specs.graph.Graph.{is_user, is_phase, is_acquire};
+ghost use Rattle.graph_terms.specs.Name.{is_name};
+ghost use Rattle.graph_terms.specs.Graph.{is_user, is_phase, is_acquire};
 
-use graph_model::name::Name;
-use graph_model::verb::Verb;
+use graph_terms::name::Name;
+use graph_terms::verb::Verb;
 
 /// Whether a word is spelled as a name.
 pub(crate) fn is_name(word: &[u8]) -> bool

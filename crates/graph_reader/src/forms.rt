@@ -4,8 +4,8 @@ ghost use Rattle.basics.specs.Words.{contents};
 ghost use Rattle.std.specs.Prelude.{◌≡◌, ◌<◌, ◌≤◌, ◌&&◌, drop, map, length, List, ℕ, [], ◌+◌, slice_index_or};
 ghost use Rattle.std.specs.List.{list_any};
 ghost use Rattle.std.specs.Str.{bytes_eq};
-ghost use Rattle.graph_model.specs.graph.Fits.{repeats};
-ghost use Rattle.graph_model.specs.graph.Table.{is_column, parts_of};
+ghost use Rattle.graph_terms.specs.Fits.{repeats};
+ghost use Rattle.graph_terms.specs.Table.{is_column, parts_of};
 ghost use Rattle.graph_reader.specs.Draft.{form_of, number_in};
 ghost use Rattle.graph_reader.specs.Kinds.{words_in, kind_placed, form_placed, AllTell, column_words, kind_draft, kind_on, later_reason, HasPlaces, IsFormFault, IsReading};
 
@@ -15,10 +15,10 @@ use crate::parts::read_parts;
 use crate::seen::see_event;
 use crate::words::{behind, has_on, place_count, word};
 use graph_model::graph::Graph;
-use graph_model::name::Name;
-use graph_model::table::{Kind, Parts, Place};
-use graph_model::verb::{Line, Verb};
-use graph_model::why::Why;
+use graph_terms::name::Name;
+use graph_terms::table::{Kind, Parts, Place};
+use graph_terms::verb::{Line, Verb};
+use graph_terms::why::Why;
 
 fn is_column(place: Place) -> bool
     ensures { result ≡ is_column place }

@@ -1,8 +1,8 @@
 //! What a line of text is read as.
 
-use graph_model::decl::Decl;
-use graph_model::verb::Line;
-use graph_model::why::Why;
+use graph_terms::decl::Decl;
+use graph_terms::verb::Line;
+use graph_terms::why::Why;
 
 /// A declaration or an operation line.
 #[derive(Drop)]

@@ -21,7 +21,7 @@ mod word_kinds;
 pub mod words;
 mod writer;
 
-use graph_model::why::Why;
+use graph_terms::why::Why;
 pub use reader::{Reading, Unread, read_graph, read_text};
 pub use word_kinds::{put_column_name, put_interval};
 pub use writer::put_graph;

@@ -16,11 +16,11 @@ use crate::forms::read_form;
 use crate::item::{Item, ItemError};
 use crate::merges::read_merge;
 use crate::words::{behind, kind_of, split_into, word};
-use graph_model::decl::Decl;
 use graph_model::graph::Graph;
-use graph_model::table::Kind;
-use graph_model::verb::Line;
-use graph_model::why::Why;
+use graph_terms::decl::Decl;
+use graph_terms::table::Kind;
+use graph_terms::verb::Line;
+use graph_terms::why::Why;
 use index_spaces::Op;
 use std::alloc::Global;
 

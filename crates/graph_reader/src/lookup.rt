@@ -2,15 +2,15 @@
 
 ghost use Rattle.std.specs.Prelude.{◌≡◌, ◌<◌, ℕ, not, List, length, position, IfSome};
 ghost use Rattle.std.specs.Str.{bytes_eq};
-ghost use Rattle.graph_model.specs.declared.graph.verb.Line.{Line};
-ghost use Rattle.graph_model.specs.graph.Name.{is_name};
-ghost use Rattle.graph_model.specs.graph.Graph.{named_spaces};
+ghost use Rattle.graph_terms.specs.declared.verb.Line.{Line};
+ghost use Rattle.graph_terms.specs.Name.{is_name};
+ghost use Rattle.graph_terms.specs.Graph.{named_spaces};
 ghost use Rattle.graph_reader.specs.Lookups.{IsFound, found_space, found_lock, found_barrier, found_line, is_found_inst, column_names};
 
 use crate::cuts::around_dot;
-use graph_model::found::Found;
 use graph_model::graph::Graph;
-use graph_model::name::Name;
+use graph_terms::found::Found;
+use graph_terms::name::Name;
 
 /// What a name stands for in the graph. `None` exactly where no item has it.
 pub(crate) fn stands_for(graph: &Graph, name: &Name) -> Option<Found>

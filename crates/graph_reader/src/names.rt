@@ -4,10 +4,10 @@ ghost use Rattle.basics.specs.Words.{contents};
 ghost use Rattle.std.specs.Prelude.{◌≡◌, map, false, true, IfOk, MatchOption};
 ghost use Rattle.std.specs.List.{list_all};
 ghost use Rattle.std.specs.Str.{bytes_eq};
-ghost use Rattle.graph_model.specs.graph.Fits.{repeats};
-ghost use Rattle.graph_model.specs.graph.Name.{is_name};
+ghost use Rattle.graph_terms.specs.Fits.{repeats};
+ghost use Rattle.graph_terms.specs.Name.{is_name};
 
-use graph_model::name::Name;
+use graph_terms::name::Name;
 use index_spaces::NoMemory;
 use std::alloc::Global;
 use std::collections::BTreeSet;

@@ -5,7 +5,7 @@ ghost use Rattle.basics.specs.Numbers.{number_up_to};
 ghost use Rattle.graph_reader.specs.Words.{value_of, count_of, weight_of};
 
 use basics::number_up_to;
-use graph_model::limits::MAX_COUNT;
+use graph_terms::limits::MAX_COUNT;
 use index_spaces::limits::LAST_POINT;
 
 /// The value that a word spells.

@@ -1,7 +1,7 @@
 //! Reading a graph from its text.
 
 ghost use Rattle.std.specs.Prelude.{◌≡◌, ◌++◌, ◌-◌, ◌^◌, ◌<◌, Some, None, OnOk, OnErr, IfOk, IfErr, MatchOption};
-ghost use Rattle.graph_model.specs.graph.Spelling.{header};
+ghost use Rattle.graph_terms.specs.Spelling.{header};
 ghost use Rattle.graph_reader.specs.FirstFault.{HasNoHeader};
 ghost use Rattle.graph_reader.specs.Words.{pieces};
 ghost use Rattle.graph_reader.specs.Text.{GraphText};
@@ -12,10 +12,10 @@ use crate::ReadRefusal;
 use crate::cuts::cut;
 use crate::item::{Item, ItemError};
 use crate::lines::read_item;
-use graph_model::format::Format;
 use graph_model::graph::Graph;
-use graph_model::limits::MAX_TEXT;
-use graph_model::why::Why;
+use graph_terms::format::Format;
+use graph_terms::limits::MAX_TEXT;
+use graph_terms::why::Why;
 use index_spaces::NoMemory;
 use std::alloc::Global;
 

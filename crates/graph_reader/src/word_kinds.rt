@@ -1,14 +1,14 @@
 //! Words of a text that is written.
 
 ghost use Rattle.std.specs.Prelude.{◌≡◌, ◌++◌, ◌∷◌, flat_map, []};
-ghost use Rattle.graph_model.specs.graph.Spelling.{interval_word, space_name, column_name, lock_name, barrier_name, line_name, op_word, place_word};
-ghost use Rattle.graph_model.specs.graph.Table.{part_in};
+ghost use Rattle.graph_terms.specs.Spelling.{interval_word, space_name, column_name, lock_name, barrier_name, line_name, op_word, place_word};
+ghost use Rattle.graph_terms.specs.Table.{part_in};
 ghost use Rattle.realm_io.specs.Written.{Writes};
 ghost use Rattle.graph_reader.specs.WrittenWords.{word_text};
 
 use graph_model::graph::Graph;
-use graph_model::name::Name;
-use graph_model::table::{Parts, Place};
+use graph_terms::name::Name;
+use graph_terms::table::{Parts, Place};
 use index_spaces::Op;
 use realm_io::{Sink, WriteFault, put_bytes, put_decimal};
 

@@ -8,8 +8,8 @@ ghost use Rattle.graph_reader.specs.Kinds.{words_in};
 ghost use Rattle.std.specs.List.{list_any, list_all, starts_with};
 
 use crate::cuts::cut;
-use graph_model::format::Format;
-use graph_model::table::{KINDS, Kind, Place};
+use graph_terms::format::Format;
+use graph_terms::table::{KINDS, Kind, Place};
 use index_spaces::NoMemory;
 use index_spaces::room::push;
 use std::alloc::Global;

@@ -4,20 +4,20 @@ ghost use Rattle.basics.specs.Words.{contents};
 ghost use Rattle.std.specs.Prelude.{◌≡◌, ◌≤◌, [], ◌∷◌, ◌++◌, flat_map, map, length, codes, decimal, OnOk, OnErr};
 ghost use Rattle.realm_io.specs.Counts.{Rose};
 ghost use Rattle.realm_io.specs.Told.{with_more, TookPrefix};
-ghost use Rattle.graph_model.specs.graph.Spelling.{header, spelled, space_name, interval_word, verb_words, on_words, line_words, decl_words, line_name};
+ghost use Rattle.graph_terms.specs.Spelling.{header, spelled, space_name, interval_word, verb_words, on_words, line_words, decl_words, line_name};
 ghost use Rattle.graph_reader.specs.Text.{text};
 ghost use Rattle.realm_io.specs.Written.{Writes};
 ghost use Rattle.graph_reader.specs.WrittenWords.{word_text, spaced, row_words, part_text, comma_before, comma_from};
 
 use crate::word_kinds::{Word, line_word, op_word, part_word, put_behind, put_spaced, space_word};
 use crate::words::word;
-use graph_model::decl::Decl;
-use graph_model::format::Format;
 use graph_model::graph::Graph;
-use graph_model::lists::{LineList, NameList};
-use graph_model::name::Name;
-use graph_model::table::{Parts, Place};
-use graph_model::verb::{Line, Verb};
+use graph_terms::decl::Decl;
+use graph_terms::format::Format;
+use graph_terms::lists::{LineList, NameList};
+use graph_terms::name::Name;
+use graph_terms::table::{Parts, Place};
+use graph_terms::verb::{Line, Verb};
 use index_spaces::space::Space;
 use realm_io::{Sink, WriteFault, put_bytes};
 

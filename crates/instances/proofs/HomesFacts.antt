@@ -7,9 +7,9 @@ use Rattle.std.proofs.lemmas.List.Elements.{filter_map-append}
 use Rattle.index_spaces.specs.Space.{points, space_size}
 use Rattle.basics.specs.Lists.{numbers_below}
 use Rattle.index_spaces.specs.Column.{ColumnValue}
-use Rattle.graph_model.specs.graph.Graph.{GraphValue, column_space}
-use Rattle.graph_model.specs.meaning.Effect.{zero_cells}
-use Rattle.graph_model.specs.meaning.Evaluation.{column_of}
+use Rattle.graph_terms.specs.Graph.{GraphValue, column_space}
+use Rattle.graph_meaning.specs.Effect.{zero_cells}
+use Rattle.graph_meaning.specs.Evaluation.{column_of}
 
 zeros : (ps : List ℕ) → replicate {A = ℕ} (length ps) 0 ≡ map (λ p. 0) ps
 zeros [] = refl

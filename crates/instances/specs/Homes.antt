@@ -2,9 +2,9 @@
 use Rattle.std.specs.Prelude.{List, length, map, Option, Some}
 use Rattle.basics.specs.Lists.{numbers_below}
 use Rattle.index_spaces.specs.Column.{ColumnValue}
-use Rattle.graph_model.specs.graph.Graph.{GraphValue, columns}
-use Rattle.graph_model.specs.meaning.Effect.{Cells}
-use Rattle.graph_model.specs.meaning.Evaluation.{column_of}
+use Rattle.graph_terms.specs.Graph.{GraphValue, columns}
+use Rattle.graph_meaning.specs.Effect.{Cells}
+use Rattle.graph_meaning.specs.Evaluation.{column_of}
 
 -- all columns of a graph at home, with these cells
 abbrev pub all_home : GraphValue → Cells → List (Option ColumnValue)

@@ -5,7 +5,7 @@ ghost use Rattle.std.specs.Prelude.{◌≡◌, ◌<◌, ◌≤◌, ◌++◌, [],
 ghost use Rattle.std.specs.Vec.{vec_capacity};
 
 use graph_model::graph::Graph;
-use graph_model::lists::ColumnList;
+use graph_terms::lists::ColumnList;
 use index_spaces::NoMemory;
 use index_spaces::column::Column;
 use index_spaces::room::{push_within, with_room};
@@ -34,7 +34,7 @@ impl Model for Homes {
 
 impl Homes {
     ghost use Rattle.std.specs.Prelude.{◌≡◌, ◌<◌, length, map, not, is_some, Some, None, slice_get, slice_index_or, slice_set, All, IsSome, IfOk};
-    ghost use Rattle.graph_model.specs.meaning.Effect.{zero_cells};
+    ghost use Rattle.graph_meaning.specs.Effect.{zero_cells};
     ghost use Rattle.instances.specs.Homes.{all_home};
 
     /// The columns of a graph, all at home, each cell 0.

@@ -5,7 +5,7 @@ use Rattle.index_spaces.specs.Space.{has_point, rank, point_at, space_size, IsSp
 use Rattle.index_spaces.specs.Column.{ColumnValue, cell_of}
 use Rattle.index_spaces.specs.Run.{WritesPoints}
 use Rattle.index_spaces.specs.Laws.{CellsAreWritten, PointOfRank, RankOfPoint}
-use Rattle.graph_model.specs.meaning.Effect.{wrapped}
+use Rattle.graph_meaning.specs.Effect.{wrapped}
 use Rattle.kernel_table.specs.Kernels.{column_over}
 use Rattle.kernel_table.proofs.Runs.{wrapped_twice}
 

@@ -5,11 +5,11 @@ use Rattle.std.specs.List.{list_any}
 use Rattle.std.proofs.lemmas.Bool.{or_parts, eq-eqb, false≢true}
 use Rattle.index_spaces.specs.Column.{ColumnValue}
 use Rattle.basics.proofs.ListFacts.{contains_here, contains_there}
-use Rattle.graph_model.specs.declared.graph.verb.Access.{Access}
-use Rattle.graph_model.specs.declared.graph.table.Kernel.{Kernel}
-use Rattle.graph_model.specs.graph.Graph.{GraphValue}
-use Rattle.graph_model.specs.graph.Access.{kernel_accesses}
-use Rattle.graph_model.specs.graph.Fits.{repeats}
+use Rattle.graph_terms.specs.declared.verb.Access.{Access}
+use Rattle.graph_terms.specs.declared.table.Kernel.{Kernel}
+use Rattle.graph_terms.specs.Graph.{GraphValue}
+use Rattle.graph_terms.specs.Access.{kernel_accesses}
+use Rattle.graph_terms.specs.Fits.{repeats}
 use Rattle.kernel_table.specs.Kernels.{FitsHeld, FitsEach, HoldsOverSpace, EachHeld, NotAmong, EachOnce}
 
 each_held : (g : GraphValue) (held : List (ℕ × ColumnValue)) (xs : List Access) → ((a : Access) → Contains xs a → HoldsOverSpace g held a.column a.space) → EachHeld g held xs

@@ -9,7 +9,7 @@ use Rattle.index_spaces.specs.Space.{interval_has, interval_points, space_size, 
 use Rattle.index_spaces.specs.Column.{ColumnValue, cell_of}
 use Rattle.index_spaces.specs.Run.{interval_size, IsRunAt, WritesPoints}
 use Rattle.std.proofs.Math.Nat.{mod-add-mod}
-use Rattle.graph_model.specs.meaning.Effect.{wrapped}
+use Rattle.graph_meaning.specs.Effect.{wrapped}
 use Rattle.index_spaces.specs.Laws.{RunsAreWritten, SpacesAreWritten}
 use Rattle.index_spaces.proofs.RunFacts.{written_over, written_length}
 

@@ -5,10 +5,10 @@ use Rattle.index_spaces.specs.Space.{has_point, IsSpace, IsWithin}
 use Rattle.index_spaces.specs.Column.{ColumnValue, cell_of}
 use Rattle.index_spaces.specs.Held.{held_at}
 use Rattle.index_spaces.proofs.WriteFacts.{holds_over}
-use Rattle.graph_model.specs.declared.graph.verb.Access.{Access}
-use Rattle.graph_model.specs.graph.Access.{is_reduction}
-use Rattle.graph_model.specs.meaning.Effect.{Cells, seen}
-use Rattle.graph_model.specs.meaning.HeldCells.{HasCells, HoldsOver, CellsByPoint, SeenCells}
+use Rattle.graph_terms.specs.declared.verb.Access.{Access}
+use Rattle.graph_terms.specs.Access.{is_reduction}
+use Rattle.graph_meaning.specs.Effect.{Cells, seen}
+use Rattle.graph_meaning.specs.HeldCells.{HasCells, HoldsOver, CellsByPoint, SeenCells}
 
 -- at a point of its space, the cell of a held column that is read is the one that is seen
 pub cell_is_seen : CellsByPoint → SeenCells → (space : ℕ → List (ℕ × ℕ)) (accesses : List Access) (a : Access) (held : List (ℕ × ColumnValue)) (x : ColumnValue) →

@@ -11,7 +11,7 @@ use Rattle.std.proofs.lemmas.List.FromFn.{take-map-range_with_len, length-map-ra
 use Rattle.std.proofs.lemmas.List.Sums.{sum_by-cons, sum_by-append, sum-map}
 use Rattle.std.proofs.Math.Nat.{mod-add-mod, add-mod-mod}
 use Rattle.index_spaces.specs.Space.{interval_has, interval_points, points, AscendAbove, IsSpace}
-use Rattle.graph_model.specs.meaning.Effect.{wrapped, wrapped_sum}
+use Rattle.graph_meaning.specs.Effect.{wrapped, wrapped_sum}
 use Rattle.kernel_table.proofs.Runs.{place_in}
 
 pub contains_there : {X : Type 0} (x : X) (xs : List X) (y : X) → Contains xs y → Contains (x ∷ xs) y

@@ -7,7 +7,7 @@ use Rattle.std.proofs.lemmas.List.Sums.{sum_by-cons}
 use Rattle.index_spaces.specs.Space.{interval_has, interval_points, has_point, AscendAbove, IsSpace}
 use Rattle.index_spaces.specs.Column.{ColumnValue, cell_of}
 use Rattle.index_spaces.specs.Run.{IsRun}
-use Rattle.graph_model.specs.meaning.Effect.{around, wrapped, wrapped_sum}
+use Rattle.graph_meaning.specs.Effect.{around, wrapped, wrapped_sum}
 use Rattle.kernel_table.proofs.Runs.{place_in, run_element}
 
 -- what a point adds, and the one before it

@@ -1,14 +1,14 @@
 -- When a kernel may run on the columns that are held, and what it leaves.
 use Rattle.std.specs.Prelude.{◌≡◌, ◌≢◌, ℕ, ◌<◌, false, nat_eq, List, [], ◌∷◌, length, map, Contains}
 use Rattle.index_spaces.specs.Column.{ColumnValue}
-use Rattle.graph_model.specs.declared.meaning.outcome.Verdict.{Verdict}
-use Rattle.graph_model.specs.declared.graph.verb.Access.{Access}
-use Rattle.graph_model.specs.declared.graph.table.Kernel.{Kernel}
-use Rattle.graph_model.specs.graph.Graph.{GraphValue, named_spaces, space_at}
-use Rattle.graph_model.specs.graph.Access.{kernel_accesses}
-use Rattle.graph_model.specs.meaning.Effect.{Cells, kernel_changes, kernel_verdict}
-use Rattle.graph_model.specs.graph.Fits.{repeats}
-use Rattle.graph_model.specs.meaning.HeldCells.{HasCells, HoldsOver, MakesChanges}
+use Rattle.graph_terms.specs.declared.outcome.Verdict.{Verdict}
+use Rattle.graph_terms.specs.declared.verb.Access.{Access}
+use Rattle.graph_terms.specs.declared.table.Kernel.{Kernel}
+use Rattle.graph_terms.specs.Graph.{GraphValue, named_spaces, space_at}
+use Rattle.graph_terms.specs.Access.{kernel_accesses}
+use Rattle.graph_meaning.specs.Effect.{Cells, kernel_changes, kernel_verdict}
+use Rattle.graph_terms.specs.Fits.{repeats}
+use Rattle.graph_meaning.specs.HeldCells.{HasCells, HoldsOver, MakesChanges}
 
 -- a kernel's spaces are declared, its columns are held over them, and it names no column twice
 pub record FitsHeld (g : GraphValue) (held : List (ℕ × ColumnValue)) (kernel : Kernel) : Type 0 where

@@ -4,13 +4,13 @@ ghost use Rattle.std.specs.Prelude.{◌≡◌, ◌&&◌, if◌then◌else◌, na
 ghost use Rattle.std.specs.List.{list_all};
 ghost use Rattle.index_spaces.specs.Space.{IsWithin, points};
 ghost use Rattle.index_spaces.specs.Column.{cell_of};
-ghost use Rattle.graph_model.specs.declared.graph.table.Kernel.TheVariants.{Expect};
-ghost use Rattle.graph_model.specs.meaning.Effect.{all_within};
+ghost use Rattle.graph_terms.specs.declared.table.Kernel.TheVariants.{Expect};
+ghost use Rattle.graph_meaning.specs.Effect.{all_within};
 ghost use Rattle.kernel_table.specs.Kernels.{HoldsOverSpace, RunsKernel};
 
+use graph_meaning::held_cells::{cells_by_point, seen_cells};
 use graph_model::graph::Graph;
-use graph_model::held_cells::{cells_by_point, seen_cells};
-use graph_model::outcome::Verdict;
+use graph_terms::outcome::Verdict;
 use index_spaces::column::Column;
 use index_spaces::held::Held;
 use index_spaces::laws::{points_are_listed, runs_of_spaces};

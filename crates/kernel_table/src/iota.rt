@@ -3,13 +3,13 @@
 ghost use Rattle.std.specs.Prelude.{ℕ, ◌≡◌, ◌+◌, ◌<◌, length, slice_index};
 ghost use Rattle.index_spaces.specs.Space.{IsWithin, rank};
 ghost use Rattle.index_spaces.specs.Run.{WritesPoints};
-ghost use Rattle.graph_model.specs.declared.meaning.outcome.Verdict.TheVariants.{Fine};
-ghost use Rattle.graph_model.specs.declared.graph.table.Kernel.TheVariants.{Iota};
-ghost use Rattle.graph_model.specs.meaning.Effect.{wrapped};
+ghost use Rattle.graph_terms.specs.declared.outcome.Verdict.TheVariants.{Fine};
+ghost use Rattle.graph_terms.specs.declared.table.Kernel.TheVariants.{Iota};
+ghost use Rattle.graph_meaning.specs.Effect.{wrapped};
 ghost use Rattle.kernel_table.specs.Kernels.{HoldsOverSpace, RunsKernel};
 
+use graph_meaning::held_cells::changes_by_point;
 use graph_model::graph::Graph;
-use graph_model::held_cells::changes_by_point;
 use index_spaces::column::Column;
 use index_spaces::held::Held;
 use index_spaces::laws::{runs_are_written, runs_of_spaces, spaces_are_written};

@@ -2,9 +2,9 @@
 #![tactic(auto)]
 
 ghost use Rattle.std.specs.Prelude.{◌≡◌};
-ghost use Rattle.graph_model.specs.graph.Graph.{space_at};
-ghost use Rattle.graph_model.specs.meaning.Effect.{Cells, kernel_changes, kernel_verdict};
-ghost use Rattle.graph_model.specs.meaning.HeldCells.{HasCells, MakesChanges};
+ghost use Rattle.graph_terms.specs.Graph.{space_at};
+ghost use Rattle.graph_meaning.specs.Effect.{Cells, kernel_changes, kernel_verdict};
+ghost use Rattle.graph_meaning.specs.HeldCells.{HasCells, MakesChanges};
 ghost use Rattle.kernel_table.specs.Kernels.{FitsHeld, FitsEach, RunsKernel};
 
 mod axpy;
@@ -25,8 +25,8 @@ use crate::iota::run_iota;
 use crate::scan::run_scan;
 use crate::stencil::run_stencil;
 use graph_model::graph::Graph;
-use graph_model::outcome::Verdict;
-use graph_model::verb::Kernel;
+use graph_terms::outcome::Verdict;
+use graph_terms::verb::Kernel;
 use index_spaces::held::Held;
 
 /// Runs a kernel on the columns that are held. It is a fault exactly where the kernel is `Expect`

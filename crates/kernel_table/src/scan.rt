@@ -4,13 +4,13 @@ ghost use Rattle.std.specs.Prelude.{ℕ, ◌≡◌, ◌≢◌, ◌+◌, ◌<◌,
 ghost use Rattle.index_spaces.specs.Space.{IsWithin, points};
 ghost use Rattle.index_spaces.specs.Column.{cell_of};
 ghost use Rattle.index_spaces.specs.Run.{WritesPoints};
-ghost use Rattle.graph_model.specs.declared.meaning.outcome.Verdict.TheVariants.{Fine};
-ghost use Rattle.graph_model.specs.declared.graph.table.Kernel.TheVariants.{Scan};
-ghost use Rattle.graph_model.specs.meaning.Effect.{wrapped, wrapped_sum};
+ghost use Rattle.graph_terms.specs.declared.outcome.Verdict.TheVariants.{Fine};
+ghost use Rattle.graph_terms.specs.declared.table.Kernel.TheVariants.{Scan};
+ghost use Rattle.graph_meaning.specs.Effect.{wrapped, wrapped_sum};
 ghost use Rattle.kernel_table.specs.Kernels.{HoldsOverSpace, RunsKernel};
 
+use graph_meaning::held_cells::{cells_by_point, changes_by_point, seen_cells};
 use graph_model::graph::Graph;
-use graph_model::held_cells::{cells_by_point, changes_by_point, seen_cells};
 use index_spaces::column::Column;
 use index_spaces::held::Held;
 use index_spaces::laws::{points_are_listed, runs_are_written, runs_of_spaces, spaces_are_written};

@@ -5,27 +5,27 @@ use Rattle.std.specs.Option.{option_map_or, IsSomeAnd}
 use Rattle.std.specs.List.{list_any}
 use Rattle.std.proofs.lemmas.Bool.{false≢true, or_from, ne_eqb}
 use Rattle.std.proofs.lemmas.Option.{none-some, same_Some, slice_get_within, get_or_from_slice_get, slice_get-get_or, slice_get-map}
-use Rattle.graph_model.specs.declared.graph.verb.Line.{Line}
-use Rattle.graph_model.specs.declared.meaning.outcome.Verdict.{Verdict}
-use Rattle.graph_model.specs.declared.meaning.outcome.Verdict.TheVariants.{Fine}
-use Rattle.graph_model.specs.declared.graph.format.Format.{Format}
-use Rattle.graph_model.specs.declared.graph.table.Kernel.{Kernel}
-use Rattle.graph_model.specs.declared.graph.table.Kernel.TheVariants.{Iota, Axpy, Stencil, Hist, Scan, Dot, Expect, Gather}
-use Rattle.graph_model.specs.declared.graph.verb.Verb.{Verb}
-use Rattle.graph_model.specs.declared.graph.verb.Verb.TheVariants.{User, Trigger, Cancel, Merge, MergeIgnore, Phase, Arrive, Acquire, Release, Fill, Copy, Reduce, Task}
-use Rattle.graph_model.specs.graph.Graph.{GraphValue, verb_at, space_at, named_spaces, column_space}
-use Rattle.graph_model.specs.declared.graph.verb.Access.{Access}
-use Rattle.graph_model.specs.meaning.HeldCells.{HasCells, MakesChanges, HoldsOver, ColumnsOfChanges}
-use Rattle.graph_model.specs.graph.Fits.{IsGraph, repeats}
-use Rattle.graph_model.specs.meaning.LineLaws.{AccessFits, AccessesFit, ColumnsDiffer}
+use Rattle.graph_terms.specs.declared.verb.Line.{Line}
+use Rattle.graph_terms.specs.declared.outcome.Verdict.{Verdict}
+use Rattle.graph_terms.specs.declared.outcome.Verdict.TheVariants.{Fine}
+use Rattle.graph_terms.specs.declared.format.Format.{Format}
+use Rattle.graph_terms.specs.declared.table.Kernel.{Kernel}
+use Rattle.graph_terms.specs.declared.table.Kernel.TheVariants.{Iota, Axpy, Stencil, Hist, Scan, Dot, Expect, Gather}
+use Rattle.graph_terms.specs.declared.verb.Verb.{Verb}
+use Rattle.graph_terms.specs.declared.verb.Verb.TheVariants.{User, Trigger, Cancel, Merge, MergeIgnore, Phase, Arrive, Acquire, Release, Fill, Copy, Reduce, Task}
+use Rattle.graph_terms.specs.Graph.{GraphValue, verb_at, space_at, named_spaces, column_space}
+use Rattle.graph_terms.specs.declared.verb.Access.{Access}
+use Rattle.graph_meaning.specs.HeldCells.{HasCells, MakesChanges, HoldsOver, ColumnsOfChanges}
+use Rattle.graph_terms.specs.Fits.{IsGraph, repeats}
+use Rattle.graph_meaning.specs.LineLaws.{AccessFits, AccessesFit, ColumnsDiffer}
 use Rattle.index_spaces.specs.declared.Op.{Op}
 use Rattle.index_spaces.specs.declared.Op.TheVariants as op
-use Rattle.graph_model.specs.declared.graph.verb.Mode.{Mode}
-use Rattle.graph_model.specs.declared.graph.verb.Mode.TheVariants as mode
+use Rattle.graph_terms.specs.declared.verb.Mode.{Mode}
+use Rattle.graph_terms.specs.declared.verb.Mode.TheVariants as mode
 use Rattle.index_spaces.specs.Held.{held_at}
 use Rattle.line_effects.specs.Moved.{moves, HeldShow}
-use Rattle.graph_model.specs.graph.Access.{access, in_format, or_write, accesses, verb_accesses, kernel_accesses}
-use Rattle.graph_model.specs.meaning.Effect.{Cells, CellChange, Effect, effect, cells_after, verb_changes, verb_verdict}
+use Rattle.graph_terms.specs.Access.{access, in_format, or_write, accesses, verb_accesses, kernel_accesses}
+use Rattle.graph_meaning.specs.Effect.{Cells, CellChange, Effect, effect, cells_after, verb_changes, verb_verdict}
 use Rattle.index_spaces.specs.Space.{points, IsWithin}
 use Rattle.index_spaces.specs.Column.{ColumnValue}
 use Rattle.kernel_table.specs.Kernels.{FitsHeld}

@@ -2,15 +2,15 @@
 use Rattle.std.proofs.Common.{◌≡◌, ℕ, List, [], refl, ◌∙◌, ap}
 use Rattle.std.specs.Prelude.{Option, Some, None}
 use Rattle.std.specs.Option.{option_map_or}
-use Rattle.graph_model.specs.declared.graph.table.Kernel.{Kernel}
-use Rattle.graph_model.specs.declared.graph.table.Kernel.TheVariants.{Expect}
-use Rattle.graph_model.specs.declared.graph.verb.Verb.{Verb}
-use Rattle.graph_model.specs.declared.graph.verb.Verb.TheVariants.{Task}
-use Rattle.graph_model.specs.declared.meaning.outcome.Verdict.{Verdict}
-use Rattle.graph_model.specs.declared.meaning.outcome.Verdict.TheVariants.{Fine, Fault}
-use Rattle.graph_model.specs.graph.Graph.{GraphValue, space_at, verb_at}
-use Rattle.graph_model.specs.meaning.Effect.{Cells, effect, verb_verdict, verb_changes, kernel_verdict, kernel_changes}
-use Rattle.graph_model.specs.meaning.Evaluation.{made_by}
+use Rattle.graph_terms.specs.declared.table.Kernel.{Kernel}
+use Rattle.graph_terms.specs.declared.table.Kernel.TheVariants.{Expect}
+use Rattle.graph_terms.specs.declared.verb.Verb.{Verb}
+use Rattle.graph_terms.specs.declared.verb.Verb.TheVariants.{Task}
+use Rattle.graph_terms.specs.declared.outcome.Verdict.{Verdict}
+use Rattle.graph_terms.specs.declared.outcome.Verdict.TheVariants.{Fine, Fault}
+use Rattle.graph_terms.specs.Graph.{GraphValue, space_at, verb_at}
+use Rattle.graph_meaning.specs.Effect.{Cells, effect, verb_verdict, verb_changes, kernel_verdict, kernel_changes}
+use Rattle.graph_meaning.specs.Evaluation.{made_by}
 
 -- only an expectation faults, and it changes nothing
 made_by_kernel : (space : ℕ → List (ℕ × ℕ)) (cells : Cells) (k : Kernel) → made_by (kernel_verdict space cells k) (kernel_changes space cells k) ≡ kernel_changes space cells k

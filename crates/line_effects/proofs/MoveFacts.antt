@@ -6,12 +6,12 @@ use Rattle.std.proofs.lemmas.Option.{none-some, same_Some, slice_get-get_or, sli
 use Rattle.std.proofs.lemmas.List.{length-map}
 use Rattle.index_spaces.specs.Column.{ColumnValue}
 use Rattle.index_spaces.specs.Held.{held_at, HoldsOtherwise}
-use Rattle.graph_model.specs.declared.graph.verb.Access.{Access}
-use Rattle.graph_model.specs.graph.Fits.{IsGraph}
-use Rattle.graph_model.specs.meaning.LineLaws.{AccessesFit, ColumnsDiffer}
-use Rattle.graph_model.specs.graph.Graph.{GraphValue, columns}
-use Rattle.graph_model.specs.graph.Access.{accesses}
-use Rattle.graph_model.proofs.KindLaws.{accesses_are_few}
+use Rattle.graph_terms.specs.declared.verb.Access.{Access}
+use Rattle.graph_terms.specs.Fits.{IsGraph}
+use Rattle.graph_meaning.specs.LineLaws.{AccessesFit, ColumnsDiffer}
+use Rattle.graph_terms.specs.Graph.{GraphValue, columns}
+use Rattle.graph_terms.specs.Access.{accesses}
+use Rattle.graph_meaning.proofs.LineFacts.{accesses_are_few}
 use Rattle.line_effects.specs.Moved.{moves}
 use Rattle.line_effects.proofs.EffectFacts.{access_listed, access_moved, move_at, moves_apart}
 

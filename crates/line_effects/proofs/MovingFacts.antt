@@ -6,9 +6,9 @@ use Rattle.std.proofs.lemmas.Option.{none-some, same_Some}
 use Rattle.std.proofs.lemmas.List.{get_or-set_same, get_or-set_other}
 use Rattle.index_spaces.specs.Column.{ColumnValue}
 use Rattle.index_spaces.specs.Held.{held_at, HoldsOtherwise}
-use Rattle.graph_model.specs.graph.Fits.{IsGraph}
-use Rattle.graph_model.specs.graph.Graph.{GraphValue}
-use Rattle.graph_model.specs.meaning.LineLaws.{ColumnsDiffer}
+use Rattle.graph_terms.specs.Fits.{IsGraph}
+use Rattle.graph_terms.specs.Graph.{GraphValue}
+use Rattle.graph_meaning.specs.LineLaws.{ColumnsDiffer}
 use Rattle.line_effects.specs.Moved.{moves, AreMoved, AreBack}
 use Rattle.line_effects.proofs.EffectFacts.{moves_apart}
 use Rattle.line_effects.proofs.MoveFacts.{HeldSoFar, up_to, is_new, so_far_none, so_far_take, so_far_skip, few_moves}

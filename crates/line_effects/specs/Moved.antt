@@ -2,11 +2,11 @@
 use Rattle.std.specs.Prelude.{◌≡◌, ◌≢◌, ℕ, List, length, map, Option, Some, None, slice_get, slice_index_or}
 use Rattle.index_spaces.specs.Column.{ColumnValue}
 use Rattle.index_spaces.specs.Held.{held_at}
-use Rattle.graph_model.specs.declared.graph.verb.Access.{Access}
-use Rattle.graph_model.specs.graph.Graph.{GraphValue}
-use Rattle.graph_model.specs.graph.Access.{accesses}
-use Rattle.graph_model.specs.meaning.Effect.{Cells}
-use Rattle.graph_model.specs.meaning.Evaluation.{column_of}
+use Rattle.graph_terms.specs.declared.verb.Access.{Access}
+use Rattle.graph_terms.specs.Graph.{GraphValue}
+use Rattle.graph_terms.specs.Access.{accesses}
+use Rattle.graph_meaning.specs.Effect.{Cells}
+use Rattle.graph_meaning.specs.Evaluation.{column_of}
 
 -- the columns that a line uses
 abbrev pub moves : GraphValue → ℕ → List ℕ

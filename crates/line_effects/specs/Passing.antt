@@ -1,10 +1,10 @@
 -- The barrier of a phase.
 use Rattle.std.specs.Prelude.{ℕ, Option, None, slice_get}
 use Rattle.std.specs.Option.{option_map_or}
-use Rattle.graph_model.specs.declared.graph.decl.BarrierInfo.{BarrierInfo}
-use Rattle.graph_model.specs.declared.graph.verb.Verb.{Verb}
-use Rattle.graph_model.specs.declared.graph.verb.Verb.TheVariants.{Phase}
-use Rattle.graph_model.specs.graph.Graph.{GraphValue, barriers, verb_at}
+use Rattle.graph_terms.specs.declared.decl.BarrierInfo.{BarrierInfo}
+use Rattle.graph_terms.specs.declared.verb.Verb.{Verb}
+use Rattle.graph_terms.specs.declared.verb.Verb.TheVariants.{Phase}
+use Rattle.graph_terms.specs.Graph.{GraphValue, barriers, verb_at}
 
 -- the barrier of a phase, and none of any other verb
 abbrev pub barrier_by : GraphValue → Verb → Option BarrierInfo

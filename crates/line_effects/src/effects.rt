@@ -2,15 +2,15 @@
 
 ghost use Rattle.std.specs.Prelude.{◌≡◌, ℕ, ◌<◌, length, slice_get, is_some, Some, IsSome};
 ghost use Rattle.index_spaces.specs.Held.{held_at};
-ghost use Rattle.graph_model.specs.meaning.Effect.{Cells, effect, cells_after};
+ghost use Rattle.graph_meaning.specs.Effect.{Cells, effect, cells_after};
 ghost use Rattle.line_effects.specs.Moved.{moves, HeldShow};
 
 use copy_engine::{copy, fill, reduce};
+use graph_meaning::held_cells::columns_of_changes;
+use graph_meaning::line_laws::{accesses_fit, columns_differ};
 use graph_model::graph::Graph;
-use graph_model::held_cells::columns_of_changes;
-use graph_model::line_laws::{accesses_fit, columns_differ};
-use graph_model::outcome::Verdict;
-use graph_model::verb::Verb;
+use graph_terms::outcome::Verdict;
+use graph_terms::verb::Verb;
 use index_spaces::held::Held;
 use kernel_table::run_kernel;
 

@@ -2,12 +2,12 @@
 
 ghost use Rattle.std.specs.Prelude.{◌≡◌, ℕ, ◌<◌, ◌+◌, length, slice_get, slice_index_or, slice_set, Some, None, IsSome, IfSome};
 ghost use Rattle.index_spaces.specs.Held.{held_at, HoldsOtherwise};
-ghost use Rattle.graph_model.specs.graph.Graph.{columns};
+ghost use Rattle.graph_terms.specs.Graph.{columns};
 ghost use Rattle.line_effects.specs.Moved.{moves, AreMoved, AreBack};
 
+use graph_meaning::line_laws::{accesses_fit, columns_differ};
 use graph_model::graph::Graph;
-use graph_model::limits::MOST_ACCESSES;
-use graph_model::line_laws::{accesses_fit, columns_differ};
+use graph_terms::limits::MOST_ACCESSES;
 use index_spaces::held::Held;
 use instances::Homes;
 

@@ -2,14 +2,14 @@
 
 ghost use Rattle.std.specs.Prelude.{◌≡◌, ◌<◌, length};
 ghost use Rattle.std.specs.Option.{option_copied};
-ghost use Rattle.graph_model.specs.meaning.Evaluation.{cancels, combined};
+ghost use Rattle.graph_meaning.specs.Evaluation.{cancels, combined};
 ghost use Rattle.line_effects.specs.Passing.{barrier_of};
 
-use graph_model::decl::BarrierInfo;
+use graph_meaning::line_laws::phases_fit;
 use graph_model::graph::Graph;
-use graph_model::line_laws::phases_fit;
-use graph_model::outcome::End;
-use graph_model::verb::{EdgeKind, Verb};
+use graph_terms::decl::BarrierInfo;
+use graph_terms::outcome::End;
+use graph_terms::verb::{EdgeKind, Verb};
 use index_spaces::Op;
 
 /// Whether an edge of this kind cancels its target, by the end of its source.

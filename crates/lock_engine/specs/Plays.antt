@@ -1,7 +1,7 @@
 -- What each step of the turn lock tells, and how views are cut and joined.
 use Rattle.std.specs.Prelude.{◌≡◌, ℕ, ◌+◌, ◌-◌, ◌==◌, MatchBool, true, false, [], ◌∷◌, Option, Some, None}
 use Rattle.atomic_table.specs.Table.{Me}
-use Rattle.graph_model.specs.declared.graph.format.Format.TheVariants.{One}
+use Rattle.graph_terms.specs.declared.format.Format.TheVariants.{One}
 use Rattle.run_core.specs.Core.{CoreValue, unissued}
 use Rattle.run_core.specs.Works.{KeepsWork}
 use Rattle.lock_engine.specs.Turns.{Call, IsTurn, line_taken}

@@ -3,7 +3,7 @@ use Rattle.std.specs.Prelude.{◌≡◌, ℕ, ◌<◌, ◌⊎◌, true, false, L
 use mathlib.Core.Option.{some, none}
 use lib.ListN.{get_elem?}
 use Rattle.atomic_table.specs.Table.{State}
-use Rattle.graph_model.specs.graph.Graph.{GraphValue}
+use Rattle.graph_terms.specs.Graph.{GraphValue}
 use Rattle.basics.specs.Sums.{total}
 use Rattle.run_core.specs.Core.{CoreValue, unissued}
 use Rattle.run_core.specs.Works.{KeepsWork}

@@ -3,7 +3,7 @@ use Rattle.std.specs.Prelude.{◌≡◌, ◌<◌, ⊤, true, false, List, [], �
 use Rattle.atomic_table.specs.Seated.{TableId}
 use Rattle.atomic_table.specs.declared.shared.Seat.{Seat}
 use Rattle.atomic_table.specs.declared.badge.Badge.{Badge}
-use Rattle.graph_model.specs.graph.Graph.{GraphValue}
+use Rattle.graph_terms.specs.Graph.{GraphValue}
 use Rattle.run_core.specs.Core.{IsCore}
 use Rattle.run_core.specs.Works.{WorkValue, FinishedValue, IsWork, IsFinished}
 use Rattle.run_core.specs.declared.answers.Issue.{Issue as IssueAnswer}

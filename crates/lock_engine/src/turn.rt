@@ -1,8 +1,8 @@
 //! The turn lock with its core.
 
 ghost use Rattle.std.specs.Prelude.{◌≡◌, ◌≤◌, ◌<◌, ℕ, None, Some, IfOk, length, slice_get};
-ghost use Rattle.graph_model.specs.meaning.Evaluation.{outcome as evaluated};
-ghost use Rattle.graph_model.specs.meaning.Trace.{IsLawful, SectionsApart};
+ghost use Rattle.graph_meaning.specs.Evaluation.{outcome as evaluated};
+ghost use Rattle.graph_meaning.specs.Trace.{IsLawful, SectionsApart};
 ghost use Rattle.run_core.specs.Finishing.{NothingOut};
 ghost use Rattle.lock_engine.specs.Seats.{IsResting, view_of};
 ghost use Rattle.lock_engine.specs.Rule.{all_parts};
@@ -13,9 +13,9 @@ use crate::plays::Law;
 use crate::view::View;
 use crate::workers::run_workers;
 use atomic_table::{Badge, Table};
-use graph_model::checked::Checked;
+use checked_graph::Checked;
 use graph_model::graph::Graph;
-use graph_model::outcome::Outcome;
+use graph_terms::outcome::Outcome;
 use index_spaces::NoMemory;
 use realm_io::Gate;
 use run_core::{Core, MAX_SLOTS};
@@ -35,7 +35,7 @@ pub struct Turn<'g> {
 
 impl<'g> Model for Turn<'g> {
     ghost use Rattle.std.specs.Prelude.{◌≡◌};
-    ghost use Rattle.graph_model.specs.graph.Graph.{GraphValue};
+    ghost use Rattle.graph_terms.specs.Graph.{GraphValue};
     ghost use Rattle.lock_engine.specs.Rule.{first_view};
     ghost use Rattle.lock_engine.specs.Seats.{IsResting, view_of};
 

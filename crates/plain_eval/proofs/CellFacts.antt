@@ -3,7 +3,7 @@ use Rattle.std.proofs.Common.{◌≡◌, ℕ, ◌&&◌, List, [], ◌∷◌, ◌
 use Rattle.std.specs.Prelude.{◌≢◌, ◌==◌, Contains}
 use Rattle.std.proofs.lemmas.Bool.{ne_eqb}
 use Rattle.std.proofs.Math.Seq.{take-append_seam}
-use Rattle.graph_model.specs.meaning.Effect.{Cells, CellChange, cell_after_if, cells_after_one, cells_after}
+use Rattle.graph_meaning.specs.Effect.{Cells, CellChange, cell_after_if, cells_after_one, cells_after}
 use Rattle.basics.proofs.ListFacts.{contains_here, contains_there}
 
 pub cells_after-append : (cells : Cells) (xs ys : List CellChange) → cells_after cells (xs ++ ys) ≡ cells_after (cells_after cells xs) ys

@@ -2,10 +2,10 @@
 use Rattle.std.proofs.Common.{◌≡◌, ℕ, zero, suc, ◌<◌, List, [], ◌∷◌, ◌++◌, length, map, refl, subst, sym}
 use Rattle.std.specs.Prelude.{Option, Some, None, slice_get}
 use Rattle.std.proofs.lemmas.Option.{none-some, same_Some}
-use Rattle.graph_model.specs.graph.Graph.{GraphValue}
-use Rattle.graph_model.specs.declared.meaning.outcome.Outcome.{Outcome}
-use Rattle.graph_model.specs.meaning.Evaluation.{Step, advance_by, lowest_ready, step_of, steps_after, outcome, order}
-use Rattle.graph_model.proofs.Waiting.{lowest_ready_is, step_of-line}
+use Rattle.graph_terms.specs.Graph.{GraphValue}
+use Rattle.graph_terms.specs.declared.outcome.Outcome.{Outcome}
+use Rattle.graph_meaning.specs.Evaluation.{Step, advance_by, lowest_ready, step_of, steps_after, outcome, order}
+use Rattle.graph_meaning.proofs.Waiting.{lowest_ready_is, step_of-line}
 
 -- each step is of a line
 abbrev AreLines : GraphValue → List Step → Type 0

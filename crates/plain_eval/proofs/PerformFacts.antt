@@ -7,12 +7,12 @@ use Rattle.std.proofs.lemmas.List.FromFn.{fill_by_all, get_or-map-range_with_len
 use Rattle.index_spaces.specs.Space.{points}
 use Rattle.index_spaces.specs.Column.{ColumnValue}
 use Rattle.index_spaces.specs.Held.{held_at}
-use Rattle.graph_model.specs.graph.Fits.{IsGraph}
-use Rattle.graph_model.specs.graph.Graph.{GraphValue, columns, column_space}
-use Rattle.graph_model.specs.meaning.LineLaws.{AccessesFit}
-use Rattle.graph_model.specs.meaning.Effect.{Cells, effect, cells_after}
-use Rattle.graph_model.specs.meaning.Evaluation.{column_of}
-use Rattle.graph_model.specs.meaning.Laws.{ChangesWithinAccesses}
+use Rattle.graph_terms.specs.Fits.{IsGraph}
+use Rattle.graph_terms.specs.Graph.{GraphValue, columns, column_space}
+use Rattle.graph_meaning.specs.LineLaws.{AccessesFit}
+use Rattle.graph_meaning.specs.Effect.{Cells, effect, cells_after}
+use Rattle.graph_meaning.specs.Evaluation.{column_of}
+use Rattle.graph_meaning.specs.Laws.{ChangesWithinAccesses}
 use Rattle.instances.specs.Homes.{all_home}
 use Rattle.line_effects.specs.Moved.{moves, HeldShow, AreMoved, AreBack}
 use Rattle.line_effects.proofs.MoveFacts.{move_of, move_known}

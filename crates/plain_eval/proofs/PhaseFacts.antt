@@ -12,20 +12,20 @@ use Rattle.std.proofs.lemmas.List.Sums.{fold_push}
 use Rattle.basics.specs.Lists.{numbers_below}
 use Rattle.index_spaces.specs.declared.Op.{Op}
 use Rattle.index_spaces.specs.declared.Op.TheVariants.{Min}
-use Rattle.graph_model.specs.declared.graph.decl.BarrierInfo.{BarrierInfo}
+use Rattle.graph_terms.specs.declared.decl.BarrierInfo.{BarrierInfo}
 use Rattle.index_spaces.specs.Column.{ColumnValue}
-use Rattle.graph_model.specs.declared.meaning.outcome.Answer.{Answer}
-use Rattle.graph_model.specs.declared.meaning.outcome.Outcome.{Outcome}
-use Rattle.graph_model.specs.declared.meaning.outcome.End.{End}
-use Rattle.graph_model.specs.declared.meaning.outcome.End.TheVariants.{Done, Faulted, Cancelled, Waiting}
-use Rattle.graph_model.specs.declared.graph.verb.Line.{Line}
-use Rattle.graph_model.specs.declared.graph.verb.Verb.{Verb}
-use Rattle.graph_model.specs.declared.graph.verb.Verb.TheVariants.{User, Trigger, Cancel, Merge, MergeIgnore, Phase, Arrive, Acquire, Release, Fill, Copy, Reduce, Task}
-use Rattle.graph_model.specs.graph.Graph.{GraphValue, barriers, columns, verb_at}
-use Rattle.graph_model.specs.graph.Fits.{IsGraph}
-use Rattle.graph_model.specs.meaning.LineLaws.{PhasesFit}
-use Rattle.graph_model.specs.meaning.Evaluation.{eval_end, combined, arrival_value, reduced_with, phase_value_by, phase_value, steps_after, advance_by, lowest_ready, step_of, Step, evaluation, order, outcome, answer_of, column_of, cells_of}
-use Rattle.graph_model.specs.meaning.Effect.{Cells}
+use Rattle.graph_terms.specs.declared.outcome.Answer.{Answer}
+use Rattle.graph_terms.specs.declared.outcome.Outcome.{Outcome}
+use Rattle.graph_terms.specs.declared.outcome.End.{End}
+use Rattle.graph_terms.specs.declared.outcome.End.TheVariants.{Done, Faulted, Cancelled, Waiting}
+use Rattle.graph_terms.specs.declared.verb.Line.{Line}
+use Rattle.graph_terms.specs.declared.verb.Verb.{Verb}
+use Rattle.graph_terms.specs.declared.verb.Verb.TheVariants.{User, Trigger, Cancel, Merge, MergeIgnore, Phase, Arrive, Acquire, Release, Fill, Copy, Reduce, Task}
+use Rattle.graph_terms.specs.Graph.{GraphValue, barriers, columns, verb_at}
+use Rattle.graph_terms.specs.Fits.{IsGraph}
+use Rattle.graph_meaning.specs.LineLaws.{PhasesFit}
+use Rattle.graph_meaning.specs.Evaluation.{eval_end, combined, arrival_value, reduced_with, phase_value_by, phase_value, steps_after, advance_by, lowest_ready, step_of, Step, evaluation, order, outcome, answer_of, column_of, cells_of}
+use Rattle.graph_meaning.specs.Effect.{Cells}
 use Rattle.instances.specs.Homes.{all_home}
 use Rattle.plain_eval.specs.Phases.{done_barrier_by, done_barrier, first_reduction, reduction_after, with_arrival}
 use Rattle.plain_eval.specs.declared.phases.Reduction.{Reduction}

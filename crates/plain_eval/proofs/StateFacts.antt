@@ -11,15 +11,15 @@ use Rattle.std.proofs.lemmas.List.Folds.{list_any-append, list_any_at, list_any_
 use Rattle.std.proofs.lemmas.List.Elements.{All-filter, Contains-get_or}
 use Rattle.std.proofs.lemmas.List.FromFn.{fill_by_all, get_or-map-range_with_len, length-map-range_with_len}
 use Rattle.basics.specs.Lists.{numbers_below}
-use Rattle.graph_model.specs.declared.graph.verb.Edge.{Edge}
-use Rattle.graph_model.specs.declared.meaning.outcome.End.{End}
-use Rattle.graph_model.specs.declared.meaning.outcome.End.TheVariants.{Waiting}
-use Rattle.graph_model.specs.graph.Graph.{GraphValue}
-use Rattle.graph_model.specs.graph.Edges.{edges, edges_into}
-use Rattle.graph_model.specs.graph.Fits.{IsGraph}
-use Rattle.graph_model.specs.meaning.Laws.{EdgesBetweenLines}
-use Rattle.graph_model.specs.meaning.Effect.{zero_cells, Effect, effect, cells_after}
-use Rattle.graph_model.specs.meaning.Evaluation.{Step, eval_end, end_in, has_ended, cells_of, cancels, is_cancelled, step_by, step_of, advance_by, advance}
+use Rattle.graph_terms.specs.declared.verb.Edge.{Edge}
+use Rattle.graph_terms.specs.declared.outcome.End.{End}
+use Rattle.graph_terms.specs.declared.outcome.End.TheVariants.{Waiting}
+use Rattle.graph_terms.specs.Graph.{GraphValue}
+use Rattle.graph_terms.specs.Edges.{edges, edges_into}
+use Rattle.graph_terms.specs.Fits.{IsGraph}
+use Rattle.graph_meaning.specs.Laws.{EdgesBetweenLines}
+use Rattle.graph_meaning.specs.Effect.{zero_cells, Effect, effect, cells_after}
+use Rattle.graph_meaning.specs.Evaluation.{Step, eval_end, end_in, has_ended, cells_of, cancels, is_cancelled, step_by, step_of, advance_by, advance}
 use Rattle.plain_eval.specs.Waiting.{open_edges, and_ended, is_free, IsWaiting, IsFree}
 use Rattle.instances.specs.Homes.{all_home}
 use Rattle.plain_eval.specs.State.{IsState}

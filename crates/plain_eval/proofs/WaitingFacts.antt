@@ -9,13 +9,13 @@ use Rattle.std.proofs.lemmas.List.Elements.{All-filter, Contains-get_or}
 use Rattle.std.proofs.lemmas.List.Filters.{length-filter_more}
 use Rattle.std.proofs.lemmas.List.FromFn.{length-map-range_with_len, get_or-map-range_with_len, map-range_with_len_more}
 use Rattle.basics.specs.Lists.{numbers_below}
-use Rattle.graph_model.specs.declared.graph.verb.Edge.{Edge}
-use Rattle.graph_model.specs.declared.graph.verb.EdgeKind.TheVariants.{Passes}
-use Rattle.graph_model.specs.meaning.Laws.{EdgesBetweenLines}
-use Rattle.graph_model.specs.graph.Fits.{IsGraph}
-use Rattle.graph_model.specs.graph.Graph.{GraphValue, never_comes}
-use Rattle.graph_model.specs.graph.Edges.{edges, edges_into, edges_out_of}
-use Rattle.graph_model.specs.meaning.Evaluation.{Step, has_ended, is_ready, lowest_ready}
+use Rattle.graph_terms.specs.declared.verb.Edge.{Edge}
+use Rattle.graph_terms.specs.declared.verb.EdgeKind.TheVariants.{Passes}
+use Rattle.graph_meaning.specs.Laws.{EdgesBetweenLines}
+use Rattle.graph_terms.specs.Fits.{IsGraph}
+use Rattle.graph_terms.specs.Graph.{GraphValue, never_comes}
+use Rattle.graph_terms.specs.Edges.{edges, edges_into, edges_out_of}
+use Rattle.graph_meaning.specs.Evaluation.{Step, has_ended, is_ready, lowest_ready}
 use Rattle.plain_eval.specs.Waiting.{open_edges, count_into, and_ended, starts_ready, is_free, IsWaiting, IsFree}
 
 and_same : (a b c : Bool) → (a ≡ true → b ≡ c) → (a && b) ≡ (a && c)

@@ -1,13 +1,13 @@
 -- How the values of phases come about, arrival by arrival.
 use Rattle.std.specs.Prelude.{ℕ, List, take, filter_map, Option, Some, None, option_map, slice_index_or, slice_set, slice_get}
-use Rattle.graph_model.specs.declared.graph.decl.BarrierInfo.{BarrierInfo}
-use Rattle.graph_model.specs.declared.meaning.outcome.End.{End}
-use Rattle.graph_model.specs.declared.meaning.outcome.End.TheVariants.{Done}
-use Rattle.graph_model.specs.declared.graph.verb.Line.{Line}
-use Rattle.graph_model.specs.declared.graph.verb.Verb.{Verb}
-use Rattle.graph_model.specs.declared.graph.verb.Verb.TheVariants.{Phase, Arrive}
-use Rattle.graph_model.specs.graph.Graph.{GraphValue, barriers, verb_at}
-use Rattle.graph_model.specs.meaning.Evaluation.{eval_end, combined, arrival_value, reduced_with}
+use Rattle.graph_terms.specs.declared.decl.BarrierInfo.{BarrierInfo}
+use Rattle.graph_terms.specs.declared.outcome.End.{End}
+use Rattle.graph_terms.specs.declared.outcome.End.TheVariants.{Done}
+use Rattle.graph_terms.specs.declared.verb.Line.{Line}
+use Rattle.graph_terms.specs.declared.verb.Verb.{Verb}
+use Rattle.graph_terms.specs.declared.verb.Verb.TheVariants.{Phase, Arrive}
+use Rattle.graph_terms.specs.Graph.{GraphValue, barriers, verb_at}
+use Rattle.graph_meaning.specs.Evaluation.{eval_end, combined, arrival_value, reduced_with}
 use Rattle.plain_eval.specs.declared.phases.Reduction.{Reduction}
 
 -- the barrier of a phase that is done

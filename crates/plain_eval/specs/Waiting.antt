@@ -1,8 +1,8 @@
 -- Which lines are ready, and how many edges a line waits for, by the lines that have ended.
 use Rattle.std.specs.Prelude.{◌≡◌, ℕ, ◌<◌, ◌==◌, nat_lt, Bool, true, false, not, ◌&&◌, ◌||◌, List, length, filter, slice_index}
-use Rattle.graph_model.specs.declared.graph.verb.Edge.{Edge}
-use Rattle.graph_model.specs.graph.Graph.{GraphValue, never_comes}
-use Rattle.graph_model.specs.graph.Edges.{edges, edges_into}
+use Rattle.graph_terms.specs.declared.verb.Edge.{Edge}
+use Rattle.graph_terms.specs.Graph.{GraphValue, never_comes}
+use Rattle.graph_terms.specs.Edges.{edges, edges_into}
 
 -- how many edges enter a line from lines that have not ended
 abbrev pub open_edges : GraphValue → (ℕ → Bool) → ℕ → ℕ

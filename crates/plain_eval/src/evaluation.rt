@@ -1,17 +1,17 @@
 //! The evaluation.
 
 ghost use Rattle.std.specs.Prelude.{◌≡◌, ℕ, ◌<◌, ◌↔◌, length, map, slice_get, Some, IfOk, OnOk};
-ghost use Rattle.graph_model.specs.meaning.Path.{Reached};
-ghost use Rattle.graph_model.specs.meaning.Evaluation.{evaluation, outcome, order, answer_of, Unbroken};
+ghost use Rattle.graph_meaning.specs.Path.{Reached};
+ghost use Rattle.graph_meaning.specs.Evaluation.{evaluation, outcome, order, answer_of, Unbroken};
 ghost use Rattle.plain_eval.specs.State.{IsState};
 
 use crate::phases::phase_values;
 use crate::state::State;
-use graph_model::checked::Checked;
+use checked_graph::Checked;
+use graph_meaning::laws::{cancelled_where_unbroken, waits_where_reached};
 use graph_model::graph::Graph;
-use graph_model::laws::{cancelled_where_unbroken, waits_where_reached};
-use graph_model::lists::{AnswerList, EndList, LineList, ValueList};
-use graph_model::outcome::{Answer, End, Outcome};
+use graph_terms::lists::{AnswerList, EndList, LineList, ValueList};
+use graph_terms::outcome::{Answer, End, Outcome};
 use index_spaces::NoMemory;
 use index_spaces::room::push;
 use std::alloc::Global;

@@ -1,14 +1,14 @@
 //! What a line does to the cells.
 
 ghost use Rattle.std.specs.Prelude.{◌≡◌, ◌<◌, length};
-ghost use Rattle.graph_model.specs.meaning.Effect.{Cells, effect, cells_after};
-ghost use Rattle.graph_model.specs.meaning.Evaluation.{made_by};
+ghost use Rattle.graph_meaning.specs.Effect.{Cells, effect, cells_after};
+ghost use Rattle.graph_meaning.specs.Evaluation.{made_by};
 ghost use Rattle.instances.specs.Homes.{all_home};
 
+use graph_meaning::laws::changes_within_accesses;
+use graph_meaning::line_laws::accesses_fit;
 use graph_model::graph::Graph;
-use graph_model::laws::changes_within_accesses;
-use graph_model::line_laws::accesses_fit;
-use graph_model::outcome::Verdict;
+use graph_terms::outcome::Verdict;
 use instances::Homes;
 use line_effects::effects::apply;
 use line_effects::moving::{give_columns, take_columns};

@@ -2,13 +2,13 @@
 
 ghost use Rattle.std.specs.Prelude.{◌≡◌, ◌<◌, length, map, option_map, None, slice_index_or, slice_set, IfOk};
 ghost use Rattle.basics.specs.Lists.{numbers_below};
-ghost use Rattle.graph_model.specs.meaning.Evaluation.{eval_end, combined, phase_value};
+ghost use Rattle.graph_meaning.specs.Evaluation.{eval_end, combined, phase_value};
 ghost use Rattle.plain_eval.specs.Phases.{with_arrival, first_reduction, reduction_after};
 
+use graph_meaning::line_laws::phases_fit;
 use graph_model::graph::Graph;
-use graph_model::line_laws::phases_fit;
-use graph_model::outcome::End;
-use graph_model::verb::Verb;
+use graph_terms::outcome::End;
+use graph_terms::verb::Verb;
 use index_spaces::room::push;
 use index_spaces::{NoMemory, Op};
 use line_effects::passing::{barrier_of, combined};

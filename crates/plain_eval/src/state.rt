@@ -2,17 +2,17 @@
 
 ghost use Rattle.std.specs.Prelude.{◌≡◌, ◌<◌, List, [], length, map, OnOk, IfOk};
 ghost use Rattle.basics.specs.Lists.{numbers_below};
-ghost use Rattle.graph_model.specs.declared.graph.verb.Edge.{Edge};
-ghost use Rattle.graph_model.specs.meaning.Evaluation.{Step, advance, end_in, is_cancelled, step_of, cells_of};
-ghost use Rattle.graph_model.specs.meaning.Effect.{cells_after};
+ghost use Rattle.graph_terms.specs.declared.verb.Edge.{Edge};
+ghost use Rattle.graph_meaning.specs.Evaluation.{Step, advance, end_in, is_cancelled, step_of, cells_of};
+ghost use Rattle.graph_meaning.specs.Effect.{cells_after};
 ghost use Rattle.instances.specs.Homes.{all_home};
 ghost use Rattle.plain_eval.specs.State.{IsState};
 
 use crate::perform::perform;
 use crate::waiting::Waiting;
+use graph_meaning::laws::edges_between_lines;
 use graph_model::graph::Graph;
-use graph_model::laws::edges_between_lines;
-use graph_model::outcome::{End, Verdict};
+use graph_terms::outcome::{End, Verdict};
 use index_spaces::NoMemory;
 use index_spaces::room::push;
 use instances::Homes;

@@ -3,13 +3,13 @@
 ghost use Rattle.std.specs.Prelude.{◌≡◌, ℕ, Bool, ◌<◌, ◌≤◌, ◌-◌, ◌++◌, [], ◌∷◌, ◌==◌, ◌&&◌, ◌||◌, true, false, not, length, slice_index, slice_set, OnOk, IfOk, MatchOption};
 ghost use Rattle.std.specs.BTreeSet.{contains};
 ghost use Rattle.std.specs.Ordering.{nat_cmp};
-ghost use Rattle.graph_model.specs.graph.Graph.{never_comes};
-ghost use Rattle.graph_model.specs.graph.Edges.{edges_into};
+ghost use Rattle.graph_terms.specs.Graph.{never_comes};
+ghost use Rattle.graph_terms.specs.Edges.{edges_into};
 ghost use Rattle.plain_eval.specs.Waiting.{IsWaiting, IsFree, and_ended, starts_ready};
 
 use crate::numbers::insert;
+use graph_meaning::laws::edges_between_lines;
 use graph_model::graph::Graph;
-use graph_model::laws::edges_between_lines;
 use index_spaces::NoMemory;
 use index_spaces::room::push;
 use std::alloc::Global;

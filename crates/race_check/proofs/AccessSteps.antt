@@ -5,11 +5,11 @@ use Rattle.std.specs.Global.{Global}
 use Rattle.std.specs.List.{slice_index_or}
 use Rattle.std.proofs.lemmas.Option.{none-some, same_Some, slice_get_within, get_or_from_slice_get, slice_get-get_or}
 use Rattle.std.proofs.lemmas.List.{take_more, take_all}
-use Rattle.graph_model.specs.declared.graph.verb.Access.{Access}
-use Rattle.graph_model.specs.graph.Graph.{GraphValue, columns}
-use Rattle.graph_model.specs.graph.Access.{accesses}
-use Rattle.graph_model.specs.graph.Fits.{IsGraph}
-use Rattle.graph_model.specs.meaning.LineLaws.{AccessesFit}
+use Rattle.graph_terms.specs.declared.verb.Access.{Access}
+use Rattle.graph_terms.specs.Graph.{GraphValue, columns}
+use Rattle.graph_terms.specs.Access.{accesses}
+use Rattle.graph_terms.specs.Fits.{IsGraph}
+use Rattle.graph_meaning.specs.LineLaws.{AccessesFit}
 use Rattle.race_sweeps.specs.Clash.{LinesClash}
 use Rattle.race_sweeps.proofs.AccessSteps.{access_read, no_access}
 use Rattle.race_check.specs.Races.{AreAccesses, AreSpacesKnown, ListsClash}

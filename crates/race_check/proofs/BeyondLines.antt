@@ -3,13 +3,13 @@ use Rattle.std.proofs.Common.{◌≡◌, ℕ, zero, suc, ◌<◌, ◌≤◌, ◌
 use Rattle.std.specs.Prelude.{Some, slice_get}
 use Rattle.std.proofs.lemmas.Option.{none-some}
 use Rattle.race_sweeps.proofs.AccessSteps.{access_there}
-use Rattle.graph_model.specs.declared.graph.verb.Line.{Line}
-use Rattle.graph_model.specs.graph.Graph.{GraphValue, is_acquire_of}
-use Rattle.graph_model.specs.graph.Edges.{edges}
-use Rattle.graph_model.specs.meaning.Path.{HasPath}
-use Rattle.graph_model.specs.meaning.Rules.{ReleasedAt, SectionAt, DescendsAt, ReleaseFaultAt, RaceAt}
-use Rattle.graph_model.proofs.PathTable.{path_below}
-use Rattle.graph_model.proofs.VerbFacts.{passes_below}
+use Rattle.graph_terms.specs.declared.verb.Line.{Line}
+use Rattle.graph_terms.specs.Graph.{GraphValue, is_acquire_of}
+use Rattle.graph_terms.specs.Edges.{edges}
+use Rattle.graph_meaning.specs.Path.{HasPath}
+use Rattle.graph_meaning.specs.Rules.{ReleasedAt, SectionAt, DescendsAt, ReleaseFaultAt, RaceAt}
+use Rattle.graph_meaning.proofs.PathTable.{path_below}
+use Rattle.graph_terms.proofs.VerbFacts.{passes_below}
 use Rattle.race_check.specs.Paths.{EdgesBetween}
 
 line_there : (ls : List Line) (i : ℕ) (l : Line) → slice_get ls i ≡ Some l → i < length ls

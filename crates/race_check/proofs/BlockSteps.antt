@@ -6,13 +6,14 @@ use Rattle.std.proofs.lemmas.Bool.{cases_lt}
 use Rattle.std.proofs.lemmas.List.{get_or_append_left, get_or_past}
 use Rattle.std.proofs.lemmas.Option.{none-some, same_Some}
 use Rattle.std.proofs.Math.Seq.{get_or-append_seam}
-use Rattle.graph_model.specs.graph.Graph.{GraphValue, is_acquire_of, is_release_of}
-use Rattle.graph_model.specs.graph.Fits.{IsGraph}
-use Rattle.graph_model.specs.graph.Edges.{edges}
-use Rattle.graph_model.specs.meaning.Rules.{Releases, Everywhere, EverywhereTwice, FailsFirst, FailsFirstTwice}
-use Rattle.graph_model.proofs.PathTable.{path_below}
-use Rattle.graph_model.proofs.ReleaseFacts.{release_names}
-use Rattle.graph_model.proofs.VerbFacts.{passes_below}
+use Rattle.graph_terms.specs.Graph.{GraphValue, is_acquire_of, is_release_of}
+use Rattle.graph_terms.specs.Fits.{IsGraph}
+use Rattle.graph_terms.specs.Edges.{edges}
+use Rattle.graph_terms.specs.Reservations.{Releases}
+use Rattle.graph_meaning.specs.Rules.{Everywhere, EverywhereTwice, FailsFirst, FailsFirstTwice}
+use Rattle.graph_meaning.proofs.PathTable.{path_below}
+use Rattle.graph_terms.proofs.ReleaseFacts.{release_names}
+use Rattle.graph_terms.proofs.VerbFacts.{passes_below}
 use Rattle.section_sweeps.specs.Blocks.{IsLineOf}
 use Rattle.section_sweeps.specs.Group.{AreOwn}
 use Rattle.section_sweeps.specs.Passing.{AreFromBefore, AreFromBehind, ArePassedUp, ArePassedDown, IsSized}

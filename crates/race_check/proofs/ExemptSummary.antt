@@ -4,12 +4,13 @@ use Rattle.std.specs.Prelude.{Option, Some, None, Vec}
 use Rattle.std.specs.Global.{Global}
 use Rattle.std.specs.List.{slice_index_or}
 use Rattle.std.proofs.lemmas.Bool.{cases_lt}
-use Rattle.graph_model.specs.graph.Graph.{GraphValue, locks}
-use Rattle.graph_model.specs.graph.Fits.{IsGraph}
-use Rattle.graph_model.specs.meaning.Path.{HasPath}
-use Rattle.graph_model.specs.meaning.Rules.{Section, SectionAt, DescendsAt, EverywhereTwice, both_shared}
-use Rattle.graph_model.proofs.PathLaws.{path_append}
-use Rattle.graph_model.proofs.ReleaseFacts.{acquired_lock_known}
+use Rattle.graph_terms.specs.Graph.{GraphValue, locks}
+use Rattle.graph_terms.specs.Fits.{IsGraph}
+use Rattle.graph_meaning.specs.Path.{HasPath}
+use Rattle.graph_meaning.specs.Rules.{Section, SectionAt, DescendsAt, EverywhereTwice}
+use Rattle.graph_terms.specs.Reservations.{both_shared}
+use Rattle.graph_meaning.proofs.PathLaws.{path_append}
+use Rattle.graph_terms.proofs.ReleaseFacts.{acquired_lock_known}
 use Rattle.race_sweeps.specs.declared.held.Held.{Held}
 use Rattle.race_sweeps.specs.Held.{Exclude, IsHeld, IsHeldRow}
 use Rattle.race_check.specs.Summaries.{AreAlone, ApartIn}

@@ -6,16 +6,16 @@ use Rattle.std.proofs.lemmas.Bool.{cases_eq, cases_lt, eq-eqb, ne_eqb}
 use Rattle.std.proofs.lemmas.List.{length-set, length-append, get_or-set_same, get_or-set_other, take_more}
 use Rattle.std.proofs.lemmas.List.Elements.{Contains-append_left, Contains-push, Contains-push_cases, Contains-get_or}
 use Rattle.std.proofs.lemmas.List.Sums.{sum_by-set}
-use Rattle.graph_model.specs.declared.graph.verb.Edge.{Edge}
-use Rattle.graph_model.specs.declared.graph.verb.EdgeKind.TheVariants.{Passes}
-use Rattle.graph_model.specs.graph.Graph.{GraphValue, is_acquire_of}
-use Rattle.graph_model.specs.graph.Edges.{edges, edges_out_of}
-use Rattle.graph_model.specs.meaning.Rules.{Acquires}
+use Rattle.graph_terms.specs.declared.verb.Edge.{Edge}
+use Rattle.graph_terms.specs.declared.verb.EdgeKind.TheVariants.{Passes}
+use Rattle.graph_terms.specs.Graph.{GraphValue, is_acquire_of}
+use Rattle.graph_terms.specs.Edges.{edges, edges_out_of}
+use Rattle.graph_terms.specs.Reservations.{Acquires}
 use Rattle.basics.proofs.ListFacts.{filter_contains}
 use Rattle.race_check.specs.High.{unmarked, IsMarking, IsTarget}
-use Rattle.graph_model.specs.meaning.Laws.{EdgesBetweenLines}
-use Rattle.graph_model.specs.graph.Fits.{IsGraph}
-use Rattle.graph_model.proofs.VerbFacts.{passes_below}
+use Rattle.graph_meaning.specs.Laws.{EdgesBetweenLines}
+use Rattle.graph_terms.specs.Fits.{IsGraph}
+use Rattle.graph_terms.proofs.VerbFacts.{passes_below}
 use Rattle.race_check.proofs.NeedLaws.{no_one, one_more}
 use Rattle.race_check.proofs.HighFlood.{zero_or}
 

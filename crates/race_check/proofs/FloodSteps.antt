@@ -4,18 +4,18 @@ use Rattle.std.specs.Prelude.{Contains, Some, Result, Ok, Err, OnOk, ◌==◌, n
 use Rattle.std.proofs.lemmas.Bool.{true≢false, cases_lt, cases_eq, eq-eqb, eqb-true, or_cases, or_left, or_right, and_parts, and_from, lt-ltb, ltb-true, le-leb, leb-true}
 use Rattle.std.proofs.lemmas.List.{get_or_past}
 use Rattle.std.proofs.lemmas.List.Elements.{Contains-append_cases, Contains-append_left, Contains-push, Contains-push_cases}
-use Rattle.graph_model.specs.declared.graph.verb.Edge.{Edge}
-use Rattle.graph_model.specs.declared.graph.verb.EdgeKind.TheVariants.{Passes}
-use Rattle.graph_model.specs.declared.graph.verb.Verb.TheVariants.{Acquire, Release}
-use Rattle.graph_model.specs.graph.Graph.{GraphValue, line_passes, is_shared, never_comes, never_comes_as, locks}
-use Rattle.graph_model.specs.graph.Edges.{edge, edges, edges_out_of}
-use Rattle.graph_model.specs.meaning.Need.{release_edges, IsHigh}
-use Rattle.graph_model.specs.meaning.Rules.{Acquires, Releases}
-use Rattle.graph_model.specs.graph.Fits.{IsGraph}
-use Rattle.graph_model.specs.meaning.Laws.{EdgesBetweenLines}
+use Rattle.graph_terms.specs.declared.verb.Edge.{Edge}
+use Rattle.graph_terms.specs.declared.verb.EdgeKind.TheVariants.{Passes}
+use Rattle.graph_terms.specs.declared.verb.Verb.TheVariants.{Acquire, Release}
+use Rattle.graph_terms.specs.Graph.{GraphValue, line_passes, is_shared, never_comes, never_comes_as, locks}
+use Rattle.graph_terms.specs.Edges.{edge, edges, edges_out_of}
+use Rattle.graph_meaning.specs.Need.{release_edges, IsHigh}
+use Rattle.graph_terms.specs.Reservations.{Acquires, Releases}
+use Rattle.graph_terms.specs.Fits.{IsGraph}
+use Rattle.graph_meaning.specs.Laws.{EdgesBetweenLines}
 use Rattle.basics.proofs.ListFacts.{contains_none, contains_cases, contains_here, contains_there, filter_contains, contains_filter}
 use Rattle.race_check.specs.High.{IsMarking, IsTarget, IsNext, AreAcquiresMarked, IsFlooded, IsFlooding, IsFlood, weight_of}
-use Rattle.graph_model.proofs.VerbFacts.{acquire_is, release_is, passes_below}
+use Rattle.graph_terms.proofs.VerbFacts.{acquire_is, release_is, passes_below}
 use Rattle.race_check.proofs.FloodMarks.{marks_as, marks_more}
 use Rattle.race_check.proofs.HighFlood.{release_edge, release_edge_is, zero_or, flooding_begins, flooding_more, flooding_ends, flood_passed_over, flooded_is_high, flooding_as, flooded_as, never_is_heaviest, later_is_heavier}
 

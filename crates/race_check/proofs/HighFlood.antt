@@ -5,22 +5,22 @@ use Rattle.std.specs.Option.{option_map_or}
 use Rattle.std.proofs.lemmas.Bool.{true≢false, or_cases, or_left, or_right, eq-eqb, eqb-true, cases_lt, cond-true, cond-false, cond_both}
 use Rattle.std.proofs.lemmas.List.Elements.{Contains-append_cases, Contains-append_left, Contains-append_right}
 use Rattle.basics.specs.Lists.{numbers_below}
-use Rattle.graph_model.specs.declared.graph.verb.Edge.{Edge}
-use Rattle.graph_model.specs.declared.graph.verb.EdgeKind.TheVariants.{Passes}
-use Rattle.graph_model.specs.declared.graph.verb.Line.{Line}
-use Rattle.graph_model.specs.declared.graph.verb.Verb.{Verb}
-use Rattle.graph_model.specs.declared.graph.verb.Verb.TheVariants.{User, Trigger, Cancel, Merge, MergeIgnore, Phase, Arrive, Acquire, Release, Fill, Copy, Reduce, Task}
-use Rattle.graph_model.specs.graph.Graph.{GraphValue, verb_at, is_acquire_of, is_release_of, never_comes}
-use Rattle.graph_model.specs.graph.Edges.{edge, edges}
-use Rattle.graph_model.specs.meaning.Path.{last}
-use Rattle.graph_model.specs.meaning.Rules.{Acquires, Releases}
-use Rattle.graph_model.specs.meaning.Need.{places, rivals, acquires_after, release_edges, need_edges, Precedes, IsHigh}
+use Rattle.graph_terms.specs.declared.verb.Edge.{Edge}
+use Rattle.graph_terms.specs.declared.verb.EdgeKind.TheVariants.{Passes}
+use Rattle.graph_terms.specs.declared.verb.Line.{Line}
+use Rattle.graph_terms.specs.declared.verb.Verb.{Verb}
+use Rattle.graph_terms.specs.declared.verb.Verb.TheVariants.{User, Trigger, Cancel, Merge, MergeIgnore, Phase, Arrive, Acquire, Release, Fill, Copy, Reduce, Task}
+use Rattle.graph_terms.specs.Graph.{GraphValue, verb_at, is_acquire_of, is_release_of, never_comes}
+use Rattle.graph_terms.specs.Edges.{edge, edges}
+use Rattle.graph_meaning.specs.Path.{last}
+use Rattle.graph_terms.specs.Reservations.{Acquires, Releases}
+use Rattle.graph_meaning.specs.Need.{places, rivals, acquires_after, release_edges, need_edges, Precedes, IsHigh}
 use Rattle.basics.proofs.ListFacts.{contains_none, contains_cases, contains_here, contains_there, map_contains, contains_map, contains_below}
-use Rattle.graph_model.proofs.PathLaws.{path_append, along_path}
-use Rattle.graph_model.proofs.PathTable.{path_below}
+use Rattle.graph_meaning.proofs.PathLaws.{path_append, along_path}
+use Rattle.graph_meaning.proofs.PathTable.{path_below}
 use Rattle.race_check.specs.Paths.{EdgesBetween}
 use Rattle.race_check.specs.High.{weight_of, IsFlooded, IsFlooding}
-use Rattle.graph_model.proofs.VerbFacts.{acquire_is, release_is, is_acquire_from, is_release_from, passes_below}
+use Rattle.graph_terms.proofs.VerbFacts.{acquire_is, release_is, is_acquire_from, is_release_from, passes_below}
 
 weight_cases : (g : GraphValue) (m : ℕ) → ((never_comes g m ≡ true) × (weight_of g m ≡ length g.lines + 1)) ⊎ (weight_of g m ≡ m + 1)
 weight_cases g m = by (never_comes g m)

@@ -7,11 +7,12 @@ use lib.Bits.{bit_and}
 use mir.Syntax.{w64}
 use Rattle.std.proofs.lemmas.Bool.{true≢false, cases_Bool, and_parts, and_from, or_cases, not-true}
 use Rattle.std.proofs.lemmas.Option.{same_Some}
-use Rattle.graph_model.specs.graph.Graph.{GraphValue}
-use Rattle.graph_model.specs.graph.Edges.{edges}
-use Rattle.graph_model.specs.meaning.Path.{HasPath}
-use Rattle.graph_model.specs.meaning.Rules.{Acquires, Releases, Section, SectionAt, DescendsAt}
-use Rattle.graph_model.proofs.PathTable.{path_below}
+use Rattle.graph_terms.specs.Graph.{GraphValue}
+use Rattle.graph_terms.specs.Edges.{edges}
+use Rattle.graph_meaning.specs.Path.{HasPath}
+use Rattle.graph_terms.specs.Reservations.{Acquires, Releases}
+use Rattle.graph_meaning.specs.Rules.{Section, SectionAt, DescendsAt}
+use Rattle.graph_meaning.proofs.PathTable.{path_below}
 use Rattle.race_sweeps.specs.Marks.{bit_in}
 use Rattle.race_sweeps.proofs.Bits.{bit_in-and, bit_in-or, bit_in-not, or_old, or_new}
 use Rattle.race_sweeps.proofs.Walking.{none_left}

@@ -5,9 +5,10 @@ use Rattle.std.specs.Global.{Global}
 use Rattle.std.specs.List.{slice_index_or}
 use Rattle.std.specs.Option.{option_map_or}
 use Rattle.std.proofs.lemmas.Bool.{cases_lt}
-use Rattle.graph_model.specs.graph.Graph.{GraphValue, is_acquire_of}
-use Rattle.graph_model.specs.meaning.Rules.{Acquires, Section}
-use Rattle.graph_model.proofs.VerbFacts.{passes_below}
+use Rattle.graph_terms.specs.Graph.{GraphValue, is_acquire_of}
+use Rattle.graph_terms.specs.Reservations.{Acquires}
+use Rattle.graph_meaning.specs.Rules.{Section}
+use Rattle.graph_terms.proofs.VerbFacts.{passes_below}
 use Rattle.race_sweeps.specs.Marks.{bit_in}
 use Rattle.race_sweeps.specs.declared.held.Held.{Held}
 use Rattle.race_sweeps.specs.Held.{IsHeld}

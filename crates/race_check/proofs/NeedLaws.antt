@@ -6,8 +6,8 @@ use Rattle.std.proofs.lemmas.List.{length-take}
 use Rattle.std.proofs.lemmas.List.FromFn.{map-range_with_len_more}
 use Rattle.std.proofs.lemmas.List.Sums.{count_by_more_yes, count_by_more_no, count_by-le-length}
 use Rattle.basics.specs.Lists.{numbers_below, count_below}
-use Rattle.graph_model.specs.graph.Graph.{GraphValue}
-use Rattle.graph_model.specs.meaning.Need.{IsHigh, IsNeed, open_at, largest}
+use Rattle.graph_terms.specs.Graph.{GraphValue}
+use Rattle.graph_meaning.specs.Need.{IsHigh, IsNeed, open_at, largest}
 use Rattle.race_check.specs.Sweep.{open_after, most_open, sweep, IsTally, AreAbove}
 
 -- how many of the first k elements pass, by their places

@@ -3,10 +3,10 @@ use Rattle.std.proofs.Common.{◌≡◌, ℕ, zero, suc, ◌+◌, ◌<◌, ◌�
 use Rattle.std.specs.Prelude.{slice_index, slice_set, Option, Some, None, MatchOption}
 use Rattle.std.proofs.lemmas.Bool.{cases_lt}
 use Rattle.std.proofs.lemmas.List.{get_or-set_same, get_or-set_other}
-use Rattle.graph_model.specs.graph.Graph.{GraphValue}
-use Rattle.graph_model.specs.meaning.Need.{IsHigh, IsNeed, open_at}
-use Rattle.graph_model.specs.graph.Fits.{IsGraph}
-use Rattle.graph_model.specs.meaning.Laws.{EdgesBetweenLines, OneNeed}
+use Rattle.graph_terms.specs.Graph.{GraphValue}
+use Rattle.graph_meaning.specs.Need.{IsHigh, IsNeed, open_at}
+use Rattle.graph_terms.specs.Fits.{IsGraph}
+use Rattle.graph_meaning.specs.Laws.{EdgesBetweenLines, OneNeed}
 use Rattle.race_check.specs.NeedLine.{IsNeedLine}
 use Rattle.race_check.specs.Sweep.{AreAbove, IsTally, IsTallyOf, IsTallyFor, IsFirstOpen, most_open, open_after, IsSwept}
 use Rattle.race_check.proofs.NeedLaws.{tally_more, open_at_most, most_at_most, closes_open, sweep_is_need, open_after_is}

@@ -6,14 +6,14 @@ use Rattle.std.proofs.lemmas.Bool.{cases_lt, eqb-true, eq-eqb, ne_eqb, true≢fa
 use Rattle.std.proofs.lemmas.List.{get_or_past, get_or_push, get_or_append_left, get_or-set_same, get_or-set_other, length-set}
 use Rattle.std.proofs.lemmas.List.Elements.{Contains-get_or, Contains-push, Contains-push_cases, Contains-append_left}
 use Rattle.std.proofs.lemmas.List.Sums.{length-filter}
-use Rattle.graph_model.specs.declared.graph.verb.Edge.{Edge}
-use Rattle.graph_model.specs.declared.graph.verb.EdgeKind.TheVariants.{Passes}
-use Rattle.graph_model.specs.graph.Graph.{GraphValue}
-use Rattle.graph_model.specs.graph.Edges.{edges, edges_into, edges_out_of}
-use Rattle.graph_model.specs.meaning.Path.{HasPath}
-use Rattle.graph_model.specs.meaning.Rules.{NoCycleAt, Everywhere}
+use Rattle.graph_terms.specs.declared.verb.Edge.{Edge}
+use Rattle.graph_terms.specs.declared.verb.EdgeKind.TheVariants.{Passes}
+use Rattle.graph_terms.specs.Graph.{GraphValue}
+use Rattle.graph_terms.specs.Edges.{edges, edges_into, edges_out_of}
+use Rattle.graph_meaning.specs.Path.{HasPath}
+use Rattle.graph_meaning.specs.Rules.{NoCycleAt, Everywhere}
 use Rattle.basics.proofs.ListFacts.{contains_none, filter_contains}
-use Rattle.graph_model.proofs.PathTable.{path_below}
+use Rattle.graph_meaning.proofs.PathTable.{path_below}
 use Rattle.race_check.specs.Paths.{EdgesBetween}
 use Rattle.race_check.specs.Order.{is_in, IsTaking, IsOrdered, IsCounted, HasRoom}
 use Rattle.race_check.proofs.PathRows.{listed_no_cycle}

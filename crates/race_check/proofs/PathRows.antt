@@ -2,13 +2,13 @@
 use Rattle.std.proofs.Common.{◌≡◌, ℕ, ◌<◌, Bool, true, false, inl, inr, List, [], ◌∷◌, sym, ◌∙◌, ap, arith}
 use Rattle.std.specs.Prelude.{Contains, ◌↔◌}
 use Rattle.std.proofs.lemmas.Bool.{cases_Bool}
-use Rattle.graph_model.specs.declared.graph.verb.Edge.{Edge}
-use Rattle.graph_model.specs.graph.Graph.{GraphValue}
-use Rattle.graph_model.specs.graph.Edges.{edges}
-use Rattle.graph_model.specs.meaning.Path.{Path, last, first}
-use Rattle.graph_model.specs.meaning.Rules.{NoCycleAt}
+use Rattle.graph_terms.specs.declared.verb.Edge.{Edge}
+use Rattle.graph_terms.specs.Graph.{GraphValue}
+use Rattle.graph_terms.specs.Edges.{edges}
+use Rattle.graph_meaning.specs.Path.{Path, last, first}
+use Rattle.graph_meaning.specs.Rules.{NoCycleAt}
 use Rattle.basics.proofs.ListFacts.{contains_none, contains_cases, contains_here}
-use Rattle.graph_model.proofs.PathLaws.{along_path, path_append}
+use Rattle.graph_meaning.proofs.PathLaws.{along_path, path_append}
 use Rattle.race_check.specs.Search.{IsSearching}
 
 -- lines whose sources are all listed, each at a lesser place, have no path to themselves, also where other lines have

@@ -4,8 +4,8 @@ use Rattle.std.specs.Prelude.{slice_index, ◌==◌}
 use Rattle.std.proofs.lemmas.Bool.{cases_order, cases_eq, ne_eqb}
 use Rattle.std.proofs.lemmas.List.{get_or_read}
 use Rattle.std.proofs.lemmas.List.Elements.{Contains-get_or}
-use Rattle.graph_model.specs.graph.Graph.{GraphValue}
-use Rattle.graph_model.specs.meaning.Rules.{NoCycleAt, Everywhere}
+use Rattle.graph_terms.specs.Graph.{GraphValue}
+use Rattle.graph_meaning.specs.Rules.{NoCycleAt, Everywhere}
 use Rattle.race_sweeps.specs.Placed.{IsOrder}
 use Rattle.race_check.specs.Paths.{EdgesBetween}
 use Rattle.basics.specs.Lists.{count_below}

@@ -6,13 +6,13 @@ use Rattle.std.specs.Int.RustNames.{bit_or}
 use lib.Bits.{bit_and}
 use mir.Syntax.{w64}
 use Rattle.std.proofs.lemmas.Bool.{true≢false, cases_Bool, and_parts, and_from, or_cases, not-true}
-use Rattle.graph_model.specs.declared.graph.verb.Access.{Access}
-use Rattle.graph_model.specs.graph.Graph.{GraphValue}
-use Rattle.graph_model.specs.graph.Edges.{edges}
-use Rattle.graph_model.specs.graph.Access.{accesses, AccessesConflict, Conflict}
-use Rattle.graph_model.specs.meaning.Path.{HasPath}
-use Rattle.graph_model.specs.meaning.Rules.{RaceAt, Exempt, modes_commute}
-use Rattle.graph_model.proofs.PathTable.{path_below}
+use Rattle.graph_terms.specs.declared.verb.Access.{Access}
+use Rattle.graph_terms.specs.Graph.{GraphValue}
+use Rattle.graph_terms.specs.Edges.{edges}
+use Rattle.graph_terms.specs.Access.{accesses, AccessesConflict, Conflict}
+use Rattle.graph_meaning.specs.Path.{HasPath}
+use Rattle.graph_meaning.specs.Rules.{RaceAt, Exempt, modes_commute}
+use Rattle.graph_meaning.proofs.PathTable.{path_below}
 use Rattle.race_sweeps.specs.Clash.{LinesClash}
 use Rattle.race_sweeps.specs.Marks.{bit_in}
 use Rattle.race_sweeps.proofs.Bits.{bit_in-and, bit_in-or, bit_in-not, or_old, or_new}

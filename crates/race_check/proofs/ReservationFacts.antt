@@ -1,10 +1,10 @@
 -- What the verb of a line tells of the reservation that it acquires or frees.
 use Rattle.std.proofs.Common.{ℕ, ◌<◌, length}
 use Rattle.std.specs.Prelude.{Some, MatchOption, Option, None}
-use Rattle.graph_model.specs.graph.Graph.{GraphValue, locks}
-use Rattle.graph_model.specs.graph.Fits.{IsGraph}
-use Rattle.graph_model.specs.meaning.Rules.{Acquires, Releases}
-use Rattle.graph_model.proofs.ReleaseFacts.{release_names}
+use Rattle.graph_terms.specs.Graph.{GraphValue, locks}
+use Rattle.graph_terms.specs.Fits.{IsGraph}
+use Rattle.graph_terms.specs.Reservations.{Acquires, Releases}
+use Rattle.graph_terms.proofs.ReleaseFacts.{release_names}
 
 -- the reservation that the acquire of a release acquires
 pub freed_by_acquire : (g : GraphValue) → IsGraph g → (i q : ℕ) (o : Option ℕ) → Releases g i q → MatchOption o ((l : ℕ) → Acquires g q l → ⊥) (λ l. Acquires g q l × (l < length (locks g))) →

@@ -4,18 +4,19 @@ use Rattle.std.specs.Prelude.{Option, Some, None, IsTrue, ◌↔◌, slice_get, 
 use Rattle.std.proofs.lemmas.Bool.{true≢false, cases_lt, eq-eqb}
 use Rattle.std.proofs.lemmas.Option.{none-some, same_Some}
 use Rattle.std.proofs.lemmas.List.Elements.{Contains-append_right}
-use Rattle.graph_model.specs.declared.graph.verb.Line.{Line}
-use Rattle.graph_model.specs.graph.Graph.{GraphValue, line_passes, is_merge_ignore, is_release_of}
-use Rattle.graph_model.specs.graph.Fits.{IsGraph, on_lines, named_lines}
-use Rattle.graph_model.specs.meaning.Rules.{Acquires, Releases, ReleasedAt, ReleaseFaultAt, Everywhere}
-use Rattle.graph_model.proofs.GraphFacts.{named_below}
+use Rattle.graph_terms.specs.declared.verb.Line.{Line}
+use Rattle.graph_terms.specs.Graph.{GraphValue, line_passes, is_merge_ignore, is_release_of}
+use Rattle.graph_terms.specs.Fits.{IsGraph, on_lines, named_lines}
+use Rattle.graph_terms.specs.Reservations.{Acquires, Releases}
+use Rattle.graph_meaning.specs.Rules.{ReleasedAt, ReleaseFaultAt, Everywhere}
+use Rattle.graph_terms.proofs.GraphFacts.{named_below}
 use Rattle.basics.proofs.ListFacts.{contains_here}
 use Rattle.section_sweeps.specs.Releases.{release_in, AreReleases}
-use Rattle.graph_model.proofs.VerbFacts.{passes_below, release_is, is_release_from, release_of_is}
+use Rattle.graph_terms.proofs.VerbFacts.{passes_below, release_is, is_release_from, release_of_is}
 use Rattle.section_sweeps.proofs.ReservationFacts.{verb_of}
-use Rattle.graph_model.proofs.ReleaseFacts.{cut_at}
-use Rattle.graph_model.specs.declared.graph.verb.Verb.TheVariants.{Release}
-use Rattle.graph_model.specs.meaning.Path.{HasPath}
+use Rattle.graph_terms.proofs.ReleaseFacts.{cut_at}
+use Rattle.graph_terms.specs.declared.verb.Verb.TheVariants.{Release}
+use Rattle.graph_meaning.specs.Path.{HasPath}
 
 -- a rule that holds below a number and from it on
 pub everywhere_by : (R : ℕ → Type 0) (n : ℕ) → ((i : ℕ) → n ≤ i → R i) → ((i : ℕ) → i < n → R i) → Everywhere R

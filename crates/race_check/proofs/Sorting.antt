@@ -6,13 +6,13 @@ use Rattle.std.proofs.lemmas.List.{get_or_push, get_or_append_left, take_more, t
 use Rattle.std.proofs.lemmas.List.Elements.{Contains-push, Contains-push_cases, Contains-append_left, Contains-get_or}
 use Rattle.std.proofs.lemmas.List.Folds.{list_any-append}
 use Rattle.std.proofs.lemmas.List.Sums.{sum_by-cons}
-use Rattle.graph_model.specs.declared.graph.verb.Edge.{Edge}
-use Rattle.graph_model.specs.graph.Graph.{GraphValue}
-use Rattle.graph_model.specs.graph.Edges.{edges, edges_out_of}
-use Rattle.graph_model.specs.meaning.Rules.{NoCycleAt, Everywhere}
+use Rattle.graph_terms.specs.declared.verb.Edge.{Edge}
+use Rattle.graph_terms.specs.Graph.{GraphValue}
+use Rattle.graph_terms.specs.Edges.{edges, edges_out_of}
+use Rattle.graph_meaning.specs.Rules.{NoCycleAt, Everywhere}
 use Rattle.basics.proofs.ListFacts.{contains_none, contains_cases, contains_here, contains_there, some_passes, passes_some, count_below-max, fewer_below}
 use Rattle.basics.specs.Lists.{count_below}
-use Rattle.graph_model.proofs.ReadyLine.{ready_or_never}
+use Rattle.graph_meaning.proofs.ReadyLine.{ready_or_never}
 use Rattle.race_check.specs.Paths.{EdgesBetween}
 use Rattle.race_check.specs.Order.{is_in, awaits, IsTaking, HasRoom}
 use Rattle.race_check.proofs.PathRows.{IsListed}

@@ -1,7 +1,7 @@
 -- Rules that are tried for blocks of 64 lines.
 use Rattle.std.specs.Prelude.{◌≡◌, ℕ, ◌+◌, ◌-◌, ◌<◌, ◌≤◌, List, length, Option}
-use Rattle.graph_model.specs.graph.Graph.{GraphValue}
-use Rattle.graph_model.specs.meaning.Path.{HasPath}
+use Rattle.graph_terms.specs.Graph.{GraphValue}
+use Rattle.graph_meaning.specs.Path.{HasPath}
 use Rattle.section_sweeps.specs.Blocks.{IsLineOf}
 use Rattle.section_sweeps.specs.Passing.{HasBit}
 use Rattle.section_sweeps.specs.declared.passing.Passing.{Passing}

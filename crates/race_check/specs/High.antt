@@ -1,10 +1,10 @@
 -- The marks of a flood, of which 0 is none.
 use Rattle.std.specs.Prelude.{◌≡◌, ℕ, ◌+◌, ◌<◌, ◌==◌, ◌≤◌, ◌⊎◌, Bool, true, false, cond, List, [], length, Contains, count_by, slice_index}
 use Rattle.std.specs.List.{slice_index_or}
-use Rattle.graph_model.specs.declared.graph.verb.Edge.{Edge}
-use Rattle.graph_model.specs.graph.Graph.{GraphValue, never_comes, locks}
-use Rattle.graph_model.specs.meaning.Rules.{Acquires}
-use Rattle.graph_model.specs.meaning.Need.{need_edges, Precedes}
+use Rattle.graph_terms.specs.declared.verb.Edge.{Edge}
+use Rattle.graph_terms.specs.Graph.{GraphValue, never_comes, locks}
+use Rattle.graph_terms.specs.Reservations.{Acquires}
+use Rattle.graph_meaning.specs.Need.{need_edges, Precedes}
 
 -- how many lines have no mark
 abbrev pub unmarked : List ℕ → ℕ

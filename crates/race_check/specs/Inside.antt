@@ -1,8 +1,9 @@
 -- The lines in the sections of a block of acquires, and outside of those of a block of releases.
 use Rattle.std.specs.Prelude.{◌≡◌, ℕ, ◌+◌, ◌<◌, ◌↔◌, true, false, IsTrue}
-use Rattle.graph_model.specs.graph.Graph.{GraphValue, line_passes, is_phase, never_comes}
-use Rattle.graph_model.specs.meaning.Path.{HasPath}
-use Rattle.graph_model.specs.meaning.Rules.{Releases, SectionAt}
+use Rattle.graph_terms.specs.Graph.{GraphValue, line_passes, is_phase, never_comes}
+use Rattle.graph_meaning.specs.Path.{HasPath}
+use Rattle.graph_terms.specs.Reservations.{Releases}
+use Rattle.graph_meaning.specs.Rules.{SectionAt}
 use Rattle.race_sweeps.specs.Marks.{bit_in}
 use Rattle.race_check.specs.Blocks.{ArePassedOn, ArePassedBack}
 use Rattle.race_check.specs.declared.inside.Inside.{Inside}

@@ -1,7 +1,7 @@
 -- At which line the need of a graph is reached.
 use Rattle.std.specs.Prelude.{◌≡◌, ℕ, ◌+◌, ◌<◌, List, length, slice_index}
-use Rattle.graph_model.specs.graph.Graph.{GraphValue}
-use Rattle.graph_model.specs.meaning.Need.{IsHigh, open_at}
+use Rattle.graph_terms.specs.Graph.{GraphValue}
+use Rattle.graph_meaning.specs.Need.{IsHigh, open_at}
 
 -- line k is the topmost one at which n lines may be open: itself, and those above it whose high numbers are above k
 pub record IsNeedLine (g : GraphValue) (n k : ℕ) : Type 0 where

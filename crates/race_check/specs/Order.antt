@@ -1,9 +1,9 @@
 -- An order of the lines in which each edge goes forward, as far as there is one.
 use Rattle.std.specs.Prelude.{◌≡◌, ℕ, ◌+◌, ◌<◌, ◌≤◌, ◌==◌, Bool, not, ◌&&◌, List, [], length, take, Contains, slice_index, count_by}
 use Rattle.std.specs.List.{list_any}
-use Rattle.graph_model.specs.declared.graph.verb.Edge.{Edge}
-use Rattle.graph_model.specs.graph.Graph.{GraphValue}
-use Rattle.graph_model.specs.graph.Edges.{edges, edges_into}
+use Rattle.graph_terms.specs.declared.verb.Edge.{Edge}
+use Rattle.graph_terms.specs.Graph.{GraphValue}
+use Rattle.graph_terms.specs.Edges.{edges, edges_into}
 use Rattle.basics.specs.Lists.{count_below}
 
 -- a number is in a list

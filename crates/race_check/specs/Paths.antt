@@ -1,8 +1,8 @@
 -- Edges between lines.
 use Rattle.std.specs.Prelude.{◌<◌, length, Contains}
-use Rattle.graph_model.specs.declared.graph.verb.Edge.{Edge}
-use Rattle.graph_model.specs.graph.Graph.{GraphValue}
-use Rattle.graph_model.specs.graph.Edges.{edges}
+use Rattle.graph_terms.specs.declared.verb.Edge.{Edge}
+use Rattle.graph_terms.specs.Graph.{GraphValue}
+use Rattle.graph_terms.specs.Edges.{edges}
 
 -- both ends of each edge are lines of the graph
 abbrev pub EdgesBetween : GraphValue → Type 0

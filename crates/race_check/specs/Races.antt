@@ -1,11 +1,11 @@
 -- Which lines conflict, and which may race.
 use Rattle.std.specs.Prelude.{◌≡◌, ℕ, ◌+◌, ◌<◌, true, false, Bool, List, length, Contains, Some, Vec, slice_get}
 use Rattle.std.specs.Global.{Global}
-use Rattle.graph_model.specs.declared.graph.verb.Access.{Access}
-use Rattle.graph_model.specs.graph.Graph.{GraphValue, columns, named_spaces}
-use Rattle.graph_model.specs.graph.Access.{accesses, is_read}
-use Rattle.graph_model.specs.meaning.Path.{HasPath}
-use Rattle.graph_model.specs.meaning.Rules.{RaceAt}
+use Rattle.graph_terms.specs.declared.verb.Access.{Access}
+use Rattle.graph_terms.specs.Graph.{GraphValue, columns, named_spaces}
+use Rattle.graph_terms.specs.Access.{accesses, is_read}
+use Rattle.graph_meaning.specs.Path.{HasPath}
+use Rattle.graph_meaning.specs.Rules.{RaceAt}
 use Rattle.race_sweeps.specs.Clash.{Clash}
 use Rattle.race_sweeps.specs.Marks.{bit_in}
 use Rattle.section_sweeps.specs.Passing.{HasBit}

@@ -1,8 +1,8 @@
 -- A search for the lines to which paths lead from a line.
 use Rattle.std.specs.Prelude.{◌≡◌, ℕ, ◌⊎◌, Bool, true, false, not, List, Contains, count_by}
 use Rattle.std.specs.List.{slice_index_or}
-use Rattle.graph_model.specs.declared.graph.verb.Edge.{Edge}
-use Rattle.graph_model.specs.meaning.Path.{Path}
+use Rattle.graph_terms.specs.declared.verb.Edge.{Edge}
+use Rattle.graph_meaning.specs.Path.{Path}
 
 -- whether a line is marked, and how many lines aren't
 abbrev pub marked_in : List Bool → ℕ → Bool

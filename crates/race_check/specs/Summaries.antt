@@ -1,7 +1,8 @@
 -- Which lines lie in sections that exclude one another.
 use Rattle.std.specs.Prelude.{◌≡◌, ◌≢◌, ℕ, false}
-use Rattle.graph_model.specs.graph.Graph.{GraphValue}
-use Rattle.graph_model.specs.meaning.Rules.{Section, both_shared}
+use Rattle.graph_terms.specs.Graph.{GraphValue}
+use Rattle.graph_meaning.specs.Rules.{Section}
+use Rattle.graph_terms.specs.Reservations.{both_shared}
 
 -- each line lies in the section of at most one acquire of a reservation
 abbrev pub AreAlone : GraphValue → Type 0

@@ -1,7 +1,7 @@
 -- The need by a tally of the high numbers.
 use Rattle.std.specs.Prelude.{◌≡◌, ℕ, zero, suc, ◌+◌, ◌-◌, ◌<◌, ◌≤◌, ◌==◌, max, List, length, take, slice_index, count_by}
-use Rattle.graph_model.specs.graph.Graph.{GraphValue}
-use Rattle.graph_model.specs.meaning.Need.{IsHigh}
+use Rattle.graph_terms.specs.Graph.{GraphValue}
+use Rattle.graph_meaning.specs.Need.{IsHigh}
 
 -- how many are open after k lines, by a tally that has at v how many high numbers are v
 abbrev pub open_after : List ℕ → ℕ → ℕ

@@ -2,15 +2,15 @@
 
 ghost use Rattle.std.specs.Prelude.{◌≡◌, ℕ, ◌+◌, ◌*◌, ◌%◌, ◌^◌, ◌<◌, ◌≤◌, true, length, Contains, IsTrue, IfOk, slice_index, slice_set};
 ghost use Rattle.std.specs.Int.RustNames.{bit_or};
-ghost use Rattle.graph_model.specs.declared.graph.verb.Access.{Access};
-ghost use Rattle.graph_model.specs.graph.Access.{Conflict, accesses, modes_clash};
-ghost use Rattle.graph_model.specs.graph.Graph.{columns};
+ghost use Rattle.graph_terms.specs.declared.verb.Access.{Access};
+ghost use Rattle.graph_terms.specs.Access.{Conflict, accesses, modes_clash};
+ghost use Rattle.graph_terms.specs.Graph.{columns};
 ghost use Rattle.race_check.specs.Races.{AreAsked, IsAsked};
 ghost use Rattle.race_sweeps.specs.Marks.{bit_in};
 
+use graph_meaning::line_laws::accesses_fit;
 use graph_model::graph::Graph;
-use graph_model::line_laws::accesses_fit;
-use graph_model::verb::{Access, Mode};
+use graph_terms::verb::{Access, Mode};
 use index_spaces::NoMemory;
 use index_spaces::room::filled;
 use race_sweeps::clash::MOST_ACCESSES;

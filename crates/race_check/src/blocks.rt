@@ -1,7 +1,7 @@
 //! Blocks of 64 lines.
 
 ghost use Rattle.std.specs.Prelude.{◌≡◌, ℕ, ◌<◌, ◌≤◌, true, false, length, IfOk, MatchOption};
-ghost use Rattle.graph_model.specs.meaning.Rules.{Releases};
+ghost use Rattle.graph_terms.specs.Reservations.{Releases};
 ghost use Rattle.race_check.specs.Blocks.{AreListed};
 ghost use Rattle.race_check.specs.Inside.{IsRelease};
 ghost use Rattle.race_sweeps.specs.Marks.{bit_in};

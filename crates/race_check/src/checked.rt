@@ -3,7 +3,7 @@
 ghost use Rattle.std.specs.Prelude.{◌≡◌};
 ghost use Rattle.race_check.specs.declared.checked.CheckRefusal.{CheckRefusal};
 
-pub use graph_model::checked::Checked;
+pub use checked_graph::Checked;
 use graph_model::graph::Graph;
 use index_spaces::NoMemory;
 

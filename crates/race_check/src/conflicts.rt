@@ -1,15 +1,15 @@
 //! Which lines conflict.
 
 ghost use Rattle.std.specs.Prelude.{◌≡◌, ◌<◌, ◌↔◌, length, Contains, IsTrue, IfOk};
-ghost use Rattle.graph_model.specs.declared.graph.verb.Access.{Access};
-ghost use Rattle.graph_model.specs.graph.Graph.{named_spaces};
-ghost use Rattle.graph_model.specs.graph.Access.{accesses};
+ghost use Rattle.graph_terms.specs.declared.verb.Access.{Access};
+ghost use Rattle.graph_terms.specs.Graph.{named_spaces};
+ghost use Rattle.graph_terms.specs.Access.{accesses};
 ghost use Rattle.race_check.specs.Races.{AreAccesses, AreSpacesKnown, ListsClash};
 ghost use Rattle.race_sweeps.specs.Clash.{Clash, LinesClash};
 
+use graph_meaning::line_laws::accesses_fit;
 use graph_model::graph::Graph;
-use graph_model::line_laws::accesses_fit;
-use graph_model::verb::Access;
+use graph_terms::verb::Access;
 use index_spaces::NoMemory;
 use index_spaces::room::push;
 use race_sweeps::clash::{MOST_ACCESSES, clash};

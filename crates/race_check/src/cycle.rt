@@ -1,15 +1,15 @@
 //! Paths that lead from a line to itself.
 
 ghost use Rattle.std.specs.Prelude.{◌≡◌, ℕ, ◌+◌, ◌<◌, ◌≤◌, ◌↔◌, true, false, cond, [], ◌∷◌, ◌++◌, length, slice_set, IsTrue, OnOk, IfOk, MatchOption};
-ghost use Rattle.graph_model.specs.graph.Edges.{edges, edges_out_of};
-ghost use Rattle.graph_model.specs.meaning.Path.{HasPath};
-ghost use Rattle.graph_model.specs.meaning.Rules.{Everywhere, NoCycleAt, IsCycle};
+ghost use Rattle.graph_terms.specs.Edges.{edges, edges_out_of};
+ghost use Rattle.graph_meaning.specs.Path.{HasPath};
+ghost use Rattle.graph_meaning.specs.Rules.{Everywhere, NoCycleAt, IsCycle};
 ghost use Rattle.race_check.specs.Order.{IsOrdered};
 ghost use Rattle.race_check.specs.Search.{IsMarking, IsSearching, marked_in, unmarked};
 
 use crate::order::Order;
+use graph_meaning::laws::edges_between_lines;
 use graph_model::graph::Graph;
-use graph_model::laws::edges_between_lines;
 use index_spaces::NoMemory;
 use index_spaces::room::push;
 use std::alloc::Global;

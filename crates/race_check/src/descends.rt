@@ -1,14 +1,15 @@
 //! The rule that reservations are taken in the order of their declarations.
 
 ghost use Rattle.std.specs.Prelude.{◌≡◌, ◌+◌, ◌<◌, ◌≤◌, true, false, length, IfOk, MatchOption};
-ghost use Rattle.graph_model.specs.meaning.Rules.{Acquires, DescendsAt, EverywhereTwice, FailsFirstTwice};
+ghost use Rattle.graph_terms.specs.Reservations.{Acquires};
+ghost use Rattle.graph_meaning.specs.Rules.{DescendsAt, EverywhereTwice, FailsFirstTwice};
 ghost use Rattle.race_check.specs.Blocks.{FailsFirstIn, HoldsIn, IsLowest, NoneLow};
 ghost use Rattle.race_check.specs.Inside.{AreBetween};
 ghost use Rattle.section_sweeps.specs.Table.{IsTable};
 
 use crate::inside::Inside;
+use graph_meaning::laws::edges_between_lines;
 use graph_model::graph::Graph;
-use graph_model::laws::edges_between_lines;
 use index_spaces::NoMemory;
 use section_sweeps::passing::has_bit;
 use section_sweeps::reservations::acquired;

@@ -1,15 +1,15 @@
 //! The high numbers of lines, by floods from the heaviest line down.
 
 ghost use Rattle.std.specs.Prelude.{◌≡◌, ℕ, ◌+◌, ◌<◌, ◌≤◌, ◌==◌, ◌||◌, Bool, true, false, [], Contains, length, slice_index, OnOk, IfOk};
-ghost use Rattle.graph_model.specs.graph.Graph.{locks, never_comes};
-ghost use Rattle.graph_model.specs.graph.Edges.{edges_out_of};
-ghost use Rattle.graph_model.specs.meaning.Rules.{Acquires};
-ghost use Rattle.graph_model.specs.meaning.Need.{IsHigh};
+ghost use Rattle.graph_terms.specs.Graph.{locks, never_comes};
+ghost use Rattle.graph_terms.specs.Edges.{edges_out_of};
+ghost use Rattle.graph_terms.specs.Reservations.{Acquires};
+ghost use Rattle.graph_meaning.specs.Need.{IsHigh};
 ghost use Rattle.race_check.specs.High.{IsMarking, IsTarget, IsNext, AreAcquiresMarked, weight_of, IsFlooding, IsFlood};
 
 use crate::reservations::{acquires, freed};
+use graph_meaning::laws::edges_between_lines;
 use graph_model::graph::Graph;
-use graph_model::laws::edges_between_lines;
 use index_spaces::NoMemory;
 use index_spaces::room::{filled, push};
 use std::alloc::Global;

@@ -5,8 +5,8 @@ ghost use Rattle.race_check.specs.Inside.{AreBetween, IsInside};
 ghost use Rattle.section_sweeps.specs.Table.{IsTable};
 
 use crate::blocks::{lines_from, releases_from};
+use graph_meaning::laws::edges_between_lines;
 use graph_model::graph::Graph;
-use graph_model::laws::edges_between_lines;
 use index_spaces::NoMemory;
 use section_sweeps::blocks::{passed_back, passed_forward};
 use section_sweeps::passing::Passing;

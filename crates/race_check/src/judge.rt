@@ -1,8 +1,8 @@
 //! The six rules in turn.
 
 ghost use Rattle.std.specs.Prelude.{◌≡◌, length, OnOk, IfOk, IfErr};
-ghost use Rattle.graph_model.specs.meaning.Need.{IsNeed};
-ghost use Rattle.graph_model.specs.meaning.Rules.{Accepted, Everywhere, EverywhereTwice, NoCycleAt, ReleasedAt, SectionAt, DescendsAt, ReleaseFaultAt, RaceAt};
+ghost use Rattle.graph_meaning.specs.Need.{IsNeed};
+ghost use Rattle.graph_meaning.specs.Rules.{Accepted, Everywhere, EverywhereTwice, NoCycleAt, ReleasedAt, SectionAt, DescendsAt, ReleaseFaultAt, RaceAt};
 ghost use Rattle.race_check.specs.Refusal.{IsRefusal, NamesLines};
 ghost use Rattle.race_sweeps.specs.Placed.{IsOrder};
 ghost use Rattle.section_sweeps.specs.Sections.{AreSections};
@@ -18,8 +18,8 @@ use crate::races::first_race;
 use crate::release_faults::first_release_fault;
 use crate::releases::first_unreleased;
 use crate::sections::first_outside;
+use graph_meaning::laws::edges_between_lines;
 use graph_model::graph::Graph;
-use graph_model::laws::edges_between_lines;
 use race_sweeps::are_settled;
 use race_sweeps::held::Held;
 use section_sweeps::held_sections;

@@ -1,14 +1,14 @@
 //! In which sections the lines lie, a block of acquires at a time.
 
 ghost use Rattle.std.specs.Prelude.{◌≡◌, ℕ, ◌+◌, ◌-◌, ◌<◌, ◌≤◌, length, slice_index, OnOk, IfOk};
-ghost use Rattle.graph_model.specs.meaning.Rules.{Section};
+ghost use Rattle.graph_meaning.specs.Rules.{Section};
 ghost use Rattle.race_sweeps.specs.Held.{IsHeld};
 ghost use Rattle.section_sweeps.specs.Sections.{AreHeldSoFar, IsGrown, IsKept};
 ghost use Rattle.section_sweeps.specs.Table.{IsTable};
 
 use crate::inside::Inside;
+use graph_meaning::laws::edges_between_lines;
 use graph_model::graph::Graph;
-use graph_model::laws::edges_between_lines;
 use index_spaces::NoMemory;
 use index_spaces::room::push;
 use race_sweeps::held::Held;

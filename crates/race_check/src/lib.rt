@@ -21,18 +21,18 @@ mod reservations;
 mod sections;
 
 ghost use Rattle.std.specs.Prelude.{◌≡◌, ℕ, List, length, IfOk, IfErr, MatchOption};
-ghost use Rattle.graph_model.specs.graph.Graph.{upgraded};
-ghost use Rattle.graph_model.specs.meaning.Evaluation.{outcome};
-ghost use Rattle.graph_model.specs.meaning.Need.{IsNeed};
-ghost use Rattle.graph_model.specs.meaning.Rules.{Accepted};
+ghost use Rattle.graph_terms.specs.Graph.{upgraded};
+ghost use Rattle.graph_meaning.specs.Evaluation.{outcome};
+ghost use Rattle.graph_meaning.specs.Need.{IsNeed};
+ghost use Rattle.graph_meaning.specs.Rules.{Accepted};
 ghost use Rattle.race_check.specs.NeedLine.{IsNeedLine};
 ghost use Rattle.race_check.specs.Refusal.{IsRefusal, NamesLines};
 
 use crate::checked::{CheckRefusal, Checked, Unfit};
 use crate::judge::judge;
 use crate::need::need_line_of;
+use graph_meaning::laws::upgrade_keeps_meaning;
 use graph_model::graph::Graph;
-use graph_model::laws::upgrade_keeps_meaning;
 use index_spaces::NoMemory;
 use std::alloc::Global;
 

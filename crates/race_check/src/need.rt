@@ -1,14 +1,14 @@
 //! The need of a graph: how many slots serve any run of it, and at which line so many may be open.
 
 ghost use Rattle.std.specs.Prelude.{◌≡◌, ℕ, ◌+◌, ◌<◌, ◌≤◌, length, slice_index, IfOk, MatchOption};
-ghost use Rattle.graph_model.specs.meaning.Need.{IsNeed};
+ghost use Rattle.graph_meaning.specs.Need.{IsNeed};
 ghost use Rattle.race_check.specs.NeedLine.{IsNeedLine};
 ghost use Rattle.race_check.specs.Sweep.{IsTally, IsTallyOf, IsTallyFor, IsFirstOpen, most_open, open_after};
 
 use crate::high::high_numbers;
+use graph_meaning::laws::{edges_between_lines, needs_are_one};
 use graph_model::graph::Graph;
-use graph_model::laws::{edges_between_lines, needs_are_one};
-use graph_model::limits::MAX_LINES;
+use graph_terms::limits::MAX_LINES;
 use index_spaces::NoMemory;
 use index_spaces::room::filled;
 use std::alloc::Global;

@@ -1,12 +1,12 @@
 //! The order of the lines by their edges.
 
 ghost use Rattle.std.specs.Prelude.{◌≡◌, ℕ, ◌+◌, ◌-◌, ◌<◌, ◌≤◌, ◌==◌, [], ◌∷◌, ◌++◌, cond, length, Contains, IsTrue, slice_index, slice_set, OnOk, IfOk};
-ghost use Rattle.graph_model.specs.declared.graph.verb.Edge.{Edge};
-ghost use Rattle.graph_model.specs.graph.Edges.{edges, edges_into, edges_out_of};
+ghost use Rattle.graph_terms.specs.declared.verb.Edge.{Edge};
+ghost use Rattle.graph_terms.specs.Edges.{edges, edges_into, edges_out_of};
 ghost use Rattle.race_check.specs.Order.{IsTaking, IsOrdered, IsCounted, HasRoom};
 
+use graph_meaning::laws::edges_between_lines;
 use graph_model::graph::Graph;
-use graph_model::laws::edges_between_lines;
 use index_spaces::NoMemory;
 use index_spaces::room::{filled, push};
 use std::alloc::Global;

@@ -1,8 +1,8 @@
 //! The rule that lines which conflict have a path one way or the other, or are exempt.
 
 ghost use Rattle.std.specs.Prelude.{◌≡◌, ℕ, ◌+◌, ◌<◌, ◌≤◌, ◌↔◌, true, false, length, IsTrue, IfOk, MatchOption};
-ghost use Rattle.graph_model.specs.meaning.Path.{HasPath};
-ghost use Rattle.graph_model.specs.meaning.Rules.{EverywhereTwice, FailsFirstTwice, RaceAt};
+ghost use Rattle.graph_meaning.specs.Path.{HasPath};
+ghost use Rattle.graph_meaning.specs.Rules.{EverywhereTwice, FailsFirstTwice, RaceAt};
 ghost use Rattle.race_check.specs.Blocks.{FailsFirstIn, HoldsIn, IsLowest, NoneLow};
 ghost use Rattle.race_check.specs.Races.{AreAccesses, IsRivals, IsSuspects};
 ghost use Rattle.race_check.specs.Summaries.{AreAlone};
@@ -14,9 +14,9 @@ use crate::apart::are_apart;
 use crate::asked::Asked;
 use crate::blocks::lines_from;
 use crate::conflicts::{accesses_of_lines, lines_clash};
+use graph_meaning::laws::edges_between_lines;
 use graph_model::graph::Graph;
-use graph_model::laws::edges_between_lines;
-use graph_model::verb::Access;
+use graph_terms::verb::Access;
 use index_spaces::NoMemory;
 use race_sweeps::held::Held;
 use section_sweeps::blocks::{passed_back, passed_forward};

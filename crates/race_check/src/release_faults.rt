@@ -1,11 +1,11 @@
 //! The rule that each release stands on a merge that ignores faults.
 
 ghost use Rattle.std.specs.Prelude.{◌≡◌, ◌<◌, ◌↔◌, length, IsTrue, MatchOption};
-ghost use Rattle.graph_model.specs.graph.Graph.{is_merge_ignore, line_passes};
-ghost use Rattle.graph_model.specs.meaning.Rules.{Everywhere, FailsFirst, ReleaseFaultAt};
+ghost use Rattle.graph_terms.specs.Graph.{is_merge_ignore, line_passes};
+ghost use Rattle.graph_meaning.specs.Rules.{Everywhere, FailsFirst, ReleaseFaultAt};
 
 use graph_model::graph::Graph;
-use graph_model::verb::Verb;
+use graph_terms::verb::Verb;
 use section_sweeps::reservations::released;
 
 /// The least release that stands on no merge that ignores faults.

@@ -1,13 +1,13 @@
 //! The rule that each acquire has a release behind it.
 
 ghost use Rattle.std.specs.Prelude.{◌≡◌, ℕ, ◌+◌, ◌-◌, ◌<◌, ◌≤◌, ◌↔◌, length, IsTrue, IfOk, MatchOption};
-ghost use Rattle.graph_model.specs.meaning.Rules.{Everywhere, FailsFirst, ReleasedAt};
+ghost use Rattle.graph_meaning.specs.Rules.{Everywhere, FailsFirst, ReleasedAt};
 ghost use Rattle.race_check.specs.Blocks.{ArePassedOn, IsFirstIn};
 ghost use Rattle.section_sweeps.specs.Table.{IsTable};
 
 use crate::blocks::lines_from;
+use graph_meaning::laws::edges_between_lines;
 use graph_model::graph::Graph;
-use graph_model::laws::edges_between_lines;
 use index_spaces::NoMemory;
 use section_sweeps::blocks::passed_forward;
 use section_sweeps::passing::{Passing, has_bit};

@@ -1,11 +1,11 @@
 //! The reservations of acquires and releases.
 
 ghost use Rattle.std.specs.Prelude.{◌≡◌, ℕ, ◌<◌, length, MatchOption};
-ghost use Rattle.graph_model.specs.graph.Graph.{locks, line_passes, is_acquire_of};
-ghost use Rattle.graph_model.specs.meaning.Rules.{Acquires, Releases};
+ghost use Rattle.graph_terms.specs.Graph.{locks, line_passes, is_acquire_of};
+ghost use Rattle.graph_terms.specs.Reservations.{Acquires, Releases};
 
 use graph_model::graph::Graph;
-use graph_model::verb::Verb;
+use graph_terms::verb::Verb;
 use section_sweeps::reservations::{acquired, released};
 
 /// Whether a line acquires this reservation.

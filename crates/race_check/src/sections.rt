@@ -1,8 +1,8 @@
 //! The rule that what comes before a release lies before its acquire or in its section.
 
 ghost use Rattle.std.specs.Prelude.{◌≡◌, ℕ, ◌<◌, ◌&&◌, true, length, IfOk, MatchOption};
-ghost use Rattle.graph_model.specs.graph.Graph.{line_passes, is_phase, never_comes};
-ghost use Rattle.graph_model.specs.meaning.Rules.{EverywhereTwice, FailsFirstTwice, SectionAt};
+ghost use Rattle.graph_terms.specs.Graph.{line_passes, is_phase, never_comes};
+ghost use Rattle.graph_meaning.specs.Rules.{EverywhereTwice, FailsFirstTwice, SectionAt};
 ghost use Rattle.race_check.specs.Blocks.{FailsFirstIn, HoldsIn};
 ghost use Rattle.race_check.specs.Inside.{AreOutside, AreSides, MayCome};
 ghost use Rattle.race_sweeps.specs.Marks.{bit_in};
@@ -10,9 +10,9 @@ ghost use Rattle.section_sweeps.specs.Passing.{HasBit};
 ghost use Rattle.section_sweeps.specs.Table.{IsTable};
 
 use crate::blocks::{acquires_from, lowest, releasing_from};
+use graph_meaning::laws::edges_between_lines;
 use graph_model::graph::Graph;
-use graph_model::laws::edges_between_lines;
-use graph_model::verb::Verb;
+use graph_terms::verb::Verb;
 use index_spaces::NoMemory;
 use section_sweeps::blocks::{passed_back, passed_forward};
 use section_sweeps::passing::Passing;

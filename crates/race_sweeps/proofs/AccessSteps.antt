@@ -5,13 +5,13 @@ use Rattle.std.specs.Option.{option_map_or}
 use Rattle.std.specs.List.{slice_index_or}
 use Rattle.std.proofs.lemmas.Bool.{true≢false, cases_lt}
 use Rattle.std.proofs.lemmas.Option.{none-some, same_Some, slice_get_within, get_or_from_slice_get, slice_get-get_or}
-use Rattle.graph_model.specs.declared.graph.verb.Access.{Access}
-use Rattle.graph_model.specs.declared.graph.verb.Mode.TheVariants.{Read}
-use Rattle.graph_model.specs.declared.graph.verb.Line.{Line}
-use Rattle.graph_model.specs.graph.Graph.{GraphValue, verb_at}
-use Rattle.graph_model.specs.graph.Access.{accesses, verb_accesses, in_format}
+use Rattle.graph_terms.specs.declared.verb.Access.{Access}
+use Rattle.graph_terms.specs.declared.verb.Mode.TheVariants.{Read}
+use Rattle.graph_terms.specs.declared.verb.Line.{Line}
+use Rattle.graph_terms.specs.Graph.{GraphValue, verb_at}
+use Rattle.graph_terms.specs.Access.{accesses, verb_accesses, in_format}
 use Rattle.basics.proofs.ListFacts.{contains_none, map_contains}
-use Rattle.graph_model.proofs.KindLaws.{accesses_are_few}
+use Rattle.graph_meaning.proofs.LineFacts.{accesses_are_few}
 
 -- a line has at most three accesses
 pub few_accesses : (g : GraphValue) (i : ℕ) → length (accesses g i) ≤ 3

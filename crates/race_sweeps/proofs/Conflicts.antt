@@ -6,15 +6,15 @@ use Rattle.std.proofs.lemmas.Bool.{true≢false, eq-eqb, eqb-true, and_parts, an
 use Rattle.index_spaces.specs.Space.{has_point, points, Meet}
 use Rattle.index_spaces.proofs.LawFacts.{points_are_listed}
 use Rattle.basics.proofs.ListFacts.{some_passes, passes_some}
-use Rattle.graph_model.proofs.RulesTable.{meet, accesses_conflict}
-use Rattle.graph_model.proofs.VerbFacts.{both_shared_swap}
+use Rattle.graph_meaning.proofs.RulesTable.{meet, accesses_conflict}
+use Rattle.graph_terms.proofs.VerbFacts.{both_shared_swap}
 use Rattle.race_sweeps.specs.Clash.{Clash, LinesClash}
 use Rattle.race_sweeps.specs.Held.{LieApart}
-use Rattle.graph_model.specs.declared.graph.verb.Access.{Access}
-use Rattle.graph_model.specs.declared.graph.verb.Mode.{Mode}
-use Rattle.graph_model.specs.graph.Graph.{GraphValue, space_at}
-use Rattle.graph_model.specs.graph.Access.{accesses, AccessesConflict, modes_clash}
-use Rattle.graph_model.specs.meaning.Rules.{modes_commute}
+use Rattle.graph_terms.specs.declared.verb.Access.{Access}
+use Rattle.graph_terms.specs.declared.verb.Mode.{Mode}
+use Rattle.graph_terms.specs.Graph.{GraphValue, space_at}
+use Rattle.graph_terms.specs.Access.{accesses, AccessesConflict, modes_clash}
+use Rattle.graph_meaning.specs.Rules.{modes_commute}
 
 pub apart_back : (g : GraphValue) (i j : ℕ) → LieApart g i j → LieApart g j i
 apart_back g i j x = (x.0, x.2, x.1, (λ e. x.3 (sym e)), both_shared_swap g x.2 x.1 ∙ x.4, x.6, x.5)

@@ -9,15 +9,15 @@ use Rattle.std.proofs.lemmas.List.Elements.{Contains-append_left, Contains-push,
 use Rattle.std.specs.List.Sorted.{IsPermutation}
 use Rattle.std.proofs.lemmas.List.Sorted.{Contains-permutation, IsPermutation-sym}
 use Rattle.index_spaces.specs.Space.{has_point}
-use Rattle.graph_model.specs.declared.graph.verb.Access.{Access}
-use Rattle.graph_model.specs.graph.Graph.{GraphValue, space_at}
-use Rattle.graph_model.specs.graph.Access.{AccessesConflict}
+use Rattle.graph_terms.specs.declared.verb.Access.{Access}
+use Rattle.graph_terms.specs.Graph.{GraphValue, space_at}
+use Rattle.graph_terms.specs.Access.{AccessesConflict}
 use Rattle.basics.proofs.ListFacts.{got_contains, contains_none}
 use Rattle.race_sweeps.specs.declared.near.Spot.{Spot}
 use Rattle.race_sweeps.specs.Classes.{IsNear, AreNear}
 use Rattle.race_sweeps.specs.Clash.{Clash}
 use Rattle.race_sweeps.specs.Spots.{IsSpot, AreSpots, IsUpTo, AreAscending, IsFar, AreLinked, AreLinkedTo, IsLinkedTo, AreGrown}
-use Rattle.graph_model.proofs.Races.{conflict_back}
+use Rattle.graph_meaning.proofs.Races.{conflict_back}
 use Rattle.race_sweeps.proofs.Lists.{set_same, set_other, pushed_cases}
 
 -- one class more beside a class

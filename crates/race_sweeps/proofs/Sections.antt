@@ -5,11 +5,12 @@ use Rattle.std.specs.Option.{option_map_or}
 use Rattle.std.specs.Global.{Global}
 use Rattle.std.specs.List.{slice_index_or}
 use Rattle.std.proofs.lemmas.Bool.{true≢false, cases_lt, cases_Bool}
-use Rattle.graph_model.specs.graph.Graph.{GraphValue, locks, is_acquire_of}
-use Rattle.graph_model.specs.graph.Fits.{IsGraph}
-use Rattle.graph_model.specs.meaning.Rules.{Section, both_shared, modes_commute}
-use Rattle.graph_model.proofs.ReleaseFacts.{acquired_lock_known}
-use Rattle.graph_model.proofs.VerbFacts.{passes_below}
+use Rattle.graph_terms.specs.Graph.{GraphValue, locks, is_acquire_of}
+use Rattle.graph_terms.specs.Fits.{IsGraph}
+use Rattle.graph_meaning.specs.Rules.{Section, modes_commute}
+use Rattle.graph_terms.specs.Reservations.{both_shared}
+use Rattle.graph_terms.proofs.ReleaseFacts.{acquired_lock_known}
+use Rattle.graph_terms.proofs.VerbFacts.{passes_below}
 use Rattle.std.proofs.lemmas.Option.{none-some, slice_get_past}
 use Rattle.race_sweeps.specs.declared.held.Held.{Held}
 use Rattle.race_sweeps.specs.Held.{IsHeld, IsHeldRow, LieApart, Exclude, acquire_in}

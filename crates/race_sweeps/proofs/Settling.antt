@@ -3,22 +3,22 @@ use Rattle.std.proofs.Common.{◌≡◌, ℕ, zero, suc, ◌+◌, ◌<◌, ◌�
 use Rattle.std.specs.Prelude.{◌≢◌, Contains, IsTrue, slice_index}
 use Rattle.std.proofs.lemmas.Bool.{true≢false, cases_order}
 use Rattle.index_spaces.specs.Space.{has_point}
-use Rattle.graph_model.specs.declared.graph.verb.Access.{Access}
-use Rattle.graph_model.specs.declared.graph.verb.Mode.{Mode}
-use Rattle.graph_model.specs.declared.graph.verb.Mode.TheVariants.{Read, Write, Sum, Least, Most}
-use Rattle.graph_model.specs.graph.Graph.{GraphValue, space_at}
-use Rattle.graph_model.specs.graph.Edges.{edges}
-use Rattle.graph_model.specs.graph.Access.{accesses, is_reduction, AccessesConflict, Conflict, modes_clash}
-use Rattle.graph_model.specs.graph.Fits.{IsGraph}
-use Rattle.graph_model.specs.meaning.Laws.{EdgesBetweenLines}
-use Rattle.graph_model.specs.meaning.Path.{Path, HasPath, last, first}
-use Rattle.graph_model.specs.meaning.Rules.{Exempt, RaceAt, EverywhereTwice, modes_commute}
-use Rattle.graph_model.proofs.PathLaws.{path_append}
+use Rattle.graph_terms.specs.declared.verb.Access.{Access}
+use Rattle.graph_terms.specs.declared.verb.Mode.{Mode}
+use Rattle.graph_terms.specs.declared.verb.Mode.TheVariants.{Read, Write, Sum, Least, Most}
+use Rattle.graph_terms.specs.Graph.{GraphValue, space_at}
+use Rattle.graph_terms.specs.Edges.{edges}
+use Rattle.graph_terms.specs.Access.{accesses, is_reduction, AccessesConflict, Conflict, modes_clash}
+use Rattle.graph_terms.specs.Fits.{IsGraph}
+use Rattle.graph_meaning.specs.Laws.{EdgesBetweenLines}
+use Rattle.graph_meaning.specs.Path.{Path, HasPath, last, first}
+use Rattle.graph_meaning.specs.Rules.{Exempt, RaceAt, EverywhereTwice, modes_commute}
+use Rattle.graph_meaning.proofs.PathLaws.{path_append}
 use Rattle.race_sweeps.specs.Placed.{IsPlaced}
 use Rattle.race_sweeps.specs.Scan.{IsHard, HasHard, AreAnsweredAt}
 use Rattle.race_sweeps.specs.Settled.{IsSettled}
 use Rattle.race_sweeps.specs.Held.{LieApart}
-use Rattle.graph_model.proofs.Races.{conflict_back, commute_back, lines_back, exempt_back}
+use Rattle.graph_meaning.proofs.Races.{conflict_back, commute_back, lines_back, exempt_back}
 use Rattle.race_sweeps.proofs.Conflicts.{apart_back, lines_decided}
 use Rattle.race_sweeps.proofs.AccessSteps.{access_there}
 use Rattle.race_sweeps.proofs.Sections.{exempt_by}

@@ -3,10 +3,10 @@ use Rattle.std.proofs.Common.{◌≡◌, ℕ, ◌+◌, ◌-◌, ◌*◌, ◌/◌
 use Rattle.std.specs.Prelude.{Option, Some, None, Contains, slice_get, slice_index}
 use Rattle.std.proofs.lemmas.Bool.{true≢false}
 use Rattle.std.proofs.lemmas.Option.{none-some, same_Some, slice_get-get_or}
-use Rattle.graph_model.specs.declared.graph.verb.Access.{Access}
-use Rattle.graph_model.specs.graph.Graph.{GraphValue}
-use Rattle.graph_model.specs.graph.Access.{accesses, AccessesConflict, modes_clash}
-use Rattle.graph_model.specs.meaning.Rules.{modes_commute}
+use Rattle.graph_terms.specs.declared.verb.Access.{Access}
+use Rattle.graph_terms.specs.Graph.{GraphValue}
+use Rattle.graph_terms.specs.Access.{accesses, AccessesConflict, modes_clash}
+use Rattle.graph_meaning.specs.Rules.{modes_commute}
 use Rattle.race_sweeps.specs.declared.marks.Mark.{Mark}
 use Rattle.race_sweeps.specs.declared.table.Table.{Table}
 use Rattle.race_sweeps.specs.Classes.{class_at, key_of, AreClasses}
@@ -17,7 +17,7 @@ use Rattle.race_sweeps.specs.ScanState.{AreGrouped}
 use Rattle.race_sweeps.specs.Settled.{IsSettled}
 use Rattle.race_sweeps.specs.Table.{IsTable}
 use Rattle.race_sweeps.proofs.AccessSteps.{few_accesses}
-use Rattle.graph_model.proofs.Races.{conflict_back, commute_back}
+use Rattle.graph_meaning.proofs.Races.{conflict_back, commute_back}
 
 -- the class of an access
 class_by : (keys : List Access) (o : Option ℕ) (a : Access) → key_of keys o ≡ Some a → (c : ℕ) × (o ≡ Some c) × (slice_get keys c ≡ Some a)

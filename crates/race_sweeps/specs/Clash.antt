@@ -1,9 +1,9 @@
 -- Which accesses clash.
 use Rattle.std.specs.Prelude.{◌≡◌, ℕ, Bool, true, not, ◌||◌, Contains}
-use Rattle.graph_model.specs.declared.graph.verb.Access.{Access}
-use Rattle.graph_model.specs.graph.Graph.{GraphValue}
-use Rattle.graph_model.specs.graph.Access.{accesses, AccessesConflict}
-use Rattle.graph_model.specs.meaning.Rules.{modes_commute}
+use Rattle.graph_terms.specs.declared.verb.Access.{Access}
+use Rattle.graph_terms.specs.Graph.{GraphValue}
+use Rattle.graph_terms.specs.Access.{accesses, AccessesConflict}
+use Rattle.graph_meaning.specs.Rules.{modes_commute}
 
 -- two accesses conflict, other than by uses that commute unless these count too
 pub record Clash (g : GraphValue) (commuting : Bool) (a b : Access) : Type 0 where

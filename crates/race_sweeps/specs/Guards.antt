@@ -1,8 +1,8 @@
 -- Classes of reductions whose members all lie in sections of one reservation, which guards them.
 use Rattle.std.specs.Prelude.{◌≡◌, ℕ, ◌+◌, ◌*◌, ◌/◌, ◌<◌, ◌≤◌, cond, List, length, Option, Some, IsTrue, slice_get, slice_index}
-use Rattle.graph_model.specs.declared.graph.verb.Access.{Access}
-use Rattle.graph_model.specs.graph.Graph.{GraphValue, line_passes, is_shared}
-use Rattle.graph_model.specs.meaning.Rules.{modes_commute}
+use Rattle.graph_terms.specs.declared.verb.Access.{Access}
+use Rattle.graph_terms.specs.Graph.{GraphValue, line_passes, is_shared}
+use Rattle.graph_meaning.specs.Rules.{modes_commute}
 use Rattle.race_sweeps.specs.declared.held.Held.{Held}
 use Rattle.race_sweeps.specs.Classes.{class_at}
 use Rattle.race_sweeps.specs.Held.{acquire_in, LieApart}

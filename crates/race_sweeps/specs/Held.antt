@@ -3,8 +3,9 @@ use Rattle.std.specs.Prelude.{◌≡◌, ◌≢◌, ℕ, ◌<◌, false, length,
 use Rattle.std.specs.Global.{Global}
 use Rattle.std.specs.List.{slice_index_or}
 use Rattle.std.specs.Option.{option_map_or}
-use Rattle.graph_model.specs.graph.Graph.{GraphValue, locks}
-use Rattle.graph_model.specs.meaning.Rules.{Section, both_shared}
+use Rattle.graph_terms.specs.Graph.{GraphValue, locks}
+use Rattle.graph_meaning.specs.Rules.{Section}
+use Rattle.graph_terms.specs.Reservations.{both_shared}
 use Rattle.race_sweeps.specs.declared.held.Held.{Held}
 
 -- where an acquire is kept the line lies in its section, and where none is kept it lies in no section of the reservation

@@ -1,8 +1,8 @@
 -- The lines in an order in which each edge leads forward.
 use Rattle.std.specs.Prelude.{◌≡◌, ℕ, ◌<◌, List, length, Contains, slice_index}
-use Rattle.graph_model.specs.declared.graph.verb.Edge.{Edge}
-use Rattle.graph_model.specs.graph.Graph.{GraphValue}
-use Rattle.graph_model.specs.graph.Edges.{edges}
+use Rattle.graph_terms.specs.declared.verb.Edge.{Edge}
+use Rattle.graph_terms.specs.Graph.{GraphValue}
+use Rattle.graph_terms.specs.Edges.{edges}
 
 -- lines each of which stands before those that its edges lead to, without repeats and without a gap
 pub record IsOrder (g : GraphValue) (lines : List ℕ) : Type 0 where

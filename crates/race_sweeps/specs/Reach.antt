@@ -1,7 +1,7 @@
 -- Which of 64 lines are reached.
 use Rattle.std.specs.Prelude.{◌≡◌, ℕ, ◌+◌, ◌<◌, ◌≤◌, ◌⊎◌, true, List, length, slice_index}
-use Rattle.graph_model.specs.graph.Graph.{GraphValue}
-use Rattle.graph_model.specs.meaning.Path.{HasPath}
+use Rattle.graph_terms.specs.Graph.{GraphValue}
+use Rattle.graph_meaning.specs.Path.{HasPath}
 use Rattle.race_sweeps.specs.Marks.{bit_in}
 
 -- each bit of a word tells of a path from the line at place x to one of the 64 lines from place `first` on

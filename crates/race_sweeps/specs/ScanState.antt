@@ -1,6 +1,6 @@
 -- What holds between the slices of a scan.
 use Rattle.std.specs.Prelude.{◌≡◌, ℕ, ◌*◌, ◌-◌, ◌/◌, ◌<◌, ◌≤◌, List, length, Some, slice_index}
-use Rattle.graph_model.specs.graph.Graph.{GraphValue}
+use Rattle.graph_terms.specs.Graph.{GraphValue}
 use Rattle.race_sweeps.specs.declared.marks.Mark.{Mark}
 use Rattle.race_sweeps.specs.declared.members.Members.{Members}
 use Rattle.race_sweeps.specs.declared.scan.Scan.{Scan}

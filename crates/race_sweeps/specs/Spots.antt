@@ -2,9 +2,9 @@
 use Rattle.std.specs.Prelude.{◌≡◌, ℕ, ◌<◌, ◌≤◌, ◌⊎◌, List, length, Some, IsTrue, Vec, Contains, slice_get}
 use Rattle.std.specs.Global.{Global}
 use Rattle.index_spaces.specs.Space.{has_point}
-use Rattle.graph_model.specs.declared.graph.verb.Access.{Access}
-use Rattle.graph_model.specs.graph.Graph.{GraphValue, space_at, named_spaces}
-use Rattle.graph_model.specs.graph.Access.{AccessesConflict}
+use Rattle.graph_terms.specs.declared.verb.Access.{Access}
+use Rattle.graph_terms.specs.Graph.{GraphValue, space_at, named_spaces}
+use Rattle.graph_terms.specs.Access.{AccessesConflict}
 use Rattle.race_sweeps.specs.Classes.{IsNear}
 use Rattle.race_sweeps.specs.declared.near.Spot.{Spot}
 

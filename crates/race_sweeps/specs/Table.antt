@@ -1,5 +1,5 @@
 -- What is looked up of a graph: its lines by place, their places, and the classes of their accesses.
-use Rattle.graph_model.specs.graph.Graph.{GraphValue}
+use Rattle.graph_terms.specs.Graph.{GraphValue}
 use Rattle.race_sweeps.specs.Placed.{IsPlaced, ArePlaces}
 use Rattle.race_sweeps.specs.Classes.{AreClasses, AreNear}
 use Rattle.race_sweeps.specs.Guards.{AreGuards}

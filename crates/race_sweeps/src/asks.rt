@@ -1,7 +1,7 @@
 //! Which classes are asked about the lines of a slice.
 
 ghost use Rattle.std.specs.Prelude.{◌≡◌, ◌≢◌, ℕ, ◌*◌, ◌<◌, [], length, Contains, Some, IsTrue, slice_get, OnOk};
-ghost use Rattle.graph_model.specs.declared.graph.verb.Access.{Access};
+ghost use Rattle.graph_terms.specs.declared.verb.Access.{Access};
 ghost use Rattle.race_sweeps.specs.Classes.{IsNear};
 ghost use Rattle.race_sweeps.specs.Guards.{AreGuarded};
 ghost use Rattle.race_sweeps.specs.Marks.{IsMarked, AreMarksBelow};
@@ -14,7 +14,7 @@ use crate::clash::modes_commute;
 use crate::marks::{Mark, Marks};
 use crate::members::Members;
 use crate::table::Table;
-use graph_model::verb::Mode;
+use graph_terms::verb::Mode;
 use index_spaces::NoMemory;
 
 /// Asks the classes that conflict with those of groups about the lines of these, and gives the

@@ -1,19 +1,19 @@
 //! Which lines conflict, and whether two lines are settled without a path.
 
 ghost use Rattle.std.specs.Prelude.{◌≡◌, ℕ, ◌<◌, ◌||◌, ◌↔◌, not, length, Contains, IsTrue};
-ghost use Rattle.graph_model.specs.declared.graph.verb.Access.{Access};
-ghost use Rattle.graph_model.specs.graph.Graph.{named_spaces};
-ghost use Rattle.graph_model.specs.graph.Access.{accesses, modes_clash, is_reduction};
-ghost use Rattle.graph_model.specs.meaning.Rules.{modes_commute};
+ghost use Rattle.graph_terms.specs.declared.verb.Access.{Access};
+ghost use Rattle.graph_terms.specs.Graph.{named_spaces};
+ghost use Rattle.graph_terms.specs.Access.{accesses, modes_clash, is_reduction};
+ghost use Rattle.graph_meaning.specs.Rules.{modes_commute};
 ghost use Rattle.race_sweeps.specs.Clash.{Clash, LinesClash};
 ghost use Rattle.race_sweeps.specs.Held.{IsHeld};
 ghost use Rattle.race_sweeps.specs.Settled.{IsSettled};
 
 use crate::held::Held;
+use graph_meaning::line_laws::accesses_fit;
 use graph_model::graph::Graph;
-pub use graph_model::limits::MOST_ACCESSES;
-use graph_model::line_laws::accesses_fit;
-use graph_model::verb::{Access, Mode};
+pub use graph_terms::limits::MOST_ACCESSES;
+use graph_terms::verb::{Access, Mode};
 
 /// Whether two lines do not conflict, or by uses that commute alone and in sections of two
 /// different acquires of one reservation, not both shared.

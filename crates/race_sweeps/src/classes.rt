@@ -1,14 +1,14 @@
 //! The classes of accesses.
 
 ghost use Rattle.std.specs.Prelude.{◌≡◌, ℕ, ◌+◌, ◌*◌, ◌<◌, ◌≤◌, [], List, length, Some, slice_get, slice_index, OnOk, IfOk, IfSome};
-ghost use Rattle.graph_model.specs.declared.graph.verb.Access.{Access};
+ghost use Rattle.graph_terms.specs.declared.verb.Access.{Access};
 ghost use Rattle.race_sweeps.specs.Classes.{AreClasses, AreClassesTo, key_of};
-ghost use Rattle.graph_model.specs.graph.Access.{accesses};
+ghost use Rattle.graph_terms.specs.Access.{accesses};
 ghost use Rattle.race_sweeps.specs.Placed.{IsPlaced};
 
 use crate::clash::MOST_ACCESSES;
 use graph_model::graph::Graph;
-use graph_model::verb::{Access, Mode};
+use graph_terms::verb::{Access, Mode};
 use index_spaces::NoMemory;
 use index_spaces::room::{filled, push};
 use std::alloc::Global;

@@ -1,8 +1,8 @@
 //! The reservations that guard classes of reductions.
 
 ghost use Rattle.std.specs.Prelude.{◌≡◌, ℕ, ◌+◌, ◌*◌, ◌<◌, ◌≤◌, List, Option, Some, length, IfOk};
-ghost use Rattle.graph_model.specs.graph.Graph.{locks};
-ghost use Rattle.graph_model.specs.meaning.Rules.{Acquires};
+ghost use Rattle.graph_terms.specs.Graph.{locks};
+ghost use Rattle.graph_terms.specs.Reservations.{Acquires};
 ghost use Rattle.race_sweeps.specs.Classes.{AreClasses, class_at};
 ghost use Rattle.race_sweeps.specs.Guards.{AreGuards, AreOpened, IsBeforeStart, slot_of};
 ghost use Rattle.race_sweeps.specs.Held.{IsHeld};

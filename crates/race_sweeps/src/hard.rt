@@ -1,8 +1,8 @@
 //! The hard accesses, which no exemption covers.
 
 ghost use Rattle.std.specs.Prelude.{◌≡◌, ℕ, ◌*◌, ◌<◌, ◌≤◌, length, Some, slice_get, slice_index, IsTrue};
-ghost use Rattle.graph_model.specs.declared.graph.verb.Access.{Access};
-ghost use Rattle.graph_model.specs.graph.Graph.{GraphValue};
+ghost use Rattle.graph_terms.specs.declared.verb.Access.{Access};
+ghost use Rattle.graph_terms.specs.Graph.{GraphValue};
 ghost use Rattle.race_sweeps.specs.Classes.{IsNear};
 ghost use Rattle.race_sweeps.specs.Held.{IsHeld};
 ghost use Rattle.race_sweeps.specs.Marks.{AreMarksBelow};
@@ -15,7 +15,7 @@ use crate::marks::Mark;
 use crate::members::Members;
 use crate::table::Table;
 use graph_model::graph::Graph;
-use graph_model::verb::{Access, Mode};
+use graph_terms::verb::{Access, Mode};
 
 /// Notes the last member of each group's class, where its access is hard.
 pub(crate) fn harden_all(

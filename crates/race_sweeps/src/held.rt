@@ -1,7 +1,7 @@
 //! In which sections the lines lie.
 
 ghost use Rattle.std.specs.Prelude.{◌≡◌, ℕ, ◌<◌, ◌↔◌, length, IsTrue, IfSome};
-ghost use Rattle.graph_model.specs.meaning.Rules.{Section};
+ghost use Rattle.graph_meaning.specs.Rules.{Section};
 ghost use Rattle.race_sweeps.specs.Held.{IsHeld, LieApart, Exclude, acquire_in};
 
 use graph_model::graph::Graph;

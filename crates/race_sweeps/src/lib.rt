@@ -16,7 +16,7 @@ mod table;
 mod walk;
 
 ghost use Rattle.std.specs.Prelude.{IsTrue, IfOk};
-ghost use Rattle.graph_model.specs.meaning.Rules.{EverywhereTwice, RaceAt};
+ghost use Rattle.graph_meaning.specs.Rules.{EverywhereTwice, RaceAt};
 ghost use Rattle.race_sweeps.specs.Held.{IsHeld};
 ghost use Rattle.race_sweeps.specs.Placed.{IsOrder};
 

@@ -2,13 +2,13 @@
 
 ghost use Rattle.std.specs.Prelude.{◌≡◌, ℕ, ◌<◌, ◌≤◌, [], length, Vec, Contains, Some, slice_get, IsTrue, OnOk, IfOk, IfSome};
 ghost use Rattle.std.specs.Global.{Global};
-ghost use Rattle.graph_model.specs.graph.Graph.{space_at};
+ghost use Rattle.graph_terms.specs.Graph.{space_at};
 ghost use Rattle.race_sweeps.specs.Classes.{AreNear, IsNear};
 ghost use Rattle.race_sweeps.specs.Spots.{IsSpan, IsSpot, AreSpots, AreAscending, AreLinkedTo, IsLinkedTo, AreGrown, AreLinked, IsFar, IsUpTo};
 
 use crate::clash::clash;
 use graph_model::graph::Graph;
-use graph_model::verb::Access;
+use graph_terms::verb::Access;
 use index_spaces::NoMemory;
 use index_spaces::room::push;
 use index_spaces::space::Space;

@@ -7,8 +7,8 @@ ghost use Rattle.race_sweeps.specs.Reach.{AreReachedOrSelf, IsReach, AreOutside,
 ghost use Rattle.race_sweeps.specs.Table.{IsTable};
 
 use crate::table::Table;
+use graph_meaning::laws::edges_between_lines;
 use graph_model::graph::Graph;
-use graph_model::laws::edges_between_lines;
 use index_spaces::NoMemory;
 use index_spaces::room::filled;
 use std::alloc::Global;

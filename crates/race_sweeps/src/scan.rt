@@ -1,7 +1,7 @@
 //! The scan for conflicts that no path settles.
 
 ghost use Rattle.std.specs.Prelude.{◌≡◌, ℕ, ◌+◌, ◌-◌, ◌*◌, ◌/◌, ◌<◌, ◌≤◌, [], length, Some, slice_index, IsTrue, OnOk, IfOk};
-ghost use Rattle.graph_model.specs.meaning.Rules.{EverywhereTwice, RaceAt};
+ghost use Rattle.graph_meaning.specs.Rules.{EverywhereTwice, RaceAt};
 ghost use Rattle.race_sweeps.specs.Held.{IsHeld};
 ghost use Rattle.race_sweeps.specs.Classes.{class_at};
 ghost use Rattle.race_sweeps.specs.Marks.{AreMarksBelow, IsMarked};
@@ -16,8 +16,8 @@ use crate::marks::Marks;
 use crate::members::Members;
 use crate::reach::Reach;
 use crate::table::Table;
+use graph_meaning::laws::edges_between_lines;
 use graph_model::graph::Graph;
-use graph_model::laws::edges_between_lines;
 use index_spaces::NoMemory;
 use index_spaces::room::filled;
 use std::alloc::Global;

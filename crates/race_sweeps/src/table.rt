@@ -10,7 +10,7 @@ use crate::guards::guards_of;
 use crate::held::Held;
 use crate::near::near_classes;
 use graph_model::graph::Graph;
-use graph_model::verb::Access;
+use graph_terms::verb::Access;
 use index_spaces::NoMemory;
 use index_spaces::room::{filled, push};
 use std::alloc::Global;

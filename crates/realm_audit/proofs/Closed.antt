@@ -2,13 +2,13 @@
 use Rattle.std.proofs.Common.{◌≡◌, ℕ, ◌<◌, inl, inr, List, sym, subst, arith}
 use Rattle.std.specs.Prelude.{◌≢◌, Contains, Some, slice_get}
 use Rattle.std.proofs.lemmas.Bool.{cases_order}
-use Rattle.graph_model.specs.declared.graph.verb.Edge.{Edge}
-use Rattle.graph_model.specs.declared.meaning.outcome.End.TheVariants.{Waiting}
-use Rattle.graph_model.specs.graph.Graph.{GraphValue}
-use Rattle.graph_model.specs.graph.Edges.{edges}
-use Rattle.graph_model.specs.meaning.Evaluation.{eval_end}
-use Rattle.graph_model.specs.meaning.Path.{Path, last, first}
-use Rattle.graph_model.specs.meaning.Laws.{OrderListsEnded}
+use Rattle.graph_terms.specs.declared.verb.Edge.{Edge}
+use Rattle.graph_terms.specs.declared.outcome.End.TheVariants.{Waiting}
+use Rattle.graph_terms.specs.Graph.{GraphValue}
+use Rattle.graph_terms.specs.Edges.{edges}
+use Rattle.graph_meaning.specs.Evaluation.{eval_end}
+use Rattle.graph_meaning.specs.Path.{Path, last, first}
+use Rattle.graph_meaning.specs.Laws.{OrderListsEnded}
 use Rattle.realm_audit.specs.Lawful.{StandsEarlier, IsSoundAt, IsSoundBefore}
 use Rattle.realm_audit.proofs.Earlier.{earlier_or_not, earlier_by}
 use Rattle.realm_audit.proofs.EndFacts.{source_listed, source_ended}

@@ -5,14 +5,14 @@ use Rattle.std.proofs.lemmas.Bool.{true≢false, eq-eqb, eqb-true, true_from_ne_
 use Rattle.std.proofs.lemmas.Option.{same_Some, slice_get_within, slice_get-get_or}
 use Rattle.std.proofs.lemmas.List.FromFn.{get_or-map-range_with_len, length-map-range_with_len}
 use Rattle.basics.proofs.ListFacts.{got_contains, contains_map, map_contains, contains_filter, filter_contains}
-use Rattle.graph_model.specs.declared.graph.verb.Edge.{Edge}
-use Rattle.graph_model.specs.declared.meaning.outcome.End.{End}
-use Rattle.graph_model.specs.declared.meaning.outcome.End.TheVariants.{Done, Faulted, Cancelled, Waiting}
-use Rattle.graph_model.specs.graph.Graph.{GraphValue}
-use Rattle.graph_model.specs.graph.Edges.{edges, edges_into, sources}
-use Rattle.graph_model.specs.meaning.Evaluation.{eval_end, is_ended, has_ended, evaluation, order}
-use Rattle.graph_model.specs.meaning.Laws.{OrderListsEnded}
-use Rattle.graph_model.proofs.Waiting.{end_in_left, ends_in_order}
+use Rattle.graph_terms.specs.declared.verb.Edge.{Edge}
+use Rattle.graph_terms.specs.declared.outcome.End.{End}
+use Rattle.graph_terms.specs.declared.outcome.End.TheVariants.{Done, Faulted, Cancelled, Waiting}
+use Rattle.graph_terms.specs.Graph.{GraphValue}
+use Rattle.graph_terms.specs.Edges.{edges, edges_into, sources}
+use Rattle.graph_meaning.specs.Evaluation.{eval_end, is_ended, has_ended, evaluation, order}
+use Rattle.graph_meaning.specs.Laws.{OrderListsEnded}
+use Rattle.graph_meaning.proofs.Waiting.{end_in_left, ends_in_order}
 use Rattle.realm_audit.specs.Lawful.{ends_of, IsWaitAt}
 
 -- a line that ended, by the test and by its end

@@ -4,13 +4,13 @@ use Rattle.std.specs.Prelude.{◌↔◌, ◌==◌, Contains, Option, Some, None,
 use Rattle.std.specs.Option.{option_map_or}
 use Rattle.std.proofs.lemmas.Bool.{true≢false, false_from_ne_true, cases_eq, cases_lt}
 use Rattle.std.proofs.lemmas.Option.{same_Some}
-use Rattle.graph_model.specs.declared.graph.verb.Edge.{Edge}
-use Rattle.graph_model.specs.declared.graph.verb.EdgeKind.TheVariants.{Passes}
-use Rattle.graph_model.specs.graph.Graph.{GraphValue, line_passes, is_shared}
+use Rattle.graph_terms.specs.declared.verb.Edge.{Edge}
+use Rattle.graph_terms.specs.declared.verb.EdgeKind.TheVariants.{Passes}
+use Rattle.graph_terms.specs.Graph.{GraphValue, line_passes, is_shared}
 use Rattle.basics.proofs.ListFacts.{got_contains, contains_map, filter_contains}
-use Rattle.graph_model.specs.graph.Edges.{edges, edges_into, sources}
-use Rattle.graph_model.specs.meaning.Rules.{both_shared}
-use Rattle.graph_model.proofs.VerbFacts.{acquire_one}
+use Rattle.graph_terms.specs.Edges.{edges, edges_into, sources}
+use Rattle.graph_terms.specs.Reservations.{both_shared}
+use Rattle.graph_terms.proofs.VerbFacts.{acquire_one}
 use Rattle.realm_audit.specs.Lawful.{StandsEarlier, IsRepeatAt, IsSourceFaultAt, IsOverlapAt, IsMissing, IsLeast}
 use Rattle.realm_audit.specs.Prefix.{Takes, AreEarlier, AreOpen, stands_in, IsLeft, IsLate, IsOpenBeside, IsRival}
 use Rattle.realm_audit.proofs.EndFacts.{source_edge, into_line}

@@ -10,19 +10,19 @@ use Rattle.std.proofs.lemmas.List.{map-append}
 use Rattle.std.proofs.lemmas.List.Folds.{list_any-append}
 use Rattle.std.proofs.lemmas.List.Quantifiers.{position-Some}
 use Rattle.std.proofs.lemmas.Slice.Eq.{bytes_eq-Decides}
-use Rattle.graph_model.specs.declared.graph.format.Format.{Format}
-use Rattle.graph_model.specs.declared.graph.decl.Decl.{Decl}
-use Rattle.graph_model.specs.declared.graph.found.Found.{Found}
-use Rattle.graph_model.specs.declared.graph.found.Found.TheVariants as found
-use Rattle.graph_model.specs.declared.graph.verb.Line.{Line}
+use Rattle.graph_terms.specs.declared.format.Format.{Format}
+use Rattle.graph_terms.specs.declared.decl.Decl.{Decl}
+use Rattle.graph_terms.specs.declared.found.Found.{Found}
+use Rattle.graph_terms.specs.declared.found.Found.TheVariants as found
+use Rattle.graph_terms.specs.declared.verb.Line.{Line}
 use Rattle.std.specs.Char.{is_ascii_lowercase}
-use Rattle.graph_model.specs.declared.graph.verb.Verb.TheVariants.{User}
-use Rattle.graph_model.specs.graph.Graph.{GraphValue, decl_name}
-use Rattle.graph_model.specs.graph.Fits.{IsGraph, LinesFit, is_used}
-use Rattle.graph_model.specs.graph.Name.{is_name, is_name_byte}
-use Rattle.graph_model.specs.graph.Names.{StandsFor}
-use Rattle.graph_model.specs.graph.Spelling.{line_name}
-use Rattle.graph_model.proofs.GraphFacts.{fit_at}
+use Rattle.graph_terms.specs.declared.verb.Verb.TheVariants.{User}
+use Rattle.graph_terms.specs.Graph.{GraphValue, decl_name}
+use Rattle.graph_terms.specs.Fits.{IsGraph, LinesFit, is_used}
+use Rattle.graph_terms.specs.Name.{is_name, is_name_byte}
+use Rattle.graph_terms.specs.Names.{StandsFor}
+use Rattle.graph_terms.specs.Spelling.{line_name}
+use Rattle.graph_terms.proofs.GraphFacts.{fit_at}
 use Rattle.graph_model.proofs.Naming.{unused_line_name, stands_not_unused}
 use Rattle.realm_audit.specs.Reading.{has_newline}
 

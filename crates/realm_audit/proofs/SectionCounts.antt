@@ -5,10 +5,10 @@ use Rattle.std.proofs.lemmas.List.{get_or-set_same, get_or-set_other}
 use Rattle.std.proofs.lemmas.Bool.{cases_order, eq-eqb, and_from, not_from_false}
 use Rattle.basics.specs.Lists.{count_below}
 use Rattle.basics.proofs.ListFacts.{some_below, count_below-max}
-use Rattle.graph_model.specs.declared.graph.verb.Verb.TheVariants.{Acquire}
-use Rattle.graph_model.specs.graph.Graph.{GraphValue, line_passes, is_acquire_of, is_shared}
-use Rattle.graph_model.specs.meaning.Rules.{Acquires}
-use Rattle.graph_model.proofs.VerbFacts.{acquire_is, verb_passes, passes_below}
+use Rattle.graph_terms.specs.declared.verb.Verb.TheVariants.{Acquire}
+use Rattle.graph_terms.specs.Graph.{GraphValue, line_passes, is_acquire_of, is_shared}
+use Rattle.graph_terms.specs.Reservations.{Acquires}
+use Rattle.graph_terms.proofs.VerbFacts.{acquire_is, verb_passes, passes_below}
 use Rattle.realm_audit.specs.Prefix.{stands_in, is_exclusive_of, open_count, OpensSection, IsOpenBeside}
 
 -- a number is counted if it passes

@@ -2,15 +2,16 @@
 use Rattle.std.proofs.Common.{◌≡◌, ℕ, ◌+◌, ◌<◌, Bool, true, false, inl, inr, List, sym, ◌∙◌, ap, subst, arith}
 use Rattle.std.specs.Prelude.{Option, Some, slice_get}
 use Rattle.std.proofs.lemmas.Bool.{true≢false, cases_eq, false_from_ne_true}
-use Rattle.graph_model.specs.declared.graph.verb.Verb.{Verb}
-use Rattle.graph_model.specs.declared.graph.verb.Verb.TheVariants.{Acquire, Release}
-use Rattle.graph_model.specs.graph.Graph.{GraphValue, line_passes, is_shared}
-use Rattle.graph_model.specs.graph.Fits.{IsGraph}
-use Rattle.graph_model.specs.meaning.Path.{HasPath}
-use Rattle.graph_model.specs.meaning.Rules.{Acquires, Releases, Accepted}
-use Rattle.graph_model.specs.meaning.Laws.{OrderListsEnded}
-use Rattle.graph_model.proofs.VerbFacts.{acquire_is, release_is, release_one}
-use Rattle.graph_model.proofs.ReleaseFacts.{one_release}
+use Rattle.graph_terms.specs.declared.verb.Verb.{Verb}
+use Rattle.graph_terms.specs.declared.verb.Verb.TheVariants.{Acquire, Release}
+use Rattle.graph_terms.specs.Graph.{GraphValue, line_passes, is_shared}
+use Rattle.graph_terms.specs.Fits.{IsGraph}
+use Rattle.graph_meaning.specs.Path.{HasPath}
+use Rattle.graph_terms.specs.Reservations.{Acquires, Releases}
+use Rattle.graph_meaning.specs.Rules.{Accepted}
+use Rattle.graph_meaning.specs.Laws.{OrderListsEnded}
+use Rattle.graph_terms.proofs.VerbFacts.{acquire_is, release_is, release_one}
+use Rattle.graph_terms.proofs.ReleaseFacts.{one_release}
 use Rattle.realm_audit.specs.Lawful.{StandsEarlier, IsOpenAt, IsSoundBefore}
 use Rattle.realm_audit.specs.Prefix.{Takes, AreOpen, OpensSection, stands_in}
 use Rattle.realm_audit.proofs.Earlier.{earlier_none, earlier_by, earlier_more, earlier_here, earlier_cases}

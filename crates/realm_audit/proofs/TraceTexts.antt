@@ -4,10 +4,10 @@ use Rattle.std.specs.Prelude.{◌≢◌, ◌⊎◌, Option, Some, None, codes, �
 use Rattle.std.proofs.lemmas.Bool.{true≢false}
 use Rattle.std.proofs.lemmas.List.{append_cancel_left, append_cancel_right}
 use Rattle.std.proofs.lemmas.Option.{none-some, same_Some}
-use Rattle.graph_model.specs.graph.Graph.{GraphValue}
-use Rattle.graph_model.specs.graph.Fits.{IsGraph}
-use Rattle.graph_model.specs.graph.Name.{is_name}
-use Rattle.graph_model.specs.graph.Spelling.{line_name}
+use Rattle.graph_terms.specs.Graph.{GraphValue}
+use Rattle.graph_terms.specs.Fits.{IsGraph}
+use Rattle.graph_terms.specs.Name.{is_name}
+use Rattle.graph_terms.specs.Spelling.{line_name}
 use Rattle.realm_trace.specs.Text.{at_text, at_texts, trace_text}
 use Rattle.realm_audit.specs.Reading.{AreLines, has_newline, IsFirstLine, front, BeginsNoItem, BeginsText, IsTraceFault, IsNoText, TextTells}
 use Rattle.realm_audit.proofs.LineNames.{is_spelled, line_name_one_line, one_line_named}

@@ -4,14 +4,15 @@ use Rattle.std.specs.Prelude.{◌≢◌, ◌↔◌, Contains, IsTrue, Some, slic
 use Rattle.std.proofs.lemmas.Bool.{cases_order}
 use Rattle.std.proofs.lemmas.Option.{same_Some, slice_get_within}
 use Rattle.basics.proofs.ListFacts.{got_contains}
-use Rattle.graph_model.specs.graph.Graph.{GraphValue}
-use Rattle.graph_model.specs.graph.Fits.{IsGraph}
-use Rattle.graph_model.specs.meaning.Rules.{Releases, Accepted}
-use Rattle.graph_model.specs.meaning.Evaluation.{eval_end, is_ended}
-use Rattle.graph_model.specs.meaning.Trace.{StandsBefore, ListsEnded, IsLawful, HaveSections}
-use Rattle.graph_model.specs.meaning.Laws.{OrderListsEnded, SectionsNeverOverlap}
-use Rattle.graph_model.proofs.ReleaseFacts.{one_release}
-use Rattle.graph_model.proofs.VerbFacts.{both_shared_swap}
+use Rattle.graph_terms.specs.Graph.{GraphValue}
+use Rattle.graph_terms.specs.Fits.{IsGraph}
+use Rattle.graph_terms.specs.Reservations.{Releases}
+use Rattle.graph_meaning.specs.Rules.{Accepted}
+use Rattle.graph_meaning.specs.Evaluation.{eval_end, is_ended}
+use Rattle.graph_meaning.specs.Trace.{StandsBefore, ListsEnded, IsLawful, HaveSections}
+use Rattle.graph_meaning.specs.Laws.{OrderListsEnded, SectionsNeverOverlap}
+use Rattle.graph_terms.proofs.ReleaseFacts.{one_release}
+use Rattle.graph_terms.proofs.VerbFacts.{both_shared_swap}
 use Rattle.realm_audit.specs.declared.refusal.AuditRefusal.{AuditRefusal}
 use Rattle.realm_audit.specs.declared.refusal.AuditRefusal.TheVariants.{Repeat, Waits, Source, Overlap, Missing, NoMemory}
 use Rattle.realm_audit.specs.Lawful.{StandsEarlier, IsSoundBefore, IsRefusal, IsMissing}

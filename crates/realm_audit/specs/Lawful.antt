@@ -1,13 +1,13 @@
 -- The faults of a trace, place by place, and what a refusal says of it.
 use Rattle.std.specs.Prelude.{◌≡◌, ◌≢◌, ℕ, ◌<◌, List, length, map, Contains, Some, slice_get}
 use Rattle.basics.specs.Lists.{numbers_below}
-use Rattle.graph_model.specs.declared.meaning.outcome.End.{End}
-use Rattle.graph_model.specs.declared.meaning.outcome.End.TheVariants.{Waiting}
-use Rattle.graph_model.specs.graph.Graph.{GraphValue}
-use Rattle.graph_model.specs.graph.Edges.{sources}
-use Rattle.graph_model.specs.meaning.Rules.{Releases}
-use Rattle.graph_model.specs.meaning.Evaluation.{eval_end}
-use Rattle.graph_model.specs.meaning.Trace.{HaveSections}
+use Rattle.graph_terms.specs.declared.outcome.End.{End}
+use Rattle.graph_terms.specs.declared.outcome.End.TheVariants.{Waiting}
+use Rattle.graph_terms.specs.Graph.{GraphValue}
+use Rattle.graph_terms.specs.Edges.{sources}
+use Rattle.graph_terms.specs.Reservations.{Releases}
+use Rattle.graph_meaning.specs.Evaluation.{eval_end}
+use Rattle.graph_meaning.specs.Trace.{HaveSections}
 use Rattle.realm_audit.specs.declared.refusal.AuditRefusal.{AuditRefusal}
 use Rattle.realm_audit.specs.declared.refusal.AuditRefusal.TheVariants.{Repeat, Waits, Source, Overlap, Missing, NoMemory}
 

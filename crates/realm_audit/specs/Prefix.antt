@@ -1,13 +1,13 @@
 -- What is kept of the items of a trace before a place.
 use Rattle.std.specs.Prelude.{◌≡◌, ◌≢◌, ℕ, Bool, true, false, not, ◌&&◌, List, length, Contains, ◌↔◌}
 use Rattle.std.specs.List.{slice_index_or}
-use Rattle.graph_model.specs.declared.meaning.outcome.End.TheVariants.{Done, Waiting}
+use Rattle.graph_terms.specs.declared.outcome.End.TheVariants.{Done, Waiting}
 use Rattle.basics.specs.Lists.{count_below}
-use Rattle.graph_model.specs.declared.graph.verb.Verb.{Verb}
-use Rattle.graph_model.specs.graph.Graph.{GraphValue, locks, line_passes, is_acquire_of, is_shared}
-use Rattle.graph_model.specs.graph.Edges.{sources}
-use Rattle.graph_model.specs.meaning.Rules.{Acquires}
-use Rattle.graph_model.specs.meaning.Evaluation.{eval_end}
+use Rattle.graph_terms.specs.declared.verb.Verb.{Verb}
+use Rattle.graph_terms.specs.Graph.{GraphValue, locks, line_passes, is_acquire_of, is_shared}
+use Rattle.graph_terms.specs.Edges.{sources}
+use Rattle.graph_terms.specs.Reservations.{Acquires}
+use Rattle.graph_meaning.specs.Evaluation.{eval_end}
 use Rattle.realm_audit.specs.Lawful.{StandsEarlier, IsOpenAt}
 use Rattle.realm_audit.specs.declared.prefix.Prefix.{Prefix}
 use Rattle.realm_audit.specs.declared.sections.Sections.{Sections}

@@ -1,9 +1,9 @@
 -- Bytes as the text of a trace, and the first line with which no such text begins.
 use Rattle.std.specs.Prelude.{◌≡◌, ℕ, zero, suc, ◌<◌, ◌==◌, Bool, false, cond, List, [], ◌∷◌, ◌++◌, length, Option, Some, None, option_map, slice_get}
 use Rattle.std.specs.List.{list_any}
-use Rattle.graph_model.specs.graph.Graph.{GraphValue}
-use Rattle.graph_model.specs.graph.Fits.{IsGraph}
-use Rattle.graph_model.specs.graph.Spelling.{line_name}
+use Rattle.graph_terms.specs.Graph.{GraphValue}
+use Rattle.graph_terms.specs.Fits.{IsGraph}
+use Rattle.graph_terms.specs.Spelling.{line_name}
 use Rattle.realm_trace.specs.Text.{at_text, trace_text}
 use Rattle.realm_audit.specs.declared.reading.TraceRefusal.{TraceRefusal}
 use Rattle.realm_audit.specs.declared.reading.TraceRefusal.TheVariants.{Line, NoMemory}

@@ -1,15 +1,15 @@
 //! The reservations that lines take and free.
 
 ghost use Rattle.std.specs.Prelude.{◌≡◌, ℕ, ◌<◌, length, MatchOption};
-ghost use Rattle.graph_model.specs.graph.Graph.{locks, line_passes, is_shared};
-ghost use Rattle.graph_model.specs.meaning.Rules.{Acquires, Releases};
+ghost use Rattle.graph_terms.specs.Graph.{locks, line_passes, is_shared};
+ghost use Rattle.graph_terms.specs.Reservations.{Acquires, Releases};
 ghost use Rattle.realm_audit.specs.Lawful.{ends_of};
 ghost use Rattle.realm_audit.specs.Prefix.{Takes};
 
 use graph_model::graph::Graph;
-use graph_model::lists::EndList;
-use graph_model::outcome::End;
-use graph_model::verb::Verb;
+use graph_terms::lists::EndList;
+use graph_terms::outcome::End;
+use graph_terms::verb::Verb;
 
 /// The reservation that a line acquires, and whether shared.
 pub(crate) fn acquired(graph: &Graph, line: u32) -> Option<(u32, bool)>

@@ -2,8 +2,8 @@
 
 ghost use Rattle.std.specs.Prelude.{◌≡◌, ◌<◌, ◌↔◌, length, slice_get, IsTrue};
 
-use graph_model::lists::EndList;
-use graph_model::outcome::End;
+use graph_terms::lists::EndList;
+use graph_terms::outcome::End;
 
 /// Whether a line waits.
 pub(crate) fn waits(ends: &EndList, line: u32) -> bool

@@ -9,9 +9,9 @@ ghost use Rattle.realm_audit.specs.Prefix.{IsPrefix, IsLate};
 use crate::ends::waits;
 use crate::prefix::Prefix;
 use crate::refusal::AuditRefusal;
+use graph_meaning::laws::edges_between_lines;
 use graph_model::graph::Graph;
-use graph_model::laws::edges_between_lines;
-use graph_model::lists::{EndList, LineList};
+use graph_terms::lists::{EndList, LineList};
 
 /// Judges the line at a place, by what is kept of the items before it: the first of the faults
 /// there, if it has one.

@@ -1,17 +1,17 @@
 //! Audits of traces.
 
 ghost use Rattle.std.specs.Prelude.{◌≡◌, ◌≢◌, OnOk, IfErr};
-ghost use Rattle.graph_model.specs.meaning.Rules.{Accepted};
-ghost use Rattle.graph_model.specs.meaning.Trace.{IsLawful};
+ghost use Rattle.graph_meaning.specs.Rules.{Accepted};
+ghost use Rattle.graph_meaning.specs.Trace.{IsLawful};
 ghost use Rattle.realm_audit.specs.Lawful.{ends_of, IsRefusal, NamesLines};
 ghost use Rattle.realm_audit.specs.Reading.{AreLines};
 
 use crate::faults::judge_place;
 use crate::prefix::Prefix;
 use crate::refusal::AuditRefusal;
+use graph_meaning::laws::{edges_between_lines, order_lists_ended, sections_never_overlap};
 use graph_model::graph::Graph;
-use graph_model::laws::{edges_between_lines, order_lists_ended, sections_never_overlap};
-use graph_model::lists::{EndList, LineList};
+use graph_terms::lists::{EndList, LineList};
 use std::alloc::Global;
 
 /// Whether a list of lines is a lawful trace of an accepted graph: an order in which its lines may

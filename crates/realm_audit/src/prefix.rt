@@ -3,8 +3,8 @@
 use crate::ends::waits;
 use crate::sections::Sections;
 use graph_model::graph::Graph;
-use graph_model::lists::{EndList, LineList};
-use graph_model::outcome::End;
+use graph_terms::lists::{EndList, LineList};
+use graph_terms::outcome::End;
 use index_spaces::NoMemory;
 use index_spaces::room::filled;
 use std::alloc::Global;
@@ -20,7 +20,7 @@ pub(crate) struct Prefix {
 
 impl Prefix {
     ghost use Rattle.std.specs.Prelude.{◌≡◌, ◌≢◌, ℕ, ◌+◌, ◌<◌, ◌↔◌, false, List, length, slice_get, IsTrue, IfOk, MatchOption};
-    ghost use Rattle.graph_model.specs.meaning.Rules.{Accepted};
+    ghost use Rattle.graph_meaning.specs.Rules.{Accepted};
     ghost use Rattle.realm_audit.specs.Lawful.{ends_of, IsSoundBefore, IsLeast};
     ghost use Rattle.realm_audit.specs.Reading.{AreLines};
     ghost use Rattle.realm_audit.specs.Prefix.{IsPrefix, IsLeft, stands_in};

@@ -1,15 +1,15 @@
 //! Reading a trace from its text.
 
 ghost use Rattle.std.specs.Prelude.{◌≡◌, ℕ, List, ◌<◌, ◌^◌, ◌++◌, false, length, IfOk, IfErr, MatchOption};
-ghost use Rattle.graph_model.specs.graph.Spelling.{line_name};
+ghost use Rattle.graph_terms.specs.Spelling.{line_name};
 ghost use Rattle.realm_trace.specs.Text.{at_text, trace_text};
 ghost use Rattle.realm_audit.specs.declared.reading.TraceRefusal.{TraceRefusal};
 ghost use Rattle.realm_audit.specs.Reading.{AreLines, has_newline, IsFirstLine, BeginsNoItem, IsRefusal, TextTells};
 
-use graph_model::found::Found;
 use graph_model::graph::Graph;
-use graph_model::lists::LineList;
-use graph_model::name::Name;
+use graph_terms::found::Found;
+use graph_terms::lists::LineList;
+use graph_terms::name::Name;
 use index_spaces::NoMemory;
 use std::alloc::Global;
 

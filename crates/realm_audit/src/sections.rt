@@ -4,9 +4,9 @@ ghost use Rattle.std.specs.Prelude.{◌≡◌, ℕ, ◌+◌, ◌<◌, ◌==◌, 
 ghost use Rattle.realm_audit.specs.Prefix.{number_in};
 
 use crate::acquires::{acquired, released, taken};
+use graph_meaning::laws::order_lists_ended;
 use graph_model::graph::Graph;
-use graph_model::laws::order_lists_ended;
-use graph_model::lists::{EndList, LineList};
+use graph_terms::lists::{EndList, LineList};
 use index_spaces::NoMemory;
 use index_spaces::room::filled;
 use std::alloc::Global;
@@ -25,8 +25,9 @@ pub(crate) struct Sections {
 
 impl Sections {
     ghost use Rattle.std.specs.Prelude.{◌≡◌, ℕ, ◌+◌, ◌<◌, ◌↔◌, true, false, List, length, IsTrue, IfOk, MatchOption};
-    ghost use Rattle.graph_model.specs.graph.Graph.{locks, line_passes, is_shared};
-    ghost use Rattle.graph_model.specs.meaning.Rules.{Accepted, Acquires};
+    ghost use Rattle.graph_terms.specs.Graph.{locks, line_passes, is_shared};
+    ghost use Rattle.graph_meaning.specs.Rules.{Accepted};
+    ghost use Rattle.graph_terms.specs.Reservations.{Acquires};
     ghost use Rattle.realm_audit.specs.Lawful.{ends_of, IsSoundBefore, IsLeast};
     ghost use Rattle.realm_audit.specs.Reading.{AreLines};
     ghost use Rattle.realm_audit.specs.Prefix.{AreSectionsAt, AreCounted, OpensSection, IsOpenBeside, IsRival, stands_in};

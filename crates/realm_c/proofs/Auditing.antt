@@ -1,8 +1,8 @@
 -- What becomes of a trace, from its parts to the whole input.
 use Rattle.std.proofs.Common.{◌≡◌, ◌≢◌, ℕ, ◌+◌, ◌⊎◌, List, refl, inl, inr, sym, subst, ◌∙◌}
-use Rattle.graph_model.specs.graph.Graph.{GraphValue}
-use Rattle.graph_model.specs.meaning.Rules.{Accepted}
-use Rattle.graph_model.specs.meaning.Trace.{IsLawful}
+use Rattle.graph_terms.specs.Graph.{GraphValue}
+use Rattle.graph_meaning.specs.Rules.{Accepted}
+use Rattle.graph_meaning.specs.Trace.{IsLawful}
 use Rattle.graph_reader.specs.Laws.{OneReading}
 use Rattle.graph_reader.specs.Text.{GraphText}
 use Rattle.realm_audit.specs.Lawful.{IsRefusal, NamesLines}

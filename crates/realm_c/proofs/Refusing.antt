@@ -1,8 +1,8 @@
 -- How refusals of a text and of its graph go together.
 use Rattle.std.proofs.Common.{ℕ, List, subst}
-use Rattle.graph_model.specs.declared.graph.why.Why.{Why}
-use Rattle.graph_model.specs.graph.Graph.{GraphValue}
-use Rattle.graph_model.specs.meaning.Rules.{Accepted}
+use Rattle.graph_terms.specs.declared.why.Why.{Why}
+use Rattle.graph_terms.specs.Graph.{GraphValue}
+use Rattle.graph_meaning.specs.Rules.{Accepted}
 use Rattle.graph_reader.specs.FirstFault.{FirstFault}
 use Rattle.graph_reader.specs.Laws.{OneReading}
 use Rattle.graph_reader.specs.Text.{GraphText}

@@ -1,8 +1,8 @@
 -- What becomes of the text of a graph with that of a trace behind it.
 use Rattle.std.specs.Prelude.{◌≡◌, ◌≢◌, ℕ, ◌+◌, List}
-use Rattle.graph_model.specs.graph.Graph.{GraphValue}
-use Rattle.graph_model.specs.meaning.Rules.{Accepted}
-use Rattle.graph_model.specs.meaning.Trace.{IsLawful}
+use Rattle.graph_terms.specs.Graph.{GraphValue}
+use Rattle.graph_meaning.specs.Rules.{Accepted}
+use Rattle.graph_meaning.specs.Trace.{IsLawful}
 use Rattle.graph_reader.specs.FirstFault.{line_count}
 use Rattle.graph_reader.specs.Text.{GraphText}
 use Rattle.realm_audit.specs.Lawful.{IsRefusal, NamesLines}

@@ -1,7 +1,7 @@
 -- The numbers by which C is told of rules, reasons and faults, and their words.
 use Rattle.std.specs.Prelude.{ℕ, List, codes}
-use Rattle.graph_model.specs.declared.graph.why.Why.{Why}
-use Rattle.graph_model.specs.declared.graph.why.Why.TheVariants.{Header, Syntax, Name, Twice, Unknown, Kind, Number, Space, Outside, Arrivals, Limit, Missing, Rest}
+use Rattle.graph_terms.specs.declared.why.Why.{Why}
+use Rattle.graph_terms.specs.declared.why.Why.TheVariants.{Header, Syntax, Name, Twice, Unknown, Kind, Number, Space, Outside, Arrivals, Limit, Missing, Rest}
 use Rattle.race_check.specs.declared.checked.CheckRefusal.{CheckRefusal}
 use Rattle.race_check.specs.declared.checked.CheckRefusal.TheVariants as rule
 use Rattle.realm_audit.specs.declared.refusal.AuditRefusal.{AuditRefusal}

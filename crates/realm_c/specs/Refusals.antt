@@ -1,7 +1,7 @@
 -- Why a text is refused.
 use Rattle.std.specs.Prelude.{◌≢◌, ℕ, List}
-use Rattle.graph_model.specs.graph.Graph.{GraphValue}
-use Rattle.graph_model.specs.meaning.Rules.{Accepted}
+use Rattle.graph_terms.specs.Graph.{GraphValue}
+use Rattle.graph_meaning.specs.Rules.{Accepted}
 use Rattle.graph_reader.specs.Text.{GraphText}
 use Rattle.graph_reader.specs.FirstFault.{FirstFault}
 use Rattle.race_check.specs.Refusal.{IsRefusal, NamesLines}

@@ -1,6 +1,6 @@
 -- Runs whose lines the threads of a caller perform: what a handle holds, and what each call did.
 use Rattle.std.specs.Prelude.{◌≡◌, ℕ, Option, Some, None, max, cond, ◌==◌}
-use Rattle.graph_model.specs.graph.Graph.{GraphValue}
+use Rattle.graph_terms.specs.Graph.{GraphValue}
 use Rattle.run_core.specs.Core.{CoreValue, IsCore, slots_given}
 use Rattle.run_core.specs.Finishing.{NothingOut}
 use Rattle.run_core.specs.Steps.{Attempts, Issues}

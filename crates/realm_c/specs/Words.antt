@@ -1,11 +1,11 @@
 -- The words of reasons, rules and faults by their numbers.
 use Rattle.std.specs.Prelude.{◌≡◌, ◌≢◌, ℕ, ◌≤◌, ◌⊎◌, List, codes}
-use Rattle.graph_model.specs.declared.graph.why.Why.{Why}
+use Rattle.graph_terms.specs.declared.why.Why.{Why}
 use Rattle.race_check.specs.declared.checked.CheckRefusal.{CheckRefusal}
 use Rattle.race_check.specs.declared.checked.CheckRefusal.TheVariants as rule
 use Rattle.realm_audit.specs.declared.refusal.AuditRefusal.{AuditRefusal}
 use Rattle.realm_audit.specs.declared.refusal.AuditRefusal.TheVariants as fault
-use Rattle.graph_model.specs.graph.Spelling.{why_word}
+use Rattle.graph_terms.specs.Spelling.{why_word}
 use Rattle.realm_c.specs.Numbers.{why_number, rule_number, fault_number, rule_word, fault_word}
 
 -- the word of the reason with this number, of which 14 is that for the text of a trace

@@ -1,9 +1,9 @@
 //! Whether a trace is lawful.
 
 ghost use Rattle.std.specs.Prelude.{◌≡◌, ◌≢◌, ℕ, ◌+◌, ◌<◌, ◌≤◌, ◌^◌, ◌⊎◌, List, length};
-ghost use Rattle.graph_model.specs.graph.Graph.{GraphValue};
-ghost use Rattle.graph_model.specs.meaning.Rules.{Accepted};
-ghost use Rattle.graph_model.specs.meaning.Trace.{IsLawful};
+ghost use Rattle.graph_terms.specs.Graph.{GraphValue};
+ghost use Rattle.graph_meaning.specs.Rules.{Accepted};
+ghost use Rattle.graph_meaning.specs.Trace.{IsLawful};
 ghost use Rattle.graph_reader.specs.FirstFault.{line_count};
 ghost use Rattle.graph_reader.specs.Text.{GraphText};
 ghost use Rattle.realm_audit.specs.Parts.{graph_bytes, trace_bytes};
@@ -17,9 +17,9 @@ use crate::reading::{Refusal, read_checked};
 use crate::status::{DONE, TOO_LONG, UNLAWFUL, UNREAD};
 use crate::verdict::Verdict;
 use graph_model::graph::Graph;
-use graph_model::limits::MAX_TEXT;
-use graph_model::lists::LineList;
 use graph_reader::laws::bytes_have_one_reading;
+use graph_terms::limits::MAX_TEXT;
+use graph_terms::lists::LineList;
 use plain_eval::evaluation::eval;
 use race_check::checked::Checked;
 use realm_audit::reading::text_tells_traces_apart;

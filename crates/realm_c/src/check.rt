@@ -1,9 +1,9 @@
 //! The check of a graph.
 
 ghost use Rattle.std.specs.Prelude.{◌≡◌, ◌≢◌, ℕ, ◌<◌, ◌≤◌, ◌⊎◌, length};
-ghost use Rattle.graph_model.specs.graph.Graph.{GraphValue};
-ghost use Rattle.graph_model.specs.meaning.Need.{IsNeed};
-ghost use Rattle.graph_model.specs.meaning.Rules.{Accepted};
+ghost use Rattle.graph_terms.specs.Graph.{GraphValue};
+ghost use Rattle.graph_meaning.specs.Need.{IsNeed};
+ghost use Rattle.graph_meaning.specs.Rules.{Accepted};
 ghost use Rattle.graph_reader.specs.Text.{GraphText};
 ghost use Rattle.realm_c.specs.Numbers.{needing, nothing, verdict_of};
 ghost use Rattle.realm_c.specs.Refusals.{status_of, IsCheckRefusal};
@@ -12,7 +12,7 @@ ghost use Rattle.realm_c.specs.declared.reading.Refusal.{Refusal as TheRefusal};
 use crate::reading::read_checked;
 use crate::status::{DONE, TOO_LONG};
 use crate::verdict::Verdict;
-use graph_model::limits::{MAX_LINES, MAX_TEXT};
+use graph_terms::limits::{MAX_LINES, MAX_TEXT};
 use race_check::checked::Checked;
 use std::alloc::Global;
 

@@ -1,9 +1,9 @@
 //! The evaluation of a graph.
 
 ghost use Rattle.std.specs.Prelude.{◌≡◌, ◌≢◌, ◌<◌, ◌≤◌, ◌⊎◌, length, IfSome};
-ghost use Rattle.graph_model.specs.graph.Graph.{GraphValue};
-ghost use Rattle.graph_model.specs.meaning.Evaluation.{outcome, order};
-ghost use Rattle.graph_model.specs.meaning.Rules.{Accepted};
+ghost use Rattle.graph_terms.specs.Graph.{GraphValue};
+ghost use Rattle.graph_meaning.specs.Evaluation.{outcome, order};
+ghost use Rattle.graph_meaning.specs.Rules.{Accepted};
 ghost use Rattle.graph_reader.specs.Text.{GraphText};
 ghost use Rattle.graph_answers.specs.Answer.{EndsByPaths};
 ghost use Rattle.run_report.specs.Report.{evaluation_report};
@@ -14,10 +14,10 @@ ghost use Rattle.realm_c.specs.declared.reading.Refusal.{Refusal as TheRefusal};
 use crate::buffer::hand_out;
 use crate::reading::read_checked;
 use crate::status::{NO_MEMORY, TOO_LONG};
+use graph_meaning::laws::{cancelled_where_unbroken, waits_where_reached};
 use graph_model::graph::Graph;
-use graph_model::laws::{cancelled_where_unbroken, waits_where_reached};
-use graph_model::limits::MAX_TEXT;
-use graph_model::outcome::Outcome;
+use graph_terms::limits::MAX_TEXT;
+use graph_terms::outcome::Outcome;
 use plain_eval::evaluation::eval;
 use race_check::checked::Checked;
 use realm_io::TextSink;

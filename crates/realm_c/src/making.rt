@@ -9,7 +9,7 @@ use crate::buffer::hand_out;
 use crate::status::{NO_MEMORY, USAGE};
 use crate::upgrade::graph_text;
 use graph_gen::make::make;
-use graph_model::limits::MAX_LINES;
+use graph_terms::limits::MAX_LINES;
 use std::alloc::Global;
 
 /// Puts the text of the generated graph of a seed and a size into `out` with its length beside it: 0; 2 exactly where the

@@ -1,8 +1,8 @@
 //! Plans in virtual time.
 
 ghost use Rattle.std.specs.Prelude.{◌≡◌, ◌≢◌, ℕ, ◌<◌, ◌≤◌, ◌⊎◌, List, length, true, false, IfSome};
-ghost use Rattle.graph_model.specs.graph.Graph.{GraphValue};
-ghost use Rattle.graph_model.specs.meaning.Rules.{Accepted};
+ghost use Rattle.graph_terms.specs.Graph.{GraphValue};
+ghost use Rattle.graph_meaning.specs.Rules.{Accepted};
 ghost use Rattle.graph_reader.specs.Text.{GraphText};
 ghost use Rattle.graph_answers.specs.Answer.{IsTimelineText};
 ghost use Rattle.realm_c.specs.Buffers.{Holds, IsCut};
@@ -12,7 +12,7 @@ ghost use Rattle.realm_c.specs.declared.reading.Refusal.{Refusal as TheRefusal};
 use crate::buffer::hand_out;
 use crate::reading::read_checked;
 use crate::status::{NO_MEMORY, TOO_LONG, USAGE};
-use graph_model::limits::MAX_TEXT;
+use graph_terms::limits::MAX_TEXT;
 use race_check::checked::Checked;
 use realm_io::TextSink;
 use realm_timeline::text::put_timeline;

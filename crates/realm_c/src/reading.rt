@@ -1,17 +1,17 @@
 //! Reading a graph from its text, and checking it.
 
 ghost use Rattle.std.specs.Prelude.{◌≡◌, ◌≢◌, IfOk, IfErr};
-ghost use Rattle.graph_model.specs.graph.Graph.{GraphValue};
-ghost use Rattle.graph_model.specs.meaning.Need.{IsNeed};
-ghost use Rattle.graph_model.specs.meaning.Rules.{Accepted};
+ghost use Rattle.graph_terms.specs.Graph.{GraphValue};
+ghost use Rattle.graph_meaning.specs.Need.{IsNeed};
+ghost use Rattle.graph_meaning.specs.Rules.{Accepted};
 ghost use Rattle.graph_reader.specs.Text.{GraphText};
 ghost use Rattle.realm_c.specs.Refusals.{status_of, IsReadRefusal, IsRuleRefusal, IsCheckRefusal};
 
 use crate::status::{NO_MEMORY, UNFIT, UNREAD};
 use graph_model::graph::Graph;
-use graph_model::why::Why;
 use graph_reader::laws::bytes_have_one_reading;
 use graph_reader::{ReadRefusal, read_graph};
+use graph_terms::why::Why;
 use race_check::check;
 use race_check::checked::{CheckRefusal, Checked};
 use std::alloc::Global;

@@ -2,9 +2,9 @@
 //! beside the others.
 
 ghost use Rattle.std.specs.Prelude.{◌≡◌, ◌≢◌, ℕ, ◌<◌, ◌≤◌, ◌⊎◌, None, IfSome, IfNone, [], length};
-ghost use Rattle.graph_model.specs.graph.Graph.{GraphValue};
-ghost use Rattle.graph_model.specs.meaning.Need.{IsNeed};
-ghost use Rattle.graph_model.specs.meaning.Rules.{Accepted};
+ghost use Rattle.graph_terms.specs.Graph.{GraphValue};
+ghost use Rattle.graph_meaning.specs.Need.{IsNeed};
+ghost use Rattle.graph_meaning.specs.Rules.{Accepted};
 ghost use Rattle.gen_events.specs.declared.limits.TheConstants.{MAX_SLOTS};
 ghost use Rattle.graph_reader.specs.Text.{GraphText};
 ghost use Rattle.run_report.specs.Report.{evaluation_report};
@@ -28,7 +28,7 @@ use crate::inside::{
 use crate::reading::read_checked;
 use crate::status::{DONE, NO_MEMORY, SLOTS, TOO_LONG, USAGE};
 use crate::verdict::Verdict;
-use graph_model::limits::{MAX_LINES, MAX_TEXT};
+use graph_terms::limits::{MAX_LINES, MAX_TEXT};
 use race_check::checked::Checked;
 use run_core::MAX_SLOTS;
 use std::alloc::Global;

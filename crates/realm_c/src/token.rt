@@ -1,10 +1,10 @@
 //! What a handle of a run or of a line's work holds.
 
 ghost use Rattle.std.specs.Prelude.{◌≡◌};
-ghost use Rattle.graph_model.specs.meaning.Evaluation.{outcome};
+ghost use Rattle.graph_meaning.specs.Evaluation.{outcome};
 
 use graph_model::graph::Graph;
-use graph_model::outcome::Outcome;
+use graph_terms::outcome::Outcome;
 use run_core::{Core, Finished, Work};
 
 /// What a handle holds. `Empty` stands for a moment alone, while the value moves.

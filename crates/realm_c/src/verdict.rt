@@ -4,7 +4,7 @@ ghost use Rattle.std.specs.Prelude.{◌≡◌};
 ghost use Rattle.realm_c.specs.Numbers.{why_number, rule_number, fault_number, fault_place, fault_line, first_line, second_line, nothing, verdict_of, needing, no_trace, faulty};
 
 use crate::reading::Refusal;
-use graph_model::why::Why;
+use graph_terms::why::Why;
 use race_check::checked::CheckRefusal;
 use realm_audit::AuditRefusal;
 

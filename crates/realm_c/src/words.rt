@@ -7,7 +7,7 @@ ghost use Rattle.realm_c.specs.Words.{IsWord, HasWord, IsReasonWord, IsRuleWord,
 
 use crate::buffer::hand_out;
 use crate::status::USAGE;
-use graph_model::why::Why;
+use graph_terms::why::Why;
 
 // The number of the word for the text of a trace.
 const TRACE: u32 = 14;

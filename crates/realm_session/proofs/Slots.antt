@@ -11,8 +11,8 @@ use Rattle.gen_events.specs.declared.handle.Shape.{Shape}
 use Rattle.gen_events.specs.declared.view.View.{View}
 use Rattle.gen_events.specs.Seats.{Knows}
 use Rattle.gen_events.specs.Views.{GoesRound, AreTaken}
-use Rattle.graph_model.specs.declared.meaning.outcome.End.{End}
-use Rattle.graph_model.specs.declared.meaning.outcome.End.TheVariants.{Done, Faulted, Cancelled, Waiting}
+use Rattle.graph_terms.specs.declared.outcome.End.{End}
+use Rattle.graph_terms.specs.declared.outcome.End.TheVariants.{Done, Faulted, Cancelled, Waiting}
 use Rattle.realm_session.specs.declared.line.Line.{Line}
 use Rattle.realm_session.specs.Recorded.{ends_for, handle_in, waiting_in, waits}
 

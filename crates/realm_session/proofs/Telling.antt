@@ -10,8 +10,8 @@ use Rattle.gen_events.specs.declared.tokens.Seat.{Seat}
 use Rattle.gen_events.specs.EventMap.{answer_of}
 use Rattle.gen_events.specs.Seats.{Keeps}
 use Rattle.gen_events.specs.Views.{lists}
-use Rattle.graph_model.specs.declared.meaning.outcome.End.{End}
-use Rattle.graph_model.specs.declared.meaning.outcome.End.TheVariants.{Done, Faulted, Cancelled, Waiting}
+use Rattle.graph_terms.specs.declared.outcome.End.{End}
+use Rattle.graph_terms.specs.declared.outcome.End.TheVariants.{Done, Faulted, Cancelled, Waiting}
 use Rattle.realm_session.specs.declared.line.Line.{Line}
 use Rattle.realm_session.specs.Recorded.{answer_for, ends_for}
 use Rattle.realm_session.specs.Sessions.{Tells}

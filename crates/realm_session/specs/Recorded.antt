@@ -7,8 +7,8 @@ use Rattle.gen_events.specs.declared.handle.Answer.TheVariants.{Pending, Trigger
 use Rattle.gen_events.specs.declared.handle.Fate.{Fate}
 use Rattle.gen_events.specs.declared.handle.Fate.TheVariants.{Ok, Poison}
 use Rattle.gen_events.specs.declared.limits.TheConstants.{MAX_SLOTS}
-use Rattle.graph_model.specs.declared.meaning.outcome.End.{End}
-use Rattle.graph_model.specs.declared.meaning.outcome.End.TheVariants.{Done, Faulted, Cancelled, Waiting}
+use Rattle.graph_terms.specs.declared.outcome.End.{End}
+use Rattle.graph_terms.specs.declared.outcome.End.TheVariants.{Done, Faulted, Cancelled, Waiting}
 use Rattle.realm_session.specs.declared.limits.TheConstants.{MAX_RECORDED}
 use Rattle.realm_session.specs.declared.line.Line.{Line}
 

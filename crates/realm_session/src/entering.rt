@@ -18,8 +18,8 @@ use crate::refusal::RecordRefusal;
 use crate::room::{push_within, reserve_one, with_room};
 use crate::session::Session;
 use gen_events::{Fate, Handle, Pending, Seat};
-use graph_model::lists::{EndList, ItemList};
-use graph_model::outcome::End;
+use graph_terms::lists::{EndList, ItemList};
+use graph_terms::outcome::End;
 use std::alloc::Global;
 
 /// How the event of a line ends: not at all where the line waits.

@@ -1,7 +1,7 @@
 //! What is recorded of a line.
 
 use gen_events::Handle;
-use graph_model::outcome::End;
+use graph_terms::outcome::End;
 
 /// The event of a line, and how the line ended.
 #[derive(Clone, Copy, Debug, PartialEq, Eq)]

@@ -5,7 +5,7 @@ ghost use Rattle.realm_session.specs.Recorded.{IsRecord, lines_in, waiting_in};
 
 use crate::line::Line;
 use gen_events::{Handle, Maker, Seat};
-use graph_model::lists::ItemList;
+use graph_terms::lists::ItemList;
 
 /// The right to record, and what was recorded. A session has one.
 #[derive(Drop)]

@@ -1,16 +1,15 @@
 -- Which acquires, once they hold, keep a line from starting: those that it excludes.
-use Rattle.std.proofs.Common.{◌≡◌, ℕ, ◌+◌, ◌*◌, Bool, true, false, not, ◌&&◌, ◌||◌, ◌⊎◌, inl, inr, List, [], ◌∷◌, refl, sym, ◌∙◌, ap, subst, arith}
+use Rattle.std.proofs.Common.{◌≡◌, ℕ, ◌+◌, ◌*◌, Bool, true, false, not, ◌&&◌, ◌||◌, ◌⊎◌, inl, inr, List, [], ◌∷◌, refl, sym, ◌∙◌, ap, subst, arith, Equal}
 use Rattle.std.specs.Prelude.{◌==◌, ◌≢◌, Option, Some, None}
 use Rattle.std.specs.Option.{option_map_or}
 use Rattle.std.specs.Cmp.{nat_cmp_is}
 use Rattle.std.specs.Ordering.{is_eq, nat_cmp}
-use Rattle.std.proofs.Common.{Equal}
 use Rattle.std.proofs.lemmas.Bool.{true≢false, cases_eq, eq-eqb, ne_eqb, eqb-true, or_cases, or_left, or_right}
-use Rattle.graph_model.specs.declared.graph.verb.Verb.{Verb}
-use Rattle.graph_model.specs.declared.graph.verb.Verb.TheVariants.{Acquire}
-use Rattle.graph_model.specs.graph.Graph.{GraphValue, verb_at, line_passes, is_acquire_of, is_shared}
-use Rattle.graph_model.specs.meaning.Rules.{Acquires, both_shared}
-use Rattle.graph_model.proofs.VerbFacts.{acquire_is}
+use Rattle.graph_terms.specs.declared.verb.Verb.{Verb}
+use Rattle.graph_terms.specs.declared.verb.Verb.TheVariants.{Acquire}
+use Rattle.graph_terms.specs.Graph.{GraphValue, verb_at, line_passes, is_acquire_of, is_shared}
+use Rattle.graph_terms.specs.Reservations.{Acquires, both_shared}
+use Rattle.graph_terms.proofs.VerbFacts.{acquire_is}
 use Rattle.realm_timeline.specs.Plan.{Exclude}
 use Rattle.realm_timeline.specs.Queue.{QueueValue, queue_at, has_line, ChangesQueue, WithHolder, WithoutHolder}
 use Rattle.realm_timeline.specs.State.{exclusive_queue, shared_queue, verb_queue, queue_of, verb_bars, bars}

@@ -1,20 +1,17 @@
 -- The costliest chains, line by line, and the critical chain made of them.
-use Rattle.std.proofs.Common.{◌≡◌, ℕ, zero, suc, ◌+◌, ◌*◌, ◌<◌, ◌≤◌, inl, inr, List, [], ◌∷◌, ◌++◌, length, take, refl, sym, ◌∙◌, ap, subst, append_assoc, length-append, arith}
-use Rattle.std.specs.Prelude.{◌==◌, Contains, Option, Some, None, MatchOption, slice_index}
-use Rattle.std.proofs.Common.{replicate}
-use Rattle.std.proofs.lemmas.List.{length-replicate, reverse-append}
-use Rattle.std.specs.Prelude.{reverse}
+use Rattle.std.proofs.Common.{◌≡◌, ℕ, zero, suc, ◌+◌, ◌*◌, ◌<◌, ◌≤◌, inl, inr, List, [], ◌∷◌, ◌++◌, length, take, refl, sym, ◌∙◌, ap, subst, append_assoc, length-append, arith, replicate}
+use Rattle.std.specs.Prelude.{◌==◌, Contains, Option, Some, None, MatchOption, slice_index, reverse}
+use Rattle.std.proofs.lemmas.List.{length-replicate, reverse-append, take_more, take_all, get_or-set_same, get_or-set_other, length-set, get_or_past}
 use Rattle.realm_timeline.proofs.Positions.{contains_take, take_contains, place, place_is, place_before, listed_or_not}
 use Rattle.realm_timeline.proofs.LoopFacts.{no_edge}
 use Rattle.realm_timeline.proofs.StartFacts.{replicate_at}
 use Rattle.std.specs.List.{slice_index_or}
 use Rattle.std.proofs.lemmas.Bool.{cases_lt, cases_eq, eq-eqb, eqb-true}
-use Rattle.std.proofs.lemmas.List.{take_more, take_all, get_or-set_same, get_or-set_other, length-set, get_or_past}
 use Rattle.std.proofs.lemmas.List.Elements.{Contains-push, Contains-push_cases, Contains-append_left, Contains-get_or}
 use Rattle.std.proofs.lemmas.Option.{none-some}
-use Rattle.graph_model.specs.declared.graph.verb.Edge.{Edge}
-use Rattle.graph_model.specs.graph.Graph.{GraphValue}
-use Rattle.graph_model.specs.graph.Edges.{edges, edges_into}
+use Rattle.graph_terms.specs.declared.verb.Edge.{Edge}
+use Rattle.graph_terms.specs.Graph.{GraphValue}
+use Rattle.graph_terms.specs.Edges.{edges, edges_into}
 use Rattle.basics.proofs.ListFacts.{contains_none, filter_contains, contains_filter}
 use Rattle.realm_timeline.specs.Plan.{Planned, cost}
 use Rattle.realm_timeline.specs.Chains.{HasEdge, IsChain, chain_cost, IsCritical}

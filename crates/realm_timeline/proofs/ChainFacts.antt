@@ -1,7 +1,7 @@
 -- What holds of chains, and that the critical chain is one.
 use Rattle.std.proofs.Common.{◌≡◌, ℕ, zero, suc, ◌+◌, ◌<◌, ◌≤◌, ◌⊎◌, inl, inr, List, [], ◌∷◌, ◌++◌, length, refl, sym, ◌∙◌, ap, subst, append_assoc, length-append, arith}
 use Rattle.std.proofs.lemmas.List.Sums.{sum_by-cons, sum_by-append}
-use Rattle.graph_model.specs.graph.Graph.{GraphValue}
+use Rattle.graph_terms.specs.Graph.{GraphValue}
 use Rattle.realm_timeline.specs.Plan.{cost, Planned}
 use Rattle.realm_timeline.specs.Chains.{HasEdge, IsChain, chain_cost, IsCritical}
 

@@ -4,11 +4,11 @@ use Rattle.std.specs.Prelude.{◌↔◌, ◌==◌, ◌&&◌, Contains, Option, S
 use Rattle.std.specs.List.{slice_index_or}
 use Rattle.std.proofs.lemmas.Bool.{true≢false, cases_lt, cases_eq, eq-eqb, eqb-true, ne_eqb, and_parts, and_from, or_cases, or_left, or_right, not_from_false, not-true, false_from_ne_true}
 use Rattle.std.proofs.lemmas.List.{get_or_past, get_or-set_same, get_or-set_other, length-set}
-use Rattle.graph_model.specs.declared.graph.verb.Edge.{Edge}
-use Rattle.graph_model.specs.graph.Graph.{GraphValue, never_comes}
-use Rattle.graph_model.specs.graph.Edges.{edges}
-use Rattle.graph_model.specs.meaning.Path.{HasPath}
-use Rattle.graph_model.proofs.PathLaws.{back_path}
+use Rattle.graph_terms.specs.declared.verb.Edge.{Edge}
+use Rattle.graph_terms.specs.Graph.{GraphValue, never_comes}
+use Rattle.graph_terms.specs.Edges.{edges}
+use Rattle.graph_meaning.specs.Path.{HasPath}
+use Rattle.graph_meaning.proofs.PathLaws.{back_path}
 use Rattle.realm_timeline.specs.declared.slot.Slot.{Slot}
 use Rattle.realm_timeline.specs.Plan.{slot_at, HasSlot}
 use Rattle.realm_timeline.specs.Queue.{QueueValue, queue_at, has_line}

@@ -4,12 +4,13 @@ use Rattle.std.specs.Prelude.{◌==◌, ◌↔◌, ◌&&◌, Option, Some, None,
 use Rattle.std.proofs.lemmas.Bool.{true≢false, cases_eq, eq-eqb, eqb-true, ne_eqb, and_parts, and_from, and_left, not_from_false, not-true}
 use Rattle.std.proofs.lemmas.List.{get_or-set_same, get_or-set_other, length-set}
 use Rattle.std.proofs.lemmas.Option.{none-some, same_Some}
-use Rattle.graph_model.specs.declared.graph.verb.Edge.{Edge}
-use Rattle.graph_model.specs.graph.Graph.{GraphValue}
-use Rattle.graph_model.specs.graph.Edges.{edges, edges_out_of}
-use Rattle.graph_model.specs.meaning.Rules.{Accepted, Releases}
-use Rattle.graph_model.specs.graph.Fits.{IsGraph}
-use Rattle.graph_model.proofs.VerbFacts.{release_one}
+use Rattle.graph_terms.specs.declared.verb.Edge.{Edge}
+use Rattle.graph_terms.specs.Graph.{GraphValue}
+use Rattle.graph_terms.specs.Edges.{edges, edges_out_of}
+use Rattle.graph_meaning.specs.Rules.{Accepted}
+use Rattle.graph_terms.specs.Reservations.{Releases}
+use Rattle.graph_terms.specs.Fits.{IsGraph}
+use Rattle.graph_terms.proofs.VerbFacts.{release_one}
 use Rattle.realm_timeline.specs.declared.slot.Slot.{Slot}
 use Rattle.realm_timeline.specs.Plan.{HasSlot}
 use Rattle.realm_timeline.specs.Queue.{QueueValue, queue_at, has_line}

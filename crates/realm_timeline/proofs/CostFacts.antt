@@ -4,16 +4,16 @@ use Rattle.std.specs.Prelude.{Some, None, option_map, slice_get, sum_by}
 use Rattle.std.proofs.lemmas.List.{take_more, take_all}
 use Rattle.std.proofs.lemmas.List.Sums.{sum_by_push}
 use Rattle.std.proofs.lemmas.Option.{none-some, slice_get_within, slice_get_cases, get_or_from_slice_get}
-use Rattle.graph_model.specs.declared.graph.verb.Access.{Access}
-use Rattle.graph_model.specs.declared.graph.verb.Line.{Line}
-use Rattle.graph_model.specs.declared.graph.verb.Verb.{Verb}
-use Rattle.graph_model.specs.declared.graph.verb.Verb.TheVariants.{Release}
-use Rattle.graph_model.specs.graph.Graph.{GraphValue, verb_at, is_acquire_of}
-use Rattle.graph_model.specs.graph.Fits.{IsGraph}
-use Rattle.graph_model.specs.graph.Access.{accesses}
-use Rattle.graph_model.specs.meaning.Rules.{Releases}
-use Rattle.graph_model.proofs.VerbFacts.{is_release_from, passes_below}
-use Rattle.graph_model.proofs.ReleaseFacts.{release_names}
+use Rattle.graph_terms.specs.declared.verb.Access.{Access}
+use Rattle.graph_terms.specs.declared.verb.Line.{Line}
+use Rattle.graph_terms.specs.declared.verb.Verb.{Verb}
+use Rattle.graph_terms.specs.declared.verb.Verb.TheVariants.{Release}
+use Rattle.graph_terms.specs.Graph.{GraphValue, verb_at, is_acquire_of}
+use Rattle.graph_terms.specs.Fits.{IsGraph}
+use Rattle.graph_terms.specs.Access.{accesses}
+use Rattle.graph_terms.specs.Reservations.{Releases}
+use Rattle.graph_terms.proofs.VerbFacts.{is_release_from, passes_below}
+use Rattle.graph_terms.proofs.ReleaseFacts.{release_names}
 use Rattle.realm_timeline.specs.Plan.{access_size, cost}
 
 -- the cost after k accesses

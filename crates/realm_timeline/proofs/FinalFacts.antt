@@ -3,19 +3,19 @@ use Rattle.std.proofs.Common.{◌≡◌, ℕ, zero, suc, ◌+◌, ◌<◌, ◌�
 use Rattle.std.specs.Prelude.{Option, Some, None}
 use Rattle.std.proofs.lemmas.Bool.{true≢false, cases_Bool, cases_order}
 use Rattle.std.proofs.lemmas.Option.{none-some}
-use Rattle.graph_model.specs.graph.Graph.{GraphValue, never_comes, locks}
-use Rattle.graph_model.specs.graph.Edges.{edges}
-use Rattle.graph_model.specs.meaning.Path.{HasPath, Reached}
-use Rattle.graph_model.specs.meaning.Rules.{Accepted, Acquires, Releases}
-use Rattle.graph_model.specs.graph.Fits.{IsGraph}
-use Rattle.graph_model.proofs.ReadyLine.{IsReadyLine, ready_or_never}
-use Rattle.graph_model.proofs.GraphFacts.{edges_in_range}
-use Rattle.graph_model.proofs.EdgeFacts.{never_with_path}
-use Rattle.graph_model.proofs.ReleaseFacts.{one_release, acquired_lock_known}
-use Rattle.graph_model.proofs.VerbFacts.{passes_below, acquire_is, release_is}
+use Rattle.graph_terms.specs.Graph.{GraphValue, never_comes, locks, line_passes, is_shared, is_release_of, never_comes_as}
+use Rattle.graph_terms.specs.Edges.{edges}
+use Rattle.graph_meaning.specs.Path.{HasPath, Reached}
+use Rattle.graph_meaning.specs.Rules.{Accepted}
+use Rattle.graph_terms.specs.Reservations.{Acquires, Releases}
+use Rattle.graph_terms.specs.Fits.{IsGraph}
+use Rattle.graph_meaning.proofs.ReadyLine.{IsReadyLine, ready_or_never}
+use Rattle.graph_terms.proofs.GraphFacts.{edges_in_range}
+use Rattle.graph_meaning.proofs.PathLaws.{never_with_path}
+use Rattle.graph_terms.proofs.ReleaseFacts.{one_release, acquired_lock_known}
+use Rattle.graph_terms.proofs.VerbFacts.{passes_below, acquire_is, release_is}
 use Rattle.std.specs.Option.{option_map_or}
-use Rattle.graph_model.specs.graph.Graph.{line_passes, is_shared, is_release_of, never_comes_as}
-use Rattle.graph_model.specs.declared.graph.verb.Verb.TheVariants.{Acquire, Release}
+use Rattle.graph_terms.specs.declared.verb.Verb.TheVariants.{Acquire, Release}
 use Rattle.realm_timeline.specs.declared.slot.Slot.{Slot}
 use Rattle.realm_timeline.specs.Plan.{Planned, slot_at, HasSlot, IsPlan, FinishedBy, ReleasedBy, Exclude, IsMoment, IsReadyAt, IsFreeFor, MayStart, StartsAt, IsGreedy}
 use Rattle.realm_timeline.specs.Queue.{queue_at, AllHeldOrEmpty}

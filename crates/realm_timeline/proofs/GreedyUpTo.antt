@@ -4,10 +4,10 @@ use Rattle.std.specs.Prelude.{Contains, Option, Some, slice_set}
 use Rattle.std.proofs.lemmas.Bool.{cases_lt, cases_eq}
 use Rattle.std.proofs.lemmas.List.{length-set}
 use Rattle.std.proofs.lemmas.Option.{same_Some}
-use Rattle.graph_model.specs.declared.graph.verb.Edge.{Edge}
-use Rattle.graph_model.specs.graph.Graph.{GraphValue}
-use Rattle.graph_model.specs.graph.Edges.{edges}
-use Rattle.graph_model.proofs.VerbFacts.{both_shared_swap}
+use Rattle.graph_terms.specs.declared.verb.Edge.{Edge}
+use Rattle.graph_terms.specs.Graph.{GraphValue}
+use Rattle.graph_terms.specs.Edges.{edges}
+use Rattle.graph_terms.proofs.VerbFacts.{both_shared_swap}
 use Rattle.realm_timeline.specs.declared.slot.Slot.{Slot}
 use Rattle.realm_timeline.specs.Plan.{cost, Planned, HasSlot, IsPartialPlan, FinishedBy, ReleasedBy, Exclude, IsValid, IsMoment, IsReadyAt, IsFreeFor, MayStart}
 use Rattle.realm_timeline.specs.State.{IsGreedyUpTo}

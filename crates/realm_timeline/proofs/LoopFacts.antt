@@ -4,9 +4,9 @@ use Rattle.std.specs.Prelude.{Option, Some, None, slice_index}
 use Rattle.std.specs.List.{slice_index_or}
 use Rattle.std.proofs.lemmas.List.{drop_all}
 use Rattle.std.proofs.lemmas.Option.{none-some}
-use Rattle.graph_model.specs.declared.graph.verb.Edge.{Edge}
-use Rattle.graph_model.specs.declared.graph.verb.EdgeKind.TheVariants.{Passes as KindPasses}
-use Rattle.graph_model.specs.graph.Graph.{GraphValue}
+use Rattle.graph_terms.specs.declared.verb.Edge.{Edge}
+use Rattle.graph_terms.specs.declared.verb.EdgeKind.TheVariants.{Passes as KindPasses}
+use Rattle.graph_terms.specs.Graph.{GraphValue}
 use Rattle.realm_timeline.specs.State.{State, runs_at, IsConsistent}
 use Rattle.realm_timeline.specs.Steps.{CountsDown}
 use Rattle.realm_timeline.proofs.SlotFacts.{slot_below}

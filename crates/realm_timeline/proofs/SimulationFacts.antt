@@ -4,14 +4,14 @@ use Rattle.std.specs.Prelude.{◌==◌, ◌&&◌, is_none, Contains, Option, Som
 use Rattle.std.proofs.lemmas.Bool.{true≢false, cases_lt, cases_eq, cases_Bool, false_from_ne_true, or_right}
 use Rattle.std.proofs.lemmas.List.{get_or-set_same, get_or-set_other, length-set}
 use Rattle.std.proofs.lemmas.Option.{none-some, same_Some}
-use Rattle.graph_model.specs.declared.graph.verb.Edge.{Edge}
-use Rattle.graph_model.specs.graph.Graph.{GraphValue, never_comes}
-use Rattle.graph_model.specs.graph.Edges.{edges}
-use Rattle.graph_model.specs.meaning.Path.{Path, last, first, Reached}
-use Rattle.graph_model.specs.meaning.Rules.{Accepted}
-use Rattle.graph_model.specs.graph.Fits.{IsGraph}
+use Rattle.graph_terms.specs.declared.verb.Edge.{Edge}
+use Rattle.graph_terms.specs.Graph.{GraphValue, never_comes}
+use Rattle.graph_terms.specs.Edges.{edges}
+use Rattle.graph_meaning.specs.Path.{Path, last, first, Reached}
+use Rattle.graph_meaning.specs.Rules.{Accepted}
+use Rattle.graph_terms.specs.Fits.{IsGraph}
 use Rattle.basics.proofs.ListFacts.{count_below, fewer_below}
-use Rattle.graph_model.proofs.ReleaseFacts.{one_release}
+use Rattle.graph_terms.proofs.ReleaseFacts.{one_release}
 use Rattle.realm_timeline.specs.declared.slot.Slot.{Slot}
 use Rattle.realm_timeline.specs.Plan.{cost, Planned, slot_at, HasSlot, FinishedBy, ReleasedBy, Exclude, IsReadyAt, MayStart, StartsAt}
 use Rattle.realm_timeline.specs.Queue.{queue_at, has_line, IsUnheld, AllHeldOrEmpty, IsLowestPlace}

@@ -4,12 +4,12 @@ use Rattle.std.specs.Prelude.{max, Option, Some, None}
 use Rattle.std.proofs.lemmas.Bool.{cases_lt}
 use Rattle.std.proofs.lemmas.Option.{none-some, same_Some}
 use Rattle.std.proofs.lemmas.List.Sums.{sum_by-cons}
-use Rattle.graph_model.specs.graph.Graph.{GraphValue}
-use Rattle.graph_model.specs.meaning.Path.{HasPath}
-use Rattle.graph_model.specs.meaning.Rules.{Accepted}
-use Rattle.graph_model.specs.graph.Fits.{IsGraph}
-use Rattle.graph_model.proofs.PathLaws.{back_path}
-use Rattle.graph_model.proofs.ReleaseFacts.{one_release}
+use Rattle.graph_terms.specs.Graph.{GraphValue}
+use Rattle.graph_meaning.specs.Path.{HasPath}
+use Rattle.graph_meaning.specs.Rules.{Accepted}
+use Rattle.graph_terms.specs.Fits.{IsGraph}
+use Rattle.graph_meaning.proofs.PathLaws.{back_path}
+use Rattle.graph_terms.proofs.ReleaseFacts.{one_release}
 use Rattle.realm_timeline.specs.declared.slot.Slot.{Slot}
 use Rattle.realm_timeline.specs.Plan.{cost, Planned, HasSlot, IsPartialPlan, IsPlan, finish_or_0, plan_length, FinishedBy, IsValid, IsReadyAt}
 use Rattle.realm_timeline.specs.Chains.{IsChain, chain_cost}

@@ -6,13 +6,13 @@ use Rattle.std.proofs.lemmas.Bool.{true≢false, cases_lt, cases_eq, eq-eqb, ne_
 use Rattle.std.proofs.lemmas.List.{get_or_past, length-replicate}
 use Rattle.std.proofs.lemmas.List.Sums.{length-filter}
 use Rattle.std.proofs.lemmas.Option.{none-some}
-use Rattle.graph_model.specs.declared.graph.verb.Edge.{Edge}
-use Rattle.graph_model.specs.declared.graph.verb.EdgeKind.TheVariants as kind
-use Rattle.graph_model.specs.graph.Graph.{GraphValue, locks}
-use Rattle.graph_model.specs.graph.Edges.{edge, edges, edges_into}
-use Rattle.graph_model.specs.graph.Fits.{IsGraph}
+use Rattle.graph_terms.specs.declared.verb.Edge.{Edge}
+use Rattle.graph_terms.specs.declared.verb.EdgeKind.TheVariants as kind
+use Rattle.graph_terms.specs.Graph.{GraphValue, locks}
+use Rattle.graph_terms.specs.Edges.{edge, edges, edges_into}
+use Rattle.graph_terms.specs.Fits.{IsGraph}
 use Rattle.basics.proofs.ListFacts.{count_below-max, contains_none}
-use Rattle.graph_model.proofs.GraphFacts.{edges_in_range}
+use Rattle.graph_terms.proofs.GraphFacts.{edges_in_range}
 use Rattle.realm_timeline.specs.declared.slot.Slot.{Slot}
 use Rattle.realm_timeline.specs.Plan.{slot_at, HasSlot}
 use Rattle.realm_timeline.specs.Queue.{QueueValue, queue_at, no_queue, has_line}

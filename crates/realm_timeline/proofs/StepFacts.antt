@@ -3,8 +3,8 @@ use Rattle.std.proofs.Common.{◌≡◌, ℕ, zero, suc, ◌+◌, ◌<◌, ◌�
 use Rattle.std.specs.Prelude.{Option, Some, None, is_some, slice_set}
 use Rattle.std.specs.List.{slice_index_or}
 use Rattle.std.proofs.lemmas.Bool.{true≢false, cases_lt}
-use Rattle.graph_model.specs.graph.Graph.{GraphValue}
-use Rattle.graph_model.specs.meaning.Rules.{Releases}
+use Rattle.graph_terms.specs.Graph.{GraphValue}
+use Rattle.graph_terms.specs.Reservations.{Releases}
 use Rattle.realm_timeline.specs.Plan.{cost}
 use Rattle.realm_timeline.specs.Queue.{QueueValue, ChangesQueue, has_line, queue_at, WithoutLine}
 use Rattle.realm_timeline.specs.State.{State, runs_at}

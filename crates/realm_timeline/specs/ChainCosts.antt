@@ -1,9 +1,9 @@
 -- The costliest chain up to each line, as tables that are filled in the order of the lines.
 use Rattle.std.specs.Prelude.{◌≡◌, ℕ, ◌+◌, ◌*◌, ◌<◌, ◌≤◌, ◌⊎◌, List, [], ◌∷◌, ◌++◌, length, take, Contains, Option, Some, None, slice_index, slice_set, MatchOption}
 use Rattle.std.specs.List.{slice_index_or}
-use Rattle.graph_model.specs.declared.graph.verb.Edge.{Edge}
-use Rattle.graph_model.specs.graph.Graph.{GraphValue}
-use Rattle.graph_model.specs.graph.Edges.{edges_into}
+use Rattle.graph_terms.specs.declared.verb.Edge.{Edge}
+use Rattle.graph_terms.specs.Graph.{GraphValue}
+use Rattle.graph_terms.specs.Edges.{edges_into}
 use Rattle.realm_timeline.specs.Plan.{cost}
 use Rattle.realm_timeline.specs.Chains.{HasEdge, IsChain, chain_cost}
 

@@ -1,8 +1,8 @@
 -- Chains of planned lines, and the critical one.
 use Rattle.std.specs.Prelude.{◌≡◌, ℕ, ◌≤◌, List, [], ◌∷◌, ◌++◌, sum_by, Contains}
-use Rattle.graph_model.specs.declared.graph.verb.Edge.{Edge}
-use Rattle.graph_model.specs.graph.Graph.{GraphValue}
-use Rattle.graph_model.specs.graph.Edges.{edges}
+use Rattle.graph_terms.specs.declared.verb.Edge.{Edge}
+use Rattle.graph_terms.specs.Graph.{GraphValue}
+use Rattle.graph_terms.specs.Edges.{edges}
 use Rattle.realm_timeline.specs.Plan.{Planned, cost}
 
 -- an edge leads from one line to another

@@ -1,6 +1,6 @@
 -- When the next lines finish, processor by processor.
 use Rattle.std.specs.Prelude.{◌≡◌, ◌≢◌, ℕ, ◌<◌, ◌≤◌, ◌⊎◌, true, false, List, [], Option, Some, None, MatchOption}
-use Rattle.graph_model.specs.graph.Graph.{GraphValue}
+use Rattle.graph_terms.specs.Graph.{GraphValue}
 use Rattle.realm_timeline.specs.declared.slot.Slot.{Slot}
 use Rattle.realm_timeline.specs.Plan.{HasSlot, FinishedBy}
 use Rattle.realm_timeline.specs.State.{State, is_done, runs_at, IsConsistent}

@@ -2,12 +2,12 @@
 use Rattle.std.specs.Prelude.{◌≡◌, ℕ, ◌+◌, ◌*◌, ◌<◌, ◌≤◌, ◌==◌, ◌⊎◌, ◌↔◌, Bool, true, false, not, ◌&&◌, ◌||◌, List, [], length, take, Contains, Option, Some, None, slice_index, count_by}
 use Rattle.std.specs.Option.{option_map_or}
 use Rattle.std.specs.List.{slice_index_or}
-use Rattle.graph_model.specs.declared.graph.verb.Edge.{Edge}
-use Rattle.graph_model.specs.declared.graph.verb.Verb.{Verb}
-use Rattle.graph_model.specs.declared.graph.verb.Verb.TheVariants.{Acquire}
-use Rattle.graph_model.specs.graph.Graph.{GraphValue, verb_at, line_passes, never_comes, locks}
-use Rattle.graph_model.specs.graph.Edges.{edges}
-use Rattle.graph_model.specs.meaning.Rules.{Releases}
+use Rattle.graph_terms.specs.declared.verb.Edge.{Edge}
+use Rattle.graph_terms.specs.declared.verb.Verb.{Verb}
+use Rattle.graph_terms.specs.declared.verb.Verb.TheVariants.{Acquire}
+use Rattle.graph_terms.specs.Graph.{GraphValue, verb_at, line_passes, never_comes, locks}
+use Rattle.graph_terms.specs.Edges.{edges}
+use Rattle.graph_terms.specs.Reservations.{Releases}
 use Rattle.basics.specs.Lists.{count_below}
 use Rattle.realm_timeline.specs.declared.slot.Slot.{Slot}
 use Rattle.realm_timeline.specs.declared.simulation.Simulation.{Simulation}

@@ -1,12 +1,11 @@
 -- The steps of a simulation: a line starts, finishes, or waits for one edge fewer.
 use Rattle.std.specs.Prelude.{◌≡◌, ℕ, ◌+◌, ◌-◌, ◌<◌, ◌≤◌, ◌==◌, Bool, true, false, not, ◌&&◌, ◌||◌, List, [], ◌∷◌, ◌++◌, length, Option, Some, None, slice_index, slice_set, is_none, map}
-use Rattle.graph_model.specs.declared.graph.verb.Edge.{Edge}
-use Rattle.graph_model.specs.graph.Graph.{GraphValue, never_comes}
-use Rattle.graph_model.specs.declared.graph.verb.EdgeKind.TheVariants as kind
-use Rattle.graph_model.specs.graph.Edges.{edge}
-use Rattle.basics.specs.Lists.{numbers_below}
-use Rattle.graph_model.specs.meaning.Rules.{Releases}
-use Rattle.basics.specs.Lists.{count_below}
+use Rattle.graph_terms.specs.declared.verb.Edge.{Edge}
+use Rattle.graph_terms.specs.Graph.{GraphValue, never_comes}
+use Rattle.graph_terms.specs.declared.verb.EdgeKind.TheVariants as kind
+use Rattle.graph_terms.specs.Edges.{edge}
+use Rattle.basics.specs.Lists.{numbers_below, count_below}
+use Rattle.graph_terms.specs.Reservations.{Releases}
 use Rattle.realm_timeline.specs.declared.slot.Slot.{Slot}
 use Rattle.realm_timeline.specs.Plan.{cost}
 use Rattle.realm_timeline.specs.Queue.{QueueValue, queue_at, has_line, ChangesQueue, WithLine, WithoutLine}

@@ -3,14 +3,14 @@
 ghost use Rattle.std.specs.Prelude.{◌≡◌, ℕ, ◌+◌, ◌*◌, ◌<◌, ◌≤◌, false, length, Some, MatchOption};
 ghost use Rattle.realm_timeline.specs.Plan.{cost};
 ghost use Rattle.realm_timeline.specs.State.{queue_of, exclusive_queue, shared_queue, bars};
-ghost use Rattle.graph_model.specs.graph.Graph.{locks, verb_at};
-ghost use Rattle.graph_model.specs.declared.graph.verb.Verb.TheVariants.{Acquire as AcquireOf};
-ghost use Rattle.graph_model.specs.meaning.Rules.{Releases};
+ghost use Rattle.graph_terms.specs.Graph.{locks, verb_at};
+ghost use Rattle.graph_terms.specs.declared.verb.Verb.TheVariants.{Acquire as AcquireOf};
+ghost use Rattle.graph_terms.specs.Reservations.{Releases};
 
+use graph_meaning::line_laws::{accesses_are_few, accesses_fit};
 use graph_model::graph::Graph;
-use graph_model::limits::MOST_ACCESSES;
-use graph_model::line_laws::{accesses_are_few, accesses_fit};
-use graph_model::verb::Verb;
+use graph_terms::limits::MOST_ACCESSES;
+use graph_terms::verb::Verb;
 
 /// How long a line takes in virtual time: 1, and 1 more for each point of each access.
 pub(crate) fn cost_of(graph: &Graph, line: u32) -> u64

@@ -2,17 +2,17 @@
 //! chain up to each line.
 
 ghost use Rattle.std.specs.Prelude.{◌≡◌, ℕ, ◌+◌, ◌<◌, ◌≤◌, ◌==◌, [], ◌∷◌, length, Some, None, slice_index, slice_set, Contains, ◌^◌, OnOk, IfOk, MatchOption};
-ghost use Rattle.graph_model.specs.graph.Edges.{edges_into};
+ghost use Rattle.graph_terms.specs.Edges.{edges_into};
 ghost use Rattle.realm_timeline.specs.Chains.{IsCritical, chain_cost};
 ghost use Rattle.realm_timeline.specs.Order.{IsOrder};
 ghost use Rattle.realm_timeline.specs.ChainCosts.{chain_cost_at, before_at, IsBestOf, AreChainCosts, IsTopOf, IsWalk, AddsLine, best_cost, best_line, cost_or_0, IsBetter, IsNoneOrBelow};
-ghost use Rattle.graph_model.specs.declared.graph.verb.Edge.{Edge as EdgeValue};
+ghost use Rattle.graph_terms.specs.declared.verb.Edge.{Edge as EdgeValue};
 
 use crate::cost::cost_of;
+use graph_meaning::laws::edges_between_lines;
 use graph_model::graph::Graph;
-use graph_model::laws::edges_between_lines;
-use graph_model::lists::LineList;
-use graph_model::verb::Edge;
+use graph_terms::lists::LineList;
+use graph_terms::verb::Edge;
 use index_spaces::NoMemory;
 use index_spaces::room::{filled, push};
 use std::alloc::Global;

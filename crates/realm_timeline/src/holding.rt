@@ -1,7 +1,7 @@
 //! Which acquires hold their reservation, and so keep lines of which queues from starting.
 
 ghost use Rattle.std.specs.Prelude.{◌≡◌, ◌+◌, ◌*◌, ◌<◌, length, OnOk};
-ghost use Rattle.graph_model.specs.graph.Graph.{locks};
+ghost use Rattle.graph_terms.specs.Graph.{locks};
 ghost use Rattle.realm_timeline.specs.Steps.{AddsHolder, RemovesHolder};
 
 use crate::cost::{acquired, exclusive_queue, shared_queue};

@@ -2,10 +2,10 @@
 //! time goes from one finish to the next.
 
 ghost use Rattle.std.specs.Prelude.{◌≡◌, ◌⊎◌, ℕ, ◌+◌, ◌-◌, ◌*◌, ◌<◌, ◌≤◌, ◌==◌, true, false, [], ◌∷◌, ◌++◌, length, Some, None, slice_index, slice_set, not, ◌&&◌, replicate, min, OnOk, IfOk, IfSome, MatchOption};
-ghost use Rattle.graph_model.specs.graph.Graph.{never_comes, locks};
-ghost use Rattle.graph_model.specs.graph.Edges.{edges_into, edges_out_of};
-ghost use Rattle.graph_model.specs.meaning.Path.{Reached};
-ghost use Rattle.graph_model.specs.meaning.Rules.{Accepted};
+ghost use Rattle.graph_terms.specs.Graph.{never_comes, locks};
+ghost use Rattle.graph_terms.specs.Edges.{edges_into, edges_out_of};
+ghost use Rattle.graph_meaning.specs.Path.{Reached};
+ghost use Rattle.graph_meaning.specs.Rules.{Accepted};
 ghost use Rattle.realm_timeline.specs.declared.slot.Slot.{Slot as SlotValue};
 ghost use Rattle.realm_timeline.specs.Plan.{slot_at, HasSlot, IsPlan, IsValid, IsGreedy};
 ghost use Rattle.realm_timeline.specs.Queue.{AllHeldOrEmpty, IsLowestPlace, no_queue};
@@ -18,8 +18,8 @@ use crate::cost::{cost_of, queue_of, released};
 use crate::holding::{add_holder, remove_holder};
 use crate::queue::{Queue, insert_at, lowest_of, take_at};
 use crate::slot::Slot;
+use graph_meaning::laws::edges_between_lines;
 use graph_model::graph::Graph;
-use graph_model::laws::edges_between_lines;
 use index_spaces::NoMemory;
 use index_spaces::room::{filled, push};
 use std::alloc::Global;

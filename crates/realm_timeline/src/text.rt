@@ -9,8 +9,8 @@ ghost use Rattle.realm_timeline.specs.Text.{number_text, slot_text, op_text, op_
 use crate::slot::Slot;
 use crate::timeline::Timeline;
 use graph_model::graph::Graph;
-use graph_model::lists::LineList;
-use graph_model::verb::Line;
+use graph_terms::lists::LineList;
+use graph_terms::verb::Line;
 use realm_io::{Sink, WriteFault, put_bytes, put_decimal};
 
 /// Writes the text of a timeline of the graph: `timeline 1`; for each line of the graph

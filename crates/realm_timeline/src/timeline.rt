@@ -1,7 +1,7 @@
 //! The plan of an accepted graph, with its certificate.
 
 ghost use Rattle.std.specs.Prelude.{◌≡◌, ℕ, ◌+◌, ◌-◌, ◌*◌, ◌<◌, ◌≤◌, List, Option, Some, None, length, slice_get, max, OnOk, IfOk, MatchOption};
-ghost use Rattle.graph_model.specs.meaning.Path.{Reached};
+ghost use Rattle.graph_meaning.specs.Path.{Reached};
 ghost use Rattle.realm_timeline.specs.declared.slot.Slot.{Slot as SlotValue};
 ghost use Rattle.realm_timeline.specs.Plan.{IsPlan, IsValid, IsGreedy, slot_at, plan_length, total_cost, planned_cost, finish_or_0};
 ghost use Rattle.realm_timeline.specs.Chains.{IsCritical, chain_cost};
@@ -12,9 +12,9 @@ use crate::critical::critical_of;
 use crate::laws::{greedy_plans_are_short, plans_are_as_long_as_chains};
 use crate::simulation::Simulation;
 use crate::slot::Slot;
-use graph_model::checked::Checked;
+use checked_graph::Checked;
 use graph_model::graph::Graph;
-use graph_model::lists::LineList;
+use graph_terms::lists::LineList;
 use index_spaces::NoMemory;
 use std::alloc::Global;
 use std::marker::Model;

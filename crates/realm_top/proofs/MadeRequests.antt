@@ -7,10 +7,10 @@ use Rattle.realm_io.specs.Written.{Wrote, Stopped}
 use Rattle.command_line.specs.declared.request.Request.{Request}
 use Rattle.command_line.specs.declared.request.Action.{Action}
 use Rattle.command_line.specs.declared.request.Action.TheVariants.{Run, Check, Eval, Make, Audit, Timeline, Upgrade, Session}
-use Rattle.graph_model.specs.graph.Graph.{GraphValue}
-use Rattle.graph_model.specs.meaning.Evaluation.{outcome}
-use Rattle.graph_model.specs.declared.meaning.outcome.Outcome.{Outcome}
-use Rattle.graph_model.specs.meaning.Laws.{OneNeed}
+use Rattle.graph_terms.specs.Graph.{GraphValue}
+use Rattle.graph_meaning.specs.Evaluation.{outcome}
+use Rattle.graph_terms.specs.declared.outcome.Outcome.{Outcome}
+use Rattle.graph_meaning.specs.Laws.{OneNeed}
 use Rattle.graph_reader.specs.Text.{text}
 use Rattle.graph_gen.specs.MadeGraph.{made_graph}
 use Rattle.graph_answers.specs.declared.status.Status.{Status}

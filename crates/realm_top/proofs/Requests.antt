@@ -6,13 +6,13 @@ use Rattle.std.specs.Io.KnownBytes.{Consumes, IsAtEnd}
 use Rattle.realm_io.specs.SinkState.{SinkState}
 use Rattle.realm_io.specs.Counts.{Rose}
 use Rattle.command_line.specs.declared.request.Request.{Request}
-use Rattle.graph_model.specs.graph.Graph.{GraphValue}
-use Rattle.graph_model.specs.meaning.Laws.{OneNeed}
+use Rattle.graph_terms.specs.Graph.{GraphValue}
+use Rattle.graph_meaning.specs.Laws.{OneNeed}
 use Rattle.graph_reader.specs.Laws.{OneReading}
 use Rattle.graph_reader.specs.Text.{GraphText}
 use Rattle.graph_gen.specs.MadeGraph.{made_graph}
 use Rattle.realm_audit.specs.Parts.{graph_bytes}
-use Rattle.graph_model.specs.declared.graph.limits.TheConstants.{MAX_TEXT}
+use Rattle.graph_terms.specs.declared.limits.TheConstants.{MAX_TEXT}
 use Rattle.session_text.specs.Laws.{OneSession}
 use Rattle.session_run.specs.Laws.{OneEnd}
 use Rattle.session_run.specs.Linked.{LinkedGraph}

@@ -2,8 +2,8 @@
 use Rattle.std.proofs.Common.{◌≡◌, ◌≢◌, ℕ, ◌<◌, ◌≤◌, List, [], ◌∷◌, ◌++◌, length, refl, sym, ◌∙◌, subst, inl, inr, arith}
 use Rattle.std.specs.Prelude.{Some, map}
 use Rattle.std.proofs.lemmas.List.Elements.{Contains-append_right}
-use Rattle.graph_model.specs.declared.graph.limits.TheConstants.{MAX_TEXT}
-use Rattle.graph_model.specs.meaning.Rules.{Accepted}
+use Rattle.graph_terms.specs.declared.limits.TheConstants.{MAX_TEXT}
+use Rattle.graph_meaning.specs.Rules.{Accepted}
 use Rattle.race_check.specs.declared.checked.CheckRefusal.{CheckRefusal}
 use Rattle.race_check.specs.declared.checked.CheckRefusal.TheVariants as refusal
 use Rattle.realm_io.specs.SinkState.{SinkState}

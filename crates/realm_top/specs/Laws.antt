@@ -1,8 +1,8 @@
 -- Laws of what a request is to answer.
 use Rattle.std.specs.Prelude.{◌≡◌, ℕ, List}
 use Rattle.command_line.specs.declared.request.Request.{Request}
-use Rattle.graph_model.specs.graph.Graph.{GraphValue}
-use Rattle.graph_model.specs.meaning.Rules.{Accepted}
+use Rattle.graph_terms.specs.Graph.{GraphValue}
+use Rattle.graph_meaning.specs.Rules.{Accepted}
 use Rattle.graph_reader.specs.Text.{GraphText}
 use Rattle.graph_answers.specs.Answer.{EndsByPaths}
 use Rattle.graph_answers.specs.declared.status.Status.{Status}

@@ -1,9 +1,9 @@
 -- What `session` is to answer, and what it is to write. Its input is the text of a session: graphs, one after the other, with links to operations of earlier ones.
 use Rattle.std.specs.Prelude.{◌≡◌, ℕ, ◌<◌, ◌≤◌, List, [], ◌∷◌, ◌++◌, length, Option, Some, None}
 use Rattle.command_line.specs.declared.request.TheConstants.{MAX_SLOTS}
-use Rattle.graph_model.specs.declared.graph.limits.TheConstants.{MAX_TEXT}
-use Rattle.graph_model.specs.declared.graph.why.Why.{Why}
-use Rattle.graph_model.specs.meaning.Rules.{Accepted}
+use Rattle.graph_terms.specs.declared.limits.TheConstants.{MAX_TEXT}
+use Rattle.graph_terms.specs.declared.why.Why.{Why}
+use Rattle.graph_meaning.specs.Rules.{Accepted}
 use Rattle.session_text.specs.declared.entry.Entry.{Entry}
 use Rattle.session_text.specs.Fits.{SessionText}
 use Rattle.session_text.specs.FirstFault.{SessionFault}

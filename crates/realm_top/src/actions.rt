@@ -4,7 +4,7 @@ ghost use Rattle.std.specs.Prelude.{◌≡◌};
 ghost use Rattle.realm_top.specs.Answer.{reads, audits, upgrades, runs_session, input_limit};
 
 use command_line::request::Action;
-use graph_model::limits::MAX_TEXT;
+use graph_terms::limits::MAX_TEXT;
 
 // The most bytes of the text of a graph.
 const GRAPH_LIMIT: u32 = MAX_TEXT as u32;

@@ -1,8 +1,8 @@
 //! What is done with an input that was read to its end.
 
 ghost use Rattle.std.specs.Prelude.{◌≡◌, ℕ, ◌<◌, ◌≤◌, ◌⊎◌, List, true, false, length, Some, slice_get, IfSome};
-ghost use Rattle.graph_model.specs.meaning.Evaluation.{outcome};
-ghost use Rattle.graph_model.specs.meaning.Trace.{IsLawful};
+ghost use Rattle.graph_meaning.specs.Evaluation.{outcome};
+ghost use Rattle.graph_meaning.specs.Trace.{IsLawful};
 ghost use Rattle.graph_reader.specs.Text.{text};
 ghost use Rattle.realm_io.specs.Written.{Writes};
 ghost use Rattle.graph_answers.specs.Delivered.{Delivers, IsAnswered};
@@ -21,9 +21,9 @@ use graph_answers::status::Status;
 use graph_answers::summary::put_summary;
 use graph_answers::upgrading::answer_upgrade;
 use graph_model::graph::Graph;
-use graph_model::limits::MAX_TEXT;
-use graph_model::outcome::Outcome;
 use graph_reader::read_graph;
+use graph_terms::limits::MAX_TEXT;
+use graph_terms::outcome::Outcome;
 use program_io::flush;
 use race_check::check;
 use race_check::checked::Checked;

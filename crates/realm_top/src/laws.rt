@@ -2,7 +2,7 @@
 
 ghost use Rattle.realm_top.specs.Laws.{AnswersAreOne, PathsTellEnds};
 
-use graph_model::laws::{cancelled_where_unbroken, needs_are_one, waits_where_reached};
+use graph_meaning::laws::{cancelled_where_unbroken, needs_are_one, waits_where_reached};
 use graph_reader::laws::bytes_have_one_reading;
 use realm_audit::reading::text_tells_traces_apart;
 use session_run::laws::sessions_have_one_end;

@@ -1,13 +1,13 @@
 //! Running a graph by the engine that is asked for.
 
 ghost use Rattle.std.specs.Prelude.{◌≡◌, ℕ, ◌<◌, ◌≤◌, length, Some, slice_get, IfOk};
-ghost use Rattle.graph_model.specs.meaning.Evaluation.{outcome};
-ghost use Rattle.graph_model.specs.meaning.Trace.{IsLawful};
+ghost use Rattle.graph_meaning.specs.Evaluation.{outcome};
+ghost use Rattle.graph_meaning.specs.Trace.{IsLawful};
 
 use command_line::request::{Engine, HintKind, MAX_SLOTS, MAX_WORKERS, Request};
 use free_engine::{HintQueue, Round, run_free};
 use graph_model::graph::Graph;
-use graph_model::outcome::Outcome;
+use graph_terms::outcome::Outcome;
 use home_queues::HomeQueues;
 use index_spaces::NoMemory;
 use lock_engine::{Turn, run_turn};

@@ -1,7 +1,7 @@
 //! What is done by `session`: graphs are run one after the other, and their events outlast them.
 
 ghost use Rattle.std.specs.Prelude.{◌≡◌, ◌≢◌, ℕ, ◌≤◌, List, length, map, Some, IfSome};
-ghost use Rattle.graph_model.specs.declared.graph.limits.TheConstants.{MAX_TEXT};
+ghost use Rattle.graph_terms.specs.declared.limits.TheConstants.{MAX_TEXT};
 ghost use Rattle.race_check.specs.declared.checked.CheckRefusal.{CheckRefusal};
 ghost use Rattle.race_check.specs.Refusal.{NamesLines};
 ghost use Rattle.session_text.specs.Fits.{AreEntries};
@@ -16,10 +16,10 @@ ghost use Rattle.realm_top.specs.SessionAnswer.{session_slots, RefusesSession, G
 
 use crate::running::run_graph;
 use crate::session_refusal::put_broken_in;
+use checked_graph::Checked;
 use command_line::request::{MAX_SLOTS, MAX_WORKERS, Request};
 use graph_answers::refusing::{put_refusal, put_short};
 use graph_answers::status::Status;
-use graph_model::checked::Checked;
 use graph_reader::ReadRefusal;
 use program_io::flush;
 use realm_io::{Gate, Sink};

@@ -1,9 +1,9 @@
 -- Which orders are lawful traces.
 use Rattle.std.specs.Prelude.{ℕ}
-use Rattle.graph_model.specs.graph.Graph.{GraphValue}
-use Rattle.graph_model.specs.meaning.Rules.{Acquires}
-use Rattle.graph_model.specs.meaning.Evaluation.{order}
-use Rattle.graph_model.specs.meaning.Trace.{IsLawful}
+use Rattle.graph_terms.specs.Graph.{GraphValue}
+use Rattle.graph_terms.specs.Reservations.{Acquires}
+use Rattle.graph_meaning.specs.Evaluation.{order}
+use Rattle.graph_meaning.specs.Trace.{IsLawful}
 
 -- no line acquires a reservation
 abbrev pub AcquiresNone : GraphValue → Type 0

@@ -1,7 +1,7 @@
 -- The text of a trace.
 use Rattle.std.specs.Prelude.{ℕ, List, [], ◌∷◌, ◌++◌, codes}
-use Rattle.graph_model.specs.graph.Graph.{GraphValue}
-use Rattle.graph_model.specs.graph.Spelling.{line_name}
+use Rattle.graph_terms.specs.Graph.{GraphValue}
+use Rattle.graph_terms.specs.Spelling.{line_name}
 
 -- the line that says that the operation of this name has ended
 abbrev pub at_text : List ℕ → List ℕ

@@ -2,7 +2,7 @@
 
 ghost use Rattle.realm_trace.specs.Laws.{OrderIsLawful};
 
-use graph_model::laws::order_lists_ended;
+use graph_meaning::laws::order_lists_ended;
 
 /// The order of the evaluation is a lawful trace of a graph that acquires no reservation.
 pub fn order_is_lawful()

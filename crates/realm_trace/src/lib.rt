@@ -8,8 +8,8 @@ ghost use Rattle.realm_io.specs.Written.{Writes};
 ghost use Rattle.realm_trace.specs.Text.{at_text, at_texts, trace_text};
 
 use graph_model::graph::Graph;
-use graph_model::lists::LineList;
-use graph_model::verb::Line;
+use graph_terms::lists::LineList;
+use graph_terms::verb::Line;
 use realm_io::{Sink, WriteFault, put_bytes};
 
 /// Writes the text of a trace of the graph. It takes no memory.

@@ -3,14 +3,13 @@ use Rattle.std.specs.Prelude.{ℕ, ◌==◌, Bool, false, cond, List, [], ◌∷
 use Rattle.std.specs.Option.{option_map_or}
 use Rattle.std.specs.List.{list_any}
 use Rattle.std.specs.Global.{Global}
-use Rattle.graph_model.specs.declared.graph.verb.Edge.{Edge}
-use Rattle.graph_model.specs.declared.graph.verb.Line.{Line}
-use Rattle.graph_model.specs.declared.graph.verb.Mode.{Mode}
-use Rattle.graph_model.specs.declared.graph.verb.Mode.TheVariants.{Read, Write, Sum, Least, Most}
-use Rattle.graph_model.specs.graph.Graph.{GraphValue}
-use Rattle.graph_model.specs.graph.Spelling.{line_name, lock_name, column_name}
-use Rattle.graph_model.specs.meaning.Reservations.{lock_at}
-use Rattle.graph_model.specs.meaning.Rules.{both_shared}
+use Rattle.graph_terms.specs.declared.verb.Edge.{Edge}
+use Rattle.graph_terms.specs.declared.verb.Line.{Line}
+use Rattle.graph_terms.specs.declared.verb.Mode.{Mode}
+use Rattle.graph_terms.specs.declared.verb.Mode.TheVariants.{Read, Write, Sum, Least, Most}
+use Rattle.graph_terms.specs.Graph.{GraphValue}
+use Rattle.graph_terms.specs.Spelling.{line_name, lock_name, column_name}
+use Rattle.graph_terms.specs.Reservations.{lock_at, both_shared}
 use Rattle.explanations.specs.declared.meetings.Meeting.{Meeting}
 use Rattle.explanations.specs.declared.races.SharedPoint.{SharedPoint}
 use Rattle.explain_graph.specs.declared.reasons.CycleReason.{CycleReason}

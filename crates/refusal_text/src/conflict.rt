@@ -3,9 +3,9 @@
 ghost use Rattle.std.specs.Prelude.{◌≡◌, ◌<◌, ◌++◌, length, codes, IfSome, OnOk};
 ghost use Rattle.std.specs.List.{list_any};
 ghost use Rattle.basics.specs.Words.{contents};
-ghost use Rattle.graph_model.specs.graph.Graph.{columns, line_passes, is_shared};
-ghost use Rattle.graph_model.specs.meaning.Rules.{both_shared};
-ghost use Rattle.graph_model.specs.graph.Spelling.{column_name};
+ghost use Rattle.graph_terms.specs.Graph.{columns, line_passes, is_shared};
+ghost use Rattle.graph_terms.specs.Reservations.{both_shared};
+ghost use Rattle.graph_terms.specs.Spelling.{column_name};
 ghost use Rattle.explain_graph.specs.Explanation.{NamesMeeting};
 ghost use Rattle.refusal_text.specs.Refused.{mode_word, shared_text, meeting_text, advice_by, order_text, held_text, advice_text, on_of, in_sections, are_equal, of_one_lock, have_pair, none_text, pair_by, pair_text, pairs_with, pairs_text, apart_text, sections_text, race_text};
 ghost use Rattle.explain_text.specs.Lines.{by_number};
@@ -19,7 +19,7 @@ use explanations::meetings::Meeting;
 use explanations::races::SharedPoint;
 use explanations::sections::lock_of;
 use graph_model::graph::Graph;
-use graph_model::verb::Mode;
+use graph_terms::verb::Mode;
 use index_spaces::NoMemory;
 
 /// Puts why two lines race.

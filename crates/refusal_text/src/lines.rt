@@ -2,7 +2,7 @@
 
 ghost use Rattle.std.specs.Prelude.{◌≡◌, ◌++◌, OnOk};
 ghost use Rattle.basics.specs.Words.{contents};
-ghost use Rattle.graph_model.specs.graph.Spelling.{line_name};
+ghost use Rattle.graph_terms.specs.Spelling.{line_name};
 ghost use Rattle.refusal_text.specs.Refused.{lines_text};
 
 use explain_text::Text;

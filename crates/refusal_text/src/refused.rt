@@ -2,8 +2,8 @@
 
 ghost use Rattle.std.specs.Prelude.{◌≡◌, ◌<◌, ◌++◌, length, IfSome, OnOk};
 ghost use Rattle.basics.specs.Words.{contents};
-ghost use Rattle.graph_model.specs.graph.Graph.{locks};
-ghost use Rattle.graph_model.specs.graph.Spelling.{lock_name};
+ghost use Rattle.graph_terms.specs.Graph.{locks};
+ghost use Rattle.graph_terms.specs.Spelling.{lock_name};
 ghost use Rattle.explain_graph.specs.Explanation.{AreEdges, NamesItems};
 ghost use Rattle.refusal_text.specs.Refused.{refused_one, refused_two, cycle_text, unreleased_by, unreleased_text, entered_text, section_text, descends_text, on_text, release_text, explanation_text};
 
@@ -16,7 +16,7 @@ use explain_graph::reasons::{
 use explain_text::Text;
 use explain_text::lines::{put_edges, put_numbered};
 use graph_model::graph::Graph;
-use graph_model::verb::Edge;
+use graph_terms::verb::Edge;
 use index_spaces::NoMemory;
 
 /// Puts why a graph is refused, by the lines of the text that it was read from: the line that

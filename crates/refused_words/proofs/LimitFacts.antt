@@ -12,24 +12,24 @@ use Rattle.std.proofs.lemmas.Grind.{flat_map-append}
 use Rattle.basics.specs.Sums.{below}
 use Rattle.basics.proofs.ListFacts.{contains_here, contains_there}
 use Rattle.index_spaces.specs.Space.{space_size, points, interval_points}
-use Rattle.graph_model.specs.declared.graph.limits.TheConstants.{MAX_INSTS, MAX_COLUMNS, MAX_CELLS, MAX_LOCKS, MAX_BARRIERS, MAX_LINES, MAX_EDGES, MAX_EVENTS}
-use Rattle.graph_model.specs.declared.graph.decl.ColumnInfo.{ColumnInfo}
-use Rattle.graph_model.specs.declared.graph.decl.Decl.{Decl}
-use Rattle.graph_model.specs.declared.graph.decl.Decl.TheVariants.{Inst, Lock, Barrier}
-use Rattle.graph_model.specs.declared.graph.format.Format.{Format}
-use Rattle.graph_model.specs.declared.graph.table.Kind.{Kind}
-use Rattle.graph_model.specs.declared.graph.table.Kind.TheVariants as kinds
-use Rattle.graph_model.specs.declared.graph.verb.Edge.{Edge}
-use Rattle.graph_model.specs.declared.graph.verb.EdgeKind.{EdgeKind}
-use Rattle.graph_model.specs.declared.graph.verb.EdgeKind.TheVariants as edge_kinds
-use Rattle.graph_model.specs.declared.graph.verb.Line.{Line}
-use Rattle.graph_model.specs.declared.graph.verb.Verb.TheVariants.{Phase, Merge, MergeIgnore}
-use Rattle.graph_model.specs.graph.Graph.{GraphValue, lock_of, barrier_of, columns, locks, barriers, space_at, column_space, is_phase_of}
-use Rattle.graph_model.specs.graph.Edges.{edges, edges_into, last_place, edges_from_some, line_edges, verb_edges}
-use Rattle.graph_model.specs.graph.Fits.{IsGraph, LinesFit, is_inst, cell_count, with_decl, with_line}
-use Rattle.graph_model.specs.graph.Table.{verb_of}
-use Rattle.graph_model.specs.declared.kept.counts.Counts.{Counts}
-use Rattle.graph_model.proofs.RowLaws.{edges_push}
+use Rattle.graph_terms.specs.declared.limits.TheConstants.{MAX_INSTS, MAX_COLUMNS, MAX_CELLS, MAX_LOCKS, MAX_BARRIERS, MAX_LINES, MAX_EDGES, MAX_EVENTS}
+use Rattle.graph_terms.specs.declared.decl.ColumnInfo.{ColumnInfo}
+use Rattle.graph_terms.specs.declared.decl.Decl.{Decl}
+use Rattle.graph_terms.specs.declared.decl.Decl.TheVariants.{Inst, Lock, Barrier}
+use Rattle.graph_terms.specs.declared.format.Format.{Format}
+use Rattle.graph_terms.specs.declared.table.Kind.{Kind}
+use Rattle.graph_terms.specs.declared.table.Kind.TheVariants as kinds
+use Rattle.graph_terms.specs.declared.verb.Edge.{Edge}
+use Rattle.graph_terms.specs.declared.verb.EdgeKind.{EdgeKind}
+use Rattle.graph_terms.specs.declared.verb.EdgeKind.TheVariants as edge_kinds
+use Rattle.graph_terms.specs.declared.verb.Line.{Line}
+use Rattle.graph_terms.specs.declared.verb.Verb.TheVariants.{Phase, Merge, MergeIgnore}
+use Rattle.graph_terms.specs.Graph.{GraphValue, lock_of, barrier_of, columns, locks, barriers, space_at, column_space, is_phase_of}
+use Rattle.graph_terms.specs.Edges.{edges, edges_into, last_place, edges_from_some, line_edges, verb_edges}
+use Rattle.graph_terms.specs.Fits.{IsGraph, LinesFit, is_inst, cell_count, with_decl, with_line}
+use Rattle.graph_terms.specs.Table.{verb_of}
+use Rattle.graph_indexes.specs.declared.counts.Counts.{Counts}
+use Rattle.graph_terms.proofs.EdgeFacts.{edges_push}
 use Rattle.graph_model.proofs.CountLaws.{counts_with_decl, cells_of_fields}
 use Rattle.graph_model.proofs.TableLaws.{limits_line}
 use Rattle.graph_reader.specs.Draft.{BarrierName, form_of, has_on, line_draft, merge_draft, lock_draft, barrier_draft, barrier_with, inst_draft, inst_with, op_of, space_number}

@@ -4,10 +4,10 @@ use Rattle.std.specs.Prelude.{Some, None, ◌==◌, option_map, slice_get, slice
 use Rattle.std.specs.Option.{option_map_or}
 use Rattle.std.proofs.lemmas.Bool.{cond-true, cond-false, lt-ltb, le-ltb, eq-eqb, ne_eqb}
 use Rattle.std.proofs.lemmas.List.{length-drop, get_or-drop}
-use Rattle.graph_model.specs.declared.graph.format.Format.{Format}
-use Rattle.graph_model.specs.declared.graph.table.Kind.{Kind}
-use Rattle.graph_model.specs.declared.graph.table.TheConstants.{KINDS}
-use Rattle.graph_model.specs.graph.Table.{kind_places, kind_words}
+use Rattle.graph_terms.specs.declared.format.Format.{Format}
+use Rattle.graph_terms.specs.declared.table.Kind.{Kind}
+use Rattle.graph_terms.specs.declared.table.TheConstants.{KINDS}
+use Rattle.graph_terms.specs.Table.{kind_places, kind_words}
 use Rattle.graph_reader.specs.Draft.{EventName, as_place, form_of, has_on, is_of_form}
 use Rattle.graph_reader.specs.Reading.{is_operation}
 use Rattle.refused_words.specs.Places.{decl_place, is_merge, behind_kind, kind_place, verb_place, operation_place, place_at}

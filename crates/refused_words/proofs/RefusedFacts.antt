@@ -4,10 +4,10 @@ use Rattle.std.specs.Prelude.{Option, Some, None, ◌==◌, ◌&&◌, not}
 use Rattle.std.specs.Option.{option_map_or}
 use Rattle.std.specs.List.{slice_index_or}
 use Rattle.std.proofs.lemmas.Bool.{true≢false, cases_lt, eqb-true, eq-eqb}
-use Rattle.graph_model.specs.declared.graph.format.Format.{Format}
-use Rattle.graph_model.specs.declared.graph.verb.Verb.{Verb}
-use Rattle.graph_model.specs.declared.graph.why.Why.{Why}
-use Rattle.graph_model.specs.graph.Graph.{GraphValue, verb_at, line_passes}
+use Rattle.graph_terms.specs.declared.format.Format.{Format}
+use Rattle.graph_terms.specs.declared.verb.Verb.{Verb}
+use Rattle.graph_terms.specs.declared.why.Why.{Why}
+use Rattle.graph_terms.specs.Graph.{GraphValue, verb_at, line_passes}
 use Rattle.graph_reader.specs.Draft.{Place, NewName, SpaceName, LockName, BarrierName, UserName, PhaseName, AcquireName, EventName, Column, Fields, Value, Times, Weight, Shared, Count, Intervals, line_number}
 use Rattle.graph_reader.specs.FirstFault.{twice}
 use Rattle.graph_reader.specs.Kinds.{named_number}

@@ -8,7 +8,7 @@ use Rattle.std.specs.Cmp.Lexicographic.{slice_cmp}
 use Rattle.std.specs.Ordering.{nat_cmp}
 use Rattle.std.proofs.lemmas.Bool.{true≢false, and_parts, or_cases, cases_lt}
 use Rattle.std.proofs.lemmas.Map.Text.{is_eq-slice_cmp}
-use Rattle.graph_model.specs.declared.graph.format.Format.{Format}
+use Rattle.graph_terms.specs.declared.format.Format.{Format}
 use Rattle.graph_reader.specs.Draft.{Place, EventName}
 use Rattle.graph_reader.proofs.TextLists.{same_bytes, bytes_same}
 use Rattle.refused_words.specs.Places.{place_at}

@@ -7,17 +7,17 @@ use Rattle.std.proofs.lemmas.Bool.{true≢false, and_parts, or_cases, eqb-true, 
 use Rattle.std.proofs.lemmas.Option.{none-some, same_Some}
 use Rattle.std.proofs.lemmas.List.{length-map, length-drop}
 use Rattle.index_spaces.specs.declared.Op.{Op}
-use Rattle.graph_model.specs.declared.graph.decl.Decl.{Decl}
-use Rattle.graph_model.specs.declared.graph.verb.Line.{Line}
-use Rattle.graph_model.specs.declared.graph.why.Why.{Why}
-use Rattle.graph_model.specs.declared.graph.why.Why.TheVariants as reasons
-use Rattle.graph_model.specs.declared.graph.table.Kind.{Kind}
-use Rattle.graph_model.specs.declared.graph.table.Kind.TheVariants as kinds
-use Rattle.graph_model.specs.declared.graph.table.Place as table
-use Rattle.graph_model.specs.declared.graph.table.TheConstants.{KINDS}
-use Rattle.graph_model.specs.graph.Fits.{arrives_late}
-use Rattle.graph_model.specs.graph.Graph.{GraphValue}
-use Rattle.graph_model.specs.graph.Table.{kind_places, kind_words}
+use Rattle.graph_terms.specs.declared.decl.Decl.{Decl}
+use Rattle.graph_terms.specs.declared.verb.Line.{Line}
+use Rattle.graph_terms.specs.declared.why.Why.{Why}
+use Rattle.graph_terms.specs.declared.why.Why.TheVariants as reasons
+use Rattle.graph_terms.specs.declared.table.Kind.{Kind}
+use Rattle.graph_terms.specs.declared.table.Kind.TheVariants as kinds
+use Rattle.graph_terms.specs.declared.table.Place as table
+use Rattle.graph_terms.specs.declared.table.TheConstants.{KINDS}
+use Rattle.graph_terms.specs.Fits.{arrives_late}
+use Rattle.graph_terms.specs.Graph.{GraphValue}
+use Rattle.graph_terms.specs.Table.{kind_places, kind_words}
 use Rattle.graph_reader.specs.Draft.{Place, NewName, SpaceName, EventName, Fields, Value, Count, Intervals, Placed, Draft, draft, as_place, form_of, has_on, on_placed, is_of_form, same_word, merge_draft, line_draft, decl_draft_after, decl_draft, space_draft, inst_draft, lock_draft, barrier_draft, barrier_with, op_of}
 use Rattle.graph_reader.specs.FirstFault.{misnamed, misordered, draft_fault, item_fault, words_fault, or_else, is_empty}
 use Rattle.graph_reader.specs.Kinds.{HasPlaces, kind_draft}

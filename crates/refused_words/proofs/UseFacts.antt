@@ -8,18 +8,18 @@ use Rattle.std.proofs.lemmas.Option.{none-some, same_Some, slice_get-get_or}
 use Rattle.std.proofs.lemmas.List.{length-map}
 use Rattle.index_spaces.specs.Space.{has_point, points}
 use Rattle.index_spaces.specs.declared.Op.{Op}
-use Rattle.graph_model.specs.declared.graph.verb.Access.{Access}
-use Rattle.graph_model.specs.declared.graph.verb.Line.{Line}
-use Rattle.graph_model.specs.declared.graph.verb.Mode.{Mode}
-use Rattle.graph_model.specs.declared.graph.table.Kind.{Kind}
-use Rattle.graph_model.specs.declared.graph.table.Kind.TheVariants as kinds
-use Rattle.graph_model.specs.declared.graph.table.Place as table
-use Rattle.graph_model.specs.declared.graph.table.Place.TheVariants.{Space, Column}
-use Rattle.graph_model.specs.graph.Access.{access, access_at, accesses_of, verb_accesses}
-use Rattle.graph_model.specs.graph.Fits.{access_outside}
-use Rattle.graph_model.specs.graph.Graph.{GraphValue, space_at, column_space}
-use Rattle.graph_model.specs.graph.Table.{Placed, kind_places, arrive_kind, arrive_parts, verb_parts, verb_of, is_row}
-use Rattle.graph_model.proofs.KindLaws.{NumbersFit, kind_again, parts_again, each_is_row, over_space}
+use Rattle.graph_terms.specs.declared.verb.Access.{Access}
+use Rattle.graph_terms.specs.declared.verb.Line.{Line}
+use Rattle.graph_terms.specs.declared.verb.Mode.{Mode}
+use Rattle.graph_terms.specs.declared.table.Kind.{Kind}
+use Rattle.graph_terms.specs.declared.table.Kind.TheVariants as kinds
+use Rattle.graph_terms.specs.declared.table.Place as table
+use Rattle.graph_terms.specs.declared.table.Place.TheVariants.{Space, Column}
+use Rattle.graph_terms.specs.Access.{access, access_at, accesses_of, verb_accesses}
+use Rattle.graph_terms.specs.Fits.{access_outside}
+use Rattle.graph_terms.specs.Graph.{GraphValue, space_at, column_space}
+use Rattle.graph_terms.specs.Table.{Placed, kind_places, arrive_kind, arrive_parts, verb_parts, verb_of, is_row}
+use Rattle.graph_terms.proofs.KindLaws.{NumbersFit, kind_again, parts_again, each_is_row, over_space}
 use Rattle.graph_reader.specs.Draft.{Draft, as_place, number_in, number_in_place, column_number_of, space_number, same_word, draft, decl_draft_after, decl_draft, space_draft, inst_draft, lock_draft, barrier_draft, barrier_with, op_of}
 use Rattle.graph_reader.specs.Kinds.{HasPlaces, words_in, kind_verb}
 use Rattle.graph_reader.specs.Reading.{is_operation}

@@ -6,19 +6,19 @@ use Rattle.std.specs.List.{list_any}
 use Rattle.std.proofs.lemmas.Bool.{true≢false, eq-eqb}
 use Rattle.std.proofs.lemmas.Option.{none-some}
 use Rattle.std.proofs.lemmas.List.{length-map, length-drop}
-use Rattle.graph_model.specs.declared.graph.decl.Decl.{Decl}
-use Rattle.graph_model.specs.declared.graph.verb.Access.{Access}
-use Rattle.graph_model.specs.declared.graph.verb.Line.{Line}
-use Rattle.graph_model.specs.declared.graph.why.Why.{Why}
-use Rattle.graph_model.specs.declared.graph.why.Why.TheVariants as reasons
-use Rattle.graph_model.specs.declared.graph.table.Kind.{Kind}
-use Rattle.graph_model.specs.declared.graph.table.Place as table
-use Rattle.graph_model.specs.declared.graph.table.Place.TheVariants as places
-use Rattle.graph_model.specs.declared.graph.table.TheConstants.{KINDS}
-use Rattle.graph_model.specs.graph.Access.{access, verb_accesses}
-use Rattle.graph_model.specs.graph.Fits.{access_outside}
-use Rattle.graph_model.specs.graph.Graph.{GraphValue}
-use Rattle.graph_model.specs.graph.Table.{kind_places, kind_words}
+use Rattle.graph_terms.specs.declared.decl.Decl.{Decl}
+use Rattle.graph_terms.specs.declared.verb.Access.{Access}
+use Rattle.graph_terms.specs.declared.verb.Line.{Line}
+use Rattle.graph_terms.specs.declared.why.Why.{Why}
+use Rattle.graph_terms.specs.declared.why.Why.TheVariants as reasons
+use Rattle.graph_terms.specs.declared.table.Kind.{Kind}
+use Rattle.graph_terms.specs.declared.table.Place as table
+use Rattle.graph_terms.specs.declared.table.Place.TheVariants as places
+use Rattle.graph_terms.specs.declared.table.TheConstants.{KINDS}
+use Rattle.graph_terms.specs.Access.{access, verb_accesses}
+use Rattle.graph_terms.specs.Fits.{access_outside}
+use Rattle.graph_terms.specs.Graph.{GraphValue}
+use Rattle.graph_terms.specs.Table.{kind_places, kind_words}
 use Rattle.graph_reader.specs.Draft.{NewName, Draft, draft, as_place, form_of, is_of_form, same_word, merge_draft, column_number_of, space_number}
 use Rattle.graph_reader.specs.FirstFault.{draft_fault, item_fault, words_fault, or_else, is_empty}
 use Rattle.graph_reader.specs.Kinds.{HasPlaces, kind_verb}

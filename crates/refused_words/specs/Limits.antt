@@ -4,15 +4,15 @@ use Rattle.std.specs.Option.{option_map_or}
 use Rattle.std.proofs.Common.{inl, inr}
 use Rattle.index_spaces.specs.Space.{space_size}
 use Rattle.index_spaces.specs.declared.limits.TheConstants.{MAX_INTERVALS, MAX_POINTS}
-use Rattle.graph_model.specs.declared.graph.limits.TheConstants.{MAX_INSTS, MAX_COLUMNS, MAX_CELLS, MAX_LOCKS, MAX_BARRIERS, MAX_LINES, MAX_EDGES, MAX_EVENTS}
-use Rattle.graph_model.specs.declared.graph.decl.Decl.{Decl}
-use Rattle.graph_model.specs.declared.graph.decl.Decl.TheVariants.{Space, Inst, Lock, Barrier}
-use Rattle.graph_model.specs.declared.graph.verb.Line.{Line}
-use Rattle.graph_model.specs.declared.graph.verb.Verb.{Verb}
-use Rattle.graph_model.specs.declared.graph.verb.Verb.TheVariants.{Merge, MergeIgnore}
-use Rattle.graph_model.specs.graph.Graph.{GraphValue, columns, locks, barriers, space_at}
-use Rattle.graph_model.specs.graph.Edges.{edges}
-use Rattle.graph_model.specs.graph.Fits.{is_inst, cell_count, with_decl, with_line}
+use Rattle.graph_terms.specs.declared.limits.TheConstants.{MAX_INSTS, MAX_COLUMNS, MAX_CELLS, MAX_LOCKS, MAX_BARRIERS, MAX_LINES, MAX_EDGES, MAX_EVENTS}
+use Rattle.graph_terms.specs.declared.decl.Decl.{Decl}
+use Rattle.graph_terms.specs.declared.decl.Decl.TheVariants.{Space, Inst, Lock, Barrier}
+use Rattle.graph_terms.specs.declared.verb.Line.{Line}
+use Rattle.graph_terms.specs.declared.verb.Verb.{Verb}
+use Rattle.graph_terms.specs.declared.verb.Verb.TheVariants.{Merge, MergeIgnore}
+use Rattle.graph_terms.specs.Graph.{GraphValue, columns, locks, barriers, space_at}
+use Rattle.graph_terms.specs.Edges.{edges}
+use Rattle.graph_terms.specs.Fits.{is_inst, cell_count, with_decl, with_line}
 use Rattle.graph_reader.specs.Draft.{Draft, draft}
 use Rattle.refused_words.specs.declared.limits.Quantity.{Quantity}
 

@@ -1,10 +1,10 @@
 -- In which place each word of a line stands, by the forms of lines.
 use Rattle.std.specs.Prelude.{ℕ, ◌-◌, ◌==◌, nat_lt, Bool, cond, ◌&&◌, ◌||◌, List, [], length, drop, find, Option, Some, None, option_map, slice_index_or, slice_get, codes}
 use Rattle.std.specs.Option.{option_map_or}
-use Rattle.graph_model.specs.declared.graph.format.Format.{Format}
-use Rattle.graph_model.specs.declared.graph.table.Kind.{Kind}
-use Rattle.graph_model.specs.declared.graph.table.TheConstants.{KINDS}
-use Rattle.graph_model.specs.graph.Table.{kind_words, kind_places}
+use Rattle.graph_terms.specs.declared.format.Format.{Format}
+use Rattle.graph_terms.specs.declared.table.Kind.{Kind}
+use Rattle.graph_terms.specs.declared.table.TheConstants.{KINDS}
+use Rattle.graph_terms.specs.Table.{kind_words, kind_places}
 use Rattle.graph_reader.specs.Draft.{Place, NewName, SpaceName, EventName, Fields, Value, Count, Intervals, same_word, as_place, form_of, has_on, is_of_form}
 use Rattle.graph_reader.specs.Reading.{is_operation}
 use Rattle.refused_words.specs.declared.places.WordPlace.{WordPlace}

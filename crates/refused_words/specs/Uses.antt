@@ -1,10 +1,10 @@
 -- The columns that the words of a line use, each in its place.
 use Rattle.std.specs.Prelude.{ℕ, List, [], Option, Some, None, slice_index_or, slice_get}
-use Rattle.graph_model.specs.declared.graph.verb.Access.{Access}
-use Rattle.graph_model.specs.declared.graph.table.Place as table
-use Rattle.graph_model.specs.declared.graph.table.Place.TheVariants as places
-use Rattle.graph_model.specs.graph.Access.{access}
-use Rattle.graph_model.specs.graph.Graph.{GraphValue}
+use Rattle.graph_terms.specs.declared.verb.Access.{Access}
+use Rattle.graph_terms.specs.declared.table.Place as table
+use Rattle.graph_terms.specs.declared.table.Place.TheVariants as places
+use Rattle.graph_terms.specs.Access.{access}
+use Rattle.graph_terms.specs.Graph.{GraphValue}
 use Rattle.graph_reader.specs.Draft.{column_number_of, space_number}
 use Rattle.graph_reader.specs.Words.{pieces}
 

@@ -11,8 +11,8 @@ use crate::declared::of_declaration;
 use crate::operations::{of_kind, of_merge};
 use crate::places::is_operation;
 use graph_model::graph::Graph;
-use graph_model::table::Kind;
 use graph_reader::words::{behind, kind_of, word};
+use graph_terms::table::Kind;
 use index_spaces::NoMemory;
 use std::alloc::Global;
 

@@ -12,11 +12,11 @@ use crate::places::{WordPlace, place_at};
 use crate::repeats::first_repeat;
 use crate::spelled::{refuses_fields, refuses_intervals};
 use graph_model::graph::Graph;
-use graph_model::table::Place;
-use graph_model::why::Why;
 use graph_reader::numbers::count;
 use graph_reader::seen::{see, see_event};
 use graph_reader::words::word;
+use graph_terms::table::Place;
+use graph_terms::why::Why;
 use index_spaces::NoMemory;
 use std::alloc::Global;
 

@@ -8,10 +8,10 @@ ghost use Rattle.refused_words.specs.Repeats.{AreSeen};
 
 use crate::places::{WordPlace, place_at};
 use crate::seen_words::SeenWords;
-use graph_model::format::Format;
-use graph_model::table::Place;
-use graph_model::why::Why;
 use graph_reader::words::word;
+use graph_terms::format::Format;
+use graph_terms::table::Place;
+use graph_terms::why::Why;
 use index_spaces::NoMemory;
 use std::alloc::Global;
 

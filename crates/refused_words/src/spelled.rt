@@ -1,16 +1,16 @@
 //! Words that stand for fields or for intervals, which only some reasons speak of.
 
 ghost use Rattle.std.specs.Prelude.{◌≡◌, false, true, IfOk, MatchOption};
-ghost use Rattle.graph_model.specs.graph.Graph.{GraphValue};
+ghost use Rattle.graph_terms.specs.Graph.{GraphValue};
 ghost use Rattle.graph_reader.specs.Draft.{Fields, Intervals};
 ghost use Rattle.graph_reader.specs.Words.{pieces, is_fields, ascend_from};
 ghost use Rattle.refused_words.specs.Refused.{refuses};
 
-use graph_model::name::Name;
-use graph_model::why::Why;
 use graph_reader::intervals::intervals;
 use graph_reader::names::{has_repeat, names_of};
 use graph_reader::words::split;
+use graph_terms::name::Name;
+use graph_terms::why::Why;
 use index_spaces::NoMemory;
 use std::alloc::Global;
 

@@ -8,7 +8,7 @@ use Rattle.std.proofs.lemmas.List.{take_more, take_all, get_or-set_same, get_or-
 use Rattle.std.proofs.lemmas.List.FromFn.{fill_by_all}
 use Rattle.index_spaces.specs.Column.{ColumnValue}
 use Rattle.index_spaces.specs.Held.{held_at}
-use Rattle.graph_model.specs.graph.Graph.{GraphValue}
+use Rattle.graph_terms.specs.Graph.{GraphValue}
 use Rattle.line_effects.specs.Moved.{moves, AreMoved, AreBack}
 use Rattle.line_effects.proofs.EffectFacts.{access_listed, access_moved}
 use Rattle.line_effects.proofs.MoveFacts.{moves_few, move_of}

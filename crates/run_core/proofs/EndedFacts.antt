@@ -6,16 +6,16 @@ use Rattle.std.proofs.lemmas.Bool.{true≢false, false≢true, eq-eqb}
 use Rattle.std.proofs.lemmas.List.{map-set, set-set}
 use Rattle.std.proofs.lemmas.Option.{none-some, same_Some, slice_get-get_or}
 use Rattle.index_spaces.specs.Column.{ColumnValue}
-use Rattle.graph_model.specs.declared.meaning.outcome.End.{End}
-use Rattle.graph_model.specs.declared.meaning.outcome.End.TheVariants.{Done, Faulted, Cancelled, Waiting}
-use Rattle.graph_model.specs.declared.graph.verb.Verb.{Verb}
-use Rattle.graph_model.specs.declared.graph.verb.Verb.TheVariants.{Release}
-use Rattle.graph_model.specs.graph.Graph.{GraphValue, columns, column_space, verb_at, is_release_of}
-use Rattle.graph_model.specs.meaning.Rules.{Releases}
-use Rattle.graph_model.specs.meaning.Evaluation.{is_ended, evaluation, eval_end}
+use Rattle.graph_terms.specs.declared.outcome.End.{End}
+use Rattle.graph_terms.specs.declared.outcome.End.TheVariants.{Done, Faulted, Cancelled, Waiting}
+use Rattle.graph_terms.specs.declared.verb.Verb.{Verb}
+use Rattle.graph_terms.specs.declared.verb.Verb.TheVariants.{Release}
+use Rattle.graph_terms.specs.Graph.{GraphValue, columns, column_space, verb_at, is_release_of}
+use Rattle.graph_terms.specs.Reservations.{Releases}
+use Rattle.graph_meaning.specs.Evaluation.{is_ended, evaluation, eval_end}
 use Rattle.basics.proofs.ListFacts.{count_below-max, fewer_below}
 use Rattle.basics.specs.Lists.{count_below}
-use Rattle.graph_model.proofs.Waiting.{end_in_ended, steps_end}
+use Rattle.graph_meaning.proofs.Waiting.{end_in_ended, steps_end}
 use Rattle.index_spaces.specs.Held.{held_at}
 use Rattle.gen_events.specs.declared.handle.Handle.{Handle}
 use Rattle.gen_events.specs.EventMap.{answer, answer_of, ended_with}
@@ -24,10 +24,10 @@ use Rattle.run_state.specs.Sound.{AccessesColumn, Sound}
 use Rattle.run_state.specs.WholeLine.{lock_of, all_home, all_back, columns_for, values_with, arrived_with, arrival_for, holders_without, freed_with, freed_lock, frees_by, frees_for, put_back_whole}
 use Rattle.run_state.specs.Laws.{PutBackKeepsRest, PutBackLeaves}
 use Rattle.run_state.proofs.Lists.{ended_over}
-use Rattle.graph_model.proofs.VerbFacts.{verb_passes}
+use Rattle.graph_terms.proofs.VerbFacts.{verb_passes}
 use Rattle.run_state.proofs.Started.{kept_is, started_below, started_ends}
 use Rattle.run_state.proofs.Known.{column_there}
-use Rattle.graph_model.proofs.ReleaseFacts.{one_release}
+use Rattle.graph_terms.proofs.ReleaseFacts.{one_release}
 use Rattle.run_state.proofs.PutBack.{acquire_is_ended, frees_found}
 use Rattle.run_core.specs.Core.{CoreValue, IsCore}
 use Rattle.run_core.specs.Events.{EventsValue}

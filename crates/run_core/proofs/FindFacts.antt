@@ -3,9 +3,9 @@ use Rattle.std.proofs.Common.{◌≡◌, ℕ, zero, suc, ◌<◌, true, false, L
 use Rattle.std.specs.Prelude.{◌≢◌, Bool, slice_index_or}
 use Rattle.std.proofs.lemmas.Bool.{true≢false}
 use Rattle.std.proofs.lemmas.List.{length-map}
-use Rattle.graph_model.specs.declared.meaning.outcome.End.TheVariants.{Cancelled}
-use Rattle.graph_model.specs.graph.Graph.{GraphValue, never_comes}
-use Rattle.graph_model.specs.meaning.Evaluation.{eval_end}
+use Rattle.graph_terms.specs.declared.outcome.End.TheVariants.{Cancelled}
+use Rattle.graph_terms.specs.Graph.{GraphValue, never_comes}
+use Rattle.graph_meaning.specs.Evaluation.{eval_end}
 use Rattle.run_state.specs.Run.{Issued, stage_at}
 use Rattle.run_state.specs.Laws.{CancelledByKeptEnds}
 use Rattle.run_state.specs.Quiet.{kept_cancels}

@@ -3,12 +3,12 @@ use Rattle.std.proofs.Common.{◌≡◌, ℕ, ◌+◌, ◌<◌, ◌≤◌, Bool,
 use Rattle.std.specs.Prelude.{◌≢◌, Some, None, is_some, slice_get, slice_set, [], ◌∷◌}
 use Rattle.std.proofs.lemmas.Bool.{true≢false, cases_eq}
 use Rattle.std.proofs.lemmas.List.{get_or-set_same, get_or-set_other, set-set}
-use Rattle.graph_model.specs.declared.meaning.outcome.End.{End}
-use Rattle.graph_model.specs.declared.meaning.outcome.End.TheVariants.{Done, Faulted, Cancelled, Waiting}
-use Rattle.graph_model.specs.declared.graph.verb.Access.{Access}
-use Rattle.graph_model.specs.graph.Graph.{GraphValue}
-use Rattle.graph_model.specs.graph.Access.{accesses}
-use Rattle.graph_model.specs.meaning.Evaluation.{eval_end}
+use Rattle.graph_terms.specs.declared.outcome.End.{End}
+use Rattle.graph_terms.specs.declared.outcome.End.TheVariants.{Done, Faulted, Cancelled, Waiting}
+use Rattle.graph_terms.specs.declared.verb.Access.{Access}
+use Rattle.graph_terms.specs.Graph.{GraphValue}
+use Rattle.graph_terms.specs.Access.{accesses}
+use Rattle.graph_meaning.specs.Evaluation.{eval_end}
 use Rattle.basics.proofs.ListFacts.{count_below-le, fewer_below, map_contains, got_in}
 use Rattle.basics.specs.Lists.{count_below}
 use Rattle.gen_events.specs.declared.handle.Handle.{Handle}

@@ -2,11 +2,12 @@
 use Rattle.std.proofs.Common.{◌≡◌, ℕ, ◌+◌, ◌<◌, ◌≤◌, true, false, inl, inr, List, length, sym, subst, arith}
 use Rattle.std.specs.Prelude.{slice_set}
 use Rattle.std.proofs.lemmas.Bool.{cases_eq, false_from_ne_true}
-use Rattle.graph_model.specs.graph.Graph.{GraphValue, is_release_of}
-use Rattle.graph_model.specs.graph.Fits.{IsGraph}
-use Rattle.graph_model.specs.meaning.Rules.{Accepted, Releases}
-use Rattle.graph_model.proofs.VerbFacts.{acquire_one, release_one, passes_below}
-use Rattle.graph_model.proofs.ReleaseFacts.{one_release}
+use Rattle.graph_terms.specs.Graph.{GraphValue, is_release_of}
+use Rattle.graph_terms.specs.Fits.{IsGraph}
+use Rattle.graph_meaning.specs.Rules.{Accepted}
+use Rattle.graph_terms.specs.Reservations.{Releases}
+use Rattle.graph_terms.proofs.VerbFacts.{acquire_one, release_one, passes_below}
+use Rattle.graph_terms.proofs.ReleaseFacts.{one_release}
 use Rattle.run_state.specs.Run.{is_listed, list_at}
 use Rattle.run_state.specs.Moves.{inserted}
 use Rattle.run_state.specs.WholeLine.{lock_of, holders_with}

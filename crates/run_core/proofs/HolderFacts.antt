@@ -7,12 +7,12 @@ use Rattle.std.proofs.lemmas.List.{get_or_past, get_or-set_same, get_or-set_othe
 use Rattle.std.proofs.lemmas.List.FromFn.{get_or-map-range_with_len, length-map-range_with_len}
 use Rattle.basics.specs.Lists.{numbers_below, count_below}
 use Rattle.basics.proofs.ListFacts.{contains_here, contains_there, contains_below, from_contains, filter_contains, contains_filter, some_below, fewer_below, count_below-max}
-use Rattle.graph_model.specs.declared.graph.verb.Line.{Line}
-use Rattle.graph_model.specs.declared.graph.verb.Verb.TheVariants.{Acquire, Release}
-use Rattle.graph_model.specs.declared.meaning.outcome.End.TheVariants.{Done}
-use Rattle.graph_model.specs.graph.Graph.{GraphValue, locks, line_passes, is_acquire_of, is_shared, is_release_of}
-use Rattle.graph_model.specs.graph.Fits.{IsGraph}
-use Rattle.graph_model.specs.meaning.Rules.{Acquires, Releases, both_shared}
+use Rattle.graph_terms.specs.declared.verb.Line.{Line}
+use Rattle.graph_terms.specs.declared.verb.Verb.TheVariants.{Acquire, Release}
+use Rattle.graph_terms.specs.declared.outcome.End.TheVariants.{Done}
+use Rattle.graph_terms.specs.Graph.{GraphValue, locks, line_passes, is_acquire_of, is_shared, is_release_of}
+use Rattle.graph_terms.specs.Fits.{IsGraph}
+use Rattle.graph_terms.specs.Reservations.{Acquires, Releases, both_shared}
 use Rattle.line_effects.proofs.EffectFacts.{verb_is}
 use Rattle.run_state.specs.Run.{LineStage, is_listed, stage_at, list_at, end_so_far}
 use Rattle.run_state.specs.Moves.{inserted, without}
@@ -21,8 +21,8 @@ use Rattle.run_state.proofs.Lists.{listed_contains, contains_listed, none_listed
 use Rattle.run_state.proofs.Counts.{none_counted, one_more_counted}
 use Rattle.run_state.proofs.HolderLists.{filter_same, one_more_passes, one_passes_no_more}
 use Rattle.run_state.proofs.WholeLine.{acquires_lock}
-use Rattle.graph_model.proofs.ReleaseFacts.{acquired_lock_known, release_names}
-use Rattle.graph_model.proofs.VerbFacts.{passes_verb, passes_below, verb_passes, verb_below, is_acquire_from, acquire_one}
+use Rattle.graph_terms.proofs.ReleaseFacts.{acquired_lock_known, release_names}
+use Rattle.graph_terms.proofs.VerbFacts.{passes_verb, passes_below, verb_passes, verb_below, is_acquire_from, acquire_one}
 use Rattle.std.specs.Option.{option_map_or}
 use Rattle.run_core.specs.Kept.{frees_so_far, frees_in}
 use Rattle.run_core.specs.Holders.{holds_lock, holders_at, holders_by, IsHeldAs, AreHeld, keeps_out, joined, parted}

@@ -3,8 +3,8 @@ use Rattle.std.proofs.Common.{◌≡◌, ℕ, ◌<◌, true, false, ◌⊎◌, i
 use Rattle.std.specs.Prelude.{◌≢◌, Option, Some, None, IfSome, IfNone, slice_get}
 use Rattle.std.proofs.lemmas.Bool.{true≢false, false≢true, cases_lt, false_from_ne_true}
 use Rattle.std.proofs.lemmas.List.{get_or_past, length-map}
-use Rattle.graph_model.specs.declared.meaning.outcome.End.TheVariants.{Waiting}
-use Rattle.graph_model.specs.graph.Graph.{GraphValue}
+use Rattle.graph_terms.specs.declared.outcome.End.TheVariants.{Waiting}
+use Rattle.graph_terms.specs.Graph.{GraphValue}
 use Rattle.gen_events.specs.declared.handle.Handle.{Handle}
 use Rattle.gen_events.specs.declared.handle.Answer.TheVariants.{Pending}
 use Rattle.gen_events.specs.EventMap.{answer, created_at, placed_on, next_handle, MayServe, IsFull, IsEventMap, Gives}

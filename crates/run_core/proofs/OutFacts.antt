@@ -3,7 +3,7 @@ use Rattle.std.proofs.Common.{◌≡◌, ℕ, ◌<◌, false, inl, inr, List, le
 use Rattle.std.specs.Prelude.{◌≢◌, slice_set}
 use Rattle.std.proofs.lemmas.Bool.{true≢false, cases_eq}
 use Rattle.std.proofs.lemmas.List.{get_or-set_same, get_or-set_other, set-set}
-use Rattle.graph_model.specs.graph.Graph.{GraphValue}
+use Rattle.graph_terms.specs.Graph.{GraphValue}
 use Rattle.gen_events.specs.declared.handle.Handle.{Handle}
 use Rattle.run_state.specs.Run.{LineStage, Unissued, Issued, Out, Ending, Ended, stage_out, stage_issued, out}
 use Rattle.run_state.specs.Sound.{Sound}

@@ -8,17 +8,17 @@ use Rattle.std.proofs.lemmas.List.FromFn.{fill_by_all, get_or-map-range_with_len
 use Rattle.std.proofs.lemmas.Option.{none-some, same_Some, slice_get-get_or, get_or_from_slice_get}
 use Rattle.basics.specs.Lists.{numbers_below}
 use Rattle.index_spaces.specs.Column.{ColumnValue}
-use Rattle.graph_model.specs.declared.meaning.outcome.End.{End}
-use Rattle.graph_model.specs.declared.meaning.outcome.End.TheVariants.{Done, Faulted, Cancelled, Waiting}
-use Rattle.graph_model.specs.declared.meaning.outcome.Answer.{Answer}
-use Rattle.graph_model.specs.declared.meaning.outcome.Answer.TheVariants as shown_answers
-use Rattle.graph_model.specs.declared.meaning.outcome.Outcome.{Outcome}
-use Rattle.graph_model.specs.declared.graph.verb.Verb.{Verb}
-use Rattle.graph_model.specs.declared.graph.verb.Verb.TheVariants.{Phase}
-use Rattle.graph_model.specs.graph.Graph.{GraphValue, columns, column_space, verb_at}
-use Rattle.graph_model.specs.meaning.Effect.{zero_cells}
-use Rattle.graph_model.specs.meaning.Evaluation.{answer_of, column_of, outcome}
-use Rattle.graph_model.specs.meaning.Trace.{IsLawful}
+use Rattle.graph_terms.specs.declared.outcome.End.{End}
+use Rattle.graph_terms.specs.declared.outcome.End.TheVariants.{Done, Faulted, Cancelled, Waiting}
+use Rattle.graph_terms.specs.declared.outcome.Answer.{Answer}
+use Rattle.graph_terms.specs.declared.outcome.Answer.TheVariants as shown_answers
+use Rattle.graph_terms.specs.declared.outcome.Outcome.{Outcome}
+use Rattle.graph_terms.specs.declared.verb.Verb.{Verb}
+use Rattle.graph_terms.specs.declared.verb.Verb.TheVariants.{Phase}
+use Rattle.graph_terms.specs.Graph.{GraphValue, columns, column_space, verb_at}
+use Rattle.graph_meaning.specs.Effect.{zero_cells}
+use Rattle.graph_meaning.specs.Evaluation.{answer_of, column_of, outcome}
+use Rattle.graph_meaning.specs.Trace.{IsLawful}
 use Rattle.gen_events.specs.declared.handle.Handle.{Handle}
 use Rattle.gen_events.specs.EventMap.{answer, fresh, no_event}
 use Rattle.instances.specs.Homes.{all_home}

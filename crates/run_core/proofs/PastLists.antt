@@ -5,8 +5,8 @@ use Rattle.std.proofs.lemmas.Bool.{true≢false, cases_eq, cases_lt, false_from_
 use Rattle.std.proofs.lemmas.List.{get_or-set_same, get_or-set_other, set_past}
 use Rattle.std.proofs.lemmas.Option.{none-some}
 use Rattle.index_spaces.specs.declared.Op.{Op}
-use Rattle.graph_model.specs.graph.Graph.{GraphValue}
-use Rattle.graph_model.specs.meaning.Evaluation.{eval_end}
+use Rattle.graph_terms.specs.Graph.{GraphValue}
+use Rattle.graph_meaning.specs.Evaluation.{eval_end}
 use Rattle.run_state.specs.Run.{is_listed, list_at, time_at}
 use Rattle.run_state.specs.Sound.{Once}
 use Rattle.run_state.specs.WholeLine.{all_back, columns_for, arrived_with, arrival_for, freed_with}

@@ -1,15 +1,15 @@
 -- What an arrival says of its phase.
 use Rattle.std.proofs.Common.{◌≡◌, ℕ, ◌<◌, length, ◌∙◌, ap}
 use Rattle.std.specs.Prelude.{Some, slice_get}
-use Rattle.graph_model.specs.declared.graph.verb.Line.{Line}
-use Rattle.graph_model.specs.declared.graph.verb.EdgeKind.TheVariants.{Passes}
-use Rattle.graph_model.specs.declared.graph.verb.Verb.TheVariants.{Arrive}
-use Rattle.graph_model.specs.graph.Graph.{GraphValue}
-use Rattle.graph_model.specs.graph.Edges.{edge}
-use Rattle.graph_model.specs.graph.Fits.{IsGraph}
-use Rattle.graph_model.specs.meaning.Laws.{EdgesBetweenLines}
+use Rattle.graph_terms.specs.declared.verb.Line.{Line}
+use Rattle.graph_terms.specs.declared.verb.EdgeKind.TheVariants.{Passes}
+use Rattle.graph_terms.specs.declared.verb.Verb.TheVariants.{Arrive}
+use Rattle.graph_terms.specs.Graph.{GraphValue}
+use Rattle.graph_terms.specs.Edges.{edge}
+use Rattle.graph_terms.specs.Fits.{IsGraph}
+use Rattle.graph_meaning.specs.Laws.{EdgesBetweenLines}
 use Rattle.line_effects.proofs.EffectFacts.{verb_is}
-use Rattle.graph_model.proofs.EdgeFacts.{arrival_edge}
+use Rattle.graph_terms.proofs.EdgeFacts.{arrival_edge}
 
 -- the phase of an arrival is a line
 pub phase_there : EdgesBetweenLines → (g : GraphValue) → IsGraph g → (i p v w : ℕ) (l : Line) → slice_get g.lines i ≡ Some l → l.verb ≡ Arrive p v w → p < length g.lines

@@ -8,18 +8,18 @@ use Rattle.std.proofs.lemmas.List.FromFn.{length-map-range_with_len}
 use Rattle.std.proofs.lemmas.Option.{none-some, same_Some, slice_get_within, slice_get-get_or}
 use Rattle.index_spaces.specs.declared.Op.{Op}
 use Rattle.basics.specs.Lists.{numbers_below}
-use Rattle.graph_model.specs.declared.meaning.outcome.End.{End}
-use Rattle.graph_model.specs.declared.meaning.outcome.End.TheVariants.{Done, Faulted, Cancelled, Waiting}
-use Rattle.graph_model.specs.declared.graph.verb.Verb.{Verb}
-use Rattle.graph_model.specs.declared.graph.verb.Verb.TheVariants.{User, Trigger, Cancel, Merge, MergeIgnore, Phase, Arrive, Acquire, Release, Fill, Copy, Reduce, Task}
-use Rattle.graph_model.specs.graph.Graph.{GraphValue, columns, locks, space_at, verb_at, line_passes}
-use Rattle.graph_model.specs.meaning.Rules.{Acquires, Releases, both_shared}
-use Rattle.graph_model.specs.declared.meaning.outcome.Verdict.TheVariants.{Fine}
-use Rattle.graph_model.specs.meaning.Effect.{Cells, verb_verdict, effect}
-use Rattle.graph_model.specs.meaning.Evaluation.{eval_end, evaluation, end_by, is_cancelled, step_by, cells_of, cells_of_lines, column_of, has_ended}
-use Rattle.graph_model.proofs.ReleaseFacts.{release_names}
-use Rattle.graph_model.proofs.Turns.{ends_by_turn}
-use Rattle.graph_model.proofs.VerbFacts.{acquire_is, release_is, passes_verb, verb_passes}
+use Rattle.graph_terms.specs.declared.outcome.End.{End}
+use Rattle.graph_terms.specs.declared.outcome.End.TheVariants.{Done, Faulted, Cancelled, Waiting}
+use Rattle.graph_terms.specs.declared.verb.Verb.{Verb}
+use Rattle.graph_terms.specs.declared.verb.Verb.TheVariants.{User, Trigger, Cancel, Merge, MergeIgnore, Phase, Arrive, Acquire, Release, Fill, Copy, Reduce, Task}
+use Rattle.graph_terms.specs.Graph.{GraphValue, columns, locks, space_at, verb_at, line_passes}
+use Rattle.graph_terms.specs.Reservations.{Acquires, Releases, both_shared}
+use Rattle.graph_terms.specs.declared.outcome.Verdict.TheVariants.{Fine}
+use Rattle.graph_meaning.specs.Effect.{Cells, verb_verdict, effect}
+use Rattle.graph_meaning.specs.Evaluation.{eval_end, evaluation, end_by, is_cancelled, step_by, cells_of, cells_of_lines, column_of, has_ended}
+use Rattle.graph_terms.proofs.ReleaseFacts.{release_names}
+use Rattle.graph_meaning.proofs.Turns.{ends_by_turn}
+use Rattle.graph_terms.proofs.VerbFacts.{acquire_is, release_is, passes_verb, verb_passes}
 use Rattle.run_state.specs.Run.{LineStage, Place, Run, is_listed, stage_at, time_at, list_at, started, ended, out, timed}
 use Rattle.run_state.specs.Sound.{AccessesColumn, is_arrive, value_for, Once, SoundColumns, SoundPhases, SoundLocks, Sound}
 use Rattle.run_state.specs.AtRest.{AtRest}

@@ -1,7 +1,7 @@
 -- A slot is free where a line is left and none of the others can be taken.
 use Rattle.std.proofs.Common.{◌≡◌, ℕ, suc, ◌+◌, ◌<◌, ◌≤◌, Bool, true, false, cond, List, [], ◌∷◌, length, refl, ap, arith}
 use Rattle.std.specs.Prelude.{slice_index_or}
-use Rattle.graph_model.specs.meaning.Need.{IsNeed}
+use Rattle.graph_meaning.specs.Need.{IsNeed}
 use Rattle.basics.specs.Sums.{total}
 use Rattle.gen_events.specs.EventMap.{EventMap, SlotLife, unused, life_at, IsRetired, IsFull}
 use Rattle.basics.proofs.Sums.{entry_le}

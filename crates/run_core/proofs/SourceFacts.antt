@@ -4,13 +4,13 @@ use Rattle.std.specs.Prelude.{◌==◌, nat_lt, Option, Some, None, Contains, Ma
 use Rattle.std.proofs.lemmas.Bool.{true≢false, ltb-true, ltb-false, eqb-true, eq-eqb}
 use Rattle.std.proofs.lemmas.List.{take_more, take_all, get_or-map}
 use Rattle.std.proofs.lemmas.List.Elements.{Contains-append_left, Contains-append_right, Contains-append_cases, Contains-get_or}
-use Rattle.graph_model.specs.declared.graph.verb.Edge.{Edge}
-use Rattle.graph_model.specs.declared.graph.verb.EdgeKind.TheVariants.{Passes}
-use Rattle.graph_model.specs.graph.Graph.{GraphValue}
-use Rattle.graph_model.specs.graph.Edges.{edges, edges_into}
-use Rattle.graph_model.specs.meaning.Evaluation.{cancels}
-use Rattle.graph_model.specs.graph.Fits.{IsGraph}
-use Rattle.graph_model.specs.meaning.Laws.{EdgesBetweenLines}
+use Rattle.graph_terms.specs.declared.verb.Edge.{Edge}
+use Rattle.graph_terms.specs.declared.verb.EdgeKind.TheVariants.{Passes}
+use Rattle.graph_terms.specs.Graph.{GraphValue}
+use Rattle.graph_terms.specs.Edges.{edges, edges_into}
+use Rattle.graph_meaning.specs.Evaluation.{cancels}
+use Rattle.graph_terms.specs.Fits.{IsGraph}
+use Rattle.graph_meaning.specs.Laws.{EdgesBetweenLines}
 use Rattle.basics.proofs.ListFacts.{contains_cases, contains_here, contains_none, filter_contains, contains_filter}
 use Rattle.run_state.specs.Run.{LineStage, Unissued, stage_at, end_so_far, ended}
 use Rattle.run_core.specs.Core.{WaitsFor}

@@ -4,10 +4,10 @@ use Rattle.std.specs.Prelude.{◌≢◌, Option, Some, None, IsSome, slice_index
 use Rattle.std.proofs.lemmas.Bool.{true≢false, false≢true, false_from_ne_true}
 use Rattle.std.proofs.lemmas.List.{map-set, get_or-set_same}
 use Rattle.index_spaces.specs.Column.{ColumnValue}
-use Rattle.graph_model.specs.declared.meaning.outcome.End.TheVariants.{Cancelled}
-use Rattle.graph_model.specs.graph.Graph.{GraphValue, columns}
-use Rattle.graph_model.specs.graph.Fits.{IsGraph}
-use Rattle.graph_model.specs.meaning.Evaluation.{eval_end}
+use Rattle.graph_terms.specs.declared.outcome.End.TheVariants.{Cancelled}
+use Rattle.graph_terms.specs.Graph.{GraphValue, columns}
+use Rattle.graph_terms.specs.Fits.{IsGraph}
+use Rattle.graph_meaning.specs.Evaluation.{eval_end}
 use Rattle.index_spaces.specs.Held.{held_at}
 use Rattle.run_state.specs.Run.{Unissued, Issued, Out, Home, stage_at, place_at, stage_issued, stage_out, out, is_listed, list_at, stage_started}
 use Rattle.run_state.specs.Sound.{AccessesColumn}

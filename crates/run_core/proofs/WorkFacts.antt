@@ -2,9 +2,9 @@
 use Rattle.std.proofs.Common.{◌≡◌, ℕ, true, false, List, refl, sym, ◌∙◌, ap, subst}
 use Rattle.std.specs.Prelude.{◌≢◌, Bool, Some}
 use Rattle.std.proofs.lemmas.Bool.{true≢false}
-use Rattle.graph_model.specs.declared.meaning.outcome.End.TheVariants.{Cancelled}
-use Rattle.graph_model.specs.graph.Graph.{GraphValue, column_space}
-use Rattle.graph_model.specs.meaning.Evaluation.{eval_end, column_of, cells_of_lines}
+use Rattle.graph_terms.specs.declared.outcome.End.TheVariants.{Cancelled}
+use Rattle.graph_terms.specs.Graph.{GraphValue, column_space}
+use Rattle.graph_meaning.specs.Evaluation.{eval_end, column_of, cells_of_lines}
 use Rattle.index_spaces.specs.Column.{ColumnValue}
 use Rattle.gen_events.specs.declared.handle.Handle.{Handle}
 use Rattle.gen_events.specs.EventMap.{EventMap}

@@ -1,12 +1,12 @@
 -- What a quiet run answers for each line.
 use Rattle.std.specs.Prelude.{◌≡◌, ℕ, List, length, Option, Some, None, slice_get, slice_index}
-use Rattle.graph_model.specs.declared.meaning.outcome.End.{End}
-use Rattle.graph_model.specs.declared.meaning.outcome.End.TheVariants.{Done}
-use Rattle.graph_model.specs.declared.meaning.outcome.Answer.{Answer}
-use Rattle.graph_model.specs.declared.meaning.outcome.Answer.TheVariants as outcomes
-use Rattle.graph_model.specs.declared.graph.verb.Verb.{Verb}
-use Rattle.graph_model.specs.declared.graph.verb.Verb.TheVariants.{Phase}
-use Rattle.graph_model.specs.graph.Graph.{GraphValue, verb_at}
+use Rattle.graph_terms.specs.declared.outcome.End.{End}
+use Rattle.graph_terms.specs.declared.outcome.End.TheVariants.{Done}
+use Rattle.graph_terms.specs.declared.outcome.Answer.{Answer}
+use Rattle.graph_terms.specs.declared.outcome.Answer.TheVariants as outcomes
+use Rattle.graph_terms.specs.declared.verb.Verb.{Verb}
+use Rattle.graph_terms.specs.declared.verb.Verb.TheVariants.{Phase}
+use Rattle.graph_terms.specs.Graph.{GraphValue, verb_at}
 use Rattle.gen_events.specs.declared.handle.Handle.{Handle}
 use Rattle.gen_events.specs.declared.handle.Answer.{Answer as EventAnswer}
 use Rattle.gen_events.specs.declared.handle.Answer.TheVariants as events

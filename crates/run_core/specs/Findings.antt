@@ -1,8 +1,8 @@
 -- What is found of a line that is to be taken.
 use Rattle.std.specs.Prelude.{◌≡◌, ◌≢◌, ℕ, true, false}
-use Rattle.graph_model.specs.declared.meaning.outcome.End.TheVariants.{Cancelled}
-use Rattle.graph_model.specs.graph.Graph.{never_comes}
-use Rattle.graph_model.specs.meaning.Evaluation.{eval_end}
+use Rattle.graph_terms.specs.declared.outcome.End.TheVariants.{Cancelled}
+use Rattle.graph_terms.specs.Graph.{never_comes}
+use Rattle.graph_meaning.specs.Evaluation.{eval_end}
 use Rattle.run_state.specs.Run.{Issued, stage_at}
 use Rattle.run_core.specs.Core.{CoreValue}
 use Rattle.run_core.specs.Steps.{stage_of, IsLeastLeft, IsDue, IsHeldBy, HasLock, HasColumns}

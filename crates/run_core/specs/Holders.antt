@@ -1,7 +1,7 @@
 -- How the holders of the reservations are kept: by line whether it holds, and by reservation how it is held.
 use Rattle.std.specs.Prelude.{◌≡◌, ℕ, ◌<◌, ◌+◌, ◌-◌, Bool, true, false, not, ◌&&◌, nat_lt, List, length, map, filter, slice_index_or}
 use Rattle.basics.specs.Lists.{numbers_below, count_below}
-use Rattle.graph_model.specs.graph.Graph.{GraphValue, locks, line_passes, is_acquire_of, is_shared}
+use Rattle.graph_terms.specs.Graph.{GraphValue, locks, line_passes, is_acquire_of, is_shared}
 use Rattle.run_core.specs.declared.holders.LockState.{LockState}
 use Rattle.run_core.specs.declared.holders.LockState.TheVariants.{Alone, Shared}
 

@@ -4,10 +4,10 @@ use Rattle.std.specs.Option.{option_map_or}
 use Rattle.index_spaces.specs.declared.Op.{Op}
 use Rattle.basics.specs.Lists.{numbers_below}
 use Rattle.index_spaces.specs.Column.{ColumnValue}
-use Rattle.graph_model.specs.declared.graph.verb.Verb.{Verb}
-use Rattle.graph_model.specs.declared.graph.verb.Verb.TheVariants.{Release}
-use Rattle.graph_model.specs.graph.Graph.{GraphValue, columns, column_space, verb_at}
-use Rattle.graph_model.specs.meaning.Evaluation.{eval_end}
+use Rattle.graph_terms.specs.declared.verb.Verb.{Verb}
+use Rattle.graph_terms.specs.declared.verb.Verb.TheVariants.{Release}
+use Rattle.graph_terms.specs.Graph.{GraphValue, columns, column_space, verb_at}
+use Rattle.graph_meaning.specs.Evaluation.{eval_end}
 use Rattle.run_state.specs.Run.{LineStage, Unissued, Issued, Out, Ended, Place, Home, Had, Run, stage_at, end_so_far}
 use Rattle.run_state.specs.WholeLine.{lock_of, all_back, columns_for, arrived_with, arrival_by, arrival_for, freed_lock, freed_with}
 use Rattle.run_core.specs.Core.{CoreValue}

@@ -1,11 +1,11 @@
 -- The state from which a core is resumed: what the states of the lines show, and the core that is in it.
 use Rattle.std.specs.Prelude.{◌≡◌, ◌≢◌, ◌<◌, ℕ, Bool, true, false, List, length, IsTrue, Option, Some, None, slice_get, slice_index, slice_index_or, filter_map}
 use Rattle.index_spaces.specs.Column.{ColumnValue}
-use Rattle.graph_model.specs.declared.meaning.outcome.End.{End}
-use Rattle.graph_model.specs.declared.meaning.outcome.End.TheVariants.{Done, Waiting}
-use Rattle.graph_model.specs.declared.graph.verb.Verb.TheVariants.{Phase}
-use Rattle.graph_model.specs.graph.Graph.{GraphValue, columns, column_space, verb_at}
-use Rattle.graph_model.specs.meaning.Rules.{Acquires, Releases, both_shared}
+use Rattle.graph_terms.specs.declared.outcome.End.{End}
+use Rattle.graph_terms.specs.declared.outcome.End.TheVariants.{Done, Waiting}
+use Rattle.graph_terms.specs.declared.verb.Verb.TheVariants.{Phase}
+use Rattle.graph_terms.specs.Graph.{GraphValue, columns, column_space, verb_at}
+use Rattle.graph_terms.specs.Reservations.{Acquires, Releases, both_shared}
 use Rattle.gen_events.specs.declared.handle.Handle.{Handle}
 use Rattle.gen_events.specs.EventMap.{EventMap, no_event, IsFree}
 use Rattle.run_state.specs.Run.{Home, Run, is_listed, stage_at, time_at, place_at, list_at, end_so_far, started, ended}

@@ -3,12 +3,12 @@ use Rattle.std.specs.Prelude.{◌≡◌, ◌≢◌, ℕ, ◌↔◌, Bool, true, 
 use Rattle.std.specs.Option.{option_map_or}
 use Rattle.index_spaces.specs.Column.{ColumnValue}
 use Rattle.index_spaces.specs.Held.{held_at}
-use Rattle.graph_model.specs.declared.meaning.outcome.End.{End}
-use Rattle.graph_model.specs.declared.meaning.outcome.End.TheVariants.{Done, Faulted, Cancelled, Waiting}
-use Rattle.graph_model.specs.declared.meaning.outcome.Verdict.{Verdict}
-use Rattle.graph_model.specs.declared.meaning.outcome.Verdict.TheVariants.{Fine, Fault}
-use Rattle.graph_model.specs.graph.Graph.{column_space}
-use Rattle.graph_model.specs.meaning.Evaluation.{eval_end, column_of}
+use Rattle.graph_terms.specs.declared.outcome.End.{End}
+use Rattle.graph_terms.specs.declared.outcome.End.TheVariants.{Done, Faulted, Cancelled, Waiting}
+use Rattle.graph_terms.specs.declared.outcome.Verdict.{Verdict}
+use Rattle.graph_terms.specs.declared.outcome.Verdict.TheVariants.{Fine, Fault}
+use Rattle.graph_terms.specs.Graph.{column_space}
+use Rattle.graph_meaning.specs.Evaluation.{eval_end, column_of}
 use Rattle.run_state.specs.Run.{Out, stage_at, list_at}
 use Rattle.run_state.specs.Sound.{AccessesColumn}
 use Rattle.run_state.specs.Work.{cells_now, put_cells}

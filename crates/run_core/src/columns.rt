@@ -3,7 +3,7 @@
 ghost use Rattle.std.specs.Prelude.{◌≡◌, ◌<◌, ◌⊎◌, ℕ, length, Some, None, slice_get, slice_index_or, IsSome, MatchOption};
 ghost use Rattle.index_spaces.specs.Column.{ColumnValue};
 ghost use Rattle.index_spaces.specs.Held.{held_at};
-ghost use Rattle.graph_model.specs.graph.Graph.{columns as graph_columns};
+ghost use Rattle.graph_terms.specs.Graph.{columns as graph_columns};
 ghost use Rattle.run_state.specs.Sound.{AccessesColumn};
 ghost use Rattle.run_state.specs.WholeLine.{column_list, all_had, all_home};
 ghost use Rattle.run_core.specs.Works.{cells_in};
@@ -11,7 +11,7 @@ ghost use Rattle.run_core.specs.Kept.{places_of, takers_with};
 ghost use Rattle.run_core.specs.Steps.{HasColumns, IsFirstOut};
 
 use graph_model::graph::Graph;
-use graph_model::limits::MOST_ACCESSES;
+use graph_terms::limits::MOST_ACCESSES;
 use index_spaces::held::Held;
 use instances::Homes;
 use line_effects::moving;

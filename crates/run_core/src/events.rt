@@ -10,7 +10,7 @@ use crate::run::LAST_GEN;
 use crate::states::LineState;
 use gen_events::limits::MAX_SLOTS;
 use gen_events::{Answer, EventTable, Fate, Handle, WatchNow};
-use graph_model::limits::MAX_LINES;
+use graph_terms::limits::MAX_LINES;
 use index_spaces::NoMemory;
 use index_spaces::room::{filled, push_within, with_room};
 use std::alloc::Global;
@@ -30,7 +30,7 @@ impl Model for LineEvents {
     ghost use Rattle.std.specs.Prelude.{◌≤◌, length};
     ghost use Rattle.std.specs.Vec.{vec_capacity};
     ghost use Rattle.run_core.specs.Events.{EventsValue, AreMarked};
-    ghost use Rattle.graph_model.specs.declared.graph.limits.TheConstants.{MAX_LINES};
+    ghost use Rattle.graph_terms.specs.declared.limits.TheConstants.{MAX_LINES};
     ghost use Rattle.gen_events.specs.declared.limits.TheConstants.{MAX_SLOTS};
 
     ghost Value = { EventsValue };

@@ -1,8 +1,8 @@
 //! Who holds the reservations.
 
 ghost use Rattle.std.specs.Prelude.{◌≡◌, ◌<◌, ◌+◌, ◌^◌, ℕ, length, map, true, false, IfOk, Some, MatchOption, slice_index_or, replicate};
-ghost use Rattle.graph_model.specs.graph.Graph.{locks};
-ghost use Rattle.graph_model.specs.meaning.Rules.{Acquires};
+ghost use Rattle.graph_terms.specs.Graph.{locks};
+ghost use Rattle.graph_terms.specs.Reservations.{Acquires};
 ghost use Rattle.run_state.specs.Run.{is_listed, list_at};
 ghost use Rattle.run_state.specs.WholeLine.{lock_of, holders_with, holders_without};
 ghost use Rattle.run_core.specs.Kept.{shown_stage, frees_in};
@@ -13,8 +13,8 @@ ghost use Rattle.run_core.specs.declared.holders.LockState.TheVariants as lock_s
 use crate::progress::Progress;
 use crate::sources::end_of;
 use graph_model::graph::Graph;
-use graph_model::outcome::End;
-use graph_model::verb::Verb;
+use graph_terms::outcome::End;
+use graph_terms::verb::Verb;
 use index_spaces::NoMemory;
 use index_spaces::room::filled;
 use std::alloc::Global;

@@ -6,9 +6,9 @@ ghost use Rattle.run_state.specs.Start.{first_value};
 ghost use Rattle.run_state.specs.WholeLine.{values_with, phase_op};
 ghost use Rattle.run_core.specs.Kept.{arrival_of};
 
+use graph_meaning::laws::edges_between_lines;
 use graph_model::graph::Graph;
-use graph_model::laws::edges_between_lines;
-use graph_model::verb::Verb;
+use graph_terms::verb::Verb;
 use index_spaces::room::{push_within, with_room};
 use index_spaces::{NoMemory, Op};
 use line_effects::passing::{barrier_of, combined};

@@ -2,18 +2,18 @@
 
 ghost use Rattle.std.specs.Prelude.{◌≡◌, ◌<◌, List, length, map, nat_lt, cond, Option, Some, None, MatchOption};
 ghost use Rattle.std.specs.List.{list_any};
-ghost use Rattle.graph_model.specs.declared.graph.verb.Edge.{Edge as TheEdge};
-ghost use Rattle.graph_model.specs.graph.Edges.{edges_into};
-ghost use Rattle.graph_model.specs.meaning.Evaluation.{cancels};
+ghost use Rattle.graph_terms.specs.declared.verb.Edge.{Edge as TheEdge};
+ghost use Rattle.graph_terms.specs.Edges.{edges_into};
+ghost use Rattle.graph_meaning.specs.Evaluation.{cancels};
 ghost use Rattle.run_state.specs.Run.{end_so_far, stage_at, stage_ended};
 ghost use Rattle.run_core.specs.Kept.{shown_stage};
 ghost use Rattle.run_core.specs.Steps.{HasSources, IsLeastLeft};
 ghost use Rattle.run_core.specs.Sources.{lesser};
 
 use crate::progress::Progress;
+use graph_meaning::laws::edges_between_lines;
 use graph_model::graph::Graph;
-use graph_model::laws::edges_between_lines;
-use graph_model::outcome::End;
+use graph_terms::outcome::End;
 use line_effects::passing::cancels;
 
 /// The least source of a line that has not ended.

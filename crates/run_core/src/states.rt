@@ -5,7 +5,7 @@ ghost use Rattle.run_core.specs.Resumed.{blank_state};
 
 use crate::answers::Stage;
 use gen_events::{Handle, NO_EVENT};
-use graph_model::outcome::End;
+use graph_terms::outcome::End;
 use index_spaces::NoMemory;
 use index_spaces::room::filled;
 use std::alloc::Global;

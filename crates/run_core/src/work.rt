@@ -1,11 +1,11 @@
 //! The work of a line that was taken.
 
 ghost use Rattle.std.specs.Prelude.{◌≡◌, true};
-ghost use Rattle.graph_model.specs.meaning.Effect.{effect};
-ghost use Rattle.graph_model.specs.meaning.Evaluation.{end_by};
+ghost use Rattle.graph_meaning.specs.Effect.{effect};
+ghost use Rattle.graph_meaning.specs.Evaluation.{end_by};
 
 use graph_model::graph::Graph;
-use graph_model::outcome::{End, Verdict};
+use graph_terms::outcome::{End, Verdict};
 use index_spaces::held::Held;
 use line_effects::effects::apply;
 use run_state::laws::{work_gives_cells, work_is_as_evaluated};
@@ -46,8 +46,8 @@ impl Model for Finished {
 
 impl Work {
     ghost use Rattle.std.specs.Prelude.{◌≡◌, ◌≢◌, Bool, List};
-    ghost use Rattle.graph_model.specs.declared.meaning.outcome.End.TheVariants.{Cancelled};
-    ghost use Rattle.graph_model.specs.meaning.Evaluation.{eval_end};
+    ghost use Rattle.graph_terms.specs.declared.outcome.End.TheVariants.{Cancelled};
+    ghost use Rattle.graph_meaning.specs.Evaluation.{eval_end};
     ghost use Rattle.run_core.specs.Core.{CoreValue, IsCore};
     ghost use Rattle.run_core.specs.Works.{IsWork, IsFinished, verdict_of};
 

@@ -1,9 +1,9 @@
 -- The outcome of an evaluation fits its graph.
 use Rattle.std.proofs.Common.{◌≡◌, ℕ, List, length, sym, ◌∙◌, ap, subst}
 use Rattle.std.proofs.lemmas.List.FromFn.{length-map-range_with_len}
-use Rattle.graph_model.specs.graph.Graph.{GraphValue, columns}
-use Rattle.graph_model.specs.declared.meaning.outcome.Outcome.{Outcome}
-use Rattle.graph_model.specs.meaning.Evaluation.{eval_end, answer_of, phase_value, column_of, cells_of, evaluation, outcome}
+use Rattle.graph_terms.specs.Graph.{GraphValue, columns}
+use Rattle.graph_terms.specs.declared.outcome.Outcome.{Outcome}
+use Rattle.graph_meaning.specs.Evaluation.{eval_end, answer_of, phase_value, column_of, cells_of, evaluation, outcome}
 use Rattle.run_report.specs.Report.{FitsGraph, report, evaluation_report}
 
 pub outcome_fits : (g : GraphValue) (o : Outcome) (trace : List ℕ) → o ≡ outcome g trace → FitsGraph g o

@@ -2,7 +2,7 @@
 use Rattle.std.proofs.Common.{◌≡◌, ℕ, ◌-◌, ◌<◌, ◌≤◌, List, [], ◌∷◌, ◌++◌, length, take, drop, get_or, map, refl, sym, ◌∙◌, ap, append_assoc, take_all, arith}
 use Rattle.std.specs.List.{join_with_byte}
 use denote.Ref.{Bor}
-use Rattle.graph_model.specs.graph.Spelling.{spelled}
+use Rattle.graph_terms.specs.Spelling.{spelled}
 
 pub one_word : (ws : List (Bor (List ℕ))) (d : Bor (List ℕ)) → 1 ≤ length ws → length ws < 2 → spelled (map (λ w. w.now) ws) ≡ (get_or ws 0 d).now ++ 10 ∷ []
 one_word [] d h k = absurd (omega arith)

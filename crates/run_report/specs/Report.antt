@@ -2,15 +2,15 @@
 use Rattle.std.specs.Prelude.{◌≡◌, ℕ, ◌+◌, Bool, true, false, List, [], ◌∷◌, ◌++◌, length, map, take, drop, Option, Some, None, codes, decimal}
 use Rattle.index_spaces.specs.Space.{interval_points}
 use Rattle.index_spaces.specs.Column.{ColumnValue}
-use Rattle.graph_model.specs.declared.meaning.outcome.Outcome.{Outcome}
-use Rattle.graph_model.specs.declared.meaning.outcome.End.{End}
-use Rattle.graph_model.specs.declared.meaning.outcome.End.TheVariants.{Done, Faulted, Cancelled, Waiting}
-use Rattle.graph_model.specs.declared.meaning.outcome.Answer.{Answer}
-use Rattle.graph_model.specs.declared.meaning.outcome.Answer.TheVariants.{Triggered, Poisoned, Pending}
-use Rattle.graph_model.specs.declared.graph.verb.Line.{Line}
-use Rattle.graph_model.specs.graph.Graph.{GraphValue, is_phase, columns}
-use Rattle.graph_model.specs.graph.Spelling.{spelled, column_name, interval_word}
-use Rattle.graph_model.specs.meaning.Evaluation.{outcome, order}
+use Rattle.graph_terms.specs.declared.outcome.Outcome.{Outcome}
+use Rattle.graph_terms.specs.declared.outcome.End.{End}
+use Rattle.graph_terms.specs.declared.outcome.End.TheVariants.{Done, Faulted, Cancelled, Waiting}
+use Rattle.graph_terms.specs.declared.outcome.Answer.{Answer}
+use Rattle.graph_terms.specs.declared.outcome.Answer.TheVariants.{Triggered, Poisoned, Pending}
+use Rattle.graph_terms.specs.declared.verb.Line.{Line}
+use Rattle.graph_terms.specs.Graph.{GraphValue, is_phase, columns}
+use Rattle.graph_terms.specs.Spelling.{spelled, column_name, interval_word}
+use Rattle.graph_meaning.specs.Evaluation.{outcome, order}
 
 abbrev pub end_word : End → List ℕ
 end_word Done = codes "done"

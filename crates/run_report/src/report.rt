@@ -3,19 +3,19 @@
 ghost use Rattle.std.specs.Prelude.{◌≡◌, ℕ, ◌<◌, ◌≤◌, length, ◌+◌, ◌-◌, true, map, take, drop, flat_map, [], ◌∷◌, ◌++◌, decimal, OnOk, OnErr};
 ghost use Rattle.realm_io.specs.Counts.{Rose};
 ghost use Rattle.realm_io.specs.Told.{with_more, TookPrefix};
-ghost use Rattle.graph_model.specs.graph.Spelling.{spelled, interval_word};
+ghost use Rattle.graph_terms.specs.Spelling.{spelled, interval_word};
 ghost use Rattle.run_report.specs.Report.{FitsGraph, end_word, answer_word, op_text, op_texts, phase_text, phase_texts, interval_front, interval_text, cells_texts, column_texts, report, evaluation_report};
 ghost use Rattle.index_spaces.specs.Space.{space_size, IsSpace};
-ghost use Rattle.graph_model.specs.graph.Graph.{is_phase};
-ghost use Rattle.graph_model.specs.meaning.Evaluation.{outcome};
+ghost use Rattle.graph_terms.specs.Graph.{is_phase};
+ghost use Rattle.graph_meaning.specs.Evaluation.{outcome};
 ghost use Rattle.realm_io.specs.Written.{Writes};
 
 use crate::words::{put_four, put_three};
 use graph_model::graph::Graph;
-use graph_model::name::Name;
-use graph_model::outcome::{Answer, End, Outcome};
-use graph_model::verb::{Line, Verb};
 use graph_reader::{put_column_name, put_interval};
+use graph_terms::name::Name;
+use graph_terms::outcome::{Answer, End, Outcome};
+use graph_terms::verb::{Line, Verb};
 use index_spaces::column::Column;
 use index_spaces::limits::MAX_POINTS;
 use itoa::Buffer;

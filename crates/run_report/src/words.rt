@@ -2,7 +2,7 @@
 
 ghost use Rattle.basics.specs.Words.{contents};
 ghost use Rattle.std.specs.Prelude.{◌∷◌, []};
-ghost use Rattle.graph_model.specs.graph.Spelling.{spelled};
+ghost use Rattle.graph_terms.specs.Spelling.{spelled};
 ghost use Rattle.realm_io.specs.Written.{Writes};
 
 use realm_io::{Sink, WriteFault, put_bytes};

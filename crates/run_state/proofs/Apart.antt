@@ -2,11 +2,11 @@
 -- nothing that a run has of columns.
 use Rattle.std.proofs.Common.{◌≡◌, ℕ, true, inl, inr, List, sym, ◌∙◌, subst}
 use Rattle.std.proofs.lemmas.Bool.{true≢false}
-use Rattle.graph_model.specs.graph.Graph.{GraphValue}
-use Rattle.graph_model.specs.graph.Access.{is_reduction, Conflict}
-use Rattle.graph_model.specs.meaning.Path.{HasPath}
-use Rattle.graph_model.specs.meaning.Rules.{Exempt, Accepted}
-use Rattle.graph_model.proofs.Races.{commute_parts, path_or_exempt}
+use Rattle.graph_terms.specs.Graph.{GraphValue}
+use Rattle.graph_terms.specs.Access.{is_reduction, Conflict}
+use Rattle.graph_meaning.specs.Path.{HasPath}
+use Rattle.graph_meaning.specs.Rules.{Exempt, Accepted}
+use Rattle.graph_meaning.proofs.Races.{commute_parts, path_or_exempt}
 use Rattle.run_state.specs.Run.{LineStage, stage_at, out}
 use Rattle.run_state.specs.Sound.{SoundLines}
 use Rattle.run_state.specs.Apart.{ConflictOnlyExempt}

@@ -3,12 +3,12 @@ use Rattle.std.proofs.Common.{◌≡◌, ℕ, ◌<◌, true, false, ◌⊎◌, i
 use Rattle.std.specs.Prelude.{◌≢◌, slice_set}
 use Rattle.std.proofs.lemmas.List.{get_or-set_same, get_or-set_other}
 use Rattle.index_spaces.specs.Space.{points}
-use Rattle.graph_model.specs.declared.meaning.outcome.End.TheVariants.{Cancelled}
-use Rattle.graph_model.specs.graph.Graph.{GraphValue, column_space}
-use Rattle.graph_model.specs.meaning.Effect.{cells_after}
-use Rattle.graph_model.specs.meaning.Evaluation.{eval_end, eval_changes, cells_of_lines, column_of}
-use Rattle.graph_model.proofs.Turns.{turns_after}
-use Rattle.graph_model.proofs.Confluence.{cell_is_put_back}
+use Rattle.graph_terms.specs.declared.outcome.End.TheVariants.{Cancelled}
+use Rattle.graph_terms.specs.Graph.{GraphValue, column_space}
+use Rattle.graph_meaning.specs.Effect.{cells_after}
+use Rattle.graph_meaning.specs.Evaluation.{eval_end, eval_changes, cells_of_lines, column_of}
+use Rattle.graph_meaning.proofs.Turns.{turns_after}
+use Rattle.graph_meaning.proofs.Confluence.{cell_is_put_back}
 use Rattle.run_state.specs.Run.{Place, Home, Had, Run, is_listed, stage_at, place_at, list_at, out, started, ended}
 use Rattle.run_state.specs.Sound.{AccessesColumn, home_cells, SoundColumns, Sound}
 use Rattle.run_state.specs.Moves.{column_out, column_unused, column_back}

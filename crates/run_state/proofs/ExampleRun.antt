@@ -5,20 +5,20 @@ use Rattle.std.specs.List.{list_all}
 use Rattle.std.proofs.lemmas.Bool.{true≢false, cases_lt, eq-eqb, and_parts, not-true}
 use Rattle.std.proofs.lemmas.Option.{none-some, same_Some}
 use Rattle.std.proofs.lemmas.List.{get_or-set_same}
-use Rattle.graph_model.specs.declared.meaning.outcome.End.{End}
-use Rattle.graph_model.specs.declared.meaning.outcome.End.TheVariants.{Done, Faulted, Cancelled, Waiting}
-use Rattle.graph_model.specs.declared.graph.verb.Edge.{Edge}
-use Rattle.graph_model.specs.graph.Graph.{GraphValue, never_comes}
-use Rattle.graph_model.specs.graph.Edges.{edges}
-use Rattle.graph_model.specs.meaning.Rules.{Accepted}
-use Rattle.graph_model.specs.meaning.Evaluation.{eval_end, order}
-use Rattle.graph_model.specs.graph.Fits.{IsGraph}
-use Rattle.graph_model.proofs.examples.Graphs.{one_fill, two_sections, reserved_sums}
+use Rattle.graph_terms.specs.declared.outcome.End.{End}
+use Rattle.graph_terms.specs.declared.outcome.End.TheVariants.{Done, Faulted, Cancelled, Waiting}
+use Rattle.graph_terms.specs.declared.verb.Edge.{Edge}
+use Rattle.graph_terms.specs.Graph.{GraphValue, never_comes}
+use Rattle.graph_terms.specs.Edges.{edges}
+use Rattle.graph_meaning.specs.Rules.{Accepted}
+use Rattle.graph_meaning.specs.Evaluation.{eval_end, order}
+use Rattle.graph_terms.specs.Fits.{IsGraph}
+use Rattle.graph_terms.proofs.examples.Graphs.{one_fill, two_sections, reserved_sums}
 use Rattle.basics.proofs.ListFacts.{passes_each}
-use Rattle.graph_model.proofs.RulesTable.{implies, implied, accepted_by_tests}
-use Rattle.graph_model.proofs.examples.Fits.{one_fill-fits, two_sections-fits}
-use Rattle.graph_model.proofs.examples.Accepted.{two_sections-accepted, reserved_sums-accepted}
-use Rattle.graph_model.proofs.examples.Order.{reserved_sums-fits}
+use Rattle.graph_meaning.proofs.RulesTable.{implies, implied, accepted_by_tests}
+use Rattle.graph_terms.proofs.examples.Fits.{one_fill-fits, two_sections-fits}
+use Rattle.graph_meaning.proofs.examples.Accepted.{two_sections-accepted, reserved_sums-accepted}
+use Rattle.graph_meaning.proofs.examples.Order.{reserved_sums-fits}
 use Rattle.run_state.specs.Run.{LineStage, Unissued, Issued, Out, Ending, Ended, Place, Home, Had, Run, is_listed, stage_at, time_at, place_at, list_at, stage_issued, stage_out, stage_over, stage_ended, ended, issued}
 use Rattle.run_state.specs.Sound.{Sound}
 use Rattle.run_state.specs.Moves.{issue}

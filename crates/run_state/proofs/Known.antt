@@ -1,13 +1,13 @@
 -- The columns that a line of a graph that fits accesses: each is one of the graph, and none is named twice.
 use Rattle.std.proofs.Common.{◌≡◌, ℕ, ◌<◌, length, sym, ◌∙◌, subst, inl, inr, List, map, refl}
-use Rattle.graph_model.specs.graph.Graph.{GraphValue, columns}
-use Rattle.graph_model.specs.graph.Fits.{IsGraph}
-use Rattle.graph_model.proofs.LineFacts.{accesses_fit, columns_differ}
+use Rattle.graph_terms.specs.Graph.{GraphValue, columns}
+use Rattle.graph_terms.specs.Fits.{IsGraph}
+use Rattle.graph_meaning.proofs.LineFacts.{accesses_fit, columns_differ}
 use Rattle.run_state.specs.Sound.{AccessesColumn, Once}
 use Rattle.std.specs.Prelude.{Option, Some, None, slice_get, option_map}
 use Rattle.std.proofs.lemmas.Option.{none-some, same_Some, slice_get-map}
-use Rattle.graph_model.specs.declared.graph.verb.Access.{Access}
-use Rattle.graph_model.specs.graph.Access.{accesses}
+use Rattle.graph_terms.specs.declared.verb.Access.{Access}
+use Rattle.graph_terms.specs.Access.{accesses}
 use Rattle.run_state.proofs.Reductions.{Fresh, once_fresh}
 use Rattle.std.proofs.lemmas.Bool.{cases_order}
 

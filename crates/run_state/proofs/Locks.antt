@@ -3,16 +3,16 @@ use Rattle.std.proofs.Common.{◌≡◌, ℕ, ◌<◌, true, ◌⊎◌, inl, inr
 use Rattle.std.specs.Prelude.{◌≢◌, slice_set}
 use Rattle.std.proofs.lemmas.Bool.{true≢false, cases_eq}
 use Rattle.std.proofs.lemmas.List.{get_or-set_same}
-use Rattle.graph_model.specs.declared.meaning.outcome.End.TheVariants.{Done, Cancelled}
-use Rattle.graph_model.specs.graph.Graph.{GraphValue}
-use Rattle.graph_model.specs.meaning.Rules.{Acquires, Releases, both_shared}
-use Rattle.graph_model.specs.meaning.Evaluation.{eval_end}
+use Rattle.graph_terms.specs.declared.outcome.End.TheVariants.{Done, Cancelled}
+use Rattle.graph_terms.specs.Graph.{GraphValue}
+use Rattle.graph_terms.specs.Reservations.{Acquires, Releases, both_shared}
+use Rattle.graph_meaning.specs.Evaluation.{eval_end}
 use Rattle.run_state.specs.Run.{Run, is_listed, stage_at, list_at, started, over, ended, timed}
 use Rattle.run_state.specs.Sound.{SoundLocks, Sound}
 use Rattle.run_state.specs.Moves.{inserted, hold, without, let_go, free}
 use Rattle.run_state.proofs.Lists.{each_set, inserted_here, inserted_there, inserted_cases, listed_here, listed_there, listed_cases, listed_without, without_listed, out_started, out_not_ended}
-use Rattle.graph_model.proofs.ReleaseFacts.{acquired_lock_known}
-use Rattle.graph_model.proofs.VerbFacts.{release_one, acquire_one, both_shared_swap}
+use Rattle.graph_terms.proofs.ReleaseFacts.{acquired_lock_known}
+use Rattle.graph_terms.proofs.VerbFacts.{release_one, acquire_one, both_shared_swap}
 use Rattle.run_state.proofs.SoundParts.{with_locks}
 use Rattle.run_state.specs.Premises.{MayHold, MayLetGo, MayFree}
 

@@ -6,16 +6,17 @@ use Rattle.std.proofs.lemmas.List.{get_or-set_same, get_or-set_other}
 use Rattle.std.proofs.lemmas.Bool.{true≢false, cases_eq, eq-eqb, ne_eqb}
 use Rattle.std.proofs.lemmas.Option.{none-some, same_Some}
 use Rattle.index_spaces.specs.declared.Op.{Op}
-use Rattle.graph_model.specs.declared.meaning.outcome.End.TheVariants.{Cancelled}
-use Rattle.graph_model.specs.declared.graph.verb.Verb.{Verb}
-use Rattle.graph_model.specs.declared.graph.verb.Verb.TheVariants.{Phase, Arrive}
-use Rattle.graph_model.specs.graph.Graph.{GraphValue, verb_at, line_passes}
-use Rattle.graph_model.specs.meaning.Evaluation.{eval_end, combined, reduced_with, arrival_value}
+use Rattle.graph_terms.specs.declared.outcome.End.TheVariants.{Cancelled}
+use Rattle.graph_terms.specs.declared.verb.Verb.{Verb}
+use Rattle.graph_terms.specs.declared.verb.Verb.TheVariants.{Phase, Arrive}
+use Rattle.graph_terms.specs.Graph.{GraphValue, verb_at, line_passes}
+use Rattle.graph_meaning.specs.Evaluation.{eval_end, combined, reduced_with, arrival_value}
 use Rattle.run_state.specs.Run.{Run, is_listed, stage_at, started}
 use Rattle.run_state.specs.Sound.{is_arrive, value_for, Once, SoundPhases, Sound}
 use Rattle.run_state.specs.Moves.{arrive}
 use Rattle.std.proofs.lemmas.List.Sums.{fold_push}
-use Rattle.graph_model.proofs.VerbFacts.{verb_below, arrival_is}
+use Rattle.graph_terms.proofs.VerbFacts.{verb_below}
+use Rattle.graph_meaning.proofs.ArrivalFacts.{arrival_is}
 use Rattle.run_state.proofs.SoundParts.{with_phases}
 use Rattle.run_state.proofs.Lists.{listed_there, listed_contains, contains_listed, out_started}
 use Rattle.std.proofs.lemmas.List.Elements.{Contains-push_cases, Contains-append_left, filter_map-append}

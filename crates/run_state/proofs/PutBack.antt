@@ -7,14 +7,14 @@ use Rattle.std.proofs.lemmas.Bool.{true≢false, cases_eq, eq-eqb, false_from_ne
 use Rattle.std.proofs.lemmas.Option.{none-some, same_Some}
 use Rattle.index_spaces.specs.declared.Op.{Op}
 use Rattle.index_spaces.specs.declared.Op.TheVariants as op
-use Rattle.graph_model.specs.declared.meaning.outcome.End.{End}
-use Rattle.graph_model.specs.declared.meaning.outcome.End.TheVariants.{Done, Faulted, Cancelled, Waiting}
-use Rattle.graph_model.specs.declared.graph.verb.Verb.{Verb}
-use Rattle.graph_model.specs.declared.graph.verb.Verb.TheVariants.{User, Trigger, Cancel, Merge, MergeIgnore, Phase, Arrive, Acquire, Release, Fill, Copy, Reduce, Task}
-use Rattle.graph_model.specs.declared.graph.decl.BarrierInfo.{BarrierInfo}
-use Rattle.graph_model.specs.graph.Graph.{GraphValue, barriers, verb_at, is_release_of}
-use Rattle.graph_model.specs.meaning.Rules.{Acquires, Releases}
-use Rattle.graph_model.specs.meaning.Evaluation.{eval_end, arrival_value}
+use Rattle.graph_terms.specs.declared.outcome.End.{End}
+use Rattle.graph_terms.specs.declared.outcome.End.TheVariants.{Done, Faulted, Cancelled, Waiting}
+use Rattle.graph_terms.specs.declared.verb.Verb.{Verb}
+use Rattle.graph_terms.specs.declared.verb.Verb.TheVariants.{User, Trigger, Cancel, Merge, MergeIgnore, Phase, Arrive, Acquire, Release, Fill, Copy, Reduce, Task}
+use Rattle.graph_terms.specs.declared.decl.BarrierInfo.{BarrierInfo}
+use Rattle.graph_terms.specs.Graph.{GraphValue, barriers, verb_at, is_release_of}
+use Rattle.graph_terms.specs.Reservations.{Acquires, Releases}
+use Rattle.graph_meaning.specs.Evaluation.{eval_end, arrival_value}
 use Rattle.run_state.specs.Run.{LineStage, Unissued, Ending, Ended, Place, Home, Had, Run, is_listed, stage_at, time_at, place_at, list_at, stage_issued, stage_out, stage_started, stage_over, stage_ended, end_so_far, out, started, ended}
 use Rattle.run_state.specs.Sound.{AccessesColumn, is_arrive, value_for, Sound}
 use Rattle.run_state.specs.Moves.{draw, ending}
@@ -22,14 +22,14 @@ use Rattle.run_state.specs.Work.{put_cells}
 use Rattle.run_state.specs.WholeLine.{column_list, lock_of, all_home, all_back, columns_back, arrived_with, arrive_some, holders_without, freed_with, free_some, columns_for, op_by, phase_op, arrival_by, arrival_for, freed_lock, frees_by, frees_for, put_back_whole}
 use Rattle.run_state.proofs.Lists.{ended_over, out_not_ended, each_set, listed_here, listed_there, listed_cases, none_listed, stage_there, is_some_of}
 use Rattle.run_state.proofs.Known.{column_there, columns_fresh}
-use Rattle.graph_model.proofs.ReleaseFacts.{acquired_lock_known, one_release, release_names}
+use Rattle.graph_terms.proofs.ReleaseFacts.{acquired_lock_known, one_release, release_names}
 use Rattle.run_state.proofs.Started.{path_ended, kept_is}
 use Rattle.run_state.proofs.Columns.{had_one, with_one, one_more, one_new, one_cases, column_back-sound}
 use Rattle.run_state.proofs.Times.{draw-sound}
 use Rattle.run_state.proofs.Stages.{ending-sound, close-sound}
 use Rattle.run_state.proofs.Locks.{less_one, one_stays, free-sound}
 use Rattle.run_state.proofs.Phases.{arrive-sound, listed_push}
-use Rattle.graph_model.proofs.VerbFacts.{passes_verb, verb_passes, release_of_is}
+use Rattle.graph_terms.proofs.VerbFacts.{passes_verb, verb_passes, release_of_is}
 use Rattle.run_state.proofs.Reductions.{Fresh}
 use Rattle.run_state.proofs.WholeLine.{listed_accessed, accessed_listed, not_the_first, lock_acquires, acquires_lock}
 use Rattle.run_state.specs.AtRest.{AtRest, MayPutBack}

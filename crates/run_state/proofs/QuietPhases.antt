@@ -7,25 +7,25 @@ use Rattle.std.proofs.lemmas.Bool.{true≢false, eq-eqb}
 use Rattle.std.proofs.lemmas.Option.{slice_get-get_or}
 use Rattle.index_spaces.specs.declared.Op.TheVariants as op
 use Rattle.basics.specs.Lists.{numbers_below}
-use Rattle.graph_model.specs.declared.meaning.outcome.End.{End}
-use Rattle.graph_model.specs.declared.meaning.outcome.End.TheVariants.{Done, Faulted, Cancelled, Waiting}
-use Rattle.graph_model.specs.declared.graph.verb.Edge.{Edge}
-use Rattle.graph_model.specs.declared.graph.verb.EdgeKind.TheVariants.{Passes}
-use Rattle.graph_model.specs.declared.graph.verb.Line.{Line}
-use Rattle.graph_model.specs.declared.graph.verb.Verb.TheVariants.{Phase, Arrive}
-use Rattle.graph_model.specs.declared.graph.decl.BarrierInfo.{BarrierInfo}
-use Rattle.graph_model.specs.graph.Graph.{GraphValue, barriers, verb_at}
-use Rattle.graph_model.specs.graph.Edges.{edge, edges, edges_into}
-use Rattle.graph_model.specs.meaning.Evaluation.{is_ended, is_cancelled, cancels, evaluation, eval_end, arrival_value, reduced_with, reduced_value}
+use Rattle.graph_terms.specs.declared.outcome.End.{End}
+use Rattle.graph_terms.specs.declared.outcome.End.TheVariants.{Done, Faulted, Cancelled, Waiting}
+use Rattle.graph_terms.specs.declared.verb.Edge.{Edge}
+use Rattle.graph_terms.specs.declared.verb.EdgeKind.TheVariants.{Passes}
+use Rattle.graph_terms.specs.declared.verb.Line.{Line}
+use Rattle.graph_terms.specs.declared.verb.Verb.TheVariants.{Phase, Arrive}
+use Rattle.graph_terms.specs.declared.decl.BarrierInfo.{BarrierInfo}
+use Rattle.graph_terms.specs.Graph.{GraphValue, barriers, verb_at}
+use Rattle.graph_terms.specs.Edges.{edge, edges, edges_into}
+use Rattle.graph_meaning.specs.Evaluation.{is_ended, is_cancelled, cancels, evaluation, eval_end, arrival_value, reduced_with, reduced_value}
 use Rattle.basics.proofs.ListFacts.{passes_some, contains_filter, contains_below}
-use Rattle.graph_model.proofs.LineFacts.{phases_fit}
+use Rattle.graph_meaning.proofs.LineFacts.{phases_fit}
 use Rattle.run_state.specs.Run.{Run, is_listed, stage_at, started, ended}
 use Rattle.run_state.specs.Sound.{is_arrive, value_for, Sound}
 use Rattle.run_state.specs.Quiet.{Quiet}
 use Rattle.run_state.proofs.Lists.{ended_over, contains_listed}
 use Rattle.run_state.proofs.Started.{ended_started, started_ends, cancelled_iff}
-use Rattle.graph_model.proofs.VerbFacts.{verb_passes, verb_below}
-use Rattle.graph_model.proofs.EdgeFacts.{arrival_edge}
+use Rattle.graph_terms.proofs.VerbFacts.{verb_passes, verb_below}
+use Rattle.graph_terms.proofs.EdgeFacts.{arrival_edge}
 use Rattle.run_state.proofs.Reductions.{once_fresh, numbers_fresh, same_reduced, by_number}
 use Rattle.run_state.proofs.Phases.{value_is}
 use Rattle.run_state.proofs.Quiet.{evaluation_ended}

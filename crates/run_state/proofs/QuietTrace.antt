@@ -3,14 +3,14 @@ use Rattle.std.proofs.Common.{◌≡◌, ℕ, ◌<◌, ◌≤◌, true, false, �
 use Rattle.std.specs.Prelude.{Contains, ◌≢◌, Some, slice_get}
 use Rattle.std.proofs.lemmas.Bool.{cases_order}
 use Rattle.std.proofs.lemmas.Option.{same_Some, slice_get_within, slice_get-get_or}
-use Rattle.graph_model.specs.declared.meaning.outcome.End.{End}
-use Rattle.graph_model.specs.declared.meaning.outcome.End.TheVariants.{Done, Cancelled}
-use Rattle.graph_model.specs.graph.Graph.{GraphValue}
-use Rattle.graph_model.specs.meaning.Rules.{Acquires, Releases, both_shared}
-use Rattle.graph_model.specs.meaning.Evaluation.{is_ended, eval_end}
+use Rattle.graph_terms.specs.declared.outcome.End.{End}
+use Rattle.graph_terms.specs.declared.outcome.End.TheVariants.{Done, Cancelled}
+use Rattle.graph_terms.specs.Graph.{GraphValue}
+use Rattle.graph_terms.specs.Reservations.{Acquires, Releases, both_shared}
+use Rattle.graph_meaning.specs.Evaluation.{is_ended, eval_end}
 use Rattle.basics.proofs.ListFacts.{count_below-max, got_contains}
-use Rattle.graph_model.proofs.VerbFacts.{both_shared_swap}
-use Rattle.graph_model.specs.meaning.Trace.{StandsBefore, IsLawful}
+use Rattle.graph_terms.proofs.VerbFacts.{both_shared_swap}
+use Rattle.graph_meaning.specs.Trace.{StandsBefore, IsLawful}
 use Rattle.run_state.specs.Run.{Run, stage_at, time_at, ended, timed}
 use Rattle.run_state.specs.Sound.{Sound}
 use Rattle.run_state.specs.Quiet.{Quiet, ByTimes}

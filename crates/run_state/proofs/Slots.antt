@@ -7,25 +7,25 @@ use Rattle.std.proofs.lemmas.Bool.{true≢false, cases_lt, lt-ltb, not-true}
 use Rattle.std.proofs.lemmas.List.Sums.{fold_push}
 use Rattle.std.proofs.lemmas.List.Elements.{Contains-append_left, Contains-append_right}
 use Rattle.basics.specs.Lists.{numbers_below, count_below}
-use Rattle.graph_model.specs.declared.graph.verb.Edge.{Edge}
-use Rattle.graph_model.specs.declared.graph.verb.EdgeKind.TheVariants.{Passes}
-use Rattle.graph_model.specs.declared.graph.verb.Line.{Line}
-use Rattle.graph_model.specs.declared.graph.verb.Verb.{Verb}
-use Rattle.graph_model.specs.graph.Graph.{GraphValue, never_comes, verb_at, locks, is_acquire_of, is_release_of}
-use Rattle.graph_model.specs.graph.Edges.{edge, edges}
-use Rattle.graph_model.specs.meaning.Path.{Path, last, first}
-use Rattle.graph_model.specs.meaning.Rules.{Acquires, Releases}
-use Rattle.graph_model.specs.meaning.Need.{places, rivals, acquires_after, release_edges, need_edges, Precedes, IsHigh, largest, open_at, IsNeed}
+use Rattle.graph_terms.specs.declared.verb.Edge.{Edge}
+use Rattle.graph_terms.specs.declared.verb.EdgeKind.TheVariants.{Passes}
+use Rattle.graph_terms.specs.declared.verb.Line.{Line}
+use Rattle.graph_terms.specs.declared.verb.Verb.{Verb}
+use Rattle.graph_terms.specs.Graph.{GraphValue, never_comes, verb_at, locks, is_acquire_of, is_release_of}
+use Rattle.graph_terms.specs.Edges.{edge, edges}
+use Rattle.graph_meaning.specs.Path.{Path, last, first}
+use Rattle.graph_terms.specs.Reservations.{Acquires, Releases}
+use Rattle.graph_meaning.specs.Need.{places, rivals, acquires_after, release_edges, need_edges, Precedes, IsHigh, largest, open_at, IsNeed}
 use Rattle.basics.proofs.ListFacts.{contains_none, contains_cases, contains_here, contains_there, contains_map, contains_below}
-use Rattle.graph_model.proofs.PathLaws.{path_append}
-use Rattle.graph_model.proofs.ReadyLine.{IsReadyLine, ready_or_never}
-use Rattle.graph_model.proofs.NeedTable.{largest_above}
-use Rattle.graph_model.proofs.VerbFacts.{passes_below, passes_verb, acquire_of_is, release_of_is}
-use Rattle.graph_model.proofs.GraphFacts.{edges_in_range}
+use Rattle.graph_meaning.proofs.PathLaws.{path_append}
+use Rattle.graph_meaning.proofs.ReadyLine.{IsReadyLine, ready_or_never}
+use Rattle.graph_meaning.proofs.NeedTable.{largest_above}
+use Rattle.graph_terms.proofs.VerbFacts.{passes_below, passes_verb, acquire_of_is, release_of_is}
+use Rattle.graph_terms.proofs.GraphFacts.{edges_in_range}
 use Rattle.run_state.specs.Run.{Run, is_listed, list_at, started, ended}
 use Rattle.run_state.specs.Sound.{Sound}
 use Rattle.run_state.specs.Quiet.{Stuck, left_among}
-use Rattle.graph_model.proofs.ReleaseFacts.{acquired_lock_known}
+use Rattle.graph_terms.proofs.ReleaseFacts.{acquired_lock_known}
 use Rattle.run_state.proofs.Started.{path_ended}
 use Rattle.run_state.proofs.Quiet.{release_no_acquire, release_left}
 use Rattle.run_state.proofs.Stuck.{Blocked, stuck_ended, stuck_issued, blocked}

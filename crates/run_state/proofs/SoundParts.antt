@@ -1,6 +1,6 @@
 -- A step of the columns, of the phases or of the reservations alone leaves the other parts as they are.
 use Rattle.std.proofs.Common.{ℕ, List}
-use Rattle.graph_model.specs.graph.Graph.{GraphValue}
+use Rattle.graph_terms.specs.Graph.{GraphValue}
 use Rattle.run_state.specs.Run.{Place, Run}
 use Rattle.run_state.specs.Sound.{SoundColumns, SoundPhases, SoundLocks, Sound}
 

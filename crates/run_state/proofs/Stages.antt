@@ -3,13 +3,13 @@ use Rattle.std.proofs.Common.{◌≡◌, ℕ, ◌<◌, Bool, true, false, List, 
 use Rattle.std.specs.Prelude.{Contains, ◌≢◌, IsTrue, Some, slice_set}
 use Rattle.std.proofs.lemmas.Bool.{true≢false}
 use Rattle.std.proofs.lemmas.Option.{none-some, same_Some}
-use Rattle.graph_model.specs.declared.meaning.outcome.End.{End}
-use Rattle.graph_model.specs.declared.meaning.outcome.End.TheVariants.{Done, Cancelled}
-use Rattle.graph_model.specs.declared.graph.verb.Edge.{Edge}
-use Rattle.graph_model.specs.graph.Graph.{GraphValue, never_comes, line_passes}
-use Rattle.graph_model.specs.graph.Edges.{edges}
-use Rattle.graph_model.specs.meaning.Rules.{Releases}
-use Rattle.graph_model.specs.meaning.Evaluation.{eval_end}
+use Rattle.graph_terms.specs.declared.outcome.End.{End}
+use Rattle.graph_terms.specs.declared.outcome.End.TheVariants.{Done, Cancelled}
+use Rattle.graph_terms.specs.declared.verb.Edge.{Edge}
+use Rattle.graph_terms.specs.Graph.{GraphValue, never_comes, line_passes}
+use Rattle.graph_terms.specs.Edges.{edges}
+use Rattle.graph_terms.specs.Reservations.{Releases}
+use Rattle.graph_meaning.specs.Evaluation.{eval_end}
 use Rattle.run_state.specs.Run.{LineStage, Unissued, Issued, Out, Ending, Ended, Run, Had, is_listed, stage_at, place_at, list_at, stage_issued, stage_out, stage_started, stage_over, stage_ended, kept_end, issued, started, over, ended, timed}
 use Rattle.run_state.specs.Sound.{AccessesColumn, is_arrive, SoundLines, SoundColumns, SoundPhases, SoundLocks, SoundTimes, Sound}
 use Rattle.run_state.specs.Moves.{staged, issue, claim, unclaim, ending, close}

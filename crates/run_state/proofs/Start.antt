@@ -8,21 +8,21 @@ use Rattle.std.proofs.lemmas.List.{get_or_past}
 use Rattle.std.proofs.lemmas.List.FromFn.{get_or-map-range_with_len, length-map-range_with_len}
 use Rattle.index_spaces.specs.Space.{points}
 use Rattle.basics.specs.Lists.{numbers_below}
-use Rattle.graph_model.specs.declared.graph.verb.Verb.{Verb}
-use Rattle.graph_model.specs.declared.graph.verb.Verb.TheVariants.{Phase}
-use Rattle.graph_model.specs.declared.graph.decl.BarrierInfo.{BarrierInfo}
-use Rattle.graph_model.specs.declared.graph.decl.ColumnInfo.{ColumnInfo}
-use Rattle.graph_model.specs.graph.Graph.{GraphValue, barriers, columns, locks, space_at, column_space, verb_at}
-use Rattle.graph_model.specs.meaning.Effect.{zero_cells, cells_after}
-use Rattle.graph_model.specs.meaning.Evaluation.{order, eval_changes, cells_of_lines}
-use Rattle.graph_model.specs.meaning.Rules.{Accepted}
-use Rattle.graph_model.specs.graph.Fits.{IsGraph}
+use Rattle.graph_terms.specs.declared.verb.Verb.{Verb}
+use Rattle.graph_terms.specs.declared.verb.Verb.TheVariants.{Phase}
+use Rattle.graph_terms.specs.declared.decl.BarrierInfo.{BarrierInfo}
+use Rattle.graph_terms.specs.declared.decl.ColumnInfo.{ColumnInfo}
+use Rattle.graph_terms.specs.Graph.{GraphValue, barriers, columns, locks, space_at, column_space, verb_at}
+use Rattle.graph_meaning.specs.Effect.{zero_cells, cells_after}
+use Rattle.graph_meaning.specs.Evaluation.{order, eval_changes, cells_of_lines}
+use Rattle.graph_meaning.specs.Rules.{Accepted}
+use Rattle.graph_terms.specs.Fits.{IsGraph}
 use Rattle.run_state.specs.Run.{LineStage, Unissued, Home, Had, is_listed, timed, stage_at, time_at, place_at, list_at, stage_issued, stage_started, stage_over, stage_ended, kept_end}
 use Rattle.run_state.specs.Sound.{home_cells, Sound}
 use Rattle.run_state.specs.Start.{first_by, first_value, zeros, start}
 use Rattle.run_state.proofs.Lists.{map_same, none_listed}
 use Rattle.run_state.proofs.Counts.{none_counted}
-use Rattle.graph_model.proofs.VerbFacts.{verb_below}
+use Rattle.graph_terms.proofs.VerbFacts.{verb_below}
 use Rattle.run_state.proofs.Columns.{had_not_home, home_one}
 
 -- the entries of a list of one thing

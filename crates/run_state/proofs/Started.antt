@@ -2,24 +2,24 @@
 use Rattle.std.proofs.Common.{◌≡◌, ℕ, ◌<◌, Bool, true, false, inl, inr, List, [], length, refl, sym, ◌∙◌, ap, subst}
 use Rattle.std.specs.Prelude.{Contains, ◌==◌}
 use Rattle.std.proofs.lemmas.Bool.{true≢false, true_from_ne_false, eqb-true, and_parts}
-use Rattle.graph_model.specs.declared.meaning.outcome.End.TheVariants.{Cancelled}
-use Rattle.graph_model.specs.declared.graph.verb.Edge.{Edge}
-use Rattle.graph_model.specs.graph.Graph.{GraphValue, never_comes}
-use Rattle.graph_model.specs.graph.Edges.{edges, edges_into}
-use Rattle.graph_model.specs.meaning.Path.{HasPath}
-use Rattle.graph_model.specs.meaning.Rules.{Accepted}
-use Rattle.graph_model.specs.meaning.Effect.{CellChange, Effect, effect}
-use Rattle.graph_model.specs.meaning.Evaluation.{has_ended, cells_of, cancels, is_cancelled, step_by, evaluation, eval_end, eval_changes}
-use Rattle.graph_model.specs.graph.Fits.{IsGraph}
-use Rattle.graph_model.proofs.Cancelled.{not_cancelled_of}
+use Rattle.graph_terms.specs.declared.outcome.End.TheVariants.{Cancelled}
+use Rattle.graph_terms.specs.declared.verb.Edge.{Edge}
+use Rattle.graph_terms.specs.Graph.{GraphValue, never_comes}
+use Rattle.graph_terms.specs.Edges.{edges, edges_into}
+use Rattle.graph_meaning.specs.Path.{HasPath}
+use Rattle.graph_meaning.specs.Rules.{Accepted}
+use Rattle.graph_meaning.specs.Effect.{CellChange, Effect, effect}
+use Rattle.graph_meaning.specs.Evaluation.{has_ended, cells_of, cancels, is_cancelled, step_by, evaluation, eval_end, eval_changes}
+use Rattle.graph_terms.specs.Fits.{IsGraph}
+use Rattle.graph_meaning.proofs.Cancelled.{not_cancelled_of}
 use Rattle.basics.proofs.ListFacts.{contains_none, filter_contains}
-use Rattle.graph_model.proofs.Races.{before_ended}
-use Rattle.graph_model.proofs.Waiting.{left_is_reached}
-use Rattle.graph_model.proofs.Turns.{ends_by_turn, list_any_agree}
-use Rattle.graph_model.proofs.Changes.{touches}
-use Rattle.graph_model.specs.meaning.Laws.{IsReadyAmong}
-use Rattle.graph_model.proofs.Confluence.{change_access}
-use Rattle.graph_model.proofs.GraphFacts.{edges_in_range}
+use Rattle.graph_meaning.proofs.Races.{before_ended}
+use Rattle.graph_meaning.proofs.Waiting.{left_is_reached}
+use Rattle.graph_meaning.proofs.Turns.{ends_by_turn, list_any_agree}
+use Rattle.graph_meaning.proofs.Changes.{touches}
+use Rattle.graph_meaning.specs.Laws.{IsReadyAmong}
+use Rattle.graph_meaning.proofs.Confluence.{change_access}
+use Rattle.graph_terms.proofs.GraphFacts.{edges_in_range}
 use Rattle.run_state.specs.Run.{LineStage, Run, is_listed, stage_at, list_at, end_so_far, out, started, over, ended}
 use Rattle.run_state.specs.Sound.{SoundLines, Sound}
 use Rattle.run_state.specs.Quiet.{kept_cancels}

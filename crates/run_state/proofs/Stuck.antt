@@ -3,14 +3,14 @@ use Rattle.std.proofs.Common.{◌≡◌, ℕ, ◌<◌, true, false, inl, inr, Li
 use Rattle.std.specs.Prelude.{◌≢◌, Option, Some, None}
 use Rattle.std.proofs.lemmas.Bool.{true≢false, eq-eqb}
 use Rattle.std.proofs.lemmas.Option.{none-some}
-use Rattle.graph_model.specs.declared.graph.verb.Verb.{Verb}
-use Rattle.graph_model.specs.graph.Graph.{GraphValue, verb_at, is_acquire_of}
-use Rattle.graph_model.specs.meaning.Rules.{Acquires}
+use Rattle.graph_terms.specs.declared.verb.Verb.{Verb}
+use Rattle.graph_terms.specs.Graph.{GraphValue, verb_at, is_acquire_of}
+use Rattle.graph_terms.specs.Reservations.{Acquires}
 use Rattle.run_state.specs.Run.{LineStage, Unissued, Issued, Out, Ending, Ended, Run, Had, is_listed, stage_at, place_at, list_at, stage_issued, stage_out, stage_over, stage_ended, started, ended}
 use Rattle.run_state.specs.Sound.{IsOpenTo, Sound}
 use Rattle.run_state.specs.Quiet.{IsFree, Stuck}
 use Rattle.run_state.proofs.Lists.{listed_here, none_listed, started_cases}
-use Rattle.graph_model.proofs.VerbFacts.{acquire_one, passes_verb, verb_passes, acquire_some}
+use Rattle.graph_terms.proofs.VerbFacts.{acquire_one, passes_verb, verb_passes, acquire_some}
 
 -- what is left of the stages where no line is out or ending
 issued_only : (s : LineStage) → stage_issued s ≡ true → stage_out s ≡ false → (stage_over s ≡ true → stage_ended s ≡ true) → stage_ended s ≡ false → s ≡ Issued

@@ -3,12 +3,12 @@ use Rattle.std.proofs.Common.{◌≡◌, ℕ, true, inl, inr, List, sym, ◌∙�
 use Rattle.std.specs.Prelude.{◌≢◌}
 use Rattle.std.proofs.lemmas.List.{get_or-set_same}
 use Rattle.index_spaces.specs.Space.{IsSpace}
-use Rattle.graph_model.specs.declared.meaning.outcome.End.TheVariants.{Cancelled}
-use Rattle.graph_model.specs.graph.Graph.{GraphValue, column_space}
-use Rattle.graph_model.specs.meaning.Evaluation.{eval_end, end_by, cells_of_lines, column_of}
-use Rattle.graph_model.specs.meaning.Effect.{Cells, effect}
-use Rattle.graph_model.specs.graph.Fits.{IsGraph}
-use Rattle.graph_model.proofs.LineFacts.{accesses_fit}
+use Rattle.graph_terms.specs.declared.outcome.End.TheVariants.{Cancelled}
+use Rattle.graph_terms.specs.Graph.{GraphValue, column_space}
+use Rattle.graph_meaning.specs.Evaluation.{eval_end, end_by, cells_of_lines, column_of}
+use Rattle.graph_meaning.specs.Effect.{Cells, effect}
+use Rattle.graph_terms.specs.Fits.{IsGraph}
+use Rattle.graph_meaning.proofs.LineFacts.{accesses_fit}
 use Rattle.run_state.specs.Run.{Unissued, Out, Home, Had, Run, is_listed, stage_at, place_at, list_at, stage_issued, stage_out}
 use Rattle.run_state.specs.Sound.{AccessesColumn, home_cells, Sound}
 use Rattle.run_state.specs.Work.{HoldsAll, cells_from, performed}

@@ -4,11 +4,11 @@ use Rattle.std.specs.Prelude.{◌≢◌, Option, Some, None, is_some, slice_set}
 use Rattle.std.proofs.lemmas.List.{get_or-set_same, get_or-set_other}
 use Rattle.std.proofs.lemmas.Bool.{true≢false, cases_eq, cases_order}
 use Rattle.std.proofs.lemmas.Option.{none-some, same_Some}
-use Rattle.graph_model.specs.declared.meaning.outcome.End.TheVariants.{Cancelled}
-use Rattle.graph_model.specs.graph.Graph.{GraphValue}
-use Rattle.graph_model.specs.meaning.Path.{last}
-use Rattle.graph_model.specs.meaning.Rules.{Acquires, Releases, both_shared}
-use Rattle.graph_model.specs.meaning.Evaluation.{eval_end}
+use Rattle.graph_terms.specs.declared.outcome.End.TheVariants.{Cancelled}
+use Rattle.graph_terms.specs.Graph.{GraphValue}
+use Rattle.graph_meaning.specs.Path.{last}
+use Rattle.graph_terms.specs.Reservations.{Acquires, Releases, both_shared}
+use Rattle.graph_meaning.specs.Evaluation.{eval_end}
 use Rattle.run_state.specs.Run.{Run, is_listed, stage_at, time_at, list_at, started, over, ended, timed}
 use Rattle.run_state.specs.Sound.{SoundLocks, SoundTimes, Sound}
 use Rattle.run_state.specs.Moves.{draw}

@@ -2,12 +2,12 @@
 use Rattle.std.proofs.Common.{◌≡◌, ℕ, true, false, inl, inr, sym, ◌∙◌, ap}
 use Rattle.std.specs.Prelude.{◌≢◌, ◌↔◌, Some}
 use Rattle.std.proofs.lemmas.Bool.{true≢false}
-use Rattle.graph_model.specs.declared.meaning.outcome.End.{End}
-use Rattle.graph_model.specs.declared.meaning.outcome.End.TheVariants.{Done, Cancelled}
-use Rattle.graph_model.specs.graph.Graph.{GraphValue, line_passes}
-use Rattle.graph_model.specs.meaning.Rules.{Acquires, Releases}
-use Rattle.graph_model.specs.meaning.Evaluation.{is_ended, evaluation, eval_end}
-use Rattle.graph_model.proofs.Waiting.{end_in_ended, steps_end}
+use Rattle.graph_terms.specs.declared.outcome.End.{End}
+use Rattle.graph_terms.specs.declared.outcome.End.TheVariants.{Done, Cancelled}
+use Rattle.graph_terms.specs.Graph.{GraphValue, line_passes}
+use Rattle.graph_terms.specs.Reservations.{Acquires, Releases}
+use Rattle.graph_meaning.specs.Evaluation.{is_ended, evaluation, eval_end}
+use Rattle.graph_meaning.proofs.Waiting.{end_in_ended, steps_end}
 use Rattle.run_state.specs.Run.{Run, Had, is_listed, stage_at, time_at, place_at, list_at, kept_end, over, ended}
 use Rattle.run_state.specs.Sound.{AccessesColumn, is_arrive, Sound}
 use Rattle.run_state.proofs.Lists.{out_not_over, over_started, ended_over, some_is}

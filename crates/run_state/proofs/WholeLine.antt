@@ -5,14 +5,14 @@ use Rattle.std.specs.Option.{option_map_or}
 use Rattle.std.proofs.lemmas.List.{get_or-set_same, get_or-set_other}
 use Rattle.std.proofs.lemmas.Bool.{true≢false, eq-eqb, false_from_ne_true}
 use Rattle.std.proofs.lemmas.Option.{none-some, same_Some}
-use Rattle.graph_model.specs.declared.meaning.outcome.End.TheVariants.{Cancelled}
-use Rattle.graph_model.specs.declared.graph.verb.Access.{Access}
-use Rattle.graph_model.specs.declared.graph.verb.Verb.{Verb}
-use Rattle.graph_model.specs.declared.graph.verb.Verb.TheVariants.{Acquire}
-use Rattle.graph_model.specs.graph.Graph.{GraphValue, verb_at, is_acquire_of}
-use Rattle.graph_model.specs.graph.Access.{accesses}
-use Rattle.graph_model.specs.meaning.Rules.{Acquires}
-use Rattle.graph_model.specs.meaning.Evaluation.{eval_end}
+use Rattle.graph_terms.specs.declared.outcome.End.TheVariants.{Cancelled}
+use Rattle.graph_terms.specs.declared.verb.Access.{Access}
+use Rattle.graph_terms.specs.declared.verb.Verb.{Verb}
+use Rattle.graph_terms.specs.declared.verb.Verb.TheVariants.{Acquire}
+use Rattle.graph_terms.specs.Graph.{GraphValue, verb_at, is_acquire_of}
+use Rattle.graph_terms.specs.Access.{accesses}
+use Rattle.graph_terms.specs.Reservations.{Acquires}
+use Rattle.graph_meaning.specs.Evaluation.{eval_end}
 use Rattle.basics.proofs.ListFacts.{contains_map, map_contains}
 use Rattle.run_state.specs.Run.{LineStage, Unissued, Issued, Out, Place, Home, Had, Run, is_listed, stage_at, place_at, list_at, stage_issued, stage_out, stage_started, stage_over, stage_ended, started, ended, timed}
 use Rattle.run_state.specs.Sound.{AccessesColumn, Sound}
@@ -20,11 +20,11 @@ use Rattle.run_state.specs.Moves.{claim, column_out, inserted}
 use Rattle.run_state.specs.WholeLine.{column_list, lock_by, lock_of, all_had, columns_out, holders_with, hold_some, take_whole}
 use Rattle.run_state.proofs.Lists.{each_set, listed_contains, contains_listed, listed_here, listed_there, listed_cases, none_listed, stage_there}
 use Rattle.run_state.proofs.Known.{column_there, columns_fresh}
-use Rattle.graph_model.proofs.ReleaseFacts.{acquired_lock_known}
+use Rattle.graph_terms.proofs.ReleaseFacts.{acquired_lock_known}
 use Rattle.run_state.proofs.Columns.{column_out-sound}
 use Rattle.run_state.proofs.Stages.{claim-sound}
 use Rattle.run_state.proofs.Locks.{with_holder, holder_more, holder_new, hold-sound}
-use Rattle.graph_model.proofs.VerbFacts.{passes_verb, acquire_of_is}
+use Rattle.graph_terms.proofs.VerbFacts.{passes_verb, acquire_of_is}
 use Rattle.run_state.proofs.Reductions.{Fresh}
 use Rattle.run_state.specs.AtRest.{AtRest, MayTakeWhole}
 use Rattle.run_state.specs.Premises.{MayTakeColumn, MayHold}

@@ -1,8 +1,8 @@
 -- Lines that may be out together.
 use Rattle.std.specs.Prelude.{ℕ, IsTrue}
-use Rattle.graph_model.specs.graph.Graph.{GraphValue}
-use Rattle.graph_model.specs.graph.Access.{is_reduction, Conflict}
-use Rattle.graph_model.specs.meaning.Rules.{Exempt}
+use Rattle.graph_terms.specs.Graph.{GraphValue}
+use Rattle.graph_terms.specs.Access.{is_reduction, Conflict}
+use Rattle.graph_meaning.specs.Rules.{Exempt}
 
 -- two lines conflict nowhere but where both reduce, and there they are exempt
 pub record ConflictOnlyExempt (g : GraphValue) (i j : ℕ) : Type 0 where

@@ -1,15 +1,15 @@
 -- What must hold for each step.
 use Rattle.std.specs.Prelude.{◌≡◌, ◌≢◌, ℕ, ◌<◌, false, List, length, Contains, IsTrue, Some, None, slice_get}
 use Rattle.index_spaces.specs.declared.Op.{Op}
-use Rattle.graph_model.specs.declared.graph.decl.BarrierInfo.{BarrierInfo}
-use Rattle.graph_model.specs.declared.meaning.outcome.End.{End}
-use Rattle.graph_model.specs.declared.meaning.outcome.End.TheVariants.{Done, Cancelled}
-use Rattle.graph_model.specs.declared.graph.verb.Edge.{Edge}
-use Rattle.graph_model.specs.declared.graph.verb.Verb.TheVariants.{Phase}
-use Rattle.graph_model.specs.graph.Graph.{GraphValue, barriers, never_comes, verb_at, line_passes}
-use Rattle.graph_model.specs.graph.Edges.{edges}
-use Rattle.graph_model.specs.meaning.Rules.{Acquires, Releases}
-use Rattle.graph_model.specs.meaning.Evaluation.{eval_end}
+use Rattle.graph_terms.specs.declared.decl.BarrierInfo.{BarrierInfo}
+use Rattle.graph_terms.specs.declared.outcome.End.{End}
+use Rattle.graph_terms.specs.declared.outcome.End.TheVariants.{Done, Cancelled}
+use Rattle.graph_terms.specs.declared.verb.Edge.{Edge}
+use Rattle.graph_terms.specs.declared.verb.Verb.TheVariants.{Phase}
+use Rattle.graph_terms.specs.Graph.{GraphValue, barriers, never_comes, verb_at, line_passes}
+use Rattle.graph_terms.specs.Edges.{edges}
+use Rattle.graph_terms.specs.Reservations.{Acquires, Releases}
+use Rattle.graph_meaning.specs.Evaluation.{eval_end}
 use Rattle.run_state.specs.Run.{Run, Unissued, Issued, Out, Ending, Had, is_listed, stage_at, time_at, place_at, list_at, issued, out, over, ended, timed}
 use Rattle.run_state.specs.Sound.{AccessesColumn, is_arrive, home_cells, value_for, IsOpenTo}
 use Rattle.run_state.specs.Work.{put_cells}

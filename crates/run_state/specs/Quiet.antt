@@ -2,17 +2,17 @@
 use Rattle.std.specs.Prelude.{◌≡◌, ◌≢◌, ℕ, ◌<◌, ◌⊎◌, ◌↔◌, Bool, false, not, List, [], length, map, Contains, IsTrue, Option, Some, None, slice_get, slice_index}
 use Rattle.std.specs.List.{list_any}
 use Rattle.basics.specs.Lists.{numbers_below, count_below}
-use Rattle.graph_model.specs.declared.meaning.outcome.End.{End}
-use Rattle.graph_model.specs.declared.meaning.outcome.End.TheVariants.{Done, Cancelled}
-use Rattle.graph_model.specs.declared.meaning.outcome.Outcome.{Outcome}
-use Rattle.graph_model.specs.declared.graph.verb.Verb.{Verb}
-use Rattle.graph_model.specs.declared.graph.verb.Verb.TheVariants.{Phase}
-use Rattle.graph_model.specs.declared.graph.verb.Edge.{Edge}
-use Rattle.graph_model.specs.graph.Graph.{GraphValue, columns, column_space, verb_at, never_comes}
-use Rattle.graph_model.specs.graph.Edges.{edges, edges_into}
-use Rattle.graph_model.specs.meaning.Rules.{Acquires}
-use Rattle.graph_model.specs.meaning.Evaluation.{cancels, eval_end, answer_of, outcome}
-use Rattle.graph_model.specs.meaning.Trace.{IsLawful}
+use Rattle.graph_terms.specs.declared.outcome.End.{End}
+use Rattle.graph_terms.specs.declared.outcome.End.TheVariants.{Done, Cancelled}
+use Rattle.graph_terms.specs.declared.outcome.Outcome.{Outcome}
+use Rattle.graph_terms.specs.declared.verb.Verb.{Verb}
+use Rattle.graph_terms.specs.declared.verb.Verb.TheVariants.{Phase}
+use Rattle.graph_terms.specs.declared.verb.Edge.{Edge}
+use Rattle.graph_terms.specs.Graph.{GraphValue, columns, column_space, verb_at, never_comes}
+use Rattle.graph_terms.specs.Edges.{edges, edges_into}
+use Rattle.graph_terms.specs.Reservations.{Acquires}
+use Rattle.graph_meaning.specs.Evaluation.{cancels, eval_end, answer_of, outcome}
+use Rattle.graph_meaning.specs.Trace.{IsLawful}
 use Rattle.run_state.specs.Run.{LineStage, Run, Issued, Place, Home, Had, stage_at, time_at, place_at, end_so_far, issued, ended, over, out}
 use Rattle.run_state.specs.Sound.{AccessesColumn, IsOpenTo}
 

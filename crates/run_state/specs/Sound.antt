@@ -1,19 +1,20 @@
 -- What holds of the state of a run at every moment.
 use Rattle.std.specs.Prelude.{◌≡◌, ◌≢◌, ℕ, ◌<◌, ◌⊎◌, Bool, true, false, List, length, Contains, IsTrue, Option, Some, None, slice_get, slice_index, filter_map}
 use Rattle.std.specs.Option.{option_map_or}
-use Rattle.graph_model.specs.declared.meaning.outcome.End.{End}
-use Rattle.graph_model.specs.declared.meaning.outcome.End.TheVariants.{Done, Cancelled}
-use Rattle.graph_model.specs.declared.graph.verb.Access.{Access}
-use Rattle.graph_model.specs.declared.graph.verb.Edge.{Edge}
-use Rattle.graph_model.specs.declared.graph.verb.Verb.{Verb}
-use Rattle.graph_model.specs.declared.graph.verb.Verb.TheVariants.{Phase, Arrive}
-use Rattle.graph_model.specs.declared.graph.decl.BarrierInfo.{BarrierInfo}
-use Rattle.graph_model.specs.graph.Graph.{GraphValue, columns, locks, barriers, never_comes, verb_at, line_passes}
-use Rattle.graph_model.specs.graph.Edges.{edges}
-use Rattle.graph_model.specs.graph.Access.{accesses}
-use Rattle.graph_model.specs.meaning.Rules.{Acquires, Releases, Accepted, both_shared}
-use Rattle.graph_model.specs.meaning.Evaluation.{eval_end, cells_of_lines, column_of, reduced_with, arrival_value}
-use Rattle.graph_model.specs.graph.Fits.{IsGraph}
+use Rattle.graph_terms.specs.declared.outcome.End.{End}
+use Rattle.graph_terms.specs.declared.outcome.End.TheVariants.{Done, Cancelled}
+use Rattle.graph_terms.specs.declared.verb.Access.{Access}
+use Rattle.graph_terms.specs.declared.verb.Edge.{Edge}
+use Rattle.graph_terms.specs.declared.verb.Verb.{Verb}
+use Rattle.graph_terms.specs.declared.verb.Verb.TheVariants.{Phase, Arrive}
+use Rattle.graph_terms.specs.declared.decl.BarrierInfo.{BarrierInfo}
+use Rattle.graph_terms.specs.Graph.{GraphValue, columns, locks, barriers, never_comes, verb_at, line_passes}
+use Rattle.graph_terms.specs.Edges.{edges}
+use Rattle.graph_terms.specs.Access.{accesses}
+use Rattle.graph_terms.specs.Reservations.{Acquires, Releases, both_shared}
+use Rattle.graph_meaning.specs.Rules.{Accepted}
+use Rattle.graph_meaning.specs.Evaluation.{eval_end, cells_of_lines, column_of, reduced_with, arrival_value}
+use Rattle.graph_terms.specs.Fits.{IsGraph}
 use Rattle.basics.specs.Lists.{count_below}
 use Rattle.run_state.specs.Run.{LineStage, Place, Home, Had, Run, is_listed, stage_at, time_at, place_at, list_at, kept_end, issued, out, started, over, ended, timed}
 

@@ -3,10 +3,10 @@ use Rattle.std.specs.Prelude.{ℕ, List, [], length, map, None, slice_get}
 use Rattle.std.specs.Option.{option_map_or}
 use Rattle.index_spaces.specs.Space.{points}
 use Rattle.basics.specs.Lists.{numbers_below}
-use Rattle.graph_model.specs.declared.graph.verb.Verb.{Verb}
-use Rattle.graph_model.specs.declared.graph.verb.Verb.TheVariants.{Phase}
-use Rattle.graph_model.specs.declared.graph.decl.BarrierInfo.{BarrierInfo}
-use Rattle.graph_model.specs.graph.Graph.{GraphValue, columns, locks, barriers, column_space, verb_at}
+use Rattle.graph_terms.specs.declared.verb.Verb.{Verb}
+use Rattle.graph_terms.specs.declared.verb.Verb.TheVariants.{Phase}
+use Rattle.graph_terms.specs.declared.decl.BarrierInfo.{BarrierInfo}
+use Rattle.graph_terms.specs.Graph.{GraphValue, columns, locks, barriers, column_space, verb_at}
 use Rattle.run_state.specs.Run.{Unissued, Home, Run}
 
 -- the first value of a phase, and 0 for other lines

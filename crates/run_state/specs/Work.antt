@@ -1,10 +1,10 @@
 -- What a line that was taken holds.
 use Rattle.std.specs.Prelude.{◌≡◌, ◌≢◌, ℕ, List, IsTrue, slice_index}
 use Rattle.index_spaces.specs.Space.{has_point, rank}
-use Rattle.graph_model.specs.declared.meaning.outcome.End.TheVariants.{Cancelled}
-use Rattle.graph_model.specs.graph.Graph.{GraphValue, column_space}
-use Rattle.graph_model.specs.meaning.Effect.{Cells, Effect, cells_after, effect}
-use Rattle.graph_model.specs.meaning.Evaluation.{eval_end, eval_changes, end_by, made_by, cells_of_lines, column_of}
+use Rattle.graph_terms.specs.declared.outcome.End.TheVariants.{Cancelled}
+use Rattle.graph_terms.specs.Graph.{GraphValue, column_space}
+use Rattle.graph_meaning.specs.Effect.{Cells, Effect, cells_after, effect}
+use Rattle.graph_meaning.specs.Evaluation.{eval_end, eval_changes, end_by, made_by, cells_of_lines, column_of}
 use Rattle.run_state.specs.Run.{Run, Had, is_listed, place_at, list_at, out}
 use Rattle.run_state.specs.Sound.{AccessesColumn}
 

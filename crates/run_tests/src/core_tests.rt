@@ -9,7 +9,7 @@ use crate::graphs::checked;
 use crate::orders::{Order, line_at};
 use crate::outcomes::{has_trace, is_same};
 use gen_events::Handle;
-use graph_model::outcome::Outcome;
+use graph_terms::outcome::Outcome;
 use plain_eval::evaluation::eval;
 use race_check::checked::Checked;
 use run_core::{Attempt, Core, Thing};

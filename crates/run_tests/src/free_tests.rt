@@ -7,7 +7,7 @@ use crate::graphs::{TEXTS, checked};
 use crate::outcomes::is_same;
 use crate::prepared::prepared;
 use free_engine::{HintQueue, Round, run_free};
-use graph_model::outcome::Outcome;
+use graph_terms::outcome::Outcome;
 use plain_eval::evaluation::eval;
 use race_check::checked::Checked;
 use realm_io::{Hints, OpenGate};

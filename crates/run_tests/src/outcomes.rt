@@ -1,6 +1,6 @@
 //! Outcomes that are compared.
 
-use graph_model::outcome::{End, Outcome};
+use graph_terms::outcome::{End, Outcome};
 use index_spaces::column::Column;
 
 /// Whether two columns have the same cells, by their ranks.

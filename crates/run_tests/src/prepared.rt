@@ -3,7 +3,7 @@
 ghost use Rattle.std.specs.Prelude.{IfOk};
 ghost use Rattle.run_words.specs.Words.{HasAll, IsAt};
 
-use graph_model::outcome::Outcome;
+use graph_terms::outcome::Outcome;
 use race_check::checked::Checked;
 use run_words::{WordSeat, Words};
 use std::alloc::Global;

@@ -2,7 +2,7 @@
 
 use crate::graphs::checked;
 use crate::outcomes::is_same;
-use graph_model::outcome::Outcome;
+use graph_terms::outcome::Outcome;
 use lock_engine::{Turn, run_turn};
 use plain_eval::evaluation::eval;
 use race_check::checked::Checked;

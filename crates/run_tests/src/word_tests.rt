@@ -12,7 +12,7 @@ use crate::graphs::{TEXTS, checked};
 use crate::orders::{Order, line_at};
 use crate::outcomes::{has_trace, is_same};
 use crate::prepared::{closed, prepared};
-use graph_model::outcome::Outcome;
+use graph_terms::outcome::Outcome;
 use plain_eval::evaluation::eval;
 use race_check::checked::Checked;
 use run_words::{Woken, WordAttempt, WordSeat, WordWork, Words};

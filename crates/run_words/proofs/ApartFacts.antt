@@ -10,9 +10,9 @@ use Rattle.atomic_table.specs.declared.shared.Seat as table
 use Rattle.atomic_table.proofs.Lists.{at_set, at_last, at_longer, at_snoc, set_else}
 use Rattle.basics.specs.Sums.{total}
 use Rattle.basics.proofs.Sums.{total-append, total-set}
-use Rattle.graph_model.specs.declared.meaning.outcome.End.{End}
-use Rattle.graph_model.specs.graph.Graph.{GraphValue}
-use Rattle.graph_model.specs.meaning.Path.{HasPath}
+use Rattle.graph_terms.specs.declared.outcome.End.{End}
+use Rattle.graph_terms.specs.Graph.{GraphValue}
+use Rattle.graph_meaning.specs.Path.{HasPath}
 use Rattle.gen_events.specs.Seats.{no_event}
 use Rattle.gen_events.specs.declared.events.Events.{Events}
 use Rattle.gen_events.specs.declared.handle.Handle.{Handle}

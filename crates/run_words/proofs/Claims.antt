@@ -8,9 +8,9 @@ use lib.ListN.{get_elem?}
 use prog.Atomic.{either}
 use Rattle.atomic_table.specs.Table.{Act, keeps, takes, Valid, Allows, stepped, carried_after}
 use Rattle.atomic_table.proofs.Lists.{exchanged, set_here}
-use Rattle.graph_model.specs.declared.meaning.outcome.End.{End}
-use Rattle.graph_model.specs.graph.Graph.{GraphValue, never_comes}
-use Rattle.graph_model.specs.meaning.Evaluation.{evaluation, has_ended}
+use Rattle.graph_terms.specs.declared.outcome.End.{End}
+use Rattle.graph_terms.specs.Graph.{GraphValue, never_comes}
+use Rattle.graph_meaning.specs.Evaluation.{evaluation, has_ended}
 use Rattle.basics.specs.Sums.{total}
 use Rattle.gen_events.specs.Views.{handle_of, IsPendingOf}
 use Rattle.gen_events.specs.declared.handle.Handle.{Handle}

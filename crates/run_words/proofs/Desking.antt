@@ -4,7 +4,7 @@ use Rattle.std.specs.Prelude.{Contains, Some, None, option_map}
 use Rattle.gen_events.specs.declared.handle.Handle.{Handle}
 use Rattle.gen_events.specs.declared.events.Events.{Events}
 use Rattle.gen_events.proofs.Members.{Contains-head}
-use Rattle.graph_model.specs.graph.Graph.{GraphValue}
+use Rattle.graph_terms.specs.Graph.{GraphValue}
 use Rattle.run_words.specs.declared.content.Content.{Content}
 use Rattle.run_words.specs.declared.content.Content.TheVariants.{Nothing, Ticket, Stub, Cells, Tray}
 use Rattle.run_words.specs.declared.content.Desk.{Desk}

@@ -10,7 +10,7 @@ use prog.Atomic.{either}
 use Rattle.atomic_table.specs.Table.{Act, keeps, takes, gives, Valid, Allows, stepped, carried_after}
 use Rattle.atomic_table.proofs.Lists.{exchanged, set_here}
 use Rattle.basics.specs.Lists.{numbers_below}
-use Rattle.graph_model.specs.graph.Graph.{GraphValue}
+use Rattle.graph_terms.specs.Graph.{GraphValue}
 use Rattle.basics.specs.Sums.{total}
 use Rattle.gen_events.specs.Seats.{Begins}
 use Rattle.gen_events.specs.declared.handle.Handle.{Handle}

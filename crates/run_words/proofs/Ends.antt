@@ -7,8 +7,8 @@ use mathlib.Core.Option.{none, some}
 use lib.ListN.{get_elem?}
 use Rattle.atomic_table.specs.Table.{keeps, gives, Allows}
 use Rattle.atomic_table.proofs.Lists.{set_here}
-use Rattle.graph_model.specs.declared.meaning.outcome.End.{End}
-use Rattle.graph_model.specs.graph.Graph.{GraphValue}
+use Rattle.graph_terms.specs.declared.outcome.End.{End}
+use Rattle.graph_terms.specs.Graph.{GraphValue}
 use Rattle.basics.specs.Sums.{total}
 use Rattle.gen_events.specs.Views.{IsPendingOf, IsReceiptOf, handle_of, ended_by, fate_of}
 use Rattle.gen_events.specs.declared.handle.Handle.{Handle}

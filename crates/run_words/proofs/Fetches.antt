@@ -4,20 +4,18 @@ use Rattle.std.specs.Prelude.{Option, Some, None, slice_get, slice_index}
 use mathlib.Core.Option.{some}
 use lib.ListN.{get_elem?}
 use Rattle.atomic_table.specs.Table.{keeps, Allows}
-use Rattle.graph_model.specs.declared.meaning.outcome.End.TheVariants.{Cancelled}
-use Rattle.graph_model.specs.graph.Graph.{GraphValue}
-use Rattle.graph_model.specs.meaning.Rules.{Acquires}
-use Rattle.graph_model.specs.meaning.Evaluation.{eval_end}
+use Rattle.graph_terms.specs.declared.outcome.End.TheVariants.{Cancelled}
+use Rattle.graph_terms.specs.Graph.{GraphValue, barriers, verb_at}
+use Rattle.graph_terms.specs.Reservations.{Acquires}
+use Rattle.graph_meaning.specs.Evaluation.{eval_end, combined}
 use Rattle.basics.specs.Sums.{total}
 use Rattle.gen_events.specs.declared.events.Events.{Events}
 use Rattle.run_words.specs.declared.view.View.{View}
 use Rattle.run_words.specs.Claims.{Claim}
 use Rattle.basics.proofs.Sums.{total-set, term_le}
 use Rattle.index_spaces.specs.declared.Op.{Op}
-use Rattle.graph_model.specs.declared.graph.decl.BarrierInfo.{BarrierInfo}
-use Rattle.graph_model.specs.declared.graph.verb.Verb.TheVariants.{Phase}
-use Rattle.graph_model.specs.graph.Graph.{barriers, verb_at}
-use Rattle.graph_model.specs.meaning.Evaluation.{combined}
+use Rattle.graph_terms.specs.declared.decl.BarrierInfo.{BarrierInfo}
+use Rattle.graph_terms.specs.declared.verb.Verb.TheVariants.{Phase}
 use Rattle.run_state.specs.Run.{is_listed, time_at, stage_out}
 use Rattle.run_state.specs.Sound.{value_for}
 use Rattle.run_state.specs.Moves.{arrive, draw}

@@ -6,7 +6,7 @@ use mathlib.Core.Option.{none, some}
 use lib.ListN.{get_elem?}
 use Rattle.atomic_table.specs.Table.{gives, Allows}
 use Rattle.atomic_table.proofs.Lists.{set_here}
-use Rattle.graph_model.specs.graph.Graph.{GraphValue, columns}
+use Rattle.graph_terms.specs.Graph.{GraphValue, columns}
 use Rattle.basics.specs.Sums.{total}
 use Rattle.gen_events.specs.declared.events.Events.{Events}
 use Rattle.gen_events.proofs.Members.{Contains-cases, Contains-head, Contains-tail}

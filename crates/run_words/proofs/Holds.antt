@@ -8,11 +8,11 @@ use lib.ListN.{get_elem?}
 use prog.Atomic.{either}
 use Rattle.atomic_table.specs.Table.{Act, keeps, Valid, Allows, stepped, carried_after}
 use Rattle.atomic_table.proofs.Lists.{exchanged}
-use Rattle.graph_model.specs.declared.meaning.outcome.End.{End}
-use Rattle.graph_model.specs.declared.meaning.outcome.End.TheVariants.{Done, Cancelled}
-use Rattle.graph_model.specs.graph.Graph.{GraphValue, locks, line_passes, is_acquire_of, is_shared}
-use Rattle.graph_model.specs.meaning.Rules.{Acquires, Releases}
-use Rattle.graph_model.specs.meaning.Evaluation.{eval_end}
+use Rattle.graph_terms.specs.declared.outcome.End.{End}
+use Rattle.graph_terms.specs.declared.outcome.End.TheVariants.{Done, Cancelled}
+use Rattle.graph_terms.specs.Graph.{GraphValue, locks, line_passes, is_acquire_of, is_shared}
+use Rattle.graph_terms.specs.Reservations.{Acquires, Releases}
+use Rattle.graph_meaning.specs.Evaluation.{eval_end}
 use Rattle.basics.specs.Sums.{total}
 use Rattle.basics.specs.Lists.{count_below}
 use Rattle.basics.proofs.ListFacts.{count_below-max}
@@ -20,8 +20,8 @@ use Rattle.gen_events.specs.declared.events.Events.{Events}
 use Rattle.run_words.specs.declared.content.Content.{Content}
 use Rattle.run_words.specs.declared.view.View.{View}
 use Rattle.run_words.specs.Claims.{Claim}
-use Rattle.graph_model.proofs.VerbFacts.{acquire_one, passes_below}
-use Rattle.graph_model.proofs.ReleaseFacts.{one_release}
+use Rattle.graph_terms.proofs.VerbFacts.{acquire_one, passes_below}
+use Rattle.graph_terms.proofs.ReleaseFacts.{one_release}
 use Rattle.run_state.specs.Run.{Ended, is_listed, stage_at, list_at, stage_out, stage_over, stage_ended, kept_end}
 use Rattle.run_state.specs.Moves.{inserted, hold, let_go, free, without}
 use Rattle.run_state.proofs.Locks.{hold-sound, let_go-sound, free-sound}

@@ -6,9 +6,9 @@ use Rattle.std.proofs.lemmas.List.{length-set, get_or-set_other}
 use Rattle.std.proofs.lemmas.List.FromFn.{get_or-map-range_with_len, length-map-range_with_len}
 use Rattle.run_core.proofs.MarkFacts.{set_get, set_get_other}
 use Rattle.index_spaces.specs.Column.{ColumnValue}
-use Rattle.graph_model.specs.graph.Graph.{GraphValue, columns}
-use Rattle.graph_model.specs.meaning.Effect.{zero_cells}
-use Rattle.graph_model.specs.meaning.Evaluation.{column_of}
+use Rattle.graph_terms.specs.Graph.{GraphValue, columns}
+use Rattle.graph_meaning.specs.Effect.{zero_cells}
+use Rattle.graph_meaning.specs.Evaluation.{column_of}
 use Rattle.instances.specs.Homes.{all_home}
 use Rattle.run_words.specs.Preparing.{AreOut, AreOutBelow}
 

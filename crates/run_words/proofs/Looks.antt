@@ -7,11 +7,11 @@ use mathlib.Core.Option.{none, some, some-injective}
 use lib.ListN.{get_elem?}
 use lib.Seq.{set-get_or}
 use Rattle.atomic_table.specs.Table.{keeps, Allows}
-use Rattle.graph_model.specs.declared.meaning.outcome.End.{End}
-use Rattle.graph_model.specs.declared.meaning.outcome.End.TheVariants.{Done, Faulted, Cancelled, Waiting}
-use Rattle.graph_model.specs.graph.Graph.{GraphValue}
-use Rattle.graph_model.specs.meaning.Path.{HasPath}
-use Rattle.graph_model.specs.meaning.Evaluation.{eval_end, cells_of_lines}
+use Rattle.graph_terms.specs.declared.outcome.End.{End}
+use Rattle.graph_terms.specs.declared.outcome.End.TheVariants.{Done, Faulted, Cancelled, Waiting}
+use Rattle.graph_terms.specs.Graph.{GraphValue}
+use Rattle.graph_meaning.specs.Path.{HasPath}
+use Rattle.graph_meaning.specs.Evaluation.{eval_end, cells_of_lines}
 use Rattle.basics.specs.Sums.{total}
 use Rattle.gen_events.specs.declared.handle.Handle.{Handle}
 use Rattle.gen_events.specs.declared.events.Events.{Events}
@@ -20,7 +20,7 @@ use Rattle.run_state.specs.Run.{LineStage, Unissued, Issued, Out, Ending, Ended,
 use Rattle.run_state.specs.Sound.{Sound, AccessesColumn}
 use Rattle.run_state.specs.Work.{HoldsAll, put_cells}
 use Rattle.run_state.proofs.Work.{work_does, work_cells}
-use Rattle.graph_model.specs.meaning.Effect.{Cells}
+use Rattle.graph_meaning.specs.Effect.{Cells}
 use Rattle.run_state.proofs.Started.{path_ended}
 use Rattle.run_words.specs.declared.content.Content.{Content}
 use Rattle.run_words.specs.declared.view.View.{View}

@@ -6,12 +6,12 @@ use Rattle.std.proofs.lemmas.Option.{same_Some}
 use Rattle.index_spaces.specs.Column.{ColumnValue}
 use Rattle.index_spaces.specs.Held.{held_at}
 use Rattle.index_spaces.specs.Space.{points}
-use Rattle.graph_model.specs.declared.meaning.outcome.Verdict.{Verdict}
-use Rattle.graph_model.specs.declared.graph.verb.Access.{Access}
-use Rattle.graph_model.specs.graph.Graph.{GraphValue, column_space}
-use Rattle.graph_model.specs.graph.Access.{accesses}
-use Rattle.graph_model.specs.meaning.Effect.{Cells, CellChange, effect, cells_after}
-use Rattle.graph_model.specs.meaning.Evaluation.{eval_end, end_by, made_by, column_of, cells_of_lines}
+use Rattle.graph_terms.specs.declared.outcome.Verdict.{Verdict}
+use Rattle.graph_terms.specs.declared.verb.Access.{Access}
+use Rattle.graph_terms.specs.Graph.{GraphValue, column_space}
+use Rattle.graph_terms.specs.Access.{accesses}
+use Rattle.graph_meaning.specs.Effect.{Cells, CellChange, effect, cells_after}
+use Rattle.graph_meaning.specs.Evaluation.{eval_end, end_by, made_by, column_of, cells_of_lines}
 use Rattle.basics.proofs.ListFacts.{map_contains}
 use Rattle.line_effects.specs.Moved.{moves, HeldShow}
 use Rattle.line_effects.proofs.MadeFacts.{all_made}

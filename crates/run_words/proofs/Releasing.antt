@@ -7,17 +7,18 @@ use Rattle.std.proofs.lemmas.Option.{same_Some}
 use Rattle.line_effects.proofs.EffectFacts.{verb_is}
 use Rattle.gen_events.proofs.Members.{Contains-head}
 use Rattle.gen_events.specs.declared.events.Events.{Events}
-use Rattle.graph_model.specs.declared.meaning.outcome.End.{End}
-use Rattle.graph_model.specs.declared.meaning.outcome.End.TheVariants.{Done}
-use Rattle.graph_model.specs.declared.graph.verb.Line.{Line}
-use Rattle.graph_model.specs.declared.graph.verb.Verb.TheVariants.{Acquire, Release}
-use Rattle.graph_model.specs.graph.Graph.{GraphValue, locks, line_passes, is_acquire_of, is_shared, is_release_of}
-use Rattle.graph_model.specs.graph.Fits.{IsGraph}
-use Rattle.graph_model.specs.meaning.Path.{HasPath}
-use Rattle.graph_model.specs.meaning.Rules.{Acquires, Releases, Accepted}
-use Rattle.graph_model.specs.meaning.Evaluation.{eval_end}
-use Rattle.graph_model.proofs.ReleaseFacts.{acquired_lock_known, release_names, one_release}
-use Rattle.graph_model.proofs.VerbFacts.{acquire_is, release_is, verb_passes, verb_below, release_one}
+use Rattle.graph_terms.specs.declared.outcome.End.{End}
+use Rattle.graph_terms.specs.declared.outcome.End.TheVariants.{Done}
+use Rattle.graph_terms.specs.declared.verb.Line.{Line}
+use Rattle.graph_terms.specs.declared.verb.Verb.TheVariants.{Acquire, Release}
+use Rattle.graph_terms.specs.Graph.{GraphValue, locks, line_passes, is_acquire_of, is_shared, is_release_of}
+use Rattle.graph_terms.specs.Fits.{IsGraph}
+use Rattle.graph_meaning.specs.Path.{HasPath}
+use Rattle.graph_terms.specs.Reservations.{Acquires, Releases}
+use Rattle.graph_meaning.specs.Rules.{Accepted}
+use Rattle.graph_meaning.specs.Evaluation.{eval_end}
+use Rattle.graph_terms.proofs.ReleaseFacts.{acquired_lock_known, release_names, one_release}
+use Rattle.graph_terms.proofs.VerbFacts.{acquire_is, release_is, verb_passes, verb_below, release_one}
 use Rattle.run_words.specs.declared.content.Content.{Content}
 use Rattle.run_words.specs.declared.view.View.{View}
 use Rattle.run_words.specs.Claims.{Claim}

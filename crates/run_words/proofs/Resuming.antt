@@ -7,13 +7,13 @@ use Rattle.std.proofs.lemmas.List.{length-replicate}
 use Rattle.std.proofs.lemmas.Bool.{true≢false, cases_Bool}
 use Rattle.std.proofs.lemmas.Option.{same_Some, slice_get_within, get_or_from_slice_get}
 use Rattle.index_spaces.specs.Column.{ColumnValue}
-use Rattle.graph_model.specs.declared.meaning.outcome.End.{End}
-use Rattle.graph_model.specs.declared.meaning.outcome.End.TheVariants.{Done, Faulted, Cancelled, Waiting}
-use Rattle.graph_model.specs.declared.graph.verb.Verb.{Verb}
-use Rattle.graph_model.specs.declared.graph.verb.Verb.TheVariants.{Phase}
-use Rattle.graph_model.specs.graph.Graph.{GraphValue, columns, verb_at, is_phase}
-use Rattle.graph_model.specs.meaning.Evaluation.{is_ended}
-use Rattle.graph_model.proofs.VerbFacts.{phase_is, verb_below}
+use Rattle.graph_terms.specs.declared.outcome.End.{End}
+use Rattle.graph_terms.specs.declared.outcome.End.TheVariants.{Done, Faulted, Cancelled, Waiting}
+use Rattle.graph_terms.specs.declared.verb.Verb.{Verb}
+use Rattle.graph_terms.specs.declared.verb.Verb.TheVariants.{Phase}
+use Rattle.graph_terms.specs.Graph.{GraphValue, columns, verb_at, is_phase}
+use Rattle.graph_meaning.specs.Evaluation.{is_ended}
+use Rattle.graph_terms.proofs.VerbFacts.{phase_is, verb_below}
 use Rattle.gen_events.specs.Seats.{Knows}
 use Rattle.gen_events.specs.Views.{handle_of, ended_by, fate_of}
 use Rattle.gen_events.specs.declared.handle.Handle.{Handle}

@@ -8,14 +8,14 @@ use Rattle.std.proofs.lemmas.List.{take_more, take_all, append-nil}
 use Rattle.std.proofs.lemmas.List.Folds.{list_any-append}
 use Rattle.std.proofs.lemmas.List.Elements.{Contains-append_left, Contains-append_right, Contains-push_cases, Contains-get_or}
 use Rattle.gen_events.proofs.Members.{Contains-head, Contains-none}
-use Rattle.graph_model.specs.declared.meaning.outcome.End.{End}
-use Rattle.graph_model.specs.declared.graph.verb.Edge.{Edge}
-use Rattle.graph_model.specs.declared.graph.verb.EdgeKind.TheVariants.{Passes}
-use Rattle.graph_model.specs.graph.Graph.{GraphValue}
-use Rattle.graph_model.specs.graph.Edges.{edges, edges_into}
-use Rattle.graph_model.specs.meaning.Evaluation.{eval_end, cancels}
-use Rattle.graph_model.specs.graph.Fits.{IsGraph}
-use Rattle.graph_model.specs.meaning.Laws.{EdgesBetweenLines}
+use Rattle.graph_terms.specs.declared.outcome.End.{End}
+use Rattle.graph_terms.specs.declared.verb.Edge.{Edge}
+use Rattle.graph_terms.specs.declared.verb.EdgeKind.TheVariants.{Passes}
+use Rattle.graph_terms.specs.Graph.{GraphValue}
+use Rattle.graph_terms.specs.Edges.{edges, edges_into}
+use Rattle.graph_meaning.specs.Evaluation.{eval_end, cancels}
+use Rattle.graph_terms.specs.Fits.{IsGraph}
+use Rattle.graph_meaning.specs.Laws.{EdgesBetweenLines}
 use Rattle.basics.proofs.ListFacts.{filter_contains, contains_filter}
 use Rattle.run_words.specs.declared.sources.Sources.{Sources}
 use Rattle.run_words.specs.Plays.{Sat, looked_at, end_of_code, issued_by, ended_by}

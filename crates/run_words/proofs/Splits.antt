@@ -7,8 +7,8 @@ use mathlib.Core.Option.{some}
 use lib.ListN.{get_elem?}
 use Rattle.atomic_table.specs.Table.{Splits, Joins}
 use Rattle.atomic_table.proofs.Lists.{at_set, at_snoc}
-use Rattle.graph_model.specs.declared.meaning.outcome.End.{End}
-use Rattle.graph_model.specs.graph.Graph.{GraphValue}
+use Rattle.graph_terms.specs.declared.outcome.End.{End}
+use Rattle.graph_terms.specs.Graph.{GraphValue}
 use Rattle.basics.specs.Sums.{total}
 use Rattle.gen_events.specs.declared.handle.Handle.{Handle}
 use Rattle.gen_events.specs.declared.events.Events.{Events}

@@ -7,8 +7,8 @@ use mathlib.Core.Option.{none, some, some-injective}
 use lib.ListN.{get_elem?}
 use Rattle.atomic_table.specs.Table.{State}
 use Rattle.atomic_table.proofs.Lists.{at_set}
-use Rattle.graph_model.specs.declared.meaning.outcome.End.{End}
-use Rattle.graph_model.specs.graph.Graph.{GraphValue}
+use Rattle.graph_terms.specs.declared.outcome.End.{End}
+use Rattle.graph_terms.specs.Graph.{GraphValue}
 use Rattle.basics.specs.Sums.{total, only}
 use Rattle.gen_events.specs.Seats.{Begins}
 use Rattle.gen_events.specs.declared.handle.Handle.{Handle}

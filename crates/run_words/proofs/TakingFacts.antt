@@ -7,7 +7,7 @@ use Rattle.std.proofs.lemmas.List.{append-nil}
 use Rattle.std.proofs.lemmas.List.Elements.{Contains-append_left, Contains-append_right}
 use Rattle.index_spaces.specs.Column.{ColumnValue}
 use Rattle.index_spaces.specs.Held.{held_at, HoldsOtherwise}
-use Rattle.graph_model.specs.graph.Graph.{GraphValue}
+use Rattle.graph_terms.specs.Graph.{GraphValue}
 use Rattle.gen_events.specs.declared.events.Events.{Events}
 use Rattle.gen_events.proofs.Members.{Contains-head, Contains-tail, Contains-cases}
 use Rattle.run_state.specs.Run.{is_listed}
@@ -128,7 +128,7 @@ module _ (g : GraphValue) (e : Events) (line k : ℕ) (v : View) (cl : Claim) (l
       record {
         going = l.going;
         accessed = subst (λ j. AccessesColumn g j c) (sym l.line_is) a;
-        real = subst (λ j. Rattle.graph_model.specs.meaning.Evaluation.eval_end g j ≢ Rattle.graph_model.specs.declared.meaning.outcome.End.TheVariants.Cancelled) (sym l.line_is) l.real;
+        real = subst (λ j. Rattle.graph_meaning.specs.Evaluation.eval_end g j ≢ Rattle.graph_terms.specs.declared.outcome.End.TheVariants.Cancelled) (sym l.line_is) l.real;
         new = ap (λ xs. is_listed xs c) l.no_puts;
       },
     ),

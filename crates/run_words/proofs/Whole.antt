@@ -4,7 +4,7 @@ use Rattle.std.specs.Prelude.{Contains, None}
 use Rattle.std.proofs.lemmas.Bool.{true≢false, cases_eq}
 use mathlib.Core.Option.{some, some-injective, some-ne-none}
 use lib.ListN.{get_elem?}
-use Rattle.graph_model.specs.graph.Graph.{GraphValue}
+use Rattle.graph_terms.specs.Graph.{GraphValue}
 use Rattle.basics.specs.Sums.{total, only}
 use Rattle.gen_events.specs.declared.events.Events.{Events}
 use Rattle.basics.proofs.Sums.{terms_le, term_le}

@@ -1,6 +1,6 @@
 -- Two works of one run at once.
 use Rattle.std.specs.Prelude.{◌≡◌, ◌⊎◌, Contains, Some, None}
-use Rattle.graph_model.specs.declared.meaning.outcome.End.{End}
+use Rattle.graph_terms.specs.declared.outcome.End.{End}
 use Rattle.gen_events.specs.Seats.{no_event}
 use Rattle.run_words.specs.declared.view.View.{View}
 use Rattle.run_words.specs.declared.works.WordWork.{WordWork}

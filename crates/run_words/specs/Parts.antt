@@ -1,6 +1,6 @@
 -- What the core is resumed with once the words are closed.
 use Rattle.std.specs.Prelude.{◌≡◌, ℕ, true, false, List, [], length, Some}
-use Rattle.graph_model.specs.declared.meaning.outcome.End.{End}
+use Rattle.graph_terms.specs.declared.outcome.End.{End}
 use Rattle.gen_events.specs.EventMap.{answer, answer_of}
 use Rattle.gen_events.specs.Seats.{Begins, Knows}
 use Rattle.gen_events.specs.Views.{lists, shape_of}

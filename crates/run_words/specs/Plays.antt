@@ -2,18 +2,18 @@
 use Rattle.std.specs.Prelude.{◌≡◌, ◌≢◌, ℕ, zero, suc, ◌+◌, ◌-◌, ◌<◌, ◌≤◌, nat_lt, cond, Bool, true, false, List, [], ◌∷◌, ◌++◌, length, Contains, IsTrue, Option, Some, None, option_map}
 use Rattle.atomic_table.specs.Table.{Me, rest}
 use Rattle.basics.specs.Lists.{numbers_below}
-use Rattle.graph_model.specs.declared.meaning.outcome.End.{End}
-use Rattle.graph_model.specs.declared.meaning.outcome.End.TheVariants.{Done, Faulted, Cancelled, Waiting}
-use Rattle.graph_model.specs.meaning.Path.{HasPath}
-use Rattle.graph_model.specs.meaning.Evaluation.{evaluation, has_ended, eval_end, cells_of_lines, column_of}
+use Rattle.graph_terms.specs.declared.outcome.End.{End}
+use Rattle.graph_terms.specs.declared.outcome.End.TheVariants.{Done, Faulted, Cancelled, Waiting}
+use Rattle.graph_meaning.specs.Path.{HasPath}
+use Rattle.graph_meaning.specs.Evaluation.{evaluation, has_ended, eval_end, cells_of_lines, column_of}
 use Rattle.gen_events.specs.Views.{IsPendingOf, handle_of}
 use Rattle.gen_events.specs.declared.handle.Handle.{Handle}
 use Rattle.gen_events.specs.declared.tokens.Pending.{Pending}
 use Rattle.run_state.specs.Run.{is_listed}
 use Rattle.run_state.specs.Sound.{AccessesColumn, home_cells}
 use Rattle.run_state.specs.Work.{performed, put_cells, PerformsAsEvaluated}
-use Rattle.graph_model.specs.meaning.Effect.{Cells as AllCells}
-use Rattle.graph_model.specs.graph.Graph.{GraphValue, column_space}
+use Rattle.graph_meaning.specs.Effect.{Cells as AllCells}
+use Rattle.graph_terms.specs.Graph.{GraphValue, column_space}
 use Rattle.index_spaces.specs.Space.{has_point}
 use Rattle.run_words.specs.declared.content.Content.{Content}
 use Rattle.run_words.specs.declared.content.Desk.{Desk}

@@ -1,10 +1,10 @@
 -- What the words of a run show of its lines, where no work is out.
 use Rattle.std.specs.Prelude.{ℕ, ◌-◌, ◌%◌, Bool, cond, ◌==◌, List, Option, Some, None, slice_index}
 use Rattle.gen_events.specs.declared.handle.Handle.{Handle}
-use Rattle.graph_model.specs.declared.meaning.outcome.End.{End}
-use Rattle.graph_model.specs.declared.meaning.outcome.End.TheVariants.{Done, Faulted, Cancelled, Waiting}
-use Rattle.graph_model.specs.declared.graph.verb.Verb.{Verb}
-use Rattle.graph_model.specs.graph.Graph.{is_phase}
+use Rattle.graph_terms.specs.declared.outcome.End.{End}
+use Rattle.graph_terms.specs.declared.outcome.End.TheVariants.{Done, Faulted, Cancelled, Waiting}
+use Rattle.graph_terms.specs.declared.verb.Verb.{Verb}
+use Rattle.graph_terms.specs.Graph.{is_phase}
 use Rattle.run_core.specs.declared.answers.Stage.{Stage}
 use Rattle.run_core.specs.declared.answers.Stage.TheVariants as stages
 use Rattle.run_core.specs.declared.states.LineState.{LineState}

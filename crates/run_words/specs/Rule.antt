@@ -7,10 +7,10 @@ use mathlib.Core.Option.{none, some}
 use lib.ListN.{get_elem?}
 use Rattle.atomic_table.specs.Table.{State}
 use Rattle.index_spaces.specs.Column.{ColumnValue}
-use Rattle.graph_model.specs.declared.meaning.outcome.End.{End}
-use Rattle.graph_model.specs.declared.meaning.outcome.End.TheVariants.{Done, Faulted, Cancelled, Waiting}
-use Rattle.graph_model.specs.graph.Graph.{GraphValue, column_space, line_passes, is_shared}
-use Rattle.graph_model.specs.meaning.Rules.{Acquires}
+use Rattle.graph_terms.specs.declared.outcome.End.{End}
+use Rattle.graph_terms.specs.declared.outcome.End.TheVariants.{Done, Faulted, Cancelled, Waiting}
+use Rattle.graph_terms.specs.Graph.{GraphValue, column_space, line_passes, is_shared}
+use Rattle.graph_terms.specs.Reservations.{Acquires}
 use Rattle.basics.specs.Sums.{total, only}
 use Rattle.gen_events.specs.Seats.{HasSeen, no_event, Begins}
 use Rattle.gen_events.specs.Views.{lists, IsAt, IsMakerOf, IsPendingOf, IsReceiptOf, IsWaiterOf, made_by, handle_of, ended_by, fate_of, number_of}

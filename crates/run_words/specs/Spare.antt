@@ -1,7 +1,7 @@
 -- What the end of a run needs of memory.
 use Rattle.std.specs.Prelude.{◌≡◌, ℕ, length, replicate, None}
 use Rattle.gen_events.specs.EventMap.{fresh}
-use Rattle.graph_model.specs.graph.Graph.{GraphValue}
+use Rattle.graph_terms.specs.Graph.{GraphValue}
 use Rattle.run_core.specs.Core.{unissued}
 use Rattle.run_core.specs.declared.run.TheConstants.{LAST_GEN}
 use Rattle.run_core.specs.Resumed.{blank_state}

@@ -1,7 +1,7 @@
 -- Seats at their words.
 use Rattle.std.specs.Prelude.{◌≡◌, ◌≢◌, ℕ, List, [], ◌∷◌, ◌++◌, Contains}
 use Rattle.atomic_table.specs.declared.shared.Seat as table
-use Rattle.graph_model.specs.graph.Graph.{GraphValue}
+use Rattle.graph_terms.specs.Graph.{GraphValue}
 use Rattle.gen_events.specs.declared.events.Events.{Events}
 use Rattle.gen_events.specs.declared.handle.Handle.{Handle}
 use Rattle.run_words.specs.declared.content.Content.{Content}
@@ -10,7 +10,7 @@ use Rattle.run_words.specs.declared.words.Words.{Words}
 use Rattle.run_words.specs.declared.seats.WordSeat.{WordSeat}
 use Rattle.gen_events.specs.declared.tokens.Seat.{Seat}
 use Rattle.gen_events.specs.Views as events
-use Rattle.graph_model.specs.declared.meaning.outcome.End.{End}
+use Rattle.graph_terms.specs.declared.outcome.End.{End}
 use Rattle.run_words.specs.Rule.{ground_of}
 
 -- the graph of these words

@@ -1,7 +1,7 @@
 //! Two works of one run at once.
 
 ghost use Rattle.std.specs.Prelude.{ℕ, ◌≡◌, ◌≢◌, ◌<◌, length};
-ghost use Rattle.graph_model.specs.meaning.Path.{HasPath};
+ghost use Rattle.graph_meaning.specs.Path.{HasPath};
 ghost use Rattle.run_state.specs.Apart.{ConflictOnlyExempt};
 ghost use Rattle.run_words.specs.Apart.{StaysWork, AreNeverTogether, with_claim, without_claim, impossible_view};
 ghost use Rattle.run_words.specs.Plays.{no_view, looked_at};

@@ -5,7 +5,7 @@ ghost use Rattle.std.specs.Slots.{slots_items, slots_len, slots_filled};
 ghost use mathlib.Core.Option.{some};
 ghost use lib.ListN.{get_elem?};
 ghost use Rattle.index_spaces.specs.Column.{ColumnValue};
-ghost use Rattle.graph_model.specs.graph.Graph.{columns};
+ghost use Rattle.graph_terms.specs.Graph.{columns};
 ghost use Rattle.gen_events.specs.declared.handle.Handle.{Handle as TheHandle};
 ghost use Rattle.gen_events.specs.Seats.{Keeps};
 ghost use Rattle.gen_events.specs.Views.{lists, IsAt as IsSeatAt};

@@ -2,7 +2,7 @@
 
 ghost use Rattle.std.specs.Prelude.{◌≡◌, ℕ, ◌+◌, ◌<◌, length, Some, slice_get, slice_index, Option, None};
 ghost use Rattle.std.specs.Slots.{slots_items, slots_len, IsFull};
-ghost use Rattle.graph_model.specs.graph.Graph.{verb_at};
+ghost use Rattle.graph_terms.specs.Graph.{verb_at};
 ghost use Rattle.run_words.specs.Layout.{size_of, value_word, word_count};
 ghost use Rattle.run_words.specs.Reading.{stage_for, end_for, time_for, state_for, value_for};
 ghost use Rattle.run_words.specs.Rule.{handle_at};
@@ -11,9 +11,9 @@ use crate::content::Content;
 use atomic_table::Closed;
 use gen_events::{Handle, NO_EVENT};
 use graph_model::graph::Graph;
-use graph_model::lists::ValueList;
-use graph_model::outcome::End;
-use graph_model::verb::Verb;
+use graph_terms::lists::ValueList;
+use graph_terms::outcome::End;
+use graph_terms::verb::Verb;
 use run_core::{LineState, Stage, StateList};
 use std::alloc::Global;
 

@@ -2,7 +2,7 @@
 
 ghost use Rattle.std.specs.Prelude.{ℕ, List, ◌≡◌, ◌≢◌, ◌+◌, ◌<◌, ◌≤◌, ◌∷◌, ◌++◌, [], true, false, Some, None, length, Contains, IfSome, IfNone};
 ghost use Rattle.std.specs.Vec.{vec_capacity};
-ghost use Rattle.graph_model.specs.declared.meaning.outcome.End.{End as TheEnd};
+ghost use Rattle.graph_terms.specs.declared.outcome.End.{End as TheEnd};
 ghost use Rattle.gen_events.specs.declared.handle.Handle.{Handle as TheHandle};
 ghost use Rattle.gen_events.specs.Seats.{Keeps};
 ghost use Rattle.gen_events.specs.Views.{shape_of, lists};

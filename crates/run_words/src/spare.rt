@@ -1,13 +1,13 @@
 //! What the end of a run needs of memory, as `prepare` alone takes some.
 
 ghost use Rattle.std.specs.Prelude.{◌≡◌, ◌≤◌, IfOk};
-ghost use Rattle.graph_model.specs.meaning.Effect.{zero_cells};
+ghost use Rattle.graph_meaning.specs.Effect.{zero_cells};
 ghost use Rattle.instances.specs.Homes.{all_home};
 ghost use Rattle.run_words.specs.Spare.{IsSpare};
 
+use checked_graph::Checked;
 use gen_events::EventTable;
-use graph_model::checked::Checked;
-use graph_model::lists::ValueList;
+use graph_terms::lists::ValueList;
 use index_spaces::NoMemory;
 use instances::Homes;
 use run_core::{Core, LAST_GEN, StateList};

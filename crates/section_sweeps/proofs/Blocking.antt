@@ -7,7 +7,7 @@ use Rattle.std.specs.Int.RustNames.{bit_or}
 use Rattle.std.proofs.lemmas.Bool.{cases_eq}
 use Rattle.std.proofs.lemmas.List.{length-set}
 use Rattle.std.proofs.lemmas.Option.{none-some, same_Some}
-use Rattle.graph_model.specs.graph.Graph.{GraphValue}
+use Rattle.graph_terms.specs.Graph.{GraphValue}
 use Rattle.section_sweeps.specs.declared.blocks.Marked.{Marked}
 use Rattle.section_sweeps.specs.Blocks.{IsLineOf, IsMarked}
 use Rattle.section_sweeps.specs.Group.{AreOwn}

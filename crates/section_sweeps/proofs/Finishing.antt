@@ -4,10 +4,10 @@ use Rattle.std.specs.Prelude.{Option, Some, None, IfSome, Vec, slice_get, slice_
 use Rattle.std.specs.Global.{Global}
 use Rattle.std.specs.List.{slice_index_or}
 use Rattle.std.specs.Option.{option_map_or}
-use Rattle.graph_model.specs.graph.Graph.{GraphValue, is_acquire_of}
-use Rattle.graph_model.specs.meaning.Rules.{Acquires}
-use Rattle.graph_model.proofs.VerbFacts.{passes_below}
-use Rattle.graph_model.proofs.ReleaseFacts.{release_names}
+use Rattle.graph_terms.specs.Graph.{GraphValue, is_acquire_of}
+use Rattle.graph_terms.specs.Reservations.{Acquires}
+use Rattle.graph_terms.proofs.VerbFacts.{passes_below}
+use Rattle.graph_terms.proofs.ReleaseFacts.{release_names}
 use Rattle.race_sweeps.specs.declared.held.Held.{Held}
 use Rattle.race_sweeps.specs.Held.{acquire_in}
 use Rattle.section_sweeps.specs.declared.table.Table.{Table}

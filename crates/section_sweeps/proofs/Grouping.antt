@@ -7,12 +7,12 @@ use Rattle.std.specs.Int.RustNames.{bit_or}
 use Rattle.std.proofs.lemmas.Bool.{cases_eq, cases_lt}
 use Rattle.std.proofs.lemmas.List.{get_or_append_left, length-set}
 use Rattle.std.proofs.Math.Seq.{get_or-append_seam}
-use Rattle.graph_model.specs.graph.Graph.{GraphValue, is_acquire_of, is_release_of}
-use Rattle.graph_model.specs.graph.Fits.{IsGraph}
-use Rattle.graph_model.specs.meaning.Rules.{Acquires, Releases}
-use Rattle.graph_model.specs.meaning.Path.{HasPath}
-use Rattle.graph_model.proofs.ReleaseFacts.{one_release}
-use Rattle.graph_model.proofs.VerbFacts.{passes_below}
+use Rattle.graph_terms.specs.Graph.{GraphValue, is_acquire_of, is_release_of}
+use Rattle.graph_terms.specs.Fits.{IsGraph}
+use Rattle.graph_terms.specs.Reservations.{Acquires, Releases}
+use Rattle.graph_meaning.specs.Path.{HasPath}
+use Rattle.graph_terms.proofs.ReleaseFacts.{one_release}
+use Rattle.graph_terms.proofs.VerbFacts.{passes_below}
 use Rattle.section_sweeps.specs.Releases.{AreReleases}
 use Rattle.section_sweeps.specs.Table.{ArePlaced}
 use Rattle.section_sweeps.specs.Passing.{HasBit, HaveNone, IsSized, AreFromBefore}

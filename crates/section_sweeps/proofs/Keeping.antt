@@ -7,9 +7,10 @@ use Rattle.std.specs.Option.{option_map_or}
 use Rattle.std.proofs.lemmas.Bool.{cases_eq}
 use Rattle.std.proofs.lemmas.Option.{none-some, same_Some, slice_get_within}
 use Rattle.std.proofs.lemmas.List.{length-set, get_or-set_same, get_or-set_other}
-use Rattle.graph_model.specs.graph.Graph.{GraphValue, locks}
-use Rattle.graph_model.specs.meaning.Rules.{Acquires, Section}
-use Rattle.graph_model.proofs.VerbFacts.{acquire_one}
+use Rattle.graph_terms.specs.Graph.{GraphValue, locks}
+use Rattle.graph_terms.specs.Reservations.{Acquires}
+use Rattle.graph_meaning.specs.Rules.{Section}
+use Rattle.graph_terms.proofs.VerbFacts.{acquire_one}
 use Rattle.race_sweeps.specs.declared.held.Held.{Held}
 use Rattle.race_sweeps.specs.Held.{acquire_in}
 use Rattle.race_sweeps.proofs.Lists.{set_same, set_other, pushed_cases}

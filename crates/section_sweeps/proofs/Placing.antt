@@ -2,10 +2,10 @@
 use Rattle.std.proofs.Common.{◌≡◌, ℕ, ◌<◌, inl, inr, List, length, sym, ◌∙◌, ap, subst, arith}
 use Rattle.std.specs.Prelude.{slice_index}
 use Rattle.std.proofs.lemmas.Bool.{cases_order}
-use Rattle.graph_model.specs.graph.Graph.{GraphValue}
-use Rattle.graph_model.specs.graph.Fits.{IsGraph}
-use Rattle.graph_model.specs.meaning.Laws.{EdgesBetweenLines}
-use Rattle.graph_model.specs.meaning.Path.{HasPath, last, first}
+use Rattle.graph_terms.specs.Graph.{GraphValue}
+use Rattle.graph_terms.specs.Fits.{IsGraph}
+use Rattle.graph_meaning.specs.Laws.{EdgesBetweenLines}
+use Rattle.graph_meaning.specs.Path.{HasPath, last, first}
 use Rattle.race_sweeps.specs.Placed.{IsOrder, IsPlaced, ArePlaces}
 use Rattle.section_sweeps.specs.Table.{ArePlaced, AreForward}
 

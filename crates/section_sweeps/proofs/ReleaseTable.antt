@@ -4,12 +4,12 @@ use Rattle.std.specs.Prelude.{Option, Some, None, slice_set}
 use Rattle.std.proofs.lemmas.Bool.{cases_lt, cases_eq}
 use Rattle.std.proofs.lemmas.List.{get_or-set_same, get_or-set_other}
 use Rattle.std.proofs.lemmas.Option.{none-some, same_Some}
-use Rattle.graph_model.specs.declared.graph.verb.Verb.TheVariants.{Release}
-use Rattle.graph_model.specs.graph.Graph.{GraphValue, is_release_of}
-use Rattle.graph_model.specs.graph.Fits.{IsGraph}
-use Rattle.graph_model.specs.meaning.Rules.{Releases}
-use Rattle.graph_model.proofs.VerbFacts.{passes_below, release_is}
-use Rattle.graph_model.proofs.ReleaseFacts.{one_release}
+use Rattle.graph_terms.specs.declared.verb.Verb.TheVariants.{Release}
+use Rattle.graph_terms.specs.Graph.{GraphValue, is_release_of}
+use Rattle.graph_terms.specs.Fits.{IsGraph}
+use Rattle.graph_terms.specs.Reservations.{Releases}
+use Rattle.graph_terms.proofs.VerbFacts.{passes_below, release_is}
+use Rattle.graph_terms.proofs.ReleaseFacts.{one_release}
 use Rattle.section_sweeps.specs.Releases.{IsReleaseTable, AreReleases, release_in}
 
 -- the table of releases after the first i lines

@@ -1,7 +1,7 @@
 -- The lines of a list that have bits of their own.
 use Rattle.std.specs.Prelude.{◌≡◌, ℕ, ◌<◌, ◌≤◌, List, length, Option, Some, None, slice_index}
 use Rattle.std.specs.List.{slice_index_or}
-use Rattle.graph_model.specs.graph.Graph.{GraphValue}
+use Rattle.graph_terms.specs.Graph.{GraphValue}
 use Rattle.section_sweeps.specs.Group.{AreOwn}
 use Rattle.section_sweeps.specs.Passing.{HasBit, HaveNone, IsSized}
 use Rattle.section_sweeps.specs.declared.blocks.Marked.{Marked}

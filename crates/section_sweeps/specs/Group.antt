@@ -1,8 +1,8 @@
 -- A group of acquires, and what a sweep finds of them.
 use Rattle.std.specs.Prelude.{◌≡◌, ℕ, ◌<◌, ◌≤◌, ◌⊎◌, List, length, IsTrue, slice_index}
-use Rattle.graph_model.specs.graph.Graph.{GraphValue, line_passes, is_phase, never_comes}
-use Rattle.graph_model.specs.meaning.Path.{HasPath}
-use Rattle.graph_model.specs.meaning.Rules.{Acquires, Releases}
+use Rattle.graph_terms.specs.Graph.{GraphValue, line_passes, is_phase, never_comes}
+use Rattle.graph_meaning.specs.Path.{HasPath}
+use Rattle.graph_terms.specs.Reservations.{Acquires, Releases}
 use Rattle.race_sweeps.specs.declared.held.Held.{Held}
 use Rattle.section_sweeps.specs.declared.group.Group.{Group}
 use Rattle.section_sweeps.specs.Passing.{HasBit, HasEither, HaveNone, AreWithin, IsSized}

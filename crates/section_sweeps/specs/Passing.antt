@@ -1,10 +1,10 @@
 -- What bits are passed on along edges.
 use Rattle.std.specs.Prelude.{◌≡◌, ℕ, ◌<◌, ◌≤◌, true, List, length, Contains, slice_index}
 use Rattle.std.specs.Int.RustNames.{bit_or}
-use Rattle.graph_model.specs.declared.graph.verb.Edge.{Edge}
-use Rattle.graph_model.specs.graph.Graph.{GraphValue}
-use Rattle.graph_model.specs.graph.Edges.{edges}
-use Rattle.graph_model.specs.meaning.Path.{HasPath}
+use Rattle.graph_terms.specs.declared.verb.Edge.{Edge}
+use Rattle.graph_terms.specs.Graph.{GraphValue}
+use Rattle.graph_terms.specs.Edges.{edges}
+use Rattle.graph_meaning.specs.Path.{HasPath}
 use Rattle.race_sweeps.specs.Marks.{bit_in}
 use Rattle.section_sweeps.specs.declared.passing.Passing.{Passing}
 

@@ -1,8 +1,8 @@
 -- The release of each acquire.
 use Rattle.std.specs.Prelude.{◌≡◌, ℕ, List, length, Option, Some, None}
 use Rattle.std.specs.List.{slice_index_or}
-use Rattle.graph_model.specs.graph.Graph.{GraphValue}
-use Rattle.graph_model.specs.meaning.Rules.{Releases}
+use Rattle.graph_terms.specs.Graph.{GraphValue}
+use Rattle.graph_terms.specs.Reservations.{Releases}
 
 -- the release of an acquire, where there is one
 abbrev pub IsReleaseTable : GraphValue → (ℕ → Option ℕ) → Type 0

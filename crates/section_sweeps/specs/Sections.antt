@@ -1,8 +1,9 @@
 -- The rules of reservations, and in which sections the lines lie.
 use Rattle.std.specs.Prelude.{◌≡◌, ℕ, length, Option, Some, None, Vec, slice_get}
 use Rattle.std.specs.Global.{Global}
-use Rattle.graph_model.specs.graph.Graph.{GraphValue, locks}
-use Rattle.graph_model.specs.meaning.Rules.{Everywhere, EverywhereTwice, Releases, ReleasedAt, SectionAt, DescendsAt, Section}
+use Rattle.graph_terms.specs.Graph.{GraphValue, locks}
+use Rattle.graph_meaning.specs.Rules.{Everywhere, EverywhereTwice, ReleasedAt, SectionAt, DescendsAt, Section}
+use Rattle.graph_terms.specs.Reservations.{Releases}
 use Rattle.race_sweeps.specs.declared.held.Held.{Held}
 use Rattle.race_sweeps.specs.Held.{IsHeld, acquire_in}
 

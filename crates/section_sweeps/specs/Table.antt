@@ -1,9 +1,9 @@
 -- What is looked up of a graph: its lines by place, their places, and their releases.
 use Rattle.std.specs.Prelude.{◌≡◌, ℕ, ◌<◌, List, length, Contains, slice_index}
-use Rattle.graph_model.specs.declared.graph.verb.Edge.{Edge}
-use Rattle.graph_model.specs.graph.Graph.{GraphValue}
-use Rattle.graph_model.specs.graph.Edges.{edges}
-use Rattle.graph_model.specs.graph.Fits.{IsGraph}
+use Rattle.graph_terms.specs.declared.verb.Edge.{Edge}
+use Rattle.graph_terms.specs.Graph.{GraphValue}
+use Rattle.graph_terms.specs.Edges.{edges}
+use Rattle.graph_terms.specs.Fits.{IsGraph}
 use Rattle.section_sweeps.specs.Releases.{AreReleases}
 use Rattle.section_sweeps.specs.declared.table.Table.{Table}
 

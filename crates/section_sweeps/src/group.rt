@@ -1,7 +1,7 @@
 //! The acquires of a group, up to 64, and the sweeps for them.
 
 ghost use Rattle.std.specs.Prelude.{◌≡◌, ℕ, ◌<◌, ◌≤◌, true, List, length, slice_index, IsTrue, OnOk, IfOk, IfSome};
-ghost use Rattle.graph_model.specs.meaning.Rules.{Acquires};
+ghost use Rattle.graph_terms.specs.Reservations.{Acquires};
 ghost use Rattle.race_sweeps.specs.Marks.{bit_in};
 ghost use Rattle.section_sweeps.specs.Group.{AreGathered, AreKnownFrom, AreOpened, AreOwn, IsAcquire, IsCleared, IsNoDeadPhase, IsPassed, IsPlacedAt, IsReleaseOf, IsReleased, IsSwept};
 ghost use Rattle.section_sweeps.specs.Passing.{AreFromBefore, HasBit, IsSized};

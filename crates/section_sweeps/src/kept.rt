@@ -1,7 +1,8 @@
 //! The acquires that are kept, for each reservation and each line in a section of it.
 
 ghost use Rattle.std.specs.Prelude.{◌≡◌, ℕ, ◌<◌, ◌≤◌, true, length, slice_index, IfOk};
-ghost use Rattle.graph_model.specs.meaning.Rules.{Acquires, Section};
+ghost use Rattle.graph_terms.specs.Reservations.{Acquires};
+ghost use Rattle.graph_meaning.specs.Rules.{Section};
 ghost use Rattle.race_sweeps.specs.Marks.{bit_in};
 ghost use Rattle.section_sweeps.specs.Sections.{AreHeldSoFar, IsGrown, IsKept};
 

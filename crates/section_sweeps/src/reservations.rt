@@ -1,11 +1,11 @@
 //! The reservations of acquires and releases.
 
 ghost use Rattle.std.specs.Prelude.{◌≡◌, ℕ, ◌<◌, length, MatchOption};
-ghost use Rattle.graph_model.specs.graph.Graph.{locks};
-ghost use Rattle.graph_model.specs.meaning.Rules.{Acquires, Releases};
+ghost use Rattle.graph_terms.specs.Graph.{locks};
+ghost use Rattle.graph_terms.specs.Reservations.{Acquires, Releases};
 
 use graph_model::graph::Graph;
-use graph_model::verb::Verb;
+use graph_terms::verb::Verb;
 
 /// The reservation that a line acquires.
 pub fn acquired(graph: &Graph, line: u32) -> Option<u32>

@@ -1,15 +1,15 @@
 //! The rules of sections at one line.
 
 ghost use Rattle.std.specs.Prelude.{◌≡◌, ◌⊎◌, ℕ, ◌<◌, ◌≤◌, true, false, length, slice_index, IsTrue};
-ghost use Rattle.graph_model.specs.graph.Graph.{line_passes, is_phase};
-ghost use Rattle.graph_model.specs.meaning.Rules.{Acquires};
+ghost use Rattle.graph_terms.specs.Graph.{line_passes, is_phase};
+ghost use Rattle.graph_terms.specs.Reservations.{Acquires};
 ghost use Rattle.race_sweeps.specs.Marks.{bit_in};
 ghost use Rattle.section_sweeps.specs.Group.{IsNoDeadPhase};
 
 use crate::passing::has_bit;
 use crate::reservations::acquired;
 use graph_model::graph::Graph;
-use graph_model::verb::Verb;
+use graph_terms::verb::Verb;
 
 /// Whether a line is a phase that never comes.
 pub(crate) fn is_dead_phase(graph: &Graph, line: u32) -> bool

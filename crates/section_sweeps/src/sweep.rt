@@ -1,8 +1,8 @@
 //! Sweeps along the edges between two places.
 
 ghost use Rattle.std.specs.Prelude.{◌≡◌, ℕ, ◌<◌, ◌≤◌, length, Contains, slice_index};
-ghost use Rattle.graph_model.specs.declared.graph.verb.Edge.{Edge};
-ghost use Rattle.graph_model.specs.graph.Edges.{edges};
+ghost use Rattle.graph_terms.specs.declared.verb.Edge.{Edge};
+ghost use Rattle.graph_terms.specs.Edges.{edges};
 ghost use Rattle.race_sweeps.specs.Marks.{bit_in};
 ghost use Rattle.section_sweeps.specs.Passing.{HasBit, HasEither, HaveNone, AreWithin, IsSized, AreFromBefore, AreFromBehind, ArePassedUp, ArePassedDown, AreSourcesFrom};
 ghost use Rattle.section_sweeps.specs.Table.{IsTable};

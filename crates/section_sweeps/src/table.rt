@@ -5,8 +5,8 @@ ghost use Rattle.race_sweeps.specs.Placed.{IsOrder, IsPlaced, ArePlaces};
 ghost use Rattle.section_sweeps.specs.Table.{IsTable};
 
 use crate::releases::releases;
+use graph_meaning::laws::edges_between_lines;
 use graph_model::graph::Graph;
-use graph_model::laws::edges_between_lines;
 use index_spaces::NoMemory;
 use index_spaces::room::{filled, push};
 use std::alloc::Global;

@@ -4,9 +4,9 @@ use Rattle.std.specs.Prelude.{Some, slice_get, flat_map, codes}
 use Rattle.std.specs.Option.{option_map_or}
 use Rattle.std.proofs.lemmas.List.FromFn.{length-range_with_len, get_or-range_with_len}
 use Rattle.basics.specs.Lists.{numbers_below}
-use Rattle.graph_model.specs.declared.graph.verb.Line.{Line}
-use Rattle.graph_model.specs.graph.Spelling.{spelled}
-use Rattle.graph_model.specs.meaning.Evaluation.{answer_of, eval_end}
+use Rattle.graph_terms.specs.declared.verb.Line.{Line}
+use Rattle.graph_terms.specs.Spelling.{spelled}
+use Rattle.graph_meaning.specs.Evaluation.{answer_of, eval_end}
 use Rattle.graph_reader.proofs.WrittenLists.{flat_next, flat_item, flat_over}
 use Rattle.session_run.specs.declared.running.RanGraph.{RanGraph}
 use Rattle.session_run.specs.Linked.{LinkedGraph}

@@ -1,8 +1,8 @@
 -- The report of a session: that of the evaluation of each graph with its links as lines, and then what the event of each line answers.
 use Rattle.std.specs.Prelude.{ℕ, List, [], ◌∷◌, ◌++◌, length, flat_map, codes}
 use Rattle.basics.specs.Lists.{numbers_below}
-use Rattle.graph_model.specs.graph.Spelling.{spelled, line_name}
-use Rattle.graph_model.specs.meaning.Evaluation.{answer_of, eval_end}
+use Rattle.graph_terms.specs.Spelling.{spelled, line_name}
+use Rattle.graph_meaning.specs.Evaluation.{answer_of, eval_end}
 use Rattle.session_text.specs.Session.{graph_line}
 use Rattle.session_run.specs.Linked.{LinkedGraph}
 use Rattle.run_report.specs.Report.{answer_word, evaluation_report}

@@ -2,8 +2,8 @@
 #![tactic(auto)]
 
 ghost use Rattle.std.specs.Prelude.{◌≡◌, ◌<◌, length, Some, slice_get, map, flat_map, Contains};
-ghost use Rattle.graph_model.specs.declared.meaning.outcome.End.{End as TheEnd};
-ghost use Rattle.graph_model.specs.meaning.Evaluation.{answer_of};
+ghost use Rattle.graph_terms.specs.declared.outcome.End.{End as TheEnd};
+ghost use Rattle.graph_meaning.specs.Evaluation.{answer_of};
 ghost use Rattle.realm_io.specs.Written.{Writes};
 ghost use Rattle.realm_session.specs.Recorded.{answer_for};
 ghost use Rattle.session_run.specs.declared.running.RanGraph.{RanGraph as TheGraph};

@@ -11,12 +11,12 @@ use Rattle.basics.specs.Lists.{numbers_below}
 use Rattle.basics.proofs.ListFacts.{got_contains}
 use Rattle.std.proofs.lemmas.List.Elements.{Contains-append_left, Contains-append_right}
 use Rattle.gen_events.specs.declared.handle.Answer.TheVariants.{Pending}
-use Rattle.graph_model.specs.declared.graph.verb.Verb.TheVariants.{User}
-use Rattle.graph_model.specs.declared.graph.verb.Line.{Line as GraphLine}
-use Rattle.graph_model.specs.declared.meaning.outcome.End.{End}
-use Rattle.graph_model.specs.declared.meaning.outcome.End.TheVariants.{Waiting}
-use Rattle.graph_model.specs.graph.Graph.{GraphValue}
-use Rattle.graph_model.specs.meaning.Evaluation.{eval_end}
+use Rattle.graph_terms.specs.declared.verb.Verb.TheVariants.{User}
+use Rattle.graph_terms.specs.declared.verb.Line.{Line as GraphLine}
+use Rattle.graph_terms.specs.declared.outcome.End.{End}
+use Rattle.graph_terms.specs.declared.outcome.End.TheVariants.{Waiting}
+use Rattle.graph_terms.specs.Graph.{GraphValue}
+use Rattle.graph_meaning.specs.Evaluation.{eval_end}
 use Rattle.graph_reader.proofs.Owners.{position_any}
 use Rattle.realm_session.specs.declared.line.Line.{Line}
 use Rattle.realm_session.specs.Recorded.{graph_at, lines_in, end_in, handle_in, answer_for}

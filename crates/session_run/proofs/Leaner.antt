@@ -6,18 +6,18 @@ use Rattle.std.specs.List.{list_any, position_or_len, join_with_byte, AllByRecur
 use Rattle.std.proofs.lemmas.Bool.{true≢false, cond-true, cond-false, or_parts, or_from, le-ltb, lt-leb, ltb-true, ltb-false, lt-ltb}
 use Rattle.std.proofs.lemmas.List.{map-append}
 use Rattle.std.proofs.lemmas.List.Folds.{list_any-append}
-use Rattle.graph_model.specs.declared.graph.verb.Line.{Line}
-use Rattle.graph_model.specs.declared.graph.verb.Verb.{Verb}
-use Rattle.graph_model.specs.declared.graph.verb.Verb.TheVariants.{Trigger, Cancel}
-use Rattle.graph_model.specs.declared.graph.format.Format.{Format}
-use Rattle.graph_model.specs.declared.graph.format.Format.TheVariants.{One, Two}
-use Rattle.graph_model.specs.declared.graph.why.Why.TheVariants as why
-use Rattle.graph_model.specs.graph.Graph.{GraphValue, columns, locks, barriers, decl_name, line_passes, is_user, ends_user}
-use Rattle.graph_model.specs.graph.Edges.{edges, line_edges}
-use Rattle.graph_model.specs.graph.Spelling.{head, spelled, line_words, line_name}
-use Rattle.graph_model.specs.graph.Fits.{first_reason, is_used, with_line, line_fault, line_tests, cell_count, is_inst, is_beyond, format_lacks}
-use Rattle.graph_model.proofs.GraphPush.{head_with_line}
-use Rattle.graph_model.proofs.RowLaws.{edges_push}
+use Rattle.graph_terms.specs.declared.verb.Line.{Line}
+use Rattle.graph_terms.specs.declared.verb.Verb.{Verb}
+use Rattle.graph_terms.specs.declared.verb.Verb.TheVariants.{Trigger, Cancel}
+use Rattle.graph_terms.specs.declared.format.Format.{Format}
+use Rattle.graph_terms.specs.declared.format.Format.TheVariants.{One, Two}
+use Rattle.graph_terms.specs.declared.why.Why.TheVariants as why
+use Rattle.graph_terms.specs.Graph.{GraphValue, columns, locks, barriers, decl_name, line_passes, is_user, ends_user}
+use Rattle.graph_terms.specs.Edges.{edges, line_edges}
+use Rattle.graph_terms.specs.Spelling.{head, spelled, line_words, line_name}
+use Rattle.graph_terms.specs.Fits.{first_reason, is_used, with_line, line_fault, line_tests, cell_count, is_inst, is_beyond, format_lacks}
+use Rattle.graph_terms.proofs.GraphPush.{head_with_line}
+use Rattle.graph_terms.proofs.EdgeFacts.{edges_push}
 use Rattle.graph_reader.specs.Draft.{line_number}
 use Rattle.graph_reader.specs.FirstFault.{is_line_name}
 use Rattle.graph_reader.proofs.GraphNames.{each_fails, none_where_each_fails}

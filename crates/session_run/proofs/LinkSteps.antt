@@ -8,13 +8,13 @@ use Rattle.std.proofs.lemmas.List.{map-append, take_more}
 use Rattle.std.proofs.lemmas.List.Folds.{list_any-append}
 use Rattle.gen_events.specs.declared.handle.Answer.{Answer}
 use Rattle.gen_events.specs.declared.handle.Answer.TheVariants.{Pending, Triggered, Poisoned}
-use Rattle.graph_model.specs.declared.graph.verb.Line.{Line}
-use Rattle.graph_model.specs.declared.graph.verb.Verb.TheVariants.{Trigger, Cancel}
-use Rattle.graph_model.specs.graph.Graph.{GraphValue, line_passes, is_user}
-use Rattle.graph_model.specs.graph.Fits.{with_line, line_fault}
+use Rattle.graph_terms.specs.declared.verb.Line.{Line}
+use Rattle.graph_terms.specs.declared.verb.Verb.TheVariants.{Trigger, Cancel}
+use Rattle.graph_terms.specs.Graph.{GraphValue, line_passes, is_user}
+use Rattle.graph_terms.specs.Fits.{with_line, line_fault}
 use Rattle.session_text.specs.declared.entry.Link.{Link}
 use Rattle.std.proofs.lemmas.Option.{none-some, same_Some, slice_get_within, get_or_from_slice_get}
-use Rattle.graph_model.specs.declared.graph.why.Why.{Why}
+use Rattle.graph_terms.specs.declared.why.Why.{Why}
 use Rattle.graph_reader.specs.FirstFault.{or_else, is_line_name}
 use Rattle.session_text.specs.declared.entry.Entry.{Entry}
 use Rattle.session_text.specs.Fits.{trigger_line, with_trigger, with_triggers, trigger_reason, LinksFit}

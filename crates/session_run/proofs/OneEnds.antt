@@ -2,8 +2,8 @@
 use Rattle.std.proofs.Common.{◌≡◌, ◌≢◌, ℕ, ◌≤◌, ◌⊎◌, List, [], ◌∷◌, ◌++◌, inl, inr, ⊎_elim, refl, sym, ◌∙◌, ap, subst, arith}
 use Rattle.std.proofs.lemmas.List.Elements.{Contains-append_left, Contains-append_right}
 use Rattle.basics.proofs.Sums.{total-append}
-use Rattle.graph_model.specs.graph.Graph.{GraphValue}
-use Rattle.graph_model.specs.meaning.Rules.{Accepted}
+use Rattle.graph_terms.specs.Graph.{GraphValue}
+use Rattle.graph_meaning.specs.Rules.{Accepted}
 use Rattle.race_check.specs.declared.checked.CheckRefusal.{CheckRefusal}
 use Rattle.race_check.specs.declared.checked.CheckRefusal.TheVariants as refusal
 use Rattle.race_check.specs.Refusal.{IsRefusal}

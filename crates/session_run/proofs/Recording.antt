@@ -11,13 +11,13 @@ use Rattle.basics.specs.Lists.{numbers_below}
 use Rattle.basics.specs.Sums.{total}
 use Rattle.basics.proofs.Sums.{total-append}
 use Rattle.gen_events.specs.declared.handle.Handle.{Handle}
-use Rattle.graph_model.specs.declared.meaning.outcome.End.{End}
-use Rattle.graph_model.specs.graph.Graph.{GraphValue}
-use Rattle.graph_model.specs.meaning.Evaluation.{eval_end}
+use Rattle.graph_terms.specs.declared.outcome.End.{End}
+use Rattle.graph_terms.specs.Graph.{GraphValue}
+use Rattle.graph_meaning.specs.Evaluation.{eval_end}
 use Rattle.realm_session.specs.declared.line.Line.{Line}
 use Rattle.realm_session.specs.Recorded.{waits, waiting_in, lines_in, end_in, handle_in, need_with}
 use Rattle.session_run.specs.declared.running.RanGraph.{RanGraph}
-use Rattle.graph_model.specs.declared.meaning.outcome.Outcome.{Outcome}
+use Rattle.graph_terms.specs.declared.outcome.Outcome.{Outcome}
 use Rattle.realm_session.specs.declared.recorder.Recorder.{Recorder}
 use Rattle.realm_session.specs.Sessions.{recorded_by, IsRecorderOf}
 use Rattle.session_text.specs.declared.limits.TheConstants.{MAX_GRAPHS}

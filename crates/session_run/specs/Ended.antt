@@ -2,7 +2,7 @@
 use Rattle.std.specs.Prelude.{◌≡◌, ◌≢◌, ℕ, ◌<◌, ◌≤◌, length, Contains, Some, slice_get}
 use Rattle.gen_events.specs.declared.handle.Handle.{Handle}
 use Rattle.gen_events.specs.EventMap.{answer, no_event, IsCreated}
-use Rattle.graph_model.specs.meaning.Evaluation.{eval_end}
+use Rattle.graph_meaning.specs.Evaluation.{eval_end}
 use Rattle.realm_session.specs.Recorded.{answer_for}
 use Rattle.session_text.specs.declared.limits.TheConstants.{MAX_GRAPHS}
 use Rattle.session_run.specs.declared.running.RanGraph.{RanGraph}

@@ -4,11 +4,11 @@ use Rattle.basics.specs.Lists.{numbers_below}
 use Rattle.basics.specs.Sums.{total}
 use Rattle.gen_events.specs.declared.handle.Handle.{Handle}
 use Rattle.gen_events.specs.declared.tokens.Seat.{Seat}
-use Rattle.graph_model.specs.declared.meaning.outcome.End.{End}
-use Rattle.graph_model.specs.declared.meaning.outcome.Outcome.{Outcome}
-use Rattle.graph_model.specs.declared.graph.verb.Line.{Line as GraphLine}
-use Rattle.graph_model.specs.graph.Graph.{GraphValue}
-use Rattle.graph_model.specs.meaning.Evaluation.{eval_end, outcome}
+use Rattle.graph_terms.specs.declared.outcome.End.{End}
+use Rattle.graph_terms.specs.declared.outcome.Outcome.{Outcome}
+use Rattle.graph_terms.specs.declared.verb.Line.{Line as GraphLine}
+use Rattle.graph_terms.specs.Graph.{GraphValue}
+use Rattle.graph_meaning.specs.Evaluation.{eval_end, outcome}
 use Rattle.realm_session.specs.declared.line.Line.{Line}
 use Rattle.realm_session.specs.Recorded.{RecordedGraphs, IsRecorded, end_in, handle_in, waits}
 use Rattle.realm_session.specs.Sessions.{recorded_by, IsRecorderOf, Tells}

@@ -1,8 +1,8 @@
 -- Running the graphs of a session in order, until all have run or one is refused.
 use Rattle.std.specs.Prelude.{◌≡◌, ◌≢◌, ℕ, ◌+◌, ◌<◌, ◌≤◌, List, [], ◌∷◌, ◌++◌, length, Contains, Result, IfOk}
-use Rattle.graph_model.specs.meaning.Rules.{Accepted}
-use Rattle.graph_model.specs.meaning.Checked.{CheckedValue}
-use Rattle.graph_model.specs.declared.meaning.outcome.Outcome.{Outcome}
+use Rattle.graph_meaning.specs.Rules.{Accepted}
+use Rattle.checked_graph.specs.Checked.{CheckedValue}
+use Rattle.graph_terms.specs.declared.outcome.Outcome.{Outcome}
 use Rattle.index_spaces.specs.declared.NoMemory.{NoMemory as WantOfMemory}
 use Rattle.race_check.specs.declared.checked.CheckRefusal.TheVariants as check
 use Rattle.race_check.specs.Refusal.{IsRefusal, NamesLines}

@@ -1,7 +1,7 @@
 //! The graphs of a session that have all run, and what their events answer.
 
 ghost use Rattle.std.specs.Prelude.{◌≡◌, Some, slice_get};
-ghost use Rattle.graph_model.specs.meaning.Evaluation.{eval_end};
+ghost use Rattle.graph_meaning.specs.Evaluation.{eval_end};
 ghost use Rattle.realm_session.specs.Recorded.{answer_for};
 ghost use Rattle.session_run.specs.declared.running.RanGraph.{RanGraph as TheGraph};
 ghost use Rattle.session_run.specs.Running.{IsRunning};

@@ -1,14 +1,14 @@
 //! Links as lines.
 
 ghost use Rattle.std.specs.Prelude.{◌≡◌, true, None, OnOk};
-ghost use Rattle.graph_model.specs.graph.Fits.{line_fault};
+ghost use Rattle.graph_terms.specs.Fits.{line_fault};
 ghost use Rattle.graph_reader.specs.FirstFault.{is_line_name};
 ghost use Rattle.session_text.specs.Fits.{trigger_line};
 ghost use Rattle.session_run.specs.Linked.{cancel_line, with_answer};
 
 use gen_events::Answer;
 use graph_model::graph::Graph;
-use graph_model::verb::{Line, Verb};
+use graph_terms::verb::{Line, Verb};
 use index_spaces::NoMemory;
 use session_text::{Link, find_line};
 

@@ -10,12 +10,12 @@ ghost use Rattle.session_run.specs.Linked.{link_answer, with_links};
 ghost use Rattle.session_run.specs.Running.{graph_place, line_total, op_place, ran_by, slots_needed, slots_of, CanLink, Entered, IsOutcome, IsRunning, TellsAll};
 
 use crate::linking::add_link;
+use checked_graph::Checked;
 use gen_events::{Answer, Handle, Seat};
-use graph_model::checked::Checked;
 use graph_model::graph::Graph;
-use graph_model::lists::{EndList, ItemList};
-use graph_model::name::Name;
-use graph_model::outcome::Outcome;
+use graph_terms::lists::{EndList, ItemList};
+use graph_terms::name::Name;
+use graph_terms::outcome::Outcome;
 use index_spaces::NoMemory;
 use index_spaces::room::push;
 use realm_session::{RecordRefusal, Recorder, Session};

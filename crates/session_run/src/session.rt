@@ -3,7 +3,7 @@
 ghost use Rattle.std.specs.Prelude.{◌≡◌, ℕ, ◌+◌, ◌<◌, ◌≤◌, ◌++◌, ◌∷◌, [], List, length, map, IfOk, IfErr};
 ghost use Rattle.std.specs.Fn.{FnReturnsAt};
 ghost use Rattle.gen_events.specs.declared.limits.TheConstants.{MAX_SLOTS};
-ghost use Rattle.graph_model.specs.meaning.Rules.{Accepted};
+ghost use Rattle.graph_meaning.specs.Rules.{Accepted};
 ghost use Rattle.race_check.specs.Refusal.{IsRefusal, NamesLines};
 ghost use Rattle.session_text.specs.declared.limits.TheConstants.{MAX_GRAPHS, MAX_SESSION_LINES};
 ghost use Rattle.session_text.specs.Fits.{AreEntries};
@@ -14,10 +14,10 @@ ghost use Rattle.session_run.specs.Session.{AreNext, CanRun, CanRunNext, GivesOu
 
 use crate::ended::Ended;
 use crate::running::{Linked, RecordFault, Running};
-use graph_model::checked::Checked;
+use checked_graph::Checked;
 use graph_model::graph::Graph;
-use graph_model::name::Name;
-use graph_model::outcome::Outcome;
+use graph_terms::name::Name;
+use graph_terms::outcome::Outcome;
 use index_spaces::NoMemory;
 use race_check::check;
 use race_check::checked::{CheckRefusal, Unfit};

@@ -1,14 +1,13 @@
 -- The cells of all columns of a graph, column by column.
-use Rattle.std.proofs.Common.{◌≡◌, ℕ, ◌+◌, ◌<◌, ◌≤◌, [], length, take, sym, ◌∙◌, ap, take_all}
+use Rattle.std.proofs.Common.{◌≡◌, ℕ, ◌+◌, ◌<◌, ◌≤◌, [], length, take, sym, ◌∙◌, ap, take_all, get_or}
 use Rattle.std.specs.Prelude.{sum_by}
 use Rattle.std.specs.Option.{option_map_or}
 use Rattle.std.proofs.lemmas.List.Sums.{sum_by_more}
 use Rattle.std.proofs.lemmas.Option.{slice_get-get_or}
-use Rattle.std.proofs.Common.{get_or}
 use Rattle.index_spaces.specs.Space.{space_size}
-use Rattle.graph_model.specs.declared.graph.decl.ColumnInfo.{ColumnInfo}
-use Rattle.graph_model.specs.graph.Graph.{GraphValue, columns, column_space, space_at}
-use Rattle.graph_model.specs.graph.Fits.{cell_count}
+use Rattle.graph_terms.specs.declared.decl.ColumnInfo.{ColumnInfo}
+use Rattle.graph_terms.specs.Graph.{GraphValue, columns, column_space, space_at}
+use Rattle.graph_terms.specs.Fits.{cell_count}
 
 -- the cells of a column
 abbrev pub column_cells : GraphValue → ColumnInfo → ℕ

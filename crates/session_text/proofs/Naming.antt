@@ -3,17 +3,17 @@ use Rattle.std.proofs.Common.{◌≡◌, ℕ, ◌+◌, ◌≤◌, Bool, true, fa
 use Rattle.std.specs.Prelude.{Option, Some, None, is_some, MatchOption, position, unwrap_or, bytes_eq, codes}
 use Rattle.std.proofs.lemmas.Bool.{cond-true, cond-false}
 use Rattle.std.proofs.lemmas.Option.{none-some}
-use Rattle.graph_model.specs.declared.graph.found.Found.{Found}
-use Rattle.graph_model.specs.declared.graph.found.Found.TheVariants as found
-use Rattle.graph_model.specs.declared.graph.verb.Line.{Line}
-use Rattle.graph_model.specs.declared.graph.verb.Verb.TheVariants.{Trigger}
-use Rattle.graph_model.specs.declared.graph.why.Why.{Why}
-use Rattle.graph_model.specs.declared.graph.why.Why.TheVariants as why
-use Rattle.graph_model.specs.graph.Graph.{GraphValue}
-use Rattle.graph_model.specs.graph.Names.{StandsFor}
-use Rattle.graph_model.specs.graph.Spelling.{head}
-use Rattle.graph_model.specs.graph.Fits.{IsGraph, first_reason, is_used, line_fault}
-use Rattle.graph_model.proofs.GraphPush.{long_head}
+use Rattle.graph_terms.specs.declared.found.Found.{Found}
+use Rattle.graph_terms.specs.declared.found.Found.TheVariants as found
+use Rattle.graph_terms.specs.declared.verb.Line.{Line}
+use Rattle.graph_terms.specs.declared.verb.Verb.TheVariants.{Trigger}
+use Rattle.graph_terms.specs.declared.why.Why.{Why}
+use Rattle.graph_terms.specs.declared.why.Why.TheVariants as why
+use Rattle.graph_terms.specs.Graph.{GraphValue}
+use Rattle.graph_terms.specs.Names.{StandsFor}
+use Rattle.graph_terms.specs.Spelling.{head}
+use Rattle.graph_terms.specs.Fits.{IsGraph, first_reason, is_used, line_fault}
+use Rattle.graph_terms.proofs.GraphPush.{long_head}
 use Rattle.graph_reader.specs.FirstFault.{is_line_name, line_count, FirstFault}
 use Rattle.graph_reader.specs.Text.{text}
 use Rattle.graph_reader.specs.Lookups.{found_line}

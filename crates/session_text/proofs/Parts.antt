@@ -6,12 +6,12 @@ use Rattle.std.specs.Str.{bytes_eq}
 use Rattle.std.proofs.lemmas.Bool.{true≢false, cond-true, cond-false, and_parts, not_from_false}
 use Rattle.std.proofs.lemmas.Option.{none-some}
 use Rattle.std.proofs.lemmas.Grind.{flat_map-append}
-use Rattle.graph_model.specs.declared.graph.why.Why.{Why}
-use Rattle.graph_model.specs.declared.graph.why.Why.TheVariants as why
-use Rattle.graph_model.specs.graph.Graph.{GraphValue}
-use Rattle.graph_model.specs.graph.Spelling.{spelled, head}
-use Rattle.graph_model.specs.graph.Name.{is_name}
-use Rattle.graph_model.specs.graph.Fits.{IsGraph}
+use Rattle.graph_terms.specs.declared.why.Why.{Why}
+use Rattle.graph_terms.specs.declared.why.Why.TheVariants as why
+use Rattle.graph_terms.specs.Graph.{GraphValue}
+use Rattle.graph_terms.specs.Spelling.{spelled, head}
+use Rattle.graph_terms.specs.Name.{is_name}
+use Rattle.graph_terms.specs.Fits.{IsGraph}
 use Rattle.graph_reader.specs.Words.{pieces}
 use Rattle.graph_reader.specs.Text.{text}
 use Rattle.graph_reader.specs.Text as graph

@@ -10,12 +10,12 @@ use Rattle.std.proofs.lemmas.Option.{none-some}
 use Rattle.std.proofs.lemmas.List.{take-append-drop, map-append}
 use Rattle.std.proofs.lemmas.List.Sums.{sum_by-cons}
 use Rattle.std.proofs.lemmas.List.Folds.{list_any-append}
-use Rattle.graph_model.specs.declared.graph.why.Why.{Why}
-use Rattle.graph_model.specs.declared.graph.why.Why.TheVariants as why
-use Rattle.graph_model.specs.graph.Graph.{GraphValue}
-use Rattle.graph_model.specs.graph.Spelling.{head, spelled}
-use Rattle.graph_model.specs.graph.Fits.{IsGraph, cell_count}
-use Rattle.graph_model.proofs.GraphPush.{long_head}
+use Rattle.graph_terms.specs.declared.why.Why.{Why}
+use Rattle.graph_terms.specs.declared.why.Why.TheVariants as why
+use Rattle.graph_terms.specs.Graph.{GraphValue}
+use Rattle.graph_terms.specs.Spelling.{head, spelled}
+use Rattle.graph_terms.specs.Fits.{IsGraph, cell_count}
+use Rattle.graph_terms.proofs.GraphPush.{long_head}
 use Rattle.graph_reader.specs.Words.{pieces}
 use Rattle.graph_reader.specs.Text.{text, GraphText}
 use Rattle.graph_reader.specs.FirstFault.{has_newline, first_line, is_empty, or_else, line_count}

@@ -2,10 +2,10 @@
 use Rattle.std.specs.Prelude.{◌≡◌, ◌≢◌, ℕ, ◌+◌, ◌==◌, ◌⊎◌, Bool, true, cond, ◌&&◌, List, [], ◌∷◌, ◌++◌, length, Option, Some, None, codes, slice_index_or}
 use Rattle.std.specs.List.{list_any}
 use Rattle.std.specs.Str.{bytes_eq}
-use Rattle.graph_model.specs.declared.graph.why.Why.{Why}
-use Rattle.graph_model.specs.declared.graph.why.Why.TheVariants as why
-use Rattle.graph_model.specs.graph.Graph.{GraphValue}
-use Rattle.graph_model.specs.graph.Fits.{IsGraph}
+use Rattle.graph_terms.specs.declared.why.Why.{Why}
+use Rattle.graph_terms.specs.declared.why.Why.TheVariants as why
+use Rattle.graph_terms.specs.Graph.{GraphValue}
+use Rattle.graph_terms.specs.Fits.{IsGraph}
 use Rattle.graph_reader.specs.Words.{pieces}
 use Rattle.graph_reader.specs.Text.{text}
 use Rattle.graph_reader.specs.FirstFault.{has_newline, first_line, is_empty, line_count, FirstFault}

@@ -2,14 +2,14 @@
 use Rattle.std.specs.Prelude.{◌≡◌, ℕ, ◌+◌, ◌≤◌, nat_lt, Bool, true, not, cond, ◌&&◌, ◌||◌, List, [], ◌∷◌, ◌++◌, length, sum_by, Option, Some, None}
 use Rattle.std.specs.List.{list_any}
 use Rattle.std.specs.Str.{bytes_eq}
-use Rattle.graph_model.specs.declared.graph.limits.TheConstants.{MAX_TEXT, MAX_CELLS}
-use Rattle.graph_model.specs.declared.graph.verb.Line.{Line}
-use Rattle.graph_model.specs.declared.graph.verb.Verb.TheVariants.{Trigger}
-use Rattle.graph_model.specs.declared.graph.why.Why.{Why}
-use Rattle.graph_model.specs.declared.graph.why.Why.TheVariants as why
-use Rattle.graph_model.specs.graph.Graph.{GraphValue}
-use Rattle.graph_model.specs.graph.Name.{is_name}
-use Rattle.graph_model.specs.graph.Fits.{IsGraph, first_reason, is_used, with_line, line_fault, cell_count}
+use Rattle.graph_terms.specs.declared.limits.TheConstants.{MAX_TEXT, MAX_CELLS}
+use Rattle.graph_terms.specs.declared.verb.Line.{Line}
+use Rattle.graph_terms.specs.declared.verb.Verb.TheVariants.{Trigger}
+use Rattle.graph_terms.specs.declared.why.Why.{Why}
+use Rattle.graph_terms.specs.declared.why.Why.TheVariants as why
+use Rattle.graph_terms.specs.Graph.{GraphValue}
+use Rattle.graph_terms.specs.Name.{is_name}
+use Rattle.graph_terms.specs.Fits.{IsGraph, first_reason, is_used, with_line, line_fault, cell_count}
 use Rattle.graph_reader.specs.Draft.{line_number}
 use Rattle.graph_reader.specs.FirstFault.{is_line_name, or_else}
 use Rattle.session_text.specs.declared.limits.TheConstants.{MAX_GRAPHS, MAX_SESSION_LINES}

@@ -1,6 +1,6 @@
 -- The law of texts of sessions: so many bytes as a text may have are the text of one session at most, and have one first fault at most, and not both.
 use Rattle.std.specs.Prelude.{◌≡◌, ℕ, List}
-use Rattle.graph_model.specs.declared.graph.why.Why.{Why}
+use Rattle.graph_terms.specs.declared.why.Why.{Why}
 use Rattle.session_text.specs.declared.entry.Entry.{Entry}
 use Rattle.session_text.specs.Fits.{SessionText}
 use Rattle.session_text.specs.FirstFault.{SessionFault}

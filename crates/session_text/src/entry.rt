@@ -1,8 +1,8 @@
 //! The graphs of a session, and their links.
 
 use graph_model::graph::Graph;
-use graph_model::lists::ItemList;
-use graph_model::name::Name;
+use graph_terms::lists::ItemList;
+use graph_terms::name::Name;
 
 /// A line that ends a user line of its graph as an operation of an earlier graph ended.
 #[derive(Clone, Copy)]

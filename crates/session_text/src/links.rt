@@ -3,7 +3,7 @@
 ghost use Rattle.basics.specs.Words.{contents};
 ghost use Rattle.std.specs.Prelude.{◌≡◌, ◌∷◌, [], true, false, not, map, position, None, Some, IfOk, OnOk, MatchOption};
 ghost use Rattle.std.specs.Str.{bytes_eq};
-ghost use Rattle.graph_model.specs.graph.Fits.{first_reason, is_used, line_fault, with_line};
+ghost use Rattle.graph_terms.specs.Fits.{first_reason, is_used, line_fault, with_line};
 ghost use Rattle.graph_reader.specs.FirstFault.{is_line_name};
 ghost use Rattle.session_text.specs.Fits.{names_op, names_op_of, is_named, trigger_reason, with_trigger};
 ghost use Rattle.session_text.specs.FirstFault.{link_of};
@@ -11,11 +11,11 @@ ghost use Rattle.session_text.specs.SoFar.{judged_of};
 
 use crate::entry::{Entry, Link};
 use crate::words::word;
-use graph_model::found::Found;
 use graph_model::graph::Graph;
-use graph_model::name::Name;
-use graph_model::verb::{Line, Verb};
-use graph_model::why::Why;
+use graph_terms::found::Found;
+use graph_terms::name::Name;
+use graph_terms::verb::{Line, Verb};
+use graph_terms::why::Why;
 use index_spaces::NoMemory;
 
 /// The link of the words of its line. `None` exactly where one of them is not spelled as a name.

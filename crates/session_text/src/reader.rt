@@ -1,7 +1,7 @@
 //! Reading a session from its text.
 
 ghost use Rattle.std.specs.Prelude.{◌≡◌, ◌≢◌, ◌+◌, ◌<◌, ◌≤◌, [], length, IfOk, IfErr, OnOk};
-ghost use Rattle.graph_model.specs.declared.graph.limits.TheConstants.{MAX_TEXT};
+ghost use Rattle.graph_terms.specs.declared.limits.TheConstants.{MAX_TEXT};
 ghost use Rattle.session_text.specs.Fits.{SessionText};
 ghost use Rattle.session_text.specs.FirstFault.{IsRefusal};
 ghost use Rattle.session_text.specs.SoFar.{entries_in, IsSoFar};
@@ -9,8 +9,8 @@ ghost use Rattle.session_text.specs.SoFar.{entries_in, IsSoFar};
 use crate::cuts::cut;
 use crate::entry::Entry;
 use crate::so_far::{SoFar, refused};
-use graph_model::why::Why;
 use graph_reader::ReadRefusal;
+use graph_terms::why::Why;
 use std::alloc::Global;
 
 /// The graphs of the session whose text the bytes are, with their links, in order. There are at most

@@ -7,24 +7,24 @@ use Rattle.std.proofs.lemmas.Bool.{true≢false, cases_Bool, eq-eqb, lt-ltb, fal
 use Rattle.std.proofs.lemmas.Option.{same_Some}
 use Rattle.index_spaces.specs.Space.{has_point, points, Meet}
 use Rattle.index_spaces.specs.Laws.{PointsAreListed}
-use Rattle.graph_model.specs.declared.graph.verb.Access.{Access}
-use Rattle.graph_model.specs.declared.graph.verb.Mode.{Mode}
-use Rattle.graph_model.specs.declared.graph.verb.Mode.TheVariants.{Read, Write, Sum, Least, Most}
-use Rattle.graph_model.specs.declared.graph.verb.Edge.{Edge}
-use Rattle.graph_model.specs.declared.graph.verb.EdgeKind.TheVariants.{Passes, Ignores}
-use Rattle.graph_model.specs.declared.graph.verb.Line.{Line}
-use Rattle.graph_model.specs.declared.graph.verb.Verb.{Verb}
-use Rattle.graph_model.specs.declared.graph.verb.Verb.TheVariants.{User, Trigger, Cancel, Merge, MergeIgnore, Phase, Arrive, Acquire, Release, Fill, Copy, Reduce, Task}
-use Rattle.graph_model.specs.graph.Graph.{GraphValue, is_phase, is_acquire_of, is_release_of, is_merge_ignore, is_shared, verb_at, line_passes, space_at}
-use Rattle.graph_model.specs.meaning.Path.{Path, HasPath}
-use Rattle.graph_model.specs.meaning.Path.{last, first}
-use Rattle.graph_model.specs.graph.Edges.{edge}
-use Rattle.graph_model.specs.graph.Access.{verb_accesses, in_format, accesses, modes_clash, AccessesConflict, Conflict}
-use Rattle.graph_model.specs.meaning.Rules.{Acquires, Releases, Section, modes_commute, Exempt, NoCycleAt, ReleasedAt, SectionAt, DescendsAt, ReleaseFaultAt, RaceAt, Everywhere, EverywhereTwice, Accepted}
-use Rattle.graph_model.specs.graph.Fits.{IsGraph}
+use Rattle.graph_terms.specs.declared.verb.Access.{Access}
+use Rattle.graph_terms.specs.declared.verb.Mode.{Mode}
+use Rattle.graph_terms.specs.declared.verb.Mode.TheVariants.{Read, Write, Sum, Least, Most}
+use Rattle.graph_terms.specs.declared.verb.Edge.{Edge}
+use Rattle.graph_terms.specs.declared.verb.EdgeKind.TheVariants.{Passes, Ignores}
+use Rattle.graph_terms.specs.declared.verb.Line.{Line}
+use Rattle.graph_terms.specs.declared.verb.Verb.{Verb}
+use Rattle.graph_terms.specs.declared.verb.Verb.TheVariants.{User, Trigger, Cancel, Merge, MergeIgnore, Phase, Arrive, Acquire, Release, Fill, Copy, Reduce, Task}
+use Rattle.graph_terms.specs.Graph.{GraphValue, is_phase, is_acquire_of, is_release_of, is_merge_ignore, is_shared, verb_at, line_passes, space_at}
+use Rattle.graph_meaning.specs.Path.{Path, HasPath, last, first}
+use Rattle.graph_terms.specs.Edges.{edge}
+use Rattle.graph_terms.specs.Access.{verb_accesses, in_format, accesses, modes_clash, AccessesConflict, Conflict}
+use Rattle.graph_terms.specs.Reservations.{Acquires, Releases}
+use Rattle.graph_meaning.specs.Rules.{Section, modes_commute, Exempt, NoCycleAt, ReleasedAt, SectionAt, DescendsAt, ReleaseFaultAt, RaceAt, Everywhere, EverywhereTwice, Accepted}
+use Rattle.graph_terms.specs.Fits.{IsGraph}
 use Rattle.basics.proofs.ListFacts.{contains_none, passes_some, map_contains}
-use Rattle.graph_model.proofs.ArriveLaws.{arrive_accesses}
-use Rattle.graph_model.proofs.PathLaws.{path_append}
+use Rattle.graph_terms.proofs.ArriveLaws.{arrive_accesses}
+use Rattle.graph_meaning.proofs.PathLaws.{path_append}
 use Rattle.task_flow.specs.Flow.{IsFlow, uses_columns}
 use Rattle.task_flow.specs.Meaning.{order_counts, accesses_tie, depends, last as last_link}
 use Rattle.task_flow.specs.Forward.{AllForward}

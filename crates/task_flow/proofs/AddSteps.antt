@@ -8,12 +8,12 @@ use Rattle.std.proofs.lemmas.Option.{get_or_from_slice_get}
 use Rattle.std.proofs.lemmas.Slice.Eq.{bytes_eq-Decides}
 use Rattle.std.proofs.lemmas.List.Elements.{Contains-append_cases}
 use Rattle.task_flow.proofs.Names.{new_differ}
-use Rattle.graph_model.specs.declared.graph.limits.TheConstants.{MAX_LINES}
-use Rattle.graph_model.specs.declared.graph.decl.Decl.{Decl}
-use Rattle.graph_model.specs.declared.graph.decl.Decl.TheVariants.{Lock}
-use Rattle.graph_model.specs.declared.graph.verb.Line.{Line}
-use Rattle.graph_model.specs.graph.Graph.{GraphValue, decl_name, lock_of, locks}
-use Rattle.graph_model.specs.graph.Fits.{is_beyond, is_used}
+use Rattle.graph_terms.specs.declared.limits.TheConstants.{MAX_LINES}
+use Rattle.graph_terms.specs.declared.decl.Decl.{Decl}
+use Rattle.graph_terms.specs.declared.decl.Decl.TheVariants.{Lock}
+use Rattle.graph_terms.specs.declared.verb.Line.{Line}
+use Rattle.graph_terms.specs.Graph.{GraphValue, decl_name, lock_of, locks}
+use Rattle.graph_terms.specs.Fits.{is_beyond, is_used}
 use Rattle.task_flow.specs.Flow.{IsFlow}
 use Rattle.task_flow.specs.Construction.{Made, Parts, new_name, parts_of, sources_after, is_contended, needed, lock_for, lock_of as lock_wanted, wait_for, with_line_by, no_line, line_in, first_number, number_from, made_after, locks_from, reservations, graph_of, written, wants_many, is_over}
 use Rattle.task_flow.specs.Fitting.{lined, with_lines, AreToFit}

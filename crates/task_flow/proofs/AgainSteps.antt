@@ -4,8 +4,8 @@ use Rattle.std.specs.Prelude.{Contains, ◌==◌, filter, flat_map}
 use Rattle.std.specs.List.{list_any}
 use Rattle.std.proofs.lemmas.Bool.{cases_Bool, false_from_ne_true, eqb-true, eq-eqb, or_left}
 use Rattle.basics.proofs.ListFacts.{contains_here, contains_there, filter_contains, map_contains}
-use Rattle.graph_model.specs.graph.Graph.{GraphValue}
-use Rattle.graph_model.specs.graph.Access.{accesses}
+use Rattle.graph_terms.specs.Graph.{GraphValue}
+use Rattle.graph_terms.specs.Access.{accesses}
 use Rattle.task_flow.specs.Meaning.{accesses_tie}
 use Rattle.task_flow.specs.Rows.{parts_at}
 use Rattle.task_flow.specs.Construction.{Parts, down_from, has, is_large, is_reached, least, parts_of, sources_after, tied_by}

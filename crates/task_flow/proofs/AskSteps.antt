@@ -9,12 +9,12 @@ use Rattle.std.proofs.lemmas.List.Elements.{Contains-append_cases}
 use Rattle.basics.proofs.ListFacts.{contains_cases, contains_none, map_contains, got_contains, some_passes, passes_some, filter_contains, contains_filter}
 use Rattle.index_spaces.specs.Space.{has_point, points, IsSpace, interval_has}
 use Rattle.index_spaces.specs.Laws.{PointsAreListed}
-use Rattle.graph_model.specs.declared.graph.verb.Access.{Access}
-use Rattle.graph_model.specs.declared.graph.verb.Mode.{Mode}
-use Rattle.graph_model.specs.graph.Fits.{IsGraph}
-use Rattle.graph_model.specs.graph.Graph.{GraphValue, space_at}
-use Rattle.graph_model.specs.graph.Access.{accesses}
-use Rattle.graph_model.specs.meaning.LineLaws.{AccessesFit}
+use Rattle.graph_terms.specs.declared.verb.Access.{Access}
+use Rattle.graph_terms.specs.declared.verb.Mode.{Mode}
+use Rattle.graph_terms.specs.Fits.{IsGraph}
+use Rattle.graph_terms.specs.Graph.{GraphValue, space_at}
+use Rattle.graph_terms.specs.Access.{accesses}
+use Rattle.graph_meaning.specs.LineLaws.{AccessesFit}
 use Rattle.task_flow.specs.Bits.{word_bit}
 use Rattle.task_flow.specs.Construction.{has, tied_by, down_from}
 use Rattle.task_flow.specs.Meaning.{order_counts, accesses_tie, last}

@@ -8,13 +8,13 @@ use Rattle.std.proofs.lemmas.List.{get_or-set_same, get_or-set_other, get_or_rea
 use Rattle.std.proofs.lemmas.Option.{none-some, same_Some}
 use Rattle.index_spaces.specs.Space.{has_point, points, Meet}
 use Rattle.index_spaces.specs.Laws.{PointsAreListed}
-use Rattle.graph_model.specs.declared.graph.verb.Access.{Access}
-use Rattle.graph_model.specs.graph.Graph.{GraphValue, space_at, columns, locks}
+use Rattle.graph_terms.specs.declared.verb.Access.{Access}
+use Rattle.graph_terms.specs.Graph.{GraphValue, space_at, columns, locks}
 use Rattle.task_flow.specs.Bits.{word_bit, is_shown}
 use Rattle.task_flow.specs.Sums.{adds_to, AreSums}
 use Rattle.task_flow.specs.Rows.{AreRows}
 use Rattle.task_flow.specs.Construction.{down_from, reaches, sources_after, are_rivals, cells_meet, summed, contends_with, contends_below, with_event, needed, is_contended, summed_column, place_of, wants_many, made_after, number_from, first_number, graph_of, is_over, IsFirstOver}
-use Rattle.graph_model.specs.graph.Fits.{is_beyond}
+use Rattle.graph_terms.specs.Fits.{is_beyond}
 use Rattle.task_flow.specs.declared.sections.Sections.{Sections}
 use Rattle.task_flow.specs.Making.{AreSections}
 use Rattle.task_flow.proofs.Scans.{take_more, take_whole, got_beyond}

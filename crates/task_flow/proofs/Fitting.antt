@@ -12,26 +12,26 @@ use Rattle.std.proofs.lemmas.List.Elements.{Contains-append_cases, Contains-appe
 use Rattle.basics.proofs.ListFacts.{contains_cases, contains_none, contains_here, contains_there, contains_map, map_contains, some_passes, passes_some, got_contains, got_behind, find_is, from_contains}
 use Rattle.index_spaces.specs.Space.{has_point, points}
 use Rattle.index_spaces.specs.declared.Op.TheVariants as op
-use Rattle.graph_model.specs.declared.graph.decl.ColumnInfo.{ColumnInfo}
-use Rattle.graph_model.specs.declared.graph.decl.Decl.{Decl}
-use Rattle.graph_model.specs.declared.graph.decl.Decl.TheVariants.{Lock}
-use Rattle.graph_model.specs.declared.graph.format.Format.{Format}
-use Rattle.graph_model.specs.declared.graph.format.Format.TheVariants.{One, Two}
-use Rattle.graph_model.specs.declared.graph.table.Kernel.TheVariants as kernel
-use Rattle.graph_model.specs.declared.graph.verb.Access.{Access}
-use Rattle.graph_model.specs.declared.graph.verb.Line.{Line}
-use Rattle.graph_model.specs.declared.graph.verb.Verb.{Verb}
-use Rattle.graph_model.specs.declared.graph.verb.Verb.TheVariants.{User, Trigger, Cancel, Merge, MergeIgnore, Phase, Arrive, Acquire, Release, Fill, Copy, Reduce, Task}
-use Rattle.graph_model.specs.declared.graph.why.Why.TheVariants as why
-use Rattle.graph_model.specs.graph.Graph.{GraphValue, decl_name, lock_of, named_spaces, columns, locks, barriers, line_passes, is_acquire, is_release_of}
-use Rattle.graph_model.specs.declared.graph.limits.TheConstants.{MAX_INSTS, MAX_COLUMNS, MAX_CELLS, MAX_LOCKS, MAX_BARRIERS}
-use Rattle.graph_model.specs.graph.Access.{verb_accesses}
-use Rattle.graph_model.specs.graph.Edges.{edges, line_edges}
-use Rattle.graph_model.specs.graph.Fits.{first_reason, repeats, names, is_used, is_inst, cell_count, with_line, is_beyond, verb_repeats, named_lines, on_lines, line_unknown, verb_unknown, verb_unlike, takes_no_on, format_lacks, verb_misnumbered, access_unknown, access_outside, arrives_late, merges_many, line_tests, line_fault, LinesFit}
-use Rattle.graph_model.specs.graph.Spelling.{head, spelled, line_words}
-use Rattle.graph_model.proofs.GraphFacts.{none_first}
-use Rattle.graph_model.proofs.GraphPush.{head_with_line}
-use Rattle.graph_model.proofs.RowLaws.{edges_push}
+use Rattle.graph_terms.specs.declared.decl.ColumnInfo.{ColumnInfo}
+use Rattle.graph_terms.specs.declared.decl.Decl.{Decl}
+use Rattle.graph_terms.specs.declared.decl.Decl.TheVariants.{Lock}
+use Rattle.graph_terms.specs.declared.format.Format.{Format}
+use Rattle.graph_terms.specs.declared.format.Format.TheVariants.{One, Two}
+use Rattle.graph_terms.specs.declared.table.Kernel.TheVariants as kernel
+use Rattle.graph_terms.specs.declared.verb.Access.{Access}
+use Rattle.graph_terms.specs.declared.verb.Line.{Line}
+use Rattle.graph_terms.specs.declared.verb.Verb.{Verb}
+use Rattle.graph_terms.specs.declared.verb.Verb.TheVariants.{User, Trigger, Cancel, Merge, MergeIgnore, Phase, Arrive, Acquire, Release, Fill, Copy, Reduce, Task}
+use Rattle.graph_terms.specs.declared.why.Why.TheVariants as why
+use Rattle.graph_terms.specs.Graph.{GraphValue, decl_name, lock_of, named_spaces, columns, locks, barriers, line_passes, is_acquire, is_release_of}
+use Rattle.graph_terms.specs.declared.limits.TheConstants.{MAX_INSTS, MAX_COLUMNS, MAX_CELLS, MAX_LOCKS, MAX_BARRIERS}
+use Rattle.graph_terms.specs.Access.{verb_accesses}
+use Rattle.graph_terms.specs.Edges.{edges, line_edges}
+use Rattle.graph_terms.specs.Fits.{first_reason, repeats, names, is_used, is_inst, cell_count, with_line, is_beyond, verb_repeats, named_lines, on_lines, line_unknown, verb_unknown, verb_unlike, takes_no_on, format_lacks, verb_misnumbered, access_unknown, access_outside, arrives_late, merges_many, line_tests, line_fault, LinesFit}
+use Rattle.graph_terms.specs.Spelling.{head, spelled, line_words}
+use Rattle.graph_terms.proofs.GraphFacts.{none_first}
+use Rattle.graph_terms.proofs.GraphPush.{head_with_line}
+use Rattle.graph_terms.proofs.EdgeFacts.{edges_push}
 use Rattle.task_flow.specs.Flow.{IsFlow, uses_columns}
 use Rattle.task_flow.specs.Written.{IsLock, orders_alone}
 use Rattle.task_flow.specs.Construction.{Made, is_contended, lock_for, new_name, takes_width, place_in, no_line, line_in, reservations, graph_of}

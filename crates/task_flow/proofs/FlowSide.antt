@@ -3,14 +3,14 @@ use Rattle.std.proofs.Common.{◌≡◌, ℕ, zero, suc, ◌<◌, ◌≤◌, Boo
 use Rattle.std.specs.Prelude.{Contains, nat_lt, ◌==◌}
 use Rattle.std.proofs.lemmas.Bool.{true≢false, cases_order, cases_Bool, and_parts, and_from, ltb-true, eq-eqb, eqb-true, false_from_ne_true}
 use Rattle.std.proofs.lemmas.List.Elements.{Contains-append_left, Contains-append_right, Contains-push_cases}
-use Rattle.graph_model.specs.declared.meaning.outcome.Verdict.{Verdict}
-use Rattle.graph_model.specs.declared.meaning.outcome.Verdict.TheVariants.{Fine, Fault}
-use Rattle.graph_model.specs.declared.meaning.outcome.End.{End}
-use Rattle.graph_model.specs.declared.meaning.outcome.End.TheVariants.{Faulted, Cancelled}
-use Rattle.graph_model.specs.graph.Graph.{GraphValue}
-use Rattle.graph_model.specs.meaning.Effect.{Effect, effect}
-use Rattle.graph_model.specs.meaning.Evaluation.{Step, cells_of, end_by, end_in, has_ended, step_by}
-use Rattle.graph_model.proofs.Turns.{end_in-push, end_in_last}
+use Rattle.graph_terms.specs.declared.outcome.Verdict.{Verdict}
+use Rattle.graph_terms.specs.declared.outcome.Verdict.TheVariants.{Fine, Fault}
+use Rattle.graph_terms.specs.declared.outcome.End.{End}
+use Rattle.graph_terms.specs.declared.outcome.End.TheVariants.{Faulted, Cancelled}
+use Rattle.graph_terms.specs.Graph.{GraphValue}
+use Rattle.graph_meaning.specs.Effect.{Effect, effect}
+use Rattle.graph_meaning.specs.Evaluation.{Step, cells_of, end_by, end_in, has_ended, step_by}
+use Rattle.graph_meaning.proofs.Turns.{end_in-push, end_in_last}
 use Rattle.basics.proofs.ListFacts.{contains_none, contains_here, some_passes, passes_some}
 use Rattle.task_flow.specs.Meaning.{depends, is_lost, is_spoiled, flow_step, flow_steps, Chain, last, first}
 

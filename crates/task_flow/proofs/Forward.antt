@@ -6,26 +6,24 @@ use Rattle.std.proofs.lemmas.Bool.{true≢false, cases_order, and_left, false_fr
 use Rattle.std.proofs.lemmas.List.{map-append}
 use Rattle.std.proofs.lemmas.List.Elements.{Contains-append_cases, Contains-append_left, Contains-append_right}
 use Rattle.basics.specs.Lists.{numbers_below}
-use Rattle.graph_model.specs.declared.graph.decl.Decl.{Decl}
-use Rattle.graph_model.specs.declared.graph.verb.Edge.{Edge}
-use Rattle.graph_model.specs.declared.graph.verb.EdgeKind.{EdgeKind}
-use Rattle.graph_model.specs.declared.graph.verb.EdgeKind.TheVariants.{Passes, Ignores}
-use Rattle.graph_model.specs.declared.graph.format.Format.{Format}
-use Rattle.graph_model.specs.declared.graph.verb.Line.{Line}
-use Rattle.graph_model.specs.declared.graph.verb.Verb.{Verb}
-use Rattle.graph_model.specs.declared.graph.verb.Verb.TheVariants.{User, Trigger, Cancel, Merge, MergeIgnore, Phase, Arrive, Acquire, Release, Fill, Copy, Reduce, Task}
-use Rattle.graph_model.specs.graph.Graph.{GraphValue, never_comes}
-use Rattle.graph_model.specs.graph.Edges.{edge, edges_from_some, verb_edges, line_edges, edges_after, edges, sources}
-use Rattle.graph_model.specs.meaning.Path.{Path, HasPath}
-use Rattle.graph_model.specs.meaning.Path.{last, first}
-use Rattle.graph_model.specs.meaning.Rules.{NoCycleAt, Everywhere}
-use Rattle.graph_model.specs.graph.Fits.{line_fault, named_lines, on_lines, LinesFit, IsGraph}
-use Rattle.graph_model.specs.meaning.Evaluation.{Step, has_ended, is_ready, step_of, lowest_ready, advance_by, steps_after, order}
+use Rattle.graph_terms.specs.declared.decl.Decl.{Decl}
+use Rattle.graph_terms.specs.declared.verb.Edge.{Edge}
+use Rattle.graph_terms.specs.declared.verb.EdgeKind.{EdgeKind}
+use Rattle.graph_terms.specs.declared.verb.EdgeKind.TheVariants.{Passes, Ignores}
+use Rattle.graph_terms.specs.declared.format.Format.{Format}
+use Rattle.graph_terms.specs.declared.verb.Line.{Line}
+use Rattle.graph_terms.specs.declared.verb.Verb.{Verb}
+use Rattle.graph_terms.specs.declared.verb.Verb.TheVariants.{User, Trigger, Cancel, Merge, MergeIgnore, Phase, Arrive, Acquire, Release, Fill, Copy, Reduce, Task}
+use Rattle.graph_terms.specs.Graph.{GraphValue, never_comes}
+use Rattle.graph_terms.specs.Edges.{edge, edges_from_some, verb_edges, line_edges, edges_after, edges, sources}
+use Rattle.graph_meaning.specs.Path.{Path, HasPath, last, first}
+use Rattle.graph_meaning.specs.Rules.{NoCycleAt, Everywhere}
+use Rattle.graph_terms.specs.Fits.{line_fault, named_lines, on_lines, LinesFit, IsGraph}
+use Rattle.graph_meaning.specs.Evaluation.{Step, has_ended, is_ready, step_of, lowest_ready, advance_by, steps_after, order}
 use Rattle.basics.proofs.ListFacts.{contains_cases, contains_none, contains_here, contains_there, map_contains, passes_each, got_contains}
-use Rattle.graph_model.proofs.GraphFacts.{named_below}
-use Rattle.graph_model.proofs.VerbFacts.{passes_verb, verb_line, phase_is, never_as}
-use Rattle.graph_model.proofs.EdgeFacts.{}
-use Rattle.graph_model.proofs.Waiting.{step_of-line, stays_ended, has_ended_last, ended_cases, ready_passes}
+use Rattle.graph_terms.proofs.GraphFacts.{named_below}
+use Rattle.graph_terms.proofs.VerbFacts.{passes_verb, verb_line, phase_is, never_as}
+use Rattle.graph_meaning.proofs.Waiting.{step_of-line, stays_ended, has_ended_last, ended_cases, ready_passes}
 use Rattle.task_flow.specs.Forward.{leads_forward, AllForward}
 
 -- an edge from a number below

@@ -3,24 +3,22 @@ use Rattle.std.proofs.Common.{◌≡◌, ℕ, zero, suc, ◌<◌, ◌≤◌, tru
 use Rattle.std.specs.Prelude.{Contains, Option, Some, None, ◌≢◌}
 use Rattle.std.proofs.lemmas.Bool.{true≢false, cases_order}
 use Rattle.std.proofs.lemmas.List.Elements.{Contains-append_cases}
-use Rattle.graph_model.specs.declared.meaning.outcome.End.TheVariants.{Faulted}
-use Rattle.graph_model.specs.declared.meaning.outcome.End.{End}
-use Rattle.graph_model.specs.declared.graph.verb.Edge.{Edge}
-use Rattle.graph_model.specs.declared.graph.verb.EdgeKind.{EdgeKind}
-use Rattle.graph_model.specs.declared.graph.verb.EdgeKind.TheVariants.{Passes, Ignores, Faults}
-use Rattle.graph_model.specs.declared.graph.verb.Line.{Line}
-use Rattle.graph_model.specs.declared.graph.verb.Verb.{Verb}
-use Rattle.graph_model.specs.declared.graph.verb.Verb.TheVariants.{User, Trigger, Cancel, Merge, MergeIgnore, Phase, Arrive, Acquire, Release, Fill, Copy, Reduce, Task}
-use Rattle.graph_model.specs.graph.Graph.{GraphValue}
-use Rattle.graph_model.specs.graph.Edges.{edge, edges_from_some, verb_edges, line_edges, edges_after, edges}
-use Rattle.graph_model.specs.meaning.Path.{Path}
-use Rattle.graph_model.specs.meaning.Path.{last, first}
-use Rattle.graph_model.specs.graph.Fits.{IsGraph}
-use Rattle.graph_model.specs.meaning.Evaluation.{is_ended, end_in, step_of, steps_after, advance_by, eval_end, Unbroken}
-use Rattle.graph_model.specs.meaning.Evaluation.{faults, faulted, on}
+use Rattle.graph_terms.specs.declared.outcome.End.TheVariants.{Faulted}
+use Rattle.graph_terms.specs.declared.outcome.End.{End}
+use Rattle.graph_terms.specs.declared.verb.Edge.{Edge}
+use Rattle.graph_terms.specs.declared.verb.EdgeKind.{EdgeKind}
+use Rattle.graph_terms.specs.declared.verb.EdgeKind.TheVariants.{Passes, Ignores, Faults}
+use Rattle.graph_terms.specs.declared.verb.Line.{Line}
+use Rattle.graph_terms.specs.declared.verb.Verb.{Verb}
+use Rattle.graph_terms.specs.declared.verb.Verb.TheVariants.{User, Trigger, Cancel, Merge, MergeIgnore, Phase, Arrive, Acquire, Release, Fill, Copy, Reduce, Task}
+use Rattle.graph_terms.specs.Graph.{GraphValue}
+use Rattle.graph_terms.specs.Edges.{edge, edges_from_some, verb_edges, line_edges, edges_after, edges}
+use Rattle.graph_meaning.specs.Path.{Path, last, first}
+use Rattle.graph_terms.specs.Fits.{IsGraph}
+use Rattle.graph_meaning.specs.Evaluation.{is_ended, end_in, step_of, steps_after, advance_by, eval_end, Unbroken, faults, faulted, on}
 use Rattle.basics.proofs.ListFacts.{contains_cases, contains_none, contains_here, contains_there, map_contains, filter_contains, contains_filter}
-use Rattle.graph_model.proofs.Waiting.{step_of-line, step_of-ended}
-use Rattle.graph_model.proofs.Turns.{end_in-push, end_in_last}
+use Rattle.graph_meaning.proofs.Waiting.{step_of-line, step_of-ended}
+use Rattle.graph_meaning.proofs.Turns.{end_in-push, end_in_last}
 use Rattle.task_flow.specs.Forward.{leads_forward, AllForward}
 use Rattle.task_flow.specs.Orders.{is_passing, passing_edges}
 use Rattle.task_flow.proofs.Forward.{forward_each, next_is, in_order}

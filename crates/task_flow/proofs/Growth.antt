@@ -4,10 +4,10 @@ use Rattle.std.specs.Prelude.{◌≢◌, Option, Some, None, find, bytes_eq, sli
 use Rattle.std.proofs.lemmas.Bool.{cases_lt}
 use Rattle.std.proofs.lemmas.List.{length-map}
 use Rattle.std.proofs.lemmas.Option.{none-some, same_Some}
-use Rattle.graph_model.specs.declared.graph.limits.TheConstants.{MAX_LINES}
-use Rattle.graph_model.specs.declared.graph.verb.Line.{Line}
-use Rattle.graph_model.specs.declared.graph.verb.Verb.{Verb}
-use Rattle.graph_model.specs.declared.graph.verb.Verb.TheVariants.{Merge, MergeIgnore, Acquire, Release}
+use Rattle.graph_terms.specs.declared.limits.TheConstants.{MAX_LINES}
+use Rattle.graph_terms.specs.declared.verb.Line.{Line}
+use Rattle.graph_terms.specs.declared.verb.Verb.{Verb}
+use Rattle.graph_terms.specs.declared.verb.Verb.TheVariants.{Merge, MergeIgnore, Acquire, Release}
 use Rattle.std.specs.Option.{option_map_or}
 use Rattle.task_flow.specs.Construction.{Made, Parts, wait_for, with_flow_line, with_new, in_section, with_line_by, new_name, merge_line, with_merge, merge_by, merge_for, with_event, event_for, place_in, events_for}
 use Rattle.task_flow.specs.Making.{IsPast}

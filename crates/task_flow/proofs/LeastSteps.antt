@@ -5,9 +5,9 @@ use Rattle.std.specs.List.{list_any}
 use Rattle.std.proofs.lemmas.Bool.{true≢false, cases_order, or_left, or_right, or_cases, eq-eqb, eqb-true}
 use Rattle.std.proofs.lemmas.List.Elements.{Contains-append_cases, Contains-append_left, Contains-append_right}
 use Rattle.basics.proofs.ListFacts.{contains_cases, contains_none, contains_here, some_passes, passes_some, filter_contains, contains_filter}
-use Rattle.graph_model.specs.declared.graph.verb.Access.{Access}
-use Rattle.graph_model.specs.graph.Graph.{GraphValue}
-use Rattle.graph_model.specs.graph.Access.{accesses}
+use Rattle.graph_terms.specs.declared.verb.Access.{Access}
+use Rattle.graph_terms.specs.Graph.{GraphValue}
+use Rattle.graph_terms.specs.Access.{accesses}
 use Rattle.task_flow.specs.Bits.{word_bit}
 use Rattle.task_flow.specs.Meaning.{accesses_tie, depends, Chain, last, first}
 use Rattle.task_flow.specs.Construction.{down_from, is_reached, least, reaches, sources_after, tied_by}

@@ -6,7 +6,7 @@ use Rattle.std.proofs.lemmas.Bool.{true≢false, or_parts, eq-eqb, eqb-true, fal
 use Rattle.std.proofs.lemmas.Option.{none-some, same_Some}
 use Rattle.std.proofs.lemmas.List.Elements.{Contains-append_cases, Contains-append_left, Contains-append_right}
 use Rattle.basics.proofs.ListFacts.{contains_cases, contains_none, contains_here, contains_there, some_passes, passes_some, filter_contains, map_contains}
-use Rattle.graph_model.specs.graph.Fits.{repeats}
+use Rattle.graph_terms.specs.Fits.{repeats}
 use Rattle.task_flow.specs.Construction.{down_from, is_reached, least, has, with_event}
 
 -- each number is below the one before it

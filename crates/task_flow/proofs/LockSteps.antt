@@ -5,17 +5,17 @@ use Rattle.std.specs.Option.{option_map_or}
 use Rattle.std.proofs.lemmas.Bool.{true≢false}
 use Rattle.std.proofs.lemmas.List.Elements.{filter-append, filter_map-append}
 use Rattle.index_spaces.specs.Space.{space_size}
-use Rattle.graph_model.specs.declared.graph.decl.ColumnInfo.{ColumnInfo}
-use Rattle.graph_model.specs.declared.graph.decl.Decl.{Decl}
-use Rattle.graph_model.specs.declared.graph.decl.Decl.TheVariants.{Lock}
-use Rattle.graph_model.specs.declared.graph.format.Format.{Format}
-use Rattle.graph_model.specs.declared.graph.limits.TheConstants.{MAX_TEXT, MAX_INSTS, MAX_COLUMNS, MAX_CELLS, MAX_LOCKS, MAX_BARRIERS}
-use Rattle.graph_model.specs.declared.graph.why.Why.{Why}
-use Rattle.graph_model.specs.declared.graph.why.Why.TheVariants as why
-use Rattle.graph_model.specs.graph.Graph.{GraphValue, lock_of, barrier_of, columns, locks, barriers, named_spaces}
-use Rattle.graph_model.specs.graph.Fits.{is_used, is_inst, cell_count, with_decl, is_beyond, decl_fault}
-use Rattle.graph_model.specs.graph.Spelling.{head, spelled, decl_words}
-use Rattle.graph_model.proofs.GraphPush.{head_with_decl}
+use Rattle.graph_terms.specs.declared.decl.ColumnInfo.{ColumnInfo}
+use Rattle.graph_terms.specs.declared.decl.Decl.{Decl}
+use Rattle.graph_terms.specs.declared.decl.Decl.TheVariants.{Lock}
+use Rattle.graph_terms.specs.declared.format.Format.{Format}
+use Rattle.graph_terms.specs.declared.limits.TheConstants.{MAX_TEXT, MAX_INSTS, MAX_COLUMNS, MAX_CELLS, MAX_LOCKS, MAX_BARRIERS}
+use Rattle.graph_terms.specs.declared.why.Why.{Why}
+use Rattle.graph_terms.specs.declared.why.Why.TheVariants as why
+use Rattle.graph_terms.specs.Graph.{GraphValue, lock_of, barrier_of, columns, locks, barriers, named_spaces}
+use Rattle.graph_terms.specs.Fits.{is_used, is_inst, cell_count, with_decl, is_beyond, decl_fault}
+use Rattle.graph_terms.specs.Spelling.{head, spelled, decl_words}
+use Rattle.graph_terms.proofs.GraphPush.{head_with_decl}
 use Rattle.task_flow.specs.Fitting.{lined}
 use Rattle.task_flow.specs.Construction.{new_name, locks_from}
 use Rattle.task_flow.proofs.Fitting.{or_more, lt_more}

@@ -5,10 +5,10 @@ use Rattle.std.specs.List.{list_any}
 use Rattle.std.proofs.lemmas.Bool.{true≢false, cases_lt}
 use Rattle.std.proofs.lemmas.Option.{none-some, slice_get_within}
 use Rattle.basics.proofs.ListFacts.{contains_none, filter_contains, map_contains}
-use Rattle.graph_model.specs.declared.graph.verb.Line.{Line}
-use Rattle.graph_model.specs.declared.graph.verb.Verb.TheVariants.{MergeIgnore, Acquire, Release}
-use Rattle.graph_model.specs.graph.Graph.{GraphValue}
-use Rattle.graph_model.specs.graph.Access.{accesses}
+use Rattle.graph_terms.specs.declared.verb.Line.{Line}
+use Rattle.graph_terms.specs.declared.verb.Verb.TheVariants.{MergeIgnore, Acquire, Release}
+use Rattle.graph_terms.specs.Graph.{GraphValue}
+use Rattle.graph_terms.specs.Access.{accesses}
 use Rattle.task_flow.specs.Flow.{IsFlow}
 use Rattle.task_flow.specs.Meaning.{accesses_tie}
 use Rattle.task_flow.specs.Construction.{Made, has, is_large, down_from, tied_by, least, parts_of, sources_after, is_contended, lock_for, lock_of, place_in, wait_for, with_flow_line, in_section, with_line_by, line_in, made_after}

@@ -5,10 +5,10 @@ use Rattle.std.specs.Prelude.{Some, None, find, option_map, slice_get}
 use Rattle.std.specs.List.{list_any, range_with_len}
 use Rattle.std.proofs.lemmas.Bool.{or_left, or_right}
 use Rattle.std.proofs.lemmas.List.Folds.{list_any-append}
-use Rattle.graph_model.specs.declared.graph.decl.Decl.{Decl}
-use Rattle.graph_model.specs.declared.graph.verb.Line.{Line}
-use Rattle.graph_model.specs.graph.Graph.{GraphValue, decl_name}
-use Rattle.graph_model.specs.graph.Fits.{names}
+use Rattle.graph_terms.specs.declared.decl.Decl.{Decl}
+use Rattle.graph_terms.specs.declared.verb.Line.{Line}
+use Rattle.graph_terms.specs.Graph.{GraphValue, decl_name}
+use Rattle.graph_terms.specs.Fits.{names}
 use Rattle.task_flow.specs.Construction.{takes_width, first_number}
 use Rattle.task_flow.proofs.Scans.{any_found, any_map}
 

@@ -10,9 +10,9 @@ use Rattle.std.proofs.lemmas.Fmt.{digits_decimal, decimal_injective, length-deci
 use Rattle.std.proofs.lemmas.Slice.Eq.{bytes_eq-Decides}
 use Rattle.std.proofs.lemmas.Str.Parse.{IsNumeralModel, numerals_by_value, tells_all_ascii_digits, digits_value_short}
 use Rattle.basics.proofs.ListFacts.{passes_some, some_passes}
-use Rattle.graph_model.specs.graph.Name.{is_name, is_name_byte}
-use Rattle.graph_model.specs.graph.Graph.{GraphValue}
-use Rattle.graph_model.specs.graph.Fits.{names, is_used}
+use Rattle.graph_terms.specs.Name.{is_name, is_name_byte}
+use Rattle.graph_terms.specs.Graph.{GraphValue}
+use Rattle.graph_terms.specs.Fits.{names, is_used}
 use Rattle.task_flow.specs.Construction.{new_name, takes_width}
 
 own : IsNumeralModel (λ ds. all_ascii_digits ds ≡ true) (digits_value 10)

@@ -7,10 +7,10 @@ use Rattle.std.proofs.lemmas.Bool.{true≢false, cases_order, ltb-true, lt-ltb, 
 use Rattle.std.proofs.lemmas.Grind.{flat_map-append}
 use Rattle.std.proofs.lemmas.List.Elements.{filter_map-append}
 use Rattle.basics.proofs.ListFacts.{contains_cases, contains_none}
-use Rattle.graph_model.specs.declared.graph.decl.Decl.{Decl}
-use Rattle.graph_model.specs.declared.graph.decl.Decl.TheVariants.{Lock}
-use Rattle.graph_model.specs.declared.graph.limits.TheConstants.{MAX_LINES}
-use Rattle.graph_model.specs.graph.Graph.{GraphValue, space_of, columns_of, lock_of, locks}
+use Rattle.graph_terms.specs.declared.decl.Decl.{Decl}
+use Rattle.graph_terms.specs.declared.decl.Decl.TheVariants.{Lock}
+use Rattle.graph_terms.specs.declared.limits.TheConstants.{MAX_LINES}
+use Rattle.graph_terms.specs.Graph.{GraphValue, space_of, columns_of, lock_of, locks}
 use Rattle.task_flow.specs.Written.{IsLock}
 use Rattle.task_flow.specs.Construction.{has, with_event, is_contended, summed_column, needed, place_of, lock_for, new_name, first_number, locks_from, reservations, wants_many}
 use Rattle.task_flow.proofs.Lists.{old_in, new_in}

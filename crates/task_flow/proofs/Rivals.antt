@@ -7,16 +7,16 @@ use Rattle.index_spaces.specs.Space.{has_point, points, Meet}
 use Rattle.index_spaces.specs.declared.Op.TheVariants as op
 use Rattle.index_spaces.specs.Laws.{PointsAreListed}
 use Rattle.basics.proofs.ListFacts.{contains_cases, contains_none, contains_here, contains_there, passes_some}
-use Rattle.graph_model.specs.declared.graph.format.Format.{Format}
-use Rattle.graph_model.specs.declared.graph.table.Kernel.TheVariants as kernel
-use Rattle.graph_model.specs.declared.graph.verb.Access.{Access}
-use Rattle.graph_model.specs.declared.graph.verb.Mode.{Mode}
-use Rattle.graph_model.specs.declared.graph.verb.Mode.TheVariants.{Sum}
-use Rattle.graph_model.specs.declared.graph.verb.Verb.{Verb}
-use Rattle.graph_model.specs.declared.graph.verb.Verb.TheVariants.{User, Trigger, Cancel, Merge, MergeIgnore, Phase, Arrive, Acquire, Release, Fill, Copy, Reduce, Task}
-use Rattle.graph_model.specs.graph.Graph.{GraphValue, space_at, verb_at}
-use Rattle.graph_model.specs.graph.Access.{verb_accesses, in_format, accesses}
-use Rattle.graph_model.proofs.ArriveLaws.{arrive_accesses}
+use Rattle.graph_terms.specs.declared.format.Format.{Format}
+use Rattle.graph_terms.specs.declared.table.Kernel.TheVariants as kernel
+use Rattle.graph_terms.specs.declared.verb.Access.{Access}
+use Rattle.graph_terms.specs.declared.verb.Mode.{Mode}
+use Rattle.graph_terms.specs.declared.verb.Mode.TheVariants.{Sum}
+use Rattle.graph_terms.specs.declared.verb.Verb.{Verb}
+use Rattle.graph_terms.specs.declared.verb.Verb.TheVariants.{User, Trigger, Cancel, Merge, MergeIgnore, Phase, Arrive, Acquire, Release, Fill, Copy, Reduce, Task}
+use Rattle.graph_terms.specs.Graph.{GraphValue, space_at, verb_at}
+use Rattle.graph_terms.specs.Access.{verb_accesses, in_format, accesses}
+use Rattle.graph_terms.proofs.ArriveLaws.{arrive_accesses}
 use Rattle.task_flow.specs.Meaning.{Chain}
 use Rattle.task_flow.specs.Construction.{down_from, reaches, sources_after, is_sum, summed, summed_column, cells_meet, are_rivals, contends_with, is_contended}
 use Rattle.task_flow.proofs.SourceFacts.{reaches_chain}

@@ -7,25 +7,24 @@ use Rattle.std.proofs.lemmas.Bool.{true≢false, cases_order}
 use Rattle.std.proofs.lemmas.Option.{slice_get_within, same_Some}
 use Rattle.std.proofs.lemmas.List.Concat.{flat_map-append}
 use Rattle.std.proofs.lemmas.List.Elements.{filter_map-append}
-use Rattle.graph_model.specs.declared.graph.decl.Decl.{Decl}
-use Rattle.graph_model.specs.declared.meaning.outcome.Verdict.{Verdict}
-use Rattle.graph_model.specs.declared.meaning.outcome.Verdict.TheVariants.{Fine, Fault}
-use Rattle.graph_model.specs.declared.meaning.outcome.End.{End}
-use Rattle.graph_model.specs.declared.meaning.outcome.End.TheVariants.{Faulted, Cancelled}
-use Rattle.graph_model.specs.declared.graph.verb.Edge.{Edge}
-use Rattle.graph_model.specs.declared.graph.verb.Line.{Line}
-use Rattle.graph_model.specs.declared.graph.verb.Verb.{Verb}
-use Rattle.graph_model.specs.declared.graph.verb.Verb.TheVariants.{User, Trigger, Cancel, Merge, MergeIgnore, Phase, Arrive, Acquire, Release, Fill, Copy, Reduce, Task}
-use Rattle.graph_model.specs.graph.Graph.{GraphValue, space_of, named_spaces, space_at, verb_at}
-use Rattle.graph_model.specs.graph.Edges.{edges}
-use Rattle.graph_model.specs.meaning.Path.{Path, HasPath}
-use Rattle.graph_model.specs.meaning.Path.{last, first}
-use Rattle.graph_model.specs.graph.Fits.{IsGraph}
-use Rattle.graph_model.specs.meaning.Effect.{Cells, zero_cells, CellChange, cells_after, Effect, effect, verb_verdict, verb_changes}
-use Rattle.graph_model.specs.meaning.Evaluation.{Step, cells_of, is_cancelled, end_by, made_by, step_by, step_of, steps_after, evaluation, eval_end}
+use Rattle.graph_terms.specs.declared.decl.Decl.{Decl}
+use Rattle.graph_terms.specs.declared.outcome.Verdict.{Verdict}
+use Rattle.graph_terms.specs.declared.outcome.Verdict.TheVariants.{Fine, Fault}
+use Rattle.graph_terms.specs.declared.outcome.End.{End}
+use Rattle.graph_terms.specs.declared.outcome.End.TheVariants.{Faulted, Cancelled}
+use Rattle.graph_terms.specs.declared.verb.Edge.{Edge}
+use Rattle.graph_terms.specs.declared.verb.Line.{Line}
+use Rattle.graph_terms.specs.declared.verb.Verb.{Verb}
+use Rattle.graph_terms.specs.declared.verb.Verb.TheVariants.{User, Trigger, Cancel, Merge, MergeIgnore, Phase, Arrive, Acquire, Release, Fill, Copy, Reduce, Task}
+use Rattle.graph_terms.specs.Graph.{GraphValue, space_of, named_spaces, space_at, verb_at}
+use Rattle.graph_terms.specs.Edges.{edges}
+use Rattle.graph_meaning.specs.Path.{Path, HasPath, last, first}
+use Rattle.graph_terms.specs.Fits.{IsGraph}
+use Rattle.graph_meaning.specs.Effect.{Cells, zero_cells, CellChange, cells_after, Effect, effect, verb_verdict, verb_changes}
+use Rattle.graph_meaning.specs.Evaluation.{Step, cells_of, is_cancelled, end_by, made_by, step_by, step_of, steps_after, evaluation, eval_end}
 use Rattle.basics.proofs.ListFacts.{filter_contains}
-use Rattle.graph_model.proofs.GraphLaws as graph_laws
-use Rattle.graph_model.proofs.Cancelled.{cancelled_if_unbroken, unbroken_if_cancelled, not_cancelled_of}
+use Rattle.graph_meaning.proofs.GraphLaws as graph_laws
+use Rattle.graph_meaning.proofs.Cancelled.{cancelled_if_unbroken, unbroken_if_cancelled, not_cancelled_of}
 use Rattle.task_flow.specs.Flow.{IsFlow, uses_columns}
 use Rattle.task_flow.specs.Meaning.{is_lost, flow_step, flow_steps, flow_end, flow_cells}
 use Rattle.task_flow.specs.Forward.{AllForward}

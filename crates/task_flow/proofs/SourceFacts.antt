@@ -4,9 +4,9 @@ use Rattle.std.specs.Prelude.{Contains, filter, flat_map, nat_lt, slice_index_or
 use Rattle.std.specs.List.{list_any}
 use Rattle.std.proofs.lemmas.Bool.{true≢false, cases_Bool, cases_order, and_parts, and_from, or_cases, eq-eqb, eqb-true, lt-ltb, not_from_false}
 use Rattle.std.proofs.lemmas.List.Elements.{Contains-append_cases, Contains-append_left, Contains-append_right}
-use Rattle.graph_model.specs.declared.graph.verb.Access.{Access}
-use Rattle.graph_model.specs.graph.Graph.{GraphValue}
-use Rattle.graph_model.specs.graph.Access.{accesses}
+use Rattle.graph_terms.specs.declared.verb.Access.{Access}
+use Rattle.graph_terms.specs.Graph.{GraphValue}
+use Rattle.graph_terms.specs.Access.{accesses}
 use Rattle.basics.proofs.ListFacts.{contains_cases, contains_none, contains_here, contains_there, some_passes, passes_some, filter_contains, contains_filter, contains_map, map_contains}
 use Rattle.task_flow.specs.Meaning.{accesses_tie, depends, Chain, last, first}
 use Rattle.task_flow.specs.Construction.{down_from, tied_by, reaches, is_reached, least, has, is_large, parts_of, all_of, sources_after}

@@ -7,9 +7,9 @@ use Rattle.std.proofs.lemmas.List.Folds.{list_any-append}
 use Rattle.std.proofs.lemmas.List.Concat.{flat_map-append}
 use Rattle.std.proofs.lemmas.List.Elements.{Contains-append_cases, filter-append}
 use Rattle.basics.proofs.ListFacts.{contains_none, contains_here, contains_there, filter_contains}
-use Rattle.graph_model.specs.declared.graph.verb.Access.{Access}
-use Rattle.graph_model.specs.graph.Graph.{GraphValue}
-use Rattle.graph_model.specs.graph.Access.{accesses}
+use Rattle.graph_terms.specs.declared.verb.Access.{Access}
+use Rattle.graph_terms.specs.Graph.{GraphValue}
+use Rattle.graph_terms.specs.Access.{accesses}
 use Rattle.task_flow.specs.Meaning.{accesses_tie, Chain}
 use Rattle.task_flow.specs.Bits.{word_bit, IsOnly}
 use Rattle.task_flow.specs.Rows.{AreRows, parts_at, words_for}

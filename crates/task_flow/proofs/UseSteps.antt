@@ -5,11 +5,11 @@ use Rattle.std.proofs.lemmas.Bool.{true≢false, cases_Bool, cases_eq, cases_ord
 use Rattle.std.proofs.lemmas.Option.{none-some, same_Some, slice_get_within, slice_get_read}
 use Rattle.std.proofs.lemmas.List.Elements.{Contains-append_cases, Contains-append_left, Contains-append_right}
 use Rattle.basics.proofs.ListFacts.{contains_cases, contains_none, contains_here, contains_map, map_contains, filter_contains, contains_filter}
-use Rattle.graph_model.specs.declared.graph.verb.Access.{Access}
-use Rattle.graph_model.specs.declared.graph.verb.Mode.{Mode}
-use Rattle.graph_model.specs.declared.graph.verb.Mode.TheVariants.{Read, Write, Sum, Least, Most}
-use Rattle.graph_model.specs.graph.Graph.{GraphValue, named_spaces, space_at}
-use Rattle.graph_model.specs.graph.Access.{accesses}
+use Rattle.graph_terms.specs.declared.verb.Access.{Access}
+use Rattle.graph_terms.specs.declared.verb.Mode.{Mode}
+use Rattle.graph_terms.specs.declared.verb.Mode.TheVariants.{Read, Write, Sum, Least, Most}
+use Rattle.graph_terms.specs.Graph.{GraphValue, named_spaces, space_at}
+use Rattle.graph_terms.specs.Access.{accesses}
 use Rattle.task_flow.specs.Bits.{word_bit}
 use Rattle.task_flow.specs.Meaning.{order_counts, Chain}
 use Rattle.task_flow.specs.Uses.{uses_at, uses_before, IsClass, AreClasses, AreUses, IsRest, HasUse, with_use, first_use, PutsUse, joins, begins}

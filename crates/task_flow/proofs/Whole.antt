@@ -6,16 +6,15 @@ use Rattle.std.specs.List.{list_all}
 use Rattle.std.proofs.lemmas.Bool.{true≢false, cases_order, true_from_ne_false}
 use Rattle.std.proofs.lemmas.Option.{get_or_from_slice_get}
 use Rattle.index_spaces.specs.Laws.{PointsAreListed}
-use Rattle.graph_model.specs.declared.graph.verb.Line.{Line}
-use Rattle.graph_model.specs.declared.graph.verb.Verb.{Verb}
-use Rattle.graph_model.specs.declared.graph.verb.Verb.TheVariants.{User, Trigger, Cancel, Merge, MergeIgnore, Phase, Arrive, Acquire, Release, Fill, Copy, Reduce, Task}
-use Rattle.graph_model.specs.graph.Graph.{GraphValue}
-use Rattle.graph_model.specs.meaning.Path.{Path, HasPath}
-use Rattle.graph_model.specs.meaning.Path.{last, first}
-use Rattle.graph_model.specs.graph.Fits.{IsGraph}
-use Rattle.graph_model.proofs.GraphLaws as graph_laws
+use Rattle.graph_terms.specs.declared.verb.Line.{Line}
+use Rattle.graph_terms.specs.declared.verb.Verb.{Verb}
+use Rattle.graph_terms.specs.declared.verb.Verb.TheVariants.{User, Trigger, Cancel, Merge, MergeIgnore, Phase, Arrive, Acquire, Release, Fill, Copy, Reduce, Task}
+use Rattle.graph_terms.specs.Graph.{GraphValue}
+use Rattle.graph_meaning.specs.Path.{Path, HasPath, last, first}
+use Rattle.graph_terms.specs.Fits.{IsGraph}
+use Rattle.graph_meaning.proofs.GraphLaws as graph_laws
 use Rattle.basics.proofs.ListFacts.{fails_some}
-use Rattle.graph_model.proofs.PathLaws.{path_append}
+use Rattle.graph_meaning.proofs.PathLaws.{path_append}
 use Rattle.task_flow.specs.Flow.{IsFlow, uses_columns}
 use Rattle.task_flow.specs.Meaning.{depends, Chain, last as last_link, first as first_link}
 use Rattle.task_flow.specs.Forward.{leads_forward, AllForward}

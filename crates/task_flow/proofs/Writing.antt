@@ -6,20 +6,20 @@ use Rattle.std.proofs.lemmas.Bool.{true≢false, cases_order, eq-eqb, eqb-true}
 use Rattle.std.proofs.lemmas.Option.{none-some, same_Some, slice_get_within, get_or_from_slice_get}
 use Rattle.std.proofs.lemmas.List.Elements.{Contains-append_cases, Contains-append_left, Contains-append_right}
 use Rattle.basics.proofs.ListFacts.{contains_cases, contains_none, contains_here, contains_there, contains_map, map_contains, contains_filter}
-use Rattle.graph_model.specs.declared.graph.verb.Edge.{Edge}
-use Rattle.graph_model.specs.declared.graph.verb.EdgeKind.{EdgeKind}
-use Rattle.graph_model.specs.declared.graph.verb.EdgeKind.TheVariants.{Passes, Ignores}
-use Rattle.graph_model.specs.declared.graph.verb.Line.{Line}
-use Rattle.graph_model.specs.declared.graph.verb.Verb.{Verb}
-use Rattle.graph_model.specs.declared.graph.verb.Verb.TheVariants.{User, Trigger, Cancel, Merge, MergeIgnore, Phase, Arrive, Acquire, Release, Fill, Copy, Reduce, Task}
-use Rattle.graph_model.specs.graph.Graph.{GraphValue, locks, line_passes, is_acquire_of, is_release_of}
-use Rattle.graph_model.specs.graph.Edges.{edge, edges_from_some, verb_edges, line_edges, edges_after, edges}
-use Rattle.graph_model.specs.graph.Fits.{IsGraph}
-use Rattle.graph_model.specs.meaning.Path.{Path, last}
-use Rattle.graph_model.specs.meaning.Rules.{Acquires, Releases}
+use Rattle.graph_terms.specs.declared.verb.Edge.{Edge}
+use Rattle.graph_terms.specs.declared.verb.EdgeKind.{EdgeKind}
+use Rattle.graph_terms.specs.declared.verb.EdgeKind.TheVariants.{Passes, Ignores}
+use Rattle.graph_terms.specs.declared.verb.Line.{Line}
+use Rattle.graph_terms.specs.declared.verb.Verb.{Verb}
+use Rattle.graph_terms.specs.declared.verb.Verb.TheVariants.{User, Trigger, Cancel, Merge, MergeIgnore, Phase, Arrive, Acquire, Release, Fill, Copy, Reduce, Task}
+use Rattle.graph_terms.specs.Graph.{GraphValue, locks, line_passes, is_acquire_of, is_release_of}
+use Rattle.graph_terms.specs.Edges.{edge, edges_from_some, verb_edges, line_edges, edges_after, edges}
+use Rattle.graph_terms.specs.Fits.{IsGraph}
+use Rattle.graph_meaning.specs.Path.{Path, last}
+use Rattle.graph_terms.specs.Reservations.{Acquires, Releases}
 use Rattle.index_spaces.specs.Laws.{PointsAreListed}
-use Rattle.graph_model.proofs.EdgeFacts.{line_edges_in}
-use Rattle.graph_model.proofs.PathLaws.{path_append}
+use Rattle.graph_terms.proofs.EdgeFacts.{line_edges_in}
+use Rattle.graph_meaning.proofs.PathLaws.{path_append}
 use Rattle.task_flow.specs.Flow.{IsFlow, uses_columns}
 use Rattle.task_flow.specs.Meaning.{depends}
 use Rattle.task_flow.specs.Orders.{is_passing, passing_edges}

@@ -4,18 +4,18 @@ use Rattle.std.specs.Char.{is_ascii_digit}
 use Rattle.std.specs.Option.{option_map_or}
 use Rattle.std.specs.List.{list_any, list_all, range_with_len}
 use Rattle.index_spaces.specs.Space.{has_point, points}
-use Rattle.graph_model.specs.declared.graph.decl.Decl.{Decl}
-use Rattle.graph_model.specs.declared.graph.decl.Decl.TheVariants.{Lock}
-use Rattle.graph_model.specs.declared.graph.limits.TheConstants.{MAX_LINES, MAX_LOCKS}
-use Rattle.graph_model.specs.declared.graph.verb.Access.{Access}
-use Rattle.graph_model.specs.declared.graph.verb.Mode.{Mode}
-use Rattle.graph_model.specs.declared.graph.verb.Mode.TheVariants.{Sum}
-use Rattle.graph_model.specs.declared.graph.verb.Line.{Line}
-use Rattle.graph_model.specs.declared.graph.verb.Verb.{Verb}
-use Rattle.graph_model.specs.declared.graph.verb.Verb.TheVariants.{User, Merge, MergeIgnore, Acquire, Release}
-use Rattle.graph_model.specs.graph.Graph.{GraphValue, space_at, locks}
-use Rattle.graph_model.specs.graph.Access.{accesses}
-use Rattle.graph_model.specs.graph.Fits.{names, is_beyond}
+use Rattle.graph_terms.specs.declared.decl.Decl.{Decl}
+use Rattle.graph_terms.specs.declared.decl.Decl.TheVariants.{Lock}
+use Rattle.graph_terms.specs.declared.limits.TheConstants.{MAX_LINES, MAX_LOCKS}
+use Rattle.graph_terms.specs.declared.verb.Access.{Access}
+use Rattle.graph_terms.specs.declared.verb.Mode.{Mode}
+use Rattle.graph_terms.specs.declared.verb.Mode.TheVariants.{Sum}
+use Rattle.graph_terms.specs.declared.verb.Line.{Line}
+use Rattle.graph_terms.specs.declared.verb.Verb.{Verb}
+use Rattle.graph_terms.specs.declared.verb.Verb.TheVariants.{User, Merge, MergeIgnore, Acquire, Release}
+use Rattle.graph_terms.specs.Graph.{GraphValue, space_at, locks}
+use Rattle.graph_terms.specs.Access.{accesses}
+use Rattle.graph_terms.specs.Fits.{names, is_beyond}
 use Rattle.task_flow.specs.Meaning.{accesses_tie}
 
 -- the numbers below n, the highest first

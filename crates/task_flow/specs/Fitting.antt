@@ -1,11 +1,11 @@
 -- Lines that fit a graph one after the other, unless it passes a limit.
 use Rattle.std.specs.Prelude.{◌≡◌, cond, List, [], ◌∷◌, ◌++◌, Some, None}
-use Rattle.graph_model.specs.declared.graph.decl.Decl.{Decl}
-use Rattle.graph_model.specs.declared.graph.format.Format.{Format}
-use Rattle.graph_model.specs.declared.graph.verb.Line.{Line}
-use Rattle.graph_model.specs.declared.graph.why.Why.TheVariants.{Limit}
-use Rattle.graph_model.specs.graph.Graph.{GraphValue}
-use Rattle.graph_model.specs.graph.Fits.{is_beyond, line_fault}
+use Rattle.graph_terms.specs.declared.decl.Decl.{Decl}
+use Rattle.graph_terms.specs.declared.format.Format.{Format}
+use Rattle.graph_terms.specs.declared.verb.Line.{Line}
+use Rattle.graph_terms.specs.declared.why.Why.TheVariants.{Limit}
+use Rattle.graph_terms.specs.Graph.{GraphValue}
+use Rattle.graph_terms.specs.Fits.{is_beyond, line_fault}
 
 abbrev pub with_lines : GraphValue → List Line → GraphValue
 with_lines g ls = record { format = g.format; decls = g.decls; lines = g.lines ++ ls }

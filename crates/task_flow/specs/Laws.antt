@@ -1,13 +1,13 @@
 -- What holds of graphs whose edges all lead forward.
 use Rattle.std.specs.Prelude.{◌≡◌, ℕ, ◌<◌, ◌⊎◌, Bool, IsTrue, [], length, Contains, slice_index_or}
 use Rattle.basics.specs.Lists.{numbers_below}
-use Rattle.graph_model.specs.declared.graph.verb.Edge.{Edge}
-use Rattle.graph_model.specs.graph.Graph.{GraphValue}
-use Rattle.graph_model.specs.graph.Edges.{edges}
-use Rattle.graph_model.specs.meaning.Path.{HasPath}
-use Rattle.graph_model.specs.meaning.Rules.{NoCycleAt, Everywhere, Accepted}
-use Rattle.graph_model.specs.graph.Fits.{IsGraph}
-use Rattle.graph_model.specs.meaning.Evaluation.{order, evaluation, eval_end, cells_of}
+use Rattle.graph_terms.specs.declared.verb.Edge.{Edge}
+use Rattle.graph_terms.specs.Graph.{GraphValue}
+use Rattle.graph_terms.specs.Edges.{edges}
+use Rattle.graph_meaning.specs.Path.{HasPath}
+use Rattle.graph_meaning.specs.Rules.{NoCycleAt, Everywhere, Accepted}
+use Rattle.graph_terms.specs.Fits.{IsGraph}
+use Rattle.graph_meaning.specs.Evaluation.{order, evaluation, eval_end, cells_of}
 use Rattle.task_flow.specs.Flow.{IsFlow}
 use Rattle.task_flow.specs.Meaning.{depends, Chain, flow_end, flow_cells}
 use Rattle.task_flow.specs.Construction.{sources_after}

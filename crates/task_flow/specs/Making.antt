@@ -1,7 +1,7 @@
 -- What stands in the code while a graph is made.
 use Rattle.std.specs.Prelude.{◌≡◌, ℕ, ◌+◌, ◌<◌, ◌/◌, Bool, false, is_some, [], ◌++◌, length}
-use Rattle.graph_model.specs.declared.graph.limits.TheConstants.{MAX_LINES}
-use Rattle.graph_model.specs.graph.Graph.{GraphValue}
+use Rattle.graph_terms.specs.declared.limits.TheConstants.{MAX_LINES}
+use Rattle.graph_terms.specs.Graph.{GraphValue}
 use Rattle.task_flow.specs.Construction.{Made, is_contended, needed, wants_many, made_after, reservations, first_number, number_from, is_over}
 use Rattle.task_flow.specs.Bits.{word_bit}
 use Rattle.task_flow.specs.Rows.{IsKept}

@@ -2,15 +2,15 @@
 use Rattle.std.specs.Prelude.{ℕ, zero, suc, ◌==◌, Bool, true, false, not, ◌&&◌, nat_lt, List, [], ◌∷◌, ◌++◌, length, IsTrue}
 use Rattle.std.specs.List.{list_any}
 use Rattle.index_spaces.specs.Space.{has_point, points}
-use Rattle.graph_model.specs.declared.meaning.outcome.End.{End}
-use Rattle.graph_model.specs.declared.meaning.outcome.End.TheVariants.{Faulted, Cancelled}
-use Rattle.graph_model.specs.declared.graph.verb.Access.{Access}
-use Rattle.graph_model.specs.declared.graph.verb.Mode.{Mode}
-use Rattle.graph_model.specs.declared.graph.verb.Mode.TheVariants.{Read, Sum}
-use Rattle.graph_model.specs.graph.Graph.{GraphValue, space_at}
-use Rattle.graph_model.specs.graph.Access.{accesses}
-use Rattle.graph_model.specs.meaning.Effect.{Cells, effect}
-use Rattle.graph_model.specs.meaning.Evaluation.{Step, end_in, cells_of, step_by}
+use Rattle.graph_terms.specs.declared.outcome.End.{End}
+use Rattle.graph_terms.specs.declared.outcome.End.TheVariants.{Faulted, Cancelled}
+use Rattle.graph_terms.specs.declared.verb.Access.{Access}
+use Rattle.graph_terms.specs.declared.verb.Mode.{Mode}
+use Rattle.graph_terms.specs.declared.verb.Mode.TheVariants.{Read, Sum}
+use Rattle.graph_terms.specs.Graph.{GraphValue, space_at}
+use Rattle.graph_terms.specs.Access.{accesses}
+use Rattle.graph_meaning.specs.Effect.{Cells, effect}
+use Rattle.graph_meaning.specs.Evaluation.{Step, end_in, cells_of, step_by}
 
 -- two uses of a cell whose order counts: not both reads and, where sums commute, not both sums
 abbrev pub order_counts : Bool → Mode → Mode → Bool

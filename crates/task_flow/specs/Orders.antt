@@ -1,11 +1,11 @@
 -- How the edges of a graph have to stand for a flow: paths between its lines are its chains, and faults pass along them.
 use Rattle.std.specs.Prelude.{ℕ, ◌<◌, Bool, true, false, List, length, filter}
-use Rattle.graph_model.specs.declared.graph.verb.Edge.{Edge}
-use Rattle.graph_model.specs.declared.graph.verb.EdgeKind.{EdgeKind}
-use Rattle.graph_model.specs.declared.graph.verb.EdgeKind.TheVariants.{Passes}
-use Rattle.graph_model.specs.graph.Graph.{GraphValue}
-use Rattle.graph_model.specs.graph.Edges.{edges}
-use Rattle.graph_model.specs.meaning.Path.{Path, HasPath}
+use Rattle.graph_terms.specs.declared.verb.Edge.{Edge}
+use Rattle.graph_terms.specs.declared.verb.EdgeKind.{EdgeKind}
+use Rattle.graph_terms.specs.declared.verb.EdgeKind.TheVariants.{Passes}
+use Rattle.graph_terms.specs.Graph.{GraphValue}
+use Rattle.graph_terms.specs.Edges.{edges}
+use Rattle.graph_meaning.specs.Path.{Path, HasPath}
 use Rattle.task_flow.specs.Meaning.{Chain}
 
 abbrev pub is_passing : EdgeKind → Bool

@@ -1,6 +1,6 @@
 -- Why no graph is made of a flow.
 use Rattle.std.specs.Prelude.{Bool}
-use Rattle.graph_model.specs.graph.Graph.{GraphValue}
+use Rattle.graph_terms.specs.Graph.{GraphValue}
 use Rattle.task_flow.specs.Construction.{IsFirstOver}
 use Rattle.task_flow.specs.declared.make.FlowRefusal.{FlowRefusal}
 use Rattle.task_flow.specs.declared.make.FlowRefusal.TheVariants.{Limit, NoMemory}

@@ -1,7 +1,7 @@
 -- Which lines reach which, as rows of bits, and what is kept of the lines so far.
 use Rattle.std.specs.Prelude.{◌≡◌, ℕ, ◌+◌, ◌<◌, ◌≤◌, ◌/◌, Bool, List, [], length, map, slice_index_or}
-use Rattle.graph_model.specs.declared.graph.verb.Access.{Access}
-use Rattle.graph_model.specs.graph.Graph.{GraphValue}
+use Rattle.graph_terms.specs.declared.verb.Access.{Access}
+use Rattle.graph_terms.specs.Graph.{GraphValue}
 use Rattle.task_flow.specs.Bits.{word_bit}
 use Rattle.task_flow.specs.Construction.{reaches, sources_after, least, tied_by}
 use Rattle.task_flow.specs.Uses.{AreUses, uses_before}

@@ -1,17 +1,17 @@
 -- How the sections of sums that commute have to stand: four lines each, and a sum in one wherever another sum shares a cell with it and no chain ties them.
 use Rattle.std.specs.Prelude.{◌≡◌, ℕ, ◌+◌, ◌<◌, ◌⊎◌, Bool, true, IsTrue, [], ◌∷◌, length, Contains, Some, slice_get}
 use Rattle.index_spaces.specs.Space.{Meet}
-use Rattle.graph_model.specs.declared.graph.verb.Access.{Access}
-use Rattle.graph_model.specs.declared.graph.verb.Edge.{Edge}
-use Rattle.graph_model.specs.declared.graph.verb.EdgeKind.TheVariants.{Passes, Ignores}
-use Rattle.graph_model.specs.declared.graph.verb.Line.{Line}
-use Rattle.graph_model.specs.declared.graph.verb.Mode.TheVariants.{Sum}
-use Rattle.graph_model.specs.declared.graph.verb.Verb.{Verb}
-use Rattle.graph_model.specs.declared.graph.verb.Verb.TheVariants.{MergeIgnore, Release}
-use Rattle.graph_model.specs.graph.Graph.{GraphValue, verb_at, space_at}
-use Rattle.graph_model.specs.graph.Edges.{edge, edges}
-use Rattle.graph_model.specs.graph.Access.{accesses}
-use Rattle.graph_model.specs.meaning.Rules.{Acquires, Releases}
+use Rattle.graph_terms.specs.declared.verb.Access.{Access}
+use Rattle.graph_terms.specs.declared.verb.Edge.{Edge}
+use Rattle.graph_terms.specs.declared.verb.EdgeKind.TheVariants.{Passes, Ignores}
+use Rattle.graph_terms.specs.declared.verb.Line.{Line}
+use Rattle.graph_terms.specs.declared.verb.Mode.TheVariants.{Sum}
+use Rattle.graph_terms.specs.declared.verb.Verb.{Verb}
+use Rattle.graph_terms.specs.declared.verb.Verb.TheVariants.{MergeIgnore, Release}
+use Rattle.graph_terms.specs.Graph.{GraphValue, verb_at, space_at}
+use Rattle.graph_terms.specs.Edges.{edge, edges}
+use Rattle.graph_terms.specs.Access.{accesses}
+use Rattle.graph_terms.specs.Reservations.{Acquires, Releases}
 use Rattle.task_flow.specs.Flow.{uses_columns}
 use Rattle.task_flow.specs.Meaning.{Chain}
 

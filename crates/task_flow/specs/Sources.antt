@@ -1,9 +1,9 @@
 -- What the sources of the lines have to be: what feeds a line of the flow, directly or through lines that only order, is what it depends on; and of what it depends on, each has a path to it, or a chain to a line that has.
 use Rattle.std.specs.Prelude.{◌≡◌, ℕ, ◌<◌, ◌⊎◌, Bool, IsTrue, length, Contains}
-use Rattle.graph_model.specs.declared.graph.verb.Edge.{Edge}
-use Rattle.graph_model.specs.graph.Graph.{GraphValue, line_passes}
-use Rattle.graph_model.specs.graph.Edges.{edges}
-use Rattle.graph_model.specs.meaning.Path.{Path}
+use Rattle.graph_terms.specs.declared.verb.Edge.{Edge}
+use Rattle.graph_terms.specs.Graph.{GraphValue, line_passes}
+use Rattle.graph_terms.specs.Edges.{edges}
+use Rattle.graph_meaning.specs.Path.{Path}
 use Rattle.task_flow.specs.Meaning.{depends, Chain}
 use Rattle.task_flow.specs.Orders.{passing_edges}
 use Rattle.task_flow.specs.Written.{orders_alone}

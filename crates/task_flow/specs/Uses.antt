@@ -2,10 +2,10 @@
 use Rattle.std.specs.Prelude.{◌≡◌, ℕ, zero, suc, ◌<◌, ◌⊎◌, ◌&&◌, Bool, true, false, cond, List, [], ◌∷◌, ◌++◌, length, map, Contains, Some, slice_get, slice_set}
 use Rattle.std.specs.List.{list_any}
 use Rattle.index_spaces.specs.Space.{has_point, points}
-use Rattle.graph_model.specs.declared.graph.verb.Access.{Access}
-use Rattle.graph_model.specs.declared.graph.verb.Mode.{Mode}
-use Rattle.graph_model.specs.graph.Graph.{GraphValue, columns, named_spaces, space_at}
-use Rattle.graph_model.specs.graph.Access.{accesses}
+use Rattle.graph_terms.specs.declared.verb.Access.{Access}
+use Rattle.graph_terms.specs.declared.verb.Mode.{Mode}
+use Rattle.graph_terms.specs.Graph.{GraphValue, columns, named_spaces, space_at}
+use Rattle.graph_terms.specs.Access.{accesses}
 use Rattle.task_flow.specs.Bits.{word_bit}
 use Rattle.task_flow.specs.Construction.{has, tied_by}
 use Rattle.task_flow.specs.Meaning.{order_counts, Chain}

@@ -1,16 +1,16 @@
 -- What the graph written for a flow is: its lines in their order with names and verbs, and lines beside them that order them as the flow means.
 use Rattle.std.specs.Prelude.{◌≡◌, ℕ, ◌<◌, ◌⊎◌, ◌↔◌, Bool, true, false, not, List, ◌++◌, length, IsTrue, Some, slice_get}
 use Rattle.std.specs.List.{AllByRecursion}
-use Rattle.graph_model.specs.declared.graph.decl.Decl.{Decl}
-use Rattle.graph_model.specs.declared.graph.decl.Decl.TheVariants.{Lock}
-use Rattle.graph_model.specs.declared.graph.verb.Line.{Line}
-use Rattle.graph_model.specs.declared.graph.verb.Verb.{Verb}
-use Rattle.graph_model.specs.declared.graph.verb.Verb.TheVariants.{Merge, MergeIgnore, Acquire, Release}
-use Rattle.graph_model.specs.graph.Graph.{GraphValue}
-use Rattle.graph_model.specs.meaning.Path.{HasPath}
-use Rattle.graph_model.specs.meaning.Rules.{Accepted}
-use Rattle.graph_model.specs.graph.Fits.{IsGraph}
-use Rattle.graph_model.specs.meaning.Evaluation.{evaluation, eval_end, cells_of}
+use Rattle.graph_terms.specs.declared.decl.Decl.{Decl}
+use Rattle.graph_terms.specs.declared.decl.Decl.TheVariants.{Lock}
+use Rattle.graph_terms.specs.declared.verb.Line.{Line}
+use Rattle.graph_terms.specs.declared.verb.Verb.{Verb}
+use Rattle.graph_terms.specs.declared.verb.Verb.TheVariants.{Merge, MergeIgnore, Acquire, Release}
+use Rattle.graph_terms.specs.Graph.{GraphValue}
+use Rattle.graph_meaning.specs.Path.{HasPath}
+use Rattle.graph_meaning.specs.Rules.{Accepted}
+use Rattle.graph_terms.specs.Fits.{IsGraph}
+use Rattle.graph_meaning.specs.Evaluation.{evaluation, eval_end, cells_of}
 use Rattle.task_flow.specs.Meaning.{Chain, flow_end, flow_cells}
 
 abbrev pub IsLock : Decl → Type 0

@@ -2,7 +2,7 @@
 
 ghost use Rattle.std.specs.Prelude.{◌≡◌, ℕ, ◌<◌, ◌/◌, ◌||◌, ◌&&◌, length, flat_map, Contains, Some, slice_get, IfOk};
 ghost use Rattle.std.specs.List.{list_any};
-ghost use Rattle.graph_model.specs.graph.Graph.{named_spaces, columns, space_at};
+ghost use Rattle.graph_terms.specs.Graph.{named_spaces, columns, space_at};
 ghost use Rattle.task_flow.specs.Bits.{word_bit};
 ghost use Rattle.task_flow.specs.Construction.{has};
 ghost use Rattle.task_flow.specs.Ends.{AreEnds};
@@ -14,8 +14,8 @@ use crate::rows::Rows;
 use crate::ties::order_counts;
 use crate::uses::{Class, ColumnUses};
 use graph_model::graph::Graph;
-use graph_model::lists::LineList;
-use graph_model::verb::{Access, Mode};
+use graph_terms::lists::LineList;
+use graph_terms::verb::{Access, Mode};
 use index_spaces::NoMemory;
 use index_spaces::laws::points_are_listed;
 use std::alloc::Global;

@@ -1,14 +1,14 @@
 //! Copies of items.
 
 ghost use Rattle.std.specs.Prelude.{◌≡◌, ◌<◌, ◌^◌, [], length, take, drop, IfOk, IsTrue};
-ghost use Rattle.graph_model.specs.declared.graph.format.Format.TheVariants.{One};
+ghost use Rattle.graph_terms.specs.declared.format.Format.TheVariants.{One};
 ghost use Rattle.task_flow.specs.Flow.{IsFlow, uses_columns};
 
-use graph_model::decl::Decl;
 use graph_model::graph::Graph;
-use graph_model::lists::NameList;
-use graph_model::name::Name;
-use graph_model::verb::Verb;
+use graph_terms::decl::Decl;
+use graph_terms::lists::NameList;
+use graph_terms::name::Name;
+use graph_terms::verb::Verb;
 use index_spaces::NoMemory;
 use index_spaces::space::Space;
 use std::alloc::Global;

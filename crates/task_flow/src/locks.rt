@@ -1,7 +1,7 @@
 //! The reservations of sections.
 
 ghost use Rattle.std.specs.Prelude.{◌≡◌, ℕ, ◌+◌, ◌<◌, ◌≤◌, ◌++◌, [], length, take, true, false, IfOk, OnOk};
-ghost use Rattle.graph_model.specs.graph.Fits.{is_used, is_beyond};
+ghost use Rattle.graph_terms.specs.Fits.{is_used, is_beyond};
 ghost use Rattle.task_flow.specs.Fitting.{lined};
 ghost use Rattle.task_flow.specs.Construction.{new_name, first_number, locks_from, reservations, is_over};
 ghost use Rattle.task_flow.specs.Flow.{IsFlow};
@@ -11,10 +11,10 @@ use crate::copies::declared;
 use crate::making::Stop;
 use crate::numbers::new_name;
 use crate::sections::Sections;
-use graph_model::decl::Decl;
 use graph_model::graph::Graph;
-use graph_model::limits::MAX_LINES;
-use graph_model::lists::LineList;
+use graph_terms::decl::Decl;
+use graph_terms::limits::MAX_LINES;
+use graph_terms::lists::LineList;
 use std::alloc::Global;
 
 /// The declarations of a flow and the reservations of its sections, where there are names for them.

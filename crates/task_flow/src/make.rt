@@ -1,7 +1,7 @@
 //! The graph of a flow.
 
 ghost use Rattle.std.specs.Prelude.{◌≡◌, ℕ, ◌<◌, false, length, IfOk, OnOk, IfErr};
-ghost use Rattle.graph_model.specs.graph.Fits.{IsGraph};
+ghost use Rattle.graph_terms.specs.Fits.{IsGraph};
 ghost use Rattle.task_flow.specs.Flow.{IsFlow};
 ghost use Rattle.task_flow.specs.Making.{IsMaking, AreSections};
 ghost use Rattle.task_flow.specs.Written.{MeansFlow};

@@ -1,7 +1,7 @@
 //! What stands while the graph of a flow is made.
 
 ghost use Rattle.std.specs.Prelude.{◌≡◌, ℕ, ◌+◌, ◌≤◌, ◌<◌, [], length, take, drop, map, not, ◌&&◌, nat_lt, false, true, IsTrue, IfOk, OnOk};
-ghost use Rattle.graph_model.specs.graph.Fits.{is_beyond};
+ghost use Rattle.graph_terms.specs.Fits.{is_beyond};
 ghost use Rattle.task_flow.specs.Flow.{IsFlow, uses_columns};
 ghost use Rattle.task_flow.specs.Rows.{IsKept};
 ghost use Rattle.task_flow.specs.Construction.{merge_for, with_event, event_for, events_for, place_in, wait_for, with_new, with_flow_line, in_section, with_line_by, is_over};
@@ -15,9 +15,9 @@ use crate::rows::Rows;
 use crate::sections::Sections;
 use crate::sources::{Parts, add_row, has, parts_of};
 use graph_model::graph::Graph;
-use graph_model::limits::{MAX_EVENTS, MAX_LINES};
-use graph_model::lists::LineList;
-use graph_model::verb::{Line, Verb};
+use graph_terms::limits::{MAX_EVENTS, MAX_LINES};
+use graph_terms::lists::LineList;
+use graph_terms::verb::{Line, Verb};
 use index_spaces::NoMemory;
 use index_spaces::room::push;
 use std::alloc::Global;

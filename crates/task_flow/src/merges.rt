@@ -2,7 +2,7 @@
 
 ghost use Rattle.std.specs.Prelude.{◌≡◌, ℕ, ◌++◌, [], ◌∷◌, None, List, find, bytes_eq, option_map, OnOk};
 
-use graph_model::lists::LineList;
+use graph_terms::lists::LineList;
 use index_spaces::NoMemory;
 use indexmap::IndexMap;
 use std::alloc::Global;

@@ -3,12 +3,12 @@
 ghost use Rattle.std.specs.Prelude.{◌≡◌, ◌+◌, ◌<◌, ◌≤◌, IfOk};
 ghost use Rattle.std.specs.List.{list_any, list_all};
 ghost use Rattle.std.specs.Char.{is_ascii_digit};
-ghost use Rattle.graph_model.specs.graph.Graph.{decl_name};
-ghost use Rattle.graph_model.specs.graph.Fits.{names};
+ghost use Rattle.graph_terms.specs.Graph.{decl_name};
+ghost use Rattle.graph_terms.specs.Fits.{names};
 ghost use Rattle.task_flow.specs.Construction.{new_name, takes_width, first_number};
 
 use graph_model::graph::Graph;
-use graph_model::name::Name;
+use graph_terms::name::Name;
 use index_spaces::NoMemory;
 use std::alloc::Global;
 

@@ -11,8 +11,8 @@ use crate::contended::{contended, summed_column};
 use crate::make::FlowRefusal;
 use crate::making::add_event;
 use graph_model::graph::Graph;
-use graph_model::limits::MAX_LOCKS;
-use graph_model::lists::LineList;
+use graph_terms::limits::MAX_LOCKS;
+use graph_terms::lists::LineList;
 use index_spaces::NoMemory;
 use std::alloc::Global;
 

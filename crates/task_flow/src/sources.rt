@@ -1,7 +1,7 @@
 //! The sources of the lines.
 
 ghost use Rattle.std.specs.Prelude.{◌≡◌, ℕ, ◌+◌, ◌<◌, ◌/◌, ◌||◌, ◌++◌, [], ◌∷◌, cond, false, length, filter, flat_map, not, Contains, IfOk, OnOk, MatchOption};
-ghost use Rattle.graph_model.specs.graph.Access.{accesses};
+ghost use Rattle.graph_terms.specs.Access.{accesses};
 ghost use Rattle.task_flow.specs.Bits.{word_bit};
 ghost use Rattle.std.specs.List.{list_any};
 ghost use Rattle.task_flow.specs.Rows.{AreRows, IsKept, parts_at, words_for};
@@ -10,11 +10,11 @@ ghost use Rattle.task_flow.specs.Construction.{down_from, tied_by, has, is_large
 use crate::bits::Bits;
 use crate::row::Row;
 use crate::rows::Rows;
+use graph_meaning::line_laws::{accesses_are_few, accesses_fit};
 use graph_model::graph::Graph;
-use graph_model::limits::MOST_ACCESSES;
-use graph_model::line_laws::{accesses_are_few, accesses_fit};
-use graph_model::lists::LineList;
-use graph_model::verb::Access;
+use graph_terms::limits::MOST_ACCESSES;
+use graph_terms::lists::LineList;
+use graph_terms::verb::Access;
 use index_spaces::NoMemory;
 use index_spaces::room::push;
 use std::alloc::Global;

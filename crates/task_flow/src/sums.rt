@@ -1,12 +1,12 @@
 //! The lines that add to each column.
 
 ghost use Rattle.std.specs.Prelude.{◌≡◌, ◌<◌, ◌+◌, ◌/◌, length, None, Some, IfOk};
-ghost use Rattle.graph_model.specs.graph.Graph.{columns};
+ghost use Rattle.graph_terms.specs.Graph.{columns};
 ghost use Rattle.task_flow.specs.Construction.{summed};
 
 use crate::bits::Bits;
 use graph_model::graph::Graph;
-use graph_model::verb::Access;
+use graph_terms::verb::Access;
 use index_spaces::NoMemory;
 use index_spaces::room::push;
 use std::alloc::Global;

@@ -3,7 +3,7 @@
 ghost use Rattle.std.specs.Prelude.{◌≡◌};
 ghost use Rattle.task_flow.specs.Meaning.{order_counts};
 
-use graph_model::verb::Mode;
+use graph_terms::verb::Mode;
 
 /// Whether the order of two uses counts: not both are reads and, where sums commute, not both sums.
 pub(crate) fn order_counts(commute: bool, one: Mode, other: Mode) -> bool

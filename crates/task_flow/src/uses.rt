@@ -1,7 +1,7 @@
 //! Which lines stand for the uses of the columns.
 
 ghost use Rattle.std.specs.Prelude.{◌≡◌, ◌<◌, ◌+◌, true, [], IfOk, OnOk, IfSome, MatchOption, ℕ, Some, length, slice_get, slice_set, cond};
-ghost use Rattle.graph_model.specs.graph.Graph.{columns};
+ghost use Rattle.graph_terms.specs.Graph.{columns};
 ghost use Rattle.task_flow.specs.Bits.{word_bit};
 ghost use Rattle.task_flow.specs.Meaning.{order_counts, Chain};
 ghost use Rattle.task_flow.specs.Uses.{IsRest};
@@ -9,11 +9,11 @@ ghost use Rattle.task_flow.specs.Uses.{IsRest};
 use crate::bits::Bits;
 use crate::ends::{Ends, ends_of};
 use crate::ties::order_counts;
+use graph_meaning::line_laws::{accesses_are_few, accesses_fit};
 use graph_model::graph::Graph;
-use graph_model::limits::MOST_ACCESSES;
-use graph_model::line_laws::{accesses_are_few, accesses_fit};
-use graph_model::lists::LineList;
-use graph_model::verb::{Access, Mode};
+use graph_terms::limits::MOST_ACCESSES;
+use graph_terms::lists::LineList;
+use graph_terms::verb::{Access, Mode};
 use index_spaces::NoMemory;
 use index_spaces::laws::points_are_listed;
 use index_spaces::room::push;
@@ -136,7 +136,7 @@ impl ColumnUses {
 }
 
 impl Uses {
-    ghost use Rattle.graph_model.specs.graph.Access.{accesses};
+    ghost use Rattle.graph_terms.specs.Access.{accesses};
     ghost use Rattle.task_flow.specs.Uses.{AreUses, uses_before};
 
     /// No use of the columns of a flow.

@@ -1,6 +1,6 @@
 use Rattle.std.proofs.Common.{◌≡◌, length, sym, arith}
 use Rattle.index_spaces.specs.Column.{cell_of}
-use Rattle.graph_model.specs.meaning.Effect.{Set}
+use Rattle.graph_meaning.specs.Effect.{Set}
 use Rattle.index_spaces.proofs.WriteFacts.{held_again}
 use Rattle.copy_engine.proofs.PointWrites.{source_is}
 use Rattle.copy_engine.proofs.copy.Goals as goal

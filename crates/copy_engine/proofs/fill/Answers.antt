@@ -1,5 +1,5 @@
 use Rattle.std.proofs.Common.{◌≡◌, length, refl, sym, arith}
-use Rattle.graph_model.specs.meaning.Effect.{Set}
+use Rattle.graph_meaning.specs.Effect.{Set}
 use Rattle.index_spaces.proofs.WriteFacts.{held_again}
 use Rattle.copy_engine.proofs.fill.Goals as goal
 

@@ -3,7 +3,7 @@ use Rattle.index_spaces.specs.Space.{IsWithin}
 use Rattle.index_spaces.specs.Column.{cell_of}
 use Rattle.index_spaces.specs.Run.{reduced_cell}
 use Rattle.index_spaces.specs.Held.{held_at}
-use Rattle.graph_model.specs.meaning.Effect.{reduced}
+use Rattle.graph_meaning.specs.Effect.{reduced}
 use Rattle.index_spaces.proofs.WriteFacts.{held_again, holds_over}
 use Rattle.copy_engine.proofs.PointWrites.{IsOver, source_is, reduced_is}
 use Rattle.copy_engine.proofs.reduce.Goals as goal

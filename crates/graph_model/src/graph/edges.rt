@@ -1,12 +1,12 @@
 //! The edges that a line gives.
 
 ghost use Rattle.std.specs.Prelude.{◌≡◌, ◌≤◌, ◌+◌, ◌++◌, length, map, None, OnOk};
-ghost use Rattle.graph_model.specs.graph.Graph.{is_phase_of};
-ghost use Rattle.graph_model.specs.graph.Edges.{edge, last_place, edges_from_some, verb_edges, line_edges};
+ghost use Rattle.graph_terms.specs.Graph.{is_phase_of};
+ghost use Rattle.graph_terms.specs.Edges.{edge, last_place, edges_from_some, verb_edges, line_edges};
 
-use crate::graph::limits::MAX_LINES;
-use crate::graph::lists::LineList;
-use crate::graph::verb::{Edge, EdgeKind, Line, Verb};
+use graph_terms::limits::MAX_LINES;
+use graph_terms::lists::LineList;
+use graph_terms::verb::{Edge, EdgeKind, Line, Verb};
 use index_spaces::NoMemory;
 use index_spaces::room::{push, push_within, reserve};
 

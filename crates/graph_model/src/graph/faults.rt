@@ -2,20 +2,20 @@
 
 ghost use Rattle.std.specs.Prelude.{◌≡◌, map, nat_eq, nat_le};
 ghost use Rattle.std.specs.List.{list_any};
-ghost use Rattle.graph_model.specs.declared.graph.verb.Access.{Access};
-ghost use Rattle.graph_model.specs.graph.Access.{present, columns_alike};
-ghost use Rattle.graph_model.specs.graph.Fits.{repeats, most_weight, decl_repeats, decl_misnumbered, is_large, named_lines, on_lines, takes_no_on, format_lacks, verb_misnumbered, merges_many};
+ghost use Rattle.graph_terms.specs.declared.verb.Access.{Access};
+ghost use Rattle.graph_terms.specs.Access.{present, columns_alike};
+ghost use Rattle.graph_terms.specs.Fits.{repeats, most_weight, decl_repeats, decl_misnumbered, is_large, named_lines, on_lines, takes_no_on, format_lacks, verb_misnumbered, merges_many};
 
 use super::Graph;
-use crate::graph::access::{Accesses, verb_accesses};
-use crate::graph::decl::Decl;
-use crate::graph::format::Format;
-use crate::graph::limits::{MAX_COUNT, MAX_EVENTS};
-use crate::graph::name::Name;
 use crate::graph::repeats::{names_repeat, numbers_repeat};
-use crate::graph::verb::{Access, Line, Verb};
-use crate::graph::why::Why;
-use crate::kept::counts::Counts;
+use graph_indexes::counts::Counts;
+use graph_terms::access::{Accesses, verb_accesses};
+use graph_terms::decl::Decl;
+use graph_terms::format::Format;
+use graph_terms::limits::{MAX_COUNT, MAX_EVENTS};
+use graph_terms::name::Name;
+use graph_terms::verb::{Access, Line, Verb};
+use graph_terms::why::Why;
 use index_spaces::laws::points_are_listed;
 use index_spaces::limits::{MAX_INTERVALS, MAX_POINTS};
 
@@ -23,10 +23,10 @@ impl Graph {
     ghost use Rattle.std.specs.Prelude.{◌≡◌, false, IsTrue};
     ghost use Rattle.std.specs.Option.{option_map_or};
     ghost use Rattle.std.specs.List.{list_any};
-    ghost use Rattle.graph_model.specs.graph.Graph.{line_passes, is_user, is_phase, is_acquire};
-    ghost use Rattle.graph_model.specs.graph.Access.{verb_accesses, present};
-    ghost use Rattle.graph_model.specs.kept.Counts.{counts_of};
-    ghost use Rattle.graph_model.specs.graph.Fits.{decl_fault, line_fault, with_line, is_used, decl_unknown, verb_repeats, verb_unknown, access_unknown, line_unknown, verb_unlike, access_outside, phase_count, arrives_late};
+    ghost use Rattle.graph_terms.specs.Graph.{line_passes, is_user, is_phase, is_acquire};
+    ghost use Rattle.graph_terms.specs.Access.{verb_accesses, present};
+    ghost use Rattle.graph_indexes.specs.Counts.{counts_of};
+    ghost use Rattle.graph_terms.specs.Fits.{decl_fault, line_fault, with_line, is_used, decl_unknown, verb_repeats, verb_unknown, access_unknown, line_unknown, verb_unlike, access_outside, phase_count, arrives_late};
 
     /// The first reason that refuses a declaration after this graph. `None` exactly where it fits.
     pub fn decl_fault(&self, decl: &Decl) -> Option<Why>

@@ -1,18 +1,18 @@
 //! The quantities of a graph with one more item.
 
 use super::Graph;
-use crate::graph::decl::Decl;
 use crate::graph::edges::count_edges;
-use crate::graph::verb::Line;
-use crate::kept::counts::{Counts, barriers_of, columns_of, insts_of, locks_of};
+use graph_indexes::counts::{Counts, barriers_of, columns_of, insts_of, locks_of};
+use graph_terms::decl::Decl;
+use graph_terms::verb::Line;
 use index_spaces::limits::MAX_POINTS;
 
 impl Graph {
     ghost use Rattle.std.specs.Prelude.{◌≡◌, ◌≤◌};
     ghost use Rattle.index_spaces.specs.Space.{space_size};
-    ghost use Rattle.graph_model.specs.graph.Graph.{space_at};
-    ghost use Rattle.graph_model.specs.graph.Fits.{with_decl, with_line};
-    ghost use Rattle.graph_model.specs.kept.Counts.{counts_of, cells_of_decl};
+    ghost use Rattle.graph_terms.specs.Graph.{space_at};
+    ghost use Rattle.graph_terms.specs.Fits.{with_decl, with_line};
+    ghost use Rattle.graph_indexes.specs.Counts.{counts_of, cells_of_decl};
 
     /// The quantities with a declaration at the end.
     pub(super) fn counts_with_decl(&self, decl: &Decl) -> Counts

@@ -3,9 +3,9 @@
 ghost use Rattle.std.specs.Prelude.{◌≡◌, nat_eq};
 ghost use Rattle.std.specs.List.{list_any};
 ghost use Rattle.std.specs.Str.{bytes_eq};
-ghost use Rattle.graph_model.specs.graph.Fits.{repeats};
+ghost use Rattle.graph_terms.specs.Fits.{repeats};
 
-use crate::graph::name::Name;
+use graph_terms::name::Name;
 
 /// Whether a number stands there twice.
 pub(crate) fn numbers_repeat(numbers: &[u32]) -> bool

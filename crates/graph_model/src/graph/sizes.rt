@@ -1,23 +1,23 @@
 //! How long the lines of a graph's text are.
 
 ghost use Rattle.std.specs.Prelude.{◌≡◌, ◌+◌, ◌≤◌, length};
-ghost use Rattle.graph_model.specs.graph.Table.{kind_words};
-ghost use Rattle.graph_model.specs.graph.Spelling.{op_word};
-ghost use Rattle.graph_model.specs.kept.Counts.{words_size};
+ghost use Rattle.graph_terms.specs.Table.{kind_words};
+ghost use Rattle.graph_terms.specs.Spelling.{op_word};
+ghost use Rattle.graph_indexes.specs.Counts.{words_size};
 
 use super::Graph;
-use crate::graph::decl::Decl;
-use crate::graph::lists::LineList;
-use crate::graph::table::{Kind, MOST_PLACES, Parts, Place};
-use crate::graph::verb::{Line, Verb};
 use crate::graph::words::{fields_size, intervals_size, name_size, number_size, word_size};
+use graph_terms::decl::Decl;
+use graph_terms::lists::LineList;
+use graph_terms::table::{Kind, MOST_PLACES, Parts, Place};
+use graph_terms::verb::{Line, Verb};
 use index_spaces::Op;
 
 impl Graph {
     ghost use Rattle.std.specs.Prelude.{◌≡◌, ◌+◌, ◌≤◌, None, length, map, zip};
-    ghost use Rattle.graph_model.specs.kept.Counts.{words_size};
-    ghost use Rattle.graph_model.specs.graph.Table.{verb_kind, part_in, parts_from};
-    ghost use Rattle.graph_model.specs.graph.Spelling.{spelled, space_name, column_name, lock_name, barrier_name, line_name, op_word, decl_words, place_word, placed_words, verb_words, on_words, line_words};
+    ghost use Rattle.graph_indexes.specs.Counts.{words_size};
+    ghost use Rattle.graph_terms.specs.Table.{verb_kind, part_in, parts_from};
+    ghost use Rattle.graph_terms.specs.Spelling.{spelled, space_name, column_name, lock_name, barrier_name, line_name, op_word, decl_words, place_word, placed_words, verb_words, on_words, line_words};
 
     /// The line of a declaration, with its newline.
     pub(super) fn decl_size(&self, decl: &Decl) -> u64

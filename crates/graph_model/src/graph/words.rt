@@ -1,10 +1,10 @@
 //! How long the words of a graph's text are, each with the byte behind it.
 
 ghost use Rattle.std.specs.Prelude.{◌≡◌, ◌+◌, ◌≤◌, length, map, decimal};
-ghost use Rattle.graph_model.specs.graph.Spelling.{comma_word, interval_word};
+ghost use Rattle.graph_terms.specs.Spelling.{comma_word, interval_word};
 
-use crate::graph::lists::NameList;
-use crate::graph::name::Name;
+use graph_terms::lists::NameList;
+use graph_terms::name::Name;
 use index_spaces::space::Space;
 
 /// A word of this text.

@@ -1,7 +1,7 @@
 -- An accepted graph is refused for want of memory alone.
 use Rattle.std.proofs.Common.{◌≡◌, refl}
-use Rattle.graph_model.specs.graph.Graph.{GraphValue}
-use Rattle.graph_model.specs.meaning.Rules.{Accepted}
+use Rattle.graph_terms.specs.Graph.{GraphValue}
+use Rattle.graph_meaning.specs.Rules.{Accepted}
 use Rattle.race_check.specs.Refusal.{IsRefusal}
 use Rattle.race_check.specs.declared.checked.CheckRefusal.{CheckRefusal}
 use Rattle.race_check.specs.declared.checked.CheckRefusal.TheVariants.{Cycle, Unreleased, Section, Descends, ReleaseFault, Race, NoMemory}

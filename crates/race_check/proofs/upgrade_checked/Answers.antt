@@ -1,8 +1,8 @@
 use Rattle.std.proofs.Common.{sym, ◌∙◌, ap, subst}
-use Rattle.graph_model.specs.graph.Graph.{GraphValue, upgraded}
-use Rattle.graph_model.specs.meaning.Evaluation.{outcome}
-use Rattle.graph_model.specs.meaning.Need.{IsNeed}
-use Rattle.graph_model.specs.meaning.Rules.{Accepted}
+use Rattle.graph_terms.specs.Graph.{GraphValue, upgraded}
+use Rattle.graph_meaning.specs.Evaluation.{outcome}
+use Rattle.graph_meaning.specs.Need.{IsNeed}
+use Rattle.graph_meaning.specs.Rules.{Accepted}
 use Rattle.race_check.proofs.upgrade_checked.Goals as goal
 
 pub new-requires-clause-accepted : goal.new-requires-clause-accepted

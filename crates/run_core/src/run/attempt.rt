@@ -30,7 +30,7 @@ impl<'g> Core<'g> {
     ghost use Rattle.run_core.specs.Findings.{IsFound};
     ghost use Rattle.run_core.specs.Works.{KeepsWork};
     ghost use Rattle.run_core.specs.WhatIsOut.{OutAfter, TakenConflictsOnlyExempt};
-    ghost use Rattle.graph_model.specs.graph.Graph.{never_comes};
+    ghost use Rattle.graph_terms.specs.Graph.{never_comes};
 
     /// Tries to take a line. What is answered is the first that holds of the answers in the order of
     /// their enum's documentation. A line that is taken conflicts with none that is out, but where both

@@ -7,7 +7,7 @@ ghost use Rattle.gen_events.specs.EventMap.{answer};
 ghost use Rattle.gen_events.specs.declared.handle.Handle.{Handle as TheHandle};
 ghost use Rattle.run_state.specs.Run.{end_so_far, stage_at};
 ghost use Rattle.run_state.specs.Quiet.{Quiet};
-ghost use Rattle.graph_model.specs.graph.Graph.{verb_at};
+ghost use Rattle.graph_terms.specs.Graph.{verb_at};
 ghost use Rattle.run_core.specs.Kept.{shown_stage};
 ghost use Rattle.run_core.specs.Answers.{answer_shown, phase_for, phase_of_line, AsksHandles};
 
@@ -15,12 +15,12 @@ use crate::events::LineEvents;
 use crate::progress::Progress;
 use crate::run::Core;
 use crate::sources::end_of;
+use graph_meaning::laws::sections_never_overlap;
 use graph_model::graph::Graph;
-use graph_model::laws::sections_never_overlap;
-use graph_model::limits::MAX_LINES;
-use graph_model::lists::{AnswerList, EndList, LineList, ValueList};
-use graph_model::outcome::{Answer, End, Outcome};
-use graph_model::verb::Verb;
+use graph_terms::limits::MAX_LINES;
+use graph_terms::lists::{AnswerList, EndList, LineList, ValueList};
+use graph_terms::outcome::{Answer, End, Outcome};
+use graph_terms::verb::Verb;
 use index_spaces::NoMemory;
 use index_spaces::room::{push_within, with_room};
 use run_state::laws::{clock_is_small, quiet_gives_outcome, slots_are_by_times};
@@ -56,8 +56,8 @@ impl<'g> Core<'g> {
     ghost use Rattle.std.specs.Prelude.{◌≡◌, ℕ, ◌<◌, length, Some, slice_get};
     ghost use Rattle.gen_events.specs.EventMap.{answer};
     ghost use Rattle.gen_events.specs.declared.handle.Handle.{Handle as TheHandle};
-    ghost use Rattle.graph_model.specs.meaning.Evaluation.{outcome};
-    ghost use Rattle.graph_model.specs.meaning.Trace.{IsLawful, SectionsApart};
+    ghost use Rattle.graph_meaning.specs.Evaluation.{outcome};
+    ghost use Rattle.graph_meaning.specs.Trace.{IsLawful, SectionsApart};
     ghost use Rattle.run_state.specs.Quiet.{Quiet, ByTimes};
     ghost use Rattle.run_core.specs.Answers.{AsksHandles};
 

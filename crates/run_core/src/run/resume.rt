@@ -2,9 +2,10 @@
 
 ghost use Rattle.std.specs.Prelude.{◌≡◌, ◌<◌, ◌≤◌, ◌+◌, ℕ, length, vec_len, map, cond, true, false, IfSome, IfNone, Some, slice_get, slice_set};
 ghost use Rattle.std.specs.Vec.{vec_capacity};
-ghost use Rattle.graph_model.specs.declared.meaning.outcome.End.TheVariants.{Done};
+ghost use Rattle.graph_terms.specs.declared.outcome.End.TheVariants.{Done};
 ghost use Rattle.basics.specs.Lists.{count_below};
-ghost use Rattle.graph_model.specs.meaning.Rules.{Accepted, Releases};
+ghost use Rattle.graph_meaning.specs.Rules.{Accepted};
+ghost use Rattle.graph_terms.specs.Reservations.{Releases};
 ghost use Rattle.run_state.specs.Run.{is_listed, list_at};
 ghost use Rattle.run_core.specs.declared.states.LineState.{LineState as TheState};
 ghost use Rattle.run_core.specs.declared.answers.Stage.{Stage as TheStage};
@@ -19,10 +20,10 @@ use crate::run::Core;
 use crate::states::{LineState, StateList};
 use gen_events::EventTable;
 use graph_model::graph::Graph;
-use graph_model::limits::MAX_LINES;
-use graph_model::lists::ValueList;
-use graph_model::outcome::End;
-use graph_model::verb::Verb;
+use graph_terms::limits::MAX_LINES;
+use graph_terms::lists::ValueList;
+use graph_terms::outcome::End;
+use graph_terms::verb::Verb;
 use index_spaces::room::push_within;
 use instances::Homes;
 

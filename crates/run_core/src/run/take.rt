@@ -10,8 +10,8 @@ use run_state::laws::{claim_of_cancelled_keeps_rest, stage_leaves, take_keeps_re
 
 impl<'g> Core<'g> {
     ghost use Rattle.std.specs.Prelude.{◌≡◌, ◌≢◌, ℕ, ◌<◌, length};
-    ghost use Rattle.graph_model.specs.declared.meaning.outcome.End.TheVariants.{Cancelled};
-    ghost use Rattle.graph_model.specs.meaning.Evaluation.{eval_end};
+    ghost use Rattle.graph_terms.specs.declared.outcome.End.TheVariants.{Cancelled};
+    ghost use Rattle.graph_meaning.specs.Evaluation.{eval_end};
     ghost use Rattle.run_core.specs.Steps.{Takes, StandsBy, IsDue, IsLeastLeft, HasLock, HasColumns};
     ghost use Rattle.run_core.specs.Works.{KeepsWork};
 

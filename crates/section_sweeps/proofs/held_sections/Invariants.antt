@@ -1,6 +1,6 @@
 use Rattle.std.proofs.Common.{ℕ, ◌-◌, ◌<◌, ◌≤◌, length}
 use Rattle.std.specs.Prelude.{slice_index}
-use Rattle.graph_model.specs.meaning.Rules.{Acquires}
+use Rattle.graph_terms.specs.Reservations.{Acquires}
 use Rattle.section_sweeps.specs.Group.{IsCleared}
 use Rattle.section_sweeps.specs.Sections.{AreHeldSoFar, IsSectionKept}
 use Rattle.section_sweeps.proofs.held_sections.Given as goal

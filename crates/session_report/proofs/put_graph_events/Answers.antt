@@ -1,5 +1,5 @@
 use Rattle.std.proofs.Common.{◌≡◌, ◌≤◌, ◌<◌, length, ◌∙◌, ap, subst, arith}
-use Rattle.graph_model.specs.graph.Graph.{GraphValue}
+use Rattle.graph_terms.specs.Graph.{GraphValue}
 use Rattle.realm_io.proofs.WrittenLaws.{Progress, stops, goes_on, breaks_off, finishes}
 use Rattle.session_run.specs.Running.{linked_of}
 use Rattle.session_report.specs.Report.{event_texts}

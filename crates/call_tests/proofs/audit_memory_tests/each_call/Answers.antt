@@ -1,5 +1,5 @@
 use Rattle.std.proofs.Common.{◌<◌, length, subst}
-use Rattle.graph_model.specs.graph.Graph.{GraphValue}
+use Rattle.graph_terms.specs.Graph.{GraphValue}
 use Rattle.call_tests.proofs.audit_memory_tests.each_call.Goals as goal
 
 pub audits-requires : goal.audits-requires

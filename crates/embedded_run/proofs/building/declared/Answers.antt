@@ -1,6 +1,6 @@
 use Rattle.std.proofs.Common.{[], ◌∷◌, ◌∙◌, ap₂}
 use Rattle.std.proofs.lemmas.Result.{err_from_is_err_and}
-use Rattle.graph_model.specs.graph.Fits.{with_decl}
+use Rattle.graph_terms.specs.Fits.{with_decl}
 use Rattle.embedded_run.specs.SumGraph.{points_decl, columns_decl}
 use Rattle.embedded_run.proofs.Failures.{declared_or_memory, declares_or_memory}
 use Rattle.embedded_run.proofs.ItemsFit.{declared, points_fit, columns_fit}

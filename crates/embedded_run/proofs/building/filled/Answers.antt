@@ -1,7 +1,7 @@
 use Rattle.std.proofs.Common.{◌≡◌, [], ◌∷◌, ◌∙◌, ap, ap₂}
 use Rattle.std.specs.Prelude.{None, codes}
 use Rattle.std.proofs.lemmas.Result.{err_from_is_err_and}
-use Rattle.graph_model.specs.graph.Fits.{with_line}
+use Rattle.graph_terms.specs.Fits.{with_line}
 use Rattle.embedded_run.specs.SumGraph.{lined, one_fill, other_fill}
 use Rattle.embedded_run.proofs.Failures.{offered_or_memory, offers_or_memory}
 use Rattle.embedded_run.proofs.ItemsFit.{one_fill_fits, other_fill_fits}

@@ -1,7 +1,7 @@
 use Rattle.std.proofs.Common.{refl, sym, subst}
 use Rattle.std.specs.Prelude.{Vec, IfSome}
 use Rattle.std.specs.Global.{Global}
-use Rattle.graph_model.specs.declared.graph.verb.Edge.{Edge}
+use Rattle.graph_terms.specs.declared.verb.Edge.{Edge}
 use Rattle.explanations.specs.Paths.{IsShortest}
 use Rattle.explain_graph.proofs.RefusalFacts.{acquire_line, releases, differ, not_before, entered_of}
 use Rattle.explain_graph.proofs.reasons.explain_section.Goals as goal

@@ -1,6 +1,6 @@
 use Rattle.std.proofs.Common.{ap, ◌∙◌}
 use Rattle.std.specs.Prelude.{codes, decimal}
-use Rattle.graph_model.specs.graph.Spelling.{why_word}
+use Rattle.graph_terms.specs.Spelling.{why_word}
 use Rattle.explain_text.proofs.TextFacts.{then_puts, put_as}
 use Rattle.explain_text.proofs.unread.put_unread.Goals as goal
 

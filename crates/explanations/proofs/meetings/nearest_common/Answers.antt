@@ -1,8 +1,8 @@
 use Rattle.std.proofs.Common.{◌≡◌, ◌<◌, ◌∷◌, [], length, ap, sym, subst, ◌∙◌}
 use Rattle.std.specs.Prelude.{Contains, Vec, IfSome, slice_index}
 use Rattle.std.specs.Global.{Global}
-use Rattle.graph_model.specs.declared.graph.verb.Edge.{Edge}
-use Rattle.graph_model.specs.graph.Edges.{edges}
+use Rattle.graph_terms.specs.declared.verb.Edge.{Edge}
+use Rattle.graph_terms.specs.Edges.{edges}
 use Rattle.explanations.specs.declared.search.Way.TheVariants.{Back}
 use Rattle.explanations.specs.Paths.{IsShortest}
 use Rattle.explanations.specs.Search.{near_end, far_end, AreCounts}

@@ -1,6 +1,6 @@
 use Rattle.std.proofs.Common.{◌∷◌, [], sym, subst}
 use Rattle.std.specs.Prelude.{Contains, slice_index}
-use Rattle.graph_model.specs.graph.Edges.{edges}
+use Rattle.graph_terms.specs.Edges.{edges}
 use Rattle.explanations.specs.declared.search.Way.TheVariants.{Back}
 use Rattle.explanations.specs.Search.{near_end, far_end, AreCounts}
 use Rattle.explanations.proofs.PathFacts.{answer_shortest, answer_none}

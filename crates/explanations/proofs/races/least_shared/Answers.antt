@@ -1,6 +1,6 @@
 use Rattle.std.proofs.Common.{◌+◌, sym, subst, ◌∙◌, take, arith}
 use Rattle.std.specs.Prelude.{Contains}
-use Rattle.graph_model.specs.graph.Access.{accesses}
+use Rattle.graph_terms.specs.Access.{accesses}
 use Rattle.explanations.specs.Shared.{IsLeastAmong}
 use Rattle.explanations.proofs.SharedFacts.{access_read, no_more, ones_more, ones_all, no_conflict_by}
 use Rattle.explanations.proofs.races.least_shared.Goals as goal

@@ -1,6 +1,6 @@
 use Rattle.std.proofs.Common.{◌≡◌, ◌+◌, sym, subst, ◌∙◌, take, arith}
 use Rattle.std.specs.Prelude.{Contains}
-use Rattle.graph_model.specs.graph.Access.{accesses}
+use Rattle.graph_terms.specs.Access.{accesses}
 use Rattle.explanations.specs.Shared.{IsLeastAmong}
 use Rattle.explanations.proofs.SharedFacts.{access_read, no_more, others_more, others_all}
 use Rattle.explanations.proofs.races.shared_with.Goals as goal

@@ -1,6 +1,6 @@
 use Rattle.std.proofs.Common.{◌≡◌, ℕ, ◌<◌, List, length, subst}
 use Rattle.std.specs.Prelude.{Some, IsTrue, IsSome}
-use Rattle.graph_model.specs.declared.graph.verb.Edge.{Edge}
+use Rattle.graph_terms.specs.declared.verb.Edge.{Edge}
 use Rattle.explanations.specs.declared.reaches.Reach.{Reach}
 use Rattle.explanations.specs.Paths.{Leads}
 use Rattle.explanations.specs.Reaches.{reach_at, end_at, fault_edges, begins_fault, IsFault, IsReached, AreLinked}

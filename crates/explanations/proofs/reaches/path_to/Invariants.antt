@@ -1,6 +1,6 @@
 use Rattle.std.proofs.Common.{◌≡◌, List}
 use Rattle.std.specs.Prelude.{Some}
-use Rattle.graph_model.specs.declared.graph.verb.Edge.{Edge}
+use Rattle.graph_terms.specs.declared.verb.Edge.{Edge}
 use Rattle.explanations.specs.declared.reaches.Reach.{Reach}
 use Rattle.explanations.specs.Reaches.{reach_at, AreLinked}
 use Rattle.explanations.proofs.WaysBack.{IsWayBack, steps_at}

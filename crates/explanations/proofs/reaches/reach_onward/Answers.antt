@@ -1,6 +1,6 @@
 use Rattle.std.proofs.Common.{length, subst}
 use Rattle.std.specs.Prelude.{Contains, slice_index}
-use Rattle.graph_model.specs.graph.Edges.{edges}
+use Rattle.graph_terms.specs.Edges.{edges}
 use Rattle.explanations.specs.Search.{near_end, far_end, way_edges, is_start, AreCounts, AreOrigins}
 use Rattle.explanations.proofs.Marking.{follow_in}
 use Rattle.explanations.proofs.ReachFacts.{onward_counts, onward_origins, each_reached, are_linked, reached_from, is_some}

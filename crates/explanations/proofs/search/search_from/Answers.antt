@@ -2,7 +2,7 @@ use Rattle.std.proofs.Common.{◌≡◌, ℕ, ◌+◌, ◌<◌, ◌≤◌, lengt
 use Rattle.std.specs.Prelude.{Contains, Vec, slice_index}
 use Rattle.std.specs.Global.{Global}
 use Rattle.std.proofs.lemmas.Grind.{common_steps}
-use Rattle.graph_model.specs.graph.Edges.{edges}
+use Rattle.graph_terms.specs.Edges.{edges}
 use Rattle.explanations.specs.Search.{near_end, far_end, way_edges, unfound, IsMarking, IsFarEndOfSome}
 use Rattle.explanations.proofs.Marking.{unfound_most}
 use Rattle.explanations.proofs.Levels.{IsSearch, level_known, search_begins, search_more}

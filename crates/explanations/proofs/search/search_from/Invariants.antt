@@ -1,6 +1,6 @@
 use Rattle.std.proofs.Common.{◌≡◌, ◌+◌, ◌<◌, ◌≤◌, length}
 use Rattle.std.specs.Prelude.{Contains, slice_index}
-use Rattle.graph_model.specs.graph.Edges.{edges}
+use Rattle.graph_terms.specs.Edges.{edges}
 use Rattle.explanations.specs.Search.{near_end, far_end, way_edges, unfound, AreOrigins}
 use Rattle.explanations.proofs.Levels.{IsSearch}
 use Rattle.explanations.proofs.search.search_from.Given as goal

@@ -1,5 +1,5 @@
 use Rattle.std.proofs.Common.{ℕ, ◌<◌}
-use Rattle.graph_model.specs.meaning.Rules.{Releases}
+use Rattle.graph_terms.specs.Reservations.{Releases}
 use Rattle.explanations.proofs.sections.release_of.Given as goal
 
 abbrev pub invariant-loop-line : goal.invariant-loop-line

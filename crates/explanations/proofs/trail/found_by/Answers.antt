@@ -1,6 +1,6 @@
 use Rattle.std.proofs.Common.{subst}
 use Rattle.std.specs.Prelude.{◌==◌, filter, Contains, slice_index}
-use Rattle.graph_model.specs.graph.Edges.{edges}
+use Rattle.graph_terms.specs.Edges.{edges}
 use Rattle.explanations.specs.Search.{near_end, far_end, IsNearest}
 use Rattle.explanations.proofs.Trails.{nearest_in, nearest_far, found_by_some, one_less}
 use Rattle.explanations.proofs.trail.found_by.Goals as goal

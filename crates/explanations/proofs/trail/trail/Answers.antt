@@ -1,6 +1,6 @@
 use Rattle.std.proofs.Common.{◌<◌, ◌++◌, ◌∷◌, [], length, ap, sym, subst, ◌∙◌, arith}
 use Rattle.std.specs.Prelude.{◌==◌, filter, slice_index}
-use Rattle.graph_model.specs.graph.Edges.{edges}
+use Rattle.graph_terms.specs.Edges.{edges}
 use Rattle.explanations.specs.Search.{near_end, far_end, IsNearest}
 use Rattle.explanations.proofs.Levels.{ends_known}
 use Rattle.explanations.proofs.Trails.{nearest_is_none, nearest_in, trailing_begins, trailing_more, trailing_ends}

@@ -1,6 +1,6 @@
 use Rattle.std.proofs.Common.{◌<◌, length}
 use Rattle.std.specs.Prelude.{slice_index}
-use Rattle.graph_model.specs.graph.Edges.{edges}
+use Rattle.graph_terms.specs.Edges.{edges}
 use Rattle.explanations.specs.Search.{near_end, far_end}
 use Rattle.explanations.proofs.Trails.{IsTrailing}
 use Rattle.explanations.proofs.trail.trail.Given as goal

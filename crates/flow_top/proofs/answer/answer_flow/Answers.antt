@@ -1,10 +1,10 @@
 use Rattle.std.proofs.Common.{◌≡◌, ℕ, ◌+◌, ◌^◌, ◌<◌, ◌≤◌, Bool, List, ◌++◌, length, length-append, ap, inl, inr, arith}
 use Rattle.std.specs.Prelude.{codes}
 use Rattle.std.proofs.lemmas.Result.{IfOk-weaker, IfErr-weaker}
-use Rattle.graph_model.specs.declared.graph.format.Format.TheVariants.{One}
-use Rattle.graph_model.specs.graph.Graph.{GraphValue}
-use Rattle.graph_model.specs.graph.Spelling.{head, header}
-use Rattle.graph_model.proofs.GraphPush.{long_head}
+use Rattle.graph_terms.specs.declared.format.Format.TheVariants.{One}
+use Rattle.graph_terms.specs.Graph.{GraphValue}
+use Rattle.graph_terms.specs.Spelling.{head, header}
+use Rattle.graph_terms.proofs.GraphPush.{long_head}
 use Rattle.graph_reader.specs.Text.{text}
 use Rattle.flow_top.specs.FlowText.{FlowText, IsReadFault}
 use Rattle.flow_top.specs.Answer.{IsAnswerFault, IsFaultOfFlow}

@@ -1,6 +1,6 @@
 use Rattle.std.proofs.Common.{◌≡◌, ℕ, ◌+◌, ◌<◌, Bool, false, length, ◌∙◌, subst, inr, arith}
 use Rattle.std.proofs.lemmas.Result.{IfOk-weaker, IfErr-weaker}
-use Rattle.graph_model.specs.graph.Graph.{GraphValue}
+use Rattle.graph_terms.specs.Graph.{GraphValue}
 use Rattle.graph_reader.specs.Text.{text, GraphText}
 use Rattle.task_flow.specs.Construction.{is_over, written}
 use Rattle.task_flow.specs.Written.{MeansFlow}

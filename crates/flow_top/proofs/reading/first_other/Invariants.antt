@@ -1,6 +1,6 @@
 use Rattle.std.proofs.Common.{◌≡◌, ◌<◌, ℕ, true}
 use Rattle.std.specs.Prelude.{Some, slice_get}
-use Rattle.graph_model.specs.declared.graph.verb.Line.{Line}
+use Rattle.graph_terms.specs.declared.verb.Line.{Line}
 use Rattle.flow_top.specs.FlowText.{is_flow_line}
 use Rattle.flow_top.proofs.reading.first_other.Given as goal
 

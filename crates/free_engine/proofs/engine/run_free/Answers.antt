@@ -1,6 +1,6 @@
 use Rattle.std.proofs.Common.{◌≡◌, ◌<◌, ℕ, Some, length, ◌∙◌, subst}
 use Rattle.std.specs.Prelude.{slice_get}
-use Rattle.graph_model.specs.graph.Graph.{GraphValue}
+use Rattle.graph_terms.specs.Graph.{GraphValue}
 use Rattle.run_words.proofs.Rejoining.{all_still}
 use Rattle.free_engine.proofs.engine.run_free.Goals as goal
 

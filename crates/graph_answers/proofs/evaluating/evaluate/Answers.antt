@@ -1,6 +1,6 @@
 use Rattle.std.proofs.Common.{inr, ap}
-use Rattle.graph_model.specs.declared.meaning.outcome.Outcome.{Outcome}
-use Rattle.graph_model.specs.meaning.Evaluation.{order}
+use Rattle.graph_terms.specs.declared.outcome.Outcome.{Outcome}
+use Rattle.graph_meaning.specs.Evaluation.{order}
 use Rattle.graph_answers.specs.Answer.{evaluation_text}
 use Rattle.program_io.proofs.Public.{written_then_flushed}
 use Rattle.graph_answers.proofs.Delivering.{wrote_of}

@@ -1,7 +1,7 @@
 use Rattle.std.proofs.Common.{◌≡◌, [], rules, refl, sym, subst}
 use Rattle.std.specs.Vec.Iter.{into_iter_items}
-use Rattle.graph_model.specs.declared.graph.format.Format.TheVariants.{One}
-use Rattle.graph_model.specs.graph.Fits.{DeclsFit}
+use Rattle.graph_terms.specs.declared.format.Format.TheVariants.{One}
+use Rattle.graph_terms.specs.Fits.{DeclsFit}
 use Rattle.graph_gen.specs.MadeGraph.{made_decls}
 use Rattle.graph_gen.proofs.Draws.{decls_fit}
 use Rattle.graph_gen.proofs.declarations.declared.Goals as goal

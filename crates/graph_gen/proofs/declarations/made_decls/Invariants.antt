@@ -1,6 +1,6 @@
 use Rattle.std.proofs.Common.{◌≡◌, [], ◌∷◌, codes, map}
 use Rattle.basics.specs.Lists.{numbers_below}
-use Rattle.graph_model.specs.declared.graph.decl.Decl.TheVariants.{Space}
+use Rattle.graph_terms.specs.declared.decl.Decl.TheVariants.{Space}
 use Rattle.graph_gen.specs.MadeGraph.{column_decl}
 use Rattle.graph_gen.proofs.declarations.made_decls.Given as goal
 

@@ -1,7 +1,7 @@
 use Rattle.std.proofs.Common.{◌≡◌, ◌<◌, true, false, ℕ, List, refl, sym, ◌∙◌, ap, Option, Some, None, arith}
 use Rattle.std.specs.Prelude.{IsSome, IsTrue, MatchOption}
 use Rattle.std.proofs.lemmas.Bool.{true≢false}
-use Rattle.graph_model.specs.graph.Name.{is_name}
+use Rattle.graph_terms.specs.Name.{is_name}
 use Rattle.graph_gen.specs.MadeGraph.{made_name}
 use Rattle.graph_gen.proofs.LineNames.{made_is_name}
 use Rattle.graph_gen.proofs.line.made_name.Goals as goal

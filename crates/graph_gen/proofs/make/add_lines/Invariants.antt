@@ -1,6 +1,6 @@
 use Rattle.std.proofs.Common.{◌≡◌, ◌++◌, length}
 use Rattle.std.specs.Vec.Iter.{into_iter_items, into_iter_len}
-use Rattle.graph_model.specs.graph.Fits.{LinesFit}
+use Rattle.graph_terms.specs.Fits.{LinesFit}
 use Rattle.graph_gen.proofs.make.add_lines.Given as goal
 
 abbrev pub invariant-loop-line : goal.invariant-loop-line

@@ -1,5 +1,5 @@
 use Rattle.std.proofs.Common.{◌≡◌, ℕ, ◌≤◌, ◌-◌, length}
-use Rattle.graph_model.specs.declared.graph.format.Format.TheVariants.{One}
+use Rattle.graph_terms.specs.declared.format.Format.TheVariants.{One}
 use Rattle.graph_gen.specs.MadeGraph.{made_decls, made_of, after_draws}
 use Rattle.graph_gen.proofs.make.make.Given as goal
 

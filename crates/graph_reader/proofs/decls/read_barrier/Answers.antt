@@ -1,6 +1,6 @@
 use Rattle.std.proofs.Common.{ap, sym, ◌∙◌}
-use Rattle.graph_model.specs.declared.graph.decl.Decl.TheVariants as decl
-use Rattle.graph_model.specs.graph.Fits.{is_used}
+use Rattle.graph_terms.specs.declared.decl.Decl.TheVariants as decl
+use Rattle.graph_terms.specs.Fits.{is_used}
 use Rattle.graph_reader.specs.Draft.{barrier_with}
 use Rattle.graph_reader.proofs.DeclFaults.{read_by, barrier_is}
 use Rattle.graph_reader.proofs.decls.read_barrier.Goals as goal

@@ -1,5 +1,5 @@
 use Rattle.std.proofs.Common.{length, ◌≡◌, ap, sym, ◌∙◌, suc, arith}
-use Rattle.graph_model.specs.graph.Fits.{is_used}
+use Rattle.graph_terms.specs.Fits.{is_used}
 use Rattle.graph_reader.specs.Draft.{inst_with}
 use Rattle.graph_reader.specs.Reading.{inst_decl}
 use Rattle.graph_reader.proofs.CutBytes.{some_pieces}

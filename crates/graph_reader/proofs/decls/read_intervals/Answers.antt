@@ -1,5 +1,5 @@
 use Rattle.std.proofs.Common.{Err, sym, subst}
-use Rattle.graph_model.specs.declared.graph.decl.Decl.TheVariants as decl
+use Rattle.graph_terms.specs.declared.decl.Decl.TheVariants as decl
 use Rattle.graph_reader.specs.Reading.{IsDeclBy, space_reason}
 use Rattle.graph_reader.proofs.DeclFaults.{space_ok, space_err}
 use Rattle.graph_reader.proofs.decls.read_intervals.Goals as goal

@@ -1,6 +1,6 @@
 use Rattle.std.proofs.Common.{sym, ◌∙◌, ap, arith}
 use Rattle.std.specs.Str.{bytes_eq}
-use Rattle.graph_model.specs.graph.Fits.{repeats}
+use Rattle.graph_terms.specs.Fits.{repeats}
 use Rattle.graph_reader.proofs.DeclFaults.{inst_unlike, inst_ok, inst_many}
 use Rattle.graph_reader.proofs.decls.read_named.Goals as goal
 

@@ -1,7 +1,7 @@
 use Rattle.std.proofs.Common.{ap, sym, ◌∙◌}
 use Rattle.std.specs.Prelude.{Some}
-use Rattle.graph_model.specs.declared.graph.decl.Decl.TheVariants as decl
-use Rattle.graph_model.specs.graph.Fits.{is_used}
+use Rattle.graph_terms.specs.declared.decl.Decl.TheVariants as decl
+use Rattle.graph_terms.specs.Fits.{is_used}
 use Rattle.graph_reader.specs.Draft.{space_with}
 use Rattle.graph_reader.proofs.DeclFaults.{space_is, read_by}
 use Rattle.graph_reader.proofs.IntervalWords.{some_interval}

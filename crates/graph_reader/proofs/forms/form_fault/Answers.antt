@@ -1,9 +1,9 @@
 use Rattle.std.proofs.Common.{◌≡◌, true, Bool, List, ℕ, Bor, ◌||◌, cond, map, sym, ◌∙◌, ap, subst}
 use Rattle.std.specs.Prelude.{Some, bytes_eq}
 use Rattle.std.proofs.lemmas.Bool.{or_from}
-use Rattle.graph_model.specs.declared.graph.why.Why.TheVariants as why
-use Rattle.graph_model.specs.declared.graph.table.Kind.{Kind}
-use Rattle.graph_model.specs.graph.Fits.{repeats, is_used}
+use Rattle.graph_terms.specs.declared.why.Why.TheVariants as why
+use Rattle.graph_terms.specs.declared.table.Kind.{Kind}
+use Rattle.graph_terms.specs.Fits.{repeats, is_used}
 use Rattle.graph_reader.specs.Kinds.{words_in, kind_placed, column_words, later_reason, IsFormFault}
 use Rattle.graph_reader.proofs.FormFaults.{misnamed_reason, twice_reason, left_reason}
 use Rattle.graph_reader.proofs.forms.form_fault.Goals as goal

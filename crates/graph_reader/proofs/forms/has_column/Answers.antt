@@ -2,8 +2,8 @@ use Rattle.std.proofs.Common.{rules, List, ℕ, ◌&&◌, Bor, ◌∙◌}
 use Rattle.std.specs.Str.{bytes_eq}
 use Rattle.std.proofs.lemmas.Iterator.{YieldsList-from_slice, YieldsList-from_zip}
 use Rattle.std.proofs.lemmas.Iterator.Search.{any_from_yields_List}
-use Rattle.graph_model.specs.declared.graph.table.Place.{Place}
-use Rattle.graph_model.specs.graph.Table.{is_column}
+use Rattle.graph_terms.specs.declared.table.Place.{Place}
+use Rattle.graph_terms.specs.Table.{is_column}
 use Rattle.graph_reader.proofs.WordLists.{column_listed}
 use Rattle.graph_reader.proofs.forms.has_column.Goals as goal
 

@@ -1,9 +1,9 @@
 use Rattle.std.proofs.Common.{◌≡◌, List, ℕ, Bor, map, subst, ◌∙◌, ap}
-use Rattle.graph_model.specs.declared.graph.verb.Line.{Line}
-use Rattle.graph_model.specs.declared.graph.verb.Verb.{Verb}
-use Rattle.graph_model.specs.graph.Table.{verb_of}
+use Rattle.graph_terms.specs.declared.verb.Line.{Line}
+use Rattle.graph_terms.specs.declared.verb.Verb.{Verb}
+use Rattle.graph_terms.specs.Table.{verb_of}
 use Rattle.std.specs.Prelude.{Option, Some, Ok}
-use Rattle.graph_model.specs.graph.Name.{is_name}
+use Rattle.graph_terms.specs.Name.{is_name}
 use Rattle.graph_reader.specs.FirstFault.{draft_fault}
 use Rattle.graph_reader.specs.Kinds.{kind_draft, kind_verb, IsReading}
 use Rattle.graph_reader.proofs.FormFaults.{refused_word, read_as}

@@ -1,6 +1,6 @@
 use Rattle.std.proofs.Common.{Err, List, ℕ, Bor, map, sym, refl, ◌∙◌, subst}
 use Rattle.std.proofs.lemmas.List.{length-map}
-use Rattle.graph_model.specs.declared.graph.why.Why.TheVariants as why
+use Rattle.graph_terms.specs.declared.why.Why.TheVariants as why
 use Rattle.graph_reader.specs.declared.item.ItemError.TheVariants as errors
 use Rattle.graph_reader.specs.Reading.{IsDeclOf}
 use Rattle.graph_reader.proofs.LineShapes.{no_barrier_shape, barrier_read}

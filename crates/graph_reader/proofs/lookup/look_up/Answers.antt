@@ -1,7 +1,7 @@
 use Rattle.std.proofs.Common.{◌≡◌, false, None, subst}
 use Rattle.std.specs.Prelude.{MatchOption}
-use Rattle.graph_model.specs.graph.Fits.{is_used}
-use Rattle.graph_model.specs.graph.Names.{StandsFor}
+use Rattle.graph_terms.specs.Fits.{is_used}
+use Rattle.graph_terms.specs.Names.{StandsFor}
 use Rattle.graph_reader.proofs.Owners.{is_found, unused_misnamed}
 use Rattle.graph_reader.proofs.lookup.look_up.Goals as goal
 

@@ -1,6 +1,6 @@
 use Rattle.std.proofs.Common.{ℕ, sym, ◌∙◌, ap, arith}
 use Rattle.std.specs.Prelude.{Option, is_some, unwrap_or, bytes_eq}
-use Rattle.graph_model.specs.declared.graph.verb.Line.{Line}
+use Rattle.graph_terms.specs.declared.verb.Line.{Line}
 use Rattle.graph_reader.specs.Draft.{line_number}
 use Rattle.graph_reader.specs.FirstFault.{is_line_name}
 use Rattle.graph_reader.proofs.Owners.{position_any}

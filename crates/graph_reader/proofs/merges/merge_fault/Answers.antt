@@ -1,7 +1,7 @@
 use Rattle.std.proofs.Common.{List, ℕ, Bor, map, sym, ◌∙◌, ap}
 use Rattle.std.specs.Prelude.{bytes_eq}
 use Rattle.std.proofs.lemmas.Bool.{or_from}
-use Rattle.graph_model.specs.graph.Fits.{repeats}
+use Rattle.graph_terms.specs.Fits.{repeats}
 use Rattle.graph_reader.proofs.MergeFaults.{kind_left}
 use Rattle.graph_reader.proofs.merges.merge_fault.Goals as goal
 

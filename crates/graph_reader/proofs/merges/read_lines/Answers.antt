@@ -1,7 +1,7 @@
 use Rattle.std.proofs.Common.{◌≡◌, Bool, List, ℕ, Bor, inr, map, sym, ◌∙◌, ap}
 use Rattle.std.specs.Prelude.{None}
-use Rattle.graph_model.specs.declared.graph.verb.Line.{Line}
-use Rattle.graph_model.specs.graph.Fits.{line_fault}
+use Rattle.graph_terms.specs.declared.verb.Line.{Line}
+use Rattle.graph_terms.specs.Fits.{line_fault}
 use Rattle.graph_reader.specs.Merges.{merge_verb, merge_line}
 use Rattle.graph_reader.proofs.MergeFaults.{merge_refused, lines_twice, lines_fault}
 use Rattle.graph_reader.proofs.merges.read_lines.Goals as goal

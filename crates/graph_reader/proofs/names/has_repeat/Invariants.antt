@@ -4,7 +4,7 @@ use Rattle.std.specs.List.{list_any}
 use Rattle.std.specs.BTreeSet.{contains}
 use Rattle.std.specs.Cmp.Lexicographic.{slice_cmp}
 use Rattle.std.specs.Ordering.{nat_cmp}
-use Rattle.graph_model.specs.graph.Fits.{repeats}
+use Rattle.graph_terms.specs.Fits.{repeats}
 use Rattle.graph_reader.proofs.names.has_repeat.Given as goal
 
 abbrev pub invariant-loop-name : goal.invariant-loop-name

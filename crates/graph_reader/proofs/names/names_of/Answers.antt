@@ -1,4 +1,4 @@
-use Rattle.graph_model.specs.graph.Name.{is_name}
+use Rattle.graph_terms.specs.Name.{is_name}
 use Rattle.graph_reader.proofs.NameLists.{words_more, passed_more, failed_at}
 use Rattle.graph_reader.proofs.names.names_of.Goals as goal
 

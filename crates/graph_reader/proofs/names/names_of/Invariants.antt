@@ -1,6 +1,6 @@
 use Rattle.std.proofs.Common.{◌≡◌, true, take, map}
 use Rattle.std.specs.List.{list_all}
-use Rattle.graph_model.specs.graph.Name.{is_name}
+use Rattle.graph_terms.specs.Name.{is_name}
 use Rattle.graph_reader.proofs.names.names_of.Given as goal
 
 abbrev pub invariant-loop-word : goal.invariant-loop-word

@@ -2,7 +2,7 @@ use Rattle.std.proofs.Common.{ℕ, List, [], Bor, ap, ◌∙◌, arith}
 use Rattle.std.specs.Prelude.{slice_index_or}
 use Rattle.std.proofs.lemmas.List.{length-map, length-set}
 use Rattle.basics.specs.Words.{contents}
-use Rattle.graph_model.specs.declared.graph.table.Place.TheVariants as places
+use Rattle.graph_terms.specs.declared.table.Place.TheVariants as places
 use Rattle.graph_reader.specs.Draft.{Placed, as_place}
 use Rattle.graph_reader.specs.FirstFault.{misnamed, twice, unknown, unlike, misnumbered}
 use Rattle.graph_reader.specs.Kinds.{named_number, placed_value, words_in}

@@ -1,7 +1,7 @@
 use Rattle.std.proofs.Common.{rules, List, ℕ, Bor, ◌∙◌}
 use Rattle.std.proofs.lemmas.Iterator.{YieldsList-from_slice, YieldsList-from_zip}
 use Rattle.std.proofs.lemmas.Iterator.Search.{all_from_yields_List}
-use Rattle.graph_model.specs.declared.graph.table.Place.{Place}
+use Rattle.graph_terms.specs.declared.table.Place.{Place}
 use Rattle.graph_reader.specs.Draft.{as_place, is_own_word}
 use Rattle.graph_reader.proofs.WordLists.{own_listed}
 use Rattle.graph_reader.proofs.words.are_own_words.Goals as goal

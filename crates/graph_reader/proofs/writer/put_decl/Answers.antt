@@ -1,5 +1,5 @@
 use Rattle.std.proofs.Common.{ap, sym, ◌∙◌}
-use Rattle.graph_model.specs.graph.Spelling.{spelled, decl_words, space_name}
+use Rattle.graph_terms.specs.Spelling.{spelled, decl_words, space_name}
 use Rattle.realm_io.proofs.WrittenLaws.{writes_as}
 use Rattle.graph_reader.proofs.WrittenLists.{space_line, inst_line}
 use Rattle.graph_reader.proofs.writer.put_decl.Goals as goal

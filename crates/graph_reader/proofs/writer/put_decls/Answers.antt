@@ -1,4 +1,4 @@
-use Rattle.graph_model.specs.graph.Spelling.{spelled, decl_words}
+use Rattle.graph_terms.specs.Spelling.{spelled, decl_words}
 use Rattle.realm_io.proofs.WrittenLaws.{stops, goes_on, breaks_off}
 use Rattle.graph_reader.proofs.WrittenLists.{flat_at}
 use Rattle.graph_reader.proofs.writer.put_decls.Goals as goal

@@ -1,6 +1,6 @@
 use Rattle.std.proofs.Common.{drop}
 use Rattle.std.specs.List.{flat_map}
-use Rattle.graph_model.specs.graph.Spelling.{spelled, decl_words}
+use Rattle.graph_terms.specs.Spelling.{spelled, decl_words}
 use Rattle.realm_io.proofs.WrittenLaws.{Progress}
 use Rattle.graph_reader.proofs.writer.put_decls.Given as goal
 

@@ -1,6 +1,6 @@
 use Rattle.std.proofs.Common.{◌∷◌, ◌++◌, ◌+◌, drop, sym, ap, ◌∙◌}
 use Rattle.std.specs.List.{flat_map}
-use Rattle.graph_model.specs.graph.Spelling.{line_name}
+use Rattle.graph_terms.specs.Spelling.{line_name}
 use Rattle.graph_reader.specs.WrittenWords.{word_text}
 use Rattle.realm_io.proofs.WrittenLaws.{stops, goes_on, breaks_off}
 use Rattle.graph_reader.proofs.WrittenLists.{flat_at}

@@ -1,6 +1,6 @@
 use Rattle.std.proofs.Common.{◌∷◌, drop}
 use Rattle.std.specs.List.{flat_map}
-use Rattle.graph_model.specs.graph.Spelling.{line_name}
+use Rattle.graph_terms.specs.Spelling.{line_name}
 use Rattle.realm_io.proofs.WrittenLaws.{Progress}
 use Rattle.graph_reader.proofs.writer.put_events.Given as goal
 

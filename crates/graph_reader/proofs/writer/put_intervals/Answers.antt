@@ -1,5 +1,5 @@
 use Rattle.std.proofs.Common.{◌++◌, get_or, refl}
-use Rattle.graph_model.specs.graph.Spelling.{interval_word}
+use Rattle.graph_terms.specs.Spelling.{interval_word}
 use Rattle.realm_io.proofs.WrittenLaws.{stops, goes_on, breaks_off}
 use Rattle.graph_reader.proofs.WrittenLists.{comma_put}
 use Rattle.graph_reader.proofs.writer.put_intervals.Goals as goal

@@ -1,5 +1,5 @@
 use Rattle.std.proofs.Common.{drop}
-use Rattle.graph_model.specs.graph.Spelling.{interval_word}
+use Rattle.graph_terms.specs.Spelling.{interval_word}
 use Rattle.graph_reader.specs.WrittenWords.{comma_from}
 use Rattle.realm_io.proofs.WrittenLaws.{Progress}
 use Rattle.graph_reader.proofs.writer.put_intervals.Given as goal

@@ -1,5 +1,5 @@
 use Rattle.std.proofs.Common.{[], ◌∷◌, ◌++◌, ◌∙◌, ap, sym}
-use Rattle.graph_model.specs.graph.Spelling.{verb_words, on_words}
+use Rattle.graph_terms.specs.Spelling.{verb_words, on_words}
 use Rattle.graph_reader.specs.WrittenWords.{spaced}
 use Rattle.graph_reader.proofs.WrittenLists.{line_text}
 use Rattle.realm_io.proofs.WrittenLaws.{then_writes, writes_as, stops, stopped_as, stopped_early, stopped_later}

@@ -1,5 +1,5 @@
 use Rattle.std.proofs.Common.{◌∷◌, ◌++◌, ap, sym}
-use Rattle.graph_model.specs.graph.Spelling.{line_name}
+use Rattle.graph_terms.specs.Spelling.{line_name}
 use Rattle.realm_io.proofs.WrittenLaws.{then_writes, writes_as, stops, stopped_early}
 use Rattle.graph_reader.proofs.WrittenLists.{flat_mapped}
 use Rattle.graph_reader.proofs.writer.put_merge.Goals as goal

@@ -1,6 +1,6 @@
 use Rattle.std.proofs.Common.{◌∙◌, ap}
 use Rattle.std.specs.List.{flat_map}
-use Rattle.graph_model.specs.graph.Spelling.{spelled, header, decl_words, line_words}
+use Rattle.graph_terms.specs.Spelling.{spelled, header, decl_words, line_words}
 use Rattle.graph_reader.proofs.WholeText.{text_flat}
 use Rattle.realm_io.proofs.WrittenLaws.{then_writes, writes_as, stops, stopped_as, stopped_early, stopped_later}
 use Rattle.graph_reader.proofs.writer.put_parts.Goals as goal

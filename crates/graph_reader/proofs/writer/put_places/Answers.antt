@@ -1,5 +1,5 @@
 use Rattle.std.proofs.Common.{◌∷◌, ◌++◌, ◌+◌, drop, sym, ap, subst, ◌∙◌}
-use Rattle.graph_model.specs.declared.graph.table.Place.TheVariants as places
+use Rattle.graph_terms.specs.declared.table.Place.TheVariants as places
 use Rattle.realm_io.proofs.WrittenLaws.{Progress, stops, goes_on, breaks_off, finishes}
 use Rattle.graph_reader.specs.WrittenWords.{word_text, part_text}
 use Rattle.graph_reader.proofs.WrittenLists.{part_next, part_over}

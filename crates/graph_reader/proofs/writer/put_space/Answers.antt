@@ -1,6 +1,6 @@
 use Rattle.std.proofs.Common.{[], ◌∷◌, ◌++◌, ◌∙◌, ap}
 use Rattle.std.specs.Prelude.{codes}
-use Rattle.graph_model.specs.graph.Spelling.{interval_word}
+use Rattle.graph_terms.specs.Spelling.{interval_word}
 use Rattle.graph_reader.specs.WrittenWords.{comma_from}
 use Rattle.graph_reader.proofs.WrittenLists.{front_one}
 use Rattle.realm_io.proofs.WrittenLaws.{then_writes, writes_as, stops, stopped_as, stopped_early, stopped_later}

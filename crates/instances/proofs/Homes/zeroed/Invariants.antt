@@ -1,8 +1,8 @@
 use Rattle.std.proofs.Common.{◌≡◌, ◌≤◌, map, Some, vec_len}
 use Rattle.std.specs.Vec.{vec_capacity}
 use Rattle.basics.specs.Lists.{numbers_below}
-use Rattle.graph_model.specs.meaning.Effect.{zero_cells}
-use Rattle.graph_model.specs.meaning.Evaluation.{column_of}
+use Rattle.graph_meaning.specs.Effect.{zero_cells}
+use Rattle.graph_meaning.specs.Evaluation.{column_of}
 use Rattle.instances.proofs.Homes.zeroed.Given as goal
 
 abbrev pub invariant-loop-c : goal.invariant-loop-c

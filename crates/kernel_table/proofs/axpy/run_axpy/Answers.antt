@@ -2,11 +2,11 @@ use Rattle.std.proofs.Common.{◌≡◌, ◌+◌, ◌*◌, Some, length, refl, s
 use Rattle.index_spaces.specs.Space.{IsSpace, IsWithin}
 use Rattle.index_spaces.specs.Column.{cell_of}
 use Rattle.index_spaces.specs.Held.{held_at}
-use Rattle.graph_model.specs.declared.graph.verb.Mode.TheVariants.{Read}
-use Rattle.graph_model.specs.declared.graph.table.Kernel.TheVariants.{Axpy}
-use Rattle.graph_model.specs.graph.Graph.{space_at}
-use Rattle.graph_model.specs.graph.Access.{access, kernel_accesses}
-use Rattle.graph_model.specs.meaning.Effect.{Add, wrapped, seen}
+use Rattle.graph_terms.specs.declared.verb.Mode.TheVariants.{Read}
+use Rattle.graph_terms.specs.declared.table.Kernel.TheVariants.{Axpy}
+use Rattle.graph_terms.specs.Graph.{space_at}
+use Rattle.graph_terms.specs.Access.{access, kernel_accesses}
+use Rattle.graph_meaning.specs.Effect.{Add, wrapped, seen}
 use Rattle.index_spaces.proofs.WriteFacts.{held_again, holds_over}
 use Rattle.kernel_table.proofs.Seen.{cell_is_seen}
 use Rattle.kernel_table.proofs.axpy.run_axpy.Goals as goal

@@ -1,7 +1,7 @@
 use Rattle.std.proofs.Common.{◌≡◌, ◌+◌, ◌*◌, get_or, map}
 use Rattle.std.specs.Prelude.{sum}
 use Rattle.basics.specs.Lists.{numbers_below}
-use Rattle.graph_model.specs.meaning.Effect.{wrapped}
+use Rattle.graph_meaning.specs.Effect.{wrapped}
 use Rattle.kernel_table.proofs.dot.add_products.Given as goal
 
 abbrev pub invariant-loop-k : goal.invariant-loop-k

@@ -1,7 +1,7 @@
 use Rattle.std.proofs.Common.{◌≡◌, ◌*◌, take}
 use Rattle.index_spaces.specs.Space.{points}
 use Rattle.index_spaces.specs.Column.{cell_of}
-use Rattle.graph_model.specs.meaning.Effect.{wrapped_sum}
+use Rattle.graph_meaning.specs.Effect.{wrapped_sum}
 use Rattle.kernel_table.proofs.dot.dot_points.Given as goal
 
 abbrev pub invariant-loop-interval : goal.invariant-loop-interval

@@ -1,7 +1,7 @@
 use Rattle.std.proofs.Common.{◌<◌, ◌&&◌, nat_le, length, sym, ap, ◌∙◌, arith}
 use Rattle.index_spaces.specs.Space.{points}
 use Rattle.index_spaces.specs.Column.{cell_of}
-use Rattle.graph_model.specs.meaning.Effect.{all_within}
+use Rattle.graph_meaning.specs.Effect.{all_within}
 use Rattle.kernel_table.proofs.Sums.{all_more, all_fails}
 use Rattle.kernel_table.proofs.expect.points_within.Goals as goal
 

@@ -2,12 +2,12 @@ use Rattle.std.proofs.Common.{◌≡◌, ◌&&◌, if◌then◌else◌, nat_le, 
 use Rattle.index_spaces.specs.Space.{IsSpace, points}
 use Rattle.index_spaces.specs.Column.{cell_of}
 use Rattle.index_spaces.specs.Held.{held_at}
-use Rattle.graph_model.specs.declared.meaning.outcome.Verdict.TheVariants.{Fine, Fault}
-use Rattle.graph_model.specs.declared.graph.verb.Mode.TheVariants.{Read}
-use Rattle.graph_model.specs.declared.graph.table.Kernel.TheVariants.{Expect}
-use Rattle.graph_model.specs.graph.Graph.{space_at}
-use Rattle.graph_model.specs.graph.Access.{access, kernel_accesses}
-use Rattle.graph_model.specs.meaning.Effect.{all_within, seen}
+use Rattle.graph_terms.specs.declared.outcome.Verdict.TheVariants.{Fine, Fault}
+use Rattle.graph_terms.specs.declared.verb.Mode.TheVariants.{Read}
+use Rattle.graph_terms.specs.declared.table.Kernel.TheVariants.{Expect}
+use Rattle.graph_terms.specs.Graph.{space_at}
+use Rattle.graph_terms.specs.Access.{access, kernel_accesses}
+use Rattle.graph_meaning.specs.Effect.{all_within, seen}
 use Rattle.kernel_table.proofs.Seen.{cell_is_seen}
 use Rattle.kernel_table.proofs.Sums.{all_agree}
 use Rattle.kernel_table.proofs.expect.run_expect.Goals as goal

@@ -3,7 +3,7 @@ use Rattle.std.specs.Prelude.{count_by}
 use Rattle.index_spaces.specs.Space.{rank, space_size}
 use Rattle.index_spaces.specs.Column.{cell_of}
 use Rattle.index_spaces.specs.Run.{WritesPoints}
-use Rattle.graph_model.specs.meaning.Effect.{wrapped}
+use Rattle.graph_meaning.specs.Effect.{wrapped}
 use Rattle.kernel_table.specs.Kernels.{column_over}
 use Rattle.kernel_table.proofs.hist.count_all.Given as goal
 

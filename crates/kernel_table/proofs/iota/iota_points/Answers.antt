@@ -1,6 +1,6 @@
 use Rattle.std.proofs.Common.{◌≡◌, ◌+◌, ◌-◌, ◌<◌, ◌≤◌, length, get_or, take, drop, ap, ◌∙◌, arith}
 use Rattle.index_spaces.specs.Space.{IsSpace, IsWithin, rank}
-use Rattle.graph_model.specs.meaning.Effect.{wrapped}
+use Rattle.graph_meaning.specs.Effect.{wrapped}
 use Rattle.index_spaces.proofs.RunFacts.{length_cut}
 use Rattle.kernel_table.proofs.Runs.{run_step, place_in, wrapped_twice}
 use Rattle.kernel_table.proofs.iota.iota_points.Goals as goal

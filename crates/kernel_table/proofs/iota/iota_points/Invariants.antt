@@ -1,6 +1,6 @@
 use Rattle.std.proofs.Common.{◌+◌, take}
 use Rattle.index_spaces.specs.Space.{rank}
-use Rattle.graph_model.specs.meaning.Effect.{wrapped}
+use Rattle.graph_meaning.specs.Effect.{wrapped}
 use Rattle.kernel_table.proofs.Runs.{WritesSoFar}
 use Rattle.kernel_table.proofs.iota.iota_points.Given as goal
 

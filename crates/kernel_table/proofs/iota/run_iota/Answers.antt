@@ -1,7 +1,7 @@
 use Rattle.std.proofs.Common.{◌≡◌, ◌+◌, length, refl, sym, arith}
 use Rattle.index_spaces.specs.Space.{IsSpace, rank}
-use Rattle.graph_model.specs.graph.Graph.{space_at}
-use Rattle.graph_model.specs.meaning.Effect.{Set, wrapped}
+use Rattle.graph_terms.specs.Graph.{space_at}
+use Rattle.graph_meaning.specs.Effect.{Set, wrapped}
 use Rattle.index_spaces.proofs.WriteFacts.{held_again}
 use Rattle.kernel_table.proofs.iota.run_iota.Goals as goal
 

@@ -3,11 +3,11 @@ use Rattle.std.specs.Prelude.{filter}
 use Rattle.index_spaces.specs.Space.{IsSpace, points}
 use Rattle.index_spaces.specs.Column.{cell_of}
 use Rattle.index_spaces.specs.Held.{held_at}
-use Rattle.graph_model.specs.declared.graph.verb.Mode.TheVariants.{Read}
-use Rattle.graph_model.specs.declared.graph.table.Kernel.TheVariants.{Scan}
-use Rattle.graph_model.specs.graph.Graph.{space_at}
-use Rattle.graph_model.specs.graph.Access.{access, kernel_accesses}
-use Rattle.graph_model.specs.meaning.Effect.{Set, wrapped, wrapped_sum, seen}
+use Rattle.graph_terms.specs.declared.verb.Mode.TheVariants.{Read}
+use Rattle.graph_terms.specs.declared.table.Kernel.TheVariants.{Scan}
+use Rattle.graph_terms.specs.Graph.{space_at}
+use Rattle.graph_terms.specs.Access.{access, kernel_accesses}
+use Rattle.graph_meaning.specs.Effect.{Set, wrapped, wrapped_sum, seen}
 use Rattle.index_spaces.proofs.WriteFacts.{held_again}
 use Rattle.kernel_table.proofs.Seen.{cell_is_seen}
 use Rattle.kernel_table.proofs.Sums.{sum_agree, filtered_from}

@@ -2,7 +2,7 @@ use Rattle.std.proofs.Common.{◌≡◌, ◌+◌, ◌-◌, ◌<◌, ◌≤◌, n
 use Rattle.std.specs.Prelude.{filter}
 use Rattle.index_spaces.specs.Space.{IsSpace, IsWithin, points}
 use Rattle.index_spaces.specs.Column.{cell_of}
-use Rattle.graph_model.specs.meaning.Effect.{wrapped_sum}
+use Rattle.graph_meaning.specs.Effect.{wrapped_sum}
 use Rattle.index_spaces.proofs.RunFacts.{length_cut}
 use Rattle.kernel_table.proofs.Runs.{run_step, place_in, run_length}
 use Rattle.kernel_table.proofs.Sums.{scan_at, scan_more}

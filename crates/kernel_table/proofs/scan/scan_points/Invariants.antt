@@ -2,7 +2,7 @@ use Rattle.std.proofs.Common.{◌≡◌, take, nat_le}
 use Rattle.std.specs.Prelude.{filter}
 use Rattle.index_spaces.specs.Space.{points}
 use Rattle.index_spaces.specs.Column.{cell_of}
-use Rattle.graph_model.specs.meaning.Effect.{wrapped_sum}
+use Rattle.graph_meaning.specs.Effect.{wrapped_sum}
 use Rattle.kernel_table.proofs.Runs.{WritesSoFar}
 use Rattle.kernel_table.proofs.scan.scan_points.Given as goal
 

@@ -1,6 +1,6 @@
 use Rattle.std.proofs.Common.{◌≡◌, ℕ, ◌+◌, ◌<◌, get_or, take}
 use Rattle.std.specs.Prelude.{sum}
-use Rattle.graph_model.specs.meaning.Effect.{wrapped}
+use Rattle.graph_meaning.specs.Effect.{wrapped}
 use Rattle.kernel_table.proofs.scan.sum_along.Given as goal
 
 abbrev pub invariant-loop-k : goal.invariant-loop-k

@@ -2,7 +2,7 @@ use Rattle.std.proofs.Common.{◌≡◌, ◌+◌, ◌-◌, ◌^◌, ◌<◌, ◌
 use Rattle.std.specs.Prelude.{filter}
 use Rattle.index_spaces.specs.Space.{IsSpace, IsWithin, has_point}
 use Rattle.index_spaces.specs.Column.{cell_of}
-use Rattle.graph_model.specs.meaning.Effect.{wrapped_sum, around}
+use Rattle.graph_meaning.specs.Effect.{wrapped_sum, around}
 use Rattle.index_spaces.proofs.RunFacts.{length_cut}
 use Rattle.kernel_table.proofs.Runs.{run_step, place_in}
 use Rattle.kernel_table.proofs.Windows.{ends_fit}

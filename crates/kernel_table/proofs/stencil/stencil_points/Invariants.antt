@@ -2,7 +2,7 @@ use Rattle.std.proofs.Common.{take}
 use Rattle.std.specs.Prelude.{filter}
 use Rattle.index_spaces.specs.Space.{has_point}
 use Rattle.index_spaces.specs.Column.{cell_of}
-use Rattle.graph_model.specs.meaning.Effect.{around, wrapped_sum}
+use Rattle.graph_meaning.specs.Effect.{around, wrapped_sum}
 use Rattle.kernel_table.proofs.Runs.{WritesSoFar}
 use Rattle.kernel_table.proofs.stencil.stencil_points.Given as goal
 

@@ -2,7 +2,7 @@ use Rattle.std.proofs.Common.{◌≡◌, ℕ, ◌+◌, ◌<◌, get_or}
 use Rattle.std.specs.Prelude.{filter}
 use Rattle.index_spaces.specs.Space.{has_point}
 use Rattle.index_spaces.specs.Column.{cell_of}
-use Rattle.graph_model.specs.meaning.Effect.{around, wrapped_sum}
+use Rattle.graph_meaning.specs.Effect.{around, wrapped_sum}
 use Rattle.kernel_table.proofs.stencil.sum_each.Given as goal
 
 abbrev pub invariant-loop-k : goal.invariant-loop-k

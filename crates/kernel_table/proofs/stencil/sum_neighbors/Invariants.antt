@@ -1,5 +1,5 @@
 use Rattle.std.proofs.Common.{◌≡◌, ℕ, ◌+◌, ◌-◌, ◌<◌, get_or}
-use Rattle.graph_model.specs.meaning.Effect.{wrapped}
+use Rattle.graph_meaning.specs.Effect.{wrapped}
 use Rattle.kernel_table.proofs.stencil.sum_neighbors.Given as goal
 
 abbrev pub invariant-loop-k : goal.invariant-loop-k

@@ -2,7 +2,7 @@ use Rattle.std.proofs.Common.{◌≡◌, ◌+◌, ◌%◌, ◌^◌, sym, ap, ◌
 use Rattle.std.specs.Prelude.{filter}
 use Rattle.index_spaces.specs.Space.{has_point}
 use Rattle.index_spaces.specs.Column.{cell_of}
-use Rattle.graph_model.specs.meaning.Effect.{around, wrapped, wrapped_sum}
+use Rattle.graph_meaning.specs.Effect.{around, wrapped, wrapped_sum}
 use Rattle.kernel_table.proofs.Windows.{part, part_before, before_positive, window_sum}
 use Rattle.kernel_table.proofs.stencil.window.Goals as goal
 use Rattle.kernel_table.proofs.stencil.window.Goals.{then-point-eq0, else-point-eq0}

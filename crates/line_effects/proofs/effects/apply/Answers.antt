@@ -1,10 +1,10 @@
 use Rattle.std.proofs.Common.{sym, refl}
-use Rattle.graph_model.specs.declared.graph.verb.Mode.TheVariants.{Read, Write}
-use Rattle.graph_model.specs.declared.graph.verb.Verb.TheVariants.{Fill, Copy, Reduce, Task}
-use Rattle.graph_model.specs.declared.meaning.outcome.Verdict.TheVariants.{Fine}
-use Rattle.graph_model.specs.graph.Graph.{space_at}
-use Rattle.graph_model.specs.graph.Access.{access}
-use Rattle.graph_model.specs.meaning.Effect.{verb_changes}
+use Rattle.graph_terms.specs.declared.verb.Mode.TheVariants.{Read, Write}
+use Rattle.graph_terms.specs.declared.verb.Verb.TheVariants.{Fill, Copy, Reduce, Task}
+use Rattle.graph_terms.specs.declared.outcome.Verdict.TheVariants.{Fine}
+use Rattle.graph_terms.specs.Graph.{space_at}
+use Rattle.graph_terms.specs.Access.{access}
+use Rattle.graph_meaning.specs.Effect.{verb_changes}
 use Rattle.line_effects.proofs.EffectFacts.{reduced_mode, reduces_from, reduces_into, space_known, over_access, columns_apart, made, same_held, unchanged, fits_held, has_cells}
 use Rattle.line_effects.proofs.effects.apply.Goals as goal
 

@@ -1,5 +1,5 @@
 use Rattle.std.proofs.Common.{◌<◌, length, sym, subst}
-use Rattle.graph_model.specs.graph.Graph.{GraphValue}
+use Rattle.graph_terms.specs.Graph.{GraphValue}
 use Rattle.lock_engine.specs.Turns.{Attempt, work_in}
 use Rattle.lock_engine.proofs.TurnFacts.{turn_attempt, taken_work}
 use Rattle.lock_engine.proofs.SeatFacts.{keeps_place, has_work}

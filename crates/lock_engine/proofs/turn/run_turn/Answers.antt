@@ -1,7 +1,7 @@
 use Rattle.std.proofs.Common.{◌≡◌, ◌<◌, ℕ, Some, length, ◌∙◌, subst}
 use Rattle.std.specs.Prelude.{slice_get}
-use Rattle.graph_model.specs.graph.Graph.{GraphValue}
-use Rattle.graph_model.specs.meaning.Trace.{SectionsApart}
+use Rattle.graph_terms.specs.Graph.{GraphValue}
+use Rattle.graph_meaning.specs.Trace.{SectionsApart}
 use Rattle.lock_engine.proofs.turn.run_turn.Goals as goal
 
 pub returns-clause-lines : goal.returns-clause-lines

@@ -1,5 +1,5 @@
 use Rattle.std.proofs.Common.{◌≡◌, map, take}
-use Rattle.graph_model.specs.meaning.Evaluation.{answer_of}
+use Rattle.graph_meaning.specs.Evaluation.{answer_of}
 use Rattle.plain_eval.proofs.evaluation.answers_of.Given as goal
 
 abbrev pub invariant-loop-end : goal.invariant-loop-end

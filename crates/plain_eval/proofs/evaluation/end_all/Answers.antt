@@ -1,5 +1,5 @@
 use Rattle.std.proofs.Common.{◌≡◌, length, sym, subst, add-one, arith}
-use Rattle.graph_model.specs.meaning.Evaluation.{steps_after}
+use Rattle.graph_meaning.specs.Evaluation.{steps_after}
 use Rattle.plain_eval.specs.State.{IsState}
 use Rattle.plain_eval.proofs.evaluation.end_all.Goals as goal
 

@@ -1,4 +1,4 @@
-use Rattle.graph_model.specs.meaning.Evaluation.{steps_after}
+use Rattle.graph_meaning.specs.Evaluation.{steps_after}
 use Rattle.plain_eval.specs.State.{IsState}
 use Rattle.plain_eval.proofs.evaluation.end_all.Given as goal
 

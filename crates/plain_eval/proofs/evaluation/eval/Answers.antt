@@ -1,9 +1,9 @@
 use Rattle.std.proofs.Common.{◌≡◌, subst}
 use Rattle.std.specs.Prelude.{IfOk}
 use Rattle.std.proofs.lemmas.Result.{IfOk-weaker}
-use Rattle.graph_model.specs.meaning.Evaluation.{outcome, order}
-use Rattle.graph_model.specs.graph.Fits.{IsGraph}
-use Rattle.graph_model.specs.declared.meaning.outcome.End.TheVariants.{Cancelled, Waiting}
+use Rattle.graph_meaning.specs.Evaluation.{outcome, order}
+use Rattle.graph_terms.specs.Fits.{IsGraph}
+use Rattle.graph_terms.specs.declared.outcome.End.TheVariants.{Cancelled, Waiting}
 use Rattle.plain_eval.proofs.OrderFacts.{trace_of_lines}
 use Rattle.plain_eval.proofs.PhaseFacts.{end_given}
 use Rattle.plain_eval.proofs.evaluation.eval.Goals as goal

@@ -1,7 +1,7 @@
 use Rattle.std.proofs.Common.{◌∙◌, ap, map, length, arith}
 use Rattle.std.proofs.lemmas.List.{length-map}
 use Rattle.std.proofs.lemmas.List.FromFn.{length-map-range_with_len}
-use Rattle.graph_model.specs.meaning.Evaluation.{Step, answer_of, eval_end, phase_value, cells_of, evaluation}
+use Rattle.graph_meaning.specs.Evaluation.{Step, answer_of, eval_end, phase_value, cells_of, evaluation}
 use Rattle.plain_eval.proofs.PhaseFacts.{few_steps, outcome_from, columns_from, all_some}
 use Rattle.plain_eval.proofs.evaluation.outcome_of.Goals as goal
 

@@ -1,6 +1,6 @@
 use Rattle.std.proofs.Common.{◌<◌, ◌∙◌, ap, length, arith}
 use Rattle.std.proofs.lemmas.List.FromFn.{length-map-range_with_len}
-use Rattle.graph_model.specs.meaning.Evaluation.{eval_end}
+use Rattle.graph_meaning.specs.Evaluation.{eval_end}
 use Rattle.plain_eval.proofs.PhaseFacts.{first_more}
 use Rattle.plain_eval.proofs.StateFacts.{end_shown}
 use Rattle.plain_eval.proofs.phases.first_reductions.Goals as goal

@@ -1,7 +1,7 @@
 use Rattle.std.proofs.Common.{[], ◌∷◌, ◌++◌, ◌∙◌, sym, ap, arith}
 use Rattle.std.proofs.lemmas.List.FromFn.{map-range_with_len_more}
-use Rattle.graph_model.specs.declared.meaning.outcome.End.TheVariants.{Waiting}
-use Rattle.graph_model.specs.meaning.Evaluation.{end_in}
+use Rattle.graph_terms.specs.declared.outcome.End.TheVariants.{Waiting}
+use Rattle.graph_meaning.specs.Evaluation.{end_in}
 use Rattle.plain_eval.proofs.state.all_waiting.Goals as goal
 
 pub loop-line-preserved : goal.loop-line-preserved

@@ -1,6 +1,6 @@
 use Rattle.std.proofs.Common.{ap, ◌∙◌, length}
 use Rattle.std.proofs.lemmas.List.FromFn.{length-map-range_with_len}
-use Rattle.graph_model.specs.meaning.Evaluation.{end_in}
+use Rattle.graph_meaning.specs.Evaluation.{end_in}
 use Rattle.plain_eval.proofs.state.end_line.Goals as goal
 
 pub is_cancelled-requires-clause-count : goal.is_cancelled-requires-clause-count

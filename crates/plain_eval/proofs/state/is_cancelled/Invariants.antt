@@ -1,8 +1,8 @@
 use Rattle.std.proofs.Common.{◌≡◌, List, false, length, map, take}
 use Rattle.std.specs.List.{list_any}
 use Rattle.basics.specs.Lists.{numbers_below}
-use Rattle.graph_model.specs.declared.graph.verb.Edge.{Edge}
-use Rattle.graph_model.specs.meaning.Evaluation.{Step, end_in, cancels}
+use Rattle.graph_terms.specs.declared.verb.Edge.{Edge}
+use Rattle.graph_meaning.specs.Evaluation.{Step, end_in, cancels}
 use Rattle.plain_eval.proofs.state.is_cancelled.Given as goal
 
 abbrev pub invariant-loop-edge : goal.invariant-loop-edge

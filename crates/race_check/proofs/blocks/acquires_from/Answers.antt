@@ -1,5 +1,5 @@
 use Rattle.std.proofs.Common.{◌≡◌, ◌+◌, ℕ, sym, subst, arith}
-use Rattle.graph_model.specs.meaning.Rules.{Releases}
+use Rattle.graph_terms.specs.Reservations.{Releases}
 use Rattle.race_check.specs.Blocks.{AreListed}
 use Rattle.race_check.proofs.BlockSteps.{listed_none, listed_more, acquire_is}
 use Rattle.race_check.proofs.blocks.acquires_from.Goals as goal

@@ -1,7 +1,7 @@
 use Rattle.std.proofs.Common.{◌+◌, ◌<◌, length, ℕ, sym, subst, arith, ◌∙◌}
 use Rattle.std.specs.Prelude.{None}
 use Rattle.std.proofs.lemmas.List.{get_or_read}
-use Rattle.graph_model.specs.meaning.Rules.{Releases}
+use Rattle.graph_terms.specs.Reservations.{Releases}
 use Rattle.race_check.specs.Blocks.{AreListed}
 use Rattle.race_check.proofs.BlockSteps.{listed_none, listed_more}
 use Rattle.race_check.proofs.blocks.releases_from.Goals as goal

@@ -1,4 +1,4 @@
-use Rattle.graph_model.specs.meaning.Rules.{Releases}
+use Rattle.graph_terms.specs.Reservations.{Releases}
 use Rattle.race_check.specs.Blocks.{AreListed}
 use Rattle.race_check.proofs.blocks.releases_from.Given as goal
 

@@ -1,5 +1,5 @@
 use Rattle.std.proofs.Common.{sym, ◌∙◌, arith}
-use Rattle.graph_model.specs.graph.Access.{accesses}
+use Rattle.graph_terms.specs.Access.{accesses}
 use Rattle.race_sweeps.proofs.AccessSteps.{no_more, few_accesses}
 use Rattle.race_check.proofs.AccessSteps.{first_more, first_all}
 use Rattle.race_check.proofs.conflicts.accesses_of.Goals as goal

@@ -1,5 +1,5 @@
 use Rattle.std.proofs.Common.{◌≡◌, take}
-use Rattle.graph_model.specs.graph.Access.{accesses}
+use Rattle.graph_terms.specs.Access.{accesses}
 use Rattle.race_check.proofs.conflicts.accesses_of.Given as goal
 
 abbrev pub invariant-loop-k : goal.invariant-loop-k

@@ -1,8 +1,8 @@
 use Rattle.std.proofs.Common.{◌≡◌, ◌+◌, ◌∷◌, [], ℕ, List, length, sym, ap, ◌∙◌, subst, length-append}
 use Rattle.std.specs.Prelude.{Some, Vec, slice_get}
 use Rattle.std.specs.Global.{Global}
-use Rattle.graph_model.specs.declared.graph.verb.Access.{Access}
-use Rattle.graph_model.specs.graph.Access.{accesses}
+use Rattle.graph_terms.specs.declared.verb.Access.{Access}
+use Rattle.graph_terms.specs.Access.{accesses}
 use Rattle.race_check.proofs.AccessSteps.{each_pushed}
 use Rattle.race_check.proofs.conflicts.accesses_of_lines.Goals as goal
 

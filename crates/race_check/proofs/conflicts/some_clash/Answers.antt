@@ -2,7 +2,7 @@ use Rattle.std.proofs.Common.{sym, arith}
 use Rattle.std.specs.Prelude.{Contains}
 use Rattle.std.specs.List.{slice_index_or}
 use Rattle.std.proofs.lemmas.Bool.{true≢false}
-use Rattle.graph_model.specs.declared.graph.verb.Access.{Access}
+use Rattle.graph_terms.specs.declared.verb.Access.{Access}
 use Rattle.race_check.specs.Races.{ListsClash}
 use Rattle.race_sweeps.specs.Clash.{Clash}
 use Rattle.race_sweeps.proofs.AccessSteps.{no_access, none_more, none_done, answer_no}

@@ -1,5 +1,5 @@
 use Rattle.std.specs.Prelude.{Contains}
-use Rattle.graph_model.specs.declared.graph.verb.Access.{Access}
+use Rattle.graph_terms.specs.declared.verb.Access.{Access}
 use Rattle.race_sweeps.specs.Clash.{Clash}
 use Rattle.race_sweeps.proofs.AccessSteps.{NoneAmong}
 use Rattle.race_check.proofs.conflicts.some_clash.Given as goal

@@ -1,5 +1,5 @@
 use Rattle.std.proofs.Common.{ℕ, ◌<◌}
-use Rattle.graph_model.specs.meaning.Rules.{NoCycleAt}
+use Rattle.graph_meaning.specs.Rules.{NoCycleAt}
 use Rattle.race_check.proofs.cycle.first_cycle.Given as goal
 
 abbrev pub invariant-loop-line : goal.invariant-loop-line

@@ -1,7 +1,7 @@
 use Rattle.std.proofs.Common.{false, sym, subst, arith}
 use Rattle.std.specs.Prelude.{IsTrue, ◌↔◌}
 use Rattle.std.proofs.lemmas.List.{get_or_read}
-use Rattle.graph_model.specs.meaning.Path.{HasPath}
+use Rattle.graph_meaning.specs.Path.{HasPath}
 use Rattle.race_check.proofs.Searching.{search_from, popped_below, popped_on, searched}
 use Rattle.race_check.proofs.cycle.has_path_to_itself.Goals as goal
 

@@ -1,5 +1,5 @@
 use Rattle.std.proofs.Common.{◌≡◌, ◌+◌, length}
-use Rattle.graph_model.specs.graph.Edges.{edges}
+use Rattle.graph_terms.specs.Edges.{edges}
 use Rattle.race_check.specs.Search.{IsSearching, marked_in, unmarked}
 use Rattle.race_check.proofs.cycle.has_path_to_itself.Given as goal
 

@@ -1,6 +1,6 @@
 use Rattle.std.proofs.Common.{◌≡◌, ◌+◌, inl, inr, subst, arith}
 use Rattle.std.proofs.lemmas.Bool.{cases_lt}
-use Rattle.graph_model.specs.meaning.Rules.{DescendsAt}
+use Rattle.graph_meaning.specs.Rules.{DescendsAt}
 use Rattle.race_check.proofs.Insides.{descends_none}
 use Rattle.race_check.proofs.descends.climbed_by.Goals as goal
 

@@ -1,5 +1,5 @@
 use Rattle.std.proofs.Common.{ℕ, ◌+◌, ◌<◌}
-use Rattle.graph_model.specs.meaning.Rules.{DescendsAt}
+use Rattle.graph_meaning.specs.Rules.{DescendsAt}
 use Rattle.race_check.proofs.descends.climbed_by.Given as goal
 
 abbrev pub invariant-loop-bit : goal.invariant-loop-bit

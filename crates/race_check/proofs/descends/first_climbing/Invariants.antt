@@ -1,5 +1,5 @@
 use Rattle.std.proofs.Common.{ℕ, ◌-◌, ◌<◌, length}
-use Rattle.graph_model.specs.meaning.Rules.{Everywhere, DescendsAt}
+use Rattle.graph_meaning.specs.Rules.{Everywhere, DescendsAt}
 use Rattle.race_check.proofs.descends.first_climbing.Given as goal
 
 abbrev pub invariant-loop-first : goal.invariant-loop-first

@@ -1,5 +1,5 @@
 use Rattle.std.proofs.Common.{◌≡◌, ◌+◌, ℕ, length, arith, sym, subst}
-use Rattle.graph_model.specs.meaning.Rules.{DescendsAt}
+use Rattle.graph_meaning.specs.Rules.{DescendsAt}
 use Rattle.race_check.proofs.BeyondLines.{descends_beyond}
 use Rattle.race_check.proofs.BlockSteps.{least_none, least_keep, least_take, least_fails, least_holds}
 use Rattle.race_check.specs.Blocks.{IsLeast}

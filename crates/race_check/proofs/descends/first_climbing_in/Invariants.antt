@@ -1,4 +1,4 @@
-use Rattle.graph_model.specs.meaning.Rules.{DescendsAt}
+use Rattle.graph_meaning.specs.Rules.{DescendsAt}
 use Rattle.race_check.specs.Blocks.{IsLeast}
 use Rattle.race_check.proofs.descends.first_climbing_in.Given as goal
 

@@ -1,5 +1,5 @@
 use Rattle.std.proofs.Common.{◌+◌, ◌<◌, ◌≤◌, ℕ}
-use Rattle.graph_model.specs.meaning.Rules.{Section}
+use Rattle.graph_meaning.specs.Rules.{Section}
 use Rattle.section_sweeps.specs.Sections.{AreHeldSoFar, IsGrown, IsKept}
 use Rattle.race_check.proofs.keeping.keep_block.Given as goal
 

@@ -1,5 +1,5 @@
 use Rattle.std.proofs.Common.{◌-◌, ◌<◌, ℕ, length}
-use Rattle.graph_model.specs.meaning.Rules.{Section}
+use Rattle.graph_meaning.specs.Rules.{Section}
 use Rattle.section_sweeps.specs.Sections.{AreHeldSoFar, IsKept}
 use Rattle.race_check.proofs.keeping.sections_of_lines.Given as goal
 

@@ -1,5 +1,5 @@
 use Rattle.std.proofs.Common.{◌≡◌, ◌+◌, subst, sym, ap, ◌∙◌}
-use Rattle.graph_model.specs.meaning.Need.{IsNeed}
+use Rattle.graph_meaning.specs.Need.{IsNeed}
 use Rattle.race_check.specs.Sweep.{IsTallyFor, most_open}
 use Rattle.race_check.proofs.NeedSteps.{tally_is_need}
 use Rattle.race_check.proofs.need.need_of.Goals as goal

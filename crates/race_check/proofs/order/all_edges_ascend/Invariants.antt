@@ -1,7 +1,7 @@
 use Rattle.std.proofs.Common.{◌<◌}
 use Rattle.std.specs.Prelude.{Contains}
-use Rattle.graph_model.specs.declared.graph.verb.Edge.{Edge}
-use Rattle.graph_model.specs.graph.Edges.{edges}
+use Rattle.graph_terms.specs.declared.verb.Edge.{Edge}
+use Rattle.graph_terms.specs.Edges.{edges}
 use Rattle.race_check.proofs.order.all_edges_ascend.Given as goal
 
 abbrev pub invariant-loop-line : goal.invariant-loop-line

@@ -1,5 +1,5 @@
 use Rattle.std.proofs.Common.{◌<◌, inl, inr, subst, arith}
-use Rattle.graph_model.specs.declared.graph.verb.Edge.{Edge}
+use Rattle.graph_terms.specs.declared.verb.Edge.{Edge}
 use Rattle.race_sweeps.proofs.Lists.{take_cases, take_whole}
 use Rattle.race_sweeps.proofs.Reaching.{no_edge}
 use Rattle.section_sweeps.proofs.Edging.{listed_into}

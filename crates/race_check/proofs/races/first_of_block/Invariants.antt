@@ -1,4 +1,4 @@
-use Rattle.graph_model.specs.meaning.Rules.{RaceAt}
+use Rattle.graph_meaning.specs.Rules.{RaceAt}
 use Rattle.race_check.specs.Blocks.{IsLeast}
 use Rattle.race_check.proofs.races.first_of_block.Given as goal
 

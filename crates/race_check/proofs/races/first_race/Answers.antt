@@ -1,5 +1,5 @@
 use Rattle.std.proofs.Common.{inl, length, arith}
-use Rattle.graph_model.specs.meaning.Rules.{RaceAt}
+use Rattle.graph_meaning.specs.Rules.{RaceAt}
 use Rattle.race_check.proofs.BeyondLines.{race_beyond}
 use Rattle.race_check.proofs.BlockSteps.{blocks_fail, blocks_more, pairs_hold, some_of, none_of}
 use Rattle.race_check.proofs.races.first_race.Goals as goal

@@ -1,5 +1,5 @@
 use Rattle.std.proofs.Common.{ℕ, ◌-◌, ◌<◌, length}
-use Rattle.graph_model.specs.meaning.Rules.{Everywhere, RaceAt}
+use Rattle.graph_meaning.specs.Rules.{Everywhere, RaceAt}
 use Rattle.race_check.proofs.races.first_race.Given as goal
 
 abbrev pub invariant-loop-first : goal.invariant-loop-first

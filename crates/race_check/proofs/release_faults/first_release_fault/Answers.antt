@@ -1,5 +1,5 @@
 use Rattle.std.proofs.Common.{arith}
-use Rattle.graph_model.specs.meaning.Rules.{ReleaseFaultAt}
+use Rattle.graph_meaning.specs.Rules.{ReleaseFaultAt}
 use Rattle.race_check.proofs.RuleSteps.{everywhere_by, below_with}
 use Rattle.race_check.proofs.BeyondLines.{fault_beyond}
 use Rattle.race_check.proofs.release_faults.first_release_fault.Goals as goal

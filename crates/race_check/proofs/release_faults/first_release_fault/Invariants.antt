@@ -1,5 +1,5 @@
 use Rattle.std.proofs.Common.{ℕ, ◌<◌}
-use Rattle.graph_model.specs.meaning.Rules.{ReleaseFaultAt}
+use Rattle.graph_meaning.specs.Rules.{ReleaseFaultAt}
 use Rattle.race_check.proofs.release_faults.first_release_fault.Given as goal
 
 abbrev pub invariant-loop-line : goal.invariant-loop-line

@@ -1,5 +1,5 @@
 use Rattle.std.proofs.Common.{◌≡◌, ◌+◌, ◌<◌, ℕ, length, sym, subst, arith}
-use Rattle.graph_model.specs.meaning.Rules.{ReleasedAt}
+use Rattle.graph_meaning.specs.Rules.{ReleasedAt}
 use Rattle.race_check.specs.Blocks.{AreListed}
 use Rattle.race_check.proofs.BeyondLines.{released_beyond}
 use Rattle.race_check.proofs.BlockSteps.{passed_on, few_listed, lines_known, first_found, lines_more}

@@ -1,5 +1,5 @@
 use Rattle.std.proofs.Common.{ℕ, ◌-◌, ◌<◌, length}
-use Rattle.graph_model.specs.meaning.Rules.{ReleasedAt}
+use Rattle.graph_meaning.specs.Rules.{ReleasedAt}
 use Rattle.race_check.proofs.releases.first_unreleased.Given as goal
 
 abbrev pub invariant-loop-first : goal.invariant-loop-first

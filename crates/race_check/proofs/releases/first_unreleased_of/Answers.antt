@@ -1,6 +1,6 @@
 use Rattle.std.proofs.Common.{◌≡◌, inl, inr, sym, ◌∙◌, subst, arith}
 use Rattle.std.proofs.lemmas.Bool.{true≢false, cases_lt}
-use Rattle.graph_model.specs.meaning.Rules.{ReleasedAt}
+use Rattle.graph_meaning.specs.Rules.{ReleasedAt}
 use Rattle.race_check.proofs.releases.first_unreleased_of.Goals as goal
 
 pub is_released-requires-clause-behind : goal.is_released-requires-clause-behind

@@ -1,5 +1,5 @@
 use Rattle.std.proofs.Common.{ℕ, ◌<◌, ◌≤◌}
-use Rattle.graph_model.specs.meaning.Rules.{ReleasedAt}
+use Rattle.graph_meaning.specs.Rules.{ReleasedAt}
 use Rattle.race_check.proofs.releases.first_unreleased_of.Given as goal
 
 abbrev pub invariant-loop-line : goal.invariant-loop-line

@@ -1,5 +1,5 @@
 use Rattle.std.proofs.Common.{inl, length, arith}
-use Rattle.graph_model.specs.meaning.Rules.{SectionAt}
+use Rattle.graph_meaning.specs.Rules.{SectionAt}
 use Rattle.race_check.proofs.BeyondLines.{section_beyond}
 use Rattle.race_check.proofs.BlockSteps.{blocks_fail, blocks_more, pairs_hold, some_of, none_of}
 use Rattle.race_check.proofs.sections.first_outside.Goals as goal

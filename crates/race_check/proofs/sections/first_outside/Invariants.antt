@@ -1,5 +1,5 @@
 use Rattle.std.proofs.Common.{ℕ, ◌-◌, ◌<◌, length}
-use Rattle.graph_model.specs.meaning.Rules.{Everywhere, SectionAt}
+use Rattle.graph_meaning.specs.Rules.{Everywhere, SectionAt}
 use Rattle.race_check.proofs.sections.first_outside.Given as goal
 
 abbrev pub invariant-loop-first : goal.invariant-loop-first

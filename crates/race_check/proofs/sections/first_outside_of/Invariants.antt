@@ -1,4 +1,4 @@
-use Rattle.graph_model.specs.meaning.Rules.{SectionAt}
+use Rattle.graph_meaning.specs.Rules.{SectionAt}
 use Rattle.race_check.specs.Blocks.{IsLeast}
 use Rattle.race_check.proofs.sections.first_outside_of.Given as goal
 

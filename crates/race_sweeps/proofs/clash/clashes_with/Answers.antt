@@ -1,6 +1,6 @@
 use Rattle.std.proofs.Common.{sym}
 use Rattle.std.proofs.lemmas.Bool.{true≢false}
-use Rattle.graph_model.specs.graph.Access.{accesses}
+use Rattle.graph_terms.specs.Access.{accesses}
 use Rattle.race_sweeps.specs.Clash.{Clash}
 use Rattle.race_sweeps.proofs.AccessSteps.{access_read, none_more}
 use Rattle.race_sweeps.proofs.clash.clashes_with.Goals as goal

@@ -1,4 +1,4 @@
-use Rattle.graph_model.specs.graph.Access.{accesses}
+use Rattle.graph_terms.specs.Access.{accesses}
 use Rattle.race_sweeps.specs.Clash.{Clash}
 use Rattle.race_sweeps.proofs.AccessSteps.{NoneAmong}
 use Rattle.race_sweeps.proofs.clash.clashes_with.Given as goal

@@ -1,8 +1,8 @@
 use Rattle.std.proofs.Common.{sym, ◌∙◌, arith}
 use Rattle.std.specs.Prelude.{Contains}
 use Rattle.std.proofs.lemmas.Bool.{true≢false}
-use Rattle.graph_model.specs.declared.graph.verb.Access.{Access}
-use Rattle.graph_model.specs.graph.Access.{accesses}
+use Rattle.graph_terms.specs.declared.verb.Access.{Access}
+use Rattle.graph_terms.specs.Access.{accesses}
 use Rattle.race_sweeps.specs.Clash.{Clash, LinesClash}
 use Rattle.race_sweeps.proofs.AccessSteps.{access_read, none_more, none_left, none_done, answer_no, answer_yes, few_accesses}
 use Rattle.race_sweeps.proofs.clash.lines_clash.Goals as goal

@@ -1,6 +1,6 @@
 use Rattle.std.specs.Prelude.{Contains}
-use Rattle.graph_model.specs.declared.graph.verb.Access.{Access}
-use Rattle.graph_model.specs.graph.Access.{accesses}
+use Rattle.graph_terms.specs.declared.verb.Access.{Access}
+use Rattle.graph_terms.specs.Access.{accesses}
 use Rattle.race_sweeps.specs.Clash.{Clash}
 use Rattle.race_sweeps.proofs.AccessSteps.{NoneAmong}
 use Rattle.race_sweeps.proofs.clash.lines_clash.Given as goal

@@ -1,10 +1,9 @@
-use Rattle.std.proofs.Common.{◌<◌, length, ap, sym, ◌∙◌, subst, arith}
-use Rattle.std.proofs.Common.{ℕ}
+use Rattle.std.proofs.Common.{◌<◌, length, ap, sym, ◌∙◌, subst, arith, ℕ}
 use Rattle.std.specs.Prelude.{Vec, slice_index}
 use Rattle.std.specs.Global.{Global}
 use Rattle.std.proofs.lemmas.Option.{same_Some}
 use Rattle.std.proofs.lemmas.List.{length-set}
-use Rattle.graph_model.specs.declared.graph.verb.Access.{Access}
+use Rattle.graph_terms.specs.declared.verb.Access.{Access}
 use Rattle.race_sweeps.specs.Scan.{HasHard, IsHardTo}
 use Rattle.race_sweeps.proofs.Hardening.{near_read, same_use, hard_set, key_read}
 use Rattle.race_sweeps.proofs.hard.harden.Goals as goal

@@ -1,5 +1,5 @@
 use Rattle.std.proofs.Common.{inl, inr, ap}
-use Rattle.graph_model.specs.graph.Access.{is_reduction}
+use Rattle.graph_terms.specs.Access.{is_reduction}
 use Rattle.race_sweeps.proofs.hard.is_hard.Goals as goal
 
 pub returns-in-Sum : goal.returns-in-Sum

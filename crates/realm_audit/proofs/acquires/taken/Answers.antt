@@ -1,5 +1,5 @@
 use Rattle.std.proofs.Common.{sym, ◌∙◌, arith}
-use Rattle.graph_model.specs.declared.meaning.outcome.End.TheVariants.{Done}
+use Rattle.graph_terms.specs.declared.outcome.End.TheVariants.{Done}
 use Rattle.realm_audit.proofs.EndFacts.{end_at, ends_size}
 use Rattle.realm_audit.proofs.acquires.taken.Goals as goal
 

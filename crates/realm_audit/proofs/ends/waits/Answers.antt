@@ -1,7 +1,7 @@
 use Rattle.std.proofs.Common.{sym, ◌∙◌, refl}
 use Rattle.std.proofs.lemmas.Bool.{true≢false}
 use Rattle.std.proofs.lemmas.Option.{same_Some}
-use Rattle.graph_model.specs.declared.meaning.outcome.End.TheVariants.{Waiting}
+use Rattle.graph_terms.specs.declared.outcome.End.TheVariants.{Waiting}
 use Rattle.realm_audit.proofs.ends.waits.Goals as goal
 
 pub returns-in-Waiting : goal.returns-in-Waiting

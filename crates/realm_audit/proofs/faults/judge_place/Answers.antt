@@ -1,5 +1,5 @@
 use Rattle.std.proofs.Common.{sym, ◌∙◌, arith}
-use Rattle.graph_model.specs.declared.meaning.outcome.End.TheVariants.{Waiting}
+use Rattle.graph_terms.specs.declared.outcome.End.TheVariants.{Waiting}
 use Rattle.realm_audit.specs.Lawful.{IsSourceFaultAt, IsOverlapAt}
 use Rattle.realm_audit.specs.Prefix.{IsLate, IsRival}
 use Rattle.realm_audit.proofs.EndFacts.{ends_size, end_at, not_wait_at}

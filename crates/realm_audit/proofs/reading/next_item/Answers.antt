@@ -1,7 +1,7 @@
 use Rattle.std.proofs.Common.{◌≡◌, ◌∙◌, subst}
 use Rattle.std.specs.Prelude.{codes, Some, None}
 use Rattle.std.proofs.lemmas.Option.{none-some, same_Some}
-use Rattle.graph_model.specs.graph.Names.{StandsFor}
+use Rattle.graph_terms.specs.Names.{StandsFor}
 use Rattle.realm_audit.proofs.LineNames.{found_line, found_other}
 use Rattle.realm_audit.proofs.Fronts.{stripped}
 use Rattle.realm_audit.proofs.TraceTexts.{no_item, misnamed, none_given, item_is}

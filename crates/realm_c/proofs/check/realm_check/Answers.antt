@@ -1,5 +1,5 @@
 use Rattle.std.proofs.Common.{sym, subst, ap, inr, ◌∙◌}
-use Rattle.graph_model.specs.meaning.Need.{IsNeed}
+use Rattle.graph_meaning.specs.Need.{IsNeed}
 use Rattle.realm_c.specs.Refusals.{status_of}
 use Rattle.realm_c.proofs.check.realm_check.Goals as goal
 

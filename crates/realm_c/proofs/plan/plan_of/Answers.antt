@@ -1,5 +1,5 @@
 use Rattle.std.proofs.Common.{◌≡◌, [], refl, sym, ap, ◌∙◌, subst}
-use Rattle.graph_model.specs.graph.Graph.{GraphValue}
+use Rattle.graph_terms.specs.Graph.{GraphValue}
 use Rattle.realm_timeline.specs.Text.{timeline_text}
 use Rattle.graph_answers.specs.Answer.{IsTimelineText}
 use Rattle.graph_answers.proofs.Timelines.{timeline_certified}

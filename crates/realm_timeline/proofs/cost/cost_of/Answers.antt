@@ -1,7 +1,6 @@
-use Rattle.std.proofs.Common.{sym, ◌∙◌, arith}
-use Rattle.graph_model.specs.graph.Access.{accesses}
+use Rattle.std.proofs.Common.{sym, ◌∙◌, arith, ap}
+use Rattle.graph_terms.specs.Access.{accesses}
 use Rattle.basics.proofs.ListFacts.{got_contains}
-use Rattle.std.proofs.Common.{ap}
 use Rattle.index_spaces.specs.Space.{space_size}
 use Rattle.realm_timeline.proofs.CostFacts.{cost_more, cost_whole, no_more}
 use Rattle.realm_timeline.proofs.cost.cost_of.Goals as goal

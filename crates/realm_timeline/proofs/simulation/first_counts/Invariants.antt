@@ -1,6 +1,6 @@
 use Rattle.std.proofs.Common.{◌≡◌, ◌<◌, ◌+◌, ℕ, length}
 use Rattle.std.specs.Prelude.{slice_index}
-use Rattle.graph_model.specs.graph.Edges.{edges_into}
+use Rattle.graph_terms.specs.Edges.{edges_into}
 use Rattle.realm_timeline.proofs.simulation.first_counts.Given as goal
 
 abbrev pub invariant-loop-line : goal.invariant-loop-line

@@ -1,7 +1,7 @@
 use Rattle.std.proofs.Common.{◌≡◌, ◌<◌, ℕ, length, ◌∙◌, ap, subst}
 use Rattle.std.specs.Prelude.{None}
-use Rattle.graph_model.specs.graph.Graph.{GraphValue}
-use Rattle.graph_model.specs.meaning.Path.{Reached}
+use Rattle.graph_terms.specs.Graph.{GraphValue}
+use Rattle.graph_meaning.specs.Path.{Reached}
 use Rattle.realm_timeline.specs.Plan.{slot_at, plan_length, total_cost}
 use Rattle.realm_timeline.proofs.TotalFacts.{at_least, at_most, critical_lines}
 use Rattle.realm_timeline.proofs.timeline.plan.Goals as goal

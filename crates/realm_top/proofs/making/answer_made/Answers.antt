@@ -1,5 +1,5 @@
 use Rattle.std.proofs.Common.{sym, subst, arith}
-use Rattle.graph_model.specs.meaning.Rules.{Accepted}
+use Rattle.graph_meaning.specs.Rules.{Accepted}
 use Rattle.graph_gen.specs.MadeGraph.{made_graph}
 use Rattle.graph_answers.specs.Answer.{Judged}
 use Rattle.realm_top.specs.Answer.{MadeAnswers, purpose}

@@ -1,6 +1,6 @@
 use Rattle.std.proofs.Common.{ap}
 use Rattle.std.specs.Prelude.{codes, decimal}
-use Rattle.graph_model.specs.graph.Spelling.{column_name}
+use Rattle.graph_terms.specs.Spelling.{column_name}
 use Rattle.explain_text.specs.Lines.{by_number}
 use Rattle.refusal_text.specs.Refused.{mode_word}
 use Rattle.explain_text.proofs.TextFacts.{then_puts, put_as}

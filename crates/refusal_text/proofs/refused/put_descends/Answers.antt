@@ -1,7 +1,7 @@
 use Rattle.std.proofs.Common.{ap}
 use Rattle.std.specs.Prelude.{codes}
 use Rattle.basics.specs.Words.{contents}
-use Rattle.graph_model.specs.graph.Spelling.{lock_name}
+use Rattle.graph_terms.specs.Spelling.{lock_name}
 use Rattle.explain_text.specs.Lines.{numbered, edges_text}
 use Rattle.refusal_text.specs.Refused.{refused_two}
 use Rattle.explain_text.proofs.TextFacts.{then_puts, put_as}

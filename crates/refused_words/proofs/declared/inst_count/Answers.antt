@@ -1,6 +1,6 @@
 use Rattle.std.proofs.Common.{◌≡◌, ◌+◌, cond, get_or, sym, ◌∙◌, ap, arith}
 use Rattle.std.proofs.lemmas.Option.{get_or_from_slice_get}
-use Rattle.graph_model.specs.graph.Fits.{is_inst}
+use Rattle.graph_terms.specs.Fits.{is_inst}
 use Rattle.refused_words.proofs.LimitFacts.{insts_next}
 use Rattle.refused_words.proofs.declared.inst_count.Goals as goal
 

@@ -1,6 +1,6 @@
 use Rattle.std.proofs.Common.{◌≡◌, ◌≤◌, take, length}
 use Rattle.std.specs.Prelude.{filter}
-use Rattle.graph_model.specs.graph.Fits.{is_inst}
+use Rattle.graph_terms.specs.Fits.{is_inst}
 use Rattle.refused_words.proofs.declared.inst_count.Given as goal
 
 abbrev pub invariant-loop-d : goal.invariant-loop-d

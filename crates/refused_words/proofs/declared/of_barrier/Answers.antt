@@ -1,4 +1,4 @@
-use Rattle.graph_model.specs.declared.graph.limits.TheConstants.{MAX_BARRIERS}
+use Rattle.graph_terms.specs.declared.limits.TheConstants.{MAX_BARRIERS}
 use Rattle.graph_reader.specs.Draft.{op_of}
 use Rattle.std.proofs.Common.{◌≡◌, ◌+◌, true, [], ◌∷◌, length, sym, ◌∙◌, ap, arith}
 use Rattle.std.specs.Prelude.{option_map, codes, is_some, slice_index_or}

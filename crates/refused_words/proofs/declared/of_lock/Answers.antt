@@ -1,4 +1,4 @@
-use Rattle.graph_model.specs.declared.graph.limits.TheConstants.{MAX_LOCKS}
+use Rattle.graph_terms.specs.declared.limits.TheConstants.{MAX_LOCKS}
 use Rattle.std.proofs.Common.{◌≡◌, ◌+◌, [], ◌∷◌, length, ◌∙◌, ap, arith}
 use Rattle.std.specs.Prelude.{option_map, codes}
 use Rattle.std.proofs.lemmas.List.{length-map}

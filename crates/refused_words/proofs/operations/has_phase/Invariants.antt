@@ -1,7 +1,7 @@
 use Rattle.std.proofs.Common.{◌≡◌, ◌≤◌, length, take}
 use Rattle.std.specs.Prelude.{None}
-use Rattle.graph_model.specs.graph.Graph.{is_phase_of}
-use Rattle.graph_model.specs.graph.Edges.{last_place}
+use Rattle.graph_terms.specs.Graph.{is_phase_of}
+use Rattle.graph_terms.specs.Edges.{last_place}
 use Rattle.refused_words.proofs.operations.has_phase.Given as goal
 
 abbrev pub invariant-loop-i : goal.invariant-loop-i

@@ -1,7 +1,7 @@
 use Rattle.std.proofs.Common.{◌≡◌, ◌<◌, false, length, ◌∙◌, ap, sym, arith}
 use Rattle.std.specs.Option.{option_map_or}
 use Rattle.basics.specs.Words.{contents}
-use Rattle.graph_model.specs.graph.Table.{kind_places}
+use Rattle.graph_terms.specs.Table.{kind_places}
 use Rattle.refused_words.specs.Refused.{leaves_column}
 use Rattle.refused_words.specs.Uses.{use_at}
 use Rattle.refused_words.proofs.UseFacts.{any_use, no_use}

@@ -4,10 +4,10 @@ use Rattle.std.specs.List.{list_all}
 use Rattle.std.specs.Option.{option_map_or}
 use Rattle.std.proofs.lemmas.Option.{slice_get_past}
 use Rattle.index_spaces.specs.Space.{IsWithin, has_point, points}
-use Rattle.graph_model.specs.declared.graph.verb.Mode.TheVariants.{Read}
-use Rattle.graph_model.specs.graph.Access.{access}
-use Rattle.graph_model.specs.graph.Graph.{space_at, columns}
-use Rattle.graph_model.proofs.FaultLaws.{outside_is}
+use Rattle.graph_terms.specs.declared.verb.Mode.TheVariants.{Read}
+use Rattle.graph_terms.specs.Access.{access}
+use Rattle.graph_terms.specs.Graph.{space_at, columns}
+use Rattle.graph_terms.proofs.FaultLaws.{outside_is}
 use Rattle.refused_words.proofs.UseFacts.{none_within}
 use Rattle.refused_words.proofs.outside.is_outside.Goals as goal
 

@@ -1,5 +1,5 @@
 use Rattle.std.proofs.Common.{◌≡◌, length, take}
-use Rattle.graph_model.specs.graph.Graph.{columns}
+use Rattle.graph_terms.specs.Graph.{columns}
 use Rattle.run_state.specs.WholeLine.{column_list}
 use Rattle.run_core.specs.Kept.{takers_with}
 use Rattle.run_core.proofs.columns.note_taker.Given as goal

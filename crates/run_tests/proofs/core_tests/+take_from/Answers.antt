@@ -1,5 +1,5 @@
 use Rattle.std.proofs.Common.{length, refl, sym, ap, subst, arith}
-use Rattle.graph_model.specs.graph.Graph.{GraphValue}
+use Rattle.graph_terms.specs.Graph.{GraphValue}
 use Rattle.run_core.specs.WhatIsOut.{OneMoreOut}
 use Rattle.run_tests.proofs.Driving.{same_further, same_untaken, same_after, stays_after}
 use Rattle.run_tests.proofs.core_tests.+take_from.Goals as goal

@@ -1,5 +1,5 @@
 use Rattle.std.proofs.Common.{◌≡◌, ◌≤◌, length, sym, ◌∙◌, ap, arith}
-use Rattle.graph_model.specs.graph.Graph.{GraphValue}
+use Rattle.graph_terms.specs.Graph.{GraphValue}
 use Rattle.run_words.specs.Words.{graph_of}
 use Rattle.run_words.proofs.Rejoining.{rejoined_at_first, rejoined_further}
 use Rattle.run_tests.proofs.word_tests.drive.Goals as goal

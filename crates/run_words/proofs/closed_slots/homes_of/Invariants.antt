@@ -3,7 +3,7 @@ use mathlib.Core.Option.{some}
 use lib.ListN.{get_elem?}
 use Rattle.std.specs.Prelude.{Some, None, slice_get}
 use Rattle.std.specs.Slots.{slots_items, slots_len, slots_filled}
-use Rattle.graph_model.specs.graph.Graph.{columns}
+use Rattle.graph_terms.specs.Graph.{columns}
 use Rattle.index_spaces.specs.Column.{ColumnValue}
 use Rattle.run_words.specs.declared.content.Content.TheVariants.{Cells}
 use Rattle.run_words.specs.Layout.{size_of, column_slot, slot_count}

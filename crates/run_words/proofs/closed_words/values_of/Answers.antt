@@ -3,7 +3,7 @@ use Rattle.std.specs.Prelude.{Some, slice_get, slice_index}
 use Rattle.std.specs.Slots.{slots_items}
 use Rattle.std.proofs.lemmas.Bool.{cases_eq}
 use Rattle.std.proofs.lemmas.List.{length-set}
-use Rattle.graph_model.specs.graph.Graph.{verb_at}
+use Rattle.graph_terms.specs.Graph.{verb_at}
 use Rattle.run_core.proofs.MarkFacts.{set_get, set_get_other}
 use Rattle.run_words.specs.Layout.{size_of, value_word}
 use Rattle.run_words.specs.Reading.{value_for}

@@ -1,7 +1,7 @@
 use Rattle.std.proofs.Common.{◌≡◌, ◌<◌, ℕ, length}
 use Rattle.std.specs.Prelude.{Some, slice_get, slice_index}
 use Rattle.std.specs.Slots.{slots_items}
-use Rattle.graph_model.specs.graph.Graph.{verb_at}
+use Rattle.graph_terms.specs.Graph.{verb_at}
 use Rattle.run_words.specs.Layout.{size_of, value_word}
 use Rattle.run_words.specs.Reading.{value_for}
 use Rattle.run_words.proofs.closed_words.values_of.Given as goal

@@ -1,6 +1,6 @@
 use Rattle.std.proofs.Common.{arith, ◌<◌, length, ◌∙◌, sym}
 use Rattle.std.proofs.lemmas.Option.{same_Some}
-use Rattle.graph_model.specs.graph.Graph.{columns}
+use Rattle.graph_terms.specs.Graph.{columns}
 use Rattle.run_words.specs.declared.content.Content.TheVariants.{Cells}
 use Rattle.run_words.proofs.HomeFacts.{none_out, one_out}
 use Rattle.run_words.proofs.PrepareFacts.{loose_push, home_push}

@@ -1,6 +1,6 @@
 use Rattle.std.proofs.Common.{◌≤◌, ◌+◌, length}
 use Rattle.std.specs.Vec.{vec_capacity}
-use Rattle.graph_model.specs.graph.Graph.{columns}
+use Rattle.graph_terms.specs.Graph.{columns}
 use Rattle.run_words.specs.Preparing.{AreHome, AreLoose, AreOutBelow}
 use Rattle.run_words.proofs.preparing.move_columns.Given as goal
 

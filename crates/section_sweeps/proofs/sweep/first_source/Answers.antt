@@ -2,7 +2,7 @@ use Rattle.std.proofs.Common.{◌≤◌, inl, inr, subst, arith}
 use Rattle.std.specs.Prelude.{slice_index}
 use Rattle.std.specs.List.{slice_index_or}
 use Rattle.std.proofs.lemmas.List.{get_or_read}
-use Rattle.graph_model.specs.declared.graph.verb.Edge.{Edge}
+use Rattle.graph_terms.specs.declared.verb.Edge.{Edge}
 use Rattle.race_sweeps.proofs.Lists.{take_cases, take_whole}
 use Rattle.race_sweeps.proofs.Reaching.{no_edge, edge_in}
 use Rattle.section_sweeps.proofs.Edging.{listed_into}

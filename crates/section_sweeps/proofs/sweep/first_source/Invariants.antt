@@ -1,6 +1,6 @@
 use Rattle.std.proofs.Common.{◌≤◌, take}
 use Rattle.std.specs.Prelude.{Contains, slice_index}
-use Rattle.graph_model.specs.declared.graph.verb.Edge.{Edge}
+use Rattle.graph_terms.specs.declared.verb.Edge.{Edge}
 use Rattle.section_sweeps.proofs.sweep.first_source.Given as goal
 
 abbrev pub invariant-loop-edge : goal.invariant-loop-edge

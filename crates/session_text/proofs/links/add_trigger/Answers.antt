@@ -1,6 +1,6 @@
 use Rattle.std.proofs.Common.{ap, sym, ◌∙◌}
 use Rattle.std.proofs.lemmas.Result.{IfOk-weaker, on_ok_weaker}
-use Rattle.graph_model.specs.graph.Fits.{is_used, with_line}
+use Rattle.graph_terms.specs.Fits.{is_used, with_line}
 use Rattle.std.specs.Prelude.{not}
 use Rattle.session_text.proofs.Naming.{line_there, line_not_there, never_fits}
 use Rattle.session_text.proofs.links.add_trigger.Goals as goal

@@ -1,6 +1,6 @@
 use Rattle.std.proofs.Common.{◌<◌, length, ap, ◌∙◌, arith}
 use Rattle.index_spaces.specs.Space.{space_size}
-use Rattle.graph_model.specs.graph.Graph.{columns}
+use Rattle.graph_terms.specs.Graph.{columns}
 use Rattle.session_text.proofs.Cells.{one_column, all_columns}
 use Rattle.session_text.proofs.so_far.cell_count.Goals as goal
 

@@ -1,6 +1,6 @@
 use Rattle.std.proofs.Common.{◌≡◌, ◌*◌, ◌≤◌, take}
 use Rattle.std.specs.Prelude.{sum_by}
-use Rattle.graph_model.specs.graph.Graph.{columns}
+use Rattle.graph_terms.specs.Graph.{columns}
 use Rattle.session_text.proofs.Cells.{column_cells}
 use Rattle.session_text.proofs.so_far.cell_count.Given as goal
 

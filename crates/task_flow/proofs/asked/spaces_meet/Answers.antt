@@ -1,7 +1,7 @@
 use Rattle.std.proofs.Common.{◌∙◌, ap}
 use Rattle.std.specs.List.{list_any}
 use Rattle.index_spaces.specs.Space.{has_point, points}
-use Rattle.graph_model.specs.graph.Graph.{space_at}
+use Rattle.graph_terms.specs.Graph.{space_at}
 use Rattle.task_flow.proofs.TieSteps.{meets_by}
 use Rattle.task_flow.proofs.asked.spaces_meet.Goals as goal
 

@@ -1,6 +1,6 @@
 use Rattle.std.proofs.Common.{sym}
 use Rattle.basics.proofs.ListFacts.{got_contains}
-use Rattle.graph_model.specs.graph.Access.{accesses}
+use Rattle.graph_terms.specs.Access.{accesses}
 use Rattle.task_flow.proofs.contended.summed.Goals as goal
 
 pub returns-then-eq-clause-column : goal.returns-then-eq-clause-column

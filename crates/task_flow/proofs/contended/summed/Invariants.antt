@@ -1,6 +1,6 @@
 use Rattle.std.proofs.Common.{◌≡◌, ◌≤◌, take, length}
 use Rattle.std.specs.Prelude.{None, find}
-use Rattle.graph_model.specs.graph.Access.{accesses}
+use Rattle.graph_terms.specs.Access.{accesses}
 use Rattle.task_flow.specs.Construction.{is_sum}
 use Rattle.task_flow.proofs.contended.summed.Given as goal
 

@@ -1,5 +1,5 @@
 use Rattle.std.proofs.Common.{◌≡◌, ◌+◌, sym, ◌∙◌, ap, arith}
-use Rattle.graph_model.specs.declared.graph.limits.TheConstants.{MAX_LINES}
+use Rattle.graph_terms.specs.declared.limits.TheConstants.{MAX_LINES}
 use Rattle.task_flow.specs.Construction.{new_name}
 use Rattle.task_flow.proofs.LockSteps.{lock_stops, lock_goes, locks_whole}
 use Rattle.task_flow.proofs.locks.add_locks.Goals as goal

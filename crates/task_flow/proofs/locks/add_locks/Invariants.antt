@@ -1,5 +1,5 @@
 use Rattle.std.proofs.Common.{◌≡◌, ◌+◌, ◌++◌, [], take}
-use Rattle.graph_model.specs.declared.graph.limits.TheConstants.{MAX_LINES}
+use Rattle.graph_terms.specs.declared.limits.TheConstants.{MAX_LINES}
 use Rattle.task_flow.specs.Fitting.{lined}
 use Rattle.task_flow.specs.Construction.{locks_from}
 use Rattle.task_flow.proofs.locks.add_locks.Given as goal

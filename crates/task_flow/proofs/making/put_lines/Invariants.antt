@@ -1,6 +1,6 @@
 use Rattle.std.proofs.Common.{◌≡◌, ◌++◌, [], false, length}
 use Rattle.std.specs.Vec.Iter.{into_iter_items, into_iter_len}
-use Rattle.graph_model.specs.graph.Fits.{is_beyond}
+use Rattle.graph_terms.specs.Fits.{is_beyond}
 use Rattle.task_flow.specs.Fitting.{AreToFit, with_lines}
 use Rattle.task_flow.proofs.making.put_lines.Given as goal
 

@@ -1,7 +1,7 @@
 use Rattle.std.proofs.Common.{◌≡◌, ◌-◌, ◌^◌}
 use Rattle.std.specs.Prelude.{find, not}
 use Rattle.std.specs.List.{list_any, range_with_len}
-use Rattle.graph_model.specs.graph.Fits.{names}
+use Rattle.graph_terms.specs.Fits.{names}
 use Rattle.task_flow.specs.Construction.{takes_width}
 use Rattle.task_flow.proofs.numbers.first_number.Given as goal
 

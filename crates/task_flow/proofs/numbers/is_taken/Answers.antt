@@ -1,6 +1,6 @@
 use Rattle.std.proofs.Common.{sym, ◌∙◌, ap}
-use Rattle.graph_model.specs.graph.Graph.{decl_name}
-use Rattle.graph_model.specs.declared.graph.verb.Line.{Line}
+use Rattle.graph_terms.specs.Graph.{decl_name}
+use Rattle.graph_terms.specs.declared.verb.Line.{Line}
 use Rattle.task_flow.specs.Construction.{takes_width}
 use Rattle.task_flow.proofs.Scans.{any_map_more}
 use Rattle.task_flow.proofs.NameScan.{decl_takes, line_takes}

@@ -1,7 +1,7 @@
 use Rattle.std.proofs.Common.{◌≡◌, false, take, map}
 use Rattle.std.specs.List.{list_any}
-use Rattle.graph_model.specs.graph.Graph.{decl_name}
-use Rattle.graph_model.specs.declared.graph.verb.Line.{Line}
+use Rattle.graph_terms.specs.Graph.{decl_name}
+use Rattle.graph_terms.specs.declared.verb.Line.{Line}
 use Rattle.task_flow.specs.Construction.{takes_width}
 use Rattle.task_flow.proofs.numbers.is_taken.Given as goal
 

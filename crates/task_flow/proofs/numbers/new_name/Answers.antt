@@ -1,5 +1,5 @@
 use Rattle.std.proofs.Common.{◌≡◌, ◌+◌, ◌∙◌, ap, arith}
-use Rattle.graph_model.specs.graph.Name.{is_name}
+use Rattle.graph_terms.specs.Name.{is_name}
 use Rattle.task_flow.specs.Construction.{new_name}
 use Rattle.task_flow.proofs.Names.{is_made, new_is_name}
 use Rattle.task_flow.proofs.numbers.new_name.Goals as goal

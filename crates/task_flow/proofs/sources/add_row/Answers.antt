@@ -1,7 +1,7 @@
 use Rattle.std.proofs.Common.{◌≡◌, ◌+◌, ◌||◌, [], ◌∷◌, length, length-append, sym, ◌∙◌, ap, subst, rules}
 use Rattle.std.specs.Prelude.{Contains, flat_map}
 use Rattle.std.proofs.lemmas.List.Elements.{Contains-append_left}
-use Rattle.graph_model.specs.graph.Access.{accesses}
+use Rattle.graph_terms.specs.Access.{accesses}
 use Rattle.task_flow.specs.Bits.{word_bit}
 use Rattle.task_flow.specs.Meaning.{Chain}
 use Rattle.task_flow.specs.Construction.{Parts, is_reached, sources_after}

@@ -2,7 +2,7 @@ use Rattle.std.proofs.Common.{◌≡◌, ◌<◌, ◌++◌, [], ◌∷◌, not, 
 use Rattle.std.specs.Prelude.{Some, slice_get}
 use Rattle.std.proofs.lemmas.Option.{slice_get_within}
 use Rattle.basics.proofs.ListFacts.{got_contains}
-use Rattle.graph_model.specs.graph.Access.{accesses}
+use Rattle.graph_terms.specs.Access.{accesses}
 use Rattle.task_flow.specs.Construction.{is_large, least, sources_after, tied_by}
 use Rattle.task_flow.proofs.LeastSteps.{part_same}
 use Rattle.task_flow.proofs.SourceSteps.{part_kept, cond_not}

@@ -1,6 +1,6 @@
 use Rattle.std.proofs.Common.{◌≡◌, ◌≤◌, take, length}
 use Rattle.std.specs.Prelude.{filter, not}
-use Rattle.graph_model.specs.graph.Access.{accesses}
+use Rattle.graph_terms.specs.Access.{accesses}
 use Rattle.task_flow.specs.Rows.{parts_at}
 use Rattle.task_flow.specs.Construction.{is_large}
 use Rattle.task_flow.proofs.sources.parts_by_access.Given as goal

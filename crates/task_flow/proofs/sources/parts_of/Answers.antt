@@ -1,6 +1,6 @@
 use Rattle.std.proofs.Common.{◌<◌, not, length, sym, ◌∙◌, subst, arith}
 use Rattle.std.specs.Prelude.{Contains, flat_map}
-use Rattle.graph_model.specs.graph.Access.{accesses}
+use Rattle.graph_terms.specs.Access.{accesses}
 use Rattle.task_flow.specs.Construction.{is_large}
 use Rattle.task_flow.proofs.AgainSteps.{only_part}
 use Rattle.task_flow.proofs.SourceSteps.{large_below, parts_below}

@@ -1,5 +1,5 @@
 use Rattle.std.proofs.Common.{◌≡◌, ℕ, List, length, take}
-use Rattle.graph_model.specs.graph.Edges.{edges}
+use Rattle.graph_terms.specs.Edges.{edges}
 use Rattle.explanations.specs.Search.{near_end, far_end, way_edges, AreOrigins, IsMarking, IsFarEnd}
 use Rattle.explanations.proofs.search.Search.follow.Given as goal
 

@@ -1,7 +1,7 @@
 use Rattle.std.proofs.Common.{◌≡◌, ◌<◌, ◌+◌, arith}
 use Rattle.std.specs.Prelude.{slice_index}
 use Rattle.std.proofs.lemmas.List.Elements.{Contains-get_or}
-use Rattle.graph_model.specs.graph.Edges.{edges}
+use Rattle.graph_terms.specs.Edges.{edges}
 use Rattle.explanations.proofs.Levels.{level_more}
 use Rattle.explanations.proofs.search.Search.follow_all.Goals as goal
 

@@ -1,14 +1,14 @@
 use Rattle.std.proofs.Common.{◌≡◌, false, cond, ℕ, [], ◌∷◌, ◌++◌, List, None, Some, sym, subst, ap, ◌∙◌, length, arith}
 use Rattle.std.specs.Str.{bytes_eq}
-use Rattle.graph_model.specs.declared.graph.decl.Decl.{Decl}
-use Rattle.graph_model.specs.graph.Graph.{GraphValue, decl_name}
-use Rattle.graph_model.specs.graph.Names.{AreNamesOf, found_decl}
-use Rattle.graph_model.specs.kept.Names.{named}
-use Rattle.graph_model.specs.kept.Tables.{tables_of, tables_with, IsWithinLimits}
-use Rattle.graph_model.specs.kept.Rows.{AreRowsOf}
-use Rattle.graph_model.specs.kept.Counts.{counts_of}
-use Rattle.graph_model.specs.graph.Fits.{IsGraph, decl_fault, is_used, with_decl}
-use Rattle.graph_model.proofs.GraphPush.{push_decl}
+use Rattle.graph_terms.specs.declared.decl.Decl.{Decl}
+use Rattle.graph_terms.specs.Graph.{GraphValue, decl_name}
+use Rattle.graph_indexes.specs.Names.{AreNamesOf, named}
+use Rattle.graph_terms.specs.Names.{found_decl}
+use Rattle.graph_indexes.specs.Tables.{tables_of, tables_with, IsWithinLimits}
+use Rattle.graph_indexes.specs.Rows.{AreRowsOf}
+use Rattle.graph_indexes.specs.Counts.{counts_of}
+use Rattle.graph_terms.specs.Fits.{IsGraph, decl_fault, is_used, with_decl}
+use Rattle.graph_terms.proofs.GraphPush.{push_decl}
 use Rattle.graph_model.proofs.Naming.{names_back, names_decl, unused_decl_name}
 use Rattle.graph_model.proofs.TableLaws.{limits_decl, tables_push}
 use Rattle.graph_model.proofs.RowLaws.{rows_decl}

@@ -1,5 +1,5 @@
 use Rattle.std.proofs.Common.{◌≡◌, ◌*◌, length, sym, ◌∙◌, ap}
-use Rattle.graph_model.specs.kept.Counts.{cells_of_decl}
+use Rattle.graph_indexes.specs.Counts.{cells_of_decl}
 use Rattle.graph_model.proofs.CountLaws.{cells_of_fields}
 use Rattle.graph_model.proofs.graph.Graph.cells_of.Goals as goal
 

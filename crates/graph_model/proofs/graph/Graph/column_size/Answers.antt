@@ -2,7 +2,8 @@ use Rattle.std.proofs.Common.{◌≡◌, ℕ, ◌+◌, List, [], ◌∷◌, ◌+
 use Rattle.std.specs.Prelude.{Option, Some, None, option_map, slice_get}
 use Rattle.std.specs.Option.{option_map_or}
 use Rattle.std.proofs.lemmas.Option.{none-some, same_Some}
-use Rattle.graph_model.specs.graph.Graph.{ColumnInfo, columns}
+use Rattle.graph_terms.specs.declared.decl.ColumnInfo.{ColumnInfo}
+use Rattle.graph_terms.specs.Graph.{columns}
 use Rattle.graph_model.proofs.graph.Graph.column_size.Goals as goal
 
 -- the word of a column is as long as its two names and the dot

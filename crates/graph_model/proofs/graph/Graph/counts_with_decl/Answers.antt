@@ -1,4 +1,4 @@
-use Rattle.graph_model.specs.graph.Graph.{GraphValue}
+use Rattle.graph_terms.specs.Graph.{GraphValue}
 use Rattle.graph_model.proofs.CountLaws.{decl_counts_read}
 use Rattle.graph_model.proofs.graph.Graph.counts_with_decl.Goals as goal
 

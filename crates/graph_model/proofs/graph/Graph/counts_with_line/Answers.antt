@@ -1,8 +1,8 @@
 use Rattle.std.proofs.Common.{◌≡◌, ◌≤◌, List, length, ◌∙◌, ap, arith}
-use Rattle.graph_model.specs.declared.kept.counts.Counts.{Counts}
-use Rattle.graph_model.specs.declared.graph.verb.Line.{Line}
-use Rattle.graph_model.specs.graph.Graph.{GraphValue}
-use Rattle.graph_model.specs.graph.Edges.{edges, line_edges}
+use Rattle.graph_indexes.specs.declared.counts.Counts.{Counts}
+use Rattle.graph_terms.specs.declared.verb.Line.{Line}
+use Rattle.graph_terms.specs.Graph.{GraphValue}
+use Rattle.graph_terms.specs.Edges.{edges, line_edges}
 use Rattle.graph_model.proofs.CountLaws.{line_counts_read}
 use Rattle.graph_model.proofs.graph.Graph.counts_with_line.Goals as goal
 

@@ -1,6 +1,6 @@
 use Rattle.std.proofs.Common.{◌≡◌, ◌+◌, ◌*◌, ◌≤◌, ℕ, length, take}
 use Rattle.std.specs.Prelude.{sum_by}
-use Rattle.graph_model.specs.graph.Spelling.{line_name}
+use Rattle.graph_terms.specs.Spelling.{line_name}
 use Rattle.graph_model.proofs.graph.Graph.events_size.Given as goal
 
 abbrev pub invariant-loop-event : goal.invariant-loop-event

@@ -1,8 +1,8 @@
 use Rattle.std.proofs.Common.{◌≡◌, false, sym, subst}
 use Rattle.std.specs.Prelude.{MatchOption}
-use Rattle.graph_model.specs.graph.Graph.{GraphValue}
-use Rattle.graph_model.specs.graph.Fits.{is_used}
-use Rattle.graph_model.specs.graph.Names.{StandsFor}
+use Rattle.graph_terms.specs.Graph.{GraphValue}
+use Rattle.graph_terms.specs.Fits.{is_used}
+use Rattle.graph_terms.specs.Names.{StandsFor}
 use Rattle.graph_model.proofs.graph.Graph.find.Goals as goal
 
 pub returns : goal.returns

@@ -1,6 +1,6 @@
 use Rattle.std.proofs.Common.{◌≡◌, ◌+◌, length, arith}
-use Rattle.graph_model.specs.graph.Spelling.{spelled, verb_words, on_words, line_words}
-use Rattle.graph_model.specs.kept.Counts.{words_size}
+use Rattle.graph_terms.specs.Spelling.{spelled, verb_words, on_words, line_words}
+use Rattle.graph_indexes.specs.Counts.{words_size}
 use Rattle.graph_model.proofs.CountLaws.{line_words_size}
 use Rattle.graph_model.proofs.graph.Graph.line_size.Goals as goal
 

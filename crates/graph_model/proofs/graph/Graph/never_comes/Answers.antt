@@ -1,7 +1,7 @@
 use Rattle.std.proofs.Common.{◌<◌, length, sym, ◌∙◌, ap, subst}
 use Rattle.std.specs.Prelude.{slice_get}
-use Rattle.graph_model.specs.graph.Graph.{GraphValue}
-use Rattle.graph_model.specs.kept.Tables.{TablesValue}
+use Rattle.graph_terms.specs.Graph.{GraphValue}
+use Rattle.graph_indexes.specs.Tables.{TablesValue}
 use Rattle.graph_model.proofs.RowReads.{never_user, never_phase, never_other, phase_known}
 use Rattle.graph_model.proofs.graph.Graph.never_comes.Goals as goal
 

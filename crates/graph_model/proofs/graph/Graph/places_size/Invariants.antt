@@ -1,8 +1,8 @@
 use Rattle.std.proofs.Common.{◌≡◌, ◌+◌, ◌*◌, ◌≤◌, length}
 use Rattle.std.specs.Prelude.{zip}
-use Rattle.graph_model.specs.graph.Table.{parts_from}
-use Rattle.graph_model.specs.graph.Spelling.{placed_words}
-use Rattle.graph_model.specs.kept.Counts.{words_size}
+use Rattle.graph_terms.specs.Table.{parts_from}
+use Rattle.graph_terms.specs.Spelling.{placed_words}
+use Rattle.graph_indexes.specs.Counts.{words_size}
 use Rattle.graph_model.proofs.graph.Graph.places_size.Given as goal
 
 abbrev pub invariant-loop-rest : goal.invariant-loop-rest

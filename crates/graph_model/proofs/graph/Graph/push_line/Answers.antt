@@ -2,21 +2,20 @@ use Rattle.std.proofs.Common.{◌≡◌, ◌+◌, cond, ℕ, [], ◌∷◌, ◌+
 use Rattle.std.specs.Prelude.{Option, map}
 use Rattle.std.proofs.lemmas.List.{map-append}
 use Rattle.std.specs.Str.{bytes_eq}
-use Rattle.graph_model.specs.declared.kept.side.Side.{Side}
-use Rattle.graph_model.specs.declared.kept.side.Side.TheVariants.{From, To}
-use Rattle.graph_model.specs.declared.graph.found.Found.TheVariants as found
-use Rattle.graph_model.specs.declared.graph.verb.Access.{Access}
-use Rattle.graph_model.specs.declared.graph.verb.Line.{Line}
-use Rattle.graph_model.specs.graph.Access.{kept_accesses}
-use Rattle.graph_model.specs.graph.Graph.{GraphValue}
-use Rattle.graph_model.specs.graph.Edges.{line_edges}
-use Rattle.graph_model.specs.graph.Names.{AreNamesOf}
-use Rattle.graph_model.specs.kept.Names.{named}
-use Rattle.graph_model.specs.kept.Tables.{IsWithinLimits}
-use Rattle.graph_model.specs.kept.Rows.{EndsBelow, NamesBelow, AddsRow, AreRowsOf}
-use Rattle.graph_model.specs.kept.Counts.{counts_of}
-use Rattle.graph_model.specs.graph.Fits.{IsGraph, line_fault, with_line}
-use Rattle.graph_model.proofs.GraphPush.{push_line}
+use Rattle.graph_indexes.specs.declared.side.Side.{Side}
+use Rattle.graph_indexes.specs.declared.side.Side.TheVariants.{From, To}
+use Rattle.graph_terms.specs.declared.found.Found.TheVariants as found
+use Rattle.graph_terms.specs.declared.verb.Access.{Access}
+use Rattle.graph_terms.specs.declared.verb.Line.{Line}
+use Rattle.graph_terms.specs.Access.{kept_accesses}
+use Rattle.graph_terms.specs.Graph.{GraphValue}
+use Rattle.graph_terms.specs.Edges.{line_edges}
+use Rattle.graph_indexes.specs.Names.{AreNamesOf, named}
+use Rattle.graph_indexes.specs.Tables.{IsWithinLimits}
+use Rattle.graph_indexes.specs.Rows.{EndsBelow, NamesBelow, AddsRow, AreRowsOf}
+use Rattle.graph_indexes.specs.Counts.{counts_of}
+use Rattle.graph_terms.specs.Fits.{IsGraph, line_fault, with_line}
+use Rattle.graph_terms.proofs.GraphPush.{push_line}
 use Rattle.graph_model.proofs.Naming.{names_back, names_line, unused_line_name}
 use Rattle.graph_model.proofs.TableLaws.{limits_line}
 use Rattle.graph_model.proofs.RowLaws.{rows_push, from_below, to_below, names_below}

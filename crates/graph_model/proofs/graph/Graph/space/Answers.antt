@@ -1,6 +1,6 @@
 use Rattle.std.proofs.Common.{◌≡◌, sym, ◌∙◌}
-use Rattle.graph_model.specs.declared.graph.decl.Decl.TheVariants.{Space}
-use Rattle.graph_model.specs.graph.Graph.{named_spaces, space_at}
+use Rattle.graph_terms.specs.declared.decl.Decl.TheVariants.{Space}
+use Rattle.graph_terms.specs.Graph.{named_spaces, space_at}
 use Rattle.graph_model.proofs.TableLaws.{space_decl_is}
 use Rattle.graph_model.proofs.graph.Graph.space.Goals as goal
 

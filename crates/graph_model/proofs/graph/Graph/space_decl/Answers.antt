@@ -1,6 +1,6 @@
 use Rattle.std.proofs.Common.{◌≡◌, ◌<◌, length, sym, subst, arith}
 use Rattle.std.specs.Prelude.{slice_get}
-use Rattle.graph_model.specs.graph.Graph.{GraphValue, named_spaces, space_of}
+use Rattle.graph_terms.specs.Graph.{GraphValue, named_spaces, space_of}
 use Rattle.graph_model.proofs.TableLaws.{space_listed, space_place_below, space_read}
 use Rattle.graph_model.proofs.graph.Graph.space_decl.Goals as goal
 

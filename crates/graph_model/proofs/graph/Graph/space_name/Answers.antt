@@ -1,6 +1,6 @@
 use Rattle.std.proofs.Common.{sym, ◌∙◌, ap}
 use Rattle.std.specs.Prelude.{Some, option_map}
-use Rattle.graph_model.specs.graph.Graph.{decl_name, named_spaces}
+use Rattle.graph_terms.specs.Graph.{decl_name, named_spaces}
 use Rattle.graph_model.proofs.TableLaws.{space_decl_is}
 use Rattle.graph_model.proofs.graph.Graph.space_name.Goals as goal
 

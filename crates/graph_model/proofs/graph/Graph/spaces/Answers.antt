@@ -1,6 +1,6 @@
 use Rattle.std.proofs.Common.{◌≡◌, ◌≤◌, length, subst, ap, ◌∙◌, arith}
-use Rattle.graph_model.specs.graph.Graph.{GraphValue, named_spaces, space_of}
-use Rattle.graph_model.specs.kept.Tables.{TablesValue}
+use Rattle.graph_terms.specs.Graph.{GraphValue, named_spaces, space_of}
+use Rattle.graph_indexes.specs.Tables.{TablesValue}
 use Rattle.graph_model.proofs.TableLaws.{length-places}
 use Rattle.graph_model.proofs.graph.Graph.spaces.Goals as goal
 use Rattle.graph_model.proofs.graph.Graph.spaces.Goals.{After-spaces}

@@ -1,5 +1,5 @@
 use Rattle.std.proofs.Common.{◌∙◌}
-use Rattle.graph_model.specs.graph.Graph.{GraphValue}
+use Rattle.graph_terms.specs.Graph.{GraphValue}
 use Rattle.graph_model.proofs.Upgrade.{upgraded_fits, upgraded_limits, upgraded_names, upgraded_rows, upgraded_counts}
 use Rattle.graph_model.proofs.graph.Graph.upgrade.Goals as goal
 

@@ -1,6 +1,6 @@
 use Rattle.std.proofs.Common.{◌≡◌, ◌≤◌, None, length, take}
-use Rattle.graph_model.specs.graph.Graph.{is_phase_of}
-use Rattle.graph_model.specs.graph.Edges.{last_place}
+use Rattle.graph_terms.specs.Graph.{is_phase_of}
+use Rattle.graph_terms.specs.Edges.{last_place}
 use Rattle.graph_model.proofs.graph.edges.last_phase.Given as goal
 
 abbrev pub invariant-loop-place : goal.invariant-loop-place

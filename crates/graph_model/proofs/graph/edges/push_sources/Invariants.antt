@@ -1,6 +1,6 @@
 use Rattle.std.proofs.Common.{◌≡◌, ◌+◌, ◌≤◌, ◌++◌, length, map, take, vec_len}
 use Rattle.std.specs.Vec.{vec_capacity}
-use Rattle.graph_model.specs.graph.Edges.{edge}
+use Rattle.graph_terms.specs.Edges.{edge}
 use Rattle.graph_model.proofs.graph.edges.push_sources.Given as goal
 
 abbrev pub invariant-loop-from : goal.invariant-loop-from

@@ -1,6 +1,6 @@
 use Rattle.std.proofs.Common.{◌≡◌, length}
 use Rattle.std.specs.Str.{bytes_eq}
-use Rattle.graph_model.specs.graph.Fits.{repeats}
+use Rattle.graph_terms.specs.Fits.{repeats}
 use Rattle.graph_model.proofs.graph.repeats.names_repeat.Given as goal
 
 abbrev pub invariant-loop-rest : goal.invariant-loop-rest

@@ -1,5 +1,5 @@
 use Rattle.std.proofs.Common.{◌≡◌, nat_eq, length}
-use Rattle.graph_model.specs.graph.Fits.{repeats}
+use Rattle.graph_terms.specs.Fits.{repeats}
 use Rattle.graph_model.proofs.graph.repeats.numbers_repeat.Given as goal
 
 abbrev pub invariant-loop-rest : goal.invariant-loop-rest

@@ -1,7 +1,7 @@
 use Rattle.std.proofs.Common.{◌≡◌, ◌+◌, length}
 use Rattle.basics.specs.Words.{contents}
-use Rattle.graph_model.specs.graph.Table.{kind_words}
-use Rattle.graph_model.specs.kept.Counts.{words_size}
+use Rattle.graph_terms.specs.Table.{kind_words}
+use Rattle.graph_indexes.specs.Counts.{words_size}
 use Rattle.graph_model.proofs.graph.sizes.fixed_size.Given as goal
 
 abbrev pub invariant-loop-rest : goal.invariant-loop-rest

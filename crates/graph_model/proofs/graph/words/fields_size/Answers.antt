@@ -1,5 +1,5 @@
 use Rattle.std.proofs.Common.{◌≡◌, ◌+◌, List, ℕ, length, ◌∙◌, subst, arith}
-use Rattle.graph_model.specs.graph.Spelling.{comma_word}
+use Rattle.graph_terms.specs.Spelling.{comma_word}
 use Rattle.graph_model.proofs.CountLaws.{measured_names}
 use Rattle.graph_model.proofs.graph.words.fields_size.Goals as goal
 

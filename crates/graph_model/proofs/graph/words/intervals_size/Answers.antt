@@ -1,5 +1,5 @@
 use Rattle.std.proofs.Common.{◌≡◌, ◌≤◌, ◌<◌, ◌+◌, ◌*◌, ◌^◌, List, ℕ, length, map, ap, subst, arith}
-use Rattle.graph_model.specs.graph.Spelling.{comma_word, interval_word}
+use Rattle.graph_terms.specs.Spelling.{comma_word, interval_word}
 use Rattle.graph_model.proofs.CountLaws.{measured_words, few_intervals}
 use Rattle.graph_model.proofs.graph.words.intervals_size.Goals as goal
 

@@ -1,6 +1,6 @@
 use Rattle.std.proofs.Common.{◌≡◌, ◌+◌, ◌*◌, ◌≤◌, ℕ, length, take}
 use Rattle.std.specs.Prelude.{sum_by}
-use Rattle.graph_model.specs.graph.Spelling.{interval_word}
+use Rattle.graph_terms.specs.Spelling.{interval_word}
 use Rattle.graph_model.proofs.graph.words.intervals_size.Given as goal
 
 abbrev pub invariant-loop-interval : goal.invariant-loop-interval

@@ -3,7 +3,7 @@ use Rattle.std.specs.BTreeSet.{contains}
 use Rattle.std.specs.Ordering.{nat_cmp}
 use Rattle.std.specs.Vec.{with_item}
 use Rattle.std.proofs.lemmas.Result.{on_ok_weaker}
-use Rattle.graph_model.specs.meaning.Evaluation.{has_ended}
+use Rattle.graph_meaning.specs.Evaluation.{has_ended}
 use Rattle.plain_eval.proofs.StateFacts.{idle, advanced, lowest_known, lowest_free}
 use Rattle.plain_eval.proofs.state.State.end_lowest.Goals as goal
 

@@ -1,6 +1,6 @@
 use Rattle.std.proofs.Common.{sym, ap, subst, ◌∙◌}
 use Rattle.std.proofs.lemmas.Bool.{true≢false}
-use Rattle.graph_model.specs.graph.Access.{is_read}
+use Rattle.graph_terms.specs.Access.{is_read}
 use Rattle.section_sweeps.specs.Passing.{HasBit}
 use Rattle.section_sweeps.proofs.PassingSteps.{given_old, given_new}
 use Rattle.race_check.proofs.asked.Asked.add.Goals as goal

@@ -1,5 +1,5 @@
 use Rattle.std.proofs.Common.{sym, ◌∙◌, arith}
-use Rattle.graph_model.specs.graph.Access.{accesses}
+use Rattle.graph_terms.specs.Access.{accesses}
 use Rattle.race_sweeps.proofs.AccessSteps.{few_accesses, no_more}
 use Rattle.race_check.proofs.AccessSteps.{column_known}
 use Rattle.race_check.proofs.Asking.{added_more, added_all}

@@ -1,7 +1,7 @@
 use Rattle.std.proofs.Common.{◌≡◌, ℕ, length}
-use Rattle.graph_model.specs.declared.graph.verb.Access.{Access}
-use Rattle.graph_model.specs.graph.Access.{accesses}
-use Rattle.graph_model.specs.graph.Graph.{columns}
+use Rattle.graph_terms.specs.declared.verb.Access.{Access}
+use Rattle.graph_terms.specs.Access.{accesses}
+use Rattle.graph_terms.specs.Graph.{columns}
 use Rattle.race_check.specs.Races.{IsAsked}
 use Rattle.race_check.proofs.Asking.{AreAdded}
 use Rattle.race_check.proofs.asked.Asked.add_line.Given as goal

@@ -1,7 +1,7 @@
 use Rattle.std.proofs.Common.{◌+◌, ◌-◌, ◌≡◌, inl, inr, subst, arith}
 use Rattle.std.specs.Prelude.{Contains}
 use Rattle.std.proofs.lemmas.Bool.{cases_lt}
-use Rattle.graph_model.specs.graph.Access.{accesses}
+use Rattle.graph_terms.specs.Access.{accesses}
 use Rattle.race_check.specs.Races.{IsAsked}
 use Rattle.race_check.proofs.asked.Asked.new.Goals as goal
 

@@ -1,4 +1,4 @@
-use Rattle.graph_model.specs.graph.Access.{accesses}
+use Rattle.graph_terms.specs.Access.{accesses}
 use Rattle.race_check.proofs.Asking.{AreFound}
 use Rattle.race_check.proofs.asked.Asked.of.Given as goal
 

@@ -1,7 +1,7 @@
 use Rattle.std.proofs.Common.{◌≡◌, true, ap, subst, ◌∙◌}
 use Rattle.std.specs.Prelude.{IsTrue, slice_index}
 use Rattle.std.proofs.lemmas.List.{get_or_read}
-use Rattle.graph_model.specs.graph.Access.{modes_clash}
+use Rattle.graph_terms.specs.Access.{modes_clash}
 use Rattle.race_sweeps.specs.Marks.{bit_in}
 use Rattle.race_check.proofs.Asking.{clash_changes}
 use Rattle.race_check.proofs.asked.Asked.of_access.Goals as goal

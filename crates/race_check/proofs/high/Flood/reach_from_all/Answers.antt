@@ -1,5 +1,5 @@
 use Rattle.std.proofs.Common.{◌≡◌, ◌+◌, ◌-◌, ◌<◌, true, false, length, sym, subst, ◌∙◌, arith}
-use Rattle.graph_model.specs.graph.Graph.{never_comes}
+use Rattle.graph_terms.specs.Graph.{never_comes}
 use Rattle.race_check.specs.High.{IsFlood}
 use Rattle.race_check.proofs.FloodSteps.{done_from, done_none, done_heavier, done_more, done_skip, done_all}
 use Rattle.race_check.proofs.high.Flood.reach_from_all.Goals as goal

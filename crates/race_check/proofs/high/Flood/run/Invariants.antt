@@ -1,6 +1,6 @@
 use Rattle.std.proofs.Common.{◌≡◌, ℕ, ◌+◌, ◌<◌, length}
 use Rattle.std.specs.Prelude.{Contains, slice_index}
-use Rattle.graph_model.specs.graph.Graph.{locks}
+use Rattle.graph_terms.specs.Graph.{locks}
 use Rattle.race_check.specs.High.{unmarked, AreAcquiresMarked, IsFlooding, weight_of}
 use Rattle.race_check.proofs.high.Flood.run.Given as goal
 

@@ -2,7 +2,7 @@ use Rattle.std.proofs.Common.{◌+◌, ◌≡◌, ap, ◌∙◌, arith, inl, inr
 use Rattle.std.specs.Int.{bit_at}
 use Rattle.std.proofs.lemmas.Bool.{cases_lt, ne_eqb}
 use Rattle.std.proofs.lemmas.Nat.Bits.{bit_at-zero}
-use Rattle.graph_model.specs.meaning.Rules.{RaceAt}
+use Rattle.graph_meaning.specs.Rules.{RaceAt}
 use Rattle.race_sweeps.specs.Marks.{bit_in}
 use Rattle.race_check.proofs.races.Rivals.first_of.Goals as goal
 

@@ -1,5 +1,5 @@
 use Rattle.std.proofs.Common.{ℕ, ◌+◌, ◌<◌}
-use Rattle.graph_model.specs.meaning.Rules.{RaceAt}
+use Rattle.graph_meaning.specs.Rules.{RaceAt}
 use Rattle.race_check.proofs.races.Rivals.first_of.Given as goal
 
 abbrev pub invariant-loop-bit : goal.invariant-loop-bit

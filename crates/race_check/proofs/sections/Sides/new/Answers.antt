@@ -1,5 +1,5 @@
 use Rattle.std.proofs.Common.{◌+◌, ◌<◌, ℕ, length, sym, subst, arith}
-use Rattle.graph_model.specs.meaning.Rules.{Releases}
+use Rattle.graph_terms.specs.Reservations.{Releases}
 use Rattle.race_check.specs.Blocks.{AreListed}
 use Rattle.race_check.specs.Inside.{IsRelease}
 use Rattle.race_check.proofs.BlockSteps.{passed_on, passed_back, acquires_known, few_listed, releases_known}

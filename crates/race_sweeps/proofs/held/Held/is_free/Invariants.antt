@@ -1,5 +1,5 @@
 use Rattle.std.proofs.Common.{ℕ, ◌<◌}
-use Rattle.graph_model.specs.meaning.Rules.{Section}
+use Rattle.graph_meaning.specs.Rules.{Section}
 use Rattle.race_sweeps.proofs.held.Held.is_free.Given as goal
 
 abbrev pub invariant-loop-acquires : goal.invariant-loop-acquires

@@ -2,7 +2,7 @@ use Rattle.std.proofs.Common.{◌≡◌, ◌+◌, false, cond, ◌∙◌, ap, ar
 use Rattle.std.specs.Prelude.{◌==◌, slice_set, not, ◌&&◌}
 use Rattle.std.proofs.lemmas.List.{length-set}
 use Rattle.realm_audit.specs.Prefix.{number_in, stands_in, open_count, is_exclusive_of}
-use Rattle.graph_model.specs.graph.Graph.{is_acquire_of}
+use Rattle.graph_terms.specs.Graph.{is_acquire_of}
 use Rattle.realm_audit.proofs.SectionCounts.{all_some, exclusive_some, all_counted, exclusive_counted, ends_at}
 use Rattle.realm_audit.proofs.sections.Sections.end.Goals as goal
 

@@ -1,5 +1,5 @@
 use Rattle.std.proofs.Common.{◌∙◌, length, sym, arith}
-use Rattle.graph_model.specs.graph.Graph.{line_passes, is_acquire_of}
+use Rattle.graph_terms.specs.Graph.{line_passes, is_acquire_of}
 use Rattle.realm_audit.specs.Prefix.{stands_in, is_exclusive_of}
 use Rattle.realm_audit.proofs.SectionCounts.{none_counted}
 use Rattle.realm_audit.proofs.SectionSteps.{none_open}

@@ -1,5 +1,5 @@
 use Rattle.std.proofs.Common.{◌≤◌, length, subst}
-use Rattle.graph_model.specs.graph.Graph.{GraphValue}
+use Rattle.graph_terms.specs.Graph.{GraphValue}
 use Rattle.run_core.specs.Core.{CoreValue, IsCore}
 use Rattle.run_core.proofs.SlotFacts.{none_retired}
 use Rattle.run_core.proofs.run.Core.is_sound.Goals as goal

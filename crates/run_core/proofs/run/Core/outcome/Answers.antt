@@ -1,12 +1,12 @@
 use Rattle.std.specs.Prelude.{Some, slice_get}
 use Rattle.basics.specs.Lists.{numbers_below}
-use Rattle.graph_model.specs.meaning.Evaluation.{outcome}
-use Rattle.graph_model.specs.meaning.Trace.{IsLawful, SectionsApart}
+use Rattle.graph_meaning.specs.Evaluation.{outcome}
+use Rattle.graph_meaning.specs.Trace.{IsLawful, SectionsApart}
 use Rattle.run_state.specs.Run.{end_so_far}
 use Rattle.run_core.specs.Answers.{phase_of_line}
 use Rattle.run_core.specs.Kept.{shown_stage}
 use Rattle.std.proofs.Common.{◌≡◌, ◌≤◌, ◌<◌, ℕ, map, length, refl, sym, ◌∙◌, ap, subst, arith}
-use Rattle.graph_model.specs.graph.Graph.{GraphValue}
+use Rattle.graph_terms.specs.Graph.{GraphValue}
 use Rattle.run_state.specs.Quiet.{Quiet, ByTimes}
 use Rattle.run_core.specs.Core.{CoreValue}
 use Rattle.run_core.proofs.OutcomeFacts.{handles_and_stages, handle_answers, columns_home, trace_small, trace_by_times, trace_lines, outcome_is, trace_lawful}

@@ -1,9 +1,9 @@
 use Rattle.std.proofs.Common.{◌≡◌, ◌≤◌, ℕ, [], map, length, replicate, sym, ◌∙◌, ap, subst, arith}
 use Rattle.std.specs.Prelude.{false}
 use Rattle.basics.specs.Lists.{numbers_below}
-use Rattle.graph_model.specs.graph.Graph.{GraphValue, columns, locks}
-use Rattle.graph_model.specs.meaning.Effect.{zero_cells}
-use Rattle.graph_model.specs.graph.Fits.{IsGraph}
+use Rattle.graph_terms.specs.Graph.{GraphValue, columns, locks}
+use Rattle.graph_meaning.specs.Effect.{zero_cells}
+use Rattle.graph_terms.specs.Fits.{IsGraph}
 use Rattle.std.proofs.lemmas.List.{length-replicate}
 use Rattle.gen_events.specs.EventMap.{fresh, unused}
 use Rattle.instances.specs.Homes.{all_home}

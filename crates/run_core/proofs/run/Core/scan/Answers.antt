@@ -1,5 +1,5 @@
 use Rattle.std.proofs.Common.{◌≡◌, ◌≤◌, ◌+◌, length, sym, ap, subst, arith}
-use Rattle.graph_model.specs.graph.Graph.{GraphValue}
+use Rattle.graph_terms.specs.Graph.{GraphValue}
 use Rattle.run_core.specs.Core.{CoreValue}
 use Rattle.run_core.proofs.FinishFacts.{Scanned, scan_begins, scan_moved, scan_stays, scan_ends}
 use Rattle.run_core.proofs.run.Core.scan.Goals as goal

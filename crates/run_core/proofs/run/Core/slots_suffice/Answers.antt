@@ -1,6 +1,6 @@
 use Rattle.std.proofs.Common.{◌≤◌, length, subst}
-use Rattle.graph_model.specs.graph.Graph.{GraphValue}
-use Rattle.graph_model.specs.meaning.Need.{IsNeed}
+use Rattle.graph_terms.specs.Graph.{GraphValue}
+use Rattle.graph_meaning.specs.Need.{IsNeed}
 use Rattle.run_core.specs.Core.{CoreValue, IsCore}
 use Rattle.run_core.proofs.SlotFacts.{free_slot}
 use Rattle.run_core.proofs.run.Core.slots_suffice.Goals as goal

@@ -1,5 +1,5 @@
 use Rattle.std.proofs.Common.{◌≡◌, ◌<◌, true, ap, sym, ◌∙◌, subst, true≢false}
-use Rattle.graph_model.proofs.ReleaseFacts.{one_release}
+use Rattle.graph_terms.proofs.ReleaseFacts.{one_release}
 use Rattle.run_core.specs.Resumed.{blank_state, over_at, stage_is_over}
 use Rattle.run_core.specs.declared.states.LineState.{LineState}
 use Rattle.run_core.proofs.OutcomeFacts.{any_default}

@@ -3,8 +3,8 @@ use Rattle.std.specs.Prelude.{Contains}
 use Rattle.std.proofs.lemmas.List.{append-nil}
 use Rattle.std.proofs.lemmas.List.Elements.{Contains-append_left}
 use Rattle.gen_events.proofs.Members.{Contains-head}
-use Rattle.graph_model.specs.declared.meaning.outcome.End.{End}
-use Rattle.graph_model.specs.graph.Graph.{GraphValue, never_comes}
+use Rattle.graph_terms.specs.declared.outcome.End.{End}
+use Rattle.graph_terms.specs.Graph.{GraphValue, never_comes}
 use Rattle.run_words.specs.Plays.{Sat}
 use Rattle.run_words.proofs.AnswerFacts.{answered}
 use Rattle.run_words.proofs.words.Words.attempt.Goals as goal

@@ -1,10 +1,10 @@
 use Rattle.std.proofs.Common.{◌≡◌, ◌<◌, [], length, sym, ◌∙◌, ap, subst}
 use Rattle.std.specs.Prelude.{Some, Contains, slice_get}
 use Rattle.gen_events.proofs.Members.{Contains-head}
-use Rattle.graph_model.specs.graph.Fits.{IsGraph}
-use Rattle.graph_model.specs.graph.Graph.{GraphValue, locks, is_shared}
-use Rattle.graph_model.specs.declared.graph.verb.Verb.TheVariants.{Acquire}
-use Rattle.graph_model.proofs.VerbFacts.{verb_passes}
+use Rattle.graph_terms.specs.Fits.{IsGraph}
+use Rattle.graph_terms.specs.Graph.{GraphValue, locks, is_shared}
+use Rattle.graph_terms.specs.declared.verb.Verb.TheVariants.{Acquire}
+use Rattle.graph_terms.proofs.VerbFacts.{verb_passes}
 use Rattle.line_effects.proofs.EffectFacts.{verb_is}
 use Rattle.run_words.specs.Claims.{Ground}
 use Rattle.run_words.specs.Rule.{ground_of}

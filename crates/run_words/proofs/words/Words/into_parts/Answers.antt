@@ -1,29 +1,25 @@
 use Rattle.std.proofs.Common.{◌≡◌, ℕ, ◌<◌, ◌≤◌, false, length, sym, ◌∙◌, ap, subst, arith}
-use Rattle.std.specs.Prelude.{Contains, Some, slice_get, slice_set}
+use Rattle.std.specs.Prelude.{Contains, Some, slice_get, slice_set, slice_index}
 use lib.ListN.{get_elem?}
 use Rattle.std.specs.Slots.{slots_items, slots_filled, slots_counts, IsFull}
-use Rattle.graph_model.specs.graph.Graph.{GraphValue}
+use Rattle.graph_terms.specs.Graph.{GraphValue, verb_at}
 use Rattle.run_words.specs.declared.base.Base.{Base}
 use Rattle.run_words.specs.declared.content.Content.TheVariants.{Tray}
 use Rattle.run_words.specs.declared.content.Desk.{Desk}
 use Rattle.run_words.specs.Closing.{IsLeft}
 use Rattle.run_words.specs.Emptying.{IsLineItem}
-use Rattle.run_words.specs.Layout.{size_of, column_slot, desk_slot, status_word}
-use Rattle.run_words.specs.Rule.{handle_at, column_with}
+use Rattle.run_words.specs.Layout.{size_of, column_slot, desk_slot, status_word, value_word}
+use Rattle.run_words.specs.Rule.{handle_at, column_with, IsTray}
 use Rattle.run_state.specs.Run.{stage_at}
-use Rattle.std.specs.Prelude.{slice_index}
 use Rattle.run_words.proofs.EmptyFacts.{one_content, desk_taken, none_filled, tray_is}
 use Rattle.std.proofs.lemmas.List.{length-map}
-use Rattle.graph_model.specs.graph.Graph.{verb_at}
 use Rattle.gen_events.specs.EventMap.{EventMap, life_at, without_waiters}
 use Rattle.gen_events.specs.Views.{lists, shape_of}
 use Rattle.gen_events.specs.declared.handle.Shape.{Shape}
 use Rattle.gen_events.proofs.Members.{Contains-none}
 use Rattle.run_core.specs.Core.{CoreValue, unissued}
 use Rattle.run_core.specs.Resumed.{ShowState}
-use Rattle.run_words.specs.Layout.{value_word}
 use Rattle.run_words.specs.Reading.{state_for, value_for}
-use Rattle.run_words.specs.Rule.{IsTray}
 use Rattle.run_words.specs.declared.spare.Spare.{Spare}
 use Rattle.run_words.proofs.Resuming.{line_item, shows, none_is_out, none_waits}
 use Rattle.run_words.proofs.words.Words.into_parts.Goals as goal

@@ -2,7 +2,7 @@ use Rattle.std.proofs.Common.{arith, ℕ, ◌<◌, ◌++◌, [], ◌∷◌, List
 use Rattle.std.specs.Prelude.{Contains}
 use Rattle.std.proofs.lemmas.List.{append-nil}
 use Rattle.std.proofs.lemmas.List.Elements.{Contains-append_left, Contains-append_right}
-use Rattle.graph_model.specs.declared.meaning.outcome.End.{End}
+use Rattle.graph_terms.specs.declared.outcome.End.{End}
 use Rattle.basics.proofs.ListFacts.{contains_below}
 use Rattle.basics.specs.Lists.{numbers_below}
 use Rattle.gen_events.proofs.Members.{Contains-head}

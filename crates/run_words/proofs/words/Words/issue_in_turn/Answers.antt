@@ -25,7 +25,7 @@ returns-then-issue_next-clause-issued c = λ i q.
     let n = c.issue_next.ensures.issued c.if-issue_next.true in
     let k : c.len-line.result ≡ i = ap number_in q in
     let has : Contains c.issue_next.new.seat.me.0.issued c.len-line.result = subst (λ l. Contains l c.len-line.result) (sym (ap (λ (m : Sat). m.0.issued) n.2)) (Contains-append_right c.args.seat.now.me.0.issued (c.len-line.result ∷ []) c.len-line.result (Contains-head c.len-line.result [])) in
-    (subst (Contains c.issue_next.new.seat.me.0.issued) k has, subst (λ j. j < length (graph_of c.args.self.now).lines) k (omega (arith, c.if-line-lines.false, c.lines-lines.ensures.number, ap (λ (g : Rattle.graph_model.specs.graph.Graph.GraphValue). length g.lines) c.graph.ensures.graph)))
+    (subst (Contains c.issue_next.new.seat.me.0.issued) k has, subst (λ j. j < length (graph_of c.args.self.now).lines) k (omega (arith, c.if-line-lines.false, c.lines-lines.ensures.number, ap (λ (g : Rattle.graph_terms.specs.Graph.GraphValue). length g.lines) c.graph.ensures.graph)))
 
 pub returns-then-issue_next-clause-grown : goal.returns-then-issue_next-clause-grown
 returns-then-issue_next-clause-grown c = λ i q.

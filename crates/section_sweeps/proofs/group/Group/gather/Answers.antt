@@ -1,6 +1,6 @@
 use Rattle.std.proofs.Common.{ℕ, ◌+◌, ◌<◌, ◌≤◌, length, [], ◌∷◌, ◌++◌, refl, sym, ap, subst, arith, length-append}
 use Rattle.std.proofs.lemmas.List.{get_or_read}
-use Rattle.graph_model.specs.meaning.Rules.{Acquires}
+use Rattle.graph_terms.specs.Reservations.{Acquires}
 use Rattle.section_sweeps.specs.Group.{AreGathered, IsCleared}
 use Rattle.section_sweeps.specs.declared.group.Group.{Group}
 use Rattle.section_sweeps.proofs.Grouping.{gathered_skip, gathered_more, cleared_same}

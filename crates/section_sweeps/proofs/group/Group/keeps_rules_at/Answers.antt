@@ -1,7 +1,8 @@
 use Rattle.std.proofs.Common.{ℕ, length, sym, ap, ◌∙◌, subst, arith}
 use Rattle.std.specs.Prelude.{slice_index}
 use Rattle.section_sweeps.specs.Passing.{HasBit}
-use Rattle.graph_model.specs.meaning.Rules.{Acquires, Section}
+use Rattle.graph_terms.specs.Reservations.{Acquires}
+use Rattle.graph_meaning.specs.Rules.{Section}
 use Rattle.race_sweeps.specs.Marks.{bit_in}
 use Rattle.race_sweeps.proofs.Walking.{none_left}
 use Rattle.section_sweeps.proofs.RuleSteps.{inside_parts, inside_from, inside_section}

@@ -2,7 +2,7 @@ use Rattle.std.proofs.Common.{◌≡◌, sym, ◌∙◌, ap, subst, arith}
 use Rattle.std.proofs.lemmas.Option.{same_Some, slice_get_within}
 use Rattle.std.specs.Prelude.{Some}
 use Rattle.gen_events.specs.EventMap.{answer, IsCreated}
-use Rattle.graph_model.specs.meaning.Evaluation.{eval_end}
+use Rattle.graph_meaning.specs.Evaluation.{eval_end}
 use Rattle.realm_session.specs.Recorded.{answer_for}
 use Rattle.session_run.specs.declared.running.RanGraph.{RanGraph}
 use Rattle.session_run.proofs.Closing.{event_there, same_graph}

@@ -1,5 +1,5 @@
 use Rattle.std.proofs.Common.{◌≡◌, length, sym, ◌∙◌, ap, arith}
-use Rattle.graph_model.specs.declared.meaning.outcome.Outcome.{Outcome}
+use Rattle.graph_terms.specs.declared.outcome.Outcome.{Outcome}
 use Rattle.session_run.proofs.Recording.{ends_count, graphs_count, lines_count, need_for, one_more}
 use Rattle.session_run.proofs.Refusals.{failed, same_failed, same_slots, ok_no_fault, no_memory_fault}
 use Rattle.session_run.proofs.running.Running.record.Goals as goal

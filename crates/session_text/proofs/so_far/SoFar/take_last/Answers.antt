@@ -1,5 +1,5 @@
 use Rattle.std.proofs.Common.{◌+◌, sym, arith}
-use Rattle.graph_model.specs.declared.graph.why.Why.TheVariants as why
+use Rattle.graph_terms.specs.declared.why.Why.TheVariants as why
 use Rattle.session_text.proofs.Steps.{graph_read, refused_sum, is_refusal}
 use Rattle.session_text.proofs.so_far.SoFar.take_last.Goals as goal
 

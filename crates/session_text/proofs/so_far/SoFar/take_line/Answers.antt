@@ -1,6 +1,6 @@
 use Rattle.std.proofs.Common.{sym}
 use Rattle.basics.specs.Words.{contents}
-use Rattle.graph_model.specs.declared.graph.why.Why.TheVariants as why
+use Rattle.graph_terms.specs.declared.why.Why.TheVariants as why
 use Rattle.session_text.specs.SoFar.{last_entry}
 use Rattle.session_text.proofs.Steps.{refused_line, empty_word, no_form, is_refusal}
 use Rattle.session_text.proofs.so_far.SoFar.take_line.Goals as goal

@@ -3,7 +3,7 @@ use Rattle.std.specs.Prelude.{nat_lt, is_some, Some}
 use Rattle.std.specs.Option.{option_map_or}
 use Rattle.std.proofs.lemmas.Bool.{true≢false}
 use Rattle.basics.specs.Words.{contents}
-use Rattle.graph_model.specs.declared.graph.why.Why.TheVariants as why
+use Rattle.graph_terms.specs.declared.why.Why.TheVariants as why
 use Rattle.session_text.specs.declared.so_far.Last.{Last}
 use Rattle.session_text.specs.declared.so_far.SoFar.{SoFar}
 use Rattle.session_text.specs.Fits.{names_op}

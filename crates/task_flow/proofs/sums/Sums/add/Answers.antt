@@ -1,5 +1,5 @@
 use Rattle.std.proofs.Common.{◌≡◌, ◌<◌, length, refl, arith}
-use Rattle.graph_model.specs.graph.Graph.{columns}
+use Rattle.graph_terms.specs.Graph.{columns}
 use Rattle.task_flow.proofs.ContendSteps.{sums_add}
 use Rattle.task_flow.proofs.sums.Sums.add.Goals as goal
 

@@ -2,8 +2,8 @@ use Rattle.std.proofs.Common.{◌≡◌, ◌<◌, ◌≤◌, length, sym, refl, 
 use Rattle.std.specs.Prelude.{Some, slice_get}
 use Rattle.std.proofs.lemmas.Option.{slice_get_within}
 use Rattle.basics.proofs.ListFacts.{got_contains}
-use Rattle.graph_model.specs.graph.Graph.{columns}
-use Rattle.graph_model.specs.graph.Access.{accesses}
+use Rattle.graph_terms.specs.Graph.{columns}
+use Rattle.graph_terms.specs.Access.{accesses}
 use Rattle.task_flow.specs.Uses.{PutsUse}
 use Rattle.task_flow.proofs.AskSteps.{uses_next, uses_whole}
 use Rattle.task_flow.proofs.Scans.{got_beyond}

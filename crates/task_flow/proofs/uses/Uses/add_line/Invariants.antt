@@ -1,5 +1,5 @@
 use Rattle.std.proofs.Common.{◌≤◌, ◌++◌, take, length}
-use Rattle.graph_model.specs.graph.Access.{accesses}
+use Rattle.graph_terms.specs.Access.{accesses}
 use Rattle.task_flow.specs.Uses.{AreUses, uses_before, uses_at}
 use Rattle.task_flow.proofs.uses.Uses.add_line.Given as goal
 

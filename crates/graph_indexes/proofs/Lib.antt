@@ -1,0 +1,2 @@
+pub mod StockLaws
+pub mod Slots

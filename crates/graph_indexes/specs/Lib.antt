@@ -1,0 +1,4 @@
+pub mod Names
+pub mod Counts
+pub mod Tables
+pub mod Rows

@@ -1,0 +1,38 @@
+//! What later lines have done to a line.
+
+ghost use Rattle.std.specs.Prelude.{ℕ, ◌<◌, ◌^◌, ◌+◌, length};
+ghost use Rattle.graph_indexes.specs.Rows.{mark_at, NamesBelow, Marks};
+ghost use Rattle.graph_terms.specs.Graph.{arrival_weight};
+
+use graph_terms::verb::Verb;
+
+/// What the arrivals that name a line count for, whether a trigger or a cancel names it, and whether a release
+/// does.
+#[derive(Clone, Copy)]
+pub struct Mark {
+    pub arrivals: u32,
+    pub ended: bool,
+    pub released: bool,
+}
+
+/// The mark of a line that no later line names.
+pub(crate) const FRESH: Mark = Mark {
+    arrivals: 0,
+    ended: false,
+    released: false,
+};
+
+/// Marks what a line does to the line that it names.
+pub(crate) fn mark_named(marks: &mut [Mark], verb: &Verb)
+    requires below { NamesBelow (length marks.old) verb.now }
+    requires few { (i : ℕ) → (mark_at marks.old i).arrivals + arrival_weight i verb.now < 2 ^ 32 }
+    ensures { Marks marks.old marks.new verb.now }
+{
+    match verb {
+        Verb::Trigger { user } => marks[*user as usize].ended = true,
+        Verb::Cancel { user } => marks[*user as usize].ended = true,
+        Verb::Arrive { phase, weight, .. } => marks[*phase as usize].arrivals += *weight,
+        Verb::Release { acquire } => marks[*acquire as usize].released = true,
+        _ => {}
+    }
+}

@@ -1,0 +1,5 @@
+pub mod Accepted
+pub mod Rules
+pub mod Runs
+pub mod Order
+pub mod AnyEffects

@@ -1,0 +1,5 @@
+use Rattle.graph_meaning.proofs.GraphLaws as laws
+use Rattle.graph_meaning.proofs.laws.cancelled_where_unbroken.Goals as goal
+
+pub returns : goal.returns
+returns c = laws.cancelled_where_unbroken

@@ -1,0 +1,5 @@
+use Rattle.graph_meaning.proofs.UpgradeMeaning.{upgrade_keeps_meaning}
+use Rattle.graph_meaning.proofs.laws.upgrade_keeps_meaning.Goals as goal
+
+pub returns : goal.returns
+returns c = upgrade_keeps_meaning

@@ -1,0 +1,9 @@
+pub mod Path
+pub mod Rules
+pub mod Effect
+pub mod Evaluation
+pub mod Need
+pub mod Trace
+pub mod Laws
+pub mod LineLaws
+pub mod HeldCells

@@ -1,9 +1,0 @@
-use Rattle.std.proofs.Common.{take, drop}
-use Rattle.graph_model.specs.kept.Rows.{HasRoom, AddsEdges}
-use Rattle.graph_model.proofs.kept.stock.add_all.Given as goal
-
-abbrev pub invariant-loop-edge : goal.invariant-loop-edge
-invariant-loop-edge l = record {
-  adds : AddsEdges l.side l.initial.stocks l.stocks (take l.edge-index l.given);
-  room : HasRoom l.side l.stocks (drop l.edge-index l.given);
-}

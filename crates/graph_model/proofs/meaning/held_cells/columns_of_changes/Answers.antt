@@ -1,5 +1,0 @@
-use Rattle.graph_model.proofs.HeldCellsLaws as laws
-use Rattle.graph_model.proofs.meaning.held_cells.columns_of_changes.Goals as goal
-
-pub returns : goal.returns
-returns c = laws.columns_of_changes

@@ -1,5 +1,0 @@
-use Rattle.graph_model.proofs.GraphLaws as laws
-use Rattle.graph_model.proofs.meaning.laws.changes_name_each_cell_once.Goals as goal
-
-pub returns : goal.returns
-returns c = laws.changes_name_each_cell_once c.points_ascend.ensures

@@ -1,5 +1,0 @@
-use Rattle.graph_model.proofs.OrderLaws as laws
-use Rattle.graph_model.proofs.meaning.laws.order_lists_ended_for_all_effects.Goals as goal
-
-pub returns : goal.returns
-returns c = laws.order_lists_ended_with

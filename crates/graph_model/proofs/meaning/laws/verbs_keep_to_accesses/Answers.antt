@@ -1,5 +1,0 @@
-use Rattle.graph_model.proofs.GraphLaws as laws
-use Rattle.graph_model.proofs.meaning.laws.verbs_keep_to_accesses.Goals as goal
-
-pub returns : goal.returns
-returns c = laws.verbs_keep_to_accesses

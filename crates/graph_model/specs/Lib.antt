@@ -1,3 +1,0 @@
-pub mod graph
-pub mod kept
-pub mod meaning

@@ -1,8 +1,0 @@
--- What contracts see of a graph that was accepted.
-use Rattle.std.specs.Prelude.{ℕ}
-use Rattle.graph_model.specs.graph.Graph.{GraphValue}
-
--- an accepted graph with its need
-pub record CheckedValue : Type 0 where
-  pub graph : GraphValue
-  pub need : ℕ

@@ -1,0 +1,13 @@
+pub mod examples
+pub mod KindLaws
+pub mod AcquireLaws
+pub mod ArriveLaws
+pub mod GraphFacts
+pub mod FitsTable
+pub mod GraphPush
+pub mod LastPlace
+pub mod FaultLaws
+pub mod VerbFacts
+pub mod ReleaseFacts
+pub mod EdgeFacts
+pub mod NameOrder

@@ -1,0 +1,253 @@
+-- When an item fits after a graph: the reasons that may refuse it, in their order.
+use Rattle.std.specs.Prelude.{◌≡◌, ℕ, ◌+◌, ◌^◌, ◌<◌, nat_lt, nat_le, nat_eq, Bool, true, false, cond, not, ◌&&◌, ◌||◌, List, [], ◌∷◌, ◌++◌, length, map, filter, filter_map, sum_by, Option, Some, None, IsTrue, is_some}
+use Rattle.std.specs.Option.{option_map_or}
+use Rattle.std.specs.List.{list_any, list_all, AllByRecursion}
+use Rattle.std.specs.Str.{bytes_eq}
+use Rattle.index_spaces.specs.Space.{has_point, points, space_size, IsSpace}
+use Rattle.index_spaces.specs.declared.limits.TheConstants.{MAX_INTERVALS, MAX_POINTS}
+use Rattle.graph_terms.specs.declared.limits.TheConstants.{MAX_TEXT, MAX_INSTS, MAX_COLUMNS, MAX_CELLS, MAX_LOCKS, MAX_BARRIERS, MAX_LINES, MAX_EDGES, MAX_EVENTS, MAX_COUNT}
+use Rattle.graph_terms.specs.declared.format.Format.{Format}
+use Rattle.graph_terms.specs.declared.format.Format.TheVariants.{One, Two}
+use Rattle.graph_terms.specs.declared.decl.Decl.{Decl}
+use Rattle.graph_terms.specs.declared.decl.Decl.TheVariants.{Space, Inst, Lock, Barrier}
+use Rattle.graph_terms.specs.declared.verb.Line.{Line}
+use Rattle.graph_terms.specs.declared.verb.Access.{Access}
+use Rattle.graph_terms.specs.declared.why.Why.{Why}
+use Rattle.graph_terms.specs.declared.why.Why.TheVariants as why
+use Rattle.graph_terms.specs.declared.verb.Verb.{Verb}
+use Rattle.graph_terms.specs.declared.verb.Verb.TheVariants.{Merge, MergeIgnore, Phase, Arrive, Acquire}
+use Rattle.graph_terms.specs.declared.table.Place.{Place}
+use Rattle.graph_terms.specs.declared.table.Place.TheVariants as places
+use Rattle.graph_terms.specs.Table.{Placed, kind_takes_on, verb_kind, verb_placed, any_placed}
+use Rattle.graph_terms.specs.Name.{is_name}
+use Rattle.graph_terms.specs.Graph.{GraphValue, decl_name, named_spaces, columns, locks, barriers, space_at, column_space, line_passes, is_user, is_phase, is_acquire, is_release_of, ends_user, arrivals, barrier_count, verb_at}
+use Rattle.graph_terms.specs.declared.decl.ColumnInfo.{ColumnInfo}
+use Rattle.graph_terms.specs.Edges.{edges}
+use Rattle.graph_terms.specs.Access.{verb_accesses}
+use Rattle.graph_terms.specs.Spelling.{head}
+
+-- the first reason whose test passes
+abbrev pub first_reason : List (Bool × Why) → Option Why
+first_reason [] = None
+first_reason (t ∷ ts) = cond t.0 (Some t.1) (first_reason ts)
+
+-- a list with an element that stands in it twice
+abbrev pub repeats : {X : Type 0} → (X → X → Bool) → List X → Bool
+repeats eq [] = false
+repeats eq (x ∷ xs) = list_any (eq x) xs || repeats eq xs
+
+-- the names that are in use
+abbrev pub names : GraphValue → List (List ℕ)
+names g = map decl_name g.decls ++ map (λ (l : Line). l.name) g.lines
+
+abbrev pub is_used : GraphValue → List ℕ → Bool
+is_used g name = list_any (bytes_eq name) (names g)
+
+-- the graph with an item at its end
+abbrev pub with_decl : GraphValue → Decl → GraphValue
+with_decl g d = record { format = g.format; decls = g.decls ++ d ∷ []; lines = g.lines }
+
+abbrev pub with_line : GraphValue → Line → GraphValue
+with_line g l = record { format = g.format; decls = g.decls; lines = g.lines ++ l ∷ [] }
+
+-- all cells of all columns
+abbrev pub cell_count : GraphValue → ℕ
+cell_count g = sum_by (λ (c : ColumnInfo). space_size (space_at g c.space)) (columns g)
+
+-- the instances of a graph
+abbrev pub is_inst : Decl → Bool
+is_inst (Inst name space fields) = true
+is_inst _ = false
+
+-- the intervals and the points of a declared space are few enough
+abbrev pub is_large : Decl → Bool
+is_large (Space name space) = nat_lt MAX_INTERVALS (length space) || nat_lt MAX_POINTS (space_size space)
+is_large _ = false
+
+-- a quantity of a graph is above its greatest value
+abbrev pub is_beyond : GraphValue → Bool
+is_beyond g = nat_lt MAX_TEXT (length (head g)) || (nat_lt MAX_INSTS (length (filter is_inst g.decls)) || (nat_lt MAX_COLUMNS (length (columns g)) || (nat_lt MAX_CELLS (cell_count g)
+    || (nat_lt MAX_LOCKS (length (locks g)) || (nat_lt MAX_BARRIERS (length (barriers g)) || (nat_lt MAX_LINES (length g.lines) || nat_lt MAX_EDGES (length (edges g))))))))
+
+abbrev pub decl_repeats : Decl → Bool
+decl_repeats (Inst name space fields) = repeats bytes_eq fields
+decl_repeats _ = false
+
+abbrev pub decl_unknown : GraphValue → Decl → Bool
+decl_unknown g (Inst name space fields) = nat_le (length (named_spaces g)) space
+decl_unknown g _ = false
+
+abbrev pub decl_misnumbered : Decl → Bool
+decl_misnumbered (Inst name space fields) = nat_lt (length fields) 1
+decl_misnumbered (Barrier name count op first) = nat_lt count 1 || nat_lt MAX_COUNT count
+decl_misnumbered _ = false
+
+-- the reasons that may refuse a declaration after this graph
+abbrev pub decl_tests : GraphValue → Decl → List (Bool × Why)
+decl_tests g d =
+    (is_used g (decl_name d) || decl_repeats d, why.Twice)
+    ∷ (decl_unknown g d, why.Unknown)
+    ∷ (decl_misnumbered d, why.Number)
+    ∷ (is_large d || is_beyond (with_decl g d), why.Limit)
+    ∷ []
+
+-- the first of them
+abbrev pub decl_fault : GraphValue → Decl → Option Why
+decl_fault g d = first_reason (decl_tests g d)
+
+-- a user event that is ended already, or an acquire that is released already
+abbrev pub place_repeats : GraphValue → Place → ℕ → Bool
+place_repeats g places.User user = list_any (λ (l : Line). ends_user user l.verb) g.lines
+place_repeats g places.Acquire acquire = list_any (λ (l : Line). is_release_of acquire l.verb) g.lines
+place_repeats g _ n = false
+
+-- an event named twice, or one that may be named no more
+abbrev pub verb_repeats : GraphValue → Verb → Bool
+verb_repeats g (Merge events) = repeats nat_eq events
+verb_repeats g (MergeIgnore events) = repeats nat_eq events
+verb_repeats g v = any_placed (place_repeats g) (verb_placed v)
+
+abbrev pub named_line : Place → ℕ → Option ℕ
+named_line places.User n = Some n
+named_line places.Phase n = Some n
+named_line places.Acquire n = Some n
+named_line _ n = None
+
+-- the lines that a verb names
+abbrev pub named_lines : Verb → List ℕ
+named_lines (Merge events) = events
+named_lines (MergeIgnore events) = events
+named_lines v = filter_map (λ (p : Placed). named_line p.0 p.1) (verb_placed v)
+
+-- the precondition as a list
+abbrev pub on_lines : Option ℕ → List ℕ
+on_lines None = []
+on_lines (Some e) = e ∷ []
+
+abbrev pub access_unknown : GraphValue → Access → Bool
+access_unknown g a = nat_le (length (columns g)) a.column || nat_le (length (named_spaces g)) a.space
+
+-- a barrier or a reservation whose number is out of range
+abbrev pub place_unknown : GraphValue → Place → ℕ → Bool
+place_unknown g places.Barrier n = nat_le (length (barriers g)) n
+place_unknown g places.Lock n = nat_le (length (locks g)) n
+place_unknown g _ n = false
+
+abbrev pub verb_unknown : GraphValue → Verb → Bool
+verb_unknown g v = any_placed (place_unknown g) (verb_placed v)
+
+abbrev pub line_unknown : GraphValue → Line → Bool
+line_unknown g l = list_any (λ i. nat_le (length g.lines) i) (named_lines l.verb ++ on_lines l.on) || (verb_unknown g l.verb || list_any (access_unknown g) (verb_accesses l.verb))
+
+-- a named line is of another kind than its place takes
+abbrev pub place_unlike : GraphValue → Place → ℕ → Bool
+place_unlike g places.User n = not (line_passes is_user g n)
+place_unlike g places.Phase n = not (line_passes is_phase g n)
+place_unlike g places.Acquire n = not (line_passes is_acquire g n)
+place_unlike g _ n = false
+
+abbrev pub verb_unlike : GraphValue → Verb → Bool
+verb_unlike g v = any_placed (place_unlike g) (verb_placed v)
+
+-- a verb that takes no precondition
+abbrev pub takes_no_on : Verb → Bool
+takes_no_on v = not (option_map_or kind_takes_on (verb_kind v) false)
+
+-- a verb that the format has not
+abbrev pub format_lacks : Format → Verb → Bool
+format_lacks One (Acquire lock shared) = shared
+format_lacks _ _ = false
+
+-- the most that one arrival may count for
+abbrev pub most_weight : Format → ℕ
+most_weight One = 1
+most_weight Two = MAX_COUNT
+
+-- a merge of no events, or a weight that the format has not
+abbrev pub verb_misnumbered : Format → Verb → Bool
+verb_misnumbered f (Merge events) = nat_lt (length events) 1
+verb_misnumbered f (MergeIgnore events) = nat_lt (length events) 1
+verb_misnumbered f (Arrive phase value weight) = nat_lt weight 1 || nat_lt (most_weight f) weight
+verb_misnumbered f _ = false
+
+-- the points of an access do not all lie in its column
+abbrev pub access_outside : GraphValue → Access → Bool
+access_outside g a = not (list_all (has_point (column_space g a.column)) (points (space_at g a.space)))
+
+abbrev pub barrier_of_phase : Verb → ℕ
+barrier_of_phase (Phase b) = b
+barrier_of_phase _ = 0
+
+-- how many arrivals complete this phase
+abbrev pub phase_count : GraphValue → ℕ → ℕ
+phase_count g p = option_map_or (λ v. barrier_count g (barrier_of_phase v)) (verb_at g p) 0
+
+-- an arrival with which its phase has more than it takes
+abbrev pub arrives_late : GraphValue → Verb → Bool
+arrives_late g (Arrive phase value weight) = nat_lt (phase_count g phase) (arrivals g phase + weight)
+arrives_late g _ = false
+
+-- a merge of too many events
+abbrev pub merges_many : Verb → Bool
+merges_many (Merge events) = nat_lt MAX_EVENTS (length events)
+merges_many (MergeIgnore events) = nat_lt MAX_EVENTS (length events)
+merges_many _ = false
+
+-- the reasons that may refuse a line after this graph
+abbrev pub line_tests : GraphValue → Line → List (Bool × Why)
+line_tests g l =
+    (is_used g l.name || (verb_repeats g l.verb || repeats nat_eq (map (λ (a : Access). a.column) (verb_accesses l.verb))), why.Twice)
+    ∷ (line_unknown g l, why.Unknown)
+    ∷ (verb_unlike g l.verb || ((takes_no_on l.verb && is_some l.on) || format_lacks g.format l.verb), why.Kind)
+    ∷ (verb_misnumbered g.format l.verb, why.Number)
+    ∷ (list_any (access_outside g) (verb_accesses l.verb), why.Outside)
+    ∷ (arrives_late g l.verb, why.Arrivals)
+    ∷ (merges_many l.verb || is_beyond (with_line g l), why.Limit)
+    ∷ []
+
+-- the first of them
+abbrev pub line_fault : GraphValue → Line → Option Why
+line_fault g l = first_reason (line_tests g l)
+
+-- what the types say of a declaration
+abbrev pub IsDecl : Decl → Type 0
+IsDecl (Space name space) = IsTrue (is_name name) × IsSpace space
+IsDecl (Inst name space fields) = IsTrue (is_name name) × (space < 2 ^ 32) × AllByRecursion (λ f. IsTrue (is_name f)) fields
+IsDecl (Lock name) = IsTrue (is_name name)
+IsDecl (Barrier name count op first) = IsTrue (is_name name) × (count < 2 ^ 32) × (first < 2 ^ 64)
+
+abbrev pub value_in : Place → ℕ → Option ℕ
+value_in places.Value n = Some n
+value_in _ n = None
+
+-- the values of a verb
+abbrev pub verb_values : Verb → List ℕ
+verb_values v = filter_map (λ (p : Placed). value_in p.0 p.1) (verb_placed v)
+
+abbrev pub AreValues : List ℕ → Type 0
+AreValues [] = Unit {0}
+AreValues (n ∷ []) = n < 2 ^ 64
+AreValues (n ∷ m ∷ ms) = (n < 2 ^ 64) × AreValues (m ∷ ms)
+
+abbrev pub IsVerb : Verb → Type 0
+IsVerb v = AreValues (verb_values v)
+
+-- what the types say of a line
+pub record IsLine (l : Line) : Type 0 where
+  pub named : IsTrue (is_name l.name)
+  pub values : IsVerb l.verb
+
+-- each declaration fits after those before it
+abbrev pub DeclsFit : Format → List Decl → List Decl → Type 0
+DeclsFit f before [] = Unit {0}
+DeclsFit f before (d ∷ ds) = IsDecl d × (decl_fault (record { format = f; decls = before; lines = [] }) d ≡ None) × DeclsFit f (before ++ d ∷ []) ds
+
+-- each line fits after those before it
+abbrev pub LinesFit : Format → List Decl → List Line → List Line → Type 0
+LinesFit f decls before [] = Unit {0}
+LinesFit f decls before (l ∷ ls) = IsLine l × (line_fault (record { format = f; decls = decls; lines = before }) l ≡ None) × LinesFit f decls (before ++ l ∷ []) ls
+
+-- each item of the graph fits after the items before it
+pub record IsGraph (g : GraphValue) : Type 0 where
+  pub decls : DeclsFit g.format [] g.decls
+  pub lines : LinesFit g.format g.decls [] g.lines

@@ -1,0 +1,10 @@
+pub mod Name
+pub mod Graph
+pub mod Edges
+pub mod Table
+pub mod Access
+pub mod Spelling
+pub mod Fits
+pub mod Names
+pub mod NameLaws
+pub mod Reservations

@@ -1,0 +1,88 @@
+//! What lines read and write.
+
+ghost use Rattle.std.specs.Prelude.{◌≡◌, true, slice_get};
+ghost use Rattle.graph_terms.specs.Table.{is_row, parts_from};
+ghost use Rattle.graph_terms.specs.Access.{access_in, in_format, or_write, mode_in, accesses_of, verb_accesses, kept_accesses, present};
+
+use crate::format::Format;
+use crate::table::{Parts, Place};
+use crate::verb::{Access, Mode, Verb};
+
+/// Up to three accesses, in order.
+pub type Accesses = [Option<Access>; 3];
+
+/// The accesses of a line that does this.
+pub fn verb_accesses(verb: &Verb) -> Accesses
+    ensures each { result ≡ kept_accesses verb.now }
+    ensures present { present result ≡ verb_accesses verb.now }
+{
+    match verb.kind() {
+        Some(kind) => {
+            let places = kind.row().places;
+            let parts = verb.parts();
+            [
+                access_at(places, &parts, 0),
+                access_at(places, &parts, 1),
+                access_at(places, &parts, 2),
+            ]
+        }
+        None => [None, None, None],
+    }
+}
+
+/// The access in the place of number `k`. Columns stand first.
+fn access_at(places: &[Place], parts: &Parts, k: usize) -> Option<Access>
+    requires { is_row places.now ≡ true }
+    ensures { result ≡ slice_get (accesses_of places.now (parts_from 0 places.now parts.now)) k }
+{
+    match places.get(k) {
+        Some(place) => access_in(*place, parts, k),
+        None => None,
+    }
+}
+
+fn access_in(place: Place, parts: &Parts, k: usize) -> Option<Access>
+    ensures { result ≡ access_in parts.now place k }
+{
+    match place {
+        Place::Column(mode, over) => Some(Access {
+            column: parts.number(k),
+            space: parts.number(over),
+            mode,
+        }),
+        _ => None,
+    }
+}
+
+/// A reduction by the least or the greatest value is a write to format 1.
+fn or_write(format: Format, mode: Mode) -> Mode
+    ensures { result ≡ or_write format mode }
+{
+    match format {
+        Format::One => Mode::Write,
+        Format::Two => mode,
+    }
+}
+
+fn mode_in(format: Format, mode: Mode) -> Mode
+    ensures { result ≡ mode_in format mode }
+{
+    match mode {
+        Mode::Read => Mode::Read,
+        Mode::Write => Mode::Write,
+        Mode::Sum => Mode::Sum,
+        Mode::Least => or_write(format, Mode::Least),
+        Mode::Most => or_write(format, Mode::Most),
+    }
+}
+
+/// An access as a format takes it.
+pub fn in_format(format: Format, access: Access) -> Access
+    ensures { result ≡ in_format format access }
+{
+    Access {
+        column: access.column,
+        space: access.space,
+        mode: mode_in(format, access.mode),
+    }
+}
