@@ -1,6 +1,6 @@
 //! Why the program ends early.
 
-use gen_events::NoMemory;
+use event_table::NoMemory;
 use std::io;
 
 /// Why the program ends early.

@@ -6,9 +6,10 @@ mod failure;
 mod one_thread;
 mod two_threads;
 
+use event_table::{Answer, EventTable, Handle};
 use failure::Failure;
-use gen_events::{Answer, EventTable, Events, Handle};
 use one_thread::serve_twice;
+use shared_events::Events;
 use std::io;
 use std::process::ExitCode;
 use std::thread::Threads;

@@ -1,8 +1,8 @@
 //! A table of one thread.
 
-ghost use Rattle.gen_events.specs.EventMap.{IsFree};
+ghost use Rattle.event_table.specs.EventMap.{IsFree};
 
-use gen_events::{Answer, EventTable, Fate, Handle};
+use event_table::{Answer, EventTable, Fate, Handle};
 
 /// What two handles of one slot answered.
 #[derive(Clone, Copy)]

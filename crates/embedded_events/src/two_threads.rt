@@ -1,10 +1,11 @@
 //! A table that two threads share.
 
 ghost use Rattle.std.specs.Prelude.{◌≡◌, IfSome};
-ghost use Rattle.gen_events.specs.Seats.{HasSeen};
-ghost use Rattle.gen_events.specs.Views.{lists, ended_by, IsAt, IsMakerOf, IsReceiptOf};
+ghost use Rattle.shared_events.specs.Seats.{HasSeen};
+ghost use Rattle.shared_events.specs.Views.{lists, ended_by, IsAt, IsMakerOf, IsReceiptOf};
 
-use gen_events::{Answer, Events, Fate, Handle, Maker, Receipt, Seat};
+use event_table::{Answer, Fate, Handle};
+use shared_events::{Events, Maker, Receipt, Seat};
 use std::thread::{Threads, join};
 
 /// Who creates and ends.

@@ -1,8 +1,8 @@
 -- Handles for which a seat can be asked.
 use Rattle.std.proofs.Common.{ℕ, zero, suc, List, [], ◌∷◌, arith}
 use Rattle.std.specs.List.{AllWithin}
-use Rattle.gen_events.specs.declared.handle.Handle.{Handle}
-use Rattle.gen_events.specs.declared.tokens.Seat.{Seat}
+use Rattle.event_table.specs.declared.handle.Handle.{Handle}
+use Rattle.shared_events.specs.declared.tokens.Seat.{Seat}
 use Rattle.realm_session.specs.declared.line.Line.{Line}
 use Rattle.realm_session.specs.Sessions.{CanAsk, Tells}
 

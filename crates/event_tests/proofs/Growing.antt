@@ -2,9 +2,9 @@
 use Rattle.std.proofs.Common.{◌≡◌, Bool, true, false, cond, List, [], ◌∷◌, ◌++◌, sym, subst}
 use Rattle.std.specs.Prelude.{All}
 use Rattle.std.proofs.lemmas.List.Elements.{All-push}
-use Rattle.gen_events.specs.declared.handle.Handle.{Handle}
-use Rattle.gen_events.specs.declared.view.View.{View}
-use Rattle.gen_events.specs.Seats.{Keeps}
+use Rattle.event_table.specs.declared.handle.Handle.{Handle}
+use Rattle.shared_events.specs.declared.view.View.{View}
+use Rattle.shared_events.specs.Seats.{Keeps}
 
 pub keeps_on : (v u w : View) → Keeps v u → Keeps u w → Keeps v w
 keeps_on v u w a b = (λ h s. b.0 h (a.0 h s), λ h f k. b.1 h f (a.1 h f k))

@@ -1,8 +1,8 @@
 //! What tests do with a session: they record graphs, and ask for all lines of one.
 
 ghost use Rattle.std.specs.Prelude.{ℕ, ◌≡◌, ◌<◌, ◌≤◌, ◌+◌, length, Contains, IfOk};
-ghost use Rattle.gen_events.specs.EventMap.{IsCreated};
-ghost use Rattle.gen_events.specs.declared.handle.Handle.{Handle as TheHandle};
+ghost use Rattle.event_table.specs.EventMap.{IsCreated};
+ghost use Rattle.event_table.specs.declared.handle.Handle.{Handle as TheHandle};
 ghost use Rattle.realm_session.specs.Recorded.{IsRecorded, graph_at};
 ghost use Rattle.realm_session.specs.Sessions.{recorded_by, IsRecorderOf, IsSeatOf, Tells};
 ghost use Rattle.realm_session.specs.declared.line.Line.{Line as TheLine};

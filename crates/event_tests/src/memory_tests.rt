@@ -4,9 +4,10 @@
 
 use crate::asking::{ends_of, graph_answers, record_graph};
 use crate::session_tests::{ONE, ONE_ANSWERS};
-use gen_events::{EventTable, Events};
+use event_table::EventTable;
 use home_queues::HomeQueues;
 use realm_session::{NoMemory, RecordRefusal, Session};
+use shared_events::Events;
 use std::alloc::Global;
 use std::test::Fail;
 use test_texts::memory::after;

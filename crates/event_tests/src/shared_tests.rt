@@ -1,13 +1,12 @@
 //! Tables that threads share, of a few slots.
 
 ghost use Rattle.std.specs.Prelude.{◌≡◌, All, Contains, IfOk, IfSome};
-ghost use Rattle.gen_events.specs.EventMap.{fresh};
-ghost use Rattle.gen_events.specs.Seats.{HasSeen, Keeps};
-ghost use Rattle.gen_events.specs.Views.{lists, shape_of, ended_by, IsAt, IsMakerOf, IsReceiptOf, IsWaiterOf};
+ghost use Rattle.event_table.specs.EventMap.{fresh};
+ghost use Rattle.shared_events.specs.Seats.{HasSeen, Keeps};
+ghost use Rattle.shared_events.specs.Views.{lists, shape_of, ended_by, IsAt, IsMakerOf, IsReceiptOf, IsWaiterOf};
 
-use gen_events::{
-    Answer, EventTable, Events, Fate, Handle, Maker, NO_EVENT, Receipt, Seat, Waiter, Watch,
-};
+use event_table::{Answer, EventTable, Fate, Handle, NO_EVENT};
+use shared_events::{Events, Maker, Receipt, Seat, Waiter, Watch};
 use std::alloc::Global;
 use std::test::Fail;
 

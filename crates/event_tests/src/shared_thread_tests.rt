@@ -1,11 +1,12 @@
 //! Two threads on one slot: one creates and ends, and the other is told of each end.
 
 ghost use Rattle.std.specs.Prelude.{◌≡◌, All, IfSome};
-ghost use Rattle.gen_events.specs.Seats.{HasSeen, Keeps};
-ghost use Rattle.gen_events.specs.Views.{lists, IsAt, IsMakerOf, IsReceiptOf};
+ghost use Rattle.shared_events.specs.Seats.{HasSeen, Keeps};
+ghost use Rattle.shared_events.specs.Views.{lists, IsAt, IsMakerOf, IsReceiptOf};
 
 use crate::shared_tests::{fate_of, serve};
-use gen_events::{Answer, Events, Handle, Maker, Receipt, Seat};
+use event_table::{Answer, Handle};
+use shared_events::{Events, Maker, Receipt, Seat};
 use std::test::Fail;
 use std::thread::{Threads, join};
 

@@ -1,11 +1,11 @@
 //! Tables of one thread, and how a runtime uses one: its tasks are the waiters.
 
 ghost use Rattle.std.specs.Prelude.{◌≡◌, All, IfOk, IfSome};
-ghost use Rattle.gen_events.specs.EventMap.{answer, IsCreated, IsFree, KeepsCreated};
-ghost use Rattle.gen_events.specs.declared.handle.Handle.{Handle as TheHandle};
+ghost use Rattle.event_table.specs.EventMap.{answer, IsCreated, IsFree, KeepsCreated};
+ghost use Rattle.event_table.specs.declared.handle.Handle.{Handle as TheHandle};
 
 use crate::shared_tests::fate_of;
-use gen_events::{Answer, EventTable, Fate, Handle, NO_EVENT, WatchNow};
+use event_table::{Answer, EventTable, Fate, Handle, NO_EVENT, WatchNow};
 use std::alloc::Global;
 use std::test::Fail;
 

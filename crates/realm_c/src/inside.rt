@@ -4,7 +4,7 @@
 ghost use Rattle.std.specs.Prelude.{◌≡◌, ◌≢◌, ℕ, ◌<◌, ◌≤◌, ◌⊎◌, None, Some, IfSome, [], length};
 ghost use Rattle.graph_terms.specs.Graph.{GraphValue};
 ghost use Rattle.graph_meaning.specs.Evaluation.{outcome};
-ghost use Rattle.gen_events.specs.declared.limits.TheConstants.{MAX_SLOTS};
+ghost use Rattle.event_table.specs.declared.limits.TheConstants.{MAX_SLOTS};
 ghost use Rattle.run_report.specs.Report.{evaluation_report};
 ghost use Rattle.run_core.specs.Core.{CoreValue, IsCore, slots_given, unissued};
 ghost use Rattle.run_core.specs.Finishing.{NothingOut};

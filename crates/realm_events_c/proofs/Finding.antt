@@ -1,11 +1,11 @@
 -- Where no event was created, each slot was found retired or pending, at a table that is the same.
 use Rattle.std.proofs.Common.{◌≡◌, List, ◌++◌, subst}
 use Rattle.std.specs.Prelude.{Option, Some, None, IfNone}
-use Rattle.gen_events.specs.Seats.{Grows, Keeps, SamePlacings}
-use Rattle.gen_events.specs.Views.{shape_of, AreTaken, IsFull}
-use Rattle.gen_events.specs.declared.events.Events.{Events}
-use Rattle.gen_events.specs.declared.handle.Handle.{Handle}
-use Rattle.gen_events.specs.declared.view.View.{View}
+use Rattle.shared_events.specs.Seats.{Grows, Keeps, SamePlacings}
+use Rattle.shared_events.specs.Views.{shape_of, AreTaken, IsFull}
+use Rattle.shared_events.specs.declared.events.Events.{Events}
+use Rattle.event_table.specs.declared.handle.Handle.{Handle}
+use Rattle.shared_events.specs.declared.view.View.{View}
 use Rattle.realm_events_c.specs.Calls.{FindsFull}
 
 pub finds_full : {X : Type 0} (r : Option X) (d e : Events) (made new : List Handle) (v w : View) → d ≡ e → Grows v w → Keeps v w → IfNone r (new ≡ made) → IfNone r (IsFull (shape_of d) made v w) → IfNone r (AreTaken (shape_of d) made v)

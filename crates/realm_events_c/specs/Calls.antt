@@ -1,23 +1,23 @@
 -- What a call on a table of events does to the lists of a seat, from v before to w after.
 use Rattle.std.specs.Prelude.{◌≡◌, ◌≢◌, ℕ, ◌≤◌, ◌⊎◌, List, [], ◌∷◌, ◌++◌, length, Contains, Some}
 use Rattle.basics.specs.Sums.{total, below}
-use Rattle.gen_events.specs.EventMap.{EventMap, answer, IsEventMap, IsCreated, IsPlaced, HasEnded}
-use Rattle.gen_events.specs.Plays.{Coherent}
-use Rattle.gen_events.specs.Seats.{HasSeen, Knows, IsPast, Grows, Keeps, IsBare, SamePlacings, SameGiven, FoundPending, no_event}
-use Rattle.gen_events.specs.Views.{answer_of, caught_lists, caught_on, ended_by, fate_of, given_by, rest_of, shape_of, AreTaken, ComesAfter, IsFull, IsNew, IsOver, IsWithin, Watched}
-use Rattle.gen_events.specs.declared.events.Events.{Events}
-use Rattle.gen_events.specs.declared.handle.Answer.{Answer}
-use Rattle.gen_events.specs.declared.handle.Answer.TheVariants.{Pending, Triggered, Poisoned}
-use Rattle.gen_events.specs.declared.handle.Fate.{Fate}
-use Rattle.gen_events.specs.declared.handle.Fate.TheVariants.{Ok, Poison}
-use Rattle.gen_events.specs.declared.handle.Handle.{Handle}
-use Rattle.gen_events.specs.declared.handle.Shape.{Shape}
-use Rattle.gen_events.specs.declared.tokens.Caught.{Caught}
-use Rattle.gen_events.specs.declared.tokens.Receipt.{Receipt}
-use Rattle.gen_events.specs.declared.tokens.Waiter.{Waiter}
-use Rattle.gen_events.specs.declared.tokens.Watch.{Watch}
-use Rattle.gen_events.specs.declared.tokens.Watch.TheVariants.{Over}
-use Rattle.gen_events.specs.declared.view.View.{View}
+use Rattle.event_table.specs.EventMap.{EventMap, answer, IsEventMap, IsCreated, IsPlaced, HasEnded}
+use Rattle.shared_events.specs.Plays.{Coherent}
+use Rattle.shared_events.specs.Seats.{HasSeen, Knows, IsPast, Grows, Keeps, IsBare, SamePlacings, SameGiven, FoundPending, no_event}
+use Rattle.shared_events.specs.Views.{answer_of, caught_lists, caught_on, ended_by, fate_of, given_by, rest_of, shape_of, AreTaken, ComesAfter, IsFull, IsNew, IsOver, IsWithin, Watched}
+use Rattle.shared_events.specs.declared.events.Events.{Events}
+use Rattle.event_table.specs.declared.handle.Answer.{Answer}
+use Rattle.event_table.specs.declared.handle.Answer.TheVariants.{Pending, Triggered, Poisoned}
+use Rattle.event_table.specs.declared.handle.Fate.{Fate}
+use Rattle.event_table.specs.declared.handle.Fate.TheVariants.{Ok, Poison}
+use Rattle.event_table.specs.declared.handle.Handle.{Handle}
+use Rattle.event_table.specs.declared.handle.Shape.{Shape}
+use Rattle.shared_events.specs.declared.tokens.Caught.{Caught}
+use Rattle.shared_events.specs.declared.tokens.Receipt.{Receipt}
+use Rattle.shared_events.specs.declared.tokens.Waiter.{Waiter}
+use Rattle.shared_events.specs.declared.tokens.Watch.{Watch}
+use Rattle.shared_events.specs.declared.tokens.Watch.TheVariants.{Over}
+use Rattle.shared_events.specs.declared.view.View.{View}
 
 -- a second seat x was split off
 pub record Splits (v w x : View) : Type 0 where

@@ -1,16 +1,16 @@
 -- What a handle of C holds, and the numbers that C is answered.
 use Rattle.std.specs.Prelude.{◌≡◌, ℕ, ◌+◌, ◌*◌, ◌<◌, ◌≤◌, Option, Some, None, cond, ◌==◌}
-use Rattle.gen_events.specs.EventMap.{EventMap}
-use Rattle.gen_events.specs.declared.handle.Answer.{Answer}
-use Rattle.gen_events.specs.declared.handle.Answer.TheVariants.{Pending, Triggered, Poisoned}
-use Rattle.gen_events.specs.declared.handle.Fate.{Fate}
-use Rattle.gen_events.specs.declared.handle.Fate.TheVariants.{Ok, Poison}
-use Rattle.gen_events.specs.declared.handle.Handle.{Handle}
-use Rattle.gen_events.specs.declared.limits.TheConstants.{MAX_HANDLES, MAX_SLOTS, MAX_WAITERS}
-use Rattle.gen_events.specs.declared.tokens.Receipt.{Receipt}
-use Rattle.gen_events.specs.declared.tokens.Waiter.{Waiter}
-use Rattle.gen_events.specs.declared.tokens.Watch.{Watch}
-use Rattle.gen_events.specs.declared.tokens.Watch.TheVariants.{Placed, Over, Moved}
+use Rattle.event_table.specs.EventMap.{EventMap}
+use Rattle.event_table.specs.declared.handle.Answer.{Answer}
+use Rattle.event_table.specs.declared.handle.Answer.TheVariants.{Pending, Triggered, Poisoned}
+use Rattle.event_table.specs.declared.handle.Fate.{Fate}
+use Rattle.event_table.specs.declared.handle.Fate.TheVariants.{Ok, Poison}
+use Rattle.event_table.specs.declared.handle.Handle.{Handle}
+use Rattle.event_table.specs.declared.limits.TheConstants.{MAX_HANDLES, MAX_SLOTS, MAX_WAITERS}
+use Rattle.shared_events.specs.declared.tokens.Receipt.{Receipt}
+use Rattle.shared_events.specs.declared.tokens.Waiter.{Waiter}
+use Rattle.shared_events.specs.declared.tokens.Watch.{Watch}
+use Rattle.shared_events.specs.declared.tokens.Watch.TheVariants.{Placed, Over, Moved}
 use Rattle.realm_events_c.specs.declared.exports.RealmHandle.{RealmHandle}
 use Rattle.realm_events_c.specs.declared.owed.Ended.{Ended}
 use Rattle.realm_events_c.specs.declared.owed.Owed.{Owed}

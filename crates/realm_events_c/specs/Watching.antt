@@ -1,10 +1,10 @@
 -- What a watch did, by the number that was answered and by what the handle of the waiter holds.
 use Rattle.std.specs.Prelude.{◌≡◌, ℕ, Option}
-use Rattle.gen_events.specs.declared.events.Events.{Events}
-use Rattle.gen_events.specs.declared.handle.Handle.{Handle}
-use Rattle.gen_events.specs.declared.tokens.Waiter.{Waiter}
-use Rattle.gen_events.specs.declared.tokens.Watch.{Watch}
-use Rattle.gen_events.specs.declared.view.View.{View}
+use Rattle.shared_events.specs.declared.events.Events.{Events}
+use Rattle.event_table.specs.declared.handle.Handle.{Handle}
+use Rattle.shared_events.specs.declared.tokens.Waiter.{Waiter}
+use Rattle.shared_events.specs.declared.tokens.Watch.{Watch}
+use Rattle.shared_events.specs.declared.view.View.{View}
 use Rattle.realm_events_c.specs.Calls.{Watches}
 use Rattle.realm_events_c.specs.Kinds.{IsBack, watch_number}
 use Rattle.realm_events_c.specs.declared.token.Token.{Token}

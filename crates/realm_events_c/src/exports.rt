@@ -2,11 +2,11 @@
 
 ghost use Rattle.std.specs.Prelude.{◌≡◌, ◌≢◌, ◌+◌, ◌<◌, ◌⊎◌, Some, None, []};
 ghost use Rattle.std.specs.Arc.{arc_value};
-ghost use Rattle.gen_events.specs.EventMap.{IsCreated, IsPlaced, answer};
-ghost use Rattle.gen_events.specs.Seats.{HasSeen, HasNothing, no_event};
-ghost use Rattle.gen_events.specs.Views.{lists, made_by, handle_of, number_of, ended_by, fate_of, shape_of, taken_of, size_of, IsReceiptOf, IsWaiterOf};
-ghost use Rattle.gen_events.specs.declared.handle.Answer.{Answer as TheAnswer};
-ghost use Rattle.gen_events.specs.declared.handle.Handle.{Handle as TheHandle};
+ghost use Rattle.event_table.specs.EventMap.{IsCreated, IsPlaced, answer};
+ghost use Rattle.shared_events.specs.Seats.{HasSeen, HasNothing, no_event};
+ghost use Rattle.shared_events.specs.Views.{lists, made_by, handle_of, number_of, ended_by, fate_of, shape_of, taken_of, size_of, IsReceiptOf, IsWaiterOf};
+ghost use Rattle.event_table.specs.declared.handle.Answer.{Answer as TheAnswer};
+ghost use Rattle.event_table.specs.declared.handle.Handle.{Handle as TheHandle};
 ghost use Rattle.realm_events_c.specs.Calls.{Splits, Joins, Looks, Learns, Leaves, Creates, FindsFull, Ends, Gives, Empties, Closes};
 ghost use Rattle.realm_events_c.specs.Watching.{WatchedBy};
 ghost use Rattle.realm_events_c.specs.Kinds.{HasPlace, SameButSeat, HoldsAny, HoldsPlace, HoldsOwner, HoldsPending, HoldsWaiter, HoldsReceipt, HoldsEnded, HoldsClosed, IsTableSize, event, answer_number, fate_by, fate_number};
@@ -18,7 +18,7 @@ use crate::inside::{
 };
 use crate::making::{is_table_size, new_owner};
 use crate::status::{DONE, NO_MEMORY, REFUSED, fate_by};
-use gen_events::Handle;
+use event_table::Handle;
 use std::alloc::Global;
 
 /// The handle of an event: plain data, which may be copied and kept for any time.

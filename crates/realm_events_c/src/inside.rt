@@ -2,11 +2,11 @@
 
 ghost use Rattle.std.specs.Prelude.{◌≡◌, ◌≢◌, ◌+◌, ◌<◌, ◌⊎◌, Some};
 ghost use Rattle.std.specs.Arc.{arc_value};
-ghost use Rattle.gen_events.specs.EventMap.{IsCreated, IsPlaced, answer};
-ghost use Rattle.gen_events.specs.Seats.{HasSeen, no_event};
-ghost use Rattle.gen_events.specs.Views.{lists, made_by, handle_of, number_of, ended_by, fate_of, shape_of, taken_of, size_of, IsReceiptOf, IsWaiterOf};
-ghost use Rattle.gen_events.specs.declared.handle.Answer.{Answer as TheAnswer};
-ghost use Rattle.gen_events.specs.declared.handle.Handle.{Handle as TheHandle};
+ghost use Rattle.event_table.specs.EventMap.{IsCreated, IsPlaced, answer};
+ghost use Rattle.shared_events.specs.Seats.{HasSeen, no_event};
+ghost use Rattle.shared_events.specs.Views.{lists, made_by, handle_of, number_of, ended_by, fate_of, shape_of, taken_of, size_of, IsReceiptOf, IsWaiterOf};
+ghost use Rattle.event_table.specs.declared.handle.Answer.{Answer as TheAnswer};
+ghost use Rattle.event_table.specs.declared.handle.Handle.{Handle as TheHandle};
 ghost use Rattle.realm_events_c.specs.Calls.{Splits, Joins, Looks, Learns, Leaves, Creates, FindsFull, Ends, Gives, Empties, Closes};
 ghost use Rattle.realm_events_c.specs.Watching.{WatchedBy};
 ghost use Rattle.realm_events_c.specs.Kinds.{HasPlace, SameButSeat, HoldsPlace, HoldsOwner, HoldsPending, HoldsWaiter, HoldsReceipt, HoldsEnded, HoldsClosed, IsBack, held_of, event, answer_number, fate_number, watch_number};
@@ -20,7 +20,8 @@ use crate::status::{
     fate_number,
 };
 use crate::token::Token;
-use gen_events::{Fate, Handle, Receipt, Waiter, Watch};
+use event_table::{Fate, Handle};
+use shared_events::{Receipt, Waiter, Watch};
 use std::sync::Arc;
 
 /// Puts a second place into the room.

@@ -1,4 +1,4 @@
-//! The shared events of `gen_events`, for callers in C.
+//! Shared events, for callers in C.
 #![tactic(auto)]
 
 mod exports;

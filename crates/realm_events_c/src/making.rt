@@ -2,15 +2,15 @@
 
 ghost use Rattle.std.specs.Arc.{arc_value};
 ghost use Rattle.std.specs.Prelude.{◌≡◌, ◌+◌, ◌*◌, ◌≤◌, ◌<◌, [], true, false, IfSome, Some};
-ghost use Rattle.gen_events.specs.Seats.{HasNothing};
-ghost use Rattle.gen_events.specs.Views.{lists, made_by, shape_of, size_of, taken_of};
+ghost use Rattle.shared_events.specs.Seats.{HasNothing};
+ghost use Rattle.shared_events.specs.Views.{lists, made_by, shape_of, size_of, taken_of};
 ghost use Rattle.realm_events_c.specs.Kinds.{HoldsOwner, IsTableSize};
 
 use crate::owner::Owner;
 use crate::place::Place;
 use crate::token::Token;
-use gen_events::Events;
-use gen_events::limits::{MAX_HANDLES, MAX_SLOTS, MAX_WAITERS};
+use event_table::limits::{MAX_HANDLES, MAX_SLOTS, MAX_WAITERS};
+use shared_events::Events;
 use std::alloc::Global;
 use std::sync::Arc;
 

@@ -2,11 +2,12 @@
 
 ghost use Rattle.std.specs.Arc.{arc_value};
 ghost use Rattle.std.specs.Prelude.{◌≡◌, IfSome, IfNone};
-ghost use Rattle.gen_events.specs.Views.{lists, handle_of, number_of, ended_by, fate_of, IsPendingOf, IsReceiptOf, IsCaughtOf, IsWaiterOf};
+ghost use Rattle.shared_events.specs.Views.{lists, handle_of, number_of, ended_by, fate_of, IsPendingOf, IsReceiptOf, IsCaughtOf, IsWaiterOf};
 ghost use Rattle.realm_events_c.specs.Calls.{Ends, Leaves, Gives, Empties};
 
 use crate::place::Place;
-use gen_events::{Caught, Fate, Pending, Receipt, Waiter};
+use event_table::Fate;
+use shared_events::{Caught, Pending, Receipt, Waiter};
 
 /// The right to end a handle, with a place.
 pub struct Owed {

@@ -2,12 +2,13 @@
 
 ghost use Rattle.std.specs.Arc.{arc_value};
 ghost use Rattle.std.specs.Prelude.{◌≡◌, ◌+◌, ◌<◌, IfOk, IfErr, IfSome, IfNone};
-ghost use Rattle.gen_events.specs.Views.{lists, made_by, handle_of, number_of, shape_of, taken_of, size_of, IsMakerOf, IsPendingOf, IsSetOf, IsWaiterOf};
+ghost use Rattle.shared_events.specs.Views.{lists, made_by, handle_of, number_of, shape_of, taken_of, size_of, IsMakerOf, IsPendingOf, IsSetOf, IsWaiterOf};
 ghost use Rattle.realm_events_c.specs.Calls.{Creates, FindsFull, Splits, Closes};
 
 use crate::owed::Owed;
 use crate::place::Place;
-use gen_events::{Events, Left, Maker, Pending, Waiter, WaiterSet};
+use event_table::Left;
+use shared_events::{Events, Maker, Pending, Waiter, WaiterSet};
 use std::alloc::Global;
 use std::sync::Arc;
 

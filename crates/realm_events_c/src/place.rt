@@ -2,11 +2,12 @@
 
 ghost use Rattle.std.specs.Arc.{arc_value};
 ghost use Rattle.std.specs.Prelude.{◌≡◌};
-ghost use Rattle.gen_events.specs.Seats.{HasSeen};
-ghost use Rattle.gen_events.specs.Views.{lists, ended_by, fate_of, IsAt, IsReceiptOf, IsWaiterOf};
+ghost use Rattle.shared_events.specs.Seats.{HasSeen};
+ghost use Rattle.shared_events.specs.Views.{lists, ended_by, fate_of, IsAt, IsReceiptOf, IsWaiterOf};
 ghost use Rattle.realm_events_c.specs.Calls.{Splits, Joins, Looks, Watches, Learns};
 
-use gen_events::{Answer, Events, Handle, Receipt, Seat, Waiter, Watch};
+use event_table::{Answer, Handle};
+use shared_events::{Events, Receipt, Seat, Waiter, Watch};
 use std::alloc::Global;
 use std::sync::Arc;
 

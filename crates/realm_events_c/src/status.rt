@@ -3,7 +3,7 @@
 ghost use Rattle.std.specs.Prelude.{◌≡◌};
 ghost use Rattle.realm_events_c.specs.Kinds.{answer_number, fate_number, fate_by};
 
-use gen_events::{Answer, Fate};
+use event_table::{Answer, Fate};
 
 pub(crate) const DONE: u32 = 0;
 

@@ -3,7 +3,8 @@
 use crate::owed::{Ended, Owed};
 use crate::owner::Owner;
 use crate::place::Place;
-use gen_events::{Left, Receipt, Waiter};
+use event_table::Left;
+use shared_events::{Receipt, Waiter};
 
 /// What a handle of C holds. `Empty` stands for a moment alone, while the value moves.
 #[derive(Drop)]

@@ -4,12 +4,12 @@ use Rattle.std.proofs.lemmas.List.{map-append}
 use Rattle.std.specs.Prelude.{Contains, slice_get}
 use Rattle.std.proofs.lemmas.List.Elements.{Contains-append_left, Contains-append_right, Contains-push_cases}
 use Rattle.basics.proofs.ListFacts.{contains_map, got_contains}
-use Rattle.gen_events.specs.declared.handle.Handle.{Handle}
-use Rattle.gen_events.specs.declared.tokens.Seat.{Seat}
+use Rattle.event_table.specs.declared.handle.Handle.{Handle}
+use Rattle.shared_events.specs.declared.tokens.Seat.{Seat}
 use Rattle.realm_session.specs.declared.line.Line.{Line}
 use Rattle.realm_session.specs.Recorded.{handle_in, AreNew}
-use Rattle.gen_events.specs.declared.tokens.Maker.{Maker}
-use Rattle.gen_events.specs.Views.{IsMakerOf, made_by}
+use Rattle.shared_events.specs.declared.tokens.Maker.{Maker}
+use Rattle.shared_events.specs.Views.{IsMakerOf, made_by}
 use Rattle.realm_session.specs.declared.recorder.Recorder.{Recorder}
 use Rattle.realm_session.specs.declared.session.Session.{Session}
 use Rattle.realm_session.specs.Sessions.{HasMade, IsSeatOf, Tells}

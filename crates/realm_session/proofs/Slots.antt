@@ -4,13 +4,13 @@ use Rattle.std.specs.Prelude.{Contains, map}
 use Rattle.basics.specs.Sums.{total, below, only}
 use Rattle.basics.proofs.Sums.{item_le, only-same, below-once}
 use Rattle.basics.proofs.ListFacts.{map_contains}
-use Rattle.gen_events.specs.declared.handle.Handle.{Handle}
-use Rattle.gen_events.specs.declared.handle.Fate.{Fate}
-use Rattle.gen_events.specs.declared.handle.Fate.TheVariants.{Ok, Poison}
-use Rattle.gen_events.specs.declared.handle.Shape.{Shape}
-use Rattle.gen_events.specs.declared.view.View.{View}
-use Rattle.gen_events.specs.Seats.{Knows}
-use Rattle.gen_events.specs.Views.{GoesRound, AreTaken}
+use Rattle.event_table.specs.declared.handle.Handle.{Handle}
+use Rattle.event_table.specs.declared.handle.Fate.{Fate}
+use Rattle.event_table.specs.declared.handle.Fate.TheVariants.{Ok, Poison}
+use Rattle.event_table.specs.declared.handle.Shape.{Shape}
+use Rattle.shared_events.specs.declared.view.View.{View}
+use Rattle.shared_events.specs.Seats.{Knows}
+use Rattle.shared_events.specs.Views.{GoesRound, AreTaken}
 use Rattle.graph_terms.specs.declared.outcome.End.{End}
 use Rattle.graph_terms.specs.declared.outcome.End.TheVariants.{Done, Faulted, Cancelled, Waiting}
 use Rattle.realm_session.specs.declared.line.Line.{Line}

@@ -2,14 +2,14 @@
 use Rattle.std.proofs.Common.{◌≡◌, List, ◌++◌, sym, refl, subst, Option, Some, None}
 use Rattle.std.specs.Prelude.{Contains}
 use Rattle.std.proofs.lemmas.List.Elements.{Contains-append_left}
-use Rattle.gen_events.specs.declared.handle.Handle.{Handle}
-use Rattle.gen_events.specs.declared.handle.Answer.{Answer}
-use Rattle.gen_events.specs.declared.handle.Answer.TheVariants.{Pending}
-use Rattle.gen_events.specs.declared.handle.Fate.{Fate}
-use Rattle.gen_events.specs.declared.tokens.Seat.{Seat}
-use Rattle.gen_events.specs.EventMap.{answer_of}
-use Rattle.gen_events.specs.Seats.{Keeps}
-use Rattle.gen_events.specs.Views.{lists}
+use Rattle.event_table.specs.declared.handle.Handle.{Handle}
+use Rattle.event_table.specs.declared.handle.Answer.{Answer}
+use Rattle.event_table.specs.declared.handle.Answer.TheVariants.{Pending}
+use Rattle.event_table.specs.declared.handle.Fate.{Fate}
+use Rattle.shared_events.specs.declared.tokens.Seat.{Seat}
+use Rattle.event_table.specs.EventMap.{answer_of}
+use Rattle.shared_events.specs.Seats.{Keeps}
+use Rattle.shared_events.specs.Views.{lists}
 use Rattle.graph_terms.specs.declared.outcome.End.{End}
 use Rattle.graph_terms.specs.declared.outcome.End.TheVariants.{Done, Faulted, Cancelled, Waiting}
 use Rattle.realm_session.specs.declared.line.Line.{Line}

@@ -1,10 +1,10 @@
 -- Sessions, their recorders, and what a seat tells of a recorded line.
 use Rattle.std.specs.Prelude.{◌≡◌, ◌≢◌, List, map, Contains, Some, None}
-use Rattle.gen_events.specs.declared.handle.Handle.{Handle}
-use Rattle.gen_events.specs.declared.handle.Fate.{Fate}
-use Rattle.gen_events.specs.declared.tokens.Seat.{Seat}
-use Rattle.gen_events.specs.Seats.{HasSeen, Knows, no_event}
-use Rattle.gen_events.specs.Views.{lists, IsAt, IsMakerOf, made_by, shape_of}
+use Rattle.event_table.specs.declared.handle.Handle.{Handle}
+use Rattle.event_table.specs.declared.handle.Fate.{Fate}
+use Rattle.shared_events.specs.declared.tokens.Seat.{Seat}
+use Rattle.shared_events.specs.Seats.{HasSeen, Knows, no_event}
+use Rattle.shared_events.specs.Views.{lists, IsAt, IsMakerOf, made_by, shape_of}
 use Rattle.realm_session.specs.declared.line.Line.{Line}
 use Rattle.realm_session.specs.declared.recorder.Recorder.{Recorder}
 use Rattle.realm_session.specs.declared.session.Session.{Session}

@@ -3,9 +3,9 @@
 ghost use Rattle.std.specs.Prelude.{◌≡◌, ◌≢◌, ℕ, ◌+◌, ◌<◌, ◌≤◌, ◌++◌, ◌∷◌, [], ◌↔◌, length, map, vec_len, slice_get, Some, Contains, IfOk, IfErr, OnOk, OnErr};
 ghost use Rattle.std.specs.Vec.{vec_capacity};
 ghost use Rattle.basics.specs.Sums.{total};
-ghost use Rattle.gen_events.specs.Seats.{no_event};
-ghost use Rattle.gen_events.specs.Views.{handle_of, made_by, IsMakerOf, IsNew, IsPendingOf};
-ghost use Rattle.gen_events.specs.declared.handle.Handle.{Handle as TheHandle};
+ghost use Rattle.shared_events.specs.Seats.{no_event};
+ghost use Rattle.shared_events.specs.Views.{handle_of, made_by, IsMakerOf, IsNew, IsPendingOf};
+ghost use Rattle.event_table.specs.declared.handle.Handle.{Handle as TheHandle};
 ghost use Rattle.realm_session.specs.declared.limits.TheConstants.{MAX_RECORDED};
 ghost use Rattle.realm_session.specs.declared.line.Line.{Line as TheLine};
 ghost use Rattle.realm_session.specs.Recorded.{waits, end_in, handle_in, lines_in, waiting_in, need, need_with, ends_for, Adds, AreNew};
@@ -17,9 +17,10 @@ use crate::recorder::Recorder;
 use crate::refusal::RecordRefusal;
 use crate::room::{push_within, reserve_one, with_room};
 use crate::session::Session;
-use gen_events::{Fate, Handle, Pending, Seat};
+use event_table::{Fate, Handle};
 use graph_terms::lists::{EndList, ItemList};
 use graph_terms::outcome::End;
+use shared_events::{Pending, Seat};
 use std::alloc::Global;
 
 /// How the event of a line ends: not at all where the line waits.

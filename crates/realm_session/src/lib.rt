@@ -13,9 +13,10 @@ mod refusal;
 mod room;
 mod session;
 
-pub use gen_events::{Answer, Handle, Left, NoMemory, Seat};
+pub use event_table::{Answer, Handle, Left, NoMemory};
 pub use limits::{LAST_GEN, MAX_RECORDED};
 pub use line::Line;
 pub use recorder::Recorder;
 pub use refusal::RecordRefusal;
 pub use session::Session;
+pub use shared_events::Seat;

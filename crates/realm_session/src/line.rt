@@ -1,6 +1,6 @@
 //! What is recorded of a line.
 
-use gen_events::Handle;
+use event_table::Handle;
 use graph_terms::outcome::End;
 
 /// The event of a line, and how the line ended.

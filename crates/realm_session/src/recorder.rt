@@ -4,8 +4,9 @@ ghost use Rattle.std.specs.Prelude.{◌≡◌, ◌<◌, length};
 ghost use Rattle.realm_session.specs.Recorded.{IsRecord, lines_in, waiting_in};
 
 use crate::line::Line;
-use gen_events::{Handle, Maker, Seat};
+use event_table::Handle;
 use graph_terms::lists::ItemList;
+use shared_events::{Maker, Seat};
 
 /// The right to record, and what was recorded. A session has one.
 #[derive(Drop)]

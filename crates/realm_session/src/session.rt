@@ -1,12 +1,13 @@
 //! Sessions: what is asked of them, and their end.
 
 ghost use Rattle.std.specs.Prelude.{◌≡◌};
-ghost use Rattle.gen_events.specs.Views.{shape_of};
+ghost use Rattle.shared_events.specs.Views.{shape_of};
 ghost use Rattle.realm_session.specs.declared.limits.TheConstants.{LAST_GEN};
 
 use crate::limits::LAST_GEN;
 use crate::recorder::Recorder;
-use gen_events::{Answer, Events, Handle, Left, NoMemory, Seat};
+use event_table::{Answer, Handle, Left, NoMemory};
+use shared_events::{Events, Seat};
 use std::alloc::Global;
 
 /// The events of all graphs that are recorded.
@@ -18,9 +19,9 @@ pub struct Session {
 
 impl Session {
     ghost use Rattle.std.specs.Prelude.{◌≢◌, ◌<◌, ◌≤◌, [], length, IfOk, Some};
-    ghost use Rattle.gen_events.specs.EventMap.{no_event, answer, IsCreated, IsEventMap};
-    ghost use Rattle.gen_events.specs.declared.handle.Handle.{Handle as TheHandle};
-    ghost use Rattle.gen_events.specs.declared.limits.TheConstants.{MAX_SLOTS};
+    ghost use Rattle.event_table.specs.EventMap.{no_event, answer, IsCreated, IsEventMap};
+    ghost use Rattle.event_table.specs.declared.handle.Handle.{Handle as TheHandle};
+    ghost use Rattle.event_table.specs.declared.limits.TheConstants.{MAX_SLOTS};
     ghost use Rattle.realm_session.specs.Recorded.{answer_for, IsRecorded};
     ghost use Rattle.realm_session.specs.Sessions.{recorded_by, IsRecorderOf, IsSeatOf, CanAsk, Tells};
     ghost use Rattle.realm_session.specs.declared.line.Line.{Line as TheLine};

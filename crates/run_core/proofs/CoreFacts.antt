@@ -15,9 +15,9 @@ use Rattle.graph_meaning.specs.Evaluation.{eval_end}
 use Rattle.graph_meaning.specs.Need.{IsNeed}
 use Rattle.graph_meaning.specs.Rules.{Accepted}
 use Rattle.graph_terms.specs.Fits.{IsGraph}
-use Rattle.gen_events.specs.declared.handle.Handle.{Handle}
-use Rattle.gen_events.specs.declared.handle.Answer.TheVariants.{Pending}
-use Rattle.gen_events.specs.EventMap.{EventMap, SlotLife, answer, answer_of, fresh, created_at, placed_on, next_handle, no_event, MayServe, IsEventMap, Gives}
+use Rattle.event_table.specs.declared.handle.Handle.{Handle}
+use Rattle.event_table.specs.declared.handle.Answer.TheVariants.{Pending}
+use Rattle.event_table.specs.EventMap.{EventMap, SlotLife, answer, answer_of, fresh, created_at, placed_on, next_handle, no_event, MayServe, IsEventMap, Gives}
 use Rattle.run_state.specs.Run.{LineStage, Unissued, Issued, Out, Ending, Ended, stage_at, stage_issued, stage_ended, issued, ended, end_so_far}
 use Rattle.run_state.specs.Moves.{claim}
 use Rattle.run_state.specs.WholeLine.{take_whole}

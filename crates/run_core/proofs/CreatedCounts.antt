@@ -6,11 +6,11 @@ use Rattle.std.proofs.lemmas.List.{get_or_past}
 use Rattle.std.proofs.lemmas.List.Elements.{Contains-append_left, Contains-append_right, Contains-append_cases}
 use Rattle.std.proofs.lemmas.Option.{none-some}
 use Rattle.basics.specs.Sums.{total}
-use Rattle.gen_events.specs.declared.handle.Handle.{Handle}
-use Rattle.gen_events.specs.declared.handle.Answer.{Answer}
-use Rattle.gen_events.specs.declared.handle.Answer.TheVariants.{Pending}
-use Rattle.gen_events.specs.declared.handle.Fate.TheVariants.{Ok}
-use Rattle.gen_events.specs.EventMap.{EventMap, SlotLife, unused, life_at, answer, answer_of, answer_in}
+use Rattle.event_table.specs.declared.handle.Handle.{Handle}
+use Rattle.event_table.specs.declared.handle.Answer.{Answer}
+use Rattle.event_table.specs.declared.handle.Answer.TheVariants.{Pending}
+use Rattle.event_table.specs.declared.handle.Fate.TheVariants.{Ok}
+use Rattle.event_table.specs.EventMap.{EventMap, SlotLife, unused, life_at, answer, answer_of, answer_in}
 use Rattle.basics.proofs.ListFacts.{contains_cases, contains_here, contains_there, contains_none}
 use Rattle.run_core.specs.Core.{created_in}
 use Rattle.run_core.proofs.HandleCounts.{Distinct, same_total, once_distinct}

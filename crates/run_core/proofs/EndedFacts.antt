@@ -17,8 +17,8 @@ use Rattle.basics.proofs.ListFacts.{count_below-max, fewer_below}
 use Rattle.basics.specs.Lists.{count_below}
 use Rattle.graph_meaning.proofs.Waiting.{end_in_ended, steps_end}
 use Rattle.index_spaces.specs.Held.{held_at}
-use Rattle.gen_events.specs.declared.handle.Handle.{Handle}
-use Rattle.gen_events.specs.EventMap.{answer, answer_of, ended_with}
+use Rattle.event_table.specs.declared.handle.Handle.{Handle}
+use Rattle.event_table.specs.EventMap.{answer, answer_of, ended_with}
 use Rattle.run_state.specs.Run.{LineStage, Ending, Ended, Place, Home, Had, Run, is_listed, stage_at, place_at, list_at, end_so_far, stage_out, stage_started, stage_over, started, timed}
 use Rattle.run_state.specs.Sound.{AccessesColumn, Sound}
 use Rattle.run_state.specs.WholeLine.{lock_of, all_home, all_back, columns_for, values_with, arrived_with, arrival_for, holders_without, freed_with, freed_lock, frees_by, frees_for, put_back_whole}

@@ -7,13 +7,13 @@ use Rattle.std.proofs.lemmas.Option.{none-some, same_Some, slice_get_within, sli
 use Rattle.graph_terms.specs.declared.outcome.End.{End}
 use Rattle.graph_terms.specs.Graph.{GraphValue}
 use Rattle.basics.specs.Lists.{count_below}
-use Rattle.gen_events.specs.declared.handle.Handle.{Handle}
-use Rattle.gen_events.specs.declared.handle.Fate.{Fate}
-use Rattle.gen_events.specs.declared.handle.Answer.TheVariants.{Pending}
+use Rattle.event_table.specs.declared.handle.Handle.{Handle}
+use Rattle.event_table.specs.declared.handle.Fate.{Fate}
+use Rattle.event_table.specs.declared.handle.Answer.TheVariants.{Pending}
 use Rattle.basics.specs.Sums.{total}
-use Rattle.gen_events.specs.EventMap.{EventMap, SlotLife, unused, life_at, answer, answer_in, answer_of, fresh, with_life, created_at, placed_on, ended_with, next_handle, MayServe, IsPlaced, IsEventMap, Gives}
+use Rattle.event_table.specs.EventMap.{EventMap, SlotLife, unused, life_at, answer, answer_in, answer_of, fresh, with_life, created_at, placed_on, ended_with, next_handle, MayServe, IsPlaced, IsEventMap, Gives}
 use Rattle.basics.proofs.Sums.{total-put}
-use Rattle.gen_events.proofs.MapAnswers.{in_idle, is_now, IsNow, life_here, life_there, split_handle, handle_eq, answer_apart}
+use Rattle.event_table.proofs.MapAnswers.{in_idle, is_now, IsNow, life_here, life_there, split_handle, handle_eq, answer_apart}
 use Rattle.run_state.specs.Run.{LineStage, Unissued, Issued, Ended, stage_at, stage_issued, stage_ended, end_so_far, issued, ended}
 use Rattle.run_state.specs.Start.{start}
 use Rattle.run_state.proofs.Start.{same_at}

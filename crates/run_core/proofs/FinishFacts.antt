@@ -11,8 +11,8 @@ use Rattle.graph_terms.specs.Access.{accesses}
 use Rattle.graph_meaning.specs.Evaluation.{eval_end}
 use Rattle.basics.proofs.ListFacts.{count_below-le, fewer_below, map_contains, got_in}
 use Rattle.basics.specs.Lists.{count_below}
-use Rattle.gen_events.specs.declared.handle.Handle.{Handle}
-use Rattle.gen_events.specs.EventMap.{SlotLife, IsFull}
+use Rattle.event_table.specs.declared.handle.Handle.{Handle}
+use Rattle.event_table.specs.EventMap.{SlotLife, IsFull}
 use Rattle.run_state.specs.Run.{LineStage, Unissued, Issued, Out, Ending, Ended, Run, stage_at, time_at, stage_issued, stage_ended, stage_out, issued, out, ended, timed}
 use Rattle.run_state.specs.Quiet.{CanTake, IsFree, Quiet}
 use Rattle.run_state.specs.Moves.{claim}

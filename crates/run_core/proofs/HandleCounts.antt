@@ -2,7 +2,7 @@
 use Rattle.std.proofs.Common.{◌≡◌, ℕ, suc, ◌+◌, ◌⊎◌, inl, inr, List, [], ◌∷◌, ◌++◌, refl, sym, ◌∙◌, ap, subst, arith}
 use Rattle.std.specs.Prelude.{Contains, Some, slice_get}
 use Rattle.basics.specs.Sums.{total}
-use Rattle.gen_events.specs.declared.handle.Handle.{Handle}
+use Rattle.event_table.specs.declared.handle.Handle.{Handle}
 use Rattle.basics.proofs.ListFacts.{contains_cases, contains_here, contains_there, contains_none}
 
 abbrev pub Distinct : List Handle → Type 0

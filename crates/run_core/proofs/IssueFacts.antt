@@ -5,10 +5,10 @@ use Rattle.std.proofs.lemmas.Bool.{true≢false, false≢true, cases_lt, false_f
 use Rattle.std.proofs.lemmas.List.{get_or_past, length-map}
 use Rattle.graph_terms.specs.declared.outcome.End.TheVariants.{Waiting}
 use Rattle.graph_terms.specs.Graph.{GraphValue}
-use Rattle.gen_events.specs.declared.handle.Handle.{Handle}
-use Rattle.gen_events.specs.declared.handle.Answer.TheVariants.{Pending}
-use Rattle.gen_events.specs.EventMap.{answer, created_at, placed_on, next_handle, MayServe, IsFull, IsEventMap, Gives}
-use Rattle.gen_events.proofs.MapAnswers.{create_tells}
+use Rattle.event_table.specs.declared.handle.Handle.{Handle}
+use Rattle.event_table.specs.declared.handle.Answer.TheVariants.{Pending}
+use Rattle.event_table.specs.EventMap.{answer, created_at, placed_on, next_handle, MayServe, IsFull, IsEventMap, Gives}
+use Rattle.event_table.proofs.MapAnswers.{create_tells}
 use Rattle.run_state.specs.Run.{LineStage, Unissued, Issued, Out, Ending, Ended, Run, stage_at, stage_issued, stage_over, stage_out, end_so_far, out, over, ended}
 use Rattle.run_state.specs.Moves.{staged, issue}
 use Rattle.run_state.specs.Laws.{IssueKeepsRest, StageLeaves}

@@ -8,9 +8,9 @@ use Rattle.std.proofs.lemmas.List.FromFn.{map-range_with_len_more}
 use Rattle.std.proofs.lemmas.List.{length_push}
 use Rattle.basics.specs.Lists.{numbers_below}
 use Rattle.graph_terms.specs.declared.outcome.Answer.{Answer}
-use Rattle.gen_events.specs.declared.handle.Handle.{Handle}
-use Rattle.gen_events.specs.declared.handle.Answer.{Answer as EventAnswer}
-use Rattle.gen_events.specs.EventMap.{EventMap, answer}
+use Rattle.event_table.specs.declared.handle.Handle.{Handle}
+use Rattle.event_table.specs.declared.handle.Answer.{Answer as EventAnswer}
+use Rattle.event_table.specs.EventMap.{EventMap, answer}
 use Rattle.basics.proofs.ListFacts.{got_in}
 use Rattle.graph_terms.specs.Graph.{GraphValue, verb_at}
 use Rattle.run_state.specs.Run.{end_so_far}

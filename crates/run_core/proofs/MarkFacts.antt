@@ -5,14 +5,14 @@ use Rattle.std.proofs.lemmas.Bool.{true≢false, false≢true, cases_eq}
 use Rattle.std.proofs.lemmas.List.{get_or-set_same, get_or-set_other, get_or-replicate, length-set, length-replicate}
 use Rattle.std.proofs.lemmas.Option.{same_Some, slice_get_within, slice_get-get_or, get_or_from_slice_get}
 use Rattle.std.proofs.lemmas.List.Elements.{Contains-append_left, Contains-append_right}
-use Rattle.gen_events.specs.declared.handle.Handle.{Handle}
-use Rattle.gen_events.specs.declared.handle.Fate.{Fate}
-use Rattle.gen_events.specs.declared.handle.Answer.{Answer}
-use Rattle.gen_events.specs.declared.handle.Answer.TheVariants.{Pending}
-use Rattle.gen_events.specs.EventMap.{EventMap, SlotLife, unused, life_at, fresh, created_at, placed_on, ended_with, IsFree, Gives, KeepsFree, with_life, answer, all_on, no_event, IsCreated, IsPlaced, WatchedNow, answer_of}
-use Rattle.gen_events.specs.declared.handle.WatchNow.TheVariants.{Over}
+use Rattle.event_table.specs.declared.handle.Handle.{Handle}
+use Rattle.event_table.specs.declared.handle.Fate.{Fate}
+use Rattle.event_table.specs.declared.handle.Answer.{Answer}
+use Rattle.event_table.specs.declared.handle.Answer.TheVariants.{Pending}
+use Rattle.event_table.specs.EventMap.{EventMap, SlotLife, unused, life_at, fresh, created_at, placed_on, ended_with, IsFree, Gives, KeepsFree, with_life, answer, all_on, no_event, IsCreated, IsPlaced, WatchedNow, answer_of}
+use Rattle.event_table.specs.declared.handle.WatchNow.TheVariants.{Over}
 use Rattle.basics.proofs.ListFacts.{contains_there, contains_none, contains_cases, contains_map}
-use Rattle.gen_events.proofs.MapAnswers.{near_some, answer_apart}
+use Rattle.event_table.proofs.MapAnswers.{near_some, answer_apart}
 use Rattle.run_core.specs.Events.{EventsValue, IsBusy, AreMarked}
 use Rattle.run_core.proofs.EventFacts.{replicate_at}
 

@@ -19,8 +19,8 @@ use Rattle.graph_terms.specs.Graph.{GraphValue, columns, column_space, verb_at}
 use Rattle.graph_meaning.specs.Effect.{zero_cells}
 use Rattle.graph_meaning.specs.Evaluation.{answer_of, column_of, outcome}
 use Rattle.graph_meaning.specs.Trace.{IsLawful}
-use Rattle.gen_events.specs.declared.handle.Handle.{Handle}
-use Rattle.gen_events.specs.EventMap.{answer, fresh, no_event}
+use Rattle.event_table.specs.declared.handle.Handle.{Handle}
+use Rattle.event_table.specs.EventMap.{answer, fresh, no_event}
 use Rattle.instances.specs.Homes.{all_home}
 use Rattle.run_state.specs.Run.{Home, Had, Run, stage_at, time_at, place_at, end_so_far}
 use Rattle.run_state.specs.Start.{first_value}

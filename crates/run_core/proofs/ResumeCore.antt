@@ -9,8 +9,8 @@ use Rattle.graph_terms.specs.declared.verb.Verb.TheVariants.{Phase}
 use Rattle.graph_terms.specs.Graph.{columns, locks, verb_at}
 use Rattle.graph_meaning.specs.Evaluation.{eval_end}
 use Rattle.basics.specs.Lists.{count_below}
-use Rattle.gen_events.specs.declared.handle.Handle.{Handle}
-use Rattle.gen_events.specs.EventMap.{EventMap, no_event}
+use Rattle.event_table.specs.declared.handle.Handle.{Handle}
+use Rattle.event_table.specs.EventMap.{EventMap, no_event}
 use Rattle.run_state.specs.Run.{LineStage, Unissued, Issued, Out, Ending, Ended, Home, Run, is_listed, stage_at, time_at, list_at, end_so_far, stage_issued, stage_started, stage_ended, ended, timed}
 use Rattle.run_state.proofs.Lists.{some_is, is_some_of, ended_over, stage_there}
 use Rattle.run_state.proofs.Started.{ended_started, started_below, kept_is}

@@ -3,7 +3,7 @@ use Rattle.std.proofs.Common.{◌≡◌, ℕ, suc, ◌+◌, ◌<◌, ◌≤◌, 
 use Rattle.std.specs.Prelude.{slice_index_or}
 use Rattle.graph_meaning.specs.Need.{IsNeed}
 use Rattle.basics.specs.Sums.{total}
-use Rattle.gen_events.specs.EventMap.{EventMap, SlotLife, unused, life_at, IsRetired, IsFull}
+use Rattle.event_table.specs.EventMap.{EventMap, SlotLife, unused, life_at, IsRetired, IsFull}
 use Rattle.basics.proofs.Sums.{entry_le}
 use Rattle.run_state.specs.Quiet.{CanTake, Stuck, left_among}
 use Rattle.run_state.specs.Laws.{LeftBelowNeed}

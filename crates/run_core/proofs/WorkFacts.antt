@@ -6,8 +6,8 @@ use Rattle.graph_terms.specs.declared.outcome.End.TheVariants.{Cancelled}
 use Rattle.graph_terms.specs.Graph.{GraphValue, column_space}
 use Rattle.graph_meaning.specs.Evaluation.{eval_end, column_of, cells_of_lines}
 use Rattle.index_spaces.specs.Column.{ColumnValue}
-use Rattle.gen_events.specs.declared.handle.Handle.{Handle}
-use Rattle.gen_events.specs.EventMap.{EventMap}
+use Rattle.event_table.specs.declared.handle.Handle.{Handle}
+use Rattle.event_table.specs.EventMap.{EventMap}
 use Rattle.run_state.specs.Run.{Run, Out, is_listed, stage_at, list_at, stage_out, out}
 use Rattle.run_state.specs.Sound.{AccessesColumn}
 use Rattle.run_state.specs.Work.{put_cells}

@@ -7,10 +7,10 @@ use Rattle.graph_terms.specs.declared.outcome.Answer.TheVariants as outcomes
 use Rattle.graph_terms.specs.declared.verb.Verb.{Verb}
 use Rattle.graph_terms.specs.declared.verb.Verb.TheVariants.{Phase}
 use Rattle.graph_terms.specs.Graph.{GraphValue, verb_at}
-use Rattle.gen_events.specs.declared.handle.Handle.{Handle}
-use Rattle.gen_events.specs.declared.handle.Answer.{Answer as EventAnswer}
-use Rattle.gen_events.specs.declared.handle.Answer.TheVariants as events
-use Rattle.gen_events.specs.EventMap.{EventMap, answer}
+use Rattle.event_table.specs.declared.handle.Handle.{Handle}
+use Rattle.event_table.specs.declared.handle.Answer.{Answer as EventAnswer}
+use Rattle.event_table.specs.declared.handle.Answer.TheVariants as events
+use Rattle.event_table.specs.EventMap.{EventMap, answer}
 use Rattle.run_state.specs.Run.{LineStage, stage_at, end_so_far}
 
 -- the answer of an event, as the outcome has it

@@ -6,11 +6,11 @@ use Rattle.graph_terms.specs.declared.verb.Edge.{Edge}
 use Rattle.graph_terms.specs.Graph.{GraphValue}
 use Rattle.graph_terms.specs.Edges.{edges}
 use Rattle.graph_meaning.specs.Need.{IsNeed}
-use Rattle.gen_events.specs.declared.handle.Handle.{Handle}
-use Rattle.gen_events.specs.declared.handle.Answer.{Answer}
-use Rattle.gen_events.specs.declared.handle.Answer.TheVariants.{Pending, Triggered, Poisoned}
+use Rattle.event_table.specs.declared.handle.Handle.{Handle}
+use Rattle.event_table.specs.declared.handle.Answer.{Answer}
+use Rattle.event_table.specs.declared.handle.Answer.TheVariants.{Pending, Triggered, Poisoned}
 use Rattle.basics.specs.Sums.{total}
-use Rattle.gen_events.specs.EventMap.{EventMap, SlotLife, answer, fresh, IsPlaced}
+use Rattle.event_table.specs.EventMap.{EventMap, SlotLife, answer, fresh, IsPlaced}
 use Rattle.run_state.specs.Run.{LineStage, Run, stage_at, end_so_far, issued, ended}
 use Rattle.run_state.specs.Sound.{Sound}
 use Rattle.run_state.specs.AtRest.{AtRest}

@@ -1,7 +1,7 @@
 -- The handles of the issued lines, with the table that they stand in.
 use Rattle.std.specs.Prelude.{◌≡◌, ℕ, ◌⊎◌, Bool, true, false, List, length, Contains, slice_get, Some}
-use Rattle.gen_events.specs.declared.handle.Handle.{Handle}
-use Rattle.gen_events.specs.EventMap.{EventMap, life_at, IsFree}
+use Rattle.event_table.specs.declared.handle.Handle.{Handle}
+use Rattle.event_table.specs.EventMap.{EventMap, life_at, IsFree}
 
 pub record EventsValue : Type 0 where
   pub handles : List Handle

@@ -1,7 +1,7 @@
 -- What a run on one thread keeps until nothing moves.
 use Rattle.std.specs.Prelude.{◌≡◌, ℕ, ◌+◌, ◌≤◌, false, not, length, Some, slice_get}
 use Rattle.graph_terms.specs.declared.outcome.End.{End}
-use Rattle.gen_events.specs.declared.handle.Handle.{Handle}
+use Rattle.event_table.specs.declared.handle.Handle.{Handle}
 use Rattle.basics.specs.Lists.{count_below}
 use Rattle.run_state.specs.Run.{Ended, stage_at, time_at, out, issued, ended}
 use Rattle.run_core.specs.Core.{CoreValue, slots_given}

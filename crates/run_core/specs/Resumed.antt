@@ -6,8 +6,8 @@ use Rattle.graph_terms.specs.declared.outcome.End.TheVariants.{Done, Waiting}
 use Rattle.graph_terms.specs.declared.verb.Verb.TheVariants.{Phase}
 use Rattle.graph_terms.specs.Graph.{GraphValue, columns, column_space, verb_at}
 use Rattle.graph_terms.specs.Reservations.{Acquires, Releases, both_shared}
-use Rattle.gen_events.specs.declared.handle.Handle.{Handle}
-use Rattle.gen_events.specs.EventMap.{EventMap, no_event, IsFree}
+use Rattle.event_table.specs.declared.handle.Handle.{Handle}
+use Rattle.event_table.specs.EventMap.{EventMap, no_event, IsFree}
 use Rattle.run_state.specs.Run.{Home, Run, is_listed, stage_at, time_at, place_at, list_at, end_so_far, started, ended}
 use Rattle.run_state.specs.Sound.{Sound}
 use Rattle.run_core.specs.declared.answers.Stage.{Stage}

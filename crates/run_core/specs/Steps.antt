@@ -5,10 +5,10 @@ use Rattle.graph_terms.specs.declared.outcome.End.TheVariants.{Done, Faulted, Ca
 use Rattle.graph_terms.specs.Graph.{GraphValue, never_comes}
 use Rattle.graph_terms.specs.Reservations.{Acquires, both_shared}
 use Rattle.graph_meaning.specs.Evaluation.{eval_end}
-use Rattle.gen_events.specs.declared.handle.Handle.{Handle}
-use Rattle.gen_events.specs.declared.handle.Fate.{Fate}
-use Rattle.gen_events.specs.declared.handle.Fate.TheVariants.{Ok, Poison}
-use Rattle.gen_events.specs.EventMap.{no_event, created_at, placed_on, ended_with, next_handle, MayServe, IsFull, IsFree, Gives}
+use Rattle.event_table.specs.declared.handle.Handle.{Handle}
+use Rattle.event_table.specs.declared.handle.Fate.{Fate}
+use Rattle.event_table.specs.declared.handle.Fate.TheVariants.{Ok, Poison}
+use Rattle.event_table.specs.EventMap.{no_event, created_at, placed_on, ended_with, next_handle, MayServe, IsFull, IsFree, Gives}
 use Rattle.run_state.specs.Run.{LineStage, Unissued, Issued, Out, Ending, Ended, Place, Had, Run, is_listed, stage_at, place_at, list_at, ended}
 use Rattle.run_state.specs.Sound.{AccessesColumn, IsOpenTo}
 use Rattle.run_state.specs.Moves.{issue, claim}

@@ -3,13 +3,13 @@
 ghost use Rattle.std.specs.Prelude.{◌≡◌, ◌<◌, ◌≤◌, ◌++◌, [], ◌∷◌, vec_len};
 ghost use Rattle.std.specs.Vec.{vec_capacity};
 ghost use Rattle.run_core.specs.Resumed.{issued_handles};
-ghost use Rattle.gen_events.specs.EventMap.{EventMap};
+ghost use Rattle.event_table.specs.EventMap.{EventMap};
 
 use crate::answers::Stage;
 use crate::run::LAST_GEN;
 use crate::states::LineState;
-use gen_events::limits::MAX_SLOTS;
-use gen_events::{Answer, EventTable, Fate, Handle, WatchNow};
+use event_table::limits::MAX_SLOTS;
+use event_table::{Answer, EventTable, Fate, Handle, WatchNow};
 use graph_terms::limits::MAX_LINES;
 use index_spaces::NoMemory;
 use index_spaces::room::{filled, push_within, with_room};
@@ -31,7 +31,7 @@ impl Model for LineEvents {
     ghost use Rattle.std.specs.Vec.{vec_capacity};
     ghost use Rattle.run_core.specs.Events.{EventsValue, AreMarked};
     ghost use Rattle.graph_terms.specs.declared.limits.TheConstants.{MAX_LINES};
-    ghost use Rattle.gen_events.specs.declared.limits.TheConstants.{MAX_SLOTS};
+    ghost use Rattle.event_table.specs.declared.limits.TheConstants.{MAX_SLOTS};
 
     ghost Value = { EventsValue };
 
@@ -60,9 +60,9 @@ fn push_handle(state: LineState, handles: &mut Vec<Handle>)
 
 impl LineEvents {
     ghost use Rattle.std.specs.Prelude.{◌≡◌, ◌≢◌, ◌<◌, ◌≤◌, ◌⊎◌, ◌*◌, ◌++◌, ℕ, [], ◌∷◌, length, true, false, Some, None, slice_get, slice_index_or, IfOk, IfSome, IfNone, IsSome};
-    ghost use Rattle.gen_events.specs.declared.handle.Handle.{Handle as TheHandle};
-    ghost use Rattle.gen_events.specs.declared.handle.Answer.TheVariants.{Pending};
-    ghost use Rattle.gen_events.specs.EventMap.{IsEventMap, answer, answer_of, fresh, created_at, placed_on, ended_with, next_handle, no_event, MayServe, IsFull, IsFree, Gives};
+    ghost use Rattle.event_table.specs.declared.handle.Handle.{Handle as TheHandle};
+    ghost use Rattle.event_table.specs.declared.handle.Answer.TheVariants.{Pending};
+    ghost use Rattle.event_table.specs.EventMap.{IsEventMap, answer, answer_of, fresh, created_at, placed_on, ended_with, next_handle, no_event, MayServe, IsFull, IsFree, Gives};
     ghost use Rattle.run_core.specs.Events.{EventsValue};
     ghost use Rattle.run_core.specs.Resumed.{issued_handles};
 

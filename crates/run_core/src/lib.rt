@@ -14,7 +14,7 @@ mod states;
 mod work;
 
 pub use answers::{Attempt, Issue, Stage, Thing};
-pub use gen_events::limits::MAX_SLOTS;
+pub use event_table::limits::MAX_SLOTS;
 pub use run::{Core, LAST_GEN};
 pub use states::{LineState, StateList};
 pub use work::{Finished, Work};

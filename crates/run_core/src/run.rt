@@ -9,7 +9,7 @@ use crate::phases::first_values;
 use crate::progress::Progress;
 use crate::run::outcome::OutcomeRoom;
 use checked_graph::Checked;
-use gen_events::limits::MAX_SLOTS;
+use event_table::limits::MAX_SLOTS;
 use graph_meaning::laws::needs_are_one;
 use graph_model::graph::Graph;
 use index_spaces::NoMemory;
@@ -74,7 +74,7 @@ impl<'g> Core<'g> {
     ghost use Rattle.std.specs.Prelude.{◌≡◌, ℕ, ◌≤◌, IfOk};
     ghost use Rattle.run_core.specs.Core.{unissued, slots_given, IsCore};
     ghost use Rattle.run_core.specs.Steps.{IsLeft};
-    ghost use Rattle.gen_events.specs.EventMap.{IsRetired};
+    ghost use Rattle.event_table.specs.EventMap.{IsRetired};
     ghost use Rattle.run_core.specs.Finishing.{NothingOut};
 
     /// A core in which no line is issued, with this many event slots. Slots go from the graph's need

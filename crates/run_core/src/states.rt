@@ -4,7 +4,7 @@ ghost use Rattle.std.specs.Prelude.{◌≡◌, ◌<◌, length, slice_get, slice
 ghost use Rattle.run_core.specs.Resumed.{blank_state};
 
 use crate::answers::Stage;
-use gen_events::{Handle, NO_EVENT};
+use event_table::{Handle, NO_EVENT};
 use graph_terms::outcome::End;
 use index_spaces::NoMemory;
 use index_spaces::room::filled;

@@ -8,7 +8,7 @@ ghost use Rattle.run_core.specs.Works.{WorkValue, IsWork};
 use crate::graphs::checked;
 use crate::orders::{Order, line_at};
 use crate::outcomes::{has_trace, is_same};
-use gen_events::Handle;
+use event_table::Handle;
 use graph_terms::outcome::Outcome;
 use plain_eval::evaluation::eval;
 use race_check::checked::Checked;

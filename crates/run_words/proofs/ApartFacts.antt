@@ -13,9 +13,9 @@ use Rattle.basics.proofs.Sums.{total-append, total-set}
 use Rattle.graph_terms.specs.declared.outcome.End.{End}
 use Rattle.graph_terms.specs.Graph.{GraphValue}
 use Rattle.graph_meaning.specs.Path.{HasPath}
-use Rattle.gen_events.specs.Seats.{no_event}
-use Rattle.gen_events.specs.declared.events.Events.{Events}
-use Rattle.gen_events.specs.declared.handle.Handle.{Handle}
+use Rattle.shared_events.specs.Seats.{no_event}
+use Rattle.shared_events.specs.declared.events.Events.{Events}
+use Rattle.event_table.specs.declared.handle.Handle.{Handle}
 use Rattle.run_state.specs.Run.{Run}
 use Rattle.run_words.specs.declared.content.Content.{Content}
 use Rattle.run_words.specs.declared.view.View.{View}

@@ -2,11 +2,11 @@
 use Rattle.std.proofs.Common.{◌≡◌, ℕ, ◌+◌, ◌-◌, List, [], ◌∷◌, refl, sym, ◌∙◌, ap, subst, arith}
 use Rattle.std.specs.Prelude.{Contains, Some, None}
 use Rattle.std.proofs.lemmas.List.Elements.{Contains-append_right}
-use Rattle.gen_events.proofs.Members.{Contains-head}
-use Rattle.gen_events.specs.Views.{IsReceiptOf, handle_of, ended_by, fate_of}
-use Rattle.gen_events.specs.declared.events.Events.{Events}
-use Rattle.gen_events.specs.declared.tokens.Pending.{Pending}
-use Rattle.gen_events.specs.declared.tokens.Receipt.{Receipt}
+use Rattle.event_table.proofs.Members.{Contains-head}
+use Rattle.shared_events.specs.Views.{IsReceiptOf, handle_of, ended_by, fate_of}
+use Rattle.shared_events.specs.declared.events.Events.{Events}
+use Rattle.shared_events.specs.declared.tokens.Pending.{Pending}
+use Rattle.shared_events.specs.declared.tokens.Receipt.{Receipt}
 use Rattle.graph_terms.specs.declared.outcome.End.{End}
 use Rattle.graph_terms.specs.declared.outcome.End.TheVariants.{Done, Faulted, Cancelled, Waiting}
 use Rattle.index_spaces.specs.Column.{ColumnValue}

@@ -7,8 +7,8 @@ use Rattle.index_spaces.specs.Column.{ColumnValue}
 use Rattle.graph_terms.specs.declared.outcome.End.TheVariants.{Cancelled}
 use Rattle.graph_terms.specs.Graph.{GraphValue}
 use Rattle.graph_meaning.specs.Evaluation.{eval_end}
-use Rattle.gen_events.specs.declared.events.Events.{Events}
-use Rattle.gen_events.proofs.Members.{Contains-head, Contains-tail}
+use Rattle.shared_events.specs.declared.events.Events.{Events}
+use Rattle.event_table.proofs.Members.{Contains-head, Contains-tail}
 use Rattle.line_effects.proofs.MoveFacts.{moves_few}
 use Rattle.run_state.specs.Sound.{AccessesColumn}
 use Rattle.run_state.specs.WholeLine.{column_list}

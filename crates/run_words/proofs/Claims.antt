@@ -12,11 +12,11 @@ use Rattle.graph_terms.specs.declared.outcome.End.{End}
 use Rattle.graph_terms.specs.Graph.{GraphValue, never_comes}
 use Rattle.graph_meaning.specs.Evaluation.{evaluation, has_ended}
 use Rattle.basics.specs.Sums.{total}
-use Rattle.gen_events.specs.Views.{handle_of, IsPendingOf}
-use Rattle.gen_events.specs.declared.handle.Handle.{Handle}
-use Rattle.gen_events.specs.declared.events.Events.{Events}
+use Rattle.shared_events.specs.Views.{handle_of, IsPendingOf}
+use Rattle.event_table.specs.declared.handle.Handle.{Handle}
+use Rattle.shared_events.specs.declared.events.Events.{Events}
 use Rattle.basics.proofs.Sums.{total-set}
-use Rattle.gen_events.proofs.Members.{Contains-none}
+use Rattle.event_table.proofs.Members.{Contains-none}
 use Rattle.run_state.specs.Run.{LineStage, Unissued, Issued, Out, Ended, Run, stage_at, time_at, stage_issued, stage_out, stage_started, stage_over, stage_ended, issued}
 use Rattle.run_state.specs.Sound.{Sound}
 use Rattle.run_state.specs.Moves.{claim}

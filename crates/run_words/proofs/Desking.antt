@@ -1,15 +1,15 @@
 -- What the calls that move the desk rest on.
 use Rattle.std.proofs.Common.{◌≡◌, ℕ, ◌≤◌, List, [], ◌∷◌, ◌++◌, length, sym, ◌∙◌, ap, subst}
 use Rattle.std.specs.Prelude.{Contains, Some, None, option_map}
-use Rattle.gen_events.specs.declared.handle.Handle.{Handle}
-use Rattle.gen_events.specs.declared.events.Events.{Events}
-use Rattle.gen_events.proofs.Members.{Contains-head}
+use Rattle.event_table.specs.declared.handle.Handle.{Handle}
+use Rattle.shared_events.specs.declared.events.Events.{Events}
+use Rattle.event_table.proofs.Members.{Contains-head}
 use Rattle.graph_terms.specs.Graph.{GraphValue}
 use Rattle.run_words.specs.declared.content.Content.{Content}
 use Rattle.run_words.specs.declared.content.Content.TheVariants.{Nothing, Ticket, Stub, Cells, Tray}
 use Rattle.run_words.specs.declared.content.Desk.{Desk}
 use Rattle.run_words.specs.declared.view.View.{View}
-use Rattle.gen_events.specs.declared.tokens.Pending.{Pending}
+use Rattle.shared_events.specs.declared.tokens.Pending.{Pending}
 use Rattle.run_words.specs.Claims.{Ground, Claim}
 use Rattle.run_words.specs.Layout.{size_of, desk_slot}
 use Rattle.run_words.specs.Rule.{ground_of, IsTray}

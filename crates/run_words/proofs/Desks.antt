@@ -12,11 +12,11 @@ use Rattle.atomic_table.proofs.Lists.{exchanged, set_here}
 use Rattle.basics.specs.Lists.{numbers_below}
 use Rattle.graph_terms.specs.Graph.{GraphValue}
 use Rattle.basics.specs.Sums.{total}
-use Rattle.gen_events.specs.Seats.{Begins}
-use Rattle.gen_events.specs.declared.handle.Handle.{Handle}
-use Rattle.gen_events.specs.declared.events.Events.{Events}
+use Rattle.shared_events.specs.Seats.{Begins}
+use Rattle.event_table.specs.declared.handle.Handle.{Handle}
+use Rattle.shared_events.specs.declared.events.Events.{Events}
 use Rattle.basics.proofs.Sums.{total-set}
-use Rattle.gen_events.proofs.Members.{Contains-none}
+use Rattle.event_table.proofs.Members.{Contains-none}
 use Rattle.run_state.proofs.Lists.{stage_there}
 use Rattle.basics.proofs.ListFacts.{below_contains}
 use Rattle.run_words.specs.declared.content.Content.{Content}
@@ -131,7 +131,7 @@ module _ (g : GraphValue) (e : Events) (s : St) (o : Shown g e s) (id : ℕ) (v 
           issued = f.issued;
           ended = f.ended;
           named = λ l c. ⊎_elim (λ d. f.named l d)
-              (λ d. ⊎_elim (λ (q : hs ≡ l). subst (λ y. Begins y o.handles) (sym mine ∙ q) (begins_self o.handles)) (λ n. absurd (Contains-none l n)) (Rattle.gen_events.proofs.Members.Contains-cases hs l [] (subst (λ o'. Contains (named_by o') l) turn d)))
+              (λ d. ⊎_elim (λ (q : hs ≡ l). subst (λ y. Begins y o.handles) (sym mine ∙ q) (begins_self o.handles)) (λ n. absurd (Contains-none l n)) (Rattle.event_table.proofs.Members.Contains-cases hs l [] (subst (λ o'. Contains (named_by o') l) turn d)))
               (Contains-append_cases v.named (named_by v.desk) l c);
           claim = f.claim;
           event = f.event;

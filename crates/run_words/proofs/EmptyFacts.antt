@@ -6,9 +6,9 @@ use lib.ListN.{get_elem?}
 use Rattle.std.proofs.lemmas.Bool.{cases_eq, cases_lt}
 use Rattle.std.proofs.lemmas.List.{get_or-set_other}
 use Rattle.index_spaces.specs.Column.{ColumnValue}
-use Rattle.gen_events.specs.Seats.{Keeps}
-use Rattle.gen_events.specs.declared.handle.Handle.{Handle}
-use Rattle.gen_events.specs.declared.view.View.{View}
+use Rattle.shared_events.specs.Seats.{Keeps}
+use Rattle.event_table.specs.declared.handle.Handle.{Handle}
+use Rattle.shared_events.specs.declared.view.View.{View}
 use Rattle.run_words.specs.declared.content.Content.{Content}
 use Rattle.run_words.specs.declared.content.Content.TheVariants.{Nothing, Ticket, Stub, Cells, Tray}
 use Rattle.run_words.specs.Layout.{Size, desk_slot, slot_count}

@@ -9,7 +9,7 @@ use Rattle.graph_terms.specs.Graph.{GraphValue, barriers, verb_at}
 use Rattle.graph_terms.specs.Reservations.{Acquires}
 use Rattle.graph_meaning.specs.Evaluation.{eval_end, combined}
 use Rattle.basics.specs.Sums.{total}
-use Rattle.gen_events.specs.declared.events.Events.{Events}
+use Rattle.shared_events.specs.declared.events.Events.{Events}
 use Rattle.run_words.specs.declared.view.View.{View}
 use Rattle.run_words.specs.Claims.{Claim}
 use Rattle.basics.proofs.Sums.{total-set, term_le}

@@ -8,8 +8,8 @@ use Rattle.atomic_table.specs.Table.{gives, Allows}
 use Rattle.atomic_table.proofs.Lists.{set_here}
 use Rattle.graph_terms.specs.Graph.{GraphValue, columns}
 use Rattle.basics.specs.Sums.{total}
-use Rattle.gen_events.specs.declared.events.Events.{Events}
-use Rattle.gen_events.proofs.Members.{Contains-cases, Contains-head, Contains-tail}
+use Rattle.shared_events.specs.declared.events.Events.{Events}
+use Rattle.event_table.proofs.Members.{Contains-cases, Contains-head, Contains-tail}
 use Rattle.run_state.specs.Run.{Place, Home, Had, is_listed, place_at, list_at}
 use Rattle.run_state.specs.Sound.{home_cells}
 use Rattle.run_state.specs.Work.{put_cells}

@@ -16,7 +16,7 @@ use Rattle.graph_meaning.specs.Evaluation.{eval_end}
 use Rattle.basics.specs.Sums.{total}
 use Rattle.basics.specs.Lists.{count_below}
 use Rattle.basics.proofs.ListFacts.{count_below-max}
-use Rattle.gen_events.specs.declared.events.Events.{Events}
+use Rattle.shared_events.specs.declared.events.Events.{Events}
 use Rattle.run_words.specs.declared.content.Content.{Content}
 use Rattle.run_words.specs.declared.view.View.{View}
 use Rattle.run_words.specs.Claims.{Claim}

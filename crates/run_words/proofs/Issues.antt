@@ -12,18 +12,18 @@ use Rattle.atomic_table.proofs.Lists.{exchanged, set_here}
 use Rattle.graph_terms.specs.declared.outcome.End.{End}
 use Rattle.graph_terms.specs.Graph.{GraphValue}
 use Rattle.basics.specs.Sums.{total}
-use Rattle.gen_events.specs.Seats.{Begins, no_event}
-use Rattle.gen_events.specs.Views.{IsPendingOf, handle_of}
-use Rattle.gen_events.specs.declared.handle.Handle.{Handle}
-use Rattle.gen_events.specs.declared.tokens.Pending.{Pending}
-use Rattle.gen_events.specs.declared.events.Events.{Events}
+use Rattle.shared_events.specs.Seats.{Begins, no_event}
+use Rattle.shared_events.specs.Views.{IsPendingOf, handle_of}
+use Rattle.event_table.specs.declared.handle.Handle.{Handle}
+use Rattle.shared_events.specs.declared.tokens.Pending.{Pending}
+use Rattle.shared_events.specs.declared.events.Events.{Events}
 use Rattle.basics.proofs.Sums.{total-set, term_le, terms_le}
 use Rattle.run_state.specs.Run.{LineStage, Unissued, Issued, Out, Ending, Ended, Run, stage_at, stage_issued, stage_ended}
 use Rattle.run_state.specs.Sound.{Sound}
 use Rattle.run_words.specs.declared.content.Content.{Content}
 use Rattle.run_words.specs.declared.view.View.{View}
 use lib.Seq.{set-get_or}
-use Rattle.gen_events.proofs.Members.{Contains-head, Contains-tail}
+use Rattle.event_table.proofs.Members.{Contains-head, Contains-tail}
 use Rattle.run_state.specs.Moves.{issue}
 use Rattle.run_state.proofs.Stages.{issue-sound}
 use Rattle.run_words.specs.declared.content.Content.TheVariants.{Nothing, Ticket}

@@ -13,9 +13,9 @@ use Rattle.graph_terms.specs.Graph.{GraphValue}
 use Rattle.graph_meaning.specs.Path.{HasPath}
 use Rattle.graph_meaning.specs.Evaluation.{eval_end, cells_of_lines}
 use Rattle.basics.specs.Sums.{total}
-use Rattle.gen_events.specs.declared.handle.Handle.{Handle}
-use Rattle.gen_events.specs.declared.events.Events.{Events}
-use Rattle.gen_events.proofs.Members.{Contains-none, Contains-one}
+use Rattle.event_table.specs.declared.handle.Handle.{Handle}
+use Rattle.shared_events.specs.declared.events.Events.{Events}
+use Rattle.event_table.proofs.Members.{Contains-none, Contains-one}
 use Rattle.run_state.specs.Run.{LineStage, Unissued, Issued, Out, Ending, Ended, Run, is_listed, stage_at, stage_issued, stage_out, issued, stage_started, stage_ended, kept_end}
 use Rattle.run_state.specs.Sound.{Sound, AccessesColumn}
 use Rattle.run_state.specs.Work.{HoldsAll, put_cells}

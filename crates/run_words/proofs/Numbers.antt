@@ -8,7 +8,7 @@ use lib.ListN.{get_elem?}
 use Rattle.atomic_table.proofs.Lists.{at_set, at_snoc, set_else}
 use Rattle.basics.specs.Sums.{total, only}
 use Rattle.basics.proofs.Sums.{total-set, total-append, term_le, terms_le, item_le, only-same}
-use Rattle.gen_events.proofs.Members.{Contains-none, Contains-head, Contains-tail}
+use Rattle.event_table.proofs.Members.{Contains-none, Contains-head, Contains-tail}
 use Rattle.run_words.specs.declared.view.View.{View}
 use Rattle.run_words.specs.Rule.{child, AreNumbered}
 use Rattle.run_words.specs.Plays.{no_view, own_number, parent_of, child_of, joined}

@@ -12,8 +12,8 @@ use Rattle.graph_terms.specs.declared.outcome.End.{End}
 use Rattle.graph_terms.specs.Graph.{GraphValue, columns, locks}
 use Rattle.graph_meaning.specs.Rules.{Accepted}
 use Rattle.graph_terms.specs.Fits.{IsGraph}
-use Rattle.gen_events.specs.declared.events.Events.{Events}
-use Rattle.gen_events.proofs.Members.{Contains-none, Contains-one}
+use Rattle.shared_events.specs.declared.events.Events.{Events}
+use Rattle.event_table.proofs.Members.{Contains-none, Contains-one}
 use Rattle.run_state.specs.Run.{LineStage, Unissued, Home, stage_at, stage_issued}
 use Rattle.run_state.specs.Start.{start, zeros, first_value}
 use Rattle.run_state.proofs.Start.{same_at, start_is_sound}

@@ -3,11 +3,11 @@ use Rattle.std.proofs.Common.{◌≡◌, ℕ, ◌+◌, ◌-◌, ◌*◌, ◌<◌
 use Rattle.std.specs.Prelude.{Contains}
 use mathlib.Core.Logic.{dite}
 use native.Mathlib.Decide.{ℕ_discrete, dec_le}
-use Rattle.gen_events.specs.Rule.{turns_of}
-use Rattle.gen_events.specs.Views.{GoesRound, IsFull}
-use Rattle.gen_events.specs.declared.handle.Handle.{Handle}
-use Rattle.gen_events.specs.declared.handle.Shape.{Shape}
-use Rattle.gen_events.specs.declared.view.View.{View}
+use Rattle.event_table.specs.Words.{turns_of}
+use Rattle.shared_events.specs.Views.{GoesRound, IsFull}
+use Rattle.event_table.specs.declared.handle.Handle.{Handle}
+use Rattle.event_table.specs.declared.handle.Shape.{Shape}
+use Rattle.shared_events.specs.declared.view.View.{View}
 use Rattle.run_words.specs.Issuing.{AllPending}
 
 module _ (shape : Shape) (next lines : ℕ) (hs : List Handle) (round : GoesRound shape.slots next hs) (few : length hs < lines) (last : shape.last_gen ≡ lines - shape.slots) (v w : View) (full : IsFull shape hs v w) where

@@ -15,7 +15,7 @@ use Rattle.graph_meaning.specs.Evaluation.{eval_end, end_by, made_by, column_of,
 use Rattle.basics.proofs.ListFacts.{map_contains}
 use Rattle.line_effects.specs.Moved.{moves, HeldShow}
 use Rattle.line_effects.proofs.MadeFacts.{all_made}
-use Rattle.gen_events.proofs.Members.{Contains-none, Contains-cases}
+use Rattle.event_table.proofs.Members.{Contains-none, Contains-cases}
 use Rattle.run_state.specs.Run.{is_listed}
 use Rattle.run_state.specs.Sound.{home_cells}
 use Rattle.run_words.specs.declared.content.Content.{Content}

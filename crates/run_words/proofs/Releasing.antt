@@ -5,8 +5,8 @@ use Rattle.std.proofs.lemmas.Bool.{eq-eqb}
 use Rattle.std.proofs.lemmas.List.Elements.{Contains-append_right}
 use Rattle.std.proofs.lemmas.Option.{same_Some}
 use Rattle.line_effects.proofs.EffectFacts.{verb_is}
-use Rattle.gen_events.proofs.Members.{Contains-head}
-use Rattle.gen_events.specs.declared.events.Events.{Events}
+use Rattle.event_table.proofs.Members.{Contains-head}
+use Rattle.shared_events.specs.declared.events.Events.{Events}
 use Rattle.graph_terms.specs.declared.outcome.End.{End}
 use Rattle.graph_terms.specs.declared.outcome.End.TheVariants.{Done}
 use Rattle.graph_terms.specs.declared.verb.Line.{Line}

@@ -14,15 +14,15 @@ use Rattle.graph_terms.specs.declared.verb.Verb.TheVariants.{Phase}
 use Rattle.graph_terms.specs.Graph.{GraphValue, columns, verb_at, is_phase}
 use Rattle.graph_meaning.specs.Evaluation.{is_ended}
 use Rattle.graph_terms.proofs.VerbFacts.{phase_is, verb_below}
-use Rattle.gen_events.specs.Seats.{Knows}
-use Rattle.gen_events.specs.Views.{handle_of, ended_by, fate_of}
-use Rattle.gen_events.specs.declared.handle.Handle.{Handle}
-use Rattle.gen_events.specs.declared.handle.Fate.{Fate}
-use Rattle.gen_events.specs.declared.handle.Answer.{Answer}
-use Rattle.gen_events.specs.declared.handle.Answer.TheVariants.{Pending as StillPending}
-use Rattle.gen_events.specs.declared.events.Events.{Events}
-use Rattle.gen_events.specs.declared.view.View as their
-use Rattle.gen_events.specs.EventMap.{EventMap, SlotLife, unused, without_waiters, all_free, answer, answer_of, life_at, IsFree, no_event}
+use Rattle.shared_events.specs.Seats.{Knows}
+use Rattle.shared_events.specs.Views.{handle_of, ended_by, fate_of}
+use Rattle.event_table.specs.declared.handle.Handle.{Handle}
+use Rattle.event_table.specs.declared.handle.Fate.{Fate}
+use Rattle.event_table.specs.declared.handle.Answer.{Answer}
+use Rattle.event_table.specs.declared.handle.Answer.TheVariants.{Pending as StillPending}
+use Rattle.shared_events.specs.declared.events.Events.{Events}
+use Rattle.shared_events.specs.declared.view.View as their
+use Rattle.event_table.specs.EventMap.{EventMap, SlotLife, unused, without_waiters, all_free, answer, answer_of, life_at, IsFree, no_event}
 use Rattle.run_state.specs.Run.{LineStage, Unissued, Issued, Out, Ending, Ended, Run, stage_at, end_so_far, stage_issued, stage_out, stage_started, stage_over, stage_ended, kept_end, issued, out, ended}
 use Rattle.run_state.proofs.Lists.{stage_there}
 use Rattle.run_state.proofs.QuietTrace.{clock_small}

@@ -6,7 +6,7 @@ use Rattle.std.proofs.lemmas.Option.{none-some, same_Some}
 use Rattle.index_spaces.specs.Column.{ColumnValue}
 use Rattle.index_spaces.specs.Held.{held_at, HoldsOtherwise}
 use Rattle.graph_terms.specs.Graph.{GraphValue}
-use Rattle.gen_events.proofs.Members.{Contains-head, Contains-tail, Contains-cases}
+use Rattle.event_table.proofs.Members.{Contains-head, Contains-tail, Contains-cases}
 use Rattle.run_state.specs.Sound.{home_cells}
 use Rattle.run_state.specs.WholeLine.{column_list}
 use Rattle.run_words.specs.declared.content.Content.{Content}

@@ -7,7 +7,7 @@ use Rattle.std.proofs.lemmas.Option.{none-some}
 use Rattle.std.proofs.lemmas.List.{take_more, take_all, append-nil}
 use Rattle.std.proofs.lemmas.List.Folds.{list_any-append}
 use Rattle.std.proofs.lemmas.List.Elements.{Contains-append_left, Contains-append_right, Contains-push_cases, Contains-get_or}
-use Rattle.gen_events.proofs.Members.{Contains-head, Contains-none}
+use Rattle.event_table.proofs.Members.{Contains-head, Contains-none}
 use Rattle.graph_terms.specs.declared.outcome.End.{End}
 use Rattle.graph_terms.specs.declared.verb.Edge.{Edge}
 use Rattle.graph_terms.specs.declared.verb.EdgeKind.TheVariants.{Passes}

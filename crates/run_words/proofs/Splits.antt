@@ -10,10 +10,10 @@ use Rattle.atomic_table.proofs.Lists.{at_set, at_snoc}
 use Rattle.graph_terms.specs.declared.outcome.End.{End}
 use Rattle.graph_terms.specs.Graph.{GraphValue}
 use Rattle.basics.specs.Sums.{total}
-use Rattle.gen_events.specs.declared.handle.Handle.{Handle}
-use Rattle.gen_events.specs.declared.events.Events.{Events}
+use Rattle.event_table.specs.declared.handle.Handle.{Handle}
+use Rattle.shared_events.specs.declared.events.Events.{Events}
 use Rattle.basics.proofs.Sums.{total-set, total-append}
-use Rattle.gen_events.proofs.Members.{Contains-none}
+use Rattle.event_table.proofs.Members.{Contains-none}
 use Rattle.run_state.specs.Run.{Run}
 use Rattle.run_words.specs.declared.view.View.{View}
 use Rattle.run_words.specs.Layout.{size_of}

@@ -12,11 +12,11 @@ use Rattle.graph_terms.specs.Graph.{GraphValue, line_passes, is_shared}
 use Rattle.graph_terms.specs.Edges.{edges_into}
 use Rattle.graph_terms.specs.Reservations.{Acquires}
 use Rattle.graph_meaning.specs.Evaluation.{eval_end}
-use Rattle.gen_events.specs.Views.{IsPendingOf, handle_of}
-use Rattle.gen_events.specs.declared.events.Events.{Events}
-use Rattle.gen_events.specs.declared.handle.Handle.{Handle}
-use Rattle.gen_events.specs.declared.tokens.Pending.{Pending}
-use Rattle.gen_events.proofs.Members.{Contains-head, Contains-none}
+use Rattle.shared_events.specs.Views.{IsPendingOf, handle_of}
+use Rattle.shared_events.specs.declared.events.Events.{Events}
+use Rattle.event_table.specs.declared.handle.Handle.{Handle}
+use Rattle.shared_events.specs.declared.tokens.Pending.{Pending}
+use Rattle.event_table.proofs.Members.{Contains-head, Contains-none}
 use Rattle.run_state.proofs.Started.{cancelled_iff}
 use Rattle.run_core.specs.declared.answers.Thing.{Thing}
 use Rattle.run_core.specs.declared.answers.Thing.TheVariants as things

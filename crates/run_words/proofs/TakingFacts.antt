@@ -8,8 +8,8 @@ use Rattle.std.proofs.lemmas.List.Elements.{Contains-append_left, Contains-appen
 use Rattle.index_spaces.specs.Column.{ColumnValue}
 use Rattle.index_spaces.specs.Held.{held_at, HoldsOtherwise}
 use Rattle.graph_terms.specs.Graph.{GraphValue}
-use Rattle.gen_events.specs.declared.events.Events.{Events}
-use Rattle.gen_events.proofs.Members.{Contains-head, Contains-tail, Contains-cases}
+use Rattle.shared_events.specs.declared.events.Events.{Events}
+use Rattle.event_table.proofs.Members.{Contains-head, Contains-tail, Contains-cases}
 use Rattle.run_state.specs.Run.{is_listed}
 use Rattle.run_state.specs.Sound.{AccessesColumn, home_cells}
 use Rattle.run_state.specs.WholeLine.{column_list}

@@ -3,10 +3,10 @@ use Rattle.std.proofs.Common.{◌≡◌, ℕ, ◌≤◌, List, [], ◌∷◌, �
 use Rattle.std.specs.Prelude.{◌≢◌, slice_get}
 use Rattle.std.specs.Vec.{vec_capacity}
 use Rattle.std.proofs.lemmas.List.Elements.{Contains-push_cases}
-use Rattle.gen_events.specs.Seats.{HasSeen, Keeps, no_event}
-use Rattle.gen_events.specs.Views.{lists, IsAt, IsMakerOf, made_by}
-use Rattle.gen_events.specs.declared.handle.Handle.{Handle}
-use Rattle.gen_events.specs.declared.events.Events.{Events}
+use Rattle.shared_events.specs.Seats.{HasSeen, Keeps, no_event}
+use Rattle.shared_events.specs.Views.{lists, IsAt, IsMakerOf, made_by}
+use Rattle.event_table.specs.declared.handle.Handle.{Handle}
+use Rattle.shared_events.specs.declared.events.Events.{Events}
 use Rattle.run_words.specs.declared.content.Desk.{Desk}
 use Rattle.run_words.specs.Rule.{IsTray}
 

@@ -12,8 +12,8 @@ use Rattle.graph_terms.specs.declared.outcome.End.TheVariants.{Cancelled}
 use Rattle.graph_terms.specs.Graph.{GraphValue, columns}
 use Rattle.graph_meaning.specs.Evaluation.{eval_end}
 use Rattle.basics.specs.Sums.{total}
-use Rattle.gen_events.specs.declared.events.Events.{Events}
-use Rattle.gen_events.proofs.Members.{Contains-cases, Contains-head, Contains-tail}
+use Rattle.shared_events.specs.declared.events.Events.{Events}
+use Rattle.event_table.proofs.Members.{Contains-cases, Contains-head, Contains-tail}
 use Rattle.run_state.specs.Run.{Run, Place, Home, Had, is_listed, place_at, list_at, stage_out}
 use Rattle.run_state.specs.Sound.{Sound, AccessesColumn, home_cells}
 use Rattle.run_state.specs.Moves.{column_out}

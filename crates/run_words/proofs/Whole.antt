@@ -6,9 +6,9 @@ use mathlib.Core.Option.{some, some-injective, some-ne-none}
 use lib.ListN.{get_elem?}
 use Rattle.graph_terms.specs.Graph.{GraphValue}
 use Rattle.basics.specs.Sums.{total, only}
-use Rattle.gen_events.specs.declared.events.Events.{Events}
+use Rattle.shared_events.specs.declared.events.Events.{Events}
 use Rattle.basics.proofs.Sums.{terms_le, term_le}
-use Rattle.gen_events.proofs.Members.{Contains-head}
+use Rattle.event_table.proofs.Members.{Contains-head}
 use Rattle.run_state.specs.Run.{LineStage, Unissued, Issued, Out, Ending, Ended, Had, stage_at, place_at, stage_out, stage_over, stage_ended, stage_started}
 use Rattle.run_state.specs.AtRest.{AtRest}
 use Rattle.run_words.specs.declared.view.View.{View}

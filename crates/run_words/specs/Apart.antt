@@ -1,7 +1,7 @@
 -- Two works of one run at once.
 use Rattle.std.specs.Prelude.{◌≡◌, ◌⊎◌, Contains, Some, None}
 use Rattle.graph_terms.specs.declared.outcome.End.{End}
-use Rattle.gen_events.specs.Seats.{no_event}
+use Rattle.shared_events.specs.Seats.{no_event}
 use Rattle.run_words.specs.declared.view.View.{View}
 use Rattle.run_words.specs.declared.works.WordWork.{WordWork}
 use Rattle.run_words.specs.declared.words.Words.{Words}

@@ -2,10 +2,10 @@
 use Rattle.std.specs.Prelude.{◌≡◌, ℕ, ◌<◌, ◌≤◌, Bool, true, false, List, Contains, slice_index_or}
 use mathlib.Core.Option.{some}
 use lib.ListN.{get_elem?}
-use Rattle.gen_events.specs.Seats.{Knows}
-use Rattle.gen_events.specs.Views.{IsPendingOf, IsReceiptOf, handle_of, ended_by, fate_of}
-use Rattle.gen_events.specs.declared.events.Events.{Events}
-use Rattle.gen_events.specs.declared.view.View.{View}
+use Rattle.shared_events.specs.Seats.{Knows}
+use Rattle.shared_events.specs.Views.{IsPendingOf, IsReceiptOf, handle_of, ended_by, fate_of}
+use Rattle.shared_events.specs.declared.events.Events.{Events}
+use Rattle.shared_events.specs.declared.view.View.{View}
 use Rattle.run_words.specs.declared.content.Content.{Content}
 use Rattle.run_words.specs.declared.content.Content.TheVariants.{Nothing, Ticket, Stub, Cells, Tray}
 use Rattle.run_words.specs.Layout.{Size, line_slot, column_slot, desk_slot}

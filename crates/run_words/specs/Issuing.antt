@@ -1,9 +1,9 @@
 -- Why a line is not issued.
 use Rattle.std.specs.Prelude.{◌≡◌, ℕ, ◌+◌, ◌*◌, ◌<◌, List, ◌++◌, Contains}
-use Rattle.gen_events.specs.Rule.{turns_of}
-use Rattle.gen_events.specs.declared.handle.Handle.{Handle}
-use Rattle.gen_events.specs.declared.handle.Shape.{Shape}
-use Rattle.gen_events.specs.declared.view.View.{View}
+use Rattle.event_table.specs.Words.{turns_of}
+use Rattle.event_table.specs.declared.handle.Handle.{Handle}
+use Rattle.event_table.specs.declared.handle.Shape.{Shape}
+use Rattle.shared_events.specs.declared.view.View.{View}
 
 -- in between, each event slot was found with one of these handles pending
 abbrev pub AllPending : Shape → List Handle → View → View → Type 0

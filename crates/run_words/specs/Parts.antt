@@ -1,11 +1,11 @@
 -- What the core is resumed with once the words are closed.
 use Rattle.std.specs.Prelude.{◌≡◌, ℕ, true, false, List, [], length, Some}
 use Rattle.graph_terms.specs.declared.outcome.End.{End}
-use Rattle.gen_events.specs.EventMap.{answer, answer_of}
-use Rattle.gen_events.specs.Seats.{Begins, Knows}
-use Rattle.gen_events.specs.Views.{lists, shape_of}
-use Rattle.gen_events.specs.declared.handle.Fate.{Fate}
-use Rattle.gen_events.specs.declared.handle.Handle.{Handle}
+use Rattle.event_table.specs.EventMap.{answer, answer_of}
+use Rattle.shared_events.specs.Seats.{Begins, Knows}
+use Rattle.shared_events.specs.Views.{lists, shape_of}
+use Rattle.event_table.specs.declared.handle.Fate.{Fate}
+use Rattle.event_table.specs.declared.handle.Handle.{Handle}
 use Rattle.run_state.specs.Run.{Run, Ended, stage_at, issued, out}
 use Rattle.run_core.specs.Resumed.{ShowState}
 use Rattle.run_words.specs.Words.{graph_of, events_of, events_seat, KnowsIssued, KnowsEnded, KnowsHandles}

@@ -6,9 +6,9 @@ use Rattle.graph_terms.specs.declared.outcome.End.{End}
 use Rattle.graph_terms.specs.declared.outcome.End.TheVariants.{Done, Faulted, Cancelled, Waiting}
 use Rattle.graph_meaning.specs.Path.{HasPath}
 use Rattle.graph_meaning.specs.Evaluation.{evaluation, has_ended, eval_end, cells_of_lines, column_of}
-use Rattle.gen_events.specs.Views.{IsPendingOf, handle_of}
-use Rattle.gen_events.specs.declared.handle.Handle.{Handle}
-use Rattle.gen_events.specs.declared.tokens.Pending.{Pending}
+use Rattle.shared_events.specs.Views.{IsPendingOf, handle_of}
+use Rattle.event_table.specs.declared.handle.Handle.{Handle}
+use Rattle.shared_events.specs.declared.tokens.Pending.{Pending}
 use Rattle.run_state.specs.Run.{is_listed}
 use Rattle.run_state.specs.Sound.{AccessesColumn, home_cells}
 use Rattle.run_state.specs.Work.{performed, put_cells, PerformsAsEvaluated}

@@ -12,15 +12,15 @@ use Rattle.graph_terms.specs.declared.outcome.End.TheVariants.{Done, Faulted, Ca
 use Rattle.graph_terms.specs.Graph.{GraphValue, column_space, line_passes, is_shared}
 use Rattle.graph_terms.specs.Reservations.{Acquires}
 use Rattle.basics.specs.Sums.{total, only}
-use Rattle.gen_events.specs.Seats.{HasSeen, no_event, Begins}
-use Rattle.gen_events.specs.Views.{lists, IsAt, IsMakerOf, IsPendingOf, IsReceiptOf, IsWaiterOf, made_by, handle_of, ended_by, fate_of, number_of}
-use Rattle.gen_events.specs.declared.handle.Handle.{Handle}
-use Rattle.gen_events.specs.declared.handle.Fate.{Fate}
-use Rattle.gen_events.specs.declared.handle.Fate.TheVariants.{Ok, Poison}
-use Rattle.gen_events.specs.declared.tokens.Pending.{Pending}
-use Rattle.gen_events.specs.declared.tokens.Receipt.{Receipt}
-use Rattle.gen_events.specs.declared.tokens.Waiter.{Waiter}
-use Rattle.gen_events.specs.declared.events.Events.{Events}
+use Rattle.shared_events.specs.Seats.{HasSeen, no_event, Begins}
+use Rattle.shared_events.specs.Views.{lists, IsAt, IsMakerOf, IsPendingOf, IsReceiptOf, IsWaiterOf, made_by, handle_of, ended_by, fate_of, number_of}
+use Rattle.event_table.specs.declared.handle.Handle.{Handle}
+use Rattle.event_table.specs.declared.handle.Fate.{Fate}
+use Rattle.event_table.specs.declared.handle.Fate.TheVariants.{Ok, Poison}
+use Rattle.shared_events.specs.declared.tokens.Pending.{Pending}
+use Rattle.shared_events.specs.declared.tokens.Receipt.{Receipt}
+use Rattle.shared_events.specs.declared.tokens.Waiter.{Waiter}
+use Rattle.shared_events.specs.declared.events.Events.{Events}
 use Rattle.run_state.specs.Run.{LineStage, Unissued, Issued, Out, Ending, Ended, Place, Home, Had, Run, is_listed, stage_at, time_at, place_at, list_at, issued}
 use Rattle.run_state.specs.Sound.{Sound}
 use Rattle.run_words.specs.declared.content.Desk.{Desk}

@@ -1,6 +1,6 @@
 -- What the end of a run needs of memory.
 use Rattle.std.specs.Prelude.{◌≡◌, ℕ, length, replicate, None}
-use Rattle.gen_events.specs.EventMap.{fresh}
+use Rattle.event_table.specs.EventMap.{fresh}
 use Rattle.graph_terms.specs.Graph.{GraphValue}
 use Rattle.run_core.specs.Core.{unissued}
 use Rattle.run_core.specs.declared.run.TheConstants.{LAST_GEN}

@@ -2,14 +2,14 @@
 use Rattle.std.specs.Prelude.{◌≡◌, ◌≢◌, ℕ, List, [], ◌∷◌, ◌++◌, Contains}
 use Rattle.atomic_table.specs.declared.shared.Seat as table
 use Rattle.graph_terms.specs.Graph.{GraphValue}
-use Rattle.gen_events.specs.declared.events.Events.{Events}
-use Rattle.gen_events.specs.declared.handle.Handle.{Handle}
+use Rattle.shared_events.specs.declared.events.Events.{Events}
+use Rattle.event_table.specs.declared.handle.Handle.{Handle}
 use Rattle.run_words.specs.declared.content.Content.{Content}
 use Rattle.run_words.specs.declared.view.View.{View}
 use Rattle.run_words.specs.declared.words.Words.{Words}
 use Rattle.run_words.specs.declared.seats.WordSeat.{WordSeat}
-use Rattle.gen_events.specs.declared.tokens.Seat.{Seat}
-use Rattle.gen_events.specs.Views as events
+use Rattle.shared_events.specs.declared.tokens.Seat.{Seat}
+use Rattle.shared_events.specs.Views as events
 use Rattle.graph_terms.specs.declared.outcome.End.{End}
 use Rattle.run_words.specs.Rule.{ground_of}
 

@@ -1,7 +1,7 @@
 //! What the table of a run stands on.
 
 use checked_graph::Checked;
-use gen_events::Events;
+use shared_events::Events;
 
 /// The graph of a run, and the events of its lines. It never changes, and the rule of the table of
 /// the run speaks of both.

@@ -6,9 +6,9 @@ ghost use mathlib.Core.Option.{some};
 ghost use lib.ListN.{get_elem?};
 ghost use Rattle.index_spaces.specs.Column.{ColumnValue};
 ghost use Rattle.graph_terms.specs.Graph.{columns};
-ghost use Rattle.gen_events.specs.declared.handle.Handle.{Handle as TheHandle};
-ghost use Rattle.gen_events.specs.Seats.{Keeps};
-ghost use Rattle.gen_events.specs.Views.{lists, IsAt as IsSeatAt};
+ghost use Rattle.event_table.specs.declared.handle.Handle.{Handle as TheHandle};
+ghost use Rattle.shared_events.specs.Seats.{Keeps};
+ghost use Rattle.shared_events.specs.Views.{lists, IsAt as IsSeatAt};
 ghost use Rattle.run_words.specs.declared.content.Content.{Content as TheContent};
 ghost use Rattle.run_words.specs.declared.content.Content.TheVariants.{Cells};
 ghost use Rattle.run_words.specs.Emptying.{AreTaken, AreLineItems, IsLineItem, IsSettled};
@@ -17,10 +17,10 @@ ghost use Rattle.run_words.specs.Preparing.{AreOut};
 
 use crate::content::Content;
 use atomic_table::Closed;
-use gen_events::{Events, Seat};
 use graph_model::graph::Graph;
 use index_spaces::column::Column;
 use instances::Homes;
+use shared_events::{Events, Seat};
 use std::alloc::Global;
 
 /// Gives up the event of a line that has not ended, and learns the receipt of one that has.

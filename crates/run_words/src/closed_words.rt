@@ -9,7 +9,7 @@ ghost use Rattle.run_words.specs.Rule.{handle_at};
 
 use crate::content::Content;
 use atomic_table::Closed;
-use gen_events::{Handle, NO_EVENT};
+use event_table::{Handle, NO_EVENT};
 use graph_model::graph::Graph;
 use graph_terms::lists::ValueList;
 use graph_terms::outcome::End;

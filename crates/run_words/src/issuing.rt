@@ -3,9 +3,9 @@
 ghost use Rattle.std.specs.Prelude.{ℕ, List, ◌≡◌, ◌≢◌, ◌+◌, ◌<◌, ◌≤◌, ◌∷◌, ◌++◌, [], true, false, Some, None, length, Contains, IfSome, IfNone};
 ghost use Rattle.std.specs.Vec.{vec_capacity};
 ghost use Rattle.graph_terms.specs.declared.outcome.End.{End as TheEnd};
-ghost use Rattle.gen_events.specs.declared.handle.Handle.{Handle as TheHandle};
-ghost use Rattle.gen_events.specs.Seats.{Keeps};
-ghost use Rattle.gen_events.specs.Views.{shape_of, lists};
+ghost use Rattle.event_table.specs.declared.handle.Handle.{Handle as TheHandle};
+ghost use Rattle.shared_events.specs.Seats.{Keeps};
+ghost use Rattle.shared_events.specs.Views.{shape_of, lists};
 ghost use Rattle.run_words.specs.declared.content.Content.{Content as TheContent};
 ghost use Rattle.run_words.specs.declared.content.Content.TheVariants.{Nothing, Tray};
 ghost use Rattle.run_words.specs.declared.content.Desk.{Desk as TheDesk};
@@ -21,9 +21,10 @@ use crate::content::{Content, Desk};
 use crate::moves::Place;
 use crate::seats::WordSeat;
 use crate::words::Words;
-use gen_events::{Handle, Seat};
+use event_table::Handle;
 use graph_model::graph::Graph;
 use run_core::Issue;
+use shared_events::Seat;
 
 /// Puts a handle at the end of a list that has room for it.
 fn push_within(handles: &mut Vec<Handle>, handle: Handle)

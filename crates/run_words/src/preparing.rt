@@ -7,8 +7,8 @@ ghost use Rattle.graph_meaning.specs.Effect.{zero_cells};
 ghost use Rattle.graph_terms.specs.Graph.{columns as graph_columns};
 ghost use Rattle.instances.specs.Homes.{all_home};
 ghost use Rattle.run_state.specs.Start.{first_value};
-ghost use Rattle.gen_events.specs.declared.events.Events.{Events as TheEvents};
-ghost use Rattle.gen_events.specs.Views.{shape_of, IsAt as IsEventsAt, IsSetOf, IsWaiterOf, number_of, taken_of, size_of as set_size};
+ghost use Rattle.shared_events.specs.declared.events.Events.{Events as TheEvents};
+ghost use Rattle.shared_events.specs.Views.{shape_of, IsAt as IsEventsAt, IsSetOf, IsWaiterOf, number_of, taken_of, size_of as set_size};
 ghost use Rattle.run_words.specs.Layout.{size_of};
 ghost use Rattle.run_words.specs.Opening.{AreFirstWords, AreFirstSlots};
 ghost use Rattle.run_words.specs.Preparing.{IsLoose, AreLoose, AreWaiters, AreHome, AreEmpty, AreOut};
@@ -23,13 +23,13 @@ use crate::spare::Spare;
 use crate::words::Words;
 use atomic_table::{Refused, Table};
 use checked_graph::Checked;
-use gen_events::{Events, Seat, Waiter, WaiterSet};
 use graph_meaning::line_laws::phases_fit;
 use graph_model::graph::Graph;
 use graph_terms::verb::Verb;
 use index_spaces::NoMemory;
 use index_spaces::column::Column;
 use instances::Homes;
+use shared_events::{Events, Seat, Waiter, WaiterSet};
 use std::alloc::{AllocError, Global};
 
 /// Lets go of what is no event of a line that has not ended: such an event may not be dropped.

@@ -6,7 +6,7 @@ ghost use Rattle.instances.specs.Homes.{all_home};
 ghost use Rattle.run_words.specs.Spare.{IsSpare};
 
 use checked_graph::Checked;
-use gen_events::EventTable;
+use event_table::EventTable;
 use graph_terms::lists::ValueList;
 use index_spaces::NoMemory;
 use instances::Homes;

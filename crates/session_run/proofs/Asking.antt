@@ -10,7 +10,7 @@ use Rattle.std.proofs.lemmas.List.Quantifiers.{position-Some}
 use Rattle.basics.specs.Lists.{numbers_below}
 use Rattle.basics.proofs.ListFacts.{got_contains}
 use Rattle.std.proofs.lemmas.List.Elements.{Contains-append_left, Contains-append_right}
-use Rattle.gen_events.specs.declared.handle.Answer.TheVariants.{Pending}
+use Rattle.event_table.specs.declared.handle.Answer.TheVariants.{Pending}
 use Rattle.graph_terms.specs.declared.verb.Verb.TheVariants.{User}
 use Rattle.graph_terms.specs.declared.verb.Line.{Line as GraphLine}
 use Rattle.graph_terms.specs.declared.outcome.End.{End}

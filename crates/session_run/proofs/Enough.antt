@@ -1,7 +1,7 @@
 -- No session's text needs more slots than a session may have.
 use Rattle.std.proofs.Common.{◌≡◌, ℕ, ◌+◌, ◌≤◌, List, [], ◌∷◌, ◌++◌, length, sym, ap, subst, append_assoc, append-nil, refl, arith}
 use Rattle.basics.specs.Sums.{total}
-use Rattle.gen_events.specs.declared.limits.TheConstants.{MAX_SLOTS}
+use Rattle.event_table.specs.declared.limits.TheConstants.{MAX_SLOTS}
 use Rattle.graph_terms.specs.declared.outcome.End.{End}
 use Rattle.graph_terms.specs.declared.outcome.End.TheVariants.{Done, Faulted, Cancelled, Waiting}
 use Rattle.realm_session.specs.Recorded.{waits}

@@ -10,7 +10,7 @@ use Rattle.std.proofs.lemmas.List.Elements.{Contains-append_cases}
 use Rattle.basics.specs.Lists.{numbers_below}
 use Rattle.basics.specs.Sums.{total}
 use Rattle.basics.proofs.Sums.{total-append}
-use Rattle.gen_events.specs.declared.handle.Handle.{Handle}
+use Rattle.event_table.specs.declared.handle.Handle.{Handle}
 use Rattle.graph_terms.specs.declared.outcome.End.{End}
 use Rattle.graph_terms.specs.Graph.{GraphValue}
 use Rattle.graph_meaning.specs.Evaluation.{eval_end}

@@ -4,8 +4,8 @@ use Rattle.std.specs.Prelude.{None, bytes_eq, nat_lt, Contains}
 use Rattle.std.specs.List.{list_any}
 use Rattle.std.proofs.lemmas.Bool.{or_parts, ltb-false}
 use Rattle.basics.proofs.Sums.{total-append}
-use Rattle.gen_events.specs.declared.handle.Answer.{Answer}
-use Rattle.gen_events.specs.declared.handle.Answer.TheVariants.{Pending, Triggered, Poisoned}
+use Rattle.event_table.specs.declared.handle.Answer.{Answer}
+use Rattle.event_table.specs.declared.handle.Answer.TheVariants.{Pending, Triggered, Poisoned}
 use Rattle.graph_terms.specs.declared.limits.TheConstants.{MAX_CELLS}
 use Rattle.graph_terms.specs.Graph.{GraphValue}
 use Rattle.graph_meaning.specs.Rules.{Accepted}

@@ -1,7 +1,7 @@
 -- The graphs of a session that have all run, and what their events answer.
 use Rattle.std.specs.Prelude.{◌≡◌, ◌≢◌, ℕ, ◌<◌, ◌≤◌, length, Contains, Some, slice_get}
-use Rattle.gen_events.specs.declared.handle.Handle.{Handle}
-use Rattle.gen_events.specs.EventMap.{answer, no_event, IsCreated}
+use Rattle.event_table.specs.declared.handle.Handle.{Handle}
+use Rattle.event_table.specs.EventMap.{answer, no_event, IsCreated}
 use Rattle.graph_meaning.specs.Evaluation.{eval_end}
 use Rattle.realm_session.specs.Recorded.{answer_for}
 use Rattle.session_text.specs.declared.limits.TheConstants.{MAX_GRAPHS}

@@ -2,8 +2,8 @@
 use Rattle.std.specs.Prelude.{◌≡◌, ℕ, ◌+◌, ◌≤◌, List, [], ◌∷◌, ◌++◌, length, map, Contains, Option, position, bytes_eq}
 use Rattle.basics.specs.Lists.{numbers_below}
 use Rattle.basics.specs.Sums.{total}
-use Rattle.gen_events.specs.declared.handle.Handle.{Handle}
-use Rattle.gen_events.specs.declared.tokens.Seat.{Seat}
+use Rattle.event_table.specs.declared.handle.Handle.{Handle}
+use Rattle.shared_events.specs.declared.tokens.Seat.{Seat}
 use Rattle.graph_terms.specs.declared.outcome.End.{End}
 use Rattle.graph_terms.specs.declared.outcome.Outcome.{Outcome}
 use Rattle.graph_terms.specs.declared.verb.Line.{Line as GraphLine}

@@ -8,7 +8,7 @@ ghost use Rattle.session_run.specs.Running.{IsRunning};
 ghost use Rattle.session_run.specs.Ended.{HasLine, IsEnded};
 
 use crate::running::{RanGraph, Running};
-use gen_events::Answer;
+use event_table::Answer;
 use realm_session::Left;
 
 /// The graphs, and what the table of their events left.

@@ -1,7 +1,7 @@
 //! What holds of all sessions, for callers to cite. No function here does anything.
 
 ghost use Rattle.std.specs.Prelude.{ℕ, ◌≤◌, List};
-ghost use Rattle.gen_events.specs.declared.limits.TheConstants.{MAX_SLOTS};
+ghost use Rattle.event_table.specs.declared.limits.TheConstants.{MAX_SLOTS};
 ghost use Rattle.session_text.specs.declared.entry.Entry.{Entry};
 ghost use Rattle.session_text.specs.Fits.{AreEntries};
 ghost use Rattle.session_run.specs.Laws.{OneEnd};

@@ -6,7 +6,7 @@ ghost use Rattle.graph_reader.specs.FirstFault.{is_line_name};
 ghost use Rattle.session_text.specs.Fits.{trigger_line};
 ghost use Rattle.session_run.specs.Linked.{cancel_line, with_answer};
 
-use gen_events::Answer;
+use event_table::Answer;
 use graph_model::graph::Graph;
 use graph_terms::verb::{Line, Verb};
 use index_spaces::NoMemory;

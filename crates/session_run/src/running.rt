@@ -5,13 +5,13 @@ ghost use Rattle.realm_session.specs.Recorded.{graph_at, handle_in, lines_in, ne
 ghost use Rattle.realm_session.specs.declared.limits.TheConstants.{MAX_RECORDED};
 ghost use Rattle.session_text.specs.declared.limits.TheConstants.{MAX_GRAPHS, MAX_SESSION_LINES};
 ghost use Rattle.realm_session.specs.Sessions.{recorded_by, IsRecorderOf, IsSeatOf};
-ghost use Rattle.gen_events.specs.declared.limits.TheConstants.{MAX_SLOTS};
+ghost use Rattle.event_table.specs.declared.limits.TheConstants.{MAX_SLOTS};
 ghost use Rattle.session_run.specs.Linked.{link_answer, with_links};
 ghost use Rattle.session_run.specs.Running.{graph_place, line_total, op_place, ran_by, slots_needed, slots_of, CanLink, Entered, IsOutcome, IsRunning, TellsAll};
 
 use crate::linking::add_link;
 use checked_graph::Checked;
-use gen_events::{Answer, Handle, Seat};
+use event_table::{Answer, Handle};
 use graph_model::graph::Graph;
 use graph_terms::lists::{EndList, ItemList};
 use graph_terms::name::Name;
@@ -20,6 +20,7 @@ use index_spaces::NoMemory;
 use index_spaces::room::push;
 use realm_session::{RecordRefusal, Recorder, Session};
 use session_text::{Entry, Link, find_line};
+use shared_events::Seat;
 use std::alloc::Global;
 
 /// A graph that was run with its links as lines, what that gave, and the handles of its lines.

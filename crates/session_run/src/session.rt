@@ -2,7 +2,7 @@
 
 ghost use Rattle.std.specs.Prelude.{◌≡◌, ℕ, ◌+◌, ◌<◌, ◌≤◌, ◌++◌, ◌∷◌, [], List, length, map, IfOk, IfErr};
 ghost use Rattle.std.specs.Fn.{FnReturnsAt};
-ghost use Rattle.gen_events.specs.declared.limits.TheConstants.{MAX_SLOTS};
+ghost use Rattle.event_table.specs.declared.limits.TheConstants.{MAX_SLOTS};
 ghost use Rattle.graph_meaning.specs.Rules.{Accepted};
 ghost use Rattle.race_check.specs.Refusal.{IsRefusal, NamesLines};
 ghost use Rattle.session_text.specs.declared.limits.TheConstants.{MAX_GRAPHS, MAX_SESSION_LINES};

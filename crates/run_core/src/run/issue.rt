@@ -12,7 +12,7 @@ impl<'g> Core<'g> {
     ghost use Rattle.run_core.specs.WhatIsOut.{SameOut};
     ghost use Rattle.run_core.specs.Finishing.{NothingOut};
     ghost use Rattle.run_state.specs.Quiet.{CanTake};
-    ghost use Rattle.gen_events.specs.EventMap.{IsFull};
+    ghost use Rattle.event_table.specs.EventMap.{IsFull};
     ghost use Rattle.std.specs.Prelude.{◌≡◌, ℕ};
 
     /// Gives the next line in file order its handle. All comes exactly where all lines are issued,

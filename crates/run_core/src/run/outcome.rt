@@ -3,8 +3,8 @@
 ghost use Rattle.std.specs.Prelude.{◌≡◌, ◌≤◌, ◌<◌, ◌++◌, ℕ, [], length, map, IfOk, Some, slice_get, IsSome};
 ghost use Rattle.std.specs.Vec.{vec_capacity};
 ghost use Rattle.basics.specs.Lists.{numbers_below};
-ghost use Rattle.gen_events.specs.EventMap.{answer};
-ghost use Rattle.gen_events.specs.declared.handle.Handle.{Handle as TheHandle};
+ghost use Rattle.event_table.specs.EventMap.{answer};
+ghost use Rattle.event_table.specs.declared.handle.Handle.{Handle as TheHandle};
 ghost use Rattle.run_state.specs.Run.{end_so_far, stage_at};
 ghost use Rattle.run_state.specs.Quiet.{Quiet};
 ghost use Rattle.graph_terms.specs.Graph.{verb_at};
@@ -54,8 +54,8 @@ impl OutcomeRoom {
 
 impl<'g> Core<'g> {
     ghost use Rattle.std.specs.Prelude.{◌≡◌, ℕ, ◌<◌, length, Some, slice_get};
-    ghost use Rattle.gen_events.specs.EventMap.{answer};
-    ghost use Rattle.gen_events.specs.declared.handle.Handle.{Handle as TheHandle};
+    ghost use Rattle.event_table.specs.EventMap.{answer};
+    ghost use Rattle.event_table.specs.declared.handle.Handle.{Handle as TheHandle};
     ghost use Rattle.graph_meaning.specs.Evaluation.{outcome};
     ghost use Rattle.graph_meaning.specs.Trace.{IsLawful, SectionsApart};
     ghost use Rattle.run_state.specs.Quiet.{Quiet, ByTimes};
@@ -130,13 +130,13 @@ fn answers_of(events: &LineEvents, stages: &[Progress], mut answers: Vec<Answer>
 }
 
 /// The answer of an event, as the outcome has it.
-fn shown(answer: gen_events::Answer) -> Answer
+fn shown(answer: event_table::Answer) -> Answer
     ensures { result ≡ answer_shown answer }
 {
     match answer {
-        gen_events::Answer::Pending => Answer::Pending,
-        gen_events::Answer::Triggered => Answer::Triggered,
-        gen_events::Answer::Poisoned => Answer::Poisoned,
+        event_table::Answer::Pending => Answer::Pending,
+        event_table::Answer::Triggered => Answer::Triggered,
+        event_table::Answer::Poisoned => Answer::Poisoned,
     }
 }
 

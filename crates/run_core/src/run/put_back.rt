@@ -17,7 +17,7 @@ use crate::phases::arrive;
 use crate::progress::Progress;
 use crate::run::Core;
 use crate::work::Finished;
-use gen_events::{Fate, Handle};
+use event_table::{Fate, Handle};
 use graph_model::graph::Graph;
 use graph_terms::outcome::End;
 use index_spaces::held::Held;

@@ -18,7 +18,7 @@ use crate::holders::{Holders, hold};
 use crate::progress::Progress;
 use crate::run::Core;
 use crate::states::{LineState, StateList};
-use gen_events::EventTable;
+use event_table::EventTable;
 use graph_model::graph::Graph;
 use graph_terms::limits::MAX_LINES;
 use graph_terms::lists::ValueList;
@@ -212,7 +212,7 @@ fn holders_of(graph: &Graph, lines: &[LineState], mut holders: Holders) -> Holde
 
 impl<'g> Core<'g> {
     ghost use Rattle.std.specs.Prelude.{◌≡◌, ℕ, List, []};
-    ghost use Rattle.gen_events.specs.declared.handle.Handle.{Handle as TheHandle};
+    ghost use Rattle.event_table.specs.declared.handle.Handle.{Handle as TheHandle};
     ghost use Rattle.run_state.specs.Run.{Run};
     ghost use Rattle.run_core.specs.Resumed.{ShowState, InState};
 

@@ -1,6 +1,6 @@
 use Rattle.std.proofs.Common.{sym, subst}
-use Rattle.gen_events.specs.Seats.{HasSeen}
-use Rattle.gen_events.specs.Views.{lists}
+use Rattle.shared_events.specs.Seats.{HasSeen}
+use Rattle.shared_events.specs.Views.{lists}
 use Rattle.embedded_events.proofs.two_threads.ask_both.Goals as goal
 
 pub look-old-requires-clause-seen : goal.look-old-requires-clause-seen

@@ -1,6 +1,6 @@
 use Rattle.std.proofs.Common.{sym, subst}
-use Rattle.gen_events.specs.Seats.{HasSeen}
-use Rattle.gen_events.specs.Views.{lists}
+use Rattle.shared_events.specs.Seats.{HasSeen}
+use Rattle.shared_events.specs.Views.{lists}
 use Rattle.embedded_events.proofs.two_threads.learn.Goals as goal
 
 pub returns-clause-seen : goal.returns-clause-seen

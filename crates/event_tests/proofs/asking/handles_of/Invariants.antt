@@ -1,6 +1,6 @@
 use Rattle.std.proofs.Common.{◌≡◌}
 use Rattle.std.specs.Prelude.{Contains}
-use Rattle.gen_events.specs.declared.handle.Handle.{Handle}
+use Rattle.event_table.specs.declared.handle.Handle.{Handle}
 use Rattle.realm_session.specs.declared.line.Line.{Line}
 use Rattle.realm_session.specs.Recorded.{IsRecorded}
 use Rattle.realm_session.specs.Sessions.{recorded_by}

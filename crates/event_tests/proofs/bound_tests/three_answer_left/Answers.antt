@@ -1,6 +1,6 @@
 use Rattle.std.proofs.Common.{subst, sym, ◌∙◌}
 use Rattle.std.specs.Prelude.{Contains}
-use Rattle.gen_events.specs.EventMap.{IsCreated}
+use Rattle.event_table.specs.EventMap.{IsCreated}
 use Rattle.event_tests.proofs.bound_tests.three_answer_left.Goals as goal
 
 pub left_answers-first_answers-requires : goal.left_answers-first_answers-requires

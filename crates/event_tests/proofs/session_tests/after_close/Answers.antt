@@ -1,5 +1,5 @@
 use Rattle.std.proofs.Common.{subst}
-use Rattle.gen_events.specs.EventMap.{IsCreated}
+use Rattle.event_table.specs.EventMap.{IsCreated}
 use Rattle.event_tests.proofs.session_tests.after_close.Goals as goal
 
 pub look-requires : goal.look-requires

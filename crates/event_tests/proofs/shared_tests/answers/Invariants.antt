@@ -1,5 +1,5 @@
-use Rattle.gen_events.specs.Seats.{Keeps}
-use Rattle.gen_events.specs.Views.{lists, IsAt}
+use Rattle.shared_events.specs.Seats.{Keeps}
+use Rattle.shared_events.specs.Views.{lists, IsAt}
 use Rattle.event_tests.proofs.shared_tests.answers.Given as goal
 
 abbrev pub invariant-loop-handle : goal.invariant-loop-handle

@@ -1,7 +1,7 @@
 use Rattle.std.proofs.Common.{sym, subst}
 use Rattle.std.specs.Prelude.{All}
-use Rattle.gen_events.specs.Seats.{HasSeen}
-use Rattle.gen_events.specs.Views.{lists}
+use Rattle.shared_events.specs.Seats.{HasSeen}
+use Rattle.shared_events.specs.Views.{lists}
 use Rattle.event_tests.proofs.shared_tests.old_handles_answer_for_themselves.Goals as goal
 
 pub answers-requires-clause-seen : goal.answers-requires-clause-seen

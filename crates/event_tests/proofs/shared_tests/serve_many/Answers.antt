@@ -1,6 +1,6 @@
 use Rattle.std.proofs.Common.{is_ok, sym, subst}
-use Rattle.gen_events.specs.Seats.{HasSeen}
-use Rattle.gen_events.specs.Views.{lists}
+use Rattle.shared_events.specs.Seats.{HasSeen}
+use Rattle.shared_events.specs.Views.{lists}
 use Rattle.event_tests.proofs.Growing.{pushed}
 use Rattle.event_tests.proofs.shared_tests.serve_many.Goals as goal
 

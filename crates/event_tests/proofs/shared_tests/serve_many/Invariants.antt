@@ -1,6 +1,6 @@
 use Rattle.std.specs.Prelude.{All}
-use Rattle.gen_events.specs.Seats.{HasSeen}
-use Rattle.gen_events.specs.Views.{lists, IsAt, IsMakerOf}
+use Rattle.shared_events.specs.Seats.{HasSeen}
+use Rattle.shared_events.specs.Views.{lists, IsAt, IsMakerOf}
 use Rattle.event_tests.proofs.shared_tests.serve_many.Given as goal
 
 abbrev pub invariant-loop-round : goal.invariant-loop-round

@@ -1,7 +1,7 @@
 use Rattle.std.proofs.Common.{◌≡◌, sym, subst}
-use Rattle.gen_events.specs.Seats.{HasSeen}
-use Rattle.gen_events.specs.declared.handle.Handle.{Handle}
-use Rattle.gen_events.specs.declared.view.View.{View}
+use Rattle.shared_events.specs.Seats.{HasSeen}
+use Rattle.event_table.specs.declared.handle.Handle.{Handle}
+use Rattle.shared_events.specs.declared.view.View.{View}
 use Rattle.event_tests.proofs.shared_tests.waiters_are_caught_once.Goals as goal
 
 seen_too : (v : View) (h h' : Handle) → HasSeen v h → h' ≡ h → HasSeen v h'

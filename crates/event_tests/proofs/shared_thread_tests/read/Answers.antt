@@ -1,7 +1,7 @@
 use Rattle.std.proofs.Common.{is_ok, sym, subst}
 use Rattle.std.specs.Prelude.{All}
-use Rattle.gen_events.specs.Seats.{HasSeen}
-use Rattle.gen_events.specs.Views.{lists}
+use Rattle.shared_events.specs.Seats.{HasSeen}
+use Rattle.shared_events.specs.Views.{lists}
 use Rattle.event_tests.proofs.Growing.{pushed}
 use Rattle.event_tests.proofs.shared_thread_tests.read.Goals as goal
 

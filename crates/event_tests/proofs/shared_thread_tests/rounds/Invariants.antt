@@ -1,6 +1,6 @@
 use Rattle.std.specs.Prelude.{All, IfSome}
-use Rattle.gen_events.specs.Seats.{HasSeen}
-use Rattle.gen_events.specs.Views.{lists, IsAt, IsMakerOf, IsReceiptOf}
+use Rattle.shared_events.specs.Seats.{HasSeen}
+use Rattle.shared_events.specs.Views.{lists, IsAt, IsMakerOf, IsReceiptOf}
 use Rattle.event_tests.proofs.shared_thread_tests.rounds.Given as goal
 
 abbrev pub invariant-loop-round : goal.invariant-loop-round

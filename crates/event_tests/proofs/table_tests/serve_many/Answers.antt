@@ -1,5 +1,5 @@
 use Rattle.std.proofs.Common.{is_ok}
-use Rattle.gen_events.specs.EventMap.{IsCreated}
+use Rattle.event_table.specs.EventMap.{IsCreated}
 use Rattle.event_tests.proofs.Growing.{pushed}
 use Rattle.event_tests.proofs.table_tests.serve_many.Goals as goal
 

@@ -1,5 +1,5 @@
 use Rattle.std.specs.Prelude.{All}
-use Rattle.gen_events.specs.EventMap.{IsCreated}
+use Rattle.event_table.specs.EventMap.{IsCreated}
 use Rattle.event_tests.proofs.table_tests.serve_many.Given as goal
 
 abbrev pub invariant-loop-round : goal.invariant-loop-round

@@ -1,6 +1,6 @@
 use Rattle.std.proofs.Common.{◌∙◌, is_some, ap, sym}
 use Rattle.std.proofs.lemmas.Bool.{false≢true}
-use Rattle.gen_events.specs.EventMap.{answer}
+use Rattle.event_table.specs.EventMap.{answer}
 use Rattle.event_tests.proofs.table_tests.wait_for_both.Goals as goal
 
 pub is_ready-at_first-requires-clause-task : goal.is_ready-at_first-requires-clause-task

@@ -2,7 +2,7 @@ use Rattle.std.proofs.Common.{arith, inl, inr, ◌<◌, ◌∙◌, sym, ap, subs
 use lib.ListN.{get_elem?}
 use Rattle.std.specs.Slots.{slots_items, slots_filled}
 use Rattle.std.proofs.lemmas.Bool.{cases_eq}
-use Rattle.gen_events.specs.Views.{lists}
+use Rattle.shared_events.specs.Views.{lists}
 use Rattle.run_words.specs.Layout.{size_of}
 use Rattle.run_words.specs.Emptying.{IsSettled}
 use Rattle.run_words.proofs.EmptyFacts.{line_taken, still_settled, one_content}

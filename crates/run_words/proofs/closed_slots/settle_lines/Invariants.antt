@@ -2,8 +2,8 @@ use Rattle.std.proofs.Common.{◌≡◌, ◌<◌, ℕ}
 use mathlib.Core.Option.{some}
 use lib.ListN.{get_elem?}
 use Rattle.std.specs.Slots.{slots_items, slots_len, slots_filled}
-use Rattle.gen_events.specs.Seats.{Keeps}
-use Rattle.gen_events.specs.Views.{lists, IsAt}
+use Rattle.shared_events.specs.Seats.{Keeps}
+use Rattle.shared_events.specs.Views.{lists, IsAt}
 use Rattle.run_words.specs.declared.content.Content.{Content}
 use Rattle.run_words.specs.Layout.{size_of, line_slot, slot_count}
 use Rattle.run_words.specs.Emptying.{AreTaken, IsSettled}

@@ -1,6 +1,6 @@
 use Rattle.std.proofs.Common.{ap, sym, subst, ◌∙◌}
 use Rattle.std.specs.Arc.{arc_value}
-use Rattle.gen_events.specs.Views.{lists, made_by, handle_of, shape_of}
+use Rattle.shared_events.specs.Views.{lists, made_by, handle_of, shape_of}
 use Rattle.realm_events_c.specs.Calls.{Creates, Splits}
 use Rattle.realm_events_c.proofs.owner.Owner.create.Goals as goal
 

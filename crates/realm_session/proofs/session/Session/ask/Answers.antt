@@ -1,8 +1,8 @@
 use Rattle.std.proofs.Common.{◌≢◌, subst, ◌∙◌}
 use Rattle.std.specs.Prelude.{Contains}
-use Rattle.gen_events.specs.declared.handle.Handle.{Handle}
-use Rattle.gen_events.specs.Seats.{Knows, no_event}
-use Rattle.gen_events.specs.Views.{lists}
+use Rattle.event_table.specs.declared.handle.Handle.{Handle}
+use Rattle.shared_events.specs.Seats.{Knows, no_event}
+use Rattle.shared_events.specs.Views.{lists}
 use Rattle.realm_session.proofs.Telling.{answers, tells_same}
 use Rattle.realm_session.proofs.session.Session.ask.Goals as goal
 

@@ -1,5 +1,5 @@
 use Rattle.std.proofs.Common.{ap}
-use Rattle.gen_events.specs.declared.view.View.{View}
+use Rattle.shared_events.specs.declared.view.View.{View}
 use Rattle.realm_session.proofs.Telling.{tells_same}
 use Rattle.realm_session.proofs.session.Session.asker.Goals as goal
 

@@ -1,7 +1,7 @@
 use Rattle.std.proofs.Common.{⊎_elim, subst}
 use Rattle.std.specs.Prelude.{Contains}
 use Rattle.basics.proofs.ListFacts.{map_contains}
-use Rattle.gen_events.specs.EventMap.{answer}
+use Rattle.event_table.specs.EventMap.{answer}
 use Rattle.realm_session.specs.Recorded.{handle_in, lines_in}
 use Rattle.realm_session.proofs.Telling.{closes}
 use Rattle.realm_session.proofs.session.Session.close.Goals as goal

@@ -1,4 +1,4 @@
-use Rattle.gen_events.specs.Views.{lists}
+use Rattle.shared_events.specs.Views.{lists}
 use Rattle.realm_session.proofs.Telling.{tells_more}
 use Rattle.realm_session.proofs.session.Session.give_back.Goals as goal
 

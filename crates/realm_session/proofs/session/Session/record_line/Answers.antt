@@ -1,6 +1,6 @@
 use Rattle.std.proofs.Common.{◌≡◌, [], ◌∷◌, ◌++◌, ◌<◌, map, sym, ap, subst, ◌∙◌, append_assoc}
 use Rattle.std.specs.Prelude.{Contains}
-use Rattle.gen_events.specs.declared.handle.Handle.{Handle}
+use Rattle.event_table.specs.declared.handle.Handle.{Handle}
 use Rattle.realm_session.specs.declared.line.Line.{Line}
 use Rattle.realm_session.specs.Recorded.{handle_in, lines_in}
 use Rattle.realm_session.proofs.Making.{made_more, is_other, tells_push}

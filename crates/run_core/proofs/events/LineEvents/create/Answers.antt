@@ -1,7 +1,7 @@
 use Rattle.std.proofs.Common.{[], ◌∷◌, List, length, length-append, ◌∙◌, ap, arith}
 use Rattle.std.proofs.lemmas.List.{length-set}
-use Rattle.gen_events.specs.declared.handle.Handle.{Handle}
-use Rattle.gen_events.specs.EventMap.{EventMap}
+use Rattle.event_table.specs.declared.handle.Handle.{Handle}
+use Rattle.event_table.specs.EventMap.{EventMap}
 use Rattle.run_core.specs.Events.{EventsValue}
 use Rattle.run_core.proofs.MarkFacts.{marked_created}
 use Rattle.run_core.proofs.events.LineEvents.create.Goals as goal

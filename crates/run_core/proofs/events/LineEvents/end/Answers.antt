@@ -1,6 +1,6 @@
 use Rattle.std.proofs.Common.{length, ◌∙◌, ap, arith}
 use Rattle.std.proofs.lemmas.List.{length-set}
-use Rattle.gen_events.specs.EventMap.{EventMap}
+use Rattle.event_table.specs.EventMap.{EventMap}
 use Rattle.run_core.proofs.MarkFacts.{marked_ended}
 use Rattle.run_core.proofs.events.LineEvents.end.Goals as goal
 

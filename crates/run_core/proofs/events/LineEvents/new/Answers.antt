@@ -1,7 +1,7 @@
 use Rattle.std.proofs.Common.{length, List, ◌∙◌, ap, arith}
 use Rattle.std.proofs.lemmas.List.{length-replicate}
-use Rattle.gen_events.specs.declared.handle.Handle.{Handle}
-use Rattle.gen_events.specs.EventMap.{EventMap, SlotLife, unused}
+use Rattle.event_table.specs.declared.handle.Handle.{Handle}
+use Rattle.event_table.specs.EventMap.{EventMap, SlotLife, unused}
 use Rattle.run_core.proofs.MarkFacts.{marked_first}
 use Rattle.run_core.proofs.events.LineEvents.new.Goals as goal
 

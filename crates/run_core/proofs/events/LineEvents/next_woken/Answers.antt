@@ -1,5 +1,5 @@
 use Rattle.std.proofs.Common.{List, length, ap, arith}
-use Rattle.gen_events.specs.EventMap.{SlotLife}
+use Rattle.event_table.specs.EventMap.{SlotLife}
 use Rattle.run_core.proofs.MarkFacts.{marked_given}
 use Rattle.run_core.proofs.events.LineEvents.next_woken.Goals as goal
 

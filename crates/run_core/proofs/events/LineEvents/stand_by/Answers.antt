@@ -2,8 +2,8 @@ use Rattle.std.proofs.Common.{◌≡◌, ◌<◌, true, false, length, inr, refl
 use Rattle.std.specs.Prelude.{Some, None, slice_get}
 use Rattle.std.proofs.lemmas.List.{length-set}
 use Rattle.std.proofs.lemmas.Option.{none-some, slice_get_past}
-use Rattle.gen_events.specs.declared.handle.Answer.TheVariants.{Pending}
-use Rattle.gen_events.specs.EventMap.{EventMap, IsFree}
+use Rattle.event_table.specs.declared.handle.Answer.TheVariants.{Pending}
+use Rattle.event_table.specs.EventMap.{EventMap, IsFree}
 use Rattle.run_core.specs.Events.{EventsValue}
 use Rattle.run_core.proofs.MarkFacts.{marked_placed, busy_or_free, never_over, read_at, pending_shown, placed_shown}
 use Rattle.run_core.proofs.events.LineEvents.stand_by.Goals as goal

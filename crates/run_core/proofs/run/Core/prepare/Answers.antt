@@ -5,7 +5,7 @@ use Rattle.graph_terms.specs.Graph.{GraphValue, columns, locks}
 use Rattle.graph_meaning.specs.Effect.{zero_cells}
 use Rattle.graph_terms.specs.Fits.{IsGraph}
 use Rattle.std.proofs.lemmas.List.{length-replicate}
-use Rattle.gen_events.specs.EventMap.{fresh, unused}
+use Rattle.event_table.specs.EventMap.{fresh, unused}
 use Rattle.instances.specs.Homes.{all_home}
 use Rattle.run_state.specs.Start.{first_value}
 use Rattle.run_core.specs.Core.{unissued, IsCore}

@@ -1,8 +1,8 @@
 use Rattle.std.proofs.Common.{◌≡◌, ◌≢◌, map, refl, sym, ◌∙◌, ap, subst, arith}
 use Rattle.std.specs.Prelude.{Some, slice_set}
-use Rattle.gen_events.specs.declared.handle.Handle.{Handle}
-use Rattle.gen_events.specs.declared.handle.Fate.{Fate}
-use Rattle.gen_events.specs.EventMap.{answer, answer_of, ended_with}
+use Rattle.event_table.specs.declared.handle.Handle.{Handle}
+use Rattle.event_table.specs.declared.handle.Fate.{Fate}
+use Rattle.event_table.specs.EventMap.{answer, answer_of, ended_with}
 use Rattle.run_state.specs.Sound.{AccessesColumn}
 use Rattle.run_state.specs.WholeLine.{all_home, columns_for, values_with, arrival_for, holders_without}
 use Rattle.run_state.specs.Run.{is_listed, list_at}

@@ -1,5 +1,5 @@
 use Rattle.std.proofs.Common.{length, ◌∙◌, ap}
-use Rattle.gen_events.specs.EventMap.{EventMap, answer}
+use Rattle.event_table.specs.EventMap.{EventMap, answer}
 use Rattle.run_state.specs.Run.{stage_at, issued, out}
 use Rattle.run_words.proofs.words.Words.close.Goals as goal
 

@@ -1,6 +1,6 @@
 use Rattle.std.proofs.Common.{◌≡◌, ◌<◌, [], length, sym, ◌∙◌, ap, subst}
 use Rattle.std.specs.Prelude.{Some, Contains, slice_get}
-use Rattle.gen_events.proofs.Members.{Contains-head}
+use Rattle.event_table.proofs.Members.{Contains-head}
 use Rattle.graph_terms.specs.Fits.{IsGraph}
 use Rattle.graph_terms.specs.Graph.{GraphValue, locks, is_shared}
 use Rattle.graph_terms.specs.declared.verb.Verb.TheVariants.{Acquire}

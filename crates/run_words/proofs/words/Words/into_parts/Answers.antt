@@ -13,10 +13,10 @@ use Rattle.run_words.specs.Rule.{handle_at, column_with, IsTray}
 use Rattle.run_state.specs.Run.{stage_at}
 use Rattle.run_words.proofs.EmptyFacts.{one_content, desk_taken, none_filled, tray_is}
 use Rattle.std.proofs.lemmas.List.{length-map}
-use Rattle.gen_events.specs.EventMap.{EventMap, life_at, without_waiters}
-use Rattle.gen_events.specs.Views.{lists, shape_of}
-use Rattle.gen_events.specs.declared.handle.Shape.{Shape}
-use Rattle.gen_events.proofs.Members.{Contains-none}
+use Rattle.event_table.specs.EventMap.{EventMap, life_at, without_waiters}
+use Rattle.shared_events.specs.Views.{lists, shape_of}
+use Rattle.event_table.specs.declared.handle.Shape.{Shape}
+use Rattle.event_table.proofs.Members.{Contains-none}
 use Rattle.run_core.specs.Core.{CoreValue, unissued}
 use Rattle.run_core.specs.Resumed.{ShowState}
 use Rattle.run_words.specs.Reading.{state_for, value_for}

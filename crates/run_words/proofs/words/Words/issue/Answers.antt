@@ -5,8 +5,8 @@ use Rattle.std.proofs.lemmas.List.Elements.{Contains-append_left, Contains-appen
 use Rattle.graph_terms.specs.declared.outcome.End.{End}
 use Rattle.basics.proofs.ListFacts.{contains_below}
 use Rattle.basics.specs.Lists.{numbers_below}
-use Rattle.gen_events.proofs.Members.{Contains-head}
-use Rattle.gen_events.specs.declared.handle.Handle.{Handle}
+use Rattle.event_table.proofs.Members.{Contains-head}
+use Rattle.event_table.specs.declared.handle.Handle.{Handle}
 use Rattle.run_words.specs.Plays.{Sat, with_desk, after_issue}
 use Rattle.run_words.proofs.Desking.{issue_chain}
 use Rattle.run_words.proofs.words.Words.issue.Goals as goal

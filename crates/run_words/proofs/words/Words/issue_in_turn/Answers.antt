@@ -1,7 +1,7 @@
 use Rattle.std.proofs.Common.{arith, ◌≡◌, ℕ, ◌<◌, [], ◌∷◌, length, ap, sym, subst}
 use Rattle.std.specs.Prelude.{Contains}
 use Rattle.std.proofs.lemmas.List.Elements.{Contains-append_right}
-use Rattle.gen_events.proofs.Members.{Contains-head}
+use Rattle.event_table.proofs.Members.{Contains-head}
 use Rattle.run_words.specs.declared.view.View.{View}
 use Rattle.run_words.specs.Words.{graph_of}
 use Rattle.run_words.specs.Plays.{Sat}

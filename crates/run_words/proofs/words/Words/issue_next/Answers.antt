@@ -1,10 +1,10 @@
 use Rattle.std.proofs.Common.{rules, arith, inr, ◌≡◌, List, [], ◌∷◌, ◌++◌, length, ap, sym, subst, ◌∙◌, refl}
 use Rattle.std.specs.Prelude.{Contains}
-use Rattle.gen_events.specs.declared.handle.Handle.{Handle}
+use Rattle.event_table.specs.declared.handle.Handle.{Handle}
 use Rattle.std.proofs.lemmas.List.Elements.{Contains-append_right}
-use Rattle.gen_events.specs.Seats.{HasSeen}
-use Rattle.gen_events.specs.Views.{handle_of, made_by, lists, shape_of, IsFull, GoesRound}
-use Rattle.gen_events.proofs.Members.{Contains-head}
+use Rattle.shared_events.specs.Seats.{HasSeen}
+use Rattle.shared_events.specs.Views.{handle_of, made_by, lists, shape_of, IsFull, GoesRound}
+use Rattle.event_table.proofs.Members.{Contains-head}
 use Rattle.run_words.specs.Words.{graph_of, events_of}
 use Rattle.run_words.specs.declared.content.Desk.{Desk}
 use Rattle.run_words.specs.Rule.{IsTray}

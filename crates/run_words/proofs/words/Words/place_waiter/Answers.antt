@@ -1,7 +1,7 @@
 use Rattle.std.proofs.Common.{◌<◌, inr, length, refl, sym, ◌∙◌, ap, subst, arith}
 use Rattle.std.specs.Prelude.{Some}
 use Rattle.std.proofs.lemmas.Option.{slice_get_read}
-use Rattle.gen_events.specs.Views.{lists}
+use Rattle.shared_events.specs.Views.{lists}
 use Rattle.run_words.specs.Standing.{Watches}
 use Rattle.run_words.proofs.words.Words.place_waiter.Goals as goal
 

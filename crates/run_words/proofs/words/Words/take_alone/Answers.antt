@@ -1,5 +1,5 @@
 use Rattle.std.proofs.Common.{refl, ap}
-use Rattle.gen_events.specs.Views.{handle_of}
+use Rattle.shared_events.specs.Views.{handle_of}
 use Rattle.run_words.specs.Claims.{new_claim}
 use Rattle.run_words.specs.Plays.{Sat}
 use Rattle.run_words.specs.Words.{graph_of}

@@ -1,9 +1,9 @@
 use Rattle.std.proofs.Common.{ℕ, List, [], ◌∷◌, inl, inr, refl, sym, subst, ◌∙◌}
 use Rattle.std.specs.Prelude.{Contains}
 use Rattle.std.proofs.lemmas.List.Elements.{Contains-append_right}
-use Rattle.gen_events.proofs.Members.{Contains-head}
-use Rattle.gen_events.specs.Views.{lists, number_of}
-use Rattle.gen_events.specs.declared.handle.Handle.{Handle}
+use Rattle.event_table.proofs.Members.{Contains-head}
+use Rattle.shared_events.specs.Views.{lists, number_of}
+use Rattle.event_table.specs.declared.handle.Handle.{Handle}
 use Rattle.run_words.specs.Standing.{HasWaiter}
 use Rattle.run_words.proofs.Trays.{tray_same}
 use Rattle.run_words.proofs.words.Words.watch_for.Goals as goal

@@ -1,7 +1,7 @@
 use Rattle.std.proofs.Common.{◌≡◌, sym, ◌∙◌, ap, subst, arith}
 use Rattle.std.proofs.lemmas.Option.{same_Some, slice_get_within}
 use Rattle.std.specs.Prelude.{Some}
-use Rattle.gen_events.specs.EventMap.{answer, IsCreated}
+use Rattle.event_table.specs.EventMap.{answer, IsCreated}
 use Rattle.graph_meaning.specs.Evaluation.{eval_end}
 use Rattle.realm_session.specs.Recorded.{answer_for}
 use Rattle.session_run.specs.declared.running.RanGraph.{RanGraph}

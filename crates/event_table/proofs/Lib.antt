@@ -1,0 +1,16 @@
+pub mod Members
+pub mod Words
+pub mod Marks
+pub mod ChainSteps
+pub mod FreeSlots
+pub mod Reading
+pub mod MapAnswers
+pub mod TableSteps
+pub mod TableCreate
+pub mod TablePlace
+pub mod TableEnd
+pub mod TableGive
+pub mod TableLook
+pub mod LeftChains
+pub mod Copying
+pub mod TakeOver

@@ -1,0 +1,4 @@
+pub mod EventMap
+pub mod Chains
+pub mod Kept
+pub mod Words
