@@ -6,7 +6,8 @@ use mathlib.Core.Logic.{dite}
 use native.Mathlib.Decide.{ℕ_discrete}
 use Rattle.basics.specs.Sums.{total, below}
 use Rattle.basics.proofs.Sums.{total-append, total-one, below-one}
-use Rattle.event_table.proofs.Members.{Contains-one, Contains-none, Contains-head}
+use Rattle.event_table.proofs.Members.{Contains-one}
+use Rattle.basics.proofs.ListFacts.{contains_none, contains_here}
 
 -- the free ones of the slots from n on are in the list, each once
 pub record Fills (slots : ℕ) (words : List ℕ) (n : ℕ) (items : List ℕ) : Type 0 where
@@ -15,13 +16,13 @@ pub record Fills (slots : ℕ) (words : List ℕ) (n : ℕ) (items : List ℕ) :
   pub once : (f : ℕ → ℕ) → total f items + below f n ≤ below f slots
 
 pub fills_none : (slots : ℕ) (words : List ℕ) → Fills slots words slots []
-fills_none slots words = record { free = λ i c. absurd (Contains-none i c); all = λ i a b e. absurd (omega arith); once = λ f. omega arith }
+fills_none slots words = record { free = λ i c. absurd (contains_none i c); all = λ i a b e. absurd (omega arith); once = λ f. omega arith }
 
 module _ (slots : ℕ) (words : List ℕ) (n m : ℕ) (items : List ℕ) (is : n ≡ suc m) (low : n ≤ slots) (o : Fills slots words n items) where
   pub fills_more : get_or words m 0 % 4294967296 ≡ 0 → Fills slots words m (items ++ m ∷ [])
   fills_more e = record {
     free = λ i c. ⊎_elim (λ d. let t = o.free i d in (omega (arith, t.0), t.1, t.2)) (λ d. let same = Contains-one m i d in subst (λ j. (m ≤ j) × (j < slots) × (get_or words j 0 % 4294967296 ≡ 0)) same (omega arith, omega arith, e)) (Contains-append_cases items (m ∷ []) i c);
-    all = λ i a b f. dite (ℕ_discrete m i) (λ same. subst (Contains (items ++ m ∷ [])) same (Contains-append_right items (m ∷ []) m (Contains-head m []))) (λ ne. Contains-append_left items (m ∷ []) i (o.all i (omega arith) b f));
+    all = λ i a b f. dite (ℕ_discrete m i) (λ same. subst (Contains (items ++ m ∷ [])) same (Contains-append_right items (m ∷ []) m (contains_here m []))) (λ ne. Contains-append_left items (m ∷ []) i (o.all i (omega arith) b f));
     once = λ f. let before : total f items + below f (suc m) ≤ below f slots = subst (λ k. total f items + below f k ≤ below f slots) is (o.once f) in omega (arith, total-append f items (m ∷ []));
   }
 

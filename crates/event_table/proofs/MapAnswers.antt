@@ -13,7 +13,7 @@ use Rattle.event_table.specs.declared.handle.Fate.{Fate}
 use Rattle.event_table.specs.declared.handle.Fate.TheVariants.{Ok, Poison}
 use Rattle.event_table.specs.declared.handle.Answer.{Answer}
 use Rattle.event_table.specs.declared.handle.Answer.TheVariants.{Pending, Triggered, Poisoned}
-use Rattle.event_table.proofs.Members.{Contains-cases, Contains-none, Contains-head, Contains-tail}
+use Rattle.basics.proofs.ListFacts.{contains_cases, contains_none, contains_here, contains_there}
 use Rattle.event_table.proofs.Words.{by_test}
 
 abbrev some_in : Option Answer → Answer
@@ -157,21 +157,21 @@ module _ (m : EventMap) (h : Handle) (k : ℕ) (near : h.slot < length m.slots) 
   pub placed_stands : answer m h ≡ Some Pending → IsPlaced (placed_on m h k) k h
   placed_stands p = record {
     pending = placed_answers h ∙ p;
-    stands = subst (λ (s : SlotLife). Contains s.waiting k) (sym (life_here m h.slot (record { fates = (life_at m h.slot).fates; is_pending = (life_at m h.slot).is_pending; waiting = k ∷ (life_at m h.slot).waiting }) near)) (Contains-head k (life_at m h.slot).waiting);
+    stands = subst (λ (s : SlotLife). Contains s.waiting k) (sym (life_here m h.slot (record { fates = (life_at m h.slot).fates; is_pending = (life_at m h.slot).is_pending; waiting = k ∷ (life_at m h.slot).waiting }) near)) (contains_here k (life_at m h.slot).waiting);
   }
 
   pub placed_free : (j : ℕ) → j ≢ k → IsFree m j → IsFree (placed_on m h k) j
   placed_free j n o = record {
     number = o.number;
     unplaced = λ i. at_slot m h.slot (record { fates = (life_at m h.slot).fates; is_pending = (life_at m h.slot).is_pending; waiting = k ∷ (life_at m h.slot).waiting }) (λ _ s. Contains s.waiting j → ⊥) near
-        (λ c. ⊎_elim (λ e. n (sym e)) (o.unplaced h.slot) (Contains-cases k j (life_at m h.slot).waiting c)) (λ x _. o.unplaced x) i;
+        (λ c. ⊎_elim (λ e. n (sym e)) (o.unplaced h.slot) (contains_cases k (life_at m h.slot).waiting j c)) (λ x _. o.unplaced x) i;
     uncaught = o.uncaught;
   }
 
 -- END
 pub all_in : (h : Handle) (ks : List ℕ) (k : ℕ) (x : Handle) → Contains (all_on h ks) (k, x) → Contains ks k
-all_in h [] k x c = absurd (Contains-none {A = ℕ × Handle} (k, x) c)
-all_in h (j ∷ js) k x c = ⊎_elim (λ e. subst (Contains (j ∷ js)) (ap (λ (p : ℕ × Handle). p.0) e) (Contains-head j js)) (λ d. Contains-tail j k js (all_in h js k x d)) (Contains-cases {A = ℕ × Handle} (j, h) (k, x) (all_on h js) c)
+all_in h [] k x c = absurd (contains_none {X = ℕ × Handle} (k, x) c)
+all_in h (j ∷ js) k x c = ⊎_elim (λ e. subst (Contains (j ∷ js)) (ap (λ (p : ℕ × Handle). p.0) e) (contains_here j js)) (λ d. contains_there j js k (all_in h js k x d)) (contains_cases {X = ℕ × Handle} (j, h) (all_on h js) (k, x) c)
 
 module _ (m : EventMap) (h : Handle) (f : Fate) (o : IsNow m h) where
   pub ended_is : answer (ended_with m h f) h ≡ Some (answer_of f)
@@ -198,7 +198,7 @@ module _ (m : EventMap) (h : Handle) (f : Fate) (o : IsNow m h) where
   pub ended_free : KeepsFree m (ended_with m h f)
   ended_free k c = record {
     number = c.number;
-    unplaced = λ i. at_slot m h.slot (record { fates = (life_at m h.slot).fates ++ f ∷ []; is_pending = false; waiting = [] }) (λ _ s. Contains s.waiting k → ⊥) o.near (Contains-none k) (λ x _. c.unplaced x) i;
+    unplaced = λ i. at_slot m h.slot (record { fates = (life_at m h.slot).fates ++ f ∷ []; is_pending = false; waiting = [] }) (λ _ s. Contains s.waiting k → ⊥) o.near (contains_none k) (λ x _. c.unplaced x) i;
     uncaught = λ x d. ⊎_elim (λ y. c.unplaced h.slot (all_in h (life_at m h.slot).waiting k x y)) (c.uncaught x) (Contains-append_cases {X = ℕ × Handle} (all_on h (life_at m h.slot).waiting) m.caught (k, x) d);
   }
 

@@ -10,19 +10,6 @@ module _ {A : Type 0} where
   Contains-one x y (zero, h, e) = e
   Contains-one x y (suc k, h, e) = absurd (omega arith)
 
-  pub Contains-none : (y : A) → Contains [] y → ⊥
-  Contains-none y (k, h, e) = omega arith
-
-  pub Contains-head : (x : A) (xs : List A) → Contains (x ∷ xs) x
-  Contains-head x xs = (0, omega arith, refl)
-
-  pub Contains-tail : (x y : A) (xs : List A) → Contains xs y → Contains (x ∷ xs) y
-  Contains-tail x y xs c = (suc c.0, (let h = c.1 in omega arith), c.2)
-
-  pub Contains-cases : (x y : A) (xs : List A) → Contains (x ∷ xs) y → (x ≡ y) ⊎ Contains xs y
-  Contains-cases x y xs (zero, h, e) = inl e
-  Contains-cases x y xs (suc k, h, e) = inr (k, omega arith, e)
-
   -- what holds of the item that is set, and of each other that is there, holds of each that is there then
   pub set_cases : (P : A → Type 0) (xs : List A) (i : ℕ) (x : A) (j : ℕ) (y : A) → get_elem? (set xs i x) j ≡ some y → P x → (j ≢ i → get_elem? xs j ≡ some y → P y) → P y
   set_cases P xs i x j y e here there = ⊎_elim (λ (t : (j ≡ i) × (x ≡ y)). subst P t.1 here) (λ (t : (j ≢ i) × (get_elem? xs j ≡ some y)). there t.0 t.1) (at_set xs i j x y e)

@@ -10,7 +10,7 @@ use Rattle.event_table.specs.declared.handle.Handle.{Handle}
 use Rattle.event_table.specs.declared.handle.Shape.{Shape}
 use Rattle.event_table.specs.declared.chain.Chain.{Chain}
 use Rattle.basics.proofs.Sums.{total-put}
-use Rattle.event_table.proofs.Members.{Contains-head}
+use Rattle.basics.proofs.ListFacts.{contains_here}
 use Rattle.event_table.proofs.ChainSteps.{linked_low}
 use Rattle.event_table.proofs.Marks.{marks_low}
 use Rattle.event_table.proofs.Reading.{map_read, as_read}
@@ -26,7 +26,7 @@ idle_word key words i life o idle left =
 
 module _ (key : Shape) (words free : List ℕ) (cs : List Chain) (m : EventMap) (i x : ℕ) (o : AreKept key words (free ++ i ∷ []) cs m) (is : x ≡ get_or words i 0 + 1) where
   pub last_free : MayServe m i
-  last_free = o.frees.served i (Contains-append_right free (i ∷ []) i (Contains-head i []))
+  last_free = o.frees.served i (Contains-append_right free (i ∷ []) i (contains_here i []))
 
   pub last_near : i < key.slots
   last_near = omega (arith, last_free.near, o.shown.high)

@@ -12,7 +12,7 @@ use Rattle.event_table.specs.declared.handle.Handle.{Handle}
 use Rattle.event_table.specs.declared.handle.Shape.{Shape}
 use Rattle.event_table.specs.declared.chain.Chain.{Chain}
 use Rattle.basics.proofs.Sums.{below-only, item_le, only-same, below-once, entry_le}
-use Rattle.event_table.proofs.Members.{Contains-none, Contains-tail}
+use Rattle.basics.proofs.ListFacts.{contains_none, contains_there}
 use Rattle.event_table.proofs.ChainSteps.{in_list, at_default}
 use Rattle.event_table.proofs.Words.{code_le}
 use Rattle.event_table.proofs.Reading.{map_read}
@@ -33,7 +33,7 @@ given_free m k h ps e once =
     record {
       number = dite (dec_le m.waiters k) (λ l. let none = (below-only k m.waiters).1 l in absurd (omega arith)) (λ n. omega arith);
       unplaced = λ i c. dite (dec_le (length m.slots) i)
-          (λ l. absurd (Contains-none k (subst (λ (s : SlotLife). Contains s.waiting k) (get_or_past m.slots i unused l) c)))
+          (λ l. absurd (contains_none k (subst (λ (s : SlotLife). Contains s.waiting k) (get_or_past m.slots i unused l) c)))
           (λ n. let some = entry_le (λ (s : SlotLife). total (only k) s.waiting) m.slots i unused (omega arith) in let mine = in_list k (life_at m i).waiting c in omega arith);
       uncaught = λ x c. let again = item_le (λ (p : ℕ × Handle). only k p.0) ps (k, x) c in omega arith;
     }
@@ -42,7 +42,7 @@ pub given_keeps : (m : EventMap) (k : ℕ) (h : Handle) (ps : List (ℕ × Handl
 given_keeps m k h ps e = λ j o. record {
   number = o.number;
   unplaced = o.unplaced;
-  uncaught = λ x c. o.uncaught x (subst (λ (l : List (ℕ × Handle)). Contains l (j, x)) (sym e) (Contains-tail {A = ℕ × Handle} (k, h) (j, x) ps c));
+  uncaught = λ x c. o.uncaught x (subst (λ (l : List (ℕ × Handle)). Contains l (j, x)) (sym e) (contains_there {X = ℕ × Handle} (k, h) ps (j, x) c));
 }
 
 module _ (key : Shape) (words free : List ℕ) (cs : List Chain) (c : Chain) (m : EventMap) (o : AreKept key words free (cs ++ c ∷ []) m) where

@@ -16,7 +16,7 @@ use Rattle.event_table.specs.declared.handle.Answer.TheVariants.{Pending}
 use Rattle.event_table.specs.declared.handle.Shape.{Shape}
 use Rattle.event_table.specs.declared.chain.Chain.{Chain}
 use Rattle.basics.proofs.Sums.{below-once, below-only, below-one, total-one, entry_le}
-use Rattle.event_table.proofs.Members.{Contains-none}
+use Rattle.basics.proofs.ListFacts.{contains_none}
 use Rattle.event_table.proofs.Words.{by_test}
 use Rattle.event_table.proofs.Marks.{code_answer, one_code}
 use Rattle.event_table.proofs.Reading.{turns_at, map_read, as_read}
@@ -84,8 +84,8 @@ module _ (key : Shape) (words : List ℕ) (cs : List Chain) (m : EventMap) (smal
     pending = λ i k c. let life : SlotLife = life_at m i in by_test life.is_pending
         (λ p. in_pending life (length life.fates) p refl)
         (λ p. absurd (dite (dec_le (length m.slots) i)
-        (λ l. Contains-none k (subst (λ (s : SlotLife). Contains s.waiting k) (get_or_past m.slots i unused l) c))
-        (λ n. let t = idle_turns life p in Contains-none k (subst (λ l. Contains l k) ((o.each i (omega (arith, o.high))).word.bare (omega arith)) c))));
+        (λ l. contains_none k (subst (λ (s : SlotLife). Contains s.waiting k) (get_or_past m.slots i unused l) c))
+        (λ n. let t = idle_turns life p in contains_none k (subst (λ l. Contains l k) ((o.each i (omega (arith, o.high))).word.bare (omega arith)) c))));
   }
 
 -- A TABLE IN WHICH NOTHING WAS CREATED

@@ -14,7 +14,8 @@ use Rattle.event_table.specs.declared.handle.Handle.{Handle}
 use Rattle.event_table.specs.declared.handle.Shape.{Shape}
 use Rattle.event_table.specs.declared.chain.Chain.{Chain}
 use Rattle.basics.proofs.Sums.{total-append, total-one, below-one, below-once, item_le, only-same}
-use Rattle.event_table.proofs.Members.{Contains-one, Contains-none, Contains-head, Contains-tail, Contains-cases}
+use Rattle.event_table.proofs.Members.{Contains-one}
+use Rattle.basics.proofs.ListFacts.{contains_none, contains_here, contains_there, contains_cases}
 use Rattle.event_table.proofs.ChainSteps.{linked_all}
 use Rattle.event_table.proofs.MapAnswers.{all_in, life_here, life_there}
 
@@ -40,7 +41,7 @@ below_but f k (suc n) l = dite (ℕ_discrete n k)
 
 pub total_but : (f : ℕ → ℕ) (k : ℕ) (xs : List ℕ) → (Contains xs k → ⊥) → total (but f k) xs ≡ total f xs
 total_but f k [] n = refl
-total_but f k (x ∷ xs) n = let a = but_other f k x (λ e. n (subst (Contains (x ∷ xs)) e (Contains-head x xs))) in omega (arith, total_but f k xs (λ c. n (Contains-tail x k xs c)))
+total_but f k (x ∷ xs) n = let a = but_other f k x (λ e. n (subst (Contains (x ∷ xs)) e (contains_here x xs))) in omega (arith, total_but f k xs (λ c. n (contains_there x xs k c)))
 
 -- one more than a list that has each number at most once
 pub one_more : (xs : List ℕ) (n k : ℕ) → k < n → (Contains xs k → ⊥) → ((f : ℕ → ℕ) → total f xs ≤ below f n) → (f : ℕ → ℕ) → total f xs + f k ≤ below f n
@@ -52,12 +53,12 @@ lives_but f k (l ∷ ls) n = omega (arith, total_but f k l.waiting (n 0), lives_
 
 caught_but : (f : ℕ → ℕ) (k : ℕ) (ps : List (ℕ × Handle)) → ((h : Handle) → Contains ps (k, h) → ⊥) → total (λ (p : ℕ × Handle). but f k p.0) ps ≡ total (λ (p : ℕ × Handle). f p.0) ps
 caught_but f k [] n = refl
-caught_but f k (p ∷ ps) n = let a = but_other f k p.0 (λ e. n p.1 (subst (λ x. Contains (p ∷ ps) (x, p.1)) e (Contains-head {A = ℕ × Handle} p ps))) in omega (arith, caught_but f k ps (λ h c. n h (Contains-tail {A = ℕ × Handle} p (k, h) ps c)))
+caught_but f k (p ∷ ps) n = let a = but_other f k p.0 (λ e. n p.1 (subst (λ x. Contains (p ∷ ps) (x, p.1)) e (contains_here {X = ℕ × Handle} p ps))) in omega (arith, caught_but f k ps (λ h c. n h (contains_there {X = ℕ × Handle} p ps (k, h) c)))
 
 -- FRAMES. What a chain's links are
 pub linked_same : (key : Shape) (ws ws' c : List ℕ) → ((k : ℕ) → Contains c k → get_or ws' (key.slots + k) 0 ≡ get_or ws (key.slots + k) 0) → Linked key ws c → Linked key ws' c
 linked_same key ws ws' [] f l = tt
-linked_same key ws ws' (k ∷ ks) f l = (l.0, f k (Contains-head k ks) ∙ l.1, linked_same key ws ws' ks (λ j c. f j (Contains-tail k j ks c)) l.2)
+linked_same key ws ws' (k ∷ ks) f l = (l.0, f k (contains_here k ks) ∙ l.1, linked_same key ws ws' ks (λ j c. f j (contains_there k ks j c)) l.2)
 
 pub slot_same : (key : Shape) (ws ws' : List ℕ) (i : ℕ) (life : SlotLife) → get_or ws' i 0 ≡ get_or ws i 0 → ((k : ℕ) → Contains life.waiting k → get_or ws' (key.slots + k) 0 ≡ get_or ws (key.slots + k) 0)
     → ((g : ℕ) → g < length life.fates → mark key ws' (handle_at i g) ≡ mark key ws (handle_at i g)) → IsSlot key ws i life → IsSlot key ws' i life
@@ -68,8 +69,8 @@ slot_same key ws ws' i life w links marks o = record {
 }
 
 all_has : (h : Handle) (ks : List ℕ) (k : ℕ) → Contains ks k → Contains (all_on h ks) (k, h)
-all_has h [] k c = absurd (Contains-none k c)
-all_has h (j ∷ js) k c = ⊎_elim (λ (e : j ≡ k). subst (λ x. Contains (all_on h (j ∷ js)) (x, h)) e (Contains-head {A = ℕ × Handle} (j, h) (all_on h js))) (λ d. Contains-tail {A = ℕ × Handle} (j, h) (k, h) (all_on h js) (all_has h js k d)) (Contains-cases j k js c)
+all_has h [] k c = absurd (contains_none k c)
+all_has h (j ∷ js) k c = ⊎_elim (λ (e : j ≡ k). subst (λ x. Contains (all_on h (j ∷ js)) (x, h)) e (contains_here {X = ℕ × Handle} (j, h) (all_on h js))) (λ d. contains_there {X = ℕ × Handle} (j, h) (all_on h js) (k, h) (all_has h js k d)) (contains_cases j js k c)
 
 pub caught_same : (key : Shape) (ws ws' : List ℕ) (cs : List Chain) (ps : List (ℕ × Handle)) → ((k : ℕ) (h : Handle) → Contains ps (k, h) → get_or ws' (key.slots + k) 0 ≡ get_or ws (key.slots + k) 0) → AreCaught key ws cs ps → AreCaught key ws' cs ps
 caught_same key ws ws' [] ps f o = o
@@ -108,7 +109,7 @@ caught_last key ws (b ∷ bs) c ps (ks, rest, e, linked, more) =
     }
 
 pub caught_low : (key : Shape) (ws : List ℕ) (cs : List Chain) (ps : List (ℕ × Handle)) → AreCaught key ws cs ps → (k : ℕ) (h : Handle) → Contains ps (k, h) → k < key.waiters
-caught_low key ws [] ps o k h d = absurd (Contains-none {A = ℕ × Handle} (k, h) (subst (λ (l : List (ℕ × Handle)). Contains l (k, h)) o d))
+caught_low key ws [] ps o k h d = absurd (contains_none {X = ℕ × Handle} (k, h) (subst (λ (l : List (ℕ × Handle)). Contains l (k, h)) o d))
 caught_low key ws (c ∷ cs) ps (ks, rest, e, linked, more) k h d = ⊎_elim (caught_low key ws cs rest more k h) (λ z. linked_all key ws (c.first ∷ ks) linked k (all_in c.handle (c.first ∷ ks) k h z))
     (Contains-append_cases {X = ℕ × Handle} rest (all_on c.handle (c.first ∷ ks)) (k, h) (subst (λ (l : List (ℕ × Handle)). Contains l (k, h)) e d))
 
@@ -180,7 +181,7 @@ module _ (m : EventMap) (i : ℕ) (life : SlotLife) where
         let out : Contains free i → ⊥ = λ c. was (o.served i c) in
         record {
           served = λ j c. ⊎_elim (λ d. may_there j (λ e. out (subst (Contains free) e d)) (o.served j d)) (λ d. subst (MayServe (with_life m i life)) (Contains-one i j d) (may_now near idle left)) (Contains-append_cases free (i ∷ []) j c);
-          spare = λ j d. dite (ℕ_discrete j i) (λ e. subst (Contains (free ++ i ∷ [])) (sym e) (Contains-append_right free (i ∷ []) i (Contains-head i []))) (λ n. Contains-append_left free (i ∷ []) j (o.spare j (may_back j n d)));
+          spare = λ j d. dite (ℕ_discrete j i) (λ e. subst (Contains (free ++ i ∷ [])) (sym e) (Contains-append_right free (i ∷ []) i (contains_here i []))) (λ n. Contains-append_left free (i ∷ []) j (o.spare j (may_back j n d)));
           apart = λ f. let all = one_more free slots i low out o.apart f in omega (arith, total-append f free (i ∷ []));
         }
 

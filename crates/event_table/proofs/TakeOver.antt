@@ -11,7 +11,7 @@ use Rattle.event_table.specs.Kept.{turns_in, life_in, map_in, IsSlot, AreShown, 
 use Rattle.event_table.specs.declared.handle.Handle.{Handle}
 use Rattle.event_table.specs.declared.handle.Shape.{Shape}
 use Rattle.event_table.specs.declared.chain.Chain.{Chain}
-use Rattle.event_table.proofs.Members.{Contains-none}
+use Rattle.basics.proofs.ListFacts.{contains_none}
 use Rattle.event_table.proofs.Words.{by_test}
 use Rattle.event_table.proofs.MapAnswers.{keeps_answers}
 use Rattle.event_table.proofs.Reading.{read_length, turns_at, map_read, as_read}
@@ -132,7 +132,7 @@ freed_tells m n last e =
       keeps = keeps_answers m (up_to_gen last (all_free m)) same;
       free = λ k l. record {
         number = l;
-        unplaced = λ i c. Contains-none k (subst (λ (s : SlotLife). Contains s.waiting k) (lives_freed m.slots i) c);
-        uncaught = λ h c. Contains-none {A = ℕ × Handle} (k, h) c;
+        unplaced = λ i c. contains_none k (subst (λ (s : SlotLife). Contains s.waiting k) (lives_freed m.slots i) c);
+        uncaught = λ h c. contains_none {X = ℕ × Handle} (k, h) c;
       };
     })

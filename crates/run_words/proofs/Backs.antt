@@ -2,7 +2,7 @@
 use Rattle.std.proofs.Common.{◌≡◌, ℕ, ◌+◌, ◌-◌, List, [], ◌∷◌, refl, sym, ◌∙◌, ap, subst, arith}
 use Rattle.std.specs.Prelude.{Contains, Some, None}
 use Rattle.std.proofs.lemmas.List.Elements.{Contains-append_right}
-use Rattle.event_table.proofs.Members.{Contains-head}
+use Rattle.basics.proofs.ListFacts.{contains_here}
 use Rattle.shared_events.specs.Views.{IsReceiptOf, handle_of, ended_by, fate_of}
 use Rattle.shared_events.specs.declared.events.Events.{Events}
 use Rattle.shared_events.specs.declared.tokens.Pending.{Pending}
@@ -73,7 +73,7 @@ module _ (g : GraphValue) (e : Events) (line : ℕ) (x : End) (v : View) (cl : C
       }
 
       pub knows : Contains o.0.ended (line, x)
-      knows = subst (λ (l : List (ℕ × End)). Contains l (line, x)) (sym (ap (λ (y : Sat). y.0.ended) closed_now)) (Contains-append_right i.view.ended ((line, x) ∷ []) (line, x) (Contains-head {A = ℕ × End} (line, x) []))
+      knows = subst (λ (l : List (ℕ × End)). Contains l (line, x)) (sym (ap (λ (y : Sat). y.0.ended) closed_now)) (Contains-append_right i.view.ended ((line, x) ∷ []) (line, x) (contains_here {X = ℕ × End} (line, x) []))
 
       pub same_mine : o.0.mine ≡ v.mine
       same_mine = ap (λ (y : Sat). y.0.mine) closed_now ∙ i.mine

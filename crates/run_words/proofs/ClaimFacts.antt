@@ -8,7 +8,7 @@ use Rattle.graph_terms.specs.declared.outcome.End.TheVariants.{Cancelled}
 use Rattle.graph_terms.specs.Graph.{GraphValue}
 use Rattle.graph_meaning.specs.Evaluation.{eval_end}
 use Rattle.shared_events.specs.declared.events.Events.{Events}
-use Rattle.event_table.proofs.Members.{Contains-head, Contains-tail}
+use Rattle.basics.proofs.ListFacts.{contains_here, contains_there}
 use Rattle.line_effects.proofs.MoveFacts.{moves_few}
 use Rattle.run_state.specs.Sound.{AccessesColumn}
 use Rattle.run_state.specs.WholeLine.{column_list}
@@ -37,13 +37,13 @@ had_of xs (suc k) columns s j c low at = elim (cases_eq j k) [
       (λ (n : (slice_get xs k ≡ None) × Stacked xs k columns). absurd (none-some c (sym n.0 ∙ (ap (slice_get xs) (sym q) ∙ at))))
       (λ (r : (d : ℕ) × (ks : List ℕ) × (more : Pairs) × (slice_get xs k ≡ Some d) × (columns ≡ (d, ks) ∷ more) × Stacked xs k more).
       let same : r.0 ≡ c = same_Some r.0 c (sym r.3 ∙ (ap (slice_get xs) (sym q) ∙ at)) in
-      (r.1, subst (λ (l : Pairs). Contains l (c, r.1)) (sym (r.4 ∙ ap (λ (d : ℕ). (d, r.1) ∷ r.2) same)) (Contains-head {A = ℕ × List ℕ} (c, r.1) r.2)))
+      (r.1, subst (λ (l : Pairs). Contains l (c, r.1)) (sym (r.4 ∙ ap (λ (d : ℕ). (d, r.1) ∷ r.2) same)) (contains_here {X = ℕ × List ℕ} (c, r.1) r.2)))
       s
   | inr n ↦ ⊎_elim
       (λ (m : (slice_get xs k ≡ None) × Stacked xs k columns). had_of xs k columns m.1 j c (omega (arith, low, n)) at)
       (λ (r : (d : ℕ) × (ks : List ℕ) × (more : Pairs) × (slice_get xs k ≡ Some d) × (columns ≡ (d, ks) ∷ more) × Stacked xs k more).
       let h = had_of xs k r.2 r.5 j c (omega (arith, low, n)) at in
-      (h.0, subst (λ (l : Pairs). Contains l (c, h.0)) (sym r.4) (Contains-tail {A = ℕ × List ℕ} (r.0, r.1) (c, h.0) r.2 h.1)))
+      (h.0, subst (λ (l : Pairs). Contains l (c, h.0)) (sym r.4) (contains_there {X = ℕ × List ℕ} (r.0, r.1) r.2 (c, h.0) h.1)))
       s
 ]
 

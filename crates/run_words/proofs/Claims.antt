@@ -16,7 +16,7 @@ use Rattle.shared_events.specs.Views.{handle_of, IsPendingOf}
 use Rattle.event_table.specs.declared.handle.Handle.{Handle}
 use Rattle.shared_events.specs.declared.events.Events.{Events}
 use Rattle.basics.proofs.Sums.{total-set}
-use Rattle.event_table.proofs.Members.{Contains-none}
+use Rattle.basics.proofs.ListFacts.{contains_none}
 use Rattle.run_state.specs.Run.{LineStage, Unissued, Issued, Out, Ended, Run, stage_at, time_at, stage_issued, stage_out, stage_started, stage_over, stage_ended, issued}
 use Rattle.run_state.specs.Sound.{Sound}
 use Rattle.run_state.specs.Moves.{claim}
@@ -58,7 +58,7 @@ module _ (g : GraphValue) (run : Run) (o : Sound g run) (i : ℕ) (stage : stage
   pub new_progress : (h : Handle) → i < length run.stages → Progress g (claim run i) (new_claim i h)
   new_progress h there = record {
     stage = get_or-set_same run.stages i Out Unissued there;
-    has = λ k ks c. absurd (Contains-none {A = ℕ × List ℕ} (k, ks) c);
+    has = λ k ks c. absurd (contains_none {X = ℕ × List ℕ} (k, ks) c);
     only = λ k h. absurd (true≢false (sym (o.on_columns.had_out k i h) ∙ ap stage_out stage));
     puts = λ k. false_from_ne_true _ (λ h. not_started (o.on_columns.back_started k i h));
     arrived = false_from_ne_true _ (λ h. not_started (o.on_phases.arrived_started i h));

@@ -3,7 +3,7 @@ use Rattle.std.proofs.Common.{◌≡◌, ℕ, ◌≤◌, List, [], ◌∷◌, �
 use Rattle.std.specs.Prelude.{Contains, Some, None, option_map}
 use Rattle.event_table.specs.declared.handle.Handle.{Handle}
 use Rattle.shared_events.specs.declared.events.Events.{Events}
-use Rattle.event_table.proofs.Members.{Contains-head}
+use Rattle.basics.proofs.ListFacts.{contains_here}
 use Rattle.graph_terms.specs.Graph.{GraphValue}
 use Rattle.run_words.specs.declared.content.Content.{Content}
 use Rattle.run_words.specs.declared.content.Content.TheVariants.{Nothing, Ticket, Stub, Cells, Tray}
@@ -18,7 +18,7 @@ use Rattle.run_words.specs.Plays.{Sat, HasDesk, with_desk, without_desk, after_i
 use Rattle.run_words.proofs.Turns.{sat}
 
 pub has_key : (l : List Ground) (x : Ground) → l ≡ x ∷ [] → Contains l x
-has_key l x q = subst (λ k. Contains k x) (sym q) (Contains-head x [])
+has_key l x q = subst (λ k. Contains k x) (sym q) (contains_here x [])
 
 abbrev pub tray_in : Desk → Content → Desk
 tray_in d (Tray x) = x

@@ -16,9 +16,8 @@ use Rattle.shared_events.specs.Seats.{Begins}
 use Rattle.event_table.specs.declared.handle.Handle.{Handle}
 use Rattle.shared_events.specs.declared.events.Events.{Events}
 use Rattle.basics.proofs.Sums.{total-set}
-use Rattle.event_table.proofs.Members.{Contains-none}
 use Rattle.run_state.proofs.Lists.{stage_there}
-use Rattle.basics.proofs.ListFacts.{below_contains}
+use Rattle.basics.proofs.ListFacts.{below_contains, contains_none}
 use Rattle.run_words.specs.declared.content.Content.{Content}
 use Rattle.run_words.specs.declared.content.Desk.{Desk}
 use Rattle.run_words.specs.declared.view.View.{View}
@@ -131,7 +130,7 @@ module _ (g : GraphValue) (e : Events) (s : St) (o : Shown g e s) (id : ℕ) (v 
           issued = f.issued;
           ended = f.ended;
           named = λ l c. ⊎_elim (λ d. f.named l d)
-              (λ d. ⊎_elim (λ (q : hs ≡ l). subst (λ y. Begins y o.handles) (sym mine ∙ q) (begins_self o.handles)) (λ n. absurd (Contains-none l n)) (Rattle.event_table.proofs.Members.Contains-cases hs l [] (subst (λ o'. Contains (named_by o') l) turn d)))
+              (λ d. ⊎_elim (λ (q : hs ≡ l). subst (λ y. Begins y o.handles) (sym mine ∙ q) (begins_self o.handles)) (λ n. absurd (contains_none l n)) (Rattle.basics.proofs.ListFacts.contains_cases hs [] l (subst (λ o'. Contains (named_by o') l) turn d)))
               (Contains-append_cases v.named (named_by v.desk) l c);
           claim = f.claim;
           event = f.event;

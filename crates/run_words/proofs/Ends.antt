@@ -20,7 +20,7 @@ use Rattle.run_words.specs.declared.view.View.{View}
 use Rattle.run_words.specs.Claims.{Claim}
 use Rattle.std.proofs.lemmas.List.Elements.{Contains-push_cases}
 use Rattle.basics.proofs.Sums.{total-set}
-use Rattle.event_table.proofs.Members.{Contains-none}
+use Rattle.basics.proofs.ListFacts.{contains_none}
 use Rattle.run_state.specs.Run.{LineStage, Unissued, Issued, Out, Ending, Ended, Run, is_listed, stage_at, stage_issued}
 use Rattle.run_state.specs.Sound.{Sound}
 use Rattle.run_state.specs.Moves.{staged, unclaim, ending, close}
@@ -201,7 +201,7 @@ module _ (g : GraphValue) (e : Events) (s : St) (o : Shown g e s) (id : ℕ) (v 
     unclaim_sound : Sound g (unclaim o.run i)
     unclaim_sound = unclaim-sound o.sound i (record {
       is_out = progress.stage ∙ ap working bare.going;
-      no_column = λ c h. let p = progress.only c h in Contains-none {A = ℕ × List ℕ} (c, p.0) (subst (λ l. Contains {X = ℕ × List ℕ} l (c, p.0)) bare.columns p.1);
+      no_column = λ c h. let p = progress.only c h in contains_none {X = ℕ × List ℕ} (c, p.0) (subst (λ l. Contains {X = ℕ × List ℕ} l (c, p.0)) bare.columns p.1);
       not_back = λ c. progress.puts c ∙ ap (λ l. is_listed l c) bare.puts;
       not_arrived = progress.arrived ∙ bare.arrived;
       no_lock = λ l. false_from_ne_true _ (λ h. true≢false (sym h ∙ (progress.holds l (o.sound.on_locks.holder_acquires l i h) ∙ bare.held)));

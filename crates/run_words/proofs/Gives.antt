@@ -9,7 +9,7 @@ use Rattle.atomic_table.proofs.Lists.{set_here}
 use Rattle.graph_terms.specs.Graph.{GraphValue, columns}
 use Rattle.basics.specs.Sums.{total}
 use Rattle.shared_events.specs.declared.events.Events.{Events}
-use Rattle.event_table.proofs.Members.{Contains-cases, Contains-head, Contains-tail}
+use Rattle.basics.proofs.ListFacts.{contains_cases, contains_here, contains_there}
 use Rattle.run_state.specs.Run.{Place, Home, Had, is_listed, place_at, list_at}
 use Rattle.run_state.specs.Sound.{home_cells}
 use Rattle.run_state.specs.Work.{put_cells}
@@ -45,7 +45,7 @@ module _ (g : GraphValue) (e : Events) (s : St) (o : Shown g e s) (id : ℕ) (v 
   progress = (o.each_view id v me).claim cl has
 
   had : (place_at o.run.places c ≡ Had cl.line) × (list_at o.run.back c ≡ ks)
-  had = progress.has c ks (subst (λ (l : Pairs). Contains l (c, ks)) (sym first.first) (Contains-head {A = ℕ × List ℕ} (c, ks) more))
+  had = progress.has c ks (subst (λ (l : Pairs). Contains l (c, ks)) (sym first.first) (contains_here {X = ℕ × List ℕ} (c, ks) more))
 
   there : c < length o.run.places
   there = had_there o.sound c cl.line had.0
@@ -63,7 +63,7 @@ module _ (g : GraphValue) (e : Events) (s : St) (o : Shown g e s) (id : ℕ) (v 
   others : (k : ℕ) (js : List ℕ) → Contains more (k, js) → (k ≡ c → ⊥) × (place_at places k ≡ Had cl.line) × (list_at o.run.back k ≡ js)
   others k js d =
       let ne : k ≡ c → ⊥ = λ q. first.once js (subst (λ n. Contains {X = ℕ × List ℕ} more (n, js)) q d) in
-      let p = progress.has k js (subst (λ (l : Pairs). Contains l (k, js)) (sym first.first) (Contains-tail {A = ℕ × List ℕ} (c, ks) (k, js) more d)) in
+      let p = progress.has k js (subst (λ (l : Pairs). Contains l (k, js)) (sym first.first) (contains_there {X = ℕ × List ℕ} (c, ks) more (k, js) d)) in
       (ne, other_set o.run.places (Home []) c k (Home xs) ne ∙ p.0, p.1)
 
   only : (k : ℕ) → place_at places k ≡ Had cl.line → (js : List ℕ) × Contains more (k, js)
@@ -72,7 +72,7 @@ module _ (g : GraphValue) (e : Events) (s : St) (o : Shown g e s) (id : ℕ) (v 
     | inr n ↦ (
         let p = progress.only k (sym (other_set o.run.places (Home []) c k (Home xs) n) ∙ h) in
         ⊎_elim (λ (q : (c, ks) ≡ (k, p.0)). absurd (n (sym (ap (λ (x : ℕ × List ℕ). x.0) q)))) (λ (d : Contains {X = ℕ × List ℕ} more (k, p.0)). (p.0, d))
-        (Contains-cases {A = ℕ × List ℕ} (c, ks) (k, p.0) more (subst (λ (l : Pairs). Contains l (k, p.0)) first.first p.1)))
+        (contains_cases {X = ℕ × List ℕ} (c, ks) more (k, p.0) (subst (λ (l : Pairs). Contains l (k, p.0)) first.first p.1)))
   ]
 
   abbrev ws : List ℕ

@@ -23,7 +23,7 @@ use Rattle.run_state.specs.Sound.{Sound}
 use Rattle.run_words.specs.declared.content.Content.{Content}
 use Rattle.run_words.specs.declared.view.View.{View}
 use lib.Seq.{set-get_or}
-use Rattle.event_table.proofs.Members.{Contains-head, Contains-tail}
+use Rattle.basics.proofs.ListFacts.{contains_here, contains_there}
 use Rattle.run_state.specs.Moves.{issue}
 use Rattle.run_state.proofs.Stages.{issue-sound}
 use Rattle.run_words.specs.declared.content.Content.TheVariants.{Nothing, Ticket}
@@ -56,8 +56,8 @@ get_push (z ∷ zs) x y (suc a) h = ⊎_elim (λ l. inl l) (λ r. inr (ap suc r.
 
 pub got_contains : {X : Type 0} (xs : List X) (a : ℕ) (y : X) → slice_get xs a ≡ Some y → Contains xs y
 got_contains [] a y h = absurd (none-some y h)
-got_contains (x ∷ xs) zero y h = subst (Contains (x ∷ xs)) (same_Some x y h) (Contains-head x xs)
-got_contains (x ∷ xs) (suc a) y h = Contains-tail x y xs (got_contains xs a y h)
+got_contains (x ∷ xs) zero y h = subst (Contains (x ∷ xs)) (same_Some x y h) (contains_here x xs)
+got_contains (x ∷ xs) (suc a) y h = contains_there x xs y (got_contains xs a y h)
 
 -- a sum over the views that is not 0 has a view that weighs
 pub some_weight : (f : View → ℕ) (vs : List View) → (total f vs ≡ 0) ⊎ ((j : ℕ) × (u : View) × (get_elem? vs j ≡ some u) × (0 < f u))

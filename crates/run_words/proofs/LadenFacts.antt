@@ -6,7 +6,7 @@ use Rattle.std.proofs.lemmas.Option.{none-some, same_Some}
 use Rattle.index_spaces.specs.Column.{ColumnValue}
 use Rattle.index_spaces.specs.Held.{held_at, HoldsOtherwise}
 use Rattle.graph_terms.specs.Graph.{GraphValue}
-use Rattle.event_table.proofs.Members.{Contains-head, Contains-tail}
+use Rattle.basics.proofs.ListFacts.{contains_here, contains_there}
 use Rattle.run_state.specs.Run.{is_listed}
 use Rattle.run_state.specs.Work.{put_cells}
 use Rattle.run_state.specs.WholeLine.{column_list}
@@ -35,7 +35,7 @@ module _ (g : GraphValue) (line k : ℕ) (v : View) (cl : Claim) (left : List (�
   hand = l.hand ∙ ap (λ (xs : Pairs). hand_of (size_of g) xs left) top.2
 
   pub has_column : held_at held c ≡ Some (column_with g c (put_cells g line top.0 c))
-  has_column = l.holds c top.0 (subst (λ (xs : Pairs). Contains xs (c, top.0)) (sym top.2) (Contains-head {A = ℕ × List ℕ} (c, top.0) top.1))
+  has_column = l.holds c top.0 (subst (λ (xs : Pairs). Contains xs (c, top.0)) (sym top.2) (contains_here {X = ℕ × List ℕ} (c, top.0) top.1))
 
   apart : ((ks : List ℕ) → Contains top.1 (c, ks) → ⊥) × Apart top.1
   apart = subst Apart top.2 l.apart
@@ -66,7 +66,7 @@ module _ (g : GraphValue) (line k : ℕ) (v : View) (cl : Claim) (left : List (�
       stacked = top.3;
       apart = apart.1;
       holds = λ d ks at'. others.others d (λ q. apart.0 ks (subst (λ j. Contains {X = ℕ × List ℕ} top.1 (j, ks)) q at'))
-          ∙ l.holds d ks (subst (λ (xs : Pairs). Contains xs (d, ks)) (sym top.2) (Contains-tail {A = ℕ × List ℕ} (c, top.0) (d, ks) top.1 at'));
+          ∙ l.holds d ks (subst (λ (xs : Pairs). Contains xs (d, ks)) (sym top.2) (contains_there {X = ℕ × List ℕ} (c, top.0) top.1 (d, ks) at'));
       done = λ j d far at'. elim (cases_eq j k) [
         | inl q ↦ subst (λ y. is_listed (c ∷ l.puts) y ≡ true) (same_Some c d (sym at ∙ (ap (slice_get (column_list g line)) (sym q) ∙ at'))) (listed_here c l.puts)
         | inr ne ↦ listed_there c d l.puts (l.done j d (omega (arith, far, ne)) at')

@@ -15,7 +15,8 @@ use Rattle.graph_meaning.specs.Evaluation.{eval_end, cells_of_lines}
 use Rattle.basics.specs.Sums.{total}
 use Rattle.event_table.specs.declared.handle.Handle.{Handle}
 use Rattle.shared_events.specs.declared.events.Events.{Events}
-use Rattle.event_table.proofs.Members.{Contains-none, Contains-one}
+use Rattle.event_table.proofs.Members.{Contains-one}
+use Rattle.basics.proofs.ListFacts.{contains_none}
 use Rattle.run_state.specs.Run.{LineStage, Unissued, Issued, Out, Ending, Ended, Run, is_listed, stage_at, stage_issued, stage_out, issued, stage_started, stage_ended, kept_end}
 use Rattle.run_state.specs.Sound.{Sound, AccessesColumn}
 use Rattle.run_state.specs.Work.{HoldsAll, put_cells}
@@ -71,7 +72,7 @@ read_line g e s o i near = let l = o.words.lines i near in reads e (handle_at o.
 
 -- lists of one item, or none
 in_cond : {X : Type 0} (b : Bool) (x y : X) → Contains (cond b [] (x ∷ [])) y → (b ≡ false) × (x ≡ y)
-in_cond true x y c = absurd (Contains-none y c)
+in_cond true x y c = absurd (contains_none y c)
 in_cond false x y c = (refl, Contains-one x y c)
 
 not_less : (a b : ℕ) → nat_lt a b ≡ false → b ≤ a

@@ -8,7 +8,7 @@ use lib.ListN.{get_elem?}
 use Rattle.atomic_table.proofs.Lists.{at_set, at_snoc, set_else}
 use Rattle.basics.specs.Sums.{total, only}
 use Rattle.basics.proofs.Sums.{total-set, total-append, term_le, terms_le, item_le, only-same}
-use Rattle.event_table.proofs.Members.{Contains-none, Contains-head, Contains-tail}
+use Rattle.basics.proofs.ListFacts.{contains_none, contains_here, contains_there}
 use Rattle.run_words.specs.declared.view.View.{View}
 use Rattle.run_words.specs.Rule.{child, AreNumbered}
 use Rattle.run_words.specs.Plays.{no_view, own_number, parent_of, child_of, joined}
@@ -43,8 +43,8 @@ only_other k n ne = ap (λ b. cond b 1 0) (ne_eqb n k ne)
 pub weighs_in : (n : ℕ) (xs : List ℕ) → 0 < total (only n) xs → Contains xs n
 weighs_in n [] h = absurd (omega arith)
 weighs_in n (x ∷ xs) h = elim (cases_eq x n) [
-  | inl q ↦ subst (Contains (x ∷ xs)) q (Contains-head x xs)
-  | inr ne ↦ Contains-tail x n xs (weighs_in n xs (let z = only_other n x ne in omega (arith, h, z)))
+  | inl q ↦ subst (Contains (x ∷ xs)) q (contains_here x xs)
+  | inr ne ↦ contains_there x xs n (weighs_in n xs (let z = only_other n x ne in omega (arith, h, z)))
 ]
 
 pub in_weighs : (n : ℕ) (xs : List ℕ) → Contains xs n → 1 ≤ total (only n) xs
@@ -74,7 +74,7 @@ module _ (vs : List View) (o : AreNumbered vs) (id : ℕ) (v : View) (me : get_e
   own_is = ap own_number own
 
   has_own : Contains v.mine p
-  has_own = subst (λ l. Contains l p) (sym own) (Contains-head p ps)
+  has_own = subst (λ l. Contains l p) (sym own) (contains_here p ps)
 
   big : p < n'
   big = let a = child_above (own_number v.mine) v.births in let b = own_is in omega (arith, a, b)
@@ -129,7 +129,7 @@ module _ (vs : List View) (o : AreNumbered vs) (id : ℕ) (v : View) (me : get_e
               let k : ℕ = own_number v.mine in
               let a = terms_le (mine_at k) vs id m v x other me before in
               let b = in_weighs k v.mine (subst (Contains v.mine) (sym own_is) has_own) in
-              let c = in_weighs k x.mine (subst (λ l. Contains l k) (sym own') (Contains-head k rest)) in
+              let c = in_weighs k x.mine (subst (λ l. Contains l k) (sym own') (contains_here k rest)) in
               let d = o.once k in
               absurd (omega (arith, a, b, c, d)))
         ])
@@ -159,14 +159,14 @@ module _ (vs : List View) (o : AreNumbered vs) (id : ℕ) (v : View) (me : get_e
               (r.0, subst (λ (y : View). Contains y.mine r.0) is r.1, r.2))
           | inr (other, before) ↦ o.above j x k before c
         ])
-        (λ (q : u ≡ x). absurd (Contains-none k (subst (λ (y : View). Contains y.splits k) (sym q) c)))
+        (λ (q : u ≡ x). absurd (contains_none k (subst (λ (y : View). Contains y.splits k) (sym q) c)))
         (at_snoc (set vs id w) u x j at);
     born = λ j x k at c. ⊎_elim
         (λ l. elim (at_set vs id j w x l) [
           | inl (here, is) ↦ ⊎_elim (λ d. old_born k (o.born id v k me d)) (λ (q : n' ≡ k). subst (Born after) q new_born) (Contains-push_cases v.splits n' k (subst (λ (y : View). Contains y.splits k) (sym is) c))
           | inr (other, before) ↦ old_born k (o.born j x k before c)
         ])
-        (λ (q : u ≡ x). absurd (Contains-none k (subst (λ (y : View). Contains y.splits k) (sym q) c)))
+        (λ (q : u ≡ x). absurd (contains_none k (subst (λ (y : View). Contains y.splits k) (sym q) c)))
         (at_snoc (set vs id w) u x j at);
   }
 
@@ -223,7 +223,7 @@ module _ (vs : List View) (o : AreNumbered vs) (id other : ℕ) (v w : View) (me
     counted = λ f. let a = mine_end f in let c = sum_end (λ (x : View). total f x.splits) (total-append f v.splits w.splits) refl in let h = o.counted f in omega (arith, a, c, h);
     once = λ k. let a = mine_end (only k) in let h = o.once k in omega (arith, a, h);
     above = λ j x k at c. elim (at_end j x at) [
-      | inl q ↦ absurd (Contains-none k (subst (λ (y : View). Contains y.splits k) (sym q) c))
+      | inl q ↦ absurd (contains_none k (subst (λ (y : View). Contains y.splits k) (sym q) c))
       | inr (inl q) ↦ (
           let d = subst (λ (y : View). Contains y.splits k) (sym q) c in
           let r = above_both k d in
@@ -231,7 +231,7 @@ module _ (vs : List View) (o : AreNumbered vs) (id other : ℕ) (v w : View) (me
       | inr (inr (far, before)) ↦ o.above j x k before c
     ];
     born = λ j x k at c. elim (at_end j x at) [
-      | inl q ↦ absurd (Contains-none k (subst (λ (y : View). Contains y.splits k) (sym q) c))
+      | inl q ↦ absurd (contains_none k (subst (λ (y : View). Contains y.splits k) (sym q) c))
       | inr (inl q) ↦ ⊎_elim (λ d. still_born k (o.born id v k me d)) (λ d. still_born k (o.born other w k them d)) (Contains-append_cases v.splits w.splits k (subst (λ (y : View). Contains y.splits k) (sym q) c))
       | inr (inr (far, before)) ↦ still_born k (o.born j x k before c)
     ];

@@ -13,7 +13,8 @@ use Rattle.graph_terms.specs.Graph.{GraphValue, columns, locks}
 use Rattle.graph_meaning.specs.Rules.{Accepted}
 use Rattle.graph_terms.specs.Fits.{IsGraph}
 use Rattle.shared_events.specs.declared.events.Events.{Events}
-use Rattle.event_table.proofs.Members.{Contains-none, Contains-one}
+use Rattle.event_table.proofs.Members.{Contains-one}
+use Rattle.basics.proofs.ListFacts.{contains_none}
 use Rattle.run_state.specs.Run.{LineStage, Unissued, Home, stage_at, stage_issued}
 use Rattle.run_state.specs.Start.{start, zeros, first_value}
 use Rattle.run_state.proofs.Start.{same_at, start_is_sound}
@@ -46,9 +47,9 @@ opens g e ws xs graph accepted w x =
     let one : (j : ℕ) (u : View) → get_elem? (v ∷ []) j ≡ some u → v ≡ u = λ j u q. ⊎_elim (λ (y : get_elem? {A = View} [] j ≡ some u). absurd (some-ne-none u (sym y))) (λ y. y) (at_snoc [] v u j q) in
     let fits : Fits g e (start g) [] v = record {
       keys = λ y c. sym (Contains-one (ground_of g e) y c);
-      issued = λ j h. absurd (Contains-none j h);
-      ended = λ j y h. absurd (Contains-none {A = ℕ × End} (j, y) h);
-      named = λ l h. absurd (Contains-none l h);
+      issued = λ j h. absurd (contains_none j h);
+      ended = λ j y h. absurd (contains_none {X = ℕ × End} (j, y) h);
+      named = λ l h. absurd (contains_none l h);
       claim = λ y q. absurd (none-some y q);
       event = λ y q. absurd (none-some y q);
       issuing = λ y q. absurd (none-some y q);
@@ -93,7 +94,7 @@ opens g e ws xs graph accepted w x =
       numbers = record {
         counted = λ f. omega arith;
         once = λ n. let t = Rattle.basics.proofs.Sums.below-once n 1 in omega (arith, t);
-        above = λ j u n q c. absurd (Contains-none n (subst (λ (y : View). Contains y.splits n) (sym (one j u q)) c));
-        born = λ j u n q c. absurd (Contains-none n (subst (λ (y : View). Contains y.splits n) (sym (one j u q)) c));
+        above = λ j u n q c. absurd (contains_none n (subst (λ (y : View). Contains y.splits n) (sym (one j u q)) c));
+        born = λ j u n q c. absurd (contains_none n (subst (λ (y : View). Contains y.splits n) (sym (one j u q)) c));
       };
     }

@@ -12,10 +12,9 @@ use Rattle.graph_terms.specs.Graph.{GraphValue, column_space}
 use Rattle.graph_terms.specs.Access.{accesses}
 use Rattle.graph_meaning.specs.Effect.{Cells, CellChange, effect, cells_after}
 use Rattle.graph_meaning.specs.Evaluation.{eval_end, end_by, made_by, column_of, cells_of_lines}
-use Rattle.basics.proofs.ListFacts.{map_contains}
+use Rattle.basics.proofs.ListFacts.{map_contains, contains_none, contains_cases}
 use Rattle.line_effects.specs.Moved.{moves, HeldShow}
 use Rattle.line_effects.proofs.MadeFacts.{all_made}
-use Rattle.event_table.proofs.Members.{Contains-none, Contains-cases}
 use Rattle.run_state.specs.Run.{is_listed}
 use Rattle.run_state.specs.Sound.{home_cells}
 use Rattle.run_words.specs.declared.content.Content.{Content}
@@ -36,12 +35,12 @@ back_in [] c = []
 back_in (x ∷ xs) c = cond (x.0 == c) x.1 (back_in xs c)
 
 back_is : (xs : Pairs) (c : ℕ) (ks : List ℕ) → Apart xs → Contains xs (c, ks) → back_in xs c ≡ ks
-back_is [] c ks a m = absurd (Contains-none {A = ℕ × List ℕ} (c, ks) m)
+back_is [] c ks a m = absurd (contains_none {X = ℕ × List ℕ} (c, ks) m)
 back_is (x ∷ xs) c ks a m = elim (cases_eq x.0 c) [
   | inl q ↦ ap (λ b. cond b x.1 (back_in xs c)) (eq-eqb x.0 c q)
-      ∙ ⊎_elim (λ (e : x ≡ (c, ks)). ap (λ (y : ℕ × List ℕ). y.1) e) (λ (r : Contains {X = ℕ × List ℕ} xs (c, ks)). absurd (a.0 ks (subst (λ j. Contains {X = ℕ × List ℕ} xs (j, ks)) (sym q) r))) (Contains-cases {A = ℕ × List ℕ} x (c, ks) xs m)
+      ∙ ⊎_elim (λ (e : x ≡ (c, ks)). ap (λ (y : ℕ × List ℕ). y.1) e) (λ (r : Contains {X = ℕ × List ℕ} xs (c, ks)). absurd (a.0 ks (subst (λ j. Contains {X = ℕ × List ℕ} xs (j, ks)) (sym q) r))) (contains_cases {X = ℕ × List ℕ} x xs (c, ks) m)
   | inr n ↦ ap (λ b. cond b x.1 (back_in xs c)) (ne_eqb x.0 c n)
-      ∙ ⊎_elim (λ (e : x ≡ (c, ks)). absurd (n (ap (λ (y : ℕ × List ℕ). y.0) e))) (λ (r : Contains {X = ℕ × List ℕ} xs (c, ks)). back_is xs c ks a.1 r) (Contains-cases {A = ℕ × List ℕ} x (c, ks) xs m)
+      ∙ ⊎_elim (λ (e : x ≡ (c, ks)). absurd (n (ap (λ (y : ℕ × List ℕ). y.0) e))) (λ (r : Contains {X = ℕ × List ℕ} xs (c, ks)). back_is xs c ks a.1 r) (contains_cases {X = ℕ × List ℕ} x xs (c, ks) m)
 ]
 
 some_where : (o p : Option ColumnValue) → is_some p ≡ is_some o → IsSome o → (x : ColumnValue) × (p ≡ Some x)

@@ -5,7 +5,7 @@ use Rattle.std.proofs.lemmas.Bool.{eq-eqb}
 use Rattle.std.proofs.lemmas.List.Elements.{Contains-append_right}
 use Rattle.std.proofs.lemmas.Option.{same_Some}
 use Rattle.line_effects.proofs.EffectFacts.{verb_is}
-use Rattle.event_table.proofs.Members.{Contains-head}
+use Rattle.basics.proofs.ListFacts.{contains_here}
 use Rattle.shared_events.specs.declared.events.Events.{Events}
 use Rattle.graph_terms.specs.declared.outcome.End.{End}
 use Rattle.graph_terms.specs.declared.outcome.End.TheVariants.{Done}
@@ -109,7 +109,7 @@ module _ (g : GraphValue) (e : Events) (line : ℕ) (x : End) (v : View) (cl : C
 
     pub done_known : r ≡ 8 → Contains o.0.ended (q, Done)
     done_known is = subst (λ (l : List (ℕ × End)). Contains l (q, Done)) (sym (ap (λ (y : Sat). y.0.ended) now_looked))
-        (Contains-append_right v.ended (ended_by q r) (q, Done) (subst (λ k. Contains (ended_by q k) (q, Done)) (sym is) (Contains-head {A = ℕ × End} (q, Done) [])))
+        (Contains-append_right v.ended (ended_by q r) (q, Done) (subst (λ k. Contains (ended_by q k) (q, Done)) (sym is) (contains_here {X = ℕ × End} (q, Done) [])))
 
     pub has_released : (p : Sat) → p ≡ (on_claim has_freed o.0, o.1) → IsReleased g line x v cl left p
     has_released p fr = record {

@@ -6,7 +6,7 @@ use Rattle.std.proofs.lemmas.Option.{none-some, same_Some}
 use Rattle.index_spaces.specs.Column.{ColumnValue}
 use Rattle.index_spaces.specs.Held.{held_at, HoldsOtherwise}
 use Rattle.graph_terms.specs.Graph.{GraphValue}
-use Rattle.event_table.proofs.Members.{Contains-head, Contains-tail, Contains-cases}
+use Rattle.basics.proofs.ListFacts.{contains_here, contains_there, contains_cases}
 use Rattle.run_state.specs.Sound.{home_cells}
 use Rattle.run_state.specs.WholeLine.{column_list}
 use Rattle.run_words.specs.declared.content.Content.{Content}
@@ -32,13 +32,13 @@ module _ (g : GraphValue) (line k : ℕ) (v : View) (cl : Claim) (left : List (�
   hand = ap (λ (y : Sat). y.1) l.now ∙ ap (λ (xs : Pairs). hand_of (size_of g) xs left) top.2
 
   pub has_column : held_at held c ≡ Some (column_with g c (home_cells g top.0 c))
-  has_column = l.has c top.0 (subst (λ (xs : Pairs). Contains xs (c, top.0)) (sym top.2) (Contains-head {A = ℕ × List ℕ} (c, top.0) top.1))
+  has_column = l.has c top.0 (subst (λ (xs : Pairs). Contains xs (c, top.0)) (sym top.2) (contains_here {X = ℕ × List ℕ} (c, top.0) top.1))
 
   apart : ((ks : List ℕ) → Contains top.1 (c, ks) → ⊥) × Apart top.1
   apart = subst Apart top.2 l.apart
 
   old : (d : ℕ) (ks : List ℕ) → Contains top.1 (d, ks) → Contains cl.columns (d, ks)
-  old d ks has = subst (λ (xs : Pairs). Contains xs (d, ks)) (sym top.2) (Contains-tail {A = ℕ × List ℕ} (c, top.0) (d, ks) top.1 has)
+  old d ks has = subst (λ (xs : Pairs). Contains xs (d, ks)) (sym top.2) (contains_there {X = ℕ × List ℕ} (c, top.0) top.1 (d, ks) has)
 
   other : (d : ℕ) (ks : List ℕ) → Contains top.1 (d, ks) → d ≡ c → ⊥
   other d ks has q = apart.0 ks (subst (λ j. Contains {X = ℕ × List ℕ} top.1 (j, ks)) q has)
@@ -77,7 +77,7 @@ module _ (g : GraphValue) (line k : ℕ) (v : View) (cl : Claim) (left : List (�
         | inr ne ↦ (
             let o' = l.only d y (sym (others.others d ne) ∙ got) in
             ⊎_elim (λ (q : (c, top.0) ≡ (d, o'.0)). absurd (ne (sym (ap (λ (z : ℕ × List ℕ). z.0) q)))) (λ (r : Contains {X = ℕ × List ℕ} top.1 (d, o'.0)). (o'.0, r))
-            (Contains-cases {A = ℕ × List ℕ} (c, top.0) (d, o'.0) top.1 (subst (λ (xs : Pairs). Contains xs (d, o'.0)) top.2 o'.1)))
+            (contains_cases {X = ℕ × List ℕ} (c, top.0) top.1 (d, o'.0) (subst (λ (xs : Pairs). Contains xs (d, o'.0)) top.2 o'.1)))
       ];
       size = let r = l.size in let q = ap (λ (xs : Pairs). length xs) top.2 in omega (arith, r, q, short);
     }

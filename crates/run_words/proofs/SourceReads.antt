@@ -7,7 +7,6 @@ use Rattle.std.proofs.lemmas.Option.{none-some}
 use Rattle.std.proofs.lemmas.List.{take_more, take_all, append-nil}
 use Rattle.std.proofs.lemmas.List.Folds.{list_any-append}
 use Rattle.std.proofs.lemmas.List.Elements.{Contains-append_left, Contains-append_right, Contains-push_cases, Contains-get_or}
-use Rattle.event_table.proofs.Members.{Contains-head, Contains-none}
 use Rattle.graph_terms.specs.declared.outcome.End.{End}
 use Rattle.graph_terms.specs.declared.verb.Edge.{Edge}
 use Rattle.graph_terms.specs.declared.verb.EdgeKind.TheVariants.{Passes}
@@ -16,7 +15,7 @@ use Rattle.graph_terms.specs.Edges.{edges, edges_into}
 use Rattle.graph_meaning.specs.Evaluation.{eval_end, cancels}
 use Rattle.graph_terms.specs.Fits.{IsGraph}
 use Rattle.graph_meaning.specs.Laws.{EdgesBetweenLines}
-use Rattle.basics.proofs.ListFacts.{filter_contains, contains_filter}
+use Rattle.basics.proofs.ListFacts.{filter_contains, contains_filter, contains_here, contains_none}
 use Rattle.run_words.specs.declared.sources.Sources.{Sources}
 use Rattle.run_words.specs.Plays.{Sat, looked_at, end_of_code, issued_by, ended_by}
 use Rattle.run_words.specs.Sources.{Learns, lesser, either, Reads, LeastOf, cancels_in, AreRead, IsLeastFound}
@@ -51,7 +50,7 @@ learns_more m n o found i r l q = (
 pub ended_shown : (j r : ℕ) → 8 ≤ r → Contains (ended_by j r) (j, end_of_code (r - 8))
 ended_shown j r h = ⊎_elim
     (λ (q : nat_lt r 8 ≡ true). let less = ltb-true r 8 q in absurd (omega (arith, h, less)))
-    (λ (q : nat_lt r 8 ≡ false). subst (λ b. Contains {X = ℕ × End} (cond b [] ((j, end_of_code (r - 8)) ∷ [])) (j, end_of_code (r - 8))) (sym q) (Contains-head {A = ℕ × End} (j, end_of_code (r - 8)) []))
+    (λ (q : nat_lt r 8 ≡ false). subst (λ b. Contains {X = ℕ × End} (cond b [] ((j, end_of_code (r - 8)) ∷ [])) (j, end_of_code (r - 8))) (sym q) (contains_here {X = ℕ × End} (j, end_of_code (r - 8)) []))
     (by_bool (nat_lt r 8))
 
 -- ONE SOURCE MORE
@@ -73,15 +72,15 @@ lesser_by es ended new found ed r m true is low l = (
   λ e c less. ⊎_elim (λ old. keeps_known ended new e.from (l.2 e old less)) (λ (q : ed ≡ e). let a : m < ed.from = ltb-true m ed.from is in let f = ap (λ (y : Edge). y.from) q in absurd (omega (arith, less, a, f))) (Contains-push_cases es ed e c),
 )
 lesser_by es ended new found ed r m false is low l = (
-  (ed, Contains-append_right es (ed ∷ []) ed (Contains-head ed []), refl),
-  (r, Contains-append_right found ((ed.from, r) ∷ []) (ed.from, r) (Contains-head {A = ℕ × ℕ} (ed.from, r) []), low),
+  (ed, Contains-append_right es (ed ∷ []) ed (contains_here ed []), refl),
+  (r, Contains-append_right found ((ed.from, r) ∷ []) (ed.from, r) (contains_here {X = ℕ × ℕ} (ed.from, r) []), low),
   λ e c less. ⊎_elim (λ old. keeps_known ended new e.from (l.2 e old (let a : ed.from ≤ m = ltb-false m ed.from is in omega (arith, less, a)))) (λ (q : ed ≡ e). let f = ap (λ (y : Edge). y.from) q in absurd (omega (arith, less, f))) (Contains-push_cases es ed e c),
 )
 
 least_left : (es : List Edge) (ended new : List (ℕ × End)) (found : List (ℕ × ℕ)) (ed : Edge) (r : ℕ) (o : Option ℕ) → r < 8 → LeastOf es ended found o → LeastOf (es ++ ed ∷ []) (ended ++ new) (found ++ (ed.from, r) ∷ []) (Some (lesser o ed.from))
 least_left es ended new found ed r None low l = (
-  (ed, Contains-append_right es (ed ∷ []) ed (Contains-head ed []), refl),
-  (r, Contains-append_right found ((ed.from, r) ∷ []) (ed.from, r) (Contains-head {A = ℕ × ℕ} (ed.from, r) []), low),
+  (ed, Contains-append_right es (ed ∷ []) ed (contains_here ed []), refl),
+  (r, Contains-append_right found ((ed.from, r) ∷ []) (ed.from, r) (contains_here {X = ℕ × ℕ} (ed.from, r) []), low),
   λ e c less. ⊎_elim (λ old. keeps_known ended new e.from (l e old)) (λ (q : ed ≡ e). let f = ap (λ (y : Edge). y.from) q in absurd (omega (arith, less, f))) (Contains-push_cases es ed e c),
 )
 least_left es ended new found ed r (Some m) low l = lesser_by es ended new found ed r m (nat_lt m ed.from) refl low l
@@ -125,7 +124,7 @@ read_all g line k es ended found s e all a = subst (λ xs. AreRead g xs ended fo
 
 pub read_none : (g : GraphValue) (ended : List (ℕ × End)) (s : Sources) → s.least ≡ None → s.is_cancelled ≡ false → AreRead g [] ended [] s
 read_none g ended s none not_yet = record {
-  least = subst (LeastOf [] ended []) (sym none) (λ ed c. absurd (Contains-none ed c));
+  least = subst (LeastOf [] ended []) (sym none) (λ ed c. absurd (contains_none ed c));
   cancelled = λ _. not_yet;
 }
 

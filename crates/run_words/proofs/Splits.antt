@@ -13,7 +13,7 @@ use Rattle.basics.specs.Sums.{total}
 use Rattle.event_table.specs.declared.handle.Handle.{Handle}
 use Rattle.shared_events.specs.declared.events.Events.{Events}
 use Rattle.basics.proofs.Sums.{total-set, total-append}
-use Rattle.event_table.proofs.Members.{Contains-none}
+use Rattle.basics.proofs.ListFacts.{contains_none}
 use Rattle.run_state.specs.Run.{Run}
 use Rattle.run_words.specs.declared.view.View.{View}
 use Rattle.run_words.specs.Layout.{size_of}
@@ -57,10 +57,10 @@ no_rights v w f ek ei ee en c i d = record {
 
 pub none_fits : (g : GraphValue) (e : Events) (run : Run) (handles : List Handle) → Fits g e run handles no_view
 none_fits g e run handles = record {
-  keys = λ x h. absurd (Contains-none x h);
-  issued = λ j h. absurd (Contains-none j h);
-  ended = λ j x h. absurd (Contains-none {A = ℕ × End} (j, x) h);
-  named = λ l h. absurd (Contains-none l h);
+  keys = λ x h. absurd (contains_none x h);
+  issued = λ j h. absurd (contains_none j h);
+  ended = λ j x h. absurd (contains_none {X = ℕ × End} (j, x) h);
+  named = λ l h. absurd (contains_none l h);
   claim = λ y q. absurd (none-some y q);
   event = λ y q. absurd (none-some y q);
   issuing = λ y q. absurd (none-some y q);

@@ -16,7 +16,7 @@ use Rattle.shared_events.specs.Views.{IsPendingOf, handle_of}
 use Rattle.shared_events.specs.declared.events.Events.{Events}
 use Rattle.event_table.specs.declared.handle.Handle.{Handle}
 use Rattle.shared_events.specs.declared.tokens.Pending.{Pending}
-use Rattle.event_table.proofs.Members.{Contains-head, Contains-none}
+use Rattle.basics.proofs.ListFacts.{contains_here, contains_none}
 use Rattle.run_state.proofs.Started.{cancelled_iff}
 use Rattle.run_core.specs.declared.answers.Thing.{Thing}
 use Rattle.run_core.specs.declared.answers.Thing.TheVariants as things
@@ -52,9 +52,9 @@ taking_first g line v h b left m real q = record {
   no_puts = refl;
   now = q;
   stacked = refl;
-  below = λ c ks at. absurd (Contains-none {A = ℕ × List ℕ} (c, ks) at);
+  below = λ c ks at. absurd (contains_none {X = ℕ × List ℕ} (c, ks) at);
   apart = tt;
-  has = λ c ks at. absurd (Contains-none {A = ℕ × List ℕ} (c, ks) at);
+  has = λ c ks at. absurd (contains_none {X = ℕ × List ℕ} (c, ks) at);
   only = λ c x at. absurd (none-some x at);
   size = refl;
 }
@@ -245,7 +245,7 @@ module _ (v0 : View) (hand : Left) (a t : Sat) (w : View) (parent : a ≡ (paren
   joined_saw found saw = ap (λ (y : Sat). y.0.saw) whole ∙ ap (λ (l : List (ℕ × ℕ)). v0.saw ++ l) saw
 
   pub joined_found : (j r : ℕ) → w.saw ≡ (j, r) ∷ [] → (found : List (ℕ × ℕ)) × (t.0.saw ≡ v0.saw ++ found) × Contains found (j, r)
-  joined_found j r saw = ((j, r) ∷ [], joined_saw ((j, r) ∷ []) saw, Contains-head {A = ℕ × ℕ} (j, r) [])
+  joined_found j r saw = ((j, r) ∷ [], joined_saw ((j, r) ∷ []) saw, contains_here {X = ℕ × ℕ} (j, r) [])
 
   pub joined_issued : (i : ℕ) → Contains v0.issued i → Contains t.0.issued i
   joined_issued i c = subst (λ l. Contains l i) (sym (ap (λ (y : Sat). y.0.issued) whole)) (Contains-append_left v0.issued w.issued i c)

@@ -9,7 +9,7 @@ use Rattle.index_spaces.specs.Column.{ColumnValue}
 use Rattle.index_spaces.specs.Held.{held_at, HoldsOtherwise}
 use Rattle.graph_terms.specs.Graph.{GraphValue}
 use Rattle.shared_events.specs.declared.events.Events.{Events}
-use Rattle.event_table.proofs.Members.{Contains-head, Contains-tail, Contains-cases}
+use Rattle.basics.proofs.ListFacts.{contains_here, contains_there, contains_cases}
 use Rattle.run_state.specs.Run.{is_listed}
 use Rattle.run_state.specs.Sound.{AccessesColumn, home_cells}
 use Rattle.run_state.specs.WholeLine.{column_list}
@@ -95,7 +95,7 @@ pub took_one : (g : GraphValue) (line k c : ℕ) (v : View) (cl : Claim) (left :
     → (found : List (ℕ × ℕ)) × IsFree g line k found × TakingAs g line (suc k) (saw_all v found) cl left n held
 took_one g line k c v cl left n held at t = (
   (turn_word (size_of g) c, 0) ∷ [],
-  λ d is. subst (λ j. Contains {X = ℕ × ℕ} ((turn_word (size_of g) c, 0) ∷ []) (turn_word (size_of g) j, 0)) (same_Some c d (sym at ∙ is)) (Contains-head {A = ℕ × ℕ} (turn_word (size_of g) c, 0) []),
+  λ d is. subst (λ j. Contains {X = ℕ × ℕ} ((turn_word (size_of g) c, 0) ∷ []) (turn_word (size_of g) j, 0)) (same_Some c d (sym at ∙ is)) (contains_here {X = ℕ × ℕ} (turn_word (size_of g) c, 0) []),
   t,
 )
 
@@ -175,15 +175,15 @@ module _ (g : GraphValue) (e : Events) (line k : ℕ) (v : View) (cl : Claim) (l
         below = λ d ks has. ⊎_elim
             (λ (q : (c, h.back) ≡ (d, ks)). (k, omega arith, at ∙ ap (λ (y : ℕ × List ℕ). Some y.0) q))
             (λ (r : Contains {X = ℕ × List ℕ} cl.columns (d, ks)). let b = l.below d ks r in (b.0, (let less = b.1 in omega (arith, less)), b.2))
-            (Contains-cases {A = ℕ × List ℕ} (c, h.back) (d, ks) cl.columns has);
+            (contains_cases {X = ℕ × List ℕ} (c, h.back) cl.columns (d, ks) has);
         apart = (not_had, l.apart);
         has = λ d ks has. ⊎_elim
             (λ (q : (c, h.back) ≡ (d, ks)). subst (λ (y : ℕ × List ℕ). held_at held' y.0 ≡ Some (column_with g y.0 (home_cells g y.1 y.0))) q (others.here ∙ ap Some (sym (ap (column_in column) is))))
             (λ (r : Contains {X = ℕ × List ℕ} cl.columns (d, ks)). others.others d (λ q. not_had ks (subst (λ j. Contains {X = ℕ × List ℕ} cl.columns (j, ks)) q r)) ∙ l.has d ks r)
-            (Contains-cases {A = ℕ × List ℕ} (c, h.back) (d, ks) cl.columns has);
+            (contains_cases {X = ℕ × List ℕ} (c, h.back) cl.columns (d, ks) has);
         only = λ d y got. elim (cases_eq d c) [
-          | inl q ↦ (h.back, subst (λ j. Contains {X = ℕ × List ℕ} ((c, h.back) ∷ cl.columns) (j, h.back)) (sym q) (Contains-head {A = ℕ × List ℕ} (c, h.back) cl.columns))
-          | inr ne ↦ (let o' = l.only d y (sym (others.others d ne) ∙ got) in (o'.0, Contains-tail {A = ℕ × List ℕ} (c, h.back) (d, o'.0) cl.columns o'.1))
+          | inl q ↦ (h.back, subst (λ j. Contains {X = ℕ × List ℕ} ((c, h.back) ∷ cl.columns) (j, h.back)) (sym q) (contains_here {X = ℕ × List ℕ} (c, h.back) cl.columns))
+          | inr ne ↦ (let o' = l.only d y (sym (others.others d ne) ∙ got) in (o'.0, contains_there {X = ℕ × List ℕ} (c, h.back) cl.columns (d, o'.0) o'.1))
         ];
         size = long ∙ omega (arith, l.size);
       }

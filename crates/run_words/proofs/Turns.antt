@@ -13,7 +13,7 @@ use Rattle.graph_terms.specs.Graph.{GraphValue, columns}
 use Rattle.graph_meaning.specs.Evaluation.{eval_end}
 use Rattle.basics.specs.Sums.{total}
 use Rattle.shared_events.specs.declared.events.Events.{Events}
-use Rattle.event_table.proofs.Members.{Contains-cases, Contains-head, Contains-tail}
+use Rattle.basics.proofs.ListFacts.{contains_cases, contains_here, contains_there}
 use Rattle.run_state.specs.Run.{Run, Place, Home, Had, is_listed, place_at, list_at, stage_out}
 use Rattle.run_state.specs.Sound.{Sound, AccessesColumn, home_cells}
 use Rattle.run_state.specs.Moves.{column_out}
@@ -87,10 +87,10 @@ module _ (g : GraphValue) (e : Events) (s : St) (o : Shown g e s) (id : ℕ) (v 
       has = λ k ks m. ⊎_elim
           (λ (q : (c, back) ≡ (k, ks)). subst (λ (p : ℕ × List ℕ). (place_at after.places p.0 ≡ Had cl.line) × (list_at after.back p.0 ≡ p.1)) q (now_had, refl))
           (λ (d : Contains {X = ℕ × List ℕ} cl.columns (k, ks)). let p = progress.has k ks d in (other_set o.run.places (Home []) c k (Had cl.line) (λ q. nobody cl.line (ap (place_at o.run.places) (sym q) ∙ p.0)) ∙ p.0, p.1))
-          (Contains-cases {A = ℕ × List ℕ} (c, back) (k, ks) cl.columns m);
+          (contains_cases {X = ℕ × List ℕ} (c, back) cl.columns (k, ks) m);
       only = λ k h. elim (cases_eq k c) [
-        | inl q ↦ (back, subst (λ n. Contains {X = ℕ × List ℕ} ((c, back) ∷ cl.columns) (n, back)) (sym q) (Contains-head {A = ℕ × List ℕ} (c, back) cl.columns))
-        | inr n ↦ (let p = progress.only k (sym (other_set o.run.places (Home []) c k (Had cl.line) n) ∙ h) in (p.0, Contains-tail {A = ℕ × List ℕ} (c, back) (k, p.0) cl.columns p.1))
+        | inl q ↦ (back, subst (λ n. Contains {X = ℕ × List ℕ} ((c, back) ∷ cl.columns) (n, back)) (sym q) (contains_here {X = ℕ × List ℕ} (c, back) cl.columns))
+        | inr n ↦ (let p = progress.only k (sym (other_set o.run.places (Home []) c k (Had cl.line) n) ∙ h) in (p.0, contains_there {X = ℕ × List ℕ} (c, back) cl.columns (k, p.0) p.1))
       ];
       puts = progress.puts;
       arrived = progress.arrived;

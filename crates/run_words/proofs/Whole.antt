@@ -8,7 +8,7 @@ use Rattle.graph_terms.specs.Graph.{GraphValue}
 use Rattle.basics.specs.Sums.{total, only}
 use Rattle.shared_events.specs.declared.events.Events.{Events}
 use Rattle.basics.proofs.Sums.{terms_le, term_le}
-use Rattle.event_table.proofs.Members.{Contains-head}
+use Rattle.basics.proofs.ListFacts.{contains_here}
 use Rattle.run_state.specs.Run.{LineStage, Unissued, Issued, Out, Ending, Ended, Had, stage_at, place_at, stage_out, stage_over, stage_ended, stage_started}
 use Rattle.run_state.specs.AtRest.{AtRest}
 use Rattle.run_words.specs.declared.view.View.{View}
@@ -53,7 +53,7 @@ module _ (vs : List View) (o : AreNumbered vs) (id : ℕ) (v : View) (me : get_e
 
   empty : (u : View) (l : List ℕ) → u.mine ≡ l → ((n : ℕ) → Contains u.mine n → ⊥) → u.mine ≡ []
   empty u [] q none_in = q
-  empty u (n ∷ ns) q none_in = absurd (none_in n (subst (λ l. Contains l n) (sym q) (Contains-head n ns)))
+  empty u (n ∷ ns) q none_in = absurd (none_in n (subst (λ l. Contains l n) (sym q) (contains_here n ns)))
 
   pub alone : (j : ℕ) (u : View) → (j ≡ id → ⊥) → get_elem? vs j ≡ some u → u.mine ≡ []
   alone j u other at = empty u u.mine refl (λ n c. none_below (suc n) n j u (omega arith) other at c)

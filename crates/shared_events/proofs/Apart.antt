@@ -11,7 +11,7 @@ use Rattle.basics.specs.Sums.{total}
 use Rattle.event_table.specs.Words.{IsPending, Linked}
 use Rattle.shared_events.specs.Rule.{held, ends_at, rights_at, maker, Orderly}
 use Rattle.basics.proofs.Sums.{term_le, terms_le, entry_le, item_le, only, only-same, below-once}
-use Rattle.event_table.proofs.Members.{Contains-head, Contains-tail}
+use Rattle.basics.proofs.ListFacts.{contains_here, contains_there}
 use Rattle.event_table.proofs.ChainSteps.{in_list}
 
 abbrev pub St : Type 0
@@ -32,7 +32,7 @@ right_counts h v c = omega (arith, item_le (ends_at h.slot) v.rights h c, ends_h
 
 pub no_rights : (i : ℕ) (hs : List Handle) → ((h : Handle) → Contains hs h → h.slot ≢ i) → total (ends_at i) hs ≡ 0
 no_rights i [] f = refl
-no_rights i (x ∷ xs) f = let a = ends_there i x (f x (Contains-head x xs)) in omega (arith, no_rights i xs (λ h c. f h (Contains-tail x h xs c)))
+no_rights i (x ∷ xs) f = let a = ends_there i x (f x (contains_here x xs)) in omega (arith, no_rights i xs (λ h c. f h (contains_there x xs h c)))
 
 pub all_zero : {A : Type 0} (g : A → ℕ) (l : List A) → ((j : ℕ) (v : A) → get_elem? l j ≡ some v → g v ≡ 0) → total g l ≡ 0
 all_zero g [] f = refl
@@ -97,5 +97,5 @@ module _ (key : Shape) (s : St) (o : Orderly key s) (id : ℕ) (v : View) (k c :
 
 pub linked_else : (key : Shape) (ws c : List ℕ) (k x : ℕ) → (Contains c k → ⊥) → Linked key ws c → Linked key (set ws (key.slots + k) x) c
 linked_else key ws [] k x f l = tt
-linked_else key ws (j ∷ js) k x f l = let apart : j ≢ k = λ e. f (subst (λ y. Contains (j ∷ js) y) e (Contains-head j js)) in
-    (l.0, get_or-set_other ws (key.slots + k) (key.slots + j) x 0 (λ e. apart (omega arith)) ∙ l.1, linked_else key ws js k x (λ d. f (Contains-tail j k js d)) l.2)
+linked_else key ws (j ∷ js) k x f l = let apart : j ≢ k = λ e. f (subst (λ y. Contains (j ∷ js) y) e (contains_here j js)) in
+    (l.0, get_or-set_other ws (key.slots + k) (key.slots + j) x 0 (λ e. apart (omega arith)) ∙ l.1, linked_else key ws js k x (λ d. f (contains_there j js k d)) l.2)

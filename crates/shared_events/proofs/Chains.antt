@@ -6,7 +6,7 @@ use Rattle.event_table.specs.declared.handle.Shape.{Shape}
 use Rattle.event_table.specs.Words.{code}
 use Rattle.shared_events.specs.Plays.{Sat, but_first, walked, gave, dealt, dealer}
 use Rattle.shared_events.specs.Seats.{IsWaiter, IsCaught, waiters_of}
-use Rattle.event_table.proofs.Members.{Contains-head}
+use Rattle.basics.proofs.ListFacts.{contains_here}
 use Rattle.shared_events.proofs.Takes.{map_nil}
 
 pub none_caught : (c : List ℕ) → code c ≡ 0 → c ≡ []
@@ -32,7 +32,7 @@ gives h k next r x m n n' q is one keys t left right =
     let at : get_or m.0.caught 0 0 ≡ k = ap (λ l. get_or l 0 0) first in
     let bare = map_nil (λ (p : ℕ × ℕ). p.0) m.0.hand is.0.3 in
     let hand : (gave m.0).hand ≡ (k, code (but_first m.0.caught)) ∷ [] = λ i. (at i, code (but_first m.0.caught)) ∷ bare i in
-    let low : r ≤ x.waiters = t.2 x (subst (λ l. Contains l x) (sym keys) (Contains-head x [])) in
+    let low : r ≤ x.waiters = t.2 x (subst (λ l. Contains l x) (sym keys) (contains_here x [])) in
     let w : waiters_of m.0.keys ≡ x.waiters = ap waiters_of keys in
     let top = is.2 in
     let small = is.3 in

@@ -16,7 +16,8 @@ use Rattle.event_table.specs.Words.{mark, IsMade, IsPending, Linked, Shows, hand
 use Rattle.shared_events.specs.Rule.{held, ends_at, rights_at, maker, Fits, Orderly}
 use Rattle.shared_events.specs.Plays.{Sat, made_at, AreBelow, created}
 use Rattle.basics.proofs.Sums.{total-set}
-use Rattle.event_table.proofs.Members.{Contains-cases, Contains-none, set_cases}
+use Rattle.event_table.proofs.Members.{set_cases}
+use Rattle.basics.proofs.ListFacts.{contains_cases, contains_none}
 use Rattle.shared_events.proofs.Frames.{Placings, Leaves, steady}
 use Rattle.event_table.proofs.Marks.{marks_low}
 use Rattle.shared_events.proofs.Apart.{St, same_handle, ends_there, even_apart, no_right_at, other_maker}
@@ -137,16 +138,16 @@ module _ (key : Shape) (s : St) (o : Orderly key s) (id i old : ℕ) (v : View) 
       })
       f.saw (placings_fit f)
       (record {
-        seen = λ x c. ⊎_elim (λ (e : h ≡ x). subst (Contains (v.seen ++ h ∷ [])) e seen_now) (λ d. seen_on x (f.all_seen.3 x d)) (Contains-cases h x v.rights c);
-        pending = λ x c. ⊎_elim (λ (e : h ≡ x). subst (IsPending ts') e this) (λ d. f.rights x d) (Contains-cases h x v.rights c);
+        seen = λ x c. ⊎_elim (λ (e : h ≡ x). subst (Contains (v.seen ++ h ∷ [])) e seen_now) (λ d. seen_on x (f.all_seen.3 x d)) (contains_cases h v.rights x c);
+        pending = λ x c. ⊎_elim (λ (e : h ≡ x). subst (IsPending ts') e this) (λ d. f.rights x d) (contains_cases h v.rights x c);
         marked = f.marked;
-        clear = λ x c n. ⊎_elim (λ (e : h ≡ x). subst (λ y. mark key ws' y ≡ 0) e unmarked) (λ d. f.clear x d n) (Contains-cases h x v.rights c);
+        clear = λ x c n. ⊎_elim (λ (e : h ≡ x). subst (λ y. mark key ws' y ≡ 0) e unmarked) (λ d. f.clear x d n) (contains_cases h v.rights x c);
       })
       f.hand (chase_fits f)
       (record {
         own = λ x c. ⊎_elim (λ d. f.own x d) (λ (e : h ≡ x). subst (IsMade ts') e this_made) (Contains-push_cases v.made h x c);
         made = λ _ x m. ⊎_elim (λ d. Contains-append_left v.made (h ∷ []) x (fits.made maker' x d)) (λ (e : h ≡ x). subst (Contains (v.made ++ h ∷ [])) e (Contains-push v.made h)) (only_this x m);
-        spare = λ _ p c. absurd (Contains-none p c);
+        spare = λ _ p c. absurd (contains_none p c);
       })
 
   no_chain : get_or o.chains i [] ≡ []
@@ -198,7 +199,7 @@ module _ (key : Shape) (s : St) (o : Orderly key s) (id i old : ℕ) (v : View) 
       λ p. dite (ℕ_discrete x.slot i) (λ e. let m = old'.0 in let a : get_or ts' x.slot 0 ≡ get_or o.turns i 0 + 1 = ap (λ y. get_or ts' y 0) e ∙ turn_here in let same : get_or o.turns x.slot 0 ≡ get_or o.turns i 0 = ap (λ y. get_or o.turns y 0) e in absurd (omega arith))
           (λ n. old'.1 (sym (turn_there x.slot n) ∙ p)),
     );
-    stood = λ k x p c. dite (ℕ_discrete x.slot i) (λ e. absurd (Contains-none k (subst (λ l. Contains l k) (ap (λ y. get_or o.chains y []) e ∙ no_chain) c)))
+    stood = λ k x p c. dite (ℕ_discrete x.slot i) (λ e. absurd (contains_none k (subst (λ l. Contains l k) (ap (λ y. get_or o.chains y []) e ∙ no_chain) c)))
         (λ n. o.stood k x (sym (turn_there x.slot n) ∙ p) c);
   }
 

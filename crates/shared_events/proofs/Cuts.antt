@@ -17,7 +17,8 @@ use Rattle.event_table.specs.Words.{mark, fate_code, IsMade, IsPending, IsEnded}
 use Rattle.shared_events.specs.Rule.{held, ends_at, rights_at, maker, Fits, Orderly}
 use Rattle.shared_events.specs.Plays.{first_of, but_first, no_view, copy_of, dealt, dealer, all_dealt, none_left, granted, granter, last_of, receipted, maker_of, no_maker, report, reporter, chaser, unchased, emptier, joined, forsaken, gathered, informed}
 use Rattle.basics.proofs.Sums.{total-append, total-set, terms_le}
-use Rattle.event_table.proofs.Members.{Contains-one, Contains-cases, Contains-none, Contains-head, Contains-tail, set_cases}
+use Rattle.event_table.proofs.Members.{Contains-one, set_cases}
+use Rattle.basics.proofs.ListFacts.{contains_cases, contains_none, contains_here, contains_there}
 use Rattle.shared_events.proofs.Frames.{Placings}
 use Rattle.shared_events.proofs.Parts.{whole, facts_fit, placings_fit, rights_fit, chase_fits, making_fits, with_known, with_left, known_alone, with_past, seen_alone, no_placings, given_alone, fewer_rights, no_rights, no_chase, no_making, none_noted, blank}
 use Rattle.shared_events.proofs.Steps.{other_views}
@@ -58,11 +59,11 @@ copies v = cut v v (copy_of v) (λ f. omega arith) (omega arith) (λ i. omega ar
 
 in_tail : {X : Type 0} (xs : List X) (x : X) → Contains (but_first xs) x → Contains xs x
 in_tail [] x c = c
-in_tail (y ∷ ys) x c = Contains-tail y x ys c
+in_tail (y ∷ ys) x c = contains_there y ys x c
 
 in_first : {X : Type 0} (xs : List X) (x : X) → Contains (first_of xs) x → Contains xs x
 in_first [] x c = c
-in_first (y ∷ ys) x c = subst (Contains (y ∷ ys)) (Contains-one y x c) (Contains-head y ys)
+in_first (y ∷ ys) x c = subst (Contains (y ∷ ys)) (Contains-one y x c) (contains_here y ys)
 
 cut_total : {X : Type 0} (g : X → ℕ) (xs : List X) → total g (but_first xs) + total g (first_of xs) ≡ total g xs
 cut_total g [] = refl
@@ -71,7 +72,7 @@ cut_total g (x ∷ xs) = omega arith
 -- the waiters in hand are dealt out, some to each
 deals_hand : (v : View) (ls rs : List (ℕ × ℕ)) → ((g : ℕ × ℕ → ℕ) → total g ls + total g rs ≡ total g v.hand) → ((p : ℕ × ℕ) → Contains ls p → Contains v.hand p) → ((p : ℕ × ℕ) → Contains rs p → Contains v.hand p)
     → Cuts v (record v { hand = ls }) (record no_view { keys = v.keys; hand = rs })
-deals_hand v ls rs sum in_ls in_rs = cut v (record v { hand = ls }) (record no_view { keys = v.keys; hand = rs }) (λ f. omega (arith, sum (λ (p : ℕ × ℕ). f p.0))) (omega arith) (λ i. omega arith) refl (λ h c. absurd (Contains-none h c))
+deals_hand v ls rs sum in_ls in_rs = cut v (record v { hand = ls }) (record no_view { keys = v.keys; hand = rs }) (λ f. omega (arith, sum (λ (p : ℕ × ℕ). f p.0))) (omega arith) (λ i. omega arith) refl (λ h c. absurd (contains_none h c))
     (λ key ws ts log o. let b = blank key ws ts log in (
       whole (record v { hand = ls }) (facts_fit o) o.saw (placings_fit o) (rights_fit o) (λ p c. o.hand p (in_ls p c)) (chase_fits o) (making_fits o),
       whole (record no_view { keys = v.keys; hand = rs }) (seen_alone o.keys b.seen) b.saw no_placings no_rights (λ p c. o.hand p (in_rs p c)) no_chase no_making,
@@ -81,10 +82,10 @@ pub deals : (v : View) → Cuts v (dealer v) (dealt v)
 deals v = deals_hand v (but_first v.hand) (first_of v.hand) (λ g. cut_total g v.hand) (in_tail v.hand) (in_first v.hand)
 
 pub deals_all : (v : View) → Cuts v (none_left v) (all_dealt v)
-deals_all v = deals_hand v [] v.hand (λ g. omega arith) (λ p c. absurd (Contains-none p c)) (λ p c. c)
+deals_all v = deals_hand v [] v.hand (λ g. omega arith) (λ p c. absurd (contains_none p c)) (λ p c. c)
 
 pub grants : (v : View) → Cuts v (granter v) (granted v)
-grants v = cut v (granter v) (granted v) (λ f. omega arith) (omega arith) (λ i. omega (arith, cut_total (ends_at i) v.rights)) refl (λ h c. absurd (Contains-none h c))
+grants v = cut v (granter v) (granted v) (λ f. omega arith) (omega arith) (λ i. omega (arith, cut_total (ends_at i) v.rights)) refl (λ h c. absurd (contains_none h c))
     (λ key ws ts log o. let b = blank key ws ts log in let r = fewer_rights (first_of v.rights) (in_first v.rights) (rights_fit o) in (
       whole (granter v) (facts_fit o) o.saw (placings_fit o) (fewer_rights (but_first v.rights) (in_tail v.rights) (rights_fit o)) o.hand (chase_fits o) (making_fits o),
       whole (granted v) (seen_alone o.keys (λ h c. let a = r.pending h c in omega arith)) b.saw no_placings (record { seen = λ h c. c; pending = r.pending; marked = r.marked; clear = r.clear }) b.hand no_chase no_making,
@@ -93,26 +94,26 @@ grants v = cut v (granter v) (granted v) (λ f. omega arith) (omega arith) (λ i
 in_last : {X : Type 0} (xs : List X) (x : X) → Contains (last_of xs) x → Contains xs x
 in_last [] x c = c
 in_last (y ∷ []) x c = c
-in_last (y ∷ z ∷ zs) x c = Contains-tail y x (z ∷ zs) (in_last (z ∷ zs) x c)
+in_last (y ∷ z ∷ zs) x c = contains_there y (z ∷ zs) x (in_last (z ∷ zs) x c)
 
 ends_seen : (ts : List ℕ) (Q : Handle → Fate → Type 0) (ps : List (Handle × Fate)) → ((h : Handle) (f : Fate) → Contains ps (h, f) → IsEnded ts h × Q h f) → (h : Handle) → Contains (map (λ (p : Handle × Fate). p.0) ps) h → IsMade ts h
-ends_seen ts Q [] f h c = absurd (Contains-none h c)
-ends_seen ts Q (p ∷ ps) f h c = ⊎_elim (λ (e : p.0 ≡ h). let a = (f p.0 p.1 (Contains-head p ps)).0 in subst (IsMade ts) e (omega arith)) (λ d. ends_seen ts Q ps (λ x y z. f x y (Contains-tail p (x, y) ps z)) h d) (Contains-cases p.0 h (map (λ (q : Handle × Fate). q.0) ps) c)
+ends_seen ts Q [] f h c = absurd (contains_none h c)
+ends_seen ts Q (p ∷ ps) f h c = ⊎_elim (λ (e : p.0 ≡ h). let a = (f p.0 p.1 (contains_here p ps)).0 in subst (IsMade ts) e (omega arith)) (λ d. ends_seen ts Q ps (λ x y z. f x y (contains_there p ps (x, y) z)) h d) (contains_cases p.0 (map (λ (q : Handle × Fate). q.0) ps) h c)
 
 in_seen : (ps : List (Handle × Fate)) (h : Handle) (f : Fate) → Contains ps (h, f) → Contains (map (λ (p : Handle × Fate). p.0) ps) h
-in_seen [] h f c = absurd (Contains-none {A = Handle × Fate} (h, f) c)
-in_seen (p ∷ ps) h f c = ⊎_elim (λ (e : p ≡ (h, f)). subst (λ (q : Handle × Fate). Contains (p.0 ∷ map (λ (z : Handle × Fate). z.0) ps) q.0) e (Contains-head p.0 (map (λ (z : Handle × Fate). z.0) ps)))
-    (λ d. Contains-tail p.0 h (map (λ (z : Handle × Fate). z.0) ps) (in_seen ps h f d)) (Contains-cases p (h, f) ps c)
+in_seen [] h f c = absurd (contains_none {X = Handle × Fate} (h, f) c)
+in_seen (p ∷ ps) h f c = ⊎_elim (λ (e : p ≡ (h, f)). subst (λ (q : Handle × Fate). Contains (p.0 ∷ map (λ (z : Handle × Fate). z.0) ps) q.0) e (contains_here p.0 (map (λ (z : Handle × Fate). z.0) ps)))
+    (λ d. contains_there p.0 (map (λ (z : Handle × Fate). z.0) ps) h (in_seen ps h f d)) (contains_cases p ps (h, f) c)
 
 pub receipts : (v : View) → Cuts v v (receipted v)
-receipts v = cut v v (receipted v) (λ f. omega arith) (omega arith) (λ i. omega arith) refl (λ h c. absurd (Contains-none h c))
+receipts v = cut v v (receipted v) (λ f. omega arith) (omega arith) (λ i. omega arith) refl (λ h c. absurd (contains_none h c))
     (λ key ws ts log o. let b = blank key ws ts log in
     let knows : (h : Handle) (f : Fate) → Contains (last_of v.known) (h, f) → IsEnded ts h × (mark key ws h ≡ fate_code f) = λ h f c. o.known h f (in_last v.known (h, f) c) in
     let seen = ends_seen ts (λ h f. mark key ws h ≡ fate_code f) (last_of v.known) knows in
     (o, whole (receipted v) (with_known (last_of v.known) (λ h f c. (in_seen (last_of v.known) h f c, (knows h f c).0, (knows h f c).1)) (seen_alone o.keys seen)) b.saw no_placings no_rights b.hand no_chase no_making))
 
 pub appoints : (v : View) → Cuts v (no_maker v) (maker_of v)
-appoints v = cut v (no_maker v) (maker_of v) (λ f. omega arith) (omega arith) (λ i. omega arith) refl (λ h c. absurd (Contains-none h c))
+appoints v = cut v (no_maker v) (maker_of v) (λ f. omega arith) (omega arith) (λ i. omega arith) refl (λ h c. absurd (contains_none h c))
     (λ key ws ts log o. let b = blank key ws ts log in (
       whole (no_maker v) (facts_fit o) o.saw (placings_fit o) (rights_fit o) o.hand (chase_fits o) no_making,
       whole (maker_of v) (seen_alone o.keys o.seen) b.saw no_placings no_rights b.hand no_chase (none_noted (making_fits o)),
@@ -126,7 +127,7 @@ reports v = cut v (reporter v) (report v) (λ f. omega arith) (omega arith) (λ 
     ))
 
 pub chases : (v : View) → Cuts v (unchased v) (chaser v)
-chases v = cut v (unchased v) (chaser v) (λ f. omega arith) (omega arith) (λ i. omega arith) refl (λ h c. absurd (Contains-none h c))
+chases v = cut v (unchased v) (chaser v) (λ f. omega arith) (omega arith) (λ i. omega arith) refl (λ h c. absurd (contains_none h c))
     (λ key ws ts log o. let b = blank key ws ts log in (
       whole (unchased v) (facts_fit o) o.saw (placings_fit o) (rights_fit o) o.hand no_chase (making_fits o),
       whole (chaser v) (known_alone (facts_fit o)) b.saw (given_alone (placings_fit o)) no_rights b.hand (chase_fits o) no_making,
@@ -134,9 +135,9 @@ chases v = cut v (unchased v) (chaser v) (λ f. omega arith) (omega arith) (λ i
 
 -- a chain that was given whole
 pub empties : (v : View) → v.caught ≡ [] → Cuts v v (emptier v)
-empties v none-left = cut v v (emptier v) (λ f. omega arith) (omega arith) (λ i. omega arith) refl (λ h c. absurd (Contains-none h c))
+empties v none-left = cut v v (emptier v) (λ f. omega arith) (omega arith) (λ i. omega arith) refl (λ h c. absurd (contains_none h c))
     (λ key ws ts log o. let b = blank key ws ts log in
-    let all_given : (h : Handle) → Contains v.chased h → IsEnded ts h × ((k : ℕ) → Contains log (k, h) → Contains v.given (k, h)) = λ h c. let q = o.chased h c in (q.0, λ k d. ⊎_elim (λ z. absurd (Contains-none k (subst (λ l. Contains l k) none-left z))) (λ z. z) (q.1 k d)) in
+    let all_given : (h : Handle) → Contains v.chased h → IsEnded ts h × ((k : ℕ) → Contains log (k, h) → Contains v.given (k, h)) = λ h c. let q = o.chased h c in (q.0, λ k d. ⊎_elim (λ z. absurd (contains_none k (subst (λ l. Contains l k) none-left z))) (λ z. z) (q.1 k d)) in
     (o, whole (emptier v) (known_alone (facts_fit o)) b.saw (record { placed = b.placed; given = o.given; emptied = all_given }) no_rights b.hand no_chase no_making))
 
 -- w has what v and u had
@@ -164,7 +165,7 @@ merges key id v other u w m s o me apart them =
     (λ n. omega (arith, sum (held n), m.weighs n))
     (omega (arith, o.one_maker, sum maker, m.makers))
     (λ i. omega (arith, o.one_right i, sum (rights_at i), m.rights i))
-    (λ j y h e c. who j y (λ x. Contains x.left h → Z h.slot) e (λ d. absurd (Contains-none h d))
+    (λ j y h e c. who j y (λ x. Contains x.left h → Z h.slot) e (λ d. absurd (contains_none h d))
     (λ d. ⊎_elim (λ z. still h.slot (⊎_elim (λ x. o.no_right id v h me x) (λ x. o.no_right other u h there x) z)) (λ z. freed h z.0 z.1) (m.left h d))
     (λ z d. still h.slot (o.no_right j y h z d)) c)
 
@@ -195,7 +196,7 @@ joined_fits v u key ws ts log one f g = record {
   chain = f.chain;
   own = λ h c. ⊎_elim (λ d. f.own h d) (λ d. g.own h d) (Contains-append_cases v.made u.made h c);
   made = λ e h c. dite (ℕ_discrete v.makes 1) (λ z. Contains-append_left v.made u.made h (f.made z h c)) (λ z. Contains-append_right v.made u.made h (g.made (omega arith) h c));
-  spare = λ e p c. absurd (Contains-none p c);
+  spare = λ e p c. absurd (contains_none p c);
 }
 
 joined_weigh : (v u : View) → u.caught ≡ [] → (n : ℕ → ℕ) → held n (joined v u) ≡ held n v + held n u
@@ -238,8 +239,8 @@ gathers key id v other u none-caught maker' = merges key id v other u (gathered 
 })
 
 known_ended : (ts : List ℕ) (ps : List (Handle × Fate)) → ((h : Handle) (f : Fate) → Contains ps (h, f) → IsEnded ts h) → (h : Handle) → Contains (map (λ (p : Handle × Fate). p.0) ps) h → IsEnded ts h
-known_ended ts [] f h c = absurd (Contains-none h c)
-known_ended ts (p ∷ ps) f h c = ⊎_elim (λ (e : p.0 ≡ h). subst (IsEnded ts) e (f p.0 p.1 (Contains-head p ps))) (λ d. known_ended ts ps (λ x y z. f x y (Contains-tail p (x, y) ps z)) h d) (Contains-cases p.0 h (map (λ (q : Handle × Fate). q.0) ps) c)
+known_ended ts [] f h c = absurd (contains_none h c)
+known_ended ts (p ∷ ps) f h c = ⊎_elim (λ (e : p.0 ≡ h). subst (IsEnded ts) e (f p.0 p.1 (contains_here p ps))) (λ d. known_ended ts ps (λ x y z. f x y (contains_there p ps (x, y) z)) h d) (contains_cases p.0 (map (λ (q : Handle × Fate). q.0) ps) h c)
 
 -- the Maker, which has seen what it made, takes in what a seat with no waiter knows to have ended
 pub informs : (key : Shape) (id : ℕ) (v : View) (other : ℕ) (u : View) → v.makes ≡ 1 → v.seen ≡ v.made → u.makes ≡ 0 → u.hand ≡ [] → u.caught ≡ [] → Joins {S = Unit {0}} (Orderly key) id v other u (informed v u) no_view

@@ -16,7 +16,8 @@ use Rattle.event_table.specs.Words.{mark, fate_code, IsMade, IsEnded, code, Link
 use Rattle.shared_events.specs.Rule.{held, ends_at, rights_at, maker, Fits, Orderly}
 use Rattle.shared_events.specs.Plays.{Sat, ended_with, HasPlaced, IsOnce, ended, fate_now}
 use Rattle.basics.proofs.Sums.{total-set, total-put, term_le, entry_le}
-use Rattle.event_table.proofs.Members.{Contains-one, Contains-none, Contains-head, Contains-tail, set_cases}
+use Rattle.event_table.proofs.Members.{Contains-one, set_cases}
+use Rattle.basics.proofs.ListFacts.{contains_none, contains_here, contains_there}
 use Rattle.shared_events.proofs.Frames.{Leaves, steady}
 use Rattle.event_table.proofs.Words.{code_le}
 use Rattle.event_table.proofs.Marks.{marks_low}
@@ -34,7 +35,7 @@ module _ (key : Shape) (s : St) (o : Orderly key s) (id next : ℕ) (v : View) (
   fits = o.each_view id v me
 
   has : Contains v.rights h
-  has = subst (λ l. Contains l h) (sym rights) (Contains-head h rest)
+  has = subst (λ l. Contains l h) (sym rights) (contains_here h rest)
 
   is : get_or o.turns h.slot 0 ≡ 2 * h.gen_ + 1
   is = fits.rights h has
@@ -93,8 +94,8 @@ module _ (key : Shape) (s : St) (o : Orderly key s) (id next : ℕ) (v : View) (
 
   -- the bit of the handle is as the seat's marks say
   its_fate : mark key s.words h ≡ fate_code (fate_now v.marked)
-  its_fate = ⊎_elim (λ e. fits.clear h has (λ c. Contains-none h (subst (λ l. Contains l h) e c)) ∙ ap (λ l. fate_code (fate_now l)) (sym e))
-      (λ e. fits.marked h (subst (λ l. Contains l h) (sym e) (Contains-head h [])) ∙ ap (λ l. fate_code (fate_now l)) (sym e)) marks
+  its_fate = ⊎_elim (λ e. fits.clear h has (λ c. contains_none h (subst (λ l. Contains l h) e c)) ∙ ap (λ l. fate_code (fate_now l)) (sym e))
+      (λ e. fits.marked h (subst (λ l. Contains l h) (sym e) (contains_here h [])) ∙ ap (λ l. fate_code (fate_now l)) (sym e)) marks
 
   leaves : (u : View) → Fits key s.words o.turns o.log u → ((x : Handle) → Contains u.rights x ⊎ Contains u.left x → x.slot ≢ h.slot) → Leaves key s.words ws' o.turns ts' o.log o.log u
   leaves u f apart = record {
@@ -114,14 +115,14 @@ module _ (key : Shape) (s : St) (o : Orderly key s) (id next : ℕ) (v : View) (
   v₀ = record v { rights = rest }
 
   fits₀ : Fits key s.words o.turns o.log v₀
-  fits₀ = whole v₀ (facts_fit fits) fits.saw (placings_fit fits) (fewer_rights rest (λ x d. subst (λ l. Contains l x) (sym rights) (Contains-tail h x rest d)) (rights_fit fits)) fits.hand (chase_fits fits) (making_fits fits)
+  fits₀ = whole v₀ (facts_fit fits) fits.saw (placings_fit fits) (fewer_rights rest (λ x d. subst (λ l. Contains l x) (sym rights) (contains_there h rest x d)) (rights_fit fits)) fits.hand (chase_fits fits) (making_fits fits)
 
   but_first_is : Rattle.shared_events.specs.Plays.but_first v.rights ≡ rest
   but_first_is = ap (λ l. Rattle.shared_events.specs.Plays.but_first l) rights
 
   -- the marks are of this handle alone
   own_mark : (x : Handle) → Contains rest x → Contains v.marked x → ⊥
-  own_mark x r c = ⊎_elim (λ e. Contains-none x (subst (λ l. Contains l x) e c)) (λ e. my_rest x r (ap (λ (y : Handle). y.slot) (sym (Contains-one h x (subst (λ l. Contains l x) e c))))) marks
+  own_mark x r c = ⊎_elim (λ e. contains_none x (subst (λ l. Contains l x) e c)) (λ e. my_rest x r (ap (λ (y : Handle). y.slot) (sym (Contains-one h x (subst (λ l. Contains l x) e c))))) marks
 
   mine : Fits key ws' ts' o.log w
   mine = let f = steady key s.words ws' o.turns ts' o.log o.log v₀ fits₀ (leaves v₀ fits₀ (λ x d. ⊎_elim (λ y. my_rest x y) (λ y. left_apart key s o id id v v h x me me has y) d)) in
@@ -133,7 +134,7 @@ module _ (key : Shape) (s : St) (o : Orderly key s) (id next : ℕ) (v : View) (
       (record {
         seen = λ x d. f.all_seen.3 x (in_rest x d);
         pending = λ x d. f.rights x (in_rest x d);
-        marked = λ x d. absurd (Contains-none x d);
+        marked = λ x d. absurd (contains_none x d);
         clear = λ x d n. low_bit x ∙ fits₀.clear x (in_rest x d) (λ c. own_mark x (in_rest x d) c);
       })
       f.hand

@@ -8,7 +8,7 @@ use Rattle.event_table.specs.declared.handle.Shape.{Shape}
 use Rattle.event_table.specs.Words.{code}
 use Rattle.shared_events.specs.Plays.{Sat, first_of, but_first, last_of, HasPlaced, IsOnce, ended, ended_with, fate_now, marking, joined, receipted, chaser}
 use Rattle.shared_events.specs.Seats.{Rights, IsPlain, IsPending, IsReceipt, IsCaught, waiters_of}
-use Rattle.event_table.proofs.Members.{Contains-head}
+use Rattle.basics.proofs.ListFacts.{contains_here}
 use Rattle.shared_events.proofs.Takes.{map_nil}
 
 pub last_pushed : {X : Type 0} (xs : List X) (x : X) → last_of (xs ++ x ∷ []) ≡ x ∷ []
@@ -61,7 +61,7 @@ has_ended m₀ m n h f r x armed keys small t =
     let both : h' ∷ rest ≡ h ∷ [] = sym t.3 ∙ armed.rights in
     let same : h' ≡ h = ap (λ l. get_or l 0 h) both in
     let after : but_first m.0.rights ≡ [] = ap (λ (l : List Handle). but_first l) armed.rights in
-    let top : code c ≤ x.waiters = t.6 x (subst (λ l. Contains l x) (sym keys) (Contains-head x [])) in
+    let top : code c ≤ x.waiters = t.6 x (subst (λ l. Contains l x) (sym keys) (contains_here x [])) in
     let found = t.4 in
     let put : Ended h f m r (ended_with m.0 h' c, m.1) = record {
       known = λ k. m.0.known ++ (same k, armed.fate k) ∷ [];

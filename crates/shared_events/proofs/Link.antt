@@ -11,7 +11,7 @@ use Rattle.basics.specs.Sums.{total}
 use Rattle.event_table.specs.Words.{mark}
 use Rattle.shared_events.specs.Rule.{held, Fits, Orderly}
 use Rattle.shared_events.specs.Plays.{Sat, first_to, linked_to, relinked}
-use Rattle.event_table.proofs.Members.{Contains-none, Contains-cases, Contains-head, Contains-tail}
+use Rattle.basics.proofs.ListFacts.{contains_none, contains_cases, contains_here, contains_there}
 use Rattle.shared_events.proofs.Frames.{Leaves, steady}
 use Rattle.event_table.proofs.Marks.{marks_low}
 use Rattle.shared_events.proofs.Apart.{St, not_in_rest, not_my_catch, not_their_hand, not_their_catch, not_placed, linked_else}
@@ -24,7 +24,7 @@ module _ (key : Shape) (s : St) (o : Orderly key s) (id : ℕ) (v : View) (k c x
   fits = o.each_view id v me
 
   is_waiter : k < key.waiters
-  is_waiter = (fits.hand (k, c) (subst (λ l. Contains l (k, c)) (sym hand) (Contains-head (k, c) ps))).0
+  is_waiter = (fits.hand (k, c) (subst (λ l. Contains l (k, c)) (sym hand) (contains_here (k, c) ps))).0
 
   abbrev ws' : List ℕ
   ws' = set s.words (key.slots + k) x
@@ -61,11 +61,11 @@ module _ (key : Shape) (s : St) (o : Orderly key s) (id : ℕ) (v : View) (k c x
   mine : Fits key ws' o.turns o.log w
   mine =
       let v₀ : View = record v { hand = [] } in
-      let f₀ : Fits key s.words o.turns o.log v₀ = whole v₀ (facts_fit fits) fits.saw (placings_fit fits) (rights_fit fits) (λ p d. absurd (Contains-none p d)) (chase_fits fits) (making_fits fits) in
-      let f = steady key s.words ws' o.turns o.turns o.log o.log v₀ f₀ (leaves v₀ f₀ (λ p d. absurd (Contains-none p d)) (not_my_catch key s o id v k c ps me hand)) in
+      let f₀ : Fits key s.words o.turns o.log v₀ = whole v₀ (facts_fit fits) fits.saw (placings_fit fits) (rights_fit fits) (λ p d. absurd (contains_none p d)) (chase_fits fits) (making_fits fits) in
+      let f = steady key s.words ws' o.turns o.turns o.log o.log v₀ f₀ (leaves v₀ f₀ (λ p d. absurd (contains_none p d)) (not_my_catch key s o id v k c ps me hand)) in
       let in_hand : HandFits key ws' w.hand = λ p d. ⊎_elim (λ (e : (k, x) ≡ p). subst (λ (q : ℕ × ℕ). (q.0 < key.waiters) × (get_or ws' (key.slots + q.0) 0 ≡ q.1)) e (is_waiter, here))
-      (λ z. let old = fits.hand p (subst (λ l. Contains l p) (sym hand) (Contains-tail (k, c) p ps z)) in (old.0, there (key.slots + p.0) (λ e. not_in_rest key s o id v k c ps me hand p z (omega arith)) ∙ old.1))
-      (Contains-cases (k, x) p ps (subst (λ l. Contains l p) hand' d)) in
+      (λ z. let old = fits.hand p (subst (λ l. Contains l p) (sym hand) (contains_there (k, c) ps p z)) in (old.0, there (key.slots + p.0) (λ e. not_in_rest key s o id v k c ps me hand p z (omega arith)) ∙ old.1))
+      (contains_cases (k, x) ps p (subst (λ l. Contains l p) hand' d)) in
       whole w (facts_fit f) f.saw (placings_fit f) (rights_fit f) in_hand (chase_fits f) (making_fits f)
 
   weighs : (f : ℕ → ℕ) → held f w ≡ held f v

@@ -10,7 +10,7 @@ use Rattle.std.specs.Int.{bit_at}
 use Rattle.shared_events.proofs.Found.{fates_has, ends_has}
 use Rattle.shared_events.specs.Plays.{Sat, ends_of, looked, reads, fates_by, fates_of}
 use Rattle.shared_events.specs.Seats.{HasSeen, Knows, no_event}
-use Rattle.event_table.proofs.Members.{Contains-head}
+use Rattle.basics.proofs.ListFacts.{contains_here}
 
 -- what the load of its slot's word tells of a handle that the seat has seen, and that is not NO_EVENT
 pub record Finds (h : Handle) (x : Shape) (m n : Sat) (r : ℕ) : Type 0 where
@@ -28,7 +28,7 @@ pub record Finds (h : Handle) (x : Shape) (m n : Sat) (r : ℕ) : Type 0 where
 pub finds : (i r : ℕ) (m n : Sat) (h : Handle) (x : Shape) → looked i m r n → m.0.keys ≡ x ∷ [] → (h ≡ no_event → ⊥) → HasSeen m.0 h → (h.slot < x.slots → i ≡ h.slot) → Finds h x m n r
 finds i r m n h x t keys some has same =
     let seen : Contains m.0.seen h = ⊎_elim (λ e. absurd (some e)) (λ c. c) has.seen in
-    let within = t.2 x h (subst (λ l. Contains l x) (sym keys) (Contains-head x [])) seen in
+    let within = t.2 x h (subst (λ l. Contains l x) (sym keys) (contains_here x [])) seen in
     let at : i ≡ h.slot = same within.0 in
     let ended : 2 * h.gen_ + 2 ≤ turns_of r → Contains n.0.past h = λ past. subst (λ (y : Sat). Contains y.0.past h) (sym t.0) (Contains-append_right m.0.past (ends_of i (turns_of r) m.0.seen) h (ends_has i (turns_of r) m.0.seen h seen (sym at) past)) in
     record {

@@ -13,7 +13,7 @@ use Rattle.event_table.specs.Words.{place_of, mark_word, mark, IsMade, IsPending
 use Rattle.shared_events.specs.Rule.{Fits, Orderly}
 use Rattle.std.specs.Int.{bit_at}
 use Rattle.shared_events.specs.Plays.{Sat, first_of, marked_at, marks}
-use Rattle.event_table.proofs.Members.{Contains-head, Contains-tail, Contains-cases, Contains-none}
+use Rattle.basics.proofs.ListFacts.{contains_here, contains_there, contains_cases, contains_none}
 use Rattle.shared_events.proofs.Frames.{Leaves, steady}
 use Rattle.event_table.proofs.Marks.{places_apart, word_in}
 use Rattle.shared_events.proofs.Apart.{St, same_handle, right_apart}
@@ -45,7 +45,7 @@ module _ (key : Shape) (s : St) (o : Orderly key s) (id : ℕ) (v : View) (h : H
   fits = o.each_view id v me
 
   has : Contains v.rights h
-  has = subst (λ l. Contains l h) (sym rights) (Contains-head h rest)
+  has = subst (λ l. Contains l h) (sym rights) (contains_here h rest)
 
   pending : IsPending o.turns h
   pending = fits.rights h has
@@ -110,15 +110,15 @@ module _ (key : Shape) (s : St) (o : Orderly key s) (id : ℕ) (v : View) (h : H
       let firsts : first_of v.rights ≡ h ∷ [] = ap (λ (l : List Handle). first_of l) rights in
       let all : u'.marked ≡ h ∷ v.marked = λ t. firsts t ++ v.marked in
       let v₀ : View = record v { rights = [] } in
-      let f₀ : Fits key s.words o.turns o.log v₀ = whole v₀ (facts_fit fits) fits.saw (placings_fit fits) (fewer_rights [] (λ x c. absurd (Contains-none x c)) (rights_fit fits)) fits.hand (chase_fits fits) (making_fits fits) in
-      let f = steady key s.words ws' o.turns o.turns o.log o.log v₀ f₀ (leaves v₀ f₀ (λ x c. absurd (Contains-none x c))) in
+      let f₀ : Fits key s.words o.turns o.log v₀ = whole v₀ (facts_fit fits) fits.saw (placings_fit fits) (fewer_rights [] (λ x c. absurd (contains_none x c)) (rights_fit fits)) fits.hand (chase_fits fits) (making_fits fits) in
+      let f = steady key s.words ws' o.turns o.turns o.log o.log v₀ f₀ (leaves v₀ f₀ (λ x c. absurd (contains_none x c))) in
       whole u' (facts_fit f) f.saw (placings_fit f)
       (record {
         seen = fits.all_seen.3;
         pending = fits.rights;
-        marked = λ x c. ⊎_elim (λ (e : h ≡ x). subst (λ y. mark key ws' y ≡ 1) e here) (λ d. stays x (fits.marked x d)) (Contains-cases h x v.marked (subst (λ z. Contains z x) all c));
-        clear = λ x c n. let p = fits.rights x c in let apart : x ≡ h → ⊥ = λ e. n (subst (λ z. Contains z x) (sym all) (subst (Contains (h ∷ v.marked)) (sym e) (Contains-head h v.marked))) in
-            there x (omega arith) apart ∙ fits.clear x c (λ d. n (subst (λ z. Contains z x) (sym all) (Contains-tail h x v.marked d)));
+        marked = λ x c. ⊎_elim (λ (e : h ≡ x). subst (λ y. mark key ws' y ≡ 1) e here) (λ d. stays x (fits.marked x d)) (contains_cases h v.marked x (subst (λ z. Contains z x) all c));
+        clear = λ x c n. let p = fits.rights x c in let apart : x ≡ h → ⊥ = λ e. n (subst (λ z. Contains z x) (sym all) (subst (Contains (h ∷ v.marked)) (sym e) (contains_here h v.marked))) in
+            there x (omega arith) apart ∙ fits.clear x c (λ d. n (subst (λ z. Contains z x) (sym all) (contains_there h v.marked x d)));
       })
       f.hand (chase_fits f) (making_fits f)
 

@@ -14,7 +14,8 @@ use Rattle.std.specs.Int.{bit_at}
 use Rattle.std.proofs.lemmas.Nat.Bits.{bit_at-zero}
 use Rattle.std.proofs.lemmas.List.{length-replicate}
 use Rattle.atomic_table.specs.Table.{opening}
-use Rattle.event_table.proofs.Members.{Contains-one, Contains-none, Contains-cases}
+use Rattle.event_table.proofs.Members.{Contains-one}
+use Rattle.basics.proofs.ListFacts.{contains_none, contains_cases}
 use Rattle.shared_events.proofs.Parts.{HandFits, whole, seen_alone, no_placings, no_rights, no_chase}
 
 pub zero_at : (n i : ℕ) → get_or (replicate {A = ℕ} n 0) i 0 ≡ 0
@@ -37,8 +38,8 @@ dealt_weigh f k zero = let e : k + 0 ≡ k = omega arith in omega (arith, ap (be
 dealt_weigh f k (suc m) = let e : (k + 1) + m ≡ k + suc m = omega arith in let d : k + 1 ≡ suc k = omega arith in omega (arith, dealt_weigh f (k + 1) m, ap (below f) e, ap (below f) d)
 
 all_new : (k m : ℕ) (p : ℕ × ℕ) → Contains (undealt k m) p → (p.0 < k + m) × (p.1 ≡ 0)
-all_new k zero p c = absurd (Contains-none p c)
-all_new k (suc m) p c = ⊎_elim (λ (e : (k, 0) ≡ p). subst (λ (q : ℕ × ℕ). (q.0 < k + suc m) × (q.1 ≡ 0)) e (omega arith, refl)) (λ d. let t = all_new (k + 1) m p d in let a = t.0 in (omega arith, t.1)) (Contains-cases (k, 0) p (undealt (k + 1) m) c)
+all_new k zero p c = absurd (contains_none p c)
+all_new k (suc m) p c = ⊎_elim (λ (e : (k, 0) ≡ p). subst (λ (q : ℕ × ℕ). (q.0 < k + suc m) × (q.1 ≡ 0)) e (omega arith, refl)) (λ d. let t = all_new (k + 1) m p d in let a = t.0 in (omega arith, t.1)) (contains_cases (k, 0) (undealt (k + 1) m) p c)
 
 pub opens : (key : Shape) (ws : List ℕ) → ws ≡ replicate (key.slots + key.waiters + mark_words key) 0 → key.waiters ≤ 8192 → Orderly key (opening {S = Unit {0}} ws [] (opener key))
 opens key ws is small =
@@ -50,8 +51,8 @@ opens key ws is small =
     let unmade : (h : Handle) → IsMade ts h → ⊥ = λ h m. let z = zero_at n h.slot in omega arith in
     let one : (j : ℕ) (u : View) → get_elem? (v ∷ []) j ≡ some u → v ≡ u = λ j u e. ⊎_elim (λ (x : get_elem? {A = View} [] j ≡ some u). absurd (some-ne-none u (sym x))) (λ x. x) (at_snoc [] v u j e) in
     let hand : HandFits key ws v.hand = λ p c. let t = all_new 0 key.waiters p c in let a = t.0 in (omega arith, word (key.slots + p.0) ∙ sym t.1) in
-    let fits : Fits key ws ts [] v = whole v (seen_alone (λ x c. sym (Contains-one key x c)) (λ h c. absurd (Contains-none h c))) (λ p c. absurd (Contains-none p c)) no_placings no_rights hand no_chase
-    (record { own = λ h c. absurd (Contains-none h c); made = λ _ h c. absurd (unmade h c); spare = λ _ p c. absurd (Contains-none p c) }) in
+    let fits : Fits key ws ts [] v = whole v (seen_alone (λ x c. sym (Contains-one key x c)) (λ h c. absurd (contains_none h c))) (λ p c. absurd (contains_none p c)) no_placings no_rights hand no_chase
+    (record { own = λ h c. absurd (contains_none h c); made = λ _ h c. absurd (unmade h c); spare = λ _ p c. absurd (contains_none p c) }) in
     record {
       turns = ts;
       chains = cs;
@@ -75,7 +76,7 @@ opens key ws is small =
       once = λ f. let e : 0 + key.waiters ≡ key.waiters = omega arith in omega (arith, weightless f n, dealt_weigh f 0 key.waiters, ap (below f) e);
       one_maker = omega arith;
       one_right = λ i. omega arith;
-      no_right = λ j u h e c. absurd (Contains-none h (subst (λ (y : View). Contains y.left h) (sym (one j u e)) c));
-      stands = λ k h c. absurd (Contains-none {A = ℕ × Handle} (k, h) c);
-      stood = λ k h p c. absurd (Contains-none k (subst (λ l. Contains l k) (none_at n h.slot) c));
+      no_right = λ j u h e c. absurd (contains_none h (subst (λ (y : View). Contains y.left h) (sym (one j u e)) c));
+      stands = λ k h c. absurd (contains_none {X = ℕ × Handle} (k, h) c);
+      stood = λ k h p c. absurd (contains_none k (subst (λ l. Contains l k) (none_at n h.slot) c));
     }

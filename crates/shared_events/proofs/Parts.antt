@@ -8,7 +8,7 @@ use Rattle.shared_events.specs.declared.view.View.{View}
 use Rattle.event_table.specs.Words.{turns_of, mark, fate_code, IsMade, IsPending, IsEnded, Linked}
 use Rattle.shared_events.specs.Rule.{Fits}
 use Rattle.shared_events.specs.Plays.{no_view}
-use Rattle.event_table.proofs.Members.{Contains-none}
+use Rattle.basics.proofs.ListFacts.{contains_none}
 use Rattle.shared_events.proofs.Frames.{Placings}
 
 -- what was seen, and of which handles a fate is known, which were left and which have ended
@@ -109,10 +109,10 @@ module _ {key : Shape} {ws ts : List ℕ} {ks : List Shape} {hs : List Handle} {
 
 module _ {ts : List ℕ} {log : Placings} where
   pub no_placings : PlacingsFit ts log [] [] []
-  no_placings = record { placed = λ p c. absurd (Contains-none p c); given = λ p c. absurd (Contains-none p c); emptied = λ h c. absurd (Contains-none h c) }
+  no_placings = record { placed = λ p c. absurd (contains_none p c); given = λ p c. absurd (contains_none p c); emptied = λ h c. absurd (contains_none h c) }
 
   pub given_alone : {xs gs : Placings} {es : List Handle} → PlacingsFit ts log xs gs es → PlacingsFit ts log [] gs []
-  given_alone f = record { placed = λ p c. absurd (Contains-none p c); given = f.given; emptied = λ h c. absurd (Contains-none h c) }
+  given_alone f = record { placed = λ p c. absurd (contains_none p c); given = f.given; emptied = λ h c. absurd (contains_none h c) }
 
 module _ {key : Shape} {ws ts : List ℕ} where
   -- handles that were seen, and no more of them
@@ -120,33 +120,33 @@ module _ {key : Shape} {ws ts : List ℕ} where
   seen_alone keys seen = record {
     keys = keys;
     seen = seen;
-    known_seen = λ h f c. absurd (Contains-none {A = Handle × Fate} (h, f) c);
-    known = λ h f c. absurd (Contains-none {A = Handle × Fate} (h, f) c);
-    left_seen = λ h c. absurd (Contains-none h c);
-    left = λ h c. absurd (Contains-none h c);
-    past_seen = λ h c. absurd (Contains-none h c);
-    past = λ h c. absurd (Contains-none h c);
+    known_seen = λ h f c. absurd (contains_none {X = Handle × Fate} (h, f) c);
+    known = λ h f c. absurd (contains_none {X = Handle × Fate} (h, f) c);
+    left_seen = λ h c. absurd (contains_none h c);
+    left = λ h c. absurd (contains_none h c);
+    past_seen = λ h c. absurd (contains_none h c);
+    past = λ h c. absurd (contains_none h c);
   }
 
   -- what is known of those that were seen, and no more
   pub known_alone : {ks : List Shape} {hs : List Handle} {fs : List (Handle × Fate)} {ls ps : List Handle} → FactsFit key ws ts ks hs fs ls ps → FactsFit key ws ts ks hs fs [] []
-  known_alone f = with_left [] (λ h c. absurd (Contains-none h c)) (with_past [] (λ h c. absurd (Contains-none h c)) f)
+  known_alone f = with_left [] (λ h c. absurd (contains_none h c)) (with_past [] (λ h c. absurd (contains_none h c)) f)
 
   pub fewer_rights : {hs rs ms : List Handle} (rs' : List Handle) → ((h : Handle) → Contains rs' h → Contains rs h) → RightsFit key ws ts hs rs ms → RightsFit key ws ts hs rs' ms
   fewer_rights rs' are f = record { seen = λ h c. f.seen h (are h c); pending = λ h c. f.pending h (are h c); marked = f.marked; clear = λ h c n. f.clear h (are h c) n }
 
   pub no_rights : {hs : List Handle} → RightsFit key ws ts hs [] []
-  no_rights = record { seen = λ h c. absurd (Contains-none h c); pending = λ h c. absurd (Contains-none h c); marked = λ h c. absurd (Contains-none h c); clear = λ h c n. absurd (Contains-none h c) }
+  no_rights = record { seen = λ h c. absurd (contains_none h c); pending = λ h c. absurd (contains_none h c); marked = λ h c. absurd (contains_none h c); clear = λ h c n. absurd (contains_none h c) }
 
   pub no_chase : {log gs : Placings} → ChaseFits key ws ts log gs [] []
-  no_chase = record { caught = tt; chased = λ h c. absurd (Contains-none h c); chain = λ h k c d. absurd (Contains-none h c) }
+  no_chase = record { caught = tt; chased = λ h c. absurd (contains_none h c); chain = λ h k c d. absurd (contains_none h c) }
 
   pub no_making : MakingFits key ws ts 0 [] []
-  no_making = record { own = λ h c. absurd (Contains-none h c); made = λ e. absurd (omega arith); spare = λ e. absurd (omega arith) }
+  no_making = record { own = λ h c. absurd (contains_none h c); made = λ e. absurd (omega arith); spare = λ e. absurd (omega arith) }
 
   pub none_noted : {n : ℕ} {ms : List Handle} {ps : List (ℕ × ℕ)} → MakingFits key ws ts n ms ps → MakingFits key ws ts n ms []
-  none_noted m = record { own = m.own; made = m.made; spare = λ e p c. absurd (Contains-none p c) }
+  none_noted m = record { own = m.own; made = m.made; spare = λ e p c. absurd (contains_none p c) }
 
 -- a view with nothing
 pub blank : (key : Shape) (ws ts : List ℕ) (log : Placings) → Fits key ws ts log no_view
-blank key ws ts log = whole no_view (seen_alone (λ x c. absurd (Contains-none x c)) (λ h c. absurd (Contains-none h c))) (λ p c. absurd (Contains-none p c)) no_placings no_rights (λ p c. absurd (Contains-none p c)) no_chase no_making
+blank key ws ts log = whole no_view (seen_alone (λ x c. absurd (contains_none x c)) (λ h c. absurd (contains_none h c))) (λ p c. absurd (contains_none p c)) no_placings no_rights (λ p c. absurd (contains_none p c)) no_chase no_making

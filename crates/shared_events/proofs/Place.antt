@@ -17,7 +17,8 @@ use Rattle.event_table.specs.Words.{mark, IsMade, IsPending, IsEnded, code, Link
 use Rattle.shared_events.specs.Rule.{held, maker, Fits, Orderly}
 use Rattle.shared_events.specs.Plays.{Sat, with_first, but_first, placed_on, put, gave, walked}
 use Rattle.basics.proofs.Sums.{total-set, total-put}
-use Rattle.event_table.proofs.Members.{Contains-one, Contains-cases, Contains-none, Contains-head, Contains-tail}
+use Rattle.event_table.proofs.Members.{Contains-one}
+use Rattle.basics.proofs.ListFacts.{contains_cases, contains_none, contains_here, contains_there}
 use Rattle.shared_events.proofs.Frames.{Placings, Leaves, steady}
 use Rattle.event_table.proofs.Words.{code_le}
 use Rattle.event_table.proofs.Marks.{marks_low}
@@ -48,7 +49,7 @@ module _ (key : Shape) (s : St) (o : Orderly key s) (id i old : ℕ) (v : View) 
   ch = get_or o.chains i []
 
   in_hand : (k < key.waiters) × (get_or s.words (key.slots + k) 0 ≡ c)
-  in_hand = fits.hand (k, c) (subst (λ l. Contains l (k, c)) (sym hand) (Contains-head (k, c) ps))
+  in_hand = fits.hand (k, c) (subst (λ l. Contains l (k, c)) (sym hand) (contains_here (k, c) ps))
 
   decoded : (get_or o.turns i 0 ≡ 2 * (old / 4294967296) + 1) × (code (get_or o.chains i []) ≡ c)
   decoded = let z = o.each_slot i near in let a = code_le key s.words (get_or o.chains i []) z.1 in let b = o.small in
@@ -102,7 +103,7 @@ module _ (key : Shape) (s : St) (o : Orderly key s) (id i old : ℕ) (v : View) 
   mine : Fits key ws' o.turns log' w
   mine = let f = steady key s.words ws' o.turns o.turns o.log log' v fits (leaves v fits) in
       let on : (p : ℕ × Handle) → Contains w.placed p → Contains log' p = λ p d. ⊎_elim (λ z. f.placed p z) (λ z. subst (λ q. Contains log' q) (Contains-one (k, h) p (subst (λ l. Contains l p) firsts z)) (Contains-push o.log (k, h))) (Contains-append_cases v.placed (with_first h v.hand) p d) in
-      let in_rest : HandFits key ws' w.hand = λ p d. f.hand p (subst (λ l. Contains l p) (sym hand) (Contains-tail (k, c) p ps (subst (λ l. Contains l p) others d))) in
+      let in_rest : HandFits key ws' w.hand = λ p d. f.hand p (subst (λ l. Contains l p) (sym hand) (contains_there (k, c) ps p (subst (λ l. Contains l p) others d))) in
       whole w (facts_fit f) f.saw (record { placed = on; given = f.given; emptied = f.emptied }) (rights_fit f) in_rest (chase_fits f) (making_fits f)
 
   slots_ok : (j : ℕ) → j < key.slots → Shows key.last_gen (get_or o.turns j 0) (get_or cs' j []) (get_or ws' j 0) × Linked key ws' (get_or cs' j [])
@@ -143,16 +144,16 @@ module _ (key : Shape) (s : St) (o : Orderly key s) (id i old : ℕ) (v : View) 
     stands = λ j x d. ⊎_elim
         (λ z. let old = o.stands j x z in (
           old.0,
-          λ p. dite (ℕ_discrete x.slot i) (λ e. subst (λ l. Contains l j) (sym (chain_at key s o i (k ∷ ch) near x.slot e)) (Contains-tail k j ch (subst (λ l. Contains l j) (chain_was key s o i (k ∷ ch) near x.slot e) (old.1 p))))
+          λ p. dite (ℕ_discrete x.slot i) (λ e. subst (λ l. Contains l j) (sym (chain_at key s o i (k ∷ ch) near x.slot e)) (contains_there k ch j (subst (λ l. Contains l j) (chain_was key s o i (k ∷ ch) near x.slot e) (old.1 p))))
               (λ n. subst (λ l. Contains l j) (sym (chain_there key s o i (k ∷ ch) near x.slot n)) (old.1 p)),
         ))
-        (λ (q : (k, h) ≡ (j, x)). subst (λ (y : ℕ × Handle). IsMade o.turns y.1 × (IsPending o.turns y.1 → Contains (get_or cs' y.1.slot []) y.0)) q ((let a = pending in omega arith), λ p. subst (λ l. Contains l k) (sym (chain_here key s o i (k ∷ ch) near)) (Contains-head k ch)))
+        (λ (q : (k, h) ≡ (j, x)). subst (λ (y : ℕ × Handle). IsMade o.turns y.1 × (IsPending o.turns y.1 → Contains (get_or cs' y.1.slot []) y.0)) q ((let a = pending in omega arith), λ p. subst (λ l. Contains l k) (sym (chain_here key s o i (k ∷ ch) near)) (contains_here k ch)))
         (Contains-push_cases o.log (k, h) (j, x) d);
     stood = λ j x p d. dite (ℕ_discrete x.slot i)
         (λ e. let same : h ≡ x = sym (same_handle x i (old / 4294967296) e (let a = pending in let b : get_or o.turns x.slot 0 ≡ get_or o.turns i 0 = ap (λ y. get_or o.turns y 0) e in omega arith)) in
         ⊎_elim (λ (q : k ≡ j). subst (λ (y : ℕ × Handle). Contains log' y) (λ t. (q t, same t)) (Contains-push o.log (k, h)))
         (λ z. Contains-append_left o.log ((k, h) ∷ []) (j, x) (o.stood j x p (subst (λ l. Contains l j) (sym (chain_was key s o i (k ∷ ch) near x.slot e)) z)))
-        (Contains-cases k j ch (subst (λ l. Contains l j) (chain_at key s o i (k ∷ ch) near x.slot e) d)))
+        (contains_cases k ch j (subst (λ l. Contains l j) (chain_at key s o i (k ∷ ch) near x.slot e) d)))
         (λ n. Contains-append_left o.log ((k, h) ∷ []) (j, x) (o.stood j x p (subst (λ l. Contains l j) (chain_there key s o i (k ∷ ch) near x.slot n) d)));
   }
 
@@ -170,14 +171,14 @@ puts key n id i old new m k c ps hand near low small is_new s o wide me fits =
     (λ miss. let q = looks key n id i m near s o wide me fits in (q.0, q.1, q.2, q.3, ((λ hit. absurd (miss hit)), λ _. q.4)))
 
 mapped : (hs : List Handle) (j : ℕ) (p : ℕ × Handle) {k : ℕ} → Contains (map (λ (h : Handle). (j, h)) hs) p → j ≡ k → Contains hs p.1 × (p.0 ≡ k)
-mapped [] j p d e = absurd (Contains-none p d)
-mapped (x ∷ xs) j p d e = ⊎_elim (λ (q : (j, x) ≡ p). (subst (λ (y : ℕ × Handle). Contains (x ∷ xs) y.1) q (Contains-head x xs), ap (λ (y : ℕ × Handle). y.0) (sym q) ∙ e))
-    (λ z. let q = mapped xs j p z e in (Contains-tail x p.1 xs q.0, q.1)) (Contains-cases (j, x) p (map (λ (h : Handle). (j, h)) xs) d)
+mapped [] j p d e = absurd (contains_none p d)
+mapped (x ∷ xs) j p d e = ⊎_elim (λ (q : (j, x) ≡ p). (subst (λ (y : ℕ × Handle). Contains (x ∷ xs) y.1) q (contains_here x xs), ap (λ (y : ℕ × Handle). y.0) (sym q) ∙ e))
+    (λ z. let q = mapped xs j p z e in (contains_there x xs p.1 q.0, q.1)) (contains_cases (j, x) (map (λ (h : Handle). (j, h)) xs) p d)
 
 map_has : (hs : List Handle) (j : ℕ) (x : Handle) → Contains hs x → Contains {X = ℕ × Handle} (map (λ (h : Handle). (j, h)) hs) (j, x)
-map_has [] j y d = absurd (Contains-none y d)
-map_has (x ∷ xs) j y d = ⊎_elim (λ (e : x ≡ y). subst (λ (z : Handle). Contains {X = ℕ × Handle} ((j, x) ∷ map (λ (h : Handle). (j, h)) xs) (j, z)) e (Contains-head {A = ℕ × Handle} (j, x) (map (λ (h : Handle). (j, h)) xs)))
-    (λ z. Contains-tail {A = ℕ × Handle} (j, x) (j, y) (map (λ (h : Handle). (j, h)) xs) (map_has xs j y z)) (Contains-cases x y xs d)
+map_has [] j y d = absurd (contains_none y d)
+map_has (x ∷ xs) j y d = ⊎_elim (λ (e : x ≡ y). subst (λ (z : Handle). Contains {X = ℕ × Handle} ((j, x) ∷ map (λ (h : Handle). (j, h)) xs) (j, z)) e (contains_here {X = ℕ × Handle} (j, x) (map (λ (h : Handle). (j, h)) xs)))
+    (λ z. contains_there {X = ℕ × Handle} (j, x) (map (λ (h : Handle). (j, h)) xs) (j, y) (map_has xs j y z)) (contains_cases x xs y d)
 
 -- the first waiter that was caught is taken in hand
 pub walks : (key : Shape) (n id i : ℕ) (m : Sat) (k : ℕ) (ks : List ℕ) → m.0.caught ≡ k ∷ ks → i ≡ key.slots + k → Allows (Orderly key) n id m i (λ x. x) (walked m)
@@ -188,13 +189,13 @@ walks key n id i m k ks caught at s o wide me _ =
     let link : (k < key.waiters) × (get_or s.words (key.slots + k) 0 ≡ code ks) × Linked key s.words ks = subst (Linked key s.words) caught fits.caught in
     let first : get_or v.caught 0 0 ≡ k = ap (λ l. get_or l 0 0) caught in
     let after : but_first v.caught ≡ ks = ap (λ (l : List ℕ). but_first l) caught in
-    let caught_k : Contains v.caught k = subst (λ l. Contains l k) (sym caught) (Contains-head k ks) in
+    let caught_k : Contains v.caught k = subst (λ l. Contains l k) (sym caught) (contains_here k ks) in
     let new : List (ℕ × Handle) = map (λ (h : Handle). (get_or v.caught 0 0, h)) v.chased in
     let new_given : (p : ℕ × Handle) → Contains new p → Contains v.chased p.1 × (p.0 ≡ k) = λ p d. mapped v.chased (get_or v.caught 0 0) p d first in
     let given_now : (h : Handle) → Contains v.chased h → Contains {X = ℕ × Handle} new (k, h) = λ h d. subst (λ (x : ℕ). Contains {X = ℕ × Handle} new (x, h)) first (map_has v.chased (get_or v.caught 0 0) h d) in
     let given_on : (j : ℕ) (h : Handle) → Contains v.given (j, h) → Contains (v.given ++ new) (j, h) = λ j h z. Contains-append_left v.given new (j, h) z in
     let in_hand : HandFits key s.words w.hand = λ p d. ⊎_elim (λ (e : (get_or v.caught 0 0, code (but_first v.caught)) ≡ p). subst (λ (q : ℕ × ℕ). (q.0 < key.waiters) × (get_or s.words (key.slots + q.0) 0 ≡ q.1)) ((λ t. (sym first t, code (sym after t))) ∙ e) (link.0, link.1))
-    (λ z. fits.hand p z) (Contains-cases (get_or v.caught 0 0, code (but_first v.caught)) p v.hand d) in
+    (λ z. fits.hand p z) (contains_cases (get_or v.caught 0 0, code (but_first v.caught)) v.hand p d) in
     let fits' : Fits key s.words o.turns o.log w = whole w (facts_fit fits) fits.saw
     (record {
       placed = fits.placed;
@@ -208,10 +209,10 @@ walks key n id i m k ks caught at s o wide me _ =
         q.0,
         λ j z. ⊎_elim
             (λ y. ⊎_elim (λ (e : k ≡ j). inr (Contains-append_right v.given new (j, h) (subst (λ (x : ℕ). Contains {X = ℕ × Handle} new (x, h)) e (given_now h d))))
-            (λ x. inl (subst (λ l. Contains l j) (sym after) x)) (Contains-cases k j ks (subst (λ l. Contains l j) caught y)))
+            (λ x. inl (subst (λ l. Contains l j) (sym after) x)) (contains_cases k ks j (subst (λ l. Contains l j) caught y)))
             (λ y. inr (given_on j h y)) (q.1 j z),
       );
-      chain = λ h j d z. fits.chain h j d (subst (λ l. Contains l j) (sym caught) (Contains-tail k j ks (subst (λ l. Contains l j) after z)));
+      chain = λ h j d z. fits.chain h j d (subst (λ l. Contains l j) (sym caught) (contains_there k ks j (subst (λ l. Contains l j) after z)));
     })
     (making_fits fits) in
     let weighs : (f : ℕ → ℕ) → held f w ≡ held f v = λ f. omega (arith, ap f first, ap (total f) after, ap (total f) caught) in (

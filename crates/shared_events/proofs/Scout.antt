@@ -15,7 +15,8 @@ use Rattle.shared_events.specs.Rule.{Fits, Orderly}
 use Rattle.shared_events.specs.Plays.{Sat, ends_of, scouted_at, Accounts, HadEnded, scouted, made_at, AreBelow, created, granter, granted}
 use Rattle.shared_events.specs.Seats.{IsMaker, IsPending, IsPast, Knows, slots_of, last_gen_of}
 use Rattle.shared_events.specs.Views.{IsTaken, IsHeld, Scanned, AreHeld, AreTaken, IsFull, ArePast, ComesNext}
-use Rattle.event_table.proofs.Members.{Contains-one, Contains-none, Contains-head}
+use Rattle.event_table.proofs.Members.{Contains-one}
+use Rattle.basics.proofs.ListFacts.{contains_none, contains_here}
 use Rattle.event_table.proofs.Words.{by_test, code_le, turns_if}
 use Rattle.shared_events.proofs.Found.{ends_has}
 use Rattle.shared_events.proofs.Parts.{whole, facts_fit, placings_fit, rights_fit, chase_fits}
@@ -44,7 +45,7 @@ scouts key n id i m near s o wide me _ =
     let Q : ℕ × ℕ → Type 0 = λ p. (p.0 < key.slots) × (get_or s.words p.0 0 ≡ p.1) × (get_or o.turns p.0 0 % 2 ≡ 0) in
     let spare' : (p : ℕ × ℕ) → Contains w.spare p → Q p = λ p c. by_test (eqb (r % 4294967296) 0)
     (λ b. subst Q (Contains-one (i, r) p (subst (λ x. Contains (cond x ((i, r) ∷ []) []) p) b c)) (near, refl, even_at key.last_gen (get_or o.turns i 0) (get_or o.chains i []) r slot.0 low (eqb-true (r % 4294967296) 0 b)))
-    (λ b. absurd (Contains-none p (subst (λ x. Contains (cond x ((i, r) ∷ []) []) p) b c))) in
+    (λ b. absurd (contains_none p (subst (λ x. Contains (cond x ((i, r) ∷ []) []) p) b c))) in
     let fits' : Fits key s.words o.turns o.log w = whole w (facts_fit f) f.saw (placings_fit f) (rights_fit f) f.hand (chase_fits f) (record { own = f.own; made = f.made; spare = λ _ p c. spare' p c }) in
     let q = parts key.last_gen (get_or o.turns i 0) (get_or o.chains i []) r slot.0 low in (
       w,
@@ -62,7 +63,7 @@ scouts key n id i m near s o wide me _ =
     )
 
 pub spare_has : (i r : ℕ) → r % 4294967296 ≡ 0 → Contains {X = ℕ × ℕ} (cond (eqb (r % 4294967296) 0) ((i, r) ∷ []) []) (i, r)
-spare_has i r z = subst (λ (b : Bool). Contains {X = ℕ × ℕ} (cond b ((i, r) ∷ []) []) (i, r)) (sym (eq-eqb (r % 4294967296) 0 z)) (Contains-head (i, r) [])
+spare_has i r z = subst (λ (b : Bool). Contains {X = ℕ × ℕ} (cond b ((i, r) ∷ []) []) (i, r)) (sym (eq-eqb (r % 4294967296) 0 z)) (contains_here (i, r) [])
 
 -- the older handles of a slot that is free were found to have ended
 pub scout_past : (m n : Sat) (i r : ℕ) → scouted i m r n → m.0.seen ≡ m.0.made → r % 4294967296 ≡ 0 → ArePast n.0.made n.0 i (r / 4294967296)
@@ -75,7 +76,7 @@ scout_past m n i r t seen free h c at old =
 pub scans_more : (shape : Shape) (made : List Handle) (v w u : View) (low i r : ℕ) → w.made ≡ made → Scanned shape made v w low i → w.keys ≡ shape ∷ [] → w.makes ≡ 1 → u ≡ scouted_at w i r → Accounts w i r → r % 4294967296 ≢ 0 → Scanned shape made v u low (i + 1)
 scans_more shape made v w u low i r same s keys makes is t busy =
     let found : List (ℕ × ℕ) = s.0 in
-    let taken : IsTaken shape made i r = let q = t shape (subst (λ l. Contains l shape) (sym keys) (Contains-head shape [])) makes in
+    let taken : IsTaken shape made i r = let q = t shape (subst (λ l. Contains l shape) (sym keys) (contains_here shape [])) makes in
     dite (ℕ_discrete (r % 4294967296) 4294967295) (λ e. let x = q.0 e in (handle_at i shape.last_gen, refl, subst (λ l. Contains l (handle_at i shape.last_gen)) same x.1, inr (refl, x.0))) (λ ne. let x = q.1 busy ne in (handle_at i (r / 4294967296), refl, subst (λ l. Contains l (handle_at i (r / 4294967296))) same x.1, inl x.0)) in
     subst (λ (y : View). Scanned shape made v y low (i + 1)) (sym is) (
       found ++ (i, r) ∷ [],
@@ -91,7 +92,7 @@ scout_keeps m n i r h t c = subst (λ (x : Sat). IsPast x.0 h) (sym t.0) (Contai
 -- and it is held by no handle that was found past before
 pub holds_more : (shape : Shape) (made : List Handle) (v w : View) (low i r : ℕ) → w.made ≡ made → AreHeld shape made v low i → ((h : Handle) → IsPast v h → IsPast w h) → w.keys ≡ shape ∷ [] → w.makes ≡ 1 → Accounts w i r → HadEnded w i r → r % 4294967296 ≢ 0 → AreHeld shape made v low (i + 1)
 holds_more shape made v w low i r same held kept keys makes t over busy j from l =
-    let this : IsHeld shape made v i = let q = t shape (subst (λ l. Contains l shape) (sym keys) (Contains-head shape [])) makes in
+    let this : IsHeld shape made v i = let q = t shape (subst (λ l. Contains l shape) (sym keys) (contains_here shape [])) makes in
     dite (ℕ_discrete (r % 4294967296) 4294967295) (λ e. (handle_at i shape.last_gen, refl, subst (λ l. Contains l (handle_at i shape.last_gen)) same (q.0 e).1, inl refl))
     (λ ne. let x = q.1 busy ne in let pending : turns_of r ≡ 2 * (r / 4294967296) + 1 = x.0 in
     (handle_at i (r / 4294967296), refl, subst (λ l. Contains l (handle_at i (r / 4294967296))) same x.1, inr (λ c. let b : 2 * (r / 4294967296) + 2 ≤ turns_of r = over (handle_at i (r / 4294967296)) (kept (handle_at i (r / 4294967296)) c) refl in omega (arith, pending, b)))) in
@@ -163,7 +164,7 @@ makes_handle i old r x m n n' q is keys near t left right =
     let w : Sat = (made_at m.0 h, m.1) in
     let k : slots_of m.0.keys ≡ x.slots = ap slots_of keys in
     let l : last_gen_of m.0.keys ≡ x.last_gen = ap last_gen_of keys in
-    let few : old / 4294967296 ≤ x.last_gen = t.3 x (subst (λ y. Contains y x) (sym keys) (Contains-head x [])) in
+    let few : old / 4294967296 ≤ x.last_gen = t.3 x (subst (λ y. Contains y x) (sym keys) (contains_here x [])) in
     let base : Makes h m (granter w.0, w.1) (granted w.0, []) = record {
       maker = (is.0, is.1, ap (λ l. l ++ h ∷ []) is.2, is.3, is.4);
       made = refl;

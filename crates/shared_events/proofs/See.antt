@@ -7,7 +7,7 @@ use Rattle.event_table.specs.declared.handle.Fate.{Fate}
 use Rattle.event_table.specs.Words.{turns_of}
 use Rattle.shared_events.specs.Plays.{Sat, first_of, looked, joined, granted, granter}
 use Rattle.shared_events.specs.Seats.{IsPlain, IsPending, Knows, IsPast, FoundPending}
-use Rattle.event_table.proofs.Members.{Contains-head}
+use Rattle.basics.proofs.ListFacts.{contains_here}
 
 -- the seat v has looked, as w, with the right that a Pending's seat had
 pub record Sees (h : Handle) (v w : Sat) : Type 0 where
@@ -23,7 +23,7 @@ sees v p g m n w h i r plain pending at g-is m-is t w-is =
     let n-lists = ap (λ (y : Sat). y.0) t.0 in
     let w-lists = ap (λ (y : Sat). y.0) w-is in
     let rights : m.0.rights ≡ h ∷ [] = ap (λ l. l.rights) m-lists ∙ (λ z. plain.0.2 z ++ (ap (λ l. l.rights) g-lists ∙ ap (λ (l : List Handle). first_of l) pending.0.2) z) in
-    let has : Contains m.0.rights h = subst (λ l. Contains l h) (sym rights) (Contains-head h []) in
+    let has : Contains m.0.rights h = subst (λ l. Contains l h) (sym rights) (contains_here h []) in
     let odd : turns_of r ≡ 2 * h.gen_ + 1 = t.1.3 h has (sym at) in
     let saw : m.0.saw ≡ v.0.saw = ap (λ l. l.saw) m-lists ∙ (ap (λ l. v.0.saw ++ l.saw) g-lists ∙ append-nil v.0.saw) in
     record {

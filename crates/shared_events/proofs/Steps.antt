@@ -18,7 +18,8 @@ use Rattle.shared_events.specs.Rule.{held, ends_at, rights_at, maker, Fits, Orde
 use Rattle.shared_events.specs.Plays.{Sat, found_at, ends_of, Agrees, InRange, Coherent, Rightless, looked, heeded, fated, fates_of, fates_by, reads}
 use Rattle.std.specs.Int.{bit_at}
 use Rattle.basics.proofs.Sums.{total-set, term_le, item_le}
-use Rattle.event_table.proofs.Members.{Contains-none, Contains-head, set_cases}
+use Rattle.event_table.proofs.Members.{set_cases}
+use Rattle.basics.proofs.ListFacts.{contains_none, contains_here}
 use Rattle.event_table.proofs.Marks.{one_code, coded}
 use Rattle.shared_events.proofs.Found.{fates_in, ends_in}
 use Rattle.event_table.proofs.Words.{code_le, turns_shown}
@@ -147,16 +148,16 @@ rightless key s o id v me h left right =
 
 -- what a poison word tells
 told : (key : Shape) (s : St) (o : Orderly key s) (v : View) → Fits key s.words o.turns o.log v → (w : ℕ) (ks : List Shape) → ((x : Shape) → Contains ks x → x ≡ key) → (h : Handle) (f : Fate) → Contains (fates_of ks w (get_or s.words w 0) v.past) (h, f) → IsEnded o.turns h × (mark key s.words h ≡ fate_code f)
-told key s o v fits w [] keys h f c = absurd (Contains-none {A = Handle × Fate} (h, f) c)
+told key s o v fits w [] keys h f c = absurd (contains_none {X = Handle × Fate} (h, f) c)
 told key s o v fits w (x ∷ xs) keys h f c =
-    let same : x ≡ key = keys x (Contains-head x xs) in
+    let same : x ≡ key = keys x (contains_here x xs) in
     let q = fates_in key w (get_or s.words w 0) v.past h f (subst (λ (y : Shape). Contains (fates_by y w (get_or s.words w 0) v.past) (h, f)) same c) in
     let bit : ℕ = mark key s.words h in
     let there : bit_at (get_or s.words w 0) (place_of key.last_gen h % 64) ≡ bit = ap (λ i. bit_at (get_or s.words i 0) (place_of key.last_gen h % 64)) (sym q.1) in
     (fits.past h q.0, (coded bit (omega arith) ∙ ap (λ n. fate_code (fate_by n)) (sym there)) ∙ ap fate_code (sym q.2))
 
 fates_past : (ks : List Shape) (w r : ℕ) (hs : List Handle) (h : Handle) (f : Fate) → Contains (fates_of ks w r hs) (h, f) → Contains hs h
-fates_past [] w r hs h f c = absurd (Contains-none {A = Handle × Fate} (h, f) c)
+fates_past [] w r hs h f c = absurd (contains_none {X = Handle × Fate} (h, f) c)
 fates_past (x ∷ xs) w r hs h f c = (fates_in x w r hs h f c).0
 
 pub reads_mark : (key : Shape) (n id w : ℕ) (m : Sat) → Allows (Orderly key) n id m w (λ x. x) (reads w m)

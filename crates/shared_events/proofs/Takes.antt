@@ -3,7 +3,7 @@ use Rattle.std.proofs.Common.{◌≡◌, ℕ, List, [], ◌∷◌, ◌++◌, sym
 use Rattle.std.specs.Prelude.{Contains}
 use Rattle.std.proofs.lemmas.List.Elements.{Contains-append_right, Contains-push}
 use Rattle.event_table.specs.declared.handle.Shape.{Shape}
-use Rattle.event_table.proofs.Members.{Contains-head}
+use Rattle.basics.proofs.ListFacts.{contains_here}
 
 pub map_nil : {X : Type 0} (g : X → ℕ) (xs : List X) → map g xs ≡ [] → xs ≡ []
 map_nil g [] e = refl
@@ -26,4 +26,4 @@ pub at_end : {X : Type 0} (xs ys zs ws : List X) (x : X) → zs ≡ xs ++ ys →
 at_end xs ys zs ws x e d = subst (λ l. Contains l x) (sym e) (Contains-append_right xs ys x (subst (λ l. Contains l x) (sym d) (Contains-push ws x)))
 
 pub has_key : (ks : List Shape) (x : Shape) → ks ≡ x ∷ [] → Contains ks x
-has_key ks x e = subst (λ l. Contains l x) (sym e) (Contains-head x [])
+has_key ks x e = subst (λ l. Contains l x) (sym e) (contains_here x [])

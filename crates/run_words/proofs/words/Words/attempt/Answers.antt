@@ -2,7 +2,7 @@ use Rattle.std.proofs.Common.{ℕ, List, [], ◌∷◌, ◌≡◌, refl, ap, sym
 use Rattle.std.specs.Prelude.{Contains}
 use Rattle.std.proofs.lemmas.List.{append-nil}
 use Rattle.std.proofs.lemmas.List.Elements.{Contains-append_left}
-use Rattle.event_table.proofs.Members.{Contains-head}
+use Rattle.basics.proofs.ListFacts.{contains_here}
 use Rattle.graph_terms.specs.declared.outcome.End.{End}
 use Rattle.graph_terms.specs.Graph.{GraphValue, never_comes}
 use Rattle.run_words.specs.Plays.{Sat}
@@ -32,7 +32,7 @@ returns-then-word-ne2-clause-answer c =
     let n = c.look-word.ensures.looked.0 in
     let v = c.args.seat.now.inner.me.0 in (
       c.look-word.result,
-      ((c.args.i, c.look-word.result) ∷ [], ap (λ (m : Sat). m.0.saw) n, Contains-head {A = ℕ × ℕ} (c.args.i, c.look-word.result) []),
+      ((c.args.i, c.look-word.result) ∷ [], ap (λ (m : Sat). m.0.saw) n, contains_here {X = ℕ × ℕ} (c.args.i, c.look-word.result) []),
       c.stage_shown.ensures,
       c.if-word-ne2.true,
       ([], ap (λ (m : Sat). m.0.mine) n ∙ sym (append-nil v.mine), ap (λ (m : Sat). m.0.splits) n ∙ sym (append-nil v.splits)),
@@ -47,7 +47,7 @@ returns-then-never_comes-clause-answer c =
       (
         (c.args.i, c.look-word.result) ∷ [],
         ap (λ (m : Sat). m.0.saw) n,
-        subst (λ (r : ℕ). Contains {X = ℕ × ℕ} ((c.args.i, r) ∷ []) (c.args.i, 2)) (sym c.if-word-ne2.false) (Contains-head {A = ℕ × ℕ} (c.args.i, 2) []),
+        subst (λ (r : ℕ). Contains {X = ℕ × ℕ} ((c.args.i, r) ∷ []) (c.args.i, 2)) (sym c.if-word-ne2.false) (contains_here {X = ℕ × ℕ} (c.args.i, 2) []),
       ),
       ([], ap (λ (m : Sat). m.0.mine) n ∙ sym (append-nil v.mine), ap (λ (m : Sat). m.0.splits) n ∙ sym (append-nil v.splits)),
       ap (λ (m : Sat). m.0.gave_up) n,
@@ -68,6 +68,6 @@ returns-clause-answer c =
       events = refl;
     })
     c.attempt_due.new.seat c.args.self.now c.args.i c.attempt_due.result
-    (subst (λ (r : ℕ). Contains {X = ℕ × ℕ} ((c.args.i, r) ∷ []) (c.args.i, 2)) (sym c.if-word-ne2.false) (Contains-head {A = ℕ × ℕ} (c.args.i, 2) []))
+    (subst (λ (r : ℕ). Contains {X = ℕ × ℕ} ((c.args.i, r) ∷ []) (c.args.i, 2)) (sym c.if-word-ne2.false) (contains_here {X = ℕ × ℕ} (c.args.i, 2) []))
     (subst (λ (g : GraphValue). never_comes g c.args.i ≡ Rattle.std.specs.Prelude.false) c.graph-graph.ensures.graph (sym c.never_comes.ensures ∙ c.if-never_comes.false))
     c.attempt_due.ensures.answer

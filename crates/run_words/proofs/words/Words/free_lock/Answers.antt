@@ -1,6 +1,6 @@
 use Rattle.std.proofs.Common.{◌≡◌, ◌<◌, [], length, sym, ◌∙◌, ap, subst}
 use Rattle.std.specs.Prelude.{Some, Contains, slice_get}
-use Rattle.event_table.proofs.Members.{Contains-head}
+use Rattle.basics.proofs.ListFacts.{contains_here}
 use Rattle.graph_terms.specs.Fits.{IsGraph}
 use Rattle.graph_terms.specs.Graph.{GraphValue, locks, is_shared}
 use Rattle.graph_terms.specs.declared.verb.Verb.TheVariants.{Acquire}
@@ -26,7 +26,7 @@ returns-then-found-ne-ENDED_DONE-clause-released c = λ x v cl left i.
     let w = graph_of c.args.self.now in
     let f = subst IsGraph e c.line.ensures.is_graph in
     let at = subst (λ (h : GraphValue). slice_get h.lines c.args.line ≡ Some c.line.result.now) e c.line.ensures.line in
-    let keys = subst (λ (l : _). Contains l (ground_of w (events_of c.args.self.now))) (sym c.requires.at.1) (Contains-head {A = Ground} (ground_of w (events_of c.args.self.now)) []) in
+    let keys = subst (λ (l : _). Contains l (ground_of w (events_of c.args.self.now))) (sym c.requires.at.1) (contains_here {X = Ground} (ground_of w (events_of c.args.self.now)) []) in
     not_freed w (events_of c.args.self.now) c.args.line x v cl left c.args.seat.now.me i f c.graph-graph.ensures.accepted keys c.in-Release.acquire c.look-found.result
     (line_releases w c.args.line c.in-Release.acquire c.line.result.now at c.in-Release.is) c.look-found.new.seat.me c.look-found.ensures.looked.0 c.look-found.ensures.looked.1 c.if-found-ne-ENDED_DONE.true)
 
@@ -47,7 +47,7 @@ free-requires-clause-may c =
     let f = subst IsGraph e c.line.ensures.is_graph in
     let at = subst (λ (h : GraphValue). slice_get h.lines c.args.line ≡ Some c.line.result.now) e c.line.ensures.line in
     let r = c.requires.ending in
-    let keys = subst (λ (l : _). Contains l (ground_of w (events_of c.args.self.now))) (sym c.requires.at.1) (Contains-head {A = Ground} (ground_of w (events_of c.args.self.now)) []) in
+    let keys = subst (λ (l : _). Contains l (ground_of w (events_of c.args.self.now))) (sym c.requires.at.1) (contains_here {X = Ground} (ground_of w (events_of c.args.self.now)) []) in
     may_free w (events_of c.args.self.now) c.args.line r.0 r.1 r.2 r.3 c.args.seat.now.me r.4 f c.graph-graph.ensures.accepted keys c.in-Release.acquire c.look-found.result
     (line_releases w c.args.line c.in-Release.acquire c.line.result.now at c.in-Release.is) c.look-found.new.seat.me c.look-found.ensures.looked.0 c.look-found.ensures.looked.1
 
@@ -62,7 +62,7 @@ free-requires-clause-done c =
     let f = subst IsGraph e c.line.ensures.is_graph in
     let at = subst (λ (h : GraphValue). slice_get h.lines c.args.line ≡ Some c.line.result.now) e c.line.ensures.line in
     let r = c.requires.ending in
-    let keys = subst (λ (l : _). Contains l (ground_of w (events_of c.args.self.now))) (sym c.requires.at.1) (Contains-head {A = Ground} (ground_of w (events_of c.args.self.now)) []) in
+    let keys = subst (λ (l : _). Contains l (ground_of w (events_of c.args.self.now))) (sym c.requires.at.1) (contains_here {X = Ground} (ground_of w (events_of c.args.self.now)) []) in
     done_known w (events_of c.args.self.now) c.args.line r.0 r.1 r.2 r.3 c.args.seat.now.me r.4 f c.graph-graph.ensures.accepted keys c.in-Release.acquire c.look-found.result
     (line_releases w c.args.line c.in-Release.acquire c.line.result.now at c.in-Release.is) c.look-found.new.seat.me c.look-found.ensures.looked.0 c.look-found.ensures.looked.1 c.if-found-ne-ENDED_DONE.false
 
@@ -72,7 +72,7 @@ returns-clause-released c = λ x v cl left i.
     let w = graph_of c.args.self.now in
     let f = subst IsGraph e c.line.ensures.is_graph in
     let at = subst (λ (h : GraphValue). slice_get h.lines c.args.line ≡ Some c.line.result.now) e c.line.ensures.line in
-    let keys = subst (λ (l : _). Contains l (ground_of w (events_of c.args.self.now))) (sym c.requires.at.1) (Contains-head {A = Ground} (ground_of w (events_of c.args.self.now)) []) in
+    let keys = subst (λ (l : _). Contains l (ground_of w (events_of c.args.self.now))) (sym c.requires.at.1) (contains_here {X = Ground} (ground_of w (events_of c.args.self.now)) []) in
     has_released w (events_of c.args.self.now) c.args.line x v cl left c.args.seat.now.me i f c.graph-graph.ensures.accepted keys c.in-Release.acquire c.look-found.result
     (line_releases w c.args.line c.in-Release.acquire c.line.result.now at c.in-Release.is) c.look-found.new.seat.me c.look-found.ensures.looked.0 c.look-found.ensures.looked.1 c.free.new.seat.me c.free.ensures.freed)
 

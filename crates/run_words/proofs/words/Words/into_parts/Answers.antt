@@ -16,7 +16,7 @@ use Rattle.std.proofs.lemmas.List.{length-map}
 use Rattle.event_table.specs.EventMap.{EventMap, life_at, without_waiters}
 use Rattle.shared_events.specs.Views.{lists, shape_of}
 use Rattle.event_table.specs.declared.handle.Shape.{Shape}
-use Rattle.event_table.proofs.Members.{Contains-none}
+use Rattle.basics.proofs.ListFacts.{contains_none}
 use Rattle.run_core.specs.Core.{CoreValue, unissued}
 use Rattle.run_core.specs.Resumed.{ShowState}
 use Rattle.run_words.specs.Reading.{state_for, value_for}
@@ -106,7 +106,7 @@ returns c =
     (λ h a at. subst (λ hs. Contains hs h) tray.made (lost.only h a (sym (c.into_table.ensures.answers h) ∙ at)))
     (ap (λ (t : EventMap). t.waiters) c.into_table.ensures.map ∙ (lost.shape.1 ∙ (ap (λ (s : Shape). s.waiters) shape ∙ (own.shaped.0 ∙ ap (λ (x : GraphValue). length x.lines) (sym graph)))))
     (ap (λ (t : EventMap). t.last_gen) c.into_table.ensures.map ∙ (ap (λ (s : Spare). s.table.last_gen) b.ensures.spare ∙ ap (λ (t : EventMap). t.last_gen) own.spared.table))
-    (λ i j has. Contains-none j (subst (λ ws. Contains ws j) (ap (λ (t : EventMap). (life_at t i).waiting) c.into_table.ensures.map ∙ none_waits c.close.result i) has))
+    (λ i j has. contains_none j (subst (λ ws. Contains ws j) (ap (λ (t : EventMap). (life_at t i).waiting) c.into_table.ensures.map ∙ none_waits c.close.result i) has))
     c.as_slice.result.now (c.as_slice.ensures.value ∙ tray.listed) c.states_of-states.result c.states_of-states.ensures.each
     (subst (λ ws. (i : ℕ) → i < length g.lines → slice_get c.states_of-states.result i ≡ Some (state_for ws (size_of g) c.as_slice.result.now i)) words_same c.states_of-states.ensures.states)
     c.values_of-phases.result c.values_of-phases.ensures.each

@@ -3,9 +3,8 @@ use Rattle.std.specs.Prelude.{Contains}
 use Rattle.std.proofs.lemmas.List.{append-nil}
 use Rattle.std.proofs.lemmas.List.Elements.{Contains-append_left, Contains-append_right}
 use Rattle.graph_terms.specs.declared.outcome.End.{End}
-use Rattle.basics.proofs.ListFacts.{contains_below}
+use Rattle.basics.proofs.ListFacts.{contains_below, contains_here}
 use Rattle.basics.specs.Lists.{numbers_below}
-use Rattle.event_table.proofs.Members.{Contains-head}
 use Rattle.event_table.specs.declared.handle.Handle.{Handle}
 use Rattle.run_words.specs.Plays.{Sat, with_desk, after_issue}
 use Rattle.run_words.proofs.Desking.{issue_chain}
@@ -51,7 +50,7 @@ returns-clause-full c = λ is.
     let n = c.issue_in_turn-answer.ensures.now in
     let all = issue_chain c.args.seat.now.inner.me.0 c.args.seat.now.inner.me.1 c.take_tray.new.seat.me c.issue_in_turn-answer.new.seat.me c.give_tray.new.seat.me c.in-Some.desk.handles.items c.issue_in_turn-answer.new.desk.handles.items c.in-Some.desk c.issue_in_turn-answer.new.desk n.0 _ c.in-Some.ensures.taken n.1 c.give_tray.ensures.given in
     let hs : List Handle = c.issue_in_turn-answer.new.desk.handles.items in
-    (hs, record { known = subst (λ (l : List (List Handle)). Contains l hs) (sym (ap (λ (m : Sat). m.0.named) all)) (Contains-append_right (c.args.seat.now.inner.me.0.named ++ c.in-Some.desk.handles.items ∷ []) (hs ∷ []) hs (Contains-head hs [])) }, c.issue_in_turn-answer.ensures.full is)
+    (hs, record { known = subst (λ (l : List (List Handle)). Contains l hs) (sym (ap (λ (m : Sat). m.0.named) all)) (Contains-append_right (c.args.seat.now.inner.me.0.named ++ c.in-Some.desk.handles.items ∷ []) (hs ∷ []) hs (contains_here hs [])) }, c.issue_in_turn-answer.ensures.full is)
 
 pub returns-clause-waiters : goal.returns-clause-waiters
 returns-clause-waiters c = λ _.

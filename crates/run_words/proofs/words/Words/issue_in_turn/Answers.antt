@@ -1,7 +1,7 @@
 use Rattle.std.proofs.Common.{arith, ◌≡◌, ℕ, ◌<◌, [], ◌∷◌, length, ap, sym, subst}
 use Rattle.std.specs.Prelude.{Contains}
 use Rattle.std.proofs.lemmas.List.Elements.{Contains-append_right}
-use Rattle.event_table.proofs.Members.{Contains-head}
+use Rattle.basics.proofs.ListFacts.{contains_here}
 use Rattle.run_words.specs.declared.view.View.{View}
 use Rattle.run_words.specs.Words.{graph_of}
 use Rattle.run_words.specs.Plays.{Sat}
@@ -24,7 +24,7 @@ pub returns-then-issue_next-clause-issued : goal.returns-then-issue_next-clause-
 returns-then-issue_next-clause-issued c = λ i q.
     let n = c.issue_next.ensures.issued c.if-issue_next.true in
     let k : c.len-line.result ≡ i = ap number_in q in
-    let has : Contains c.issue_next.new.seat.me.0.issued c.len-line.result = subst (λ l. Contains l c.len-line.result) (sym (ap (λ (m : Sat). m.0.issued) n.2)) (Contains-append_right c.args.seat.now.me.0.issued (c.len-line.result ∷ []) c.len-line.result (Contains-head c.len-line.result [])) in
+    let has : Contains c.issue_next.new.seat.me.0.issued c.len-line.result = subst (λ l. Contains l c.len-line.result) (sym (ap (λ (m : Sat). m.0.issued) n.2)) (Contains-append_right c.args.seat.now.me.0.issued (c.len-line.result ∷ []) c.len-line.result (contains_here c.len-line.result [])) in
     (subst (Contains c.issue_next.new.seat.me.0.issued) k has, subst (λ j. j < length (graph_of c.args.self.now).lines) k (omega (arith, c.if-line-lines.false, c.lines-lines.ensures.number, ap (λ (g : Rattle.graph_terms.specs.Graph.GraphValue). length g.lines) c.graph.ensures.graph)))
 
 pub returns-then-issue_next-clause-grown : goal.returns-then-issue_next-clause-grown

@@ -4,7 +4,7 @@ use Rattle.event_table.specs.declared.handle.Handle.{Handle}
 use Rattle.std.proofs.lemmas.List.Elements.{Contains-append_right}
 use Rattle.shared_events.specs.Seats.{HasSeen}
 use Rattle.shared_events.specs.Views.{handle_of, made_by, lists, shape_of, IsFull, GoesRound}
-use Rattle.event_table.proofs.Members.{Contains-head}
+use Rattle.basics.proofs.ListFacts.{contains_here}
 use Rattle.run_words.specs.Words.{graph_of, events_of}
 use Rattle.run_words.specs.declared.content.Desk.{Desk}
 use Rattle.run_words.specs.Rule.{IsTray}
@@ -37,7 +37,7 @@ returns-in-Some-clause-tray c =
     let items = c.push_within.ensures.items ∙ ap (λ (h : Handle). c.args.desk.now.handles.items ++ h ∷ []) c.handle.ensures in
     let d' : Desk = record { maker = c.create.new.maker; handles = c.push_within.new.handles; seat = c.see.new.seat; waiters = c.args.desk.now.waiters } in
     let made = s.1.0 ∙ ap (λ (h : Handle). made_by c.args.desk.now.maker ++ h ∷ []) (sym same) in
-    let seen : HasSeen (lists c.see.new.seat) h = record { seen = inr (subst (λ (l : List Handle). Contains l h) (sym c.see.ensures.more_seen) (Contains-append_right (lists c.args.desk.now.seat).seen _ h (subst (λ (k : Handle). Contains (c.see.result ∷ []) k) (c.see.ensures.handle ∙ sym same) (Contains-head c.see.result [])))) } in
+    let seen : HasSeen (lists c.see.new.seat) h = record { seen = inr (subst (λ (l : List Handle). Contains l h) (sym c.see.ensures.more_seen) (Contains-append_right (lists c.args.desk.now.seat).seen _ h (subst (λ (k : Handle). Contains (c.see.result ∷ []) k) (c.see.ensures.handle ∙ sym same) (contains_here c.see.result [])))) } in
     subst (λ (l : List Handle). IsTray (events_of c.args.self.now) (length (graph_of c.args.self.now).lines) l d') (sym items)
     (tray_more (events_of c.args.self.now) (length (graph_of c.args.self.now).lines) c.args.desk.now.handles.items c.args.desk.now d' h c.requires.tray d.maker made items c.push_within.ensures.capacity c.see.ensures.at c.see.ensures.kept seen (λ z. s.3 (sym same ∙ z)) refl)
 

@@ -1,7 +1,7 @@
 use Rattle.std.proofs.Common.{ℕ, List, [], ◌∷◌, inl, inr, refl, sym, subst, ◌∙◌}
 use Rattle.std.specs.Prelude.{Contains}
 use Rattle.std.proofs.lemmas.List.Elements.{Contains-append_right}
-use Rattle.event_table.proofs.Members.{Contains-head}
+use Rattle.basics.proofs.ListFacts.{contains_here}
 use Rattle.shared_events.specs.Views.{lists, number_of}
 use Rattle.event_table.specs.declared.handle.Handle.{Handle}
 use Rattle.run_words.specs.Standing.{HasWaiter}
@@ -23,7 +23,7 @@ returns-in-Placed-clause-tray c = tray_same _ _ c.args.desk.now.handles.items c.
 pub returns-in-Placed-clause-told : goal.returns-in-Placed-clause-told
 returns-in-Placed-clause-told c =
     inl (subst (λ (l : List (ℕ × Handle)). Contains l (number_of c.args.waiter, c.args.handle)) (sym c.in-Placed.ensures.told.1)
-    (Contains-append_right (lists c.join.new.seat).placed ((number_of c.args.waiter, c.args.handle) ∷ []) (number_of c.args.waiter, c.args.handle) (Contains-head {A = ℕ × Handle} (number_of c.args.waiter, c.args.handle) [])))
+    (Contains-append_right (lists c.join.new.seat).placed ((number_of c.args.waiter, c.args.handle) ∷ []) (number_of c.args.waiter, c.args.handle) (contains_here {X = ℕ × Handle} (number_of c.args.waiter, c.args.handle) [])))
 
 pub returns-in-Placed-clause-others : goal.returns-in-Placed-clause-others
 returns-in-Placed-clause-others c = λ k ne. refl
