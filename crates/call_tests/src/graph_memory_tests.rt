@@ -14,7 +14,7 @@ use graph_terms::verb::{Line, Verb};
 use index_spaces::NoMemory;
 use index_spaces::column::Column;
 use index_spaces::space::{Space, SpaceFault};
-use instances::Homes;
+use line_effects::homes::Homes;
 use plain_eval::evaluation::eval;
 use race_check::check;
 use race_check::checked::CheckRefusal;

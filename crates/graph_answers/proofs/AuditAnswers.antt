@@ -9,7 +9,7 @@ use Rattle.graph_reader.specs.Text.{GraphText}
 use Rattle.graph_reader.specs.Laws.{OneReading}
 use Rattle.realm_audit.specs.Parts.{graph_bytes, trace_bytes}
 use Rattle.graph_reader.specs.FirstFault.{line_count}
-use Rattle.realm_trace.specs.Text.{trace_text}
+use Rattle.realm_audit.specs.Text.{trace_text}
 use Rattle.realm_io.specs.SinkState.{SinkState}
 use Rattle.realm_io.specs.Written.{Wrote}
 use Rattle.realm_audit.specs.Reading.{TextTells, AreLines}

@@ -12,7 +12,7 @@ use Rattle.graph_meaning.specs.Evaluation.{eval_end, outcome, order, Unbroken}
 use Rattle.command_line.specs.declared.request.Action.{Action}
 use Rattle.command_line.specs.declared.request.Action.TheVariants.{Run, Check, Eval, Make, Audit, Timeline, Upgrade, Session}
 use Rattle.command_line.specs.declared.request.Request.{Request}
-use Rattle.realm_trace.specs.Text.{trace_text}
+use Rattle.realm_audit.specs.Text.{trace_text}
 use Rattle.realm_timeline.specs.Timeline.{TimelineValue}
 use Rattle.realm_timeline.specs.declared.slot.Slot.{Slot}
 use Rattle.realm_timeline.specs.Plan.{IsPlan, IsValid, IsGreedy, plan_length, total_cost}

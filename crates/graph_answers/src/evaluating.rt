@@ -12,8 +12,8 @@ use graph_terms::outcome::Outcome;
 use plain_eval::evaluation::eval;
 use program_io::flush;
 use race_check::checked::Checked;
+use realm_audit::put_trace;
 use realm_io::{Sink, WriteFault, put};
-use realm_trace::put_trace;
 use run_report::put_evaluation;
 use std::alloc::Global;
 

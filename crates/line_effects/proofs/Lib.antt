@@ -2,3 +2,5 @@ pub mod EffectFacts
 pub mod MadeFacts
 pub mod MoveFacts
 pub mod MovingFacts
+pub mod HomesFacts
+pub mod PointWrites

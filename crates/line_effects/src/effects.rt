@@ -5,7 +5,7 @@ ghost use Rattle.index_spaces.specs.Held.{held_at};
 ghost use Rattle.graph_meaning.specs.Effect.{Cells, effect, cells_after};
 ghost use Rattle.line_effects.specs.Moved.{moves, HeldShow};
 
-use copy_engine::{copy, fill, reduce};
+use crate::copies::{copy, fill, reduce};
 use graph_meaning::held_cells::columns_of_changes;
 use graph_meaning::line_laws::{accesses_fit, columns_differ};
 use graph_model::graph::Graph;

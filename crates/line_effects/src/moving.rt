@@ -5,11 +5,11 @@ ghost use Rattle.index_spaces.specs.Held.{held_at, HoldsOtherwise};
 ghost use Rattle.graph_terms.specs.Graph.{columns};
 ghost use Rattle.line_effects.specs.Moved.{moves, AreMoved, AreBack};
 
+use crate::homes::Homes;
 use graph_meaning::line_laws::{accesses_fit, columns_differ};
 use graph_model::graph::Graph;
 use graph_terms::limits::MOST_ACCESSES;
 use index_spaces::held::Held;
-use instances::Homes;
 
 /// The column of this number among those that a line moves.
 pub fn moved_column(graph: &Graph, line: u32, k: u32) -> Option<u32>

@@ -13,7 +13,7 @@ use Rattle.graph_meaning.specs.LineLaws.{AccessesFit}
 use Rattle.graph_meaning.specs.Effect.{Cells, effect, cells_after}
 use Rattle.graph_meaning.specs.Evaluation.{column_of}
 use Rattle.graph_meaning.specs.Laws.{ChangesWithinAccesses}
-use Rattle.instances.specs.Homes.{all_home}
+use Rattle.line_effects.specs.Homes.{all_home}
 use Rattle.line_effects.specs.Moved.{moves, HeldShow, AreMoved, AreBack}
 use Rattle.line_effects.proofs.MoveFacts.{move_of, move_known}
 use Rattle.plain_eval.proofs.CellFacts.{other_cells, map_agree}

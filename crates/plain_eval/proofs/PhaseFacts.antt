@@ -26,7 +26,7 @@ use Rattle.graph_terms.specs.Fits.{IsGraph}
 use Rattle.graph_meaning.specs.LineLaws.{PhasesFit}
 use Rattle.graph_meaning.specs.Evaluation.{eval_end, combined, arrival_value, reduced_with, phase_value_by, phase_value, steps_after, advance_by, lowest_ready, step_of, Step, evaluation, order, outcome, answer_of, column_of, cells_of}
 use Rattle.graph_meaning.specs.Effect.{Cells}
-use Rattle.instances.specs.Homes.{all_home}
+use Rattle.line_effects.specs.Homes.{all_home}
 use Rattle.plain_eval.specs.Phases.{done_barrier_by, done_barrier, first_reduction, reduction_after, with_arrival}
 use Rattle.plain_eval.specs.declared.phases.Reduction.{Reduction}
 

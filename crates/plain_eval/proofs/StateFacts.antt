@@ -21,7 +21,7 @@ use Rattle.graph_meaning.specs.Laws.{EdgesBetweenLines}
 use Rattle.graph_meaning.specs.Effect.{zero_cells, Effect, effect, cells_after}
 use Rattle.graph_meaning.specs.Evaluation.{Step, eval_end, end_in, has_ended, cells_of, cancels, is_cancelled, step_by, step_of, advance_by, advance}
 use Rattle.plain_eval.specs.Waiting.{open_edges, and_ended, is_free, IsWaiting, IsFree}
-use Rattle.instances.specs.Homes.{all_home}
+use Rattle.line_effects.specs.Homes.{all_home}
 use Rattle.plain_eval.specs.State.{IsState}
 use Rattle.plain_eval.specs.declared.state.State.{State}
 use Rattle.plain_eval.proofs.CellFacts.{cells_after-append}

@@ -5,7 +5,7 @@ use Rattle.std.specs.Ordering.{nat_cmp}
 use Rattle.basics.specs.Lists.{numbers_below}
 use Rattle.graph_terms.specs.Graph.{GraphValue}
 use Rattle.graph_meaning.specs.Evaluation.{Step, end_in, has_ended, cells_of}
-use Rattle.instances.specs.Homes.{all_home}
+use Rattle.line_effects.specs.Homes.{all_home}
 use Rattle.plain_eval.specs.Waiting.{IsWaiting}
 use Rattle.plain_eval.specs.declared.state.State.{State}
 

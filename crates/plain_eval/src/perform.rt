@@ -3,14 +3,14 @@
 ghost use Rattle.std.specs.Prelude.{◌≡◌, ◌<◌, length};
 ghost use Rattle.graph_meaning.specs.Effect.{Cells, effect, cells_after};
 ghost use Rattle.graph_meaning.specs.Evaluation.{made_by};
-ghost use Rattle.instances.specs.Homes.{all_home};
+ghost use Rattle.line_effects.specs.Homes.{all_home};
 
 use graph_meaning::laws::changes_within_accesses;
 use graph_meaning::line_laws::accesses_fit;
 use graph_model::graph::Graph;
 use graph_terms::outcome::Verdict;
-use instances::Homes;
 use line_effects::effects::apply;
+use line_effects::homes::Homes;
 use line_effects::moving::{give_columns, take_columns};
 
 /// Applies the effect of a line to the columns.

@@ -5,7 +5,7 @@ ghost use Rattle.basics.specs.Lists.{numbers_below};
 ghost use Rattle.graph_terms.specs.declared.verb.Edge.{Edge};
 ghost use Rattle.graph_meaning.specs.Evaluation.{Step, advance, end_in, is_cancelled, step_of, cells_of};
 ghost use Rattle.graph_meaning.specs.Effect.{cells_after};
-ghost use Rattle.instances.specs.Homes.{all_home};
+ghost use Rattle.line_effects.specs.Homes.{all_home};
 ghost use Rattle.plain_eval.specs.State.{IsState};
 
 use crate::perform::perform;
@@ -15,7 +15,7 @@ use graph_model::graph::Graph;
 use graph_terms::outcome::{End, Verdict};
 use index_spaces::NoMemory;
 use index_spaces::room::push;
-use instances::Homes;
+use line_effects::homes::Homes;
 use line_effects::passing::cancels;
 use std::alloc::Global;
 

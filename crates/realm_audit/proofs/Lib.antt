@@ -11,3 +11,4 @@ pub mod Verdicts
 pub mod VerbReads
 pub mod InputParts
 pub mod NamedLines
+pub mod WrittenItems

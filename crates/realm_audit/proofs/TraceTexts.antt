@@ -8,7 +8,7 @@ use Rattle.graph_terms.specs.Graph.{GraphValue}
 use Rattle.graph_terms.specs.Fits.{IsGraph}
 use Rattle.graph_terms.specs.Name.{is_name}
 use Rattle.graph_terms.specs.Spelling.{line_name}
-use Rattle.realm_trace.specs.Text.{at_text, at_texts, trace_text}
+use Rattle.realm_audit.specs.Text.{at_text, at_texts, trace_text}
 use Rattle.realm_audit.specs.Reading.{AreLines, has_newline, IsFirstLine, front, BeginsNoItem, BeginsText, IsTraceFault, IsNoText, TextTells}
 use Rattle.realm_audit.proofs.LineNames.{is_spelled, line_name_one_line, one_line_named}
 use Rattle.realm_audit.proofs.Fronts.{same_line, past_line, shared_line, some_bytes, newlines, front_within}

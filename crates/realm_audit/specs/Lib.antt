@@ -2,3 +2,5 @@ pub mod Reading
 pub mod Parts
 pub mod Lawful
 pub mod Prefix
+pub mod Laws
+pub mod Text

@@ -4,7 +4,7 @@ use Rattle.std.specs.List.{list_any}
 use Rattle.graph_terms.specs.Graph.{GraphValue}
 use Rattle.graph_terms.specs.Fits.{IsGraph}
 use Rattle.graph_terms.specs.Spelling.{line_name}
-use Rattle.realm_trace.specs.Text.{at_text, trace_text}
+use Rattle.realm_audit.specs.Text.{at_text, trace_text}
 use Rattle.realm_audit.specs.declared.reading.TraceRefusal.{TraceRefusal}
 use Rattle.realm_audit.specs.declared.reading.TraceRefusal.TheVariants.{Line, NoMemory}
 

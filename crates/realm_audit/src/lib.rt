@@ -6,12 +6,15 @@ mod ends;
 mod faults;
 pub mod input_parts;
 pub mod lawful;
+pub mod laws;
 mod prefix;
 pub mod reading;
 pub mod refusal;
 mod sections;
+mod writing;
 
 pub use input_parts::parts;
 pub use lawful::audit;
 pub use reading::{TraceRefusal, read_trace};
 pub use refusal::AuditRefusal;
+pub use writing::put_trace;

@@ -2,7 +2,7 @@
 
 ghost use Rattle.std.specs.Prelude.{◌≡◌, ℕ, List, ◌<◌, ◌^◌, ◌++◌, false, length, IfOk, IfErr, MatchOption};
 ghost use Rattle.graph_terms.specs.Spelling.{line_name};
-ghost use Rattle.realm_trace.specs.Text.{at_text, trace_text};
+ghost use Rattle.realm_audit.specs.Text.{at_text, trace_text};
 ghost use Rattle.realm_audit.specs.declared.reading.TraceRefusal.{TraceRefusal};
 ghost use Rattle.realm_audit.specs.Reading.{AreLines, has_newline, IsFirstLine, BeginsNoItem, IsRefusal, TextTells};
 

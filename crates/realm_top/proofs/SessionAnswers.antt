@@ -17,7 +17,7 @@ use Rattle.session_run.specs.Linked.{LinkedGraph, linked}
 use Rattle.session_run.specs.Laws.{OneEnd}
 use Rattle.session_run.specs.Running.{linked_of, slots_needed}
 use Rattle.session_run.specs.Session.{CanRun, Stops}
-use Rattle.session_report.specs.Report.{session_report}
+use Rattle.session_run.specs.Report.{session_report}
 use Rattle.graph_answers.specs.declared.status.Status.{Status}
 use Rattle.graph_answers.specs.declared.status.Status.TheVariants.{Done, Unread, Unfit, WriteFault, NoMemory, Slots, TooLong}
 use Rattle.graph_answers.specs.Delivered.{Delivers, IsAnswered}

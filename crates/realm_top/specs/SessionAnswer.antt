@@ -12,7 +12,7 @@ use Rattle.session_run.specs.declared.session.RunFault.TheVariants as fault
 use Rattle.session_run.specs.Linked.{LinkedGraph, linked}
 use Rattle.session_run.specs.Running.{slots_needed}
 use Rattle.session_run.specs.Session.{CanRun, Stops}
-use Rattle.session_report.specs.Report.{session_report}
+use Rattle.session_run.specs.Report.{session_report}
 use Rattle.realm_io.specs.SinkState.{SinkState}
 use Rattle.graph_answers.specs.declared.status.Status.{Status}
 use Rattle.graph_answers.specs.declared.status.Status.TheVariants.{Done, Unread, Unfit, Slots, TooLong}

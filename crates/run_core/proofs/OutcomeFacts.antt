@@ -21,7 +21,7 @@ use Rattle.graph_meaning.specs.Evaluation.{answer_of, column_of, outcome}
 use Rattle.graph_meaning.specs.Trace.{IsLawful}
 use Rattle.event_table.specs.declared.handle.Handle.{Handle}
 use Rattle.event_table.specs.EventMap.{answer, fresh, no_event}
-use Rattle.instances.specs.Homes.{all_home}
+use Rattle.line_effects.specs.Homes.{all_home}
 use Rattle.run_state.specs.Run.{Home, Had, Run, stage_at, time_at, place_at, end_so_far}
 use Rattle.run_state.specs.Start.{first_value}
 use Rattle.run_state.specs.Quiet.{Quiet, ByTimes, phase_so_far_by, phase_so_far, cells_at}

@@ -13,7 +13,7 @@ ghost use Rattle.run_core.specs.Steps.{HasColumns, IsFirstOut};
 use graph_model::graph::Graph;
 use graph_terms::limits::MOST_ACCESSES;
 use index_spaces::held::Held;
-use instances::Homes;
+use line_effects::homes::Homes;
 use line_effects::moving;
 use line_effects::moving::moved_column;
 

@@ -14,7 +14,7 @@ use graph_meaning::laws::needs_are_one;
 use graph_model::graph::Graph;
 use index_spaces::NoMemory;
 use index_spaces::room::{filled, with_room};
-use instances::Homes;
+use line_effects::homes::Homes;
 use run_state::laws::{start_is_at_rest, start_is_sound};
 use std::alloc::Global;
 use std::marker::Model;

@@ -9,7 +9,7 @@ use Rattle.index_spaces.specs.Column.{ColumnValue}
 use Rattle.graph_terms.specs.Graph.{GraphValue, columns}
 use Rattle.graph_meaning.specs.Effect.{zero_cells}
 use Rattle.graph_meaning.specs.Evaluation.{column_of}
-use Rattle.instances.specs.Homes.{all_home}
+use Rattle.line_effects.specs.Homes.{all_home}
 use Rattle.run_words.specs.Preparing.{AreOut, AreOutBelow}
 
 pub none_out : (g : GraphValue) (homes : List (Option ColumnValue)) → homes ≡ all_home g zero_cells → AreOutBelow g 0 homes

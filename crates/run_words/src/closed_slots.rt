@@ -19,7 +19,7 @@ use crate::content::Content;
 use atomic_table::Closed;
 use graph_model::graph::Graph;
 use index_spaces::column::Column;
-use instances::Homes;
+use line_effects::homes::Homes;
 use shared_events::{Events, Seat};
 use std::alloc::Global;
 

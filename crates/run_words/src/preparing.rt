@@ -5,7 +5,7 @@ ghost use Rattle.std.specs.Vec.{vec_capacity};
 ghost use Rattle.index_spaces.specs.Column.{ColumnValue};
 ghost use Rattle.graph_meaning.specs.Effect.{zero_cells};
 ghost use Rattle.graph_terms.specs.Graph.{columns as graph_columns};
-ghost use Rattle.instances.specs.Homes.{all_home};
+ghost use Rattle.line_effects.specs.Homes.{all_home};
 ghost use Rattle.run_state.specs.Start.{first_value};
 ghost use Rattle.shared_events.specs.declared.events.Events.{Events as TheEvents};
 ghost use Rattle.shared_events.specs.Views.{shape_of, IsAt as IsEventsAt, IsSetOf, IsWaiterOf, number_of, taken_of, size_of as set_size};
@@ -28,7 +28,7 @@ use graph_model::graph::Graph;
 use graph_terms::verb::Verb;
 use index_spaces::NoMemory;
 use index_spaces::column::Column;
-use instances::Homes;
+use line_effects::homes::Homes;
 use shared_events::{Events, Seat, Waiter, WaiterSet};
 use std::alloc::{AllocError, Global};
 

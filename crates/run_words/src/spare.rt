@@ -2,14 +2,14 @@
 
 ghost use Rattle.std.specs.Prelude.{◌≡◌, ◌≤◌, IfOk};
 ghost use Rattle.graph_meaning.specs.Effect.{zero_cells};
-ghost use Rattle.instances.specs.Homes.{all_home};
+ghost use Rattle.line_effects.specs.Homes.{all_home};
 ghost use Rattle.run_words.specs.Spare.{IsSpare};
 
 use checked_graph::Checked;
 use event_table::EventTable;
 use graph_terms::lists::ValueList;
 use index_spaces::NoMemory;
-use instances::Homes;
+use line_effects::homes::Homes;
 use run_core::{Core, LAST_GEN, StateList};
 use std::alloc::Global;
 

@@ -7,3 +7,4 @@ pub mod OneEnds
 pub mod Recording
 pub mod Refusals
 pub mod Sequence
+pub mod EventTexts

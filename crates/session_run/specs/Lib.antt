@@ -3,3 +3,4 @@ pub mod Laws
 pub mod Linked
 pub mod Running
 pub mod Session
+pub mod Report

@@ -4,9 +4,11 @@
 mod ended;
 pub mod laws;
 mod linking;
+mod report;
 mod running;
 mod session;
 
 pub use ended::Ended;
+pub use report::put_session;
 pub use running::RanGraph;
 pub use session::{RunFault, UnfitGraph, run_session};

@@ -25,7 +25,7 @@ use graph_terms::lists::ValueList;
 use graph_terms::outcome::End;
 use graph_terms::verb::Verb;
 use index_spaces::room::push_within;
-use instances::Homes;
+use line_effects::homes::Homes;
 
 /// How far a line has come, as a core keeps it.
 #[tactic(auto, unfolding(crate::specs::Resumed::progress_by))]

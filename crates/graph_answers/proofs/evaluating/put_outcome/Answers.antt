@@ -1,7 +1,7 @@
 use Rattle.std.proofs.Common.{[], sym, ap, subst}
 use Rattle.realm_io.specs.Written.{Writes}
 use Rattle.realm_io.proofs.WrittenLaws.{then_writes, stops, stopped_early}
-use Rattle.realm_trace.specs.Text.{trace_text}
+use Rattle.realm_audit.specs.Text.{trace_text}
 use Rattle.run_report.specs.Report.{evaluation_report}
 use Rattle.graph_answers.specs.Answer.{report_with, trace_part}
 use Rattle.graph_answers.proofs.evaluating.put_outcome.Goals as goal

@@ -1,5 +1,5 @@
 use Rattle.std.proofs.Common.{◌∙◌, ap, sym}
-use Rattle.instances.specs.Homes.{all_home}
+use Rattle.line_effects.specs.Homes.{all_home}
 use Rattle.graph_meaning.specs.Effect.{cells_after}
 use Rattle.line_effects.proofs.MadeFacts.{all_made}
 use Rattle.plain_eval.proofs.PerformFacts.{count_home, is_home, all_held, held_shown, still_held, all_back}

@@ -1,6 +1,6 @@
 use Rattle.std.proofs.Common.{◌≡◌, ◌++◌, length}
 use Rattle.std.specs.Prelude.{codes}
-use Rattle.realm_trace.specs.Text.{at_texts}
+use Rattle.realm_audit.specs.Text.{at_texts}
 use Rattle.realm_audit.specs.Reading.{AreLines}
 use Rattle.realm_audit.proofs.reading.read_trace.Given as goal
 

@@ -1,6 +1,6 @@
 use Rattle.std.specs.Prelude.{map}
 use Rattle.session_run.specs.Running.{linked_of}
-use Rattle.session_report.specs.Report.{session_report}
+use Rattle.session_run.specs.Report.{session_report}
 use Rattle.program_io.proofs.Public.{written_then_flushed}
 use Rattle.realm_top.proofs.sessions.put_ended.Goals as goal
 

@@ -6,7 +6,7 @@ use Rattle.graph_meaning.specs.Effect.{zero_cells}
 use Rattle.graph_terms.specs.Fits.{IsGraph}
 use Rattle.std.proofs.lemmas.List.{length-replicate}
 use Rattle.event_table.specs.EventMap.{fresh, unused}
-use Rattle.instances.specs.Homes.{all_home}
+use Rattle.line_effects.specs.Homes.{all_home}
 use Rattle.run_state.specs.Start.{first_value}
 use Rattle.run_core.specs.Core.{unissued, IsCore}
 use Rattle.run_core.specs.Kept.{shown_core}
