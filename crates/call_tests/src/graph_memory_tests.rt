@@ -6,11 +6,12 @@ ghost use Rattle.std.specs.Prelude.{◌≡◌, []};
 
 use graph_gen::make::make;
 use graph_model::graph::Graph;
-use graph_reader::{ReadRefusal, put_graph, read_graph};
+use graph_reader::{ReadRefusal, read_graph};
 use graph_terms::decl::Decl;
 use graph_terms::lists::{LineList, NameList};
 use graph_terms::name::Name;
 use graph_terms::verb::{Line, Verb};
+use graph_writer::put_graph;
 use index_spaces::NoMemory;
 use index_spaces::column::Column;
 use index_spaces::space::{Space, SpaceFault};

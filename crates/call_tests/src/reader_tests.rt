@@ -1,7 +1,8 @@
 //! Texts of graphs that are read and written back, each in its own format.
 
 use graph_model::graph::Graph;
-use graph_reader::{put_graph, read_graph};
+use graph_reader::read_graph;
+use graph_writer::put_graph;
 use realm_io::SureSink;
 use std::alloc::Global;
 use std::test::Fail;

@@ -6,7 +6,7 @@ use Rattle.std.proofs.lemmas.Option.{get_or_from_slice_get}
 use Rattle.graph_terms.specs.declared.verb.Line.{Line}
 use Rattle.graph_terms.specs.Graph.{GraphValue}
 use Rattle.graph_terms.specs.Spelling.{line_words}
-use Rattle.graph_reader.specs.Words.{pieces}
+use Rattle.graph_words.specs.Words.{pieces}
 use Rattle.graph_reader.specs.Laws.{StandsAt, OperationsStand, LinesStand, refused_line}
 use Rattle.graph_reader.proofs.TextLines.{lines_stand}
 use Rattle.explain_text.specs.Lines.{line_number, line_of}

@@ -9,7 +9,7 @@ use Rattle.std.proofs.lemmas.Option.{none-some, same_Some}
 use Rattle.std.proofs.lemmas.List.{take-map, drop-map, take_more, append-nil, length-drop, length-map, map-append, length-take, take_all, nil_from_length}
 use Rattle.std.proofs.lemmas.List.Elements.{Contains-push_cases}
 use Rattle.basics.specs.Words.{contents}
-use Rattle.graph_reader.specs.Words.{pieces}
+use Rattle.graph_words.specs.Words.{pieces}
 use Rattle.explain_text.specs.Named.{given_name, first_giving, named_text, named_texts, option_list, told_words}
 use Rattle.explain_text.specs.declared.naming.NamedWord.{NamedWord}
 use Rattle.explain_text.proofs.TextFacts.{then_put}

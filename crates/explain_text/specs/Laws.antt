@@ -5,8 +5,8 @@ use Rattle.graph_terms.specs.declared.verb.Line.{Line}
 use Rattle.graph_terms.specs.declared.why.Why.{Why}
 use Rattle.graph_terms.specs.Graph.{GraphValue}
 use Rattle.graph_terms.specs.Spelling.{line_words}
-use Rattle.graph_reader.specs.Words.{pieces}
-use Rattle.graph_reader.specs.Text.{GraphText}
+use Rattle.graph_words.specs.Words.{pieces}
+use Rattle.graph_words.specs.Text.{GraphText}
 use Rattle.graph_reader.specs.FirstFault.{IsLineFault, IsRestFault, FirstFault}
 use Rattle.graph_reader.specs.Laws.{refused_line}
 use Rattle.explain_text.specs.Lines.{line_number, line_of}

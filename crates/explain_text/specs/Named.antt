@@ -3,9 +3,8 @@ use Rattle.std.specs.Prelude.{◌≡◌, ℕ, zero, suc, is_some, ◌+◌, ◌-�
 use Rattle.std.specs.List.{slice_index_or}
 use Rattle.std.specs.Str.{bytes_eq}
 use Rattle.graph_terms.specs.declared.format.Format.{Format}
-use Rattle.graph_reader.specs.Words.{pieces}
-use Rattle.graph_reader.specs.Draft.{Place, NewName, SpaceName, LockName, BarrierName, UserName, PhaseName, AcquireName, EventName, Column}
-use Rattle.graph_reader.specs.FirstFault.{first_piece}
+use Rattle.graph_words.specs.Words.{pieces, first_piece}
+use Rattle.graph_words.specs.Draft.{Place, NewName, SpaceName, LockName, BarrierName, UserName, PhaseName, AcquireName, EventName, Column}
 use Rattle.refused_words.specs.Places.{place_at}
 use Rattle.explain_text.specs.declared.naming.NamedWord.{NamedWord}
 

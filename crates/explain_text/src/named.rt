@@ -3,7 +3,7 @@
 ghost use Rattle.std.specs.Prelude.{◌≡◌, ◌+◌, ◌<◌, ◌^◌, ◌==◌, length, false, MatchOption};
 ghost use Rattle.std.specs.List.{list_any};
 ghost use Rattle.basics.specs.Words.{contents};
-ghost use Rattle.graph_reader.specs.Words.{pieces};
+ghost use Rattle.graph_words.specs.Words.{pieces};
 ghost use Rattle.explain_text.specs.Named.{declares, given_by, given_name, first_giving};
 
 use crate::split::cut;

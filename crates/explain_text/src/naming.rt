@@ -2,8 +2,7 @@
 
 ghost use Rattle.std.specs.Prelude.{◌≡◌, ◌++◌, ◌<◌, length, map, option_map, Contains, IfOk, IfSome, OnOk};
 ghost use Rattle.basics.specs.Words.{contents};
-ghost use Rattle.graph_reader.specs.Words.{pieces};
-ghost use Rattle.graph_reader.specs.FirstFault.{first_piece};
+ghost use Rattle.graph_words.specs.Words.{pieces, first_piece};
 ghost use Rattle.refused_words.specs.Places.{place_value};
 ghost use Rattle.explain_text.specs.Named.{IsNamedWord, IsInside, name_in, told_new, told_word, told_words, third_of, over_word, space_word, place_text, below_text, named_by, named_text, named_texts, space_text};
 ghost use Rattle.explain_text.specs.declared.naming.NamedWord.{NamedWord};
@@ -11,9 +10,9 @@ ghost use Rattle.explain_text.specs.declared.naming.NamedWord.{NamedWord};
 use crate::named::first_giving;
 use crate::split::{back, cut, front};
 use crate::text::Text;
-use graph_reader::words::word;
 use graph_terms::format::Format;
 use graph_terms::table::Place;
+use graph_words::words::word;
 use index_spaces::NoMemory;
 use index_spaces::room::push;
 use refused_words::{WordPlace, place_at};

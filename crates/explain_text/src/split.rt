@@ -3,8 +3,8 @@
 ghost use Rattle.std.specs.Prelude.{◌≡◌, ◌==◌, false, take, drop, MatchOption, IfOk};
 ghost use Rattle.std.specs.List.{list_any};
 ghost use Rattle.basics.specs.Words.{contents};
-ghost use Rattle.graph_reader.specs.Cuts.{IsCut};
-ghost use Rattle.graph_reader.specs.Words.{pieces};
+ghost use Rattle.graph_words.specs.Cuts.{IsCut};
+ghost use Rattle.graph_words.specs.Words.{pieces};
 
 use index_spaces::NoMemory;
 use index_spaces::room::push;

@@ -9,8 +9,8 @@ use crate::lines::{put_by_number, put_line};
 use crate::split::front;
 use crate::text::Text;
 use graph_model::graph::Graph;
-use graph_reader::words::word;
 use graph_terms::why::Why;
+use graph_words::words::word;
 use index_spaces::NoMemory;
 use refused_words::Quantity;
 

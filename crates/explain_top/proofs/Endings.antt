@@ -7,7 +7,7 @@ use Rattle.graph_terms.specs.Graph.{GraphValue}
 use Rattle.graph_meaning.specs.Rules.{Accepted}
 use Rattle.graph_reader.specs.Laws.{OneReading}
 use Rattle.graph_reader.proofs.ReadSoFar.{first_fault}
-use Rattle.graph_reader.specs.Text.{GraphText}
+use Rattle.graph_words.specs.Text.{GraphText}
 use Rattle.realm_io.specs.Counts.{Rose}
 use Rattle.realm_io.specs.Told.{Lost}
 use Rattle.realm_io.specs.SinkState.{SinkState}

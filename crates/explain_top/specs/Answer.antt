@@ -15,8 +15,8 @@ use Rattle.graph_meaning.specs.Need.{IsNeed}
 use Rattle.graph_meaning.specs.Path.{Reached}
 use Rattle.graph_meaning.specs.Rules.{Accepted}
 use Rattle.graph_reader.specs.Reading.{IsUnreadBy}
-use Rattle.graph_reader.specs.Text.{GraphText}
-use Rattle.graph_reader.specs.Words.{pieces}
+use Rattle.graph_words.specs.Text.{GraphText}
+use Rattle.graph_words.specs.Words.{pieces}
 use Rattle.race_check.specs.NeedLine.{IsNeedLine}
 use Rattle.race_check.specs.Refusal.{IsRefusal}
 use Rattle.race_check.specs.declared.checked.CheckRefusal.{CheckRefusal}

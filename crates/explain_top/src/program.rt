@@ -3,7 +3,7 @@
 ghost use Rattle.std.specs.Prelude.{◌≡◌, ◌⊎◌, ℕ, ◌<◌, List, length, Some};
 ghost use Rattle.graph_terms.specs.Graph.{GraphValue};
 ghost use Rattle.graph_meaning.specs.Rules.{Accepted};
-ghost use Rattle.graph_reader.specs.Text.{GraphText};
+ghost use Rattle.graph_words.specs.Text.{GraphText};
 ghost use Rattle.realm_io.specs.Counts.{Rose};
 ghost use Rattle.explain_top.specs.Answer.{IsAnswer};
 ghost use Rattle.program_io.specs.Delivered.{Delivered, BrokenOff, too_long_text};

@@ -5,7 +5,7 @@ use Rattle.realm_io.specs.SinkState.{SinkState}
 use Rattle.graph_terms.specs.declared.outcome.Outcome.{Outcome}
 use Rattle.graph_terms.specs.Graph.{GraphValue, columns}
 use Rattle.graph_meaning.specs.Evaluation.{order, outcome, column_of}
-use Rattle.graph_reader.specs.Text.{GraphText}
+use Rattle.graph_words.specs.Text.{GraphText}
 use Rattle.command_line.specs.declared.request.Action.TheVariants.{Run, Eval}
 use Rattle.command_line.specs.declared.request.Request.{Request}
 use Rattle.task_flow.specs.Meaning.{flow_end, flow_cells}

@@ -6,7 +6,7 @@ use Rattle.graph_terms.specs.declared.format.Format.{Format}
 use Rattle.graph_terms.specs.declared.format.Format.TheVariants.{One, Two}
 use Rattle.graph_terms.specs.Graph.{GraphValue}
 use Rattle.graph_terms.specs.Spelling.{header, decls_text, lines_text}
-use Rattle.graph_reader.specs.Text.{closing, GraphText}
+use Rattle.graph_words.specs.Text.{closing, GraphText}
 use Rattle.task_flow.specs.Flow.{IsFlow, uses_columns}
 use Rattle.flow_top.specs.FlowText.{flow_header, FlowText, AreFlowLines}
 

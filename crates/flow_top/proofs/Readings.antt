@@ -5,7 +5,7 @@ use Rattle.graph_terms.specs.declared.format.Format.TheVariants.{One}
 use Rattle.graph_terms.specs.Graph.{GraphValue}
 use Rattle.graph_terms.specs.Spelling.{header}
 use Rattle.graph_meaning.specs.Rules.{Accepted}
-use Rattle.graph_reader.specs.Text.{GraphText}
+use Rattle.graph_words.specs.Text.{GraphText}
 use Rattle.graph_reader.specs.Laws.{OneReading}
 use Rattle.task_flow.specs.Construction.{written}
 use Rattle.task_flow.specs.Written.{MeansFlow}

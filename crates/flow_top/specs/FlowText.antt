@@ -5,16 +5,16 @@ use Rattle.graph_terms.specs.declared.table.Kind.{Kind}
 use Rattle.graph_terms.specs.declared.table.Kind.TheVariants as kinds
 use Rattle.graph_terms.specs.declared.table.TheConstants.{KINDS}
 use Rattle.graph_terms.specs.Table.{kind_words}
-use Rattle.graph_reader.specs.Draft.{same_word, form_of, has_on, is_of_form}
+use Rattle.graph_words.specs.Draft.{same_word, form_of, has_on, is_of_form}
 use Rattle.graph_reader.specs.Reading.{is_operation}
-use Rattle.graph_reader.specs.Words.{pieces}
+use Rattle.graph_words.specs.Words.{pieces}
 use Rattle.graph_terms.specs.declared.format.Format.TheVariants.{One}
 use Rattle.graph_terms.specs.declared.verb.Line.{Line}
 use Rattle.graph_terms.specs.declared.why.Why.{Why}
 use Rattle.graph_terms.specs.declared.why.Why.TheVariants as why
 use Rattle.graph_terms.specs.Graph.{GraphValue}
 use Rattle.graph_terms.specs.Spelling.{header}
-use Rattle.graph_reader.specs.Text.{GraphText}
+use Rattle.graph_words.specs.Text.{GraphText}
 use Rattle.graph_reader.specs.FirstFault.{FirstFault}
 use Rattle.task_flow.specs.Flow.{IsFlow, uses_columns}
 use Rattle.flow_top.specs.declared.FlowFault.{FlowFault}

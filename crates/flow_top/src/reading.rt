@@ -11,10 +11,10 @@ ghost use Rattle.graph_reader.specs.FirstFault.{FirstFault};
 use crate::FlowFault;
 use crate::unlike_flow::is_line_unlike_flow;
 use graph_model::graph::Graph;
-use graph_reader::words::{split, word};
 use graph_reader::{ReadRefusal, read_graph};
 use graph_terms::verb::{Line, Verb};
 use graph_terms::why::Why;
+use graph_words::words::{split, word};
 use index_spaces::NoMemory;
 use std::alloc::Global;
 

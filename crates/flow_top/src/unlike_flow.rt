@@ -3,12 +3,12 @@
 ghost use Rattle.basics.specs.Words.{contents};
 ghost use Rattle.std.specs.Prelude.{◌≡◌, IfOk};
 ghost use Rattle.graph_reader.specs.Reading.{is_operation};
-ghost use Rattle.graph_reader.specs.Words.{pieces};
+ghost use Rattle.graph_words.specs.Words.{pieces};
 ghost use Rattle.flow_top.specs.FlowText.{is_event_kind, waits, is_merge, is_verb_unlike_flow, is_unlike_flow};
 
-use graph_reader::words::{behind, has_on, kind_of, split, word};
 use graph_terms::format::Format;
 use graph_terms::table::Kind;
+use graph_words::words::{behind, has_on, kind_of, split, word};
 use index_spaces::NoMemory;
 use std::alloc::Global;
 

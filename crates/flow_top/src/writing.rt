@@ -1,11 +1,11 @@
 //! The text of a graph, in memory.
 
 ghost use Rattle.std.specs.Prelude.{◌≡◌, IfOk};
-ghost use Rattle.graph_reader.specs.Text.{text};
+ghost use Rattle.graph_words.specs.Text.{text};
 
 use graph_model::graph::Graph;
-use graph_reader::put_graph;
 use graph_terms::limits::MAX_TEXT;
+use graph_writer::put_graph;
 use index_spaces::NoMemory;
 use index_spaces::room::with_room;
 use realm_io::TextSink;

@@ -6,7 +6,7 @@ use Rattle.command_line.specs.declared.request.Request.{Request}
 use Rattle.graph_answers.specs.declared.status.Status.{Status}
 use Rattle.graph_answers.specs.declared.status.Status.TheVariants.{Done, Unread, Unfit, Slots, TooLong}
 use Rattle.realm_io.specs.Written.{Wrote, Stopped}
-use Rattle.graph_reader.specs.Text.{GraphText}
+use Rattle.graph_words.specs.Text.{GraphText}
 use Rattle.graph_reader.specs.Laws.{OneReading}
 use Rattle.race_check.specs.Refusal.{IsRefusal}
 use Rattle.race_check.specs.declared.checked.CheckRefusal.{CheckRefusal}

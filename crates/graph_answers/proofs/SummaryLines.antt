@@ -5,7 +5,7 @@ use Rattle.std.specs.List.{flat_map}
 use Rattle.graph_terms.specs.Graph.{GraphValue}
 use Rattle.graph_terms.specs.declared.outcome.End.TheVariants.{Done, Faulted, Cancelled, Waiting}
 use Rattle.graph_terms.specs.declared.outcome.Outcome.{Outcome}
-use Rattle.graph_reader.proofs.WrittenLists.{plain_text}
+use Rattle.graph_writer.proofs.WrittenLists.{plain_text}
 use Rattle.graph_answers.specs.declared.summary.Count.{Count}
 use Rattle.graph_answers.specs.Texts.{ended_so, cell_sum, made_text}
 

@@ -1,7 +1,7 @@
 -- What follows for the answers of `upgrade`.
 use Rattle.std.proofs.Common.{◌≡◌, ℕ, ◌≤◌, List, length, refl, ap, inr}
 use Rattle.graph_terms.specs.Graph.{GraphValue, upgraded}
-use Rattle.graph_reader.specs.Text.{GraphText, text}
+use Rattle.graph_words.specs.Text.{GraphText, text}
 use Rattle.graph_reader.specs.Laws.{OneReading}
 use Rattle.realm_io.specs.SinkState.{SinkState}
 use Rattle.graph_answers.specs.declared.status.Status.{Status}

@@ -19,7 +19,7 @@ use Rattle.realm_timeline.specs.Plan.{IsPlan, IsValid, IsGreedy, plan_length, to
 use Rattle.realm_timeline.specs.Chains.{IsCritical, chain_cost}
 use Rattle.realm_timeline.specs.Laws.{AcquiresNone}
 use Rattle.realm_timeline.specs.Text.{timeline_text}
-use Rattle.graph_reader.specs.Text.{GraphText, text}
+use Rattle.graph_words.specs.Text.{GraphText, text}
 use Rattle.graph_answers.specs.declared.status.Status.{Status}
 use Rattle.graph_answers.specs.declared.status.Status.TheVariants.{Done, Unread, Unfit, Slots, TooLong}
 use Rattle.program_io.specs.Delivered.{Delivered, too_long_text}

@@ -4,7 +4,7 @@ use Rattle.graph_terms.specs.Graph.{GraphValue}
 use Rattle.graph_terms.specs.declared.limits.TheConstants.{MAX_TEXT}
 use Rattle.graph_meaning.specs.Rules.{Accepted}
 use Rattle.graph_meaning.specs.Trace.{IsLawful}
-use Rattle.graph_reader.specs.Text.{GraphText}
+use Rattle.graph_words.specs.Text.{GraphText}
 use Rattle.realm_audit.specs.Text.{trace_text}
 use Rattle.realm_audit.specs.Parts.{graph_bytes, trace_bytes}
 use Rattle.realm_audit.specs.Reading.{AreLines, IsNoText}

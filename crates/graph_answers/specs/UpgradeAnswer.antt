@@ -2,7 +2,7 @@
 use Rattle.std.specs.Prelude.{◌≡◌, ℕ, ◌<◌, ◌≤◌, List, length}
 use Rattle.graph_terms.specs.Graph.{GraphValue, upgraded}
 use Rattle.graph_terms.specs.declared.limits.TheConstants.{MAX_TEXT}
-use Rattle.graph_reader.specs.Text.{GraphText, text}
+use Rattle.graph_words.specs.Text.{GraphText, text}
 use Rattle.realm_io.specs.SinkState.{SinkState}
 use Rattle.graph_answers.specs.declared.status.Status.{Status}
 use Rattle.graph_answers.specs.declared.status.Status.TheVariants.{Done, Unread, TooLong}

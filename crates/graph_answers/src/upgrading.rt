@@ -1,15 +1,16 @@
 //! What is answered by the text of a graph: `upgrade` reads one, and writes it in format 2.
 
 ghost use Rattle.std.specs.Prelude.{◌≡◌, ◌≤◌, length};
-ghost use Rattle.graph_reader.specs.Text.{text};
+ghost use Rattle.graph_words.specs.Text.{text};
 ghost use Rattle.graph_answers.specs.Delivered.{Delivers, IsAnswered};
 ghost use Rattle.graph_answers.specs.UpgradeAnswer.{UpgradeAnswers};
 
 use crate::refusing::refuse;
 use crate::status::Status;
 use graph_model::graph::Graph;
-use graph_reader::{put_graph, read_graph};
+use graph_reader::read_graph;
 use graph_terms::limits::MAX_TEXT;
+use graph_writer::put_graph;
 use program_io::flush;
 use realm_io::Sink;
 use std::alloc::Global;

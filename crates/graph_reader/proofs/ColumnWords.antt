@@ -10,15 +10,15 @@ use Rattle.graph_terms.specs.Graph.{GraphValue, columns}
 use Rattle.graph_terms.specs.Names.{is_column_named}
 use Rattle.graph_terms.specs.Fits.{IsGraph, is_used}
 use Rattle.graph_terms.specs.declared.found.Found.{Found}
-use Rattle.graph_reader.specs.Words.{pieces, is_two_names, is_column}
-use Rattle.graph_reader.specs.Cuts.{two_pieces}
-use Rattle.graph_reader.specs.Draft.{Column, column_number_of}
-use Rattle.graph_reader.specs.FirstFault.{has_column, first_piece, is_inst_name}
+use Rattle.graph_words.specs.Words.{pieces, is_two_names, is_column, first_piece}
+use Rattle.graph_words.specs.Cuts.{two_pieces}
+use Rattle.graph_words.specs.Draft.{Column, column_number_of}
+use Rattle.graph_reader.specs.FirstFault.{has_column, is_inst_name}
 use Rattle.graph_reader.specs.Lookups.{column_place, named_pair, column_names, IsFound, is_found_inst}
 use Rattle.graph_reader.specs.Kinds.{Tells, column_seen}
-use Rattle.graph_reader.proofs.TextLists.{same_bytes, first_is}
+use Rattle.graph_words.proofs.TextLists.{same_bytes, first_is, within}
 use Rattle.graph_reader.proofs.GraphNames.{IsNamed, is_named, known_column}
-use Rattle.graph_reader.proofs.Owners.{within, no_position, position_any}
+use Rattle.graph_reader.proofs.Owners.{no_position, position_any}
 
 pair_by : (b : Bool) (p q r s : List ℕ) → cond {A = Option (List ℕ × List ℕ)} b (Some (p, q)) None ≡ Some (r, s) → (p ≡ r) × (q ≡ s)
 pair_by true p q r s h = let e = same_Some (p, q) (r, s) h in (ap (λ (x : List ℕ × List ℕ). x.0) e, ap (λ (x : List ℕ × List ℕ). x.1) e)

@@ -17,8 +17,8 @@ use Rattle.std.proofs.lemmas.Grind.{flat_map-append}
 use Rattle.std.proofs.lemmas.List.{length-map}
 use Rattle.graph_terms.specs.Name.{is_name}
 use Rattle.graph_terms.specs.Fits.{first_reason, repeats, is_used, decl_fault, is_beyond, with_decl}
-use Rattle.graph_reader.specs.Words.{pieces, count_of, value_of, intervals_of, ascend_from, is_fields}
-use Rattle.graph_reader.specs.Draft.{Draft, NewName, SpaceName, space_with, inst_with, lock_with, barrier_with, space_number}
+use Rattle.graph_words.specs.Words.{pieces, count_of, value_of, intervals_of, ascend_from, is_fields}
+use Rattle.graph_words.specs.Draft.{Draft, NewName, SpaceName, space_with, inst_with, lock_with, barrier_with, space_number}
 use Rattle.graph_reader.specs.FirstFault.{draft_tests, draft_fault, or_else, unlike, item_fault}
 use Rattle.index_spaces.specs.declared.space.SpaceFault.{SpaceFault}
 use Rattle.index_spaces.specs.declared.space.SpaceFault.TheVariants as spaces

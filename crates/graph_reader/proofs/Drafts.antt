@@ -8,12 +8,12 @@ use Rattle.graph_terms.specs.declared.why.Why.{Why}
 use Rattle.graph_terms.specs.Graph.{GraphValue}
 use Rattle.graph_terms.specs.Spelling.{column_name}
 use Rattle.graph_terms.specs.Fits.{first_reason, repeats}
-use Rattle.graph_reader.specs.Words.{pieces}
-use Rattle.graph_reader.specs.Draft.{Place, NewName, SpaceName, LockName, BarrierName, UserName, PhaseName, AcquireName, EventName, Column, Fields, Value, Times, Weight, Shared, Count, Intervals, Placed, is_own_word, Draft, number_in, column_number_of}
+use Rattle.graph_words.specs.Words.{pieces}
+use Rattle.graph_words.specs.Draft.{Place, NewName, SpaceName, LockName, BarrierName, UserName, PhaseName, AcquireName, EventName, Column, Fields, Value, Times, Weight, Shared, Count, Intervals, Placed, is_own_word, Draft, number_in, column_number_of}
 use Rattle.graph_reader.specs.FirstFault.{misnamed, unknown, twice, unlike, misnumbered, misordered, event_word, column_word, item_fault, or_else, draft_tests, draft_fault, is_empty}
-use Rattle.graph_reader.proofs.TextLists.{each_from_none, same_bytes}
+use Rattle.graph_words.proofs.TextLists.{each_from_none, same_bytes, each_fails, none_where_each_fails}
 use Rattle.graph_reader.proofs.WordFacts.{IsWord, AtLeast}
-use Rattle.graph_reader.proofs.GraphNames.{IsNamed, each_fails, none_where_each_fails}
+use Rattle.graph_reader.proofs.GraphNames.{IsNamed}
 use Rattle.graph_reader.proofs.Places.{spell, IsFine, FitsPlace, place_reads, IsNumbered, IsBounded, place_spelled}
 
 abbrev pub EachFine : GraphValue → List Placed → Type 0

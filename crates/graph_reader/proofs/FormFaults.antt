@@ -12,15 +12,15 @@ use Rattle.graph_terms.specs.declared.why.Why.TheVariants as why
 use Rattle.graph_terms.specs.Graph.{GraphValue}
 use Rattle.graph_terms.specs.Name.{is_name}
 use Rattle.graph_terms.specs.Fits.{repeats, first_reason, is_used, line_fault}
-use Rattle.graph_reader.specs.Draft.{Place, NewName, EventName, Placed, Draft, form_of, has_on, on_placed}
+use Rattle.graph_words.specs.Draft.{Place, NewName, EventName, Placed, Draft, form_of, has_on, on_placed, words_in}
 use Rattle.graph_reader.specs.FirstFault.{misnamed, twice, unknown, unlike, misnumbered, misordered, event_word, column_word, draft_tests, draft_fault, or_else, item_fault}
 use Rattle.graph_terms.specs.declared.table.Kind.{Kind}
 use Rattle.graph_terms.specs.declared.table.Place as table
 use Rattle.graph_terms.specs.declared.table.Place.TheVariants as places
 use Rattle.graph_terms.specs.Table.{kind_places}
-use Rattle.graph_reader.specs.Kinds.{kind_draft, words_in, kind_placed, form_placed, form_reason, column_words, kind_line, later_reason, AllTell, IsReading}
+use Rattle.graph_reader.specs.Kinds.{kind_draft, kind_placed, form_placed, form_reason, column_words, kind_line, later_reason, AllTell, IsReading}
 use Rattle.graph_reader.specs.declared.faults.Faults.{Faults}
-use Rattle.graph_reader.proofs.NameLists.{or_true}
+use Rattle.graph_words.proofs.NameLists.{or_true}
 use Rattle.graph_reader.proofs.Drafts.{placed_events}
 use Rattle.graph_reader.proofs.VerbForms.{no_events}
 

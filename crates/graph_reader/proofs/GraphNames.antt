@@ -1,8 +1,8 @@
 -- The names of a graph: each stands once, and is found again by its word.
-use Rattle.std.proofs.Common.{◌≡◌, ℕ, zero, suc, ◌<◌, Bool, true, false, cond, ◌&&◌, ◌||◌, List, [], ◌∷◌, ◌++◌, length, map, refl, sym, ◌∙◌, ap, subst, append_assoc, append-nil, arith}
-use Rattle.std.specs.Prelude.{Contains, Option, Some, None, is_some, position, bytes_eq, filter_map, flat_map, slice_get, unwrap_or}
+use Rattle.std.proofs.Common.{◌≡◌, ℕ, zero, suc, ◌<◌, Bool, true, false, ◌&&◌, ◌||◌, List, [], ◌∷◌, ◌++◌, length, map, refl, sym, ◌∙◌, ap, subst, append_assoc, append-nil, arith}
+use Rattle.std.specs.Prelude.{Contains, Option, Some, None, position, bytes_eq, filter_map, flat_map, slice_get, unwrap_or}
 use Rattle.std.specs.List.{list_any, AllByRecursion, cons_option}
-use Rattle.std.proofs.lemmas.Bool.{true≢false, or_parts, or_from, and_left, and_right, cond-false}
+use Rattle.std.proofs.lemmas.Bool.{or_parts, or_from, and_left, and_right}
 use Rattle.std.proofs.lemmas.Option.{none-some, same_Some}
 use Rattle.std.proofs.lemmas.List.{map-append}
 use Rattle.std.proofs.lemmas.List.Elements.{Contains-append_left, Contains-append_right}
@@ -10,28 +10,13 @@ use Rattle.graph_terms.specs.declared.format.Format.{Format}
 use Rattle.graph_terms.specs.declared.decl.Decl.{Decl}
 use Rattle.graph_terms.specs.declared.decl.Decl.TheVariants as decl
 use Rattle.graph_terms.specs.declared.verb.Line.{Line}
-use Rattle.graph_terms.specs.declared.why.Why.{Why}
 use Rattle.graph_terms.specs.Name.{is_name}
 use Rattle.graph_terms.specs.declared.decl.ColumnInfo.{ColumnInfo}
 use Rattle.graph_terms.specs.declared.decl.BarrierInfo.{BarrierInfo}
 use Rattle.graph_terms.specs.Graph.{GraphValue, decl_name, space_of, columns_of, lock_of, barrier_of, named_spaces, columns, locks, barriers}
-use Rattle.graph_terms.specs.Fits.{first_reason, repeats, names, is_used, decl_repeats, decl_tests, line_tests, IsDecl, DeclsFit, LinesFit, IsGraph}
+use Rattle.graph_terms.specs.Fits.{repeats, names, is_used, decl_repeats, decl_tests, line_tests, IsDecl, DeclsFit, LinesFit, IsGraph}
 use Rattle.basics.proofs.ListFacts.{passes_some, contains_map, contains_here, contains_there}
-use Rattle.graph_reader.proofs.TextLists.{same_bytes, bytes_same, any_left, any_append, each_contained, each_append, repeats_left, repeats_right, repeats_append, repeats_map, repeats_push, found_of, found_is, mapped_from}
-
--- the first reason is none
-no_first_by : (b : Bool) (w : Why) (ts : List (Bool × Why)) → cond b (Some w) (first_reason ts) ≡ None → (b ≡ false) × (first_reason ts ≡ None)
-no_first_by true w ts h = absurd (true≢false (ap is_some h))
-no_first_by false w ts h = (refl, h)
-
--- where no reason refuses, each test fails
-pub each_fails : (ts : List (Bool × Why)) → first_reason ts ≡ None → AllByRecursion (λ (t : Bool × Why). t.0 ≡ false) ts
-each_fails [] h = tt
-each_fails (t ∷ ts) h = let p = no_first_by t.0 t.1 ts h in (p.0, each_fails ts p.1)
-
-pub none_where_each_fails : (ts : List (Bool × Why)) → AllByRecursion (λ (t : Bool × Why). t.0 ≡ false) ts → first_reason ts ≡ None
-none_where_each_fails [] h = refl
-none_where_each_fails (t ∷ ts) h = cond-false t.0 (Some t.1) (first_reason ts) h.0 ∙ none_where_each_fails ts h.1
+use Rattle.graph_words.proofs.TextLists.{same_bytes, bytes_same, any_left, any_append, each_contained, each_append, repeats_left, repeats_right, repeats_append, repeats_map, repeats_push, found_of, found_is, mapped_from, each_fails}
 
 -- a declaration with names, no field twice
 abbrev pub IsNamedDecl : Decl → Type 0

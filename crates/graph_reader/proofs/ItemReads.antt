@@ -5,8 +5,8 @@ use Rattle.std.proofs.lemmas.Option.{same_Some}
 use Rattle.graph_terms.specs.declared.decl.Decl.{Decl}
 use Rattle.graph_terms.specs.declared.verb.Line.{Line}
 use Rattle.graph_terms.specs.Graph.{GraphValue}
-use Rattle.graph_reader.specs.Words.{pieces}
-use Rattle.graph_reader.specs.Draft.{Draft, draft}
+use Rattle.graph_words.specs.Words.{pieces}
+use Rattle.graph_words.specs.Draft.{Draft, draft}
 use Rattle.graph_reader.specs.FirstFault.{has_newline, first_line, words_fault}
 use Rattle.graph_reader.specs.declared.item.Item.{Item}
 use Rattle.graph_reader.specs.declared.item.ItemError.{ItemError}

@@ -1,6 +1,5 @@
 pub mod ExampleFaults
 pub mod WordLaws
-pub mod TextLists
 pub mod WordFacts
 pub mod GraphNames
 pub mod Places
@@ -12,19 +11,14 @@ pub mod LineSteps
 pub mod TextTells
 pub mod ReadSoFar
 pub mod Prefixes
-pub mod WholeText
 pub mod TextLines
 pub mod ExampleReadings
-pub mod CutBytes
-pub mod WordLists
 pub mod Owners
 pub mod ColumnWords
 pub mod FormFaults
-pub mod NameLists
-pub mod IntervalWords
 pub mod DeclFaults
 pub mod MergeFaults
 pub mod LineShapes
 pub mod ItemReads
-pub mod WrittenLists
 pub mod SeenWords
+pub mod PartLists

@@ -21,7 +21,7 @@ use Rattle.graph_terms.specs.declared.table.Kind.TheVariants as kinds
 use Rattle.graph_terms.specs.declared.table.TheConstants.{KINDS}
 use Rattle.graph_reader.specs.Kinds.{kind_draft, HasPlaces}
 use Rattle.graph_reader.specs.Reading.{open_fault, IsDeclRead, IsDeclOf, IsLineOf, IsWordsError, is_operation}
-use Rattle.graph_reader.specs.Draft.{Placed, Draft, draft, merge_with, decl_draft_after, form_of, form_draft, is_since, is_own_word, is_of_form, same_word, merge_draft, line_draft, decl_draft, space_draft, inst_draft, lock_draft, barrier_draft, space_with, inst_with, lock_with, barrier_with, op_of}
+use Rattle.graph_words.specs.Draft.{Placed, Draft, draft, merge_with, decl_draft_after, form_of, form_draft, is_since, is_own_word, is_of_form, same_word, merge_draft, line_draft, decl_draft, space_draft, inst_draft, lock_draft, barrier_draft, space_with, inst_with, lock_with, barrier_with, op_of}
 
 abbrev at : List (List ℕ) → ℕ → List ℕ
 at ws i = slice_index_or ws i []

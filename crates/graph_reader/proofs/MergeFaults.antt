@@ -11,16 +11,16 @@ use Rattle.graph_terms.specs.Graph.{GraphValue}
 use Rattle.graph_terms.specs.Spelling.{line_name}
 use Rattle.graph_terms.specs.Name.{is_name}
 use Rattle.graph_terms.specs.Fits.{IsGraph, first_reason, repeats, is_used, line_fault}
-use Rattle.graph_reader.specs.Draft.{Place, EventName, Placed, merge_with, line_number}
+use Rattle.graph_words.specs.Draft.{Place, EventName, Placed, merge_with, line_number}
 use Rattle.graph_reader.specs.FirstFault.{misnamed, twice, unknown, unlike, misnumbered, misordered, event_word, column_word, is_line_name, draft_tests, draft_fault, or_else, item_fault}
 use Rattle.graph_reader.specs.Merges.{merge_verb, merge_line, merge_reason, all_lines, IsMergeError}
 use Rattle.graph_reader.specs.Reading.{IsLineRead}
 use Rattle.graph_reader.specs.declared.item.ItemError.{ItemError}
 use Rattle.graph_reader.specs.declared.item.ItemError.TheVariants as errors
-use Rattle.graph_reader.proofs.TextLists.{any_map, same_bytes, bytes_same}
+use Rattle.graph_words.proofs.TextLists.{any_map, same_bytes, bytes_same}
 use Rattle.graph_reader.proofs.Owners.{owner, used_is, unused_misnamed}
 use Rattle.graph_reader.proofs.Places.{line_as}
-use Rattle.graph_reader.proofs.NameLists.{or_true}
+use Rattle.graph_words.proofs.NameLists.{or_true}
 use Rattle.graph_reader.proofs.FormFaults.{first_fails, or_false}
 
 abbrev events : List (List ℕ) → List Placed

@@ -1,6 +1,6 @@
 -- Each name of a graph is the name of one item, and so of one kind.
-use Rattle.std.proofs.Common.{◌≡◌, ℕ, zero, suc, ◌+◌, ◌<◌, Bool, true, false, cond, not, ◌&&◌, ◌||◌, List, [], ◌∷◌, ◌++◌, length, map, refl, sym, ◌∙◌, ap, subst, arith}
-use Rattle.std.specs.Prelude.{slice_get, Option, Some, None, MatchOption, is_some, position, find, bytes_eq, filter_map, flat_map, nat_lt}
+use Rattle.std.proofs.Common.{◌≡◌, ℕ, suc, ◌+◌, ◌<◌, Bool, true, false, cond, not, ◌&&◌, ◌||◌, List, [], ◌∷◌, ◌++◌, length, map, refl, sym, ◌∙◌, ap, subst, arith}
+use Rattle.std.specs.Prelude.{Option, Some, None, MatchOption, is_some, position, find, bytes_eq, filter_map, flat_map, nat_lt}
 use Rattle.std.specs.Option.{option_map_or}
 use Rattle.std.specs.List.{list_any, position_or_len, AllByRecursion, cons_option}
 use Rattle.std.proofs.lemmas.Bool.{ltb-true, true≢false, or_parts, or_from, cond-false, cond-true, le-ltb, lt-ltb, not_from_false}
@@ -20,14 +20,8 @@ use Rattle.graph_terms.specs.Names.{StandsFor, is_inst_named}
 use Rattle.graph_terms.specs.Fits.{repeats, names, is_used, is_inst, decl_misnumbered, decl_tests, DeclsFit, IsGraph}
 use Rattle.graph_reader.specs.FirstFault.{is_inst_name}
 use Rattle.graph_reader.specs.Lookups.{IsFound}
-use Rattle.graph_reader.proofs.TextLists.{same_bytes, bytes_differ, any_right, any_map, first_is, each_append, each_map}
-use Rattle.graph_reader.proofs.Places.{bytes_flip}
-use Rattle.graph_reader.proofs.GraphNames.{each_fails, IsNamedDecl, is_named, unlisted, space_agrees, lock_agrees, barrier_agrees, decls_apart, named_is}
-
-pub within : {X : Type 0} (xs : List X) (k : ℕ) (x : X) → slice_get xs k ≡ Some x → k < length xs
-within [] k x e = absurd (none-some x e)
-within (y ∷ ys) zero x e = omega arith
-within (y ∷ ys) (suc k) x e = let h : k < length ys = within ys k x e in omega arith
+use Rattle.graph_words.proofs.TextLists.{same_bytes, bytes_differ, any_right, any_map, first_is, each_append, each_map, bytes_flip, each_fails, within}
+use Rattle.graph_reader.proofs.GraphNames.{IsNamedDecl, is_named, unlisted, space_agrees, lock_agrees, barrier_agrees, decls_apart, named_is}
 
 -- whether an element passes, and where the first one stands
 position_none : {X : Type 0} (t : X → Bool) (xs : List X) → list_any t xs ≡ false → position_or_len t xs ≡ length xs

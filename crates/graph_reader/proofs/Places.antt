@@ -13,10 +13,10 @@ use Rattle.graph_terms.specs.declared.decl.BarrierInfo.{BarrierInfo}
 use Rattle.graph_terms.specs.Graph.{GraphValue, named_spaces, columns, locks, barriers, line_passes, is_user, is_phase, is_acquire, is_release_of, ends_user}
 use Rattle.graph_terms.specs.Spelling.{space_name, lock_name, barrier_name, line_name, column_name}
 use Rattle.graph_terms.specs.Fits.{repeats, is_used}
-use Rattle.graph_reader.specs.Words.{pieces, is_two_names, is_column, value_of, count_of, weight_of}
-use Rattle.graph_reader.specs.Draft.{Place, NewName, SpaceName, LockName, BarrierName, UserName, PhaseName, AcquireName, EventName, Column, Fields, Value, Times, Weight, Shared, Count, Intervals, is_own_word, line_number, column_number_of, number_in_place}
-use Rattle.graph_reader.specs.FirstFault.{misnamed, is_inst_name, has_column, first_piece, unknown, is_line_name, twice, unlike, misnumbered, misordered}
-use Rattle.graph_reader.proofs.TextLists.{same_bytes, bytes_same, found_of, found_is}
+use Rattle.graph_words.specs.Words.{pieces, is_two_names, is_column, value_of, count_of, weight_of, first_piece}
+use Rattle.graph_words.specs.Draft.{Place, NewName, SpaceName, LockName, BarrierName, UserName, PhaseName, AcquireName, EventName, Column, Fields, Value, Times, Weight, Shared, Count, Intervals, is_own_word, line_number, column_number_of, number_in_place}
+use Rattle.graph_reader.specs.FirstFault.{misnamed, is_inst_name, has_column, unknown, is_line_name, twice, unlike, misnumbered, misordered}
+use Rattle.graph_words.proofs.TextLists.{same_bytes, bytes_same, found_of, found_is, bytes_flip}
 use Rattle.graph_reader.proofs.WordFacts.{IsWord, name_is_word, decimal_is_word, value_of-decimal, value_of-spelled, count_of-decimal, count_of-spelled, weight_of-decimal, weight_of-spelled, column_pieces, joined_pieces, joined_is_word}
 use Rattle.graph_reader.proofs.GraphNames.{IsNamed, KnownAs, IsColumnAt, same_column, read_name, spelled_name, listed_name, spaces_apart, locks_apart, barriers_apart, lines_apart, columns_apart, known_space, known_lock, known_barrier, known_line, known_line_at, known_column}
 
@@ -81,15 +81,6 @@ any_agree t s h (x ∷ xs) = ap (λ b. b || list_any t xs) (h x) ∙ ap (λ b. s
 repeats_agree : {X : Type 0} (t s : X → X → Bool) → ((x y : X) → t x y ≡ s x y) → (xs : List X) → repeats t xs ≡ repeats s xs
 repeats_agree t s h [] = refl
 repeats_agree t s h (x ∷ xs) = ap (λ b. b || repeats t xs) (any_agree (t x) (s x) (h x) xs) ∙ ap (λ b. list_any (s x) xs || b) (repeats_agree t s h xs)
-
-flip_by : (a b : List ℕ) (r s : Bool) → bytes_eq a b ≡ r → bytes_eq b a ≡ s → r ≡ s
-flip_by a b true true e f = refl
-flip_by a b false false e f = refl
-flip_by a b true false e f = absurd (true≢false (sym (bytes_same b a (sym (same_bytes a b e))) ∙ f))
-flip_by a b false true e f = absurd (true≢false (sym (bytes_same a b (sym (same_bytes b a f))) ∙ e))
-
-pub bytes_flip : (a b : List ℕ) → bytes_eq a b ≡ bytes_eq b a
-bytes_flip a b = flip_by a b (bytes_eq a b) (bytes_eq b a) refl refl
 
 pub listed_by : {X : Type 0} (t : X → Bool) (xs : List X) (n : ℕ) (x : X) → slice_get xs n ≡ Some x → t x ≡ true → list_any t xs ≡ true
 listed_by t [] n x e h = absurd (none-some x e)

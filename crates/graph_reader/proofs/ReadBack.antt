@@ -14,18 +14,19 @@ use Rattle.graph_terms.specs.declared.verb.Verb.{Verb}
 use Rattle.graph_terms.specs.declared.verb.Verb.TheVariants.{Merge, MergeIgnore}
 use Rattle.graph_terms.specs.declared.why.Why.TheVariants.{Syntax}
 use Rattle.graph_terms.specs.Name.{is_name}
-use Rattle.graph_terms.specs.Graph.{GraphValue, decl_name, named_spaces}
+use Rattle.graph_terms.specs.Graph.{GraphValue, named_spaces}
 use Rattle.graph_terms.specs.Spelling.{space_name, line_name, column_name, op_word, interval_word, comma_word, decl_words, verb_words, on_words, line_words}
-use Rattle.graph_terms.specs.Fits.{repeats, on_lines, is_used, decl_repeats, decl_unknown, decl_misnumbered, decl_tests, decl_fault, line_fault, IsDecl, IsLine, IsGraph}
-use Rattle.graph_reader.specs.Words.{pieces, intervals_of, ascend_from, is_fields}
-use Rattle.graph_reader.specs.Draft.{number_in_place, NewName, SpaceName, EventName, Fields, Value, Count, Intervals, Placed, Draft, Form, number_in, same_word, has_on, on_placed, form_draft, merge_draft, line_number, space_number, column_number_of, op_of, barrier_with, decl_draft, decl_draft_after, draft}
+use Rattle.graph_terms.specs.Fits.{repeats, on_lines, is_used, decl_fault, line_fault, IsDecl, IsLine, IsGraph}
+use Rattle.graph_words.specs.Words.{pieces, intervals_of, ascend_from, is_fields}
+use Rattle.graph_words.specs.Draft.{number_in_place, NewName, SpaceName, EventName, Fields, Value, Count, Intervals, Placed, Draft, Form, number_in, same_word, has_on, on_placed, form_draft, merge_draft, line_number, space_number, column_number_of, op_of, barrier_with, decl_draft, decl_draft_after, draft}
 use Rattle.graph_reader.specs.FirstFault.{event_word, column_word, item_fault, draft_fault, words_fault, is_empty}
-use Rattle.graph_reader.proofs.TextLists.{same_bytes, each_append, each_weaker, none_from_each}
+use Rattle.graph_words.proofs.TextLists.{same_bytes, each_append, each_weaker, none_from_each}
 use Rattle.graph_reader.proofs.WordFacts.{IsWord, name_is_word, intervals_of-word, intervals_is_word, intervals_bounded, ascends, field_pieces, names_all, joined_is_word}
-use Rattle.graph_reader.proofs.GraphNames.{IsNamed, each_fails, is_named}
+use Rattle.graph_reader.proofs.GraphNames.{IsNamed, is_named}
 use Rattle.graph_reader.proofs.Places.{IsFine, place_reads, event_word_at, event_reads}
 use Rattle.graph_reader.proofs.Drafts.{EachFine, event_words, column_words, IsFineDraft, no_draft_fault, IsNoEvent, spell_list, FitPlaces, placed_fine, placed_numbers, placed_words, columns_in, placed_events, placed_columns, names_repeat, columns_read, word_by_test}
-use Rattle.graph_reader.proofs.VerbForms.{IsKnownLine, known_line_of, IsFormed, formed}
+use Rattle.graph_words.proofs.KnownItems.{IsKnownLine, known_line_of, IsKnownDecl, known_decl_of}
+use Rattle.graph_reader.proofs.VerbForms.{IsFormed, formed}
 
 -- an item of a graph: a declaration or a line
 abbrev pub Item : Type 0
@@ -246,19 +247,6 @@ decl_drafted g w name rest h e = cond-false (same_word name (codes "=")) _ _ (no
 
 abbrev decl_item : Decl → Item
 decl_item d = inl d
-
--- what a declaration has where no reason refuses it
-pub record IsKnownDecl (g : GraphValue) (d : Decl) : Type 0 where
-  pub new : is_used g (decl_name d) ≡ false
-  pub once : decl_repeats d ≡ false
-  pub known : decl_unknown g d ≡ false
-  pub counted : decl_misnumbered d ≡ false
-
-pub known_decl_of : (g : GraphValue) (d : Decl) → decl_fault g d ≡ None → IsKnownDecl g d
-known_decl_of g d f =
-    let t = each_fails (decl_tests g d) f in
-    let u = or_parts (is_used g (decl_name d)) (decl_repeats d) t.0 in
-    record { new = u.0; once = u.1; known = t.1.0; counted = t.1.1.0 }
 
 space_back : (g : GraphValue) (name : List ℕ) (s : List (ℕ × ℕ)) → IsItem g (inl (decl.Space name s)) → decl_fault g (decl.Space name s) ≡ None → IsKnownDecl g (decl.Space name s) → ReadsBack g (inl (decl.Space name s))
 space_back g name s is fits k =

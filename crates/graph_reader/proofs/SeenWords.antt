@@ -11,10 +11,10 @@ use Rattle.graph_terms.specs.declared.table.Place.TheVariants as places
 use Rattle.graph_terms.specs.declared.verb.Line.{Line}
 use Rattle.graph_terms.specs.Graph.{GraphValue, named_spaces, locks, barriers, line_passes, is_user, is_phase, is_acquire, is_release_of, ends_user}
 use Rattle.graph_terms.specs.Name.{is_name}
-use Rattle.graph_reader.specs.Draft.{Place, as_place, Placed, line_number}
+use Rattle.graph_words.specs.Draft.{Place, as_place, Placed, line_number, words_in}
 use Rattle.graph_reader.specs.FirstFault.{misnamed, twice, unknown, unlike, misnumbered, is_line_name}
 use Rattle.graph_reader.specs.Lookups.{IsFound, found_line, found_number, found_twice, found_alike}
-use Rattle.graph_reader.specs.Kinds.{NamesThing, Tells, AllTell, named_number, placed_value, words_in}
+use Rattle.graph_reader.specs.Kinds.{NamesThing, Tells, AllTell, named_number, placed_value}
 use Rattle.graph_reader.specs.declared.seen.Seen.{Seen}
 use Rattle.graph_reader.specs.declared.faults.Faults.{Faults}
 use Rattle.graph_reader.proofs.Owners.{position_any, position_below}

@@ -14,15 +14,15 @@ use Rattle.graph_terms.specs.declared.why.Why.{Why}
 use Rattle.graph_terms.specs.Graph.{GraphValue}
 use Rattle.graph_terms.specs.Spelling.{spelled, decl_words, line_words, header, decls_text, lines_text, head}
 use Rattle.graph_terms.specs.Fits.{DeclsFit, LinesFit, IsGraph}
-use Rattle.graph_reader.specs.Words.{pieces}
-use Rattle.graph_reader.specs.Text.{closing}
+use Rattle.graph_words.specs.Words.{pieces}
+use Rattle.graph_words.specs.Text.{closing}
 use Rattle.graph_reader.specs.FirstFault.{first_line, IsRestFault, FirstFault}
 use Rattle.graph_reader.specs.Laws.{OperationsStand, refused_line, LinesStand}
 use Rattle.graph_reader.proofs.WordFacts.{IsWord}
-use Rattle.graph_reader.proofs.VerbForms.{known_line_of}
+use Rattle.graph_words.proofs.KnownItems.{known_line_of}
 use Rattle.graph_reader.proofs.ReadBack.{ItemFits, reads_back}
 use Rattle.graph_reader.proofs.LineSteps.{words_line, words_pieces, spelled_rest, graph_push}
-use Rattle.graph_reader.proofs.WholeText.{graph_of, line_words_kept}
+use Rattle.graph_words.proofs.WholeText.{graph_of, line_words_kept}
 
 -- a spelled line is the first piece, without its newline
 spelled_pieces : (ws : List (List ℕ)) (rest : List ℕ) → AllByRecursion IsWord ws → pieces 10 (spelled ws ++ rest) ≡ join_with_byte 32 ws ∷ pieces 10 rest

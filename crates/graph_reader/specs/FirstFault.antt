@@ -16,9 +16,9 @@ use Rattle.graph_terms.specs.declared.decl.BarrierInfo.{BarrierInfo}
 use Rattle.graph_terms.specs.Graph.{GraphValue, named_spaces, columns, locks, barriers, line_passes, is_user, is_phase, is_acquire, is_release_of, ends_user}
 use Rattle.graph_terms.specs.Spelling.{head, header}
 use Rattle.graph_terms.specs.Fits.{IsGraph, first_reason, is_used, repeats, decl_fault, line_fault}
-use Rattle.graph_reader.specs.Words.{pieces, value_of, count_of, weight_of, intervals_of, ascend_from, is_fields, is_column}
-use Rattle.graph_reader.specs.Draft.{Place, NewName, SpaceName, LockName, BarrierName, UserName, PhaseName, AcquireName, EventName, Column, Fields, Value, Times, Weight, Shared, Count, Intervals, Draft, draft, line_number}
-use Rattle.graph_reader.specs.Text.{text}
+use Rattle.graph_words.specs.Words.{pieces, value_of, count_of, weight_of, intervals_of, ascend_from, is_fields, is_column, first_piece}
+use Rattle.graph_words.specs.Draft.{Place, NewName, SpaceName, LockName, BarrierName, UserName, PhaseName, AcquireName, EventName, Column, Fields, Value, Times, Weight, Shared, Count, Intervals, Draft, draft, line_number}
+use Rattle.graph_words.specs.Text.{text}
 
 -- a word that is not spelled as a name, as fields or as a column, in the place of one
 abbrev pub misnamed : Place → List ℕ → Bool
@@ -39,10 +39,6 @@ is_inst_name g w = list_any (λ (x : ColumnInfo). bytes_eq x.inst w) (columns g)
 abbrev pub has_column : GraphValue → List (List ℕ) → Bool
 has_column g (inst ∷ field ∷ []) = list_any (λ (x : ColumnInfo). bytes_eq x.inst inst && bytes_eq x.field field) (columns g)
 has_column g _ = false
-
-abbrev pub first_piece : List (List ℕ) → List ℕ
-first_piece [] = []
-first_piece (p ∷ ps) = p
 
 -- a name that is not declared, or a field that its instance has not
 abbrev pub unknown : GraphValue → Place → List ℕ → Bool

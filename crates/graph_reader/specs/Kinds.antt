@@ -1,14 +1,14 @@
 -- The kinds of operation lines as the forms of their words.
-use Rattle.std.specs.Prelude.{◌≡◌, ℕ, ◌+◌, ◌≤◌, Bool, false, cond, not, ◌&&◌, ◌||◌, List, [], ◌∷◌, ◌++◌, length, map, zip, slice_index_or, unwrap_or, filter_map, is_some, Option, Some, None, Result, Ok, Err}
+use Rattle.std.specs.Prelude.{◌≡◌, ℕ, ◌+◌, ◌≤◌, Bool, false, cond, not, ◌&&◌, ◌||◌, List, [], ◌∷◌, ◌++◌, length, map, slice_index_or, unwrap_or, filter_map, is_some, Option, Some, None, Result, Ok, Err}
 use Rattle.std.specs.List.{list_any}
 use Rattle.std.proofs.Common.{inr}
 use Rattle.graph_terms.specs.declared.verb.Line.{Line}
 use Rattle.graph_terms.specs.declared.verb.Verb.{Verb}
 use Rattle.graph_terms.specs.declared.why.Why.{Why}
 use Rattle.graph_terms.specs.Graph.{GraphValue}
-use Rattle.graph_reader.specs.Words.{value_of}
-use Rattle.graph_reader.specs.Draft.{as_place, form_of, form_draft, has_on, on_placed, line_number, Draft, Placed, number_in_place, number_in}
-use Rattle.graph_reader.specs.Draft as draft
+use Rattle.graph_words.specs.Words.{value_of}
+use Rattle.graph_words.specs.Draft.{form_of, form_draft, has_on, on_placed, line_number, Draft, Placed, number_in_place, number_in, words_in}
+use Rattle.graph_words.specs.Draft as draft
 use Rattle.graph_terms.specs.declared.why.Why.TheVariants as why
 use Rattle.graph_terms.specs.Fits.{first_reason, is_used, repeats, line_fault}
 use Rattle.std.specs.Str.{bytes_eq}
@@ -25,10 +25,6 @@ use Rattle.graph_terms.specs.declared.table.Place.TheVariants as places
 -- the words of a line of a kind, behind the fixed ones, in their places
 abbrev pub kind_draft : GraphValue → Kind → List ℕ → List (List ℕ) → Draft
 kind_draft g kind name rest = form_draft g name rest (form_of kind)
-
--- words, each in its place
-abbrev pub words_in : List table.Place → List (List ℕ) → List Placed
-words_in ps ws = zip (map as_place ps) ws
 
 -- the words of a kind, each in its place
 abbrev pub kind_placed : Kind → List (List ℕ) → List Placed

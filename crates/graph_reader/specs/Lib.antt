@@ -1,11 +1,6 @@
-pub mod Text
-pub mod Words
-pub mod Draft
 pub mod FirstFault
 pub mod Laws
 pub mod Reading
 pub mod Kinds
 pub mod Lookups
-pub mod Cuts
 pub mod Merges
-pub mod WrittenWords

@@ -14,8 +14,8 @@ use Rattle.graph_terms.specs.Graph.{GraphValue, named_spaces, columns, locks, ba
 use Rattle.graph_terms.specs.Fits.{is_used}
 use Rattle.graph_terms.specs.Name.{is_name}
 use Rattle.graph_reader.specs.FirstFault.{is_inst_name}
-use Rattle.graph_reader.specs.Words.{pieces}
-use Rattle.graph_reader.specs.Cuts.{two_pieces}
+use Rattle.graph_words.specs.Words.{pieces}
+use Rattle.graph_words.specs.Cuts.{two_pieces}
 
 -- the number of the thing that was found, where it is of one kind
 abbrev pub found_space : Option Found → Option ℕ

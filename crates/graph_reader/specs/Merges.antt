@@ -10,7 +10,7 @@ use Rattle.graph_terms.specs.declared.why.Why.TheVariants as why
 use Rattle.graph_terms.specs.Graph.{GraphValue}
 use Rattle.graph_terms.specs.Name.{is_name}
 use Rattle.graph_terms.specs.Fits.{first_reason, repeats, is_used}
-use Rattle.graph_reader.specs.Draft.{line_number}
+use Rattle.graph_words.specs.Draft.{line_number}
 use Rattle.graph_reader.specs.FirstFault.{is_line_name}
 use Rattle.graph_reader.specs.declared.item.ItemError.{ItemError}
 use Rattle.graph_reader.specs.declared.item.ItemError.TheVariants as errors

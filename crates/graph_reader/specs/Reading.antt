@@ -13,10 +13,10 @@ use Rattle.graph_terms.specs.Name.{is_name}
 use Rattle.index_spaces.specs.declared.space.SpaceFault.{SpaceFault}
 use Rattle.index_spaces.specs.declared.space.SpaceFault.TheVariants as spaces
 use Rattle.std.specs.Str.{bytes_eq}
-use Rattle.graph_reader.specs.Words.{pieces, ascend_from}
-use Rattle.graph_reader.specs.Draft.{Draft, draft, SpaceName, space_number}
+use Rattle.graph_words.specs.Words.{pieces, ascend_from}
+use Rattle.graph_words.specs.Draft.{Draft, draft, SpaceName, space_number}
 use Rattle.graph_reader.specs.FirstFault.{words_fault, draft_fault, unlike, or_else, FirstFault, IsHeaderFault, IsLineFault, IsRestFault}
-use Rattle.graph_reader.specs.Text.{GraphText}
+use Rattle.graph_words.specs.Text.{GraphText}
 use Rattle.graph_terms.specs.declared.limits.TheConstants.{MAX_TEXT}
 use Rattle.graph_reader.specs.declared.reader.Reading.{Reading}
 use Rattle.graph_reader.specs.declared.reader.Reading.TheVariants as readings

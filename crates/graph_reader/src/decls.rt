@@ -2,21 +2,21 @@
 
 ghost use Rattle.std.specs.Prelude.{◌≡◌, map, false, [], MatchResult};
 ghost use Rattle.graph_terms.specs.Fits.{decl_fault, is_used};
-ghost use Rattle.graph_reader.specs.Draft.{space_with, inst_with, lock_with, barrier_with};
+ghost use Rattle.graph_words.specs.Draft.{space_with, inst_with, lock_with, barrier_with};
 ghost use Rattle.graph_reader.specs.Reading.{IsDeclBy, IsDeclRead, space_error, space_reason, inst_reason, inst_decl, AreFields, AreNoFields};
 
 use crate::checks::is_name;
-use crate::intervals::intervals;
 use crate::item::ItemError;
 use crate::lookup::{look_up, space, stands_for};
-use crate::names::{has_repeat, names_of};
-use crate::numbers::{count, value};
-use crate::words::split;
 use graph_model::graph::Graph;
 use graph_terms::decl::Decl;
 use graph_terms::lists::{ItemList, NameList};
 use graph_terms::name::Name;
 use graph_terms::why::Why;
+use graph_words::intervals::intervals;
+use graph_words::names::{has_repeat, names_of};
+use graph_words::numbers::{count, value};
+use graph_words::words::split;
 use index_spaces::Op;
 use index_spaces::space::{Space, SpaceFault};
 use std::alloc::Global;

@@ -6,19 +6,19 @@ ghost use Rattle.std.specs.List.{list_any};
 ghost use Rattle.std.specs.Str.{bytes_eq};
 ghost use Rattle.graph_terms.specs.Fits.{repeats};
 ghost use Rattle.graph_terms.specs.Table.{is_column, parts_of};
-ghost use Rattle.graph_reader.specs.Draft.{form_of, number_in};
-ghost use Rattle.graph_reader.specs.Kinds.{words_in, kind_placed, form_placed, AllTell, column_words, kind_draft, kind_on, later_reason, HasPlaces, IsFormFault, IsReading};
+ghost use Rattle.graph_words.specs.Draft.{form_of, number_in, words_in};
+ghost use Rattle.graph_reader.specs.Kinds.{kind_placed, form_placed, AllTell, column_words, kind_draft, kind_on, later_reason, HasPlaces, IsFormFault, IsReading};
 
 use crate::faults::Faults;
 use crate::lookup::stands_for;
 use crate::parts::read_parts;
 use crate::seen::see_event;
-use crate::words::{behind, has_on, place_count, word};
 use graph_model::graph::Graph;
 use graph_terms::name::Name;
 use graph_terms::table::{Kind, Parts, Place};
 use graph_terms::verb::{Line, Verb};
 use graph_terms::why::Why;
+use graph_words::words::{behind, has_on, place_count, word};
 
 fn is_column(place: Place) -> bool
     ensures { result ≡ is_column place }

@@ -7,10 +7,10 @@ ghost use Rattle.graph_terms.specs.Name.{is_name};
 ghost use Rattle.graph_terms.specs.Graph.{named_spaces};
 ghost use Rattle.graph_reader.specs.Lookups.{IsFound, found_space, found_lock, found_barrier, found_line, is_found_inst, column_names};
 
-use crate::cuts::around_dot;
 use graph_model::graph::Graph;
 use graph_terms::found::Found;
 use graph_terms::name::Name;
+use graph_words::cuts::around_dot;
 
 /// What a name stands for in the graph. `None` exactly where no item has it.
 pub(crate) fn stands_for(graph: &Graph, name: &Name) -> Option<Found>

@@ -3,14 +3,14 @@
 ghost use Rattle.basics.specs.Words.{contents};
 ghost use Rattle.std.specs.Prelude.{◌≡◌, ◌≤◌, map, length};
 ghost use Rattle.graph_terms.specs.Table.{parts_from};
-ghost use Rattle.graph_reader.specs.Draft.{number_in};
-ghost use Rattle.graph_reader.specs.Kinds.{AllTell, words_in};
+ghost use Rattle.graph_words.specs.Draft.{number_in, words_in};
+ghost use Rattle.graph_reader.specs.Kinds.{AllTell};
 
 use crate::faults::Faults;
 use crate::seen::see;
-use crate::words::word;
 use graph_model::graph::Graph;
 use graph_terms::table::{MOST_PLACES, Parts, Place};
+use graph_words::words::word;
 
 /// What words stand for in their places, and what refuses them.
 pub(crate) fn read_parts(graph: &Graph, places: &[Place], words: &[&[u8]]) -> (Parts, Faults)

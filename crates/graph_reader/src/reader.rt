@@ -3,19 +3,19 @@
 ghost use Rattle.std.specs.Prelude.{◌≡◌, ◌++◌, ◌-◌, ◌^◌, ◌<◌, Some, None, OnOk, OnErr, IfOk, IfErr, MatchOption};
 ghost use Rattle.graph_terms.specs.Spelling.{header};
 ghost use Rattle.graph_reader.specs.FirstFault.{HasNoHeader};
-ghost use Rattle.graph_reader.specs.Words.{pieces};
-ghost use Rattle.graph_reader.specs.Text.{GraphText};
+ghost use Rattle.graph_words.specs.Words.{pieces};
+ghost use Rattle.graph_words.specs.Text.{GraphText};
 ghost use Rattle.graph_reader.specs.Reading.{item_value, with_value, open_fault, MayFollow, IsOpenError, IsTaken, IsWordsError, IsRefusal, IsReadAs, closed_reading};
 ghost use Rattle.graph_reader.specs.declared.reader.Reading.{Reading};
 
 use crate::ReadRefusal;
-use crate::cuts::cut;
 use crate::item::{Item, ItemError};
 use crate::lines::read_item;
 use graph_model::graph::Graph;
 use graph_terms::format::Format;
 use graph_terms::limits::MAX_TEXT;
 use graph_terms::why::Why;
+use graph_words::cuts::cut;
 use index_spaces::NoMemory;
 use std::alloc::Global;
 

@@ -2,20 +2,20 @@
 
 ghost use Rattle.std.specs.Prelude.{◌≡◌, false, ◌<◌, ◌||◌, ◌&&◌, ℕ, List, not, length, is_some, IfSome};
 ghost use Rattle.graph_terms.specs.Graph.{GraphValue};
-ghost use Rattle.graph_reader.specs.Draft.{as_place, Column, EventName, Value, Times, Weight, Shared};
+ghost use Rattle.graph_words.specs.Draft.{as_place, Column, EventName, Value, Times, Weight, Shared};
 ghost use Rattle.graph_reader.specs.Lookups.{found_line, found_number, found_twice, found_alike, is_found_inst};
 ghost use Rattle.graph_reader.specs.Kinds.{Tells, NamesThing, column_seen};
 
 use crate::checks::{is_acquire, is_phase, is_user};
-use crate::cuts::before_dot;
 use crate::faults::Faults;
 use crate::lookup::{
     Lookup, as_barrier, as_line, as_lock, as_space, column_names, is_inst, look_up, stands_for,
 };
-use crate::numbers::{value, weight};
 use graph_model::graph::Graph;
 use graph_terms::found::Found;
 use graph_terms::table::Place;
+use graph_words::cuts::before_dot;
+use graph_words::numbers::{value, weight};
 
 /// What is to be said of a word in its place.
 #[derive(Clone, Copy)]

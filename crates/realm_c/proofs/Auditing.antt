@@ -4,7 +4,7 @@ use Rattle.graph_terms.specs.Graph.{GraphValue}
 use Rattle.graph_meaning.specs.Rules.{Accepted}
 use Rattle.graph_meaning.specs.Trace.{IsLawful}
 use Rattle.graph_reader.specs.Laws.{OneReading}
-use Rattle.graph_reader.specs.Text.{GraphText}
+use Rattle.graph_words.specs.Text.{GraphText}
 use Rattle.realm_audit.specs.Lawful.{IsRefusal, NamesLines}
 use Rattle.graph_reader.specs.FirstFault.{line_count}
 use Rattle.realm_audit.specs.Reading.{IsTraceFault, IsNoText, TextTells}

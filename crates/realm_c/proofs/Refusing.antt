@@ -5,7 +5,7 @@ use Rattle.graph_terms.specs.Graph.{GraphValue}
 use Rattle.graph_meaning.specs.Rules.{Accepted}
 use Rattle.graph_reader.specs.FirstFault.{FirstFault}
 use Rattle.graph_reader.specs.Laws.{OneReading}
-use Rattle.graph_reader.specs.Text.{GraphText}
+use Rattle.graph_words.specs.Text.{GraphText}
 use Rattle.realm_c.specs.Refusals.{IsReadRefusal, IsRuleRefusal, IsCheckRefusal}
 use Rattle.realm_c.specs.declared.reading.Refusal.{Refusal}
 use Rattle.realm_c.specs.declared.reading.Refusal.TheVariants.{Unread, Unfit, NoMemory}

@@ -2,7 +2,7 @@
 use Rattle.std.specs.Prelude.{◌≢◌, ℕ, List}
 use Rattle.graph_terms.specs.Graph.{GraphValue}
 use Rattle.graph_meaning.specs.Rules.{Accepted}
-use Rattle.graph_reader.specs.Text.{GraphText}
+use Rattle.graph_words.specs.Text.{GraphText}
 use Rattle.graph_reader.specs.FirstFault.{FirstFault}
 use Rattle.race_check.specs.Refusal.{IsRefusal, NamesLines}
 use Rattle.race_check.specs.declared.checked.CheckRefusal.{CheckRefusal}

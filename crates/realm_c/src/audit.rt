@@ -5,7 +5,7 @@ ghost use Rattle.graph_terms.specs.Graph.{GraphValue};
 ghost use Rattle.graph_meaning.specs.Rules.{Accepted};
 ghost use Rattle.graph_meaning.specs.Trace.{IsLawful};
 ghost use Rattle.graph_reader.specs.FirstFault.{line_count};
-ghost use Rattle.graph_reader.specs.Text.{GraphText};
+ghost use Rattle.graph_words.specs.Text.{GraphText};
 ghost use Rattle.realm_audit.specs.Parts.{graph_bytes, trace_bytes};
 ghost use Rattle.realm_audit.specs.Reading.{AreLines};
 ghost use Rattle.graph_answers.specs.AuditAnswer.{AUDIT_LIMIT, HasTrace};

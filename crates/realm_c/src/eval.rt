@@ -4,7 +4,7 @@ ghost use Rattle.std.specs.Prelude.{◌≡◌, ◌≢◌, ◌<◌, ◌≤◌, �
 ghost use Rattle.graph_terms.specs.Graph.{GraphValue};
 ghost use Rattle.graph_meaning.specs.Evaluation.{outcome, order};
 ghost use Rattle.graph_meaning.specs.Rules.{Accepted};
-ghost use Rattle.graph_reader.specs.Text.{GraphText};
+ghost use Rattle.graph_words.specs.Text.{GraphText};
 ghost use Rattle.graph_answers.specs.Answer.{EndsByPaths};
 ghost use Rattle.run_report.specs.Report.{evaluation_report};
 ghost use Rattle.realm_c.specs.Buffers.{Holds, IsCut};

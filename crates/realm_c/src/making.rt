@@ -2,7 +2,7 @@
 
 ghost use Rattle.std.specs.Prelude.{◌≡◌, ◌≢◌, ◌≤◌, ◌⊎◌, true, false};
 ghost use Rattle.graph_gen.specs.MadeGraph.{made_graph};
-ghost use Rattle.graph_reader.specs.Text.{text};
+ghost use Rattle.graph_words.specs.Text.{text};
 ghost use Rattle.realm_c.specs.Buffers.{Holds, IsCut};
 
 use crate::buffer::hand_out;

@@ -4,7 +4,7 @@ ghost use Rattle.std.specs.Prelude.{◌≡◌, ◌≢◌, IfOk, IfErr};
 ghost use Rattle.graph_terms.specs.Graph.{GraphValue};
 ghost use Rattle.graph_meaning.specs.Need.{IsNeed};
 ghost use Rattle.graph_meaning.specs.Rules.{Accepted};
-ghost use Rattle.graph_reader.specs.Text.{GraphText};
+ghost use Rattle.graph_words.specs.Text.{GraphText};
 ghost use Rattle.realm_c.specs.Refusals.{status_of, IsReadRefusal, IsRuleRefusal, IsCheckRefusal};
 
 use crate::status::{NO_MEMORY, UNFIT, UNREAD};

@@ -6,7 +6,7 @@ ghost use Rattle.graph_terms.specs.Graph.{GraphValue};
 ghost use Rattle.graph_meaning.specs.Need.{IsNeed};
 ghost use Rattle.graph_meaning.specs.Rules.{Accepted};
 ghost use Rattle.event_table.specs.declared.limits.TheConstants.{MAX_SLOTS};
-ghost use Rattle.graph_reader.specs.Text.{GraphText};
+ghost use Rattle.graph_words.specs.Text.{GraphText};
 ghost use Rattle.run_report.specs.Report.{evaluation_report};
 ghost use Rattle.run_core.specs.Core.{CoreValue, IsCore, slots_given, unissued};
 ghost use Rattle.run_core.specs.Finishing.{NothingOut};

@@ -2,7 +2,7 @@
 
 ghost use Rattle.std.specs.Prelude.{◌≡◌, ◌≢◌, ◌<◌, ◌≤◌, ◌⊎◌, length, IfSome};
 ghost use Rattle.graph_terms.specs.Graph.{GraphValue, upgraded};
-ghost use Rattle.graph_reader.specs.Text.{GraphText, text as text_of};
+ghost use Rattle.graph_words.specs.Text.{GraphText, text as text_of};
 ghost use Rattle.realm_c.specs.Buffers.{Holds, IsCut};
 ghost use Rattle.realm_c.specs.Refusals.{status_of, IsReadRefusal};
 ghost use Rattle.realm_c.specs.declared.reading.Refusal.{Refusal as TheRefusal};
@@ -11,8 +11,8 @@ use crate::buffer::hand_out;
 use crate::reading::read;
 use crate::status::{NO_MEMORY, TOO_LONG};
 use graph_model::graph::Graph;
-use graph_reader::put_graph;
 use graph_terms::limits::MAX_TEXT;
+use graph_writer::put_graph;
 use realm_io::TextSink;
 use std::alloc::Global;
 

@@ -11,7 +11,7 @@ use Rattle.graph_terms.specs.Graph.{GraphValue}
 use Rattle.graph_meaning.specs.Evaluation.{outcome}
 use Rattle.graph_terms.specs.declared.outcome.Outcome.{Outcome}
 use Rattle.graph_meaning.specs.Laws.{OneNeed}
-use Rattle.graph_reader.specs.Text.{text}
+use Rattle.graph_words.specs.Text.{text}
 use Rattle.graph_gen.specs.MadeGraph.{made_graph}
 use Rattle.graph_answers.specs.declared.status.Status.{Status}
 use Rattle.graph_answers.specs.declared.status.Status.TheVariants.{Done, Slots}

@@ -9,7 +9,7 @@ use Rattle.command_line.specs.declared.request.Request.{Request}
 use Rattle.graph_terms.specs.Graph.{GraphValue}
 use Rattle.graph_meaning.specs.Laws.{OneNeed}
 use Rattle.graph_reader.specs.Laws.{OneReading}
-use Rattle.graph_reader.specs.Text.{GraphText}
+use Rattle.graph_words.specs.Text.{GraphText}
 use Rattle.graph_gen.specs.MadeGraph.{made_graph}
 use Rattle.realm_audit.specs.Parts.{graph_bytes}
 use Rattle.graph_terms.specs.declared.limits.TheConstants.{MAX_TEXT}

@@ -3,7 +3,7 @@ use Rattle.std.specs.Prelude.{◌≡◌, ℕ, List}
 use Rattle.command_line.specs.declared.request.Request.{Request}
 use Rattle.graph_terms.specs.Graph.{GraphValue}
 use Rattle.graph_meaning.specs.Rules.{Accepted}
-use Rattle.graph_reader.specs.Text.{GraphText}
+use Rattle.graph_words.specs.Text.{GraphText}
 use Rattle.graph_answers.specs.Answer.{EndsByPaths}
 use Rattle.graph_answers.specs.declared.status.Status.{Status}
 use Rattle.realm_top.specs.Answer.{Answers, AsksStatus}

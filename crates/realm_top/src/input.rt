@@ -3,7 +3,7 @@
 ghost use Rattle.std.specs.Prelude.{◌≡◌, ℕ, ◌<◌, ◌≤◌, ◌⊎◌, List, true, false, length, Some, slice_get, IfSome};
 ghost use Rattle.graph_meaning.specs.Evaluation.{outcome};
 ghost use Rattle.graph_meaning.specs.Trace.{IsLawful};
-ghost use Rattle.graph_reader.specs.Text.{text};
+ghost use Rattle.graph_words.specs.Text.{text};
 ghost use Rattle.realm_io.specs.Written.{Writes};
 ghost use Rattle.graph_answers.specs.Delivered.{Delivers, IsAnswered};
 ghost use Rattle.graph_answers.specs.Answer.{run_text, runs, is_short, InputAnswers, Serves, Settled};

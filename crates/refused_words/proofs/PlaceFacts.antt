@@ -8,7 +8,7 @@ use Rattle.graph_terms.specs.declared.format.Format.{Format}
 use Rattle.graph_terms.specs.declared.table.Kind.{Kind}
 use Rattle.graph_terms.specs.declared.table.TheConstants.{KINDS}
 use Rattle.graph_terms.specs.Table.{kind_places, kind_words}
-use Rattle.graph_reader.specs.Draft.{EventName, as_place, form_of, has_on, is_of_form}
+use Rattle.graph_words.specs.Draft.{EventName, as_place, form_of, has_on, is_of_form}
 use Rattle.graph_reader.specs.Reading.{is_operation}
 use Rattle.refused_words.specs.Places.{decl_place, is_merge, behind_kind, kind_place, verb_place, operation_place, place_at}
 

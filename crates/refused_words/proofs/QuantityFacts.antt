@@ -24,9 +24,9 @@ use Rattle.graph_indexes.specs.Counts.{cells_of_decl}
 use Rattle.graph_model.proofs.CountLaws.{counts_with_decl}
 use Rattle.index_spaces.specs.Space.{space_size}
 use Rattle.index_spaces.specs.declared.limits.TheConstants.{MAX_INTERVALS, MAX_POINTS}
-use Rattle.graph_reader.specs.Draft.{Draft, draft}
+use Rattle.graph_words.specs.Draft.{Draft, draft}
 use Rattle.graph_reader.specs.FirstFault.{words_fault, draft_fault, item_fault, or_else, is_empty}
-use Rattle.graph_reader.proofs.GraphNames.{each_fails}
+use Rattle.graph_words.proofs.TextLists.{each_fails}
 use Rattle.graph_reader.proofs.Spelled.{chosen}
 use Rattle.refused_words.specs.Limits.{QuantityValue, quantity, is_above, decl_quantities, verb_quantities, line_quantities, item_quantities, limit_in, limit_of}
 use Rattle.refused_words.specs.Laws.{is_long_with, is_long_in, is_long_by}

@@ -18,7 +18,7 @@ use Rattle.graph_terms.specs.declared.table.TheConstants.{KINDS}
 use Rattle.graph_terms.specs.Fits.{arrives_late}
 use Rattle.graph_terms.specs.Graph.{GraphValue}
 use Rattle.graph_terms.specs.Table.{kind_places, kind_words}
-use Rattle.graph_reader.specs.Draft.{Place, NewName, SpaceName, EventName, Fields, Value, Count, Intervals, Placed, Draft, draft, as_place, form_of, has_on, on_placed, is_of_form, same_word, merge_draft, line_draft, decl_draft_after, decl_draft, space_draft, inst_draft, lock_draft, barrier_draft, barrier_with, op_of}
+use Rattle.graph_words.specs.Draft.{Place, NewName, SpaceName, EventName, Fields, Value, Count, Intervals, Placed, Draft, draft, as_place, form_of, has_on, on_placed, is_of_form, same_word, merge_draft, line_draft, decl_draft_after, decl_draft, space_draft, inst_draft, lock_draft, barrier_draft, barrier_with, op_of}
 use Rattle.graph_reader.specs.FirstFault.{misnamed, misordered, draft_fault, item_fault, words_fault, or_else, is_empty}
 use Rattle.graph_reader.specs.Kinds.{HasPlaces, kind_draft}
 use Rattle.graph_reader.specs.Merges.{merge_verb}

@@ -20,10 +20,10 @@ use Rattle.graph_terms.specs.Fits.{access_outside}
 use Rattle.graph_terms.specs.Graph.{GraphValue, space_at, column_space}
 use Rattle.graph_terms.specs.Table.{Placed, kind_places, arrive_kind, arrive_parts, verb_parts, verb_of, is_row}
 use Rattle.graph_terms.proofs.KindLaws.{NumbersFit, kind_again, parts_again, each_is_row, over_space}
-use Rattle.graph_reader.specs.Draft.{Draft, as_place, number_in, number_in_place, column_number_of, space_number, same_word, draft, decl_draft_after, decl_draft, space_draft, inst_draft, lock_draft, barrier_draft, barrier_with, op_of}
-use Rattle.graph_reader.specs.Kinds.{HasPlaces, words_in, kind_verb}
+use Rattle.graph_words.specs.Draft.{Draft, as_place, number_in, number_in_place, column_number_of, space_number, same_word, draft, decl_draft_after, decl_draft, space_draft, inst_draft, lock_draft, barrier_draft, barrier_with, op_of, words_in}
+use Rattle.graph_reader.specs.Kinds.{HasPlaces, kind_verb}
 use Rattle.graph_reader.specs.Reading.{is_operation}
-use Rattle.graph_reader.specs.Words.{pieces}
+use Rattle.graph_words.specs.Words.{pieces}
 use Rattle.graph_reader.proofs.Drafts.{numbers_long}
 use Rattle.graph_reader.proofs.LineShapes.{decl_by_sign}
 use Rattle.refused_words.specs.Refused.{draft_accesses, leaves_column}

@@ -19,12 +19,12 @@ use Rattle.graph_terms.specs.Access.{access, verb_accesses}
 use Rattle.graph_terms.specs.Fits.{access_outside}
 use Rattle.graph_terms.specs.Graph.{GraphValue}
 use Rattle.graph_terms.specs.Table.{kind_places, kind_words}
-use Rattle.graph_reader.specs.Draft.{NewName, Draft, draft, as_place, form_of, is_of_form, same_word, merge_draft, column_number_of, space_number}
+use Rattle.graph_words.specs.Draft.{NewName, Draft, draft, as_place, form_of, is_of_form, same_word, merge_draft, column_number_of, space_number}
 use Rattle.graph_reader.specs.FirstFault.{draft_fault, item_fault, words_fault, or_else, is_empty}
 use Rattle.graph_reader.specs.Kinds.{HasPlaces, kind_verb}
 use Rattle.graph_reader.specs.Merges.{merge_verb}
 use Rattle.graph_reader.specs.Reading.{is_operation}
-use Rattle.graph_reader.specs.Words.{pieces}
+use Rattle.graph_words.specs.Words.{pieces}
 use Rattle.graph_reader.proofs.LineShapes.{line_by_sign, operation_long, line_kind, found_passes, places_there}
 use Rattle.graph_reader.proofs.Spelled.{chosen}
 use Rattle.refused_words.specs.Places.{is_merge, place_at}

@@ -9,7 +9,7 @@ use Rattle.graph_terms.specs.declared.why.Why.TheVariants as reasons
 use Rattle.graph_terms.specs.Graph.{GraphValue}
 use Rattle.graph_terms.specs.Fits.{IsGraph}
 use Rattle.graph_terms.specs.Spelling.{head}
-use Rattle.graph_reader.specs.Draft.{Draft, draft}
+use Rattle.graph_words.specs.Draft.{Draft, draft}
 use Rattle.graph_reader.specs.FirstFault.{words_fault}
 use Rattle.graph_reader.specs.Reading.{with_value}
 use Rattle.refused_words.specs.Refused.{IsRefusedAt}

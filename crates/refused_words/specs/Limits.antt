@@ -13,7 +13,7 @@ use Rattle.graph_terms.specs.declared.verb.Verb.TheVariants.{Merge, MergeIgnore}
 use Rattle.graph_terms.specs.Graph.{GraphValue, columns, locks, barriers, space_at}
 use Rattle.graph_terms.specs.Edges.{edges}
 use Rattle.graph_terms.specs.Fits.{is_inst, cell_count, with_decl, with_line}
-use Rattle.graph_reader.specs.Draft.{Draft, draft}
+use Rattle.graph_words.specs.Draft.{Draft, draft}
 use Rattle.refused_words.specs.declared.limits.Quantity.{Quantity}
 
 -- a quantity with its greatest value

@@ -5,7 +5,7 @@ use Rattle.graph_terms.specs.declared.format.Format.{Format}
 use Rattle.graph_terms.specs.declared.table.Kind.{Kind}
 use Rattle.graph_terms.specs.declared.table.TheConstants.{KINDS}
 use Rattle.graph_terms.specs.Table.{kind_words, kind_places}
-use Rattle.graph_reader.specs.Draft.{Place, NewName, SpaceName, EventName, Fields, Value, Count, Intervals, same_word, as_place, form_of, has_on, is_of_form}
+use Rattle.graph_words.specs.Draft.{Place, NewName, SpaceName, EventName, Fields, Value, Count, Intervals, same_word, as_place, form_of, has_on, is_of_form}
 use Rattle.graph_reader.specs.Reading.{is_operation}
 use Rattle.refused_words.specs.declared.places.WordPlace.{WordPlace}
 use Rattle.refused_words.specs.declared.places.WordPlace.TheVariants as words

@@ -13,8 +13,8 @@ use Rattle.graph_terms.specs.declared.why.Why.TheVariants as reasons
 use Rattle.graph_terms.specs.Graph.{GraphValue}
 use Rattle.graph_terms.specs.Access.{verb_accesses}
 use Rattle.graph_terms.specs.Fits.{access_outside}
-use Rattle.graph_reader.specs.Words.{pieces}
-use Rattle.graph_reader.specs.Draft.{Place, PhaseName, EventName, Column, Draft, draft, column_number_of}
+use Rattle.graph_words.specs.Words.{pieces}
+use Rattle.graph_words.specs.Draft.{Place, PhaseName, EventName, Column, Draft, draft, column_number_of}
 use Rattle.graph_reader.specs.FirstFault.{misnamed, twice, unknown, unlike, misnumbered, misordered}
 use Rattle.refused_words.specs.Places.{place_at}
 

@@ -3,7 +3,7 @@ use Rattle.std.specs.Prelude.{◌≡◌, ℕ, ◌<◌, Bool, true, List, [], Opt
 use Rattle.std.specs.List.{list_any}
 use Rattle.std.specs.Str.{bytes_eq}
 use Rattle.graph_terms.specs.declared.format.Format.{Format}
-use Rattle.graph_reader.specs.Draft.{Place}
+use Rattle.graph_words.specs.Draft.{Place}
 use Rattle.refused_words.specs.Places.{place_at}
 use Rattle.refused_words.specs.Refused.{is_event, is_column}
 

@@ -5,8 +5,8 @@ use Rattle.graph_terms.specs.declared.table.Place as table
 use Rattle.graph_terms.specs.declared.table.Place.TheVariants as places
 use Rattle.graph_terms.specs.Access.{access}
 use Rattle.graph_terms.specs.Graph.{GraphValue}
-use Rattle.graph_reader.specs.Draft.{column_number_of, space_number}
-use Rattle.graph_reader.specs.Words.{pieces}
+use Rattle.graph_words.specs.Draft.{column_number_of, space_number}
+use Rattle.graph_words.specs.Words.{pieces}
 
 -- the column in a place is used over the space in another
 abbrev pub use_in : GraphValue → List (List ℕ) → ℕ → Option table.Place → Option Access

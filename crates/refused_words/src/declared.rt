@@ -5,18 +5,18 @@ ghost use Rattle.std.specs.Prelude.{◌≡◌, ℕ, ◌≤◌, ◌<◌, ◌+◌,
 ghost use Rattle.index_spaces.specs.Space.{space_size};
 ghost use Rattle.graph_terms.specs.Graph.{GraphValue, space_at};
 ghost use Rattle.graph_terms.specs.Fits.{is_inst, cell_count};
-ghost use Rattle.graph_reader.specs.Draft.{op_of, decl_draft, space_draft, inst_draft, lock_draft, barrier_draft, SpaceName};
+ghost use Rattle.graph_words.specs.Draft.{op_of, decl_draft, space_draft, inst_draft, lock_draft, barrier_draft, SpaceName};
 ghost use Rattle.graph_reader.specs.Kinds.{named_number};
 ghost use Rattle.refused_words.specs.Limits.{quantity_value, limit_in, intervals_limit, inst_limit};
 
 use crate::limits::{Quantity, first_above, one_if, with_bound};
 use graph_model::graph::Graph;
-use graph_reader::intervals::intervals;
 use graph_reader::seen::see;
-use graph_reader::words::{split, word};
 use graph_terms::decl::Decl;
 use graph_terms::limits::{MAX_BARRIERS, MAX_CELLS, MAX_COLUMNS, MAX_INSTS, MAX_LOCKS};
 use graph_terms::table::Place;
+use graph_words::intervals::intervals;
+use graph_words::words::{split, word};
 use index_spaces::NoMemory;
 use index_spaces::limits::{MAX_INTERVALS, MAX_POINTS};
 use std::alloc::Global;

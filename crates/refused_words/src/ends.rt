@@ -2,15 +2,15 @@
 
 ghost use Rattle.basics.specs.Words.{contents};
 ghost use Rattle.std.specs.Prelude.{◌≡◌};
-ghost use Rattle.graph_reader.specs.Draft.{as_place};
+ghost use Rattle.graph_words.specs.Draft.{as_place};
 ghost use Rattle.refused_words.specs.Ends.{ends, IsFirstEnding, IsEndedBy};
 
 use crate::places::{WordPlace, place_at};
 use graph_model::graph::Graph;
 use graph_reader::seen::see;
-use graph_reader::words::word;
 use graph_terms::table::Place;
 use graph_terms::verb::Verb;
+use graph_words::words::word;
 
 /// The topmost line that ends the user event, or releases the acquire, which the word of number `k`
 /// names in a place where a line would do so again. `None` exactly where none does.

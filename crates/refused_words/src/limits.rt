@@ -2,7 +2,7 @@
 
 ghost use Rattle.basics.specs.Words.{contents};
 ghost use Rattle.std.specs.Prelude.{◌≡◌, ℕ, ◌≤◌, List, Some, nat_lt, true, cond, drop, length, find, option_map, IfOk};
-ghost use Rattle.graph_reader.specs.Draft.{line_draft, form_of, is_of_form};
+ghost use Rattle.graph_words.specs.Draft.{line_draft, form_of, is_of_form};
 ghost use Rattle.graph_reader.specs.Kinds.{kind_draft};
 ghost use Rattle.refused_words.specs.Limits.{quantity_value, quantity, limit_in, limit_of};
 ghost use Rattle.refused_words.specs.declared.limits.Quantity.{Quantity};
@@ -11,8 +11,8 @@ use crate::declared::of_declaration;
 use crate::operations::{of_kind, of_merge};
 use crate::places::is_operation;
 use graph_model::graph::Graph;
-use graph_reader::words::{behind, kind_of, word};
 use graph_terms::table::Kind;
+use graph_words::words::{behind, kind_of, word};
 use index_spaces::NoMemory;
 use std::alloc::Global;
 

@@ -4,7 +4,7 @@ ghost use Rattle.basics.specs.Words.{contents};
 ghost use Rattle.std.specs.Prelude.{◌≡◌, ℕ, ◌≤◌, ◌+◌, Bool, List, Some, None, codes, drop, length, option_map, is_some};
 ghost use Rattle.graph_terms.specs.Graph.{is_phase_of};
 ghost use Rattle.graph_terms.specs.Edges.{edges, last_place, verb_edges};
-ghost use Rattle.graph_reader.specs.Draft.{merge_draft};
+ghost use Rattle.graph_words.specs.Draft.{merge_draft};
 ghost use Rattle.graph_reader.specs.Kinds.{HasPlaces, kind_draft, kind_verb};
 ghost use Rattle.graph_reader.specs.Merges.{merge_verb};
 ghost use Rattle.refused_words.specs.Limits.{quantity_value, quantity, limit_in};
@@ -13,10 +13,10 @@ use crate::limits::{Quantity, first_above, one_if, with_bound};
 use graph_meaning::laws::edges_between_lines;
 use graph_model::graph::Graph;
 use graph_reader::seen::see;
-use graph_reader::words::{has_on, word};
 use graph_terms::limits::{MAX_EDGES, MAX_EVENTS, MAX_LINES};
 use graph_terms::table::{Kind, Place};
 use graph_terms::verb::Verb;
+use graph_words::words::{has_on, word};
 
 /// Of a merge, by the words behind its sign.
 pub(crate) fn of_merge(graph: &Graph, words: &[&[u8]]) -> Option<Quantity>

@@ -8,7 +8,7 @@ ghost use Rattle.index_spaces.specs.Space.{has_point, points};
 ghost use Rattle.graph_terms.specs.Access.{verb_accesses};
 ghost use Rattle.graph_terms.specs.Graph.{space_at, column_space};
 ghost use Rattle.graph_terms.specs.Table.{is_row};
-ghost use Rattle.graph_reader.specs.Draft.{draft, line_draft, form_of, is_of_form};
+ghost use Rattle.graph_words.specs.Draft.{draft, line_draft, form_of, is_of_form};
 ghost use Rattle.graph_reader.specs.Kinds.{HasPlaces, kind_draft, kind_verb};
 ghost use Rattle.refused_words.specs.Refused.{draft_accesses, leaves_column};
 ghost use Rattle.refused_words.specs.Uses.{use_at};
@@ -16,8 +16,8 @@ ghost use Rattle.refused_words.specs.Uses.{use_at};
 use crate::places::{is_merge, is_operation};
 use graph_model::graph::Graph;
 use graph_reader::seen::see;
-use graph_reader::words::{behind, kind_of, word};
 use graph_terms::table::{Kind, Place};
+use graph_words::words::{behind, kind_of, word};
 use index_spaces::laws::points_are_listed;
 
 /// Whether the line of these words uses the column of this number over a space that has points which

@@ -5,9 +5,9 @@ ghost use Rattle.std.specs.Prelude.{◌≡◌, ◌<◌, ◌≤◌, length, optio
 ghost use Rattle.graph_reader.specs.Reading.{is_operation};
 ghost use Rattle.refused_words.specs.Places.{place_value, space_place, inst_place, lock_place, barrier_place, decl_place, is_merge, behind_kind, kind_place, verb_place, operation_place, place_at};
 
-use graph_reader::words::{behind, has_on, kind_of, word};
 use graph_terms::format::Format;
 use graph_terms::table::{Kind, Place};
+use graph_words::words::{behind, has_on, kind_of, word};
 
 /// What stands in the place of a word of a line.
 #[derive(Clone, Copy, Debug, PartialEq, Eq)]

@@ -3,7 +3,7 @@
 ghost use Rattle.basics.specs.Words.{contents};
 ghost use Rattle.std.specs.Prelude.{◌≡◌, ◌==◌, false, IfOk};
 ghost use Rattle.std.specs.Option.{option_map_or};
-ghost use Rattle.graph_reader.specs.Draft.{as_place, NewName, EventName, Count};
+ghost use Rattle.graph_words.specs.Draft.{as_place, NewName, EventName, Count};
 ghost use Rattle.refused_words.specs.Places.{place_value};
 ghost use Rattle.refused_words.specs.Refused.{refuses, clashes, refuses_at, IsRefusedWord};
 
@@ -12,11 +12,11 @@ use crate::places::{WordPlace, place_at};
 use crate::repeats::first_repeat;
 use crate::spelled::{refuses_fields, refuses_intervals};
 use graph_model::graph::Graph;
-use graph_reader::numbers::count;
 use graph_reader::seen::{see, see_event};
-use graph_reader::words::word;
 use graph_terms::table::Place;
 use graph_terms::why::Why;
+use graph_words::numbers::count;
+use graph_words::words::word;
 use index_spaces::NoMemory;
 use std::alloc::Global;
 

@@ -8,10 +8,10 @@ ghost use Rattle.refused_words.specs.Repeats.{AreSeen};
 
 use crate::places::{WordPlace, place_at};
 use crate::seen_words::SeenWords;
-use graph_reader::words::word;
 use graph_terms::format::Format;
 use graph_terms::table::Place;
 use graph_terms::why::Why;
+use graph_words::words::word;
 use index_spaces::NoMemory;
 use std::alloc::Global;
 

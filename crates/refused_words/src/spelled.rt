@@ -2,15 +2,15 @@
 
 ghost use Rattle.std.specs.Prelude.{◌≡◌, false, true, IfOk, MatchOption};
 ghost use Rattle.graph_terms.specs.Graph.{GraphValue};
-ghost use Rattle.graph_reader.specs.Draft.{Fields, Intervals};
-ghost use Rattle.graph_reader.specs.Words.{pieces, is_fields, ascend_from};
+ghost use Rattle.graph_words.specs.Draft.{Fields, Intervals};
+ghost use Rattle.graph_words.specs.Words.{pieces, is_fields, ascend_from};
 ghost use Rattle.refused_words.specs.Refused.{refuses};
 
-use graph_reader::intervals::intervals;
-use graph_reader::names::{has_repeat, names_of};
-use graph_reader::words::split;
 use graph_terms::name::Name;
 use graph_terms::why::Why;
+use graph_words::intervals::intervals;
+use graph_words::names::{has_repeat, names_of};
+use graph_words::words::split;
 use index_spaces::NoMemory;
 use std::alloc::Global;
 

@@ -12,10 +12,10 @@ ghost use Rattle.realm_io.specs.Written.{Writes};
 
 use crate::words::{put_four, put_three};
 use graph_model::graph::Graph;
-use graph_reader::{put_column_name, put_interval};
 use graph_terms::name::Name;
 use graph_terms::outcome::{Answer, End, Outcome};
 use graph_terms::verb::{Line, Verb};
+use graph_writer::{put_column_name, put_interval};
 use index_spaces::column::Column;
 use index_spaces::limits::MAX_POINTS;
 use itoa::Buffer;

@@ -18,9 +18,9 @@ use Rattle.graph_terms.specs.Spelling.{head, spelled, line_words, line_name}
 use Rattle.graph_terms.specs.Fits.{first_reason, is_used, with_line, line_fault, line_tests, cell_count, is_inst, is_beyond, format_lacks}
 use Rattle.graph_terms.proofs.GraphPush.{head_with_line}
 use Rattle.graph_terms.proofs.EdgeFacts.{edges_push}
-use Rattle.graph_reader.specs.Draft.{line_number}
+use Rattle.graph_words.specs.Draft.{line_number}
 use Rattle.graph_reader.specs.FirstFault.{is_line_name}
-use Rattle.graph_reader.proofs.GraphNames.{each_fails, none_where_each_fails}
+use Rattle.graph_words.proofs.TextLists.{each_fails, none_where_each_fails}
 use Rattle.graph_reader.proofs.Owners.{position_any}
 use Rattle.session_text.specs.declared.entry.Link.{Link}
 use Rattle.session_text.specs.Fits.{trigger_line, trigger_reason}

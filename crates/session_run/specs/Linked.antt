@@ -9,7 +9,7 @@ use Rattle.graph_terms.specs.declared.verb.Verb.TheVariants.{Cancel}
 use Rattle.graph_terms.specs.Graph.{GraphValue}
 use Rattle.graph_terms.specs.Fits.{with_line}
 use Rattle.graph_meaning.specs.Evaluation.{eval_end}
-use Rattle.graph_reader.specs.Draft.{line_number}
+use Rattle.graph_words.specs.Draft.{line_number}
 use Rattle.realm_session.specs.Recorded.{answer_for}
 use Rattle.session_text.specs.declared.entry.Link.{Link}
 use Rattle.session_text.specs.declared.entry.Entry.{Entry}

@@ -14,9 +14,9 @@ use Rattle.graph_terms.specs.Graph.{GraphValue}
 use Rattle.graph_terms.specs.Spelling.{header, head}
 use Rattle.graph_terms.specs.Fits.{IsGraph}
 use Rattle.graph_terms.proofs.GraphPush.{body}
-use Rattle.graph_reader.specs.Words.{pieces}
-use Rattle.graph_reader.specs.Draft.{Draft, draft}
-use Rattle.graph_reader.specs.Text.{text, closing}
+use Rattle.graph_words.specs.Words.{pieces}
+use Rattle.graph_words.specs.Draft.{Draft, draft}
+use Rattle.graph_words.specs.Text.{text, closing}
 use Rattle.graph_reader.specs.FirstFault.{has_newline, first_line, next_reason, line_reason}
 use Rattle.graph_reader.specs.Reading.{after_line}
 use Rattle.graph_reader.proofs.Spelled.{chosen}

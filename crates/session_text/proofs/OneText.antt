@@ -6,7 +6,7 @@ use Rattle.graph_terms.specs.declared.why.Why.{Why}
 use Rattle.graph_terms.specs.declared.why.Why.TheVariants as why
 use Rattle.graph_terms.specs.Graph.{GraphValue}
 use Rattle.graph_terms.specs.Fits.{IsGraph}
-use Rattle.graph_reader.specs.Text.{text, GraphText}
+use Rattle.graph_words.specs.Text.{text, GraphText}
 use Rattle.graph_reader.specs.FirstFault.{line_count, FirstFault}
 use Rattle.graph_reader.proofs.TextTells.{one_reading}
 use Rattle.realm_audit.specs.Parts.{before_end, graph_bytes}

@@ -12,9 +12,9 @@ use Rattle.graph_terms.specs.Graph.{GraphValue}
 use Rattle.graph_terms.specs.Spelling.{spelled, head}
 use Rattle.graph_terms.specs.Name.{is_name}
 use Rattle.graph_terms.specs.Fits.{IsGraph}
-use Rattle.graph_reader.specs.Words.{pieces}
-use Rattle.graph_reader.specs.Text.{text}
-use Rattle.graph_reader.specs.Text as graph
+use Rattle.graph_words.specs.Words.{pieces}
+use Rattle.graph_words.specs.Text.{text}
+use Rattle.graph_words.specs.Text as graph
 use Rattle.graph_reader.specs.FirstFault.{has_newline, first_line, is_empty}
 use Rattle.graph_reader.specs.Reading.{after_line}
 use Rattle.graph_reader.proofs.LineSteps.{cut_newline, cut_first, cut_after, words_line, words_pieces, spelled_rest}

@@ -16,15 +16,15 @@ use Rattle.graph_terms.specs.Graph.{GraphValue}
 use Rattle.graph_terms.specs.Spelling.{head, spelled}
 use Rattle.graph_terms.specs.Fits.{IsGraph, cell_count}
 use Rattle.graph_terms.proofs.GraphPush.{long_head}
-use Rattle.graph_reader.specs.Words.{pieces}
-use Rattle.graph_reader.specs.Text.{text, GraphText}
+use Rattle.graph_words.specs.Words.{pieces}
+use Rattle.graph_words.specs.Text.{text, GraphText}
 use Rattle.graph_reader.specs.FirstFault.{has_newline, first_line, is_empty, or_else, line_count}
 use Rattle.graph_reader.specs.Reading.{after_line}
-use Rattle.graph_reader.specs.Cuts.{IsCut}
+use Rattle.graph_words.specs.Cuts.{IsCut}
 use Rattle.graph_reader.specs.declared.ReadRefusal.{ReadRefusal}
 use Rattle.graph_reader.specs.declared.ReadRefusal.TheVariants as refusals
 use Rattle.graph_reader.proofs.LineSteps.{whole_line}
-use Rattle.graph_reader.proofs.TextLists.{same_bytes}
+use Rattle.graph_words.proofs.TextLists.{same_bytes}
 use Rattle.graph_reader.proofs.WordFacts.{joined_pieces}
 use Rattle.graph_reader.proofs.TextTells.{one_graph}
 use Rattle.realm_audit.specs.Parts.{before_end, graph_bytes, trace_bytes}

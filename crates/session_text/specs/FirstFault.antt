@@ -6,8 +6,8 @@ use Rattle.graph_terms.specs.declared.why.Why.{Why}
 use Rattle.graph_terms.specs.declared.why.Why.TheVariants as why
 use Rattle.graph_terms.specs.Graph.{GraphValue}
 use Rattle.graph_terms.specs.Fits.{IsGraph}
-use Rattle.graph_reader.specs.Words.{pieces}
-use Rattle.graph_reader.specs.Text.{text}
+use Rattle.graph_words.specs.Words.{pieces}
+use Rattle.graph_words.specs.Text.{text}
 use Rattle.graph_reader.specs.FirstFault.{has_newline, first_line, is_empty, line_count, FirstFault}
 use Rattle.graph_reader.specs.declared.ReadRefusal.{ReadRefusal}
 use Rattle.graph_reader.specs.declared.ReadRefusal.TheVariants as refusals

@@ -10,7 +10,7 @@ use Rattle.graph_terms.specs.declared.why.Why.TheVariants as why
 use Rattle.graph_terms.specs.Graph.{GraphValue}
 use Rattle.graph_terms.specs.Name.{is_name}
 use Rattle.graph_terms.specs.Fits.{IsGraph, first_reason, is_used, with_line, line_fault, cell_count}
-use Rattle.graph_reader.specs.Draft.{line_number}
+use Rattle.graph_words.specs.Draft.{line_number}
 use Rattle.graph_reader.specs.FirstFault.{is_line_name, or_else}
 use Rattle.session_text.specs.declared.limits.TheConstants.{MAX_GRAPHS, MAX_SESSION_LINES}
 use Rattle.session_text.specs.declared.entry.Link.{Link}

@@ -1,7 +1,7 @@
 -- The one text of a session: graphs, one after the other, with links to operations of earlier ones.
 use Rattle.std.specs.Prelude.{ℕ, ◌+◌, List, [], ◌∷◌, ◌++◌, length, flat_map, sum_by, codes}
 use Rattle.graph_terms.specs.Spelling.{spelled}
-use Rattle.graph_reader.specs.Text.{text}
+use Rattle.graph_words.specs.Text.{text}
 use Rattle.graph_reader.specs.FirstFault.{line_count}
 use Rattle.session_text.specs.declared.entry.Link.{Link}
 use Rattle.session_text.specs.declared.entry.Entry.{Entry}

@@ -6,8 +6,8 @@ use Rattle.graph_terms.specs.declared.why.Why.TheVariants as why
 use Rattle.graph_terms.specs.Graph.{GraphValue}
 use Rattle.graph_reader.specs.declared.ReadRefusal.{ReadRefusal}
 use Rattle.graph_reader.specs.declared.ReadRefusal.TheVariants as refusals
-use Rattle.graph_reader.specs.Text.{GraphText}
-use Rattle.graph_reader.specs.Words.{pieces}
+use Rattle.graph_words.specs.Text.{GraphText}
+use Rattle.graph_words.specs.Words.{pieces}
 use Rattle.graph_reader.specs.FirstFault.{has_newline, first_line, or_else, FirstFault}
 use Rattle.graph_reader.specs.Reading.{after_line}
 use Rattle.realm_audit.specs.Parts.{graph_bytes, trace_bytes}

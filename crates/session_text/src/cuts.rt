@@ -2,7 +2,7 @@
 
 ghost use Rattle.std.specs.Prelude.{◌≡◌, ◌==◌, false, MatchOption};
 ghost use Rattle.std.specs.List.{list_any};
-ghost use Rattle.graph_reader.specs.Cuts.{IsCut};
+ghost use Rattle.graph_words.specs.Cuts.{IsCut};
 
 /// The bytes before the first `stop` and those behind it. `None` exactly where there is none.
 pub(crate) fn cut(bytes: &[u8], stop: u8) -> Option<(&[u8], &[u8])>

@@ -3,7 +3,7 @@
 ghost use Rattle.basics.specs.Words.{contents};
 ghost use Rattle.std.specs.Prelude.{◌≡◌, OnOk};
 ghost use Rattle.std.specs.List.{list_any};
-ghost use Rattle.graph_reader.specs.Words.{pieces};
+ghost use Rattle.graph_words.specs.Words.{pieces};
 ghost use Rattle.graph_reader.specs.FirstFault.{is_empty};
 ghost use Rattle.session_text.specs.FirstFault.{word_at, is_graph_line, is_link_line};
 

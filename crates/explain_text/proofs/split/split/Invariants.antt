@@ -1,6 +1,6 @@
 use Rattle.std.proofs.Common.{◌≡◌, ◌++◌, length}
 use Rattle.basics.specs.Words.{contents}
-use Rattle.graph_reader.specs.Words.{pieces}
+use Rattle.graph_words.specs.Words.{pieces}
 use Rattle.explain_text.proofs.split.split.Given as goal
 
 abbrev pub invariant-loop-part : goal.invariant-loop-part

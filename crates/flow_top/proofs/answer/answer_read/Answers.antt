@@ -1,7 +1,7 @@
 use Rattle.std.proofs.Common.{◌≡◌, ℕ, ◌+◌, ◌<◌, Bool, false, length, ◌∙◌, subst, inr, arith}
 use Rattle.std.proofs.lemmas.Result.{IfOk-weaker, IfErr-weaker}
 use Rattle.graph_terms.specs.Graph.{GraphValue}
-use Rattle.graph_reader.specs.Text.{text, GraphText}
+use Rattle.graph_words.specs.Text.{text, GraphText}
 use Rattle.task_flow.specs.Construction.{is_over, written}
 use Rattle.task_flow.specs.Written.{MeansFlow}
 use Rattle.flow_top.specs.Answer.{IsTooLong, IsFaultOfFlow}

@@ -1,5 +1,5 @@
 use Rattle.std.proofs.Common.{List, ℕ, ◌+◌, ◌∙◌, subst, ap, refl, inr}
-use Rattle.graph_reader.specs.Text.{GraphText}
+use Rattle.graph_words.specs.Text.{GraphText}
 use Rattle.flow_top.proofs.FlowLines.{flow_text}
 use Rattle.flow_top.proofs.reading.read_flow.Goals as goal
 

@@ -1,4 +1,4 @@
-use Rattle.graph_reader.specs.Text.{text}
+use Rattle.graph_words.specs.Text.{text}
 use Rattle.graph_answers.specs.declared.status.Status.TheVariants.{Done}
 use Rattle.program_io.proofs.Public.{written_then_flushed}
 use Rattle.graph_answers.proofs.upgrading.put_graph_text.Goals as goal

@@ -1,7 +1,7 @@
 use Rattle.std.proofs.Common.{ap, sym, ◌∙◌}
 use Rattle.graph_terms.specs.declared.decl.Decl.TheVariants as decl
 use Rattle.graph_terms.specs.Fits.{is_used}
-use Rattle.graph_reader.specs.Draft.{barrier_with}
+use Rattle.graph_words.specs.Draft.{barrier_with}
 use Rattle.graph_reader.proofs.DeclFaults.{read_by, barrier_is}
 use Rattle.graph_reader.proofs.decls.read_barrier.Goals as goal
 

@@ -1,6 +1,6 @@
 use Rattle.std.proofs.Common.{ap, sym, inl}
 use Rattle.graph_terms.specs.declared.decl.Decl.TheVariants as decl
-use Rattle.graph_reader.specs.Draft.{lock_with}
+use Rattle.graph_words.specs.Draft.{lock_with}
 use Rattle.graph_reader.proofs.DeclFaults.{read_by, lock_is}
 use Rattle.graph_reader.proofs.decls.read_lock.Goals as goal
 

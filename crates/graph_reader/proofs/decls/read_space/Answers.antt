@@ -2,9 +2,9 @@ use Rattle.std.proofs.Common.{ap, sym, ◌∙◌}
 use Rattle.std.specs.Prelude.{Some}
 use Rattle.graph_terms.specs.declared.decl.Decl.TheVariants as decl
 use Rattle.graph_terms.specs.Fits.{is_used}
-use Rattle.graph_reader.specs.Draft.{space_with}
+use Rattle.graph_words.specs.Draft.{space_with}
 use Rattle.graph_reader.proofs.DeclFaults.{space_is, read_by}
-use Rattle.graph_reader.proofs.IntervalWords.{some_interval}
+use Rattle.graph_words.proofs.IntervalWords.{some_interval}
 use Rattle.graph_reader.proofs.decls.read_space.Goals as goal
 
 pub read_intervals-requires-clause-some : goal.read_intervals-requires-clause-some

@@ -4,7 +4,8 @@ use Rattle.std.proofs.lemmas.Bool.{or_from}
 use Rattle.graph_terms.specs.declared.why.Why.TheVariants as why
 use Rattle.graph_terms.specs.declared.table.Kind.{Kind}
 use Rattle.graph_terms.specs.Fits.{repeats, is_used}
-use Rattle.graph_reader.specs.Kinds.{words_in, kind_placed, column_words, later_reason, IsFormFault}
+use Rattle.graph_words.specs.Draft.{words_in}
+use Rattle.graph_reader.specs.Kinds.{kind_placed, column_words, later_reason, IsFormFault}
 use Rattle.graph_reader.proofs.FormFaults.{misnamed_reason, twice_reason, left_reason}
 use Rattle.graph_reader.proofs.forms.form_fault.Goals as goal
 use Rattle.graph_reader.proofs.forms.form_fault.Goals.{then-faults-2-via-then-faults-2, then-faults-2-via-else-faults-2+then-columns_repeat}

@@ -1,7 +1,7 @@
 use Rattle.std.proofs.Common.{List, ℕ, ◌+◌, Bor, [], length, map, sym, ◌∙◌, ap, subst}
 use Rattle.std.specs.Prelude.{slice_index_or}
-use Rattle.graph_reader.specs.Draft.{form_of, EventName}
-use Rattle.graph_reader.specs.Kinds.{AllTell, Tells, kind_placed, words_in}
+use Rattle.graph_words.specs.Draft.{form_of, EventName, words_in}
+use Rattle.graph_reader.specs.Kinds.{AllTell, Tells, kind_placed}
 use Rattle.graph_reader.proofs.FormFaults.{placed_plain, placed_on}
 use Rattle.graph_reader.proofs.SeenWords.{all_tell_more}
 use Rattle.graph_reader.proofs.forms.see_form.Goals as goal

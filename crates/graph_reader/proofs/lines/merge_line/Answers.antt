@@ -1,6 +1,6 @@
 use Rattle.std.proofs.Common.{◌≤◌, List, ℕ, Bor, length, map, sym, subst, arith}
 use Rattle.std.proofs.lemmas.List.{length-map}
-use Rattle.graph_reader.specs.Draft.{merge_with}
+use Rattle.graph_words.specs.Draft.{merge_with}
 use Rattle.graph_reader.specs.Merges.{merge_verb}
 use Rattle.graph_reader.specs.Reading.{IsLineOf, IsLineRead}
 use Rattle.graph_reader.proofs.LineShapes.{merge_shape}

@@ -1,6 +1,6 @@
 use Rattle.std.proofs.Common.{◌≤◌, Ok, Err, List, ℕ, Bor, length, drop, map, sym, ◌∙◌, ap, arith}
 use Rattle.std.proofs.lemmas.List.{length-map}
-use Rattle.graph_reader.specs.Draft.{line_draft}
+use Rattle.graph_words.specs.Draft.{line_draft}
 use Rattle.graph_reader.proofs.LineShapes.{line_by_sign, line_read, operation_long}
 use Rattle.graph_reader.proofs.lines.operation.Goals as goal
 

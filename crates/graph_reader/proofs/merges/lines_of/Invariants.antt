@@ -1,6 +1,6 @@
 use Rattle.std.proofs.Common.{◌≡◌, ◌≤◌, true, length, take, map}
 use Rattle.std.specs.Vec.{vec_capacity}
-use Rattle.graph_reader.specs.Draft.{line_number}
+use Rattle.graph_words.specs.Draft.{line_number}
 use Rattle.graph_reader.specs.Merges.{all_lines}
 use Rattle.graph_reader.proofs.merges.lines_of.Given as goal
 

@@ -3,11 +3,11 @@ use Rattle.std.specs.Prelude.{slice_index_or}
 use Rattle.std.proofs.lemmas.List.{length-map, length-set}
 use Rattle.basics.specs.Words.{contents}
 use Rattle.graph_terms.specs.declared.table.Place.TheVariants as places
-use Rattle.graph_reader.specs.Draft.{Placed, as_place}
+use Rattle.graph_words.specs.Draft.{Placed, as_place, words_in}
 use Rattle.graph_reader.specs.FirstFault.{misnamed, twice, unknown, unlike, misnumbered}
-use Rattle.graph_reader.specs.Kinds.{named_number, placed_value, words_in}
+use Rattle.graph_reader.specs.Kinds.{named_number, placed_value}
 use Rattle.graph_reader.proofs.SeenWords.{placed_next, placed_over, any_next, any_end}
-use Rattle.graph_reader.proofs.WordLists.{set_next, parts_are}
+use Rattle.graph_reader.proofs.PartLists.{set_next, parts_are}
 use Rattle.graph_reader.proofs.parts.read_parts.Goals as goal
 
 pub loop-i-preserved : goal.loop-i-preserved

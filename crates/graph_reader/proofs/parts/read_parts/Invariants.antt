@@ -3,9 +3,9 @@ use Rattle.std.specs.Prelude.{slice_index, slice_index_or}
 use Rattle.basics.specs.Words.{contents}
 use Rattle.graph_terms.specs.declared.table.TheConstants.{MOST_PLACES}
 use Rattle.graph_terms.specs.declared.table.Place.TheVariants as places
-use Rattle.graph_reader.specs.Draft.{Placed, as_place}
+use Rattle.graph_words.specs.Draft.{Placed, as_place, words_in}
 use Rattle.graph_reader.specs.FirstFault.{misnamed, twice, unknown, unlike, misnumbered}
-use Rattle.graph_reader.specs.Kinds.{named_number, placed_value, words_in}
+use Rattle.graph_reader.specs.Kinds.{named_number, placed_value}
 use Rattle.graph_reader.proofs.SeenWords.{AnySoFar}
 use Rattle.graph_reader.proofs.parts.read_parts.Given as goal
 

@@ -1,7 +1,7 @@
 use Rattle.std.proofs.Common.{◌≡◌, Bool, false, List, ℕ, sym, ◌∙◌, ap, subst}
 use Rattle.std.specs.Prelude.{codes, bytes_eq, Some}
 use Rattle.graph_reader.specs.FirstFault.{first_line, words_fault}
-use Rattle.graph_reader.specs.Words.{pieces}
+use Rattle.graph_words.specs.Words.{pieces}
 use Rattle.graph_reader.specs.Reading.{IsReadAs, IsWordsError, IsUnreadBy}
 use Rattle.graph_reader.proofs.ReadSoFar.{closed_read, refused_line, no_line}
 use Rattle.graph_reader.proofs.ItemReads.{item_read}

@@ -1,4 +1,4 @@
-use Rattle.graph_reader.specs.Words.{pieces}
+use Rattle.graph_words.specs.Words.{pieces}
 use Rattle.graph_reader.proofs.ItemReads.{may_follow, taken, not_taken}
 use Rattle.graph_reader.proofs.reader.take_line.Goals as goal
 

@@ -1,5 +1,5 @@
 use Rattle.std.proofs.Common.{sym, subst}
-use Rattle.graph_reader.specs.Draft.{as_place}
+use Rattle.graph_words.specs.Draft.{as_place}
 use Rattle.graph_reader.specs.Kinds.{Tells}
 use Rattle.graph_reader.proofs.seen.see.Goals as goal
 

@@ -1,5 +1,5 @@
 use Rattle.std.proofs.Common.{sym, subst}
-use Rattle.graph_reader.specs.Draft.{Column}
+use Rattle.graph_words.specs.Draft.{Column}
 use Rattle.graph_reader.specs.Lookups.{IsFound}
 use Rattle.graph_reader.specs.Kinds.{Tells}
 use Rattle.graph_reader.proofs.ColumnWords.{column_tells, misspelled_tells}

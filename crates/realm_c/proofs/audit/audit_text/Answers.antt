@@ -1,5 +1,5 @@
 use Rattle.std.proofs.Common.{subst}
-use Rattle.graph_reader.specs.Text.{GraphText}
+use Rattle.graph_words.specs.Text.{GraphText}
 use Rattle.realm_c.specs.Audits.{TraceSays}
 use Rattle.realm_c.specs.Refusals.{IsCheckRefusal}
 use Rattle.realm_c.proofs.Auditing.{text_says}

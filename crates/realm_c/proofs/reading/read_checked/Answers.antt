@@ -2,7 +2,7 @@ use Rattle.std.proofs.Common.{sym, subst}
 use Rattle.std.proofs.lemmas.Result.{IfOk-weaker, IfErr-weaker}
 use Rattle.graph_meaning.specs.Need.{IsNeed}
 use Rattle.graph_meaning.specs.Rules.{Accepted}
-use Rattle.graph_reader.specs.Text.{GraphText}
+use Rattle.graph_words.specs.Text.{GraphText}
 use Rattle.realm_c.proofs.Refusing.{refused_as_read, refused_as_judged, by_its_graph}
 use Rattle.realm_c.proofs.reading.read_checked.Goals as goal
 

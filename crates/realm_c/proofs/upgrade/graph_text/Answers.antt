@@ -1,5 +1,5 @@
 use Rattle.std.proofs.Common.{◌≡◌, [], ap, ◌∙◌}
-use Rattle.graph_reader.specs.Text.{text}
+use Rattle.graph_words.specs.Text.{text}
 use Rattle.realm_io.specs.TextSinks.{TextSinkValue}
 use Rattle.realm_c.proofs.Handing.{taken_is}
 use Rattle.realm_c.proofs.upgrade.graph_text.Goals as goal

@@ -1,5 +1,5 @@
 use Rattle.graph_terms.specs.declared.limits.TheConstants.{MAX_BARRIERS}
-use Rattle.graph_reader.specs.Draft.{op_of}
+use Rattle.graph_words.specs.Draft.{op_of}
 use Rattle.std.proofs.Common.{◌≡◌, ◌+◌, true, [], ◌∷◌, length, sym, ◌∙◌, ap, arith}
 use Rattle.std.specs.Prelude.{option_map, codes, is_some, slice_index_or}
 use Rattle.std.proofs.lemmas.List.{length-map}

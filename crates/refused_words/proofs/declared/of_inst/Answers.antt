@@ -2,8 +2,8 @@ use Rattle.std.proofs.Common.{◌≡◌, [], length, ◌∙◌, ap, arith}
 use Rattle.std.specs.Prelude.{slice_index_or}
 use Rattle.std.proofs.lemmas.List.{length-map}
 use Rattle.basics.specs.Words.{contents}
-use Rattle.graph_reader.specs.Draft.{space_number}
-use Rattle.graph_reader.specs.Words.{pieces}
+use Rattle.graph_words.specs.Draft.{space_number}
+use Rattle.graph_words.specs.Words.{pieces}
 use Rattle.refused_words.proofs.LimitFacts.{inst_is_limit}
 use Rattle.refused_words.proofs.declared.of_inst.Goals as goal
 

@@ -1,6 +1,6 @@
 use Rattle.std.proofs.Common.{◌≡◌, ℕ, ◌<◌, false}
 use Rattle.graph_terms.specs.Graph.{line_passes}
-use Rattle.graph_reader.specs.Draft.{as_place}
+use Rattle.graph_words.specs.Draft.{as_place}
 use Rattle.refused_words.specs.Ends.{ends}
 use Rattle.refused_words.proofs.ends.first_ending.Given as goal
 

@@ -2,7 +2,7 @@ use Rattle.std.proofs.Common.{true, false, List, ℕ, Bor, map, sym, ◌∙◌, 
 use Rattle.std.specs.Prelude.{find}
 use Rattle.std.specs.Str.{bytes_eq}
 use Rattle.graph_terms.specs.declared.table.TheConstants.{KINDS}
-use Rattle.graph_reader.specs.Draft.{form_of, is_of_form}
+use Rattle.graph_words.specs.Draft.{form_of, is_of_form}
 use Rattle.graph_reader.proofs.LineShapes.{line_kind, found_passes}
 use Rattle.refused_words.specs.Limits.{limit_in}
 use Rattle.refused_words.proofs.LimitFacts.{as_merge, as_mergei}

@@ -1,7 +1,7 @@
 use Rattle.basics.specs.Words.{contents}
 use Rattle.std.proofs.Common.{ap, ◌∙◌}
-use Rattle.graph_reader.specs.Draft.{column_number_of, space_number}
-use Rattle.graph_reader.specs.Words.{pieces}
+use Rattle.graph_words.specs.Draft.{column_number_of, space_number}
+use Rattle.graph_words.specs.Words.{pieces}
 use Rattle.refused_words.proofs.UseFacts.{use_found, no_use_at}
 use Rattle.refused_words.proofs.outside.is_use.Goals as goal
 

@@ -1,5 +1,5 @@
 use Rattle.std.proofs.Common.{◌≡◌, ◌<◌, ◌^◌, length}
-use Rattle.graph_reader.specs.Words.{ascend_from}
+use Rattle.graph_words.specs.Words.{ascend_from}
 use Rattle.refused_words.proofs.spelled.ascend.Given as goal
 
 abbrev pub invariant-loop-rest : goal.invariant-loop-rest

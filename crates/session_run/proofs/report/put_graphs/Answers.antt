@@ -1,4 +1,4 @@
-use Rattle.graph_reader.proofs.WrittenLists.{flat_item}
+use Rattle.graph_writer.proofs.WrittenLists.{flat_item}
 use Rattle.realm_io.proofs.WrittenLaws.{stops, goes_on, breaks_off}
 use Rattle.session_run.specs.declared.running.RanGraph.{RanGraph}
 use Rattle.session_run.specs.Running.{linked_of}

@@ -1,7 +1,7 @@
 use Rattle.std.proofs.Common.{◌≡◌, ℕ, ◌+◌, ◌≤◌, List, ◌++◌, length, length-take, length-drop, ap, sym, ◌∙◌, subst, arith}
 use Rattle.std.proofs.lemmas.Result.{IfOk-weaker, IfErr-weaker}
 use Rattle.graph_reader.specs.FirstFault.{line_count}
-use Rattle.graph_reader.specs.Text.{text, GraphText}
+use Rattle.graph_words.specs.Text.{text, GraphText}
 use Rattle.realm_audit.specs.Parts.{before_end, graph_bytes, trace_bytes}
 use Rattle.session_text.specs.Session.{graph_line}
 use Rattle.session_text.specs.Fits.{graph_reason}

@@ -1,5 +1,0 @@
-use Rattle.realm_io.proofs.WrittenLaws.{then_writes}
-use Rattle.graph_reader.proofs.word_kinds.put_behind.Goals as goal
-
-pub returns : goal.returns
-returns g c = then_writes _ _ _ c.args.separator.now _ c.put_word.result c.in_ok-put_bytes.ensures c.put_word.ensures

@@ -1,8 +1,0 @@
-use Rattle.std.proofs.Common.{drop}
-use Rattle.graph_reader.specs.WrittenWords.{comma_from}
-use Rattle.realm_io.proofs.WrittenLaws.{Progress}
-use Rattle.graph_reader.proofs.writer.put_fields.Given as goal
-
-abbrev pub invariant-loop-i : goal.invariant-loop-i
-invariant-loop-i g l = Progress (g.K.Sink.state l.initial.sink) (g.K.Sink.state l.sink)
-    (comma_from (λ w. w) 0 l.fields) (comma_from (λ w. w) l.i (drop l.i l.fields))

@@ -1,8 +1,0 @@
-use Rattle.std.proofs.Common.{drop}
-use Rattle.basics.specs.Words.{contents}
-use Rattle.realm_io.proofs.WrittenLaws.{Progress}
-use Rattle.graph_reader.specs.WrittenWords.{spaced}
-use Rattle.graph_reader.proofs.writer.put_fixed.Given as goal
-
-abbrev pub invariant-loop-i : goal.invariant-loop-i
-invariant-loop-i g l = Progress (g.K.Sink.state l.initial.sink) (g.K.Sink.state l.sink) (spaced (contents l.words)) (spaced (drop l.i (contents l.words)))

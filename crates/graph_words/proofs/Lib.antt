@@ -1,0 +1,7 @@
+pub mod CutBytes
+pub mod TextLists
+pub mod NameLists
+pub mod IntervalWords
+pub mod WordLists
+pub mod WholeText
+pub mod KnownItems

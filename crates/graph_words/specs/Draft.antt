@@ -1,0 +1,221 @@
+-- A line of text with its words in their places, before the names in it are looked up.
+use Rattle.std.specs.Prelude.{ℕ, ◌+◌, ◌==◌, Bool, true, false, cond, ◌&&◌, ◌||◌, List, [], ◌∷◌, ◌++◌, length, map, drop, find, zip, ◌⊎◌, Option, Some, None, option_map, unwrap_or, slice_index_or, codes, position}
+use Rattle.std.specs.List.{starts_with, list_all}
+use Rattle.std.specs.Str.{bytes_eq}
+use Rattle.std.proofs.Common.{inl, inr}
+use Rattle.index_spaces.specs.declared.Op.{Op}
+use Rattle.index_spaces.specs.declared.Op.TheVariants as op
+use Rattle.graph_terms.specs.declared.decl.Decl.{Decl}
+use Rattle.graph_terms.specs.declared.decl.Decl.TheVariants as decl
+use Rattle.graph_terms.specs.declared.verb.Line.{Line}
+use Rattle.graph_terms.specs.declared.verb.Verb.{Verb}
+use Rattle.graph_terms.specs.declared.verb.Verb.TheVariants.{Merge, MergeIgnore}
+use Rattle.graph_terms.specs.declared.table.Kind.{Kind}
+use Rattle.graph_terms.specs.declared.table.TheConstants.{KINDS}
+use Rattle.graph_terms.specs.declared.table.Place as table
+use Rattle.graph_terms.specs.declared.table.Place.TheVariants as places
+use Rattle.graph_terms.specs.declared.format.Format.{Format}
+use Rattle.graph_terms.specs.declared.format.Format.TheVariants.{One, Two}
+use Rattle.graph_terms.specs.Table.{kind_words, kind_places, kind_takes_on, kind_since, verb_of}
+use Rattle.graph_terms.specs.declared.decl.ColumnInfo.{ColumnInfo}
+use Rattle.graph_terms.specs.declared.decl.BarrierInfo.{BarrierInfo}
+use Rattle.graph_terms.specs.Graph.{GraphValue, named_spaces, columns, locks, barriers}
+use Rattle.graph_words.specs.Words.{pieces, value_of, count_of, weight_of, intervals_of}
+
+-- what stands in the place of a word
+pub data Place : Type 0 where
+  NewName SpaceName LockName BarrierName UserName PhaseName AcquireName EventName Column Fields Value Times Weight Shared Count Intervals : Place
+
+-- a word in its place
+abbrev pub Placed : Type 0
+Placed = Place × List ℕ
+
+-- the words of a line in their places, and the declaration or the line that they spell
+pub record Draft : Type 0 where
+  pub placed : List Placed
+  pub item : Decl ⊎ Line
+
+-- the numbers of names, 0 where a name is unknown
+abbrev pub space_number : GraphValue → List ℕ → ℕ
+space_number g w = unwrap_or (position (λ (x : List ℕ × List (ℕ × ℕ)). bytes_eq x.0 w) (named_spaces g)) 0
+
+abbrev pub lock_number : GraphValue → List ℕ → ℕ
+lock_number g w = unwrap_or (position (bytes_eq w) (locks g)) 0
+
+abbrev pub barrier_number : GraphValue → List ℕ → ℕ
+barrier_number g w = unwrap_or (position (λ (x : BarrierInfo). bytes_eq x.name w) (barriers g)) 0
+
+abbrev pub line_number : GraphValue → List ℕ → ℕ
+line_number g w = unwrap_or (position (λ (x : Line). bytes_eq x.name w) g.lines) 0
+
+abbrev pub column_number_of : GraphValue → List (List ℕ) → ℕ
+column_number_of g (inst ∷ field ∷ []) = unwrap_or (position (λ (x : ColumnInfo). bytes_eq x.inst inst && bytes_eq x.field field) (columns g)) 0
+column_number_of g _ = 0
+
+-- the number that a word stands for in its place
+abbrev pub number_in_place : GraphValue → Place → List ℕ → ℕ
+number_in_place g SpaceName w = space_number g w
+number_in_place g LockName w = lock_number g w
+number_in_place g BarrierName w = barrier_number g w
+number_in_place g UserName w = line_number g w
+number_in_place g PhaseName w = line_number g w
+number_in_place g AcquireName w = line_number g w
+number_in_place g EventName w = line_number g w
+number_in_place g Column w = column_number_of g (pieces 46 w)
+number_in_place g Value w = unwrap_or (value_of w) 0
+number_in_place g Weight w = unwrap_or (weight_of w) 0
+number_in_place g Count w = unwrap_or (count_of w) 0
+number_in_place g _ w = 0
+
+abbrev pub number_in : GraphValue → Placed → ℕ
+number_in g p = number_in_place g p.0 p.1
+
+-- a place of an operation line's word
+abbrev pub as_place : table.Place → Place
+as_place places.User = UserName
+as_place places.Phase = PhaseName
+as_place places.Acquire = AcquireName
+as_place places.Lock = LockName
+as_place places.Barrier = BarrierName
+as_place places.Space = SpaceName
+as_place places.Value = Value
+as_place places.Times = Times
+as_place places.Weight = Weight
+as_place places.Shared = Shared
+as_place (places.Column mode over) = Column
+
+-- a form of an operation line: its fixed words, the places behind them, whether a precondition may follow, the format that brought it, and the verb by the numbers in the places
+pub record Form : Type 0 where
+  pub words : List (List ℕ)
+  pub places : List Place
+  pub takes_on : Bool
+  pub since : Format
+  pub verb : List ℕ → Verb
+
+-- the form of a kind
+abbrev pub form_of : Kind → Form
+form_of kind = record { words = kind_words kind; places = map as_place (kind_places kind); takes_on = kind_takes_on kind; since = kind_since kind; verb = verb_of kind }
+
+-- the forms of operation lines but for merges
+abbrev pub forms : List Form
+forms = map form_of KINDS
+
+abbrev pub same_word : List ℕ → List ℕ → Bool
+same_word a b = bytes_eq a b
+
+-- whether the words behind the fixed words are as many as the places, or two more of which the first is `on`
+abbrev pub has_on : Form → List (List ℕ) → Bool
+has_on f rest = f.takes_on && (length rest == length f.places + 2 && same_word (slice_index_or rest (length f.places) []) (codes "on"))
+
+-- whether a form that one format brought is there in another
+abbrev pub is_since : Format → Format → Bool
+is_since One format = true
+is_since Two Two = true
+is_since Two One = false
+
+-- whether a word is the one that its place takes, where that takes one word alone
+abbrev pub is_own_word : Place → List ℕ → Bool
+is_own_word Times w = same_word w (codes "times")
+is_own_word Shared w = same_word w (codes "shared")
+is_own_word _ w = true
+
+-- whether the words behind the fixed ones fit the form, and the format has it
+abbrev pub fits_behind : Format → Form → List (List ℕ) → Bool
+fits_behind format f rest = is_since f.since format && ((length rest == length f.places || has_on f rest) && list_all (λ (p : Placed). is_own_word p.0 p.1) (zip f.places rest))
+
+-- whether the words have the form
+abbrev pub is_of_form : Format → List (List ℕ) → Form → Bool
+is_of_form format ws f = starts_with same_word ws f.words && fits_behind format f (drop (length f.words) ws)
+
+-- the last word in the place of an event, where `on` stands
+abbrev pub on_placed : Form → List (List ℕ) → List Placed
+on_placed f rest = cond (has_on f rest) ((EventName, slice_index_or rest (length f.places + 1) []) ∷ []) []
+
+-- the words behind the name and the sign of a line of this form
+abbrev pub form_draft : GraphValue → List ℕ → List (List ℕ) → Form → Draft
+form_draft g name rest f = record {
+  placed = (NewName, name) ∷ zip f.places rest ++ on_placed f rest;
+  item = inr (record {
+    name = name;
+    verb = f.verb (map (number_in g) (zip f.places rest));
+    on = cond (has_on f rest) (Some (line_number g (slice_index_or rest (length f.places + 1) []))) None;
+  });
+}
+
+-- the words behind the fixed one of a merge
+abbrev pub merge_with : GraphValue → List ℕ → (List ℕ → Verb) → List (List ℕ) → Draft
+merge_with g name verb es = record {
+  placed = (NewName, name) ∷ map (λ w. (EventName, w)) es;
+  item = inr (record { name = name; verb = verb (map (line_number g) es); on = None });
+}
+
+-- a merge of one or more events
+abbrev pub merge_draft : GraphValue → List ℕ → (List ℕ → Verb) → List (List ℕ) → Option Draft
+merge_draft g name verb [] = None
+merge_draft g name verb (e ∷ es) = Some (merge_with g name verb (e ∷ es))
+
+-- an operation line with this name and these words behind the sign
+abbrev pub line_draft : GraphValue → List ℕ → List (List ℕ) → Option Draft
+line_draft g name [] = None
+line_draft g name (w ∷ ws) =
+    cond (same_word w (codes "merge")) (merge_draft g name Merge ws)
+    (cond (same_word w (codes "mergei")) (merge_draft g name MergeIgnore ws)
+    (option_map (λ f. form_draft g name (drop (length f.words) (w ∷ ws)) f) (find (is_of_form g.format (w ∷ ws)) forms)))
+
+-- a declaration by its words
+abbrev pub space_with : List ℕ → List ℕ → Draft
+space_with name intervals = record { placed = (NewName, name) ∷ (Intervals, intervals) ∷ []; item = inl (decl.Space name (unwrap_or (intervals_of intervals) [])) }
+
+abbrev pub space_draft : GraphValue → List (List ℕ) → Option Draft
+space_draft g (name ∷ intervals ∷ []) = Some (space_with name intervals)
+space_draft g _ = None
+
+abbrev pub inst_with : GraphValue → List ℕ → List ℕ → List ℕ → Draft
+inst_with g name space fields = record { placed = (NewName, name) ∷ (SpaceName, space) ∷ (Fields, fields) ∷ []; item = inl (decl.Inst name (space_number g space) (pieces 44 fields)) }
+
+abbrev pub inst_draft : GraphValue → List (List ℕ) → Option Draft
+inst_draft g (name ∷ space ∷ fields ∷ []) = Some (inst_with g name space fields)
+inst_draft g _ = None
+
+abbrev pub lock_with : List ℕ → Draft
+lock_with name = record { placed = (NewName, name) ∷ []; item = inl (decl.Lock name) }
+
+abbrev pub lock_draft : GraphValue → List (List ℕ) → Option Draft
+lock_draft g (name ∷ []) = Some (lock_with name)
+lock_draft g _ = None
+
+abbrev pub barrier_with : List ℕ → List ℕ → Op → List ℕ → Draft
+barrier_with name count o first = record {
+  placed = (NewName, name) ∷ (Count, count) ∷ (Value, first) ∷ [];
+  item = inl (decl.Barrier name (unwrap_or (count_of count) 0) o (unwrap_or (value_of first) 0));
+}
+
+-- the reduction that a word names
+abbrev pub op_of : List ℕ → Option Op
+op_of w = cond (same_word w (codes "sum")) (Some op.Sum) (cond (same_word w (codes "min")) (Some op.Min) (cond (same_word w (codes "max")) (Some op.Max) None))
+
+abbrev pub barrier_draft : GraphValue → List (List ℕ) → Option Draft
+barrier_draft g (name ∷ count ∷ w ∷ first ∷ []) = option_map (λ o. barrier_with name count o first) (op_of w)
+barrier_draft g _ = None
+
+abbrev pub decl_draft : GraphValue → List (List ℕ) → Option Draft
+decl_draft g [] = None
+decl_draft g (w ∷ ws) =
+    cond (same_word w (codes "space")) (space_draft g ws)
+    (cond (same_word w (codes "inst")) (inst_draft g ws)
+    (cond (same_word w (codes "lock")) (lock_draft g ws)
+    (cond (same_word w (codes "barrier")) (barrier_draft g ws) None)))
+
+-- a declaration may not stand after an operation line
+abbrev pub decl_draft_after : GraphValue → List Line → List (List ℕ) → Option Draft
+decl_draft_after g [] ws = decl_draft g ws
+decl_draft_after g (l ∷ ls) ws = None
+
+-- the words of a line in their places: a line whose second word is `=` is an operation line, and any other is a declaration
+abbrev pub draft : GraphValue → List (List ℕ) → Option Draft
+draft g (name ∷ sign ∷ ws) = cond (same_word sign (codes "=")) (line_draft g name ws) (decl_draft_after g g.lines (name ∷ sign ∷ ws))
+draft g ws = decl_draft_after g g.lines ws
+
+-- words, each in its place
+abbrev pub words_in : List table.Place → List (List ℕ) → List Placed
+words_in ps ws = zip (map as_place ps) ws

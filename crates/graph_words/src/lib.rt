@@ -1,0 +1,9 @@
+//! The words and lines of the text of a graph: how bytes are cut into words, the kind of an operation
+//! line by its words, and what words spell.
+#![tactic(auto)]
+
+pub mod cuts;
+pub mod intervals;
+pub mod names;
+pub mod numbers;
+pub mod words;

@@ -1,0 +1,153 @@
+//! Words of a line.
+
+ghost use Rattle.basics.specs.Words.{contents};
+ghost use Rattle.std.specs.Prelude.{◌≡◌, ◌≤◌, length, drop, map, ◌==◌, find, OnOk, IfOk, IfSome, MatchOption, [], slice_index_or, option_map, option_copied};
+ghost use Rattle.graph_words.specs.Words.{pieces};
+ghost use Rattle.graph_words.specs.Draft.{Placed, form_of, is_since, is_own_word, fits_behind, is_of_form, same_word, has_on, as_place, words_in};
+ghost use Rattle.std.specs.List.{list_any, list_all, starts_with};
+
+use crate::cuts::cut;
+use graph_terms::format::Format;
+use graph_terms::table::{KINDS, Kind, Place};
+use index_spaces::NoMemory;
+use index_spaces::room::push;
+use std::alloc::Global;
+
+/// Puts the pieces of bytes between the separators into a list, in place of what it held.
+pub fn split_into<'a>(
+    words: &mut Vec<&'a [u8]>,
+    bytes: &'a [u8],
+    separator: u8,
+) -> Result<(), NoMemory>
+    ensures { OnOk result (contents words.new.items ≡ pieces separator bytes.now) }
+{
+    words.clear();
+    let mut rest = bytes;
+    while let Some((word, after)) = cut(rest, separator) {
+        push(words, word)?;
+        rest = after;
+    }
+    push(words, rest)
+}
+
+/// The pieces of bytes between the separators.
+pub fn split(alloc: Global, bytes: &[u8], separator: u8) -> Result<Vec<&[u8]>, NoMemory>
+    ensures { IfOk result (λ v. contents v.items ≡ pieces separator bytes.now) }
+{
+    let mut words = Vec::new(alloc);
+    split_into(&mut words, bytes, separator)?;
+    Ok(words)
+}
+
+/// The word at a place, or no byte where there is none.
+pub fn word<'a>(words: &[&'a [u8]], i: usize) -> &'a [u8]
+    ensures { result.now ≡ slice_index_or (contents words.now) i [] }
+{
+    match words.get(i) {
+        Some(word) => word,
+        None => b"",
+    }
+}
+
+/// The words behind the first `n`.
+pub fn behind<'a, 'b>(words: &'b [&'a [u8]], n: usize) -> &'b [&'a [u8]]
+    requires { n ≤ length words.now }
+    ensures { contents result.now ≡ drop n (contents words.now) }
+{
+    &words[n..]
+}
+
+/// Whether the words begin with the fixed ones. Most kinds differ by the first.
+fn begins(words: &[&[u8]], fixed: &[&[u8]]) -> bool
+    ensures { result ≡ starts_with same_word (contents words.now) (contents fixed.now) }
+{
+    match (words, fixed) {
+        (_, []) => true,
+        ([], _) => false,
+        ([word, rest @ ..], [first, others @ ..]) => first == word && all_follow(rest, others),
+    }
+}
+
+/// Whether the words begin with the fixed ones, which are compared one by one.
+fn all_follow(words: &[&[u8]], fixed: &[&[u8]]) -> bool
+    ensures { result ≡ starts_with same_word (contents words.now) (contents fixed.now) }
+{
+    if words.len() < fixed.len() {
+        return false;
+    }
+    words.iter().zip(fixed).all(|(word, fixed)| fixed == word)
+}
+
+/// How many places a kind has.
+#[tactic(auto, using(crate::proofs::WordLists::places_counted))]
+pub fn place_count(kind: Kind) -> usize
+    ensures { result ≡ length (form_of kind).places }
+{
+    kind.places().len()
+}
+
+/// Whether `on` and a word follow the words of a kind.
+pub fn has_on(kind: Kind, rest: &[&[u8]]) -> bool
+    ensures { result ≡ has_on (form_of kind) (contents rest.now) }
+{
+    let places = place_count(kind);
+    kind.takes_on() && rest.len() == places + 2 && word(rest, places) == b"on".as_slice()
+}
+
+/// Whether what one format brought is there in another.
+fn is_since(since: Format, format: Format) -> bool
+    ensures { result ≡ is_since since format }
+{
+    match (since, format) {
+        (Format::Two, Format::One) => false,
+        _ => true,
+    }
+}
+
+/// Whether a word is the one that its place takes, where that takes one word alone.
+fn is_own_word(place: Place, word: &[u8]) -> bool
+    ensures { result ≡ is_own_word (as_place place) word.now }
+{
+    match place {
+        Place::Times => word == b"times".as_slice(),
+        Place::Shared => word == b"shared".as_slice(),
+        _ => true,
+    }
+}
+
+/// Whether each word in its place is the one that the place takes, where that takes one word alone.
+fn are_own_words(places: &[Place], words: &[&[u8]]) -> bool
+    ensures { result ≡ list_all (λ (p : Placed). is_own_word p.0 p.1) (words_in places.now (contents words.now)) }
+{
+    places
+        .iter()
+        .zip(words)
+        .all(|(place, word)| is_own_word(*place, word))
+}
+
+/// Whether the words behind the fixed ones fit a kind, and the format has it.
+fn fits_behind(format: Format, kind: Kind, rest: &[&[u8]]) -> bool
+    ensures { result ≡ fits_behind format (form_of kind) (contents rest.now) }
+{
+    is_since(kind.since(), format)
+        && (rest.len() == place_count(kind) || has_on(kind, rest))
+        && are_own_words(kind.places(), rest)
+}
+
+/// Whether the words behind the sign have the form of a kind.
+fn is_of_kind(format: Format, words: &[&[u8]], kind: Kind) -> bool
+    ensures { result ≡ is_of_form format (contents words.now) (form_of kind) }
+{
+    let fixed = kind.words();
+    begins(words, fixed) && fits_behind(format, kind, &words[fixed.len()..])
+}
+
+/// The kind of the words behind the sign.
+pub fn kind_of(format: Format, words: &[&[u8]]) -> Option<Kind>
+    ensures { result ≡ find (λ k. is_of_form format (contents words.now) (form_of k)) KINDS }
+{
+    KINDS
+        .iter()
+        .copied()
+        .find(|kind| is_of_kind(format, words, *kind))
+}

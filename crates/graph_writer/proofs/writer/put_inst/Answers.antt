@@ -1,0 +1,15 @@
+use Rattle.std.proofs.Common.{List, ℕ, [], ◌∷◌, ◌++◌, ◌∙◌, ap}
+use Rattle.std.specs.Prelude.{codes}
+use Rattle.graph_writer.specs.WrittenWords.{word_text, comma_from}
+use Rattle.graph_writer.proofs.WrittenLists.{front_two}
+use Rattle.realm_io.proofs.WrittenLaws.{then_writes, writes_as, stops, stopped_as, stopped_early, stopped_later}
+use Rattle.graph_writer.proofs.writer.put_inst.Goals as goal
+
+pub returns-in_err-put_plain : goal.returns-in_err-put_plain
+returns-in_err-put_plain g c = stops _ _ _ c.from_residual.result c.from_residual.ensures.0 (stopped_as _ _ _ _ (ap (λ x. codes "inst " ++ x) (front_two c.args.name.now (word_text c.space_word.result) (comma_from (λ (w : List ℕ). w) 0 c.args.fields.now ++ 10 ∷ [])) ∙ ap (λ s. codes "inst " ++ (c.args.name.now ++ (32 ∷ (s ++ (32 ∷ (comma_from (λ (w : List ℕ). w) 0 c.args.fields.now ++ 10 ∷ [])))))) c.space_word.ensures) (stopped_early _ _ (codes "inst" ++ ((32 ∷ (c.args.name.now ++ (32 ∷ (word_text c.space_word.result ++ [])))) ++ 32 ∷ [])) _ c.in_err-put_plain.ensures))
+
+pub returns-in_err-put_fields : goal.returns-in_err-put_fields
+returns-in_err-put_fields g c = stops _ _ _ c.from_residual-in_err-put_fields.result c.from_residual-in_err-put_fields.ensures.0 (stopped_as _ _ _ _ (ap (λ x. codes "inst " ++ x) (front_two c.args.name.now (word_text c.space_word.result) (comma_from (λ (w : List ℕ). w) 0 c.args.fields.now ++ 10 ∷ [])) ∙ ap (λ s. codes "inst " ++ (c.args.name.now ++ (32 ∷ (s ++ (32 ∷ (comma_from (λ (w : List ℕ). w) 0 c.args.fields.now ++ 10 ∷ [])))))) c.space_word.ensures) (stopped_later _ _ _ (codes "inst" ++ ((32 ∷ (c.args.name.now ++ (32 ∷ (word_text c.space_word.result ++ [])))) ++ 32 ∷ [])) _ c.in_ok-put_plain.ensures (stopped_early _ _ (comma_from (λ (w : List ℕ). w) 0 c.args.fields.now) _ c.in_err-put_fields.ensures)))
+
+pub returns : goal.returns
+returns g c = writes_as _ _ _ _ c.put_bytes.result (ap (λ x. codes "inst " ++ x) (front_two c.args.name.now (word_text c.space_word.result) (comma_from (λ (w : List ℕ). w) 0 c.args.fields.now ++ 10 ∷ [])) ∙ ap (λ s. codes "inst " ++ (c.args.name.now ++ (32 ∷ (s ++ (32 ∷ (comma_from (λ (w : List ℕ). w) 0 c.args.fields.now ++ 10 ∷ [])))))) c.space_word.ensures) (then_writes _ _ _ (codes "inst" ++ ((32 ∷ (c.args.name.now ++ (32 ∷ (word_text c.space_word.result ++ [])))) ++ 32 ∷ [])) _ c.put_bytes.result c.in_ok-put_plain.ensures (then_writes _ _ _ (comma_from (λ (w : List ℕ). w) 0 c.args.fields.now) _ c.put_bytes.result c.in_ok-put_fields.ensures (c.put_bytes.ensures)))
