@@ -2,7 +2,7 @@
 //! `tests/refused-memory`, it says so, and the same call made again gives its answer; the test ends with the name of
 //! the call then, which that script reads.
 
-ghost use Rattle.task_flow.specs.Flow.{IsFlow};
+ghost use Rattle.flow_order.specs.Flow.{IsFlow};
 
 use flow_top::{FlowFault, answer_flow, read_flow};
 use graph_model::graph::Graph;

@@ -16,9 +16,9 @@ use Rattle.graph_meaning.specs.Evaluation.{order, outcome, column_of, evaluation
 use Rattle.graph_reader.specs.Laws.{OneReading}
 use Rattle.command_line.specs.declared.request.Action.TheVariants.{Run, Eval}
 use Rattle.command_line.specs.declared.request.Request.{Request}
-use Rattle.task_flow.specs.Meaning.{flow_cells}
+use Rattle.flow_order.specs.Meaning.{flow_cells}
 use Rattle.task_flow.specs.Construction.{written}
-use Rattle.task_flow.specs.Written.{IsLock, Keeps, MeansFlow}
+use Rattle.flow_order.specs.Written.{IsLock, Keeps, MeansFlow}
 use Rattle.flow_top.specs.Answer.{IsFlowAnswer}
 use Rattle.program_io.specs.Delivered.{Delivered}
 use Rattle.graph_answers.specs.Answer.{report_with, IsDone, Says}

@@ -8,8 +8,8 @@ use Rattle.graph_meaning.specs.Evaluation.{order, outcome, column_of}
 use Rattle.graph_words.specs.Text.{GraphText}
 use Rattle.command_line.specs.declared.request.Action.TheVariants.{Run, Eval}
 use Rattle.command_line.specs.declared.request.Request.{Request}
-use Rattle.task_flow.specs.Meaning.{flow_end, flow_cells}
-use Rattle.task_flow.specs.Written.{Keeps}
+use Rattle.flow_order.specs.Meaning.{flow_end, flow_cells}
+use Rattle.flow_order.specs.Written.{Keeps}
 use Rattle.flow_top.specs.FlowText.{FlowText}
 use Rattle.flow_top.specs.Answer.{IsFlowAnswer}
 use Rattle.program_io.specs.Delivered.{Delivered}

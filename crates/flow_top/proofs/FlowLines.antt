@@ -7,7 +7,7 @@ use Rattle.graph_terms.specs.declared.format.Format.TheVariants.{One, Two}
 use Rattle.graph_terms.specs.Graph.{GraphValue}
 use Rattle.graph_terms.specs.Spelling.{header, decls_text, lines_text}
 use Rattle.graph_words.specs.Text.{closing, GraphText}
-use Rattle.task_flow.specs.Flow.{IsFlow, uses_columns}
+use Rattle.flow_order.specs.Flow.{IsFlow, uses_columns}
 use Rattle.flow_top.specs.FlowText.{flow_header, FlowText, AreFlowLines}
 
 none_is : (o : Option ℕ) → is_none o ≡ true → o ≡ None

@@ -8,7 +8,7 @@ use Rattle.graph_meaning.specs.Rules.{Accepted}
 use Rattle.graph_words.specs.Text.{GraphText}
 use Rattle.graph_reader.specs.Laws.{OneReading}
 use Rattle.task_flow.specs.Construction.{written}
-use Rattle.task_flow.specs.Written.{MeansFlow}
+use Rattle.flow_order.specs.Written.{MeansFlow}
 use Rattle.flow_top.specs.FlowText.{flow_header, FlowText}
 use Rattle.flow_top.specs.Answer.{IsFlowAnswer}
 use Rattle.flow_top.specs.Laws.{Answered}

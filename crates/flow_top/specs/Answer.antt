@@ -6,7 +6,7 @@ use Rattle.graph_terms.specs.declared.why.Why.TheVariants as why
 use Rattle.graph_terms.specs.Graph.{GraphValue}
 use Rattle.graph_words.specs.Text.{text, GraphText}
 use Rattle.task_flow.specs.Construction.{IsFirstOver, is_over, written}
-use Rattle.task_flow.specs.Written.{MeansFlow}
+use Rattle.flow_order.specs.Written.{MeansFlow}
 use Rattle.flow_top.specs.FlowText.{FlowText, IsReadFault}
 use Rattle.flow_top.specs.declared.FlowFault.{FlowFault}
 use Rattle.flow_top.specs.declared.FlowFault.TheVariants as fault

@@ -16,7 +16,7 @@ use Rattle.graph_terms.specs.Graph.{GraphValue}
 use Rattle.graph_terms.specs.Spelling.{header}
 use Rattle.graph_words.specs.Text.{GraphText}
 use Rattle.graph_reader.specs.FirstFault.{FirstFault}
-use Rattle.task_flow.specs.Flow.{IsFlow, uses_columns}
+use Rattle.flow_order.specs.Flow.{IsFlow, uses_columns}
 use Rattle.flow_top.specs.declared.FlowFault.{FlowFault}
 use Rattle.flow_top.specs.declared.FlowFault.TheVariants as fault
 

@@ -3,7 +3,7 @@ use Rattle.std.specs.Prelude.{◌≡◌, ℕ, Bool, List}
 use Rattle.graph_terms.specs.Graph.{GraphValue}
 use Rattle.graph_meaning.specs.Rules.{Accepted}
 use Rattle.graph_words.specs.Text.{GraphText}
-use Rattle.task_flow.specs.Written.{MeansFlow}
+use Rattle.flow_order.specs.Written.{MeansFlow}
 use Rattle.flow_top.specs.FlowText.{FlowText}
 use Rattle.flow_top.specs.Answer.{IsFlowAnswer}
 

@@ -4,7 +4,7 @@ ghost use Rattle.std.specs.Prelude.{◌≡◌, ◌+◌, ◌<◌, ◌^◌, IfOk, 
 ghost use Rattle.graph_terms.specs.declared.limits.TheConstants.{MAX_TEXT as most_bytes};
 ghost use Rattle.graph_terms.specs.Fits.{IsGraph};
 ghost use Rattle.graph_words.specs.Text.{GraphText};
-ghost use Rattle.task_flow.specs.Flow.{IsFlow};
+ghost use Rattle.flow_order.specs.Flow.{IsFlow};
 ghost use Rattle.flow_top.specs.Answer.{IsFlowAnswer, IsAnswerFault, AnswersFlow, IsTooLong, IsFaultOfFlow};
 
 use crate::FlowFault;

@@ -4,7 +4,7 @@ ghost use Rattle.std.specs.Prelude.{◌≡◌, ◌<◌, ◌++◌, ℕ, length, N
 ghost use Rattle.graph_terms.specs.Graph.{GraphValue};
 ghost use Rattle.graph_terms.specs.Spelling.{header};
 ghost use Rattle.graph_terms.specs.declared.format.Format.TheVariants.{One};
-ghost use Rattle.task_flow.specs.Flow.{IsFlow, uses_columns};
+ghost use Rattle.flow_order.specs.Flow.{IsFlow, uses_columns};
 ghost use Rattle.flow_top.specs.FlowText.{flow_header, HasNoFlowHeader, FlowText, AreFlowLines, IsFirstOther, IsFirstUnlikeFlow, IsFaultOfText, IsReadFault, is_flow_line, judged_lines};
 ghost use Rattle.graph_reader.specs.FirstFault.{FirstFault};
 

@@ -14,14 +14,15 @@ use Rattle.graph_terms.specs.declared.decl.Decl.TheVariants.{Lock}
 use Rattle.graph_terms.specs.declared.verb.Line.{Line}
 use Rattle.graph_terms.specs.Graph.{GraphValue, decl_name, lock_of, locks}
 use Rattle.graph_terms.specs.Fits.{is_beyond, is_used}
-use Rattle.task_flow.specs.Flow.{IsFlow}
-use Rattle.task_flow.specs.Construction.{Made, Parts, new_name, parts_of, sources_after, is_contended, needed, lock_for, lock_of as lock_wanted, wait_for, with_line_by, no_line, line_in, first_number, number_from, made_after, locks_from, reservations, graph_of, written, wants_many, is_over}
+use Rattle.flow_order.specs.Flow.{IsFlow}
+use Rattle.task_flow.specs.Construction.{Made, new_name, is_contended, needed, lock_for, lock_of as lock_wanted, wait_for, with_line_by, no_line, line_in, first_number, number_from, made_after, locks_from, reservations, graph_of, written, wants_many, is_over}
+use Rattle.flow_order.specs.SourceParts.{Parts, parts_of, sources_after}
 use Rattle.task_flow.specs.Fitting.{lined, with_lines, AreToFit}
 use Rattle.task_flow.specs.Making.{made_of, IsPast, IsMaking, AreSections}
 use Rattle.task_flow.specs.declared.making.Making.{Making}
 use Rattle.task_flow.specs.declared.sections.Sections.{Sections}
 use Rattle.task_flow.proofs.NameScan.{is_free}
-use Rattle.task_flow.proofs.Lists.{both_not}
+use Rattle.flow_order.proofs.Lists.{both_not}
 use Rattle.task_flow.proofs.MadeLines.{made_stands, wait_grows}
 use Rattle.basics.proofs.ListFacts.{contains_none}
 use Rattle.task_flow.proofs.Growth.{by_longer}

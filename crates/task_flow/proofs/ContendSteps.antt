@@ -10,15 +10,16 @@ use Rattle.index_spaces.specs.Space.{has_point, points, Meet}
 use Rattle.index_spaces.specs.Laws.{PointsAreListed}
 use Rattle.graph_terms.specs.declared.verb.Access.{Access}
 use Rattle.graph_terms.specs.Graph.{GraphValue, space_at, columns, locks}
-use Rattle.task_flow.specs.Bits.{word_bit, is_shown}
+use Rattle.flow_order.specs.Bits.{word_bit, is_shown}
 use Rattle.task_flow.specs.Sums.{adds_to, AreSums}
-use Rattle.task_flow.specs.Rows.{AreRows}
-use Rattle.task_flow.specs.Construction.{down_from, reaches, sources_after, are_rivals, cells_meet, summed, contends_with, contends_below, with_event, needed, is_contended, summed_column, place_of, wants_many, made_after, number_from, first_number, graph_of, is_over, IsFirstOver}
+use Rattle.flow_order.specs.Rows.{AreRows}
+use Rattle.flow_order.specs.SourceParts.{down_from, reaches, sources_after, with_event}
+use Rattle.task_flow.specs.Construction.{are_rivals, cells_meet, summed, contends_with, contends_below, needed, is_contended, summed_column, place_of, wants_many, made_after, number_from, first_number, graph_of, is_over, IsFirstOver}
 use Rattle.graph_terms.specs.Fits.{is_beyond}
 use Rattle.task_flow.specs.declared.sections.Sections.{Sections}
 use Rattle.task_flow.specs.Making.{AreSections}
-use Rattle.task_flow.proofs.Scans.{take_more, take_whole, got_beyond}
-use Rattle.task_flow.proofs.TieSteps.{meets_by}
+use Rattle.flow_order.proofs.Scans.{take_more, take_whole, got_beyond}
+use Rattle.flow_order.proofs.TieSteps.{meets_by}
 use Rattle.task_flow.proofs.Reservations.{few_before, many_later}
 
 -- the first element that passes a test, among the first elements

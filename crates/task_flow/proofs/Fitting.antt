@@ -32,14 +32,14 @@ use Rattle.graph_terms.specs.Spelling.{head, spelled, line_words}
 use Rattle.graph_terms.proofs.GraphFacts.{none_first}
 use Rattle.graph_terms.proofs.GraphPush.{head_with_line}
 use Rattle.graph_terms.proofs.EdgeFacts.{edges_push}
-use Rattle.task_flow.specs.Flow.{IsFlow, uses_columns}
-use Rattle.task_flow.specs.Written.{IsLock, orders_alone}
+use Rattle.flow_order.specs.Flow.{IsFlow, uses_columns}
+use Rattle.flow_order.specs.Written.{IsLock, orders_alone}
 use Rattle.task_flow.specs.Construction.{Made, is_contended, lock_for, new_name, takes_width, place_in, no_line, line_in, reservations, graph_of}
 use Rattle.task_flow.specs.Fitting.{lined, with_lines, AreToFit}
 use Rattle.task_flow.specs.Making.{IsPast}
 use Rattle.task_flow.proofs.Names.{new_differ, unused}
 use Rattle.task_flow.proofs.NameScan.{is_free, power_most}
-use Rattle.task_flow.proofs.Lists.{both_not}
+use Rattle.flow_order.proofs.Lists.{both_not}
 use Rattle.task_flow.proofs.Standing.{Waits, IsOwn, IsSection, Standing, new_line, own_uses}
 use Rattle.task_flow.proofs.Reservations.{spaces_stay, columns_stay}
 

@@ -9,10 +9,11 @@ use Rattle.graph_terms.specs.declared.verb.Line.{Line}
 use Rattle.graph_terms.specs.declared.verb.Verb.{Verb}
 use Rattle.graph_terms.specs.declared.verb.Verb.TheVariants.{Merge, MergeIgnore, Acquire, Release}
 use Rattle.std.specs.Option.{option_map_or}
-use Rattle.task_flow.specs.Construction.{Made, Parts, wait_for, with_flow_line, with_new, in_section, with_line_by, new_name, merge_line, with_merge, merge_by, merge_for, with_event, event_for, place_in, events_for}
+use Rattle.task_flow.specs.Construction.{Made, wait_for, with_flow_line, with_new, in_section, with_line_by, new_name, merge_line, with_merge, merge_by, merge_for, event_for, place_in, events_for}
+use Rattle.flow_order.specs.SourceParts.{Parts, with_event}
 use Rattle.task_flow.specs.Making.{IsPast}
-use Rattle.task_flow.proofs.Lists.{length_with}
-use Rattle.task_flow.proofs.Scans.{take_more, take_whole}
+use Rattle.flow_order.proofs.Lists.{length_with}
+use Rattle.flow_order.proofs.Scans.{take_more, take_whole}
 
 merge_by_longer : (o : Option (List ℕ × ℕ)) (es : List ℕ) (m : Made) → length m.lines ≤ length (merge_by o es m).0.lines
 merge_by_longer (Some x) es m = omega arith

@@ -20,7 +20,7 @@ use Rattle.task_flow.specs.Fitting.{lined}
 use Rattle.task_flow.specs.Construction.{new_name, locks_from}
 use Rattle.task_flow.proofs.Fitting.{or_more, lt_more}
 use Rattle.task_flow.proofs.Reservations.{locks_length, lock_at, spaces_stay, columns_stay}
-use Rattle.task_flow.proofs.Scans.{take_more, take_whole}
+use Rattle.flow_order.proofs.Scans.{take_more, take_whole}
 
 -- a reservation with a name that is free fits, unless the graph passes a limit with it
 pub lock_fault : (g : GraphValue) (name : List ℕ) → is_used g name ≡ false → decl_fault g (Lock name) ≡ cond (is_beyond (with_decl g (Lock name))) (Some why.Limit) None

@@ -9,11 +9,12 @@ use Rattle.graph_terms.specs.declared.verb.Line.{Line}
 use Rattle.graph_terms.specs.declared.verb.Verb.TheVariants.{MergeIgnore, Acquire, Release}
 use Rattle.graph_terms.specs.Graph.{GraphValue}
 use Rattle.graph_terms.specs.Access.{accesses}
-use Rattle.task_flow.specs.Flow.{IsFlow}
-use Rattle.task_flow.specs.Meaning.{accesses_tie}
-use Rattle.task_flow.specs.Construction.{Made, has, is_large, down_from, tied_by, least, parts_of, sources_after, is_contended, lock_for, lock_of, place_in, wait_for, with_flow_line, in_section, with_line_by, line_in, made_after}
-use Rattle.task_flow.proofs.Lists.{falls_down, falls_filter, falls_least, least_within, down_below, got_left, got_end, got_cases, at_left, at_end}
-use Rattle.task_flow.proofs.SourceFacts.{sources_of}
+use Rattle.flow_order.specs.Flow.{IsFlow}
+use Rattle.flow_order.specs.Meaning.{accesses_tie}
+use Rattle.task_flow.specs.Construction.{Made, is_contended, lock_for, lock_of, place_in, wait_for, with_flow_line, in_section, with_line_by, line_in, made_after}
+use Rattle.flow_order.specs.SourceParts.{has, is_large, down_from, tied_by, least, parts_of, sources_after}
+use Rattle.flow_order.proofs.Lists.{falls_down, falls_filter, falls_least, least_within, down_below, got_left, got_end, got_cases, at_left, at_end}
+use Rattle.flow_order.proofs.SourceFacts.{sources_of}
 use Rattle.task_flow.proofs.Standing.{Leaf, Waits, IsOwn, IsSection, Each, OwnAt, Standing, Kept, new_line, flow_line, dead, IsPart, place_below, wait_for_is, waits_same, each_stays, own_at_stays, merged_stays, held_stays}
 
 -- the next line of the flow, at the end

@@ -11,9 +11,10 @@ use Rattle.graph_terms.specs.declared.decl.Decl.{Decl}
 use Rattle.graph_terms.specs.declared.decl.Decl.TheVariants.{Lock}
 use Rattle.graph_terms.specs.declared.limits.TheConstants.{MAX_LINES}
 use Rattle.graph_terms.specs.Graph.{GraphValue, space_of, columns_of, lock_of, locks}
-use Rattle.task_flow.specs.Written.{IsLock}
-use Rattle.task_flow.specs.Construction.{has, with_event, is_contended, summed_column, needed, place_of, lock_for, new_name, first_number, locks_from, reservations, wants_many}
-use Rattle.task_flow.proofs.Lists.{old_in, new_in}
+use Rattle.flow_order.specs.Written.{IsLock}
+use Rattle.flow_order.specs.SourceParts.{has, with_event}
+use Rattle.task_flow.specs.Construction.{is_contended, summed_column, needed, place_of, lock_for, new_name, first_number, locks_from, reservations, wants_many}
+use Rattle.flow_order.proofs.Lists.{old_in, new_in}
 
 pub locks_are : (n : ℕ) (cs : List ℕ) → AllByRecursion IsLock (locks_from n cs)
 locks_are n [] = tt

@@ -17,9 +17,10 @@ use Rattle.graph_terms.specs.declared.verb.Verb.TheVariants.{User, Trigger, Canc
 use Rattle.graph_terms.specs.Graph.{GraphValue, space_at, verb_at}
 use Rattle.graph_terms.specs.Access.{verb_accesses, in_format, accesses}
 use Rattle.graph_terms.proofs.ArriveLaws.{arrive_accesses}
-use Rattle.task_flow.specs.Meaning.{Chain}
-use Rattle.task_flow.specs.Construction.{down_from, reaches, sources_after, is_sum, summed, summed_column, cells_meet, are_rivals, contends_with, is_contended}
-use Rattle.task_flow.proofs.SourceFacts.{reaches_chain}
+use Rattle.flow_order.specs.Meaning.{Chain}
+use Rattle.flow_order.specs.SourceParts.{down_from, reaches, sources_after}
+use Rattle.task_flow.specs.Construction.{is_sum, summed, summed_column, cells_meet, are_rivals, contends_with, is_contended}
+use Rattle.flow_order.proofs.SourceFacts.{reaches_chain}
 
 -- a line has one sum at most, as its last access
 abbrev sums_last : List Access → Bool

@@ -13,10 +13,11 @@ use Rattle.graph_terms.specs.declared.verb.Verb.{Verb}
 use Rattle.graph_terms.specs.declared.verb.Verb.TheVariants.{Merge, MergeIgnore, Acquire, Release}
 use Rattle.graph_terms.specs.Graph.{GraphValue}
 use Rattle.graph_terms.specs.Fits.{repeats}
-use Rattle.task_flow.specs.Flow.{IsFlow, uses_columns}
-use Rattle.task_flow.specs.Construction.{Made, Parts, all_of, is_contended, lock_for, new_name, merge_line, with_merge, merge_by, merge_for, with_event, event_for, place_in, events_for, wait_for, no_line, line_in}
-use Rattle.task_flow.proofs.Lists.{Falls, falls_differ, take_within, drop_within, split_cases, take_once, drop_once, with_event_once, with_event_cases, old_in, new_in, length_with, got_left, got_end, got_cases, at_left, at_end}
-use Rattle.task_flow.proofs.SourceFacts.{sources_of}
+use Rattle.flow_order.specs.Flow.{IsFlow, uses_columns}
+use Rattle.task_flow.specs.Construction.{Made, is_contended, lock_for, new_name, merge_line, with_merge, merge_by, merge_for, event_for, place_in, events_for, wait_for, no_line, line_in}
+use Rattle.flow_order.specs.SourceParts.{Parts, all_of, with_event}
+use Rattle.flow_order.proofs.Lists.{Falls, falls_differ, take_within, drop_within, split_cases, take_once, drop_once, with_event_once, with_event_cases, old_in, new_in, length_with, got_left, got_end, got_cases, at_left, at_end}
+use Rattle.flow_order.proofs.SourceFacts.{sources_of}
 
 -- a line of the flow leads to line e
 abbrev pub Leaf : List (List ℕ) → ℕ → ℕ → Type 0

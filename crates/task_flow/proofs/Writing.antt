@@ -20,17 +20,17 @@ use Rattle.graph_terms.specs.Reservations.{Acquires, Releases}
 use Rattle.index_spaces.specs.Laws.{PointsAreListed}
 use Rattle.graph_terms.proofs.EdgeFacts.{line_edges_in}
 use Rattle.graph_meaning.proofs.PathLaws.{path_append}
-use Rattle.task_flow.specs.Flow.{IsFlow, uses_columns}
-use Rattle.task_flow.specs.Meaning.{depends}
-use Rattle.task_flow.specs.Orders.{is_passing, passing_edges}
-use Rattle.task_flow.specs.Written.{orders_alone, Keeps, MeansFlow}
-use Rattle.task_flow.specs.Sources.{Feeds, straight, through, SourcesStand}
-use Rattle.task_flow.specs.Sections.{Held, AreApart, SectionsStand}
-use Rattle.task_flow.specs.Laws.{MeansBySources}
+use Rattle.flow_order.specs.Flow.{IsFlow, uses_columns}
+use Rattle.flow_order.specs.Meaning.{depends}
+use Rattle.flow_order.specs.Orders.{is_passing, passing_edges}
+use Rattle.flow_order.specs.Written.{orders_alone, Keeps, MeansFlow}
+use Rattle.flow_order.specs.Sources.{Feeds, straight, through, SourcesStand}
+use Rattle.flow_order.specs.Sections.{Held, AreApart, SectionsStand}
+use Rattle.flow_order.specs.Laws.{MeansBySources}
 use Rattle.task_flow.specs.Construction.{Made, is_contended, summed_column, needed, place_of, lock_for, place_in, no_line, line_in, made_after, number_from, reservations, graph_of, written}
-use Rattle.task_flow.proofs.FlowSide.{depends_below}
-use Rattle.task_flow.proofs.Simulation.{alone_uses}
-use Rattle.task_flow.proofs.SourceFacts.{sources_of, sources_sound, sources_complete}
+use Rattle.flow_order.proofs.FlowSide.{depends_below}
+use Rattle.flow_order.proofs.Simulation.{alone_uses}
+use Rattle.flow_order.proofs.SourceFacts.{sources_of, sources_sound, sources_complete}
 use Rattle.task_flow.proofs.Standing.{Leaf, Waits, IsOwn, IsSection, InSection, Standing, new_line, dead, own_uses}
 use Rattle.task_flow.proofs.MadeLines.{made_stands}
 use Rattle.task_flow.proofs.Rivals.{rivals_contend}

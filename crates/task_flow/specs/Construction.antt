@@ -1,5 +1,5 @@
 -- The graph that is written for a flow.
-use Rattle.std.specs.Prelude.{◌≡◌, ℕ, zero, suc, ◌+◌, ◌-◌, ◌^◌, ◌<◌, ◌==◌, Bool, true, false, cond, not, ◌&&◌, ◌||◌, nat_lt, nat_le, List, [], ◌∷◌, ◌++◌, length, map, filter, flat_map, take, drop, slice_index_or, Option, Some, None, is_none, option_map, find, codes, decimal, bytes_eq}
+use Rattle.std.specs.Prelude.{◌≡◌, ℕ, zero, suc, ◌+◌, ◌-◌, ◌^◌, ◌<◌, ◌==◌, Bool, true, false, cond, not, ◌&&◌, ◌||◌, nat_lt, List, [], ◌∷◌, ◌++◌, length, map, take, drop, slice_index_or, Option, Some, None, is_none, option_map, find, codes, decimal, bytes_eq}
 use Rattle.std.specs.Char.{is_ascii_digit}
 use Rattle.std.specs.Option.{option_map_or}
 use Rattle.std.specs.List.{list_any, list_all, range_with_len}
@@ -16,58 +16,7 @@ use Rattle.graph_terms.specs.declared.verb.Verb.TheVariants.{User, Merge, MergeI
 use Rattle.graph_terms.specs.Graph.{GraphValue, space_at, locks}
 use Rattle.graph_terms.specs.Access.{accesses}
 use Rattle.graph_terms.specs.Fits.{names, is_beyond}
-use Rattle.task_flow.specs.Meaning.{accesses_tie}
-
--- the numbers below n, the highest first
-abbrev pub down_from : ℕ → List ℕ
-down_from zero = []
-down_from (suc n) = n ∷ down_from n
-
--- the lines above line j that its access b ties, the highest first
-abbrev pub tied_by : GraphValue → Bool → ℕ → Access → List ℕ
-tied_by f commute j b = filter (λ i. list_any (λ a. accesses_tie f commute a b) (accesses f i)) (down_from j)
-
--- whether line i reaches line j in at most n steps, by the sources of each line
-abbrev pub reaches : List (List ℕ) → ℕ → ℕ → ℕ → Bool
-reaches sources zero i j = false
-reaches sources (suc n) i j = list_any (λ k. (k == i) || reaches sources n i k) (slice_index_or sources j [])
-
--- line i is one of these, or reaches one
-abbrev pub is_reached : List (List ℕ) → List ℕ → ℕ → Bool
-is_reached sources ks i = list_any (λ k. (k == i) || reaches sources k i k) ks
-
--- of lines, the highest first, those that reach none of the others and none of these
-abbrev pub least : List (List ℕ) → List ℕ → List ℕ → List ℕ
-least sources kept [] = []
-least sources kept (i ∷ is) = cond (is_reached sources kept i) (least sources kept is) (i ∷ least sources (kept ++ i ∷ []) is)
-
--- the sources of a line: large parts, which lines share, and the others
-pub record Parts : Type 0 where
-  pub large : List (List ℕ)
-  pub small : List ℕ
-
-abbrev pub has : List ℕ → ℕ → Bool
-has ks i = list_any (λ k. k == i) ks
-
-abbrev pub is_large : List ℕ → Bool
-is_large p = nat_le 8 (length p)
-
-abbrev pub parts_from : List (List ℕ) → ℕ → List (List ℕ) → Parts
-parts_from sources j ps = record {
-  large = filter is_large ps;
-  small = least sources (flat_map (λ p. p) (filter is_large ps)) (filter (λ i. list_any (λ p. has p i) (filter (λ p. not (is_large p)) ps)) (down_from j));
-}
-
-abbrev pub parts_of : GraphValue → Bool → List (List ℕ) → ℕ → Parts
-parts_of f commute sources j = parts_from sources j (map (λ b. least sources [] (tied_by f commute j b)) (accesses f j))
-
-abbrev pub all_of : Parts → List ℕ
-all_of p = p.small ++ flat_map (λ q. q) p.large
-
--- the sources of the first n lines
-abbrev pub sources_after : GraphValue → Bool → ℕ → List (List ℕ)
-sources_after f commute zero = []
-sources_after f commute (suc n) = sources_after f commute n ++ all_of (parts_of f commute (sources_after f commute n) n) ∷ []
+use Rattle.flow_order.specs.SourceParts.{Parts, down_from, parts_of, reaches, sources_after, with_event}
 
 -- the access by which a line adds to a column
 abbrev pub mode_is_sum : Mode → Bool
@@ -95,9 +44,6 @@ contends_with f sources k j = list_any (λ i. are_rivals f sources i j && ((i ==
 
 abbrev pub contends_below : GraphValue → List (List ℕ) → ℕ → ℕ → Bool
 contends_below f sources k n = list_any (contends_with f sources k) (down_from n)
-
-abbrev pub with_event : List ℕ → ℕ → List ℕ
-with_event es e = cond (has es e) es (es ++ e ∷ [])
 
 -- where sums commute: a sum that shares a cell with another, while no chain ties them
 unfoldable pub is_contended : GraphValue → Bool → ℕ → Bool

@@ -3,10 +3,10 @@ use Rattle.std.specs.Prelude.{◌≡◌, ℕ, ◌+◌, ◌<◌, ◌/◌, Bool, f
 use Rattle.graph_terms.specs.declared.limits.TheConstants.{MAX_LINES}
 use Rattle.graph_terms.specs.Graph.{GraphValue}
 use Rattle.task_flow.specs.Construction.{Made, is_contended, needed, wants_many, made_after, reservations, first_number, number_from, is_over}
-use Rattle.task_flow.specs.Bits.{word_bit}
-use Rattle.task_flow.specs.Rows.{IsKept}
+use Rattle.flow_order.specs.Bits.{word_bit}
+use Rattle.flow_order.specs.Rows.{IsKept}
 use Rattle.task_flow.specs.declared.making.Making.{Making}
-use Rattle.task_flow.specs.declared.rows.Rows.{Rows}
+use Rattle.flow_order.specs.declared.rows.Rows.{Rows}
 use Rattle.task_flow.specs.declared.sections.Sections.{Sections}
 
 -- the lines of the graph, and those that are to be put into it

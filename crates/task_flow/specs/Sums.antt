@@ -3,7 +3,7 @@ use Rattle.std.specs.Prelude.{◌≡◌, ℕ, ◌<◌, ◌==◌, ◌&&◌, nat_l
 use Rattle.std.specs.Option.{option_map_or}
 use Rattle.graph_terms.specs.declared.verb.Access.{Access}
 use Rattle.graph_terms.specs.Graph.{GraphValue, columns}
-use Rattle.task_flow.specs.Bits.{word_bit}
+use Rattle.flow_order.specs.Bits.{word_bit}
 use Rattle.task_flow.specs.Construction.{summed}
 
 abbrev pub adds_to : GraphValue → ℕ → ℕ → Bool

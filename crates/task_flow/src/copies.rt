@@ -2,7 +2,7 @@
 
 ghost use Rattle.std.specs.Prelude.{◌≡◌, ◌<◌, ◌^◌, [], length, take, drop, IfOk, IsTrue};
 ghost use Rattle.graph_terms.specs.declared.format.Format.TheVariants.{One};
-ghost use Rattle.task_flow.specs.Flow.{IsFlow, uses_columns};
+ghost use Rattle.flow_order.specs.Flow.{IsFlow, uses_columns};
 
 use graph_model::graph::Graph;
 use graph_terms::decl::Decl;

@@ -4,7 +4,7 @@ ghost use Rattle.std.specs.Prelude.{◌≡◌, ℕ, ◌+◌, ◌<◌, ◌≤◌,
 ghost use Rattle.graph_terms.specs.Fits.{is_used, is_beyond};
 ghost use Rattle.task_flow.specs.Fitting.{lined};
 ghost use Rattle.task_flow.specs.Construction.{new_name, first_number, locks_from, reservations, is_over};
-ghost use Rattle.task_flow.specs.Flow.{IsFlow};
+ghost use Rattle.flow_order.specs.Flow.{IsFlow};
 ghost use Rattle.task_flow.specs.Making.{AreSections};
 
 use crate::copies::declared;

@@ -2,16 +2,16 @@
 
 ghost use Rattle.std.specs.Prelude.{◌≡◌, ℕ, ◌<◌, false, length, IfOk, OnOk, IfErr};
 ghost use Rattle.graph_terms.specs.Fits.{IsGraph};
-ghost use Rattle.task_flow.specs.Flow.{IsFlow};
+ghost use Rattle.flow_order.specs.Flow.{IsFlow};
 ghost use Rattle.task_flow.specs.Making.{IsMaking, AreSections};
-ghost use Rattle.task_flow.specs.Written.{MeansFlow};
+ghost use Rattle.flow_order.specs.Written.{MeansFlow};
 ghost use Rattle.task_flow.specs.Construction.{is_over, written};
 ghost use Rattle.task_flow.specs.Refusal.{IsFlowRefusal};
 
-use crate::laws::means_by_sources;
 use crate::making::{Making, Stop};
-use crate::rows::Rows;
 use crate::sections::Sections;
+use flow_order::laws::means_by_sources;
+use flow_order::rows::Rows;
 use graph_model::graph::Graph;
 use index_spaces::NoMemory;
 use index_spaces::laws::points_are_listed;

@@ -2,18 +2,19 @@
 
 ghost use Rattle.std.specs.Prelude.{◌≡◌, ℕ, ◌+◌, ◌≤◌, ◌<◌, [], length, take, drop, map, not, ◌&&◌, nat_lt, false, true, IsTrue, IfOk, OnOk};
 ghost use Rattle.graph_terms.specs.Fits.{is_beyond};
-ghost use Rattle.task_flow.specs.Flow.{IsFlow, uses_columns};
-ghost use Rattle.task_flow.specs.Rows.{IsKept};
-ghost use Rattle.task_flow.specs.Construction.{merge_for, with_event, event_for, events_for, place_in, wait_for, with_new, with_flow_line, in_section, with_line_by, is_over};
+ghost use Rattle.flow_order.specs.Flow.{IsFlow, uses_columns};
+ghost use Rattle.flow_order.specs.Rows.{IsKept};
+ghost use Rattle.task_flow.specs.Construction.{merge_for, event_for, events_for, place_in, wait_for, with_new, with_flow_line, in_section, with_line_by, is_over};
+ghost use Rattle.flow_order.specs.SourceParts.{with_event};
 ghost use Rattle.task_flow.specs.Fitting.{AreToFit, with_lines};
 
 use crate::copies::copy_of_verb;
 use crate::locks::declared_with_locks;
 use crate::merges::Merges;
 use crate::numbers::{first_number, new_name};
-use crate::rows::Rows;
 use crate::sections::Sections;
-use crate::sources::{Parts, add_row, has, parts_of};
+use flow_order::rows::Rows;
+use flow_order::sources::{Parts, add_row, has, parts_of};
 use graph_model::graph::Graph;
 use graph_terms::limits::{MAX_EVENTS, MAX_LINES};
 use graph_terms::lists::LineList;

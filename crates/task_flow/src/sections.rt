@@ -1,15 +1,15 @@
 //! Which lines of a flow stand in sections, and of which reservations.
 
 ghost use Rattle.std.specs.Prelude.{◌≡◌, ℕ, ◌+◌, ◌<◌, ◌/◌, length, false, IfOk, IfErr, OnOk};
-ghost use Rattle.task_flow.specs.Flow.{IsFlow};
-ghost use Rattle.task_flow.specs.Bits.{word_bit};
+ghost use Rattle.flow_order.specs.Flow.{IsFlow};
+ghost use Rattle.flow_order.specs.Bits.{word_bit};
 ghost use Rattle.task_flow.specs.Construction.{is_contended, needed, place_of, lock_of, wants_many};
 ghost use Rattle.task_flow.specs.Refusal.{IsFlowRefusal};
 
-use crate::bits::Bits;
 use crate::contended::{contended, summed_column};
 use crate::make::FlowRefusal;
 use crate::making::add_event;
+use flow_order::bits::Bits;
 use graph_model::graph::Graph;
 use graph_terms::limits::MAX_LOCKS;
 use graph_terms::lists::LineList;

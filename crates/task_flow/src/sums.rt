@@ -4,7 +4,7 @@ ghost use Rattle.std.specs.Prelude.{◌≡◌, ◌<◌, ◌+◌, ◌/◌, length
 ghost use Rattle.graph_terms.specs.Graph.{columns};
 ghost use Rattle.task_flow.specs.Construction.{summed};
 
-use crate::bits::Bits;
+use flow_order::bits::Bits;
 use graph_model::graph::Graph;
 use graph_terms::verb::Access;
 use index_spaces::NoMemory;

@@ -3,7 +3,7 @@ use Rattle.std.proofs.lemmas.Result.{IfOk-weaker, IfErr-weaker}
 use Rattle.graph_terms.specs.Graph.{GraphValue}
 use Rattle.graph_words.specs.Text.{text, GraphText}
 use Rattle.task_flow.specs.Construction.{is_over, written}
-use Rattle.task_flow.specs.Written.{MeansFlow}
+use Rattle.flow_order.specs.Written.{MeansFlow}
 use Rattle.flow_top.specs.Answer.{IsTooLong, IsFaultOfFlow}
 use Rattle.flow_top.specs.declared.FlowFault.{FlowFault}
 use Rattle.flow_top.specs.declared.FlowFault.TheVariants as fault

@@ -1,5 +1,5 @@
 use Rattle.std.proofs.Common.{◌≡◌, length}
-use Rattle.task_flow.specs.Rows.{IsKept}
+use Rattle.flow_order.specs.Rows.{IsKept}
 use Rattle.task_flow.proofs.contended.all_rows.Given as goal
 
 abbrev pub invariant-loop-line : goal.invariant-loop-line

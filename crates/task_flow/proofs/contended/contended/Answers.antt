@@ -1,6 +1,6 @@
 use Rattle.std.proofs.Common.{length, ◌∙◌, arith}
-use Rattle.task_flow.specs.Bits.{word_bit}
-use Rattle.task_flow.specs.Construction.{sources_after}
+use Rattle.flow_order.specs.Bits.{word_bit}
+use Rattle.flow_order.specs.SourceParts.{sources_after}
 use Rattle.task_flow.proofs.ContendSteps.{free_is, contended_is, contends_next, contends_skip}
 use Rattle.task_flow.proofs.contended.contended.Goals as goal
 

@@ -1,8 +1,9 @@
 use Rattle.std.proofs.Common.{◌≡◌, ◌+◌, ℕ, length}
 use Rattle.std.specs.Prelude.{◌/◌}
-use Rattle.task_flow.specs.Bits.{word_bit}
+use Rattle.flow_order.specs.Bits.{word_bit}
 use Rattle.task_flow.specs.Sums.{AreSums}
-use Rattle.task_flow.specs.Construction.{sources_after, contends_below}
+use Rattle.flow_order.specs.SourceParts.{sources_after}
+use Rattle.task_flow.specs.Construction.{contends_below}
 use Rattle.task_flow.proofs.contended.contended.Given as goal
 
 abbrev pub invariant-loop-line : goal.invariant-loop-line

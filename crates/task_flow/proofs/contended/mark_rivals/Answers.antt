@@ -1,6 +1,6 @@
 use Rattle.std.proofs.Common.{◌<◌, ◌≤◌, length, ◌∙◌, arith}
-use Rattle.task_flow.specs.Bits.{word_bit}
-use Rattle.task_flow.specs.Construction.{sources_after}
+use Rattle.flow_order.specs.Bits.{word_bit}
+use Rattle.flow_order.specs.SourceParts.{sources_after}
 use Rattle.task_flow.proofs.ContendSteps.{left_meets, left_misses, left_ends, adds_at, reached_by}
 use Rattle.task_flow.proofs.contended.mark_rivals.Goals as goal
 

@@ -1,8 +1,9 @@
 use Rattle.std.proofs.Common.{◌≡◌, ◌≤◌, ◌&&◌, ◌||◌, ℕ, length}
 use Rattle.std.specs.Prelude.{◌==◌}
 use Rattle.std.specs.List.{list_any}
-use Rattle.task_flow.specs.Bits.{word_bit}
-use Rattle.task_flow.specs.Construction.{down_from, sources_after, are_rivals}
+use Rattle.flow_order.specs.Bits.{word_bit}
+use Rattle.flow_order.specs.SourceParts.{down_from, sources_after}
+use Rattle.task_flow.specs.Construction.{are_rivals}
 use Rattle.task_flow.proofs.contended.mark_rivals.Given as goal
 
 abbrev pub invariant-others : goal.invariant-others

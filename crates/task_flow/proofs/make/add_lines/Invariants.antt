@@ -1,6 +1,6 @@
 use Rattle.std.proofs.Common.{◌≡◌, ◌<◌, ℕ, false, length}
 use Rattle.task_flow.specs.Construction.{is_over}
-use Rattle.task_flow.specs.Rows.{IsKept}
+use Rattle.flow_order.specs.Rows.{IsKept}
 use Rattle.task_flow.specs.Making.{IsMaking}
 use Rattle.task_flow.proofs.make.add_lines.Given as goal
 

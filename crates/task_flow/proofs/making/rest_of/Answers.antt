@@ -1,5 +1,5 @@
 use Rattle.std.proofs.Common.{◌∙◌, ap}
-use Rattle.task_flow.specs.Construction.{with_event}
+use Rattle.flow_order.specs.SourceParts.{with_event}
 use Rattle.task_flow.proofs.Growth.{rest_more, rest_whole}
 use Rattle.task_flow.proofs.making.rest_of.Goals as goal
 

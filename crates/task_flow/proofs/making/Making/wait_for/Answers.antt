@@ -1,6 +1,7 @@
 use Rattle.std.proofs.Common.{◌∙◌, ap, Err, map}
 use Rattle.std.proofs.lemmas.Result.{err_from_is_err_and}
-use Rattle.task_flow.specs.Construction.{Parts, place_in}
+use Rattle.flow_order.specs.SourceParts.{Parts}
+use Rattle.task_flow.specs.Construction.{place_in}
 use Rattle.task_flow.specs.Making.{made_of}
 use Rattle.task_flow.specs.declared.making.Stop.TheVariants.{Limit}
 use Rattle.task_flow.proofs.Growth.{wait_past, err_same}

@@ -1,6 +1,6 @@
 use Rattle.std.proofs.Common.{◌≡◌, ◌+◌, ◌<◌, ℕ, [], false, length}
 use Rattle.std.specs.Prelude.{◌/◌, slice_index_or}
-use Rattle.task_flow.specs.Bits.{word_bit}
+use Rattle.flow_order.specs.Bits.{word_bit}
 use Rattle.task_flow.proofs.sums.Sums.new.Given as goal
 
 abbrev pub invariant-loop-column : goal.invariant-loop-column

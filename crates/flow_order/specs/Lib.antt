@@ -1,0 +1,13 @@
+pub mod Flow
+pub mod Meaning
+pub mod Written
+pub mod Forward
+pub mod Orders
+pub mod Sources
+pub mod Sections
+pub mod Bits
+pub mod Ends
+pub mod Uses
+pub mod Rows
+pub mod Laws
+pub mod SourceParts

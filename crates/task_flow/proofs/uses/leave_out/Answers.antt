@@ -1,9 +1,0 @@
-use Rattle.std.proofs.Common.{rules, ◌∙◌, ap}
-use Rattle.std.specs.Prelude.{filter, not}
-use Rattle.std.proofs.lemmas.Fn.{filter_same}
-use Rattle.task_flow.specs.Bits.{word_bit}
-use Rattle.task_flow.proofs.UseSteps.{rest_filtered}
-use Rattle.task_flow.proofs.uses.leave_out.Goals as goal
-
-pub returns-in-Some : goal.returns-in-Some
-returns-in-Some c = rest_filtered c.args.reaching.now c.args.lines.now c.retain.new.self.items (filter_same _ (λ i. not (word_bit c.args.reaching.now i)) _ (λ x b f' k. search rules) _ _ c.retain.ensures.filtered ∙ ap (filter (λ i. not (word_bit c.args.reaching.now i))) c.lines.view_is)
