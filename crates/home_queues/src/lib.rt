@@ -16,8 +16,8 @@ mod opening;
 mod room;
 mod tally;
 
-pub use crate::{HomeQueues, NoMemory};
 pub use home_hints::HomeHints;
 pub use home_list::HomeList;
+pub use home_queues::{HomeQueues, NoMemory};
 pub use laws::still_listed;
 pub use tally::Tally;
