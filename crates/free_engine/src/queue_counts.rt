@@ -9,8 +9,8 @@ use crate::hint_queue::RuledQueue;
 use crate::hint_view::HintView;
 use crossbeam_queue::Pass;
 
-/// How many pops found the queue empty and how many pushes found it full. A count rises only where the
-/// caller shows that the queue was so at a moment that its pass saw, and stays at 2^64 - 1.
+/// How many pops gave nothing and how many pushes were refused; a count stays at 2^64 - 1. No clause
+/// ties a count to a moment at which the queue was empty, or full.
 #[derive(Drop)]
 pub(crate) struct QueueCounts {
     empty: u64,

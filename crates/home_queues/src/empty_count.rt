@@ -6,8 +6,8 @@ ghost use Rattle.home_queues.specs.DequeRule.{SawEmpty};
 
 use crate::deque::Owner;
 
-/// How many pops found a deque empty. The count rises only where the caller shows that the deque was empty
-/// at a moment that its owner saw, and stays at 2^64 - 1.
+/// How many pops gave nothing; the count stays at 2^64 - 1. No clause ties it to a moment at which the deque
+/// was empty.
 #[derive(Drop)]
 pub(crate) struct EmptyCount {
     count: u64,

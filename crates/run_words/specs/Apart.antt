@@ -10,7 +10,7 @@ use Rattle.run_words.specs.Claims.{Claim, new_claim}
 use Rattle.run_words.specs.Plays.{no_view, parent_of, child_of}
 use Rattle.run_words.specs.Works.{IsWorkOf, work_line}
 
--- the second is still the work of the same line, with the same numbers of its seat
+-- new is still the work of old's line, with the same numbers of its seat
 pub record StaysWork (w : Words) (old new : WordWork) : Type 0 where
   pub work : IsWorkOf w new
   pub line : work_line new ≡ work_line old

@@ -176,10 +176,10 @@ impl<'g> Words<'g> {
         }
     }
 
-    /// Issues the next line in file order, in the desk's turn: as many lines as its number were issued
-    /// before it. NoSlot comes only where loads of this call, which the seat then shows, found each
+    /// Issues the next line in file order, in the desk's turn: as many handles as its number lay on the
+    /// desk. NoSlot comes only where loads of this call, which the seat then shows, found each
     /// event slot pending; All only where the seat then knows every line issued; Other only where the
-    /// desk's turn was found in another's hand, and then nothing was done or learnt. No handle is new
+    /// desk's turn was found in another's hand, and then nothing else was learnt or done. No handle is new
     /// but that of the line that is issued, and the waiters stay on the desk.
     pub fn issue(&self, seat: &mut WordSeat) -> Issue
         requires at { IsAt self.now seat.old }
