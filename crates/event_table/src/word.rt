@@ -26,6 +26,7 @@ pub fn turns(word: u64) -> u64
         }
 }
 
+/// Whether a handle is the one of no event.
 pub fn is_no_event(handle: Handle) -> bool
     ensures none { result ≡ true → handle ≡ no_event }
     ensures some { result ≡ false → handle ≢ no_event }

@@ -14,13 +14,21 @@ use graph_terms::limits::{
 #[derive(Clone, Copy)]
 pub struct Counts {
     /// The bytes of the text, up to its closing line.
+    /// Bytes of the text.
     pub text: u64,
+    /// Instances.
     pub insts: u64,
+    /// Columns of all instances.
     pub columns: u64,
+    /// Cells of all columns.
     pub cells: u64,
+    /// Reservations.
     pub locks: u64,
+    /// Barriers.
     pub barriers: u64,
+    /// Operation lines.
     pub lines: u64,
+    /// Edges.
     pub edges: u64,
 }
 

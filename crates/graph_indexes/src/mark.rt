@@ -6,12 +6,14 @@ ghost use Rattle.graph_terms.specs.Graph.{arrival_weight};
 
 use graph_terms::verb::Verb;
 
-/// What the arrivals that name a line count for, whether a trigger or a cancel names it, and whether a release
-/// does.
+/// What later lines have done to a line.
 #[derive(Clone, Copy)]
 pub struct Mark {
+    /// What the arrivals that name it count for, each by its weight.
     pub arrivals: u32,
+    /// Whether a trigger or a cancel names it.
     pub ended: bool,
+    /// Whether a release names it.
     pub released: bool,
 }
 
