@@ -1,15 +1,19 @@
-/* Graphs and traces by their texts. What each call gives is a proved clause of the crate realm_c, but where this page says
-   that it is not proved. Link librealm.a or librealm.so.
+/* Graphs and traces by their texts, and runs of graphs by threads of the program's. What each call gives is a proved clause of the
+   crates realm_c and realm_runs_c, but where this page says that it is tested. Link librealm.a or librealm.so.
 
-   What nothing checks, and the program must keep:
+   Runs and works are held by handles that are numbers. Whatever calls are made on them, in whatever order and by whatever
+   threads, each does what stands beside it or answers a number of enum realm_misuse, with which nothing is changed and nothing
+   lost. That is tested, not proved. What nothing checks, and the program must keep:
    - pointers are not null, even where a length is 0; text may be read for length bytes, out written for room bytes; text, out,
      written, verdict and what else a call is given are apart, and nobody else reads or writes them during the call;
+   - a struct that a call fills is of zero bytes at first, or as a call left it;
    - malloc, realloc and free are those of one allocator, and its blocks are aligned to 16 bytes. No call is made from a signal
      handler, nor in a child that a process with threads has forked.
    Calls on texts have nothing in common, so threads may make them at one time. Each is tried in a program with 64 KiB of
    stack, which is not proved to be enough. */
 #ifndef REALM_H
 #define REALM_H
+#include "realm_misuse.h"
 #include <stddef.h>
 #include <stdint.h>
 #ifdef __cplusplus
@@ -77,25 +81,16 @@ uint32_t realm_plan(const uint8_t *text, size_t length, uint32_t processors, uin
 enum realm_word_kind { REALM_WHY_WORD = 0, REALM_RULE_WORD = 1, REALM_FAULT_WORD = 2 };
 uint32_t realm_word(uint32_t kind, uint32_t number, uint8_t *out, size_t room, uint64_t *written);
 
-/* A run of a graph whose lines the program's own threads perform, and the work of one line. Of zero bytes both are empty;
-   only the calls below write them. Threads issue, take and put back under a lock of the program's, and perform their lines
-   side by side, since realm_work_perform takes no run. Whatever they do, the report is that of realm_eval.
+/* A run of a graph, and the work of one of its lines. Of zero bytes both are empty; only the calls below write them. A copy of
+   one names the same thing, and where that is used up each copy says so. A run whose lines are performed by realm_run_all needs
+   no other call than new, report and free. Threads that perform lines themselves issue, take and put back one at a time, under
+   a lock of the program's, and perform side by side, since realm_work_perform takes no run. Whatever they do, the report is
+   that of realm_eval. */
+struct realm_run { uint64_t at; };
+struct realm_work { uint64_t at; };
 
-   What nothing checks, and the program must keep:
-   - an `out` is empty before the call, and each other run or work is not: an empty one is read at null, also to be freed;
-   - the structs are moved and never copied: after an assignment the source is zeroed or forgotten;
-   - one call at a time works on a run, and one on a work. Either may pass to another thread by a lock, by a thread's start or
-     join, or by a sequentially consistent atomic;
-   - line is below the number of operations of the graph;
-   - work is performed once, and then put back once, into the run of which it was taken; or it is freed;
-   - a report asks that no work is out, and that none was freed before it was put back. After a report a run may be reported
-     again and freed, and nothing else is done with it. */
-struct realm_run { void *at; };
-struct realm_work { void *at; };
-
-/* The answers of the calls on runs, but of realm_run_new, whose numbers are those of realm_status. WRONG comes in the place of
-   what a call says only where a struct holds something else than the call asks for, as work that was performed before, which
-   no clause allows; such work is lost. */
+/* The answers of the calls on runs, but of realm_run_new, whose numbers are those of realm_status. Each of these calls may answer
+   misuse too (realm_misuse.h): EMPTY, USED_UP, WRONG and IN_USE of each handle, and what stands beside the call. */
 enum realm_run_status {
     REALM_RUN_DONE = 0, REALM_RUN_NOT_YET = 1, REALM_RUN_BUSY_LOCK = 2, REALM_RUN_BUSY_COLUMN = 3, REALM_RUN_NONE = 4,
     REALM_RUN_FULL = 5, REALM_RUN_NO_ROOM = 6, REALM_RUN_NO_MEMORY = 7, REALM_RUN_OVER = 9, REALM_RUN_NEVER = 10,
@@ -105,37 +100,71 @@ enum realm_run_status {
 /* Checks a graph as realm_check does, and begins a run of it with so many event slots, at most 8,192; 0 stands for the
    greater of 256 and the need. DONE; SLOTS exactly where the graph is accepted and they are fewer than its need, want of
    memory aside; USAGE exactly where they are more than 8,192; UNREAD, UNFIT, NO_MEMORY, TOO_LONG. After each answer but DONE
-   out is empty. The graph stays in memory until the process ends, and nothing frees it; so may one whose run could not begin
-   for want of memory, so a call that is made again may keep a second one. */
+   out is empty. Misuse: FILLED where out holds something. */
 uint32_t realm_run_new(const uint8_t *text, size_t length, uint32_t slots, struct realm_run *out, struct realm_verdict *verdict);
 
+/* Performs all that can be performed, on 1 to 8 threads: the calling one, and others that are started and have ended as the
+   call returns; where the system starts fewer, those do all. 0 stands for 1. What was issued before is gone on with. Then
+   `left` of the run is 0, and a report says the rest.
+   DONE; NO_MEMORY, and then the run may be gone on with. Misuse: RANGE where there are more threads than 8, WORK_OUT, REPORTED;
+   FORGOTTEN where a line that comes was not performed, which never should be. The loop is tested, not proved; each of its steps
+   is a proved call of those below, and no answer of it makes a report wrong. */
+uint32_t realm_run_all(struct realm_run *run, uint32_t threads);
+
 /* Issues the next operation of the text. DONE with its number; NONE exactly where all are issued; FULL exactly where one is
-   left and no slot is free. */
+   left and no slot is free. Misuse: REPORTED. */
 uint32_t realm_run_issue(struct realm_run *run, uint32_t *line);
 
 /* Takes an issued operation. DONE with its work; NOT_YET where it waits for the operation `other`: if that is issued,
    realm_run_woken gives the line once it has ended, or before; if it is not, nothing does, so try again when it is issued;
    BUSY_LOCK, BUSY_COLUMN where the reservation or the column `other` is with another operation: try again after a
    realm_run_put_back; OVER where it is not issued, is out or has ended; NEVER where it never comes; NO_MEMORY, and then
-   nothing changed. */
+   nothing changed. Misuse: RANGE where the graph has no such operation; FILLED where out holds something; REPORTED. */
 uint32_t realm_run_take(struct realm_run *run, uint32_t line, struct realm_work *out, uint32_t *other);
 
-/* Performs an operation that was taken. DONE always. */
+/* Performs an operation that was taken. DONE. Misuse: PERFORMED. */
 uint32_t realm_work_perform(struct realm_work *work);
 
-/* Puts an operation back that was performed: it ends. DONE always; the work is used up, and its struct is empty. */
+/* Puts an operation back that was performed: it ends. DONE; the work is used up, and its struct is empty. Misuse: OTHER_RUN where
+   it was taken from another run, UNPERFORMED, REPORTED. */
 uint32_t realm_run_put_back(struct realm_run *run, struct realm_work *work);
 
-/* An operation that waited for one that has ended, each once. DONE; NONE where there is none. */
+/* An operation that waited for one that has ended, each once. DONE; NONE where there is none. Misuse: REPORTED. */
 uint32_t realm_run_woken(struct realm_run *run, uint32_t *line);
 
-/* Does what is left on the calling thread, and gives the report. DONE, NO_ROOM, NO_MEMORY; it may be called again. */
+/* How many operations of a run are where; the first four add up to those of the graph. */
+struct realm_run_lines {
+    uint32_t unissued;
+    uint32_t issued;   /* and not taken: they may wait, be busy, or never come */
+    uint32_t out;      /* taken, and not put back */
+    uint32_t ended;
+    uint32_t left;     /* not ended, without those that never come */
+};
+
+/* DONE. Misuse: REPORTED. After each answer but DONE all are 0. */
+uint32_t realm_run_state(struct realm_run *run, struct realm_run_lines *lines);
+
+/* Does what is left on the calling thread, and gives the report. DONE, NO_ROOM, NO_MEMORY; it may be called again, and nothing
+   else but free is done with the run from then on. Misuse: WORK_OUT, also where work was freed that was not put back: such a
+   run never gives a report. */
 uint32_t realm_run_report(struct realm_run *run, uint8_t *out, size_t room, uint64_t *written);
 
-/* Frees a run, or work that is not to be put back: its operation is out for good, so the run gives no report. Of a run the
-   graph alone stays, which is tried and not proved. The struct is then empty. */
-void realm_run_free(struct realm_run *run);
-void realm_work_free(struct realm_work *work);
+/* Frees a run, or work that is not to be put back: its operation is out for good. DONE; the struct is then empty. They may be freed
+   in any order, and the last of them frees the graph. */
+uint32_t realm_run_free(struct realm_run *run);
+uint32_t realm_work_free(struct realm_work *work);
+
+/* Why a graph is refused, or of an accepted one what it needs: a line in words. It is tested, not proved, as are the messages below.
+   DONE, NO_ROOM, NO_MEMORY, TOO_LONG. */
+uint32_t realm_explain(const uint8_t *text, size_t length, uint8_t *out, size_t room, uint64_t *written);
+
+/* One line on an answer, without an end of line: of a number of realm_status, or of one of realm_run_status; of realm_misuse either tells.
+   DONE; USAGE where there is no such number; NO_ROOM. */
+uint32_t realm_message(uint32_t status, uint8_t *out, size_t room, uint64_t *written);
+uint32_t realm_run_message(uint32_t status, uint8_t *out, size_t room, uint64_t *written);
+
+/* The version of the library, which should be that of the headers, REALM_VERSION. */
+const char *realm_version(void);
 
 #ifdef __cplusplus
 }

@@ -1,5 +1,5 @@
 // A C++20 face of realm.h and realm_events.h: results in place of buffers, and handles that move and are never copied. It adds
-// no claim, and what those ask of the program it has to keep here too: a call works only on handles that are not empty.
+// no claim, and what those ask of the program it has to keep here too.
 #pragma once
 #include "realm.h"
 #include "realm_events.h"
@@ -56,6 +56,10 @@ inline Text eval(std::string_view text) {
     return text_of([=](uint8_t *out, size_t room, uint64_t *written) { return realm_eval(bytes(text), text.size(), out, room, written); });
 }
 
+inline Text explain(std::string_view text) {
+    return text_of([=](uint8_t *out, size_t room, uint64_t *written) { return realm_explain(bytes(text), text.size(), out, room, written); });
+}
+
 inline Text upgrade(std::string_view text) {
     return text_of([=](uint8_t *out, size_t room, uint64_t *written) { return realm_upgrade(bytes(text), text.size(), out, room, written); });
 }
@@ -68,30 +72,40 @@ inline Text make(uint64_t seed, uint32_t size) {
     return text_of([=](uint8_t *out, size_t room, uint64_t *written) { return realm_make(seed, size, out, room, written); });
 }
 
+// One line on a number of realm_status.
+inline std::string message(uint32_t status) {
+    return text_of([=](uint8_t *out, size_t room, uint64_t *written) { return realm_message(status, out, room, written); }).text;
+}
+
+// One line on a number of realm_run_status or realm_misuse.
+inline std::string run_message(uint32_t status) {
+    return text_of([=](uint8_t *out, size_t room, uint64_t *written) { return realm_run_message(status, out, room, written); }).text;
+}
+
 inline std::string word(uint32_t kind, uint32_t number) {
     return text_of([=](uint8_t *out, size_t room, uint64_t *written) { return realm_word(kind, number, out, room, written); }).text;
 }
 
 // A handle of C that is moved and never copied, and freed where it isn't empty.
-template <typename Raw, void (*Free)(Raw *)> class Handle {
+template <typename Raw, uint32_t (*Free)(Raw *)> class Handle {
   public:
     Handle() = default;
-    Handle(Handle &&other) noexcept : held{std::exchange(other.held.at, nullptr)} {}
+    Handle(Handle &&other) noexcept : held{std::exchange(other.held.at, 0)} {}
     Handle &operator=(Handle &&other) noexcept {
         if (this != &other) {
             free();
-            held.at = std::exchange(other.held.at, nullptr);
+            held.at = std::exchange(other.held.at, 0);
         }
         return *this;
     }
     Handle(const Handle &) = delete;
     Handle &operator=(const Handle &) = delete;
     ~Handle() { free(); }
-    explicit operator bool() const { return held.at != nullptr; }
+    explicit operator bool() const { return held.at != 0; }
     void free() {
         if (held.at) Free(&held);
     }
-    Raw held{nullptr};
+    Raw held{0};
 };
 
 // The work of one operation. A run whose work was freed before it was put back gives no report.
@@ -108,12 +122,16 @@ struct Run : Handle<realm_run, realm_run_free> {
         found.status = realm_run_new(bytes(text), text.size(), slots, &held, &found.verdict);
         return found;
     }
+    // Performs all that can be performed, on 1 to 8 threads with the calling one.
+    uint32_t perform_all(uint32_t threads) { return realm_run_all(&held, threads); }
+    uint32_t state(realm_run_lines &lines) { return realm_run_state(&held, &lines); }
     uint32_t issue(uint32_t &line) { return realm_run_issue(&held, &line); }
     uint32_t take(uint32_t line, Work &out, uint32_t &other) {
         out.free();
         return realm_run_take(&held, line, &out.held, &other);
     }
-    void put_back(Work &&work) { realm_run_put_back(&held, &work.held); }
+    // Where this is refused the work stays.
+    uint32_t put_back(Work &&work) { return realm_run_put_back(&held, &work.held); }
     uint32_t woken(uint32_t &line) { return realm_run_woken(&held, &line); }
     Text report() {
         return text_of([this](uint8_t *out, size_t room, uint64_t *written) { return realm_run_report(&held, out, room, written); });
@@ -166,7 +184,7 @@ struct Ended : Held {
     // Only after `next` has answered REALM_EVENTS_NONE.
     Place place() && {
         Place out;
-        out.held.at = std::exchange(held.at, nullptr);
+        out.held.at = std::exchange(held.at, 0);
         return out;
     }
 };
@@ -175,13 +193,13 @@ struct Pending : Held {
     Ended end(uint32_t fate) && {
         Ended out;
         realm_events_end(&held, fate);
-        out.held.at = std::exchange(held.at, nullptr);
+        out.held.at = std::exchange(held.at, 0);
         return out;
     }
     Place leave() && {
         Place out;
         realm_events_leave(&held);
-        out.held.at = std::exchange(held.at, nullptr);
+        out.held.at = std::exchange(held.at, 0);
         return out;
     }
     realm_handle handle{};
@@ -215,7 +233,7 @@ struct Owner : Place {
     std::optional<Closed> close() {
         if (realm_events_close(&held)) return std::nullopt;
         Closed out;
-        out.held.at = std::exchange(held.at, nullptr);
+        out.held.at = std::exchange(held.at, 0);
         return out;
     }
 };

@@ -78,9 +78,107 @@ static void the_report_of_a_run(void) {
     realm_run_free(&run);
 }
 
+static void a_run_by_threads(void) {
+    struct realm_run run = {0};
+    struct realm_verdict verdict;
+    struct realm_run_lines lines;
+    uint8_t out[57];
+    uint64_t written = 0;
+    WANTS(realm_run_new(TEXT(one_fill), 0, &run, &verdict), REALM_DONE);
+    WANTS(realm_run_state(&run, &lines), REALM_RUN_DONE);
+    WANTS(lines.unissued, 1);
+    WANTS(lines.left, 1);
+    WANTS(realm_run_all(&run, 9), REALM_MISUSE_RANGE);
+    WANTS(realm_run_all(&run, 2), REALM_RUN_DONE);
+    WANTS(realm_run_state(&run, &lines), REALM_RUN_DONE);
+    WANTS(lines.ended, 1);
+    WANTS(lines.left, 0);
+    WANTS(realm_run_report(&run, out, sizeof out, &written), REALM_RUN_DONE);
+    WANTS_TEXT("realm-report 1\nop f done triggered\ncells a.x 0..0 7\ndone\n");
+    WANTS(realm_run_all(&run, 2), REALM_MISUSE_REPORTED);
+    WANTS(realm_run_free(&run), REALM_RUN_DONE);
+}
+
+static void misuse_of_runs(void) {
+    struct realm_run run = {0}, other = {0}, none = {0}, copy;
+    struct realm_work work = {0}, taken;
+    struct realm_verdict verdict;
+    uint8_t out[57];
+    uint64_t written = 9;
+    uint32_t line = 9;
+    WANTS(realm_run_new(TEXT(one_fill), 0, &run, &verdict), REALM_DONE);
+    WANTS(realm_run_new(TEXT(one_fill), 0, &other, &verdict), REALM_DONE);
+    WANTS(realm_run_new(TEXT(one_fill), 0, &run, &verdict), REALM_MISUSE_FILLED);
+    WANTS(realm_run_issue(&none, &line), REALM_MISUSE_EMPTY);
+    WANTS(realm_run_issue(&run, &line), REALM_RUN_DONE);
+    WANTS(realm_run_take(&run, 1, &work, &line), REALM_MISUSE_RANGE);
+    WANTS(realm_run_take(&run, 0, &work, &line), REALM_RUN_DONE);
+    WANTS(realm_run_put_back(&run, &work), REALM_MISUSE_UNPERFORMED);
+    WANTS(realm_run_report(&run, out, sizeof out, &written), REALM_MISUSE_WORK_OUT);
+    WANTS(written, 0);
+    WANTS(realm_run_all(&run, 1), REALM_MISUSE_WORK_OUT);
+    WANTS(realm_work_perform(&work), REALM_RUN_DONE);
+    WANTS(realm_work_perform(&work), REALM_MISUSE_PERFORMED);
+    WANTS(realm_run_put_back(&other, &work), REALM_MISUSE_OTHER_RUN);
+    taken.at = run.at;
+    WANTS(realm_work_perform(&taken), REALM_MISUSE_WRONG);
+    taken = work;
+    WANTS(realm_run_put_back(&run, &work), REALM_RUN_DONE);
+    WANTS(work.at, 0);
+    WANTS(realm_run_put_back(&run, &taken), REALM_MISUSE_USED_UP);
+    copy = run;
+    WANTS(realm_run_free(&run), REALM_RUN_DONE);
+    WANTS(realm_run_free(&run), REALM_MISUSE_EMPTY);
+    WANTS(realm_run_free(&copy), REALM_MISUSE_USED_UP);
+    WANTS(realm_run_new(TEXT(one_fill), 0, &run, &verdict), REALM_DONE);
+    WANTS(realm_run_issue(&copy, &line), REALM_MISUSE_USED_UP);
+    WANTS(realm_run_free(&run), REALM_RUN_DONE);
+    WANTS(realm_run_free(&other), REALM_RUN_DONE);
+}
+
+static void words_on_answers(void) {
+    uint8_t out[512];
+    uint64_t written = 0;
+    WANTS(realm_explain(TEXT(plainest), out, sizeof out, &written), REALM_DONE);
+    WANTS(written > 0, 1);
+    WANTS(realm_message(REALM_UNFIT, out, sizeof out, &written), REALM_DONE);
+    WANTS(realm_message(1, out, sizeof out, &written), REALM_USAGE);
+    WANTS(realm_run_message(REALM_RUN_NEVER, out, sizeof out, &written), REALM_DONE);
+    WANTS(realm_run_message(REALM_MISUSE_FORGOTTEN, out, sizeof out, &written), REALM_DONE);
+    WANTS(realm_run_message(99, out, sizeof out, &written), REALM_USAGE);
+    WANTS(strcmp(realm_version(), REALM_VERSION), 0);
+}
+
+static void misuse_of_events(void) {
+    struct realm_held owner = REALM_EMPTY, other = REALM_EMPTY, place = REALM_EMPTY, pending = REALM_EMPTY, none = REALM_EMPTY;
+    struct realm_handle handle, beyond;
+    WANTS(realm_events_new(1, 0, 0, &owner), REALM_EVENTS_DONE);
+    WANTS(realm_events_new(1, 0, 0, &other), REALM_EVENTS_DONE);
+    WANTS(realm_events_new(1, 0, 0, &owner), REALM_MISUSE_FILLED);
+    WANTS(realm_events_split(&owner, &place), REALM_EVENTS_DONE);
+    WANTS(realm_events_create(&owner, &pending, &handle), REALM_EVENTS_DONE);
+    beyond = handle;
+    beyond.gen = 1;
+    WANTS(realm_events_look(&place, beyond), REALM_MISUSE_RANGE);
+    WANTS(realm_events_look(&other, handle), REALM_MISUSE_OTHER_RUN);
+    WANTS(realm_events_look(&none, handle), REALM_MISUSE_EMPTY);
+    WANTS(realm_events_look(&pending, handle), REALM_MISUSE_WRONG);
+    WANTS(realm_events_look(&place, handle), REALM_PENDING);
+    WANTS(realm_events_join(&place, &owner), REALM_MISUSE_WRONG);
+    WANTS(realm_events_join(&other, &place), REALM_MISUSE_OTHER_RUN);
+    WANTS(realm_events_end(&pending, 2), REALM_MISUSE_RANGE);
+    WANTS(realm_events_end(&pending, REALM_OK), REALM_EVENTS_DONE);
+    WANTS(realm_events_end(&pending, REALM_OK), REALM_MISUSE_WRONG);
+    WANTS(realm_events_free(&pending), REALM_EVENTS_DONE);
+    WANTS(realm_events_free(&pending), REALM_MISUSE_EMPTY);
+    WANTS(realm_events_free(&place), REALM_EVENTS_DONE);
+    WANTS(realm_events_free(&owner), REALM_EVENTS_DONE);
+    WANTS(realm_events_free(&other), REALM_EVENTS_DONE);
+}
+
 static void an_event_that_ends_with_poison(void) {
     struct realm_held owner = REALM_EMPTY, pending = REALM_EMPTY, receipt = REALM_EMPTY;
-    struct realm_handle handle, told = {9, 9};
+    struct realm_handle handle, told = {9, 9, 9};
     WANTS(realm_events_new(1, 1, 9, &owner), REALM_EVENTS_DONE);
     WANTS(realm_events_create(&owner, &pending, &handle), REALM_EVENTS_DONE);
     WANTS(handle.slot, 0);
@@ -98,7 +196,7 @@ static void an_event_that_ends_with_poison(void) {
 
 static void a_waiter_on_an_event_that_is_left(void) {
     struct realm_held owner = REALM_EMPTY, place = REALM_EMPTY, pending = REALM_EMPTY, waiter = REALM_EMPTY;
-    struct realm_handle handle, found = {9, 9};
+    struct realm_handle handle, found = {9, 9, 9};
     uint32_t number = 9;
     WANTS(realm_events_new(0, 1, 9, &owner), REALM_EVENTS_REFUSED);
     WANTS(realm_events_new(1, 1, 9, &owner), REALM_EVENTS_DONE);
@@ -142,6 +240,10 @@ int main(void) {
     texts_of_small_graphs();
     a_line_of_a_run();
     the_report_of_a_run();
+    a_run_by_threads();
+    misuse_of_runs();
+    words_on_answers();
+    misuse_of_events();
     an_event_that_ends_with_poison();
     a_waiter_on_an_event_that_is_left();
     a_waiter_that_is_caught();

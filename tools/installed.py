@@ -14,7 +14,9 @@ from crates import PROGRAMS, ROOT
 
 BUILT = ROOT / "out/programs"
 DOCUMENTS = ("LANGUAGE", "ERRORS", "EMBEDDING")
-EXAMPLES = (".realm", ".flow", ".session", ".trace", ".out", ".c", ".h", ".cpp")
+EXAMPLES = (".realm", ".flow", ".session", ".trace", ".out", ".c", ".h", ".cpp", ".py")
+# The shared library's file. Its number is raised where a program that was built before would not go on with the library.
+SONAME = "librealm.so.1"
 # Where the files of an installation are listed, and their sums.
 LIST = "share/realm/installed"
 SUMS = "share/realm/SHA256SUMS"
@@ -35,7 +37,7 @@ Description: Checks, evaluates and plans graphs of array operations, and events 
 Version: {version}
 Cflags: -I${{includedir}}
 Libs: -L${{libdir}} -lrealm
-Libs.private: -lrealm_events
+Libs.private: -lrealm_events -pthread
 """
 
 
@@ -74,23 +76,25 @@ def texts():
 def copies(libraries):
     """Each file that is copied, with where it is copied from."""
     found = {f"libexec/realm/{name}": BUILT / crate for name, crate in PROGRAMS.items()}
-    found |= {f"lib/{it}": libraries / it for it in ("librealm.a", "librealm_events.a", "librealm.so")}
+    found |= {f"lib/{it}": libraries / it for it in ("librealm.a", "librealm_events.a", SONAME)}
     found |= {f"include/{it.name}": it for it in (ROOT / "include").iterdir()}
     found |= {f"share/man/man{it.suffix[1:]}/{it.name}": it for it in (ROOT / "manual/man").iterdir()}
     found |= {f"share/realm/help/{it.name}": it for it in (ROOT / "manual/help").iterdir()}
-    found["share/realm/VERSION"], found["share/realm/python/realm.py"] = ROOT / "VERSION", ROOT / "examples/python/realm.py"
+    found |= {f"share/realm/python/realm/{it.name}": it for it in (ROOT / "python/realm").iterdir() if it.is_file()}
+    found["share/realm/VERSION"], found["share/realm/python/pyproject.toml"] = ROOT / "VERSION", ROOT / "python/pyproject.toml"
     found["share/bash-completion/completions/realm"] = ROOT / "manual/completions/realm.bash"
     found["share/zsh/site-functions/_realm"] = ROOT / "manual/completions/_realm"
     return found
 
 
 LINKS = {
+    "lib/librealm.so": SONAME,
     "bin/realm-explain": "realm",
     "bin/realm-flow": "realm",
     "share/bash-completion/completions/realm-explain": "realm",
     "share/bash-completion/completions/realm-flow": "realm",
 }
-RUN = ("bin/", "libexec/", "lib/librealm.so")
+RUN = ("bin/", "libexec/", f"lib/{SONAME}")
 
 
 def put(path, write):

@@ -1,3 +1,6 @@
 pub mod ListFacts
 pub mod DigitLoop
 pub mod Sums
+pub mod TestedLists
+pub mod ListParts
+pub mod Choices

@@ -66,3 +66,6 @@ total-one (x ∷ xs) = omega (arith, total-one xs)
 pub below-one : (n : ℕ) → below (λ _. 1) n ≡ n
 below-one zero = refl
 below-one (suc n) = omega (arith, below-one n)
+
+pub in_list : (k : ℕ) (c : List ℕ) → Contains c k → 1 ≤ total (only k) c
+in_list k c d = omega (arith, item_le (only k) c k d, only-same k)

@@ -1,9 +1,13 @@
-//! Why a command line is refused, in one line for whoever typed it. No clause speaks of it.
+//! Why a command line is refused, in one line for whoever typed it. Clauses say that there is such a line, and
+//! none speaks of what it says.
 
-use crate::command;
+ghost use Rattle.std.specs.Prelude.{◌≡◌, IfOk, is_none, is_some};
+ghost use Rattle.command_line.specs.Request.{request_of_words};
+
 use crate::matched::{action_by_word, engine_by_word, given, hint_kind_by_word};
 use crate::number::number;
 use crate::request::{MAX_SIZE, MAX_SLOTS, MAX_WORKERS};
+use crate::{WordsFault, command, read_words};
 use clap::error::ErrorKind;
 use clap::{ArgMatches, Error};
 use std::alloc::{AllocError, Global};
@@ -103,12 +107,27 @@ const ARGUMENTS: [Argument; 7] = [
     },
 ];
 
-/// Which word of a command line is refused, and what may stand there, as `--workers 9: 0 to 8`. None where the
-/// words ask for something.
-pub fn refusal(alloc: Global, words: &[String]) -> Result<Option<String>, AllocError> {
+/// What may stand on a command line.
+const ALL_WORDS: &str =
+    "an action with --workers, --slots, --engine, --hints, --seed, --size, --trace, --text";
+
+/// Which word of a command line is refused, and what may stand there, as `--workers 9: 0 to 8`. None exactly
+/// where the words ask for something.
+pub fn refusal(alloc: Global, words: &[String]) -> Result<Option<String>, AllocError>
+    ensures { IfOk result (λ said. is_some said ≡ is_none (request_of_words words.now)) }
+{
+    match read_words(alloc, words) {
+        Ok(_) => Ok(None),
+        Err(WordsFault::NoMemory) => Err(AllocError),
+        Err(WordsFault::Usage) => Ok(Some(refused(alloc, words)?)),
+    }
+}
+
+/// What is said of words that ask for nothing.
+fn refused(alloc: Global, words: &[String]) -> Result<String, AllocError> {
     match command(alloc)?.try_get_matches_from(words) {
         Ok(matches) => refused_value(alloc, &matches),
-        Err(error) => Ok(Some(refused_word(alloc, &error)?)),
+        Err(error) => refused_word(alloc, &error),
     }
 }
 
@@ -118,17 +137,16 @@ fn first_line(text: &str) -> &str {
 }
 
 /// The first value that is none of its argument's.
-fn refused_value(alloc: Global, matches: &ArgMatches) -> Result<Option<String>, AllocError> {
+fn refused_value(alloc: Global, matches: &ArgMatches) -> Result<String, AllocError> {
     for argument in ARGUMENTS {
         if let Some(word) = given(matches, argument.id) {
             if !argument.allowed.takes(word) {
                 let word = first_line(word);
-                let line = format!(in alloc; "{}{word}: {}", argument.shown, argument.allowed)?;
-                return Ok(Some(line));
+                return format!(in alloc; "{}{word}: {}", argument.shown, argument.allowed);
             }
         }
     }
-    Ok(None)
+    format!(in alloc; "{ALL_WORDS}")
 }
 
 /// What `clap` says of a word that it refuses, and what may stand there.
@@ -144,7 +162,5 @@ fn refused_word(alloc: Global, error: &Error) -> Result<String, AllocError> {
             return format!(in alloc; "{said}: {}", argument.allowed);
         }
     }
-    format!(in alloc;
-        "{said}: an action with --workers, --slots, --engine, --hints, --seed, --size, --trace, --text"
-    )
+    format!(in alloc; "{said}: {ALL_WORDS}")
 }

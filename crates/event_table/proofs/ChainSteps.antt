@@ -1,18 +1,14 @@
 -- Along a chain.
-use Rattle.std.proofs.Common.{◌≡◌, ◌≢◌, ℕ, zero, suc, ◌+◌, ◌-◌, ◌<◌, ◌≤◌, List, [], ◌∷◌, length, get_or, sym, refl, ap, ◌∙◌, subst, ⊎_elim, arith, set, get_or-set_other}
+use Rattle.std.proofs.Common.{◌≡◌, ◌≢◌, ℕ, zero, suc, ◌+◌, ◌-◌, ◌<◌, List, [], ◌∷◌, length, get_or, sym, refl, ap, ◌∙◌, subst, ⊎_elim, arith, get_or-set_other}
 use Rattle.std.specs.Prelude.{Contains}
 use Rattle.event_table.specs.declared.handle.Shape.{Shape}
-use Rattle.event_table.specs.Words.{code, Linked}
+use Rattle.event_table.specs.Words.{Linked}
 use Rattle.event_table.specs.Chains.{chain_in}
 use Rattle.basics.proofs.ListFacts.{contains_none, contains_cases, contains_here, contains_there}
-use Rattle.basics.specs.Sums.{total}
-use Rattle.basics.proofs.Sums.{item_le, only, only-same}
-
-pub in_list : (k : ℕ) (c : List ℕ) → Contains c k → 1 ≤ total (only k) c
-in_list k c d = omega (arith, item_le (only k) c k d, only-same k)
+use Rattle.event_table.specs.Laws.{LinksStayBelow, ChainsAreFollowed}
 
 -- links are not touched by a write of another word
-pub linked_low : (key : Shape) (ws c : List ℕ) (i x : ℕ) → i < key.slots → Linked key ws c → Linked key (set ws i x) c
+pub linked_low : LinksStayBelow
 linked_low key ws [] i x near l = tt
 linked_low key ws (k ∷ ks) i x near l = (l.0, get_or-set_other ws i (key.slots + k) x 0 (λ e. omega arith) ∙ l.1, linked_low key ws ks i x near l.2)
 
@@ -44,7 +40,7 @@ at_default (x ∷ xs) zero d h e = e
 at_default (x ∷ xs) (suc i) d h e = at_default xs i d (omega arith) e
 
 -- the words give the chain back
-pub follows : (key : Shape) (ws c : List ℕ) (n : ℕ) → Linked key ws c → length c ≤ n → chain_in n key.slots ws (code c) ≡ c
+pub follows : ChainsAreFollowed
 follows key ws [] zero l h = refl
 follows key ws [] (suc n) l h = refl
 follows key ws (k ∷ ks) zero l h = absurd (omega arith)

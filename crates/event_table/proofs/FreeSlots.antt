@@ -6,8 +6,7 @@ use mathlib.Core.Logic.{dite}
 use native.Mathlib.Decide.{ℕ_discrete}
 use Rattle.basics.specs.Sums.{total, below}
 use Rattle.basics.proofs.Sums.{total-append, total-one, below-one}
-use Rattle.event_table.proofs.Members.{Contains-one}
-use Rattle.basics.proofs.ListFacts.{contains_none, contains_here}
+use Rattle.basics.proofs.ListFacts.{contains_none, contains_here, contains_one as Contains-one}
 
 -- the free ones of the slots from n on are in the list, each once
 pub record Fills (slots : ℕ) (words : List ℕ) (n : ℕ) (items : List ℕ) : Type 0 where

@@ -14,3 +14,4 @@ pub mod TableLook
 pub mod LeftChains
 pub mod Copying
 pub mod TakeOver
+pub mod Public

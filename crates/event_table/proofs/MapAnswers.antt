@@ -14,7 +14,9 @@ use Rattle.event_table.specs.declared.handle.Fate.TheVariants.{Ok, Poison}
 use Rattle.event_table.specs.declared.handle.Answer.{Answer}
 use Rattle.event_table.specs.declared.handle.Answer.TheVariants.{Pending, Triggered, Poisoned}
 use Rattle.basics.proofs.ListFacts.{contains_cases, contains_none, contains_here, contains_there}
-use Rattle.event_table.proofs.Words.{by_test}
+use Rattle.basics.proofs.Choices.{by_test}
+use Rattle.event_table.specs.Laws.{NoFateIsPending, PendingIsNow, HandlesByCases, HandleOfParts, AnsweredHandleHasSlot}
+use Rattle.event_table.specs.Maps.{IsNow}
 
 abbrev some_in : Option Answer → Answer
 some_in None = Pending
@@ -26,7 +28,7 @@ some_same a b e = ap some_in e
 pub none_some : (a : Answer) → None ≡ Some a → ⊥
 none_some a e = false≢true (ap is_some e)
 
-pub handle_eq : (h k : Handle) → h.slot ≡ k.slot → h.gen_ ≡ k.gen_ → h ≡ k
+pub handle_eq : HandleOfParts
 handle_eq h k a b = λ t. record { slot = a t; gen_ = b t }
 
 -- The answers of one slot
@@ -75,13 +77,7 @@ keeps_some m n f h c = record { created = ⊎_elim inl (λ t. inr (f h t.0 t.1))
 pub keeps_answers : (m n : EventMap) → ((h : Handle) → answer n h ≡ answer m h) → KeepsCreated m n
 keeps_answers m n f = keeps_some m n (λ h a e. (a, f h ∙ e))
 
--- A pending handle
-pub record IsNow (m : EventMap) (h : Handle) : Type 0 where
-  pub pending : (life_at m h.slot).is_pending ≡ true
-  pub last : h.gen_ ≡ length (life_at m h.slot).fates
-  pub near : h.slot < length m.slots
-
-pub near_some : (m : EventMap) (h : Handle) (a : Answer) → answer m h ≡ Some a → h.slot < length m.slots
+pub near_some : AnsweredHandleHasSlot
 near_some m h a e = dite (dec_le (length m.slots) h.slot)
     (λ l. absurd (none_some a (sym (ap (λ s. answer_in s h.gen_) (get_or_past m.slots h.slot unused l) ∙ in_idle unused h.gen_ refl (omega arith)) ∙ e)))
     (λ n. omega arith)
@@ -91,11 +87,11 @@ IsOpen Pending = Unit {0}
 IsOpen Triggered = ⊥
 IsOpen Poisoned = ⊥
 
-pub answer_apart : (f : Fate) → Pending ≡ answer_of f → ⊥
+pub answer_apart : NoFateIsPending
 answer_apart Ok e = subst IsOpen e tt
 answer_apart Poison e = subst IsOpen e tt
 
-pub is_now : (m : EventMap) (h : Handle) → answer m h ≡ Some Pending → IsNow m h
+pub is_now : PendingIsNow
 is_now m h e = ⊎_elim (λ t. absurd (answer_apart (get_or (life_at m h.slot).fates h.gen_ Ok) t.1)) (λ t. record { pending = t.0; last = t.1; near = near_some m h Pending e }) (in_cases (life_at m h.slot) h.gen_ Pending e)
 
 module _ (m : EventMap) (h : Handle) (o : IsNow m h) where
@@ -103,7 +99,7 @@ module _ (m : EventMap) (h : Handle) (o : IsNow m h) where
   now_pending = in_pending (life_at m h.slot) h.gen_ o.pending o.last
 
 -- Two handles are the same, or of two slots, or of two generations of one slot
-pub split_handle : {P : Type 0} (h k : Handle) → (h ≡ k → P) → (h.slot ≢ k.slot → P) → (h.slot ≡ k.slot → h.gen_ ≢ k.gen_ → P) → P
+pub split_handle : {P : Type 0} → HandlesByCases P
 split_handle h k same slots gens = dite (ℕ_discrete h.slot k.slot) (λ e. dite (ℕ_discrete h.gen_ k.gen_) (λ f. same (handle_eq h k e f)) (gens e)) slots
 
 -- what is at one slot but its pending generation

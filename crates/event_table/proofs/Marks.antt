@@ -8,36 +8,37 @@ use Rattle.event_table.specs.declared.handle.Handle.{Handle}
 use Rattle.event_table.specs.declared.handle.Fate.{Fate}
 use Rattle.event_table.specs.declared.handle.Fate.TheVariants.{Ok, Poison}
 use Rattle.event_table.specs.declared.handle.Shape.{Shape}
-use Rattle.event_table.specs.Words.{place_of, mark_words, mark_word, mark, fate_code, fate_by}
+use Rattle.event_table.specs.Words.{place_of, mark_word, mark, fate_code, fate_by}
 use Rattle.event_table.specs.Kept.{IsMarked}
+use Rattle.event_table.specs.Laws.{MarksStayBelow, FateOfCode, CodesTellFates, PlacesTellHandles, MarksAreInWords}
 
 -- places of handles of one table do not meet
 rows_apart : (n a b : ℕ) → a < b → a * n + n ≤ b * n
 rows_apart n a b l = let m : suc a * n ≤ b * n = mul-le-mul_right n l in omega (arith, Rattle.std.proofs.Common.suc-mul a n)
 
-pub places_apart : (last : ℕ) (x y : Handle) → x.gen_ ≤ last → y.gen_ ≤ last → place_of last x ≡ place_of last y → (x.slot ≡ y.slot) × (x.gen_ ≡ y.gen_)
+pub places_apart : PlacesTellHandles
 places_apart last x y a b e = dite (ℕ_discrete x.slot y.slot)
     (λ s. (s, let z : x.slot * (last + 1) ≡ y.slot * (last + 1) = ap (λ n. n * (last + 1)) s in omega arith))
     (λ n. dite (dec_le y.slot x.slot) (λ l. let r = rows_apart (last + 1) y.slot x.slot (omega arith) in absurd (omega arith)) (λ l. let r = rows_apart (last + 1) x.slot y.slot (omega arith) in absurd (omega arith)))
 
-pub word_in : (key : Shape) (x : Handle) → x.slot < key.slots → x.gen_ ≤ key.last_gen → mark_word key x < key.slots + key.waiters + mark_words key
+pub word_in : MarksAreInWords
 word_in key x a b = let r = rows_apart (key.last_gen + 1) x.slot key.slots a in omega arith
 
 -- a write of a slot's word or of a link leaves the marks
-pub marks_low : (key : Shape) (ws : List ℕ) (i x : ℕ) (h : Handle) → i < key.slots + key.waiters → mark key (set ws i x) h ≡ mark key ws h
+pub marks_low : MarksStayBelow
 marks_low key ws i x h l = ap (λ w. bit_at w (place_of key.last_gen h % 64)) (get_or-set_other ws i (mark_word key h) x 0 (λ e. omega arith))
 
 -- the bit of h is set, and no other
 pub with_mark : Shape → List ℕ → Handle → List ℕ
 with_mark key ws h = set ws (mark_word key h) (bit_or (get_or ws (mark_word key h) 0) (1 * 2 ^ (place_of key.last_gen h % 64) % 2 ^ 64))
 
-pub one_code : (f g : Fate) → fate_code f ≡ fate_code g → f ≡ g
+pub one_code : CodesTellFates
 one_code Ok Ok e = refl
 one_code Ok Poison e = absurd (omega arith)
 one_code Poison Ok e = absurd (omega arith)
 one_code Poison Poison e = refl
 
-pub coded : (n : ℕ) → n < 2 → n ≡ fate_code (fate_by n)
+pub coded : FateOfCode
 coded zero l = refl
 coded (suc n) l = omega arith
 

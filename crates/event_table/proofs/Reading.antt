@@ -12,7 +12,8 @@ use Rattle.event_table.specs.declared.handle.Fate.TheVariants.{Ok}
 use Rattle.event_table.specs.declared.handle.Shape.{Shape}
 use Rattle.event_table.specs.declared.chain.Chain.{Chain}
 use Rattle.basics.proofs.Sums.{total-append, total-one, below-one, entry_le}
-use Rattle.event_table.proofs.Words.{by_test, code_le, turns_shown}
+use Rattle.event_table.proofs.Words.{code_le, turns_shown}
+use Rattle.basics.proofs.Choices.{by_test}
 use Rattle.event_table.proofs.Marks.{coded, code_answer}
 use Rattle.event_table.proofs.ChainSteps.{follows}
 

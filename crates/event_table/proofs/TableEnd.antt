@@ -20,7 +20,8 @@ use Rattle.basics.proofs.Sums.{total-put, total-append, entry_le, below-one}
 use Rattle.event_table.proofs.Marks.{marks_low, places_apart, mark_beside}
 use Rattle.event_table.proofs.ChainSteps.{linked_all, at_default}
 use Rattle.event_table.proofs.Reading.{total-all_on, map_read, as_read}
-use Rattle.event_table.proofs.MapAnswers.{at_slot, IsNow, is_now}
+use Rattle.event_table.proofs.MapAnswers.{at_slot, is_now}
+use Rattle.event_table.specs.Maps.{IsNow}
 use Rattle.event_table.proofs.TablePlace.{pending_word}
 use Rattle.event_table.proofs.TableSteps.{linked_same, slot_same, caught_same, more_chains, chains_few, caught_low, free_same, free_more, free_room}
 

@@ -11,9 +11,9 @@ use Rattle.event_table.specs.Kept.{map_in, AreKept, IsSized}
 use Rattle.event_table.specs.declared.handle.Handle.{Handle}
 use Rattle.event_table.specs.declared.handle.Shape.{Shape}
 use Rattle.event_table.specs.declared.chain.Chain.{Chain}
-use Rattle.basics.proofs.Sums.{below-only, item_le, only-same, below-once, entry_le}
+use Rattle.basics.proofs.Sums.{below-only, item_le, only-same, below-once, entry_le, in_list}
 use Rattle.basics.proofs.ListFacts.{contains_none, contains_there}
-use Rattle.event_table.proofs.ChainSteps.{in_list, at_default}
+use Rattle.event_table.proofs.ChainSteps.{at_default}
 use Rattle.event_table.proofs.Words.{code_le}
 use Rattle.event_table.proofs.Reading.{map_read}
 use Rattle.event_table.proofs.MapAnswers.{keeps_answers}

@@ -17,7 +17,7 @@ use Rattle.event_table.specs.declared.handle.Shape.{Shape}
 use Rattle.event_table.specs.declared.chain.Chain.{Chain}
 use Rattle.basics.proofs.Sums.{below-once, below-only, below-one, total-one, entry_le}
 use Rattle.basics.proofs.ListFacts.{contains_none}
-use Rattle.event_table.proofs.Words.{by_test}
+use Rattle.basics.proofs.Choices.{by_test}
 use Rattle.event_table.proofs.Marks.{code_answer, one_code}
 use Rattle.event_table.proofs.Reading.{turns_at, map_read, as_read}
 use Rattle.event_table.proofs.MapAnswers.{in_ended, in_pending, in_cases, near_some}

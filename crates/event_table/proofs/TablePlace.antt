@@ -16,7 +16,8 @@ use Rattle.event_table.proofs.Words.{code_le}
 use Rattle.event_table.proofs.Marks.{marks_low}
 use Rattle.event_table.proofs.Reading.{map_read, as_read}
 use Rattle.event_table.proofs.TableCreate.{gens_low}
-use Rattle.event_table.proofs.MapAnswers.{at_slot, IsNow, is_now}
+use Rattle.event_table.proofs.MapAnswers.{at_slot, is_now}
+use Rattle.event_table.specs.Maps.{IsNow}
 use Rattle.event_table.proofs.TableSteps.{weight_more, linked_same, slot_same, caught_same, free_same}
 
 -- the word of a pending slot

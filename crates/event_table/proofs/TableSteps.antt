@@ -14,8 +14,7 @@ use Rattle.event_table.specs.declared.handle.Handle.{Handle}
 use Rattle.event_table.specs.declared.handle.Shape.{Shape}
 use Rattle.event_table.specs.declared.chain.Chain.{Chain}
 use Rattle.basics.proofs.Sums.{total-append, total-one, below-one, below-once, item_le, only-same}
-use Rattle.event_table.proofs.Members.{Contains-one}
-use Rattle.basics.proofs.ListFacts.{contains_none, contains_here, contains_there, contains_cases}
+use Rattle.basics.proofs.ListFacts.{contains_none, contains_here, contains_there, contains_cases, contains_one as Contains-one}
 use Rattle.event_table.proofs.ChainSteps.{linked_all}
 use Rattle.event_table.proofs.MapAnswers.{all_in, life_here, life_there}
 

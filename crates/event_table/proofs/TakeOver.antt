@@ -12,7 +12,7 @@ use Rattle.event_table.specs.declared.handle.Handle.{Handle}
 use Rattle.event_table.specs.declared.handle.Shape.{Shape}
 use Rattle.event_table.specs.declared.chain.Chain.{Chain}
 use Rattle.basics.proofs.ListFacts.{contains_none}
-use Rattle.event_table.proofs.Words.{by_test}
+use Rattle.basics.proofs.Choices.{by_test}
 use Rattle.event_table.proofs.MapAnswers.{keeps_answers}
 use Rattle.event_table.proofs.Reading.{read_length, turns_at, map_read, as_read}
 use Rattle.event_table.proofs.TableCreate.{idle_word}

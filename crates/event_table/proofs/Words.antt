@@ -1,20 +1,16 @@
 -- What a slot's word shows.
-use Rattle.std.proofs.Common.{◌≡◌, ℕ, ◌+◌, ◌*◌, ◌/◌, ◌%◌, ◌<◌, ◌≤◌, List, [], ◌∷◌, sym, refl, subst, arith, cond, eqb, eq-eqb, ne_eqb, Bool, true, false}
+use Rattle.std.proofs.Common.{◌≡◌, ℕ, ◌+◌, ◌*◌, ◌/◌, ◌%◌, [], ◌∷◌, sym, refl, subst, arith, cond, eqb, eq-eqb, ne_eqb, Bool, false}
 use mathlib.Core.Logic.{dite}
 use native.Mathlib.Decide.{ℕ_discrete}
-use Rattle.event_table.specs.declared.handle.Shape.{Shape}
-use Rattle.event_table.specs.Words.{turns_of, code, Linked, Shows}
-
-pub by_test : {P : Type 0} (b : Bool) → (b ≡ true → P) → (b ≡ false → P) → P
-by_test true y n = y refl
-by_test false y n = n refl
+use Rattle.event_table.specs.Words.{turns_of}
+use Rattle.event_table.specs.Laws.{ChainBelowWaiters, TurnsByChainCode, TurnsAreShown}
 
 -- the chain's head is the number of a waiter
-pub code_le : (key : Shape) (ws c : List ℕ) → Linked key ws c → code c ≤ key.waiters
+pub code_le : ChainBelowWaiters
 code_le key ws [] l = omega arith
 code_le key ws (k ∷ ks) l = let a = l.0 in omega arith
 
-pub turns_if : (w t : ℕ) → (w % 4294967296 ≡ 0 → t ≡ 2 * (w / 4294967296)) → (w % 4294967296 ≡ 4294967295 → t ≡ 2 * (w / 4294967296) + 2) → (0 < w % 4294967296 → w % 4294967296 < 4294967295 → t ≡ 2 * (w / 4294967296) + 1) → turns_of w ≡ t
+pub turns_if : TurnsByChainCode
 turns_if w t a b c =
     let low : ℕ = w % 4294967296 in
     let P : Bool → Bool → Type 0 = λ x y. 2 * (w / 4294967296) + cond x 0 (cond y 2 1) ≡ t in
@@ -23,7 +19,7 @@ turns_if w t a b c =
     (dite (ℕ_discrete low 4294967295) (λ e. let b' = b e in subst (λ y. P false y) (sym (eq-eqb low 4294967295 e)) (omega arith))
     (λ ne'. let c' = c (omega arith) (omega arith) in subst (λ y. P false y) (sym (ne_eqb low 4294967295 ne')) (omega arith))))
 
-pub turns_shown : (last t : ℕ) (c : List ℕ) (w : ℕ) → Shows last t c w → code c ≤ 8192 → turns_of w ≡ t
+pub turns_shown : TurnsAreShown
 turns_shown last t c w s low =
     let few = s.few in
     dite (ℕ_discrete (t % 2) 1) (λ odd. let e = s.pending odd in turns_if w t (λ z. absurd (omega arith)) (λ z. absurd (omega arith)) (λ z₁ z₂. omega arith))

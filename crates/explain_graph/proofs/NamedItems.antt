@@ -10,7 +10,7 @@ use Rattle.graph_terms.specs.Fits.{IsGraph}
 use Rattle.graph_meaning.specs.Laws.{EdgesBetweenLines}
 use Rattle.graph_meaning.specs.LineLaws.{AccessesFit}
 use Rattle.graph_meaning.specs.Path.{HasPath}
-use Rattle.graph_terms.proofs.ReleaseFacts.{acquired_lock_known}
+use Rattle.graph_terms.proofs.Public.{acquired_lock_known}
 use Rattle.race_check.specs.declared.checked.CheckRefusal.{CheckRefusal}
 use Rattle.race_check.specs.declared.checked.CheckRefusal.TheVariants as refusal
 use Rattle.race_check.specs.Refusal.{NamesLines}

@@ -10,8 +10,7 @@ use Rattle.graph_terms.specs.Fits.{IsGraph}
 use Rattle.graph_meaning.specs.Path.{HasPath}
 use Rattle.graph_terms.specs.Reservations.{lock_at, acquire_at, Releases}
 use Rattle.graph_meaning.specs.Rules.{SectionAt, DescendsAt}
-use Rattle.graph_terms.proofs.VerbFacts.{passes_below, release_one}
-use Rattle.graph_terms.proofs.ReleaseFacts.{release_names, one_release}
+use Rattle.graph_terms.proofs.Public.{passes_below, release_one, release_names, one_release}
 use Rattle.explanations.specs.Paths.{IsShortest}
 use Rattle.explanations.specs.Meetings.{IsNearestCommon}
 use Rattle.explanations.specs.declared.meetings.Meeting.{Meeting}

@@ -2,3 +2,4 @@ pub mod TextFacts
 pub mod AcceptedFacts
 pub mod NamedFacts
 mod LineLaws
+pub mod Public

@@ -1,6 +1,6 @@
 -- Texts that grow at their end.
 use Rattle.std.proofs.Common.{◌≡◌, ℕ, ◌+◌, ◌<◌, ◌≤◌, List, [], ◌∷◌, ◌++◌, length, take, map, sym, ◌∙◌, ap, append_assoc}
-use Rattle.std.specs.Prelude.{Result, Ok, Err, OnOk, codes, flat_map}
+use Rattle.std.specs.Prelude.{Ok, Err, codes, flat_map}
 use Rattle.std.specs.Borrow.{Bor}
 use Rattle.std.specs.List.{slice_index_or}
 use Rattle.std.proofs.lemmas.List.{take_more, take_all, append-nil, map-append}
@@ -10,21 +10,22 @@ use Rattle.graph_terms.specs.declared.verb.Edge.{Edge}
 use Rattle.graph_terms.specs.Graph.{GraphValue}
 use Rattle.explain_text.specs.Unread.{blank_word}
 use Rattle.explain_text.specs.Lines.{edge_text, edges_text}
+use Rattle.explain_text.specs.Laws.{PutSameBytes, PutsSameBytes, PutPartByPart, PutsPartByPart}
 
 -- one part, and then the rest
-pub then_put : (old mid new a b : List ℕ) → mid ≡ old ++ a → new ≡ mid ++ b → new ≡ old ++ (a ++ b)
+pub then_put : PutPartByPart
 then_put old mid new a b first second = second ∙ (ap (λ z. z ++ b) first ∙ append_assoc old a b)
 
-pub then_puts : {X E : Type 0} (r : Result X E) (old mid new a b : List ℕ) → mid ≡ old ++ a → OnOk r (new ≡ mid ++ b) → OnOk r (new ≡ old ++ (a ++ b))
+pub then_puts : {X E : Type 0} → PutsPartByPart X E
 then_puts (Ok x) old mid new a b first second = then_put old mid new a b first second
 then_puts (Err e) old mid new a b first second = tt
 
 -- the same text by other words
-pub puts_as : {X E : Type 0} (r : Result X E) (old new a b : List ℕ) → a ≡ b → OnOk r (new ≡ old ++ a) → OnOk r (new ≡ old ++ b)
+pub puts_as : {X E : Type 0} → PutsSameBytes X E
 puts_as (Ok x) old new a b same is = is ∙ ap (λ z. old ++ z) same
 puts_as (Err e) old new a b same is = tt
 
-pub put_as : (old new a b : List ℕ) → a ≡ b → new ≡ old ++ a → new ≡ old ++ b
+pub put_as : PutSameBytes
 put_as old new a b same is = is ∙ ap (λ z. old ++ z) same
 
 -- no edge, and one more

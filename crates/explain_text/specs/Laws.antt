@@ -1,5 +1,5 @@
 -- That what is told as a line of the text is that line.
-use Rattle.std.specs.Prelude.{◌≡◌, ◌-◌, ℕ, List, [], Some, slice_get}
+use Rattle.std.specs.Prelude.{◌≡◌, ◌-◌, ℕ, List, [], Some, slice_get, ◌++◌, Result, OnOk}
 use Rattle.std.specs.List.{slice_index_or, join_with_byte}
 use Rattle.graph_terms.specs.declared.verb.Line.{Line}
 use Rattle.graph_terms.specs.declared.why.Why.{Why}
@@ -26,3 +26,19 @@ pub record TellsOwnLines (bytes : List ℕ) : Type 0 where
   pub above_line : (number : ℕ) (reason : Why) (f : IsLineFault bytes number reason) → TellsLines bytes f.before
   pub above_rest : (number : ℕ) (reason : Why) (f : IsRestFault bytes number reason) → TellsLines bytes f.before
   pub refused : (number : ℕ) (reason : Why) (f : FirstFault bytes number reason) → slice_index_or (pieces 10 bytes) (number - 1) [] ≡ refused_line bytes number reason f
+
+-- a text that grew by a part grew by the same bytes spelled otherwise
+abbrev pub PutSameBytes : Type 0
+PutSameBytes = (old new a b : List ℕ) → a ≡ b → new ≡ old ++ a → new ≡ old ++ b
+
+-- and so it did where memory sufficed
+abbrev pub PutsSameBytes : Type 0 → Type 0 → Type 0
+PutsSameBytes X E = (r : Result X E) (old new a b : List ℕ) → a ≡ b → OnOk r (new ≡ old ++ a) → OnOk r (new ≡ old ++ b)
+
+-- a text that grew by one part and then by the next grew by both
+abbrev pub PutPartByPart : Type 0
+PutPartByPart = (old mid new a b : List ℕ) → mid ≡ old ++ a → new ≡ mid ++ b → new ≡ old ++ (a ++ b)
+
+-- and so it did where memory sufficed for the next
+abbrev pub PutsPartByPart : Type 0 → Type 0 → Type 0
+PutsPartByPart X E = (r : Result X E) (old mid new a b : List ℕ) → mid ≡ old ++ a → OnOk r (new ≡ mid ++ b) → OnOk r (new ≡ old ++ (a ++ b))

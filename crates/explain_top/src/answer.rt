@@ -1,15 +1,20 @@
 //! The answer to the bytes of an input.
 
-ghost use Rattle.std.specs.Prelude.{◌≡◌, ◌≢◌, ◌++◌, length, option_map, Contains, None, IfOk, IfSome, OnOk, MatchOption};
+ghost use Rattle.std.specs.Prelude.{◌≡◌, ◌≢◌, ◌++◌, Bool, length, option_map, Contains, None, IfOk, IfSome, OnOk, MatchOption};
 ghost use Rattle.basics.specs.Words.{contents};
 ghost use Rattle.refused_words.specs.Ends.{IsEndedBy};
 ghost use Rattle.refused_words.specs.Limits.{quantity_value};
 ghost use Rattle.explain_text.specs.Named.{IsInside, named_texts, space_text};
 ghost use Rattle.explain_text.specs.declared.naming.NamedWord.{NamedWord};
 ghost use Rattle.explain_top.specs.Answer.{IsAnswer, IsUnfitText, IsUnreadText, IsMarkedText, AreNamed, TellsSpace, limit_for};
+ghost use Rattle.graph_meaning.specs.Rules.{Accepted};
+ghost use Rattle.graph_reader.specs.Reading.{IsUnreadBy};
+ghost use Rattle.graph_words.specs.Text.{GraphText};
+ghost use Rattle.graph_words.specs.Words.{pieces};
 ghost use Rattle.race_check.specs.Refusal.{IsRefusal, NamesLines};
 
 use crate::accepted::put_accepted;
+use checked_graph::Checked;
 use explain_graph::explain;
 use explain_text::split::split;
 use explain_text::{
@@ -51,31 +56,103 @@ pub fn explain_bytes(alloc: Global, bytes: &[u8], ends: bool) -> Result<Answer, 
     ensures { IfOk result (λ a. IsAnswer ends bytes.now a.verdict a.text) }
 {
     let lines = split_lines(alloc, bytes)?;
+    answer_lines(alloc, bytes, lines.as_slice(), ends)
+}
+
+/// The answer to bytes of these lines.
+fn answer_lines(
+    alloc: Global,
+    bytes: &[u8],
+    lines: &[&[u8]],
+    ends: bool,
+) -> Result<Answer, NoMemory>
+    requires { contents lines.now ≡ pieces 10 bytes.now }
+    ensures { IfOk result (λ a. IsAnswer ends bytes.now a.verdict a.text) }
+{
     match read_text(alloc, bytes)? {
-        Reading::Graph(graph) => match check(alloc, graph) {
-            Ok(checked) => {
-                let text = put_accepted(alloc, &checked, lines.as_slice(), ends)?;
-                Ok(Answer {
-                    verdict: Verdict::Accepted,
-                    text,
-                })
-            }
-            Err(unfit) => {
-                let text = put_unfit(alloc, &unfit, lines.as_slice())?;
-                Ok(Answer {
-                    verdict: Verdict::Unfit,
-                    text,
-                })
-            }
-        },
-        Reading::Refused(unread) => {
-            let text = put_unread_text(alloc, lines.as_slice(), &unread)?;
-            Ok(Answer {
-                verdict: Verdict::Unread,
-                text,
-            })
-        }
+        Reading::Graph(graph) => answer_graph(alloc, graph, bytes, lines, ends),
+        Reading::Refused(unread) => answer_unread(alloc, &unread, bytes, lines),
     }
+}
+
+/// The answer to bytes of these lines that are the text of the graph.
+fn answer_graph(
+    alloc: Global,
+    graph: Graph,
+    bytes: &[u8],
+    lines: &[&[u8]],
+    ends: bool,
+) -> Result<Answer, NoMemory>
+    requires text { GraphText bytes.now graph }
+    requires lines { contents lines.now ≡ pieces 10 bytes.now }
+    ensures { IfOk result (λ a. IsAnswer ends bytes.now a.verdict a.text) }
+{
+    match check(alloc, graph) {
+        Ok(checked) => answer_accepted(alloc, &checked, bytes, lines, ends),
+        Err(unfit) => answer_unfit(alloc, &unfit, bytes, lines),
+    }
+}
+
+/// The answer to bytes of these lines that are the text of an accepted graph.
+fn answer_accepted(
+    alloc: Global,
+    checked: &Checked,
+    bytes: &[u8],
+    lines: &[&[u8]],
+    ends: bool,
+) -> Result<Answer, NoMemory>
+    requires text { GraphText bytes.now checked.now.graph }
+    requires lines { contents lines.now ≡ pieces 10 bytes.now }
+    ensures { IfOk result (λ a. IsAnswer ends bytes.now a.verdict a.text) }
+{
+    let _bytes = bytes;
+    let _ = checked.graph();
+    let _ = checked.need();
+    let text = put_accepted(alloc, checked, lines, ends)?;
+    Ok(Answer {
+        verdict: Verdict::Accepted,
+        text,
+    })
+}
+
+/// The answer to bytes of these lines that are the text of a refused graph.
+fn answer_unfit(
+    alloc: Global,
+    unfit: &Unfit,
+    bytes: &[u8],
+    lines: &[&[u8]],
+) -> Result<Answer, NoMemory>
+    requires text { GraphText bytes.now unfit.now.graph }
+    requires lines { contents lines.now ≡ pieces 10 bytes.now }
+    requires refused { IsRefusal unfit.now.graph unfit.now.why × NamesLines unfit.now.graph unfit.now.why }
+    requires broken { Accepted unfit.now.graph → unfit.now.why ≡ CheckRefusal.NoMemory }
+    ensures { IfOk result (λ a. (ends : Bool) → IsAnswer ends bytes.now a.verdict a.text) }
+{
+    let _bytes = bytes;
+    let text = put_unfit(alloc, unfit, lines)?;
+    Ok(Answer {
+        verdict: Verdict::Unfit,
+        text,
+    })
+}
+
+/// The answer to bytes of these lines that are the text of no graph.
+fn answer_unread(
+    alloc: Global,
+    unread: &Unread,
+    bytes: &[u8],
+    lines: &[&[u8]],
+) -> Result<Answer, NoMemory>
+    requires refused { IsUnreadBy bytes.now unread.now.number unread.now.why unread.now.above }
+    requires lines { contents lines.now ≡ pieces 10 bytes.now }
+    ensures { IfOk result (λ a. (ends : Bool) → IsAnswer ends bytes.now a.verdict a.text) }
+{
+    let _bytes = bytes;
+    let text = put_unread_text(alloc, lines, unread)?;
+    Ok(Answer {
+        verdict: Verdict::Unread,
+        text,
+    })
 }
 
 /// The text on a graph that is refused.

@@ -79,12 +79,12 @@ pub fn run<S: Source, K: Sink>(alloc: Global, source: &mut S, sink: &mut K, ends
     // ReadFault, WriteFault: such a fault was counted in this call. NoMemory and ReadFault: nothing was written.
     ensures read_fault { result ≡ Status.ReadFault → Rose (S.faults source.old) (S.faults source.new) × (sink.new ≡ sink.old) }
     ensures write_fault { result ≡ Status.WriteFault → Rose (K.state sink.old).faults (K.state sink.new).faults }
+    ensures no_memory { result ≡ Status.NoMemory → sink.new ≡ sink.old }
+    ensures usage { result ≡ Status.Usage → ⊥ }
 
     // WriteFault: a prefix was taken of the text that is written without it.
     ensures cut_off { result ≡ Status.WriteFault → (bytes : List ℕ) → S.left source.old ≡ Some bytes → (status : Status) × (out : List ℕ)
         × Answers ends bytes status out × BrokenOff (K.state sink.old) (K.state sink.new) out }
-    ensures no_memory { result ≡ Status.NoMemory → sink.new ≡ sink.old }
-    ensures usage { result ≡ Status.Usage → ⊥ }
 
     // The text of a graph that is accepted is answered so, unless a fault was counted or memory ran out.
     ensures complete { (bytes : List ℕ) (g : GraphValue) → S.left source.old ≡ Some bytes → GraphText bytes g → Accepted g

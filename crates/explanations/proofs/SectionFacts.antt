@@ -13,7 +13,7 @@ use Rattle.graph_terms.specs.Edges.{edges}
 use Rattle.graph_meaning.specs.Path.{HasPath}
 use Rattle.graph_terms.specs.Reservations.{taken_by, freed_by, lock_at, acquire_at, Acquires, Releases}
 use Rattle.graph_meaning.specs.Rules.{Section, NoCycleAt}
-use Rattle.graph_terms.proofs.VerbFacts.{passes_below, release_is, is_release_from, acquire_is, is_acquire_from}
+use Rattle.graph_terms.proofs.Public.{acquire_is, release_is, is_acquire_from, is_release_from, passes_below}
 use Rattle.explanations.specs.declared.search.Way.TheVariants.{Back}
 use Rattle.explanations.specs.Paths.{Leads, path_edges}
 use Rattle.explanations.specs.Search.{near_end, far_end, origin_at, AreCounts, AreOrigins, IsFound}

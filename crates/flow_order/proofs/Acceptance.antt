@@ -23,8 +23,8 @@ use Rattle.graph_terms.specs.Reservations.{Acquires, Releases}
 use Rattle.graph_meaning.specs.Rules.{Section, modes_commute, Exempt, NoCycleAt, ReleasedAt, SectionAt, DescendsAt, ReleaseFaultAt, RaceAt, Everywhere, EverywhereTwice, Accepted}
 use Rattle.graph_terms.specs.Fits.{IsGraph}
 use Rattle.basics.proofs.ListFacts.{contains_none, passes_some, map_contains}
-use Rattle.graph_terms.proofs.ArriveLaws.{arrive_accesses}
-use Rattle.graph_meaning.proofs.PathLaws.{path_append}
+use Rattle.graph_terms.proofs.Public.{arrive_accesses}
+use Rattle.graph_meaning.proofs.Public.{path_append}
 use Rattle.flow_order.specs.Flow.{IsFlow, uses_columns}
 use Rattle.flow_order.specs.Meaning.{order_counts, accesses_tie, depends, last as last_link}
 use Rattle.flow_order.specs.Forward.{AllForward}

@@ -22,7 +22,7 @@ use Rattle.flow_order.specs.Uses.{uses_at, uses_before, AreClasses, AreUses, Put
 use Rattle.flow_order.specs.declared.uses.Class.{Class}
 use Rattle.flow_order.specs.declared.uses.ColumnUses.{ColumnUses}
 use Rattle.flow_order.proofs.Lists.{down_below}
-use Rattle.flow_order.proofs.Scans.{take_more, take_whole}
+use Rattle.basics.proofs.ListParts.{take_more, take_whole}
 use Rattle.flow_order.proofs.SourceFacts.{below_down, has_contains, contains_has}
 use Rattle.flow_order.proofs.UseSteps.{alike, alone, TiesSo, ReachSo, use_stands, stands_use, uses_put}
 

@@ -9,7 +9,7 @@ use Rattle.index_spaces.specs.Space.{has_point, points, interval_has}
 use Rattle.index_spaces.specs.Laws.{PointsAreListed}
 use Rattle.flow_order.specs.Ends.{AreEnds, are_apart}
 use Rattle.flow_order.specs.declared.ends.Ends.{Ends}
-use Rattle.flow_order.proofs.Scans.{take_more}
+use Rattle.basics.proofs.ListParts.{take_more}
 
 -- these intervals lie within
 abbrev pub AreWithin : List (ℕ × ℕ) → ℕ → ℕ → Type 0

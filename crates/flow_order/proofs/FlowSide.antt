@@ -10,7 +10,7 @@ use Rattle.graph_terms.specs.declared.outcome.End.TheVariants.{Faulted, Cancelle
 use Rattle.graph_terms.specs.Graph.{GraphValue}
 use Rattle.graph_meaning.specs.Effect.{Effect, effect}
 use Rattle.graph_meaning.specs.Evaluation.{Step, cells_of, end_by, end_in, has_ended, step_by}
-use Rattle.graph_meaning.proofs.Turns.{end_in-push, end_in_last}
+use Rattle.graph_meaning.proofs.Public.{end_in-push, end_in_last}
 use Rattle.basics.proofs.ListFacts.{contains_none, contains_here, some_passes, passes_some}
 use Rattle.flow_order.specs.Meaning.{depends, is_lost, is_spoiled, flow_step, flow_steps, Chain, last, first}
 

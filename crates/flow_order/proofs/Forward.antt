@@ -21,9 +21,8 @@ use Rattle.graph_meaning.specs.Rules.{NoCycleAt, Everywhere}
 use Rattle.graph_terms.specs.Fits.{line_fault, named_lines, on_lines, LinesFit, IsGraph}
 use Rattle.graph_meaning.specs.Evaluation.{Step, has_ended, is_ready, step_of, lowest_ready, advance_by, steps_after, order}
 use Rattle.basics.proofs.ListFacts.{contains_cases, contains_none, contains_here, contains_there, map_contains, passes_each, got_contains}
-use Rattle.graph_terms.proofs.GraphFacts.{named_below}
-use Rattle.graph_terms.proofs.VerbFacts.{passes_verb, verb_line, phase_is, never_as}
-use Rattle.graph_meaning.proofs.Waiting.{step_of-line, stays_ended, has_ended_last, ended_cases, ready_passes}
+use Rattle.graph_terms.proofs.Public.{passes_verb, verb_line, phase_is, never_as, named_below}
+use Rattle.graph_meaning.proofs.Public.{step_of-line, stays_ended, has_ended_last, ended_cases, ready_passes}
 use Rattle.flow_order.specs.Forward.{leads_forward, AllForward}
 
 -- an edge from a number below

@@ -17,8 +17,7 @@ use Rattle.graph_meaning.specs.Path.{Path, last, first}
 use Rattle.graph_terms.specs.Fits.{IsGraph}
 use Rattle.graph_meaning.specs.Evaluation.{is_ended, end_in, step_of, steps_after, advance_by, eval_end, Unbroken, faults, faulted, on}
 use Rattle.basics.proofs.ListFacts.{contains_cases, contains_none, contains_here, contains_there, map_contains, filter_contains, contains_filter}
-use Rattle.graph_meaning.proofs.Waiting.{step_of-line, step_of-ended}
-use Rattle.graph_meaning.proofs.Turns.{end_in-push, end_in_last}
+use Rattle.graph_meaning.proofs.Public.{end_in-push, end_in_last, step_of-line, step_of-ended}
 use Rattle.flow_order.specs.Forward.{leads_forward, AllForward}
 use Rattle.flow_order.specs.Orders.{is_passing, passing_edges}
 use Rattle.flow_order.proofs.Forward.{forward_each, next_is, in_order}

@@ -1,13 +1,14 @@
 -- Lists of numbers that fall or have no number twice, and lists with one more at their end.
-use Rattle.std.proofs.Common.{◌≡◌, ℕ, zero, suc, ◌+◌, ◌<◌, ◌≤◌, Bool, true, false, cond, ◌||◌, ◌⊎◌, inl, inr, List, [], ◌∷◌, ◌++◌, length, map, take, drop, refl, sym, ◌∙◌, ap, subst, length-append, arith}
-use Rattle.std.specs.Prelude.{Contains, filter, nat_eq, ◌==◌, Some, slice_get, slice_index_or}
+use Rattle.std.proofs.Common.{◌≡◌, ℕ, zero, suc, ◌+◌, ◌<◌, ◌≤◌, Bool, true, false, cond, ◌⊎◌, inl, inr, List, [], ◌∷◌, ◌++◌, length, map, take, drop, refl, sym, ◌∙◌, subst, length-append, arith}
+use Rattle.std.specs.Prelude.{Contains, filter, nat_eq, ◌==◌}
 use Rattle.std.specs.List.{list_any}
 use Rattle.std.proofs.lemmas.Bool.{true≢false, or_parts, eq-eqb, eqb-true, false_from_ne_true}
-use Rattle.std.proofs.lemmas.Option.{none-some, same_Some}
 use Rattle.std.proofs.lemmas.List.Elements.{Contains-append_cases, Contains-append_left, Contains-append_right}
 use Rattle.basics.proofs.ListFacts.{contains_cases, contains_none, contains_here, contains_there, some_passes, passes_some, filter_contains, map_contains}
 use Rattle.graph_terms.specs.Fits.{repeats}
 use Rattle.flow_order.specs.SourceParts.{down_from, is_reached, least, has, with_event}
+use Rattle.basics.proofs.ListParts.{take_within}
+use Rattle.basics.proofs.Choices.{both_not}
 
 -- each number is below the one before it
 abbrev pub Falls : List ℕ → Type 0
@@ -63,37 +64,11 @@ none_alike place x xs below = false_from_ne_true (list_any (nat_eq (place x)) (m
     let is : place y.0 ≡ z.0 = y.2 in
     let no : ⊥ = absurd (omega arith) in no)
 
-pub both_not : (a b : Bool) → a ≡ false → b ≡ false → (a || b) ≡ false
-both_not a b e f = ap (λ x. x || b) e ∙ f
-
 pub falls_differ : (place : ℕ → ℕ) (n : ℕ) (xs : List ℕ) → ((i j : ℕ) → i < j → j < n → place i < place j) → ((y : ℕ) → Contains xs y → y < n) → Falls xs → repeats nat_eq (map place xs) ≡ false
 falls_differ place n [] rises within f = refl
 falls_differ place n (x ∷ xs) rises within f =
     both_not (list_any (nat_eq (place x)) (map place xs)) (repeats nat_eq (map place xs)) (none_alike place x xs (λ y c. rises y x (f.0 y c) (within x (contains_here x xs))))
     (falls_differ place n xs rises (λ y c. within y (contains_there x xs y c)) f.1)
-
--- parts of a list are in the list
-pub take_within : {X : Type 0} (n : ℕ) (xs : List X) (x : X) → Contains (take n xs) x → Contains xs x
-take_within zero xs x c = absurd (contains_none x c)
-take_within (suc n) [] x c = absurd (contains_none x c)
-take_within (suc n) (y ∷ ys) x c = elim (contains_cases y (take n ys) x c) [
-  | inl same ↦ subst (λ z. Contains (y ∷ ys) z) same (contains_here y ys)
-  | inr rest ↦ contains_there y ys x (take_within n ys x rest)
-]
-
-pub drop_within : {X : Type 0} (n : ℕ) (xs : List X) (x : X) → Contains (drop n xs) x → Contains xs x
-drop_within zero xs x c = c
-drop_within (suc n) [] x c = absurd (contains_none x c)
-drop_within (suc n) (y ∷ ys) x c = contains_there y ys x (drop_within n ys x c)
-
--- an element of a list is among the first n, or among the rest
-pub split_cases : {X : Type 0} (n : ℕ) (xs : List X) (x : X) → Contains xs x → Contains (take n xs) x ⊎ Contains (drop n xs) x
-split_cases zero xs x c = inr c
-split_cases (suc n) [] x c = absurd (contains_none x c)
-split_cases (suc n) (y ∷ ys) x c = elim (contains_cases y ys x c) [
-  | inl same ↦ inl (subst (λ z. Contains (y ∷ take n ys) z) same (contains_here y (take n ys)))
-  | inr rest ↦ elim (split_cases n ys x rest) [ inl a ↦ inl (contains_there y (take n ys) x a) | inr b ↦ inr b ]
-]
 
 none_in : (t : ℕ → Bool) (xs ys : List ℕ) → ((y : ℕ) → Contains ys y → Contains xs y) → list_any t xs ≡ false → list_any t ys ≡ false
 none_in t xs ys sub h = false_from_ne_true (list_any t ys) (λ e. let s = some_passes t ys e in true≢false (sym (passes_some t xs s.0 (sub s.0 s.1) s.2) ∙ h))
@@ -166,35 +141,3 @@ length_with_by xs e false = let l : length (xs ++ e ∷ []) ≡ length xs + 1 = 
 
 pub length_with : (xs : List ℕ) (e : ℕ) → length (with_event xs e) ≤ length xs + 1
 length_with xs e = length_with_by xs e (has xs e)
-
--- a place in a list with one more at its end
-pub got_left : {X : Type 0} (xs : List X) (y : X) (k : ℕ) → k < length xs → slice_get (xs ++ y ∷ []) k ≡ slice_get xs k
-got_left [] y k h = absurd (omega arith)
-got_left (x ∷ xs) y zero h = refl
-got_left (x ∷ xs) y (suc k) h = got_left xs y k (let g : suc k < suc (length xs) = h in omega arith)
-
-pub got_end : {X : Type 0} (xs : List X) (y : X) → slice_get (xs ++ y ∷ []) (length xs) ≡ Some y
-got_end [] y = refl
-got_end (x ∷ xs) y = got_end xs y
-
-pub at_left : {X : Type 0} (xs : List X) (y d : X) (j : ℕ) → j < length xs → slice_index_or (xs ++ y ∷ []) j d ≡ slice_index_or xs j d
-at_left [] y d j h = absurd (omega arith)
-at_left (x ∷ xs) y d zero h = refl
-at_left (x ∷ xs) y d (suc j) h = at_left xs y d j (let g : suc j < suc (length xs) = h in omega arith)
-
-pub at_end : {X : Type 0} (xs : List X) (y d : X) → slice_index_or (xs ++ y ∷ []) (length xs) d ≡ y
-at_end [] y d = refl
-at_end (x ∷ xs) y d = at_end xs y d
-
--- what stands in a list with one more at its end, and where
-got_cases_by : {X : Type 0} (xs : List X) (y : X) (k : ℕ) (x : X) → slice_get (xs ++ y ∷ []) k ≡ Some x → ((k < length xs) × (slice_get xs k ≡ Some x)) ⊎ ((k ≡ length xs) × (y ≡ x))
-got_cases_by [] y zero x h = inr (refl, same_Some y x h)
-got_cases_by [] y (suc k) x h = absurd (none-some x h)
-got_cases_by (z ∷ xs) y zero x h = inl (omega arith, h)
-got_cases_by (z ∷ xs) y (suc k) x h = elim (got_cases_by xs y k x h) [
-  | inl a ↦ inl ((let b : k < length xs = a.0 in omega arith), a.1)
-  | inr b ↦ inr (ap suc b.0, b.1)
-]
-
-pub got_cases : {X : Type 0} (xs : List X) (y : X) (k : ℕ) (x : X) → slice_get (xs ++ y ∷ []) k ≡ Some x → ((k < length xs) × (slice_get xs k ≡ Some x)) ⊎ ((k ≡ length xs) × (y ≡ x))
-got_cases xs y k x h = got_cases_by xs y k x h

@@ -15,8 +15,8 @@ use Rattle.flow_order.specs.Bits.{word_bit, IsOnly}
 use Rattle.flow_order.specs.Rows.{AreRows, parts_at, words_for}
 use Rattle.flow_order.specs.SourceParts.{Parts, down_from, has, is_large, is_reached, least, reaches, parts_of, all_of, sources_after, tied_by}
 use Rattle.flow_order.proofs.FlowSide.{depends_below}
-use Rattle.flow_order.proofs.Lists.{at_left, at_end, down_below, least_within}
-use Rattle.flow_order.proofs.Scans.{take_more}
+use Rattle.flow_order.proofs.Lists.{down_below, least_within}
+use Rattle.basics.proofs.ListParts.{take_more, at_left, at_end}
 use Rattle.flow_order.proofs.SourceFacts.{sources_of, table_at, sources_sound, reaches_chain}
 
 any_same : {X : Type 0} (p q : X → Bool) (xs : List X) → ((x : X) → Contains xs x → p x ≡ q x) → list_any p xs ≡ list_any q xs

@@ -17,7 +17,7 @@ use Rattle.flow_order.specs.Ends.{AreEnds}
 use Rattle.flow_order.specs.declared.ends.Ends.{Ends}
 use Rattle.flow_order.specs.declared.uses.Class.{Class}
 use Rattle.flow_order.specs.declared.uses.ColumnUses.{ColumnUses}
-use Rattle.flow_order.proofs.Lists.{got_left, got_end, got_cases}
+use Rattle.basics.proofs.ListParts.{got_left, got_end, got_cases}
 use Rattle.flow_order.proofs.LeastSteps.{Follows, follow}
 
 set_here : {X : Type 0} (xs : List X) (k : ℕ) (x y : X) → slice_get xs k ≡ Some x → slice_get (slice_set xs k y) k ≡ Some y

@@ -14,7 +14,7 @@ use Rattle.graph_meaning.specs.Path.{Path, HasPath, last, first}
 use Rattle.graph_terms.specs.Fits.{IsGraph}
 use Rattle.graph_meaning.proofs.GraphLaws as graph_laws
 use Rattle.basics.proofs.ListFacts.{fails_some}
-use Rattle.graph_meaning.proofs.PathLaws.{path_append}
+use Rattle.graph_meaning.proofs.Public.{path_append}
 use Rattle.flow_order.specs.Flow.{IsFlow, uses_columns}
 use Rattle.flow_order.specs.Meaning.{depends, Chain, last as last_link, first as first_link}
 use Rattle.flow_order.specs.Forward.{leads_forward, AllForward}

@@ -6,6 +6,7 @@ ghost use Rattle.graph_meaning.specs.Trace.{IsLawful, SectionsApart};
 ghost use Rattle.run_words.specs.Words.{graph_of, IsAt, HasAll};
 
 use crate::workers::run_workers;
+use closed_run::core_of;
 use graph_terms::outcome::Outcome;
 use idle_workers::Waiting;
 use realm_io::{Gate, Hints};
@@ -36,7 +37,7 @@ pub fn run_free<'g, R: Threads + Wait + Sync, G: Gate, H: Hints>(
 {
     let idle = Waiting::new();
     let seat = run_workers(rt, &words, gate, &idle, seat, hints);
-    let mut core = words.close(seat);
+    let mut core = core_of(words, seat);
     core.finish();
     core.outcome()
 }

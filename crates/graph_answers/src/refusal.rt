@@ -11,7 +11,7 @@ use graph_terms::why::Why;
 use itoa::Buffer;
 use race_check::checked::CheckRefusal;
 use realm_io::{Sink, WriteFault};
-use run_report::{put_four, put_three};
+use run_report::put_words;
 
 /// Writes that the line of this number, counted from 1, is refused for this reason.
 pub(crate) fn put_unread<K: Sink>(sink: &mut K, number: u32, why: Why) -> Result<(), WriteFault>
@@ -19,7 +19,7 @@ pub(crate) fn put_unread<K: Sink>(sink: &mut K, number: u32, why: Why) -> Result
 {
     let mut buffer = Buffer::new();
     let digits = buffer.format(number).as_bytes();
-    put_four(sink, b"refused", b"line", digits, why.word().as_bytes())
+    put_words(sink, &[b"refused", b"line", digits, why.word().as_bytes()])
 }
 
 /// Writes that a graph is accepted, with its need.
@@ -27,7 +27,10 @@ pub(crate) fn put_accepted<K: Sink>(sink: &mut K, need: u32) -> Result<(), Write
     ensures { Writes (K.state sink.old) (K.state sink.new) result (accepted_text need) }
 {
     let mut buffer = Buffer::new();
-    put_three(sink, b"accepted", b"need", buffer.format(need).as_bytes())
+    put_words(
+        sink,
+        &[b"accepted", b"need", buffer.format(need).as_bytes()],
+    )
 }
 
 /// Writes how many slots a run needs.
@@ -35,7 +38,7 @@ pub(crate) fn put_slots<K: Sink>(sink: &mut K, need: u32) -> Result<(), WriteFau
     ensures { Writes (K.state sink.old) (K.state sink.new) result (slots_text need) }
 {
     let mut buffer = Buffer::new();
-    put_three(sink, b"needs", buffer.format(need).as_bytes(), b"slots")
+    put_words(sink, &[b"needs", buffer.format(need).as_bytes(), b"slots"])
 }
 
 /// Writes that one line breaks a rule.
@@ -43,7 +46,7 @@ fn put_one<K: Sink>(sink: &mut K, graph: &Graph, rule: &[u8], i: u32) -> Result<
     requires { i < length graph.now.lines }
     ensures { Writes (K.state sink.old) (K.state sink.new) result (broken_by_one graph.now rule.now i) }
 {
-    put_three(sink, b"refused", rule, graph.line(i).name.bytes())
+    put_words(sink, &[b"refused", rule, graph.line(i).name.bytes()])
 }
 
 /// Writes that two lines break a rule.
@@ -57,12 +60,14 @@ fn put_two<K: Sink>(
     requires { (i < length graph.now.lines) × (j < length graph.now.lines) }
     ensures { Writes (K.state sink.old) (K.state sink.new) result (broken_by_two graph.now rule.now i j) }
 {
-    put_four(
+    put_words(
         sink,
-        b"refused",
-        rule,
-        graph.line(i).name.bytes(),
-        graph.line(j).name.bytes(),
+        &[
+            b"refused",
+            rule,
+            graph.line(i).name.bytes(),
+            graph.line(j).name.bytes(),
+        ],
     )
 }
 

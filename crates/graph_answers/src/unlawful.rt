@@ -12,7 +12,7 @@ use graph_terms::lists::LineList;
 use itoa::Buffer;
 use realm_audit::AuditRefusal;
 use realm_io::{Sink, WriteFault};
-use run_report::{put_five, put_four, put_three};
+use run_report::put_words;
 
 /// Writes that the line of this number, counted from 1, is the first with which no text of a trace begins.
 pub(crate) fn put_trace_refused<K: Sink>(sink: &mut K, number: u64) -> Result<(), WriteFault>
@@ -20,7 +20,7 @@ pub(crate) fn put_trace_refused<K: Sink>(sink: &mut K, number: u64) -> Result<()
 {
     let mut buffer = Buffer::new();
     let digits = buffer.format(number).as_bytes();
-    put_four(sink, b"refused", b"line", digits, b"trace")
+    put_words(sink, &[b"refused", b"line", digits, b"trace"])
 }
 
 /// Writes the fault of the line at a place of a trace.
@@ -38,7 +38,7 @@ fn put_at<K: Sink>(
     let mut buffer = Buffer::new();
     let digits = buffer.format(u64::from(place) + 1).as_bytes();
     let name = graph.line(trace.at(place)).name.bytes();
-    put_four(sink, b"unlawful", fault, digits, name)
+    put_words(sink, &[b"unlawful", fault, digits, name])
 }
 
 /// Writes the fault of the line at a place of a trace, in which another line has part.
@@ -59,13 +59,15 @@ fn put_with<K: Sink>(
     let mut buffer = Buffer::new();
     let digits = buffer.format(u64::from(place) + 1).as_bytes();
     let name = graph.line(trace.at(place)).name.bytes();
-    put_five(
+    put_words(
         sink,
-        b"unlawful",
-        fault,
-        digits,
-        name,
-        graph.line(other).name.bytes(),
+        &[
+            b"unlawful",
+            fault,
+            digits,
+            name,
+            graph.line(other).name.bytes(),
+        ],
     )
 }
 
@@ -74,7 +76,10 @@ fn put_missing<K: Sink>(sink: &mut K, graph: &Graph, line: u32) -> Result<(), Wr
     requires { line < length graph.now.lines }
     ensures { Writes (K.state sink.old) (K.state sink.new) result (unlawful_without graph.now line) }
 {
-    put_three(sink, b"unlawful", b"missing", graph.line(line).name.bytes())
+    put_words(
+        sink,
+        &[b"unlawful", b"missing", graph.line(line).name.bytes()],
+    )
 }
 
 /// Writes why a trace is not lawful.

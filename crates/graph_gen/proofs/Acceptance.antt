@@ -18,7 +18,7 @@ use Rattle.graph_terms.specs.Edges.{edge}
 use Rattle.graph_terms.specs.Reservations.{Releases}
 use Rattle.graph_meaning.specs.Rules.{Section, modes_commute, Exempt, NoCycleAt, ReleasedAt, SectionAt, DescendsAt, ReleaseFaultAt, RaceAt, Everywhere, EverywhereTwice, Accepted}
 use Rattle.basics.proofs.ListFacts.{contains_cases, contains_none}
-use Rattle.graph_meaning.proofs.PathLaws.{path_append}
+use Rattle.graph_meaning.proofs.Public.{path_append}
 use Rattle.graph_gen.specs.MadeGraph.{next_state, row_lines, total_column, made_line, Made, unmade, drawn, after_draws, made_graph}
 use Rattle.graph_gen.proofs.Standing.{lined}
 use Rattle.graph_gen.proofs.Draws.{next_draw, next_row, draw_column, draw_other, Kept, kept_draws, one_more_is, stays}

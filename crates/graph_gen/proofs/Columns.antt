@@ -15,7 +15,7 @@ use Rattle.graph_terms.specs.Edges.{edge}
 use Rattle.graph_terms.specs.Fits.{on_lines}
 use Rattle.graph_meaning.specs.Path.{Path, last, first}
 use Rattle.basics.proofs.ListFacts.{contains_cases, contains_none, contains_here, contains_there}
-use Rattle.graph_meaning.proofs.PathLaws.{path_append}
+use Rattle.graph_meaning.proofs.Public.{path_append}
 use Rattle.graph_gen.specs.declared.draw.Row.{Row}
 use Rattle.graph_gen.specs.declared.draw.Row.TheVariants.{Fill, Iota, Expect, Settle, Copy, Sum, Event, Section}
 use Rattle.graph_gen.specs.declared.draw.Draw.{Draw}

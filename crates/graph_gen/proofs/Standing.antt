@@ -19,8 +19,7 @@ use Rattle.graph_terms.specs.Edges.{edges, line_edges}
 use Rattle.graph_terms.specs.Fits.{first_reason, repeats, is_used, with_line, is_beyond, verb_repeats, line_unknown, verb_unlike, takes_no_on, format_lacks, verb_misnumbered, access_outside, arrives_late, merges_many, line_fault, IsVerb, IsLine, LinesFit}
 use Rattle.graph_terms.specs.Spelling.{spelled, verb_words, on_words, line_words, line_name, head}
 use Rattle.graph_model.proofs.CountLaws.{spelled_size}
-use Rattle.graph_terms.proofs.GraphPush.{head_with_line}
-use Rattle.graph_terms.proofs.EdgeFacts.{edges_push}
+use Rattle.graph_terms.proofs.Public.{head_with_line, edges_push}
 use Rattle.graph_gen.specs.MadeGraph.{made_decls, made_name, made_line}
 use Rattle.graph_gen.proofs.LineNames.{made_is_name, made_differ, made_short}
 

@@ -1,5 +1,5 @@
 -- Laws of effects: their changes lie within the accesses, and rest on the cells that the line reads.
-use Rattle.std.proofs.Common.{◌≡◌, ℕ, ◌+◌, ◌-◌, ◌%◌, ◌^◌, ◌<◌, ◌≤◌, min, max, Bool, true, false, cond, ◌&&◌, inl, inr, List, [], ◌∷◌, ◌++◌, map, refl, sym, ◌∙◌, ap, subst, arith}
+use Rattle.std.proofs.Common.{◌≡◌, ℕ, ◌+◌, ◌-◌, ◌%◌, ◌^◌, ◌<◌, ◌≤◌, min, max, Bool, true, false, cond, ◌&&◌, inl, inr, List, [], ◌∷◌, refl, sym, ◌∙◌, ap, subst, arith}
 use Rattle.std.specs.Prelude.{Option, Some, None, Contains, flat_map, not, ◌==◌, nat_le}
 use Rattle.std.specs.Option.{option_map_or}
 use Rattle.std.specs.List.{list_any}
@@ -17,10 +17,10 @@ use Rattle.graph_terms.specs.declared.verb.Verb.TheVariants.{Fill, Copy, Reduce,
 use Rattle.graph_terms.specs.declared.table.Kernel.{Kernel}
 use Rattle.graph_terms.specs.Access.{access, is_read, is_reduction, verb_accesses, kernel_accesses}
 use Rattle.graph_meaning.specs.Effect as change
-use Rattle.graph_meaning.specs.Effect.{Cells, Change, Set, Add, CellChange, cell_after, cell_after_if, cells_after_one, cells_after, changes_at, may_read, seen, kernel_value, target, change_by, changes_of, kernel_changes, verdict_on, verb_changes, verb_verdict}
+use Rattle.graph_meaning.specs.Effect.{Cells, Change, Set, Add, CellChange, cell_after, cell_after_if, cells_after_one, cells_after, changes_at, may_read, seen, kernel_value, target, change_by, changes_of, kernel_changes, verdict_on, verb_changes, verb_verdict, touches}
 use Rattle.graph_meaning.specs.HeldCells.{SeenCells}
-use Rattle.graph_meaning.specs.Laws.{FitsMode, IsWithinAccess}
-use Rattle.basics.proofs.ListFacts.{contains_none, contains_here, contains_there, some_passes, passes_some, map_contains, from_contains}
+use Rattle.graph_meaning.specs.Laws.{FitsMode, IsWithinAccess, CellRestsOnItself, CellsAfterBoth, UntouchedCellStays, ListedPointsLieWithin}
+use Rattle.basics.proofs.ListFacts.{contains_none, contains_here, contains_there, some_passes, passes_some, map_contains, from_contains, map_agree}
 
 pub flat_map_contains : {X Y : Type 0} (f : X → List Y) (xs : List X) (y : Y) → Contains (flat_map f xs) y → (x : X) × Contains xs x × Contains (f x) y
 flat_map_contains f [] y c = absurd (contains_none y c)
@@ -30,7 +30,7 @@ flat_map_contains f (x ∷ xs) y c = elim (Contains-append_cases (f x) (flat_map
 ]
 
 -- a point that is listed lies in the space
-pub listed_point : (s : List (ℕ × ℕ)) (p : ℕ) → Contains (points s) p → has_point s p ≡ true
+pub listed_point : ListedPointsLieWithin
 listed_point s p c =
     let r = flat_map_contains interval_points s p c in
     let b = from_contains r.0.0 (r.0.1 + 1 - r.0.0) p r.2 in
@@ -101,11 +101,6 @@ changes_within space cells (Reduce op.Max c d s) x h = by_mode space (verb_acces
 changes_within space cells (Task kernel) x h = kernel_within space cells kernel x h
 changes_within space cells v x h = absurd (contains_none x h)
 
--- functions that agree at each element
-pub map_agree : {X Y : Type 0} (f g : X → Y) (xs : List X) → ((x : X) → Contains xs x → f x ≡ g x) → map f xs ≡ map g xs
-map_agree f g [] h = refl
-map_agree f g (x ∷ xs) h = ap (λ y. y ∷ map f xs) (h x (contains_here x xs)) ∙ ap (λ ys. g x ∷ ys) (map_agree f g xs (λ y c. h y (contains_there x xs y c)))
-
 pub changes_agree : (f g : ℕ → Change) (c : ℕ) (ps : List ℕ) → ((p : ℕ) → Contains ps p → f p ≡ g p) → changes_at f c ps ≡ changes_at g c ps
 changes_agree f g c ps h = map_agree (λ p. record { column = c; point = p; change = f p }) (λ p. record { column = c; point = p; change = g p }) ps (λ p k. ap (λ ch. record { column = c; point = p; change = ch }) (h p k))
 
@@ -152,27 +147,20 @@ effect_agrees space cells others (Task k) h =
     )
 effect_agrees space cells others v h = (refl, refl)
 
--- a change of the cell at a column and a point
-abbrev pub touches : ℕ → ℕ → CellChange → Bool
-touches c p x = (c == x.column) && (p == x.point)
-
-abbrev pub Untouched : ℕ → ℕ → List CellChange → Type 0
-Untouched c p xs = (x : CellChange) → Contains xs x → touches c p x ≡ false
-
 -- each change of the cell is one of this mode
 abbrev pub ReducesBy : Mode → ℕ → ℕ → List CellChange → Type 0
 ReducesBy m c p xs = (x : CellChange) → Contains xs x → touches c p x ≡ true → FitsMode m x.change
 
-pub cells_after-append : (cells : Cells) (xs ys : List CellChange) → cells_after cells (xs ++ ys) ≡ cells_after (cells_after cells xs) ys
+pub cells_after-append : CellsAfterBoth
 cells_after-append cells [] ys = refl
 cells_after-append cells (x ∷ xs) ys = cells_after-append (cells_after_one cells x) xs ys
 
 -- a cell after changes rests on that cell alone
-pub cells_after_at : (cells others : Cells) (xs : List CellChange) (c p : ℕ) → cells c p ≡ others c p → cells_after cells xs c p ≡ cells_after others xs c p
+pub cells_after_at : CellRestsOnItself
 cells_after_at cells others [] c p e = e
 cells_after_at cells others (x ∷ xs) c p e = cells_after_at (cells_after_one cells x) (cells_after_one others x) xs c p (ap (cell_after_if (touches c p x) x.change) e)
 
-pub cells_after_untouched : (cells : Cells) (xs : List CellChange) (c p : ℕ) → Untouched c p xs → cells_after cells xs c p ≡ cells c p
+pub cells_after_untouched : UntouchedCellStays
 cells_after_untouched cells [] c p h = refl
 cells_after_untouched cells (x ∷ xs) c p h =
     cells_after_untouched (cells_after_one cells x) xs c p (λ y k. h y (contains_there x xs y k)) ∙ ap (λ b. cell_after_if b x.change (cells c p)) (h x (contains_here x xs))

@@ -21,15 +21,16 @@ use Rattle.graph_terms.specs.Edges.{edges}
 use Rattle.graph_meaning.specs.Path.{HasPath}
 use Rattle.graph_terms.specs.Access.{accesses, verb_accesses, in_format, or_write, mode_in, is_reduction, modes_clash, AccessesConflict}
 use Rattle.graph_meaning.specs.Rules.{Accepted}
-use Rattle.graph_meaning.specs.Effect.{Cells, zero_cells, Change, CellChange, cells_after, Effect, Effects, effect, verb_changes, verb_verdict}
+use Rattle.graph_meaning.specs.Effect.{Cells, zero_cells, Change, CellChange, cells_after, Effect, Effects, effect, verb_changes, verb_verdict, touches, Untouched}
 use Rattle.graph_meaning.specs.Evaluation.{Step, has_ended, changes_in, cells_with, cells_of, is_cancelled, made_by, step_by, step_with, lowest_ready, advance_by_with, steps_with, steps_after, evaluation_with, evaluation, order_with, changes_with, eval_changes, cells_by_with, cells_of_lines_with, cells_of_lines}
 use Rattle.graph_meaning.specs.Laws.{FitsMode, IsWithinAccess, IsReadyAmongWith, IsReadyAmong, KeepsToAccesses}
 use Rattle.basics.proofs.ListFacts.{contains_none, contains_here, contains_there, contains_map, some_passes, passes_some, map_contains, filter_contains}
 use Rattle.graph_meaning.proofs.PathLaws.{back_path}
 use Rattle.graph_meaning.proofs.Races.{commute_parts, before_ended, path_or_exempt}
 use Rattle.graph_meaning.proofs.Waiting.{step_with-line, ended_cases, lowest_ready_is}
-use Rattle.graph_meaning.proofs.Turns.{IsTurn, ends_by_turn_with, changes_in-push, changes_in_last}
-use Rattle.graph_meaning.proofs.Changes.{changes_within, flat_map_contains, AgreeFor, effect_agrees, touches, Untouched, ReducesBy, cells_after-append, cells_after_at, cells_after_untouched, reductions_past}
+use Rattle.graph_meaning.proofs.Turns.{ends_by_turn_with, changes_in-push, changes_in_last}
+use Rattle.graph_meaning.specs.Turns.{IsTurn}
+use Rattle.graph_meaning.proofs.Changes.{changes_within, flat_map_contains, AgreeFor, effect_agrees, ReducesBy, cells_after-append, cells_after_at, cells_after_untouched, reductions_past}
 
 -- no line stands twice among the steps
 abbrev pub Fresh : List Step → Type 0

@@ -24,9 +24,10 @@ use Rattle.graph_meaning.proofs.ReadyLine.{ready_or_never}
 use Rattle.graph_meaning.proofs.Waiting.{waits_if_reached_with, reached_if_waits_with}
 use Rattle.graph_meaning.proofs.Cancelled.{has_ended_of, cancelled_if_unbroken_with, unbroken_if_cancelled_with}
 use Rattle.graph_meaning.proofs.Changes.{cells_after_at}
-use Rattle.graph_meaning.proofs.Turns.{IsTurn, turns_with, is_cancelled_agree}
+use Rattle.graph_meaning.proofs.Turns.{turns_with, is_cancelled_agree}
+use Rattle.graph_meaning.specs.Turns.{IsTurn}
 use Rattle.graph_meaning.proofs.Confluence as confluence
-use Rattle.graph_terms.proofs.GraphFacts.{edges_in_range, space_is}
+use Rattle.graph_terms.proofs.Public.{edges_in_range, space_is}
 
 pub paths_compose : PathsCompose
 paths_compose g i k j p q = path_append p q

@@ -10,11 +10,11 @@ use Rattle.index_spaces.specs.Column.{ColumnValue, cell_of}
 use Rattle.index_spaces.specs.Held.{held_at}
 use Rattle.index_spaces.specs.Laws.{PointsAreListed, PointsAscend, PointOfRank, RankOfPoint}
 use Rattle.graph_terms.specs.Graph.{column_space}
-use Rattle.graph_meaning.specs.Effect.{Cells, Change, CellChange, cell_after, cell_after_if, cells_after_one, cells_after, changes_at}
+use Rattle.graph_meaning.specs.Effect.{Cells, Change, CellChange, cell_after, cell_after_if, cells_after_one, cells_after, changes_at, Untouched}
 use Rattle.graph_meaning.specs.Evaluation.{column_of}
 use Rattle.graph_meaning.specs.HeldCells.{HasCells, CellsByPoint, ChangesByPoint, ColumnsOfChanges}
-use Rattle.basics.proofs.ListFacts.{contains_none, contains_cases, map_contains}
-use Rattle.graph_meaning.proofs.Changes.{Untouched, cells_after_untouched, map_agree}
+use Rattle.basics.proofs.ListFacts.{contains_none, contains_cases, map_contains, map_agree}
+use Rattle.graph_meaning.proofs.Changes.{cells_after_untouched}
 
 -- points that ascend from low
 abbrev Rising : ℕ → List ℕ → Type 0

@@ -18,3 +18,4 @@ pub mod LineFacts
 pub mod HeldCellsLaws
 pub mod SectionLaws
 pub mod ArrivalFacts
+pub mod Public

@@ -7,7 +7,7 @@ use Rattle.std.proofs.lemmas.Bool.{true≢false, eq-eqb, or_parts, false_from_ne
 use Rattle.std.proofs.lemmas.Option.{none-some, same_Some, slice_get-get_or, slice_get_within, get_or_from_slice_get, slice_get-map}
 use Rattle.std.proofs.lemmas.List.Elements.{Contains-get_or}
 use Rattle.index_spaces.specs.Space.{has_point, points, IsSpace, IsWithin}
-use Rattle.index_spaces.proofs.LawFacts.{points_are_listed}
+use Rattle.index_spaces.proofs.Public.{points_are_listed}
 use Rattle.graph_terms.specs.declared.format.Format.{Format}
 use Rattle.graph_terms.specs.declared.verb.Access.{Access}
 use Rattle.graph_terms.specs.declared.verb.Line.{Line}
@@ -19,10 +19,9 @@ use Rattle.graph_terms.specs.Fits.{line_tests, line_fault, access_unknown, acces
 use Rattle.graph_terms.specs.declared.why.Why.TheVariants as why
 use Rattle.graph_meaning.specs.LineLaws.{AccessFits, AccessesFit, ColumnsDiffer, PhasesFit, AccessesAreFew}
 use Rattle.basics.proofs.ListFacts.{contains_none, map_contains, passes_some, passes_each}
-use Rattle.graph_terms.proofs.GraphFacts.{fit_at, fits_known, none_first, spaces_are, barrier_known, column_space_known}
+use Rattle.graph_terms.proofs.Public.{none_first, fits_known, spaces_are, fit_at, barrier_known, column_space_known, few}
 use Rattle.std.proofs.lemmas.List.{length-map}
 use Rattle.graph_terms.specs.declared.verb.Verb.{Verb}
-use Rattle.graph_terms.proofs.KindLaws.{few}
 
 -- a declared space is a space
 space_is : (g : GraphValue) → IsGraph g → (s : ℕ) → s < length (named_spaces g) → IsSpace (space_at g s)

@@ -8,6 +8,7 @@ use Rattle.graph_meaning.specs.Path.{Path, last, first}
 use Rattle.graph_meaning.proofs.PathLaws.{path_append}
 use Rattle.basics.proofs.ListFacts.{some_passes, passes_some, passes_each, contains_below}
 use Rattle.basics.specs.Lists.{numbers_below}
+use Rattle.graph_meaning.specs.Laws.{PathsStayBelow}
 
 -- whether an edge leads from i to j
 abbrev pub is_edge : List Edge → ℕ → ℕ → Bool
@@ -178,7 +179,7 @@ pub no_path_by_table : (es : List Edge) (n i j : ℕ) → edges_below n es ≡ t
 no_path_by_table es n i j range h p = true≢false (sym (path_is_bit es n (range_by n es range) p) ∙ h)
 
 -- both ends of a path are below n
-pub path_below : (es : List Edge) (n : ℕ) → ((e : Edge) → Contains es e → (e.from < n) × (e.to < n)) → {i j : ℕ} → Path es i j → (i < n) × (j < n)
+pub path_below : (es : List Edge) (n : ℕ) {i j : ℕ} → PathsStayBelow es n i j
 path_below es n range (last e c p q) = (subst (λ x. x < n) p (range e c).0, subst (λ x. x < n) q (range e c).1)
 path_below es n range (first e c p r) = (subst (λ x. x < n) p (range e c).0, (path_below es n range r).1)
 

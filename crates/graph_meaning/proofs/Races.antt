@@ -1,16 +1,12 @@
 -- Conflicts and exemptions seen from the other line. Lines of an accepted graph that conflict have a path between them, or are exempt.
-use Rattle.std.proofs.Common.{◌≡◌, ℕ, Bool, true, ◌⊎◌, inl, inr, List, refl, sym, ◌∙◌, subst}
-use Rattle.std.specs.Prelude.{Contains}
+use Rattle.std.proofs.Common.{◌≡◌, true, inl, inr, refl, sym, ◌∙◌, subst}
 use Rattle.std.proofs.lemmas.Bool.{true≢false, cases_order}
-use Rattle.graph_terms.specs.declared.verb.Access.{Access}
-use Rattle.graph_terms.specs.declared.verb.Edge.{Edge}
 use Rattle.graph_terms.specs.declared.verb.Mode.{Mode}
 use Rattle.graph_terms.specs.declared.verb.Mode.TheVariants.{Read, Write, Sum, Least, Most}
-use Rattle.graph_terms.specs.Graph.{GraphValue}
-use Rattle.graph_terms.specs.Access.{is_reduction, modes_clash, AccessesConflict, Conflict}
-use Rattle.graph_meaning.specs.Path.{Path, HasPath, last, first}
-use Rattle.graph_meaning.specs.Rules.{modes_commute, Exempt, Accepted}
-use Rattle.graph_terms.proofs.VerbFacts.{both_shared_swap}
+use Rattle.graph_terms.specs.Access.{modes_clash}
+use Rattle.graph_meaning.specs.Path.{last, first}
+use Rattle.graph_terms.proofs.Public.{both_shared_swap}
+use Rattle.graph_meaning.specs.Laws.{AccessesConflictBack, ModesCommuteBack, LinesConflictBack, ExemptBack, CommutingModes, ConflictHasPathOrExempt, BeforeEndedHasEnded}
 
 -- SEEN FROM THE OTHER LINE
 clash_back : (a b : Mode) → modes_clash a b ≡ modes_clash b a
@@ -40,7 +36,7 @@ clash_back Most Sum = refl
 clash_back Most Least = refl
 clash_back Most Most = refl
 
-pub commute_back : (a b : Mode) → modes_commute a b ≡ modes_commute b a
+pub commute_back : ModesCommuteBack
 commute_back Read Read = refl
 commute_back Read Write = refl
 commute_back Read Sum = refl
@@ -67,13 +63,13 @@ commute_back Most Sum = refl
 commute_back Most Least = refl
 commute_back Most Most = refl
 
-pub conflict_back : (g : GraphValue) (a b : Access) → AccessesConflict g a b → AccessesConflict g b a
+pub conflict_back : AccessesConflictBack
 conflict_back g a b c = record { column = sym c.column; meet = (c.meet.0, c.meet.2, c.meet.1); clash = clash_back b.mode a.mode ∙ c.clash }
 
-pub lines_back : (g : GraphValue) (i j : ℕ) → Conflict g i j → Conflict g j i
+pub lines_back : LinesConflictBack
 lines_back g i j c = record { different = λ e. c.different (sym e); one = c.other; other = c.one; one_in = c.other_in; other_in = c.one_in; conflict = conflict_back g c.one c.other c.conflict }
 
-pub exempt_back : (g : GraphValue) (i j : ℕ) → Exempt g i j → Exempt g j i
+pub exempt_back : ExemptBack
 exempt_back g i j x = record {
   commute = λ a b ha hb c. commute_back a.mode b.mode ∙ x.commute b a hb ha (conflict_back g a b c);
   lock = x.lock;
@@ -86,7 +82,7 @@ exempt_back g i j x = record {
 }
 
 -- uses that commute are reductions of one kind
-pub commute_parts : (m n : Mode) → modes_commute m n ≡ true → (is_reduction m ≡ true) × (m ≡ n)
+pub commute_parts : CommutingModes
 commute_parts Sum Sum h = (refl, refl)
 commute_parts Least Least h = (refl, refl)
 commute_parts Most Most h = (refl, refl)
@@ -94,13 +90,12 @@ commute_parts m n h = absurd (true≢false (sym h))
 
 -- ORDER
 -- all lines with a path to a line whose sources have ended have ended, where each ended line's sources have
-pub before_ended : (all : List Edge) (ended : ℕ → Bool) → ((e : Edge) → Contains all e → ended e.to ≡ true → ended e.from ≡ true) →
-    (i j : ℕ) → ((e : Edge) → Contains all e → e.to ≡ j → ended e.from ≡ true) → Path all i j → ended i ≡ true
+pub before_ended : BeforeEndedHasEnded
 before_ended all ended closed i j sources (last e c p q) = subst (λ x. ended x ≡ true) p (sources e c q)
 before_ended all ended closed i j sources (first e c p r) = subst (λ x. ended x ≡ true) p (closed e c (before_ended all ended closed e.to j sources r))
 
 -- two lines that conflict have a path one way or the other, or are exempt
-pub path_or_exempt : (g : GraphValue) → Accepted g → (i j : ℕ) → Conflict g i j → HasPath g i j ⊎ (HasPath g j i ⊎ Exempt g i j)
+pub path_or_exempt : ConflictHasPathOrExempt
 path_or_exempt g accepted i j c = elim (cases_order i j) [
   | inl same ↦ absurd (c.different same)
   | inr (inl below) ↦ accepted.races i j below c

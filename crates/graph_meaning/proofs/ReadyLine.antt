@@ -1,5 +1,5 @@
 -- Without cycles a line that has not ended is reached by one that never comes, or some line is ready.
-use Rattle.std.proofs.Common.{◌≡◌, ℕ, zero, suc, ◌+◌, ◌<◌, ◌≤◌, Bool, true, false, not, ◌||◌, ◌⊎◌, inl, inr, List, map, refl, sym, ◌∙◌, ap, subst, arith}
+use Rattle.std.proofs.Common.{◌≡◌, ℕ, zero, suc, ◌+◌, ◌<◌, ◌≤◌, Bool, true, false, not, ◌||◌, inl, inr, List, map, refl, sym, ◌∙◌, ap, subst, arith}
 use Rattle.std.specs.Prelude.{Contains, filter, ◌==◌}
 use Rattle.std.specs.List.{list_all}
 use Rattle.std.proofs.lemmas.Bool.{true≢false, cases_Bool, eq-eqb, eqb-true, or_cases, false_from_ne_true, not_from_true, not_from_false, or_left}
@@ -8,6 +8,7 @@ use Rattle.graph_meaning.specs.Path.{Path, last, first}
 use Rattle.graph_meaning.proofs.PathLaws.{path_append}
 use Rattle.basics.proofs.ListFacts.{passes_each, fails_some, filter_contains, contains_filter, contains_map, map_contains, fewer_below, some_below, count_below-max}
 use Rattle.basics.specs.Lists.{count_below}
+use Rattle.graph_meaning.specs.Turns.{ReadyOrNever}
 
 -- the lines from which edges enter a line
 abbrev pub from_into : List Edge → ℕ → List ℕ
@@ -24,21 +25,6 @@ source_fails es t i h =
     let m = map_contains (λ (e : Edge). e.from) (filter (λ (e : Edge). e.to == i) es) f.0 f.1 in
     let k = filter_contains (λ (e : Edge). e.to == i) es m.0 m.1 in
     (m.0, k.0, eqb-true m.0.to i k.1, ap t m.2 ∙ f.2)
-
--- a line below n that has not ended, comes, and whose sources have ended
-pub record IsReadyLine (es : List Edge) (n : ℕ) (never ended : ℕ → Bool) (k : ℕ) : Type 0 where
-  pub below : k < n
-  pub left : ended k ≡ false
-  pub comes : never k ≡ false
-  pub sources : (e : Edge) → Contains es e → e.to ≡ k → ended e.from ≡ true
-
--- a line that never comes is i, or has a path to it
-abbrev pub NeverReaches : List Edge → (ℕ → Bool) → ℕ → Type 0
-NeverReaches es never i = (never i ≡ true) ⊎ ((j : ℕ) × (never j ≡ true) × Path es j i)
-
--- a ready line is i or has a path to it, or a line that never comes does
-abbrev pub ReadyOrNever : List Edge → ℕ → (ℕ → Bool) → (ℕ → Bool) → ℕ → Type 0
-ReadyOrNever es n never ended i = ((k : ℕ) × IsReadyLine es n never ended k × ((k ≡ i) ⊎ Path es k i)) ⊎ NeverReaches es never i
 
 module _ (es : List Edge) (n : ℕ) (never ended : ℕ → Bool) (in_range : (e : Edge) → Contains es e → e.from < n) (acyclic : (i : ℕ) → Path es i i → ⊥) where
   -- what holds of a source holds of the line

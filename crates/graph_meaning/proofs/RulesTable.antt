@@ -18,7 +18,7 @@ use Rattle.graph_meaning.specs.Path.{HasPath}
 use Rattle.graph_terms.specs.Access.{accesses, verb_accesses, in_format, modes_clash, AccessesConflict, Conflict}
 use Rattle.graph_terms.specs.Reservations.{Acquires, Releases, both_shared, taken_by, freed_by, lock_at, acquire_at, is_lower}
 use Rattle.graph_meaning.specs.Rules.{Section, modes_commute, Exempt, NoCycleAt, ReleasedAt, SectionAt, DescendsAt, ReleaseFaultAt, RaceAt, Everywhere, EverywhereTwice, FailsFirst, FailsFirstTwice, Accepted, IsRace}
-use Rattle.graph_terms.proofs.VerbFacts.{acquire_is, release_is, release_of_is, passes_below}
+use Rattle.graph_terms.proofs.Public.{release_of_is, acquire_is, release_is, passes_below}
 use Rattle.basics.proofs.ListFacts.{contains_none, map_contains, contains_from, contains_below, passes_each, some_passes, passes_some}
 use Rattle.graph_meaning.proofs.PathTable.{has_path, edges_below, range_by, path_is_bit, path_by_table, path_below, acyclic_by_table}
 

@@ -9,7 +9,7 @@ use Rattle.graph_terms.specs.Reservations.{Releases}
 use Rattle.graph_meaning.specs.Rules.{Accepted}
 use Rattle.graph_terms.specs.Fits.{IsGraph}
 use Rattle.graph_meaning.specs.Trace.{StandsBefore, ListsEnded, IsLawful, HaveSections, SectionsApart}
-use Rattle.graph_terms.proofs.ReleaseFacts.{one_release}
+use Rattle.graph_terms.proofs.Public.{one_release}
 
 -- what stands before a line that stands before a third one stands before that one
 before_trans : (g : GraphValue) (trace : List ℕ) → ListsEnded g trace → (i j k : ℕ) → StandsBefore trace i j → StandsBefore trace j k → StandsBefore trace i k

@@ -1,15 +1,16 @@
 -- How a line ended in the evaluation: at its turn, by the ends of its sources and by its effect on the cells then.
 use Rattle.std.proofs.Common.{◌≡◌, ℕ, zero, suc, Bool, true, false, cond, ◌||◌, inl, inr, List, [], ◌∷◌, ◌++◌, length, refl, sym, ◌∙◌, ap, subst, append_assoc}
 use Rattle.std.specs.Prelude.{Contains, Option, Some, None, ◌==◌}
-use Rattle.std.specs.List.{list_any}
 use Rattle.std.proofs.lemmas.Bool.{true≢false, eq-eqb, eqb-true}
 use Rattle.graph_terms.specs.declared.verb.Edge.{Edge}
 use Rattle.graph_terms.specs.Graph.{GraphValue}
 use Rattle.graph_terms.specs.Edges.{edges, edges_into}
 use Rattle.graph_meaning.specs.Effect.{Cells, zero_cells, Effects, effect}
-use Rattle.graph_meaning.specs.Evaluation.{Step, end_in, has_ended, changes_in, cells_with, cancels, is_cancelled, step_by, step_with, lowest_ready, advance_by_with, steps_with, steps_after, evaluation_with, evaluation, end_with, changes_with}
-use Rattle.basics.proofs.ListFacts.{contains_here, contains_there, filter_contains}
-use Rattle.graph_meaning.proofs.Waiting.{step_with-line, ended_cases, stays_ended, Ready, lowest_ready_is, EndsInOrder, ends_in_order_after}
+use Rattle.graph_meaning.specs.Evaluation.{Step, end_in, has_ended, changes_in, cells_with, cancels, is_cancelled, step_by, step_with, lowest_ready, advance_by_with, steps_with, evaluation_with}
+use Rattle.basics.proofs.ListFacts.{filter_contains, list_any_agree}
+use Rattle.graph_meaning.proofs.Waiting.{step_with-line, ended_cases, stays_ended, lowest_ready_is, ends_in_order_after}
+use Rattle.graph_meaning.specs.Turns.{IsTurn, HaveTurns, EndsByTurn, Ready, EndsInOrder}
+use Rattle.graph_meaning.specs.Laws.{StepsHaveTurns, EndsByItsTurn, LaterStepKeepsEnd, LastStepGivesEnd}
 
 -- what is found at a step, or else further on: the same further on, and so the same here
 found_same : {X : Type 0} (x new old : X) (b more : Bool) → (b || more) ≡ true → (more ≡ true → new ≡ old) → cond b x new ≡ cond b x old
@@ -21,7 +22,7 @@ found_further x new last true more h again = absurd (true≢false h)
 found_further x new last false more h again = again h
 
 -- a later step changes no end and no changes that stand
-pub end_in-push : (ss : List Step) (s : Step) (i : ℕ) → has_ended ss i ≡ true → end_in (ss ++ s ∷ []) i ≡ end_in ss i
+pub end_in-push : LaterStepKeepsEnd
 end_in-push [] s i h = absurd (true≢false (sym h))
 end_in-push (t ∷ ss) s i h = found_same t.ends (end_in (ss ++ s ∷ []) i) (end_in ss i) (t.line == i) (has_ended ss i) h (end_in-push ss s i)
 
@@ -30,7 +31,7 @@ changes_in-push [] s i h = absurd (true≢false (sym h))
 changes_in-push (t ∷ ss) s i h = found_same t.changes (changes_in (ss ++ s ∷ []) i) (changes_in ss i) (t.line == i) (has_ended ss i) h (changes_in-push ss s i)
 
 -- the last step is that of its line, where the line had not ended before
-pub end_in_last : (ss : List Step) (s : Step) (i : ℕ) → s.line ≡ i → has_ended ss i ≡ false → end_in (ss ++ s ∷ []) i ≡ s.ends
+pub end_in_last : LastStepGivesEnd
 end_in_last [] s i e h = rw (eq-eqb s.line i e) refl
 end_in_last (t ∷ ss) s i e h = found_further t.ends (end_in (ss ++ s ∷ []) i) s.ends (t.line == i) (has_ended ss i) h (end_in_last ss s i e)
 
@@ -38,26 +39,10 @@ pub changes_in_last : (ss : List Step) (s : Step) (i : ℕ) → s.line ≡ i →
 changes_in_last [] s i e h = rw (eq-eqb s.line i e) refl
 changes_in_last (t ∷ ss) s i e h = found_further t.changes (changes_in (ss ++ s ∷ []) i) s.changes (t.line == i) (has_ended ss i) h (changes_in_last ss s i e)
 
--- a test of edges that agrees at each of them
-pub list_any_agree : {X : Type 0} (s t : X → Bool) (xs : List X) → ((x : X) → Contains xs x → s x ≡ t x) → list_any s xs ≡ list_any t xs
-list_any_agree s t [] h = refl
-list_any_agree s t (x ∷ xs) h =
-    ap (λ b. b || list_any s xs) (h x (contains_here x xs)) ∙ ap (λ b. t x || b) (list_any_agree s t xs (λ y c. h y (contains_there x xs y c)))
-
 -- whether a line is cancelled rests on the ends of its sources alone
 pub is_cancelled_agree : (g : GraphValue) (ss ts : List Step) (i : ℕ) → ((e : Edge) → Contains (edges g) e → e.to ≡ i → end_in ss e.from ≡ end_in ts e.from) → is_cancelled g ss i ≡ is_cancelled g ts i
 is_cancelled_agree g ss ts i h = list_any_agree (λ (e : Edge). cancels e.kind (end_in ss e.from)) (λ (e : Edge). cancels e.kind (end_in ts e.from)) (edges_into g i)
     (λ e c. let k = filter_contains (λ (e : Edge). e.to == i) (edges g) e c in ap (cancels e.kind) (h e k.0 (eqb-true e.to i k.1)))
-
--- the turn of a line among steps: what stood before it, and what the line did
-pub record IsTurn (does : Effects) (first : Cells) (g : GraphValue) (ss : List Step) (i : ℕ) (before : List Step) : Type 0 where
-  pub ready : Ready g before i
-  pub ordered : EndsInOrder g before
-  pub after : List Step
-  pub parts : ss ≡ before ++ step_with does first g before i ∷ after
-  pub end_is : end_in ss i ≡ (step_with does first g before i).ends
-  pub changes_are : changes_in ss i ≡ (step_with does first g before i).changes
-  pub sources_same : (e : Edge) → Contains (edges g) e → e.to ≡ i → end_in ss e.from ≡ end_in before e.from
 
 turn_kept : (does : Effects) (first : Cells) (g : GraphValue) (ss : List Step) (i : ℕ) (s : Step) → has_ended ss i ≡ true → (before : List Step) → IsTurn does first g ss i before →
     ((e : Edge) → Contains (edges g) e → e.to ≡ i → has_ended ss e.from ≡ true) → IsTurn does first g (ss ++ s ∷ []) i before
@@ -82,10 +67,6 @@ turn_made does first g ss i r o = record {
   sources_same = λ e c to. end_in-push ss (step_with does first g ss i) e.from (r.sources e c to);
 }
 
--- each line that has ended had its turn
-abbrev pub HaveTurns : Effects → Cells → GraphValue → List Step → Type 0
-HaveTurns does first g ss = (i : ℕ) → has_ended ss i ≡ true → (before : List Step) × IsTurn does first g ss i before × ((e : Edge) → Contains (edges g) e → e.to ≡ i → has_ended ss e.from ≡ true)
-
 turns_push : (does : Effects) (first : Cells) (g : GraphValue) (ss : List Step) (k : ℕ) → Ready g ss k → EndsInOrder g ss → HaveTurns does first g ss → HaveTurns does first g (ss ++ step_with does first g ss k ∷ [])
 turns_push does first g ss k r o all i h = elim (ended_cases ss (step_with does first g ss k) i h) [
   | inl before ↦ (let t = all i before in (t.0, turn_kept does first g ss i (step_with does first g ss k) before t.0 t.1 t.2, λ e c to. stays_ended ss (step_with does first g ss k) e.from (t.2 e c to)))
@@ -102,14 +83,6 @@ pub turns_with : (does : Effects) (first : Cells) (g : GraphValue) (n : ℕ) →
 turns_with does first g zero = λ i h. absurd (true≢false (sym h))
 turns_with does first g (suc n) = turns_by does first g (steps_with does first g n) (lowest_ready g (steps_with does first g n)) refl (ends_in_order_after does first g n) (turns_with does first g n)
 
--- In the evaluation the end and the changes of a line are those of its effect on the cells at its turn, unless its sources' ends cancel it.
-pub record EndsByTurn (does : Effects) (first : Cells) (g : GraphValue) (i : ℕ) : Type 0 where
-  pub before : List Step
-  pub after : List Step
-  pub parts : evaluation_with does first g ≡ before ++ step_by i (is_cancelled g (evaluation_with does first g) i) (does i (cells_with first before)) ∷ after
-  pub end_is : end_with does first g i ≡ (step_by i (is_cancelled g (evaluation_with does first g) i) (does i (cells_with first before))).ends
-  pub changes_are : changes_with does first g i ≡ (step_by i (is_cancelled g (evaluation_with does first g) i) (does i (cells_with first before))).changes
-
 pub ends_by_turn_with : (does : Effects) (first : Cells) (g : GraphValue) (i : ℕ) → has_ended (evaluation_with does first g) i ≡ true → EndsByTurn does first g i
 ends_by_turn_with does first g i h =
     let t = turns_with does first g (length g.lines) i h in
@@ -124,8 +97,8 @@ ends_by_turn_with does first g i h =
     }
 
 -- the same with the effects of the graph's verbs, and cells of 0
-pub turns_after : (g : GraphValue) (n : ℕ) → HaveTurns (effect g) zero_cells g (steps_after g n)
+pub turns_after : StepsHaveTurns
 turns_after g n = turns_with (effect g) zero_cells g n
 
-pub ends_by_turn : (g : GraphValue) (i : ℕ) → has_ended (evaluation g) i ≡ true → EndsByTurn (effect g) zero_cells g i
+pub ends_by_turn : EndsByItsTurn
 ends_by_turn g i h = ends_by_turn_with (effect g) zero_cells g i h

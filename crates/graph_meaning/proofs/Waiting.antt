@@ -15,15 +15,13 @@ use Rattle.graph_terms.specs.Edges.{edges, sources}
 use Rattle.graph_meaning.specs.Path.{Reached}
 use Rattle.graph_meaning.specs.Effect.{Cells, zero_cells, Effect, Effects, effect}
 use Rattle.graph_meaning.specs.Rules.{NoCycleAt, Everywhere}
-use Rattle.graph_meaning.specs.Evaluation.{Step, end_in, is_ended, has_ended, cells_with, is_ready, is_cancelled, step_by, step_with, step_of, lowest_ready, advance_by_with, steps_with, steps_after, evaluation_with, evaluation, end_with, eval_end}
+use Rattle.graph_meaning.specs.Evaluation.{Step, end_in, is_ended, has_ended, cells_with, is_ready, is_cancelled, step_by, step_with, lowest_ready, advance_by_with, steps_with, evaluation_with, end_with}
 use Rattle.basics.specs.Lists.{numbers_below, count_below}
 use Rattle.graph_meaning.proofs.PathLaws.{back_path}
 use Rattle.basics.proofs.ListFacts.{contains_none, contains_here, contains_there, find_is, find_none, below_contains, contains_below, count_below-max, fewer_below, some_below}
-use Rattle.graph_meaning.proofs.ReadyLine.{source_passes, source_fails, IsReadyLine, ready_or_never}
-
--- the sources of each edge are lines of the graph
-abbrev pub EdgesInRange : GraphValue → Type 0
-EdgesInRange g = (e : Edge) → Contains (edges g) e → e.from < length g.lines
+use Rattle.graph_meaning.proofs.ReadyLine.{source_passes, source_fails, ready_or_never}
+use Rattle.graph_meaning.specs.Turns.{EdgesInRange, Ready, EndsInOrder, StepsEnd}
+use Rattle.graph_meaning.specs.Laws.{EndedByStep, StepsEndLines, StepOfLine, StepEndsLine, WaitsWhereLeft, EvaluationInOrder, ReachedWaits, LeftIsReached, LowestReadyIsReady, EndedStaysEnded, LastStepEnds, EndedBeforeOrByLast, ReadyLinesPass}
 
 -- a step ends its own line
 pub step_by-line : (i : ℕ) (b : Bool) (e : Effect) → (step_by i b e).line ≡ i
@@ -48,28 +46,21 @@ step_with-ended does first g ss i = step_by-ended i (is_cancelled g ss i) (does 
 pub has_ended-push : (ss : List Step) (s : Step) (k : ℕ) → has_ended (ss ++ s ∷ []) k ≡ (has_ended ss k || (s.line == k || false))
 has_ended-push ss s k = list_any-append (λ (s : Step). s.line == k) ss (s ∷ [])
 
-pub stays_ended : (ss : List Step) (s : Step) (k : ℕ) → has_ended ss k ≡ true → has_ended (ss ++ s ∷ []) k ≡ true
+pub stays_ended : EndedStaysEnded
 stays_ended ss s k h = has_ended-push ss s k ∙ or_left (has_ended ss k) (s.line == k || false) h
 
-pub has_ended_last : (ss : List Step) (s : Step) → has_ended (ss ++ s ∷ []) s.line ≡ true
+pub has_ended_last : LastStepEnds
 has_ended_last ss s = has_ended-push ss s s.line ∙ or_right (has_ended ss s.line) (s.line == s.line || false) (or_left (s.line == s.line) false (eq-eqb s.line s.line refl))
 
 or_none : (b : Bool) → (b || false) ≡ true → b ≡ true
 or_none true h = refl
 or_none false h = h
 
-pub ended_cases : (ss : List Step) (s : Step) (k : ℕ) → has_ended (ss ++ s ∷ []) k ≡ true → (has_ended ss k ≡ true) ⊎ (s.line ≡ k)
+pub ended_cases : EndedBeforeOrByLast
 ended_cases ss s k h = elim (or_cases (has_ended ss k) (s.line == k || false) (sym (has_ended-push ss s k) ∙ h)) [
   | inl a ↦ inl a
   | inr b ↦ inr (eqb-true s.line k (or_none (s.line == k) b))
 ]
-
--- what a ready line is
-pub record Ready (g : GraphValue) (ss : List Step) (i : ℕ) : Type 0 where
-  pub below : i < length g.lines
-  pub left : has_ended ss i ≡ false
-  pub comes : never_comes g i ≡ false
-  pub sources : (e : Edge) → Contains (edges g) e → e.to ≡ i → has_ended ss e.from ≡ true
 
 pub ready_is : (g : GraphValue) (ss : List Step) (i : ℕ) → i < length g.lines → is_ready g ss i ≡ true → Ready g ss i
 ready_is g ss i below h =
@@ -77,14 +68,10 @@ ready_is g ss i below h =
     let second = and_parts (not (never_comes g i)) (list_all (has_ended ss) (sources g i)) first.1 in
     record { below = below; left = not-true (has_ended ss i) first.0; comes = not-true (never_comes g i) second.0; sources = source_passes (edges g) (has_ended ss) i second.1 }
 
-pub lowest_ready_is : (g : GraphValue) (ss : List Step) (i : ℕ) → lowest_ready g ss ≡ Some i → Ready g ss i
+pub lowest_ready_is : LowestReadyIsReady
 lowest_ready_is g ss i h =
     let f = find_is (is_ready g ss) (numbers_below (length g.lines)) i h in
     ready_is g ss i (below_contains (length g.lines) i f.0) f.1
-
--- each line that has ended comes, and its sources have ended
-pub record EndsInOrder (g : GraphValue) (ss : List Step) : Type 0 where
-  pub each : (i : ℕ) → has_ended ss i ≡ true → (i < length g.lines) × (never_comes g i ≡ false) × ((e : Edge) → Contains (edges g) e → e.to ≡ i → has_ended ss e.from ≡ true)
 
 ends_in_order_push : (does : Effects) (first : Cells) (g : GraphValue) (ss : List Step) (i : ℕ) → Ready g ss i → EndsInOrder g ss → EndsInOrder g (ss ++ step_with does first g ss i ∷ [])
 ends_in_order_push does first g ss i r o = record {
@@ -146,17 +133,13 @@ pub evaluation_is_stuck : (does : Effects) (first : Cells) (g : GraphValue) → 
 evaluation_is_stuck does first g = stuck_by does first g (lowest_ready g (evaluation_with does first g)) refl (progress does first g (length g.lines))
 
 -- a line that has ended, or has not, by its end
-pub end_in_left : (ss : List Step) (i : ℕ) → has_ended ss i ≡ false → end_in ss i ≡ Waiting
+pub end_in_left : WaitsWhereLeft
 end_in_left [] i h = refl
 end_in_left (s ∷ ss) i h = end_in_left_by s ss i (s.line == i) refl h (end_in_left ss i)
   where
     end_in_left_by : (s : Step) (ss : List Step) (i : ℕ) (b : Bool) → (s.line == i) ≡ b → (b || has_ended ss i) ≡ false → (has_ended ss i ≡ false → end_in ss i ≡ Waiting) → cond b s.ends (end_in ss i) ≡ Waiting
     end_in_left_by s ss i true e h again = absurd (true≢false h)
     end_in_left_by s ss i false e h again = again h
-
--- each step has an end
-abbrev pub StepsEnd : List Step → Type 0
-StepsEnd ss = (s : Step) → Contains ss s → is_ended s.ends ≡ true
 
 -- a line that never comes, or that one has a path to, has not ended
 pub reached_is_left : (g : GraphValue) (ss : List Step) → EndsInOrder g ss → (i : ℕ) → Reached g i → has_ended ss i ≡ false
@@ -170,7 +153,7 @@ pub sources_pass : (g : GraphValue) (ended : ℕ → Bool) (k : ℕ) → ((e : E
 sources_pass g ended k h = true_from_ne_false (list_all ended (sources g k)) (λ f.
     let s = source_fails (edges g) ended k f in true≢false (sym (h s.0 s.1 s.2) ∙ s.3))
 
-pub ready_passes : (g : GraphValue) (ss : List Step) (k : ℕ) → IsReadyLine (edges g) (length g.lines) (never_comes g) (has_ended ss) k → is_ready g ss k ≡ true
+pub ready_passes : ReadyLinesPass
 ready_passes g ss k r = and_from (not (has_ended ss k)) (not (never_comes g k) && list_all (has_ended ss) (sources g k)) (not_from_false (has_ended ss k) r.left)
     (and_from (not (never_comes g k)) (list_all (has_ended ss) (sources g k)) (not_from_false (never_comes g k) r.comes) (sources_pass g (has_ended ss) k r.sources))
 
@@ -200,7 +183,7 @@ end_in_ended_by : (s : Step) (ss : List Step) (i : ℕ) (b : Bool) → is_ended 
 end_in_ended_by s ss i true e h again = e
 end_in_ended_by s ss i false e h again = again h
 
-pub end_in_ended : (ss : List Step) (i : ℕ) → StepsEnd ss → has_ended ss i ≡ true → is_ended (end_in ss i) ≡ true
+pub end_in_ended : EndedByStep
 end_in_ended [] i each h = absurd (true≢false (sym h))
 end_in_ended (s ∷ ss) i each h = end_in_ended_by s ss i (s.line == i) (each s (contains_here s ss)) h (end_in_ended ss i (λ t c. each t (contains_there s ss t c)))
 
@@ -213,20 +196,20 @@ reached_if_waits_with does first g range acyclic i below w = left_is_reached_wit
     (λ h. true≢false (sym (end_in_ended (evaluation_with does first g) i (steps_end_with does first g (length g.lines)) h) ∙ ap is_ended w)))
 
 -- the same with the effects of the graph's verbs, and cells of 0
-pub step_of-line : (g : GraphValue) (ss : List Step) (i : ℕ) → (step_of g ss i).line ≡ i
+pub step_of-line : StepOfLine
 step_of-line g ss i = step_with-line (effect g) zero_cells g ss i
 
-pub step_of-ended : (g : GraphValue) (ss : List Step) (i : ℕ) → is_ended (step_of g ss i).ends ≡ true
+pub step_of-ended : StepEndsLine
 step_of-ended g ss i = step_with-ended (effect g) zero_cells g ss i
 
-pub ends_in_order : (g : GraphValue) → EndsInOrder g (evaluation g)
+pub ends_in_order : EvaluationInOrder
 ends_in_order g = ends_in_order_with (effect g) zero_cells g
 
-pub steps_end : (g : GraphValue) (n : ℕ) → StepsEnd (steps_after g n)
+pub steps_end : StepsEndLines
 steps_end g n = steps_end_with (effect g) zero_cells g n
 
-pub left_is_reached : (g : GraphValue) → EdgesInRange g → Everywhere (NoCycleAt g) → (i : ℕ) → i < length g.lines → has_ended (evaluation g) i ≡ false → Reached g i
+pub left_is_reached : LeftIsReached
 left_is_reached g range acyclic i below left = left_is_reached_with (effect g) zero_cells g range acyclic i below left
 
-pub waits_if_reached : (g : GraphValue) (i : ℕ) → Reached g i → eval_end g i ≡ Waiting
+pub waits_if_reached : ReachedWaits
 waits_if_reached g i r = waits_if_reached_with (effect g) zero_cells g i r

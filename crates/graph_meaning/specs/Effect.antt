@@ -1,5 +1,5 @@
 -- What a line does to the cells: a verdict, and changes of single cells, computed from the cells before it.
-use Rattle.std.specs.Prelude.{ℕ, zero, suc, ◌+◌, ◌*◌, ◌%◌, ◌^◌, min, max, ◌==◌, nat_le, Bool, true, false, cond, not, ◌&&◌, List, [], ◌∷◌, map, filter, sum_by, count_by, Option, Some, None}
+use Rattle.std.specs.Prelude.{ℕ, zero, suc, ◌+◌, ◌*◌, ◌%◌, ◌^◌, min, max, ◌==◌, nat_le, Bool, true, false, cond, not, ◌&&◌, List, [], ◌∷◌, map, filter, sum_by, count_by, Option, Some, None, ◌≡◌, Contains}
 use Rattle.std.specs.Option.{option_map_or}
 use Rattle.std.specs.List.{list_all, list_any}
 use Rattle.index_spaces.specs.Space.{has_point, points, space_size, rank, point_at}
@@ -160,3 +160,10 @@ effect g i cells = record {
   verdict = option_map_or (verb_verdict (space_at g) cells) (verb_at g i) Fine;
   changes = option_map_or (verb_changes (space_at g) cells) (verb_at g i) [];
 }
+
+-- a change of the cell at a column and a point
+abbrev pub touches : ℕ → ℕ → CellChange → Bool
+touches c p x = (c == x.column) && (p == x.point)
+
+abbrev pub Untouched : ℕ → ℕ → List CellChange → Type 0
+Untouched c p xs = (x : CellChange) → Contains xs x → touches c p x ≡ false

@@ -1,22 +1,23 @@
 -- What holds of all graphs whose items fit.
-use Rattle.std.specs.Prelude.{◌≡◌, ◌≢◌, ℕ, ◌<◌, ◌==◌, ◌⊎◌, ◌↔◌, Bool, true, false, ◌||◌, List, length, AllPairs, Contains, IsTrue}
-use Rattle.index_spaces.specs.Space.{has_point}
+use Rattle.std.specs.Prelude.{◌≡◌, ◌≢◌, ℕ, ◌<◌, ◌==◌, ◌⊎◌, ◌↔◌, Bool, true, false, ◌||◌, List, length, AllPairs, Contains, IsTrue, ◌++◌, [], ◌∷◌, Some}
+use Rattle.index_spaces.specs.Space.{has_point, points}
 use Rattle.graph_terms.specs.declared.outcome.End.TheVariants.{Cancelled, Waiting}
 use Rattle.graph_terms.specs.declared.verb.Access.{Access}
 use Rattle.graph_terms.specs.declared.verb.Edge.{Edge}
 use Rattle.graph_terms.specs.declared.verb.Mode.{Mode}
 use Rattle.graph_terms.specs.declared.verb.Mode.TheVariants.{Read, Write, Sum, Least, Most}
-use Rattle.graph_terms.specs.Graph.{GraphValue, upgraded, never_comes, space_at}
+use Rattle.graph_terms.specs.Graph.{GraphValue, upgraded, never_comes, space_at, line_passes, is_phase}
 use Rattle.graph_terms.specs.Edges.{edges}
-use Rattle.graph_meaning.specs.Path.{HasPath, Reached}
-use Rattle.graph_terms.specs.Access.{accesses, is_reduction}
-use Rattle.graph_meaning.specs.Rules.{NoCycleAt, Everywhere, Accepted}
+use Rattle.graph_meaning.specs.Path.{HasPath, Reached, Path}
+use Rattle.graph_terms.specs.Access.{accesses, is_reduction, AccessesConflict, Conflict}
+use Rattle.graph_meaning.specs.Rules.{NoCycleAt, Everywhere, Accepted, modes_commute, Exempt}
 use Rattle.graph_meaning.specs.Effect as change
-use Rattle.graph_meaning.specs.Effect.{Cells, zero_cells, Change, Add, CellChange, cells_after, Effects, effect}
-use Rattle.graph_meaning.specs.Evaluation.{Step, outcome, is_ended, is_cancelled, step_by, evaluation_with, order_with, order, end_with, eval_end, changes_with, eval_changes, cells_of_lines_with, UnbrokenBy, Unbroken}
+use Rattle.graph_meaning.specs.Effect.{Cells, zero_cells, Change, Add, CellChange, cells_after, Effects, effect, Untouched}
+use Rattle.graph_meaning.specs.Evaluation.{Step, outcome, is_ended, is_cancelled, step_by, evaluation_with, order_with, order, end_with, eval_end, changes_with, eval_changes, cells_of_lines_with, UnbrokenBy, Unbroken, steps_after, has_ended, evaluation, end_in, step_of, lowest_ready, is_ready}
 use Rattle.graph_terms.specs.Fits.{IsGraph}
 use Rattle.graph_meaning.specs.Need.{IsNeed}
 use Rattle.graph_meaning.specs.Trace.{ListsEndedBy, ListsEnded, IsLawful, SectionsApart}
+use Rattle.graph_meaning.specs.Turns.{ReadyOrNever, HaveTurns, EndsByTurn, StepsEnd, EndsInOrder, EdgesInRange, Ready, IsReadyLine}
 
 -- one path after another is a path
 abbrev pub PathsCompose : Type 0
@@ -174,3 +175,145 @@ SectionsNeverOverlap = (g : GraphValue) (trace : List ℕ) → IsGraph g → Acc
 -- where a graph is accepted, the same graph in format 2 is too, with the same need and the same outcome
 abbrev pub UpgradeKeepsMeaning : Type 0
 UpgradeKeepsMeaning = (g : GraphValue) → (Accepted g → Accepted (upgraded g)) × ((n : ℕ) → IsNeed g n → IsNeed (upgraded g) n) × ((trace : List ℕ) → outcome (upgraded g) trace ≡ outcome g trace)
+
+-- without cycles each line that has not ended has a ready line before it, or one that never comes
+abbrev pub ReadyOrNeverBefore : Type 0
+ReadyOrNeverBefore = (es : List Edge) (n : ℕ) (never ended : ℕ → Bool) (in_range : (e : Edge) → Contains es e → e.from < n) (acyclic : (i : ℕ) → Path es i i → ⊥) →
+    (i : ℕ) → i < n → ended i ≡ false → ReadyOrNever es n never ended i
+
+-- a cell after changes rests on that cell alone
+abbrev pub CellRestsOnItself : Type 0
+CellRestsOnItself = (cells others : Cells) (xs : List CellChange) (c p : ℕ) → cells c p ≡ others c p → cells_after cells xs c p ≡ cells_after others xs c p
+
+-- the cells after changes and others are those after the others, from those after the first
+abbrev pub CellsAfterBoth : Type 0
+CellsAfterBoth = (cells : Cells) (xs ys : List CellChange) → cells_after cells (xs ++ ys) ≡ cells_after (cells_after cells xs) ys
+
+-- a cell that no change touches stays
+abbrev pub UntouchedCellStays : Type 0
+UntouchedCellStays = (cells : Cells) (xs : List CellChange) (c p : ℕ) → Untouched c p xs → cells_after cells xs c p ≡ cells c p
+
+-- a point that is listed lies in the space
+abbrev pub ListedPointsLieWithin : Type 0
+ListedPointsLieWithin = (s : List (ℕ × ℕ)) (p : ℕ) → Contains (points s) p → has_point s p ≡ true
+
+-- one path after another is a path
+abbrev pub PathsAppend : List Edge → ℕ → ℕ → ℕ → Type 0
+PathsAppend all i k j = Path all i k → Path all k j → Path all i j
+
+-- a path and an edge behind it are a path
+abbrev pub PathAndEdge : List Edge → ℕ → Type 0
+PathAndEdge all i = (e : Edge) → Contains all e → Path all i e.from → Path all i e.to
+
+-- what passes along each edge passes along a path
+abbrev pub PassesAlongPaths : List Edge → (ℕ → Type 0) → ℕ → ℕ → Type 0
+PassesAlongPaths all P i j = ((e : Edge) → Contains all e → P e.from → P e.to) → Path all i j → P i → P j
+
+-- what passes back along each edge passes back along a path
+abbrev pub PassesBackAlongPaths : List Edge → (ℕ → Type 0) → ℕ → ℕ → Type 0
+PassesBackAlongPaths all P i j = ((e : Edge) → Contains all e → P e.to → P e.from) → Path all i j → P j → P i
+
+-- a line that never comes, and to which a path leads, is a phase
+abbrev pub ReachedNeverIsPhase : Type 0
+ReachedNeverIsPhase = (g : GraphValue) → IsGraph g → (q j : ℕ) → HasPath g q j → never_comes g j ≡ true → line_passes is_phase g j ≡ true
+
+-- both ends of a path are below what the ends of each edge are below
+abbrev pub PathsStayBelow : List Edge → ℕ → ℕ → ℕ → Type 0
+PathsStayBelow es n i j = ((e : Edge) → Contains es e → (e.from < n) × (e.to < n)) → Path es i j → (i < n) × (j < n)
+
+-- accesses conflict either way
+abbrev pub AccessesConflictBack : Type 0
+AccessesConflictBack = (g : GraphValue) (a b : Access) → AccessesConflict g a b → AccessesConflict g b a
+
+-- modes commute either way
+abbrev pub ModesCommuteBack : Type 0
+ModesCommuteBack = (a b : Mode) → modes_commute a b ≡ modes_commute b a
+
+-- lines conflict either way
+abbrev pub LinesConflictBack : Type 0
+LinesConflictBack = (g : GraphValue) (i j : ℕ) → Conflict g i j → Conflict g j i
+
+-- lines are exempt either way
+abbrev pub ExemptBack : Type 0
+ExemptBack = (g : GraphValue) (i j : ℕ) → Exempt g i j → Exempt g j i
+
+-- modes that commute are one mode, and it reduces
+abbrev pub CommutingModes : Type 0
+CommutingModes = (m n : Mode) → modes_commute m n ≡ true → (is_reduction m ≡ true) × (m ≡ n)
+
+-- lines of an accepted graph that conflict have a path between them, or are exempt
+abbrev pub ConflictHasPathOrExempt : Type 0
+ConflictHasPathOrExempt = (g : GraphValue) → Accepted g → (i j : ℕ) → Conflict g i j → HasPath g i j ⊎ (HasPath g j i ⊎ Exempt g i j)
+
+-- where the sources of each ended line have ended, and those of a line, each line with a path to it has ended
+abbrev pub BeforeEndedHasEnded : Type 0
+BeforeEndedHasEnded = (all : List Edge) (ended : ℕ → Bool) → ((e : Edge) → Contains all e → ended e.to ≡ true → ended e.from ≡ true) → (i j : ℕ) →
+    ((e : Edge) → Contains all e → e.to ≡ j → ended e.from ≡ true) → Path all i j → ended i ≡ true
+
+-- each step of the evaluation is the turn of its line
+abbrev pub StepsHaveTurns : Type 0
+StepsHaveTurns = (g : GraphValue) (n : ℕ) → HaveTurns (effect g) zero_cells g (steps_after g n)
+
+-- a line that has ended did so by its turn
+abbrev pub EndsByItsTurn : Type 0
+EndsByItsTurn = (g : GraphValue) (i : ℕ) → has_ended (evaluation g) i ≡ true → EndsByTurn (effect g) zero_cells g i
+
+-- a later step changes no end that stands
+abbrev pub LaterStepKeepsEnd : Type 0
+LaterStepKeepsEnd = (ss : List Step) (s : Step) (i : ℕ) → has_ended ss i ≡ true → end_in (ss ++ s ∷ []) i ≡ end_in ss i
+
+-- the last step gives the end of its line, where that had not ended
+abbrev pub LastStepGivesEnd : Type 0
+LastStepGivesEnd = (ss : List Step) (s : Step) (i : ℕ) → s.line ≡ i → has_ended ss i ≡ false → end_in (ss ++ s ∷ []) i ≡ s.ends
+
+-- where each step ends its line, a line that has ended has an end
+abbrev pub EndedByStep : Type 0
+EndedByStep = (ss : List Step) (i : ℕ) → StepsEnd ss → has_ended ss i ≡ true → is_ended (end_in ss i) ≡ true
+
+-- each step of the evaluation ends its line
+abbrev pub StepsEndLines : Type 0
+StepsEndLines = (g : GraphValue) (n : ℕ) → StepsEnd (steps_after g n)
+
+-- the step of a line is of that line
+abbrev pub StepOfLine : Type 0
+StepOfLine = (g : GraphValue) (ss : List Step) (i : ℕ) → (step_of g ss i).line ≡ i
+
+-- the step of a line ends it
+abbrev pub StepEndsLine : Type 0
+StepEndsLine = (g : GraphValue) (ss : List Step) (i : ℕ) → is_ended (step_of g ss i).ends ≡ true
+
+-- a line that has not ended waits
+abbrev pub WaitsWhereLeft : Type 0
+WaitsWhereLeft = (ss : List Step) (i : ℕ) → has_ended ss i ≡ false → end_in ss i ≡ Waiting
+
+-- the evaluation ends each line after its sources
+abbrev pub EvaluationInOrder : Type 0
+EvaluationInOrder = (g : GraphValue) → EndsInOrder g (evaluation g)
+
+-- a line that one that never comes reaches waits in the evaluation
+abbrev pub ReachedWaits : Type 0
+ReachedWaits = (g : GraphValue) (i : ℕ) → Reached g i → eval_end g i ≡ Waiting
+
+-- without a cycle a line that has not ended is reached by one that never comes
+abbrev pub LeftIsReached : Type 0
+LeftIsReached = (g : GraphValue) → EdgesInRange g → Everywhere (NoCycleAt g) → (i : ℕ) → i < length g.lines → has_ended (evaluation g) i ≡ false → Reached g i
+
+-- the lowest ready line is ready
+abbrev pub LowestReadyIsReady : Type 0
+LowestReadyIsReady = (g : GraphValue) (ss : List Step) (i : ℕ) → lowest_ready g ss ≡ Some i → Ready g ss i
+
+-- a line that has ended has ended after a step more
+abbrev pub EndedStaysEnded : Type 0
+EndedStaysEnded = (ss : List Step) (s : Step) (k : ℕ) → has_ended ss k ≡ true → has_ended (ss ++ s ∷ []) k ≡ true
+
+-- the line of the last step has ended
+abbrev pub LastStepEnds : Type 0
+LastStepEnds = (ss : List Step) (s : Step) → has_ended (ss ++ s ∷ []) s.line ≡ true
+
+-- a line that has ended has done so before the last step or by it
+abbrev pub EndedBeforeOrByLast : Type 0
+EndedBeforeOrByLast = (ss : List Step) (s : Step) (k : ℕ) → has_ended (ss ++ s ∷ []) k ≡ true → (has_ended ss k ≡ true) ⊎ (s.line ≡ k)
+
+-- a line that is ready passes as one
+abbrev pub ReadyLinesPass : Type 0
+ReadyLinesPass = (g : GraphValue) (ss : List Step) (k : ℕ) → IsReadyLine (edges g) (length g.lines) (never_comes g) (has_ended ss) k → is_ready g ss k ≡ true

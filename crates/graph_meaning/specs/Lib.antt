@@ -7,3 +7,4 @@ pub mod Trace
 pub mod Laws
 pub mod LineLaws
 pub mod HeldCells
+pub mod Turns

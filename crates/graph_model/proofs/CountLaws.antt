@@ -24,15 +24,12 @@ use Rattle.graph_terms.specs.declared.table.Place.{Place}
 use Rattle.graph_terms.specs.declared.table.Place.TheVariants.{Lock, Barrier, Space, Column}
 use Rattle.graph_terms.specs.Table.{kind_words, verb_kind, verb_parts, verb_places, any_placed, is_row}
 use Rattle.graph_terms.specs.Access.{access, accesses_of, verb_accesses}
-use Rattle.graph_terms.proofs.KindLaws.{part_for_each, verb_is_row, none_placed, none_of_accesses, column_access, space_access, map_placed}
 use Rattle.graph_terms.specs.Edges.{edges, line_edges}
 use Rattle.graph_terms.specs.Fits.{is_inst, cell_count, with_decl, with_line, access_unknown, place_unknown, verb_unknown, line_fault, LinesFit, IsGraph}
 use Rattle.graph_terms.specs.Spelling.{spelled, space_name, column_name, decl_words, place_word, verb_words, on_words, line_words, header, decls_text, lines_text, head, comma_word, interval_word}
 use Rattle.graph_indexes.specs.Counts.{words_size, cells_of_decl, counts_of}
-use Rattle.graph_terms.proofs.GraphFacts.{fits_known, columns_known}
-use Rattle.graph_terms.proofs.GraphPush.{head_with_line, decls_text_push}
+use Rattle.graph_terms.proofs.Public.{fits_known, columns_known, decls_text_push, head_with_line, edges_push, part_for_each, verb_is_row, none_placed, column_access, space_access, none_of_accesses, map_placed}
 use Rattle.basics.proofs.ListFacts.{contains_here, contains_there}
-use Rattle.graph_terms.proofs.EdgeFacts.{edges_push}
 
 -- the length of words
 pub words_cons : (w : List ℕ) (ws : List (List ℕ)) → words_size (w ∷ ws) ≡ (length w + 1) + words_size ws

@@ -24,7 +24,7 @@ use Rattle.graph_terms.specs.Fits.{is_inst, is_used, repeats, decl_repeats, verb
 use Rattle.graph_terms.specs.declared.verb.Access.{Access}
 use Rattle.graph_terms.specs.declared.why.Why.TheVariants as why
 use Rattle.graph_terms.specs.Access.{verb_accesses}
-use Rattle.graph_terms.proofs.GraphFacts.{none_first}
+use Rattle.graph_terms.proofs.Public.{none_first}
 use Rattle.graph_terms.specs.Names.{is_inst_named, StandsFor, found_decl}
 use Rattle.graph_indexes.specs.Names.{AreNamesOf, NamesValue, named}
 

@@ -21,10 +21,8 @@ use Rattle.graph_terms.specs.Edges.{line_edges, edges, edges_into, edges_out_of}
 use Rattle.graph_terms.specs.Fits.{named_lines, on_lines, most_weight, verb_misnumbered, line_tests, line_fault, with_decl, with_line, IsGraph}
 use Rattle.graph_indexes.specs.Rows.{RowsValue, NamesBelow, EndsBelow, mark_after, mark_of, AddsRow, AreRowsOf}
 use Rattle.graph_terms.specs.declared.why.Why.TheVariants as why
-use Rattle.graph_terms.proofs.GraphFacts.{line_ends, named_below, none_first, fit_at}
-use Rattle.graph_terms.proofs.ArriveLaws.{arrive_names}
+use Rattle.graph_terms.proofs.Public.{none_first, named_below, line_ends, fit_at, edges_push, arrive_names}
 use Rattle.basics.proofs.ListFacts.{contains_here}
-use Rattle.graph_terms.proofs.EdgeFacts.{edges_push}
 
 into_push : (g : GraphValue) (l : Line) (i : ℕ) → edges_into (with_line g l) i ≡ edges_into g i ++ filter (λ e. e.to == i) (line_edges g.lines l)
 into_push g l i = ap (filter (λ (e : Edge). e.to == i)) (edges_push g l) ∙ filter-append (λ (e : Edge). e.to == i) (edges g) (line_edges g.lines l)

@@ -14,7 +14,7 @@ use Rattle.graph_terms.specs.Edges.{edges_into, edges_out_of}
 use Rattle.graph_terms.specs.Fits.{IsGraph, line_fault}
 use Rattle.graph_indexes.specs.Rows.{RowsValue, mark_at, mark_of, AreRowsOf}
 use Rattle.graph_model.proofs.RowLaws.{few_arrivals, line_weight_few}
-use Rattle.graph_terms.proofs.GraphFacts.{barrier_known}
+use Rattle.graph_terms.proofs.Public.{barrier_known}
 
 -- a line of a graph has a row
 pub row_is : (g now : GraphValue) (rows : RowsValue) (i : ℕ) → g ≡ now → AreRowsOf g rows → i < length now.lines → i < length rows.marks

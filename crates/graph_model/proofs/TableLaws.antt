@@ -19,8 +19,7 @@ use Rattle.graph_terms.specs.Fits.{is_inst, is_large, is_beyond, cell_count, mer
 use Rattle.graph_terms.specs.Edges.{edges}
 use Rattle.graph_terms.specs.Spelling.{head}
 use Rattle.graph_indexes.specs.Tables.{TablesValue, places_of, tables_of, tables_with, IsWithinLimits}
-use Rattle.graph_terms.proofs.GraphPush.{long_head}
-use Rattle.graph_terms.proofs.GraphFacts.{none_first}
+use Rattle.graph_terms.proofs.Public.{none_first, long_head}
 
 cons_before : (o : Option ℕ) (a b c : List ℕ) → a ≡ b ++ c → cons_option o a ≡ cons_option o b ++ c
 cons_before None a b c e = e

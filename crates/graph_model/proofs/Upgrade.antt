@@ -30,9 +30,7 @@ use Rattle.graph_indexes.specs.Rows.{RowsValue, AreRowsOf}
 use Rattle.graph_indexes.specs.Tables.{IsWithinLimits}
 use Rattle.graph_indexes.specs.declared.counts.Counts.{Counts}
 use Rattle.graph_indexes.specs.Counts.{counts_of}
-use Rattle.graph_terms.proofs.AcquireLaws.{none_lacks}
-use Rattle.graph_terms.proofs.EdgeFacts.{kind_fits}
-use Rattle.graph_terms.proofs.GraphFacts.{none_first}
+use Rattle.graph_terms.proofs.Public.{none_first, kind_fits, none_lacks}
 
 -- the same declarations and lines in a format
 abbrev of : Format → List Decl → List Line → GraphValue

@@ -16,9 +16,8 @@ use Rattle.graph_words.specs.Draft.{Column, column_number_of}
 use Rattle.graph_reader.specs.FirstFault.{has_column, is_inst_name}
 use Rattle.graph_reader.specs.Lookups.{column_place, named_pair, column_names, IsFound, is_found_inst}
 use Rattle.graph_reader.specs.Kinds.{Tells, column_seen}
-use Rattle.graph_words.proofs.TextLists.{same_bytes, first_is, within}
+use Rattle.basics.proofs.TestedLists.{same_bytes, within, first_is, no_position, position_any}
 use Rattle.graph_reader.proofs.GraphNames.{IsNamed, is_named, known_column}
-use Rattle.graph_reader.proofs.Owners.{no_position, position_any}
 
 pair_by : (b : Bool) (p q r s : List ℕ) → cond {A = Option (List ℕ × List ℕ)} b (Some (p, q)) None ≡ Some (r, s) → (p ≡ r) × (q ≡ s)
 pair_by true p q r s h = let e = same_Some (p, q) (r, s) h in (ap (λ (x : List ℕ × List ℕ). x.0) e, ap (λ (x : List ℕ × List ℕ). x.1) e)

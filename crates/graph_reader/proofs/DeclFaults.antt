@@ -25,7 +25,8 @@ use Rattle.index_spaces.specs.declared.space.SpaceFault.TheVariants as spaces
 use Rattle.index_spaces.specs.SpaceFault.{first_misplaced, space_fault, or_too_large}
 use Rattle.graph_reader.proofs.Places.{IsFine}
 use Rattle.graph_reader.proofs.Drafts.{fine_words}
-use Rattle.graph_reader.proofs.Owners.{position_any, position_below}
+use Rattle.graph_reader.proofs.Owners.{position_below}
+use Rattle.basics.proofs.TestedLists.{position_any}
 use Rattle.graph_reader.specs.declared.item.ItemError.{ItemError}
 use Rattle.graph_reader.specs.declared.item.ItemError.TheVariants as errors
 use Rattle.graph_reader.specs.Reading.{IsDeclBy, IsDeclRead, space_error, space_reason, inst_reason, inst_decl}

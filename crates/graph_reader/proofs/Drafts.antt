@@ -1,5 +1,5 @@
 -- What no reason refuses: each word in its place, no event and no column twice, and the item itself.
-use Rattle.std.proofs.Common.{◌≡◌, ℕ, suc, ◌+◌, ◌≤◌, Bool, true, false, not, ◌&&◌, ◌||◌, List, [], ◌∷◌, ◌++◌, length, map, refl, sym, ◌∙◌, ap, arith}
+use Rattle.std.proofs.Common.{◌≡◌, ℕ, suc, ◌+◌, ◌≤◌, Bool, true, false, not, ◌||◌, List, [], ◌∷◌, ◌++◌, length, map, refl, sym, ◌∙◌, ap, arith}
 use Rattle.std.specs.Prelude.{Option, Some, None, bytes_eq, nat_eq, filter_map, zip, slice_index_or, nat_le}
 use Rattle.std.specs.List.{list_any, list_all, AllByRecursion, cons_option}
 use Rattle.std.proofs.lemmas.Bool.{or_parts, or_from, and_parts, false_from_ne_true, eqb-false, not-true, leb-true}
@@ -11,10 +11,12 @@ use Rattle.graph_terms.specs.Fits.{first_reason, repeats}
 use Rattle.graph_words.specs.Words.{pieces}
 use Rattle.graph_words.specs.Draft.{Place, NewName, SpaceName, LockName, BarrierName, UserName, PhaseName, AcquireName, EventName, Column, Fields, Value, Times, Weight, Shared, Count, Intervals, Placed, is_own_word, Draft, number_in, column_number_of}
 use Rattle.graph_reader.specs.FirstFault.{misnamed, unknown, twice, unlike, misnumbered, misordered, event_word, column_word, item_fault, or_else, draft_tests, draft_fault, is_empty}
-use Rattle.graph_words.proofs.TextLists.{each_from_none, same_bytes, each_fails, none_where_each_fails}
-use Rattle.graph_reader.proofs.WordFacts.{IsWord, AtLeast}
+use Rattle.graph_words.proofs.Public.{each_fails, none_where_each_fails}
+use Rattle.basics.proofs.TestedLists.{same_bytes, each_from_none}
 use Rattle.graph_reader.proofs.GraphNames.{IsNamed}
 use Rattle.graph_reader.proofs.Places.{spell, IsFine, FitsPlace, place_reads, IsNumbered, IsBounded, place_spelled}
+use Rattle.graph_reader.specs.Words.{is_word, AtLeast, IsWord}
+use Rattle.graph_reader.specs.Laws.{WordsByTest}
 
 abbrev pub EachFine : GraphValue → List Placed → Type 0
 EachFine g ps = AllByRecursion (λ (p : Placed). IsFine g p.0 p.1) ps
@@ -225,15 +227,11 @@ bounded_by g [] ws n o f = tt
 bounded_by g (p ∷ ps) [] n o f = tt
 bounded_by g (p ∷ ps) (w ∷ ws) n o f = let own = and_parts (is_own_word p w) (are_own_words (zip ps ws)) o in let s = place_spelled g p w n.0 own.0 f.0 in (s.bounded, bounded_by g ps ws n.1 own.1 f.1)
 
--- a word by a test that computes
-abbrev pub is_word : List ℕ → Bool
-is_word w = not (is_empty w) && list_all (nat_le 44) w
-
 word_bytes : (w : List ℕ) → list_all (nat_le 44) w ≡ true → AtLeast 44 w
 word_bytes [] h = tt
 word_bytes (b ∷ bs) h = let p = and_parts (nat_le 44 b) (list_all (nat_le 44) bs) h in (leb-true 44 b p.0, word_bytes bs p.1)
 
-pub word_by_test : (w : List ℕ) → is_word w ≡ true → IsWord w
+pub word_by_test : WordsByTest
 word_by_test w h = let p = and_parts (not (is_empty w)) (list_all (nat_le 44) w) h in record { some = not-true (is_empty w) p.0; printed = word_bytes w p.1 }
 
 pub words_by_test : (ws : List (List ℕ)) → list_all is_word ws ≡ true → AllByRecursion IsWord ws

@@ -20,7 +20,7 @@ use Rattle.graph_terms.specs.declared.table.Place.TheVariants as places
 use Rattle.graph_terms.specs.Table.{kind_places}
 use Rattle.graph_reader.specs.Kinds.{kind_draft, kind_placed, form_placed, form_reason, column_words, kind_line, later_reason, AllTell, IsReading}
 use Rattle.graph_reader.specs.declared.faults.Faults.{Faults}
-use Rattle.graph_words.proofs.NameLists.{or_true}
+use Rattle.basics.proofs.Choices.{or_true}
 use Rattle.graph_reader.proofs.Drafts.{placed_events}
 use Rattle.graph_reader.proofs.VerbForms.{no_events}
 

@@ -16,7 +16,8 @@ use Rattle.graph_terms.specs.declared.decl.BarrierInfo.{BarrierInfo}
 use Rattle.graph_terms.specs.Graph.{GraphValue, decl_name, space_of, columns_of, lock_of, barrier_of, named_spaces, columns, locks, barriers}
 use Rattle.graph_terms.specs.Fits.{repeats, names, is_used, decl_repeats, decl_tests, line_tests, IsDecl, DeclsFit, LinesFit, IsGraph}
 use Rattle.basics.proofs.ListFacts.{passes_some, contains_map, contains_here, contains_there}
-use Rattle.graph_words.proofs.TextLists.{same_bytes, bytes_same, any_left, any_append, each_contained, each_append, repeats_left, repeats_right, repeats_append, repeats_map, repeats_push, found_of, found_is, mapped_from, each_fails}
+use Rattle.graph_words.proofs.Public.{each_fails, found_of, repeats_left, repeats_right, repeats_append, repeats_map, repeats_push}
+use Rattle.basics.proofs.TestedLists.{same_bytes, bytes_same, any_left, any_append, each_contained, each_append, found_is, mapped_from}
 
 -- a declaration with names, no field twice
 abbrev pub IsNamedDecl : Decl → Type 0

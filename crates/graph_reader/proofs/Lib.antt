@@ -22,3 +22,4 @@ pub mod LineShapes
 pub mod ItemReads
 pub mod SeenWords
 pub mod PartLists
+pub mod Public

@@ -1,10 +1,9 @@
 -- Words by their number.
-use Rattle.std.proofs.Common.{◌⊎◌, inl, inr, ◌≡◌, ℕ, ◌+◌, ◌<◌, ◌≤◌, Bool, true, false, cond, ◌&&◌, ◌||◌, List, [], ◌∷◌, length, drop, map, refl, sym, ◌∙◌, ap, subst, arith}
+use Rattle.std.proofs.Common.{◌⊎◌, inl, inr, ◌≡◌, ℕ, ◌+◌, ◌<◌, ◌≤◌, Bool, true, false, ◌&&◌, ◌||◌, List, [], ◌∷◌, length, drop, refl, sym, ◌∙◌, ap, subst, arith}
 use Rattle.std.specs.Prelude.{Option, Some, None, Result, Ok, Err, option_map, slice_index_or, codes, find, zip, bytes_eq, nat_le, ◌==◌}
 use Rattle.std.specs.List.{starts_with, list_any, list_all}
 use Rattle.std.specs.Option.{option_map_or}
 use Rattle.std.proofs.lemmas.Bool.{true≢false, and_parts, ne_eqb, le-leb, leb-true, cond-true, cond-false, eqb-true}
-use Rattle.std.proofs.lemmas.Option.{none-some, same_Some}
 use Rattle.index_spaces.specs.declared.Op.{Op}
 use Rattle.graph_terms.specs.declared.format.Format.{Format}
 use Rattle.graph_terms.specs.declared.decl.Decl.{Decl}
@@ -19,9 +18,11 @@ use Rattle.graph_reader.specs.declared.item.ItemError.{ItemError}
 use Rattle.graph_terms.specs.declared.table.Kind.{Kind}
 use Rattle.graph_terms.specs.declared.table.Kind.TheVariants as kinds
 use Rattle.graph_terms.specs.declared.table.TheConstants.{KINDS}
-use Rattle.graph_reader.specs.Kinds.{kind_draft, HasPlaces}
-use Rattle.graph_reader.specs.Reading.{open_fault, IsDeclRead, IsDeclOf, IsLineOf, IsWordsError, is_operation}
-use Rattle.graph_words.specs.Draft.{Placed, Draft, draft, merge_with, decl_draft_after, form_of, form_draft, is_since, is_own_word, is_of_form, same_word, merge_draft, line_draft, decl_draft, space_draft, inst_draft, lock_draft, barrier_draft, space_with, inst_with, lock_with, barrier_with, op_of}
+use Rattle.graph_reader.specs.Kinds.{kind_draft}
+use Rattle.graph_reader.specs.Reading.{open_fault, IsDeclRead, IsDeclOf, IsLineOf, IsWordsError}
+use Rattle.graph_words.specs.Draft.{Placed, Draft, draft, merge_with, decl_draft_after, form_of, form_draft, is_since, is_own_word, is_of_form, same_word, merge_draft, line_draft, decl_draft, space_draft, inst_draft, lock_draft, barrier_draft, space_with, inst_with, barrier_with, op_of}
+use Rattle.basics.proofs.TestedLists.{find_mapped}
+use Rattle.graph_reader.specs.Laws.{WordsFillPlaces, LineBySign, DeclarationBySign, EmptyByLength, ReservationWords, BarrierWords, InstanceWords, OperationsHaveTwoWords}
 
 abbrev at : List (List ℕ) → ℕ → List ℕ
 at ws i = slice_index_or ws i []
@@ -40,7 +41,7 @@ no_space_shape g (a ∷ b ∷ []) h = refl
 no_space_shape g (a ∷ b ∷ c ∷ []) h = absurd (h refl)
 no_space_shape g (a ∷ b ∷ c ∷ d ∷ ds) h = refl
 
-pub inst_shape : (g : GraphValue) (ws : List (List ℕ)) → length ws ≡ 4 → inst_draft g (drop 1 ws) ≡ Some (inst_with g (at ws 1) (at ws 2) (at ws 3))
+pub inst_shape : InstanceWords
 inst_shape g [] h = absurd (omega (arith, h))
 inst_shape g (a ∷ []) h = absurd (omega (arith, h))
 inst_shape g (a ∷ b ∷ []) h = absurd (omega (arith, h))
@@ -56,7 +57,7 @@ no_inst_shape g (a ∷ b ∷ c ∷ []) h = refl
 no_inst_shape g (a ∷ b ∷ c ∷ d ∷ []) h = absurd (h refl)
 no_inst_shape g (a ∷ b ∷ c ∷ d ∷ e ∷ es) h = refl
 
-pub lock_shape : (g : GraphValue) (ws : List (List ℕ)) → length ws ≡ 2 → lock_draft g (drop 1 ws) ≡ Some (lock_with (at ws 1))
+pub lock_shape : ReservationWords
 lock_shape g [] h = absurd (omega (arith, h))
 lock_shape g (a ∷ []) h = absurd (omega (arith, h))
 lock_shape g (a ∷ b ∷ []) h = refl
@@ -68,7 +69,7 @@ no_lock_shape g (a ∷ []) h = refl
 no_lock_shape g (a ∷ b ∷ []) h = absurd (h refl)
 no_lock_shape g (a ∷ b ∷ c ∷ cs) h = refl
 
-pub barrier_shape : (g : GraphValue) (ws : List (List ℕ)) → length ws ≡ 5 → barrier_draft g (drop 1 ws) ≡ option_map (λ o. barrier_with (at ws 1) (at ws 2) o (at ws 4)) (op_of (at ws 3))
+pub barrier_shape : BarrierWords
 barrier_shape g [] h = absurd (omega (arith, h))
 barrier_shape g (a ∷ []) h = absurd (omega (arith, h))
 barrier_shape g (a ∷ b ∷ []) h = absurd (omega (arith, h))
@@ -104,23 +105,6 @@ decl_barrier g (w ∷ ws) k e a b c d =
     ∙ (cond-false (bytes_eq w (codes "lock")) (lock_draft g ws) _ (ap (λ x. bytes_eq x (codes "lock")) (sym e) ∙ c)
     ∙ cond-true (bytes_eq w (codes "barrier")) (barrier_draft g ws) None (ap (λ x. bytes_eq x (codes "barrier")) (sym e) ∙ d)))
 
--- the kind that is found, and the form
-pub found_passes : {X : Type 0} (p : X → Bool) (xs : List X) (x : X) → find p xs ≡ Some x → p x ≡ true
-found_passes p [] x h = absurd (none-some x h)
-found_passes p (y ∷ ys) x h = found_by p y ys x (p y) refl h (found_passes p ys x)
-  where
-    found_by : {X : Type 0} (p : X → Bool) (y : X) (ys : List X) (x : X) (b : Bool) → p y ≡ b → cond b (Some y) (find p ys) ≡ Some x → (find p ys ≡ Some x → p x ≡ true) → p x ≡ true
-    found_by p y ys x true e h again = ap p (sym (same_Some y x h)) ∙ e
-    found_by p y ys x false e h again = again h
-
-find_by : {X Y : Type 0} (f : X → Y) (x : X) (o : Option X) (b : Bool) → cond b (Some (f x)) (option_map f o) ≡ option_map f (cond b (Some x) o)
-find_by f x o true = refl
-find_by f x o false = refl
-
-pub find_mapped : {X Y : Type 0} (p : Y → Bool) (f : X → Y) (xs : List X) → find p (map f xs) ≡ option_map f (find (λ x. p (f x)) xs)
-find_mapped p f [] = refl
-find_mapped p f (x ∷ xs) = ap (cond (p (f x)) (Some (f x))) (find_mapped p f xs) ∙ find_by f x (find (λ y. p (f y)) xs) (p (f x))
-
 abbrev found_kind : Format → List Kind → List (List ℕ) → Option Kind
 found_kind fm ks ws = find (λ k. is_of_form fm ws (form_of k)) ks
 
@@ -152,7 +136,7 @@ room_by t n m b h = by_first (n == m) refl h
     by_first true e h = let k : n ≡ m = eqb-true n m e in omega arith
     by_first false e h = let p = and_parts t (n == m + 2 && b) h in let q = and_parts (n == m + 2) b p.1 in let k : n ≡ m + 2 = eqb-true n (m + 2) q.0 in omega arith
 
-pub places_there : (fm : Format) (kind : Kind) (ws : List (List ℕ)) → is_of_form fm ws (form_of kind) ≡ true → HasPlaces kind (drop (length (form_of kind).words) ws)
+pub places_there : WordsFillPlaces
 places_there fm kind ws h =
     let p = and_parts (starts_with same_word ws (form_of kind).words) _ h in
     let q = and_parts (is_since (form_of kind).since fm) _ p.1 in
@@ -165,7 +149,7 @@ merge_shape g name verb (a ∷ []) h = absurd (omega arith)
 merge_shape g name verb (a ∷ b ∷ bs) h = refl
 
 -- a line is an operation line by its second word
-pub line_by_sign : (g : GraphValue) (ws : List (List ℕ)) → is_operation ws ≡ true → draft g ws ≡ line_draft g (at ws 0) (drop 2 ws)
+pub line_by_sign : LineBySign
 line_by_sign g [] h = absurd (true≢false (sym h))
 line_by_sign g (x ∷ []) h = absurd (true≢false (sym h))
 line_by_sign g (x ∷ y ∷ ws) h = cond-true (bytes_eq y (codes "=")) (line_draft g x ws) _ (and_parts (nat_le 2 (length (x ∷ y ∷ ws))) (bytes_eq y (codes "=")) h).1
@@ -174,12 +158,12 @@ sign_by : (a b : Bool) → a ≡ true → (a && b) ≡ false → b ≡ false
 sign_by true b e h = h
 sign_by false b e h = absurd (true≢false (sym e))
 
-pub decl_by_sign : (g : GraphValue) (ws : List (List ℕ)) → is_operation ws ≡ false → draft g ws ≡ decl_draft_after g g.lines ws
+pub decl_by_sign : DeclarationBySign
 decl_by_sign g [] h = refl
 decl_by_sign g (x ∷ []) h = refl
 decl_by_sign g (x ∷ y ∷ ws) h = cond-false (bytes_eq y (codes "=")) (line_draft g x ws) _ (sign_by (nat_le 2 (length (x ∷ y ∷ ws))) (bytes_eq y (codes "=")) (le-leb 2 (length (x ∷ y ∷ ws)) (omega arith)) h)
 
-pub operation_long : (ws : List (List ℕ)) → is_operation ws ≡ true → 2 ≤ length ws
+pub operation_long : OperationsHaveTwoWords
 operation_long ws h = leb-true 2 (length ws) (and_parts (nat_le 2 (length ws)) (bytes_eq (at ws 1) (codes "=")) h).0
 
 pub decl_after_line : (g : GraphValue) (ls : List Line) (ws : List (List ℕ)) → 0 < length ls → decl_draft_after g ls ws ≡ None
@@ -229,6 +213,6 @@ line_read g ws (Some d) (Ok x) f e h = (filled g ws f ∙ (ap (λ o. option_map_
 line_read g ws (Some d) (Err (errors.Refused w)) f e h = filled g ws f ∙ (ap (λ o. option_map_or (draft_fault g) o (Some why.Syntax)) e ∙ h)
 line_read g ws (Some d) (Err errors.NoMemory) f e h = tt
 
-pub empty_is : (w : List ℕ) → (length w == 0) ≡ is_empty w
+pub empty_is : EmptyByLength
 empty_is [] = refl
 empty_is (b ∷ bs) = ne_eqb (length (b ∷ bs)) 0 (λ e. absurd (omega (arith, e)))

@@ -17,10 +17,10 @@ use Rattle.graph_reader.specs.Merges.{merge_verb, merge_line, merge_reason, all_
 use Rattle.graph_reader.specs.Reading.{IsLineRead}
 use Rattle.graph_reader.specs.declared.item.ItemError.{ItemError}
 use Rattle.graph_reader.specs.declared.item.ItemError.TheVariants as errors
-use Rattle.graph_words.proofs.TextLists.{any_map, same_bytes, bytes_same}
+use Rattle.basics.proofs.TestedLists.{same_bytes, bytes_same, any_map}
 use Rattle.graph_reader.proofs.Owners.{owner, used_is, unused_misnamed}
 use Rattle.graph_reader.proofs.Places.{line_as}
-use Rattle.graph_words.proofs.NameLists.{or_true}
+use Rattle.basics.proofs.Choices.{or_true}
 use Rattle.graph_reader.proofs.FormFaults.{first_fails, or_false}
 
 abbrev events : List (List ℕ) → List Placed

@@ -1,9 +1,9 @@
 -- Each name of a graph is the name of one item, and so of one kind.
-use Rattle.std.proofs.Common.{◌≡◌, ℕ, suc, ◌+◌, ◌<◌, Bool, true, false, cond, not, ◌&&◌, ◌||◌, List, [], ◌∷◌, ◌++◌, length, map, refl, sym, ◌∙◌, ap, subst, arith}
+use Rattle.std.proofs.Common.{◌≡◌, ℕ, ◌<◌, Bool, true, false, cond, ◌&&◌, ◌||◌, List, [], ◌∷◌, ◌++◌, length, map, refl, sym, ◌∙◌, ap, subst, arith}
 use Rattle.std.specs.Prelude.{Option, Some, None, MatchOption, is_some, position, find, bytes_eq, filter_map, flat_map, nat_lt}
 use Rattle.std.specs.Option.{option_map_or}
 use Rattle.std.specs.List.{list_any, position_or_len, AllByRecursion, cons_option}
-use Rattle.std.proofs.lemmas.Bool.{ltb-true, true≢false, or_parts, or_from, cond-false, cond-true, le-ltb, lt-ltb, not_from_false}
+use Rattle.std.proofs.lemmas.Bool.{ltb-true, true≢false, or_parts, or_from, le-ltb}
 use Rattle.std.proofs.lemmas.Option.{none-some, same_Some}
 use Rattle.std.proofs.lemmas.List.Folds.{list_any-append}
 use Rattle.graph_terms.specs.declared.decl.ColumnInfo.{ColumnInfo}
@@ -20,35 +20,13 @@ use Rattle.graph_terms.specs.Names.{StandsFor, is_inst_named}
 use Rattle.graph_terms.specs.Fits.{repeats, names, is_used, is_inst, decl_misnumbered, decl_tests, DeclsFit, IsGraph}
 use Rattle.graph_reader.specs.FirstFault.{is_inst_name}
 use Rattle.graph_reader.specs.Lookups.{IsFound}
-use Rattle.graph_words.proofs.TextLists.{same_bytes, bytes_differ, any_right, any_map, first_is, each_append, each_map, bytes_flip, each_fails, within}
+use Rattle.graph_words.proofs.Public.{each_fails}
 use Rattle.graph_reader.proofs.GraphNames.{IsNamedDecl, is_named, unlisted, space_agrees, lock_agrees, barrier_agrees, decls_apart, named_is}
-
--- whether an element passes, and where the first one stands
-position_none : {X : Type 0} (t : X → Bool) (xs : List X) → list_any t xs ≡ false → position_or_len t xs ≡ length xs
-position_none t [] h = refl
-position_none t (x ∷ xs) h =
-    let p = or_parts (t x) (list_any t xs) h in
-    let again : position_or_len t xs ≡ length xs = position_none t xs p.1 in
-    cond-true (not (t x)) (1 + position_or_len t xs) 0 (not_from_false (t x) p.0) ∙ (let e : 1 + position_or_len t xs ≡ suc (length xs) = omega arith in e)
-
-pub no_position : {X : Type 0} (t : X → Bool) (xs : List X) → list_any t xs ≡ false → position t xs ≡ None
-no_position t xs h =
-    let e : position_or_len t xs ≡ length xs = position_none t xs h in
-    cond-false (nat_lt (position_or_len t xs) (length xs)) (Some (position_or_len t xs)) None (le-ltb (position_or_len t xs) (length xs) (omega arith))
+use Rattle.basics.proofs.TestedLists.{no_position, position_any, same_bytes, bytes_differ, any_right, any_map, each_append, each_map, bytes_flip}
 
 some_by : (b : Bool) (n m : ℕ) → cond b (Some n) None ≡ Some m → b ≡ true
 some_by true n m h = refl
 some_by false n m h = absurd (none-some m h)
-
-any_by : {X : Type 0} (t : X → Bool) (xs : List X) (b : Bool) → list_any t xs ≡ b → b ≡ is_some (position t xs)
-any_by t xs false h = sym (ap is_some (no_position t xs h))
-any_by t xs true h =
-    let f = first_is t xs h in
-    let l : position_or_len t xs < length xs = within xs (position_or_len t xs) f.0 f.1 in
-    sym (ap is_some (cond-true (nat_lt (position_or_len t xs) (length xs)) (Some (position_or_len t xs)) None (lt-ltb (position_or_len t xs) (length xs) l)))
-
-pub position_any : {X : Type 0} (t : X → Bool) (xs : List X) → list_any t xs ≡ is_some (position t xs)
-position_any t xs = any_by t xs (list_any t xs) refl
 
 position_by : (b : Bool) (n m k : ℕ) → nat_lt n k ≡ b → cond b (Some n) None ≡ Some m → m < k
 position_by true n m k h e = let s : n ≡ m = same_Some n m e in let l : n < k = ltb-true n k h in omega arith

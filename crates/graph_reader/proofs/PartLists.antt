@@ -12,7 +12,7 @@ use Rattle.graph_terms.specs.Graph.{GraphValue}
 use Rattle.graph_terms.specs.Fits.{repeats}
 use Rattle.graph_words.specs.Draft.{as_place, number_in_place, number_in, words_in}
 use Rattle.graph_reader.specs.Kinds.{column_words, named_number, placed_value}
-use Rattle.graph_words.proofs.WordLists.{words_of}
+use Rattle.graph_words.specs.Words.{words_of}
 
 -- a word in the place of a column
 pub column_listed : (v : List ℕ) (ps : List table.Place) (ws : List (Bor (List ℕ))) → list_any (λ (p : table.Place × Bor (List ℕ)). is_column p.0 && bytes_eq v p.1.now) (zip ps ws) ≡ list_any (bytes_eq v) (column_words (words_in ps (words_of ws)))

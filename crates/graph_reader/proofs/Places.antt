@@ -16,8 +16,10 @@ use Rattle.graph_terms.specs.Fits.{repeats, is_used}
 use Rattle.graph_words.specs.Words.{pieces, is_two_names, is_column, value_of, count_of, weight_of, first_piece}
 use Rattle.graph_words.specs.Draft.{Place, NewName, SpaceName, LockName, BarrierName, UserName, PhaseName, AcquireName, EventName, Column, Fields, Value, Times, Weight, Shared, Count, Intervals, is_own_word, line_number, column_number_of, number_in_place}
 use Rattle.graph_reader.specs.FirstFault.{misnamed, is_inst_name, has_column, unknown, is_line_name, twice, unlike, misnumbered, misordered}
-use Rattle.graph_words.proofs.TextLists.{same_bytes, bytes_same, found_of, found_is, bytes_flip}
-use Rattle.graph_reader.proofs.WordFacts.{IsWord, name_is_word, decimal_is_word, value_of-decimal, value_of-spelled, count_of-decimal, count_of-spelled, weight_of-decimal, weight_of-spelled, column_pieces, joined_pieces, joined_is_word}
+use Rattle.graph_words.proofs.Public.{found_of}
+use Rattle.basics.proofs.TestedLists.{same_bytes, bytes_same, found_is, bytes_flip}
+use Rattle.graph_reader.proofs.WordFacts.{name_is_word, decimal_is_word, value_of-decimal, value_of-spelled, count_of-decimal, count_of-spelled, weight_of-decimal, weight_of-spelled, column_pieces, joined_pieces, joined_is_word}
+use Rattle.graph_reader.specs.Words.{IsWord}
 use Rattle.graph_reader.proofs.GraphNames.{IsNamed, KnownAs, IsColumnAt, same_column, read_name, spelled_name, listed_name, spaces_apart, locks_apart, barriers_apart, lines_apart, columns_apart, known_space, known_lock, known_barrier, known_line, known_line_at, known_column}
 
 -- how a number is spelled in a place

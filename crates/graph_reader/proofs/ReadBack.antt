@@ -20,12 +20,14 @@ use Rattle.graph_terms.specs.Fits.{repeats, on_lines, is_used, decl_fault, line_
 use Rattle.graph_words.specs.Words.{pieces, intervals_of, ascend_from, is_fields}
 use Rattle.graph_words.specs.Draft.{number_in_place, NewName, SpaceName, EventName, Fields, Value, Count, Intervals, Placed, Draft, Form, number_in, same_word, has_on, on_placed, form_draft, merge_draft, line_number, space_number, column_number_of, op_of, barrier_with, decl_draft, decl_draft_after, draft}
 use Rattle.graph_reader.specs.FirstFault.{event_word, column_word, item_fault, draft_fault, words_fault, is_empty}
-use Rattle.graph_words.proofs.TextLists.{same_bytes, each_append, each_weaker, none_from_each}
-use Rattle.graph_reader.proofs.WordFacts.{IsWord, name_is_word, intervals_of-word, intervals_is_word, intervals_bounded, ascends, field_pieces, names_all, joined_is_word}
+use Rattle.basics.proofs.TestedLists.{same_bytes, none_from_each, each_append, each_weaker}
+use Rattle.graph_reader.proofs.WordFacts.{name_is_word, intervals_of-word, intervals_is_word, intervals_bounded, ascends, field_pieces, names_all, joined_is_word}
+use Rattle.graph_reader.specs.Words.{IsWord}
 use Rattle.graph_reader.proofs.GraphNames.{IsNamed, is_named}
 use Rattle.graph_reader.proofs.Places.{IsFine, place_reads, event_word_at, event_reads}
 use Rattle.graph_reader.proofs.Drafts.{EachFine, event_words, column_words, IsFineDraft, no_draft_fault, IsNoEvent, spell_list, FitPlaces, placed_fine, placed_numbers, placed_words, columns_in, placed_events, placed_columns, names_repeat, columns_read, word_by_test}
-use Rattle.graph_words.proofs.KnownItems.{IsKnownLine, known_line_of, IsKnownDecl, known_decl_of}
+use Rattle.graph_words.proofs.Public.{known_line_of, known_decl_of}
+use Rattle.graph_words.specs.Known.{IsKnownLine, IsKnownDecl}
 use Rattle.graph_reader.proofs.VerbForms.{IsFormed, formed}
 
 -- an item of a graph: a declaration or a line

@@ -17,7 +17,8 @@ use Rattle.graph_reader.specs.Lookups.{IsFound, found_line, found_number, found_
 use Rattle.graph_reader.specs.Kinds.{NamesThing, Tells, AllTell, named_number, placed_value}
 use Rattle.graph_reader.specs.declared.seen.Seen.{Seen}
 use Rattle.graph_reader.specs.declared.faults.Faults.{Faults}
-use Rattle.graph_reader.proofs.Owners.{position_any, position_below}
+use Rattle.graph_reader.proofs.Owners.{position_below}
+use Rattle.basics.proofs.TestedLists.{position_any}
 
 -- a line that is found is there
 below_by : (g : GraphValue) (w : List ℕ) (o : Option ℕ) → position (λ (x : Line). bytes_eq x.name w) g.lines ≡ o → IfSome o (λ i. i < length g.lines)

@@ -18,8 +18,8 @@ use Rattle.graph_words.specs.Words.{pieces}
 use Rattle.graph_words.specs.Text.{closing}
 use Rattle.graph_reader.specs.FirstFault.{first_line, IsRestFault, FirstFault}
 use Rattle.graph_reader.specs.Laws.{OperationsStand, refused_line, LinesStand}
-use Rattle.graph_reader.proofs.WordFacts.{IsWord}
-use Rattle.graph_words.proofs.KnownItems.{known_line_of}
+use Rattle.graph_reader.specs.Words.{IsWord}
+use Rattle.graph_words.proofs.Public.{known_line_of}
 use Rattle.graph_reader.proofs.ReadBack.{ItemFits, reads_back}
 use Rattle.graph_reader.proofs.LineSteps.{words_line, words_pieces, spelled_rest, graph_push}
 use Rattle.graph_words.proofs.WholeText.{graph_of, line_words_kept}

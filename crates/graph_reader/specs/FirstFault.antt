@@ -1,7 +1,7 @@
 -- The first line that is refused, and the first reason that refuses it.
 use Rattle.std.specs.Prelude.{◌≡◌, ◌≢◌, ℕ, ◌+◌, ◌≤◌, ◌==◌, ◌⊎◌, nat_lt, Bool, true, false, cond, not, ◌&&◌, ◌||◌, List, [], ◌∷◌, ◌++◌, length, filter_map, Option, Some, None, is_some, codes}
 use Rattle.std.specs.Option.{option_map_or}
-use Rattle.std.specs.List.{list_any, before_first}
+use Rattle.std.specs.List.{list_any, before_first, after_first}
 use Rattle.std.specs.Str.{bytes_eq}
 use Rattle.std.proofs.Common.{inl, inr}
 use Rattle.graph_terms.specs.declared.limits.TheConstants.{MAX_TEXT}
@@ -189,3 +189,7 @@ pub record IsRestFault (bytes : List ℕ) (number : ℕ) (reason : Why) : Type 0
 -- the first refused line of these bytes, from 1, and its first reason
 abbrev pub FirstFault : List ℕ → ℕ → Why → Type 0
 FirstFault bytes number reason = IsHeaderFault bytes number reason ⊎ (IsLineFault bytes number reason ⊎ IsRestFault bytes number reason)
+
+-- the bytes behind the first newline
+abbrev pub after_line : List ℕ → List ℕ
+after_line bs = after_first (λ b. b == 10) bs

@@ -4,3 +4,4 @@ pub mod Reading
 pub mod Kinds
 pub mod Lookups
 pub mod Merges
+pub mod Words

@@ -1,12 +1,11 @@
 -- What an acquire names and spells, whether it is shared or not.
 use Rattle.std.proofs.Common.{◌≡◌, ℕ, Bool, true, false, [], refl}
 use Rattle.std.specs.Prelude.{nat_le, length}
-use Rattle.graph_terms.specs.declared.format.Format.TheVariants.{Two}
-use Rattle.graph_terms.specs.declared.verb.Verb.{Verb}
 use Rattle.graph_terms.specs.declared.verb.Verb.TheVariants.{Acquire}
 use Rattle.graph_terms.specs.Graph.{GraphValue, locks}
 use Rattle.graph_terms.specs.Access.{verb_accesses}
-use Rattle.graph_terms.specs.Fits.{named_lines, verb_values, verb_repeats, verb_unknown, verb_unlike, takes_no_on, format_lacks}
+use Rattle.graph_terms.specs.Fits.{named_lines, verb_values, verb_repeats, verb_unknown, verb_unlike, takes_no_on}
+use Rattle.graph_terms.specs.Laws.{LatestFormatHasVerbs}
 
 pub acquire_names : (l : ℕ) (s : Bool) → named_lines (Acquire l s) ≡ []
 acquire_names l true = refl
@@ -39,5 +38,5 @@ acquire_takes_on l true = refl
 acquire_takes_on l false = refl
 
 -- format 2 has each verb
-pub none_lacks : (v : Verb) → format_lacks Two v ≡ false
+pub none_lacks : LatestFormatHasVerbs
 none_lacks v = refl

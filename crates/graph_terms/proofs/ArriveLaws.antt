@@ -4,8 +4,9 @@ use Rattle.std.specs.Prelude.{zip, filter_map, ◌==◌}
 use Rattle.graph_terms.specs.declared.verb.Verb.TheVariants.{Arrive}
 use Rattle.graph_terms.specs.Graph.{GraphValue, line_passes, is_phase}
 use Rattle.graph_terms.specs.Table.{Placed, kind_places, kind_takes_on, arrive_kind, arrive_parts, any_placed}
-use Rattle.graph_terms.specs.Access.{accesses_of, verb_accesses}
-use Rattle.graph_terms.specs.Fits.{named_line, named_lines, value_in, verb_values, place_repeats, verb_repeats, place_unknown, verb_unknown, place_unlike, verb_unlike, takes_no_on}
+use Rattle.graph_terms.specs.Access.{accesses_of}
+use Rattle.graph_terms.specs.Fits.{named_line, value_in, verb_values, place_repeats, verb_repeats, place_unknown, verb_unknown, place_unlike, verb_unlike, takes_no_on}
+use Rattle.graph_terms.specs.Laws.{ArrivalsAccessNothing, ArrivalsNamePhase}
 
 abbrev placed : Bool → ℕ → ℕ → ℕ → List Placed
 placed b p v w = zip (kind_places (arrive_kind b)) (arrive_parts b p v w)
@@ -15,7 +16,7 @@ named_by true p v w = refl
 named_by false p v w = refl
 
 -- it names its phase
-pub arrive_names : (p v w : ℕ) → named_lines (Arrive p v w) ≡ p ∷ []
+pub arrive_names : ArrivalsNamePhase
 arrive_names p v w = named_by (w == 1) p v w
 
 values_by : (b : Bool) (p v w : ℕ) → filter_map (λ (x : Placed). value_in x.0 x.1) (placed b p v w) ≡ v ∷ []
@@ -31,7 +32,7 @@ accesses_by true p v w = refl
 accesses_by false p v w = refl
 
 -- it has no access
-pub arrive_accesses : (p v w : ℕ) → verb_accesses (Arrive p v w) ≡ []
+pub arrive_accesses : ArrivalsAccessNothing
 arrive_accesses p v w = accesses_by (w == 1) p v w
 
 repeats_by : (g : GraphValue) (b : Bool) (p v w : ℕ) → any_placed (place_repeats g) (placed b p v w) ≡ false

@@ -10,16 +10,17 @@ use Rattle.graph_terms.specs.declared.verb.EdgeKind.TheVariants.{Passes}
 use Rattle.graph_terms.specs.declared.verb.Line.{Line}
 use Rattle.graph_terms.specs.declared.why.Why.TheVariants as why
 use Rattle.graph_terms.specs.declared.verb.Verb.TheVariants.{User, Phase, Arrive}
-use Rattle.graph_terms.specs.Graph.{GraphValue, verb_at, line_passes, is_user, is_phase, ends_user}
+use Rattle.graph_terms.specs.Graph.{GraphValue, line_passes, is_user, is_phase, ends_user}
 use Rattle.graph_terms.specs.Edges.{edge, edges_from_some, verb_edges, line_edges, edges_after, edges}
 use Rattle.basics.proofs.ListFacts.{got_behind, got_in, contains_none, contains_here, passes_some}
-use Rattle.graph_terms.specs.Fits.{line_fault, line_tests, takes_no_on, format_lacks, verb_unlike, LinesFit, IsGraph, with_line}
+use Rattle.graph_terms.specs.Fits.{line_fault, line_tests, takes_no_on, format_lacks, verb_unlike, LinesFit}
 use Rattle.graph_terms.proofs.ArriveLaws.{arrive_unlike}
 use Rattle.graph_terms.proofs.GraphFacts.{none_first}
 use Rattle.graph_terms.proofs.VerbFacts.{passes_verb, verb_passes, verb_line, user_is, phase_is, from_some_to, from_some_has, verb_edge_to}
+use Rattle.graph_terms.specs.Laws.{EdgesOfEachLine, EdgeOfArrival, FittingKind, EndedUserEvent, EdgesOfOneMoreLine}
 
 -- the edges of each line are among those of the graph
-pub line_edges_in : (before ls : List Line) (k : ℕ) (l : Line) → slice_get ls k ≡ Some l → (b : List Line) × (length b ≡ length before + k) × ((e : Edge) → Contains (line_edges b l) e → Contains (edges_after before ls) e)
+pub line_edges_in : EdgesOfEachLine
 line_edges_in before [] k l h = absurd (none-some l h)
 line_edges_in before (m ∷ ls) zero l h = (
   before,
@@ -37,7 +38,7 @@ arrival_listed : (b : List Line) (l : Line) (p v w : ℕ) → l.verb ≡ Arrive 
 arrival_listed b l p v w e = Contains-append_right (edges_from_some Passes l.on (length b)) (verb_edges b (length b) l.verb) (edge (length b) p Passes)
     (subst (λ x. Contains (verb_edges b (length b) x) (edge (length b) p Passes)) (sym e) (contains_here (edge (length b) p Passes) []))
 
-pub arrival_edge : (g : GraphValue) (i p v w : ℕ) → verb_at g i ≡ Some (Arrive p v w) → Contains (edges g) (edge i p Passes)
+pub arrival_edge : EdgeOfArrival
 arrival_edge g i p v w h =
     let l = verb_line g i (Arrive p v w) h in
     let r = line_edges_in [] g.lines i l.0 l.1 in
@@ -45,7 +46,7 @@ arrival_edge g i p v w h =
     subst (λ n. Contains (edges g) (edge n p Passes)) len (r.2 (edge (length r.0) p Passes) (arrival_listed r.0 l.0 p v w l.2))
 
 -- a line that fits: its kind is right
-pub kind_fits : (g : GraphValue) (l : Line) → line_fault g l ≡ None → (verb_unlike g l.verb ≡ false) × ((takes_no_on l.verb && is_some l.on) ≡ false) × (format_lacks g.format l.verb ≡ false)
+pub kind_fits : FittingKind
 kind_fits g l h =
     let others : Bool = (takes_no_on l.verb && is_some l.on) || format_lacks g.format l.verb in
     let first = or_parts (verb_unlike g l.verb) others (none_first (line_tests g l) h (verb_unlike g l.verb || others, why.Kind) (2, omega arith, refl)) in
@@ -96,7 +97,7 @@ module _ (g : GraphValue) where
     | inr rest ↦ enters_by (b ++ l ∷ []) ls (parts ∙ sym (append_assoc b (l ∷ []) ls)) f.2 e rest user
   ]
 
-pub edge_enters_user : (g : GraphValue) → IsGraph g → (e : Edge) → Contains (edges g) e → line_passes is_user g e.to ≡ true → list_any (λ (x : Line). ends_user e.to x.verb) g.lines ≡ true
+pub edge_enters_user : EndedUserEvent
 edge_enters_user g f e c user = enters_by g [] g.lines refl f.lines e c user
 
 edges_after_push : (before ls : List Line) (l : Line) → edges_after before (ls ++ l ∷ []) ≡ edges_after before ls ++ line_edges (before ++ ls) l
@@ -106,5 +107,5 @@ edges_after_push before (k ∷ ls) l =
     ∙ sym (append_assoc (line_edges before k) (edges_after (before ++ k ∷ []) ls) (line_edges (before ++ k ∷ ls) l))
 
 -- the edges of one more line come last
-pub edges_push : (g : GraphValue) (l : Line) → edges (with_line g l) ≡ edges g ++ line_edges g.lines l
+pub edges_push : EdgesOfOneMoreLine
 edges_push g l = edges_after_push [] g.lines l

@@ -5,10 +5,9 @@ use Rattle.std.specs.List.{list_all}
 use Rattle.std.proofs.lemmas.Bool.{true≢false}
 use Rattle.index_spaces.specs.Laws.{PointsAreListed}
 use Rattle.index_spaces.specs.Space.{has_point, points, IsWithin}
-use Rattle.graph_terms.specs.declared.verb.Access.{Access}
-use Rattle.graph_terms.specs.Graph.{GraphValue, space_at, column_space}
-use Rattle.graph_terms.specs.Fits.{access_outside}
+use Rattle.graph_terms.specs.Graph.{space_at, column_space}
 use Rattle.basics.proofs.ListFacts.{contains_here, contains_there, passes_each}
+use Rattle.graph_terms.specs.Laws.{OutsideBySpaces}
 
 -- each element passes
 all_pass : {X : Type 0} (t : X → Bool) (xs : List X) → ((x : X) → Contains xs x → t x ≡ true) → list_all t xs ≡ true
@@ -22,5 +21,5 @@ within_by l s t false false e w = refl
 within_by l s t true false e w = absurd (true≢false (sym (all_pass (has_point t) (points s) (λ p c. w.0 refl p ((l s p).0 c))) ∙ e))
 within_by l s t false true e w = absurd (true≢false (sym (w.1 (λ p h. passes_each (has_point t) (points s) e p ((l s p).1 h)))))
 
-pub outside_is : PointsAreListed → (g : GraphValue) (a : Access) (b : Bool) → IsTrue b ↔ IsWithin (space_at g a.space) (column_space g a.column) → not b ≡ access_outside g a
+pub outside_is : OutsideBySpaces
 outside_is l g a b w = ap not (within_by l (space_at g a.space) (column_space g a.column) b _ refl w)

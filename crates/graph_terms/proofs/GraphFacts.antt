@@ -19,31 +19,32 @@ use Rattle.graph_terms.specs.declared.why.Why.TheVariants as why
 use Rattle.graph_terms.specs.declared.verb.Verb.{Verb}
 use Rattle.graph_terms.specs.declared.verb.Verb.TheVariants.{Trigger, Cancel, Merge, MergeIgnore, Phase, Arrive}
 use Rattle.graph_terms.specs.Graph.{GraphValue, is_phase_of, space_of, named_spaces, space_at, barriers, columns_of, columns}
-use Rattle.graph_terms.specs.Edges.{edge, last_place, edges_from_some, verb_edges, line_edges, edges_after, edges}
-use Rattle.graph_terms.specs.Fits.{first_reason, line_tests, line_fault, line_unknown, named_lines, on_lines, verb_unknown, DeclsFit, LinesFit, IsGraph, decl_unknown, decl_tests, decl_fault}
+use Rattle.graph_terms.specs.Edges.{edge, last_place, edges_from_some, verb_edges, line_edges, edges_after, EndsUpTo}
+use Rattle.graph_terms.specs.Fits.{first_reason, line_tests, line_fault, line_unknown, named_lines, on_lines, verb_unknown, LinesFit, IsGraph, decl_unknown, decl_tests, decl_fault}
 use Rattle.graph_terms.proofs.ArriveLaws.{arrive_names}
 use Rattle.basics.proofs.ListFacts.{contains_none, contains_cases, contains_here, passes_some, map_contains}
 use Rattle.graph_terms.specs.declared.decl.ColumnInfo.{ColumnInfo}
+use Rattle.graph_terms.specs.Laws.{NoReasonNoFault, FittingLinesNameKnown, NamedLinesAreAbove, EdgesReachNoFurther, EdgesJoinLines, DeclaredSpacesAreSpaces, LinesFitInPlace, NumberedSpacesAreSpaces, BarrierOfPhaseDeclared, SpacesOfColumnsDeclared, SpaceOfColumnDeclared}
 
 no_first_by : (b : Bool) (w : Why) (ts : List (Bool × Why)) → cond b (Some w) (first_reason ts) ≡ None → (b ≡ false) × (first_reason ts ≡ None)
 no_first_by true w ts h = absurd (true≢false (ap is_some h))
 no_first_by false w ts h = (refl, h)
 
 -- where no reason refuses, each test fails
-pub none_first : (ts : List (Bool × Why)) → first_reason ts ≡ None → (t : Bool × Why) → Contains ts t → t.0 ≡ false
+pub none_first : NoReasonNoFault
 none_first [] h t c = absurd (contains_none t c)
 none_first (s ∷ ts) h t c =
     let p = no_first_by s.0 s.1 ts h in
     elim (contains_cases s ts t c) [ inl e ↦ ap (λ (x : Bool × Why). x.0) (sym e) ∙ p.0 | inr r ↦ none_first ts p.1 t r ]
 
 -- a line that fits names lines that are there
-pub fits_known : (g : GraphValue) (l : Line) → line_fault g l ≡ None → line_unknown g l ≡ false
+pub fits_known : FittingLinesNameKnown
 fits_known g l h = none_first (line_tests g l) h (line_unknown g l, why.Unknown) (1, omega arith, refl)
 
 none_of : {X : Type 0} (t : X → Bool) (xs : List X) → list_any t xs ≡ false → (x : X) → Contains xs x → t x ≡ false
 none_of t xs h x c = false_from_ne_true (t x) (λ e. true≢false (sym (passes_some t xs x c e) ∙ h))
 
-pub named_below : (g : GraphValue) (l : Line) → line_fault g l ≡ None → (k : ℕ) → Contains (named_lines l.verb ++ on_lines l.on) k → k < length g.lines
+pub named_below : NamedLinesAreAbove
 named_below g l h k c =
     let parts = or_parts _ _ (fits_known g l h) in
     leb-false (length g.lines) k (none_of (λ i. nat_le (length g.lines) i) (named_lines l.verb ++ on_lines l.on) parts.0 k c)
@@ -59,10 +60,6 @@ last_place_below test n (l ∷ ls) found k h = elim (last_place_below test (n + 
     chosen : (b : Bool) (n m : ℕ) (found : Option ℕ) (k : ℕ) → cond b (Some n) found ≡ Some k → (found ≡ Some k) ⊎ (k < n + suc m)
     chosen true n m found k e = inr (let s : n ≡ k = same_Some n k e in omega arith)
     chosen false n m found k e = inl e
-
--- both ends of an edge are at most a number
-abbrev pub EndsUpTo : ℕ → Edge → Type 0
-EndsUpTo n e = (e.from ≤ n) × (e.to ≤ n)
 
 one_edge : (n : ℕ) (e x : Edge) → EndsUpTo n e → Contains (e ∷ []) x → EndsUpTo n x
 one_edge n e x h c = elim (contains_cases e [] x c) [ inl s ↦ subst (EndsUpTo n) s h | inr r ↦ absurd (contains_none x r) ]
@@ -84,7 +81,7 @@ verb_ends before (Phase b) h x c = some_edge (length before) Ignores (last_place
     (λ k e. elim (last_place_below (is_phase_of b) 0 before None k e) [ inl n ↦ absurd (none-some k n) | inr l ↦ (let b : k < 0 + length before = l in omega arith) ]) c
 verb_ends before v h x c = absurd (contains_none x c)
 
-pub line_ends : (fm : Format) (decls : List Decl) (before : List Line) (l : Line) → line_fault (record { format = fm; decls = decls; lines = before }) l ≡ None → (x : Edge) → Contains (line_edges before l) x → EndsUpTo (length before) x
+pub line_ends : EdgesReachNoFurther
 line_ends fm decls before l h x c =
     let known : (k : ℕ) → Contains (named_lines l.verb ++ on_lines l.on) k → k ≤ length before = λ k m. (let b : k < length before = named_below (record { format = fm; decls = decls; lines = before }) l h k m in omega arith) in
     elim (Contains-append_cases (edges_from_some Passes l.on (length before)) (verb_edges before (length before) l.verb) x c) [
@@ -106,13 +103,13 @@ after_ends fm decls before (l ∷ ls) f x c = elim (Contains-append_cases (line_
 ]
 
 -- the edges of a graph are between its lines
-pub edges_in_range : (g : GraphValue) → IsGraph g → (x : Edge) → Contains (edges g) x → (x.from < length g.lines) × (x.to < length g.lines)
+pub edges_in_range : EdgesJoinLines
 edges_in_range g f x c =
     let e = after_ends g.format g.decls [] g.lines f.lines x c in
     let from : x.from < 0 + length g.lines = e.0 in let to : x.to < 0 + length g.lines = e.1 in (omega arith, omega arith)
 
 -- the declared spaces of declarations that fit are spaces
-pub spaces_are : (fm : Format) (before ds : List Decl) → DeclsFit fm before ds → (x : List ℕ × List (ℕ × ℕ)) → Contains (filter_map space_of ds) x → IsSpace x.1
+pub spaces_are : DeclaredSpacesAreSpaces
 spaces_are fm before [] f x c = absurd (contains_none x c)
 spaces_are fm before (Space name space ∷ ds) f x c = elim (contains_cases (name, space) (filter_map space_of ds) x c) [
   | inl e ↦ subst (λ (y : List ℕ × List (ℕ × ℕ)). IsSpace y.1) e f.0.1
@@ -123,7 +120,7 @@ spaces_are fm before (Lock name ∷ ds) f x c = spaces_are fm (before ++ Lock na
 spaces_are fm before (Barrier name count op first ∷ ds) f x c = spaces_are fm (before ++ Barrier name count op first ∷ []) ds f.2 x c
 
 -- a line of lines that fit fits after some of them
-pub fit_at : (fm : Format) (decls : List Decl) (before ls : List Line) → LinesFit fm decls before ls → (k : ℕ) (l : Line) → slice_get ls k ≡ Some l → (b : List Line) × (line_fault (record { format = fm; decls = decls; lines = b }) l ≡ None)
+pub fit_at : LinesFitInPlace
 fit_at fm decls before [] f k l h = absurd (none-some l h)
 fit_at fm decls before (m ∷ ls) f zero l h = (before, subst (λ x. line_fault (record { format = fm; decls = decls; lines = before }) x ≡ None) (same_Some m l h) f.1)
 fit_at fm decls before (m ∷ ls) f (suc k) l h = fit_at fm decls (before ++ m ∷ []) ls f.2 k l h
@@ -137,7 +134,7 @@ verb_known g f i l v at is =
     (fit.0, subst (λ w. verb_unknown (record { format = g.format; decls = g.decls; lines = fit.0 }) w ≡ false) is more.0)
 
 -- the space of each number is one
-pub space_is : (g : GraphValue) → IsGraph g → (s : ℕ) → s < length (named_spaces g) → IsSpace (space_at g s)
+pub space_is : NumberedSpacesAreSpaces
 space_is g f s h =
     let x = slice_index_or (named_spaces g) s ([], []) in
     let at : slice_get (named_spaces g) s ≡ Some x = slice_get-get_or (named_spaces g) s ([], []) h in
@@ -146,11 +143,11 @@ space_is g f s h =
     subst (λ y. IsSpace y) same is
 
 -- the barrier of a phase is declared
-pub barrier_known : (g : GraphValue) → IsGraph g → (i b : ℕ) (l : Line) → slice_get g.lines i ≡ Some l → l.verb ≡ Phase b → b < length (barriers g)
+pub barrier_known : BarrierOfPhaseDeclared
 barrier_known g f i b l at is = leb-false (length (barriers g)) b (verb_known g f i l (Phase b) at is).1
 
 -- the space of a column is declared
-pub columns_known : (fm : Format) (before ds : List Decl) → DeclsFit fm before ds → (x : ColumnInfo) → Contains (flat_map columns_of ds) x → x.space < length (filter_map space_of (before ++ ds))
+pub columns_known : SpacesOfColumnsDeclared
 columns_known fm before [] f x c = absurd (contains_none x c)
 columns_known fm before (d ∷ ds) f x c = elim (Contains-append_cases (columns_of d) (flat_map columns_of ds) x c) [
   | inl here ↦ (let k : x.space < length (filter_map space_of before) = known_here fm before d f.1 x here in
@@ -169,5 +166,5 @@ columns_known fm before (d ∷ ds) f x c = elim (Contains-append_cases (columns_
     known_here fm before (Lock name) h x c = absurd (contains_none x c)
     known_here fm before (Barrier name count op first) h x c = absurd (contains_none x c)
 
-pub column_space_known : (g : GraphValue) → IsGraph g → (c : ℕ) (x : ColumnInfo) → slice_get (columns g) c ≡ Some x → x.space < length (named_spaces g)
+pub column_space_known : SpaceOfColumnDeclared
 column_space_known g f c x e = columns_known g.format [] g.decls f.decls x (c, slice_get_within (columns g) c x e, get_or_from_slice_get (columns g) c x x e)

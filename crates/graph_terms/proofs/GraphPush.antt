@@ -1,5 +1,5 @@
 -- A graph with one more item that fits: it is a graph, and its text has one line more.
-use Rattle.std.proofs.Common.{◌≡◌, ℕ, ◌+◌, ◌≤◌, Bool, false, ◌||◌, List, [], ◌∷◌, ◌++◌, length, sym, ◌∙◌, ap, subst, append_assoc, append-nil, length-append, arith}
+use Rattle.std.proofs.Common.{◌≡◌, ℕ, ◌+◌, ◌≤◌, List, [], ◌∷◌, ◌++◌, length, sym, ◌∙◌, ap, subst, append_assoc, append-nil, length-append, arith}
 use Rattle.std.specs.Prelude.{None, nat_lt}
 use Rattle.std.specs.List.{join_with_byte}
 use Rattle.std.proofs.lemmas.Bool.{or_parts, ltb-false}
@@ -7,8 +7,9 @@ use Rattle.graph_terms.specs.declared.format.Format.{Format}
 use Rattle.graph_terms.specs.declared.decl.Decl.{Decl}
 use Rattle.graph_terms.specs.declared.verb.Line.{Line}
 use Rattle.graph_terms.specs.Graph.{GraphValue}
-use Rattle.graph_terms.specs.Spelling.{spelled, decl_words, line_words, header, decls_text, lines_text, head}
-use Rattle.graph_terms.specs.Fits.{is_beyond, with_decl, with_line, decl_fault, line_fault, IsDecl, IsLine, DeclsFit, LinesFit, IsGraph}
+use Rattle.graph_terms.specs.Spelling.{spelled, decl_words, line_words, header, decls_text, lines_text, head, body}
+use Rattle.graph_terms.specs.Fits.{is_beyond, with_decl, with_line, decl_fault, line_fault, IsDecl, IsLine, DeclsFit, LinesFit}
+use Rattle.graph_terms.specs.Laws.{FittingDeclarationStays, FittingLineStays, TextOfOneMoreDeclaration, HeadWithDeclaration, HeadWithLine, DeclarationsBelowBytes, ItemsBelowBytes, ShortWithinLimits}
 
 -- a graph and an item that fits after it
 pub decls_push : (fm : Format) (b ds : List Decl) (d : Decl) → DeclsFit fm b ds → IsDecl d → decl_fault (record { format = fm; decls = b ++ ds; lines = [] }) d ≡ None → DeclsFit fm b (ds ++ d ∷ [])
@@ -20,16 +21,16 @@ lines_push fm decls b [] l f i h = (i, subst (λ xs. line_fault (record { format
 lines_push fm decls b (k ∷ ls) l f i h = (f.0, f.1, lines_push fm decls (b ++ k ∷ []) ls l f.2 i (subst (λ xs. line_fault (record { format = fm; decls = decls; lines = xs }) l ≡ None) (sym (append_assoc b (k ∷ []) ls)) h))
 
 -- a graph with a declaration that fits, before any line, and one with a line that fits
-pub push_decl : (g : GraphValue) (d : Decl) → IsGraph g → IsDecl d → g.lines ≡ [] → decl_fault g d ≡ None → IsGraph (with_decl g d)
+pub push_decl : FittingDeclarationStays
 push_decl g d h i e f = record {
   decls = decls_push g.format [] g.decls d h.decls i (subst (λ ls. decl_fault (record { format = g.format; decls = g.decls; lines = ls }) d ≡ None) e f);
   lines = subst (λ ls. LinesFit g.format (g.decls ++ d ∷ []) [] ls) (sym e) tt;
 }
 
-pub push_line : (g : GraphValue) (l : Line) → IsGraph g → IsLine l → line_fault g l ≡ None → IsGraph (with_line g l)
+pub push_line : FittingLineStays
 push_line g l h i f = record { decls = h.decls; lines = lines_push g.format g.decls [] g.lines l h.lines i f }
 
-pub decls_text_push : (fm : Format) (b ds : List Decl) (d : Decl) → decls_text fm b (ds ++ d ∷ []) ≡ decls_text fm b ds ++ spelled (decl_words (record { format = fm; decls = b ++ ds; lines = [] }) d)
+pub decls_text_push : TextOfOneMoreDeclaration
 decls_text_push fm b [] d = append-nil (spelled (decl_words (record { format = fm; decls = b; lines = [] }) d)) ∙ ap (λ xs. spelled (decl_words (record { format = fm; decls = xs; lines = [] }) d)) (sym (append-nil b))
 decls_text_push fm b (e ∷ ds) d =
     let here : List ℕ = spelled (decl_words (record { format = fm; decls = b; lines = [] }) e) in
@@ -43,10 +44,6 @@ lines_text_push fm decls b (k ∷ ls) l =
     ap (λ xs. here ++ xs) (lines_text_push fm decls (b ++ k ∷ []) ls l ∙ ap (λ ys. lines_text fm decls (b ++ k ∷ []) ls ++ spelled (line_words (record { format = fm; decls = decls; lines = ys }) l)) (append_assoc b (k ∷ []) ls))
     ∙ sym (append_assoc here (lines_text fm decls (b ++ k ∷ []) ls) (spelled (line_words (record { format = fm; decls = decls; lines = b ++ k ∷ ls }) l)))
 
--- the text behind the first line, up to the closing line
-abbrev pub body : GraphValue → List ℕ
-body g = decls_text g.format [] g.decls ++ lines_text g.format g.decls [] g.lines
-
 body_push_decl : (fm : Format) (decls : List Decl) (lines : List Line) (d : Decl) → lines ≡ [] → body (with_decl (record { format = fm; decls = decls; lines = lines }) d) ≡ body (record { format = fm; decls = decls; lines = lines }) ++ spelled (decl_words (record { format = fm; decls = decls; lines = lines }) d)
 body_push_decl fm decls lines d e = subst (λ ls. body (with_decl (record { format = fm; decls = decls; lines = ls }) d) ≡ body (record { format = fm; decls = decls; lines = ls }) ++ spelled (decl_words (record { format = fm; decls = decls; lines = ls }) d)) (sym e)
     (append-nil (decls_text fm [] (decls ++ d ∷ [])) ∙ (decls_text_push fm [] decls d ∙ ap (λ xs. xs ++ spelled (decl_words (record { format = fm; decls = decls; lines = [] }) d)) (sym (append-nil (decls_text fm [] decls)))))
@@ -58,14 +55,14 @@ pub body_with_line : (g : GraphValue) (l : Line) → body (with_line g l) ≡ bo
 body_with_line g l = ap (λ xs. decls_text g.format [] g.decls ++ xs) (lines_text_push g.format g.decls [] g.lines l) ∙ sym (append_assoc (decls_text g.format [] g.decls) (lines_text g.format g.decls [] g.lines) (spelled (line_words g l)))
 
 -- the text so far has one line more
-pub head_with_decl : (g : GraphValue) (d : Decl) → g.lines ≡ [] → head (with_decl g d) ≡ head g ++ spelled (decl_words g d)
+pub head_with_decl : HeadWithDeclaration
 head_with_decl g d e = ap (λ xs. header g.format ++ xs) (body_with_decl g d e) ∙ sym (append_assoc (header g.format) (body g) (spelled (decl_words g d)))
 
-pub head_with_line : (g : GraphValue) (l : Line) → head (with_line g l) ≡ head g ++ spelled (line_words g l)
+pub head_with_line : HeadWithLine
 head_with_line g l = ap (λ xs. header g.format ++ xs) (body_with_line g l) ∙ sym (append_assoc (header g.format) (body g) (spelled (line_words g l)))
 
 -- the declarations are fewer than the bytes of the text
-pub long_decls : (fm : Format) (before ds : List Decl) → length ds ≤ length (decls_text fm before ds)
+pub long_decls : DeclarationsBelowBytes
 long_decls fm before [] = omega arith
 long_decls fm before (d ∷ ds) =
     let words : List (List ℕ) = decl_words (record { format = fm; decls = before; lines = [] }) d in
@@ -84,7 +81,7 @@ long_lines fm decls before (l ∷ ls) =
     let one : length (spelled words) ≡ length (join_with_byte 32 words) + 1 = length-append (join_with_byte 32 words) (10 ∷ []) in
     omega arith
 
-pub long_head : (g : GraphValue) → 1 + length g.decls + length g.lines ≤ length (head g)
+pub long_head : ItemsBelowBytes
 long_head g =
     let whole : length (head g) ≡ length (header g.format) + length (body g) = length-append (header g.format) (body g) in
     let both : length (body g) ≡ length (decls_text g.format [] g.decls) + length (lines_text g.format g.decls [] g.lines) = length-append (decls_text g.format [] g.decls) (lines_text g.format g.decls [] g.lines) in
@@ -93,7 +90,7 @@ long_head g =
     omega arith
 
 -- within the limits the text so far is short
-pub short_by : (g : GraphValue) (b : Bool) → (b || is_beyond g) ≡ false → length (head g) ≤ 1048576
+pub short_by : ShortWithinLimits
 short_by g b h =
     let limit = or_parts b (is_beyond g) h in
     let short = or_parts (nat_lt 1048576 (length (head g))) _ limit.1 in

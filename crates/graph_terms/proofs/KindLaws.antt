@@ -19,17 +19,12 @@ use Rattle.graph_terms.specs.declared.verb.Verb.{Verb}
 use Rattle.graph_terms.specs.declared.verb.Verb.TheVariants.{User, Merge, MergeIgnore, Arrive, Acquire, Reduce, Task}
 use Rattle.graph_terms.specs.declared.table.Kernel.{Kernel}
 use Rattle.graph_terms.specs.declared.table.Kernel.TheVariants.{Iota}
-use Rattle.graph_terms.specs.Table.{kind_places, kernel_kind, kernel_parts, arrive_kind, arrive_parts, acquire_kind, acquire_parts, verb_kind, verb_parts, verb_places, verb_of, Placed, any_placed, is_column, is_over, is_space, columns_first, in_order, each_in_order, is_row, part_in, parts_from}
+use Rattle.graph_terms.specs.Table.{kind_places, kernel_kind, kernel_parts, arrive_kind, arrive_parts, acquire_kind, acquire_parts, verb_kind, verb_parts, verb_places, verb_of, Placed, any_placed, is_column, is_over, is_space, columns_first, in_order, each_in_order, is_row, part_in, parts_from, NumbersFit}
 use Rattle.graph_terms.specs.Access.{access, access_at, access_in, accesses_of, verb_accesses}
-
--- an arrival that is spelled with its weight has another than 1; 0 stands for the words before a weight and behind a shared reservation
-abbrev pub NumbersFit : Kind → List ℕ → Type 0
-NumbersFit kinds.ArriveTimes ns = (slice_index ns 2 ≡ 0) × ((slice_index ns 3 == 1) ≡ false)
-NumbersFit kinds.AcquireShared ns = slice_index ns 1 ≡ 0
-NumbersFit k ns = Unit {0}
+use Rattle.graph_terms.specs.Laws.{PartForEachPlace, RowsOfVerbs, RowsOfKinds, NonePlacedPasses, AccessOfColumn, AccessOfSpace, ColumnsOverSpaces, NoAccessPasses, SameInEachPlace, KindOfItsVerb, PartsOfItsVerb, VerbOfItsParts, FewAccesses}
 
 -- the kind of the verb of a kind
-pub kind_again : (k : Kind) (ns : List ℕ) → NumbersFit k ns → verb_kind (verb_of k ns) ≡ Some k
+pub kind_again : KindOfItsVerb
 kind_again kinds.User ns h = refl
 kind_again kinds.ArriveTimes ns h = ap (λ b. Some (arrive_kind b)) h.1
 kind_again k ns h = refl
@@ -58,7 +53,7 @@ read_all [] = refl
 read_all (n ∷ ns) = ap (λ xs. n ∷ xs) (read_past 0 (length ns) n ns ∙ read_all ns)
 
 -- its parts, where there is one for each place
-pub parts_again : (k : Kind) (ns : List ℕ) → NumbersFit k ns → length ns ≡ length (kind_places k) → verb_parts (verb_of k ns) ≡ ns
+pub parts_again : PartsOfItsVerb
 parts_again k ns n h = parts_read k ns n ∙ (ap (λ n. read_from 0 n ns) (sym h) ∙ read_all ns)
 
 -- the verb of its own kind and parts
@@ -86,7 +81,7 @@ again (Acquire l b) = acquire_again b l
 again (Task k) = kernel_again k
 again v = refl
 
-pub verb_again : (v : Verb) (k : Kind) → verb_kind v ≡ Some k → verb_of k (verb_parts v) ≡ v
+pub verb_again : VerbOfItsParts
 verb_again v k e = subst (λ o. MatchOption o (Unit {0}) (λ k. verb_of k (verb_parts v) ≡ v)) e (again v)
 
 -- there is a part for each place
@@ -102,7 +97,7 @@ acquire_each : (b : Bool) (l : ℕ) → length (acquire_parts b l) ≡ length (k
 acquire_each true l = refl
 acquire_each false l = refl
 
-pub part_for_each : (v : Verb) → length (verb_parts v) ≡ length (verb_places v)
+pub part_for_each : PartForEachPlace
 part_for_each User = refl
 part_for_each (Reduce op.Sum a b s) = refl
 part_for_each (Reduce op.Min a b s) = refl
@@ -113,7 +108,7 @@ part_for_each (Task k) = kernel_each k
 part_for_each v = refl
 
 -- each row is in order
-pub each_is_row : (k : Kind) → is_row (kind_places k) ≡ true
+pub each_is_row : RowsOfKinds
 each_is_row kinds.User = refl
 each_is_row k = refl
 
@@ -143,7 +138,7 @@ space_of_some None h = absurd (true≢false (sym h))
 space_of_some (Some Space) h = refl
 space_of_some (Some p) h = absurd (true≢false (sym h))
 
-pub over_space : (ps : List Place) → is_row ps ≡ true → (k : ℕ) (mode : Mode) (over : ℕ) → slice_get ps k ≡ Some (Column mode over) → slice_get ps over ≡ Some Space
+pub over_space : ColumnsOverSpaces
 over_space ps h k mode over e = space_of_some (slice_get ps over) (row_at ps h k (Column mode over) e)
 
 -- the parts of the code
@@ -202,7 +197,7 @@ access_got ps parts k o h e =
     read_by (Some p) e = refl
 
 -- a row has a number in each place
-pub verb_is_row : (v : Verb) → is_row (verb_places v) ≡ true
+pub verb_is_row : RowsOfVerbs
 verb_is_row v = row_by (verb_kind v)
   where
     row_by : (o : Option Kind) → is_row (option_map_or kind_places o []) ≡ true
@@ -210,15 +205,14 @@ verb_is_row v = row_by (verb_kind v)
     row_by (Some k) = each_is_row k
 
 -- a test that no number passes in its place
-pub none_placed : (t : Place → ℕ → Bool) (ps : List Place) (ns : List ℕ) → any_placed t (zip ps ns) ≡ false → (k : ℕ) (p : Place) (n : ℕ) → slice_get ps k ≡ Some p → slice_get ns k ≡ Some n → t p n ≡ false
+pub none_placed : NonePlacedPasses
 none_placed t [] ns h k p n e f = absurd (none-some p e)
 none_placed t (q ∷ ps) [] h k p n e f = absurd (none-some n f)
 none_placed t (q ∷ ps) (m ∷ ns) h zero p n e f = ap (λ x. t x n) (sym (same_Some q p e)) ∙ (ap (t q) (sym (same_Some m n f)) ∙ (or_parts (any_placed t (zip ps ns)) (t q m) h).1)
 none_placed t (q ∷ ps) (m ∷ ns) h (suc k) p n e f = none_placed t ps ns (or_parts (any_placed t (zip ps ns)) (t q m) h).0 k p n e f
 
 -- words that are the same in each place
-pub map_placed : (f h : Place → ℕ → List ℕ) (ps : List Place) (ns : List ℕ) → ((k : ℕ) (p : Place) (n : ℕ) → slice_get ps k ≡ Some p → slice_get ns k ≡ Some n → f p n ≡ h p n) →
-    map (λ (q : Placed). f q.0 q.1) (zip ps ns) ≡ map (λ (q : Placed). h q.0 q.1) (zip ps ns)
+pub map_placed : SameInEachPlace
 map_placed f h [] ns e = refl
 map_placed f h (p ∷ ps) [] e = refl
 map_placed f h (p ∷ ps) (n ∷ ns) e =
@@ -235,10 +229,10 @@ access_from ns (p ∷ ps) (m ∷ ms) zero mode over c e f =
 access_from ns (Column m o ∷ ps) (n ∷ ms) (suc k) mode over c e f = contains_there (access n (slice_index ns o) m) _ _ (access_from ns ps ms k mode over c e f)
 access_from ns (p ∷ ps) (m ∷ ms) (suc k) mode over c e f = access_from ns ps ms k mode over c e f
 
-pub column_access : (ps : List Place) (ns : List ℕ) (k : ℕ) (mode : Mode) (over c : ℕ) → slice_get ps k ≡ Some (Column mode over) → slice_get ns k ≡ Some c → Contains (accesses_of ps ns) (access c (slice_index ns over) mode)
+pub column_access : AccessOfColumn
 column_access ps ns k mode over c e f = access_from ns ps ns k mode over c e f
 
-pub none_of_accesses : (t : Access → Bool) (ps : List Place) (ns : List ℕ) → list_any t (accesses_of ps ns) ≡ false → (a : Access) → Contains (accesses_of ps ns) a → t a ≡ false
+pub none_of_accesses : NoAccessPasses
 none_of_accesses t ps ns h a c = false_from_ne_true (t a) (λ e. true≢false (sym (passes_some t (accesses_of ps ns) a c e) ∙ h))
 
 -- each space of a row is that of an access
@@ -246,7 +240,7 @@ over_is : (n : ℕ) (p : Place) → is_over n p ≡ true → (mode : Mode) × (p
 over_is n (Column mode over) h = (mode, ap (Column mode) (eqb-true over n h))
 over_is n p h = absurd (true≢false (sym h))
 
-pub space_access : (ps : List Place) (ns : List ℕ) → is_row ps ≡ true → length ns ≡ length ps → (k n : ℕ) → slice_get ps k ≡ Some Space → slice_get ns k ≡ Some n → (a : Access) × Contains (accesses_of ps ns) a × (a.space ≡ n)
+pub space_access : AccessOfSpace
 space_access ps ns r e k n at here =
     let s = some_passes (is_over k) ps (row_at ps r k Space at) in
     let o = over_is k s.0 s.2 in
@@ -286,5 +280,5 @@ few_columns_of : (o : Option Kind) → columns_in (option_map_or kind_places o [
 few_columns_of None = omega arith
 few_columns_of (Some k) = leb-true (columns_in (kind_places k)) 3 (few_columns k)
 
-pub few : (v : Verb) → length (verb_accesses v) ≤ 3
+pub few : FewAccesses
 few v = let h : length (verb_accesses v) ≤ columns_in (verb_places v) = few_from (verb_parts v) (verb_places v) (verb_parts v) in let k : columns_in (verb_places v) ≤ 3 = few_columns_of (verb_kind v) in omega arith

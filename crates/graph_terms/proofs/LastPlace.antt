@@ -1,11 +1,12 @@
 -- The last place of a line that passes, in a list that grows at its end.
-use Rattle.std.proofs.Common.{◌≡◌, ℕ, suc, ◌+◌, ◌-◌, ◌<◌, ◌≤◌, Bool, true, false, cond, List, [], ◌∷◌, ◌++◌, length, take, get_or, ◌∙◌, ap, arith}
+use Rattle.std.proofs.Common.{◌≡◌, ℕ, suc, ◌+◌, ◌-◌, ◌<◌, Bool, cond, List, [], ◌∷◌, ◌++◌, length, take, get_or, ◌∙◌, ap, arith}
 use Rattle.std.specs.Prelude.{Option, Some, None}
 use Rattle.std.proofs.lemmas.Bool.{cond-true, cond-false}
 use Rattle.std.proofs.lemmas.List.{take_more, length-take-le}
 use Rattle.graph_terms.specs.declared.verb.Line.{Line}
 use Rattle.graph_terms.specs.declared.verb.Verb.{Verb}
 use Rattle.graph_terms.specs.Edges.{last_place}
+use Rattle.graph_terms.specs.Laws.{LastPlaceAtEnd, LastPlaceBelowEnd}
 
 pub last_place_push : (test : Verb → Bool) (n : ℕ) (ls : List Line) (l : Line) (found : Option ℕ) → last_place test n (ls ++ l ∷ []) found ≡ cond (test l.verb) (Some (n + length ls)) (last_place test n ls found)
 last_place_push test n [] l found = ap (λ k. cond (test l.verb) (Some k) found) (let e : n ≡ n + 0 = omega arith in e)
@@ -22,12 +23,12 @@ same_take : (ls : List Line) (n : ℕ) → 0 < n → take n ls ≡ take ((n - 1)
 same_take ls n h = ap (λ m. take m ls) (let e : n ≡ (n - 1) + 1 = omega arith in e)
 
 -- a step from the end: the line passes, or it does not
-pub last_place_here : (test : Verb → Bool) (ls : List Line) (n : ℕ) (d : Line) → 0 < n → n ≤ length ls → test (get_or ls (n - 1) d).verb ≡ true → last_place test 0 (take n ls) None ≡ Some (n - 1)
+pub last_place_here : LastPlaceAtEnd
 last_place_here test ls n d h b t =
     ap (λ xs. last_place test 0 xs None) (same_take ls n h) ∙ (last_place_take test ls (n - 1) d (omega arith)
     ∙ cond-true (test (get_or ls (n - 1) d).verb) _ _ t)
 
-pub last_place_below : (test : Verb → Bool) (ls : List Line) (n : ℕ) (d : Line) → 0 < n → n ≤ length ls → test (get_or ls (n - 1) d).verb ≡ false → last_place test 0 (take n ls) None ≡ last_place test 0 (take (n - 1) ls) None
+pub last_place_below : LastPlaceBelowEnd
 last_place_below test ls n d h b t =
     ap (λ xs. last_place test 0 xs None) (same_take ls n h) ∙ (last_place_take test ls (n - 1) d (omega arith)
     ∙ cond-false (test (get_or ls (n - 1) d).verb) _ _ t)

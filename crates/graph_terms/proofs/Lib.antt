@@ -11,3 +11,4 @@ pub mod VerbFacts
 pub mod ReleaseFacts
 pub mod EdgeFacts
 pub mod NameOrder
+pub mod Public

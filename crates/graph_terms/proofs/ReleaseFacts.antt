@@ -11,7 +11,7 @@ use Rattle.graph_terms.specs.declared.verb.Line.{Line}
 use Rattle.graph_terms.specs.declared.verb.Verb.{Verb}
 use Rattle.graph_terms.specs.declared.verb.Verb.TheVariants.{Acquire, Release}
 use Rattle.graph_terms.specs.Graph.{GraphValue, verb_at, line_passes, is_acquire, is_shared, is_release_of, locks}
-use Rattle.graph_terms.specs.Reservations.{Acquires, Releases}
+use Rattle.graph_terms.specs.Reservations.{Releases}
 use Rattle.graph_terms.specs.declared.verb.Access.{Access}
 use Rattle.graph_terms.specs.Access.{verb_accesses}
 use Rattle.graph_terms.specs.Fits.{is_used, repeats, line_tests, line_fault, verb_repeats, verb_unlike, takes_no_on, format_lacks, LinesFit, IsGraph}
@@ -19,13 +19,14 @@ use Rattle.graph_terms.proofs.AcquireLaws.{acquire_unknown}
 use Rattle.graph_terms.proofs.GraphFacts.{none_first, verb_known}
 use Rattle.graph_terms.proofs.VerbFacts.{verb_line, acquire_is, release_is, is_acquire_from}
 use Rattle.graph_terms.specs.declared.why.Why.TheVariants as why
+use Rattle.graph_terms.specs.Laws.{ReservationOfVerbDeclared, ReservationOfLineDeclared, ReleaseNamesAcquire, OneRelease}
 
 -- the reservation of an acquire is declared
-pub lock_known : (g : GraphValue) → IsGraph g → (i k : ℕ) (l : Line) → slice_get g.lines i ≡ Some l → (s : Bool) → l.verb ≡ Acquire k s → k < length (locks g)
+pub lock_known : ReservationOfVerbDeclared
 lock_known g f i k l at s is = leb-false (length (locks g)) k (sym (acquire_unknown g k s) ∙ (verb_known g f i l (Acquire k s) at is).1)
 
 -- the same for any line that acquires it
-pub acquired_lock_known : (g : GraphValue) → IsGraph g → (i k : ℕ) → Acquires g i k → k < length (locks g)
+pub acquired_lock_known : ReservationOfLineDeclared
 acquired_lock_known g f i k a =
     let l = verb_line g i (Acquire k (line_passes is_shared g i)) (acquire_is g i k a) in
     lock_known g f i k l.0 l.1 (line_passes is_shared g i) l.2
@@ -85,7 +86,7 @@ release_cut g f r q h =
     (c.0, l.0, c.1, c.2, (let e : length c.0 ≡ r = omega arith in e), l.2)
 
 -- a release names an acquire
-pub release_names : (g : GraphValue) → IsGraph g → (r q : ℕ) → Releases g r q → (l : ℕ) × Acquires g q l
+pub release_names : ReleaseNamesAcquire
 release_names g f r q h =
     let c = release_cut g f r q h in
     let g' : GraphValue = record { format = g.format; decls = g.decls; lines = c.0 } in
@@ -111,7 +112,7 @@ no_earlier g f r s q h k lower =
     true≢false (sym (passes_before (is_release_of q) c.0 (c.1 ∷ c.2) s (omega arith) (ap (λ ls. at_passes (is_release_of q) ls s) (sym c.3.split) ∙ k)) ∙ fresh)
 
 -- an acquire has one release
-pub one_release : (g : GraphValue) → IsGraph g → (q r s : ℕ) → Releases g r q → Releases g s q → r ≡ s
+pub one_release : OneRelease
 one_release g f q r s h k = elim (cases_order r s) [
   | inl same ↦ same
   | inr (inl below) ↦ absurd (no_earlier g f s r q k h below)

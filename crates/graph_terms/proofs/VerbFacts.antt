@@ -1,26 +1,25 @@
 -- What a line is that passes a test of verbs, and where the edges lead that it gives.
-use Rattle.std.proofs.Common.{◌≡◌, ℕ, ◌<◌, Bool, true, false, ◌&&◌, List, [], ◌∷◌, length, refl, sym, ◌∙◌, ap, ◌⊎◌, inl, inr}
+use Rattle.std.proofs.Common.{◌≡◌, ℕ, Bool, true, false, ◌&&◌, List, [], ◌∷◌, length, refl, sym, ◌∙◌, ap, ◌⊎◌, inl, inr}
 use Rattle.std.specs.Prelude.{Option, Some, None, option_map, slice_get, Contains}
 use Rattle.std.specs.Option.{option_map_or}
 use Rattle.std.proofs.lemmas.Bool.{true≢false, eq-eqb, eqb-true, not-true}
 use Rattle.graph_terms.specs.declared.verb.Line.{Line}
 use Rattle.graph_terms.specs.declared.verb.Verb.{Verb}
 use Rattle.graph_terms.specs.declared.verb.Verb.TheVariants.{User, Trigger, Cancel, Merge, MergeIgnore, Phase, Arrive, Acquire, Release}
-use Rattle.graph_terms.specs.Graph.{GraphValue, verb_at, line_passes, is_acquire_of, is_shared, is_release_of, is_user, is_phase, is_phase_of, ends_user, never_comes_as}
-use Rattle.graph_terms.specs.Reservations.{Acquires, Releases, both_shared}
-use Rattle.std.specs.List.{list_any}
+use Rattle.graph_terms.specs.Graph.{verb_at, line_passes, is_acquire_of, is_shared, is_release_of, is_user, is_phase_of, ends_user}
 use Rattle.std.proofs.lemmas.Option.{none-some, same_Some, slice_get_within}
 use Rattle.graph_terms.specs.declared.verb.Edge.{Edge}
 use Rattle.graph_terms.specs.declared.verb.EdgeKind.{EdgeKind}
 use Rattle.graph_terms.specs.declared.verb.EdgeKind.TheVariants.{Passes, Ignores, Faults}
 use Rattle.graph_terms.specs.Edges.{edge, last_place, edges_from_some, verb_edges}
 use Rattle.basics.proofs.ListFacts.{contains_none, contains_cases, map_contains}
+use Rattle.graph_terms.specs.Laws.{AcquireByTest, ReleaseByTest, VerbOfAcquire, VerbOfRelease, AcquiresByVerb, ReleasesByVerb, PassingLineHasVerb, LinePassesAsVerb, VerbHasLine, VerbsAreBelowEnd, PassingLinesAreBelowEnd, ReleasesOneAcquire, AcquiresOneReservation, BothSharedEitherWay, PhaseByTest, AcquiresOrNot, NeverComesAs}
 
-pub acquire_of_is : (l : ℕ) (v : Verb) → is_acquire_of l v ≡ true → v ≡ Acquire l (is_shared v)
+pub acquire_of_is : AcquireByTest
 acquire_of_is l (Acquire k s) h = ap (λ n. Acquire n s) (eqb-true k l h)
 acquire_of_is l v h = absurd (true≢false (sym h))
 
-pub release_of_is : (q : ℕ) (v : Verb) → is_release_of q v ≡ true → v ≡ Release q
+pub release_of_is : ReleaseByTest
 release_of_is q (Release k) h = ap Release (eqb-true k q h)
 release_of_is q v h = absurd (true≢false (sym h))
 
@@ -33,16 +32,16 @@ acquire_some_is : (l : ℕ) (o : Option Verb) → option_map_or (is_acquire_of l
 acquire_some_is l None h = absurd (true≢false (sym h))
 acquire_some_is l (Some v) h = ap Some (acquire_of_is l v h)
 
-pub acquire_is : (g : GraphValue) (q l : ℕ) → Acquires g q l → verb_at g q ≡ Some (Acquire l (line_passes is_shared g q))
+pub acquire_is : VerbOfAcquire
 acquire_is g q l h = acquire_some_is l (verb_at g q) h
 
-pub release_is : (g : GraphValue) (r q : ℕ) → Releases g r q → verb_at g r ≡ Some (Release q)
+pub release_is : VerbOfRelease
 release_is g r q h = verb_is (is_release_of q) (Release q) (release_of_is q) (verb_at g r) h
 
-pub is_acquire_from : (g : GraphValue) (q l : ℕ) (s : Bool) → verb_at g q ≡ Some (Acquire l s) → Acquires g q l
+pub is_acquire_from : AcquiresByVerb
 is_acquire_from g q l s e = ap (λ o. option_map_or (is_acquire_of l) o false) e ∙ eq-eqb l l refl
 
-pub is_release_from : (g : GraphValue) (r q : ℕ) → verb_at g r ≡ Some (Release q) → Releases g r q
+pub is_release_from : ReleasesByVerb
 is_release_from g r q e = ap (λ o. option_map_or (is_release_of q) o false) e ∙ eq-eqb q q refl
 
 -- what a line does that passes a test
@@ -50,41 +49,41 @@ passes_some_of : (t : Verb → Bool) (o : Option Verb) → option_map_or t o fal
 passes_some_of t None h = absurd (true≢false (sym h))
 passes_some_of t (Some v) h = (v, refl, h)
 
-pub passes_verb : (t : Verb → Bool) (g : GraphValue) (i : ℕ) → line_passes t g i ≡ true → (v : Verb) × (verb_at g i ≡ Some v) × (t v ≡ true)
+pub passes_verb : PassingLineHasVerb
 passes_verb t g i h = passes_some_of t (verb_at g i) h
 
-pub verb_passes : (t : Verb → Bool) (g : GraphValue) (i : ℕ) (v : Verb) → verb_at g i ≡ Some v → line_passes t g i ≡ t v
+pub verb_passes : LinePassesAsVerb
 verb_passes t g i v e = ap (λ (o : Option Verb). option_map_or t o false) e
 
 verb_line_of : (o : Option Line) (v : Verb) → option_map (λ (l : Line). l.verb) o ≡ Some v → (l : Line) × (o ≡ Some l) × (l.verb ≡ v)
 verb_line_of None v h = absurd (none-some v h)
 verb_line_of (Some l) v h = (l, refl, same_Some l.verb v h)
 
-pub verb_line : (g : GraphValue) (i : ℕ) (v : Verb) → verb_at g i ≡ Some v → (l : Line) × (slice_get g.lines i ≡ Some l) × (l.verb ≡ v)
+pub verb_line : VerbHasLine
 verb_line g i v h = verb_line_of (slice_get g.lines i) v h
 
-pub verb_below : (g : GraphValue) (i : ℕ) (v : Verb) → verb_at g i ≡ Some v → i < length g.lines
+pub verb_below : VerbsAreBelowEnd
 verb_below g i v h = let l = verb_line g i v h in slice_get_within g.lines i l.0 l.1
 
 -- a line that passes is a line of the graph
-pub passes_below : (t : Verb → Bool) (g : GraphValue) (i : ℕ) → line_passes t g i ≡ true → i < length g.lines
+pub passes_below : PassingLinesAreBelowEnd
 passes_below t g i h = let v = passes_verb t g i h in verb_below g i v.0 v.1
 
 -- a line releases one acquire, and acquires one reservation
 release_same : (a b : ℕ) → Release a ≡ Release b → a ≡ b
 release_same a b e = cc
 
-pub release_one : (g : GraphValue) (r a b : ℕ) → Releases g r a → Releases g r b → a ≡ b
+pub release_one : ReleasesOneAcquire
 release_one g r a b h l = release_same a b (same_Some (Release a) (Release b) (sym (release_is g r a h) ∙ release_is g r b l))
 
 acquire_same : (a b : ℕ) (s t : Bool) → Acquire a s ≡ Acquire b t → a ≡ b
 acquire_same a b s t e = cc
 
-pub acquire_one : (g : GraphValue) (q a b : ℕ) → Acquires g q a → Acquires g q b → a ≡ b
+pub acquire_one : AcquiresOneReservation
 acquire_one g q a b h l = let s = line_passes is_shared g q in acquire_same a b s s (same_Some (Acquire a s) (Acquire b s) (sym (acquire_is g q a h) ∙ acquire_is g q b l))
 
 -- whether two acquires are both shared is asked of the two alike
-pub both_shared_swap : (g : GraphValue) (q k : ℕ) → both_shared g q k ≡ both_shared g k q
+pub both_shared_swap : BothSharedEitherWay
 both_shared_swap g q k = and_swap (line_passes is_shared g q) (line_passes is_shared g k)
   where
     and_swap : (a b : Bool) → (a && b) ≡ (b && a)
@@ -98,17 +97,17 @@ pub user_is : (v : Verb) → is_user v ≡ true → v ≡ User
 user_is User h = refl
 user_is v h = absurd (true≢false (sym h))
 
-pub phase_is : (v : Verb) → is_phase v ≡ true → (b : ℕ) × (v ≡ Phase b)
+pub phase_is : PhaseByTest
 phase_is (Phase k) h = (k, refl)
 phase_is v h = absurd (true≢false (sym h))
 
 -- whether a line acquires a reservation
-pub acquire_some : (v : Verb) → ((l : ℕ) × (s : Bool) × (v ≡ Acquire l s)) ⊎ ((l : ℕ) → is_acquire_of l v ≡ true → ⊥)
+pub acquire_some : AcquiresOrNot
 acquire_some (Acquire k s) = inl (k, s, refl)
 acquire_some v = inr (λ l h. true≢false (sym h))
 
 -- a line that never comes is a phase, or a user event that no line ends
-pub never_as : (g : GraphValue) (i : ℕ) (v : Verb) → never_comes_as g i v ≡ true → (is_phase v ≡ true) ⊎ ((v ≡ User) × (list_any (λ (l : Line). ends_user i l.verb) g.lines ≡ false))
+pub never_as : NeverComesAs
 never_as g i User h = inr (refl, not-true _ h)
 never_as g i (Phase k) h = inl refl
 never_as g i v h = absurd (true≢false (sym h))

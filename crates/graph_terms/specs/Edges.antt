@@ -1,5 +1,5 @@
 -- The edges of a graph, by the lines that give them. An edge goes from the line that comes first to the line that waits.
-use Rattle.std.specs.Prelude.{ℕ, ◌+◌, ◌==◌, Bool, cond, List, [], ◌∷◌, ◌++◌, length, map, filter, Option, Some, None}
+use Rattle.std.specs.Prelude.{ℕ, ◌+◌, ◌==◌, Bool, cond, List, [], ◌∷◌, ◌++◌, length, map, filter, Option, Some, None, ◌≤◌}
 use Rattle.graph_terms.specs.declared.verb.Line.{Line}
 use Rattle.graph_terms.specs.declared.verb.Edge.{Edge}
 use Rattle.graph_terms.specs.declared.verb.EdgeKind.{EdgeKind}
@@ -54,3 +54,7 @@ edges_out_of g i = filter (λ e. e.from == i) (edges g)
 -- the lines that a line waits for
 abbrev pub sources : GraphValue → ℕ → List ℕ
 sources g i = map (λ (e : Edge). e.from) (edges_into g i)
+
+-- both ends of an edge are at most a number
+abbrev pub EndsUpTo : ℕ → Edge → Type 0
+EndsUpTo n e = (e.from ≤ n) × (e.to ≤ n)

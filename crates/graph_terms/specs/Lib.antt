@@ -8,3 +8,4 @@ pub mod Fits
 pub mod Names
 pub mod NameLaws
 pub mod Reservations
+pub mod Laws

@@ -126,3 +126,7 @@ why_word why.Arrivals = codes "arrivals"
 why_word why.Limit = codes "limit"
 why_word why.Missing = codes "missing"
 why_word why.Rest = codes "rest"
+
+-- the text behind the first line, up to the closing line
+abbrev pub body : GraphValue → List ℕ
+body g = decls_text g.format [] g.decls ++ lines_text g.format g.decls [] g.lines

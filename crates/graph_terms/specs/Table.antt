@@ -1,5 +1,5 @@
 -- The kinds of operation lines as one table: the words that a line begins with, and what stands in the place of each word behind them.
-use Rattle.std.specs.Prelude.{ℕ, ◌+◌, ◌==◌, nat_le, Bool, true, false, not, ◌&&◌, ◌||◌, List, [], ◌∷◌, length, zip, Option, Some, None, slice_index, slice_get, codes}
+use Rattle.std.specs.Prelude.{ℕ, ◌+◌, ◌==◌, nat_le, Bool, true, false, not, ◌&&◌, ◌||◌, List, [], ◌∷◌, length, zip, Option, Some, None, slice_index, slice_get, codes, ◌≡◌}
 use Rattle.std.specs.Option.{option_map_or}
 use Rattle.std.specs.List.{list_any}
 use Rattle.index_spaces.specs.declared.Op.{Op}
@@ -232,3 +232,9 @@ parts_from n (p ∷ ps) parts = part_in p n parts ∷ parts_from (n + 1) ps part
 -- the numbers of a kind
 abbrev pub parts_of : Kind → Parts → List ℕ
 parts_of kind parts = parts_from 0 (kind_places kind) parts
+
+-- an arrival that is spelled with its weight has another than 1; 0 stands for the words before a weight and behind a shared reservation
+abbrev pub NumbersFit : Kind → List ℕ → Type 0
+NumbersFit kinds.ArriveTimes ns = (slice_index ns 2 ≡ 0) × ((slice_index ns 3 == 1) ≡ false)
+NumbersFit kinds.AcquireShared ns = slice_index ns 1 ≡ 0
+NumbersFit k ns = Unit {0}

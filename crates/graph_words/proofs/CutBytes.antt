@@ -1,6 +1,6 @@
 -- Where a loop over bytes stops at the first byte that is sought, and what the pieces are there.
 use Rattle.std.proofs.Common.{◌≡◌, ℕ, zero, suc, ◌+◌, ◌-◌, ◌<◌, true, false, List, [], ◌∷◌, length, take, drop, get_or, sym, ◌∙◌, ap, refl, Bool, cond, length-drop, take_all, arith, ◌++◌, Bor}
-use Rattle.std.specs.Prelude.{◌==◌, Some, None, Result, Ok, Err, OnOk}
+use Rattle.std.specs.Prelude.{◌==◌, Some, None}
 use Rattle.basics.specs.Words.{contents}
 use Rattle.std.proofs.lemmas.List.{append_assoc, map-append}
 use Rattle.std.specs.List.{list_any, onto_first, position_or_len, after_first}
@@ -9,19 +9,19 @@ use Rattle.std.proofs.lemmas.List.Sums.{position_or_len_is}
 use Rattle.std.proofs.lemmas.List.Splits.{slice_split_first}
 use Rattle.graph_words.specs.Words.{pieces, first_piece}
 use Rattle.graph_words.specs.Cuts.{IsCut, two_pieces}
-use Rattle.graph_words.proofs.TextLists.{first_is, within}
+use Rattle.basics.proofs.TestedLists.{within, first_is}
+use Rattle.graph_words.specs.Laws.{OnePiece, SomePiece, PiecesFromCut, CutAtFirst, NoByteCuts, OneWordMore, LastWord}
 
 stop_in : (c : ℕ) (bs : List ℕ) (i : ℕ) → i < length bs → get_or bs i 0 ≡ c → list_any (λ b. b == c) bs ≡ true
 stop_in c [] i l e = absurd (omega arith)
 stop_in c (b ∷ bs) zero l e = or_left (b == c) (list_any (λ b. b == c) bs) (eq-eqb b c e)
 stop_in c (b ∷ bs) (suc i) l e = or_right (b == c) (list_any (λ b. b == c) bs) (stop_in c bs i (omega arith) e)
 
-pub no_stop : (c : ℕ) (bs : List ℕ) → ((k : ℕ) → k < length bs → get_or bs k 0 ≡ c → ⊥) → list_any (λ b. b == c) bs ≡ false
+pub no_stop : NoByteCuts
 no_stop c [] h = refl
 no_stop c (b ∷ bs) h = or_from (b == c) (list_any (λ b. b == c) bs) (ne_eqb b c (h 0 (omega arith))) (no_stop c bs (λ k l. h (suc k) (omega arith)))
 
-pub cut_at : (c : ℕ) (bs : List ℕ) (i : ℕ) → i < length bs → ((k : ℕ) → k < i → get_or bs k 0 ≡ c → ⊥) → get_or bs i 0 ≡ c →
-    IsCut c bs (take i bs) (take (length bs - (i + 1)) (drop (i + 1) bs))
+pub cut_at : CutAtFirst
 cut_at c bs i l h e =
     let at : position_or_len (λ b. b == c) bs ≡ i = position_or_len_is (λ b. b == c) bs i 0 (omega arith) (λ k m. ne_eqb (get_or bs k 0) c (h k m)) (λ m. eq-eqb (get_or bs i 0) c e) in record {
       there = stop_in c bs i l e;
@@ -30,13 +30,13 @@ cut_at c bs i l h e =
     }
 
 -- without the byte, the bytes are the one piece
-pub one_piece : (c : ℕ) (bs : List ℕ) → list_any (λ b. b == c) bs ≡ false → pieces c bs ≡ bs ∷ []
+pub one_piece : OnePiece
 one_piece c [] h = refl
 one_piece c (b ∷ bs) h = let p = or_parts (b == c) (list_any (λ x. x == c) bs) h in
     cond-false (b == c) ([] ∷ pieces c bs) (onto_first b (pieces c bs)) p.0 ∙ ap (onto_first b) (one_piece c bs p.1)
 
 -- and with it they are two or more
-pub some_pieces : (c : ℕ) (bs : List ℕ) → (p : List ℕ) × (ps : List (List ℕ)) × (pieces c bs ≡ p ∷ ps)
+pub some_pieces : SomePiece
 some_pieces c [] = ([], [], refl)
 some_pieces c (b ∷ bs) = some_by c b bs (b == c) (some_pieces c bs)
   where
@@ -44,7 +44,7 @@ some_pieces c (b ∷ bs) = some_by c b bs (b == c) (some_pieces c bs)
     some_by c b bs true r = ([], pieces c bs, refl)
     some_by c b bs false r = (b ∷ r.0, r.1, ap (onto_first b) r.2)
 
-pub pieces_cut : (c : ℕ) (bs front back : List ℕ) → IsCut c bs front back → pieces c bs ≡ front ∷ pieces c back
+pub pieces_cut : PiecesFromCut
 pieces_cut c bs front back h = let f = first_is (λ b. b == c) bs h.there in
     slice_split_first (λ b. b == c) bs 0 (within bs (position_or_len (λ b. b == c) bs) f.0 f.1)
     ∙ (ap (λ x. x ∷ pieces c (after_first (λ b. b == c) bs)) (sym h.front_is) ∙ ap (λ x. front ∷ pieces c x) (sym h.back_is))
@@ -66,16 +66,12 @@ more_than_two c bs front back one other h k = let s = some_pieces c other in
     ap two_pieces (pieces_cut c bs front back h ∙ ap (λ x. front ∷ x) (pieces_cut c back one other k ∙ ap (λ x. one ∷ x) s.2))
 
 -- one word more is cut off
-pub word_cut : (c : ℕ) (ws more : List (Bor (List ℕ))) (w : Bor (List ℕ)) (rest back all : List ℕ) → more ≡ ws ++ w ∷ [] → IsCut c rest w.now back → contents ws ++ pieces c rest ≡ pieces c all → contents more ++ pieces c back ≡ pieces c all
+pub word_cut : OneWordMore
 word_cut c ws more w rest back all e h k =
     ap (λ x. contents x ++ pieces c back) e
     ∙ (ap (λ x. x ++ pieces c back) (map-append (λ (x : Bor (List ℕ)). x.now) ws (w ∷ []))
     ∙ (append_assoc (contents ws) (w.now ∷ []) (pieces c back) ∙ (ap (λ x. contents ws ++ x) (sym (pieces_cut c rest w.now back h)) ∙ k)))
 
-pub last_word : (c : ℕ) (ws more : List (Bor (List ℕ))) (w : Bor (List ℕ)) (all : List ℕ) → list_any (λ b. b == c) w.now ≡ false → contents ws ++ pieces c w.now ≡ pieces c all → more ≡ ws ++ w ∷ [] → contents more ≡ pieces c all
+pub last_word : LastWord
 last_word c ws more w all h k e =
     ap contents e ∙ (map-append (λ (x : Bor (List ℕ)). x.now) ws (w ∷ []) ∙ (ap (λ x. contents ws ++ x) (sym (one_piece c w.now h)) ∙ k))
-
-pub last_by : {E : Type 0} {P Q : Type 0} (r : Result (Unit {0}) E) → (P → Q) → OnOk r P → OnOk r Q
-last_by (Ok x) f h = f h
-last_by (Err e) f h = tt

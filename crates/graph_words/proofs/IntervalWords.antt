@@ -1,12 +1,11 @@
 -- Words that spell intervals.
 use Rattle.std.proofs.Common.{true, false, true≢false, eqb-true, ◌≡◌, ℕ, zero, suc, ◌+◌, ◌<◌, List, [], ◌∷◌, ◌++◌, length, take, get_or, refl, sym, ◌∙◌, ap, arith, Bor}
 use Rattle.std.specs.Prelude.{Option, Some, None, ◌==◌}
-use Rattle.graph_words.specs.Words.{pieces, both_numbers, interval_of, with_interval, all_intervals, intervals_of}
+use Rattle.graph_words.specs.Words.{pieces, both_numbers, interval_of, with_interval, all_intervals, intervals_of, words_of}
 use Rattle.basics.specs.Numbers.{number_up_to}
 use Rattle.graph_words.specs.Cuts.{IsCut, two_pieces, behind_two, dotted}
 use Rattle.std.proofs.lemmas.Option.{none-some, same_Some}
 use Rattle.graph_words.proofs.CutBytes.{pieces_cut, some_pieces}
-use Rattle.graph_words.proofs.WordLists.{words_of}
 use Rattle.graph_words.proofs.NameLists.{word_more}
 
 pub dots_behind : (w low rest : List ℕ) → IsCut 46 w low rest → dotted (pieces 46 w) ≡ behind_two low (two_pieces (pieces 46 rest))

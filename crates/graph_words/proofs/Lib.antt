@@ -5,3 +5,4 @@ pub mod IntervalWords
 pub mod WordLists
 pub mod WholeText
 pub mod KnownItems
+pub mod Public

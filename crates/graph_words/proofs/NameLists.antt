@@ -9,8 +9,11 @@ use Rattle.std.proofs.lemmas.List.{take_more, map-append}
 use Rattle.std.proofs.lemmas.List.Folds.{list_any-append}
 use Rattle.std.proofs.lemmas.Map.Text.{is_eq-slice_cmp}
 use Rattle.graph_terms.specs.Fits.{repeats}
-use Rattle.graph_words.proofs.TextLists.{same_bytes, bytes_same, repeats_push, bytes_flip}
-use Rattle.graph_words.proofs.WordLists.{words_of}
+use Rattle.graph_words.proofs.TextLists.{repeats_push}
+use Rattle.basics.proofs.TestedLists.{same_bytes, bytes_same, bytes_flip}
+use Rattle.graph_words.specs.Words.{words_of}
+use Rattle.basics.proofs.Choices.{or_true}
+use Rattle.graph_words.specs.Laws.{OneMorePasses, OneFails, OneNumberMore}
 
 pub word_more : (ws : List (Bor (List ℕ))) (i : ℕ) (d : Bor (List ℕ)) → i < length ws → take (i + 1) (words_of ws) ≡ take i (words_of ws) ++ (get_or ws i d).now ∷ []
 word_more [] i d h = absurd (omega arith)
@@ -29,7 +32,7 @@ all_append t [] y h k = ap (λ b. b && true) k
 all_append t (x ∷ xs) y h k = all_by t xs (xs ++ y ∷ []) (t x) h (λ r. all_append t xs y r k)
 
 -- one word more passes a test
-pub passed_more : (t : List ℕ → Bool) (ws : List (Bor (List ℕ))) (i : ℕ) (d : Bor (List ℕ)) → i < length ws → list_all t (take i (words_of ws)) ≡ true → t (get_or ws i d).now ≡ true → list_all t (take (i + 1) (words_of ws)) ≡ true
+pub passed_more : OneMorePasses
 passed_more t ws i d l h k = ap (list_all t) (word_more ws i d l) ∙ all_append t (take i (words_of ws)) (get_or ws i d).now h k
 
 and_false : (b : Bool) → (b && false) ≡ false
@@ -37,18 +40,14 @@ and_false true = refl
 and_false false = refl
 
 -- one word fails a test
-pub failed_at : (t : List ℕ → Bool) (ws : List (Bor (List ℕ))) (i : ℕ) (d : Bor (List ℕ)) → i < length ws → t (get_or ws i d).now ≡ false → list_all t (words_of ws) ≡ false
+pub failed_at : OneFails
 failed_at t [] i d l h = absurd (omega arith)
 failed_at t (w ∷ ws) zero d l h = ap (λ b. b && list_all t (words_of ws)) h
 failed_at t (w ∷ ws) (suc i) d l h = ap (λ b. t w.now && b) (failed_at t ws i d (omega arith) h) ∙ and_false (t w.now)
 
 -- one number more
-pub numbers_more : (f : List ℕ → ℕ) (ws : List (Bor (List ℕ))) (i : ℕ) (d : Bor (List ℕ)) (n : ℕ) (items more : List ℕ) → i < length ws → n ≡ f (get_or ws i d).now → items ≡ map f (take i (words_of ws)) → more ≡ items ++ n ∷ [] → more ≡ map f (take (i + 1) (words_of ws))
+pub numbers_more : OneNumberMore
 numbers_more f ws i d n items more l e h k = k ∙ (ap (λ x. x ++ n ∷ []) h ∙ (ap (λ y. map f (take i (words_of ws)) ++ y ∷ []) e ∙ (sym (map-append f (take i (words_of ws)) ((get_or ws i d).now ∷ [])) ∙ ap (map f) (sym (word_more ws i d l)))))
-
-pub or_true : (b : Bool) → (b || true) ≡ true
-or_true true = refl
-or_true false = refl
 
 listed_at : (xs : List (List ℕ)) (i : ℕ) (d x : List ℕ) → i < length xs → x ≡ get_or xs i d → list_any (bytes_eq x) xs ≡ true
 listed_at [] i d x l e = absurd (omega arith)

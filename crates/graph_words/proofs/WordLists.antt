@@ -7,9 +7,7 @@ use Rattle.graph_terms.specs.declared.table.Kind.{Kind}
 use Rattle.graph_terms.specs.declared.table.Place as table
 use Rattle.graph_terms.specs.Table.{kind_places}
 use Rattle.graph_words.specs.Draft.{Placed, is_own_word, as_place, form_of, same_word, words_in}
-
-abbrev pub words_of : List (Bor (List ℕ)) → List (List ℕ)
-words_of ws = map (λ w. w.now) ws
+use Rattle.graph_words.specs.Words.{words_of}
 
 pub begins_by_zip : (ws fixed : List (Bor (List ℕ))) → length fixed ≤ length ws →
     list_all (λ (p : Bor (List ℕ) × Bor (List ℕ)). bytes_eq p.1.now p.0.now) (zip ws fixed) ≡ starts_with same_word (words_of ws) (words_of fixed)

@@ -2,3 +2,5 @@ pub mod Text
 pub mod Words
 pub mod Cuts
 pub mod Draft
+pub mod Laws
+pub mod Known

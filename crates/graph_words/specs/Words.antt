@@ -1,10 +1,11 @@
 -- Words of a line, and how names and numbers are spelled.
-use Rattle.std.specs.Prelude.{ℕ, ◌+◌, ◌==◌, nat_lt, nat_le, Bool, true, false, cond, ◌&&◌, List, [], ◌∷◌, Option, Some, None}
+use Rattle.std.specs.Prelude.{ℕ, ◌+◌, ◌==◌, nat_lt, nat_le, Bool, true, false, cond, ◌&&◌, List, [], ◌∷◌, Option, Some, None, map}
 use Rattle.std.specs.List.{list_all, slice_split}
 use Rattle.index_spaces.specs.declared.limits.TheConstants.{LAST_POINT}
 use Rattle.graph_terms.specs.declared.limits.TheConstants.{MAX_COUNT}
 use Rattle.graph_terms.specs.Name.{is_name}
 use Rattle.basics.specs.Numbers.{number_up_to}
+use Rattle.std.proofs.Common.{Bor}
 
 -- the pieces of bytes between those that are c, one more than there are of these
 abbrev pub pieces : ℕ → List ℕ → List (List ℕ)
@@ -67,3 +68,6 @@ is_column w = is_two_names (pieces 46 w)
 abbrev pub first_piece : List (List ℕ) → List ℕ
 first_piece [] = []
 first_piece (p ∷ ps) = p
+
+abbrev pub words_of : List (Bor (List ℕ)) → List (List ℕ)
+words_of ws = map (λ w. w.now) ws

@@ -16,29 +16,10 @@ use Rattle.graph_writer.specs.WrittenWords.{spaced, part_text, comma_before, com
 use Rattle.graph_words.specs.Text.{row_words}
 use Rattle.std.proofs.lemmas.Option.{none-some, same_Some}
 
-pub flat_next : {X : Type 0} (f : X → List ℕ) (xs : List X) (i : ℕ) (d : X) → i < length xs → flat_map f (drop i xs) ≡ f (get_or xs i d) ++ flat_map f (drop (i + 1) xs)
-flat_next f [] i d h = absurd (omega arith)
-flat_next f (x ∷ xs) zero d h = refl
-flat_next f (x ∷ xs) (suc i) d h = flat_next f xs i d (omega arith) ∙ ap (λ n. f (get_or xs i d) ++ flat_map f (drop n (x ∷ xs))) (let e : suc (i + 1) ≡ suc i + 1 = omega arith in e)
-
-pub flat_at : {X : Type 0} (f : X → List ℕ) (xs : List X) (i : ℕ) (x : X) → slice_get xs i ≡ Some x → flat_map f (drop i xs) ≡ f x ++ flat_map f (drop (i + 1) xs)
-flat_at f [] i x h = absurd (none-some x h)
-flat_at f (y ∷ ys) zero x h = ap (λ z. f z ++ flat_map f ys) (same_Some y x h)
-flat_at f (y ∷ ys) (suc i) x h = flat_at f ys i x h ∙ ap (λ n. f x ++ flat_map f (drop n (y ∷ ys))) (let e : suc (i + 1) ≡ suc i + 1 = omega arith in e)
-
-pub flat_over : {X : Type 0} (f : X → List ℕ) (xs : List X) (i : ℕ) → length xs ≤ i → flat_map f (drop i xs) ≡ []
-flat_over f [] zero h = refl
-flat_over f [] (suc i) h = refl
-flat_over f (x ∷ xs) zero h = absurd (omega arith)
-flat_over f (x ∷ xs) (suc i) h = flat_over f xs i (omega arith)
-
 -- words with a space between each two, the first without one before it
 pub joined : (c : ℕ) (w : List ℕ) (ws : List (List ℕ)) → join_with_byte c (w ∷ ws) ≡ w ++ flat_map (λ v. c ∷ v) ws
 joined c w [] = sym (append-nil w)
 joined c w (v ∷ vs) = ap (λ x. w ++ c ∷ x) (joined c v vs)
-
-pub flat_item : {X : Type 0} (f : X → List ℕ) (xs : List X) (i : ℕ) (x : X) → i < length xs → x ≡ get_or xs i x → flat_map f (drop i xs) ≡ f x ++ flat_map f (drop (i + 1) xs)
-flat_item f xs i x h e = flat_next f xs i x h ∙ ap (λ y. f y ++ flat_map f (drop (i + 1) xs)) (sym e)
 
 pub flat_mapped : {X : Type 0} (f : X → List ℕ) (xs : List X) → flat_map (λ w. 32 ∷ w) (map f xs) ≡ flat_map (λ x. 32 ∷ f x) xs
 flat_mapped f [] = refl

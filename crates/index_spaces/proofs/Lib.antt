@@ -6,3 +6,4 @@ pub mod LawFacts
 pub mod RunFacts
 pub mod HeldFacts
 pub mod WriteFacts
+pub mod Public

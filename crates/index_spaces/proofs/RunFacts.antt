@@ -8,8 +8,8 @@ use Rattle.std.proofs.lemmas.List.{get_or_default, get_or_append_left, get_or-ap
 use Rattle.std.proofs.lemmas.List.FromFn.{length-map-range_with_len, get_or-map-range_with_len}
 use Rattle.index_spaces.specs.Space.{interval_has, has_point, interval_points, space_size, rank, IsSpace, point_at}
 use Rattle.index_spaces.specs.Column.{ColumnValue, cell_of}
-use Rattle.index_spaces.specs.Run.{interval_size, IsRun, IsRunAt, WritesRun}
-use Rattle.index_spaces.specs.Laws.{RunsOfSpaces, RunsAreWritten, IntervalsAscend, CellsAreWritten, EarlierPoints, SpacesAreWritten}
+use Rattle.index_spaces.specs.Run.{interval_size, IsRun, IsRunAt, WritesRun, written_over}
+use Rattle.index_spaces.specs.Laws.{RunsOfSpaces, RunsAreWritten, IntervalsAscend, CellsAreWritten, EarlierPoints, SpacesAreWritten, CutHasLength, WrittenRunsKeepLength}
 use Rattle.index_spaces.proofs.PointFacts.{rank-at, runs_up, ends_below, has_point-at, has_point-between, interval_has-parts}
 use Rattle.index_spaces.proofs.MergeFacts.{rank_rises, rank_bound}
 use Rattle.index_spaces.proofs.LawFacts.{interval_place, point_of_rank}
@@ -96,10 +96,6 @@ run_cells c i start n at up full e =
     ∙ ap (λ r. get_or c.cells r 0) (sym rank_is)
     ∙ sym (get_or-map-range_with_len (cell_of c) i.0 (i.1 + 1 - i.0) k (i.0 + k) d (omega (arith, e, short)) (omega arith)))
 
--- a list with a part of it written over
-abbrev pub written_over : List ℕ → ℕ → ℕ → List ℕ → List ℕ
-written_over cells start n ys = take start cells ++ (ys ++ drop n (drop start cells))
-
 over_inside : (cells ys : List ℕ) (start n j : ℕ) → start ≤ length cells → length ys ≡ n → j < n → get_or (written_over cells start n ys) (start + j) 0 ≡ get_or ys j 0
 over_inside cells ys start n j fits e h =
     let front = length-take-le start cells fits in
@@ -157,7 +153,7 @@ pub intervals_ascend : IntervalsAscend
 intervals_ascend s j k d a l h = ends_below 0 s j k d a.1 l h
 
 -- the length of a part of the cells
-pub length_cut : (cells : List ℕ) (start n : ℕ) → start + n ≤ length cells → length (take n (drop start cells)) ≡ n
+pub length_cut : CutHasLength
 length_cut cells start n h = length-take-le n (drop start cells) (let l = length-drop start cells in omega (arith, l))
 
 -- how many cells a run has, as the code counts them
@@ -182,7 +178,7 @@ run_element c i run p r h =
     ap (λ xs. get_or xs (p - i.0) 0) r ∙ get_or-map-range_with_len (cell_of c) i.0 (i.1 + 1 - i.0) (p - i.0) p 0 (omega (arith, parts)) (omega (arith, parts))
 
 -- a part of a vector's cells that is written over changes no length
-pub written_length : {Z : Type 0} (v : Vec ℕ Z) (s : List (ℕ × ℕ)) (i : ℕ × ℕ) (start n : ℕ) (ys : List ℕ) → IsRunAt s i start → length v.items ≡ space_size s → n ≡ interval_size i → length ys ≡ n → length (written_over v.items start n ys) ≡ v.len
+pub written_length : {Z : Type 0} → WrittenRunsKeepLength Z
 written_length v s i start n ys at full size short =
     let fits = at.fits in
     let front = length-take-le start v.items (omega (arith, fits, full)) in

@@ -1,13 +1,12 @@
 -- Writes at the points of a space, interval by interval, in columns that are held.
-use Rattle.std.proofs.Common.{◌≡◌, ℕ, ◌≤◌, true, List, [], length, get_or, take, ◌<◌, Option, Some, None, refl, ◌∙◌}
-use Rattle.std.specs.Option.{IsSomeAnd}
+use Rattle.std.proofs.Common.{ℕ, ◌≤◌, List, [], length, take, Option, refl, ◌∙◌}
 use Rattle.std.proofs.lemmas.Bool.{false≢true}
 use Rattle.std.proofs.lemmas.List.{take_all}
 use Rattle.std.proofs.lemmas.List.Folds.{list_any_at}
-use Rattle.index_spaces.specs.Space.{interval_has, has_point}
+use Rattle.index_spaces.specs.Space.{interval_has}
 use Rattle.index_spaces.specs.Column.{ColumnValue}
-use Rattle.index_spaces.specs.Held.{HoldsOtherwise}
 use Rattle.index_spaces.specs.Run.{WritesPoints}
+use Rattle.index_spaces.specs.Laws.{HeldAgain, HoldsOfHeld, PointsOfIntervals}
 
 pub none_written : (c : ColumnValue) (value : ℕ → ℕ) → WritesPoints c c [] value
 none_written c value = record { space = refl; inside = λ p h. absurd (false≢true h); outside = λ p h n. refl }
@@ -16,12 +15,12 @@ pub all_written : (old new : ColumnValue) (s : List (ℕ × ℕ)) (n : ℕ) (val
 all_written old new s n value h w = rw (take_all n s h) at w
 
 -- a column that was let go of and is held again
-pub held_again : (old mid new : List (ℕ × ColumnValue)) (c : ℕ) (x : ColumnValue) → HoldsOtherwise old mid c None → HoldsOtherwise mid new c (Some x) → HoldsOtherwise old new c (Some x)
+pub held_again : HeldAgain
 held_again old mid new c x out back = record { here = back.here; others = λ k n. back.others k n ∙ out.others k n }
 
-pub holds_over : (o : Option ColumnValue) (P : ColumnValue → Type 0) (x : ColumnValue) → o ≡ Some x → IsSomeAnd o P → P x
+pub holds_over : (o : Option ColumnValue) (P : ColumnValue → Type 0) → HoldsOfHeld o P
 holds_over o P x e h = rw e at h
 
 -- a point of one interval is a point of all
-pub point_in : (s : List (ℕ × ℕ)) (k : ℕ) (p : ℕ) → k < length s → interval_has (get_or s k (0, 0)) p ≡ true → has_point s p ≡ true
+pub point_in : PointsOfIntervals
 point_in s k p h has = list_any_at (λ i. interval_has i p) s k (0, 0) h has

@@ -1,12 +1,15 @@
 -- What holds of all spaces.
-use Rattle.std.specs.Prelude.{◌≡◌, ℕ, ◌==◌, cond, false, ◌+◌, ◌-◌, ◌^◌, ◌<◌, ◌≤◌, ◌↔◌, List, ◌++◌, length, take, drop, slice_index, slice_index_or, All, Contains, Some, None, IsTrue}
+use Rattle.std.specs.Prelude.{◌≡◌, ℕ, ◌==◌, cond, false, ◌+◌, ◌-◌, ◌^◌, ◌<◌, ◌≤◌, ◌↔◌, List, ◌++◌, length, take, drop, slice_index, slice_index_or, All, Contains, Some, None, IsTrue, Option, true, get_or}
 use Rattle.std.specs.List.Sorted.{IsStrictlyIncreasing}
 use Rattle.index_spaces.specs.declared.space.SpaceFault.TheVariants.{Reversed, Order}
 use Rattle.index_spaces.specs.declared.limits.TheConstants.{MAX_INTERVALS, MAX_POINTS}
 use Rattle.index_spaces.specs.Space.{interval_has, has_point, points, space_size, rank, point_at, IsSpace, IsWithin}
 use Rattle.index_spaces.specs.Column.{ColumnValue, cell_of, with_cell}
-use Rattle.index_spaces.specs.Run.{interval_size, IsRun, IsRunAt, WritesRun, WritesPoints}
+use Rattle.index_spaces.specs.Run.{interval_size, IsRun, IsRunAt, WritesRun, WritesPoints, written_over}
 use Rattle.index_spaces.specs.SpaceFault.{space_fault}
+use Rattle.index_spaces.specs.Held.{HoldsOtherwise}
+use Rattle.std.specs.Option.{IsSomeAnd}
+use Rattle.std.specs.declared.vec.Vec.{Vec}
 
 -- a point is listed exactly where an interval has it
 abbrev pub PointsAreListed : Type 0
@@ -77,3 +80,25 @@ EarlierPoints = (s : List (ℕ × ℕ)) (k : ℕ) (d : ℕ × ℕ) (p : ℕ) →
 abbrev pub SpacesAreWritten : Type 0
 SpacesAreWritten = (old now new : ColumnValue) (s : List (ℕ × ℕ)) (k : ℕ) (d : ℕ × ℕ) (value next : ℕ → ℕ) → IsWithin s old.space → k < length s → WritesPoints old now (take k s) value →
     WritesRun now new (slice_index_or s k d) next → ((p : ℕ) → IsTrue (interval_has (slice_index_or s k d) p) → next p ≡ value p) → WritesPoints old new (take (k + 1) s) value
+
+-- a column that was let go of and is held again is held as if it had been all the time
+abbrev pub HeldAgain : Type 0
+HeldAgain = (old mid new : List (ℕ × ColumnValue)) (c : ℕ) (x : ColumnValue) → HoldsOtherwise old mid c None → HoldsOtherwise mid new c (Some x) →
+    HoldsOtherwise old new c (Some x)
+
+-- what holds of a column that is held holds of the one that it is
+abbrev pub HoldsOfHeld : Option ColumnValue → (ColumnValue → Type 0) → Type 0
+HoldsOfHeld o P = (x : ColumnValue) → o ≡ Some x → IsSomeAnd o P → P x
+
+-- a point of one interval of a space is a point of the space
+abbrev pub PointsOfIntervals : Type 0
+PointsOfIntervals = (s : List (ℕ × ℕ)) (k : ℕ) (p : ℕ) → k < length s → interval_has (get_or s k (0, 0)) p ≡ true → has_point s p ≡ true
+
+-- a part of the cells has the length that was asked for, where there are so many
+abbrev pub CutHasLength : Type 0
+CutHasLength = (cells : List ℕ) (start n : ℕ) → start + n ≤ length cells → length (take n (drop start cells)) ≡ n
+
+-- a run that is written over leaves as many cells
+abbrev pub WrittenRunsKeepLength : Type 0 → Type 0
+WrittenRunsKeepLength Z = (v : Vec ℕ Z) (s : List (ℕ × ℕ)) (i : ℕ × ℕ) (start n : ℕ) (ys : List ℕ) → IsRunAt s i start → length v.items ≡ space_size s →
+    n ≡ interval_size i → length ys ≡ n → length (written_over v.items start n ys) ≡ v.len

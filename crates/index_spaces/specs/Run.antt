@@ -1,5 +1,5 @@
 -- Runs: the points of an interval that lies within a space stand side by side among the points of the space.
-use Rattle.std.specs.Prelude.{◌≡◌, ℕ, ◌+◌, ◌-◌, ◌%◌, ◌^◌, ◌<◌, ◌≤◌, min, max, ◌⊎◌, false, List, IsTrue}
+use Rattle.std.specs.Prelude.{◌≡◌, ℕ, ◌+◌, ◌-◌, ◌%◌, ◌^◌, ◌<◌, ◌≤◌, min, max, ◌⊎◌, false, List, IsTrue, ◌++◌, take, drop}
 use Rattle.index_spaces.specs.declared.Op.{Op}
 use Rattle.index_spaces.specs.declared.Op.TheVariants.{Sum, Min, Max}
 use Rattle.index_spaces.specs.Space.{interval_has, has_point, space_size, rank}
@@ -37,3 +37,7 @@ pub record WritesPoints (old new : ColumnValue) (s : List (ℕ × ℕ)) (value :
   pub space : new.space ≡ old.space
   pub inside : (p : ℕ) → IsTrue (has_point s p) → cell_of new p ≡ value p
   pub outside : (p : ℕ) → IsTrue (has_point old.space p) → has_point s p ≡ false → cell_of new p ≡ cell_of old p
+
+-- a list with a part of it written over
+abbrev pub written_over : List ℕ → ℕ → ℕ → List ℕ → List ℕ
+written_over cells start n ys = take start cells ++ (ys ++ drop n (drop start cells))

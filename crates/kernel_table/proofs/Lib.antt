@@ -5,3 +5,4 @@ pub mod Sums
 pub mod Counts
 pub mod Seen
 pub mod Fitting
+pub mod Changes

@@ -4,7 +4,7 @@ use Rattle.std.specs.Prelude.{Contains, Some}
 use Rattle.index_spaces.specs.Space.{has_point, IsSpace, IsWithin}
 use Rattle.index_spaces.specs.Column.{ColumnValue, cell_of}
 use Rattle.index_spaces.specs.Held.{held_at}
-use Rattle.index_spaces.proofs.WriteFacts.{holds_over}
+use Rattle.index_spaces.proofs.Public.{holds_over}
 use Rattle.graph_terms.specs.declared.verb.Access.{Access}
 use Rattle.graph_terms.specs.Access.{is_reduction}
 use Rattle.graph_meaning.specs.Effect.{Cells, seen}

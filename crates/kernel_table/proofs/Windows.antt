@@ -112,12 +112,3 @@ point_fits_above low (i ∷ s) p a h =
 pub no_point_above : (s : List (ℕ × ℕ)) (f : ℕ → ℕ) (p : ℕ) → IsSpace s → 2 ^ 32 ≤ p → 0 ≡ part s f p
 no_point_above s f p a h =
     sym (cond-false (has_point s p) (f p) 0 (false_from_ne_true (has_point s p) (λ e. let fits = point_fits_above 0 s p a.1 e in omega arith)))
-
--- the end of an interval is a number of 32 bits
-ends_fit_above : (low : ℕ) (s : List (ℕ × ℕ)) (k : ℕ) → AscendAbove low s → k < length s → (get_or s k (0, 0)).1 < 2 ^ 32
-ends_fit_above low [] k a h = absurd (omega arith)
-ends_fit_above low (i ∷ s) zero a h = a.2
-ends_fit_above low (i ∷ s) (suc k) a h = ends_fit_above (i.1 + 2) s k a.3 (omega arith)
-
-pub ends_fit : (s : List (ℕ × ℕ)) (k : ℕ) → IsSpace s → k < length s → (get_or s k (0, 0)).1 < 2 ^ 32
-ends_fit s k a h = ends_fit_above 0 s k a.1 h

@@ -1,50 +1,41 @@
 //! Dot: the sum of the products of two columns.
 
-ghost use Rattle.std.specs.Prelude.{ℕ, ◌≡◌, ◌≢◌, ◌+◌, ◌*◌, ◌<◌, length, map, sum, slice_index};
+ghost use Rattle.std.specs.Prelude.{ℕ, ◌≡◌, ◌+◌, ◌*◌, ◌<◌, length, map, sum, slice_index};
 ghost use Rattle.index_spaces.specs.Space.{IsWithin, points};
 ghost use Rattle.basics.specs.Lists.{numbers_below};
 ghost use Rattle.index_spaces.specs.Column.{cell_of};
-ghost use Rattle.index_spaces.specs.Run.{WritesPoints};
-ghost use Rattle.graph_terms.specs.declared.outcome.Verdict.TheVariants.{Fine};
 ghost use Rattle.graph_terms.specs.declared.table.Kernel.TheVariants.{Dot};
 ghost use Rattle.graph_meaning.specs.Effect.{wrapped, wrapped_sum};
-ghost use Rattle.kernel_table.specs.Kernels.{HoldsOverSpace, RunsKernel};
+ghost use Rattle.kernel_table.specs.Kernels.{HoldsOverSpace, OverSpace, Makes};
 
-use graph_meaning::held_cells::{cells_by_point, changes_by_point, seen_cells};
+use crate::source::source;
+use crate::walk::{RunStep, set_each, write_runs};
 use graph_model::graph::Graph;
 use index_spaces::column::Column;
 use index_spaces::held::Held;
-use index_spaces::laws::{
-    earlier_points, points_are_listed, runs_are_written, runs_of_spaces, spaces_are_written,
-};
+use index_spaces::laws::{points_are_listed, runs_of_spaces};
 use index_spaces::space::Space;
 
-/// Adds the sum of the products of two columns over `s` to each cell of the third over `t`.
-pub(crate) fn run_dot(graph: &Graph, held: &mut Held, x: u32, y: u32, z: u32, s: u32, t: u32)
-    requires one { HoldsOverSpace graph.now held.old x s }
-    requires other { HoldsOverSpace graph.now held.old y s }
-    requires target { HoldsOverSpace graph.now held.old z t }
-    requires first { x ≢ z }
-    requires second { y ≢ z }
-    ensures { RunsKernel graph.now held.old held.new Fine (Dot x y z s t) }
+/// Adds the sum of the products of two columns over `s` to each cell over `t`.
+pub(crate) fn dot_column(
+    graph: &Graph,
+    held: &Held,
+    before: Column,
+    x: u32,
+    y: u32,
+    s: u32,
+    t: u32,
+) -> Column
+    requires one { HoldsOverSpace graph.now held.now x s }
+    requires other { HoldsOverSpace graph.now held.now y s }
+    requires target { OverSpace graph.now before t }
+    ensures { (z : ℕ) → Makes graph.now held.now before result (Dot x y z s t) }
 {
-    cells_by_point();
-    seen_cells();
-    changes_by_point();
     points_are_listed();
-    let space = graph.space(s);
-    let totals = graph.space(t);
-    let _ = totals.intervals();
-    let before = held.take(z);
-    let _ = before.space().intervals();
-    let one = held.column(x).unwrap();
-    let _ = one.space().intervals();
-    let other = held.column(y).unwrap();
-    let _ = other.space().intervals();
-    let product = dot_points(one, other, space);
-    let after = add_points(before, totals, product);
-    let _ = after.space();
-    held.add(z, after);
+    let one = source(held, x);
+    let other = source(held, y);
+    let value = dot_points(one, other, graph.space(s));
+    write_runs(before, graph.space(t), &mut AddValue { value })
 }
 
 pub(crate) fn dot_points(x: &Column, y: &Column, space: &Space) -> u64
@@ -73,28 +64,19 @@ fn add_products(one: &[u64], other: &[u64], first: u64) -> u64
     so_far
 }
 
-pub(crate) fn add_points(z: Column, totals: &Space, value: u64) -> Column
-    requires { IsWithin totals.now z.space }
-    ensures { WritesPoints z result totals.now (λ p. wrapped (cell_of z p + value)) }
-{
-    earlier_points();
-    runs_of_spaces();
-    runs_are_written();
-    spaces_are_written();
-    let (over, mut cells) = z.into_parts();
-    for interval in totals.intervals() {
-        let start = over.start_of(*interval) as usize;
-        let size = (interval.1 - interval.0) as usize + 1;
-        add_to_all(&mut cells[start..start + size], value);
-    }
-    Column::from_parts(over, cells)
+/// Adds a value to each cell.
+#[derive(Drop)]
+struct AddValue {
+    value: u64,
 }
 
-/// Adds a value to each cell, modulo 2^64.
-fn add_to_all(cells: &mut [u64], value: u64)
-    ensures { (k : ℕ) → k < length cells.old → slice_index cells.new k ≡ wrapped (slice_index cells.old k + value) }
-{
-    for k in 0..cells.len() {
-        cells[k] = cells[k].wrapping_add(value);
+impl RunStep for AddValue {
+    ghost value = { λ step space p cell. wrapped (cell + step.value) };
+
+    ghost IsReady = { λ step space k. Unit {0} };
+
+    fn write(&mut self, _space: &Space, _k: usize, cells: &mut [u64]) {
+        let value = self.value;
+        set_each(cells, |_, cell| cell.wrapping_add(value));
     }
 }

@@ -8,6 +8,7 @@ ghost use Rattle.graph_terms.specs.declared.table.Kernel.TheVariants.{Expect};
 ghost use Rattle.graph_meaning.specs.Effect.{all_within};
 ghost use Rattle.kernel_table.specs.Kernels.{HoldsOverSpace, RunsKernel};
 
+use crate::source::source;
 use graph_meaning::held_cells::{cells_by_point, seen_cells};
 use graph_model::graph::Graph;
 use graph_terms::outcome::Verdict;
@@ -26,9 +27,7 @@ pub(crate) fn run_expect(graph: &Graph, held: &Held, x: u32, s: u32, low: u64, h
     seen_cells();
     points_are_listed();
     let space = graph.space(s);
-    let from = held.column(x).unwrap();
-    let _ = from.space().intervals();
-    verdict_of(points_within(from, space, low, high))
+    verdict_of(points_within(source(held, x), space, low, high))
 }
 
 fn verdict_of(fine: bool) -> Verdict

@@ -1,72 +1,69 @@
 //! Gather: cells picked by the numbers in another column.
 
-ghost use Rattle.std.specs.Prelude.{ℕ, ◌≡◌, ◌≢◌, ◌<◌, ◌%◌, length, slice_index};
+ghost use Rattle.std.specs.Prelude.{ℕ, ◌≡◌, ◌<◌, ◌%◌, length, slice_index};
 ghost use Rattle.index_spaces.specs.Space.{IsWithin, point_at, space_size};
 ghost use Rattle.index_spaces.specs.Column.{cell_of};
-ghost use Rattle.index_spaces.specs.Run.{WritesPoints};
-ghost use Rattle.graph_terms.specs.declared.outcome.Verdict.TheVariants.{Fine};
 ghost use Rattle.graph_terms.specs.declared.table.Kernel.TheVariants.{Gather};
-ghost use Rattle.kernel_table.specs.Kernels.{HoldsOverSpace, RunsKernel};
+ghost use Rattle.kernel_table.specs.Kernels.{HoldsOverSpace, OverSpace, Makes};
 
-use graph_meaning::held_cells::{cells_by_point, changes_by_point, seen_cells};
+use crate::source::source;
+use crate::walk::{RunStep, run_of, write_runs};
 use graph_model::graph::Graph;
 use index_spaces::column::Column;
 use index_spaces::held::Held;
-use index_spaces::laws::{rank_of_point, runs_are_written, runs_of_spaces, spaces_are_written};
+use index_spaces::laws::{rank_of_point, runs_of_spaces};
 use index_spaces::space::Space;
 
-/// Sets each cell of `z` over `s` to the cell of `y` at the point whose rank in `t` is the cell of
-/// `x`, modulo the number of points there.
-pub(crate) fn run_gather(graph: &Graph, held: &mut Held, x: u32, y: u32, z: u32, s: u32, t: u32)
-    requires numbers { HoldsOverSpace graph.now held.old x s }
-    requires source { HoldsOverSpace graph.now held.old y t }
-    requires target { HoldsOverSpace graph.now held.old z s }
-    requires first { x ≢ z }
-    requires second { y ≢ z }
-    ensures { RunsKernel graph.now held.old held.new Fine (Gather x y z s t) }
+/// Sets each cell over `s` to the cell of `y` at the point whose rank in `t` is the cell of `x`,
+/// modulo the number of points there.
+pub(crate) fn gather_column(
+    graph: &Graph,
+    held: &Held,
+    before: Column,
+    x: u32,
+    y: u32,
+    s: u32,
+    t: u32,
+) -> Column
+    requires numbers { HoldsOverSpace graph.now held.now x s }
+    requires source { HoldsOverSpace graph.now held.now y t }
+    requires target { OverSpace graph.now before s }
+    ensures { (z : ℕ) → Makes graph.now held.now before result (Gather x y z s t) }
 {
-    cells_by_point();
-    seen_cells();
-    changes_by_point();
     rank_of_point();
-    let space = graph.space(s);
     let picks = graph.space(t);
-    let _ = space.intervals();
     let _ = picks.intervals();
     let _ = picks.size();
-    let before = held.take(z);
-    let _ = before.space().intervals();
-    let numbers = held.column(x).unwrap();
-    let _ = numbers.space().intervals();
-    let from = held.column(y).unwrap();
-    let _ = from.space().intervals();
-    let after = gather_points(numbers, from, before, space, picks);
-    let _ = after.space();
-    held.add(z, after);
+    let numbers = source(held, x);
+    let from = source(held, y);
+    write_runs(
+        before,
+        graph.space(s),
+        &mut PickedCells {
+            numbers,
+            from,
+            picks,
+        },
+    )
 }
 
-pub(crate) fn gather_points(
-    x: &Column,
-    y: &Column,
-    z: Column,
-    space: &Space,
-    picks: &Space,
-) -> Column
-    requires here { IsWithin space.now z.space }
-    requires numbers { IsWithin space.now x.now.space }
-    requires there { IsWithin picks.now y.now.space }
-    ensures { WritesPoints z result space.now (λ p. cell_of y.now (point_at picks.now (cell_of x.now p % space_size picks.now))) }
-{
-    runs_of_spaces();
-    runs_are_written();
-    spaces_are_written();
-    let (over, mut cells) = z.into_parts();
-    for interval in space.intervals() {
-        let start = over.start_of(*interval) as usize;
-        let size = (interval.1 - interval.0) as usize + 1;
-        pick_all(&mut cells[start..start + size], x.run(*interval), y, picks);
+/// Sets each cell to the one that a number picks.
+#[derive(Drop)]
+struct PickedCells<'a> {
+    numbers: &'a Column,
+    from: &'a Column,
+    picks: &'a Space,
+}
+
+impl<'a> RunStep for PickedCells<'a> {
+    ghost value = { λ step space p cell.
+        cell_of step.from.now (point_at step.picks.now (cell_of step.numbers.now p % space_size step.picks.now)) };
+
+    ghost IsReady = { λ step space k. IsWithin space step.numbers.now.space × IsWithin step.picks.now step.from.now.space };
+
+    fn write(&mut self, space: &Space, k: usize, cells: &mut [u64]) {
+        pick_all(cells, run_of(self.numbers, space, k), self.from, self.picks);
     }
-    Column::from_parts(over, cells)
 }
 
 /// Writes for each number the cell that it picks: from side by side cells where the space is one

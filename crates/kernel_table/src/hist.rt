@@ -1,15 +1,14 @@
 //! Hist: how often each rank comes among the numbers of a column.
 
-ghost use Rattle.std.specs.Prelude.{◌≡◌, ◌≢◌, ◌+◌, ◌%◌, ◌==◌, cond, length, count_by};
+ghost use Rattle.std.specs.Prelude.{ℕ, ◌≡◌, ◌+◌, ◌%◌, ◌==◌, cond, length, count_by};
 ghost use Rattle.index_spaces.specs.Space.{IsWithin, points, rank, space_size};
 ghost use Rattle.index_spaces.specs.Column.{cell_of};
 ghost use Rattle.index_spaces.specs.Run.{WritesPoints};
-ghost use Rattle.graph_terms.specs.declared.outcome.Verdict.TheVariants.{Fine};
 ghost use Rattle.graph_terms.specs.declared.table.Kernel.TheVariants.{Hist};
 ghost use Rattle.graph_meaning.specs.Effect.{wrapped};
-ghost use Rattle.kernel_table.specs.Kernels.{HoldsOverSpace, RunsKernel, column_over};
+ghost use Rattle.kernel_table.specs.Kernels.{HoldsOverSpace, OverSpace, Makes, column_over};
 
-use graph_meaning::held_cells::{cells_by_point, changes_by_point, seen_cells};
+use crate::source::source;
 use graph_model::graph::Graph;
 use index_spaces::column::Column;
 use index_spaces::held::Held;
@@ -20,29 +19,25 @@ use index_spaces::space::Space;
 
 /// Adds to the cell of each point of `t` how many of the other column's numbers over `s` are its
 /// rank, modulo the number of points of `t`.
-pub(crate) fn run_hist(graph: &Graph, held: &mut Held, x: u32, y: u32, s: u32, t: u32)
-    requires source { HoldsOverSpace graph.now held.old x s }
-    requires target { HoldsOverSpace graph.now held.old y t }
-    requires distinct { x ≢ y }
-    ensures { RunsKernel graph.now held.old held.new Fine (Hist x y s t) }
+pub(crate) fn hist_column(
+    graph: &Graph,
+    held: &Held,
+    before: Column,
+    x: u32,
+    s: u32,
+    t: u32,
+) -> Column
+    requires source { HoldsOverSpace graph.now held.now x s }
+    requires target { OverSpace graph.now before t }
+    ensures { (y : ℕ) → Makes graph.now held.now before result (Hist x y s t) }
 {
-    cells_by_point();
-    seen_cells();
-    changes_by_point();
     points_are_listed();
-    let space = graph.space(s);
     let bins = graph.space(t);
     let _ = bins.intervals();
-    let before = held.take(y);
-    let _ = before.space().intervals();
-    let from = held.column(x).unwrap();
-    let _ = from.space().intervals();
-    let after = hist_points(from, before, space, bins);
-    let _ = after.space();
-    held.add(y, after);
+    hist_points(source(held, x), before, graph.space(s), bins)
 }
 
-pub(crate) fn hist_points(x: &Column, y: Column, space: &Space, bins: &Space) -> Column
+fn hist_points(x: &Column, y: Column, space: &Space, bins: &Space) -> Column
     requires here { IsWithin bins.now y.space }
     requires there { IsWithin space.now x.now.space }
     ensures { WritesPoints y result bins.now (λ q. wrapped (cell_of y q

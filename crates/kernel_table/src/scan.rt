@@ -1,59 +1,49 @@
 //! Scan: running sums along a space.
 
-ghost use Rattle.std.specs.Prelude.{ℕ, ◌≡◌, ◌≢◌, ◌+◌, ◌<◌, length, take, filter, sum, nat_le, slice_index};
+ghost use Rattle.std.specs.Prelude.{ℕ, ◌≡◌, ◌+◌, ◌<◌, length, take, filter, sum, nat_le, slice_index};
 ghost use Rattle.index_spaces.specs.Space.{IsWithin, points};
 ghost use Rattle.index_spaces.specs.Column.{cell_of};
-ghost use Rattle.index_spaces.specs.Run.{WritesPoints};
-ghost use Rattle.graph_terms.specs.declared.outcome.Verdict.TheVariants.{Fine};
 ghost use Rattle.graph_terms.specs.declared.table.Kernel.TheVariants.{Scan};
 ghost use Rattle.graph_meaning.specs.Effect.{wrapped, wrapped_sum};
-ghost use Rattle.kernel_table.specs.Kernels.{HoldsOverSpace, RunsKernel};
+ghost use Rattle.kernel_table.specs.Kernels.{HoldsOverSpace, OverSpace, Makes};
 
-use graph_meaning::held_cells::{cells_by_point, changes_by_point, seen_cells};
+use crate::source::source;
+use crate::walk::{RunStep, run_of, write_runs};
 use graph_model::graph::Graph;
 use index_spaces::column::Column;
 use index_spaces::held::Held;
-use index_spaces::laws::{points_are_listed, runs_are_written, runs_of_spaces, spaces_are_written};
+use index_spaces::laws::points_are_listed;
 use index_spaces::space::Space;
 
 /// Sets each cell over a space to the sum of the other column's cells at its point and those below it.
-pub(crate) fn run_scan(graph: &Graph, held: &mut Held, x: u32, y: u32, s: u32)
-    requires source { HoldsOverSpace graph.now held.old x s }
-    requires target { HoldsOverSpace graph.now held.old y s }
-    requires distinct { x ≢ y }
-    ensures { RunsKernel graph.now held.old held.new Fine (Scan x y s) }
+pub(crate) fn scan_column(graph: &Graph, held: &Held, before: Column, x: u32, s: u32) -> Column
+    requires source { HoldsOverSpace graph.now held.now x s }
+    requires target { OverSpace graph.now before s }
+    ensures { (y : ℕ) → Makes graph.now held.now before result (Scan x y s) }
 {
-    cells_by_point();
-    seen_cells();
-    changes_by_point();
     points_are_listed();
-    let space = graph.space(s);
-    let _ = space.intervals();
-    let before = held.take(y);
-    let _ = before.space().intervals();
-    let from = held.column(x).unwrap();
-    let _ = from.space().intervals();
-    let after = scan_points(from, before, space);
-    let _ = after.space();
-    held.add(y, after);
+    let from = source(held, x);
+    write_runs(before, graph.space(s), &mut RunningSums { from, so_far: 0 })
 }
 
-pub(crate) fn scan_points(x: &Column, y: Column, space: &Space) -> Column
-    requires here { IsWithin space.now y.space }
-    requires there { IsWithin space.now x.now.space }
-    ensures { WritesPoints y result space.now (λ p. wrapped_sum (cell_of x.now) (filter (λ q. nat_le q p) (points space.now))) }
-{
-    runs_of_spaces();
-    runs_are_written();
-    spaces_are_written();
-    let (over, mut cells) = y.into_parts();
-    let mut so_far = 0;
-    for interval in space.intervals() {
-        let start = over.start_of(*interval) as usize;
-        let size = (interval.1 - interval.0) as usize + 1;
-        so_far = sum_along(&mut cells[start..start + size], x.run(*interval), so_far);
+/// Sets each cell to the sum of a column's cells up to its point.
+#[derive(Drop)]
+struct RunningSums<'a> {
+    from: &'a Column,
+    so_far: u64,
+}
+
+impl<'a> RunStep for RunningSums<'a> {
+    ghost value = { λ step space p cell. wrapped_sum (cell_of step.from.now) (filter (λ q. nat_le q p) (points space)) };
+
+    ghost IsReady = { λ step space k. IsWithin space step.from.now.space
+        × (step.so_far ≡ wrapped_sum (cell_of step.from.now) (points (take k space))) };
+
+    fn write(&mut self, space: &Space, k: usize, cells: &mut [u64]) {
+        let _ = space.intervals();
+        let last = sum_along(cells, run_of(self.from, space, k), self.so_far);
+        self.so_far = last;
     }
-    Column::from_parts(over, cells)
 }
 
 /// Writes the sums of a first value and the values up to each place, modulo 2^64, and gives the last.

@@ -1,59 +1,54 @@
 //! Stencil: the sum over a point and its two neighbors.
 
-ghost use Rattle.std.specs.Prelude.{ℕ, ◌≡◌, ◌≢◌, ◌+◌, ◌-◌, ◌<◌, ◌≤◌, ◌^◌, cond, length, filter, slice_index, IsTrue};
+ghost use Rattle.std.specs.Prelude.{ℕ, ◌≡◌, ◌+◌, ◌-◌, ◌<◌, ◌≤◌, ◌^◌, cond, length, filter, slice_index, IsTrue};
 ghost use Rattle.index_spaces.specs.Space.{IsWithin, has_point};
 ghost use Rattle.index_spaces.specs.Column.{cell_of};
-ghost use Rattle.index_spaces.specs.Run.{IsRun, WritesPoints};
-ghost use Rattle.graph_terms.specs.declared.outcome.Verdict.TheVariants.{Fine};
+ghost use Rattle.index_spaces.specs.Run.{IsRun};
 ghost use Rattle.graph_terms.specs.declared.table.Kernel.TheVariants.{Stencil};
 ghost use Rattle.graph_meaning.specs.Effect.{around, wrapped, wrapped_sum};
-ghost use Rattle.kernel_table.specs.Kernels.{HoldsOverSpace, RunsKernel};
+ghost use Rattle.kernel_table.specs.Kernels.{HoldsOverSpace, OverSpace, Makes};
 
-use graph_meaning::held_cells::{cells_by_point, changes_by_point, seen_cells};
+use crate::source::source;
+use crate::walk::{RunStep, write_runs};
 use graph_model::graph::Graph;
 use index_spaces::column::Column;
 use index_spaces::held::Held;
-use index_spaces::laws::{runs_are_written, runs_of_spaces, spaces_are_written};
 use index_spaces::space::Space;
 
 /// Sets each cell over `s` to the sum of the other column's cells at its point and the two beside
 /// it, as far as these lie in `r`.
-pub(crate) fn run_stencil(graph: &Graph, held: &mut Held, x: u32, y: u32, r: u32, s: u32)
-    requires source { HoldsOverSpace graph.now held.old x r }
-    requires target { HoldsOverSpace graph.now held.old y s }
-    requires distinct { x ≢ y }
-    ensures { RunsKernel graph.now held.old held.new Fine (Stencil x y r s) }
+pub(crate) fn stencil_column(
+    graph: &Graph,
+    held: &Held,
+    before: Column,
+    x: u32,
+    r: u32,
+    s: u32,
+) -> Column
+    requires source { HoldsOverSpace graph.now held.now x r }
+    requires target { OverSpace graph.now before s }
+    ensures { (y : ℕ) → Makes graph.now held.now before result (Stencil x y r s) }
 {
-    cells_by_point();
-    seen_cells();
-    changes_by_point();
+    let from = source(held, x);
     let read = graph.space(r);
-    let space = graph.space(s);
-    let _ = space.intervals();
-    let before = held.take(y);
-    let _ = before.space().intervals();
-    let from = held.column(x).unwrap();
-    let _ = from.space().intervals();
-    let after = stencil_points(from, before, read, space);
-    let _ = after.space();
-    held.add(y, after);
+    write_runs(before, graph.space(s), &mut WindowSums { from, read })
 }
 
-pub(crate) fn stencil_points(x: &Column, y: Column, read: &Space, space: &Space) -> Column
-    requires here { IsWithin space.now y.space }
-    requires there { IsWithin read.now x.now.space }
-    ensures { WritesPoints y result space.now (λ p. wrapped_sum (cell_of x.now) (filter (has_point read.now) (around p))) }
-{
-    runs_of_spaces();
-    runs_are_written();
-    spaces_are_written();
-    let (over, mut cells) = y.into_parts();
-    for interval in space.intervals() {
-        let start = over.start_of(*interval) as usize;
-        let size = (interval.1 - interval.0) as usize + 1;
-        sum_windows(&mut cells[start..start + size], interval.0, x, read);
+/// Sets each cell to the sum of a column's cells around its point.
+#[derive(Drop)]
+struct WindowSums<'a> {
+    from: &'a Column,
+    read: &'a Space,
+}
+
+impl<'a> RunStep for WindowSums<'a> {
+    ghost value = { λ step space p cell. wrapped_sum (cell_of step.from.now) (filter (has_point step.read.now) (around p)) };
+
+    ghost IsReady = { λ step space k. IsWithin step.read.now step.from.now.space };
+
+    fn write(&mut self, space: &Space, k: usize, cells: &mut [u64]) {
+        sum_windows(cells, space.intervals()[k].0, self.from, self.read);
     }
-    Column::from_parts(over, cells)
 }
 
 /// Writes the sums for the points from the first on.

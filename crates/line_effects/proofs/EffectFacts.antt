@@ -10,10 +10,10 @@ use Rattle.graph_terms.specs.declared.outcome.Verdict.{Verdict}
 use Rattle.graph_terms.specs.declared.outcome.Verdict.TheVariants.{Fine}
 use Rattle.graph_terms.specs.declared.format.Format.{Format}
 use Rattle.graph_terms.specs.declared.table.Kernel.{Kernel}
-use Rattle.graph_terms.specs.declared.table.Kernel.TheVariants.{Iota, Axpy, Stencil, Hist, Scan, Dot, Expect, Gather}
+use Rattle.graph_terms.specs.declared.table.Kernel.TheVariants.{Expect}
 use Rattle.graph_terms.specs.declared.verb.Verb.{Verb}
 use Rattle.graph_terms.specs.declared.verb.Verb.TheVariants.{User, Trigger, Cancel, Merge, MergeIgnore, Phase, Arrive, Acquire, Release, Fill, Copy, Reduce, Task}
-use Rattle.graph_terms.specs.Graph.{GraphValue, verb_at, space_at, named_spaces, column_space}
+use Rattle.graph_terms.specs.Graph.{GraphValue, space_at, named_spaces, column_space}
 use Rattle.graph_terms.specs.declared.verb.Access.{Access}
 use Rattle.graph_meaning.specs.HeldCells.{HasCells, MakesChanges, HoldsOver, ColumnsOfChanges}
 use Rattle.graph_terms.specs.Fits.{IsGraph, repeats}
@@ -29,8 +29,9 @@ use Rattle.graph_meaning.specs.Effect.{Cells, CellChange, Effect, effect, cells_
 use Rattle.index_spaces.specs.Space.{points, IsWithin}
 use Rattle.index_spaces.specs.Column.{ColumnValue}
 use Rattle.kernel_table.specs.Kernels.{FitsHeld}
+use Rattle.line_effects.specs.Laws.{VerbOfLine, AccessesAreListed, MovedByAccess}
 
-pub verb_is : (g : GraphValue) (i : ℕ) (l : Line) → slice_get g.lines i ≡ Some l → verb_at g i ≡ Some l.verb
+pub verb_is : VerbOfLine
 verb_is g i l h = ap (option_map (λ (x : Line). x.verb)) h
 
 -- the effect of a line, by its verb
@@ -93,14 +94,8 @@ accesses_in f v = map (in_format f) (verb_accesses v)
 
 -- a kernel has the same ones in each format
 kernel_in : (f : Format) (k : Kernel) → accesses_in f (Task k) ≡ kernel_accesses k
-kernel_in f (Iota x s v) = refl
-kernel_in f (Axpy x y s v) = refl
-kernel_in f (Stencil x y s t) = refl
-kernel_in f (Hist x y s t) = refl
-kernel_in f (Scan x y s) = refl
-kernel_in f (Dot x y z s t) = refl
 kernel_in f (Expect x s low high) = refl
-kernel_in f (Gather x y z s t) = refl
+kernel_in f _ = refl
 
 -- the accesses of a line by its verb
 pub accesses_are : (g : GraphValue) (i : ℕ) (l : Line) (v : Verb) → slice_get g.lines i ≡ Some l → l.verb ≡ v → accesses g i ≡ accesses_in g.format v
@@ -112,7 +107,7 @@ access_at g i k a xs e h = ap (λ ys. slice_get ys k) e ∙ h
 pub move_at : (g : GraphValue) (i k : ℕ) (a : Access) → slice_get (accesses g i) k ≡ Some a → slice_get (moves g i) k ≡ Some a.column
 move_at g i k a h = slice_get-map (λ (x : Access). x.column) (accesses g i) k ∙ ap (option_map (λ (x : Access). x.column)) h
 
-pub access_listed : (g : GraphValue) (i k : ℕ) (a : Access) → slice_get (accesses g i) k ≡ Some a → Contains (accesses g i) a
+pub access_listed : AccessesAreListed
 access_listed g i k a h = (k, slice_get_within (accesses g i) k a h, get_or_from_slice_get (accesses g i) k a a h)
 
 -- the accesses of a line, by its verb: their spaces, and their columns where they are held
@@ -157,7 +152,7 @@ none_repeats [] h = refl
 none_repeats (x ∷ xs) h = or_from (list_any (nat_eq x) xs) (repeats nat_eq xs) (none_alike x xs (λ k y e. h 0 (suc k) x y (omega arith) refl e)) (none_repeats xs (λ j k a b l e f. h (suc j) (suc k) a b (omega arith) e f))
 
 -- an access by the column that it moves
-pub access_moved : (g : GraphValue) (i k c : ℕ) → slice_get (moves g i) k ≡ Some c → (a : Access) × (slice_get (accesses g i) k ≡ Some a) × (a.column ≡ c)
+pub access_moved : MovedByAccess
 access_moved g i k c h = by_access (slice_get (accesses g i) k) refl (sym (slice_get-map (λ (x : Access). x.column) (accesses g i) k) ∙ h)
   where
     by_access : (o : Option Access) → slice_get (accesses g i) k ≡ o → option_map (λ (x : Access). x.column) o ≡ Some c → (a : Access) × (slice_get (accesses g i) k ≡ Some a) × (a.column ≡ c)

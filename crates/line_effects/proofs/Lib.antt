@@ -4,3 +4,4 @@ pub mod MoveFacts
 pub mod MovingFacts
 pub mod HomesFacts
 pub mod PointWrites
+pub mod Public

@@ -11,6 +11,7 @@ use Rattle.graph_terms.specs.declared.outcome.Verdict.TheVariants.{Fine, Fault}
 use Rattle.graph_terms.specs.Graph.{GraphValue, space_at, verb_at}
 use Rattle.graph_meaning.specs.Effect.{Cells, effect, verb_verdict, verb_changes, kernel_verdict, kernel_changes}
 use Rattle.graph_meaning.specs.Evaluation.{made_by}
+use Rattle.line_effects.specs.Laws.{VerdictMakesChanges}
 
 -- only an expectation faults, and it changes nothing
 made_by_kernel : (space : ℕ → List (ℕ × ℕ)) (cells : Cells) (k : Kernel) → made_by (kernel_verdict space cells k) (kernel_changes space cells k) ≡ kernel_changes space cells k
@@ -29,5 +30,5 @@ made_of : (g : GraphValue) (cells : Cells) (o : Option Verb) → made_by (option
 made_of g cells None = refl
 made_of g cells (Some v) = made_by_verb (space_at g) cells v
 
-pub all_made : (g : GraphValue) (i : ℕ) (cells : Cells) (verdict : Verdict) → verdict ≡ (effect g i cells).verdict → made_by verdict (effect g i cells).changes ≡ (effect g i cells).changes
+pub all_made : VerdictMakesChanges
 all_made g i cells verdict e = ap (λ v. made_by v (effect g i cells).changes) e ∙ made_of g cells (verb_at g i)

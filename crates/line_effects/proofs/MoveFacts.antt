@@ -1,6 +1,6 @@
 -- The columns of a line, held one after another.
 use Rattle.std.proofs.Common.{◌≡◌, ℕ, ◌+◌, ◌<◌, ◌≤◌, true, ◌⊎◌, inl, inr, List, [], length, refl, sym, ◌∙◌, ap, subst, arith}
-use Rattle.std.specs.Prelude.{Option, Some, None, IsSome, is_some, slice_get, option_map, Contains}
+use Rattle.std.specs.Prelude.{Option, Some, None, IsSome, is_some, slice_get, option_map}
 use Rattle.std.proofs.lemmas.Bool.{false≢true, cases_eq, cases_lt}
 use Rattle.std.proofs.lemmas.Option.{none-some, same_Some, slice_get-get_or, slice_get-map, slice_get_within}
 use Rattle.std.proofs.lemmas.List.{length-map}
@@ -8,12 +8,13 @@ use Rattle.index_spaces.specs.Column.{ColumnValue}
 use Rattle.index_spaces.specs.Held.{held_at, HoldsOtherwise}
 use Rattle.graph_terms.specs.declared.verb.Access.{Access}
 use Rattle.graph_terms.specs.Fits.{IsGraph}
-use Rattle.graph_meaning.specs.LineLaws.{AccessesFit, ColumnsDiffer}
+use Rattle.graph_meaning.specs.LineLaws.{ColumnsDiffer}
 use Rattle.graph_terms.specs.Graph.{GraphValue, columns}
 use Rattle.graph_terms.specs.Access.{accesses}
-use Rattle.graph_meaning.proofs.LineFacts.{accesses_are_few}
+use Rattle.graph_meaning.proofs.Public.{accesses_are_few}
 use Rattle.line_effects.specs.Moved.{moves}
 use Rattle.line_effects.proofs.EffectFacts.{access_listed, access_moved, move_at, moves_apart}
+use Rattle.line_effects.specs.Laws.{AccessesAreMoved, FewMoves, MovedColumnsAreDeclared}
 
 -- the columns of the accesses so far are held, and no others
 pub record HeldSoFar (g : GraphValue) (i k : ℕ) (held : List (ℕ × ColumnValue)) : Type 0 where
@@ -69,11 +70,11 @@ is_new law g is i k c held s at = none_when (held_at held c) (λ some. (let r = 
     none_when (Some x) n = absurd (n refl)
 
 -- a column that a line moves is one of the graph
-pub move_known : AccessesFit → (g : GraphValue) → IsGraph g → (i k c : ℕ) → slice_get (moves g i) k ≡ Some c → c < length (columns g)
+pub move_known : MovedColumnsAreDeclared
 move_known fits g is i k c at = let a = access_moved g i k c at in subst (λ d. d < length (columns g)) a.2 (fits g i a.0 is (access_listed g i k a.0 a.1)).column
 
 -- a line moves at most three columns
-pub moves_few : (g : GraphValue) (i : ℕ) → length (moves g i) ≤ 3
+pub moves_few : FewMoves
 moves_few g i =
     let same : length (moves g i) ≡ length (accesses g i) = length-map (accesses g i) (λ (x : Access). x.column) in
     let few : length (accesses g i) ≤ 3 = accesses_are_few g i in
@@ -86,5 +87,5 @@ few_moves g i k c h =
     omega (arith, within, few)
 
 -- the column of an access is moved
-pub move_of : (g : GraphValue) (i : ℕ) (a : Access) → Contains (accesses g i) a → (k : ℕ) × (slice_get (moves g i) k ≡ Some a.column)
+pub move_of : AccessesAreMoved
 move_of g i a m = (m.0, move_at g i m.0 a (slice_get-get_or (accesses g i) m.0 a m.1 ∙ ap (λ x. Some x) m.2))

@@ -7,7 +7,7 @@ use Rattle.index_spaces.specs.Space.{IsSpace, IsWithin}
 use Rattle.index_spaces.specs.Column.{ColumnValue}
 use Rattle.index_spaces.specs.Held.{held_at, HoldsOtherwise}
 use Rattle.index_spaces.specs.Run.{reduced_cell}
-use Rattle.index_spaces.proofs.WriteFacts.{holds_over}
+use Rattle.index_spaces.proofs.Public.{holds_over}
 use Rattle.graph_meaning.specs.Effect.{cell_after, reduced}
 use Rattle.graph_meaning.specs.HeldCells.{HoldsOver}
 

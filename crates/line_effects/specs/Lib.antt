@@ -1,3 +1,4 @@
 pub mod Moved
 pub mod Passing
 pub mod Homes
+pub mod Laws

@@ -8,7 +8,7 @@ use Rattle.run_core.specs.Core.{CoreValue}
 use Rattle.run_core.specs.Works.{WorkValue, FinishedValue, IsWork, IsFinished, KeepsWork}
 use Rattle.run_core.specs.Steps.{Issues, Attempts, Wakes, with_end}
 use Rattle.run_core.specs.WhatIsOut.{SameOut, OneMoreOut, OutAfter}
-use Rattle.run_core.specs.declared.answers.Issue.{Issue as IssueAnswer}
+use Rattle.run_parts.specs.declared.answers.Issue.{Issue as IssueAnswer}
 use Rattle.run_core.specs.declared.answers.Attempt.{Attempt as AttemptAnswer}
 use Rattle.run_core.specs.declared.answers.Attempt.TheVariants as attempts
 use Rattle.lock_engine.specs.Turns.{Call, PutBack, Issue, Attempt, NextWoken, IsOut, Serves, IsTurn, IsAfter, work_in, line_of, line_given, line_taken}

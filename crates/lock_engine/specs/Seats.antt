@@ -6,8 +6,8 @@ use Rattle.atomic_table.specs.declared.badge.Badge.{Badge}
 use Rattle.graph_terms.specs.Graph.{GraphValue}
 use Rattle.run_core.specs.Core.{IsCore}
 use Rattle.run_core.specs.Works.{WorkValue, FinishedValue, IsWork, IsFinished}
-use Rattle.run_core.specs.declared.answers.Issue.{Issue as IssueAnswer}
-use Rattle.run_core.specs.declared.answers.Issue.TheVariants as issues
+use Rattle.run_parts.specs.declared.answers.Issue.{Issue as IssueAnswer}
+use Rattle.run_parts.specs.declared.answers.Issue.TheVariants as issues
 use Rattle.lock_engine.specs.Rule.{Slot}
 use Rattle.lock_engine.specs.Plays.{spent_view}
 use Rattle.lock_engine.specs.declared.view.View.{View}

@@ -4,7 +4,7 @@ use Rattle.run_state.specs.Run.{out}
 use Rattle.run_core.specs.Core.{CoreValue}
 use Rattle.run_core.specs.Works.{KeepsWork, WorkValue, FinishedValue, IsFinished}
 use Rattle.run_core.specs.Steps.{Issues, Attempts, Wakes, with_end}
-use Rattle.run_core.specs.declared.answers.Issue.{Issue as IssueAnswer}
+use Rattle.run_parts.specs.declared.answers.Issue.{Issue as IssueAnswer}
 use Rattle.run_core.specs.declared.answers.Attempt.{Attempt as AttemptAnswer}
 use Rattle.run_core.specs.declared.answers.Attempt.TheVariants as attempts
 

@@ -5,7 +5,7 @@ use Rattle.std.proofs.lemmas.Option.{none-some, same_Some}
 use Rattle.graph_terms.specs.Graph.{GraphValue}
 use Rattle.graph_terms.specs.declared.outcome.Outcome.{Outcome}
 use Rattle.graph_meaning.specs.Evaluation.{Step, advance_by, lowest_ready, step_of, steps_after, outcome, order}
-use Rattle.graph_meaning.proofs.Waiting.{lowest_ready_is, step_of-line}
+use Rattle.graph_meaning.proofs.Public.{step_of-line, lowest_ready_is}
 
 -- each step is of a line
 abbrev AreLines : GraphValue → List Step → Type 0

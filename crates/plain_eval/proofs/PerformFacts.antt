@@ -15,7 +15,7 @@ use Rattle.graph_meaning.specs.Evaluation.{column_of}
 use Rattle.graph_meaning.specs.Laws.{ChangesWithinAccesses}
 use Rattle.line_effects.specs.Homes.{all_home}
 use Rattle.line_effects.specs.Moved.{moves, HeldShow, AreMoved, AreBack}
-use Rattle.line_effects.proofs.MoveFacts.{move_of, move_known}
+use Rattle.line_effects.proofs.Public.{move_of, move_known}
 use Rattle.plain_eval.proofs.CellFacts.{other_cells, map_agree}
 
 pub count_home : (g : GraphValue) (cells : Cells) (homes : List (Option ColumnValue)) → homes ≡ all_home g cells → length homes ≡ length (columns g)

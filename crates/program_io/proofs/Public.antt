@@ -3,7 +3,7 @@ use Rattle.std.proofs.Common.{◌≡◌, ℕ, ◌+◌, ◌≤◌, List, [], ◌+
 use Rattle.std.specs.Prelude.{Some, None}
 use Rattle.std.proofs.lemmas.Option.{none-some, same_Some}
 use Rattle.realm_io.specs.Told.{TookPrefix}
-use Rattle.realm_io.proofs.ToldFacts.{with_more-nil, took_after, rose_later}
+use Rattle.realm_io.proofs.Public.{with_more-nil, took_after, rose_later}
 use Rattle.program_io.specs.Laws.{FlushDelivers, StoppedIsBrokenOff, StatusTellsAnswer, FaultBreaksOffAnswer, OneStatusUnlessFault, AnswersAreAnswers, ReadIsAllLeft, SaidOfAllLeft, MoreWasLeft}
 
 pub written_then_flushed : {S : Type 0} {write_fault : S} → FlushDelivers write_fault

@@ -9,11 +9,10 @@ use Rattle.std.proofs.Math.Seq.{get_or-append_seam}
 use Rattle.graph_terms.specs.Graph.{GraphValue, is_acquire_of, is_release_of}
 use Rattle.graph_terms.specs.Fits.{IsGraph}
 use Rattle.graph_terms.specs.Edges.{edges}
-use Rattle.graph_terms.specs.Reservations.{Releases}
+use Rattle.graph_terms.specs.Reservations.{Acquires, Releases}
 use Rattle.graph_meaning.specs.Rules.{Everywhere, EverywhereTwice, FailsFirst, FailsFirstTwice}
-use Rattle.graph_meaning.proofs.PathTable.{path_below}
-use Rattle.graph_terms.proofs.ReleaseFacts.{release_names}
-use Rattle.graph_terms.proofs.VerbFacts.{passes_below}
+use Rattle.graph_meaning.proofs.Public.{path_below}
+use Rattle.graph_terms.proofs.Public.{passes_below, release_names}
 use Rattle.section_sweeps.specs.Blocks.{IsLineOf}
 use Rattle.section_sweeps.specs.Group.{AreOwn}
 use Rattle.section_sweeps.specs.Passing.{AreFromBefore, AreFromBehind, ArePassedUp, ArePassedDown, IsSized}
@@ -83,6 +82,12 @@ lines_known n first end of low listed b i h =
 
 pub releases_known : (g : GraphValue) (q r : ℕ) → Releases g r q → r < length g.lines
 releases_known g q r h = passes_below (is_release_of q) g r h
+
+pub acquire_below : (g : GraphValue) (q l : ℕ) → Acquires g q l → q < length g.lines
+acquire_below g q l a = passes_below (is_acquire_of l) g q a
+
+pub released_acquire : (g : GraphValue) → IsGraph g → (r q : ℕ) → Releases g r q → (l : ℕ) × Acquires g q l
+released_acquire g f r q rel = release_names g f r q rel
 
 pub acquires_known : (g : GraphValue) → IsGraph g → (r q : ℕ) → Releases g r q → q < length g.lines
 acquires_known g f r q h = let a = release_names g f r q h in passes_below (is_acquire_of a.0) g q a.1

@@ -9,8 +9,8 @@ use Rattle.graph_terms.specs.Fits.{IsGraph}
 use Rattle.graph_meaning.specs.Path.{HasPath}
 use Rattle.graph_meaning.specs.Rules.{Section, SectionAt, DescendsAt, EverywhereTwice}
 use Rattle.graph_terms.specs.Reservations.{both_shared}
-use Rattle.graph_meaning.proofs.PathLaws.{path_append}
-use Rattle.graph_terms.proofs.ReleaseFacts.{acquired_lock_known}
+use Rattle.graph_meaning.proofs.Public.{path_append}
+use Rattle.graph_terms.proofs.Public.{acquired_lock_known}
 use Rattle.race_sweeps.specs.declared.held.Held.{Held}
 use Rattle.race_sweeps.specs.Held.{Exclude, IsHeld, IsHeldRow}
 use Rattle.race_check.specs.Summaries.{AreAlone, ApartIn}

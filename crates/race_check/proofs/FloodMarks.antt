@@ -15,7 +15,7 @@ use Rattle.basics.proofs.ListFacts.{filter_contains}
 use Rattle.race_check.specs.High.{unmarked, IsMarking, IsTarget}
 use Rattle.graph_meaning.specs.Laws.{EdgesBetweenLines}
 use Rattle.graph_terms.specs.Fits.{IsGraph}
-use Rattle.graph_terms.proofs.VerbFacts.{passes_below}
+use Rattle.graph_terms.proofs.Public.{passes_below}
 use Rattle.race_check.proofs.NeedLaws.{no_one, one_more}
 use Rattle.race_check.proofs.HighFlood.{zero_or}
 

@@ -6,7 +6,7 @@ use Rattle.graph_terms.specs.declared.verb.Verb.{Verb}
 use Rattle.graph_terms.specs.declared.verb.Verb.TheVariants.{User, Trigger, Cancel, Merge, MergeIgnore, Phase, Arrive, Acquire, Release, Fill, Copy, Reduce, Task}
 use Rattle.graph_terms.specs.Graph.{GraphValue, verb_at}
 use Rattle.graph_terms.specs.Reservations.{Acquires, taken_by, lock_at}
-use Rattle.graph_terms.proofs.VerbFacts.{acquire_is, is_acquire_from}
+use Rattle.graph_terms.proofs.Public.{acquire_is, is_acquire_from}
 
 taken_from : (l : ℕ) (o : Option Verb) → option_and_then taken_by o ≡ Some l → (s : Bool) × (o ≡ Some (Acquire l s))
 taken_from l None h = absurd (none-some l h)

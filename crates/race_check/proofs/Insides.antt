@@ -12,7 +12,7 @@ use Rattle.graph_terms.specs.Edges.{edges}
 use Rattle.graph_meaning.specs.Path.{HasPath}
 use Rattle.graph_terms.specs.Reservations.{Acquires, Releases}
 use Rattle.graph_meaning.specs.Rules.{Section, SectionAt, DescendsAt}
-use Rattle.graph_meaning.proofs.PathTable.{path_below}
+use Rattle.graph_meaning.proofs.Public.{path_below}
 use Rattle.race_sweeps.specs.Marks.{bit_in}
 use Rattle.race_sweeps.proofs.Bits.{bit_in-and, bit_in-or, bit_in-not, or_old, or_new}
 use Rattle.race_sweeps.proofs.Walking.{none_left}

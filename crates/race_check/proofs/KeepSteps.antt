@@ -8,7 +8,7 @@ use Rattle.std.proofs.lemmas.Bool.{cases_lt}
 use Rattle.graph_terms.specs.Graph.{GraphValue, is_acquire_of}
 use Rattle.graph_terms.specs.Reservations.{Acquires}
 use Rattle.graph_meaning.specs.Rules.{Section}
-use Rattle.graph_terms.proofs.VerbFacts.{passes_below}
+use Rattle.graph_terms.proofs.Public.{passes_below}
 use Rattle.race_sweeps.specs.Marks.{bit_in}
 use Rattle.race_sweeps.specs.declared.held.Held.{Held}
 use Rattle.race_sweeps.specs.Held.{IsHeld}

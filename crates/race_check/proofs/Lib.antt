@@ -14,6 +14,8 @@ pub mod FloodSteps
 pub mod NeedSteps
 pub mod RuleSteps
 pub mod RaceSteps
+pub mod Freeing
+pub mod Doubting
 pub mod Placing
 pub mod Numbering
 pub mod BlockSteps

@@ -13,7 +13,7 @@ use Rattle.graph_terms.specs.Edges.{edges, edges_into, edges_out_of}
 use Rattle.graph_meaning.specs.Path.{HasPath}
 use Rattle.graph_meaning.specs.Rules.{NoCycleAt, Everywhere}
 use Rattle.basics.proofs.ListFacts.{contains_none, filter_contains}
-use Rattle.graph_meaning.proofs.PathTable.{path_below}
+use Rattle.graph_meaning.proofs.Public.{path_below}
 use Rattle.race_check.specs.Paths.{EdgesBetween}
 use Rattle.race_check.specs.Order.{is_in, IsTaking, IsOrdered, IsCounted, HasRoom}
 use Rattle.race_check.proofs.PathRows.{listed_no_cycle}

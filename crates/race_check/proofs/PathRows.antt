@@ -8,7 +8,7 @@ use Rattle.graph_terms.specs.Edges.{edges}
 use Rattle.graph_meaning.specs.Path.{Path, last, first}
 use Rattle.graph_meaning.specs.Rules.{NoCycleAt}
 use Rattle.basics.proofs.ListFacts.{contains_none, contains_cases, contains_here}
-use Rattle.graph_meaning.proofs.PathLaws.{along_path, path_append}
+use Rattle.graph_meaning.proofs.Public.{path_append, along_path}
 use Rattle.race_check.specs.Search.{IsSearching}
 
 -- lines whose sources are all listed, each at a lesser place, have no path to themselves, also where other lines have

@@ -4,7 +4,7 @@ use Rattle.std.specs.Prelude.{Some, MatchOption, Option, None}
 use Rattle.graph_terms.specs.Graph.{GraphValue, locks}
 use Rattle.graph_terms.specs.Fits.{IsGraph}
 use Rattle.graph_terms.specs.Reservations.{Acquires, Releases}
-use Rattle.graph_terms.proofs.ReleaseFacts.{release_names}
+use Rattle.graph_terms.proofs.Public.{release_names}
 
 -- the reservation that the acquire of a release acquires
 pub freed_by_acquire : (g : GraphValue) → IsGraph g → (i q : ℕ) (o : Option ℕ) → Releases g i q → MatchOption o ((l : ℕ) → Acquires g q l → ⊥) (λ l. Acquires g q l × (l < length (locks g))) →

@@ -9,10 +9,9 @@ use Rattle.graph_terms.specs.Graph.{GraphValue, line_passes, is_merge_ignore, is
 use Rattle.graph_terms.specs.Fits.{IsGraph, on_lines, named_lines}
 use Rattle.graph_terms.specs.Reservations.{Acquires, Releases}
 use Rattle.graph_meaning.specs.Rules.{ReleasedAt, ReleaseFaultAt, Everywhere}
-use Rattle.graph_terms.proofs.GraphFacts.{named_below}
 use Rattle.basics.proofs.ListFacts.{contains_here}
 use Rattle.section_sweeps.specs.Releases.{release_in, AreReleases}
-use Rattle.graph_terms.proofs.VerbFacts.{passes_below, release_is, is_release_from, release_of_is}
+use Rattle.graph_terms.proofs.Public.{release_of_is, release_is, is_release_from, passes_below, named_below}
 use Rattle.section_sweeps.proofs.ReservationFacts.{verb_of}
 use Rattle.graph_terms.proofs.ReleaseFacts.{cut_at}
 use Rattle.graph_terms.specs.declared.verb.Verb.TheVariants.{Release}

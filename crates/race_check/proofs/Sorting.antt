@@ -12,7 +12,7 @@ use Rattle.graph_terms.specs.Edges.{edges, edges_out_of}
 use Rattle.graph_meaning.specs.Rules.{NoCycleAt, Everywhere}
 use Rattle.basics.proofs.ListFacts.{contains_none, contains_cases, contains_here, contains_there, some_passes, passes_some, count_below-max, fewer_below}
 use Rattle.basics.specs.Lists.{count_below}
-use Rattle.graph_meaning.proofs.ReadyLine.{ready_or_never}
+use Rattle.graph_meaning.proofs.Public.{ready_or_never}
 use Rattle.race_check.specs.Paths.{EdgesBetween}
 use Rattle.race_check.specs.Order.{is_in, awaits, IsTaking, HasRoom}
 use Rattle.race_check.proofs.PathRows.{IsListed}

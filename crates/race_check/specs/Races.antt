@@ -5,9 +5,9 @@ use Rattle.graph_terms.specs.declared.verb.Access.{Access}
 use Rattle.graph_terms.specs.Graph.{GraphValue, columns, named_spaces}
 use Rattle.graph_terms.specs.Access.{accesses, is_read}
 use Rattle.graph_meaning.specs.Path.{HasPath}
-use Rattle.graph_meaning.specs.Rules.{RaceAt}
 use Rattle.race_sweeps.specs.Clash.{Clash}
 use Rattle.race_sweeps.specs.Marks.{bit_in}
+use Rattle.race_sweeps.specs.Settled.{IsSettled}
 use Rattle.section_sweeps.specs.Passing.{HasBit}
 use Rattle.race_check.specs.Blocks.{ArePassedOn, ArePassedBack}
 use Rattle.race_check.specs.declared.asked.Asked.{Asked}
@@ -46,8 +46,8 @@ pub record IsRivals (g : GraphValue) (r : Rivals) : Type 0 where
   pub within : (b : ℕ) → b < 64 → r.first + b < length g.lines → r.first + b < end
   pub asked_is : AreAsked g r.first end r.asked
 
--- a bit tells of a line without a path to line j or from it, and the others do not race with it
+-- a bit tells of a line without a path to line j or from it, and the others are settled with it
 pub record IsSuspects (g : GraphValue) (first j word : ℕ) : Type 0 where
   pub forward : (b : ℕ) → b < 64 → bit_in word b ≡ true → HasPath g (first + b) j → ⊥
   pub backward : (b : ℕ) → b < 64 → bit_in word b ≡ true → HasPath g j (first + b) → ⊥
-  pub free : (b : ℕ) → b < 64 → bit_in word b ≡ false → RaceAt g (first + b) j
+  pub free : (b : ℕ) → b < 64 → bit_in word b ≡ false → IsSettled g (first + b) j

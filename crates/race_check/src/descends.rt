@@ -5,9 +5,11 @@ ghost use Rattle.graph_terms.specs.Reservations.{Acquires};
 ghost use Rattle.graph_meaning.specs.Rules.{DescendsAt, EverywhereTwice, FailsFirstTwice};
 ghost use Rattle.race_check.specs.Blocks.{FailsFirstIn, HoldsIn, IsLowest, NoneLow};
 ghost use Rattle.race_check.specs.Inside.{AreBetween};
+ghost use Rattle.section_sweeps.specs.Found.{AreDoubted};
 ghost use Rattle.section_sweeps.specs.Table.{IsTable};
 
 use crate::inside::Inside;
+use crate::races::is_any_noted;
 use graph_meaning::laws::edges_between_lines;
 use graph_model::graph::Graph;
 use index_spaces::NoMemory;
@@ -22,8 +24,11 @@ pub(crate) fn first_climbing(
     alloc: Global,
     graph: &Graph,
     table: &Table,
+    doubted: &[bool],
 ) -> Result<Option<(u32, u32)>, NoMemory>
-    requires { IsTable graph.now table.now }
+    requires table { IsTable graph.now table.now }
+    requires size { length doubted.now ≡ length graph.now.lines }
+    requires doubted { AreDoubted graph.now doubted.now }
     ensures { IfOk result (λ o. MatchOption o (EverywhereTwice (DescendsAt graph.now))
         (λ p. (p.0 < length graph.now.lines) × (p.1 < length graph.now.lines) × FailsFirstTwice (DescendsAt graph.now) p.0 p.1)) }
 {
@@ -31,7 +36,7 @@ pub(crate) fn first_climbing(
     let lines = graph.lines();
     let mut first = 0;
     while first < lines {
-        let found = first_climbing_in(alloc, graph, table, first)?;
+        let found = first_climbing_in(alloc, graph, table, doubted, first)?;
         if let Some(pair) = found {
             return Ok(Some(pair));
         }
@@ -45,8 +50,11 @@ fn first_climbing_in(
     alloc: Global,
     graph: &Graph,
     table: &Table,
+    doubted: &[bool],
     first: u32,
 ) -> Result<Option<(u32, u32)>, NoMemory>
+    requires size { length doubted.now ≡ length graph.now.lines }
+    requires doubted { AreDoubted graph.now doubted.now }
     requires table { IsTable graph.now table.now }
     requires first { first < length graph.now.lines }
     ensures { IfOk result (λ o. MatchOption o (HoldsIn (DescendsAt graph.now) first (length graph.now.lines))
@@ -54,6 +62,10 @@ fn first_climbing_in(
 {
     edges_between_lines();
     let lines = graph.lines();
+    let end = lines.min(first + 64);
+    if !is_any_noted(doubted, first, end) {
+        return Ok(None);
+    }
     let inside = Inside::new(alloc, graph, table, first)?;
     let mut limit = 64;
     let mut found = 0;

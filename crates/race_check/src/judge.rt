@@ -5,6 +5,7 @@ ghost use Rattle.graph_meaning.specs.Need.{IsNeed};
 ghost use Rattle.graph_meaning.specs.Rules.{Accepted, Everywhere, EverywhereTwice, NoCycleAt, ReleasedAt, SectionAt, DescendsAt, ReleaseFaultAt, RaceAt};
 ghost use Rattle.race_check.specs.Refusal.{IsRefusal, NamesLines};
 ghost use Rattle.race_sweeps.specs.Placed.{IsOrder};
+ghost use Rattle.section_sweeps.specs.Found.{AreDoubted};
 ghost use Rattle.section_sweeps.specs.Sections.{AreSections};
 ghost use Rattle.section_sweeps.specs.Table.{IsTable};
 
@@ -20,8 +21,8 @@ use crate::releases::first_unreleased;
 use crate::sections::first_outside;
 use graph_meaning::laws::edges_between_lines;
 use graph_model::graph::Graph;
-use race_sweeps::are_settled;
 use race_sweeps::held::Held;
+use section_sweeps::found::Sections;
 use section_sweeps::held_sections;
 use section_sweeps::table::Table;
 use std::alloc::Global;
@@ -83,13 +84,20 @@ fn sections(alloc: Global, graph: &Graph, order: &[u32]) -> Result<Held, CheckRe
     ensures lines { IfErr result (NamesLines graph.now) }
 {
     match held_sections(alloc, graph, order)? {
-        Some(held) => Ok(held),
-        None => sections_by_rule(alloc, graph, order),
+        Sections::Kept(held) => Ok(held),
+        Sections::Doubted(doubted) => { sections_by_rule(alloc, graph, order, doubted.as_slice()) }
     }
 }
 
 /// The same, rule by rule.
-fn sections_by_rule(alloc: Global, graph: &Graph, order: &[u32]) -> Result<Held, CheckRefusal>
+fn sections_by_rule(
+    alloc: Global,
+    graph: &Graph,
+    order: &[u32],
+    doubted: &[bool],
+) -> Result<Held, CheckRefusal>
+    requires size { length doubted.now ≡ length graph.now.lines }
+    requires doubted { AreDoubted graph.now doubted.now }
     requires order { IsOrder graph.now order.now }
     requires count { length order.now ≡ length graph.now.lines }
     requires acyclic { Everywhere (NoCycleAt graph.now) }
@@ -98,29 +106,43 @@ fn sections_by_rule(alloc: Global, graph: &Graph, order: &[u32]) -> Result<Held,
     ensures lines { IfErr result (NamesLines graph.now) }
 {
     let table = Table::new(alloc, graph, order)?;
-    all_released(alloc, graph, &table)?;
-    all_in_sections(alloc, graph, &table)?;
-    all_descend(alloc, graph, &table)?;
+    all_released(alloc, graph, &table, doubted)?;
+    all_in_sections(alloc, graph, &table, doubted)?;
+    all_descend(alloc, graph, &table, doubted)?;
     let held = sections_of_lines(alloc, graph, &table)?;
     Ok(held)
 }
 
 /// Each acquire has a release with a path from it.
-fn all_released(alloc: Global, graph: &Graph, table: &Table) -> Result<(), CheckRefusal>
+fn all_released(
+    alloc: Global,
+    graph: &Graph,
+    table: &Table,
+    doubted: &[bool],
+) -> Result<(), CheckRefusal>
+    requires size { length doubted.now ≡ length graph.now.lines }
+    requires doubted { AreDoubted graph.now doubted.now }
     requires table { IsTable graph.now table.now }
     requires acyclic { Everywhere (NoCycleAt graph.now) }
     ensures released { OnOk result (Everywhere (ReleasedAt graph.now)) }
     ensures refused { IfErr result (IsRefusal graph.now) }
     ensures lines { IfErr result (NamesLines graph.now) }
 {
-    match first_unreleased(alloc, graph, table)? {
+    match first_unreleased(alloc, graph, table, doubted)? {
         None => Ok(()),
         Some(line) => Err(CheckRefusal::Unreleased(line)),
     }
 }
 
 /// Each line before a release lies in its section, or before that.
-fn all_in_sections(alloc: Global, graph: &Graph, table: &Table) -> Result<(), CheckRefusal>
+fn all_in_sections(
+    alloc: Global,
+    graph: &Graph,
+    table: &Table,
+    doubted: &[bool],
+) -> Result<(), CheckRefusal>
+    requires size { length doubted.now ≡ length graph.now.lines }
+    requires doubted { AreDoubted graph.now doubted.now }
     requires table { IsTable graph.now table.now }
     requires acyclic { Everywhere (NoCycleAt graph.now) }
     requires released { Everywhere (ReleasedAt graph.now) }
@@ -128,14 +150,21 @@ fn all_in_sections(alloc: Global, graph: &Graph, table: &Table) -> Result<(), Ch
     ensures refused { IfErr result (IsRefusal graph.now) }
     ensures lines { IfErr result (NamesLines graph.now) }
 {
-    match first_outside(alloc, graph, table)? {
+    match first_outside(alloc, graph, table, doubted)? {
         None => Ok(()),
         Some((release, line)) => Err(CheckRefusal::Section(release, line)),
     }
 }
 
 /// Each section acquires only reservations that are declared later.
-fn all_descend(alloc: Global, graph: &Graph, table: &Table) -> Result<(), CheckRefusal>
+fn all_descend(
+    alloc: Global,
+    graph: &Graph,
+    table: &Table,
+    doubted: &[bool],
+) -> Result<(), CheckRefusal>
+    requires size { length doubted.now ≡ length graph.now.lines }
+    requires doubted { AreDoubted graph.now doubted.now }
     requires table { IsTable graph.now table.now }
     requires acyclic { Everywhere (NoCycleAt graph.now) }
     requires released { Everywhere (ReleasedAt graph.now) }
@@ -144,7 +173,7 @@ fn all_descend(alloc: Global, graph: &Graph, table: &Table) -> Result<(), CheckR
     ensures refused { IfErr result (IsRefusal graph.now) }
     ensures lines { IfErr result (NamesLines graph.now) }
 {
-    match first_climbing(alloc, graph, table)? {
+    match first_climbing(alloc, graph, table, doubted)? {
         None => Ok(()),
         Some((acquire, line)) => Err(CheckRefusal::Descends(acquire, line)),
     }
@@ -177,9 +206,6 @@ fn no_races(alloc: Global, graph: &Graph, order: &[u32], held: &Held) -> Result<
     ensures refused { IfErr result (IsRefusal graph.now) }
     ensures lines { IfErr result (NamesLines graph.now) }
 {
-    if are_settled(alloc, graph, order, held)? {
-        return Ok(());
-    }
     match first_race(alloc, graph, order, held)? {
         None => Ok(()),
         Some((one, other)) => Err(CheckRefusal::Race(one, other)),

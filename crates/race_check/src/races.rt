@@ -1,13 +1,14 @@
 //! The rule that lines which conflict have a path one way or the other, or are exempt.
 
-ghost use Rattle.std.specs.Prelude.{◌≡◌, ℕ, ◌+◌, ◌<◌, ◌≤◌, ◌↔◌, true, false, length, IsTrue, IfOk, MatchOption};
+ghost use Rattle.std.specs.Prelude.{◌≡◌, ◌≢◌, ℕ, ◌+◌, ◌<◌, ◌≤◌, ◌↔◌, true, false, length, IsTrue, IfOk, MatchOption};
 ghost use Rattle.graph_meaning.specs.Path.{HasPath};
-ghost use Rattle.graph_meaning.specs.Rules.{EverywhereTwice, FailsFirstTwice, RaceAt};
+ghost use Rattle.graph_meaning.specs.Rules.{Everywhere, EverywhereTwice, FailsFirstTwice, RaceAt};
 ghost use Rattle.race_check.specs.Blocks.{FailsFirstIn, HoldsIn, IsLowest, NoneLow};
 ghost use Rattle.race_check.specs.Races.{AreAccesses, IsRivals, IsSuspects};
 ghost use Rattle.race_check.specs.Summaries.{AreAlone};
 ghost use Rattle.race_sweeps.specs.Held.{IsHeld};
 ghost use Rattle.race_sweeps.specs.Placed.{IsOrder};
+ghost use Rattle.race_sweeps.specs.Settled.{AreEnough, IsSettled, is_noted};
 ghost use Rattle.section_sweeps.specs.Table.{IsTable};
 
 use crate::apart::are_apart;
@@ -19,13 +20,14 @@ use graph_model::graph::Graph;
 use graph_terms::verb::Access;
 use index_spaces::NoMemory;
 use race_sweeps::held::Held;
+use race_sweeps::racing_lines;
 use section_sweeps::blocks::{passed_back, passed_forward};
 use section_sweeps::passing::{Passing, has_bit};
 use section_sweeps::table::Table;
 use std::alloc::Global;
 
 /// The least line and the least line after it that conflict, have no path either way and are not
-/// exempt, where each line lies in at most one section of a reservation; 64 lines at a time.
+/// exempt, where each line lies in at most one section of a reservation.
 pub(crate) fn first_race(
     alloc: Global,
     graph: &Graph,
@@ -39,12 +41,136 @@ pub(crate) fn first_race(
     ensures { IfOk result (λ o. MatchOption o (EverywhereTwice (RaceAt graph.now))
         (λ p. (p.0 < length graph.now.lines) × (p.1 < length graph.now.lines) × FailsFirstTwice (RaceAt graph.now) p.0 p.1)) }
 {
+    match racing_lines(alloc, graph, order, held)? {
+        Some(racing) => first_race_of(alloc, graph, order, held, racing.as_slice()),
+        None => first_race_from(alloc, graph, order, held, 0),
+    }
+}
+
+/// The same, where the lines that race are noted.
+fn first_race_of(
+    alloc: Global,
+    graph: &Graph,
+    order: &[u32],
+    held: &Held,
+    racing: &[bool],
+) -> Result<Option<(u32, u32)>, NoMemory>
+    requires order { IsOrder graph.now order.now }
+    requires count { length order.now ≡ length graph.now.lines }
+    requires held { IsHeld graph.now held.now }
+    requires alone { AreAlone graph.now }
+    requires size { length racing.now ≡ length graph.now.lines }
+    requires enough { AreEnough graph.now racing.now }
+    ensures { IfOk result (λ o. MatchOption o (EverywhereTwice (RaceAt graph.now))
+        (λ p. (p.0 < length graph.now.lines) × (p.1 < length graph.now.lines) × FailsFirstTwice (RaceAt graph.now) p.0 p.1)) }
+{
+    let lines = graph.lines();
+    if !is_any_noted(racing, 0, lines) {
+        return Ok(None);
+    }
+    let free = free_lines(alloc, graph, order, held, racing)?;
+    first_race_from(alloc, graph, order, held, free)
+}
+
+/// Whether a line of these is noted.
+pub(crate) fn is_any_noted(racing: &[bool], first: u32, end: u32) -> bool
+    requires { end ≤ length racing.now }
+    ensures { result ≡ false → (i : ℕ) → first ≤ i → i < end → is_noted racing.now i ≡ false }
+{
+    for line in first..end {
+        if racing[line as usize] {
+            return true;
+        }
+    }
+    false
+}
+
+/// How many lines, from the first on, race with none, by the lines that are noted.
+fn free_lines(
+    alloc: Global,
+    graph: &Graph,
+    order: &[u32],
+    held: &Held,
+    racing: &[bool],
+) -> Result<u32, NoMemory>
+    requires order { IsOrder graph.now order.now }
+    requires count { length order.now ≡ length graph.now.lines }
+    requires held { IsHeld graph.now held.now }
+    requires alone { AreAlone graph.now }
+    requires size { length racing.now ≡ length graph.now.lines }
+    requires enough { AreEnough graph.now racing.now }
+    ensures { IfOk result (λ n. (k : ℕ) → k < n → Everywhere (RaceAt graph.now k)) }
+{
     edges_between_lines();
     let lines = graph.lines();
     let table = Table::new(alloc, graph, order)?;
     let accesses = accesses_of_lines(alloc, graph)?;
     let accesses = accesses.as_slice();
+    let mut free = lines;
     let mut first = 0;
+    while first < lines {
+        free = free_of_block(alloc, graph, &table, accesses, held, racing, first, free)?;
+        first += 64;
+    }
+    Ok(free)
+}
+
+/// How many of so many lines race with no noted line of a block.
+fn free_of_block(
+    alloc: Global,
+    graph: &Graph,
+    table: &Table,
+    accesses: &[Vec<Access>],
+    held: &Held,
+    racing: &[bool],
+    first: u32,
+    free: u32,
+) -> Result<u32, NoMemory>
+    requires table { IsTable graph.now table.now }
+    requires held { IsHeld graph.now held.now }
+    requires alone { AreAlone graph.now }
+    requires accesses { AreAccesses graph.now accesses.now }
+    requires size { length racing.now ≡ length graph.now.lines }
+    requires first { first < length graph.now.lines }
+    requires free { free ≤ length graph.now.lines }
+    ensures few { IfOk result (λ n. n ≤ free) }
+    ensures settled { IfOk result (λ n. (k r : ℕ) → k < n → first ≤ r → r < first + 64 → is_noted racing.now r ≡ true → IsSettled graph.now r k) }
+{
+    let lines = graph.lines();
+    if free == 0 {
+        return Ok(free);
+    }
+    let end = lines.min(first + 64);
+    if !is_any_noted(racing, first, end) {
+        return Ok(free);
+    }
+    let rivals = Rivals::new(alloc, graph, table, first)?;
+    Ok(rivals.free_before(graph, accesses, held, racing, free))
+}
+
+/// The least line and the least line after it that race, where no line above the first one does;
+/// 64 lines at a time.
+fn first_race_from(
+    alloc: Global,
+    graph: &Graph,
+    order: &[u32],
+    held: &Held,
+    start: u32,
+) -> Result<Option<(u32, u32)>, NoMemory>
+    requires order { IsOrder graph.now order.now }
+    requires count { length order.now ≡ length graph.now.lines }
+    requires held { IsHeld graph.now held.now }
+    requires alone { AreAlone graph.now }
+    requires start { (k : ℕ) → k < start → Everywhere (RaceAt graph.now k) }
+    ensures { IfOk result (λ o. MatchOption o (EverywhereTwice (RaceAt graph.now))
+        (λ p. (p.0 < length graph.now.lines) × (p.1 < length graph.now.lines) × FailsFirstTwice (RaceAt graph.now) p.0 p.1)) }
+{
+    edges_between_lines();
+    let lines = graph.lines();
+    let table = Table::new(alloc, graph, order)?;
+    let accesses = accesses_of_lines(alloc, graph)?;
+    let accesses = accesses.as_slice();
+    let mut first = start;
     while first < lines {
         let found = first_of_block(alloc, graph, &table, accesses, held, first)?;
         if let Some(pair) = found {
@@ -122,6 +248,93 @@ impl Rivals {
         })
     }
 
+    /// How many of so many lines, from the first on, race with no noted line of the block.
+    fn free_before(
+        &self,
+        graph: &Graph,
+        accesses: &[Vec<Access>],
+        held: &Held,
+        racing: &[bool],
+        free: u32,
+    ) -> u32
+        requires free { free ≤ length graph.now.lines }
+        requires size { length racing.now ≡ length graph.now.lines }
+        requires held { IsHeld graph.now held.now }
+        requires alone { AreAlone graph.now }
+        requires accesses { AreAccesses graph.now accesses.now }
+        requires rivals { IsRivals graph.now self.now }
+        ensures few { result ≤ free }
+        ensures settled { (k b : ℕ) → k < result → b < 64 → is_noted racing.now (self.now.first + b) ≡ true → IsSettled graph.now (self.now.first + b) k }
+    {
+        for line in 0..free {
+            if self.has_rival(graph, accesses, held, racing, line) {
+                return line;
+            }
+        }
+        free
+    }
+
+    /// Whether a noted line of the block races with this one.
+    fn has_rival(
+        &self,
+        graph: &Graph,
+        accesses: &[Vec<Access>],
+        held: &Held,
+        racing: &[bool],
+        line: u32,
+    ) -> bool
+        requires line { line < length graph.now.lines }
+        requires size { length racing.now ≡ length graph.now.lines }
+        requires held { IsHeld graph.now held.now }
+        requires alone { AreAlone graph.now }
+        requires accesses { AreAccesses graph.now accesses.now }
+        requires rivals { IsRivals graph.now self.now }
+        ensures { result ≡ false → (b : ℕ) → b < 64 → is_noted racing.now (self.now.first + b) ≡ true → IsSettled graph.now (self.now.first + b) line }
+    {
+        let suspects = self.suspects(graph, line);
+        if suspects == 0 {
+            return false;
+        }
+        for bit in 0..64 {
+            if self.is_noted_rival(graph, accesses, held, racing, suspects, line, bit) {
+                return true;
+            }
+        }
+        false
+    }
+
+    /// Whether a line of the block is noted and races with another line, where it is a suspect.
+    fn is_noted_rival(
+        &self,
+        graph: &Graph,
+        accesses: &[Vec<Access>],
+        held: &Held,
+        racing: &[bool],
+        suspects: u64,
+        line: u32,
+        bit: u32,
+    ) -> bool
+        requires line { line < length graph.now.lines }
+        requires bit { bit < 64 }
+        requires size { length racing.now ≡ length graph.now.lines }
+        requires held { IsHeld graph.now held.now }
+        requires alone { AreAlone graph.now }
+        requires accesses { AreAccesses graph.now accesses.now }
+        requires suspects { IsSuspects graph.now self.now.first line suspects }
+        requires first { self.now.first < length graph.now.lines }
+        ensures { result ≡ false → is_noted racing.now (self.now.first + bit) ≡ true → IsSettled graph.now (self.now.first + bit) line }
+    {
+        let lines = graph.lines();
+        let one = self.first + bit;
+        if one >= lines {
+            return false;
+        }
+        if !racing[one as usize] {
+            return false;
+        }
+        self.is_rival(graph, accesses, held, suspects, line, bit)
+    }
+
     /// The least line of the block below a limit that races with this line, which stands after it.
     fn first_of(
         &self,
@@ -184,11 +397,41 @@ impl Rivals {
         ensures free { result ≡ false → RaceAt graph.now (self.now.first + bit) line }
     {
         let _ = graph.lines();
+        if self.first + bit >= line {
+            return false;
+        }
+        self.is_rival(graph, accesses, held, suspects, line, bit)
+    }
+
+    /// Whether a line of the block races with another line, where it is a suspect.
+    fn is_rival(
+        &self,
+        graph: &Graph,
+        accesses: &[Vec<Access>],
+        held: &Held,
+        suspects: u64,
+        line: u32,
+        bit: u32,
+    ) -> bool
+        requires line { line < length graph.now.lines }
+        requires bit { bit < 64 }
+        requires held { IsHeld graph.now held.now }
+        requires alone { AreAlone graph.now }
+        requires accesses { AreAccesses graph.now accesses.now }
+        requires suspects { IsSuspects graph.now self.now.first line suspects }
+        requires first { self.now.first < length graph.now.lines }
+        ensures race { result ≡ true → IsSettled graph.now (self.now.first + bit) line → ⊥ }
+        ensures free { result ≡ false → IsSettled graph.now (self.now.first + bit) line }
+    {
+        let lines = graph.lines();
         if !has_bit(suspects, bit) {
             return false;
         }
         let one = self.first + bit;
-        if one >= line {
+        if one >= lines {
+            return false;
+        }
+        if one == line {
             return false;
         }
         !is_free(graph, accesses, held, one, line)
@@ -197,14 +440,15 @@ impl Rivals {
 
 /// Whether two lines without a path either way do not conflict, or are exempt.
 fn is_free(graph: &Graph, accesses: &[Vec<Access>], held: &Held, one: u32, other: u32) -> bool
-    requires one { one < other }
+    requires one { one < length graph.now.lines }
     requires other { other < length graph.now.lines }
+    requires apart { one ≢ other }
     requires held { IsHeld graph.now held.now }
     requires alone { AreAlone graph.now }
     requires accesses { AreAccesses graph.now accesses.now }
     requires forward { HasPath graph.now one other → ⊥ }
     requires backward { HasPath graph.now other one → ⊥ }
-    ensures { IsTrue result ↔ RaceAt graph.now one other }
+    ensures { IsTrue result ↔ IsSettled graph.now one other }
 {
     if !lines_clash(graph, accesses, one, other, true) {
         return true;

@@ -3,9 +3,11 @@
 ghost use Rattle.std.specs.Prelude.{◌≡◌, ℕ, ◌+◌, ◌-◌, ◌<◌, ◌≤◌, ◌↔◌, length, IsTrue, IfOk, MatchOption};
 ghost use Rattle.graph_meaning.specs.Rules.{Everywhere, FailsFirst, ReleasedAt};
 ghost use Rattle.race_check.specs.Blocks.{ArePassedOn, IsFirstIn};
+ghost use Rattle.section_sweeps.specs.Found.{AreDoubted};
 ghost use Rattle.section_sweeps.specs.Table.{IsTable};
 
 use crate::blocks::lines_from;
+use crate::races::is_any_noted;
 use graph_meaning::laws::edges_between_lines;
 use graph_model::graph::Graph;
 use index_spaces::NoMemory;
@@ -20,8 +22,11 @@ pub(crate) fn first_unreleased(
     alloc: Global,
     graph: &Graph,
     table: &Table,
+    doubted: &[bool],
 ) -> Result<Option<u32>, NoMemory>
-    requires { IsTable graph.now table.now }
+    requires table { IsTable graph.now table.now }
+    requires size { length doubted.now ≡ length graph.now.lines }
+    requires doubted { AreDoubted graph.now doubted.now }
     ensures { IfOk result (λ o. MatchOption o (Everywhere (ReleasedAt graph.now)) (λ i. (i < length graph.now.lines)
         × FailsFirst (ReleasedAt graph.now) i)) }
 {
@@ -30,15 +35,41 @@ pub(crate) fn first_unreleased(
     let mut first = 0;
     while first < lines {
         let end = lines.min(first + 64);
-        let of = lines_from(alloc, first, end)?;
-        let of = of.as_slice();
-        let behind = passed_forward(alloc, graph, table, of, lines)?;
-        if let Some(line) = first_unreleased_of(graph, table, &behind, first, end) {
+        let found = first_of_block(alloc, graph, table, doubted, first, end)?;
+        if let Some(line) = found {
             return Ok(Some(line));
         }
         first = end;
     }
     Ok(None)
+}
+
+/// The least of a block.
+fn first_of_block(
+    alloc: Global,
+    graph: &Graph,
+    table: &Table,
+    doubted: &[bool],
+    first: u32,
+    end: u32,
+) -> Result<Option<u32>, NoMemory>
+    requires table { IsTable graph.now table.now }
+    requires size { length doubted.now ≡ length graph.now.lines }
+    requires doubted { AreDoubted graph.now doubted.now }
+    requires begins { first ≤ end }
+    requires few { end ≤ first + 64 }
+    requires ends { end ≤ length graph.now.lines }
+    requires whole { (b : ℕ) → b < 64 → first + b < length graph.now.lines → first + b < end }
+    ensures { IfOk result (λ o. MatchOption o ((i : ℕ) → first ≤ i → i < end → ReleasedAt graph.now i) (IsFirstIn (ReleasedAt graph.now) first end)) }
+{
+    let lines = graph.lines();
+    if !is_any_noted(doubted, first, end) {
+        return Ok(None);
+    }
+    let of = lines_from(alloc, first, end)?;
+    let of = of.as_slice();
+    let behind = passed_forward(alloc, graph, table, of, lines)?;
+    Ok(first_unreleased_of(graph, table, &behind, first, end))
 }
 
 /// The least acquire of a block that has no release with a path from it.

@@ -1,12 +1,15 @@
 //! The rule that what comes before a release lies before its acquire or in its section.
 
-ghost use Rattle.std.specs.Prelude.{◌≡◌, ℕ, ◌<◌, ◌&&◌, true, length, IfOk, MatchOption};
+ghost use Rattle.std.specs.Prelude.{◌≡◌, ℕ, ◌<◌, ◌≤◌, ◌&&◌, true, false, length, IfOk, MatchOption};
 ghost use Rattle.graph_terms.specs.Graph.{line_passes, is_phase, never_comes};
 ghost use Rattle.graph_meaning.specs.Rules.{EverywhereTwice, FailsFirstTwice, SectionAt};
 ghost use Rattle.race_check.specs.Blocks.{FailsFirstIn, HoldsIn};
 ghost use Rattle.race_check.specs.Inside.{AreOutside, AreSides, MayCome};
 ghost use Rattle.race_sweeps.specs.Marks.{bit_in};
+ghost use Rattle.race_sweeps.specs.Settled.{is_noted};
+ghost use Rattle.graph_terms.specs.Reservations.{Releases};
 ghost use Rattle.section_sweeps.specs.Passing.{HasBit};
+ghost use Rattle.section_sweeps.specs.Found.{AreDoubted};
 ghost use Rattle.section_sweeps.specs.Table.{IsTable};
 
 use crate::blocks::{acquires_from, lowest, releasing_from};
@@ -16,6 +19,7 @@ use graph_terms::verb::Verb;
 use index_spaces::NoMemory;
 use section_sweeps::blocks::{passed_back, passed_forward};
 use section_sweeps::passing::Passing;
+use section_sweeps::reservations::released;
 use section_sweeps::table::Table;
 use std::alloc::Global;
 
@@ -25,8 +29,11 @@ pub(crate) fn first_outside(
     alloc: Global,
     graph: &Graph,
     table: &Table,
+    doubted: &[bool],
 ) -> Result<Option<(u32, u32)>, NoMemory>
-    requires { IsTable graph.now table.now }
+    requires table { IsTable graph.now table.now }
+    requires size { length doubted.now ≡ length graph.now.lines }
+    requires doubted { AreDoubted graph.now doubted.now }
     ensures { IfOk result (λ o. MatchOption o (EverywhereTwice (SectionAt graph.now))
         (λ p. (p.0 < length graph.now.lines) × (p.1 < length graph.now.lines) × FailsFirstTwice (SectionAt graph.now) p.0 p.1)) }
 {
@@ -34,7 +41,7 @@ pub(crate) fn first_outside(
     let lines = graph.lines();
     let mut first = 0;
     while first < lines {
-        let found = first_outside_of(alloc, graph, table, first)?;
+        let found = first_outside_of(alloc, graph, table, doubted, first)?;
         if let Some(pair) = found {
             return Ok(Some(pair));
         }
@@ -48,8 +55,11 @@ fn first_outside_of(
     alloc: Global,
     graph: &Graph,
     table: &Table,
+    doubted: &[bool],
     first: u32,
 ) -> Result<Option<(u32, u32)>, NoMemory>
+    requires size { length doubted.now ≡ length graph.now.lines }
+    requires doubted { AreDoubted graph.now doubted.now }
     requires table { IsTable graph.now table.now }
     requires first { first < length graph.now.lines }
     ensures { IfOk result (λ o. MatchOption o (HoldsIn (SectionAt graph.now) first (length graph.now.lines))
@@ -57,6 +67,10 @@ fn first_outside_of(
 {
     edges_between_lines();
     let lines = graph.lines();
+    let end = lines.min(first + 64);
+    if !releases_any(graph, doubted, first, end) {
+        return Ok(None);
+    }
     let sides = Sides::new(alloc, graph, table, first)?;
     let mut limit = 64;
     let mut found = 0;
@@ -70,6 +84,32 @@ fn first_outside_of(
         return Ok(Some((first + limit, found)));
     }
     Ok(None)
+}
+
+/// Whether a line of these releases an acquire that is doubted.
+fn releases_any(graph: &Graph, doubted: &[bool], first: u32, end: u32) -> bool
+    requires size { length doubted.now ≡ length graph.now.lines }
+    requires end { end ≤ length graph.now.lines }
+    ensures { result ≡ false → (r q : ℕ) → first ≤ r → r < end → Releases graph.now r q → is_noted doubted.now q ≡ false }
+{
+    for line in first..end {
+        if releases_doubted(graph, doubted, line) {
+            return true;
+        }
+    }
+    false
+}
+
+/// Whether a line releases an acquire that is doubted.
+fn releases_doubted(graph: &Graph, doubted: &[bool], line: u32) -> bool
+    requires size { length doubted.now ≡ length graph.now.lines }
+    requires line { line < length graph.now.lines }
+    ensures { result ≡ false → (q : ℕ) → Releases graph.now line q → is_noted doubted.now q ≡ false }
+{
+    match released(graph, line) {
+        Some(acquire) => doubted[acquire as usize],
+        None => false,
+    }
 }
 
 /// Of 64 lines from a first one on: which lines have a path to them, and to and from the acquires

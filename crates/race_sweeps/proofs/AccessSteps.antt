@@ -11,7 +11,7 @@ use Rattle.graph_terms.specs.declared.verb.Line.{Line}
 use Rattle.graph_terms.specs.Graph.{GraphValue, verb_at}
 use Rattle.graph_terms.specs.Access.{accesses, verb_accesses, in_format}
 use Rattle.basics.proofs.ListFacts.{contains_none, map_contains}
-use Rattle.graph_meaning.proofs.LineFacts.{accesses_are_few}
+use Rattle.graph_meaning.proofs.Public.{accesses_are_few}
 
 -- a line has at most three accesses
 pub few_accesses : (g : GraphValue) (i : ℕ) → length (accesses g i) ≤ 3

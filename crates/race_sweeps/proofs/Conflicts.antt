@@ -4,14 +4,13 @@ use Rattle.std.specs.Prelude.{◌==◌}
 use Rattle.std.specs.List.{list_any}
 use Rattle.std.proofs.lemmas.Bool.{true≢false, eq-eqb, eqb-true, and_parts, and_from, cases_Bool}
 use Rattle.index_spaces.specs.Space.{has_point, points, Meet}
-use Rattle.index_spaces.proofs.LawFacts.{points_are_listed}
+use Rattle.index_spaces.proofs.Public.{points_are_listed}
 use Rattle.basics.proofs.ListFacts.{some_passes, passes_some}
 use Rattle.graph_meaning.proofs.RulesTable.{meet, accesses_conflict}
-use Rattle.graph_terms.proofs.VerbFacts.{both_shared_swap}
+use Rattle.graph_terms.proofs.Public.{both_shared_swap}
 use Rattle.race_sweeps.specs.Clash.{Clash, LinesClash}
 use Rattle.race_sweeps.specs.Held.{LieApart}
 use Rattle.graph_terms.specs.declared.verb.Access.{Access}
-use Rattle.graph_terms.specs.declared.verb.Mode.{Mode}
 use Rattle.graph_terms.specs.Graph.{GraphValue, space_at}
 use Rattle.graph_terms.specs.Access.{accesses, AccessesConflict, modes_clash}
 use Rattle.graph_meaning.specs.Rules.{modes_commute}

@@ -12,6 +12,7 @@ pub mod Listed
 pub mod Classing
 pub mod Guarding
 pub mod Asking
+pub mod Noting
 pub mod Walking
 pub mod Settling
 pub mod Slices

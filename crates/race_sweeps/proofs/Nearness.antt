@@ -17,7 +17,7 @@ use Rattle.race_sweeps.specs.declared.near.Spot.{Spot}
 use Rattle.race_sweeps.specs.Classes.{IsNear, AreNear}
 use Rattle.race_sweeps.specs.Clash.{Clash}
 use Rattle.race_sweeps.specs.Spots.{IsSpot, AreSpots, IsUpTo, AreAscending, IsFar, AreLinked, AreLinkedTo, IsLinkedTo, AreGrown}
-use Rattle.graph_meaning.proofs.Races.{conflict_back}
+use Rattle.graph_meaning.proofs.Public.{conflict_back}
 use Rattle.race_sweeps.proofs.Lists.{set_same, set_other, pushed_cases}
 
 -- one class more beside a class

@@ -1,5 +1,5 @@
--- Conflicts that are answered for are settled: a hard access between two lines has a path from the one and to the other.
-use Rattle.std.proofs.Common.{◌≡◌, ℕ, zero, suc, ◌+◌, ◌<◌, ◌≤◌, ◌⊎◌, true, false, not, inl, inr, List, length, refl, sym, ◌∙◌, ap, subst, arith}
+-- A line that is settled with the lines noted is settled with all: a hard access between two lines has a path from the one and to the other.
+use Rattle.std.proofs.Common.{◌≡◌, ℕ, zero, suc, ◌+◌, ◌<◌, ◌≤◌, ◌⊎◌, Bool, true, false, not, inl, inr, List, length, refl, sym, ◌∙◌, ap, subst, arith}
 use Rattle.std.specs.Prelude.{◌≢◌, Contains, IsTrue, slice_index}
 use Rattle.std.proofs.lemmas.Bool.{true≢false, cases_order}
 use Rattle.index_spaces.specs.Space.{has_point}
@@ -8,17 +8,16 @@ use Rattle.graph_terms.specs.declared.verb.Mode.{Mode}
 use Rattle.graph_terms.specs.declared.verb.Mode.TheVariants.{Read, Write, Sum, Least, Most}
 use Rattle.graph_terms.specs.Graph.{GraphValue, space_at}
 use Rattle.graph_terms.specs.Edges.{edges}
-use Rattle.graph_terms.specs.Access.{accesses, is_reduction, AccessesConflict, Conflict, modes_clash}
+use Rattle.graph_terms.specs.Access.{accesses, is_reduction, AccessesConflict, modes_clash}
 use Rattle.graph_terms.specs.Fits.{IsGraph}
 use Rattle.graph_meaning.specs.Laws.{EdgesBetweenLines}
 use Rattle.graph_meaning.specs.Path.{Path, HasPath, last, first}
-use Rattle.graph_meaning.specs.Rules.{Exempt, RaceAt, EverywhereTwice, modes_commute}
-use Rattle.graph_meaning.proofs.PathLaws.{path_append}
+use Rattle.graph_meaning.specs.Rules.{modes_commute}
+use Rattle.graph_meaning.proofs.Public.{path_append, conflict_back, commute_back, lines_back, exempt_back}
 use Rattle.race_sweeps.specs.Placed.{IsPlaced}
 use Rattle.race_sweeps.specs.Scan.{IsHard, HasHard, AreAnsweredAt}
-use Rattle.race_sweeps.specs.Settled.{IsSettled}
+use Rattle.race_sweeps.specs.Settled.{IsSettled, AreEnough, is_noted}
 use Rattle.race_sweeps.specs.Held.{LieApart}
-use Rattle.graph_meaning.proofs.Races.{conflict_back, commute_back, lines_back, exempt_back}
 use Rattle.race_sweeps.proofs.Conflicts.{apart_back, lines_decided}
 use Rattle.race_sweeps.proofs.AccessSteps.{access_there}
 use Rattle.race_sweeps.proofs.Sections.{exempt_by}
@@ -100,71 +99,148 @@ module _ (g : GraphValue) where
     ]
   ]
 
+  settled_back : (i j : ℕ) → IsSettled g i j → IsSettled g j i
+  settled_back i j settled c = elim (settled (lines_back g j i c)) [
+    | inl path ↦ inr (inl path)
+    | inr (inl back) ↦ inl back
+    | inr (inr exempt) ↦ inr (inr (exempt_back g i j exempt))
+  ]
+
+  fine_back : (i j : ℕ) (a b : Access) → IsFine g i j a b → IsFine g j i b a
+  fine_back i j a b (inl path) = inr (inl path)
+  fine_back i j a b (inr (inl back)) = inl back
+  fine_back i j a b (inr (inr both)) = inr (inr (commute_back b.mode a.mode ∙ both.0, apart_back g i j both.1))
+
 module _ (g : GraphValue) (fits : IsGraph g) (between : EdgesBetweenLines) (lines : List ℕ) (placed : IsPlaced g lines) where
+  -- the line at a place
+  abbrev at : ℕ → ℕ
+  at p = slice_index lines p
+
   -- paths lead forward
-  forward : {i j : ℕ} → Path (edges g) i j → (p q : ℕ) → p < length lines → q < length lines → slice_index lines p ≡ i → slice_index lines q ≡ j → p < q
-  forward (last e c f t) p q hp hq at to = placed.forward e p q c hp hq (at ∙ sym f) (to ∙ sym t)
-  forward (first e c f rest) p q hp hq at to =
+  forward : {i j : ℕ} → Path (edges g) i j → (p q : ℕ) → p < length lines → q < length lines → at p ≡ i → at q ≡ j → p < q
+  forward (last e c f t) p q hp hq from to = placed.forward e p q c hp hq (from ∙ sym f) (to ∙ sym t)
+  forward (first e c f rest) p q hp hq from to =
       let r = placed.each e.to (between g e fits c).1 in
-      let low : p < r.0 = placed.forward e p r.0 c hp r.1 (at ∙ sym f) r.2 in
+      let low : p < r.0 = placed.forward e p r.0 c hp r.1 (from ∙ sym f) r.2 in
       let high : r.0 < q = forward rest r.0 q r.1 hq r.2 to in omega arith
 
-  -- all accesses of two places that conflict are settled
-  abbrev AreFine : ℕ → ℕ → Type 0
-  AreFine x u = (a b : Access) → Contains (accesses g (slice_index lines x)) a → Contains (accesses g (slice_index lines u)) b → AccessesConflict g a b → IsFine g (slice_index lines x) (slice_index lines u) a b
+  -- two lines have a path forward where one of two accesses that conflict is hard
+  path_to_hard : (x w : ℕ) (a h : Access) → x < w → w < length lines → IsHard g (at w) h.mode → IsFine g (at x) (at w) a h → HasPath g (at x) (at w)
+  path_to_hard x w a h low high hard (inl path) = path
+  path_to_hard x w a h low high hard (inr (inl back)) = (let up : w < x = forward back w x high (omega arith) refl refl in absurd (omega arith))
+  path_to_hard x w a h low high hard (inr (inr both)) = absurd (not_apart g (at x) (at w) a h hard both.0 both.1)
 
-  -- two lines have a path forward where one has a hard access that conflicts with one of the other
-  path_to_hard : (x w : ℕ) (a h : Access) → x < w → w < length lines → Contains (accesses g (slice_index lines x)) a → Contains (accesses g (slice_index lines w)) h → AccessesConflict g a h → IsHard g (slice_index lines w) h.mode → AreFine x w → HasPath g (slice_index lines x) (slice_index lines w)
-  path_to_hard x w a h low high ha hh c hard fine = elim (fine a h ha hh c) [
-    | inl path ↦ path
-    | inr (inl back) ↦ (let up : w < x = forward back w x high (omega arith) refl refl in absurd (omega arith))
-    | inr (inr both) ↦ absurd (not_apart g (slice_index lines x) (slice_index lines w) a h hard both.0 both.1)
-  ]
+  path_from_hard : (w u : ℕ) (h b : Access) → w < u → u < length lines → IsHard g (at w) h.mode → IsFine g (at w) (at u) h b → HasPath g (at w) (at u)
+  path_from_hard w u h b low high hard (inl path) = path
+  path_from_hard w u h b low high hard (inr (inl back)) = (let up : u < w = forward back u w high (omega arith) refl refl in absurd (omega arith))
+  path_from_hard w u h b low high hard (inr (inr both)) = absurd (not_apart g (at u) (at w) b h hard (commute_back b.mode h.mode ∙ both.0) (apart_back g (at w) (at u) both.1))
 
-  path_from_hard : (w u : ℕ) (h b : Access) → w < u → u < length lines → Contains (accesses g (slice_index lines w)) h → Contains (accesses g (slice_index lines u)) b → AccessesConflict g b h → IsHard g (slice_index lines w) h.mode → AreFine w u → HasPath g (slice_index lines w) (slice_index lines u)
-  path_from_hard w u h b low high hh hb c hard fine = elim (fine h b hh hb (conflict_back g b h c)) [
-    | inl path ↦ path
-    | inr (inl back) ↦ (let up : u < w = forward back u w high (omega arith) refl refl in absurd (omega arith))
-    | inr (inr both) ↦ absurd (not_apart g (slice_index lines u) (slice_index lines w) b h hard (commute_back b.mode h.mode ∙ both.0) (apart_back g (slice_index lines w) (slice_index lines u) both.1))
-  ]
+  module _ (racing : List Bool) (answered : (u : ℕ) → u < length lines → AreAnsweredAt g lines racing u) (p : ℕ) (known : p < length lines) (with_noted : (r : ℕ) → is_noted racing r ≡ true → IsSettled g (at p) r)
+      (a : Access) (ha : Contains (accesses g (at p)) a) where
+    -- an access of line z that lies between two that conflict, and conflicts with each of them and with a
+    record IsBetween (z : ℕ) (h k : Access) : Type 0 where
+      access : Access
+      listed : Contains (accesses g z) access
+      hard : IsHard g z access.mode
+      one : AccessesConflict g h access
+      other : AccessesConflict g k access
+      own : AccessesConflict g a access
 
-  -- a path through a hard access
-  path_through : (x w u : ℕ) (a b : Access) → x < w → w < u → u < length lines → Contains (accesses g (slice_index lines x)) a → Contains (accesses g (slice_index lines u)) b → AccessesConflict g a b →
-      HasHard g (slice_index lines w) a.column a.space ⊎ HasHard g (slice_index lines w) b.column b.space → AreFine x w → AreFine w u → HasPath g (slice_index lines x) (slice_index lines u)
-  path_through x w u a b low high known ha hb c (inl h) before behind = path_append
-      (path_to_hard x w a h.access low (omega arith) ha h.listed (same_conflict g (slice_index lines w) a b h.access c h.column_is h.space_is h.hard) h.hard before)
-      (path_from_hard w u h.access b high known h.listed hb (first_conflict g (slice_index lines w) b a h.access (conflict_back g a b c) (h.column_is ∙ c.column) h.space_is h.hard) h.hard behind)
-  path_through x w u a b low high known ha hb c (inr h) before behind = path_append
-      (path_to_hard x w a h.access low (omega arith) ha h.listed (first_conflict g (slice_index lines w) a b h.access c (h.column_is ∙ sym c.column) h.space_is h.hard) h.hard before)
-      (path_from_hard w u h.access b high known h.listed hb (same_conflict g (slice_index lines w) b a h.access (conflict_back g a b c) h.column_is h.space_is h.hard) h.hard behind)
+    -- an access is a, or conflicts with it
+    abbrev IsBound : Access → Type 0
+    IsBound h = (h ≡ a) ⊎ AccessesConflict g a h
 
-  module _ (answered : (u : ℕ) → u < length lines → AreAnsweredAt g lines u) where
-    fine_within : (d x u : ℕ) → x < u → u < length lines → u ≤ x + d → AreFine x u
-    fine_within zero x u low high near a b ha hb c = absurd (omega arith)
-    fine_within (suc d) x u low high near a b ha hb c = elim (answered u high x a b low ha hb c) [
-      | inl settled ↦ fine_by g (slice_index lines x) (slice_index lines u) a b (λ same. placed.distinct x u low high same) ha hb c settled
-      | inr (inl both) ↦ inr (inr both)
+    is_between : (z : ℕ) (h k : Access) → IsBound h → AccessesConflict g h k → AccessesConflict g a k → HasHard g z h.column h.space ⊎ HasHard g z k.column k.space → IsBetween z h k
+    is_between z h k bound c own (inr m) = record {
+      access = m.access;
+      listed = m.listed;
+      hard = m.hard;
+      one = first_conflict g z h k m.access c (m.column_is ∙ sym c.column) m.space_is m.hard;
+      other = same_conflict g z k h m.access (conflict_back g h k c) m.column_is m.space_is m.hard;
+      own = first_conflict g z a k m.access own (m.column_is ∙ sym own.column) m.space_is m.hard;
+    }
+    is_between z h k bound c own (inl m) =
+        let one : AccessesConflict g h m.access = same_conflict g z h k m.access c m.column_is m.space_is m.hard in
+        record {
+          access = m.access;
+          listed = m.listed;
+          hard = m.hard;
+          one = one;
+          other = first_conflict g z k h m.access (conflict_back g h k c) (m.column_is ∙ c.column) m.space_is m.hard;
+          own = elim bound [
+            | inl same ↦ subst (λ x. AccessesConflict g x m.access) same one
+            | inr before ↦ first_conflict g z a h m.access before (m.column_is ∙ sym before.column) m.space_is m.hard
+          ];
+        }
+
+    -- a path leads from the line at p to a hard access of another line behind it, or the access is a
+    abbrev IsAhead : ℕ → Access → Type 0
+    IsAhead y h = ((y ≡ p) × (h ≡ a)) ⊎ ((p < y) × IsHard g (at y) h.mode × HasPath g (at p) (at y) × AccessesConflict g a h)
+
+    ahead_bound : (y : ℕ) (h : Access) → IsAhead y h → IsBound h
+    ahead_bound y h (inl same) = inl same.1
+    ahead_bound y h (inr hard) = inr hard.3
+
+    go_on : (y w : ℕ) (h k : Access) → y < w → w < length lines → IsAhead y h → IsFine g (at y) (at w) h k → IsFine g (at p) (at w) a k
+    go_on y w h k low high (inl same) fine = subst (λ x. IsFine g (at x) (at w) a k) same.0 (subst (λ x. IsFine g (at y) (at w) x k) same.1 fine)
+    go_on y w h k low high (inr hard) fine = inl (path_append hard.2 (path_from_hard y w h k low high hard.1 fine))
+
+    fine_ahead : (d y w : ℕ) (h k : Access) → y < w → w < length lines → w ≤ y + d → p ≤ y → Contains (accesses g (at y)) h → Contains (accesses g (at w)) k → AccessesConflict g h k → AccessesConflict g a k → IsAhead y h → IsFine g (at p) (at w) a k
+    fine_ahead zero y w h k low high near from hh hk c own ahead = absurd (omega arith)
+    fine_ahead (suc d) y w h k low high near from hh hk c own ahead = elim (answered w high y h k low hh hk c) [
+      | inl (inl settled) ↦ go_on y w h k low high ahead (fine_by g (at y) (at w) h k (λ same. placed.distinct y w low high same) hh hk c settled)
+      | inl (inr both) ↦ fine_by g (at p) (at w) a k (λ same. placed.distinct p w (omega arith) high same) ha hk own (with_noted (at w) both.1)
+      | inr (inl both) ↦ go_on y w h k low high ahead (inr (inr both))
       | inr (inr hard) ↦ (
-          let w = hard.0 in
-          let low' : x < w = hard.1 in
-          let high' : w < u = hard.2 in
-          inl (path_through x w u a b low' high' high ha hb c hard.3 (fine_within d x w low' (omega arith) (omega arith)) (fine_within d w u high' high (omega arith))))
+          let z = hard.0 in
+          let up : y < z = hard.1 in
+          let down : z < w = hard.2 in
+          let m = is_between (at z) h k (ahead_bound y h ahead) c own hard.3 in
+          let path = path_to_hard p z a m.access (omega arith) (omega arith) m.hard (fine_ahead d y z h m.access up (omega arith) (omega arith) from hh m.listed m.one m.own ahead) in
+          fine_ahead d z w m.access k down high (omega arith) (omega arith) m.listed hk (conflict_back g k m.access m.other) own (inr (omega arith, m.hard, path, m.own)))
     ]
 
-    settled_within : (d x u : ℕ) → x < u → u < length lines → u ≤ x + d → IsSettled g (slice_index lines x) (slice_index lines u)
-    settled_within d x u low high near = settled_all g (slice_index lines x) (slice_index lines u) (fine_within d x u low high near)
+    -- the same before it
+    abbrev IsBehind : ℕ → Access → Type 0
+    IsBehind y h = ((y ≡ p) × (h ≡ a)) ⊎ ((y < p) × IsHard g (at y) h.mode × HasPath g (at y) (at p) × AccessesConflict g a h)
 
-    pub all_settled : EverywhereTwice (RaceAt g)
-    all_settled i j low c =
+    behind_bound : (y : ℕ) (h : Access) → IsBehind y h → IsBound h
+    behind_bound y h (inl same) = inl same.1
+    behind_bound y h (inr hard) = inr hard.3
+
+    go_back : (w y : ℕ) (k h : Access) → w < y → y < length lines → IsBehind y h → IsFine g (at w) (at y) k h → IsFine g (at p) (at w) a k
+    go_back w y k h low high (inl same) fine = subst (λ x. IsFine g (at x) (at w) a k) same.0 (subst (λ x. IsFine g (at y) (at w) x k) same.1 (fine_back g (at w) (at y) k h fine))
+    go_back w y k h low high (inr hard) fine = inr (inl (path_append (path_to_hard w y k h low high hard.1 fine) hard.2))
+
+    fine_behind : (d w y : ℕ) (k h : Access) → w < y → y ≤ p → y ≤ w + d → Contains (accesses g (at w)) k → Contains (accesses g (at y)) h → AccessesConflict g k h → AccessesConflict g a k → IsBehind y h → IsFine g (at p) (at w) a k
+    fine_behind zero w y k h low to near hk hh c own behind = absurd (omega arith)
+    fine_behind (suc d) w y k h low to near hk hh c own behind =
+        let high : y < length lines = omega (arith, known) in
+        elim (answered y high w k h low hk hh c) [
+          | inl (inl settled) ↦ go_back w y k h low high behind (fine_by g (at w) (at y) k h (λ same. placed.distinct w y low high same) hk hh c settled)
+          | inl (inr both) ↦ fine_by g (at p) (at w) a k (λ same. placed.distinct w p (omega arith) known (sym same)) ha hk own (with_noted (at w) both.0)
+          | inr (inl both) ↦ go_back w y k h low high behind (inr (inr both))
+          | inr (inr hard) ↦ (
+              let z = hard.0 in
+              let up : w < z = hard.1 in
+              let down : z < y = hard.2 in
+              let m = is_between (at z) h k (behind_bound y h behind) (conflict_back g k h c) own (elim hard.3 [ inl x ↦ inr x | inr x ↦ inl x ]) in
+              let path = path_from_hard z p m.access a (omega arith) known m.hard (fine_back g (at p) (at z) a m.access
+              (fine_behind d z y m.access h down to (omega arith) m.listed hh (conflict_back g h m.access m.one) m.own behind)) in
+              fine_behind d w z k m.access up (omega arith) (omega arith) hk m.listed m.other own (inr (omega arith, m.hard, path, m.own)))
+        ]
+
+  module _ (racing : List Bool) (answered : (u : ℕ) → u < length lines → AreAnsweredAt g lines racing u) where
+    settled_at : (p q : ℕ) → p < length lines → q < length lines → (p ≡ q → ⊥) → ((r : ℕ) → is_noted racing r ≡ true → IsSettled g (at p) r) → IsSettled g (at p) (at q)
+    settled_at p q hp hq apart with_noted = settled_all g (at p) (at q) (λ a b ha hb c. elim (cases_order p q) [
+      | inl same ↦ absurd (apart same)
+      | inr (inl before) ↦ fine_ahead racing answered p hp with_noted a ha q p q a b before hq (omega arith) (omega arith) ha hb c c (inl (refl, refl))
+      | inr (inr behind) ↦ fine_behind racing answered p hp with_noted a ha p q p b a behind (omega arith) (omega arith) hb ha (conflict_back g a b c) c (inl (refl, refl))
+    ])
+
+    pub enough_noted : AreEnough g racing
+    enough_noted i with_noted j c =
         let p = placed.each i (access_there g i c.one c.one_in) in
         let q = placed.each j (access_there g j c.other c.other_in) in
-        elim (cases_order p.0 q.0) [
-          | inl same ↦ (let e : i ≡ j = sym p.2 ∙ (ap (slice_index lines) same ∙ q.2) in absurd (omega arith))
-          | inr (inl before) ↦ subst (λ z. HasPath g i z ⊎ (HasPath g z i ⊎ Exempt g i z)) q.2 (subst (λ y. HasPath g y (slice_index lines q.0) ⊎ (HasPath g (slice_index lines q.0) y ⊎ Exempt g y (slice_index lines q.0))) p.2
-              (settled_within q.0 p.0 q.0 before q.1 (omega arith) (subst (λ z. Conflict g (slice_index lines p.0) z) (sym q.2) (subst (λ y. Conflict g y j) (sym p.2) c))))
-          | inr (inr behind) ↦ elim (settled_within p.0 q.0 p.0 behind p.1 (omega arith) (subst (λ z. Conflict g (slice_index lines q.0) z) (sym p.2) (subst (λ y. Conflict g y i) (sym q.2) (lines_back g i j c)))) [
-            | inl path ↦ inr (inl (subst (λ z. HasPath g z i) q.2 (subst (λ y. HasPath g (slice_index lines q.0) y) p.2 path)))
-            | inr (inl back) ↦ inl (subst (λ z. HasPath g i z) q.2 (subst (λ y. HasPath g y (slice_index lines q.0)) p.2 back))
-            | inr (inr exempt) ↦ inr (inr (exempt_back g j i (subst (λ z. Exempt g z i) q.2 (subst (λ y. Exempt g (slice_index lines q.0) y) p.2 exempt))))
-          ]
-        ]
+        let apart : p.0 ≡ q.0 → ⊥ = λ same. c.different (sym p.2 ∙ (ap at same ∙ q.2)) in
+        subst (λ z. IsSettled g z j) p.2 (subst (λ z. IsSettled g (at p.0) z) q.2 (settled_at p.0 q.0 p.1 q.1 apart (λ r noted. subst (λ z. IsSettled g z r) (sym p.2) (settled_back g r i (with_noted r noted))))) c

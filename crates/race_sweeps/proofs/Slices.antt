@@ -1,5 +1,5 @@
 -- The conflicts of a slice are answered for.
-use Rattle.std.proofs.Common.{◌≡◌, ℕ, ◌+◌, ◌-◌, ◌*◌, ◌/◌, ◌<◌, ◌≤◌, true, inl, inr, List, length, refl, sym, ◌∙◌, ap, subst, arith}
+use Rattle.std.proofs.Common.{◌≡◌, ℕ, ◌+◌, ◌-◌, ◌*◌, ◌/◌, ◌<◌, ◌≤◌, Bool, true, inl, inr, List, length, refl, sym, ◌∙◌, ap, subst, arith}
 use Rattle.std.specs.Prelude.{Option, Some, None, Contains, slice_get, slice_index}
 use Rattle.std.proofs.lemmas.Bool.{true≢false}
 use Rattle.std.proofs.lemmas.Option.{none-some, same_Some, slice_get-get_or}
@@ -14,10 +14,10 @@ use Rattle.race_sweeps.specs.Guards.{AreGuarded}
 use Rattle.race_sweeps.specs.Marks.{bit_in}
 use Rattle.race_sweeps.specs.Scan.{IsHardTo, IsAskable, IsMarkAsked, IsWalked, AreAnsweredAt}
 use Rattle.race_sweeps.specs.ScanState.{AreGrouped}
-use Rattle.race_sweeps.specs.Settled.{IsSettled}
+use Rattle.race_sweeps.specs.Settled.{IsSettledOrNoted}
 use Rattle.race_sweeps.specs.Table.{IsTable}
 use Rattle.race_sweeps.proofs.AccessSteps.{few_accesses}
-use Rattle.graph_meaning.proofs.Races.{conflict_back, commute_back}
+use Rattle.graph_meaning.proofs.Public.{conflict_back, commute_back}
 
 -- the class of an access
 class_by : (keys : List Access) (o : Option ℕ) (a : Access) → key_of keys o ≡ Some a → (c : ℕ) × (o ≡ Some c) × (slice_get keys c ≡ Some a)
@@ -32,8 +32,8 @@ class_of_access g lines keys classes are p a low c =
     let k : c.0 < 3 = omega arith in
     (c.0, k, class_by keys (class_at classes (3 * p + c.0)) a (are.each p c.0 low k ∙ (slice_get-get_or (accesses g (slice_index lines p)) c.0 a c.1 ∙ ap Some c.2)))
 
-module _ (g : GraphValue) (t : Table) (is : IsTable g t) (hard : List ℕ) (groups asks : List Mark) (first end : ℕ) (short : end ≤ first + 64) (within : end ≤ length t.lines.items) (hards : IsHardTo g t hard first) (grouped : AreGrouped t groups first (3 * end))
-    (asked : (m : Mark) → Contains groups m → IsMarkAsked t hard asks (3 * end) m) (walked : (m : Mark) → Contains asks m → IsWalked g t first (3 * end) m) where
+module _ (g : GraphValue) (t : Table) (is : IsTable g t) (racing : List Bool) (hard : List ℕ) (groups asks : List Mark) (first end : ℕ) (short : end ≤ first + 64) (within : end ≤ length t.lines.items) (hards : IsHardTo g t hard first) (grouped : AreGrouped t groups first (3 * end))
+    (asked : (m : Mark) → Contains groups m → IsMarkAsked t hard asks (3 * end) m) (walked : (m : Mark) → Contains asks m → IsWalked g t racing first (3 * end) m) where
   -- a class is asked about another one that conflicts with it
   askable : (c d : ℕ) (a b : Access) → slice_get t.keys.items c ≡ Some b → slice_get t.keys.items d ≡ Some a → AccessesConflict g a b → IsAskable t c d
   askable c d a b kc kd conflict = elim (is.near_are.each c d b a kc kd (conflict_back g a b conflict)) [
@@ -50,7 +50,7 @@ module _ (g : GraphValue) (t : Table) (is : IsTable g t) (hard : List ℕ) (grou
     )
   ]
 
-  pub slice_answered : (u : ℕ) → first ≤ u → u < end → AreAnsweredAt g t.lines.items u
+  pub slice_answered : (u : ℕ) → first ≤ u → u < end → AreAnsweredAt g t.lines.items racing u
   slice_answered u low high x a b before ha hb conflict =
       let lines = t.lines.items in
       let one = class_of_access g lines t.keys.items t.classes.items is.classes_are x a (omega arith) ha in
@@ -87,6 +87,6 @@ module _ (g : GraphValue) (t : Table) (is : IsTable g t) (hard : List ℕ) (grou
         | inr (inr (inr marked)) ↦ (
             let low' : u - first < 64 = omega arith in
             let at : first + (u - first) ≡ u = omega arith in
-            inl (subst (λ z. IsSettled g (slice_index lines x) (slice_index lines z)) at
-            (walked marked.mark marked.kept x j one.1 (omega arith) (one.2.1 ∙ ap Some (sym marked.class)) marked.floor (u - first) low' marked.bit (omega arith))))
+            inl (subst (λ z. IsSettledOrNoted g racing (slice_index lines x) (slice_index lines z)) at
+            (walked marked.mark marked.kept x j one.1 (omega arith) (one.2.1 ∙ ap Some (sym marked.class)) marked.floor (u - first) low' (omega arith) marked.bit (omega arith))))
       ]

@@ -1,5 +1,5 @@
 -- Walks over the members of a class.
-use Rattle.std.proofs.Common.{◌≡◌, ℕ, ◌+◌, ◌*◌, ◌/◌, ◌<◌, ◌≤◌, ◌^◌, true, inl, inr, List, sym, ◌∙◌, ap, subst, arith}
+use Rattle.std.proofs.Common.{◌≡◌, ℕ, ◌+◌, ◌*◌, ◌/◌, ◌<◌, ◌≤◌, ◌^◌, Bool, true, inl, inr, List, length, sym, ◌∙◌, ap, subst, arith}
 use Rattle.std.specs.Prelude.{Option, Some, None, slice_index}
 use Rattle.std.specs.Int.{bit_not}
 use lib.Bits.{bit_and}
@@ -14,28 +14,29 @@ use Rattle.race_sweeps.specs.Marks.{bit_in}
 use Rattle.race_sweeps.specs.Members.{IsLastBelow}
 use Rattle.race_sweeps.specs.Reach.{IsReach}
 use Rattle.race_sweeps.specs.Scan.{AreSettledWith, IsWalked}
-use Rattle.race_sweeps.specs.Settled.{IsSettled}
+use Rattle.race_sweeps.specs.Settled.{AreStillNoted, IsSettledOrNoted}
 use Rattle.race_sweeps.proofs.Bits.{bit_in-and, bit_in-not}
 use Rattle.race_sweeps.proofs.Listed.{last_found, last_none}
+use Rattle.race_sweeps.proofs.Noting.{with_still}
 
 -- a walk under way: the members of a mark's class from number `limit` on are settled, and the next one is the last below it
-pub record IsWalking (g : GraphValue) (t : Table) (first : ℕ) (ask : Mark) (all : ℕ) (found : Option ℕ) : Type 0 where
+pub record IsWalking (g : GraphValue) (t : Table) (racing : List Bool) (first : ℕ) (ask : Mark) (all : ℕ) (found : Option ℕ) : Type 0 where
   pub limit : ℕ
   pub within : limit ≤ all
   pub found_is : IsLastBelow t.classes.items ask.class limit found
-  pub done : (x k : ℕ) → k < 3 → limit ≤ 3 * x + k → 3 * x + k < all → class_at t.classes.items (3 * x + k) ≡ Some ask.class → ask.floor ≤ x → AreSettledWith g t.lines.items first x ask.word
+  pub done : (x k : ℕ) → k < 3 → limit ≤ 3 * x + k → 3 * x + k < all → class_at t.classes.items (3 * x + k) ≡ Some ask.class → ask.floor ≤ x → AreSettledWith g t.lines.items racing first x ask.word
 
 -- how far a walk may go on
 abbrev pub rest_of : Option ℕ → ℕ
 rest_of None = 0
 rest_of (Some m) = m + 1
 
-pub walk_begins : (g : GraphValue) (t : Table) (first : ℕ) (ask : Mark) (all : ℕ) (found : Option ℕ) → IsLastBelow t.classes.items ask.class all found → IsWalking g t first ask all found
-walk_begins g t first ask all found is = record { limit = all; within = omega arith; found_is = is; done = λ x k few low high class above. absurd (omega arith) }
+pub walk_begins : (g : GraphValue) (t : Table) (racing : List Bool) (first : ℕ) (ask : Mark) (all : ℕ) (found : Option ℕ) → IsLastBelow t.classes.items ask.class all found → IsWalking g t racing first ask all found
+walk_begins g t racing first ask all found is = record { limit = all; within = omega arith; found_is = is; done = λ x k few low high class above. absurd (omega arith) }
 
-module _ (g : GraphValue) (t : Table) (first : ℕ) (ask : Mark) (all : ℕ) (found : Option ℕ) (w : IsWalking g t first ask all found) where
+module _ (g : GraphValue) (t : Table) (racing : List Bool) (first : ℕ) (ask : Mark) (all : ℕ) (found : Option ℕ) (w : IsWalking g t racing first ask all found) where
   -- no member is left
-  pub walk_ends : found ≡ None → IsWalked g t first all ask
+  pub walk_ends : found ≡ None → IsWalked g t racing first all ask
   walk_ends none x k few low class above = elim (cases_lt (3 * x + k) w.limit) [
     | inl l ↦ absurd (last_none t.classes.items ask.class w.limit found w.found_is none (3 * x + k) l class)
     | inr up ↦ w.done x k few up low class above
@@ -52,22 +53,22 @@ module _ (g : GraphValue) (t : Table) (first : ℕ) (ask : Mark) (all : ℕ) (fo
     found_class = is.1
 
     -- the next member lies below the floor
-    pub walk_stops : m / 3 < ask.floor → IsWalked g t first all ask
+    pub walk_stops : m / 3 < ask.floor → IsWalked g t racing first all ask
     walk_stops low x k few before class above = elim (cases_lt (3 * x + k) w.limit) [
       | inl l ↦ absurd (is.2 (3 * x + k) (omega arith) l class)
       | inr up ↦ w.done x k few up before class above
     ]
 
     -- or is settled
-    pub walk_more : AreSettledWith g t.lines.items first (m / 3) ask.word → (next : Option ℕ) → IsLastBelow t.classes.items ask.class m next → IsWalking g t first ask all next
-    walk_more settled next before = record {
+    pub walk_more : (new : List Bool) → AreStillNoted racing new → AreSettledWith g t.lines.items new first (m / 3) ask.word → (next : Option ℕ) → IsLastBelow t.classes.items ask.class m next → IsWalking g t new first ask all next
+    walk_more new still settled next before = record {
       limit = m;
       within = (let a : m < all = found_low in omega arith);
       found_is = before;
       done = λ x k few low high class above. elim (cases_lt (3 * x + k) w.limit) [
-        | inr up ↦ w.done x k few up high class above
+        | inr up ↦ with_still g t.lines.items racing new first x ask.word still (w.done x k few up high class above)
         | inl l ↦ elim (cases_eq (3 * x + k) m) [
-          | inl same ↦ subst (λ z. AreSettledWith g t.lines.items first z ask.word) (let e : m / 3 ≡ x = omega arith in e) settled
+          | inl same ↦ subst (λ z. AreSettledWith g t.lines.items new first z ask.word) (let e : m / 3 ≡ x = omega arith in e) settled
           | inr apart ↦ absurd (is.2 (3 * x + k) (omega (arith, apart)) l class)
         ]
       ];
@@ -78,11 +79,11 @@ rest_less classes c m None h = omega arith
 rest_less classes c m (Some p) h = let l : p < m = h.0 in omega arith
 
 -- lines that are reached are settled, and so are those that are left where they are
-pub settled_by : (g : GraphValue) (lines words : List ℕ) (first x word behind reached : ℕ) → IsReach g lines first words → reached ≡ slice_index words x → reached < 2 ^ 64 → ((b : ℕ) → b < 64 → x < first + b → bit_in behind b ≡ true) →
-    ((b : ℕ) → b < 64 → bit_in (bit_and (bit_and word behind) (bit_not w64 reached)) b ≡ true → IsSettled g (slice_index lines x) (slice_index lines (first + b))) → AreSettledWith g lines first x word
-settled_by g lines words first x word behind reached r is fits later left b low set up = elim (cases_Bool (bit_in reached b)) [
-  | inl yes' ↦ (λ c. inl ((r.reached x b low (ap (λ z. bit_in z b) (sym is) ∙ yes')).1))
-  | inr no' ↦ left b low (bit_in-and (bit_and word behind) (bit_not w64 reached) b
+pub settled_by : (g : GraphValue) (lines words : List ℕ) (racing : List Bool) (first x word behind reached : ℕ) → IsReach g lines first words → reached ≡ slice_index words x → reached < 2 ^ 64 → ((b : ℕ) → b < 64 → x < first + b → bit_in behind b ≡ true) →
+    ((b : ℕ) → b < 64 → first + b < length lines → bit_in (bit_and (bit_and word behind) (bit_not w64 reached)) b ≡ true → IsSettledOrNoted g racing (slice_index lines x) (slice_index lines (first + b))) → AreSettledWith g lines racing first x word
+settled_by g lines words racing first x word behind reached r is fits later left b low there set up = elim (cases_Bool (bit_in reached b)) [
+  | inl yes' ↦ inl (λ c. inl ((r.reached x b low (ap (λ z. bit_in z b) (sym is) ∙ yes')).1))
+  | inr no' ↦ left b low there (bit_in-and (bit_and word behind) (bit_not w64 reached) b
       ∙ and_from (bit_in (bit_and word behind) b) (bit_in (bit_not w64 reached) b) (bit_in-and word behind b ∙ and_from (bit_in word b) (bit_in behind b) set (later b low up))
       (bit_in-not reached b fits low ∙ not_from_false (bit_in reached b) no'))
 ]

@@ -1,5 +1,5 @@
 -- The scan for conflicts that no path settles, 64 lines at a time.
-use Rattle.std.specs.Prelude.{◌≡◌, ◌≢◌, ℕ, ◌+◌, ◌*◌, ◌<◌, ◌≤◌, ◌⊎◌, true, List, length, Some, IsTrue, Contains, slice_get, slice_index}
+use Rattle.std.specs.Prelude.{◌≡◌, ◌≢◌, ℕ, ◌+◌, ◌*◌, ◌<◌, ◌≤◌, ◌⊎◌, Bool, true, List, length, Some, IsTrue, Contains, slice_get, slice_index}
 use Rattle.graph_terms.specs.declared.verb.Access.{Access}
 use Rattle.graph_terms.specs.declared.verb.Mode.{Mode}
 use Rattle.graph_terms.specs.declared.verb.Mode.TheVariants.{Read, Write}
@@ -12,7 +12,7 @@ use Rattle.race_sweeps.specs.Classes.{class_at, IsNear}
 use Rattle.race_sweeps.specs.Guards.{AreGuarded}
 use Rattle.race_sweeps.specs.Held.{LieApart}
 use Rattle.race_sweeps.specs.Marks.{bit_in, IsMarked}
-use Rattle.race_sweeps.specs.Settled.{IsSettled}
+use Rattle.race_sweeps.specs.Settled.{IsSettledOrNoted}
 
 -- an access of line i that no exemption covers: a write, or a reduction outside of all sections
 abbrev pub IsHard : GraphValue → ℕ → Mode → Type 0
@@ -45,20 +45,20 @@ IsAsked t hard asks limit m d = (x k b : ℕ) → k < 3 → 3 * x + k < limit �
 abbrev pub IsMarkAsked : Table → List ℕ → List Mark → ℕ → Mark → Type 0
 IsMarkAsked t hard asks limit m = (d : ℕ) → IsAskable t m.class d → IsAsked t hard asks limit m d
 
--- each line of a word that stands behind place x is settled with the line there
-abbrev pub AreSettledWith : GraphValue → List ℕ → ℕ → ℕ → ℕ → Type 0
-AreSettledWith g lines first x word = (b : ℕ) → b < 64 → bit_in word b ≡ true → x < first + b → IsSettled g (slice_index lines x) (slice_index lines (first + b))
+-- each line of a word that stands behind place x is settled with the line there, or both are noted
+abbrev pub AreSettledWith : GraphValue → List ℕ → List Bool → ℕ → ℕ → ℕ → Type 0
+AreSettledWith g lines racing first x word = (b : ℕ) → b < 64 → first + b < length lines → bit_in word b ≡ true → x < first + b → IsSettledOrNoted g racing (slice_index lines x) (slice_index lines (first + b))
 
--- the members of a mark's class from its floor on, below number `limit`, are settled with the mark's lines
-abbrev pub IsWalked : GraphValue → Table → ℕ → ℕ → Mark → Type 0
-IsWalked g t first limit m = (x k : ℕ) → k < 3 → 3 * x + k < limit → class_at t.classes.items (3 * x + k) ≡ Some m.class → m.floor ≤ x → AreSettledWith g t.lines.items first x m.word
+-- the members of a mark's class from its floor on, below number `limit`, are settled with the mark's lines, or noted as they are
+abbrev pub IsWalked : GraphValue → Table → List Bool → ℕ → ℕ → Mark → Type 0
+IsWalked g t racing first limit m = (x k : ℕ) → k < 3 → 3 * x + k < limit → class_at t.classes.items (3 * x + k) ≡ Some m.class → m.floor ≤ x → AreSettledWith g t.lines.items racing first x m.word
 
--- an access of the line at place x and one of the line at place u are answered for: by the lines themselves, by their sections where the modes commute, or by a hard access of one of the two spaces between them
-abbrev pub IsAnswered : GraphValue → List ℕ → ℕ → ℕ → Access → Access → Type 0
-IsAnswered g lines x u a b = IsSettled g (slice_index lines x) (slice_index lines u)
+-- an access of the line at place x and one of the line at place u are answered for: by the lines themselves, which are settled or noted, by their sections where the modes commute, or by a hard access of one of the two spaces between them
+abbrev pub IsAnswered : GraphValue → List ℕ → List Bool → ℕ → ℕ → Access → Access → Type 0
+IsAnswered g lines racing x u a b = IsSettledOrNoted g racing (slice_index lines x) (slice_index lines u)
     ⊎ ((IsTrue (modes_commute a.mode b.mode) × LieApart g (slice_index lines x) (slice_index lines u))
     ⊎ ((w : ℕ) × (x < w) × (w < u) × (HasHard g (slice_index lines w) a.column a.space ⊎ HasHard g (slice_index lines w) b.column b.space)))
 
 -- all conflicts of the line at place u with lines before it are answered for
-abbrev pub AreAnsweredAt : GraphValue → List ℕ → ℕ → Type 0
-AreAnsweredAt g lines u = (x : ℕ) (a b : Access) → x < u → Contains (accesses g (slice_index lines x)) a → Contains (accesses g (slice_index lines u)) b → AccessesConflict g a b → IsAnswered g lines x u a b
+abbrev pub AreAnsweredAt : GraphValue → List ℕ → List Bool → ℕ → Type 0
+AreAnsweredAt g lines racing u = (x : ℕ) (a b : Access) → x < u → Contains (accesses g (slice_index lines x)) a → Contains (accesses g (slice_index lines u)) b → AccessesConflict g a b → IsAnswered g lines racing x u a b

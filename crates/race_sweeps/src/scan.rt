@@ -1,12 +1,12 @@
-//! The scan for conflicts that no path settles.
+//! The scan for lines that race.
 
-ghost use Rattle.std.specs.Prelude.{◌≡◌, ℕ, ◌+◌, ◌-◌, ◌*◌, ◌/◌, ◌<◌, ◌≤◌, [], length, Some, slice_index, IsTrue, OnOk, IfOk};
-ghost use Rattle.graph_meaning.specs.Rules.{EverywhereTwice, RaceAt};
+ghost use Rattle.std.specs.Prelude.{◌≡◌, ℕ, ◌+◌, ◌-◌, ◌*◌, ◌/◌, ◌<◌, ◌≤◌, [], length, Some, slice_index, OnOk, IfOk};
 ghost use Rattle.race_sweeps.specs.Held.{IsHeld};
 ghost use Rattle.race_sweeps.specs.Classes.{class_at};
 ghost use Rattle.race_sweeps.specs.Marks.{AreMarksBelow, IsMarked};
 ghost use Rattle.race_sweeps.specs.Scan.{AreAnsweredAt};
 ghost use Rattle.race_sweeps.specs.ScanState.{AreListed, IsScanned, AreGrouped};
+ghost use Rattle.race_sweeps.specs.Settled.{AreEnough, AreStillNoted};
 ghost use Rattle.race_sweeps.specs.Table.{IsTable};
 
 use crate::asks::ask_all;
@@ -49,48 +49,53 @@ impl Scan {
         })
     }
 
-    /// Whether all slices pass.
-    pub(crate) fn passes(
+    /// Notes enough of the lines that race, where none is noted yet.
+    pub(crate) fn note_racing(
         mut self,
         graph: &Graph,
         table: &Table,
         held: &Held,
-    ) -> Result<bool, NoMemory>
+        racing: &mut Vec<bool>,
+    ) -> Result<(), NoMemory>
         requires table { IsTable graph.now table.now }
         requires held { IsHeld graph.now held.now }
         requires scanned { IsScanned graph.now table.now self 0 }
-        ensures { IfOk result (λ b. IsTrue b → EverywhereTwice (RaceAt graph.now)) }
+        requires size { length racing.old.items ≡ length graph.now.lines }
+        ensures size { OnOk result (length racing.new.items ≡ length graph.now.lines) }
+        ensures enough { OnOk result (AreEnough graph.now racing.new.items) }
     {
         edges_between_lines();
         let lines = graph.lines();
         let mut first = 0;
         while first < lines {
             let end = lines.min(first + 64);
-            if !self.passes_slice(graph, table, held, first, end)? {
-                return Ok(false);
-            }
+            self.note_slice(graph, table, held, first, end, racing)?;
             first = end;
         }
-        Ok(true)
+        Ok(())
     }
 
-    /// Whether the lines of a slice are settled with those before them.
-    fn passes_slice(
+    /// Settles the lines of a slice with those before them.
+    fn note_slice(
         &mut self,
         graph: &Graph,
         table: &Table,
         held: &Held,
         first: u32,
         end: u32,
-    ) -> Result<bool, NoMemory>
+        racing: &mut Vec<bool>,
+    ) -> Result<(), NoMemory>
         requires table { IsTable graph.now table.now }
         requires held { IsHeld graph.now held.now }
         requires begins { first < end }
         requires short { end ≤ first + 64 }
         requires end { end ≤ length table.now.lines.items }
         requires scanned { IsScanned graph.now table.now self.old first }
-        ensures scanned { IfOk result (λ b. IsTrue b → IsScanned graph.now table.now self.new end) }
-        ensures answered { IfOk result (λ b. IsTrue b → (u : ℕ) → first ≤ u → u < end → AreAnsweredAt graph.now table.now.lines.items u) }
+        requires size { length racing.old.items ≡ length graph.now.lines }
+        ensures scanned { OnOk result (IsScanned graph.now table.now self.new end) }
+        ensures size { OnOk result (length racing.new.items ≡ length graph.now.lines) }
+        ensures noted { OnOk result (AreStillNoted racing.old.items racing.new.items) }
+        ensures answered { OnOk result ((u : ℕ) → first ≤ u → u < end → AreAnsweredAt graph.now table.now.lines.items racing.new.items u) }
     {
         let _ = graph.lines();
         self.groups.clear();
@@ -104,9 +109,7 @@ impl Scan {
             table,
         )?;
         self.reach.sweep(graph, table, first, end, targets, stop);
-        if !self.walk_all(graph, table, held, first) {
-            return Ok(false);
-        }
+        self.walk_all(graph, table, held, first, racing);
         harden_all(
             &mut self.hard,
             self.groups.marks.as_slice(),
@@ -115,7 +118,7 @@ impl Scan {
             table,
             held,
         );
-        Ok(true)
+        Ok(())
     }
 }
 

@@ -1,4 +1,4 @@
-//! The walks over the members of the classes that are asked.
+//! The walks over the members of the classes that are asked, which note the lines that race.
 
 ghost use Rattle.std.specs.Prelude.{◌≡◌, ℕ, ◌+◌, ◌*◌, ◌<◌, ◌≤◌, true, length, Contains, slice_index, IsTrue};
 ghost use Rattle.race_sweeps.specs.Held.{IsHeld};
@@ -6,7 +6,7 @@ ghost use Rattle.race_sweeps.specs.Marks.{AreMarksBelow, bit_in};
 ghost use Rattle.race_sweeps.specs.Reach.{IsReach};
 ghost use Rattle.race_sweeps.specs.Scan.{AreSettledWith, IsWalked};
 ghost use Rattle.race_sweeps.specs.ScanState.{AreListed};
-ghost use Rattle.race_sweeps.specs.Settled.{IsSettled};
+ghost use Rattle.race_sweeps.specs.Settled.{AreStillNoted, IsSettledOrNoted, is_noted};
 ghost use Rattle.race_sweeps.specs.Table.{IsTable};
 ghost use Rattle.race_sweeps.specs.declared.marks.Mark.{Mark};
 
@@ -19,51 +19,66 @@ use crate::table::Table;
 use graph_model::graph::Graph;
 
 impl Scan {
-    /// Whether the members that are asked are settled with the lines that they are asked about.
-    pub(crate) fn walk_all(&self, graph: &Graph, table: &Table, held: &Held, first: u32) -> bool
+    /// Settles the members that are asked with the lines that they are asked about.
+    pub(crate) fn walk_all(
+        &self,
+        graph: &Graph,
+        table: &Table,
+        held: &Held,
+        first: u32,
+        racing: &mut Vec<bool>,
+    )
         requires table { IsTable graph.now table.now }
         requires held { IsHeld graph.now held.now }
         requires reach { IsReach graph.now table.now.lines.items first self.now.reach.words.items }
         requires asks { AreMarksBelow self.now.asks.marks.items (length table.now.keys.items) }
         requires first { first ≤ length table.now.lines.items }
         requires listed { (m : ℕ) × (m ≤ 3 * length table.now.lines.items) × (m ≤ 3 * first + 192) × AreListed table.now self.now.members m }
-        ensures { IsTrue result → (m : ℕ) → AreListed table.now self.now.members m → (ask : Mark) → Contains self.now.asks.marks.items ask → IsWalked graph.now table.now first m ask }
+        requires size { length racing.old.items ≡ length graph.now.lines }
+        ensures size { length racing.new.items ≡ length graph.now.lines }
+        ensures noted { AreStillNoted racing.old.items racing.new.items }
+        ensures walked { (m : ℕ) → AreListed table.now self.now.members m → (ask : Mark) → Contains self.now.asks.marks.items ask → IsWalked graph.now table.now racing.new.items first m ask }
     {
         let asks = self.asks.marks.as_slice();
         for ask in asks {
-            if !self.walk(graph, table, held, first, *ask) {
-                return false;
-            }
+            self.walk(graph, table, held, first, *ask, racing);
         }
-        true
     }
 
     /// Walks down the members of a class as far as they are asked.
-    fn walk(&self, graph: &Graph, table: &Table, held: &Held, first: u32, ask: Mark) -> bool
+    fn walk(
+        &self,
+        graph: &Graph,
+        table: &Table,
+        held: &Held,
+        first: u32,
+        ask: Mark,
+        racing: &mut Vec<bool>,
+    )
         requires table { IsTable graph.now table.now }
         requires held { IsHeld graph.now held.now }
         requires reach { IsReach graph.now table.now.lines.items first self.now.reach.words.items }
         requires class { ask.class < length table.now.keys.items }
         requires first { first ≤ length table.now.lines.items }
         requires listed { (m : ℕ) × (m ≤ 3 * length table.now.lines.items) × (m ≤ 3 * first + 192) × AreListed table.now self.now.members m }
-        ensures { IsTrue result → (m : ℕ) → AreListed table.now self.now.members m → IsWalked graph.now table.now first m ask }
+        requires size { length racing.old.items ≡ length graph.now.lines }
+        ensures size { length racing.new.items ≡ length graph.now.lines }
+        ensures noted { AreStillNoted racing.old.items racing.new.items }
+        ensures walked { (m : ℕ) → AreListed table.now self.now.members m → IsWalked graph.now table.now racing.new.items first m ask }
     {
         let mut found = self.members.last[ask.class as usize];
         while let Some(number) = found {
             let place = number / 3;
             if place < ask.floor {
-                return true;
+                return;
             }
-            if !self.is_settled(graph, table, held, first, place, ask.word) {
-                return false;
-            }
+            self.settle(graph, table, held, first, place, ask.word, racing);
             found = self.members.earlier[number as usize];
         }
-        true
     }
 
-    /// Whether the line at a place is settled with those lines of a word that stand behind it.
-    fn is_settled(
+    /// Settles the line at a place with those lines of a word that stand behind it.
+    fn settle(
         &self,
         graph: &Graph,
         table: &Table,
@@ -71,61 +86,114 @@ impl Scan {
         first: u32,
         place: u32,
         word: u64,
-    ) -> bool
+        racing: &mut Vec<bool>,
+    )
         requires table { IsTable graph.now table.now }
         requires held { IsHeld graph.now held.now }
         requires reach { IsReach graph.now table.now.lines.items first self.now.reach.words.items }
         requires place { place < length table.now.lines.items }
         requires slice { place < first + 64 }
         requires first { first ≤ length table.now.lines.items }
-        ensures { IsTrue result → AreSettledWith graph.now table.now.lines.items first place word }
+        requires size { length racing.old.items ≡ length graph.now.lines }
+        ensures size { length racing.new.items ≡ length graph.now.lines }
+        ensures noted { AreStillNoted racing.old.items racing.new.items }
+        ensures settled { AreSettledWith graph.now table.now.lines.items racing.new.items first place word }
     {
         let left = word & later(first, place) & !self.reach.word(place);
-        left == 0 || are_exempt(graph, table, held, first, place, left)
-    }
-}
-
-/// Whether the line at a place is exempt with each line of a word.
-fn are_exempt(graph: &Graph, table: &Table, held: &Held, first: u32, place: u32, left: u64) -> bool
-    requires table { IsTable graph.now table.now }
-    requires held { IsHeld graph.now held.now }
-    requires place { place < length table.now.lines.items }
-    requires first { first ≤ length table.now.lines.items }
-    ensures { IsTrue result → (b : ℕ) → b < 64 → bit_in left b ≡ true → IsSettled graph.now (slice_index table.now.lines.items place) (slice_index table.now.lines.items (first + b)) }
-{
-    for bit in 0..64 {
-        if has_bit(left, bit) && !is_exempt_with(graph, table, held, first, place, bit) {
-            return false;
+        if left == 0 {
+            return;
         }
+        note_all(graph, table, held, first, place, left, racing);
     }
-    true
 }
 
-/// Whether the line at a place is exempt with a line of a slice.
-fn is_exempt_with(
+/// Notes the line at a place and each line of a word that it races with.
+fn note_all(
     graph: &Graph,
     table: &Table,
     held: &Held,
     first: u32,
     place: u32,
+    left: u64,
+    racing: &mut Vec<bool>,
+)
+    requires table { IsTable graph.now table.now }
+    requires held { IsHeld graph.now held.now }
+    requires place { place < length table.now.lines.items }
+    requires first { first ≤ length table.now.lines.items }
+    requires size { length racing.old.items ≡ length graph.now.lines }
+    ensures size { length racing.new.items ≡ length graph.now.lines }
+    ensures noted { AreStillNoted racing.old.items racing.new.items }
+    ensures settled { (b : ℕ) → b < 64 → first + b < length table.now.lines.items → bit_in left b ≡ true
+        → IsSettledOrNoted graph.now racing.new.items (slice_index table.now.lines.items place) (slice_index table.now.lines.items (first + b)) }
+{
+    for bit in 0..64 {
+        note(graph, table, held, first, place, left, bit, racing);
+    }
+}
+
+/// Notes the line at a place and a line of a slice, where that is one of a word's and they race.
+fn note(
+    graph: &Graph,
+    table: &Table,
+    held: &Held,
+    first: u32,
+    place: u32,
+    left: u64,
     bit: u32,
-) -> bool
+    racing: &mut Vec<bool>,
+)
     requires table { IsTable graph.now table.now }
     requires held { IsHeld graph.now held.now }
     requires place { place < length table.now.lines.items }
     requires first { first ≤ length table.now.lines.items }
     requires bit { bit < 64 }
-    ensures { IsTrue result → IsSettled graph.now (slice_index table.now.lines.items place) (slice_index table.now.lines.items (first + bit)) }
+    requires size { length racing.old.items ≡ length graph.now.lines }
+    ensures size { length racing.new.items ≡ length graph.now.lines }
+    ensures noted { AreStillNoted racing.old.items racing.new.items }
+    ensures settled { first + bit < length table.now.lines.items → bit_in left bit ≡ true
+        → IsSettledOrNoted graph.now racing.new.items (slice_index table.now.lines.items place) (slice_index table.now.lines.items (first + bit)) }
 {
+    if !has_bit(left, bit) {
+        return;
+    }
     let lines = graph.lines();
     let other = first + bit;
-    other < lines
-        && is_exempt(
-            graph,
-            held,
-            table.lines[place as usize],
-            table.lines[other as usize],
-        )
+    if other >= lines {
+        return;
+    }
+    let one = table.lines[place as usize];
+    let two = table.lines[other as usize];
+    note_pair(graph, held, one, two, racing);
+}
+
+/// Notes two lines unless they are exempt.
+fn note_pair(graph: &Graph, held: &Held, one: u32, other: u32, racing: &mut Vec<bool>)
+    requires held { IsHeld graph.now held.now }
+    requires one { one < length graph.now.lines }
+    requires other { other < length graph.now.lines }
+    requires size { length racing.old.items ≡ length graph.now.lines }
+    ensures size { length racing.new.items ≡ length graph.now.lines }
+    ensures noted { AreStillNoted racing.old.items racing.new.items }
+    ensures settled { IsSettledOrNoted graph.now racing.new.items one other }
+{
+    if are_noted(racing.as_slice(), one, other) {
+        return;
+    }
+    if is_exempt(graph, held, one, other) {
+        return;
+    }
+    racing[one as usize] = true;
+    racing[other as usize] = true;
+}
+
+/// Whether two lines are noted.
+fn are_noted(racing: &[bool], one: u32, other: u32) -> bool
+    requires one { one < length racing.now }
+    requires other { other < length racing.now }
+    ensures { IsTrue result → (is_noted racing.now one ≡ true) × (is_noted racing.now other ≡ true) }
+{
+    racing[one as usize] && racing[other as usize]
 }
 
 /// Whether a word has this bit.

@@ -12,7 +12,7 @@ use Rattle.graph_terms.specs.Graph.{GraphValue}
 use Rattle.graph_terms.specs.Edges.{edges, edges_into, sources}
 use Rattle.graph_meaning.specs.Evaluation.{eval_end, is_ended, has_ended, evaluation, order}
 use Rattle.graph_meaning.specs.Laws.{OrderListsEnded}
-use Rattle.graph_meaning.proofs.Waiting.{end_in_left, ends_in_order}
+use Rattle.graph_meaning.proofs.Public.{end_in_left, ends_in_order}
 use Rattle.realm_audit.specs.Lawful.{ends_of, IsWaitAt}
 
 -- a line that ended, by the test and by its end

@@ -10,7 +10,7 @@ use Rattle.graph_terms.specs.Graph.{GraphValue, line_passes, is_shared}
 use Rattle.basics.proofs.ListFacts.{got_contains, contains_map, filter_contains}
 use Rattle.graph_terms.specs.Edges.{edges, edges_into, sources}
 use Rattle.graph_terms.specs.Reservations.{both_shared}
-use Rattle.graph_terms.proofs.VerbFacts.{acquire_one}
+use Rattle.graph_terms.proofs.Public.{acquire_one}
 use Rattle.realm_audit.specs.Lawful.{StandsEarlier, IsRepeatAt, IsSourceFaultAt, IsOverlapAt, IsMissing, IsLeast}
 use Rattle.realm_audit.specs.Prefix.{Takes, AreEarlier, AreOpen, stands_in, IsLeft, IsLate, IsOpenBeside, IsRival}
 use Rattle.realm_audit.proofs.EndFacts.{source_edge, into_line}

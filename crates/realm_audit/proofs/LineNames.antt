@@ -22,7 +22,7 @@ use Rattle.graph_terms.specs.Fits.{IsGraph, LinesFit, is_used}
 use Rattle.graph_terms.specs.Name.{is_name, is_name_byte}
 use Rattle.graph_terms.specs.Names.{StandsFor}
 use Rattle.graph_terms.specs.Spelling.{line_name}
-use Rattle.graph_terms.proofs.GraphFacts.{fit_at}
+use Rattle.graph_terms.proofs.Public.{fit_at}
 use Rattle.graph_model.proofs.Naming.{unused_line_name, stands_not_unused}
 use Rattle.realm_audit.specs.Reading.{has_newline}
 

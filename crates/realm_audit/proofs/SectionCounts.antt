@@ -8,7 +8,7 @@ use Rattle.basics.proofs.ListFacts.{some_below, count_below-max}
 use Rattle.graph_terms.specs.declared.verb.Verb.TheVariants.{Acquire}
 use Rattle.graph_terms.specs.Graph.{GraphValue, line_passes, is_acquire_of, is_shared}
 use Rattle.graph_terms.specs.Reservations.{Acquires}
-use Rattle.graph_terms.proofs.VerbFacts.{acquire_is, verb_passes, passes_below}
+use Rattle.graph_terms.proofs.Public.{acquire_is, verb_passes, passes_below}
 use Rattle.realm_audit.specs.Prefix.{stands_in, is_exclusive_of, open_count, OpensSection, IsOpenBeside}
 
 -- a number is counted if it passes

@@ -10,8 +10,7 @@ use Rattle.graph_meaning.specs.Path.{HasPath}
 use Rattle.graph_terms.specs.Reservations.{Acquires, Releases}
 use Rattle.graph_meaning.specs.Rules.{Accepted}
 use Rattle.graph_meaning.specs.Laws.{OrderListsEnded}
-use Rattle.graph_terms.proofs.VerbFacts.{acquire_is, release_is, release_one}
-use Rattle.graph_terms.proofs.ReleaseFacts.{one_release}
+use Rattle.graph_terms.proofs.Public.{acquire_is, release_is, release_one, one_release}
 use Rattle.realm_audit.specs.Lawful.{StandsEarlier, IsOpenAt, IsSoundBefore}
 use Rattle.realm_audit.specs.Prefix.{Takes, AreOpen, OpensSection, stands_in}
 use Rattle.realm_audit.proofs.Earlier.{earlier_none, earlier_by, earlier_more, earlier_here, earlier_cases}

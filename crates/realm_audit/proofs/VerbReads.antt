@@ -6,8 +6,7 @@ use Rattle.graph_terms.specs.declared.verb.Verb.TheVariants.{Acquire, Release}
 use Rattle.graph_terms.specs.Graph.{GraphValue, verb_at, line_passes, is_shared, locks}
 use Rattle.graph_terms.specs.Fits.{IsGraph}
 use Rattle.graph_terms.specs.Reservations.{Acquires, Releases}
-use Rattle.graph_terms.proofs.VerbFacts.{is_acquire_from, is_release_from, verb_passes}
-use Rattle.graph_terms.proofs.ReleaseFacts.{lock_known, release_names}
+use Rattle.graph_terms.proofs.Public.{is_acquire_from, is_release_from, verb_passes, lock_known, release_names}
 
 verb_of : (g : GraphValue) (i : ℕ) (l : Line) → slice_get g.lines i ≡ Some l → verb_at g i ≡ Some l.verb
 verb_of g i l e = ap (option_map (λ (x : Line). x.verb)) e

@@ -11,8 +11,7 @@ use Rattle.graph_meaning.specs.Rules.{Accepted}
 use Rattle.graph_meaning.specs.Evaluation.{eval_end, is_ended}
 use Rattle.graph_meaning.specs.Trace.{StandsBefore, ListsEnded, IsLawful, HaveSections}
 use Rattle.graph_meaning.specs.Laws.{OrderListsEnded, SectionsNeverOverlap}
-use Rattle.graph_terms.proofs.ReleaseFacts.{one_release}
-use Rattle.graph_terms.proofs.VerbFacts.{both_shared_swap}
+use Rattle.graph_terms.proofs.Public.{both_shared_swap, one_release}
 use Rattle.realm_audit.specs.declared.refusal.AuditRefusal.{AuditRefusal}
 use Rattle.realm_audit.specs.declared.refusal.AuditRefusal.TheVariants.{Repeat, Waits, Source, Overlap, Missing, NoMemory}
 use Rattle.realm_audit.specs.Lawful.{StandsEarlier, IsSoundBefore, IsRefusal, IsMissing}

@@ -13,11 +13,10 @@ use Rattle.realm_audit.specs.declared.refusal.AuditRefusal.{AuditRefusal}
 use Rattle.realm_audit.specs.declared.refusal.AuditRefusal.TheVariants as fault
 use Rattle.graph_answers.specs.AuditAnswer.{HasTrace}
 use Rattle.realm_c.specs.Audits.{HasFault, HasNoTrace, TraceFound, TraceSays, AuditSays, audit_status}
-use Rattle.realm_c.specs.Refusals.{IsCheckRefusal}
+use Rattle.c_answers.specs.Refusals.{IsCheckRefusal}
 use Rattle.realm_c.specs.declared.audit.Audited.{Audited}
 use Rattle.realm_c.specs.declared.audit.Audited.TheVariants.{Lawful, Refused, NoTrace, Unlawful}
-use Rattle.realm_c.specs.declared.reading.Refusal.TheVariants.{Unread, Unfit, NoMemory}
-use Rattle.realm_c.proofs.Refusing.{no_graph}
+use Rattle.c_answers.specs.declared.reading.Refusal.TheVariants.{Unread, Unfit, NoMemory}
 
 -- the fault of a trace, of a graph that is the same
 pub fault_of : (g h : GraphValue) (trace : List ℕ) (why : AuditRefusal) → g ≡ h → why ≢ fault.NoMemory → IsRefusal g trace why → NamesLines g trace why → (IsLawful g trace → ⊥) → HasFault h trace why
@@ -47,7 +46,7 @@ pub lawful_is_found : (bytes : List ℕ) → OneReading (graph_bytes bytes) → 
     → (g : GraphValue) (trace : List ℕ) → GraphText (graph_bytes bytes) g → Accepted g → HasTrace g (trace_bytes bytes) trace → IsLawful g trace
     → (audit_status a ≡ 0) ⊎ (audit_status a ≡ 7)
 lawful_is_found bytes one tells Lawful s g trace t acc h l = inl refl
-lawful_is_found bytes one tells (Refused (Unread n why)) s g trace t acc h l = absurd (no_graph (graph_bytes bytes) one n why s g t)
+lawful_is_found bytes one tells (Refused (Unread n why)) s g trace t acc h l = absurd (one.not_both (g, t) (n, why, s))
 lawful_is_found bytes one tells (Refused (Unfit why)) s g trace t acc h l = absurd (s.2.broken (subst Accepted (one.one_graph g s.0 t s.1) acc))
 lawful_is_found bytes one tells (Refused NoMemory) s g trace t acc h l = inr refl
 lawful_is_found bytes one tells (NoTrace n) s g trace t acc h l =

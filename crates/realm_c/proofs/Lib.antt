@@ -1,4 +1,2 @@
-pub mod AsBox
 mod Auditing
 mod Handing
-mod Refusing

@@ -13,12 +13,12 @@ use Rattle.realm_audit.specs.declared.refusal.AuditRefusal.TheVariants as fault
 use Rattle.graph_answers.specs.AuditAnswer.{HasTrace}
 use Rattle.graph_answers.specs.Status.{exit_number}
 use Rattle.graph_answers.specs.declared.status.Status.TheVariants as status
-use Rattle.realm_c.specs.Numbers.{nothing, verdict_of, no_trace, faulty}
-use Rattle.realm_c.specs.Refusals.{status_of, IsCheckRefusal}
+use Rattle.c_answers.specs.Numbers.{nothing, verdict_of, no_trace, faulty}
+use Rattle.c_answers.specs.Refusals.{status_of, IsCheckRefusal}
 use Rattle.realm_c.specs.declared.audit.Audited.{Audited}
 use Rattle.realm_c.specs.declared.audit.Audited.TheVariants.{Lawful, Refused, NoTrace, Unlawful}
-use Rattle.realm_c.specs.declared.reading.Refusal.TheVariants.{NoMemory}
-use Rattle.realm_c.specs.declared.verdict.Verdict.{Verdict}
+use Rattle.c_answers.specs.declared.reading.Refusal.TheVariants.{NoMemory}
+use Rattle.c_answers.specs.declared.verdict.Verdict.{Verdict}
 
 -- the number of an answer, which is the exit status of the program for it, and what is told beside it
 abbrev pub audit_status : Audited → ℕ

@@ -6,7 +6,7 @@ use Rattle.race_check.specs.declared.checked.CheckRefusal.TheVariants as rule
 use Rattle.realm_audit.specs.declared.refusal.AuditRefusal.{AuditRefusal}
 use Rattle.realm_audit.specs.declared.refusal.AuditRefusal.TheVariants as fault
 use Rattle.graph_terms.specs.Spelling.{why_word}
-use Rattle.realm_c.specs.Numbers.{why_number, rule_number, fault_number, rule_word, fault_word}
+use Rattle.c_answers.specs.Numbers.{why_number, rule_number, fault_number, rule_word, fault_word}
 
 -- the word of the reason with this number, of which 14 is that for the text of a trace
 abbrev pub IsReasonWord : ℕ → List ℕ → Type 0

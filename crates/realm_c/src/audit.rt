@@ -10,12 +10,12 @@ ghost use Rattle.realm_audit.specs.Parts.{graph_bytes, trace_bytes};
 ghost use Rattle.realm_audit.specs.Reading.{AreLines};
 ghost use Rattle.graph_answers.specs.AuditAnswer.{AUDIT_LIMIT, HasTrace};
 ghost use Rattle.realm_c.specs.Audits.{audit_status, audit_verdict, AuditSays, TraceFound, TraceSays};
-ghost use Rattle.realm_c.specs.Numbers.{nothing};
+ghost use Rattle.c_answers.specs.Numbers.{nothing};
 ghost use Rattle.realm_c.specs.declared.audit.Audited.{Audited as TheAudited};
 
-use crate::reading::{Refusal, read_checked};
-use crate::status::{DONE, TOO_LONG, UNLAWFUL, UNREAD};
-use crate::verdict::Verdict;
+use c_answers::reading::{Refusal, read_checked};
+use c_answers::status::{DONE, TOO_LONG, UNLAWFUL, UNREAD};
+use c_answers::verdict::Verdict;
 use graph_model::graph::Graph;
 use graph_reader::laws::bytes_have_one_reading;
 use graph_terms::limits::MAX_TEXT;

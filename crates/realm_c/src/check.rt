@@ -5,15 +5,15 @@ ghost use Rattle.graph_terms.specs.Graph.{GraphValue};
 ghost use Rattle.graph_meaning.specs.Need.{IsNeed};
 ghost use Rattle.graph_meaning.specs.Rules.{Accepted};
 ghost use Rattle.graph_words.specs.Text.{GraphText};
-ghost use Rattle.realm_c.specs.Numbers.{needing, nothing, verdict_of};
-ghost use Rattle.realm_c.specs.Refusals.{status_of, IsCheckRefusal};
-ghost use Rattle.realm_c.specs.declared.reading.Refusal.{Refusal as TheRefusal};
+ghost use Rattle.c_answers.specs.Numbers.{needing, nothing, verdict_of};
+ghost use Rattle.c_answers.specs.Refusals.{status_of, IsCheckRefusal};
+ghost use Rattle.c_answers.specs.declared.reading.Refusal.{Refusal as TheRefusal};
 
-use crate::reading::read_checked;
-use crate::status::{DONE, TOO_LONG};
-use crate::verdict::Verdict;
+use c_answers::need::need_of;
+use c_answers::reading::read_checked;
+use c_answers::status::{DONE, TOO_LONG};
+use c_answers::verdict::Verdict;
 use graph_terms::limits::{MAX_LINES, MAX_TEXT};
-use race_check::checked::Checked;
 use std::alloc::Global;
 
 /// Reads a graph from its text and checks it: 0 where it is accepted, with its need; else 3, 4, 7 or 9, with why.
@@ -41,12 +41,4 @@ pub extern "C" fn realm_check(alloc: Global, text: &[u8], out: &mut Verdict) -> 
             refusal.status()
         }
     }
-}
-
-/// The need of an accepted graph, which is at most the most lines of one.
-pub(crate) fn need_of(checked: &Checked) -> u32
-    ensures need { (result ≡ checked.now.need) × (result ≤ MAX_LINES) }
-{
-    let _ = checked.graph().lines();
-    checked.need()
 }

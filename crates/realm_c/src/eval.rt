@@ -2,26 +2,22 @@
 
 ghost use Rattle.std.specs.Prelude.{◌≡◌, ◌≢◌, ◌<◌, ◌≤◌, ◌⊎◌, length, IfSome};
 ghost use Rattle.graph_terms.specs.Graph.{GraphValue};
-ghost use Rattle.graph_meaning.specs.Evaluation.{outcome, order};
 ghost use Rattle.graph_meaning.specs.Rules.{Accepted};
 ghost use Rattle.graph_words.specs.Text.{GraphText};
 ghost use Rattle.graph_answers.specs.Answer.{EndsByPaths};
 ghost use Rattle.run_report.specs.Report.{evaluation_report};
-ghost use Rattle.realm_c.specs.Buffers.{Holds, IsCut};
-ghost use Rattle.realm_c.specs.Refusals.{status_of, IsCheckRefusal};
-ghost use Rattle.realm_c.specs.declared.reading.Refusal.{Refusal as TheRefusal};
+ghost use Rattle.c_answers.specs.Buffers.{Holds, IsCut};
+ghost use Rattle.c_answers.specs.Refusals.{status_of, IsCheckRefusal};
+ghost use Rattle.c_answers.specs.declared.reading.Refusal.{Refusal as TheRefusal};
 
-use crate::buffer::hand_out;
-use crate::reading::read_checked;
-use crate::status::{NO_MEMORY, TOO_LONG};
+use c_answers::buffer::hand_out;
+use c_answers::reading::read_checked;
+use c_answers::status::{NO_MEMORY, TOO_LONG};
+use c_answers::texts::report_text;
 use graph_meaning::laws::{cancelled_where_unbroken, waits_where_reached};
-use graph_model::graph::Graph;
 use graph_terms::limits::MAX_TEXT;
-use graph_terms::outcome::Outcome;
 use plain_eval::evaluation::eval;
 use race_check::checked::Checked;
-use realm_io::TextSink;
-use run_report::put_report;
 use std::alloc::Global;
 
 /// Reads a graph from its text, evaluates it on one thread, and puts the report of that into `out` with its length beside
@@ -71,16 +67,4 @@ fn report_of(alloc: Global, checked: &Checked) -> Option<Vec<u8>>
         return None;
     };
     report_text(alloc, checked.graph(), &outcome)
-}
-
-/// The text of the report.
-pub(crate) fn report_text(alloc: Global, graph: &Graph, found: &Outcome) -> Option<Vec<u8>>
-    requires { found.now ≡ outcome graph.now found.now.trace }
-    ensures { IfSome result (λ report. report.items ≡ evaluation_report graph.now) }
-{
-    let mut sink = TextSink::new(alloc);
-    match put_report(&mut sink, graph, found) {
-        Ok(()) => Some(sink.into_bytes()),
-        Err(_) => None,
-    }
 }

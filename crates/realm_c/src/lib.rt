@@ -2,17 +2,9 @@
 #![tactic(auto)]
 
 mod audit;
-mod buffer;
 mod check;
 mod eval;
-mod held;
-mod inside;
 mod making;
 mod plan;
-mod reading;
-mod running;
-mod status;
-mod token;
 mod upgrade;
-mod verdict;
 mod words;

@@ -3,11 +3,11 @@
 ghost use Rattle.std.specs.Prelude.{◌≡◌, ◌≢◌, ◌≤◌, ◌⊎◌, true, false};
 ghost use Rattle.graph_gen.specs.MadeGraph.{made_graph};
 ghost use Rattle.graph_words.specs.Text.{text};
-ghost use Rattle.realm_c.specs.Buffers.{Holds, IsCut};
+ghost use Rattle.c_answers.specs.Buffers.{Holds, IsCut};
 
-use crate::buffer::hand_out;
-use crate::status::{NO_MEMORY, USAGE};
-use crate::upgrade::graph_text;
+use c_answers::buffer::hand_out;
+use c_answers::status::{NO_MEMORY, USAGE};
+use c_answers::texts::graph_text;
 use graph_gen::make::make;
 use graph_terms::limits::MAX_LINES;
 use std::alloc::Global;

@@ -5,18 +5,15 @@ ghost use Rattle.graph_terms.specs.Graph.{GraphValue};
 ghost use Rattle.graph_meaning.specs.Rules.{Accepted};
 ghost use Rattle.graph_words.specs.Text.{GraphText};
 ghost use Rattle.graph_answers.specs.Answer.{IsTimelineText};
-ghost use Rattle.realm_c.specs.Buffers.{Holds, IsCut};
-ghost use Rattle.realm_c.specs.Refusals.{status_of, IsCheckRefusal};
-ghost use Rattle.realm_c.specs.declared.reading.Refusal.{Refusal as TheRefusal};
+ghost use Rattle.c_answers.specs.Buffers.{Holds, IsCut};
+ghost use Rattle.c_answers.specs.Refusals.{status_of, IsCheckRefusal};
+ghost use Rattle.c_answers.specs.declared.reading.Refusal.{Refusal as TheRefusal};
 
-use crate::buffer::hand_out;
-use crate::reading::read_checked;
-use crate::status::{NO_MEMORY, TOO_LONG, USAGE};
+use c_answers::buffer::hand_out;
+use c_answers::reading::read_checked;
+use c_answers::status::{NO_MEMORY, TOO_LONG, USAGE};
+use c_answers::texts::plan_text;
 use graph_terms::limits::MAX_TEXT;
-use race_check::checked::Checked;
-use realm_io::TextSink;
-use realm_timeline::text::put_timeline;
-use realm_timeline::timeline::plan;
 use std::alloc::Global;
 
 /// Reads a graph from its text, plans it on so many processors, and puts the text of the plan with its certificate into
@@ -54,7 +51,7 @@ pub extern "C" fn realm_plan(
         Ok(checked) => checked,
         Err(refusal) => return refusal.status(),
     };
-    match plan_of(alloc, &checked, processors) {
+    match plan_text(alloc, &checked, processors) {
         Some(plan) => hand_out(plan.as_slice(), out, written),
         None => NO_MEMORY,
     }
@@ -66,19 +63,4 @@ fn are_processors(processors: u32) -> bool
     ensures no { result ≡ false → (1 ≤ processors) × (processors ≤ 8) → ⊥ }
 {
     1 <= processors && processors <= 8
-}
-
-/// The text of the plan. None comes where memory ran out.
-fn plan_of(alloc: Global, checked: &Checked, processors: u32) -> Option<Vec<u8>>
-    requires { (1 ≤ processors) × (processors ≤ 8) }
-    ensures { IfSome result (λ found. IsTimelineText processors checked.now.graph found.items) }
-{
-    let Ok(timeline) = plan(alloc, checked, processors) else {
-        return None;
-    };
-    let mut sink = TextSink::new(alloc);
-    match put_timeline(&mut sink, checked.graph(), &timeline) {
-        Ok(()) => Some(sink.into_bytes()),
-        Err(_) => None,
-    }
 }

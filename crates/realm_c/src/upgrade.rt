@@ -3,17 +3,15 @@
 ghost use Rattle.std.specs.Prelude.{◌≡◌, ◌≢◌, ◌<◌, ◌≤◌, ◌⊎◌, length, IfSome};
 ghost use Rattle.graph_terms.specs.Graph.{GraphValue, upgraded};
 ghost use Rattle.graph_words.specs.Text.{GraphText, text as text_of};
-ghost use Rattle.realm_c.specs.Buffers.{Holds, IsCut};
-ghost use Rattle.realm_c.specs.Refusals.{status_of, IsReadRefusal};
-ghost use Rattle.realm_c.specs.declared.reading.Refusal.{Refusal as TheRefusal};
+ghost use Rattle.c_answers.specs.Buffers.{Holds, IsCut};
+ghost use Rattle.c_answers.specs.Refusals.{status_of, IsReadRefusal};
+ghost use Rattle.c_answers.specs.declared.reading.Refusal.{Refusal as TheRefusal};
 
-use crate::buffer::hand_out;
-use crate::reading::read;
-use crate::status::{NO_MEMORY, TOO_LONG};
-use graph_model::graph::Graph;
+use c_answers::buffer::hand_out;
+use c_answers::reading::read;
+use c_answers::status::{NO_MEMORY, TOO_LONG};
+use c_answers::texts::graph_text;
 use graph_terms::limits::MAX_TEXT;
-use graph_writer::put_graph;
-use realm_io::TextSink;
 use std::alloc::Global;
 
 /// Reads a graph from its text, and puts its text in format 2 into `out` with its length beside it, whether or not the
@@ -44,16 +42,5 @@ pub extern "C" fn realm_upgrade(
     match graph_text(alloc, &graph) {
         Some(upgraded) => hand_out(upgraded.as_slice(), out, written),
         None => NO_MEMORY,
-    }
-}
-
-/// The text of a graph. None comes where memory ran out.
-pub(crate) fn graph_text(alloc: Global, graph: &Graph) -> Option<Vec<u8>>
-    ensures { IfSome result (λ found. found.items ≡ text_of graph.now) }
-{
-    let mut sink = TextSink::new(alloc);
-    match put_graph(&mut sink, graph) {
-        Ok(()) => Some(sink.into_bytes()),
-        Err(_) => None,
     }
 }

@@ -1,12 +1,12 @@
 //! The words of reasons, rules and faults by their numbers.
 
 ghost use Rattle.std.specs.Prelude.{◌≡◌, ◌≢◌, ℕ, ◌≤◌, ◌⊎◌, List, IfSome, IfNone};
-ghost use Rattle.realm_c.specs.Buffers.{Holds, IsCut};
-ghost use Rattle.realm_c.specs.Numbers.{why_number};
+ghost use Rattle.c_answers.specs.Buffers.{Holds, IsCut};
+ghost use Rattle.c_answers.specs.Numbers.{why_number};
 ghost use Rattle.realm_c.specs.Words.{IsWord, HasWord, IsReasonWord, IsRuleWord, IsFaultWord};
 
-use crate::buffer::hand_out;
-use crate::status::USAGE;
+use c_answers::buffer::hand_out;
+use c_answers::status::USAGE;
 use graph_terms::why::Why;
 
 // The number of the word for the text of a trace.

@@ -1,2 +1,3 @@
 pub mod ToldFacts
 pub mod WrittenLaws
+pub mod Public

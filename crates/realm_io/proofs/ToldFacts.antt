@@ -1,13 +1,14 @@
 -- What one more read or write does to the bytes that are told and to the calls that are counted.
-use Rattle.std.proofs.Common.{◌≡◌, ℕ, ◌+◌, ◌≤◌, List, [], ◌++◌, length, take, drop, Some, None, refl, sym, ap, ◌∙◌, inl, inr, Result, Ok, Err, OnErr, arith, append_assoc, append-nil, length-append}
+use Rattle.std.proofs.Common.{◌≡◌, ℕ, ◌+◌, ◌≤◌, List, ◌++◌, length, take, drop, Some, None, refl, sym, ap, ◌∙◌, inl, inr, Result, Ok, Err, OnErr, arith, append_assoc, append-nil, length-append}
 use Rattle.std.proofs.Math.Seq.{take-add, take-append-add}
 use Rattle.std.proofs.lemmas.List.{take-append-le}
 use Rattle.std.specs.Prelude.{Option}
 use Rattle.std.specs.Option.{option_map}
 use Rattle.realm_io.specs.Counts.{Rose, next_count, MadeAtMost}
 use Rattle.realm_io.specs.Told.{with_more, TookPrefix}
+use Rattle.realm_io.specs.Laws.{NothingMore, PrefixOfBoth, RoseSinceEarlier}
 
-pub with_more-nil : (told : Option (List ℕ)) → with_more told [] ≡ told
+pub with_more-nil : NothingMore
 with_more-nil None = refl
 with_more-nil (Some xs) = ap Some (append-nil xs)
 
@@ -38,7 +39,7 @@ took_next first before after bytes rest at n is_rest took more =
     ∙ ap (λ next. with_more first (take at bytes ++ take n next)) is_rest ∙ ap (with_more first) (sym (take-add at n bytes))
 
 -- more bytes were put, and only a prefix of them was taken
-pub took_after : (first before after : Option (List ℕ)) (a b : List ℕ) → before ≡ with_more first a → TookPrefix before after b → TookPrefix first after (a ++ b)
+pub took_after : PrefixOfBoth
 took_after first before after a b whole took = (
   length a + took.0,
   simp length-append (omega (arith, took.1)),
@@ -51,7 +52,7 @@ took_within first after a b took =
     (took.0, simp length-append (omega (arith, took.1)), took.2 ∙ ap (with_more first) (sym (take-append-le took.0 a b took.1)))
 
 -- a count that rose later rose since any earlier time
-pub rose_later : (first before after : ℕ) → first ≤ before → Rose before after → Rose first after
+pub rose_later : RoseSinceEarlier
 rose_later first before after le (inl lt) = inl (omega arith)
 rose_later first before after le (inr last) = inr last
 

@@ -1,11 +1,12 @@
 -- Parts of a text that are written one after another.
-use Rattle.std.proofs.Common.{◌≡◌, ℕ, ◌≤◌, List, [], ◌++◌, refl, sym, ◌∙◌, ap, subst, append_assoc, append-nil, arith}
-use Rattle.std.specs.Prelude.{Result, Ok, Err, IsErr}
+use Rattle.std.proofs.Common.{ℕ, ◌≤◌, List, [], ◌++◌, refl, sym, ◌∙◌, ap, subst, append_assoc, append-nil, arith}
+use Rattle.std.specs.Prelude.{Result, Ok, Err}
 use Rattle.std.proofs.lemmas.Bool.{true≢false}
 use Rattle.realm_io.specs.Told.{with_more}
 use Rattle.realm_io.proofs.ToldFacts.{with_more-nil, with_more-with_more, took_after, took_within, rose_later}
 use Rattle.realm_io.specs.SinkState.{SinkState}
-use Rattle.realm_io.specs.Written.{Wrote, Stopped, Writes}
+use Rattle.realm_io.specs.Written.{Wrote, Stopped, Writes, Progress}
+use Rattle.realm_io.specs.Laws.{StoppedInFirstPart, StoppedInSecondPart, WritesPartByPart, ErrorWhereStopped, ProgressByPart, StoppedInRest, WrittenWithoutRest, WritesSameBytes, StoppedSameBytes}
 
 pub wrote_nothing : (s : SinkState) → Wrote s s []
 wrote_nothing s = record { taken = sym (with_more-nil s.taken); flushed = refl; count = omega arith }
@@ -18,10 +19,10 @@ wrote_more r s t a b w v = record {
 }
 
 -- a fault in the first part, or in the second
-pub stopped_early : (r s : SinkState) (a b : List ℕ) → Stopped r s a → Stopped r s (a ++ b)
+pub stopped_early : StoppedInFirstPart
 stopped_early r s a b h = record { took = took_within r.taken s.taken a b h.took; flushed = h.flushed; count = h.count; rose = h.rose }
 
-pub stopped_later : (r s t : SinkState) (a b : List ℕ) → Wrote r s a → Stopped s t b → Stopped r t (a ++ b)
+pub stopped_later : StoppedInSecondPart
 stopped_later r s t a b w h = record {
   took = took_after r.taken s.taken t.taken a b w.taken h.took;
   flushed = h.flushed ∙ w.flushed;
@@ -30,31 +31,25 @@ stopped_later r s t a b w h = record {
 }
 
 -- a second part after a first
-pub then_writes : {X E : Type 0} (r s t : SinkState) (a b : List ℕ) (e : Result X E) → Wrote r s a → Writes s t e b → Writes r t e (a ++ b)
+pub then_writes : {X E : Type 0} → WritesPartByPart X E
 then_writes r s t a b (Ok x) w h = wrote_more r s t a b w h
 then_writes r s t a b (Err e) w h = stopped_later r s t a b w h
 
 -- an answer that is a fault
-pub stops : {X E : Type 0} (r s : SinkState) (a : List ℕ) (e : Result X E) → IsErr e → Stopped r s a → Writes r s e a
+pub stops : {X E : Type 0} → ErrorWhereStopped X E
 stops r s a (Ok x) i h = absurd (true≢false (sym i))
 stops r s a (Err e) i h = h
-
--- part of a whole text was written, and the rest is left
-pub record Progress (old new : SinkState) (whole rest : List ℕ) : Type 0 where
-  pub done : List ℕ
-  pub wrote : Wrote old new done
-  pub splits : done ++ rest ≡ whole
 
 pub begins : (s : SinkState) (whole : List ℕ) → Progress s s whole whole
 begins s whole = record { done = []; wrote = wrote_nothing s; splits = refl }
 
-pub goes_on : (r s t : SinkState) (whole rest a later : List ℕ) → Progress r s whole rest → rest ≡ a ++ later → Wrote s t a → Progress r t whole later
+pub goes_on : ProgressByPart
 goes_on r s t whole rest a later p e w = record { done = p.done ++ a; wrote = wrote_more r s t p.done a p.wrote w; splits = append_assoc p.done a later ∙ (ap (λ x. p.done ++ x) (sym e) ∙ p.splits) }
 
-pub breaks_off : (r s t : SinkState) (whole rest a later : List ℕ) → Progress r s whole rest → rest ≡ a ++ later → Stopped s t a → Stopped r t whole
+pub breaks_off : StoppedInRest
 breaks_off r s t whole rest a later p e h = subst (Stopped r t) (ap (λ x. p.done ++ x) (sym e) ∙ p.splits) (stopped_later r s t p.done (a ++ later) p.wrote (stopped_early s t a later h))
 
-pub finishes : (r s : SinkState) (whole : List ℕ) → Progress r s whole [] → Wrote r s whole
+pub finishes : WrittenWithoutRest
 finishes r s whole p = subst (Wrote r s) (sym (append-nil p.done) ∙ p.splits) p.wrote
 
 -- the last part
@@ -62,8 +57,8 @@ pub ends_with : {X E : Type 0} (r s t : SinkState) (whole rest : List ℕ) (e : 
 ends_with r s t whole rest e p h = subst (Writes r t e) p.splits (then_writes r s t p.done rest e p.wrote h)
 
 -- the same text by another spelling
-pub writes_as : {X E : Type 0} (r s : SinkState) (a b : List ℕ) (e : Result X E) → a ≡ b → Writes r s e a → Writes r s e b
+pub writes_as : {X E : Type 0} → WritesSameBytes X E
 writes_as r s a b e h w = subst (Writes r s e) h w
 
-pub stopped_as : (r s : SinkState) (a b : List ℕ) → a ≡ b → Stopped r s a → Stopped r s b
+pub stopped_as : StoppedSameBytes
 stopped_as r s a b h w = subst (Stopped r s) h w

@@ -4,3 +4,4 @@ pub mod Memory
 pub mod TextSinks
 pub mod SinkState
 pub mod Written
+pub mod Laws

@@ -9,7 +9,7 @@ use Rattle.graph_terms.specs.declared.verb.Verb.{Verb}
 use Rattle.graph_terms.specs.declared.verb.Verb.TheVariants.{Acquire}
 use Rattle.graph_terms.specs.Graph.{GraphValue, verb_at, line_passes, is_acquire_of, is_shared}
 use Rattle.graph_terms.specs.Reservations.{Acquires, both_shared}
-use Rattle.graph_terms.proofs.VerbFacts.{acquire_is}
+use Rattle.graph_terms.proofs.Public.{acquire_is}
 use Rattle.realm_timeline.specs.Plan.{Exclude}
 use Rattle.realm_timeline.specs.Queue.{QueueValue, queue_at, has_line, ChangesQueue, WithHolder, WithoutHolder}
 use Rattle.realm_timeline.specs.State.{exclusive_queue, shared_queue, verb_queue, queue_of, verb_bars, bars}

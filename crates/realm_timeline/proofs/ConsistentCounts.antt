@@ -8,7 +8,7 @@ use Rattle.graph_terms.specs.declared.verb.Edge.{Edge}
 use Rattle.graph_terms.specs.Graph.{GraphValue, never_comes}
 use Rattle.graph_terms.specs.Edges.{edges}
 use Rattle.graph_meaning.specs.Path.{HasPath}
-use Rattle.graph_meaning.proofs.PathLaws.{back_path}
+use Rattle.graph_meaning.proofs.Public.{back_path}
 use Rattle.realm_timeline.specs.declared.slot.Slot.{Slot}
 use Rattle.realm_timeline.specs.Plan.{slot_at, HasSlot}
 use Rattle.realm_timeline.specs.Queue.{QueueValue, queue_at, has_line}

@@ -10,7 +10,7 @@ use Rattle.graph_terms.specs.Edges.{edges, edges_out_of}
 use Rattle.graph_meaning.specs.Rules.{Accepted}
 use Rattle.graph_terms.specs.Reservations.{Releases}
 use Rattle.graph_terms.specs.Fits.{IsGraph}
-use Rattle.graph_terms.proofs.VerbFacts.{release_one}
+use Rattle.graph_terms.proofs.Public.{release_one}
 use Rattle.realm_timeline.specs.declared.slot.Slot.{Slot}
 use Rattle.realm_timeline.specs.Plan.{HasSlot}
 use Rattle.realm_timeline.specs.Queue.{QueueValue, queue_at, has_line}

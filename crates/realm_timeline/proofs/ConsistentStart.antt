@@ -10,7 +10,7 @@ use Rattle.graph_meaning.specs.Path.{HasPath}
 use Rattle.graph_meaning.specs.Rules.{Accepted}
 use Rattle.graph_terms.specs.Reservations.{Acquires, Releases}
 use Rattle.graph_terms.specs.Fits.{IsGraph}
-use Rattle.graph_terms.proofs.ReleaseFacts.{one_release, release_names}
+use Rattle.graph_terms.proofs.Public.{release_names, one_release}
 use Rattle.realm_timeline.specs.declared.slot.Slot.{Slot}
 use Rattle.realm_timeline.specs.Plan.{slot_at, HasSlot}
 use Rattle.realm_timeline.specs.Queue.{QueueValue, queue_at, has_line, ChangesQueue, WithoutLine}

@@ -12,8 +12,7 @@ use Rattle.graph_terms.specs.Graph.{GraphValue, verb_at, is_acquire_of}
 use Rattle.graph_terms.specs.Fits.{IsGraph}
 use Rattle.graph_terms.specs.Access.{accesses}
 use Rattle.graph_terms.specs.Reservations.{Releases}
-use Rattle.graph_terms.proofs.VerbFacts.{is_release_from, passes_below}
-use Rattle.graph_terms.proofs.ReleaseFacts.{release_names}
+use Rattle.graph_terms.proofs.Public.{is_release_from, passes_below, release_names}
 use Rattle.realm_timeline.specs.Plan.{access_size, cost}
 
 -- the cost after k accesses

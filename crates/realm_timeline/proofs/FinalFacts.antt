@@ -9,11 +9,9 @@ use Rattle.graph_meaning.specs.Path.{HasPath, Reached}
 use Rattle.graph_meaning.specs.Rules.{Accepted}
 use Rattle.graph_terms.specs.Reservations.{Acquires, Releases}
 use Rattle.graph_terms.specs.Fits.{IsGraph}
-use Rattle.graph_meaning.proofs.ReadyLine.{IsReadyLine, ready_or_never}
-use Rattle.graph_terms.proofs.GraphFacts.{edges_in_range}
-use Rattle.graph_meaning.proofs.PathLaws.{never_with_path}
-use Rattle.graph_terms.proofs.ReleaseFacts.{one_release, acquired_lock_known}
-use Rattle.graph_terms.proofs.VerbFacts.{passes_below, acquire_is, release_is}
+use Rattle.graph_meaning.proofs.Public.{ready_or_never, never_with_path}
+use Rattle.graph_meaning.specs.Turns.{IsReadyLine}
+use Rattle.graph_terms.proofs.Public.{acquire_is, release_is, passes_below, acquired_lock_known, one_release, edges_in_range}
 use Rattle.std.specs.Option.{option_map_or}
 use Rattle.graph_terms.specs.declared.verb.Verb.TheVariants.{Acquire, Release}
 use Rattle.realm_timeline.specs.declared.slot.Slot.{Slot}

@@ -11,7 +11,7 @@ use Rattle.graph_meaning.specs.Path.{Path, last, first, Reached}
 use Rattle.graph_meaning.specs.Rules.{Accepted}
 use Rattle.graph_terms.specs.Fits.{IsGraph}
 use Rattle.basics.proofs.ListFacts.{count_below, fewer_below}
-use Rattle.graph_terms.proofs.ReleaseFacts.{one_release}
+use Rattle.graph_terms.proofs.Public.{one_release}
 use Rattle.realm_timeline.specs.declared.slot.Slot.{Slot}
 use Rattle.realm_timeline.specs.Plan.{cost, Planned, slot_at, HasSlot, FinishedBy, ReleasedBy, Exclude, IsReadyAt, MayStart, StartsAt}
 use Rattle.realm_timeline.specs.Queue.{queue_at, has_line, IsUnheld, AllHeldOrEmpty, IsLowestPlace}

@@ -8,8 +8,8 @@ use Rattle.graph_terms.specs.Graph.{GraphValue}
 use Rattle.graph_meaning.specs.Path.{HasPath}
 use Rattle.graph_meaning.specs.Rules.{Accepted}
 use Rattle.graph_terms.specs.Fits.{IsGraph}
-use Rattle.graph_meaning.proofs.PathLaws.{back_path}
-use Rattle.graph_terms.proofs.ReleaseFacts.{one_release}
+use Rattle.graph_meaning.proofs.Public.{back_path}
+use Rattle.graph_terms.proofs.Public.{one_release}
 use Rattle.realm_timeline.specs.declared.slot.Slot.{Slot}
 use Rattle.realm_timeline.specs.Plan.{cost, Planned, HasSlot, IsPartialPlan, IsPlan, finish_or_0, plan_length, FinishedBy, IsValid, IsReadyAt}
 use Rattle.realm_timeline.specs.Chains.{IsChain, chain_cost}

@@ -12,7 +12,7 @@ use Rattle.graph_terms.specs.Graph.{GraphValue, locks}
 use Rattle.graph_terms.specs.Edges.{edge, edges, edges_into}
 use Rattle.graph_terms.specs.Fits.{IsGraph}
 use Rattle.basics.proofs.ListFacts.{count_below-max, contains_none}
-use Rattle.graph_terms.proofs.GraphFacts.{edges_in_range}
+use Rattle.graph_terms.proofs.Public.{edges_in_range}
 use Rattle.realm_timeline.specs.declared.slot.Slot.{Slot}
 use Rattle.realm_timeline.specs.Plan.{slot_at, HasSlot}
 use Rattle.realm_timeline.specs.Queue.{QueueValue, queue_at, no_queue, has_line}

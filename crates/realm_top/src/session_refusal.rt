@@ -8,7 +8,7 @@ ghost use Rattle.realm_top.specs.SessionTexts.{broken_by_one_in, broken_by_two_i
 
 use race_check::checked::CheckRefusal;
 use realm_io::{Sink, WriteFault};
-use run_report::{put_five, put_six};
+use run_report::put_words;
 use session_run::UnfitGraph;
 
 /// Writes that one line of a graph of a session breaks a rule.
@@ -21,13 +21,15 @@ fn put_one_in<K: Sink>(
     requires { i < length unfit.now.graph.lines }
     ensures { Writes (K.state sink.old) (K.state sink.new) result (broken_by_one_in unfit.now.graph rule.now i unfit.now.name) }
 {
-    put_five(
+    put_words(
         sink,
-        b"refused",
-        rule,
-        unfit.graph.line(i).name.bytes(),
-        b"in",
-        unfit.name.bytes(),
+        &[
+            b"refused",
+            rule,
+            unfit.graph.line(i).name.bytes(),
+            b"in",
+            unfit.name.bytes(),
+        ],
     )
 }
 
@@ -42,14 +44,16 @@ fn put_two_in<K: Sink>(
     requires { (i < length unfit.now.graph.lines) × (j < length unfit.now.graph.lines) }
     ensures { Writes (K.state sink.old) (K.state sink.new) result (broken_by_two_in unfit.now.graph rule.now i j unfit.now.name) }
 {
-    put_six(
+    put_words(
         sink,
-        b"refused",
-        rule,
-        unfit.graph.line(i).name.bytes(),
-        unfit.graph.line(j).name.bytes(),
-        b"in",
-        unfit.name.bytes(),
+        &[
+            b"refused",
+            rule,
+            unfit.graph.line(i).name.bytes(),
+            unfit.graph.line(j).name.bytes(),
+            b"in",
+            unfit.name.bytes(),
+        ],
     )
 }
 

@@ -6,7 +6,7 @@ use Rattle.std.proofs.lemmas.List.{take_more, take_all, append-nil}
 use Rattle.std.proofs.lemmas.Grind.{flat_map-append}
 use Rattle.graph_terms.specs.Graph.{GraphValue}
 use Rattle.explain_text.specs.Lines.{by_number, numbered}
-use Rattle.explain_text.proofs.TextFacts.{then_put}
+use Rattle.explain_text.proofs.Public.{then_put}
 use Rattle.refusal_text.specs.Refused.{lines_text, in_sections, order_text, held_text, advice_text}
 
 -- no line, and one more

@@ -29,11 +29,12 @@ use Rattle.graph_terms.specs.Edges.{edges, edges_into, last_place, edges_from_so
 use Rattle.graph_terms.specs.Fits.{IsGraph, LinesFit, is_inst, cell_count, with_decl, with_line}
 use Rattle.graph_terms.specs.Table.{verb_of}
 use Rattle.graph_indexes.specs.declared.counts.Counts.{Counts}
-use Rattle.graph_terms.proofs.EdgeFacts.{edges_push}
+use Rattle.graph_terms.proofs.Public.{edges_push}
 use Rattle.graph_model.proofs.CountLaws.{counts_with_decl, cells_of_fields}
 use Rattle.graph_model.proofs.TableLaws.{limits_line}
 use Rattle.graph_words.specs.Draft.{BarrierName, form_of, has_on, line_draft, merge_draft, lock_draft, barrier_draft, barrier_with, inst_draft, inst_with, op_of, space_number}
-use Rattle.graph_reader.proofs.LineShapes.{find_mapped, lock_shape, barrier_shape, inst_shape}
+use Rattle.graph_reader.proofs.Public.{lock_shape, barrier_shape, inst_shape}
+use Rattle.basics.proofs.TestedLists.{find_mapped}
 use Rattle.graph_reader.specs.Kinds.{kind_draft, kind_verb, kind_line, named_number}
 use Rattle.graph_reader.specs.Merges.{merge_verb, merge_line}
 use Rattle.graph_words.specs.Words.{pieces, count_of, value_of}

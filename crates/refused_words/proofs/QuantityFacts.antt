@@ -26,8 +26,8 @@ use Rattle.index_spaces.specs.Space.{space_size}
 use Rattle.index_spaces.specs.declared.limits.TheConstants.{MAX_INTERVALS, MAX_POINTS}
 use Rattle.graph_words.specs.Draft.{Draft, draft}
 use Rattle.graph_reader.specs.FirstFault.{words_fault, draft_fault, item_fault, or_else, is_empty}
-use Rattle.graph_words.proofs.TextLists.{each_fails}
-use Rattle.graph_reader.proofs.Spelled.{chosen}
+use Rattle.graph_words.proofs.Public.{each_fails}
+use Rattle.basics.proofs.Choices.{chosen}
 use Rattle.refused_words.specs.Limits.{QuantityValue, quantity, is_above, decl_quantities, verb_quantities, line_quantities, item_quantities, limit_in, limit_of}
 use Rattle.refused_words.specs.Laws.{is_long_with, is_long_in, is_long_by}
 

@@ -10,7 +10,7 @@ use Rattle.std.proofs.lemmas.Bool.{true≢false, and_parts, or_cases, cases_lt}
 use Rattle.std.proofs.lemmas.Map.Text.{is_eq-slice_cmp}
 use Rattle.graph_terms.specs.declared.format.Format.{Format}
 use Rattle.graph_words.specs.Draft.{Place, EventName}
-use Rattle.graph_words.proofs.TextLists.{same_bytes, bytes_same}
+use Rattle.basics.proofs.TestedLists.{same_bytes, bytes_same}
 use Rattle.refused_words.specs.Places.{place_at}
 use Rattle.refused_words.specs.Refused.{is_event, is_column, same_list, StandsBefore}
 use Rattle.refused_words.specs.Repeats.{AreListed, AreSeen}

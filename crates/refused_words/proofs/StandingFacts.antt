@@ -23,8 +23,10 @@ use Rattle.graph_reader.specs.FirstFault.{misnamed, misordered, draft_fault, ite
 use Rattle.graph_reader.specs.Kinds.{HasPlaces, kind_draft}
 use Rattle.graph_reader.specs.Merges.{merge_verb}
 use Rattle.graph_reader.specs.Reading.{is_operation}
-use Rattle.graph_reader.proofs.LineShapes.{line_by_sign, decl_by_sign, line_kind, found_passes, places_there}
-use Rattle.graph_reader.proofs.Spelled.{chosen}
+use Rattle.graph_reader.proofs.LineShapes.{line_kind}
+use Rattle.graph_reader.proofs.Public.{places_there, line_by_sign, decl_by_sign}
+use Rattle.basics.proofs.TestedLists.{found_passes}
+use Rattle.basics.proofs.Choices.{chosen}
 use Rattle.refused_words.specs.Places.{is_merge, space_place, inst_place, lock_place, barrier_place, decl_place, place_at}
 use Rattle.refused_words.specs.Refused.{is_phase_name, refuses, refuses_in, clashes}
 use Rattle.refused_words.specs.Laws.{HasRefusedWord, has_word}

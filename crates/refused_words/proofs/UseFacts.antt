@@ -18,14 +18,14 @@ use Rattle.graph_terms.specs.declared.table.Place.TheVariants.{Space, Column}
 use Rattle.graph_terms.specs.Access.{access, access_at, accesses_of, verb_accesses}
 use Rattle.graph_terms.specs.Fits.{access_outside}
 use Rattle.graph_terms.specs.Graph.{GraphValue, space_at, column_space}
-use Rattle.graph_terms.specs.Table.{Placed, kind_places, arrive_kind, arrive_parts, verb_parts, verb_of, is_row}
-use Rattle.graph_terms.proofs.KindLaws.{NumbersFit, kind_again, parts_again, each_is_row, over_space}
+use Rattle.graph_terms.specs.Table.{Placed, kind_places, arrive_kind, arrive_parts, verb_parts, verb_of, is_row, NumbersFit}
+use Rattle.graph_terms.proofs.Public.{each_is_row, over_space, kind_again, parts_again}
 use Rattle.graph_words.specs.Draft.{Draft, as_place, number_in, number_in_place, column_number_of, space_number, same_word, draft, decl_draft_after, decl_draft, space_draft, inst_draft, lock_draft, barrier_draft, barrier_with, op_of, words_in}
 use Rattle.graph_reader.specs.Kinds.{HasPlaces, kind_verb}
 use Rattle.graph_reader.specs.Reading.{is_operation}
 use Rattle.graph_words.specs.Words.{pieces}
 use Rattle.graph_reader.proofs.Drafts.{numbers_long}
-use Rattle.graph_reader.proofs.LineShapes.{decl_by_sign}
+use Rattle.graph_reader.proofs.Public.{decl_by_sign}
 use Rattle.refused_words.specs.Refused.{draft_accesses, leaves_column}
 use Rattle.refused_words.specs.Uses.{use_in, use_at}
 

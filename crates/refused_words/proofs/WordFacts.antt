@@ -25,8 +25,10 @@ use Rattle.graph_reader.specs.Kinds.{HasPlaces, kind_verb}
 use Rattle.graph_reader.specs.Merges.{merge_verb}
 use Rattle.graph_reader.specs.Reading.{is_operation}
 use Rattle.graph_words.specs.Words.{pieces}
-use Rattle.graph_reader.proofs.LineShapes.{line_by_sign, operation_long, line_kind, found_passes, places_there}
-use Rattle.graph_reader.proofs.Spelled.{chosen}
+use Rattle.graph_reader.proofs.LineShapes.{line_kind}
+use Rattle.graph_reader.proofs.Public.{places_there, line_by_sign, operation_long}
+use Rattle.basics.proofs.TestedLists.{found_passes}
+use Rattle.basics.proofs.Choices.{chosen}
 use Rattle.refused_words.specs.Places.{is_merge, place_at}
 use Rattle.refused_words.specs.Refused.{refuses_in, item_accesses, draft_accesses, leaves_column}
 use Rattle.refused_words.specs.Uses.{use_in}

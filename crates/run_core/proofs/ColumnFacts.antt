@@ -10,14 +10,13 @@ use Rattle.index_spaces.specs.Column.{ColumnValue}
 use Rattle.index_spaces.specs.Held.{held_at}
 use Rattle.graph_terms.specs.Graph.{GraphValue}
 use Rattle.line_effects.specs.Moved.{moves, AreMoved, AreBack}
-use Rattle.line_effects.proofs.EffectFacts.{access_listed, access_moved}
-use Rattle.line_effects.proofs.MoveFacts.{moves_few, move_of}
+use Rattle.line_effects.proofs.Public.{access_listed, access_moved, move_of, moves_few}
 use Rattle.run_state.specs.Run.{Place, Home, is_listed}
 use Rattle.run_state.specs.Sound.{AccessesColumn}
 use Rattle.run_state.specs.WholeLine.{column_list, all_had, all_home}
 use Rattle.run_core.specs.Works.{cells_in}
 use Rattle.run_core.specs.Kept.{places_of, takers_with}
-use Rattle.run_state.proofs.Lists.{listed_contains, contains_listed, listed_here, listed_there}
+use Rattle.run_state.proofs.Public.{listed_contains, contains_listed, listed_here, listed_there}
 use Rattle.run_core.specs.Steps.{IsAtHome, HasColumns, IsFirstOut}
 use Rattle.run_core.proofs.PlaceFacts.{places_taken, places_given, at_home, is_there}
 

@@ -24,7 +24,8 @@ use Rattle.run_state.specs.WholeLine.{take_whole}
 use Rattle.run_state.specs.Premises.{MayIssue, MayClaim}
 use Rattle.run_state.specs.AtRest.{MayTakeWhole, MayPutBack}
 use Rattle.run_state.specs.Laws.{StartIsSound, StartIsAtRest, IssueKeepsRest, ClaimOfCancelledKeepsRest, TakeKeepsRest, PutBackKeepsRest}
-use Rattle.run_core.specs.Core.{CoreValue, unissued, answer_for, WaitsFor, AreEvents, IsCore}
+use Rattle.run_parts.specs.LineEvents.{answer_for, WaitsFor, AreEvents}
+use Rattle.run_core.specs.Core.{CoreValue, unissued, IsCore}
 use Rattle.run_core.specs.Works.{FinishedValue, IsFinished, cells_in}
 use Rattle.run_core.specs.Steps.{with_issue, IsLeft, IsDue, HasLock, HasColumns, with_run, with_end, handle_at, fate_for}
 use Rattle.run_core.proofs.EventFacts.{TellsNew, GoesOnIssued, events_started, events_issued, events_gone, events_ended, events_placed, events_woken}

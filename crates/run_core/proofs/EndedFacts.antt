@@ -15,7 +15,7 @@ use Rattle.graph_terms.specs.Reservations.{Releases}
 use Rattle.graph_meaning.specs.Evaluation.{is_ended, evaluation, eval_end}
 use Rattle.basics.proofs.ListFacts.{count_below-max, fewer_below}
 use Rattle.basics.specs.Lists.{count_below}
-use Rattle.graph_meaning.proofs.Waiting.{end_in_ended, steps_end}
+use Rattle.graph_meaning.proofs.Public.{end_in_ended, steps_end}
 use Rattle.index_spaces.specs.Held.{held_at}
 use Rattle.event_table.specs.declared.handle.Handle.{Handle}
 use Rattle.event_table.specs.EventMap.{answer, answer_of, ended_with}
@@ -23,11 +23,8 @@ use Rattle.run_state.specs.Run.{LineStage, Ending, Ended, Place, Home, Had, Run,
 use Rattle.run_state.specs.Sound.{AccessesColumn, Sound}
 use Rattle.run_state.specs.WholeLine.{lock_of, all_home, all_back, columns_for, values_with, arrived_with, arrival_for, holders_without, freed_with, freed_lock, frees_by, frees_for, put_back_whole}
 use Rattle.run_state.specs.Laws.{PutBackKeepsRest, PutBackLeaves}
-use Rattle.run_state.proofs.Lists.{ended_over}
-use Rattle.graph_terms.proofs.VerbFacts.{verb_passes}
-use Rattle.run_state.proofs.Started.{kept_is, started_below, started_ends}
-use Rattle.run_state.proofs.Known.{column_there}
-use Rattle.graph_terms.proofs.ReleaseFacts.{one_release}
+use Rattle.run_state.proofs.Public.{ended_over, started_below, started_ends, kept_is, column_there}
+use Rattle.graph_terms.proofs.Public.{verb_passes, one_release}
 use Rattle.run_state.proofs.PutBack.{acquire_is_ended, frees_found}
 use Rattle.run_core.specs.Core.{CoreValue, IsCore}
 use Rattle.run_core.specs.Events.{EventsValue}
@@ -35,8 +32,8 @@ use Rattle.run_core.specs.Works.{FinishedValue, IsFinished, KeepsWork, cells_in}
 use Rattle.run_core.specs.Steps.{with_end, handle_at, fate_for}
 use Rattle.run_core.specs.Holders.{holders_by}
 use Rattle.run_core.specs.Kept.{shown_stage, place_of, places_of, Past, no_past, with_line, past_of, frees_as, frees_so_far, frees_in, frees, run_by, shown_core, AreKept}
-use Rattle.run_core.specs.declared.progress.Progress.{Progress}
-use Rattle.run_core.specs.declared.progress.Progress.TheVariants as progress
+use Rattle.run_parts.specs.declared.progress.Progress.{Progress}
+use Rattle.run_parts.specs.declared.progress.Progress.TheVariants as progress
 use Rattle.run_core.proofs.PastFacts.{past_more, clock_from}
 use Rattle.run_core.proofs.PlaceFacts.{place_is}
 use Rattle.run_core.proofs.CoreFacts.{may_put, core_ended}

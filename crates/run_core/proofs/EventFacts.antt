@@ -13,12 +13,13 @@ use Rattle.event_table.specs.declared.handle.Answer.TheVariants.{Pending}
 use Rattle.basics.specs.Sums.{total}
 use Rattle.event_table.specs.EventMap.{EventMap, SlotLife, unused, life_at, answer, answer_in, answer_of, fresh, with_life, created_at, placed_on, ended_with, next_handle, MayServe, IsPlaced, IsEventMap, Gives}
 use Rattle.basics.proofs.Sums.{total-put}
-use Rattle.event_table.proofs.MapAnswers.{in_idle, is_now, IsNow, life_here, life_there, split_handle, handle_eq, answer_apart}
+use Rattle.event_table.proofs.MapAnswers.{in_idle, life_here, life_there}
+use Rattle.event_table.proofs.Public.{answer_apart, is_now, split_handle, handle_eq}
+use Rattle.event_table.specs.Maps.{IsNow}
 use Rattle.run_state.specs.Run.{LineStage, Unissued, Issued, Ended, stage_at, stage_issued, stage_ended, end_so_far, issued, ended}
 use Rattle.run_state.specs.Start.{start}
-use Rattle.run_state.proofs.Start.{same_at}
-use Rattle.basics.proofs.ListFacts.{contains_none, contains_cases}
-use Rattle.run_core.specs.Core.{answer_for, created_in, pending_in, count_left, WaitsFor, AreEvents}
+use Rattle.basics.proofs.ListFacts.{contains_none, contains_cases, same_at}
+use Rattle.run_parts.specs.LineEvents.{answer_for, created_in, pending_in, count_left, WaitsFor, AreEvents}
 
 -- BEFORE ANY LINE IS ISSUED
 pub replicate_at : {X : Type 0} (n i : ℕ) (x : X) → slice_index_or (replicate n x) i x ≡ x

@@ -13,10 +13,10 @@ use Rattle.run_core.specs.Core.{CoreValue, IsCore}
 use Rattle.run_core.specs.Steps.{HasSources, IsDue, HasLock, HasColumns, IsHeldBy}
 use Rattle.run_core.specs.Findings.{IsFound}
 use Rattle.run_core.specs.Kept.{shown_stage}
-use Rattle.run_core.specs.declared.answers.Thing.{Thing}
+use Rattle.run_parts.specs.declared.answers.Thing.{Thing}
 use Rattle.run_core.specs.declared.run.attempt.Finding.TheVariants as finding
-use Rattle.run_core.specs.declared.progress.Progress.{Progress}
-use Rattle.run_core.specs.declared.progress.Progress.TheVariants as progress
+use Rattle.run_parts.specs.declared.progress.Progress.{Progress}
+use Rattle.run_parts.specs.declared.progress.Progress.TheVariants as progress
 use Rattle.run_core.proofs.CoreFacts.{sources_of}
 
 -- the stage of a line that the code keeps

@@ -23,10 +23,10 @@ use Rattle.run_core.specs.Steps.{with_issue, IsLeft, IsHeldBy, StandsBy, with_ru
 use Rattle.run_core.specs.Finishing.{NothingOut, left_to_do, Stays, GoesOn, IsStill}
 use Rattle.run_core.specs.declared.answers.Attempt.{Attempt}
 use Rattle.run_core.specs.declared.answers.Attempt.TheVariants as attempts
-use Rattle.run_core.specs.declared.answers.Issue.{Issue}
-use Rattle.run_core.specs.declared.answers.Issue.TheVariants as issues
-use Rattle.run_core.specs.declared.answers.Thing.{Thing}
-use Rattle.run_core.specs.declared.answers.Thing.TheVariants as things
+use Rattle.run_parts.specs.declared.answers.Issue.{Issue}
+use Rattle.run_parts.specs.declared.answers.Issue.TheVariants as issues
+use Rattle.run_parts.specs.declared.answers.Thing.{Thing}
+use Rattle.run_parts.specs.declared.answers.Thing.TheVariants as things
 use Rattle.run_core.proofs.CoreFacts.{may_issue, line_near}
 use Rattle.run_core.proofs.EventFacts.{at_contains, lt_unless}
 

@@ -6,16 +6,15 @@ use Rattle.graph_terms.specs.Graph.{GraphValue, is_release_of}
 use Rattle.graph_terms.specs.Fits.{IsGraph}
 use Rattle.graph_meaning.specs.Rules.{Accepted}
 use Rattle.graph_terms.specs.Reservations.{Releases}
-use Rattle.graph_terms.proofs.VerbFacts.{acquire_one, release_one, passes_below}
-use Rattle.graph_terms.proofs.ReleaseFacts.{one_release}
+use Rattle.graph_terms.proofs.Public.{passes_below, release_one, acquire_one, one_release}
 use Rattle.run_state.specs.Run.{is_listed, list_at}
 use Rattle.run_state.specs.Moves.{inserted}
 use Rattle.run_state.specs.WholeLine.{lock_of, holders_with}
 use Rattle.run_state.proofs.Locks.{with_holder, holder_more, holder_new, holder_cases}
-use Rattle.run_state.proofs.WholeLine.{acquires_lock}
+use Rattle.run_state.proofs.Public.{acquires_lock}
 use Rattle.run_core.specs.Resumed.{HoldsNow, AreBeside, FoundBelow}
 use Rattle.run_core.specs.Steps.{HasLock}
-use Rattle.run_core.specs.declared.states.LineState.{LineState}
+use Rattle.run_parts.specs.declared.states.LineState.{LineState}
 
 -- before the first release none is found, and each acquire has a release, so at last all are
 pub none_found : (g : GraphValue) (lines : List LineState) (holders : List (List ℕ)) → ((l q : ℕ) → is_listed (list_at holders l) q ≡ true → ⊥) → FoundBelow g lines holders 0

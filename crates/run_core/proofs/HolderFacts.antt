@@ -6,29 +6,26 @@ use Rattle.std.proofs.lemmas.Bool.{true≢false, cases_eq, cases_lt, eq-eqb, fal
 use Rattle.std.proofs.lemmas.List.{get_or_past, get_or-set_same, get_or-set_other, length-replicate}
 use Rattle.std.proofs.lemmas.List.FromFn.{get_or-map-range_with_len, length-map-range_with_len}
 use Rattle.basics.specs.Lists.{numbers_below, count_below}
-use Rattle.basics.proofs.ListFacts.{contains_here, contains_there, contains_below, from_contains, filter_contains, contains_filter, some_below, fewer_below, count_below-max}
+use Rattle.basics.proofs.ListFacts.{contains_here, contains_there, contains_below, from_contains, filter_contains, contains_filter, some_below, fewer_below, count_below-max, none_counted, one_more_counted, filter_same}
 use Rattle.graph_terms.specs.declared.verb.Line.{Line}
 use Rattle.graph_terms.specs.declared.verb.Verb.TheVariants.{Acquire, Release}
 use Rattle.graph_terms.specs.declared.outcome.End.TheVariants.{Done}
 use Rattle.graph_terms.specs.Graph.{GraphValue, locks, line_passes, is_acquire_of, is_shared, is_release_of}
 use Rattle.graph_terms.specs.Fits.{IsGraph}
 use Rattle.graph_terms.specs.Reservations.{Acquires, Releases, both_shared}
-use Rattle.line_effects.proofs.EffectFacts.{verb_is}
+use Rattle.line_effects.proofs.Public.{verb_is}
 use Rattle.run_state.specs.Run.{LineStage, is_listed, stage_at, list_at, end_so_far}
 use Rattle.run_state.specs.Moves.{inserted, without}
 use Rattle.run_state.specs.WholeLine.{lock_by, lock_of, holders_with, holders_without, freed_lock}
-use Rattle.run_state.proofs.Lists.{listed_contains, contains_listed, none_listed}
-use Rattle.run_state.proofs.Counts.{none_counted, one_more_counted}
-use Rattle.run_state.proofs.HolderLists.{filter_same, one_more_passes, one_passes_no_more}
-use Rattle.run_state.proofs.WholeLine.{acquires_lock}
-use Rattle.graph_terms.proofs.ReleaseFacts.{acquired_lock_known, release_names}
-use Rattle.graph_terms.proofs.VerbFacts.{passes_verb, passes_below, verb_passes, verb_below, is_acquire_from, acquire_one}
+use Rattle.run_state.proofs.Public.{listed_contains, contains_listed, none_listed, acquires_lock}
+use Rattle.run_state.proofs.HolderLists.{one_more_passes, one_passes_no_more}
+use Rattle.graph_terms.proofs.Public.{is_acquire_from, passes_verb, verb_passes, verb_below, passes_below, acquire_one, acquired_lock_known, release_names}
 use Rattle.std.specs.Option.{option_map_or}
 use Rattle.run_core.specs.Kept.{frees_so_far, frees_in}
 use Rattle.run_core.specs.Holders.{holds_lock, holders_at, holders_by, IsHeldAs, AreHeld, keeps_out, joined, parted}
 use Rattle.run_core.specs.Steps.{HasLock, IsKeptOut}
-use Rattle.run_core.specs.declared.holders.LockState.{LockState}
-use Rattle.run_core.specs.declared.holders.LockState.TheVariants.{Alone, Shared}
+use Rattle.run_parts.specs.declared.locks.LockState.{LockState}
+use Rattle.run_parts.specs.declared.locks.LockState.TheVariants.{Alone, Shared}
 
 -- the verb of a line that acquires or releases
 pub line_acquires : (g : GraphValue) (i l : ℕ) (s : Bool) (line : Line) → slice_get g.lines i ≡ Some line → line.verb ≡ Acquire l s → Acquires g i l
@@ -296,6 +293,16 @@ holders_first g = map_same_on (λ l. []) (holders_at g (replicate (length g.line
   where
     filter_nobody : (l : ℕ) (ks : List ℕ) → filter (holds_lock g (replicate (length g.lines) false) l) ks ≡ []
     filter_nobody l ks = none_pass (holds_lock g (replicate (length g.lines) false) l) ks (λ k. and_left (slice_index_or (replicate (length g.lines) false) k false) (line_passes (is_acquire_of l) g k) (replicate_at (length g.lines) k false))
+
+empty_at : (ks : List ℕ) (l : ℕ) → list_at (map (λ (k : ℕ). []) ks) l ≡ []
+empty_at [] l = refl
+empty_at (k ∷ ks) zero = refl
+empty_at (k ∷ ks) (suc l) = empty_at ks l
+
+pub nobody_first : (g : GraphValue) (holding : List Bool) → holding ≡ replicate (length g.lines) false → (l q : ℕ) → is_listed (list_at (holders_by g holding) l) q ≡ true → ⊥
+nobody_first g holding e l q h =
+    let none = ap (λ hs. list_at (holders_by g hs) l) e ∙ (ap (λ xs. list_at xs l) (holders_first g) ∙ empty_at (numbers_below (length (locks g))) l) in
+    true≢false (sym h ∙ ap (λ xs. is_listed xs q) none)
 
 -- A LINE THAT IS READ, and its reservation
 module _ (g : GraphValue) (is : IsGraph g) (holding : List Bool) (held : List LockState) (are : AreHeld g holding held) (i l : ℕ) (s : Bool) (line : Line) (got : slice_get g.lines i ≡ Some line) (verb : line.verb ≡ Acquire l s) where

@@ -12,10 +12,11 @@ use Rattle.event_table.proofs.MapAnswers.{create_tells}
 use Rattle.run_state.specs.Run.{LineStage, Unissued, Issued, Out, Ending, Ended, Run, stage_at, stage_issued, stage_over, stage_out, end_so_far, out, over, ended}
 use Rattle.run_state.specs.Moves.{staged, issue}
 use Rattle.run_state.specs.Laws.{IssueKeepsRest, StageLeaves}
-use Rattle.run_core.specs.Core.{CoreValue, IsCore, answer_for}
+use Rattle.run_parts.specs.LineEvents.{answer_for}
+use Rattle.run_core.specs.Core.{CoreValue, IsCore}
 use Rattle.run_core.specs.Events.{EventsValue}
 use Rattle.run_core.specs.Kept.{shown_stage}
-use Rattle.run_core.specs.declared.progress.Progress.{Progress}
+use Rattle.run_parts.specs.declared.progress.Progress.{Progress}
 use Rattle.run_core.specs.Works.{KeepsWork}
 use Rattle.run_core.specs.Steps.{with_issue, IsLeft, IsLeastLeft}
 use Rattle.run_core.proofs.CoreFacts.{may_issue, core_issued, core_placed, core_woken}

@@ -24,7 +24,6 @@ pub mod ResumeFacts
 pub mod HoldFacts
 pub mod ResumeLists
 pub mod ResumeCore
-pub mod HandleCounts
-pub mod CreatedCounts
-pub mod PendingCounts
+pub mod PartsFacts
 pub mod RestFacts
+pub mod CountFacts

@@ -16,7 +16,7 @@ use Rattle.graph_terms.specs.Graph.{GraphValue, verb_at}
 use Rattle.run_state.specs.Run.{end_so_far}
 use Rattle.run_core.specs.Answers.{answer_shown, phase_for, phase_of_line, AsksHandles}
 use Rattle.run_core.specs.Kept.{shown_stage}
-use Rattle.run_core.specs.declared.progress.Progress.{Progress}
+use Rattle.run_parts.specs.declared.progress.Progress.{Progress}
 use Rattle.run_core.proofs.SourceFacts.{stage_read}
 
 -- one line more

@@ -1,5 +1,5 @@
 -- The waiters that are busy go with the table.
-use Rattle.std.proofs.Common.{◌≡◌, ℕ, Bool, zero, suc, ◌<◌, ◌≤◌, true, false, inl, inr, List, [], ◌∷◌, ◌++◌, length, replicate, refl, sym, ◌∙◌, ap, subst, arith}
+use Rattle.std.proofs.Common.{◌≡◌, ℕ, Bool, ◌<◌, ◌≤◌, true, false, inl, inr, List, [], ◌∷◌, ◌++◌, length, replicate, refl, sym, ◌∙◌, ap, subst, arith}
 use Rattle.std.specs.Prelude.{◌≢◌, Option, Some, None, IsSome, Contains, slice_get, slice_index_or, slice_set}
 use Rattle.std.proofs.lemmas.Bool.{true≢false, false≢true, cases_eq}
 use Rattle.std.proofs.lemmas.List.{get_or-set_same, get_or-set_other, get_or-replicate, length-set, length-replicate}
@@ -11,28 +11,21 @@ use Rattle.event_table.specs.declared.handle.Answer.{Answer}
 use Rattle.event_table.specs.declared.handle.Answer.TheVariants.{Pending}
 use Rattle.event_table.specs.EventMap.{EventMap, SlotLife, unused, life_at, fresh, created_at, placed_on, ended_with, IsFree, Gives, KeepsFree, with_life, answer, all_on, no_event, IsCreated, IsPlaced, WatchedNow, answer_of}
 use Rattle.event_table.specs.declared.handle.WatchNow.TheVariants.{Over}
-use Rattle.basics.proofs.ListFacts.{contains_there, contains_none, contains_cases, contains_map}
-use Rattle.event_table.proofs.MapAnswers.{near_some, answer_apart}
+use Rattle.basics.proofs.ListFacts.{contains_there, contains_none, contains_cases, contains_map, set_get, set_get_other}
+use Rattle.event_table.proofs.Public.{answer_apart, near_some}
 use Rattle.run_core.specs.Events.{EventsValue, IsBusy, AreMarked}
 use Rattle.run_core.proofs.EventFacts.{replicate_at}
 
-replicate_get : {X : Type 0} (n i : ℕ) (x y : X) → slice_get (replicate n x) i ≡ Some y → x ≡ y
-replicate_get n i x y e = sym (get_or-replicate n i x x (subst (λ k. i < k) (length-replicate n x) (slice_get_within (replicate n x) i y e))) ∙ get_or_from_slice_get (replicate n x) i y x e
-
 -- NOBODY IS BUSY at first
-marked_fresh : (slots waiters last : ℕ) → AreMarked (fresh slots waiters last) (replicate waiters false)
-marked_fresh slots waiters last = record {
-  each = length-replicate waiters false;
-  free = λ k at. record {
-    number = subst (λ n. k < n) (length-replicate waiters false) (slice_get_within (replicate waiters false) k false at);
-    unplaced = λ i c. contains_none k (subst (λ (l : SlotLife). Contains l.waiting k) (replicate_at slots i unused) c);
-    uncaught = λ h c. contains_none {X = ℕ × Handle} (k, h) c;
-  };
-  placed = λ k at. absurd (false≢true (replicate_get waiters k false true at));
+fresh_free : (slots waiters last k : ℕ) → k < waiters → IsFree (fresh slots waiters last) k
+fresh_free slots waiters last k near = record {
+  number = near;
+  unplaced = λ i c. contains_none k (subst (λ (l : SlotLife). Contains l.waiting k) (replicate_at slots i unused) c);
+  uncaught = λ h c. contains_none {X = ℕ × Handle} (k, h) c;
 }
 
-pub marked_first : (slots waiters last : ℕ) (m : EventMap) (busy : List Bool) → m ≡ fresh slots waiters last → busy ≡ replicate waiters false → AreMarked m busy
-marked_first slots waiters last m busy is all = subst (λ (t : EventMap). AreMarked t busy) (sym is) (subst (AreMarked (fresh slots waiters last)) (sym all) (marked_fresh slots waiters last))
+pub free_first : (slots waiters last : ℕ) (m : EventMap) → m ≡ fresh slots waiters last → (k : ℕ) → k < m.waiters → IsFree m k
+free_first slots waiters last m is k near = subst (λ (t : EventMap). IsFree t k) (sym is) (fresh_free slots waiters last k (subst (λ (t : EventMap). k < t.waiters) is near))
 
 -- WHERE THOSE THAT WERE BUSY STAY SO, and those that were free too
 pub marked_kept : (m n : EventMap) (busy : List Bool) → n.waiters ≡ m.waiters → KeepsFree m n → ((k : ℕ) → IsBusy m k → IsBusy n k) → AreMarked m busy → AreMarked n busy
@@ -70,17 +63,6 @@ busy_ended m h f k b = elim b [
 
 pub marked_ended : (m n : EventMap) (busy : List Bool) (h : Handle) (f : Fate) → n ≡ ended_with m h f → KeepsFree m n → AreMarked m busy → AreMarked n busy
 marked_ended m n busy h f is free marked = marked_kept m n busy (ap (λ (t : EventMap). t.waiters) is) free (λ k b. subst (λ (t : EventMap). IsBusy t k) (sym is) (busy_ended m h f k b)) marked
-
--- A WAITER IS MARKED. What stands in a list of marks where one is set
-pub set_get : {X : Type 0} (xs : List X) (i : ℕ) (x : X) → i < length xs → slice_get (slice_set xs i x) i ≡ Some x
-set_get xs i x near = slice_get-get_or (slice_set xs i x) i x (subst (λ n. i < n) (sym (length-set xs i x)) near) ∙ ap Some (get_or-set_same xs i x x near)
-
-pub set_get_other : {X : Type 0} (xs : List X) (i j : ℕ) (x : X) → j ≢ i → slice_get (slice_set xs i x) j ≡ slice_get xs j
-set_get_other [] i j x ne = refl
-set_get_other (y ∷ ys) zero zero x ne = absurd (ne refl)
-set_get_other (y ∷ ys) zero (suc j) x ne = refl
-set_get_other (y ∷ ys) (suc i) zero x ne = refl
-set_get_other (y ∷ ys) (suc i) (suc j) x ne = set_get_other ys i j x (λ e. ne (ap suc e))
 
 -- where another mark stands than the one that was set, the mark is an old one
 old_mark : (busy : List Bool) (k : ℕ) (b : Bool) → k < length busy → (j : ℕ) (a : Bool) → a ≢ b → slice_get (slice_set busy k b) j ≡ Some a → (j ≢ k) × (slice_get busy j ≡ Some a)

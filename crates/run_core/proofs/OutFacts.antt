@@ -9,13 +9,13 @@ use Rattle.run_state.specs.Run.{LineStage, Unissued, Issued, Out, Ending, Ended,
 use Rattle.run_state.specs.Sound.{Sound}
 use Rattle.run_state.specs.Moves.{claim}
 use Rattle.run_state.specs.Laws.{ClaimKeepsSound, OutConflictOnlyExempt}
-use Rattle.run_state.proofs.Start.{same_at}
+use Rattle.basics.proofs.ListFacts.{same_at}
 use Rattle.run_core.specs.Core.{CoreValue, IsCore, unissued}
 use Rattle.run_core.specs.Works.{WorkValue, FinishedValue, IsFinished}
 use Rattle.run_core.specs.Steps.{Issues, IsDue, Takes, with_end, with_issue, IsLeft}
 use Rattle.run_core.specs.WhatIsOut.{SameOut, OneMoreOut, ConflictsOnlyExempt}
 use Rattle.run_core.specs.Finishing.{NothingOut}
-use Rattle.run_core.specs.declared.answers.Issue.TheVariants as issues
+use Rattle.run_parts.specs.declared.answers.Issue.TheVariants as issues
 use Rattle.run_core.proofs.CoreFacts.{may_issue, may_claim, line_near}
 use Rattle.run_core.proofs.FinishFacts.{GoesOut, goes_out}
 

@@ -26,21 +26,21 @@ use Rattle.run_state.specs.Run.{Home, Had, Run, stage_at, time_at, place_at, end
 use Rattle.run_state.specs.Start.{first_value}
 use Rattle.run_state.specs.Quiet.{Quiet, ByTimes, phase_so_far_by, phase_so_far, cells_at}
 use Rattle.run_state.specs.Laws.{QuietGivesOutcome, SlotsAreByTimes, ClockIsSmall}
-use Rattle.run_state.proofs.Started.{ended_started, started_below}
-use Rattle.basics.proofs.ListFacts.{got_contains}
-use Rattle.run_core.specs.Core.{CoreValue, unissued, answer_for, IsCore}
+use Rattle.run_state.proofs.Public.{started_below, ended_started}
+use Rattle.basics.proofs.ListFacts.{got_contains, map_same}
+use Rattle.run_parts.specs.LineEvents.{answer_for}
+use Rattle.run_core.specs.Core.{CoreValue, unissued, IsCore}
 use Rattle.run_core.specs.Events.{EventsValue}
 use Rattle.run_core.specs.Answers.{answer_shown, AsksHandles, phase_for, phase_of_line}
 use Rattle.run_core.specs.Kept.{shown_stage, place_of, places_of, no_past, past_of, run_by, shown_core, AreKept}
-use Rattle.run_core.specs.declared.progress.Progress.{Progress}
-use Rattle.run_core.specs.declared.progress.Progress.TheVariants as progress
+use Rattle.run_parts.specs.declared.progress.Progress.{Progress}
+use Rattle.run_parts.specs.declared.progress.Progress.TheVariants as progress
 use Rattle.run_core.proofs.PastFacts.{clock_from, at_time}
 use Rattle.run_core.proofs.PlaceFacts.{place_is, is_there}
 use Rattle.run_core.proofs.TakenFacts.{column_eq}
 use Rattle.run_core.proofs.WorkFacts.{core_of}
 use Rattle.run_core.proofs.CoreFacts.{line_near}
 use Rattle.run_core.proofs.HolderFacts.{holders_first}
-use Rattle.run_state.proofs.Lists.{map_same}
 
 -- BEFORE ANY LINE IS ISSUED
 map_replicate : {X Y : Type 0} (f : X → Y) (n k : ℕ) (x : X) → map f (replicate n x) ≡ map (λ (i : ℕ). f x) (range_with_len k n)

@@ -6,7 +6,7 @@ use Rattle.std.proofs.lemmas.List.{get_or-set_same, get_or-set_other, set_past}
 use Rattle.std.proofs.lemmas.Option.{none-some, same_Some}
 use Rattle.graph_terms.specs.Graph.{GraphValue}
 use Rattle.run_state.specs.Run.{time_at}
-use Rattle.run_state.proofs.Start.{same_at}
+use Rattle.basics.proofs.ListFacts.{same_at}
 use Rattle.run_core.specs.Kept.{Past, no_past, with_line, past_from, past_of}
 
 pub past_more : (g : GraphValue) (past : Past) (is : List ℕ) (i : ℕ) → past_from g past (is ++ i ∷ []) ≡ with_line g (past_from g past is) i

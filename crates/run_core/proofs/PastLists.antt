@@ -10,8 +10,7 @@ use Rattle.graph_meaning.specs.Evaluation.{eval_end}
 use Rattle.run_state.specs.Run.{is_listed, list_at, time_at}
 use Rattle.run_state.specs.Sound.{Once}
 use Rattle.run_state.specs.WholeLine.{all_back, columns_for, arrived_with, arrival_for, freed_with}
-use Rattle.run_state.proofs.Lists.{listed_here, listed_there, listed_cases, none_listed}
-use Rattle.run_state.proofs.Phases.{listed_push, push_listed, once_push}
+use Rattle.run_state.proofs.Public.{listed_here, listed_there, listed_cases, none_listed, listed_push, push_listed, once_push}
 use Rattle.run_state.proofs.Reductions.{Fresh}
 use Rattle.run_core.specs.Kept.{Past, with_line, past_from, frees}
 

@@ -14,7 +14,7 @@ use Rattle.graph_meaning.specs.Effect.{Cells, CellChange, effect, cells_after}
 use Rattle.graph_meaning.specs.Evaluation.{eval_end, end_by, made_by, column_of}
 use Rattle.basics.proofs.ListFacts.{map_contains, got_contains}
 use Rattle.line_effects.specs.Moved.{moves, HeldShow}
-use Rattle.line_effects.proofs.MadeFacts.{all_made}
+use Rattle.line_effects.proofs.Public.{all_made}
 use Rattle.run_state.specs.Run.{stage_out}
 use Rattle.run_state.specs.Sound.{AccessesColumn}
 use Rattle.run_state.specs.Work.{HoldsAll, cells_now}

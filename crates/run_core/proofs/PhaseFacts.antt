@@ -8,8 +8,8 @@ use Rattle.graph_terms.specs.Graph.{GraphValue}
 use Rattle.graph_terms.specs.Edges.{edge}
 use Rattle.graph_terms.specs.Fits.{IsGraph}
 use Rattle.graph_meaning.specs.Laws.{EdgesBetweenLines}
-use Rattle.line_effects.proofs.EffectFacts.{verb_is}
-use Rattle.graph_terms.proofs.EdgeFacts.{arrival_edge}
+use Rattle.line_effects.proofs.Public.{verb_is}
+use Rattle.graph_terms.proofs.Public.{arrival_edge}
 
 -- the phase of an arrival is a line
 pub phase_there : EdgesBetweenLines → (g : GraphValue) → IsGraph g → (i p v w : ℕ) (l : Line) → slice_get g.lines i ≡ Some l → l.verb ≡ Arrive p v w → p < length g.lines

@@ -12,18 +12,19 @@ use Rattle.basics.specs.Lists.{count_below}
 use Rattle.event_table.specs.declared.handle.Handle.{Handle}
 use Rattle.event_table.specs.EventMap.{EventMap, no_event}
 use Rattle.run_state.specs.Run.{LineStage, Unissued, Issued, Out, Ending, Ended, Home, Run, is_listed, stage_at, time_at, list_at, end_so_far, stage_issued, stage_started, stage_ended, ended, timed}
-use Rattle.run_state.proofs.Lists.{some_is, is_some_of, ended_over, stage_there}
-use Rattle.run_state.proofs.Started.{ended_started, started_below, kept_is}
+use Rattle.run_state.proofs.Public.{ended_over, stage_there, started_below, kept_is, ended_started}
+use Rattle.basics.proofs.Choices.{some_is, is_some_of}
 use Rattle.run_core.specs.Core.{CoreValue, IsCore}
 use Rattle.run_core.specs.Events.{EventsValue}
 use Rattle.std.proofs.lemmas.List.FromFn.{length-map-range_with_len}
 use Rattle.run_core.specs.Holders.{holders_at, holders_by}
 use Rattle.run_core.specs.Kept.{shown_stage, place_of, places_of, shown_core, AreKept}
-use Rattle.run_core.specs.Steps.{stage_of}
-use Rattle.run_core.specs.Resumed.{blank_state, state_at, progress_by, progress_for, stage_is_over, over_at, handle_by, handle_of_issued, issued_handles, value_or_zero, HoldsNow, AreBeside, ShowState, InState}
-use Rattle.run_core.specs.declared.progress.Progress.{Progress}
-use Rattle.run_core.specs.declared.progress.Progress.TheVariants as progress
-use Rattle.run_core.specs.declared.states.LineState.{LineState}
+use Rattle.run_parts.specs.Shown.{stage_of}
+use Rattle.run_parts.specs.Shown.{blank_state, state_at}
+use Rattle.run_core.specs.Resumed.{progress_by, progress_for, stage_is_over, over_at, handle_by, handle_of_issued, issued_handles, value_or_zero, HoldsNow, AreBeside, ShowState, InState}
+use Rattle.run_parts.specs.declared.progress.Progress.{Progress}
+use Rattle.run_parts.specs.declared.progress.Progress.TheVariants as progress
+use Rattle.run_parts.specs.declared.states.LineState.{LineState}
 use Rattle.run_core.proofs.PlaceFacts.{place_is, length-places}
 use Rattle.run_core.proofs.ResumeFacts.{bool_same, HeldNow, held_beside, same_back, same_arrived, same_freed, same_holders, resumed_run, resumed_sound, resumed_at_rest, run_is}
 
@@ -244,9 +245,3 @@ module _ (c : CoreValue) (core : IsCore c) (run : Run) (handles : List Handle) (
           resumed_is stages events vs s e v =
               let is = sym (core_is stages events vs s e v) in
               (subst IsCore is is_core, subst (InState c.graph run handles table) is in_state)
-
--- the same state, of the same core
-pub shows_same : (v w : CoreValue) → v ≡ w → (run : Run) (handles : List Handle) (lines now : List LineState) (table : EventMap) (homes : List (Option ColumnValue)) (phases values : List (Option ℕ)) → now ≡ lines → values ≡ phases →
-    ShowState w run handles lines table homes phases → ShowState v run handles now table homes values
-shows_same v w e run handles lines now table homes phases values l p s =
-    subst (λ x. ShowState x run handles now table homes values) (sym e) (subst (λ x. ShowState w run handles x table homes values) (sym l) (subst (λ x. ShowState w run handles lines table homes x) (sym p) s))

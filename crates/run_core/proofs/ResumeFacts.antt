@@ -17,21 +17,17 @@ use Rattle.graph_terms.specs.Reservations.{Acquires, Releases, both_shared}
 use Rattle.graph_terms.specs.declared.outcome.Verdict.TheVariants.{Fine}
 use Rattle.graph_meaning.specs.Effect.{Cells, verb_verdict, effect}
 use Rattle.graph_meaning.specs.Evaluation.{eval_end, evaluation, end_by, is_cancelled, step_by, cells_of, cells_of_lines, column_of, has_ended}
-use Rattle.graph_terms.proofs.ReleaseFacts.{release_names}
-use Rattle.graph_meaning.proofs.Turns.{ends_by_turn}
-use Rattle.graph_terms.proofs.VerbFacts.{acquire_is, release_is, passes_verb, verb_passes}
+use Rattle.graph_meaning.proofs.Public.{ends_by_turn}
+use Rattle.graph_terms.proofs.Public.{acquire_is, release_is, passes_verb, verb_passes, release_names}
 use Rattle.run_state.specs.Run.{LineStage, Place, Run, is_listed, stage_at, time_at, list_at, started, ended, out, timed}
 use Rattle.run_state.specs.Sound.{AccessesColumn, is_arrive, value_for, Once, SoundColumns, SoundPhases, SoundLocks, Sound}
 use Rattle.run_state.specs.AtRest.{AtRest}
 use Rattle.run_state.specs.WholeLine.{lock_by, lock_of, columns_for, arrival_by, arrival_for, freed_lock}
-use Rattle.run_state.proofs.Lists.{listed_contains, none_listed, some_is, is_some_of, ended_over, over_started, out_started, out_not_ended}
-use Rattle.run_state.proofs.Known.{column_there}
-use Rattle.run_state.proofs.Phases.{got_listed}
+use Rattle.run_state.proofs.Public.{listed_contains, none_listed, out_started, over_started, ended_over, out_not_ended, started_below, started_ends, column_there, got_listed, accessed_listed}
+use Rattle.basics.proofs.Choices.{some_is, is_some_of}
 use Rattle.run_state.proofs.PutBack.{for_listed}
 use Rattle.run_state.proofs.Reductions.{once_fresh, same_reduced}
-use Rattle.run_state.proofs.Start.{same_at}
-use Rattle.run_state.proofs.Started.{started_below, started_ends}
-use Rattle.run_state.proofs.WholeLine.{accessed_listed}
+use Rattle.basics.proofs.ListFacts.{same_at}
 use Rattle.run_core.specs.Kept.{Past, no_past, past_of, run_by, frees_as, frees}
 use Rattle.run_core.proofs.PastFacts.{clock_from, at_time}
 use Rattle.run_core.proofs.PastLists.{length-back_from, length-times_from, back_cases, back_new, arrived_from_cases, arrived_from_new, once_from, Frees, freed_from_cases, freed_from_new, times_new}

@@ -8,10 +8,10 @@ use Rattle.std.proofs.lemmas.Option.{none-some, same_Some, slice_get_within}
 use Rattle.event_table.specs.declared.handle.Handle.{Handle}
 use Rattle.event_table.specs.EventMap.{EventMap, IsFree}
 use Rattle.graph_terms.specs.declared.outcome.End.TheVariants.{Done}
-use Rattle.run_core.specs.declared.answers.Stage.TheVariants as stages
+use Rattle.run_parts.specs.declared.answers.Stage.TheVariants as stages
 use Rattle.run_core.specs.Events.{AreMarked}
 use Rattle.run_core.specs.Resumed.{handle_of_issued, issued_handles}
-use Rattle.run_core.specs.declared.states.LineState.{LineState}
+use Rattle.run_parts.specs.declared.states.LineState.{LineState}
 
 -- the state that is read past the end
 abbrev pub zero_state : LineState

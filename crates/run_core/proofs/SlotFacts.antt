@@ -7,7 +7,8 @@ use Rattle.event_table.specs.EventMap.{EventMap, SlotLife, unused, life_at, IsRe
 use Rattle.basics.proofs.Sums.{entry_le}
 use Rattle.run_state.specs.Quiet.{CanTake, Stuck, left_among}
 use Rattle.run_state.specs.Laws.{LeftBelowNeed}
-use Rattle.run_core.specs.Core.{CoreValue, IsCore, created_in, pending_in, count_left}
+use Rattle.run_parts.specs.LineEvents.{created_in, pending_in, count_left}
+use Rattle.run_core.specs.Core.{CoreValue, IsCore}
 use Rattle.run_core.specs.Steps.{IsLeft}
 use Rattle.run_core.specs.Finishing.{NothingOut}
 

@@ -13,11 +13,11 @@ use Rattle.graph_terms.specs.Fits.{IsGraph}
 use Rattle.graph_meaning.specs.Laws.{EdgesBetweenLines}
 use Rattle.basics.proofs.ListFacts.{contains_cases, contains_here, contains_none, filter_contains, contains_filter}
 use Rattle.run_state.specs.Run.{LineStage, Unissued, stage_at, end_so_far, ended}
-use Rattle.run_core.specs.Core.{WaitsFor}
+use Rattle.run_parts.specs.LineEvents.{WaitsFor}
 use Rattle.run_core.specs.Kept.{shown_stage}
 use Rattle.run_core.specs.Sources.{lesser}
 use Rattle.run_core.specs.Steps.{HasSources, IsLeastLeft}
-use Rattle.run_core.specs.declared.progress.Progress.{Progress}
+use Rattle.run_parts.specs.declared.progress.Progress.{Progress}
 
 abbrev pub no_edge : Edge
 no_edge = record { from = 0; to = 0; kind = Passes }

@@ -12,7 +12,7 @@ use Rattle.index_spaces.specs.Held.{held_at}
 use Rattle.run_state.specs.Run.{Unissued, Issued, Out, Home, stage_at, place_at, stage_issued, stage_out, out, is_listed, list_at, stage_started}
 use Rattle.run_state.specs.Sound.{AccessesColumn}
 use Rattle.run_state.specs.WholeLine.{column_list, lock_of, all_had, holders_with, take_whole}
-use Rattle.run_state.proofs.Known.{column_there}
+use Rattle.run_state.proofs.Public.{column_there}
 use Rattle.run_state.specs.Moves.{staged, claim}
 use Rattle.run_state.specs.AtRest.{MayTakeWhole}
 use Rattle.run_state.specs.Laws.{ClaimOfCancelledKeepsRest, TakeKeepsRest, StageLeaves, TakeLeaves}
@@ -22,8 +22,8 @@ use Rattle.run_core.specs.Works.{WorkValue, column_now, IsWork, KeepsWork}
 use Rattle.run_core.specs.Steps.{IsDue, IsAtHome, HasLock, HasColumns, with_run, Takes}
 use Rattle.run_core.specs.Holders.{holders_by}
 use Rattle.run_core.specs.Kept.{shown_stage, place_of, places_of, past_of, run_by, shown_core, AreKept}
-use Rattle.run_core.specs.declared.progress.Progress.{Progress}
-use Rattle.run_core.specs.declared.progress.Progress.TheVariants as progress
+use Rattle.run_parts.specs.declared.progress.Progress.{Progress}
+use Rattle.run_parts.specs.declared.progress.Progress.TheVariants as progress
 use Rattle.run_core.proofs.CoreFacts.{core_claimed, core_taken, may_take, line_near}
 use Rattle.run_core.proofs.WorkFacts.{core_of, keeps_work}
 use Rattle.run_core.proofs.PlaceFacts.{place_is, is_there}

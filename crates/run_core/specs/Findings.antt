@@ -5,7 +5,8 @@ use Rattle.graph_terms.specs.Graph.{never_comes}
 use Rattle.graph_meaning.specs.Evaluation.{eval_end}
 use Rattle.run_state.specs.Run.{Issued, stage_at}
 use Rattle.run_core.specs.Core.{CoreValue}
-use Rattle.run_core.specs.Steps.{stage_of, IsLeastLeft, IsDue, IsHeldBy, HasLock, HasColumns}
+use Rattle.run_parts.specs.Shown.{stage_of}
+use Rattle.run_core.specs.Steps.{IsLeastLeft, IsDue, IsHeldBy, HasLock, HasColumns}
 use Rattle.run_core.specs.declared.run.attempt.Finding.{Finding}
 use Rattle.run_core.specs.declared.run.attempt.Finding.TheVariants as finding
 

@@ -2,8 +2,8 @@
 use Rattle.std.specs.Prelude.{◌≡◌, ℕ, ◌<◌, ◌+◌, ◌-◌, Bool, true, false, not, ◌&&◌, nat_lt, List, length, map, filter, slice_index_or}
 use Rattle.basics.specs.Lists.{numbers_below, count_below}
 use Rattle.graph_terms.specs.Graph.{GraphValue, locks, line_passes, is_acquire_of, is_shared}
-use Rattle.run_core.specs.declared.holders.LockState.{LockState}
-use Rattle.run_core.specs.declared.holders.LockState.TheVariants.{Alone, Shared}
+use Rattle.run_parts.specs.declared.locks.LockState.{LockState}
+use Rattle.run_parts.specs.declared.locks.LockState.TheVariants.{Alone, Shared}
 
 -- whether a line holds this reservation: it is marked, and acquires it
 abbrev pub holds_lock : GraphValue → List Bool → ℕ → ℕ → Bool

@@ -13,8 +13,8 @@ use Rattle.run_state.specs.WholeLine.{lock_of, all_back, columns_for, arrived_wi
 use Rattle.run_core.specs.Core.{CoreValue}
 use Rattle.run_core.specs.Events.{EventsValue}
 use Rattle.run_core.specs.Holders.{holders_by}
-use Rattle.run_core.specs.declared.progress.Progress.{Progress}
-use Rattle.run_core.specs.declared.progress.Progress.TheVariants as progress
+use Rattle.run_parts.specs.declared.progress.Progress.{Progress}
+use Rattle.run_parts.specs.declared.progress.Progress.TheVariants as progress
 
 -- how far a line has come
 abbrev pub shown_stage : Progress → LineStage

@@ -10,3 +10,5 @@ pub mod WhatIsOut
 pub mod Finishing
 pub mod Answers
 pub mod Resumed
+pub mod Resting
+pub mod Counts

@@ -10,20 +10,15 @@ use Rattle.event_table.specs.declared.handle.Handle.{Handle}
 use Rattle.event_table.specs.EventMap.{EventMap, no_event, IsFree}
 use Rattle.run_state.specs.Run.{Home, Run, is_listed, stage_at, time_at, place_at, list_at, end_so_far, started, ended}
 use Rattle.run_state.specs.Sound.{Sound}
-use Rattle.run_core.specs.declared.answers.Stage.{Stage}
-use Rattle.run_core.specs.declared.answers.Stage.TheVariants as stages
-use Rattle.run_core.specs.declared.progress.Progress.{Progress}
-use Rattle.run_core.specs.declared.progress.Progress.TheVariants as progress
-use Rattle.run_core.specs.declared.states.LineState.{LineState}
-use Rattle.run_core.specs.Core.{CoreValue, AreEvents}
-use Rattle.run_core.specs.Steps.{stage_of}
-
--- the state of a line that isn't issued
-abbrev pub blank_state : LineState
-blank_state = record { stage = stages.Unissued; end = Waiting; handle = no_event; time = 0 }
-
-abbrev pub state_at : List LineState → ℕ → LineState
-state_at lines i = slice_index_or lines i blank_state
+use Rattle.run_parts.specs.declared.answers.Stage.{Stage}
+use Rattle.run_parts.specs.declared.answers.Stage.TheVariants as stages
+use Rattle.run_parts.specs.declared.progress.Progress.{Progress}
+use Rattle.run_parts.specs.declared.progress.Progress.TheVariants as progress
+use Rattle.run_parts.specs.declared.states.LineState.{LineState}
+use Rattle.run_parts.specs.LineEvents.{AreEvents}
+use Rattle.run_parts.specs.Shown.{state_at, LinesShow, HomesShow, PhasesShow}
+use Rattle.run_core.specs.Core.{CoreValue}
+use Rattle.run_parts.specs.Shown.{stage_of}
 
 -- WHAT IS READ OF A STATE: how far the line has come, whether it has ended, its handle where it is issued
 abbrev pub progress_by : Stage → End → Progress
@@ -75,25 +70,6 @@ AreBeside g lines = (l q k : ℕ) → HoldsNow g lines q l → HoldsNow g lines 
 pub record FoundBelow (g : GraphValue) (lines : List LineState) (holders : List (List ℕ)) (i : ℕ) : Type 0 where
   pub only : (l q : ℕ) → is_listed (list_at holders l) q ≡ true → HoldsNow g lines q l × (r : ℕ) × (r < i) × Releases g r q
   pub all : (l q r : ℕ) → r < i → Releases g r q → HoldsNow g lines q l → is_listed (list_at holders l) q ≡ true
-
--- THE STATE THAT IS SHOWN. A run, and the handles of its issued lines
-pub record LinesShow (g : GraphValue) (run : Run) (handles : List Handle) (lines : List LineState) : Type 0 where
-  pub each_line : length lines ≡ length g.lines
-  pub stage : (i : ℕ) (s : LineState) → slice_get lines i ≡ Some s → s.stage ≡ stage_of (stage_at run.stages i)
-  pub is_end : (i : ℕ) (s : LineState) → slice_get lines i ≡ Some s → s.end ≡ end_so_far (stage_at run.stages i)
-  pub named : (i : ℕ) (s : LineState) → slice_get lines i ≡ Some s → s.handle ≡ slice_index_or handles i no_event
-  pub timed : (i t : ℕ) (s : LineState) → slice_get lines i ≡ Some s → time_at run.times i ≡ Some t → s.time ≡ t
-
--- each column is at home
-pub record HomesShow (g : GraphValue) (run : Run) (homes : List (Option ColumnValue)) : Type 0 where
-  pub each_home : length homes ≡ length (columns g)
-  pub at_home : (c : ℕ) → c < length (columns g) → (x : ColumnValue) × (slice_get homes c ≡ Some (Some x)) × (x.space ≡ column_space g c) × (place_at run.places c ≡ Home x.cells)
-
--- a value for each phase, and none for another line
-pub record PhasesShow (g : GraphValue) (run : Run) (phases : List (Option ℕ)) : Type 0 where
-  pub each_line : length phases ≡ length g.lines
-  pub value : (p b : ℕ) → verb_at g p ≡ Some (Phase b) → slice_get phases p ≡ Some (Some (slice_index run.values p))
-  pub none : (p : ℕ) → p < length g.lines → ((b : ℕ) → verb_at g p ≡ Some (Phase b) → ⊥) → slice_get phases p ≡ Some None
 
 -- the four show a sound state in which no work is out, with a table as large as this core's in which each waiter is free
 pub record ShowState (c : CoreValue) (run : Run) (handles : List Handle) (lines : List LineState) (table : EventMap) (homes : List (Option ColumnValue)) (phases : List (Option ℕ)) : Type 0 where

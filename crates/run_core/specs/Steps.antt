@@ -13,14 +13,16 @@ use Rattle.run_state.specs.Run.{LineStage, Unissued, Issued, Out, Ending, Ended,
 use Rattle.run_state.specs.Sound.{AccessesColumn, IsOpenTo}
 use Rattle.run_state.specs.Moves.{issue, claim}
 use Rattle.run_state.specs.WholeLine.{column_list, take_whole, put_back_whole}
-use Rattle.run_core.specs.Core.{CoreValue, WaitsFor}
+use Rattle.run_parts.specs.LineEvents.{WaitsFor}
+use Rattle.run_parts.specs.Shown.{stage_of}
+use Rattle.run_core.specs.Core.{CoreValue}
 use Rattle.run_core.specs.Works.{WorkValue, FinishedValue, IsWork, cells_in}
-use Rattle.run_core.specs.declared.answers.Issue.{Issue as IssueAnswer}
-use Rattle.run_core.specs.declared.answers.Issue.TheVariants as issues
-use Rattle.run_core.specs.declared.answers.Stage.{Stage}
-use Rattle.run_core.specs.declared.answers.Stage.TheVariants as stages
-use Rattle.run_core.specs.declared.answers.Thing.{Thing}
-use Rattle.run_core.specs.declared.answers.Thing.TheVariants as things
+use Rattle.run_parts.specs.declared.answers.Issue.{Issue as IssueAnswer}
+use Rattle.run_parts.specs.declared.answers.Issue.TheVariants as issues
+use Rattle.run_parts.specs.declared.answers.Stage.{Stage}
+use Rattle.run_parts.specs.declared.answers.Stage.TheVariants as stages
+use Rattle.run_parts.specs.declared.answers.Thing.{Thing}
+use Rattle.run_parts.specs.declared.answers.Thing.TheVariants as things
 use Rattle.run_core.specs.declared.answers.Attempt.{Attempt}
 use Rattle.run_core.specs.declared.answers.Attempt.TheVariants as attempts
 
@@ -44,15 +46,7 @@ Issues old new issues.NoSlot = IsLeft old × IsFull old.table × (new ≡ old)
 Issues old new issues.All = (length old.handles ≡ length old.graph.lines) × (new ≡ old)
 Issues old new issues.Other = ⊥
 
--- ATTEMPTING. How far a line has come
-abbrev pub stage_of : LineStage → Stage
-stage_of Unissued = stages.Unissued
-stage_of Issued = stages.Issued
-stage_of Out = stages.Out
-stage_of (Ending x) = stages.Out
-stage_of (Ended x) = stages.Ended
-
--- j is the least line that i waits for and that has not ended
+-- ATTEMPTING. j is the least line that i waits for and that has not ended
 pub record IsLeastLeft (g : GraphValue) (stages : List LineStage) (i j : ℕ) : Type 0 where
   pub waits : WaitsFor g i j
   pub left : ended stages j ≡ false

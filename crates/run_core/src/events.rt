@@ -1,19 +1,16 @@
 //! The events of the lines.
 
-ghost use Rattle.std.specs.Prelude.{◌≡◌, ◌<◌, ◌≤◌, ◌++◌, [], ◌∷◌, vec_len};
+ghost use Rattle.std.specs.Prelude.{◌≡◌, ◌<◌, ◌≤◌, ◌++◌, [], ◌∷◌, length, vec_len};
 ghost use Rattle.std.specs.Vec.{vec_capacity};
 ghost use Rattle.run_core.specs.Resumed.{issued_handles};
 ghost use Rattle.event_table.specs.EventMap.{EventMap};
 
-use crate::answers::Stage;
-use crate::run::LAST_GEN;
-use crate::states::LineState;
+use crate::lists::filled_within;
 use event_table::limits::MAX_SLOTS;
 use event_table::{Answer, EventTable, Fate, Handle, WatchNow};
 use graph_terms::limits::MAX_LINES;
-use index_spaces::NoMemory;
-use index_spaces::room::{filled, push_within, with_room};
-use std::alloc::Global;
+use index_spaces::room::push_within;
+use run_parts::{LineState, Stage};
 use std::marker::Model;
 
 /// The handles of the issued lines, with the table that they stand in. The waiter of a line has the
@@ -58,6 +55,20 @@ fn push_handle(state: LineState, handles: &mut Vec<Handle>)
     }
 }
 
+/// The handles of the issued lines.
+pub(crate) fn handles_of(lines: &[LineState], mut handles: Vec<Handle>) -> Vec<Handle>
+    requires room { length lines.now ≤ vec_capacity handles }
+    ensures items { result.items ≡ issued_handles lines.now }
+    ensures few { length result.items ≤ length lines.now }
+    ensures room { length lines.now ≤ vec_capacity result }
+{
+    handles.clear();
+    for state in lines {
+        push_handle(*state, &mut handles);
+    }
+    handles
+}
+
 impl LineEvents {
     ghost use Rattle.std.specs.Prelude.{◌≡◌, ◌≢◌, ◌<◌, ◌≤◌, ◌⊎◌, ◌*◌, ◌++◌, ℕ, [], ◌∷◌, length, true, false, Some, None, slice_get, slice_index_or, IfOk, IfSome, IfNone, IsSome};
     ghost use Rattle.event_table.specs.declared.handle.Handle.{Handle as TheHandle};
@@ -66,53 +77,39 @@ impl LineEvents {
     ghost use Rattle.run_core.specs.Events.{EventsValue};
     ghost use Rattle.run_core.specs.Resumed.{issued_handles};
 
-    /// Before any line is issued.
-    pub(crate) fn new(
-        alloc: Global,
-        slots: u32,
+    /// These handles with their table, in which each waiter is free.
+    pub(crate) fn of_free(
+        table: EventTable,
+        handles: Vec<Handle>,
+        busy: Vec<bool>,
         lines: u32,
-        last_gen: u32,
-    ) -> Result<LineEvents, NoMemory>
-        requires slots { (0 < slots) × (slots ≤ MAX_SLOTS) }
-        requires lines { lines ≤ MAX_LINES }
-        requires last { last_gen ≡ LAST_GEN }
-        ensures { IfOk result (λ e. e ≡ record { handles = []; table = fresh slots lines last_gen }) }
-    {
-        let Ok(table) = EventTable::new(alloc, slots, lines, last_gen) else {
-            return Err(NoMemory);
-        };
-        let handles = with_room(alloc, lines as usize)?;
-        let busy = filled(alloc, false, lines as usize)?;
-        Ok(LineEvents {
-            table,
-            handles,
-            busy,
-        })
-    }
-
-    /// Takes over this table and the handles of the issued lines, where none was created before.
-    /// Each waiter is free.
-    pub(crate) fn resumed(self, lines: &[LineState], table: EventTable) -> LineEvents
-        requires empty { self.handles ≡ [] }
-        requires each { (length lines.now ≡ self.table.waiters) × (table.waiters ≡ self.table.waiters) }
-        requires slots { length table.slots ≡ length self.table.slots }
+    ) -> LineEvents
+        requires lines { (table.waiters ≡ lines) × (lines ≤ MAX_LINES) }
+        requires slots { length table.slots ≤ MAX_SLOTS }
+        requires each { length handles.items ≤ lines }
+        requires room { (lines ≤ vec_capacity handles) × (lines ≤ vec_capacity busy) }
         requires free { (k : ℕ) → k < table.waiters → IsFree table k }
-        ensures { result ≡ record { handles = issued_handles lines.now; table = table } }
+        ensures { result ≡ record { «handles» = handles.items; «table» = table } }
     {
-        let LineEvents {
-            table: _,
-            mut handles,
-            mut busy,
-        } = self;
-        busy.fill(false);
-        for state in lines {
-            push_handle(*state, &mut handles);
-        }
         LineEvents {
             table,
             handles,
-            busy,
+            busy: filled_within(busy, false, lines as usize),
         }
+    }
+
+    /// The lists, as room for others.
+    pub(crate) fn into_room(self) -> (Vec<Handle>, Vec<bool>)
+        ensures handles { self.table.waiters ≤ vec_capacity result.0 }
+        ensures busy { self.table.waiters ≤ vec_capacity result.1 }
+        ensures slots { length self.table.slots ≤ MAX_SLOTS }
+    {
+        let LineEvents {
+            table: _,
+            handles,
+            busy,
+        } = self;
+        (handles, busy)
     }
 
     /// Gives the next line a new handle. False comes where no slot is free.

@@ -1,6 +1,7 @@
 //! Who holds the reservations.
 
-ghost use Rattle.std.specs.Prelude.{◌≡◌, ◌<◌, ◌+◌, ◌^◌, ℕ, length, map, true, false, IfOk, Some, MatchOption, slice_index_or, replicate};
+ghost use Rattle.std.specs.Prelude.{◌≡◌, ◌<◌, ◌+◌, ◌^◌, ◌≤◌, ℕ, length, map, true, false, Some, MatchOption, slice_index_or, replicate};
+ghost use Rattle.std.specs.Vec.{vec_capacity};
 ghost use Rattle.graph_terms.specs.Graph.{locks};
 ghost use Rattle.graph_terms.specs.Reservations.{Acquires};
 ghost use Rattle.run_state.specs.Run.{is_listed, list_at};
@@ -8,25 +9,14 @@ ghost use Rattle.run_state.specs.WholeLine.{lock_of, holders_with, holders_witho
 ghost use Rattle.run_core.specs.Kept.{shown_stage, frees_in};
 ghost use Rattle.run_core.specs.Holders.{holders_by, joined, parted, keeps_out, AreHeld};
 ghost use Rattle.run_core.specs.Steps.{HasLock, IsKeptOut};
-ghost use Rattle.run_core.specs.declared.holders.LockState.TheVariants as lock_state;
+ghost use Rattle.run_parts.specs.declared.locks.LockState.TheVariants as lock_state;
 
-use crate::progress::Progress;
+use crate::lists::filled_within;
 use crate::sources::end_of;
 use graph_model::graph::Graph;
 use graph_terms::outcome::End;
 use graph_terms::verb::Verb;
-use index_spaces::NoMemory;
-use index_spaces::room::filled;
-use std::alloc::Global;
-
-/// How a reservation is held.
-#[derive(Clone, Copy)]
-pub(crate) enum LockState {
-    /// By an exclusive acquire alone.
-    Alone,
-    /// By so many shared acquires, of which there may be none.
-    Shared(u32),
-}
+use run_parts::{LockState, Progress};
 
 /// Who holds the reservations. The lists of their holders are never kept: the counts answer whether
 /// a reservation is open, in a time that does not grow with the holders.
@@ -40,14 +30,16 @@ pub(crate) struct Holders {
 
 impl Holders {
     /// Reservations that nobody holds.
-    pub(crate) fn none(alloc: Global, graph: &Graph) -> Result<Holders, NoMemory>
-        ensures holding { IfOk result (λ h. h.holding.items ≡ replicate (length graph.now.lines) false) }
-        ensures held { IfOk result (λ h. h.held.items ≡ replicate (length (locks graph.now)) (lock_state.Shared 0)) }
+    pub(crate) fn none(graph: &Graph, holding: Vec<bool>, held: Vec<LockState>) -> Holders
+        requires lines { length graph.now.lines ≤ vec_capacity holding }
+        requires locks { length (locks graph.now) ≤ vec_capacity held }
+        ensures holding { result.holding.items ≡ replicate (length graph.now.lines) false }
+        ensures held { result.held.items ≡ replicate (length (locks graph.now)) (lock_state.Shared 0) }
     {
-        Ok(Holders {
-            holding: filled(alloc, false, graph.lines() as usize)?,
-            held: filled(alloc, LockState::Shared(0), graph.locks() as usize)?,
-        })
+        Holders {
+            holding: filled_within(holding, false, graph.lines() as usize),
+            held: filled_within(held, LockState::Shared(0), graph.locks() as usize),
+        }
     }
 }
 

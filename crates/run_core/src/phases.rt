@@ -1,6 +1,7 @@
 //! The values of phases so far.
 
-ghost use Rattle.std.specs.Prelude.{◌≡◌, ◌<◌, length, map, IfOk};
+ghost use Rattle.std.specs.Prelude.{◌≡◌, ◌<◌, ◌≤◌, length, map};
+ghost use Rattle.std.specs.Vec.{vec_capacity};
 ghost use Rattle.basics.specs.Lists.{numbers_below};
 ghost use Rattle.run_state.specs.Start.{first_value};
 ghost use Rattle.run_state.specs.WholeLine.{values_with, phase_op};
@@ -9,20 +10,20 @@ ghost use Rattle.run_core.specs.Kept.{arrival_of};
 use graph_meaning::laws::edges_between_lines;
 use graph_model::graph::Graph;
 use graph_terms::verb::Verb;
-use index_spaces::room::{push_within, with_room};
-use index_spaces::{NoMemory, Op};
+use index_spaces::Op;
+use index_spaces::room::push_within;
 use line_effects::passing::{barrier_of, combined};
-use std::alloc::Global;
 
 /// The values before any arrival: the first value of its barrier for a phase, and 0 for other lines.
-pub(crate) fn first_values(alloc: Global, graph: &Graph) -> Result<Vec<u64>, NoMemory>
-    ensures { IfOk result (λ v. v.items ≡ map (first_value graph.now) (numbers_below (length graph.now.lines))) }
+pub(crate) fn first_values(graph: &Graph, mut values: Vec<u64>) -> Vec<u64>
+    requires room { length graph.now.lines ≤ vec_capacity values }
+    ensures { result.items ≡ map (first_value graph.now) (numbers_below (length graph.now.lines)) }
 {
-    let mut values = with_room(alloc, graph.lines() as usize)?;
+    values.clear();
     for line in 0..graph.lines() {
         push_within(&mut values, first_value(graph, line));
     }
-    Ok(values)
+    values
 }
 
 /// The first value of the barrier of a phase, and 0 for another line.

@@ -5,31 +5,29 @@ ghost use Rattle.std.specs.Prelude.{◌≡◌, ◌≤◌, IfOk};
 use crate::columns::Columns;
 use crate::events::LineEvents;
 use crate::holders::Holders;
+use crate::lists::filled_within;
 use crate::phases::first_values;
-use crate::progress::Progress;
-use crate::run::outcome::OutcomeRoom;
 use checked_graph::Checked;
+use event_table::EventTable;
 use event_table::limits::MAX_SLOTS;
 use graph_meaning::laws::needs_are_one;
 use graph_model::graph::Graph;
 use index_spaces::NoMemory;
-use index_spaces::room::{filled, with_room};
 use line_effects::homes::Homes;
+use run_parts::{LAST_GEN, OutcomeRoom, Progress, RunRoom};
 use run_state::laws::{start_is_at_rest, start_is_sound};
 use std::alloc::Global;
 use std::marker::Model;
 
 pub(crate) mod attempt;
+mod counts;
 mod finish;
 mod issue;
 mod outcome;
 mod put_back;
+pub(crate) mod rest;
 mod resume;
 mod take;
-
-/// The last generation of a slot. A slot retires only after 8,192 lines have ended on it, and then
-/// no line is left.
-pub const LAST_GEN: u32 = 8191;
 
 /// The core of a run of a graph that was accepted. Nothing but `prepare` takes memory.
 #[derive(Drop)]
@@ -93,18 +91,34 @@ impl<'g> Core<'g> {
         let _ = checked.need();
         let lines = graph.lines();
         let columns = graph.columns();
-        let events = LineEvents::new(alloc, slots, lines, LAST_GEN)?;
+        let Ok(table) = EventTable::new(alloc, slots, lines, LAST_GEN) else {
+            return Err(NoMemory);
+        };
         let homes = Homes::zeroed(alloc, graph)?;
-        let takers = filled(alloc, 0, columns as usize)?;
+        let room = RunRoom::reserve(alloc, graph)?;
+        let RunRoom {
+            stages,
+            handles,
+            busy,
+            values,
+            holding,
+            trace,
+            takers,
+            held,
+            outcome,
+        } = room;
         Ok(Core {
             checked,
-            stages: filled(alloc, Progress::Unissued, lines as usize)?,
-            events,
-            columns: Columns { homes, takers },
-            values: first_values(alloc, graph)?,
-            holders: Holders::none(alloc, graph)?,
-            trace: with_room(alloc, lines as usize)?,
-            room: OutcomeRoom::new(alloc, lines as usize)?,
+            stages: filled_within(stages, Progress::Unissued, lines as usize),
+            events: LineEvents::of_free(table, handles, busy, lines),
+            columns: Columns {
+                homes,
+                takers: filled_within(takers, 0, columns as usize),
+            },
+            values: first_values(graph, values),
+            holders: Holders::none(graph, holding, held),
+            trace,
+            room: outcome,
         })
     }
 

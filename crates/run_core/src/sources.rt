@@ -10,11 +10,11 @@ ghost use Rattle.run_core.specs.Kept.{shown_stage};
 ghost use Rattle.run_core.specs.Steps.{HasSources, IsLeastLeft};
 ghost use Rattle.run_core.specs.Sources.{lesser};
 
-use crate::progress::Progress;
 use graph_meaning::laws::edges_between_lines;
 use graph_model::graph::Graph;
 use graph_terms::outcome::End;
 use line_effects::passing::cancels;
+use run_parts::Progress;
 
 /// The least source of a line that has not ended.
 pub(crate) fn least_left(graph: &Graph, line: u32, stages: &[Progress]) -> Option<u32>

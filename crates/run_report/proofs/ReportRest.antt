@@ -14,7 +14,7 @@ use Rattle.graph_terms.specs.declared.verb.Line.{Line}
 use Rattle.graph_terms.specs.Graph.{GraphValue, is_phase}
 use Rattle.graph_terms.specs.declared.decl.ColumnInfo.{ColumnInfo}
 use Rattle.graph_terms.specs.Spelling.{column_name, interval_word}
-use Rattle.run_report.specs.Report.{op_text, op_texts, phase_text, phase_texts, interval_front, interval_text, cells_texts, column_texts}
+use Rattle.run_report.specs.Report.{end_word, answer_word, op_rest, op_text, op_texts, phase_text, phase_texts, interval_front, interval_text, cells_texts, column_texts}
 
 -- the rest of a list at a place that has an element
 pub rest_at : {X : Type 0} (xs : List X) (i : ℕ) (x : X) → slice_get xs i ≡ Some x → drop i xs ≡ x ∷ drop (i + 1) xs
@@ -52,6 +52,16 @@ columns_left g xs c x h = ap (column_texts g c) (rest_at xs c x h)
 
 pub columns_over : (g : GraphValue) (xs : List ColumnValue) (c : ℕ) → length xs ≤ c → column_texts g c (drop c xs) ≡ []
 columns_over g xs c h = ap (column_texts g c) (rest_over xs c h)
+
+-- the line of an operation, in its three parts
+op_parts : (l : Line) (e : End) (a : Answer) → op_text l e a ≡ codes "op " ++ (l.name ++ op_rest e a)
+op_parts l e a =
+    ap (λ x. codes "op " ++ x)
+    (append_assoc l.name (32 ∷ (end_word e ++ 32 ∷ answer_word a)) (10 ∷ []) ∙ ap (λ x. l.name ++ 32 ∷ x) (append_assoc (end_word e) (32 ∷ answer_word a) (10 ∷ [])))
+
+-- the three pieces that are written are that line
+pub op_told : (l : Line) (e : End) (a : Answer) (name rest : List ℕ) → name ≡ l.name → rest ≡ op_rest e a → codes "op " ++ (name ++ rest) ≡ op_text l e a
+op_told l e a name rest n r = ap (λ x. codes "op " ++ (x ++ rest)) n ∙ (ap (λ x. codes "op " ++ (l.name ++ x)) r ∙ sym (op_parts l e a))
 
 -- words after a first one
 joined_more : (w : List ℕ) (ws : List (List ℕ)) → join_with_byte 32 (w ∷ ws) ≡ w ++ flat_map (λ v. 32 ∷ v) ws

@@ -23,6 +23,10 @@ answer_word Triggered = codes "triggered"
 answer_word Poisoned = codes "poisoned"
 answer_word Pending = codes "pending"
 
+-- what stands behind the name of an operation in its line
+abbrev pub op_rest : End → Answer → List ℕ
+op_rest e a = 32 ∷ (end_word e ++ 32 ∷ (answer_word a ++ 10 ∷ []))
+
 -- the line of an operation: how it ended, and what its handle answers
 abbrev pub op_text : Line → End → Answer → List ℕ
 op_text l e a = spelled (codes "op" ∷ l.name ∷ end_word e ∷ answer_word a ∷ [])

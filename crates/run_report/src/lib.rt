@@ -5,4 +5,4 @@ mod report;
 mod words;
 
 pub use report::{put_evaluation, put_report};
-pub use words::{put_five, put_four, put_six, put_three, put_two};
+pub use words::put_words;

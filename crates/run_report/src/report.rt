@@ -4,13 +4,13 @@ ghost use Rattle.std.specs.Prelude.{◌≡◌, ℕ, ◌<◌, ◌≤◌, length, 
 ghost use Rattle.realm_io.specs.Counts.{Rose};
 ghost use Rattle.realm_io.specs.Told.{with_more, TookPrefix};
 ghost use Rattle.graph_terms.specs.Spelling.{spelled, interval_word};
-ghost use Rattle.run_report.specs.Report.{FitsGraph, end_word, answer_word, op_text, op_texts, phase_text, phase_texts, interval_front, interval_text, cells_texts, column_texts, report, evaluation_report};
+ghost use Rattle.run_report.specs.Report.{FitsGraph, op_rest, op_text, op_texts, phase_text, phase_texts, interval_front, interval_text, cells_texts, column_texts, report, evaluation_report};
 ghost use Rattle.index_spaces.specs.Space.{space_size, IsSpace};
 ghost use Rattle.graph_terms.specs.Graph.{is_phase};
 ghost use Rattle.graph_meaning.specs.Evaluation.{outcome};
 ghost use Rattle.realm_io.specs.Written.{Writes};
 
-use crate::words::{put_four, put_three};
+use crate::words::put_words;
 use graph_model::graph::Graph;
 use graph_terms::name::Name;
 use graph_terms::outcome::{Answer, End, Outcome};
@@ -21,24 +21,23 @@ use index_spaces::limits::MAX_POINTS;
 use itoa::Buffer;
 use realm_io::{Sink, WriteFault, put_bytes};
 
-fn end_word(end: End) -> &'static [u8]
-    ensures { result.now ≡ end_word end }
+/// What stands behind the name of an operation in its line: one piece, since a report has a line for each operation.
+fn op_rest(end: End, answer: Answer) -> &'static [u8]
+    ensures { result.now ≡ op_rest end answer }
 {
-    match end {
-        End::Done => b"done",
-        End::Faulted => b"faulted",
-        End::Cancelled => b"cancelled",
-        End::Waiting => b"waiting",
-    }
-}
-
-fn answer_word(answer: Answer) -> &'static [u8]
-    ensures { result.now ≡ answer_word answer }
-{
-    match answer {
-        Answer::Triggered => b"triggered",
-        Answer::Poisoned => b"poisoned",
-        Answer::Pending => b"pending",
+    match (end, answer) {
+        (End::Done, Answer::Triggered) => b" done triggered\n",
+        (End::Done, Answer::Poisoned) => b" done poisoned\n",
+        (End::Done, Answer::Pending) => b" done pending\n",
+        (End::Faulted, Answer::Triggered) => b" faulted triggered\n",
+        (End::Faulted, Answer::Poisoned) => b" faulted poisoned\n",
+        (End::Faulted, Answer::Pending) => b" faulted pending\n",
+        (End::Cancelled, Answer::Triggered) => b" cancelled triggered\n",
+        (End::Cancelled, Answer::Poisoned) => b" cancelled poisoned\n",
+        (End::Cancelled, Answer::Pending) => b" cancelled pending\n",
+        (End::Waiting, Answer::Triggered) => b" waiting triggered\n",
+        (End::Waiting, Answer::Poisoned) => b" waiting poisoned\n",
+        (End::Waiting, Answer::Pending) => b" waiting pending\n",
     }
 }
 
@@ -46,13 +45,9 @@ fn answer_word(answer: Answer) -> &'static [u8]
 fn put_op<K: Sink>(sink: &mut K, line: &Line, end: End, answer: Answer) -> Result<(), WriteFault>
     ensures { Writes (K.state sink.old) (K.state sink.new) result (op_text line.now end answer) }
 {
-    put_four(
-        sink,
-        b"op",
-        line.name.bytes(),
-        end_word(end),
-        answer_word(answer),
-    )
+    put_bytes(sink, b"op ")?;
+    put_bytes(sink, line.name.bytes())?;
+    put_bytes(sink, op_rest(end, answer))
 }
 
 /// Writes the lines of the operations.
@@ -76,11 +71,11 @@ fn put_phase<K: Sink>(sink: &mut K, line: &Line, value: Option<u64>) -> Result<(
     ensures { Writes (K.state sink.old) (K.state sink.new) result (phase_text line.now true value) }
 {
     match value {
-        None => put_three(sink, b"phase", line.name.bytes(), b"-"),
+        None => put_words(sink, &[b"phase", line.name.bytes(), b"-"]),
         Some(value) => {
             let mut buffer = Buffer::new();
             let word = buffer.format(value).as_bytes();
-            put_three(sink, b"phase", line.name.bytes(), word)
+            put_words(sink, &[b"phase", line.name.bytes(), word])
         }
     }
 }

@@ -6,7 +6,7 @@ use Rattle.graph_terms.specs.Graph.{GraphValue}
 use Rattle.graph_terms.specs.Access.{is_reduction, Conflict}
 use Rattle.graph_meaning.specs.Path.{HasPath}
 use Rattle.graph_meaning.specs.Rules.{Exempt, Accepted}
-use Rattle.graph_meaning.proofs.Races.{commute_parts, path_or_exempt}
+use Rattle.graph_meaning.proofs.Public.{commute_parts, path_or_exempt}
 use Rattle.run_state.specs.Run.{LineStage, stage_at, out}
 use Rattle.run_state.specs.Sound.{SoundLines}
 use Rattle.run_state.specs.Apart.{ConflictOnlyExempt}

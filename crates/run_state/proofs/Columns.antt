@@ -7,12 +7,13 @@ use Rattle.graph_terms.specs.declared.outcome.End.TheVariants.{Cancelled}
 use Rattle.graph_terms.specs.Graph.{GraphValue, column_space}
 use Rattle.graph_meaning.specs.Effect.{cells_after}
 use Rattle.graph_meaning.specs.Evaluation.{eval_end, eval_changes, cells_of_lines, column_of}
-use Rattle.graph_meaning.proofs.Turns.{turns_after}
+use Rattle.graph_meaning.proofs.Public.{turns_after}
 use Rattle.graph_meaning.proofs.Confluence.{cell_is_put_back}
 use Rattle.run_state.specs.Run.{Place, Home, Had, Run, is_listed, stage_at, place_at, list_at, out, started, ended}
 use Rattle.run_state.specs.Sound.{AccessesColumn, home_cells, SoundColumns, Sound}
 use Rattle.run_state.specs.Moves.{column_out, column_unused, column_back}
-use Rattle.run_state.proofs.Lists.{each_set, is_there, listed_here, listed_there, listed_cases, out_started, out_not_ended, ended_over, map_same}
+use Rattle.run_state.proofs.Lists.{each_set, is_there, listed_here, listed_there, listed_cases, out_started, out_not_ended, ended_over}
+use Rattle.basics.proofs.ListFacts.{map_same}
 use Rattle.run_state.proofs.Known.{column_there}
 use Rattle.run_state.proofs.SoundParts.{with_columns}
 use Rattle.run_state.proofs.Started.{sources_closed, started_ends, changed_back}

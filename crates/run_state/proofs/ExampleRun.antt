@@ -14,7 +14,7 @@ use Rattle.graph_meaning.specs.Rules.{Accepted}
 use Rattle.graph_meaning.specs.Evaluation.{eval_end, order}
 use Rattle.graph_terms.specs.Fits.{IsGraph}
 use Rattle.graph_terms.proofs.examples.Graphs.{one_fill, two_sections, reserved_sums}
-use Rattle.basics.proofs.ListFacts.{passes_each}
+use Rattle.basics.proofs.ListFacts.{passes_each, same_at}
 use Rattle.graph_meaning.proofs.RulesTable.{implies, implied, accepted_by_tests}
 use Rattle.graph_terms.proofs.examples.Fits.{one_fill-fits, two_sections-fits}
 use Rattle.graph_meaning.proofs.examples.Accepted.{two_sections-accepted, reserved_sums-accepted}
@@ -28,7 +28,7 @@ use Rattle.run_state.specs.Quiet.{Quiet, GivesOutcome}
 use Rattle.run_state.specs.WholeLine.{lock_of, take_whole, put_back_whole}
 use Rattle.run_state.proofs.Lists.{each_set, none_listed, stage_there}
 use Rattle.run_state.proofs.Stages.{issue-sound}
-use Rattle.run_state.proofs.Start.{start_is_sound, same_at}
+use Rattle.run_state.proofs.Start.{start_is_sound}
 use Rattle.run_state.proofs.WholeLine.{acquires_lock, taken_is_sound, taken_is_at_rest}
 use Rattle.run_state.proofs.PutBack.{put_back_is_sound, put_back_is_at_rest}
 use Rattle.run_state.proofs.Between.{start_is_at_rest, issue_is_at_rest}

@@ -4,15 +4,8 @@ use Rattle.std.specs.Prelude.{Contains, ◌==◌, nat_lt, cond, not, filter}
 use Rattle.std.specs.List.{range_with_len}
 use Rattle.std.proofs.lemmas.Bool.{cases_eq, eq-eqb, ne_eqb, lt-ltb, le-ltb}
 use Rattle.basics.specs.Lists.{numbers_below}
-use Rattle.basics.proofs.ListFacts.{contains_here, contains_there, from_contains, filter_contains}
+use Rattle.basics.proofs.ListFacts.{contains_here, from_contains, filter_contains, filter_same}
 use Rattle.run_state.specs.Moves.{inserted, without}
-
--- a test that agrees on the numbers gives the same list
-pub filter_same : (s t : ℕ → Bool) (xs : List ℕ) → ((k : ℕ) → Contains xs k → s k ≡ t k) → filter s xs ≡ filter t xs
-filter_same s t [] h = refl
-filter_same s t (x ∷ xs) h =
-    ap (λ b. cond b (x ∷ filter s xs) (filter s xs)) (h x (contains_here x xs))
-    ∙ ap (λ ys. cond (t x) (x ∷ ys) ys) (filter_same s t xs (λ k c. h k (contains_there x xs k c)))
 
 -- the least number goes first
 first_inserted : (q : ℕ) (ks : List ℕ) → ((k : ℕ) → Contains ks k → q < k) → inserted q ks ≡ q ∷ ks

@@ -2,17 +2,17 @@
 use Rattle.std.proofs.Common.{◌≡◌, ℕ, ◌<◌, length, sym, ◌∙◌, subst, inl, inr, List, map, refl}
 use Rattle.graph_terms.specs.Graph.{GraphValue, columns}
 use Rattle.graph_terms.specs.Fits.{IsGraph}
-use Rattle.graph_meaning.proofs.LineFacts.{accesses_fit, columns_differ}
-use Rattle.run_state.specs.Sound.{AccessesColumn, Once}
+use Rattle.graph_meaning.proofs.Public.{accesses_fit, columns_differ}
 use Rattle.std.specs.Prelude.{Option, Some, None, slice_get, option_map}
 use Rattle.std.proofs.lemmas.Option.{none-some, same_Some, slice_get-map}
 use Rattle.graph_terms.specs.declared.verb.Access.{Access}
 use Rattle.graph_terms.specs.Access.{accesses}
 use Rattle.run_state.proofs.Reductions.{Fresh, once_fresh}
 use Rattle.std.proofs.lemmas.Bool.{cases_order}
+use Rattle.run_state.specs.Laws.{AccessedColumnsAreDeclared, ColumnsAccessedOnce}
 
 -- a column that a line accesses is one of the graph
-pub column_there : {g : GraphValue} → IsGraph g → (i c : ℕ) → AccessesColumn g i c → c < length (columns g)
+pub column_there : {g : GraphValue} → AccessedColumnsAreDeclared g
 column_there {g} f i c a = subst (λ x. x < length (columns g)) a.2 (accesses_fit g i a.0 f a.1).column
 
 -- a line accesses no column twice
@@ -23,7 +23,7 @@ column_got accessed k c h = got (slice_get accessed k) refl (sym (slice_get-map 
     got None e h = absurd (none-some c h)
     got (Some a) e h = (a, e, same_Some a.column c h)
 
-pub columns_once : (g : GraphValue) → IsGraph g → (i : ℕ) → Once (map (λ (a : Access). a.column) (accesses g i))
+pub columns_once : ColumnsAccessedOnce
 columns_once g f i j k c hj hk =
     let a = column_got (accesses g i) j c hj in
     let b = column_got (accesses g i) k c hk in

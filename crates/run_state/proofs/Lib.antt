@@ -1,5 +1,4 @@
 pub mod Lists
-pub mod Counts
 pub mod Known
 pub mod SoundParts
 pub mod Started
@@ -28,3 +27,4 @@ pub mod Taken
 pub mod Told
 pub mod ExampleRun
 pub mod LawFacts
+pub mod Public

@@ -11,8 +11,7 @@ use Rattle.run_state.specs.Run.{Run, is_listed, stage_at, list_at, started, over
 use Rattle.run_state.specs.Sound.{SoundLocks, Sound}
 use Rattle.run_state.specs.Moves.{inserted, hold, without, let_go, free}
 use Rattle.run_state.proofs.Lists.{each_set, inserted_here, inserted_there, inserted_cases, listed_here, listed_there, listed_cases, listed_without, without_listed, out_started, out_not_ended}
-use Rattle.graph_terms.proofs.ReleaseFacts.{acquired_lock_known}
-use Rattle.graph_terms.proofs.VerbFacts.{release_one, acquire_one, both_shared_swap}
+use Rattle.graph_terms.proofs.Public.{release_one, acquire_one, both_shared_swap, acquired_lock_known}
 use Rattle.run_state.proofs.SoundParts.{with_locks}
 use Rattle.run_state.specs.Premises.{MayHold, MayLetGo, MayFree}
 

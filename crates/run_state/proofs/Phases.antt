@@ -12,15 +12,16 @@ use Rattle.graph_terms.specs.declared.verb.Verb.TheVariants.{Phase, Arrive}
 use Rattle.graph_terms.specs.Graph.{GraphValue, verb_at, line_passes}
 use Rattle.graph_meaning.specs.Evaluation.{eval_end, combined, reduced_with, arrival_value}
 use Rattle.run_state.specs.Run.{Run, is_listed, stage_at, started}
-use Rattle.run_state.specs.Sound.{is_arrive, value_for, Once, SoundPhases, Sound}
+use Rattle.run_state.specs.Sound.{is_arrive, value_for, SoundPhases, Sound}
 use Rattle.run_state.specs.Moves.{arrive}
 use Rattle.std.proofs.lemmas.List.Sums.{fold_push}
-use Rattle.graph_terms.proofs.VerbFacts.{verb_below}
+use Rattle.graph_terms.proofs.Public.{verb_below}
 use Rattle.graph_meaning.proofs.ArrivalFacts.{arrival_is}
 use Rattle.run_state.proofs.SoundParts.{with_phases}
 use Rattle.run_state.proofs.Lists.{listed_there, listed_contains, contains_listed, out_started}
 use Rattle.std.proofs.lemmas.List.Elements.{Contains-push_cases, Contains-append_left, filter_map-append}
 use Rattle.run_state.specs.Premises.{MayArrive}
+use Rattle.run_state.specs.Laws.{ListedAtEndByCases, ListedStaysWithMore, OnceWithAnother, PlacedIsListed, ValueOfArrival}
 
 -- a number is behind the others, or among them
 got_push : (xs : List ℕ) (x a i : ℕ) → slice_get (xs ++ x ∷ []) a ≡ Some i → ((a ≡ length xs) × (x ≡ i)) ⊎ ((a < length xs) × (slice_get xs a ≡ Some i))
@@ -29,12 +30,12 @@ got_push [] x (suc a) i h = absurd (none-some i h)
 got_push (y ∷ xs) x zero i h = inr (omega arith, h)
 got_push (y ∷ xs) x (suc a) i h = elim (got_push xs x a i h) [ inl e ↦ inl (ap suc e.0, e.1) | inr r ↦ inr ((let l : a < length xs = r.0 in omega arith), r.1) ]
 
-pub got_listed : (xs : List ℕ) (a i : ℕ) → slice_get xs a ≡ Some i → is_listed xs i ≡ true
+pub got_listed : PlacedIsListed
 got_listed [] a i h = absurd (none-some i h)
 got_listed (x ∷ xs) zero i h = rw (eq-eqb i x (sym (same_Some x i h))) refl
 got_listed (x ∷ xs) (suc a) i h = listed_there x i xs (got_listed xs a i h)
 
-pub once_push : (xs : List ℕ) (x : ℕ) → Once xs → is_listed xs x ≡ false → Once (xs ++ x ∷ [])
+pub once_push : OnceWithAnother
 once_push xs x o new a b i ha hb = elim (got_push xs x a i ha) [
   | inl ea ↦ elim (got_push xs x b i hb) [
     | inl eb ↦ ea.0 ∙ sym eb.0
@@ -46,10 +47,10 @@ once_push xs x o new a b i ha hb = elim (got_push xs x a i ha) [
   ]
 ]
 
-pub listed_push : (xs : List ℕ) (x k : ℕ) → is_listed (xs ++ x ∷ []) k ≡ true → (is_listed xs k ≡ true) ⊎ (k ≡ x)
+pub listed_push : ListedAtEndByCases
 listed_push xs x k h = elim (Contains-push_cases xs x k (listed_contains (xs ++ x ∷ []) k h)) [ inl c ↦ inl (contains_listed xs k c) | inr e ↦ inr (sym e) ]
 
-pub push_listed : (xs : List ℕ) (x k : ℕ) → is_listed xs k ≡ true → is_listed (xs ++ x ∷ []) k ≡ true
+pub push_listed : ListedStaysWithMore
 push_listed xs x k h = contains_listed (xs ++ x ∷ []) k (Contains-append_left xs (x ∷ []) k (listed_contains xs k h))
 
 -- a line that brings a value to a phase is an arrival at it
@@ -58,7 +59,7 @@ value_is p None n h = absurd (none-some n h)
 value_is p (Some v) n h = let a = arrival_is p v n h in (a.0, ap Some a.1)
 
 -- what an arrival brings to its phase, and to others
-pub value_here : (g : GraphValue) (i p v w : ℕ) → verb_at g i ≡ Some (Arrive p v w) → value_for g p i ≡ Some v
+pub value_here : ValueOfArrival
 value_here g i p v w e = ap (λ (o : Option Verb). option_map_or (arrival_value p) o None) e ∙ ap (λ b. cond b (Some v) None) (eq-eqb p p refl)
 
 value_elsewhere : (g : GraphValue) (i p q v : ℕ) → value_for g p i ≡ Some v → (q ≡ p → ⊥) → value_for g q i ≡ None

@@ -20,16 +20,16 @@ use Rattle.run_state.specs.Sound.{AccessesColumn, is_arrive, value_for, Sound}
 use Rattle.run_state.specs.Moves.{draw, ending}
 use Rattle.run_state.specs.Work.{put_cells}
 use Rattle.run_state.specs.WholeLine.{column_list, lock_of, all_home, all_back, columns_back, arrived_with, arrive_some, holders_without, freed_with, free_some, columns_for, op_by, phase_op, arrival_by, arrival_for, freed_lock, frees_by, frees_for, put_back_whole}
-use Rattle.run_state.proofs.Lists.{ended_over, out_not_ended, each_set, listed_here, listed_there, listed_cases, none_listed, stage_there, is_some_of}
+use Rattle.run_state.proofs.Lists.{ended_over, out_not_ended, each_set, listed_here, listed_there, listed_cases, none_listed, stage_there}
+use Rattle.basics.proofs.Choices.{is_some_of}
 use Rattle.run_state.proofs.Known.{column_there, columns_fresh}
-use Rattle.graph_terms.proofs.ReleaseFacts.{acquired_lock_known, one_release, release_names}
 use Rattle.run_state.proofs.Started.{path_ended, kept_is}
 use Rattle.run_state.proofs.Columns.{had_one, with_one, one_more, one_new, one_cases, column_back-sound}
 use Rattle.run_state.proofs.Times.{draw-sound}
 use Rattle.run_state.proofs.Stages.{ending-sound, close-sound}
 use Rattle.run_state.proofs.Locks.{less_one, one_stays, free-sound}
 use Rattle.run_state.proofs.Phases.{arrive-sound, listed_push}
-use Rattle.graph_terms.proofs.VerbFacts.{passes_verb, verb_passes, release_of_is}
+use Rattle.graph_terms.proofs.Public.{release_of_is, passes_verb, verb_passes, acquired_lock_known, release_names, one_release}
 use Rattle.run_state.proofs.Reductions.{Fresh}
 use Rattle.run_state.proofs.WholeLine.{listed_accessed, accessed_listed, not_the_first, lock_acquires, acquires_lock}
 use Rattle.run_state.specs.AtRest.{AtRest, MayPutBack}

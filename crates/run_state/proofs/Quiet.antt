@@ -13,20 +13,16 @@ use Rattle.graph_terms.specs.Edges.{edges}
 use Rattle.graph_terms.specs.Reservations.{Acquires, Releases}
 use Rattle.graph_meaning.specs.Effect.{Cells, effect, verb_verdict}
 use Rattle.graph_meaning.specs.Evaluation.{has_ended, is_ended, is_cancelled, cells_of, end_by, evaluation, eval_end}
-use Rattle.graph_meaning.proofs.ReadyLine.{IsReadyLine, ready_or_never}
-use Rattle.graph_meaning.proofs.Waiting.{waits_if_reached, end_in_left, end_in_ended, steps_end, ends_in_order}
-use Rattle.graph_meaning.proofs.Turns.{turns_after}
-use Rattle.graph_terms.proofs.VerbFacts.{passes_below, passes_verb, verb_passes, acquire_of_is, release_of_is}
-use Rattle.graph_terms.proofs.GraphFacts.{edges_in_range}
+use Rattle.graph_meaning.proofs.Public.{ready_or_never, never_with_path, turns_after, end_in_ended, steps_end, end_in_left, ends_in_order, waits_if_reached}
+use Rattle.graph_meaning.specs.Turns.{IsReadyLine}
+use Rattle.graph_terms.proofs.Public.{acquire_of_is, release_of_is, passes_verb, verb_passes, passes_below, acquired_lock_known, edges_in_range}
 use Rattle.run_state.specs.Run.{LineStage, Unissued, Issued, Out, Ending, Ended, Run, is_listed, stage_at, list_at, stage_out, stage_over, stage_ended, end_so_far, started, ended}
 use Rattle.run_state.specs.Sound.{Sound}
 use Rattle.run_state.specs.Quiet.{Quiet}
 use Rattle.run_state.proofs.Lists.{ended_over}
-use Rattle.graph_terms.proofs.ReleaseFacts.{acquired_lock_known}
 use Rattle.run_state.proofs.Started.{ended_started, path_ended, started_ends, kept_is}
 use Rattle.run_state.proofs.Work.{step_parts}
 use Rattle.run_state.proofs.Stuck.{Blocked, stuck_ended, stuck_issued, blocked}
-use Rattle.graph_meaning.proofs.PathLaws.{never_with_path}
 
 -- the end of an acquire that is not cancelled
 verdict_of : (space : ℕ → List (ℕ × ℕ)) (cells : Cells) (o : Option Verb) (l : ℕ) (shared : Bool) → o ≡ Some (Acquire l shared) → option_map_or (verb_verdict space cells) o Fine ≡ Fine

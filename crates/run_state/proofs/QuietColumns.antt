@@ -4,16 +4,16 @@ use Rattle.std.specs.Prelude.{Contains, filter, flat_map}
 use Rattle.std.proofs.lemmas.Bool.{true≢false, false_from_ne_true}
 use Rattle.index_spaces.specs.Space.{points}
 use Rattle.graph_terms.specs.Graph.{GraphValue, column_space}
-use Rattle.graph_meaning.specs.Effect.{Cells, zero_cells, cells_after}
+use Rattle.graph_meaning.specs.Effect.{Cells, zero_cells, cells_after, touches, Untouched}
 use Rattle.graph_meaning.specs.Evaluation.{evaluation, order, eval_changes, cells_of, cells_by, cells_of_lines, column_of}
-use Rattle.basics.proofs.ListFacts.{contains_here, contains_there}
-use Rattle.graph_meaning.proofs.Changes.{touches, Untouched, cells_after-append, cells_after_at, cells_after_untouched}
+use Rattle.basics.proofs.ListFacts.{contains_here, contains_there, map_same}
+use Rattle.graph_meaning.proofs.Public.{cells_after_at, cells_after-append, cells_after_untouched}
 use Rattle.graph_meaning.proofs.Confluence.{steps_found, flat_map_lines}
 use Rattle.graph_meaning.proofs.OrderLaws.{listed_iff_ended}
 use Rattle.run_state.specs.Run.{Run, Place, Home, Had, is_listed, stage_at, place_at, list_at}
 use Rattle.run_state.specs.Sound.{home_cells, Sound}
 use Rattle.run_state.specs.Quiet.{Quiet}
-use Rattle.run_state.proofs.Lists.{ended_over, map_same}
+use Rattle.run_state.proofs.Lists.{ended_over}
 use Rattle.run_state.proofs.Started.{changed_back}
 use Rattle.run_state.proofs.Quiet.{evaluation_ended}
 use Rattle.run_state.proofs.Stuck.{stuck_home}

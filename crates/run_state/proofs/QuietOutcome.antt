@@ -14,7 +14,7 @@ use Rattle.graph_meaning.specs.Evaluation.{cells_of, column_of, evaluation, eval
 use Rattle.run_state.specs.Run.{Run, stage_at, place_at, end_so_far}
 use Rattle.run_state.specs.Sound.{Sound}
 use Rattle.run_state.specs.Quiet.{Quiet, ByTimes, phase_so_far_by, phase_so_far, cells_at, outcome_of, GivesOutcome}
-use Rattle.run_state.proofs.Lists.{map_same}
+use Rattle.basics.proofs.ListFacts.{map_same}
 use Rattle.run_state.proofs.Quiet.{quiet_end}
 use Rattle.run_state.proofs.QuietColumns.{quiet_column}
 use Rattle.run_state.proofs.QuietPhases.{quiet_value}

@@ -18,14 +18,13 @@ use Rattle.graph_terms.specs.Graph.{GraphValue, barriers, verb_at}
 use Rattle.graph_terms.specs.Edges.{edge, edges, edges_into}
 use Rattle.graph_meaning.specs.Evaluation.{is_ended, is_cancelled, cancels, evaluation, eval_end, arrival_value, reduced_with, reduced_value}
 use Rattle.basics.proofs.ListFacts.{passes_some, contains_filter, contains_below}
-use Rattle.graph_meaning.proofs.LineFacts.{phases_fit}
+use Rattle.graph_meaning.proofs.Public.{phases_fit}
 use Rattle.run_state.specs.Run.{Run, is_listed, stage_at, started, ended}
 use Rattle.run_state.specs.Sound.{is_arrive, value_for, Sound}
 use Rattle.run_state.specs.Quiet.{Quiet}
 use Rattle.run_state.proofs.Lists.{ended_over, contains_listed}
 use Rattle.run_state.proofs.Started.{ended_started, started_ends, cancelled_iff}
-use Rattle.graph_terms.proofs.VerbFacts.{verb_passes, verb_below}
-use Rattle.graph_terms.proofs.EdgeFacts.{arrival_edge}
+use Rattle.graph_terms.proofs.Public.{verb_passes, verb_below, arrival_edge}
 use Rattle.run_state.proofs.Reductions.{once_fresh, numbers_fresh, same_reduced, by_number}
 use Rattle.run_state.proofs.Phases.{value_is}
 use Rattle.run_state.proofs.Quiet.{evaluation_ended}

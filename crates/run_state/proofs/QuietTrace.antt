@@ -9,12 +9,13 @@ use Rattle.graph_terms.specs.Graph.{GraphValue}
 use Rattle.graph_terms.specs.Reservations.{Acquires, Releases, both_shared}
 use Rattle.graph_meaning.specs.Evaluation.{is_ended, eval_end}
 use Rattle.basics.proofs.ListFacts.{count_below-max, got_contains}
-use Rattle.graph_terms.proofs.VerbFacts.{both_shared_swap}
+use Rattle.graph_terms.proofs.Public.{both_shared_swap}
 use Rattle.graph_meaning.specs.Trace.{StandsBefore, IsLawful}
 use Rattle.run_state.specs.Run.{Run, stage_at, time_at, ended, timed}
 use Rattle.run_state.specs.Sound.{Sound}
 use Rattle.run_state.specs.Quiet.{Quiet, ByTimes}
-use Rattle.run_state.proofs.Lists.{ended_over, some_is, is_some_of}
+use Rattle.run_state.proofs.Lists.{ended_over}
+use Rattle.basics.proofs.Choices.{some_is, is_some_of}
 use Rattle.run_state.proofs.Started.{sources_closed}
 use Rattle.run_state.proofs.Quiet.{quiet_ended, ended_in_evaluation, evaluation_ended}
 

@@ -17,15 +17,13 @@ use Rattle.graph_meaning.specs.Path.{Path, last, first}
 use Rattle.graph_terms.specs.Reservations.{Acquires, Releases}
 use Rattle.graph_meaning.specs.Need.{places, rivals, acquires_after, release_edges, need_edges, Precedes, IsHigh, largest, open_at, IsNeed}
 use Rattle.basics.proofs.ListFacts.{contains_none, contains_cases, contains_here, contains_there, contains_map, contains_below}
-use Rattle.graph_meaning.proofs.PathLaws.{path_append}
-use Rattle.graph_meaning.proofs.ReadyLine.{IsReadyLine, ready_or_never}
+use Rattle.graph_meaning.proofs.Public.{ready_or_never, path_append}
+use Rattle.graph_meaning.specs.Turns.{IsReadyLine}
 use Rattle.graph_meaning.proofs.NeedTable.{largest_above}
-use Rattle.graph_terms.proofs.VerbFacts.{passes_below, passes_verb, acquire_of_is, release_of_is}
-use Rattle.graph_terms.proofs.GraphFacts.{edges_in_range}
+use Rattle.graph_terms.proofs.Public.{acquire_of_is, release_of_is, passes_verb, passes_below, acquired_lock_known, edges_in_range}
 use Rattle.run_state.specs.Run.{Run, is_listed, list_at, started, ended}
 use Rattle.run_state.specs.Sound.{Sound}
 use Rattle.run_state.specs.Quiet.{Stuck, left_among}
-use Rattle.graph_terms.proofs.ReleaseFacts.{acquired_lock_known}
 use Rattle.run_state.proofs.Started.{path_ended}
 use Rattle.run_state.proofs.Quiet.{release_no_acquire, release_left}
 use Rattle.run_state.proofs.Stuck.{Blocked, stuck_ended, stuck_issued, blocked}

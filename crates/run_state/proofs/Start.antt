@@ -1,6 +1,6 @@
 -- A run begins in a sound state.
 use Rattle.std.proofs.Common.{◌≡◌, ℕ, ◌+◌, ◌≤◌, Bool, true, false, inl, inr, List, [], ◌∷◌, length, map, refl, sym, ◌∙◌, ap, subst, arith}
-use Rattle.std.specs.Prelude.{Option, Some, None, filter, flat_map, is_some, slice_get, slice_index, slice_index_or}
+use Rattle.std.specs.Prelude.{Option, Some, None, filter, flat_map, is_some, slice_get, slice_index}
 use Rattle.std.specs.Option.{option_map_or}
 use Rattle.std.proofs.lemmas.Bool.{true≢false, cases_lt}
 use Rattle.std.proofs.lemmas.Option.{none-some, slice_get_past}
@@ -20,17 +20,10 @@ use Rattle.graph_terms.specs.Fits.{IsGraph}
 use Rattle.run_state.specs.Run.{LineStage, Unissued, Home, Had, is_listed, timed, stage_at, time_at, place_at, list_at, stage_issued, stage_started, stage_over, stage_ended, kept_end}
 use Rattle.run_state.specs.Sound.{home_cells, Sound}
 use Rattle.run_state.specs.Start.{first_by, first_value, zeros, start}
-use Rattle.run_state.proofs.Lists.{map_same, none_listed}
-use Rattle.run_state.proofs.Counts.{none_counted}
-use Rattle.graph_terms.proofs.VerbFacts.{verb_below}
+use Rattle.run_state.proofs.Lists.{none_listed}
+use Rattle.graph_terms.proofs.Public.{verb_below}
 use Rattle.run_state.proofs.Columns.{had_not_home, home_one}
-
--- the entries of a list of one thing
-pub same_at : {X : Type 0} (d : X) (n i : ℕ) → slice_index_or (map (λ (k : ℕ). d) (numbers_below n)) i d ≡ d
-same_at d n i = elim (cases_lt i n) [
-  | inl h ↦ get_or-map-range_with_len (λ k. d) 0 n i i d h (let e : 0 + i ≡ i = omega arith in e)
-  | inr past ↦ get_or_past (map (λ (k : ℕ). d) (numbers_below n)) i d (subst (λ m. m ≤ i) (sym (length-map-range_with_len (λ k. d) 0 n)) past)
-]
+use Rattle.basics.proofs.ListFacts.{same_at, none_counted, map_same}
 
 filter_none : (ks : List ℕ) → filter (λ k. false) ks ≡ []
 filter_none [] = refl

@@ -6,41 +6,36 @@ use Rattle.graph_terms.specs.declared.outcome.End.TheVariants.{Cancelled}
 use Rattle.graph_terms.specs.declared.verb.Edge.{Edge}
 use Rattle.graph_terms.specs.Graph.{GraphValue, never_comes}
 use Rattle.graph_terms.specs.Edges.{edges, edges_into}
-use Rattle.graph_meaning.specs.Path.{HasPath}
-use Rattle.graph_meaning.specs.Rules.{Accepted}
-use Rattle.graph_meaning.specs.Effect.{CellChange, Effect, effect}
+use Rattle.graph_meaning.specs.Effect.{CellChange, Effect, effect, touches}
 use Rattle.graph_meaning.specs.Evaluation.{has_ended, cells_of, cancels, is_cancelled, step_by, evaluation, eval_end, eval_changes}
-use Rattle.graph_terms.specs.Fits.{IsGraph}
 use Rattle.graph_meaning.proofs.Cancelled.{not_cancelled_of}
-use Rattle.basics.proofs.ListFacts.{contains_none, filter_contains}
-use Rattle.graph_meaning.proofs.Races.{before_ended}
-use Rattle.graph_meaning.proofs.Waiting.{left_is_reached}
-use Rattle.graph_meaning.proofs.Turns.{ends_by_turn, list_any_agree}
-use Rattle.graph_meaning.proofs.Changes.{touches}
+use Rattle.basics.proofs.ListFacts.{contains_none, filter_contains, list_any_agree}
+use Rattle.graph_meaning.proofs.Public.{before_ended, ends_by_turn, left_is_reached}
 use Rattle.graph_meaning.specs.Laws.{IsReadyAmong}
 use Rattle.graph_meaning.proofs.Confluence.{change_access}
-use Rattle.graph_terms.proofs.GraphFacts.{edges_in_range}
+use Rattle.graph_terms.proofs.Public.{edges_in_range}
 use Rattle.run_state.specs.Run.{LineStage, Run, is_listed, stage_at, list_at, end_so_far, out, started, over, ended}
 use Rattle.run_state.specs.Sound.{SoundLines, Sound}
 use Rattle.run_state.specs.Quiet.{kept_cancels}
 use Rattle.run_state.proofs.Lists.{ended_over, over_started, over_keeps, out_started, out_not_ended, started_issued, stage_there}
+use Rattle.run_state.specs.Laws.{StartedLinesAreBelowEnd, StartedLinesEnd, KeptEndIsEvaluated, EndedHasStarted, PathsFromEnded, CancelledBySources}
 
-pub ended_started : (stages : List LineStage) (i : ℕ) → ended stages i ≡ true → started stages i ≡ true
+pub ended_started : EndedHasStarted
 ended_started stages i h = over_started (stage_at stages i) (ended_over (stage_at stages i) h)
 
 -- with a line that was taken all lines before it have ended
 pub sources_closed : {g : GraphValue} {stages : List LineStage} → SoundLines g stages → (e : Edge) → Contains (edges g) e → ended stages e.to ≡ true → ended stages e.from ≡ true
 sources_closed {g} {stages} s e c h = s.sources e c (ended_started stages e.to h)
 
-pub path_ended : {g : GraphValue} {stages : List LineStage} → SoundLines g stages → (i j : ℕ) → HasPath g i j → started stages j ≡ true → ended stages i ≡ true
+pub path_ended : {g : GraphValue} {stages : List LineStage} → PathsFromEnded g stages
 path_ended {g} {stages} s i j p h = before_ended (edges g) (ended stages) (sources_closed s) i j (λ e c to. s.sources e c (ap (started stages) to ∙ h)) p
 
 -- a line that was taken is one of the graph
-pub started_below : {g : GraphValue} {stages : List LineStage} → SoundLines g stages → (i : ℕ) → started stages i ≡ true → i < length g.lines
+pub started_below : {g : GraphValue} {stages : List LineStage} → StartedLinesAreBelowEnd g stages
 started_below {g} {stages} s i h = subst (λ n. i < n) s.each_line (stage_there stages i (started_issued (stage_at stages i) h))
 
 -- a line that was taken ends in the evaluation
-pub started_ends : {g : GraphValue} {stages : List LineStage} → IsGraph g → Accepted g → SoundLines g stages → (i : ℕ) → started stages i ≡ true → has_ended (evaluation g) i ≡ true
+pub started_ends : {g : GraphValue} {stages : List LineStage} → StartedLinesEnd g stages
 started_ends {g} {stages} f accepted s i h = true_from_ne_false (has_ended (evaluation g) i) (λ left.
     elim (left_is_reached g (λ e c. (edges_in_range g f e c).0) accepted.acyclic i (started_below s i h) left) [
       | inl never ↦ true≢false (sym never ∙ s.comes i h)
@@ -48,7 +43,7 @@ started_ends {g} {stages} f accepted s i h = true_from_ne_false (has_ended (eval
     ])
 
 -- the end that is kept of a line that is over
-pub kept_is : {g : GraphValue} {stages : List LineStage} → SoundLines g stages → (i : ℕ) → over stages i ≡ true → end_so_far (stage_at stages i) ≡ eval_end g i
+pub kept_is : {g : GraphValue} {stages : List LineStage} → KeptEndIsEvaluated g stages
 kept_is {g} {stages} s i h = sym (s.ends i (end_so_far (stage_at stages i)) (over_keeps (stage_at stages i) h))
 
 -- a line is cancelled exactly where its sources' ends cancel it
@@ -103,7 +98,7 @@ kept_as_evaluated {g} {stages} s i h = list_any_agree (λ (e : Edge). cancels e.
     (λ e c. let k = filter_contains (λ (e : Edge). e.to == i) (edges g) e c in
     ap (cancels e.kind) (kept_is s e.from (ended_over (stage_at stages e.from) (h e k.0 (eqb-true e.to i k.1)))))
 
-pub cancelled_iff : (g : GraphValue) (i : ℕ) → has_ended (evaluation g) i ≡ true → (is_cancelled g (evaluation g) i ≡ true → eval_end g i ≡ Cancelled) × (eval_end g i ≡ Cancelled → is_cancelled g (evaluation g) i ≡ true)
+pub cancelled_iff : CancelledBySources
 cancelled_iff g i h =
     let t = ends_by_turn g i h in (
       λ b. t.end_is ∙ ap (λ b. (step_by i b (effect g i (cells_of t.before))).ends) b,

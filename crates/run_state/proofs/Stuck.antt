@@ -10,7 +10,7 @@ use Rattle.run_state.specs.Run.{LineStage, Unissued, Issued, Out, Ending, Ended,
 use Rattle.run_state.specs.Sound.{IsOpenTo, Sound}
 use Rattle.run_state.specs.Quiet.{IsFree, Stuck}
 use Rattle.run_state.proofs.Lists.{listed_here, none_listed, started_cases}
-use Rattle.graph_terms.proofs.VerbFacts.{acquire_one, passes_verb, verb_passes, acquire_some}
+use Rattle.graph_terms.proofs.Public.{passes_verb, verb_passes, acquire_one, acquire_some}
 
 -- what is left of the stages where no line is out or ending
 issued_only : (s : LineStage) → stage_issued s ≡ true → stage_out s ≡ false → (stage_over s ≡ true → stage_ended s ≡ true) → stage_ended s ≡ false → s ≡ Issued

@@ -8,7 +8,7 @@ use Rattle.graph_terms.specs.Graph.{GraphValue, column_space}
 use Rattle.graph_meaning.specs.Evaluation.{eval_end, end_by, cells_of_lines, column_of}
 use Rattle.graph_meaning.specs.Effect.{Cells, effect}
 use Rattle.graph_terms.specs.Fits.{IsGraph}
-use Rattle.graph_meaning.proofs.LineFacts.{accesses_fit}
+use Rattle.graph_meaning.proofs.Public.{accesses_fit}
 use Rattle.run_state.specs.Run.{Unissued, Out, Home, Had, Run, is_listed, stage_at, place_at, list_at, stage_issued, stage_out}
 use Rattle.run_state.specs.Sound.{AccessesColumn, home_cells, Sound}
 use Rattle.run_state.specs.Work.{HoldsAll, cells_from, performed}

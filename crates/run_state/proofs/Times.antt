@@ -12,8 +12,9 @@ use Rattle.graph_meaning.specs.Evaluation.{eval_end}
 use Rattle.run_state.specs.Run.{Run, is_listed, stage_at, time_at, list_at, started, over, ended, timed}
 use Rattle.run_state.specs.Sound.{SoundLocks, SoundTimes, Sound}
 use Rattle.run_state.specs.Moves.{draw}
-use Rattle.run_state.proofs.Counts.{one_more_counted}
-use Rattle.run_state.proofs.Lists.{each_set, stage_there, out_started, out_not_ended, started_issued, some_is, is_some_of}
+use Rattle.basics.proofs.ListFacts.{one_more_counted}
+use Rattle.run_state.proofs.Lists.{each_set, stage_there, out_started, out_not_ended, started_issued}
+use Rattle.basics.proofs.Choices.{some_is, is_some_of}
 use Rattle.run_state.specs.Premises.{MayDraw}
 
 module _ (g : GraphValue) (run : Run) (s : Sound g run) (i : ℕ) (m : MayDraw g run i) where

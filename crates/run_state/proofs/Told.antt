@@ -7,10 +7,11 @@ use Rattle.graph_terms.specs.declared.outcome.End.TheVariants.{Done, Cancelled}
 use Rattle.graph_terms.specs.Graph.{GraphValue, line_passes}
 use Rattle.graph_terms.specs.Reservations.{Acquires, Releases}
 use Rattle.graph_meaning.specs.Evaluation.{is_ended, evaluation, eval_end}
-use Rattle.graph_meaning.proofs.Waiting.{end_in_ended, steps_end}
+use Rattle.graph_meaning.proofs.Public.{end_in_ended, steps_end}
 use Rattle.run_state.specs.Run.{Run, Had, is_listed, stage_at, time_at, place_at, list_at, kept_end, over, ended}
 use Rattle.run_state.specs.Sound.{AccessesColumn, is_arrive, Sound}
-use Rattle.run_state.proofs.Lists.{out_not_over, over_started, ended_over, some_is}
+use Rattle.run_state.proofs.Lists.{out_not_over, over_started, ended_over}
+use Rattle.basics.proofs.Choices.{some_is}
 use Rattle.run_state.proofs.Started.{started_ends}
 use Rattle.run_state.specs.AtRest.{AtRest}
 

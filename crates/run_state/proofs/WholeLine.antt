@@ -20,20 +20,20 @@ use Rattle.run_state.specs.Moves.{claim, column_out, inserted}
 use Rattle.run_state.specs.WholeLine.{column_list, lock_by, lock_of, all_had, columns_out, holders_with, hold_some, take_whole}
 use Rattle.run_state.proofs.Lists.{each_set, listed_contains, contains_listed, listed_here, listed_there, listed_cases, none_listed, stage_there}
 use Rattle.run_state.proofs.Known.{column_there, columns_fresh}
-use Rattle.graph_terms.proofs.ReleaseFacts.{acquired_lock_known}
 use Rattle.run_state.proofs.Columns.{column_out-sound}
 use Rattle.run_state.proofs.Stages.{claim-sound}
 use Rattle.run_state.proofs.Locks.{with_holder, holder_more, holder_new, hold-sound}
-use Rattle.graph_terms.proofs.VerbFacts.{passes_verb, acquire_of_is}
+use Rattle.graph_terms.proofs.Public.{acquire_of_is, passes_verb, acquired_lock_known}
 use Rattle.run_state.proofs.Reductions.{Fresh}
 use Rattle.run_state.specs.AtRest.{AtRest, MayTakeWhole}
 use Rattle.run_state.specs.Premises.{MayTakeColumn, MayHold}
+use Rattle.run_state.specs.Laws.{ReservationOfAcquire, AccessedColumnsAreListed}
 
 -- the columns of a line by their numbers
 pub listed_accessed : (g : GraphValue) (i c : ℕ) → is_listed (column_list g i) c ≡ true → AccessesColumn g i c
 listed_accessed g i c h = map_contains (λ (a : Access). a.column) (accesses g i) c (listed_contains (column_list g i) c h)
 
-pub accessed_listed : (g : GraphValue) (i c : ℕ) → AccessesColumn g i c → is_listed (column_list g i) c ≡ true
+pub accessed_listed : AccessedColumnsAreListed
 accessed_listed g i c a = contains_listed (column_list g i) c (subst (λ z. Contains (column_list g i) z) a.2 (contains_map (λ (x : Access). x.column) (accesses g i) a.0 a.1))
 
 pub not_the_first : (c d : ℕ) (cs : List ℕ) → Fresh (c ∷ cs) → is_listed cs d ≡ true → d ≡ c → ⊥
@@ -81,7 +81,7 @@ lock_acquires g q l h = by_option (verb_at g q) h
     by_option None h = absurd (none-some l h)
     by_option (Some v) h = lock_is l v h
 
-pub acquires_lock : (g : GraphValue) (q l : ℕ) → Acquires g q l → lock_of g q ≡ Some l
+pub acquires_lock : ReservationOfAcquire
 acquires_lock g q l a = let v = passes_verb (is_acquire_of l) g q a in ap (λ (o : Option Verb). option_map_or lock_by o None) v.1 ∙ ap lock_by (acquire_of_is l v.0 v.2)
 
 hold_some-sound : {g : GraphValue} {run : Run} → Sound g run → (i : ℕ) (o : Option ℕ) → ((l : ℕ) → o ≡ Some l → MayHold g run l i) → Sound g (hold_some run i o)

@@ -9,10 +9,9 @@ use Rattle.graph_terms.specs.Graph.{GraphValue, column_space, space_at, verb_at}
 use Rattle.graph_terms.specs.Access.{verb_accesses}
 use Rattle.graph_meaning.specs.Effect.{Cells, Effect, cells_after, effect}
 use Rattle.graph_meaning.specs.Evaluation.{has_ended, is_cancelled, end_by, made_by, step_by, evaluation, eval_changes, cells_of, cells_of_lines, column_of}
-use Rattle.graph_meaning.proofs.Turns.{turns_after}
-use Rattle.graph_meaning.proofs.Changes.{cells_after_at, listed_point, map_agree}
+use Rattle.graph_meaning.proofs.Public.{cells_after_at, listed_point, accesses_fit, turns_after}
+use Rattle.basics.proofs.ListFacts.{map_agree}
 use Rattle.graph_meaning.proofs.Confluence.{effect_same, agree_in, same_effect}
-use Rattle.graph_meaning.proofs.LineFacts.{accesses_fit}
 use Rattle.run_state.specs.Run.{Run, is_listed, stage_at, list_at, ended}
 use Rattle.run_state.specs.Sound.{AccessesColumn, Sound}
 use Rattle.run_state.specs.Work.{cells_now, HoldsAll, performed, PerformsAsEvaluated}

@@ -1,28 +1,31 @@
 -- What is proved of the states of all runs.
-use Rattle.std.specs.Prelude.{◌≡◌, ◌≢◌, ℕ, ◌<◌, ◌≤◌, ◌↔◌, false, List, length, Contains, IsTrue, Some, slice_get}
+use Rattle.std.specs.Prelude.{◌≡◌, ◌≢◌, ℕ, ◌<◌, ◌≤◌, ◌↔◌, false, List, length, Contains, IsTrue, Some, slice_get, true, ◌∷◌, ◌⊎◌, [], map, ◌++◌}
 use Rattle.index_spaces.specs.declared.Op.{Op}
 use Rattle.graph_terms.specs.declared.outcome.End.{End}
 use Rattle.graph_terms.specs.declared.outcome.End.TheVariants.{Done, Cancelled}
 use Rattle.graph_terms.specs.declared.verb.Edge.{Edge}
-use Rattle.graph_terms.specs.Graph.{GraphValue, line_passes, never_comes}
+use Rattle.graph_terms.specs.Graph.{GraphValue, line_passes, never_comes, columns, verb_at}
 use Rattle.graph_terms.specs.Edges.{edges}
 use Rattle.graph_meaning.specs.Path.{HasPath}
-use Rattle.graph_terms.specs.Reservations.{Releases}
+use Rattle.graph_terms.specs.Reservations.{Releases, Acquires}
 use Rattle.graph_meaning.specs.Rules.{Accepted}
 use Rattle.graph_meaning.specs.Effect.{Cells, effect}
-use Rattle.graph_meaning.specs.Evaluation.{eval_end, end_by, column_of}
+use Rattle.graph_meaning.specs.Evaluation.{eval_end, end_by, column_of, has_ended, evaluation, is_cancelled}
 use Rattle.graph_terms.specs.Fits.{IsGraph}
 use Rattle.graph_meaning.specs.Need.{IsNeed}
-use Rattle.run_state.specs.Run.{LineStage, Run, Out, Home, Had, is_listed, stage_at, time_at, place_at, list_at, out, ended}
-use Rattle.run_state.specs.Sound.{AccessesColumn, is_arrive, home_cells, SoundLines, Sound}
-use Rattle.run_state.specs.Moves.{staged, issue, claim, unclaim, ending, close, column_out, column_unused, column_back, arrive, hold, let_go, free, draw}
+use Rattle.run_state.specs.Run.{LineStage, Run, Out, Home, Had, is_listed, stage_at, time_at, place_at, list_at, out, ended, stage_out, stage_started, stage_over, stage_ended, stage_issued, started, end_so_far, over}
+use Rattle.run_state.specs.Sound.{AccessesColumn, is_arrive, home_cells, SoundLines, Sound, Once, value_for}
+use Rattle.run_state.specs.Moves.{staged, issue, claim, unclaim, ending, close, column_out, column_unused, column_back, arrive, hold, let_go, free, draw, without, inserted}
 use Rattle.run_state.specs.Work.{HoldsAll, cells_from, performed, put_cells, PerformsAsEvaluated}
 use Rattle.run_state.specs.Premises.{MayIssue, MayClaim, MayUnclaim, MayTakeColumn, MayReturnColumn, MayPutBackColumn, MayHold, MayLetGo, MayArrive, MayDraw, MayEnd, MayFree, MayClose}
-use Rattle.run_state.specs.WholeLine.{take_whole, put_back_whole}
+use Rattle.run_state.specs.WholeLine.{take_whole, put_back_whole, lock_of, column_list}
 use Rattle.run_state.specs.AtRest.{AtRest, MayTakeWhole, MayPutBack, Undisturbed}
 use Rattle.run_state.specs.Start.{start}
 use Rattle.run_state.specs.Apart.{ConflictOnlyExempt}
 use Rattle.run_state.specs.Quiet.{kept_cancels, CanTake, Quiet, Stuck, left_among, ByTimes, GivesOutcome}
+use Rattle.graph_terms.specs.declared.verb.Access.{Access}
+use Rattle.graph_terms.specs.Access.{accesses}
+use Rattle.graph_terms.specs.declared.verb.Verb.TheVariants.{Arrive}
 
 -- a run begins sound and at rest
 abbrev pub StartIsSound : Type 0
@@ -181,3 +184,128 @@ UnorderedConflictOnlyExempt = (g : GraphValue) (i j : ℕ) → Accepted g → (H
 abbrev pub OutConflictOnlyExempt : Type 0
 OutConflictOnlyExempt = (g : GraphValue) (stages : List LineStage) (i j : ℕ) → Accepted g → SoundLines g stages →
     IsTrue (out stages i) → IsTrue (out stages j) → ConflictOnlyExempt g i j
+
+-- a number that is listed is in the list
+abbrev pub ListedIsContained : Type 0
+ListedIsContained = (ks : List ℕ) (i : ℕ) → is_listed ks i ≡ true → Contains ks i
+
+-- a number in the list is listed
+abbrev pub ContainedIsListed : Type 0
+ContainedIsListed = (ks : List ℕ) (i : ℕ) → Contains ks i → is_listed ks i ≡ true
+
+-- the first number is listed
+abbrev pub FirstIsListed : Type 0
+FirstIsListed = (i : ℕ) (ks : List ℕ) → is_listed (i ∷ ks) i ≡ true
+
+-- what the rest lists is listed
+abbrev pub RestIsListed : Type 0
+RestIsListed = (i k : ℕ) (ks : List ℕ) → is_listed ks k ≡ true → is_listed (i ∷ ks) k ≡ true
+
+-- what is listed is the first number, or the rest lists it
+abbrev pub ListedByCases : Type 0
+ListedByCases = (i k : ℕ) (ks : List ℕ) → is_listed (i ∷ ks) k ≡ true → (k ≡ i) ⊎ (is_listed ks k ≡ true)
+
+-- no list lists nothing
+abbrev pub NothingListed : Type 0
+NothingListed = (k : ℕ) → is_listed [] k ≡ true → ⊥
+
+-- without a number the others are listed
+abbrev pub ListedWithoutOne : Type 0
+ListedWithoutOne = (q k : ℕ) (ks : List ℕ) → is_listed (without q ks) k ≡ true → (is_listed ks k ≡ true) × (k ≡ q → ⊥)
+
+-- each other number stays listed
+abbrev pub OthersStayListed : Type 0
+OthersStayListed = (q k : ℕ) (ks : List ℕ) → is_listed ks k ≡ true → (k ≡ q → ⊥) → is_listed (without q ks) k ≡ true
+
+-- a number that is inserted is listed
+abbrev pub InsertedIsListed : Type 0
+InsertedIsListed = (q : ℕ) (ks : List ℕ) → is_listed (inserted q ks) q ≡ true
+
+-- what was listed is so after another is inserted
+abbrev pub ListedStaysInserted : Type 0
+ListedStaysInserted = (q j : ℕ) (ks : List ℕ) → is_listed ks j ≡ true → is_listed (inserted q ks) j ≡ true
+
+-- what is listed then is that number or was listed
+abbrev pub InsertedByCases : Type 0
+InsertedByCases = (q j : ℕ) (ks : List ℕ) → is_listed (inserted q ks) j ≡ true → (j ≡ q) ⊎ (is_listed ks j ≡ true)
+
+-- a line that is out has been taken
+abbrev pub OutHasStarted : Type 0
+OutHasStarted = (s : LineStage) → stage_out s ≡ true → stage_started s ≡ true
+
+-- a line that is over has been taken
+abbrev pub OverHasStarted : Type 0
+OverHasStarted = (s : LineStage) → stage_over s ≡ true → stage_started s ≡ true
+
+-- a line that has ended is over
+abbrev pub EndedIsOver : Type 0
+EndedIsOver = (s : LineStage) → stage_ended s ≡ true → stage_over s ≡ true
+
+-- a line that is out has not ended
+abbrev pub OutHasNotEnded : Type 0
+OutHasNotEnded = (s : LineStage) → stage_out s ≡ true → stage_ended s ≡ false
+
+-- a line that was issued has a stage
+abbrev pub IssuedLinesHaveStage : Type 0
+IssuedLinesHaveStage = (stages : List LineStage) (i : ℕ) → stage_issued (stage_at stages i) ≡ true → i < length stages
+
+-- a line that was taken is one of the graph
+abbrev pub StartedLinesAreBelowEnd : GraphValue → List LineStage → Type 0
+StartedLinesAreBelowEnd g stages = SoundLines g stages → (i : ℕ) → started stages i ≡ true → i < length g.lines
+
+-- a line that was taken ends in the evaluation
+abbrev pub StartedLinesEnd : GraphValue → List LineStage → Type 0
+StartedLinesEnd g stages = IsGraph g → Accepted g → SoundLines g stages → (i : ℕ) → started stages i ≡ true → has_ended (evaluation g) i ≡ true
+
+-- the end that is kept of a line that is over is that of the evaluation
+abbrev pub KeptEndIsEvaluated : GraphValue → List LineStage → Type 0
+KeptEndIsEvaluated g stages = SoundLines g stages → (i : ℕ) → over stages i ≡ true → end_so_far (stage_at stages i) ≡ eval_end g i
+
+-- a line that has ended has been taken
+abbrev pub EndedHasStarted : Type 0
+EndedHasStarted = (stages : List LineStage) (i : ℕ) → ended stages i ≡ true → started stages i ≡ true
+
+-- a line with a path to one that was taken has ended
+abbrev pub PathsFromEnded : GraphValue → List LineStage → Type 0
+PathsFromEnded g stages = SoundLines g stages → (i j : ℕ) → HasPath g i j → started stages j ≡ true → ended stages i ≡ true
+
+-- a line that ends is cancelled exactly where its sources cancel it
+abbrev pub CancelledBySources : Type 0
+CancelledBySources = (g : GraphValue) (i : ℕ) → has_ended (evaluation g) i ≡ true →
+    (is_cancelled g (evaluation g) i ≡ true → eval_end g i ≡ Cancelled) × (eval_end g i ≡ Cancelled → is_cancelled g (evaluation g) i ≡ true)
+
+-- a column that a line accesses is one of the graph
+abbrev pub AccessedColumnsAreDeclared : GraphValue → Type 0
+AccessedColumnsAreDeclared g = IsGraph g → (i c : ℕ) → AccessesColumn g i c → c < length (columns g)
+
+-- a line accesses each of its columns once
+abbrev pub ColumnsAccessedOnce : Type 0
+ColumnsAccessedOnce = (g : GraphValue) → IsGraph g → (i : ℕ) → Once (map (λ (a : Access). a.column) (accesses g i))
+
+-- what a list with one more number lists was listed, or is that number
+abbrev pub ListedAtEndByCases : Type 0
+ListedAtEndByCases = (xs : List ℕ) (x k : ℕ) → is_listed (xs ++ x ∷ []) k ≡ true → (is_listed xs k ≡ true) ⊎ (k ≡ x)
+
+-- what was listed is so with one more number
+abbrev pub ListedStaysWithMore : Type 0
+ListedStaysWithMore = (xs : List ℕ) (x k : ℕ) → is_listed xs k ≡ true → is_listed (xs ++ x ∷ []) k ≡ true
+
+-- numbers that stand once stand once with another
+abbrev pub OnceWithAnother : Type 0
+OnceWithAnother = (xs : List ℕ) (x : ℕ) → Once xs → is_listed xs x ≡ false → Once (xs ++ x ∷ [])
+
+-- the number at a place is listed
+abbrev pub PlacedIsListed : Type 0
+PlacedIsListed = (xs : List ℕ) (a i : ℕ) → slice_get xs a ≡ Some i → is_listed xs i ≡ true
+
+-- an arrival brings its value to its phase
+abbrev pub ValueOfArrival : Type 0
+ValueOfArrival = (g : GraphValue) (i p v w : ℕ) → verb_at g i ≡ Some (Arrive p v w) → value_for g p i ≡ Some v
+
+-- the reservation of an acquire is the one that it acquires
+abbrev pub ReservationOfAcquire : Type 0
+ReservationOfAcquire = (g : GraphValue) (q l : ℕ) → Acquires g q l → lock_of g q ≡ Some l
+
+-- a column that a line accesses is among its columns
+abbrev pub AccessedColumnsAreListed : Type 0
+AccessedColumnsAreListed = (g : GraphValue) (i c : ℕ) → AccessesColumn g i c → is_listed (column_list g i) c ≡ true

@@ -3,6 +3,7 @@
 ghost use Rattle.std.specs.Prelude.{IfOk};
 ghost use Rattle.run_words.specs.Words.{HasAll, IsAt};
 
+use closed_run::core_of;
 use graph_terms::outcome::Outcome;
 use race_check::checked::Checked;
 use run_words::{WordSeat, Words};
@@ -29,7 +30,7 @@ pub(crate) fn closed(words: Words, seat: WordSeat) -> Outcome
     requires at { IsAt words seat }
     requires all { HasAll seat }
 {
-    let mut core = words.close(seat);
+    let mut core = core_of(words, seat);
     core.finish();
     core.outcome()
 }

@@ -29,7 +29,7 @@ use Rattle.run_words.specs.Premises.{Has}
 use Rattle.run_words.specs.Rule.{Fits, AreNumbered, Shown, ground_of}
 use Rattle.run_words.specs.Views.{runs_at, issues_at, owes_at, has_desk}
 use Rattle.run_words.specs.Words.{graph_of, events_of, IsSeatOf}
-use Rattle.run_words.specs.Works.{IsWorkOf}
+use Rattle.run_words.specs.Works.{IsWorkOf, event_of}
 use Rattle.run_words.proofs.AtKey.{KeyShown, Kept}
 use Rattle.run_words.proofs.Desking.{has_key}
 use Rattle.run_words.proofs.Numbers.{split_numbers}
@@ -180,6 +180,7 @@ work_looked w k p x at i r is = record {
   view = looked_at x.view i r;
   claim = x.claim;
   ticket = x.ticket;
+  aside = x.aside;
   issuing = x.issuing;
   desk = x.desk;
   of = x.of;
@@ -200,7 +201,7 @@ looked_has v u i r line is mine = (mine.0, ap (λ (y : View). y.claim) is ∙ mi
 
 pub stays_work : (w : Words) (k : WordWork) (p q : table.Seat Content View) → IsWorkOf w k → IsSeatOf w q → (r : ℕ) × (i : ℕ) × (q.me ≡ (looked_at k.inner.me.0 i r, k.inner.me.1)) → p ≡ q → StaysWork w k (record k { inner = p })
 stays_work w k p q x at (r, i, is) same = subst (λ (s : table.Seat Content View). StaysWork w k (record k { inner = s })) (sym same)
-    (record { work = work_looked w k q x at i r is; line = refl; numbers = ap (λ (m : Sat). m.0.mine) is; splits = ap (λ (m : Sat). m.0.splits) is })
+    (record { work = work_looked w k q x at i r is; line = refl; handle = ap (λ (m : Sat). event_of m.0.claim) is; numbers = ap (λ (m : Sat). m.0.mine) is; splits = ap (λ (m : Sat). m.0.splits) is })
 
 -- TWO WORKS OF ONE LINE clash
 pub same_clash : (v w : View) (i j : ℕ) → i ≡ j → Has v (λ cl. cl.line ≡ i) → Has w (λ cl. cl.line ≡ j) → AreNeverTogether v w

@@ -1,5 +1,5 @@
 -- A line that is ending is closed, and its seat is joined.
-use Rattle.std.proofs.Common.{◌≡◌, ℕ, ◌+◌, ◌-◌, List, [], ◌∷◌, refl, sym, ◌∙◌, ap, subst, arith}
+use Rattle.std.proofs.Common.{◌≡◌, ℕ, ◌+◌, ◌-◌, List, [], ◌∷◌, ◌++◌, refl, sym, ◌∙◌, ap, subst, arith}
 use Rattle.std.specs.Prelude.{Contains, Some, None}
 use Rattle.std.proofs.lemmas.List.Elements.{Contains-append_right}
 use Rattle.basics.proofs.ListFacts.{contains_here}
@@ -20,7 +20,7 @@ use Rattle.run_words.specs.Rule.{end_code, fate_for}
 use Rattle.run_words.specs.Plays.{Sat, closed_at, closes, end_of_code}
 use Rattle.run_words.specs.Premises.{Has, IsOver, HasNoRights, OnTop}
 use Rattle.run_words.specs.Laden.{Laden, WorkDone, IsEnding, IsReleased}
-use Rattle.run_words.specs.Works.{event_of}
+use Rattle.run_words.specs.Works.{event_of, DidNothing}
 use Rattle.run_words.proofs.Looks.{code_end}
 
 -- the handle of the line whose work is done
@@ -61,22 +61,35 @@ module _ (g : GraphValue) (e : Events) (line : ℕ) (x : End) (v : View) (cl : C
     )
 
     module _ (o : Sat) (c : closes line (8 + end_code x) n o) where
-      pub closed_now : o ≡ (closed_at (record i.view { claim = None }) line x, [])
+      abbrev learnt : View
+      learnt = record v { issued = i.issued; ended = i.ended; saw = i.saw; claim = None }
+
+      pub closed_now : o ≡ (closed_at learnt line x, [])
       closed_now = c ∙ (ap (λ (y : Sat). (closed_at y.0 line (end_of_code (8 + end_code x - 8)), Rattle.atomic_table.specs.Table.rest y.1)) i.now
-          ∙ ap (λ (y : End). (closed_at (record i.view { claim = None }) line y, [])) (let k : 8 + end_code x - 8 ≡ end_code x = omega arith in ap end_of_code k ∙ code_end x))
+          ∙ ap (λ (y : End). (closed_at learnt line y, [])) (let k : 8 + end_code x - 8 ≡ end_code x = omega arith in ap end_of_code k ∙ code_end x))
 
       pub no_rights_left : v.issuing ≡ None → v.desk ≡ None → HasNoRights o.0
       no_rights_left p q = record {
         claim = ap (λ (y : Sat). y.0.claim) closed_now;
-        issuing = ap (λ (y : Sat). y.0.issuing) closed_now ∙ (i.issuing ∙ p);
-        desk = ap (λ (y : Sat). y.0.desk) closed_now ∙ (i.desk ∙ q);
+        issuing = ap (λ (y : Sat). y.0.issuing) closed_now ∙ p;
+        desk = ap (λ (y : Sat). y.0.desk) closed_now ∙ q;
       }
 
       pub knows : Contains o.0.ended (line, x)
-      knows = subst (λ (l : List (ℕ × End)). Contains l (line, x)) (sym (ap (λ (y : Sat). y.0.ended) closed_now)) (Contains-append_right i.view.ended ((line, x) ∷ []) (line, x) (contains_here {X = ℕ × End} (line, x) []))
+      knows = subst (λ (l : List (ℕ × End)). Contains l (line, x)) (sym (ap (λ (y : Sat). y.0.ended) closed_now)) (Contains-append_right i.ended ((line, x) ∷ []) (line, x) (contains_here {X = ℕ × End} (line, x) []))
 
       pub same_mine : o.0.mine ≡ v.mine
-      same_mine = ap (λ (y : Sat). y.0.mine) closed_now ∙ i.mine
+      same_mine = ap (λ (y : Sat). y.0.mine) closed_now
 
       pub same_splits : o.0.splits ≡ v.splits
-      same_splits = ap (λ (y : Sat). y.0.splits) closed_now ∙ i.splits
+      same_splits = ap (λ (y : Sat). y.0.splits) closed_now
+
+      -- its claim alone came to an end, and it had no turn of the desk
+      pub only_closed : DidNothing v → (o.0.trays ≡ []) × (o.0.laid ≡ []) × (o.0.gave_up ≡ []) × (o.0.closed ≡ line ∷ []) × (o.0.let_go ≡ [])
+      only_closed d = (
+        ap (λ (y : Sat). y.0.trays) closed_now ∙ d.0,
+        ap (λ (y : Sat). y.0.laid) closed_now ∙ d.1,
+        ap (λ (y : Sat). y.0.gave_up) closed_now ∙ d.2,
+        ap (λ (y : Sat). y.0.closed) closed_now ∙ ap (λ (l : List ℕ). l ++ line ∷ []) d.3,
+        ap (λ (y : Sat). y.0.let_go) closed_now ∙ d.4,
+      )

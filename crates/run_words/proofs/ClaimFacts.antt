@@ -9,7 +9,7 @@ use Rattle.graph_terms.specs.Graph.{GraphValue}
 use Rattle.graph_meaning.specs.Evaluation.{eval_end}
 use Rattle.shared_events.specs.declared.events.Events.{Events}
 use Rattle.basics.proofs.ListFacts.{contains_here, contains_there}
-use Rattle.line_effects.proofs.MoveFacts.{moves_few}
+use Rattle.line_effects.proofs.Public.{moves_few}
 use Rattle.run_state.specs.Sound.{AccessesColumn}
 use Rattle.run_state.specs.WholeLine.{column_list}
 use Rattle.run_words.specs.declared.content.Content.{Content}
@@ -80,7 +80,7 @@ is_loaded g e line v cl left m n held r key t look = (r, t.2.0, t.0, loaded_of g
 
 -- a line that gave all back is refused
 pub is_refused : (g : GraphValue) (line k c r : ℕ) (v : View) (cl : Claim) (left : List (ℕ × Content)) (m : Sat) (held : List (ℕ × ColumnValue)) (before : List (ℕ × ℕ)) → slice_get (column_list g line) k ≡ Some c → r ≢ 0 → r ≢ line + 1 → AreFree g line k before
-    → TakingAs g line 0 (saw_at (saw_all v before) (turn_word (size_of g) c) r) cl left m held → IsRefused g line v cl left (Rattle.run_core.specs.declared.answers.Thing.TheVariants.Column c) m
+    → TakingAs g line 0 (saw_at (saw_all v before) (turn_word (size_of g) c) r) cl left m held → IsRefused g line v cl left (Rattle.run_parts.specs.declared.answers.Thing.TheVariants.Column c) m
 is_refused g line k c r v cl left m held before at ne other free t = (
   before ++ (turn_word (size_of g) c, r) ∷ [],
   (k, at, before, free, (r, refl, ne, other)),

@@ -1,8 +1,8 @@
 -- The step that claims an issued line for its work.
-use Rattle.std.proofs.Common.{◌≡◌, ℕ, ◌<◌, Bool, true, false, inl, inr, List, ◌∷◌, length, set, get_or, refl, sym, ◌∙◌, ap, subst, arith, cond, get_or-set_same}
+use Rattle.std.proofs.Common.{◌≡◌, ℕ, ◌<◌, Bool, true, false, inl, inr, List, ◌∷◌, ◌++◌, length, set, get_or, refl, sym, ◌∙◌, ap, subst, arith, cond, get_or-set_same}
 use Rattle.std.specs.Prelude.{Contains, Option, Some, None, ◌↔◌, ◌==◌}
 use Rattle.std.proofs.lemmas.Bool.{true≢false, cases_eq, false_from_ne_true}
-use Rattle.std.proofs.lemmas.Option.{same_Some}
+use Rattle.std.proofs.lemmas.Option.{same_Some, get_or_from_slice_get}
 use mathlib.Core.Option.{none, some}
 use lib.ListN.{get_elem?}
 use prog.Atomic.{either}
@@ -12,17 +12,18 @@ use Rattle.graph_terms.specs.declared.outcome.End.{End}
 use Rattle.graph_terms.specs.Graph.{GraphValue, never_comes}
 use Rattle.graph_meaning.specs.Evaluation.{evaluation, has_ended}
 use Rattle.basics.specs.Sums.{total}
+use Rattle.shared_events.specs.Seats.{no_event}
 use Rattle.shared_events.specs.Views.{handle_of, IsPendingOf}
 use Rattle.event_table.specs.declared.handle.Handle.{Handle}
 use Rattle.shared_events.specs.declared.events.Events.{Events}
 use Rattle.basics.proofs.Sums.{total-set}
-use Rattle.basics.proofs.ListFacts.{contains_none}
+use Rattle.basics.proofs.ListFacts.{contains_none, got_in}
 use Rattle.run_state.specs.Run.{LineStage, Unissued, Issued, Out, Ended, Run, stage_at, time_at, stage_issued, stage_out, stage_started, stage_over, stage_ended, issued}
 use Rattle.run_state.specs.Sound.{Sound}
 use Rattle.run_state.specs.Moves.{claim}
 use Rattle.run_state.specs.Premises.{MayClaim}
 use Rattle.run_state.proofs.Stages.{claim-sound}
-use Rattle.run_state.proofs.Started.{started_ends}
+use Rattle.run_state.proofs.Public.{started_ends}
 use Rattle.run_words.specs.declared.content.Content.{Content}
 use Rattle.run_words.specs.declared.content.Content.TheVariants.{Ticket}
 use Rattle.run_words.specs.declared.view.View.{View}
@@ -170,6 +171,7 @@ module _ (g : GraphValue) (e : Events) (s : St) (o : Shown g e s) (id i : ℕ) (
     ticket = shows.2.ticket;
     now = refl;
     of = λ x c. subst (λ (y : Ground). IsPendingOf y.events shows.2.ticket) (sym ((o.each_view id v me).keys x c)) shows.2.of;
+    known = λ hs j c at. let b = (o.each_view id v me).named hs c in shows.2.named ∙ (ap (λ l. handle_at l i) b.1 ∙ get_or_from_slice_get (hs ++ b.0) i j no_event (got_in hs b.0 i j at));
     ends = λ x c. subst (λ (y : Ground). has_ended (evaluation y.graph) i ≡ true) (sym ((o.each_view id v me).keys x c)) (started_ends o.sound.graph o.sound.accepted sound.on_lines i (ap stage_started now_out));
   }
 

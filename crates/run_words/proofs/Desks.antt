@@ -16,7 +16,7 @@ use Rattle.shared_events.specs.Seats.{Begins}
 use Rattle.event_table.specs.declared.handle.Handle.{Handle}
 use Rattle.shared_events.specs.declared.events.Events.{Events}
 use Rattle.basics.proofs.Sums.{total-set}
-use Rattle.run_state.proofs.Lists.{stage_there}
+use Rattle.run_state.proofs.Public.{stage_there}
 use Rattle.basics.proofs.ListFacts.{below_contains, contains_none}
 use Rattle.run_words.specs.declared.content.Content.{Content}
 use Rattle.run_words.specs.declared.content.Desk.{Desk}

@@ -25,7 +25,7 @@ use Rattle.run_state.specs.Run.{LineStage, Unissued, Issued, Out, Ending, Ended,
 use Rattle.run_state.specs.Sound.{Sound}
 use Rattle.run_state.specs.Moves.{staged, unclaim, ending, close}
 use Rattle.run_state.proofs.Stages.{ending-sound, close-sound, unclaim-sound}
-use Rattle.run_state.proofs.Lists.{stage_there}
+use Rattle.run_state.proofs.Public.{stage_there}
 use Rattle.run_words.specs.declared.content.Content.TheVariants.{Ticket, Stub}
 use Rattle.run_words.specs.Layout.{size_of}
 use Rattle.run_words.specs.Views.{time_code, claim_at, runs_at, late, issues_at, late_at, owes_at, has_desk, busy, working}

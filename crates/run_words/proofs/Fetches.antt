@@ -22,7 +22,7 @@ use Rattle.run_state.specs.Moves.{arrive, draw}
 use Rattle.run_state.proofs.Phases.{arrive-sound}
 use Rattle.run_state.proofs.Times.{draw-sound}
 use Rattle.run_state.proofs.QuietTrace.{clock_small}
-use Rattle.run_state.proofs.Lists.{listed_here, listed_there, stage_there}
+use Rattle.run_state.proofs.Public.{listed_here, listed_there, stage_there}
 use Rattle.run_words.specs.Layout.{size_of, value_word, time_word, clock_word}
 use Rattle.run_words.specs.Views.{time_code, late, issues_at, late_at, owes_at, has_desk, working}
 use Rattle.run_words.specs.Rule.{Progress, WordsShow, Shown}

@@ -15,7 +15,7 @@ use Rattle.run_state.specs.Sound.{home_cells}
 use Rattle.run_state.specs.Work.{put_cells}
 use Rattle.run_state.specs.Moves.{column_unused, column_back}
 use Rattle.run_state.proofs.Columns.{column_unused-sound, column_back-sound, had_not_home, had_there}
-use Rattle.run_state.proofs.Lists.{listed_here}
+use Rattle.run_state.proofs.Public.{listed_here}
 use Rattle.run_words.specs.declared.content.Content.{Content}
 use Rattle.run_words.specs.declared.content.Content.TheVariants.{Cells}
 use Rattle.run_words.specs.declared.view.View.{View}

@@ -15,18 +15,16 @@ use Rattle.graph_terms.specs.Reservations.{Acquires, Releases}
 use Rattle.graph_meaning.specs.Evaluation.{eval_end}
 use Rattle.basics.specs.Sums.{total}
 use Rattle.basics.specs.Lists.{count_below}
-use Rattle.basics.proofs.ListFacts.{count_below-max}
+use Rattle.basics.proofs.ListFacts.{count_below-max, one_more_counted}
 use Rattle.shared_events.specs.declared.events.Events.{Events}
 use Rattle.run_words.specs.declared.content.Content.{Content}
 use Rattle.run_words.specs.declared.view.View.{View}
 use Rattle.run_words.specs.Claims.{Claim}
-use Rattle.graph_terms.proofs.VerbFacts.{acquire_one, passes_below}
-use Rattle.graph_terms.proofs.ReleaseFacts.{one_release}
+use Rattle.graph_terms.proofs.Public.{passes_below, acquire_one, one_release}
 use Rattle.run_state.specs.Run.{Ended, is_listed, stage_at, list_at, stage_out, stage_over, stage_ended, kept_end}
 use Rattle.run_state.specs.Moves.{inserted, hold, let_go, free, without}
 use Rattle.run_state.proofs.Locks.{hold-sound, let_go-sound, free-sound}
-use Rattle.run_state.proofs.Lists.{listed_here, listed_without, inserted_here, inserted_cases}
-use Rattle.run_state.proofs.Counts.{one_more_counted}
+use Rattle.run_state.proofs.Public.{listed_here, listed_without, inserted_here, inserted_cases}
 use Rattle.run_state.specs.Sound.{IsOpenTo}
 use Rattle.run_words.specs.Layout.{size_of, lock_word, half, alone_code}
 use Rattle.run_words.specs.Views.{issues_at, late_at, owes_at, has_desk, working}

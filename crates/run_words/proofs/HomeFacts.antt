@@ -4,7 +4,7 @@ use Rattle.std.specs.Prelude.{Option, Some, None, slice_get, slice_index_or, sli
 use Rattle.std.proofs.lemmas.Bool.{cases_eq}
 use Rattle.std.proofs.lemmas.List.{length-set, get_or-set_other}
 use Rattle.std.proofs.lemmas.List.FromFn.{get_or-map-range_with_len, length-map-range_with_len}
-use Rattle.run_core.proofs.MarkFacts.{set_get, set_get_other}
+use Rattle.run_words.proofs.SetFacts.{set_get, set_get_other}
 use Rattle.index_spaces.specs.Column.{ColumnValue}
 use Rattle.graph_terms.specs.Graph.{GraphValue, columns}
 use Rattle.graph_meaning.specs.Effect.{zero_cells}

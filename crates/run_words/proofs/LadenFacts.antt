@@ -10,7 +10,7 @@ use Rattle.basics.proofs.ListFacts.{contains_here, contains_there}
 use Rattle.run_state.specs.Run.{is_listed}
 use Rattle.run_state.specs.Work.{put_cells}
 use Rattle.run_state.specs.WholeLine.{column_list}
-use Rattle.run_state.proofs.Lists.{listed_here, listed_there}
+use Rattle.run_state.proofs.Public.{listed_here, listed_there}
 use Rattle.run_words.specs.declared.content.Content.{Content}
 use Rattle.run_words.specs.declared.content.Content.TheVariants.{Nothing, Cells}
 use Rattle.run_words.specs.declared.view.View.{View}

@@ -5,11 +5,10 @@ use Rattle.std.specs.Option.{option_map_or}
 use Rattle.std.proofs.lemmas.Bool.{cond-true, cond-false}
 use Rattle.std.proofs.lemmas.Option.{none-some, same_Some}
 use Rattle.basics.specs.Lists.{count_below}
-use Rattle.basics.proofs.ListFacts.{some_below, count_below-max}
+use Rattle.basics.proofs.ListFacts.{some_below, count_below-max, none_counted}
 use Rattle.graph_terms.specs.Graph.{GraphValue, line_passes, is_shared}
 use Rattle.run_state.specs.Run.{is_listed}
-use Rattle.run_state.proofs.Counts.{none_counted}
-use Rattle.run_state.proofs.Lists.{listed_here, listed_there, listed_cases, none_listed}
+use Rattle.run_state.proofs.Public.{listed_here, listed_there, listed_cases, none_listed}
 use Rattle.run_words.specs.Layout.{half, alone_code}
 use Rattle.run_words.specs.Rule.{alone_in, lock_code}
 

@@ -15,14 +15,13 @@ use Rattle.graph_meaning.specs.Evaluation.{eval_end, cells_of_lines}
 use Rattle.basics.specs.Sums.{total}
 use Rattle.event_table.specs.declared.handle.Handle.{Handle}
 use Rattle.shared_events.specs.declared.events.Events.{Events}
-use Rattle.event_table.proofs.Members.{Contains-one}
-use Rattle.basics.proofs.ListFacts.{contains_none}
+use Rattle.basics.proofs.ListFacts.{contains_none, contains_one as Contains-one}
 use Rattle.run_state.specs.Run.{LineStage, Unissued, Issued, Out, Ending, Ended, Run, is_listed, stage_at, stage_issued, stage_out, issued, stage_started, stage_ended, kept_end}
 use Rattle.run_state.specs.Sound.{Sound, AccessesColumn}
 use Rattle.run_state.specs.Work.{HoldsAll, put_cells}
 use Rattle.run_state.proofs.Work.{work_does, work_cells}
 use Rattle.graph_meaning.specs.Effect.{Cells}
-use Rattle.run_state.proofs.Started.{path_ended}
+use Rattle.run_state.proofs.Public.{path_ended}
 use Rattle.run_words.specs.declared.content.Content.{Content}
 use Rattle.run_words.specs.declared.view.View.{View}
 use Rattle.run_words.specs.Claims.{Claim, Ground}

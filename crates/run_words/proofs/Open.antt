@@ -13,11 +13,10 @@ use Rattle.graph_terms.specs.Graph.{GraphValue, columns, locks}
 use Rattle.graph_meaning.specs.Rules.{Accepted}
 use Rattle.graph_terms.specs.Fits.{IsGraph}
 use Rattle.shared_events.specs.declared.events.Events.{Events}
-use Rattle.event_table.proofs.Members.{Contains-one}
-use Rattle.basics.proofs.ListFacts.{contains_none}
+use Rattle.basics.proofs.ListFacts.{contains_none, same_at, contains_one as Contains-one}
 use Rattle.run_state.specs.Run.{LineStage, Unissued, Home, stage_at, stage_issued}
 use Rattle.run_state.specs.Start.{start, zeros, first_value}
-use Rattle.run_state.proofs.Start.{same_at, start_is_sound}
+use Rattle.run_state.proofs.Start.{start_is_sound}
 use Rattle.run_words.specs.declared.content.Content.{Content}
 use Rattle.run_words.specs.declared.content.Content.TheVariants.{Nothing, Cells, Tray}
 use Rattle.run_words.specs.declared.view.View.{View}

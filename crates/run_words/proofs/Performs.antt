@@ -14,7 +14,7 @@ use Rattle.graph_meaning.specs.Effect.{Cells, CellChange, effect, cells_after}
 use Rattle.graph_meaning.specs.Evaluation.{eval_end, end_by, made_by, column_of, cells_of_lines}
 use Rattle.basics.proofs.ListFacts.{map_contains, contains_none, contains_cases}
 use Rattle.line_effects.specs.Moved.{moves, HeldShow}
-use Rattle.line_effects.proofs.MadeFacts.{all_made}
+use Rattle.line_effects.proofs.Public.{all_made}
 use Rattle.run_state.specs.Run.{is_listed}
 use Rattle.run_state.specs.Sound.{home_cells}
 use Rattle.run_words.specs.declared.content.Content.{Content}

@@ -4,7 +4,7 @@ use Rattle.std.specs.Prelude.{Contains, Some, slice_get}
 use Rattle.std.proofs.lemmas.Bool.{eq-eqb}
 use Rattle.std.proofs.lemmas.List.Elements.{Contains-append_right}
 use Rattle.std.proofs.lemmas.Option.{same_Some}
-use Rattle.line_effects.proofs.EffectFacts.{verb_is}
+use Rattle.line_effects.proofs.Public.{verb_is}
 use Rattle.basics.proofs.ListFacts.{contains_here}
 use Rattle.shared_events.specs.declared.events.Events.{Events}
 use Rattle.graph_terms.specs.declared.outcome.End.{End}
@@ -17,8 +17,7 @@ use Rattle.graph_meaning.specs.Path.{HasPath}
 use Rattle.graph_terms.specs.Reservations.{Acquires, Releases}
 use Rattle.graph_meaning.specs.Rules.{Accepted}
 use Rattle.graph_meaning.specs.Evaluation.{eval_end}
-use Rattle.graph_terms.proofs.ReleaseFacts.{acquired_lock_known, release_names, one_release}
-use Rattle.graph_terms.proofs.VerbFacts.{acquire_is, release_is, verb_passes, verb_below, release_one}
+use Rattle.graph_terms.proofs.Public.{acquire_is, release_is, verb_passes, verb_below, release_one, acquired_lock_known, release_names, one_release}
 use Rattle.run_words.specs.declared.content.Content.{Content}
 use Rattle.run_words.specs.declared.view.View.{View}
 use Rattle.run_words.specs.Claims.{Claim}
@@ -66,13 +65,11 @@ not_done (suc (suc (suc k))) ne e = cc
 module _ (g : GraphValue) (e : Events) (line : ℕ) (x : End) (v : View) (cl : Claim) (left : List (ℕ × Content)) (m : Sat) (i : IsEnding line x v cl left m) where
   pub releases_none : ((q : ℕ) → Releases g line q → ⊥) → IsReleased g line x v cl left m
   releases_none none = record {
-    view = v;
+    issued = v.issued;
+    ended = v.ended;
+    saw = v.saw;
     claim = i.claim;
     now = i.now;
-    mine = refl;
-    splits = refl;
-    issuing = refl;
-    desk = refl;
     line_is = i.line_is;
     event = i.event;
     ends = i.ends;
@@ -89,13 +86,11 @@ module _ (g : GraphValue) (e : Events) (line : ℕ) (x : End) (v : View) (cl : C
 
     pub not_freed : r ≢ 8 → IsReleased g line x v cl left o
     not_freed ne = record {
-      view = looked_at v q r;
+      issued = (looked_at v q r).issued;
+      ended = (looked_at v q r).ended;
+      saw = (looked_at v q r).saw;
       claim = i.claim;
       now = now_looked;
-      mine = refl;
-      splits = refl;
-      issuing = refl;
-      desk = refl;
       line_is = i.line_is;
       event = i.event;
       ends = i.ends;
@@ -113,13 +108,11 @@ module _ (g : GraphValue) (e : Events) (line : ℕ) (x : End) (v : View) (cl : C
 
     pub has_released : (p : Sat) → p ≡ (on_claim has_freed o.0, o.1) → IsReleased g line x v cl left p
     has_released p fr = record {
-      view = looked_at v q r;
+      issued = (looked_at v q r).issued;
+      ended = (looked_at v q r).ended;
+      saw = (looked_at v q r).saw;
       claim = has_freed i.claim;
       now = fr ∙ ap (λ (y : Sat). (on_claim has_freed y.0, y.1)) now_looked;
-      mine = refl;
-      splits = refl;
-      issuing = refl;
-      desk = refl;
       line_is = i.line_is;
       event = i.event;
       ends = i.ends;

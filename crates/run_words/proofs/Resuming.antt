@@ -3,7 +3,6 @@ use Rattle.std.proofs.Common.{◌≡◌, ◌≢◌, ℕ, zero, suc, ◌+◌, ◌
 use Rattle.std.specs.Prelude.{Option, Some, None, not, Contains, slice_get, slice_index, slice_index_or}
 use mathlib.Core.Option.{some}
 use lib.ListN.{get_elem?}
-use Rattle.std.proofs.lemmas.List.{length-replicate}
 use Rattle.std.proofs.lemmas.Bool.{true≢false, cases_Bool}
 use Rattle.std.proofs.lemmas.Option.{same_Some, slice_get_within, get_or_from_slice_get}
 use Rattle.index_spaces.specs.Column.{ColumnValue}
@@ -13,7 +12,7 @@ use Rattle.graph_terms.specs.declared.verb.Verb.{Verb}
 use Rattle.graph_terms.specs.declared.verb.Verb.TheVariants.{Phase}
 use Rattle.graph_terms.specs.Graph.{GraphValue, columns, verb_at, is_phase}
 use Rattle.graph_meaning.specs.Evaluation.{is_ended}
-use Rattle.graph_terms.proofs.VerbFacts.{phase_is, verb_below}
+use Rattle.graph_terms.proofs.Public.{verb_below, phase_is}
 use Rattle.shared_events.specs.Seats.{Knows}
 use Rattle.shared_events.specs.Views.{handle_of, ended_by, fate_of}
 use Rattle.event_table.specs.declared.handle.Handle.{Handle}
@@ -24,15 +23,14 @@ use Rattle.shared_events.specs.declared.events.Events.{Events}
 use Rattle.shared_events.specs.declared.view.View as their
 use Rattle.event_table.specs.EventMap.{EventMap, SlotLife, unused, without_waiters, all_free, answer, answer_of, life_at, IsFree, no_event}
 use Rattle.run_state.specs.Run.{LineStage, Unissued, Issued, Out, Ending, Ended, Run, stage_at, end_so_far, stage_issued, stage_out, stage_started, stage_over, stage_ended, kept_end, issued, out, ended}
-use Rattle.run_state.proofs.Lists.{stage_there}
+use Rattle.run_state.proofs.Public.{stage_there}
 use Rattle.run_state.proofs.QuietTrace.{clock_small}
 use Rattle.run_state.proofs.Told.{kept_is_ended}
-use Rattle.run_core.specs.Core.{AreEvents, answer_for, unissued}
-use Rattle.run_core.specs.Steps.{stage_of}
-use Rattle.run_core.specs.Resumed.{LinesShow, HomesShow, PhasesShow, ShowState}
-use Rattle.run_core.specs.declared.states.LineState.{LineState}
-use Rattle.run_core.proofs.CreatedCounts.{created_count}
-use Rattle.run_core.proofs.PendingCounts.{pend, pending_count}
+use Rattle.run_parts.specs.LineEvents.{AreEvents, answer_for}
+use Rattle.run_parts.specs.Shown.{stage_of, LinesShow, HomesShow, PhasesShow, IsShown}
+use Rattle.run_parts.specs.declared.states.LineState.{LineState}
+use Rattle.run_words.proofs.CreatedCounts.{created_count}
+use Rattle.run_words.proofs.PendingCounts.{pend, pending_count}
 use Rattle.run_words.specs.declared.content.Content.{Content}
 use Rattle.run_words.specs.declared.content.Content.TheVariants.{Cells}
 use Rattle.run_words.specs.declared.view.View.{View}
@@ -198,9 +196,9 @@ module _ (g : GraphValue) (e : Events) (v : View) (run : Run) (handles : List Ha
           (value : (i : ℕ) → i < length g.lines → slice_get phases i ≡ Some (value_for (verb_at g i) (slice_index words (value_word (size_of g) i))))
           (homes : List (Option ColumnValue)) (each_home : length homes ≡ length (columns g))
           (home : (c : ℕ) (x : ColumnValue) → c < length (columns g) → get_elem? slots (column_slot (size_of g) c) ≡ some (Cells x) → slice_get homes c ≡ Some (Some x))
-          (n : ℕ) (wide : length m.slots ≡ n) (all : (k : ℕ) → k < m.waiters → IsFree m k)
+          (all : (k : ℕ) → k < m.waiters → IsFree m k)
         where
-          pub shows : ShowState (unissued g n) run handles states m homes phases
+          pub shows : IsShown g run handles states m homes phases
           shows = record {
             sound = l.sound;
             quiet = l.quiet;
@@ -208,7 +206,6 @@ module _ (g : GraphValue) (e : Events) (v : View) (run : Run) (handles : List Ha
             homes_show = homes_show homes each_home home;
             phases_show = phases_show phases each_phase value;
             events = events_are;
-            slots = wide ∙ sym (length-replicate n unused);
             free = all;
           }
 

@@ -184,7 +184,7 @@ module _ (g : GraphValue) (e : Events) (s : St) (o : Shown g e s) (id : ℕ) (v 
 
   -- THE WORK OF A LINE goes on: the seat that has it keeps it
   module _ (c c' : Claim) (has : v.claim ≡ Some c) (line : c'.line ≡ c.line) (event : c'.event ≡ c.event)
-      (is : w ≡ record { keys = v.keys; mine = v.mine; births = v.births; splits = v.splits; issued = v.issued; ended = v.ended; named = v.named; saw = w.saw; trays = w.trays; laid = w.laid; gave_up = w.gave_up; let_go = w.let_go; claim = Some c'; issuing = v.issuing; desk = v.desk }) where
+      (is : w ≡ record { keys = v.keys; mine = v.mine; births = v.births; splits = v.splits; issued = v.issued; ended = v.ended; named = v.named; saw = w.saw; trays = w.trays; laid = w.laid; gave_up = w.gave_up; closed = w.closed; let_go = w.let_go; claim = Some c'; issuing = v.issuing; desk = v.desk }) where
     goes_on : (after : Run) → Aside c.line o.run after → Progress g after c' → Goes o.run after o.handles o.handles
     goes_on after a p =
         let f = o.each_view id v me in
@@ -213,7 +213,7 @@ module _ (g : GraphValue) (e : Events) (s : St) (o : Shown g e s) (id : ℕ) (v 
         let f = o.each_view id v me in
         let go = goes_on after a p in
         let wc : w.claim ≡ Some c' = ap (λ (x : View). x.claim) is in
-        let fits : Fits g e after o.handles (record { keys = v.keys; mine = v.mine; births = v.births; splits = v.splits; issued = v.issued; ended = v.ended; named = v.named; saw = w.saw; trays = w.trays; laid = w.laid; gave_up = w.gave_up; let_go = w.let_go; claim = Some c'; issuing = v.issuing; desk = v.desk }) = record {
+        let fits : Fits g e after o.handles (record { keys = v.keys; mine = v.mine; births = v.births; splits = v.splits; issued = v.issued; ended = v.ended; named = v.named; saw = w.saw; trays = w.trays; laid = w.laid; gave_up = w.gave_up; closed = w.closed; let_go = w.let_go; claim = Some c'; issuing = v.issuing; desk = v.desk }) = record {
           keys = f.keys;
           issued = λ j h. go.issued j (f.issued j h);
           ended = λ j x h. go.ended j x (f.ended j x h);

@@ -1,10 +1,10 @@
 -- A claimed line takes all that its work needs, or has its claim alone.
 use Rattle.std.proofs.Common.{◌≡◌, ◌≢◌, ℕ, ◌<◌, ◌≤◌, ◌⊎◌, inl, inr, Bool, true, false, List, [], ◌∷◌, ◌++◌, length, refl, sym, ◌∙◌, ap, subst, ⊎_elim, append_assoc}
-use Rattle.std.specs.Prelude.{Contains, Some, None}
+use Rattle.std.specs.Prelude.{Contains, Some, None, slice_get}
 use Rattle.std.specs.List.{list_any}
 use Rattle.std.proofs.lemmas.Bool.{true≢false}
 use Rattle.std.proofs.lemmas.Option.{none-some}
-use Rattle.std.proofs.lemmas.List.Elements.{Contains-append_left}
+use Rattle.std.proofs.lemmas.List.Elements.{Contains-append_left, Contains-append_cases}
 use Rattle.index_spaces.specs.Column.{ColumnValue}
 use Rattle.graph_terms.specs.declared.outcome.End.{End}
 use Rattle.graph_terms.specs.declared.outcome.End.TheVariants.{Cancelled}
@@ -17,10 +17,11 @@ use Rattle.shared_events.specs.declared.events.Events.{Events}
 use Rattle.event_table.specs.declared.handle.Handle.{Handle}
 use Rattle.shared_events.specs.declared.tokens.Pending.{Pending}
 use Rattle.basics.proofs.ListFacts.{contains_here, contains_none}
-use Rattle.run_state.proofs.Started.{cancelled_iff}
-use Rattle.run_core.specs.declared.answers.Thing.{Thing}
-use Rattle.run_core.specs.declared.answers.Thing.TheVariants as things
+use Rattle.run_state.proofs.Public.{cancelled_iff}
+use Rattle.run_parts.specs.declared.answers.Thing.{Thing}
+use Rattle.run_parts.specs.declared.answers.Thing.TheVariants as things
 use Rattle.run_words.specs.declared.content.Content.{Content}
+use Rattle.run_words.specs.declared.content.Desk.{Desk}
 use Rattle.run_words.specs.declared.content.Content.TheVariants.{Ticket}
 use Rattle.run_words.specs.declared.view.View.{View}
 use Rattle.run_words.specs.declared.words.Words.{Words}
@@ -28,7 +29,7 @@ use Rattle.run_words.specs.Claims.{Claim, new_claim}
 use Rattle.run_words.specs.Layout.{size_of, lock_word, half, alone_code}
 use Rattle.std.proofs.lemmas.List.{append-nil}
 use Rattle.run_words.specs.declared.works.WordWork.{WordWork}
-use Rattle.run_words.specs.Works.{IsWorkOf}
+use Rattle.run_words.specs.Works.{IsWorkOf, DidNothing, event_of}
 use Rattle.run_words.specs.Words.{graph_of, events_of, IsSeatOf}
 use Rattle.run_words.specs.Rule.{ground_of, child}
 use Rattle.run_words.specs.Plays.{Sat, HasClaimed, missed, claimed_at, saw_at, saw_all, on_claim, holding, let_go_at, lets_go, gave_up_at, unclaims, child_of, parent_of, joined, looked_at, own_number}
@@ -203,13 +204,14 @@ own_of g line b v ticket m held h = ⊎_elim
     (λ (f : b ≡ false). let n = h.loaded f in (ap (λ (y : Sat). y.0.mine) n.now, ap (λ (y : Sat). y.0.splits) n.now))
     (by_bool b)
 
-pub work_of : (w : Words) (k : WordWork) (v : View) (ticket : Pending) → HasAllOf (graph_of w) k.line k.is_cancelled v ticket k.inner.me k.held → IsSeatOf w k.inner → k.line < length (graph_of w).lines → v.issuing ≡ None → v.desk ≡ None → IsPendingOf (events_of w) ticket → IsWorkOf w k
-work_of w k v ticket h at near issuing desk of = record {
+pub work_of : (w : Words) (k : WordWork) (v : View) (ticket : Pending) → HasAllOf (graph_of w) k.line k.is_cancelled v ticket k.inner.me k.held → IsSeatOf w k.inner → k.line < length (graph_of w).lines → DidNothing v → v.issuing ≡ None → v.desk ≡ None → IsPendingOf (events_of w) ticket → IsWorkOf w k
+work_of w k v ticket h at near aside issuing desk of = record {
   at = at;
   near = near;
   view = record v { issued = h.issued; ended = h.ended; saw = h.saw };
   claim = h.claim;
   ticket = ticket;
+  aside = aside;
   issuing = issuing;
   desk = desk;
   of = of;
@@ -224,6 +226,21 @@ work_of w k v ticket h at near issuing desk of = record {
   cancelled = h.bare;
   loaded = h.loaded;
 }
+
+-- the event of the claim
+event_in : (g : GraphValue) (line : ℕ) (b : Bool) (v : View) (ticket : Pending) (m : Sat) (held : List (ℕ × ColumnValue)) → HasAllOf g line b v ticket m held → event_of m.0.claim ≡ Some (handle_of ticket)
+event_in g line b v ticket m held h = ⊎_elim
+    (λ (t : b ≡ true). ap (λ (y : Sat). event_of y.0.claim) (h.bare t).1 ∙ ap Some (sym h.named))
+    (λ (f : b ≡ false). ap (λ (y : Sat). event_of y.0.claim) (h.loaded f).now ∙ ap Some (sym h.named))
+    (by_bool b)
+
+pub own_event : (g : GraphValue) (line : ℕ) (b : Bool) (v0 : View) (m n o : Sat) (held : List (ℕ × ColumnValue)) (k : HasClaimed line m n) → m.0.named ≡ v0.named → HasAllOf g line b m.0 k.ticket o held
+    → (hs : List Handle) (h : Handle) → Contains v0.named hs → slice_get hs line ≡ Some h → event_of o.0.claim ≡ Some h
+own_event g line b v0 m n o held k same a hs h known at = event_in g line b m.0 k.ticket o held a ∙ ap Some (k.known hs h (subst (λ l. Contains l hs) (sym same) known) at)
+
+-- a seat that was just split off
+pub young_aside : (v0 : View) (m : Sat) → m ≡ (child_of v0, []) → DidNothing m.0
+young_aside v0 m q = (ap (λ (y : Sat). y.0.trays) q, ap (λ (y : Sat). y.0.laid) q, ap (λ (y : Sat). y.0.gave_up) q, ap (λ (y : Sat). y.0.closed) q, ap (λ (y : Sat). y.0.let_go) q)
 
 pub out_of : (w : Words) (k : WordWork) (v0 v : View) (hand : Left) (m n : Sat) (ticket : Pending) → HasAllOf (graph_of w) k.line k.is_cancelled v ticket k.inner.me k.held → n ≡ (parent_of v0, hand) → v ≡ child_of v0
     → (j : ℕ) × (n.0.mine ≡ v0.mine) × (n.0.splits ≡ v0.splits ++ j ∷ []) × (k.inner.me.0.mine ≡ j ∷ []) × (k.inner.me.0.splits ≡ [])
@@ -256,8 +273,25 @@ module _ (v0 : View) (hand : Left) (a t : Sat) (w : View) (parent : a ≡ (paren
   pub joined_gave : t.0.gave_up ≡ v0.gave_up ++ w.gave_up
   joined_gave = ap (λ (y : Sat). y.0.gave_up) whole
 
-  pub joined_none : w.gave_up ≡ [] → t.0.gave_up ≡ v0.gave_up
-  joined_none none = joined_gave ∙ (ap (λ (l : List ℕ). v0.gave_up ++ l) none ∙ append-nil v0.gave_up)
+  pub joined_closed : w.closed ≡ [] → t.0.closed ≡ v0.closed
+  joined_closed none = ap (λ (y : Sat). y.0.closed) whole ∙ (ap (λ (l : List ℕ). v0.closed ++ l) none ∙ append-nil v0.closed)
+
+  pub joined_none : w.gave_up ≡ [] → w.closed ≡ [] → (t.0.gave_up ≡ v0.gave_up) × (t.0.closed ≡ v0.closed)
+  joined_none none closed = (joined_gave ∙ (ap (λ (l : List ℕ). v0.gave_up ++ l) none ∙ append-nil v0.gave_up), joined_closed closed)
+
+  pub joined_desk : w.trays ≡ [] → w.laid ≡ [] → (t.0.trays ≡ v0.trays) × (t.0.laid ≡ v0.laid)
+  joined_desk trays laid = (
+    ap (λ (y : Sat). y.0.trays) whole ∙ (ap (λ (l : List Desk). v0.trays ++ l) trays ∙ append-nil v0.trays),
+    ap (λ (y : Sat). y.0.laid) whole ∙ (ap (λ (l : List Desk). v0.laid ++ l) laid ∙ append-nil v0.laid),
+  )
+
+  -- what it was told of handles the first knew too
+  pub joined_handles : w.named ≡ v0.named → (hs : List Handle) → (Contains v0.named hs → Contains t.0.named hs) × (Contains t.0.named hs → Contains v0.named hs)
+  joined_handles same hs =
+      let all : t.0.named ≡ v0.named ++ v0.named = ap (λ (y : Sat). y.0.named) whole ∙ ap (λ (l : List (List Handle)). v0.named ++ l) same in (
+        λ c. subst (λ l. Contains l hs) (sym all) (Contains-append_left v0.named v0.named hs c),
+        λ c. ⊎_elim (λ a. a) (λ b. b) (Contains-append_cases v0.named v0.named hs (subst (λ l. Contains l hs) all c)),
+      )
 
   pub joined_let_go : (x : Thing) → LetGoFor x [] w.let_go → LetGoFor x v0.let_go t.0.let_go
   joined_let_go (things.Lock l) none = ap (λ (y : Sat). y.0.let_go) whole ∙ (ap (λ (l : List ℕ). v0.let_go ++ l) none ∙ append-nil v0.let_go)

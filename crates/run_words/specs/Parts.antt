@@ -1,5 +1,5 @@
--- What the core is resumed with once the words are closed.
-use Rattle.std.specs.Prelude.{◌≡◌, ℕ, true, false, List, [], length, Some}
+-- What a run leaves once its words are closed.
+use Rattle.std.specs.Prelude.{◌≡◌, ◌≤◌, ℕ, true, false, List, length, Some}
 use Rattle.graph_terms.specs.declared.outcome.End.{End}
 use Rattle.event_table.specs.EventMap.{answer, answer_of}
 use Rattle.shared_events.specs.Seats.{Begins, Knows}
@@ -7,20 +7,23 @@ use Rattle.shared_events.specs.Views.{lists, shape_of}
 use Rattle.event_table.specs.declared.handle.Fate.{Fate}
 use Rattle.event_table.specs.declared.handle.Handle.{Handle}
 use Rattle.run_state.specs.Run.{Run, Ended, stage_at, issued, out}
-use Rattle.run_core.specs.Resumed.{ShowState}
+use Rattle.run_parts.specs.Room.{HasRoom}
+use Rattle.run_parts.specs.Shown.{IsShown}
+use Rattle.run_parts.specs.declared.parts.RunParts.{RunParts}
 use Rattle.run_words.specs.Words.{graph_of, events_of, events_seat, KnowsIssued, KnowsEnded, KnowsHandles}
-use Rattle.run_words.specs.declared.closing.Parts.{Parts}
 use Rattle.run_words.specs.declared.seats.WordSeat.{WordSeat}
 use Rattle.run_words.specs.declared.words.Words.{Words}
 
--- the parts show a sound state in which no work is out, and what the seat knew holds of it
-pub record ShowsLeft (w : Words) (s : WordSeat) (p : Parts) : Type 0 where
+-- the parts show a sound state in which no work is out, and what the seat knew holds of it; they have the slots of the events, enough for the graph, and room for a core
+pub record ShowsLeft (w : Words) (s : WordSeat) (p : RunParts) : Type 0 where
   pub run : Run
   pub handled : List Handle
-  pub shown : ShowState p.core run handled p.states p.table p.homes p.phases
-  pub fresh : p.core.handles ≡ []
-  pub graph : p.core.graph ≡ graph_of w
+  pub shown : IsShown p.checked.now.graph run handled p.states p.table p.homes p.phases
+  pub room : HasRoom p.checked.now.graph p.room
+  pub graph : p.checked.now.graph ≡ graph_of w
   pub slots : length p.table.slots ≡ (shape_of (events_of w)).slots
+  pub enough : p.checked.now.need ≤ length p.table.slots
+  pub most : length p.table.slots ≤ 8192
   pub nothing_out : (i : ℕ) → out run.stages i ≡ false
   pub issued : (i : ℕ) → KnowsIssued s i → issued run.stages i ≡ true
   pub ended : (i : ℕ) (x : End) → KnowsEnded s i x → stage_at run.stages i ≡ Ended x

@@ -1,5 +1,5 @@
 -- What each step tells: of the step, the seat before, the number found and the seat after. How views are cut and joined.
-use Rattle.std.specs.Prelude.{◌≡◌, ◌≢◌, ℕ, zero, suc, ◌+◌, ◌-◌, ◌<◌, ◌≤◌, nat_lt, cond, Bool, true, false, List, [], ◌∷◌, ◌++◌, length, Contains, IsTrue, Option, Some, None, option_map}
+use Rattle.std.specs.Prelude.{◌≡◌, ◌≢◌, ℕ, zero, suc, ◌+◌, ◌-◌, ◌<◌, ◌≤◌, nat_lt, cond, Bool, true, false, List, [], ◌∷◌, ◌++◌, length, Contains, IsTrue, Option, Some, None, option_map, slice_get}
 use Rattle.atomic_table.specs.Table.{Me, rest}
 use Rattle.basics.specs.Lists.{numbers_below}
 use Rattle.graph_terms.specs.declared.outcome.End.{End}
@@ -95,6 +95,8 @@ pub record HasClaimed (i : ℕ) (m n : Sat) : Type 0 where
   pub ticket : Pending
   pub now : n ≡ (claimed_at m.0 i (handle_of ticket), (i, Ticket ticket) ∷ m.1)
   pub of : (x : Ground) → Contains m.0.keys x → IsPendingOf x.events ticket
+  -- its handle is that of the line, where the seat knows it
+  pub known : (hs : List Handle) (h : Handle) → Contains m.0.named hs → slice_get hs i ≡ Some h → handle_of ticket ≡ h
   -- it ends in the evaluation
   pub ends : (x : Ground) → Contains m.0.keys x → has_ended (evaluation x.graph) i ≡ true
 
@@ -219,9 +221,9 @@ ending_with x cl = record cl { ends = Some x }
 abbrev pub ends : ℕ → Sat → Sat → Type 0
 ends stored m n = n ≡ (on_claim (ending_with (end_of_code (stored - 4))) m.0, m.1)
 
--- the seat has no claim, and knows that line i has ended with x
+-- the seat has no claim, and knows that line i, which it closed, has ended with x
 abbrev pub closed_at : View → ℕ → End → View
-closed_at v i x = record v { claim = None; issued = v.issued ++ i ∷ []; ended = v.ended ++ (i, x) ∷ [] }
+closed_at v i x = record v { claim = None; issued = v.issued ++ i ∷ []; ended = v.ended ++ (i, x) ∷ []; closed = v.closed ++ i ∷ [] }
 
 -- the seat stored that line i has ended, and gave the line's slot back
 abbrev pub closes : ℕ → ℕ → Sat → Sat → Type 0
@@ -308,7 +310,7 @@ gives_up_issue m n = n ≡ (without_issue m.0, rest m.1)
 
 -- CUTTING AND JOINING. The view of a seat that was joined into another
 abbrev pub no_view : View
-no_view = record { keys = []; mine = []; births = 0; splits = []; issued = []; ended = []; named = []; saw = []; trays = []; laid = []; gave_up = []; let_go = []; claim = None; issuing = None; desk = None }
+no_view = record { keys = []; mine = []; births = 0; splits = []; issued = []; ended = []; named = []; saw = []; trays = []; laid = []; gave_up = []; closed = []; let_go = []; claim = None; issuing = None; desk = None }
 
 -- the number of a seat itself
 abbrev pub own_number : List ℕ → ℕ
@@ -335,6 +337,7 @@ joined v w = record v {
   trays = v.trays ++ w.trays;
   laid = v.laid ++ w.laid;
   gave_up = v.gave_up ++ w.gave_up;
+  closed = v.closed ++ w.closed;
   let_go = v.let_go ++ w.let_go;
 }
 

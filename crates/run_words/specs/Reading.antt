@@ -5,9 +5,9 @@ use Rattle.graph_terms.specs.declared.outcome.End.{End}
 use Rattle.graph_terms.specs.declared.outcome.End.TheVariants.{Done, Faulted, Cancelled, Waiting}
 use Rattle.graph_terms.specs.declared.verb.Verb.{Verb}
 use Rattle.graph_terms.specs.Graph.{is_phase}
-use Rattle.run_core.specs.declared.answers.Stage.{Stage}
-use Rattle.run_core.specs.declared.answers.Stage.TheVariants as stages
-use Rattle.run_core.specs.declared.states.LineState.{LineState}
+use Rattle.run_parts.specs.declared.answers.Stage.{Stage}
+use Rattle.run_parts.specs.declared.answers.Stage.TheVariants as stages
+use Rattle.run_parts.specs.declared.states.LineState.{LineState}
 use Rattle.run_words.specs.Layout.{Size, status_word, time_word}
 use Rattle.run_words.specs.Rule.{handle_at}
 

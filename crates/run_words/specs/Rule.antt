@@ -211,4 +211,4 @@ pub record Shown (g : GraphValue) (e : Events) (s : State Content View) : Type 0
 
 -- the view of the first seat
 abbrev pub opener : GraphValue → Events → View
-opener g e = record { keys = ground_of g e ∷ []; mine = 0 ∷ []; births = 0; splits = []; issued = []; ended = []; named = []; saw = []; trays = []; laid = []; gave_up = []; let_go = []; claim = None; issuing = None; desk = None }
+opener g e = record { keys = ground_of g e ∷ []; mine = 0 ∷ []; births = 0; splits = []; issued = []; ended = []; named = []; saw = []; trays = []; laid = []; gave_up = []; closed = []; let_go = []; claim = None; issuing = None; desk = None }

@@ -1,5 +1,5 @@
 -- Seats at their words.
-use Rattle.std.specs.Prelude.{◌≡◌, ◌≢◌, ℕ, List, [], ◌∷◌, ◌++◌, Contains}
+use Rattle.std.specs.Prelude.{◌≡◌, ◌≢◌, ℕ, Bool, List, [], ◌∷◌, ◌++◌, Contains}
 use Rattle.atomic_table.specs.declared.shared.Seat as table
 use Rattle.graph_terms.specs.Graph.{GraphValue}
 use Rattle.shared_events.specs.declared.events.Events.{Events}
@@ -53,9 +53,21 @@ saw_of s = s.inner.me.0.saw
 abbrev pub gave_up_of : WordSeat → List ℕ
 gave_up_of s = s.inner.me.0.gave_up
 
+-- those that it closed
+abbrev pub closed_of : WordSeat → List ℕ
+closed_of s = s.inner.me.0.closed
+
 -- the lines of which it let the reservation go, where they had done nothing
 abbrev pub let_go_of : WordSeat → List ℕ
 let_go_of s = s.inner.me.0.let_go
+
+-- the lists with which it knows the handles of the lines to begin
+abbrev pub named_of : WordSeat → List (List Handle)
+named_of s = s.inner.me.0.named
+
+-- whether its last try that was answered NotYet placed the line's waiter
+abbrev pub has_placed_of : WordSeat → Bool
+has_placed_of s = s.has_placed
 
 -- its seat at the events
 abbrev pub events_seat : WordSeat → Seat

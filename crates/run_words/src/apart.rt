@@ -3,44 +3,17 @@
 ghost use Rattle.std.specs.Prelude.{ℕ, ◌≡◌, ◌≢◌, ◌<◌, length};
 ghost use Rattle.graph_meaning.specs.Path.{HasPath};
 ghost use Rattle.run_state.specs.Apart.{ConflictOnlyExempt};
-ghost use Rattle.run_words.specs.Apart.{StaysWork, AreNeverTogether, with_claim, without_claim, impossible_view};
-ghost use Rattle.run_words.specs.Plays.{no_view, looked_at};
+ghost use Rattle.run_words.specs.Apart.{StaysWork, AreNeverTogether};
+ghost use Rattle.run_words.specs.Plays.{looked_at};
 ghost use Rattle.run_words.specs.Premises.{Has};
 ghost use Rattle.run_words.specs.Words.{graph_of, IsSeatOf};
 ghost use Rattle.run_words.specs.Works.{IsWorkOf, work_line};
 
-use crate::content::Content;
 use crate::moves::Place;
-use crate::view::View;
+use crate::plays::{GiveClaim, ImpossibleJoin, NoStep};
 use crate::words::Words;
 use crate::works::WordWork;
-use atomic_table::{Join, Play, Split};
 use run_state::laws::unordered_conflict_only_exempt;
-
-/// The claim of a seat goes to one that is split off.
-pub struct GiveClaim;
-
-impl Split<View> for GiveClaim {
-    ghost left = { without_claim };
-
-    ghost right = { with_claim };
-}
-
-/// Two seats that are never there together are joined, which never happens.
-pub struct ImpossibleJoin;
-
-impl Join<View> for ImpossibleJoin {
-    ghost both = { λ _ _. impossible_view };
-
-    ghost spent = { no_view };
-}
-
-/// A step that no seat makes.
-pub struct NoStep;
-
-impl Play<Content, View> for NoStep {
-    ghost then = { λ _ _ _ _. ⊥ };
-}
 
 impl<'g> Words<'g> {
     /// Such seats are never there together, so this is never called when the program runs. A seat is

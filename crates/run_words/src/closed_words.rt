@@ -1,6 +1,7 @@
 //! What the words of a run show once no other seat can step.
 
-ghost use Rattle.std.specs.Prelude.{◌≡◌, ℕ, ◌+◌, ◌<◌, length, Some, slice_get, slice_index, Option, None};
+ghost use Rattle.std.specs.Prelude.{◌≡◌, ℕ, ◌+◌, ◌<◌, ◌≤◌, length, Some, slice_get, slice_index, Option, None};
+ghost use Rattle.std.specs.Vec.{vec_capacity};
 ghost use Rattle.std.specs.Slots.{slots_items, slots_len, IsFull};
 ghost use Rattle.graph_terms.specs.Graph.{verb_at};
 ghost use Rattle.run_words.specs.Layout.{size_of, value_word, word_count};
@@ -14,7 +15,8 @@ use graph_model::graph::Graph;
 use graph_terms::lists::ValueList;
 use graph_terms::outcome::End;
 use graph_terms::verb::Verb;
-use run_core::{LineState, Stage, StateList};
+use index_spaces::room::push_within;
+use run_parts::{LineState, Stage, StateList};
 use std::alloc::Global;
 
 /// What a word holds.
@@ -66,36 +68,50 @@ fn handle_at(handles: &[Handle], line: u32) -> Handle
     }
 }
 
+/// The state of a line.
+fn state_for(
+    graph: &Graph,
+    closed: &Closed<Content, Global>,
+    handles: &[Handle],
+    line: u32,
+) -> LineState
+    requires full { IsFull closed.now.words }
+    requires wide { slots_len closed.now.words ≡ word_count (size_of graph.now) }
+    requires near { line < length graph.now.lines }
+    ensures { result ≡ state_for (slots_items closed.now.words) (size_of graph.now) handles.now line }
+{
+    let status = word_at(closed, line as usize);
+    let time = word_at(closed, graph.lines() as usize + line as usize);
+    LineState {
+        stage: stage_for(status),
+        end: end_for(status),
+        handle: handle_at(handles, line),
+        time: time_for(time),
+    }
+}
+
 /// The states of the lines.
 pub(crate) fn states_of(
     graph: &Graph,
     closed: &Closed<Content, Global>,
     handles: &[Handle],
-    mut states: StateList,
+    mut states: Vec<LineState>,
 ) -> StateList
     requires full { IsFull closed.now.words }
     requires wide { slots_len closed.now.words ≡ word_count (size_of graph.now) }
-    requires each { length states ≡ length graph.now.lines }
+    requires room { length graph.now.lines ≤ vec_capacity states }
     ensures each { length result ≡ length graph.now.lines }
     ensures states { (i : ℕ) → i < length graph.now.lines → slice_get result i
         ≡ Some (state_for (slots_items closed.now.words) (size_of graph.now) handles.now i) }
 {
-    let lines = graph.lines();
-    for line in 0..lines {
-        let status = word_at(closed, line as usize);
-        let time = word_at(closed, lines as usize + line as usize);
-        let state = LineState {
-            stage: stage_for(status),
-            end: end_for(status),
-            handle: handle_at(handles, line),
-            time: time_for(time),
-        };
-        states.set(line, state);
+    states.clear();
+    for line in 0..graph.lines() {
+        push_within(&mut states, state_for(graph, closed, handles, line));
     }
-    states
+    StateList { items: states }
 }
 
-/// The value of a phase, and none for another line.
+/// The value in a word, where it is that of a phase, and none for another line.
 fn value_for(graph: &Graph, line: u32, value: u64) -> Option<u64>
     requires { line < length graph.now.lines }
     ensures { result ≡ value_for (verb_at graph.now line) value }
@@ -106,23 +122,34 @@ fn value_for(graph: &Graph, line: u32, value: u64) -> Option<u64>
     }
 }
 
+/// The value of a phase, and none for another line.
+fn value_of(graph: &Graph, closed: &Closed<Content, Global>, line: u32) -> Option<u64>
+    requires full { IsFull closed.now.words }
+    requires wide { slots_len closed.now.words ≡ word_count (size_of graph.now) }
+    requires near { line < length graph.now.lines }
+    ensures { result ≡ value_for (verb_at graph.now line)
+        (slice_index (slots_items closed.now.words) (value_word (size_of graph.now) line)) }
+{
+    let value = word_at(closed, 2 * graph.lines() as usize + line as usize);
+    value_for(graph, line, value)
+}
+
 /// The values of the phases.
 pub(crate) fn values_of(
     graph: &Graph,
     closed: &Closed<Content, Global>,
-    mut values: ValueList,
+    mut values: Vec<Option<u64>>,
 ) -> ValueList
     requires full { IsFull closed.now.words }
     requires wide { slots_len closed.now.words ≡ word_count (size_of graph.now) }
-    requires each { length values ≡ length graph.now.lines }
+    requires room { length graph.now.lines ≤ vec_capacity values }
     ensures each { length result ≡ length graph.now.lines }
     ensures values { (i : ℕ) → i < length graph.now.lines → slice_get result i
         ≡ Some (value_for (verb_at graph.now i) (slice_index (slots_items closed.now.words) (value_word (size_of graph.now) i))) }
 {
-    let lines = graph.lines();
-    for line in 0..lines {
-        let value = word_at(closed, 2 * lines as usize + line as usize);
-        values.set(line, value_for(graph, line, value));
+    values.clear();
+    for line in 0..graph.lines() {
+        push_within(&mut values, value_of(graph, closed, line));
     }
-    values
+    ValueList { items: values }
 }

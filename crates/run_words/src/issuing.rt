@@ -4,7 +4,7 @@ ghost use Rattle.std.specs.Prelude.{ℕ, List, ◌≡◌, ◌≢◌, ◌+◌, �
 ghost use Rattle.std.specs.Vec.{vec_capacity};
 ghost use Rattle.graph_terms.specs.declared.outcome.End.{End as TheEnd};
 ghost use Rattle.event_table.specs.declared.handle.Handle.{Handle as TheHandle};
-ghost use Rattle.shared_events.specs.Seats.{Keeps};
+ghost use Rattle.shared_events.specs.Seats.{Grows, Keeps, SamePlacings};
 ghost use Rattle.shared_events.specs.Views.{shape_of, lists};
 ghost use Rattle.run_words.specs.declared.content.Content.{Content as TheContent};
 ghost use Rattle.run_words.specs.declared.content.Content.TheVariants.{Nothing, Tray};
@@ -23,7 +23,7 @@ use crate::seats::WordSeat;
 use crate::words::Words;
 use event_table::Handle;
 use graph_model::graph::Graph;
-use run_core::Issue;
+use run_parts::Issue;
 use shared_events::Seat;
 
 /// Puts a handle at the end of a list that has room for it.
@@ -80,6 +80,8 @@ impl<'g> Words<'g> {
         ensures waiters { desk.new.waiters.items ≡ desk.old.waiters.items }
         ensures events { IsEventSeat self.now events.new }
         ensures kept { Keeps (lists events.old) (lists events.new) }
+        ensures grows { Grows (lists events.old) (lists events.new) }
+        ensures same_placings { SamePlacings (lists events.old) (lists events.new) }
         ensures issued { result ≡ true → (h : TheHandle) × (desk.new.handles.items ≡ desk.old.handles.items ++ h ∷ [])
             × (seat.new.me ≡ (issued_at seat.old.me.0 line (h ∷ []), seat.old.me.1)) }
         ensures full { result ≡ false → (desk.new.handles.items ≡ desk.old.handles.items)
@@ -157,6 +159,8 @@ impl<'g> Words<'g> {
             × (desk.new.handles.items ≡ desk.old.handles.items) }
         ensures events { IsEventSeat self.now events.new }
         ensures kept { Keeps (lists events.old) (lists events.new) }
+        ensures grows { Grows (lists events.old) (lists events.new) }
+        ensures same_placings { SamePlacings (lists events.old) (lists events.new) }
         ensures full { result ≡ Issue.NoSlot
             → AllPending (shape_of (events_of self.now)) desk.new.handles.items (lists events.old) (lists events.new) }
         ensures grown { (i : ℕ) → result ≡ Issue.Issued i → (length desk.old.handles.items ≡ i)
@@ -189,6 +193,8 @@ impl<'g> Words<'g> {
         ensures issued { (i : ℕ) → result ≡ Issue.Issued i → KnowsIssued seat.new i × (i < length (graph_of self.now).lines) }
         ensures all { result ≡ Issue.All → (i : ℕ) → i < length (graph_of self.now).lines → KnowsIssued seat.new i }
         ensures kept_events { Keeps (lists (events_seat seat.old)) (lists (events_seat seat.new)) }
+        ensures grows { Grows (lists (events_seat seat.old)) (lists (events_seat seat.new)) }
+        ensures same_placings { SamePlacings (lists (events_seat seat.old)) (lists (events_seat seat.new)) }
         ensures full { result ≡ Issue.NoSlot → (handles : List TheHandle) × KnowsHandles seat.new handles
             × AllPending (shape_of (events_of self.now)) handles (lists (events_seat seat.old)) (lists (events_seat seat.new)) }
         ensures waiters { result ≢ Issue.Other → KeepsWaiters seat.old seat.new }

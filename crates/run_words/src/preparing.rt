@@ -271,7 +271,7 @@ impl<'g> Words<'g> {
         let graph = checked.graph();
         let _ = checked.need();
         let words = first_words(alloc, graph)?;
-        let mut spare = Spare::prepare(alloc, checked, slots)?;
+        let mut spare = Spare::prepare(alloc, graph, slots)?;
         let (events, desk, seat) = new_desk(alloc, slots, graph.lines())?;
         let contents = first_slots(alloc, graph, &mut spare.homes, desk)?;
         let base = Base { checked, events };

@@ -9,8 +9,7 @@ use Rattle.graph_terms.specs.Fits.{IsGraph}
 use Rattle.graph_meaning.specs.Path.{HasPath, last, first}
 use Rattle.graph_terms.specs.Reservations.{Releases}
 use Rattle.graph_meaning.specs.Rules.{Section}
-use Rattle.graph_terms.proofs.VerbFacts.{release_one}
-use Rattle.graph_terms.proofs.ReleaseFacts.{one_release}
+use Rattle.graph_terms.proofs.Public.{release_one, one_release}
 use Rattle.race_sweeps.specs.Marks.{bit_in}
 use Rattle.race_sweeps.specs.declared.held.Held.{Held}
 use Rattle.section_sweeps.specs.declared.group.Group.{Group}

@@ -6,12 +6,13 @@ use Rattle.std.specs.List.{slice_index_or}
 use Rattle.std.specs.Option.{option_map_or}
 use Rattle.graph_terms.specs.Graph.{GraphValue, is_acquire_of}
 use Rattle.graph_terms.specs.Reservations.{Acquires}
-use Rattle.graph_terms.proofs.VerbFacts.{passes_below}
-use Rattle.graph_terms.proofs.ReleaseFacts.{release_names}
+use Rattle.graph_terms.proofs.Public.{passes_below, release_names}
 use Rattle.race_sweeps.specs.declared.held.Held.{Held}
 use Rattle.race_sweeps.specs.Held.{acquire_in}
 use Rattle.section_sweeps.specs.declared.table.Table.{Table}
+use Rattle.section_sweeps.specs.Found.{AreDoubted, AreFound}
 use Rattle.section_sweeps.specs.Table.{IsTable}
+use Rattle.section_sweeps.specs.declared.found.Found.{Found}
 use Rattle.section_sweeps.specs.Sections.{AreSections, AreHeldSoFar, IsGrown, IsSectionKept}
 
 -- a section that was kept is kept still
@@ -43,6 +44,13 @@ are_sections g t is h so end all kept =
         };
       };
     }
+
+-- the rules hold of each acquire that is not doubted
+pub are_doubted : (g : GraphValue) (t : Table) → IsTable g t → (f : Found) → AreFound g t.places.items f (length g.lines) → AreDoubted g f.doubted.items
+are_doubted g t is f found q l a sure =
+    let low = (is.placed.place q (passes_below (is_acquire_of l) g q a)).0 in
+    let k = found.kept q l a low sure in
+    record { released = k.released; sections = λ r j rel q' rel' path. k.sections r j rel q' rel' path; descends = k.descends }
 
 -- what holds of an item that is there
 pub some_is : {X : Type 0} (P : X → Type 0) (o : Option X) (x : X) → o ≡ Some x → IfSome o P → P x

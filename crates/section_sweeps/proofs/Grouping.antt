@@ -11,8 +11,7 @@ use Rattle.graph_terms.specs.Graph.{GraphValue, is_acquire_of, is_release_of}
 use Rattle.graph_terms.specs.Fits.{IsGraph}
 use Rattle.graph_terms.specs.Reservations.{Acquires, Releases}
 use Rattle.graph_meaning.specs.Path.{HasPath}
-use Rattle.graph_terms.proofs.ReleaseFacts.{one_release}
-use Rattle.graph_terms.proofs.VerbFacts.{passes_below}
+use Rattle.graph_terms.proofs.Public.{passes_below, one_release}
 use Rattle.section_sweeps.specs.Releases.{AreReleases}
 use Rattle.section_sweeps.specs.Table.{ArePlaced}
 use Rattle.section_sweeps.specs.Passing.{HasBit, HaveNone, IsSized, AreFromBefore}

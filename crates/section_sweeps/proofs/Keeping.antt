@@ -10,7 +10,7 @@ use Rattle.std.proofs.lemmas.List.{length-set, get_or-set_same, get_or-set_other
 use Rattle.graph_terms.specs.Graph.{GraphValue, locks}
 use Rattle.graph_terms.specs.Reservations.{Acquires}
 use Rattle.graph_meaning.specs.Rules.{Section}
-use Rattle.graph_terms.proofs.VerbFacts.{acquire_one}
+use Rattle.graph_terms.proofs.Public.{acquire_one}
 use Rattle.race_sweeps.specs.declared.held.Held.{Held}
 use Rattle.race_sweeps.specs.Held.{acquire_in}
 use Rattle.race_sweeps.proofs.Lists.{set_same, set_other, pushed_cases}

@@ -9,7 +9,7 @@ use Rattle.graph_terms.specs.declared.verb.Edge.{Edge}
 use Rattle.graph_terms.specs.Graph.{GraphValue}
 use Rattle.graph_terms.specs.Edges.{edges}
 use Rattle.graph_meaning.specs.Path.{HasPath, last, first}
-use Rattle.graph_meaning.proofs.PathLaws.{path_snoc}
+use Rattle.graph_meaning.proofs.Public.{path_snoc}
 use Rattle.race_sweeps.specs.Marks.{bit_in}
 use Rattle.race_sweeps.proofs.Bits.{bit_in-or, or_old, or_new, shifted_same, shifted_is}
 use Rattle.race_sweeps.proofs.Walking.{none_left}

@@ -8,8 +8,7 @@ use Rattle.graph_terms.specs.declared.verb.Verb.TheVariants.{Release}
 use Rattle.graph_terms.specs.Graph.{GraphValue, is_release_of}
 use Rattle.graph_terms.specs.Fits.{IsGraph}
 use Rattle.graph_terms.specs.Reservations.{Releases}
-use Rattle.graph_terms.proofs.VerbFacts.{passes_below, release_is}
-use Rattle.graph_terms.proofs.ReleaseFacts.{one_release}
+use Rattle.graph_terms.proofs.Public.{release_is, passes_below, one_release}
 use Rattle.section_sweeps.specs.Releases.{IsReleaseTable, AreReleases, release_in}
 
 -- the table of releases after the first i lines

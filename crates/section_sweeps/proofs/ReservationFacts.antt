@@ -6,8 +6,7 @@ use Rattle.graph_terms.specs.declared.verb.Verb.TheVariants.{Acquire, Release}
 use Rattle.graph_terms.specs.Graph.{GraphValue, verb_at, locks, is_acquire_of}
 use Rattle.graph_terms.specs.Fits.{IsGraph}
 use Rattle.graph_terms.specs.Reservations.{Acquires, Releases}
-use Rattle.graph_terms.proofs.VerbFacts.{is_acquire_from, is_release_from, passes_below}
-use Rattle.graph_terms.proofs.ReleaseFacts.{lock_known, release_names}
+use Rattle.graph_terms.proofs.Public.{is_acquire_from, is_release_from, passes_below, lock_known, release_names}
 
 -- the verb of a line that was read
 pub verb_of : (g : GraphValue) (i : ℕ) (l : Line) → slice_get g.lines i ≡ Some l → verb_at g i ≡ Some l.verb

@@ -4,3 +4,4 @@ pub mod Passing
 pub mod Group
 pub mod Sections
 pub mod Blocks
+pub mod Found

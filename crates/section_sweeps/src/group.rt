@@ -51,39 +51,44 @@ impl Group {
         })
     }
 
-    /// Tries the rules at the next acquires from a place on, keeps those in whose sections lines
-    /// lie, and gives the place behind them. `None` says nothing.
-    pub(crate) fn pass(
+    /// Whether the rules hold at the acquires of the group, which stand from a place on; keeps
+    /// those in whose sections lines lie.
+    pub(crate) fn passes(
         &mut self,
         graph: &Graph,
         table: &Table,
         held: &mut Held,
         start: u32,
-    ) -> Result<Option<u32>, NoMemory>
+    ) -> bool
         requires table { IsTable graph.now table.now }
         requires start { start < length graph.now.lines }
         requires cleared { IsCleared (length graph.now.lines) self.old }
+        requires few { length self.old.acquires.items ≤ 64 }
+        requires known { AreKnownFrom graph.now table.now.places.items self.old.acquires.items start }
         requires held { AreHeldSoFar graph.now held.old }
-        ensures further { IfOk result (λ o. IfSome o (λ end. (start < end) × (end ≤ length graph.now.lines))) }
-        ensures cleared { IfOk result (λ o. IfSome o (λ end. IsCleared (length graph.now.lines) self.new)) }
-        ensures held { IfOk result (λ o. IfSome o (λ end. AreHeldSoFar graph.now held.new)) }
-        ensures grown { IfOk result (λ o. IfSome o (λ end. IsGrown held.old held.new)) }
-        ensures kept { IfOk result (λ o. IfSome o (λ end. (q l : ℕ) → Acquires graph.now q l → start ≤ slice_index table.now.places.items q → slice_index table.now.places.items q < end
-            → IsSectionKept graph.now held.new q)) }
+        ensures held { AreHeldSoFar graph.now held.new }
+        ensures grown { IsGrown held.old held.new }
+        ensures acquires { self.new.acquires ≡ self.old.acquires }
+        ensures cleared { IsTrue result → IsCleared (length graph.now.lines) self.new }
+        ensures kept { IsTrue result → (b : ℕ) → b < length self.old.acquires.items → IsSectionKept graph.now held.new (slice_index self.old.acquires.items b) }
     {
-        let end = self.gather(graph, table, start)?;
         let Some(range) = self.sweep(graph, table, start) else {
-            return Ok(None);
+            return false;
         };
         if !self.keeps_rules(graph, table, held, range) {
-            return Ok(None);
+            return false;
         }
         self.clear(graph, table, range);
-        Ok(Some(end))
+        true
     }
 
     /// Takes the next acquires from a place on, and gives the place behind them.
-    fn gather(&mut self, graph: &Graph, table: &Table, start: u32) -> Result<u32, NoMemory>
+    pub(crate) fn gather(
+        &mut self,
+        graph: &Graph,
+        table: &Table,
+        start: u32,
+    ) -> Result<u32, NoMemory>
         requires table { IsTable graph.now table.now }
         requires start { start < length graph.now.lines }
         requires cleared { IsCleared (length graph.now.lines) self.old }
@@ -250,7 +255,8 @@ impl Group {
     fn clear(&mut self, graph: &Graph, table: &Table, range: Range)
         requires table { IsTable graph.now table.now }
         requires swept { IsSwept graph.now table.now.places.items self.old range.low range.high }
-        ensures { IsCleared (length graph.now.lines) self.new }
+        ensures acquires { self.new.acquires ≡ self.old.acquires }
+        ensures cleared { IsCleared (length graph.now.lines) self.new }
     {
         self.behind.clear(graph, table, range.low, range.high);
         self.to_acquires.clear(graph, table, range.low, range.high);

@@ -3,6 +3,7 @@
 #![tactic(auto)]
 
 pub mod blocks;
+pub mod found;
 mod group;
 pub mod kept;
 pub mod passing;
@@ -14,36 +15,29 @@ pub mod table;
 
 ghost use Rattle.std.specs.Prelude.{IfOk, IfSome};
 ghost use Rattle.race_sweeps.specs.Placed.{IsOrder};
-ghost use Rattle.section_sweeps.specs.Sections.{AreSections};
+ghost use Rattle.section_sweeps.specs.Found.{AreSectionsFound};
 
-use crate::group::Group;
-use crate::kept::nothing_kept;
+use crate::found::{Found, Sections};
 use crate::table::Table;
 use graph_model::graph::Graph;
 use index_spaces::NoMemory;
-use race_sweeps::held::Held;
+use index_spaces::room::filled;
 use std::alloc::Global;
 
-/// In which sections the lines lie, where it was found that each acquire is released behind it,
-/// that what comes before a release lies before its acquire or in its section, and that a section
-/// acquires only reservations declared later; from an order in which each edge leads forward.
-/// `None` says nothing.
-pub fn held_sections(alloc: Global, graph: &Graph, order: &[u32]) -> Result<Option<Held>, NoMemory>
+/// Whether each acquire is released behind it, what comes before a release lies before its acquire
+/// or in its section, and a section acquires only reservations declared later; from an order in
+/// which each edge leads forward.
+pub fn held_sections(alloc: Global, graph: &Graph, order: &[u32]) -> Result<Sections, NoMemory>
     requires order { IsOrder graph.now order.now }
-    ensures { IfOk result (λ o. IfSome o (AreSections graph.now)) }
+    ensures { IfOk result (AreSectionsFound graph.now) }
 {
-    if order.len() != graph.lines() as usize {
-        return Ok(None);
+    let lines = graph.lines() as usize;
+    if order.len() != lines {
+        let doubted = filled(alloc, true, lines)?;
+        return Ok(Sections::Doubted(doubted));
     }
     let table = Table::new(alloc, graph, order)?;
-    let mut held = nothing_kept(alloc, graph)?;
-    let mut group = Group::new(alloc, graph)?;
-    let mut start = 0;
-    while start < graph.lines() {
-        match group.pass(graph, &table, &mut held, start)? {
-            Some(end) => start = end,
-            None => return Ok(None),
-        }
-    }
-    Ok(Some(held))
+    let mut found = Found::new(alloc, graph)?;
+    found.pass_all(alloc, graph, &table)?;
+    Ok(found.sections(graph, &table))
 }

@@ -17,7 +17,7 @@ use Rattle.graph_terms.specs.declared.outcome.End.{End}
 use Rattle.graph_terms.specs.declared.outcome.End.TheVariants.{Waiting}
 use Rattle.graph_terms.specs.Graph.{GraphValue}
 use Rattle.graph_meaning.specs.Evaluation.{eval_end}
-use Rattle.graph_reader.proofs.Owners.{position_any}
+use Rattle.basics.proofs.TestedLists.{position_any}
 use Rattle.realm_session.specs.declared.line.Line.{Line}
 use Rattle.realm_session.specs.Recorded.{graph_at, lines_in, end_in, handle_in, answer_for}
 use Rattle.realm_session.specs.Sessions.{recorded_by}

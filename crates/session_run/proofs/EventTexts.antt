@@ -7,7 +7,7 @@ use Rattle.basics.specs.Lists.{numbers_below}
 use Rattle.graph_terms.specs.declared.verb.Line.{Line}
 use Rattle.graph_terms.specs.Spelling.{spelled}
 use Rattle.graph_meaning.specs.Evaluation.{answer_of, eval_end}
-use Rattle.graph_writer.proofs.WrittenLists.{flat_next, flat_item, flat_over}
+use Rattle.basics.proofs.ListParts.{flat_next, flat_over, flat_item}
 use Rattle.session_run.specs.declared.running.RanGraph.{RanGraph}
 use Rattle.session_run.specs.Linked.{LinkedGraph}
 use Rattle.session_run.specs.Running.{linked_of}

@@ -16,12 +16,11 @@ use Rattle.graph_terms.specs.Graph.{GraphValue, columns, locks, barriers, decl_n
 use Rattle.graph_terms.specs.Edges.{edges, line_edges}
 use Rattle.graph_terms.specs.Spelling.{head, spelled, line_words, line_name}
 use Rattle.graph_terms.specs.Fits.{first_reason, is_used, with_line, line_fault, line_tests, cell_count, is_inst, is_beyond, format_lacks}
-use Rattle.graph_terms.proofs.GraphPush.{head_with_line}
-use Rattle.graph_terms.proofs.EdgeFacts.{edges_push}
+use Rattle.graph_terms.proofs.Public.{head_with_line, edges_push}
 use Rattle.graph_words.specs.Draft.{line_number}
 use Rattle.graph_reader.specs.FirstFault.{is_line_name}
-use Rattle.graph_words.proofs.TextLists.{each_fails, none_where_each_fails}
-use Rattle.graph_reader.proofs.Owners.{position_any}
+use Rattle.graph_words.proofs.Public.{each_fails, none_where_each_fails}
+use Rattle.basics.proofs.TestedLists.{position_any}
 use Rattle.session_text.specs.declared.entry.Link.{Link}
 use Rattle.session_text.specs.Fits.{trigger_line, trigger_reason}
 use Rattle.session_text.proofs.Naming.{never_fits}

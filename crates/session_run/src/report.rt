@@ -1,6 +1,7 @@
 //! The report of a session whose graphs have all run.
 
-ghost use Rattle.std.specs.Prelude.{◌≡◌, ◌<◌, length, Some, slice_get, map, flat_map, Contains};
+ghost use Rattle.std.specs.Prelude.{◌≡◌, ◌<◌, ◌∷◌, [], length, codes, Some, slice_get, map, flat_map, Contains};
+ghost use Rattle.graph_terms.specs.Spelling.{spelled};
 ghost use Rattle.graph_terms.specs.declared.outcome.End.{End as TheEnd};
 ghost use Rattle.graph_meaning.specs.Evaluation.{answer_of};
 ghost use Rattle.realm_io.specs.Written.{Writes};
@@ -14,7 +15,7 @@ ghost use Rattle.session_run.specs.Report.{graph_report, event_text, event_texts
 use crate::{Ended, RanGraph};
 use realm_io::{Sink, WriteFault, put_bytes};
 use realm_session::Answer;
-use run_report::{put_evaluation, put_four, put_two};
+use run_report::{put_evaluation, put_words};
 
 /// Writes the report of a session: for each graph its name and its report, then a line for the event of
 /// each of its lines, with what it answers. After a fault the sink has taken a prefix of it.
@@ -43,7 +44,7 @@ fn put_graph<K: Sink>(sink: &mut K, ran: &RanGraph) -> Result<(), WriteFault>
     requires outcome { IsOutcome ran.now.checked.graph ran.now.outcome }
     ensures { Writes (K.state sink.old) (K.state sink.new) result (graph_report (linked_of ran.now)) }
 {
-    put_two(sink, b"graph", ran.name.bytes())?;
+    put_words(sink, &[b"graph", ran.name.bytes()])?;
     put_evaluation(sink, ran.checked.graph(), &ran.outcome)
 }
 
@@ -90,13 +91,24 @@ fn put_event<K: Sink>(
     ensures { Writes (K.state sink.old) (K.state sink.new) result (event_text (linked_of ran.now) line) }
 {
     let graph = ran.checked.graph();
-    put_four(
+    put_event_line(
         sink,
-        b"event",
         ran.name.bytes(),
         graph.line(line).name.bytes(),
         event_word(ended.event(place, line)),
     )
+}
+
+/// Writes the line of an event, by the names of its graph and its line and the word of its answer.
+fn put_event_line<'a, K: Sink>(
+    sink: &mut K,
+    graph: &'a [u8],
+    line: &'a [u8],
+    answer: &'a [u8],
+) -> Result<(), WriteFault>
+    ensures { Writes (K.state sink.old) (K.state sink.new) result (spelled (codes "event" ∷ graph.now ∷ line.now ∷ answer.now ∷ [])) }
+{
+    put_words(sink, &[b"event", graph, line, answer])
 }
 
 /// The word for what an event answers.

@@ -11,16 +11,15 @@ use Rattle.graph_terms.specs.declared.format.Format.TheVariants.{One, Two}
 use Rattle.graph_terms.specs.declared.why.Why.{Why}
 use Rattle.graph_terms.specs.declared.why.Why.TheVariants as why
 use Rattle.graph_terms.specs.Graph.{GraphValue}
-use Rattle.graph_terms.specs.Spelling.{header, head}
+use Rattle.graph_terms.specs.Spelling.{header, head, body}
 use Rattle.graph_terms.specs.Fits.{IsGraph}
-use Rattle.graph_terms.proofs.GraphPush.{body}
 use Rattle.graph_words.specs.Words.{pieces}
 use Rattle.graph_words.specs.Draft.{Draft, draft}
 use Rattle.graph_words.specs.Text.{text, closing}
 use Rattle.graph_reader.specs.FirstFault.{has_newline, first_line, next_reason, line_reason}
 use Rattle.graph_reader.specs.Reading.{after_line}
-use Rattle.graph_reader.proofs.Spelled.{chosen}
-use Rattle.graph_reader.proofs.LineSteps.{whole_line}
+use Rattle.basics.proofs.Choices.{chosen}
+use Rattle.graph_reader.proofs.Public.{whole_line}
 use Rattle.graph_reader.proofs.TextTells.{Spot, spot, is_stop, next_place, step, steps, items_of, no_graph, steps_body, body_of}
 use Rattle.realm_audit.specs.Parts.{before_end, graph_bytes}
 use Rattle.realm_audit.specs.Reading.{IsFirstLine}

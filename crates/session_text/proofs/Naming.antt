@@ -13,11 +13,12 @@ use Rattle.graph_terms.specs.Graph.{GraphValue}
 use Rattle.graph_terms.specs.Names.{StandsFor}
 use Rattle.graph_terms.specs.Spelling.{head}
 use Rattle.graph_terms.specs.Fits.{IsGraph, first_reason, is_used, line_fault}
-use Rattle.graph_terms.proofs.GraphPush.{long_head}
+use Rattle.graph_terms.proofs.Public.{long_head}
 use Rattle.graph_reader.specs.FirstFault.{is_line_name, line_count, FirstFault}
 use Rattle.graph_words.specs.Text.{text}
 use Rattle.graph_reader.specs.Lookups.{found_line}
-use Rattle.graph_reader.proofs.Owners.{is_found, position_any}
+use Rattle.graph_reader.proofs.Owners.{is_found}
+use Rattle.basics.proofs.TestedLists.{position_any}
 use Rattle.session_text.specs.declared.entry.Link.{Link}
 use Rattle.session_text.specs.Fits.{trigger_line, trigger_reason}
 

@@ -15,7 +15,7 @@ use Rattle.graph_terms.specs.declared.why.Why.TheVariants as why
 use Rattle.graph_terms.specs.Graph.{GraphValue}
 use Rattle.graph_terms.specs.Spelling.{head, spelled}
 use Rattle.graph_terms.specs.Fits.{IsGraph, cell_count}
-use Rattle.graph_terms.proofs.GraphPush.{long_head}
+use Rattle.graph_terms.proofs.Public.{long_head}
 use Rattle.graph_words.specs.Words.{pieces}
 use Rattle.graph_words.specs.Text.{text, GraphText}
 use Rattle.graph_reader.specs.FirstFault.{has_newline, first_line, is_empty, or_else, line_count}
@@ -23,9 +23,8 @@ use Rattle.graph_reader.specs.Reading.{after_line}
 use Rattle.graph_words.specs.Cuts.{IsCut}
 use Rattle.graph_reader.specs.declared.ReadRefusal.{ReadRefusal}
 use Rattle.graph_reader.specs.declared.ReadRefusal.TheVariants as refusals
-use Rattle.graph_reader.proofs.LineSteps.{whole_line}
-use Rattle.graph_words.proofs.TextLists.{same_bytes}
-use Rattle.graph_reader.proofs.WordFacts.{joined_pieces}
+use Rattle.basics.proofs.TestedLists.{same_bytes}
+use Rattle.graph_reader.proofs.Public.{joined_pieces, whole_line}
 use Rattle.graph_reader.proofs.TextTells.{one_graph}
 use Rattle.realm_audit.specs.Parts.{before_end, graph_bytes, trace_bytes}
 use Rattle.session_text.specs.declared.entry.Link.{Link}

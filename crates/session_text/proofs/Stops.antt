@@ -16,9 +16,8 @@ use Rattle.graph_words.specs.Text.{text, GraphText}
 use Rattle.graph_words.specs.Text as graph
 use Rattle.graph_reader.specs.FirstFault.{has_newline, first_line, is_empty, or_else, line_count, FirstFault}
 use Rattle.graph_reader.specs.Reading.{after_line}
-use Rattle.graph_reader.proofs.LineSteps.{cut_newline, cut_first, cut_after, words_line, words_pieces, spelled_rest}
-use Rattle.graph_reader.proofs.WordFacts.{IsWord, name_is_word}
-use Rattle.graph_reader.proofs.Drafts.{word_by_test}
+use Rattle.graph_reader.proofs.Public.{name_is_word, word_by_test, cut_newline, cut_first, cut_after, words_line, words_pieces, spelled_rest}
+use Rattle.graph_reader.specs.Words.{IsWord}
 use Rattle.graph_reader.proofs.TextTells.{same_stop, closing_stops, one_reading}
 use Rattle.realm_audit.specs.Parts.{graph_bytes}
 use Rattle.session_text.specs.declared.entry.Link.{Link}

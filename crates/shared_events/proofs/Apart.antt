@@ -10,9 +10,8 @@ use Rattle.shared_events.specs.declared.view.View.{View}
 use Rattle.basics.specs.Sums.{total}
 use Rattle.event_table.specs.Words.{IsPending, Linked}
 use Rattle.shared_events.specs.Rule.{held, ends_at, rights_at, maker, Orderly}
-use Rattle.basics.proofs.Sums.{term_le, terms_le, entry_le, item_le, only, only-same, below-once}
+use Rattle.basics.proofs.Sums.{term_le, terms_le, entry_le, item_le, only, only-same, below-once, in_list}
 use Rattle.basics.proofs.ListFacts.{contains_here, contains_there}
-use Rattle.event_table.proofs.ChainSteps.{in_list}
 
 abbrev pub St : Type 0
 St = State Unit View

@@ -9,7 +9,7 @@ use Rattle.event_table.specs.declared.handle.Shape.{Shape}
 use Rattle.event_table.specs.Words.{turns_of, handle_at}
 use Rattle.shared_events.specs.Plays.{Sat, first_to, first_of, but_first, relinked, with_first, placed_on, looked, found_at, ends_of, joined, dealt, dealer}
 use Rattle.shared_events.specs.Seats.{Rights, IsPlain, IsWaiter, SameGiven, Grows, waiters_of}
-use Rattle.event_table.proofs.Words.{turns_if}
+use Rattle.event_table.proofs.Public.{turns_if}
 use Rattle.shared_events.proofs.Found.{ends_has}
 use Rattle.shared_events.proofs.Growing.{same_begins, grows_on}
 use Rattle.shared_events.proofs.Apart.{same_handle}

@@ -22,11 +22,10 @@ use Rattle.event_table.specs.EventMap.{EventMap, SlotLife, unused, answer, answe
 use Rattle.shared_events.specs.Seats.{IsPast}
 use Rattle.event_table.specs.Kept.{read, life_in, map_in, IsSlot, AreShown}
 use Rattle.basics.proofs.Sums.{entry_le, total-one, below-one}
-use Rattle.event_table.proofs.ChainSteps.{follows}
-use Rattle.event_table.proofs.Words.{by_test, code_le}
+use Rattle.event_table.proofs.Public.{code_le, follows, coded}
+use Rattle.basics.proofs.Choices.{by_test}
 use Rattle.shared_events.proofs.Apart.{St}
 use Rattle.shared_events.proofs.Steps.{shown, made_in}
-use Rattle.event_table.proofs.Marks.{coded}
 use Rattle.event_table.proofs.Reading.{read_length, read_from_start, read_total, slot_read}
 use Rattle.event_table.proofs.TableLook.{shown_pending, shown_ended, shown_made}
 

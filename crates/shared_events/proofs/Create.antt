@@ -16,12 +16,10 @@ use Rattle.event_table.specs.Words.{mark, IsMade, IsPending, Linked, Shows, hand
 use Rattle.shared_events.specs.Rule.{held, ends_at, rights_at, maker, Fits, Orderly}
 use Rattle.shared_events.specs.Plays.{Sat, made_at, AreBelow, created}
 use Rattle.basics.proofs.Sums.{total-set}
-use Rattle.event_table.proofs.Members.{set_cases}
+use Rattle.event_table.proofs.Public.{set_cases, linked_low, marks_low}
 use Rattle.basics.proofs.ListFacts.{contains_cases, contains_none}
 use Rattle.shared_events.proofs.Frames.{Placings, Leaves, steady}
-use Rattle.event_table.proofs.Marks.{marks_low}
 use Rattle.shared_events.proofs.Apart.{St, same_handle, ends_there, even_apart, no_right_at, other_maker}
-use Rattle.event_table.proofs.ChainSteps.{linked_low}
 use Rattle.shared_events.proofs.Parts.{whole, facts_fit, placings_fit, rights_fit, chase_fits}
 use Rattle.shared_events.proofs.Steps.{board, each_after}
 

@@ -17,8 +17,8 @@ use Rattle.event_table.specs.Words.{mark, fate_code, IsMade, IsPending, IsEnded}
 use Rattle.shared_events.specs.Rule.{held, ends_at, rights_at, maker, Fits, Orderly}
 use Rattle.shared_events.specs.Plays.{first_of, but_first, no_view, copy_of, dealt, dealer, all_dealt, none_left, granted, granter, last_of, receipted, maker_of, no_maker, report, reporter, chaser, unchased, emptier, joined, forsaken, gathered, informed}
 use Rattle.basics.proofs.Sums.{total-append, total-set, terms_le}
-use Rattle.event_table.proofs.Members.{Contains-one, set_cases}
-use Rattle.basics.proofs.ListFacts.{contains_cases, contains_none, contains_here, contains_there}
+use Rattle.event_table.proofs.Public.{set_cases}
+use Rattle.basics.proofs.ListFacts.{contains_cases, contains_none, contains_here, contains_there, contains_one as Contains-one}
 use Rattle.shared_events.proofs.Frames.{Placings}
 use Rattle.shared_events.proofs.Parts.{whole, facts_fit, placings_fit, rights_fit, chase_fits, making_fits, with_known, with_left, known_alone, with_past, seen_alone, no_placings, given_alone, fewer_rights, no_rights, no_chase, no_making, none_noted, blank}
 use Rattle.shared_events.proofs.Steps.{other_views}

@@ -16,13 +16,10 @@ use Rattle.event_table.specs.Words.{mark, fate_code, IsMade, IsEnded, code, Link
 use Rattle.shared_events.specs.Rule.{held, ends_at, rights_at, maker, Fits, Orderly}
 use Rattle.shared_events.specs.Plays.{Sat, ended_with, HasPlaced, IsOnce, ended, fate_now}
 use Rattle.basics.proofs.Sums.{total-set, total-put, term_le, entry_le}
-use Rattle.event_table.proofs.Members.{Contains-one, set_cases}
-use Rattle.basics.proofs.ListFacts.{contains_none, contains_here, contains_there}
+use Rattle.event_table.proofs.Public.{set_cases, code_le, linked_low, marks_low}
+use Rattle.basics.proofs.ListFacts.{contains_none, contains_here, contains_there, contains_one as Contains-one}
 use Rattle.shared_events.proofs.Frames.{Leaves, steady}
-use Rattle.event_table.proofs.Words.{code_le}
-use Rattle.event_table.proofs.Marks.{marks_low}
 use Rattle.shared_events.proofs.Apart.{St, right_counts, right_apart, left_apart}
-use Rattle.event_table.proofs.ChainSteps.{linked_low}
 use Rattle.shared_events.proofs.Parts.{whole, facts_fit, placings_fit, rights_fit, chase_fits, making_fits, with_known, fewer_rights}
 use Rattle.shared_events.proofs.Steps.{board, made_in, each_after}
 use Rattle.shared_events.proofs.Slot.{at_slot_or, word_here, word_there, link_there, turn_here, turn_there, turn_at, turn_was, chain_here, chain_there}

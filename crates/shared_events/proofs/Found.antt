@@ -6,7 +6,7 @@ use Rattle.event_table.specs.declared.handle.Handle.{Handle}
 use Rattle.shared_events.specs.Plays.{ends_of, fates_by}
 use Rattle.event_table.specs.Words.{fate_by, place_of, mark_word}
 use Rattle.basics.proofs.ListFacts.{contains_cases, contains_none, contains_here, contains_there}
-use Rattle.event_table.proofs.Words.{by_test}
+use Rattle.basics.proofs.Choices.{by_test}
 use Rattle.std.specs.Int.{bit_at}
 use Rattle.event_table.specs.declared.handle.Fate.{Fate}
 use Rattle.event_table.specs.declared.handle.Shape.{Shape}

@@ -13,7 +13,7 @@ use Rattle.shared_events.specs.Rule.{held, Fits, Orderly}
 use Rattle.shared_events.specs.Plays.{Sat, first_to, linked_to, relinked}
 use Rattle.basics.proofs.ListFacts.{contains_none, contains_cases, contains_here, contains_there}
 use Rattle.shared_events.proofs.Frames.{Leaves, steady}
-use Rattle.event_table.proofs.Marks.{marks_low}
+use Rattle.event_table.proofs.Public.{marks_low}
 use Rattle.shared_events.proofs.Apart.{St, not_in_rest, not_my_catch, not_their_hand, not_their_catch, not_placed, linked_else}
 use Rattle.shared_events.proofs.Parts.{HandFits, whole, facts_fit, placings_fit, rights_fit, chase_fits, making_fits}
 use Rattle.shared_events.proofs.Steps.{board, each_after, writes}

@@ -15,7 +15,7 @@ use Rattle.std.specs.Int.{bit_at}
 use Rattle.shared_events.specs.Plays.{Sat, first_of, marked_at, marks}
 use Rattle.basics.proofs.ListFacts.{contains_here, contains_there, contains_cases, contains_none}
 use Rattle.shared_events.proofs.Frames.{Leaves, steady}
-use Rattle.event_table.proofs.Marks.{places_apart, word_in}
+use Rattle.event_table.proofs.Public.{places_apart, word_in}
 use Rattle.shared_events.proofs.Apart.{St, same_handle, right_apart}
 use Rattle.shared_events.proofs.Parts.{whole, facts_fit, placings_fit, rights_fit, chase_fits, making_fits, fewer_rights}
 use Rattle.shared_events.proofs.Steps.{board, made_in, made_low, each_after, writes}

@@ -14,8 +14,7 @@ use Rattle.std.specs.Int.{bit_at}
 use Rattle.std.proofs.lemmas.Nat.Bits.{bit_at-zero}
 use Rattle.std.proofs.lemmas.List.{length-replicate}
 use Rattle.atomic_table.specs.Table.{opening}
-use Rattle.event_table.proofs.Members.{Contains-one}
-use Rattle.basics.proofs.ListFacts.{contains_none, contains_cases}
+use Rattle.basics.proofs.ListFacts.{contains_none, contains_cases, contains_one as Contains-one}
 use Rattle.shared_events.proofs.Parts.{HandFits, whole, seen_alone, no_placings, no_rights, no_chase}
 
 pub zero_at : (n i : ℕ) → get_or (replicate {A = ℕ} n 0) i 0 ≡ 0

@@ -17,13 +17,10 @@ use Rattle.event_table.specs.Words.{mark, IsMade, IsPending, IsEnded, code, Link
 use Rattle.shared_events.specs.Rule.{held, maker, Fits, Orderly}
 use Rattle.shared_events.specs.Plays.{Sat, with_first, but_first, placed_on, put, gave, walked}
 use Rattle.basics.proofs.Sums.{total-set, total-put}
-use Rattle.event_table.proofs.Members.{Contains-one}
-use Rattle.basics.proofs.ListFacts.{contains_cases, contains_none, contains_here, contains_there}
+use Rattle.basics.proofs.ListFacts.{contains_cases, contains_none, contains_here, contains_there, contains_one as Contains-one}
 use Rattle.shared_events.proofs.Frames.{Placings, Leaves, steady}
-use Rattle.event_table.proofs.Words.{code_le}
-use Rattle.event_table.proofs.Marks.{marks_low}
+use Rattle.event_table.proofs.Public.{code_le, linked_low, marks_low}
 use Rattle.shared_events.proofs.Apart.{St, same_handle}
-use Rattle.event_table.proofs.ChainSteps.{linked_low}
 use Rattle.shared_events.proofs.Parts.{HandFits, whole, facts_fit, rights_fit, chase_fits, making_fits}
 use Rattle.shared_events.proofs.Steps.{board, each_after, one_right_after, no_right_after, own, kept_word, looks}
 use Rattle.shared_events.proofs.Slot.{word_here, word_there, link_there, chain_here, chain_there, chain_at, chain_was}

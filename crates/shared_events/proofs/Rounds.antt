@@ -9,7 +9,7 @@ use native.Mathlib.Decide.{ℕ_discrete, dec_le}
 use Rattle.event_table.specs.Words.{handle_at}
 use Rattle.shared_events.specs.Views.{GoesRound, ComesNext}
 use Rattle.event_table.specs.declared.handle.Handle.{Handle}
-use Rattle.event_table.proofs.Members.{Contains-one}
+use Rattle.basics.proofs.ListFacts.{contains_one as Contains-one}
 
 module _ (slots next slot gen : ℕ) (made : List Handle) (o : GoesRound slots next made) (at : next < slots → ComesNext made next slot) (below : (g : ℕ) → g < gen → Contains made (handle_at slot g)) where
   -- before each slot has served

@@ -15,9 +15,9 @@ use Rattle.shared_events.specs.Rule.{Fits, Orderly}
 use Rattle.shared_events.specs.Plays.{Sat, ends_of, scouted_at, Accounts, HadEnded, scouted, made_at, AreBelow, created, granter, granted}
 use Rattle.shared_events.specs.Seats.{IsMaker, IsPending, IsPast, Knows, slots_of, last_gen_of}
 use Rattle.shared_events.specs.Views.{IsTaken, IsHeld, Scanned, AreHeld, AreTaken, IsFull, ArePast, ComesNext}
-use Rattle.event_table.proofs.Members.{Contains-one}
-use Rattle.basics.proofs.ListFacts.{contains_none, contains_here}
-use Rattle.event_table.proofs.Words.{by_test, code_le, turns_if}
+use Rattle.basics.proofs.ListFacts.{contains_none, contains_here, contains_one as Contains-one}
+use Rattle.event_table.proofs.Public.{code_le, turns_if}
+use Rattle.basics.proofs.Choices.{by_test}
 use Rattle.shared_events.proofs.Found.{ends_has}
 use Rattle.shared_events.proofs.Parts.{whole, facts_fit, placings_fit, rights_fit, chase_fits}
 use Rattle.shared_events.proofs.Steps.{shown, found_fits, own, kept_word}

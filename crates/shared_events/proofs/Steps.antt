@@ -18,11 +18,9 @@ use Rattle.shared_events.specs.Rule.{held, ends_at, rights_at, maker, Fits, Orde
 use Rattle.shared_events.specs.Plays.{Sat, found_at, ends_of, Agrees, InRange, Coherent, Rightless, looked, heeded, fated, fates_of, fates_by, reads}
 use Rattle.std.specs.Int.{bit_at}
 use Rattle.basics.proofs.Sums.{total-set, term_le, item_le}
-use Rattle.event_table.proofs.Members.{set_cases}
+use Rattle.event_table.proofs.Public.{set_cases, code_le, turns_shown, coded, one_code}
 use Rattle.basics.proofs.ListFacts.{contains_none, contains_here}
-use Rattle.event_table.proofs.Marks.{one_code, coded}
 use Rattle.shared_events.proofs.Found.{fates_in, ends_in}
-use Rattle.event_table.proofs.Words.{code_le, turns_shown}
 use Rattle.shared_events.proofs.Frames.{Placings, Leaves, steady}
 use Rattle.shared_events.proofs.Parts.{SawFits, whole, facts_fit, placings_fit, rights_fit, chase_fits, making_fits, with_known, with_past}
 

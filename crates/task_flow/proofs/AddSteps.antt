@@ -22,7 +22,7 @@ use Rattle.task_flow.specs.Making.{made_of, IsPast, IsMaking, AreSections}
 use Rattle.task_flow.specs.declared.making.Making.{Making}
 use Rattle.task_flow.specs.declared.sections.Sections.{Sections}
 use Rattle.task_flow.proofs.NameScan.{is_free}
-use Rattle.flow_order.proofs.Lists.{both_not}
+use Rattle.basics.proofs.Choices.{both_not}
 use Rattle.task_flow.proofs.MadeLines.{made_stands, wait_grows}
 use Rattle.basics.proofs.ListFacts.{contains_none}
 use Rattle.task_flow.proofs.Growth.{by_longer}

@@ -18,7 +18,7 @@ use Rattle.task_flow.specs.Construction.{are_rivals, cells_meet, summed, contend
 use Rattle.graph_terms.specs.Fits.{is_beyond}
 use Rattle.task_flow.specs.declared.sections.Sections.{Sections}
 use Rattle.task_flow.specs.Making.{AreSections}
-use Rattle.flow_order.proofs.Scans.{take_more, take_whole, got_beyond}
+use Rattle.basics.proofs.ListParts.{take_more, take_whole, got_beyond}
 use Rattle.flow_order.proofs.TieSteps.{meets_by}
 use Rattle.task_flow.proofs.Reservations.{few_before, many_later}
 

@@ -7,7 +7,7 @@ use Rattle.graph_terms.specs.declared.format.Format.{Format}
 use Rattle.graph_terms.specs.Graph.{GraphValue}
 use Rattle.graph_terms.specs.Fits.{decl_fault, with_decl, IsDecl, DeclsFit}
 use Rattle.task_flow.specs.Fitting.{lined}
-use Rattle.flow_order.proofs.Scans.{take_more}
+use Rattle.basics.proofs.ListParts.{take_more}
 
 fits_at : (fm : Format) (before ds : List Decl) → DeclsFit fm before ds → (k : ℕ) (d : Decl) → slice_get ds k ≡ Some d → IsDecl d × (decl_fault (lined fm (before ++ take k ds) []) d ≡ None)
 fits_at fm before [] f k d at = absurd (none-some d at)

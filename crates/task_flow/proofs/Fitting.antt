@@ -29,9 +29,7 @@ use Rattle.graph_terms.specs.Access.{verb_accesses}
 use Rattle.graph_terms.specs.Edges.{edges, line_edges}
 use Rattle.graph_terms.specs.Fits.{first_reason, repeats, names, is_used, is_inst, cell_count, with_line, is_beyond, verb_repeats, named_lines, on_lines, line_unknown, verb_unknown, verb_unlike, takes_no_on, format_lacks, verb_misnumbered, access_unknown, access_outside, arrives_late, merges_many, line_tests, line_fault, LinesFit}
 use Rattle.graph_terms.specs.Spelling.{head, spelled, line_words}
-use Rattle.graph_terms.proofs.GraphFacts.{none_first}
-use Rattle.graph_terms.proofs.GraphPush.{head_with_line}
-use Rattle.graph_terms.proofs.EdgeFacts.{edges_push}
+use Rattle.graph_terms.proofs.Public.{none_first, head_with_line, edges_push}
 use Rattle.flow_order.specs.Flow.{IsFlow, uses_columns}
 use Rattle.flow_order.specs.Written.{IsLock, orders_alone}
 use Rattle.task_flow.specs.Construction.{Made, is_contended, lock_for, new_name, takes_width, place_in, no_line, line_in, reservations, graph_of}
@@ -39,7 +37,7 @@ use Rattle.task_flow.specs.Fitting.{lined, with_lines, AreToFit}
 use Rattle.task_flow.specs.Making.{IsPast}
 use Rattle.task_flow.proofs.Names.{new_differ, unused}
 use Rattle.task_flow.proofs.NameScan.{is_free, power_most}
-use Rattle.flow_order.proofs.Lists.{both_not}
+use Rattle.basics.proofs.Choices.{both_not}
 use Rattle.task_flow.proofs.Standing.{Waits, IsOwn, IsSection, Standing, new_line, own_uses}
 use Rattle.task_flow.proofs.Reservations.{spaces_stay, columns_stay}
 

@@ -13,7 +13,7 @@ use Rattle.task_flow.specs.Construction.{Made, wait_for, with_flow_line, with_ne
 use Rattle.flow_order.specs.SourceParts.{Parts, with_event}
 use Rattle.task_flow.specs.Making.{IsPast}
 use Rattle.flow_order.proofs.Lists.{length_with}
-use Rattle.flow_order.proofs.Scans.{take_more, take_whole}
+use Rattle.basics.proofs.ListParts.{take_more, take_whole}
 
 merge_by_longer : (o : Option (List ℕ × ℕ)) (es : List ℕ) (m : Made) → length m.lines ≤ length (merge_by o es m).0.lines
 merge_by_longer (Some x) es m = omega arith

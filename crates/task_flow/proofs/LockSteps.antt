@@ -15,12 +15,12 @@ use Rattle.graph_terms.specs.declared.why.Why.TheVariants as why
 use Rattle.graph_terms.specs.Graph.{GraphValue, lock_of, barrier_of, columns, locks, barriers, named_spaces}
 use Rattle.graph_terms.specs.Fits.{is_used, is_inst, cell_count, with_decl, is_beyond, decl_fault}
 use Rattle.graph_terms.specs.Spelling.{head, spelled, decl_words}
-use Rattle.graph_terms.proofs.GraphPush.{head_with_decl}
+use Rattle.graph_terms.proofs.Public.{head_with_decl}
 use Rattle.task_flow.specs.Fitting.{lined}
 use Rattle.task_flow.specs.Construction.{new_name, locks_from}
 use Rattle.task_flow.proofs.Fitting.{or_more, lt_more}
 use Rattle.task_flow.proofs.Reservations.{locks_length, lock_at, spaces_stay, columns_stay}
-use Rattle.flow_order.proofs.Scans.{take_more, take_whole}
+use Rattle.basics.proofs.ListParts.{take_more, take_whole}
 
 -- a reservation with a name that is free fits, unless the graph passes a limit with it
 pub lock_fault : (g : GraphValue) (name : List ℕ) → is_used g name ≡ false → decl_fault g (Lock name) ≡ cond (is_beyond (with_decl g (Lock name))) (Some why.Limit) None

@@ -13,7 +13,8 @@ use Rattle.flow_order.specs.Flow.{IsFlow}
 use Rattle.flow_order.specs.Meaning.{accesses_tie}
 use Rattle.task_flow.specs.Construction.{Made, is_contended, lock_for, lock_of, place_in, wait_for, with_flow_line, in_section, with_line_by, line_in, made_after}
 use Rattle.flow_order.specs.SourceParts.{has, is_large, down_from, tied_by, least, parts_of, sources_after}
-use Rattle.flow_order.proofs.Lists.{falls_down, falls_filter, falls_least, least_within, down_below, got_left, got_end, got_cases, at_left, at_end}
+use Rattle.flow_order.proofs.Lists.{falls_down, falls_filter, falls_least, least_within, down_below}
+use Rattle.basics.proofs.ListParts.{got_left, got_end, at_left, at_end, got_cases}
 use Rattle.flow_order.proofs.SourceFacts.{sources_of}
 use Rattle.task_flow.proofs.Standing.{Leaf, Waits, IsOwn, IsSection, Each, OwnAt, Standing, Kept, new_line, flow_line, dead, IsPart, place_below, wait_for_is, waits_same, each_stays, own_at_stays, merged_stays, held_stays}
 

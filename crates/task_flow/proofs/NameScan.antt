@@ -10,7 +10,8 @@ use Rattle.graph_terms.specs.declared.verb.Line.{Line}
 use Rattle.graph_terms.specs.Graph.{GraphValue, decl_name}
 use Rattle.graph_terms.specs.Fits.{names}
 use Rattle.task_flow.specs.Construction.{takes_width, first_number}
-use Rattle.flow_order.proofs.Scans.{any_found, any_map}
+use Rattle.basics.proofs.ListParts.{any_found}
+use Rattle.basics.proofs.TestedLists.{any_map}
 
 any_names : (t : List ℕ → Bool) (f : GraphValue) → list_any t (names f) ≡ (list_any (λ d. t (decl_name d)) f.decls || list_any (λ (l : Line). t l.name) f.lines)
 any_names t f = list_any-append t (map decl_name f.decls) (map (λ (l : Line). l.name) f.lines) ∙ (ap (λ b. b || list_any t (map (λ (l : Line). l.name) f.lines)) (any_map t decl_name f.decls) ∙ ap (λ b. list_any (λ d. t (decl_name d)) f.decls || b) (any_map t (λ (l : Line). l.name) f.lines))

@@ -16,7 +16,7 @@ use Rattle.graph_terms.specs.declared.verb.Verb.{Verb}
 use Rattle.graph_terms.specs.declared.verb.Verb.TheVariants.{User, Trigger, Cancel, Merge, MergeIgnore, Phase, Arrive, Acquire, Release, Fill, Copy, Reduce, Task}
 use Rattle.graph_terms.specs.Graph.{GraphValue, space_at, verb_at}
 use Rattle.graph_terms.specs.Access.{verb_accesses, in_format, accesses}
-use Rattle.graph_terms.proofs.ArriveLaws.{arrive_accesses}
+use Rattle.graph_terms.proofs.Public.{arrive_accesses}
 use Rattle.flow_order.specs.Meaning.{Chain}
 use Rattle.flow_order.specs.SourceParts.{down_from, reaches, sources_after}
 use Rattle.task_flow.specs.Construction.{is_sum, summed, summed_column, cells_meet, are_rivals, contends_with, is_contended}

@@ -16,7 +16,8 @@ use Rattle.graph_terms.specs.Fits.{repeats}
 use Rattle.flow_order.specs.Flow.{IsFlow, uses_columns}
 use Rattle.task_flow.specs.Construction.{Made, is_contended, lock_for, new_name, merge_line, with_merge, merge_by, merge_for, event_for, place_in, events_for, wait_for, no_line, line_in}
 use Rattle.flow_order.specs.SourceParts.{Parts, all_of, with_event}
-use Rattle.flow_order.proofs.Lists.{Falls, falls_differ, take_within, drop_within, split_cases, take_once, drop_once, with_event_once, with_event_cases, old_in, new_in, length_with, got_left, got_end, got_cases, at_left, at_end}
+use Rattle.flow_order.proofs.Lists.{Falls, falls_differ, take_once, drop_once, with_event_once, with_event_cases, old_in, new_in, length_with}
+use Rattle.basics.proofs.ListParts.{take_within, drop_within, split_cases, got_left, got_end, at_left, at_end, got_cases}
 use Rattle.flow_order.proofs.SourceFacts.{sources_of}
 
 -- a line of the flow leads to line e

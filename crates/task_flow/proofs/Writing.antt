@@ -18,8 +18,8 @@ use Rattle.graph_terms.specs.Fits.{IsGraph}
 use Rattle.graph_meaning.specs.Path.{Path, last}
 use Rattle.graph_terms.specs.Reservations.{Acquires, Releases}
 use Rattle.index_spaces.specs.Laws.{PointsAreListed}
-use Rattle.graph_terms.proofs.EdgeFacts.{line_edges_in}
-use Rattle.graph_meaning.proofs.PathLaws.{path_append}
+use Rattle.graph_terms.proofs.Public.{line_edges_in}
+use Rattle.graph_meaning.proofs.Public.{path_append}
 use Rattle.flow_order.specs.Flow.{IsFlow, uses_columns}
 use Rattle.flow_order.specs.Meaning.{depends}
 use Rattle.flow_order.specs.Orders.{is_passing, passing_edges}

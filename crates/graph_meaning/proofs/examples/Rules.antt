@@ -15,7 +15,7 @@ use Rattle.graph_meaning.specs.Need.{IsNeed}
 use Rattle.graph_terms.proofs.examples.Graphs.{graph, line, racing_fills, ordered_fills, reserved_sums, shared_sums, one_section, climbing_sections, plain_release, open_section, no_release, nine_fills, two_sections, cycle}
 use Rattle.graph_meaning.proofs.PathTable.{path_by_table, no_path_by_table, acyclic_by_table}
 use Rattle.graph_meaning.proofs.NeedTable.{need_is}
-use Rattle.graph_terms.proofs.VerbFacts.{acquire_is, passes_below}
+use Rattle.graph_terms.proofs.Public.{acquire_is, passes_below}
 use Rattle.basics.specs.Lists.{numbers_below}
 use Rattle.basics.proofs.ListFacts.{passes_each, contains_below}
 use Rattle.graph_meaning.proofs.RulesTable.{implies, implied, section_test, descends_test, release_fault_test, section_holds, descends_holds, release_fault_holds, acyclic_by_tests, released_by_tests, sections_by_tests, descends_by_tests, fails_first, fails_first_twice, race_is, meets_itself, conflict_by}

@@ -2,14 +2,14 @@
 
 ghost use Rattle.std.specs.Prelude.{◌≡◌};
 ghost use Rattle.run_core.specs.Kept.{shown_stage};
-ghost use Rattle.run_core.specs.Steps.{stage_of};
+ghost use Rattle.run_parts.specs.Shown.{stage_of};
 
-use crate::answers::{Attempt, Stage, Thing};
+use crate::answers::Attempt;
 use crate::columns::busy_column;
 use crate::holders::busy_lock;
-use crate::progress::Progress;
 use crate::run::Core;
 use crate::sources::{is_cancelled, least_left};
+use run_parts::{Progress, Stage, Thing};
 use run_state::laws::{cancelled_by_kept_ends, claim_keeps_sound, out_conflict_only_exempt};
 
 /// What is found of a line that is to be taken.

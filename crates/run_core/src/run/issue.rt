@@ -1,8 +1,7 @@
 //! Lines are issued in file order.
 
-use crate::answers::Issue;
-use crate::progress::Progress;
 use crate::run::Core;
+use run_parts::{Issue, Progress};
 use run_state::laws::{issue_keeps_rest, left_below_need, stage_leaves};
 
 impl<'g> Core<'g> {

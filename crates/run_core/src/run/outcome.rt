@@ -1,6 +1,6 @@
 //! What a run that is quiet gives.
 
-ghost use Rattle.std.specs.Prelude.{◌≡◌, ◌≤◌, ◌<◌, ◌++◌, ℕ, [], length, map, IfOk, Some, slice_get, IsSome};
+ghost use Rattle.std.specs.Prelude.{◌≡◌, ◌≤◌, ◌<◌, ◌++◌, ℕ, [], length, map, Some, slice_get, IsSome};
 ghost use Rattle.std.specs.Vec.{vec_capacity};
 ghost use Rattle.basics.specs.Lists.{numbers_below};
 ghost use Rattle.event_table.specs.EventMap.{answer};
@@ -12,7 +12,6 @@ ghost use Rattle.run_core.specs.Kept.{shown_stage};
 ghost use Rattle.run_core.specs.Answers.{answer_shown, phase_for, phase_of_line, AsksHandles};
 
 use crate::events::LineEvents;
-use crate::progress::Progress;
 use crate::run::Core;
 use crate::sources::end_of;
 use graph_meaning::laws::sections_never_overlap;
@@ -21,36 +20,9 @@ use graph_terms::limits::MAX_LINES;
 use graph_terms::lists::{AnswerList, EndList, LineList, ValueList};
 use graph_terms::outcome::{Answer, End, Outcome};
 use graph_terms::verb::Verb;
-use index_spaces::NoMemory;
-use index_spaces::room::{push_within, with_room};
+use index_spaces::room::push_within;
+use run_parts::Progress;
 use run_state::laws::{clock_is_small, quiet_gives_outcome, slots_are_by_times};
-use std::alloc::Global;
-
-/// Room for the lists of the outcome.
-#[derive(Drop)]
-pub(crate) struct OutcomeRoom {
-    pub(crate) ends: Vec<End>,
-    pub(crate) answers: Vec<Answer>,
-    pub(crate) phases: Vec<Option<u64>>,
-}
-
-impl OutcomeRoom {
-    ghost use Rattle.std.specs.Prelude.{◌≡◌, [], IfOk};
-    ghost use Rattle.std.specs.Vec.{vec_capacity};
-
-    /// Room for so many lines.
-    pub(crate) fn new(alloc: Global, lines: usize) -> Result<OutcomeRoom, NoMemory>
-        ensures ends { IfOk result (λ r. (r.ends.items ≡ []) × (vec_capacity r.ends ≡ lines)) }
-        ensures answers { IfOk result (λ r. (r.answers.items ≡ []) × (vec_capacity r.answers ≡ lines)) }
-        ensures phases { IfOk result (λ r. (r.phases.items ≡ []) × (vec_capacity r.phases ≡ lines)) }
-    {
-        Ok(OutcomeRoom {
-            ends: with_room(alloc, lines)?,
-            answers: with_room(alloc, lines)?,
-            phases: with_room(alloc, lines)?,
-        })
-    }
-}
 
 impl<'g> Core<'g> {
     ghost use Rattle.std.specs.Prelude.{◌≡◌, ℕ, ◌<◌, length, Some, slice_get};

@@ -14,7 +14,6 @@ ghost use Rattle.run_core.specs.Steps.{fate_for};
 use crate::columns::{Columns, give_columns};
 use crate::holders::free;
 use crate::phases::arrive;
-use crate::progress::Progress;
 use crate::run::Core;
 use crate::work::Finished;
 use event_table::{Fate, Handle};
@@ -22,6 +21,7 @@ use graph_model::graph::Graph;
 use graph_terms::outcome::End;
 use index_spaces::held::Held;
 use index_spaces::room::push_within;
+use run_parts::Progress;
 use run_state::laws::{put_back_keeps_rest, put_back_leaves};
 
 impl<'g> Core<'g> {

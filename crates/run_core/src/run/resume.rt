@@ -7,18 +7,19 @@ ghost use Rattle.basics.specs.Lists.{count_below};
 ghost use Rattle.graph_meaning.specs.Rules.{Accepted};
 ghost use Rattle.graph_terms.specs.Reservations.{Releases};
 ghost use Rattle.run_state.specs.Run.{is_listed, list_at};
-ghost use Rattle.run_core.specs.declared.states.LineState.{LineState as TheState};
-ghost use Rattle.run_core.specs.declared.answers.Stage.{Stage as TheStage};
+ghost use Rattle.run_parts.specs.declared.states.LineState.{LineState as TheState};
+ghost use Rattle.run_parts.specs.declared.answers.Stage.{Stage as TheStage};
 ghost use Rattle.run_core.specs.Holders.{holders_by, AreHeld};
 ghost use Rattle.run_core.specs.Resumed.{progress_for, stage_is_over, over_at, value_or_zero, HoldsNow, AreBeside, FoundBelow};
 
-use crate::answers::Stage;
 use crate::columns::Columns;
+use crate::events::{LineEvents, handles_of};
 use crate::holders::{Holders, hold};
-use crate::progress::Progress;
+use crate::lists::filled_within;
 use crate::run::Core;
-use crate::states::{LineState, StateList};
 use event_table::EventTable;
+use event_table::limits::MAX_SLOTS;
+use graph_meaning::laws::needs_are_one;
 use graph_model::graph::Graph;
 use graph_terms::limits::MAX_LINES;
 use graph_terms::lists::ValueList;
@@ -26,6 +27,8 @@ use graph_terms::outcome::End;
 use graph_terms::verb::Verb;
 use index_spaces::room::push_within;
 use line_effects::homes::Homes;
+use run_parts::{LineState, Progress, RunParts, RunRoom, Stage, StateList};
+use run_state::laws::{start_is_at_rest, start_is_sound};
 
 /// How far a line has come, as a core keeps it.
 #[tactic(auto, unfolding(crate::specs::Resumed::progress_by))]
@@ -64,7 +67,7 @@ fn is_done(state: LineState) -> bool
 /// How far each line has come.
 fn stages_of(lines: &[LineState], mut stages: Vec<Progress>) -> Vec<Progress>
     requires few { length lines.now ≤ MAX_LINES }
-    requires each { length stages.items ≡ length lines.now }
+    requires room { length lines.now ≤ vec_capacity stages }
     ensures { result.items ≡ map progress_for lines.now }
 {
     stages.clear();
@@ -87,7 +90,7 @@ fn value_or_zero(value: Option<u64>) -> u64
 /// The values of the phases, and 0 for other lines.
 fn values_of(phases: &[Option<u64>], mut values: Vec<u64>) -> Vec<u64>
     requires few { length phases.now ≤ MAX_LINES }
-    requires each { length values.items ≡ length phases.now }
+    requires room { length phases.now ≤ vec_capacity values }
     ensures { result.items ≡ map value_or_zero phases.now }
 {
     values.clear();
@@ -211,10 +214,67 @@ fn holders_of(graph: &Graph, lines: &[LineState], mut holders: Holders) -> Holde
 }
 
 impl<'g> Core<'g> {
-    ghost use Rattle.std.specs.Prelude.{◌≡◌, ℕ, List, []};
+    ghost use Rattle.std.specs.Prelude.{◌≡◌, ◌≤◌, ℕ, List, [], length};
     ghost use Rattle.event_table.specs.declared.handle.Handle.{Handle as TheHandle};
     ghost use Rattle.run_state.specs.Run.{Run};
+    ghost use Rattle.run_parts.specs.Room.{HasRoom};
+    ghost use Rattle.run_parts.specs.Shown.{IsShown};
     ghost use Rattle.run_core.specs.Resumed.{ShowState, InState};
+
+    /// The core in the state that is shown, in which no work is out, with as many slots as the table
+    /// has. It takes no memory: its lists are filled within their room.
+    pub fn of_parts(parts: RunParts<'g>) -> Core<'g>
+        requires room { HasRoom parts.checked.now.graph parts.room }
+        requires enough { parts.checked.now.need ≤ length parts.table.slots }
+        requires most { length parts.table.slots ≤ MAX_SLOTS }
+        requires shown { (run : Run) × (handles : List TheHandle)
+            × IsShown parts.checked.now.graph run handles parts.states parts.table parts.homes parts.phases }
+        ensures state { (run : Run) (handles : List TheHandle)
+            → IsShown parts.entry.checked.now.graph run handles parts.entry.states parts.entry.table parts.entry.homes parts.entry.phases
+            → InState parts.entry.checked.now.graph run handles parts.entry.table result }
+    {
+        start_is_sound();
+        start_is_at_rest();
+        needs_are_one();
+        let RunParts {
+            checked,
+            states,
+            table,
+            homes,
+            phases,
+            room,
+        } = parts;
+        let RunRoom {
+            stages,
+            handles,
+            busy,
+            values,
+            holding,
+            trace,
+            takers,
+            held,
+            outcome,
+        } = room;
+        let graph = checked.graph();
+        let _ = checked.need();
+        let lines = graph.lines();
+        let columns = graph.columns();
+        let items = states.items.as_slice();
+        let nobody = Holders::none(graph, holding, held);
+        Core {
+            checked,
+            stages: stages_of(items, stages),
+            events: LineEvents::of_free(table, handles_of(items, handles), busy, lines),
+            columns: Columns {
+                homes,
+                takers: filled_within(takers, 0, columns as usize),
+            },
+            values: values_of(phases.items.as_slice(), values),
+            holders: holders_of(graph, items, nobody),
+            trace: trace_of(items, trace),
+            room: outcome,
+        }
+    }
 
     /// The core in the state that is shown, in which no work is out. Nothing was issued in this
     /// core, whose lists it takes over. It takes no memory.
@@ -240,21 +300,25 @@ impl<'g> Core<'g> {
             trace,
             room,
         } = self;
-        let graph = checked.graph();
-        let _ = graph.lines();
-        let states = lines.items.as_slice();
-        Core {
+        let _ = checked.need();
+        let (handles, busy) = events.into_room();
+        Core::of_parts(RunParts {
             checked,
-            stages: stages_of(states, stages),
-            events: events.resumed(states, table),
-            columns: Columns {
-                homes,
+            states: lines,
+            table,
+            homes,
+            phases,
+            room: RunRoom {
+                stages,
+                handles,
+                busy,
+                values,
+                holding: holders.holding,
+                trace,
                 takers: columns.takers,
+                held: holders.held,
+                outcome: room,
             },
-            values: values_of(phases.items.as_slice(), values),
-            holders: holders_of(graph, states, holders),
-            trace: trace_of(states, trace),
-            room,
-        }
+        })
     }
 }

@@ -2,10 +2,10 @@
 
 use crate::columns::take_columns;
 use crate::holders::hold;
-use crate::progress::Progress;
 use crate::run::Core;
 use crate::work::Work;
 use index_spaces::held::Held;
+use run_parts::Progress;
 use run_state::laws::{claim_of_cancelled_keeps_rest, stage_leaves, take_keeps_rest, take_leaves};
 
 impl<'g> Core<'g> {

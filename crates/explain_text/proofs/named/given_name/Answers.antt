@@ -1,5 +1,5 @@
 use Rattle.std.proofs.Common.{◌∷◌, ◌∙◌, ap, sym}
-use Rattle.graph_words.proofs.CutBytes.{one_piece, pieces_cut}
+use Rattle.graph_words.proofs.Public.{one_piece, pieces_cut}
 use Rattle.explain_text.specs.Named.{given_name}
 use Rattle.explain_text.proofs.named.given_name.Goals as goal
 

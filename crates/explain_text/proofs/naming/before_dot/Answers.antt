@@ -1,6 +1,6 @@
 use Rattle.std.proofs.Common.{ap, sym}
 use Rattle.graph_words.specs.Words.{first_piece}
-use Rattle.graph_words.proofs.CutBytes.{one_piece, pieces_cut}
+use Rattle.graph_words.proofs.Public.{one_piece, pieces_cut}
 use Rattle.explain_text.proofs.naming.before_dot.Goals as goal
 
 pub returns-in-Some : goal.returns-in-Some

@@ -1,5 +1,5 @@
 use Rattle.std.proofs.Common.{◌∷◌, ◌∙◌, ap, sym}
-use Rattle.graph_words.proofs.CutBytes.{one_piece, pieces_cut}
+use Rattle.graph_words.proofs.Public.{one_piece, pieces_cut}
 use Rattle.explain_text.specs.Named.{third_of}
 use Rattle.explain_text.proofs.naming.third_word.Goals as goal
 

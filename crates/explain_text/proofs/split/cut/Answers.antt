@@ -1,5 +1,5 @@
 use Rattle.std.proofs.Common.{arith}
-use Rattle.graph_words.proofs.CutBytes.{cut_at, no_stop}
+use Rattle.graph_words.proofs.Public.{cut_at, no_stop}
 use Rattle.explain_text.proofs.split.cut.Goals as goal
 
 pub returns-then-b-stop : goal.returns-then-b-stop

@@ -1,4 +1,4 @@
-use Rattle.graph_words.proofs.CutBytes.{word_cut, last_word}
+use Rattle.graph_words.proofs.Public.{word_cut, last_word}
 use Rattle.explain_text.proofs.split.split.Goals as goal
 
 pub loop-part-preserved : goal.loop-part-preserved

@@ -1,7 +1,7 @@
 use Rattle.std.proofs.Common.{ap, subst}
 use Rattle.basics.specs.Words.{contents}
 use Rattle.explain_text.specs.Accepted.{each_text, cancelled_text, ways_text}
-use Rattle.explain_text.proofs.TextFacts.{then_put, put_as}
+use Rattle.explain_text.proofs.Public.{put_as, then_put}
 use Rattle.explain_graph.specs.Ways.{AreLongest}
 use Rattle.explanations.specs.Reaches.{fault_edges}
 use Rattle.explain_top.proofs.EdgeFacts.{by_edges, ways_in, fault_in}

@@ -2,7 +2,7 @@ use Rattle.std.proofs.Common.{ap, subst}
 use Rattle.basics.specs.Words.{contents}
 use Rattle.explain_graph.specs.Ways.{AreLongest}
 use Rattle.explain_text.specs.Accepted.{each_text, waiting_text, ways_text}
-use Rattle.explain_text.proofs.TextFacts.{then_put, put_as}
+use Rattle.explain_text.proofs.Public.{put_as, then_put}
 use Rattle.graph_terms.specs.Edges.{edges}
 use Rattle.explain_top.proofs.EdgeFacts.{by_edges, ways_in}
 use Rattle.explain_top.proofs.accepted.put_all_waiting.Goals as goal

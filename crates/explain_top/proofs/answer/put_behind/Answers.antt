@@ -7,7 +7,7 @@ use Rattle.refused_words.specs.Ends.{IsEndedBy}
 use Rattle.refused_words.specs.Limits.{quantity_value}
 use Rattle.explain_text.specs.Named.{named_texts, space_text}
 use Rattle.explain_text.specs.Unread.{refused_text, limit_text, ended_text}
-use Rattle.explain_text.proofs.TextFacts.{then_puts}
+use Rattle.explain_text.proofs.Public.{then_puts}
 use Rattle.explain_top.specs.Answer.{AreNamed, TellsSpace, limit_for}
 use Rattle.explain_top.proofs.Marking.{marked}
 use Rattle.explain_top.proofs.answer.put_behind.Goals as goal

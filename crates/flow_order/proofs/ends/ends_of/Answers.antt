@@ -1,7 +1,7 @@
 use Rattle.std.proofs.Common.{length, get_or, ◌≤◌, ◌∙◌, subst}
 use Rattle.std.proofs.lemmas.Option.{slice_get-get_or}
 use Rattle.flow_order.proofs.EndSteps.{AreWithin, within_more, ends_from}
-use Rattle.flow_order.proofs.Scans.{take_whole}
+use Rattle.basics.proofs.ListParts.{take_whole}
 use Rattle.flow_order.proofs.ends.ends_of.Goals as goal
 
 pub loop-interval-preserved : goal.loop-interval-preserved

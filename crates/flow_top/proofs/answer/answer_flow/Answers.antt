@@ -4,7 +4,7 @@ use Rattle.std.proofs.lemmas.Result.{IfOk-weaker, IfErr-weaker}
 use Rattle.graph_terms.specs.declared.format.Format.TheVariants.{One}
 use Rattle.graph_terms.specs.Graph.{GraphValue}
 use Rattle.graph_terms.specs.Spelling.{head, header}
-use Rattle.graph_terms.proofs.GraphPush.{long_head}
+use Rattle.graph_terms.proofs.Public.{long_head}
 use Rattle.graph_words.specs.Text.{text}
 use Rattle.flow_top.specs.FlowText.{FlowText, IsReadFault}
 use Rattle.flow_top.specs.Answer.{IsAnswerFault, IsFaultOfFlow}

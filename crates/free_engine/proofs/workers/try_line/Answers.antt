@@ -8,10 +8,10 @@ pub returns-in-Over-clause-back : goal.returns-in-Over-clause-back
 returns-in-Over-clause-back t c = rejoined_back c.args.seat.now c.attempt_line.new.seat c.in-Over.ensures.answer.4
 
 pub returns-in-Never-clause-back : goal.returns-in-Never-clause-back
-returns-in-Never-clause-back t c = rejoined_back c.args.seat.now c.attempt_line.new.seat c.in-Never.ensures.answer.2
+returns-in-Never-clause-back t c = rejoined_back c.args.seat.now c.attempt_line.new.seat c.in-Never.ensures.answer.1
 
 pub returns-in-NotYet-clause-back : goal.returns-in-NotYet-clause-back
-returns-in-NotYet-clause-back t c = rejoined_back c.args.seat.now c.attempt_line.new.seat c.in-NotYet.ensures.answer.4
+returns-in-NotYet-clause-back t c = rejoined_back c.args.seat.now c.attempt_line.new.seat c.in-NotYet.ensures.answer.1.2
 
 pub returns-in-Busy-clause-back : goal.returns-in-Busy-clause-back
-returns-in-Busy-clause-back t c = rejoined_back c.args.seat.now c.attempt_line.new.seat c.in-Busy.ensures.answer.3
+returns-in-Busy-clause-back t c = rejoined_back c.args.seat.now c.attempt_line.new.seat c.in-Busy.ensures.answer.1.3

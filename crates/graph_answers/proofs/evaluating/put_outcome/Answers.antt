@@ -1,6 +1,6 @@
 use Rattle.std.proofs.Common.{[], sym, ap, subst}
 use Rattle.realm_io.specs.Written.{Writes}
-use Rattle.realm_io.proofs.WrittenLaws.{then_writes, stops, stopped_early}
+use Rattle.realm_io.proofs.Public.{stopped_early, then_writes, stops}
 use Rattle.realm_audit.specs.Text.{trace_text}
 use Rattle.run_report.specs.Report.{evaluation_report}
 use Rattle.graph_answers.specs.Answer.{report_with, trace_part}

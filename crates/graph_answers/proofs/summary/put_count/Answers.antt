@@ -1,4 +1,4 @@
-use Rattle.realm_io.proofs.WrittenLaws.{then_writes}
+use Rattle.realm_io.proofs.Public.{then_writes}
 use Rattle.graph_answers.proofs.summary.put_count.Goals as goal
 
 pub returns : goal.returns

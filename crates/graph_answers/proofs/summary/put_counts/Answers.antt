@@ -1,7 +1,7 @@
 use Rattle.std.proofs.Common.{◌++◌}
 use Rattle.std.specs.Prelude.{decimal}
-use Rattle.realm_io.proofs.WrittenLaws.{stops, goes_on, breaks_off}
-use Rattle.graph_writer.proofs.WrittenLists.{flat_next}
+use Rattle.realm_io.proofs.Public.{stops, goes_on, breaks_off}
+use Rattle.basics.proofs.ListParts.{flat_next}
 use Rattle.graph_answers.specs.declared.summary.Count.{Count}
 use Rattle.graph_answers.proofs.summary.put_counts.Goals as goal
 

@@ -1,6 +1,6 @@
 use Rattle.std.proofs.Common.{◌∷◌, [], sym, ◌∙◌, subst}
 use Rattle.realm_io.specs.Written.{Wrote, Stopped}
-use Rattle.realm_io.proofs.WrittenLaws.{then_writes, writes_as, stops, stopped_as, stopped_early}
+use Rattle.realm_io.proofs.Public.{stopped_early, then_writes, stops, writes_as, stopped_as}
 use Rattle.graph_answers.proofs.SummaryLines.{summary_parts, counts_are}
 use Rattle.graph_answers.proofs.summary.put_summary.Goals as goal
 

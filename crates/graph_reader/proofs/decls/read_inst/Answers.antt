@@ -2,7 +2,7 @@ use Rattle.std.proofs.Common.{length, ◌≡◌, ap, sym, ◌∙◌, suc, arith}
 use Rattle.graph_terms.specs.Fits.{is_used}
 use Rattle.graph_words.specs.Draft.{inst_with}
 use Rattle.graph_reader.specs.Reading.{inst_decl}
-use Rattle.graph_words.proofs.CutBytes.{some_pieces}
+use Rattle.graph_words.proofs.Public.{some_pieces}
 use Rattle.graph_reader.proofs.DeclFaults.{read_by, inst_is}
 use Rattle.graph_reader.proofs.decls.read_inst.Goals as goal
 

@@ -6,7 +6,8 @@ use Rattle.graph_reader.specs.declared.item.ItemError.TheVariants as errors
 use Rattle.graph_terms.specs.declared.table.TheConstants.{KINDS}
 use Rattle.graph_words.specs.Draft.{form_of, is_of_form}
 use Rattle.graph_reader.specs.Reading.{IsLineOf}
-use Rattle.graph_reader.proofs.LineShapes.{line_kind, found_passes}
+use Rattle.graph_reader.proofs.LineShapes.{line_kind}
+use Rattle.basics.proofs.TestedLists.{found_passes}
 use Rattle.graph_reader.proofs.lines.read_line.Goals as goal
 
 pub kind_line-requires : goal.kind_line-requires

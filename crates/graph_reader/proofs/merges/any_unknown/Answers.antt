@@ -2,7 +2,7 @@ use Rattle.std.proofs.Common.{rules, not, List, ℕ, Bor, sym, ◌∙◌}
 use Rattle.std.proofs.lemmas.Iterator.{YieldsList-from_slice}
 use Rattle.std.proofs.lemmas.Iterator.Search.{any_from_yields_List}
 use Rattle.graph_terms.specs.Fits.{is_used}
-use Rattle.graph_words.proofs.TextLists.{any_map}
+use Rattle.basics.proofs.TestedLists.{any_map}
 use Rattle.graph_reader.proofs.merges.any_unknown.Goals as goal
 
 pub returns : goal.returns

@@ -3,8 +3,8 @@ use Rattle.std.specs.Prelude.{Option, is_some, unwrap_or, bytes_eq}
 use Rattle.graph_terms.specs.declared.verb.Line.{Line}
 use Rattle.graph_words.specs.Draft.{line_number}
 use Rattle.graph_reader.specs.FirstFault.{is_line_name}
-use Rattle.graph_reader.proofs.Owners.{position_any}
-use Rattle.graph_words.proofs.NameLists.{passed_more, failed_at, numbers_more}
+use Rattle.basics.proofs.TestedLists.{position_any}
+use Rattle.graph_words.proofs.Public.{passed_more, failed_at, numbers_more}
 use Rattle.graph_reader.proofs.merges.lines_of.Goals as goal
 
 pub returns-in_default : goal.returns-in_default

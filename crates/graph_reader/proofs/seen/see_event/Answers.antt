@@ -1,7 +1,7 @@
 use Rattle.std.proofs.Common.{ℕ, refl, sym, ◌∙◌, ap}
 use Rattle.std.specs.Prelude.{Option, not, is_some, unwrap_or, bytes_eq}
 use Rattle.graph_terms.specs.declared.verb.Line.{Line}
-use Rattle.graph_reader.proofs.Owners.{position_any}
+use Rattle.basics.proofs.TestedLists.{position_any}
 use Rattle.graph_reader.proofs.SeenWords.{turned}
 use Rattle.graph_reader.proofs.seen.see_event.Goals as goal
 

@@ -1,4 +1,5 @@
-use Rattle.graph_words.proofs.CutBytes.{word_cut, last_word, last_by}
+use Rattle.graph_words.proofs.CutBytes.{word_cut, last_word}
+use Rattle.basics.proofs.Choices.{last_by}
 use Rattle.graph_words.proofs.words.split_into.Goals as goal
 
 pub loop-word-preserved : goal.loop-word-preserved

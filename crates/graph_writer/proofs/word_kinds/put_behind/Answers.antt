@@ -1,4 +1,4 @@
-use Rattle.realm_io.proofs.WrittenLaws.{then_writes}
+use Rattle.realm_io.proofs.Public.{then_writes}
 use Rattle.graph_writer.proofs.word_kinds.put_behind.Goals as goal
 
 pub returns : goal.returns

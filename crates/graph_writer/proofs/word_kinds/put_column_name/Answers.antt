@@ -1,6 +1,6 @@
 use Rattle.std.proofs.Common.{◌∷◌, [], subst}
 use Rattle.realm_io.specs.Written.{Writes, Wrote}
-use Rattle.realm_io.proofs.WrittenLaws.{then_writes, stops, stopped_early, stopped_later}
+use Rattle.realm_io.proofs.Public.{stopped_early, stopped_later, then_writes, stops}
 use Rattle.graph_writer.proofs.word_kinds.put_column_name.Goals as goal
 
 pub returns-in_err-put_bytes-2 : goal.returns-in_err-put_bytes-2

@@ -1,6 +1,6 @@
 use Rattle.std.proofs.Common.{◌∷◌, [], subst, ap}
 use Rattle.realm_io.specs.Written.{Writes, Wrote}
-use Rattle.realm_io.proofs.WrittenLaws.{then_writes, stops, stopped_early, stopped_later}
+use Rattle.realm_io.proofs.Public.{stopped_early, stopped_later, then_writes, stops}
 use Rattle.std.specs.Prelude.{decimal}
 use Rattle.graph_writer.proofs.word_kinds.put_interval.Goals as goal
 

@@ -1,7 +1,7 @@
 use Rattle.std.proofs.Common.{◌∷◌}
 use Rattle.graph_writer.specs.WrittenWords.{word_text}
-use Rattle.realm_io.proofs.WrittenLaws.{stops, goes_on, breaks_off}
-use Rattle.graph_writer.proofs.WrittenLists.{flat_item}
+use Rattle.realm_io.proofs.Public.{stops, goes_on, breaks_off}
+use Rattle.basics.proofs.ListParts.{flat_item}
 use Rattle.graph_writer.proofs.word_kinds.put_spaced.Goals as goal
 
 pub returns-in_err-put_behind : goal.returns-in_err-put_behind

@@ -1,7 +1,7 @@
 use Rattle.std.proofs.Common.{◌∷◌, drop}
 use Rattle.std.specs.List.{flat_map}
 use Rattle.graph_writer.specs.WrittenWords.{word_text}
-use Rattle.realm_io.proofs.WrittenLaws.{Progress}
+use Rattle.realm_io.specs.Written.{Progress}
 use Rattle.graph_writer.proofs.word_kinds.put_spaced.Given as goal
 
 abbrev pub invariant-loop-word : goal.invariant-loop-word

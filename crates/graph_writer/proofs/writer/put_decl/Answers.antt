@@ -1,6 +1,6 @@
 use Rattle.std.proofs.Common.{ap, sym, ◌∙◌}
 use Rattle.graph_terms.specs.Spelling.{spelled, decl_words, space_name}
-use Rattle.realm_io.proofs.WrittenLaws.{writes_as}
+use Rattle.realm_io.proofs.Public.{writes_as}
 use Rattle.graph_writer.proofs.WrittenLists.{space_line, inst_line}
 use Rattle.graph_writer.proofs.writer.put_decl.Goals as goal
 

@@ -2,8 +2,8 @@ use Rattle.std.proofs.Common.{◌∷◌, ◌++◌, ◌+◌, drop, sym, ap, ◌�
 use Rattle.std.specs.List.{flat_map}
 use Rattle.graph_terms.specs.Spelling.{line_name}
 use Rattle.graph_writer.specs.WrittenWords.{word_text}
-use Rattle.realm_io.proofs.WrittenLaws.{stops, goes_on, breaks_off}
-use Rattle.graph_writer.proofs.WrittenLists.{flat_at}
+use Rattle.realm_io.proofs.Public.{stops, goes_on, breaks_off}
+use Rattle.basics.proofs.ListParts.{flat_at}
 use Rattle.graph_writer.proofs.writer.put_events.Goals as goal
 
 pub returns-in_err-put_behind : goal.returns-in_err-put_behind

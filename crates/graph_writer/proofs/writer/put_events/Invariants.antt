@@ -1,7 +1,7 @@
 use Rattle.std.proofs.Common.{◌∷◌, drop}
 use Rattle.std.specs.List.{flat_map}
 use Rattle.graph_terms.specs.Spelling.{line_name}
-use Rattle.realm_io.proofs.WrittenLaws.{Progress}
+use Rattle.realm_io.specs.Written.{Progress}
 use Rattle.graph_writer.proofs.writer.put_events.Given as goal
 
 abbrev pub invariant-loop-i : goal.invariant-loop-i

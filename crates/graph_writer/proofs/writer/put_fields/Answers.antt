@@ -1,5 +1,5 @@
 use Rattle.std.proofs.Common.{List, ℕ, ◌++◌}
-use Rattle.realm_io.proofs.WrittenLaws.{stops, goes_on, breaks_off}
+use Rattle.realm_io.proofs.Public.{stops, goes_on, breaks_off}
 use Rattle.graph_writer.proofs.WrittenLists.{comma_at}
 use Rattle.graph_writer.proofs.writer.put_fields.Goals as goal
 

@@ -1,9 +1,9 @@
 use Rattle.std.proofs.Common.{List, ℕ, ◌∷◌, ◌++◌, ◌+◌, [], Bor, drop, sym, ap, ◌∙◌, arith}
 use Rattle.std.proofs.lemmas.List.{length-map}
 use Rattle.basics.specs.Words.{contents}
-use Rattle.realm_io.proofs.WrittenLaws.{stops, goes_on, breaks_off}
+use Rattle.realm_io.proofs.Public.{stops, goes_on, breaks_off}
 use Rattle.graph_writer.specs.WrittenWords.{spaced}
-use Rattle.graph_writer.proofs.WrittenLists.{flat_next}
+use Rattle.basics.proofs.ListParts.{flat_next}
 use Rattle.graph_writer.proofs.writer.put_fixed.Goals as goal
 
 pub returns-in_err-put_behind : goal.returns-in_err-put_behind

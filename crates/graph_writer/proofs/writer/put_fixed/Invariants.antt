@@ -1,6 +1,6 @@
 use Rattle.std.proofs.Common.{drop}
 use Rattle.basics.specs.Words.{contents}
-use Rattle.realm_io.proofs.WrittenLaws.{Progress}
+use Rattle.realm_io.specs.Written.{Progress}
 use Rattle.graph_writer.specs.WrittenWords.{spaced}
 use Rattle.graph_writer.proofs.writer.put_fixed.Given as goal
 

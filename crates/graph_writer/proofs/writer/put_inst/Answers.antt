@@ -2,7 +2,7 @@ use Rattle.std.proofs.Common.{List, ℕ, [], ◌∷◌, ◌++◌, ◌∙◌, ap}
 use Rattle.std.specs.Prelude.{codes}
 use Rattle.graph_writer.specs.WrittenWords.{word_text, comma_from}
 use Rattle.graph_writer.proofs.WrittenLists.{front_two}
-use Rattle.realm_io.proofs.WrittenLaws.{then_writes, writes_as, stops, stopped_as, stopped_early, stopped_later}
+use Rattle.realm_io.proofs.Public.{stopped_early, stopped_later, then_writes, stops, writes_as, stopped_as}
 use Rattle.graph_writer.proofs.writer.put_inst.Goals as goal
 
 pub returns-in_err-put_plain : goal.returns-in_err-put_plain

@@ -1,6 +1,6 @@
 use Rattle.std.proofs.Common.{◌++◌, get_or, refl}
 use Rattle.graph_terms.specs.Spelling.{interval_word}
-use Rattle.realm_io.proofs.WrittenLaws.{stops, goes_on, breaks_off}
+use Rattle.realm_io.proofs.Public.{stops, goes_on, breaks_off}
 use Rattle.graph_writer.proofs.WrittenLists.{comma_put}
 use Rattle.graph_writer.proofs.writer.put_intervals.Goals as goal
 

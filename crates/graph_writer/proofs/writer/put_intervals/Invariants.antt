@@ -1,7 +1,7 @@
 use Rattle.std.proofs.Common.{drop}
 use Rattle.graph_terms.specs.Spelling.{interval_word}
 use Rattle.graph_writer.specs.WrittenWords.{comma_from}
-use Rattle.realm_io.proofs.WrittenLaws.{Progress}
+use Rattle.realm_io.specs.Written.{Progress}
 use Rattle.graph_writer.proofs.writer.put_intervals.Given as goal
 
 abbrev pub invariant-loop-i : goal.invariant-loop-i

@@ -1,6 +1,6 @@
 use Rattle.graph_terms.specs.Spelling.{spelled, line_words}
-use Rattle.realm_io.proofs.WrittenLaws.{stops, goes_on, breaks_off}
-use Rattle.graph_writer.proofs.WrittenLists.{flat_at}
+use Rattle.realm_io.proofs.Public.{stops, goes_on, breaks_off}
+use Rattle.basics.proofs.ListParts.{flat_at}
 use Rattle.graph_writer.proofs.writer.put_lines.Goals as goal
 
 pub returns-in_err-put_line : goal.returns-in_err-put_line

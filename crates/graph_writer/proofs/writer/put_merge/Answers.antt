@@ -1,6 +1,6 @@
 use Rattle.std.proofs.Common.{◌∷◌, ◌++◌, ap, sym}
 use Rattle.graph_terms.specs.Spelling.{line_name}
-use Rattle.realm_io.proofs.WrittenLaws.{then_writes, writes_as, stops, stopped_early}
+use Rattle.realm_io.proofs.Public.{stopped_early, then_writes, stops, writes_as}
 use Rattle.graph_writer.proofs.WrittenLists.{flat_mapped}
 use Rattle.graph_writer.proofs.writer.put_merge.Goals as goal
 

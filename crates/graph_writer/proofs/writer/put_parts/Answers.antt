@@ -2,7 +2,7 @@ use Rattle.std.proofs.Common.{◌∙◌, ap}
 use Rattle.std.specs.List.{flat_map}
 use Rattle.graph_terms.specs.Spelling.{spelled, header, decl_words, line_words}
 use Rattle.graph_words.proofs.WholeText.{text_flat}
-use Rattle.realm_io.proofs.WrittenLaws.{then_writes, writes_as, stops, stopped_as, stopped_early, stopped_later}
+use Rattle.realm_io.proofs.Public.{stopped_early, stopped_later, then_writes, stops, writes_as, stopped_as}
 use Rattle.graph_writer.proofs.writer.put_parts.Goals as goal
 
 pub returns-in_err-put_bytes : goal.returns-in_err-put_bytes

@@ -1,4 +1,4 @@
-use Rattle.realm_io.proofs.WrittenLaws.{then_writes, writes_as}
+use Rattle.realm_io.proofs.Public.{then_writes, writes_as}
 use Rattle.basics.specs.Words.{contents}
 use Rattle.graph_writer.specs.WrittenWords.{spaced}
 use Rattle.graph_writer.proofs.WrittenLists.{row_text}

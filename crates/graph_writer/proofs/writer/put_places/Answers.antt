@@ -1,6 +1,7 @@
 use Rattle.std.proofs.Common.{◌∷◌, ◌++◌, ◌+◌, drop, sym, ap, subst, ◌∙◌}
 use Rattle.graph_terms.specs.declared.table.Place.TheVariants as places
-use Rattle.realm_io.proofs.WrittenLaws.{Progress, stops, goes_on, breaks_off, finishes}
+use Rattle.realm_io.proofs.Public.{stops, goes_on, breaks_off, finishes}
+use Rattle.realm_io.specs.Written.{Progress}
 use Rattle.graph_writer.specs.WrittenWords.{word_text, part_text}
 use Rattle.graph_writer.proofs.WrittenLists.{part_next, part_over}
 use Rattle.graph_writer.proofs.writer.put_places.Goals as goal

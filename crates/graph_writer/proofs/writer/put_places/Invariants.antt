@@ -1,5 +1,5 @@
 use Rattle.std.proofs.Common.{drop}
-use Rattle.realm_io.proofs.WrittenLaws.{Progress}
+use Rattle.realm_io.specs.Written.{Progress}
 use Rattle.graph_writer.specs.WrittenWords.{part_text}
 use Rattle.graph_writer.proofs.writer.put_places.Given as goal
 

@@ -1,4 +1,4 @@
-use Rattle.realm_io.proofs.WrittenLaws.{then_writes, stops, stopped_early, stopped_later}
+use Rattle.realm_io.proofs.Public.{stopped_early, stopped_later, then_writes, stops}
 use Rattle.graph_writer.proofs.writer.put_plain.Goals as goal
 
 pub returns-in_err-put_bytes : goal.returns-in_err-put_bytes

@@ -1,7 +1,6 @@
-use Rattle.std.proofs.Common.{◌≡◌, ◌&&◌, if◌then◌else◌, nat_le, Some, refl, sym, ap, ◌∙◌, arith}
-use Rattle.index_spaces.specs.Space.{IsSpace, points}
+use Rattle.std.proofs.Common.{◌≡◌, ◌&&◌, if◌then◌else◌, nat_le, refl, ap, ◌∙◌, arith}
+use Rattle.index_spaces.specs.Space.{points}
 use Rattle.index_spaces.specs.Column.{cell_of}
-use Rattle.index_spaces.specs.Held.{held_at}
 use Rattle.graph_terms.specs.declared.outcome.Verdict.TheVariants.{Fine, Fault}
 use Rattle.graph_terms.specs.declared.verb.Mode.TheVariants.{Read}
 use Rattle.graph_terms.specs.declared.table.Kernel.TheVariants.{Expect}
@@ -18,10 +17,8 @@ returns c =
     let spaces = space_at c.args.graph.now in
     let accesses = kernel_accesses (Expect c.args.x c.args.s c.args.low c.args.high) in
     let space = spaces c.args.s in
-    let from = c.unwrap-from.result.now in
-    let from_is : held_at old c.args.x ≡ Some from = sym (rw c.unwrap-from.ensures at c.column.ensures) in
-    let from_space : IsSpace from.space = rw (sym c.space.ensures.space) c.intervals.ensures.is_space in
-    let from_seen = cell_is_seen c.cells_by_point.ensures c.seen_cells.ensures spaces accesses (access c.args.x c.args.s Read) old from (0, omega arith, refl) refl from_is from_space c.requires.1 in
+    let from = c.source.result.now in
+    let from_seen = cell_is_seen c.cells_by_point.ensures c.seen_cells.ensures spaces accesses (access c.args.x c.args.s Read) old from (0, omega arith, refl) refl c.source.ensures.column c.source.ensures.is_space c.requires.1 in
     let within : c.points_within.result ≡ all_within (cell_of from) c.args.low c.args.high (points space) = rw c.space-space.ensures at c.points_within.ensures in
     record {
       verdict = λ cells has.

@@ -1,7 +1,7 @@
 use Rattle.std.proofs.Common.{◌≡◌, length, sym, arith}
 use Rattle.index_spaces.specs.Column.{cell_of}
 use Rattle.graph_meaning.specs.Effect.{Set}
-use Rattle.index_spaces.proofs.WriteFacts.{held_again}
+use Rattle.index_spaces.proofs.Public.{held_again}
 use Rattle.line_effects.proofs.PointWrites.{source_is}
 use Rattle.line_effects.proofs.copies.copy.Goals as goal
 

@@ -1,6 +1,6 @@
 use Rattle.std.proofs.Common.{◌≡◌, length, refl, sym, arith}
 use Rattle.graph_meaning.specs.Effect.{Set}
-use Rattle.index_spaces.proofs.WriteFacts.{held_again}
+use Rattle.index_spaces.proofs.Public.{held_again}
 use Rattle.line_effects.proofs.copies.fill.Goals as goal
 
 pub returns : goal.returns

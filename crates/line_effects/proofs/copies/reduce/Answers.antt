@@ -4,7 +4,7 @@ use Rattle.index_spaces.specs.Column.{cell_of}
 use Rattle.index_spaces.specs.Run.{reduced_cell}
 use Rattle.index_spaces.specs.Held.{held_at}
 use Rattle.graph_meaning.specs.Effect.{reduced}
-use Rattle.index_spaces.proofs.WriteFacts.{held_again, holds_over}
+use Rattle.index_spaces.proofs.Public.{held_again, holds_over}
 use Rattle.line_effects.proofs.PointWrites.{IsOver, source_is, reduced_is}
 use Rattle.line_effects.proofs.copies.reduce.Goals as goal
 

@@ -2,7 +2,7 @@ use Rattle.std.proofs.Common.{ap, arith}
 use Rattle.index_spaces.specs.Space.{IsSpace, IsWithin}
 use Rattle.index_spaces.specs.Column.{cell_of}
 use Rattle.index_spaces.specs.Run.{reduced_cell}
-use Rattle.index_spaces.proofs.WriteFacts.{point_in}
+use Rattle.index_spaces.proofs.Public.{point_in}
 use Rattle.line_effects.proofs.copies.reduce_points.Goals as goal
 
 pub loop-interval-preserved : goal.loop-interval-preserved

@@ -1,7 +1,7 @@
 use Rattle.std.proofs.Common.{◌∙◌, ap, sym}
 use Rattle.line_effects.specs.Homes.{all_home}
 use Rattle.graph_meaning.specs.Effect.{cells_after}
-use Rattle.line_effects.proofs.MadeFacts.{all_made}
+use Rattle.line_effects.proofs.Public.{all_made}
 use Rattle.plain_eval.proofs.PerformFacts.{count_home, is_home, all_held, held_shown, still_held, all_back}
 use Rattle.plain_eval.proofs.perform.perform.Goals as goal
 

@@ -1,10 +1,14 @@
 use Rattle.std.proofs.Common.{◌≡◌, ◌+◌, ℕ, length, arith, sym, subst}
 use Rattle.graph_meaning.specs.Rules.{DescendsAt}
 use Rattle.race_check.proofs.BeyondLines.{descends_beyond}
+use Rattle.race_check.proofs.Doubting.{descends_sure}
 use Rattle.race_check.proofs.BlockSteps.{least_none, least_keep, least_take, least_fails, least_holds}
 use Rattle.race_check.specs.Blocks.{IsLeast}
 use Rattle.race_check.proofs.descends.first_climbing_in.Goals as goal
 use Rattle.race_check.proofs.descends.first_climbing_in.Goals.{in-Some, in_default}
+
+pub returns-then-not-is_any_noted : goal.returns-then-not-is_any_noted
+returns-then-not-is_any_noted c = descends_sure c.args.graph.now c.args.doubted.now c.requires.doubted c.args.first c.min-end.result (λ b few low. omega (arith, c.min-end.ensures, few, low, c.lines-lines.ensures.number)) (c.is_any_noted.ensures c.if-not-is_any_noted.true)
 
 pub climbed_by-requires-clause-inside : goal.climbed_by-requires-clause-inside
 climbed_by-requires-clause-inside c = c.of.ensures c.args.first c.in_ok-inside.ensures

@@ -1,21 +1,10 @@
-use Rattle.std.proofs.Common.{inl, length, arith}
-use Rattle.graph_meaning.specs.Rules.{RaceAt}
-use Rattle.race_check.proofs.BeyondLines.{race_beyond}
-use Rattle.race_check.proofs.BlockSteps.{blocks_fail, blocks_more, pairs_hold, some_of, none_of}
+use Rattle.std.proofs.Common.{Bool, sym, subst}
+use Rattle.std.specs.Prelude.{IfSome, Vec}
+use Rattle.std.specs.Global.{Global}
+use Rattle.race_sweeps.specs.Settled.{AreEnough}
 use Rattle.race_check.proofs.races.first_race.Goals as goal
 
-pub returns-in-Some : goal.returns-in-Some
-returns-in-Some c =
+pub first_race_of-requires-clause-enough : goal.first_race_of-requires-clause-enough
+first_race_of-requires-clause-enough c =
     let g = c.args.graph.now in
-    let e = some_of _ _ c.in_ok-found.found c.in-Some.pair c.in-Some.is c.in_ok-found.ensures in
-    (e.0, e.1, blocks_fail (RaceAt g) c.loop-first.first (length g.lines) c.in-Some.pair.0 c.in-Some.pair.1 (λ i j h. race_beyond g (λ e k. c.edges_between_lines.ensures g e c.lines-lines.ensures.is_graph k) i j h) c.loop-first.invariant.before e.2)
-
-pub loop-first-preserved : goal.loop-first-preserved
-loop-first-preserved c =
-    let g = c.args.graph.now in
-    record { before = blocks_more (RaceAt g) c.loop-first.first (length g.lines) (λ i j h. race_beyond g (λ e k. c.edges_between_lines.ensures g e c.lines-lines.ensures.is_graph k) i j h) c.loop-first.invariant.before (none_of _ _ c.in_ok-found.found c.in_default.is c.in_ok-found.ensures) }
-
-pub returns : goal.returns
-returns c =
-    let g = c.args.graph.now in
-    pairs_hold (RaceAt g) c.loop-first.first (λ i j h. race_beyond g (λ e k. c.edges_between_lines.ensures g e c.lines-lines.ensures.is_graph k) i j (inl (omega (arith, h, c.loop-first-test.false, c.lines-lines.ensures.number)))) c.loop-first.invariant.before
+    subst (λ xs. AreEnough g xs) (sym c.as_slice.ensures.value) (subst (λ o. IfSome o (λ (v : Vec Bool Global). AreEnough g v.items)) c.in-Some.is c.in_ok-racing.ensures.enough)

@@ -1,11 +1,15 @@
 use Rattle.std.proofs.Common.{◌≡◌, ◌+◌, ℕ, length, arith, sym, subst}
 use Rattle.graph_meaning.specs.Rules.{SectionAt}
 use Rattle.race_check.proofs.BeyondLines.{section_beyond}
+use Rattle.race_check.proofs.Doubting.{sections_sure}
 use Rattle.race_check.proofs.BlockSteps.{least_none, least_keep, least_take, least_fails, least_holds}
 use Rattle.race_check.specs.Blocks.{IsLeast}
 use Rattle.race_check.proofs.Insides.{lowest_fails, lowest_holds}
 use Rattle.race_check.proofs.sections.first_outside_of.Goals as goal
 use Rattle.race_check.proofs.sections.first_outside_of.Goals.{in-Some, in_default}
+
+pub returns-then-not-releases_any : goal.returns-then-not-releases_any
+returns-then-not-releases_any c = sections_sure c.args.graph.now c.args.doubted.now c.requires.doubted c.args.first c.min-end.result c.lines-lines.ensures.is_graph (λ b few low. omega (arith, c.min-end.ensures, few, low, c.lines-lines.ensures.number)) (c.releases_any.ensures c.if-not-releases_any.true)
 
 pub loop-line-init : goal.loop-line-init
 loop-line-init c = record { least = least_none (SectionAt c.args.graph.now) c.args.first 0 0 (λ b m h. absurd (omega arith)) }

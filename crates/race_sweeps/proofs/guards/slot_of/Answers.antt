@@ -1,8 +1,7 @@
 use Rattle.std.proofs.Common.{◌≡◌, ◌+◌, ◌<◌, length, sym, ◌∙◌, arith}
 use Rattle.std.proofs.lemmas.Bool.{cond-true, cond-false}
 use Rattle.graph_terms.specs.Graph.{line_passes, is_acquire_of, is_shared, locks}
-use Rattle.graph_terms.proofs.VerbFacts.{passes_below}
-use Rattle.graph_terms.proofs.ReleaseFacts.{acquired_lock_known}
+use Rattle.graph_terms.proofs.Public.{passes_below, acquired_lock_known}
 use Rattle.race_sweeps.specs.Guards.{slot_of}
 use Rattle.race_sweeps.proofs.guards.slot_of.Goals as goal
 

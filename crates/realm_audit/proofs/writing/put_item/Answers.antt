@@ -1,7 +1,7 @@
 use Rattle.std.proofs.Common.{subst}
 use Rattle.std.specs.Prelude.{codes}
 use Rattle.realm_io.specs.Written.{Wrote, Stopped}
-use Rattle.realm_io.proofs.WrittenLaws.{then_writes, stops, stopped_early, stopped_later}
+use Rattle.realm_io.proofs.Public.{stopped_early, stopped_later, then_writes, stops}
 use Rattle.realm_audit.proofs.writing.put_item.Goals as goal
 
 pub returns-in_err-put_bytes : goal.returns-in_err-put_bytes

@@ -1,4 +1,4 @@
-use Rattle.realm_io.proofs.WrittenLaws.{goes_on, breaks_off, stops}
+use Rattle.realm_io.proofs.Public.{stops, goes_on, breaks_off}
 use Rattle.realm_audit.proofs.WrittenItems.{items_left}
 use Rattle.realm_audit.proofs.writing.put_items.Goals as goal
 

@@ -1,5 +1,5 @@
 use Rattle.std.proofs.Common.{drop}
-use Rattle.realm_io.proofs.WrittenLaws.{Progress}
+use Rattle.realm_io.specs.Written.{Progress}
 use Rattle.realm_audit.specs.Text.{at_texts}
 use Rattle.realm_audit.proofs.writing.put_items.Given as goal
 

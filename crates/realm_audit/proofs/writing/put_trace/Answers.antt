@@ -1,5 +1,5 @@
 use Rattle.std.specs.Prelude.{codes}
-use Rattle.realm_io.proofs.WrittenLaws.{then_writes, stops, stopped_early, stopped_later}
+use Rattle.realm_io.proofs.Public.{stopped_early, stopped_later, then_writes, stops}
 use Rattle.realm_audit.proofs.writing.put_trace.Goals as goal
 
 pub returns-in_err-put_bytes : goal.returns-in_err-put_bytes

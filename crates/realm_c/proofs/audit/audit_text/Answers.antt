@@ -1,7 +1,7 @@
 use Rattle.std.proofs.Common.{subst}
 use Rattle.graph_words.specs.Text.{GraphText}
 use Rattle.realm_c.specs.Audits.{TraceSays}
-use Rattle.realm_c.specs.Refusals.{IsCheckRefusal}
+use Rattle.c_answers.specs.Refusals.{IsCheckRefusal}
 use Rattle.realm_c.proofs.Auditing.{text_says}
 use Rattle.realm_c.proofs.audit.audit_text.Goals as goal
 

@@ -1,6 +1,6 @@
 use Rattle.std.proofs.Common.{sym, subst, ap, inr, ◌∙◌}
 use Rattle.graph_meaning.specs.Need.{IsNeed}
-use Rattle.realm_c.specs.Refusals.{status_of}
+use Rattle.c_answers.specs.Refusals.{status_of}
 use Rattle.realm_c.proofs.check.realm_check.Goals as goal
 
 pub returns-in-Ok-clause-accepted : goal.returns-in-Ok-clause-accepted

@@ -1,5 +1,5 @@
 use Rattle.std.proofs.Common.{ap, inl, inr, ◌∙◌}
-use Rattle.realm_c.specs.Refusals.{status_of}
+use Rattle.c_answers.specs.Refusals.{status_of}
 use Rattle.realm_c.proofs.Handing.{holds, cut_is}
 use Rattle.realm_c.proofs.plan.realm_plan.Goals as goal
 

@@ -1,5 +1,5 @@
 use Rattle.std.proofs.Common.{ap, inr, ◌∙◌}
-use Rattle.realm_c.specs.Refusals.{status_of}
+use Rattle.c_answers.specs.Refusals.{status_of}
 use Rattle.realm_c.proofs.upgrade.realm_upgrade.Goals as goal
 
 pub returns-in-Err-clause-refused : goal.returns-in-Err-clause-refused

@@ -1,4 +1,4 @@
-use Rattle.std.proofs.Common.{◌≤◌, ◌∙◌, refl, inl, inr, arith}
+use Rattle.std.proofs.Common.{◌∙◌, refl, inl, inr, arith}
 use Rattle.realm_c.proofs.words.reason_word.Goals as goal
 
 pub returns-then-number-eq-TRACE-clause-some : goal.returns-then-number-eq-TRACE-clause-some

@@ -1,4 +1,4 @@
-use Rattle.graph_terms.proofs.ReleaseFacts.{lock_known}
+use Rattle.graph_terms.proofs.Public.{lock_known}
 use Rattle.realm_timeline.proofs.CostFacts.{verb_of}
 use Rattle.realm_timeline.proofs.cost.acquired.Goals as goal
 

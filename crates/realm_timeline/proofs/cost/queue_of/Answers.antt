@@ -1,5 +1,5 @@
 use Rattle.std.proofs.Common.{arith}
-use Rattle.graph_terms.proofs.ReleaseFacts.{lock_known}
+use Rattle.graph_terms.proofs.Public.{lock_known}
 use Rattle.realm_timeline.proofs.cost.queue_of.Goals as goal
 
 pub shared_queue-requires : goal.shared_queue-requires

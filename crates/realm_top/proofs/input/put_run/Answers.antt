@@ -1,5 +1,5 @@
 use Rattle.std.proofs.Common.{refl, sym, ◌∙◌, ap}
-use Rattle.realm_io.proofs.WrittenLaws.{writes_as}
+use Rattle.realm_io.proofs.Public.{writes_as}
 use Rattle.graph_answers.specs.Answer.{run_text}
 use Rattle.realm_top.proofs.MadeRequests.{summed_up, run_reports}
 use Rattle.realm_top.proofs.input.put_run.Goals as goal

@@ -1,6 +1,6 @@
 use Rattle.std.proofs.Common.{◌∙◌, sym}
 use Rattle.basics.specs.Words.{contents}
-use Rattle.explain_text.proofs.TextFacts.{puts_as}
+use Rattle.explain_text.proofs.Public.{puts_as}
 use Rattle.refusal_text.proofs.RefusalFacts.{advice_none, advice_some}
 use Rattle.refusal_text.proofs.conflict.put_advice.Goals as goal
 

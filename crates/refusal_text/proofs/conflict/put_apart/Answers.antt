@@ -2,7 +2,7 @@ use Rattle.std.proofs.Common.{◌∙◌, ap}
 use Rattle.std.specs.Prelude.{codes}
 use Rattle.basics.specs.Words.{contents}
 use Rattle.refusal_text.specs.Refused.{in_sections, pairs_text, have_pair, none_text}
-use Rattle.explain_text.proofs.TextFacts.{then_puts, puts_as, put_as}
+use Rattle.explain_text.proofs.Public.{put_as, puts_as, then_puts}
 use Rattle.refusal_text.proofs.conflict.put_apart.Goals as goal
 
 pub returns : goal.returns

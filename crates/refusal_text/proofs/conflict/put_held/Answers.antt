@@ -2,7 +2,7 @@ use Rattle.std.specs.Prelude.{codes}
 use Rattle.basics.specs.Words.{contents}
 use Rattle.explain_text.specs.Lines.{by_number}
 use Rattle.refusal_text.specs.Refused.{in_sections}
-use Rattle.explain_text.proofs.TextFacts.{then_puts}
+use Rattle.explain_text.proofs.Public.{then_puts}
 use Rattle.refusal_text.proofs.conflict.put_held.Goals as goal
 
 pub returns : goal.returns

@@ -3,7 +3,7 @@ use Rattle.std.specs.Prelude.{codes}
 use Rattle.basics.specs.Words.{contents}
 use Rattle.explain_text.specs.Lines.{by_number}
 use Rattle.refusal_text.specs.Refused.{lines_text}
-use Rattle.explain_text.proofs.TextFacts.{then_puts, puts_as}
+use Rattle.explain_text.proofs.Public.{puts_as, then_puts}
 use Rattle.refusal_text.proofs.RefusalFacts.{in_none, in_some}
 use Rattle.refusal_text.proofs.conflict.put_in_sections.Goals as goal
 

@@ -4,7 +4,7 @@ use Rattle.std.specs.Option.{option_map_or}
 use Rattle.graph_terms.specs.declared.verb.Line.{Line}
 use Rattle.explain_text.specs.Lines.{by_number}
 use Rattle.refusal_text.specs.Refused.{advice_by, on_of}
-use Rattle.explain_text.proofs.TextFacts.{then_puts, puts_as}
+use Rattle.explain_text.proofs.Public.{puts_as, then_puts}
 use Rattle.refusal_text.proofs.conflict.put_order.Goals as goal
 
 pub returns : goal.returns

@@ -1,6 +1,6 @@
 use Rattle.std.specs.Prelude.{codes}
 use Rattle.explain_text.specs.Lines.{by_number}
-use Rattle.explain_text.proofs.TextFacts.{then_puts}
+use Rattle.explain_text.proofs.Public.{then_puts}
 use Rattle.refusal_text.proofs.conflict.put_same.Goals as goal
 
 pub returns : goal.returns

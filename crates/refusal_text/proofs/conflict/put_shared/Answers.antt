@@ -3,7 +3,7 @@ use Rattle.std.specs.Prelude.{codes, decimal}
 use Rattle.graph_terms.specs.Spelling.{column_name}
 use Rattle.explain_text.specs.Lines.{by_number}
 use Rattle.refusal_text.specs.Refused.{mode_word}
-use Rattle.explain_text.proofs.TextFacts.{then_puts, put_as}
+use Rattle.explain_text.proofs.Public.{put_as, then_puts}
 use Rattle.refusal_text.proofs.conflict.put_shared.Goals as goal
 
 pub returns : goal.returns

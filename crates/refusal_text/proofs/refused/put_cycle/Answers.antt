@@ -3,7 +3,7 @@ use Rattle.std.specs.Prelude.{codes}
 use Rattle.basics.specs.Words.{contents}
 use Rattle.explain_text.specs.Lines.{numbered, edges_text}
 use Rattle.refusal_text.specs.Refused.{refused_one}
-use Rattle.explain_text.proofs.TextFacts.{then_puts, puts_as}
+use Rattle.explain_text.proofs.Public.{puts_as, then_puts}
 use Rattle.refusal_text.proofs.refused.put_cycle.Goals as goal
 
 pub returns : goal.returns

@@ -2,7 +2,7 @@ use Rattle.std.proofs.Common.{ap}
 use Rattle.std.specs.Prelude.{codes}
 use Rattle.basics.specs.Words.{contents}
 use Rattle.explain_text.specs.Lines.{edges_text}
-use Rattle.explain_text.proofs.TextFacts.{then_puts, puts_as}
+use Rattle.explain_text.proofs.Public.{puts_as, then_puts}
 use Rattle.refusal_text.proofs.refused.put_entered.Goals as goal
 
 pub returns : goal.returns

@@ -2,7 +2,7 @@ use Rattle.std.specs.Prelude.{codes}
 use Rattle.basics.specs.Words.{contents}
 use Rattle.explain_text.specs.Lines.{numbered}
 use Rattle.refusal_text.specs.Refused.{refused_one}
-use Rattle.explain_text.proofs.TextFacts.{then_puts}
+use Rattle.explain_text.proofs.Public.{then_puts}
 use Rattle.refusal_text.proofs.refused.put_release.Goals as goal
 
 pub returns : goal.returns

@@ -3,7 +3,7 @@ use Rattle.std.specs.Prelude.{Some}
 use Rattle.std.proofs.lemmas.List.{length-map}
 use Rattle.refused_words.specs.Limits.{limit_in}
 use Rattle.graph_reader.specs.Kinds.{HasPlaces, kind_draft}
-use Rattle.graph_reader.proofs.LineShapes.{places_there}
+use Rattle.graph_reader.proofs.Public.{places_there}
 use Rattle.refused_words.proofs.limits.of_form.Goals as goal
 
 pub of_kind-requires : goal.of_kind-requires

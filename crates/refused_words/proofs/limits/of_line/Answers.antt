@@ -3,7 +3,8 @@ use Rattle.std.specs.Prelude.{find}
 use Rattle.std.specs.Str.{bytes_eq}
 use Rattle.graph_terms.specs.declared.table.TheConstants.{KINDS}
 use Rattle.graph_words.specs.Draft.{form_of, is_of_form}
-use Rattle.graph_reader.proofs.LineShapes.{line_kind, found_passes}
+use Rattle.graph_reader.proofs.LineShapes.{line_kind}
+use Rattle.basics.proofs.TestedLists.{found_passes}
 use Rattle.refused_words.specs.Limits.{limit_in}
 use Rattle.refused_words.proofs.LimitFacts.{as_merge, as_mergei}
 use Rattle.refused_words.proofs.limits.of_line.Goals as goal

@@ -3,7 +3,7 @@ use Rattle.std.specs.Prelude.{is_some}
 use Rattle.std.proofs.lemmas.Option.{get_or_from_slice_get}
 use Rattle.graph_terms.specs.declared.verb.Line.{Line}
 use Rattle.graph_terms.specs.Graph.{is_phase_of}
-use Rattle.graph_terms.proofs.LastPlace.{last_place_here, last_place_below}
+use Rattle.graph_terms.proofs.Public.{last_place_here, last_place_below}
 use Rattle.refused_words.proofs.operations.has_phase.Goals as goal
 
 pub returns-then-is_phase_of : goal.returns-then-is_phase_of

@@ -1,7 +1,7 @@
 use Rattle.std.proofs.Common.{List, ℕ, Bor, length, drop, map, sym, ◌∙◌, ap, subst}
 use Rattle.std.proofs.lemmas.List.{length-map}
 use Rattle.graph_reader.specs.Kinds.{HasPlaces}
-use Rattle.graph_reader.proofs.LineShapes.{places_there}
+use Rattle.graph_reader.proofs.Public.{places_there}
 use Rattle.refused_words.proofs.outside.in_form.Goals as goal
 
 pub in_places-requires : goal.in_places-requires

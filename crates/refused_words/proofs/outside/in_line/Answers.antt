@@ -6,7 +6,8 @@ use Rattle.std.proofs.lemmas.Bool.{or_parts}
 use Rattle.basics.specs.Words.{contents}
 use Rattle.graph_terms.specs.declared.table.TheConstants.{KINDS}
 use Rattle.graph_words.specs.Draft.{form_of, is_of_form}
-use Rattle.graph_reader.proofs.LineShapes.{line_kind, found_passes}
+use Rattle.graph_reader.proofs.LineShapes.{line_kind}
+use Rattle.basics.proofs.TestedLists.{found_passes}
 use Rattle.refused_words.specs.Refused.{draft_accesses, leaves_column}
 use Rattle.refused_words.proofs.outside.in_line.Goals as goal
 

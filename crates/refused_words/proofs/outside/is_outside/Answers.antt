@@ -7,7 +7,7 @@ use Rattle.index_spaces.specs.Space.{IsWithin, has_point, points}
 use Rattle.graph_terms.specs.declared.verb.Mode.TheVariants.{Read}
 use Rattle.graph_terms.specs.Access.{access}
 use Rattle.graph_terms.specs.Graph.{space_at, columns}
-use Rattle.graph_terms.proofs.FaultLaws.{outside_is}
+use Rattle.graph_terms.proofs.Public.{outside_is}
 use Rattle.refused_words.proofs.UseFacts.{none_within}
 use Rattle.refused_words.proofs.outside.is_outside.Goals as goal
 

@@ -3,7 +3,7 @@ use Rattle.run_state.specs.Run.{end_so_far}
 use Rattle.run_state.specs.WholeLine.{holders_without}
 use Rattle.run_core.specs.Holders.{holders_by}
 use Rattle.run_core.specs.Kept.{shown_stage}
-use Rattle.run_core.specs.declared.progress.Progress.TheVariants.{Unissued}
+use Rattle.run_parts.specs.declared.progress.Progress.TheVariants.{Unissued}
 use Rattle.run_core.proofs.SourceFacts.{stage_read}
 use Rattle.run_core.proofs.HolderFacts.{acquire_known, frees_shown, lock_near, read_some, read_less, shown_less}
 use Rattle.run_core.proofs.holders.free.Goals as goal

@@ -2,7 +2,7 @@ use Rattle.std.proofs.Common.{◌<◌, ◌+◌, sym, ◌∙◌, ap, subst, lengt
 use Rattle.std.specs.Prelude.{Some}
 use Rattle.run_state.specs.Run.{stage_ended}
 use Rattle.run_core.specs.Kept.{shown_stage}
-use Rattle.run_core.specs.declared.progress.Progress.TheVariants.{Unissued}
+use Rattle.run_parts.specs.declared.progress.Progress.TheVariants.{Unissued}
 use Rattle.run_core.proofs.SourceFacts.{LeastOf, no_edge, source_known, stage_read, least_passed, least_found, least_is}
 use Rattle.run_core.proofs.sources.least_left.Goals as goal
 use Rattle.run_core.proofs.sources.least_left.Goals.{then-not-has_ended, else-not-has_ended}

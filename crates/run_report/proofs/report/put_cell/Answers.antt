@@ -1,5 +1,5 @@
 use Rattle.std.proofs.Common.{◌∷◌, [], ◌∙◌}
-use Rattle.realm_io.proofs.WrittenLaws.{then_writes, writes_as}
+use Rattle.realm_io.proofs.Public.{then_writes, writes_as}
 use Rattle.run_report.proofs.report.put_cell.Goals as goal
 
 pub returns : goal.returns

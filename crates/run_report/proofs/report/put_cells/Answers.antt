@@ -1,4 +1,4 @@
-use Rattle.realm_io.proofs.WrittenLaws.{stops, goes_on, breaks_off}
+use Rattle.realm_io.proofs.Public.{stops, goes_on, breaks_off}
 use Rattle.run_report.proofs.ReportRest.{cells_next}
 use Rattle.run_report.proofs.report.put_cells.Goals as goal
 

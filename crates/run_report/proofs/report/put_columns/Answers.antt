@@ -1,5 +1,5 @@
 use Rattle.std.proofs.Common.{◌++◌, ap, ◌∙◌, ◌+◌, drop}
-use Rattle.realm_io.proofs.WrittenLaws.{stops, goes_on, breaks_off}
+use Rattle.realm_io.proofs.Public.{stops, goes_on, breaks_off}
 use Rattle.run_report.specs.Report.{cells_texts, column_texts}
 use Rattle.run_report.proofs.ReportRest.{columns_left, column_named}
 use Rattle.run_report.proofs.report.put_columns.Goals as goal

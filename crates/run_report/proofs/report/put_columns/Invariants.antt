@@ -1,6 +1,6 @@
 use Rattle.std.proofs.Common.{drop}
 use Rattle.run_report.specs.Report.{column_texts}
-use Rattle.realm_io.proofs.WrittenLaws.{Progress}
+use Rattle.realm_io.specs.Written.{Progress}
 use Rattle.run_report.proofs.report.put_columns.Given as goal
 
 abbrev pub invariant-loop-c : goal.invariant-loop-c

@@ -1,4 +1,4 @@
-use Rattle.realm_io.proofs.WrittenLaws.{writes_as}
+use Rattle.realm_io.proofs.Public.{writes_as}
 use Rattle.run_report.proofs.Fitting.{outcome_fits, report_is}
 use Rattle.run_report.proofs.report.put_evaluation.Goals as goal
 

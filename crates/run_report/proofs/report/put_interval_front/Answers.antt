@@ -1,5 +1,5 @@
 use Rattle.std.proofs.Common.{◌∷◌, []}
-use Rattle.realm_io.proofs.WrittenLaws.{then_writes, stops, stopped_early, stopped_later}
+use Rattle.realm_io.proofs.Public.{stopped_early, stopped_later, then_writes, stops}
 use Rattle.std.specs.Prelude.{codes}
 use Rattle.run_report.proofs.report.put_interval_front.Goals as goal
 

@@ -1,6 +1,6 @@
 use Rattle.std.proofs.Common.{◌∷◌, ◌++◌, sym, subst, ◌≡◌, ◌+◌, ◌-◌, take, drop, ap, arith}
 use Rattle.realm_io.specs.Written.{Writes}
-use Rattle.realm_io.proofs.WrittenLaws.{then_writes, stops, stopped_early, stopped_later}
+use Rattle.realm_io.proofs.Public.{stopped_early, stopped_later, then_writes, stops}
 use Rattle.run_report.specs.Report.{interval_text}
 use Rattle.run_report.proofs.ReportRest.{interval_parts}
 use Rattle.run_report.proofs.report.put_interval_line.Goals as goal

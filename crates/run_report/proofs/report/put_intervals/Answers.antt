@@ -1,5 +1,6 @@
 use Rattle.std.proofs.Common.{◌∷◌, ◌++◌, sym, subst, ap, arith, ◌≡◌, ◌+◌, ◌-◌, ℕ, get_or, drop}
-use Rattle.realm_io.proofs.WrittenLaws.{stops, goes_on, breaks_off, Progress}
+use Rattle.realm_io.proofs.Public.{stops, goes_on, breaks_off}
+use Rattle.realm_io.specs.Written.{Progress}
 use Rattle.run_report.specs.Report.{cells_texts}
 use Rattle.run_report.proofs.ReportRest.{interval_here, cells_left}
 use Rattle.run_report.proofs.report.put_intervals.Goals as goal

@@ -1,7 +1,7 @@
 use Rattle.std.proofs.Common.{◌≡◌, ◌+◌, ◌∷◌, ◌++◌, drop}
 use Rattle.index_spaces.specs.Space.{space_size}
 use Rattle.run_report.specs.Report.{cells_texts}
-use Rattle.realm_io.proofs.WrittenLaws.{Progress}
+use Rattle.realm_io.specs.Written.{Progress}
 use Rattle.run_report.proofs.report.put_intervals.Given as goal
 
 abbrev pub invariant-loop-interval : goal.invariant-loop-interval

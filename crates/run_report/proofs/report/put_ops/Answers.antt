@@ -1,4 +1,4 @@
-use Rattle.realm_io.proofs.WrittenLaws.{goes_on, breaks_off, stops}
+use Rattle.realm_io.proofs.Public.{stops, goes_on, breaks_off}
 use Rattle.run_report.proofs.ReportRest.{ops_left}
 use Rattle.run_report.proofs.report.put_ops.Goals as goal
 

@@ -1,4 +1,4 @@
-use Rattle.realm_io.proofs.WrittenLaws.{then_writes, stops, stopped_early, stopped_later}
+use Rattle.realm_io.proofs.Public.{stopped_early, stopped_later, then_writes, stops}
 use Rattle.std.specs.Prelude.{codes}
 use Rattle.run_report.proofs.report.put_parts.Goals as goal
 

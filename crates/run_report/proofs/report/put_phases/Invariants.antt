@@ -1,6 +1,6 @@
 use Rattle.std.proofs.Common.{drop}
 use Rattle.run_report.specs.Report.{phase_texts}
-use Rattle.realm_io.proofs.WrittenLaws.{Progress}
+use Rattle.realm_io.specs.Written.{Progress}
 use Rattle.run_report.proofs.report.put_phases.Given as goal
 
 abbrev pub invariant-loop-i : goal.invariant-loop-i

@@ -1,6 +1,6 @@
 use Rattle.std.proofs.Common.{sym, subst}
 use Rattle.realm_io.specs.Written.{Writes}
-use Rattle.realm_io.proofs.WrittenLaws.{stopped_early, stopped_later, then_writes, stops}
+use Rattle.realm_io.proofs.Public.{stopped_early, stopped_later, then_writes, stops}
 use Rattle.run_report.proofs.WordLines.{one_word, first_word}
 use Rattle.run_report.proofs.words.+put_words.Goals as goal
 

@@ -11,10 +11,10 @@ pub returns-in-Over-clause-none : goal.returns-in-Over-clause-none
 returns-in-Over-clause-none c = rejoined_back c.args.seat.now c.attempt.new.seat c.in-Over.ensures.answer.4
 
 pub returns-in-Never-clause-none : goal.returns-in-Never-clause-none
-returns-in-Never-clause-none c = rejoined_back c.args.seat.now c.attempt.new.seat c.in-Never.ensures.answer.2
+returns-in-Never-clause-none c = rejoined_back c.args.seat.now c.attempt.new.seat c.in-Never.ensures.answer.1
 
 pub returns-in-NotYet-clause-none : goal.returns-in-NotYet-clause-none
-returns-in-NotYet-clause-none c = rejoined_back c.args.seat.now c.attempt.new.seat c.in-NotYet.ensures.answer.4
+returns-in-NotYet-clause-none c = rejoined_back c.args.seat.now c.attempt.new.seat c.in-NotYet.ensures.answer.1.2
 
 pub returns-in-Busy-clause-none : goal.returns-in-Busy-clause-none
-returns-in-Busy-clause-none c = rejoined_back c.args.seat.now c.attempt.new.seat c.in-Busy.ensures.answer.3
+returns-in-Busy-clause-none c = rejoined_back c.args.seat.now c.attempt.new.seat c.in-Busy.ensures.answer.1.3

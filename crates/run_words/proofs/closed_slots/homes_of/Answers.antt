@@ -6,7 +6,7 @@ use Rattle.std.specs.Slots.{slots_items, slots_filled}
 use Rattle.std.proofs.lemmas.Bool.{cases_eq}
 use Rattle.std.proofs.lemmas.List.{length-set}
 use Rattle.graph_terms.specs.Graph.{columns}
-use Rattle.run_core.proofs.MarkFacts.{set_get, set_get_other}
+use Rattle.run_words.proofs.SetFacts.{set_get, set_get_other}
 use Rattle.run_words.specs.declared.content.Content.TheVariants.{Cells}
 use Rattle.run_words.specs.Layout.{size_of}
 use Rattle.run_words.proofs.EmptyFacts.{column_taken, one_content, cells_are}

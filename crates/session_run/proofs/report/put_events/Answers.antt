@@ -1,4 +1,4 @@
-use Rattle.realm_io.proofs.WrittenLaws.{stops, goes_on, breaks_off}
+use Rattle.realm_io.proofs.Public.{stops, goes_on, breaks_off}
 use Rattle.session_run.specs.declared.running.RanGraph.{RanGraph}
 use Rattle.session_run.specs.Running.{linked_of}
 use Rattle.session_run.specs.Report.{event_texts}

@@ -1,6 +1,6 @@
 use Rattle.std.proofs.Common.{drop}
 use Rattle.std.specs.Prelude.{flat_map}
-use Rattle.realm_io.proofs.WrittenLaws.{Progress}
+use Rattle.realm_io.specs.Written.{Progress}
 use Rattle.session_run.specs.declared.running.RanGraph.{RanGraph}
 use Rattle.session_run.specs.Running.{linked_of}
 use Rattle.session_run.specs.Report.{event_texts}

@@ -1,6 +1,7 @@
 use Rattle.std.proofs.Common.{◌≡◌, ◌≤◌, ◌<◌, length, ◌∙◌, ap, subst, arith}
 use Rattle.graph_terms.specs.Graph.{GraphValue}
-use Rattle.realm_io.proofs.WrittenLaws.{Progress, stops, goes_on, breaks_off, finishes}
+use Rattle.realm_io.proofs.Public.{stops, goes_on, breaks_off, finishes}
+use Rattle.realm_io.specs.Written.{Progress}
 use Rattle.session_run.specs.Running.{linked_of}
 use Rattle.session_run.specs.Report.{event_texts}
 use Rattle.session_run.proofs.EventTexts.{event_next, events_over}

@@ -1,7 +1,7 @@
 use Rattle.std.proofs.Common.{drop, length}
 use Rattle.std.specs.Prelude.{flat_map}
 use Rattle.basics.specs.Lists.{numbers_below}
-use Rattle.realm_io.proofs.WrittenLaws.{Progress}
+use Rattle.realm_io.specs.Written.{Progress}
 use Rattle.session_run.specs.Running.{linked_of}
 use Rattle.session_run.specs.Report.{event_text, event_texts}
 use Rattle.session_run.proofs.report.put_graph_events.Given as goal

@@ -1,5 +1,5 @@
-use Rattle.graph_writer.proofs.WrittenLists.{flat_item}
-use Rattle.realm_io.proofs.WrittenLaws.{stops, goes_on, breaks_off}
+use Rattle.basics.proofs.ListParts.{flat_item}
+use Rattle.realm_io.proofs.Public.{stops, goes_on, breaks_off}
 use Rattle.session_run.specs.declared.running.RanGraph.{RanGraph}
 use Rattle.session_run.specs.Running.{linked_of}
 use Rattle.session_run.specs.Report.{graph_report}

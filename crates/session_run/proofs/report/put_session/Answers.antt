@@ -1,4 +1,4 @@
-use Rattle.realm_io.proofs.WrittenLaws.{then_writes, writes_as, stops, stopped_as, stopped_early, stopped_later}
+use Rattle.realm_io.proofs.Public.{stopped_early, stopped_later, then_writes, stops, writes_as, stopped_as}
 use Rattle.session_run.proofs.EventTexts.{report_is}
 use Rattle.session_run.proofs.report.put_session.Goals as goal
 

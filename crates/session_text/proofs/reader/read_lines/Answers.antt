@@ -5,7 +5,7 @@ use Rattle.graph_terms.specs.declared.why.Why.TheVariants as why
 use Rattle.graph_reader.specs.FirstFault.{first_line}
 use Rattle.graph_reader.specs.Reading.{after_line}
 use Rattle.graph_words.specs.Words.{pieces}
-use Rattle.graph_reader.proofs.LineSteps.{fewer_bytes}
+use Rattle.graph_reader.proofs.Public.{fewer_bytes}
 use Rattle.session_text.specs.SoFar.{entries_in}
 use Rattle.session_text.proofs.Steps.{few_lines, read_all, refused_rest, missing_line, is_refusal, line_at, begin_read}
 use Rattle.realm_audit.proofs.Fronts.{stripped}

@@ -2,7 +2,7 @@ use Rattle.std.proofs.Common.{sym, ◌∙◌, ap}
 use Rattle.graph_terms.specs.Graph.{decl_name}
 use Rattle.graph_terms.specs.declared.verb.Line.{Line}
 use Rattle.task_flow.specs.Construction.{takes_width}
-use Rattle.flow_order.proofs.Scans.{any_map_more}
+use Rattle.basics.proofs.ListParts.{any_map_more}
 use Rattle.task_flow.proofs.NameScan.{decl_takes, line_takes}
 use Rattle.task_flow.proofs.numbers.is_taken.Goals as goal
 

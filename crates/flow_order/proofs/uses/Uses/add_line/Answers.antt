@@ -6,7 +6,7 @@ use Rattle.graph_terms.specs.Graph.{columns}
 use Rattle.graph_terms.specs.Access.{accesses}
 use Rattle.flow_order.specs.Uses.{PutsUse}
 use Rattle.flow_order.proofs.AskSteps.{uses_next, uses_whole}
-use Rattle.flow_order.proofs.Scans.{got_beyond}
+use Rattle.basics.proofs.ListParts.{got_beyond}
 use Rattle.flow_order.proofs.uses.Uses.add_line.Goals as goal
 
 pub index_mut-requires : goal.index_mut-requires

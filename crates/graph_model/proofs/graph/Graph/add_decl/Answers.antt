@@ -8,7 +8,7 @@ use Rattle.graph_indexes.specs.Tables.{tables_of, tables_with, IsWithinLimits}
 use Rattle.graph_indexes.specs.Rows.{AreRowsOf}
 use Rattle.graph_indexes.specs.Counts.{counts_of}
 use Rattle.graph_terms.specs.Fits.{IsGraph, decl_fault, is_used, with_decl}
-use Rattle.graph_terms.proofs.GraphPush.{push_decl}
+use Rattle.graph_terms.proofs.Public.{push_decl}
 use Rattle.graph_model.proofs.Naming.{names_back, names_decl, unused_decl_name}
 use Rattle.graph_model.proofs.TableLaws.{limits_decl, tables_push}
 use Rattle.graph_model.proofs.RowLaws.{rows_decl}

@@ -2,7 +2,7 @@ use Rattle.std.proofs.Common.{◌<◌, length, subst, sym, ◌∙◌, ap}
 use Rattle.std.specs.Prelude.{slice_get}
 use Rattle.graph_terms.specs.Graph.{GraphValue, named_spaces}
 use Rattle.graph_indexes.specs.Tables.{TablesValue}
-use Rattle.graph_terms.proofs.GraphFacts.{column_space_known}
+use Rattle.graph_terms.proofs.Public.{column_space_known}
 use Rattle.graph_model.proofs.graph.Graph.column_space.Goals as goal
 
 pub space-requires : goal.space-requires

@@ -2,7 +2,7 @@ use Rattle.std.proofs.Common.{subst}
 use Rattle.std.specs.Prelude.{◌↔◌, IsTrue}
 use Rattle.index_spaces.specs.Space.{IsWithin}
 use Rattle.graph_terms.specs.Graph.{space_at}
-use Rattle.graph_terms.proofs.FaultLaws.{outside_is}
+use Rattle.graph_terms.proofs.Public.{outside_is}
 use Rattle.graph_model.proofs.graph.Graph.is_outside.Goals as goal
 
 pub returns : goal.returns

@@ -1,4 +1,4 @@
-use Rattle.graph_terms.proofs.GraphFacts.{barrier_known}
+use Rattle.graph_terms.proofs.Public.{barrier_known}
 use Rattle.graph_model.proofs.graph.Graph.phase_count.Goals as goal
 
 pub barrier-requires : goal.barrier-requires

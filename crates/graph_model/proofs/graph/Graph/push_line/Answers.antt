@@ -15,7 +15,7 @@ use Rattle.graph_indexes.specs.Tables.{IsWithinLimits}
 use Rattle.graph_indexes.specs.Rows.{EndsBelow, NamesBelow, AddsRow, AreRowsOf}
 use Rattle.graph_indexes.specs.Counts.{counts_of}
 use Rattle.graph_terms.specs.Fits.{IsGraph, line_fault, with_line}
-use Rattle.graph_terms.proofs.GraphPush.{push_line}
+use Rattle.graph_terms.proofs.Public.{push_line}
 use Rattle.graph_model.proofs.Naming.{names_back, names_line, unused_line_name}
 use Rattle.graph_model.proofs.TableLaws.{limits_line}
 use Rattle.graph_model.proofs.RowLaws.{rows_push, from_below, to_below, names_below}

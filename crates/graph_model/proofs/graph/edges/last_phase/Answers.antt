@@ -1,6 +1,6 @@
 use Rattle.std.proofs.Common.{◌≤◌, length, sym, ◌∙◌, arith}
 use Rattle.graph_terms.specs.Graph.{is_phase_of}
-use Rattle.graph_terms.proofs.LastPlace.{last_place_here, last_place_below}
+use Rattle.graph_terms.proofs.Public.{last_place_here, last_place_below}
 use Rattle.graph_model.proofs.graph.edges.last_phase.Goals as goal
 
 pub returns-then-is_phase_of : goal.returns-then-is_phase_of

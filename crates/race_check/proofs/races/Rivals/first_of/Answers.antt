@@ -1,13 +1,11 @@
-use Rattle.std.proofs.Common.{◌+◌, ◌≡◌, ap, ◌∙◌, arith, inl, inr, subst}
-use Rattle.std.specs.Int.{bit_at}
-use Rattle.std.proofs.lemmas.Bool.{cases_lt, ne_eqb}
-use Rattle.std.proofs.lemmas.Nat.Bits.{bit_at-zero}
+use Rattle.std.proofs.Common.{◌+◌, ◌≡◌, arith, inl, inr, subst}
+use Rattle.std.proofs.lemmas.Bool.{cases_lt}
 use Rattle.graph_meaning.specs.Rules.{RaceAt}
-use Rattle.race_sweeps.specs.Marks.{bit_in}
+use Rattle.race_check.proofs.RaceSteps.{no_bit}
 use Rattle.race_check.proofs.races.Rivals.first_of.Goals as goal
 
 pub returns-then-suspects-eq0 : goal.returns-then-suspects-eq0
-returns-then-suspects-eq0 c b h = c.suspects-suspects.ensures.free b (omega (arith, h, c.requires.limit)) (ap (λ z. bit_in z b) c.if-suspects-eq0.true ∙ ne_eqb (bit_at 0 b) 1 (λ one. (let z : bit_at 0 b ≡ 0 = bit_at-zero b in absurd (omega arith))))
+returns-then-suspects-eq0 c b h low = c.suspects-suspects.ensures.free b (omega (arith, h, c.requires.limit)) (no_bit c.suspects-suspects.result b c.if-suspects-eq0.true)
 
 pub returns-then-is_race : goal.returns-then-is_race
 returns-then-is_race c = record { below = c.loop-bit-test.true; here = c.is_race.ensures.race c.if-is_race.true; before = c.loop-bit.invariant.before }

@@ -1,18 +1,8 @@
-use Rattle.std.proofs.Common.{sym, ◌∙◌}
-use Rattle.std.proofs.lemmas.Bool.{true≢false, not-true, not-false}
+use Rattle.std.proofs.Common.{arith}
 use Rattle.race_check.proofs.races.Rivals.is_race.Goals as goal
 
-pub returns-then-not-has_bit-clause-free : goal.returns-then-not-has_bit-clause-free
-returns-then-not-has_bit-clause-free c h = c.requires.suspects.free c.args.bit c.requires.bit (sym c.has_bit.ensures ∙ c.if-not-has_bit.true)
-
-pub is_free-requires-clause-forward : goal.is_free-requires-clause-forward
-is_free-requires-clause-forward c = c.requires.suspects.forward c.args.bit c.requires.bit (sym c.has_bit.ensures ∙ c.if-not-has_bit.false)
-
-pub is_free-requires-clause-backward : goal.is_free-requires-clause-backward
-is_free-requires-clause-backward c = c.requires.suspects.backward c.args.bit c.requires.bit (sym c.has_bit.ensures ∙ c.if-not-has_bit.false)
-
 pub returns-clause-race : goal.returns-clause-race
-returns-clause-race c h r = true≢false (sym (c.is_free.ensures.1 r) ∙ not-true c.is_free.result h)
+returns-clause-race c h rule = c.is_rival.ensures.race h (λ x. rule (omega arith) x)
 
 pub returns-clause-free : goal.returns-clause-free
-returns-clause-free c h = c.is_free.ensures.0 (not-false c.is_free.result h)
+returns-clause-free c h low x = c.is_rival.ensures.free h x

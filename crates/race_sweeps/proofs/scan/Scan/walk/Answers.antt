@@ -11,9 +11,13 @@ loop-found-init c =
     let last = c.args.self.now.members.last.items in
     let listed = c.requires.listed.3 in
     let small : c.args.ask.class < length last = omega (arith, listed.lasts, c.requires.class) in
-    walk_begins c.args.graph.now t c.args.first c.args.ask (length c.args.self.now.members.earlier.items) c.index-found.result.now
-    (subst (λ m. IsLastBelow t.classes.items c.args.ask.class m c.index-found.result.now) (sym listed.members.size)
-    (subst (λ o. IsLastBelow t.classes.items c.args.ask.class c.requires.listed.0 o) (sym (get_or_read last c.args.ask.class c.index-found.result.now small c.index-found.ensures None)) (listed.members.last_is c.args.ask.class small)))
+    record {
+      size = c.requires.size;
+      noted = λ i h. h;
+      walking = walk_begins c.args.graph.now t c.args.racing.now.items c.args.first c.args.ask (length c.args.self.now.members.earlier.items) c.index-found.result.now
+          (subst (λ m. IsLastBelow t.classes.items c.args.ask.class m c.index-found.result.now) (sym listed.members.size)
+          (subst (λ o. IsLastBelow t.classes.items c.args.ask.class c.requires.listed.0 o) (sym (get_or_read last c.args.ask.class c.index-found.result.now small c.index-found.ensures None)) (listed.members.last_is c.args.ask.class small)));
+    }
 
 pub loop-found-preserved : goal.loop-found-preserved
 loop-found-preserved c =
@@ -23,10 +27,14 @@ loop-found-preserved c =
     let listed = c.requires.listed.3 in
     let found = c.loop-found.found in
     let m = c.in-Some.number in
-    let low = found_low g t c.args.first c.args.ask (length earlier) found c.loop-found.invariant m c.in-Some.is in
-    let class = found_class g t c.args.first c.args.ask (length earlier) found c.loop-found.invariant m c.in-Some.is in
-    walk_more g t c.args.first c.args.ask (length earlier) found c.loop-found.invariant m c.in-Some.is (c.is_settled.ensures c.if-not-is_settled.false) c.index-found-in-Some.result.now
-    (subst (λ o. IsLastBelow t.classes.items c.args.ask.class m o) (sym (get_or_read earlier m c.index-found-in-Some.result.now low c.index-found-in-Some.ensures None)) (listed.members.earlier_is m c.args.ask.class (omega (arith, low, listed.members.size)) class))
+    let low = found_low g t c.loop-found.racing.items c.args.first c.args.ask (length earlier) found c.loop-found.invariant.walking m c.in-Some.is in
+    let class = found_class g t c.loop-found.racing.items c.args.first c.args.ask (length earlier) found c.loop-found.invariant.walking m c.in-Some.is in
+    record {
+      size = c.settle.ensures.size;
+      noted = λ i h. c.settle.ensures.noted i (c.loop-found.invariant.noted i h);
+      walking = walk_more g t c.loop-found.racing.items c.args.first c.args.ask (length earlier) found c.loop-found.invariant.walking m c.in-Some.is c.settle.new.racing.items c.settle.ensures.noted c.settle.ensures.settled c.index-found-in-Some.result.now
+          (subst (λ o. IsLastBelow t.classes.items c.args.ask.class m o) (sym (get_or_read earlier m c.index-found-in-Some.result.now low c.index-found-in-Some.ensures None)) (listed.members.earlier_is m c.args.ask.class (omega (arith, low, listed.members.size)) class));
+    }
 
 pub loop-found-smaller : goal.loop-found-smaller
 loop-found-smaller c =
@@ -36,8 +44,8 @@ loop-found-smaller c =
     let listed = c.requires.listed.3 in
     let found = c.loop-found.found in
     let m = c.in-Some.number in
-    let low = found_low g t c.args.first c.args.ask (length earlier) found c.loop-found.invariant m c.in-Some.is in
-    let class = found_class g t c.args.first c.args.ask (length earlier) found c.loop-found.invariant m c.in-Some.is in
+    let low = found_low g t c.loop-found.racing.items c.args.first c.args.ask (length earlier) found c.loop-found.invariant.walking m c.in-Some.is in
+    let class = found_class g t c.loop-found.racing.items c.args.first c.args.ask (length earlier) found c.loop-found.invariant.walking m c.in-Some.is in
     let less = rest_less t.classes.items c.args.ask.class m c.index-found-in-Some.result.now
     (subst (λ o. IsLastBelow t.classes.items c.args.ask.class m o) (sym (get_or_read earlier m c.index-found-in-Some.result.now low c.index-found-in-Some.ensures None)) (listed.members.earlier_is m c.args.ask.class (omega (arith, low, listed.members.size)) class)) in
     subst (λ n. rest_of c.index-found-in-Some.result.now < n) (sym (ap rest_of c.in-Some.is)) less

@@ -1,6 +1,6 @@
 use Rattle.std.proofs.Common.{ℕ, true, List, ◌∙◌, ap}
 use Rattle.index_spaces.specs.Column.{ColumnValue}
-use Rattle.run_core.specs.declared.progress.Progress.TheVariants as progress
+use Rattle.run_parts.specs.declared.progress.Progress.TheVariants as progress
 use Rattle.run_core.proofs.TakenFacts.{staged_shown, claimed_core, claimed_takes, claimed_works}
 use Rattle.run_core.proofs.RestFacts.{with_core}
 use Rattle.run_core.proofs.run.Core.claim.Goals as goal

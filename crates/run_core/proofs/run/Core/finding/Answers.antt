@@ -3,7 +3,7 @@ use Rattle.run_state.specs.Quiet.{kept_cancels}
 use Rattle.run_core.specs.Steps.{HasSources, HasLock, IsKeptOut}
 use Rattle.run_core.specs.Holders.{holders_by}
 use Rattle.run_core.specs.Kept.{shown_stage}
-use Rattle.run_core.specs.declared.answers.Thing.TheVariants.{Lock, Column}
+use Rattle.run_parts.specs.declared.answers.Thing.TheVariants.{Lock, Column}
 use Rattle.run_core.proofs.FindFacts.{issued_here, stages_near, found_cancelled, found_busy, found_free}
 use Rattle.run_core.proofs.run.Core.finding.Goals as goal
 

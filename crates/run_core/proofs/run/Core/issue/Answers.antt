@@ -1,7 +1,7 @@
 use Rattle.std.proofs.Common.{◌<◌, length, refl, sym, subst, arith}
 use Rattle.std.proofs.lemmas.List.{length-map}
 use Rattle.run_core.specs.Kept.{shown_stage}
-use Rattle.run_core.specs.declared.progress.Progress.TheVariants as progress
+use Rattle.run_parts.specs.declared.progress.Progress.TheVariants as progress
 use Rattle.run_core.proofs.TakenFacts.{staged_shown}
 use Rattle.run_core.proofs.IssueFacts.{stages_differ, left_to_issue, issued_core, issued_answer, issued_works, full_answer}
 use Rattle.run_core.specs.Core.{IsCore}

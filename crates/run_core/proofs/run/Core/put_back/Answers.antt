@@ -11,7 +11,7 @@ use Rattle.run_core.specs.Core.{IsCore}
 use Rattle.run_core.specs.Events.{EventsValue}
 use Rattle.run_core.specs.Steps.{with_end, handle_at, fate_for}
 use Rattle.run_core.proofs.RestFacts.{with_trace}
-use Rattle.run_core.specs.declared.progress.Progress.TheVariants.{Ended}
+use Rattle.run_parts.specs.declared.progress.Progress.TheVariants.{Ended}
 use Rattle.run_core.specs.Kept.{shown_stage, places_of, frees_in, shown_core}
 use Rattle.run_core.specs.Works.{cells_in}
 use Rattle.run_core.proofs.CoreFacts.{handle_pending}

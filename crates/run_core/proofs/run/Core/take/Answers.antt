@@ -6,7 +6,7 @@ use Rattle.run_state.specs.Run.{is_listed, list_at}
 use Rattle.run_core.specs.Holders.{holders_by, AreHeld}
 use Rattle.run_core.specs.Steps.{with_run, HasLock}
 use Rattle.run_core.specs.Kept.{places_of, shown_core}
-use Rattle.run_core.specs.declared.progress.Progress.TheVariants.{Out}
+use Rattle.run_parts.specs.declared.progress.Progress.TheVariants.{Out}
 use Rattle.run_core.specs.Works.{WorkValue, IsWork}
 use Rattle.run_core.proofs.TakenFacts.{taken_shown, may_take_now, not_holding, taken_core, taken_kept, home_columns, taken_works, taken_takes, taken_keeps}
 use Rattle.run_core.proofs.RestFacts.{with_columns}

@@ -1,7 +1,8 @@
 use Rattle.std.proofs.Common.{◌≡◌, ◌<◌, true, ap, sym, ◌∙◌, subst, true≢false}
-use Rattle.graph_terms.proofs.ReleaseFacts.{one_release}
-use Rattle.run_core.specs.Resumed.{blank_state, over_at, stage_is_over}
-use Rattle.run_core.specs.declared.states.LineState.{LineState}
+use Rattle.graph_terms.proofs.Public.{one_release}
+use Rattle.run_parts.specs.Shown.{blank_state}
+use Rattle.run_core.specs.Resumed.{over_at, stage_is_over}
+use Rattle.run_parts.specs.declared.states.LineState.{LineState}
 use Rattle.run_core.proofs.OutcomeFacts.{any_default}
 use Rattle.run_core.proofs.HolderFacts.{acquire_known, line_acquires, line_releases}
 use Rattle.run_core.proofs.run.resume.held_until.Goals as goal

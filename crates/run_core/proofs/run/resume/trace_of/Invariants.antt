@@ -3,7 +3,7 @@ use Rattle.std.specs.Prelude.{Some, slice_get}
 use Rattle.std.specs.Vec.{vec_capacity}
 use Rattle.basics.specs.Lists.{count_below}
 use Rattle.run_core.specs.Resumed.{over_at, stage_is_over}
-use Rattle.run_core.specs.declared.states.LineState.{LineState}
+use Rattle.run_parts.specs.declared.states.LineState.{LineState}
 use Rattle.run_core.proofs.run.resume.trace_of.Given as goal
 
 abbrev pub invariant-loop-line : goal.invariant-loop-line

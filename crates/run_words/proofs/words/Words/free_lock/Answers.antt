@@ -4,8 +4,8 @@ use Rattle.basics.proofs.ListFacts.{contains_here}
 use Rattle.graph_terms.specs.Fits.{IsGraph}
 use Rattle.graph_terms.specs.Graph.{GraphValue, locks, is_shared}
 use Rattle.graph_terms.specs.declared.verb.Verb.TheVariants.{Acquire}
-use Rattle.graph_terms.proofs.VerbFacts.{verb_passes}
-use Rattle.line_effects.proofs.EffectFacts.{verb_is}
+use Rattle.graph_terms.proofs.Public.{verb_passes}
+use Rattle.line_effects.proofs.Public.{verb_is}
 use Rattle.run_words.specs.Claims.{Ground}
 use Rattle.run_words.specs.Rule.{ground_of}
 use Rattle.run_words.specs.Words.{graph_of, events_of}

@@ -1,4 +1,4 @@
-use Rattle.std.proofs.Common.{arith, ℕ, ◌<◌, ◌++◌, [], ◌∷◌, List, length, refl, ap, sym, subst, ◌∙◌}
+use Rattle.std.proofs.Common.{arith, ℕ, ◌<◌, ◌++◌, [], ◌∷◌, List, length, refl, ap, sym, subst, append_assoc, ◌∙◌}
 use Rattle.std.specs.Prelude.{Contains}
 use Rattle.std.proofs.lemmas.List.{append-nil}
 use Rattle.std.proofs.lemmas.List.Elements.{Contains-append_left, Contains-append_right}
@@ -7,7 +7,9 @@ use Rattle.basics.proofs.ListFacts.{contains_below, contains_here}
 use Rattle.basics.specs.Lists.{numbers_below}
 use Rattle.event_table.specs.declared.handle.Handle.{Handle}
 use Rattle.run_words.specs.Plays.{Sat, with_desk, after_issue}
+use Rattle.shared_events.specs.Views.{lists}
 use Rattle.run_words.proofs.Desking.{issue_chain}
+use Rattle.run_words.proofs.Growing.{grows_same}
 use Rattle.run_words.proofs.words.Words.issue.Goals as goal
 
 pub returns-in_default-clause-kept_issued : goal.returns-in_default-clause-kept_issued
@@ -69,6 +71,7 @@ returns-clause-grown c = λ i is.
         after = c.issue_in_turn-answer.new.desk;
         took = ap (λ (m : Sat). m.0.trays) all;
         gave = ap (λ (m : Sat). m.0.laid) all;
+        named = ap (λ (m : Sat). m.0.named) all ∙ append_assoc c.args.seat.now.inner.me.0.named _ _;
         tray = c.in-Some.ensures.tray.0;
         laid = c.issue_in_turn-answer.ensures.tray;
         count = g.0;
@@ -86,6 +89,7 @@ returns-clause-none_full c = λ is.
         after = c.issue_in_turn-answer.new.desk;
         took = ap (λ (m : Sat). m.0.trays) all;
         gave = ap (λ (m : Sat). m.0.laid) all;
+        named = ap (λ (m : Sat). m.0.named) all ∙ append_assoc c.args.seat.now.inner.me.0.named _ _;
         tray = c.in-Some.ensures.tray.0;
         laid = c.issue_in_turn-answer.ensures.tray;
         count = refl;
@@ -103,6 +107,7 @@ returns-clause-none_left c = λ is.
       after = c.issue_in_turn-answer.new.desk;
       took = ap (λ (m : Sat). m.0.trays) all;
       gave = ap (λ (m : Sat). m.0.laid) all;
+      named = ap (λ (m : Sat). m.0.named) all ∙ append_assoc c.args.seat.now.inner.me.0.named _ _;
       tray = c.in-Some.ensures.tray.0;
       laid = c.issue_in_turn-answer.ensures.tray;
       count = ap (λ (x : List Handle). length x) (sym r.1) ∙ r.0;
@@ -114,3 +119,6 @@ returns-in_default-clause-still c = λ _. let m = c.in_default.ensures.none in (
 
 pub returns-clause-still : goal.returns-clause-still
 returns-clause-still c = λ is. absurd (c.issue_in_turn-answer.ensures.not_other is)
+
+pub returns-in_default-clause-grows : goal.returns-in_default-clause-grows
+returns-in_default-clause-grows c = grows_same (lists c.args.seat.now.events)

@@ -6,10 +6,12 @@ use Rattle.run_words.specs.declared.view.View.{View}
 use Rattle.run_words.specs.Words.{graph_of}
 use Rattle.run_words.specs.Plays.{Sat}
 use Rattle.run_words.proofs.Turns.{sat}
+use Rattle.shared_events.specs.Views.{lists}
 use Rattle.run_words.proofs.Desking.{unchanged}
+use Rattle.run_words.proofs.Growing.{grows_same}
 use Rattle.run_words.proofs.words.Words.issue_in_turn.Goals as goal
-use Rattle.run_core.specs.declared.answers.Issue.{Issue}
-use Rattle.run_core.specs.declared.answers.Issue.TheVariants as answers
+use Rattle.run_parts.specs.declared.answers.Issue.{Issue}
+use Rattle.run_parts.specs.declared.answers.Issue.TheVariants as answers
 
 abbrev number_in : Issue → ℕ
 number_in (answers.Issued i) = i
@@ -32,3 +34,6 @@ returns-then-issue_next-clause-grown c = λ i q.
     let n = c.issue_next.ensures.issued c.if-issue_next.true in
     let k : c.len-line.result ≡ i = ap number_in q in
     (let e = c.len-line.ensures in omega (arith, k, e), n.0, n.1)
+
+pub returns-then-line-lines-clause-grows : goal.returns-then-line-lines-clause-grows
+returns-then-line-lines-clause-grows c = grows_same (lists c.args.events.now)

@@ -1,10 +1,8 @@
-use Rattle.std.proofs.Common.{ℕ, List, [], ◌∷◌, inl, inr, refl, sym, subst, ◌∙◌}
-use Rattle.std.specs.Prelude.{Contains}
-use Rattle.std.proofs.lemmas.List.Elements.{Contains-append_right}
-use Rattle.basics.proofs.ListFacts.{contains_here}
+use Rattle.std.proofs.Common.{ℕ, List, [], ◌∷◌, ◌++◌, inl, inr, refl, ap, sym, subst, ◌∙◌}
 use Rattle.shared_events.specs.Views.{lists, number_of}
 use Rattle.event_table.specs.declared.handle.Handle.{Handle}
 use Rattle.run_words.specs.Standing.{HasWaiter}
+use Rattle.run_words.proofs.Growing.{joined_bare, grows_then}
 use Rattle.run_words.proofs.Trays.{tray_same}
 use Rattle.run_words.proofs.words.Words.watch_for.Goals as goal
 
@@ -22,8 +20,7 @@ returns-in-Placed-clause-tray c = tray_same _ _ c.args.desk.now.handles.items c.
 
 pub returns-in-Placed-clause-told : goal.returns-in-Placed-clause-told
 returns-in-Placed-clause-told c =
-    inl (subst (λ (l : List (ℕ × Handle)). Contains l (number_of c.args.waiter, c.args.handle)) (sym c.in-Placed.ensures.told.1)
-    (Contains-append_right (lists c.join.new.seat).placed ((number_of c.args.waiter, c.args.handle) ∷ []) (number_of c.args.waiter, c.args.handle) (contains_here {X = ℕ × Handle} (number_of c.args.waiter, c.args.handle) [])))
+    inl (c.in-Placed.ensures.told.1 ∙ ap (λ (l : List (ℕ × Handle)). l ++ (number_of c.args.waiter, c.args.handle) ∷ []) (joined_bare (lists c.args.events.now).placed (lists c.split-more.result).placed (lists c.join.new.seat).placed c.join.ensures.placed c.split-more.ensures.bare.0))
 
 pub returns-in-Placed-clause-others : goal.returns-in-Placed-clause-others
 returns-in-Placed-clause-others c = λ k ne. refl
@@ -33,6 +30,7 @@ returns-in-Over-clause-others c = λ k ne. c.lay.ensures.others k (λ q. ne (q �
 
 pub returns-in-Over-clause-told : goal.returns-in-Over-clause-told
 returns-in-Over-clause-told c = inr (
+  c.in-Over.ensures.told.1 ∙ joined_bare (lists c.args.events.now).placed (lists c.split-more.result).placed (lists c.join.new.seat).placed c.join.ensures.placed c.split-more.ensures.bare.0,
   subst (λ n. HasWaiter n c.lay.new.desk) c.in-Over.ensures.told.2.0 c.lay.ensures.laid,
   inl (
     c.in-Over.field-0,
@@ -48,6 +46,7 @@ returns-in-Moved-clause-others c = λ k ne. c.lay-in-Moved.ensures.others k (λ 
 
 pub returns-in-Moved-clause-told : goal.returns-in-Moved-clause-told
 returns-in-Moved-clause-told c = inr (
+  c.in-Moved.ensures.told.1 ∙ joined_bare (lists c.args.events.now).placed (lists c.split-more.result).placed (lists c.join.new.seat).placed c.join.ensures.placed c.split-more.ensures.bare.0,
   subst (λ n. HasWaiter n c.lay-in-Moved.new.desk) c.in-Moved.ensures.told.2.0 c.lay-in-Moved.ensures.laid,
   inr (lists c.join.new.seat, (c.join.ensures.kept.0, (_, c.join.ensures.seen), (_, c.join.ensures.placed)), c.in-Moved.ensures.told.0),
 )
@@ -60,3 +59,21 @@ returns-in-Over-clause-kept c = (λ h s. c.in-Over.ensures.kept.0 h (c.join.ensu
 
 pub returns-in-Moved-clause-kept : goal.returns-in-Moved-clause-kept
 returns-in-Moved-clause-kept c = (λ h s. c.in-Moved.ensures.kept.0 h (c.join.ensures.kept.0.0 h s), λ h f k. c.in-Moved.ensures.kept.1 h f (c.join.ensures.kept.0.1 h f k))
+
+pub returns-in-Placed-clause-grows : goal.returns-in-Placed-clause-grows
+returns-in-Placed-clause-grows c = let j = c.join.ensures in grows_then (lists c.args.events.now) (lists c.join.new.seat) (lists c.watch.new.seat) ((_, j.seen), (_, j.known), (_, j.placed), (_, j.given), (_, j.emptied), (_, j.left), (_, j.saw), (_, j.past)) c.in-Placed.ensures.grows
+
+pub returns-in-Over-clause-grows : goal.returns-in-Over-clause-grows
+returns-in-Over-clause-grows c = let j = c.join.ensures in grows_then (lists c.args.events.now) (lists c.join.new.seat) (lists c.watch.new.seat) ((_, j.seen), (_, j.known), (_, j.placed), (_, j.given), (_, j.emptied), (_, j.left), (_, j.saw), (_, j.past)) c.in-Over.ensures.grows
+
+pub returns-in-Moved-clause-grows : goal.returns-in-Moved-clause-grows
+returns-in-Moved-clause-grows c = let j = c.join.ensures in grows_then (lists c.args.events.now) (lists c.join.new.seat) (lists c.watch.new.seat) ((_, j.seen), (_, j.known), (_, j.placed), (_, j.given), (_, j.emptied), (_, j.left), (_, j.saw), (_, j.past)) c.in-Moved.ensures.grows
+
+pub returns-in-Placed-clause-placed : goal.returns-in-Placed-clause-placed
+returns-in-Placed-clause-placed c = (c.args.handle, c.in-Placed.ensures.told.1 ∙ ap (λ (l : List (ℕ × Handle)). l ++ (number_of c.args.waiter, c.args.handle) ∷ []) (joined_bare (lists c.args.events.now).placed (lists c.split-more.result).placed (lists c.join.new.seat).placed c.join.ensures.placed c.split-more.ensures.bare.0))
+
+pub returns-in-Over-clause-placed : goal.returns-in-Over-clause-placed
+returns-in-Over-clause-placed c = c.in-Over.ensures.told.1 ∙ joined_bare (lists c.args.events.now).placed (lists c.split-more.result).placed (lists c.join.new.seat).placed c.join.ensures.placed c.split-more.ensures.bare.0
+
+pub returns-in-Moved-clause-placed : goal.returns-in-Moved-clause-placed
+returns-in-Moved-clause-placed c = c.in-Moved.ensures.told.1 ∙ joined_bare (lists c.args.events.now).placed (lists c.split-more.result).placed (lists c.join.new.seat).placed c.join.ensures.placed c.split-more.ensures.bare.0

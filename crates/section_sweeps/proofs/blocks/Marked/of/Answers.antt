@@ -1,7 +1,4 @@
-use Rattle.std.proofs.Common.{◌≡◌, ◌+◌, ◌<◌, ◌≤◌, length, subst, sym, ap, ◌∙◌, arith}
-use Rattle.std.specs.Prelude.{None, Some}
-use Rattle.std.specs.List.{slice_index_or}
-use Rattle.std.proofs.lemmas.List.{get_or_read}
+use Rattle.std.proofs.Common.{◌+◌, subst, sym, arith}
 use Rattle.section_sweeps.specs.Blocks.{IsMarked}
 use Rattle.section_sweeps.specs.Passing.{IsSized}
 use Rattle.section_sweeps.proofs.Blocking.{marked_none, marked_skip}

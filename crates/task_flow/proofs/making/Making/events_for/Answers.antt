@@ -4,7 +4,7 @@ use Rattle.std.proofs.lemmas.Result.{err_from_is_err_and}
 use Rattle.task_flow.specs.Construction.{events_for}
 use Rattle.task_flow.specs.Making.{made_of}
 use Rattle.task_flow.specs.declared.making.Stop.TheVariants.{Limit}
-use Rattle.flow_order.proofs.Scans.{drop_at}
+use Rattle.basics.proofs.ListParts.{drop_at}
 use Rattle.task_flow.proofs.Growth.{events_past, err_same}
 use Rattle.task_flow.proofs.making.Making.events_for.Goals as goal
 

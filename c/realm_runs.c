@@ -1,0 +1,104 @@
+/* The calls on runs and works: numbers are looked up in the table of handles, and the proved calls do the rest. No lock is held
+   here; what is entered is this call's alone. */
+#include "proved_calls.h"
+
+uint32_t realm_run_new(const uint8_t *text, size_t length, uint32_t slots, struct realm_run *out, struct realm_verdict *verdict) {
+    struct realm_entry *made;
+    *verdict = (struct realm_verdict){0};
+    uint32_t status = realm_reserve(&out->at, &made);
+    if (status) return status;
+    return realm_fill(made, KIND_RUN, proved_realm_run_new(text, length, slots, &made->held, verdict), &out->at);
+}
+
+uint32_t realm_run_issue(struct realm_run *run, uint32_t *line) {
+    struct realm_entry *entry;
+    uint32_t status = realm_enter(&run->at, KIND_RUN, &entry);
+    if (status) return status;
+    status = proved_realm_run_issue(&entry->held, line);
+    realm_leave(entry);
+    return status;
+}
+
+uint32_t realm_run_take(struct realm_run *run, uint32_t line, struct realm_work *out, uint32_t *other) {
+    struct realm_entry *entry, *made;
+    uint32_t status = realm_enter(&run->at, KIND_RUN, &entry);
+    if (status) return status;
+    status = realm_reserve(&out->at, &made);
+    if (status == REALM_DID) {
+        made->run = realm_number(entry);
+        status = realm_fill(made, KIND_WORK, proved_realm_run_take(&entry->held, line, &made->held, other), &out->at);
+    }
+    realm_leave(entry);
+    return status;
+}
+
+uint32_t realm_work_perform(struct realm_work *work) {
+    struct realm_entry *entry;
+    uint32_t status = realm_enter(&work->at, KIND_WORK, &entry);
+    if (status) return status;
+    status = proved_realm_work_perform(&entry->held);
+    realm_leave(entry);
+    return status;
+}
+
+/* Puts work back that is entered, into a run that is entered. Work that is of another run is not put back. */
+static uint32_t put_back(struct realm_entry *run, struct realm_entry *work) {
+    if (work->run != realm_number(run)) return REALM_MISUSE_OTHER_RUN;
+    return proved_realm_run_put_back(&run->held, &work->held);
+}
+
+uint32_t realm_run_put_back(struct realm_run *run, struct realm_work *work) {
+    struct realm_entry *into, *of;
+    uint32_t status = realm_enter_both(&run->at, KIND_RUN, &into, &work->at, KIND_WORK, &of);
+    if (status) return status;
+    status = put_back(into, of);
+    if (status == REALM_DID) realm_release(of, &work->at);
+    else realm_leave(of);
+    realm_leave(into);
+    return status;
+}
+
+uint32_t realm_run_woken(struct realm_run *run, uint32_t *line) {
+    struct realm_entry *entry;
+    uint32_t status = realm_enter(&run->at, KIND_RUN, &entry);
+    if (status) return status;
+    status = proved_realm_run_woken(&entry->held, line);
+    realm_leave(entry);
+    return status;
+}
+
+uint32_t realm_run_state(struct realm_run *run, struct realm_run_lines *lines) {
+    struct realm_entry *entry;
+    *lines = (struct realm_run_lines){0};
+    uint32_t status = realm_enter(&run->at, KIND_RUN, &entry);
+    if (status) return status;
+    status = proved_realm_run_state(&entry->held, lines);
+    realm_leave(entry);
+    return status;
+}
+
+uint32_t realm_run_report(struct realm_run *run, uint8_t *out, size_t room, uint64_t *written) {
+    struct realm_entry *entry;
+    *written = 0;
+    uint32_t status = realm_enter(&run->at, KIND_RUN, &entry);
+    if (status) return status;
+    status = proved_realm_run_report(&entry->held, out, room, written);
+    realm_leave(entry);
+    return status;
+}
+
+/* Frees what a handle holds, by the proved call for its kind. */
+static uint32_t let_go(uint64_t *handle, uint32_t kind, void (*end)(struct proved_held *)) {
+    struct realm_entry *entry;
+    uint32_t status = realm_enter(handle, kind, &entry);
+    if (status) return status;
+    end(&entry->held);
+    realm_release(entry, handle);
+    return REALM_DID;
+}
+
+uint32_t realm_run_free(struct realm_run *run) { return let_go(&run->at, KIND_RUN, proved_realm_run_free); }
+
+uint32_t realm_work_free(struct realm_work *work) { return let_go(&work->at, KIND_WORK, proved_realm_work_free); }
+
+const char *realm_version(void) { return REALM_VERSION; }

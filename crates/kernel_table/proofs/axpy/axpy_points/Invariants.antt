@@ -1,8 +1,0 @@
-use Rattle.std.proofs.Common.{◌+◌, ◌*◌, take}
-use Rattle.index_spaces.specs.Column.{cell_of}
-use Rattle.graph_meaning.specs.Effect.{wrapped}
-use Rattle.kernel_table.proofs.Runs.{WritesSoFar}
-use Rattle.kernel_table.proofs.axpy.axpy_points.Given as goal
-
-abbrev pub invariant-loop-interval : goal.invariant-loop-interval
-invariant-loop-interval l = WritesSoFar l.fn.y l.over l.cells.items (take l.interval-index l.interval-items) (λ p. wrapped (cell_of l.fn.y p + wrapped (l.factor * cell_of l.x p)))

@@ -1,0 +1,30 @@
+-- Lines that race with none, by the lines that are noted.
+use Rattle.std.proofs.Common.{◌≡◌, ℕ, ◌+◌, ◌-◌, ◌<◌, ◌≤◌, Bool, true, false, inl, inr, List, length, sym, ◌∙◌, subst, arith}
+use Rattle.std.proofs.lemmas.Bool.{true≢false, cases_lt}
+use Rattle.std.proofs.lemmas.List.{get_or_past}
+use Rattle.graph_terms.specs.Graph.{GraphValue}
+use Rattle.graph_meaning.specs.Rules.{Everywhere, EverywhereTwice, RaceAt}
+use Rattle.race_sweeps.specs.Settled.{AreEnough, IsSettled, is_noted}
+
+pub noted_below : (racing : List Bool) (n r : ℕ) → length racing ≡ n → is_noted racing r ≡ true → r < n
+noted_below racing n r size noted = elim (cases_lt r n) [
+  | inl low ↦ low
+  | inr up ↦ absurd (true≢false (sym noted ∙ get_or_past racing r false (omega arith)))
+]
+
+pub all_free : (g : GraphValue) (racing : List Bool) (n k : ℕ) → length racing ≡ n → AreEnough g racing → ((r : ℕ) → r < n → is_noted racing r ≡ true → IsSettled g r k) → Everywhere (RaceAt g k)
+all_free g racing n k size enough settled j low c = enough k (λ r noted. settled r (noted_below racing n r size noted) noted) j c
+
+pub none_noted : (g : GraphValue) (racing : List Bool) (n : ℕ) → length racing ≡ n → AreEnough g racing → ((r : ℕ) → 0 ≤ r → r < n → is_noted racing r ≡ false) → EverywhereTwice (RaceAt g)
+none_noted g racing n size enough none k = all_free g racing n k size enough (λ r low noted. absurd (true≢false (sym noted ∙ none r (omega arith) low)))
+
+-- where each line of a block that is noted is settled with the lines before a number
+pub free_more : (g : GraphValue) (racing : List Bool) (first old new : ℕ) → new ≤ old → ((k r : ℕ) → k < old → r < first → is_noted racing r ≡ true → IsSettled g r k)
+    → ((k r : ℕ) → k < new → first ≤ r → r < first + 64 → is_noted racing r ≡ true → IsSettled g r k) → (k r : ℕ) → k < new → r < first + 64 → is_noted racing r ≡ true → IsSettled g r k
+free_more g racing first old new few before here k r low end noted = elim (cases_lt r first) [
+  | inl l ↦ before k r (omega arith) l noted
+  | inr up ↦ here k r low up end noted
+]
+
+pub free_block : (g : GraphValue) (racing : List Bool) (first n : ℕ) → ((k b : ℕ) → k < n → b < 64 → is_noted racing (first + b) ≡ true → IsSettled g (first + b) k) → (k r : ℕ) → k < n → first ≤ r → r < first + 64 → is_noted racing r ≡ true → IsSettled g r k
+free_block g racing first n settled k r low begins ends = subst (λ z. is_noted racing z ≡ true → IsSettled g z k) (let e : first + (r - first) ≡ r = omega arith in e) (settled k (r - first) low (omega arith))

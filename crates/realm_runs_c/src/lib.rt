@@ -1,0 +1,9 @@
+//! Runs of graphs, for callers in C, whose threads perform the lines.
+#![tactic(auto)]
+
+mod held;
+mod inside;
+mod run;
+mod running;
+mod starting;
+mod token;

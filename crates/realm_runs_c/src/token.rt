@@ -1,0 +1,47 @@
+//! What a handle of a run or of a line's work holds.
+
+ghost use Rattle.std.specs.Prelude.{◌≡◌};
+ghost use Rattle.std.specs.Arc.{arc_value};
+ghost use Rattle.graph_meaning.specs.Evaluation.{outcome};
+
+use crate::run::Run;
+use graph_terms::outcome::Outcome;
+use race_check::checked::Checked;
+use run_core::{Finished, Work};
+use std::alloc::Global;
+use std::sync::Arc;
+
+/// What a handle holds. `Empty` stands for a moment alone, while the value moves.
+#[derive(Drop)]
+pub enum Token {
+    Run(Run),
+    Taken(Taken),
+    Finished(Finished),
+    Over(Over),
+    Empty,
+}
+
+/// The work of a line that was taken, with the graph that it is of.
+#[derive(Drop)]
+pub struct Taken {
+    pub work: Work,
+    pub graph: Arc<Checked, Global>,
+}
+
+/// A run that has come to its end.
+#[derive(Drop)]
+pub struct Over {
+    pub graph: Arc<Checked, Global>,
+    pub found: Outcome,
+    ghost evaluated: { found ≡ outcome (arc_value graph).graph found.trace },
+}
+
+fn is_send<T: Send>() {}
+
+/// Each kind may go to another thread. It does nothing: it is well typed where that is proved.
+pub(crate) fn may_cross() {
+    is_send::<Run>();
+    is_send::<Taken>();
+    is_send::<Finished>();
+    is_send::<Over>();
+}

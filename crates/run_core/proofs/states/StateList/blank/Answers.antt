@@ -1,4 +1,0 @@
-use Rattle.run_core.proofs.states.StateList.blank.Goals as goal
-
-pub returns : goal.returns
-returns c = c.in_ok-filled.ensures.items

@@ -1,0 +1,103 @@
+-- The laws that the proofs of other crates cite, as specs/ states them.
+use Rattle.run_state.specs.Laws.{ListedIsContained, ContainedIsListed, FirstIsListed, RestIsListed, ListedByCases, NothingListed, ListedWithoutOne, OthersStayListed, InsertedIsListed, ListedStaysInserted, InsertedByCases, OutHasStarted, OverHasStarted, EndedIsOver, OutHasNotEnded, IssuedLinesHaveStage, StartedLinesAreBelowEnd, StartedLinesEnd, KeptEndIsEvaluated, EndedHasStarted, PathsFromEnded, CancelledBySources, AccessedColumnsAreDeclared, ColumnsAccessedOnce, ListedAtEndByCases, ListedStaysWithMore, OnceWithAnother, PlacedIsListed, ValueOfArrival, ReservationOfAcquire, AccessedColumnsAreListed}
+use Rattle.run_state.proofs.Lists as lists
+use Rattle.std.specs.Prelude.{List}
+use Rattle.graph_terms.specs.Graph.{GraphValue}
+use Rattle.run_state.specs.Run.{LineStage}
+use Rattle.run_state.proofs.Started as started
+use Rattle.run_state.proofs.Known as known
+use Rattle.run_state.proofs.Phases as phases
+use Rattle.run_state.proofs.WholeLine as whole_line
+
+pub listed_contains : ListedIsContained
+listed_contains = lists.listed_contains
+
+pub contains_listed : ContainedIsListed
+contains_listed = lists.contains_listed
+
+pub listed_here : FirstIsListed
+listed_here = lists.listed_here
+
+pub listed_there : RestIsListed
+listed_there = lists.listed_there
+
+pub listed_cases : ListedByCases
+listed_cases = lists.listed_cases
+
+pub none_listed : NothingListed
+none_listed = lists.none_listed
+
+pub listed_without : ListedWithoutOne
+listed_without = lists.listed_without
+
+pub without_listed : OthersStayListed
+without_listed = lists.without_listed
+
+pub inserted_here : InsertedIsListed
+inserted_here = lists.inserted_here
+
+pub inserted_there : ListedStaysInserted
+inserted_there = lists.inserted_there
+
+pub inserted_cases : InsertedByCases
+inserted_cases = lists.inserted_cases
+
+pub out_started : OutHasStarted
+out_started = lists.out_started
+
+pub over_started : OverHasStarted
+over_started = lists.over_started
+
+pub ended_over : EndedIsOver
+ended_over = lists.ended_over
+
+pub out_not_ended : OutHasNotEnded
+out_not_ended = lists.out_not_ended
+
+pub stage_there : IssuedLinesHaveStage
+stage_there = lists.stage_there
+
+pub started_below : {g : GraphValue} {stages : List LineStage} → StartedLinesAreBelowEnd g stages
+started_below = started.started_below
+
+pub started_ends : {g : GraphValue} {stages : List LineStage} → StartedLinesEnd g stages
+started_ends = started.started_ends
+
+pub kept_is : {g : GraphValue} {stages : List LineStage} → KeptEndIsEvaluated g stages
+kept_is = started.kept_is
+
+pub ended_started : EndedHasStarted
+ended_started = started.ended_started
+
+pub path_ended : {g : GraphValue} {stages : List LineStage} → PathsFromEnded g stages
+path_ended = started.path_ended
+
+pub cancelled_iff : CancelledBySources
+cancelled_iff = started.cancelled_iff
+
+pub column_there : {g : GraphValue} → AccessedColumnsAreDeclared g
+column_there = known.column_there
+
+pub columns_once : ColumnsAccessedOnce
+columns_once = known.columns_once
+
+pub listed_push : ListedAtEndByCases
+listed_push = phases.listed_push
+
+pub push_listed : ListedStaysWithMore
+push_listed = phases.push_listed
+
+pub once_push : OnceWithAnother
+once_push = phases.once_push
+
+pub got_listed : PlacedIsListed
+got_listed = phases.got_listed
+
+pub value_here : ValueOfArrival
+value_here = phases.value_here
+
+pub acquires_lock : ReservationOfAcquire
+acquires_lock = whole_line.acquires_lock
+
+pub accessed_listed : AccessedColumnsAreListed
+accessed_listed = whole_line.accessed_listed

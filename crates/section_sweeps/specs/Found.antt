@@ -1,0 +1,31 @@
+-- What is found of the sections of a graph: where the lines lie, or which acquires may break a rule.
+use Rattle.std.specs.Prelude.{◌≡◌, ℕ, ◌<◌, Bool, false, List, length, slice_index}
+use Rattle.graph_terms.specs.Graph.{GraphValue}
+use Rattle.graph_terms.specs.Reservations.{Acquires, Releases}
+use Rattle.graph_meaning.specs.Rules.{ReleasedAt, SectionAt, DescendsAt}
+use Rattle.race_sweeps.specs.Settled.{is_noted}
+use Rattle.section_sweeps.specs.declared.found.Found.{Found}
+use Rattle.section_sweeps.specs.declared.found.Sections.{Sections}
+use Rattle.section_sweeps.specs.declared.found.Sections.TheVariants.{Kept, Doubted}
+use Rattle.section_sweeps.specs.Sections.{AreSections, AreHeldSoFar, IsSectionKept}
+
+-- the rules of sections hold of an acquire
+pub record IsSound (g : GraphValue) (q : ℕ) : Type 0 where
+  pub released : ReleasedAt g q
+  pub sections : (r j : ℕ) → Releases g r q → SectionAt g r j
+  pub descends : (j : ℕ) → DescendsAt g q j
+
+-- they hold of each acquire that is not doubted
+abbrev pub AreDoubted : GraphValue → List Bool → Type 0
+AreDoubted g doubted = (q l : ℕ) → Acquires g q l → is_noted doubted q ≡ false → IsSound g q
+
+abbrev pub AreSectionsFound : GraphValue → Sections → Type 0
+AreSectionsFound g (Kept held) = AreSections g held
+AreSectionsFound g (Doubted doubted) = (length doubted.items ≡ length g.lines) × AreDoubted g doubted.items
+
+-- the sections of the acquires before place m are kept, or the acquires are doubted
+pub record AreFound (g : GraphValue) (places : List ℕ) (f : Found) (m : ℕ) : Type 0 where
+  pub size : length f.doubted.items ≡ length g.lines
+  pub held : AreHeldSoFar g f.held
+  pub kept : (q l : ℕ) → Acquires g q l → slice_index places q < m → is_noted f.doubted.items q ≡ false → IsSectionKept g f.held q
+  pub sure : f.is_doubted ≡ false → (q : ℕ) → is_noted f.doubted.items q ≡ false

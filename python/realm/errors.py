@@ -1,0 +1,58 @@
+"""What calls raise."""
+
+from __future__ import annotations
+
+from ._library import DONE, LIB, MISUSE, NO_MEMORY, text_of
+
+
+class Refused(Exception):
+    """A text or a number that is refused."""
+
+    status: int
+    """The number of the program's exit status."""
+    reason: str
+    """Why, in words."""
+    line: int | None
+    """The line of the text, from 1, that is refused, or that of the first operation at which a rule is broken."""
+    operations: tuple[int, ...]
+    """The operations that are told, counted from 0."""
+
+    def __init__(self, status: int, reason: str, line: int | None = None, operations: tuple[int, ...] = (), text: bytes | None = None):
+        super().__init__(status, reason)
+        self.status, self.reason, self.line, self.operations, self._text = status, reason, line, operations, text
+
+    def __str__(self) -> str:
+        return self.reason
+
+    @property
+    def explanation(self) -> str:
+        """What `realm.explain` says of the text. Empty where no graph's text was refused."""
+        if self._text is None:
+            return ""
+        status, found = text_of(LIB.realm_explain, self._text, len(self._text))
+        if status == NO_MEMORY:
+            raise MemoryError
+        return (found or b"").decode(errors="replace")
+
+
+class Misuse(RuntimeError):
+    """A call that is not used as its page says. Nothing was changed by it."""
+
+    status: int
+    """The number of realm_misuse."""
+
+    def __init__(self, status: int):
+        found = text_of(LIB.realm_run_message, status)[1]
+        super().__init__((found or f"misuse {status}".encode()).decode())
+        self.status = status
+
+
+def checked(status: int, *others: int) -> int:
+    """The status, where it is DONE or one of these others. Raises what it says else."""
+    if status in (DONE, *others):
+        return status
+    if status == NO_MEMORY:
+        raise MemoryError
+    if status >= MISUSE:
+        raise Misuse(status)
+    raise AssertionError(f"status {status}")

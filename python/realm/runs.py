@@ -1,0 +1,114 @@
+"""Runs of graphs by threads."""
+
+from __future__ import annotations
+
+import ctypes
+from dataclasses import dataclass
+from typing import AnyStr
+
+from ._library import DONE, LIB, U32, Handle, Lines, Verdict, text_of
+from .errors import checked
+from .texts import bytes_of, like, refused, within
+
+NOT_YET, BUSY_LOCK, BUSY_COLUMN, NONE, FULL, OVER, NEVER = 1, 2, 3, 4, 5, 9, 10
+
+
+@dataclass(frozen=True)
+class State:
+    """How many operations of a run are where. `left` are those that have not ended and that come."""
+
+    unissued: int
+    issued: int
+    out: int
+    ended: int
+    left: int
+
+
+class Work:
+    """An operation that was taken. It is performed once, by any thread, and then put back; a thread performs it beside the others."""
+
+    def __init__(self, run: Run, handle: Handle, line: int):
+        self._run, self._handle, self.line = run, handle, line
+
+    def perform(self) -> None:
+        """Performs the operation."""
+        checked(LIB.realm_work_perform(self._handle))
+
+    def put_back(self) -> None:
+        """Puts the operation back into its run, where it ends."""
+        checked(LIB.realm_run_put_back(self._run._handle, self._handle))
+
+    def __del__(self):
+        if LIB is not None and self._handle.at:
+            LIB.realm_work_free(self._handle)
+
+
+class Run:
+    """A run of a graph, with so many event slots; 0 is as many as needed, and 256 at least. Raises Refused where the graph is not accepted.
+
+    `perform_all` does all by threads of the library's own. Else threads of the program's issue, take and put back one at a time, under a lock
+    of theirs. Whatever they do, the report is that of `evaluate`. A run may be a context, and is freed behind it.
+    """
+
+    def __init__(self, text: str | bytes, slots: int = 0):
+        self._handle, self._text = Handle(), text
+        given, verdict = bytes_of(text), Verdict()
+        status = LIB.realm_run_new(given, len(given), within(slots, 0, 2**32 - 1), self._handle, ctypes.byref(verdict))
+        if status != DONE:
+            raise refused(status, verdict, given)
+
+    def perform_all(self, threads: int = 4) -> None:
+        """Performs all that can be performed on 1 to 8 threads, with the calling one."""
+        checked(LIB.realm_run_all(self._handle, within(threads, 0, 8)))
+
+    def issue(self) -> int | None:
+        """Issues the next operation of the text: its number. None where all are issued, or no slot is free."""
+        line = U32()
+        return line.value if checked(LIB.realm_run_issue(self._handle, line), NONE, FULL) == DONE else None
+
+    def take(self, line: int) -> Work | None:
+        """Takes an issued operation. None where it can't be taken now: it waits, is busy, is out, has ended, or never comes."""
+        work, other = Handle(), U32()
+        status = checked(
+            LIB.realm_run_take(self._handle, within(line, 0, 2**32 - 1), work, other), NOT_YET, BUSY_LOCK, BUSY_COLUMN, OVER, NEVER
+        )
+        return Work(self, work, line) if status == DONE else None
+
+    def woken(self) -> int | None:
+        """An operation that waited for one that has ended, each once. None where there is none."""
+        line = U32()
+        return line.value if checked(LIB.realm_run_woken(self._handle, line), NONE) == DONE else None
+
+    def state(self) -> State:
+        """How many operations are where."""
+        lines = Lines()
+        checked(LIB.realm_run_state(self._handle, lines))
+        return State(*(getattr(lines, name) for name, _ in Lines._fields_))
+
+    def report(self) -> str | bytes:
+        """Does what is left on this thread, and gives the report, of the type of the graph's text. It may be asked for again."""
+        status, found = text_of(LIB.realm_run_report, self._handle)
+        checked(status)
+        return like(self._text, found)
+
+    def free(self) -> None:
+        """Frees the run. Nothing else is done with it from then on."""
+        checked(LIB.realm_run_free(self._handle))
+
+    def __enter__(self) -> Run:
+        return self
+
+    def __exit__(self, *raised: object) -> None:
+        if self._handle.at:
+            self.free()
+
+    def __del__(self):
+        if LIB is not None and self._handle.at:
+            LIB.realm_run_free(self._handle)
+
+
+def run(text: AnyStr, threads: int = 4, slots: int = 0) -> AnyStr:
+    """The report of a run by 1 to 8 threads. It is that of `evaluate`. Raises Refused where the graph is not accepted."""
+    with Run(text, slots) as held:
+        held.perform_all(threads)
+        return held.report()
