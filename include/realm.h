@@ -6,7 +6,7 @@
    lost. That is tested, not proved. What nothing checks, and the program must keep:
    - pointers are not null, even where a length is 0; text may be read for length bytes, out written for room bytes; text, out,
      written, verdict and what else a call is given are apart, and nobody else reads or writes them during the call;
-   - a struct that a call fills is of zero bytes at first, or as a call left it;
+   - a `struct realm_run` or `struct realm_work` is of zero bytes at first, or as a call left it; a verdict may hold anything;
    - malloc, realloc and free are those of one allocator, and its blocks are aligned to 16 bytes. No call is made from a signal
      handler, nor in a child that a process with threads has forked.
    Calls on texts have nothing in common, so threads may make them at one time. Each is tried in a program with 64 KiB of
@@ -154,12 +154,12 @@ uint32_t realm_run_report(struct realm_run *run, uint8_t *out, size_t room, uint
 uint32_t realm_run_free(struct realm_run *run);
 uint32_t realm_work_free(struct realm_work *work);
 
-/* Why a graph is refused, or of an accepted one what it needs: a line in words. It is tested, not proved, as are the messages below.
-   DONE, NO_ROOM, NO_MEMORY, TOO_LONG. */
+/* What the program realm-explain writes of the text, for people: of a text that is refused where and why it is, and of an accepted
+   graph what it needs and why operations wait. DONE whether or not the text is accepted; NO_ROOM, NO_MEMORY, TOO_LONG. */
 uint32_t realm_explain(const uint8_t *text, size_t length, uint8_t *out, size_t room, uint64_t *written);
 
-/* One line on an answer, without an end of line: of a number of realm_status, or of one of realm_run_status; of realm_misuse either tells.
-   DONE; USAGE where there is no such number; NO_ROOM. */
+/* One line on an answer, without an end of line: of a number of realm_status, or of one of realm_run_status. Either has a line on
+   each number of realm_misuse, and one that says so on a number that is none of these. DONE, NO_ROOM. */
 uint32_t realm_message(uint32_t status, uint8_t *out, size_t room, uint64_t *written);
 uint32_t realm_run_message(uint32_t status, uint8_t *out, size_t room, uint64_t *written);
 

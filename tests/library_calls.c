@@ -21,6 +21,7 @@ static void wants_text(int line, const uint8_t *out, uint64_t written, const cha
 }
 
 #define WANTS_TEXT(wanted) wants_text(__LINE__, out, written, (wanted))
+#define SAYS(call, wanted) (WANTS((call), REALM_DONE), WANTS_TEXT(wanted))
 #define TEXT(text) (const uint8_t *)(text), strlen(text)
 
 static const char plainest[] = "realm 1\nend\n";
@@ -141,11 +142,16 @@ static void words_on_answers(void) {
     uint64_t written = 0;
     WANTS(realm_explain(TEXT(plainest), out, sizeof out, &written), REALM_DONE);
     WANTS(written > 0, 1);
-    WANTS(realm_message(REALM_UNFIT, out, sizeof out, &written), REALM_DONE);
-    WANTS(realm_message(1, out, sizeof out, &written), REALM_USAGE);
-    WANTS(realm_run_message(REALM_RUN_NEVER, out, sizeof out, &written), REALM_DONE);
-    WANTS(realm_run_message(REALM_MISUSE_FORGOTTEN, out, sizeof out, &written), REALM_DONE);
-    WANTS(realm_run_message(99, out, sizeof out, &written), REALM_USAGE);
+    WANTS(realm_explain(TEXT(plainest), out, 1, &written), REALM_NO_ROOM);
+    WANTS(written > 1, 1);
+    SAYS(realm_message(REALM_UNFIT, out, sizeof out, &written), "the graph breaks a rule");
+    SAYS(realm_message(REALM_MISUSE_EMPTY, out, sizeof out, &written), "the handle is empty");
+    SAYS(realm_message(1, out, sizeof out, &written), "no answer has this number");
+    SAYS(realm_run_message(REALM_RUN_NEVER, out, sizeof out, &written), "the operation never comes");
+    SAYS(realm_run_message(REALM_MISUSE_FORGOTTEN, out, sizeof out, &written), "the loop has left an operation that comes");
+    SAYS(realm_run_message(99, out, sizeof out, &written), "no answer has this number");
+    WANTS(realm_message(REALM_UNFIT, out, 3, &written), REALM_NO_ROOM);
+    WANTS(written, 23);
     WANTS(strcmp(realm_version(), REALM_VERSION), 0);
 }
 

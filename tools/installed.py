@@ -13,7 +13,7 @@ import subprocess
 from crates import PROGRAMS, ROOT
 
 BUILT = ROOT / "out/programs"
-DOCUMENTS = ("LANGUAGE", "ERRORS", "EMBEDDING")
+DOCUMENTS = ("LANGUAGE", "ERRORS", "DEBUGGING", "EMBEDDING")
 EXAMPLES = (".realm", ".flow", ".session", ".trace", ".out", ".c", ".h", ".cpp", ".py")
 # The shared library's file. Its number is raised where a program that was built before would not go on with the library.
 SONAME = "librealm.so.1"

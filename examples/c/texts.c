@@ -1,5 +1,5 @@
-/* What the program's eval, upgrade, timeline and make --text write, by the library.
-   Usage: texts eval FILE | upgrade FILE | plan PROCESSORS FILE | make SEED SIZE | audit FILE */
+/* What the program's eval, upgrade, timeline and make --text write, and what realm-explain does, by the library.
+   Usage: texts eval FILE | upgrade FILE | explain FILE | plan PROCESSORS FILE | make SEED SIZE | audit FILE */
 #include "realm.h"
 #include "realm_files.h"
 #include <string.h>
@@ -13,6 +13,7 @@ static uint32_t number(unsigned long long n) { return n < UINT32_MAX ? (uint32_t
 static uint32_t call(const char *action, uint8_t *out, size_t room, uint64_t *written) {
     if (!strcmp(action, "eval")) return realm_eval(text.bytes, text.length, out, room, written);
     if (!strcmp(action, "upgrade")) return realm_upgrade(text.bytes, text.length, out, room, written);
+    if (!strcmp(action, "explain")) return realm_explain(text.bytes, text.length, out, room, written);
     if (!strcmp(action, "plan")) return realm_plan(text.bytes, text.length, number(one), out, room, written);
     return realm_make(one, number(two), out, room, written);
 }

@@ -26,7 +26,7 @@ class Refused(Exception):
 
     @property
     def explanation(self) -> str:
-        """What `realm.explain` says of the text. Empty where no graph's text was refused."""
+        """What `realm.explain` says of the text: where and why it is refused. Empty where no graph's text was refused."""
         if self._text is None:
             return ""
         status, found = text_of(LIB.realm_explain, self._text, len(self._text))
@@ -42,8 +42,7 @@ class Misuse(RuntimeError):
     """The number of realm_misuse."""
 
     def __init__(self, status: int):
-        found = text_of(LIB.realm_run_message, status)[1]
-        super().__init__((found or f"misuse {status}".encode()).decode())
+        super().__init__((text_of(LIB.realm_run_message, status)[1] or b"").decode())
         self.status = status
 
 

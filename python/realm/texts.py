@@ -114,7 +114,7 @@ def upgrade(text: AnyStr) -> AnyStr:
 
 
 def explain(text: AnyStr) -> AnyStr:
-    """Why the graph is refused, or of an accepted one what it needs."""
+    """What `realm-explain` writes: where and why a text is refused, or what an accepted graph needs and why operations wait."""
     return _made(LIB.realm_explain, text)
 
 

@@ -81,3 +81,9 @@ pub const PERFORMED: u32 = 20;
 
 /// A handle that is to be filled is not empty.
 pub const FILLED: u32 = 21;
+
+/// A closed table of events is used by another thread than the one that closed it. No call here answers it.
+pub const OTHER_THREAD: u32 = 23;
+
+/// The loop over a run has left a line that comes. No call here answers it.
+pub const FORGOTTEN: u32 = 24;

@@ -23,6 +23,7 @@ pub struct Verdict {
 }
 
 impl Verdict {
+    /// The verdict that tells nothing: all zeros.
     pub fn nothing() -> Verdict
         ensures { result ≡ nothing }
     {

@@ -1,4 +1,5 @@
 pub mod TextFacts
+pub mod EdgeTexts
 pub mod AcceptedFacts
 pub mod NamedFacts
 mod LineLaws

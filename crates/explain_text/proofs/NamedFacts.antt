@@ -1,16 +1,15 @@
 -- Lines that give names.
-use Rattle.std.proofs.Common.{inl, inr, ◌≡◌, ℕ, suc, map, ◌+◌, ◌-◌, ◌<◌, ◌≤◌, Bool, true, false, cond, List, [], ◌∷◌, ◌++◌, length, take, drop, refl, sym, ◌∙◌, ap, subst, append_assoc, arith}
+use Rattle.std.proofs.Common.{inl, inr, ◌≡◌, ℕ, suc, map, ◌+◌, ◌-◌, ◌<◌, ◌≤◌, Bool, true, false, cond, ◌||◌, List, [], ◌∷◌, ◌++◌, length, take, drop, refl, sym, ◌∙◌, ap, subst, append_assoc, arith}
 use Rattle.std.specs.Prelude.{Contains, Option, Some, None, IfSome, option_map}
 use Rattle.std.specs.Borrow.{Bor}
-use Rattle.std.specs.List.{slice_index_or}
+use Rattle.std.specs.List.{slice_index_or, list_any}
 use Rattle.std.specs.Str.{bytes_eq}
 use Rattle.std.proofs.lemmas.Bool.{cases_lt}
 use Rattle.std.proofs.lemmas.Option.{none-some, same_Some}
 use Rattle.std.proofs.lemmas.List.{take-map, drop-map, take_more, append-nil, length-drop, length-map, map-append, length-take, take_all, nil_from_length}
 use Rattle.std.proofs.lemmas.List.Elements.{Contains-push_cases}
 use Rattle.basics.specs.Words.{contents}
-use Rattle.graph_words.specs.Words.{pieces}
-use Rattle.explain_text.specs.Named.{given_name, first_giving, named_text, named_texts, option_list, told_words}
+use Rattle.explain_text.specs.Named.{with_name, with_told, once_words, first_place, named_text, named_texts}
 use Rattle.explain_text.specs.declared.naming.NamedWord.{NamedWord}
 use Rattle.explain_text.proofs.TextFacts.{then_put}
 
@@ -19,15 +18,15 @@ giving_by n k m true rest e below later = subst (λ z. z < m) (same_Some n k e) 
 giving_by n k m false rest e below later = later e
 
 -- a line that was found is one of these
-pub giving_below : (w : List ℕ) (n : ℕ) (ls : List (List ℕ)) (k : ℕ) → first_giving w n ls ≡ Some k → k < n + length ls
+pub giving_below : (w : List ℕ) (n : ℕ) (ls : List (List ℕ)) (k : ℕ) → first_place w n ls ≡ Some k → k < n + length ls
 giving_below w n [] k e = absurd (none-some k e)
-giving_below w n (l ∷ ls) k e = giving_by n k (n + length (l ∷ ls)) (bytes_eq (given_name (pieces 32 l)) w) (first_giving w (n + 1) ls) e (omega arith) (λ r. (let b : k < n + 1 + length ls = giving_below w (n + 1) ls k r in omega arith))
+giving_below w n (l ∷ ls) k e = giving_by n k (n + length (l ∷ ls)) (bytes_eq l w) (first_place w (n + 1) ls) e (omega arith) (λ r. (let b : k < n + 1 + length ls = giving_below w (n + 1) ls k r in omega arith))
 
 some_below : (o : Option ℕ) (m : ℕ) → ((k : ℕ) → o ≡ Some k → k < m) → IfSome o (λ k. k < m)
 some_below None m h = tt
 some_below (Some k) m h = h k refl
 
-pub given_inside : (w : List ℕ) (n m : ℕ) (ls : List (List ℕ)) (o : Option ℕ) → o ≡ first_giving w n ls → n + length ls ≤ m → IfSome o (λ k. k < m)
+pub given_inside : (w : List ℕ) (n m : ℕ) (ls : List (List ℕ)) (o : Option ℕ) → o ≡ first_place w n ls → n + length ls ≤ m → IfSome o (λ k. k < m)
 given_inside w n m ls o is few = some_below o m (λ k e. (let b : k < n + length ls = giving_below w n ls k (sym is ∙ e) in omega arith))
 
 -- words, one after the other
@@ -60,28 +59,38 @@ lines_size lines = simp length-map
 pub each_word : (P : NamedWord → Type 0) (xs ys : List NamedWord) (x : NamedWord) → ys ≡ xs ++ x ∷ [] → P x → ((y : NamedWord) → Contains xs y → P y) → (y : NamedWord) → Contains ys y → P y
 each_word P xs ys x more here each y c = elim (Contains-push_cases xs x y (subst (λ zs. Contains zs y) more c)) [ inl b ↦ each y b | inr e ↦ subst P e here ]
 
+-- one more name of a list of borrowed ones
+any_now : (w : List ℕ) (ks : List (Bor (List ℕ))) → list_any (λ (k : Bor (List ℕ)). bytes_eq w k.now) ks ≡ list_any (bytes_eq w) (contents ks)
+any_now w [] = refl
+any_now w (k ∷ ks) = ap (λ b. bytes_eq w k.now || b) (any_now w ks)
+
+kept_or_put : (b : Bool) (w : Bor (List ℕ)) (ks : List (Bor (List ℕ))) → contents (cond b ks (ks ++ w ∷ [])) ≡ cond b (contents ks) (contents ks ++ w.now ∷ [])
+kept_or_put true w ks = refl
+kept_or_put false w ks = map-append (λ (r : Bor (List ℕ)). r.now) ks (w ∷ [])
+
+pub name_put : (w : Bor (List ℕ)) (ks : List (Bor (List ℕ))) → contents (cond (list_any (λ (k : Bor (List ℕ)). bytes_eq w.now k.now) ks) ks (ks ++ w ∷ [])) ≡ with_name (contents ks) w.now
+name_put w ks = kept_or_put (list_any (λ (k : Bor (List ℕ)). bytes_eq w.now k.now) ks) w ks ∙ ap (λ b. cond b (contents ks) (contents ks ++ w.now ∷ [])) (any_now w.now ks)
+
 -- the names that are told of one more word
-told_push : (f : ℕ → Option (List ℕ)) (k : ℕ) → told_words f (k + 1) ≡ told_words f k ++ option_list (f k)
-told_push f k = let one : k + 1 ≡ suc k = omega arith in ap (told_words f) one
+pub once_push : (f : ℕ → Option (List ℕ)) (k : ℕ) (o : Option (List ℕ)) → o ≡ f k → once_words f (k + 1) ≡ with_told (once_words f k) o
+once_push f k o is = (let one : k + 1 ≡ suc k = omega arith in ap (once_words f) one) ∙ ap (with_told (once_words f k)) (sym is)
 
-pub told_none : (f : ℕ → Option (List ℕ)) (k : ℕ) (xs : List NamedWord) (o : Option NamedWord) → o ≡ None → option_map (λ (x : NamedWord). x.word.now) o ≡ f k → map (λ (x : NamedWord). x.word.now) xs ≡ told_words f k →
-    map (λ (x : NamedWord). x.word.now) xs ≡ told_words f (k + 1)
-told_none f k xs o none word before =
-    let empty : f k ≡ None = sym word ∙ ap (option_map (λ (x : NamedWord). x.word.now)) none in
-    before ∙ sym (told_push f k ∙ (ap (λ z. told_words f k ++ option_list z) empty ∙ append-nil (told_words f k)))
+-- the names of a line behind others
+pub names_push : (done rest : List (List ℕ)) (all : List (List ℕ)) (x : List ℕ) → done ++ x ∷ rest ≡ all → (done ++ x ∷ []) ++ rest ≡ all
+names_push done rest all x is = append_assoc done (x ∷ []) rest ∙ is
 
-pub told_some : (f : ℕ → Option (List ℕ)) (k : ℕ) (xs ys : List NamedWord) (o : Option NamedWord) (x : NamedWord) → o ≡ Some x → ys ≡ xs ++ x ∷ [] → option_map (λ (x : NamedWord). x.word.now) o ≡ f k →
-    map (λ (x : NamedWord). x.word.now) xs ≡ told_words f k → map (λ (x : NamedWord). x.word.now) ys ≡ told_words f (k + 1)
-told_some f k xs ys o x some more word before =
-    let here : f k ≡ Some x.word.now = sym word ∙ ap (option_map (λ (x : NamedWord). x.word.now)) some in
-    ap (map (λ (x : NamedWord). x.word.now)) more ∙ (map-append (λ (x : NamedWord). x.word.now) xs (x ∷ [])
-    ∙ (ap (λ z. z ++ x.word.now ∷ []) before ∙ sym (told_push f k ∙ ap (λ z. told_words f k ++ option_list z) here)))
+-- one more name of a list looked up
+pub looked_more : (list : List (List ℕ)) (i : ℕ) (xs ys : List NamedWord) (x : NamedWord) → i < length list → ys ≡ xs ++ x ∷ [] → x.word.now ≡ slice_index_or list i [] → map (λ (y : NamedWord). y.word.now) xs ≡ take i list →
+    map (λ (y : NamedWord). y.word.now) ys ≡ take (i + 1) list
+looked_more list i xs ys x below more here before =
+    ap (map (λ (y : NamedWord). y.word.now)) more ∙ (map-append (λ (y : NamedWord). y.word.now) xs (x ∷ [])
+    ∙ (ap (λ z. z ++ x.word.now ∷ []) before ∙ (ap (λ w. take i list ++ w ∷ []) here ∙ sym (take_more list i [] below))))
 
 -- a line below is one of the text
-pub below_inside : (w : List ℕ) (n : ℕ) (ls : List (List ℕ)) (o : Option ℕ) → o ≡ first_giving w n (drop n ls) → IfSome o (λ k. k < length ls)
+pub below_inside : (w : List ℕ) (n : ℕ) (ls : List (List ℕ)) (o : Option ℕ) → o ≡ first_place w n (drop n ls) → IfSome o (λ k. k < length ls)
 below_inside w n ls o is = elim (cases_lt (length ls) n) [
   | inl past ↦ (
       let none : drop n ls ≡ [] = nil_from_length (drop n ls) (let size : length (drop n ls) ≡ length ls - n = length-drop n ls in omega arith) in
-      subst (λ z. IfSome z (λ k. k < length ls)) (sym (is ∙ ap (first_giving w n) none)) tt)
+      subst (λ z. IfSome z (λ k. k < length ls)) (sym (is ∙ ap (first_place w n) none)) tt)
   | inr within ↦ given_inside w n (length ls) (drop n ls) o is (drop_few n ls within)
 ]

@@ -6,10 +6,7 @@ use Rattle.std.specs.List.{slice_index_or}
 use Rattle.std.proofs.lemmas.List.{take_more, take_all, append-nil, map-append}
 use Rattle.std.proofs.lemmas.Grind.{flat_map-append}
 use Rattle.basics.specs.Words.{contents}
-use Rattle.graph_terms.specs.declared.verb.Edge.{Edge}
-use Rattle.graph_terms.specs.Graph.{GraphValue}
 use Rattle.explain_text.specs.Unread.{blank_word}
-use Rattle.explain_text.specs.Lines.{edge_text, edges_text}
 use Rattle.explain_text.specs.Laws.{PutSameBytes, PutsSameBytes, PutPartByPart, PutsPartByPart}
 
 -- one part, and then the rest
@@ -27,23 +24,6 @@ puts_as (Err e) old new a b same is = tt
 
 pub put_as : PutSameBytes
 put_as old new a b same is = is ∙ ap (λ z. old ++ z) same
-
--- no edge, and one more
-pub edges_begin : (g : GraphValue) (ls : List (List ℕ)) (old : List ℕ) → old ≡ old ++ edges_text g ls []
-edges_begin g ls old = sym (append-nil old)
-
-edges_push : (g : GraphValue) (ls : List (List ℕ)) (es : List Edge) (e : Edge) → edges_text g ls (es ++ e ∷ []) ≡ edges_text g ls es ++ edge_text g ls e
-edges_push g ls [] e = append-nil (edge_text g ls e)
-edges_push g ls (x ∷ es) e = ap (λ z. edge_text g ls x ++ z) (edges_push g ls es e) ∙ sym (append_assoc (edge_text g ls x) (edges_text g ls es) (edge_text g ls e))
-
-pub edges_more : (g : GraphValue) (ls : List (List ℕ)) (old mid new : List ℕ) (es : List Edge) (k : ℕ) (d : Edge) → k < length es → mid ≡ old ++ edges_text g ls (take k es) → new ≡ mid ++ edge_text g ls (slice_index_or es k d) →
-    new ≡ old ++ edges_text g ls (take (k + 1) es)
-edges_more g ls old mid new es k d below first second =
-    then_put old mid new (edges_text g ls (take k es)) (edge_text g ls (slice_index_or es k d)) first second
-    ∙ ap (λ z. old ++ z) (sym (ap (edges_text g ls) (take_more es k d below) ∙ edges_push g ls (take k es) (slice_index_or es k d)))
-
-pub edges_end : (g : GraphValue) (ls : List (List ℕ)) (old new : List ℕ) (es : List Edge) (k : ℕ) → length es ≤ k → new ≡ old ++ edges_text g ls (take k es) → new ≡ old ++ edges_text g ls es
-edges_end g ls old new es k past is = is ∙ ap (λ xs. old ++ edges_text g ls xs) (take_all k es past)
 
 -- spaces as wide as one more word
 pub blanks_more : (words : List (Bor (List ℕ))) (k : ℕ) (d : Bor (List ℕ)) (old mid wide new : List ℕ) → k < length words → mid ≡ old ++ flat_map blank_word (contents (take k words)) →

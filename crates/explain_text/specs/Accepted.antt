@@ -9,6 +9,7 @@ use Rattle.explanations.specs.Reaches.{reach_at, end_at}
 use Rattle.explanations.specs.declared.reaches.Reach.{Reach}
 use Rattle.explain_graph.specs.Causes.{cause_in}
 use Rattle.explain_graph.specs.declared.ways.Way.{Way}
+use Rattle.explain_text.specs.Shown.{shown}
 use Rattle.explain_text.specs.Lines.{line_of, by_number, cause_word, waits_for, edges_text}
 
 -- the edges by which lines are reached are edges of the graph
@@ -18,9 +19,9 @@ AreByEdges g reaches = (i : ℕ) (m : Reach) (e : Edge) → reach_at reaches i �
 abbrev pub need_text : ℕ → List ℕ
 need_text n = codes "accepted need " ++ (decimal n ++ codes "\n")
 
--- a line as it was read, behind a colon
+-- a line behind a colon, as it is told
 abbrev pub and_line : GraphValue → List (List ℕ) → ℕ → List ℕ
-and_line g ls i = codes ": " ++ (line_of g ls i ++ codes "\n")
+and_line g ls i = codes ": " ++ (shown (line_of g ls i) ++ codes "\n")
 
 -- the line at which the need is reached
 abbrev pub need_line_text : GraphValue → List (List ℕ) → ℕ → Option ℕ → List ℕ

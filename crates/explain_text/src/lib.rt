@@ -3,17 +3,20 @@
 #![tactic(auto)]
 
 pub mod accepted;
+pub mod bounds;
 pub mod laws;
 pub mod lines;
 mod named;
 pub mod naming;
 pub mod split;
 pub mod text;
+mod told_names;
 pub mod unread;
 mod words;
 
 pub use accepted::{put_cancelled, put_need, put_need_line, put_waiting, put_ways};
-pub use naming::{NamedWord, named_space, named_words, put_named_words, put_space};
+pub use named::given_names;
+pub use naming::{NamedWord, NamedWords, named_space, named_words, put_named_words, put_space};
 pub use split::split_lines;
 pub use text::Text;
 pub use unread::{line_at, put_ended, put_limit, put_mark, put_refused, put_unread};

@@ -4,8 +4,10 @@ ghost use Rattle.std.specs.Prelude.{◌≡◌, ◌++◌, Contains, codes, OnOk};
 ghost use Rattle.basics.specs.Words.{contents};
 ghost use Rattle.graph_terms.specs.Edges.{edges};
 ghost use Rattle.explain_graph.specs.Explanation.{AreEdges};
-ghost use Rattle.explain_text.specs.Lines.{line_number, line_of, by_number, numbered, waits_for, edge_text, edges_text};
+ghost use Rattle.explain_text.specs.Shown.{shown};
+ghost use Rattle.explain_text.specs.Lines.{line_number, line_of, by_number, numbered, waits_for, edge_text, all_edges_text, edges_text};
 
+use crate::bounds::{HALF_PATH, MAX_PATH};
 use crate::text::Text;
 use crate::words::cause_word;
 use explain_graph::cause_of;
@@ -33,17 +35,17 @@ fn line_of<'a>(graph: &Graph, lines: &[&'a [u8]], i: u32) -> &'a [u8]
     }
 }
 
-/// Puts a line as it was read, behind a colon.
+/// Puts a line behind a colon, as it is told.
 pub(crate) fn put_line(
     text: &mut Text,
     graph: &Graph,
     lines: &[&[u8]],
     i: u32,
 ) -> Result<(), NoMemory>
-    ensures { OnOk result (text.new ≡ text.old ++ (codes ": " ++ (line_of graph.now (contents lines.now) i ++ codes "\n"))) }
+    ensures { OnOk result (text.new ≡ text.old ++ (codes ": " ++ (shown (line_of graph.now (contents lines.now) i) ++ codes "\n"))) }
 {
     text.put(b": ")?;
-    text.put(line_of(graph, lines, i))?;
+    text.put_shown(line_of(graph, lines, i))?;
     text.put(b"\n")
 }
 
@@ -79,6 +81,22 @@ fn put_edge(text: &mut Text, graph: &Graph, lines: &[&[u8]], edge: Edge) -> Resu
 }
 
 /// Puts edges, one after the other.
+fn put_all_edges(
+    text: &mut Text,
+    graph: &Graph,
+    lines: &[&[u8]],
+    path: &[Edge],
+) -> Result<(), NoMemory>
+    requires { AreEdges graph.now path.now }
+    ensures { OnOk result (text.new ≡ text.old ++ all_edges_text graph.now (contents lines.now) path.now) }
+{
+    for edge in path {
+        put_edge(text, graph, lines, *edge)?;
+    }
+    Ok(())
+}
+
+/// Puts the edges of a path, one after the other; of a long one both ends, and how many lie between.
 pub fn put_edges(
     text: &mut Text,
     graph: &Graph,
@@ -88,8 +106,10 @@ pub fn put_edges(
     requires { AreEdges graph.now path.now }
     ensures { OnOk result (text.new ≡ text.old ++ edges_text graph.now (contents lines.now) path.now) }
 {
-    for edge in path {
-        put_edge(text, graph, lines, *edge)?;
+    if path.len() <= MAX_PATH {
+        return put_all_edges(text, graph, lines, path);
     }
-    Ok(())
+    put_all_edges(text, graph, lines, &path[..HALF_PATH])?;
+    text.put_more(path.len() - MAX_PATH)?;
+    put_all_edges(text, graph, lines, &path[path.len() - HALF_PATH..])
 }

@@ -1,22 +1,38 @@
 //! The names that lines of a text give.
 
-ghost use Rattle.std.specs.Prelude.{◌≡◌, ◌+◌, ◌<◌, ◌^◌, ◌==◌, length, false, MatchOption};
+ghost use Rattle.std.specs.Prelude.{◌≡◌, ◌+◌, ◌<◌, ◌^◌, ◌==◌, length, false, MatchOption, IfOk};
 ghost use Rattle.std.specs.List.{list_any};
 ghost use Rattle.basics.specs.Words.{contents};
 ghost use Rattle.graph_words.specs.Words.{pieces};
-ghost use Rattle.explain_text.specs.Named.{declares, given_by, given_name, first_giving};
+ghost use Rattle.explain_text.specs.Named.{declares, given_by, given_name, given_names, first_place};
 
 use crate::split::cut;
+use index_spaces::NoMemory;
+use index_spaces::room::push;
+use std::alloc::Global;
 
-/// The first of some lines that gives a name, where the first of them has this number.
-pub(crate) fn first_giving(word: &[u8], number: usize, lines: &[&[u8]]) -> Option<usize>
-    requires { number + length lines.now < 2 ^ 64 }
-    ensures { result ≡ first_giving word.now number (contents lines.now) }
+/// The names that lines give, one for each line, in one pass over them.
+pub fn given_names<'a>(alloc: Global, lines: &[&'a [u8]]) -> Result<Vec<&'a [u8]>, NoMemory>
+    ensures { IfOk result (λ v. contents v.items ≡ given_names (contents lines.now)) }
 {
+    let mut names = Vec::new(alloc);
     let mut rest = lines;
-    let mut at = number;
     while let [line, others @ ..] = rest {
-        if given_name(line) == word {
+        push(&mut names, given_name(line))?;
+        rest = others;
+    }
+    Ok(names)
+}
+
+/// The first place at which a name stands among some, where the first of them has this number.
+pub(crate) fn first_place(word: &[u8], number: usize, names: &[&[u8]]) -> Option<usize>
+    requires { number + length names.now < 2 ^ 64 }
+    ensures { result ≡ first_place word.now number (contents names.now) }
+{
+    let mut rest = names;
+    let mut at = number;
+    while let [name, others @ ..] = rest {
+        if *name == word {
             return Some(at);
         }
         at += 1;

@@ -1,15 +1,17 @@
 //! What the words of a refused line name.
 
-ghost use Rattle.std.specs.Prelude.{◌≡◌, ◌++◌, ◌<◌, length, map, option_map, Contains, IfOk, IfSome, OnOk};
+ghost use Rattle.std.specs.Prelude.{◌≡◌, ◌++◌, ◌-◌, ◌<◌, length, map, take, option_map, Contains, IfOk, IfSome, OnOk};
 ghost use Rattle.basics.specs.Words.{contents};
 ghost use Rattle.graph_words.specs.Words.{pieces, first_piece};
 ghost use Rattle.refused_words.specs.Places.{place_value};
-ghost use Rattle.explain_text.specs.Named.{IsNamedWord, IsInside, name_in, told_new, told_word, told_words, third_of, over_word, space_word, place_text, below_text, named_by, named_text, named_texts, space_text};
+ghost use Rattle.explain_text.specs.Named.{IsNamedWord, IsInside, name_in, told_new, told_word, once_words, third_of, over_word, space_word, place_text, below_text, named_text, named_texts, names_text, space_text};
 ghost use Rattle.explain_text.specs.declared.naming.NamedWord.{NamedWord};
 
-use crate::named::first_giving;
+use crate::bounds::MAX_NAMES;
+use crate::named::first_place;
 use crate::split::{back, cut, front};
 use crate::text::Text;
+use crate::told_names::NameList;
 use graph_terms::format::Format;
 use graph_terms::table::Place;
 use graph_words::words::word;
@@ -18,7 +20,7 @@ use index_spaces::room::push;
 use refused_words::{WordPlace, place_at};
 use std::alloc::Global;
 
-/// A word of a line, the topmost line above that gives it as a name, and the topmost line below that
+/// A name that a word stands for, the topmost line above that gives it, and the topmost line below that
 /// does, by their places from 0.
 #[derive(Clone, Copy)]
 pub struct NamedWord<'a> {
@@ -27,61 +29,83 @@ pub struct NamedWord<'a> {
     pub below: Option<usize>,
 }
 
-/// The words of a line that stand for names, each with the lines that give it, by the places in which
-/// they stand; the name that the line gives itself only where a line above gives it too. The line is
-/// counted from 1.
+/// Names that words of a line stand for, and how many more there are.
+#[derive(Drop)]
+pub struct NamedWords<'a> {
+    pub told: Vec<NamedWord<'a>>,
+    pub more: usize,
+}
+
+/// The first names that words of a line stand for, each once, by the places in which they stand, with the
+/// lines that give them; the name that the line gives itself only where a line above gives it too. The
+/// line is counted from 1, and the names that lines give stand in the order of the lines.
 pub fn named_words<'a>(
     alloc: Global,
     format: Format,
-    lines: &[&'a [u8]],
+    names: &[&[u8]],
     number: u32,
     words: &[&'a [u8]],
-) -> Result<Vec<NamedWord<'a>>, NoMemory>
-    ensures words { IfOk result (λ v. map (λ (x : NamedWord). x.word.now) v.items ≡ told_words (told_word format (contents lines.now) number (contents words.now)) (length words.now)) }
-    ensures named { IfOk result (λ v. (x : NamedWord) → Contains v.items x → IsNamedWord (contents lines.now) number x) }
-    ensures inside { IfOk result (λ v. (x : NamedWord) → Contains v.items x → IsInside (length lines.now) x) }
+) -> Result<NamedWords<'a>, NoMemory>
+    ensures words { IfOk result (λ v. map (λ (x : NamedWord). x.word.now) v.told.items ≡ take MAX_NAMES (once_words (told_word format (contents names.now) number (contents words.now)) (length words.now))) }
+    ensures more { IfOk result (λ v. v.more ≡ length (once_words (told_word format (contents names.now) number (contents words.now)) (length words.now)) - MAX_NAMES) }
+    ensures named { IfOk result (λ v. (x : NamedWord) → Contains v.told.items x → IsNamedWord (contents names.now) number x) }
+    ensures inside { IfOk result (λ v. (x : NamedWord) → Contains v.told.items x → IsInside (length names.now) x) }
 {
-    let mut found = Vec::new(alloc);
-    for k in 0..words.len() {
-        if let Some(named) = named_word(format, lines, number, words, k) {
-            push(&mut found, named)?;
-        }
-    }
-    Ok(found)
+    let list = told_names(alloc, format, names, number, words)?;
+    let told = look_up_all(alloc, names, number, &list)?;
+    Ok(NamedWords {
+        told,
+        more: list.len().saturating_sub(MAX_NAMES),
+    })
 }
 
-/// The word of number `k`, where it stands for a name that is told.
-fn named_word<'a>(
+/// The names that are told of words of a line, each once.
+fn told_names<'a>(
+    alloc: Global,
     format: Format,
-    lines: &[&'a [u8]],
+    names: &[&[u8]],
+    number: u32,
+    words: &[&'a [u8]],
+) -> Result<NameList<'a>, NoMemory>
+    ensures { IfOk result (λ v. v ≡ once_words (told_word format (contents names.now) number (contents words.now)) (length words.now)) }
+{
+    let mut list = NameList::new(alloc);
+    for k in 0..words.len() {
+        if let Some(name) = told_word(format, names, number, words, k) {
+            list.add(name)?;
+        }
+    }
+    Ok(list)
+}
+
+/// The name that is told of the word of number `k`.
+fn told_word<'a>(
+    format: Format,
+    names: &[&[u8]],
     number: u32,
     words: &[&'a [u8]],
     k: usize,
-) -> Option<NamedWord<'a>>
+) -> Option<&'a [u8]>
     requires { k < length words.now }
-    ensures word { option_map (λ (x : NamedWord). x.word.now) result ≡ told_word format (contents lines.now) number (contents words.now) k }
-    ensures named { IfSome result (IsNamedWord (contents lines.now) number) }
-    ensures inside { IfSome result (IsInside (length lines.now)) }
+    ensures { option_map (λ x. x.now) result ≡ told_word format (contents names.now) number (contents words.now) k }
 {
     let word = words[k];
     match place_at(format, words, k) {
         None => None,
-        Some(WordPlace::NewName) => given_above(lines, number, word),
-        Some(place) => {
-            let name = name_in(place, word)?;
-            Some(look_up(lines, number, name))
-        }
+        Some(WordPlace::NewName) => given_above(names, number, word),
+        Some(place) => name_in(place, word),
     }
 }
 
 /// The name that a line gives, where a line above gives it too.
-fn given_above<'a>(lines: &[&'a [u8]], number: u32, word: &'a [u8]) -> Option<NamedWord<'a>>
-    ensures word { option_map (λ (x : NamedWord). x.word.now) result ≡ told_new (contents lines.now) number word.now }
-    ensures named { IfSome result (IsNamedWord (contents lines.now) number) }
-    ensures inside { IfSome result (IsInside (length lines.now)) }
+fn given_above<'a>(names: &[&[u8]], number: u32, word: &'a [u8]) -> Option<&'a [u8]>
+    ensures { option_map (λ x. x.now) result ≡ told_new (contents names.now) number word.now }
 {
-    let own = look_up(lines, number, word);
-    if own.above.is_some() { Some(own) } else { None }
+    if look_up(names, number, word).above.is_some() {
+        Some(word)
+    } else {
+        None
+    }
 }
 
 /// The name that a word stands for in a place that is not that of a new name.
@@ -103,33 +127,54 @@ fn name_in(place: WordPlace, word: &[u8]) -> Option<&[u8]>
     }
 }
 
+/// Looks up the first names of a list.
+fn look_up_all<'a>(
+    alloc: Global,
+    names: &[&[u8]],
+    number: u32,
+    list: &NameList<'a>,
+) -> Result<Vec<NamedWord<'a>>, NoMemory>
+    ensures words { IfOk result (λ v. map (λ (x : NamedWord). x.word.now) v.items ≡ take MAX_NAMES list.now) }
+    ensures named { IfOk result (λ v. (x : NamedWord) → Contains v.items x → IsNamedWord (contents names.now) number x) }
+    ensures inside { IfOk result (λ v. (x : NamedWord) → Contains v.items x → IsInside (length names.now) x) }
+{
+    let mut found = Vec::new(alloc);
+    for i in 0..list.len().min(MAX_NAMES) {
+        push(&mut found, look_up(names, number, list.at(i)))?;
+    }
+    Ok(found)
+}
+
 /// The space over which the instance of the word of number `k` is declared, with the lines that give
-/// it, where that word is a column. The line is counted from 1.
+/// it, where that word is a column. The line is counted from 1, and the names are those that lines give.
 pub fn named_space<'a>(
     format: Format,
     lines: &[&'a [u8]],
+    names: &[&[u8]],
     number: u32,
-    words: &[&'a [u8]],
+    words: &[&[u8]],
     k: usize,
 ) -> Option<NamedWord<'a>>
-    ensures word { option_map (λ (x : NamedWord). x.word.now) result ≡ space_word format (contents lines.now) number (contents words.now) k }
-    ensures named { IfSome result (IsNamedWord (contents lines.now) number) }
-    ensures inside { IfSome result (IsInside (length lines.now)) }
+    requires { length names.now ≡ length lines.now }
+    ensures word { option_map (λ (x : NamedWord). x.word.now) result ≡ space_word format (contents lines.now) (contents names.now) number (contents words.now) k }
+    ensures named { IfSome result (IsNamedWord (contents names.now) number) }
+    ensures inside { IfSome result (IsInside (length names.now)) }
 {
     match place_at(format, words, k) {
         Some(WordPlace::Of(Place::Column(..))) => {
-            let space = over_word(lines, number, before_dot(word(words, k)));
-            Some(look_up(lines, number, space))
+            let space = over_word(lines, names, number, before_dot(word(words, k)));
+            Some(look_up(names, number, space))
         }
         _ => None,
     }
 }
 
 /// The third word of the line above that gives this name: of an instance its space.
-fn over_word<'a>(lines: &[&'a [u8]], number: u32, inst: &'a [u8]) -> &'a [u8]
-    ensures { result.now ≡ over_word (contents lines.now) number inst.now }
+fn over_word<'a>(lines: &[&'a [u8]], names: &[&[u8]], number: u32, inst: &[u8]) -> &'a [u8]
+    requires { length names.now ≡ length lines.now }
+    ensures { result.now ≡ over_word (contents lines.now) (contents names.now) number inst.now }
 {
-    match look_up(lines, number, inst).above {
+    match look_up(names, number, inst).above {
         Some(place) => third_word(lines[place]),
         None => b"",
     }
@@ -152,16 +197,16 @@ fn third_word(line: &[u8]) -> &[u8]
 }
 
 /// Looks a word up among the names that lines give.
-fn look_up<'a>(lines: &[&'a [u8]], number: u32, word: &'a [u8]) -> NamedWord<'a>
+fn look_up<'a>(names: &[&[u8]], number: u32, word: &'a [u8]) -> NamedWord<'a>
     ensures word { result.word.now ≡ word.now }
-    ensures named { IsNamedWord (contents lines.now) number result }
-    ensures inside { IsInside (length lines.now) result }
+    ensures named { IsNamedWord (contents names.now) number result }
+    ensures inside { IsInside (length names.now) result }
 {
     let place = number as usize;
     NamedWord {
         word,
-        above: first_giving(word, 0, front(lines, place.saturating_sub(1))),
-        below: first_giving(word, place, back(lines, place)),
+        above: first_place(word, 0, front(names, place.saturating_sub(1))),
+        below: first_place(word, place, back(names, place)),
     }
 }
 
@@ -175,12 +220,17 @@ fn before_dot(word: &[u8]) -> &[u8]
     }
 }
 
-/// Puts which lines give the names that words stand for.
-pub fn put_named_words(
-    text: &mut Text,
-    lines: &[&[u8]],
-    words: &[NamedWord],
-) -> Result<(), NoMemory>
+/// Puts which lines give the names that words stand for, and how many more names there are.
+pub fn put_named_words(text: &mut Text, lines: &[&[u8]], named: &NamedWords) -> Result<(), NoMemory>
+    requires { (x : NamedWord) → Contains named.now.told.items x → IsInside (length lines.now) x }
+    ensures { OnOk result (text.new ≡ text.old ++ names_text (contents lines.now) named.now.told.items named.now.more) }
+{
+    put_each_named(text, lines, named.told.as_slice())?;
+    text.put_more(named.more)
+}
+
+/// Puts which lines give some names.
+fn put_each_named(text: &mut Text, lines: &[&[u8]], words: &[NamedWord]) -> Result<(), NoMemory>
     requires { (x : NamedWord) → Contains words.now x → IsInside (length lines.now) x }
     ensures { OnOk result (text.new ≡ text.old ++ named_texts (contents lines.now) words.now) }
 {
@@ -213,7 +263,7 @@ fn put_named(text: &mut Text, lines: &[&[u8]], word: &NamedWord) -> Result<(), N
     let Some(place) = word.above else {
         return put_below(text, lines, word.word, word.below);
     };
-    text.put(word.word)?;
+    text.put_shown(word.word)?;
     text.put(b" is given by line ")?;
     put_place(text, lines, place)
 }
@@ -229,7 +279,7 @@ fn put_below(
     ensures { OnOk result (text.new ≡ text.old ++ below_text (contents lines.now) word.now below) }
 {
     text.put(b"no line above gives ")?;
-    text.put(word)?;
+    text.put_shown(word)?;
     let Some(place) = below else {
         return text.put(b"\n");
     };
@@ -245,6 +295,6 @@ fn put_place(text: &mut Text, lines: &[&[u8]], place: usize) -> Result<(), NoMem
     let _ = lines.len();
     text.put_number(place as u64 + 1)?;
     text.put(b": ")?;
-    text.put(lines[place])?;
+    text.put_shown(lines[place])?;
     text.put(b"\n")
 }

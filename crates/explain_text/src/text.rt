@@ -1,7 +1,9 @@
 //! Text that grows at its end.
 
-ghost use Rattle.std.specs.Prelude.{◌≡◌, ◌++◌, [], decimal, map, OnOk};
+ghost use Rattle.std.specs.Prelude.{◌≡◌, ◌++◌, [], decimal, length, map, take, OnOk};
+ghost use Rattle.explain_text.specs.Shown.{shown, more_text};
 
+use crate::bounds::MAX_SHOWN;
 use index_spaces::NoMemory;
 use itoa::Buffer;
 use std::alloc::Global;
@@ -46,6 +48,43 @@ impl Text {
             Ok(()) => Ok(()),
             Err(_) => Err(NoMemory),
         }
+    }
+
+    /// How many bytes there are.
+    pub fn len(&self) -> usize
+        ensures { result ≡ length self.now }
+    {
+        self.bytes.len()
+    }
+
+    /// Keeps the first bytes, or all where there are fewer.
+    pub fn keep(&mut self, count: usize)
+        ensures { self.new ≡ take count self.old }
+    {
+        self.bytes.truncate(count)
+    }
+
+    /// Puts bytes at the end as they are told: of many the front, and `..`.
+    pub fn put_shown(&mut self, bytes: &[u8]) -> Result<(), NoMemory>
+        ensures { OnOk result (self.new ≡ self.old ++ shown bytes.now) }
+    {
+        if bytes.len() <= MAX_SHOWN {
+            return self.put(bytes);
+        }
+        self.put(&bytes[..MAX_SHOWN - 2])?;
+        self.put(b"..")
+    }
+
+    /// Puts how many more there are, where there are some.
+    pub fn put_more(&mut self, more: usize) -> Result<(), NoMemory>
+        ensures { OnOk result (self.new ≡ self.old ++ more_text more) }
+    {
+        if more == 0 {
+            return Ok(());
+        }
+        self.put(b"and ")?;
+        self.put_number(more as u64)?;
+        self.put(b" more\n")
     }
 
     /// Puts a number at the end, in decimal digits.

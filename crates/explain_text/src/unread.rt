@@ -3,8 +3,9 @@
 ghost use Rattle.std.specs.Prelude.{◌≡◌, ◌++◌, ◌-◌, [], flat_map, OnOk};
 ghost use Rattle.std.specs.List.{slice_index_or};
 ghost use Rattle.basics.specs.Words.{contents};
-ghost use Rattle.explain_text.specs.Unread.{unread_text, blank_word, mark_text, refused_text, ended_text, passed_text, limit_text};
+ghost use Rattle.explain_text.specs.Unread.{unread_text, blank_word, below_word, word_text, mark_text, refused_text, ended_text, passed_text, limit_text};
 
+use crate::bounds::MAX_SHOWN;
 use crate::lines::{put_by_number, put_line};
 use crate::split::front;
 use crate::text::Text;
@@ -25,7 +26,7 @@ pub fn put_unread(text: &mut Text, lines: &[&[u8]], number: u32, why: Why) -> Re
     text.put(b"\nline ")?;
     text.put_number(u64::from(number))?;
     text.put(b": ")?;
-    text.put(line_at(lines, number))?;
+    text.put_shown(line_at(lines, number))?;
     text.put(b"\n")
 }
 
@@ -34,37 +35,62 @@ pub fn put_refused(
     text: &mut Text,
     why: Why,
     number: u32,
+    line: &[u8],
     words: &[&[u8]],
     mark: Option<usize>,
 ) -> Result<(), NoMemory>
-    ensures { OnOk result (text.new ≡ text.old ++ refused_text why number (contents words.now) mark) }
+    ensures { OnOk result (text.new ≡ text.old ++ refused_text why number line.now (contents words.now) mark) }
 {
     match why {
         Why::Missing => {
             text.put(b"the text ends here: a line `end`, with its newline, is missing\n")
         }
-        _ => put_mark(text, number, words, mark),
+        _ => put_mark(text, number, line, words, mark),
     }
 }
 
-/// Puts, below a line that was put with its number, `^` below each byte of one of its words, by the
-/// number of the word from 0; or that the whole line is refused.
+/// Puts which word of a line that was put with its number is refused, by the number of the word from 0;
+/// or that the whole line is.
 pub fn put_mark(
     text: &mut Text,
     number: u32,
+    line: &[u8],
     words: &[&[u8]],
     mark: Option<usize>,
 ) -> Result<(), NoMemory>
-    ensures { OnOk result (text.new ≡ text.old ++ mark_text number (contents words.now) mark) }
+    ensures { OnOk result (text.new ≡ text.old ++ mark_text number line.now (contents words.now) mark) }
 {
     let Some(k) = mark else {
         return text.put(b"the whole line is refused\n");
     };
+    if line.len() <= MAX_SHOWN {
+        put_below(text, number, words, k)
+    } else {
+        put_word(text, words, k)
+    }
+}
+
+/// Puts `^` below each byte of a word of a line that was put with its number.
+fn put_below(text: &mut Text, number: u32, words: &[&[u8]], k: usize) -> Result<(), NoMemory>
+    ensures { OnOk result (text.new ≡ text.old ++ below_word number (contents words.now) k) }
+{
     text.put(b"     ")?;
     text.put_number_blank(u64::from(number))?;
     text.put(b"  ")?;
     put_blanks(text, front(words, k))?;
     text.put_for_each(word(words, k), b'^')?;
+    text.put(b"\n")
+}
+
+/// Puts the number of a word in its line, from 1, and the word.
+fn put_word(text: &mut Text, words: &[&[u8]], k: usize) -> Result<(), NoMemory>
+    ensures { OnOk result (text.new ≡ text.old ++ word_text (contents words.now) k) }
+{
+    let before = front(words, k).len() as u64;
+    text.put(b"word ")?;
+    text.put_number(before + 1)?;
+    text.put(b" of it is refused: ")?;
+    text.put_shown(word(words, k))?;
     text.put(b"\n")
 }
 

@@ -13,7 +13,7 @@ use Rattle.realm_io.specs.Told.{Lost}
 use Rattle.realm_io.specs.SinkState.{SinkState}
 use Rattle.program_io.specs.Delivered.{Delivered, BrokenOff, too_long_text}
 use Rattle.program_io.proofs.Public.{all_read, more_left, answered_as, cut_off_as, complete_as}
-use Rattle.explain_top.specs.Answer.{IsAnswer}
+use Rattle.explain_top.specs.Answer.{IsUnfitAnswer, IsUnreadAnswer, IsAnswer}
 use Rattle.explain_top.specs.declared.answer.Verdict.{Verdict}
 use Rattle.explain_top.specs.declared.answer.Verdict.TheVariants as verdict
 use Rattle.explain_top.specs.declared.program.Status.{Status}
@@ -35,8 +35,8 @@ answered_with ends bytes v text shown s t result status a same is d =
 -- the text of an accepted graph is answered so
 is_accepted : (ends : Bool) (bytes : List ℕ) → OneReading bytes → (g : GraphValue) → GraphText bytes g → Accepted g → (status : Status) (out : List ℕ) → Answers ends bytes status out → status ≡ Fine
 is_accepted ends bytes one g t acc Fine out a = refl
-is_accepted ends bytes one g t acc Unfit out a = absurd (a.broken (subst Accepted (one.one_graph g a.graph t a.is_text) acc))
-is_accepted ends bytes one g t acc Unread out a = absurd (one.not_both (g, t) (a.number, a.why, first_fault bytes a.number a.why a.above a.refused))
+is_accepted ends bytes one g t acc Unfit out a = absurd (let u : IsUnfitAnswer bytes a.whole = a.answers in u.broken (subst Accepted (one.one_graph g u.graph t u.is_text) acc))
+is_accepted ends bytes one g t acc Unread out a = absurd (let u : IsUnreadAnswer bytes a.whole = a.answers in one.not_both (g, t) (u.number, u.why, first_fault bytes u.number u.why u.above u.refused))
 is_accepted ends bytes one g t acc TooLong out a = absurd (let s : length bytes ≤ MAX_TEXT = t.short in let l : MAX_TEXT < length bytes = a.0 in omega arith)
 is_accepted ends bytes one g t acc _ out a = absurd a
 

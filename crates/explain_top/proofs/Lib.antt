@@ -1,3 +1,4 @@
 pub mod EdgeFacts
 pub mod Endings
 pub mod Marking
+pub mod Telling

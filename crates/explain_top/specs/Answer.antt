@@ -1,8 +1,9 @@
 -- What is answered to the bytes of an input.
-use Rattle.std.specs.Prelude.{◌≡◌, ◌≢◌, ℕ, ◌-◌, ◌<◌, ◌↔◌, Bool, true, false, cond, List, [], ◌++◌, length, map, Contains, Option, Some, None, IfSome, IsSome, MatchOption, option_map}
+use Rattle.std.specs.Prelude.{◌≡◌, ◌≢◌, ℕ, ◌-◌, ◌<◌, ◌≤◌, ◌↔◌, Bool, true, false, cond, nat_lt, List, [], ◌++◌, length, take, codes, map, Contains, Option, Some, None, IfSome, IsSome, MatchOption, option_map}
 use Rattle.basics.specs.Lists.{numbers_below}
 use Rattle.std.specs.List.{slice_index_or}
 use Rattle.graph_terms.specs.declared.format.Format.{Format}
+use Rattle.graph_terms.specs.declared.format.Format.TheVariants.{One}
 use Rattle.graph_terms.specs.declared.why.Why.{Why}
 use Rattle.graph_terms.specs.declared.why.Why.TheVariants as reasons
 use Rattle.graph_terms.specs.declared.outcome.End.{End}
@@ -27,9 +28,11 @@ use Rattle.explain_graph.specs.Ways.{AreLongest}
 use Rattle.explain_graph.specs.declared.explanation.Explanation.{Explanation}
 use Rattle.explain_graph.specs.declared.ways.Way.{Way}
 use Rattle.explain_text.specs.Accepted.{need_text, need_line_text, each_text, waiting_text, cancelled_text, ways_text}
-use Rattle.explain_text.specs.Named.{IsNamedWord, told_word, told_words, space_word, named_texts, space_text}
+use Rattle.explain_text.specs.declared.bounds.TheConstants.{MAX_NAMES, MAX_ANSWER}
+use Rattle.explain_text.specs.Named.{IsNamedWord, given_names, told_word, once_words, space_word, names_text, space_text}
 use Rattle.explain_text.specs.declared.naming.NamedWord.{NamedWord}
 use Rattle.explain_text.specs.Unread.{unread_text, mark_text, refused_text, limit_text, ended_text}
+use Rattle.line_forms.specs.Advice.{advice}
 use Rattle.refusal_text.specs.Refused.{explanation_text}
 use Rattle.refused_words.specs.Refused.{IsRefusedWord}
 use Rattle.refused_words.specs.Ends.{IsEndedBy}
@@ -92,29 +95,37 @@ tells_names reasons.Outside = true
 tells_names reasons.Arrivals = true
 tells_names _ = false
 
--- the names that words of line `number` stand for, where the reason speaks of names, each with the lines that give it
-pub record AreNamed (format : Format) (ls : List (List ℕ)) (number : ℕ) (ws : List (List ℕ)) (reason : Why) (named : List NamedWord) : Type 0 where
-  pub words_are : map (λ (x : NamedWord). x.word.now) named ≡ cond (tells_names reason) (told_words (told_word format ls number ws) (length ws)) []
-  pub each : (x : NamedWord) → Contains named x → IsNamedWord ls number x
+-- the names that words of line `number` stand for, each once, where the reason speaks of names, by the names that lines give
+abbrev pub names_for : Format → List (List ℕ) → ℕ → List (List ℕ) → Why → List (List ℕ)
+names_for format given number ws reason = cond (tells_names reason) (once_words (told_word format given number ws) (length ws)) []
+
+-- the first of them, each with the lines that give it, and how many more there are
+pub record AreNamed (format : Format) (given : List (List ℕ)) (number : ℕ) (ws : List (List ℕ)) (reason : Why) (named : List NamedWord) (more : ℕ) : Type 0 where
+  pub words_are : map (λ (x : NamedWord). x.word.now) named ≡ take MAX_NAMES (names_for format given number ws reason)
+  pub more_is : more ≡ length (names_for format given number ws reason) - MAX_NAMES
+  pub each : (x : NamedWord) → Contains named x → IsNamedWord given number x
 
 -- for Outside, the space over which the instance of the column is declared that is refused
-abbrev pub space_for : Format → List (List ℕ) → ℕ → List (List ℕ) → Why → Option ℕ → Option (List ℕ)
-space_for format ls number ws reasons.Outside (Some k) = space_word format ls number ws k
-space_for format ls number ws _ mark = None
+abbrev pub space_for : Format → List (List ℕ) → List (List ℕ) → ℕ → List (List ℕ) → Why → Option ℕ → Option (List ℕ)
+space_for format ls given number ws reasons.Outside (Some k) = space_word format ls given number ws k
+space_for format ls given number ws _ mark = None
 
 -- that space, where it is told, with the lines that give it
-pub record TellsSpace (format : Format) (ls : List (List ℕ)) (number : ℕ) (ws : List (List ℕ)) (reason : Why) (mark : Option ℕ) (space : Option NamedWord) : Type 0 where
-  pub word_is : option_map (λ (x : NamedWord). x.word.now) space ≡ space_for format ls number ws reason mark
-  pub named : IfSome space (IsNamedWord ls number)
+pub record TellsSpace (format : Format) (ls : List (List ℕ)) (given : List (List ℕ)) (number : ℕ) (ws : List (List ℕ)) (reason : Why) (mark : Option ℕ) (space : Option NamedWord) : Type 0 where
+  pub word_is : option_map (λ (x : NamedWord). x.word.now) space ≡ space_for format ls given number ws reason mark
+  pub named : IfSome space (IsNamedWord given number)
 
 -- for Limit, what the line of these words brings above its bound
 abbrev pub limit_for : GraphValue → List (List ℕ) → Why → Option QuantityValue
 limit_for g ws reasons.Limit = limit_of g ws
 limit_for g ws _ = None
 
--- the words of line `number`
+-- line `number`, and its words
+abbrev pub refused_line : List (List ℕ) → ℕ → List ℕ
+refused_line ls number = slice_index_or ls (number - 1) []
+
 abbrev pub words_of : List (List ℕ) → ℕ → List (List ℕ)
-words_of ls number = pieces 32 (slice_index_or ls (number - 1) [])
+words_of ls number = pieces 32 (refused_line ls number)
 
 -- a text with what is told of a line that is refused behind a graph: the word that is, or that the whole line is, or for Missing that the text ends there; for Limit the first quantity that the line brings above its bound; the line that has done already what it would do; the names; and for Outside the space of the column that is refused
 pub record IsMarkedText (ls : List (List ℕ)) (number : ℕ) (reason : Why) (g : GraphValue) (old new : List ℕ) : Type 0 where
@@ -125,15 +136,30 @@ pub record IsMarkedText (ls : List (List ℕ)) (number : ℕ) (reason : Why) (g 
   pub ended : Option ℕ
   pub is_ended : MatchOption mark (ended ≡ None) (λ k. IsEndedBy g (words_of ls number) k ended)
   pub named : List NamedWord
-  pub are_named : AreNamed g.format ls number (words_of ls number) reason named
+  pub more : ℕ
+  pub are_named : AreNamed g.format (given_names ls) number (words_of ls number) reason named more
   pub space : Option NamedWord
-  pub is_space : TellsSpace g.format ls number (words_of ls number) reason mark space
-  pub text : new ≡ old ++ (refused_text reason number (words_of ls number) mark ++ (limit_text limit ++ (ended_text g ls ended ++ (named_texts ls named ++ space_text ls space))))
+  pub is_space : TellsSpace g.format ls (given_names ls) number (words_of ls number) reason mark space
+  pub text : new ≡ old ++ (refused_text reason number (refused_line ls number) (words_of ls number) mark ++ (limit_text limit ++ (ended_text g ls ended ++ (names_text ls named more ++ space_text ls space))))
 
 -- the text on a refused line, behind the graph of the lines above it where it is between the first line and the closing one
 abbrev pub IsUnreadText : List (List ℕ) → ℕ → Why → Option GraphValue → List ℕ → Type 0
-IsUnreadText ls number reason None out = out ≡ unread_text ls number reason ++ mark_text number [] None
+IsUnreadText ls number reason None out = out ≡ unread_text ls number reason ++ mark_text number [] [] None
 IsUnreadText ls number reason (Some g) out = IsMarkedText ls number reason g (unread_text ls number reason) out
+
+-- the format of the graph above a line, and whether an operation stands above it
+abbrev pub format_above : Option GraphValue → Format
+format_above None = One
+format_above (Some g) = g.format
+
+abbrev pub stands_below : Option GraphValue → Bool
+stands_below None = false
+stands_below (Some g) = nat_lt 0 (length g.lines)
+
+-- and below it what the form of the line tells
+abbrev pub IsAdvisedText : List (List ℕ) → ℕ → Why → Option GraphValue → List ℕ → Type 0
+IsAdvisedText ls number reason above out =
+    (told : List ℕ) × IsUnreadText ls number reason above told × (out ≡ told ++ advice (format_above above) (stands_below above) reason (slice_index_or ls (number - 1) []))
 
 -- the bytes are the text of an accepted graph with this need, and the answer is its text
 pub record IsAcceptedAnswer (ends : Bool) (bytes out : List ℕ) : Type 0 where
@@ -158,9 +184,20 @@ pub record IsUnreadAnswer (bytes out : List ℕ) : Type 0 where
   pub why : Why
   pub above : Option GraphValue
   pub refused : IsUnreadBy bytes number why above
-  pub text : IsUnreadText (pieces 10 bytes) number why above out
+  pub text : IsAdvisedText (pieces 10 bytes) number why above out
 
-abbrev pub IsAnswer : Bool → List ℕ → Verdict → List ℕ → Type 0
-IsAnswer ends bytes verdict.Accepted out = IsAcceptedAnswer ends bytes out
-IsAnswer ends bytes verdict.Unfit out = IsUnfitAnswer bytes out
-IsAnswer ends bytes verdict.Unread out = IsUnreadAnswer bytes out
+abbrev pub IsWholeAnswer : Bool → List ℕ → Verdict → List ℕ → Type 0
+IsWholeAnswer ends bytes verdict.Accepted whole = IsAcceptedAnswer ends bytes whole
+IsWholeAnswer ends bytes verdict.Unfit whole = IsUnfitAnswer bytes whole
+IsWholeAnswer ends bytes verdict.Unread whole = IsUnreadAnswer bytes whole
+
+-- an answer as it is told: of a long one the front, and a line `..`
+abbrev pub told : List ℕ → List ℕ
+told whole = cond (nat_lt MAX_ANSWER (length whole)) (take (MAX_ANSWER - 4) whole ++ codes "\n..\n") whole
+
+-- what is told of the answer to these bytes, in 65,536 bytes at most
+pub record IsAnswer (ends : Bool) (bytes : List ℕ) (verdict : Verdict) (out : List ℕ) : Type 0 where
+  pub whole : List ℕ
+  pub answers : IsWholeAnswer ends bytes verdict whole
+  pub is_told : out ≡ told whole
+  pub few : length out ≤ MAX_ANSWER

@@ -1,12 +1,12 @@
 //! The answer to the bytes of an input.
 
-ghost use Rattle.std.specs.Prelude.{◌≡◌, ◌≢◌, ◌++◌, Bool, length, option_map, Contains, None, IfOk, IfSome, OnOk, MatchOption};
+ghost use Rattle.std.specs.Prelude.{◌≡◌, ◌≢◌, ◌++◌, ◌≤◌, Bool, length, option_map, Contains, None, IfOk, IfSome, OnOk, MatchOption};
 ghost use Rattle.basics.specs.Words.{contents};
 ghost use Rattle.refused_words.specs.Ends.{IsEndedBy};
 ghost use Rattle.refused_words.specs.Limits.{quantity_value};
-ghost use Rattle.explain_text.specs.Named.{IsInside, named_texts, space_text};
+ghost use Rattle.explain_text.specs.Named.{IsInside, names_text, space_text};
 ghost use Rattle.explain_text.specs.declared.naming.NamedWord.{NamedWord};
-ghost use Rattle.explain_top.specs.Answer.{IsAnswer, IsUnfitText, IsUnreadText, IsMarkedText, AreNamed, TellsSpace, limit_for};
+ghost use Rattle.explain_top.specs.Answer.{IsAnswer, IsWholeAnswer, told, IsUnfitText, IsAdvisedText, IsUnreadText, IsMarkedText, format_above, stands_below, AreNamed, TellsSpace, limit_for};
 ghost use Rattle.graph_meaning.specs.Rules.{Accepted};
 ghost use Rattle.graph_reader.specs.Reading.{IsUnreadBy};
 ghost use Rattle.graph_words.specs.Text.{GraphText};
@@ -16,16 +16,18 @@ ghost use Rattle.race_check.specs.Refusal.{IsRefusal, NamesLines};
 use crate::accepted::put_accepted;
 use checked_graph::Checked;
 use explain_graph::explain;
+use explain_text::bounds::MAX_ANSWER;
 use explain_text::split::split;
 use explain_text::{
-    NamedWord, Text, line_at, named_space, named_words, put_ended, put_limit, put_mark,
-    put_named_words, put_refused, put_space, put_unread, split_lines,
+    NamedWord, NamedWords, Text, given_names, line_at, named_space, named_words, put_ended,
+    put_limit, put_mark, put_named_words, put_refused, put_space, put_unread, split_lines,
 };
 use graph_model::graph::Graph;
 use graph_reader::{Reading, Unread, read_text};
 use graph_terms::format::Format;
 use graph_terms::why::Why;
 use index_spaces::NoMemory;
+use line_forms::line_advice;
 use race_check::check;
 use race_check::checked::{CheckRefusal, Unfit};
 use refusal_text::put_explanation;
@@ -56,7 +58,31 @@ pub fn explain_bytes(alloc: Global, bytes: &[u8], ends: bool) -> Result<Answer, 
     ensures { IfOk result (λ a. IsAnswer ends bytes.now a.verdict a.text) }
 {
     let lines = split_lines(alloc, bytes)?;
-    answer_lines(alloc, bytes, lines.as_slice(), ends)
+    let whole = answer_lines(alloc, bytes, lines.as_slice(), ends)?;
+    as_told(whole)
+}
+
+/// An answer as it is told.
+fn as_told(whole: Answer) -> Result<Answer, NoMemory>
+    ensures verdict { IfOk result (λ a. a.verdict ≡ whole.verdict) }
+    ensures text { IfOk result (λ a. a.text ≡ told whole.text) }
+    ensures few { IfOk result (λ a. length a.text ≤ MAX_ANSWER) }
+{
+    let mut answer = whole;
+    shorten(&mut answer.text)?;
+    Ok(answer)
+}
+
+/// Keeps the front of a long text, with a line `..` behind it.
+fn shorten(text: &mut Text) -> Result<(), NoMemory>
+    ensures text { OnOk result (text.new ≡ told text.old) }
+    ensures few { OnOk result (length text.new ≤ MAX_ANSWER) }
+{
+    if text.len() <= MAX_ANSWER {
+        return Ok(());
+    }
+    text.keep(MAX_ANSWER - 4);
+    text.put(b"\n..\n")
 }
 
 /// The answer to bytes of these lines.
@@ -67,7 +93,7 @@ fn answer_lines(
     ends: bool,
 ) -> Result<Answer, NoMemory>
     requires { contents lines.now ≡ pieces 10 bytes.now }
-    ensures { IfOk result (λ a. IsAnswer ends bytes.now a.verdict a.text) }
+    ensures { IfOk result (λ a. IsWholeAnswer ends bytes.now a.verdict a.text) }
 {
     match read_text(alloc, bytes)? {
         Reading::Graph(graph) => answer_graph(alloc, graph, bytes, lines, ends),
@@ -85,7 +111,7 @@ fn answer_graph(
 ) -> Result<Answer, NoMemory>
     requires text { GraphText bytes.now graph }
     requires lines { contents lines.now ≡ pieces 10 bytes.now }
-    ensures { IfOk result (λ a. IsAnswer ends bytes.now a.verdict a.text) }
+    ensures { IfOk result (λ a. IsWholeAnswer ends bytes.now a.verdict a.text) }
 {
     match check(alloc, graph) {
         Ok(checked) => answer_accepted(alloc, &checked, bytes, lines, ends),
@@ -103,7 +129,7 @@ fn answer_accepted(
 ) -> Result<Answer, NoMemory>
     requires text { GraphText bytes.now checked.now.graph }
     requires lines { contents lines.now ≡ pieces 10 bytes.now }
-    ensures { IfOk result (λ a. IsAnswer ends bytes.now a.verdict a.text) }
+    ensures { IfOk result (λ a. IsWholeAnswer ends bytes.now a.verdict a.text) }
 {
     let _bytes = bytes;
     let _ = checked.graph();
@@ -126,7 +152,7 @@ fn answer_unfit(
     requires lines { contents lines.now ≡ pieces 10 bytes.now }
     requires refused { IsRefusal unfit.now.graph unfit.now.why × NamesLines unfit.now.graph unfit.now.why }
     requires broken { Accepted unfit.now.graph → unfit.now.why ≡ CheckRefusal.NoMemory }
-    ensures { IfOk result (λ a. (ends : Bool) → IsAnswer ends bytes.now a.verdict a.text) }
+    ensures { IfOk result (λ a. (ends : Bool) → IsWholeAnswer ends bytes.now a.verdict a.text) }
 {
     let _bytes = bytes;
     let text = put_unfit(alloc, unfit, lines)?;
@@ -145,7 +171,7 @@ fn answer_unread(
 ) -> Result<Answer, NoMemory>
     requires refused { IsUnreadBy bytes.now unread.now.number unread.now.why unread.now.above }
     requires lines { contents lines.now ≡ pieces 10 bytes.now }
-    ensures { IfOk result (λ a. (ends : Bool) → IsAnswer ends bytes.now a.verdict a.text) }
+    ensures { IfOk result (λ a. (ends : Bool) → IsWholeAnswer ends bytes.now a.verdict a.text) }
 {
     let _bytes = bytes;
     let text = put_unread_text(alloc, lines, unread)?;
@@ -171,15 +197,48 @@ fn put_unfit(alloc: Global, unfit: &Unfit, lines: &[&[u8]]) -> Result<Text, NoMe
     Ok(text)
 }
 
-/// The text on bytes that are no graph's.
+/// The text on bytes that are no graph's, with what the form of the line tells.
 fn put_unread_text(alloc: Global, lines: &[&[u8]], unread: &Unread) -> Result<Text, NoMemory>
+    ensures { IfOk result (IsAdvisedText (contents lines.now) unread.now.number unread.now.why unread.now.above) }
+{
+    let mut text = put_refused_text(alloc, lines, unread)?;
+    let below = stands_below(&unread.above);
+    let format = format_above(&unread.above);
+    let line = line_at(lines, unread.number);
+    let advice = line_advice(alloc, format, below, unread.why, line)?;
+    text.put(advice.as_slice())?;
+    Ok(text)
+}
+
+/// The format of the graph above a line.
+fn format_above(above: &Option<Graph>) -> Format
+    ensures { result ≡ format_above above.now }
+{
+    match above {
+        Some(graph) => graph.format(),
+        None => Format::One,
+    }
+}
+
+/// Whether an operation stands above a line.
+fn stands_below(above: &Option<Graph>) -> bool
+    ensures { result ≡ stands_below above.now }
+{
+    match above {
+        Some(graph) => graph.lines() > 0,
+        None => false,
+    }
+}
+
+/// The text on bytes that are no graph's.
+fn put_refused_text(alloc: Global, lines: &[&[u8]], unread: &Unread) -> Result<Text, NoMemory>
     ensures { IfOk result (IsUnreadText (contents lines.now) unread.now.number unread.now.why unread.now.above) }
 {
     let mut text = Text::new(alloc);
     put_unread(&mut text, lines, unread.number, unread.why)?;
     match &unread.above {
         Some(graph) => put_behind(alloc, &mut text, graph, lines, unread.number, unread.why)?,
-        None => put_mark(&mut text, unread.number, &[], None)?,
+        None => put_mark(&mut text, unread.number, &[], &[], None)?,
     }
     Ok(text)
 }
@@ -195,28 +254,45 @@ fn put_behind(
 ) -> Result<(), NoMemory>
     ensures { OnOk result (IsMarkedText (contents lines.now) number why graph.now text.old text.new) }
 {
-    let words = split(alloc, line_at(lines, number), b' ')?;
+    let line = line_at(lines, number);
+    let words = split(alloc, line, b' ')?;
     let mark = refused_word(alloc, graph, words.as_slice(), why)?;
     let ended = ended_for(graph, words.as_slice(), mark);
-    let named = named_for(alloc, graph.format(), lines, number, words.as_slice(), why)?;
-    let space = space_for(graph.format(), lines, number, words.as_slice(), why, mark);
+    let names = given_names(alloc, lines)?;
+    let named = named_for(
+        alloc,
+        graph.format(),
+        names.as_slice(),
+        number,
+        words.as_slice(),
+        why,
+    )?;
+    let space = space_for(
+        graph.format(),
+        lines,
+        names.as_slice(),
+        number,
+        words.as_slice(),
+        why,
+        mark,
+    );
     let passed = limit_for(alloc, graph, words.as_slice(), why)?;
-    put_refused(text, why, number, words.as_slice(), mark)?;
+    put_refused(text, why, number, line, words.as_slice(), mark)?;
     put_limit(text, passed)?;
     put_ended(text, graph, lines, ended)?;
-    put_names(text, lines, named.as_slice(), &space)
+    put_names(text, lines, &named, &space)
 }
 
 /// Puts names, and then the space of a column.
 fn put_names(
     text: &mut Text,
     lines: &[&[u8]],
-    named: &[NamedWord],
+    named: &NamedWords,
     space: &Option<NamedWord>,
 ) -> Result<(), NoMemory>
-    requires named { (x : NamedWord) → Contains named.now x → IsInside (length lines.now) x }
+    requires named { (x : NamedWord) → Contains named.now.told.items x → IsInside (length lines.now) x }
     requires space { IfSome space.now (IsInside (length lines.now)) }
-    ensures { OnOk result (text.new ≡ text.old ++ (named_texts (contents lines.now) named.now ++ space_text (contents lines.now) space.now)) }
+    ensures { OnOk result (text.new ≡ text.old ++ (names_text (contents lines.now) named.now.told.items named.now.more ++ space_text (contents lines.now) space.now)) }
 {
     put_named_words(text, lines, named)?;
     put_space(text, lines, space)
@@ -232,23 +308,27 @@ fn ended_for(graph: &Graph, words: &[&[u8]], mark: Option<usize>) -> Option<u32>
     }
 }
 
-/// The words of the line that are told with the lines that give them, for a reason that names speak of.
+/// The names that words of the line stand for, with the lines that give them, for a reason that speaks of
+/// names, by the names that all lines give.
 fn named_for<'a>(
     alloc: Global,
     format: Format,
-    lines: &[&'a [u8]],
+    names: &[&[u8]],
     number: u32,
     words: &[&'a [u8]],
     why: Why,
-) -> Result<Vec<NamedWord<'a>>, NoMemory>
-    ensures named { IfOk result (λ v. AreNamed format (contents lines.now) number (contents words.now) why v.items) }
-    ensures inside { IfOk result (λ v. (x : NamedWord) → Contains v.items x → IsInside (length lines.now) x) }
+) -> Result<NamedWords<'a>, NoMemory>
+    ensures named { IfOk result (λ v. AreNamed format (contents names.now) number (contents words.now) why v.told.items v.more) }
+    ensures inside { IfOk result (λ v. (x : NamedWord) → Contains v.told.items x → IsInside (length names.now) x) }
 {
     match why {
         Why::Twice | Why::Unknown | Why::Kind | Why::Outside | Why::Arrivals => {
-            named_words(alloc, format, lines, number, words)
+            named_words(alloc, format, names, number, words)
         }
-        _ => Ok(Vec::new(alloc)),
+        _ => Ok(NamedWords {
+            told: Vec::new(alloc),
+            more: 0,
+        }),
     }
 }
 
@@ -256,16 +336,18 @@ fn named_for<'a>(
 fn space_for<'a>(
     format: Format,
     lines: &[&'a [u8]],
+    names: &[&[u8]],
     number: u32,
-    words: &[&'a [u8]],
+    words: &[&[u8]],
     why: Why,
     mark: Option<usize>,
 ) -> Option<NamedWord<'a>>
-    ensures space { TellsSpace format (contents lines.now) number (contents words.now) why mark result }
+    requires { length names.now ≡ length lines.now }
+    ensures space { TellsSpace format (contents lines.now) (contents names.now) number (contents words.now) why mark result }
     ensures inside { IfSome result (IsInside (length lines.now)) }
 {
     match (why, mark) {
-        (Why::Outside, Some(k)) => named_space(format, lines, number, words, k),
+        (Why::Outside, Some(k)) => named_space(format, lines, names, number, words, k),
         _ => None,
     }
 }

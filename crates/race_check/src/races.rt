@@ -43,11 +43,11 @@ pub(crate) fn first_race(
 {
     match racing_lines(alloc, graph, order, held)? {
         Some(racing) => first_race_of(alloc, graph, order, held, racing.as_slice()),
-        None => first_race_from(alloc, graph, order, held, 0),
+        None => first_race_of_all(alloc, graph, order, held),
     }
 }
 
-/// The same, where the lines that race are noted.
+/// The same, where the lines that race are noted: the least of them all races with a noted one.
 fn first_race_of(
     alloc: Global,
     graph: &Graph,
@@ -65,11 +65,47 @@ fn first_race_of(
         (λ p. (p.0 < length graph.now.lines) × (p.1 < length graph.now.lines) × FailsFirstTwice (RaceAt graph.now) p.0 p.1)) }
 {
     let lines = graph.lines();
-    if !is_any_noted(racing, 0, lines) {
+    let unnoted = unnoted_lines(racing, lines);
+    if unnoted >= lines {
         return Ok(None);
     }
-    let free = free_lines(alloc, graph, order, held, racing)?;
-    first_race_from(alloc, graph, order, held, free)
+    let table = Table::new(alloc, graph, order)?;
+    let accesses = accesses_of_lines(alloc, graph)?;
+    let accesses = accesses.as_slice();
+    let free = free_lines(alloc, graph, &table, accesses, held, racing, unnoted)?;
+    let rival = first_rival(alloc, graph, &table, accesses, held, free)?;
+    if let Some(other) = rival {
+        return Ok(Some((free, other)));
+    }
+    first_race_in(alloc, graph, &table, accesses, held, free + 1)
+}
+
+/// How many lines stand before the first that is noted.
+fn unnoted_lines(racing: &[bool], lines: u32) -> u32
+    requires { lines ≤ length racing.now }
+    ensures few { result ≤ lines }
+    ensures unnoted { (i : ℕ) → i < result → is_noted racing.now i ≡ false }
+{
+    for line in 0..lines {
+        if racing[line as usize] {
+            return line;
+        }
+    }
+    lines
+}
+
+/// How many lines are noted.
+fn noted_lines(racing: &[bool], lines: u32) -> u32
+    requires { lines ≤ length racing.now }
+    ensures { result ≤ lines }
+{
+    let mut noted = 0;
+    for line in 0..lines {
+        if racing[line as usize] {
+            noted += 1;
+        }
+    }
+    noted
 }
 
 /// Whether a line of these is noted.
@@ -85,34 +121,66 @@ pub(crate) fn is_any_noted(racing: &[bool], first: u32, end: u32) -> bool
     false
 }
 
-/// How many lines, from the first on, race with none, by the lines that are noted.
+/// How many of so many lines, from the first on, race with none, by the lines that are noted; 0
+/// where these are many beside them.
 fn free_lines(
     alloc: Global,
     graph: &Graph,
-    order: &[u32],
+    table: &Table,
+    accesses: &[Vec<Access>],
     held: &Held,
     racing: &[bool],
+    most: u32,
 ) -> Result<u32, NoMemory>
-    requires order { IsOrder graph.now order.now }
-    requires count { length order.now ≡ length graph.now.lines }
+    requires table { IsTable graph.now table.now }
+    requires accesses { AreAccesses graph.now accesses.now }
     requires held { IsHeld graph.now held.now }
     requires alone { AreAlone graph.now }
     requires size { length racing.now ≡ length graph.now.lines }
     requires enough { AreEnough graph.now racing.now }
-    ensures { IfOk result (λ n. (k : ℕ) → k < n → Everywhere (RaceAt graph.now k)) }
+    requires most { most ≤ length graph.now.lines }
+    ensures few { IfOk result (λ n. n ≤ most) }
+    ensures free { IfOk result (λ n. (k : ℕ) → k < n → Everywhere (RaceAt graph.now k)) }
 {
-    edges_between_lines();
     let lines = graph.lines();
-    let table = Table::new(alloc, graph, order)?;
-    let accesses = accesses_of_lines(alloc, graph)?;
-    let accesses = accesses.as_slice();
-    let mut free = lines;
+    if most / 16 < noted_lines(racing, lines) {
+        return Ok(0);
+    }
+    let mut free = most;
     let mut first = 0;
     while first < lines {
-        free = free_of_block(alloc, graph, &table, accesses, held, racing, first, free)?;
+        free = free_of_block(alloc, graph, table, accesses, held, racing, first, free)?;
         first += 64;
     }
     Ok(free)
+}
+
+/// The least line with which a line races, from that one on.
+fn first_rival(
+    alloc: Global,
+    graph: &Graph,
+    table: &Table,
+    accesses: &[Vec<Access>],
+    held: &Held,
+    line: u32,
+) -> Result<Option<u32>, NoMemory>
+    requires table { IsTable graph.now table.now }
+    requires accesses { AreAccesses graph.now accesses.now }
+    requires held { IsHeld graph.now held.now }
+    requires alone { AreAlone graph.now }
+    requires line { line < length graph.now.lines }
+    ensures { IfOk result (λ o. MatchOption o (Everywhere (RaceAt graph.now line))
+        (λ j. (j < length graph.now.lines) × (RaceAt graph.now line j → ⊥) × ((m : ℕ) → m < j → RaceAt graph.now line m))) }
+{
+    edges_between_lines();
+    let lines = graph.lines();
+    let rivals = Rivals::new(alloc, graph, table, line)?;
+    for other in line..lines {
+        if rivals.races_with_first(graph, accesses, held, other) {
+            return Ok(Some(other));
+        }
+    }
+    Ok(None)
 }
 
 /// How many of so many lines race with no noted line of a block.
@@ -148,17 +216,37 @@ fn free_of_block(
     Ok(rivals.free_before(graph, accesses, held, racing, free))
 }
 
-/// The least line and the least line after it that race, where no line above the first one does;
-/// 64 lines at a time.
-fn first_race_from(
+/// The least line and the least line after it that race, where no lines are noted.
+fn first_race_of_all(
     alloc: Global,
     graph: &Graph,
     order: &[u32],
     held: &Held,
-    start: u32,
 ) -> Result<Option<(u32, u32)>, NoMemory>
     requires order { IsOrder graph.now order.now }
     requires count { length order.now ≡ length graph.now.lines }
+    requires held { IsHeld graph.now held.now }
+    requires alone { AreAlone graph.now }
+    ensures { IfOk result (λ o. MatchOption o (EverywhereTwice (RaceAt graph.now))
+        (λ p. (p.0 < length graph.now.lines) × (p.1 < length graph.now.lines) × FailsFirstTwice (RaceAt graph.now) p.0 p.1)) }
+{
+    let table = Table::new(alloc, graph, order)?;
+    let accesses = accesses_of_lines(alloc, graph)?;
+    first_race_in(alloc, graph, &table, accesses.as_slice(), held, 0)
+}
+
+/// The least line and the least line after it that race, where no line above the first one does;
+/// 64 lines at a time.
+fn first_race_in(
+    alloc: Global,
+    graph: &Graph,
+    table: &Table,
+    accesses: &[Vec<Access>],
+    held: &Held,
+    start: u32,
+) -> Result<Option<(u32, u32)>, NoMemory>
+    requires table { IsTable graph.now table.now }
+    requires accesses { AreAccesses graph.now accesses.now }
     requires held { IsHeld graph.now held.now }
     requires alone { AreAlone graph.now }
     requires start { (k : ℕ) → k < start → Everywhere (RaceAt graph.now k) }
@@ -167,12 +255,9 @@ fn first_race_from(
 {
     edges_between_lines();
     let lines = graph.lines();
-    let table = Table::new(alloc, graph, order)?;
-    let accesses = accesses_of_lines(alloc, graph)?;
-    let accesses = accesses.as_slice();
     let mut first = start;
     while first < lines {
-        let found = first_of_block(alloc, graph, &table, accesses, held, first)?;
+        let found = first_of_block(alloc, graph, table, accesses, held, first)?;
         if let Some(pair) = found {
             return Ok(Some(pair));
         }
@@ -352,6 +437,9 @@ impl Rivals {
         requires rivals { IsRivals graph.now self.now }
         ensures { MatchOption result (NoneLow (RaceAt graph.now) self.now.first limit line) (IsLowest (RaceAt graph.now) self.now.first limit line) }
     {
+        if limit == 0 {
+            return None;
+        }
         let suspects = self.suspects(graph, line);
         if suspects == 0 {
             return None;
@@ -362,6 +450,26 @@ impl Rivals {
             }
         }
         None
+    }
+
+    /// Whether the first line of the block races with a line after it.
+    fn races_with_first(
+        &self,
+        graph: &Graph,
+        accesses: &[Vec<Access>],
+        held: &Held,
+        line: u32,
+    ) -> bool
+        requires line { line < length graph.now.lines }
+        requires held { IsHeld graph.now held.now }
+        requires alone { AreAlone graph.now }
+        requires accesses { AreAccesses graph.now accesses.now }
+        requires rivals { IsRivals graph.now self.now }
+        ensures race { result ≡ true → RaceAt graph.now self.now.first line → ⊥ }
+        ensures free { result ≡ false → RaceAt graph.now self.now.first line }
+    {
+        let suspects = self.suspects(graph, line);
+        self.is_race(graph, accesses, held, suspects, line, 0)
     }
 
     /// The lines of the block that may conflict with a line, and have no path from it nor to it.

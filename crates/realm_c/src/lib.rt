@@ -4,7 +4,9 @@
 mod audit;
 mod check;
 mod eval;
+mod explaining;
 mod making;
+mod messages;
 mod plan;
 mod upgrade;
 mod words;

@@ -7,7 +7,7 @@ use Rattle.std.proofs.lemmas.Grind.{flat_map-append}
 use Rattle.graph_terms.specs.Graph.{GraphValue}
 use Rattle.explain_text.specs.Lines.{by_number, numbered}
 use Rattle.explain_text.proofs.Public.{then_put}
-use Rattle.refusal_text.specs.Refused.{lines_text, in_sections, order_text, held_text, advice_text}
+use Rattle.refusal_text.specs.Refused.{lines_text, few_lines_text, in_sections, order_text, held_text, advice_text}
 
 -- no line, and one more
 pub lines_begin : (g : GraphValue) (ls : List (List ℕ)) (old : List ℕ) → old ≡ old ++ lines_text g ls []
@@ -31,7 +31,7 @@ pub in_none : (g : GraphValue) (ls : List (List ℕ)) (i : ℕ) (qs : List ℕ) 
 in_none g ls i [] e = refl
 in_none g ls i (q ∷ qs) e = absurd (let z : length (q ∷ qs) ≡ 0 = eqb-true (length (q ∷ qs)) 0 e in omega arith)
 
-pub in_some : (g : GraphValue) (ls : List (List ℕ)) (i : ℕ) (qs : List ℕ) → (length qs == 0) ≡ false → by_number g i ++ (codes " lies in the section of\n" ++ lines_text g ls qs) ≡ in_sections g ls i qs
+pub in_some : (g : GraphValue) (ls : List (List ℕ)) (i : ℕ) (qs : List ℕ) → (length qs == 0) ≡ false → by_number g i ++ (codes " lies in the section of\n" ++ few_lines_text g ls qs) ≡ in_sections g ls i qs
 in_some g ls i [] e = absurd (true≢false e)
 in_some g ls i (q ∷ qs) e = refl
 

@@ -1,5 +1,5 @@
 -- The text of each explanation.
-use Rattle.std.specs.Prelude.{ℕ, ◌==◌, Bool, false, cond, List, [], ◌∷◌, ◌++◌, flat_map, codes, decimal, Option, Some, None, slice_get, Vec}
+use Rattle.std.specs.Prelude.{ℕ, ◌-◌, ◌==◌, Bool, false, cond, List, [], ◌∷◌, ◌++◌, length, take, flat_map, codes, decimal, Option, Some, None, slice_get, Vec}
 use Rattle.std.specs.Option.{option_map_or}
 use Rattle.std.specs.List.{list_any}
 use Rattle.std.specs.Global.{Global}
@@ -21,6 +21,8 @@ use Rattle.explain_graph.specs.declared.reasons.ConflictReason.{ConflictReason}
 use Rattle.explain_graph.specs.declared.reasons.Sections.{Sections}
 use Rattle.explain_graph.specs.declared.explanation.Explanation.{Explanation}
 use Rattle.explain_graph.specs.declared.explanation.Explanation.TheVariants.{Cycle, Unreleased, Section, Descends, ReleaseFault, Race}
+use Rattle.explain_text.specs.Shown.{more_text}
+use Rattle.refusal_text.specs.declared.bounds.TheConstants.{MAX_SECTIONS}
 use Rattle.explain_text.specs.Lines.{by_number, numbered, edges_text}
 
 -- how a use of a column is told
@@ -35,6 +37,10 @@ mode_word Most = codes "takes the greatest into"
 abbrev pub lines_text : GraphValue → List (List ℕ) → List ℕ → List ℕ
 lines_text g ls [] = []
 lines_text g ls (i ∷ is) = numbered g ls i ++ lines_text g ls is
+
+-- the first of some lines, and how many more there are
+abbrev pub few_lines_text : GraphValue → List (List ℕ) → List ℕ → List ℕ
+few_lines_text g ls is = lines_text g ls (take MAX_SECTIONS is) ++ more_text (length is - MAX_SECTIONS)
 
 -- the line that `realm check` writes
 abbrev pub refused_one : GraphValue → List ℕ → ℕ → List ℕ
@@ -90,7 +96,7 @@ meeting_text g ls (Some m) =
 -- the sections in which a line lies
 abbrev pub in_sections : GraphValue → List (List ℕ) → ℕ → List ℕ → List ℕ
 in_sections g ls i [] = by_number g i ++ codes " lies in no section\n"
-in_sections g ls i (q ∷ qs) = by_number g i ++ (codes " lies in the section of\n" ++ lines_text g ls (q ∷ qs))
+in_sections g ls i (q ∷ qs) = by_number g i ++ (codes " lies in the section of\n" ++ few_lines_text g ls (q ∷ qs))
 
 -- what would order them: the second is to wait for the first
 abbrev pub advice_by : GraphValue → Option ℕ → ℕ → List ℕ
@@ -129,7 +135,7 @@ pair_by g q k =
 abbrev pub pair_text : GraphValue → ℕ → ℕ → List ℕ
 pair_text g q k = cond (of_one_lock g q k) (pair_by g q k) []
 
--- of each acquire of the one list with each of the other
+-- of each acquire of the one list with each of the other; of those that are told
 abbrev pub pairs_with : GraphValue → List ℕ → ℕ → List ℕ
 pairs_with g ks q = flat_map (pair_text g q) ks
 
@@ -147,7 +153,7 @@ none_text some = cond some [] (codes "no two sections of theirs are of one reser
 abbrev pub apart_text : GraphValue → List (List ℕ) → Sections → ℕ → ℕ → List ℕ
 apart_text g ls s i j =
     codes "sections of one reservation would set them apart, by an acquire for each, not both shared\n"
-    ++ (in_sections g ls i s.first.items ++ (in_sections g ls j s.second.items ++ (pairs_text g s.first.items s.second.items ++ none_text (have_pair g s.first.items s.second.items))))
+    ++ (in_sections g ls i s.first.items ++ (in_sections g ls j s.second.items ++ (pairs_text g (take MAX_SECTIONS s.first.items) (take MAX_SECTIONS s.second.items) ++ none_text (have_pair g s.first.items s.second.items))))
 
 abbrev pub sections_text : GraphValue → List (List ℕ) → Bool → Sections → ℕ → ℕ → List ℕ
 sections_text g ls commutes s i j = cond commutes (apart_text g ls s i j) []

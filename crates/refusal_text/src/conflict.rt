@@ -1,15 +1,16 @@
 //! Why two lines race, as text.
 
-ghost use Rattle.std.specs.Prelude.{◌≡◌, ◌<◌, ◌++◌, length, codes, IfSome, OnOk};
+ghost use Rattle.std.specs.Prelude.{◌≡◌, ◌<◌, ◌++◌, length, take, codes, IfSome, OnOk};
 ghost use Rattle.std.specs.List.{list_any};
 ghost use Rattle.basics.specs.Words.{contents};
 ghost use Rattle.graph_terms.specs.Graph.{columns, line_passes, is_shared};
 ghost use Rattle.graph_terms.specs.Reservations.{both_shared};
 ghost use Rattle.graph_terms.specs.Spelling.{column_name};
 ghost use Rattle.explain_graph.specs.Explanation.{NamesMeeting};
-ghost use Rattle.refusal_text.specs.Refused.{mode_word, shared_text, meeting_text, advice_by, order_text, held_text, advice_text, on_of, in_sections, are_equal, of_one_lock, have_pair, none_text, pair_by, pair_text, pairs_with, pairs_text, apart_text, sections_text, race_text};
+ghost use Rattle.refusal_text.specs.Refused.{mode_word, shared_text, meeting_text, advice_by, order_text, held_text, advice_text, on_of, few_lines_text, in_sections, are_equal, of_one_lock, have_pair, none_text, pair_by, pair_text, pairs_with, pairs_text, apart_text, sections_text, race_text};
 ghost use Rattle.explain_text.specs.Lines.{by_number};
 
+use crate::bounds::MAX_SECTIONS;
 use crate::lines::{put_lines, put_name};
 use crate::refused::put_refused_two;
 use explain_graph::reasons::{ConflictReason, Sections};
@@ -243,8 +244,8 @@ fn put_apart(
     put_pairs(
         text,
         graph,
-        sections.first.as_slice(),
-        sections.second.as_slice(),
+        first_told(sections.first.as_slice()),
+        first_told(sections.second.as_slice()),
     )?;
     put_unless(
         text,
@@ -387,5 +388,29 @@ fn put_in_sections(
         return text.put(b" lies in no section\n");
     }
     text.put(b" lies in the section of\n")?;
-    put_lines(text, graph, lines, acquires)
+    put_few_lines(text, graph, lines, acquires)
+}
+
+/// Puts the first of some acquires, and how many more there are.
+fn put_few_lines(
+    text: &mut Text,
+    graph: &Graph,
+    lines: &[&[u8]],
+    acquires: &[u32],
+) -> Result<(), NoMemory>
+    ensures { OnOk result (text.new ≡ text.old ++ few_lines_text graph.now (contents lines.now) acquires.now) }
+{
+    put_lines(text, graph, lines, first_told(acquires))?;
+    text.put_more(acquires.len().saturating_sub(MAX_SECTIONS))
+}
+
+/// The acquires of a list that are told.
+fn first_told(acquires: &[u32]) -> &[u32]
+    ensures { result.now ≡ take MAX_SECTIONS acquires.now }
+{
+    if acquires.len() > MAX_SECTIONS {
+        &acquires[..MAX_SECTIONS]
+    } else {
+        acquires
+    }
 }

@@ -1,6 +1,7 @@
 //! Why a graph is refused, as text for people, a fact on each line.
 #![tactic(auto)]
 
+pub mod bounds;
 mod conflict;
 mod lines;
 mod refused;

@@ -34,7 +34,9 @@ use Rattle.run_words.proofs.AtKey.{KeyShown, Kept}
 use Rattle.run_words.proofs.Desking.{has_key}
 use Rattle.run_words.proofs.Numbers.{split_numbers}
 use Rattle.run_words.proofs.SourceReads.{ended_shown}
+use Rattle.basics.proofs.ListFacts.{contains_none}
 use Rattle.run_words.proofs.Splits.{same_board}
+use Rattle.run_words.proofs.Known.{at_put, longer_known, known_on, still}
 use Rattle.run_words.proofs.Steps.{St, numbers_on, works_alone, working_not_over}
 
 -- A CLAIM GOES TO A SEAT THAT IS SPLIT OFF
@@ -46,11 +48,6 @@ set_twice : {X : Type 0} (xs ys : List X) (i : ℕ) (v p l : X) → get_elem? xs
 set_twice [] ys i v p l at = absurd (some-ne-none v (sym at))
 set_twice (x ∷ xs) ys zero v p l at = refl
 set_twice (x ∷ xs) ys (suc i) v p l at = ap (λ zs. x ∷ zs) (set_twice xs ys i v p l at)
-
-at_put : {X : Type 0} (xs : List X) (i : ℕ) (v p : X) → get_elem? xs i ≡ some v → get_elem? (set xs i p) i ≡ some p
-at_put [] i v p at = absurd (some-ne-none v (sym at))
-at_put (x ∷ xs) zero v p at = refl
-at_put (x ∷ xs) (suc i) v p at = at_put xs i v p at
 
 moved_sum : (f : View → ℕ) (vs : List View) (id : ℕ) (v l r : View) → get_elem? vs id ≡ some v → f l + f r ≡ f v → total f (set vs id l ++ r ∷ []) ≡ total f vs
 moved_sum f vs id v l r me h = let a = total-append f (set vs id l) (r ∷ []) in let b = total-set f vs id v l me in omega (arith, a, b, h)
@@ -74,6 +71,7 @@ module _ {g : GraphValue} {e : Events} {run : Run} {handles : List Handle} (v : 
     keys = f.keys;
     issued = f.issued;
     ended = f.ended;
+    times = f.times;
     named = f.named;
     claim = λ c q. absurd (none-some c q);
     event = λ c q. absurd (none-some c q);
@@ -88,6 +86,7 @@ module _ {g : GraphValue} {e : Events} {run : Run} {handles : List Handle} (v : 
     keys = f.keys;
     issued = f.issued;
     ended = f.ended;
+    times = λ j t h. absurd (contains_none {X = ℕ × ℕ} (j, t) h);
     named = f.named;
     claim = f.claim;
     event = f.event;
@@ -110,6 +109,7 @@ claim_moves g e id v c has s o me =
     (λ (q : r ≡ u). subst (Fits g e o.run o.handles) q (right_fits v f))
     (at_snoc (set s.views id l) r u j at))
     (moved_numbers s.views o.numbers id v me own.0 own.1 own.2)
+    (longer_known (set s.views id l) (r ∷ []) (known_on s.views id v l me refl (still o.run o.handles v l (record { issued = λ j c. c; ended = λ j x c. c; times = λ j t c. c }) (λ h. h)) o.known))
 
 -- SEATS THAT CLASH are not there together
 no_clash : (g : GraphValue) (e : Events) (s : St) → Shown g e s → (j k : ℕ) (v w : View) → (k ≡ j → ⊥) → get_elem? s.views j ≡ some v → get_elem? s.views k ≡ some w → AreNeverTogether v w → ⊥

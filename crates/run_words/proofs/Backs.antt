@@ -62,7 +62,7 @@ module _ (g : GraphValue) (e : Events) (line : ℕ) (x : End) (v : View) (cl : C
 
     module _ (o : Sat) (c : closes line (8 + end_code x) n o) where
       abbrev learnt : View
-      learnt = record v { issued = i.issued; ended = i.ended; saw = i.saw; claim = None }
+      learnt = record v { issued = i.issued; ended = i.ended; saw = i.saw; claim = Some i.claim }
 
       pub closed_now : o ≡ (closed_at learnt line x, [])
       closed_now = c ∙ (ap (λ (y : Sat). (closed_at y.0 line (end_of_code (8 + end_code x - 8)), Rattle.atomic_table.specs.Table.rest y.1)) i.now

@@ -35,6 +35,7 @@ use Rattle.run_words.specs.Plays.{Sat, claimed_at, HasClaimed, claims, looked_at
 use Rattle.run_words.specs.Premises.{Sources}
 use Rattle.run_words.proofs.Aside.{aside_staged, progress_on, other_set}
 use Rattle.run_words.proofs.Frames.{at_line, desk_again, words_set, slots_set}
+use Rattle.run_words.proofs.Known.{times_on, nothing_new}
 use Rattle.run_words.proofs.Steps.{St, board, sum_same, steps, works_none, claim_here, claim_there}
 use Rattle.run_words.proofs.Looks.{read_line, look_rule}
 
@@ -113,6 +114,12 @@ module _ (g : GraphValue) (e : Events) (s : St) (o : Shown g e s) (id i : ℕ) (
   ended_on : (j : ℕ) (x : End) → stage_at o.run.stages j ≡ Ended x → stage_at after.stages j ≡ Ended x
   ended_on j x u = other_set o.run.stages Unissued i j Out (λ q. true≢false (sym (ap stage_ended (ap (stage_at o.run.stages) (sym q) ∙ u)) ∙ ap stage_ended stage)) ∙ u
 
+  ended_back : (j : ℕ) (x : End) → stage_at after.stages j ≡ Ended x → stage_at o.run.stages j ≡ Ended x
+  ended_back j x u = elim (cases_eq j i) [
+    | inl q ↦ absurd (true≢false (sym (ap stage_ended u) ∙ (ap (λ k. stage_ended (stage_at after.stages k)) q ∙ ap stage_ended now_out)))
+    | inr n ↦ sym (other_set o.run.stages Unissued i j Out n) ∙ u
+  ]
+
   fits : Fits g e after o.handles w
   fits =
       let f = o.each_view id v me in
@@ -120,6 +127,7 @@ module _ (g : GraphValue) (e : Events) (s : St) (o : Shown g e s) (id i : ℕ) (
         keys = f.keys;
         issued = λ j c. issued_on j ∙ f.issued j c;
         ended = λ j x c. ended_on j x (f.ended j x c);
+        times = λ j t c. times_on o.run after refl ended_on j t (f.times j t c);
         named = f.named;
         claim = λ c q. subst (Progress g after) (same_Some (new_claim i h) c q) (new_progress g o.run o.sound i stage h there);
         event = λ c q. subst (λ (x : Claim). handle_at o.handles x.line ≡ x.event) (same_Some (new_claim i h) c q) (sym shows.2.named);
@@ -134,7 +142,7 @@ module _ (g : GraphValue) (e : Events) (s : St) (o : Shown g e s) (id i : ℕ) (
 
   pub claim_rule : Shown g e (board (set s.words i 3) (set s.homes i none) (set s.views id w))
   claim_rule = steps g e s o id v w me after o.handles (set s.words i 3) (set s.homes i none)
-      (record { names = λ j q. refl; issued = λ j q. issued_on j ∙ q; ended = ended_on; begins = λ l q. q })
+      (record { names = λ j q. refl; issued = λ j q. issued_on j ∙ q; ended = ended_on; times = times_on o.run after refl ended_on; begins = λ l q. q })
       (λ j u other at. let f = o.each_view j u at in record {
         claim = λ c q p. progress_on i (aside_staged i Out o.run) c (works_none g e s o id v w me i j u c at (ap busy stage) q) p;
         issuing = λ k q. unissued_on k (f.issuing k q).0;
@@ -165,6 +173,7 @@ module _ (g : GraphValue) (e : Events) (s : St) (o : Shown g e s) (id i : ℕ) (
       })
       there
       (desk_again g e (sum_same has_desk s.views id v w me refl) refl refl o.words.desk))
+      (nothing_new o.run after o.handles v w refl (λ j q. sym (issued_on j) ∙ q) ended_back (record { issued = λ j c. c; ended = λ j x c. c; times = λ j t c. c }) (λ q. q))
 
   pub claim_told : (hand : List (ℕ × Content)) → HasClaimed i (v, hand) (w, (i, Ticket shows.2.ticket) ∷ hand)
   claim_told hand = record {

@@ -1,6 +1,7 @@
 -- What a table leaves into whose last seat every other was joined.
-use Rattle.std.proofs.Common.{◌≡◌, ℕ, ◌+◌, List, length, refl, sym, ◌∙◌, ap, subst, arith}
-use Rattle.std.specs.Prelude.{slice_index}
+use Rattle.std.proofs.Common.{◌≡◌, ℕ, ◌+◌, inl, inr, List, [], length, ⊎_elim, refl, sym, ◌∙◌, ap, subst, arith}
+use Rattle.std.specs.Prelude.{Contains, Some, is_some, slice_index}
+use Rattle.std.proofs.lemmas.Option.{none-some}
 use mathlib.Core.Option.{some}
 use lib.ListN.{get_elem?}
 use Rattle.atomic_table.specs.Table.{Final, Seen}
@@ -13,12 +14,13 @@ use Rattle.run_words.specs.declared.content.Content.{Content}
 use Rattle.run_words.specs.declared.content.Content.TheVariants.{Nothing, Ticket, Stub, Cells, Tray}
 use Rattle.run_words.specs.declared.view.View.{View}
 use Rattle.run_words.specs.Layout.{size_of, status_word, time_word, turn_word, desk_word, line_slot, column_slot, desk_slot}
-use Rattle.run_words.specs.Rule.{Shown, LineShown, ColumnShown, DeskShown, IsTray, column_with, handle_at}
+use Rattle.run_words.specs.Rule.{Shown, LineShown, ColumnShown, DeskShown, HasEndedAt, HasHandles, IsTray, column_with, handle_at}
 use Rattle.run_words.specs.Views.{busy, time_code, owes_at}
 use Rattle.run_words.specs.Premises.{HasNoRights}
 use Rattle.run_words.specs.Closing.{LineLeft, IsLeft}
+use Rattle.run_words.proofs.Known.{of_last}
 use Rattle.run_words.proofs.Steps.{St}
-use Rattle.run_words.proofs.Whole.{IsWhole, Rests, rests, idle_ended}
+use Rattle.run_words.proofs.Whole.{IsWhole, Rests, rests, idle_ended, alone}
 use Rattle.basics.specs.Sums.{total}
 
 -- what was at home in a slot is there
@@ -42,35 +44,47 @@ desk_left : (e : Events) (n : ℕ) (handles : List Handle) (w : ℕ) (homes : Li
     DeskShown e n handles 0 w home → (d : Desk) × (get_elem? slots k ≡ some (Tray d)) × IsTray e n handles d
 desk_left e n handles w homes slots k home came at l = (l.1.tray, came k (Tray l.1.tray) (at ∙ ap some l.1.here), l.1.is_tray)
 
-module _ (g : GraphValue) (e : Events) (s : St) (o : Shown g e s) (id : ℕ) (v : View) (me : get_elem? s.views id ≡ some v) (r : Rests g e s o) (slots : List Content) (long : length s.homes ≡ length slots) (came : Came s.homes slots) where
-  left_of : IsLeft g e v o.run o.handles s.words slots
-  left_of = record {
-    sound = o.sound;
-    quiet = λ i h. idle_ended (stage_at o.run.stages i) (r.idle i) h;
-    are_handles = o.are_handles;
-    wide = o.words.wide;
-    deep = sym long ∙ o.words.deep;
-    lines = λ i near. (let l = o.words.lines i near in
-        line_left e (handle_at o.handles i) (stage_at o.run.stages i) (slice_index s.words (status_word (size_of g) i)) s.homes slots (line_slot (size_of g) i) l.home came l.at (r.idle i)
-        (subst (λ k. LineShown e (handle_at o.handles i) (stage_at o.run.stages i) k (slice_index s.words (status_word (size_of g) i)) l.home) (r.none_issuing i) l.shown));
-    times = λ i near. (let t : slice_index s.words (time_word (size_of g) i) + total (owes_at i) s.views ≡ time_code (time_at o.run.times i) = o.words.times i near in
-        let z : total (owes_at i) s.views ≡ 0 = r.none_owing i in omega (arith, t, z));
-    values = o.words.values;
-    columns = λ c near. (let l = o.words.columns c near in
-        column_left g c (place_at o.run.places c) (slice_index s.words (turn_word (size_of g) c)) s.homes slots (column_slot (size_of g) c) l.home came l.at (r.at_home c) l.shown);
-    locks = o.words.locks;
-    clock = o.words.clock;
-    desk = (let l = o.words.desk in
-        desk_left e (length g.lines) o.handles (slice_index s.words (desk_word (size_of g))) s.homes slots (desk_slot (size_of g)) l.home came l.at
-        (subst (λ k. DeskShown e (length g.lines) o.handles k (slice_index s.words (desk_word (size_of g))) l.home) r.desk_home l.shown));
-    known_issued = (o.each_view id v me).issued;
-    known_ended = (o.each_view id v me).ended;
-    known_handles = (o.each_view id v me).named;
-  }
+module _ (g : GraphValue) (e : Events) (s : St) (o : Shown g e s) (id : ℕ) (v : View) (me : get_elem? s.views id ≡ some v) (r : Rests g e s o) (slots : List Content) (long : length s.homes ≡ length slots) (came : Came s.homes slots) (free : HasNoRights v)
+    (alone : (j : ℕ) (u : View) → (j ≡ id → ⊥) → get_elem? s.views j ≡ some u → u.mine ≡ [])
+  where
+    -- a line that has a time has ended
+    over_at : (i t : ℕ) → time_at o.run.times i ≡ Some t → HasEndedAt o.run i t
+    over_at i t h = record { over = idle_ended (stage_at o.run.stages i) (r.idle i) (o.sound.on_times.timed_started i (ap is_some h)); at = h }
+
+    -- it has the handles by name, where it has no turn
+    named_of : HasHandles o.handles v → Contains v.named o.handles
+    named_of = ⊎_elim (λ c. c) (λ q. absurd (none-some o.handles (sym free.desk ∙ q)))
+
+    left_of : IsLeft g e v o.run o.handles s.words slots
+    left_of = record {
+      sound = o.sound;
+      quiet = λ i h. idle_ended (stage_at o.run.stages i) (r.idle i) h;
+      are_handles = o.are_handles;
+      wide = o.words.wide;
+      deep = sym long ∙ o.words.deep;
+      lines = λ i near. (let l = o.words.lines i near in
+          line_left e (handle_at o.handles i) (stage_at o.run.stages i) (slice_index s.words (status_word (size_of g) i)) s.homes slots (line_slot (size_of g) i) l.home came l.at (r.idle i)
+          (subst (λ k. LineShown e (handle_at o.handles i) (stage_at o.run.stages i) k (slice_index s.words (status_word (size_of g) i)) l.home) (r.none_issuing i) l.shown));
+      times = λ i near. (let t : slice_index s.words (time_word (size_of g) i) + total (owes_at i) s.views ≡ time_code (time_at o.run.times i) = o.words.times i near in
+          let z : total (owes_at i) s.views ≡ 0 = r.none_owing i in omega (arith, t, z));
+      values = o.words.values;
+      columns = λ c near. (let l = o.words.columns c near in
+          column_left g c (place_at o.run.places c) (slice_index s.words (turn_word (size_of g) c)) s.homes slots (column_slot (size_of g) c) l.home came l.at (r.at_home c) l.shown);
+      locks = o.words.locks;
+      clock = o.words.clock;
+      desk = (let l = o.words.desk in
+          desk_left e (length g.lines) o.handles (slice_index s.words (desk_word (size_of g))) s.homes slots (desk_slot (size_of g)) l.home came l.at
+          (subst (λ k. DeskShown e (length g.lines) o.handles k (slice_index s.words (desk_word (size_of g))) l.home) r.desk_home l.shown));
+      known_issued = λ i. ((o.each_view id v me).issued i, λ h. of_last (λ (u : View). Contains u.issued i) s.views id v me alone (o.known.issued i h));
+      known_ended = λ i y. ((o.each_view id v me).ended i y, λ h. of_last (λ (u : View). Contains u.ended (i, y)) s.views id v me alone (o.known.ended i y h));
+      known_times = λ i t. ((λ c. ((o.each_view id v me).times i t c).at), λ h. of_last (λ (u : View). Contains u.times (i, t)) s.views id v me alone (o.known.times i t (over_at i t h)));
+      known_handles = (o.each_view id v me).named;
+      all_handles = ⊎_elim (λ n. inl n) (λ h. inr (named_of (of_last (HasHandles o.handles) s.views id v me alone h))) o.known.named;
+    }
 
 pub closes : (g : GraphValue) (e : Events) (id : ℕ) (v : View) (words : List ℕ) (slots : List Content) → IsWhole v → HasNoRights v → Final (Seen (Shown g e) id v) words slots → (run : Run) × (handles : List Handle) × IsLeft g e v run handles words slots
 closes g e id v words slots whole free f =
     let s = f.0 in
     let o = f.1.0 in
-    let l = left_of g e s o id v f.1.1 (rests g e s o id v f.1.1 whole free) slots f.3 f.4 in
+    let l = left_of g e s o id v f.1.1 (rests g e s o id v f.1.1 whole free) slots f.3 f.4 free (alone s.views o.numbers id v f.1.1 whole) in
     (o.run, o.handles, subst (λ ws. IsLeft g e v o.run o.handles ws slots) f.2 l)

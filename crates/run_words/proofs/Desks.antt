@@ -3,7 +3,7 @@ use Rattle.std.proofs.Common.{◌≡◌, ℕ, zero, suc, ◌≤◌, inl, inr, Li
 use Rattle.std.specs.Prelude.{Contains, Some, None, ◌==◌}
 use Rattle.std.proofs.lemmas.Bool.{cases_lt}
 use Rattle.std.proofs.lemmas.Option.{none-some, same_Some}
-use Rattle.std.proofs.lemmas.List.Elements.{Contains-append_cases, Contains-push_cases}
+use Rattle.std.proofs.lemmas.List.Elements.{Contains-append_cases, Contains-append_left, Contains-append_right, Contains-push_cases}
 use mathlib.Core.Option.{none, some}
 use lib.ListN.{get_elem?}
 use prog.Atomic.{either}
@@ -17,7 +17,7 @@ use Rattle.event_table.specs.declared.handle.Handle.{Handle}
 use Rattle.shared_events.specs.declared.events.Events.{Events}
 use Rattle.basics.proofs.Sums.{total-set}
 use Rattle.run_state.proofs.Public.{stage_there}
-use Rattle.basics.proofs.ListFacts.{below_contains, contains_none}
+use Rattle.basics.proofs.ListFacts.{below_contains, contains_none, contains_here}
 use Rattle.run_words.specs.declared.content.Content.{Content}
 use Rattle.run_words.specs.declared.content.Desk.{Desk}
 use Rattle.run_words.specs.declared.view.View.{View}
@@ -28,6 +28,7 @@ use Rattle.run_words.specs.Views.{issues_at, owes_at, turn_of, has_desk}
 use Rattle.run_words.specs.Rule.{ground_of, IsTray, HasTray, DeskShown, Shown}
 use Rattle.run_words.specs.Plays.{Sat, with_desk, HasDesk, takes_desk, without_desk, named_by, gives_desk, saw_at}
 use Rattle.run_words.proofs.Frames.{at_desk, words_set, slots_set}
+use Rattle.run_words.proofs.Known.{still}
 use Rattle.run_words.proofs.Steps.{St, board, sum_same, run_stays}
 use Rattle.run_words.proofs.Looks.{saw_rule, kept_word}
 use Rattle.run_words.proofs.Turns.{sat}
@@ -75,6 +76,7 @@ module _ (g : GraphValue) (e : Events) (s : St) (o : Shown g e s) (id : ℕ) (v 
           keys = f.keys;
           issued = λ j c. ⊎_elim (λ d. f.issued j d) (λ d. (o.are_handles.each_issued j).1 (below_contains (length o.handles) j d)) (Contains-append_cases v.issued (numbers_below (length o.handles)) j c);
           ended = f.ended;
+          times = f.times;
           named = λ hs c. ⊎_elim (λ d. f.named hs d) (λ (q : o.handles ≡ hs). subst (λ l. Begins l o.handles) q (begins_self o.handles)) (Contains-push_cases v.named o.handles hs c);
           claim = f.claim;
           event = f.event;
@@ -83,6 +85,8 @@ module _ (g : GraphValue) (e : Events) (s : St) (o : Shown g e s) (id : ℕ) (v 
           desk = λ hs q. sym (same_Some o.handles hs q);
           idle = λ n. absurd (grind (arith, n, own.2));
         })
+        (still o.run o.handles v w (record { issued = λ j c. Contains-append_left v.issued (numbers_below (length o.handles)) j c; ended = λ j x c. c; times = λ j t c. c })
+        (λ _. inl (Contains-append_right v.named (o.handles ∷ []) o.handles (contains_here o.handles []))))
         (set s.words (desk_word z) 1) (set s.homes (desk_slot z) none)
         (at_desk g e z o.run o.handles (λ k. total (issues_at k) s.views) (λ k. total (owes_at k) s.views) (total has_desk s.views) s.words s.homes o.words
         (λ k. total (issues_at k) (set s.views id w)) (λ k. total (owes_at k) (set s.views id w)) (total has_desk (set s.views id w))
@@ -129,6 +133,7 @@ module _ (g : GraphValue) (e : Events) (s : St) (o : Shown g e s) (id : ℕ) (v 
           keys = f.keys;
           issued = f.issued;
           ended = f.ended;
+          times = f.times;
           named = λ l c. ⊎_elim (λ d. f.named l d)
               (λ d. ⊎_elim (λ (q : hs ≡ l). subst (λ y. Begins y o.handles) (sym mine ∙ q) (begins_self o.handles)) (λ n. absurd (contains_none l n)) (Rattle.basics.proofs.ListFacts.contains_cases hs [] l (subst (λ o'. Contains (named_by o') l) turn d)))
               (Contains-append_cases v.named (named_by v.desk) l c);
@@ -139,6 +144,11 @@ module _ (g : GraphValue) (e : Events) (s : St) (o : Shown g e s) (id : ℕ) (v 
           desk = λ l q. absurd (none-some l q);
           idle = λ n. let i = f.idle n in (i.0, i.1, refl);
         })
+        (still o.run o.handles v w' (record { issued = λ j c. c; ended = λ j x c. c; times = λ j t c. c })
+        (λ h. inl (⊎_elim
+        (λ c. Contains-append_left v.named (named_by v.desk) o.handles c)
+        (λ q. Contains-append_right v.named (named_by v.desk) o.handles (subst (λ d. Contains (named_by d) o.handles) (sym q) (contains_here o.handles [])))
+        h)))
         (set s.words (desk_word z) 0) (set s.homes (desk_slot z) (some (Tray tray)))
         (at_desk g e z o.run o.handles (λ k. total (issues_at k) s.views) (λ k. total (owes_at k) s.views) (total has_desk s.views) s.words s.homes o.words
         (λ k. total (issues_at k) (set s.views id w')) (λ k. total (owes_at k) (set s.views id w')) (total has_desk (set s.views id w'))

@@ -1,8 +1,8 @@
 -- The steps that end a line, close it, and give up a claim.
-use Rattle.std.proofs.Common.{◌≡◌, ℕ, ◌<◌, ◌+◌, ◌-◌, true, inl, inr, List, [], ◌∷◌, ◌++◌, length, set, get_or, refl, sym, ◌∙◌, ap, subst, arith, get_or-set_same, ⊎_elim, cond, ne_eqb}
+use Rattle.std.proofs.Common.{◌≡◌, ◌≢◌, ℕ, ◌<◌, ◌+◌, ◌-◌, true, inl, inr, List, [], ◌∷◌, ◌++◌, length, set, get_or, refl, sym, ◌∙◌, ap, subst, arith, get_or-set_same, ⊎_elim, cond, ne_eqb}
 use Rattle.std.specs.Prelude.{Contains, Option, Some, None, ◌↔◌, is_some}
 use Rattle.std.proofs.lemmas.Bool.{true≢false, cases_eq, false_from_ne_true}
-use Rattle.std.proofs.lemmas.Option.{none-some}
+use Rattle.std.proofs.lemmas.Option.{none-some, same_Some}
 use mathlib.Core.Option.{none, some}
 use lib.ListN.{get_elem?}
 use Rattle.atomic_table.specs.Table.{keeps, gives, Allows}
@@ -18,10 +18,10 @@ use Rattle.shared_events.specs.declared.events.Events.{Events}
 use Rattle.run_words.specs.declared.content.Content.{Content}
 use Rattle.run_words.specs.declared.view.View.{View}
 use Rattle.run_words.specs.Claims.{Claim}
-use Rattle.std.proofs.lemmas.List.Elements.{Contains-push_cases}
+use Rattle.std.proofs.lemmas.List.Elements.{Contains-push_cases, Contains-append_cases, Contains-append_left, Contains-append_right}
 use Rattle.basics.proofs.Sums.{total-set}
-use Rattle.basics.proofs.ListFacts.{contains_none}
-use Rattle.run_state.specs.Run.{LineStage, Unissued, Issued, Out, Ending, Ended, Run, is_listed, stage_at, stage_issued}
+use Rattle.basics.proofs.ListFacts.{contains_none, contains_here}
+use Rattle.run_state.specs.Run.{LineStage, Unissued, Issued, Out, Ending, Ended, Run, is_listed, stage_at, time_at, stage_issued, stage_ended, kept_end}
 use Rattle.run_state.specs.Sound.{Sound}
 use Rattle.run_state.specs.Moves.{staged, unclaim, ending, close}
 use Rattle.run_state.proofs.Stages.{ending-sound, close-sound, unclaim-sound}
@@ -30,10 +30,11 @@ use Rattle.run_words.specs.declared.content.Content.TheVariants.{Ticket, Stub}
 use Rattle.run_words.specs.Layout.{size_of}
 use Rattle.run_words.specs.Views.{time_code, claim_at, runs_at, late, issues_at, late_at, owes_at, has_desk, busy, working}
 use Rattle.run_words.specs.Rule.{end_code, fate_for, LineShown, handle_at, Progress, Fits, Shown}
-use Rattle.run_words.specs.Plays.{Sat, on_claim, end_of_code, ending_with, ends, closed_at, closes, line_claimed, unclaims}
+use Rattle.run_words.specs.Plays.{Sat, on_claim, end_of_code, ending_with, ends, time_claimed, closed_at, closes, line_claimed, unclaims}
 use Rattle.run_words.specs.Premises.{IsBare, IsThrough, IsOver}
 use Rattle.run_words.proofs.Aside.{aside_staged, progress_on, other_set}
 use Rattle.run_words.proofs.Frames.{at_line, desk_again, words_set, slots_set, slots_same}
+use Rattle.run_words.proofs.Known.{Learns, times_on, time_is, time_in, nothing_new}
 use Rattle.run_words.proofs.Steps.{St, board, sum_same, steps, claim_goes, works_alone, claim_here, working_issued, working_busy, working_not_over}
 use Rattle.run_words.proofs.Looks.{code_end}
 use Rattle.run_words.proofs.Turns.{with_claim, on_claimed, sat}
@@ -124,9 +125,9 @@ module _ (g : GraphValue) (e : Events) (s : St) (o : Shown g e s) (id : ℕ) (v 
     owes_on : (k : ℕ) → owes_at k w ≡ owes_at k v
     owes_on k = ap (late_at k) gone ∙ sym (ap (late_at k) has ∙ elim (cases_eq i k) [ inl q ↦ late_here k cl q ∙ nothing_owed | inr n ↦ late_there k cl n ])
 
-    pub leave_rule : w.mine ≡ v.mine → w.births ≡ v.births → w.splits ≡ v.splits → Fits g e after o.handles w → Shown g e (board (set s.words i x) (set s.homes i (some y)) (set s.views id w))
-    leave_rule em eb es fits = steps g e s o id v w me after o.handles (set s.words i x) (set s.homes i (some y))
-        (record { names = λ j q. refl; issued = λ j q. issued_on j ∙ q; ended = ended_on; begins = λ l q. q })
+    pub leave_rule : w.mine ≡ v.mine → w.births ≡ v.births → w.splits ≡ v.splits → Fits g e after o.handles w → Learns o.run after o.handles o.handles v w → Shown g e (board (set s.words i x) (set s.homes i (some y)) (set s.views id w))
+    leave_rule em eb es fits learns = steps g e s o id v w me after o.handles (set s.words i x) (set s.homes i (some y))
+        (record { names = λ j q. refl; issued = λ j q. issued_on j ∙ q; ended = ended_on; times = times_on o.run after refl ended_on; begins = λ l q. q })
         (λ j u other at. let f = o.each_view j u at in record {
           claim = λ c q p. progress_on i (aside_staged i t o.run) c (works_alone g e s o id v w me i j u cl c other at has refl q) p;
           issuing = λ k q. unissued_on k (f.issuing k q).0;
@@ -158,6 +159,7 @@ module _ (g : GraphValue) (e : Events) (s : St) (o : Shown g e s) (id : ℕ) (v 
         })
         there
         (desk_again g e (sum_same has_desk s.views id v w me (ap Rattle.run_words.specs.Views.turn_of ed)) refl refl o.words.desk))
+        learns
 
   -- closed
   module _ (x : End) (over : IsOver g cl x) (stub : Receipt) (of : IsReceiptOf e stub) (named : ended_by stub ≡ cl.event) (told : fate_of stub ≡ fate_for x) where
@@ -169,6 +171,41 @@ module _ (g : GraphValue) (e : Events) (s : St) (o : Shown g e s) (id : ℕ) (v 
 
     paid : late cl ≡ 0
     paid = ap (λ b. cond b 0 (time_code cl.time)) over.stored
+
+    close_at : stage_at (close o.run i x).stages i ≡ Ended x
+    close_at = now_at (Ended x) refl refl paid close_sound (8 + end_code x) (Stub stub) stub_shown (closed_at v i x) refl refl refl
+
+    close_ended_on : (j : ℕ) (y : End) → stage_at o.run.stages j ≡ Ended y → stage_at (close o.run i x).stages j ≡ Ended y
+    close_ended_on = ended_on (Ended x) refl refl paid close_sound (8 + end_code x) (Stub stub) stub_shown (closed_at v i x) refl refl refl
+
+    owned : (closed_at v i x).mine ≢ []
+    owned n = none-some cl (sym ((o.each_view id v me).idle n).0 ∙ has)
+
+    -- the seat learns the end of the line, and its time
+    close_learns : Learns o.run (close o.run i x) o.handles o.handles v (closed_at v i x)
+    close_learns =
+        let w : View = closed_at v i x in
+        record {
+          keeps = record {
+            issued = λ j c. Contains-append_left v.issued (i ∷ []) j c;
+            ended = λ j y c. Contains-append_left v.ended ((i, x) ∷ []) (j, y) c;
+            times = λ j t c. Contains-append_left v.times (time_claimed v.claim) (j, t) c;
+          };
+          new_issued = λ j q. inl (sym (issued_on (Ended x) refl refl paid close_sound (8 + end_code x) (Stub stub) stub_shown w refl refl refl j) ∙ q);
+          new_ended = λ j y q. elim (cases_eq j i) [
+            | inl is ↦ (
+                let same : x ≡ y = same_Some x y (ap kept_end (sym close_at ∙ (ap (stage_at (close o.run i x).stages) (sym is) ∙ q))) in
+                inr (owned, subst (λ k. Contains w.ended (k, y)) (sym is) (subst (λ (z : End). Contains w.ended (i, z)) same (Contains-append_right v.ended ((i, x) ∷ []) (i, x) (contains_here {X = ℕ × End} (i, x) [])))))
+            | inr n ↦ inl (sym (other_set o.run.stages Unissued i j (Ended x) n) ∙ q)
+          ];
+          new_times = λ j t q. elim (cases_eq j i) [
+            | inl is ↦ (
+                let at : cl.time ≡ Some t = sym progress.time ∙ (ap (time_at o.run.times) (sym is) ∙ q.at) in
+                inr (owned, subst (λ k. Contains w.times (k, t)) (sym is) (Contains-append_right v.times (time_claimed v.claim) (i, t) (subst (λ (y : Option Claim). Contains (time_claimed y) (i, t)) (sym has) (time_in i cl.time t at)))))
+            | inr n ↦ inl (record { over = ap stage_ended (sym (other_set o.run.stages Unissued i j (Ended x) n)) ∙ q.over; at = q.at })
+          ];
+          new_handles = inl (refl, λ q. q);
+        }
 
     close_fits : Fits g e (close o.run i x) o.handles (closed_at v i x)
     close_fits =
@@ -184,6 +221,13 @@ module _ (g : GraphValue) (e : Events) (s : St) (o : Shown g e s) (id : ℕ) (v 
               (λ d. ended_on (Ended x) refl refl paid close_sound (8 + end_code x) (Stub stub) stub_shown w refl refl refl j z (f.ended j z d))
               (λ (q : (i, x) ≡ (j, z)). subst (λ (p : ℕ × End). stage_at (close o.run i x).stages p.0 ≡ Ended p.1) q (now_at (Ended x) refl refl paid close_sound (8 + end_code x) (Stub stub) stub_shown w refl refl refl))
               (Contains-push_cases v.ended (i, x) (j, z) c);
+          times = λ j t c. ⊎_elim
+              (λ d. times_on o.run (close o.run i x) refl close_ended_on j t (f.times j t d))
+              (λ d. (let q = time_is i cl.time j t (subst (λ (y : Option Claim). Contains (time_claimed y) (j, t)) has d) in record {
+                over = ap (λ k. stage_ended (stage_at (close o.run i x).stages k)) (sym q.0) ∙ ap stage_ended close_at;
+                at = ap (time_at o.run.times) (sym q.0) ∙ (progress.time ∙ q.1);
+              }))
+              (Contains-append_cases v.times (time_claimed v.claim) (j, t) c);
           named = f.named;
           claim = λ c q. absurd (none-some c q);
           event = λ c q. absurd (none-some c q);
@@ -194,7 +238,7 @@ module _ (g : GraphValue) (e : Events) (s : St) (o : Shown g e s) (id : ℕ) (v 
         }
 
     pub close_rule : Shown g e (board (set s.words i (8 + end_code x)) (set s.homes i (some (Stub stub))) (set s.views id (closed_at v i x)))
-    close_rule = leave_rule (Ended x) refl refl paid close_sound (8 + end_code x) (Stub stub) stub_shown (closed_at v i x) refl refl refl refl refl refl close_fits
+    close_rule = leave_rule (Ended x) refl refl paid close_sound (8 + end_code x) (Stub stub) stub_shown (closed_at v i x) refl refl refl refl refl refl close_fits close_learns
 
   -- given up
   module _ (bare : IsBare cl) (ticket : Pending) (of : IsPendingOf e ticket) (named : handle_of ticket ≡ cl.event) where
@@ -224,6 +268,7 @@ module _ (g : GraphValue) (e : Events) (s : St) (o : Shown g e s) (id : ℕ) (v 
           keys = f.keys;
           issued = λ j c. issued_on Issued refl refl free_of unclaim_sound 2 (Ticket ticket) ticket_shown w refl refl refl j ∙ f.issued j c;
           ended = λ j z c. ended_on Issued refl refl free_of unclaim_sound 2 (Ticket ticket) ticket_shown w refl refl refl j z (f.ended j z c);
+          times = λ j t c. times_on o.run (unclaim o.run i) refl (ended_on Issued refl refl free_of unclaim_sound 2 (Ticket ticket) ticket_shown w refl refl refl) j t (f.times j t c);
           named = f.named;
           claim = λ c q. absurd (none-some c q);
           event = λ c q. absurd (none-some c q);
@@ -235,6 +280,12 @@ module _ (g : GraphValue) (e : Events) (s : St) (o : Shown g e s) (id : ℕ) (v 
 
     pub unclaim_rule : Shown g e (board (set s.words i 2) (set s.homes i (some (Ticket ticket))) (set s.views id w))
     unclaim_rule = leave_rule Issued refl refl free_of unclaim_sound 2 (Ticket ticket) ticket_shown w refl refl refl refl refl refl unclaim_fits
+        (nothing_new o.run (unclaim o.run i) o.handles v w refl (λ j q. sym (issued_on Issued refl refl free_of unclaim_sound 2 (Ticket ticket) ticket_shown w refl refl refl j) ∙ q)
+        (λ j y q. elim (cases_eq j i) [
+          | inl is ↦ absurd (true≢false (sym (ap stage_ended q) ∙ (ap (λ k. stage_ended (stage_at (unclaim o.run i).stages k)) is ∙ ap stage_ended (now_at Issued refl refl free_of unclaim_sound 2 (Ticket ticket) ticket_shown w refl refl refl))))
+          | inr n ↦ sym (other_set o.run.stages Unissued i j Issued n) ∙ q
+        ])
+        (record { issued = λ j c. c; ended = λ j y c. c; times = λ j t c. c }) (λ q. q))
 
 pub ends_allow : (g : GraphValue) (e : Events) (slots id : ℕ) (m : Sat) (cl : Claim) (x : End) → m.0.claim ≡ Some cl → IsThrough g cl x → Allows (Shown g e) slots id m cl.line (λ _. 4 + end_code x) (λ _. ends (4 + end_code x) m)
 ends_allow g e slots id m cl x has th s o wide me low =

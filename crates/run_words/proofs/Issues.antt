@@ -1,9 +1,9 @@
 -- The steps that begin to issue a line, issue it, and give it up.
-use Rattle.std.proofs.Common.{◌≡◌, ℕ, zero, suc, ◌<◌, ◌+◌, true, ◌⊎◌, inl, inr, List, [], ◌∷◌, ◌++◌, length, set, get_or, refl, sym, ◌∙◌, ap, subst, arith, get_or-set_same, ⊎_elim, cond, eq-eqb, ne_eqb, append_assoc, length-append}
+use Rattle.std.proofs.Common.{◌≡◌, ◌≢◌, ℕ, zero, suc, ◌<◌, ◌+◌, true, ◌⊎◌, inl, inr, List, [], ◌∷◌, ◌++◌, length, set, get_or, refl, sym, ◌∙◌, ap, subst, arith, get_or-set_same, ⊎_elim, cond, eq-eqb, ne_eqb, append_assoc, length-append}
 use Rattle.std.specs.Prelude.{Contains, Option, Some, None, option_map, ◌==◌, slice_get}
 use Rattle.std.proofs.lemmas.Bool.{true≢false, cases_eq, cases_lt}
 use Rattle.std.proofs.lemmas.Option.{none-some, same_Some}
-use Rattle.std.proofs.lemmas.List.Elements.{Contains-push_cases}
+use Rattle.std.proofs.lemmas.List.Elements.{Contains-push_cases, Contains-append_left, Contains-append_right}
 use mathlib.Core.Option.{none, some}
 use lib.ListN.{get_elem?}
 use prog.Atomic.{either}
@@ -33,6 +33,7 @@ use Rattle.run_words.specs.Rule.{LineShown, DeskShown, handle_at, AreHandles, Wo
 use Rattle.run_words.specs.Plays.{Sat, issuing_at, begins_issue, issues, gives_up_issue}
 use Rattle.run_words.proofs.Aside.{aside_staged, progress_on, other_set}
 use Rattle.run_words.proofs.Frames.{at_line, desk_again, words_set, slots_set}
+use Rattle.run_words.proofs.Known.{Learns, times_on, still}
 use Rattle.run_words.proofs.Steps.{St, board, sum_same, steps, run_stays, working_issued}
 use Rattle.run_words.proofs.Turns.{sat}
 use Rattle.run_words.proofs.Desks.{desk_alone}
@@ -156,6 +157,7 @@ module _ (g : GraphValue) (e : Events) (s : St) (o : Shown g e s) (id : ℕ) (v 
           keys = f.keys;
           issued = f.issued;
           ended = f.ended;
+          times = f.times;
           named = f.named;
           claim = f.claim;
           event = f.event;
@@ -164,6 +166,7 @@ module _ (g : GraphValue) (e : Events) (s : St) (o : Shown g e s) (id : ℕ) (v 
           desk = f.desk;
           idle = λ n. let z = f.idle n in absurd (none-some hs (sym z.2 ∙ turn));
         })
+        (still o.run o.handles v w (record { issued = λ j c. c; ended = λ j x c. c; times = λ j t c. c }) (λ q. q))
         (set s.words i 1) (set s.homes i none)
         (unissued_words stage w 1 none refl refl (λ j n. ap (λ b. cond b 1 0) (ne_eqb i j (λ q. n (sym q))) ∙ sym (ap (number_at j) quiet))
         (subst (λ k. LineShown e (handle_at o.handles i) Unissued k 1 none) (sym one) (refl, refl, refl)))
@@ -201,6 +204,7 @@ module _ (g : GraphValue) (e : Events) (s : St) (o : Shown g e s) (id : ℕ) (v 
           keys = f.keys;
           issued = f.issued;
           ended = f.ended;
+          times = f.times;
           named = f.named;
           claim = f.claim;
           event = f.event;
@@ -209,6 +213,7 @@ module _ (g : GraphValue) (e : Events) (s : St) (o : Shown g e s) (id : ℕ) (v 
           desk = f.desk;
           idle = λ n. let z = f.idle n in (z.0, refl, z.2);
         })
+        (still o.run o.handles v w' (record { issued = λ j c. c; ended = λ j x c. c; times = λ j t c. c }) (λ q. q))
         (set s.words i 0) (set s.homes i (some Nothing))
         (unissued_words stage' w' 0 (some Nothing) refl refl (others_issue w' refl)
         (subst (λ k. LineShown e (handle_at o.handles i) Unissued k 0 (some Nothing)) (sym (none_left w' refl)) (refl, refl)))
@@ -269,6 +274,28 @@ module _ (g : GraphValue) (e : Events) (s : St) (o : Shown g e s) (id : ℕ) (v 
             (get_push o.handles h x a qa);
       }
 
+      ended_back : (j : ℕ) (x : End) → stage_at after.stages j ≡ Ended x → stage_at o.run.stages j ≡ Ended x
+      ended_back j x u = elim (cases_eq j i) [
+        | inl q ↦ absurd (true≢false (sym (ap stage_ended u) ∙ (ap (λ k. stage_ended (stage_at after.stages k)) q ∙ ap stage_ended now)))
+        | inr n ↦ sym (other_set o.run.stages Unissued i j Issued n) ∙ u
+      ]
+
+      owned : u'.mine ≢ []
+      owned n = none-some hs (sym ((o.each_view id v me).idle n).2 ∙ turn)
+
+      -- the line is new, and the list of handles
+      issue_learns : Learns o.run after o.handles then v u'
+      issue_learns = record {
+        keeps = record { issued = λ j c. Contains-append_left v.issued (i ∷ []) j c; ended = λ j x c. c; times = λ j t c. c };
+        new_issued = λ j q. elim (cases_eq j i) [
+          | inl is ↦ inr (owned, subst (λ k. Contains u'.issued k) (sym is) (Contains-append_right v.issued (i ∷ []) i (contains_here i [])))
+          | inr n ↦ inl (sym (ap stage_issued (other_set o.run.stages Unissued i j Issued n)) ∙ q)
+        ];
+        new_ended = λ j x q. inl (ended_back j x q);
+        new_times = λ j t q. inl (times_on after o.run refl ended_back j t q);
+        new_handles = inr (owned, inr (ap (λ (y : List Handle). Some (y ++ h ∷ [])) same));
+      }
+
       pub issue_rule : Shown g e (board (set s.words i 2) (set s.homes i (some (Ticket ticket))) (set s.views id u'))
       issue_rule =
           let f = o.each_view id v me in
@@ -279,6 +306,7 @@ module _ (g : GraphValue) (e : Events) (s : St) (o : Shown g e s) (id : ℕ) (v 
             names = λ j q. at_append o.handles h no_event j (λ r. let a = (o.are_handles.each_issued j).0 q in absurd (omega (arith, a, r)));
             issued = issued_on;
             ended = ended_on;
+            times = times_on o.run after refl ended_on;
             begins = begins_on;
           })
           (λ j u other at. let fu = o.each_view j u at in record {
@@ -291,6 +319,7 @@ module _ (g : GraphValue) (e : Events) (s : St) (o : Shown g e s) (id : ℕ) (v 
             keys = f.keys;
             issued = λ j c. ⊎_elim (λ d. issued_on j (f.issued j d)) (λ (q : i ≡ j). ap (λ k. stage_issued (stage_at after.stages k)) (sym q) ∙ ap stage_issued now) (Contains-push_cases v.issued i j c);
             ended = λ j x c. ended_on j x (f.ended j x c);
+            times = λ j t c. times_on o.run after refl ended_on j t (f.times j t c);
             named = λ l c. begins_on l (f.named l c);
             claim = λ c q. let p = f.claim c q in progress_on i (aside_staged i Issued o.run) c (λ r. true≢false (sym (working_issued c.ends p.stage) ∙ ap stage_issued (ap (stage_at o.run.stages) r ∙ stage'))) p;
             event = λ c q. at_append o.handles h no_event c.line (λ r. let a = (o.are_handles.each_issued c.line).0 (working_issued c.ends (f.claim c q).stage) in absurd (omega (arith, a, r))) ∙ f.event c q;
@@ -323,6 +352,7 @@ module _ (g : GraphValue) (e : Events) (s : St) (o : Shown g e s) (id : ℕ) (v 
             shown = subst (λ k. DeskShown e (size_of g).lines then k (get_or s.words (desk_word (size_of g)) 0) o.words.desk.home) (sym desks)
                 (desk_out e (size_of g).lines o.handles then (total has_desk s.views) (get_or s.words (desk_word (size_of g)) 0) o.words.desk.home some_desk o.words.desk.shown);
           }))
+          issue_learns
 
 pub begins_issue_allow : (g : GraphValue) (e : Events) (slots id i : ℕ) (m : Sat) (hs : List Handle) → i < length g.lines → m.0.desk ≡ Some hs → length hs ≡ i → m.0.issuing ≡ None → Allows (Shown g e) slots id m i (λ n. either (n == 0) 1 n) (begins_issue i m)
 begins_issue_allow g e slots id i m hs near turn next quiet s o wide me low =

@@ -2,7 +2,7 @@
 use Rattle.std.proofs.Common.{◌≡◌, ◌≢◌, ℕ, zero, suc, ◌<◌, ◌≤◌, ◌-◌, Bool, true, false, inl, inr, List, [], ◌∷◌, length, set, get_or, refl, sym, ◌∙◌, ap, subst, arith, ⊎_elim, cond}
 use Rattle.std.specs.Prelude.{Contains, None, nat_lt}
 use Rattle.std.proofs.lemmas.Bool.{true≢false, cases_lt}
-use Rattle.std.proofs.lemmas.List.Elements.{Contains-append_cases}
+use Rattle.std.proofs.lemmas.List.Elements.{Contains-append_cases, Contains-append_left}
 use mathlib.Core.Option.{none, some, some-injective}
 use lib.ListN.{get_elem?}
 use lib.Seq.{set-get_or}
@@ -28,6 +28,7 @@ use Rattle.run_words.specs.Claims.{Claim, Ground}
 use Rattle.run_words.specs.Views.{issues_at, working}
 use Rattle.run_words.specs.Rule.{Progress, end_code, LineShown, Fits, Shown, handle_at}
 use Rattle.run_words.specs.Plays.{Sat, Agrees, IsReady, end_of_code, issued_by, ended_by, looked_at, Told, looked, saw_at}
+use Rattle.run_words.proofs.Known.{still}
 use Rattle.run_words.proofs.Steps.{St, board, own_goes, working_started}
 
 abbrev pub Slot : Type 0
@@ -106,6 +107,7 @@ module _ (g : GraphValue) (e : Events) (s : St) (o : Shown g e s) (id i : ℕ) (
         ended = λ j x c. ⊎_elim (λ d. f.ended j x d)
             (λ d. let q = in_cond {X = ℕ × End} (nat_lt r 8) (i, end_of_code (r - 8)) (j, x) d in
             ap (stage_at o.run.stages) (sym (ap (λ (p : ℕ × End). p.0) q.1)) ∙ (t.ended (not_less r 8 q.0) ∙ ap (λ (p : ℕ × End). Ended p.1) q.1)) (Contains-append_cases v.ended (ended_by i r) (j, x) c);
+        times = f.times;
         named = f.named;
         claim = f.claim;
         event = f.event;
@@ -128,7 +130,11 @@ module _ (g : GraphValue) (e : Events) (s : St) (o : Shown g e s) (id i : ℕ) (
       }
 
   pub look_rule : Shown g e (board s.words s.homes (set s.views id (looked_at v i r))) × Told v i r
-  look_rule = (own_goes g e s o id v (looked_at v i r) me refl refl refl refl refl refl looked_fits, told)
+  look_rule = (
+    own_goes g e s o id v (looked_at v i r) me refl refl refl refl refl refl looked_fits
+        (still o.run o.handles v (looked_at v i r) (record { issued = Contains-append_left v.issued (issued_by i r); ended = λ j x c. Contains-append_left v.ended (ended_by i r) (j, x) c; times = λ j t c. c }) (λ q. q)),
+    told,
+  )
 
 pub looks : (g : GraphValue) (e : Events) (slots id i : ℕ) (m : Sat) → i < length g.lines → Allows (Shown g e) slots id m i (λ n. n) (looked i m)
 looks g e slots id i m near s o wide me low =
@@ -141,6 +147,7 @@ saw_rule g e s o id v me w r = let f = o.each_view id v me in own_goes g e s o i
   keys = f.keys;
   issued = f.issued;
   ended = f.ended;
+  times = f.times;
   named = f.named;
   claim = f.claim;
   event = f.event;
@@ -149,3 +156,4 @@ saw_rule g e s o id v me w r = let f = o.each_view id v me in own_goes g e s o i
   desk = f.desk;
   idle = f.idle;
 })
+    (still o.run o.handles v (saw_at v w r) (record { issued = λ j c. c; ended = λ j x c. c; times = λ j t c. c }) (λ q. q))

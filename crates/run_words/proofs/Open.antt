@@ -1,5 +1,5 @@
 -- A run that begins meets the rule.
-use Rattle.std.proofs.Common.{◌≡◌, ℕ, zero, suc, ◌+◌, List, [], ◌∷◌, length, map, get_or, refl, sym, ◌∙◌, ap, subst, arith, ⊎_elim}
+use Rattle.std.proofs.Common.{◌≡◌, ℕ, zero, suc, ◌+◌, List, [], ◌∷◌, length, map, get_or, inl, refl, sym, ◌∙◌, ap, subst, arith, ⊎_elim}
 use Rattle.std.specs.Prelude.{Contains, Option, Some, None, slice_get}
 use Rattle.std.proofs.lemmas.Bool.{true≢false}
 use Rattle.std.proofs.lemmas.Option.{none-some, same_Some}
@@ -14,7 +14,7 @@ use Rattle.graph_meaning.specs.Rules.{Accepted}
 use Rattle.graph_terms.specs.Fits.{IsGraph}
 use Rattle.shared_events.specs.declared.events.Events.{Events}
 use Rattle.basics.proofs.ListFacts.{contains_none, same_at, contains_one as Contains-one}
-use Rattle.run_state.specs.Run.{LineStage, Unissued, Home, stage_at, stage_issued}
+use Rattle.run_state.specs.Run.{LineStage, Unissued, Home, stage_at, stage_issued, stage_ended}
 use Rattle.run_state.specs.Start.{start, zeros, first_value}
 use Rattle.run_state.proofs.Start.{start_is_sound}
 use Rattle.run_words.specs.declared.content.Content.{Content}
@@ -48,6 +48,7 @@ opens g e ws xs graph accepted w x =
       keys = λ y c. sym (Contains-one (ground_of g e) y c);
       issued = λ j h. absurd (contains_none j h);
       ended = λ j y h. absurd (contains_none {X = ℕ × End} (j, y) h);
+      times = λ j t h. absurd (contains_none {X = ℕ × ℕ} (j, t) h);
       named = λ l h. absurd (contains_none l h);
       claim = λ y q. absurd (none-some y q);
       event = λ y q. absurd (none-some y q);
@@ -95,5 +96,11 @@ opens g e ws xs graph accepted w x =
         once = λ n. let t = Rattle.basics.proofs.Sums.below-once n 1 in omega (arith, t);
         above = λ j u n q c. absurd (contains_none n (subst (λ (y : View). Contains y.splits n) (sym (one j u q)) c));
         born = λ j u n q c. absurd (contains_none n (subst (λ (y : View). Contains y.splits n) (sym (one j u q)) c));
+      };
+      known = record {
+        issued = λ i h. absurd (true≢false (sym h ∙ ap stage_issued (stage i)));
+        ended = λ i y h. absurd (true≢false (sym (ap stage_ended h) ∙ ap stage_ended (stage i)));
+        times = λ i t h. absurd (true≢false (sym h.over ∙ ap stage_ended (stage i)));
+        named = inl refl;
       };
     }

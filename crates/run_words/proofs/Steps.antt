@@ -14,16 +14,17 @@ use Rattle.shared_events.specs.Seats.{Begins}
 use Rattle.event_table.specs.declared.handle.Handle.{Handle}
 use Rattle.shared_events.specs.declared.events.Events.{Events}
 use Rattle.basics.proofs.Sums.{total-set, term_le, terms_le}
-use Rattle.run_state.specs.Run.{LineStage, Unissued, Issued, Out, Ending, Ended, Run, stage_at, stage_issued, stage_ended, stage_started, issued}
+use Rattle.run_state.specs.Run.{LineStage, Unissued, Issued, Out, Ending, Ended, Run, stage_at, stage_issued, stage_ended, stage_started, issued, ended}
 use Rattle.run_state.specs.Sound.{Sound}
 use Rattle.run_words.specs.declared.content.Content.{Content}
 use Rattle.run_words.specs.declared.view.View.{View}
 use Rattle.run_words.specs.Claims.{Claim}
 use Rattle.run_words.specs.Layout.{size_of}
 use Rattle.run_words.specs.Views.{claim_at, runs_at, number_at, issues_at, late_at, owes_at, turn_of, has_desk, busy, working}
-use Rattle.run_words.specs.Rule.{AreHandles, WordsShow, Progress, Fits, AreNumbered, Shown, child, handle_at}
-use Rattle.run_words.proofs.Aside.{Aside, progress_on}
+use Rattle.run_words.specs.Rule.{AreHandles, WordsShow, Progress, HasEndedAt, Fits, HasHandles, AreNumbered, Shown, child, handle_at}
+use Rattle.run_words.proofs.Aside.{Aside, progress_on, working_not_ended}
 use Rattle.run_words.proofs.Frames.{at_views}
+use Rattle.run_words.proofs.Known.{Learns, known_on}
 
 abbrev pub St : Type 0
 St = State Content View
@@ -92,6 +93,9 @@ pub working_not_over : (x : Option End) (y : End) → working x ≡ Ended y → 
 working_not_over None y q = true≢false (sym (ap stage_ended q))
 working_not_over (Some x) y q = true≢false (sym (ap stage_ended q))
 
+pub working_never_ended : (run : Run) (i j : ℕ) (x : Option End) → stage_at run.stages i ≡ working x → j ≡ i → ended run.stages j ≡ true → ⊥
+working_never_ended run i j x is q h = true≢false (sym h ∙ (ap (λ k. stage_ended (stage_at run.stages k)) q ∙ (ap stage_ended is ∙ working_not_ended x)))
+
 -- a line whose work is out is issued
 pub working_issued : {s : LineStage} (x : Option End) → s ≡ working x → stage_issued s ≡ true
 working_issued None q = ap stage_issued q
@@ -102,6 +106,7 @@ pub record Goes (run after : Run) (handles then : List Handle) : Type 0 where
   pub names : (j : ℕ) → issued run.stages j ≡ true → handle_at then j ≡ handle_at handles j
   pub issued : (j : ℕ) → issued run.stages j ≡ true → issued after.stages j ≡ true
   pub ended : (j : ℕ) (x : End) → stage_at run.stages j ≡ Ended x → stage_at after.stages j ≡ Ended x
+  pub times : (j t : ℕ) → HasEndedAt run j t → HasEndedAt after j t
   pub begins : (hs : List Handle) → Begins hs handles → Begins hs then
 
 -- and what it leaves of the rights of one seat
@@ -115,6 +120,7 @@ fits_on u go s f = record {
   keys = f.keys;
   issued = λ j c. go.issued j (f.issued j c);
   ended = λ j x c. go.ended j x (f.ended j x c);
+  times = λ j t c. go.times j t (f.times j t c);
   named = λ hs c. go.begins hs (f.named hs c);
   claim = λ c q. s.claim c q (f.claim c q);
   event = λ c q. go.names c.line (working_issued c.ends (f.claim c q).stage) ∙ f.event c q;
@@ -150,8 +156,9 @@ module _ (g : GraphValue) (e : Events) (s : St) (o : Shown g e s) (id : ℕ) (v 
       → Sound g after → AreHandles after.stages then → Fits g e after then w
       → ((k : ℕ) → total (runs_at k) (set s.views id w) ≡ busy (stage_at after.stages k))
       → WordsShow g e (size_of g) after then (λ k. total (issues_at k) (set s.views id w)) (λ k. total (owes_at k) (set s.views id w)) (total has_desk (set s.views id w)) ws hs
+      → Learns o.run after o.handles then v w
       → Shown g e (board ws hs (set s.views id w))
-  steps after then ws hs go spares em eb es sound named fits works words = record {
+  steps after then ws hs go spares em eb es sound named fits works words learns = record {
     run = after;
     handles = then;
     sound = sound;
@@ -163,6 +170,7 @@ module _ (g : GraphValue) (e : Events) (s : St) (o : Shown g e s) (id : ℕ) (v 
     ];
     works = works;
     numbers = numbers_on s.views id v w me em eb es o.numbers;
+    known = known_on s.views id v w me em learns o.known;
   }
 
   -- THE RUN STAYS, and the seat's rights do
@@ -172,19 +180,19 @@ module _ (g : GraphValue) (e : Events) (s : St) (o : Shown g e s) (id : ℕ) (v 
       (λ k. total (issues_at k) (set s.views id w)) (λ k. total (owes_at k) (set s.views id w)) (total has_desk (set s.views id w))
       (λ k. sum_same (issues_at k) s.views id v w me (ei k)) (λ k. sum_same (owes_at k) s.views id v w me (eo k)) (sum_same has_desk s.views id v w me ed)
 
-  pub run_stays : w.mine ≡ v.mine → w.births ≡ v.births → w.splits ≡ v.splits → ((k : ℕ) → runs_at k w ≡ runs_at k v) → Fits g e o.run o.handles w → (ws : List ℕ) (hs : List (mathlib.Core.Option.Option Content))
+  pub run_stays : w.mine ≡ v.mine → w.births ≡ v.births → w.splits ≡ v.splits → ((k : ℕ) → runs_at k w ≡ runs_at k v) → Fits g e o.run o.handles w → Learns o.run o.run o.handles o.handles v w → (ws : List ℕ) (hs : List (mathlib.Core.Option.Option Content))
       → WordsShow g e (size_of g) o.run o.handles (λ k. total (issues_at k) (set s.views id w)) (λ k. total (owes_at k) (set s.views id w)) (total has_desk (set s.views id w)) ws hs
       → Shown g e (board ws hs (set s.views id w))
-  run_stays em eb es er fits ws hs words = steps o.run o.handles ws hs (record { names = λ j h. refl; issued = λ j h. h; ended = λ j x h. h; begins = λ l h. h })
+  run_stays em eb es er fits learns ws hs words = steps o.run o.handles ws hs (record { names = λ j h. refl; issued = λ j h. h; ended = λ j x h. h; times = λ j t h. h; begins = λ l h. h })
       (λ j u other at. let f = o.each_view j u at in record { claim = λ c q p. p; issuing = λ k q. (f.issuing k q).0; desk = f.desk })
-      em eb es o.sound o.are_handles fits (λ k. sum_same (runs_at k) s.views id v w me (er k) ∙ o.works k) words
+      em eb es o.sound o.are_handles fits (λ k. sum_same (runs_at k) s.views id v w me (er k) ∙ o.works k) words learns
 
-  pub own_goes : w.mine ≡ v.mine → w.births ≡ v.births → w.splits ≡ v.splits → w.claim ≡ v.claim → w.issuing ≡ v.issuing → w.desk ≡ v.desk → Fits g e o.run o.handles w → Shown g e (board s.words s.homes (set s.views id w))
-  own_goes em eb es ec ei ed fits = run_stays em eb es (λ k. ap (claim_at k) ec) fits s.words s.homes (same_words (λ k. ap (number_at k) ei) (λ k. ap (late_at k) ec) (ap turn_of ed))
+  pub own_goes : w.mine ≡ v.mine → w.births ≡ v.births → w.splits ≡ v.splits → w.claim ≡ v.claim → w.issuing ≡ v.issuing → w.desk ≡ v.desk → Fits g e o.run o.handles w → Learns o.run o.run o.handles o.handles v w → Shown g e (board s.words s.homes (set s.views id w))
+  own_goes em eb es ec ei ed fits learns = run_stays em eb es (λ k. ap (claim_at k) ec) fits learns s.words s.homes (same_words (λ k. ap (number_at k) ei) (λ k. ap (late_at k) ec) (ap turn_of ed))
 
   -- THE WORK OF A LINE goes on: the seat that has it keeps it
   module _ (c c' : Claim) (has : v.claim ≡ Some c) (line : c'.line ≡ c.line) (event : c'.event ≡ c.event)
-      (is : w ≡ record { keys = v.keys; mine = v.mine; births = v.births; splits = v.splits; issued = v.issued; ended = v.ended; named = v.named; saw = w.saw; trays = w.trays; laid = w.laid; gave_up = w.gave_up; closed = w.closed; let_go = w.let_go; claim = Some c'; issuing = v.issuing; desk = v.desk }) where
+      (is : w ≡ record { keys = v.keys; mine = v.mine; births = v.births; splits = v.splits; issued = v.issued; ended = v.ended; named = v.named; saw = w.saw; trays = w.trays; laid = w.laid; gave_up = w.gave_up; closed = w.closed; times = v.times; let_go = w.let_go; claim = Some c'; issuing = v.issuing; desk = v.desk }) where
     goes_on : (after : Run) → Aside c.line o.run after → Progress g after c' → Goes o.run after o.handles o.handles
     goes_on after a p =
         let f = o.each_view id v me in
@@ -199,8 +207,34 @@ module _ (g : GraphValue) (e : Events) (s : St) (o : Shown g e s) (id : ℕ) (v 
             | inl q ↦ absurd (working_not_over c.ends x (sym was ∙ (ap (stage_at o.run.stages) (sym q) ∙ h)))
             | inr n ↦ a.stages j n ∙ h
           ];
+          times = λ j t h. elim (cases_eq j c.line) [
+            | inl q ↦ absurd (working_never_ended o.run c.line j c.ends was q h.over)
+            | inr n ↦ record { over = ap stage_ended (a.stages j n) ∙ h.over; at = a.times j n ∙ h.at }
+          ];
           begins = λ l h. h;
           names = λ j h. refl;
+        }
+
+    -- nothing that another seat could know comes of it
+    work_learns : (after : Run) → Aside c.line o.run after → Progress g after c' → ((j : ℕ) → issued after.stages j ≡ issued o.run.stages j) → Learns o.run after o.handles o.handles v w
+    work_learns after a p same =
+        let now : stage_at after.stages c.line ≡ working c'.ends = subst (λ k. stage_at after.stages k ≡ working c'.ends) line p.stage in
+        record {
+          keeps = record {
+            issued = λ j h. subst (λ (x : View). Contains x.issued j) (sym is) h;
+            ended = λ j x h. subst (λ (y : View). Contains y.ended (j, x)) (sym is) h;
+            times = λ j t h. subst (λ (y : View). Contains y.times (j, t)) (sym is) h;
+          };
+          new_issued = λ j h. inl (sym (same j) ∙ h);
+          new_ended = λ j x h. elim (cases_eq j c.line) [
+            | inl q ↦ absurd (working_not_over c'.ends x (sym now ∙ (ap (stage_at after.stages) (sym q) ∙ h)))
+            | inr n ↦ inl (sym (a.stages j n) ∙ h)
+          ];
+          new_times = λ j t h. elim (cases_eq j c.line) [
+            | inl q ↦ absurd (working_never_ended after c.line j c'.ends now q h.over)
+            | inr n ↦ inl (record { over = ap stage_ended (sym (a.stages j n)) ∙ h.over; at = sym (a.times j n) ∙ h.at })
+          ];
+          new_handles = inl (refl, λ h. subst (HasHandles o.handles) (sym is) h);
         }
 
     unissued_other : (k : ℕ) → stage_at o.run.stages k ≡ Unissued → k ≡ c.line → ⊥
@@ -213,10 +247,11 @@ module _ (g : GraphValue) (e : Events) (s : St) (o : Shown g e s) (id : ℕ) (v 
         let f = o.each_view id v me in
         let go = goes_on after a p in
         let wc : w.claim ≡ Some c' = ap (λ (x : View). x.claim) is in
-        let fits : Fits g e after o.handles (record { keys = v.keys; mine = v.mine; births = v.births; splits = v.splits; issued = v.issued; ended = v.ended; named = v.named; saw = w.saw; trays = w.trays; laid = w.laid; gave_up = w.gave_up; closed = w.closed; let_go = w.let_go; claim = Some c'; issuing = v.issuing; desk = v.desk }) = record {
+        let fits : Fits g e after o.handles (record { keys = v.keys; mine = v.mine; births = v.births; splits = v.splits; issued = v.issued; ended = v.ended; named = v.named; saw = w.saw; trays = w.trays; laid = w.laid; gave_up = w.gave_up; closed = w.closed; times = v.times; let_go = w.let_go; claim = Some c'; issuing = v.issuing; desk = v.desk }) = record {
           keys = f.keys;
           issued = λ j h. go.issued j (f.issued j h);
           ended = λ j x h. go.ended j x (f.ended j x h);
+          times = λ j t h. go.times j t (f.times j t h);
           named = f.named;
           claim = λ d q. subst (Progress g after) (same_Some c' d q) p;
           event = λ d q. subst (λ (x : Claim). handle_at o.handles x.line ≡ x.event) (same_Some c' d q) (ap (handle_at o.handles) line ∙ (f.event c has ∙ sym event));
@@ -246,3 +281,4 @@ module _ (g : GraphValue) (e : Events) (s : St) (o : Shown g e s) (id : ℕ) (v 
               moved ∙ (o.works k ∙ ap busy (sym (a.stages k n))))
         ])
         words
+        (work_learns after a p same)

@@ -1,20 +1,20 @@
 -- What a run leaves once its words are closed.
-use Rattle.std.specs.Prelude.{◌≡◌, ◌≤◌, ℕ, true, false, List, length, Some}
+use Rattle.std.specs.Prelude.{◌≡◌, ◌≤◌, ◌↔◌, ◌⊎◌, ℕ, [], true, false, List, length, Some}
 use Rattle.graph_terms.specs.declared.outcome.End.{End}
 use Rattle.event_table.specs.EventMap.{answer, answer_of}
 use Rattle.shared_events.specs.Seats.{Begins, Knows}
 use Rattle.shared_events.specs.Views.{lists, shape_of}
 use Rattle.event_table.specs.declared.handle.Fate.{Fate}
 use Rattle.event_table.specs.declared.handle.Handle.{Handle}
-use Rattle.run_state.specs.Run.{Run, Ended, stage_at, issued, out}
+use Rattle.run_state.specs.Run.{Run, Ended, stage_at, time_at, issued, out}
 use Rattle.run_parts.specs.Room.{HasRoom}
 use Rattle.run_parts.specs.Shown.{IsShown}
 use Rattle.run_parts.specs.declared.parts.RunParts.{RunParts}
-use Rattle.run_words.specs.Words.{graph_of, events_of, events_seat, KnowsIssued, KnowsEnded, KnowsHandles}
+use Rattle.run_words.specs.Words.{graph_of, events_of, events_seat, KnowsIssued, KnowsEnded, KnowsTime, KnowsHandles}
 use Rattle.run_words.specs.declared.seats.WordSeat.{WordSeat}
 use Rattle.run_words.specs.declared.words.Words.{Words}
 
--- the parts show a sound state in which no work is out, and what the seat knew holds of it; they have the slots of the events, enough for the graph, and room for a core
+-- the parts show a sound state in which no work is out, and of which the seat knew what is issued, has ended and when, and the handles; they have the slots of the events, enough for the graph, and room for a core
 pub record ShowsLeft (w : Words) (s : WordSeat) (p : RunParts) : Type 0 where
   pub run : Run
   pub handled : List Handle
@@ -25,7 +25,9 @@ pub record ShowsLeft (w : Words) (s : WordSeat) (p : RunParts) : Type 0 where
   pub enough : p.checked.now.need ≤ length p.table.slots
   pub most : length p.table.slots ≤ 8192
   pub nothing_out : (i : ℕ) → out run.stages i ≡ false
-  pub issued : (i : ℕ) → KnowsIssued s i → issued run.stages i ≡ true
-  pub ended : (i : ℕ) (x : End) → KnowsEnded s i x → stage_at run.stages i ≡ Ended x
+  pub issued : (i : ℕ) → KnowsIssued s i ↔ (issued run.stages i ≡ true)
+  pub ended : (i : ℕ) (x : End) → KnowsEnded s i x ↔ (stage_at run.stages i ≡ Ended x)
+  pub times : (i t : ℕ) → KnowsTime s i t ↔ (time_at run.times i ≡ Some t)
   pub handles : (hs : List Handle) → KnowsHandles s hs → Begins hs handled
+  pub all_handles : (handled ≡ []) ⊎ KnowsHandles s handled
   pub fates : (h : Handle) (f : Fate) → Knows (lists (events_seat s)) h f → answer p.table h ≡ Some (answer_of f)

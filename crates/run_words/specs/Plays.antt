@@ -221,9 +221,19 @@ ending_with x cl = record cl { ends = Some x }
 abbrev pub ends : ℕ → Sat → Sat → Type 0
 ends stored m n = n ≡ (on_claim (ending_with (end_of_code (stored - 4))) m.0, m.1)
 
--- the seat has no claim, and knows that line i, which it closed, has ended with x
+-- line i with its time, where it has one
+abbrev pub with_time : ℕ → Option ℕ → List (ℕ × ℕ)
+with_time i None = []
+with_time i (Some t) = (i, t) ∷ []
+
+-- the line of a claim with its time
+abbrev pub time_claimed : Option Claim → List (ℕ × ℕ)
+time_claimed None = []
+time_claimed (Some cl) = with_time cl.line cl.time
+
+-- the seat has no claim, and knows that line i, which it closed, has ended with x, and its time
 abbrev pub closed_at : View → ℕ → End → View
-closed_at v i x = record v { claim = None; issued = v.issued ++ i ∷ []; ended = v.ended ++ (i, x) ∷ []; closed = v.closed ++ i ∷ [] }
+closed_at v i x = record v { claim = None; issued = v.issued ++ i ∷ []; ended = v.ended ++ (i, x) ∷ []; closed = v.closed ++ i ∷ []; times = v.times ++ time_claimed v.claim }
 
 -- the seat stored that line i has ended, and gave the line's slot back
 abbrev pub closes : ℕ → ℕ → Sat → Sat → Type 0
@@ -310,7 +320,7 @@ gives_up_issue m n = n ≡ (without_issue m.0, rest m.1)
 
 -- CUTTING AND JOINING. The view of a seat that was joined into another
 abbrev pub no_view : View
-no_view = record { keys = []; mine = []; births = 0; splits = []; issued = []; ended = []; named = []; saw = []; trays = []; laid = []; gave_up = []; closed = []; let_go = []; claim = None; issuing = None; desk = None }
+no_view = record { keys = []; mine = []; births = 0; splits = []; issued = []; ended = []; named = []; saw = []; trays = []; laid = []; gave_up = []; closed = []; times = []; let_go = []; claim = None; issuing = None; desk = None }
 
 -- the number of a seat itself
 abbrev pub own_number : List ℕ → ℕ
@@ -338,6 +348,7 @@ joined v w = record v {
   laid = v.laid ++ w.laid;
   gave_up = v.gave_up ++ w.gave_up;
   closed = v.closed ++ w.closed;
+  times = v.times ++ w.times;
   let_go = v.let_go ++ w.let_go;
 }
 

@@ -1,5 +1,5 @@
 -- The rule of the table of a run: its words, its slots at home and the views of its seats show one sound state of a run.
-use Rattle.std.specs.Prelude.{◌≡◌, ℕ, zero, suc, ◌+◌, ◌<◌, ◌≤◌, ◌↔◌, ◌≢◌, List, [], ◌∷◌, length, Contains, IsTrue, cond, Option, Some, None, slice_get, slice_index, slice_index_or}
+use Rattle.std.specs.Prelude.{◌≡◌, ℕ, zero, suc, ◌+◌, ◌<◌, ◌≤◌, ◌↔◌, ◌≢◌, ◌⊎◌, List, [], ◌∷◌, length, Contains, IsTrue, cond, Option, Some, None, slice_get, slice_index, slice_index_or}
 use Rattle.std.specs.Option.{option_map_or}
 use Rattle.std.specs.Vec.{vec_capacity}
 use Rattle.basics.specs.Lists.{count_below}
@@ -21,7 +21,7 @@ use Rattle.shared_events.specs.declared.tokens.Pending.{Pending}
 use Rattle.shared_events.specs.declared.tokens.Receipt.{Receipt}
 use Rattle.shared_events.specs.declared.tokens.Waiter.{Waiter}
 use Rattle.shared_events.specs.declared.events.Events.{Events}
-use Rattle.run_state.specs.Run.{LineStage, Unissued, Issued, Out, Ending, Ended, Place, Home, Had, Run, is_listed, stage_at, time_at, place_at, list_at, issued}
+use Rattle.run_state.specs.Run.{LineStage, Unissued, Issued, Out, Ending, Ended, Place, Home, Had, Run, is_listed, stage_at, time_at, place_at, list_at, issued, ended}
 use Rattle.run_state.specs.Sound.{Sound}
 use Rattle.run_words.specs.declared.content.Desk.{Desk}
 use Rattle.run_words.specs.declared.content.Content.{Content}
@@ -153,6 +153,11 @@ pub record WordsShow (g : GraphValue) (e : Events) (z : Size) (run : Run) (handl
   pub clock : slice_index words (clock_word z) ≡ run.clock
   pub desk : DeskAt e z.lines handles desks (slice_index words (desk_word z)) homes (desk_slot z)
 
+-- a line has ended, and this is its time
+pub record HasEndedAt (run : Run) (i t : ℕ) : Type 0 where
+  pub over : IsTrue (ended run.stages i)
+  pub at : time_at run.times i ≡ Some t
+
 -- A VIEW
 -- how far the work of a line has come
 pub record Progress (g : GraphValue) (run : Run) (c : Claim) : Type 0 where
@@ -170,6 +175,7 @@ pub record Fits (g : GraphValue) (e : Events) (run : Run) (handles : List Handle
   pub keys : (x : Ground) → Contains v.keys x → x ≡ ground_of g e
   pub issued : (i : ℕ) → Contains v.issued i → IsTrue (issued run.stages i)
   pub ended : (i : ℕ) (x : End) → Contains v.ended (i, x) → stage_at run.stages i ≡ Ended x
+  pub times : (i t : ℕ) → Contains v.times (i, t) → HasEndedAt run i t
   pub named : (hs : List Handle) → Contains v.named hs → Begins hs handles
   pub claim : (c : Claim) → v.claim ≡ Some c → Progress g run c
   pub event : (c : Claim) → v.claim ≡ Some c → handle_at handles c.line ≡ c.event
@@ -179,6 +185,21 @@ pub record Fits (g : GraphValue) (e : Events) (run : Run) (handles : List Handle
   pub desk : (hs : List Handle) → v.desk ≡ Some hs → hs ≡ handles
   -- a seat that was joined away has no rights
   pub idle : v.mine ≡ [] → (v.claim ≡ None) × (v.issuing ≡ None) × (v.desk ≡ None)
+
+-- ALL THAT IS KNOWN. A seat that is there is such
+abbrev pub OfSome : List View → (View → Type 0) → Type 0
+OfSome views P = (j : ℕ) × (v : View) × (get_elem? views j ≡ some v) × (v.mine ≢ []) × P v
+
+-- a seat knows all the handles, or has them with the desk's turn
+abbrev pub HasHandles : List Handle → View → Type 0
+HasHandles handles v = Contains v.named handles ⊎ (v.desk ≡ Some handles)
+
+-- each line that is issued, each end, each time of an ended line and the list of all handles is known to a seat
+pub record IsKnown (run : Run) (handles : List Handle) (views : List View) : Type 0 where
+  pub issued : (i : ℕ) → IsTrue (issued run.stages i) → OfSome views (λ v. Contains v.issued i)
+  pub ended : (i : ℕ) (x : End) → stage_at run.stages i ≡ Ended x → OfSome views (λ v. Contains v.ended (i, x))
+  pub times : (i t : ℕ) → HasEndedAt run i t → OfSome views (λ v. Contains v.times (i, t))
+  pub named : (handles ≡ []) ⊎ OfSome views (HasHandles handles)
 
 -- NUMBERS. The number of the seat that is split off as the c-th of the seat with number p
 abbrev pub child : ℕ → ℕ → ℕ
@@ -208,7 +229,8 @@ pub record Shown (g : GraphValue) (e : Events) (s : State Content View) : Type 0
   -- the work of a line is with one seat where the line is out or ending, and else with none
   pub works : (i : ℕ) → total (runs_at i) s.views ≡ busy (stage_at run.stages i)
   pub numbers : AreNumbered s.views
+  pub known : IsKnown run handles s.views
 
 -- the view of the first seat
 abbrev pub opener : GraphValue → Events → View
-opener g e = record { keys = ground_of g e ∷ []; mine = 0 ∷ []; births = 0; splits = []; issued = []; ended = []; named = []; saw = []; trays = []; laid = []; gave_up = []; closed = []; let_go = []; claim = None; issuing = None; desk = None }
+opener g e = record { keys = ground_of g e ∷ []; mine = 0 ∷ []; births = 0; splits = []; issued = []; ended = []; named = []; saw = []; trays = []; laid = []; gave_up = []; closed = []; times = []; let_go = []; claim = None; issuing = None; desk = None }

@@ -37,6 +37,10 @@ pub record KnowsIssued (s : WordSeat) (i : ℕ) : Type 0 where
 pub record KnowsEnded (s : WordSeat) (i : ℕ) (x : End) : Type 0 where
   pub known : Contains s.inner.me.0.ended (i, x)
 
+-- the seat knows that t is the time of line i, which it closed, or a seat that was joined into it
+pub record KnowsTime (s : WordSeat) (i t : ℕ) : Type 0 where
+  pub known : Contains s.inner.me.0.times (i, t)
+
 -- its number with those of the seats joined into it
 abbrev pub numbers_of : WordSeat → List ℕ
 numbers_of s = s.inner.me.0.mine

@@ -1,6 +1,7 @@
-use Rattle.std.proofs.Common.{length, ◌∙◌, ap}
+use Rattle.std.proofs.Common.{◌≡◌, ◌⊎◌, [], length, sym, ◌∙◌, ap, subst}
 use Rattle.event_table.specs.EventMap.{EventMap, answer}
-use Rattle.run_state.specs.Run.{stage_at, issued, out}
+use Rattle.run_state.specs.Run.{stage_at, time_at, issued, out}
+use Rattle.run_words.specs.Words.{KnowsHandles}
 use Rattle.closed_run.proofs.core_of.Goals as goal
 
 pub of_parts-requires-clause-shown : goal.of_parts-requires-clause-shown
@@ -23,8 +24,10 @@ returns c =
       graph = is.graph ∙ p.graph;
       slots = ap (λ (t : EventMap). length t.slots) is.tabled ∙ p.slots;
       nothing_out = λ i. ap (λ s. out s i) is.stages ∙ p.nothing_out i;
-      issued = λ i knows. ap (λ s. issued s i) is.stages ∙ p.issued i knows;
-      ended = λ i x knows. ap (λ s. stage_at s i) is.stages ∙ p.ended i x knows;
+      issued = λ i. ((λ knows. ap (λ s. issued s i) is.stages ∙ (p.issued i).0 knows), (λ h. (p.issued i).1 (ap (λ s. issued s i) (sym is.stages) ∙ h)));
+      ended = λ i x. ((λ knows. ap (λ s. stage_at s i) is.stages ∙ (p.ended i x).0 knows), (λ h. (p.ended i x).1 (ap (λ s. stage_at s i) (sym is.stages) ∙ h)));
+      times = λ i t. ((λ knows. ap (λ ts. time_at ts i) is.times ∙ (p.times i t).0 knows), (λ h. (p.times i t).1 (ap (λ ts. time_at ts i) (sym is.times) ∙ h)));
       handles = λ hs knows. (let begins = p.handles hs knows in (begins.0, is.handled ∙ begins.1));
+      all_handles = subst (λ hs. (hs ≡ []) ⊎ KnowsHandles c.args.seat hs) (sym is.handled) p.all_handles;
       fates = λ h f knows. ap (λ t. answer t h) is.tabled ∙ p.fates h f knows;
     }

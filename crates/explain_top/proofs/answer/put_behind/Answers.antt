@@ -5,11 +5,12 @@ use Rattle.graph_words.specs.Words.{pieces}
 use Rattle.refused_words.specs.Refused.{IsRefusedWord}
 use Rattle.refused_words.specs.Ends.{IsEndedBy}
 use Rattle.refused_words.specs.Limits.{quantity_value}
-use Rattle.explain_text.specs.Named.{named_texts, space_text}
+use Rattle.explain_text.specs.Named.{given_names, names_text, space_text}
 use Rattle.explain_text.specs.Unread.{refused_text, limit_text, ended_text}
 use Rattle.explain_text.proofs.Public.{then_puts}
-use Rattle.explain_top.specs.Answer.{AreNamed, TellsSpace, limit_for}
+use Rattle.explain_top.specs.Answer.{AreNamed, TellsSpace, limit_for, refused_line}
 use Rattle.explain_top.proofs.Marking.{marked}
+use Rattle.explain_top.proofs.Telling.{given_size, inside_all}
 use Rattle.explain_top.proofs.answer.put_behind.Goals as goal
 
 pub returns : goal.returns
@@ -24,16 +25,28 @@ returns c =
     let mark = c.in_ok-mark.mark in
     let limit = c.in_ok-passed.passed in
     let ended = c.ended_for-ended.result in
-    let named = c.in_ok-named.named.items in
+    let named = c.in_ok-named.named.told.items in
+    let more = c.in_ok-named.named.more in
     let space = c.space_for-space.result in
-    marked r ls number why g old new mark limit ended named space (contents c.in_ok-words.words.items)
-    (c.in_ok-words.ensures ∙ ap (pieces 32) c.line_at.ensures)
+    let given : contents c.as_slice-3.result.now ≡ given_names ls = ap contents c.as_slice-3.ensures.value ∙ c.in_ok-names.ensures in
+    marked r ls number why g old new mark limit ended named more space (contents c.in_ok-words.words.items)
+    (c.in_ok-words.ensures ∙ ap (pieces 32) c.line_at-line.ensures)
     (subst (λ w. IsRefusedWord g why (contents w) mark) c.as_slice.ensures.value c.in_ok-mark.ensures)
-    (subst (λ w. option_map quantity_value limit ≡ limit_for g (contents w) why) c.as_slice-5.ensures.value c.in_ok-passed.ensures)
+    (subst (λ w. option_map quantity_value limit ≡ limit_for g (contents w) why) c.as_slice-7.ensures.value c.in_ok-passed.ensures)
     (subst (λ w. MatchOption mark (ended ≡ None) (λ k. IsEndedBy g (contents w) k ended)) c.as_slice-2.ensures.value c.ended_for-ended.ensures)
-    (subst (λ f. AreNamed f ls number (contents c.in_ok-words.words.items) why named) c.format.ensures (subst (λ w. AreNamed c.format.result ls number (contents w) why named) c.as_slice-3.ensures.value c.in_ok-named.ensures.named))
-    (subst (λ f. TellsSpace f ls number (contents c.in_ok-words.words.items) why mark space) c.format-2.ensures (subst (λ w. TellsSpace c.format-2.result ls number (contents w) why mark space) c.as_slice-4.ensures.value c.space_for-space.ensures.space))
-    (then_puts r _ _ _ (refused_text why number (contents c.in_ok-words.words.items) mark) _ (subst (λ w. c.put_refused.new.text ≡ old ++ refused_text why number (contents w) mark) c.as_slice-6.ensures.value c.in_ok-put_refused.ensures)
+    (subst (λ f. AreNamed f (given_names ls) number (contents c.in_ok-words.words.items) why named more) c.format.ensures (subst (λ w. AreNamed c.format.result (given_names ls) number (contents w) why named more) c.as_slice-4.ensures.value
+    (subst (λ n. AreNamed c.format.result n number (contents c.as_slice-4.result.now) why named more) given c.in_ok-named.ensures.named)))
+    (subst (λ f. TellsSpace f ls (given_names ls) number (contents c.in_ok-words.words.items) why mark space) c.format-2.ensures (subst (λ w. TellsSpace c.format-2.result ls (given_names ls) number (contents w) why mark space) c.as_slice-6.ensures.value
+    (subst (λ n. TellsSpace c.format-2.result ls n number (contents c.as_slice-6.result.now) why mark space) (ap contents c.as_slice-5.ensures.value ∙ c.in_ok-names.ensures) c.space_for-space.ensures.space)))
+    (then_puts r _ _ _ (refused_text why number (refused_line ls number) (contents c.in_ok-words.words.items) mark) _
+    (subst (λ x. c.put_refused.new.text ≡ old ++ refused_text why number x (contents c.in_ok-words.words.items) mark) c.line_at-line.ensures (subst (λ w. c.put_refused.new.text ≡ old ++ refused_text why number c.line_at-line.result.now (contents w) mark) c.as_slice-8.ensures.value c.in_ok-put_refused.ensures))
     (then_puts r _ _ _ (limit_text limit) _ c.in_ok-put_limit.ensures
     (then_puts r _ _ _ (ended_text g ls ended) _ c.in_ok-put_ended.ensures
-    (subst (λ w. OnOk r (new ≡ c.put_ended.new.text ++ (named_texts ls w ++ space_text ls space))) c.as_slice-7.ensures.value c.put_names.ensures))))
+    c.put_names.ensures)))
+
+pub space_for-space-requires : goal.space_for-space-requires
+space_for-space-requires c = given_size c.as_slice-5.result.now c.args.lines.now (ap contents c.as_slice-5.ensures.value ∙ c.in_ok-names.ensures)
+
+pub put_names-requires-clause-named : goal.put_names-requires-clause-named
+put_names-requires-clause-named c =
+    inside_all c.as_slice-3.result.now c.args.lines.now c.in_ok-named.named.told.items (ap contents c.as_slice-3.ensures.value ∙ c.in_ok-names.ensures) c.in_ok-named.ensures.inside

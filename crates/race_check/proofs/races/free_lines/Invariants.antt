@@ -4,7 +4,7 @@ use Rattle.race_check.proofs.races.free_lines.Given as goal
 
 abbrev pub invariant-loop-first : goal.invariant-loop-first
 invariant-loop-first l = record {
-  few : l.free ≤ length l.graph.lines;
+  few : l.free ≤ l.most;
   settled : (k r : ℕ) → k < l.free → r < l.first → is_noted l.racing r ≡ true → IsSettled l.graph r k;
 }
 

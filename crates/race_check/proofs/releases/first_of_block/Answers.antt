@@ -1,4 +1,4 @@
-use Rattle.std.proofs.Common.{◌≡◌, ℕ, length, sym, subst, arith}
+use Rattle.std.proofs.Common.{◌≡◌, length, sym, subst, arith}
 use Rattle.race_check.specs.Blocks.{AreListed}
 use Rattle.race_check.proofs.BlockSteps.{passed_on, few_listed, lines_known}
 use Rattle.race_check.proofs.Doubting.{released_sure}

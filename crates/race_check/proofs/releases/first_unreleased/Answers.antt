@@ -1,4 +1,4 @@
-use Rattle.std.proofs.Common.{◌+◌, ◌<◌, ℕ, arith}
+use Rattle.std.proofs.Common.{arith}
 use Rattle.graph_meaning.specs.Rules.{ReleasedAt}
 use Rattle.race_check.proofs.BeyondLines.{released_beyond}
 use Rattle.race_check.proofs.BlockSteps.{first_found, lines_more, some_of, none_of}

@@ -1,4 +1,4 @@
-use Rattle.std.proofs.Common.{◌≡◌, ℕ, ◌<◌, ◌≤◌, false, length, sym, ◌∙◌, ap, subst, arith}
+use Rattle.std.proofs.Common.{◌≡◌, ℕ, ◌<◌, ◌≤◌, false, inl, inr, ⊎_elim, length, sym, ◌∙◌, ap, subst, arith}
 use Rattle.std.specs.Prelude.{Contains, Some, slice_get, slice_set, slice_index}
 use lib.ListN.{get_elem?}
 use Rattle.std.specs.Vec.{vec_capacity}
@@ -138,8 +138,10 @@ returns c =
       enough = (let need = ap (λ (x : Base). x.checked.now.need) b.ensures.base in omega (arith, need, width, own.fitting.0));
       most = omega (arith, width, own.fitting.1);
       nothing_out = none_is_out g e c.args.seat.inner.me.0 k.0 k.1 words items l few;
-      issued = λ i knows. l.known_issued i knows.known;
-      ended = λ i x knows. l.known_ended i x knows.known;
+      issued = λ i. ((λ knows. (l.known_issued i).0 knows.known), (λ h. record { known = (l.known_issued i).1 h }));
+      ended = λ i x. ((λ knows. (l.known_ended i x).0 knows.known), (λ h. record { known = (l.known_ended i x).1 h }));
+      times = λ i t. ((λ knows. (l.known_times i t).0 knows.known), (λ h. record { known = (l.known_times i t).1 h }));
       handles = λ hs knows. l.known_handles hs knows.known;
+      all_handles = ⊎_elim (λ n. inl n) (λ h. inr (record { known = h })) l.all_handles;
       fates = λ h f knows. c.into_table.ensures.answers h ∙ lost.known h f (c.settle_lines.ensures.kept.1 h f (c.join.ensures.kept.0.1 h f knows));
     }

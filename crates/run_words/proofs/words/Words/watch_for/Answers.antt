@@ -1,4 +1,4 @@
-use Rattle.std.proofs.Common.{ℕ, List, [], ◌∷◌, ◌++◌, inl, inr, refl, ap, sym, subst, ◌∙◌}
+use Rattle.std.proofs.Common.{ℕ, List, [], ◌∷◌, ◌++◌, inl, inr, refl, ap, subst, ◌∙◌}
 use Rattle.shared_events.specs.Views.{lists, number_of}
 use Rattle.event_table.specs.declared.handle.Handle.{Handle}
 use Rattle.run_words.specs.Standing.{HasWaiter}

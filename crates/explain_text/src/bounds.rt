@@ -1,0 +1,16 @@
+//! How much is told at most.
+
+/// Bytes of a line, or of a word of one: of a longer one the front is told, and `..` behind it.
+pub const MAX_SHOWN: usize = 200;
+
+/// Edges of a path: of a longer one both ends are told, and how many lie between.
+pub const MAX_PATH: usize = 32;
+
+/// Edges of an end of a long path.
+pub const HALF_PATH: usize = 16;
+
+/// Names of a refused line: of more the first are told, and how many more there are.
+pub const MAX_NAMES: usize = 16;
+
+/// Bytes of an answer: of a longer one the front is told, and a line `..` behind it.
+pub const MAX_ANSWER: usize = 65_536;

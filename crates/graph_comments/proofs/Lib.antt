@@ -1,0 +1,6 @@
+pub mod ExampleTexts
+pub mod KeptLines
+pub mod Newlines
+pub mod Numbered
+pub mod Passing
+pub mod Steps

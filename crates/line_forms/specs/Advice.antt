@@ -1,0 +1,85 @@
+-- What is told of a line that is refused for its form.
+use Rattle.std.specs.Prelude.{ℕ, ◌+◌, ◌==◌, nat_lt, Bool, cond, not, ◌&&◌, ◌||◌, List, [], ◌∷◌, ◌++◌, length, flat_map, codes, decimal}
+use Rattle.std.specs.Option.{option_map_or}
+use Rattle.std.specs.List.{concat, slice_index_or}
+use Rattle.std.specs.Str.{bytes_eq}
+use Rattle.graph_terms.specs.declared.format.Format.{Format}
+use Rattle.graph_terms.specs.declared.why.Why.{Why}
+use Rattle.graph_terms.specs.declared.why.Why.TheVariants as why
+use Rattle.graph_words.specs.Words.{pieces}
+use Rattle.line_forms.specs.declared.blanks.Blank.TheVariants.{Return}
+use Rattle.line_forms.specs.declared.form.Form.{Form}
+use Rattle.line_forms.specs.declared.form.TheConstants.{FORMS}
+use Rattle.line_forms.specs.declared.vocabulary.Vocabulary.{Vocabulary}
+use Rattle.line_forms.specs.declared.vocabulary.Vocabulary.TheVariants.{Starts, Verbs, Kernels}
+use Rattle.line_forms.specs.Blanks.{ends_with_return, blank_in, blank_text}
+use Rattle.line_forms.specs.Forms.{form_text, form_words, takes_on, followed, is_told}
+use Rattle.line_forms.specs.Columns.{repeated_text}
+use Rattle.line_forms.specs.Hint.{merge_hint}
+use Rattle.line_forms.specs.Words.{vocabulary_words, vocabulary_text, nearest, nearest_text}
+
+-- word n of a line, from 0, is the first at which the line leaves a form, or would be
+abbrev pub leave_text : List (List ℕ) → ℕ → List ℕ
+leave_text ws n =
+    cond (nat_lt n (length ws)) (concat (codes "the line leaves it at word " ∷ decimal (n + 1) ∷ codes ": " ∷ slice_index_or ws n [] ∷ codes "\n" ∷ []))
+    (concat (codes "the line ends before word " ∷ decimal (n + 1) ∷ codes " of it\n" ∷ []))
+
+-- a second event stands behind the whole form
+abbrev pub several_text : Form → List (List ℕ) → ℕ → List ℕ
+several_text f ws n = cond (takes_on f && (n == form_words f && nat_lt n (length ws))) (merge_hint ws n) []
+
+-- a form, of which a line has the first n words
+abbrev pub told_at : Form → List (List ℕ) → ℕ → List ℕ
+told_at f ws n = concat (codes "the form is: " ∷ form_text f ∷ codes "\n" ∷ []) ++ (leave_text ws n ++ several_text f ws n)
+
+-- that of the line's verb or kernel
+abbrev pub told_text : Format → List (List ℕ) → Form → List ℕ
+told_text format ws f = cond (is_told format f (followed f ws)) (told_at f ws (followed f ws)) []
+
+abbrev pub told_texts : Format → List (List ℕ) → List Form → List ℕ
+told_texts format ws fs = flat_map (told_text format ws) fs
+
+-- the second word is the sign
+abbrev pub is_operation : List (List ℕ) → Bool
+is_operation ws = bytes_eq (slice_index_or ws 1 []) (codes "=")
+
+abbrev pub begins_declaration : List ℕ → Bool
+begins_declaration w = bytes_eq w (codes "space") || (bytes_eq w (codes "inst") || (bytes_eq w (codes "lock") || bytes_eq w (codes "barrier")))
+
+abbrev pub is_declared : List (List ℕ) → Bool
+is_declared ws = not (is_operation ws) && begins_declaration (slice_index_or ws 0 [])
+
+-- the number of the word that would tell what the line is, and the words that may stand there
+abbrev pub key_place : List (List ℕ) → ℕ
+key_place ws = cond (is_operation ws) (cond (bytes_eq (slice_index_or ws 2 []) (codes "task")) 3 2) 0
+
+abbrev pub vocabulary_of : List (List ℕ) → Vocabulary
+vocabulary_of ws = cond (is_operation ws) (cond (bytes_eq (slice_index_or ws 2 []) (codes "task")) Kernels Verbs) Starts
+
+abbrev pub unknown_text : List (List ℕ) → List ℕ
+unknown_text ws = vocabulary_text (vocabulary_of ws) ++ nearest_text (nearest (slice_index_or ws (key_place ws) []) (vocabulary_words (vocabulary_of ws)))
+
+-- the forms, and where there is none the nearest words
+abbrev pub forms_text : List (List ℕ) → List ℕ → List ℕ
+forms_text ws [] = unknown_text ws
+forms_text ws (b ∷ bs) = b ∷ bs
+
+abbrev pub words_text : Format → Bool → List (List ℕ) → List ℕ
+words_text format below ws = cond (below && is_declared ws) (codes "declarations stand above all operations\n") (forms_text ws (told_texts format ws FORMS))
+
+-- what no line has in it, and else the forms
+abbrev pub syntax_text : Format → Bool → List ℕ → List (List ℕ) → List ℕ
+syntax_text format below line ws = option_map_or blank_text (blank_in line ws) (words_text format below ws)
+
+abbrev pub header_text : List ℕ → List (List ℕ) → List ℕ
+header_text line ws = option_map_or blank_text (blank_in line ws) []
+
+abbrev pub reason_text : Format → Bool → Why → List ℕ → List ℕ
+reason_text format below why.Header line = header_text line (pieces 32 line)
+reason_text format below why.Syntax line = syntax_text format below line (pieces 32 line)
+reason_text format below why.Twice line = repeated_text (pieces 32 line)
+reason_text format below _ line = []
+
+-- what is told of a line that is refused for this reason
+abbrev pub advice : Format → Bool → Why → List ℕ → List ℕ
+advice format below reason line = cond (ends_with_return line) (blank_text Return) (reason_text format below reason line)

@@ -1,0 +1,22 @@
+-- A column that stands in a line twice.
+use Rattle.std.specs.Prelude.{ℕ, ◌==◌, Bool, cond, ◌&&◌, List, [], ◌∷◌, codes, Option, Some, None, bytes_eq}
+use Rattle.std.specs.Option.{option_map_or}
+use Rattle.std.specs.List.{list_any, concat}
+
+abbrev pub has_dot : List ℕ → Bool
+has_dot w = list_any (λ b. b == 46) w
+
+-- a word with a dot in it stands among others
+abbrev pub stands_again : List ℕ → List (List ℕ) → Bool
+stands_again w ws = has_dot w && list_any (bytes_eq w) ws
+
+-- the first one that stands behind it again
+abbrev pub repeated_column : List (List ℕ) → Option (List ℕ)
+repeated_column [] = None
+repeated_column (w ∷ ws) = cond (stands_again w ws) (Some w) (repeated_column ws)
+
+abbrev pub column_text : List ℕ → List ℕ
+column_text w = concat (codes "no line works in place: " ∷ w ∷ codes " stands in it twice, and the columns of a line must differ\n" ∷ [])
+
+abbrev pub repeated_text : List (List ℕ) → List ℕ
+repeated_text ws = option_map_or column_text (repeated_column ws) []

@@ -1,0 +1,287 @@
+//! What is told of a line that is refused for its form.
+
+ghost use Rattle.std.specs.Prelude.{◌≡◌, ◌≤◌, ◌&&◌, ◌++◌, [], length, codes, IfOk, OnOk};
+ghost use Rattle.std.specs.List.{slice_index_or};
+ghost use Rattle.std.specs.Str.{bytes_eq};
+ghost use Rattle.basics.specs.Words.{contents};
+ghost use Rattle.line_forms.specs.Forms.{form_words};
+ghost use Rattle.line_forms.specs.Advice.{leave_text, several_text, told_at, told_text, told_texts, is_operation, begins_declaration, is_declared, vocabulary_of, key_place, unknown_text, forms_text, words_text, syntax_text, header_text, reason_text, advice};
+
+use crate::blanks::{Blank, blank_in, blank_text, ends_with_return};
+use crate::follow::{followed, has_word, is_told};
+use crate::form::{FORMS, Form};
+use crate::hint::put_merge_hint;
+use crate::nearest::{nearest, put_nearest};
+use crate::putting::{put, put_all};
+use crate::twice::put_repeated;
+use crate::vocabulary::{Vocabulary, vocabulary_text, vocabulary_words};
+use graph_terms::format::Format;
+use graph_terms::why::Why;
+use graph_words::words::{split, word};
+use index_spaces::NoMemory;
+use itoa::Buffer;
+use std::alloc::Global;
+
+/// What is told of a line that is refused for this reason, in a text of this format, below an operation
+/// or not: that it ends with a carriage return; for `header` and `syntax` what no line has in it; and
+/// for `syntax` the forms of its verb or kernel, each with the word at which the line leaves it, or
+/// the words next to one that is none.
+pub fn line_advice(
+    alloc: Global,
+    format: Format,
+    below: bool,
+    why: Why,
+    line: &[u8],
+) -> Result<Vec<u8>, NoMemory>
+    ensures { IfOk result (λ v. v.items ≡ advice format below why line.now) }
+{
+    let mut out = Vec::new(alloc);
+    if ends_with_return(line) {
+        put(&mut out, blank_text(Blank::Return))?;
+        return Ok(out);
+    }
+    put_reason(alloc, &mut out, format, below, why, line)?;
+    Ok(out)
+}
+
+/// Puts what the reason tells of the line.
+fn put_reason(
+    alloc: Global,
+    out: &mut Vec<u8>,
+    format: Format,
+    below: bool,
+    why: Why,
+    line: &[u8],
+) -> Result<(), NoMemory>
+    ensures { OnOk result (out.new.items ≡ out.old.items ++ reason_text format below why line.now) }
+{
+    let words = split(alloc, line, b' ')?;
+    match why {
+        Why::Header => put_header(out, line, words.as_slice()),
+        Why::Twice => put_repeated(out, words.as_slice()),
+        Why::Syntax => put_syntax(alloc, out, format, below, line, words.as_slice()),
+        _ => Ok(()),
+    }
+}
+
+/// Puts what no line has in it.
+fn put_header(out: &mut Vec<u8>, line: &[u8], words: &[&[u8]]) -> Result<(), NoMemory>
+    ensures { OnOk result (out.new.items ≡ out.old.items ++ header_text line.now (contents words.now)) }
+{
+    match blank_in(line, words) {
+        Some(blank) => put(out, blank_text(blank)),
+        None => Ok(()),
+    }
+}
+
+/// Puts what no line has in it, or the forms.
+fn put_syntax(
+    alloc: Global,
+    out: &mut Vec<u8>,
+    format: Format,
+    below: bool,
+    line: &[u8],
+    words: &[&[u8]],
+) -> Result<(), NoMemory>
+    ensures { OnOk result (out.new.items ≡ out.old.items ++ syntax_text format below line.now (contents words.now)) }
+{
+    match blank_in(line, words) {
+        Some(blank) => put(out, blank_text(blank)),
+        None => put_words(alloc, out, format, below, words),
+    }
+}
+
+/// Puts the forms of a line of words, or the words next to one that is none; and for
+/// `twice` a column that stands there twice.
+fn put_words(
+    alloc: Global,
+    out: &mut Vec<u8>,
+    format: Format,
+    below: bool,
+    words: &[&[u8]],
+) -> Result<(), NoMemory>
+    ensures { OnOk result (out.new.items ≡ out.old.items ++ words_text format below (contents words.now)) }
+{
+    if is_misplaced(below, words) {
+        return put(out, b"declarations stand above all operations\n");
+    }
+    let forms = told_texts(alloc, format, words, &FORMS)?;
+    put_forms(alloc, out, forms.as_slice(), words)
+}
+
+/// Whether words begin as a declaration does, below an operation.
+fn is_misplaced(below: bool, words: &[&[u8]]) -> bool
+    ensures { result ≡ (below && is_declared (contents words.now)) }
+{
+    below && is_declared(words)
+}
+
+/// Puts what is told of forms, or the words next to one that is none; and for
+/// `twice` a column that stands there twice.
+fn put_forms(
+    alloc: Global,
+    out: &mut Vec<u8>,
+    forms: &[u8],
+    words: &[&[u8]],
+) -> Result<(), NoMemory>
+    ensures { OnOk result (out.new.items ≡ out.old.items ++ forms_text (contents words.now) forms.now) }
+{
+    if forms.is_empty() {
+        return put_unknown(alloc, out, words);
+    }
+    put(out, forms)
+}
+
+/// What is told of forms.
+fn told_texts(
+    alloc: Global,
+    format: Format,
+    words: &[&[u8]],
+    forms: &[Form],
+) -> Result<Vec<u8>, NoMemory>
+    ensures { IfOk result (λ v. v.items ≡ told_texts format (contents words.now) forms.now) }
+{
+    let mut out = Vec::new(alloc);
+    for form in forms {
+        put_told(alloc, &mut out, format, *form, words)?;
+    }
+    Ok(out)
+}
+
+/// Puts a form where it is that of the line's verb or kernel.
+fn put_told(
+    alloc: Global,
+    out: &mut Vec<u8>,
+    format: Format,
+    form: Form,
+    words: &[&[u8]],
+) -> Result<(), NoMemory>
+    ensures { OnOk result (out.new.items ≡ out.old.items ++ told_text format (contents words.now) form) }
+{
+    let (n, all) = followed(alloc, form, words)?;
+    if !is_told(format, form, n) {
+        return Ok(());
+    }
+    put_told_at(out, form, words, n, all)
+}
+
+/// Puts a form of so many words, of which a line has the first `n`.
+fn put_told_at(
+    out: &mut Vec<u8>,
+    form: Form,
+    words: &[&[u8]],
+    n: usize,
+    all: usize,
+) -> Result<(), NoMemory>
+    requires all { all ≡ form_words form }
+    requires within { n ≤ length words.now }
+    ensures { OnOk result (out.new.items ≡ out.old.items ++ told_at form (contents words.now) n) }
+{
+    put_all(out, &[b"the form is: ", form.text(), b"\n"])?;
+    put_leave(out, words, n)?;
+    put_several(out, form, words, n, all)
+}
+
+/// Puts the lines to write where a second event stands behind a whole form.
+fn put_several(
+    out: &mut Vec<u8>,
+    form: Form,
+    words: &[&[u8]],
+    n: usize,
+    all: usize,
+) -> Result<(), NoMemory>
+    requires { all ≡ form_words form }
+    ensures { OnOk result (out.new.items ≡ out.old.items ++ several_text form (contents words.now) n) }
+{
+    if form.takes_on() && (n == all && has_word(words, n)) {
+        return put_merge_hint(out, words, n);
+    }
+    Ok(())
+}
+
+/// Puts the word at which a line leaves a form, by its number from 0.
+fn put_leave(out: &mut Vec<u8>, words: &[&[u8]], n: usize) -> Result<(), NoMemory>
+    requires { n ≤ length words.now }
+    ensures { OnOk result (out.new.items ≡ out.old.items ++ leave_text (contents words.now) n) }
+{
+    let _ = words.len();
+    let mut buffer = Buffer::new();
+    let number = buffer.format(n as u64 + 1).as_bytes();
+    if has_word(words, n) {
+        return put_all(
+            out,
+            &[
+                b"the line leaves it at word ",
+                number,
+                b": ",
+                word(words, n),
+                b"\n",
+            ],
+        );
+    }
+    put_all(out, &[b"the line ends before word ", number, b" of it\n"])
+}
+
+/// Whether the second word is the sign of an operation.
+fn is_operation(words: &[&[u8]]) -> bool
+    ensures { result ≡ is_operation (contents words.now) }
+{
+    word(words, 1) == b"=".as_slice()
+}
+
+/// Whether words begin as a declaration does.
+fn is_declared(words: &[&[u8]]) -> bool
+    ensures { result ≡ is_declared (contents words.now) }
+{
+    !is_operation(words) && begins_declaration(word(words, 0))
+}
+
+fn begins_declaration(word: &[u8]) -> bool
+    ensures { result ≡ begins_declaration word.now }
+{
+    word == b"space".as_slice()
+        || word == b"inst".as_slice()
+        || word == b"lock".as_slice()
+        || word == b"barrier".as_slice()
+}
+
+/// The number, from 0, of the word that would tell what the line is.
+fn key_place(words: &[&[u8]]) -> usize
+    ensures { result ≡ key_place (contents words.now) }
+{
+    if !is_operation(words) {
+        return 0;
+    }
+    if is_task(words) { 3 } else { 2 }
+}
+
+/// The words that may stand there.
+fn vocabulary_of(words: &[&[u8]]) -> Vocabulary
+    ensures { result ≡ vocabulary_of (contents words.now) }
+{
+    if !is_operation(words) {
+        return Vocabulary::Starts;
+    }
+    if is_task(words) {
+        Vocabulary::Kernels
+    } else {
+        Vocabulary::Verbs
+    }
+}
+
+fn is_task(words: &[&[u8]]) -> bool
+    ensures { result ≡ bytes_eq (slice_index_or (contents words.now) 2 []) (codes "task") }
+{
+    word(words, 2) == b"task".as_slice()
+}
+
+/// Puts that no line has this word where it would tell what the line is, and the nearest that may stand there.
+fn put_unknown(alloc: Global, out: &mut Vec<u8>, words: &[&[u8]]) -> Result<(), NoMemory>
+    ensures { OnOk result (out.new.items ≡ out.old.items ++ unknown_text (contents words.now)) }
+{
+    let vocabulary = vocabulary_of(words);
+    let key = word(words, key_place(words));
+    let near = nearest(alloc, key, vocabulary_words(vocabulary))?;
+    put(out, vocabulary_text(vocabulary))?;
+    put_nearest(out, near.as_slice())
+}

@@ -1,0 +1,61 @@
+//! A column that stands in a line twice.
+
+ghost use Rattle.std.specs.Prelude.{◌≡◌, ◌++◌, ◌&&◌, option_map, bytes_eq, OnOk};
+ghost use Rattle.std.specs.List.{list_any};
+ghost use Rattle.basics.specs.Words.{contents};
+ghost use Rattle.line_forms.specs.Columns.{has_dot, stands_again, repeated_column, repeated_text};
+
+use crate::putting::put_all;
+use index_spaces::NoMemory;
+
+/// Puts that a column stands in a line twice, where one does.
+pub(crate) fn put_repeated(out: &mut Vec<u8>, words: &[&[u8]]) -> Result<(), NoMemory>
+    ensures { OnOk result (out.new.items ≡ out.old.items ++ repeated_text (contents words.now)) }
+{
+    match repeated_column(words) {
+        Some(column) => {
+            put_all(
+                out,
+                &[
+                    b"no line works in place: ",
+                    column,
+                    b" stands in it twice, and the columns of a line must differ\n",
+                ],
+            )
+        }
+        None => Ok(()),
+    }
+}
+
+/// The first word with a dot in it that stands behind it again.
+fn repeated_column<'a>(words: &[&'a [u8]]) -> Option<&'a [u8]>
+    ensures { option_map (λ w. w.now) result ≡ repeated_column (contents words.now) }
+{
+    let mut rest = words;
+    while let [word, others @ ..] = rest {
+        if stands_again(word, others) {
+            return Some(word);
+        }
+        rest = others;
+    }
+    None
+}
+
+/// Whether a word has a dot in it, and stands among others.
+fn stands_again(word: &[u8], others: &[&[u8]]) -> bool
+    ensures { result ≡ stands_again word.now (contents others.now) }
+{
+    has_dot(word) && stands_among(word, others)
+}
+
+fn has_dot(word: &[u8]) -> bool
+    ensures { result ≡ has_dot word.now }
+{
+    word.contains(&b'.')
+}
+
+fn stands_among(word: &[u8], others: &[&[u8]]) -> bool
+    ensures { result ≡ list_any (bytes_eq word.now) (contents others.now) }
+{
+    others.iter().any(|other| word == *other)
+}
