@@ -15,7 +15,7 @@ use Rattle.line_forms.specs.declared.vocabulary.Vocabulary.TheVariants.{Starts, 
 use Rattle.line_forms.specs.Blanks.{ends_with_return, blank_in, blank_text}
 use Rattle.line_forms.specs.Forms.{form_text, form_words, takes_on, followed, is_told}
 use Rattle.line_forms.specs.Columns.{repeated_text}
-use Rattle.line_forms.specs.Hint.{merge_hint}
+use Rattle.line_forms.specs.Hint.{are_events, merge_hint}
 use Rattle.line_forms.specs.Words.{vocabulary_words, vocabulary_text, nearest, nearest_text}
 
 -- word n of a line, from 0, is the first at which the line leaves a form, or would be
@@ -24,9 +24,9 @@ leave_text ws n =
     cond (nat_lt n (length ws)) (concat (codes "the line leaves it at word " ∷ decimal (n + 1) ∷ codes ": " ∷ slice_index_or ws n [] ∷ codes "\n" ∷ []))
     (concat (codes "the line ends before word " ∷ decimal (n + 1) ∷ codes " of it\n" ∷ []))
 
--- a second event stands behind the whole form
+-- a second event stands behind the whole form, and nothing that names none
 abbrev pub several_text : Form → List (List ℕ) → ℕ → List ℕ
-several_text f ws n = cond (takes_on f && (n == form_words f && nat_lt n (length ws))) (merge_hint ws n) []
+several_text f ws n = cond (takes_on f && (n == form_words f && (nat_lt n (length ws) && are_events ws n))) (merge_hint f ws n) []
 
 -- a form, of which a line has the first n words
 abbrev pub told_at : Form → List (List ℕ) → ℕ → List ℕ

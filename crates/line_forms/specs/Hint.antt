@@ -1,5 +1,10 @@
 -- The two lines to write for one that waits for several events.
-use Rattle.std.specs.Prelude.{ℕ, ◌-◌, List, ◌∷◌, ◌++◌, take, drop, flat_map, codes}
+use Rattle.std.specs.Prelude.{ℕ, ◌-◌, Bool, not, ◌||◌, List, ◌∷◌, ◌++◌, take, drop, flat_map, codes}
+use Rattle.std.specs.List.{list_any}
+use Rattle.std.specs.Str.{bytes_eq}
+use Rattle.line_forms.specs.declared.form.Form.{Form}
+use Rattle.line_forms.specs.declared.form.Form.TheVariants as forms
+use Rattle.line_forms.specs.Blanks.{begins_comment}
 
 abbrev pub before_space : List ℕ → List ℕ
 before_space w = 32 ∷ w
@@ -7,7 +12,20 @@ before_space w = 32 ∷ w
 abbrev pub behind_space : List ℕ → List ℕ
 behind_space w = w ++ codes " "
 
+-- a word that names no event
+abbrev pub is_no_event : List ℕ → Bool
+is_no_event w = begins_comment w || (bytes_eq w (codes "on") || (bytes_eq w (codes "merge") || (bytes_eq w (codes "mergei") || bytes_eq w (codes "and"))))
+
+-- the words from number n - 1 on may name events
+abbrev pub are_events : List (List ℕ) → ℕ → Bool
+are_events ws n = not (list_any is_no_event (drop (n - 1) ws))
+
+-- the merge that the line may wait for: a release waits for one that ignores faults
+abbrev pub merge_words : Form → List ℕ
+merge_words forms.Release = codes "on takes one event: put a mergei above, and wait for that\nNAME = mergei"
+merge_words _ = codes "on takes one event: put a merge above, and wait for that\nNAME = merge"
+
 -- a merge of the events from word n - 1 on, and the line up to there with the merge
-abbrev pub merge_hint : List (List ℕ) → ℕ → List ℕ
-merge_hint ws n =
-    codes "on takes one event: put a merge above, and wait for that\nNAME = merge" ++ (flat_map before_space (drop (n - 1) ws) ++ (codes "\n" ++ (flat_map behind_space (take (n - 1) ws) ++ codes "NAME\n")))
+abbrev pub merge_hint : Form → List (List ℕ) → ℕ → List ℕ
+merge_hint f ws n =
+    merge_words f ++ (flat_map before_space (drop (n - 1) ws) ++ (codes "\n" ++ (flat_map behind_space (take (n - 1) ws) ++ codes "NAME\n")))

@@ -10,7 +10,7 @@ ghost use Rattle.line_forms.specs.Advice.{leave_text, several_text, told_at, tol
 use crate::blanks::{Blank, blank_in, blank_text, ends_with_return};
 use crate::follow::{followed, has_word, is_told};
 use crate::form::{FORMS, Form};
-use crate::hint::put_merge_hint;
+use crate::hint::{are_events, put_merge_hint};
 use crate::nearest::{nearest, put_nearest};
 use crate::putting::{put, put_all};
 use crate::twice::put_repeated;
@@ -91,8 +91,7 @@ fn put_syntax(
     }
 }
 
-/// Puts the forms of a line of words, or the words next to one that is none; and for
-/// `twice` a column that stands there twice.
+/// Puts the forms of a line of words, or the words next to one that is none.
 fn put_words(
     alloc: Global,
     out: &mut Vec<u8>,
@@ -116,8 +115,7 @@ fn is_misplaced(below: bool, words: &[&[u8]]) -> bool
     below && is_declared(words)
 }
 
-/// Puts what is told of forms, or the words next to one that is none; and for
-/// `twice` a column that stands there twice.
+/// Puts what is told of forms, or the words next to one that is none.
 fn put_forms(
     alloc: Global,
     out: &mut Vec<u8>,
@@ -193,8 +191,8 @@ fn put_several(
     requires { all ≡ form_words form }
     ensures { OnOk result (out.new.items ≡ out.old.items ++ several_text form (contents words.now) n) }
 {
-    if form.takes_on() && (n == all && has_word(words, n)) {
-        return put_merge_hint(out, words, n);
+    if form.takes_on() && (n == all && (has_word(words, n) && are_events(words, n))) {
+        return put_merge_hint(out, form, words, n);
     }
     Ok(())
 }

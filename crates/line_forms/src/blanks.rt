@@ -68,7 +68,7 @@ pub(crate) fn ends_with_return(line: &[u8]) -> bool
     }
 }
 
-fn begins_comment(line: &[u8]) -> bool
+pub(crate) fn begins_comment(line: &[u8]) -> bool
     ensures { result ≡ begins_comment line.now }
 {
     match line {

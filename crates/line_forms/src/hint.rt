@@ -1,27 +1,71 @@
 //! Lines to write for one that waits for several events.
 
-ghost use Rattle.std.specs.Prelude.{◌≡◌, ◌++◌, ◌≤◌, drop, take, length, flat_map, codes, OnOk};
+ghost use Rattle.std.specs.Prelude.{◌≡◌, ◌++◌, ◌≤◌, drop, take, length, flat_map, OnOk};
+ghost use Rattle.std.specs.List.{list_any};
 ghost use Rattle.basics.specs.Words.{contents};
-ghost use Rattle.line_forms.specs.Hint.{before_space, behind_space, merge_hint};
+ghost use Rattle.line_forms.specs.Hint.{before_space, behind_space, is_no_event, are_events, merge_words, merge_hint};
 
+use crate::blanks::begins_comment;
+use crate::form::Form;
 use crate::putting::put;
 use graph_words::words::behind;
 use index_spaces::NoMemory;
 
 /// Puts the two lines to write in place of one that has `n` words before the second event.
-pub(crate) fn put_merge_hint(out: &mut Vec<u8>, words: &[&[u8]], n: usize) -> Result<(), NoMemory>
+pub(crate) fn put_merge_hint(
+    out: &mut Vec<u8>,
+    form: Form,
+    words: &[&[u8]],
+    n: usize,
+) -> Result<(), NoMemory>
     requires { n ≤ length words.now }
-    ensures { OnOk result (out.new.items ≡ out.old.items ++ merge_hint (contents words.now) n) }
+    ensures { OnOk result (out.new.items ≡ out.old.items ++ merge_hint form (contents words.now) n) }
 {
     let kept = n.saturating_sub(1);
-    put(
-        out,
-        b"on takes one event: put a merge above, and wait for that\nNAME = merge",
-    )?;
+    put(out, merge_words(form))?;
     put_before(out, behind(words, kept))?;
     put(out, b"\n")?;
     put_behind(out, front(words, kept))?;
     put(out, b"NAME\n")
+}
+
+/// What is told of the merge that a line of the form may wait for. A release waits for one that
+/// ignores faults.
+fn merge_words(form: Form) -> &'static [u8]
+    ensures { result.now ≡ merge_words form }
+{
+    match form {
+        Form::Release => {
+            b"on takes one event: put a mergei above, and wait for that\nNAME = mergei"
+        }
+        _ => b"on takes one event: put a merge above, and wait for that\nNAME = merge",
+    }
+}
+
+/// Whether the words from number `n` less 1 on may name events.
+pub(crate) fn are_events(words: &[&[u8]], n: usize) -> bool
+    requires { n ≤ length words.now }
+    ensures { result ≡ are_events (contents words.now) n }
+{
+    let last = n.saturating_sub(1);
+    !has_other(behind(words, last))
+}
+
+/// Whether one of some words names no event.
+fn has_other(words: &[&[u8]]) -> bool
+    ensures { result ≡ list_any is_no_event (contents words.now) }
+{
+    words.iter().any(|word| is_no_event(word))
+}
+
+fn is_no_event(word: &[u8]) -> bool
+    ensures { result ≡ is_no_event word.now }
+{
+    begins_comment(word)
+        || word == b"on".as_slice()
+        || word == b"merge".as_slice()
+        || word == b"mergei".as_slice()
+        || word == b"and".as_slice()
 }
 
 /// Puts words, each with a space before it.
