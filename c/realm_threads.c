@@ -10,8 +10,9 @@
 
    Lines that were busy wait in a list for each column and each reservation, and only the first of a list is tried once a line is put
    back, so that thousands that want one column cost no more than a few. What stands behind it is tried where the first goes on
-   without the thing, or shares it; and all are tried before the loop ends. It ends where nothing is out and nothing to try. Then `left`
-   of the run is 0, or a line was forgotten, which is answered and not waited for. */
+   without the thing, or shares it; and all are tried before the loop ends. It ends where nothing is out and nothing to try. Where
+   lines are left then, each is tried once more: none can be taken, since they wait for what never comes, or the loop has forgotten
+   one. That one is performed, and the call answers so. */
 #include "proved_calls.h"
 #include <pthread.h>
 #include <stdlib.h>
@@ -170,12 +171,28 @@ static void list_issued(struct loop *loop, const struct realm_run_lines *lines) 
     for (uint32_t line = loop->issued; line > 0; line--) put(loop, &loop->ready, line - 1);
 }
 
+/* Whether the loop has forgotten a line: FORGOTTEN where one can still be issued, or taken, which is performed then. */
+static uint32_t forgotten(struct loop *loop) {
+    struct proved_held work = {0};
+    uint32_t line, other;
+    if (proved_realm_run_issue(loop->run, &line) == REALM_RUN_DONE) return REALM_MISUSE_FORGOTTEN;
+    for (line = 0; line < loop->lines; line++) {
+        uint32_t status = proved_realm_run_take(loop->run, line, &work, &other);
+        if (status == REALM_RUN_NO_MEMORY) return status;
+        if (status != REALM_RUN_DONE) continue;
+        proved_realm_work_perform(&work);
+        proved_realm_run_put_back(loop->run, &work);
+        return REALM_MISUSE_FORGOTTEN;
+    }
+    return REALM_RUN_DONE;
+}
+
 static uint32_t run_loop(struct loop *loop, uint32_t threads, struct realm_run_lines *lines) {
     list_issued(loop, lines);
     work_by(loop, threads);
     uint32_t status = proved_realm_run_state(loop->run, lines);
     if (loop->status) return loop->status;
-    return status == REALM_RUN_DONE && lines->left ? (uint32_t)REALM_MISUSE_FORGOTTEN : status;
+    return status == REALM_RUN_DONE && lines->left ? forgotten(loop) : status;
 }
 
 /* A loop over so many lines, with its lists empty. 0 where there is no memory. */

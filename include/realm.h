@@ -105,9 +105,9 @@ uint32_t realm_run_new(const uint8_t *text, size_t length, uint32_t slots, struc
 
 /* Performs all that can be performed, on 1 to 8 threads: the calling one, and others that are started and have ended as the
    call returns; where the system starts fewer, those do all. 0 stands for 1. What was issued before is gone on with. Then
-   `left` of the run is 0, and a report says the rest.
+   what is left waits for what never comes, and a report says the rest.
    DONE; NO_MEMORY, and then the run may be gone on with. Misuse: RANGE where there are more threads than 8, WORK_OUT, REPORTED;
-   FORGOTTEN where a line that comes was not performed, which never should be. The loop is tested, not proved; each of its steps
+   FORGOTTEN where an operation could still be taken at the end, which never should be. The loop is tested, not proved; each of its steps
    is a proved call of those below, and no answer of it makes a report wrong. */
 uint32_t realm_run_all(struct realm_run *run, uint32_t threads);
 
@@ -138,7 +138,7 @@ struct realm_run_lines {
     uint32_t issued;   /* and not taken: they may wait, be busy, or never come */
     uint32_t out;      /* taken, and not put back */
     uint32_t ended;
-    uint32_t left;     /* not ended, without those that never come */
+    uint32_t left;     /* not ended, without user events and phases that never come; what waits for these counts */
 };
 
 /* DONE. Misuse: REPORTED. After each answer but DONE all are 0. */

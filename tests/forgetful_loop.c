@@ -1,4 +1,4 @@
-/* A loop whose call on woken lines gives none forgets the line that waits; it says so and does not wait, and the report does that line.
+/* A loop whose call on woken lines gives none forgets the line that waits; it does not wait, says so and performs it.
    Link with -Wl,--wrap=proved_realm_run_woken. The status is 0 where it is so. */
 #include "realm.h"
 #include <stdio.h>
@@ -24,7 +24,7 @@ int main(void) {
         uint32_t state = realm_run_state(&run, &lines), told = realm_run_report(&run, out, sizeof out, &written);
         realm_run_free(&run);
         int is_other = told || written != sizeof report - 1 || memcmp(out, report, written);
-        if (begun || all != REALM_MISUSE_FORGOTTEN || state || lines.left != 1 || is_other) {
+        if (begun || all != REALM_MISUSE_FORGOTTEN || state || lines.left != 0 || is_other) {
             printf("%u threads: new %u, all %u, state %u with %u left, report %u\n", threads, begun, all, state, lines.left, told);
             return 1;
         }

@@ -100,6 +100,26 @@ static void a_run_by_threads(void) {
     WANTS(realm_run_free(&run), REALM_RUN_DONE);
 }
 
+/* A line that waits for what never comes is left, and nothing was forgotten. */
+static void waits_for_good(void) {
+    static const char text[] = "realm 1\nspace s 0..0\ninst a s x\nu = user\nf = fill a.x s 7 on u\nend\n";
+    static const char report[] = "realm-report 1\nop u waiting pending\nop f waiting pending\ncells a.x 0..0 0\ndone\n";
+    for (uint32_t threads = 0; threads <= 8; threads++) {
+        struct realm_run run = {0};
+        struct realm_verdict verdict;
+        struct realm_run_lines lines;
+        uint8_t out[256];
+        uint64_t written;
+        WANTS(realm_run_new(TEXT(text), 0, &run, &verdict), REALM_DONE);
+        WANTS(realm_run_all(&run, threads), REALM_RUN_DONE);
+        WANTS(realm_run_state(&run, &lines), REALM_RUN_DONE);
+        WANTS(lines.issued, 2);
+        WANTS(realm_run_report(&run, out, sizeof out, &written), REALM_RUN_DONE);
+        WANTS(written == sizeof report - 1 && !memcmp(out, report, written), 1);
+        WANTS(realm_run_free(&run), REALM_RUN_DONE);
+    }
+}
+
 static void misuse_of_runs(void) {
     struct realm_run run = {0}, other = {0}, none = {0}, copy;
     struct realm_work work = {0}, taken;
@@ -247,6 +267,7 @@ int main(void) {
     a_line_of_a_run();
     the_report_of_a_run();
     a_run_by_threads();
+    waits_for_good();
     misuse_of_runs();
     words_on_answers();
     misuse_of_events();
