@@ -15,7 +15,10 @@ NOT_YET, BUSY_LOCK, BUSY_COLUMN, NONE, FULL, OVER, NEVER = 1, 2, 3, 4, 5, 9, 10
 
 @dataclass(frozen=True)
 class State:
-    """How many operations of a run are where. `left` are those that have not ended, without user events and phases that never come; what waits for these counts."""
+    """How many operations of a run are where.
+
+    `left` are those that have not ended, without user events and phases that never come; what waits for these counts.
+    """
 
     unissued: int
     issued: int
