@@ -111,15 +111,18 @@ uint32_t realm_run_new(const uint8_t *text, size_t length, uint32_t slots, struc
    is a proved call of those below, and no answer of it makes a report wrong. */
 uint32_t realm_run_all(struct realm_run *run, uint32_t threads);
 
-/* Issues the next operation of the text. DONE with its number; NONE exactly where all are issued; FULL exactly where one is
-   left and no slot is free. Misuse: REPORTED. */
+/* Issues the next operation of the text. DONE with its number, from 0 in the order of the text, merges and user events included
+   and declarations not (verdict.line and explanations count lines of the text, from 1); NONE exactly where all are issued; FULL
+   exactly where one is left and no slot is free: try again after a realm_run_put_back. Misuse: REPORTED. */
 uint32_t realm_run_issue(struct realm_run *run, uint32_t *line);
 
 /* Takes an issued operation. DONE with its work; NOT_YET where it waits for the operation `other`: if that is issued,
    realm_run_woken gives the line once it has ended, or before; if it is not, nothing does, so try again when it is issued;
    BUSY_LOCK, BUSY_COLUMN where the reservation or the column `other` is with another operation: try again after a
-   realm_run_put_back; OVER where it is not issued, is out or has ended; NEVER where it never comes; NO_MEMORY, and then
-   nothing changed. Misuse: RANGE where the graph has no such operation; FILLED where out holds something; REPORTED. */
+   realm_run_put_back. A column is with one operation at a time, also where both only read it or their points are apart. One whose
+   wait is poisoned is taken, performed and put back too: it does nothing then, and only the report tells; OVER where it is not
+   issued, is out or has ended; NEVER where it never comes; NO_MEMORY, and then nothing changed. Misuse: RANGE where the graph has
+   no such operation; FILLED where out holds something; REPORTED. */
 uint32_t realm_run_take(struct realm_run *run, uint32_t line, struct realm_work *out, uint32_t *other);
 
 /* Performs an operation that was taken. DONE. Misuse: PERFORMED. */

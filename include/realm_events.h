@@ -31,6 +31,8 @@ extern "C" {
 
    What nothing checks, and the program must keep:
    - one call at a time reads or writes a struct, which is of zero bytes at first, or as a call left it;
+   - memory of the program: the steps at a table are sequentially consistent, so what a thread wrote before realm_events_end another
+     may read once look, watch, learn or next has told it of that end. No proof says it;
    - pointers are not null, and those of one call are apart;
    - malloc, realloc and free are those of one allocator, and its blocks are aligned to 16 bytes. No call is made from a
      signal handler, nor in a child that a process with threads has forked. */
@@ -75,7 +77,8 @@ uint32_t realm_events_create(struct realm_held *owner, struct realm_held *out_pe
 uint32_t realm_events_waiter(struct realm_held *owner, struct realm_held *out_waiter, uint32_t *number);
 
 /* Places a waiter of the table on an event.
-   PLACED: it stands there, the event's end will catch it, and the handle of the waiter is empty.
+   PLACED: it stands there, the event's end will catch it, and the handle of the waiter is empty. Another thread may be given the
+   waiter before this call returns, so realm_events_next is to fill another struct than the one that is passed here: pass a copy.
    OVER, OVER_POISON: the event has ended with this fate, which the place then knows; the waiter stays.
    MOVED: the event is pending, and its slot's word changed meanwhile; the waiter stays. Call again. */
 uint32_t realm_events_watch(struct realm_held *place, struct realm_handle handle, struct realm_held *waiter);
