@@ -66,7 +66,7 @@ uint32_t realm_eval(const uint8_t *text, size_t length, uint8_t *out, size_t roo
 /* The text of a generated graph of size 1 to 8,192, the same for the same numbers. DONE, USAGE, NO_ROOM, NO_MEMORY. */
 uint32_t realm_make(uint64_t seed, uint32_t size, uint8_t *out, size_t room, uint64_t *written);
 
-/* The text of the graph in format 2, whether or not it is accepted. DONE, UNREAD, NO_ROOM, NO_MEMORY, TOO_LONG. */
+/* The text of the graph in format 2, or in format 3 where it has that, whether or not it is accepted. DONE, UNREAD, NO_ROOM, NO_MEMORY, TOO_LONG. */
 uint32_t realm_upgrade(const uint8_t *text, size_t length, uint8_t *out, size_t room, uint64_t *written);
 
 /* The text of a graph, and behind it that of a trace: is the graph accepted and the trace lawful?

@@ -24,8 +24,8 @@ _realm() {
     timeline) options="--workers -o --help" ;;
     audit) options="-o --help" ;;
     make) options="--seed --size --text --workers --engine --hints --slots -o --help" ;;
-    upgrade) options="-o --help" ;;
-    realm-explain) options="--ends -o --help" ;;
+    upgrade) options="--to -o --help" ;;
+    realm-explain) options="--ends --all -o --help" ;;
     realm-flow) options="--commute -o --help" ;;
     esac
     [[ $word == -* ]] && words="$words $options"
@@ -34,6 +34,7 @@ _realm() {
     --workers) words="0 1 2 3 4 5 6 7 8" ;;
     --engine) words="words lock" ;;
     --hints) words="queue homes" ;;
+    --to) words="3" ;;
     esac
     [[ -z $words ]] || mapfile -t COMPREPLY < <(compgen -W "$words" -- "$word")
 }

@@ -109,7 +109,7 @@ def evaluate(text: AnyStr) -> AnyStr:
 
 
 def upgrade(text: AnyStr) -> AnyStr:
-    """The text of the graph in format 2."""
+    """The text of the graph in format 2, or in format 3 where it has that."""
     return _made(LIB.realm_upgrade, text)
 
 

@@ -39,8 +39,8 @@ fn each_call(rt: HostRuntime) -> Result<(), Fail> {
 /// A cycle of three lines.
 const CYCLE: &str = "realm 1\nu = user\nx = merge u\nt = trigger u on x\nend\n";
 
-/// A name that is given twice.
-const SECOND_NAME: &str = "realm 1\nu = user\nu = user\nend\n";
+/// A name that is given twice, below a comment.
+const SECOND_NAME: &str = "realm 3\n# twice\nu = user\nu = user\nend\n";
 
 /// What becomes of a text, and why, with the ends of lines.
 fn explained(alloc: Global, bytes: &str, verdict: Verdict) -> Result<(), Fail> {

@@ -91,10 +91,11 @@ fn evaluates(alloc: Global) -> Result<(), Fail> {
 }
 
 /// Adds a reservation to a graph, which it is meant to fit: whether memory was there.
-fn add_lock(graph: &mut Graph, name: Name) -> Result<bool, Fail>
+fn add_lock(graph: &mut Graph, name: &[u8]) -> Result<bool, Fail>
     requires { graph.old.lines ≡ [] }
     ensures { graph.new.lines ≡ [] }
 {
+    let name = Name::in_format(graph.format(), name).ok_or("no name")?;
     let decl = Decl::Lock { name };
     decl.is_well_formed();
     if graph.decl_fault(&decl).is_some() {
@@ -106,16 +107,17 @@ fn add_lock(graph: &mut Graph, name: Name) -> Result<bool, Fail>
 fn adds_decl(alloc: Global) -> Result<(), Fail> {
     let mut graph = Graph::new(alloc);
     let name = Name::new(b"l").ok_or("no name")?;
-    if add_lock(&mut graph, name)? {
+    if add_lock(&mut graph, b"l")? {
         return after("add_decl", false, graph.locks() == 1);
     }
     let is_empty = graph.decls() == 0 && graph.locks() == 0 && graph.find(&name).is_none();
-    let again = add_lock(&mut graph, name)?;
+    let again = add_lock(&mut graph, b"l")?;
     after("add_decl", true, is_empty && again)
 }
 
 /// Adds a user event to a graph, which it is meant to fit: whether memory was there.
-fn add_user(graph: &mut Graph, name: Name) -> Result<bool, Fail> {
+fn add_user(graph: &mut Graph, name: &[u8]) -> Result<bool, Fail> {
+    let name = Name::in_format(graph.format(), name).ok_or("no name")?;
     let line = Line {
         name,
         verb: Verb::User,
@@ -131,11 +133,11 @@ fn add_user(graph: &mut Graph, name: Name) -> Result<bool, Fail> {
 fn adds_line(alloc: Global) -> Result<(), Fail> {
     let mut graph = Graph::new(alloc);
     let name = Name::new(b"u").ok_or("no name")?;
-    if add_user(&mut graph, name)? {
+    if add_user(&mut graph, b"u")? {
         return after("add_line", false, graph.lines() == 1);
     }
     let is_empty = graph.lines() == 0 && graph.find(&name).is_none();
-    let again = add_user(&mut graph, name)?;
+    let again = add_user(&mut graph, b"u")?;
     after("add_line", true, is_empty && again)
 }
 

@@ -6,6 +6,8 @@
 #[cfg(test)]
 mod audit_memory_tests;
 #[cfg(test)]
+mod comment_tests;
+#[cfg(test)]
 mod explain_memory_tests;
 #[cfg(test)]
 mod flow_memory_tests;

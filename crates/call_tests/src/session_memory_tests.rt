@@ -23,7 +23,8 @@ realm 1
 k = user
 end
 graph two
-realm 1
+realm 3
+# ended by the link
 v = user
 end
 link c v one k

@@ -16,6 +16,7 @@ const RUN: Request = Request {
     size: 100,
     trace: false,
     text: false,
+    to_three: false,
 };
 
 fn words(alloc: Global, line: &str) -> Result<Vec<String>, Fail> {
@@ -104,6 +105,21 @@ fn takes_options(rt: HostRuntime) -> Result<(), Fail> {
                 ..RUN
             },
         ),
+        (
+            "realm upgrade --to 3",
+            Request {
+                action: Action::Upgrade,
+                to_three: true,
+                ..RUN
+            },
+        ),
+        (
+            "realm run --to=3",
+            Request {
+                to_three: true,
+                ..RUN
+            },
+        ),
     ] {
         assert_eq!(rt; request(rt.alloc(), line)?, Ok(wanted));
     }
@@ -111,7 +127,7 @@ fn takes_options(rt: HostRuntime) -> Result<(), Fail> {
 }
 
 /// Command lines with what is said of the word that is refused.
-const REFUSALS: [(&str, &str); 13] = [
+const REFUSALS: [(&str, &str); 15] = [
     ("realm run", ""),
     (
         "realm",
@@ -140,6 +156,11 @@ const REFUSALS: [(&str, &str); 13] = [
         "--seed 18446744073709551616: 0 to 18446744073709551615",
     ),
     ("realm eval --size 8193", "--size 8193: 1 to 8192"),
+    ("realm upgrade --to 2", "--to 2: 3"),
+    (
+        "realm upgrade --to",
+        "a value is required for '--to <to>' but none was supplied: 3",
+    ),
     (
         "realm run --workers",
         "a value is required for '--workers <workers>' but none was supplied: 0 to 8",
@@ -150,7 +171,7 @@ const REFUSALS: [(&str, &str); 13] = [
     ),
     (
         "realm run --fast",
-        "unexpected argument '--fast' found: an action with --workers, --slots, --engine, --hints, --seed, --size, --trace, --text",
+        "unexpected argument '--fast' found: an action with --workers, --slots, --engine, --hints, --seed, --size, --trace, --text, --to",
     ),
 ];
 

@@ -26,9 +26,9 @@ flag_rule name = record (new_rule name) { long = Some name; action = Some SetTru
 abbrev pub bare_command : App
 bare_command = record { top = record (new_app (codes "realm")).top { disable_help_flag = Bool.true; disable_version_flag = Bool.true }; subs = [] }
 
--- the simple command: an action, six options with one value each, and two flags
+-- the simple command: an action, seven options with one value each, and two flags
 abbrev pub realm_command : App
-realm_command = with_rule (with_rule (with_rule (with_rule (with_rule (with_rule (with_rule (with_rule (with_rule bare_command
+realm_command = with_rule (with_rule (with_rule (with_rule (with_rule (with_rule (with_rule (with_rule (with_rule (with_rule bare_command
     (record (new_rule (codes "ACTION")) { required = Bool.true }))
     (option_rule (codes "workers")))
     (option_rule (codes "slots")))
@@ -37,7 +37,8 @@ realm_command = with_rule (with_rule (with_rule (with_rule (with_rule (with_rule
     (option_rule (codes "seed")))
     (option_rule (codes "size")))
     (flag_rule (codes "trace")))
-    (flag_rule (codes "text"))
+    (flag_rule (codes "text")))
+    (option_rule (codes "to"))
 
 -- the action that a word names
 abbrev pub action_by_word : Text → Option Action
@@ -66,6 +67,10 @@ hint_kind_by_word word =
     else if bytes_eq word (codes "homes") then Some Homes
     else None
 
+-- that a word names format 3, the only one that an upgrade can be asked for
+abbrev pub three_by_word : Text → Option Bool
+three_by_word word = if bytes_eq word (codes "3") then Some Bool.true else None
+
 -- the value of an option where its text is read, the default where it isn't given, and none where its text can't be read
 abbrev pub value_or : {X : Type 0} → X → (Text → Option X) → Option Text → Option X
 value_or default read given = option_map_or read given (Some default)
@@ -83,7 +88,8 @@ request_in rows =
     option_and_then (λ engine.
     option_and_then (λ hints.
     option_and_then (λ seed.
-    option_map (λ size. record {
+    option_and_then (λ size.
+    option_map (λ to_three. record {
       «action» = action;
       «workers» = workers;
       «slots» = slots;
@@ -93,7 +99,9 @@ request_in rows =
       «size» = size;
       trace = is_set (first_of (codes "trace") rows);
       text = is_set (first_of (codes "text") rows);
+      «to_three» = to_three;
     })
+    (value_or Bool.false three_by_word (first_of (codes "to") rows)))
     (value_or 100 (number_between 1 MAX_SIZE) (first_of (codes "size") rows)))
     (value_or 1 number_of (first_of (codes "seed") rows)))
     (value_or Queue hint_kind_by_word (first_of (codes "hints") rows)))

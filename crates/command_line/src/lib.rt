@@ -55,7 +55,7 @@ fn fault_of(error: &Error) -> WordsFault
     }
 }
 
-/// The command: an action, six options with a value each, and two flags.
+/// The command: an action, seven options with a value each, and two flags.
 fn command<'a>(alloc: Global) -> Result<Command<'a>, AllocError>
     ensures { IfOk result (λ c. app_of c ≡ realm_command) }
 {
@@ -71,7 +71,8 @@ fn command<'a>(alloc: Global) -> Result<Command<'a>, AllocError>
         .arg(option(alloc, "seed"))?
         .arg(option(alloc, "size"))?
         .arg(flag(alloc, "trace"))?
-        .arg(flag(alloc, "text"))
+        .arg(flag(alloc, "text"))?
+        .arg(option(alloc, "to"))
 }
 
 /// An option with one value.

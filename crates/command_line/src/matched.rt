@@ -1,9 +1,9 @@
 //! What the matches of a command line ask for.
 
-ghost use Rattle.std.specs.Prelude.{◌≡◌, ◌≤◌, IfSome, List, Option, Some, None, option_map, option_and_then, codes};
+ghost use Rattle.std.specs.Prelude.{◌≡◌, ◌≤◌, IfSome, false, List, Option, Some, None, option_map, option_and_then, codes};
 ghost use Rattle.clap.specs.Words.{Text, first_of, rows_of, found_of};
 ghost use Rattle.command_line.specs.Number.{number_of, number_between};
-ghost use Rattle.command_line.specs.Request.{action_by_word, engine_by_word, hint_kind_by_word, value_or, is_set, request_in};
+ghost use Rattle.command_line.specs.Request.{action_by_word, engine_by_word, hint_kind_by_word, three_by_word, value_or, is_set, request_in};
 
 use crate::number::{number, number_between};
 use crate::request::{Action, Engine, HintKind, MAX_SIZE, MAX_SLOTS, MAX_WORKERS, Request};
@@ -44,6 +44,16 @@ pub(crate) fn hint_kind_by_word(word: &str) -> Option<HintKind>
     match word {
         "queue" => Some(HintKind::Queue),
         "homes" => Some(HintKind::Homes),
+        _ => None,
+    }
+}
+
+/// That a word names format 3, the only one that an upgrade can be asked for.
+pub(crate) fn three_by_word(word: &str) -> Option<bool>
+    ensures { result ≡ three_by_word word.now }
+{
+    match word {
+        "3" => Some(true),
         _ => None,
     }
 }
@@ -119,6 +129,16 @@ fn seed(matches: &ArgMatches) -> Option<u64>
     }
 }
 
+/// Whether format 3 is asked for; none where the text names no format that can be.
+fn to_three(matches: &ArgMatches) -> Option<bool>
+    ensures { result ≡ value_or false three_by_word (first_of (codes "to") (rows_of (found_of matches.now))) }
+{
+    match given(matches, "to") {
+        None => Some(false),
+        Some(word) => three_by_word(word),
+    }
+}
+
 /// What the matches ask for; none where a value is out of its range.
 pub(crate) fn request_in(matches: &ArgMatches) -> Option<Request>
     ensures request { result ≡ request_in (rows_of (found_of matches.now)) }
@@ -136,5 +156,6 @@ pub(crate) fn request_in(matches: &ArgMatches) -> Option<Request>
         size: number_or(matches, "size", 100, 1, MAX_SIZE)?,
         trace: is_set(matches, "trace"),
         text: is_set(matches, "text"),
+        to_three: to_three(matches)?,
     })
 }

@@ -4,7 +4,7 @@
 ghost use Rattle.std.specs.Prelude.{◌≡◌, IfOk, is_none, is_some};
 ghost use Rattle.command_line.specs.Request.{request_of_words};
 
-use crate::matched::{action_by_word, engine_by_word, given, hint_kind_by_word};
+use crate::matched::{action_by_word, engine_by_word, given, hint_kind_by_word, three_by_word};
 use crate::number::number;
 use crate::request::{MAX_SIZE, MAX_SLOTS, MAX_WORKERS};
 use crate::{WordsFault, command, read_words};
@@ -20,6 +20,7 @@ enum Allowed {
     Engine,
     Hints,
     Number { least: u64, most: u64 },
+    Three,
 }
 
 impl Allowed {
@@ -32,6 +33,7 @@ impl Allowed {
                 Some(number) => *least <= number && number <= *most,
                 None => false,
             },
+            Allowed::Three => three_by_word(word).is_some(),
         }
     }
 }
@@ -45,6 +47,7 @@ impl fmt::Display for Allowed {
             Allowed::Engine => f.write_str("words or lock"),
             Allowed::Hints => f.write_str("queue or homes"),
             Allowed::Number { least, most } => write!(f, "{least} to {most}"),
+            Allowed::Three => f.write_str("3"),
         }
     }
 }
@@ -57,7 +60,7 @@ struct Argument {
     allowed: Allowed,
 }
 
-const ARGUMENTS: [Argument; 7] = [
+const ARGUMENTS: [Argument; 8] = [
     Argument {
         id: "ACTION",
         shown: "",
@@ -105,11 +108,16 @@ const ARGUMENTS: [Argument; 7] = [
             most: MAX_SIZE as u64,
         },
     },
+    Argument {
+        id: "to",
+        shown: "--to ",
+        allowed: Allowed::Three,
+    },
 ];
 
 /// What may stand on a command line.
 const ALL_WORDS: &str =
-    "an action with --workers, --slots, --engine, --hints, --seed, --size, --trace, --text";
+    "an action with --workers, --slots, --engine, --hints, --seed, --size, --trace, --text, --to";
 
 /// Which word of a command line is refused, and what may stand there, as `--workers 9: 0 to 8`. None exactly
 /// where the words ask for something.

@@ -26,7 +26,8 @@ pub enum Action {
     Audit,
     /// A graph is read, checked and planned in virtual time, and its timeline is written.
     Timeline,
-    /// A graph is read, and its text in format 2 is written.
+    /// A graph is read, and its text in a later format is written: format 2 of formats 1 and 2, and format 3 of
+    /// format 3, or of any where the request says so.
     Upgrade,
     /// Graphs with links to earlier ones are read, checked and run one after the other, and their
     /// reports and what their events answer are written.
@@ -72,4 +73,6 @@ pub struct Request {
     pub trace: bool,
     /// Whether the text of a generated graph is written, and nothing is run.
     pub text: bool,
+    /// Whether an upgrade writes format 3 of any format.
+    pub to_three: bool,
 }

@@ -2,8 +2,8 @@
 
 ghost use Rattle.std.specs.Prelude.{◌≡◌, [], ◌∷◌, IsTrue, IfOk, IfErr, OnOk};
 ghost use Rattle.graph_terms.specs.declared.format.Format.TheVariants.{One};
-ghost use Rattle.graph_terms.specs.Name.{is_name};
-ghost use Rattle.graph_terms.specs.Fits.{decl_fault, line_fault, with_decl, with_line};
+ghost use Rattle.graph_terms.specs.Name.{is_name, is_name_in};
+ghost use Rattle.graph_terms.specs.Fits.{decl_fault, is_decl_named, line_fault, with_decl, with_line};
 ghost use Rattle.embedded_run.specs.Failures.{IsItemFailure};
 ghost use Rattle.embedded_run.specs.SumGraph.{points_decl, columns_decl, sum_decls, one_fill, other_fill, both_fills, lined, sum_graph};
 
@@ -20,6 +20,7 @@ use std::alloc::Global;
 /// The graph with a declaration more, where it fits.
 fn declare(mut graph: Graph, decl: Decl) -> Result<Graph, Failure>
     requires first { graph.lines ≡ [] }
+    requires named { IsTrue (is_decl_named graph.format decl) }
     ensures added { IfOk result (λ g. g ≡ with_decl graph decl) }
     ensures refused { IfErr result (λ e. IsItemFailure (decl_fault graph decl) e) }
 {
@@ -33,6 +34,7 @@ fn declare(mut graph: Graph, decl: Decl) -> Result<Graph, Failure>
 
 /// The graph with a line more, where it fits.
 fn offer(mut graph: Graph, line: Line) -> Result<Graph, Failure>
+    requires named { IsTrue (is_name_in graph.format line.name) }
     ensures added { IfOk result (λ g. g ≡ with_line graph line) }
     ensures refused { IfErr result (λ e. IsItemFailure (line_fault graph line) e) }
 {

@@ -8,6 +8,7 @@ use Rattle.graph_terms.specs.Edges.{edges}
 use Rattle.explanations.specs.Reaches.{reach_at}
 use Rattle.explanations.specs.declared.reaches.Reach.{Reach}
 use Rattle.explain_graph.specs.declared.ways.Way.{Way}
+use Rattle.explain_text.specs.TextLines.{TextLines}
 use Rattle.explain_text.specs.Accepted.{AreByEdges, each_text, way_text, ways_text}
 use Rattle.explain_text.proofs.TextFacts.{then_put}
 
@@ -33,11 +34,11 @@ module _ (f : ℕ → Option Reach → List ℕ) where
       then_put old mid new (each_text f 0 (take k rs)) (f k (reach_at rs k)) first second
       ∙ ap (λ z. old ++ z) (sym (ap (each_text f 0) (take_more rs k None below) ∙ (each_push 0 (take k rs) (reach_at rs k) ∙ ap (λ m. each_text f 0 (take k rs) ++ f m (reach_at rs k)) number)))
 
-ways_push : (g : GraphValue) (ls : List (List ℕ)) (ws : List Way) (w : Way) → ways_text g ls (ws ++ w ∷ []) ≡ ways_text g ls ws ++ way_text g ls w
+ways_push : (g : GraphValue) (ls : TextLines) (ws : List Way) (w : Way) → ways_text g ls (ws ++ w ∷ []) ≡ ways_text g ls ws ++ way_text g ls w
 ways_push g ls [] w = append-nil (way_text g ls w)
 ways_push g ls (x ∷ ws) w = ap (λ z. way_text g ls x ++ z) (ways_push g ls ws w) ∙ sym (append_assoc (way_text g ls x) (ways_text g ls ws) (way_text g ls w))
 
-pub ways_more : (g : GraphValue) (ls : List (List ℕ)) (old mid new : List ℕ) (ws : List Way) (k : ℕ) (w : Way) → k < length ws → w ≡ slice_index_or ws k w → mid ≡ old ++ ways_text g ls (take k ws) → new ≡ mid ++ way_text g ls w →
+pub ways_more : (g : GraphValue) (ls : TextLines) (old mid new : List ℕ) (ws : List Way) (k : ℕ) (w : Way) → k < length ws → w ≡ slice_index_or ws k w → mid ≡ old ++ ways_text g ls (take k ws) → new ≡ mid ++ way_text g ls w →
     new ≡ old ++ ways_text g ls (take (k + 1) ws)
 ways_more g ls old mid new ws k w below is first second =
     then_put old mid new (ways_text g ls (take k ws)) (way_text g ls w) first second

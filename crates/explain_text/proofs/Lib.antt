@@ -1,3 +1,4 @@
+mod VisibleFacts
 pub mod TextFacts
 pub mod EdgeTexts
 pub mod AcceptedFacts

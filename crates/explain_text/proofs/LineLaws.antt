@@ -10,13 +10,14 @@ use Rattle.graph_words.specs.Words.{pieces}
 use Rattle.graph_reader.specs.Laws.{StandsAt, OperationsStand, LinesStand, refused_line}
 use Rattle.graph_reader.proofs.TextLines.{lines_stand}
 use Rattle.explain_text.specs.Lines.{line_number, line_of}
-use Rattle.explain_text.specs.Laws.{TellsLine, TellsLines, TellsOwnLines}
+use Rattle.explain_text.specs.Laws.{whole, TellsLine, TellsLines, TellsOwnLines}
 
 tells_line : (bytes : List ℕ) (g : GraphValue) (i : ℕ) (l : Line) → StandsAt bytes g i l → TellsLine bytes g i l
 tells_line bytes g i l s =
-    let line : line_of g (pieces 10 bytes) i ≡ join_with_byte 32 (line_words g l) = get_or_from_slice_get (pieces 10 bytes) (i + length g.decls + 1) (join_with_byte 32 (line_words g l)) [] s.line in
+    let at : slice_get (pieces 10 bytes) (line_number g (whole bytes) i - 1) ≡ Some (join_with_byte 32 (line_words g l)) = s.line in
+    let line : line_of g (whole bytes) i ≡ join_with_byte 32 (line_words g l) = get_or_from_slice_get (pieces 10 bytes) (line_number g (whole bytes) i - 1) (join_with_byte 32 (line_words g l)) [] at in
     record {
-      number = ap (slice_get (pieces 10 bytes)) (let j : line_number g i - 1 ≡ i + length g.decls + 1 = omega arith in j) ∙ (s.line ∙ ap (λ x. Some x) (sym line));
+      number = at ∙ ap (λ x. Some x) (sym line);
       line = line;
       words = ap (pieces 32) line ∙ s.words;
     }

@@ -9,6 +9,7 @@ use Rattle.explanations.specs.Reaches.{reach_at, end_at}
 use Rattle.explanations.specs.declared.reaches.Reach.{Reach}
 use Rattle.explain_graph.specs.Causes.{cause_in}
 use Rattle.explain_graph.specs.declared.ways.Way.{Way}
+use Rattle.explain_text.specs.TextLines.{TextLines}
 use Rattle.explain_text.specs.Shown.{shown}
 use Rattle.explain_text.specs.Lines.{line_of, by_number, cause_word, waits_for, edges_text}
 
@@ -20,20 +21,20 @@ abbrev pub need_text : ℕ → List ℕ
 need_text n = codes "accepted need " ++ (decimal n ++ codes "\n")
 
 -- a line behind a colon, as it is told
-abbrev pub and_line : GraphValue → List (List ℕ) → ℕ → List ℕ
+abbrev pub and_line : GraphValue → TextLines → ℕ → List ℕ
 and_line g ls i = codes ": " ++ (shown (line_of g ls i) ++ codes "\n")
 
 -- the line at which the need is reached
-abbrev pub need_line_text : GraphValue → List (List ℕ) → ℕ → Option ℕ → List ℕ
+abbrev pub need_line_text : GraphValue → TextLines → ℕ → Option ℕ → List ℕ
 need_line_text g ls n None = []
-need_line_text g ls n (Some k) = codes "need " ++ (decimal n ++ (codes ", reached at " ++ (by_number g k ++ and_line g ls k)))
+need_line_text g ls n (Some k) = codes "need " ++ (decimal n ++ (codes ", reached at " ++ (by_number g ls k ++ and_line g ls k)))
 
 -- why a line waits: it never comes, or the line that it waits for, and the one with which that begins
-abbrev pub waiting_by : GraphValue → List (List ℕ) → ℕ → ℕ → Option Edge → List ℕ
-waiting_by g ls i start None = by_number g i ++ (codes " never comes" ++ and_line g ls i)
-waiting_by g ls i start (Some e) = waits_for g e ++ (codes ", and " ++ (by_number g start ++ (codes " never comes" ++ and_line g ls i)))
+abbrev pub waiting_by : GraphValue → TextLines → ℕ → ℕ → Option Edge → List ℕ
+waiting_by g ls i start None = by_number g ls i ++ (codes " never comes" ++ and_line g ls i)
+waiting_by g ls i start (Some e) = waits_for g ls e ++ (codes ", and " ++ (by_number g ls start ++ (codes " never comes" ++ and_line g ls i)))
 
-abbrev pub waiting_text : GraphValue → List (List ℕ) → ℕ → Option Reach → List ℕ
+abbrev pub waiting_text : GraphValue → TextLines → ℕ → Option Reach → List ℕ
 waiting_text g ls i None = []
 waiting_text g ls i (Some m) = waiting_by g ls i m.start m.by
 
@@ -43,12 +44,12 @@ fault_word Faulted = codes " faulted"
 fault_word _ = codes " cancels"
 
 -- why a line is cancelled: it begins a fault, or the line by which it is cancelled, and the one with which that begins
-abbrev pub cancelled_by : GraphValue → List (List ℕ) → List End → ℕ → ℕ → Option Edge → List ℕ
-cancelled_by g ls ends i start None = by_number g i ++ (fault_word (end_at ends i) ++ and_line g ls i)
+abbrev pub cancelled_by : GraphValue → TextLines → List End → ℕ → ℕ → Option Edge → List ℕ
+cancelled_by g ls ends i start None = by_number g ls i ++ (fault_word (end_at ends i) ++ and_line g ls i)
 cancelled_by g ls ends i start (Some e) =
-    by_number g i ++ (codes " is cancelled by " ++ (by_number g e.from ++ (codes " (" ++ (cause_word (cause_in g e) ++ (codes "), and " ++ (by_number g start ++ (fault_word (end_at ends start) ++ and_line g ls i)))))))
+    by_number g ls i ++ (codes " is cancelled by " ++ (by_number g ls e.from ++ (codes " (" ++ (cause_word (cause_in g e) ++ (codes "), and " ++ (by_number g ls start ++ (fault_word (end_at ends start) ++ and_line g ls i)))))))
 
-abbrev pub cancelled_text : GraphValue → List (List ℕ) → List End → ℕ → Option Reach → List ℕ
+abbrev pub cancelled_text : GraphValue → TextLines → List End → ℕ → Option Reach → List ℕ
 cancelled_text g ls ends i None = []
 cancelled_text g ls ends i (Some m) = cancelled_by g ls ends i m.start m.by
 
@@ -58,10 +59,10 @@ each_text f n [] = []
 each_text f n (r ∷ rs) = f n r ++ each_text f (n + 1) rs
 
 -- whole ways
-abbrev pub way_text : GraphValue → List (List ℕ) → Way → List ℕ
-way_text g ls w = codes "the way from " ++ (by_number g w.start ++ (codes " to " ++ (by_number g w.line ++ (codes ":\n" ++ edges_text g ls w.path.items))))
+abbrev pub way_text : GraphValue → TextLines → Way → List ℕ
+way_text g ls w = codes "the way from " ++ (by_number g ls w.start ++ (codes " to " ++ (by_number g ls w.line ++ (codes ":\n" ++ edges_text g ls w.path.items))))
 
-abbrev pub ways_text : GraphValue → List (List ℕ) → List Way → List ℕ
+abbrev pub ways_text : GraphValue → TextLines → List Way → List ℕ
 ways_text g ls [] = []
 ways_text g ls (w ∷ ws) = way_text g ls w ++ ways_text g ls ws
 

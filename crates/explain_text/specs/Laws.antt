@@ -1,21 +1,26 @@
 -- That what is told as a line of the text is that line.
-use Rattle.std.specs.Prelude.{◌≡◌, ◌-◌, ℕ, List, [], Some, slice_get, ◌++◌, Result, OnOk}
+use Rattle.std.specs.Prelude.{◌≡◌, ◌-◌, ℕ, true, List, [], Some, slice_get, ◌++◌, Result, OnOk}
 use Rattle.std.specs.List.{slice_index_or, join_with_byte}
 use Rattle.graph_terms.specs.declared.verb.Line.{Line}
 use Rattle.graph_terms.specs.declared.why.Why.{Why}
 use Rattle.graph_terms.specs.Graph.{GraphValue}
 use Rattle.graph_terms.specs.Spelling.{line_words}
 use Rattle.graph_words.specs.Words.{pieces}
-use Rattle.graph_words.specs.Text.{GraphText}
+use Rattle.graph_words.specs.Text.{GraphText, bare_of}
 use Rattle.graph_reader.specs.FirstFault.{IsLineFault, IsRestFault, FirstFault}
 use Rattle.graph_reader.specs.Laws.{refused_line}
+use Rattle.explain_text.specs.TextLines.{TextLines}
 use Rattle.explain_text.specs.Lines.{line_number, line_of}
+
+-- the lines of these bytes, told whole
+abbrev pub whole : List ℕ → TextLines
+whole bytes = record { bytes = bytes; lines = pieces 10 bytes; all = true }
 
 -- the line that is told of operation i of a graph has in these bytes the number that is told, counted from 1, and spells that operation
 pub record TellsLine (bytes : List ℕ) (g : GraphValue) (i : ℕ) (l : Line) : Type 0 where
-  pub number : slice_get (pieces 10 bytes) (line_number g i - 1) ≡ Some (line_of g (pieces 10 bytes) i)
-  pub line : line_of g (pieces 10 bytes) i ≡ join_with_byte 32 (line_words g l)
-  pub words : pieces 32 (line_of g (pieces 10 bytes) i) ≡ line_words g l
+  pub number : slice_get (pieces 10 bytes) (line_number g (whole bytes) i - 1) ≡ Some (line_of g (whole bytes) i)
+  pub line : line_of g (whole bytes) i ≡ join_with_byte 32 (line_words g l)
+  pub words : pieces 32 (line_of g (whole bytes) i) ≡ line_words g l
 
 abbrev pub TellsLines : List ℕ → GraphValue → Type 0
 TellsLines bytes g = (i : ℕ) (l : Line) → slice_get g.lines i ≡ Some l → TellsLine bytes g i l
@@ -23,8 +28,8 @@ TellsLines bytes g = (i : ℕ) (l : Line) → slice_get g.lines i ≡ Some l →
 -- so of each operation of a graph that bytes are the text of, and of each one above a refused line, also above one behind the closing line; and what is told as that line is it
 pub record TellsOwnLines (bytes : List ℕ) : Type 0 where
   pub of_text : (g : GraphValue) → GraphText bytes g → TellsLines bytes g
-  pub above_line : (number : ℕ) (reason : Why) (f : IsLineFault bytes number reason) → TellsLines bytes f.before
-  pub above_rest : (number : ℕ) (reason : Why) (f : IsRestFault bytes number reason) → TellsLines bytes f.before
+  pub above_line : (number : ℕ) (reason : Why) (f : IsLineFault (bare_of bytes) number reason) → TellsLines bytes f.before
+  pub above_rest : (number : ℕ) (reason : Why) (f : IsRestFault (bare_of bytes) number reason) → TellsLines bytes f.before
   pub refused : (number : ℕ) (reason : Why) (f : FirstFault bytes number reason) → slice_index_or (pieces 10 bytes) (number - 1) [] ≡ refused_line bytes number reason f
 
 -- a text that grew by a part grew by the same bytes spelled otherwise

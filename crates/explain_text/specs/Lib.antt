@@ -1,3 +1,5 @@
+pub mod Visible
+pub mod TextLines
 pub mod Shown
 pub mod Lines
 pub mod Accepted

@@ -1,7 +1,6 @@
 //! An accepted graph as text: its need, why lines wait, and why lines are cancelled.
 
 ghost use Rattle.std.specs.Prelude.{◌≡◌, ◌<◌, ◌++◌, codes, length, Some, Contains, IfSome, OnOk};
-ghost use Rattle.basics.specs.Words.{contents};
 ghost use Rattle.graph_terms.specs.Edges.{edges};
 ghost use Rattle.explanations.specs.Reaches.{end_at};
 ghost use Rattle.explain_graph.specs.Explanation.{AreEdges};
@@ -9,6 +8,7 @@ ghost use Rattle.explain_text.specs.Accepted.{AreByEdges, AreWayEdges, need_text
 
 use crate::lines::{put_by_number, put_edges, put_line, put_waits};
 use crate::text::Text;
+use crate::text_lines::Lines;
 use crate::words::{cause_word, fault_word};
 use explain_graph::{Way, cause_of};
 use explanations::reaches::Reach;
@@ -31,11 +31,11 @@ pub fn put_need(text: &mut Text, need: u32) -> Result<(), NoMemory>
 pub fn put_need_line(
     text: &mut Text,
     graph: &Graph,
-    lines: &[&[u8]],
+    lines: &Lines,
     need: u32,
     line: Option<u32>,
 ) -> Result<(), NoMemory>
-    ensures { OnOk result (text.new ≡ text.old ++ need_line_text graph.now (contents lines.now) need line) }
+    ensures { OnOk result (text.new ≡ text.old ++ need_line_text graph.now lines.now need line) }
 {
     let Some(line) = line else {
         return Ok(());
@@ -43,7 +43,7 @@ pub fn put_need_line(
     text.put(b"need ")?;
     text.put_number(u64::from(need))?;
     text.put(b", reached at ")?;
-    put_by_number(text, graph, line)?;
+    put_by_number(text, graph, lines, line)?;
     put_line(text, graph, lines, line)
 }
 
@@ -52,12 +52,12 @@ pub fn put_need_line(
 pub fn put_waiting(
     text: &mut Text,
     graph: &Graph,
-    lines: &[&[u8]],
+    lines: &Lines,
     reaches: &[Option<Reach>],
 ) -> Result<(), NoMemory>
     requires edges { AreByEdges graph.now reaches.now }
     requires few { length reaches.now ≡ length graph.now.lines }
-    ensures { OnOk result (text.new ≡ text.old ++ each_text (waiting_text graph.now (contents lines.now)) 0 reaches.now) }
+    ensures { OnOk result (text.new ≡ text.old ++ each_text (waiting_text graph.now lines.now) 0 reaches.now) }
 {
     for i in 0..graph.lines() {
         put_one_waiting(text, graph, lines, i, reaches[i as usize])?;
@@ -69,12 +69,12 @@ pub fn put_waiting(
 fn put_one_waiting(
     text: &mut Text,
     graph: &Graph,
-    lines: &[&[u8]],
+    lines: &Lines,
     i: u32,
     reach: Option<Reach>,
 ) -> Result<(), NoMemory>
     requires { IfSome reach (λ m. IfSome m.by (Contains (edges graph.now))) }
-    ensures { OnOk result (text.new ≡ text.old ++ waiting_text graph.now (contents lines.now) i reach) }
+    ensures { OnOk result (text.new ≡ text.old ++ waiting_text graph.now lines.now i reach) }
 {
     match reach {
         Some(reach) => put_waiting_by(text, graph, lines, i, reach.start, reach.by),
@@ -86,24 +86,24 @@ fn put_one_waiting(
 fn put_waiting_by(
     text: &mut Text,
     graph: &Graph,
-    lines: &[&[u8]],
+    lines: &Lines,
     i: u32,
     start: u32,
     by: Option<Edge>,
 ) -> Result<(), NoMemory>
     requires { IfSome by (Contains (edges graph.now)) }
-    ensures { OnOk result (text.new ≡ text.old ++ waiting_by graph.now (contents lines.now) i start by) }
+    ensures { OnOk result (text.new ≡ text.old ++ waiting_by graph.now lines.now i start by) }
 {
     match by {
         None => {
-            put_by_number(text, graph, i)?;
+            put_by_number(text, graph, lines, i)?;
             text.put(b" never comes")?;
             put_line(text, graph, lines, i)
         }
         Some(edge) => {
-            put_waits(text, graph, edge)?;
+            put_waits(text, graph, lines, edge)?;
             text.put(b", and ")?;
-            put_by_number(text, graph, start)?;
+            put_by_number(text, graph, lines, start)?;
             text.put(b" never comes")?;
             put_line(text, graph, lines, i)
         }
@@ -115,13 +115,13 @@ fn put_waiting_by(
 pub fn put_cancelled(
     text: &mut Text,
     graph: &Graph,
-    lines: &[&[u8]],
+    lines: &Lines,
     ends: &EndList,
     reaches: &[Option<Reach>],
 ) -> Result<(), NoMemory>
     requires edges { AreByEdges graph.now reaches.now }
     requires few { length reaches.now ≡ length graph.now.lines }
-    ensures { OnOk result (text.new ≡ text.old ++ each_text (cancelled_text graph.now (contents lines.now) ends.now) 0 reaches.now) }
+    ensures { OnOk result (text.new ≡ text.old ++ each_text (cancelled_text graph.now lines.now ends.now) 0 reaches.now) }
 {
     for i in 0..graph.lines() {
         put_one_cancelled(text, graph, lines, ends, i, reaches[i as usize])?;
@@ -133,13 +133,13 @@ pub fn put_cancelled(
 fn put_one_cancelled(
     text: &mut Text,
     graph: &Graph,
-    lines: &[&[u8]],
+    lines: &Lines,
     ends: &EndList,
     i: u32,
     reach: Option<Reach>,
 ) -> Result<(), NoMemory>
     requires { IfSome reach (λ m. IfSome m.by (Contains (edges graph.now))) }
-    ensures { OnOk result (text.new ≡ text.old ++ cancelled_text graph.now (contents lines.now) ends.now i reach) }
+    ensures { OnOk result (text.new ≡ text.old ++ cancelled_text graph.now lines.now ends.now i reach) }
 {
     match reach {
         Some(reach) => put_cancelled_by(text, graph, lines, ends, i, reach.start, reach.by),
@@ -151,30 +151,30 @@ fn put_one_cancelled(
 fn put_cancelled_by(
     text: &mut Text,
     graph: &Graph,
-    lines: &[&[u8]],
+    lines: &Lines,
     ends: &EndList,
     i: u32,
     start: u32,
     by: Option<Edge>,
 ) -> Result<(), NoMemory>
     requires { IfSome by (Contains (edges graph.now)) }
-    ensures { OnOk result (text.new ≡ text.old ++ cancelled_by graph.now (contents lines.now) ends.now i start by) }
+    ensures { OnOk result (text.new ≡ text.old ++ cancelled_by graph.now lines.now ends.now i start by) }
 {
     match by {
         None => {
-            put_by_number(text, graph, i)?;
+            put_by_number(text, graph, lines, i)?;
             text.put(fault_word(end_at(ends, i)))?;
             put_line(text, graph, lines, i)
         }
         Some(edge) => {
             let cause = cause_of(graph, edge);
-            put_by_number(text, graph, i)?;
+            put_by_number(text, graph, lines, i)?;
             text.put(b" is cancelled by ")?;
-            put_by_number(text, graph, edge.from)?;
+            put_by_number(text, graph, lines, edge.from)?;
             text.put(b" (")?;
             text.put(cause_word(cause))?;
             text.put(b"), and ")?;
-            put_by_number(text, graph, start)?;
+            put_by_number(text, graph, lines, start)?;
             text.put(fault_word(end_at(ends, start)))?;
             put_line(text, graph, lines, i)
         }
@@ -192,14 +192,9 @@ fn end_at(ends: &EndList, line: u32) -> End
 }
 
 /// Puts whole ways.
-pub fn put_ways(
-    text: &mut Text,
-    graph: &Graph,
-    lines: &[&[u8]],
-    ways: &[Way],
-) -> Result<(), NoMemory>
+pub fn put_ways(text: &mut Text, graph: &Graph, lines: &Lines, ways: &[Way]) -> Result<(), NoMemory>
     requires { AreWayEdges graph.now ways.now }
-    ensures { OnOk result (text.new ≡ text.old ++ ways_text graph.now (contents lines.now) ways.now) }
+    ensures { OnOk result (text.new ≡ text.old ++ ways_text graph.now lines.now ways.now) }
 {
     for way in ways {
         put_way(text, graph, lines, way)?;
@@ -208,14 +203,14 @@ pub fn put_ways(
 }
 
 /// Puts a whole way.
-fn put_way(text: &mut Text, graph: &Graph, lines: &[&[u8]], way: &Way) -> Result<(), NoMemory>
+fn put_way(text: &mut Text, graph: &Graph, lines: &Lines, way: &Way) -> Result<(), NoMemory>
     requires { AreEdges graph.now way.now.path.items }
-    ensures { OnOk result (text.new ≡ text.old ++ way_text graph.now (contents lines.now) way.now) }
+    ensures { OnOk result (text.new ≡ text.old ++ way_text graph.now lines.now way.now) }
 {
     text.put(b"the way from ")?;
-    put_by_number(text, graph, way.start)?;
+    put_by_number(text, graph, lines, way.start)?;
     text.put(b" to ")?;
-    put_by_number(text, graph, way.line)?;
+    put_by_number(text, graph, lines, way.line)?;
     text.put(b":\n")?;
     put_edges(text, graph, lines, way.path.as_slice())
 }

@@ -14,3 +14,6 @@ pub const MAX_NAMES: usize = 16;
 
 /// Bytes of an answer: of a longer one the front is told, and a line `..` behind it.
 pub const MAX_ANSWER: usize = 65_536;
+
+/// The same where all is asked for.
+pub const MAX_WHOLE: usize = 16_777_216;

@@ -10,8 +10,10 @@ mod named;
 pub mod naming;
 pub mod split;
 pub mod text;
+pub mod text_lines;
 mod told_names;
 pub mod unread;
+pub mod visible;
 mod words;
 
 pub use accepted::{put_cancelled, put_need, put_need_line, put_waiting, put_ways};
@@ -19,4 +21,5 @@ pub use named::given_names;
 pub use naming::{NamedWord, NamedWords, named_space, named_words, put_named_words, put_space};
 pub use split::split_lines;
 pub use text::Text;
+pub use text_lines::Lines;
 pub use unread::{line_at, put_ended, put_limit, put_mark, put_refused, put_unread};

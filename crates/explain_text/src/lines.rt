@@ -1,14 +1,15 @@
 //! Lines of a graph's text with their numbers, and why they wait.
 
-ghost use Rattle.std.specs.Prelude.{◌≡◌, ◌++◌, Contains, codes, OnOk};
-ghost use Rattle.basics.specs.Words.{contents};
+ghost use Rattle.std.specs.Prelude.{◌≡◌, ◌<◌, ◌≤◌, ◌++◌, length, Contains, codes, OnOk};
 ghost use Rattle.graph_terms.specs.Edges.{edges};
 ghost use Rattle.explain_graph.specs.Explanation.{AreEdges};
 ghost use Rattle.explain_text.specs.Shown.{shown};
-ghost use Rattle.explain_text.specs.Lines.{line_number, line_of, by_number, numbered, waits_for, edge_text, all_edges_text, edges_text};
+ghost use Rattle.explain_text.specs.Lines.{line_number, line_of, by_number, numbered, waits_for, edge_text, all_edges_text, ends_text, edges_text};
 
 use crate::bounds::{HALF_PATH, MAX_PATH};
+use crate::split::piece;
 use crate::text::Text;
+use crate::text_lines::Lines;
 use crate::words::cause_word;
 use explain_graph::cause_of;
 use graph_model::graph::Graph;
@@ -16,33 +17,36 @@ use graph_terms::verb::Edge;
 use index_spaces::NoMemory;
 
 /// Puts `line` and the number of a line.
-pub fn put_by_number(text: &mut Text, graph: &Graph, i: u32) -> Result<(), NoMemory>
-    ensures { OnOk result (text.new ≡ text.old ++ by_number graph.now i) }
+pub fn put_by_number(text: &mut Text, graph: &Graph, lines: &Lines, i: u32) -> Result<(), NoMemory>
+    ensures { OnOk result (text.new ≡ text.old ++ by_number graph.now lines.now i) }
 {
-    let number = u64::from(i) + u64::from(graph.decls()) + 2;
     text.put(b"line ")?;
-    text.put_number(number)
+    text.put_number(line_number(graph, lines, i))
+}
+
+/// The number of an operation's line in the text.
+fn line_number(graph: &Graph, lines: &Lines, i: u32) -> u64
+    ensures { result ≡ line_number graph.now lines.now i }
+{
+    lines.whole_number(u64::from(i) + u64::from(graph.decls()) + 2)
 }
 
 /// A line of the text that was read.
-fn line_of<'a>(graph: &Graph, lines: &[&'a [u8]], i: u32) -> &'a [u8]
-    ensures { result.now ≡ line_of graph.now (contents lines.now) i }
+fn line_of<'a>(graph: &Graph, lines: &Lines<'a>, i: u32) -> &'a [u8]
+    ensures { result.now ≡ line_of graph.now lines.now i }
 {
-    let place = i as usize + graph.decls() as usize + 1;
-    match lines.get(place) {
-        Some(line) => line,
-        None => b"",
-    }
+    let place = line_number(graph, lines, i).saturating_sub(1);
+    piece(lines.pieces(), place as usize)
 }
 
 /// Puts a line behind a colon, as it is told.
 pub(crate) fn put_line(
     text: &mut Text,
     graph: &Graph,
-    lines: &[&[u8]],
+    lines: &Lines,
     i: u32,
 ) -> Result<(), NoMemory>
-    ensures { OnOk result (text.new ≡ text.old ++ (codes ": " ++ (shown (line_of graph.now (contents lines.now) i) ++ codes "\n"))) }
+    ensures { OnOk result (text.new ≡ text.old ++ (codes ": " ++ (shown (line_of graph.now lines.now i) ++ codes "\n"))) }
 {
     text.put(b": ")?;
     text.put_shown(line_of(graph, lines, i))?;
@@ -50,33 +54,38 @@ pub(crate) fn put_line(
 }
 
 /// Puts a line with its number.
-pub fn put_numbered(text: &mut Text, graph: &Graph, lines: &[&[u8]], i: u32) -> Result<(), NoMemory>
-    ensures { OnOk result (text.new ≡ text.old ++ numbered graph.now (contents lines.now) i) }
+pub fn put_numbered(text: &mut Text, graph: &Graph, lines: &Lines, i: u32) -> Result<(), NoMemory>
+    ensures { OnOk result (text.new ≡ text.old ++ numbered graph.now lines.now i) }
 {
-    put_by_number(text, graph, i)?;
+    put_by_number(text, graph, lines, i)?;
     put_line(text, graph, lines, i)
 }
 
 /// Puts for which line another waits, and why.
-pub(crate) fn put_waits(text: &mut Text, graph: &Graph, edge: Edge) -> Result<(), NoMemory>
+pub(crate) fn put_waits(
+    text: &mut Text,
+    graph: &Graph,
+    lines: &Lines,
+    edge: Edge,
+) -> Result<(), NoMemory>
     requires { Contains (edges graph.now) edge }
-    ensures { OnOk result (text.new ≡ text.old ++ waits_for graph.now edge) }
+    ensures { OnOk result (text.new ≡ text.old ++ waits_for graph.now lines.now edge) }
 {
     let cause = cause_of(graph, edge);
-    put_by_number(text, graph, edge.to)?;
+    put_by_number(text, graph, lines, edge.to)?;
     text.put(b" waits for ")?;
-    put_by_number(text, graph, edge.from)?;
+    put_by_number(text, graph, lines, edge.from)?;
     text.put(b" (")?;
     text.put(cause_word(cause))?;
     text.put(b")")
 }
 
 /// Puts the same with the line that waits.
-fn put_edge(text: &mut Text, graph: &Graph, lines: &[&[u8]], edge: Edge) -> Result<(), NoMemory>
+fn put_edge(text: &mut Text, graph: &Graph, lines: &Lines, edge: Edge) -> Result<(), NoMemory>
     requires { Contains (edges graph.now) edge }
-    ensures { OnOk result (text.new ≡ text.old ++ edge_text graph.now (contents lines.now) edge) }
+    ensures { OnOk result (text.new ≡ text.old ++ edge_text graph.now lines.now edge) }
 {
-    put_waits(text, graph, edge)?;
+    put_waits(text, graph, lines, edge)?;
     put_line(text, graph, lines, edge.to)
 }
 
@@ -84,11 +93,11 @@ fn put_edge(text: &mut Text, graph: &Graph, lines: &[&[u8]], edge: Edge) -> Resu
 fn put_all_edges(
     text: &mut Text,
     graph: &Graph,
-    lines: &[&[u8]],
+    lines: &Lines,
     path: &[Edge],
 ) -> Result<(), NoMemory>
     requires { AreEdges graph.now path.now }
-    ensures { OnOk result (text.new ≡ text.old ++ all_edges_text graph.now (contents lines.now) path.now) }
+    ensures { OnOk result (text.new ≡ text.old ++ all_edges_text graph.now lines.now path.now) }
 {
     for edge in path {
         put_edge(text, graph, lines, *edge)?;
@@ -100,15 +109,24 @@ fn put_all_edges(
 pub fn put_edges(
     text: &mut Text,
     graph: &Graph,
-    lines: &[&[u8]],
+    lines: &Lines,
     path: &[Edge],
 ) -> Result<(), NoMemory>
     requires { AreEdges graph.now path.now }
-    ensures { OnOk result (text.new ≡ text.old ++ edges_text graph.now (contents lines.now) path.now) }
+    ensures { OnOk result (text.new ≡ text.old ++ edges_text graph.now lines.now path.now) }
 {
-    if path.len() <= MAX_PATH {
-        return put_all_edges(text, graph, lines, path);
+    if lines.is_cut(MAX_PATH, path.len()) {
+        return put_ends(text, graph, lines, path);
     }
+    put_all_edges(text, graph, lines, path)
+}
+
+/// Puts both ends of a long path, and how many edges lie between.
+fn put_ends(text: &mut Text, graph: &Graph, lines: &Lines, path: &[Edge]) -> Result<(), NoMemory>
+    requires edges { AreEdges graph.now path.now }
+    requires long { MAX_PATH < length path.now }
+    ensures { OnOk result (text.new ≡ text.old ++ ends_text graph.now lines.now path.now) }
+{
     put_all_edges(text, graph, lines, &path[..HALF_PATH])?;
     text.put_more(path.len() - MAX_PATH)?;
     put_all_edges(text, graph, lines, &path[path.len() - HALF_PATH..])

@@ -7,7 +7,6 @@ ghost use Rattle.refused_words.specs.Places.{place_value};
 ghost use Rattle.explain_text.specs.Named.{IsNamedWord, IsInside, name_in, told_new, told_word, once_words, third_of, over_word, space_word, place_text, below_text, named_text, named_texts, names_text, space_text};
 ghost use Rattle.explain_text.specs.declared.naming.NamedWord.{NamedWord};
 
-use crate::bounds::MAX_NAMES;
 use crate::named::first_place;
 use crate::split::{back, cut, front};
 use crate::text::Text;
@@ -36,7 +35,7 @@ pub struct NamedWords<'a> {
     pub more: usize,
 }
 
-/// The first names that words of a line stand for, each once, by the places in which they stand, with the
+/// The first `most` names that words of a line stand for, each once, by the places in which they stand, with the
 /// lines that give them; the name that the line gives itself only where a line above gives it too. The
 /// line is counted from 1, and the names that lines give stand in the order of the lines.
 pub fn named_words<'a>(
@@ -45,17 +44,18 @@ pub fn named_words<'a>(
     names: &[&[u8]],
     number: u32,
     words: &[&'a [u8]],
+    most: usize,
 ) -> Result<NamedWords<'a>, NoMemory>
-    ensures words { IfOk result (λ v. map (λ (x : NamedWord). x.word.now) v.told.items ≡ take MAX_NAMES (once_words (told_word format (contents names.now) number (contents words.now)) (length words.now))) }
-    ensures more { IfOk result (λ v. v.more ≡ length (once_words (told_word format (contents names.now) number (contents words.now)) (length words.now)) - MAX_NAMES) }
+    ensures words { IfOk result (λ v. map (λ (x : NamedWord). x.word.now) v.told.items ≡ take most (once_words (told_word format (contents names.now) number (contents words.now)) (length words.now))) }
+    ensures more { IfOk result (λ v. v.more ≡ length (once_words (told_word format (contents names.now) number (contents words.now)) (length words.now)) - most) }
     ensures named { IfOk result (λ v. (x : NamedWord) → Contains v.told.items x → IsNamedWord (contents names.now) number x) }
     ensures inside { IfOk result (λ v. (x : NamedWord) → Contains v.told.items x → IsInside (length names.now) x) }
 {
     let list = told_names(alloc, format, names, number, words)?;
-    let told = look_up_all(alloc, names, number, &list)?;
+    let told = look_up_all(alloc, names, number, &list, most)?;
     Ok(NamedWords {
         told,
-        more: list.len().saturating_sub(MAX_NAMES),
+        more: list.len().saturating_sub(most),
     })
 }
 
@@ -133,13 +133,14 @@ fn look_up_all<'a>(
     names: &[&[u8]],
     number: u32,
     list: &NameList<'a>,
+    most: usize,
 ) -> Result<Vec<NamedWord<'a>>, NoMemory>
-    ensures words { IfOk result (λ v. map (λ (x : NamedWord). x.word.now) v.items ≡ take MAX_NAMES list.now) }
+    ensures words { IfOk result (λ v. map (λ (x : NamedWord). x.word.now) v.items ≡ take most list.now) }
     ensures named { IfOk result (λ v. (x : NamedWord) → Contains v.items x → IsNamedWord (contents names.now) number x) }
     ensures inside { IfOk result (λ v. (x : NamedWord) → Contains v.items x → IsInside (length names.now) x) }
 {
     let mut found = Vec::new(alloc);
-    for i in 0..list.len().min(MAX_NAMES) {
+    for i in 0..list.len().min(most) {
         push(&mut found, look_up(names, number, list.at(i)))?;
     }
     Ok(found)

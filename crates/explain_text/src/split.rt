@@ -1,7 +1,7 @@
 //! The lines of a text.
 
-ghost use Rattle.std.specs.Prelude.{◌≡◌, ◌==◌, false, take, drop, MatchOption, IfOk};
-ghost use Rattle.std.specs.List.{list_any};
+ghost use Rattle.std.specs.Prelude.{◌≡◌, ◌==◌, [], false, take, drop, MatchOption, IfOk};
+ghost use Rattle.std.specs.List.{list_any, slice_index_or};
 ghost use Rattle.basics.specs.Words.{contents};
 ghost use Rattle.graph_words.specs.Cuts.{IsCut};
 ghost use Rattle.graph_words.specs.Words.{pieces};
@@ -41,6 +41,16 @@ pub(crate) fn cut(bytes: &[u8], stop: u8) -> Option<(&[u8], &[u8])>
         }
     }
     None
+}
+
+/// A part by its place from 0, none where there is none.
+pub(crate) fn piece<'a>(parts: &[&'a [u8]], place: usize) -> &'a [u8]
+    ensures { result.now ≡ slice_index_or (contents parts.now) place [] }
+{
+    match parts.get(place) {
+        Some(part) => part,
+        None => b"",
+    }
 }
 
 /// The first `n` parts, or all where there are fewer.

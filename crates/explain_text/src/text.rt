@@ -2,8 +2,10 @@
 
 ghost use Rattle.std.specs.Prelude.{◌≡◌, ◌++◌, [], decimal, length, map, take, OnOk};
 ghost use Rattle.explain_text.specs.Shown.{shown, more_text};
+ghost use Rattle.explain_text.specs.Visible.{visible, visible_byte};
 
 use crate::bounds::MAX_SHOWN;
+use crate::visible::is_plain;
 use index_spaces::NoMemory;
 use itoa::Buffer;
 use std::alloc::Global;
@@ -31,6 +33,13 @@ impl Text {
         Text {
             bytes: Vec::new(alloc),
         }
+    }
+
+    /// The text of these bytes.
+    pub fn of(bytes: Vec<u8>) -> Text
+        ensures { result ≡ bytes.items }
+    {
+        Text { bytes }
     }
 
     /// Its bytes.
@@ -103,6 +112,26 @@ impl Text {
             self.put(&[byte])?;
         }
         Ok(())
+    }
+
+    /// Puts a byte at the end, as often as there are bytes as these are written.
+    pub fn put_below(&mut self, bytes: &[u8], byte: u8) -> Result<(), NoMemory>
+        ensures { OnOk result (self.new ≡ self.old ++ map (λ b. byte) (visible bytes.now)) }
+    {
+        for each in bytes {
+            self.put_below_byte(*each, byte)?;
+        }
+        Ok(())
+    }
+
+    /// The same below one byte.
+    fn put_below_byte(&mut self, each: u8, byte: u8) -> Result<(), NoMemory>
+        ensures { OnOk result (self.new ≡ self.old ++ map (λ b. byte) (visible_byte each)) }
+    {
+        if is_plain(each) {
+            return self.put(&[byte]);
+        }
+        self.put(&[byte, byte, byte, byte])
     }
 
     /// Puts spaces at the end, as many as a number has decimal digits.

@@ -7,8 +7,9 @@ ghost use Rattle.explain_text.specs.Unread.{unread_text, blank_word, below_word,
 
 use crate::bounds::MAX_SHOWN;
 use crate::lines::{put_by_number, put_line};
-use crate::split::front;
+use crate::split::{front, piece};
 use crate::text::Text;
+use crate::text_lines::Lines;
 use graph_model::graph::Graph;
 use graph_terms::why::Why;
 use graph_words::words::word;
@@ -70,7 +71,7 @@ pub fn put_mark(
     }
 }
 
-/// Puts `^` below each byte of a word of a line that was put with its number.
+/// Puts `^` below each byte of a word, as it is written, of a line that was put with its number.
 fn put_below(text: &mut Text, number: u32, words: &[&[u8]], k: usize) -> Result<(), NoMemory>
     ensures { OnOk result (text.new ≡ text.old ++ below_word number (contents words.now) k) }
 {
@@ -78,7 +79,7 @@ fn put_below(text: &mut Text, number: u32, words: &[&[u8]], k: usize) -> Result<
     text.put_number_blank(u64::from(number))?;
     text.put(b"  ")?;
     put_blanks(text, front(words, k))?;
-    text.put_for_each(word(words, k), b'^')?;
+    text.put_below(word(words, k), b'^')?;
     text.put(b"\n")
 }
 
@@ -99,7 +100,7 @@ fn put_blanks(text: &mut Text, words: &[&[u8]]) -> Result<(), NoMemory>
     ensures { OnOk result (text.new ≡ text.old ++ flat_map blank_word (contents words.now)) }
 {
     for word in words {
-        text.put_for_each(word, b' ')?;
+        text.put_below(word, b' ')?;
         text.put(b" ")?;
     }
     Ok(())
@@ -109,15 +110,15 @@ fn put_blanks(text: &mut Text, words: &[&[u8]]) -> Result<(), NoMemory>
 pub fn put_ended(
     text: &mut Text,
     graph: &Graph,
-    lines: &[&[u8]],
+    lines: &Lines,
     ended: Option<u32>,
 ) -> Result<(), NoMemory>
-    ensures { OnOk result (text.new ≡ text.old ++ ended_text graph.now (contents lines.now) ended) }
+    ensures { OnOk result (text.new ≡ text.old ++ ended_text graph.now lines.now ended) }
 {
     let Some(line) = ended else {
         return Ok(());
     };
-    put_by_number(text, graph, line)?;
+    put_by_number(text, graph, lines, line)?;
     text.put(b" has ended or released it already")?;
     put_line(text, graph, lines, line)
 }
@@ -148,8 +149,5 @@ fn put_passed(text: &mut Text, quantity: Quantity) -> Result<(), NoMemory>
 pub fn line_at<'a>(lines: &[&'a [u8]], number: u32) -> &'a [u8]
     ensures { result.now ≡ slice_index_or (contents lines.now) (number - 1) [] }
 {
-    match lines.get(number.saturating_sub(1) as usize) {
-        Some(line) => line,
-        None => b"",
-    }
+    piece(lines, number.saturating_sub(1) as usize)
 }

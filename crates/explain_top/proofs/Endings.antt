@@ -13,7 +13,7 @@ use Rattle.realm_io.specs.Told.{Lost}
 use Rattle.realm_io.specs.SinkState.{SinkState}
 use Rattle.program_io.specs.Delivered.{Delivered, BrokenOff, too_long_text}
 use Rattle.program_io.proofs.Public.{all_read, more_left, answered_as, cut_off_as, complete_as}
-use Rattle.explain_top.specs.Answer.{IsUnfitAnswer, IsUnreadAnswer, IsAnswer}
+use Rattle.explain_top.specs.Answer.{IsUnfitAnswer, IsUnreadAnswer, IsAnswerIn}
 use Rattle.explain_top.specs.declared.answer.Verdict.{Verdict}
 use Rattle.explain_top.specs.declared.answer.Verdict.TheVariants as verdict
 use Rattle.explain_top.specs.declared.program.Status.{Status}
@@ -21,52 +21,52 @@ use Rattle.explain_top.specs.declared.program.Status.TheVariants.{Accepted as Fi
 use Rattle.explain_top.specs.Program.{status_of, Delivers, Answers, IsAnswered}
 
 -- the answer that goes with the status of a verdict
-verdict_answers : (ends : Bool) (bytes out : List ℕ) (v : Verdict) → IsAnswer ends bytes v out → Answers ends bytes (status_of v) out
-verdict_answers ends bytes out verdict.Accepted a = a
-verdict_answers ends bytes out verdict.Unfit a = a
-verdict_answers ends bytes out verdict.Unread a = a
+verdict_answers : (ends all : Bool) (bytes out : List ℕ) (v : Verdict) → IsAnswerIn ends all bytes v out → Answers ends all bytes (status_of v) out
+verdict_answers ends all bytes out verdict.Accepted a = a
+verdict_answers ends all bytes out verdict.Unfit a = a
+verdict_answers ends all bytes out verdict.Unread a = a
 
 -- it was delivered with that status
-pub answered_with : (ends : Bool) (bytes : List ℕ) (v : Verdict) (text shown : List ℕ) (s t : SinkState) (result status : Status) → IsAnswer ends bytes v text → shown ≡ text → status ≡ status_of v
-    → Delivers s t status result shown → IsAnswered ends bytes s t result
-answered_with ends bytes v text shown s t result status a same is d =
-    inr (status_of v, text, verdict_answers ends bytes text v a, subst (λ w. Delivers s t w result text) is (subst (λ out. Delivers s t status result out) same d))
+pub answered_with : (ends all : Bool) (bytes : List ℕ) (v : Verdict) (text shown : List ℕ) (s t : SinkState) (result status : Status) → IsAnswerIn ends all bytes v text → shown ≡ text → status ≡ status_of v
+    → Delivers s t status result shown → IsAnswered ends all bytes s t result
+answered_with ends all bytes v text shown s t result status a same is d =
+    inr (status_of v, text, verdict_answers ends all bytes text v a, subst (λ w. Delivers s t w result text) is (subst (λ out. Delivers s t status result out) same d))
 
 -- the text of an accepted graph is answered so
-is_accepted : (ends : Bool) (bytes : List ℕ) → OneReading bytes → (g : GraphValue) → GraphText bytes g → Accepted g → (status : Status) (out : List ℕ) → Answers ends bytes status out → status ≡ Fine
-is_accepted ends bytes one g t acc Fine out a = refl
-is_accepted ends bytes one g t acc Unfit out a = absurd (let u : IsUnfitAnswer bytes a.whole = a.answers in u.broken (subst Accepted (one.one_graph g u.graph t u.is_text) acc))
-is_accepted ends bytes one g t acc Unread out a = absurd (let u : IsUnreadAnswer bytes a.whole = a.answers in one.not_both (g, t) (u.number, u.why, first_fault bytes u.number u.why u.above u.refused))
-is_accepted ends bytes one g t acc TooLong out a = absurd (let s : length bytes ≤ MAX_TEXT = t.short in let l : MAX_TEXT < length bytes = a.0 in omega arith)
-is_accepted ends bytes one g t acc _ out a = absurd a
+is_accepted : (ends all : Bool) (bytes : List ℕ) → OneReading bytes → length bytes ≤ MAX_TEXT → (g : GraphValue) → GraphText bytes g → Accepted g → (status : Status) (out : List ℕ) → Answers ends all bytes status out → status ≡ Fine
+is_accepted ends all bytes one short g t acc Fine out a = refl
+is_accepted ends all bytes one short g t acc Unfit out a = absurd (let u : IsUnfitAnswer all bytes a.whole = a.answers in u.broken (subst Accepted (one.one_graph g u.graph t u.is_text) acc))
+is_accepted ends all bytes one short g t acc Unread out a = absurd (let u : IsUnreadAnswer all bytes a.whole = a.answers in one.not_both (g, t) (u.number, u.why, first_fault bytes u.number u.why u.above u.refused))
+is_accepted ends all bytes one short g t acc TooLong out a = absurd (let l : MAX_TEXT < length bytes = a.0 in omega (arith, short, l))
+is_accepted ends all bytes one short g t acc _ out a = absurd a
 
 -- AN INPUT THAT WAS ANSWERED: what was answered, by the status
-module _ (ends : Bool) (bytes : List ℕ) (s t : SinkState) (result : Status) (answered : IsAnswered ends bytes s t result) where
-  pub by_verdict : (v : Verdict) → result ≡ status_of v → (out : List ℕ) × IsAnswer ends bytes v out × Delivered s t out
-  by_verdict verdict.Accepted is = answered_as (Answers ends bytes) s t result Fine answered is (λ x. cc) (λ x. cc)
-  by_verdict verdict.Unfit is = answered_as (Answers ends bytes) s t result Unfit answered is (λ x. cc) (λ x. cc)
-  by_verdict verdict.Unread is = answered_as (Answers ends bytes) s t result Unread answered is (λ x. cc) (λ x. cc)
+module _ (ends all : Bool) (bytes : List ℕ) (s t : SinkState) (result : Status) (answered : IsAnswered ends all bytes s t result) where
+  pub by_verdict : (v : Verdict) → result ≡ status_of v → (out : List ℕ) × IsAnswerIn ends all bytes v out × Delivered s t out
+  by_verdict verdict.Accepted is = answered_as (Answers ends all bytes) s t result Fine answered is (λ x. cc) (λ x. cc)
+  by_verdict verdict.Unfit is = answered_as (Answers ends all bytes) s t result Unfit answered is (λ x. cc) (λ x. cc)
+  by_verdict verdict.Unread is = answered_as (Answers ends all bytes) s t result Unread answered is (λ x. cc) (λ x. cc)
 
   pub too_long : result ≡ TooLong → (MAX_TEXT < length bytes) × Delivered s t too_long_text
-  too_long is = let d = answered_as (Answers ends bytes) s t result TooLong answered is (λ x. cc) (λ x. cc) in (d.1.0, subst (Delivered s t) d.1.1 d.2)
+  too_long is = let d = answered_as (Answers ends all bytes) s t result TooLong answered is (λ x. cc) (λ x. cc) in (d.1.0, subst (Delivered s t) d.1.1 d.2)
 
-  pub broken_off : result ≡ WriteFault → (status : Status) × (out : List ℕ) × Answers ends bytes status out × BrokenOff s t out
-  broken_off is = cut_off_as {write_fault = WriteFault} {no_memory = NoMemory} (Answers ends bytes) s t result (λ x. cc) (λ out a. a) answered is
+  pub broken_off : result ≡ WriteFault → (status : Status) × (out : List ℕ) × Answers ends all bytes status out × BrokenOff s t out
+  broken_off is = cut_off_as {write_fault = WriteFault} {no_memory = NoMemory} (Answers ends all bytes) s t result (λ x. cc) (λ out a. a) answered is
 
   pub usage_never : result ≡ Usage → ⊥
-  usage_never is = (answered_as (Answers ends bytes) s t result Usage answered is (λ x. cc) (λ x. cc)).1
+  usage_never is = (answered_as (Answers ends all bytes) s t result Usage answered is (λ x. cc) (λ x. cc)).1
 
   pub read_fault_never : result ≡ ReadFault → ⊥
-  read_fault_never is = (answered_as (Answers ends bytes) s t result ReadFault answered is (λ x. cc) (λ x. cc)).1
+  read_fault_never is = (answered_as (Answers ends all bytes) s t result ReadFault answered is (λ x. cc) (λ x. cc)).1
 
-  pub complete : OneReading bytes → (g : GraphValue) → GraphText bytes g → Accepted g → (Rose s.faults t.faults → ⊥) → (result ≡ Fine) ⊎ (result ≡ NoMemory)
-  complete one g is acc silent = complete_as (Answers ends bytes) s t result Fine (is_accepted ends bytes one g is acc) answered silent
+  pub complete : OneReading bytes → length bytes ≤ MAX_TEXT → (g : GraphValue) → GraphText bytes g → Accepted g → (Rose s.faults t.faults → ⊥) → (result ≡ Fine) ⊎ (result ≡ NoMemory)
+  complete one short g is acc silent = complete_as (Answers ends all bytes) s t result Fine (is_accepted ends all bytes one short g is acc) answered silent
 
 -- the bytes that were read are all that was left, and where those are too long, more was left
-pub all_answered : (ends : Bool) (old new : Option (List ℕ)) (read seen : List ℕ) (s t : SinkState) (result : Status) → Consumes old new read → IsAtEnd new → seen ≡ read → IsAnswered ends seen s t result
-    → (bytes : List ℕ) → old ≡ Some bytes → IsAnswered ends bytes s t result
-all_answered ends old new read seen s t result all at_end same a bytes left =
-    subst (λ x. IsAnswered ends x s t result) (sym (all_read old new read all at_end bytes left)) (subst (λ x. IsAnswered ends x s t result) same a)
+pub all_answered : (ends all : Bool) (old new : Option (List ℕ)) (read seen : List ℕ) (s t : SinkState) (result : Status) → Consumes old new read → IsAtEnd new → seen ≡ read → IsAnswered ends all seen s t result
+    → (bytes : List ℕ) → old ≡ Some bytes → IsAnswered ends all bytes s t result
+all_answered ends all old new read seen s t result read_all at_end same a bytes left =
+    subst (λ x. IsAnswered ends all x s t result) (sym (all_read old new read read_all at_end bytes left)) (subst (λ x. IsAnswered ends all x s t result) same a)
 
-pub long_answered : (ends : Bool) (old new : Option (List ℕ)) (s t : SinkState) (result : Status) → Lost old new (MAX_TEXT + 1) → Delivers s t TooLong result too_long_text → (bytes : List ℕ) → old ≡ Some bytes → IsAnswered ends bytes s t result
-long_answered ends old new s t result lost d bytes left = inr (TooLong, too_long_text, (more_left old new MAX_TEXT lost bytes left, refl), d)
+pub long_answered : (ends all : Bool) (old new : Option (List ℕ)) (s t : SinkState) (result : Status) → Lost old new (MAX_TEXT + 1) → Delivers s t TooLong result too_long_text → (bytes : List ℕ) → old ≡ Some bytes → IsAnswered ends all bytes s t result
+long_answered ends all old new s t result lost d bytes left = inr (TooLong, too_long_text, (more_left old new MAX_TEXT lost bytes left, refl), d)

@@ -2,3 +2,4 @@ pub mod EdgeFacts
 pub mod Endings
 pub mod Marking
 pub mod Telling
+mod FieldFacts

@@ -1,24 +1,27 @@
 -- An answer as it is told.
-use Rattle.std.proofs.Common.{◌≡◌, ℕ, ◌+◌, ◌-◌, ◌≤◌, Bool, List, ◌++◌, length, take, Bor, sym, ◌∙◌, ap, subst, arith}
-use Rattle.std.specs.Prelude.{Contains, Result, Ok, Err, IfOk, OnOk, codes}
-use Rattle.std.proofs.lemmas.List.{length-append, length-take-le, length-map}
+use Rattle.std.proofs.Common.{◌≡◌, ℕ, ◌+◌, ◌-◌, ◌<◌, ◌≤◌, Bool, true, false, cond, List, ◌++◌, length, take, drop, Bor, refl, sym, ◌∙◌, ap, subst, inl, inr, arith}
+use Rattle.std.specs.Prelude.{◌&&◌, nat_lt, Contains, Result, Ok, Err, IfOk, OnOk, codes}
+use Rattle.std.specs.List.{list_all}
+use Rattle.std.proofs.lemmas.Bool.{lt-ltb}
+use Rattle.std.proofs.lemmas.List.Folds.{list_all-append}
+use Rattle.std.proofs.lemmas.List.{length-append, length-take-le, length-map, take-append-le, take-append-drop}
 use Rattle.basics.specs.Words.{contents}
+use Rattle.explain_text.specs.Visible.{is_plain, visible, IsFrontOf}
 use Rattle.explain_text.specs.Named.{IsInside, given_names}
 use Rattle.explain_text.specs.declared.naming.NamedWord.{NamedWord}
-use Rattle.explain_text.specs.declared.bounds.TheConstants.{MAX_ANSWER}
-use Rattle.explain_top.specs.Answer.{IsWholeAnswer, told, IsAnswer}
+use Rattle.explain_top.specs.Answer.{IsWholeAnswer, most_bytes, told, IsAnswerIn}
 use Rattle.explain_top.specs.declared.answer.Answer.{Answer}
 
 -- the front of a long answer, and the line behind it
-pub front_few : (whole : List ℕ) → MAX_ANSWER ≤ length whole → length (take (MAX_ANSWER - 4) whole ++ codes "\n..\n") ≤ MAX_ANSWER
-front_few whole long =
-    let both : length (take (MAX_ANSWER - 4) whole ++ codes "\n..\n") ≡ length (take (MAX_ANSWER - 4) whole) + 4 = length-append (take (MAX_ANSWER - 4) whole) (codes "\n..\n") in
-    let front : length (take (MAX_ANSWER - 4) whole) ≡ MAX_ANSWER - 4 = length-take-le (MAX_ANSWER - 4) whole (omega arith) in
-    omega arith
+pub front_few : (most : ℕ) (whole : List ℕ) → 4 ≤ most → most ≤ length whole → length (take (most - 4) whole ++ codes "\n..\n") ≤ most
+front_few most whole some long =
+    let both : length (take (most - 4) whole ++ codes "\n..\n") ≡ length (take (most - 4) whole) + 4 = length-append (take (most - 4) whole) (codes "\n..\n") in
+    let front : length (take (most - 4) whole) ≡ most - 4 = length-take-le (most - 4) whole (omega (arith, some, long)) in
+    omega (arith, some, long, both, front)
 
-pub put_few : {X E : Type 0} (r : Result X E) (whole front new : List ℕ) → MAX_ANSWER ≤ length whole → front ≡ take (MAX_ANSWER - 4) whole → OnOk r (new ≡ front ++ codes "\n..\n") → OnOk r (length new ≤ MAX_ANSWER)
-put_few (Ok x) whole front new long is put = subst (λ z. length z ≤ MAX_ANSWER) (sym (put ∙ ap (λ z. z ++ codes "\n..\n") is)) (front_few whole long)
-put_few (Err e) whole front new long is put = tt
+pub put_few : {X E : Type 0} (r : Result X E) (most : ℕ) (whole front new : List ℕ) → 4 ≤ most → most ≤ length whole → front ≡ take (most - 4) whole → OnOk r (new ≡ front ++ codes "\n..\n") → OnOk r (length new ≤ most)
+put_few (Ok x) most whole front new some long is put = subst (λ z. length z ≤ most) (sym (put ∙ ap (λ z. z ++ codes "\n..\n") is)) (front_few most whole some long)
+put_few (Err e) most whole front new some long is put = tt
 
 -- as many names as lines
 pub given_size : (names lines : List (Bor (List ℕ))) → contents names ≡ given_names (contents lines) → length names ≡ length lines
@@ -31,7 +34,39 @@ given_size names lines given =
 pub inside_all : (names lines : List (Bor (List ℕ))) (xs : List NamedWord) → contents names ≡ given_names (contents lines) → ((x : NamedWord) → Contains xs x → IsInside (length names) x) → (x : NamedWord) → Contains xs x → IsInside (length lines) x
 inside_all names lines xs given inside x c = subst (λ n. IsInside n x) (given_size names lines given) (inside x c)
 
-pub as_answer : {E : Type 0} (r : Result Answer E) (ends : Bool) (bytes : List ℕ) (w : Answer) → IsWholeAnswer ends bytes w.verdict w.text → IfOk r (λ a. a.verdict ≡ w.verdict) → IfOk r (λ a. a.text ≡ told w.text)
-    → IfOk r (λ a. length a.text ≤ MAX_ANSWER) → IfOk r (λ a. IsAnswer ends bytes a.verdict a.text)
-as_answer (Ok a) ends bytes w h v t f = record { whole = w.text; answers = subst (λ x. IsWholeAnswer ends bytes x w.text) (sym v) h; is_told = t; few = f }
-as_answer (Err e) ends bytes w h v t f = tt
+pub as_answer : {E : Type 0} (r : Result Answer E) (ends all : Bool) (bytes : List ℕ) (w : Answer) (most : ℕ) → most ≡ most_bytes all → IsWholeAnswer ends all bytes w.verdict w.text → IfOk r (λ a. a.verdict ≡ w.verdict)
+    → IfOk r (λ a. a.text ≡ told most (visible w.text)) → IfOk r (λ a. length a.text ≤ most) → IfOk r (λ a. list_all is_plain a.text ≡ true) → IfOk r (λ a. IsAnswerIn ends all bytes a.verdict a.text)
+as_answer (Ok a) ends all bytes w most is h v t f p =
+    record {
+      whole = w.text;
+      answers = subst (λ x. IsWholeAnswer ends all bytes x w.text) (sym v) h;
+      is_told = subst (λ m. a.text ≡ told m (visible w.text)) is t;
+      few = subst (λ m. length a.text ≤ m) is f;
+      plain = p;
+    }
+as_answer (Err e) ends all bytes w most is h v t f p = tt
+
+-- a front that is long enough is told as the whole
+pub told_front : (most : ℕ) (front all : List ℕ) → IsFrontOf most front all → told most front ≡ told most all
+told_front most front all (inl same) = ap (told most) same
+told_front most front all (inr (long, rest, is)) =
+    let more : most < length all = (let size : length (front ++ rest) ≡ length front + length rest = length-append front rest in let all_is : length all ≡ length (front ++ rest) = ap length is in omega (arith, long, size, all_is)) in
+    let cut : take (most - 4) all ≡ take (most - 4) front = ap (take (most - 4)) is ∙ take-append-le (most - 4) front rest (omega (arith, long)) in
+    ap (λ b. cond b (take (most - 4) front ++ codes "\n..\n") front) (lt-ltb most (length front) long)
+    ∙ sym (ap (λ b. cond b (take (most - 4) all ++ codes "\n..\n") all) (lt-ltb most (length all) more) ∙ ap (λ z. z ++ codes "\n..\n") cut)
+
+-- what is told of plain bytes is plain
+and_front : (a b : Bool) → (a && b) ≡ true → a ≡ true
+and_front true b e = refl
+and_front false b e = e
+
+plain_front : (n : ℕ) (t : List ℕ) → list_all is_plain t ≡ true → list_all is_plain (take n t) ≡ true
+plain_front n t e = and_front (list_all is_plain (take n t)) (list_all is_plain (drop n t)) (sym (list_all-append is_plain (take n t) (drop n t)) ∙ (ap (list_all is_plain) (take-append-drop n t) ∙ e))
+
+plain_or : (b : Bool) (x y : List ℕ) → list_all is_plain x ≡ true → list_all is_plain y ≡ true → list_all is_plain (cond b x y) ≡ true
+plain_or true x y p q = p
+plain_or false x y p q = q
+
+pub told_plain : (most : ℕ) (t : List ℕ) → list_all is_plain t ≡ true → list_all is_plain (told most t) ≡ true
+told_plain most t e = plain_or (nat_lt most (length t)) (take (most - 4) t ++ codes "\n..\n") t
+    (list_all-append is_plain (take (most - 4) t) (codes "\n..\n") ∙ ap (λ z. z && list_all is_plain (codes "\n..\n")) (plain_front (most - 4) t e)) e

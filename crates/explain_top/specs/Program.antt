@@ -4,7 +4,7 @@ use Rattle.graph_terms.specs.declared.limits.TheConstants.{MAX_TEXT}
 use Rattle.realm_io.specs.SinkState.{SinkState}
 use Rattle.program_io.specs.Delivered as program
 use Rattle.program_io.specs.Delivered.{too_long_text}
-use Rattle.explain_top.specs.Answer.{IsAnswer}
+use Rattle.explain_top.specs.Answer.{IsAnswerIn}
 use Rattle.explain_top.specs.declared.answer.Verdict.{Verdict}
 use Rattle.explain_top.specs.declared.answer.Verdict.TheVariants as verdict
 use Rattle.explain_top.specs.declared.program.Status.{Status}
@@ -27,17 +27,17 @@ status_of verdict.Unfit = Unfit
 status_of verdict.Unread = Unread
 
 -- the answer to an input of these bytes, and the text that goes with it
-abbrev pub Answers : Bool → List ℕ → Status → List ℕ → Type 0
-Answers ends bytes Accepted out = IsAnswer ends bytes verdict.Accepted out
-Answers ends bytes Unfit out = IsAnswer ends bytes verdict.Unfit out
-Answers ends bytes Unread out = IsAnswer ends bytes verdict.Unread out
-Answers ends bytes TooLong out = (MAX_TEXT < length bytes) × (out ≡ too_long_text)
-Answers ends bytes _ out = ⊥
+abbrev pub Answers : Bool → Bool → List ℕ → Status → List ℕ → Type 0
+Answers ends all bytes Accepted out = IsAnswerIn ends all bytes verdict.Accepted out
+Answers ends all bytes Unfit out = IsAnswerIn ends all bytes verdict.Unfit out
+Answers ends all bytes Unread out = IsAnswerIn ends all bytes verdict.Unread out
+Answers ends all bytes TooLong out = (MAX_TEXT < length bytes) × (out ≡ too_long_text)
+Answers ends all bytes _ out = ⊥
 
 -- a text that goes with a status was delivered, or a fault broke it off
 abbrev pub Delivers : SinkState → SinkState → Status → Status → List ℕ → Type 0
 Delivers old new wanted result out = program.Delivers WriteFault old new wanted result out
 
 -- an input of these bytes was answered, unless memory ran out
-abbrev pub IsAnswered : Bool → List ℕ → SinkState → SinkState → Status → Type 0
-IsAnswered ends bytes old new result = program.IsAnswered WriteFault NoMemory (Answers ends bytes) old new result
+abbrev pub IsAnswered : Bool → Bool → List ℕ → SinkState → SinkState → Status → Type 0
+IsAnswered ends all bytes old new result = program.IsAnswered WriteFault NoMemory (Answers ends all bytes) old new result

@@ -2,13 +2,12 @@
 
 ghost use Rattle.std.specs.Prelude.{◌≡◌, map, length, IfOk, OnOk};
 ghost use Rattle.basics.specs.Lists.{numbers_below};
-ghost use Rattle.basics.specs.Words.{contents};
 ghost use Rattle.graph_meaning.specs.Evaluation.{eval_end};
 ghost use Rattle.explain_top.specs.Answer.{IsWaitingText, IsEndsText, IsCancelledText, IsAcceptedText};
 
 use checked_graph::Checked;
 use explain_graph::longest_ways;
-use explain_text::{Text, put_cancelled, put_need, put_need_line, put_waiting, put_ways};
+use explain_text::{Lines, Text, put_cancelled, put_need, put_need_line, put_waiting, put_ways};
 use explanations::reaches::{cancelled_lines, waiting_lines};
 use graph_model::graph::Graph;
 use graph_terms::lists::EndList;
@@ -21,10 +20,10 @@ use std::alloc::Global;
 pub(crate) fn put_accepted(
     alloc: Global,
     checked: &Checked,
-    lines: &[&[u8]],
+    lines: &Lines,
     ends: bool,
 ) -> Result<Text, NoMemory>
-    ensures { IfOk result (IsAcceptedText ends checked.now (contents lines.now)) }
+    ensures { IfOk result (IsAcceptedText ends checked.now lines.now) }
 {
     let mut text = Text::new(alloc);
     let need = checked.need();
@@ -41,9 +40,9 @@ fn put_all_waiting(
     alloc: Global,
     text: &mut Text,
     graph: &Graph,
-    lines: &[&[u8]],
+    lines: &Lines,
 ) -> Result<(), NoMemory>
-    ensures { OnOk result (IsWaitingText graph.now (contents lines.now) text.old text.new) }
+    ensures { OnOk result (IsWaitingText graph.now lines.now text.old text.new) }
 {
     let reaches = waiting_lines(alloc, graph)?;
     let ways = longest_ways(alloc, reaches.as_slice())?;
@@ -57,10 +56,10 @@ fn put_ends(
     alloc: Global,
     text: &mut Text,
     checked: &Checked,
-    lines: &[&[u8]],
+    lines: &Lines,
     ends: bool,
 ) -> Result<(), NoMemory>
-    ensures { OnOk result (IsEndsText ends checked.now.graph (contents lines.now) text.old text.new) }
+    ensures { OnOk result (IsEndsText ends checked.now.graph lines.now text.old text.new) }
 {
     if !ends {
         return Ok(());
@@ -74,11 +73,11 @@ fn put_all_cancelled(
     alloc: Global,
     text: &mut Text,
     graph: &Graph,
-    lines: &[&[u8]],
+    lines: &Lines,
     ends: &EndList,
 ) -> Result<(), NoMemory>
     requires { ends.now ≡ map (eval_end graph.now) (numbers_below (length graph.now.lines)) }
-    ensures { OnOk result (IsCancelledText graph.now (contents lines.now) text.old text.new) }
+    ensures { OnOk result (IsCancelledText graph.now lines.now text.old text.new) }
 {
     let reaches = cancelled_lines(alloc, graph, ends)?;
     let ways = longest_ways(alloc, reaches.as_slice())?;

@@ -1,26 +1,29 @@
 //! The answer to the bytes of an input.
 
-ghost use Rattle.std.specs.Prelude.{◌≡◌, ◌≢◌, ◌++◌, ◌≤◌, Bool, length, option_map, Contains, None, IfOk, IfSome, OnOk, MatchOption};
+ghost use Rattle.std.specs.List.{list_all};
+ghost use Rattle.std.specs.Prelude.{◌≡◌, ◌≢◌, ◌++◌, ◌≤◌, nat_lt, Bool, true, length, option_map, Contains, None, IfOk, IfSome, OnOk, MatchOption};
 ghost use Rattle.basics.specs.Words.{contents};
 ghost use Rattle.refused_words.specs.Ends.{IsEndedBy};
 ghost use Rattle.refused_words.specs.Limits.{quantity_value};
 ghost use Rattle.explain_text.specs.Named.{IsInside, names_text, space_text};
 ghost use Rattle.explain_text.specs.declared.naming.NamedWord.{NamedWord};
-ghost use Rattle.explain_top.specs.Answer.{IsAnswer, IsWholeAnswer, told, IsUnfitText, IsAdvisedText, IsUnreadText, IsMarkedText, format_above, stands_below, AreNamed, TellsSpace, limit_for};
+ghost use Rattle.explain_text.specs.Visible.{is_plain, visible};
+ghost use Rattle.explain_top.specs.Answer.{IsAnswer, IsAnswerIn, IsWholeAnswer, asked, most_bytes, most_names, told, IsUnfitText, IsUnreadText, IsMarkedText, first_text, advice_text, AreNamed, TellsSpace, limit_for};
 ghost use Rattle.graph_meaning.specs.Rules.{Accepted};
 ghost use Rattle.graph_reader.specs.Reading.{IsUnreadBy};
 ghost use Rattle.graph_words.specs.Text.{GraphText};
-ghost use Rattle.graph_words.specs.Words.{pieces};
 ghost use Rattle.race_check.specs.Refusal.{IsRefusal, NamesLines};
 
 use crate::accepted::put_accepted;
+use crate::fields::put_fields;
 use checked_graph::Checked;
 use explain_graph::explain;
-use explain_text::bounds::MAX_ANSWER;
+use explain_text::bounds::{MAX_ANSWER, MAX_NAMES, MAX_WHOLE};
 use explain_text::split::split;
+use explain_text::visible::visible_front;
 use explain_text::{
-    NamedWord, NamedWords, Text, given_names, line_at, named_space, named_words, put_ended,
-    put_limit, put_mark, put_named_words, put_refused, put_space, put_unread, split_lines,
+    Lines, NamedWord, NamedWords, Text, given_names, line_at, named_space, named_words, put_ended,
+    put_limit, put_mark, put_named_words, put_refused, put_space, put_unread,
 };
 use graph_model::graph::Graph;
 use graph_reader::{Reading, Unread, read_text};
@@ -33,6 +36,7 @@ use race_check::checked::{CheckRefusal, Unfit};
 use refusal_text::put_explanation;
 use refused_words::{Quantity, ended_by, passed_limit, refused_word};
 use std::alloc::Global;
+use word_forms::word_advice;
 
 /// What becomes of an input.
 #[derive(Clone, Copy, Debug, PartialEq, Eq)]
@@ -57,31 +61,53 @@ pub struct Answer {
 pub fn explain_bytes(alloc: Global, bytes: &[u8], ends: bool) -> Result<Answer, NoMemory>
     ensures { IfOk result (λ a. IsAnswer ends bytes.now a.verdict a.text) }
 {
-    let lines = split_lines(alloc, bytes)?;
-    let whole = answer_lines(alloc, bytes, lines.as_slice(), ends)?;
-    as_told(whole)
+    explain_in(alloc, bytes, ends, false)
+}
+
+/// The same, where all is asked for with long paths and lists whole, in at most 16,777,216 bytes.
+pub fn explain_in(alloc: Global, bytes: &[u8], ends: bool, all: bool) -> Result<Answer, NoMemory>
+    ensures { IfOk result (λ a. IsAnswerIn ends all bytes.now a.verdict a.text) }
+{
+    let lines = Lines::of(alloc, bytes, all)?;
+    let whole = answer_lines(alloc, bytes, &lines, ends, all)?;
+    as_told(alloc, &whole, most_bytes(all))
+}
+
+/// How many bytes an answer has at most.
+fn most_bytes(all: bool) -> usize
+    ensures number { result ≡ most_bytes all }
+    ensures some { 4 ≤ result }
+{
+    if all { MAX_WHOLE } else { MAX_ANSWER }
 }
 
 /// An answer as it is told.
-fn as_told(whole: Answer) -> Result<Answer, NoMemory>
-    ensures verdict { IfOk result (λ a. a.verdict ≡ whole.verdict) }
-    ensures text { IfOk result (λ a. a.text ≡ told whole.text) }
-    ensures few { IfOk result (λ a. length a.text ≤ MAX_ANSWER) }
+fn as_told(alloc: Global, whole: &Answer, most: usize) -> Result<Answer, NoMemory>
+    requires { 4 ≤ most }
+    ensures verdict { IfOk result (λ a. a.verdict ≡ whole.now.verdict) }
+    ensures text { IfOk result (λ a. a.text ≡ told most (visible whole.now.text)) }
+    ensures few { IfOk result (λ a. length a.text ≤ most) }
+    ensures plain { IfOk result (λ a. list_all is_plain a.text ≡ true) }
 {
-    let mut answer = whole;
-    shorten(&mut answer.text)?;
-    Ok(answer)
+    let front = visible_front(alloc, whole.text.bytes(), most)?;
+    let mut text = Text::of(front);
+    shorten(&mut text, most)?;
+    Ok(Answer {
+        verdict: whole.verdict,
+        text,
+    })
 }
 
 /// Keeps the front of a long text, with a line `..` behind it.
-fn shorten(text: &mut Text) -> Result<(), NoMemory>
-    ensures text { OnOk result (text.new ≡ told text.old) }
-    ensures few { OnOk result (length text.new ≤ MAX_ANSWER) }
+fn shorten(text: &mut Text, most: usize) -> Result<(), NoMemory>
+    requires { 4 ≤ most }
+    ensures text { OnOk result (text.new ≡ told most text.old) }
+    ensures few { OnOk result (length text.new ≤ most) }
 {
-    if text.len() <= MAX_ANSWER {
+    if text.len() <= most {
         return Ok(());
     }
-    text.keep(MAX_ANSWER - 4);
+    text.keep(most - 4);
     text.put(b"\n..\n")
 }
 
@@ -89,15 +115,16 @@ fn shorten(text: &mut Text) -> Result<(), NoMemory>
 fn answer_lines(
     alloc: Global,
     bytes: &[u8],
-    lines: &[&[u8]],
+    lines: &Lines,
     ends: bool,
+    all: bool,
 ) -> Result<Answer, NoMemory>
-    requires { contents lines.now ≡ pieces 10 bytes.now }
-    ensures { IfOk result (λ a. IsWholeAnswer ends bytes.now a.verdict a.text) }
+    requires { lines.now ≡ asked all bytes.now }
+    ensures { IfOk result (λ a. IsWholeAnswer ends all bytes.now a.verdict a.text) }
 {
     match read_text(alloc, bytes)? {
-        Reading::Graph(graph) => answer_graph(alloc, graph, bytes, lines, ends),
-        Reading::Refused(unread) => answer_unread(alloc, &unread, bytes, lines),
+        Reading::Graph(graph) => answer_graph(alloc, graph, bytes, lines, ends, all),
+        Reading::Refused(unread) => answer_unread(alloc, &unread, bytes, lines, all),
     }
 }
 
@@ -106,16 +133,17 @@ fn answer_graph(
     alloc: Global,
     graph: Graph,
     bytes: &[u8],
-    lines: &[&[u8]],
+    lines: &Lines,
     ends: bool,
+    all: bool,
 ) -> Result<Answer, NoMemory>
     requires text { GraphText bytes.now graph }
-    requires lines { contents lines.now ≡ pieces 10 bytes.now }
-    ensures { IfOk result (λ a. IsWholeAnswer ends bytes.now a.verdict a.text) }
+    requires lines { lines.now ≡ asked all bytes.now }
+    ensures { IfOk result (λ a. IsWholeAnswer ends all bytes.now a.verdict a.text) }
 {
     match check(alloc, graph) {
-        Ok(checked) => answer_accepted(alloc, &checked, bytes, lines, ends),
-        Err(unfit) => answer_unfit(alloc, &unfit, bytes, lines),
+        Ok(checked) => answer_accepted(alloc, &checked, bytes, lines, ends, all),
+        Err(unfit) => answer_unfit(alloc, &unfit, bytes, lines, all),
     }
 }
 
@@ -124,14 +152,16 @@ fn answer_accepted(
     alloc: Global,
     checked: &Checked,
     bytes: &[u8],
-    lines: &[&[u8]],
+    lines: &Lines,
     ends: bool,
+    all: bool,
 ) -> Result<Answer, NoMemory>
     requires text { GraphText bytes.now checked.now.graph }
-    requires lines { contents lines.now ≡ pieces 10 bytes.now }
-    ensures { IfOk result (λ a. IsWholeAnswer ends bytes.now a.verdict a.text) }
+    requires lines { lines.now ≡ asked all bytes.now }
+    ensures { IfOk result (λ a. IsWholeAnswer ends all bytes.now a.verdict a.text) }
 {
     let _bytes = bytes;
+    let _all = all;
     let _ = checked.graph();
     let _ = checked.need();
     let text = put_accepted(alloc, checked, lines, ends)?;
@@ -146,15 +176,17 @@ fn answer_unfit(
     alloc: Global,
     unfit: &Unfit,
     bytes: &[u8],
-    lines: &[&[u8]],
+    lines: &Lines,
+    all: bool,
 ) -> Result<Answer, NoMemory>
     requires text { GraphText bytes.now unfit.now.graph }
-    requires lines { contents lines.now ≡ pieces 10 bytes.now }
+    requires lines { lines.now ≡ asked all bytes.now }
     requires refused { IsRefusal unfit.now.graph unfit.now.why × NamesLines unfit.now.graph unfit.now.why }
     requires broken { Accepted unfit.now.graph → unfit.now.why ≡ CheckRefusal.NoMemory }
-    ensures { IfOk result (λ a. (ends : Bool) → IsWholeAnswer ends bytes.now a.verdict a.text) }
+    ensures { IfOk result (λ a. (ends : Bool) → IsWholeAnswer ends all bytes.now a.verdict a.text) }
 {
     let _bytes = bytes;
+    let _all = all;
     let text = put_unfit(alloc, unfit, lines)?;
     Ok(Answer {
         verdict: Verdict::Unfit,
@@ -167,13 +199,15 @@ fn answer_unread(
     alloc: Global,
     unread: &Unread,
     bytes: &[u8],
-    lines: &[&[u8]],
+    lines: &Lines,
+    all: bool,
 ) -> Result<Answer, NoMemory>
     requires refused { IsUnreadBy bytes.now unread.now.number unread.now.why unread.now.above }
-    requires lines { contents lines.now ≡ pieces 10 bytes.now }
-    ensures { IfOk result (λ a. (ends : Bool) → IsWholeAnswer ends bytes.now a.verdict a.text) }
+    requires lines { lines.now ≡ asked all bytes.now }
+    ensures { IfOk result (λ a. (ends : Bool) → IsWholeAnswer ends all bytes.now a.verdict a.text) }
 {
     let _bytes = bytes;
+    let _all = all;
     let text = put_unread_text(alloc, lines, unread)?;
     Ok(Answer {
         verdict: Verdict::Unread,
@@ -182,10 +216,10 @@ fn answer_unread(
 }
 
 /// The text on a graph that is refused.
-fn put_unfit(alloc: Global, unfit: &Unfit, lines: &[&[u8]]) -> Result<Text, NoMemory>
+fn put_unfit(alloc: Global, unfit: &Unfit, lines: &Lines) -> Result<Text, NoMemory>
     requires lines { NamesLines unfit.now.graph unfit.now.why }
     requires refused { IsRefusal unfit.now.graph unfit.now.why }
-    ensures text { IfOk result (λ t. IsUnfitText unfit.now.graph unfit.now.why (contents lines.now) t) }
+    ensures text { IfOk result (λ t. IsUnfitText unfit.now.graph unfit.now.why lines.now t) }
     ensures a_rule { OnOk result (unfit.now.why ≢ CheckRefusal.NoMemory) }
 {
     if unfit.why == CheckRefusal::NoMemory {
@@ -197,50 +231,59 @@ fn put_unfit(alloc: Global, unfit: &Unfit, lines: &[&[u8]]) -> Result<Text, NoMe
     Ok(text)
 }
 
-/// The text on bytes that are no graph's, with what the form of the line tells.
-fn put_unread_text(alloc: Global, lines: &[&[u8]], unread: &Unread) -> Result<Text, NoMemory>
-    ensures { IfOk result (IsAdvisedText (contents lines.now) unread.now.number unread.now.why unread.now.above) }
-{
-    let mut text = put_refused_text(alloc, lines, unread)?;
-    let below = stands_below(&unread.above);
-    let format = format_above(&unread.above);
-    let line = line_at(lines, unread.number);
-    let advice = line_advice(alloc, format, below, unread.why, line)?;
-    text.put(advice.as_slice())?;
-    Ok(text)
-}
-
-/// The format of the graph above a line.
-fn format_above(above: &Option<Graph>) -> Format
-    ensures { result ≡ format_above above.now }
-{
-    match above {
-        Some(graph) => graph.format(),
-        None => Format::One,
-    }
-}
-
-/// Whether an operation stands above a line.
-fn stands_below(above: &Option<Graph>) -> bool
-    ensures { result ≡ stands_below above.now }
-{
-    match above {
-        Some(graph) => graph.lines() > 0,
-        None => false,
-    }
-}
-
 /// The text on bytes that are no graph's.
-fn put_refused_text(alloc: Global, lines: &[&[u8]], unread: &Unread) -> Result<Text, NoMemory>
-    ensures { IfOk result (IsUnreadText (contents lines.now) unread.now.number unread.now.why unread.now.above) }
+fn put_unread_text(alloc: Global, lines: &Lines, unread: &Unread) -> Result<Text, NoMemory>
+    ensures { IfOk result (IsUnreadText lines.now unread.now.number unread.now.why unread.now.above) }
 {
     let mut text = Text::new(alloc);
-    put_unread(&mut text, lines, unread.number, unread.why)?;
+    put_unread(&mut text, lines.pieces(), unread.number, unread.why)?;
     match &unread.above {
         Some(graph) => put_behind(alloc, &mut text, graph, lines, unread.number, unread.why)?,
-        None => put_mark(&mut text, unread.number, &[], &[], None)?,
+        None => put_first(alloc, &mut text, lines.pieces(), unread.number, unread.why)?,
     }
     Ok(text)
+}
+
+/// Puts, of a line above which no graph is, that the whole line is refused, and what its form tells.
+fn put_first(
+    alloc: Global,
+    text: &mut Text,
+    lines: &[&[u8]],
+    number: u32,
+    why: Why,
+) -> Result<(), NoMemory>
+    ensures { OnOk result (text.new ≡ text.old ++ first_text (contents lines.now) number why) }
+{
+    put_mark(text, number, &[], &[], None)?;
+    let line = line_at(lines, number);
+    let advice = line_advice(alloc, Format::One, false, why, line)?;
+    text.put(advice.as_slice())
+}
+
+/// Puts what the form of a line tells that is refused behind a graph, and what kind of word the refused one
+/// has to be.
+fn put_advice(
+    alloc: Global,
+    text: &mut Text,
+    graph: &Graph,
+    why: Why,
+    line: &[u8],
+    mark: Option<usize>,
+) -> Result<(), NoMemory>
+    ensures { OnOk result (text.new ≡ text.old ++ advice_text graph.now why line.now mark) }
+{
+    let below = is_below(graph);
+    let advice = line_advice(alloc, graph.format(), below, why, line)?;
+    text.put(advice.as_slice())?;
+    let told = word_advice(alloc, graph.format(), why, line, mark)?;
+    text.put(told.as_slice())
+}
+
+/// Whether an operation stands above the line behind a graph.
+fn is_below(graph: &Graph) -> bool
+    ensures { result ≡ nat_lt 0 (length graph.now.lines) }
+{
+    graph.lines() > 0
 }
 
 /// Puts, of a line that is refused behind a graph, which word is, and what that word clashes with.
@@ -248,17 +291,33 @@ fn put_behind(
     alloc: Global,
     text: &mut Text,
     graph: &Graph,
-    lines: &[&[u8]],
+    lines: &Lines,
     number: u32,
     why: Why,
 ) -> Result<(), NoMemory>
-    ensures { OnOk result (IsMarkedText (contents lines.now) number why graph.now text.old text.new) }
+    ensures { OnOk result (IsMarkedText lines.now number why graph.now text.old text.new) }
 {
-    let line = line_at(lines, number);
+    put_clashes(alloc, text, graph, lines, lines.pieces(), number, why)
+}
+
+/// The same by the pieces that the lines are.
+fn put_clashes(
+    alloc: Global,
+    text: &mut Text,
+    graph: &Graph,
+    lines: &Lines,
+    pieces: &[&[u8]],
+    number: u32,
+    why: Why,
+) -> Result<(), NoMemory>
+    requires { contents pieces.now ≡ lines.now.lines }
+    ensures { OnOk result (IsMarkedText lines.now number why graph.now text.old text.new) }
+{
+    let line = line_at(pieces, number);
     let words = split(alloc, line, b' ')?;
     let mark = refused_word(alloc, graph, words.as_slice(), why)?;
     let ended = ended_for(graph, words.as_slice(), mark);
-    let names = given_names(alloc, lines)?;
+    let names = given_names(alloc, pieces)?;
     let named = named_for(
         alloc,
         graph.format(),
@@ -266,10 +325,11 @@ fn put_behind(
         number,
         words.as_slice(),
         why,
+        most_names(lines, words.as_slice()),
     )?;
     let space = space_for(
         graph.format(),
-        lines,
+        pieces,
         names.as_slice(),
         number,
         words.as_slice(),
@@ -280,7 +340,16 @@ fn put_behind(
     put_refused(text, why, number, line, words.as_slice(), mark)?;
     put_limit(text, passed)?;
     put_ended(text, graph, lines, ended)?;
-    put_names(text, lines, &named, &space)
+    put_names(text, pieces, &named, &space)?;
+    put_fields(alloc, text, graph, words.as_slice(), why, mark)?;
+    put_advice(alloc, text, graph, why, line, mark)
+}
+
+/// How many of the names of words are told at most.
+fn most_names(lines: &Lines, words: &[&[u8]]) -> usize
+    ensures { result ≡ most_names lines.now (contents words.now) }
+{
+    if lines.all() { words.len() } else { MAX_NAMES }
 }
 
 /// Puts names, and then the space of a column.
@@ -317,13 +386,14 @@ fn named_for<'a>(
     number: u32,
     words: &[&'a [u8]],
     why: Why,
+    most: usize,
 ) -> Result<NamedWords<'a>, NoMemory>
-    ensures named { IfOk result (λ v. AreNamed format (contents names.now) number (contents words.now) why v.told.items v.more) }
+    ensures named { IfOk result (λ v. AreNamed format (contents names.now) number (contents words.now) why most v.told.items v.more) }
     ensures inside { IfOk result (λ v. (x : NamedWord) → Contains v.told.items x → IsInside (length names.now) x) }
 {
     match why {
         Why::Twice | Why::Unknown | Why::Kind | Why::Outside | Why::Arrivals => {
-            named_words(alloc, format, names, number, words)
+            named_words(alloc, format, names, number, words, most)
         }
         _ => Ok(NamedWords {
             told: Vec::new(alloc),

@@ -3,7 +3,8 @@
 
 mod accepted;
 pub mod answer;
+mod fields;
 pub mod program;
 
-pub use answer::{Answer, Verdict, explain_bytes};
+pub use answer::{Answer, Verdict, explain_bytes, explain_in};
 pub use program::{Status, run};

@@ -1,16 +1,16 @@
 //! What the program does with its streams.
 
-ghost use Rattle.std.specs.Prelude.{◌≡◌, ◌⊎◌, ℕ, ◌<◌, List, length, Some};
+ghost use Rattle.std.specs.Prelude.{◌≡◌, ◌⊎◌, ℕ, ◌<◌, ◌≤◌, List, length, Some};
 ghost use Rattle.graph_terms.specs.Graph.{GraphValue};
 ghost use Rattle.graph_meaning.specs.Rules.{Accepted};
 ghost use Rattle.graph_words.specs.Text.{GraphText};
 ghost use Rattle.realm_io.specs.Counts.{Rose};
-ghost use Rattle.explain_top.specs.Answer.{IsAnswer};
+ghost use Rattle.explain_top.specs.Answer.{IsAnswerIn};
 ghost use Rattle.program_io.specs.Delivered.{Delivered, BrokenOff, too_long_text};
 ghost use Rattle.explain_top.specs.Program.{exit_number, status_of, Answers, IsAnswered};
 ghost use Rattle.explain_top.specs.declared.answer.Verdict.{Verdict};
 
-use crate::answer::{Verdict, explain_bytes};
+use crate::answer::{Verdict, explain_in};
 use graph_reader::laws::bytes_have_one_reading;
 use graph_terms::limits::MAX_TEXT;
 use program_io::{ProgramStatus, put_text, put_too_long};
@@ -67,10 +67,16 @@ impl ProgramStatus for Status {
 }
 
 /// Reads all of the input, and writes what the checker says of it and why.
-pub fn run<S: Source, K: Sink>(alloc: Global, source: &mut S, sink: &mut K, ends: bool) -> Status
+pub fn run<S: Source, K: Sink>(
+    alloc: Global,
+    source: &mut S,
+    sink: &mut K,
+    ends: bool,
+    all: bool,
+) -> Status
     // Accepted, Unfit and Unread: exactly this is so of the input, and the text that says why was written and flushed.
     ensures answered { (bytes : List ℕ) (verdict : Verdict) → S.left source.old ≡ Some bytes → result ≡ status_of verdict
-        → (out : List ℕ) × IsAnswer ends bytes verdict out × Delivered (K.state sink.old) (K.state sink.new) out }
+        → (out : List ℕ) × IsAnswerIn ends all bytes verdict out × Delivered (K.state sink.old) (K.state sink.new) out }
 
     // TooLong: more than 1,048,576 bytes were left, and the line that says so was written and flushed.
     ensures too_long { result ≡ Status.TooLong → (bytes : List ℕ) → S.left source.old ≡ Some bytes
@@ -84,16 +90,16 @@ pub fn run<S: Source, K: Sink>(alloc: Global, source: &mut S, sink: &mut K, ends
 
     // WriteFault: a prefix was taken of the text that is written without it.
     ensures cut_off { result ≡ Status.WriteFault → (bytes : List ℕ) → S.left source.old ≡ Some bytes → (status : Status) × (out : List ℕ)
-        × Answers ends bytes status out × BrokenOff (K.state sink.old) (K.state sink.new) out }
+        × Answers ends all bytes status out × BrokenOff (K.state sink.old) (K.state sink.new) out }
 
-    // The text of a graph that is accepted is answered so, unless a fault was counted or memory ran out.
-    ensures complete { (bytes : List ℕ) (g : GraphValue) → S.left source.old ≡ Some bytes → GraphText bytes g → Accepted g
+    // The text of a graph that is accepted is answered so, where with its comments it is not too long, unless a fault was counted or memory ran out.
+    ensures complete { (bytes : List ℕ) (g : GraphValue) → S.left source.old ≡ Some bytes → length bytes ≤ MAX_TEXT → GraphText bytes g → Accepted g
         → ¬ (Rose (S.faults source.old) (S.faults source.new)) → ¬ (Rose (K.state sink.old).faults (K.state sink.new).faults)
         → (result ≡ Status.Accepted) ⊎ (result ≡ Status.NoMemory) }
 {
     bytes_have_one_reading();
     match read_all(alloc, source, MAX_TEXT as u32) {
-        Ok(bytes) => answer(alloc, bytes.as_slice(), sink, ends),
+        Ok(bytes) => answer(alloc, bytes.as_slice(), sink, ends, all),
         Err(ReadEnd::TooLong) => put_too_long(sink, Status::TooLong),
         Err(ReadEnd::ReadFault) => Status::ReadFault,
         Err(ReadEnd::NoMemory) => Status::NoMemory,
@@ -101,11 +107,11 @@ pub fn run<S: Source, K: Sink>(alloc: Global, source: &mut S, sink: &mut K, ends
 }
 
 /// Writes what the checker says of the bytes and why.
-fn answer<K: Sink>(alloc: Global, bytes: &[u8], sink: &mut K, ends: bool) -> Status
-    ensures answered { IsAnswered ends bytes.now (K.state sink.old) (K.state sink.new) result }
+fn answer<K: Sink>(alloc: Global, bytes: &[u8], sink: &mut K, ends: bool, all: bool) -> Status
+    ensures answered { IsAnswered ends all bytes.now (K.state sink.old) (K.state sink.new) result }
     ensures no_memory { result ≡ Status.NoMemory → sink.new ≡ sink.old }
 {
-    match explain_bytes(alloc, bytes, ends) {
+    match explain_in(alloc, bytes, ends, all) {
         Ok(answer) => put_text(sink, answer.text.bytes(), status_of(answer.verdict)),
         Err(_) => Status::NoMemory,
     }

@@ -1,12 +1,15 @@
 -- The text of a graph of format 1 whose lines are all those of a flow is, behind its first line, that of a flow.
-use Rattle.std.proofs.Common.{◌≡◌, ℕ, Bool, true, false, List, [], ◌++◌, refl, sym, ◌∙◌, ap, append_assoc, arith}
-use Rattle.std.specs.Prelude.{Option, Some, None, is_none, slice_index, IsTrue}
+use Rattle.std.proofs.Common.{◌≡◌, ℕ, ◌≤◌, Bool, true, false, cond, ◌&&◌, length, List, [], ◌++◌, refl, sym, ◌∙◌, ap, subst, append_assoc, arith}
+use Rattle.std.specs.Prelude.{Option, Some, None, is_none, slice_index, nat_lt, IsTrue}
 use Rattle.std.proofs.lemmas.Bool.{true≢false, and_parts}
 use Rattle.graph_terms.specs.declared.format.Format.{Format}
-use Rattle.graph_terms.specs.declared.format.Format.TheVariants.{One, Two}
+use Rattle.graph_terms.specs.declared.format.Format.TheVariants.{One, Two, Three}
 use Rattle.graph_terms.specs.Graph.{GraphValue}
 use Rattle.graph_terms.specs.Spelling.{header, decls_text, lines_text}
-use Rattle.graph_words.specs.Text.{closing, GraphText}
+use Rattle.graph_terms.specs.Fits.{IsGraph}
+use Rattle.graph_comments.specs.Comments.{bare_text}
+use Rattle.graph_words.specs.Text.{closing, text, bare_of, GraphText}
+use Rattle.graph_reader.proofs.Public.{texts_are_bare}
 use Rattle.flow_order.specs.Flow.{IsFlow, uses_columns}
 use Rattle.flow_top.specs.FlowText.{flow_header, FlowText, AreFlowLines}
 
@@ -21,9 +24,18 @@ true_is false e = absurd (true≢false (sym e))
 one_by : (fm : Format) (rest body : List ℕ) → header One ++ rest ≡ header fm ++ body → fm ≡ One
 one_by One rest body h = refl
 one_by Two rest body h = absurd (let e : 49 ≡ 50 = ap (λ xs. slice_index xs 6) h in omega arith)
+one_by Three rest body h = absurd (let e : 49 ≡ 51 = ap (λ xs. slice_index xs 6) h in omega arith)
+
+-- a text of format 1 has no comments
+no_more : (b : Bool) → (b && false) ≡ false
+no_more true = refl
+no_more false = refl
+
+pub bare_is : (rest : List ℕ) → bare_of (header One ++ rest) ≡ header One ++ rest
+bare_is rest = ap (λ b. cond b (bare_text (header One ++ rest)) (header One ++ rest)) (no_more (nat_lt (length (header One ++ rest)) 4294967295))
 
 one_of : (rest : List ℕ) (g : GraphValue) → GraphText (header One ++ rest) g → g.format ≡ One
-one_of rest g t = one_by g.format rest ((decls_text g.format [] g.decls ++ lines_text g.format g.decls [] g.lines) ++ closing) (t.is_text ∙ append_assoc (header g.format) (decls_text g.format [] g.decls ++ lines_text g.format g.decls [] g.lines) closing)
+one_of rest g t = one_by g.format rest ((decls_text g.format [] g.decls ++ lines_text g.format g.decls [] g.lines) ++ closing) (sym (bare_is rest) ∙ (t.is_text ∙ append_assoc (header g.format) (decls_text g.format [] g.decls ++ lines_text g.format g.decls [] g.lines) closing))
 
 pub flow_of : (rest : List ℕ) (g : GraphValue) → GraphText (header One ++ rest) g → AreFlowLines g → IsFlow g
 flow_of rest g t lines = record {
@@ -35,3 +47,14 @@ flow_of rest g t lines = record {
 
 pub flow_text : (bytes rest : List ℕ) (g : GraphValue) → bytes ≡ flow_header ++ rest → GraphText (header One ++ rest) g → AreFlowLines g → FlowText bytes g
 flow_text bytes rest g begins t lines = record { rest = rest; begins = begins; is_text = t; is_flow = flow_of rest g t lines }
+
+-- the text of a graph has no comments
+bare_text_of : (bytes : List ℕ) (g : GraphValue) → IsGraph g → bytes ≡ text g → bare_of bytes ≡ bytes
+bare_text_of bytes g fits is = ap (λ xs. bare_of xs) is ∙ (texts_are_bare g fits ∙ sym is)
+
+pub graph_text_of : (bytes : List ℕ) (g : GraphValue) → IsGraph g → bytes ≡ text g → length bytes ≤ 1048576 → GraphText bytes g
+graph_text_of bytes g fits is short = record {
+  is_text = bare_text_of bytes g fits is ∙ is;
+  short = subst (λ (xs : List ℕ). length xs ≤ 1048576) (sym (bare_text_of bytes g fits is)) short;
+  is_graph = fits;
+}

@@ -15,7 +15,7 @@ use run_core::Issue;
 use run_words::{Woken, WordAttempt, WordSeat, WordWork, Words};
 use std::sync::Wait;
 
-/// How often a worker tries to issue a line while another one has the desk's turn, which is short.
+/// How often a worker tries to issue a line while another one has the issue turn, which is short.
 const MOST_ISSUES: u32 = 8;
 
 /// Whether a line has the column of the access k of another one.

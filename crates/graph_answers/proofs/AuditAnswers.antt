@@ -1,5 +1,5 @@
 -- What follows for the answers of `audit`.
-use Rattle.std.proofs.Common.{◌≡◌, ◌≢◌, ℕ, ◌+◌, ◌<◌, ◌≤◌, List, length, refl, sym, ◌∙◌, subst, inl, inr, arith}
+use Rattle.std.proofs.Common.{◌≡◌, ◌≢◌, ℕ, ◌+◌, ◌<◌, ◌≤◌, List, length, refl, sym, ◌∙◌, ap, subst, inl, inr, arith}
 use Rattle.std.specs.Prelude.{Some}
 use Rattle.graph_terms.specs.Graph.{GraphValue}
 use Rattle.graph_terms.specs.Fits.{IsGraph}
@@ -7,8 +7,7 @@ use Rattle.graph_meaning.specs.Rules.{Accepted}
 use Rattle.graph_meaning.specs.Trace.{IsLawful}
 use Rattle.graph_words.specs.Text.{GraphText}
 use Rattle.graph_reader.specs.Laws.{OneReading}
-use Rattle.realm_audit.specs.Parts.{graph_bytes, trace_bytes}
-use Rattle.graph_reader.specs.FirstFault.{line_count}
+use Rattle.realm_audit.specs.Parts.{newlines, graph_bytes, trace_bytes}
 use Rattle.realm_audit.specs.Text.{trace_text}
 use Rattle.realm_io.specs.SinkState.{SinkState}
 use Rattle.realm_io.specs.Written.{Wrote}
@@ -39,10 +38,10 @@ fault_text g trace audit.NoMemory n = absurd (n refl)
 pub trace_of : (g h : GraphValue) (bytes trace : List ℕ) → g ≡ h → trace_text g trace ≡ bytes → AreLines g trace → HasTrace h bytes trace
 trace_of g h bytes trace e t l = subst (λ x. HasTrace x bytes trace) e (record { lines = l; text = t })
 
-pub no_trace_answered : (g h : GraphValue) (bytes : List ℕ) (number m : ℕ) (s t : SinkState) (result : Status) → g ≡ h → reading.IsRefusal g bytes (Line number) → number ≡ m → Delivers s t Unread result (trace_refused_text (line_count g + 1 + m)) → IsAnswered (TraceAnswers h bytes) s t result
-no_trace_answered g h bytes number m s t result e r same d =
-    subst (λ x. IsAnswered (TraceAnswers x bytes) s t result) e
-    (inr (Unread, trace_refused_text (line_count g + 1 + m), record { «number» = m; refused = subst (λ n. reading.IsRefusal g bytes (Line n)) same r; says = refl }, d))
+pub no_trace_answered : (g h : GraphValue) (lines : ℕ) (bytes : List ℕ) (number m : ℕ) (s t : SinkState) (result : Status) → g ≡ h → reading.IsRefusal g bytes (Line number) → number ≡ m → Delivers s t Unread result (trace_refused_text (lines + m)) → IsAnswered (TraceAnswers h lines bytes) s t result
+no_trace_answered g h lines bytes number m s t result e r same d =
+    subst (λ x. IsAnswered (TraceAnswers x lines bytes) s t result) e
+    (inr (Unread, trace_refused_text (lines + m), record { «number» = m; refused = subst (λ n. reading.IsRefusal g bytes (Line n)) same r; says = refl }, d))
 
 pub lawful_answered : (g h : GraphValue) (trace : List ℕ) (s t : SinkState) (result : Status) → g ≡ h → IsLawful g trace → Delivers s t Done result lawful_text → IsAnswered (LawfulAnswers h trace) s t result
 lawful_answered g h trace s t result e l d = inr (Done, lawful_text, (subst (λ x. IsLawful x trace) e l, refl), d)
@@ -67,28 +66,28 @@ pub wrote_number : (s t : SinkState) (m n : ℕ) → m ≡ n → Wrote s t (trac
 wrote_number s t m n e w = subst (λ k. Wrote s t (trace_refused_text k)) e w
 
 -- FROM THE PARTS to the whole: what becomes of a trace, of the bytes behind a graph, and of the graph
-pub lawful_trace : (g : GraphValue) (bytes trace : List ℕ) → HasTrace g bytes trace → (status : Status) (out : List ℕ) → LawfulAnswers g trace status out → TraceAnswers g bytes status out
-lawful_trace g bytes trace h Done out a = (trace, h, a)
-lawful_trace g bytes trace h Unlawful out a = (trace, h, a)
-lawful_trace g bytes trace h _ out a = absurd a
+pub lawful_trace : (g : GraphValue) (lines : ℕ) (bytes trace : List ℕ) → HasTrace g bytes trace → (status : Status) (out : List ℕ) → LawfulAnswers g trace status out → TraceAnswers g lines bytes status out
+lawful_trace g lines bytes trace h Done out a = (trace, h, a)
+lawful_trace g lines bytes trace h Unlawful out a = (trace, h, a)
+lawful_trace g lines bytes trace h _ out a = absurd a
 
-pub trace_parts : (g h : GraphValue) (bytes : List ℕ) → g ≡ h → Accepted h → (status : Status) (out : List ℕ) → TraceAnswers g bytes status out → PartsAnswer h bytes status out
-trace_parts g h bytes e acc Done out a = (acc, subst (λ x. TraceAnswers x bytes Done out) e a)
-trace_parts g h bytes e acc Unread out a = (acc, subst (λ x. TraceAnswers x bytes Unread out) e a)
-trace_parts g h bytes e acc Unlawful out a = (acc, subst (λ x. TraceAnswers x bytes Unlawful out) e a)
-trace_parts g h bytes e acc _ out a = absurd a.2
+pub trace_parts : (g h : GraphValue) (lines : ℕ) (bytes : List ℕ) → g ≡ h → Accepted h → (status : Status) (out : List ℕ) → TraceAnswers g lines bytes status out → PartsAnswer h lines bytes status out
+trace_parts g h lines bytes e acc Done out a = (acc, subst (λ x. TraceAnswers x lines bytes Done out) e a)
+trace_parts g h lines bytes e acc Unread out a = (acc, subst (λ x. TraceAnswers x lines bytes Unread out) e a)
+trace_parts g h lines bytes e acc Unlawful out a = (acc, subst (λ x. TraceAnswers x lines bytes Unlawful out) e a)
+trace_parts g h lines bytes e acc _ out a = absurd a.2
 
-pub rejected_parts : (g h : GraphValue) (bytes : List ℕ) → g ≡ h → (status : Status) (out : List ℕ) → Rejects g status out → PartsAnswer h bytes status out
-rejected_parts g h bytes e Unfit out r = subst (λ x. PartsAnswer x bytes Unfit out) e r
-rejected_parts g h bytes e _ out r = absurd r
+pub rejected_parts : (g h : GraphValue) (lines : ℕ) (bytes : List ℕ) → g ≡ h → (status : Status) (out : List ℕ) → Rejects g status out → PartsAnswer h lines bytes status out
+rejected_parts g h lines bytes e Unfit out r = subst (λ x. PartsAnswer x lines bytes Unfit out) e r
+rejected_parts g h lines bytes e _ out r = absurd r
 
-pub parts_audit : (bytes front back : List ℕ) → front ≡ graph_bytes bytes → back ≡ trace_bytes bytes → length bytes ≤ 2097152 → (g : GraphValue) → GraphText front g → (status : Status) (out : List ℕ) → PartsAnswer g back status out → AuditAnswers bytes status out
-parts_audit bytes front back f b short g t status out a = by_status status (subst (λ x. PartsAnswer g x status out) b a)
+pub parts_audit : (bytes front back : List ℕ) (lines : ℕ) → front ≡ graph_bytes bytes → lines ≡ newlines front → back ≡ trace_bytes bytes → length bytes ≤ 2097152 → (g : GraphValue) → GraphText front g → (status : Status) (out : List ℕ) → PartsAnswer g lines back status out → AuditAnswers bytes status out
+parts_audit bytes front back lines f n b short g t status out a = by_status status (subst (λ m. PartsAnswer g m (trace_bytes bytes) status out) (n ∙ ap newlines f) (subst (λ x. PartsAnswer g lines x status out) b a))
   where
     text : GraphText (graph_bytes bytes) g
     text = subst (λ x. GraphText x g) f t
 
-    by_status : (w : Status) → PartsAnswer g (trace_bytes bytes) w out → AuditAnswers bytes w out
+    by_status : (w : Status) → PartsAnswer g (newlines (graph_bytes bytes)) (trace_bytes bytes) w out → AuditAnswers bytes w out
     by_status Done p = (short, (g, text, p))
     by_status Unread p = (short, inr (g, text, p))
     by_status Unfit p = (short, (g, text, p))
@@ -100,11 +99,11 @@ refused_audit bytes front f short Unread out r = (short, inl (subst (λ x. Refus
 refused_audit bytes front f short _ out r = absurd r
 
 -- THE ANSWER IS THE ONE THAT IS ASKED FOR: a trace is lawful or not, and bytes are the text of one trace or of none
-module _ (tells : TextTells) (g : GraphValue) (fits : IsGraph g) (bytes : List ℕ) where
+module _ (tells : TextTells) (g : GraphValue) (fits : IsGraph g) (lines : ℕ) (bytes : List ℕ) where
   both_lawful : (trace other : List ℕ) → HasTrace g bytes trace → HasTrace g bytes other → IsLawful g trace → (IsLawful g other → ⊥) → ⊥
   both_lawful trace other h k law not = not (subst (IsLawful g) (tells g fits trace other h.lines k.lines (h.text ∙ sym k.text)) law)
 
-  one_parts : (s t : Status) (out : List ℕ) → PartsAnswer g bytes s out → PartsAsk g bytes t → s ≡ t
+  one_parts : (s t : Status) (out : List ℕ) → PartsAnswer g lines bytes s out → PartsAsk g bytes t → s ≡ t
   one_parts Done Done out a b = refl
   one_parts Done Unread out a b = absurd (b.1 (a.1).0 ((a.1).1).lines ((a.1).1).text)
   one_parts Done Unfit out a b = absurd (b a.0)
@@ -131,8 +130,8 @@ too_much : (bytes : List ℕ) → length bytes ≤ 2097152 → 2097152 < length 
 too_much bytes x y = omega arith
 
 module _ (tells : TextTells) (bytes : List ℕ) (one : OneReading (graph_bytes bytes)) where
-  by_graph : (s t : Status) (out : List ℕ) (g h : GraphValue) → GraphText (graph_bytes bytes) g → GraphText (graph_bytes bytes) h → PartsAnswer g (trace_bytes bytes) s out → PartsAsk h (trace_bytes bytes) t → s ≡ t
-  by_graph s t out g h u v a b = one_parts tells g u.is_graph (trace_bytes bytes) s t out a (subst (λ x. PartsAsk x (trace_bytes bytes) t) (one.one_graph h g v u) b)
+  by_graph : (s t : Status) (out : List ℕ) (g h : GraphValue) → GraphText (graph_bytes bytes) g → GraphText (graph_bytes bytes) h → PartsAnswer g (newlines (graph_bytes bytes)) (trace_bytes bytes) s out → PartsAsk h (trace_bytes bytes) t → s ≡ t
+  by_graph s t out g h u v a b = one_parts tells g u.is_graph (newlines (graph_bytes bytes)) (trace_bytes bytes) s t out a (subst (λ x. PartsAsk x (trace_bytes bytes) t) (one.one_graph h g v u) b)
 
   one_short : (s t : Status) (out : List ℕ) → ShortAnswers bytes s out → ShortAsks bytes t → s ≡ t
   one_short Unread Unread out a b = refl

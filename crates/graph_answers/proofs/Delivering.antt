@@ -15,7 +15,7 @@ use Rattle.graph_answers.specs.Refused.{IsRefused, IsUnfit, Refuses, Rejects}
 use Rattle.program_io.specs.Delivered.{Delivered}
 use Rattle.program_io.proofs.Public.{answered_as}
 use Rattle.graph_answers.specs.Delivered.{Delivers, IsAnswered}
-use Rattle.graph_answers.specs.Answer.{report_with, is_short, EndsByPaths, Served, Judged, InputAnswers, EnoughSlots, TooFewSlots, InputAsks}
+use Rattle.graph_answers.specs.Answer.{report_with, is_short, EndsByPaths, Served, Judged, TextAnswers, InputAnswers, EnoughSlots, TooFewSlots, TextAsks, InputAsks}
 use Rattle.graph_answers.specs.Status.{is_refusal}
 use Rattle.graph_answers.specs.Texts.{unfit_text}
 use Rattle.graph_terms.specs.Graph.{GraphValue}
@@ -70,39 +70,36 @@ few_or_enough request g (n, i, e) enough = true≢false (sym e ∙ enough n i)
 short_or_not : (request : Request) (bytes : List ℕ) → OneReading bytes → (g h : GraphValue) → GraphText bytes g → GraphText bytes h → TooFewSlots request g → EnoughSlots request h → ⊥
 short_or_not request bytes one g h t u few = few_or_enough request h (subst (TooFewSlots request) (one.one_graph g h t u) few)
 
--- the answer to an input is the one that it asks for
+-- the answer to bytes is the one that they ask for
+one_text : (request : Request) → OneNeed → (bytes : List ℕ) → OneReading bytes → (s t : Status) (o : List ℕ) → TextAnswers request bytes s o → TextAsks request bytes t → s ≡ t
+one_text request needs bytes one Done Done o a b = refl
+one_text request needs bytes one Done Unread o a b = absurd (b a.0 a.1)
+one_text request needs bytes one Done Unfit o a b = absurd (both_judged bytes one a.0 b.0 a.1 b.1 (a.2).0 b.2)
+one_text request needs bytes one Done Slots o a b = let w = (a.2).1 in absurd (short_or_not request bytes one b.0 a.0 b.1 a.1 b.3 (enough_by_need request needs a.0 w.0 w.1 w.2))
+one_text request needs bytes one Done _ o a b = absurd b
+one_text request needs bytes one Unread Done o a b = absurd (text_or_refused bytes o one b.0 b.1 a)
+one_text request needs bytes one Unread Unread o a b = refl
+one_text request needs bytes one Unread Unfit o a b = absurd (text_or_refused bytes o one b.0 b.1 a)
+one_text request needs bytes one Unread Slots o a b = absurd (text_or_refused bytes o one b.0 b.1 a)
+one_text request needs bytes one Unread _ o a b = absurd b
+one_text request needs bytes one Unfit Done o a b = absurd (both_judged bytes one b.0 a.0 b.1 a.1 b.2 (λ x. accepted_or_unfit a.0 o x a.2))
+one_text request needs bytes one Unfit Unread o a b = absurd (b a.0 a.1)
+one_text request needs bytes one Unfit Unfit o a b = refl
+one_text request needs bytes one Unfit Slots o a b = absurd (both_judged bytes one b.0 a.0 b.1 a.1 b.2 (λ x. accepted_or_unfit a.0 o x a.2))
+one_text request needs bytes one Unfit _ o a b = absurd b
+one_text request needs bytes one Slots Done o a b = let w = (a.2).1 in absurd (short_or_not request bytes one a.0 b.0 a.1 b.1 (w.0, w.1, w.2) b.3)
+one_text request needs bytes one Slots Unread o a b = absurd (b a.0 a.1)
+one_text request needs bytes one Slots Unfit o a b = absurd (both_judged bytes one a.0 b.0 a.1 b.1 (a.2).0 b.2)
+one_text request needs bytes one Slots Slots o a b = refl
+one_text request needs bytes one Slots _ o a b = absurd b
+one_text request needs bytes one _ t o a b = absurd (a.2).1
+
+-- and that to an input the one that it asks for
 pub one_answer : (request : Request) → OneNeed → (bytes : List ℕ) → OneReading bytes → (s t : Status) (o : List ℕ) → InputAnswers request bytes s o → InputAsks request bytes t → s ≡ t
-one_answer request needs bytes one Done Done o a b = refl
-one_answer request needs bytes one Done Unread o a b = absurd (b.1 a.0 a.1)
-one_answer request needs bytes one Done Unfit o a b = absurd (both_judged bytes one a.0 b.0 a.1 b.1 (a.2).0 b.2)
-one_answer request needs bytes one Done Slots o a b = let w = (a.2).1 in absurd (short_or_not request bytes one b.0 a.0 b.1 a.1 b.3 (enough_by_need request needs a.0 w.0 w.1 w.2))
-one_answer request needs bytes one Done TooLong o a b = absurd (too_short bytes (a.1).short b)
-one_answer request needs bytes one Done _ o a b = absurd b
-one_answer request needs bytes one Unread Done o a b = absurd (text_or_refused bytes o one b.0 b.1 a.1)
-one_answer request needs bytes one Unread Unread o a b = refl
-one_answer request needs bytes one Unread Unfit o a b = absurd (text_or_refused bytes o one b.0 b.1 a.1)
-one_answer request needs bytes one Unread Slots o a b = absurd (text_or_refused bytes o one b.0 b.1 a.1)
-one_answer request needs bytes one Unread TooLong o a b = absurd (too_short bytes a.0 b)
-one_answer request needs bytes one Unread _ o a b = absurd b
-one_answer request needs bytes one Unfit Done o a b = absurd (both_judged bytes one b.0 a.0 b.1 a.1 b.2 (λ x. accepted_or_unfit a.0 o x a.2))
-one_answer request needs bytes one Unfit Unread o a b = absurd (b.1 a.0 a.1)
-one_answer request needs bytes one Unfit Unfit o a b = refl
-one_answer request needs bytes one Unfit Slots o a b = absurd (both_judged bytes one b.0 a.0 b.1 a.1 b.2 (λ x. accepted_or_unfit a.0 o x a.2))
-one_answer request needs bytes one Unfit TooLong o a b = absurd (too_short bytes (a.1).short b)
-one_answer request needs bytes one Unfit _ o a b = absurd b
-one_answer request needs bytes one Slots Done o a b = let w = (a.2).1 in absurd (short_or_not request bytes one a.0 b.0 a.1 b.1 (w.0, w.1, w.2) b.3)
-one_answer request needs bytes one Slots Unread o a b = absurd (b.1 a.0 a.1)
-one_answer request needs bytes one Slots Unfit o a b = absurd (both_judged bytes one a.0 b.0 a.1 b.1 (a.2).0 b.2)
-one_answer request needs bytes one Slots Slots o a b = refl
-one_answer request needs bytes one Slots TooLong o a b = absurd (too_short bytes (a.1).short b)
-one_answer request needs bytes one Slots _ o a b = absurd b
-one_answer request needs bytes one TooLong Done o a b = absurd (too_short bytes (b.1).short a.0)
-one_answer request needs bytes one TooLong Unread o a b = absurd (too_short bytes b.0 a.0)
-one_answer request needs bytes one TooLong Unfit o a b = absurd (too_short bytes (b.1).short a.0)
-one_answer request needs bytes one TooLong Slots o a b = absurd (too_short bytes (b.1).short a.0)
 one_answer request needs bytes one TooLong TooLong o a b = refl
-one_answer request needs bytes one TooLong _ o a b = absurd b
-one_answer request needs bytes one _ t o a b = absurd (a.2).1
+one_answer request needs bytes one TooLong t o a b = absurd (too_short bytes b.0 a.0)
+one_answer request needs bytes one s TooLong o a b = absurd (too_short bytes a.0 b)
+one_answer request needs bytes one s t o a b = one_text request needs bytes one s t o a.1 b.1
 
 pub if_some : (o : Option (List ℕ)) (P : List ℕ → Type 0) → ((xs : List ℕ) → o ≡ Some xs → P xs) → IfSome o P
 if_some None P h = tt
@@ -113,11 +110,11 @@ pub refused_as : (A : Status → List ℕ → Type 0) (s t : SinkState) (result 
 refused_as A s t result h r = answered_as A s t result result h refl (λ e. true≢false (sym r ∙ ap is_refusal e)) (λ e. true≢false (sym r ∙ ap is_refusal e))
 
 -- what becomes of a graph that was read is the answer to its text, and so is what is refused
-pub judged_input : (request : Request) (bytes : List ℕ) (g : GraphValue) → GraphText bytes g → (status : Status) (out : List ℕ) → Judged request g status out → InputAnswers request bytes status out
-judged_input request bytes g h Done out j = (g, h, j)
-judged_input request bytes g h Unfit out j = (g, h, j)
-judged_input request bytes g h Slots out j = (g, h, j)
-judged_input request bytes g h _ out j = absurd j.1
+pub judged_input : (request : Request) (bytes : List ℕ) → length bytes ≤ 1048576 → (g : GraphValue) → GraphText bytes g → (status : Status) (out : List ℕ) → Judged request g status out → InputAnswers request bytes status out
+judged_input request bytes short g h Done out j = (short, (g, h, j))
+judged_input request bytes short g h Unfit out j = (short, (g, h, j))
+judged_input request bytes short g h Slots out j = (short, (g, h, j))
+judged_input request bytes short g h _ out j = absurd j.1
 
 pub refused_input : (request : Request) (bytes : List ℕ) → length bytes ≤ 1048576 → (status : Status) (out : List ℕ) → Refuses bytes status out → InputAnswers request bytes status out
 refused_input request bytes short Unread out r = (short, r)

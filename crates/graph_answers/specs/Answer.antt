@@ -121,11 +121,15 @@ abbrev pub Judged : Request → GraphValue → Status → List ℕ → Type 0
 Judged request g Unfit out = IsUnfit g out
 Judged request g status out = Accepted g × Served request g status out
 
--- the answer to an input of these bytes that is to be the text of a graph alone, and the text that goes with it
+-- the answer to bytes that are to be the text of a graph alone, and the text that goes with it
+abbrev pub TextAnswers : Request → List ℕ → Status → List ℕ → Type 0
+TextAnswers request bytes Unread out = IsRefused bytes out
+TextAnswers request bytes status out = (g : GraphValue) × GraphText bytes g × Judged request g status out
+
+-- the answer to an input of these bytes, which may be too long
 abbrev pub InputAnswers : Request → List ℕ → Status → List ℕ → Type 0
-InputAnswers request bytes Unread out = (length bytes ≤ MAX_TEXT) × IsRefused bytes out
 InputAnswers request bytes TooLong out = (MAX_TEXT < length bytes) × (out ≡ too_long_text)
-InputAnswers request bytes status out = (g : GraphValue) × GraphText bytes g × Judged request g status out
+InputAnswers request bytes status out = (length bytes ≤ MAX_TEXT) × TextAnswers request bytes status out
 
 -- an accepted graph is given slots enough, or too few. A graph has one need at most
 abbrev pub EnoughSlots : Request → GraphValue → Type 0
@@ -134,14 +138,18 @@ EnoughSlots request g = (need : ℕ) → IsNeed g need → is_short request need
 abbrev pub TooFewSlots : Request → GraphValue → Type 0
 TooFewSlots request g = (need : ℕ) × IsNeed g need × (is_short request need ≡ true)
 
--- the status that such an input asks for
+-- the status that such bytes ask for
+abbrev pub TextAsks : Request → List ℕ → Status → Type 0
+TextAsks request bytes Done = (g : GraphValue) × GraphText bytes g × Accepted g × EnoughSlots request g
+TextAsks request bytes Slots = (g : GraphValue) × GraphText bytes g × Accepted g × TooFewSlots request g
+TextAsks request bytes Unfit = (g : GraphValue) × GraphText bytes g × (Accepted g → ⊥)
+TextAsks request bytes Unread = (g : GraphValue) → GraphText bytes g → ⊥
+TextAsks request bytes status = ⊥
+
+-- the status that an input of these bytes asks for
 abbrev pub InputAsks : Request → List ℕ → Status → Type 0
-InputAsks request bytes Done = (g : GraphValue) × GraphText bytes g × Accepted g × EnoughSlots request g
-InputAsks request bytes Slots = (g : GraphValue) × GraphText bytes g × Accepted g × TooFewSlots request g
-InputAsks request bytes Unfit = (g : GraphValue) × GraphText bytes g × (Accepted g → ⊥)
-InputAsks request bytes Unread = (length bytes ≤ MAX_TEXT) × ((g : GraphValue) → GraphText bytes g → ⊥)
 InputAsks request bytes TooLong = MAX_TEXT < length bytes
-InputAsks request bytes status = ⊥
+InputAsks request bytes status = (length bytes ≤ MAX_TEXT) × TextAsks request bytes status
 
 -- an action that reads a graph alone was done with these bytes: they are the one text of an accepted graph, a run was given enough slots, and the text of the action was written and flushed
 pub record IsDone (request : Request) (bytes : List ℕ) (old new : SinkState) : Type 0 where

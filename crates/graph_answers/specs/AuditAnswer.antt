@@ -6,7 +6,7 @@ use Rattle.graph_meaning.specs.Rules.{Accepted}
 use Rattle.graph_meaning.specs.Trace.{IsLawful}
 use Rattle.graph_words.specs.Text.{GraphText}
 use Rattle.realm_audit.specs.Text.{trace_text}
-use Rattle.realm_audit.specs.Parts.{graph_bytes, trace_bytes}
+use Rattle.realm_audit.specs.Parts.{newlines, graph_bytes, trace_bytes}
 use Rattle.realm_audit.specs.Reading.{AreLines, IsNoText}
 use Rattle.realm_io.specs.SinkState.{SinkState}
 use Rattle.graph_answers.specs.declared.status.Status.{Status}
@@ -30,20 +30,20 @@ LawfulAnswers g trace Done out = IsLawful g trace × (out ≡ lawful_text)
 LawfulAnswers g trace Unlawful out = (IsLawful g trace → ⊥) × IsUnlawful g trace out
 LawfulAnswers g trace _ out = ⊥
 
--- what becomes of the bytes behind the text of an accepted graph, and the text that goes with it
-abbrev pub TraceAnswers : GraphValue → List ℕ → Status → List ℕ → Type 0
-TraceAnswers g bytes Unread out = IsNoTrace g bytes out
-TraceAnswers g bytes status out = (trace : List ℕ) × HasTrace g bytes trace × LawfulAnswers g trace status out
+-- what becomes of the bytes behind the text of an accepted graph, which has so many lines, and the text that goes with it
+abbrev pub TraceAnswers : GraphValue → ℕ → List ℕ → Status → List ℕ → Type 0
+TraceAnswers g lines bytes Unread out = IsNoTrace g lines bytes out
+TraceAnswers g lines bytes status out = (trace : List ℕ) × HasTrace g bytes trace × LawfulAnswers g trace status out
 
 -- what becomes of a graph that was read and of the bytes behind it, and the text that goes with it
-abbrev pub PartsAnswer : GraphValue → List ℕ → Status → List ℕ → Type 0
-PartsAnswer g bytes Unfit out = IsUnfit g out
-PartsAnswer g bytes status out = Accepted g × TraceAnswers g bytes status out
+abbrev pub PartsAnswer : GraphValue → ℕ → List ℕ → Status → List ℕ → Type 0
+PartsAnswer g lines bytes Unfit out = IsUnfit g out
+PartsAnswer g lines bytes status out = Accepted g × TraceAnswers g lines bytes status out
 
 -- the answer to an input of these bytes, and the text that goes with it
 abbrev pub ShortAnswers : List ℕ → Status → List ℕ → Type 0
-ShortAnswers bytes Unread out = IsRefused (graph_bytes bytes) out ⊎ ((g : GraphValue) × GraphText (graph_bytes bytes) g × PartsAnswer g (trace_bytes bytes) Unread out)
-ShortAnswers bytes status out = (g : GraphValue) × GraphText (graph_bytes bytes) g × PartsAnswer g (trace_bytes bytes) status out
+ShortAnswers bytes Unread out = IsRefused (graph_bytes bytes) out ⊎ ((g : GraphValue) × GraphText (graph_bytes bytes) g × PartsAnswer g (newlines (graph_bytes bytes)) (trace_bytes bytes) Unread out)
+ShortAnswers bytes status out = (g : GraphValue) × GraphText (graph_bytes bytes) g × PartsAnswer g (newlines (graph_bytes bytes)) (trace_bytes bytes) status out
 
 abbrev pub AuditAnswers : List ℕ → Status → List ℕ → Type 0
 AuditAnswers bytes TooLong out = (AUDIT_LIMIT < length bytes) × (out ≡ too_long_text)

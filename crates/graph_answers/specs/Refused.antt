@@ -2,7 +2,7 @@
 use Rattle.std.specs.Prelude.{◌≡◌, ℕ, ◌+◌, List, Some}
 use Rattle.graph_terms.specs.Graph.{GraphValue}
 use Rattle.graph_terms.specs.declared.why.Why.{Why}
-use Rattle.graph_reader.specs.FirstFault.{FirstFault, line_count}
+use Rattle.graph_reader.specs.FirstFault.{FirstFault}
 use Rattle.race_check.specs.declared.checked.CheckRefusal.{CheckRefusal}
 use Rattle.race_check.specs.Refusal.{IsRefusal}
 use Rattle.realm_audit.specs.declared.refusal.AuditRefusal.{AuditRefusal}
@@ -36,11 +36,11 @@ abbrev pub Rejects : GraphValue → Status → List ℕ → Type 0
 Rejects g Unfit out = IsUnfit g out
 Rejects g _ out = ⊥
 
--- the bytes behind the text of a graph are the text of no trace of it: the line of this number is the first with which none begins, counted behind the lines of the graph's text
-pub record IsNoTrace (g : GraphValue) (bytes out : List ℕ) : Type 0 where
+-- the bytes behind so many lines, those of the text of a graph, are the text of no trace of it: the line of this number is the first with which none begins, counted with those lines
+pub record IsNoTrace (g : GraphValue) (lines : ℕ) (bytes out : List ℕ) : Type 0 where
   pub number : ℕ
   pub refused : trace.IsRefusal g bytes (Line number)
-  pub says : out ≡ trace_refused_text (line_count g + 1 + number)
+  pub says : out ≡ trace_refused_text (lines + number)
 
 -- a fault of a trace that is not lawful, which no fault comes before
 pub record IsUnlawful (g : GraphValue) (trace out : List ℕ) : Type 0 where

@@ -1,6 +1,7 @@
 -- What `upgrade` is to answer, and what it is to write.
-use Rattle.std.specs.Prelude.{◌≡◌, ℕ, ◌<◌, ◌≤◌, List, length}
-use Rattle.graph_terms.specs.Graph.{GraphValue, upgraded}
+use Rattle.std.specs.Prelude.{◌≡◌, ℕ, ◌<◌, ◌≤◌, Bool, true, false, List, length}
+use Rattle.graph_terms.specs.declared.format.Format.TheVariants.{Three}
+use Rattle.graph_terms.specs.Graph.{GraphValue, written_in, upgraded}
 use Rattle.graph_terms.specs.declared.limits.TheConstants.{MAX_TEXT}
 use Rattle.graph_words.specs.Text.{GraphText, text}
 use Rattle.realm_io.specs.SinkState.{SinkState}
@@ -9,22 +10,27 @@ use Rattle.graph_answers.specs.declared.status.Status.TheVariants.{Done, Unread,
 use Rattle.program_io.specs.Delivered.{Delivered, too_long_text}
 use Rattle.graph_answers.specs.Refused.{IsRefused}
 
--- the answer to an input of these bytes, and the text that goes with it: the text of the graph in format 2, whether or not it is accepted
-abbrev pub UpgradeAnswers : List ℕ → Status → List ℕ → Type 0
-UpgradeAnswers bytes Done out = (g : GraphValue) × GraphText bytes g × (out ≡ text (upgraded g))
-UpgradeAnswers bytes Unread out = (length bytes ≤ MAX_TEXT) × IsRefused bytes out
-UpgradeAnswers bytes TooLong out = (MAX_TEXT < length bytes) × (out ≡ too_long_text)
-UpgradeAnswers bytes _ out = ⊥
+-- the graph that is written: that in format 3 where this is asked for
+abbrev pub upgrade_of : Bool → GraphValue → GraphValue
+upgrade_of true g = written_in Three g
+upgrade_of false g = upgraded g
+
+-- the answer to an input of these bytes, and the text that goes with it: the text of the graph in a later format, whether or not it is accepted
+abbrev pub UpgradeAnswers : Bool → List ℕ → Status → List ℕ → Type 0
+UpgradeAnswers to_three bytes Done out = (length bytes ≤ MAX_TEXT) × ((g : GraphValue) × GraphText bytes g × (out ≡ text (upgrade_of to_three g)))
+UpgradeAnswers to_three bytes Unread out = (length bytes ≤ MAX_TEXT) × IsRefused bytes out
+UpgradeAnswers to_three bytes TooLong out = (MAX_TEXT < length bytes) × (out ≡ too_long_text)
+UpgradeAnswers to_three bytes _ out = ⊥
 
 -- the status that an input of these bytes asks for
 abbrev pub UpgradeAsks : List ℕ → Status → Type 0
-UpgradeAsks bytes Done = (g : GraphValue) × GraphText bytes g
+UpgradeAsks bytes Done = (length bytes ≤ MAX_TEXT) × ((g : GraphValue) × GraphText bytes g)
 UpgradeAsks bytes Unread = (length bytes ≤ MAX_TEXT) × ((g : GraphValue) → GraphText bytes g → ⊥)
 UpgradeAsks bytes TooLong = MAX_TEXT < length bytes
 UpgradeAsks bytes _ = ⊥
 
--- an upgrade was done with these bytes: they are the one text of a graph, and its text in format 2 was written and flushed
-pub record IsUpgraded (bytes : List ℕ) (old new : SinkState) : Type 0 where
+-- an upgrade was done with these bytes: they are the one text of a graph, and its text in a later format, in format 3 where that is asked for, was written and flushed
+pub record IsUpgraded (to_three : Bool) (bytes : List ℕ) (old new : SinkState) : Type 0 where
   pub graph : GraphValue
   pub text_is : GraphText bytes graph
-  pub delivered : Delivered old new (text (upgraded graph))
+  pub delivered : Delivered old new (text (upgrade_of to_three graph))

@@ -4,7 +4,7 @@ ghost use Rattle.std.specs.Prelude.{◌≡◌, ◌≢◌, ℕ, ◌+◌, ◌<◌,
 ghost use Rattle.realm_audit.specs.Lawful.{NamesLines};
 ghost use Rattle.realm_audit.specs.Reading.{AreLines};
 ghost use Rattle.realm_audit.specs.declared.refusal.AuditRefusal.{AuditRefusal};
-ghost use Rattle.graph_reader.specs.FirstFault.{line_count};
+ghost use Rattle.realm_audit.specs.Parts.{newlines};
 ghost use Rattle.graph_answers.specs.AuditAnswer.{AUDIT_LIMIT, AuditAnswers, PartsAnswer, TraceAnswers, LawfulAnswers};
 ghost use Rattle.graph_answers.specs.Delivered.{Delivers, IsAnswered};
 ghost use Rattle.graph_answers.specs.Texts.{trace_refused_text, unlawful_text};
@@ -19,7 +19,7 @@ use plain_eval::evaluation::eval;
 use program_io::{flush, put_text};
 use race_check::check;
 use race_check::checked::Checked;
-use realm_audit::{AuditRefusal, TraceRefusal, audit, parts, read_trace};
+use realm_audit::{AuditRefusal, TraceRefusal, audit, newlines, parts, read_trace};
 use realm_io::Sink;
 use std::alloc::Global;
 
@@ -31,51 +31,54 @@ pub fn answer_audit<K: Sink>(alloc: Global, bytes: &[u8], sink: &mut K) -> Statu
 {
     let (front, back) = parts(bytes);
     match read_graph(alloc, front) {
-        Ok(graph) => audit_graph(alloc, graph, back, sink),
+        Ok(graph) => audit_graph(alloc, graph, newlines(front), back, sink),
         Err(refusal) => refuse(sink, refusal),
     }
 }
 
-/// Checks a graph, and judges the trace behind it where the graph is accepted.
-fn audit_graph<K: Sink>(alloc: Global, graph: Graph, back: &[u8], sink: &mut K) -> Status
+/// Checks a graph, whose text has so many lines, and judges the trace behind it where the graph is accepted.
+fn audit_graph<K: Sink>(
+    alloc: Global,
+    graph: Graph,
+    lines: u32,
+    back: &[u8],
+    sink: &mut K,
+) -> Status
     requires short { length back.now < 2 ^ 32 }
-    ensures settled { IsAnswered (PartsAnswer graph back.now) (K.state sink.old) (K.state sink.new) result }
+    ensures settled { IsAnswered (PartsAnswer graph lines back.now) (K.state sink.old) (K.state sink.new) result }
     ensures no_memory { result ≡ Status.NoMemory → sink.new ≡ sink.old }
 {
     match check(alloc, graph) {
-        Ok(checked) => audit_trace(alloc, &checked, back, sink),
+        Ok(checked) => audit_trace(alloc, &checked, lines, back, sink),
         Err(unfit) => reject(sink, &unfit),
     }
 }
 
-/// Reads the trace behind a graph that is accepted, and judges it.
-fn audit_trace<K: Sink>(alloc: Global, checked: &Checked, back: &[u8], sink: &mut K) -> Status
+/// Reads the trace behind an accepted graph, whose text has so many lines, and judges it.
+fn audit_trace<K: Sink>(
+    alloc: Global,
+    checked: &Checked,
+    lines: u32,
+    back: &[u8],
+    sink: &mut K,
+) -> Status
     requires short { length back.now < 2 ^ 32 }
-    ensures read { IsAnswered (TraceAnswers checked.now.graph back.now) (K.state sink.old) (K.state sink.new) result }
+    ensures read { IsAnswered (TraceAnswers checked.now.graph lines back.now) (K.state sink.old) (K.state sink.new) result }
     ensures no_memory { result ≡ Status.NoMemory → sink.new ≡ sink.old }
 {
     let graph = checked.graph();
     match read_trace(alloc, graph, back) {
         Ok(trace) => judge_trace(alloc, checked, &trace, sink),
-        Err(TraceRefusal::Line(number)) => put_no_trace(sink, graph, number),
+        Err(TraceRefusal::Line(number)) => put_no_trace(sink, lines, number),
         Err(TraceRefusal::NoMemory) => Status::NoMemory,
     }
 }
 
-/// The number of a line behind the text of a graph, counted with the lines of that text.
-fn number_behind(graph: &Graph, number: u32) -> u64
-    ensures { result ≡ line_count graph.now + 1 + number }
+/// Writes that a line is refused which has this number behind so many lines of a graph's text.
+fn put_no_trace<K: Sink>(sink: &mut K, lines: u32, number: u32) -> Status
+    ensures { Delivers (K.state sink.old) (K.state sink.new) Status.Unread result (trace_refused_text (lines + number)) }
 {
-    // the lines of the text that are no items are its first and its last
-    u64::from(graph.decls()) + u64::from(graph.lines()) + 2 + u64::from(number)
-}
-
-/// Writes that this line behind the text of a graph is refused.
-fn put_no_trace<K: Sink>(sink: &mut K, graph: &Graph, number: u32) -> Status
-    ensures { Delivers (K.state sink.old) (K.state sink.new) Status.Unread result
-        (trace_refused_text (line_count graph.now + 1 + number)) }
-{
-    match put_trace_refused(sink, number_behind(graph, number)) {
+    match put_trace_refused(sink, u64::from(lines) + u64::from(number)) {
         Ok(()) => flush(sink, Status::Unread),
         Err(_) => Status::WriteFault,
     }

@@ -49,7 +49,7 @@ unmade_kept seed size h = record {
 
 lines_join : (fm : Format) (decls : List Decl) (a b c : List Line) → LinesFit fm decls a b → LinesFit fm decls (a ++ b) c → LinesFit fm decls a (b ++ c)
 lines_join fm decls a [] c f g = subst (λ x. LinesFit fm decls x c) (append-nil a) g
-lines_join fm decls a (l ∷ b) c f g = (f.0, f.1, lines_join fm decls (a ++ l ∷ []) b c f.2 (subst (λ x. LinesFit fm decls x c) (sym (append_assoc a (l ∷ []) b)) g))
+lines_join fm decls a (l ∷ b) c f g = (f.0, f.1, lines_join fm decls (a ++ l ∷ []) b c f.2 (subst (λ x. LinesFit fm decls x c) (sym (append_assoc a (l ∷ []) b)) g), f.3)
 
 -- the row that is taken is open
 taken_open : (d : Draw) (lasts : List (Option ℕ)) (left : ℕ) → is_open (row_taken d lasts left) d lasts left ≡ true
@@ -143,7 +143,7 @@ kept_draws seed size h k (suc n) =
 
 pub decls_fit : DeclsFit One [] made_decls
 unfolding digits
-decls_fit = ((refl, (lit< tt, (lit≤ tt, lit≤ tt, lit< tt, tt))), refl, ((refl, lit< tt, (refl, tt)), refl, ((refl, lit< tt, (refl, tt)), refl, ((refl, lit< tt, (refl, tt)), refl, ((refl, lit< tt, (refl, tt)), refl, ((refl, lit< tt, (refl, tt)), refl, ((refl, lit< tt, (refl, tt)), refl, ((refl, lit< tt, (refl, tt)), refl, ((refl, lit< tt, (refl, tt)), refl, ((refl, lit< tt, (refl, tt)), refl, (refl, refl, tt)))))))))))
+decls_fit = ((refl, (lit< tt, (lit≤ tt, lit≤ tt, lit< tt, tt))), refl, ((refl, lit< tt, (refl, tt)), refl, ((refl, lit< tt, (refl, tt)), refl, ((refl, lit< tt, (refl, tt)), refl, ((refl, lit< tt, (refl, tt)), refl, ((refl, lit< tt, (refl, tt)), refl, ((refl, lit< tt, (refl, tt)), refl, ((refl, lit< tt, (refl, tt)), refl, ((refl, lit< tt, (refl, tt)), refl, ((refl, lit< tt, (refl, tt)), refl, (refl, refl, tt, refl), refl), refl), refl), refl), refl), refl), refl), refl), refl), refl)
 
 pub made_size : (seed size : ℕ) → seed < 2 ^ 64 → size ≤ 8192 → length (made_graph seed size).lines ≡ size
 made_size seed size h k =

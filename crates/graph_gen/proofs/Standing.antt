@@ -19,7 +19,7 @@ use Rattle.graph_terms.specs.Edges.{edges, line_edges}
 use Rattle.graph_terms.specs.Fits.{first_reason, repeats, is_used, with_line, is_beyond, verb_repeats, line_unknown, verb_unlike, takes_no_on, format_lacks, verb_misnumbered, access_outside, arrives_late, merges_many, line_fault, IsVerb, IsLine, LinesFit}
 use Rattle.graph_terms.specs.Spelling.{spelled, verb_words, on_words, line_words, line_name, head}
 use Rattle.graph_model.proofs.CountLaws.{spelled_size}
-use Rattle.graph_terms.proofs.Public.{head_with_line, edges_push}
+use Rattle.graph_terms.proofs.Public.{head_with_line, edges_push, long_names}
 use Rattle.graph_gen.specs.MadeGraph.{made_decls, made_name, made_line}
 use Rattle.graph_gen.proofs.LineNames.{made_is_name, made_differ, made_short}
 
@@ -177,7 +177,7 @@ module _ (ls : List Line) (n : ℕ) (v : Verb) (on : Option ℕ) (count : length
       fits.known (both_false (verb_unlike (lined ls) v) ((takes_no_on v && is_some on) || format_lacks One v) unlike.0 (both_false (takes_no_on v && is_some on) (format_lacks One v) bare.0 there.0)) counted.0 fits.within late.0 (both_false (merges_many v) (is_beyond (with_line (lined ls) next)) late.1 beyond_not)
 
   next_is_line : IsLine next
-  next_is_line = record { named = made_is_name n (omega arith); values = fits.values }
+  next_is_line = record { named = long_names (made_name n) (made_is_name n (omega arith)); values = fits.values }
 
 -- lines that fit one after the other, and what holds of all then
 pub record RowFits (ls row : List Line) : Type 0 where
@@ -189,6 +189,6 @@ row_end ls st = record { lines = tt; standing = subst Standing (sym (append-nil 
 
 pub row_more : (ls rest : List Line) (n : ℕ) (v : Verb) (on : Option ℕ) → length ls ≡ n → n < 8192 → Standing ls → NextFits ls v on → RowFits (ls ++ made_line n v on ∷ []) rest → RowFits ls (made_line n v on ∷ rest)
 row_more ls rest n v on count room st fits more = record {
-  lines = (next_is_line ls n v on count room st fits, next_faultless ls n v on count room st fits, more.lines);
+  lines = (next_is_line ls n v on count room st fits, next_faultless ls n v on count room st fits, more.lines, made_is_name n (omega (arith, room)));
   standing = subst Standing (append_assoc ls (made_line n v on ∷ []) rest) more.standing;
 }

@@ -1,9 +1,8 @@
 //! The names of a graph.
 
-ghost use Rattle.std.specs.Prelude.{◌≡◌, ℕ, ◌<◌, List, Some, None, cond, length, option_copied, OnOk, OnErr};
-ghost use Rattle.std.specs.List.{slice_index_or};
+ghost use Rattle.std.specs.Prelude.{◌≡◌, ℕ, ◌<◌, List, Some, None, cond, length, option_copied, slice_get, OnOk, OnErr};
 ghost use Rattle.std.specs.Str.{bytes_eq};
-ghost use Rattle.graph_indexes.specs.Names.{named, slot_of, mixed, entry_at, IsOwn, IsOther};
+ghost use Rattle.graph_indexes.specs.Names.{named, slot_of, mixed, first_of, seat_of, told_by, next_by};
 
 use graph_terms::found::Found;
 use graph_terms::name::Name;
@@ -13,22 +12,38 @@ use std::alloc::Global;
 use std::collections::BTreeMap;
 use std::marker::Model;
 
-/// How many slots there are: about two for each line that a graph may have.
-const SLOTS: usize = 16_384;
+/// How many slots there are: one for each line that a graph may have.
+const SLOTS: usize = 8_192;
+
+/// How many entries of a chain are looked at.
+const STEPS: usize = 8;
 
 /// A name and what it stands for: nothing, where it was taken out again.
 #[derive(Clone, Copy)]
 pub(crate) struct Entry {
     name: Name,
     found: Option<Found>,
+    /// The number of the next entry of its chain.
+    next: Option<u32>,
 }
 
-/// A hash table in which a name has the one slot that its bytes give. Where another name has it,
-/// the name is in an ordered map: so names that all ask for one slot cost what they do there.
+/// Where a name is.
+#[derive(Clone, Copy)]
+pub(crate) enum Seat {
+    /// The entry of this number has it.
+    Own(u32),
+    /// Its chain has no such entry, and a place for one.
+    Free,
+    /// Its chain has no place for it: it is in the map, if anywhere.
+    Full,
+}
+
+/// A hash table in which the names of a slot are in one chain, the last one first. Where the chain is
+/// long, further names are in an ordered map: so names that all ask for one slot cost what they do there.
 #[derive(Drop)]
 pub struct Names {
     alloc: Global,
-    /// For each slot the number of the entry that has it. There is none before there is a name.
+    /// For each slot the number of the first entry of its chain. There is none before there is a name.
     slots: Vec<Option<u32>>,
     entries: Vec<Entry>,
     others: BTreeMap<Name, Found>,
@@ -61,13 +76,11 @@ impl Names {
     pub fn get(&self, name: &Name) -> Option<Found>
         ensures { result ≡ named self.now name.now }
     {
-        let Some(entry) = self.entry_at(slot_of(name)) else {
-            return None;
-        };
-        if entry.name != *name {
-            return self.others.get(name).copied();
+        match self.seat(name) {
+            Seat::Own(number) => self.told_by(number),
+            Seat::Free => None,
+            Seat::Full => self.others.get(name).copied(),
         }
-        entry.found
     }
 
     /// Puts a name in. `NoMemory` leaves the names as they were.
@@ -76,45 +89,77 @@ impl Names {
         ensures err { OnErr result ((q : List ℕ) → named self.new q ≡ named self.old q) }
     {
         self.make_slots()?;
-        let slot = slot_of(&name);
-        let Some(entry) = self.entry_at(slot) else {
-            return self.insert_at(slot, name, found);
-        };
-        if entry.name == name {
-            self.set(slot, &name, Some(found));
-            return Ok(());
+        match self.seat(&name) {
+            Seat::Own(number) => {
+                self.set(number, &name, Some(found));
+                Ok(())
+            }
+            Seat::Free => self.insert_first(name, found),
+            Seat::Full => self.insert_beside(name, found),
         }
-        self.insert_beside(name, found)
     }
 
     /// Takes a name out.
     pub fn remove(&mut self, name: &Name)
         ensures { (q : List ℕ) → named self.new q ≡ cond (bytes_eq name.now q) None (named self.old q) }
     {
-        let slot = slot_of(name);
-        let Some(entry) = self.entry_at(slot) else {
-            return;
-        };
-        if entry.name == *name {
-            self.set(slot, name, None);
-        } else {
-            self.others.remove(name);
+        match self.seat(name) {
+            Seat::Own(number) => self.set(number, name, None),
+            Seat::Free => {}
+            Seat::Full => self.remove_beside(name),
         }
     }
 
-    /// The entry that has a slot.
-    fn entry_at(&self, slot: usize) -> Option<&Entry>
-        ensures { option_copied result ≡ entry_at self.now slot }
+    /// Where a name is.
+    fn seat(&self, name: &Name) -> Seat
+        ensures { result ≡ seat_of self.now name.now }
     {
-        match self.number_at(slot) {
-            Some(number) => self.entries.get(number as usize),
+        let mut link = self.first_of(slot_of(name));
+        for _turn in 0..STEPS {
+            let Some(number) = link else {
+                return Seat::Free;
+            };
+            let Some(entry) = self.entry(number) else {
+                return Seat::Free;
+            };
+            if entry.name == *name {
+                return Seat::Own(number);
+            }
+            link = entry.next;
+        }
+        Seat::Full
+    }
+
+    /// The entry of a number.
+    fn entry(&self, number: u32) -> Option<&Entry>
+        ensures { option_copied result ≡ slice_get self.now.entries number }
+    {
+        self.entries.get(number as usize)
+    }
+
+    /// What the entry of a number tells.
+    fn told_by(&self, number: u32) -> Option<Found>
+        ensures { result ≡ told_by (slice_get self.now.entries number) }
+    {
+        match self.entries.get(number as usize) {
+            Some(entry) => entry.found,
             None => None,
         }
     }
 
-    /// The number of the entry that has a slot.
-    fn number_at(&self, slot: usize) -> Option<u32>
-        ensures { result ≡ slice_index_or self.now.slots slot None }
+    /// The number behind the entry of a number in its chain.
+    fn next_of(&self, number: u32) -> Option<u32>
+        ensures { result ≡ next_by (slice_get self.now.entries number) }
+    {
+        match self.entries.get(number as usize) {
+            Some(entry) => entry.next,
+            None => None,
+        }
+    }
+
+    /// The number of the first entry of the chain of a slot.
+    fn first_of(&self, slot: usize) -> Option<u32>
+        ensures { result ≡ first_of self.now slot }
     {
         match self.slots.get(slot) {
             Some(number) => *number,
@@ -133,11 +178,10 @@ impl Names {
         Ok(())
     }
 
-    /// Gives a slot that no entry has to a name.
-    fn insert_at(&mut self, slot: usize, name: Name, found: Found) -> Result<(), NoMemory>
-        requires slot { slot ≡ slot_of name }
-        requires within { slot < length self.old.slots }
-        requires free { entry_at self.old slot ≡ None }
+    /// Puts a name that has a place in its chain before the others there.
+    fn insert_first(&mut self, name: Name, found: Found) -> Result<(), NoMemory>
+        requires all { length self.old.slots ≡ SLOTS }
+        requires free { seat_of self.old name ≡ Seat.Free }
         ensures ok { OnOk result ((q : List ℕ) → named self.new q ≡ cond (bytes_eq name q) (Some found) (named self.old q)) }
         ensures err { OnErr result (self.new ≡ self.old) }
     {
@@ -146,18 +190,20 @@ impl Names {
         if number > 4_294_967_295 {
             return Err(NoMemory);
         }
+        let slot = slot_of(&name);
         let entry = Entry {
             name,
             found: Some(found),
+            next: self.first_of(slot),
         };
         push(&mut self.entries, entry)?;
         self.slots[slot] = Some(number as u32);
         Ok(())
     }
 
-    /// Puts a name into the map, whose slot another name has.
+    /// Puts a name into the map, whose chain has no place for it.
     fn insert_beside(&mut self, name: Name, found: Found) -> Result<(), NoMemory>
-        requires { IsOther self.old name }
+        requires { seat_of self.old name ≡ Seat.Full }
         ensures ok { OnOk result ((q : List ℕ) → named self.new q ≡ cond (bytes_eq name q) (Some found) (named self.old q)) }
         ensures err { OnErr result (self.new ≡ self.old) }
     {
@@ -167,14 +213,25 @@ impl Names {
         Ok(())
     }
 
-    /// Changes what a name stands for, which has this slot.
-    fn set(&mut self, slot: usize, name: &Name, found: Option<Found>)
-        requires { IsOwn self.old slot name.now }
+    /// Takes a name out of the map, whose chain has no place for it.
+    fn remove_beside(&mut self, name: &Name)
+        requires { seat_of self.old name.now ≡ Seat.Full }
+        ensures { (q : List ℕ) → named self.new q ≡ cond (bytes_eq name.now q) None (named self.old q) }
+    {
+        self.others.remove(name);
+    }
+
+    /// Changes what a name stands for, which has the entry of this number.
+    fn set(&mut self, number: u32, name: &Name, found: Option<Found>)
+        requires { seat_of self.old name.now ≡ Seat.Own number }
         ensures { (q : List ℕ) → named self.new q ≡ cond (bytes_eq name.now q) found (named self.old q) }
     {
-        if let Some(number) = self.number_at(slot) {
-            self.entries[number as usize] = Entry { name: *name, found };
-        }
+        let next = self.next_of(number);
+        self.entries[number as usize] = Entry {
+            name: *name,
+            found,
+            next,
+        };
     }
 }
 
@@ -187,7 +244,7 @@ fn slot_of(name: &Name) -> usize
     for byte in name.bytes() {
         hash = mixed(hash, *byte);
     }
-    (hash / 1_125_899_906_842_624) as usize
+    (hash / 2_251_799_813_685_248) as usize
 }
 
 /// A hash with one more byte.

@@ -16,10 +16,14 @@ use Rattle.graph_meaning.specs.Evaluation.{Step, end_by, is_ended, has_ended, ce
 use Rattle.basics.proofs.ListFacts.{some_passes, passes_some, filter_contains, contains_filter}
 use Rattle.graph_meaning.proofs.Waiting.{end_in_left, end_in_ended, steps_end_with, ends_in_order_with, ended_cases, step_with-line, lowest_ready_is}
 use Rattle.graph_meaning.proofs.Turns.{ends_by_turn_with}
+use Rattle.graph_meaning.specs.Laws.{EndedLinesStand}
 
 -- a line with an end has ended
 pub has_ended_of : (does : Effects) (first : Cells) (g : GraphValue) (i : ℕ) → is_ended (end_with does first g i) ≡ true → has_ended (evaluation_with does first g) i ≡ true
 has_ended_of does first g i h = true_from_ne_false (has_ended (evaluation_with does first g) i) (λ f. true≢false (sym h ∙ ap is_ended (end_in_left (evaluation_with does first g) i f)))
+
+pub ended_lines_stand : EndedLinesStand
+ended_lines_stand does first g k h = ((ends_in_order_with does first g).each k (has_ended_of does first g k h)).0
 
 is_ended_of : (does : Effects) (first : Cells) (g : GraphValue) (i : ℕ) → has_ended (evaluation_with does first g) i ≡ true → is_ended (end_with does first g i) ≡ true
 is_ended_of does first g i h = end_in_ended (evaluation_with does first g) i (steps_end_with does first g (length g.lines)) h

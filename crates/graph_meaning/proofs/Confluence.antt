@@ -23,7 +23,7 @@ use Rattle.graph_terms.specs.Access.{accesses, verb_accesses, in_format, or_writ
 use Rattle.graph_meaning.specs.Rules.{Accepted}
 use Rattle.graph_meaning.specs.Effect.{Cells, zero_cells, Change, CellChange, cells_after, Effect, Effects, effect, verb_changes, verb_verdict, touches, Untouched}
 use Rattle.graph_meaning.specs.Evaluation.{Step, has_ended, changes_in, cells_with, cells_of, is_cancelled, made_by, step_by, step_with, lowest_ready, advance_by_with, steps_with, steps_after, evaluation_with, evaluation, order_with, changes_with, eval_changes, cells_by_with, cells_of_lines_with, cells_of_lines}
-use Rattle.graph_meaning.specs.Laws.{FitsMode, IsWithinAccess, IsReadyAmongWith, IsReadyAmong, KeepsToAccesses}
+use Rattle.graph_meaning.specs.Laws.{FitsMode, IsWithinAccess, IsReadyAmongWith, IsReadyAmong, KeepsToAccesses, CellsByAllLines}
 use Rattle.basics.proofs.ListFacts.{contains_none, contains_here, contains_there, contains_map, some_passes, passes_some, map_contains, filter_contains}
 use Rattle.graph_meaning.proofs.PathLaws.{back_path}
 use Rattle.graph_meaning.proofs.Races.{commute_parts, before_ended, path_or_exempt}
@@ -106,7 +106,7 @@ effect_within space cells (Some v) x c = changes_within space cells v x c
 -- a change within an access is within it list a format takes it
 fits_or_write : (fm : Format) (m : Mode) (c : Change) → FitsMode m c → FitsMode (or_write fm m) c
 fits_or_write One m c h = tt
-fits_or_write Two m c h = h
+fits_or_write f m c h = h
 
 fits_in : (fm : Format) (m : Mode) (c : Change) → FitsMode m c → FitsMode (mode_in fm m) c
 fits_in fm Read c h = h
@@ -428,14 +428,10 @@ pub same_cells : (does : Effects) (first : Cells) (g : GraphValue) → Accepted 
 same_cells does first g accepted keeps i before turn ended put r c p =
     cell_is_put_back_with does first g accepted keeps i before turn ended (put c) c p r.closed r.ready r.left (r.out c) (r.put_ready c) (kept_at does first g i ended put r c p)
 
+pub cells_by_all_lines : CellsByAllLines
+cells_by_all_lines does first g = ap (cells_after first) (flat_map_lines_with does first g (evaluation_with does first g) (λ s c. steps_found_with does first g (length g.lines) s c))
+
 -- the same with the effects of the graph's verbs, and cells of 0
-pub steps_found : (g : GraphValue) (n : ℕ) → StepsFound (steps_after g n)
-steps_found g n = steps_found_with (effect g) zero_cells g n
-
-pub flat_map_lines : (g : GraphValue) (ss : List Step) → ((s : Step) → Contains ss s → eval_changes g s.line ≡ s.changes) →
-    flat_map (λ (s : Step). s.changes) ss ≡ flat_map (eval_changes g) (map (λ (s : Step). s.line) ss)
-flat_map_lines g ss h = flat_map_lines_with (effect g) zero_cells g ss h
-
 pub change_access : (g : GraphValue) (k : ℕ) (x : CellChange) → Contains (eval_changes g k) x → IsWithinAccess (space_at g) (accesses g k) x
 change_access g k x c = change_access_with (effect g) zero_cells g (verbs_keep g) k x c
 

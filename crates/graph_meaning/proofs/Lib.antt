@@ -12,7 +12,7 @@ pub mod Changes
 pub mod Confluence
 pub mod GraphLaws
 pub mod RulesTable
-pub mod UpgradeMeaning
+pub mod LaterFormats
 pub mod OrderLaws
 pub mod LineFacts
 pub mod HeldCellsLaws

@@ -1,5 +1,5 @@
 -- The laws that the proofs of other crates cite, as specs/ states them.
-use Rattle.graph_meaning.specs.Laws.{ReadyOrNeverBefore, CellRestsOnItself, CellsAfterBoth, UntouchedCellStays, ListedPointsLieWithin, PathsAppend, PathAndEdge, PassesAlongPaths, PassesBackAlongPaths, ReachedNeverIsPhase, PathsStayBelow, AccessesConflictBack, ModesCommuteBack, LinesConflictBack, ExemptBack, CommutingModes, ConflictHasPathOrExempt, BeforeEndedHasEnded, StepsHaveTurns, EndsByItsTurn, LaterStepKeepsEnd, LastStepGivesEnd, EndedByStep, StepsEndLines, StepOfLine, StepEndsLine, WaitsWhereLeft, EvaluationInOrder, ReachedWaits, LeftIsReached, LowestReadyIsReady, EndedStaysEnded, LastStepEnds, EndedBeforeOrByLast, ReadyLinesPass}
+use Rattle.graph_meaning.specs.Laws.{ReadyOrNeverBefore, CellRestsOnItself, CellsAfterBoth, UntouchedCellStays, ListedPointsLieWithin, PathsAppend, PathAndEdge, PassesAlongPaths, PassesBackAlongPaths, ReachedNeverIsPhase, PathsStayBelow, AccessesConflictBack, ModesCommuteBack, LinesConflictBack, ExemptBack, CommutingModes, ConflictHasPathOrExempt, BeforeEndedHasEnded, StepsHaveTurns, EndsByItsTurn, LaterStepKeepsEnd, LastStepGivesEnd, EndedByStep, StepsEndLines, StepOfLine, StepEndsLine, WaitsWhereLeft, EvaluationInOrder, ReachedWaits, LeftIsReached, LowestReadyIsReady, EndedStaysEnded, LastStepEnds, EndedBeforeOrByLast, ReadyLinesPass, EndedLinesStand, CellsByAllLines}
 use Rattle.graph_meaning.proofs.ReadyLine as ready_line
 use Rattle.graph_meaning.proofs.Changes as changes
 use Rattle.std.specs.Prelude.{ℕ, List}
@@ -11,6 +11,8 @@ use Rattle.graph_meaning.proofs.LineFacts as line_facts
 use Rattle.graph_meaning.proofs.Races as races
 use Rattle.graph_meaning.proofs.Turns as turns
 use Rattle.graph_meaning.proofs.Waiting as waiting
+use Rattle.graph_meaning.proofs.Cancelled as cancelled
+use Rattle.graph_meaning.proofs.Confluence as confluence
 
 pub ready_or_never : ReadyOrNeverBefore
 ready_or_never = ready_line.ready_or_never
@@ -128,3 +130,9 @@ ended_cases = waiting.ended_cases
 
 pub ready_passes : ReadyLinesPass
 ready_passes = waiting.ready_passes
+
+pub ended_lines_stand : EndedLinesStand
+ended_lines_stand = cancelled.ended_lines_stand
+
+pub cells_by_all_lines : CellsByAllLines
+cells_by_all_lines = confluence.cells_by_all_lines

@@ -6,14 +6,16 @@ use Rattle.graph_terms.specs.declared.verb.Access.{Access}
 use Rattle.graph_terms.specs.declared.verb.Edge.{Edge}
 use Rattle.graph_terms.specs.declared.verb.Mode.{Mode}
 use Rattle.graph_terms.specs.declared.verb.Mode.TheVariants.{Read, Write, Sum, Least, Most}
-use Rattle.graph_terms.specs.Graph.{GraphValue, upgraded, never_comes, space_at, line_passes, is_phase}
+use Rattle.graph_terms.specs.declared.format.Format.{Format}
+use Rattle.graph_terms.specs.Format.{has_since}
+use Rattle.graph_terms.specs.Graph.{GraphValue, written_in, upgraded, never_comes, space_at, line_passes, is_phase}
 use Rattle.graph_terms.specs.Edges.{edges}
 use Rattle.graph_meaning.specs.Path.{HasPath, Reached, Path}
 use Rattle.graph_terms.specs.Access.{accesses, is_reduction, AccessesConflict, Conflict}
 use Rattle.graph_meaning.specs.Rules.{NoCycleAt, Everywhere, Accepted, modes_commute, Exempt}
 use Rattle.graph_meaning.specs.Effect as change
 use Rattle.graph_meaning.specs.Effect.{Cells, zero_cells, Change, Add, CellChange, cells_after, Effects, effect, Untouched}
-use Rattle.graph_meaning.specs.Evaluation.{Step, outcome, is_ended, is_cancelled, step_by, evaluation_with, order_with, order, end_with, eval_end, changes_with, eval_changes, cells_of_lines_with, UnbrokenBy, Unbroken, steps_after, has_ended, evaluation, end_in, step_of, lowest_ready, is_ready}
+use Rattle.graph_meaning.specs.Evaluation.{Step, outcome, is_ended, is_cancelled, step_by, evaluation_with, order_with, order, end_with, eval_end, changes_with, eval_changes, cells_with, cells_by_with, cells_of_lines_with, UnbrokenBy, Unbroken, steps_after, has_ended, evaluation, end_in, step_of, lowest_ready, is_ready}
 use Rattle.graph_terms.specs.Fits.{IsGraph}
 use Rattle.graph_meaning.specs.Need.{IsNeed}
 use Rattle.graph_meaning.specs.Trace.{ListsEndedBy, ListsEnded, IsLawful, SectionsApart}
@@ -172,9 +174,17 @@ OneNeed = (g : GraphValue) (n m : ℕ) → IsNeed g n → IsNeed g m → n ≡ m
 abbrev pub SectionsNeverOverlap : Type 0
 SectionsNeverOverlap = (g : GraphValue) (trace : List ℕ) → IsGraph g → Accepted g → IsLawful g trace → SectionsApart g trace
 
--- where a graph is accepted, the same graph in format 2 is too, with the same need and the same outcome
+-- where a graph is accepted, another is too, with the same need and the same outcome
+abbrev pub KeepsMeaning : GraphValue → GraphValue → Type 0
+KeepsMeaning g h = (Accepted g → Accepted h) × ((n : ℕ) → IsNeed g n → IsNeed h n) × ((trace : List ℕ) → outcome h trace ≡ outcome g trace)
+
+-- the same graph in a later format, or in its own, keeps its meaning
+abbrev pub LaterFormatsKeepMeaning : Type 0
+LaterFormatsKeepMeaning = (f : Format) (g : GraphValue) → has_since g.format f ≡ true → KeepsMeaning g (written_in f g)
+
+-- so the graph that an upgrade writes does
 abbrev pub UpgradeKeepsMeaning : Type 0
-UpgradeKeepsMeaning = (g : GraphValue) → (Accepted g → Accepted (upgraded g)) × ((n : ℕ) → IsNeed g n → IsNeed (upgraded g) n) × ((trace : List ℕ) → outcome (upgraded g) trace ≡ outcome g trace)
+UpgradeKeepsMeaning = (g : GraphValue) → KeepsMeaning g (upgraded g)
 
 -- without cycles each line that has not ended has a ready line before it, or one that never comes
 abbrev pub ReadyOrNeverBefore : Type 0
@@ -317,3 +327,11 @@ EndedBeforeOrByLast = (ss : List Step) (s : Step) (k : ℕ) → has_ended (ss ++
 -- a line that is ready passes as one
 abbrev pub ReadyLinesPass : Type 0
 ReadyLinesPass = (g : GraphValue) (ss : List Step) (k : ℕ) → IsReadyLine (edges g) (length g.lines) (never_comes g) (has_ended ss) k → is_ready g ss k ≡ true
+
+-- a line that ends in an evaluation is a line of the graph
+abbrev pub EndedLinesStand : Type 0
+EndedLinesStand = (does : Effects) (first : Cells) (g : GraphValue) (k : ℕ) → is_ended (end_with does first g k) ≡ true → k < length g.lines
+
+-- the cells of an evaluation are those after its lines, each with its changes
+abbrev pub CellsByAllLines : Type 0
+CellsByAllLines = (does : Effects) (first : Cells) (g : GraphValue) → cells_with first (evaluation_with does first g) ≡ cells_by_with does first g (order_with does first g)

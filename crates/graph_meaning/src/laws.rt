@@ -1,6 +1,6 @@
 //! What holds of all graphs, for callers to cite. No function here does anything.
 
-ghost use Rattle.graph_meaning.specs.Laws.{PathsCompose, EdgesBetweenLines, ChangesWithinAccesses, ReadyWhereUnreached, WaitsWhereReached, WaitsWhereReachedWith, CancelledWhereUnbroken, CancelledWhereUnbrokenWith, OrderListsEnded, OrderListsEndedWith, ChangesNameEachCellOnce, VerbsKeepToAccesses, OrderIrrelevant, OrderIrrelevantWith, OneNeed, SectionsNeverOverlap, UpgradeKeepsMeaning};
+ghost use Rattle.graph_meaning.specs.Laws.{PathsCompose, EdgesBetweenLines, ChangesWithinAccesses, ReadyWhereUnreached, WaitsWhereReached, WaitsWhereReachedWith, CancelledWhereUnbroken, CancelledWhereUnbrokenWith, OrderListsEnded, OrderListsEndedWith, ChangesNameEachCellOnce, VerbsKeepToAccesses, OrderIrrelevant, OrderIrrelevantWith, OneNeed, SectionsNeverOverlap, LaterFormatsKeepMeaning, UpgradeKeepsMeaning};
 
 use index_spaces::laws::points_ascend;
 
@@ -96,7 +96,13 @@ pub fn sections_never_overlap()
     ensures { SectionsNeverOverlap }
 {}
 
-/// Where a graph is accepted, the same graph in format 2 is accepted too, with the same need and the
+/// Where a graph is accepted, the same graph in a later format is accepted too, with the same need and the
+/// same outcome.
+pub fn later_formats_keep_meaning()
+    ensures { LaterFormatsKeepMeaning }
+{}
+
+/// Where a graph is accepted, the graph that an upgrade writes is accepted too, with the same need and the
 /// same outcome.
 pub fn upgrade_keeps_meaning()
     ensures { UpgradeKeepsMeaning }

@@ -8,7 +8,7 @@ use Rattle.std.proofs.lemmas.List.Elements.{filter-append, Contains-append_left}
 use Rattle.std.proofs.lemmas.List.Folds.{list_any-append}
 use Rattle.std.proofs.lemmas.List.Sums.{sum_by-append, sum_by-le}
 use Rattle.graph_terms.specs.declared.format.Format.{Format}
-use Rattle.graph_terms.specs.declared.format.Format.TheVariants.{One, Two}
+use Rattle.graph_terms.specs.declared.format.Format.TheVariants.{One}
 use Rattle.graph_terms.specs.declared.decl.Decl.{Decl}
 use Rattle.graph_indexes.specs.declared.mark.Mark.{Mark}
 use Rattle.graph_indexes.specs.declared.side.Side.TheVariants.{From, To}
@@ -89,7 +89,7 @@ all_or_none false w h = omega arith
 
 most_few : (f : Format) → most_weight f ≤ 8192
 most_few One = omega arith
-most_few Two = omega arith
+most_few f = omega arith
 
 -- an arrival that fits counts for no more than a barrier may ask for
 weight_few : (f : Format) (p : ℕ) (v : Verb) → verb_misnumbered f v ≡ false → arrival_weight p v ≤ 8192

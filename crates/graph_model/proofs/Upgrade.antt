@@ -1,11 +1,11 @@
--- A graph of format 2 with the declarations and lines of another: it is a graph, its text is as long, and what is kept beside it stays.
-use Rattle.std.proofs.Common.{◌≡◌, ℕ, ◌+◌, ◌≤◌, Bool, false, ◌&&◌, ◌||◌, List, [], ◌∷◌, ◌++◌, length, map, refl, sym, ◌∙◌, ap, subst, length-append, arith}
+-- A graph of a later format with the declarations and lines of another: it is a graph, its text is as long, and what is kept beside it stays.
+use Rattle.std.proofs.Common.{◌≡◌, ℕ, ◌+◌, ◌≤◌, Bool, true, false, ◌&&◌, ◌||◌, List, [], ◌∷◌, ◌++◌, length, map, refl, sym, ◌∙◌, ap, subst, length-append, arith}
 use Rattle.std.specs.Prelude.{Option, Some, None, codes, nat_lt, nat_le, nat_eq, filter, MatchOption, is_some}
 use Rattle.std.specs.Option.{option_map_or}
 use Rattle.std.specs.List.{list_any}
-use Rattle.std.proofs.lemmas.Bool.{or_parts, or_from, ltb-false, le-ltb}
+use Rattle.std.proofs.lemmas.Bool.{false≢true, or_parts, or_from, ltb-false, le-ltb}
 use Rattle.graph_terms.specs.declared.format.Format.{Format}
-use Rattle.graph_terms.specs.declared.format.Format.TheVariants.{One, Two}
+use Rattle.graph_terms.specs.declared.format.Format.TheVariants.{One, Two, Three}
 use Rattle.graph_terms.specs.declared.decl.Decl.{Decl}
 use Rattle.graph_terms.specs.declared.decl.Decl.TheVariants as decl
 use Rattle.graph_terms.specs.declared.found.Found.{Found}
@@ -18,7 +18,8 @@ use Rattle.graph_terms.specs.declared.verb.Verb.{Verb}
 use Rattle.graph_terms.specs.declared.verb.Verb.TheVariants.{Merge, MergeIgnore, Arrive}
 use Rattle.graph_terms.specs.declared.why.Why.{Why}
 use Rattle.graph_terms.specs.declared.why.Why.TheVariants as why
-use Rattle.graph_terms.specs.Graph.{GraphValue, upgraded, decl_name, columns, locks, barriers}
+use Rattle.graph_terms.specs.Format.{has_since}
+use Rattle.graph_terms.specs.Graph.{GraphValue, written_in, decl_name, columns, locks, barriers}
 use Rattle.graph_terms.specs.Edges.{edges}
 use Rattle.graph_terms.specs.Table.{verb_kind, verb_placed, kind_words, any_placed}
 use Rattle.graph_terms.specs.Access.{verb_accesses}
@@ -30,7 +31,7 @@ use Rattle.graph_indexes.specs.Rows.{RowsValue, AreRowsOf}
 use Rattle.graph_indexes.specs.Tables.{IsWithinLimits}
 use Rattle.graph_indexes.specs.declared.counts.Counts.{Counts}
 use Rattle.graph_indexes.specs.Counts.{counts_of}
-use Rattle.graph_terms.proofs.Public.{none_first, kind_fits, none_lacks}
+use Rattle.graph_terms.proofs.Public.{none_first, kind_fits, later_verbs, later_names, later_decls}
 
 -- the same declarations and lines in a format
 abbrev of : Format → List Decl → List Line → GraphValue
@@ -81,6 +82,7 @@ bodies f h ds ls = ap (λ t. t ++ lines_text f ds [] ls) (decls_texts f h [] ds)
 header_length : (f : Format) → length (header f) ≡ 8
 header_length One = refl
 header_length Two = refl
+header_length Three = refl
 
 pub heads_alike : (f h : Format) (ds : List Decl) (ls : List Line) → length (head (of f ds ls)) ≡ length (head (of h ds ls))
 heads_alike f h ds ls =
@@ -112,9 +114,10 @@ decl_faults_alike f h ds d =
     decl_reasons : Bool → Bool → Bool → Bool → Option Why
     decl_reasons a b c e = first_reason ((a, why.Twice) ∷ (b, why.Unknown) ∷ (c, why.Number) ∷ (e, why.Limit) ∷ [])
 
-decls_fit_in : (f h : Format) (before ds : List Decl) → DeclsFit f before ds → DeclsFit h before ds
-decls_fit_in f h before [] fits = tt
-decls_fit_in f h before (d ∷ ds) fits = (fits.0, sym (decl_faults_alike f h before d) ∙ fits.1, decls_fit_in f h (before ++ d ∷ []) ds fits.2)
+decls_fit_in : (f h : Format) → has_since f h ≡ true → (before ds : List Decl) → DeclsFit f before ds → DeclsFit h before ds
+decls_fit_in f h since before [] fits = tt
+decls_fit_in f h since before (d ∷ ds) fits =
+    (fits.0, sym (decl_faults_alike f h before d) ∙ fits.1, decls_fit_in f h since (before ++ d ∷ []) ds fits.2, later_decls f h since d fits.3)
 
 -- the tests of a line
 places_repeat : (f h : Format) (ds : List Decl) (ls : List Line) → place_repeats (of f ds ls) ≡ place_repeats (of h ds ls)
@@ -147,42 +150,44 @@ arrive_late : (f h : Format) (ds : List Decl) (ls : List Line) (v : Verb) → ar
 arrive_late f h ds ls (Arrive phase value weight) = refl
 arrive_late f h ds ls v = refl
 
-most_few : (f : Format) → most_weight f ≤ 8192
-most_few One = omega arith
-most_few Two = omega arith
+-- a weight of a format is one of each later format
+weights : (f h : Format) → has_since f h ≡ true → most_weight f ≤ most_weight h
+weights One One s = omega arith
+weights One Two s = omega arith
+weights One Three s = omega arith
+weights Two One s = absurd (false≢true s)
+weights Three One s = absurd (false≢true s)
+weights f h s = omega arith
 
--- a weight of format 1 is one of format 2
-numbers_fit : (f : Format) (v : Verb) → verb_misnumbered f v ≡ false → verb_misnumbered Two v ≡ false
-numbers_fit f (Merge events) h = h
-numbers_fit f (MergeIgnore events) h = h
-numbers_fit f (Arrive phase value weight) h =
-    let parts = or_parts (nat_lt weight 1) (nat_lt (most_weight f) weight) h in
+numbers_fit : (f h : Format) → has_since f h ≡ true → (v : Verb) → verb_misnumbered f v ≡ false → verb_misnumbered h v ≡ false
+numbers_fit f h s (Merge events) e = e
+numbers_fit f h s (MergeIgnore events) e = e
+numbers_fit f h s (Arrive phase value weight) e =
+    let parts = or_parts (nat_lt weight 1) (nat_lt (most_weight f) weight) e in
     let most : weight ≤ most_weight f = ltb-false (most_weight f) weight parts.1 in
-    let few : most_weight f ≤ 8192 = most_few f in
-    or_from (nat_lt weight 1) (nat_lt 8192 weight) parts.0 (le-ltb 8192 weight (omega arith))
-numbers_fit f v h = refl
+    let more : most_weight f ≤ most_weight h = weights f h s in
+    or_from (nat_lt weight 1) (nat_lt (most_weight h) weight) parts.0 (le-ltb (most_weight h) weight (omega (arith, most, more)))
+numbers_fit f h s v e = refl
 
-line_fits_in : (f : Format) (ds : List Decl) (ls : List Line) (l : Line) → line_fault (of f ds ls) l ≡ None → line_fault (of Two ds ls) l ≡ None
-line_fits_in f ds ls l fits =
+line_fits_in : (f h : Format) → has_since f h ≡ true → (ds : List Decl) (ls : List Line) (l : Line) → line_fault (of f ds ls) l ≡ None → line_fault (of h ds ls) l ≡ None
+line_fits_in f h since ds ls l fits =
     let number : verb_misnumbered f l.verb ≡ false = none_first (line_tests (of f ds ls) l) fits (verb_misnumbered f l.verb, why.Number) (3, omega arith, refl) in
-    let two : verb_misnumbered Two l.verb ≡ false = numbers_fit f l.verb number in
+    let later : verb_misnumbered h l.verb ≡ false = numbers_fit f h since l.verb number in
     let g : GraphValue = of f ds ls in
-    let h : GraphValue = of Two ds ls in
     let columns_repeat : Bool = repeats nat_eq (map (λ (a : Access). a.column) (verb_accesses l.verb)) in
     let lines_unknown : Bool = list_any (λ i. nat_le (length ls) i) (named_lines l.verb ++ on_lines l.on) in
     let reaches_unknown : Bool = list_any (access_unknown g) (verb_accesses l.verb) in
-    let outside : Bool = list_any (access_outside g) (verb_accesses l.verb) in
     let no_on : Bool = takes_no_on l.verb && is_some l.on in
     let lacks : format_lacks f l.verb ≡ false = (kind_fits g l fits).2 in
     line_reasons_same _ _ _ _ _ _ _ _ _ _ _ _ _ _
-    (ap (λ b. is_used g l.name || (b || columns_repeat)) (sym (verbs_repeat f Two ds ls l.verb)))
-    (ap (λ (t : Place → ℕ → Bool). lines_unknown || (any_placed t (verb_placed l.verb) || reaches_unknown)) (sym (places_unknown f Two ds ls)))
-    (ap (λ (t : Place → ℕ → Bool). any_placed t (verb_placed l.verb) || (no_on || format_lacks Two l.verb)) (sym (places_unlike f Two ds ls))
-    ∙ ap (λ b. verb_unlike g l.verb || (no_on || b)) (none_lacks l.verb ∙ sym lacks))
-    (two ∙ sym number)
+    (ap (λ b. is_used g l.name || (b || columns_repeat)) (sym (verbs_repeat f h ds ls l.verb)))
+    (ap (λ (t : Place → ℕ → Bool). lines_unknown || (any_placed t (verb_placed l.verb) || reaches_unknown)) (sym (places_unknown f h ds ls)))
+    (ap (λ (t : Place → ℕ → Bool). any_placed t (verb_placed l.verb) || (no_on || format_lacks h l.verb)) (sym (places_unlike f h ds ls))
+    ∙ ap (λ b. verb_unlike g l.verb || (no_on || b)) (later_verbs f h since l.verb lacks ∙ sym lacks))
+    (later ∙ sym number)
     refl
-    (sym (arrive_late f Two ds ls l.verb))
-    (ap (λ b. merges_many l.verb || b) (beyond_alike Two f ds (ls ++ l ∷ [])))
+    (sym (arrive_late f h ds ls l.verb))
+    (ap (λ b. merges_many l.verb || b) (beyond_alike h f ds (ls ++ l ∷ [])))
     ∙ fits
   where
     line_reasons_same : (a a' b b' c c' d d' e e' x x' y y' : Bool) → a ≡ a' → b ≡ b' → c ≡ c' → d ≡ d' → e ≡ e' → x ≡ x' → y ≡ y' →
@@ -190,54 +195,54 @@ line_fits_in f ds ls l fits =
         ≡ first_reason ((a', why.Twice) ∷ (b', why.Unknown) ∷ (c', why.Kind) ∷ (d', why.Number) ∷ (e', why.Outside) ∷ (x', why.Arrivals) ∷ (y', why.Limit) ∷ [])
     line_reasons_same a a' b b' c c' d d' e e' x x' y y' p q r s t u v = cc
 
-lines_fit_in : (f : Format) (ds : List Decl) (before ls : List Line) → LinesFit f ds before ls → LinesFit Two ds before ls
-lines_fit_in f ds before [] fits = tt
-lines_fit_in f ds before (l ∷ ls) fits = (fits.0, line_fits_in f ds before l fits.1, lines_fit_in f ds (before ++ l ∷ []) ls fits.2)
+lines_fit_in : (f h : Format) → has_since f h ≡ true → (ds : List Decl) (before ls : List Line) → LinesFit f ds before ls → LinesFit h ds before ls
+lines_fit_in f h since ds before [] fits = tt
+lines_fit_in f h since ds before (l ∷ ls) fits =
+    (fits.0, line_fits_in f h since ds before l fits.1, lines_fit_in f h since ds (before ++ l ∷ []) ls fits.2, later_names f h since l.name fits.3)
 
 -- it is a graph
-pub upgraded_fits : (g : GraphValue) → IsGraph g → IsGraph (upgraded g)
-upgraded_fits g h = record { decls = decls_fit_in g.format Two [] g.decls h.decls; lines = lines_fit_in g.format g.decls [] g.lines h.lines }
+pub written_fits : (h : Format) (g : GraphValue) → has_since g.format h ≡ true → IsGraph g → IsGraph (written_in h g)
+written_fits h g since f = record { decls = decls_fit_in g.format h since [] g.decls f.decls; lines = lines_fit_in g.format h since g.decls [] g.lines f.lines }
 
 -- within the same limits
-pub upgraded_limits : (g : GraphValue) → IsWithinLimits g → IsWithinLimits (upgraded g)
-upgraded_limits g h = record {
-  few_decls = h.few_decls;
-  few_lines = h.few_lines;
-  few_spaces = h.few_spaces;
-  few_columns = h.few_columns;
-  few_locks = h.few_locks;
-  few_barriers = h.few_barriers;
-  short_text = subst (λ n. n ≤ 1048576) (heads_alike g.format Two g.decls g.lines) h.short_text;
-  few_insts = h.few_insts;
-  few_cells = h.few_cells;
-  few_edges = h.few_edges;
+pub written_limits : (h : Format) (g : GraphValue) → IsWithinLimits g → IsWithinLimits (written_in h g)
+written_limits h g w = record {
+  few_decls = w.few_decls;
+  few_lines = w.few_lines;
+  few_spaces = w.few_spaces;
+  few_columns = w.few_columns;
+  few_locks = w.few_locks;
+  few_barriers = w.few_barriers;
+  short_text = subst (λ n. n ≤ 1048576) (heads_alike g.format h g.decls g.lines) w.short_text;
+  few_insts = w.few_insts;
+  few_cells = w.few_cells;
+  few_edges = w.few_edges;
 }
 
-stands : (g : GraphValue) (name : List ℕ) (x : Found) → StandsFor g name x → StandsFor (upgraded g) name x
-stands g name (found.Space s) h = h
-stands g name (found.Inst d) h = h
-stands g name (found.Lock l) h = h
-stands g name (found.Barrier b) h = h
-stands g name (found.Line i) h = h
+stands : (h : Format) (g : GraphValue) (name : List ℕ) (x : Found) → StandsFor g name x → StandsFor (written_in h g) name x
+stands h g name (found.Space s) e = e
+stands h g name (found.Inst d) e = e
+stands h g name (found.Lock l) e = e
+stands h g name (found.Barrier b) e = e
+stands h g name (found.Line i) e = e
 
-named_by : (g : GraphValue) (name : List ℕ) (o : Option Found) → MatchOption o (is_used g name ≡ false) (StandsFor g name) → MatchOption o (is_used (upgraded g) name ≡ false) (StandsFor (upgraded g) name)
-named_by g name None h = h
-named_by g name (Some x) h = stands g name x h
+named_by : (h : Format) (g : GraphValue) (name : List ℕ) (o : Option Found) → MatchOption o (is_used g name ≡ false) (StandsFor g name) → MatchOption o (is_used (written_in h g) name ≡ false) (StandsFor (written_in h g) name)
+named_by h g name None e = e
+named_by h g name (Some x) e = stands h g name x e
 
 -- with the same names, rows and quantities
-pub upgraded_names : (g : GraphValue) (names : NamesValue) → AreNamesOf g names → AreNamesOf (upgraded g) names
-upgraded_names g names h = record { each = λ name. named_by g name (named names name) (h.each name) }
+pub written_names : (h : Format) (g : GraphValue) (names : NamesValue) → AreNamesOf g names → AreNamesOf (written_in h g) names
+written_names h g names e = record { each = λ name. named_by h g name (named names name) (e.each name) }
 
-pub upgraded_rows : (g : GraphValue) (rows : RowsValue) → AreRowsOf g rows → AreRowsOf (upgraded g) rows
-upgraded_rows g rows a = record { into_count = a.into_count; from_count = a.from_count; mark_count = a.mark_count; into = a.into; from = a.from; mark = a.mark }
+pub written_rows : (h : Format) (g : GraphValue) (rows : RowsValue) → AreRowsOf g rows → AreRowsOf (written_in h g) rows
+written_rows h g rows a = record { into_count = a.into_count; from_count = a.from_count; mark_count = a.mark_count; into = a.into; from = a.from; mark = a.mark }
 
-pub upgraded_counts : (g : GraphValue) → counts_of g ≡ counts_of (upgraded g)
-upgraded_counts g = ap (λ n. with_text n (counts_of g)) (heads_alike g.format Two g.decls g.lines)
+pub written_counts : (h : Format) (g : GraphValue) → counts_of g ≡ counts_of (written_in h g)
+written_counts h g = ap (λ n. with_text n (counts_of g)) (heads_alike g.format h g.decls g.lines)
   where
     with_text : ℕ → Counts → Counts
     with_text n c = record { text = n; insts = c.insts; columns = c.columns; cells = c.cells; locks = c.locks; barriers = c.barriers; lines = c.lines; edges = c.edges }
 
 -- the quantities of a graph without items
 pub empty_counts : (f : Format) → counts_of (of One [] []) ≡ counts_of (of f [] [])
-empty_counts One = refl
-empty_counts Two = upgraded_counts (of One [] [])
+empty_counts f = written_counts f (of One [] [])

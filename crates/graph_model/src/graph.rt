@@ -7,6 +7,9 @@ pub(crate) mod repeats;
 mod sizes;
 pub(crate) mod words;
 
+ghost use Rattle.std.specs.Prelude.{◌≡◌};
+ghost use Rattle.graph_terms.specs.Graph.{upgraded_format};
+
 use crate::graph::edges::list_edges;
 use graph_indexes::counts::Counts;
 use graph_indexes::mark::Mark;
@@ -99,9 +102,11 @@ impl Model for Graph {
 }
 
 impl Graph {
-    ghost use Rattle.std.specs.Prelude.{◌≡◌, [], length, ◌<◌, ◌≤◌, slice_get, position, false, None, OnOk, OnErr, IfOk, IfSome, MatchOption, option_map};
-    ghost use Rattle.graph_terms.specs.declared.format.Format.TheVariants.{One};
-    ghost use Rattle.graph_terms.specs.Graph.{upgraded, verb_at, named_spaces, space_of, columns, locks, barriers, space_at, column_space, never_comes, line_passes, is_shared, ends_user, is_release_of};
+    ghost use Rattle.std.specs.Prelude.{◌≡◌, [], length, ◌<◌, ◌≤◌, slice_get, position, true, false, None, OnOk, OnErr, IfOk, IfSome, IsTrue, MatchOption, option_map};
+    ghost use Rattle.graph_terms.specs.declared.format.Format.TheVariants.{One, Three};
+    ghost use Rattle.graph_terms.specs.Format.{has_since};
+    ghost use Rattle.graph_terms.specs.Name.{is_name_in};
+    ghost use Rattle.graph_terms.specs.Graph.{written_in, upgraded_format, upgraded, verb_at, named_spaces, space_of, columns, locks, barriers, space_at, column_space, never_comes, line_passes, is_shared, ends_user, is_release_of};
     ghost use Rattle.std.specs.List.{list_any};
     ghost use Rattle.graph_indexes.specs.Rows.{mark_of};
     ghost use Rattle.graph_terms.specs.Edges.{edges_into, edges_out_of};
@@ -109,7 +114,7 @@ impl Graph {
     ghost use Rattle.std.specs.Option.{option_map_or};
     ghost use Rattle.graph_indexes.specs.Counts.{counts_of};
     ghost use Rattle.graph_terms.specs.Names.{StandsFor, found_decl, is_column_named};
-    ghost use Rattle.graph_terms.specs.Fits.{IsGraph, IsDecl, IsLine, decl_fault, line_fault, with_decl, with_line, is_used};
+    ghost use Rattle.graph_terms.specs.Fits.{IsGraph, IsDecl, is_decl_named, IsLine, decl_fault, line_fault, with_decl, with_line, is_used};
 
     /// The graph of format 1 with no declaration and no line. It takes no memory.
     pub fn new(alloc: Global) -> Graph
@@ -138,6 +143,7 @@ impl Graph {
     /// Puts a declaration at the end, before any line. `NoMemory` leaves the graph as it was.
     pub fn add_decl(&mut self, decl: Decl) -> Result<(), NoMemory>
         requires is_decl { IsDecl decl }
+        requires named { IsTrue (is_decl_named self.old.format decl) }
         requires fits { decl_fault self.old decl ≡ None }
         requires first { self.old.lines ≡ [] }
         ensures ok { OnOk result (self.new ≡ with_decl self.old decl) }
@@ -161,6 +167,7 @@ impl Graph {
     /// Puts a line at the end. `NoMemory` leaves the graph as it was.
     pub fn add_line(&mut self, line: Line) -> Result<(), NoMemory>
         requires is_line { IsLine line }
+        requires named { IsTrue (is_name_in self.old.format line.name) }
         requires fits { line_fault self.old line ≡ None }
         ensures ok { OnOk result (self.new ≡ with_line self.old line) }
         ensures err { OnErr result (self.new ≡ self.old) }
@@ -173,7 +180,8 @@ impl Graph {
     /// Puts a line at the end, where it fits; else the first reason that refuses it, and the graph
     /// stays as it was. `NoMemory` leaves it so too.
     pub fn offer_line(&mut self, line: Line) -> Result<Option<Why>, NoMemory>
-        requires { line_fault self.old line ≡ None → IsLine line }
+        requires is_line { line_fault self.old line ≡ None → IsLine line }
+        requires named { line_fault self.old line ≡ None → IsTrue (is_name_in self.old.format line.name) }
         ensures fault { IfOk result (λ why. why ≡ line_fault self.old line) }
         ensures added { OnOk result (line_fault self.old line ≡ None → self.new ≡ with_line self.old line) }
         ensures stays { IfOk result (λ why. IfSome why (λ w. self.new ≡ self.old)) }
@@ -192,6 +200,7 @@ impl Graph {
     /// graph as it was.
     fn push_line(&mut self, line: Line, accesses: Accesses, counts: Counts) -> Result<(), NoMemory>
         requires is_line { IsLine line }
+        requires named { IsTrue (is_name_in self.old.format line.name) }
         requires fits { line_fault self.old line ≡ None }
         requires accesses { accesses ≡ kept_accesses line.verb }
         requires counts { counts ≡ counts_of (with_line self.old line) }
@@ -221,11 +230,28 @@ impl Graph {
         self.format
     }
 
-    /// The graph of format 2 with the same declarations and lines. It takes no memory.
-    pub fn upgrade(mut self) -> Graph
+    /// The graph of format 2 with the same declarations and lines, or of format 3 where it has that.
+    /// It takes no memory.
+    pub fn upgrade(self) -> Graph
         ensures { result ≡ upgraded self }
     {
-        self.format = Format::Two;
+        let format = upgraded_format(self.format);
+        self.written_in(format)
+    }
+
+    /// The graph of format 3 with the same declarations and lines. It takes no memory.
+    pub fn write_in_three(self) -> Graph
+        ensures { result ≡ written_in Three self }
+    {
+        self.written_in(Format::Three)
+    }
+
+    /// The graph of a later format with the same declarations and lines.
+    fn written_in(mut self, format: Format) -> Graph
+        requires { has_since self.format format ≡ true }
+        ensures { result ≡ written_in format self }
+    {
+        self.format = format;
         self
     }
 
@@ -468,5 +494,15 @@ impl Graph {
             Decl::Lock { .. } => Found::Lock(self.locks()),
             Decl::Barrier { .. } => Found::Barrier(self.barriers()),
         }
+    }
+}
+
+/// The format in which a graph of this format is written anew.
+fn upgraded_format(format: Format) -> Format
+    ensures { result ≡ upgraded_format format }
+{
+    match format {
+        Format::Three => Format::Three,
+        _ => Format::Two,
     }
 }

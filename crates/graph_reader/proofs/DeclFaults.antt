@@ -15,7 +15,7 @@ use Rattle.index_spaces.specs.Space.{space_size}
 use Rattle.std.proofs.lemmas.Option.{none-some, same_Some}
 use Rattle.std.proofs.lemmas.Grind.{flat_map-append}
 use Rattle.std.proofs.lemmas.List.{length-map}
-use Rattle.graph_terms.specs.Name.{is_name}
+use Rattle.graph_terms.specs.Name.{is_name_in}
 use Rattle.graph_terms.specs.Fits.{first_reason, repeats, is_used, decl_fault, is_beyond, with_decl}
 use Rattle.graph_words.specs.Words.{pieces, count_of, value_of, intervals_of, ascend_from, is_fields}
 use Rattle.graph_words.specs.Draft.{Draft, NewName, SpaceName, space_with, inst_with, lock_with, barrier_with, space_number}
@@ -42,7 +42,7 @@ lock_by : (u : Bool) (rest : Option Why) (more : Option Why) → rest ≡ cond (
 lock_by true rest more h = sym h
 lock_by false rest more h = refl
 
-pub lock_is : (g : GraphValue) (name new : List ℕ) → is_name name ≡ true → new ≡ name → draft_fault g (lock_with name) ≡ decl_fault g (decl.Lock new)
+pub lock_is : (g : GraphValue) (name new : List ℕ) → is_name_in g.format name ≡ true → new ≡ name → draft_fault g (lock_with name) ≡ decl_fault g (decl.Lock new)
 lock_is g name new h e =
     ap (λ b. or_else (first_reason ((not b || false, why.Name) ∷ ((is_used g name || false) || (false || false), why.Twice) ∷ (false, why.Unknown) ∷ (false, why.Kind) ∷ (false, why.Number) ∷ (false, why.Space) ∷ [])) (decl_fault g (decl.Lock name))) h
     ∙ (lock_by (is_used g name) (decl_fault g (decl.Lock name)) _ refl ∙ ap (λ n. decl_fault g (decl.Lock n)) (sym e))
@@ -54,10 +54,10 @@ and_no : (b : Bool) → (b && false) ≡ false
 and_no true = refl
 and_no false = refl
 
-pub fine_name : (g : GraphValue) (name : List ℕ) → is_name name ≡ true → is_used g name ≡ false → IsFine g NewName name
+pub fine_name : (g : GraphValue) (name : List ℕ) → is_name_in g.format name ≡ true → is_used g name ≡ false → IsFine g NewName name
 fine_name g name h u = record { named = ap not h; once = u; known = refl; alike = refl; numbered = refl; ordered = refl }
 
-pub barrier_is : (g : GraphValue) (name new arrivals first : List ℕ) (op : Op) (count value : ℕ) → is_name name ≡ true → new ≡ name → is_used g name ≡ false → count_of arrivals ≡ Some count → value_of first ≡ Some value →
+pub barrier_is : (g : GraphValue) (name new arrivals first : List ℕ) (op : Op) (count value : ℕ) → is_name_in g.format name ≡ true → new ≡ name → is_used g name ≡ false → count_of arrivals ≡ Some count → value_of first ≡ Some value →
     (draft_fault g (barrier_with name arrivals op first) ≡ decl_fault g (decl.Barrier new count op value)) × ((barrier_with name arrivals op first).item ≡ inl (decl.Barrier new count op value))
 barrier_is g name new arrivals first op count value h e u c v =
     let i : (barrier_with name arrivals op first).item ≡ inl (decl.Barrier new count op value) =
@@ -186,7 +186,7 @@ space_ok g name is s result e f h = subst (λ r. IsDeclBy r (decl.Space name is)
 abbrev as_space : List ℕ → List (ℕ × ℕ) → Decl ⊎ Line
 as_space name is = inl (decl.Space name is)
 
-space_six : (g : GraphValue) (name w : List ℕ) (rest : Option Why) (is : List (ℕ × ℕ)) → is_name name ≡ true → is_used g name ≡ false → intervals_of w ≡ Some is → ascend_from 0 is ≡ false →
+space_six : (g : GraphValue) (name w : List ℕ) (rest : Option Why) (is : List (ℕ × ℕ)) → is_name_in g.format name ≡ true → is_used g name ≡ false → intervals_of w ≡ Some is → ascend_from 0 is ≡ false →
     or_else (first_reason (draft_tests g (space_with name w))) rest ≡ Some why.Space
 space_six g name w rest is n u i a =
     ap (λ b. or_else (first_reason ((not b || (false || false), why.Name) ∷ ((is_used g name || (false || false)) || (false || false), why.Twice) ∷ (false, why.Unknown) ∷ (false, why.Kind) ∷ (not (is_some (intervals_of w)) || false, why.Number)
@@ -196,7 +196,7 @@ space_six g name w rest is n u i a =
     ∙ (ap (λ o. or_else (first_reason ((false, why.Name) ∷ (false, why.Twice) ∷ (false, why.Unknown) ∷ (false, why.Kind) ∷ (not (is_some o) || false, why.Number) ∷ (not (option_map_or (ascend_from 0) o true) || false, why.Space) ∷ [])) rest) i
     ∙ ap (λ b. or_else (first_reason ((false, why.Name) ∷ (false, why.Twice) ∷ (false, why.Unknown) ∷ (false, why.Kind) ∷ (false, why.Number) ∷ (not b || false, why.Space) ∷ [])) rest) a))
 
-space_by : (g : GraphValue) (name w : List ℕ) (is : List (ℕ × ℕ)) (b : Bool) → ascend_from 0 is ≡ b → is_name name ≡ true → is_used g name ≡ false → intervals_of w ≡ Some is → (space_with name w).item ≡ inl (decl.Space name is) → draft_fault g (space_with name w) ≡ space_reason g name is
+space_by : (g : GraphValue) (name w : List ℕ) (is : List (ℕ × ℕ)) (b : Bool) → ascend_from 0 is ≡ b → is_name_in g.format name ≡ true → is_used g name ≡ false → intervals_of w ≡ Some is → (space_with name w).item ≡ inl (decl.Space name is) → draft_fault g (space_with name w) ≡ space_reason g name is
 space_by g name w is true a n u i e =
     fine_words g (space_with name w) (
       fine_name g name n u,
@@ -215,7 +215,7 @@ space_by g name w is true a n u i e =
     ∙ (ap (item_fault g) e ∙ sym (reason_true g name is a))
 space_by g name w is false a n u i e = space_six g name w (item_fault g (space_with name w).item) is n u i a ∙ sym (reason_false g name is a)
 
-pub space_is : (g : GraphValue) (name new w : List ℕ) (is : List (ℕ × ℕ)) → is_name name ≡ true → new ≡ name → is_used g name ≡ false → intervals_of w ≡ Some is →
+pub space_is : (g : GraphValue) (name new w : List ℕ) (is : List (ℕ × ℕ)) → is_name_in g.format name ≡ true → new ≡ name → is_used g name ≡ false → intervals_of w ≡ Some is →
     (draft_fault g (space_with name w) ≡ space_reason g new is) × ((space_with name w).item ≡ inl (decl.Space new is))
 space_is g name new w is n e u i =
     let item : (space_with name w).item ≡ as_space name is = ap (λ o. as_space name (unwrap_or o [])) i in (
@@ -241,12 +241,12 @@ inst_six false false false rest = refl
 abbrev as_inst : GraphValue → List ℕ → List ℕ → List (List ℕ) → Decl ⊎ Line
 as_inst g name space fields = inl (inst_decl g name space fields)
 
-pub inst_is : (g : GraphValue) (name new space w : List ℕ) (fields : List (List ℕ)) → is_name name ≡ true → new ≡ name → is_name space ≡ true → list_all is_name (pieces 44 w) ≡ true → fields ≡ pieces 44 w → is_used g name ≡ false →
+pub inst_is : (g : GraphValue) (name new space w : List ℕ) (fields : List (List ℕ)) → is_name_in g.format name ≡ true → new ≡ name → is_name_in g.format space ≡ true → list_all (is_name_in g.format) (pieces 44 w) ≡ true → fields ≡ pieces 44 w → is_used g name ≡ false →
     (draft_fault g (inst_with g name space w) ≡ inst_reason g new space fields) × ((inst_with g name space w).item ≡ as_inst g new space fields)
 inst_is g name new space w fields n e s f is u = (
-  ap (λ b. or_else (first_reason ((not b || (not (is_name space) || (not (is_fields w) || false)), why.Name) ∷ ((is_used g name || (false || (repeats bytes_eq (pieces 44 w) || false))) || (false || false), why.Twice)
+  ap (λ b. or_else (first_reason ((not b || (not (is_name_in g.format space) || (not (is_fields g.format w) || false)), why.Name) ∷ ((is_used g name || (false || (repeats bytes_eq (pieces 44 w) || false))) || (false || false), why.Twice)
       ∷ (false || (not (is_used g space) || (false || false)), why.Unknown) ∷ (false || (unlike g SpaceName space || (false || false)), why.Kind) ∷ (false, why.Number) ∷ (false, why.Space) ∷ [])) (decl_fault g (inst_decl g name space (pieces 44 w)))) n
-      ∙ (ap (λ b. or_else (first_reason ((not b || (not (is_fields w) || false), why.Name) ∷ ((is_used g name || (false || (repeats bytes_eq (pieces 44 w) || false))) || (false || false), why.Twice)
+      ∙ (ap (λ b. or_else (first_reason ((not b || (not (is_fields g.format w) || false), why.Name) ∷ ((is_used g name || (false || (repeats bytes_eq (pieces 44 w) || false))) || (false || false), why.Twice)
       ∷ (false || (not (is_used g space) || (false || false)), why.Unknown) ∷ (false || (unlike g SpaceName space || (false || false)), why.Kind) ∷ (false, why.Number) ∷ (false, why.Space) ∷ [])) (decl_fault g (inst_decl g name space (pieces 44 w)))) s
       ∙ (ap (λ b. or_else (first_reason ((not b || false, why.Name) ∷ ((is_used g name || (false || (repeats bytes_eq (pieces 44 w) || false))) || (false || false), why.Twice)
       ∷ (false || (not (is_used g space) || (false || false)), why.Unknown) ∷ (false || (unlike g SpaceName space || (false || false)), why.Kind) ∷ (false, why.Number) ∷ (false, why.Space) ∷ [])) (decl_fault g (inst_decl g name space (pieces 44 w)))) f

@@ -37,7 +37,7 @@ or_else_none : (a b : Option Why) → or_else a b ≡ None → (a ≡ None) × (
 or_else_none None b h = (refl, h)
 or_else_none (Some w) b h = absurd (none-some w (sym h))
 
-each_fine : (g : GraphValue) (ps : List Placed) → AllByRecursion (λ (p : Placed). misnamed p.0 p.1 ≡ false) ps → AllByRecursion (λ (p : Placed). twice g p.0 p.1 ≡ false) ps → AllByRecursion (λ (p : Placed). unknown g p.0 p.1 ≡ false) ps →
+each_fine : (g : GraphValue) (ps : List Placed) → AllByRecursion (λ (p : Placed). misnamed g.format p.0 p.1 ≡ false) ps → AllByRecursion (λ (p : Placed). twice g p.0 p.1 ≡ false) ps → AllByRecursion (λ (p : Placed). unknown g p.0 p.1 ≡ false) ps →
     AllByRecursion (λ (p : Placed). unlike g p.0 p.1 ≡ false) ps → AllByRecursion (λ (p : Placed). misnumbered p.0 p.1 ≡ false) ps → AllByRecursion (λ (p : Placed). misordered p.0 p.1 ≡ false) ps → EachFine g ps
 each_fine g [] a b c d e f = tt
 each_fine g (p ∷ ps) a b c d e f = (record { named = a.0; once = b.0; known = c.0; alike = d.0; numbered = e.0; ordered = f.0 }, each_fine g ps a.1 b.1 c.1 d.1 e.1 f.1)
@@ -49,7 +49,7 @@ fine_draft g d h =
     let u = or_parts (list_any (λ (p : Placed). twice g p.0 p.1) d.placed) (repeats bytes_eq (event_words d.placed) || repeats bytes_eq (column_words d.placed)) t.1.0 in
     let v = or_parts (repeats bytes_eq (event_words d.placed)) (repeats bytes_eq (column_words d.placed)) u.1 in
     record {
-      each = each_fine g d.placed (each_from_none (λ (p : Placed). misnamed p.0 p.1) d.placed t.0) (each_from_none (λ (p : Placed). twice g p.0 p.1) d.placed u.0) (each_from_none (λ (p : Placed). unknown g p.0 p.1) d.placed t.1.1.0)
+      each = each_fine g d.placed (each_from_none (λ (p : Placed). misnamed g.format p.0 p.1) d.placed t.0) (each_from_none (λ (p : Placed). twice g p.0 p.1) d.placed u.0) (each_from_none (λ (p : Placed). unknown g p.0 p.1) d.placed t.1.1.0)
           (each_from_none (λ (p : Placed). unlike g p.0 p.1) d.placed t.1.1.1.0) (each_from_none (λ (p : Placed). misnumbered p.0 p.1) d.placed t.1.1.1.1.0) (each_from_none (λ (p : Placed). misordered p.0 p.1) d.placed t.1.1.1.1.1.0);
       events = v.0;
       columns = v.1;
@@ -64,7 +64,7 @@ fine_none g t f (p ∷ ps) h = or_from (t p.0 p.1) (list_any (λ (q : Placed). t
 pub fine_words : (g : GraphValue) (d : Draft) → EachFine g d.placed → repeats bytes_eq (event_words d.placed) ≡ false → repeats bytes_eq (column_words d.placed) ≡ false → draft_fault g d ≡ item_fault g d.item
 fine_words g d each events columns =
     ap (λ o. or_else o (item_fault g d.item)) (none_where_each_fails (draft_tests g d) (
-      fine_none g misnamed (λ p w k. k.named) d.placed each,
+      fine_none g (misnamed g.format) (λ p w k. k.named) d.placed each,
       (
         or_from (list_any (λ (p : Placed). twice g p.0 p.1) d.placed) (repeats bytes_eq (event_words d.placed) || repeats bytes_eq (column_words d.placed)) (fine_none g (twice g) (λ p w k. k.once) d.placed each)
             (or_from (repeats bytes_eq (event_words d.placed)) (repeats bytes_eq (column_words d.placed)) events columns),

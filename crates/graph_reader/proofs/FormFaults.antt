@@ -10,7 +10,7 @@ use Rattle.graph_terms.specs.declared.verb.Verb.{Verb}
 use Rattle.graph_terms.specs.declared.why.Why.{Why}
 use Rattle.graph_terms.specs.declared.why.Why.TheVariants as why
 use Rattle.graph_terms.specs.Graph.{GraphValue}
-use Rattle.graph_terms.specs.Name.{is_name}
+use Rattle.graph_terms.specs.Name.{is_name_in}
 use Rattle.graph_terms.specs.Fits.{repeats, first_reason, is_used, line_fault}
 use Rattle.graph_words.specs.Draft.{Place, NewName, EventName, Placed, Draft, form_of, has_on, on_placed, words_in}
 use Rattle.graph_reader.specs.FirstFault.{misnamed, twice, unknown, unlike, misnumbered, misordered, event_word, column_word, draft_tests, draft_fault, or_else, item_fault}
@@ -80,13 +80,13 @@ abbrev pub fails : (Place → List ℕ → Bool) → List Placed → Bool
 fails t ps = list_any (λ (p : Placed). t p.0 p.1) ps
 
 -- the tests of words of which the first is a new name
-reason_by : (g : GraphValue) (d : Draft) (name : List ℕ) (ps : List Placed) (c : Bool) → d.placed ≡ (NewName, name) ∷ ps → is_name name ≡ true → repeats bytes_eq (filter_map (λ (p : Placed). event_word p.0 p.1) ps) ≡ false →
+reason_by : (g : GraphValue) (d : Draft) (name : List ℕ) (ps : List Placed) (c : Bool) → d.placed ≡ (NewName, name) ∷ ps → is_name_in g.format name ≡ true → repeats bytes_eq (filter_map (λ (p : Placed). event_word p.0 p.1) ps) ≡ false →
     repeats bytes_eq (filter_map (λ (p : Placed). column_word p.0 p.1) ps) ≡ c → fails misordered ps ≡ false →
-    first_reason (draft_tests g d) ≡ first_reason ((fails misnamed ps, why.Name) ∷ (is_used g name || (fails (twice g) ps || c), why.Twice) ∷ (fails (unknown g) ps, why.Unknown) ∷ (fails (unlike g) ps, why.Kind) ∷ (fails misnumbered ps, why.Number) ∷ [])
+    first_reason (draft_tests g d) ≡ first_reason ((fails (misnamed g.format) ps, why.Name) ∷ (is_used g name || (fails (twice g) ps || c), why.Twice) ∷ (fails (unknown g) ps, why.Unknown) ∷ (fails (unlike g) ps, why.Kind) ∷ (fails misnumbered ps, why.Number) ∷ [])
 reason_by g d name ps c e n events columns ordered =
     ap (λ x. first_reason (draft_tests g (record { placed = x; item = d.item }))) e
-    ∙ six_to_five (not (is_name name) || fails misnamed ps) (fails misnamed ps) _ (is_used g name || (fails (twice g) ps || c)) (fails (unknown g) ps) (fails (unlike g) ps) (fails misnumbered ps) (fails misordered ps)
-    (ap (λ b. not b || fails misnamed ps) n) (or_four (is_used g name) (fails (twice g) ps) _ _ events ∙ ap (λ x. is_used g name || (fails (twice g) ps || x)) columns) ordered
+    ∙ six_to_five (not (is_name_in g.format name) || fails (misnamed g.format) ps) (fails (misnamed g.format) ps) _ (is_used g name || (fails (twice g) ps || c)) (fails (unknown g) ps) (fails (unlike g) ps) (fails misnumbered ps) (fails misordered ps)
+    (ap (λ b. not b || fails (misnamed g.format) ps) n) (or_four (is_used g name) (fails (twice g) ps) _ _ events ∙ ap (λ x. is_used g name || (fails (twice g) ps || x)) columns) ordered
 
 used_first : (u x : Bool) (r : Option Why) → or_else (cond u (Some why.Twice) None) (cond (u || x) (Some why.Twice) r) ≡ cond (u || x) (Some why.Twice) r
 used_first true x r = refl
@@ -126,18 +126,18 @@ module _ (g : GraphValue) (kind : Kind) (name : List ℕ) (ws : List (List ℕ))
       ∙ (ap (λ b. b || list_any (λ (p : Placed). misordered p.0 p.1) (on_placed (form_of kind) ws)) (quiet (kind_places kind) ws) ∙ on_ordered (has_on (form_of kind) ws) on_word)
 
   -- the first reason that refuses a word
-  pub reason_is : is_name name ≡ true → first_reason (draft_tests g (kind_draft g kind name ws)) ≡ form_reason g kind name ws
+  pub reason_is : is_name_in g.format name ≡ true → first_reason (draft_tests g (kind_draft g kind name ws)) ≡ form_reason g kind name ws
   unfolding form_reason form_placed
   reason_is n = reason_by g (kind_draft g kind name ws) name rest_placed (repeats bytes_eq (column_words (kind_placed kind ws))) refl n events_once (ap (repeats bytes_eq) columns_are) all_ordered
 
-  pub refused_word : (w : Why) → is_name name ≡ true → form_reason g kind name ws ≡ Some w → draft_fault g (kind_draft g kind name ws) ≡ Some w
+  pub refused_word : (w : Why) → is_name_in g.format name ≡ true → form_reason g kind name ws ≡ Some w → draft_fault g (kind_draft g kind name ws) ≡ Some w
   refused_word w n h = ap (λ r. or_else r (item_fault g (kind_draft g kind name ws).item)) (reason_is n ∙ h)
 
   -- a name in use is the first reason of the line itself
-  left_fault : is_name name ≡ true → form_reason g kind name ws ≡ cond (is_used g name) (Some why.Twice) None → draft_fault g (kind_draft g kind name ws) ≡ line_fault g (kind_line g kind name ws)
+  left_fault : is_name_in g.format name ≡ true → form_reason g kind name ws ≡ cond (is_used g name) (Some why.Twice) None → draft_fault g (kind_draft g kind name ws) ≡ line_fault g (kind_line g kind name ws)
   left_fault n h = ap (λ r. or_else r (line_fault g (kind_line g kind name ws))) (reason_is n ∙ h) ∙ used_first (is_used g name) _ _
 
-  pub read_as : (line : Line) → is_name name ≡ true → form_reason g kind name ws ≡ cond (is_used g name) (Some why.Twice) None → line ≡ kind_line g kind name ws → IsReading g (kind_draft g kind name ws) (Ok line)
+  pub read_as : (line : Line) → is_name_in g.format name ≡ true → form_reason g kind name ws ≡ cond (is_used g name) (Some why.Twice) None → line ≡ kind_line g kind name ws → IsReading g (kind_draft g kind name ws) (Ok line)
   read_as line n h e = (left_fault n h ∙ ap (line_fault g) (sym e), ap inr (sym e))
 
   module _ (f : Faults) (tell : AllTell g (form_placed kind ws) f) where
@@ -148,24 +148,24 @@ module _ (g : GraphValue) (kind : Kind) (name : List ℕ) (ws : List (List ℕ))
 
     pub misnamed_reason : f.misnamed ≡ true → form_reason g kind name ws ≡ Some why.Name
     unfolding form_reason
-    misnamed_reason h = cond-true (fails misnamed (form_placed kind ws)) (Some why.Name) _ (sym tell.misnamed ∙ h)
+    misnamed_reason h = cond-true (fails (misnamed g.format) (form_placed kind ws)) (Some why.Name) _ (sym tell.misnamed ∙ h)
 
     pub twice_reason : f.misnamed ≡ false → (f.twice || repeats bytes_eq (column_words (kind_placed kind ws))) ≡ true → form_reason g kind name ws ≡ Some why.Twice
     unfolding form_reason
-    twice_reason h k = twice_by (fails misnamed (form_placed kind ws)) (is_used g name) _ _ (sym tell.misnamed ∙ h) (ap (λ b. b || repeats bytes_eq (column_words (kind_placed kind ws))) (sym tell.twice) ∙ k)
+    twice_reason h k = twice_by (fails (misnamed g.format) (form_placed kind ws)) (is_used g name) _ _ (sym tell.misnamed ∙ h) (ap (λ b. b || repeats bytes_eq (column_words (kind_placed kind ws))) (sym tell.twice) ∙ k)
 
     -- what is left where each word is spelled and nothing stands there twice
     pub left_reason : f.misnamed ≡ false → (f.twice || repeats bytes_eq (column_words (kind_placed kind ws))) ≡ false → form_reason g kind name ws ≡ cond (is_used g name) (Some why.Twice) (later_reason f)
     unfolding form_reason
-    left_reason h k = left_by (fails misnamed (form_placed kind ws)) (is_used g name) _ _ (sym tell.misnamed ∙ h) (ap (λ b. b || repeats bytes_eq (column_words (kind_placed kind ws))) (sym tell.twice) ∙ k)
+    left_reason h k = left_by (fails (misnamed g.format) (form_placed kind ws)) (is_used g name) _ _ (sym tell.misnamed ∙ h) (ap (λ b. b || repeats bytes_eq (column_words (kind_placed kind ws))) (sym tell.twice) ∙ k)
         ∙ ap (λ r. cond (is_used g name) (Some why.Twice) r) later_is
 
 -- a word that is misnamed refuses first
-pub first_fails : (g : GraphValue) (d : Draft) → fails misnamed d.placed ≡ true → draft_fault g d ≡ Some why.Name
-first_fails g d h = or_first _ _ (item_fault g d.item) (cond-true (fails misnamed d.placed) (Some why.Name) _ h)
+pub first_fails : (g : GraphValue) (d : Draft) → fails (misnamed g.format) d.placed ≡ true → draft_fault g d ≡ Some why.Name
+first_fails g d h = or_first _ _ (item_fault g d.item) (cond-true (fails (misnamed g.format) d.placed) (Some why.Name) _ h)
   where
     or_first : (r : Option Why) (w : Why) (o : Option Why) → r ≡ Some w → or_else r o ≡ Some w
     or_first r w o e = ap (λ x. or_else x o) e
 
-pub misnamed_first : (g : GraphValue) (kind : Kind) (name : List ℕ) (ws : List (List ℕ)) → is_name name ≡ false → draft_fault g (kind_draft g kind name ws) ≡ Some why.Name
-misnamed_first g kind name ws h = first_fails g (kind_draft g kind name ws) (ap (λ b. not b || fails misnamed (kind_placed kind ws ++ on_placed (form_of kind) ws)) h)
+pub misnamed_first : (g : GraphValue) (kind : Kind) (name : List ℕ) (ws : List (List ℕ)) → is_name_in g.format name ≡ false → draft_fault g (kind_draft g kind name ws) ≡ Some why.Name
+misnamed_first g kind name ws h = first_fails g (kind_draft g kind name ws) (ap (λ b. not b || fails (misnamed g.format) (kind_placed kind ws ++ on_placed (form_of kind) ws)) h)

@@ -1,8 +1,8 @@
 -- The names of a graph: each stands once, and is found again by its word.
 use Rattle.std.proofs.Common.{◌≡◌, ℕ, zero, suc, ◌<◌, Bool, true, false, ◌&&◌, ◌||◌, List, [], ◌∷◌, ◌++◌, length, map, refl, sym, ◌∙◌, ap, subst, append_assoc, append-nil, arith}
 use Rattle.std.specs.Prelude.{Contains, Option, Some, None, position, bytes_eq, filter_map, flat_map, slice_get, unwrap_or}
-use Rattle.std.specs.List.{list_any, AllByRecursion, cons_option}
-use Rattle.std.proofs.lemmas.Bool.{or_parts, or_from, and_left, and_right}
+use Rattle.std.specs.List.{list_any, list_all, AllByRecursion, cons_option}
+use Rattle.std.proofs.lemmas.Bool.{or_parts, or_from, and_left, and_right, and_parts}
 use Rattle.std.proofs.lemmas.Option.{none-some, same_Some}
 use Rattle.std.proofs.lemmas.List.{map-append}
 use Rattle.std.proofs.lemmas.List.Elements.{Contains-append_left, Contains-append_right}
@@ -10,39 +10,40 @@ use Rattle.graph_terms.specs.declared.format.Format.{Format}
 use Rattle.graph_terms.specs.declared.decl.Decl.{Decl}
 use Rattle.graph_terms.specs.declared.decl.Decl.TheVariants as decl
 use Rattle.graph_terms.specs.declared.verb.Line.{Line}
-use Rattle.graph_terms.specs.Name.{is_name}
+use Rattle.graph_terms.specs.Name.{is_name_in}
 use Rattle.graph_terms.specs.declared.decl.ColumnInfo.{ColumnInfo}
 use Rattle.graph_terms.specs.declared.decl.BarrierInfo.{BarrierInfo}
 use Rattle.graph_terms.specs.Graph.{GraphValue, decl_name, space_of, columns_of, lock_of, barrier_of, named_spaces, columns, locks, barriers}
-use Rattle.graph_terms.specs.Fits.{repeats, names, is_used, decl_repeats, decl_tests, line_tests, IsDecl, DeclsFit, LinesFit, IsGraph}
+use Rattle.graph_terms.specs.Fits.{repeats, names, is_used, decl_repeats, decl_tests, line_tests, is_decl_named, DeclsFit, LinesFit, IsGraph}
 use Rattle.basics.proofs.ListFacts.{passes_some, contains_map, contains_here, contains_there}
 use Rattle.graph_words.proofs.Public.{each_fails, found_of, repeats_left, repeats_right, repeats_append, repeats_map, repeats_push}
+use Rattle.graph_reader.proofs.WordFacts.{names_each}
 use Rattle.basics.proofs.TestedLists.{same_bytes, bytes_same, any_left, any_append, each_contained, each_append, found_is, mapped_from}
 
--- a declaration with names, no field twice
-abbrev pub IsNamedDecl : Decl → Type 0
-IsNamedDecl d = IsDecl d × (decl_repeats d ≡ false)
+-- a declaration with names of a format, no field twice
+abbrev pub IsNamedDecl : Format → Decl → Type 0
+IsNamedDecl fm d = (is_decl_named fm d ≡ true) × (decl_repeats d ≡ false)
 
 pub record IsNamed (g : GraphValue) : Type 0 where
   pub apart : repeats bytes_eq (names g) ≡ false
-  pub decls : AllByRecursion IsNamedDecl g.decls
-  pub lines : AllByRecursion (λ (l : Line). is_name l.name ≡ true) g.lines
+  pub decls : AllByRecursion (IsNamedDecl g.format) g.decls
+  pub lines : AllByRecursion (λ (l : Line). is_name_in g.format l.name ≡ true) g.lines
 
 abbrev pub line_names : List Line → List (List ℕ)
 line_names ls = map (λ (l : Line). l.name) ls
 
 named_decls : (fm : Format) (before ds : List Decl) → repeats bytes_eq (map decl_name before) ≡ false → DeclsFit fm before ds →
-    (repeats bytes_eq (map decl_name (before ++ ds)) ≡ false) × AllByRecursion IsNamedDecl ds
+    (repeats bytes_eq (map decl_name (before ++ ds)) ≡ false) × AllByRecursion (IsNamedDecl fm) ds
 named_decls fm before [] r f = (subst (λ xs. repeats bytes_eq (map decl_name xs) ≡ false) (sym (append-nil before)) r, tt)
 named_decls fm before (d ∷ ds) r f =
     let t = each_fails (decl_tests (record { format = fm; decls = before; lines = [] }) d) f.1 in
     let u = or_parts (list_any (bytes_eq (decl_name d)) (map decl_name before ++ [])) (decl_repeats d) t.0 in
     let more : repeats bytes_eq (map decl_name (before ++ d ∷ [])) ≡ false = ap (repeats bytes_eq) (map-append decl_name before (d ∷ [])) ∙ repeats_push (map decl_name before) (decl_name d) r (any_left (bytes_eq (decl_name d)) (map decl_name before) [] u.0) in
     let rest = named_decls fm (before ++ d ∷ []) ds more f.2 in
-    (subst (λ xs. repeats bytes_eq (map decl_name xs) ≡ false) (append_assoc before (d ∷ []) ds) rest.0, ((f.0, u.1), rest.1))
+    (subst (λ xs. repeats bytes_eq (map decl_name xs) ≡ false) (append_assoc before (d ∷ []) ds) rest.0, ((f.3, u.1), rest.1))
 
 named_lines : (fm : Format) (decls : List Decl) (before ls : List Line) → repeats bytes_eq (map decl_name decls ++ line_names before) ≡ false → LinesFit fm decls before ls →
-    (repeats bytes_eq (map decl_name decls ++ line_names (before ++ ls)) ≡ false) × AllByRecursion (λ (l : Line). is_name l.name ≡ true) ls
+    (repeats bytes_eq (map decl_name decls ++ line_names (before ++ ls)) ≡ false) × AllByRecursion (λ (l : Line). is_name_in fm l.name ≡ true) ls
 named_lines fm decls before [] r f = (subst (λ xs. repeats bytes_eq (map decl_name decls ++ line_names xs) ≡ false) (sym (append-nil before)) r, tt)
 named_lines fm decls before (l ∷ ls) r f =
     let t = each_fails (line_tests (record { format = fm; decls = decls; lines = before }) l) f.1 in
@@ -51,7 +52,7 @@ named_lines fm decls before (l ∷ ls) r f =
     ap (λ xs. map decl_name decls ++ xs) (map-append (λ (x : Line). x.name) before (l ∷ [])) ∙ sym (append_assoc (map decl_name decls) (line_names before) (l.name ∷ [])) in
     let more : repeats bytes_eq (map decl_name decls ++ line_names (before ++ l ∷ [])) ≡ false = ap (repeats bytes_eq) joined ∙ repeats_push (map decl_name decls ++ line_names before) l.name r u.0 in
     let rest = named_lines fm decls (before ++ l ∷ []) ls more f.2 in
-    (subst (λ xs. repeats bytes_eq (map decl_name decls ++ line_names xs) ≡ false) (append_assoc before (l ∷ []) ls) rest.0, (f.0.named, rest.1))
+    (subst (λ xs. repeats bytes_eq (map decl_name decls ++ line_names xs) ≡ false) (append_assoc before (l ∷ []) ls) rest.0, (f.3, rest.1))
 
 -- the names of a graph whose items fit
 pub is_named : (g : GraphValue) → IsGraph g → IsNamed g
@@ -90,7 +91,7 @@ decls_apart g n = repeats_left bytes_eq (map decl_name g.decls) (line_names g.li
 
 -- what a word of one kind has: its element, whose name is spelled as a name and is in use
 abbrev pub KnownAs : {X : Type 0} → GraphValue → (X → List ℕ) → List X → ℕ → Type 0
-KnownAs {X} g key xs n = (x : X) × (slice_get xs n ≡ Some x) × (is_name (key x) ≡ true) × (is_used g (key x) ≡ true)
+KnownAs {X} g key xs n = (x : X) × (slice_get xs n ≡ Some x) × (is_name_in g.format (key x) ≡ true) × (is_used g (key x) ≡ true)
 
 element : {X : Type 0} (xs : List X) (n : ℕ) → n < length xs → (x : X) × (slice_get xs n ≡ Some x)
 element [] n h = absurd (omega arith)
@@ -125,11 +126,11 @@ space_agrees (decl.Inst name space fields) y e = absurd (none-some y e)
 space_agrees (decl.Lock name) y e = absurd (none-some y e)
 space_agrees (decl.Barrier name count op first) y e = absurd (none-some y e)
 
-pub named_is : (d : Decl) → IsNamedDecl d → is_name (decl_name d) ≡ true
-named_is (decl.Space name space) h = h.0.0
-named_is (decl.Inst name space fields) h = h.0.0
-named_is (decl.Lock name) h = h.0
-named_is (decl.Barrier name count op first) h = h.0.0
+pub named_is : (fm : Format) (d : Decl) → IsNamedDecl fm d → is_name_in fm (decl_name d) ≡ true
+named_is fm (decl.Space name space) h = h.0
+named_is fm (decl.Inst name space fields) h = (and_parts (is_name_in fm name) (list_all (is_name_in fm) fields) h.0).0
+named_is fm (decl.Lock name) h = h.0
+named_is fm (decl.Barrier name count op first) h = h.0
 
 pub spaces_apart : (g : GraphValue) → IsNamed g → repeats (λ (a b : List ℕ × List (ℕ × ℕ)). bytes_eq a.0 b.0) (named_spaces g) ≡ false
 spaces_apart g n = apart_map decl_name space_of (λ (x : List ℕ × List (ℕ × ℕ)). x.0) space_agrees g.decls (decls_apart g n)
@@ -137,9 +138,9 @@ spaces_apart g n = apart_map decl_name space_of (λ (x : List ℕ × List (ℕ �
 pub known_space : (g : GraphValue) → IsNamed g → (n : ℕ) → n < length (named_spaces g) → KnownAs g (λ (x : List ℕ × List (ℕ × ℕ)). x.0) (named_spaces g) n
 known_space g h n l =
     let x = element (named_spaces g) n l in
-    let m = mapped_from IsNamedDecl space_of g.decls h.decls n x.0 x.1 in
+    let m = mapped_from (IsNamedDecl g.format) space_of g.decls h.decls n x.0 x.1 in
     let e : x.0.0 ≡ decl_name m.0 = space_agrees m.0 x.0 m.2 in
-    (x.0, x.1, ap is_name e ∙ named_is m.0 m.1, used_decl g m.0 x.0.0 m.3 e)
+    (x.0, x.1, ap (is_name_in g.format) e ∙ named_is g.format m.0 m.1, used_decl g m.0 x.0.0 m.3 e)
 
 -- reservations
 pub lock_agrees : (d : Decl) (y : List ℕ) → lock_of d ≡ Some y → y ≡ decl_name d
@@ -154,9 +155,9 @@ locks_apart g n = apart_map decl_name lock_of (λ (x : List ℕ). x) lock_agrees
 pub known_lock : (g : GraphValue) → IsNamed g → (n : ℕ) → n < length (locks g) → KnownAs g (λ (x : List ℕ). x) (locks g) n
 known_lock g h n l =
     let x = element (locks g) n l in
-    let m = mapped_from IsNamedDecl lock_of g.decls h.decls n x.0 x.1 in
+    let m = mapped_from (IsNamedDecl g.format) lock_of g.decls h.decls n x.0 x.1 in
     let e : x.0 ≡ decl_name m.0 = lock_agrees m.0 x.0 m.2 in
-    (x.0, x.1, ap is_name e ∙ named_is m.0 m.1, used_decl g m.0 x.0 m.3 e)
+    (x.0, x.1, ap (is_name_in g.format) e ∙ named_is g.format m.0 m.1, used_decl g m.0 x.0 m.3 e)
 
 -- barriers
 pub barrier_agrees : (d : Decl) (y : BarrierInfo) → barrier_of d ≡ Some y → y.name ≡ decl_name d
@@ -171,9 +172,9 @@ barriers_apart g n = apart_map decl_name barrier_of (λ (x : BarrierInfo). x.nam
 pub known_barrier : (g : GraphValue) → IsNamed g → (n : ℕ) → n < length (barriers g) → KnownAs g (λ (x : BarrierInfo). x.name) (barriers g) n
 known_barrier g h n l =
     let x = element (barriers g) n l in
-    let m = mapped_from IsNamedDecl barrier_of g.decls h.decls n x.0 x.1 in
+    let m = mapped_from (IsNamedDecl g.format) barrier_of g.decls h.decls n x.0 x.1 in
     let e : x.0.name ≡ decl_name m.0 = barrier_agrees m.0 x.0 m.2 in
-    (x.0, x.1, ap is_name e ∙ named_is m.0 m.1, used_decl g m.0 x.0.name m.3 e)
+    (x.0, x.1, ap (is_name_in g.format) e ∙ named_is g.format m.0 m.1, used_decl g m.0 x.0.name m.3 e)
 
 -- lines
 pub lines_apart : (g : GraphValue) → IsNamed g → repeats (λ (a b : Line). bytes_eq a.name b.name) g.lines ≡ false
@@ -184,9 +185,9 @@ line_contained [] n x e = absurd (none-some x e)
 line_contained (l ∷ ls) zero x e = subst (λ y. Contains (l ∷ ls) y) (same_Some l x e) (contains_here l ls)
 line_contained (l ∷ ls) (suc n) x e = let c = line_contained ls n x e in (suc c.0, (let h : c.0 < length ls = c.1 in omega arith), c.2)
 
-pub known_line_at : (g : GraphValue) → IsNamed g → (n : ℕ) (x : Line) → slice_get g.lines n ≡ Some x → (is_name x.name ≡ true) × (is_used g x.name ≡ true)
+pub known_line_at : (g : GraphValue) → IsNamed g → (n : ℕ) (x : Line) → slice_get g.lines n ≡ Some x → (is_name_in g.format x.name ≡ true) × (is_used g x.name ≡ true)
 known_line_at g h n x e = (
-  each_contained (λ (l : Line). is_name l.name ≡ true) g.lines h.lines n x e,
+  each_contained (λ (l : Line). is_name_in g.format l.name ≡ true) g.lines h.lines n x e,
   passes_some (bytes_eq x.name) (names g) x.name (Contains-append_right (map decl_name g.decls) (line_names g.lines) x.name (contains_map (λ (l : Line). l.name) g.lines x (line_contained g.lines n x e))) (bytes_same x.name x.name refl),
 )
 
@@ -229,50 +230,52 @@ each_field : (P : ColumnInfo → Type 0) (name : List ℕ) (space : ℕ) (fields
 each_field P name space [] h = tt
 each_field P name space (f ∷ fs) h = (h f, each_field P name space fs h)
 
-decl_columns_apart : (d : Decl) (ds : List Decl) → IsNamedDecl d → list_any (bytes_eq (decl_name d)) (map decl_name ds) ≡ false →
+decl_columns_apart : (fm : Format) (d : Decl) (ds : List Decl) → IsNamedDecl fm d → list_any (bytes_eq (decl_name d)) (map decl_name ds) ≡ false →
     (repeats same_column (columns_of d) ≡ false) × AllByRecursion (λ x. list_any (same_column x) (flat_map columns_of ds) ≡ false) (columns_of d)
-decl_columns_apart (decl.Inst name space fields) ds h u = (fields_apart name space fields h.1, each_field (λ x. list_any (same_column x) (flat_map columns_of ds) ≡ false) name space fields (λ f. columns_unlisted name f ds u))
-decl_columns_apart (decl.Space name space) ds h u = (refl, tt)
-decl_columns_apart (decl.Lock name) ds h u = (refl, tt)
-decl_columns_apart (decl.Barrier name count op first) ds h u = (refl, tt)
+decl_columns_apart fm (decl.Inst name space fields) ds h u = (fields_apart name space fields h.1, each_field (λ x. list_any (same_column x) (flat_map columns_of ds) ≡ false) name space fields (λ f. columns_unlisted name f ds u))
+decl_columns_apart fm (decl.Space name space) ds h u = (refl, tt)
+decl_columns_apart fm (decl.Lock name) ds h u = (refl, tt)
+decl_columns_apart fm (decl.Barrier name count op first) ds h u = (refl, tt)
 
-columns_apart_of : (ds : List Decl) → AllByRecursion IsNamedDecl ds → repeats bytes_eq (map decl_name ds) ≡ false → repeats same_column (flat_map columns_of ds) ≡ false
-columns_apart_of [] h r = refl
-columns_apart_of (d ∷ ds) h r =
+columns_apart_of : (fm : Format) (ds : List Decl) → AllByRecursion (IsNamedDecl fm) ds → repeats bytes_eq (map decl_name ds) ≡ false → repeats same_column (flat_map columns_of ds) ≡ false
+columns_apart_of fm [] h r = refl
+columns_apart_of fm (d ∷ ds) h r =
     let p = or_parts (list_any (bytes_eq (decl_name d)) (map decl_name ds)) (repeats bytes_eq (map decl_name ds)) r in
-    let c = decl_columns_apart d ds h.0 p.0 in
-    repeats_append same_column (columns_of d) (flat_map columns_of ds) c.0 (columns_apart_of ds h.1 p.1) c.1
+    let c = decl_columns_apart fm d ds h.0 p.0 in
+    repeats_append same_column (columns_of d) (flat_map columns_of ds) c.0 (columns_apart_of fm ds h.1 p.1) c.1
 
 pub columns_apart : (g : GraphValue) → IsNamed g → repeats same_column (columns g) ≡ false
-columns_apart g n = columns_apart_of g.decls n.decls (decls_apart g n)
+columns_apart g n = columns_apart_of g.format g.decls n.decls (decls_apart g n)
 
 -- a column's instance and field are names
-abbrev IsNamedColumn : List Decl → ColumnInfo → Type 0
-IsNamedColumn ds x = (is_name x.inst ≡ true) × (is_name x.field ≡ true) × (d : Decl) × Contains ds d × (x.inst ≡ decl_name d)
+abbrev IsNamedColumn : Format → List Decl → ColumnInfo → Type 0
+IsNamedColumn fm ds x = (is_name_in fm x.inst ≡ true) × (is_name_in fm x.field ≡ true) × (d : Decl) × Contains ds d × (x.inst ≡ decl_name d)
 
-fields_named : (d : Decl) (ds : List Decl) (name : List ℕ) (space : ℕ) (fields : List (List ℕ)) → is_name name ≡ true → name ≡ decl_name d → Contains ds d → AllByRecursion (λ f. is_name f ≡ true) fields → AllByRecursion (IsNamedColumn ds) (map (column_of name space) fields)
-fields_named d ds name space [] h e c a = tt
-fields_named d ds name space (f ∷ fs) h e c a = ((h, a.0, d, c, e), fields_named d ds name space fs h e c a.1)
+fields_named : (fm : Format) (d : Decl) (ds : List Decl) (name : List ℕ) (space : ℕ) (fields : List (List ℕ)) → is_name_in fm name ≡ true → name ≡ decl_name d → Contains ds d → AllByRecursion (λ f. is_name_in fm f ≡ true) fields → AllByRecursion (IsNamedColumn fm ds) (map (column_of name space) fields)
+fields_named fm d ds name space [] h e c a = tt
+fields_named fm d ds name space (f ∷ fs) h e c a = ((h, a.0, d, c, e), fields_named fm d ds name space fs h e c a.1)
 
-decl_columns_named : (d : Decl) (ds : List Decl) → IsNamedDecl d → Contains ds d → AllByRecursion (IsNamedColumn ds) (columns_of d)
-decl_columns_named (decl.Inst name space fields) ds h c = fields_named (decl.Inst name space fields) ds name space fields h.0.0 refl c h.0.2
-decl_columns_named (decl.Space name space) ds h c = tt
-decl_columns_named (decl.Lock name) ds h c = tt
-decl_columns_named (decl.Barrier name count op first) ds h c = tt
+decl_columns_named : (fm : Format) (d : Decl) (ds : List Decl) → IsNamedDecl fm d → Contains ds d → AllByRecursion (IsNamedColumn fm ds) (columns_of d)
+decl_columns_named fm (decl.Inst name space fields) ds h c =
+    let p = and_parts (is_name_in fm name) (list_all (is_name_in fm) fields) h.0 in
+    fields_named fm (decl.Inst name space fields) ds name space fields p.0 refl c (names_each fm fields p.1)
+decl_columns_named fm (decl.Space name space) ds h c = tt
+decl_columns_named fm (decl.Lock name) ds h c = tt
+decl_columns_named fm (decl.Barrier name count op first) ds h c = tt
 
-columns_named : (all ds : List Decl) → AllByRecursion IsNamedDecl ds → ((d : Decl) → Contains ds d → Contains all d) → AllByRecursion (IsNamedColumn all) (flat_map columns_of ds)
-columns_named all [] h f = tt
-columns_named all (d ∷ ds) h f = each_append (IsNamedColumn all) (columns_of d) (flat_map columns_of ds) (decl_columns_named d all h.0 (f d (contains_here d ds)))
-    (columns_named all ds h.1 (λ e c. f e (contains_there d ds e c)))
+columns_named : (fm : Format) (all ds : List Decl) → AllByRecursion (IsNamedDecl fm) ds → ((d : Decl) → Contains ds d → Contains all d) → AllByRecursion (IsNamedColumn fm all) (flat_map columns_of ds)
+columns_named fm all [] h f = tt
+columns_named fm all (d ∷ ds) h f = each_append (IsNamedColumn fm all) (columns_of d) (flat_map columns_of ds) (decl_columns_named fm d all h.0 (f d (contains_here d ds)))
+    (columns_named fm all ds h.1 (λ e c. f e (contains_there d ds e c)))
 
 pub record IsColumnAt (g : GraphValue) (n : ℕ) (x : ColumnInfo) : Type 0 where
   pub at : slice_get (columns g) n ≡ Some x
-  pub inst : is_name x.inst ≡ true
-  pub field : is_name x.field ≡ true
+  pub inst : is_name_in g.format x.inst ≡ true
+  pub field : is_name_in g.format x.field ≡ true
   pub used : is_used g x.inst ≡ true
 
 pub known_column : (g : GraphValue) → IsNamed g → (n : ℕ) → n < length (columns g) → (x : ColumnInfo) × IsColumnAt g n x
 known_column g h n l =
     let x = element (columns g) n l in
-    let c = each_contained (IsNamedColumn g.decls) (columns g) (columns_named g.decls g.decls h.decls (λ d c. c)) n x.0 x.1 in
+    let c = each_contained (IsNamedColumn g.format g.decls) (columns g) (columns_named g.format g.decls g.decls h.decls (λ d c. c)) n x.0 x.1 in
     (x.0, record { at = x.1; inst = c.0; field = c.1; used = used_decl g c.2 x.0.inst c.3 c.4 })

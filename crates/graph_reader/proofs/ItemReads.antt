@@ -32,7 +32,7 @@ pub may_follow : (g : GraphValue) (ws : List (List ℕ)) (item : Item) → IsWor
 may_follow g ws item h = by_value (item_value item) h.0 h.3
   where
     by_value : (i : Decl ⊎ Line) → words_fault g ws ≡ open_fault g i → h.1.item ≡ i → MayFollow g i
-    by_value (inl d) none same = let f = item_fits g ws h.1 (inl d) none h.2 same in (f.is_item.0, f.is_item.1, f.no_fault)
+    by_value (inl d) none same = let f = item_fits g ws h.1 (inl d) none h.2 same in (f.is_item.0, f.is_item.1, f.no_fault, f.is_item.2)
     by_value (inr l) fault same = λ none. (item_fits g ws h.1 (inr l) (fault ∙ none) h.2 same).is_item
 
 pub taken : {T : Type 0} (g new : GraphValue) (ws : List (List ℕ)) (item : Item) (r : Result T ItemError) → IsWordsItem g ws (Ok item) → OnOk r ((open_fault g (item_value item) ≡ None) × (new ≡ with_value g (item_value item))) → OnOk r (IsTaken g ws new)

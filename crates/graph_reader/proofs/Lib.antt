@@ -12,6 +12,7 @@ pub mod TextTells
 pub mod ReadSoFar
 pub mod Prefixes
 pub mod TextLines
+pub mod BareTexts
 pub mod ExampleReadings
 pub mod Owners
 pub mod ColumnWords

@@ -20,7 +20,8 @@ use Rattle.graph_terms.specs.declared.table.Kind.TheVariants as kinds
 use Rattle.graph_terms.specs.declared.table.TheConstants.{KINDS}
 use Rattle.graph_reader.specs.Kinds.{kind_draft}
 use Rattle.graph_reader.specs.Reading.{open_fault, IsDeclRead, IsDeclOf, IsLineOf, IsWordsError}
-use Rattle.graph_words.specs.Draft.{Placed, Draft, draft, merge_with, decl_draft_after, form_of, form_draft, is_since, is_own_word, is_of_form, same_word, merge_draft, line_draft, decl_draft, space_draft, inst_draft, lock_draft, barrier_draft, space_with, inst_with, barrier_with, op_of}
+use Rattle.graph_terms.specs.Format.{has_since}
+use Rattle.graph_words.specs.Draft.{Placed, Draft, draft, merge_with, decl_draft_after, form_of, form_draft, is_own_word, is_of_form, same_word, merge_draft, line_draft, decl_draft, space_draft, inst_draft, lock_draft, barrier_draft, space_with, inst_with, barrier_with, op_of}
 use Rattle.basics.proofs.TestedLists.{find_mapped}
 use Rattle.graph_reader.specs.Laws.{WordsFillPlaces, LineBySign, DeclarationBySign, EmptyByLength, ReservationWords, BarrierWords, InstanceWords, OperationsHaveTwoWords}
 
@@ -139,7 +140,7 @@ room_by t n m b h = by_first (n == m) refl h
 pub places_there : WordsFillPlaces
 places_there fm kind ws h =
     let p = and_parts (starts_with same_word ws (form_of kind).words) _ h in
-    let q = and_parts (is_since (form_of kind).since fm) _ p.1 in
+    let q = and_parts (has_since (form_of kind).since fm) _ p.1 in
     let r = and_parts _ (list_all (λ (x : Placed). is_own_word x.0 x.1) (zip (form_of kind).places (drop (length (form_of kind).words) ws))) q.1 in
     room_by (form_of kind).takes_on (length (drop (length (form_of kind).words) ws)) (length (form_of kind).places) _ r.0
 

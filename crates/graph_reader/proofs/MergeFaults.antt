@@ -9,7 +9,7 @@ use Rattle.graph_terms.specs.declared.why.Why.{Why}
 use Rattle.graph_terms.specs.declared.why.Why.TheVariants as why
 use Rattle.graph_terms.specs.Graph.{GraphValue}
 use Rattle.graph_terms.specs.Spelling.{line_name}
-use Rattle.graph_terms.specs.Name.{is_name}
+use Rattle.graph_terms.specs.Name.{is_name_in}
 use Rattle.graph_terms.specs.Fits.{IsGraph, first_reason, repeats, is_used, line_fault}
 use Rattle.graph_words.specs.Draft.{Place, EventName, Placed, merge_with, line_number}
 use Rattle.graph_reader.specs.FirstFault.{misnamed, twice, unknown, unlike, misnumbered, misordered, event_word, column_word, is_line_name, draft_tests, draft_fault, or_else, item_fault}
@@ -55,12 +55,12 @@ all_also s t k (e ∷ es) h = let p = and_parts (s e) (list_all s es) h in and_f
 line_used : (g : GraphValue) (w : List ℕ) → is_line_name g w ≡ true → is_used g w ≡ true
 line_used g w h = used_is g w ∙ (ap (λ b. is_some (owner g.decls w) || b) h ∙ or_true (is_some (owner g.decls w)))
 
-line_named_by : (g : GraphValue) (w : List ℕ) (b : Bool) → IsGraph g → is_line_name g w ≡ true → is_name w ≡ b → b ≡ true
+line_named_by : (g : GraphValue) (w : List ℕ) (b : Bool) → IsGraph g → is_line_name g w ≡ true → is_name_in g.format w ≡ b → b ≡ true
 line_named_by g w true n h e = refl
 line_named_by g w false n h e = absurd (true≢false (sym (line_used g w h) ∙ unused_misnamed g w n e))
 
-line_named : (g : GraphValue) (w : List ℕ) → IsGraph g → is_line_name g w ≡ true → is_name w ≡ true
-line_named g w n h = line_named_by g w (is_name w) n h refl
+line_named : (g : GraphValue) (w : List ℕ) → IsGraph g → is_line_name g w ≡ true → is_name_in g.format w ≡ true
+line_named g w n h = line_named_by g w (is_name_in g.format w) n h refl
 
 -- words that name lines are the same where their numbers are
 number_same : (g : GraphValue) (a b : List ℕ) → is_line_name g a ≡ true → is_line_name g b ≡ true → nat_eq (line_number g a) (line_number g b) ≡ bytes_eq a b
@@ -102,19 +102,19 @@ module _ (g : GraphValue) (name : List ℕ) (verb : List ℕ → Verb) (es : Lis
   mapped : (t : Place → List ℕ → Bool) → at_events t ≡ list_any (λ w. t EventName w) es
   mapped t = any_map (λ (p : Placed). t p.0 p.1) (λ w. (EventName, w)) es
 
-  pub merge_reason_is : is_name name ≡ true → first_reason (draft_tests g (merge_with g name verb es)) ≡ merge_reason g name es
+  pub merge_reason_is : is_name_in g.format name ≡ true → first_reason (draft_tests g (merge_with g name verb es)) ≡ merge_reason g name es
   unfolding merge_reason
-  merge_reason_is n = six_to_four (not (is_name name) || at_events misnamed) (not (list_all is_name es)) _ (is_used g name || repeats bytes_eq es) (at_events (unknown g)) (list_any (λ w. not (is_used g w)) es)
+  merge_reason_is n = six_to_four (not (is_name_in g.format name) || at_events (misnamed g.format)) (not (list_all (is_name_in g.format) es)) _ (is_used g name || repeats bytes_eq es) (at_events (unknown g)) (list_any (λ w. not (is_used g w)) es)
       (at_events (unlike g)) (list_any (λ w. not (is_line_name g w)) es) (at_events misnumbered) (at_events misordered)
-      (ap (λ b. not b || at_events misnamed) n ∙ (mapped misnamed ∙ some_fail is_name es))
+      (ap (λ b. not b || at_events (misnamed g.format)) n ∙ (mapped (misnamed g.format) ∙ some_fail (is_name_in g.format) es))
       (or_merge (is_used g name) (at_events (twice g)) _ _ (mapped (twice g) ∙ none_of es) (ap (repeats bytes_eq) (no_columns es)) ∙ ap (λ x. is_used g name || repeats bytes_eq x) (events_are es))
       (mapped (unknown g)) (mapped (unlike g)) (mapped misnumbered ∙ none_of es) (mapped misordered ∙ none_of es)
 
-  pub merge_refused : (w : Why) → is_name name ≡ true → merge_reason g name es ≡ Some w → draft_fault g (merge_with g name verb es) ≡ Some w
+  pub merge_refused : (w : Why) → is_name_in g.format name ≡ true → merge_reason g name es ≡ Some w → draft_fault g (merge_with g name verb es) ≡ Some w
   merge_refused w n h = ap (λ r. or_else r (item_fault g (merge_with g name verb es).item)) (merge_reason_is n ∙ h)
 
-  pub merge_misnamed : is_name name ≡ false → draft_fault g (merge_with g name verb es) ≡ Some why.Name
-  merge_misnamed n = first_fails g (merge_with g name verb es) (ap (λ b. not b || at_events misnamed) n)
+  pub merge_misnamed : is_name_in g.format name ≡ false → draft_fault g (merge_with g name verb es) ≡ Some why.Name
+  merge_misnamed n = first_fails g (merge_with g name verb es) (ap (λ b. not b || at_events (misnamed g.format)) n)
 
 reason_by : (a b c d : Bool) → a ≡ false → c ≡ false → d ≡ false → first_reason ((a, why.Name) ∷ (b, why.Twice) ∷ (c, why.Unknown) ∷ (d, why.Kind) ∷ []) ≡ cond b (Some why.Twice) None
 reason_by a b c d p q r = ap (λ x. cond x (Some why.Name) (cond b (Some why.Twice) (cond c (Some why.Unknown) (cond d (Some why.Kind) None)))) p
@@ -130,16 +130,16 @@ kind_by a b c d p q r s = ap (λ x. cond x (Some why.Name) (cond b (Some why.Twi
     ∙ (ap (λ x. cond x (Some why.Unknown) (cond d (Some why.Kind) None)) r ∙ ap (λ x. cond x (Some why.Kind) None) s))
 
 -- one word names an item that is no line
-pub kind_left : (g : GraphValue) (name : List ℕ) (es : List (List ℕ)) → list_all is_name es ≡ true → (is_used g name || repeats bytes_eq es) ≡ false → list_any (λ w. not (is_used g w)) es ≡ false → all_lines g es ≡ false → merge_reason g name es ≡ Some why.Kind
+pub kind_left : (g : GraphValue) (name : List ℕ) (es : List (List ℕ)) → list_all (is_name_in g.format) es ≡ true → (is_used g name || repeats bytes_eq es) ≡ false → list_any (λ w. not (is_used g w)) es ≡ false → all_lines g es ≡ false → merge_reason g name es ≡ Some why.Kind
 unfolding merge_reason
-kind_left g name es p q r s = kind_by (not (list_all is_name es)) (is_used g name || repeats bytes_eq es) (list_any (λ w. not (is_used g w)) es) (list_any (λ w. not (is_line_name g w)) es) (ap not p) q r (some_fail (is_line_name g) es ∙ ap not s)
+kind_left g name es p q r s = kind_by (not (list_all (is_name_in g.format) es)) (is_used g name || repeats bytes_eq es) (list_any (λ w. not (is_used g w)) es) (list_any (λ w. not (is_line_name g w)) es) (ap not p) q r (some_fail (is_line_name g) es ∙ ap not s)
 
 module _ (g : GraphValue) (name : List ℕ) (es : List (List ℕ)) (n : IsGraph g) (lines : all_lines g es ≡ true) where
   -- what is left where all words name lines
   lines_reason : merge_reason g name es ≡ cond (is_used g name || repeats bytes_eq es) (Some why.Twice) None
   unfolding merge_reason
-  lines_reason = reason_by (not (list_all is_name es)) (is_used g name || repeats bytes_eq es) (list_any (λ w. not (is_used g w)) es) (list_any (λ w. not (is_line_name g w)) es)
-      (ap not (all_also (is_line_name g) is_name (λ w h. line_named g w n h) es lines))
+  lines_reason = reason_by (not (list_all (is_name_in g.format) es)) (is_used g name || repeats bytes_eq es) (list_any (λ w. not (is_used g w)) es) (list_any (λ w. not (is_line_name g w)) es)
+      (ap not (all_also (is_line_name g) (is_name_in g.format) (λ w h. line_named g w n h) es lines))
       (some_fail (is_used g) es ∙ ap not (all_also (is_line_name g) (is_used g) (line_used g) es lines))
       (some_fail (is_line_name g) es ∙ ap not lines)
 
@@ -154,9 +154,9 @@ module _ (g : GraphValue) (name : List ℕ) (es : List (List ℕ)) (n : IsGraph 
   left_by false = twice_first (is_used g name || repeats bytes_eq es) (is_used g name || (repeats nat_eq (map (line_number g) es) || false)) _ same_twice
 
   -- the graph says itself what refuses a merge of words that all name lines
-  pub lines_fault : (ignores : Bool) → is_name name ≡ true → draft_fault g (merge_with g name (merge_verb ignores) es) ≡ line_fault g (merge_line g ignores name es)
+  pub lines_fault : (ignores : Bool) → is_name_in g.format name ≡ true → draft_fault g (merge_with g name (merge_verb ignores) es) ≡ line_fault g (merge_line g ignores name es)
   lines_fault ignores h = ap (λ r. or_else r (line_fault g (merge_line g ignores name es))) (merge_reason_is g name (merge_verb ignores) es h ∙ lines_reason) ∙ left_by ignores
 
-pub error_read : (g : GraphValue) (verb : List ℕ → Verb) (name new : List ℕ) (es : List (List ℕ)) (e : ItemError) → is_name name ≡ true → new ≡ name → IsMergeError g new es e → IsLineRead g (merge_with g name verb es) (Err e)
+pub error_read : (g : GraphValue) (verb : List ℕ → Verb) (name new : List ℕ) (es : List (List ℕ)) (e : ItemError) → is_name_in g.format name ≡ true → new ≡ name → IsMergeError g new es e → IsLineRead g (merge_with g name verb es) (Err e)
 error_read g verb name new es (errors.Refused w) n k h = merge_refused g name verb es w n (ap (λ x. merge_reason g x es) (sym k) ∙ h)
 error_read g verb name new es errors.NoMemory n k h = tt

@@ -14,7 +14,7 @@ use Rattle.graph_terms.specs.declared.decl.Decl.TheVariants as decl
 use Rattle.graph_terms.specs.declared.found.Found.{Found}
 use Rattle.graph_terms.specs.declared.found.Found.TheVariants as found
 use Rattle.graph_terms.specs.declared.verb.Line.{Line}
-use Rattle.graph_terms.specs.Name.{is_name}
+use Rattle.graph_terms.specs.Name.{is_name_in}
 use Rattle.graph_terms.specs.Graph.{GraphValue, decl_name, space_of, columns_of, lock_of, barrier_of, named_spaces, locks, barriers}
 use Rattle.graph_terms.specs.Names.{StandsFor, is_inst_named}
 use Rattle.graph_terms.specs.Fits.{repeats, names, is_used, is_inst, decl_misnumbered, decl_tests, DeclsFit, IsGraph}
@@ -256,18 +256,18 @@ module _ (g : GraphValue) (w : List ℕ) where
   is_found n (Some (found.Line s)) h = line_found (owner g.decls w) (kinds_of g w n) (used_is g w) s h
 
 -- each name in use is spelled as a name
-decls_named : (ds : List Decl) → AllByRecursion IsNamedDecl ds → AllByRecursion (λ w. is_name w ≡ true) (map decl_name ds)
-decls_named [] h = tt
-decls_named (d ∷ ds) h = (named_is d h.0, decls_named ds h.1)
+decls_named : (fm : Format) (ds : List Decl) → AllByRecursion (IsNamedDecl fm) ds → AllByRecursion (λ w. is_name_in fm w ≡ true) (map decl_name ds)
+decls_named fm [] h = tt
+decls_named fm (d ∷ ds) h = (named_is fm d h.0, decls_named fm ds h.1)
 
-none_misnamed : (w : List ℕ) (ns : List (List ℕ)) → AllByRecursion (λ n. is_name n ≡ true) ns → is_name w ≡ false → list_any (bytes_eq w) ns ≡ false
-none_misnamed w [] h f = refl
-none_misnamed w (n ∷ ns) h f = or_from (bytes_eq w n) (list_any (bytes_eq w) ns) (unlike_names (bytes_eq w n) refl) (none_misnamed w ns h.1 f)
+none_misnamed : (fm : Format) (w : List ℕ) (ns : List (List ℕ)) → AllByRecursion (λ n. is_name_in fm n ≡ true) ns → is_name_in fm w ≡ false → list_any (bytes_eq w) ns ≡ false
+none_misnamed fm w [] h f = refl
+none_misnamed fm w (n ∷ ns) h f = or_from (bytes_eq w n) (list_any (bytes_eq w) ns) (unlike_names (bytes_eq w n) refl) (none_misnamed fm w ns h.1 f)
   where
     unlike_names : (b : Bool) → bytes_eq w n ≡ b → b ≡ false
-    unlike_names true e = absurd (true≢false (sym (ap is_name (same_bytes w n e) ∙ h.0) ∙ f))
+    unlike_names true e = absurd (true≢false (sym (ap (is_name_in fm) (same_bytes w n e) ∙ h.0) ∙ f))
     unlike_names false e = refl
 
-pub unused_misnamed : (g : GraphValue) (w : List ℕ) → IsGraph g → is_name w ≡ false → is_used g w ≡ false
+pub unused_misnamed : (g : GraphValue) (w : List ℕ) → IsGraph g → is_name_in g.format w ≡ false → is_used g w ≡ false
 unused_misnamed g w h f = let n = is_named g h in
-    none_misnamed w (names g) (each_append (λ w. is_name w ≡ true) (map decl_name g.decls) (map (λ (x : Line). x.name) g.lines) (decls_named g.decls n.decls) (each_map (λ w. is_name w ≡ true) (λ (x : Line). x.name) g.lines n.lines)) f
+    none_misnamed g.format w (names g) (each_append (λ w. is_name_in g.format w ≡ true) (map decl_name g.decls) (map (λ (x : Line). x.name) g.lines) (decls_named g.format g.decls n.decls) (each_map (λ w. is_name_in g.format w ≡ true) (λ (x : Line). x.name) g.lines n.lines)) f

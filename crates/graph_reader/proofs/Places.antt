@@ -7,7 +7,7 @@ use Rattle.std.proofs.lemmas.Bool.{true≢false, or_parts, or_from, and_right, a
 use Rattle.std.proofs.lemmas.Option.{none-some, same_Some}
 use Rattle.graph_terms.specs.declared.verb.Line.{Line}
 use Rattle.graph_terms.specs.declared.verb.Verb.{Verb}
-use Rattle.graph_terms.specs.Name.{is_name}
+use Rattle.graph_terms.specs.Name.{is_name_in}
 use Rattle.graph_terms.specs.declared.decl.ColumnInfo.{ColumnInfo}
 use Rattle.graph_terms.specs.declared.decl.BarrierInfo.{BarrierInfo}
 use Rattle.graph_terms.specs.Graph.{GraphValue, named_spaces, columns, locks, barriers, line_passes, is_user, is_phase, is_acquire, is_release_of, ends_user}
@@ -43,7 +43,7 @@ spell g Intervals n = []
 
 -- no reason refuses the word in its place
 pub record IsFine (g : GraphValue) (p : Place) (w : List ℕ) : Type 0 where
-  pub named : misnamed p w ≡ false
+  pub named : misnamed g.format p w ≡ false
   pub once : twice g p w ≡ false
   pub known : unknown g p w ≡ false
   pub alike : unlike g p w ≡ false
@@ -103,7 +103,7 @@ line_there test g n h = by (slice_get g.lines n) refl h
 
 -- the word of a line
 pub record IsLineWord (g : GraphValue) (n : ℕ) (w : List ℕ) : Type 0 where
-  pub named : is_name w ≡ true
+  pub named : is_name_in g.format w ≡ true
   pub used : is_used g w ≡ true
   pub listed : is_line_name g w ≡ true
   pub number_is : line_number g w ≡ n
@@ -124,7 +124,7 @@ not_and a b h k = not_from_true (a && b) (and_from a b h k)
 user_reads : (g : GraphValue) (n : ℕ) (w : List ℕ) → IsLineWord g n w → FitsPlace g UserName n → Reads g UserName n w
 user_reads g n w k f = record {
   fine = record {
-    named = not_from_true (is_name w) k.named;
+    named = not_from_true (is_name_in g.format w) k.named;
     once = and_right (is_line_name g w) _ (ap (λ m. list_any (λ (l : Line). ends_user m l.verb) g.lines) k.number_is ∙ f.1);
     known = not_from_true (is_used g w) k.used;
     alike = not_and (is_line_name g w) (line_passes is_user g (line_number g w)) k.listed (ap (line_passes is_user g) k.number_is ∙ f.0);
@@ -132,13 +132,13 @@ user_reads g n w k f = record {
     ordered = refl;
   };
   number_is = k.number_is;
-  word = name_is_word w k.named;
+  word = name_is_word g.format w k.named;
 }
 
 phase_reads : (g : GraphValue) (n : ℕ) (w : List ℕ) → IsLineWord g n w → FitsPlace g PhaseName n → Reads g PhaseName n w
 phase_reads g n w k f = record {
   fine = record {
-    named = not_from_true (is_name w) k.named;
+    named = not_from_true (is_name_in g.format w) k.named;
     once = refl;
     known = not_from_true (is_used g w) k.used;
     alike = not_and (is_line_name g w) (line_passes is_phase g (line_number g w)) k.listed (ap (line_passes is_phase g) k.number_is ∙ f);
@@ -146,13 +146,13 @@ phase_reads g n w k f = record {
     ordered = refl;
   };
   number_is = k.number_is;
-  word = name_is_word w k.named;
+  word = name_is_word g.format w k.named;
 }
 
 acquire_reads : (g : GraphValue) (n : ℕ) (w : List ℕ) → IsLineWord g n w → FitsPlace g AcquireName n → Reads g AcquireName n w
 acquire_reads g n w k f = record {
   fine = record {
-    named = not_from_true (is_name w) k.named;
+    named = not_from_true (is_name_in g.format w) k.named;
     once = and_right (is_line_name g w) _ (ap (λ m. list_any (λ (l : Line). is_release_of m l.verb) g.lines) k.number_is ∙ f.1);
     known = not_from_true (is_used g w) k.used;
     alike = not_and (is_line_name g w) (line_passes is_acquire g (line_number g w)) k.listed (ap (line_passes is_acquire g) k.number_is ∙ f.0);
@@ -160,13 +160,13 @@ acquire_reads g n w k f = record {
     ordered = refl;
   };
   number_is = k.number_is;
-  word = name_is_word w k.named;
+  word = name_is_word g.format w k.named;
 }
 
 pub event_reads : (g : GraphValue) (n : ℕ) (w : List ℕ) → IsLineWord g n w → Reads g EventName n w
 event_reads g n w k = record {
   fine = record {
-    named = not_from_true (is_name w) k.named;
+    named = not_from_true (is_name_in g.format w) k.named;
     once = refl;
     known = not_from_true (is_used g w) k.used;
     alike = not_from_true (is_line_name g w) k.listed;
@@ -174,13 +174,13 @@ event_reads g n w k = record {
     ordered = refl;
   };
   number_is = k.number_is;
-  word = name_is_word w k.named;
+  word = name_is_word g.format w k.named;
 }
 
 space_reads : (g : GraphValue) → IsNamed g → (n : ℕ) → KnownAs g (λ (x : List ℕ × List (ℕ × ℕ)). x.0) (named_spaces g) n → Reads g SpaceName n (space_name g n)
 space_reads g h n k = subst (Reads g SpaceName n) (sym (ap (λ (o : Option (List ℕ × List (ℕ × ℕ))). option_map_or (λ (x : List ℕ × List (ℕ × ℕ)). x.0) o []) k.1)) (record {
   fine = record {
-    named = not_from_true (is_name k.0.0) k.2;
+    named = not_from_true (is_name_in g.format k.0.0) k.2;
     once = refl;
     known = not_from_true (is_used g k.0.0) k.3;
     alike = not_from_true (list_any (λ (x : List ℕ × List (ℕ × ℕ)). bytes_eq x.0 k.0.0) (named_spaces g)) (listed_name (λ (x : List ℕ × List (ℕ × ℕ)). x.0) (named_spaces g) n k.0 k.1);
@@ -188,13 +188,13 @@ space_reads g h n k = subst (Reads g SpaceName n) (sym (ap (λ (o : Option (List
     ordered = refl;
   };
   number_is = read_name (λ (x : List ℕ × List (ℕ × ℕ)). x.0) (named_spaces g) n k.0 (spaces_apart g h) k.1;
-  word = name_is_word k.0.0 k.2;
+  word = name_is_word g.format k.0.0 k.2;
 })
 
 barrier_reads : (g : GraphValue) → IsNamed g → (n : ℕ) → KnownAs g (λ (x : BarrierInfo). x.name) (barriers g) n → Reads g BarrierName n (barrier_name g n)
 barrier_reads g h n k = subst (Reads g BarrierName n) (sym (ap (λ (o : Option BarrierInfo). option_map_or (λ (x : BarrierInfo). x.name) o []) k.1)) (record {
   fine = record {
-    named = not_from_true (is_name k.0.name) k.2;
+    named = not_from_true (is_name_in g.format k.0.name) k.2;
     once = refl;
     known = not_from_true (is_used g k.0.name) k.3;
     alike = not_from_true (list_any (λ (x : BarrierInfo). bytes_eq x.name k.0.name) (barriers g)) (listed_name (λ (x : BarrierInfo). x.name) (barriers g) n k.0 k.1);
@@ -202,13 +202,13 @@ barrier_reads g h n k = subst (Reads g BarrierName n) (sym (ap (λ (o : Option B
     ordered = refl;
   };
   number_is = read_name (λ (x : BarrierInfo). x.name) (barriers g) n k.0 (barriers_apart g h) k.1;
-  word = name_is_word k.0.name k.2;
+  word = name_is_word g.format k.0.name k.2;
 })
 
 lock_reads : (g : GraphValue) → IsNamed g → (n : ℕ) → KnownAs g (λ (x : List ℕ). x) (locks g) n → Reads g LockName n (lock_name g n)
 lock_reads g h n k = subst (Reads g LockName n) (sym (ap (λ (o : Option (List ℕ)). option_map_or (λ (x : List ℕ). x) o []) k.1)) (record {
   fine = record {
-    named = not_from_true (is_name k.0) k.2;
+    named = not_from_true (is_name_in g.format k.0) k.2;
     once = refl;
     known = not_from_true (is_used g k.0) k.3;
     alike = not_from_true (list_any (bytes_eq k.0) (locks g)) (listed_by (bytes_eq k.0) (locks g) n k.0 k.1 (bytes_same k.0 k.0 refl));
@@ -216,7 +216,7 @@ lock_reads g h n k = subst (Reads g LockName n) (sym (ap (λ (o : Option (List �
     ordered = refl;
   };
   number_is = found_of (λ a b. bytes_eq b a) (locks g) n k.0 (repeats_agree (λ a b. bytes_eq b a) bytes_eq (λ a b. bytes_flip b a) (locks g) ∙ locks_apart g h) k.1 (bytes_same k.0 k.0 refl);
-  word = name_is_word k.0 k.2;
+  word = name_is_word g.format k.0 k.2;
 })
 
 column_parts : (g : GraphValue) (n : ℕ) (x : ColumnInfo) → IsColumnAt g n x → (is_inst_name g x.inst ≡ true) × (has_column g (x.inst ∷ x.field ∷ []) ≡ true)
@@ -227,14 +227,14 @@ column_parts g n x k = (
 
 -- what is asked of the pieces of a column's word
 pub record FinePieces (g : GraphValue) (ps : List (List ℕ)) : Type 0 where
-  pub named : is_two_names ps ≡ true
+  pub named : is_two_names g.format ps ≡ true
   pub used : is_used g (first_piece ps) ≡ true
   pub inst : is_inst_name g (first_piece ps) ≡ true
   pub there : has_column g ps ≡ true
 
 column_fine : (g : GraphValue) (w : List ℕ) → FinePieces g (pieces 46 w) → IsFine g Column w
 column_fine g w k = record {
-  named = not_from_true (is_column w) k.named;
+  named = not_from_true (is_column g.format w) k.named;
   once = refl;
   known = or_from (not (is_used g (first_piece (pieces 46 w)))) _ (not_from_true (is_used g (first_piece (pieces 46 w))) k.used)
       (and_right (is_inst_name g (first_piece (pieces 46 w))) (not (has_column g (pieces 46 w))) (not_from_true (has_column g (pieces 46 w)) k.there));
@@ -245,12 +245,12 @@ column_fine g w k = record {
 
 column_reads_at : (g : GraphValue) → IsNamed g → (n : ℕ) (x : ColumnInfo) → IsColumnAt g n x → Reads g Column n (x.inst ++ 46 ∷ x.field)
 column_reads_at g h n x k =
-    let e : pieces 46 (x.inst ++ 46 ∷ x.field) ≡ x.inst ∷ x.field ∷ [] = column_pieces x.inst x.field k.inst k.field in
+    let e : pieces 46 (x.inst ++ 46 ∷ x.field) ≡ x.inst ∷ x.field ∷ [] = column_pieces g.format x.inst x.field k.inst k.field in
     let c = column_parts g n x k in
     record {
-      fine = column_fine g (x.inst ++ 46 ∷ x.field) (subst (FinePieces g) (sym e) (record { named = and_from (is_name x.inst) (is_name x.field) k.inst k.field; used = k.used; inst = c.0; there = c.1 }));
+      fine = column_fine g (x.inst ++ 46 ∷ x.field) (subst (FinePieces g) (sym e) (record { named = and_from (is_name_in g.format x.inst) (is_name_in g.format x.field) k.inst k.field; used = k.used; inst = c.0; there = c.1 }));
       number_is = ap (column_number_of g) e ∙ found_of same_column (columns g) n x (columns_apart g h) k.at (and_from (bytes_eq x.inst x.inst) (bytes_eq x.field x.field) (bytes_same x.inst x.inst refl) (bytes_same x.field x.field refl));
-      word = joined_is_word 46 (x.inst ∷ x.field ∷ []) (omega arith) (omega arith) (name_is_word x.inst k.inst, (name_is_word x.field k.field, tt));
+      word = joined_is_word 46 (x.inst ∷ x.field ∷ []) (omega arith) (omega arith) (name_is_word g.format x.inst k.inst, (name_is_word g.format x.field k.field, tt));
     }
 
 column_reads : (g : GraphValue) → IsNamed g → (n : ℕ) → n < length (columns g) → Reads g Column n (column_name g n)
@@ -342,7 +342,7 @@ line_as g w h = named_as (λ (x : Line). x.name) g.lines w h
 both_listed : (a b : Bool) → not (a && b) ≡ false → a ≡ true
 both_listed a b h = (and_parts a b (not-false (a && b) h)).0
 
-column_by : (g : GraphValue) (ps : List (List ℕ)) → is_two_names ps ≡ true → has_column g ps ≡ true → column_name g (column_number_of g ps) ≡ join_with_byte 46 ps
+column_by : (g : GraphValue) (ps : List (List ℕ)) → is_two_names g.format ps ≡ true → has_column g ps ≡ true → column_name g (column_number_of g ps) ≡ join_with_byte 46 ps
 column_by g (inst ∷ field ∷ []) h k =
     let f = found_is (λ (y : ColumnInfo). bytes_eq y.inst inst && bytes_eq y.field field) (columns g) k in
     let p = and_parts (bytes_eq f.0.inst inst) (bytes_eq f.0.field field) f.2 in
@@ -358,7 +358,7 @@ false_side false b e h = absurd (true≢false (sym e))
 
 column_spelled : (g : GraphValue) (w : List ℕ) → IsFine g Column w → column_name g (column_number_of g (pieces 46 w)) ≡ w
 column_spelled g w f =
-    let two : is_two_names (pieces 46 w) ≡ true = not-false (is_column w) f.named in
+    let two : is_two_names g.format (pieces 46 w) ≡ true = not-false (is_column g.format w) f.named in
     let inst : is_inst_name g (first_piece (pieces 46 w)) ≡ true = not-false (is_inst_name g (first_piece (pieces 46 w))) f.alike in
     let u = or_parts (not (is_used g (first_piece (pieces 46 w)))) (is_inst_name g (first_piece (pieces 46 w)) && not (has_column g (pieces 46 w))) f.known in
     column_by g (pieces 46 w) two (false_side (is_inst_name g (first_piece (pieces 46 w))) (has_column g (pieces 46 w)) inst u.1) ∙ joined_pieces 46 w

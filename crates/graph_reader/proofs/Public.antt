@@ -1,6 +1,7 @@
 -- The laws that the proofs of other crates cite, as specs/ states them.
-use Rattle.graph_reader.specs.Laws.{NamesAreWords, PiecesJoinAgain, WordsByTest, LineAndRest, NewlineIsFound, LineUpToNewline, RestBehindNewline, FewerBytesFollow, WordsHaveNoNewline, WordsCutAgain, SpelledLine, WordsFillPlaces, LineBySign, DeclarationBySign, EmptyByLength, ReservationWords, BarrierWords, InstanceWords, OperationsHaveTwoWords}
+use Rattle.graph_reader.specs.Laws.{NamesAreWords, PiecesJoinAgain, WordsByTest, LineAndRest, NewlineIsFound, LineUpToNewline, RestBehindNewline, FewerBytesFollow, WordsHaveNoNewline, WordsCutAgain, SpelledLine, TextsAreBare, WordsFillPlaces, LineBySign, DeclarationBySign, EmptyByLength, ReservationWords, BarrierWords, InstanceWords, OperationsHaveTwoWords}
 use Rattle.graph_reader.proofs.WordFacts as word_facts
+use Rattle.graph_reader.proofs.BareTexts as bare_texts
 use Rattle.graph_reader.proofs.Drafts as drafts
 use Rattle.graph_reader.proofs.LineSteps as line_steps
 use Rattle.graph_reader.proofs.LineShapes as line_shapes
@@ -37,6 +38,9 @@ words_pieces = line_steps.words_pieces
 
 pub spelled_rest : SpelledLine
 spelled_rest = line_steps.spelled_rest
+
+pub texts_are_bare : TextsAreBare
+texts_are_bare = bare_texts.texts_are_bare
 
 pub places_there : WordsFillPlaces
 places_there = line_shapes.places_there

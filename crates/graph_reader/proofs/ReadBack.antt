@@ -3,25 +3,27 @@ use Rattle.std.proofs.Common.{◌≡◌, ℕ, ◌+◌, ◌<◌, ◌≤◌, true,
 use Rattle.std.specs.Prelude.{Option, Some, None, is_some, codes, bytes_eq, nat_eq, nat_lt, zip, decimal, slice_index_or, unwrap_or, option_map}
 use Rattle.std.specs.Option.{option_map_or}
 use Rattle.std.specs.List.{list_any, list_all, AllByRecursion}
-use Rattle.std.proofs.lemmas.Bool.{true≢false, or_parts, false_from_ne_true, not_from_true, cond-true, cond-false, ltb-false, leb-false}
+use Rattle.std.proofs.lemmas.Bool.{true≢false, or_parts, and_parts, false_from_ne_true, not_from_true, cond-true, cond-false, ltb-false, leb-false}
 use Rattle.std.proofs.lemmas.List.Elements.{filter_map-append}
 use Rattle.index_spaces.specs.declared.Op.{Op}
 use Rattle.index_spaces.specs.declared.Op.TheVariants as op
+use Rattle.graph_terms.specs.declared.format.Format.{Format}
+use Rattle.graph_terms.specs.declared.format.Format.TheVariants.{One, Two, Three}
 use Rattle.graph_terms.specs.declared.decl.Decl.{Decl}
 use Rattle.graph_terms.specs.declared.decl.Decl.TheVariants as decl
 use Rattle.graph_terms.specs.declared.verb.Line.{Line}
 use Rattle.graph_terms.specs.declared.verb.Verb.{Verb}
 use Rattle.graph_terms.specs.declared.verb.Verb.TheVariants.{Merge, MergeIgnore}
 use Rattle.graph_terms.specs.declared.why.Why.TheVariants.{Syntax}
-use Rattle.graph_terms.specs.Name.{is_name}
+use Rattle.graph_terms.specs.Name.{is_name_in}
 use Rattle.graph_terms.specs.Graph.{GraphValue, named_spaces}
 use Rattle.graph_terms.specs.Spelling.{space_name, line_name, column_name, op_word, interval_word, comma_word, decl_words, verb_words, on_words, line_words}
-use Rattle.graph_terms.specs.Fits.{repeats, on_lines, is_used, decl_fault, line_fault, IsDecl, IsLine, IsGraph}
+use Rattle.graph_terms.specs.Fits.{repeats, on_lines, is_used, decl_fault, line_fault, IsDecl, is_decl_named, IsLine, IsGraph}
 use Rattle.graph_words.specs.Words.{pieces, intervals_of, ascend_from, is_fields}
 use Rattle.graph_words.specs.Draft.{number_in_place, NewName, SpaceName, EventName, Fields, Value, Count, Intervals, Placed, Draft, Form, number_in, same_word, has_on, on_placed, form_draft, merge_draft, line_number, space_number, column_number_of, op_of, barrier_with, decl_draft, decl_draft_after, draft}
 use Rattle.graph_reader.specs.FirstFault.{event_word, column_word, item_fault, draft_fault, words_fault, is_empty}
 use Rattle.basics.proofs.TestedLists.{same_bytes, none_from_each, each_append, each_weaker}
-use Rattle.graph_reader.proofs.WordFacts.{name_is_word, intervals_of-word, intervals_is_word, intervals_bounded, ascends, field_pieces, names_all, joined_is_word}
+use Rattle.graph_reader.proofs.WordFacts.{name_is_word, intervals_of-word, intervals_is_word, intervals_bounded, ascends, field_pieces, names_each, joined_is_word}
 use Rattle.graph_reader.specs.Words.{IsWord}
 use Rattle.graph_reader.proofs.GraphNames.{IsNamed, is_named}
 use Rattle.graph_reader.proofs.Places.{IsFine, place_reads, event_word_at, event_reads}
@@ -39,10 +41,10 @@ abbrev pub item_words : GraphValue → Item → List (List ℕ)
 item_words g (inl d) = decl_words g d
 item_words g (inr l) = line_words g l
 
--- what the types say of an item, and that no declaration follows a line
+-- what the types say of an item, that its names are names of the format, and that no declaration follows a line
 abbrev pub IsItem : GraphValue → Item → Type 0
-IsItem g (inl d) = IsDecl d × (g.lines ≡ [])
-IsItem g (inr l) = IsLine l
+IsItem g (inl d) = IsDecl d × (g.lines ≡ []) × (is_decl_named g.format d ≡ true)
+IsItem g (inr l) = IsLine l × (is_name_in g.format l.name ≡ true)
 
 -- the item fits after this graph
 pub record ItemFits (g : GraphValue) (item : Item) : Type 0 where
@@ -73,8 +75,8 @@ back_from g item d is same fine words two = record {
   two = two;
 }
 
-new_name : (g : GraphValue) (name : List ℕ) → is_name name ≡ true → is_used g name ≡ false → IsFine g NewName name
-new_name g name h u = record { named = not_from_true (is_name name) h; once = u; known = refl; alike = refl; numbered = refl; ordered = refl }
+new_name : (g : GraphValue) (name : List ℕ) → is_name_in g.format name ≡ true → is_used g name ≡ false → IsFine g NewName name
+new_name g name h u = record { named = not_from_true (is_name_in g.format name) h; once = u; known = refl; alike = refl; numbered = refl; ordered = refl }
 
 -- lines by their forms
 abbrev make_line : List ℕ → Verb → Option ℕ → Line
@@ -134,7 +136,7 @@ form_placed g n name f ns o ps new fits none once b e =
       ap (λ qs. repeats bytes_eq (column_words qs)) e ∙ (ap (repeats bytes_eq) cols ∙ names_repeat (column_name g) (λ w. column_number_of g (pieces 46 w)) (columns_in f.places ns) (columns_read g n f.places ns fits) once),
     )
 
-line_by_form : (g : GraphValue) → IsNamed g → (l : Line) → IsLine l → line_fault g l ≡ None → IsKnownLine g l → IsFormed g l.verb → ReadsBack g (inr l)
+line_by_form : (g : GraphValue) → IsNamed g → (l : Line) → is_name_in g.format l.name ≡ true → line_fault g l ≡ None → IsKnownLine g l → IsFormed g l.verb → ReadsBack g (inr l)
 line_by_form g n l is fits k f =
     let d = f.drafts l.name l.on k.takes_on in
     let rest : List (List ℕ) = spell_list g f.form.places f.numbers ++ on_words g l.on in
@@ -143,11 +145,11 @@ line_by_form g n l is fits k f =
     let on : cond (has_on f.form rest) (Some (line_number g (slice_index_or rest (length f.form.places + 1) []))) None ≡ l.on = on_number_is g n f.form (spell_list g f.form.places f.numbers) l.on d.has f.last k.on_below in
     let same : draft_is.item ≡ inr l =
     ap (λ v. line_item (make_line l.name v (cond (has_on f.form rest) (Some (line_number g (slice_index_or rest (length f.form.places + 1) []))) None))) verb ∙ ap (λ o. line_item (make_line l.name l.verb o)) on in
-    let placed = form_placed g n l.name f.form f.numbers l.on draft_is.placed (new_name g l.name is.named k.new) f.fits f.no_events f.columns_once k.on_below
+    let placed = form_placed g n l.name f.form f.numbers l.on draft_is.placed (new_name g l.name is k.new) f.fits f.no_events f.columns_once k.on_below
     (ap (λ (qs : List Placed). (NewName, l.name) ∷ zip f.form.places rest ++ qs) (on_placed_is g f.form (spell_list g f.form.places f.numbers) l.on d.has f.last)) in
     back_from g (inr l) draft_is d.is same
     (record { each = placed.0; events = placed.1; columns = placed.2; item = ap (item_fault g) same ∙ fits }) (
-      name_is_word l.name is.named,
+      name_is_word g.format l.name is,
       (
         word_by_test (codes "=") refl,
         each_append IsWord (verb_words g l.verb) (on_words g l.on)
@@ -210,42 +212,47 @@ no_on : (o : Option ℕ) → is_some o ≡ false → o ≡ None
 no_on None h = refl
 no_on (Some e) h = absurd (true≢false h)
 
-merge_reads : (g : GraphValue) → IsNamed g → (name : List ℕ) (es : List ℕ) (o : Option ℕ) → IsLine (make_line name (Merge es) o) → line_fault g (make_line name (Merge es) o) ≡ None → IsKnownLine g (make_line name (Merge es) o) → o ≡ None →
+merge_reads : (g : GraphValue) → IsNamed g → (name : List ℕ) (es : List ℕ) (o : Option ℕ) → is_name_in g.format name ≡ true → line_fault g (make_line name (Merge es) o) ≡ None → IsKnownLine g (make_line name (Merge es) o) → o ≡ None →
     ReadsBack g (inr (make_line name (Merge es) o))
 merge_reads g n name es (Some e) is fits k none = absurd (true≢false (ap is_some none))
 merge_reads g n name es None is fits k none =
-    let m = merge_drafted g n name Merge es (new_name g name is.named k.new) (some_events es k.verb.counted) k.verb.events k.verb.once in
+    let m = merge_drafted g n name Merge es (new_name g name is k.new) (some_events es k.verb.counted) k.verb.events k.verb.once in
     back_from g (inr (make_line name (Merge es) None)) m.drafted
     (ap (λ ws. merge_draft g name Merge ws) (append-nil (map (line_name g) es)) ∙ m.is) m.item_is
     (record { each = m.each; events = m.events; columns = m.columns; item = ap (item_fault g) m.item_is ∙ fits })
-    (name_is_word name is.named, (word_by_test (codes "=") refl, (word_by_test (codes "merge") refl, each_append IsWord (map (line_name g) es) [] (events_words g n es k.verb.events) tt)))
+    (name_is_word g.format name is, (word_by_test (codes "=") refl, (word_by_test (codes "merge") refl, each_append IsWord (map (line_name g) es) [] (events_words g n es k.verb.events) tt)))
     (omega arith)
 
-mergei_reads : (g : GraphValue) → IsNamed g → (name : List ℕ) (es : List ℕ) (o : Option ℕ) → IsLine (make_line name (MergeIgnore es) o) → line_fault g (make_line name (MergeIgnore es) o) ≡ None → IsKnownLine g (make_line name (MergeIgnore es) o) → o ≡ None →
+mergei_reads : (g : GraphValue) → IsNamed g → (name : List ℕ) (es : List ℕ) (o : Option ℕ) → is_name_in g.format name ≡ true → line_fault g (make_line name (MergeIgnore es) o) ≡ None → IsKnownLine g (make_line name (MergeIgnore es) o) → o ≡ None →
     ReadsBack g (inr (make_line name (MergeIgnore es) o))
 mergei_reads g n name es (Some e) is fits k none = absurd (true≢false (ap is_some none))
 mergei_reads g n name es None is fits k none =
-    let m = merge_drafted g n name MergeIgnore es (new_name g name is.named k.new) (some_events es k.verb.counted) k.verb.events k.verb.once in
+    let m = merge_drafted g n name MergeIgnore es (new_name g name is k.new) (some_events es k.verb.counted) k.verb.events k.verb.once in
     back_from g (inr (make_line name (MergeIgnore es) None)) m.drafted
     (ap (λ ws. merge_draft g name MergeIgnore ws) (append-nil (map (line_name g) es)) ∙ m.is) m.item_is
     (record { each = m.each; events = m.events; columns = m.columns; item = ap (item_fault g) m.item_is ∙ fits })
-    (name_is_word name is.named, (word_by_test (codes "=") refl, (word_by_test (codes "mergei") refl, each_append IsWord (map (line_name g) es) [] (events_words g n es k.verb.events) tt)))
+    (name_is_word g.format name is, (word_by_test (codes "=") refl, (word_by_test (codes "mergei") refl, each_append IsWord (map (line_name g) es) [] (events_words g n es k.verb.events) tt)))
     (omega arith)
 
-line_reads_by : (g : GraphValue) → IsNamed g → (name : List ℕ) (v : Verb) (o : Option ℕ) → IsLine (make_line name v o) → line_fault g (make_line name v o) ≡ None → IsKnownLine g (make_line name v o) → ReadsBack g (inr (make_line name v o))
+line_reads_by : (g : GraphValue) → IsNamed g → (name : List ℕ) (v : Verb) (o : Option ℕ) → is_name_in g.format name ≡ true → line_fault g (make_line name v o) ≡ None → IsKnownLine g (make_line name v o) → ReadsBack g (inr (make_line name v o))
 line_reads_by g n name (Merge es) o is fits k = merge_reads g n name es o is fits k (no_on o k.takes_on)
 line_reads_by g n name (MergeIgnore es) o is fits k = mergei_reads g n name es o is fits k (no_on o k.takes_on)
 line_reads_by g n name v o is fits k = line_by_form g n (make_line name v o) is fits k (formed g v _ refl k.verb)
 
-pub line_reads : (g : GraphValue) → IsNamed g → (l : Line) → IsLine l → line_fault g l ≡ None → ReadsBack g (inr l)
-line_reads g n l is fits = line_reads_by g n l.name l.verb l.on is fits (known_line_of g l is fits)
+pub line_reads : (g : GraphValue) → IsNamed g → (l : Line) → IsItem g (inr l) → line_fault g l ≡ None → ReadsBack g (inr l)
+line_reads g n l is fits = line_reads_by g n l.name l.verb l.on is.1 fits (known_line_of g l is.0 fits)
 
 -- declarations
-not_sign : (name : List ℕ) → is_name name ≡ true → same_word name (codes "=") ≡ false
-not_sign name h = false_from_ne_true (same_word name (codes "=")) (λ e. true≢false (sym h ∙ ap is_name (same_bytes name (codes "=") e)))
+sign_unnamed : (fm : Format) → is_name_in fm (codes "=") ≡ false
+sign_unnamed One = refl
+sign_unnamed Two = refl
+sign_unnamed Three = refl
 
-decl_drafted : (g : GraphValue) (w name : List ℕ) (rest : List (List ℕ)) → is_name name ≡ true → g.lines ≡ [] → draft g (w ∷ name ∷ rest) ≡ decl_draft g (w ∷ name ∷ rest)
-decl_drafted g w name rest h e = cond-false (same_word name (codes "=")) _ _ (not_sign name h) ∙ ap (λ ls. decl_draft_after g ls (w ∷ name ∷ rest)) e
+not_sign : (fm : Format) (name : List ℕ) → is_name_in fm name ≡ true → same_word name (codes "=") ≡ false
+not_sign fm name h = false_from_ne_true (same_word name (codes "=")) (λ e. true≢false (sym h ∙ (ap (is_name_in fm) (same_bytes name (codes "=") e) ∙ sign_unnamed fm)))
+
+decl_drafted : (g : GraphValue) (w name : List ℕ) (rest : List (List ℕ)) → is_name_in g.format name ≡ true → g.lines ≡ [] → draft g (w ∷ name ∷ rest) ≡ decl_draft g (w ∷ name ∷ rest)
+decl_drafted g w name rest h e = cond-false (same_word name (codes "=")) _ _ (not_sign g.format name h) ∙ ap (λ ls. decl_draft_after g ls (w ∷ name ∷ rest)) e
 
 abbrev decl_item : Decl → Item
 decl_item d = inl d
@@ -257,10 +264,10 @@ space_back g name s is fits k =
     let placed : List Placed = (NewName, name) ∷ (Intervals, word) ∷ [] in
     let same : decl_item (decl.Space name (unwrap_or (intervals_of word) [])) ≡ decl_item (decl.Space name s) = ap (λ (o : Option (List (ℕ × ℕ))). decl_item (decl.Space name (unwrap_or o []))) read in
     back_from g (inl (decl.Space name s)) (record { placed = placed; item = inl (decl.Space name (unwrap_or (intervals_of word) [])) })
-    (decl_drafted g (codes "space") name (word ∷ []) is.0.0 is.1) same
+    (decl_drafted g (codes "space") name (word ∷ []) is.2 is.1) same
     (record {
       each = (
-        new_name g name is.0.0 k.new,
+        new_name g name is.2 k.new,
         (
           record {
             named = refl;
@@ -277,27 +284,28 @@ space_back g name s is fits k =
       columns = refl;
       item = ap (item_fault g) same ∙ fits;
     })
-    (word_by_test (codes "space") refl, (name_is_word name is.0.0, (intervals_is_word s is.0.1.0 (intervals_bounded 0 s is.0.1.1), tt)))
+    (word_by_test (codes "space") refl, (name_is_word g.format name is.2, (intervals_is_word s is.0.1.0 (intervals_bounded 0 s is.0.1.1), tt)))
     (omega arith)
 
 inst_back : (g : GraphValue) → IsNamed g → (name : List ℕ) (s : ℕ) (fields : List (List ℕ)) → IsItem g (inl (decl.Inst name s fields)) → decl_fault g (decl.Inst name s fields) ≡ None → IsKnownDecl g (decl.Inst name s fields) → ReadsBack g (inl (decl.Inst name s fields))
 inst_back g n name s fields is fits k =
     let some : 1 ≤ length fields = ltb-false (length fields) 1 k.counted in
-    let read : pieces 44 (comma_word fields) ≡ fields = field_pieces fields some is.0.2 in
+    let named = and_parts (is_name_in g.format name) (list_all (is_name_in g.format) fields) is.2 in
+    let read : pieces 44 (comma_word fields) ≡ fields = field_pieces g.format fields some named.1 in
     let r = place_reads g n SpaceName s (leb-false (length (named_spaces g)) s k.known) in
     let placed : List Placed = (NewName, name) ∷ (SpaceName, space_name g s) ∷ (Fields, comma_word fields) ∷ [] in
     let same : decl_item (decl.Inst name (space_number g (space_name g s)) (pieces 44 (comma_word fields))) ≡ decl_item (decl.Inst name s fields) =
     ap (λ m. decl_item (decl.Inst name m (pieces 44 (comma_word fields)))) r.number_is ∙ ap (λ fs. decl_item (decl.Inst name s fs)) read in
     back_from g (inl (decl.Inst name s fields)) (record { placed = placed; item = inl (decl.Inst name (space_number g (space_name g s)) (pieces 44 (comma_word fields))) })
-    (decl_drafted g (codes "inst") name (space_name g s ∷ comma_word fields ∷ []) is.0.0 is.1) same
+    (decl_drafted g (codes "inst") name (space_name g s ∷ comma_word fields ∷ []) named.0 is.1) same
     (record {
       each = (
-        new_name g name is.0.0 k.new,
+        new_name g name named.0 k.new,
         (
           r.fine,
           (
             record {
-              named = not_from_true (is_fields (comma_word fields)) (ap (list_all is_name) read ∙ names_all fields is.0.2);
+              named = not_from_true (is_fields g.format (comma_word fields)) (ap (list_all (is_name_in g.format)) read ∙ named.1);
               once = ap (repeats bytes_eq) read ∙ k.once;
               known = refl;
               alike = refl;
@@ -312,15 +320,15 @@ inst_back g n name s fields is fits k =
       columns = refl;
       item = ap (item_fault g) same ∙ fits;
     })
-    (word_by_test (codes "inst") refl, (name_is_word name is.0.0, (r.word, (joined_is_word 44 fields (omega arith) some (each_weaker (λ f. is_name f ≡ true) IsWord name_is_word fields is.0.2), tt))))
+    (word_by_test (codes "inst") refl, (name_is_word g.format name named.0, (r.word, (joined_is_word 44 fields (omega arith) some (each_weaker (λ f. is_name_in g.format f ≡ true) IsWord (name_is_word g.format) fields (names_each g.format fields named.1)), tt))))
     (omega arith)
 
 lock_back : (g : GraphValue) (name : List ℕ) → IsItem g (inl (decl.Lock name)) → decl_fault g (decl.Lock name) ≡ None → IsKnownDecl g (decl.Lock name) → ReadsBack g (inl (decl.Lock name))
 lock_back g name is fits k =
     back_from g (inl (decl.Lock name)) (record { placed = (NewName, name) ∷ []; item = inl (decl.Lock name) })
-    (decl_drafted g (codes "lock") name [] is.0 is.1) refl
-    (record { each = (new_name g name is.0 k.new, tt); events = refl; columns = refl; item = fits })
-    (word_by_test (codes "lock") refl, (name_is_word name is.0, tt))
+    (decl_drafted g (codes "lock") name [] is.2 is.1) refl
+    (record { each = (new_name g name is.2 k.new, tt); events = refl; columns = refl; item = fits })
+    (word_by_test (codes "lock") refl, (name_is_word g.format name is.2, tt))
     (omega arith)
 
 op_read : (o : Op) → op_of (op_word o) ≡ Some o
@@ -344,9 +352,9 @@ barrier_back g n name count o first is fits k =
     let d : Draft = barrier_with name (decimal count) o (decimal first) in
     let same : d.item ≡ decl_item (decl.Barrier name count o first) = ap (λ m. decl_item (decl.Barrier name m o (number_in_place g Value (decimal first)))) r.number_is ∙ ap (λ m. decl_item (decl.Barrier name count o m)) q.number_is in
     back_from g (inl (decl.Barrier name count o first)) d
-    (decl_drafted g (codes "barrier") name (decimal count ∷ op_word o ∷ decimal first ∷ []) is.0.0 is.1 ∙ ap (λ p. option_map (λ x. barrier_with name (decimal count) x (decimal first)) p) (op_read o)) same
-    (record { each = (new_name g name is.0.0 k.new, (r.fine, (q.fine, tt))); events = refl; columns = refl; item = ap (item_fault g) same ∙ fits })
-    (word_by_test (codes "barrier") refl, (name_is_word name is.0.0, (r.word, (op_is_word o, (q.word, tt)))))
+    (decl_drafted g (codes "barrier") name (decimal count ∷ op_word o ∷ decimal first ∷ []) is.2 is.1 ∙ ap (λ p. option_map (λ x. barrier_with name (decimal count) x (decimal first)) p) (op_read o)) same
+    (record { each = (new_name g name is.2 k.new, (r.fine, (q.fine, tt))); events = refl; columns = refl; item = ap (item_fault g) same ∙ fits })
+    (word_by_test (codes "barrier") refl, (name_is_word g.format name is.2, (r.word, (op_is_word o, (q.word, tt)))))
     (omega arith)
 
 decl_reads_by : (g : GraphValue) → IsNamed g → (d : Decl) → IsItem g (inl d) → decl_fault g d ≡ None → IsKnownDecl g d → ReadsBack g (inl d)

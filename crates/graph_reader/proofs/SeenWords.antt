@@ -5,12 +5,13 @@ use Rattle.std.specs.Option.{option_map_or}
 use Rattle.std.specs.List.{list_any}
 use Rattle.std.proofs.lemmas.List.Folds.{list_any-append}
 use Rattle.graph_terms.specs.declared.found.Found.{Found}
+use Rattle.graph_terms.specs.declared.format.Format.{Format}
 use Rattle.graph_terms.specs.declared.decl.BarrierInfo.{BarrierInfo}
 use Rattle.graph_terms.specs.declared.table.Place as table
 use Rattle.graph_terms.specs.declared.table.Place.TheVariants as places
 use Rattle.graph_terms.specs.declared.verb.Line.{Line}
 use Rattle.graph_terms.specs.Graph.{GraphValue, named_spaces, locks, barriers, line_passes, is_user, is_phase, is_acquire, is_release_of, ends_user}
-use Rattle.graph_terms.specs.Name.{is_name}
+use Rattle.graph_terms.specs.Name.{is_name_in}
 use Rattle.graph_words.specs.Draft.{Place, as_place, Placed, line_number, words_in}
 use Rattle.graph_reader.specs.FirstFault.{misnamed, twice, unknown, unlike, misnumbered, is_line_name}
 use Rattle.graph_reader.specs.Lookups.{IsFound, found_line, found_number, found_twice, found_alike}
@@ -81,13 +82,13 @@ module _ (g : GraphValue) (w : List ℕ) (o : Option Found) (f : IsFound g w o) 
   number_is (places.Column mode over) n = absurd n
   number_is p n = ap (λ q. unwrap_or q 0) (sym f.line)
 
-pub misnamed_is : (p : table.Place) (w : List ℕ) → NamesThing p → not (is_name w) ≡ misnamed (as_place p) w
-misnamed_is places.Value w n = absurd n
-misnamed_is places.Times w n = absurd n
-misnamed_is places.Shared w n = absurd n
-misnamed_is places.Weight w n = absurd n
-misnamed_is (places.Column mode over) w n = absurd n
-misnamed_is p w n = refl
+pub misnamed_is : (fm : Format) (p : table.Place) (w : List ℕ) → NamesThing p → not (is_name_in fm w) ≡ misnamed fm (as_place p) w
+misnamed_is fm places.Value w n = absurd n
+misnamed_is fm places.Times w n = absurd n
+misnamed_is fm places.Shared w n = absurd n
+misnamed_is fm places.Weight w n = absurd n
+misnamed_is fm (places.Column mode over) w n = absurd n
+misnamed_is fm p w n = refl
 
 pub name_plain : (p : table.Place) (w : List ℕ) → NamesThing p → (misnumbered (as_place p) w ≡ false) × (placed_value (as_place p) w ≡ 0)
 name_plain places.Value w n = absurd n
@@ -145,7 +146,7 @@ pub all_tell_more : (g : GraphValue) (ps : List Placed) (p : Place) (w : List �
     c.misnamed ≡ (a.misnamed || s.faults.misnamed) → c.twice ≡ (a.twice || s.faults.twice) → c.unknown ≡ (a.unknown || s.faults.unknown) → c.unlike ≡ (a.unlike || s.faults.unlike) → c.misnumbered ≡ (a.misnumbered || s.faults.misnumbered) →
     AllTell g (ps ++ (p, w) ∷ []) c
 all_tell_more g ps p w a c s h t misnamed_with twice_with unknown_with unlike_with misnumbered_with = record {
-  misnamed = or_last (λ (q : Placed). misnamed q.0 q.1) ps (p, w) _ _ _ h.misnamed t.misnamed misnamed_with;
+  misnamed = or_last (λ (q : Placed). misnamed g.format q.0 q.1) ps (p, w) _ _ _ h.misnamed t.misnamed misnamed_with;
   twice = or_last (λ (q : Placed). twice g q.0 q.1) ps (p, w) _ _ _ h.twice t.twice twice_with;
   unknown = or_last (λ (q : Placed). unknown g q.0 q.1) ps (p, w) _ _ _ h.unknown t.unknown unknown_with;
   unlike = or_last (λ (q : Placed). unlike g q.0 q.1) ps (p, w) _ _ _ h.unlike t.unlike unlike_with;

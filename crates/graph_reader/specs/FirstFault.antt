@@ -10,7 +10,7 @@ use Rattle.graph_terms.specs.declared.decl.Decl.{Decl}
 use Rattle.graph_terms.specs.declared.verb.Line.{Line}
 use Rattle.graph_terms.specs.declared.why.Why.{Why}
 use Rattle.graph_terms.specs.declared.why.Why.TheVariants as why
-use Rattle.graph_terms.specs.Name.{is_name}
+use Rattle.graph_terms.specs.Name.{is_name_in}
 use Rattle.graph_terms.specs.declared.decl.ColumnInfo.{ColumnInfo}
 use Rattle.graph_terms.specs.declared.decl.BarrierInfo.{BarrierInfo}
 use Rattle.graph_terms.specs.Graph.{GraphValue, named_spaces, columns, locks, barriers, line_passes, is_user, is_phase, is_acquire, is_release_of, ends_user}
@@ -18,19 +18,19 @@ use Rattle.graph_terms.specs.Spelling.{head, header}
 use Rattle.graph_terms.specs.Fits.{IsGraph, first_reason, is_used, repeats, decl_fault, line_fault}
 use Rattle.graph_words.specs.Words.{pieces, value_of, count_of, weight_of, intervals_of, ascend_from, is_fields, is_column, first_piece}
 use Rattle.graph_words.specs.Draft.{Place, NewName, SpaceName, LockName, BarrierName, UserName, PhaseName, AcquireName, EventName, Column, Fields, Value, Times, Weight, Shared, Count, Intervals, Draft, draft, line_number}
-use Rattle.graph_words.specs.Text.{text}
+use Rattle.graph_words.specs.Text.{text, bare_of, number_of}
 
--- a word that is not spelled as a name, as fields or as a column, in the place of one
-abbrev pub misnamed : Place → List ℕ → Bool
-misnamed Column w = not (is_column w)
-misnamed Fields w = not (is_fields w)
-misnamed Value w = false
-misnamed Times w = false
-misnamed Weight w = false
-misnamed Shared w = false
-misnamed Count w = false
-misnamed Intervals w = false
-misnamed _ w = not (is_name w)
+-- a word that is not spelled as a name, as fields or as a column of a format, in the place of one
+abbrev pub misnamed : Format → Place → List ℕ → Bool
+misnamed format Column w = not (is_column format w)
+misnamed format Fields w = not (is_fields format w)
+misnamed format Value w = false
+misnamed format Times w = false
+misnamed format Weight w = false
+misnamed format Shared w = false
+misnamed format Count w = false
+misnamed format Intervals w = false
+misnamed format _ w = not (is_name_in format w)
 
 -- the instances' names
 abbrev pub is_inst_name : GraphValue → List ℕ → Bool
@@ -110,7 +110,7 @@ or_else (Some w) r = Some w
 -- the reasons that may refuse the words in their places
 abbrev pub draft_tests : GraphValue → Draft → List (Bool × Why)
 draft_tests g d =
-    (list_any (λ (p : Place × List ℕ). misnamed p.0 p.1) d.placed, why.Name)
+    (list_any (λ (p : Place × List ℕ). misnamed g.format p.0 p.1) d.placed, why.Name)
     ∷ (
       list_any (λ (p : Place × List ℕ). twice g p.0 p.1) d.placed
           || (repeats bytes_eq (filter_map (λ (p : Place × List ℕ). event_word p.0 p.1) d.placed) || repeats bytes_eq (filter_map (λ (p : Place × List ℕ). column_word p.0 p.1) d.placed)),
@@ -186,9 +186,13 @@ pub record IsRestFault (bytes : List ℕ) (number : ℕ) (reason : Why) : Type 0
   pub number_is : number ≡ line_count before + 2
   pub reason_is : reason ≡ why.Rest
 
--- the first refused line of these bytes, from 1, and its first reason
+-- the first refused line of bytes without comments, from 1, and its first reason
+abbrev pub FirstBareFault : List ℕ → ℕ → Why → Type 0
+FirstBareFault bytes number reason = IsHeaderFault bytes number reason ⊎ (IsLineFault bytes number reason ⊎ IsRestFault bytes number reason)
+
+-- the first refused line of these bytes, by its number among all lines, and its first reason
 abbrev pub FirstFault : List ℕ → ℕ → Why → Type 0
-FirstFault bytes number reason = IsHeaderFault bytes number reason ⊎ (IsLineFault bytes number reason ⊎ IsRestFault bytes number reason)
+FirstFault bytes number reason = (k : ℕ) × FirstBareFault (bare_of bytes) k reason × (number ≡ number_of bytes k)
 
 -- the bytes behind the first newline
 abbrev pub after_line : List ℕ → List ℕ

@@ -46,7 +46,7 @@ placed_value p w = 0
 
 -- what is to be said of a word in its place
 pub record Tells (g : GraphValue) (p : draft.Place) (w : List ℕ) (s : Seen) : Type 0 where
-  pub misnamed : s.faults.misnamed ≡ misnamed p w
+  pub misnamed : s.faults.misnamed ≡ misnamed g.format p w
   pub twice : s.faults.twice ≡ twice g p w
   pub unknown : s.faults.unknown ≡ unknown g p w
   pub unlike : s.faults.unlike ≡ unlike g p w
@@ -85,7 +85,7 @@ HasPlaces kind ws = length (form_of kind).places ≤ length ws
 
 -- what is to be said of words in their places
 pub record AllTell (g : GraphValue) (ps : List Placed) (faults : Faults) : Type 0 where
-  pub misnamed : faults.misnamed ≡ list_any (λ (p : Placed). misnamed p.0 p.1) ps
+  pub misnamed : faults.misnamed ≡ list_any (λ (p : Placed). misnamed g.format p.0 p.1) ps
   pub twice : faults.twice ≡ list_any (λ (p : Placed). twice g p.0 p.1) ps
   pub unknown : faults.unknown ≡ list_any (λ (p : Placed). unknown g p.0 p.1) ps
   pub unlike : faults.unlike ≡ list_any (λ (p : Placed). unlike g p.0 p.1) ps
@@ -98,7 +98,7 @@ kind_on g kind ws = cond (has_on (form_of kind) ws) (Some (line_number g (slice_
 -- the first reason that refuses a word of a line of a kind, whose name is spelled as one
 unfoldable pub form_reason : GraphValue → Kind → List ℕ → List (List ℕ) → Option Why
 form_reason g kind name ws = first_reason (
-    (list_any (λ (p : Placed). misnamed p.0 p.1) (form_placed kind ws), why.Name)
+    (list_any (λ (p : Placed). misnamed g.format p.0 p.1) (form_placed kind ws), why.Name)
     ∷ (is_used g name || (list_any (λ (p : Placed). twice g p.0 p.1) (form_placed kind ws) || repeats bytes_eq (column_words (kind_placed kind ws))), why.Twice)
     ∷ (list_any (λ (p : Placed). unknown g p.0 p.1) (form_placed kind ws), why.Unknown)
     ∷ (list_any (λ (p : Placed). unlike g p.0 p.1) (form_placed kind ws), why.Kind)

@@ -12,7 +12,8 @@ use Rattle.std.specs.Option.{option_map_or}
 use Rattle.std.specs.List.{list_any}
 use Rattle.graph_terms.specs.Graph.{GraphValue, named_spaces, columns, locks, barriers, line_passes, is_user, is_phase, is_acquire, is_release_of, ends_user}
 use Rattle.graph_terms.specs.Fits.{is_used}
-use Rattle.graph_terms.specs.Name.{is_name}
+use Rattle.graph_terms.specs.declared.format.Format.{Format}
+use Rattle.graph_terms.specs.Name.{is_name_in}
 use Rattle.graph_reader.specs.FirstFault.{is_inst_name}
 use Rattle.graph_words.specs.Words.{pieces}
 use Rattle.graph_words.specs.Cuts.{two_pieces}
@@ -97,11 +98,11 @@ abbrev pub column_place : GraphValue → List (List ℕ) → Option ℕ
 column_place g (inst ∷ field ∷ []) = position (λ (x : ColumnInfo). bytes_eq x.inst inst && bytes_eq x.field field) (columns g)
 column_place g _ = None
 
--- two words that are names
-abbrev pub named_pair : Option (List ℕ × List ℕ) → Option (List ℕ × List ℕ)
-named_pair None = None
-named_pair (Some (a, b)) = cond (is_name a && is_name b) (Some (a, b)) None
+-- two words that are names of a format
+abbrev pub named_pair : Format → Option (List ℕ × List ℕ) → Option (List ℕ × List ℕ)
+named_pair format None = None
+named_pair format (Some (a, b)) = cond (is_name_in format a && is_name_in format b) (Some (a, b)) None
 
 -- the names that a word in the place of a column has
-unfoldable pub column_names : List ℕ → Option (List ℕ × List ℕ)
-column_names w = named_pair (two_pieces (pieces 46 w))
+unfoldable pub column_names : Format → List ℕ → Option (List ℕ × List ℕ)
+column_names format w = named_pair format (two_pieces (pieces 46 w))

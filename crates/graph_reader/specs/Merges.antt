@@ -8,7 +8,7 @@ use Rattle.graph_terms.specs.declared.verb.Verb.TheVariants.{Merge, MergeIgnore}
 use Rattle.graph_terms.specs.declared.why.Why.{Why}
 use Rattle.graph_terms.specs.declared.why.Why.TheVariants as why
 use Rattle.graph_terms.specs.Graph.{GraphValue}
-use Rattle.graph_terms.specs.Name.{is_name}
+use Rattle.graph_terms.specs.Name.{is_name_in}
 use Rattle.graph_terms.specs.Fits.{first_reason, repeats, is_used}
 use Rattle.graph_words.specs.Draft.{line_number}
 use Rattle.graph_reader.specs.FirstFault.{is_line_name}
@@ -31,7 +31,7 @@ all_lines g es = list_all (is_line_name g) es
 -- the first reason that refuses the words of a merge, whose name is spelled as one
 unfoldable pub merge_reason : GraphValue → List ℕ → List (List ℕ) → Option Why
 merge_reason g name es = first_reason (
-    (not (list_all is_name es), why.Name)
+    (not (list_all (is_name_in g.format) es), why.Name)
     ∷ (is_used g name || repeats bytes_eq es, why.Twice)
     ∷ (list_any (λ w. not (is_used g w)) es, why.Unknown)
     ∷ (list_any (λ w. not (is_line_name g w)) es, why.Kind)

@@ -1,22 +1,23 @@
 -- What the reader of one line gives.
-use Rattle.std.specs.Prelude.{Bool, nat_le, nat_lt, ◌+◌, ◌&&◌, length, slice_index_or, codes, cond, not, Option, Result, Ok, Err, ◌≡◌, ℕ, List, Some, None, ◌⊎◌, ◌==◌, [], ◌∷◌, true, false}
+use Rattle.std.specs.Prelude.{Bool, IsTrue, ◌≤◌, nat_le, nat_lt, ◌+◌, ◌-◌, ◌&&◌, slice_get, length, slice_index_or, codes, cond, not, Option, Result, Ok, Err, ◌≡◌, ℕ, List, Some, None, ◌⊎◌, ◌==◌, [], ◌∷◌, true, false}
 use Rattle.std.specs.List.{after_first, list_all}
 use Rattle.std.proofs.Common.{inl, inr}
 use Rattle.graph_terms.specs.declared.decl.Decl.{Decl}
 use Rattle.graph_terms.specs.declared.verb.Line.{Line}
 use Rattle.graph_terms.specs.Graph.{GraphValue}
-use Rattle.graph_terms.specs.Fits.{first_reason, repeats, is_used, with_decl, with_line, decl_fault, line_fault, IsDecl, IsLine}
+use Rattle.graph_terms.specs.Fits.{first_reason, repeats, is_used, with_decl, with_line, decl_fault, line_fault, IsDecl, is_decl_named, IsLine, IsGraph}
 use Rattle.graph_terms.specs.declared.decl.Decl.TheVariants as decl
 use Rattle.graph_terms.specs.declared.why.Why.{Why}
 use Rattle.graph_terms.specs.declared.why.Why.TheVariants as why
-use Rattle.graph_terms.specs.Name.{is_name}
+use Rattle.graph_terms.specs.declared.format.Format.{Format}
+use Rattle.graph_terms.specs.Name.{is_name_in}
 use Rattle.index_spaces.specs.declared.space.SpaceFault.{SpaceFault}
 use Rattle.index_spaces.specs.declared.space.SpaceFault.TheVariants as spaces
 use Rattle.std.specs.Str.{bytes_eq}
 use Rattle.graph_words.specs.Words.{pieces, ascend_from}
 use Rattle.graph_words.specs.Draft.{Draft, draft, SpaceName, space_number}
 use Rattle.graph_reader.specs.FirstFault.{words_fault, draft_fault, unlike, or_else, FirstFault, IsHeaderFault, IsLineFault, IsRestFault}
-use Rattle.graph_words.specs.Text.{GraphText}
+use Rattle.graph_words.specs.Text.{text, bare_of, number_of, GraphText}
 use Rattle.graph_terms.specs.declared.limits.TheConstants.{MAX_TEXT}
 use Rattle.graph_reader.specs.declared.reader.Reading.{Reading}
 use Rattle.graph_reader.specs.declared.reader.Reading.TheVariants as readings
@@ -37,12 +38,31 @@ abbrev pub IsRefusal : List ℕ → ReadRefusal → Type 0
 IsRefusal bytes (refusals.Line number reason) = FirstFault bytes number reason
 IsRefusal bytes refusals.NoMemory = Unit {0}
 
--- a refused line, with the graph of the lines above it where the reason is one of a line between the first and the closing one
-abbrev pub IsUnreadBy : List ℕ → ℕ → Why → Option GraphValue → Type 0
-IsUnreadBy bytes number reason None = IsHeaderFault bytes number reason ⊎ IsRestFault bytes number reason
-IsUnreadBy bytes number reason (Some g) = (f : IsLineFault bytes number reason) × (f.before ≡ g)
+-- bytes without comments have a line of this number, counted from 1
+abbrev pub HasLine : List ℕ → ℕ → Type 0
+HasLine bytes number = (line : List ℕ) × (1 ≤ number) × (slice_get (pieces 10 bytes) (number - 1) ≡ Some line)
 
--- what bytes are read as: a graph's text, or their first refused line with its first reason
+-- the bytes, without comments, are the text of the graph
+pub record IsTextOf (bytes : List ℕ) (g : GraphValue) : Type 0 where
+  pub is_text : bytes ≡ text g
+  pub short : length bytes ≤ MAX_TEXT
+  pub is_graph : IsGraph g
+
+-- a refused line of bytes without comments, with the graph of the lines above it where the reason is one of a line between the first and the closing one
+abbrev pub IsBareUnreadBy : List ℕ → ℕ → Why → Option GraphValue → Type 0
+IsBareUnreadBy bytes number reason None = IsHeaderFault bytes number reason ⊎ IsRestFault bytes number reason
+IsBareUnreadBy bytes number reason (Some g) = (f : IsLineFault bytes number reason) × (f.before ≡ g)
+
+-- what bytes without comments are read as: a graph's text, or their first refused line with its first reason
+abbrev pub IsBareReadAs : List ℕ → Reading → Type 0
+IsBareReadAs bytes (readings.Graph g) = IsTextOf bytes g
+IsBareReadAs bytes (readings.Refused u) = IsBareUnreadBy bytes u.number u.why u.above
+
+-- a refused line by its number among all lines, with the graph of the lines above it
+abbrev pub IsUnreadBy : List ℕ → ℕ → Why → Option GraphValue → Type 0
+IsUnreadBy bytes number reason above = (k : ℕ) × IsBareUnreadBy (bare_of bytes) k reason above × (number ≡ number_of bytes k)
+
+-- what bytes are read as: a graph's text with its comments, or their first refused line with its first reason
 abbrev pub IsReadAs : List ℕ → Reading → Type 0
 IsReadAs bytes (readings.Graph g) = GraphText bytes g
 IsReadAs bytes (readings.Refused u) = IsUnreadBy bytes u.number u.why u.above
@@ -71,8 +91,8 @@ open_fault g (inr l) = line_fault g l
 
 -- the item fits after this graph, unless a reason is open
 abbrev pub MayFollow : GraphValue → Decl ⊎ Line → Type 0
-MayFollow g (inl d) = IsDecl d × (g.lines ≡ []) × (decl_fault g d ≡ None)
-MayFollow g (inr l) = line_fault g l ≡ None → IsLine l
+MayFollow g (inl d) = IsDecl d × (g.lines ≡ []) × (decl_fault g d ≡ None) × IsTrue (is_decl_named g.format d)
+MayFollow g (inr l) = line_fault g l ≡ None → IsLine l × IsTrue (is_name_in g.format l.name)
 
 -- the reason that was open of an item
 abbrev pub IsOpenError : GraphValue → Decl ⊎ Line → ItemError → Type 0
@@ -113,13 +133,13 @@ inst_reason g name space fields = or_else (first_reason (
 abbrev pub inst_decl : GraphValue → List ℕ → List ℕ → List (List ℕ) → Decl
 inst_decl g name space fields = decl.Inst name (space_number g space) fields
 
--- the fields that a word spells, or that it spells none
-abbrev pub AreFields : List ℕ → List (List ℕ) → Type 0
-AreFields w fields = (fields ≡ pieces 44 w) × (list_all is_name (pieces 44 w) ≡ true)
+-- the fields that a word spells in a format, or that it spells none
+abbrev pub AreFields : Format → List ℕ → List (List ℕ) → Type 0
+AreFields format w fields = (fields ≡ pieces 44 w) × (list_all (is_name_in format) (pieces 44 w) ≡ true)
 
-abbrev pub AreNoFields : List ℕ → ItemError → Type 0
-AreNoFields w (errors.Refused x) = (x ≡ why.Name) × (list_all is_name (pieces 44 w) ≡ false)
-AreNoFields w errors.NoMemory = Unit {0}
+abbrev pub AreNoFields : Format → List ℕ → ItemError → Type 0
+AreNoFields format w (errors.Refused x) = (x ≡ why.Name) × (list_all (is_name_in format) (pieces 44 w) ≡ false)
+AreNoFields format w errors.NoMemory = Unit {0}
 
 -- what a fault of a space is for the line that declares it
 abbrev pub space_error : SpaceFault → ItemError

@@ -1,17 +1,43 @@
 //! Tests of one word, and of the verb of a line.
 
-ghost use Rattle.std.specs.Prelude.{◌≡◌};
-ghost use Rattle.graph_terms.specs.Name.{is_name};
+ghost use Rattle.basics.specs.Words.{contents};
+ghost use Rattle.std.specs.Prelude.{◌≡◌, map, false, true, IfOk, IsTrue, MatchOption};
+ghost use Rattle.std.specs.List.{list_all};
+ghost use Rattle.graph_terms.specs.Name.{is_name_in};
 ghost use Rattle.graph_terms.specs.Graph.{is_user, is_phase, is_acquire};
 
+use graph_model::graph::Graph;
 use graph_terms::name::Name;
 use graph_terms::verb::Verb;
+use graph_words::names::names_of;
+use index_spaces::NoMemory;
+use std::alloc::Global;
 
-/// Whether a word is spelled as a name.
-pub(crate) fn is_name(word: &[u8]) -> bool
-    ensures { result ≡ is_name word.now }
+/// The word as a name of the graph's format. `None` exactly where it is spelled otherwise.
+pub(crate) fn name_in(graph: &Graph, word: &[u8]) -> Option<Name>
+    ensures { MatchOption result (is_name_in graph.now.format word.now ≡ false)
+        (λ name. (name ≡ word.now) × IsTrue (is_name_in graph.now.format word.now)) }
 {
-    Name::new(word).is_some()
+    Name::in_format(graph.format(), word)
+}
+
+/// Whether a word is spelled as a name of the graph's format.
+pub(crate) fn is_name(graph: &Graph, word: &[u8]) -> bool
+    ensures { result ≡ is_name_in graph.now.format word.now }
+{
+    name_in(graph, word).is_some()
+}
+
+/// The words as names of the graph's format. `None` exactly where one of them is spelled otherwise.
+pub(crate) fn names_in(
+    alloc: Global,
+    graph: &Graph,
+    words: &[&[u8]],
+) -> Result<Option<Vec<Name>>, NoMemory>
+    ensures { IfOk result (λ o. MatchOption o (list_all (is_name_in graph.now.format) (contents words.now) ≡ false)
+        (λ v. (v.items ≡ contents words.now) × (list_all (is_name_in graph.now.format) (contents words.now) ≡ true))) }
+{
+    names_of(alloc, graph.format(), words)
 }
 
 pub(crate) fn is_user(verb: &Verb) -> bool

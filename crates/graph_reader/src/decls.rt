@@ -5,7 +5,7 @@ ghost use Rattle.graph_terms.specs.Fits.{decl_fault, is_used};
 ghost use Rattle.graph_words.specs.Draft.{space_with, inst_with, lock_with, barrier_with};
 ghost use Rattle.graph_reader.specs.Reading.{IsDeclBy, IsDeclRead, space_error, space_reason, inst_reason, inst_decl, AreFields, AreNoFields};
 
-use crate::checks::is_name;
+use crate::checks::{is_name, name_in, names_in};
 use crate::item::ItemError;
 use crate::lookup::{look_up, space, stands_for};
 use graph_model::graph::Graph;
@@ -14,7 +14,7 @@ use graph_terms::lists::{ItemList, NameList};
 use graph_terms::name::Name;
 use graph_terms::why::Why;
 use graph_words::intervals::intervals;
-use graph_words::names::{has_repeat, names_of};
+use graph_words::names::has_repeat;
 use graph_words::numbers::{count, value};
 use graph_words::words::split;
 use index_spaces::Op;
@@ -35,7 +35,7 @@ fn fitting_decl(graph: &Graph, decl: Decl) -> Result<Decl, ItemError>
 pub(crate) fn read_lock(graph: &Graph, name: &[u8]) -> Result<Decl, ItemError>
     ensures { IsDeclRead graph.now (lock_with name.now) result }
 {
-    let Some(name) = Name::new(name) else {
+    let Some(name) = name_in(graph, name) else {
         return Err(ItemError::Refused(Why::Name));
     };
     fitting_decl(graph, Decl::Lock { name })
@@ -51,7 +51,7 @@ pub(crate) fn read_barrier(
 ) -> Result<Decl, ItemError>
     ensures { IsDeclRead graph.now (barrier_with name.now arrivals.now op first.now) result }
 {
-    let Some(new) = Name::new(name) else {
+    let Some(new) = name_in(graph, name) else {
         return Err(ItemError::Refused(Why::Name));
     };
     if stands_for(graph, &new).is_some() {
@@ -118,7 +118,7 @@ pub(crate) fn read_space(
 ) -> Result<Decl, ItemError>
     ensures { IsDeclRead graph.now (space_with name.now word.now) result }
 {
-    let Some(new) = Name::new(name) else {
+    let Some(new) = name_in(graph, name) else {
         return Err(ItemError::Refused(Why::Name));
     };
     if stands_for(graph, &new).is_some() {
@@ -132,13 +132,13 @@ pub(crate) fn read_space(
 }
 
 /// The fields that a word spells, with a comma between each two.
-fn read_fields(alloc: Global, word: &[u8]) -> Result<Vec<Name>, ItemError>
-    ensures { MatchResult result (λ v. AreFields word.now v.items) (AreNoFields word.now) }
+fn read_fields(alloc: Global, graph: &Graph, word: &[u8]) -> Result<Vec<Name>, ItemError>
+    ensures { MatchResult result (λ v. AreFields graph.now.format word.now v.items) (AreNoFields graph.now.format word.now) }
 {
     let Ok(words) = split(alloc, word, b',') else {
         return Err(ItemError::NoMemory);
     };
-    match names_of(alloc, &words) {
+    match names_in(alloc, graph, &words) {
         Ok(Some(names)) => Ok(names),
         Ok(None) => Err(ItemError::Refused(Why::Name)),
         Err(_) => Err(ItemError::NoMemory),
@@ -194,13 +194,13 @@ pub(crate) fn read_inst(
 ) -> Result<Decl, ItemError>
     ensures { IsDeclRead graph.now (inst_with graph.now name.now space_word.now word.now) result }
 {
-    let Some(new) = Name::new(name) else {
+    let Some(new) = name_in(graph, name) else {
         return Err(ItemError::Refused(Why::Name));
     };
-    if !is_name(space_word) {
+    if !is_name(graph, space_word) {
         return Err(ItemError::Refused(Why::Name));
     }
-    let fields = read_fields(alloc, word)?;
+    let fields = read_fields(alloc, graph, word)?;
     if stands_for(graph, &new).is_some() {
         return Err(ItemError::Refused(Why::Twice));
     }

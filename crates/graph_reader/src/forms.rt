@@ -9,6 +9,7 @@ ghost use Rattle.graph_terms.specs.Table.{is_column, parts_of};
 ghost use Rattle.graph_words.specs.Draft.{form_of, number_in, words_in};
 ghost use Rattle.graph_reader.specs.Kinds.{kind_placed, form_placed, AllTell, column_words, kind_draft, kind_on, later_reason, HasPlaces, IsFormFault, IsReading};
 
+use crate::checks::name_in;
 use crate::faults::Faults;
 use crate::lookup::stands_for;
 use crate::parts::read_parts;
@@ -159,7 +160,7 @@ pub(crate) fn read_form(
     requires { HasPlaces kind (contents words.now) }
     ensures { IsReading graph.now (kind_draft graph.now kind name.now (contents words.now)) result }
 {
-    let Some(name) = Name::new(name) else {
+    let Some(name) = name_in(graph, name) else {
         return Err(Why::Name);
     };
     let seen = see_form(graph, kind, words);

@@ -3,10 +3,11 @@
 ghost use Rattle.std.specs.Prelude.{◌≡◌, ◌<◌, ℕ, not, List, length, position, IfSome};
 ghost use Rattle.std.specs.Str.{bytes_eq};
 ghost use Rattle.graph_terms.specs.declared.verb.Line.{Line};
-ghost use Rattle.graph_terms.specs.Name.{is_name};
+ghost use Rattle.graph_terms.specs.Name.{is_name_in};
 ghost use Rattle.graph_terms.specs.Graph.{named_spaces};
 ghost use Rattle.graph_reader.specs.Lookups.{IsFound, found_space, found_lock, found_barrier, found_line, is_found_inst, column_names};
 
+use crate::checks::name_in;
 use graph_model::graph::Graph;
 use graph_terms::found::Found;
 use graph_terms::name::Name;
@@ -23,7 +24,7 @@ pub(crate) fn stands_for(graph: &Graph, name: &Name) -> Option<Found>
 /// A word that was looked up.
 #[derive(Clone, Copy)]
 pub(crate) struct Lookup {
-    /// It is not spelled as a name.
+    /// It is not spelled as a name of the graph's format.
     pub(crate) misnamed: bool,
     /// What it stands for. `None` exactly where no item has it as its name.
     pub(crate) found: Option<Found>,
@@ -31,11 +32,11 @@ pub(crate) struct Lookup {
 
 /// What a word stands for in the graph.
 pub(crate) fn look_up(graph: &Graph, word: &[u8]) -> Lookup
-    ensures misnamed { result.misnamed ≡ not (is_name word.now) }
+    ensures misnamed { result.misnamed ≡ not (is_name_in graph.now.format word.now) }
     ensures found { IsFound graph.now word.now result.found }
 {
     let _ = graph.decls();
-    match Name::new(word) {
+    match name_in(graph, word) {
         Some(name) => Lookup {
             misnamed: false,
             found: graph.find(&name),
@@ -106,15 +107,15 @@ pub(crate) fn line(graph: &Graph, word: &[u8]) -> Option<u32>
     as_line(look_up(graph, word).found)
 }
 
-/// The names that a word in the place of a column has, with a dot between them.
+/// The names of the graph's format that a word in the place of a column has, with a dot between them.
 #[tactic(auto, unfolding(crate::specs::Lookups::column_names))]
-pub(crate) fn column_names(word: &[u8]) -> Option<(Name, Name)>
-    ensures { result ≡ column_names word.now }
+pub(crate) fn column_names(graph: &Graph, word: &[u8]) -> Option<(Name, Name)>
+    ensures { result ≡ column_names graph.now.format word.now }
 {
     let Some((inst, field)) = around_dot(word) else {
         return None;
     };
-    let inst = Name::new(inst)?;
-    let field = Name::new(field)?;
+    let inst = name_in(graph, inst)?;
+    let field = name_in(graph, field)?;
     Some((inst, field))
 }

@@ -5,11 +5,12 @@ ghost use Rattle.std.specs.Prelude.{◌≡◌, map, not, false, true, IfOk, Matc
 ghost use Rattle.std.specs.List.{list_any};
 ghost use Rattle.std.specs.Str.{bytes_eq};
 ghost use Rattle.graph_terms.specs.Fits.{repeats, is_used};
-ghost use Rattle.graph_terms.specs.Name.{is_name};
+ghost use Rattle.graph_terms.specs.Name.{is_name_in};
 ghost use Rattle.graph_words.specs.Draft.{line_number, merge_with};
 ghost use Rattle.graph_reader.specs.Merges.{merge_verb, merge_reason, all_lines, IsMergeError};
 ghost use Rattle.graph_reader.specs.Reading.{IsLineRead};
 
+use crate::checks::{name_in, names_in};
 use crate::item::ItemError;
 use crate::lookup::{line, look_up, stands_for};
 use graph_model::graph::Graph;
@@ -18,7 +19,7 @@ use graph_terms::lists::LineList;
 use graph_terms::name::Name;
 use graph_terms::verb::{Line, Verb};
 use graph_terms::why::Why;
-use graph_words::names::{has_repeat, names_of};
+use graph_words::names::has_repeat;
 use index_spaces::NoMemory;
 use index_spaces::room::{push_within, with_room};
 use std::alloc::Global;
@@ -54,7 +55,7 @@ fn merge_fault(alloc: Global, graph: &Graph, name: &Name, words: &[&[u8]]) -> Re
     requires { all_lines graph.now (contents words.now) ≡ false }
     ensures { IfOk result (λ why. merge_reason graph.now name.now (contents words.now) ≡ Some why) }
 {
-    let Some(names) = names_of(alloc, words)? else {
+    let Some(names) = names_in(alloc, graph, words)? else {
         return Ok(Why::Name);
     };
     let repeated = has_repeat(alloc, &names)?;
@@ -80,13 +81,13 @@ fn merge_error(alloc: Global, graph: &Graph, name: &Name, words: &[&[u8]]) -> It
 
 /// Whether there are more words than a merge may have, and one of them stands there twice. A graph compares fewer pair by
 /// pair.
-fn many_repeat(alloc: Global, words: &[&[u8]]) -> Result<bool, NoMemory>
+fn many_repeat(alloc: Global, graph: &Graph, words: &[&[u8]]) -> Result<bool, NoMemory>
     ensures { IfOk result (λ b. b ≡ true → repeats bytes_eq (contents words.now) ≡ true) }
 {
     if words.len() <= MAX_EVENTS as usize {
         return Ok(false);
     }
-    match names_of(alloc, words)? {
+    match names_in(alloc, graph, words)? {
         Some(names) => has_repeat(alloc, &names),
         None => Ok(false),
     }
@@ -122,13 +123,13 @@ fn read_lines(
     words: &[&[u8]],
     numbers: Vec<u32>,
 ) -> Result<Line, ItemError>
-    requires named { is_name name ≡ true }
+    requires named { is_name_in graph.now.format name ≡ true }
     requires lines { all_lines graph.now (contents words.now) ≡ true }
     requires numbers { numbers.items ≡ map (line_number graph.now) (contents words.now) }
     ensures { IsLineRead graph.now (merge_with graph.now name (merge_verb ignores) (contents words.now)) result }
 {
     let _ = graph.decls();
-    match many_repeat(alloc, words) {
+    match many_repeat(alloc, graph, words) {
         Ok(false) => {}
         Ok(true) => return Err(ItemError::Refused(Why::Twice)),
         Err(_) => return Err(ItemError::NoMemory),
@@ -149,7 +150,7 @@ pub(crate) fn read_merge(
 ) -> Result<Line, ItemError>
     ensures { IsLineRead graph.now (merge_with graph.now name.now (merge_verb ignores) (contents words.now)) result }
 {
-    let Some(name) = Name::new(name) else {
+    let Some(name) = name_in(graph, name) else {
         return Err(ItemError::Refused(Why::Name));
     };
     match lines_of(alloc, graph, words) {

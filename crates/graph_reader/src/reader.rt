@@ -4,8 +4,8 @@ ghost use Rattle.std.specs.Prelude.{◌≡◌, ◌++◌, ◌-◌, ◌^◌, ◌<�
 ghost use Rattle.graph_terms.specs.Spelling.{header};
 ghost use Rattle.graph_reader.specs.FirstFault.{HasNoHeader};
 ghost use Rattle.graph_words.specs.Words.{pieces};
-ghost use Rattle.graph_words.specs.Text.{GraphText};
-ghost use Rattle.graph_reader.specs.Reading.{item_value, with_value, open_fault, MayFollow, IsOpenError, IsTaken, IsWordsError, IsRefusal, IsReadAs, closed_reading};
+ghost use Rattle.graph_words.specs.Text.{GraphText, bare_of, number_of};
+ghost use Rattle.graph_reader.specs.Reading.{item_value, with_value, open_fault, MayFollow, IsOpenError, IsTaken, IsWordsError, IsRefusal, IsReadAs, HasLine, IsBareReadAs, closed_reading};
 ghost use Rattle.graph_reader.specs.declared.reader.Reading.{Reading};
 
 use crate::ReadRefusal;
@@ -15,6 +15,7 @@ use graph_model::graph::Graph;
 use graph_terms::format::Format;
 use graph_terms::limits::MAX_TEXT;
 use graph_terms::why::Why;
+use graph_words::comments::{bare_of, number_of};
 use graph_words::cuts::cut;
 use index_spaces::NoMemory;
 use std::alloc::Global;
@@ -26,8 +27,11 @@ fn read_header(bytes: &[u8]) -> Option<(Format, &[u8])>
     if let Some(rest) = bytes.strip_prefix(b"realm 1\n".as_slice()) {
         return Some((Format::One, rest));
     }
-    match bytes.strip_prefix(b"realm 2\n".as_slice()) {
-        Some(rest) => Some((Format::Two, rest)),
+    if let Some(rest) = bytes.strip_prefix(b"realm 2\n".as_slice()) {
+        return Some((Format::Two, rest));
+    }
+    match bytes.strip_prefix(b"realm 3\n".as_slice()) {
+        Some(rest) => Some((Format::Three, rest)),
         None => None,
     }
 }
@@ -87,9 +91,49 @@ pub struct Unread {
     pub above: Option<Graph>,
 }
 
-/// What bytes are read as.
+/// What bytes are read as. The lines that are empty or begin with `#` say nothing in a text of
+/// format 3, and count where lines are numbered.
 pub fn read_text(alloc: Global, bytes: &[u8]) -> Result<Reading, NoMemory>
     ensures { IfOk result (IsReadAs bytes.now) }
+{
+    match bare_of(alloc, bytes)? {
+        Some(bare) => {
+            let reading = read_bare(alloc, &bare)?;
+            Ok(in_whole(bytes, reading))
+        }
+        None => {
+            let reading = read_bare(alloc, bytes)?;
+            Ok(in_whole(bytes, reading))
+        }
+    }
+}
+
+/// What bytes are read as, by what they are read as without their comments.
+fn in_whole(bytes: &[u8], reading: Reading) -> Reading
+    requires { IsBareReadAs (bare_of bytes.now) reading }
+    ensures { IsReadAs bytes.now result }
+{
+    match reading {
+        Reading::Graph(graph) => Reading::Graph(graph),
+        Reading::Refused(Unread { number, why, above }) => Reading::Refused(Unread {
+            number: whole_number(bytes, number),
+            why,
+            above,
+        }),
+    }
+}
+
+/// The number among all lines of a line that has this number without comments.
+fn whole_number(bytes: &[u8], number: u32) -> u32
+    requires { HasLine (bare_of bytes.now) number }
+    ensures { result ≡ number_of bytes.now number }
+{
+    number_of(bytes, number) as u32
+}
+
+/// What bytes without comments are read as.
+fn read_bare(alloc: Global, bytes: &[u8]) -> Result<Reading, NoMemory>
+    ensures { IfOk result (IsBareReadAs bytes.now) }
 {
     let Some((format, mut rest)) = read_header(bytes) else {
         return Ok(Reading::Refused(Unread {

@@ -136,7 +136,7 @@ fn see_column(graph: &Graph, word: &[u8]) -> Seen
     ensures { Tells graph.now Column word.now result }
 {
     let _ = graph.decls();
-    match column_names(word) {
+    match column_names(graph, word) {
         Some((inst, field)) => {
             let found = stands_for(graph, &inst);
             column_seen(false, found, graph.find_column(&inst, &field))

@@ -5,7 +5,6 @@ use Rattle.graph_terms.specs.declared.verb.Verb.TheVariants.{Acquire}
 use Rattle.graph_terms.specs.Graph.{GraphValue, locks}
 use Rattle.graph_terms.specs.Access.{verb_accesses}
 use Rattle.graph_terms.specs.Fits.{named_lines, verb_values, verb_repeats, verb_unknown, verb_unlike, takes_no_on}
-use Rattle.graph_terms.specs.Laws.{LatestFormatHasVerbs}
 
 pub acquire_names : (l : ℕ) (s : Bool) → named_lines (Acquire l s) ≡ []
 acquire_names l true = refl
@@ -36,7 +35,3 @@ acquire_unlike g l false = refl
 pub acquire_takes_on : (l : ℕ) (s : Bool) → takes_no_on (Acquire l s) ≡ false
 acquire_takes_on l true = refl
 acquire_takes_on l false = refl
-
--- format 2 has each verb
-pub none_lacks : LatestFormatHasVerbs
-none_lacks v = refl

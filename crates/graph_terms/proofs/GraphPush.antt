@@ -1,34 +1,35 @@
 -- A graph with one more item that fits: it is a graph, and its text has one line more.
 use Rattle.std.proofs.Common.{◌≡◌, ℕ, ◌+◌, ◌≤◌, List, [], ◌∷◌, ◌++◌, length, sym, ◌∙◌, ap, subst, append_assoc, append-nil, length-append, arith}
-use Rattle.std.specs.Prelude.{None, nat_lt}
+use Rattle.std.specs.Prelude.{None, nat_lt, IsTrue}
 use Rattle.std.specs.List.{join_with_byte}
 use Rattle.std.proofs.lemmas.Bool.{or_parts, ltb-false}
 use Rattle.graph_terms.specs.declared.format.Format.{Format}
 use Rattle.graph_terms.specs.declared.decl.Decl.{Decl}
 use Rattle.graph_terms.specs.declared.verb.Line.{Line}
 use Rattle.graph_terms.specs.Graph.{GraphValue}
+use Rattle.graph_terms.specs.Name.{is_name_in}
 use Rattle.graph_terms.specs.Spelling.{spelled, decl_words, line_words, header, decls_text, lines_text, head, body}
-use Rattle.graph_terms.specs.Fits.{is_beyond, with_decl, with_line, decl_fault, line_fault, IsDecl, IsLine, DeclsFit, LinesFit}
+use Rattle.graph_terms.specs.Fits.{is_beyond, with_decl, with_line, decl_fault, line_fault, IsDecl, is_decl_named, IsLine, DeclsFit, LinesFit}
 use Rattle.graph_terms.specs.Laws.{FittingDeclarationStays, FittingLineStays, TextOfOneMoreDeclaration, HeadWithDeclaration, HeadWithLine, DeclarationsBelowBytes, ItemsBelowBytes, ShortWithinLimits}
 
 -- a graph and an item that fits after it
-pub decls_push : (fm : Format) (b ds : List Decl) (d : Decl) → DeclsFit fm b ds → IsDecl d → decl_fault (record { format = fm; decls = b ++ ds; lines = [] }) d ≡ None → DeclsFit fm b (ds ++ d ∷ [])
-decls_push fm b [] d f i h = (i, subst (λ xs. decl_fault (record { format = fm; decls = xs; lines = [] }) d ≡ None) (append-nil b) h, tt)
-decls_push fm b (e ∷ ds) d f i h = (f.0, f.1, decls_push fm (b ++ e ∷ []) ds d f.2 i (subst (λ xs. decl_fault (record { format = fm; decls = xs; lines = [] }) d ≡ None) (sym (append_assoc b (e ∷ []) ds)) h))
+pub decls_push : (fm : Format) (b ds : List Decl) (d : Decl) → DeclsFit fm b ds → IsDecl d → IsTrue (is_decl_named fm d) → decl_fault (record { format = fm; decls = b ++ ds; lines = [] }) d ≡ None → DeclsFit fm b (ds ++ d ∷ [])
+decls_push fm b [] d f i n h = (i, subst (λ xs. decl_fault (record { format = fm; decls = xs; lines = [] }) d ≡ None) (append-nil b) h, tt, n)
+decls_push fm b (e ∷ ds) d f i n h = (f.0, f.1, decls_push fm (b ++ e ∷ []) ds d f.2 i n (subst (λ xs. decl_fault (record { format = fm; decls = xs; lines = [] }) d ≡ None) (sym (append_assoc b (e ∷ []) ds)) h), f.3)
 
-pub lines_push : (fm : Format) (decls : List Decl) (b ls : List Line) (l : Line) → LinesFit fm decls b ls → IsLine l → line_fault (record { format = fm; decls = decls; lines = b ++ ls }) l ≡ None → LinesFit fm decls b (ls ++ l ∷ [])
-lines_push fm decls b [] l f i h = (i, subst (λ xs. line_fault (record { format = fm; decls = decls; lines = xs }) l ≡ None) (append-nil b) h, tt)
-lines_push fm decls b (k ∷ ls) l f i h = (f.0, f.1, lines_push fm decls (b ++ k ∷ []) ls l f.2 i (subst (λ xs. line_fault (record { format = fm; decls = decls; lines = xs }) l ≡ None) (sym (append_assoc b (k ∷ []) ls)) h))
+pub lines_push : (fm : Format) (decls : List Decl) (b ls : List Line) (l : Line) → LinesFit fm decls b ls → IsLine l → IsTrue (is_name_in fm l.name) → line_fault (record { format = fm; decls = decls; lines = b ++ ls }) l ≡ None → LinesFit fm decls b (ls ++ l ∷ [])
+lines_push fm decls b [] l f i n h = (i, subst (λ xs. line_fault (record { format = fm; decls = decls; lines = xs }) l ≡ None) (append-nil b) h, tt, n)
+lines_push fm decls b (k ∷ ls) l f i n h = (f.0, f.1, lines_push fm decls (b ++ k ∷ []) ls l f.2 i n (subst (λ xs. line_fault (record { format = fm; decls = decls; lines = xs }) l ≡ None) (sym (append_assoc b (k ∷ []) ls)) h), f.3)
 
 -- a graph with a declaration that fits, before any line, and one with a line that fits
 pub push_decl : FittingDeclarationStays
-push_decl g d h i e f = record {
-  decls = decls_push g.format [] g.decls d h.decls i (subst (λ ls. decl_fault (record { format = g.format; decls = g.decls; lines = ls }) d ≡ None) e f);
+push_decl g d h i n e f = record {
+  decls = decls_push g.format [] g.decls d h.decls i n (subst (λ ls. decl_fault (record { format = g.format; decls = g.decls; lines = ls }) d ≡ None) e f);
   lines = subst (λ ls. LinesFit g.format (g.decls ++ d ∷ []) [] ls) (sym e) tt;
 }
 
 pub push_line : FittingLineStays
-push_line g l h i f = record { decls = h.decls; lines = lines_push g.format g.decls [] g.lines l h.lines i f }
+push_line g l h i n f = record { decls = h.decls; lines = lines_push g.format g.decls [] g.lines l h.lines i n f }
 
 pub decls_text_push : TextOfOneMoreDeclaration
 decls_text_push fm b [] d = append-nil (spelled (decl_words (record { format = fm; decls = b; lines = [] }) d)) ∙ ap (λ xs. spelled (decl_words (record { format = fm; decls = xs; lines = [] }) d)) (sym (append-nil b))

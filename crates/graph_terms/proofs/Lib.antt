@@ -3,6 +3,7 @@ pub mod KindLaws
 pub mod AcquireLaws
 pub mod ArriveLaws
 pub mod GraphFacts
+pub mod FormatLaws
 pub mod FitsTable
 pub mod GraphPush
 pub mod LastPlace

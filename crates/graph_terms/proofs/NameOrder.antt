@@ -4,11 +4,12 @@ use Rattle.std.specs.Prelude.{nat_le, ◌==◌}
 use Rattle.std.specs.Ordering.{nat_cmp, ordering_then}
 use Rattle.std.specs.Cmp.Lexicographic.{slice_cmp}
 use Rattle.std.specs.Cmp.{nat_cmp_is}
-use Rattle.std.specs.Char.{is_ascii_lowercase, is_ascii_digit}
+use Rattle.std.specs.Char.{is_ascii_lowercase, is_ascii_uppercase, is_ascii_digit}
 use Rattle.std.specs.List.{list_all, AllByRecursion}
 use Rattle.std.proofs.Math.Nat.{mul-le-mul_right}
 use Rattle.std.proofs.lemmas.Bool.{cases_lt, and_parts, leb-true, or_cases, eqb-true}
-use Rattle.graph_terms.specs.Name.{is_name_byte, is_name, padded}
+use Rattle.graph_terms.specs.declared.format.Format.TheVariants.{Three}
+use Rattle.graph_terms.specs.Name.{is_first_byte, is_later_byte, is_name_in, padded}
 use Rattle.graph_terms.specs.NameLaws.{front_number}
 
 -- what the first k bytes come to, the first of them the highest digit
@@ -106,7 +107,7 @@ with_zeros (b ∷ bs) n (suc i) = with_zeros bs n i
 
 front_of_padded : (d : List ℕ) → front_number (padded d) ≡ front_number d
 front_of_padded d =
-    let n = 31 - length d in
+    let n = 63 - length d in
     let a = with_zeros d n 0 in
     let b = with_zeros d n 1 in
     let c = with_zeros d n 2 in
@@ -118,30 +119,34 @@ front_of_padded d =
     omega (arith, a, b, c, e, f, g, h, i)
 
 -- the bytes of a name
-name_byte : (b : ℕ) → is_name_byte b ≡ true → b < 256
-name_byte b h = elim (or_cases (is_ascii_lowercase b) (is_ascii_digit b || b == 95) h) [
+first_small : (b : ℕ) → is_first_byte b ≡ true → b < 256
+first_small b h = elim (or_cases (is_ascii_lowercase b) (is_ascii_uppercase b || b == 95) h) [
   | inl l ↦ (let p = and_parts (nat_le 97 b) (nat_le b 122) l in let q = leb-true b 122 p.1 in omega (arith, q))
-  | inr m ↦ elim (or_cases (is_ascii_digit b) (b == 95) m) [
-    | inl l ↦ (let p = and_parts (nat_le 48 b) (nat_le b 57) l in let q = leb-true b 57 p.1 in omega (arith, q))
+  | inr m ↦ elim (or_cases (is_ascii_uppercase b) (b == 95) m) [
+    | inl l ↦ (let p = and_parts (nat_le 65 b) (nat_le b 90) l in let q = leb-true b 90 p.1 in omega (arith, q))
     | inr e ↦ (let q = eqb-true b 95 e in omega (arith, q))
   ]
 ]
 
-name_bytes : (bs : List ℕ) → list_all is_name_byte bs ≡ true → Bytes bs
-name_bytes [] h = tt
-name_bytes (b ∷ bs) h = let p = and_parts (is_name_byte b) (list_all is_name_byte bs) h in (name_byte b p.0, name_bytes bs p.1)
+later_small : (b : ℕ) → is_later_byte b ≡ true → b < 256
+later_small b h = elim (or_cases (is_first_byte b) (is_ascii_digit b) h) [
+  | inl l ↦ first_small b l
+  | inr l ↦ (let p = and_parts (nat_le 48 b) (nat_le b 57) l in let q = leb-true b 57 p.1 in omega (arith, q))
+]
 
-bytes_of : (d : List ℕ) → is_name d ≡ true → Bytes d
+name_bytes : (bs : List ℕ) → list_all is_later_byte bs ≡ true → Bytes bs
+name_bytes [] h = tt
+name_bytes (b ∷ bs) h = let p = and_parts (is_later_byte b) (list_all is_later_byte bs) h in (later_small b p.0, name_bytes bs p.1)
+
+bytes_of : (d : List ℕ) → is_name_in Three d ≡ true → Bytes d
 bytes_of [] h = tt
 bytes_of (b ∷ bs) h =
-    let p = and_parts (nat_le (length (b ∷ bs)) 31 && is_ascii_lowercase b) (list_all is_name_byte bs) h in
-    let q = and_parts (nat_le (length (b ∷ bs)) 31) (is_ascii_lowercase b) p.0 in
-    let r = and_parts (nat_le 97 b) (nat_le b 122) q.1 in
-    let s = leb-true b 122 r.1 in
-    (omega (arith, s), name_bytes bs p.1)
+    let p = and_parts (nat_le (length (b ∷ bs)) 63 && is_first_byte b) (list_all is_later_byte bs) h in
+    let q = and_parts (nat_le (length (b ∷ bs)) 63) (is_first_byte b) p.0 in
+    (first_small b q.1, name_bytes bs p.1)
 
 -- names whose first bytes come to different numbers are ordered as these
-pub ordered_by_front : (xs ys : List ℕ) → is_name xs ≡ true → is_name ys ≡ true → (f g : ℕ) → f ≡ front_number (padded xs) → g ≡ front_number (padded ys) → (f ≡ g → ⊥) → nat_cmp f g ≡ slice_cmp nat_cmp xs ys
+pub ordered_by_front : (xs ys : List ℕ) → is_name_in Three xs ≡ true → is_name_in Three ys ≡ true → (f g : ℕ) → f ≡ front_number (padded xs) → g ≡ front_number (padded ys) → (f ≡ g → ⊥) → nat_cmp f g ≡ slice_cmp nat_cmp xs ys
 ordered_by_front xs ys h i f g e j n =
     let one : f ≡ value 8 xs = e ∙ front_of_padded xs ∙ sym (eight xs) in
     let other : g ≡ value 8 ys = j ∙ front_of_padded ys ∙ sym (eight ys) in

@@ -1,5 +1,5 @@
 -- The laws that the proofs of other crates cite, as specs/ states them.
-use Rattle.graph_terms.specs.Laws.{AcquireByTest, ReleaseByTest, VerbOfAcquire, VerbOfRelease, AcquiresByVerb, ReleasesByVerb, PassingLineHasVerb, LinePassesAsVerb, VerbHasLine, VerbsAreBelowEnd, PassingLinesAreBelowEnd, ReleasesOneAcquire, AcquiresOneReservation, BothSharedEitherWay, PhaseByTest, AcquiresOrNot, NeverComesAs, ReservationOfVerbDeclared, ReservationOfLineDeclared, ReleaseNamesAcquire, OneRelease, NoReasonNoFault, FittingLinesNameKnown, NamedLinesAreAbove, EdgesReachNoFurther, EdgesJoinLines, DeclaredSpacesAreSpaces, LinesFitInPlace, NumberedSpacesAreSpaces, BarrierOfPhaseDeclared, SpacesOfColumnsDeclared, SpaceOfColumnDeclared, FittingDeclarationStays, FittingLineStays, TextOfOneMoreDeclaration, HeadWithDeclaration, HeadWithLine, DeclarationsBelowBytes, ItemsBelowBytes, ShortWithinLimits, EdgesOfEachLine, EdgeOfArrival, FittingKind, EndedUserEvent, EdgesOfOneMoreLine, ArrivalsAccessNothing, ArrivalsNamePhase, OutsideBySpaces, LastPlaceAtEnd, LastPlaceBelowEnd, LatestFormatHasVerbs, PartForEachPlace, RowsOfVerbs, RowsOfKinds, NonePlacedPasses, AccessOfColumn, AccessOfSpace, ColumnsOverSpaces, NoAccessPasses, SameInEachPlace, KindOfItsVerb, PartsOfItsVerb, VerbOfItsParts, FewAccesses}
+use Rattle.graph_terms.specs.Laws.{AcquireByTest, ReleaseByTest, VerbOfAcquire, VerbOfRelease, AcquiresByVerb, ReleasesByVerb, PassingLineHasVerb, LinePassesAsVerb, VerbHasLine, VerbsAreBelowEnd, PassingLinesAreBelowEnd, ReleasesOneAcquire, AcquiresOneReservation, BothSharedEitherWay, PhaseByTest, AcquiresOrNot, NeverComesAs, ReservationOfVerbDeclared, ReservationOfLineDeclared, ReleaseNamesAcquire, OneRelease, NoReasonNoFault, FittingLinesNameKnown, NamedLinesAreAbove, EdgesReachNoFurther, EdgesJoinLines, DeclaredSpacesAreSpaces, LinesFitInPlace, NumberedSpacesAreSpaces, BarrierOfPhaseDeclared, SpacesOfColumnsDeclared, SpaceOfColumnDeclared, FittingDeclarationStays, FittingLineStays, TextOfOneMoreDeclaration, HeadWithDeclaration, HeadWithLine, DeclarationsBelowBytes, ItemsBelowBytes, ShortWithinLimits, EdgesOfEachLine, EdgeOfArrival, FittingKind, EndedUserEvent, EdgesOfOneMoreLine, ArrivalsAccessNothing, ArrivalsNamePhase, OutsideBySpaces, LastPlaceAtEnd, LastPlaceBelowEnd, SinceByRank, FormatThreeIsLast, UpgradedFormatIsLater, LaterFormatsHaveVerbs, LaterFormatsHaveNames, NamesAreLongNames, LaterFormatsHaveDeclarations, PartForEachPlace, RowsOfVerbs, RowsOfKinds, NonePlacedPasses, AccessOfColumn, AccessOfSpace, ColumnsOverSpaces, NoAccessPasses, SameInEachPlace, KindOfItsVerb, PartsOfItsVerb, VerbOfItsParts, FewAccesses}
 use Rattle.graph_terms.proofs.VerbFacts as verb_facts
 use Rattle.graph_terms.proofs.ReleaseFacts as release_facts
 use Rattle.graph_terms.proofs.GraphFacts as graph_facts
@@ -8,7 +8,7 @@ use Rattle.graph_terms.proofs.EdgeFacts as edge_facts
 use Rattle.graph_terms.proofs.ArriveLaws as arrive_laws
 use Rattle.graph_terms.proofs.FaultLaws as fault_laws
 use Rattle.graph_terms.proofs.LastPlace as last_place
-use Rattle.graph_terms.proofs.AcquireLaws as acquire_laws
+use Rattle.graph_terms.proofs.FormatLaws as format_laws
 use Rattle.graph_terms.proofs.KindLaws as kind_laws
 
 pub acquire_of_is : AcquireByTest
@@ -161,8 +161,26 @@ last_place_here = last_place.last_place_here
 pub last_place_below : LastPlaceBelowEnd
 last_place_below = last_place.last_place_below
 
-pub none_lacks : LatestFormatHasVerbs
-none_lacks = acquire_laws.none_lacks
+pub since_by_rank : SinceByRank
+since_by_rank = format_laws.since_by_rank
+
+pub three_is_last : FormatThreeIsLast
+three_is_last = format_laws.three_is_last
+
+pub upgraded_later : UpgradedFormatIsLater
+upgraded_later = format_laws.upgraded_later
+
+pub later_verbs : LaterFormatsHaveVerbs
+later_verbs = format_laws.later_verbs
+
+pub later_names : LaterFormatsHaveNames
+later_names = format_laws.later_names
+
+pub long_names : NamesAreLongNames
+long_names = format_laws.long_names
+
+pub later_decls : LaterFormatsHaveDeclarations
+later_decls = format_laws.later_decls
 
 pub part_for_each : PartForEachPlace
 part_for_each = kind_laws.part_for_each

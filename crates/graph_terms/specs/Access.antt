@@ -6,7 +6,7 @@ use Rattle.graph_terms.specs.declared.verb.Access.{Access}
 use Rattle.graph_terms.specs.declared.verb.Mode.{Mode}
 use Rattle.graph_terms.specs.declared.verb.Mode.TheVariants.{Read, Write, Sum, Least, Most}
 use Rattle.graph_terms.specs.declared.format.Format.{Format}
-use Rattle.graph_terms.specs.declared.format.Format.TheVariants.{One, Two}
+use Rattle.graph_terms.specs.declared.format.Format.TheVariants.{One}
 use Rattle.graph_terms.specs.declared.verb.Verb.{Verb}
 use Rattle.graph_terms.specs.declared.verb.Verb.TheVariants.{Task}
 use Rattle.graph_terms.specs.declared.table.Kernel.{Kernel}
@@ -55,7 +55,7 @@ kernel_accesses kernel = verb_accesses (Task kernel)
 -- a reduction by the least or the greatest value is a write to format 1
 abbrev pub or_write : Format → Mode → Mode
 or_write One m = Write
-or_write Two m = m
+or_write f m = m
 
 abbrev pub mode_in : Format → Mode → Mode
 mode_in f Read = Read

@@ -7,7 +7,8 @@ use Rattle.index_spaces.specs.Space.{has_point, points, space_size, IsSpace}
 use Rattle.index_spaces.specs.declared.limits.TheConstants.{MAX_INTERVALS, MAX_POINTS}
 use Rattle.graph_terms.specs.declared.limits.TheConstants.{MAX_TEXT, MAX_INSTS, MAX_COLUMNS, MAX_CELLS, MAX_LOCKS, MAX_BARRIERS, MAX_LINES, MAX_EDGES, MAX_EVENTS, MAX_COUNT}
 use Rattle.graph_terms.specs.declared.format.Format.{Format}
-use Rattle.graph_terms.specs.declared.format.Format.TheVariants.{One, Two}
+use Rattle.graph_terms.specs.declared.format.Format.TheVariants.{One, Two, Three}
+use Rattle.graph_terms.specs.Format.{has_since}
 use Rattle.graph_terms.specs.declared.decl.Decl.{Decl}
 use Rattle.graph_terms.specs.declared.decl.Decl.TheVariants.{Space, Inst, Lock, Barrier}
 use Rattle.graph_terms.specs.declared.verb.Line.{Line}
@@ -19,7 +20,7 @@ use Rattle.graph_terms.specs.declared.verb.Verb.TheVariants.{Merge, MergeIgnore,
 use Rattle.graph_terms.specs.declared.table.Place.{Place}
 use Rattle.graph_terms.specs.declared.table.Place.TheVariants as places
 use Rattle.graph_terms.specs.Table.{Placed, kind_takes_on, verb_kind, verb_placed, any_placed}
-use Rattle.graph_terms.specs.Name.{is_name}
+use Rattle.graph_terms.specs.Name.{is_name_in}
 use Rattle.graph_terms.specs.Graph.{GraphValue, decl_name, named_spaces, columns, locks, barriers, space_at, column_space, line_passes, is_user, is_phase, is_acquire, is_release_of, ends_user, arrivals, barrier_count, verb_at}
 use Rattle.graph_terms.specs.declared.decl.ColumnInfo.{ColumnInfo}
 use Rattle.graph_terms.specs.Edges.{edges}
@@ -155,13 +156,13 @@ takes_no_on v = not (option_map_or kind_takes_on (verb_kind v) false)
 
 -- a verb that the format has not
 abbrev pub format_lacks : Format → Verb → Bool
-format_lacks One (Acquire lock shared) = shared
-format_lacks _ _ = false
+format_lacks f (Acquire lock shared) = shared && not (has_since Two f)
+format_lacks f _ = false
 
 -- the most that one arrival may count for
 abbrev pub most_weight : Format → ℕ
 most_weight One = 1
-most_weight Two = MAX_COUNT
+most_weight f = MAX_COUNT
 
 -- a merge of no events, or a weight that the format has not
 abbrev pub verb_misnumbered : Format → Verb → Bool
@@ -211,10 +212,17 @@ line_fault g l = first_reason (line_tests g l)
 
 -- what the types say of a declaration
 abbrev pub IsDecl : Decl → Type 0
-IsDecl (Space name space) = IsTrue (is_name name) × IsSpace space
-IsDecl (Inst name space fields) = IsTrue (is_name name) × (space < 2 ^ 32) × AllByRecursion (λ f. IsTrue (is_name f)) fields
-IsDecl (Lock name) = IsTrue (is_name name)
-IsDecl (Barrier name count op first) = IsTrue (is_name name) × (count < 2 ^ 32) × (first < 2 ^ 64)
+IsDecl (Space name space) = IsTrue (is_name_in Three name) × IsSpace space
+IsDecl (Inst name space fields) = IsTrue (is_name_in Three name) × (space < 2 ^ 32) × AllByRecursion (λ f. IsTrue (is_name_in Three f)) fields
+IsDecl (Lock name) = IsTrue (is_name_in Three name)
+IsDecl (Barrier name count op first) = IsTrue (is_name_in Three name) × (count < 2 ^ 32) × (first < 2 ^ 64)
+
+-- the names that a declaration gives are names in a format: its own, and those of an instance's fields
+abbrev pub is_decl_named : Format → Decl → Bool
+is_decl_named f (Space name space) = is_name_in f name
+is_decl_named f (Inst name space fields) = is_name_in f name && list_all (is_name_in f) fields
+is_decl_named f (Lock name) = is_name_in f name
+is_decl_named f (Barrier name count op first) = is_name_in f name
 
 abbrev pub value_in : Place → ℕ → Option ℕ
 value_in places.Value n = Some n
@@ -234,18 +242,18 @@ IsVerb v = AreValues (verb_values v)
 
 -- what the types say of a line
 pub record IsLine (l : Line) : Type 0 where
-  pub named : IsTrue (is_name l.name)
+  pub named : IsTrue (is_name_in Three l.name)
   pub values : IsVerb l.verb
 
--- each declaration fits after those before it
+-- each declaration fits after those before it, and its names are names in the format
 abbrev pub DeclsFit : Format → List Decl → List Decl → Type 0
 DeclsFit f before [] = Unit {0}
-DeclsFit f before (d ∷ ds) = IsDecl d × (decl_fault (record { format = f; decls = before; lines = [] }) d ≡ None) × DeclsFit f (before ++ d ∷ []) ds
+DeclsFit f before (d ∷ ds) = IsDecl d × (decl_fault (record { format = f; decls = before; lines = [] }) d ≡ None) × DeclsFit f (before ++ d ∷ []) ds × IsTrue (is_decl_named f d)
 
--- each line fits after those before it
+-- each line fits after those before it, and its name is one in the format
 abbrev pub LinesFit : Format → List Decl → List Line → List Line → Type 0
 LinesFit f decls before [] = Unit {0}
-LinesFit f decls before (l ∷ ls) = IsLine l × (line_fault (record { format = f; decls = decls; lines = before }) l ≡ None) × LinesFit f decls (before ++ l ∷ []) ls
+LinesFit f decls before (l ∷ ls) = IsLine l × (line_fault (record { format = f; decls = decls; lines = before }) l ≡ None) × LinesFit f decls (before ++ l ∷ []) ls × IsTrue (is_name_in f l.name)
 
 -- each item of the graph fits after the items before it
 pub record IsGraph (g : GraphValue) : Type 0 where

@@ -6,7 +6,7 @@ use Rattle.std.specs.List.{list_any}
 pub use Rattle.graph_terms.specs.declared.decl.ColumnInfo.{ColumnInfo}
 pub use Rattle.graph_terms.specs.declared.decl.BarrierInfo.{BarrierInfo}
 use Rattle.graph_terms.specs.declared.format.Format.{Format}
-use Rattle.graph_terms.specs.declared.format.Format.TheVariants.{Two}
+use Rattle.graph_terms.specs.declared.format.Format.TheVariants.{Two, Three}
 use Rattle.graph_terms.specs.declared.decl.Decl.{Decl}
 use Rattle.graph_terms.specs.declared.decl.Decl.TheVariants.{Space, Inst, Lock, Barrier}
 use Rattle.graph_terms.specs.declared.verb.Line.{Line}
@@ -19,9 +19,18 @@ pub record GraphValue : Type 0 where
   pub decls : List Decl
   pub lines : List Line
 
--- the same graph in format 2
+-- the same declarations and lines in a format
+abbrev pub written_in : Format → GraphValue → GraphValue
+written_in f g = record { format = f; decls = g.decls; lines = g.lines }
+
+-- the format in which a graph of a format is written anew: 2, but for one of format 3 that
+abbrev pub upgraded_format : Format → Format
+upgraded_format Three = Three
+upgraded_format f = Two
+
+-- the same graph in format 2, or in format 3 where it has that
 abbrev pub upgraded : GraphValue → GraphValue
-upgraded g = record { format = Two; decls = g.decls; lines = g.lines }
+upgraded g = written_in (upgraded_format g.format) g
 
 -- the name that a declaration gives
 abbrev pub decl_name : Decl → List ℕ

@@ -1,12 +1,12 @@
 -- What holds of verbs, lines and graphs whose items fit.
-use Rattle.std.specs.Prelude.{◌≡◌, ℕ, true, Some, Bool, slice_get, ◌<◌, length, ◌⊎◌, false, List, Contains, None, ◌++◌, filter_map, flat_map, [], ◌∷◌, ◌≤◌, ◌+◌, ◌||◌, ◌&&◌, is_some, not, ◌↔◌, IsTrue, ◌-◌, take, get_or, zip, slice_index, map}
+use Rattle.std.specs.Prelude.{◌≡◌, ℕ, true, Some, Bool, slice_get, ◌<◌, length, ◌⊎◌, false, List, Contains, None, ◌++◌, filter_map, flat_map, [], ◌∷◌, ◌≤◌, ◌+◌, ◌||◌, ◌&&◌, is_some, not, ◌↔◌, IsTrue, ◌-◌, nat_le, take, get_or, zip, slice_index, map}
 use Rattle.graph_terms.specs.declared.verb.Verb.{Verb}
 use Rattle.graph_terms.specs.declared.verb.Verb.TheVariants.{Acquire, Release, Phase, User, Arrive}
-use Rattle.graph_terms.specs.Graph.{is_acquire_of, is_shared, is_release_of, GraphValue, verb_at, line_passes, is_phase, ends_user, never_comes_as, locks, space_of, named_spaces, space_at, barriers, columns_of, columns, is_user, column_space}
+use Rattle.graph_terms.specs.Graph.{upgraded_format, is_acquire_of, is_shared, is_release_of, GraphValue, verb_at, line_passes, is_phase, ends_user, never_comes_as, locks, space_of, named_spaces, space_at, barriers, columns_of, columns, is_user, column_space}
 use Rattle.graph_terms.specs.Reservations.{Acquires, Releases, both_shared}
 use Rattle.graph_terms.specs.declared.verb.Line.{Line}
 use Rattle.std.specs.List.{list_any}
-use Rattle.graph_terms.specs.Fits.{IsGraph, first_reason, line_fault, line_unknown, named_lines, on_lines, DeclsFit, LinesFit, with_decl, decl_fault, IsDecl, with_line, IsLine, is_beyond, takes_no_on, format_lacks, verb_unlike, access_outside}
+use Rattle.graph_terms.specs.Fits.{IsGraph, first_reason, line_fault, line_unknown, named_lines, on_lines, DeclsFit, LinesFit, with_decl, decl_fault, IsDecl, is_decl_named, with_line, IsLine, is_beyond, takes_no_on, format_lacks, verb_unlike, access_outside}
 use Rattle.graph_terms.specs.declared.why.Why.{Why}
 use Rattle.graph_terms.specs.declared.format.Format.{Format}
 use Rattle.graph_terms.specs.declared.decl.Decl.{Decl}
@@ -19,7 +19,9 @@ use Rattle.graph_terms.specs.declared.verb.EdgeKind.TheVariants.{Passes}
 use Rattle.graph_terms.specs.Access.{verb_accesses, access, accesses_of}
 use Rattle.index_spaces.specs.Laws.{PointsAreListed}
 use Rattle.graph_terms.specs.declared.verb.Access.{Access}
-use Rattle.graph_terms.specs.declared.format.Format.TheVariants.{Two}
+use Rattle.graph_terms.specs.declared.format.Format.TheVariants.{Three}
+use Rattle.graph_terms.specs.Format.{rank, has_since}
+use Rattle.graph_terms.specs.Name.{is_name, is_name_in}
 use Rattle.graph_terms.specs.Table.{verb_parts, verb_places, is_row, kind_places, any_placed, Placed, verb_kind, verb_of, NumbersFit}
 use Rattle.graph_terms.specs.declared.table.Kind.{Kind}
 use Rattle.graph_terms.specs.declared.table.Place.{Place}
@@ -162,11 +164,12 @@ SpaceOfColumnDeclared = (g : GraphValue) → IsGraph g → (c : ℕ) (x : Column
 
 -- a graph without lines and a declaration that fits are a graph
 abbrev pub FittingDeclarationStays : Type 0
-FittingDeclarationStays = (g : GraphValue) (d : Decl) → IsGraph g → IsDecl d → g.lines ≡ [] → decl_fault g d ≡ None → IsGraph (with_decl g d)
+FittingDeclarationStays = (g : GraphValue) (d : Decl) → IsGraph g → IsDecl d → IsTrue (is_decl_named g.format d) → g.lines ≡ [] → decl_fault g d ≡ None →
+    IsGraph (with_decl g d)
 
 -- a graph and a line that fits are a graph
 abbrev pub FittingLineStays : Type 0
-FittingLineStays = (g : GraphValue) (l : Line) → IsGraph g → IsLine l → line_fault g l ≡ None → IsGraph (with_line g l)
+FittingLineStays = (g : GraphValue) (l : Line) → IsGraph g → IsLine l → IsTrue (is_name_in g.format l.name) → line_fault g l ≡ None → IsGraph (with_line g l)
 
 -- the text of declarations grows by that of the next
 abbrev pub TextOfOneMoreDeclaration : Type 0
@@ -239,9 +242,33 @@ abbrev pub LastPlaceBelowEnd : Type 0
 LastPlaceBelowEnd = (test : Verb → Bool) (ls : List Line) (n : ℕ) (d : Line) → 0 < n → n ≤ length ls → test (get_or ls (n - 1) d).verb ≡ false →
     last_place test 0 (take n ls) None ≡ last_place test 0 (take (n - 1) ls) None
 
--- format 2 has each verb
-abbrev pub LatestFormatHasVerbs : Type 0
-LatestFormatHasVerbs = (v : Verb) → format_lacks Two v ≡ false
+-- a format has what those have that it follows
+abbrev pub SinceByRank : Type 0
+SinceByRank = (since format : Format) → has_since since format ≡ nat_le (rank since) (rank format)
+
+-- format 3 has what each format brought
+abbrev pub FormatThreeIsLast : Type 0
+FormatThreeIsLast = (f : Format) → has_since f Three ≡ true
+
+-- the format in which a graph is written anew has what its own brought
+abbrev pub UpgradedFormatIsLater : Type 0
+UpgradedFormatIsLater = (f : Format) → has_since f (upgraded_format f) ≡ true
+
+-- a verb of a format is one of each later format
+abbrev pub LaterFormatsHaveVerbs : Type 0
+LaterFormatsHaveVerbs = (f h : Format) → has_since f h ≡ true → (v : Verb) → format_lacks f v ≡ false → format_lacks h v ≡ false
+
+-- a name of a format is one of each later format
+abbrev pub LaterFormatsHaveNames : Type 0
+LaterFormatsHaveNames = (f h : Format) → has_since f h ≡ true → (w : List ℕ) → is_name_in f w ≡ true → is_name_in h w ≡ true
+
+-- a name of formats 1 and 2 is one of format 3
+abbrev pub NamesAreLongNames : Type 0
+NamesAreLongNames = (w : List ℕ) → is_name w ≡ true → is_name_in Three w ≡ true
+
+-- a declaration whose names are those of a format has names of each later format
+abbrev pub LaterFormatsHaveDeclarations : Type 0
+LaterFormatsHaveDeclarations = (f h : Format) → has_since f h ≡ true → (d : Decl) → is_decl_named f d ≡ true → is_decl_named h d ≡ true
 
 -- a verb has a part for each place of its row
 abbrev pub PartForEachPlace : Type 0

@@ -1,3 +1,4 @@
+pub mod Format
 pub mod Name
 pub mod Graph
 pub mod Edges

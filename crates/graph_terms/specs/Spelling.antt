@@ -4,7 +4,7 @@ use Rattle.std.specs.Option.{option_map_or}
 use Rattle.std.specs.List.{join_with_byte}
 use Rattle.index_spaces.specs.declared.Op.{Op}
 use Rattle.graph_terms.specs.declared.format.Format.{Format}
-use Rattle.graph_terms.specs.declared.format.Format.TheVariants.{One, Two}
+use Rattle.graph_terms.specs.declared.format.Format.TheVariants.{One, Two, Three}
 use Rattle.index_spaces.specs.declared.Op.TheVariants.{Sum, Min, Max}
 use Rattle.graph_terms.specs.declared.decl.Decl.{Decl}
 use Rattle.graph_terms.specs.declared.decl.Decl.TheVariants.{Space, Inst, Lock, Barrier}
@@ -94,6 +94,7 @@ line_words g l = l.name ∷ codes "=" ∷ verb_words g l.verb ++ on_words g l.on
 abbrev pub format_word : Format → List ℕ
 format_word One = codes "1"
 format_word Two = codes "2"
+format_word Three = codes "3"
 
 abbrev pub header : Format → List ℕ
 header f = spelled (codes "realm" ∷ format_word f ∷ [])

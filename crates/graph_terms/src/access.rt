@@ -60,7 +60,7 @@ fn or_write(format: Format, mode: Mode) -> Mode
 {
     match format {
         Format::One => Mode::Write,
-        Format::Two => mode,
+        _ => mode,
     }
 }
 

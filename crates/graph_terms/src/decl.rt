@@ -2,7 +2,8 @@
 
 ghost use Rattle.std.specs.Prelude.{◌≡◌, IsTrue};
 ghost use Rattle.std.specs.List.{AllByRecursion};
-ghost use Rattle.graph_terms.specs.Name.{is_name};
+ghost use Rattle.graph_terms.specs.Name.{is_name_in};
+ghost use Rattle.graph_terms.specs.declared.format.Format.TheVariants.{Three};
 ghost use Rattle.graph_terms.specs.Graph.{decl_name};
 
 use crate::lists::NameList;
@@ -71,7 +72,7 @@ impl Decl {
 
 /// Each of these names is one.
 fn are_names(names: &[Name])
-    ensures { AllByRecursion (λ f. IsTrue (is_name f)) names.now }
+    ensures { AllByRecursion (λ f. IsTrue (is_name_in Three f)) names.now }
 {
     let mut rest = names;
     while let [first, others @ ..] = rest {

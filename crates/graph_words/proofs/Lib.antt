@@ -1,3 +1,4 @@
+pub mod CommentedLines
 pub mod CutBytes
 pub mod TextLists
 pub mod NameLists

@@ -1,5 +1,6 @@
 -- The laws that the proofs of other crates cite, as specs/ states them.
-use Rattle.graph_words.specs.Laws.{EachTestFails, NoReasonWhereEachFails, FoundInOwnPlace, NoneTwiceInFirst, NoneTwiceInSecond, NoneTwiceInBoth, NoneTwiceByImages, NoneTwiceWithAnother, OnePiece, SomePiece, PiecesFromCut, CutAtFirst, NoByteCuts, OneWordMore, LastWord, OneMorePasses, OneFails, OneNumberMore, LinesNameKnown, DeclarationsNameKnown}
+use Rattle.graph_words.specs.Laws.{EachTestFails, NoReasonWhereEachFails, FoundInOwnPlace, NoneTwiceInFirst, NoneTwiceInSecond, NoneTwiceInBoth, NoneTwiceByImages, NoneTwiceWithAnother, OnePiece, SomePiece, PiecesFromCut, CutAtFirst, NoByteCuts, OneWordMore, LastWord, OneMorePasses, OneFails, OneNumberMore, LinesNameKnown, DeclarationsNameKnown, LinesKeepNumbers, NumbersFit}
+use Rattle.graph_words.proofs.CommentedLines as commented_lines
 use Rattle.graph_words.proofs.TextLists as text_lists
 use Rattle.graph_words.proofs.CutBytes as cut_bytes
 use Rattle.graph_words.proofs.NameLists as name_lists
@@ -64,3 +65,9 @@ known_line_of = known_items.known_line_of
 
 pub known_decl_of : DeclarationsNameKnown
 known_decl_of = known_items.known_decl_of
+
+pub line_of_number : LinesKeepNumbers
+line_of_number = commented_lines.line_of_number
+
+pub number_fits : NumbersFit
+number_fits = commented_lines.number_fits

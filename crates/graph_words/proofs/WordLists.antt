@@ -1,8 +1,9 @@
 -- Lists of words behind references.
-use Rattle.std.proofs.Common.{◌≡◌, ℕ, zero, suc, ◌-◌, ◌<◌, ◌≤◌, Bool, true, false, ◌&&◌, List, [], ◌∷◌, length, take, drop, take_all, map, refl, ◌∙◌, ap, arith, Bor}
+use Rattle.std.proofs.Common.{◌≡◌, ℕ, zero, suc, ◌-◌, ◌<◌, ◌≤◌, Bool, true, false, ◌&&◌, List, [], ◌∷◌, length, take, drop, take_all, get_or, map, refl, ◌∙◌, ap, arith, Bor}
 use Rattle.std.specs.Prelude.{bytes_eq, zip}
 use Rattle.std.specs.List.{list_all, starts_with}
 use Rattle.std.proofs.lemmas.List.{length-map}
+use Rattle.basics.specs.Words.{contents}
 use Rattle.graph_terms.specs.declared.table.Kind.{Kind}
 use Rattle.graph_terms.specs.declared.table.Place as table
 use Rattle.graph_terms.specs.Table.{kind_places}
@@ -45,3 +46,12 @@ pub own_listed : (ps : List table.Place) (ws : List (Bor (List ℕ))) → list_a
 own_listed [] ws = refl
 own_listed (p ∷ ps) [] = refl
 own_listed (p ∷ ps) (w ∷ ws) = ap (λ b. is_own_word (as_place p) w.now && b) (own_listed ps ws)
+
+-- bytes and words by the first of them
+pub first_byte : (w : List ℕ) (d : ℕ) → 1 ≤ length w → get_or w 0 d ∷ drop 1 w ≡ w
+first_byte [] d h = absurd (omega arith)
+first_byte (b ∷ w) d h = refl
+
+pub first_word : (ws : List (Bor (List ℕ))) (d : Bor (List ℕ)) → 1 ≤ length ws → (get_or ws 0 d).now ∷ drop 1 (contents ws) ≡ contents ws
+first_word [] d h = absurd (omega arith)
+first_word (w ∷ ws) d h = refl

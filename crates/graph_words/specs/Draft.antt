@@ -1,5 +1,5 @@
 -- A line of text with its words in their places, before the names in it are looked up.
-use Rattle.std.specs.Prelude.{ℕ, ◌+◌, ◌==◌, Bool, true, false, cond, ◌&&◌, ◌||◌, List, [], ◌∷◌, ◌++◌, length, map, drop, find, zip, ◌⊎◌, Option, Some, None, option_map, unwrap_or, slice_index_or, codes, position}
+use Rattle.std.specs.Prelude.{ℕ, ◌+◌, ◌==◌, Bool, true, cond, ◌&&◌, ◌||◌, List, [], ◌∷◌, ◌++◌, length, map, drop, find, zip, ◌⊎◌, Option, Some, None, option_map, unwrap_or, slice_index_or, codes, position}
 use Rattle.std.specs.List.{starts_with, list_all}
 use Rattle.std.specs.Str.{bytes_eq}
 use Rattle.std.proofs.Common.{inl, inr}
@@ -15,7 +15,7 @@ use Rattle.graph_terms.specs.declared.table.TheConstants.{KINDS}
 use Rattle.graph_terms.specs.declared.table.Place as table
 use Rattle.graph_terms.specs.declared.table.Place.TheVariants as places
 use Rattle.graph_terms.specs.declared.format.Format.{Format}
-use Rattle.graph_terms.specs.declared.format.Format.TheVariants.{One, Two}
+use Rattle.graph_terms.specs.Format.{has_since}
 use Rattle.graph_terms.specs.Table.{kind_words, kind_places, kind_takes_on, kind_since, verb_of}
 use Rattle.graph_terms.specs.declared.decl.ColumnInfo.{ColumnInfo}
 use Rattle.graph_terms.specs.declared.decl.BarrierInfo.{BarrierInfo}
@@ -107,12 +107,6 @@ same_word a b = bytes_eq a b
 abbrev pub has_on : Form → List (List ℕ) → Bool
 has_on f rest = f.takes_on && (length rest == length f.places + 2 && same_word (slice_index_or rest (length f.places) []) (codes "on"))
 
--- whether a form that one format brought is there in another
-abbrev pub is_since : Format → Format → Bool
-is_since One format = true
-is_since Two Two = true
-is_since Two One = false
-
 -- whether a word is the one that its place takes, where that takes one word alone
 abbrev pub is_own_word : Place → List ℕ → Bool
 is_own_word Times w = same_word w (codes "times")
@@ -121,7 +115,7 @@ is_own_word _ w = true
 
 -- whether the words behind the fixed ones fit the form, and the format has it
 abbrev pub fits_behind : Format → Form → List (List ℕ) → Bool
-fits_behind format f rest = is_since f.since format && ((length rest == length f.places || has_on f rest) && list_all (λ (p : Placed). is_own_word p.0 p.1) (zip f.places rest))
+fits_behind format f rest = has_since f.since format && ((length rest == length f.places || has_on f rest) && list_all (λ (p : Placed). is_own_word p.0 p.1) (zip f.places rest))
 
 -- whether the words have the form
 abbrev pub is_of_form : Format → List (List ℕ) → Form → Bool

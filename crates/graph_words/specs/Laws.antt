@@ -1,10 +1,11 @@
 -- What follows from how words are cut, and lists in which nothing stands twice.
-use Rattle.std.specs.Prelude.{◌≡◌, Bool, false, List, None, ℕ, true, Some, position, slice_get, unwrap_or, ◌++◌, map, [], ◌∷◌, bytes_eq, ◌==◌, ◌+◌, ◌-◌, ◌<◌, length, take, drop, get_or}
+use Rattle.std.specs.Prelude.{◌≡◌, Bool, false, List, None, ℕ, true, Some, position, slice_get, unwrap_or, ◌++◌, map, [], ◌∷◌, bytes_eq, ◌==◌, ◌+◌, ◌-◌, ◌<◌, ◌≤◌, ◌^◌, length, take, drop, get_or}
 use Rattle.std.specs.List.{AllByRecursion, list_any, list_all}
 use Rattle.graph_terms.specs.Fits.{first_reason, repeats, line_fault, IsLine, decl_fault}
 use Rattle.graph_terms.specs.declared.why.Why.{Why}
 use Rattle.graph_words.specs.Words.{pieces, words_of}
 use Rattle.graph_words.specs.Cuts.{IsCut}
+use Rattle.graph_words.specs.Text.{bare_of, number_of}
 use Rattle.std.proofs.Common.{Bor}
 use Rattle.basics.specs.Words.{contents}
 use Rattle.graph_terms.specs.declared.verb.Line.{Line}
@@ -92,6 +93,14 @@ OneFails = (t : List ℕ → Bool) (ws : List (Bor (List ℕ))) (i : ℕ) (d : B
 abbrev pub OneNumberMore : Type 0
 OneNumberMore = (f : List ℕ → ℕ) (ws : List (Bor (List ℕ))) (i : ℕ) (d : Bor (List ℕ)) (n : ℕ) (items more : List ℕ) → i < length ws →
     n ≡ f (get_or ws i d).now → items ≡ map f (take i (words_of ws)) → more ≡ items ++ n ∷ [] → more ≡ map f (take (i + 1) (words_of ws))
+
+-- a line of bytes without their comments is the line of its number in the whole, and where the one has none, the other has none
+abbrev pub LinesKeepNumbers : Type 0
+LinesKeepNumbers = (bytes : List ℕ) (k : ℕ) → 1 ≤ k → slice_get (pieces 10 (bare_of bytes)) (k - 1) ≡ slice_get (pieces 10 bytes) (number_of bytes k - 1)
+
+-- a number of 32 bits without comments has 32 bits among all lines, where a line has it
+abbrev pub NumbersFit : Type 0
+NumbersFit = (bytes line : List ℕ) (k : ℕ) → 1 ≤ k → k < 2 ^ 32 → slice_get (pieces 10 (bare_of bytes)) (k - 1) ≡ Some line → number_of bytes k < 2 ^ 32
 
 -- a line that fits has all that no reason refuses
 abbrev pub LinesNameKnown : Type 0

@@ -3,7 +3,8 @@ use Rattle.std.specs.Prelude.{ℕ, ◌+◌, ◌==◌, nat_lt, nat_le, Bool, true
 use Rattle.std.specs.List.{list_all, slice_split}
 use Rattle.index_spaces.specs.declared.limits.TheConstants.{LAST_POINT}
 use Rattle.graph_terms.specs.declared.limits.TheConstants.{MAX_COUNT}
-use Rattle.graph_terms.specs.Name.{is_name}
+use Rattle.graph_terms.specs.declared.format.Format.{Format}
+use Rattle.graph_terms.specs.Name.{is_name_in}
 use Rattle.basics.specs.Numbers.{number_up_to}
 use Rattle.std.proofs.Common.{Bor}
 
@@ -53,17 +54,17 @@ abbrev pub ascend_from : ℕ → List (ℕ × ℕ) → Bool
 ascend_from low [] = true
 ascend_from low (i ∷ is) = nat_le low i.0 && (nat_le i.0 i.1 && ascend_from (i.1 + 2) is)
 
--- the names of fields that a word spells
-abbrev pub is_fields : List ℕ → Bool
-is_fields w = list_all is_name (pieces 44 w)
+-- whether a word spells names of fields, in a format
+abbrev pub is_fields : Format → List ℕ → Bool
+is_fields format w = list_all (is_name_in format) (pieces 44 w)
 
 -- an instance and a field with a dot between them
-abbrev pub is_two_names : List (List ℕ) → Bool
-is_two_names (inst ∷ field ∷ []) = is_name inst && is_name field
-is_two_names _ = false
+abbrev pub is_two_names : Format → List (List ℕ) → Bool
+is_two_names format (inst ∷ field ∷ []) = is_name_in format inst && is_name_in format field
+is_two_names format _ = false
 
-abbrev pub is_column : List ℕ → Bool
-is_column w = is_two_names (pieces 46 w)
+abbrev pub is_column : Format → List ℕ → Bool
+is_column format w = is_two_names format (pieces 46 w)
 
 abbrev pub first_piece : List (List ℕ) → List ℕ
 first_piece [] = []

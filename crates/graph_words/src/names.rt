@@ -5,21 +5,26 @@ ghost use Rattle.std.specs.Prelude.{◌≡◌, map, false, true, IfOk, MatchOpti
 ghost use Rattle.std.specs.List.{list_all};
 ghost use Rattle.std.specs.Str.{bytes_eq};
 ghost use Rattle.graph_terms.specs.Fits.{repeats};
-ghost use Rattle.graph_terms.specs.Name.{is_name};
+ghost use Rattle.graph_terms.specs.Name.{is_name_in};
 
+use graph_terms::format::Format;
 use graph_terms::name::Name;
 use index_spaces::NoMemory;
 use std::alloc::Global;
 use std::collections::BTreeSet;
 
-/// The words as names. `None` exactly where one of them is spelled otherwise.
-pub fn names_of(alloc: Global, words: &[&[u8]]) -> Result<Option<Vec<Name>>, NoMemory>
-    ensures { IfOk result (λ o. MatchOption o (list_all is_name (contents words.now) ≡ false)
-        (λ v. (v.items ≡ contents words.now) × (list_all is_name (contents words.now) ≡ true))) }
+/// The words as names of a format. `None` exactly where one of them is spelled otherwise.
+pub fn names_of(
+    alloc: Global,
+    format: Format,
+    words: &[&[u8]],
+) -> Result<Option<Vec<Name>>, NoMemory>
+    ensures { IfOk result (λ o. MatchOption o (list_all (is_name_in format) (contents words.now) ≡ false)
+        (λ v. (v.items ≡ contents words.now) × (list_all (is_name_in format) (contents words.now) ≡ true))) }
 {
     let mut names = Vec::new(alloc);
     for word in words {
-        let Some(name) = Name::new(word) else {
+        let Some(name) = Name::in_format(format, word) else {
             return Ok(None);
         };
         let Ok(()) = names.push(name) else {

@@ -1,9 +1,10 @@
 //! Words of a line.
 
 ghost use Rattle.basics.specs.Words.{contents};
-ghost use Rattle.std.specs.Prelude.{◌≡◌, ◌≤◌, length, drop, map, ◌==◌, find, OnOk, IfOk, IfSome, MatchOption, [], slice_index_or, option_map, option_copied};
+ghost use Rattle.std.specs.Prelude.{◌≡◌, ◌≤◌, ℕ, List, ◌∷◌, length, drop, map, ◌==◌, find, OnOk, IfOk, IfSome, MatchOption, [], slice_index_or, option_map, option_copied};
+ghost use Rattle.graph_terms.specs.Format.{has_since};
 ghost use Rattle.graph_words.specs.Words.{pieces};
-ghost use Rattle.graph_words.specs.Draft.{Placed, form_of, is_since, is_own_word, fits_behind, is_of_form, same_word, has_on, as_place, words_in};
+ghost use Rattle.graph_words.specs.Draft.{Placed, form_of, is_own_word, fits_behind, is_of_form, same_word, has_on, as_place, words_in};
 ghost use Rattle.std.specs.List.{list_any, list_all, starts_with};
 
 use crate::cuts::cut;
@@ -94,14 +95,11 @@ pub fn has_on(kind: Kind, rest: &[&[u8]]) -> bool
     kind.takes_on() && rest.len() == places + 2 && word(rest, places) == b"on".as_slice()
 }
 
-/// Whether what one format brought is there in another.
-fn is_since(since: Format, format: Format) -> bool
-    ensures { result ≡ is_since since format }
+/// Whether a format has a kind.
+fn has_kind(format: Format, kind: Kind) -> bool
+    ensures { result ≡ has_since (form_of kind).since format }
 {
-    match (since, format) {
-        (Format::Two, Format::One) => false,
-        _ => true,
-    }
+    format.has_since(kind.since())
 }
 
 /// Whether a word is the one that its place takes, where that takes one word alone.
@@ -129,7 +127,7 @@ fn are_own_words(places: &[Place], words: &[&[u8]]) -> bool
 fn fits_behind(format: Format, kind: Kind, rest: &[&[u8]]) -> bool
     ensures { result ≡ fits_behind format (form_of kind) (contents rest.now) }
 {
-    is_since(kind.since(), format)
+    has_kind(format, kind)
         && (rest.len() == place_count(kind) || has_on(kind, rest))
         && are_own_words(kind.places(), rest)
 }
@@ -142,12 +140,72 @@ fn is_of_kind(format: Format, words: &[&[u8]], kind: Kind) -> bool
     begins(words, fixed) && fits_behind(format, kind, &words[fixed.len()..])
 }
 
+/// The kinds whose first word begins with this byte, and all kinds where none does.
+fn kinds_with(first: u8) -> &'static [Kind]
+    ensures { (format : Format) (word : List ℕ) (rest : List (List ℕ))
+        → find (λ k. is_of_form format ((first ∷ word) ∷ rest) (form_of k)) result.now
+        ≡ find (λ k. is_of_form format ((first ∷ word) ∷ rest) (form_of k)) KINDS }
+{
+    match first {
+        b'a' => &[
+            Kind::Arrive,
+            Kind::ArriveTimes,
+            Kind::Acquire,
+            Kind::AcquireShared,
+        ],
+        b'c' => &[Kind::Cancel, Kind::Copy],
+        b'f' => &[Kind::Fill],
+        b'p' => &[Kind::Phase],
+        b'r' => &[
+            Kind::Release,
+            Kind::ReduceSum,
+            Kind::ReduceMin,
+            Kind::ReduceMax,
+        ],
+        b't' => &[
+            Kind::Trigger,
+            Kind::Iota,
+            Kind::Axpy,
+            Kind::Stencil,
+            Kind::Scan,
+            Kind::Hist,
+            Kind::Dot,
+            Kind::Expect,
+            Kind::Gather,
+        ],
+        b'u' => &[Kind::User],
+        _ => &KINDS,
+    }
+}
+
+/// The kinds of which one can be that of a line with this first word.
+fn kinds_of_word(word: &[u8]) -> &'static [Kind]
+    ensures { (format : Format) (rest : List (List ℕ))
+        → find (λ k. is_of_form format (word.now ∷ rest) (form_of k)) result.now
+        ≡ find (λ k. is_of_form format (word.now ∷ rest) (form_of k)) KINDS }
+{
+    match word {
+        [] => &KINDS,
+        [first, ..] => kinds_with(*first),
+    }
+}
+
+/// The first of these kinds that is that of the words behind the sign.
+fn kind_among(format: Format, words: &[&[u8]], kinds: &[Kind]) -> Option<Kind>
+    ensures { result ≡ find (λ k. is_of_form format (contents words.now) (form_of k)) kinds.now }
+{
+    kinds
+        .iter()
+        .copied()
+        .find(|kind| is_of_kind(format, words, *kind))
+}
+
 /// The kind of the words behind the sign.
 pub fn kind_of(format: Format, words: &[&[u8]]) -> Option<Kind>
     ensures { result ≡ find (λ k. is_of_form format (contents words.now) (form_of k)) KINDS }
 {
-    KINDS
-        .iter()
-        .copied()
-        .find(|kind| is_of_kind(format, words, *kind))
+    match words {
+        [] => None,
+        [word, ..] => kind_among(format, words, kinds_of_word(word)),
+    }
 }

@@ -244,6 +244,7 @@ fn header(format: Format) -> &'static [u8]
     match format {
         Format::One => b"realm 1\n",
         Format::Two => b"realm 2\n",
+        Format::Three => b"realm 3\n",
     }
 }
 

@@ -1,7 +1,7 @@
 -- What is told of a line that is refused for its form.
 use Rattle.std.specs.Prelude.{ℕ, ◌+◌, ◌==◌, nat_lt, Bool, cond, not, ◌&&◌, ◌||◌, List, [], ◌∷◌, ◌++◌, length, flat_map, codes, decimal}
 use Rattle.std.specs.Option.{option_map_or}
-use Rattle.std.specs.List.{concat, slice_index_or}
+use Rattle.std.specs.List.{concat, list_any, slice_index_or}
 use Rattle.std.specs.Str.{bytes_eq}
 use Rattle.graph_terms.specs.declared.format.Format.{Format}
 use Rattle.graph_terms.specs.declared.why.Why.{Why}
@@ -15,7 +15,9 @@ use Rattle.line_forms.specs.declared.vocabulary.Vocabulary.TheVariants.{Starts, 
 use Rattle.line_forms.specs.Blanks.{ends_with_return, blank_in, blank_text}
 use Rattle.line_forms.specs.Forms.{form_text, form_words, takes_on, followed, is_told}
 use Rattle.line_forms.specs.Columns.{repeated_text}
+use Rattle.line_forms.specs.Files.{first_text, rest_text}
 use Rattle.line_forms.specs.Hint.{are_events, merge_hint}
+use Rattle.line_forms.specs.Left.{left_text}
 use Rattle.line_forms.specs.Words.{vocabulary_words, vocabulary_text, nearest, nearest_text}
 
 -- word n of a line, from 0, is the first at which the line leaves a form, or would be
@@ -28,13 +30,17 @@ leave_text ws n =
 abbrev pub several_text : Form → List (List ℕ) → ℕ → List ℕ
 several_text f ws n = cond (takes_on f && (n == form_words f && (nat_lt n (length ws) && are_events ws n))) (merge_hint f ws n) []
 
+-- what is told of the word at which it leaves the form, where there is one
+abbrev pub left_at : Format → Form → List (List ℕ) → ℕ → List ℕ
+left_at format f ws n = cond (nat_lt n (length ws)) (left_text format f n (slice_index_or ws n [])) []
+
 -- a form, of which a line has the first n words
-abbrev pub told_at : Form → List (List ℕ) → ℕ → List ℕ
-told_at f ws n = concat (codes "the form is: " ∷ form_text f ∷ codes "\n" ∷ []) ++ (leave_text ws n ++ several_text f ws n)
+abbrev pub told_at : Format → Form → List (List ℕ) → ℕ → List ℕ
+told_at format f ws n = concat (codes "the form is: " ∷ form_text f ∷ codes "\n" ∷ []) ++ (leave_text ws n ++ (left_at format f ws n ++ several_text f ws n))
 
 -- that of the line's verb or kernel
 abbrev pub told_text : Format → List (List ℕ) → Form → List ℕ
-told_text format ws f = cond (is_told format f (followed f ws)) (told_at f ws (followed f ws)) []
+told_text format ws f = cond (is_told format f (followed f ws)) (told_at format f ws (followed f ws)) []
 
 abbrev pub told_texts : Format → List (List ℕ) → List Form → List ℕ
 told_texts format ws fs = flat_map (told_text format ws) fs
@@ -56,8 +62,35 @@ key_place ws = cond (is_operation ws) (cond (bytes_eq (slice_index_or ws 2 []) (
 abbrev pub vocabulary_of : List (List ℕ) → Vocabulary
 vocabulary_of ws = cond (is_operation ws) (cond (bytes_eq (slice_index_or ws 2 []) (codes "task")) Kernels Verbs) Starts
 
+-- a text and a word, where something holds
+abbrev pub where_text : Bool → List ℕ → List ℕ → List ℕ
+where_text b t w = cond b (concat (t ∷ w ∷ codes "\n" ∷ [])) []
+
+abbrev pub is_verb : List ℕ → Bool
+is_verb w = list_any (bytes_eq w) (vocabulary_words Verbs)
+
+abbrev pub is_kernel : List ℕ → Bool
+is_kernel w = list_any (bytes_eq w) (vocabulary_words Kernels)
+
+-- a verb or a kernel that stands in the place of the other, or with which the line begins
+abbrev pub moved_text : Vocabulary → List ℕ → List ℕ
+moved_text Starts w = where_text (is_verb w) (codes "NAME = stands before ") w ++ where_text (is_kernel w) (codes "NAME = task stands before ") w
+moved_text Verbs w = where_text (is_kernel w) (codes "task stands before ") w
+moved_text Kernels w = where_text (is_verb w) (codes "no task stands before ") w
+
+abbrev pub has_sign : List ℕ → Bool
+has_sign w = list_any (λ b. b == 61) w
+
+-- the sign of an operation is joined to one of the first two words
+abbrev pub joined_text : List (List ℕ) → List ℕ
+joined_text ws = cond (is_operation ws) [] (cond (has_sign (slice_index_or ws 0 []) || has_sign (slice_index_or ws 1 [])) (codes "= is a word: one space stands on each side of it\n") [])
+
+-- no line has this word in the place that tells what it is
 abbrev pub unknown_text : List (List ℕ) → List ℕ
-unknown_text ws = vocabulary_text (vocabulary_of ws) ++ nearest_text (nearest (slice_index_or ws (key_place ws) []) (vocabulary_words (vocabulary_of ws)))
+unknown_text ws =
+    let key = slice_index_or ws (key_place ws) [] in
+    let vocabulary = vocabulary_of ws in
+    vocabulary_text vocabulary ++ (nearest_text (nearest key (vocabulary_words vocabulary)) ++ (moved_text vocabulary key ++ joined_text ws))
 
 -- the forms, and where there is none the nearest words
 abbrev pub forms_text : List (List ℕ) → List ℕ → List ℕ
@@ -72,12 +105,13 @@ abbrev pub syntax_text : Format → Bool → List ℕ → List (List ℕ) → Li
 syntax_text format below line ws = option_map_or blank_text (blank_in line ws) (words_text format below ws)
 
 abbrev pub header_text : List ℕ → List (List ℕ) → List ℕ
-header_text line ws = option_map_or blank_text (blank_in line ws) []
+header_text line ws = option_map_or blank_text (blank_in line ws) (first_text line)
 
 abbrev pub reason_text : Format → Bool → Why → List ℕ → List ℕ
 reason_text format below why.Header line = header_text line (pieces 32 line)
 reason_text format below why.Syntax line = syntax_text format below line (pieces 32 line)
 reason_text format below why.Twice line = repeated_text (pieces 32 line)
+reason_text format below why.Rest line = rest_text line
 reason_text format below _ line = []
 
 -- what is told of a line that is refused for this reason

@@ -4,7 +4,7 @@ use Rattle.std.specs.Str.{bytes_eq}
 use Rattle.graph_terms.specs.declared.format.Format.{Format}
 use Rattle.graph_terms.specs.declared.format.Format.TheVariants.{One, Two}
 use Rattle.graph_words.specs.Words.{pieces}
-use Rattle.graph_words.specs.Draft.{is_since}
+use Rattle.graph_terms.specs.Format.{has_since}
 use Rattle.line_forms.specs.declared.form.Form.{Form}
 use Rattle.line_forms.specs.declared.form.Form.TheVariants as forms
 
@@ -100,6 +100,12 @@ takes_on forms.MergeIgnore = false
 takes_on forms.Phase = false
 takes_on _ = true
 
+-- whether any number of events stand at its end
+abbrev pub takes_many : Form → Bool
+takes_many forms.Merge = true
+takes_many forms.MergeIgnore = true
+takes_many _ = false
+
 -- the form is one of the format, and that of the line's verb or kernel
 abbrev pub is_told : Format → Form → ℕ → Bool
-is_told format f n = is_since (form_since f) format && nat_le (key_words f) n
+is_told format f n = has_since (form_since f) format && nat_le (key_words f) n

@@ -25,7 +25,10 @@ abbrev pub merge_words : Form → List ℕ
 merge_words forms.Release = codes "on takes one event: put a mergei above, and wait for that\nNAME = mergei"
 merge_words _ = codes "on takes one event: put a merge above, and wait for that\nNAME = merge"
 
+-- a merge of events, and a line of words with the merge behind them
+abbrev pub merge_lines : Form → List (List ℕ) → List (List ℕ) → List ℕ
+merge_lines f ws events = merge_words f ++ (flat_map before_space events ++ (codes "\n" ++ (flat_map behind_space ws ++ codes "NAME\n")))
+
 -- a merge of the events from word n - 1 on, and the line up to there with the merge
 abbrev pub merge_hint : Form → List (List ℕ) → ℕ → List ℕ
-merge_hint f ws n =
-    merge_words f ++ (flat_map before_space (drop (n - 1) ws) ++ (codes "\n" ++ (flat_map behind_space (take (n - 1) ws) ++ codes "NAME\n")))
+merge_hint f ws n = merge_lines f (take (n - 1) ws) (drop (n - 1) ws)

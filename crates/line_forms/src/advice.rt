@@ -5,15 +5,17 @@ ghost use Rattle.std.specs.List.{slice_index_or};
 ghost use Rattle.std.specs.Str.{bytes_eq};
 ghost use Rattle.basics.specs.Words.{contents};
 ghost use Rattle.line_forms.specs.Forms.{form_words};
-ghost use Rattle.line_forms.specs.Advice.{leave_text, several_text, told_at, told_text, told_texts, is_operation, begins_declaration, is_declared, vocabulary_of, key_place, unknown_text, forms_text, words_text, syntax_text, header_text, reason_text, advice};
+ghost use Rattle.line_forms.specs.Advice.{leave_text, several_text, told_at, told_text, told_texts, is_operation, begins_declaration, is_declared, vocabulary_of, key_place, where_text, is_verb, is_kernel, moved_text, has_sign, joined_text, left_at, unknown_text, forms_text, words_text, syntax_text, header_text, reason_text, advice};
 
 use crate::blanks::{Blank, blank_in, blank_text, ends_with_return};
+use crate::files::{first_text, rest_text};
 use crate::follow::{followed, has_word, is_told};
 use crate::form::{FORMS, Form};
 use crate::hint::{are_events, put_merge_hint};
+use crate::left::left_text;
 use crate::nearest::{nearest, put_nearest};
 use crate::putting::{put, put_all};
-use crate::twice::put_repeated;
+use crate::twice::{is_among, put_repeated};
 use crate::vocabulary::{Vocabulary, vocabulary_text, vocabulary_words};
 use graph_terms::format::Format;
 use graph_terms::why::Why;
@@ -23,9 +25,10 @@ use itoa::Buffer;
 use std::alloc::Global;
 
 /// What is told of a line that is refused for this reason, in a text of this format, below an operation
-/// or not: that it ends with a carriage return; for `header` and `syntax` what no line has in it; and
-/// for `syntax` the forms of its verb or kernel, each with the word at which the line leaves it, or
-/// the words next to one that is none.
+/// or not: that it ends with a carriage return; for `header` and `syntax` what no line has in it; for
+/// `header` and `rest` what begins so; for `syntax` the forms of its verb or kernel, each with the word
+/// at which the line leaves it, or the words next to one that is none; for `twice` a column that stands
+/// in it twice.
 pub fn line_advice(
     alloc: Global,
     format: Format,
@@ -60,17 +63,18 @@ fn put_reason(
         Why::Header => put_header(out, line, words.as_slice()),
         Why::Twice => put_repeated(out, words.as_slice()),
         Why::Syntax => put_syntax(alloc, out, format, below, line, words.as_slice()),
+        Why::Rest => put(out, rest_text(line)),
         _ => Ok(()),
     }
 }
 
-/// Puts what no line has in it.
+/// Puts what no line has in it, or what begins with such a line.
 fn put_header(out: &mut Vec<u8>, line: &[u8], words: &[&[u8]]) -> Result<(), NoMemory>
     ensures { OnOk result (out.new.items ≡ out.old.items ++ header_text line.now (contents words.now)) }
 {
     match blank_in(line, words) {
         Some(blank) => put(out, blank_text(blank)),
-        None => Ok(()),
+        None => put(out, first_text(line)),
     }
 }
 
@@ -160,12 +164,13 @@ fn put_told(
     if !is_told(format, form, n) {
         return Ok(());
     }
-    put_told_at(out, form, words, n, all)
+    put_told_at(out, format, form, words, n, all)
 }
 
 /// Puts a form of so many words, of which a line has the first `n`.
 fn put_told_at(
     out: &mut Vec<u8>,
+    format: Format,
     form: Form,
     words: &[&[u8]],
     n: usize,
@@ -173,11 +178,28 @@ fn put_told_at(
 ) -> Result<(), NoMemory>
     requires all { all ≡ form_words form }
     requires within { n ≤ length words.now }
-    ensures { OnOk result (out.new.items ≡ out.old.items ++ told_at form (contents words.now) n) }
+    ensures { OnOk result (out.new.items ≡ out.old.items ++ told_at format form (contents words.now) n) }
 {
     put_all(out, &[b"the form is: ", form.text(), b"\n"])?;
     put_leave(out, words, n)?;
+    put_left(out, format, form, words, n)?;
     put_several(out, form, words, n, all)
+}
+
+/// Puts what is told of the word at which a line leaves the form, where there is one.
+fn put_left(
+    out: &mut Vec<u8>,
+    format: Format,
+    form: Form,
+    words: &[&[u8]],
+    n: usize,
+) -> Result<(), NoMemory>
+    ensures { OnOk result (out.new.items ≡ out.old.items ++ left_at format form (contents words.now) n) }
+{
+    if has_word(words, n) {
+        return put(out, left_text(format, form, n, word(words, n)));
+    }
+    Ok(())
 }
 
 /// Puts the lines to write where a second event stands behind a whole form.
@@ -281,5 +303,62 @@ fn put_unknown(alloc: Global, out: &mut Vec<u8>, words: &[&[u8]]) -> Result<(), 
     let key = word(words, key_place(words));
     let near = nearest(alloc, key, vocabulary_words(vocabulary))?;
     put(out, vocabulary_text(vocabulary))?;
-    put_nearest(out, near.as_slice())
+    put_nearest(out, near.as_slice())?;
+    put_moved(out, vocabulary, key)?;
+    put_joined(out, words)
+}
+
+/// Puts what has to stand before a word that tells what a line is, where it stands in another place.
+fn put_moved(out: &mut Vec<u8>, vocabulary: Vocabulary, key: &[u8]) -> Result<(), NoMemory>
+    ensures { OnOk result (out.new.items ≡ out.old.items ++ moved_text vocabulary key.now) }
+{
+    match vocabulary {
+        Vocabulary::Starts => {
+            put_where(out, is_verb(key), b"NAME = stands before ", key)?;
+            put_where(out, is_kernel(key), b"NAME = task stands before ", key)
+        }
+        Vocabulary::Verbs => put_where(out, is_kernel(key), b"task stands before ", key),
+        Vocabulary::Kernels => put_where(out, is_verb(key), b"no task stands before ", key),
+    }
+}
+
+/// Puts a text and a word, where something holds.
+fn put_where(out: &mut Vec<u8>, holds: bool, text: &[u8], word: &[u8]) -> Result<(), NoMemory>
+    ensures { OnOk result (out.new.items ≡ out.old.items ++ where_text holds text.now word.now) }
+{
+    if holds {
+        return put_all(out, &[text, word, b"\n"]);
+    }
+    Ok(())
+}
+
+fn is_verb(word: &[u8]) -> bool
+    ensures { result ≡ is_verb word.now }
+{
+    is_among(word, vocabulary_words(Vocabulary::Verbs))
+}
+
+fn is_kernel(word: &[u8]) -> bool
+    ensures { result ≡ is_kernel word.now }
+{
+    is_among(word, vocabulary_words(Vocabulary::Kernels))
+}
+
+/// Puts that the sign of an operation is a word, where it is joined to one.
+fn put_joined(out: &mut Vec<u8>, words: &[&[u8]]) -> Result<(), NoMemory>
+    ensures { OnOk result (out.new.items ≡ out.old.items ++ joined_text (contents words.now)) }
+{
+    if is_operation(words) {
+        return Ok(());
+    }
+    if has_sign(word(words, 0)) || has_sign(word(words, 1)) {
+        return put(out, b"= is a word: one space stands on each side of it\n");
+    }
+    Ok(())
+}
+
+fn has_sign(word: &[u8]) -> bool
+    ensures { result ≡ has_sign word.now }
+{
+    word.contains(&b'=')
 }

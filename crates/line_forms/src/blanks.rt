@@ -21,13 +21,15 @@ pub enum Blank {
 }
 
 /// What is told of it.
-pub(crate) fn blank_text(blank: Blank) -> &'static [u8]
+pub fn blank_text(blank: Blank) -> &'static [u8]
     ensures { result.now ≡ blank_text blank }
 {
     match blank {
         Blank::Return => b"the line ends with a carriage return: lines end with a newline alone\n",
-        Blank::Empty => b"the line is empty: formats 1 and 2 have no blank lines\n",
-        Blank::Comment => b"the line begins with #: formats 1 and 2 have no comments\n",
+        Blank::Empty =>
+            b"the line is empty: formats 1 and 2 have no blank lines\nformat 3 has them, from the second line on\n",
+        Blank::Comment =>
+            b"the line begins with #: formats 1 and 2 have no comments\nformat 3 has them, from the second line on\n",
         Blank::Tab => b"the line has a tab: formats 1 and 2 have one space between two words\n",
         Blank::Spaces => {
             b"two spaces stand side by side, or one at an end: formats 1 and 2 have one between two words\n"
@@ -59,7 +61,7 @@ pub(crate) fn blank_in(line: &[u8], words: &[&[u8]]) -> Option<Blank>
 }
 
 /// Whether the last byte is a carriage return.
-pub(crate) fn ends_with_return(line: &[u8]) -> bool
+pub fn ends_with_return(line: &[u8]) -> bool
     ensures { result ≡ ends_with_return line.now }
 {
     match line.last() {
@@ -77,7 +79,7 @@ pub(crate) fn begins_comment(line: &[u8]) -> bool
     }
 }
 
-fn has_tab(line: &[u8]) -> bool
+pub fn has_tab(line: &[u8]) -> bool
     ensures { result ≡ has_tab line.now }
 {
     line.contains(&b'\t')

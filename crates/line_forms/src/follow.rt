@@ -2,7 +2,6 @@
 
 ghost use Rattle.std.specs.Prelude.{◌≡◌, nat_lt, length, IfOk};
 ghost use Rattle.basics.specs.Words.{contents};
-ghost use Rattle.graph_words.specs.Draft.{is_since};
 ghost use Rattle.line_forms.specs.Forms.{is_capital, bare, is_op, fits, follow, followed, form_words, is_told};
 
 use crate::form::Form;
@@ -12,11 +11,7 @@ use index_spaces::NoMemory;
 use std::alloc::Global;
 
 /// How many words of a line stand as in the form, and how many words that has.
-pub(crate) fn followed(
-    alloc: Global,
-    form: Form,
-    words: &[&[u8]],
-) -> Result<(usize, usize), NoMemory>
+pub fn followed(alloc: Global, form: Form, words: &[&[u8]]) -> Result<(usize, usize), NoMemory>
     ensures { IfOk result (λ x. (x.0 ≡ followed form (contents words.now)) × (x.1 ≡ form_words form)) }
 {
     let items = split(alloc, form.text(), b' ')?;
@@ -81,19 +76,9 @@ fn bare(item: &[u8]) -> &[u8]
     }
 }
 
-/// Whether a format has what another brought.
-fn is_since(since: Format, format: Format) -> bool
-    ensures { result ≡ is_since since format }
-{
-    match (since, format) {
-        (Format::Two, Format::One) => false,
-        _ => true,
-    }
-}
-
 /// Whether the form is told of a line that goes so far with it.
-pub(crate) fn is_told(format: Format, form: Form, n: usize) -> bool
+pub fn is_told(format: Format, form: Form, n: usize) -> bool
     ensures { result ≡ is_told format form n }
 {
-    is_since(form.since(), format) && form.key_words() <= n
+    format.has_since(form.since()) && form.key_words() <= n
 }

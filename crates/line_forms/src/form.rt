@@ -65,7 +65,7 @@ pub const FORMS: [Form; 26] = [
 
 impl Form {
     ghost use Rattle.std.specs.Prelude.{◌≡◌};
-    ghost use Rattle.line_forms.specs.Forms.{form_text, form_since, key_words, takes_on};
+    ghost use Rattle.line_forms.specs.Forms.{form_text, form_since, key_words, takes_on, takes_many};
 
     /// The form as docs/LANGUAGE.md writes it: a word in capitals stands for any word of its kind, and
     /// what stands in brackets may be left out.
@@ -131,7 +131,7 @@ impl Form {
     }
 
     /// Whether ` on EVENT` may stand at its end.
-    pub(crate) fn takes_on(self) -> bool
+    pub fn takes_on(self) -> bool
         ensures { result ≡ takes_on self }
     {
         match self {
@@ -145,5 +145,12 @@ impl Form {
             | Form::Phase => false,
             _ => true,
         }
+    }
+
+    /// Whether any number of events stand at its end.
+    pub fn takes_many(self) -> bool
+        ensures { result ≡ takes_many self }
+    {
+        matches!(self, Form::Merge | Form::MergeIgnore)
     }
 }

@@ -3,7 +3,7 @@
 ghost use Rattle.std.specs.Prelude.{◌≡◌, ◌++◌, ◌≤◌, drop, take, length, flat_map, OnOk};
 ghost use Rattle.std.specs.List.{list_any};
 ghost use Rattle.basics.specs.Words.{contents};
-ghost use Rattle.line_forms.specs.Hint.{before_space, behind_space, is_no_event, are_events, merge_words, merge_hint};
+ghost use Rattle.line_forms.specs.Hint.{before_space, behind_space, is_no_event, are_events, merge_words, merge_lines, merge_hint};
 
 use crate::blanks::begins_comment;
 use crate::form::Form;
@@ -22,10 +22,22 @@ pub(crate) fn put_merge_hint(
     ensures { OnOk result (out.new.items ≡ out.old.items ++ merge_hint form (contents words.now) n) }
 {
     let kept = n.saturating_sub(1);
+    put_merge_lines(out, form, front(words, kept), behind(words, kept))
+}
+
+/// Puts the two lines to write in place of one that has these words before these events.
+pub fn put_merge_lines(
+    out: &mut Vec<u8>,
+    form: Form,
+    words: &[&[u8]],
+    events: &[&[u8]],
+) -> Result<(), NoMemory>
+    ensures { OnOk result (out.new.items ≡ out.old.items ++ merge_lines form (contents words.now) (contents events.now)) }
+{
     put(out, merge_words(form))?;
-    put_before(out, behind(words, kept))?;
+    put_before(out, events)?;
     put(out, b"\n")?;
-    put_behind(out, front(words, kept))?;
+    put_behind(out, words)?;
     put(out, b"NAME\n")
 }
 
@@ -90,10 +102,9 @@ fn put_behind(out: &mut Vec<u8>, words: &[&[u8]]) -> Result<(), NoMemory>
     Ok(())
 }
 
-/// The first `n` words.
-fn front<'a, 'b>(words: &'b [&'a [u8]], n: usize) -> &'b [&'a [u8]]
-    requires { n ≤ length words.now }
+/// The first `n` words, or all where there are fewer.
+pub fn front<'a, 'b>(words: &'b [&'a [u8]], n: usize) -> &'b [&'a [u8]]
     ensures { contents result.now ≡ take n (contents words.now) }
 {
-    &words[..n]
+    if n < words.len() { &words[..n] } else { words }
 }

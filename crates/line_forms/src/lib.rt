@@ -2,12 +2,14 @@
 #![tactic(auto)]
 
 mod advice;
-mod blanks;
-mod follow;
+pub mod blanks;
+mod files;
+pub mod follow;
 mod form;
-mod hint;
+pub mod hint;
+mod left;
 mod nearest;
-mod putting;
+pub mod putting;
 mod twice;
 mod vocabulary;
 

@@ -45,7 +45,7 @@ fn repeated_column<'a>(words: &[&'a [u8]]) -> Option<&'a [u8]>
 fn stands_again(word: &[u8], others: &[&[u8]]) -> bool
     ensures { result ≡ stands_again word.now (contents others.now) }
 {
-    has_dot(word) && stands_among(word, others)
+    has_dot(word) && is_among(word, others)
 }
 
 fn has_dot(word: &[u8]) -> bool
@@ -54,7 +54,8 @@ fn has_dot(word: &[u8]) -> bool
     word.contains(&b'.')
 }
 
-fn stands_among(word: &[u8], others: &[&[u8]]) -> bool
+/// Whether a word stands among others.
+pub(crate) fn is_among(word: &[u8], others: &[&[u8]]) -> bool
     ensures { result ≡ list_any (bytes_eq word.now) (contents others.now) }
 {
     others.iter().any(|other| word == *other)

@@ -11,15 +11,15 @@ use Rattle.std.proofs.lemmas.List.Folds.{list_any-append}
 use Rattle.std.proofs.lemmas.List.Quantifiers.{position-Some}
 use Rattle.std.proofs.lemmas.Slice.Eq.{bytes_eq-Decides}
 use Rattle.graph_terms.specs.declared.format.Format.{Format}
+use Rattle.graph_terms.specs.declared.format.Format.TheVariants.{Three}
 use Rattle.graph_terms.specs.declared.decl.Decl.{Decl}
 use Rattle.graph_terms.specs.declared.found.Found.{Found}
 use Rattle.graph_terms.specs.declared.found.Found.TheVariants as found
 use Rattle.graph_terms.specs.declared.verb.Line.{Line}
-use Rattle.std.specs.Char.{is_ascii_lowercase}
 use Rattle.graph_terms.specs.declared.verb.Verb.TheVariants.{User}
 use Rattle.graph_terms.specs.Graph.{GraphValue, decl_name}
 use Rattle.graph_terms.specs.Fits.{IsGraph, LinesFit, is_used}
-use Rattle.graph_terms.specs.Name.{is_name, is_name_byte}
+use Rattle.graph_terms.specs.Name.{is_name_in, is_first_byte, is_later_byte}
 use Rattle.graph_terms.specs.Names.{StandsFor}
 use Rattle.graph_terms.specs.Spelling.{line_name}
 use Rattle.graph_terms.proofs.Public.{fit_at}
@@ -35,31 +35,31 @@ line_at (l ∷ ls) (suc i) h = line_at ls i (omega arith)
 pub name_is : (g : GraphValue) (i : ℕ) (l : Line) → slice_get g.lines i ≡ Some l → line_name g i ≡ l.name
 name_is g i l e = ap (λ o. option_map_or (λ (x : Line). x.name) o []) e
 
-named_at : (fm : Format) (decls : List Decl) (before ls : List Line) → LinesFit fm decls before ls → (i : ℕ) (l : Line) → slice_get ls i ≡ Some l → is_name l.name ≡ true
+named_at : (fm : Format) (decls : List Decl) (before ls : List Line) → LinesFit fm decls before ls → (i : ℕ) (l : Line) → slice_get ls i ≡ Some l → is_name_in Three l.name ≡ true
 named_at fm decls before [] f i l e = absurd (none-some l e)
-named_at fm decls before (m ∷ ls) f zero l e = subst (λ (x : Line). is_name x.name ≡ true) (same_Some m l e) f.0.named
+named_at fm decls before (m ∷ ls) f zero l e = subst (λ (x : Line). is_name_in Three x.name ≡ true) (same_Some m l e) f.0.named
 named_at fm decls before (m ∷ ls) f (suc i) l e = named_at fm decls (before ++ m ∷ []) ls f.2 i l e
 
 -- the name of a line is spelled as a name
-pub is_spelled : (g : GraphValue) → IsGraph g → (i : ℕ) → i < length g.lines → is_name (line_name g i) ≡ true
-is_spelled g f i h = let l = line_at g.lines i h in ap is_name (name_is g i l.0 l.1) ∙ named_at g.format g.decls [] g.lines f.lines i l.0 l.1
+pub is_spelled : (g : GraphValue) → IsGraph g → (i : ℕ) → i < length g.lines → is_name_in Three (line_name g i) ≡ true
+is_spelled g f i h = let l = line_at g.lines i h in ap (is_name_in Three) (name_is g i l.0 l.1) ∙ named_at g.format g.decls [] g.lines f.lines i l.0 l.1
 
 -- so no newline is in it
-one_byte : (b : ℕ) → is_name_byte b ≡ true → (b == 10) ≡ false
-one_byte b h = false_from_ne_true (b == 10) (λ e. true≢false (sym (subst (λ x. is_name_byte x ≡ true) (eqb-true b 10 e) h)))
+one_byte : (b : ℕ) → is_later_byte b ≡ true → (b == 10) ≡ false
+one_byte b h = false_from_ne_true (b == 10) (λ e. true≢false (sym (subst (λ x. is_later_byte x ≡ true) (eqb-true b 10 e) h)))
 
-first_byte : (b : ℕ) (rest : List ℕ) → is_name (b ∷ rest) ≡ true → (b == 10) ≡ false
+first_byte : (b : ℕ) (rest : List ℕ) → is_name_in Three (b ∷ rest) ≡ true → (b == 10) ≡ false
 first_byte b rest h =
-    let lower = and_parts (nat_le (length (b ∷ rest)) 31) (is_ascii_lowercase b) (and_parts _ (list_all is_name_byte rest) h).0 in
-    one_byte b (or_left (is_ascii_lowercase b) _ lower.1)
+    let first = and_parts (nat_le (length (b ∷ rest)) 63) (is_first_byte b) (and_parts _ (list_all is_later_byte rest) h).0 in
+    one_byte b (or_left (is_first_byte b) _ first.1)
 
-bytes_one_line : (bs : List ℕ) → list_all is_name_byte bs ≡ true → has_newline bs ≡ false
+bytes_one_line : (bs : List ℕ) → list_all is_later_byte bs ≡ true → has_newline bs ≡ false
 bytes_one_line [] h = refl
-bytes_one_line (b ∷ bs) h = let p = and_parts (is_name_byte b) (list_all is_name_byte bs) h in or_from (b == 10) (has_newline bs) (one_byte b p.0) (bytes_one_line bs p.1)
+bytes_one_line (b ∷ bs) h = let p = and_parts (is_later_byte b) (list_all is_later_byte bs) h in or_from (b == 10) (has_newline bs) (one_byte b p.0) (bytes_one_line bs p.1)
 
-name_one_line : (w : List ℕ) → is_name w ≡ true → has_newline w ≡ false
+name_one_line : (w : List ℕ) → is_name_in Three w ≡ true → has_newline w ≡ false
 name_one_line [] h = refl
-name_one_line (b ∷ bs) h = or_from (b == 10) (has_newline bs) (first_byte b bs h) (bytes_one_line bs (and_parts _ (list_all is_name_byte bs) h).1)
+name_one_line (b ∷ bs) h = or_from (b == 10) (has_newline bs) (first_byte b bs h) (bytes_one_line bs (and_parts _ (list_all is_later_byte bs) h).1)
 
 pub line_name_one_line : (g : GraphValue) → IsGraph g → (i : ℕ) → i < length g.lines → has_newline (line_name g i) ≡ false
 line_name_one_line g f i h = name_one_line (line_name g i) (is_spelled g f i h)

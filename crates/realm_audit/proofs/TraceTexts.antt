@@ -6,7 +6,8 @@ use Rattle.std.proofs.lemmas.List.{append_cancel_left, append_cancel_right}
 use Rattle.std.proofs.lemmas.Option.{none-some, same_Some}
 use Rattle.graph_terms.specs.Graph.{GraphValue}
 use Rattle.graph_terms.specs.Fits.{IsGraph}
-use Rattle.graph_terms.specs.Name.{is_name}
+use Rattle.graph_terms.specs.declared.format.Format.TheVariants.{Three}
+use Rattle.graph_terms.specs.Name.{is_name_in}
 use Rattle.graph_terms.specs.Spelling.{line_name}
 use Rattle.realm_audit.specs.Text.{at_text, at_texts, trace_text}
 use Rattle.realm_audit.specs.Reading.{AreLines, has_newline, IsFirstLine, front, BeginsNoItem, BeginsText, IsTraceFault, IsNoText, TextTells}
@@ -127,8 +128,8 @@ module _ (g : GraphValue) (is_graph : IsGraph g) where
       n i b (same_line line (line_name g i) after more f.one_line (line_name_one_line g is_graph i b) (sym f.bytes_are ∙ append_cancel_left (codes "at ") rest (line_name g i ++ 10 ∷ more) same)).0
       )
 
-  pub misnamed : (line : List ℕ) → is_name line ≡ false → (i : ℕ) → i < length g.lines → line ≡ line_name g i → ⊥
-  misnamed line h i b e = true≢false (sym (is_spelled g is_graph i b) ∙ (ap is_name (sym e) ∙ h))
+  pub misnamed : (line : List ℕ) → is_name_in Three line ≡ false → (i : ℕ) → i < length g.lines → line ≡ line_name g i → ⊥
+  misnamed line h i b e = true≢false (sym (is_spelled g is_graph i b) ∙ (ap (is_name_in Three) (sym e) ∙ h))
 
   abbrev EndsOrGoesOn : List ℕ → Type 0
   EndsOrGoesOn rest = (rest ≡ closing) ⊎ ((i : ℕ) × (more : List ℕ) × (i < length g.lines) × (rest ≡ at_text (line_name g i) ++ more))

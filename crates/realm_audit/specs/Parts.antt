@@ -1,11 +1,15 @@
 -- The two parts of an input of `audit`: the text of a graph, and behind it that of a trace.
-use Rattle.std.specs.Prelude.{ℕ, ◌+◌, ◌==◌, List, length, take, drop, sum_by, codes}
+use Rattle.std.specs.Prelude.{ℕ, ◌+◌, ◌==◌, List, length, take, drop, sum_by, count_by, codes}
 use Rattle.std.specs.List.{slice_split, before_first}
 use Rattle.std.specs.Str.{bytes_eq}
 
 -- the lines of bytes: what stands between their newlines
 abbrev pub lines_of : List ℕ → List (List ℕ)
 lines_of bytes = slice_split (λ b. b == 10) bytes
+
+-- how many newlines bytes have, and so how many lines that end with one
+abbrev pub newlines : List ℕ → ℕ
+newlines bytes = count_by (λ b. b == 10) bytes
 
 -- how many bytes the lines take that stand before the first line which is exactly `end`, each with its newline
 abbrev pub before_end : List ℕ → ℕ

@@ -1,7 +1,7 @@
 //! The two parts of an input of `audit`.
 
 ghost use Rattle.std.specs.Prelude.{◌≡◌, ◌≤◌, length, take, drop};
-ghost use Rattle.realm_audit.specs.Parts.{graph_bytes, trace_bytes};
+ghost use Rattle.realm_audit.specs.Parts.{newlines, graph_bytes, trace_bytes};
 
 use crate::reading::first_line;
 
@@ -28,4 +28,18 @@ fn graph_size(bytes: &[u8]) -> usize
         rest = after;
     }
     bytes.len()
+}
+
+/// How many lines of the bytes end with a newline. There are fewer than 2^32 bytes.
+pub fn newlines(bytes: &[u8]) -> u32
+    requires few { length bytes.now ≤ u32.MAX }
+    ensures { result ≡ newlines bytes.now }
+{
+    let mut count = 0;
+    for byte in bytes {
+        if *byte == b'\n' {
+            count += 1;
+        }
+    }
+    count
 }

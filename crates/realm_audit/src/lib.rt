@@ -13,7 +13,7 @@ pub mod refusal;
 mod sections;
 mod writing;
 
-pub use input_parts::parts;
+pub use input_parts::{newlines, parts};
 pub use lawful::audit;
 pub use reading::{TraceRefusal, read_trace};
 pub use refusal::AuditRefusal;

@@ -7,6 +7,7 @@ ghost use Rattle.realm_audit.specs.declared.reading.TraceRefusal.{TraceRefusal};
 ghost use Rattle.realm_audit.specs.Reading.{AreLines, has_newline, IsFirstLine, BeginsNoItem, IsRefusal, TextTells};
 
 use graph_model::graph::Graph;
+use graph_terms::format::Format;
 use graph_terms::found::Found;
 use graph_terms::lists::LineList;
 use graph_terms::name::Name;
@@ -50,7 +51,8 @@ fn next_item<'a>(graph: &Graph, bytes: &'a [u8]) -> Option<(u32, &'a [u8])>
 {
     let _ = graph.lines();
     let (name, after) = first_line(bytes.strip_prefix(b"at ".as_slice())?)?;
-    match graph.find(&Name::new(name)?)? {
+    // a name of each format is one of the last
+    match graph.find(&Name::in_format(Format::Three, name)?)? {
         Found::Line(i) => Some((i, after)),
         _ => None,
     }

@@ -25,7 +25,7 @@ pub extern "C" fn realm_check(alloc: Global, text: &[u8], out: &mut Verdict) -> 
     ensures short { result ≢ 9 → length text.now ≤ MAX_TEXT }
     ensures untold { result ≡ 9 → out.new ≡ nothing }
     ensures refused { result ≢ 0 → result ≢ 9 → (r : TheRefusal) × IsCheckRefusal text.now r × (result ≡ status_of r) × (out.new ≡ verdict_of r) }
-    ensures complete { (g : GraphValue) → GraphText text.now g → Accepted g → (result ≡ 0) ⊎ (result ≡ 7) }
+    ensures complete { (g : GraphValue) → length text.now ≤ MAX_TEXT → GraphText text.now g → Accepted g → (result ≡ 0) ⊎ (result ≡ 7) }
 {
     if text.len() as u64 > MAX_TEXT {
         *out = Verdict::nothing();

@@ -30,7 +30,7 @@ pub extern "C" fn realm_eval(alloc: Global, text: &[u8], out: &mut [u8], written
     ensures short { result ≢ 9 → length text.now ≤ MAX_TEXT }
     ensures refused { result ≢ 0 → result ≢ 6 → result ≢ 9 → (r : TheRefusal) × IsCheckRefusal text.now r × (result ≡ status_of r) }
     ensures untouched { result ≢ 0 → result ≢ 6 → (out.new ≡ out.old) × (written.new ≡ 0) }
-    ensures complete { (g : GraphValue) → GraphText text.now g → Accepted g → (result ≡ 0) ⊎ ((result ≡ 6) ⊎ (result ≡ 7)) }
+    ensures complete { (g : GraphValue) → length text.now ≤ MAX_TEXT → GraphText text.now g → Accepted g → (result ≡ 0) ⊎ ((result ≡ 6) ⊎ (result ≡ 7)) }
 
     // A line waits exactly where one that never comes reaches it, and a line is cancelled exactly where an unbroken path
     // from a fault reaches it.

@@ -37,7 +37,7 @@ pub extern "C" fn realm_plan(
     ensures short { result ≢ 9 → result ≢ 2 → length text.now ≤ MAX_TEXT }
     ensures refused { result ≢ 0 → result ≢ 2 → result ≢ 6 → result ≢ 9 → (r : TheRefusal) × IsCheckRefusal text.now r × (result ≡ status_of r) }
     ensures untouched { result ≢ 0 → result ≢ 6 → (out.new ≡ out.old) × (written.new ≡ 0) }
-    ensures complete { (g : GraphValue) → GraphText text.now g → Accepted g
+    ensures complete { (g : GraphValue) → length text.now ≤ MAX_TEXT → GraphText text.now g → Accepted g
         → (result ≡ 0) ⊎ ((result ≡ 2) ⊎ ((result ≡ 6) ⊎ (result ≡ 7))) }
 {
     *written = 0;

@@ -1,4 +1,4 @@
-//! The text of a graph in format 2.
+//! The text of a graph in format 2, or in format 3 where it has that.
 
 ghost use Rattle.std.specs.Prelude.{◌≡◌, ◌≢◌, ◌<◌, ◌≤◌, ◌⊎◌, length, IfSome};
 ghost use Rattle.graph_terms.specs.Graph.{GraphValue, upgraded};
@@ -14,8 +14,8 @@ use c_answers::texts::graph_text;
 use graph_terms::limits::MAX_TEXT;
 use std::alloc::Global;
 
-/// Reads a graph from its text, and puts its text in format 2 into `out` with its length beside it, whether or not the
-/// graph is accepted: 0; 6 exactly where `out` is too short for it, and it is cut; else 3, 7 or 9, and nothing is put.
+/// Reads a graph from its text, and puts its text in format 2, or in format 3 where it has that, into `out` with its
+/// length beside it, whether or not the graph is accepted: 0; 6 exactly where `out` is too short for it, and it is cut; else 3, 7 or 9, and nothing is put.
 #[unsafe(no_mangle)]
 pub extern "C" fn realm_upgrade(
     alloc: Global,
@@ -29,7 +29,7 @@ pub extern "C" fn realm_upgrade(
     ensures short { result ≢ 9 → length text.now ≤ MAX_TEXT }
     ensures refused { result ≢ 0 → result ≢ 6 → result ≢ 9 → (r : TheRefusal) × IsReadRefusal text.now r × (result ≡ status_of r) }
     ensures untouched { result ≢ 0 → result ≢ 6 → (out.new ≡ out.old) × (written.new ≡ 0) }
-    ensures complete { (g : GraphValue) → GraphText text.now g → (result ≡ 0) ⊎ ((result ≡ 6) ⊎ (result ≡ 7)) }
+    ensures complete { (g : GraphValue) → length text.now ≤ MAX_TEXT → GraphText text.now g → (result ≡ 0) ⊎ ((result ≡ 6) ⊎ (result ≡ 7)) }
 {
     *written = 0;
     if text.len() as u64 > MAX_TEXT {

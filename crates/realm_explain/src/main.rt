@@ -16,7 +16,7 @@ fn message(status: Status) -> Option<&'static str>
     ensures { is_some result ≡ has_message status }
 {
     match status {
-        Status::Usage => Some("usage: realm-explain [--ends] < GRAPH"),
+        Status::Usage => Some("usage: realm-explain [--ends] [--all] < GRAPH"),
         Status::ReadFault => Some("realm-explain: the standard input can't be read"),
         Status::WriteFault => Some("realm-explain: the standard output can't be written"),
         Status::NoMemory => Some("realm-explain: out of memory"),
@@ -24,40 +24,53 @@ fn message(status: Status) -> Option<&'static str>
     }
 }
 
-/// Whether the ends of lines are asked for, or the status where the words are not those of the program.
-fn asks_ends<R: Env + AllocGlobal>(rt: &R) -> Result<bool, Status> {
+/// What is asked for.
+#[derive(Clone, Copy)]
+struct Asked {
+    /// Why lines are cancelled.
+    ends: bool,
+    /// Long paths and lists whole.
+    all: bool,
+}
+
+/// What is asked for, or the status where the words are not those of the program.
+fn read_words<R: Env + AllocGlobal>(rt: &R) -> Result<Asked, Status> {
     let args = match env::args(rt) {
         Ok(args) => args,
         Err(error) if error.kind() == io::ErrorKind::OutOfMemory => return Err(Status::NoMemory),
         Err(_) => return Err(Status::Usage),
     };
-    let mut ends = false;
+    let mut asked = Asked {
+        ends: false,
+        all: false,
+    };
     for (i, word) in args.enumerate() {
         match (i, word.as_str()) {
             (0, _) => {}
-            (1, "--ends") => ends = true,
+            (1 | 2, "--ends") if !asked.ends => asked.ends = true,
+            (1 | 2, "--all") if !asked.all => asked.all = true,
             _ => return Err(Status::Usage),
         }
     }
-    Ok(ends)
+    Ok(asked)
 }
 
 /// How many bytes are gathered before they are written on.
 const GATHERED: usize = 65_536;
 
 /// Explains the standard input on the standard output.
-fn explain<R: AllocGlobal + Input + Print>(rt: &R, ends: bool) -> Status {
+fn explain<R: AllocGlobal + Input + Print>(rt: &R, asked: Asked) -> Status {
     let Ok(writer) = BufWriter::with_capacity(rt.alloc(), GATHERED, io::writer(rt)) else {
         return Status::NoMemory;
     };
     let mut source = StdSource::new(rt.reader());
     let mut sink = StdSink::new(writer);
-    run(rt.alloc(), &mut source, &mut sink, ends)
+    run(rt.alloc(), &mut source, &mut sink, asked.ends, asked.all)
 }
 
 fn main(rt: HostRuntime) -> ExitCode {
-    let status = match asks_ends(&rt) {
-        Ok(ends) => explain(&rt, ends),
+    let status = match read_words(&rt) {
+        Ok(asked) => explain(&rt, asked),
         Err(status) => status,
     };
     if let Some(line) = message(status) {

@@ -55,7 +55,7 @@ pub extern "C" fn realm_run_new(
         → (r : TheRefusal) × IsCheckRefusal text.now r × (result ≡ status_of r) × (out.new ≡ verdict_of r) }
     ensures untold { (result ≡ 0) ⊎ ((result ≡ 2) ⊎ (result ≡ 9)) → out.new ≡ nothing }
     ensures none { result ≢ 0 → run.new.value ≡ run.old.value }
-    ensures complete { (g : GraphValue) → GraphText text.now g → Accepted g → slots ≤ MAX_SLOTS → run.old.value ≡ None
+    ensures complete { (g : GraphValue) → length text.now ≤ MAX_TEXT → GraphText text.now g → Accepted g → slots ≤ MAX_SLOTS → run.old.value ≡ None
         → (result ≡ 0) ⊎ ((result ≡ 7) ⊎ (result ≡ 8)) }
 {
     *out = Verdict::nothing();
@@ -82,7 +82,7 @@ fn new_run(alloc: Global, text: &[u8], slots: u32, run: &mut Held, out: &mut Ver
     ensures refused { result ≢ 0 → result ≢ 2 → result ≢ 8 → result ≢ 9 → (r : TheRefusal) × IsCheckRefusal text.now r × (result ≡ status_of r) × (out.new ≡ verdict_of r) }
     ensures untold { (result ≡ 0) ⊎ ((result ≡ 2) ⊎ (result ≡ 9)) → out.new ≡ nothing }
     ensures none { result ≢ 0 → run.new.value ≡ None }
-    ensures complete { (g : GraphValue) → GraphText text.now g → Accepted g → slots ≤ MAX_SLOTS
+    ensures complete { (g : GraphValue) → length text.now ≤ MAX_TEXT → GraphText text.now g → Accepted g → slots ≤ MAX_SLOTS
         → (result ≡ 0) ⊎ ((result ≡ 7) ⊎ (result ≡ 8)) }
 {
     if slots > MAX_SLOTS {

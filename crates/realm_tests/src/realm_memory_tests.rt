@@ -75,10 +75,11 @@ fn tiled_stencil(rt: HostRuntime) -> Result<(), Fail> {
     run_each(&rt, text.as_str(), report.as_str())
 }
 
-// the actions that run nothing
+// the actions that run nothing, over a text with a comment
 #[test]
 fn other_actions(rt: HostRuntime) -> Result<(), Fail> {
-    let text = "realm 1\n\
+    let text = "realm 3\n\
+        # its trigger stands below\n\
         u = user\n\
         t = trigger u\n\
         end\n";
@@ -94,7 +95,7 @@ fn other_actions(rt: HostRuntime) -> Result<(), Fail> {
         &rt,
         "upgrade",
         text,
-        "realm 2\nu = user\nt = trigger u\nend\n",
+        "realm 3\nu = user\nt = trigger u\nend\n",
     )?;
     run_one(&rt, "timeline", text, plan)?;
     run_one(&rt, "audit", traced.as_str(), "lawful\n")

@@ -29,9 +29,9 @@ ends_made false request g _ out a = absurd a
 
 -- an answer for this ends so
 ends_for : (aim : Purpose) (request : Request) (bytes : List ℕ) (status : Status) (out : List ℕ) → AnswersFor aim request bytes status out → may_end_for aim (runs request.action request.text) status ≡ true
-ends_for Checking request bytes Slots out a = short_runs request a.2.1.0 a.2.1.2
-ends_for Checking request bytes Usage out a = absurd a.2.1
-ends_for Checking request bytes Unlawful out a = absurd a.2.1
+ends_for Checking request bytes Slots out a = short_runs request a.1.2.1.0 a.1.2.1.2
+ends_for Checking request bytes Usage out a = absurd a.1.2.1
+ends_for Checking request bytes Unlawful out a = absurd a.1.2.1
 ends_for Checking request bytes _ out a = refl
 ends_for Auditing request bytes Slots out a = absurd a.1.2.1.2
 ends_for Auditing request bytes Usage out a = absurd a.1.2.1.2

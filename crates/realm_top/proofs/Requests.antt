@@ -52,11 +52,11 @@ pub answers_audit : (w : Purpose) (request : Request) (bytes : List ℕ) → is_
 answers_audit Auditing request bytes y status out a = a
 answers_audit w request bytes y status out a = absurd (false≢true y)
 
-upgrade_answers : (w : Purpose) (request : Request) (bytes : List ℕ) → is_upgrading w ≡ true → (status : Status) (out : List ℕ) → AnswersFor w request bytes status out → UpgradeAnswers bytes status out
+upgrade_answers : (w : Purpose) (request : Request) (bytes : List ℕ) → is_upgrading w ≡ true → (status : Status) (out : List ℕ) → AnswersFor w request bytes status out → UpgradeAnswers request.to_three bytes status out
 upgrade_answers Upgrading request bytes y status out a = a
 upgrade_answers w request bytes y status out a = absurd (false≢true y)
 
-pub answers_upgrade : (w : Purpose) (request : Request) (bytes : List ℕ) → is_upgrading w ≡ true → (status : Status) (out : List ℕ) → UpgradeAnswers bytes status out → AnswersFor w request bytes status out
+pub answers_upgrade : (w : Purpose) (request : Request) (bytes : List ℕ) → is_upgrading w ≡ true → (status : Status) (out : List ℕ) → UpgradeAnswers request.to_three bytes status out → AnswersFor w request bytes status out
 answers_upgrade Upgrading request bytes y status out a = a
 answers_upgrade w request bytes y status out a = absurd (false≢true y)
 
@@ -143,7 +143,7 @@ long_by w request bytes r l = (l, refl)
 
 -- no answer is a fault of writing
 unfaulted_by : (w : Purpose) (request : Request) (bytes out : List ℕ) → AnswersFor w request bytes WriteFault out → ⊥
-unfaulted_by Checking request bytes out a = (a.2).1
+unfaulted_by Checking request bytes out a = ((a.1).2).1
 unfaulted_by Auditing request bytes out a = ((((a.1).2).1).2)
 unfaulted_by Upgrading request bytes out a = a
 unfaulted_by InSession request bytes out a = a.2
@@ -154,7 +154,7 @@ module _ (needs : OneNeed) (one : (xs : List ℕ) → OneReading xs) (tells : Te
   pub one_by : (w : Purpose) (request : Request) (bytes : List ℕ) (s t : Status) (out : List ℕ) → AnswersFor w request bytes s out → AsksFor w request bytes t → s ≡ t
   one_by Checking request bytes s t out a b = one_answer request needs bytes (one bytes) s t out a b
   one_by Auditing request bytes s t out a b = one_audit tells bytes (one (graph_bytes bytes)) s t out a b
-  one_by Upgrading request bytes s t out a b = one_upgrade bytes (one bytes) s t out a b
+  one_by Upgrading request bytes s t out a b = one_upgrade request.to_three bytes (one bytes) s t out a b
   one_by InSession request bytes s t out a b = one_session (session_slots request.slots) bytes (sessions bytes) (ends (session_slots request.slots)) s t out a b
   one_by Making request bytes s t out a b = made_one request.text request (made_graph request.seed request.size) needs s t out a b
 
@@ -184,14 +184,14 @@ module _ (request : Request) (left : Option (List ℕ)) (s t : SinkState) (resul
   pub request_done : checks request.action ≡ true → result ≡ Done → IfSome left (λ xs. IsDone request xs s t)
   request_done y e = if_some left (λ xs. IsDone request xs s t) (λ xs h.
       let d = done_with xs (checking_reads aim y) h e in
-      let a = checked_answers aim request xs y Done d.0 d.1 in
+      let a = (checked_answers aim request xs y Done d.0 d.1).1 in
       let w = (a.2).1 in
       record { graph = a.0; text = a.1; accepted = (a.2).0; need = w.0; is_need = w.1; enough = w.2; out = d.0; says = w.3; delivered = d.2 })
 
   pub request_paths : PathsTellEnds → checks request.action ≡ true → result ≡ Done → IfSome left (λ xs. (g : GraphValue) → GraphText xs g → EndsByPaths g)
   request_paths tell y e = if_some left (λ xs. (g : GraphValue) → GraphText xs g → EndsByPaths g) (λ xs h.
       let d = done_with xs (checking_reads aim y) h e in
-      let a = checked_answers aim request xs y Done d.0 d.1 in
+      let a = (checked_answers aim request xs y Done d.0 d.1).1 in
       tell xs a.0 a.1 (a.2).0)
 
   pub request_audited : audits request.action ≡ true → result ≡ Done → IfSome left (λ xs. IsAudited xs s t)
@@ -201,10 +201,10 @@ module _ (request : Request) (left : Option (List ℕ)) (s t : SinkState) (resul
       let w = (a.2).1 in
       record { graph = a.0; text = a.1; accepted = (a.2).0; trace = w.0; has_trace = w.1; lawful = (w.2).0; delivered = subst (Delivered s t) (w.2).1 d.2 })
 
-  pub request_upgraded : upgrades request.action ≡ true → result ≡ Done → IfSome left (λ xs. IsUpgraded xs s t)
-  request_upgraded y e = if_some left (λ xs. IsUpgraded xs s t) (λ xs h.
+  pub request_upgraded : upgrades request.action ≡ true → result ≡ Done → IfSome left (λ xs. IsUpgraded request.to_three xs s t)
+  request_upgraded y e = if_some left (λ xs. IsUpgraded request.to_three xs s t) (λ xs h.
       let d = done_with xs (upgrading_reads aim y) h e in
-      let a = upgrade_answers aim request xs y Done d.0 d.1 in
+      let a = (upgrade_answers aim request xs y Done d.0 d.1).1 in
       record { graph = a.0; text_is = a.1; delivered = subst (Delivered s t) a.2 d.2 })
 
   pub request_session : runs_session request.action ≡ true → result ≡ Done → IfSome left (λ xs. IsSessionDone (session_slots request.slots) xs s t)

@@ -118,7 +118,7 @@ IsInput action left bytes = IsInputFor (purpose action) left bytes
 abbrev pub AnswersFor : Purpose → Request → List ℕ → Status → List ℕ → Type 0
 AnswersFor Checking request bytes status out = InputAnswers request bytes status out
 AnswersFor Auditing request bytes status out = AuditAnswers bytes status out
-AnswersFor Upgrading request bytes status out = UpgradeAnswers bytes status out
+AnswersFor Upgrading request bytes status out = UpgradeAnswers request.to_three bytes status out
 AnswersFor InSession request bytes status out = SessionAnswers (session_slots request.slots) bytes status out
 AnswersFor Making request bytes status out = MadeAnswers request.text request (made_graph request.seed request.size) status out
 

@@ -52,7 +52,7 @@ pub(crate) fn answer<R: Threads + Wait + Sync, K: Sink, G: Gate>(
     if audits(request.action) {
         answer_audit(alloc, bytes, sink)
     } else if upgrades(request.action) {
-        answer_upgrade(alloc, bytes, sink)
+        answer_upgrade(alloc, bytes, request.to_three, sink)
     } else if runs_session(request.action) {
         answer_session(rt, alloc, request, bytes, sink, gate)
     } else {

@@ -72,9 +72,10 @@ pub fn realm<R: Threads + Wait + Sync, S: Source, K: Sink, G: Gate>(
     ensures lawful { result ≡ Status.Done → (request : Request) × Asks words.now request × (audits request.action ≡ true
         → IfSome (S.left source.old) (λ bytes. IsAudited bytes (K.state sink.old) (K.state sink.new))) }
 
-    // Done, of `upgrade`: the input is the one text of a graph, and its text in format 2 was written and flushed.
+    // Done, of `upgrade`: the input is the one text of a graph, and its text was written and flushed: in format 3 with
+    // `--to 3`, else in format 2, or in format 3 where the graph has that.
     ensures upgraded { result ≡ Status.Done → (request : Request) × Asks words.now request × (upgrades request.action ≡ true
-        → IfSome (S.left source.old) (λ bytes. IsUpgraded bytes (K.state sink.old) (K.state sink.new))) }
+        → IfSome (S.left source.old) (λ bytes. IsUpgraded request.to_three bytes (K.state sink.old) (K.state sink.new))) }
 
     // Done, of `session`: the input is the one text of a session, each of its graphs with its links as lines is accepted, the
     // events of the lines that wait have slots enough, and the report of the session was written and flushed.

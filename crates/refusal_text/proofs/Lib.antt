@@ -1,1 +1,2 @@
 mod RefusalFacts
+mod PairFacts

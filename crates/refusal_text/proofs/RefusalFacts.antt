@@ -5,42 +5,43 @@ use Rattle.std.proofs.lemmas.Bool.{true≢false, eqb-true}
 use Rattle.std.proofs.lemmas.List.{take_more, take_all, append-nil}
 use Rattle.std.proofs.lemmas.Grind.{flat_map-append}
 use Rattle.graph_terms.specs.Graph.{GraphValue}
+use Rattle.explain_text.specs.TextLines.{TextLines}
 use Rattle.explain_text.specs.Lines.{by_number, numbered}
 use Rattle.explain_text.proofs.Public.{then_put}
 use Rattle.refusal_text.specs.Refused.{lines_text, few_lines_text, in_sections, order_text, held_text, advice_text}
 
 -- no line, and one more
-pub lines_begin : (g : GraphValue) (ls : List (List ℕ)) (old : List ℕ) → old ≡ old ++ lines_text g ls []
+pub lines_begin : (g : GraphValue) (ls : TextLines) (old : List ℕ) → old ≡ old ++ lines_text g ls []
 lines_begin g ls old = sym (append-nil old)
 
-lines_push : (g : GraphValue) (ls : List (List ℕ)) (is : List ℕ) (i : ℕ) → lines_text g ls (is ++ i ∷ []) ≡ lines_text g ls is ++ numbered g ls i
+lines_push : (g : GraphValue) (ls : TextLines) (is : List ℕ) (i : ℕ) → lines_text g ls (is ++ i ∷ []) ≡ lines_text g ls is ++ numbered g ls i
 lines_push g ls [] i = append-nil (numbered g ls i)
 lines_push g ls (x ∷ is) i = ap (λ z. numbered g ls x ++ z) (lines_push g ls is i) ∙ sym (append_assoc (numbered g ls x) (lines_text g ls is) (numbered g ls i))
 
-pub lines_more : (g : GraphValue) (ls : List (List ℕ)) (old mid new : List ℕ) (is : List ℕ) (k : ℕ) → k < length is → mid ≡ old ++ lines_text g ls (take k is) → new ≡ mid ++ numbered g ls (slice_index is k) →
+pub lines_more : (g : GraphValue) (ls : TextLines) (old mid new : List ℕ) (is : List ℕ) (k : ℕ) → k < length is → mid ≡ old ++ lines_text g ls (take k is) → new ≡ mid ++ numbered g ls (slice_index is k) →
     new ≡ old ++ lines_text g ls (take (k + 1) is)
 lines_more g ls old mid new is k below first second =
     then_put old mid new (lines_text g ls (take k is)) (numbered g ls (slice_index is k)) first second
     ∙ ap (λ z. old ++ z) (sym (ap (lines_text g ls) (take_more is k 0 below) ∙ lines_push g ls (take k is) (slice_index is k)))
 
-pub lines_end : (g : GraphValue) (ls : List (List ℕ)) (old new : List ℕ) (is : List ℕ) (k : ℕ) → length is ≤ k → new ≡ old ++ lines_text g ls (take k is) → new ≡ old ++ lines_text g ls is
+pub lines_end : (g : GraphValue) (ls : TextLines) (old new : List ℕ) (is : List ℕ) (k : ℕ) → length is ≤ k → new ≡ old ++ lines_text g ls (take k is) → new ≡ old ++ lines_text g ls is
 lines_end g ls old new is k past e = e ∙ ap (λ xs. old ++ lines_text g ls xs) (take_all k is past)
 
 -- the sections of a line, of which there are none or some
-pub in_none : (g : GraphValue) (ls : List (List ℕ)) (i : ℕ) (qs : List ℕ) → (length qs == 0) ≡ true → by_number g i ++ codes " lies in no section\n" ≡ in_sections g ls i qs
+pub in_none : (g : GraphValue) (ls : TextLines) (i : ℕ) (qs : List ℕ) → (length qs == 0) ≡ true → by_number g ls i ++ codes " lies in no section\n" ≡ in_sections g ls i qs
 in_none g ls i [] e = refl
 in_none g ls i (q ∷ qs) e = absurd (let z : length (q ∷ qs) ≡ 0 = eqb-true (length (q ∷ qs)) 0 e in omega arith)
 
-pub in_some : (g : GraphValue) (ls : List (List ℕ)) (i : ℕ) (qs : List ℕ) → (length qs == 0) ≡ false → by_number g i ++ (codes " lies in the section of\n" ++ few_lines_text g ls qs) ≡ in_sections g ls i qs
+pub in_some : (g : GraphValue) (ls : TextLines) (i : ℕ) (qs : List ℕ) → (length qs == 0) ≡ false → by_number g ls i ++ (codes " lies in the section of\n" ++ few_lines_text g ls qs) ≡ in_sections g ls i qs
 in_some g ls i [] e = absurd (true≢false e)
 in_some g ls i (q ∷ qs) e = refl
 
 -- what would order two lines, of which the second lies in no section or in some
-pub advice_none : (g : GraphValue) (ls : List (List ℕ)) (i j : ℕ) (qs : List ℕ) → (length qs == 0) ≡ true → order_text g i j ≡ advice_text g ls i j qs
+pub advice_none : (g : GraphValue) (ls : TextLines) (i j : ℕ) (qs : List ℕ) → (length qs == 0) ≡ true → order_text g ls i j ≡ advice_text g ls i j qs
 advice_none g ls i j [] e = refl
 advice_none g ls i j (q ∷ qs) e = absurd (let z : length (q ∷ qs) ≡ 0 = eqb-true (length (q ∷ qs)) 0 e in omega arith)
 
-pub advice_some : (g : GraphValue) (ls : List (List ℕ)) (i j : ℕ) (qs : List ℕ) → (length qs == 0) ≡ false → held_text g ls i j qs ≡ advice_text g ls i j qs
+pub advice_some : (g : GraphValue) (ls : TextLines) (i j : ℕ) (qs : List ℕ) → (length qs == 0) ≡ false → held_text g ls i j qs ≡ advice_text g ls i j qs
 advice_some g ls i j [] e = absurd (true≢false e)
 advice_some g ls i j (q ∷ qs) e = refl
 

@@ -21,6 +21,7 @@ use Rattle.explain_graph.specs.declared.reasons.ConflictReason.{ConflictReason}
 use Rattle.explain_graph.specs.declared.reasons.Sections.{Sections}
 use Rattle.explain_graph.specs.declared.explanation.Explanation.{Explanation}
 use Rattle.explain_graph.specs.declared.explanation.Explanation.TheVariants.{Cycle, Unreleased, Section, Descends, ReleaseFault, Race}
+use Rattle.explain_text.specs.TextLines.{TextLines}
 use Rattle.explain_text.specs.Shown.{more_text}
 use Rattle.refusal_text.specs.declared.bounds.TheConstants.{MAX_SECTIONS}
 use Rattle.explain_text.specs.Lines.{by_number, numbered, edges_text}
@@ -34,13 +35,19 @@ mode_word Least = codes "takes the least into"
 mode_word Most = codes "takes the greatest into"
 
 -- lines, one after the other
-abbrev pub lines_text : GraphValue → List (List ℕ) → List ℕ → List ℕ
+abbrev pub lines_text : GraphValue → TextLines → List ℕ → List ℕ
 lines_text g ls [] = []
 lines_text g ls (i ∷ is) = numbered g ls i ++ lines_text g ls is
 
--- the first of some lines, and how many more there are
-abbrev pub few_lines_text : GraphValue → List (List ℕ) → List ℕ → List ℕ
-few_lines_text g ls is = lines_text g ls (take MAX_SECTIONS is) ++ more_text (length is - MAX_SECTIONS)
+-- the first of some lines, and how many more there are; or all
+abbrev pub most_told : TextLines → List ℕ → ℕ
+most_told ls is = cond ls.all (length is) MAX_SECTIONS
+
+abbrev pub told_few : TextLines → List ℕ → List ℕ
+told_few ls is = take (most_told ls is) is
+
+abbrev pub few_lines_text : GraphValue → TextLines → List ℕ → List ℕ
+few_lines_text g ls is = lines_text g ls (told_few ls is) ++ more_text (length is - most_told ls is)
 
 -- the line that `realm check` writes
 abbrev pub refused_one : GraphValue → List ℕ → ℕ → List ℕ
@@ -49,54 +56,63 @@ refused_one g rule i = codes "refused " ++ (rule ++ (codes " " ++ (line_name g i
 abbrev pub refused_two : GraphValue → List ℕ → ℕ → ℕ → List ℕ
 refused_two g rule i j = codes "refused " ++ (rule ++ (codes " " ++ (line_name g i ++ (codes " " ++ (line_name g j ++ codes "\n")))))
 
-abbrev pub cycle_text : GraphValue → List (List ℕ) → CycleReason → List ℕ
+abbrev pub cycle_text : GraphValue → TextLines → CycleReason → List ℕ
 cycle_text g ls r = refused_one g (codes "cycle") r.line ++ (numbered g ls r.line ++ (codes "a shortest cycle through it:\n" ++ edges_text g ls r.cycle.items))
 
-abbrev pub unreleased_by : GraphValue → List (List ℕ) → Option ℕ → List ℕ
+abbrev pub unreleased_by : GraphValue → TextLines → Option ℕ → List ℕ
 unreleased_by g ls None = codes "no line releases it\n"
 unreleased_by g ls (Some k) = codes "its release does not wait for it:\n" ++ numbered g ls k
 
-abbrev pub unreleased_text : GraphValue → List (List ℕ) → UnreleasedReason → List ℕ
+abbrev pub unreleased_text : GraphValue → TextLines → UnreleasedReason → List ℕ
 unreleased_text g ls r = refused_one g (codes "unreleased") r.acquire ++ (numbered g ls r.acquire ++ unreleased_by g ls r.release)
 
-abbrev pub entered_text : GraphValue → List (List ℕ) → Option (Vec Edge Global) → List ℕ
+abbrev pub entered_text : GraphValue → TextLines → Option (Vec Edge Global) → List ℕ
 entered_text g ls None = codes "and not after it\n"
 entered_text g ls (Some p) = codes "and after it, but never:\n" ++ edges_text g ls p.items
 
-abbrev pub section_text : GraphValue → List (List ℕ) → SectionReason → List ℕ
+abbrev pub section_text : GraphValue → TextLines → SectionReason → List ℕ
 section_text g ls r =
     refused_two g (codes "section") r.release r.line
     ++ (numbered g ls r.release ++ (numbered g ls r.line ++ (codes "the release waits for that line:\n" ++ (edges_text g ls r.path.items
     ++ (codes "which comes not before the acquire\n" ++ (numbered g ls r.acquire ++ entered_text g ls r.entered))))))
 
-abbrev pub descends_text : GraphValue → List (List ℕ) → DescendsReason → List ℕ
+abbrev pub descends_text : GraphValue → TextLines → DescendsReason → List ℕ
 descends_text g ls r =
     refused_two g (codes "descends") r.outer r.inner
     ++ (numbered g ls r.outer ++ (numbered g ls r.inner ++ (codes "the second lies in the section of the first:\n" ++ (edges_text g ls r.entered.items ++ (edges_text g ls r.left.items
     ++ (codes "reservation " ++ (lock_name g r.inner_lock ++ (codes " is not declared below " ++ (lock_name g r.outer_lock ++ codes "\n")))))))))
 
-abbrev pub on_text : GraphValue → List (List ℕ) → Option ℕ → List ℕ
+abbrev pub on_text : GraphValue → TextLines → Option ℕ → List ℕ
 on_text g ls None = codes "it is on no line, and has to be on a mergei\n"
 on_text g ls (Some m) = codes "it has to be on a mergei, and is on\n" ++ numbered g ls m
 
-abbrev pub release_text : GraphValue → List (List ℕ) → ReleaseReason → List ℕ
-release_text g ls r = refused_one g (codes "release") r.release ++ (numbered g ls r.release ++ on_text g ls r.on)
+-- the two lines to write: a mergei of the line that it is on, else of the acquire, and the release on that
+abbrev pub waited : ℕ → Option ℕ → ℕ
+waited q None = q
+waited q (Some m) = m
+
+abbrev pub write_text : GraphValue → ℕ → ℕ → Option ℕ → List ℕ
+write_text g r q on =
+    codes "put a mergei between them:\nNAME = mergei " ++ (line_name g (waited q on) ++ (codes "\n" ++ (line_name g r ++ (codes " = release " ++ (line_name g q ++ codes " on NAME\n")))))
+
+abbrev pub release_text : GraphValue → TextLines → ReleaseReason → List ℕ
+release_text g ls r = refused_one g (codes "release") r.release ++ (numbered g ls r.release ++ (on_text g ls r.on ++ write_text g r.release r.acquire r.on))
 
 -- the column and the point that two lines share, and how they use it
-abbrev pub shared_text : GraphValue → SharedPoint → ℕ → ℕ → List ℕ
-shared_text g s i j =
+abbrev pub shared_text : GraphValue → TextLines → SharedPoint → ℕ → ℕ → List ℕ
+shared_text g ls s i j =
     codes "both use column " ++ (column_name g s.one.column ++ (codes " at point " ++ (decimal s.point
-    ++ (codes ": " ++ (by_number g i ++ (codes " " ++ (mode_word s.one.mode ++ (codes " it, " ++ (by_number g j ++ (codes " " ++ (mode_word s.other.mode ++ codes " it\n")))))))))))
+    ++ (codes ": " ++ (by_number g ls i ++ (codes " " ++ (mode_word s.one.mode ++ (codes " it, " ++ (by_number g ls j ++ (codes " " ++ (mode_word s.other.mode ++ codes " it\n")))))))))))
 
-abbrev pub meeting_text : GraphValue → List (List ℕ) → Option Meeting → List ℕ
+abbrev pub meeting_text : GraphValue → TextLines → Option Meeting → List ℕ
 meeting_text g ls None = codes "no line leads to both\n"
 meeting_text g ls (Some m) =
     codes "the nearest line that leads to both:\n" ++ (numbered g ls m.line ++ (codes "to the first:\n" ++ (edges_text g ls m.to_first.items ++ (codes "to the second:\n" ++ edges_text g ls m.to_second.items))))
 
 -- the sections in which a line lies
-abbrev pub in_sections : GraphValue → List (List ℕ) → ℕ → List ℕ → List ℕ
-in_sections g ls i [] = by_number g i ++ codes " lies in no section\n"
-in_sections g ls i (q ∷ qs) = by_number g i ++ (codes " lies in the section of\n" ++ few_lines_text g ls (q ∷ qs))
+abbrev pub in_sections : GraphValue → TextLines → ℕ → List ℕ → List ℕ
+in_sections g ls i [] = by_number g ls i ++ codes " lies in no section\n"
+in_sections g ls i (q ∷ qs) = by_number g ls i ++ (codes " lies in the section of\n" ++ few_lines_text g ls (q ∷ qs))
 
 -- what would order them: the second is to wait for the first
 abbrev pub advice_by : GraphValue → Option ℕ → ℕ → List ℕ
@@ -106,16 +122,16 @@ advice_by g (Some e) i = codes "on a merge of " ++ (line_name g e ++ (codes " an
 abbrev pub on_of : GraphValue → ℕ → Option ℕ
 on_of g j = option_map_or (λ (l : Line). l.on) (slice_get g.lines j) None
 
-abbrev pub order_text : GraphValue → ℕ → ℕ → List ℕ
-order_text g i j = codes "to order them, put " ++ (by_number g j ++ (codes " " ++ advice_by g (on_of g j) i))
+abbrev pub order_text : GraphValue → TextLines → ℕ → ℕ → List ℕ
+order_text g ls i j = codes "to order them, put " ++ (by_number g ls j ++ (codes " " ++ advice_by g (on_of g j) i))
 
 -- a line in a section may wait for another where that lies in the section too, or comes before its acquire
-abbrev pub held_text : GraphValue → List (List ℕ) → ℕ → ℕ → List ℕ → List ℕ
+abbrev pub held_text : GraphValue → TextLines → ℕ → ℕ → List ℕ → List ℕ
 held_text g ls i j qs =
-    codes "to order them, let " ++ (by_number g j ++ (codes " wait for " ++ (by_number g i ++ (codes ", where that lies in each of these sections too or comes before its acquire:\n" ++ in_sections g ls j qs))))
+    codes "to order them, let " ++ (by_number g ls j ++ (codes " wait for " ++ (by_number g ls i ++ (codes ", where that lies in each of these sections too or comes before its acquire:\n" ++ in_sections g ls j qs))))
 
-abbrev pub advice_text : GraphValue → List (List ℕ) → ℕ → ℕ → List ℕ → List ℕ
-advice_text g ls i j [] = order_text g i j
+abbrev pub advice_text : GraphValue → TextLines → ℕ → ℕ → List ℕ → List ℕ
+advice_text g ls i j [] = order_text g ls i j
 advice_text g ls i j (q ∷ qs) = held_text g ls i j (q ∷ qs)
 
 -- two acquires of one reservation
@@ -126,21 +142,31 @@ are_equal _ _ = false
 abbrev pub of_one_lock : GraphValue → ℕ → ℕ → Bool
 of_one_lock g q k = are_equal (lock_at g q) (lock_at g k)
 
--- why they set no two lines apart that lie in their sections: they are one acquire, or both are shared
-abbrev pub pair_by : GraphValue → ℕ → ℕ → List ℕ
-pair_by g q k =
-    cond (q == k) (codes "both lie in one section, that of " ++ (by_number g q ++ codes "\n"))
-    (cond (both_shared g q k) (by_number g q ++ (codes " and " ++ (by_number g k ++ codes " share one reservation\n"))) [])
+-- an acquire of this reservation
+abbrev pub takes : GraphValue → ℕ → ℕ → Bool
+takes g lock q = are_equal (lock_at g q) (Some lock)
 
-abbrev pub pair_text : GraphValue → ℕ → ℕ → List ℕ
-pair_text g q k = cond (of_one_lock g q k) (pair_by g q k) []
+-- it keeps their sections apart, and what orders them
+abbrev pub turn_text : GraphValue → TextLines → ℕ → ℕ → List ℕ
+turn_text g ls q k =
+    by_number g ls q ++ (codes " and " ++ (by_number g ls k ++ (codes " acquire one reservation: it keeps their sections apart, and does not order them\n"
+    ++ (codes "to order them, put " ++ (by_number g ls k ++ (codes " on the release of " ++ (by_number g ls q ++ (codes ", where that does not wait for " ++ (by_number g ls k ++ codes "\n")))))))))
+
+-- why they set no two lines apart that lie in their sections, since they are one acquire, or both are shared; or that they do not order them
+abbrev pub pair_by : GraphValue → TextLines → ℕ → ℕ → List ℕ
+pair_by g ls q k =
+    cond (q == k) (codes "both lie in one section, that of " ++ (by_number g ls q ++ codes "\n"))
+    (cond (both_shared g q k) (by_number g ls q ++ (codes " and " ++ (by_number g ls k ++ codes " share one reservation\n"))) (turn_text g ls q k))
+
+abbrev pub pair_text : GraphValue → TextLines → ℕ → ℕ → List ℕ
+pair_text g ls q k = cond (of_one_lock g q k) (pair_by g ls q k) []
 
 -- of each acquire of the one list with each of the other; of those that are told
-abbrev pub pairs_with : GraphValue → List ℕ → ℕ → List ℕ
-pairs_with g ks q = flat_map (pair_text g q) ks
+abbrev pub pairs_with : GraphValue → TextLines → List ℕ → ℕ → List ℕ
+pairs_with g ls ks q = flat_map (pair_text g ls q) ks
 
-abbrev pub pairs_text : GraphValue → List ℕ → List ℕ → List ℕ
-pairs_text g qs ks = flat_map (pairs_with g ks) qs
+abbrev pub pairs_text : GraphValue → TextLines → List ℕ → List ℕ → List ℕ
+pairs_text g ls qs ks = flat_map (pairs_with g ls ks) qs
 
 -- that there are none
 abbrev pub have_pair : GraphValue → List ℕ → List ℕ → Bool
@@ -150,22 +176,26 @@ abbrev pub none_text : Bool → List ℕ
 none_text some = cond some [] (codes "no two sections of theirs are of one reservation\n")
 
 -- what would set apart two reductions of one kind, and why their sections do not
-abbrev pub apart_text : GraphValue → List (List ℕ) → Sections → ℕ → ℕ → List ℕ
+abbrev pub apart_text : GraphValue → TextLines → Sections → ℕ → ℕ → List ℕ
 apart_text g ls s i j =
     codes "sections of one reservation would set them apart, by an acquire for each, not both shared\n"
-    ++ (in_sections g ls i s.first.items ++ (in_sections g ls j s.second.items ++ (pairs_text g (take MAX_SECTIONS s.first.items) (take MAX_SECTIONS s.second.items) ++ none_text (have_pair g s.first.items s.second.items))))
+    ++ (in_sections g ls i s.first.items ++ (in_sections g ls j s.second.items ++ (pairs_text g ls (take MAX_SECTIONS s.first.items) (take MAX_SECTIONS s.second.items) ++ none_text (have_pair g s.first.items s.second.items))))
 
-abbrev pub sections_text : GraphValue → List (List ℕ) → Bool → Sections → ℕ → ℕ → List ℕ
-sections_text g ls commutes s i j = cond commutes (apart_text g ls s i j) []
+-- of two uses of which the order counts, how their sections stand to each other
+abbrev pub turns_text : GraphValue → TextLines → Sections → List ℕ
+turns_text g ls s = pairs_text g ls (take MAX_SECTIONS s.first.items) (take MAX_SECTIONS s.second.items)
 
-abbrev pub race_text : GraphValue → List (List ℕ) → ConflictReason → List ℕ
+abbrev pub sections_text : GraphValue → TextLines → Bool → Sections → ℕ → ℕ → List ℕ
+sections_text g ls commutes s i j = cond commutes (apart_text g ls s i j) (turns_text g ls s)
+
+abbrev pub race_text : GraphValue → TextLines → ConflictReason → List ℕ
 race_text g ls r =
     refused_two g (codes "race") r.first r.second
-    ++ (numbered g ls r.first ++ (numbered g ls r.second ++ (shared_text g r.race.shared r.first r.second
+    ++ (numbered g ls r.first ++ (numbered g ls r.second ++ (shared_text g ls r.race.shared r.first r.second
     ++ (codes "neither waits for the other\n" ++ (meeting_text g ls r.race.meeting
     ++ (advice_text g ls r.first r.second r.sections.second.items ++ sections_text g ls r.commutes r.sections r.first r.second))))))
 
-abbrev pub explanation_text : GraphValue → List (List ℕ) → Explanation → List ℕ
+abbrev pub explanation_text : GraphValue → TextLines → Explanation → List ℕ
 explanation_text g ls (Cycle r) = cycle_text g ls r
 explanation_text g ls (Unreleased r) = unreleased_text g ls r
 explanation_text g ls (Section r) = section_text g ls r

@@ -1,21 +1,20 @@
 //! Why two lines race, as text.
 
-ghost use Rattle.std.specs.Prelude.{◌≡◌, ◌<◌, ◌++◌, length, take, codes, IfSome, OnOk};
+ghost use Rattle.std.specs.Prelude.{◌≡◌, ◌<◌, ◌++◌, ◌&&◌, length, take, codes, IfSome, OnOk};
 ghost use Rattle.std.specs.List.{list_any};
-ghost use Rattle.basics.specs.Words.{contents};
 ghost use Rattle.graph_terms.specs.Graph.{columns, line_passes, is_shared};
 ghost use Rattle.graph_terms.specs.Reservations.{both_shared};
 ghost use Rattle.graph_terms.specs.Spelling.{column_name};
 ghost use Rattle.explain_graph.specs.Explanation.{NamesMeeting};
-ghost use Rattle.refusal_text.specs.Refused.{mode_word, shared_text, meeting_text, advice_by, order_text, held_text, advice_text, on_of, few_lines_text, in_sections, are_equal, of_one_lock, have_pair, none_text, pair_by, pair_text, pairs_with, pairs_text, apart_text, sections_text, race_text};
+ghost use Rattle.refusal_text.specs.Refused.{mode_word, shared_text, meeting_text, advice_by, order_text, held_text, advice_text, on_of, most_told, told_few, few_lines_text, in_sections, are_equal, takes, of_one_lock, have_pair, none_text, turn_text, turns_text, pair_by, pair_text, pairs_with, pairs_text, apart_text, sections_text, race_text};
 ghost use Rattle.explain_text.specs.Lines.{by_number};
 
 use crate::bounds::MAX_SECTIONS;
 use crate::lines::{put_lines, put_name};
 use crate::refused::put_refused_two;
 use explain_graph::reasons::{ConflictReason, Sections};
-use explain_text::Text;
 use explain_text::lines::{put_by_number, put_edges, put_numbered};
+use explain_text::{Lines, Text};
 use explanations::meetings::Meeting;
 use explanations::races::SharedPoint;
 use explanations::sections::lock_of;
@@ -27,13 +26,13 @@ use index_spaces::NoMemory;
 pub(crate) fn put_conflict(
     text: &mut Text,
     graph: &Graph,
-    lines: &[&[u8]],
+    lines: &Lines,
     reason: &ConflictReason,
 ) -> Result<(), NoMemory>
     requires second { reason.now.second < length graph.now.lines }
     requires column { reason.now.race.shared.one.column < length (columns graph.now) }
     requires meeting { IfSome reason.now.race.meeting (NamesMeeting graph.now) }
-    ensures { OnOk result (text.new ≡ text.old ++ race_text graph.now (contents lines.now) reason.now) }
+    ensures { OnOk result (text.new ≡ text.old ++ race_text graph.now lines.now reason.now) }
 {
     put_refused_two(text, graph, b"race", reason.first, reason.second)?;
     put_numbered(text, graph, lines, reason.first)?;
@@ -41,6 +40,7 @@ pub(crate) fn put_conflict(
     put_shared(
         text,
         graph,
+        lines,
         &reason.race.shared,
         reason.first,
         reason.second,
@@ -70,23 +70,24 @@ pub(crate) fn put_conflict(
 fn put_shared(
     text: &mut Text,
     graph: &Graph,
+    lines: &Lines,
     shared: &SharedPoint,
     first: u32,
     second: u32,
 ) -> Result<(), NoMemory>
     requires { shared.now.one.column < length (columns graph.now) }
-    ensures { OnOk result (text.new ≡ text.old ++ shared_text graph.now shared.now first second) }
+    ensures { OnOk result (text.new ≡ text.old ++ shared_text graph.now lines.now shared.now first second) }
 {
     text.put(b"both use column ")?;
     put_column(text, graph, shared.one.column)?;
     text.put(b" at point ")?;
     text.put_number(u64::from(shared.point))?;
     text.put(b": ")?;
-    put_by_number(text, graph, first)?;
+    put_by_number(text, graph, lines, first)?;
     text.put(b" ")?;
     text.put(mode_word(shared.one.mode))?;
     text.put(b" it, ")?;
-    put_by_number(text, graph, second)?;
+    put_by_number(text, graph, lines, second)?;
     text.put(b" ")?;
     text.put(mode_word(shared.other.mode))?;
     text.put(b" it\n")
@@ -120,11 +121,11 @@ fn put_column(text: &mut Text, graph: &Graph, column: u32) -> Result<(), NoMemor
 fn put_meeting(
     text: &mut Text,
     graph: &Graph,
-    lines: &[&[u8]],
+    lines: &Lines,
     meeting: &Option<Meeting>,
 ) -> Result<(), NoMemory>
     requires { IfSome meeting.now (NamesMeeting graph.now) }
-    ensures { OnOk result (text.new ≡ text.old ++ meeting_text graph.now (contents lines.now) meeting.now) }
+    ensures { OnOk result (text.new ≡ text.old ++ meeting_text graph.now lines.now meeting.now) }
 {
     let Some(meeting) = meeting else {
         return text.put(b"no line leads to both\n");
@@ -141,28 +142,34 @@ fn put_meeting(
 fn put_advice(
     text: &mut Text,
     graph: &Graph,
-    lines: &[&[u8]],
+    lines: &Lines,
     first: u32,
     second: u32,
     acquires: &[u32],
 ) -> Result<(), NoMemory>
     requires { second < length graph.now.lines }
-    ensures { OnOk result (text.new ≡ text.old ++ advice_text graph.now (contents lines.now) first second acquires.now) }
+    ensures { OnOk result (text.new ≡ text.old ++ advice_text graph.now lines.now first second acquires.now) }
 {
     if acquires.is_empty() {
-        put_order(text, graph, first, second)
+        put_order(text, graph, lines, first, second)
     } else {
         put_held(text, graph, lines, first, second, acquires)
     }
 }
 
 /// Puts on what the second line may be put.
-fn put_order(text: &mut Text, graph: &Graph, first: u32, second: u32) -> Result<(), NoMemory>
+fn put_order(
+    text: &mut Text,
+    graph: &Graph,
+    lines: &Lines,
+    first: u32,
+    second: u32,
+) -> Result<(), NoMemory>
     requires { second < length graph.now.lines }
-    ensures { OnOk result (text.new ≡ text.old ++ order_text graph.now first second) }
+    ensures { OnOk result (text.new ≡ text.old ++ order_text graph.now lines.now first second) }
 {
     text.put(b"to order them, put ")?;
-    put_by_number(text, graph, second)?;
+    put_by_number(text, graph, lines, second)?;
     text.put(b" ")?;
     put_advice_by(text, graph, graph.line(second).on, first)
 }
@@ -171,17 +178,17 @@ fn put_order(text: &mut Text, graph: &Graph, first: u32, second: u32) -> Result<
 fn put_held(
     text: &mut Text,
     graph: &Graph,
-    lines: &[&[u8]],
+    lines: &Lines,
     first: u32,
     second: u32,
     acquires: &[u32],
 ) -> Result<(), NoMemory>
-    ensures { OnOk result (text.new ≡ text.old ++ held_text graph.now (contents lines.now) first second acquires.now) }
+    ensures { OnOk result (text.new ≡ text.old ++ held_text graph.now lines.now first second acquires.now) }
 {
     text.put(b"to order them, let ")?;
-    put_by_number(text, graph, second)?;
+    put_by_number(text, graph, lines, second)?;
     text.put(b" wait for ")?;
-    put_by_number(text, graph, first)?;
+    put_by_number(text, graph, lines, first)?;
     text.put(b", where that lies in each of these sections too or comes before its acquire:\n")?;
     put_in_sections(text, graph, lines, second, acquires)
 }
@@ -207,34 +214,54 @@ fn put_advice_by(
     text.put(b"\n")
 }
 
-/// Puts, of two lines that reduce in one way, what would set them apart and why their sections do not.
+/// Puts how the sections of two lines stand to each other; of lines that reduce in one way also what would
+/// set them apart.
 fn put_sections(
     text: &mut Text,
     graph: &Graph,
-    lines: &[&[u8]],
+    lines: &Lines,
     commutes: bool,
     sections: &Sections,
     first: u32,
     second: u32,
 ) -> Result<(), NoMemory>
-    ensures { OnOk result (text.new ≡ text.old ++ sections_text graph.now (contents lines.now) commutes sections.now first second) }
+    ensures { OnOk result (text.new ≡ text.old ++ sections_text graph.now lines.now commutes sections.now first second) }
 {
     if commutes {
         put_apart(text, graph, lines, sections, first, second)
     } else {
-        Ok(())
+        put_turns(text, graph, lines, sections)
     }
+}
+
+/// Puts, of two lines of which the order counts, how their sections stand to each other that are of one
+/// reservation.
+fn put_turns(
+    text: &mut Text,
+    graph: &Graph,
+    lines: &Lines,
+    sections: &Sections,
+) -> Result<(), NoMemory>
+    ensures { OnOk result (text.new ≡ text.old ++ turns_text graph.now lines.now sections.now) }
+{
+    put_pairs(
+        text,
+        graph,
+        lines,
+        first_few(sections.first.as_slice()),
+        first_few(sections.second.as_slice()),
+    )
 }
 
 fn put_apart(
     text: &mut Text,
     graph: &Graph,
-    lines: &[&[u8]],
+    lines: &Lines,
     sections: &Sections,
     first: u32,
     second: u32,
 ) -> Result<(), NoMemory>
-    ensures { OnOk result (text.new ≡ text.old ++ apart_text graph.now (contents lines.now) sections.now first second) }
+    ensures { OnOk result (text.new ≡ text.old ++ apart_text graph.now lines.now sections.now first second) }
 {
     text.put(
         b"sections of one reservation would set them apart, by an acquire for each, not both shared\n",
@@ -244,8 +271,9 @@ fn put_apart(
     put_pairs(
         text,
         graph,
-        first_told(sections.first.as_slice()),
-        first_told(sections.second.as_slice()),
+        lines,
+        first_few(sections.first.as_slice()),
+        first_few(sections.second.as_slice()),
     )?;
     put_unless(
         text,
@@ -263,21 +291,38 @@ fn put_unless(text: &mut Text, some: bool) -> Result<(), NoMemory>
     text.put(b"no two sections of theirs are of one reservation\n")
 }
 
-/// Whether an acquire of one list is of the same reservation as one of another.
+/// Whether an acquire of one list is of the same reservation as one of another: some reservation is
+/// acquired in both, so that each list is gone through once for each of the few reservations.
 fn have_pair(graph: &Graph, acquires: &[u32], others: &[u32]) -> bool
     ensures { result ≡ have_pair graph.now acquires.now others.now }
 {
-    acquires
-        .iter()
-        .any(|acquire| has_pair(graph, others, *acquire))
+    let _ = graph.lines();
+    for lock in 0..graph.locks() {
+        if are_both(graph, acquires, others, lock) {
+            return true;
+        }
+    }
+    false
 }
 
-fn has_pair(graph: &Graph, others: &[u32], acquire: u32) -> bool
-    ensures { result ≡ list_any (of_one_lock graph.now acquire) others.now }
+/// Whether one of each list acquires the reservation.
+fn are_both(graph: &Graph, acquires: &[u32], others: &[u32], lock: u32) -> bool
+    ensures { result ≡ (list_any (takes graph.now lock) acquires.now && list_any (takes graph.now lock) others.now) }
 {
-    others
-        .iter()
-        .any(|other| of_one_lock(graph, acquire, *other))
+    has_taken(graph, acquires, lock) && has_taken(graph, others, lock)
+}
+
+/// Whether one of some acquires is of the reservation.
+fn has_taken(graph: &Graph, acquires: &[u32], lock: u32) -> bool
+    ensures { result ≡ list_any (takes graph.now lock) acquires.now }
+{
+    acquires.iter().any(|acquire| takes(graph, lock, *acquire))
+}
+
+fn takes(graph: &Graph, lock: u32, acquire: u32) -> bool
+    ensures { result ≡ takes graph.now lock acquire }
+{
+    are_equal(lock_of(graph, acquire), Some(lock))
 }
 
 /// Whether two acquires are of one reservation.
@@ -291,13 +336,14 @@ fn of_one_lock(graph: &Graph, one: u32, other: u32) -> bool
 fn put_pairs(
     text: &mut Text,
     graph: &Graph,
+    lines: &Lines,
     acquires: &[u32],
     others: &[u32],
 ) -> Result<(), NoMemory>
-    ensures { OnOk result (text.new ≡ text.old ++ pairs_text graph.now acquires.now others.now) }
+    ensures { OnOk result (text.new ≡ text.old ++ pairs_text graph.now lines.now acquires.now others.now) }
 {
     for acquire in acquires {
-        put_pairs_with(text, graph, others, *acquire)?;
+        put_pairs_with(text, graph, lines, others, *acquire)?;
     }
     Ok(())
 }
@@ -305,47 +351,85 @@ fn put_pairs(
 fn put_pairs_with(
     text: &mut Text,
     graph: &Graph,
+    lines: &Lines,
     others: &[u32],
     acquire: u32,
 ) -> Result<(), NoMemory>
-    ensures { OnOk result (text.new ≡ text.old ++ pairs_with graph.now others.now acquire) }
+    ensures { OnOk result (text.new ≡ text.old ++ pairs_with graph.now lines.now others.now acquire) }
 {
     for other in others {
-        put_pair(text, graph, acquire, *other)?;
+        put_pair(text, graph, lines, acquire, *other)?;
     }
     Ok(())
 }
 
-/// Puts why two acquires set nothing apart, where they are of one reservation.
-fn put_pair(text: &mut Text, graph: &Graph, one: u32, other: u32) -> Result<(), NoMemory>
-    ensures { OnOk result (text.new ≡ text.old ++ pair_text graph.now one other) }
+/// Puts of two acquires, where they are of one reservation, why they set nothing apart, or do not order.
+fn put_pair(
+    text: &mut Text,
+    graph: &Graph,
+    lines: &Lines,
+    one: u32,
+    other: u32,
+) -> Result<(), NoMemory>
+    ensures { OnOk result (text.new ≡ text.old ++ pair_text graph.now lines.now one other) }
 {
     if !of_one_lock(graph, one, other) {
         return Ok(());
     }
     if one == other {
-        return put_same(text, graph, one);
+        return put_same(text, graph, lines, one);
     }
     if both_shared(graph, one, other) {
-        return put_shares(text, graph, one, other);
+        return put_shares(text, graph, lines, one, other);
     }
-    Ok(())
+    put_turn(text, graph, lines, one, other)
 }
 
-fn put_same(text: &mut Text, graph: &Graph, acquire: u32) -> Result<(), NoMemory>
-    ensures { OnOk result (text.new ≡ text.old ++ (codes "both lie in one section, that of " ++ (by_number graph.now acquire ++ codes "\n"))) }
+/// Puts that one reservation keeps two sections apart, and what orders them.
+fn put_turn(
+    text: &mut Text,
+    graph: &Graph,
+    lines: &Lines,
+    one: u32,
+    other: u32,
+) -> Result<(), NoMemory>
+    ensures { OnOk result (text.new ≡ text.old ++ turn_text graph.now lines.now one other) }
 {
-    text.put(b"both lie in one section, that of ")?;
-    put_by_number(text, graph, acquire)?;
+    put_by_number(text, graph, lines, one)?;
+    text.put(b" and ")?;
+    put_by_number(text, graph, lines, other)?;
+    text.put(
+        b" acquire one reservation: it keeps their sections apart, and does not order them\n",
+    )?;
+    text.put(b"to order them, put ")?;
+    put_by_number(text, graph, lines, other)?;
+    text.put(b" on the release of ")?;
+    put_by_number(text, graph, lines, one)?;
+    text.put(b", where that does not wait for ")?;
+    put_by_number(text, graph, lines, other)?;
     text.put(b"\n")
 }
 
-fn put_shares(text: &mut Text, graph: &Graph, one: u32, other: u32) -> Result<(), NoMemory>
-    ensures { OnOk result (text.new ≡ text.old ++ (by_number graph.now one ++ (codes " and " ++ (by_number graph.now other ++ codes " share one reservation\n")))) }
+fn put_same(text: &mut Text, graph: &Graph, lines: &Lines, acquire: u32) -> Result<(), NoMemory>
+    ensures { OnOk result (text.new ≡ text.old ++ (codes "both lie in one section, that of " ++ (by_number graph.now lines.now acquire ++ codes "\n"))) }
 {
-    put_by_number(text, graph, one)?;
+    text.put(b"both lie in one section, that of ")?;
+    put_by_number(text, graph, lines, acquire)?;
+    text.put(b"\n")
+}
+
+fn put_shares(
+    text: &mut Text,
+    graph: &Graph,
+    lines: &Lines,
+    one: u32,
+    other: u32,
+) -> Result<(), NoMemory>
+    ensures { OnOk result (text.new ≡ text.old ++ (by_number graph.now lines.now one ++ (codes " and " ++ (by_number graph.now lines.now other ++ codes " share one reservation\n")))) }
+{
+    put_by_number(text, graph, lines, one)?;
     text.put(b" and ")?;
-    put_by_number(text, graph, other)?;
+    put_by_number(text, graph, lines, other)?;
     text.put(b" share one reservation\n")
 }
 
@@ -377,13 +461,13 @@ fn is_shared(graph: &Graph, line: u32) -> bool
 fn put_in_sections(
     text: &mut Text,
     graph: &Graph,
-    lines: &[&[u8]],
+    lines: &Lines,
     line: u32,
     acquires: &[u32],
 ) -> Result<(), NoMemory>
-    ensures { OnOk result (text.new ≡ text.old ++ in_sections graph.now (contents lines.now) line acquires.now) }
+    ensures { OnOk result (text.new ≡ text.old ++ in_sections graph.now lines.now line acquires.now) }
 {
-    put_by_number(text, graph, line)?;
+    put_by_number(text, graph, lines, line)?;
     if acquires.is_empty() {
         return text.put(b" lies in no section\n");
     }
@@ -395,22 +479,45 @@ fn put_in_sections(
 fn put_few_lines(
     text: &mut Text,
     graph: &Graph,
-    lines: &[&[u8]],
+    lines: &Lines,
     acquires: &[u32],
 ) -> Result<(), NoMemory>
-    ensures { OnOk result (text.new ≡ text.old ++ few_lines_text graph.now (contents lines.now) acquires.now) }
+    ensures { OnOk result (text.new ≡ text.old ++ few_lines_text graph.now lines.now acquires.now) }
 {
-    put_lines(text, graph, lines, first_told(acquires))?;
-    text.put_more(acquires.len().saturating_sub(MAX_SECTIONS))
+    put_lines(text, graph, lines, first_told(lines, acquires))?;
+    text.put_more(acquires.len().saturating_sub(most_told(lines, acquires)))
 }
 
 /// The acquires of a list that are told.
-fn first_told(acquires: &[u32]) -> &[u32]
+fn first_told<'a>(lines: &Lines, acquires: &'a [u32]) -> &'a [u32]
+    ensures { result.now ≡ told_few lines.now acquires.now }
+{
+    let most = most_told(lines, acquires);
+    if acquires.len() > most {
+        &acquires[..most]
+    } else {
+        acquires
+    }
+}
+
+/// The acquires of a list of which pairs are told.
+fn first_few(acquires: &[u32]) -> &[u32]
     ensures { result.now ≡ take MAX_SECTIONS acquires.now }
 {
     if acquires.len() > MAX_SECTIONS {
         &acquires[..MAX_SECTIONS]
     } else {
         acquires
+    }
+}
+
+/// How many acquires are told at most.
+fn most_told(lines: &Lines, acquires: &[u32]) -> usize
+    ensures { result ≡ most_told lines.now acquires.now }
+{
+    if lines.all() {
+        acquires.len()
+    } else {
+        MAX_SECTIONS
     }
 }

@@ -1,12 +1,11 @@
 //! Names of lines, and lines with their numbers.
 
 ghost use Rattle.std.specs.Prelude.{◌≡◌, ◌++◌, OnOk};
-ghost use Rattle.basics.specs.Words.{contents};
 ghost use Rattle.graph_terms.specs.Spelling.{line_name};
 ghost use Rattle.refusal_text.specs.Refused.{lines_text};
 
-use explain_text::Text;
 use explain_text::lines::put_numbered;
+use explain_text::{Lines, Text};
 use graph_model::graph::Graph;
 use index_spaces::NoMemory;
 
@@ -24,10 +23,10 @@ pub(crate) fn put_name(text: &mut Text, graph: &Graph, i: u32) -> Result<(), NoM
 pub(crate) fn put_lines(
     text: &mut Text,
     graph: &Graph,
-    lines: &[&[u8]],
+    lines: &Lines,
     numbers: &[u32],
 ) -> Result<(), NoMemory>
-    ensures { OnOk result (text.new ≡ text.old ++ lines_text graph.now (contents lines.now) numbers.now) }
+    ensures { OnOk result (text.new ≡ text.old ++ lines_text graph.now lines.now numbers.now) }
 {
     for i in numbers {
         put_numbered(text, graph, lines, *i)?;

@@ -1,11 +1,10 @@
 //! Why a graph is refused, as text.
 
 ghost use Rattle.std.specs.Prelude.{◌≡◌, ◌<◌, ◌++◌, length, IfSome, OnOk};
-ghost use Rattle.basics.specs.Words.{contents};
 ghost use Rattle.graph_terms.specs.Graph.{locks};
 ghost use Rattle.graph_terms.specs.Spelling.{lock_name};
 ghost use Rattle.explain_graph.specs.Explanation.{AreEdges, NamesItems};
-ghost use Rattle.refusal_text.specs.Refused.{refused_one, refused_two, cycle_text, unreleased_by, unreleased_text, entered_text, section_text, descends_text, on_text, release_text, explanation_text};
+ghost use Rattle.refusal_text.specs.Refused.{refused_one, refused_two, cycle_text, unreleased_by, unreleased_text, entered_text, section_text, waited, write_text, descends_text, on_text, waited, write_text, release_text, explanation_text, waited, write_text};
 
 use crate::conflict::put_conflict;
 use crate::lines::put_name;
@@ -13,8 +12,8 @@ use explain_graph::Explanation;
 use explain_graph::reasons::{
     CycleReason, DescendsReason, ReleaseReason, SectionReason, UnreleasedReason,
 };
-use explain_text::Text;
 use explain_text::lines::{put_edges, put_numbered};
+use explain_text::{Lines, Text};
 use graph_model::graph::Graph;
 use graph_terms::verb::Edge;
 use index_spaces::NoMemory;
@@ -24,11 +23,11 @@ use index_spaces::NoMemory;
 pub fn put_explanation(
     text: &mut Text,
     graph: &Graph,
-    lines: &[&[u8]],
+    lines: &Lines,
     explanation: &Explanation,
 ) -> Result<(), NoMemory>
     requires { NamesItems graph.now explanation.now }
-    ensures { OnOk result (text.new ≡ text.old ++ explanation_text graph.now (contents lines.now) explanation.now) }
+    ensures { OnOk result (text.new ≡ text.old ++ explanation_text graph.now lines.now explanation.now) }
 {
     match explanation {
         Explanation::Cycle(reason) => put_cycle(text, graph, lines, reason),
@@ -74,11 +73,11 @@ pub(crate) fn put_refused_two(
 fn put_cycle(
     text: &mut Text,
     graph: &Graph,
-    lines: &[&[u8]],
+    lines: &Lines,
     reason: &CycleReason,
 ) -> Result<(), NoMemory>
     requires { AreEdges graph.now reason.now.cycle.items }
-    ensures { OnOk result (text.new ≡ text.old ++ cycle_text graph.now (contents lines.now) reason.now) }
+    ensures { OnOk result (text.new ≡ text.old ++ cycle_text graph.now lines.now reason.now) }
 {
     put_refused_one(text, graph, b"cycle", reason.line)?;
     put_numbered(text, graph, lines, reason.line)?;
@@ -90,10 +89,10 @@ fn put_cycle(
 fn put_unreleased(
     text: &mut Text,
     graph: &Graph,
-    lines: &[&[u8]],
+    lines: &Lines,
     reason: &UnreleasedReason,
 ) -> Result<(), NoMemory>
-    ensures { OnOk result (text.new ≡ text.old ++ unreleased_text graph.now (contents lines.now) reason.now) }
+    ensures { OnOk result (text.new ≡ text.old ++ unreleased_text graph.now lines.now reason.now) }
 {
     put_refused_one(text, graph, b"unreleased", reason.acquire)?;
     put_numbered(text, graph, lines, reason.acquire)?;
@@ -104,10 +103,10 @@ fn put_unreleased(
 fn put_unreleased_by(
     text: &mut Text,
     graph: &Graph,
-    lines: &[&[u8]],
+    lines: &Lines,
     release: Option<u32>,
 ) -> Result<(), NoMemory>
-    ensures { OnOk result (text.new ≡ text.old ++ unreleased_by graph.now (contents lines.now) release) }
+    ensures { OnOk result (text.new ≡ text.old ++ unreleased_by graph.now lines.now release) }
 {
     let Some(release) = release else {
         return text.put(b"no line releases it\n");
@@ -120,12 +119,12 @@ fn put_unreleased_by(
 fn put_section(
     text: &mut Text,
     graph: &Graph,
-    lines: &[&[u8]],
+    lines: &Lines,
     reason: &SectionReason,
 ) -> Result<(), NoMemory>
     requires path { AreEdges graph.now reason.now.path.items }
     requires entered { IfSome reason.now.entered (λ p. AreEdges graph.now p.items) }
-    ensures { OnOk result (text.new ≡ text.old ++ section_text graph.now (contents lines.now) reason.now) }
+    ensures { OnOk result (text.new ≡ text.old ++ section_text graph.now lines.now reason.now) }
 {
     put_refused_two(text, graph, b"section", reason.release, reason.line)?;
     put_numbered(text, graph, lines, reason.release)?;
@@ -141,11 +140,11 @@ fn put_section(
 fn put_entered(
     text: &mut Text,
     graph: &Graph,
-    lines: &[&[u8]],
+    lines: &Lines,
     entered: &Option<Vec<Edge>>,
 ) -> Result<(), NoMemory>
     requires { IfSome entered.now (λ p. AreEdges graph.now p.items) }
-    ensures { OnOk result (text.new ≡ text.old ++ entered_text graph.now (contents lines.now) entered.now) }
+    ensures { OnOk result (text.new ≡ text.old ++ entered_text graph.now lines.now entered.now) }
 {
     let Some(path) = entered else {
         return text.put(b"and not after it\n");
@@ -158,14 +157,14 @@ fn put_entered(
 fn put_descends(
     text: &mut Text,
     graph: &Graph,
-    lines: &[&[u8]],
+    lines: &Lines,
     reason: &DescendsReason,
 ) -> Result<(), NoMemory>
     requires entered { AreEdges graph.now reason.now.entered.items }
     requires left { AreEdges graph.now reason.now.left.items }
     requires inner { reason.now.inner_lock < length (locks graph.now) }
     requires outer { reason.now.outer_lock < length (locks graph.now) }
-    ensures { OnOk result (text.new ≡ text.old ++ descends_text graph.now (contents lines.now) reason.now) }
+    ensures { OnOk result (text.new ≡ text.old ++ descends_text graph.now lines.now reason.now) }
 {
     put_refused_two(text, graph, b"descends", reason.outer, reason.inner)?;
     put_numbered(text, graph, lines, reason.outer)?;
@@ -193,19 +192,49 @@ fn put_lock(text: &mut Text, graph: &Graph, lock: u32) -> Result<(), NoMemory>
 fn put_release(
     text: &mut Text,
     graph: &Graph,
-    lines: &[&[u8]],
+    lines: &Lines,
     reason: &ReleaseReason,
 ) -> Result<(), NoMemory>
-    ensures { OnOk result (text.new ≡ text.old ++ release_text graph.now (contents lines.now) reason.now) }
+    ensures { OnOk result (text.new ≡ text.old ++ release_text graph.now lines.now reason.now) }
 {
     put_refused_one(text, graph, b"release", reason.release)?;
     put_numbered(text, graph, lines, reason.release)?;
-    put_on(text, graph, lines, reason.on)
+    put_on(text, graph, lines, reason.on)?;
+    put_write(text, graph, reason.release, reason.acquire, reason.on)
+}
+
+/// Puts the two lines to write for a release that is not on a mergei.
+fn put_write(
+    text: &mut Text,
+    graph: &Graph,
+    release: u32,
+    acquire: u32,
+    on: Option<u32>,
+) -> Result<(), NoMemory>
+    ensures { OnOk result (text.new ≡ text.old ++ write_text graph.now release acquire on) }
+{
+    text.put(b"put a mergei between them:\nNAME = mergei ")?;
+    put_name(text, graph, waited(acquire, on))?;
+    text.put(b"\n")?;
+    put_name(text, graph, release)?;
+    text.put(b" = release ")?;
+    put_name(text, graph, acquire)?;
+    text.put(b" on NAME\n")
+}
+
+/// The line that the release is on, else its acquire.
+fn waited(acquire: u32, on: Option<u32>) -> u32
+    ensures { result ≡ waited acquire on }
+{
+    match on {
+        Some(line) => line,
+        None => acquire,
+    }
 }
 
 /// Puts the line that a release is on, if there is one.
-fn put_on(text: &mut Text, graph: &Graph, lines: &[&[u8]], on: Option<u32>) -> Result<(), NoMemory>
-    ensures { OnOk result (text.new ≡ text.old ++ on_text graph.now (contents lines.now) on) }
+fn put_on(text: &mut Text, graph: &Graph, lines: &Lines, on: Option<u32>) -> Result<(), NoMemory>
+    ensures { OnOk result (text.new ≡ text.old ++ on_text graph.now lines.now on) }
 {
     let Some(on) = on else {
         return text.put(b"it is on no line, and has to be on a mergei\n");

@@ -9,7 +9,7 @@ use Rattle.graph_terms.specs.declared.limits.TheConstants.{MAX_TEXT, MAX_INSTS, 
 use Rattle.graph_terms.specs.declared.decl.Decl.{Decl}
 use Rattle.graph_terms.specs.declared.decl.Decl.TheVariants.{Space, Inst, Lock, Barrier}
 use Rattle.graph_terms.specs.declared.format.Format.{Format}
-use Rattle.graph_terms.specs.declared.format.Format.TheVariants.{One, Two}
+use Rattle.graph_terms.specs.declared.format.Format.TheVariants.{One, Two, Three}
 use Rattle.graph_terms.specs.declared.verb.Line.{Line}
 use Rattle.graph_terms.specs.declared.verb.Verb.{Verb}
 use Rattle.graph_terms.specs.declared.verb.Verb.TheVariants.{Merge, MergeIgnore}
@@ -52,6 +52,7 @@ decls_within fm before (d ∷ ds) f h =
 empty_within : (fm : Format) → is_beyond (of_items fm [] []) ≡ false
 empty_within One = refl
 empty_within Two = refl
+empty_within Three = refl
 
 pub graph_within : (g : GraphValue) → IsGraph g → is_beyond g ≡ false
 graph_within g f = lines_within g.format g.decls [] g.lines f.lines (decls_within g.format [] g.decls f.decls (empty_within g.format))

@@ -306,7 +306,7 @@ words_order false false false false true f item none h = absurd (cc)
 words_order false false false false false true item none h = refl
 words_order false false false false false false item none h = absurd (none h)
 
-draft_name : (g : GraphValue) (o : Option Draft) → option_map_or (draft_fault g) o (Some reasons.Syntax) ≡ Some reasons.Name → passes misnamed (draft_placed o) ≡ true
+draft_name : (g : GraphValue) (o : Option Draft) → option_map_or (draft_fault g) o (Some reasons.Syntax) ≡ Some reasons.Name → passes (misnamed g.format) (draft_placed o) ≡ true
 draft_name g None h = absurd (cc)
 draft_name g (Some d) h = words_name _ _ _ _ _ _ (item_fault g d.item) (no_name g d.item) h
 
@@ -321,7 +321,7 @@ filled g ws r other h = elim (chosen (list_any is_empty ws) (Some reasons.Syntax
 ]
 
 name_word : (g : GraphValue) (ws : List (List ℕ)) → words_fault g ws ≡ Some reasons.Name → HasRefusedWord g reasons.Name ws
-name_word g ws h = stands_refused g ws reasons.Name (draft_shows g ws misnamed (draft_name g (draft g ws) (filled g ws reasons.Name (λ e. cc) h)))
+name_word g ws h = stands_refused g ws reasons.Name (draft_shows g ws (misnamed g.format) (draft_name g (draft g ws) (filled g ws reasons.Name (λ e. cc) h)))
 
 space_word : (g : GraphValue) (ws : List (List ℕ)) → words_fault g ws ≡ Some reasons.Space → HasRefusedWord g reasons.Space ws
 space_word g ws h = stands_refused g ws reasons.Space (draft_shows g ws misordered (draft_order g (draft g ws) (filled g ws reasons.Space (λ e. cc) h)))

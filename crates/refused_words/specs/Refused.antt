@@ -24,8 +24,8 @@ is_phase_name _ = false
 
 -- a reason speaks of a word in its place; too many arrivals are those of the phase that is named
 abbrev pub refuses : GraphValue → Why → Place → List ℕ → Bool
-refuses g reasons.Name p w = misnamed p w
-refuses g reasons.Twice p w = twice g p w && not (misnamed p w)
+refuses g reasons.Name p w = misnamed g.format p w
+refuses g reasons.Twice p w = twice g p w && not (misnamed g.format p w)
 refuses g reasons.Unknown p w = unknown g p w
 refuses g reasons.Kind p w = unlike g p w
 refuses g reasons.Number p w = misnumbered p w

@@ -6,6 +6,7 @@ ghost use Rattle.graph_words.specs.Draft.{Fields, Intervals};
 ghost use Rattle.graph_words.specs.Words.{pieces, is_fields, ascend_from};
 ghost use Rattle.refused_words.specs.Refused.{refuses};
 
+use graph_terms::format::Format;
 use graph_terms::name::Name;
 use graph_terms::why::Why;
 use graph_words::intervals::intervals;
@@ -14,22 +15,27 @@ use graph_words::words::split;
 use index_spaces::NoMemory;
 use std::alloc::Global;
 
-/// The fields that a word spells. `None` exactly where it spells none.
-fn fields_of(alloc: Global, word: &[u8]) -> Result<Option<Vec<Name>>, NoMemory>
-    ensures { IfOk result (λ o. MatchOption o (is_fields word.now ≡ false) (λ v. (v.items ≡ pieces 44 word.now) × (is_fields word.now ≡ true))) }
+/// The fields of a format that a word spells. `None` exactly where it spells none.
+fn fields_of(alloc: Global, format: Format, word: &[u8]) -> Result<Option<Vec<Name>>, NoMemory>
+    ensures { IfOk result (λ o. MatchOption o (is_fields format word.now ≡ false) (λ v. (v.items ≡ pieces 44 word.now) × (is_fields format word.now ≡ true))) }
 {
     let words = split(alloc, word, b',')?;
-    names_of(alloc, words.as_slice())
+    names_of(alloc, format, words.as_slice())
 }
 
-/// Whether a reason refuses a word as the fields of an instance.
-pub(crate) fn refuses_fields(alloc: Global, why: Why, word: &[u8]) -> Result<bool, NoMemory>
-    ensures { IfOk result (λ b. (g : GraphValue) → b ≡ refuses g why Fields word.now) }
+/// Whether a reason refuses a word as the fields of an instance, in a graph of this format.
+pub(crate) fn refuses_fields(
+    alloc: Global,
+    format: Format,
+    why: Why,
+    word: &[u8],
+) -> Result<bool, NoMemory>
+    ensures { IfOk result (λ b. (g : GraphValue) → g.format ≡ format → b ≡ refuses g why Fields word.now) }
 {
     if !matches!(why, Why::Name | Why::Twice) {
         return Ok(false);
     }
-    let Some(names) = fields_of(alloc, word)? else {
+    let Some(names) = fields_of(alloc, format, word)? else {
         return Ok(matches!(why, Why::Name));
     };
     if matches!(why, Why::Name) {

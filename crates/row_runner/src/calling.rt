@@ -61,7 +61,9 @@ pub(crate) fn call_over<R: Threads + Wait + Sync + AllocGlobal>(
     let mut sink = MemorySink::new(vec![in alloc; 0u8; room]?, piece, writes);
     let status = match call.program {
         Program::Realm => realm(rt, alloc, call.words, &mut source, &mut sink, &OpenGate).number(),
-        Program::Explain { ends } => run(alloc, &mut source, &mut sink, ends).number(),
+        Program::Explain { ends, all } => {
+            run(alloc, &mut source, &mut sink, ends, all).number()
+        },
         Program::Flow { commute } => serve_flow(alloc, &mut source, &mut sink, commute).number(),
     };
     Ok(Answer { status, sink })

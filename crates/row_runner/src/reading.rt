@@ -18,8 +18,18 @@ enum Section {
 fn program_of(line: &str) -> Option<Program> {
     match line.split_once(' ').unwrap_or((line, "")) {
         ("realm", _) | ("", "") => Some(Program::Realm),
-        ("realm-explain", "") => Some(Program::Explain { ends: false }),
-        ("realm-explain", "--ends") => Some(Program::Explain { ends: true }),
+        ("realm-explain", "") => Some(Program::Explain {
+            ends: false,
+            all: false,
+        }),
+        ("realm-explain", "--ends") => Some(Program::Explain {
+            ends: true,
+            all: false,
+        }),
+        ("realm-explain", "--all") => Some(Program::Explain {
+            ends: false,
+            all: true,
+        }),
         ("realm-flow", "") => Some(Program::Flow { commute: false }),
         ("realm-flow", "--commute") => Some(Program::Flow { commute: true }),
         _ => None,

@@ -6,7 +6,7 @@ use std::alloc::Global;
 #[derive(Clone, Copy, Drop)]
 pub(crate) enum Program {
     Realm,
-    Explain { ends: bool },
+    Explain { ends: bool, all: bool },
     Flow { commute: bool },
 }
 

@@ -4,11 +4,10 @@ use Rattle.std.specs.Prelude.{Contains, filter, flat_map}
 use Rattle.std.proofs.lemmas.Bool.{true≢false, false_from_ne_true}
 use Rattle.index_spaces.specs.Space.{points}
 use Rattle.graph_terms.specs.Graph.{GraphValue, column_space}
-use Rattle.graph_meaning.specs.Effect.{Cells, zero_cells, cells_after, touches, Untouched}
+use Rattle.graph_meaning.specs.Effect.{Cells, zero_cells, cells_after, effect, touches, Untouched}
 use Rattle.graph_meaning.specs.Evaluation.{evaluation, order, eval_changes, cells_of, cells_by, cells_of_lines, column_of}
 use Rattle.basics.proofs.ListFacts.{contains_here, contains_there, map_same}
-use Rattle.graph_meaning.proofs.Public.{cells_after_at, cells_after-append, cells_after_untouched}
-use Rattle.graph_meaning.proofs.Confluence.{steps_found, flat_map_lines}
+use Rattle.graph_meaning.proofs.Public.{cells_after_at, cells_after-append, cells_after_untouched, cells_by_all_lines}
 use Rattle.graph_meaning.proofs.OrderLaws.{listed_iff_ended}
 use Rattle.run_state.specs.Run.{Run, Place, Home, Had, is_listed, stage_at, place_at, list_at}
 use Rattle.run_state.specs.Sound.{home_cells, Sound}
@@ -17,10 +16,6 @@ use Rattle.run_state.proofs.Lists.{ended_over}
 use Rattle.run_state.proofs.Started.{changed_back}
 use Rattle.run_state.proofs.Quiet.{evaluation_ended}
 use Rattle.run_state.proofs.Stuck.{stuck_home}
-
--- the cells of the evaluation are those by all its lines
-pub cells_of_evaluation : (g : GraphValue) → cells_of (evaluation g) ≡ cells_by g (order g)
-cells_of_evaluation g = ap (cells_after zero_cells) (flat_map_lines g (evaluation g) (λ s c. steps_found g (length g.lines) s c))
 
 -- lines left out that do not change a cell may as well be in
 left_out_by : (g : GraphValue) (put : ℕ → Bool) (c p : ℕ) (cells : Cells) (k : ℕ) (ks : List ℕ) (b : Bool) → put k ≡ b → (put k ≡ false → Untouched c p (eval_changes g k)) →
@@ -51,5 +46,5 @@ quiet_column g run s q c =
     (λ k hk out x hx. false_from_ne_true (touches c p x) (λ t. true≢false (sym
     (changed_back s c p k (ended_over (stage_at run.stages k) (evaluation_ended g run s q k ((listed_iff_ended g k).0 hk))) x hx t) ∙ out)))
     zero_cells
-    ∙ ap (λ (f : Cells). f c p) (sym (cells_of_evaluation g))) in
+    ∙ ap (λ (f : Cells). f c p) (sym (cells_by_all_lines (effect g) zero_cells g))) in
     at.1 ∙ ap Home (s.on_columns.cells c at.0 at.1 ∙ same)

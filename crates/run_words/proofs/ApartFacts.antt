@@ -27,11 +27,11 @@ use Rattle.run_words.specs.Claims.{Claim, new_claim}
 use Rattle.run_words.specs.Plays.{Sat, no_view, parent_of, child_of, end_of_code, ended_by, looked_at, Told}
 use Rattle.run_words.specs.Premises.{Has}
 use Rattle.run_words.specs.Rule.{Fits, AreNumbered, Shown, ground_of}
-use Rattle.run_words.specs.Views.{runs_at, issues_at, owes_at, has_desk}
+use Rattle.run_words.specs.Views.{runs_at, issues_at, owes_at, has_issue_turn}
 use Rattle.run_words.specs.Words.{graph_of, events_of, IsSeatOf}
 use Rattle.run_words.specs.Works.{IsWorkOf, event_of}
 use Rattle.run_words.proofs.AtKey.{KeyShown, Kept}
-use Rattle.run_words.proofs.Desking.{has_key}
+use Rattle.run_words.proofs.TakingTurn.{has_key}
 use Rattle.run_words.proofs.Numbers.{split_numbers}
 use Rattle.run_words.proofs.SourceReads.{ended_shown}
 use Rattle.basics.proofs.ListFacts.{contains_none}
@@ -77,7 +77,7 @@ module _ {g : GraphValue} {e : Events} {run : Run} {handles : List Handle} (v : 
     event = λ c q. absurd (none-some c q);
     issuing = f.issuing;
     issuer = f.issuer;
-    desk = f.desk;
+    issue_turn = f.issue_turn;
     idle = λ n. (refl, (f.idle n).1, (f.idle n).2);
   }
 
@@ -92,7 +92,7 @@ module _ {g : GraphValue} {e : Events} {run : Run} {handles : List Handle} (v : 
     event = f.event;
     issuing = λ k q. absurd (none-some k q);
     issuer = λ k q. absurd (none-some k q);
-    desk = λ k q. absurd (none-some k q);
+    issue_turn = λ k q. absurd (none-some k q);
     idle = λ n. cc;
   }
 
@@ -103,7 +103,7 @@ claim_moves g e id v c has s o me =
     let l : View = without_claim v in
     let r : View = with_claim v in
     same_board g e s o (set s.views id l ++ r ∷ [])
-    (λ k. moved_sum (issues_at k) s.views id v l r me (omega arith)) (λ k. moved_sum (owes_at k) s.views id v l r me (omega arith)) (moved_sum has_desk s.views id v l r me (omega arith)) (λ k. moved_sum (runs_at k) s.views id v l r me (omega arith))
+    (λ k. moved_sum (issues_at k) s.views id v l r me (omega arith)) (λ k. moved_sum (owes_at k) s.views id v l r me (omega arith)) (moved_sum has_issue_turn s.views id v l r me (omega arith)) (λ k. moved_sum (runs_at k) s.views id v l r me (omega arith))
     (λ j u at. ⊎_elim
     (λ b. elim (at_set s.views id j l u b) [ inl (here, is) ↦ subst (Fits g e o.run o.handles) is (left_fits v f) | inr (other, before) ↦ o.each_view j u before ])
     (λ (q : r ≡ u). subst (Fits g e o.run o.handles) q (right_fits v f))
@@ -179,10 +179,10 @@ work_looked w k p x at i r is = record {
   near = x.near;
   view = looked_at x.view i r;
   claim = x.claim;
-  ticket = x.ticket;
+  pending = x.pending;
   aside = x.aside;
   issuing = x.issuing;
-  desk = x.desk;
+  issue_turn = x.issue_turn;
   of = x.of;
   named = x.named;
   mine = ap (λ (m : Sat). m.0.mine) is ∙ x.mine;

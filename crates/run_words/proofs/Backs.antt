@@ -13,7 +13,7 @@ use Rattle.index_spaces.specs.Column.{ColumnValue}
 use Rattle.graph_terms.specs.Graph.{GraphValue}
 use Rattle.graph_terms.specs.Reservations.{Releases}
 use Rattle.run_words.specs.declared.content.Content.{Content}
-use Rattle.run_words.specs.declared.content.Content.TheVariants.{Stub}
+use Rattle.run_words.specs.declared.content.Content.TheVariants.{EventReceipt}
 use Rattle.run_words.specs.declared.view.View.{View}
 use Rattle.run_words.specs.Claims.{Claim}
 use Rattle.run_words.specs.Rule.{end_code, fate_for}
@@ -34,10 +34,10 @@ done_event g line Cancelled v cl left m held d = ap (λ (y : Sat). event_of y.0.
 done_event g line Waiting v cl left m held d = laden_event g line 3 v cl left m held (d.laden (λ e. (let z : end_code Waiting ≡ end_code Cancelled = ap end_code e in omega (arith, z))))
 
 -- the event has ended, and its receipt lies in the line's slot
-pub stubbed : (line : ℕ) (x : End) (v : View) (cl : Claim) (left : List (ℕ × Content)) (m n : Sat) (stub : Receipt) → IsEnding line x v cl left m → n ≡ (m.0, (line, Stub stub) ∷ []) → IsEnding line x v cl ((line, Stub stub) ∷ []) n
-stubbed line x v cl left m n stub i e = record {
+pub receipted : (line : ℕ) (x : End) (v : View) (cl : Claim) (left : List (ℕ × Content)) (m n : Sat) (receipt : Receipt) → IsEnding line x v cl left m → n ≡ (m.0, (line, EventReceipt receipt) ∷ []) → IsEnding line x v cl ((line, EventReceipt receipt) ∷ []) n
+receipted line x v cl left m n receipt i e = record {
   claim = i.claim;
-  now = e ∙ ap (λ (y : Sat). (y.0, (line, Stub stub) ∷ [])) i.now;
+  now = e ∙ ap (λ (y : Sat). (y.0, (line, EventReceipt receipt) ∷ [])) i.now;
   line_is = i.line_is;
   event = i.event;
   ends = i.ends;
@@ -46,17 +46,17 @@ stubbed line x v cl left m n stub i e = record {
 }
 
 -- the line has freed what it releases, its event has ended, and the receipt lies in the line's slot
-module _ (g : GraphValue) (e : Events) (line : ℕ) (x : End) (v : View) (cl : Claim) (ticket : Pending) (stub : Receipt) (n : Sat) (i : IsReleased g line x v cl ((line, Stub stub) ∷ []) n) (named : handle_of ticket ≡ cl.event)
-    (of : IsReceiptOf e stub) (by : ended_by stub ≡ handle_of ticket) (told : fate_of stub ≡ fate_for x)
+module _ (g : GraphValue) (e : Events) (line : ℕ) (x : End) (v : View) (cl : Claim) (pending : Pending) (receipt : Receipt) (n : Sat) (i : IsReleased g line x v cl ((line, EventReceipt receipt) ∷ []) n) (named : handle_of pending ≡ cl.event)
+    (of : IsReceiptOf e receipt) (by : ended_by receipt ≡ handle_of pending) (told : fate_of receipt ≡ fate_for x)
   where
-    pub may_close : Has n.0 (λ c. (c.line ≡ line) × IsOver g c x × ((stub : Receipt) × OnTop line (Stub stub) n.1 × IsReceiptOf e stub × (ended_by stub ≡ c.event) × (fate_of stub ≡ fate_for x)))
+    pub may_close : Has n.0 (λ c. (c.line ≡ line) × IsOver g c x × ((receipt : Receipt) × OnTop line (EventReceipt receipt) n.1 × IsReceiptOf e receipt × (ended_by receipt ≡ c.event) × (fate_of receipt ≡ fate_for x)))
     may_close = (
       i.claim,
       ap (λ (y : Sat). y.0.claim) i.now,
       (
         i.line_is,
         record { ending = i.ends; stored = i.stored; freed = λ q r d. i.freed q (subst (λ j. Releases g j q) i.line_is r) d },
-        (stub, ([], ap (λ (y : Sat). y.1) i.now), of, by ∙ (named ∙ sym i.event), told),
+        (receipt, ([], ap (λ (y : Sat). y.1) i.now), of, by ∙ (named ∙ sym i.event), told),
       ),
     )
 
@@ -68,11 +68,11 @@ module _ (g : GraphValue) (e : Events) (line : ℕ) (x : End) (v : View) (cl : C
       closed_now = c ∙ (ap (λ (y : Sat). (closed_at y.0 line (end_of_code (8 + end_code x - 8)), Rattle.atomic_table.specs.Table.rest y.1)) i.now
           ∙ ap (λ (y : End). (closed_at learnt line y, [])) (let k : 8 + end_code x - 8 ≡ end_code x = omega arith in ap end_of_code k ∙ code_end x))
 
-      pub no_rights_left : v.issuing ≡ None → v.desk ≡ None → HasNoRights o.0
+      pub no_rights_left : v.issuing ≡ None → v.issue_turn ≡ None → HasNoRights o.0
       no_rights_left p q = record {
         claim = ap (λ (y : Sat). y.0.claim) closed_now;
         issuing = ap (λ (y : Sat). y.0.issuing) closed_now ∙ p;
-        desk = ap (λ (y : Sat). y.0.desk) closed_now ∙ q;
+        issue_turn = ap (λ (y : Sat). y.0.issue_turn) closed_now ∙ q;
       }
 
       pub knows : Contains o.0.ended (line, x)
@@ -84,10 +84,10 @@ module _ (g : GraphValue) (e : Events) (line : ℕ) (x : End) (v : View) (cl : C
       pub same_splits : o.0.splits ≡ v.splits
       same_splits = ap (λ (y : Sat). y.0.splits) closed_now
 
-      -- its claim alone came to an end, and it had no turn of the desk
-      pub only_closed : DidNothing v → (o.0.trays ≡ []) × (o.0.laid ≡ []) × (o.0.gave_up ≡ []) × (o.0.closed ≡ line ∷ []) × (o.0.let_go ≡ [])
+      -- its claim alone came to an end, and it had no issue turn
+      pub only_closed : DidNothing v → (o.0.issue_states ≡ []) × (o.0.laid ≡ []) × (o.0.gave_up ≡ []) × (o.0.closed ≡ line ∷ []) × (o.0.let_go ≡ [])
       only_closed d = (
-        ap (λ (y : Sat). y.0.trays) closed_now ∙ d.0,
+        ap (λ (y : Sat). y.0.issue_states) closed_now ∙ d.0,
         ap (λ (y : Sat). y.0.laid) closed_now ∙ d.1,
         ap (λ (y : Sat). y.0.gave_up) closed_now ∙ d.2,
         ap (λ (y : Sat). y.0.closed) closed_now ∙ ap (λ (l : List ℕ). l ++ line ∷ []) d.3,

@@ -21,7 +21,7 @@ use Rattle.run_words.specs.Plays.{Sat, looked, looked_at, saw_at, saw_all}
 use Rattle.run_words.specs.Laden.{Stacked, AreFree, Taking, TakingAs, TookFree}
 use Rattle.run_words.specs.Works.{Loaded}
 use Rattle.run_words.specs.Attempts.{IsLoaded, IsRefused}
-use Rattle.run_words.proofs.Desking.{has_key}
+use Rattle.run_words.proofs.TakingTurn.{has_key}
 use Rattle.run_words.proofs.Ending.{column_at}
 use Rattle.run_words.proofs.Turns.{sat}
 use Rattle.run_words.proofs.TakingFacts.{saw_more}

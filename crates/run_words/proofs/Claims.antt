@@ -25,16 +25,16 @@ use Rattle.run_state.specs.Premises.{MayClaim}
 use Rattle.run_state.proofs.Stages.{claim-sound}
 use Rattle.run_state.proofs.Public.{started_ends}
 use Rattle.run_words.specs.declared.content.Content.{Content}
-use Rattle.run_words.specs.declared.content.Content.TheVariants.{Ticket}
+use Rattle.run_words.specs.declared.content.Content.TheVariants.{PendingEvent}
 use Rattle.run_words.specs.declared.view.View.{View}
 use Rattle.run_words.specs.Claims.{Claim, Ground, new_claim}
 use Rattle.run_words.specs.Layout.{size_of}
-use Rattle.run_words.specs.Views.{claim_at, runs_at, issues_at, late_at, owes_at, has_desk, busy}
-use Rattle.run_words.specs.Rule.{LineShown, HasTicket, handle_at, Progress, Fits, Shown}
+use Rattle.run_words.specs.Views.{claim_at, runs_at, issues_at, late_at, owes_at, has_issue_turn, busy}
+use Rattle.run_words.specs.Rule.{LineShown, HasPending, handle_at, Progress, Fits, Shown}
 use Rattle.run_words.specs.Plays.{Sat, claimed_at, HasClaimed, claims, looked_at}
 use Rattle.run_words.specs.Premises.{Sources}
 use Rattle.run_words.proofs.Aside.{aside_staged, progress_on, other_set}
-use Rattle.run_words.proofs.Frames.{at_line, desk_again, words_set, slots_set}
+use Rattle.run_words.proofs.Frames.{at_line, issue_turn_again, words_set, slots_set}
 use Rattle.run_words.proofs.Known.{times_on, nothing_new}
 use Rattle.run_words.proofs.Steps.{St, board, sum_same, steps, works_none, claim_here, claim_there}
 use Rattle.run_words.proofs.Looks.{read_line, look_rule}
@@ -49,7 +49,7 @@ no_time None h = refl
 no_time (Some t) h = absurd (true≢false h)
 
 -- what a line that is issued shows
-pub issued_shows : (e : Events) (h : Handle) (s : LineStage) (k w : ℕ) (home : mathlib.Core.Option.Option Content) → s ≡ Issued → LineShown e h s k w home → (k ≡ 0) × (w ≡ 2) × HasTicket e h home
+pub issued_shows : (e : Events) (h : Handle) (s : LineStage) (k w : ℕ) (home : mathlib.Core.Option.Option Content) → s ≡ Issued → LineShown e h s k w home → (k ≡ 0) × (w ≡ 2) × HasPending e h home
 issued_shows e h s k w home is l = subst (λ x. LineShown e h x k w home) is l
 
 -- a line that is issued has done nothing yet
@@ -77,7 +77,7 @@ module _ (g : GraphValue) (e : Events) (s : St) (o : Shown g e s) (id i : ℕ) (
   there : i < length o.run.stages
   there = subst (λ n. i < n) (sym o.sound.on_lines.each_line) near
 
-  pub shows : (total (issues_at i) s.views ≡ 0) × (get_or s.words i 0 ≡ 2) × HasTicket e (handle_at o.handles i) (o.words.lines i near).home
+  pub shows : (total (issues_at i) s.views ≡ 0) × (get_or s.words i 0 ≡ 2) × HasPending e (handle_at o.handles i) (o.words.lines i near).home
   shows = issued_shows e (handle_at o.handles i) (stage_at o.run.stages i) (total (issues_at i) s.views) (get_or s.words i 0) (o.words.lines i near).home stage (o.words.lines i near).shown
 
   abbrev after : Run
@@ -97,7 +97,7 @@ module _ (g : GraphValue) (e : Events) (s : St) (o : Shown g e s) (id i : ℕ) (
   sound = claim-sound o.sound i may
 
   abbrev h : Handle
-  h = handle_of shows.2.ticket
+  h = handle_of shows.2.pending
 
   abbrev w : View
   w = claimed_at v i h
@@ -133,7 +133,7 @@ module _ (g : GraphValue) (e : Events) (s : St) (o : Shown g e s) (id i : ℕ) (
         event = λ c q. subst (λ (x : Claim). handle_at o.handles x.line ≡ x.event) (same_Some (new_claim i h) c q) (sym shows.2.named);
         issuing = λ k q. (unissued_on k (f.issuing k q).0, (f.issuing k q).1);
         issuer = f.issuer;
-        desk = f.desk;
+        issue_turn = f.issue_turn;
         idle = λ n. absurd (grind (arith, n, own.2));
       }
 
@@ -146,7 +146,7 @@ module _ (g : GraphValue) (e : Events) (s : St) (o : Shown g e s) (id i : ℕ) (
       (λ j u other at. let f = o.each_view j u at in record {
         claim = λ c q p. progress_on i (aside_staged i Out o.run) c (works_none g e s o id v w me i j u c at (ap busy stage) q) p;
         issuing = λ k q. unissued_on k (f.issuing k q).0;
-        desk = f.desk;
+        issue_turn = f.issue_turn;
       })
       refl refl refl sound
       (record { each_issued = λ j. subst (λ b. (b ≡ true) ↔ (j < length o.handles)) (sym (issued_on j)) (o.are_handles.each_issued j); once = o.are_handles.once })
@@ -162,8 +162,8 @@ module _ (g : GraphValue) (e : Events) (s : St) (o : Shown g e s) (id i : ℕ) (
             omega (arith, t, a, b, c, d, f))
         | inr n ↦ sum_same (runs_at k) s.views id v w me (claim_there k w (new_claim i h) refl (λ q. n (sym q)) ∙ sym (ap (claim_at k) idle)) ∙ (o.works k ∙ ap busy (sym (other_set o.run.stages Unissued i k Out n)))
       ])
-      (at_line g e (size_of g) o.run o.handles (λ k. total (issues_at k) s.views) (λ k. total (owes_at k) s.views) (total has_desk s.views) s.words s.homes o.words
-      (λ k. total (issues_at k) (set s.views id w)) (λ k. total (owes_at k) (set s.views id w)) (total has_desk (set s.views id w))
+      (at_line g e (size_of g) o.run o.handles (λ k. total (issues_at k) s.views) (λ k. total (owes_at k) s.views) (total has_issue_turn s.views) s.words s.homes o.words
+      (λ k. total (issues_at k) (set s.views id w)) (λ k. total (owes_at k) (set s.views id w)) (total has_issue_turn (set s.views id w))
       i near Out o.handles (set s.words i 3) (set s.homes i none) (words_set i 3 s.words) (slots_set i none s.homes)
       (λ j n. refl) (λ j n. sum_same (issues_at j) s.views id v w me refl) (λ j. sum_same (owes_at j) s.views id v w me (owes_on j))
       (record {
@@ -172,19 +172,19 @@ module _ (g : GraphValue) (e : Events) (s : St) (o : Shown g e s) (id i : ℕ) (
         shown = (sum_same (issues_at i) s.views id v w me refl ∙ shows.0, get_or-set_same s.words i 3 0 (let d = o.words.wide in omega arith), refl);
       })
       there
-      (desk_again g e (sum_same has_desk s.views id v w me refl) refl refl o.words.desk))
+      (issue_turn_again g e (sum_same has_issue_turn s.views id v w me refl) refl refl o.words.issue_turn))
       (nothing_new o.run after o.handles v w refl (λ j q. sym (issued_on j) ∙ q) ended_back (record { issued = λ j c. c; ended = λ j x c. c; times = λ j t c. c }) (λ q. q))
 
-  pub claim_told : (hand : List (ℕ × Content)) → HasClaimed i (v, hand) (w, (i, Ticket shows.2.ticket) ∷ hand)
+  pub claim_told : (hand : List (ℕ × Content)) → HasClaimed i (v, hand) (w, (i, PendingEvent shows.2.pending) ∷ hand)
   claim_told hand = record {
-    ticket = shows.2.ticket;
+    pending = shows.2.pending;
     now = refl;
-    of = λ x c. subst (λ (y : Ground). IsPendingOf y.events shows.2.ticket) (sym ((o.each_view id v me).keys x c)) shows.2.of;
+    of = λ x c. subst (λ (y : Ground). IsPendingOf y.events shows.2.pending) (sym ((o.each_view id v me).keys x c)) shows.2.of;
     known = λ hs j c at. let b = (o.each_view id v me).named hs c in shows.2.named ∙ (ap (λ l. handle_at l i) b.1 ∙ get_or_from_slice_get (hs ++ b.0) i j no_event (got_in hs b.0 i j at));
     ends = λ x c. subst (λ (y : Ground). has_ended (evaluation y.graph) i ≡ true) (sym ((o.each_view id v me).keys x c)) (started_ends o.sound.graph o.sound.accepted sound.on_lines i (ap stage_started now_out));
   }
 
-  pub claim_at_home : get_elem? s.homes i ≡ some (some (Ticket shows.2.ticket))
+  pub claim_at_home : get_elem? s.homes i ≡ some (some (PendingEvent shows.2.pending))
   claim_at_home = (o.words.lines i near).at ∙ ap some shows.2.here
 
 pub claims_allow : (g : GraphValue) (e : Events) (slots id i : ℕ) (m : Sat) → i < length g.lines → m.0.claim ≡ None → ((n : ℕ) × (ns : List ℕ) × (m.0.mine ≡ n ∷ ns)) → never_comes g i ≡ false → Sources g i m.0
@@ -194,8 +194,8 @@ claims_allow g e slots id i m near idle own comes sources s o wide me low =
     let r = get_or s.words i 0 in
     exchanged r 2 3 (λ x. (w : View) × (a : Act Content) × Valid s.homes m.1 a × Shown g e (stepped s i x id m.1 w a) × claims i m r (w, carried_after m.1 a))
     (λ is. (
-      claimed_at v i (handle_of (shows g e s o id i v me near is idle own comes sources).2.ticket),
-      takes i (Ticket (shows g e s o id i v me near is idle own comes sources).2.ticket),
+      claimed_at v i (handle_of (shows g e s o id i v me near is idle own comes sources).2.pending),
+      takes i (PendingEvent (shows g e s o id i v me near is idle own comes sources).2.pending),
       claim_at_home g e s o id i v me near is idle own comes sources,
       claim_rule g e s o id i v me near is idle own comes sources,
       ((λ _. claim_told g e s o id i v me near is idle own comes sources m.1), (λ ne. absurd (ne is))),

@@ -9,12 +9,12 @@ use Rattle.graph_terms.specs.Graph.{GraphValue}
 use Rattle.event_table.specs.declared.handle.Handle.{Handle}
 use Rattle.shared_events.specs.declared.events.Events.{Events}
 use Rattle.run_state.specs.Run.{LineStage, Unissued, Issued, Out, Ending, Ended, Place, Home, Had, Run, stage_at, time_at, place_at}
-use Rattle.run_words.specs.declared.content.Desk.{Desk}
+use Rattle.run_words.specs.declared.content.IssueState.{IssueState}
 use Rattle.run_words.specs.declared.content.Content.{Content}
-use Rattle.run_words.specs.declared.content.Content.TheVariants.{Nothing, Ticket, Stub, Cells, Tray}
+use Rattle.run_words.specs.declared.content.Content.TheVariants.{Nothing, PendingEvent, EventReceipt, Cells, Issuer}
 use Rattle.run_words.specs.declared.view.View.{View}
-use Rattle.run_words.specs.Layout.{size_of, status_word, time_word, turn_word, desk_word, line_slot, column_slot, desk_slot}
-use Rattle.run_words.specs.Rule.{Shown, LineShown, ColumnShown, DeskShown, HasEndedAt, HasHandles, IsTray, column_with, handle_at}
+use Rattle.run_words.specs.Layout.{size_of, status_word, time_word, turn_word, issue_turn_word, line_slot, column_slot, issue_turn_slot}
+use Rattle.run_words.specs.Rule.{Shown, LineShown, ColumnShown, IssueTurnShown, HasEndedAt, HasHandles, IsIssueState, column_with, handle_at}
 use Rattle.run_words.specs.Views.{busy, time_code, owes_at}
 use Rattle.run_words.specs.Premises.{HasNoRights}
 use Rattle.run_words.specs.Closing.{LineLeft, IsLeft}
@@ -30,19 +30,19 @@ Came homes slots = (k : ℕ) (y : Content) → get_elem? homes k ≡ some (some 
 line_left : (e : Events) (h : Handle) (st : LineStage) (w : ℕ) (homes : List (mathlib.Core.Option.Option Content)) (slots : List Content) (k : ℕ) (home : mathlib.Core.Option.Option Content) → Came homes slots → get_elem? homes k ≡ some home →
     busy st ≡ 0 → LineShown e h st 0 w home → (x : Content) × (get_elem? slots k ≡ some x) × LineLeft e h st w x
 line_left e h Unissued w homes slots k home came at b l = (Nothing, came k Nothing (at ∙ ap some l.1), (l.0, refl))
-line_left e h Issued w homes slots k home came at b l = (Ticket l.2.ticket, came k (Ticket l.2.ticket) (at ∙ ap some l.2.here), (l.1, l.2.ticket, refl, l.2.of, l.2.named))
+line_left e h Issued w homes slots k home came at b l = (PendingEvent l.2.pending, came k (PendingEvent l.2.pending) (at ∙ ap some l.2.here), (l.1, l.2.pending, refl, l.2.of, l.2.named))
 line_left e h Out w homes slots k home came at b l = absurd (omega (arith, b))
 line_left e h (Ending y) w homes slots k home came at b l = absurd (omega (arith, b))
-line_left e h (Ended y) w homes slots k home came at b l = (Stub l.2.stub, came k (Stub l.2.stub) (at ∙ ap some l.2.here), (l.1, l.2.stub, refl, l.2.of, l.2.named, l.2.told))
+line_left e h (Ended y) w homes slots k home came at b l = (EventReceipt l.2.receipt, came k (EventReceipt l.2.receipt) (at ∙ ap some l.2.here), (l.1, l.2.receipt, refl, l.2.of, l.2.named, l.2.told))
 
 column_left : (g : GraphValue) (c : ℕ) (p : Place) (w : ℕ) (homes : List (mathlib.Core.Option.Option Content)) (slots : List Content) (k : ℕ) (home : mathlib.Core.Option.Option Content) → Came homes slots → get_elem? homes k ≡ some home →
     ((i : ℕ) → p ≡ Had i → ⊥) → ColumnShown g c p w home → (xs : List ℕ) × (p ≡ Home xs) × (get_elem? slots k ≡ some (Cells (column_with g c xs)))
 column_left g c (Home xs) w homes slots k home came at here l = (xs, refl, came k (Cells (column_with g c xs)) (at ∙ ap some l.1))
 column_left g c (Had i) w homes slots k home came at here l = absurd (here i refl)
 
-desk_left : (e : Events) (n : ℕ) (handles : List Handle) (w : ℕ) (homes : List (mathlib.Core.Option.Option Content)) (slots : List Content) (k : ℕ) (home : mathlib.Core.Option.Option Content) → Came homes slots → get_elem? homes k ≡ some home →
-    DeskShown e n handles 0 w home → (d : Desk) × (get_elem? slots k ≡ some (Tray d)) × IsTray e n handles d
-desk_left e n handles w homes slots k home came at l = (l.1.tray, came k (Tray l.1.tray) (at ∙ ap some l.1.here), l.1.is_tray)
+issue_turn_left : (e : Events) (n : ℕ) (handles : List Handle) (w : ℕ) (homes : List (mathlib.Core.Option.Option Content)) (slots : List Content) (k : ℕ) (home : mathlib.Core.Option.Option Content) → Came homes slots → get_elem? homes k ≡ some home →
+    IssueTurnShown e n handles 0 w home → (d : IssueState) × (get_elem? slots k ≡ some (Issuer d)) × IsIssueState e n handles d
+issue_turn_left e n handles w homes slots k home came at l = (l.1.issue_state, came k (Issuer l.1.issue_state) (at ∙ ap some l.1.here), l.1.is_issue_state)
 
 module _ (g : GraphValue) (e : Events) (s : St) (o : Shown g e s) (id : ℕ) (v : View) (me : get_elem? s.views id ≡ some v) (r : Rests g e s o) (slots : List Content) (long : length s.homes ≡ length slots) (came : Came s.homes slots) (free : HasNoRights v)
     (alone : (j : ℕ) (u : View) → (j ≡ id → ⊥) → get_elem? s.views j ≡ some u → u.mine ≡ [])
@@ -53,7 +53,7 @@ module _ (g : GraphValue) (e : Events) (s : St) (o : Shown g e s) (id : ℕ) (v 
 
     -- it has the handles by name, where it has no turn
     named_of : HasHandles o.handles v → Contains v.named o.handles
-    named_of = ⊎_elim (λ c. c) (λ q. absurd (none-some o.handles (sym free.desk ∙ q)))
+    named_of = ⊎_elim (λ c. c) (λ q. absurd (none-some o.handles (sym free.issue_turn ∙ q)))
 
     left_of : IsLeft g e v o.run o.handles s.words slots
     left_of = record {
@@ -72,9 +72,9 @@ module _ (g : GraphValue) (e : Events) (s : St) (o : Shown g e s) (id : ℕ) (v 
           column_left g c (place_at o.run.places c) (slice_index s.words (turn_word (size_of g) c)) s.homes slots (column_slot (size_of g) c) l.home came l.at (r.at_home c) l.shown);
       locks = o.words.locks;
       clock = o.words.clock;
-      desk = (let l = o.words.desk in
-          desk_left e (length g.lines) o.handles (slice_index s.words (desk_word (size_of g))) s.homes slots (desk_slot (size_of g)) l.home came l.at
-          (subst (λ k. DeskShown e (length g.lines) o.handles k (slice_index s.words (desk_word (size_of g))) l.home) r.desk_home l.shown));
+      issue_turn = (let l = o.words.issue_turn in
+          issue_turn_left e (length g.lines) o.handles (slice_index s.words (issue_turn_word (size_of g))) s.homes slots (issue_turn_slot (size_of g)) l.home came l.at
+          (subst (λ k. IssueTurnShown e (length g.lines) o.handles k (slice_index s.words (issue_turn_word (size_of g))) l.home) r.issue_turn_home l.shown));
       known_issued = λ i. ((o.each_view id v me).issued i, λ h. of_last (λ (u : View). Contains u.issued i) s.views id v me alone (o.known.issued i h));
       known_ended = λ i y. ((o.each_view id v me).ended i y, λ h. of_last (λ (u : View). Contains u.ended (i, y)) s.views id v me alone (o.known.ended i y h));
       known_times = λ i t. ((λ c. ((o.each_view id v me).times i t c).at), λ h. of_last (λ (u : View). Contains u.times (i, t)) s.views id v me alone (o.known.times i t (over_at i t h)));

@@ -10,9 +10,9 @@ use Rattle.shared_events.specs.Seats.{Keeps}
 use Rattle.event_table.specs.declared.handle.Handle.{Handle}
 use Rattle.shared_events.specs.declared.view.View.{View}
 use Rattle.run_words.specs.declared.content.Content.{Content}
-use Rattle.run_words.specs.declared.content.Content.TheVariants.{Nothing, Ticket, Stub, Cells, Tray}
-use Rattle.run_words.specs.Layout.{Size, desk_slot, slot_count}
-use Rattle.run_words.specs.declared.content.Desk.{Desk}
+use Rattle.run_words.specs.declared.content.Content.TheVariants.{Nothing, PendingEvent, EventReceipt, Cells, Issuer}
+use Rattle.run_words.specs.Layout.{Size, issue_turn_slot, slot_count}
+use Rattle.run_words.specs.declared.content.IssueState.{IssueState}
 use Rattle.run_words.specs.Emptying.{AreTaken, IsSettled}
 
 none_there : (xs : List Bool) (i : ℕ) → slice_index_or (slice_set xs i false) i false ≡ false
@@ -29,7 +29,7 @@ line_taken z i c xs ys near e t = record {
   lines_left = λ k high below. kept k (λ same. omega (arith, same, high)) ∙ t.lines_left k (omega (arith, high)) below;
   columns_gone = λ k low. kept (z.lines + k) (λ same. omega (arith, same, near)) ∙ t.columns_gone k low;
   columns_left = λ k high below. kept (z.lines + k) (λ same. omega (arith, same, near)) ∙ t.columns_left k high below;
-  desk_gone = kept (z.lines + z.cols) (λ same. omega (arith, same, near)) ∙ t.desk_gone;
+  issue_turn_gone = kept (z.lines + z.cols) (λ same. omega (arith, same, near)) ∙ t.issue_turn_gone;
 }
   where
     kept : (j : ℕ) → j ≢ i → slice_index_or ys j false ≡ slice_index_or xs j false
@@ -44,7 +44,7 @@ column_taken z c xs ys near e t = record {
     | inr other ↦ kept (z.lines + k) (λ same. other (omega (arith, same))) ∙ t.columns_gone k (omega (arith, low, other))
   ];
   columns_left = λ k high below. kept (z.lines + k) (λ same. omega (arith, same, high)) ∙ t.columns_left k (omega (arith, high)) below;
-  desk_gone = kept (z.lines + z.cols) (λ same. omega (arith, same, near)) ∙ t.desk_gone;
+  issue_turn_gone = kept (z.lines + z.cols) (λ same. omega (arith, same, near)) ∙ t.issue_turn_gone;
 }
   where
     kept : (j : ℕ) → j ≢ z.lines + c → slice_index_or ys j false ≡ slice_index_or xs j false
@@ -52,10 +52,10 @@ column_taken z c xs ys near e t = record {
 
 pub still_settled : (v w : View) → Keeps v w → ((h : Handle) → Contains v.left h → Contains w.left h) → (x : Content) → IsSettled v x → IsSettled w x
 still_settled v w keeps left Nothing s = s
-still_settled v w keeps left (Ticket p) s = left _ s
-still_settled v w keeps left (Stub r) s = keeps.1 _ _ s
+still_settled v w keeps left (PendingEvent p) s = left _ s
+still_settled v w keeps left (EventReceipt r) s = keeps.1 _ _ s
 still_settled v w keeps left (Cells x) s = s
-still_settled v w keeps left (Tray d) s = s
+still_settled v w keeps left (Issuer d) s = s
 
 -- one thing is in a slot
 pub one_content : (slots : List Content) (k : ℕ) (x y : Content) → get_elem? slots k ≡ some x → get_elem? slots k ≡ some y → x ≡ y
@@ -67,29 +67,29 @@ one_content slots k x y a b = some_is x y (sym a ∙ b)
 pub cells_are : (x y : ColumnValue) → Cells x ≡ Cells y → x ≡ y
 cells_are x y e = cc
 
--- all places are filled but the desk's
-pub desk_taken : (z : Size) (xs ys : List Bool) → ((k : ℕ) → k < slot_count z → slice_index_or xs k false ≡ true) → ys ≡ slice_set xs (desk_slot z) false → AreTaken z 0 0 ys
-desk_taken z xs ys full e = record {
+-- all places are filled but the issue state's
+pub issue_turn_taken : (z : Size) (xs ys : List Bool) → ((k : ℕ) → k < slot_count z → slice_index_or xs k false ≡ true) → ys ≡ slice_set xs (issue_turn_slot z) false → AreTaken z 0 0 ys
+issue_turn_taken z xs ys full e = record {
   lines_gone = λ k low. absurd (omega (arith, low));
   lines_left = λ k high below. kept k (λ same. omega (arith, same, below)) ∙ full k (omega (arith, below));
   columns_gone = λ k low. absurd (omega (arith, low));
   columns_left = λ k high below. kept (z.lines + k) (λ same. omega (arith, same, below)) ∙ full (z.lines + k) (omega (arith, below));
-  desk_gone = ap (λ l. slice_index_or l (desk_slot z) false) e ∙ none_there xs (desk_slot z);
+  issue_turn_gone = ap (λ l. slice_index_or l (issue_turn_slot z) false) e ∙ none_there xs (issue_turn_slot z);
 }
   where
-    kept : (j : ℕ) → j ≢ desk_slot z → slice_index_or ys j false ≡ slice_index_or xs j false
-    kept j ne = ap (λ l. slice_index_or l j false) e ∙ get_or-set_other xs (desk_slot z) j false false ne
+    kept : (j : ℕ) → j ≢ issue_turn_slot z → slice_index_or ys j false ≡ slice_index_or xs j false
+    kept j ne = ap (λ l. slice_index_or l j false) e ∙ get_or-set_other xs (issue_turn_slot z) j false false ne
 
 -- none is filled once all were taken
 pub none_filled : (z : Size) (xs : List Bool) → AreTaken z z.lines z.cols xs → (k : ℕ) → k < slot_count z → slice_index_or xs k false ≡ false
 none_filled z xs t k near = elim (cases_lt k z.lines) [
   | inl low ↦ t.lines_gone k low
   | inr high ↦ (elim (cases_eq k (z.lines + z.cols)) [
-    | inl same ↦ ap (λ j. slice_index_or xs j false) same ∙ t.desk_gone
+    | inl same ↦ ap (λ j. slice_index_or xs j false) same ∙ t.issue_turn_gone
     | inr other ↦ (let j : (d : ℕ) × (z.lines + d ≡ k) = (k - z.lines, omega (arith, high)) in
         ap (λ i. slice_index_or xs i false) (sym j.1) ∙ t.columns_gone j.0 (omega (arith, j.1, near, other)))
   ])
 ]
 
-pub tray_is : (d d' : Desk) → Tray d ≡ Tray d' → d ≡ d'
-tray_is d d' e = cc
+pub issue_state_is : (d d' : IssueState) → Issuer d ≡ Issuer d' → d ≡ d'
+issue_state_is d d' e = cc

@@ -26,14 +26,14 @@ use Rattle.run_state.specs.Sound.{Sound}
 use Rattle.run_state.specs.Moves.{staged, unclaim, ending, close}
 use Rattle.run_state.proofs.Stages.{ending-sound, close-sound, unclaim-sound}
 use Rattle.run_state.proofs.Public.{stage_there}
-use Rattle.run_words.specs.declared.content.Content.TheVariants.{Ticket, Stub}
+use Rattle.run_words.specs.declared.content.Content.TheVariants.{PendingEvent, EventReceipt}
 use Rattle.run_words.specs.Layout.{size_of}
-use Rattle.run_words.specs.Views.{time_code, claim_at, runs_at, late, issues_at, late_at, owes_at, has_desk, busy, working}
+use Rattle.run_words.specs.Views.{time_code, claim_at, runs_at, late, issues_at, late_at, owes_at, has_issue_turn, busy, working}
 use Rattle.run_words.specs.Rule.{end_code, fate_for, LineShown, handle_at, Progress, Fits, Shown}
 use Rattle.run_words.specs.Plays.{Sat, on_claim, end_of_code, ending_with, ends, time_claimed, closed_at, closes, line_claimed, unclaims}
 use Rattle.run_words.specs.Premises.{IsBare, IsThrough, IsOver}
 use Rattle.run_words.proofs.Aside.{aside_staged, progress_on, other_set}
-use Rattle.run_words.proofs.Frames.{at_line, desk_again, words_set, slots_set, slots_same}
+use Rattle.run_words.proofs.Frames.{at_line, issue_turn_again, words_set, slots_set, slots_same}
 use Rattle.run_words.proofs.Known.{Learns, times_on, time_is, time_in, nothing_new}
 use Rattle.run_words.proofs.Steps.{St, board, sum_same, steps, claim_goes, works_alone, claim_here, working_issued, working_busy, working_not_over}
 use Rattle.run_words.proofs.Looks.{code_end}
@@ -89,8 +89,8 @@ module _ (g : GraphValue) (e : Events) (s : St) (o : Shown g e s) (id : ℕ) (v 
         | inl q ↦ subst (λ k. stage_issued (stage_at (ending o.run i x).stages k) ≡ stage_issued (stage_at o.run.stages k)) (sym q) (ap stage_issued now ∙ sym (working_issued cl.ends progress.stage))
         | inr n ↦ ap stage_issued (other_set o.run.stages Unissued i j (Ending x) n)
       ])
-      (at_line g e (size_of g) o.run o.handles (λ k. total (issues_at k) s.views) (λ k. total (owes_at k) s.views) (total has_desk s.views) s.words s.homes o.words
-      (λ k. total (issues_at k) (set s.views id w)) (λ k. total (owes_at k) (set s.views id w)) (total has_desk (set s.views id w))
+      (at_line g e (size_of g) o.run o.handles (λ k. total (issues_at k) s.views) (λ k. total (owes_at k) s.views) (total has_issue_turn s.views) s.words s.homes o.words
+      (λ k. total (issues_at k) (set s.views id w)) (λ k. total (owes_at k) (set s.views id w)) (total has_issue_turn (set s.views id w))
       i near (Ending x) o.handles (set s.words i (4 + end_code x)) s.homes (words_set i (4 + end_code x) s.words) (slots_same i s.homes)
       (λ j n. refl) (λ j n. sum_same (issues_at j) s.views id v w me refl) (λ j. sum_same (owes_at j) s.views id v w me (ap (late_at j) (sym has)))
       (record {
@@ -99,11 +99,11 @@ module _ (g : GraphValue) (e : Events) (s : St) (o : Shown g e s) (id : ℕ) (v 
         shown = (sum_same (issues_at i) s.views id v w me refl ∙ shows.0, get_or-set_same s.words i (4 + end_code x) 0 (let d = o.words.wide in let n = near in omega (arith, d, n)), shows.1);
       })
       there
-      (desk_again g e (sum_same has_desk s.views id v w me refl) refl refl o.words.desk))
+      (issue_turn_again g e (sum_same has_issue_turn s.views id v w me refl) refl refl o.words.issue_turn))
 
   -- THE CLAIM LEAVES, and the line goes to a stage in which nobody has its work
   module _ (t : LineStage) (quiet : busy t ≡ 0) (still : stage_issued t ≡ true) (nothing_owed : late cl ≡ 0) (sound : Sound g (staged o.run i t)) (x : ℕ) (y : Content)
-      (shown : LineShown e (handle_at o.handles i) t 0 x (some y)) (w : View) (gone : w.claim ≡ None) (ei : w.issuing ≡ v.issuing) (ed : w.desk ≡ v.desk) where
+      (shown : LineShown e (handle_at o.handles i) t 0 x (some y)) (w : View) (gone : w.claim ≡ None) (ei : w.issuing ≡ v.issuing) (ed : w.issue_turn ≡ v.issue_turn) where
     abbrev after : Run
     after = staged o.run i t
 
@@ -131,7 +131,7 @@ module _ (g : GraphValue) (e : Events) (s : St) (o : Shown g e s) (id : ℕ) (v 
         (λ j u other at. let f = o.each_view j u at in record {
           claim = λ c q p. progress_on i (aside_staged i t o.run) c (works_alone g e s o id v w me i j u cl c other at has refl q) p;
           issuing = λ k q. unissued_on k (f.issuing k q).0;
-          desk = f.desk;
+          issue_turn = f.issue_turn;
         })
         em eb es sound
         (record { each_issued = λ j. subst (λ b. (b ≡ true) ↔ (j < length o.handles)) (sym (issued_on j)) (o.are_handles.each_issued j); once = o.are_handles.once })
@@ -147,8 +147,8 @@ module _ (g : GraphValue) (e : Events) (s : St) (o : Shown g e s) (id : ℕ) (v 
               omega (arith, m, a, b, c, d, f))
           | inr n ↦ sum_same (runs_at k) s.views id v w me (ap (claim_at k) gone ∙ sym (ap (claim_at k) has ∙ ap (λ b. cond b 1 0) (ne_eqb i k (λ q. n (sym q))))) ∙ (o.works k ∙ ap busy (sym (other_set o.run.stages Unissued i k t n)))
         ])
-        (at_line g e (size_of g) o.run o.handles (λ k. total (issues_at k) s.views) (λ k. total (owes_at k) s.views) (total has_desk s.views) s.words s.homes o.words
-        (λ k. total (issues_at k) (set s.views id w)) (λ k. total (owes_at k) (set s.views id w)) (total has_desk (set s.views id w))
+        (at_line g e (size_of g) o.run o.handles (λ k. total (issues_at k) s.views) (λ k. total (owes_at k) s.views) (total has_issue_turn s.views) s.words s.homes o.words
+        (λ k. total (issues_at k) (set s.views id w)) (λ k. total (owes_at k) (set s.views id w)) (total has_issue_turn (set s.views id w))
         i near t o.handles (set s.words i x) (set s.homes i (some y)) (words_set i x s.words) (slots_set i (some y) s.homes)
         (λ j n. refl) (λ j n. sum_same (issues_at j) s.views id v w me (ap (Rattle.run_words.specs.Views.number_at j) ei)) (λ j. sum_same (owes_at j) s.views id v w me (owes_on j))
         (record {
@@ -158,25 +158,25 @@ module _ (g : GraphValue) (e : Events) (s : St) (o : Shown g e s) (id : ℕ) (v 
               (subst (λ n. LineShown e (handle_at o.handles i) t 0 n (some y)) (sym (get_or-set_same s.words i x 0 (let d = o.words.wide in let n = near in omega (arith, d, n)))) shown);
         })
         there
-        (desk_again g e (sum_same has_desk s.views id v w me (ap Rattle.run_words.specs.Views.turn_of ed)) refl refl o.words.desk))
+        (issue_turn_again g e (sum_same has_issue_turn s.views id v w me (ap Rattle.run_words.specs.Views.turn_of ed)) refl refl o.words.issue_turn))
         learns
 
   -- closed
-  module _ (x : End) (over : IsOver g cl x) (stub : Receipt) (of : IsReceiptOf e stub) (named : ended_by stub ≡ cl.event) (told : fate_of stub ≡ fate_for x) where
+  module _ (x : End) (over : IsOver g cl x) (receipt : Receipt) (of : IsReceiptOf e receipt) (named : ended_by receipt ≡ cl.event) (told : fate_of receipt ≡ fate_for x) where
     close_sound : Sound g (close o.run i x)
     close_sound = close-sound o.sound i x (record { is_ending = progress.stage ∙ ap working over.ending; frees = λ q r d. progress.freed ∙ over.freed q r d })
 
-    stub_shown : LineShown e (handle_at o.handles i) (Ended x) 0 (8 + end_code x) (some (Stub stub))
-    stub_shown = (refl, refl, record { stub = stub; here = refl; of = of; named = named ∙ sym ((o.each_view id v me).event cl has); told = told })
+    receipt_shown : LineShown e (handle_at o.handles i) (Ended x) 0 (8 + end_code x) (some (EventReceipt receipt))
+    receipt_shown = (refl, refl, record { receipt = receipt; here = refl; of = of; named = named ∙ sym ((o.each_view id v me).event cl has); told = told })
 
     paid : late cl ≡ 0
     paid = ap (λ b. cond b 0 (time_code cl.time)) over.stored
 
     close_at : stage_at (close o.run i x).stages i ≡ Ended x
-    close_at = now_at (Ended x) refl refl paid close_sound (8 + end_code x) (Stub stub) stub_shown (closed_at v i x) refl refl refl
+    close_at = now_at (Ended x) refl refl paid close_sound (8 + end_code x) (EventReceipt receipt) receipt_shown (closed_at v i x) refl refl refl
 
     close_ended_on : (j : ℕ) (y : End) → stage_at o.run.stages j ≡ Ended y → stage_at (close o.run i x).stages j ≡ Ended y
-    close_ended_on = ended_on (Ended x) refl refl paid close_sound (8 + end_code x) (Stub stub) stub_shown (closed_at v i x) refl refl refl
+    close_ended_on = ended_on (Ended x) refl refl paid close_sound (8 + end_code x) (EventReceipt receipt) receipt_shown (closed_at v i x) refl refl refl
 
     owned : (closed_at v i x).mine ≢ []
     owned n = none-some cl (sym ((o.each_view id v me).idle n).0 ∙ has)
@@ -191,7 +191,7 @@ module _ (g : GraphValue) (e : Events) (s : St) (o : Shown g e s) (id : ℕ) (v 
             ended = λ j y c. Contains-append_left v.ended ((i, x) ∷ []) (j, y) c;
             times = λ j t c. Contains-append_left v.times (time_claimed v.claim) (j, t) c;
           };
-          new_issued = λ j q. inl (sym (issued_on (Ended x) refl refl paid close_sound (8 + end_code x) (Stub stub) stub_shown w refl refl refl j) ∙ q);
+          new_issued = λ j q. inl (sym (issued_on (Ended x) refl refl paid close_sound (8 + end_code x) (EventReceipt receipt) receipt_shown w refl refl refl j) ∙ q);
           new_ended = λ j y q. elim (cases_eq j i) [
             | inl is ↦ (
                 let same : x ≡ y = same_Some x y (ap kept_end (sym close_at ∙ (ap (stage_at (close o.run i x).stages) (sym is) ∙ q))) in
@@ -214,12 +214,12 @@ module _ (g : GraphValue) (e : Events) (s : St) (o : Shown g e s) (id : ℕ) (v 
         record {
           keys = f.keys;
           issued = λ j c. ⊎_elim
-              (λ d. issued_on (Ended x) refl refl paid close_sound (8 + end_code x) (Stub stub) stub_shown w refl refl refl j ∙ f.issued j d)
-              (λ (q : i ≡ j). subst (λ k. stage_issued (stage_at (close o.run i x).stages k) ≡ true) q (ap stage_issued (now_at (Ended x) refl refl paid close_sound (8 + end_code x) (Stub stub) stub_shown w refl refl refl)))
+              (λ d. issued_on (Ended x) refl refl paid close_sound (8 + end_code x) (EventReceipt receipt) receipt_shown w refl refl refl j ∙ f.issued j d)
+              (λ (q : i ≡ j). subst (λ k. stage_issued (stage_at (close o.run i x).stages k) ≡ true) q (ap stage_issued (now_at (Ended x) refl refl paid close_sound (8 + end_code x) (EventReceipt receipt) receipt_shown w refl refl refl)))
               (Contains-push_cases v.issued i j c);
           ended = λ j z c. ⊎_elim
-              (λ d. ended_on (Ended x) refl refl paid close_sound (8 + end_code x) (Stub stub) stub_shown w refl refl refl j z (f.ended j z d))
-              (λ (q : (i, x) ≡ (j, z)). subst (λ (p : ℕ × End). stage_at (close o.run i x).stages p.0 ≡ Ended p.1) q (now_at (Ended x) refl refl paid close_sound (8 + end_code x) (Stub stub) stub_shown w refl refl refl))
+              (λ d. ended_on (Ended x) refl refl paid close_sound (8 + end_code x) (EventReceipt receipt) receipt_shown w refl refl refl j z (f.ended j z d))
+              (λ (q : (i, x) ≡ (j, z)). subst (λ (p : ℕ × End). stage_at (close o.run i x).stages p.0 ≡ Ended p.1) q (now_at (Ended x) refl refl paid close_sound (8 + end_code x) (EventReceipt receipt) receipt_shown w refl refl refl))
               (Contains-push_cases v.ended (i, x) (j, z) c);
           times = λ j t c. ⊎_elim
               (λ d. times_on o.run (close o.run i x) refl close_ended_on j t (f.times j t d))
@@ -231,17 +231,17 @@ module _ (g : GraphValue) (e : Events) (s : St) (o : Shown g e s) (id : ℕ) (v 
           named = f.named;
           claim = λ c q. absurd (none-some c q);
           event = λ c q. absurd (none-some c q);
-          issuing = λ k q. (unissued_on (Ended x) refl refl paid close_sound (8 + end_code x) (Stub stub) stub_shown w refl refl refl k (f.issuing k q).0, (f.issuing k q).1);
+          issuing = λ k q. (unissued_on (Ended x) refl refl paid close_sound (8 + end_code x) (EventReceipt receipt) receipt_shown w refl refl refl k (f.issuing k q).0, (f.issuing k q).1);
           issuer = f.issuer;
-          desk = f.desk;
+          issue_turn = f.issue_turn;
           idle = λ n. let z = f.idle n in (refl, z.1, z.2);
         }
 
-    pub close_rule : Shown g e (board (set s.words i (8 + end_code x)) (set s.homes i (some (Stub stub))) (set s.views id (closed_at v i x)))
-    close_rule = leave_rule (Ended x) refl refl paid close_sound (8 + end_code x) (Stub stub) stub_shown (closed_at v i x) refl refl refl refl refl refl close_fits close_learns
+    pub close_rule : Shown g e (board (set s.words i (8 + end_code x)) (set s.homes i (some (EventReceipt receipt))) (set s.views id (closed_at v i x)))
+    close_rule = leave_rule (Ended x) refl refl paid close_sound (8 + end_code x) (EventReceipt receipt) receipt_shown (closed_at v i x) refl refl refl refl refl refl close_fits close_learns
 
   -- given up
-  module _ (bare : IsBare cl) (ticket : Pending) (of : IsPendingOf e ticket) (named : handle_of ticket ≡ cl.event) where
+  module _ (bare : IsBare cl) (pending : Pending) (of : IsPendingOf e pending) (named : handle_of pending ≡ cl.event) where
     unclaim_sound : Sound g (unclaim o.run i)
     unclaim_sound = unclaim-sound o.sound i (record {
       is_out = progress.stage ∙ ap working bare.going;
@@ -252,8 +252,8 @@ module _ (g : GraphValue) (e : Events) (s : St) (o : Shown g e s) (id : ℕ) (v 
       untimed = ap is_some (progress.time ∙ bare.time);
     })
 
-    ticket_shown : LineShown e (handle_at o.handles i) Issued 0 2 (some (Ticket ticket))
-    ticket_shown = (refl, refl, record { ticket = ticket; here = refl; of = of; named = named ∙ sym ((o.each_view id v me).event cl has) })
+    pending_shown : LineShown e (handle_at o.handles i) Issued 0 2 (some (PendingEvent pending))
+    pending_shown = (refl, refl, record { pending = pending; here = refl; of = of; named = named ∙ sym ((o.each_view id v me).event cl has) })
 
     free_of : late cl ≡ 0
     free_of = late_none cl.stored cl.time bare.time
@@ -266,23 +266,23 @@ module _ (g : GraphValue) (e : Events) (s : St) (o : Shown g e s) (id : ℕ) (v 
         let f = o.each_view id v me in
         record {
           keys = f.keys;
-          issued = λ j c. issued_on Issued refl refl free_of unclaim_sound 2 (Ticket ticket) ticket_shown w refl refl refl j ∙ f.issued j c;
-          ended = λ j z c. ended_on Issued refl refl free_of unclaim_sound 2 (Ticket ticket) ticket_shown w refl refl refl j z (f.ended j z c);
-          times = λ j t c. times_on o.run (unclaim o.run i) refl (ended_on Issued refl refl free_of unclaim_sound 2 (Ticket ticket) ticket_shown w refl refl refl) j t (f.times j t c);
+          issued = λ j c. issued_on Issued refl refl free_of unclaim_sound 2 (PendingEvent pending) pending_shown w refl refl refl j ∙ f.issued j c;
+          ended = λ j z c. ended_on Issued refl refl free_of unclaim_sound 2 (PendingEvent pending) pending_shown w refl refl refl j z (f.ended j z c);
+          times = λ j t c. times_on o.run (unclaim o.run i) refl (ended_on Issued refl refl free_of unclaim_sound 2 (PendingEvent pending) pending_shown w refl refl refl) j t (f.times j t c);
           named = f.named;
           claim = λ c q. absurd (none-some c q);
           event = λ c q. absurd (none-some c q);
-          issuing = λ k q. (unissued_on Issued refl refl free_of unclaim_sound 2 (Ticket ticket) ticket_shown w refl refl refl k (f.issuing k q).0, (f.issuing k q).1);
+          issuing = λ k q. (unissued_on Issued refl refl free_of unclaim_sound 2 (PendingEvent pending) pending_shown w refl refl refl k (f.issuing k q).0, (f.issuing k q).1);
           issuer = f.issuer;
-          desk = f.desk;
+          issue_turn = f.issue_turn;
           idle = λ n. let z = f.idle n in (refl, z.1, z.2);
         }
 
-    pub unclaim_rule : Shown g e (board (set s.words i 2) (set s.homes i (some (Ticket ticket))) (set s.views id w))
-    unclaim_rule = leave_rule Issued refl refl free_of unclaim_sound 2 (Ticket ticket) ticket_shown w refl refl refl refl refl refl unclaim_fits
-        (nothing_new o.run (unclaim o.run i) o.handles v w refl (λ j q. sym (issued_on Issued refl refl free_of unclaim_sound 2 (Ticket ticket) ticket_shown w refl refl refl j) ∙ q)
+    pub unclaim_rule : Shown g e (board (set s.words i 2) (set s.homes i (some (PendingEvent pending))) (set s.views id w))
+    unclaim_rule = leave_rule Issued refl refl free_of unclaim_sound 2 (PendingEvent pending) pending_shown w refl refl refl refl refl refl unclaim_fits
+        (nothing_new o.run (unclaim o.run i) o.handles v w refl (λ j q. sym (issued_on Issued refl refl free_of unclaim_sound 2 (PendingEvent pending) pending_shown w refl refl refl j) ∙ q)
         (λ j y q. elim (cases_eq j i) [
-          | inl is ↦ absurd (true≢false (sym (ap stage_ended q) ∙ (ap (λ k. stage_ended (stage_at (unclaim o.run i).stages k)) is ∙ ap stage_ended (now_at Issued refl refl free_of unclaim_sound 2 (Ticket ticket) ticket_shown w refl refl refl))))
+          | inl is ↦ absurd (true≢false (sym (ap stage_ended q) ∙ (ap (λ k. stage_ended (stage_at (unclaim o.run i).stages k)) is ∙ ap stage_ended (now_at Issued refl refl free_of unclaim_sound 2 (PendingEvent pending) pending_shown w refl refl refl))))
           | inr n ↦ sym (other_set o.run.stages Unissued i j Issued n) ∙ q
         ])
         (record { issued = λ j c. c; ended = λ j y c. c; times = λ j t c. c }) (λ q. q))
@@ -297,25 +297,25 @@ ends_allow g e slots id m cl x has th s o wide me low =
       ap (λ (y : View). sat y m.1) (on_claimed (ending_with x) m.0 cl has ∙ ap (λ (y : End). on_claim (ending_with y) m.0) (sym back)),
     )
 
-pub closes_allow : (g : GraphValue) (e : Events) (slots id : ℕ) (v : View) (hand left : List (ℕ × Content)) (cl : Claim) (x : End) (stub : Receipt) → v.claim ≡ Some cl → IsOver g cl x → hand ≡ (cl.line, Stub stub) ∷ left → IsReceiptOf e stub → ended_by stub ≡ cl.event → fate_of stub ≡ fate_for x
+pub closes_allow : (g : GraphValue) (e : Events) (slots id : ℕ) (v : View) (hand left : List (ℕ × Content)) (cl : Claim) (x : End) (receipt : Receipt) → v.claim ≡ Some cl → IsOver g cl x → hand ≡ (cl.line, EventReceipt receipt) ∷ left → IsReceiptOf e receipt → ended_by receipt ≡ cl.event → fate_of receipt ≡ fate_for x
     → Allows (Shown g e) slots id (v, hand) cl.line (λ _. 8 + end_code x) (λ _. closes cl.line (8 + end_code x) (v, hand))
-closes_allow g e slots id v hand left cl x stub has over tops of named told =
+closes_allow g e slots id v hand left cl x receipt has over tops of named told =
     let back : end_of_code (8 + end_code x - 8) ≡ x = (let q : 8 + end_code x - 8 ≡ end_code x = omega arith in ap end_of_code q ∙ code_end x) in
     subst (λ l. Allows (Shown g e) slots id (v, l) cl.line (λ _. 8 + end_code x) (λ _. closes cl.line (8 + end_code x) (v, l))) (sym tops) (λ s o wide me low. (
       closed_at v cl.line x,
       gives,
       tt,
-      close_rule g e s o id v me cl has x over stub of named told,
+      close_rule g e s o id v me cl has x over receipt of named told,
       ap (λ (y : End). sat (closed_at v cl.line y) left) (sym back),
     ))
 
-pub unclaims_allow : (g : GraphValue) (e : Events) (slots id : ℕ) (v : View) (hand left : List (ℕ × Content)) (cl : Claim) (ticket : Pending) → v.claim ≡ Some cl → IsBare cl → hand ≡ (cl.line, Ticket ticket) ∷ left → IsPendingOf e ticket → handle_of ticket ≡ cl.event
+pub unclaims_allow : (g : GraphValue) (e : Events) (slots id : ℕ) (v : View) (hand left : List (ℕ × Content)) (cl : Claim) (pending : Pending) → v.claim ≡ Some cl → IsBare cl → hand ≡ (cl.line, PendingEvent pending) ∷ left → IsPendingOf e pending → handle_of pending ≡ cl.event
     → Allows (Shown g e) slots id (v, hand) cl.line (λ _. 2) (λ _. unclaims (v, hand))
-unclaims_allow g e slots id v hand left cl ticket has bare tops of named =
+unclaims_allow g e slots id v hand left cl pending has bare tops of named =
     subst (λ l. Allows (Shown g e) slots id (v, l) cl.line (λ _. 2) (λ _. unclaims (v, l))) (sym tops) (λ s o wide me low. (
       record v { gave_up = v.gave_up ++ cl.line ∷ []; claim = None },
       gives,
       tt,
-      unclaim_rule g e s o id v me cl has bare ticket of named,
+      unclaim_rule g e s o id v me cl has bare pending of named,
       ap (λ (c : Option Claim). sat (record v { gave_up = v.gave_up ++ line_claimed c; claim = None }) left) (sym has),
     ))

@@ -24,7 +24,7 @@ use Rattle.run_state.proofs.Times.{draw-sound}
 use Rattle.run_state.proofs.QuietTrace.{clock_small}
 use Rattle.run_state.proofs.Public.{listed_here, listed_there, stage_there}
 use Rattle.run_words.specs.Layout.{size_of, value_word, time_word, clock_word}
-use Rattle.run_words.specs.Views.{time_code, late, issues_at, late_at, owes_at, has_desk, working}
+use Rattle.run_words.specs.Views.{time_code, late, issues_at, late_at, owes_at, has_issue_turn, working}
 use Rattle.run_words.specs.Rule.{Progress, WordsShow, Shown}
 use Rattle.run_words.specs.Plays.{Sat, put_in, arrives, drawn, draws, has_stored, stores}
 use Rattle.run_words.proofs.Aside.{aside_arrive, aside_draw, aside_same}
@@ -87,11 +87,11 @@ module _ (g : GraphValue) (e : Events) (s : St) (o : Shown g e s) (id : ℕ) (v 
       })
       (arrive-sound o.sound o' i p x (record { is_out = ap stage_out (progress.stage ∙ ap working going); arrives = brings; not_cancelled = real; not_arrived = progress.arrived ∙ new; by_barrier = barrier }))
       (λ j. refl)
-      (at_value g e z o.run o.handles (λ k. total (issues_at k) s.views) (λ k. total (owes_at k) s.views) (total has_desk s.views) s.words s.homes o.words
-      (λ k. total (issues_at k) (set s.views id w)) (λ k. total (owes_at k) (set s.views id w)) (total has_desk (set s.views id w))
+      (at_value g e z o.run o.handles (λ k. total (issues_at k) s.views) (λ k. total (owes_at k) s.views) (total has_issue_turn s.views) s.words s.homes o.words
+      (λ k. total (issues_at k) (set s.views id w)) (λ k. total (owes_at k) (set s.views id w)) (total has_issue_turn (set s.views id w))
       (λ k. sum_same (issues_at k) s.views id v w me refl)
       p (combined o' (slice_index o.run.values p) x) near_p (o.run.arrived ++ i ∷ []) (set s.words (value_word z p) y) (words_set (value_word z p) y s.words)
-      (sum_same has_desk s.views id v w me refl) (λ k. sum_same (owes_at k) s.views id v w me (ap (late_at k) (sym has)))
+      (sum_same has_issue_turn s.views id v w me refl) (λ k. sum_same (owes_at k) s.views id v w me (ap (late_at k) (sym has)))
       (get_or-set_same s.words (value_word z p) y 0 (let d = o.words.wide in omega (arith, d, near_p)) ∙ (by (get_or s.words (value_word z p) 0) ∙ ap (λ n. combined o' n x) (o.words.values p near_p)))
       (subst (λ n. p < n) (sym o.sound.on_phases.each_value) near_p))
 
@@ -129,12 +129,12 @@ module _ (g : GraphValue) (e : Events) (s : St) (o : Shown g e s) (id : ℕ) (v 
             })
             (draw-sound o.sound i (record { is_out = ap stage_out (progress.stage ∙ ap working going); untimed = progress.time ∙ untimed; holds = λ l a n. progress.holds l a ∙ held l a n }))
             (λ j. refl)
-            (subst (λ run. WordsShow g e z run o.handles (λ k. total (issues_at k) (set s.views id w)) (λ k. total (owes_at k) (set s.views id w)) (total has_desk (set s.views id w)) (set s.words (clock_word z) (o.run.clock + 1)) s.homes) (sym run')
-            (at_clock g e z o.run o.handles (λ k. total (issues_at k) s.views) (λ k. total (owes_at k) s.views) (total has_desk s.views) s.words s.homes o.words
-            (λ k. total (issues_at k) (set s.views id w)) (λ k. total (owes_at k) (set s.views id w)) (total has_desk (set s.views id w))
+            (subst (λ run. WordsShow g e z run o.handles (λ k. total (issues_at k) (set s.views id w)) (λ k. total (owes_at k) (set s.views id w)) (total has_issue_turn (set s.views id w)) (set s.words (clock_word z) (o.run.clock + 1)) s.homes) (sym run')
+            (at_clock g e z o.run o.handles (λ k. total (issues_at k) s.views) (λ k. total (owes_at k) s.views) (total has_issue_turn s.views) s.words s.homes o.words
+            (λ k. total (issues_at k) (set s.views id w)) (λ k. total (owes_at k) (set s.views id w)) (total has_issue_turn (set s.views id w))
             (λ k. sum_same (issues_at k) s.views id v w me refl)
             i r (set s.words (clock_word z) (o.run.clock + 1)) (words_set (clock_word z) (o.run.clock + 1) s.words)
-            (sum_same has_desk s.views id v w me refl)
+            (sum_same has_issue_turn s.views id v w me refl)
             (λ k n. sum_same (owes_at k) s.views id v w me (owes_others (drawn r cl) refl k n))
             (omega (arith, none_yet, moved, before, mine))
             (get_or-set_same s.words (clock_word z) (o.run.clock + 1) 0 (let d = o.words.wide in omega (arith, d)))
@@ -168,11 +168,11 @@ module _ (g : GraphValue) (e : Events) (s : St) (o : Shown g e s) (id : ℕ) (v 
         freed = progress.freed;
       })
       o.sound (λ j. refl)
-      (at_time g e z o.run o.handles (λ k. total (issues_at k) s.views) (λ k. total (owes_at k) s.views) (total has_desk s.views) s.words s.homes o.words
-      (λ k. total (issues_at k) (set s.views id w)) (λ k. total (owes_at k) (set s.views id w)) (total has_desk (set s.views id w))
+      (at_time g e z o.run o.handles (λ k. total (issues_at k) s.views) (λ k. total (owes_at k) s.views) (total has_issue_turn s.views) s.words s.homes o.words
+      (λ k. total (issues_at k) (set s.views id w)) (λ k. total (owes_at k) (set s.views id w)) (total has_issue_turn (set s.views id w))
       (λ k. sum_same (issues_at k) s.views id v w me refl)
       i near (set s.words (time_word z i) (t + 1)) (words_set (time_word z i) (t + 1) s.words)
-      (sum_same has_desk s.views id v w me refl)
+      (sum_same has_issue_turn s.views id v w me refl)
       (λ k n. sum_same (owes_at k) s.views id v w me (owes_others (has_stored cl) refl k n))
       (omega (arith, here, moved, before, mine, all, part, code)))
 

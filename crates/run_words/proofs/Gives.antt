@@ -21,7 +21,7 @@ use Rattle.run_words.specs.declared.content.Content.TheVariants.{Cells}
 use Rattle.run_words.specs.declared.view.View.{View}
 use Rattle.run_words.specs.Claims.{Claim}
 use Rattle.run_words.specs.Layout.{size_of, turn_word, column_slot}
-use Rattle.run_words.specs.Views.{issues_at, late_at, owes_at, has_desk}
+use Rattle.run_words.specs.Views.{issues_at, late_at, owes_at, has_issue_turn}
 use Rattle.run_words.specs.Rule.{column_with, ColumnShown, ColumnAt, Progress, Fits, Shown}
 use Rattle.run_words.specs.Plays.{but_first, first_column, unused, put_on, returns_unused, puts_back}
 use Rattle.run_words.specs.Premises.{IsFirst, Tops}
@@ -82,15 +82,15 @@ module _ (g : GraphValue) (e : Events) (s : St) (o : Shown g e s) (id : ℕ) (v 
   hs = set s.homes (column_slot (size_of g) c) (some (Cells (column_with g c xs)))
 
   home_words : (back : List (List ℕ)) (d : Claim) → ((k : ℕ) → late_at k (Some d) ≡ late_at k (Some cl))
-      → Rattle.run_words.specs.Rule.WordsShow g e (size_of g) (record o.run { places = places; back = back }) o.handles (λ k. total (issues_at k) (set s.views id (with_claim v d))) (λ k. total (owes_at k) (set s.views id (with_claim v d))) (total has_desk (set s.views id (with_claim v d))) ws hs
+      → Rattle.run_words.specs.Rule.WordsShow g e (size_of g) (record o.run { places = places; back = back }) o.handles (λ k. total (issues_at k) (set s.views id (with_claim v d))) (λ k. total (owes_at k) (set s.views id (with_claim v d))) (total has_issue_turn (set s.views id (with_claim v d))) ws hs
   home_words back d same =
       let w : View = with_claim v d in
-      at_column g e (size_of g) o.run o.handles (λ k. total (issues_at k) s.views) (λ k. total (owes_at k) s.views) (total has_desk s.views) s.words s.homes o.words
-      (λ k. total (issues_at k) (set s.views id w)) (λ k. total (owes_at k) (set s.views id w)) (total has_desk (set s.views id w))
+      at_column g e (size_of g) o.run o.handles (λ k. total (issues_at k) s.views) (λ k. total (owes_at k) s.views) (total has_issue_turn s.views) s.words s.homes o.words
+      (λ k. total (issues_at k) (set s.views id w)) (λ k. total (owes_at k) (set s.views id w)) (total has_issue_turn (set s.views id w))
       (λ k. sum_same (issues_at k) s.views id v w me refl)
       c near (Home xs) ws hs back
       (words_set (turn_word (size_of g) c) 0 s.words) (slots_set (column_slot (size_of g) c) (some (Cells (column_with g c xs))) s.homes)
-      (λ k. sum_same (owes_at k) s.views id v w me (same k ∙ ap (late_at k) (sym has))) (sum_same has_desk s.views id v w me refl)
+      (λ k. sum_same (owes_at k) s.views id v w me (same k ∙ ap (late_at k) (sym has))) (sum_same has_issue_turn s.views id v w me refl)
       (record {
         home = some (Cells (column_with g c xs));
         at = set_here s.homes (column_slot (size_of g) c) (some (Cells (column_with g c xs))) (let d = o.words.deep in omega (arith, d, near));

@@ -27,7 +27,7 @@ use Rattle.run_state.proofs.Locks.{hold-sound, let_go-sound, free-sound}
 use Rattle.run_state.proofs.Public.{listed_here, listed_without, inserted_here, inserted_cases}
 use Rattle.run_state.specs.Sound.{IsOpenTo}
 use Rattle.run_words.specs.Layout.{size_of, lock_word, half, alone_code}
-use Rattle.run_words.specs.Views.{issues_at, late_at, owes_at, has_desk, working}
+use Rattle.run_words.specs.Views.{issues_at, late_at, owes_at, has_issue_turn, working}
 use Rattle.run_words.specs.Rule.{lock_code, Progress, WordsShow, Shown}
 use Rattle.run_words.specs.Plays.{Sat, holding, NotHeld, missed, holds, shares, let_go_at, line_claimed, lets_go, has_freed, frees, saw_at}
 use Rattle.run_words.proofs.Aside.{aside_hold, aside_let_go, aside_free, listed_set, without_beside, inserted_beside}
@@ -103,14 +103,14 @@ module _ (g : GraphValue) (e : Events) (s : St) (o : Shown g e s) (id : ℕ) (v 
       omega (arith, now, then, fewer, most, few)
 
   lock_words : (gone : List ℕ) (x : ℕ) (qs freed : List ℕ) (d : Claim) → x ≡ lock_code g qs → ((k : ℕ) → late_at k (Some d) ≡ late_at k (Some cl))
-      → WordsShow g e (size_of g) (record o.run { holders = set o.run.holders l qs; freed = freed }) o.handles (λ k. total (issues_at k) (set s.views id (record v { let_go = gone; claim = Some d }))) (λ k. total (owes_at k) (set s.views id (record v { let_go = gone; claim = Some d }))) (total has_desk (set s.views id (record v { let_go = gone; claim = Some d }))) (set s.words (lock_word (size_of g) l) x) s.homes
+      → WordsShow g e (size_of g) (record o.run { holders = set o.run.holders l qs; freed = freed }) o.handles (λ k. total (issues_at k) (set s.views id (record v { let_go = gone; claim = Some d }))) (λ k. total (owes_at k) (set s.views id (record v { let_go = gone; claim = Some d }))) (total has_issue_turn (set s.views id (record v { let_go = gone; claim = Some d }))) (set s.words (lock_word (size_of g) l) x) s.homes
   lock_words gone x qs freed d code same =
       let w : View = record v { let_go = gone; claim = Some d } in
-      at_lock g e (size_of g) o.run o.handles (λ k. total (issues_at k) s.views) (λ k. total (owes_at k) s.views) (total has_desk s.views) s.words s.homes o.words
-      (λ k. total (issues_at k) (set s.views id w)) (λ k. total (owes_at k) (set s.views id w)) (total has_desk (set s.views id w))
+      at_lock g e (size_of g) o.run o.handles (λ k. total (issues_at k) s.views) (λ k. total (owes_at k) s.views) (total has_issue_turn s.views) s.words s.homes o.words
+      (λ k. total (issues_at k) (set s.views id w)) (λ k. total (owes_at k) (set s.views id w)) (total has_issue_turn (set s.views id w))
       (λ k. sum_same (issues_at k) s.views id v w me refl)
       l near qs freed (set s.words (lock_word (size_of g) l) x) (words_set (lock_word (size_of g) l) x s.words)
-      (sum_same has_desk s.views id v w me refl) (λ k. sum_same (owes_at k) s.views id v w me (same k ∙ ap (late_at k) (sym has)))
+      (sum_same has_issue_turn s.views id v w me refl) (λ k. sum_same (owes_at k) s.views id v w me (same k ∙ ap (late_at k) (sym has)))
       (get_or-set_same s.words (lock_word (size_of g) l) x 0 (let d = o.words.wide in omega (arith, d, near)) ∙ code) there
 
   abbrev i : ℕ

@@ -26,17 +26,17 @@ use lib.Seq.{set-get_or}
 use Rattle.basics.proofs.ListFacts.{contains_here, contains_there}
 use Rattle.run_state.specs.Moves.{issue}
 use Rattle.run_state.proofs.Stages.{issue-sound}
-use Rattle.run_words.specs.declared.content.Content.TheVariants.{Nothing, Ticket}
-use Rattle.run_words.specs.Layout.{size_of, desk_word}
-use Rattle.run_words.specs.Views.{runs_at, number_at, issues_at, late_at, owes_at, turn_of, has_desk, busy}
-use Rattle.run_words.specs.Rule.{LineShown, DeskShown, handle_at, AreHandles, WordsShow, Shown}
+use Rattle.run_words.specs.declared.content.Content.TheVariants.{Nothing, PendingEvent}
+use Rattle.run_words.specs.Layout.{size_of, issue_turn_word}
+use Rattle.run_words.specs.Views.{runs_at, number_at, issues_at, late_at, owes_at, turn_of, has_issue_turn, busy}
+use Rattle.run_words.specs.Rule.{LineShown, IssueTurnShown, handle_at, AreHandles, WordsShow, Shown}
 use Rattle.run_words.specs.Plays.{Sat, issuing_at, begins_issue, issues, gives_up_issue}
 use Rattle.run_words.proofs.Aside.{aside_staged, progress_on, other_set}
-use Rattle.run_words.proofs.Frames.{at_line, desk_again, words_set, slots_set}
+use Rattle.run_words.proofs.Frames.{at_line, issue_turn_again, words_set, slots_set}
 use Rattle.run_words.proofs.Known.{Learns, times_on, still}
 use Rattle.run_words.proofs.Steps.{St, board, sum_same, steps, run_stays, working_issued}
 use Rattle.run_words.proofs.Turns.{sat}
-use Rattle.run_words.proofs.Desks.{desk_alone}
+use Rattle.run_words.proofs.IssueTurns.{issue_turn_alone}
 
 -- LISTS with one item more
 at_append : {X : Type 0} (xs : List X) (x d : X) (j : ℕ) → (j ≡ length xs → ⊥) → get_or (xs ++ x ∷ []) j d ≡ get_or xs j d
@@ -87,33 +87,33 @@ begun_shows : (e : Events) (h : Handle) (s : LineStage) (k w : ℕ) (home : math
 begun_shows e h s zero w home is p l = absurd (omega arith)
 begun_shows e h s (suc k) w home is p l = let t : LineShown e h Unissued (suc k) w home = subst (λ y. LineShown e h y (suc k) w home) is l in let q = t.0 in omega arith
 
--- the desk in a hand, whatever the handles
-desk_out : (e : Events) (n : ℕ) (hs hs' : List Handle) (k w : ℕ) (home : mathlib.Core.Option.Option Content) → 0 < k → DeskShown e n hs k w home → DeskShown e n hs' k w home
-desk_out e n hs hs' zero w home p d = absurd (omega arith)
-desk_out e n hs hs' (suc k) w home p d = d
+-- the issue state in a hand, whatever the handles
+issue_turn_out : (e : Events) (n : ℕ) (hs hs' : List Handle) (k w : ℕ) (home : mathlib.Core.Option.Option Content) → 0 < k → IssueTurnShown e n hs k w home → IssueTurnShown e n hs' k w home
+issue_turn_out e n hs hs' zero w home p d = absurd (omega arith)
+issue_turn_out e n hs hs' (suc k) w home p d = d
 
-module _ (g : GraphValue) (e : Events) (s : St) (o : Shown g e s) (id : ℕ) (v : View) (me : get_elem? s.views id ≡ some v) (i : ℕ) (near : i < length g.lines) (hs : List Handle) (turn : v.desk ≡ Some hs) where
+module _ (g : GraphValue) (e : Events) (s : St) (o : Shown g e s) (id : ℕ) (v : View) (me : get_elem? s.views id ≡ some v) (i : ℕ) (near : i < length g.lines) (hs : List Handle) (turn : v.issue_turn ≡ Some hs) where
   there : i < length o.run.stages
   there = subst (λ n. i < n) (sym o.sound.on_lines.each_line) near
 
-  -- no other seat has the desk's turn, and so none is issuing
-  nobody_else : (j : ℕ) (u : View) (l : List Handle) → (j ≡ id → ⊥) → get_elem? s.views j ≡ some u → u.desk ≡ Some l → ⊥
+  -- no other seat has the issue turn, and so none is issuing
+  nobody_else : (j : ℕ) (u : View) (l : List Handle) → (j ≡ id → ⊥) → get_elem? s.views j ≡ some u → u.issue_turn ≡ Some l → ⊥
   nobody_else j u l other at had =
-      let both = terms_le has_desk s.views id j v u other me at in
-      let most = desk_alone g e s o in
-      let a : has_desk v ≡ 1 = ap turn_of turn in
-      let b : has_desk u ≡ 1 = ap turn_of had in
+      let both = terms_le has_issue_turn s.views id j v u other me at in
+      let most = issue_turn_alone g e s o in
+      let a : has_issue_turn v ≡ 1 = ap turn_of turn in
+      let b : has_issue_turn u ≡ 1 = ap turn_of had in
       absurd (omega (arith, both, most, a, b))
 
   -- the stage stays unissued, and the seats' claims do
-  unissued_words : stage_at o.run.stages i ≡ Unissued → (w : View) (x : ℕ) (home : mathlib.Core.Option.Option Content) → (w.claim ≡ v.claim) → (w.desk ≡ v.desk)
+  unissued_words : stage_at o.run.stages i ≡ Unissued → (w : View) (x : ℕ) (home : mathlib.Core.Option.Option Content) → (w.claim ≡ v.claim) → (w.issue_turn ≡ v.issue_turn)
       → ((j : ℕ) → (j ≡ i → ⊥) → issues_at j w ≡ issues_at j v) → LineShown e (handle_at o.handles i) Unissued (total (issues_at i) (set s.views id w)) x home
-      → WordsShow g e (size_of g) o.run o.handles (λ k. total (issues_at k) (set s.views id w)) (λ k. total (owes_at k) (set s.views id w)) (total has_desk (set s.views id w)) (set s.words i x) (set s.homes i home)
+      → WordsShow g e (size_of g) o.run o.handles (λ k. total (issues_at k) (set s.views id w)) (λ k. total (owes_at k) (set s.views id w)) (total has_issue_turn (set s.views id w)) (set s.words i x) (set s.homes i home)
   unissued_words stage w x home ec ed others shown =
-      subst (λ (l : List LineStage). WordsShow g e (size_of g) (record o.run { stages = l }) o.handles (λ k. total (issues_at k) (set s.views id w)) (λ k. total (owes_at k) (set s.views id w)) (total has_desk (set s.views id w)) (set s.words i x) (set s.homes i home))
+      subst (λ (l : List LineStage). WordsShow g e (size_of g) (record o.run { stages = l }) o.handles (λ k. total (issues_at k) (set s.views id w)) (λ k. total (owes_at k) (set s.views id w)) (total has_issue_turn (set s.views id w)) (set s.words i x) (set s.homes i home))
       (ap (set o.run.stages i) (sym stage) ∙ set-get_or o.run.stages i Unissued)
-      (at_line g e (size_of g) o.run o.handles (λ k. total (issues_at k) s.views) (λ k. total (owes_at k) s.views) (total has_desk s.views) s.words s.homes o.words
-      (λ k. total (issues_at k) (set s.views id w)) (λ k. total (owes_at k) (set s.views id w)) (total has_desk (set s.views id w))
+      (at_line g e (size_of g) o.run o.handles (λ k. total (issues_at k) s.views) (λ k. total (owes_at k) s.views) (total has_issue_turn s.views) s.words s.homes o.words
+      (λ k. total (issues_at k) (set s.views id w)) (λ k. total (owes_at k) (set s.views id w)) (total has_issue_turn (set s.views id w))
       i near Unissued o.handles (set s.words i x) (set s.homes i home) (words_set i x s.words) (slots_set i home s.homes)
       (λ j n. refl) (λ j n. sum_same (issues_at j) s.views id v w me (others j n)) (λ j. sum_same (owes_at j) s.views id v w me (ap (late_at j) ec))
       (record {
@@ -122,12 +122,12 @@ module _ (g : GraphValue) (e : Events) (s : St) (o : Shown g e s) (id : ℕ) (v 
         shown = subst (λ n. LineShown e (handle_at o.handles i) Unissued (total (issues_at i) (set s.views id w)) n home) (sym (get_or-set_same s.words i x 0 (let d = o.words.wide in omega (arith, d, near)))) shown;
       })
       there
-      (desk_again g e (sum_same has_desk s.views id v w me (ap turn_of ed)) refl refl o.words.desk))
+      (issue_turn_again g e (sum_same has_issue_turn s.views id v w me (ap turn_of ed)) refl refl o.words.issue_turn))
 
   -- BEGUN
   module _ (next : length hs ≡ i) (quiet : v.issuing ≡ None) where
     stage : stage_at o.run.stages i ≡ Unissued
-    stage = unissued_of (stage_at o.run.stages i) (λ h. let a = (o.are_handles.each_issued i).0 h in let b = ap (λ (l : List Handle). length l) ((o.each_view id v me).desk hs turn) in absurd (omega (arith, a, b, next)))
+    stage = unissued_of (stage_at o.run.stages i) (λ h. let a = (o.are_handles.each_issued i).0 h in let b = ap (λ (l : List Handle). length l) ((o.each_view id v me).issue_turn hs turn) in absurd (omega (arith, a, b, next)))
 
     nobody : total (issues_at i) s.views ≡ 0
     nobody = ⊎_elim (λ z. z) (λ (r : (j : ℕ) × (u : View) × (get_elem? s.views j ≡ some u) × (0 < issues_at i u)).
@@ -163,7 +163,7 @@ module _ (g : GraphValue) (e : Events) (s : St) (o : Shown g e s) (id : ℕ) (v 
           event = f.event;
           issuing = λ k q. subst (λ n. (stage_at o.run.stages n ≡ Unissued) × (n < length g.lines)) (same_Some i k q) (stage, near);
           issuer = λ k q. (hs, turn);
-          desk = f.desk;
+          issue_turn = f.issue_turn;
           idle = λ n. let z = f.idle n in absurd (none-some hs (sym z.2 ∙ turn));
         })
         (still o.run o.handles v w (record { issued = λ j c. c; ended = λ j x c. c; times = λ j t c. c }) (λ q. q))
@@ -210,7 +210,7 @@ module _ (g : GraphValue) (e : Events) (s : St) (o : Shown g e s) (id : ℕ) (v 
           event = f.event;
           issuing = λ k q. absurd (none-some k q);
           issuer = λ k q. absurd (none-some k q);
-          desk = f.desk;
+          issue_turn = f.issue_turn;
           idle = λ n. let z = f.idle n in (z.0, refl, z.2);
         })
         (still o.run o.handles v w' (record { issued = λ j c. c; ended = λ j x c. c; times = λ j t c. c }) (λ q. q))
@@ -219,15 +219,15 @@ module _ (g : GraphValue) (e : Events) (s : St) (o : Shown g e s) (id : ℕ) (v 
         (subst (λ k. LineShown e (handle_at o.handles i) Unissued k 0 (some Nothing)) (sym (none_left w' refl)) (refl, refl)))
 
     -- ISSUED with the event in the hand
-    module _ (next : length hs ≡ i) (ticket : Pending) (of : IsPendingOf e ticket) (new : Contains hs (handle_of ticket) → ⊥) where
+    module _ (next : length hs ≡ i) (pending : Pending) (of : IsPendingOf e pending) (new : Contains hs (handle_of pending) → ⊥) where
       abbrev h : Handle
-      h = handle_of ticket
+      h = handle_of pending
 
       abbrev then : List Handle
       then = o.handles ++ h ∷ []
 
       same : hs ≡ o.handles
-      same = (o.each_view id v me).desk hs turn
+      same = (o.each_view id v me).issue_turn hs turn
 
       long : length o.handles ≡ i
       long = sym (ap (λ (l : List Handle). length l) same) ∙ next
@@ -242,7 +242,7 @@ module _ (g : GraphValue) (e : Events) (s : St) (o : Shown g e s) (id : ℕ) (v 
       now = get_or-set_same o.run.stages i Issued Unissued there
 
       abbrev u' : View
-      u' = record v { issued = v.issued ++ i ∷ []; issuing = None; desk = Some (hs ++ h ∷ []) }
+      u' = record v { issued = v.issued ++ i ∷ []; issuing = None; issue_turn = Some (hs ++ h ∷ []) }
 
       issued_on : (j : ℕ) → stage_issued (stage_at o.run.stages j) ≡ true → stage_issued (stage_at after.stages j) ≡ true
       issued_on j q = elim (cases_eq j i) [
@@ -296,12 +296,12 @@ module _ (g : GraphValue) (e : Events) (s : St) (o : Shown g e s) (id : ℕ) (v 
         new_handles = inr (owned, inr (ap (λ (y : List Handle). Some (y ++ h ∷ [])) same));
       }
 
-      pub issue_rule : Shown g e (board (set s.words i 2) (set s.homes i (some (Ticket ticket))) (set s.views id u'))
+      pub issue_rule : Shown g e (board (set s.words i 2) (set s.homes i (some (PendingEvent pending))) (set s.views id u'))
       issue_rule =
           let f = o.each_view id v me in
-          let desks : total has_desk (set s.views id u') ≡ total has_desk s.views = sum_same has_desk s.views id v u' me (sym (ap turn_of turn)) in
-          let some_desk : 0 < total has_desk s.views = (let t = term_le has_desk s.views id v me in let a : has_desk v ≡ 1 = ap turn_of turn in omega (arith, t, a)) in
-          steps g e s o id v u' me after then (set s.words i 2) (set s.homes i (some (Ticket ticket)))
+          let issue_turns : total has_issue_turn (set s.views id u') ≡ total has_issue_turn s.views = sum_same has_issue_turn s.views id v u' me (sym (ap turn_of turn)) in
+          let some_issue_turn : 0 < total has_issue_turn s.views = (let t = term_le has_issue_turn s.views id v me in let a : has_issue_turn v ≡ 1 = ap turn_of turn in omega (arith, t, a)) in
+          steps g e s o id v u' me after then (set s.words i 2) (set s.homes i (some (PendingEvent pending)))
           (record {
             names = λ j q. at_append o.handles h no_event j (λ r. let a = (o.are_handles.each_issued j).0 q in absurd (omega (arith, a, r)));
             issued = issued_on;
@@ -312,7 +312,7 @@ module _ (g : GraphValue) (e : Events) (s : St) (o : Shown g e s) (id : ℕ) (v 
           (λ j u other at. let fu = o.each_view j u at in record {
             claim = λ c q p. progress_on i (aside_staged i Issued o.run) c (λ r. true≢false (sym (working_issued c.ends p.stage) ∙ ap stage_issued (ap (stage_at o.run.stages) r ∙ stage'))) p;
             issuing = λ k q. let l = fu.issuer k q in absurd (nobody_else j u l.0 other at l.1);
-            desk = λ l q. absurd (nobody_else j u l other at q);
+            issue_turn = λ l q. absurd (nobody_else j u l other at q);
           })
           refl refl refl sound handles_then
           (record {
@@ -325,36 +325,36 @@ module _ (g : GraphValue) (e : Events) (s : St) (o : Shown g e s) (id : ℕ) (v 
             event = λ c q. at_append o.handles h no_event c.line (λ r. let a = (o.are_handles.each_issued c.line).0 (working_issued c.ends (f.claim c q).stage) in absurd (omega (arith, a, r))) ∙ f.event c q;
             issuing = λ k q. absurd (none-some k q);
             issuer = λ k q. absurd (none-some k q);
-            desk = λ l q. sym (same_Some (hs ++ h ∷ []) l q) ∙ ap (λ (y : List Handle). y ++ h ∷ []) same;
+            issue_turn = λ l q. sym (same_Some (hs ++ h ∷ []) l q) ∙ ap (λ (y : List Handle). y ++ h ∷ []) same;
             idle = λ n. let z = f.idle n in absurd (none-some hs (sym z.2 ∙ turn));
           })
           (λ k. sum_same (runs_at k) s.views id v u' me refl ∙ (o.works k ∙ elim (cases_eq k i) [
             | inl q ↦ ap (λ n. busy (stage_at o.run.stages n)) q ∙ (ap busy stage' ∙ sym (ap (λ n. busy (stage_at after.stages n)) q ∙ ap busy now))
             | inr n ↦ ap busy (sym (other_set o.run.stages Unissued i k Issued n))
           ]))
-          (at_line g e (size_of g) o.run o.handles (λ k. total (issues_at k) s.views) (λ k. total (owes_at k) s.views) (total has_desk s.views) s.words s.homes o.words
-          (λ k. total (issues_at k) (set s.views id u')) (λ k. total (owes_at k) (set s.views id u')) (total has_desk (set s.views id u'))
-          i near Issued then (set s.words i 2) (set s.homes i (some (Ticket ticket))) (words_set i 2 s.words) (slots_set i (some (Ticket ticket)) s.homes)
+          (at_line g e (size_of g) o.run o.handles (λ k. total (issues_at k) s.views) (λ k. total (owes_at k) s.views) (total has_issue_turn s.views) s.words s.homes o.words
+          (λ k. total (issues_at k) (set s.views id u')) (λ k. total (owes_at k) (set s.views id u')) (total has_issue_turn (set s.views id u'))
+          i near Issued then (set s.words i 2) (set s.homes i (some (PendingEvent pending))) (words_set i 2 s.words) (slots_set i (some (PendingEvent pending)) s.homes)
           (λ j n. at_append o.handles h no_event j (λ r. n (r ∙ long))) (λ j n. sum_same (issues_at j) s.views id v u' me (others_issue u' refl j n)) (λ j. sum_same (owes_at j) s.views id v u' me refl)
           (record {
-            home = some (Ticket ticket);
-            at = set_here s.homes i (some (Ticket ticket)) (let d = o.words.deep in omega (arith, d, near));
+            home = some (PendingEvent pending);
+            at = set_here s.homes i (some (PendingEvent pending)) (let d = o.words.deep in omega (arith, d, near));
             shown = (
               none_left u' refl,
               get_or-set_same s.words i 2 0 (let d = o.words.wide in omega (arith, d, near)),
-              record { ticket = ticket; here = refl; of = of; named = sym (ap (λ n. handle_at then n) (sym long) ∙ at_end o.handles h no_event) },
+              record { pending = pending; here = refl; of = of; named = sym (ap (λ n. handle_at then n) (sym long) ∙ at_end o.handles h no_event) },
             );
           })
           there
           (record {
-            home = o.words.desk.home;
-            at = o.words.desk.at;
-            shown = subst (λ k. DeskShown e (size_of g).lines then k (get_or s.words (desk_word (size_of g)) 0) o.words.desk.home) (sym desks)
-                (desk_out e (size_of g).lines o.handles then (total has_desk s.views) (get_or s.words (desk_word (size_of g)) 0) o.words.desk.home some_desk o.words.desk.shown);
+            home = o.words.issue_turn.home;
+            at = o.words.issue_turn.at;
+            shown = subst (λ k. IssueTurnShown e (size_of g).lines then k (get_or s.words (issue_turn_word (size_of g)) 0) o.words.issue_turn.home) (sym issue_turns)
+                (issue_turn_out e (size_of g).lines o.handles then (total has_issue_turn s.views) (get_or s.words (issue_turn_word (size_of g)) 0) o.words.issue_turn.home some_issue_turn o.words.issue_turn.shown);
           }))
           issue_learns
 
-pub begins_issue_allow : (g : GraphValue) (e : Events) (slots id i : ℕ) (m : Sat) (hs : List Handle) → i < length g.lines → m.0.desk ≡ Some hs → length hs ≡ i → m.0.issuing ≡ None → Allows (Shown g e) slots id m i (λ n. either (n == 0) 1 n) (begins_issue i m)
+pub begins_issue_allow : (g : GraphValue) (e : Events) (slots id i : ℕ) (m : Sat) (hs : List Handle) → i < length g.lines → m.0.issue_turn ≡ Some hs → length hs ≡ i → m.0.issuing ≡ None → Allows (Shown g e) slots id m i (λ n. either (n == 0) 1 n) (begins_issue i m)
 begins_issue_allow g e slots id i m hs near turn next quiet s o wide me low =
     let v = m.0 in
     let r = get_or s.words i 0 in
@@ -369,18 +369,18 @@ begins_issue_allow g e slots id i m hs near turn next quiet s o wide me low =
     ))
     (λ ne. absurd (ne free))
 
-pub issues_allow : (g : GraphValue) (e : Events) (slots id i : ℕ) (v : View) (hand left : List (ℕ × Content)) (hs : List Handle) (ticket : Pending) → i < length g.lines → v.desk ≡ Some hs → v.issuing ≡ Some i → length hs ≡ i → hand ≡ (i, Ticket ticket) ∷ left → IsPendingOf e ticket → (Contains hs (handle_of ticket) → ⊥)
+pub issues_allow : (g : GraphValue) (e : Events) (slots id i : ℕ) (v : View) (hand left : List (ℕ × Content)) (hs : List Handle) (pending : Pending) → i < length g.lines → v.issue_turn ≡ Some hs → v.issuing ≡ Some i → length hs ≡ i → hand ≡ (i, PendingEvent pending) ∷ left → IsPendingOf e pending → (Contains hs (handle_of pending) → ⊥)
     → Allows (Shown g e) slots id (v, hand) i (λ _. 2) (λ _. issues i (v, hand))
-issues_allow g e slots id i v hand left hs ticket near turn mine next tops of new =
+issues_allow g e slots id i v hand left hs pending near turn mine next tops of new =
     subst (λ l. Allows (Shown g e) slots id (v, l) i (λ _. 2) (λ _. issues i (v, l))) (sym tops) (λ s o wide me low. (
-      record v { issued = v.issued ++ i ∷ []; issuing = None; desk = Some (hs ++ handle_of ticket ∷ []) },
+      record v { issued = v.issued ++ i ∷ []; issuing = None; issue_turn = Some (hs ++ handle_of pending ∷ []) },
       gives,
       tt,
-      issue_rule g e s o id v me i near hs turn mine next ticket of new,
-      ap (λ (y : Option (List Handle)). sat (record v { issued = v.issued ++ i ∷ []; issuing = None; desk = y }) left) (sym (ap (option_map (λ (l : List Handle). l ++ handle_of ticket ∷ [])) turn)),
+      issue_rule g e s o id v me i near hs turn mine next pending of new,
+      ap (λ (y : Option (List Handle)). sat (record v { issued = v.issued ++ i ∷ []; issuing = None; issue_turn = y }) left) (sym (ap (option_map (λ (l : List Handle). l ++ handle_of pending ∷ [])) turn)),
     ))
 
-pub gives_up_issue_allow : (g : GraphValue) (e : Events) (slots id i : ℕ) (v : View) (hand left : List (ℕ × Content)) (hs : List Handle) → i < length g.lines → v.desk ≡ Some hs → v.issuing ≡ Some i → hand ≡ (i, Nothing) ∷ left
+pub gives_up_issue_allow : (g : GraphValue) (e : Events) (slots id i : ℕ) (v : View) (hand left : List (ℕ × Content)) (hs : List Handle) → i < length g.lines → v.issue_turn ≡ Some hs → v.issuing ≡ Some i → hand ≡ (i, Nothing) ∷ left
     → Allows (Shown g e) slots id (v, hand) i (λ _. 0) (λ _. gives_up_issue (v, hand))
 gives_up_issue_allow g e slots id i v hand left hs near turn mine tops =
     subst (λ l. Allows (Shown g e) slots id (v, l) i (λ _. 0) (λ _. gives_up_issue (v, l))) (sym tops) (λ s o wide me low. (

@@ -113,7 +113,7 @@ module _ (g : GraphValue) (e : Events) (s : St) (o : Shown g e s) (id i : ℕ) (
         event = f.event;
         issuing = f.issuing;
         issuer = f.issuer;
-        desk = f.desk;
+        issue_turn = f.issue_turn;
         idle = f.idle;
       }
 
@@ -153,7 +153,7 @@ saw_rule g e s o id v me w r = let f = o.each_view id v me in own_goes g e s o i
   event = f.event;
   issuing = f.issuing;
   issuer = f.issuer;
-  desk = f.desk;
+  issue_turn = f.issue_turn;
   idle = f.idle;
 })
     (still o.run o.handles v (saw_at v w r) (record { issued = λ j c. c; ended = λ j x c. c; times = λ j t c. c }) (λ q. q))

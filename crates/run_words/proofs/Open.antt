@@ -18,9 +18,9 @@ use Rattle.run_state.specs.Run.{LineStage, Unissued, Home, stage_at, stage_issue
 use Rattle.run_state.specs.Start.{start, zeros, first_value}
 use Rattle.run_state.proofs.Start.{start_is_sound}
 use Rattle.run_words.specs.declared.content.Content.{Content}
-use Rattle.run_words.specs.declared.content.Content.TheVariants.{Nothing, Cells, Tray}
+use Rattle.run_words.specs.declared.content.Content.TheVariants.{Nothing, Cells, Issuer}
 use Rattle.run_words.specs.declared.view.View.{View}
-use Rattle.run_words.specs.Layout.{size_of, turn_word, column_slot, desk_slot}
+use Rattle.run_words.specs.Layout.{size_of, turn_word, column_slot, issue_turn_slot}
 use Rattle.run_words.specs.Views.{time_code, busy}
 use Rattle.run_words.specs.Rule.{ground_of, LineShown, handle_at, ColumnShown, column_with, lock_code, Fits, Shown, opener}
 use Rattle.run_words.proofs.LockCodes.{code_none}
@@ -54,7 +54,7 @@ opens g e ws xs graph accepted w x =
       event = λ y q. absurd (none-some y q);
       issuing = λ y q. absurd (none-some y q);
       issuer = λ y q. absurd (none-some y q);
-      desk = λ y q. absurd (none-some y q);
+      issue_turn = λ y q. absurd (none-some y q);
       idle = λ _. (refl, refl, refl);
     } in
     record {
@@ -83,10 +83,10 @@ opens g e ws xs graph accepted w x =
         };
         locks = λ l h. w.locks l h ∙ (sym (code_none g) ∙ ap (lock_code g) (sym (same_at {X = List ℕ} [] (length (locks g)) l)));
         clock = w.clock;
-        desk = record {
-          home = some (Tray x.tray);
-          at = at_slot xs (desk_slot z) (Tray x.tray) x.desk;
-          shown = (w.desk, record { tray = x.tray; here = refl; is_tray = x.is_tray });
+        issue_turn = record {
+          home = some (Issuer x.issue_state);
+          at = at_slot xs (issue_turn_slot z) (Issuer x.issue_state) x.issue_turn;
+          shown = (w.issue_turn, record { issue_state = x.issue_state; here = refl; is_issue_state = x.is_issue_state });
         };
       };
       each_view = λ j u q. subst (Fits g e (start g) []) (one j u q) fits;

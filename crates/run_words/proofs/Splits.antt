@@ -17,7 +17,7 @@ use Rattle.basics.proofs.ListFacts.{contains_none}
 use Rattle.run_state.specs.Run.{Run}
 use Rattle.run_words.specs.declared.view.View.{View}
 use Rattle.run_words.specs.Layout.{size_of}
-use Rattle.run_words.specs.Views.{claim_at, runs_at, number_at, issues_at, late_at, owes_at, turn_of, has_desk}
+use Rattle.run_words.specs.Views.{claim_at, runs_at, number_at, issues_at, late_at, owes_at, turn_of, has_issue_turn}
 use Rattle.run_words.specs.Rule.{Fits, AreNumbered, HasHandles, IsKnown, Shown}
 use Rattle.run_words.specs.Plays.{no_view, parent_of, child_of, joined}
 use Rattle.run_words.specs.Premises.{HasNoRights}
@@ -27,15 +27,15 @@ use Rattle.run_words.proofs.Steps.{St, board, sum_same}
 use Rattle.run_words.proofs.Numbers.{split_numbers, join_numbers}
 
 -- other views of the same weights, each of which fits
-pub same_board : (g : GraphValue) (e : Events) (s : St) (o : Shown g e s) (vs : List View) → ((k : ℕ) → total (issues_at k) vs ≡ total (issues_at k) s.views) → ((k : ℕ) → total (owes_at k) vs ≡ total (owes_at k) s.views) → total has_desk vs ≡ total has_desk s.views
+pub same_board : (g : GraphValue) (e : Events) (s : St) (o : Shown g e s) (vs : List View) → ((k : ℕ) → total (issues_at k) vs ≡ total (issues_at k) s.views) → ((k : ℕ) → total (owes_at k) vs ≡ total (owes_at k) s.views) → total has_issue_turn vs ≡ total has_issue_turn s.views
     → ((k : ℕ) → total (runs_at k) vs ≡ total (runs_at k) s.views) → ((j : ℕ) (u : View) → get_elem? vs j ≡ some u → Fits g e o.run o.handles u) → AreNumbered vs → IsKnown o.run o.handles vs → Shown g e (board s.words s.homes vs)
 same_board g e s o vs ei eo ed er fits numbers known = record {
   run = o.run;
   handles = o.handles;
   sound = o.sound;
   are_handles = o.are_handles;
-  words = at_views g e (size_of g) o.run o.handles (λ k. total (issues_at k) s.views) (λ k. total (owes_at k) s.views) (total has_desk s.views) s.words s.homes o.words
-      (λ k. total (issues_at k) vs) (λ k. total (owes_at k) vs) (total has_desk vs) ei eo ed;
+  words = at_views g e (size_of g) o.run o.handles (λ k. total (issues_at k) s.views) (λ k. total (owes_at k) s.views) (total has_issue_turn s.views) s.words s.homes o.words
+      (λ k. total (issues_at k) vs) (λ k. total (owes_at k) vs) (total has_issue_turn vs) ei eo ed;
   each_view = fits;
   works = λ k. er k ∙ o.works k;
   numbers = numbers;
@@ -43,7 +43,7 @@ same_board g e s o vs ei eo ed er fits numbers known = record {
 }
 
 -- a view that knows what another does, and has no rights
-pub no_rights : {g : GraphValue} {e : Events} {run : Run} {handles : List Handle} (v w : View) → Fits g e run handles v → w.keys ≡ v.keys → w.issued ≡ v.issued → w.ended ≡ v.ended → w.named ≡ v.named → w.times ≡ [] → w.claim ≡ None → w.issuing ≡ None → w.desk ≡ None → Fits g e run handles w
+pub no_rights : {g : GraphValue} {e : Events} {run : Run} {handles : List Handle} (v w : View) → Fits g e run handles v → w.keys ≡ v.keys → w.issued ≡ v.issued → w.ended ≡ v.ended → w.named ≡ v.named → w.times ≡ [] → w.claim ≡ None → w.issuing ≡ None → w.issue_turn ≡ None → Fits g e run handles w
 no_rights v w f ek ei ee en et c i d = record {
   keys = λ x h. f.keys x (subst (λ l. Contains l x) ek h);
   issued = λ j h. f.issued j (subst (λ l. Contains l j) ei h);
@@ -54,7 +54,7 @@ no_rights v w f ek ei ee en et c i d = record {
   event = λ y q. absurd (none-some y (sym c ∙ q));
   issuing = λ y q. absurd (none-some y (sym i ∙ q));
   issuer = λ y q. absurd (none-some y (sym i ∙ q));
-  desk = λ y q. absurd (none-some y (sym d ∙ q));
+  issue_turn = λ y q. absurd (none-some y (sym d ∙ q));
   idle = λ _. (c, i, d);
 }
 
@@ -69,12 +69,12 @@ none_fits g e run handles = record {
   event = λ y q. absurd (none-some y q);
   issuing = λ y q. absurd (none-some y q);
   issuer = λ y q. absurd (none-some y q);
-  desk = λ y q. absurd (none-some y q);
+  issue_turn = λ y q. absurd (none-some y q);
   idle = λ _. (refl, refl, refl);
 }
 
 parent_fits : {g : GraphValue} {e : Events} {run : Run} {handles : List Handle} (v : View) → Fits g e run handles v → Fits g e run handles (parent_of v)
-parent_fits v f = record { keys = f.keys; issued = f.issued; ended = f.ended; times = f.times; named = f.named; claim = f.claim; event = f.event; issuing = f.issuing; issuer = f.issuer; desk = f.desk; idle = f.idle }
+parent_fits v f = record { keys = f.keys; issued = f.issued; ended = f.ended; times = f.times; named = f.named; claim = f.claim; event = f.event; issuing = f.issuing; issuer = f.issuer; issue_turn = f.issue_turn; idle = f.idle }
 
 -- a seat that is split off weighs nothing
 split_sum : (f : View → ℕ) (vs : List View) (id : ℕ) (v : View) → get_elem? vs id ≡ some v → f (parent_of v) ≡ f v → f (child_of v) ≡ 0 → total f (set vs id (parent_of v) ++ child_of v ∷ []) ≡ total f vs
@@ -82,7 +82,7 @@ split_sum f vs id v me ep ec = let a = total-append f (set vs id (parent_of v)) 
 
 pub splits : (g : GraphValue) (e : Events) (id : ℕ) (v : View) (p : ℕ) (ps : List ℕ) → v.mine ≡ p ∷ ps → Splits (Shown g e) id v (parent_of v) (child_of v)
 splits g e id v p ps own s o me = same_board g e s o (set s.views id (parent_of v) ++ child_of v ∷ [])
-    (λ k. split_sum (issues_at k) s.views id v me refl refl) (λ k. split_sum (owes_at k) s.views id v me refl refl) (split_sum has_desk s.views id v me refl refl) (λ k. split_sum (runs_at k) s.views id v me refl refl)
+    (λ k. split_sum (issues_at k) s.views id v me refl refl) (λ k. split_sum (owes_at k) s.views id v me refl refl) (split_sum has_issue_turn s.views id v me refl refl) (λ k. split_sum (runs_at k) s.views id v me refl refl)
     (λ j u at. ⊎_elim
     (λ l. elim (at_set s.views id j (parent_of v) u l) [ inl (here, is) ↦ subst (Fits g e o.run o.handles) is (parent_fits v (o.each_view id v me)) | inr (other, before) ↦ o.each_view j u before ])
     (λ (q : child_of v ≡ u). subst (Fits g e o.run o.handles) q (no_rights v (child_of v) (o.each_view id v me) refl refl refl refl refl refl refl refl))
@@ -101,14 +101,14 @@ joined_fits v w p ps own f h = record {
   event = f.event;
   issuing = f.issuing;
   issuer = f.issuer;
-  desk = f.desk;
+  issue_turn = f.issue_turn;
   idle = λ n. absurd (grind (arith, ap (λ (l : List ℕ). length (l ++ w.mine)) (sym own), ap (λ (l : List ℕ). length l) n));
 }
 
 join_sum : (f : View → ℕ) (vs : List View) (id other : ℕ) (v w : View) → get_elem? vs id ≡ some v → (other ≡ id → ⊥) → get_elem? (set vs id (joined v w)) other ≡ some w → f (joined v w) ≡ f v → f w ≡ 0 → f no_view ≡ 0 → total f (set (set vs id (joined v w)) other no_view) ≡ total f vs
 join_sum f vs id other v w me apart them ej ew en = let a = total-set f vs id v (joined v w) me in let b = total-set f (set vs id (joined v w)) other w no_view them in omega (arith, a, b, ej, ew, en)
 
-joined_known : {run : Run} {handles : List Handle} (vs : List View) (id other : ℕ) (v w : View) → get_elem? vs id ≡ some v → get_elem? vs other ≡ some w → (other ≡ id → ⊥) → (p : ℕ) (ps : List ℕ) → v.mine ≡ p ∷ ps → w.desk ≡ None
+joined_known : {run : Run} {handles : List Handle} (vs : List View) (id other : ℕ) (v w : View) → get_elem? vs id ≡ some v → get_elem? vs other ≡ some w → (other ≡ id → ⊥) → (p : ℕ) (ps : List ℕ) → v.mine ≡ p ∷ ps → w.issue_turn ≡ None
     → IsKnown run handles vs → IsKnown run handles (set (set vs id (joined v w)) other no_view)
 joined_known {handles = handles} vs id other v w me there apart p ps own none k =
     let whole : (joined v w).mine ≢ [] = λ n. absurd (grind (arith, ap (λ (l : List ℕ). length (l ++ w.mine)) (sym own), ap (λ (l : List ℕ). length l) n)) in
@@ -128,7 +128,7 @@ joins g e id other v w p ps own free s o me apart them =
     same_board g e s o (set (set s.views id (joined v w)) other no_view)
     (λ k. join_sum (issues_at k) s.views id other v w me apart them refl (ap (number_at k) free.issuing) refl)
     (λ k. join_sum (owes_at k) s.views id other v w me apart them refl (ap (late_at k) free.claim) refl)
-    (join_sum has_desk s.views id other v w me apart them refl (ap turn_of free.desk) refl)
+    (join_sum has_issue_turn s.views id other v w me apart them refl (ap turn_of free.issue_turn) refl)
     (λ k. join_sum (runs_at k) s.views id other v w me apart them refl (ap (claim_at k) free.claim) refl)
     (λ j u at. elim (at_set (set s.views id (joined v w)) other j no_view u at) [
       | inl (here, is) ↦ subst (Fits g e o.run o.handles) is (none_fits g e o.run o.handles)
@@ -138,4 +138,4 @@ joins g e id other v w p ps own free s o me apart them =
       ]
     ])
     (join_numbers s.views o.numbers id other v w me apart there p ps own)
-    (joined_known s.views id other v w me there apart p ps own free.desk o.known)
+    (joined_known s.views id other v w me there apart p ps own free.issue_turn o.known)

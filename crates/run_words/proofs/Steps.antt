@@ -20,7 +20,7 @@ use Rattle.run_words.specs.declared.content.Content.{Content}
 use Rattle.run_words.specs.declared.view.View.{View}
 use Rattle.run_words.specs.Claims.{Claim}
 use Rattle.run_words.specs.Layout.{size_of}
-use Rattle.run_words.specs.Views.{claim_at, runs_at, number_at, issues_at, late_at, owes_at, turn_of, has_desk, busy, working}
+use Rattle.run_words.specs.Views.{claim_at, runs_at, number_at, issues_at, late_at, owes_at, turn_of, has_issue_turn, busy, working}
 use Rattle.run_words.specs.Rule.{AreHandles, WordsShow, Progress, HasEndedAt, Fits, HasHandles, AreNumbered, Shown, child, handle_at}
 use Rattle.run_words.proofs.Aside.{Aside, progress_on, working_not_ended}
 use Rattle.run_words.proofs.Frames.{at_views}
@@ -113,7 +113,7 @@ pub record Goes (run after : Run) (handles then : List Handle) : Type 0 where
 pub record Spares (g : GraphValue) (run after : Run) (then : List Handle) (u : View) : Type 0 where
   pub claim : (c : Claim) → u.claim ≡ Some c → Progress g run c → Progress g after c
   pub issuing : (k : ℕ) → u.issuing ≡ Some k → stage_at after.stages k ≡ Unissued
-  pub desk : (hs : List Handle) → u.desk ≡ Some hs → hs ≡ then
+  pub issue_turn : (hs : List Handle) → u.issue_turn ≡ Some hs → hs ≡ then
 
 pub fits_on : {g : GraphValue} {e : Events} {run after : Run} {handles then : List Handle} (u : View) → Goes run after handles then → Spares g run after then u → Fits g e run handles u → Fits g e after then u
 fits_on u go s f = record {
@@ -126,7 +126,7 @@ fits_on u go s f = record {
   event = λ c q. go.names c.line (working_issued c.ends (f.claim c q).stage) ∙ f.event c q;
   issuing = λ k q. (s.issuing k q, (f.issuing k q).1);
   issuer = f.issuer;
-  desk = s.desk;
+  issue_turn = s.issue_turn;
   idle = f.idle;
 }
 
@@ -155,7 +155,7 @@ module _ (g : GraphValue) (e : Events) (s : St) (o : Shown g e s) (id : ℕ) (v 
       → w.mine ≡ v.mine → w.births ≡ v.births → w.splits ≡ v.splits
       → Sound g after → AreHandles after.stages then → Fits g e after then w
       → ((k : ℕ) → total (runs_at k) (set s.views id w) ≡ busy (stage_at after.stages k))
-      → WordsShow g e (size_of g) after then (λ k. total (issues_at k) (set s.views id w)) (λ k. total (owes_at k) (set s.views id w)) (total has_desk (set s.views id w)) ws hs
+      → WordsShow g e (size_of g) after then (λ k. total (issues_at k) (set s.views id w)) (λ k. total (owes_at k) (set s.views id w)) (total has_issue_turn (set s.views id w)) ws hs
       → Learns o.run after o.handles then v w
       → Shown g e (board ws hs (set s.views id w))
   steps after then ws hs go spares em eb es sound named fits works words learns = record {
@@ -174,25 +174,25 @@ module _ (g : GraphValue) (e : Events) (s : St) (o : Shown g e s) (id : ℕ) (v 
   }
 
   -- THE RUN STAYS, and the seat's rights do
-  same_words : ((k : ℕ) → issues_at k w ≡ issues_at k v) → ((k : ℕ) → owes_at k w ≡ owes_at k v) → has_desk w ≡ has_desk v
-      → WordsShow g e (size_of g) o.run o.handles (λ k. total (issues_at k) (set s.views id w)) (λ k. total (owes_at k) (set s.views id w)) (total has_desk (set s.views id w)) s.words s.homes
-  same_words ei eo ed = at_views g e (size_of g) o.run o.handles (λ k. total (issues_at k) s.views) (λ k. total (owes_at k) s.views) (total has_desk s.views) s.words s.homes o.words
-      (λ k. total (issues_at k) (set s.views id w)) (λ k. total (owes_at k) (set s.views id w)) (total has_desk (set s.views id w))
-      (λ k. sum_same (issues_at k) s.views id v w me (ei k)) (λ k. sum_same (owes_at k) s.views id v w me (eo k)) (sum_same has_desk s.views id v w me ed)
+  same_words : ((k : ℕ) → issues_at k w ≡ issues_at k v) → ((k : ℕ) → owes_at k w ≡ owes_at k v) → has_issue_turn w ≡ has_issue_turn v
+      → WordsShow g e (size_of g) o.run o.handles (λ k. total (issues_at k) (set s.views id w)) (λ k. total (owes_at k) (set s.views id w)) (total has_issue_turn (set s.views id w)) s.words s.homes
+  same_words ei eo ed = at_views g e (size_of g) o.run o.handles (λ k. total (issues_at k) s.views) (λ k. total (owes_at k) s.views) (total has_issue_turn s.views) s.words s.homes o.words
+      (λ k. total (issues_at k) (set s.views id w)) (λ k. total (owes_at k) (set s.views id w)) (total has_issue_turn (set s.views id w))
+      (λ k. sum_same (issues_at k) s.views id v w me (ei k)) (λ k. sum_same (owes_at k) s.views id v w me (eo k)) (sum_same has_issue_turn s.views id v w me ed)
 
   pub run_stays : w.mine ≡ v.mine → w.births ≡ v.births → w.splits ≡ v.splits → ((k : ℕ) → runs_at k w ≡ runs_at k v) → Fits g e o.run o.handles w → Learns o.run o.run o.handles o.handles v w → (ws : List ℕ) (hs : List (mathlib.Core.Option.Option Content))
-      → WordsShow g e (size_of g) o.run o.handles (λ k. total (issues_at k) (set s.views id w)) (λ k. total (owes_at k) (set s.views id w)) (total has_desk (set s.views id w)) ws hs
+      → WordsShow g e (size_of g) o.run o.handles (λ k. total (issues_at k) (set s.views id w)) (λ k. total (owes_at k) (set s.views id w)) (total has_issue_turn (set s.views id w)) ws hs
       → Shown g e (board ws hs (set s.views id w))
   run_stays em eb es er fits learns ws hs words = steps o.run o.handles ws hs (record { names = λ j h. refl; issued = λ j h. h; ended = λ j x h. h; times = λ j t h. h; begins = λ l h. h })
-      (λ j u other at. let f = o.each_view j u at in record { claim = λ c q p. p; issuing = λ k q. (f.issuing k q).0; desk = f.desk })
+      (λ j u other at. let f = o.each_view j u at in record { claim = λ c q p. p; issuing = λ k q. (f.issuing k q).0; issue_turn = f.issue_turn })
       em eb es o.sound o.are_handles fits (λ k. sum_same (runs_at k) s.views id v w me (er k) ∙ o.works k) words learns
 
-  pub own_goes : w.mine ≡ v.mine → w.births ≡ v.births → w.splits ≡ v.splits → w.claim ≡ v.claim → w.issuing ≡ v.issuing → w.desk ≡ v.desk → Fits g e o.run o.handles w → Learns o.run o.run o.handles o.handles v w → Shown g e (board s.words s.homes (set s.views id w))
+  pub own_goes : w.mine ≡ v.mine → w.births ≡ v.births → w.splits ≡ v.splits → w.claim ≡ v.claim → w.issuing ≡ v.issuing → w.issue_turn ≡ v.issue_turn → Fits g e o.run o.handles w → Learns o.run o.run o.handles o.handles v w → Shown g e (board s.words s.homes (set s.views id w))
   own_goes em eb es ec ei ed fits learns = run_stays em eb es (λ k. ap (claim_at k) ec) fits learns s.words s.homes (same_words (λ k. ap (number_at k) ei) (λ k. ap (late_at k) ec) (ap turn_of ed))
 
   -- THE WORK OF A LINE goes on: the seat that has it keeps it
   module _ (c c' : Claim) (has : v.claim ≡ Some c) (line : c'.line ≡ c.line) (event : c'.event ≡ c.event)
-      (is : w ≡ record { keys = v.keys; mine = v.mine; births = v.births; splits = v.splits; issued = v.issued; ended = v.ended; named = v.named; saw = w.saw; trays = w.trays; laid = w.laid; gave_up = w.gave_up; closed = w.closed; times = v.times; let_go = w.let_go; claim = Some c'; issuing = v.issuing; desk = v.desk }) where
+      (is : w ≡ record { keys = v.keys; mine = v.mine; births = v.births; splits = v.splits; issued = v.issued; ended = v.ended; named = v.named; saw = w.saw; issue_states = w.issue_states; laid = w.laid; gave_up = w.gave_up; closed = w.closed; times = v.times; let_go = w.let_go; claim = Some c'; issuing = v.issuing; issue_turn = v.issue_turn }) where
     goes_on : (after : Run) → Aside c.line o.run after → Progress g after c' → Goes o.run after o.handles o.handles
     goes_on after a p =
         let f = o.each_view id v me in
@@ -241,13 +241,13 @@ module _ (g : GraphValue) (e : Events) (s : St) (o : Shown g e s) (id : ℕ) (v 
     unissued_other k u q = true≢false (sym (working_issued c.ends ((o.each_view id v me).claim c has).stage) ∙ ap stage_issued (ap (stage_at o.run.stages) (sym q) ∙ u))
 
     pub claim_goes : (after : Run) (ws : List ℕ) (hs : List (mathlib.Core.Option.Option Content)) → Aside c.line o.run after → Progress g after c' → Sound g after → ((j : ℕ) → issued after.stages j ≡ issued o.run.stages j)
-        → WordsShow g e (size_of g) after o.handles (λ k. total (issues_at k) (set s.views id w)) (λ k. total (owes_at k) (set s.views id w)) (total has_desk (set s.views id w)) ws hs
+        → WordsShow g e (size_of g) after o.handles (λ k. total (issues_at k) (set s.views id w)) (λ k. total (owes_at k) (set s.views id w)) (total has_issue_turn (set s.views id w)) ws hs
         → Shown g e (board ws hs (set s.views id w))
     claim_goes after ws hs a p sound same words =
         let f = o.each_view id v me in
         let go = goes_on after a p in
         let wc : w.claim ≡ Some c' = ap (λ (x : View). x.claim) is in
-        let fits : Fits g e after o.handles (record { keys = v.keys; mine = v.mine; births = v.births; splits = v.splits; issued = v.issued; ended = v.ended; named = v.named; saw = w.saw; trays = w.trays; laid = w.laid; gave_up = w.gave_up; closed = w.closed; times = v.times; let_go = w.let_go; claim = Some c'; issuing = v.issuing; desk = v.desk }) = record {
+        let fits : Fits g e after o.handles (record { keys = v.keys; mine = v.mine; births = v.births; splits = v.splits; issued = v.issued; ended = v.ended; named = v.named; saw = w.saw; issue_states = w.issue_states; laid = w.laid; gave_up = w.gave_up; closed = w.closed; times = v.times; let_go = w.let_go; claim = Some c'; issuing = v.issuing; issue_turn = v.issue_turn }) = record {
           keys = f.keys;
           issued = λ j h. go.issued j (f.issued j h);
           ended = λ j x h. go.ended j x (f.ended j x h);
@@ -257,14 +257,14 @@ module _ (g : GraphValue) (e : Events) (s : St) (o : Shown g e s) (id : ℕ) (v 
           event = λ d q. subst (λ (x : Claim). handle_at o.handles x.line ≡ x.event) (same_Some c' d q) (ap (handle_at o.handles) line ∙ (f.event c has ∙ sym event));
           issuing = λ k q. let u = f.issuing k q in (a.stages k (unissued_other k u.0) ∙ u.0, u.1);
           issuer = f.issuer;
-          desk = f.desk;
+          issue_turn = f.issue_turn;
           idle = λ n. absurd (none-some c (sym (f.idle n).0 ∙ has));
         } in
         steps after o.handles ws hs go
         (λ j u other at. let fu = o.each_view j u at in record {
           claim = λ d q p. progress_on c.line a d (works_alone c.line j u c d other at has refl q) p;
           issuing = λ k q. let uk = (fu.issuing k q).0 in a.stages k (unissued_other k uk) ∙ uk;
-          desk = fu.desk;
+          issue_turn = fu.issue_turn;
         })
         (ap (λ (x : View). x.mine) is) (ap (λ (x : View). x.births) is) (ap (λ (x : View). x.splits) is)
         sound

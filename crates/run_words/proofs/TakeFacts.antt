@@ -21,8 +21,8 @@ use Rattle.run_state.proofs.Public.{cancelled_iff}
 use Rattle.run_parts.specs.declared.answers.Thing.{Thing}
 use Rattle.run_parts.specs.declared.answers.Thing.TheVariants as things
 use Rattle.run_words.specs.declared.content.Content.{Content}
-use Rattle.run_words.specs.declared.content.Desk.{Desk}
-use Rattle.run_words.specs.declared.content.Content.TheVariants.{Ticket}
+use Rattle.run_words.specs.declared.content.IssueState.{IssueState}
+use Rattle.run_words.specs.declared.content.Content.TheVariants.{PendingEvent}
 use Rattle.run_words.specs.declared.view.View.{View}
 use Rattle.run_words.specs.declared.words.Words.{Words}
 use Rattle.run_words.specs.Claims.{Claim, new_claim}
@@ -38,7 +38,7 @@ use Rattle.run_words.specs.Sources.{cancels_in}
 use Rattle.run_words.specs.Laden.{Taking}
 use Rattle.run_words.specs.Attempts.{IsClaimed, IsHeldAfter, IsLoaded, IsRefused, HasAllOf, IsRefusedAll, IsColumn, LetGoFor}
 use Rattle.run_words.proofs.AnswerFacts.{busy_later}
-use Rattle.run_words.proofs.Desking.{has_key}
+use Rattle.run_words.proofs.TakingTurn.{has_key}
 use Rattle.run_words.proofs.Turns.{sat}
 
 abbrev Left : Type 0
@@ -60,12 +60,12 @@ taking_first g line v h b left m real q = record {
   size = refl;
 }
 
-pub all_of : (g : GraphValue) (line : ℕ) (v : View) (ticket : Pending) (b : Bool) (m : Sat) (held : List (ℕ × ColumnValue)) → IsLoaded g line v (holding b (new_claim line (handle_of ticket))) ((line, Ticket ticket) ∷ []) m held → ((l : ℕ) → Acquires g line l → eval_end g line ≢ Cancelled → b ≡ true) → HasAllOf g line false v ticket m held
-all_of g line v ticket b m held l holds = record {
+pub all_of : (g : GraphValue) (line : ℕ) (v : View) (pending : Pending) (b : Bool) (m : Sat) (held : List (ℕ × ColumnValue)) → IsLoaded g line v (holding b (new_claim line (handle_of pending))) ((line, PendingEvent pending) ∷ []) m held → ((l : ℕ) → Acquires g line l → eval_end g line ≢ Cancelled → b ≡ true) → HasAllOf g line false v pending m held
+all_of g line v pending b m held l holds = record {
   saw = (looked_at (saw_all v l.2) line l.0).saw;
   issued = (looked_at v line l.0).issued;
   ended = (looked_at v line l.0).ended;
-  claim = record (holding b (new_claim line (handle_of ticket))) { columns = l.1 };
+  claim = record (holding b (new_claim line (handle_of pending))) { columns = l.1 };
   named = refl;
   line_is = refl;
   going = refl;
@@ -76,12 +76,12 @@ all_of g line v ticket b m held l holds = record {
   loaded = λ _. l.3;
 }
 
-pub bare_of : (g : GraphValue) (line : ℕ) (v : View) (ticket : Pending) (b : Bool) (m : Sat) (held : List (ℕ × ColumnValue)) → b ≡ true → eval_end g line ≡ Cancelled → IsClaimed line v ticket m → HasAllOf g line b v ticket m held
-bare_of g line v ticket b m held is_so cancelled is = record {
+pub bare_of : (g : GraphValue) (line : ℕ) (v : View) (pending : Pending) (b : Bool) (m : Sat) (held : List (ℕ × ColumnValue)) → b ≡ true → eval_end g line ≡ Cancelled → IsClaimed line v pending m → HasAllOf g line b v pending m held
+bare_of g line v pending b m held is_so cancelled is = record {
   saw = v.saw;
   issued = v.issued;
   ended = v.ended;
-  claim = new_claim line (handle_of ticket);
+  claim = new_claim line (handle_of pending);
   named = refl;
   line_is = refl;
   going = refl;
@@ -100,27 +100,27 @@ column_any : (x : Thing) (before after : List ℕ) → IsColumn x → LetGoFor x
 column_any (things.Lock l) before after c = absurd c
 column_any (things.Column c) before after d = tt
 
-pub refused_held : (g : GraphValue) (line : ℕ) (v : View) (ticket : Pending) (thing : Thing) (m n : Sat) → IsRefused g line v (holding true (new_claim line (handle_of ticket))) ((line, Ticket ticket) ∷ []) thing m → lets_go m n → IsRefusedAll g line v ticket thing n
-refused_held g line v ticket thing m n r go = (r.0, v.let_go ++ line ∷ [], r.1, column_any thing v.let_go (v.let_go ++ line ∷ []) r.3, go ∙ ap (λ (y : Sat). sat (let_go_at y.0) y.1) r.2)
+pub refused_held : (g : GraphValue) (line : ℕ) (v : View) (pending : Pending) (thing : Thing) (m n : Sat) → IsRefused g line v (holding true (new_claim line (handle_of pending))) ((line, PendingEvent pending) ∷ []) thing m → lets_go m n → IsRefusedAll g line v pending thing n
+refused_held g line v pending thing m n r go = (r.0, v.let_go ++ line ∷ [], r.1, column_any thing v.let_go (v.let_go ++ line ∷ []) r.3, go ∙ ap (λ (y : Sat). sat (let_go_at y.0) y.1) r.2)
 
 -- of one that takes no reservation
-pub refused_bare : (g : GraphValue) (line : ℕ) (v : View) (ticket : Pending) (thing : Thing) (m : Sat) → IsRefused g line v (new_claim line (handle_of ticket)) ((line, Ticket ticket) ∷ []) thing m → IsRefusedAll g line v ticket thing m
-refused_bare g line v ticket thing m r = (r.0, v.let_go, r.1, column_any thing v.let_go v.let_go r.3, r.2)
+pub refused_bare : (g : GraphValue) (line : ℕ) (v : View) (pending : Pending) (thing : Thing) (m : Sat) → IsRefused g line v (new_claim line (handle_of pending)) ((line, PendingEvent pending) ∷ []) thing m → IsRefusedAll g line v pending thing m
+refused_bare g line v pending thing m r = (r.0, v.let_go, r.1, column_any thing v.let_go v.let_go r.3, r.2)
 
 -- the reservation was taken, at once or after its word was found
-pub held_at_once : (line : ℕ) (v : View) (ticket : Pending) (m n : Sat) → IsClaimed line v ticket m → n ≡ sat (on_claim (holding true) m.0) m.1 → IsHeldAfter line v ticket n
-held_at_once line v ticket m n is q = (
+pub held_at_once : (line : ℕ) (v : View) (pending : Pending) (m n : Sat) → IsClaimed line v pending m → n ≡ sat (on_claim (holding true) m.0) m.1 → IsHeldAfter line v pending n
+held_at_once line v pending m n is q = (
   [],
   q ∙ (ap (λ (y : Sat). sat (on_claim (holding true) y.0) y.1) is
-      ∙ ap (λ saw. sat (on_claim (holding true) (claimed_at (record v { saw = saw }) line (handle_of ticket))) ((line, Ticket ticket) ∷ [])) (sym (append-nil v.saw))),
+      ∙ ap (λ saw. sat (on_claim (holding true) (claimed_at (record v { saw = saw }) line (handle_of pending))) ((line, PendingEvent pending) ∷ [])) (sym (append-nil v.saw))),
 )
 
-pub held_then : (line w r : ℕ) (v : View) (ticket : Pending) (m n o : Sat) → IsClaimed line v ticket m → missed w m r n → o ≡ sat (on_claim (holding true) n.0) n.1 → IsHeldAfter line v ticket o
-held_then line w r v ticket m n o is q p = ((w, r) ∷ [], p ∙ ap (λ (y : Sat). sat (on_claim (holding true) y.0) y.1) (q ∙ ap (λ (y : Sat). sat (saw_at y.0 w r) y.1) is))
+pub held_then : (line w r : ℕ) (v : View) (pending : Pending) (m n o : Sat) → IsClaimed line v pending m → missed w m r n → o ≡ sat (on_claim (holding true) n.0) n.1 → IsHeldAfter line v pending o
+held_then line w r v pending m n o is q p = ((w, r) ∷ [], p ∙ ap (λ (y : Sat). sat (on_claim (holding true) y.0) y.1) (q ∙ ap (λ (y : Sat). sat (saw_at y.0 w r) y.1) is))
 
 -- what was found before the reservation was taken adds to what was found
-pub all_later : (g : GraphValue) (line : ℕ) (b : Bool) (v : View) (found : List (ℕ × ℕ)) (ticket : Pending) (m : Sat) (held : List (ℕ × ColumnValue)) → HasAllOf g line b (saw_all v found) ticket m held → HasAllOf g line b v ticket m held
-all_later g line b v found ticket m held h = record {
+pub all_later : (g : GraphValue) (line : ℕ) (b : Bool) (v : View) (found : List (ℕ × ℕ)) (pending : Pending) (m : Sat) (held : List (ℕ × ColumnValue)) → HasAllOf g line b (saw_all v found) pending m held → HasAllOf g line b v pending m held
+all_later g line b v found pending m held h = record {
   saw = h.saw;
   issued = h.issued;
   ended = h.ended;
@@ -135,40 +135,40 @@ all_later g line b v found ticket m held h = record {
   loaded = h.loaded;
 }
 
-pub refused_later : (g : GraphValue) (line : ℕ) (v : View) (found : List (ℕ × ℕ)) (ticket : Pending) (thing : Thing) (m : Sat) → IsRefusedAll g line (saw_all v found) ticket thing m → IsRefusedAll g line v ticket thing m
-refused_later g line v found ticket thing m h = (
+pub refused_later : (g : GraphValue) (line : ℕ) (v : View) (found : List (ℕ × ℕ)) (pending : Pending) (thing : Thing) (m : Sat) → IsRefusedAll g line (saw_all v found) pending thing m → IsRefusedAll g line v pending thing m
+refused_later g line v found pending thing m h = (
   found ++ h.0,
   h.1,
   busy_later g line thing found h.0 h.2,
   h.3,
-  h.4 ∙ ap (λ saw. sat (claimed_at (record v { saw = saw; let_go = h.1 }) line (handle_of ticket)) ((line, Ticket ticket) ∷ [])) (append_assoc v.saw found h.0),
+  h.4 ∙ ap (λ saw. sat (claimed_at (record v { saw = saw; let_go = h.1 }) line (handle_of pending)) ((line, PendingEvent pending) ∷ [])) (append_assoc v.saw found h.0),
 )
 
-pub may_lock : (g : GraphValue) (line l : ℕ) (v : View) (ticket : Pending) (m : Sat) → IsClaimed line v ticket m → Acquires g line l → eval_end g line ≢ Cancelled → MayLock g line l m.0
-may_lock g line l v ticket m is a real = record { claim = new_claim line (handle_of ticket); has = ap (λ (y : Sat). y.0.claim) is; is_line = refl; going = refl; untaken = refl; acquires = a; real = real }
+pub may_lock : (g : GraphValue) (line l : ℕ) (v : View) (pending : Pending) (m : Sat) → IsClaimed line v pending m → Acquires g line l → eval_end g line ≢ Cancelled → MayLock g line l m.0
+may_lock g line l v pending m is a real = record { claim = new_claim line (handle_of pending); has = ap (λ (y : Sat). y.0.claim) is; is_line = refl; going = refl; untaken = refl; acquires = a; real = real }
 
-pub may_lock_after : (g : GraphValue) (line l r : ℕ) (v : View) (ticket : Pending) (m n : Sat) → IsClaimed line v ticket m → missed (lock_word (size_of g) l) m r n → Acquires g line l → eval_end g line ≢ Cancelled → MayLock g line l n.0
-may_lock_after g line l r v ticket m n is q a real =
-    record { claim = new_claim line (handle_of ticket); has = ap (λ (y : Sat). y.0.claim) q ∙ ap (λ (y : Sat). y.0.claim) is; is_line = refl; going = refl; untaken = refl; acquires = a; real = real }
+pub may_lock_after : (g : GraphValue) (line l r : ℕ) (v : View) (pending : Pending) (m n : Sat) → IsClaimed line v pending m → missed (lock_word (size_of g) l) m r n → Acquires g line l → eval_end g line ≢ Cancelled → MayLock g line l n.0
+may_lock_after g line l r v pending m n is q a real =
+    record { claim = new_claim line (handle_of pending); has = ap (λ (y : Sat). y.0.claim) q ∙ ap (λ (y : Sat). y.0.claim) is; is_line = refl; going = refl; untaken = refl; acquires = a; real = real }
 
 -- its reservation was found with another line
-module _ (g : GraphValue) (line l : ℕ) (v : View) (ticket : Pending) (m : Sat) (is : IsClaimed line v ticket m) (a : Acquires g line l) where
+module _ (g : GraphValue) (line l : ℕ) (v : View) (pending : Pending) (m : Sat) (is : IsClaimed line v pending m) (a : Acquires g line l) where
   abbrev word : ℕ
   word = lock_word (size_of g) l
 
-  pub refused_held_lock : (r : ℕ) (n : Sat) → line_passes is_shared g line ≡ false → r ≢ 0 → r ≢ alone_code line → missed word m r n → IsRefusedAll g line v ticket (things.Lock l) n
+  pub refused_held_lock : (r : ℕ) (n : Sat) → line_passes is_shared g line ≡ false → r ≢ 0 → r ≢ alone_code line → missed word m r n → IsRefusedAll g line v pending (things.Lock l) n
   refused_held_lock r n own ne other q = ((word, r) ∷ [], v.let_go, (a, [], inl (own, (r, refl, ne, other))), refl, q ∙ ap (λ (y : Sat). sat (saw_at y.0 word r) y.1) is)
 
-  pub refused_alone : (r : ℕ) (n : Sat) → line_passes is_shared g line ≡ true → half ≤ r → missed word m r n → IsRefusedAll g line v ticket (things.Lock l) n
+  pub refused_alone : (r : ℕ) (n : Sat) → line_passes is_shared g line ≡ true → half ≤ r → missed word m r n → IsRefusedAll g line v pending (things.Lock l) n
   refused_alone r n own high q = ((word, r) ∷ [], v.let_go, (a, [], inr (own, inl (r, refl, high))), refl, q ∙ ap (λ (y : Sat). sat (saw_at y.0 word r) y.1) is)
 
-  pub refused_changed : (r s : ℕ) (n o : Sat) → line_passes is_shared g line ≡ true → s ≢ r → missed word m r n → missed word n s o → IsRefusedAll g line v ticket (things.Lock l) o
+  pub refused_changed : (r s : ℕ) (n o : Sat) → line_passes is_shared g line ≡ true → s ≢ r → missed word m r n → missed word n s o → IsRefusedAll g line v pending (things.Lock l) o
   refused_changed r s n o own ne q p = (
     (word, r) ∷ (word, s) ∷ [],
     v.let_go,
     (a, [], inr (own, inr (r, s, refl, ne))),
     refl,
-    p ∙ (ap (λ (y : Sat). sat (saw_at y.0 word s) y.1) (q ∙ ap (λ (y : Sat). sat (saw_at y.0 word r) y.1) is) ∙ ap (λ found. sat (record (claimed_at v line (handle_of ticket)) { saw = found }) ((line, Ticket ticket) ∷ [])) (append_assoc v.saw ((word, r) ∷ []) ((word, s) ∷ []))),
+    p ∙ (ap (λ (y : Sat). sat (saw_at y.0 word s) y.1) (q ∙ ap (λ (y : Sat). sat (saw_at y.0 word r) y.1) is) ∙ ap (λ found. sat (record (claimed_at v line (handle_of pending)) { saw = found }) ((line, PendingEvent pending) ∷ [])) (append_assoc v.saw ((word, r) ∷ []) ((word, s) ∷ []))),
   )
 
 -- whether a claimed line is cancelled
@@ -178,46 +178,46 @@ cancelled_so g e line b m n key h q =
     (λ t. both.0 (sym q ∙ t), λ f c. true≢false (sym (q ∙ both.1 c) ∙ f))
 
 -- the claim of a line that was just claimed
-pub is_claimed : (line : ℕ) (m n : Sat) (h : HasClaimed line m n) → m.1 ≡ [] → IsClaimed line m.0 h.ticket n
-is_claimed line m n h none = h.now ∙ ap (λ (hand : Left). sat (claimed_at m.0 line (handle_of h.ticket)) ((line, Ticket h.ticket) ∷ hand)) none
+pub is_claimed : (line : ℕ) (m n : Sat) (h : HasClaimed line m n) → m.1 ≡ [] → IsClaimed line m.0 h.pending n
+is_claimed line m n h none = h.now ∙ ap (λ (hand : Left). sat (claimed_at m.0 line (handle_of h.pending)) ((line, PendingEvent h.pending) ∷ hand)) none
 
 -- and of one that was refused
-pub may_unclaim : (g : GraphValue) (e : Events) (line : ℕ) (v : View) (ticket : Pending) (thing : Thing) (m : Sat) → IsRefusedAll g line v ticket thing m → IsPendingOf e ticket
-    → Has m.0 (λ cl. (cl.line ≡ line) × IsBare cl × ((ticket : Pending) × OnTop line (Ticket ticket) m.1 × IsPendingOf e ticket × (handle_of ticket ≡ cl.event)))
-may_unclaim g e line v ticket thing m r of = (
-  new_claim line (handle_of ticket),
+pub may_unclaim : (g : GraphValue) (e : Events) (line : ℕ) (v : View) (pending : Pending) (thing : Thing) (m : Sat) → IsRefusedAll g line v pending thing m → IsPendingOf e pending
+    → Has m.0 (λ cl. (cl.line ≡ line) × IsBare cl × ((pending : Pending) × OnTop line (PendingEvent pending) m.1 × IsPendingOf e pending × (handle_of pending ≡ cl.event)))
+may_unclaim g e line v pending thing m r of = (
+  new_claim line (handle_of pending),
   ap (λ (y : Sat). y.0.claim) r.4,
-  (refl, record { going = refl; columns = refl; puts = refl; held = refl; arrived = refl; time = refl }, (ticket, ([], ap (λ (y : Sat). y.1) r.4), of, refl)),
+  (refl, record { going = refl; columns = refl; puts = refl; held = refl; arrived = refl; time = refl }, (pending, ([], ap (λ (y : Sat). y.1) r.4), of, refl)),
 )
 
-pub unclaimed : (g : GraphValue) (line : ℕ) (v : View) (ticket : Pending) (thing : Thing) (m n : Sat) (r : IsRefusedAll g line v ticket thing m) → v.claim ≡ None → unclaims m n → n ≡ (record (saw_all v r.0) { let_go = r.1; gave_up = v.gave_up ++ line ∷ [] }, [])
-unclaimed g line v ticket thing m n r none u = u ∙ (ap (λ (y : Sat). sat (gave_up_at y.0) (Rattle.atomic_table.specs.Table.rest y.1)) r.4 ∙ ap (λ (c : Rattle.std.specs.Prelude.Option Claim). sat (record (saw_all v r.0) { let_go = r.1; gave_up = v.gave_up ++ line ∷ []; claim = c }) []) (sym none))
+pub unclaimed : (g : GraphValue) (line : ℕ) (v : View) (pending : Pending) (thing : Thing) (m n : Sat) (r : IsRefusedAll g line v pending thing m) → v.claim ≡ None → unclaims m n → n ≡ (record (saw_all v r.0) { let_go = r.1; gave_up = v.gave_up ++ line ∷ [] }, [])
+unclaimed g line v pending thing m n r none u = u ∙ (ap (λ (y : Sat). sat (gave_up_at y.0) (Rattle.atomic_table.specs.Table.rest y.1)) r.4 ∙ ap (λ (c : Rattle.std.specs.Prelude.Option Claim). sat (record (saw_all v r.0) { let_go = r.1; gave_up = v.gave_up ++ line ∷ []; claim = c }) []) (sym none))
 
 by_bool : (b : Bool) → (b ≡ true) ⊎ (b ≡ false)
 by_bool true = inl refl
 by_bool false = inr refl
 
 -- THE WORK
-own_of : (g : GraphValue) (line : ℕ) (b : Bool) (v : View) (ticket : Pending) (m : Sat) (held : List (ℕ × ColumnValue)) → HasAllOf g line b v ticket m held → (m.0.mine ≡ v.mine) × (m.0.splits ≡ v.splits)
-own_of g line b v ticket m held h = ⊎_elim
+own_of : (g : GraphValue) (line : ℕ) (b : Bool) (v : View) (pending : Pending) (m : Sat) (held : List (ℕ × ColumnValue)) → HasAllOf g line b v pending m held → (m.0.mine ≡ v.mine) × (m.0.splits ≡ v.splits)
+own_of g line b v pending m held h = ⊎_elim
     (λ (t : b ≡ true). (ap (λ (y : Sat). y.0.mine) (h.bare t).1, ap (λ (y : Sat). y.0.splits) (h.bare t).1))
     (λ (f : b ≡ false). let n = h.loaded f in (ap (λ (y : Sat). y.0.mine) n.now, ap (λ (y : Sat). y.0.splits) n.now))
     (by_bool b)
 
-pub work_of : (w : Words) (k : WordWork) (v : View) (ticket : Pending) → HasAllOf (graph_of w) k.line k.is_cancelled v ticket k.inner.me k.held → IsSeatOf w k.inner → k.line < length (graph_of w).lines → DidNothing v → v.issuing ≡ None → v.desk ≡ None → IsPendingOf (events_of w) ticket → IsWorkOf w k
-work_of w k v ticket h at near aside issuing desk of = record {
+pub work_of : (w : Words) (k : WordWork) (v : View) (pending : Pending) → HasAllOf (graph_of w) k.line k.is_cancelled v pending k.inner.me k.held → IsSeatOf w k.inner → k.line < length (graph_of w).lines → DidNothing v → v.issuing ≡ None → v.issue_turn ≡ None → IsPendingOf (events_of w) pending → IsWorkOf w k
+work_of w k v pending h at near aside issuing issue_turn of = record {
   at = at;
   near = near;
   view = record v { issued = h.issued; ended = h.ended; saw = h.saw };
   claim = h.claim;
-  ticket = ticket;
+  pending = pending;
   aside = aside;
   issuing = issuing;
-  desk = desk;
+  issue_turn = issue_turn;
   of = of;
   named = h.named;
-  mine = (own_of (graph_of w) k.line k.is_cancelled v ticket k.inner.me k.held h).0;
-  splits = (own_of (graph_of w) k.line k.is_cancelled v ticket k.inner.me k.held h).1;
+  mine = (own_of (graph_of w) k.line k.is_cancelled v pending k.inner.me k.held h).0;
+  splits = (own_of (graph_of w) k.line k.is_cancelled v pending k.inner.me k.held h).1;
   line_is = h.line_is;
   going = h.going;
   untimed = h.untimed;
@@ -228,24 +228,24 @@ work_of w k v ticket h at near aside issuing desk of = record {
 }
 
 -- the event of the claim
-event_in : (g : GraphValue) (line : ℕ) (b : Bool) (v : View) (ticket : Pending) (m : Sat) (held : List (ℕ × ColumnValue)) → HasAllOf g line b v ticket m held → event_of m.0.claim ≡ Some (handle_of ticket)
-event_in g line b v ticket m held h = ⊎_elim
+event_in : (g : GraphValue) (line : ℕ) (b : Bool) (v : View) (pending : Pending) (m : Sat) (held : List (ℕ × ColumnValue)) → HasAllOf g line b v pending m held → event_of m.0.claim ≡ Some (handle_of pending)
+event_in g line b v pending m held h = ⊎_elim
     (λ (t : b ≡ true). ap (λ (y : Sat). event_of y.0.claim) (h.bare t).1 ∙ ap Some (sym h.named))
     (λ (f : b ≡ false). ap (λ (y : Sat). event_of y.0.claim) (h.loaded f).now ∙ ap Some (sym h.named))
     (by_bool b)
 
-pub own_event : (g : GraphValue) (line : ℕ) (b : Bool) (v0 : View) (m n o : Sat) (held : List (ℕ × ColumnValue)) (k : HasClaimed line m n) → m.0.named ≡ v0.named → HasAllOf g line b m.0 k.ticket o held
+pub own_event : (g : GraphValue) (line : ℕ) (b : Bool) (v0 : View) (m n o : Sat) (held : List (ℕ × ColumnValue)) (k : HasClaimed line m n) → m.0.named ≡ v0.named → HasAllOf g line b m.0 k.pending o held
     → (hs : List Handle) (h : Handle) → Contains v0.named hs → slice_get hs line ≡ Some h → event_of o.0.claim ≡ Some h
-own_event g line b v0 m n o held k same a hs h known at = event_in g line b m.0 k.ticket o held a ∙ ap Some (k.known hs h (subst (λ l. Contains l hs) (sym same) known) at)
+own_event g line b v0 m n o held k same a hs h known at = event_in g line b m.0 k.pending o held a ∙ ap Some (k.known hs h (subst (λ l. Contains l hs) (sym same) known) at)
 
 -- a seat that was just split off
 pub young_aside : (v0 : View) (m : Sat) → m ≡ (child_of v0, []) → DidNothing m.0
-young_aside v0 m q = (ap (λ (y : Sat). y.0.trays) q, ap (λ (y : Sat). y.0.laid) q, ap (λ (y : Sat). y.0.gave_up) q, ap (λ (y : Sat). y.0.closed) q, ap (λ (y : Sat). y.0.let_go) q)
+young_aside v0 m q = (ap (λ (y : Sat). y.0.issue_states) q, ap (λ (y : Sat). y.0.laid) q, ap (λ (y : Sat). y.0.gave_up) q, ap (λ (y : Sat). y.0.closed) q, ap (λ (y : Sat). y.0.let_go) q)
 
-pub out_of : (w : Words) (k : WordWork) (v0 v : View) (hand : Left) (m n : Sat) (ticket : Pending) → HasAllOf (graph_of w) k.line k.is_cancelled v ticket k.inner.me k.held → n ≡ (parent_of v0, hand) → v ≡ child_of v0
+pub out_of : (w : Words) (k : WordWork) (v0 v : View) (hand : Left) (m n : Sat) (pending : Pending) → HasAllOf (graph_of w) k.line k.is_cancelled v pending k.inner.me k.held → n ≡ (parent_of v0, hand) → v ≡ child_of v0
     → (j : ℕ) × (n.0.mine ≡ v0.mine) × (n.0.splits ≡ v0.splits ++ j ∷ []) × (k.inner.me.0.mine ≡ j ∷ []) × (k.inner.me.0.splits ≡ [])
-out_of w k v0 v hand m n ticket h p q =
-    let own = own_of (graph_of w) k.line k.is_cancelled v ticket k.inner.me k.held h in
+out_of w k v0 v hand m n pending h p q =
+    let own = own_of (graph_of w) k.line k.is_cancelled v pending k.inner.me k.held h in
     (child (own_number v0.mine) v0.births, ap (λ (y : Sat). y.0.mine) p, ap (λ (y : Sat). y.0.splits) p, own.0 ∙ ap (λ (y : View). y.mine) q, own.1 ∙ ap (λ (y : View). y.splits) q)
 
 -- A SEAT THAT WAS SPLIT OFF AND JOINED AGAIN
@@ -279,10 +279,10 @@ module _ (v0 : View) (hand : Left) (a t : Sat) (w : View) (parent : a ≡ (paren
   pub joined_none : w.gave_up ≡ [] → w.closed ≡ [] → (t.0.gave_up ≡ v0.gave_up) × (t.0.closed ≡ v0.closed)
   joined_none none closed = (joined_gave ∙ (ap (λ (l : List ℕ). v0.gave_up ++ l) none ∙ append-nil v0.gave_up), joined_closed closed)
 
-  pub joined_desk : w.trays ≡ [] → w.laid ≡ [] → (t.0.trays ≡ v0.trays) × (t.0.laid ≡ v0.laid)
-  joined_desk trays laid = (
-    ap (λ (y : Sat). y.0.trays) whole ∙ (ap (λ (l : List Desk). v0.trays ++ l) trays ∙ append-nil v0.trays),
-    ap (λ (y : Sat). y.0.laid) whole ∙ (ap (λ (l : List Desk). v0.laid ++ l) laid ∙ append-nil v0.laid),
+  pub joined_issue_turn : w.issue_states ≡ [] → w.laid ≡ [] → (t.0.issue_states ≡ v0.issue_states) × (t.0.laid ≡ v0.laid)
+  joined_issue_turn issue_states laid = (
+    ap (λ (y : Sat). y.0.issue_states) whole ∙ (ap (λ (l : List IssueState). v0.issue_states ++ l) issue_states ∙ append-nil v0.issue_states),
+    ap (λ (y : Sat). y.0.laid) whole ∙ (ap (λ (l : List IssueState). v0.laid ++ l) laid ∙ append-nil v0.laid),
   )
 
   -- what it was told of handles the first knew too

@@ -14,7 +14,7 @@ use Rattle.run_state.specs.Run.{is_listed}
 use Rattle.run_state.specs.Sound.{AccessesColumn, home_cells}
 use Rattle.run_state.specs.WholeLine.{column_list}
 use Rattle.run_words.specs.declared.content.Content.{Content}
-use Rattle.run_words.specs.declared.content.Content.TheVariants.{Nothing, Ticket, Stub, Cells, Tray}
+use Rattle.run_words.specs.declared.content.Content.TheVariants.{Nothing, PendingEvent, EventReceipt, Cells, Issuer}
 use Rattle.run_words.specs.declared.view.View.{View}
 use Rattle.run_words.specs.Claims.{Claim}
 use Rattle.run_words.specs.Layout.{size_of, turn_word, column_slot}
@@ -22,7 +22,7 @@ use Rattle.run_words.specs.Rule.{ground_of, column_with}
 use Rattle.run_words.specs.Plays.{Sat, on_claim, took, HasTurn, saw_at, saw_all}
 use Rattle.run_words.specs.Premises.{Has, MayTake}
 use Rattle.run_words.specs.Laden.{Stacked, IsFree, AreFree, Taking, TakingAs, TookFree}
-use Rattle.run_words.proofs.Desking.{has_key}
+use Rattle.run_words.proofs.TakingTurn.{has_key}
 use Rattle.run_words.proofs.Turns.{sat}
 
 abbrev Pairs : Type 0
@@ -31,9 +31,9 @@ Pairs = List (ℕ × List ℕ)
 abbrev pub column_in : ColumnValue → Content → ColumnValue
 column_in x (Cells y) = y
 column_in x Nothing = x
-column_in x (Ticket p) = x
-column_in x (Stub p) = x
-column_in x (Tray p) = x
+column_in x (PendingEvent p) = x
+column_in x (EventReceipt p) = x
+column_in x (Issuer p) = x
 
 -- no more columns than accesses
 pub stacked_few : (xs : List ℕ) (k : ℕ) (columns : Pairs) → Stacked xs k columns → length columns ≤ k

@@ -23,7 +23,7 @@ use Rattle.run_words.specs.declared.content.Content.TheVariants.{Cells}
 use Rattle.run_words.specs.declared.view.View.{View}
 use Rattle.run_words.specs.Claims.{Claim, Ground}
 use Rattle.run_words.specs.Layout.{size_of, turn_word, column_slot}
-use Rattle.run_words.specs.Views.{issues_at, late_at, owes_at, has_desk, working}
+use Rattle.run_words.specs.Views.{issues_at, late_at, owes_at, has_issue_turn, working}
 use Rattle.run_words.specs.Rule.{ground_of, column_with, ColumnShown, Progress, Shown}
 use Rattle.run_words.specs.Plays.{Sat, on_claim, took, HasTurn, NotOwn, turns, saw_at}
 use Rattle.run_words.proofs.Aside.{aside_out, other_set}
@@ -106,12 +106,12 @@ module _ (g : GraphValue) (e : Events) (s : St) (o : Shown g e s) (id : ℕ) (v 
     turn_rule = claim_goes g e s o id v w me cl (took c back cl) has refl refl refl after
         (set s.words (turn_word (size_of g) c) (cl.line + 1)) (set s.homes (column_slot (size_of g) c) none)
         (aside_out c cl.line o.run nobody) goes_on sound (λ j. refl)
-        (at_column g e (size_of g) o.run o.handles (λ k. total (issues_at k) s.views) (λ k. total (owes_at k) s.views) (total has_desk s.views) s.words s.homes o.words
-        (λ k. total (issues_at k) (set s.views id w)) (λ k. total (owes_at k) (set s.views id w)) (total has_desk (set s.views id w))
+        (at_column g e (size_of g) o.run o.handles (λ k. total (issues_at k) s.views) (λ k. total (owes_at k) s.views) (total has_issue_turn s.views) s.words s.homes o.words
+        (λ k. total (issues_at k) (set s.views id w)) (λ k. total (owes_at k) (set s.views id w)) (total has_issue_turn (set s.views id w))
         (λ k. sum_same (issues_at k) s.views id v w me refl)
         c near (Had cl.line) (set s.words (turn_word (size_of g) c) (cl.line + 1)) (set s.homes (column_slot (size_of g) c) none) o.run.back
         (words_set (turn_word (size_of g) c) (cl.line + 1) s.words) (slots_set (column_slot (size_of g) c) none s.homes)
-        (λ k. sum_same (owes_at k) s.views id v w me (ap (late_at k) (sym has))) (sum_same has_desk s.views id v w me refl)
+        (λ k. sum_same (owes_at k) s.views id v w me (ap (late_at k) (sym has))) (sum_same has_issue_turn s.views id v w me refl)
         (record {
           home = none;
           at = set_here s.homes (column_slot (size_of g) c) none (let d = o.words.deep in omega arith);

@@ -12,7 +12,7 @@ use Rattle.basics.proofs.ListFacts.{contains_here}
 use Rattle.run_state.specs.Run.{LineStage, Unissued, Issued, Out, Ending, Ended, Had, stage_at, place_at, stage_out, stage_over, stage_ended, stage_started}
 use Rattle.run_state.specs.AtRest.{AtRest}
 use Rattle.run_words.specs.declared.view.View.{View}
-use Rattle.run_words.specs.Views.{claim_at, runs_at, number_at, issues_at, late_at, owes_at, turn_of, has_desk, busy}
+use Rattle.run_words.specs.Views.{claim_at, runs_at, number_at, issues_at, late_at, owes_at, turn_of, has_issue_turn, busy}
 use Rattle.run_words.specs.Rule.{AreNumbered, Shown}
 use Rattle.run_words.specs.Premises.{HasNoRights}
 use Rattle.run_words.proofs.Steps.{St}
@@ -95,12 +95,12 @@ pub record Rests (g : GraphValue) (e : Events) (s : St) (o : Shown g e s) : Type
   pub idle : (i : ℕ) → busy (stage_at o.run.stages i) ≡ 0
   pub none_issuing : (i : ℕ) → total (issues_at i) s.views ≡ 0
   pub none_owing : (i : ℕ) → total (owes_at i) s.views ≡ 0
-  pub desk_home : total has_desk s.views ≡ 0
+  pub issue_turn_home : total has_issue_turn s.views ≡ 0
   pub at_rest : AtRest g o.run
   pub at_home : (c i : ℕ) → place_at o.run.places c ≡ Had i → ⊥
 
 module _ (g : GraphValue) (e : Events) (s : St) (o : Shown g e s) (id : ℕ) (v : View) (me : get_elem? s.views id ≡ some v) (whole : IsWhole v) (free : HasNoRights v) where
-  others : (j : ℕ) (u : View) → (j ≡ id → ⊥) → get_elem? s.views j ≡ some u → (u.claim ≡ None) × (u.issuing ≡ None) × (u.desk ≡ None)
+  others : (j : ℕ) (u : View) → (j ≡ id → ⊥) → get_elem? s.views j ≡ some u → (u.claim ≡ None) × (u.issuing ≡ None) × (u.issue_turn ≡ None)
   others j u n at = (o.each_view j u at).idle (alone s.views o.numbers id v me whole j u n at)
 
   idle_of : (i : ℕ) → busy (stage_at o.run.stages i) ≡ 0
@@ -111,7 +111,7 @@ module _ (g : GraphValue) (e : Events) (s : St) (o : Shown g e s) (id : ℕ) (v 
     idle = idle_of;
     none_issuing = λ i. sum_alone (issues_at i) s.views id v me (λ j u n at. ap (number_at i) (others j u n at).1) ∙ ap (number_at i) free.issuing;
     none_owing = λ i. sum_alone (owes_at i) s.views id v me (λ j u n at. ap (late_at i) (others j u n at).0) ∙ ap (late_at i) free.claim;
-    desk_home = sum_alone has_desk s.views id v me (λ j u n at. ap turn_of (others j u n at).2) ∙ ap turn_of free.desk;
+    issue_turn_home = sum_alone has_issue_turn s.views id v me (λ j u n at. ap turn_of (others j u n at).2) ∙ ap turn_of free.issue_turn;
     at_rest = record {
       none_ending = λ i h. idle_ended (stage_at o.run.stages i) (idle_of i) (over_starts (stage_at o.run.stages i) h);
       back_ended = λ c i h. idle_ended (stage_at o.run.stages i) (idle_of i) (o.sound.on_columns.back_started c i h);

@@ -7,28 +7,28 @@ use Rattle.shared_events.specs.Views.{IsPendingOf, IsReceiptOf, handle_of, ended
 use Rattle.shared_events.specs.declared.events.Events.{Events}
 use Rattle.shared_events.specs.declared.view.View.{View}
 use Rattle.run_words.specs.declared.content.Content.{Content}
-use Rattle.run_words.specs.declared.content.Content.TheVariants.{Nothing, Ticket, Stub, Cells, Tray}
-use Rattle.run_words.specs.Layout.{Size, line_slot, column_slot, desk_slot}
+use Rattle.run_words.specs.declared.content.Content.TheVariants.{Nothing, PendingEvent, EventReceipt, Cells, Issuer}
+use Rattle.run_words.specs.Layout.{Size, line_slot, column_slot, issue_turn_slot}
 
 -- whether the slot k still holds something
 abbrev pub is_filled : List Bool → ℕ → Bool
 is_filled filled k = slice_index_or filled k false
 
--- the desk, the first i lines and the first c columns were taken, and no more
+-- the issue state, the first i lines and the first c columns were taken, and no more
 pub record AreTaken (z : Size) (i c : ℕ) (filled : List Bool) : Type 0 where
   pub lines_gone : (k : ℕ) → k < i → is_filled filled (line_slot z k) ≡ false
   pub lines_left : (k : ℕ) → i ≤ k → k < z.lines → is_filled filled (line_slot z k) ≡ true
   pub columns_gone : (k : ℕ) → k < c → is_filled filled (column_slot z k) ≡ false
   pub columns_left : (k : ℕ) → c ≤ k → k < z.cols → is_filled filled (column_slot z k) ≡ true
-  pub desk_gone : is_filled filled (desk_slot z) ≡ false
+  pub issue_turn_gone : is_filled filled (issue_turn_slot z) ≡ false
 
 -- what may lie in the slot of a line
 abbrev pub IsLineItem : Events → Content → Type 0
 IsLineItem e Nothing = Unit {0}
-IsLineItem e (Ticket p) = IsPendingOf e p
-IsLineItem e (Stub r) = IsReceiptOf e r
+IsLineItem e (PendingEvent p) = IsPendingOf e p
+IsLineItem e (EventReceipt r) = IsReceiptOf e r
 IsLineItem e (Cells x) = ⊥
-IsLineItem e (Tray d) = ⊥
+IsLineItem e (Issuer d) = ⊥
 
 -- in the slots of the lines lies what may lie there
 abbrev pub AreLineItems : Events → Size → List Content → Type 0
@@ -37,7 +37,7 @@ AreLineItems e z slots = (i : ℕ) (x : Content) → i < z.lines → get_elem? s
 -- an event was given up, or its receipt is known
 abbrev pub IsSettled : View → Content → Type 0
 IsSettled v Nothing = Unit {0}
-IsSettled v (Ticket p) = Contains v.left (handle_of p)
-IsSettled v (Stub r) = Knows v (ended_by r) (fate_of r)
+IsSettled v (PendingEvent p) = Contains v.left (handle_of p)
+IsSettled v (EventReceipt r) = Knows v (ended_by r) (fate_of r)
 IsSettled v (Cells x) = Unit {0}
-IsSettled v (Tray d) = Unit {0}
+IsSettled v (Issuer d) = Unit {0}

@@ -16,12 +16,12 @@ use Rattle.graph_meaning.specs.Effect.{Cells as AllCells}
 use Rattle.graph_terms.specs.Graph.{GraphValue, column_space}
 use Rattle.index_spaces.specs.Space.{has_point}
 use Rattle.run_words.specs.declared.content.Content.{Content}
-use Rattle.run_words.specs.declared.content.Desk.{Desk}
-use Rattle.run_words.specs.declared.content.Content.TheVariants.{Nothing, Ticket, Stub, Cells, Tray}
+use Rattle.run_words.specs.declared.content.IssueState.{IssueState}
+use Rattle.run_words.specs.declared.content.Content.TheVariants.{Nothing, PendingEvent, EventReceipt, Cells, Issuer}
 use Rattle.run_words.specs.declared.view.View.{View}
 use Rattle.run_words.specs.Claims.{Ground, Claim, new_claim}
-use Rattle.run_words.specs.Layout.{size_of, turn_word, alone_code, column_slot, desk_slot}
-use Rattle.run_words.specs.Rule.{column_with, IsTray, child}
+use Rattle.run_words.specs.Layout.{size_of, turn_word, alone_code, column_slot, issue_turn_slot}
+use Rattle.run_words.specs.Rule.{column_with, IsIssueState, child}
 
 -- what a seat has: its view, and the slots in its hand with what they hold
 abbrev pub Sat : Type 0
@@ -92,11 +92,11 @@ claimed_at v i h = record v { claim = Some (new_claim i h) }
 
 -- line i was claimed, and its event is in the hand
 pub record HasClaimed (i : ℕ) (m n : Sat) : Type 0 where
-  pub ticket : Pending
-  pub now : n ≡ (claimed_at m.0 i (handle_of ticket), (i, Ticket ticket) ∷ m.1)
-  pub of : (x : Ground) → Contains m.0.keys x → IsPendingOf x.events ticket
+  pub pending : Pending
+  pub now : n ≡ (claimed_at m.0 i (handle_of pending), (i, PendingEvent pending) ∷ m.1)
+  pub of : (x : Ground) → Contains m.0.keys x → IsPendingOf x.events pending
   -- its handle is that of the line, where the seat knows it
-  pub known : (hs : List Handle) (h : Handle) → Contains m.0.named hs → slice_get hs i ≡ Some h → handle_of ticket ≡ h
+  pub known : (hs : List Handle) (h : Handle) → Contains m.0.named hs → slice_get hs i ≡ Some h → handle_of pending ≡ h
   -- it ends in the evaluation
   pub ends : (x : Ground) → Contains m.0.keys x → has_ended (evaluation x.graph) i ≡ true
 
@@ -247,43 +247,43 @@ gave_up_at v = record v { gave_up = v.gave_up ++ line_claimed v.claim; claim = N
 abbrev pub unclaims : Sat → Sat → Type 0
 unclaims m n = n ≡ (gave_up_at m.0, rest m.1)
 
--- THE DESK. The seat has its turn, and knows the handles of the lines and what lay on the desk
-abbrev pub with_desk : View → List Handle → Desk → View
-with_desk v hs tray = record v { issued = v.issued ++ numbers_below (length hs); named = v.named ++ hs ∷ []; trays = v.trays ++ tray ∷ []; desk = Some hs }
+-- THE ISSUE STATE. The seat has its turn, and knows the handles of the lines and the issue state
+abbrev pub with_issue_turn : View → List Handle → IssueState → View
+with_issue_turn v hs issue_state = record v { issued = v.issued ++ numbers_below (length hs); named = v.named ++ hs ∷ []; issue_states = v.issue_states ++ issue_state ∷ []; issue_turn = Some hs }
 
--- the turn was taken, and what lies on the desk is in the hand
-pub record HasDesk (m n : Sat) : Type 0 where
+-- the turn was taken, and the issue state is in the hand
+pub record HasIssueTurn (m n : Sat) : Type 0 where
   pub handles : List Handle
-  pub tray : Desk
-  pub now : (x : Ground) → Contains m.0.keys x → n ≡ (with_desk m.0 handles tray, (desk_slot (size_of x.graph), Tray tray) ∷ m.1)
-  pub is_tray : (x : Ground) → Contains m.0.keys x → IsTray x.events (length x.graph.lines) handles tray
+  pub issue_state : IssueState
+  pub now : (x : Ground) → Contains m.0.keys x → n ≡ (with_issue_turn m.0 handles issue_state, (issue_turn_slot (size_of x.graph), Issuer issue_state) ∷ m.1)
+  pub is_issue_state : (x : Ground) → Contains m.0.keys x → IsIssueState x.events (length x.graph.lines) handles issue_state
   pub few : (x : Ground) → Contains m.0.keys x → length handles ≤ length x.graph.lines
 
--- the word w held r: where that is 0 the desk's turn was taken, else another seat has it
-abbrev pub takes_desk : ℕ → Sat → ℕ → Sat → Type 0
-takes_desk w m r n = (r ≡ 0 → HasDesk m n) × ((r ≡ 0 → ⊥) → missed w m r n)
+-- the word w held r: where that is 0 the issue turn was taken, else another seat has it
+abbrev pub takes_issue_turn : ℕ → Sat → ℕ → Sat → Type 0
+takes_issue_turn w m r n = (r ≡ 0 → HasIssueTurn m n) × ((r ≡ 0 → ⊥) → missed w m r n)
 
 -- the handles that go with the turn, if the seat has it
 abbrev pub named_by : Option (List Handle) → List (List Handle)
 named_by None = []
 named_by (Some hs) = hs ∷ []
 
--- what goes onto the desk from the top of the hand
-abbrev pub trays_in : List (ℕ × Content) → List Desk
-trays_in [] = []
-trays_in ((k, Tray d) ∷ xs) = d ∷ []
-trays_in ((k, Nothing) ∷ xs) = []
-trays_in ((k, Ticket p) ∷ xs) = []
-trays_in ((k, Stub r) ∷ xs) = []
-trays_in ((k, Cells x) ∷ xs) = []
+-- what goes into the issue state from the top of the hand
+abbrev pub issue_states_in : List (ℕ × Content) → List IssueState
+issue_states_in [] = []
+issue_states_in ((k, Issuer d) ∷ xs) = d ∷ []
+issue_states_in ((k, Nothing) ∷ xs) = []
+issue_states_in ((k, PendingEvent p) ∷ xs) = []
+issue_states_in ((k, EventReceipt r) ∷ xs) = []
+issue_states_in ((k, Cells x) ∷ xs) = []
 
--- the seat has no turn, knows the handles of the lines, and laid this on the desk
-abbrev pub without_desk : View → List Desk → View
-without_desk v laid = record v { named = v.named ++ named_by v.desk; laid = v.laid ++ laid; desk = None }
+-- the seat has no turn, knows the handles of the lines, and laid this in the issue state
+abbrev pub without_issue_turn : View → List IssueState → View
+without_issue_turn v laid = record v { named = v.named ++ named_by v.issue_turn; laid = v.laid ++ laid; issue_turn = None }
 
--- the seat gave the desk's turn, and its slot with what lies on the desk
-abbrev pub gives_desk : Sat → Sat → Type 0
-gives_desk m n = n ≡ (without_desk m.0 (trays_in m.1), rest m.1)
+-- the seat gave the issue turn, and its slot with the issue state
+abbrev pub gives_issue_turn : Sat → Sat → Type 0
+gives_issue_turn m n = n ≡ (without_issue_turn m.0 (issue_states_in m.1), rest m.1)
 
 -- ISSUING. The seat is issuing line i
 abbrev pub issuing_at : View → ℕ → View
@@ -296,15 +296,15 @@ begins_issue i m r n = (r ≡ 0) × (n ≡ (issuing_at m.0 i, (i, Nothing) ∷ m
 -- the handle of the event on top of the hand
 abbrev pub handles_in : List (ℕ × Content) → List Handle
 handles_in [] = []
-handles_in ((k, Ticket p) ∷ xs) = handle_of p ∷ []
+handles_in ((k, PendingEvent p) ∷ xs) = handle_of p ∷ []
 handles_in ((k, Nothing) ∷ xs) = []
-handles_in ((k, Stub r) ∷ xs) = []
+handles_in ((k, EventReceipt r) ∷ xs) = []
 handles_in ((k, Cells x) ∷ xs) = []
-handles_in ((k, Tray d) ∷ xs) = []
+handles_in ((k, Issuer d) ∷ xs) = []
 
 -- line i is known issued, and the list of handles has the new one at its end
 abbrev pub issued_at : View → ℕ → List Handle → View
-issued_at v i new = record v { issued = v.issued ++ i ∷ []; issuing = None; desk = option_map (λ hs. hs ++ new) v.desk }
+issued_at v i new = record v { issued = v.issued ++ i ∷ []; issuing = None; issue_turn = option_map (λ hs. hs ++ new) v.issue_turn }
 
 -- the seat issued line i with the event in its hand, and gave its slot back
 abbrev pub issues : ℕ → Sat → Sat → Type 0
@@ -320,7 +320,7 @@ gives_up_issue m n = n ≡ (without_issue m.0, rest m.1)
 
 -- CUTTING AND JOINING. The view of a seat that was joined into another
 abbrev pub no_view : View
-no_view = record { keys = []; mine = []; births = 0; splits = []; issued = []; ended = []; named = []; saw = []; trays = []; laid = []; gave_up = []; closed = []; times = []; let_go = []; claim = None; issuing = None; desk = None }
+no_view = record { keys = []; mine = []; births = 0; splits = []; issued = []; ended = []; named = []; saw = []; issue_states = []; laid = []; gave_up = []; closed = []; times = []; let_go = []; claim = None; issuing = None; issue_turn = None }
 
 -- the number of a seat itself
 abbrev pub own_number : List ℕ → ℕ
@@ -344,7 +344,7 @@ joined v w = record v {
   ended = v.ended ++ w.ended;
   named = v.named ++ w.named;
   saw = v.saw ++ w.saw;
-  trays = v.trays ++ w.trays;
+  issue_states = v.issue_states ++ w.issue_states;
   laid = v.laid ++ w.laid;
   gave_up = v.gave_up ++ w.gave_up;
   closed = v.closed ++ w.closed;
@@ -352,6 +352,6 @@ joined v w = record v {
   let_go = v.let_go ++ w.let_go;
 }
 
--- what issuing in the desk's turn leaves of a view
+-- what issuing in the issue turn leaves of a view
 abbrev pub after_issue : View → List ℕ → List Handle → View
-after_issue v new hs = record v { issued = v.issued ++ new; issuing = None; desk = Some hs }
+after_issue v new hs = record v { issued = v.issued ++ new; issuing = None; issue_turn = Some hs }

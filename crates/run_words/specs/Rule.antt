@@ -23,13 +23,13 @@ use Rattle.shared_events.specs.declared.tokens.Waiter.{Waiter}
 use Rattle.shared_events.specs.declared.events.Events.{Events}
 use Rattle.run_state.specs.Run.{LineStage, Unissued, Issued, Out, Ending, Ended, Place, Home, Had, Run, is_listed, stage_at, time_at, place_at, list_at, issued, ended}
 use Rattle.run_state.specs.Sound.{Sound}
-use Rattle.run_words.specs.declared.content.Desk.{Desk}
+use Rattle.run_words.specs.declared.content.IssueState.{IssueState}
 use Rattle.run_words.specs.declared.content.Content.{Content}
-use Rattle.run_words.specs.declared.content.Content.TheVariants.{Nothing, Ticket, Stub, Cells, Tray}
+use Rattle.run_words.specs.declared.content.Content.TheVariants.{Nothing, PendingEvent, EventReceipt, Cells, Issuer}
 use Rattle.run_words.specs.declared.view.View.{View}
 use Rattle.run_words.specs.Claims.{Ground, Claim}
-use Rattle.run_words.specs.Layout.{Size, size_of, alone_code, status_word, time_word, value_word, turn_word, lock_word, clock_word, desk_word, word_count, line_slot, column_slot, desk_slot, slot_count}
-use Rattle.run_words.specs.Views.{time_code, runs_at, issues_at, owes_at, has_desk, busy, working}
+use Rattle.run_words.specs.Layout.{Size, size_of, alone_code, status_word, time_word, value_word, turn_word, lock_word, clock_word, issue_turn_word, word_count, line_slot, column_slot, issue_turn_slot, slot_count}
+use Rattle.run_words.specs.Views.{time_code, runs_at, issues_at, owes_at, has_issue_turn, busy, working}
 
 -- the graph of a run with the events of its lines
 abbrev pub ground_of : GraphValue → Events → Ground
@@ -50,28 +50,28 @@ fate_for Cancelled = Poison
 fate_for Waiting = Ok
 
 -- at home lies the event that has this handle
-pub record HasTicket (e : Events) (h : Handle) (home : mathlib.Core.Option.Option Content) : Type 0 where
-  pub ticket : Pending
-  pub here : home ≡ some (Ticket ticket)
-  pub of : IsPendingOf e ticket
-  pub named : handle_of ticket ≡ h
+pub record HasPending (e : Events) (h : Handle) (home : mathlib.Core.Option.Option Content) : Type 0 where
+  pub pending : Pending
+  pub here : home ≡ some (PendingEvent pending)
+  pub of : IsPendingOf e pending
+  pub named : handle_of pending ≡ h
 
 -- at home lies its receipt, with the fate of this end
-pub record HasStub (e : Events) (h : Handle) (x : End) (home : mathlib.Core.Option.Option Content) : Type 0 where
-  pub stub : Receipt
-  pub here : home ≡ some (Stub stub)
-  pub of : IsReceiptOf e stub
-  pub named : ended_by stub ≡ h
-  pub told : fate_of stub ≡ fate_for x
+pub record HasReceipt (e : Events) (h : Handle) (x : End) (home : mathlib.Core.Option.Option Content) : Type 0 where
+  pub receipt : Receipt
+  pub here : home ≡ some (EventReceipt receipt)
+  pub of : IsReceiptOf e receipt
+  pub named : ended_by receipt ≡ h
+  pub told : fate_of receipt ≡ fate_for x
 
 -- the word and the slot of a line of this stage, which k seats are issuing
 abbrev pub LineShown : Events → Handle → LineStage → ℕ → ℕ → mathlib.Core.Option.Option Content → Type 0
 LineShown e h Unissued zero w home = (w ≡ 0) × (home ≡ some Nothing)
 LineShown e h Unissued (suc k) w home = (k ≡ 0) × (w ≡ 1) × (home ≡ none)
-LineShown e h Issued k w home = (k ≡ 0) × (w ≡ 2) × HasTicket e h home
+LineShown e h Issued k w home = (k ≡ 0) × (w ≡ 2) × HasPending e h home
 LineShown e h Out k w home = (k ≡ 0) × (w ≡ 3) × (home ≡ none)
 LineShown e h (Ending x) k w home = (k ≡ 0) × (w ≡ 4 + end_code x) × (home ≡ none)
-LineShown e h (Ended x) k w home = (k ≡ 0) × (w ≡ 8 + end_code x) × HasStub e h x home
+LineShown e h (Ended x) k w home = (k ≡ 0) × (w ≡ 8 + end_code x) × HasReceipt e h x home
 
 -- the same, with what is at home in this slot
 pub record LineAt (e : Events) (h : Handle) (stage : LineStage) (k w : ℕ) (homes : List (mathlib.Core.Option.Option Content)) (slot : ℕ) : Type 0 where
@@ -107,8 +107,8 @@ alone_in g (q ∷ qs) = cond (line_passes is_shared g q) (alone_in g qs) (Some q
 abbrev pub lock_code : GraphValue → List ℕ → ℕ
 lock_code g qs = option_map_or alone_code (alone_in g qs) (count_below (is_listed qs) (length g.lines))
 
--- THE DESK, where these are the handles of the lines
-pub record IsTray (e : Events) (lines : ℕ) (handles : List Handle) (d : Desk) : Type 0 where
+-- THE ISSUE STATE, where these are the handles of the lines
+pub record IsIssueState (e : Events) (lines : ℕ) (handles : List Handle) (d : IssueState) : Type 0 where
   pub maker : IsMakerOf e d.maker
   pub made : made_by d.maker ≡ handles
   pub listed : d.handles.items ≡ handles
@@ -119,22 +119,22 @@ pub record IsTray (e : Events) (lines : ℕ) (handles : List Handle) (d : Desk) 
   pub places : length d.waiters.items ≡ lines
   pub waiters : (k : ℕ) (w : Waiter) → slice_get d.waiters.items k ≡ Some (Some w) → (number_of w ≡ k) × IsWaiterOf e w
 
--- at home lies a tray with these handles
-pub record HasTray (e : Events) (lines : ℕ) (handles : List Handle) (home : mathlib.Core.Option.Option Content) : Type 0 where
-  pub tray : Desk
-  pub here : home ≡ some (Tray tray)
-  pub is_tray : IsTray e lines handles tray
+-- at home lies an issue state with these handles
+pub record HasIssueState (e : Events) (lines : ℕ) (handles : List Handle) (home : mathlib.Core.Option.Option Content) : Type 0 where
+  pub issue_state : IssueState
+  pub here : home ≡ some (Issuer issue_state)
+  pub is_issue_state : IsIssueState e lines handles issue_state
 
--- the word and the slot of the desk, whose turn k seats have
-abbrev pub DeskShown : Events → ℕ → List Handle → ℕ → ℕ → mathlib.Core.Option.Option Content → Type 0
-DeskShown e lines handles zero w home = (w ≡ 0) × HasTray e lines handles home
-DeskShown e lines handles (suc k) w home = (k ≡ 0) × (w ≡ 1) × (home ≡ none)
+-- the word and the slot of the issue state, whose turn k seats have
+abbrev pub IssueTurnShown : Events → ℕ → List Handle → ℕ → ℕ → mathlib.Core.Option.Option Content → Type 0
+IssueTurnShown e lines handles zero w home = (w ≡ 0) × HasIssueState e lines handles home
+IssueTurnShown e lines handles (suc k) w home = (k ≡ 0) × (w ≡ 1) × (home ≡ none)
 
 -- the same, with what is at home in this slot
-pub record DeskAt (e : Events) (lines : ℕ) (handles : List Handle) (k w : ℕ) (homes : List (mathlib.Core.Option.Option Content)) (slot : ℕ) : Type 0 where
+pub record IssueTurnAt (e : Events) (lines : ℕ) (handles : List Handle) (k w : ℕ) (homes : List (mathlib.Core.Option.Option Content)) (slot : ℕ) : Type 0 where
   pub home : mathlib.Core.Option.Option Content
   pub at : get_elem? homes slot ≡ some home
-  pub shown : DeskShown e lines handles k w home
+  pub shown : IssueTurnShown e lines handles k w home
 
 -- the handles are those of the issued lines, in file order, and differ
 pub record AreHandles (stages : List LineStage) (handles : List Handle) : Type 0 where
@@ -142,7 +142,7 @@ pub record AreHandles (stages : List LineStage) (handles : List Handle) : Type 0
   pub once : (a b : ℕ) (h : Handle) → slice_get handles a ≡ Some h → slice_get handles b ≡ Some h → a ≡ b
 
 -- ALL WORDS AND SLOTS show this run and these handles, where the seats issue, owe and have as much as is told
-pub record WordsShow (g : GraphValue) (e : Events) (z : Size) (run : Run) (handles : List Handle) (issues owes : ℕ → ℕ) (desks : ℕ) (words : List ℕ) (homes : List (mathlib.Core.Option.Option Content)) : Type 0 where
+pub record WordsShow (g : GraphValue) (e : Events) (z : Size) (run : Run) (handles : List Handle) (issues owes : ℕ → ℕ) (issue_turns : ℕ) (words : List ℕ) (homes : List (mathlib.Core.Option.Option Content)) : Type 0 where
   pub wide : length words ≡ word_count z
   pub deep : length homes ≡ slot_count z
   pub lines : (i : ℕ) → i < z.lines → LineAt e (handle_at handles i) (stage_at run.stages i) (issues i) (slice_index words (status_word z i)) homes (line_slot z i)
@@ -151,7 +151,7 @@ pub record WordsShow (g : GraphValue) (e : Events) (z : Size) (run : Run) (handl
   pub columns : (c : ℕ) → c < z.cols → ColumnAt g c (place_at run.places c) (slice_index words (turn_word z c)) homes (column_slot z c)
   pub locks : (l : ℕ) → l < z.holds → slice_index words (lock_word z l) ≡ lock_code g (list_at run.holders l)
   pub clock : slice_index words (clock_word z) ≡ run.clock
-  pub desk : DeskAt e z.lines handles desks (slice_index words (desk_word z)) homes (desk_slot z)
+  pub issue_turn : IssueTurnAt e z.lines handles issue_turns (slice_index words (issue_turn_word z)) homes (issue_turn_slot z)
 
 -- a line has ended, and this is its time
 pub record HasEndedAt (run : Run) (i t : ℕ) : Type 0 where
@@ -179,20 +179,20 @@ pub record Fits (g : GraphValue) (e : Events) (run : Run) (handles : List Handle
   pub named : (hs : List Handle) → Contains v.named hs → Begins hs handles
   pub claim : (c : Claim) → v.claim ≡ Some c → Progress g run c
   pub event : (c : Claim) → v.claim ≡ Some c → handle_at handles c.line ≡ c.event
-  -- it issues one line in the desk's turn
+  -- it issues one line in the issue turn
   pub issuing : (i : ℕ) → v.issuing ≡ Some i → (stage_at run.stages i ≡ Unissued) × (i < length g.lines)
-  pub issuer : (i : ℕ) → v.issuing ≡ Some i → (hs : List Handle) × (v.desk ≡ Some hs)
-  pub desk : (hs : List Handle) → v.desk ≡ Some hs → hs ≡ handles
+  pub issuer : (i : ℕ) → v.issuing ≡ Some i → (hs : List Handle) × (v.issue_turn ≡ Some hs)
+  pub issue_turn : (hs : List Handle) → v.issue_turn ≡ Some hs → hs ≡ handles
   -- a seat that was joined away has no rights
-  pub idle : v.mine ≡ [] → (v.claim ≡ None) × (v.issuing ≡ None) × (v.desk ≡ None)
+  pub idle : v.mine ≡ [] → (v.claim ≡ None) × (v.issuing ≡ None) × (v.issue_turn ≡ None)
 
 -- ALL THAT IS KNOWN. A seat that is there is such
 abbrev pub OfSome : List View → (View → Type 0) → Type 0
 OfSome views P = (j : ℕ) × (v : View) × (get_elem? views j ≡ some v) × (v.mine ≢ []) × P v
 
--- a seat knows all the handles, or has them with the desk's turn
+-- a seat knows all the handles, or has them with the issue turn
 abbrev pub HasHandles : List Handle → View → Type 0
-HasHandles handles v = Contains v.named handles ⊎ (v.desk ≡ Some handles)
+HasHandles handles v = Contains v.named handles ⊎ (v.issue_turn ≡ Some handles)
 
 -- each line that is issued, each end, each time of an ended line and the list of all handles is known to a seat
 pub record IsKnown (run : Run) (handles : List Handle) (views : List View) : Type 0 where
@@ -224,7 +224,7 @@ pub record Shown (g : GraphValue) (e : Events) (s : State Content View) : Type 0
   pub handles : List Handle
   pub sound : Sound g run
   pub are_handles : AreHandles run.stages handles
-  pub words : WordsShow g e (size_of g) run handles (λ i. total (issues_at i) s.views) (λ i. total (owes_at i) s.views) (total has_desk s.views) s.words s.homes
+  pub words : WordsShow g e (size_of g) run handles (λ i. total (issues_at i) s.views) (λ i. total (owes_at i) s.views) (total has_issue_turn s.views) s.words s.homes
   pub each_view : (j : ℕ) (v : View) → get_elem? s.views j ≡ some v → Fits g e run handles v
   -- the work of a line is with one seat where the line is out or ending, and else with none
   pub works : (i : ℕ) → total (runs_at i) s.views ≡ busy (stage_at run.stages i)
@@ -233,4 +233,4 @@ pub record Shown (g : GraphValue) (e : Events) (s : State Content View) : Type 0
 
 -- the view of the first seat
 abbrev pub opener : GraphValue → Events → View
-opener g e = record { keys = ground_of g e ∷ []; mine = 0 ∷ []; births = 0; splits = []; issued = []; ended = []; named = []; saw = []; trays = []; laid = []; gave_up = []; closed = []; times = []; let_go = []; claim = None; issuing = None; desk = None }
+opener g e = record { keys = ground_of g e ∷ []; mine = 0 ∷ []; births = 0; splits = []; issued = []; ended = []; named = []; saw = []; issue_states = []; laid = []; gave_up = []; closed = []; times = []; let_go = []; claim = None; issuing = None; issue_turn = None }

@@ -34,10 +34,10 @@ fn settle(events: &Events, seat: &mut Seat, content: Content)
 {
     match content {
         Content::Nothing => {}
-        Content::Ticket(pending) => {
+        Content::PendingEvent(pending) => {
             events.leave(seat, pending);
         }
-        Content::Stub(receipt) => events.learn(seat, receipt),
+        Content::EventReceipt(receipt) => events.learn(seat, receipt),
         _ => unreachable!(),
     }
 }

@@ -7,17 +7,17 @@ ghost use Rattle.event_table.specs.declared.handle.Handle.{Handle as TheHandle};
 ghost use Rattle.shared_events.specs.Seats.{Grows, Keeps, SamePlacings};
 ghost use Rattle.shared_events.specs.Views.{shape_of, lists};
 ghost use Rattle.run_words.specs.declared.content.Content.{Content as TheContent};
-ghost use Rattle.run_words.specs.declared.content.Content.TheVariants.{Nothing, Tray};
-ghost use Rattle.run_words.specs.declared.content.Desk.{Desk as TheDesk};
+ghost use Rattle.run_words.specs.declared.content.Content.TheVariants.{Nothing, Issuer};
+ghost use Rattle.run_words.specs.declared.content.IssueState.{IssueState as TheIssueState};
 ghost use Rattle.run_words.specs.Issuing.{AllPending};
-ghost use Rattle.run_words.specs.Layout.{size_of, desk_slot, desk_word};
-ghost use Rattle.run_words.specs.Plays.{issued_at, without_issue, with_desk, without_desk, missed, after_issue};
+ghost use Rattle.run_words.specs.Layout.{size_of, issue_turn_slot, issue_turn_word};
+ghost use Rattle.run_words.specs.Plays.{issued_at, without_issue, with_issue_turn, without_issue_turn, missed, after_issue};
 ghost use Rattle.run_words.specs.Premises.{IsNumbered};
-ghost use Rattle.run_words.specs.Rule.{IsTray};
+ghost use Rattle.run_words.specs.Rule.{IsIssueState};
 ghost use Rattle.run_words.specs.Standing.{KeepsWaiters, IssuesInTurn, IsStill};
 ghost use Rattle.run_words.specs.Words.{graph_of, events_of, IsSeatOf, IsAt, KnowsIssued, KnowsEnded, KnowsHandles, IsEventSeat, FoundTaken, events_seat, numbers_of, splits_of};
 
-use crate::content::{Content, Desk};
+use crate::content::{Content, IssueState};
 use crate::moves::Place;
 use crate::seats::WordSeat;
 use crate::words::Words;
@@ -38,64 +38,70 @@ fn push_within(handles: &mut Vec<Handle>, handle: Handle)
     }
 }
 
-/// What lies on the desk.
-pub(crate) fn tray_of(content: Content) -> Desk
-    requires { (d : TheDesk) × (content ≡ Tray d) }
-    ensures { content ≡ Tray result }
+/// The issue state.
+pub(crate) fn issue_state_of(content: Content) -> IssueState
+    requires { (d : TheIssueState) × (content ≡ Issuer d) }
+    ensures { content ≡ Issuer result }
 {
-    let Content::Tray(desk) = content else {
+    let Content::Issuer(issue_turn) = content else {
         unreachable!()
     };
-    desk
+    issue_turn
 }
 
-/// The slot of the desk.
-pub(crate) fn desk_slot(graph: &Graph) -> usize
-    ensures { result ≡ desk_slot (size_of graph.now) }
+/// The slot of the issue state.
+pub(crate) fn issue_turn_slot(graph: &Graph) -> usize
+    ensures { result ≡ issue_turn_slot (size_of graph.now) }
 {
     graph.lines() as usize + graph.columns() as usize
 }
 
 impl<'g> Words<'g> {
-    /// The slot of the desk.
-    pub(crate) fn desk_slot(&self) -> usize
-        ensures { result ≡ desk_slot (size_of (graph_of self.now)) }
+    /// The slot of the issue state.
+    pub(crate) fn issue_turn_slot(&self) -> usize
+        ensures { result ≡ issue_turn_slot (size_of (graph_of self.now)) }
     {
-        desk_slot(self.base.checked.graph())
+        issue_turn_slot(self.base.checked.graph())
     }
 
-    /// Issues the next line, in the desk's turn and with what lies on the desk. False comes where
+    /// Issues the next line, in the issue turn and with the issue state. False comes where
     /// each event slot was found pending. Nobody else issues in this turn, so the line is
     /// claimed at the first try.
-    fn issue_next(&self, seat: &mut Place, events: &mut Seat, desk: &mut Desk, line: u32) -> bool
+    fn issue_next(
+        &self,
+        seat: &mut Place,
+        events: &mut Seat,
+        issue_turn: &mut IssueState,
+        line: u32,
+    ) -> bool
         requires at { IsSeatOf self.now seat.old }
         requires events { IsEventSeat self.now events.old }
         requires line { line < length (graph_of self.now).lines }
         requires quiet { seat.old.me.0.issuing ≡ None }
-        requires turn { seat.old.me.0.desk ≡ Some desk.old.handles.items }
-        requires next { length desk.old.handles.items ≡ line }
-        requires tray { IsTray (events_of self.now) (length (graph_of self.now).lines) desk.old.handles.items desk.old }
+        requires turn { seat.old.me.0.issue_turn ≡ Some issue_turn.old.handles.items }
+        requires next { length issue_turn.old.handles.items ≡ line }
+        requires issue_state { IsIssueState (events_of self.now) (length (graph_of self.now).lines) issue_turn.old.handles.items issue_turn.old }
         ensures at { IsSeatOf self.now seat.new }
-        ensures tray { IsTray (events_of self.now) (length (graph_of self.now).lines) desk.new.handles.items desk.new }
-        ensures waiters { desk.new.waiters.items ≡ desk.old.waiters.items }
+        ensures issue_state { IsIssueState (events_of self.now) (length (graph_of self.now).lines) issue_turn.new.handles.items issue_turn.new }
+        ensures waiters { issue_turn.new.waiters.items ≡ issue_turn.old.waiters.items }
         ensures events { IsEventSeat self.now events.new }
         ensures kept { Keeps (lists events.old) (lists events.new) }
         ensures grows { Grows (lists events.old) (lists events.new) }
         ensures same_placings { SamePlacings (lists events.old) (lists events.new) }
-        ensures issued { result ≡ true → (h : TheHandle) × (desk.new.handles.items ≡ desk.old.handles.items ++ h ∷ [])
+        ensures issued { result ≡ true → (h : TheHandle) × (issue_turn.new.handles.items ≡ issue_turn.old.handles.items ++ h ∷ [])
             × (seat.new.me ≡ (issued_at seat.old.me.0 line (h ∷ []), seat.old.me.1)) }
-        ensures full { result ≡ false → (desk.new.handles.items ≡ desk.old.handles.items)
+        ensures full { result ≡ false → (issue_turn.new.handles.items ≡ issue_turn.old.handles.items)
             × (seat.new.me ≡ (without_issue seat.old.me.0, seat.old.me.1))
-            × AllPending (shape_of (events_of self.now)) desk.new.handles.items (lists events.old) (lists events.new) }
+            × AllPending (shape_of (events_of self.now)) issue_turn.new.handles.items (lists events.old) (lists events.new) }
     {
         self.begin_issue(seat, line);
-        match self.base.events.create(&mut desk.maker, events) {
+        match self.base.events.create(&mut issue_turn.maker, events) {
             Some(mut pending) => {
-                // The seat on the desk has then seen the handles of all issued lines, as who watches
+                // The seat in the issue state has then seen the handles of all issued lines, as who watches
                 // one must.
-                self.base.events.see(&mut desk.seat, &mut pending);
-                push_within(&mut desk.handles, pending.handle());
-                self.put_in(seat, line as usize, Content::Ticket(pending));
+                self.base.events.see(&mut issue_turn.seat, &mut pending);
+                push_within(&mut issue_turn.handles, pending.handle());
+                self.put_in(seat, line as usize, Content::PendingEvent(pending));
                 self.store_issue(seat, line);
                 true
             }
@@ -106,85 +112,90 @@ impl<'g> Words<'g> {
         }
     }
 
-    /// Takes the desk's turn and what lies on the desk. None comes where the turn was found in
+    /// Takes the issue turn and the issue state. None comes where the turn was found in
     /// another's hand.
-    pub(crate) fn take_tray(&self, seat: &mut Place) -> Option<Desk>
+    pub(crate) fn take_issue_state(&self, seat: &mut Place) -> Option<IssueState>
         requires at { IsSeatOf self.now seat.old }
-        requires idle { seat.old.me.0.desk ≡ None }
+        requires idle { seat.old.me.0.issue_turn ≡ None }
         requires numbered { IsNumbered seat.old.me.0 }
         ensures at { IsSeatOf self.now seat.new }
-        ensures tray { IfSome result (λ d. IsTray (events_of self.now) (length (graph_of self.now).lines) d.handles.items d
+        ensures issue_state { IfSome result (λ d. IsIssueState (events_of self.now) (length (graph_of self.now).lines) d.handles.items d
             × (length d.handles.items ≤ length (graph_of self.now).lines)) }
         ensures taken { IfSome result (λ d. seat.new.me
-            ≡ (with_desk seat.old.me.0 d.handles.items d, (desk_slot (size_of (graph_of self.now)), Nothing) ∷ seat.old.me.1)) }
-        ensures none { IfNone result ((r : ℕ) × (r ≢ 0) × missed (desk_word (size_of (graph_of self.now))) seat.old.me r seat.new.me) }
+            ≡ (with_issue_turn seat.old.me.0 d.handles.items d, (issue_turn_slot (size_of (graph_of self.now)), Nothing) ∷ seat.old.me.1)) }
+        ensures none { IfNone result ((r : ℕ) × (r ≢ 0) × missed (issue_turn_word (size_of (graph_of self.now))) seat.old.me r seat.new.me) }
     {
-        if self.take_desk(seat) != 0 {
+        if self.take_issue_turn(seat) != 0 {
             return None;
         }
-        let slot = self.desk_slot();
-        Some(tray_of(self.take_out(seat, slot)))
+        let slot = self.issue_turn_slot();
+        Some(issue_state_of(self.take_out(seat, slot)))
     }
 
-    /// Lays things on the desk and gives its turn.
-    pub(crate) fn give_tray(&self, seat: &mut Place, desk: Desk)
+    /// Puts the issue state back and gives its turn.
+    pub(crate) fn give_issue_state(&self, seat: &mut Place, issue_turn: IssueState)
         requires at { IsSeatOf self.now seat.old }
         requires quiet { seat.old.me.0.issuing ≡ None }
-        requires turn { seat.old.me.0.desk ≡ Some desk.handles.items }
-        requires tray { IsTray (events_of self.now) (length (graph_of self.now).lines) desk.handles.items desk }
-        requires hand { (left : List (ℕ × TheContent)) × (seat.old.me.1 ≡ (desk_slot (size_of (graph_of self.now)), Nothing) ∷ left) }
+        requires turn { seat.old.me.0.issue_turn ≡ Some issue_turn.handles.items }
+        requires issue_state { IsIssueState (events_of self.now) (length (graph_of self.now).lines) issue_turn.handles.items issue_turn }
+        requires hand { (left : List (ℕ × TheContent)) × (seat.old.me.1 ≡ (issue_turn_slot (size_of (graph_of self.now)), Nothing) ∷ left) }
         ensures at { IsSeatOf self.now seat.new }
-        ensures given { (left : List (ℕ × TheContent)) → seat.old.me.1 ≡ (desk_slot (size_of (graph_of self.now)), Nothing) ∷ left
-            → seat.new.me ≡ (without_desk seat.old.me.0 (desk ∷ []), left) }
+        ensures given { (left : List (ℕ × TheContent)) → seat.old.me.1 ≡ (issue_turn_slot (size_of (graph_of self.now)), Nothing) ∷ left
+            → seat.new.me ≡ (without_issue_turn seat.old.me.0 (issue_turn ∷ []), left) }
     {
-        let slot = self.desk_slot();
-        self.put_in(seat, slot, Content::Tray(desk));
-        self.give_desk(seat);
+        let slot = self.issue_turn_slot();
+        self.put_in(seat, slot, Content::Issuer(issue_turn));
+        self.give_issue_turn(seat);
     }
 
-    /// Issues the next line, if one is left, in the desk's turn.
-    fn issue_in_turn(&self, seat: &mut Place, events: &mut Seat, desk: &mut Desk) -> Issue
+    /// Issues the next line, if one is left, in the issue turn.
+    fn issue_in_turn(
+        &self,
+        seat: &mut Place,
+        events: &mut Seat,
+        issue_turn: &mut IssueState,
+    ) -> Issue
         requires at { IsSeatOf self.now seat.old }
         requires events { IsEventSeat self.now events.old }
         requires quiet { seat.old.me.0.issuing ≡ None }
-        requires turn { seat.old.me.0.desk ≡ Some desk.old.handles.items }
-        requires few { length desk.old.handles.items ≤ length (graph_of self.now).lines }
-        requires tray { IsTray (events_of self.now) (length (graph_of self.now).lines) desk.old.handles.items desk.old }
+        requires turn { seat.old.me.0.issue_turn ≡ Some issue_turn.old.handles.items }
+        requires few { length issue_turn.old.handles.items ≤ length (graph_of self.now).lines }
+        requires issue_state { IsIssueState (events_of self.now) (length (graph_of self.now).lines) issue_turn.old.handles.items issue_turn.old }
         ensures at { IsSeatOf self.now seat.new }
-        ensures tray { IsTray (events_of self.now) (length (graph_of self.now).lines) desk.new.handles.items desk.new }
-        ensures waiters { desk.new.waiters.items ≡ desk.old.waiters.items }
-        ensures now { (new : List ℕ) × (seat.new.me ≡ (after_issue seat.old.me.0 new desk.new.handles.items, seat.old.me.1)) }
+        ensures issue_state { IsIssueState (events_of self.now) (length (graph_of self.now).lines) issue_turn.new.handles.items issue_turn.new }
+        ensures waiters { issue_turn.new.waiters.items ≡ issue_turn.old.waiters.items }
+        ensures now { (new : List ℕ) × (seat.new.me ≡ (after_issue seat.old.me.0 new issue_turn.new.handles.items, seat.old.me.1)) }
         ensures issued { (i : ℕ) → result ≡ Issue.Issued i → Contains seat.new.me.0.issued i × (i < length (graph_of self.now).lines) }
-        ensures all { result ≡ Issue.All → (length desk.new.handles.items ≡ length (graph_of self.now).lines)
-            × (desk.new.handles.items ≡ desk.old.handles.items) }
+        ensures all { result ≡ Issue.All → (length issue_turn.new.handles.items ≡ length (graph_of self.now).lines)
+            × (issue_turn.new.handles.items ≡ issue_turn.old.handles.items) }
         ensures events { IsEventSeat self.now events.new }
         ensures kept { Keeps (lists events.old) (lists events.new) }
         ensures grows { Grows (lists events.old) (lists events.new) }
         ensures same_placings { SamePlacings (lists events.old) (lists events.new) }
         ensures full { result ≡ Issue.NoSlot
-            → AllPending (shape_of (events_of self.now)) desk.new.handles.items (lists events.old) (lists events.new) }
-        ensures grown { (i : ℕ) → result ≡ Issue.Issued i → (length desk.old.handles.items ≡ i)
-            × (h : TheHandle) × (desk.new.handles.items ≡ desk.old.handles.items ++ h ∷ []) }
-        ensures same { result ≡ Issue.NoSlot → desk.new.handles.items ≡ desk.old.handles.items }
+            → AllPending (shape_of (events_of self.now)) issue_turn.new.handles.items (lists events.old) (lists events.new) }
+        ensures grown { (i : ℕ) → result ≡ Issue.Issued i → (length issue_turn.old.handles.items ≡ i)
+            × (h : TheHandle) × (issue_turn.new.handles.items ≡ issue_turn.old.handles.items ++ h ∷ []) }
+        ensures same { result ≡ Issue.NoSlot → issue_turn.new.handles.items ≡ issue_turn.old.handles.items }
         ensures not_other { result ≡ Issue.Other → ⊥ }
     {
         let lines = self.base.checked.graph().lines();
-        let line = desk.handles.len() as u32;
+        let line = issue_turn.handles.len() as u32;
         if line >= lines {
             return Issue::All;
         }
-        if self.issue_next(seat, events, desk, line) {
+        if self.issue_next(seat, events, issue_turn, line) {
             Issue::Issued(line)
         } else {
             Issue::NoSlot
         }
     }
 
-    /// Issues the next line in file order, in the desk's turn: as many handles as its number lay on the
-    /// desk. NoSlot comes only where loads of this call, which the seat then shows, found each
+    /// Issues the next line in file order, in the issue turn: as many handles as its number lay on the
+    /// issue state. NoSlot comes only where loads of this call, which the seat then shows, found each
     /// event slot pending; All only where the seat then knows every line issued; Other only where the
-    /// desk's turn was found in another's hand, and then nothing else was learnt or done. No handle is new
-    /// but that of the line that is issued, and the waiters stay on the desk.
+    /// issue turn was found in another's hand, and then nothing else was learnt or done. No handle is new
+    /// but that of the line that is issued, and the waiters stay in the issue state.
     pub fn issue(&self, seat: &mut WordSeat) -> Issue
         requires at { IsAt self.now seat.old }
         ensures at { IsAt self.now seat.new }
@@ -201,15 +212,15 @@ impl<'g> Words<'g> {
         ensures grown { (i : ℕ) → result ≡ Issue.Issued i → (h : TheHandle) × IssuesInTurn self.now seat.old seat.new i (h ∷ []) }
         ensures none_full { result ≡ Issue.NoSlot → (k : ℕ) × IssuesInTurn self.now seat.old seat.new k [] }
         ensures none_left { result ≡ Issue.All → IssuesInTurn self.now seat.old seat.new (length (graph_of self.now).lines) [] }
-        ensures other { result ≡ Issue.Other → FoundTaken seat.old seat.new (desk_word (size_of (graph_of self.now))) }
+        ensures other { result ≡ Issue.Other → FoundTaken seat.old seat.new (issue_turn_word (size_of (graph_of self.now))) }
         ensures still { result ≡ Issue.Other → IsStill self.now seat.old seat.new }
         ensures numbers { (numbers_of seat.new ≡ numbers_of seat.old) × (splits_of seat.new ≡ splits_of seat.old) }
     {
-        let Some(mut desk) = self.take_tray(&mut seat.inner) else {
+        let Some(mut issue_turn) = self.take_issue_state(&mut seat.inner) else {
             return Issue::Other;
         };
-        let answer = self.issue_in_turn(&mut seat.inner, &mut seat.events, &mut desk);
-        self.give_tray(&mut seat.inner, desk);
+        let answer = self.issue_in_turn(&mut seat.inner, &mut seat.events, &mut issue_turn);
+        self.give_issue_state(&mut seat.inner, issue_turn);
         answer
     }
 }

@@ -12,11 +12,11 @@ ghost use Rattle.shared_events.specs.Views.{shape_of, IsAt as IsEventsAt, IsSetO
 ghost use Rattle.run_words.specs.Layout.{size_of};
 ghost use Rattle.run_words.specs.Opening.{AreFirstWords, AreFirstSlots};
 ghost use Rattle.run_words.specs.Preparing.{IsLoose, AreLoose, AreWaiters, AreHome, AreEmpty, AreOut};
-ghost use Rattle.run_words.specs.Rule.{IsTray};
+ghost use Rattle.run_words.specs.Rule.{IsIssueState};
 ghost use Rattle.run_words.specs.Words.{graph_of, events_of, IsAt, numbers_of, splits_of};
 
 use crate::base::Base;
-use crate::content::{Content, Desk};
+use crate::content::{Content, IssueState};
 use crate::moves::APART;
 use crate::seats::WordSeat;
 use crate::spare::Spare;
@@ -38,9 +38,9 @@ fn let_loose(content: Content)
 {
     match content {
         Content::Nothing => {}
-        Content::Stub(receipt) => drop(receipt),
+        Content::EventReceipt(receipt) => drop(receipt),
         Content::Cells(column) => drop(column),
-        Content::Tray(desk) => drop(desk),
+        Content::Issuer(issue_turn) => drop(issue_turn),
         _ => unreachable!(),
     }
 }
@@ -151,10 +151,10 @@ fn first_slots(
     alloc: Global,
     graph: &Graph,
     homes: &mut Homes,
-    desk: Desk,
+    issue_turn: IssueState,
 ) -> Result<Vec<Content>, NoMemory>
     requires zero { homes.old ≡ all_home graph.now zero_cells }
-    ensures home { (e : TheEvents) → IsTray e (length graph.now.lines) [] desk
+    ensures home { (e : TheEvents) → IsIssueState e (length graph.now.lines) [] issue_turn
         → IfOk result (λ slots. AreFirstSlots graph.now e (size_of graph.now) slots.items) }
     ensures loose { IfOk result (λ slots. AreLoose slots.items) }
     ensures out { IfOk result (λ slots. AreOut graph.now homes.new) }
@@ -163,7 +163,7 @@ fn first_slots(
     let count = lines as usize + graph.columns() as usize + 1;
     let mut slots = line_slots(alloc, lines, count)?;
     move_columns(graph, homes, &mut slots);
-    push_slot(&mut slots, Content::Tray(desk));
+    push_slot(&mut slots, Content::Issuer(issue_turn));
     Ok(slots)
 }
 
@@ -219,13 +219,17 @@ fn last_gen(slots: u32, lines: u32) -> u32
     lines.saturating_sub(slots)
 }
 
-/// The events of a run that begins, the desk, and a seat.
-fn new_desk(alloc: Global, slots: u32, lines: u32) -> Result<(Events, Desk, Seat), NoMemory>
+/// The events of a run that begins, the issue state, and a seat.
+fn new_issue_turn(
+    alloc: Global,
+    slots: u32,
+    lines: u32,
+) -> Result<(Events, IssueState, Seat), NoMemory>
     requires slots { (0 < slots) × (slots ≤ 8192) }
     requires lines { lines ≤ 8192 }
     ensures shape { IfOk result (λ r. ((shape_of r.0).slots ≡ slots) × ((shape_of r.0).waiters ≡ lines)
         × ((shape_of r.0).last_gen ≡ lines - slots)) }
-    ensures tray { IfOk result (λ r. IsTray r.0 lines [] r.1) }
+    ensures issue_state { IfOk result (λ r. IsIssueState r.0 lines [] r.1) }
     ensures at { IfOk result (λ r. IsEventsAt r.0 r.2) }
 {
     let Ok((events, maker, mut seat, set)) = Events::new(
@@ -241,13 +245,13 @@ fn new_desk(alloc: Global, slots: u32, lines: u32) -> Result<(Events, Desk, Seat
     };
     let waiters = all_waiters(alloc, &events, set, lines)?;
     let own = events.split(&mut seat);
-    let desk = Desk {
+    let issue_turn = IssueState {
         maker,
         handles,
         seat: own,
         waiters,
     };
-    Ok((events, desk, seat))
+    Ok((events, issue_turn, seat))
 }
 
 impl<'g> Words<'g> {
@@ -272,8 +276,8 @@ impl<'g> Words<'g> {
         let _ = checked.need();
         let words = first_words(alloc, graph)?;
         let mut spare = Spare::prepare(alloc, graph, slots)?;
-        let (events, desk, seat) = new_desk(alloc, slots, graph.lines())?;
-        let contents = first_slots(alloc, graph, &mut spare.homes, desk)?;
+        let (events, issue_turn, seat) = new_issue_turn(alloc, slots, graph.lines())?;
+        let contents = first_slots(alloc, graph, &mut spare.homes, issue_turn)?;
         let base = Base { checked, events };
         match Table::new(alloc, words.as_slice(), contents, &base) {
             Ok((table, inner)) => Ok((

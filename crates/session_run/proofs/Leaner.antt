@@ -10,7 +10,6 @@ use Rattle.graph_terms.specs.declared.verb.Line.{Line}
 use Rattle.graph_terms.specs.declared.verb.Verb.{Verb}
 use Rattle.graph_terms.specs.declared.verb.Verb.TheVariants.{Trigger, Cancel}
 use Rattle.graph_terms.specs.declared.format.Format.{Format}
-use Rattle.graph_terms.specs.declared.format.Format.TheVariants.{One, Two}
 use Rattle.graph_terms.specs.declared.why.Why.TheVariants as why
 use Rattle.graph_terms.specs.Graph.{GraphValue, columns, locks, barriers, decl_name, line_passes, is_user, ends_user}
 use Rattle.graph_terms.specs.Edges.{edges, line_edges}
@@ -126,12 +125,10 @@ abbrev pub link_as : Link → Verb → Line
 link_as l v = record { name = l.line; verb = v; on = None }
 
 lacks_no_trigger : (fm : Format) (u : ℕ) → format_lacks fm (Trigger u) ≡ false
-lacks_no_trigger One u = refl
-lacks_no_trigger Two u = refl
+lacks_no_trigger fm u = refl
 
 lacks_no_cancel : (fm : Format) (u : ℕ) → format_lacks fm (Cancel u) ≡ false
-lacks_no_cancel One u = refl
-lacks_no_cancel Two u = refl
+lacks_no_cancel fm u = refl
 
 -- a trigger or a cancel of a user line
 abbrev pub ender : Bool → ℕ → Verb

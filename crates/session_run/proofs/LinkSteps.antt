@@ -1,9 +1,9 @@
 -- The graph of an entry with the lines of its links so far.
-use Rattle.std.proofs.Common.{◌≡◌, ℕ, zero, suc, ◌+◌, ◌<◌, ◌≤◌, Bool, true, false, List, [], ◌∷◌, ◌++◌, length, map, take, refl, sym, ◌∙◌, ap, subst, append_assoc, append-nil, length-append, arith}
+use Rattle.std.proofs.Common.{◌≡◌, ℕ, zero, suc, ◌+◌, ◌<◌, ◌≤◌, Bool, true, false, not, List, [], ◌∷◌, ◌++◌, length, map, take, refl, sym, ◌∙◌, ap, subst, append_assoc, append-nil, length-append, arith}
 use Rattle.std.specs.Prelude.{◌==◌, Option, Some, None, slice_get, option_map, bytes_eq}
 use Rattle.std.specs.Option.{option_map_or}
 use Rattle.std.specs.List.{list_any}
-use Rattle.std.proofs.lemmas.Bool.{true≢false, or_parts, or_from}
+use Rattle.std.proofs.lemmas.Bool.{true≢false, or_parts, or_from, and_parts}
 use Rattle.std.proofs.lemmas.List.{map-append, take_more}
 use Rattle.std.proofs.lemmas.List.Folds.{list_any-append}
 use Rattle.event_table.specs.declared.handle.Answer.{Answer}
@@ -11,13 +11,15 @@ use Rattle.event_table.specs.declared.handle.Answer.TheVariants.{Pending, Trigge
 use Rattle.graph_terms.specs.declared.verb.Line.{Line}
 use Rattle.graph_terms.specs.declared.verb.Verb.TheVariants.{Trigger, Cancel}
 use Rattle.graph_terms.specs.Graph.{GraphValue, line_passes, is_user}
-use Rattle.graph_terms.specs.Fits.{with_line, line_fault}
+use Rattle.graph_terms.specs.declared.why.Why.TheVariants as why
+use Rattle.graph_terms.specs.Name.{is_name_in}
+use Rattle.graph_terms.specs.Fits.{first_reason, with_line, line_fault}
 use Rattle.session_text.specs.declared.entry.Link.{Link}
 use Rattle.std.proofs.lemmas.Option.{none-some, same_Some, slice_get_within, get_or_from_slice_get}
 use Rattle.graph_terms.specs.declared.why.Why.{Why}
 use Rattle.graph_reader.specs.FirstFault.{or_else, is_line_name}
 use Rattle.session_text.specs.declared.entry.Entry.{Entry}
-use Rattle.session_text.specs.Fits.{trigger_line, with_trigger, with_triggers, trigger_reason, LinksFit}
+use Rattle.session_text.specs.Fits.{names_op, format_of, is_named, trigger_line, with_trigger, with_triggers, trigger_reason, link_reason, LinksFit}
 use Rattle.session_run.specs.Running.{CanLink}
 use Rattle.session_text.proofs.Entries.{triggers_push}
 use Rattle.session_run.specs.Linked.{LinkedGraph, link_answer, cancel_line, with_answer, with_links}
@@ -167,8 +169,30 @@ fits_at before name g done (k ∷ ls) (suc i) l f h =
 pub link_there : (before : List LinkedGraph) (g : GraphValue) (ls : List Link) (i : ℕ) (k : GraphValue) (l : Link) (c : CanLink g ls) → (s : Linking before g (take i ls) k) → slice_get ls i ≡ Some l → LinkFits g s.triggers s.lines l
 link_there before g ls i k l c s h = link_fits g s.triggers s.lines l s.leaner (ap (λ t. trigger_reason t l) (sym s.triggers_are) ∙ fits_at c.0 c.1 g [] ls i l c.2 h)
 
+-- and its name
+first_false : (b : Bool) (w : Why) (ts : List (Bool × Why)) → first_reason ((b, w) ∷ ts) ≡ None → b ≡ false
+first_false true w ts h = absurd (none-some w (sym h))
+first_false false w ts h = refl
+
+unnot : (b : Bool) → not b ≡ false → b ≡ true
+unnot true h = refl
+unnot false h = absurd (true≢false h)
+
+named_first : (before : List Entry) (e : Entry) (l : Link) → link_reason before e l ≡ None → is_name_in e.graph.format l.line ≡ true
+named_first before e l h =
+    let named : Bool = is_named e.graph.format (format_of before l.graph) l in
+    (and_parts (is_name_in e.graph.format l.line) _ (unnot named (first_false (not named) why.Name ((not (names_op before l), why.Unknown) ∷ []) (or_else_none _ _ h).0))).0
+
+name_at : (before : List Entry) (name : List ℕ) (g : GraphValue) (done : List Link) (ls : List Link) (i : ℕ) (l : Link) → LinksFit before (record { name = name; graph = g; links = done }) ls → slice_get ls i ≡ Some l
+    → is_name_in g.format l.line ≡ true
+name_at before name g done [] i l f h = absurd (none-some l h)
+name_at before name g done (k ∷ ls) zero l f h =
+    named_first before (record { name = name; graph = g; links = done }) l (subst (λ x. link_reason before (record { name = name; graph = g; links = done }) x ≡ None) (same_Some k l h) f.0)
+name_at before name g done (k ∷ ls) (suc i) l f h = name_at before name g (done ++ k ∷ []) ls i l f.1 h
+
 -- what is asked of a link that is put at the end
 pub record CanPut (k : GraphValue) (l : Link) : Type 0 where
+  pub name : is_name_in k.format l.line ≡ true
   pub user : is_line_name k l.user ≡ true
   pub trigger : line_fault k (trigger_line k l) ≡ None
   pub cancel : line_fault k (cancel_line k l) ≡ None
@@ -176,7 +200,7 @@ pub record CanPut (k : GraphValue) (l : Link) : Type 0 where
 pub can_put : (before : List LinkedGraph) (g : GraphValue) (ls : List Link) (i : ℕ) (k : GraphValue) (l : Link) (c : CanLink g ls) → Linking before g (take i ls) k → slice_get ls i ≡ Some l → CanPut k l
 can_put before g ls i k l c s h =
     let f = link_there before g ls i k l c s h in
-    subst (λ t. CanPut t l) (sym s.lines_are) (record { user = f.named; trigger = f.trigger; cancel = f.cancel })
+    subst (λ t. CanPut t l) (sym s.lines_are) (record { name = name_at c.0 c.1 g [] ls i l c.2 h; user = f.named; trigger = f.trigger; cancel = f.cancel })
 
 pub linked_more : (before : List LinkedGraph) (g : GraphValue) (ls : List Link) (i : ℕ) (k next : GraphValue) (l : Link) (c : CanLink g ls) → Linking before g (take i ls) k → slice_get ls i ≡ Some l → next ≡ with_answer k l (link_answer before l) → Linking before g (take (i + 1) ls) next
 linked_more before g ls i k next l c s h e =

@@ -1,7 +1,8 @@
 //! Links as lines.
 
-ghost use Rattle.std.specs.Prelude.{◌≡◌, true, None, OnOk};
+ghost use Rattle.std.specs.Prelude.{◌≡◌, true, None, OnOk, IsTrue};
 ghost use Rattle.graph_terms.specs.Fits.{line_fault};
+ghost use Rattle.graph_terms.specs.Name.{is_name_in};
 ghost use Rattle.graph_reader.specs.FirstFault.{is_line_name};
 ghost use Rattle.session_text.specs.Fits.{trigger_line};
 ghost use Rattle.session_run.specs.Linked.{cancel_line, with_answer};
@@ -15,6 +16,7 @@ use session_text::{Link, find_line};
 /// Puts the line of a link at the end, by the answer of its operation: a trigger or a cancel of its user
 /// line, or nothing.
 pub(crate) fn add_link(graph: &mut Graph, link: &Link, answer: Answer) -> Result<(), NoMemory>
+    requires named { IsTrue (is_name_in graph.old.format link.now.line) }
     requires user { is_line_name graph.old link.now.user ≡ true }
     requires trigger { line_fault graph.old (trigger_line graph.old link.now) ≡ None }
     requires cancel { line_fault graph.old (cancel_line graph.old link.now) ≡ None }

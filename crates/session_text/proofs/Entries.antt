@@ -1,14 +1,11 @@
--- Graphs and links that are put at the end: they fit, and what their text, their lines and their cells are.
-use Rattle.std.proofs.Common.{◌≡◌, ℕ, ◌+◌, false, List, [], ◌∷◌, ◌++◌, length, refl, sym, ◌∙◌, ap, subst, append_assoc, append-nil, length-append, arith}
-use Rattle.std.specs.Prelude.{None, flat_map, sum_by}
-use Rattle.std.proofs.lemmas.Grind.{flat_map-append}
+-- Graphs and links that are put at the end: they fit, and what their lines and their cells are.
+use Rattle.std.proofs.Common.{◌≡◌, ℕ, ◌+◌, false, List, [], ◌∷◌, ◌++◌, length, refl, sym, ◌∙◌, subst, append_assoc, append-nil, length-append, arith}
+use Rattle.std.specs.Prelude.{None}
 use Rattle.std.proofs.lemmas.List.Sums.{sum_by_push}
 use Rattle.graph_terms.specs.Graph.{GraphValue}
 use Rattle.graph_terms.specs.Fits.{IsGraph, cell_count}
-use Rattle.graph_words.specs.Text.{text}
 use Rattle.session_text.specs.declared.entry.Link.{Link}
 use Rattle.session_text.specs.declared.entry.Entry.{Entry}
-use Rattle.session_text.specs.Session.{graph_line, link_text, entry_text, first_text, session_head, entry_count, session_count}
 use Rattle.session_text.specs.Fits.{with_trigger, with_triggers, entry_lines, all_lines, all_cells, is_large, graph_reason, link_reason, with_link, bare_entry, LinksFit, EntryFits, EntriesFit, AreEntries}
 
 -- an entry with these links behind its own
@@ -50,41 +47,14 @@ pub triggers_push : (g : GraphValue) (ls : List Link) (l : Link) → with_trigge
 triggers_push g [] l = refl
 triggers_push g (k ∷ ls) l = triggers_push (with_trigger g k) ls l
 
--- one graph more: lines and cells, text and lines of text
+-- one graph more: lines and cells
 pub lines_push : (es : List Entry) (e : Entry) → all_lines (es ++ e ∷ []) ≡ all_lines es + entry_lines e
 lines_push es e = sum_by_push entry_lines es e
 
 pub cells_push : (es : List Entry) (e : Entry) → all_cells (es ++ e ∷ []) ≡ all_cells es + cell_count e.graph
 cells_push es e = sum_by_push (λ (x : Entry). cell_count x.graph) es e
 
-pub count_push : (es : List Entry) (e : Entry) → session_count (es ++ e ∷ []) ≡ session_count es + entry_count e
-count_push es e = let s : sum_by entry_count (es ++ e ∷ []) ≡ sum_by entry_count es + entry_count e = sum_by_push entry_count es e in omega arith
-
-pub head_push : (es : List Entry) (e : Entry) → session_head (es ++ e ∷ []) ≡ session_head es ++ entry_text e
-head_push es e =
-    ap (λ x. first_text ++ x) (flat_map-append entry_text es (e ∷ []) ∙ ap (λ x. flat_map entry_text es ++ x) (append-nil (entry_text e)))
-    ∙ sym (append_assoc first_text (flat_map entry_text es) (entry_text e))
-
 -- one link more
-link_push : (e : Entry) (l : Link) → entry_text (with_link e l) ≡ entry_text e ++ link_text l
-link_push e l =
-    ap (λ x. graph_line e.name ++ (text e.graph ++ x)) (flat_map-append link_text e.links (l ∷ []) ∙ ap (λ x. flat_map link_text e.links ++ x) (append-nil (link_text l)))
-    ∙ (ap (λ x. graph_line e.name ++ x) (sym (append_assoc (text e.graph) (flat_map link_text e.links) (link_text l)))
-    ∙ sym (append_assoc (graph_line e.name) (text e.graph ++ flat_map link_text e.links) (link_text l)))
-
-pub head_link : (before : List Entry) (e : Entry) (l : Link) → session_head (before ++ with_link e l ∷ []) ≡ session_head (before ++ e ∷ []) ++ link_text l
-head_link before e l =
-    head_push before (with_link e l)
-    ∙ (ap (λ x. session_head before ++ x) (link_push e l)
-    ∙ (sym (append_assoc (session_head before) (entry_text e) (link_text l)) ∙ ap (λ x. x ++ link_text l) (sym (head_push before e))))
-
-pub count_link : (before : List Entry) (e : Entry) (l : Link) → session_count (before ++ with_link e l ∷ []) ≡ session_count (before ++ e ∷ []) + 1
-count_link before e l =
-    let a : session_count (before ++ with_link e l ∷ []) ≡ session_count before + entry_count (with_link e l) = count_push before (with_link e l) in
-    let b : session_count (before ++ e ∷ []) ≡ session_count before + entry_count e = count_push before e in
-    let n : length (e.links ++ l ∷ []) ≡ length e.links + 1 = length-append e.links (l ∷ []) in
-    omega arith
-
 pub lines_link : (before : List Entry) (e : Entry) (l : Link) → all_lines (before ++ with_link e l ∷ []) ≡ all_lines (before ++ e ∷ []) + 1
 lines_link before e l =
     let a : all_lines (before ++ with_link e l ∷ []) ≡ all_lines before + entry_lines (with_link e l) = lines_push before (with_link e l) in

@@ -3,7 +3,7 @@ pub mod Steps
 pub mod Naming
 pub mod Cells
 pub mod Parts
-pub mod GraphEnds
+pub mod Standing
 pub mod Stops
 pub mod OneText
 pub mod OpNames

@@ -1,8 +1,10 @@
 -- What is found of a name in a graph, and what the line of a link that triggers it is refused for.
-use Rattle.std.proofs.Common.{◌≡◌, ℕ, ◌+◌, ◌≤◌, Bool, true, false, not, List, [], ◌∷◌, length, refl, sym, ◌∙◌, ap, length-append, arith, inl, inr}
-use Rattle.std.specs.Prelude.{Option, Some, None, is_some, MatchOption, position, unwrap_or, bytes_eq, codes}
+use Rattle.std.proofs.Common.{◌≡◌, ℕ, ◌+◌, ◌-◌, ◌<◌, ◌≤◌, Bool, true, false, not, List, [], ◌∷◌, length, refl, sym, ◌∙◌, ap, arith}
+use Rattle.std.specs.Prelude.{Option, Some, None, is_some, MatchOption, position, unwrap_or, bytes_eq, count_by, ◌==◌}
 use Rattle.std.proofs.lemmas.Bool.{cond-true, cond-false}
-use Rattle.std.proofs.lemmas.Option.{none-some}
+use Rattle.std.proofs.lemmas.Option.{none-some, slice_get_within}
+use Rattle.std.proofs.lemmas.List.Splits.{length-slice_split}
+use Rattle.std.proofs.lemmas.List.Sums.{count_by-le-length}
 use Rattle.graph_terms.specs.declared.found.Found.{Found}
 use Rattle.graph_terms.specs.declared.found.Found.TheVariants as found
 use Rattle.graph_terms.specs.declared.verb.Line.{Line}
@@ -11,11 +13,10 @@ use Rattle.graph_terms.specs.declared.why.Why.{Why}
 use Rattle.graph_terms.specs.declared.why.Why.TheVariants as why
 use Rattle.graph_terms.specs.Graph.{GraphValue}
 use Rattle.graph_terms.specs.Names.{StandsFor}
-use Rattle.graph_terms.specs.Spelling.{head}
 use Rattle.graph_terms.specs.Fits.{IsGraph, first_reason, is_used, line_fault}
-use Rattle.graph_terms.proofs.Public.{long_head}
-use Rattle.graph_reader.specs.FirstFault.{is_line_name, line_count, FirstFault}
-use Rattle.graph_words.specs.Text.{text}
+use Rattle.graph_reader.specs.FirstFault.{is_line_name, FirstFault}
+use Rattle.graph_reader.specs.Laws.{refused_line, LinesStand}
+use Rattle.graph_words.specs.Words.{pieces}
 use Rattle.graph_reader.specs.Lookups.{found_line}
 use Rattle.graph_reader.proofs.Owners.{is_found}
 use Rattle.basics.proofs.TestedLists.{position_any}
@@ -65,17 +66,10 @@ never_fits true b h = none-some why.Twice (sym h)
 never_fits false true h = none-some why.Unknown (sym h)
 never_fits false false h = none-some why.Kind (sym h)
 
--- the first refused line of bytes is one of theirs, or just behind them
-pub fault_within : (bytes : List ℕ) (n : ℕ) (w : Why) → FirstFault bytes n w → n ≤ length bytes + 2
-fault_within bytes n w (inl f) = let e : n ≡ 1 = f.first in omega arith
-fault_within bytes n w (inr (inl f)) =
-    let e : n ≡ line_count f.before + 1 = f.number_is in
-    let l : line_count f.before ≤ length (head f.before) = long_head f.before in
-    let b : length bytes ≡ length (head f.before) + length f.rest = ap length f.begins ∙ length-append (head f.before) f.rest in
-    omega arith
-fault_within bytes n w (inr (inr f)) =
-    let e : n ≡ line_count f.before + 2 = f.number_is in
-    let l : line_count f.before ≤ length (head f.before) = long_head f.before in
-    let t : length (text f.before) ≡ length (head f.before) + 4 = length-append (head f.before) (codes "end\n") in
-    let b : length bytes ≡ length (text f.before) + length f.rest = ap length f.begins ∙ length-append (text f.before) f.rest in
+-- a refused line is one of the bytes
+pub fault_within : (bytes : List ℕ) (n : ℕ) (w : Why) → LinesStand bytes → FirstFault bytes n w → n ≤ length bytes + 1
+fault_within bytes n w lines f =
+    let place : n - 1 < length (pieces 10 bytes) = slice_get_within (pieces 10 bytes) (n - 1) (refused_line bytes n w f) (lines.refused n w f) in
+    let many : length (pieces 10 bytes) ≡ count_by (λ b. b == 10) bytes + 1 = length-slice_split (λ b. b == 10) bytes in
+    let few : count_by (λ b. b == 10) bytes ≤ length bytes = count_by-le-length (λ b. b == 10) bytes in
     omega arith

@@ -1,44 +1,49 @@
 -- Bytes are the text of one session at most, and have one first fault at most, and not both.
-use Rattle.std.proofs.Common.{◌≡◌, ℕ, zero, suc, ◌+◌, ◌<◌, ◌≤◌, Bool, true, false, cond, List, [], ◌∷◌, ◌++◌, ◌⊎◌, length, take, drop, inl, inr, refl, sym, ◌∙◌, ap, subst, append_assoc, append-nil, length-append, length-take, arith}
-use Rattle.std.specs.Prelude.{◌≢◌, Option, Some, None, codes}
+use Rattle.std.proofs.Common.{◌≡◌, ℕ, ◌+◌, List, [], ◌∷◌, ◌++◌, drop, inl, inr, refl, sym, ◌∙◌, ap, subst, append-nil, arith}
+use Rattle.std.specs.Prelude.{None}
 use Rattle.std.proofs.lemmas.Option.{none-some, same_Some}
 use Rattle.graph_terms.specs.declared.why.Why.{Why}
-use Rattle.graph_terms.specs.declared.why.Why.TheVariants as why
-use Rattle.graph_terms.specs.Graph.{GraphValue}
-use Rattle.graph_terms.specs.Fits.{IsGraph}
-use Rattle.graph_words.specs.Text.{text, GraphText}
-use Rattle.graph_reader.specs.FirstFault.{line_count, FirstFault}
+use Rattle.graph_words.specs.Text.{GraphText}
+use Rattle.graph_reader.specs.FirstFault.{FirstFault}
 use Rattle.graph_reader.proofs.TextTells.{one_reading}
-use Rattle.realm_audit.specs.Parts.{before_end, graph_bytes}
+use Rattle.realm_audit.specs.Parts.{newlines, graph_bytes, trace_bytes}
 use Rattle.session_text.specs.declared.entry.Entry.{Entry}
-use Rattle.session_text.specs.Session.{graph_line, first_text, closing, session_head, session_text, session_count}
+use Rattle.session_text.specs.Session.{graph_line, closing, parts_of, PartsStand, HeadStands, BeginsAt}
 use Rattle.session_text.specs.Fits.{graph_reason, is_large, bare_entry, AreEntries, SessionText}
 use Rattle.session_text.specs.FirstFault.{with_last, next_reason, IsHeaderFault, IsLineFault, IsGraphFault, IsSumFault, IsRestFault, SessionFault}
 use Rattle.session_text.specs.Laws.{OneSession}
-use Rattle.session_text.proofs.Parts.{parts_text, parts_of, Spot, start, all_at, after_parts, head_is, parts_fit, all_after, spot_of}
-use Rattle.session_text.proofs.Stops.{StopsAt, one_stop, close_stops, line_stops, graph_stops, sum_stops, graph_reason_at, graph_named, graph_no_close, same_graph_line, same_text, cut_text}
+use Rattle.session_text.proofs.Parts.{Spot, start, all_at, after_parts, parts_fit, all_after, spot_of}
+use Rattle.session_text.proofs.Standing.{head_at}
+use Rattle.session_text.proofs.Stops.{StopsAt, one_stop, close_stops, line_stops, graph_stops, sum_stops, graph_reason_at, graph_named, graph_no_close, same_graph_line}
 
 abbrev at_end : List Entry → Spot
 at_end es = after_parts start (parts_of es)
 
 -- where reading stops
-pub record StopIn (bytes : List ℕ) (es : List Entry) (rest : List ℕ) : Type 0 where
+pub record StopIn (bytes : List ℕ) (es : List Entry) (left : List ℕ) : Type 0 where
   pub are : AreEntries es
-  pub begins : bytes ≡ session_head es ++ rest
-  pub stops : StopsAt (at_end es) rest
-
-front_is : (bytes : List ℕ) (es : List Entry) (rest : List ℕ) → bytes ≡ session_head es ++ rest → bytes ≡ first_text ++ (parts_text (parts_of es) ++ rest)
-front_is bytes es rest e = e ∙ (ap (λ x. x ++ rest) (head_is es) ∙ append_assoc first_text (parts_text (parts_of es)) rest)
+  pub begins : HeadStands bytes es left
+  pub stops : StopsAt (at_end es) left
 
 same_stop : (bytes : List ℕ) (es fs : List Entry) (a b : List ℕ) → StopIn bytes es a → StopIn bytes fs b → (es ≡ fs) × (a ≡ b)
 same_stop bytes es fs a b x y =
-    let texts : parts_text (parts_of es) ++ a ≡ parts_text (parts_of fs) ++ b = ap (drop 16) (sym (front_is bytes es a x.begins) ∙ front_is bytes fs b y.begins) in
-    let r = one_stop start (parts_of es) (parts_of fs) a b (parts_fit es x.are) (parts_fit fs y.are) texts x.stops y.stops in
+    let u = x.begins in
+    let v = y.begins in
+    let behind : u.behind ≡ v.behind = ap (drop 16) (sym u.begins ∙ v.begins) in
+    let r = one_stop start (parts_of es) (parts_of fs) u.behind a b (parts_fit es x.are) (parts_fit fs y.are) u.parts (subst (λ z. PartsStand z (parts_of fs) b) (sym behind) v.parts) x.stops y.stops in
     (sym (all_after es) ∙ (ap (λ ps. all_at (after_parts start ps)) r.0 ∙ all_after fs), r.1)
 
-module _ (bytes : List ℕ) (few : length bytes ≤ 1048576) where
+-- the number of what is left is one
+same_number : (bytes a b : List ℕ) (n m : ℕ) → a ≡ b → BeginsAt bytes a n → BeginsAt bytes b m → n ≡ m
+same_number bytes a b n m e x y =
+    let lines : newlines a ≡ newlines b = ap newlines e in
+    let one : n + newlines a ≡ newlines bytes + 1 = x in
+    let other : m + newlines b ≡ newlines bytes + 1 = y in
+    omega arith
+
+module _ (bytes : List ℕ) where
   text_stop : (es : List Entry) → SessionText bytes es → StopIn bytes es (closing ++ [])
-  text_stop es t = record { are = t.are_entries; begins = t.is_text ∙ ap (λ x. session_head es ++ x) (sym (append-nil closing)); stops = close_stops (at_end es) [] }
+  text_stop es t = record { are = t.are_entries; begins = head_at bytes closing (closing ++ []) es (sym (append-nil closing)) t.is_text; stops = close_stops (at_end es) [] }
 
   line_stop : (n : ℕ) (w : Why) → (f : IsLineFault bytes n w) → StopIn bytes (with_last f.before f.last) f.rest
   line_stop n w f = record {
@@ -50,33 +55,25 @@ module _ (bytes : List ℕ) (few : length bytes ≤ 1048576) where
   named_at : (es : List Entry) (name : List ℕ) → graph_reason es name ≡ None → graph_reason (all_at (at_end es)) name ≡ None
   named_at es name h = ap (λ x. graph_reason x name) (all_after es) ∙ h
 
-  -- the text of a graph is within the bytes
-  short_text : (front rest : List ℕ) (g : GraphValue) → bytes ≡ front ++ rest → IsGraph g → graph_bytes rest ≡ text g → GraphText (graph_bytes rest) g
-  short_text front rest g e f h =
-      let all : length bytes ≡ length front + length rest = ap length e ∙ length-append front rest in
-      let part : length (graph_bytes rest) ≤ length rest = omega (arith, length-take (before_end rest + 4) rest) in
-      record { is_text = h; short = omega arith; is_graph = f }
-
   graph_stop : (n : ℕ) (w : Why) → (f : IsGraphFault bytes n w) → StopIn bytes f.before (graph_line f.name ++ f.rest)
   graph_stop n w f = record {
     are = f.are_entries;
     begins = f.begins;
-    stops = graph_stops (at_end f.before) f.name f.rest f.inside w (named_at f.before f.name f.named) f.fault
-        (λ g gi h. short_text (session_head f.before ++ graph_line f.name) f.rest g (f.begins ∙ sym (append_assoc (session_head f.before) (graph_line f.name) f.rest)) gi h);
+    stops = graph_stops (at_end f.before) f.name f.rest f.inside w (named_at f.before f.name f.named) f.fault;
   }
 
-  sum_stop : (n : ℕ) (w : Why) → (f : IsSumFault bytes n w) → StopIn bytes f.before (graph_line f.name ++ (text f.graph ++ f.rest))
+  sum_stop : (n : ℕ) (w : Why) → (f : IsSumFault bytes n w) → StopIn bytes f.before (graph_line f.name ++ (f.stands).behind)
   sum_stop n w f = record {
     are = f.are_entries;
-    begins = f.begins;
-    stops = sum_stops (at_end f.before) f.name f.graph f.rest (named_at f.before f.name f.named) f.is_graph (ap (λ x. is_large (x ++ bare_entry f.name f.graph ∷ [])) (all_after f.before) ∙ f.passed);
+    begins = head_at bytes f.from (graph_line f.name ++ (f.stands).behind) f.before (f.stands).begins f.begins;
+    stops = sum_stops (at_end f.before) f.name f.graph (f.stands).behind (named_at f.before f.name f.named) (f.stands).text_is (ap (λ x. is_large (x ++ bare_entry f.name f.graph ∷ [])) (all_after f.before) ∙ f.passed);
   }
 
   rest_stop : (n : ℕ) (w : Why) → (f : IsRestFault bytes n w) → StopIn bytes f.before (closing ++ f.rest)
-  rest_stop n w f = record { are = f.are_entries; begins = f.begins ∙ append_assoc (session_head f.before) closing f.rest; stops = close_stops (at_end f.before) f.rest }
+  rest_stop n w f = record { are = f.are_entries; begins = f.begins; stops = close_stops (at_end f.before) f.rest }
 
   no_header : (n : ℕ) (w : Why) (es : List Entry) (rest : List ℕ) → IsHeaderFault bytes n w → StopIn bytes es rest → ⊥
-  no_header n w es rest f x = f.no_header (parts_text (parts_of es) ++ rest) (front_is bytes es rest x.begins)
+  no_header n w es rest f x = f.no_header (x.begins).behind (x.begins).begins
 
   not_both : (es : List Entry) (n : ℕ) (w : Why) → SessionText bytes es → SessionFault bytes n w → ⊥
   not_both es n w t (inl f) = no_header n w es (closing ++ []) f (text_stop es t)
@@ -87,8 +84,8 @@ module _ (bytes : List ℕ) (few : length bytes ≤ 1048576) where
       let r = same_stop bytes es f.before (closing ++ []) (graph_line f.name ++ f.rest) (text_stop es t) (graph_stop n w f) in
       graph_no_close f.name f.rest [] (sym r.1)
   not_both es n w t (inr (inr (inr (inl f)))) =
-      let r = same_stop bytes es f.before (closing ++ []) (graph_line f.name ++ (text f.graph ++ f.rest)) (text_stop es t) (sum_stop n w f) in
-      graph_no_close f.name (text f.graph ++ f.rest) [] (sym r.1)
+      let r = same_stop bytes es f.before (closing ++ []) (graph_line f.name ++ (f.stands).behind) (text_stop es t) (sum_stop n w f) in
+      graph_no_close f.name (f.stands).behind [] (sym r.1)
   not_both es n w t (inr (inr (inr (inr f)))) =
       let r = same_stop bytes es f.before (closing ++ []) (closing ++ f.rest) (text_stop es t) (rest_stop n w f) in
       f.follows (sym (ap (drop 6) r.1))
@@ -112,33 +109,32 @@ module _ (bytes : List ℕ) (few : length bytes ≤ 1048576) where
       let spot : (record { before = f.before; last = f.last }) ≡ (record { before = g.before; last = g.last }) =
       sym (spot_of (with_last f.before f.last) f.before f.last f.first refl) ∙ (ap at_end r.0 ∙ spot_of (with_last g.before g.last) g.before g.last g.first refl) in
       let reason : next_reason f.before f.last f.rest ≡ next_reason g.before g.last g.rest = ap (λ (s : Spot). next_reason s.before s.last f.rest) spot ∙ ap (next_reason g.before g.last) r.1 in
-      (f.number_is ∙ (ap (λ es. session_count es + 1) r.0 ∙ sym g.number_is), same_Some w v (sym f.refused ∙ (reason ∙ g.refused)))
+      (same_number bytes f.rest g.rest n m r.1 f.number_is g.number_is, same_Some w v (sym f.refused ∙ (reason ∙ g.refused)))
 
   two_graphs : (n m : ℕ) (w v : Why) → IsGraphFault bytes n w → IsGraphFault bytes m v → (n ≡ m) × (w ≡ v)
   two_graphs n m w v f g =
       let r = same_stop bytes f.before g.before (graph_line f.name ++ f.rest) (graph_line g.name ++ g.rest) (graph_stop n w f) (graph_stop m v g) in
       let l = same_graph_line f.name g.name f.rest g.rest (graph_named f.before f.name f.named) (graph_named g.before g.name g.named) r.1 in
       let one = (one_reading (graph_bytes g.rest)).one_fault f.inside g.inside w v (subst (λ b. FirstFault (graph_bytes b) f.inside w) l.1 f.fault) g.fault in
-      (f.number_is ∙ (ap (λ es. session_count es + 1 + f.inside) r.0 ∙ (ap (λ k. session_count g.before + 1 + k) one.0 ∙ sym g.number_is)), one.1)
+      (f.number_is ∙ (ap (λ k. k + f.inside) (same_number bytes (graph_line f.name ++ f.rest) (graph_line g.name ++ g.rest) f.above g.above r.1 f.above_is g.above_is) ∙ (ap (λ k. g.above + k) one.0 ∙ sym g.number_is)), one.1)
 
   graph_no_sum : (n m : ℕ) (w v : Why) → IsGraphFault bytes n w → IsSumFault bytes m v → ⊥
   graph_no_sum n m w v f g =
-      let r = same_stop bytes f.before g.before (graph_line f.name ++ f.rest) (graph_line g.name ++ (text g.graph ++ g.rest)) (graph_stop n w f) (sum_stop m v g) in
-      let l = same_graph_line f.name g.name f.rest (text g.graph ++ g.rest) (graph_named f.before f.name f.named) (graph_named g.before g.name g.named) r.1 in
-      let is : GraphText (graph_bytes f.rest) g.graph = short_text (session_head f.before ++ graph_line f.name) f.rest g.graph (f.begins ∙ sym (append_assoc (session_head f.before) (graph_line f.name) f.rest)) g.is_graph (cut_text g.graph f.rest g.rest g.is_graph l.1) in
-      (one_reading (graph_bytes f.rest)).not_both (g.graph, is) (f.inside, w, f.fault)
+      let r = same_stop bytes f.before g.before (graph_line f.name ++ f.rest) (graph_line g.name ++ (g.stands).behind) (graph_stop n w f) (sum_stop m v g) in
+      let l = same_graph_line f.name g.name f.rest (g.stands).behind (graph_named f.before f.name f.named) (graph_named g.before g.name g.named) r.1 in
+      (one_reading (graph_bytes f.rest)).not_both (g.graph, subst (λ z. GraphText (graph_bytes z) g.graph) (sym l.1) (g.stands).text_is) (f.inside, w, f.fault)
 
   two_sums : (n m : ℕ) (w v : Why) → IsSumFault bytes n w → IsSumFault bytes m v → (n ≡ m) × (w ≡ v)
   two_sums n m w v f g =
-      let r = same_stop bytes f.before g.before (graph_line f.name ++ (text f.graph ++ f.rest)) (graph_line g.name ++ (text g.graph ++ g.rest)) (sum_stop n w f) (sum_stop m v g) in
-      let l = same_graph_line f.name g.name (text f.graph ++ f.rest) (text g.graph ++ g.rest) (graph_named f.before f.name f.named) (graph_named g.before g.name g.named) r.1 in
-      let t = same_text f.graph g.graph f.rest g.rest f.is_graph g.is_graph l.1 in
-      (f.number_is ∙ (ap (λ es. session_count es + 1 + (line_count f.graph + 1)) r.0 ∙ (ap (λ k. session_count g.before + 1 + (line_count k + 1)) t.0 ∙ sym g.number_is)), f.reason_is ∙ sym g.reason_is)
+      let r = same_stop bytes f.before g.before (graph_line f.name ++ (f.stands).behind) (graph_line g.name ++ (g.stands).behind) (sum_stop n w f) (sum_stop m v g) in
+      let l = same_graph_line f.name g.name (f.stands).behind (g.stands).behind (graph_named f.before f.name f.named) (graph_named g.before g.name g.named) r.1 in
+      let next : n + 1 ≡ m + 1 = same_number bytes f.rest g.rest (n + 1) (m + 1) ((f.stands).left_is ∙ (ap trace_bytes l.1 ∙ sym (g.stands).left_is)) f.number_is g.number_is in
+      (omega arith, f.reason_is ∙ sym g.reason_is)
 
   two_rests : (n m : ℕ) (w v : Why) → IsRestFault bytes n w → IsRestFault bytes m v → (n ≡ m) × (w ≡ v)
   two_rests n m w v f g =
       let r = same_stop bytes f.before g.before (closing ++ f.rest) (closing ++ g.rest) (rest_stop n w f) (rest_stop m v g) in
-      (f.number_is ∙ (ap (λ es. session_count es + 2) r.0 ∙ sym g.number_is), f.reason_is ∙ sym g.reason_is)
+      (same_number bytes f.rest g.rest n m (ap (drop 6) r.1) f.number_is g.number_is, f.reason_is ∙ sym g.reason_is)
 
   graph_no_rest : (n m : ℕ) (w v : Why) → IsGraphFault bytes n w → IsRestFault bytes m v → ⊥
   graph_no_rest n m w v f g =
@@ -147,14 +143,14 @@ module _ (bytes : List ℕ) (few : length bytes ≤ 1048576) where
 
   sum_no_rest : (n m : ℕ) (w v : Why) → IsSumFault bytes n w → IsRestFault bytes m v → ⊥
   sum_no_rest n m w v f g =
-      let r = same_stop bytes f.before g.before (graph_line f.name ++ (text f.graph ++ f.rest)) (closing ++ g.rest) (sum_stop n w f) (rest_stop m v g) in
-      graph_no_close f.name (text f.graph ++ f.rest) g.rest r.1
+      let r = same_stop bytes f.before g.before (graph_line f.name ++ (f.stands).behind) (closing ++ g.rest) (sum_stop n w f) (rest_stop m v g) in
+      graph_no_close f.name (f.stands).behind g.rest r.1
 
   header_alone : (n m : ℕ) (w v : Why) → IsHeaderFault bytes n w → SessionFault bytes m v → (n ≡ m) × (w ≡ v)
   header_alone n m w v f (inl g) = (f.first ∙ sym g.first, f.reason_is ∙ sym g.reason_is)
   header_alone n m w v f (inr (inl g)) = absurd (no_header n w (with_last g.before g.last) g.rest f (line_stop m v g))
   header_alone n m w v f (inr (inr (inl g))) = absurd (no_header n w g.before (graph_line g.name ++ g.rest) f (graph_stop m v g))
-  header_alone n m w v f (inr (inr (inr (inl g)))) = absurd (no_header n w g.before (graph_line g.name ++ (text g.graph ++ g.rest)) f (sum_stop m v g))
+  header_alone n m w v f (inr (inr (inr (inl g)))) = absurd (no_header n w g.before (graph_line g.name ++ (g.stands).behind) f (sum_stop m v g))
   header_alone n m w v f (inr (inr (inr (inr g)))) = absurd (no_header n w g.before (closing ++ g.rest) f (rest_stop m v g))
 
   turned : (n m : ℕ) (w v : Why) → (m ≡ n) × (v ≡ w) → (n ≡ m) × (w ≡ v)
@@ -165,13 +161,13 @@ module _ (bytes : List ℕ) (few : length bytes ≤ 1048576) where
   one_fault n m w v (inr f) (inl g) = turned n m w v (header_alone m n v w g (inr f))
   one_fault n m w v (inr (inl f)) (inr (inl g)) = two_lines n m w v f g
   one_fault n m w v (inr (inl f)) (inr (inr (inl g))) = absurd (line_no_graph n m w g.name g.rest g.before f (graph_stop m v g) g.named)
-  one_fault n m w v (inr (inl f)) (inr (inr (inr (inl g)))) = absurd (line_no_graph n m w g.name (text g.graph ++ g.rest) g.before f (sum_stop m v g) g.named)
+  one_fault n m w v (inr (inl f)) (inr (inr (inr (inl g)))) = absurd (line_no_graph n m w g.name (g.stands).behind g.before f (sum_stop m v g) g.named)
   one_fault n m w v (inr (inl f)) (inr (inr (inr (inr g)))) = absurd (line_no_rest n m w v f g)
   one_fault n m w v (inr (inr (inl f))) (inr (inl g)) = absurd (line_no_graph m n v f.name f.rest f.before g (graph_stop n w f) f.named)
   one_fault n m w v (inr (inr (inl f))) (inr (inr (inl g))) = two_graphs n m w v f g
   one_fault n m w v (inr (inr (inl f))) (inr (inr (inr (inl g)))) = absurd (graph_no_sum n m w v f g)
   one_fault n m w v (inr (inr (inl f))) (inr (inr (inr (inr g)))) = absurd (graph_no_rest n m w v f g)
-  one_fault n m w v (inr (inr (inr (inl f)))) (inr (inl g)) = absurd (line_no_graph m n v f.name (text f.graph ++ f.rest) f.before g (sum_stop n w f) f.named)
+  one_fault n m w v (inr (inr (inr (inl f)))) (inr (inl g)) = absurd (line_no_graph m n v f.name (f.stands).behind f.before g (sum_stop n w f) f.named)
   one_fault n m w v (inr (inr (inr (inl f)))) (inr (inr (inl g))) = absurd (graph_no_sum m n v w g f)
   one_fault n m w v (inr (inr (inr (inl f)))) (inr (inr (inr (inl g)))) = two_sums n m w v f g
   one_fault n m w v (inr (inr (inr (inl f)))) (inr (inr (inr (inr g)))) = absurd (sum_no_rest n m w v f g)

@@ -1,6 +1,7 @@
 -- The operations that graphs have, found by the names of the same graphs with their links as triggers.
 use Rattle.std.proofs.Common.{◌≡◌, ℕ, zero, suc, ◌+◌, ◌<◌, Bool, true, false, ◌||◌, List, [], ◌∷◌, ◌++◌, length, get_or, take, refl, sym, ◌∙◌, ap, arith}
-use Rattle.std.specs.Prelude.{bytes_eq}
+use Rattle.std.specs.Prelude.{bytes_eq, cond, find, Some, None}
+use Rattle.std.proofs.lemmas.Bool.{or_parts}
 use Rattle.std.specs.List.{list_any}
 use Rattle.std.proofs.lemmas.List.{take_more}
 use Rattle.std.proofs.lemmas.List.Folds.{list_any-append}
@@ -42,6 +43,17 @@ module _ {X : Type 0} (f : X → Bool) where
   any_at [] k x lt at is = absurd (omega (arith, lt))
   any_at (y ∷ ys) zero x lt at is = ap (λ b. b || list_any f ys) (ap f (sym at) ∙ is)
   any_at (y ∷ ys) (suc k) x lt at is = ap (λ b. f y || b) (any_at ys k x (omega (arith, lt)) at is) ∙ or_true (f y)
+
+  pub found_at : (xs : List X) (k : ℕ) (x : X) → k < length xs → x ≡ get_or xs k x → f x ≡ true → list_any f (take k xs) ≡ false → find f xs ≡ Some x
+  found_at [] k x lt at is none = absurd (omega (arith, lt))
+  found_at (y ∷ xs) zero x lt at is none = ap (λ b. cond b (Some y) (find f xs)) (ap f (sym at) ∙ is) ∙ ap (λ z. Some z) (sym at)
+  found_at (y ∷ xs) (suc k) x lt at is none =
+      let p = or_parts (f y) (list_any f (take k xs)) none in
+      ap (λ b. cond b (Some y) (find f xs)) p.0 ∙ found_at xs k x (omega (arith, lt)) at is p.1
+
+  pub found_none : (xs : List X) → list_any f xs ≡ false → find f xs ≡ None
+  found_none [] h = refl
+  found_none (y ∷ xs) h = let p = or_parts (f y) (list_any f xs) h in ap (λ b. cond b (Some y) (find f xs)) p.0 ∙ found_none xs p.1
 
   pub none_more : (xs : List X) (k : ℕ) (x : X) → k < length xs → x ≡ get_or xs k x → f x ≡ false → list_any f (take k xs) ≡ false → list_any f (take (k + 1) xs) ≡ false
   none_more xs k x lt at is none =

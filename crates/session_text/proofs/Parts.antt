@@ -1,47 +1,14 @@
--- The text of a session as parts: the texts of graphs with the lines before them, and the lines of links.
-use Rattle.std.proofs.Common.{◌≡◌, ℕ, zero, suc, ◌+◌, ◌<◌, ◌≤◌, Bool, true, false, cond, List, [], ◌∷◌, ◌++◌, ◌⊎◌, length, map, drop, get_or, inl, inr, refl, sym, ◌∙◌, ap, subst, append_assoc, append-nil, arith}
-use Rattle.std.specs.Prelude.{◌==◌, ◌&&◌, Option, Some, None, flat_map, codes, not}
-use Rattle.std.specs.List.{list_any, join_with_byte, AllByRecursion}
-use Rattle.std.specs.Str.{bytes_eq}
-use Rattle.std.proofs.lemmas.Bool.{true≢false, cond-true, cond-false, and_parts, not_from_false}
+-- The parts of a session, one after the other: where they fit, and what was read behind them.
+use Rattle.std.proofs.Common.{◌≡◌, ℕ, false, List, [], ◌∷◌, ◌++◌, map, drop, get_or, refl, sym, ◌∙◌, ap, subst, append_assoc, append-nil}
+use Rattle.std.specs.Prelude.{Option, Some, None}
 use Rattle.std.proofs.lemmas.Option.{none-some}
-use Rattle.std.proofs.lemmas.Grind.{flat_map-append}
-use Rattle.graph_terms.specs.declared.why.Why.{Why}
-use Rattle.graph_terms.specs.declared.why.Why.TheVariants as why
 use Rattle.graph_terms.specs.Graph.{GraphValue}
-use Rattle.graph_terms.specs.Spelling.{spelled, head}
-use Rattle.graph_terms.specs.Name.{is_name}
 use Rattle.graph_terms.specs.Fits.{IsGraph}
-use Rattle.graph_words.specs.Words.{pieces}
-use Rattle.graph_words.specs.Text.{text}
-use Rattle.graph_words.specs.Text as graph
-use Rattle.graph_reader.specs.FirstFault.{has_newline, first_line, is_empty}
-use Rattle.graph_reader.specs.Reading.{after_line}
-use Rattle.graph_reader.proofs.Public.{name_is_word, word_by_test, cut_newline, cut_first, cut_after, words_line, words_pieces, spelled_rest}
-use Rattle.graph_reader.specs.Words.{IsWord}
-use Rattle.graph_reader.proofs.TextTells.{same_stop, closing_stops}
 use Rattle.session_text.specs.declared.entry.Link.{Link}
 use Rattle.session_text.specs.declared.entry.Entry.{Entry}
-use Rattle.session_text.specs.Session.{graph_line, link_text, entry_text, first_text, session_head}
-use Rattle.session_text.specs.Fits.{is_named, is_large, graph_reason, link_reason, with_link, bare_entry, LinksFit, EntryFits, EntriesFit, AreEntries}
-use Rattle.session_text.specs.FirstFault.{word_at, is_graph_line, is_link_line, with_last, last_reason, words_reason, line_reason, next_reason}
-
-pub data Part : Type 0 where
-  TheGraph : List ℕ → GraphValue → Part
-  TheLink : Link → Part
-
-abbrev pub part_text : Part → List ℕ
-part_text (TheGraph name g) = graph_line name ++ text g
-part_text (TheLink l) = link_text l
-
-abbrev pub parts_text : List Part → List ℕ
-parts_text ps = flat_map part_text ps
-
-abbrev pub entry_parts : Entry → List Part
-entry_parts e = TheGraph e.name e.graph ∷ map TheLink e.links
-
-abbrev pub parts_of : List Entry → List Part
-parts_of es = flat_map entry_parts es
+use Rattle.session_text.specs.Session.{Part, TheGraph, TheLink, entry_parts, parts_of}
+use Rattle.session_text.specs.Fits.{is_large, graph_reason, with_link, bare_entry, LinksFit, EntryFits, EntriesFit, AreEntries}
+use Rattle.session_text.specs.FirstFault.{with_last, last_reason}
 
 -- what was read so far: the graphs before the last, and the last
 pub record Spot : Type 0 where
@@ -81,22 +48,6 @@ PartsFit s [] = Unit {0}
 PartsFit s (p ∷ ps) = PartFits s p × PartsFit (after_part s p) ps
 
 -- the parts of graphs that fit
-mapped_text : (ls : List Link) → flat_map link_text ls ≡ parts_text (map TheLink ls)
-mapped_text [] = refl
-mapped_text (l ∷ ls) = ap (λ x. link_text l ++ x) (mapped_text ls)
-
-entry_is : (e : Entry) → entry_text e ≡ parts_text (entry_parts e)
-entry_is e = ap (λ x. graph_line e.name ++ (text e.graph ++ x)) (mapped_text e.links) ∙ sym (append_assoc (graph_line e.name) (text e.graph) (parts_text (map TheLink e.links)))
-
-entries_are : (es : List Entry) → flat_map entry_text es ≡ parts_text (parts_of es)
-entries_are [] = refl
-entries_are (e ∷ es) =
-    ap (λ x. x ++ flat_map entry_text es) (entry_is e)
-    ∙ (ap (λ x. parts_text (entry_parts e) ++ x) (entries_are es) ∙ sym (flat_map-append part_text (entry_parts e) (parts_of es)))
-
-pub head_is : (es : List Entry) → session_head es ≡ first_text ++ parts_text (parts_of es)
-head_is es = ap (λ x. first_text ++ x) (entries_are es)
-
 append_fit : (s : Spot) (ps qs : List Part) → PartsFit s ps → PartsFit (after_parts s ps) qs → PartsFit s (ps ++ qs)
 append_fit s [] qs h k = k
 append_fit s (p ∷ ps) qs h k = (h.0, append_fit (after_part s p) ps qs h.1 k)

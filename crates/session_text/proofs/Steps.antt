@@ -1,41 +1,44 @@
 -- What a line that was read adds to the graphs so far, and what is said of one that is refused.
-use Rattle.std.proofs.Common.{◌≡◌, ℕ, ◌+◌, ◌<◌, ◌≤◌, Bool, true, false, cond, not, ◌&&◌, ◌||◌, inl, inr, List, [], ◌∷◌, ◌++◌, ◌⊎◌, length, map, refl, sym, ◌∙◌, ap, subst, append_assoc, append-nil, length-append, arith}
-use Rattle.std.specs.Prelude.{◌≢◌, ◌==◌, Option, Some, None, Result, Ok, Err, OnOk, IfOk, IfErr, nat_lt, codes, flat_map, sum_by}
+use Rattle.std.proofs.Common.{◌≡◌, ℕ, ◌+◌, ◌<◌, ◌≤◌, Bool, true, false, cond, not, ◌&&◌, ◌||◌, inl, inr, List, [], ◌∷◌, ◌++◌, length, map, refl, sym, ◌∙◌, ap, subst, append_assoc, append-nil, arith}
+use Rattle.std.specs.Prelude.{◌≢◌, ◌==◌, Option, Some, None, Result, Ok, Err, OnOk, IfOk, IfErr, IfSome, IsTrue, nat_lt, codes}
 use Rattle.std.specs.List.{list_any, join_with_byte}
 use Rattle.std.specs.Option.{option_map_or}
 use Rattle.std.specs.Result.{result_and}
 use Rattle.std.specs.Str.{bytes_eq}
-use Rattle.std.proofs.lemmas.Bool.{cond-true, cond-false, and_parts, or_parts, or_from, or_left, or_right, lt-ltb, le-ltb, ltb-true, ltb-false, eqb-true}
+use Rattle.std.proofs.lemmas.Bool.{cond-true, cond-false, and_parts, or_parts, or_from, or_left, lt-ltb, le-ltb, ltb-true, ltb-false, eqb-true}
 use Rattle.std.proofs.lemmas.Option.{none-some}
-use Rattle.std.proofs.lemmas.List.{take-append-drop, map-append}
-use Rattle.std.proofs.lemmas.List.Sums.{sum_by-cons}
+use Rattle.std.proofs.lemmas.List.{map-append}
 use Rattle.std.proofs.lemmas.List.Folds.{list_any-append}
 use Rattle.graph_terms.specs.declared.why.Why.{Why}
 use Rattle.graph_terms.specs.declared.why.Why.TheVariants as why
+use Rattle.graph_terms.specs.declared.format.Format.{Format}
+use Rattle.graph_terms.specs.declared.format.Format.TheVariants.{One}
+use Rattle.graph_terms.specs.Name.{is_name_in}
 use Rattle.graph_terms.specs.Graph.{GraphValue}
-use Rattle.graph_terms.specs.Spelling.{head, spelled}
+use Rattle.graph_terms.specs.Spelling.{spelled}
 use Rattle.graph_terms.specs.Fits.{IsGraph, cell_count}
-use Rattle.graph_terms.proofs.Public.{long_head}
 use Rattle.graph_words.specs.Words.{pieces}
 use Rattle.graph_words.specs.Text.{text, GraphText}
-use Rattle.graph_reader.specs.FirstFault.{has_newline, first_line, is_empty, or_else, line_count}
+use Rattle.graph_reader.specs.FirstFault.{has_newline, first_line, is_empty, or_else}
 use Rattle.graph_reader.specs.Reading.{after_line}
 use Rattle.graph_words.specs.Cuts.{IsCut}
 use Rattle.graph_reader.specs.declared.ReadRefusal.{ReadRefusal}
 use Rattle.graph_reader.specs.declared.ReadRefusal.TheVariants as refusals
 use Rattle.basics.proofs.TestedLists.{same_bytes}
 use Rattle.graph_reader.proofs.Public.{joined_pieces, whole_line}
-use Rattle.graph_reader.proofs.TextTells.{one_graph}
-use Rattle.realm_audit.specs.Parts.{before_end, graph_bytes, trace_bytes}
+use Rattle.graph_reader.proofs.TextTells.{one_reading}
+use Rattle.realm_audit.specs.Parts.{newlines, graph_bytes, trace_bytes}
 use Rattle.session_text.specs.declared.entry.Link.{Link}
 use Rattle.session_text.specs.declared.entry.Entry.{Entry}
 use Rattle.session_text.specs.declared.so_far.Last.{Last}
 use Rattle.session_text.specs.declared.so_far.SoFar.{SoFar}
-use Rattle.session_text.specs.Session.{graph_line, link_text, entry_text, first_text, closing, session_head, session_text, entry_count, session_count}
-use Rattle.session_text.specs.Fits.{with_trigger, with_triggers, trigger_reason, all_lines, all_cells, is_above, is_large, graph_reason, link_reason, with_link, bare_entry, names_op, is_named, AreEntries, SessionText}
-use Rattle.session_text.specs.FirstFault.{word_at, is_graph_line, is_link_line, link_of, with_last, last_reason, words_reason, line_reason, next_reason, SessionFault, IsRefusal}
+use Rattle.session_text.specs.Session.{graph_line, link_text, closing, TheGraph, TheLink, GraphStands, HeadStands, BeginsAt}
+use Rattle.session_text.specs.Fits.{with_trigger, with_triggers, trigger_reason, all_lines, all_cells, is_above, is_large, graph_reason, link_reason, with_link, bare_entry, names_op, format_of, is_named, AreEntries, SessionText}
+use Rattle.session_text.specs.FirstFault.{word_at, is_graph_line, is_link_line, link_of, with_last, last_format, last_reason, words_reason, line_reason, next_reason, SessionFault, IsRefusal}
 use Rattle.session_text.specs.SoFar.{last_entry, entries_in, judged_of, with_judged, IsJudged, IsSoFar, HasRead, IsLineAt, IsRefusedBehind, added_reason, LinkAdded, GraphAdded, bare_last, AllowsLink, LastAdded}
-use Rattle.session_text.proofs.Entries.{link_fits, push_entry, last_fits, bare_fits, triggers_push, lines_push, cells_push, count_push, head_push, head_link, count_link, lines_link, cells_link}
+use Rattle.session_text.proofs.Entries.{link_fits, push_entry, last_fits, bare_fits, triggers_push, lines_push, cells_push, lines_link, cells_link}
+use Rattle.session_text.proofs.Standing.{newlines_append, newlines_line, newlines_parts, few_before, head_end, head_more, head_at, graph_more, link_more}
+use Rattle.session_text.proofs.Stops.{graph_named, newlines_graph}
 
 -- a line that is refused by its words
 pub refused_line : (bytes rest : List ℕ) (s : SoFar) (ws : List (List ℕ)) (after : List ℕ) (number : ℕ) (w : Why) → HasRead bytes s rest number → IsLineAt rest ws after → words_reason s.before.items (last_entry s.last) ws ≡ Some w → SessionFault bytes number w
@@ -166,13 +169,12 @@ link_taken bytes rest old new ws after number r at k a h =
     let e : Entry = a.last_old.entry in
     let was : entries_in old ≡ before ++ e ∷ [] = entries_are old a.last_old a.was in
     let is : entries_in new ≡ before ++ with_link e l ∷ [] = entries_are new a.last_new a.is ∙ (ap (λ x. x ++ a.last_new.entry ∷ []) a.before ∙ ap (λ x. before ++ x ∷ []) a.adds.entry) in
-    let counted : session_count (entries_in new) ≡ session_count (entries_in old) + 1 = ap session_count is ∙ (count_link before e l ∙ ap (λ x. session_count x + 1) (sym was)) in
+    let lines : newlines rest ≡ newlines after + 1 = newlines_line rest at.there ∙ ap (λ x. newlines x + 1) at.after_is in
     record {
       is_so_far = so_far_link old new l r.is_so_far a h;
-      begins = r.begins ∙ (ap (λ x. session_head (entries_in old) ++ x) (link_spelled rest ws after at k)
-          ∙ (sym (append_assoc (session_head (entries_in old)) (link_text l) after)
-          ∙ ap (λ x. x ++ after) (ap (λ x. session_head x ++ link_text l) was ∙ (sym (head_link before e l) ∙ ap session_head (sym is)))));
-      number_is = (let n : number ≡ session_count (entries_in old) + 1 = r.number_is in omega arith);
+      begins = subst (λ es. HeadStands bytes es after) (sym is)
+          (head_more bytes rest after (before ++ e ∷ []) (before ++ with_link e l ∷ []) (TheLink l) (subst (λ es. HeadStands bytes es rest) was r.begins) (link_more before e l) (link_spelled rest ws after at k));
+      number_is = (let n : number + newlines rest ≡ newlines bytes + 1 = r.number_is in omega arith);
     }
 
 -- the graphs so far with their links as triggers, by those before the last
@@ -200,40 +202,38 @@ so_far_graph old new name g lines cells r named graph a ls cs short =
       short = ap is_large is ∙ few;
     }
 
--- the bytes behind the line before a graph's text
-pub both_parts : (bytes : List ℕ) → bytes ≡ graph_bytes bytes ++ trace_bytes bytes
-both_parts bytes = sym (take-append-drop (before_end bytes + 4) bytes)
+-- the text of a graph stands behind a line of its name
+pub graph_stands : (behind left name : List ℕ) (g : GraphValue) → GraphText (graph_bytes behind) g → left ≡ trace_bytes behind → GraphStands (graph_line name ++ behind) name g left
+graph_stands behind left name g t e = record { «behind» = behind; begins = refl; text_is = t; left_is = e }
 
-pub graph_taken : (bytes behind left : List ℕ) (old new : SoFar) (name : List ℕ) (g : GraphValue) (number next : ℕ) → HasRead bytes old (graph_line name ++ behind) number → GraphText (graph_bytes behind) g → left ≡ trace_bytes behind →
-    IsSoFar new → entries_in new ≡ entries_in old ++ bare_entry name g ∷ [] → next ≡ number + line_count g + 2 → HasRead bytes new left next
-graph_taken bytes behind left old new name g number next r t after is_new is after_end =
+pub graph_taken : (bytes behind left : List ℕ) (old new : SoFar) (name : List ℕ) (g : GraphValue) (number next : ℕ) → HasRead bytes old (graph_line name ++ behind) number → graph_reason (entries_in old) name ≡ None → GraphText (graph_bytes behind) g → left ≡ trace_bytes behind →
+    IsSoFar new → entries_in new ≡ entries_in old ++ bare_entry name g ∷ [] → next ≡ number + newlines (graph_bytes behind) + 1 → HasRead bytes new left next
+graph_taken bytes behind left old new name g number next r named t after is_new is after_end =
     let es : List Entry = entries_in old in
-    let e : Entry = bare_entry name g in
-    let parts : behind ≡ text g ++ left = both_parts behind ∙ (ap (λ x. x ++ trace_bytes behind) t.is_text ∙ ap (λ x. text g ++ x) (sym after)) in
-    let written : entry_text e ++ left ≡ graph_line name ++ (text g ++ left) = append_assoc (graph_line name) (text g ++ []) left ∙ ap (λ x. graph_line name ++ (x ++ left)) (append-nil (text g)) in
-    let counted : session_count (entries_in new) ≡ session_count es + (2 + line_count g + 0) = ap session_count is ∙ count_push es e in
+    let line : newlines (graph_line name ++ behind) ≡ newlines behind + 1 = newlines_graph name behind (graph_named es name named) in
+    let parts : newlines behind ≡ newlines (graph_bytes behind) + newlines left = newlines_parts behind ∙ ap (λ x. newlines (graph_bytes behind) + newlines x) (sym after) in
     record {
       is_so_far = is_new;
-      begins = r.begins ∙ (ap (λ x. session_head es ++ (graph_line name ++ x)) parts ∙ (ap (λ x. session_head es ++ x) (sym written)
-          ∙ (sym (append_assoc (session_head es) (entry_text e) left) ∙ ap (λ x. x ++ left) (sym (head_push es e) ∙ ap session_head (sym is)))));
-      number_is = (let n : number ≡ session_count es + 1 = r.number_is in omega arith);
+      begins = subst (λ fs. HeadStands bytes fs left) (sym is)
+          (head_more bytes (graph_line name ++ behind) left es (es ++ bare_entry name g ∷ []) (TheGraph name g) r.begins (graph_more es name g) (graph_stands behind left name g t after));
+      number_is = (let n : number + newlines (graph_line name ++ behind) ≡ newlines bytes + 1 = r.number_is in omega arith);
     }
 
 -- the text of a graph was read twice
 pub read_twice : (bytes name : List ℕ) (g judged : GraphValue) (links : List Link) → GraphText bytes g → GraphText bytes judged → links ≡ [] → (record { entry = record { name = name; graph = g; links = links }; judged = judged }) ≡ bare_last name g
 read_twice bytes name g judged links t s none =
-    ap (λ (x : List Link). record { entry = record { name = name; graph = g; links = x }; judged = judged }) none ∙ ap (λ (x : GraphValue). record { entry = bare_entry name g; judged = x }) (one_graph bytes judged g s t)
+    ap (λ (x : List Link). record { entry = record { name = name; graph = g; links = x }; judged = judged }) none ∙ ap (λ (x : GraphValue). record { entry = bare_entry name g; judged = x }) ((one_reading bytes).one_graph judged g s t)
 
 -- a graph that was read was put to those so far
 pub graph_read : (bytes behind left : List ℕ) (old new : SoFar) (last : Last) (lines cells number next : ℕ) → HasRead bytes old (graph_line last.entry.name ++ behind) number → graph_reason (entries_in old) last.entry.name ≡ None →
     GraphText (graph_bytes behind) last.entry.graph → last ≡ bare_last last.entry.name last.entry.graph → GraphAdded old last lines cells new →
-    lines ≡ old.lines + length last.entry.graph.lines → cells ≡ old.cells + cell_count last.entry.graph → is_above lines cells ≡ false → left ≡ trace_bytes behind → next ≡ number + line_count last.entry.graph + 2 → HasRead bytes new left next
+    lines ≡ old.lines + length last.entry.graph.lines → cells ≡ old.cells + cell_count last.entry.graph → is_above lines cells ≡ false → left ≡ trace_bytes behind → next ≡ number + newlines (graph_bytes behind) + 1 → HasRead bytes new left next
 graph_read bytes behind left old new last lines cells number next r named t bare a ls cs few after after_end =
     let name : List ℕ = last.entry.name in
     let g : GraphValue = last.entry.graph in
     let added : GraphAdded old (bare_last name g) lines cells new = subst (λ (x : Last). GraphAdded old x lines cells new) bare a in
     let is : entries_in new ≡ entries_in old ++ bare_entry name g ∷ [] = entries_are new (bare_last name g) added.is ∙ ap (λ x. x ++ bare_entry name g ∷ []) added.before in
-    graph_taken bytes behind left old new name g number next r t after (so_far_graph old new name g lines cells r.is_so_far named t.is_graph added ls cs few) is after_end
+    graph_taken bytes behind left old new name g number next r named t after (so_far_graph old new name g lines cells r.is_so_far named t.is_graph added ls cs few) is after_end
 
 -- a line of a graph's text is refused
 pub refused_inside : (bytes behind : List ℕ) (old : SoFar) (name : List ℕ) (number : ℕ) (e : ReadRefusal) → HasRead bytes old (graph_line name ++ behind) number → graph_reason (entries_in old) name ≡ None → IsRefusedBehind (graph_bytes behind) number e → IsRefusal bytes e
@@ -244,113 +244,83 @@ refused_inside bytes behind old name number (refusals.Line n w) r named h = inr 
   are_entries = r.is_so_far.entries;
   named = named;
   begins = r.begins;
+  above = number;
+  above_is = r.number_is;
   inside = h.0;
   fault = h.1;
-  number_is = h.2 ∙ ap (λ m. m + h.0) r.number_is;
+  number_is = h.2;
 })))
 refused_inside bytes behind old name number refusals.NoMemory r named h = tt
 
 -- a sum is passed with the last line of a graph's text
 pub refused_sum : (bytes behind : List ℕ) (old : SoFar) (name : List ℕ) (g : GraphValue) (lines cells number at : ℕ) → HasRead bytes old (graph_line name ++ behind) number → graph_reason (entries_in old) name ≡ None → GraphText (graph_bytes behind) g →
-    lines ≡ old.lines + length g.lines → cells ≡ old.cells + cell_count g → is_above lines cells ≡ true → at ≡ number + line_count g + 1 → SessionFault bytes at why.Limit
+    lines ≡ old.lines + length g.lines → cells ≡ old.cells + cell_count g → is_above lines cells ≡ true → at ≡ number + newlines (graph_bytes behind) → SessionFault bytes at why.Limit
 refused_sum bytes behind old name g lines cells number at r named t ls cs above at_end =
     let es : List Entry = entries_in old in
     let e : Entry = bare_entry name g in
     let all : lines ≡ all_lines (es ++ e ∷ []) = (let p : all_lines (es ++ e ∷ []) ≡ all_lines es + (length g.lines + 0) = lines_push es e in let q : old.lines ≡ all_lines es = r.is_so_far.lines in omega arith) in
     let every : cells ≡ all_cells (es ++ e ∷ []) = cs ∙ (ap (λ n. n + cell_count g) r.is_so_far.cells ∙ sym (cells_push es e)) in
+    let line : newlines (graph_line name ++ behind) ≡ newlines behind + 1 = newlines_graph name behind (graph_named es name named) in
+    let parts : newlines behind ≡ newlines (graph_bytes behind) + newlines (trace_bytes behind) = newlines_parts behind in
     inr (inr (inr (inl (record {
       before = es;
       name = name;
       graph = g;
+      from = graph_line name ++ behind;
       rest = trace_bytes behind;
       are_entries = r.is_so_far.entries;
       named = named;
-      is_graph = t.is_graph;
-      begins = r.begins ∙ ap (λ x. session_head es ++ (graph_line name ++ x)) (both_parts behind ∙ ap (λ x. x ++ trace_bytes behind) t.is_text);
+      begins = r.begins;
+      stands = graph_stands behind (trace_bytes behind) name g t refl;
       passed = ap (λ n. is_above n (all_cells (es ++ e ∷ []))) (sym all) ∙ (ap (λ n. is_above lines n) (sym every) ∙ above);
-      number_is = (let n : number ≡ session_count es + 1 = r.number_is in omega arith);
+      number_is = (let n : number + newlines (graph_line name ++ behind) ≡ newlines bytes + 1 = r.number_is in omega arith);
       reason_is = refl;
     }))))
 
--- how many lines of a text there are
-line_bytes : (ws : List (List ℕ)) → 1 ≤ length (spelled ws)
-line_bytes ws = let n : length (spelled ws) ≡ length (join_with_byte 32 ws) + 1 = length-append (join_with_byte 32 ws) (10 ∷ []) in omega arith
-
-pub long_graph : (g : GraphValue) → line_count g + 4 ≤ length (text g)
-long_graph g = let n : length (text g) ≡ length (head g) + 4 = length-append (head g) (codes "end\n") in let h : line_count g ≤ length (head g) = long_head g in omega arith
-
-long_links : (ls : List Link) → length ls ≤ length (flat_map link_text ls)
-long_links [] = omega arith
-long_links (l ∷ ls) =
-    let n : length (flat_map link_text (l ∷ ls)) ≡ length (link_text l) + length (flat_map link_text ls) = length-append (link_text l) (flat_map link_text ls) in
-    let one : 1 ≤ length (link_text l) = line_bytes (codes "link" ∷ l.line ∷ l.user ∷ l.graph ∷ l.op ∷ []) in
-    let more : length ls ≤ length (flat_map link_text ls) = long_links ls in
-    omega arith
-
-long_entry : (e : Entry) → entry_count e ≤ length (entry_text e)
-long_entry e =
-    let n : length (entry_text e) ≡ length (graph_line e.name) + length (text e.graph ++ flat_map link_text e.links) = length-append (graph_line e.name) (text e.graph ++ flat_map link_text e.links) in
-    let m : length (text e.graph ++ flat_map link_text e.links) ≡ length (text e.graph) + length (flat_map link_text e.links) = length-append (text e.graph) (flat_map link_text e.links) in
-    let a : 1 ≤ length (graph_line e.name) = line_bytes (codes "graph" ∷ e.name ∷ []) in
-    let b : line_count e.graph + 4 ≤ length (text e.graph) = long_graph e.graph in
-    let c : length e.links ≤ length (flat_map link_text e.links) = long_links e.links in
-    omega arith
-
-at_least : (xs ys : List ℕ) (a b : ℕ) → a ≤ length xs → b ≤ length ys → a + b ≤ length (xs ++ ys)
-at_least xs ys a b h k = omega (arith, length-append xs ys)
-
-long_entries : (es : List Entry) → sum_by entry_count es ≤ length (flat_map entry_text es)
-long_entries [] = omega arith
-long_entries (e ∷ es) = subst (λ n. n ≤ length (flat_map entry_text (e ∷ es))) (sym (sum_by-cons entry_count e es)) (at_least (entry_text e) (flat_map entry_text es) (entry_count e) (sum_by entry_count es) (long_entry e) (long_entries es))
-
-pub long_session : (es : List Entry) → session_count es ≤ length (session_head es)
-long_session es =
-    let n : length (session_head es) ≡ 16 + length (flat_map entry_text es) = length-append first_text (flat_map entry_text es) in
-    let more : sum_by entry_count es ≤ length (flat_map entry_text es) = long_entries es in
-    omega arith
-
+-- no line has a number above the bytes
 pub few_lines : (bytes rest : List ℕ) (s : SoFar) (number : ℕ) → HasRead bytes s rest number → number + length rest ≤ length bytes + 1
-few_lines bytes rest s number r =
-    let n : length bytes ≡ length (session_head (entries_in s)) + length rest = ap length r.begins ∙ length-append (session_head (entries_in s)) rest in
-    let m : number ≡ session_count (entries_in s) + 1 = r.number_is in
-    let l : session_count (entries_in s) ≤ length (session_head (entries_in s)) = long_session (entries_in s) in
-    omega arith
+few_lines bytes rest s number r = few_before bytes rest number (head_end bytes rest (entries_in s) r.begins) r.number_is
 
 -- the closing line
-pub closed : (bytes rest : List ℕ) (s : SoFar) (number : ℕ) → HasRead bytes s rest number → has_newline rest ≡ true → bytes_eq (first_line rest) (codes "close") ≡ true → bytes ≡ session_text (entries_in s) ++ after_line rest
-closed bytes rest s number r there h =
-    let es : List Entry = entries_in s in
-    let is : rest ≡ closing ++ after_line rest = whole_line rest there ∙ ap (λ x. x ++ 10 ∷ after_line rest) (same_bytes (first_line rest) (codes "close") h) in
-    r.begins ∙ (ap (λ x. session_head es ++ x) is ∙ sym (append_assoc (session_head es) closing (after_line rest)))
+close_is : (rest : List ℕ) → has_newline rest ≡ true → bytes_eq (first_line rest) (codes "close") ≡ true → rest ≡ closing ++ after_line rest
+close_is rest there h = whole_line rest there ∙ ap (λ x. x ++ 10 ∷ after_line rest) (same_bytes (first_line rest) (codes "close") h)
+
+pub closed : (bytes rest : List ℕ) (s : SoFar) (number : ℕ) → HasRead bytes s rest number → has_newline rest ≡ true → bytes_eq (first_line rest) (codes "close") ≡ true → HeadStands bytes (entries_in s) (closing ++ after_line rest)
+closed bytes rest s number r there h = head_at bytes rest (closing ++ after_line rest) (entries_in s) (close_is rest there h) r.begins
 
 pub read_all : (bytes rest : List ℕ) (s : SoFar) (es : List Entry) (number : ℕ) → HasRead bytes s rest number → length bytes ≤ 1048576 → has_newline rest ≡ true → bytes_eq (first_line rest) (codes "close") ≡ true → after_line rest ≡ [] → es ≡ entries_in s → SessionText bytes es
 read_all bytes rest s es number r short there h none e = record {
-  is_text = closed bytes rest s number r there h ∙ (ap (λ x. session_text (entries_in s) ++ x) none ∙ (append-nil (session_text (entries_in s)) ∙ ap session_text (sym e)));
+  is_text = subst (λ fs. HeadStands bytes fs closing) (sym e) (head_at bytes (closing ++ after_line rest) closing (entries_in s) (ap (λ x. closing ++ x) none ∙ append-nil closing) (closed bytes rest s number r there h));
   short = short;
   are_entries = subst AreEntries (sym e) r.is_so_far.entries;
 }
 
 pub refused_rest : (bytes rest : List ℕ) (s : SoFar) (number : ℕ) → HasRead bytes s rest number → has_newline rest ≡ true → bytes_eq (first_line rest) (codes "close") ≡ true → after_line rest ≢ [] → SessionFault bytes (number + 1) why.Rest
-refused_rest bytes rest s number r there h some = inr (inr (inr (inr (record {
-  before = entries_in s;
-  rest = after_line rest;
-  are_entries = r.is_so_far.entries;
-  begins = closed bytes rest s number r there h;
-  follows = some;
-  number_is = (let n : number ≡ session_count (entries_in s) + 1 = r.number_is in omega arith);
-  reason_is = refl;
-}))))
+refused_rest bytes rest s number r there h some =
+    let lines : newlines rest ≡ newlines (after_line rest) + 1 = newlines_line rest there in
+    inr (inr (inr (inr (record {
+      before = entries_in s;
+      rest = after_line rest;
+      are_entries = r.is_so_far.entries;
+      begins = closed bytes rest s number r there h;
+      follows = some;
+      number_is = (let n : number + newlines rest ≡ newlines bytes + 1 = r.number_is in omega arith);
+      reason_is = refl;
+    }))))
 
 -- a refusal of a line
 pub is_refusal : (bytes : List ℕ) (e : ReadRefusal) (n : ℕ) (w : Why) → e ≡ refusals.Line n w → SessionFault bytes n w → IsRefusal bytes e
 is_refusal bytes e n w is f = subst (IsRefusal bytes) (sym is) f
 
 -- the bytes up to the line before a graph's text
+spelled_at : (rest name : List ℕ) (ws : List (List ℕ)) (after : List ℕ) → IsLineAt rest ws after → is_graph_line ws ≡ true → name ≡ word_at ws 1 → rest ≡ graph_line name ++ after
+spelled_at rest name ws after l h e = graph_spelled rest ws after l h ∙ ap (λ x. graph_line x ++ after) (sym e)
+
 pub at_graph : (bytes rest name : List ℕ) (s : SoFar) (ws : List (List ℕ)) (after : List ℕ) (number : ℕ) → HasRead bytes s rest number → IsLineAt rest ws after → is_graph_line ws ≡ true → name ≡ word_at ws 1 → HasRead bytes s (graph_line name ++ after) number
 at_graph bytes rest name s ws after number r l h e = record {
   is_so_far = r.is_so_far;
-  begins = r.begins ∙ ap (λ x. session_head (entries_in s) ++ x) (graph_spelled rest ws after l h ∙ ap (λ x. graph_line x ++ after) (sym e));
-  number_is = r.number_is;
+  begins = subst (HeadStands bytes (entries_in s)) (spelled_at rest name ws after l h e) r.begins;
+  number_is = subst (λ x. BeginsAt bytes x number) (spelled_at rest name ws after l h e) r.number_is;
 }
 
 -- the reasons of a link, by what was kept
@@ -362,7 +332,7 @@ flipped : (b : Bool) → cond (not b) (Some why.Limit) None ≡ cond b None (Som
 flipped true = refl
 flipped false = refl
 
-pub added_is : (old : SoFar) (last : Last) (l : Link) (b : Bool) → IsSoFar old → old.last ≡ Some last → is_named l ≡ true → names_op old.before.items l ≡ true → nat_lt old.lines 8191 ≡ b → last_reason old.before.items (last_entry old.last) l ≡ added_reason last l b
+pub added_is : (old : SoFar) (last : Last) (l : Link) (b : Bool) → IsSoFar old → old.last ≡ Some last → is_named last.entry.graph.format (format_of old.before.items l.graph) l ≡ true → names_op old.before.items l ≡ true → nat_lt old.lines 8191 ≡ b → last_reason old.before.items (last_entry old.last) l ≡ added_reason last l b
 added_is old last l b r is named names room =
     let before : List Entry = old.before.items in
     let e : Entry = last.entry in
@@ -379,18 +349,38 @@ added_is old last l b r is named names room =
     ∙ (ap (λ o. or_else (trigger_reason (with_triggers e.graph e.links) l) o) (flipped b) ∙ ap (λ g. or_else (trigger_reason g l) (cond b None (Some why.Limit))) (sym judged)))))
 
 -- no link fits where no graph was read, and none whose words are no names or whose operation is not there
-pub no_name : (before : List Entry) (last : Option Entry) (l : Link) → is_named l ≡ false → last_reason before last l ≡ Some why.Name
-no_name before None l h = cond-false (is_named l) (Some why.Unknown) (Some why.Name) h
+pub no_name : (before : List Entry) (last : Option Entry) (l : Link) → is_named (last_format last) (format_of before l.graph) l ≡ false → last_reason before last l ≡ Some why.Name
+no_name before None l h = cond-false (is_named One (format_of before l.graph) l) (Some why.Unknown) (Some why.Name) h
 no_name before (Some e) l h = ap (λ t. or_else (cond (not t) (Some why.Name) (cond (not (names_op before l)) (Some why.Unknown) None)) (or_else (trigger_reason (with_triggers e.graph e.links) l) (cond (is_large (before ++ with_link e l ∷ [])) (Some why.Limit) None))) h
 
-pub no_op : (before : List Entry) (last : Option Entry) (l : Link) → is_named l ≡ true → names_op before l ≡ false → last_reason before last l ≡ Some why.Unknown
-no_op before None l h n = cond-true (is_named l) (Some why.Unknown) (Some why.Name) h
+pub no_op : (before : List Entry) (last : Option Entry) (l : Link) → is_named (last_format last) (format_of before l.graph) l ≡ true → names_op before l ≡ false → last_reason before last l ≡ Some why.Unknown
+no_op before None l h n = cond-true (is_named One (format_of before l.graph) l) (Some why.Unknown) (Some why.Name) h
 no_op before (Some e) l h n =
     ap (λ t. or_else (cond (not t) (Some why.Name) (cond (not (names_op before l)) (Some why.Unknown) None)) (or_else (trigger_reason (with_triggers e.graph e.links) l) (cond (is_large (before ++ with_link e l ∷ [])) (Some why.Limit) None))) h
     ∙ ap (λ t. or_else (cond (not t) (Some why.Unknown) None) (or_else (trigger_reason (with_triggers e.graph e.links) l) (cond (is_large (before ++ with_link e l ∷ [])) (Some why.Limit) None))) n
 
-pub no_last : (before : List Entry) (l : Link) → is_named l ≡ true → last_reason before None l ≡ Some why.Unknown
-no_last before l h = cond-true (is_named l) (Some why.Unknown) (Some why.Name) h
+pub no_last : (before : List Entry) (l : Link) → is_named One (format_of before l.graph) l ≡ true → last_reason before None l ≡ Some why.Unknown
+no_last before l h = cond-true (is_named One (format_of before l.graph) l) (Some why.Unknown) (Some why.Name) h
+
+-- the names of a link whose format is told by the last graph, as it is kept with its links as triggers
+triggers_format : (g : GraphValue) (ls : List Link) → (with_triggers g ls).format ≡ g.format
+triggers_format g [] = refl
+triggers_format g (l ∷ ls) = triggers_format (with_trigger g l) ls
+
+pub judged_format : (s : SoFar) (last : Last) → IsSoFar s → s.last ≡ Some last → last.judged.format ≡ last_format (last_entry s.last)
+judged_format s last r is =
+    let judged : last.judged ≡ with_triggers last.entry.graph last.entry.links = subst IsJudged is r.judged in
+    ap (λ (g : GraphValue). g.format) judged ∙ (triggers_format last.entry.graph last.entry.links ∙ ap (λ o. last_format (last_entry o)) (sym is))
+
+-- the names of a link by the formats that were looked up
+pub named_is : (own named : Format) (s : SoFar) (before : List Entry) (word : List ℕ) (l : Link) → before ≡ s.before.items → word ≡ l.graph → own ≡ last_format (last_entry s.last) → named ≡ format_of before word →
+    is_named own named l ≡ is_named (last_format (last_entry s.last)) (format_of s.before.items l.graph) l
+named_is own named s before word l b w o n =
+    ap (λ f. is_named f named l) o ∙ ap (λ f. is_named (last_format (last_entry s.last)) f l) (n ∙ (ap (λ es. format_of es word) b ∙ ap (format_of s.before.items) w))
+
+pub may_name : (s : SoFar) (last : Option Last) (l : Link) → IsSoFar s → s.last ≡ last → is_named (last_format (last_entry s.last)) (format_of s.before.items l.graph) l ≡ true → IfSome last (λ x. IsTrue (is_name_in x.judged.format l.line))
+may_name s None l r is h = tt
+may_name s (Some last) l r is h = subst (λ f. is_name_in f l.line ≡ true) (sym (judged_format s last r is)) (and_parts (is_name_in (last_format (last_entry s.last)) l.line) _ h).0
 
 -- so few links that one more is counted
 pub few_links : (old : SoFar) (last : Last) → IsSoFar old → old.last ≡ Some last → length last.entry.links < 4294967295
@@ -422,11 +412,13 @@ named_last s last name is none =
 
 -- behind the first line
 pub begin_read : (bytes rest : List ℕ) (s : SoFar) → entries_in s ≡ [] → IsSoFar s → bytes ≡ codes "realm-session 1\n" ++ rest → HasRead bytes s rest 2
-begin_read bytes rest s none is e = record {
-  is_so_far = is;
-  begins = e ∙ ap (λ x. x ++ rest) (sym (append-nil (codes "realm-session 1\n")) ∙ ap session_head (sym none));
-  number_is = ap (λ es. session_count es + 1) (sym none);
-}
+begin_read bytes rest s none is e =
+    let lines : newlines bytes ≡ 1 + newlines rest = ap newlines e ∙ newlines_append (codes "realm-session 1\n") rest in
+    record {
+      is_so_far = is;
+      begins = subst (λ es. HeadStands bytes es rest) (sym none) (record { behind = rest; begins = e; parts = refl });
+      number_is = omega arith;
+    }
 
 pub few_cells : (s : SoFar) → IsSoFar s → s.cells ≤ 4194304
 few_cells s r =
@@ -439,10 +431,13 @@ pub may_link : (old : SoFar) (last : Option Last) → IsSoFar old → old.last �
 may_link old None r is = tt
 may_link old (Some last) r is = few_links old last r is
 
+at_last : (old : SoFar) (last : Option Last) (l : Link) → old.last ≡ last → is_named (last_format (last_entry old.last)) (format_of old.before.items l.graph) l ≡ true → is_named (last_format (last_entry last)) (format_of old.before.items l.graph) l ≡ true
+at_last old last l is named = subst (λ o. is_named (last_format (last_entry o)) (format_of old.before.items l.graph) l ≡ true) is named
+
 -- the reasons of a link after whatever graph is the last
-pub added_to : (old : SoFar) (last : Option Last) (l : Link) (b : Bool) → IsSoFar old → old.last ≡ last → is_named l ≡ true → names_op old.before.items l ≡ true → nat_lt old.lines 8191 ≡ b → last_reason old.before.items (last_entry old.last) l ≡ option_map_or (λ (x : Last). added_reason x l b) last (Some why.Unknown)
-added_to old None l b r is named names room = ap (λ o. last_reason old.before.items (last_entry o) l) is ∙ no_last old.before.items l named
-added_to old (Some last) l b r is named names room = added_is old last l b r is named names room
+pub added_to : (old : SoFar) (last : Option Last) (l : Link) (b : Bool) → IsSoFar old → old.last ≡ last → is_named (last_format (last_entry old.last)) (format_of old.before.items l.graph) l ≡ true → names_op old.before.items l ≡ true → nat_lt old.lines 8191 ≡ b → last_reason old.before.items (last_entry old.last) l ≡ option_map_or (λ (x : Last). added_reason x l b) last (Some why.Unknown)
+added_to old None l b r is named names room = ap (λ o. last_reason old.before.items (last_entry o) l) is ∙ no_last old.before.items l (at_last old None l is named)
+added_to old (Some last) l b r is named names room = added_is old last l b r is (at_last old (Some last) l is named) names room
 
 -- a link was put to the last graph
 pub link_put : (old new : SoFar) (last : Option Last) (l : Link) (b : Bool) → old.last ≡ last → LastAdded last l b new.last → option_map_or (λ (x : Last). added_reason x l b) last (Some why.Unknown) ≡ None

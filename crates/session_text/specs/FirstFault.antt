@@ -4,18 +4,18 @@ use Rattle.std.specs.List.{list_any}
 use Rattle.std.specs.Str.{bytes_eq}
 use Rattle.graph_terms.specs.declared.why.Why.{Why}
 use Rattle.graph_terms.specs.declared.why.Why.TheVariants as why
+use Rattle.graph_terms.specs.declared.format.Format.{Format}
+use Rattle.graph_terms.specs.declared.format.Format.TheVariants.{One}
 use Rattle.graph_terms.specs.Graph.{GraphValue}
-use Rattle.graph_terms.specs.Fits.{IsGraph}
 use Rattle.graph_words.specs.Words.{pieces}
-use Rattle.graph_words.specs.Text.{text}
-use Rattle.graph_reader.specs.FirstFault.{has_newline, first_line, is_empty, line_count, FirstFault}
+use Rattle.graph_reader.specs.FirstFault.{has_newline, first_line, is_empty, FirstFault}
 use Rattle.graph_reader.specs.declared.ReadRefusal.{ReadRefusal}
 use Rattle.graph_reader.specs.declared.ReadRefusal.TheVariants as refusals
 use Rattle.realm_audit.specs.Parts.{graph_bytes}
 use Rattle.session_text.specs.declared.entry.Link.{Link}
 use Rattle.session_text.specs.declared.entry.Entry.{Entry}
-use Rattle.session_text.specs.Session.{graph_line, first_text, session_head, session_text, session_count}
-use Rattle.session_text.specs.Fits.{AreEntries, is_named, is_large, bare_entry, graph_reason, link_reason}
+use Rattle.session_text.specs.Session.{graph_line, first_text, closing, GraphStands, HeadStands, BeginsAt}
+use Rattle.session_text.specs.Fits.{AreEntries, format_of, is_named, is_large, bare_entry, graph_reason, link_reason}
 
 -- the word at a place
 abbrev pub word_at : List (List ℕ) → ℕ → List ℕ
@@ -37,9 +37,14 @@ abbrev pub with_last : List Entry → Option Entry → List Entry
 with_last before None = before
 with_last before (Some e) = before ++ e ∷ []
 
+-- the format of the last graph, and format 1 where there is none
+abbrev pub last_format : Option Entry → Format
+last_format None = One
+last_format (Some e) = e.graph.format
+
 -- a link has no earlier graph to name where none was read
 abbrev pub last_reason : List Entry → Option Entry → Link → Option Why
-last_reason before None l = cond (is_named l) (Some why.Unknown) (Some why.Name)
+last_reason before None l = cond (is_named One (format_of before l.graph) l) (Some why.Unknown) (Some why.Name)
 last_reason before (Some e) l = link_reason before e l
 
 -- the first reason that refuses a line of these words
@@ -68,8 +73,8 @@ pub record IsLineFault (bytes : List ℕ) (number : ℕ) (reason : Why) : Type 0
   pub rest : List ℕ
   pub first : last ≡ None → before ≡ []
   pub are_entries : AreEntries (with_last before last)
-  pub begins : bytes ≡ session_head (with_last before last) ++ rest
-  pub number_is : number ≡ session_count (with_last before last) + 1
+  pub begins : HeadStands bytes (with_last before last) rest
+  pub number_is : BeginsAt bytes rest number
   pub refused : next_reason before last rest ≡ Some reason
 
 -- a line of a graph's text is refused, which is the bytes up to the first line that is exactly `end`, or all that is left
@@ -79,23 +84,26 @@ pub record IsGraphFault (bytes : List ℕ) (number : ℕ) (reason : Why) : Type 
   pub rest : List ℕ
   pub are_entries : AreEntries before
   pub named : graph_reason before name ≡ None
-  pub begins : bytes ≡ session_head before ++ (graph_line name ++ rest)
+  pub begins : HeadStands bytes before (graph_line name ++ rest)
+  pub above : ℕ
+  pub above_is : BeginsAt bytes (graph_line name ++ rest) above
   pub inside : ℕ
   pub fault : FirstFault (graph_bytes rest) inside reason
-  pub number_is : number ≡ session_count before + 1 + inside
+  pub number_is : number ≡ above + inside
 
 -- with the last line of a graph's text a sum over all graphs is passed
 pub record IsSumFault (bytes : List ℕ) (number : ℕ) (reason : Why) : Type 0 where
   pub before : List Entry
   pub name : List ℕ
   pub graph : GraphValue
+  pub from : List ℕ
   pub rest : List ℕ
   pub are_entries : AreEntries before
   pub named : graph_reason before name ≡ None
-  pub is_graph : IsGraph graph
-  pub begins : bytes ≡ session_head before ++ (graph_line name ++ (text graph ++ rest))
+  pub begins : HeadStands bytes before from
+  pub stands : GraphStands from name graph rest
   pub passed : is_large (before ++ bare_entry name graph ∷ []) ≡ true
-  pub number_is : number ≡ session_count before + 1 + (line_count graph + 1)
+  pub number_is : BeginsAt bytes rest (number + 1)
   pub reason_is : reason ≡ why.Limit
 
 -- bytes follow the text of a session
@@ -103,9 +111,9 @@ pub record IsRestFault (bytes : List ℕ) (number : ℕ) (reason : Why) : Type 0
   pub before : List Entry
   pub rest : List ℕ
   pub are_entries : AreEntries before
-  pub begins : bytes ≡ session_text before ++ rest
+  pub begins : HeadStands bytes before (closing ++ rest)
   pub follows : rest ≢ []
-  pub number_is : number ≡ session_count before + 2
+  pub number_is : BeginsAt bytes rest number
   pub reason_is : reason ≡ why.Rest
 
 -- the first refused line of these bytes, from 1, and its first reason

@@ -1,21 +1,24 @@
 -- What fits after the graphs and the links before it: the reasons that may refuse a line between the texts of graphs.
-use Rattle.std.specs.Prelude.{◌≡◌, ℕ, ◌+◌, ◌≤◌, nat_lt, Bool, true, not, cond, ◌&&◌, ◌||◌, List, [], ◌∷◌, ◌++◌, length, sum_by, Option, Some, None}
+use Rattle.std.specs.Prelude.{◌≡◌, ℕ, ◌+◌, ◌≤◌, nat_lt, Bool, true, not, cond, ◌&&◌, ◌||◌, List, [], ◌∷◌, ◌++◌, length, sum_by, find, Option, Some, None}
 use Rattle.std.specs.List.{list_any}
+use Rattle.std.specs.Option.{option_map_or}
 use Rattle.std.specs.Str.{bytes_eq}
 use Rattle.graph_terms.specs.declared.limits.TheConstants.{MAX_TEXT, MAX_CELLS}
 use Rattle.graph_terms.specs.declared.verb.Line.{Line}
 use Rattle.graph_terms.specs.declared.verb.Verb.TheVariants.{Trigger}
 use Rattle.graph_terms.specs.declared.why.Why.{Why}
 use Rattle.graph_terms.specs.declared.why.Why.TheVariants as why
+use Rattle.graph_terms.specs.declared.format.Format.{Format}
+use Rattle.graph_terms.specs.declared.format.Format.TheVariants.{One}
 use Rattle.graph_terms.specs.Graph.{GraphValue}
-use Rattle.graph_terms.specs.Name.{is_name}
+use Rattle.graph_terms.specs.Name.{is_name, is_name_in}
 use Rattle.graph_terms.specs.Fits.{IsGraph, first_reason, is_used, with_line, line_fault, cell_count}
 use Rattle.graph_words.specs.Draft.{line_number}
 use Rattle.graph_reader.specs.FirstFault.{is_line_name, or_else}
 use Rattle.session_text.specs.declared.limits.TheConstants.{MAX_GRAPHS, MAX_SESSION_LINES}
 use Rattle.session_text.specs.declared.entry.Link.{Link}
 use Rattle.session_text.specs.declared.entry.Entry.{Entry}
-use Rattle.session_text.specs.Session.{session_text}
+use Rattle.session_text.specs.Session.{closing, HeadStands}
 
 -- the line of a link, taken as a trigger of its user line
 abbrev pub trigger_line : GraphValue → Link → Line
@@ -41,9 +44,14 @@ names_op_of l e = bytes_eq e.name l.graph && has_op e l.op
 abbrev pub names_op : List Entry → Link → Bool
 names_op before l = list_any (names_op_of l) before
 
--- the names of a link are spelled as names
-abbrev pub is_named : Link → Bool
-is_named l = is_name l.line && (is_name l.user && (is_name l.graph && is_name l.op))
+-- the format of the first of these graphs that has this name, and format 1 where none has it
+abbrev pub format_of : List Entry → List ℕ → Format
+format_of es name = option_map_or (λ (e : Entry). e.graph.format) (find (λ (e : Entry). bytes_eq e.name name) es) One
+
+-- the names of a link are spelled as names: those of its line and its user line in the format of its graph, that of a graph as in formats 1 and 2,
+-- and that of the operation in the format of the graph that is named
+abbrev pub is_named : Format → Format → Link → Bool
+is_named own named l = is_name_in own l.line && (is_name_in own l.user && (is_name l.graph && is_name_in named l.op))
 
 -- operation lines and links, and cells, of all graphs
 abbrev pub entry_lines : Entry → ℕ
@@ -83,7 +91,7 @@ with_link e l = record { name = e.name; graph = e.graph; links = e.links ++ l �
 
 -- the first reason that refuses a link of a graph after the links that it has, and after the graphs before it
 abbrev pub link_reason : List Entry → Entry → Link → Option Why
-link_reason before e l = or_else (first_reason ((not (is_named l), why.Name) ∷ (not (names_op before l), why.Unknown) ∷ []))
+link_reason before e l = or_else (first_reason ((not (is_named e.graph.format (format_of before l.graph) l), why.Name) ∷ (not (names_op before l), why.Unknown) ∷ []))
     (or_else (trigger_reason (with_triggers e.graph e.links) l) (cond (is_large (before ++ with_link e l ∷ [])) (Some why.Limit) None))
 
 -- a graph of this name, without links
@@ -112,6 +120,6 @@ AreEntries es = EntriesFit [] es
 
 -- the bytes are the text of the session
 pub record SessionText (bytes : List ℕ) (es : List Entry) : Type 0 where
-  pub is_text : bytes ≡ session_text es
+  pub is_text : HeadStands bytes es closing
   pub short : length bytes ≤ MAX_TEXT
   pub are_entries : AreEntries es

@@ -10,12 +10,12 @@ use Rattle.graph_words.specs.Text.{GraphText}
 use Rattle.graph_words.specs.Words.{pieces}
 use Rattle.graph_reader.specs.FirstFault.{has_newline, first_line, or_else, FirstFault}
 use Rattle.graph_reader.specs.Reading.{after_line}
-use Rattle.realm_audit.specs.Parts.{graph_bytes, trace_bytes}
+use Rattle.realm_audit.specs.Parts.{newlines, graph_bytes, trace_bytes}
 use Rattle.session_text.specs.declared.entry.Entry.{Entry}
 use Rattle.session_text.specs.declared.entry.Link.{Link}
 use Rattle.session_text.specs.declared.so_far.Last.{Last}
 use Rattle.session_text.specs.declared.so_far.SoFar.{SoFar}
-use Rattle.session_text.specs.Session.{graph_line, session_head, session_count}
+use Rattle.session_text.specs.Session.{graph_line, HeadStands, BeginsAt}
 use Rattle.session_text.specs.Fits.{bare_entry, AreEntries, with_trigger, with_triggers, with_link, trigger_reason, all_lines, all_cells, is_large}
 use Rattle.session_text.specs.FirstFault.{with_last, IsRefusal}
 
@@ -56,8 +56,8 @@ pub record IsSoFar (s : SoFar) : Type 0 where
 -- the bytes are the text of the graphs so far and what is left, whose first line has this number
 pub record HasRead (bytes : List ℕ) (s : SoFar) (rest : List ℕ) (number : ℕ) : Type 0 where
   pub is_so_far : IsSoFar s
-  pub begins : bytes ≡ session_head (entries_in s) ++ rest
-  pub number_is : number ≡ session_count (entries_in s) + 1
+  pub begins : HeadStands bytes (entries_in s) rest
+  pub number_is : BeginsAt bytes rest number
 
 -- the bytes begin with a line of these words, which is not the closing one, and go on so behind it
 pub record IsLineAt (rest : List ℕ) (ws : List (List ℕ)) (after : List ℕ) : Type 0 where
@@ -128,10 +128,10 @@ GraphRefused old name behind number e = (bytes : List ℕ) → HasRead bytes old
 abbrev pub bare_last : List ℕ → GraphValue → Last
 bare_last name g = record { entry = bare_entry name g; judged = g }
 
--- the same where the text of that graph was read, behind which these bytes are left
-abbrev pub LastTaken : SoFar → Last → List ℕ → ℕ → SoFar → List ℕ → ℕ → Type 0
-LastTaken old last after number new left next = (bytes behind : List ℕ) → HasRead bytes old (graph_line last.entry.name ++ behind) number → GraphText (graph_bytes behind) last.entry.graph → after ≡ trace_bytes behind
+-- the same where the text of that graph was read, which has so many lines, and behind which these bytes are left
+abbrev pub LastTaken : SoFar → Last → ℕ → List ℕ → ℕ → SoFar → List ℕ → ℕ → Type 0
+LastTaken old last lines after number new left next = (bytes behind : List ℕ) → HasRead bytes old (graph_line last.entry.name ++ behind) number → GraphText (graph_bytes behind) last.entry.graph → lines ≡ newlines (graph_bytes behind) → after ≡ trace_bytes behind
     → HasRead bytes new left next
 
-abbrev pub LastRefused : SoFar → Last → ℕ → ReadRefusal → Type 0
-LastRefused old last number e = (bytes behind : List ℕ) → HasRead bytes old (graph_line last.entry.name ++ behind) number → GraphText (graph_bytes behind) last.entry.graph → IsRefusal bytes e
+abbrev pub LastRefused : SoFar → Last → ℕ → ℕ → ReadRefusal → Type 0
+LastRefused old last lines number e = (bytes behind : List ℕ) → HasRead bytes old (graph_line last.entry.name ++ behind) number → GraphText (graph_bytes behind) last.entry.graph → lines ≡ newlines (graph_bytes behind) → IsRefusal bytes e

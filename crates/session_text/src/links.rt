@@ -1,33 +1,48 @@
 //! Links: their names, and what they name.
 
 ghost use Rattle.basics.specs.Words.{contents};
-ghost use Rattle.std.specs.Prelude.{◌≡◌, ◌∷◌, [], true, false, not, map, position, None, Some, IfOk, OnOk, MatchOption};
+ghost use Rattle.std.specs.Prelude.{◌≡◌, ◌∷◌, [], true, false, not, map, position, None, Some, IfOk, OnOk, MatchOption, IsTrue};
 ghost use Rattle.std.specs.Str.{bytes_eq};
 ghost use Rattle.graph_terms.specs.Fits.{first_reason, is_used, line_fault, with_line};
+ghost use Rattle.graph_terms.specs.Name.{is_name_in};
 ghost use Rattle.graph_reader.specs.FirstFault.{is_line_name};
-ghost use Rattle.session_text.specs.Fits.{names_op, names_op_of, is_named, trigger_reason, with_trigger};
+ghost use Rattle.session_text.specs.Fits.{names_op, names_op_of, format_of, is_named, trigger_reason, with_trigger};
 ghost use Rattle.session_text.specs.FirstFault.{link_of};
 ghost use Rattle.session_text.specs.SoFar.{judged_of};
 
 use crate::entry::{Entry, Link};
 use crate::words::word;
 use graph_model::graph::Graph;
+use graph_terms::format::Format;
 use graph_terms::found::Found;
 use graph_terms::name::Name;
 use graph_terms::verb::{Line, Verb};
 use graph_terms::why::Why;
 use index_spaces::NoMemory;
 
-/// The link of the words of its line. `None` exactly where one of them is not spelled as a name.
-pub(crate) fn link_of(words: &[&[u8]]) -> Option<Link>
-    ensures { MatchOption result (is_named (link_of (contents words.now)) ≡ false)
-        (λ l. (l ≡ link_of (contents words.now)) × (is_named l ≡ true)) }
+/// The format of the first of these graphs that has this name, and format 1 where none has it.
+pub(crate) fn format_of(graphs: &[Entry], name: &[u8]) -> Format
+    ensures { result ≡ format_of graphs.now name.now }
+{
+    for entry in graphs {
+        if entry.name.bytes() == name {
+            return entry.graph.format();
+        }
+    }
+    Format::One
+}
+
+/// The link of the words of its line: `own` is the format of its graph, `named` that of the graph which it names. `None`
+/// exactly where a word is not spelled as a name of its format.
+pub(crate) fn link_of(words: &[&[u8]], own: Format, named: Format) -> Option<Link>
+    ensures { MatchOption result (is_named own named (link_of (contents words.now)) ≡ false)
+        (λ l. (l ≡ link_of (contents words.now)) × (is_named own named l ≡ true)) }
 {
     Some(Link {
-        line: Name::new(word(words, 1))?,
-        user: Name::new(word(words, 2))?,
+        line: Name::in_format(own, word(words, 1))?,
+        user: Name::in_format(own, word(words, 2))?,
         graph: Name::new(word(words, 3))?,
-        op: Name::new(word(words, 4))?,
+        op: Name::in_format(named, word(words, 4))?,
     })
 }
 
@@ -74,6 +89,7 @@ pub(crate) fn names_op(before: &[Entry], judged: &[Graph], link: &Link) -> bool
 
 /// Puts the line of a link at the end as a trigger, where it fits, else the first reason that refuses it.
 pub(crate) fn add_trigger(graph: &mut Graph, link: &Link) -> Result<Option<Why>, NoMemory>
+    requires { IsTrue (is_name_in graph.old.format link.now.line) }
     ensures fault { IfOk result (λ why. why ≡ trigger_reason graph.old link.now) }
     ensures added { OnOk result (trigger_reason graph.old link.now ≡ None → graph.new ≡ with_trigger graph.old link.now) }
 {
@@ -86,6 +102,7 @@ pub(crate) fn add_trigger(graph: &mut Graph, link: &Link) -> Result<Option<Why>,
 /// Puts a line that triggers the line of this number at the end, where it fits, else the first reason
 /// that refuses it.
 fn offer_trigger(graph: &mut Graph, name: Name, user: u32) -> Result<Option<Why>, NoMemory>
+    requires { IsTrue (is_name_in graph.old.format name) }
     ensures fault { IfOk result (λ why. why ≡ line_fault graph.old (record { name = name; verb = Verb.Trigger user; on = None })) }
     ensures added { OnOk result (line_fault graph.old (record { name = name; verb = Verb.Trigger user; on = None }) ≡ None
         → graph.new ≡ with_line graph.old (record { name = name; verb = Verb.Trigger user; on = None })) }

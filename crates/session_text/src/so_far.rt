@@ -1,33 +1,37 @@
 //! What a reader keeps of the graphs and links so far.
 
 ghost use Rattle.basics.specs.Words.{contents};
-ghost use Rattle.std.specs.Prelude.{◌≡◌, ℕ, ◌+◌, ◌*◌, ◌<◌, ◌≤◌, ◌++◌, ◌∷◌, [], List, None, Some, true, false, length, IfOk, IfErr, OnOk, MatchResult};
+ghost use Rattle.std.specs.Prelude.{◌≡◌, ℕ, ◌+◌, ◌*◌, ◌<◌, ◌≤◌, ◌++◌, ◌∷◌, [], List, None, Some, true, false, length, IfOk, IfErr, OnOk, MatchResult, IfSome, IsTrue};
 ghost use Rattle.std.specs.List.{list_any};
 ghost use Rattle.std.specs.Option.{option_map_or};
 ghost use Rattle.std.specs.Str.{bytes_eq};
 ghost use Rattle.graph_terms.specs.Fits.{cell_count};
 ghost use Rattle.graph_terms.specs.declared.limits.TheConstants.{MAX_TEXT, MAX_CELLS};
+ghost use Rattle.graph_terms.specs.Name.{is_name_in};
 ghost use Rattle.graph_words.specs.Text.{GraphText};
-ghost use Rattle.graph_reader.specs.FirstFault.{is_empty, line_count};
+ghost use Rattle.graph_reader.specs.FirstFault.{is_empty};
+ghost use Rattle.realm_audit.specs.Parts.{newlines};
 ghost use Rattle.graph_words.specs.Words.{pieces};
 ghost use Rattle.session_text.specs.Fits.{graph_reason, is_above};
-ghost use Rattle.session_text.specs.FirstFault.{word_at, is_graph_line, is_link_line, link_of, last_reason};
+ghost use Rattle.session_text.specs.FirstFault.{word_at, is_graph_line, is_link_line, link_of, last_format, last_reason};
 ghost use Rattle.session_text.specs.declared.limits.TheConstants.{MAX_SESSION_LINES};
 ghost use Rattle.session_text.specs.SoFar.{last_entry, entries_in, judged_in, IsSoFar, ReadsOn, RefusedThere, IsRefusedBehind, added_reason, AddsLink, LinkAdded, GraphAdded, GraphTaken, GraphRefused, bare_last, LastTaken, LastRefused, AllowsLink, LastAdded};
 
 use crate::entry::{Entry, Link};
 use crate::limits::{MAX_GRAPHS, MAX_SESSION_LINES};
-use crate::links::{add_trigger, link_of, names_op};
+use crate::links::{add_trigger, format_of, link_of, names_op};
 use crate::words::{any_empty, is_graph_line, is_link_line, split_into, word};
 use graph_model::graph::Graph;
+use graph_reader::laws::lines_stand_in_order;
 use graph_reader::{ReadRefusal, read_graph};
+use graph_terms::format::Format;
 use graph_terms::limits::MAX_CELLS;
 use graph_terms::lists::ItemList;
 use graph_terms::name::Name;
 use graph_terms::why::Why;
 use index_spaces::NoMemory;
 use index_spaces::room::push;
-use realm_audit::parts;
+use realm_audit::{newlines, parts};
 use std::alloc::Global;
 
 /// The last graph, and the same graph with each of its links as a trigger.
@@ -42,6 +46,7 @@ impl Last {
     /// that refuses it.
     fn add_link(&mut self, link: Link, has_room: bool) -> Result<Option<Why>, NoMemory>
         requires few { length self.old.entry.links < u32.MAX }
+        requires named { IsTrue (is_name_in self.old.judged.format link.line) }
         ensures fault { IfOk result (λ why. why ≡ added_reason self.old link has_room) }
         ensures added { OnOk result (added_reason self.old link has_room ≡ None → AddsLink self.old link self.new) }
     {
@@ -257,28 +262,29 @@ impl SoFar {
     {
         let (front, back) = parts(bytes);
         match read_last(alloc, name, front, number) {
-            Ok(last) => self.take_last(last, back, number),
+            Ok(last) => self.take_last(last, newlines(front), back, number),
             Err(refusal) => Err(refusal),
         }
     }
 
-    /// Puts a graph at the end whose text was read behind a line of this number. It is refused where a
-    /// sum is too large with it.
+    /// Puts a graph at the end whose text, of so many lines, was read behind a line of this number. It is
+    /// refused where a sum is too large with it.
     fn take_last<'a>(
         &mut self,
         last: Last,
+        lines: u32,
         after: &'a [u8],
         number: u32,
     ) -> Result<Rest<'a>, ReadRefusal>
         requires so_far { IsSoFar self.old }
-        requires few { number + line_count last.entry.graph + 4 ≤ 3 * MAX_TEXT }
+        requires few { number + lines ≤ 3 * MAX_TEXT }
         requires named { graph_reason (entries_in self.old) last.entry.name ≡ None }
         requires bare { last ≡ bare_last last.entry.name last.entry.graph }
-        ensures taken { IfOk result (λ x. LastTaken self.old last after.now number self.new x.bytes.now x.number) }
+        ensures taken { IfOk result (λ x. LastTaken self.old last lines after.now number self.new x.bytes.now x.number) }
         ensures rest { IfOk result (λ x. x.bytes.now ≡ after.now) }
-        ensures refused { IfErr result (λ e. LastRefused self.old last number e) }
+        ensures refused { IfErr result (λ e. LastRefused self.old last lines number e) }
     {
-        let end = end_line(&last.entry.graph, number);
+        let end = number + lines;
         let sums = self.sums_with(&last.entry.graph);
         let Ok(()) = self.add_graph(last, sums) else {
             return Err(ReadRefusal::NoMemory);
@@ -340,6 +346,16 @@ impl SoFar {
         }
     }
 
+    /// The format of the last graph, and format 1 where there is none.
+    fn last_format(&self) -> Format
+        ensures { result ≡ last_format (last_entry self.now.last) }
+    {
+        match &self.last {
+            Some(last) => last.entry.graph.format(),
+            None => Format::One,
+        }
+    }
+
     /// Puts the link of these words at the end of the last graph's, where it fits, else the first
     /// reason that refuses it.
     fn take_link(&mut self, words: &[&[u8]]) -> Result<Option<Why>, NoMemory>
@@ -348,7 +364,8 @@ impl SoFar {
         ensures added { OnOk result (last_reason self.old.before.items (last_entry self.old.last) (link_of (contents words.now)) ≡ None
             → LinkAdded self.old (link_of (contents words.now)) self.new) }
     {
-        let Some(link) = link_of(words) else {
+        let named = format_of(self.before.as_slice(), word(words, 3));
+        let Some(link) = link_of(words, self.last_format(), named) else {
             return Ok(Some(Why::Name));
         };
         if !names_op(self.before.as_slice(), self.judged.as_slice(), &link) {
@@ -366,6 +383,7 @@ impl SoFar {
 /// reason that refuses it.
 fn add_link(last: &mut Option<Last>, link: Link, has_room: bool) -> Result<Option<Why>, NoMemory>
     requires few { AllowsLink last.old }
+    requires named { IfSome last.old (λ l. IsTrue (is_name_in l.judged.format link.line)) }
     ensures fault { IfOk result (λ why. why ≡ option_map_or (λ l. added_reason l link has_room) last.old (Some Why.Unknown)) }
     ensures added { OnOk result (LastAdded last.old link has_room last.new) }
 {
@@ -400,14 +418,6 @@ fn with_entry(mut entries: Vec<Entry>, entry: Entry) -> Result<Vec<Entry>, ReadR
     }
 }
 
-/// The number of the last line of a graph's text that stands behind a line of this number.
-fn end_line(graph: &Graph, number: u32) -> u32
-    requires { number + line_count graph.now + 4 ≤ 3 * MAX_TEXT }
-    ensures { result ≡ number + line_count graph.now + 1 }
-{
-    number + graph.decls() + graph.lines() + 2
-}
-
 /// The graph of this name whose text the bytes are that stand behind a line of this number. It is read
 /// twice: its links are judged in a graph of their own, in which each of them is a trigger.
 fn read_last(alloc: Global, name: Name, bytes: &[u8], line: u32) -> Result<Last, ReadRefusal>
@@ -439,6 +449,8 @@ fn read_behind(alloc: Global, bytes: &[u8], line: u32) -> Result<Graph, ReadRefu
     ensures text { IfOk result (λ g. GraphText bytes.now g) }
     ensures refused { IfErr result (λ e. IsRefusedBehind bytes.now line e) }
 {
+    // no line that is refused has a number above the lines of the bytes
+    lines_stand_in_order();
     match read_graph(alloc, bytes) {
         Ok(graph) => Ok(graph),
         Err(ReadRefusal::Line { number, why }) => Err(refused(line + number, why)),

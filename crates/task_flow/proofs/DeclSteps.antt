@@ -1,11 +1,11 @@
 -- The declarations of a flow, put one by one into a graph.
-use Rattle.std.proofs.Common.{◌≡◌, ℕ, zero, suc, ◌+◌, List, [], ◌∷◌, ◌++◌, take, sym, ◌∙◌, ap, subst, append_assoc, append-nil}
+use Rattle.std.proofs.Common.{◌≡◌, ℕ, zero, suc, ◌+◌, true, List, [], ◌∷◌, ◌++◌, take, sym, ◌∙◌, ap, subst, append_assoc, append-nil}
 use Rattle.std.specs.Prelude.{Some, None, slice_get}
 use Rattle.std.proofs.lemmas.Option.{none-some, same_Some}
 use Rattle.graph_terms.specs.declared.decl.Decl.{Decl}
 use Rattle.graph_terms.specs.declared.format.Format.{Format}
 use Rattle.graph_terms.specs.Graph.{GraphValue}
-use Rattle.graph_terms.specs.Fits.{decl_fault, with_decl, IsDecl, DeclsFit}
+use Rattle.graph_terms.specs.Fits.{decl_fault, is_decl_named, with_decl, IsDecl, DeclsFit}
 use Rattle.task_flow.specs.Fitting.{lined}
 use Rattle.basics.proofs.ListParts.{take_more}
 
@@ -19,6 +19,15 @@ pub decl_fits : (g : GraphValue) (fm : Format) (ds : List Decl) (k : ℕ) (d e :
 decl_fits g fm ds k d e f is at same =
     let r = fits_at fm [] ds f k d at in
     subst (λ x. IsDecl x × (decl_fault g x ≡ None)) (sym same) (r.0, subst (λ x. decl_fault x d ≡ None) (sym is) r.1)
+
+-- and its names are names of the format
+named_at : (fm : Format) (before ds : List Decl) → DeclsFit fm before ds → (k : ℕ) (d : Decl) → slice_get ds k ≡ Some d → is_decl_named fm d ≡ true
+named_at fm before [] f k d at = absurd (none-some d at)
+named_at fm before (e ∷ ds) f zero d at = subst (λ x. is_decl_named fm x ≡ true) (same_Some e d at) f.3
+named_at fm before (e ∷ ds) f (suc k) d at = named_at fm (before ++ e ∷ []) ds f.2 k d at
+
+pub decl_named : (g : GraphValue) (fm : Format) (ds : List Decl) (k : ℕ) (d e : Decl) → DeclsFit fm [] ds → g ≡ lined fm (take k ds) [] → slice_get ds k ≡ Some d → e ≡ d → is_decl_named g.format e ≡ true
+decl_named g fm ds k d e f is at same = ap (λ (x : GraphValue). is_decl_named x.format e) is ∙ (ap (is_decl_named fm) same ∙ named_at fm [] ds f k d at)
 
 pub decl_more : (g h : GraphValue) (fm : Format) (ds : List Decl) (k : ℕ) (d e : Decl) → g ≡ lined fm (take k ds) [] → slice_get ds k ≡ Some d → e ≡ d → h ≡ with_decl g e → h ≡ lined fm (take (k + 1) ds) []
 decl_more g h fm ds k d e is at same added = added ∙ (ap (λ x. with_decl x e) is ∙ (ap (λ x. with_decl (lined fm (take k ds) []) x) same ∙ ap (λ x. lined fm x []) (sym (take_more ds k d at))))

@@ -16,7 +16,6 @@ use Rattle.graph_terms.specs.declared.decl.ColumnInfo.{ColumnInfo}
 use Rattle.graph_terms.specs.declared.decl.Decl.{Decl}
 use Rattle.graph_terms.specs.declared.decl.Decl.TheVariants.{Lock}
 use Rattle.graph_terms.specs.declared.format.Format.{Format}
-use Rattle.graph_terms.specs.declared.format.Format.TheVariants.{One, Two}
 use Rattle.graph_terms.specs.declared.table.Kernel.TheVariants as kernel
 use Rattle.graph_terms.specs.declared.verb.Access.{Access}
 use Rattle.graph_terms.specs.declared.verb.Line.{Line}
@@ -25,6 +24,7 @@ use Rattle.graph_terms.specs.declared.verb.Verb.TheVariants.{User, Trigger, Canc
 use Rattle.graph_terms.specs.declared.why.Why.TheVariants as why
 use Rattle.graph_terms.specs.Graph.{GraphValue, decl_name, lock_of, named_spaces, columns, locks, barriers, line_passes, is_acquire, is_release_of}
 use Rattle.graph_terms.specs.declared.limits.TheConstants.{MAX_INSTS, MAX_COLUMNS, MAX_CELLS, MAX_LOCKS, MAX_BARRIERS}
+use Rattle.graph_terms.specs.Name.{is_name_in}
 use Rattle.graph_terms.specs.Access.{verb_accesses}
 use Rattle.graph_terms.specs.Edges.{edges, line_edges}
 use Rattle.graph_terms.specs.Fits.{first_reason, repeats, names, is_used, is_inst, cell_count, with_line, is_beyond, verb_repeats, named_lines, on_lines, line_unknown, verb_unknown, verb_unlike, takes_no_on, format_lacks, verb_misnumbered, access_unknown, access_outside, arrives_late, merges_many, line_tests, line_fault, LinesFit}
@@ -35,7 +35,7 @@ use Rattle.flow_order.specs.Written.{IsLock, orders_alone}
 use Rattle.task_flow.specs.Construction.{Made, is_contended, lock_for, new_name, takes_width, place_in, no_line, line_in, reservations, graph_of}
 use Rattle.task_flow.specs.Fitting.{lined, with_lines, AreToFit}
 use Rattle.task_flow.specs.Making.{IsPast}
-use Rattle.task_flow.proofs.Names.{new_differ, unused}
+use Rattle.task_flow.proofs.Names.{new_is_name, in_each, new_differ, unused}
 use Rattle.task_flow.proofs.NameScan.{is_free, power_most}
 use Rattle.basics.proofs.Choices.{both_not}
 use Rattle.task_flow.proofs.Standing.{Waits, IsOwn, IsSection, Standing, new_line, own_uses}
@@ -46,6 +46,12 @@ fits_after : (fm : Format) (decls : List Decl) (before ls : List Line) → Lines
 fits_after fm decls before [] f k l at = absurd (none-some l at)
 fits_after fm decls before (x ∷ ls) f zero l at = subst (λ b. line_fault (lined fm decls b) l ≡ None) (sym (append-nil before)) (subst (λ z. line_fault (lined fm decls before) z ≡ None) (same_Some x l at) f.1)
 fits_after fm decls before (x ∷ ls) f (suc k) l at = subst (λ b. line_fault (lined fm decls b) l ≡ None) (append_assoc before (x ∷ []) (take k ls)) (fits_after fm decls (before ++ x ∷ []) ls f.2 k l at)
+
+-- and its name is one of the format
+named_after : (fm : Format) (decls : List Decl) (before ls : List Line) → LinesFit fm decls before ls → (k : ℕ) (l : Line) → slice_get ls k ≡ Some l → is_name_in fm l.name ≡ true
+named_after fm decls before [] f k l at = absurd (none-some l at)
+named_after fm decls before (x ∷ ls) f zero l at = subst (λ (z : Line). is_name_in fm z.name ≡ true) (same_Some x l at) f.3
+named_after fm decls before (x ∷ ls) f (suc k) l at = named_after fm decls (before ++ x ∷ []) ls f.2 k l at
 
 six_false : (a b c d e f g : Bool) → a ≡ false → b ≡ false → c ≡ false → d ≡ false → e ≡ false → f ≡ false
     → first_reason ((a, why.Twice) ∷ (b, why.Unknown) ∷ (c, why.Kind) ∷ (d, why.Number) ∷ (e, why.Outside) ∷ (f, why.Arrivals) ∷ (g, why.Limit) ∷ []) ≡ cond g (Some why.Limit) None
@@ -87,37 +93,13 @@ own_clear g (Task (kernel.Expect x s low high)) h = record { twice = refl; unkno
 own_clear g (Task (kernel.Gather x y z s t)) h = record { twice = refl; unknown = refl; unlike = refl; bare = refl; number = refl; late = refl; many = refl; named = refl }
 
 own_in_format : (fm : Format) (v : Verb) → uses_columns v ≡ true → format_lacks fm v ≡ false
-own_in_format Two v h = refl
-own_in_format One User h = refl
-own_in_format One (Trigger u) h = refl
-own_in_format One (Cancel u) h = refl
-own_in_format One (Merge es) h = refl
-own_in_format One (MergeIgnore es) h = refl
-own_in_format One (Phase u) h = refl
-own_in_format One (Arrive p v w) h = refl
-own_in_format One (Acquire l s) h = absurd (true≢false (sym h))
-own_in_format One (Release q) h = refl
-own_in_format One (Fill t s v) h = refl
-own_in_format One (Copy x y s) h = refl
-own_in_format One (Reduce o x y s) h = refl
-own_in_format One (Task k) h = refl
+own_in_format fm (Acquire l s) h = absurd (true≢false (sym h))
+own_in_format fm v h = refl
 
 alone_in_format : (fm : Format) (v : Verb) → orders_alone v ≡ true → format_lacks fm v ≡ false
-alone_in_format Two v h = refl
-alone_in_format One (Acquire l true) h = absurd (true≢false (sym h))
-alone_in_format One (Acquire l false) h = refl
-alone_in_format One User h = refl
-alone_in_format One (Trigger u) h = refl
-alone_in_format One (Cancel u) h = refl
-alone_in_format One (Merge es) h = refl
-alone_in_format One (MergeIgnore es) h = refl
-alone_in_format One (Phase u) h = refl
-alone_in_format One (Arrive p v w) h = refl
-alone_in_format One (Release q) h = refl
-alone_in_format One (Fill t s v) h = refl
-alone_in_format One (Copy x y s) h = refl
-alone_in_format One (Reduce o x y s) h = refl
-alone_in_format One (Task k) h = refl
+alone_in_format fm (Acquire l true) h = absurd (true≢false (sym h))
+alone_in_format fm (Acquire l false) h = refl
+alone_in_format fm v h = refl
 
 and_no : (a b : Bool) → a ≡ false → (a && b) ≡ false
 and_no a b h = ap (λ x. x && b) h
@@ -393,9 +375,18 @@ module _ (f : GraphValue) (commute : Bool) (flow : IsFlow f) (n : ℕ) (within :
         | inr (inr o) ↦ section_fits b l rest is free o.0 o.1 o.2 o.3
       ]
 
+  named_at : (b : List Line) (l : Line) (rest : List Line) → m.lines ≡ b ++ l ∷ rest → is_name_in f.format l.name ≡ true
+  named_at b l rest is =
+      let at : slice_get m.lines (length b) ≡ Some l = ap (λ xs. slice_get xs (length b)) is ∙ got_behind b l rest in
+      let below : length b < length m.lines = slice_get_within m.lines (length b) l at in
+      elim (line_name (length b) l at) [
+        | inl o ↦ ap (is_name_in f.format) o.name ∙ named_after f.format f.decls [] f.lines flow.fits.lines o.line (line_in f o.line) (own_got o.line o.below)
+        | inr o ↦ ap (is_name_in f.format) o.0 ∙ in_each f.format (new_name (m.first + length b)) (new_is_name (m.first + length b) (omega arith))
+      ]
+
   pub fit_from : (b row : List Line) → m.lines ≡ b ++ row → AreToFit f.format (f.decls ++ rs) b row
   fit_from b [] is = tt
-  fit_from b (l ∷ row) is = (fits_at b l row is, fit_from (b ++ l ∷ []) row (is ∙ sym (append_assoc b (l ∷ []) row)))
+  fit_from b (l ∷ row) is = (fits_at b l row is, fit_from (b ++ l ∷ []) row (is ∙ sym (append_assoc b (l ∷ []) row)), named_at b l row is)
 
 -- a graph that passes a limit still does with more lines
 pub or_more : (a a' b b' : Bool) → (a ≡ true → a' ≡ true) → (b ≡ true → b' ≡ true) → (a || b) ≡ true → (a' || b') ≡ true

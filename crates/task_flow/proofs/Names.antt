@@ -10,7 +10,10 @@ use Rattle.std.proofs.lemmas.Fmt.{digits_decimal, decimal_injective, length-deci
 use Rattle.std.proofs.lemmas.Slice.Eq.{bytes_eq-Decides}
 use Rattle.std.proofs.lemmas.Str.Parse.{IsNumeralModel, numerals_by_value, tells_all_ascii_digits, digits_value_short}
 use Rattle.basics.proofs.ListFacts.{passes_some, some_passes}
-use Rattle.graph_terms.specs.Name.{is_name, is_name_byte}
+use Rattle.graph_terms.specs.declared.format.Format.{Format}
+use Rattle.graph_terms.specs.declared.format.Format.TheVariants.{Three}
+use Rattle.graph_terms.specs.Name.{is_name, is_name_byte, is_name_in}
+use Rattle.graph_terms.proofs.Public.{long_names}
 use Rattle.graph_terms.specs.Graph.{GraphValue}
 use Rattle.graph_terms.specs.Fits.{names, is_used}
 use Rattle.task_flow.specs.Construction.{new_name, takes_width}
@@ -29,6 +32,11 @@ new_is_name n h =
     let short : length (decimal n) ≤ 20 = length-decimal-le 20 n (omega arith) (omega arith) h in
     ap (λ b. b && is_ascii_lowercase 109 && list_all is_name_byte (decimal n)) (le-leb (length (109 ∷ decimal n)) 31 (let s : 1 + length (decimal n) ≤ 31 = omega arith in omega arith))
     ∙ digits_are_bytes (decimal n) (digits_decimal own n h)
+
+-- and so in each format
+pub in_each : (f : Format) (w : List ℕ) → is_name w ≡ true → is_name_in f w ≡ true
+in_each Three w h = long_names w h
+in_each f w h = h
 
 -- a name is made of bytes that are spelled as one
 pub is_made : (o : Option (List ℕ)) (bytes : List ℕ) → is_name bytes ≡ true → MatchOption o (is_name bytes ≡ false) (λ name. (name ≡ bytes) × IsTrue (is_name bytes)) → IsSome o

@@ -1,11 +1,12 @@
 -- Lines that are put into a graph one by one.
 use Rattle.std.proofs.Common.{◌≡◌, Bool, true, false, cond, List, [], ◌∷◌, ◌++◌, refl, sym, ◌∙◌, ap, subst, append_assoc}
-use Rattle.std.specs.Prelude.{Option, Some, None, is_some}
+use Rattle.std.specs.Prelude.{Option, Some, None, is_some, IsTrue}
 use Rattle.std.proofs.lemmas.Bool.{true≢false}
 use Rattle.graph_terms.specs.declared.verb.Line.{Line}
 use Rattle.graph_terms.specs.declared.why.Why.{Why}
 use Rattle.graph_terms.specs.declared.why.Why.TheVariants.{Limit}
 use Rattle.graph_terms.specs.Graph.{GraphValue}
+use Rattle.graph_terms.specs.Name.{is_name_in}
 use Rattle.graph_terms.specs.Fits.{is_beyond, line_fault, with_line}
 use Rattle.task_flow.specs.Fitting.{lined, with_lines, AreToFit}
 use Rattle.task_flow.proofs.Fitting.{beyond_more}
@@ -16,8 +17,11 @@ pub record PutStep (g0 g' : GraphValue) (yielded : List Line) (l : Line) (rest' 
   pub within : is_beyond (with_lines g0 (yielded ++ l ∷ [])) ≡ false
 
 module _ (g0 g : GraphValue) (yielded rest rest' : List Line) (l : Line) (is : g ≡ with_lines g0 yielded) (fits : AreToFit g0.format g0.decls (g0.lines ++ yielded) rest) (front : rest ≡ l ∷ rest') where
-  both : (line_fault (with_lines g0 yielded) l ≡ cond (is_beyond (lined g0.format g0.decls ((g0.lines ++ yielded) ++ l ∷ []))) (Some Limit) None) × AreToFit g0.format g0.decls ((g0.lines ++ yielded) ++ l ∷ []) rest'
+  both : (line_fault (with_lines g0 yielded) l ≡ cond (is_beyond (lined g0.format g0.decls ((g0.lines ++ yielded) ++ l ∷ []))) (Some Limit) None) × AreToFit g0.format g0.decls ((g0.lines ++ yielded) ++ l ∷ []) rest' × IsTrue (is_name_in g0.format l.name)
   both = subst (AreToFit g0.format g0.decls (g0.lines ++ yielded)) front fits
+
+  pub put_named : IsTrue (is_name_in g.format l.name)
+  put_named = subst (λ (z : GraphValue). is_name_in z.format l.name ≡ true) (sym is) both.2
 
   abbrev joined : (g0.lines ++ yielded) ++ l ∷ [] ≡ g0.lines ++ (yielded ++ l ∷ [])
   joined = append_assoc g0.lines yielded (l ∷ [])

@@ -18,4 +18,5 @@ returns c =
     let a6 = c.in_ok-arg-6.ensures.shape c.option-5.ensures.local ∙ ap₂ with_rule a5 c.option-5.ensures.rule in
     let a7 = c.in_ok-arg-7.ensures.shape c.option-6.ensures.local ∙ ap₂ with_rule a6 c.option-6.ensures.rule in
     let a8 = c.in_ok-arg-8.ensures.shape c.flag.ensures.local ∙ ap₂ with_rule a7 c.flag.ensures.rule in
-    IfOk-weaker c.arg-9.result _ _ (λ r h. h.shape c.flag-2.ensures.local ∙ ap₂ with_rule a8 c.flag-2.ensures.rule) c.arg-9.ensures
+    let a9 = c.in_ok-arg-9.ensures.shape c.flag-2.ensures.local ∙ ap₂ with_rule a8 c.flag-2.ensures.rule in
+    IfOk-weaker c.arg-10.result _ _ (λ r h. h.shape c.option-7.ensures.local ∙ ap₂ with_rule a9 c.option-7.ensures.rule) c.arg-10.ensures

@@ -337,8 +337,8 @@ fn takes_no_on(verb: &Verb) -> bool
 fn format_lacks(format: Format, verb: &Verb) -> bool
     ensures { result ≡ format_lacks format verb.now }
 {
-    match (format, verb) {
-        (Format::One, Verb::Acquire { shared, .. }) => *shared,
+    match verb {
+        Verb::Acquire { shared, .. } => *shared && !format.has_since(Format::Two),
         _ => false,
     }
 }
@@ -349,7 +349,7 @@ fn most_weight(format: Format) -> u32
 {
     match format {
         Format::One => 1,
-        Format::Two => MAX_COUNT,
+        _ => MAX_COUNT,
     }
 }
 

@@ -22,7 +22,7 @@ impl Graph {
     /// The line of a declaration, with its newline.
     pub(super) fn decl_size(&self, decl: &Decl) -> u64
         ensures size { result ≡ length (spelled (decl_words self.now decl.now)) }
-        ensures few { result ≤ 274877906944 }
+        ensures few { result ≤ 549755813888 }
     {
         match decl {
             Decl::Space { name, space } => {
@@ -54,14 +54,14 @@ impl Graph {
     /// A line, with its newline.
     pub(super) fn line_size(&self, line: &Line) -> u64
         ensures size { result ≡ length (spelled (line_words self.now line.now)) }
-        ensures few { result ≤ 274877906944 }
+        ensures few { result ≤ 549755813888 }
     {
         name_size(&line.name) + word_size(b"=") + self.verb_size(&line.verb) + self.on_size(line.on)
     }
 
     fn on_size(&self, on: Option<u32>) -> u64
         ensures size { result ≡ words_size (on_words self.now on) }
-        ensures few { result ≤ 64 }
+        ensures few { result ≤ 128 }
     {
         match on {
             Some(i) => word_size(b"on") + self.event_size(i),
@@ -71,7 +71,7 @@ impl Graph {
 
     fn verb_size(&self, verb: &Verb) -> u64
         ensures size { result ≡ words_size (verb_words self.now verb.now) }
-        ensures few { result ≤ 137438954000 }
+        ensures few { result ≤ 274877908000 }
     {
         match verb.kind() {
             Some(kind) => fixed_size(kind) + self.places_size(kind.places(), &verb.parts()),
@@ -82,7 +82,7 @@ impl Graph {
     fn merge_size(&self, verb: &Verb) -> u64
         requires { verb_kind verb.now ≡ None }
         ensures size { result ≡ words_size (verb_words self.now verb.now) }
-        ensures few { result ≤ 137438954000 }
+        ensures few { result ≤ 274877908000 }
     {
         match verb {
             Verb::Merge { events } => word_size(b"merge") + self.events_size(events),
@@ -95,7 +95,7 @@ impl Graph {
     fn places_size(&self, places: &[Place], parts: &Parts) -> u64
         requires { length places.now ≤ MOST_PLACES }
         ensures size { result ≡ words_size (placed_words self.now (zip places.now (parts_from 0 places.now parts.now))) }
-        ensures few { result ≤ 320 }
+        ensures few { result ≤ 640 }
     {
         let mut rest = places;
         let mut n = 0;
@@ -110,7 +110,7 @@ impl Graph {
 
     fn place_size(&self, place: Place, parts: &Parts, n: usize) -> u64
         ensures size { result ≡ length (place_word self.now place (part_in place n parts.now)) + 1 }
-        ensures few { result ≤ 64 }
+        ensures few { result ≤ 128 }
     {
         match place {
             Place::User => self.event_size(parts.number(n)),
@@ -129,7 +129,7 @@ impl Graph {
 
     fn events_size(&self, events: &LineList) -> u64
         ensures size { result ≡ words_size (map (line_name self.now) events.now) }
-        ensures few { result ≤ 137438953472 }
+        ensures few { result ≤ 274877906944 }
     {
         let mut size = 0;
         for event in events.items.as_slice() {
@@ -140,7 +140,7 @@ impl Graph {
 
     fn event_size(&self, i: u32) -> u64
         ensures size { result ≡ length (line_name self.now i) + 1 }
-        ensures few { result ≤ 32 }
+        ensures few { result ≤ 64 }
     {
         if i >= self.lines() {
             return 1;
@@ -150,7 +150,7 @@ impl Graph {
 
     fn column_size(&self, c: u32) -> u64
         ensures size { result ≡ length (column_name self.now c) + 1 }
-        ensures few { result ≤ 64 }
+        ensures few { result ≤ 128 }
     {
         if c >= self.columns() {
             return 1;
@@ -161,7 +161,7 @@ impl Graph {
 
     fn space_size(&self, s: u32) -> u64
         ensures size { result ≡ length (space_name self.now s) + 1 }
-        ensures few { result ≤ 32 }
+        ensures few { result ≤ 64 }
     {
         if s >= self.spaces() {
             return 1;
@@ -171,7 +171,7 @@ impl Graph {
 
     fn lock_size(&self, l: u32) -> u64
         ensures size { result ≡ length (lock_name self.now l) + 1 }
-        ensures few { result ≤ 32 }
+        ensures few { result ≤ 64 }
     {
         if l >= self.locks() {
             return 1;
@@ -181,7 +181,7 @@ impl Graph {
 
     fn barrier_size(&self, b: u32) -> u64
         ensures size { result ≡ length (barrier_name self.now b) + 1 }
-        ensures few { result ≤ 32 }
+        ensures few { result ≤ 64 }
     {
         if b >= self.barriers() {
             return 1;

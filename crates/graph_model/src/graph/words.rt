@@ -18,7 +18,7 @@ pub(crate) fn word_size(text: &[u8]) -> u64
 /// A name.
 pub(crate) fn name_size(name: &Name) -> u64
     ensures size { result ≡ length name.now + 1 }
-    ensures few { result ≤ 32 }
+    ensures few { result ≤ 64 }
 {
     name.bytes().len() as u64 + 1
 }
@@ -40,7 +40,7 @@ pub(crate) fn number_size(value: u64) -> u64
 /// Names with a comma between each two.
 pub(crate) fn fields_size(fields: &NameList) -> u64
     ensures size { result ≡ length (comma_word fields.now) + 1 }
-    ensures few { result ≤ 137438953472 }
+    ensures few { result ≤ 274877906944 }
 {
     let names = fields.items.as_slice();
     let mut size = 0;

@@ -1,10 +1,17 @@
 use Rattle.std.proofs.Common.{[], ◌∷◌, ◌∙◌, ap₂}
 use Rattle.std.proofs.lemmas.Result.{err_from_is_err_and}
-use Rattle.graph_terms.specs.Fits.{with_decl}
+use Rattle.graph_terms.specs.Graph.{GraphValue}
+use Rattle.graph_terms.specs.Fits.{is_decl_named, with_decl}
 use Rattle.embedded_run.specs.SumGraph.{points_decl, columns_decl}
 use Rattle.embedded_run.proofs.Failures.{declared_or_memory, declares_or_memory}
 use Rattle.embedded_run.proofs.ItemsFit.{declared, points_fit, columns_fit}
 use Rattle.embedded_run.proofs.building.declared.Goals as goal
+
+pub declare-requires-clause-named : goal.declare-requires-clause-named
+declare-requires-clause-named c = ap₂ (λ (g : GraphValue) d. is_decl_named g.format d) c.new.ensures c.in_ok-points.ensures
+
+pub declare-requires-2-clause-named : goal.declare-requires-2-clause-named
+declare-requires-2-clause-named c = ap₂ (λ (g : GraphValue) d. is_decl_named g.format d) (c.in_ok-graph.ensures.added ∙ ap₂ with_decl c.new.ensures c.in_ok-points.ensures) c.in_ok-columns.ensures
 
 pub returns-in_err-graph-clause-refused : goal.returns-in_err-graph-clause-refused
 returns-in_err-graph-clause-refused c =

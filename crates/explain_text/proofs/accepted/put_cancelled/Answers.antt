@@ -1,5 +1,4 @@
 use Rattle.std.proofs.Common.{arith}
-use Rattle.basics.specs.Words.{contents}
 use Rattle.explain_text.specs.Accepted.{cancelled_text}
 use Rattle.explain_text.proofs.AcceptedFacts.{by_known, each_more}
 use Rattle.explain_text.proofs.accepted.put_cancelled.Goals as goal
@@ -9,4 +8,4 @@ put_one_cancelled-requires c = by_known c.args.graph.now c.args.reaches.now c.re
 
 pub loop-i-preserved : goal.loop-i-preserved
 loop-i-preserved c =
-    each_more (cancelled_text c.args.graph.now (contents c.args.lines.now) c.args.ends.now) c.args.text.now c.loop-i.text c.put_one_cancelled.new.text c.args.reaches.now c.loop-i.i (omega (arith, c.loop-i-test.true, c.requires.few, c.lines-i-end.ensures.number)) c.loop-i.invariant c.in_ok-put_one_cancelled.ensures
+    each_more (cancelled_text c.args.graph.now c.args.lines.now c.args.ends.now) c.args.text.now c.loop-i.text c.put_one_cancelled.new.text c.args.reaches.now c.loop-i.i (omega (arith, c.loop-i-test.true, c.requires.few, c.lines-i-end.ensures.number)) c.loop-i.invariant c.in_ok-put_one_cancelled.ensures

@@ -1,5 +1,4 @@
 use Rattle.std.proofs.Common.{arith}
-use Rattle.basics.specs.Words.{contents}
 use Rattle.explain_text.specs.Accepted.{waiting_text}
 use Rattle.explain_text.proofs.AcceptedFacts.{by_known, each_more}
 use Rattle.explain_text.proofs.accepted.put_waiting.Goals as goal
@@ -9,4 +8,4 @@ put_one_waiting-requires c = by_known c.args.graph.now c.args.reaches.now c.requ
 
 pub loop-i-preserved : goal.loop-i-preserved
 loop-i-preserved c =
-    each_more (waiting_text c.args.graph.now (contents c.args.lines.now)) c.args.text.now c.loop-i.text c.put_one_waiting.new.text c.args.reaches.now c.loop-i.i (omega (arith, c.loop-i-test.true, c.requires.few, c.lines-i-end.ensures.number)) c.loop-i.invariant c.in_ok-put_one_waiting.ensures
+    each_more (waiting_text c.args.graph.now c.args.lines.now) c.args.text.now c.loop-i.text c.put_one_waiting.new.text c.args.reaches.now c.loop-i.i (omega (arith, c.loop-i-test.true, c.requires.few, c.lines-i-end.ensures.number)) c.loop-i.invariant c.in_ok-put_one_waiting.ensures

@@ -1,5 +1,4 @@
 use Rattle.std.proofs.Common.{ap, subst}
-use Rattle.basics.specs.Words.{contents}
 use Rattle.explain_graph.specs.Ways.{AreLongest}
 use Rattle.explain_text.specs.Accepted.{each_text, waiting_text, ways_text}
 use Rattle.explain_text.proofs.Public.{put_as, then_put}
@@ -17,7 +16,7 @@ put_ways-requires c =
 pub returns : goal.returns
 returns c =
     let g = c.args.graph.now in
-    let ls = contents c.args.lines.now in
+    let ls = c.args.lines.now in
     let v = c.in_ok-reaches.reaches.items in
     let e = c.in_ok-reaches.ensures in
     record {

@@ -1,4 +1,4 @@
-use Rattle.std.proofs.Common.{◌≡◌, ℕ, ◌+◌, ◌^◌, ◌<◌, ◌≤◌, Bool, List, ◌++◌, length, length-append, ap, inl, inr, arith}
+use Rattle.std.proofs.Common.{◌≡◌, ℕ, ◌+◌, ◌^◌, ◌<◌, ◌≤◌, Bool, List, ◌++◌, length, length-append, ap, sym, ◌∙◌, subst, inl, inr, arith}
 use Rattle.std.specs.Prelude.{codes}
 use Rattle.std.proofs.lemmas.Result.{IfOk-weaker, IfErr-weaker}
 use Rattle.graph_terms.specs.declared.format.Format.TheVariants.{One}
@@ -10,6 +10,7 @@ use Rattle.flow_top.specs.FlowText.{FlowText, IsReadFault}
 use Rattle.flow_top.specs.Answer.{IsAnswerFault, IsFaultOfFlow}
 use Rattle.flow_top.specs.declared.FlowFault.{FlowFault}
 use Rattle.flow_top.specs.declared.FlowFault.TheVariants as fault
+use Rattle.flow_top.proofs.FlowLines.{bare_is}
 use Rattle.flow_top.proofs.answer.answer_flow.Goals as goal
 
 of_text : (bytes : List ℕ) (commute : Bool) (e : FlowFault) → IsReadFault bytes e → IsAnswerFault bytes commute e
@@ -25,8 +26,8 @@ of_flow bytes f commute fault.NoMemory t h = tt
 few_items : (bytes : List ℕ) (f : GraphValue) → FlowText bytes f → length f.decls + length f.lines + 2 < 2 ^ 32
 few_items bytes f t =
     let ends : length (text f) ≡ length (head f) + 4 = length-append (head f) (codes "end\n") in
-    let whole : length (header One ++ t.rest) ≡ length (text f) = ap length t.is_text.is_text in
-    let short : length (header One ++ t.rest) ≤ 1048576 = t.is_text.short in
+    let whole : length (header One ++ t.rest) ≡ length (text f) = ap length (sym (bare_is t.rest) ∙ t.is_text.is_text) in
+    let short : length (header One ++ t.rest) ≤ 1048576 = subst (λ xs. length xs ≤ 1048576) (bare_is t.rest) t.is_text.short in
     let long : 1 + length f.decls + length f.lines ≤ length (head f) = long_head f in
     omega arith
 

@@ -1,6 +1,7 @@
 use Rattle.std.proofs.Common.{List, ℕ, ◌+◌, ◌∙◌, subst, ap, refl, inr}
 use Rattle.graph_words.specs.Text.{GraphText}
 use Rattle.flow_top.proofs.FlowLines.{flow_text}
+use Rattle.flow_top.proofs.WordForms.{read_fault}
 use Rattle.flow_top.proofs.reading.read_flow.Goals as goal
 
 pub returns-in-None-clause-text : goal.returns-in-None-clause-text
@@ -19,3 +20,6 @@ returns-in-Ok-clause-refusal c = inr (record {
     reason_is = refl;
   });
 })
+
+pub returns-in-Err-Line-clause-refusal : goal.returns-in-Err-Line-clause-refusal
+returns-in-Err-Line-clause-refusal c = read_fault c.args.bytes.now c.in-Some.rest.now _ c.fault_of_text.result c.in-Some.ensures (c.as_slice-in-Err-Line.ensures.value ∙ c.in_ok-text.ensures) c.fault_of_text.ensures

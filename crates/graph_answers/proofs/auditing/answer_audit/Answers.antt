@@ -10,8 +10,8 @@ pub returns-in-Ok-clause-answered : goal.returns-in-Ok-clause-answered
 returns-in-Ok-clause-answered g c =
     let bytes = c.args.bytes.now in
     let back = c.parts.result.1.now in
-    answered_by (PartsAnswer c.in-Ok.graph back) (AuditAnswers bytes) _ _ c.audit_graph.result
-    (parts_audit bytes c.parts.result.0.now back c.parts.ensures.graph c.parts.ensures.trace c.requires.short c.in-Ok.graph c.in-Ok.ensures.text) c.audit_graph.ensures.settled
+    answered_by (PartsAnswer c.in-Ok.graph c.newlines.result back) (AuditAnswers bytes) _ _ c.audit_graph.result
+    (parts_audit bytes c.parts.result.0.now back c.newlines.result c.parts.ensures.graph c.newlines.ensures c.parts.ensures.trace c.requires.short c.in-Ok.graph c.in-Ok.ensures.text) c.audit_graph.ensures.settled
 
 pub returns-in-Err-clause-answered : goal.returns-in-Err-clause-answered
 returns-in-Err-clause-answered g c =

@@ -23,7 +23,7 @@ loop-i-preserved c =
           (omega (arith, c.loop-i.invariant.number_room, c.requires.few, c.loop-i-test.true)) c.loop-i.invariant.numbers (c.see-seen.ensures.number ∙ ap (named_number c.args.graph.now (as_place place)) c.word.ensures);
       values = set_next (λ j. placed_value (as_place (slice_index_or c.args.places.now j places.User)) (slice_index_or (contents c.args.words.now) j [])) c.loop-i.parts.values i c.see-seen.result.value
           (omega (arith, c.loop-i.invariant.value_room, c.requires.few, c.loop-i-test.true)) c.loop-i.invariant.values (c.see-seen.ensures.value ∙ ap (placed_value (as_place place)) c.word.ensures);
-      misnamed = any_next (λ (p : Placed). misnamed p.0 p.1) c.loop-i.faults.misnamed c.with-faults.result.misnamed c.see-seen.result.faults.misnamed ps i _ c.loop-i.invariant.misnamed next (c.see-seen.ensures.misnamed ∙ ap (λ w. misnamed (as_place place) w) c.word.ensures) c.with-faults.ensures.misnamed;
+      misnamed = any_next (λ (p : Placed). misnamed (c.args.graph.now).format p.0 p.1) c.loop-i.faults.misnamed c.with-faults.result.misnamed c.see-seen.result.faults.misnamed ps i _ c.loop-i.invariant.misnamed next (c.see-seen.ensures.misnamed ∙ ap (λ w. misnamed (c.args.graph.now).format (as_place place) w) c.word.ensures) c.with-faults.ensures.misnamed;
       twice = any_next (λ (p : Placed). twice c.args.graph.now p.0 p.1) c.loop-i.faults.twice c.with-faults.result.twice c.see-seen.result.faults.twice ps i _ c.loop-i.invariant.twice next (c.see-seen.ensures.twice ∙ ap (λ w. twice c.args.graph.now (as_place place) w) c.word.ensures) c.with-faults.ensures.twice;
       unknown = any_next (λ (p : Placed). unknown c.args.graph.now p.0 p.1) c.loop-i.faults.unknown c.with-faults.result.unknown c.see-seen.result.faults.unknown ps i _ c.loop-i.invariant.unknown next (c.see-seen.ensures.unknown ∙ ap (λ w. unknown c.args.graph.now (as_place place) w) c.word.ensures) c.with-faults.ensures.unknown;
       unlike = any_next (λ (p : Placed). unlike c.args.graph.now p.0 p.1) c.loop-i.faults.unlike c.with-faults.result.unlike c.see-seen.result.faults.unlike ps i _ c.loop-i.invariant.unlike next (c.see-seen.ensures.unlike ∙ ap (λ w. unlike c.args.graph.now (as_place place) w) c.word.ensures) c.with-faults.ensures.unlike;
@@ -37,7 +37,7 @@ returns c =
       parts = parts_are c.args.graph.now c.loop-i.parts c.args.places.now (contents c.args.words.now) (omega (arith, c.requires.there, length-map c.args.words.now (λ (w : Bor (List ℕ)). w.now)))
           (λ j h. c.loop-i.invariant.numbers j (omega (arith, c.loop-i-test.false))) (λ j h. c.loop-i.invariant.values j (omega (arith, c.loop-i-test.false)));
       faults = record {
-        misnamed = any_end (λ (p : Placed). misnamed p.0 p.1) c.loop-i.faults.misnamed _ c.loop-i.i c.loop-i.invariant.misnamed over;
+        misnamed = any_end (λ (p : Placed). misnamed (c.args.graph.now).format p.0 p.1) c.loop-i.faults.misnamed _ c.loop-i.i c.loop-i.invariant.misnamed over;
         twice = any_end (λ (p : Placed). twice c.args.graph.now p.0 p.1) c.loop-i.faults.twice _ c.loop-i.i c.loop-i.invariant.twice over;
         unknown = any_end (λ (p : Placed). unknown c.args.graph.now p.0 p.1) c.loop-i.faults.unknown _ c.loop-i.i c.loop-i.invariant.unknown over;
         unlike = any_end (λ (p : Placed). unlike c.args.graph.now p.0 p.1) c.loop-i.faults.unlike _ c.loop-i.i c.loop-i.invariant.unlike over;

@@ -15,7 +15,7 @@ invariant-loop-i l = record {
   value_room : length l.parts.values ≡ MOST_PLACES;
   numbers : (j : ℕ) → j < l.i → slice_index l.parts.numbers j ≡ named_number l.graph (as_place (slice_index_or l.places j places.User)) (slice_index_or (contents l.words) j []);
   values : (j : ℕ) → j < l.i → slice_index l.parts.values j ≡ placed_value (as_place (slice_index_or l.places j places.User)) (slice_index_or (contents l.words) j []);
-  misnamed : AnySoFar (λ (p : Placed). misnamed p.0 p.1) l.faults.misnamed (words_in l.places (contents l.words)) l.i;
+  misnamed : AnySoFar (λ (p : Placed). misnamed l.graph.format p.0 p.1) l.faults.misnamed (words_in l.places (contents l.words)) l.i;
   twice : AnySoFar (λ (p : Placed). twice l.graph p.0 p.1) l.faults.twice (words_in l.places (contents l.words)) l.i;
   unknown : AnySoFar (λ (p : Placed). unknown l.graph p.0 p.1) l.faults.unknown (words_in l.places (contents l.words)) l.i;
   unlike : AnySoFar (λ (p : Placed). unlike l.graph p.0 p.1) l.faults.unlike (words_in l.places (contents l.words)) l.i;

@@ -13,7 +13,7 @@ pub returns : goal.returns
 returns c =
     let plain = name_plain c.args.place c.args.word.now c.requires in
     record {
-      misnamed = c.look_up-misnamed.ensures.misnamed ∙ misnamed_is c.args.place c.args.word.now c.requires;
+      misnamed = c.look_up-misnamed.ensures.misnamed ∙ misnamed_is (c.args.graph.now).format c.args.place c.args.word.now c.requires;
       twice = c.is_twice.ensures ∙ twice_is c.args.graph.now c.args.word.now c.look_up-misnamed.result.found c.look_up-misnamed.ensures.found c.args.place c.requires;
       unknown = turned _ _ c.is_none.ensures ∙ unknown_is c.args.graph.now c.args.word.now c.look_up-misnamed.result.found c.look_up-misnamed.ensures.found c.args.place c.requires;
       unlike = ap not c.is_alike.ensures ∙ unlike_is c.args.graph.now c.args.word.now c.look_up-misnamed.result.found c.look_up-misnamed.ensures.found c.args.place c.requires;

@@ -18,5 +18,5 @@ returns c =
     let new = c.put_told_at.new.out.items in
     let n_is = c.in_ok-n.ensures.0 in
     let told : is_told c.args.format f (followed f ws) ≡ true = subst (λ m. is_told c.args.format f m ≡ true) n_is (sym c.is_told.ensures ∙ c.if-not-is_told.false) in
-    subst (λ b. OnOk r (new ≡ old ++ cond b (told_at f ws (followed f ws)) [])) (sym told)
-    (subst (λ m. OnOk r (new ≡ old ++ told_at f ws m)) n_is c.put_told_at.ensures)
+    subst (λ b. OnOk r (new ≡ old ++ cond b (told_at c.args.format f ws (followed f ws)) [])) (sym told)
+    (subst (λ m. OnOk r (new ≡ old ++ told_at c.args.format f ws m)) n_is c.put_told_at.ensures)

@@ -13,4 +13,4 @@ pub returns-in-Err-clause-refused : goal.returns-in-Err-clause-refused
 returns-in-Err-clause-refused c = λ e f. (c.in-Err.refusal, c.in-Err.ensures.refused, c.status.ensures.number, c.of.ensures)
 
 pub returns-in-Err-clause-complete : goal.returns-in-Err-clause-complete
-returns-in-Err-clause-complete c = λ g t a. inr (c.status.ensures.number ∙ ap status_of (c.in-Err.ensures.complete g t a))
+returns-in-Err-clause-complete c = λ g short t a. inr (c.status.ensures.number ∙ ap status_of (c.in-Err.ensures.complete g t a))

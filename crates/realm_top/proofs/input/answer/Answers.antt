@@ -32,7 +32,7 @@ pub returns-then-upgrades-clause-answered : goal.returns-then-upgrades-clause-an
 returns-then-upgrades-clause-answered g c =
     let request = c.args.request in
     let bytes = c.args.bytes.now in
-    answered_by (UpgradeAnswers bytes) (Answers request bytes) _ _ c.answer_upgrade.result (answers_upgrade (purpose request.action) request bytes (sym c.if-upgrades.ensures)) c.answer_upgrade.ensures.answered
+    answered_by (UpgradeAnswers request.to_three bytes) (Answers request bytes) _ _ c.answer_upgrade.result (answers_upgrade (purpose request.action) request bytes (sym c.if-upgrades.ensures)) c.answer_upgrade.ensures.answered
 
 pub returns-then-runs_session-clause-answered : goal.returns-then-runs_session-clause-answered
 returns-then-runs_session-clause-answered g c =

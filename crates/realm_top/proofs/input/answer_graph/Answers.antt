@@ -10,7 +10,7 @@ pub returns-in-Ok-clause-answered : goal.returns-in-Ok-clause-answered
 returns-in-Ok-clause-answered g c =
     let request = c.args.request in
     let bytes = c.args.bytes.now in
-    answered_by (Judged request c.in-Ok.graph) (InputAnswers request bytes) _ _ c.judge.result (judged_input request bytes c.in-Ok.graph c.in-Ok.ensures.text) c.judge.ensures.settled
+    answered_by (Judged request c.in-Ok.graph) (InputAnswers request bytes) _ _ c.judge.result (judged_input request bytes c.requires.short c.in-Ok.graph c.in-Ok.ensures.text) c.judge.ensures.settled
 
 pub returns-in-Err-clause-answered : goal.returns-in-Err-clause-answered
 returns-in-Err-clause-answered g c =

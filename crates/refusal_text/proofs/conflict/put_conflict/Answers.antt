@@ -1,6 +1,5 @@
 use Rattle.std.proofs.Common.{ap}
 use Rattle.std.specs.Prelude.{codes}
-use Rattle.basics.specs.Words.{contents}
 use Rattle.explain_text.specs.Lines.{numbered}
 use Rattle.refusal_text.specs.Refused.{refused_two, shared_text, meeting_text, advice_text}
 use Rattle.explain_text.proofs.Public.{put_as, then_puts}
@@ -9,12 +8,12 @@ use Rattle.refusal_text.proofs.conflict.put_conflict.Goals as goal
 pub returns : goal.returns
 returns c =
     let g = c.args.graph.now in
-    let ls = contents c.args.lines.now in
+    let ls = c.args.lines.now in
     let r = c.put_sections.result in
     (then_puts r _ _ _ (refused_two g (codes "race") c.args.reason.now.first c.args.reason.now.second) _ c.in_ok-put_refused_two.ensures
     (then_puts r _ _ _ (numbered g ls c.args.reason.now.first) _ c.in_ok-put_numbered.ensures
     (then_puts r _ _ _ (numbered g ls c.args.reason.now.second) _ c.in_ok-put_numbered-2.ensures
-    (then_puts r _ _ _ (shared_text g c.args.reason.now.race.shared c.args.reason.now.first c.args.reason.now.second) _ c.in_ok-put_shared.ensures
+    (then_puts r _ _ _ (shared_text g ls c.args.reason.now.race.shared c.args.reason.now.first c.args.reason.now.second) _ c.in_ok-put_shared.ensures
     (then_puts r _ _ _ (codes "neither waits for the other\n") _ c.in_ok-put.ensures
     (then_puts r _ _ _ (meeting_text g ls c.args.reason.now.race.meeting) _ c.in_ok-put_meeting.ensures
     (then_puts r _ _ _ _ _ (put_as _ _ _ _ (ap (advice_text g ls c.args.reason.now.first c.args.reason.now.second) c.as_slice.ensures.value) c.in_ok-put_advice.ensures)

@@ -10,9 +10,10 @@ use Rattle.refusal_text.proofs.conflict.put_order.Goals as goal
 pub returns : goal.returns
 returns c =
     let g = c.args.graph.now in
+    let ls = c.args.lines.now in
     let r = c.put_advice_by.result in
     (then_puts r _ _ _ (codes "to order them, put ") _ c.in_ok-put.ensures
-    (then_puts r _ _ _ (by_number g c.args.second) _ c.in_ok-put_by_number.ensures
+    (then_puts r _ _ _ (by_number g ls c.args.second) _ c.in_ok-put_by_number.ensures
     (then_puts r _ _ _ (codes " ") _ c.in_ok-put-2.ensures
     (puts_as r c.put-2.new.self c.put_advice_by.new.text (advice_by g c.line.result.now.on c.args.first) (advice_by g (on_of g c.args.second) c.args.first)
     (ap (λ o. advice_by g o c.args.first) (sym (ap (λ o. option_map_or (λ (l : Line). l.on) o None) c.line.ensures.line))) c.put_advice_by.ensures))))

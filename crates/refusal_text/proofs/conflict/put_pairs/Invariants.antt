@@ -4,4 +4,4 @@ use Rattle.refusal_text.specs.Refused.{pairs_with}
 use Rattle.refusal_text.proofs.conflict.put_pairs.Given as goal
 
 abbrev pub invariant-loop-acquire : goal.invariant-loop-acquire
-invariant-loop-acquire l = l.text ≡ l.initial.text ++ flat_map (pairs_with l.graph l.others) (take l.acquire-index l.acquires)
+invariant-loop-acquire l = l.text ≡ l.initial.text ++ flat_map (pairs_with l.graph l.lines l.others) (take l.acquire-index l.acquires)

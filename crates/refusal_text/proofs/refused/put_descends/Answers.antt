@@ -1,6 +1,5 @@
 use Rattle.std.proofs.Common.{ap}
 use Rattle.std.specs.Prelude.{codes}
-use Rattle.basics.specs.Words.{contents}
 use Rattle.graph_terms.specs.Spelling.{lock_name}
 use Rattle.explain_text.specs.Lines.{numbered, edges_text}
 use Rattle.refusal_text.specs.Refused.{refused_two}
@@ -10,7 +9,7 @@ use Rattle.refusal_text.proofs.refused.put_descends.Goals as goal
 pub returns : goal.returns
 returns c =
     let g = c.args.graph.now in
-    let ls = contents c.args.lines.now in
+    let ls = c.args.lines.now in
     let r = c.put-4.result in
     (then_puts r _ _ _ (refused_two g (codes "descends") c.args.reason.now.outer c.args.reason.now.inner) _ c.in_ok-put_refused_two.ensures
     (then_puts r _ _ _ (numbered g ls c.args.reason.now.outer) _ c.in_ok-put_numbered.ensures

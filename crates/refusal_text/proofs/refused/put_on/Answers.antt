@@ -1,5 +1,4 @@
 use Rattle.std.specs.Prelude.{codes}
-use Rattle.basics.specs.Words.{contents}
 use Rattle.explain_text.specs.Lines.{numbered}
 use Rattle.explain_text.proofs.Public.{then_puts}
 use Rattle.refusal_text.proofs.refused.put_on.Goals as goal
@@ -7,4 +6,4 @@ use Rattle.refusal_text.proofs.refused.put_on.Goals as goal
 pub returns : goal.returns
 returns c =
     rw c.in-Some.is
-    (then_puts c.put_numbered.result _ _ _ (codes "it has to be on a mergei, and is on\n") (numbered c.args.graph.now (contents c.args.lines.now) c.in-Some.on) c.in_ok-put.ensures c.put_numbered.ensures)
+    (then_puts c.put_numbered.result _ _ _ (codes "it has to be on a mergei, and is on\n") (numbered c.args.graph.now (c.args.lines.now) c.in-Some.on) c.in_ok-put.ensures c.put_numbered.ensures)

@@ -1,6 +1,5 @@
 use Rattle.std.proofs.Common.{ap}
 use Rattle.std.specs.Prelude.{codes}
-use Rattle.basics.specs.Words.{contents}
 use Rattle.explain_text.specs.Lines.{numbered, edges_text}
 use Rattle.refusal_text.specs.Refused.{refused_two}
 use Rattle.explain_text.proofs.Public.{put_as, then_puts}
@@ -9,7 +8,7 @@ use Rattle.refusal_text.proofs.refused.put_section.Goals as goal
 pub returns : goal.returns
 returns c =
     let g = c.args.graph.now in
-    let ls = contents c.args.lines.now in
+    let ls = c.args.lines.now in
     let r = c.put_entered.result in
     (then_puts r _ _ _ (refused_two g (codes "section") c.args.reason.now.release c.args.reason.now.line) _ c.in_ok-put_refused_two.ensures
     (then_puts r _ _ _ (numbered g ls c.args.reason.now.release) _ c.in_ok-put_numbered.ensures

@@ -1,7 +1,12 @@
 use Rattle.std.proofs.Common.{◌≡◌, ◌+◌, ◌++◌, [], ◌∷◌, length, sym, ◌∙◌, ap, append_assoc, arith, rules}
 use Rattle.std.specs.Vec.Iter.{into_iter_items, into_iter_len}
-use Rattle.task_flow.proofs.PutSteps.{put_goes, put_stops}
+use Rattle.task_flow.proofs.PutSteps.{put_named, put_goes, put_stops}
 use Rattle.task_flow.proofs.making.put_lines.Goals as goal
+
+pub offer_line-requires-clause-named : goal.offer_line-requires-clause-named
+offer_line-requires-clause-named c = λ none.
+    let inv = c.loop-line.invariant in
+    put_named c.args.graph.now c.loop-line.graph c.loop-line.yielded (into_iter_items c.loop-line.line-iterator) (into_iter_items c.next.new.self) c.in-Some.line inv.graph inv.fits c.in-Some.ensures.steps.0
 
 pub returns-then-is_some-clause-limit : goal.returns-then-is_some-clause-limit
 returns-then-is_some-clause-limit c = λ h.

@@ -7,7 +7,8 @@ use Rattle.graph_terms.specs.Names.{found_decl}
 use Rattle.graph_indexes.specs.Tables.{tables_of, tables_with, IsWithinLimits}
 use Rattle.graph_indexes.specs.Rows.{AreRowsOf}
 use Rattle.graph_indexes.specs.Counts.{counts_of}
-use Rattle.graph_terms.specs.Fits.{IsGraph, decl_fault, is_used, with_decl}
+use Rattle.graph_terms.specs.Fits.{IsGraph, is_decl_named, decl_fault, is_used, with_decl}
+use Rattle.std.specs.Prelude.{IsTrue}
 use Rattle.graph_terms.proofs.Public.{push_decl}
 use Rattle.graph_model.proofs.Naming.{names_back, names_decl, unused_decl_name}
 use Rattle.graph_model.proofs.TableLaws.{limits_decl, tables_push}
@@ -19,6 +20,7 @@ invariant_of-self-2 c =
     let g : GraphValue = record { format = c.self.inside.format; decls = c.self.inside.decls.items; lines = c.self.inside.lines.items } in
     let d : Decl = c.args.decl in
     let fits : decl_fault g d ≡ None = subst (λ h. decl_fault h d ≡ None) (sym c.self.view_is) c.requires.fits in
+    let own_names : IsTrue (is_decl_named g.format d) = subst (λ (h : GraphValue). IsTrue (is_decl_named h.format d)) (sym c.self.view_is) c.requires.named in
     let first : g.lines ≡ [] = subst (λ (h : GraphValue). h.lines ≡ []) (sym c.self.view_is) c.requires.first in
     let pushed : c.push_within.new.items.items ≡ g.decls ++ d ∷ [] = c.push_within.ensures.items ∙ ap (λ (ds : List Decl). ds ++ d ∷ []) c.reserve.ensures.items in
     let place : c.len-place.result ≡ length g.decls = omega arith in
@@ -29,7 +31,7 @@ invariant_of-self-2 c =
     let named_so : (q : List ℕ) → named c.insert.new.self q ≡ cond (bytes_eq (decl_name d) q) (Some (found_decl g d)) (named c.self.inside.names q) =
     λ q. c.in_ok-insert.ensures.ok q ∙ (ap (λ n. cond (bytes_eq n q) (Some c.found_decl-found.result) (named c.self.inside.names q)) name ∙ ap (λ f. cond (bytes_eq (decl_name d) q) (Some f) (named c.self.inside.names q)) what) in
     record {
-      fits = subst (λ (ds : List Decl). IsGraph (record { format = g.format; decls = ds; lines = g.lines })) (sym pushed) (push_decl g d c.self.invariant.fits c.requires.is_decl first fits);
+      fits = subst (λ (ds : List Decl). IsGraph (record { format = g.format; decls = ds; lines = g.lines })) (sym pushed) (push_decl g d c.self.invariant.fits c.requires.is_decl own_names first fits);
       accesses = c.self.invariant.accesses;
       tables = added ∙ (sym (tables_push g.decls d) ∙ ap tables_of (sym pushed));
       limits = subst (λ (ds : List Decl). IsWithinLimits (record { format = g.format; decls = ds; lines = g.lines })) (sym pushed) (limits_decl g d fits);

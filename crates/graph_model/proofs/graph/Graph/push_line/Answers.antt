@@ -1,5 +1,5 @@
 use Rattle.std.proofs.Common.{◌≡◌, ◌+◌, cond, ℕ, [], ◌∷◌, ◌++◌, List, None, Some, sym, subst, ap, ◌∙◌, length, arith}
-use Rattle.std.specs.Prelude.{Option, map}
+use Rattle.std.specs.Prelude.{Option, map, IsTrue}
 use Rattle.std.proofs.lemmas.List.{map-append}
 use Rattle.std.specs.Str.{bytes_eq}
 use Rattle.graph_indexes.specs.declared.side.Side.{Side}
@@ -8,6 +8,7 @@ use Rattle.graph_terms.specs.declared.found.Found.TheVariants as found
 use Rattle.graph_terms.specs.declared.verb.Access.{Access}
 use Rattle.graph_terms.specs.declared.verb.Line.{Line}
 use Rattle.graph_terms.specs.Access.{kept_accesses}
+use Rattle.graph_terms.specs.Name.{is_name_in}
 use Rattle.graph_terms.specs.Graph.{GraphValue}
 use Rattle.graph_terms.specs.Edges.{line_edges}
 use Rattle.graph_indexes.specs.Names.{AreNamesOf, named}
@@ -29,6 +30,9 @@ before c = record { format = c.self.inside.format; decls = c.self.inside.decls.i
 
 fits : (c : After-deref-2) → line_fault (before c) c.args.line ≡ None
 fits c = subst (λ h. line_fault h c.args.line ≡ None) (sym c.self.view_is) c.requires.fits
+
+own_name : (c : After-deref-2) → IsTrue (is_name_in (before c).format c.args.line.name)
+own_name c = subst (λ (h : GraphValue). IsTrue (is_name_in h.format c.args.line.name)) (sym c.self.view_is) c.requires.named
 
 given : (c : After-deref-2) → c.deref-2.result.now ≡ line_edges (before c).lines c.args.line
 given c = c.deref-2.ensures.value ∙ (c.in_ok-list_edges.ensures ∙ ap (λ (ls : List Line). line_edges ls c.args.line) c.deref.ensures.value)
@@ -68,7 +72,7 @@ invariant_of-self-2 c =
           ∙ (ap (λ xs. xs ++ c.args.accesses ∷ []) c.reserve-2.ensures.items
           ∙ (ap (λ x. c.self.inside.accesses.items ++ x ∷ []) c.requires.accesses
           ∙ (ap (λ xs. xs ++ kept l ∷ []) c.self.invariant.accesses ∙ (sym (map-append kept g.lines (l ∷ [])) ∙ ap (map kept) (sym pushed)))));
-      fits = subst (λ (ls : List Line). IsGraph (record { format = g.format; decls = g.decls; lines = ls })) (sym pushed) (push_line g l c.self.invariant.fits c.requires.is_line (fits at));
+      fits = subst (λ (ls : List Line). IsGraph (record { format = g.format; decls = g.decls; lines = ls })) (sym pushed) (push_line g l c.self.invariant.fits c.requires.is_line (own_name at) (fits at));
       tables = c.self.invariant.tables;
       limits = subst (λ (ls : List Line). IsWithinLimits (record { format = g.format; decls = g.decls; lines = ls })) (sym pushed) (limits_line g l (fits at));
       names = subst (λ (ls : List Line). AreNamesOf (record { format = g.format; decls = g.decls; lines = ls }) c.insert.new.self) (sym pushed) (names_line g l c.self.inside.names c.insert.new.self c.self.invariant.names (unused_line_name g l (fits at)) named_so);

@@ -1,17 +1,11 @@
-use Rattle.std.proofs.Common.{◌∙◌}
-use Rattle.graph_terms.specs.Graph.{GraphValue}
-use Rattle.graph_model.proofs.Upgrade.{upgraded_fits, upgraded_limits, upgraded_names, upgraded_rows, upgraded_counts}
+use Rattle.std.proofs.Common.{◌≡◌, true, sym, ap, subst, ◌∙◌}
+use Rattle.graph_terms.specs.declared.format.Format.{Format}
+use Rattle.graph_terms.specs.Format.{has_since}
+use Rattle.graph_terms.specs.Graph.{GraphValue, upgraded_format}
+use Rattle.graph_terms.proofs.Public.{upgraded_later}
 use Rattle.graph_model.proofs.graph.Graph.upgrade.Goals as goal
 
-pub invariant_of-self : goal.invariant_of-self
-invariant_of-self c =
-    let g : GraphValue = record { format = c.self.inside.format; decls = c.self.inside.decls.items; lines = c.self.inside.lines.items } in
-    record {
-      fits = upgraded_fits g c.self.invariant.fits;
-      accesses = c.self.invariant.accesses;
-      tables = c.self.invariant.tables;
-      limits = upgraded_limits g c.self.invariant.limits;
-      names = upgraded_names g c.self.inside.names c.self.invariant.names;
-      rows = upgraded_rows g c.self.inside.rows c.self.invariant.rows;
-      counts = c.self.invariant.counts ∙ upgraded_counts g;
-    }
+pub written_in-requires : goal.written_in-requires
+written_in-requires c =
+    let format : c.upgraded_format-format.result ≡ upgraded_format c.args.self.format = c.upgraded_format-format.ensures ∙ ap (λ (g : GraphValue). upgraded_format g.format) c.self.view_is in
+    subst (λ (f : Format). has_since c.args.self.format f ≡ true) (sym format) (upgraded_later c.args.self.format)

@@ -5,5 +5,5 @@ use Rattle.graph_model.proofs.graph.words.fields_size.Given as goal
 abbrev pub invariant-loop-name : goal.invariant-loop-name
 invariant-loop-name l = record {
   sum : l.size ≡ sum_by (λ w. length w + 1) (take l.name-index l.names);
-  few : l.size ≤ 32 * l.name-index;
+  few : l.size ≤ 64 * l.name-index;
 }

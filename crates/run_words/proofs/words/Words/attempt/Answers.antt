@@ -40,7 +40,7 @@ returns-then-word-ne2-clause-answer c =
       ([], ap (λ (m : Sat). m.0.mine) n ∙ sym (append-nil v.mine), ap (λ (m : Sat). m.0.splits) n ∙ sym (append-nil v.splits)),
       (ap (λ (m : Sat). m.0.gave_up) n, ap (λ (m : Sat). m.0.closed) n),
       record {
-        desk = (ap (λ (m : Sat). m.0.trays) n, ap (λ (m : Sat). m.0.laid) n);
+        issue_turn = (ap (λ (m : Sat). m.0.issue_states) n, ap (λ (m : Sat). m.0.laid) n);
         handles = λ hs. (λ k. record { known = subst (λ l. Contains l hs) (sym (ap (λ (m : Sat). m.0.named) n)) k.known }, λ k. record { known = subst (λ l. Contains l hs) (ap (λ (m : Sat). m.0.named) n) k.known });
         events = refl;
       },
@@ -61,7 +61,7 @@ returns-then-never_comes-clause-answer c =
       ([], ap (λ (m : Sat). m.0.mine) n ∙ sym (append-nil v.mine), ap (λ (m : Sat). m.0.splits) n ∙ sym (append-nil v.splits)),
       (ap (λ (m : Sat). m.0.gave_up) n, ap (λ (m : Sat). m.0.closed) n),
       record {
-        desk = (ap (λ (m : Sat). m.0.trays) n, ap (λ (m : Sat). m.0.laid) n);
+        issue_turn = (ap (λ (m : Sat). m.0.issue_states) n, ap (λ (m : Sat). m.0.laid) n);
         handles = λ hs. (λ k. record { known = subst (λ l. Contains l hs) (sym (ap (λ (m : Sat). m.0.named) n)) k.known }, λ k. record { known = subst (λ l. Contains l hs) (ap (λ (m : Sat). m.0.named) n) k.known });
         events = refl;
       },
@@ -75,7 +75,7 @@ returns-clause-answer c =
       saw = ap (λ (m : Sat). m.0.saw) n;
       numbers = ap (λ (m : Sat). m.0.mine) n;
       splits = ap (λ (m : Sat). m.0.splits) n;
-      trays = ap (λ (m : Sat). m.0.trays) n;
+      issue_states = ap (λ (m : Sat). m.0.issue_states) n;
       laid = ap (λ (m : Sat). m.0.laid) n;
       named = ap (λ (m : Sat). m.0.named) n;
       gave_up = ap (λ (m : Sat). m.0.gave_up) n;

@@ -5,14 +5,14 @@ use Rattle.std.specs.Vec.{vec_capacity}
 use Rattle.std.specs.Slots.{slots_items, slots_filled, slots_counts, IsFull}
 use Rattle.graph_terms.specs.Graph.{GraphValue, verb_at}
 use Rattle.run_words.specs.declared.base.Base.{Base}
-use Rattle.run_words.specs.declared.content.Content.TheVariants.{Tray}
-use Rattle.run_words.specs.declared.content.Desk.{Desk}
+use Rattle.run_words.specs.declared.content.Content.TheVariants.{Issuer}
+use Rattle.run_words.specs.declared.content.IssueState.{IssueState}
 use Rattle.run_words.specs.Closing.{IsLeft}
 use Rattle.run_words.specs.Emptying.{IsLineItem}
-use Rattle.run_words.specs.Layout.{size_of, column_slot, desk_slot, status_word, value_word}
-use Rattle.run_words.specs.Rule.{handle_at, column_with, IsTray}
+use Rattle.run_words.specs.Layout.{size_of, column_slot, issue_turn_slot, status_word, value_word}
+use Rattle.run_words.specs.Rule.{handle_at, column_with, IsIssueState}
 use Rattle.run_state.specs.Run.{stage_at}
-use Rattle.run_words.proofs.EmptyFacts.{one_content, desk_taken, none_filled, tray_is}
+use Rattle.run_words.proofs.EmptyFacts.{one_content, issue_turn_taken, none_filled, issue_state_is}
 use Rattle.std.proofs.lemmas.List.{length-map}
 use Rattle.event_table.specs.EventMap.{EventMap, life_at, without_waiters}
 use Rattle.shared_events.specs.Views.{lists, shape_of}
@@ -25,15 +25,15 @@ use Rattle.run_words.specs.declared.spare.Spare.{Spare}
 use Rattle.run_words.proofs.Resuming.{line_item, shows, none_is_out, none_waits}
 use Rattle.run_words.proofs.words.Words.close.Goals as goal
 
-pub tray_of-desk-requires : goal.tray_of-desk-requires
-tray_of-desk-requires c =
+pub issue_state_of-issue_turn-requires : goal.issue_state_of-issue_turn-requires
+issue_state_of-issue_turn-requires c =
     let b = c.close_table-base in
     let items = slots_items b.result.1.slots in
     let k = b.ensures.left in
     let l = subst (λ (x : GraphValue). IsLeft x b.result.0.events c.args.seat.inner.me.0 k.0 k.1 (slots_items b.result.1.words) items) (sym c.graph-graph.ensures.graph)
     (subst (λ (x : Base). IsLeft x.checked.now.graph x.events c.args.seat.inner.me.0 k.0 k.1 (slots_items b.result.1.words) items) (sym b.ensures.base) k.2) in
-    let d = l.desk in
-    (d.0, one_content items (desk_slot (size_of c.graph-graph.result.now)) c.take.result (Tray d.0) (ap (get_elem? items) (sym c.desk_slot.ensures) ∙ c.take.ensures.value) d.1)
+    let d = l.issue_turn in
+    (d.0, one_content items (issue_turn_slot (size_of c.graph-graph.result.now)) c.take.result (Issuer d.0) (ap (get_elem? items) (sym c.issue_turn_slot.ensures) ∙ c.take.ensures.value) d.1)
 
 pub settle_lines-requires-clause-taken : goal.settle_lines-requires-clause-taken
 settle_lines-requires-clause-taken c =
@@ -42,7 +42,7 @@ settle_lines-requires-clause-taken c =
     let k = b.ensures.left in
     let l = subst (λ (x : GraphValue). IsLeft x b.result.0.events c.args.seat.inner.me.0 k.0 k.1 (slots_items b.result.1.words) items) (sym c.graph-graph.ensures.graph)
     (subst (λ (x : Base). IsLeft x.checked.now.graph x.events c.args.seat.inner.me.0 k.0 k.1 (slots_items b.result.1.words) items) (sym b.ensures.base) k.2) in
-    desk_taken (size_of c.graph-graph.result.now) (slots_filled b.result.1.slots) (slots_filled c.take.new.self.slots) (λ j near. b.ensures.full.1 j (omega arith) (omega (arith, near, l.deep, (slots_counts b.result.1.slots).0))) (c.take.ensures.others.1 ∙ ap (λ n. slice_set (slots_filled b.result.1.slots) n false) c.desk_slot.ensures)
+    issue_turn_taken (size_of c.graph-graph.result.now) (slots_filled b.result.1.slots) (slots_filled c.take.new.self.slots) (λ j near. b.ensures.full.1 j (omega arith) (omega (arith, near, l.deep, (slots_counts b.result.1.slots).0))) (c.take.ensures.others.1 ∙ ap (λ n. slice_set (slots_filled b.result.1.slots) n false) c.issue_turn_slot.ensures)
 
 pub settle_lines-requires-clause-items : goal.settle_lines-requires-clause-items
 settle_lines-requires-clause-items c = λ i x near at.
@@ -99,9 +99,9 @@ returns c =
     let l : IsLeft g e c.args.seat.inner.me.0 k.0 k.1 words items = subst (λ (x : GraphValue). IsLeft x e c.args.seat.inner.me.0 k.0 k.1 words items) (sym c.graph-graph.ensures.graph)
     (subst (λ (x : Base). IsLeft x.checked.now.graph x.events c.args.seat.inner.me.0 k.0 k.1 words items) (sym b.ensures.base) k.2) in
     let few : length g.lines ≤ 8192 = omega (arith, c.lines.ensures.number, c.lines.ensures.few) in
-    let desk = l.desk in
-    let same : desk.0 ≡ c.tray_of-desk.result = tray_is desk.0 c.tray_of-desk.result (sym (one_content items (desk_slot (size_of g)) c.take.result (Tray desk.0) (ap (get_elem? items) (sym c.desk_slot.ensures) ∙ c.take.ensures.value) desk.1) ∙ c.tray_of-desk.ensures) in
-    let tray = subst (λ (d : Desk). IsTray e (length g.lines) k.1 d) same desk.2 in
+    let issue_turn = l.issue_turn in
+    let same : issue_turn.0 ≡ c.issue_state_of-issue_turn.result = issue_state_is issue_turn.0 c.issue_state_of-issue_turn.result (sym (one_content items (issue_turn_slot (size_of g)) c.take.result (Issuer issue_turn.0) (ap (get_elem? items) (sym c.issue_turn_slot.ensures) ∙ c.take.ensures.value) issue_turn.1) ∙ c.issue_state_of-issue_turn.ensures) in
+    let issue_state = subst (λ (d : IssueState). IsIssueState e (length g.lines) k.1 d) same issue_turn.2 in
     let own = c.args.self in
     let size : size_of g ≡ size_of own.base.checked.now.graph = ap size_of (c.graph-graph.ensures.graph ∙ ap (λ (x : Base). x.checked.now.graph) b.ensures.base) in
     let graph : g ≡ own.base.checked.now.graph = c.graph-graph.ensures.graph ∙ ap (λ (x : Base). x.checked.now.graph) b.ensures.base in
@@ -116,12 +116,12 @@ returns c =
     (λ i x near at. c.settle_lines.ensures.settled i x near (ap (λ s. get_elem? s i) slots_same ∙ at))
     (λ h left. c.into_table.ensures.answers h ∙ lost.left h left)
     (λ h f knows. c.into_table.ensures.answers h ∙ lost.known h f knows)
-    (λ h has. let a = lost.made h (subst (λ hs. Contains hs h) (sym tray.made) has) in (a.0, c.into_table.ensures.answers h ∙ a.1))
-    (λ h a at. subst (λ hs. Contains hs h) tray.made (lost.only h a (sym (c.into_table.ensures.answers h) ∙ at)))
+    (λ h has. let a = lost.made h (subst (λ hs. Contains hs h) (sym issue_state.made) has) in (a.0, c.into_table.ensures.answers h ∙ a.1))
+    (λ h a at. subst (λ hs. Contains hs h) issue_state.made (lost.only h a (sym (c.into_table.ensures.answers h) ∙ at)))
     (ap (λ (t : EventMap). t.waiters) c.into_table.ensures.map ∙ (lost.shape.1 ∙ (ap (λ (s : Shape). s.waiters) shape ∙ (own.shaped.0 ∙ ap (λ (x : GraphValue). length x.lines) (sym graph)))))
     (ap (λ (t : EventMap). t.last_gen) c.into_table.ensures.map ∙ (ap (λ (s : Spare). s.table.last_gen) b.ensures.spare ∙ ap (λ (t : EventMap). t.last_gen) own.spared.table))
     (λ i j has. contains_none j (subst (λ ws. Contains ws j) (ap (λ (t : EventMap). (life_at t i).waiting) c.into_table.ensures.map ∙ none_waits c.close.result i) has))
-    c.as_slice.result.now (c.as_slice.ensures.value ∙ tray.listed) c.states_of-states.result c.states_of-states.ensures.each
+    c.as_slice.result.now (c.as_slice.ensures.value ∙ issue_state.listed) c.states_of-states.result c.states_of-states.ensures.each
     (subst (λ ws. (i : ℕ) → i < length g.lines → slice_get c.states_of-states.result i ≡ Some (state_for ws (size_of g) c.as_slice.result.now i)) words_same c.states_of-states.ensures.states)
     c.values_of-phases.result c.values_of-phases.ensures.each
     (subst (λ ws. (i : ℕ) → i < length g.lines → slice_get c.values_of-phases.result i ≡ Some (value_for (verb_at g i) (slice_index ws (value_word (size_of g) i)))) words_same c.values_of-phases.ensures.values)

@@ -7,7 +7,7 @@ use Rattle.run_words.specs.Words.{graph_of}
 use Rattle.run_words.specs.Plays.{Sat}
 use Rattle.run_words.proofs.Turns.{sat}
 use Rattle.shared_events.specs.Views.{lists}
-use Rattle.run_words.proofs.Desking.{unchanged}
+use Rattle.run_words.proofs.TakingTurn.{unchanged}
 use Rattle.run_words.proofs.Growing.{grows_same}
 use Rattle.run_words.proofs.words.Words.issue_in_turn.Goals as goal
 use Rattle.run_parts.specs.declared.answers.Issue.{Issue}
@@ -20,7 +20,7 @@ number_in answers.All = 0
 number_in answers.Other = 0
 
 pub returns-then-line-lines-clause-now : goal.returns-then-line-lines-clause-now
-returns-then-line-lines-clause-now c = ([], ap (λ (x : View). sat x c.args.seat.now.me.1) (unchanged c.args.seat.now.me.0 c.args.desk.now.handles.items c.requires.quiet c.requires.turn))
+returns-then-line-lines-clause-now c = ([], ap (λ (x : View). sat x c.args.seat.now.me.1) (unchanged c.args.seat.now.me.0 c.args.issue_turn.now.handles.items c.requires.quiet c.requires.turn))
 
 pub returns-then-issue_next-clause-issued : goal.returns-then-issue_next-clause-issued
 returns-then-issue_next-clause-issued c = λ i q.

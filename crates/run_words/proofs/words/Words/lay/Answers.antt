@@ -6,9 +6,9 @@ use Rattle.run_words.proofs.words.Words.lay.Goals as goal
 
 pub returns-clause-laid : goal.returns-clause-laid
 returns-clause-laid c =
-    let waiters = c.args.desk.now.waiters.items in
-    let near : c.number-line.result < length waiters = subst (λ n. c.number-line.result < n) (sym c.requires.tray.places) (subst (λ k. k < length (graph_of c.args.self.now).lines) (sym c.number-line.ensures) c.requires.near) in
+    let waiters = c.args.issue_turn.now.waiters.items in
+    let near : c.number-line.result < length waiters = subst (λ n. c.number-line.result < n) (sym c.requires.issue_state.places) (subst (λ k. k < length (graph_of c.args.self.now).lines) (sym c.number-line.ensures) c.requires.near) in
     (c.args.waiter, subst (λ k. slice_get (slice_set waiters c.number-line.result (Some c.args.waiter)) k ≡ Some (Some c.args.waiter)) c.number-line.ensures (set_get waiters c.number-line.result (Some c.args.waiter) near))
 
 pub returns-clause-others : goal.returns-clause-others
-returns-clause-others c = λ k ne. set_get_other c.args.desk.now.waiters.items c.number-line.result k (Some c.args.waiter) (λ q. ne (q ∙ c.number-line.ensures))
+returns-clause-others c = λ k ne. set_get_other c.args.issue_turn.now.waiters.items c.number-line.result k (Some c.args.waiter) (λ q. ne (q ∙ c.number-line.ensures))

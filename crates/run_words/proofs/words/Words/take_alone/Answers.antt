@@ -10,10 +10,10 @@ pub hold-requires-clause-may : goal.hold-requires-clause-may
 hold-requires-clause-may c = let t = c.requires.claimed in may_lock (graph_of c.args.self.now) c.args.line c.args.lock t.0 t.1 c.args.place.now.me t.2 c.requires.acquires c.requires.real
 
 pub returns-then-hold-ne0-clause-err : goal.returns-then-hold-ne0-clause-err
-returns-then-hold-ne0-clause-err c = λ v ticket is.
+returns-then-hold-ne0-clause-err c = λ v pending is.
     let m = c.hold.ensures.holds.1 c.if-hold-ne0.true in
-    refused_held_lock (graph_of c.args.self.now) c.args.line c.args.lock v ticket c.args.place.now.me is c.requires.acquires c.hold.result c.hold.new.seat.me c.requires.alone c.if-hold-ne0.true
-    (λ q. m.1 (new_claim c.args.line (handle_of ticket)) (ap (λ (y : Sat). y.0.claim) is) refl q) m.0
+    refused_held_lock (graph_of c.args.self.now) c.args.line c.args.lock v pending c.args.place.now.me is c.requires.acquires c.hold.result c.hold.new.seat.me c.requires.alone c.if-hold-ne0.true
+    (λ q. m.1 (new_claim c.args.line (handle_of pending)) (ap (λ (y : Sat). y.0.claim) is) refl q) m.0
 
 pub returns-clause-ok : goal.returns-clause-ok
-returns-clause-ok c = λ v ticket is. held_at_once c.args.line v ticket c.args.place.now.me c.hold.new.seat.me is (c.hold.ensures.holds.0 c.if-hold-ne0.false)
+returns-clause-ok c = λ v pending is. held_at_once c.args.line v pending c.args.place.now.me c.hold.new.seat.me is (c.hold.ensures.holds.0 c.if-hold-ne0.false)

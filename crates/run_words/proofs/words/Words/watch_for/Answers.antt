@@ -3,20 +3,20 @@ use Rattle.shared_events.specs.Views.{lists, number_of}
 use Rattle.event_table.specs.declared.handle.Handle.{Handle}
 use Rattle.run_words.specs.Standing.{HasWaiter}
 use Rattle.run_words.proofs.Growing.{joined_bare, grows_then}
-use Rattle.run_words.proofs.Trays.{tray_same}
+use Rattle.run_words.proofs.IssueStates.{issue_state_same}
 use Rattle.run_words.proofs.words.Words.watch_for.Goals as goal
 
 pub watch-requires-clause-seen : goal.watch-requires-clause-seen
-watch-requires-clause-seen c = c.join.ensures.kept.1.0 c.args.handle (c.split-more.ensures.kept.1.0 c.args.handle (c.requires.tray.seen c.args.handle c.requires.handle))
+watch-requires-clause-seen c = c.join.ensures.kept.1.0 c.args.handle (c.split-more.ensures.kept.1.0 c.args.handle (c.requires.issue_state.seen c.args.handle c.requires.handle))
 
-pub lay-requires-clause-tray : goal.lay-requires-clause-tray
-lay-requires-clause-tray c = tray_same _ _ c.args.desk.now.handles.items c.args.desk.now _ c.requires.tray c.requires.tray.maker refl refl c.split-more.ensures.at.0 c.split-more.ensures.kept.0 refl
+pub lay-requires-clause-issue_state : goal.lay-requires-clause-issue_state
+lay-requires-clause-issue_state c = issue_state_same _ _ c.args.issue_turn.now.handles.items c.args.issue_turn.now _ c.requires.issue_state c.requires.issue_state.maker refl refl c.split-more.ensures.at.0 c.split-more.ensures.kept.0 refl
 
-pub lay-requires-in-Moved-clause-tray : goal.lay-requires-in-Moved-clause-tray
-lay-requires-in-Moved-clause-tray c = tray_same _ _ c.args.desk.now.handles.items c.args.desk.now _ c.requires.tray c.requires.tray.maker refl refl c.split-more.ensures.at.0 c.split-more.ensures.kept.0 refl
+pub lay-requires-in-Moved-clause-issue_state : goal.lay-requires-in-Moved-clause-issue_state
+lay-requires-in-Moved-clause-issue_state c = issue_state_same _ _ c.args.issue_turn.now.handles.items c.args.issue_turn.now _ c.requires.issue_state c.requires.issue_state.maker refl refl c.split-more.ensures.at.0 c.split-more.ensures.kept.0 refl
 
-pub returns-in-Placed-clause-tray : goal.returns-in-Placed-clause-tray
-returns-in-Placed-clause-tray c = tray_same _ _ c.args.desk.now.handles.items c.args.desk.now _ c.requires.tray c.requires.tray.maker refl refl c.split-more.ensures.at.0 c.split-more.ensures.kept.0 refl
+pub returns-in-Placed-clause-issue_state : goal.returns-in-Placed-clause-issue_state
+returns-in-Placed-clause-issue_state c = issue_state_same _ _ c.args.issue_turn.now.handles.items c.args.issue_turn.now _ c.requires.issue_state c.requires.issue_state.maker refl refl c.split-more.ensures.at.0 c.split-more.ensures.kept.0 refl
 
 pub returns-in-Placed-clause-told : goal.returns-in-Placed-clause-told
 returns-in-Placed-clause-told c =
@@ -31,11 +31,11 @@ returns-in-Over-clause-others c = λ k ne. c.lay.ensures.others k (λ q. ne (q �
 pub returns-in-Over-clause-told : goal.returns-in-Over-clause-told
 returns-in-Over-clause-told c = inr (
   c.in-Over.ensures.told.1 ∙ joined_bare (lists c.args.events.now).placed (lists c.split-more.result).placed (lists c.join.new.seat).placed c.join.ensures.placed c.split-more.ensures.bare.0,
-  subst (λ n. HasWaiter n c.lay.new.desk) c.in-Over.ensures.told.2.0 c.lay.ensures.laid,
+  subst (λ n. HasWaiter n c.lay.new.issue_turn) c.in-Over.ensures.told.2.0 c.lay.ensures.laid,
   inl (
     c.in-Over.field-0,
     elim c.in-Over.ensures.told.0 [
-      | inl none ↦ absurd (c.requires.tray.created c.args.handle c.requires.handle none.0)
+      | inl none ↦ absurd (c.requires.issue_state.created c.args.handle c.requires.handle none.0)
       | inr knows ↦ knows
     ],
   ),
@@ -47,7 +47,7 @@ returns-in-Moved-clause-others c = λ k ne. c.lay-in-Moved.ensures.others k (λ 
 pub returns-in-Moved-clause-told : goal.returns-in-Moved-clause-told
 returns-in-Moved-clause-told c = inr (
   c.in-Moved.ensures.told.1 ∙ joined_bare (lists c.args.events.now).placed (lists c.split-more.result).placed (lists c.join.new.seat).placed c.join.ensures.placed c.split-more.ensures.bare.0,
-  subst (λ n. HasWaiter n c.lay-in-Moved.new.desk) c.in-Moved.ensures.told.2.0 c.lay-in-Moved.ensures.laid,
+  subst (λ n. HasWaiter n c.lay-in-Moved.new.issue_turn) c.in-Moved.ensures.told.2.0 c.lay-in-Moved.ensures.laid,
   inr (lists c.join.new.seat, (c.join.ensures.kept.0, (_, c.join.ensures.seen), (_, c.join.ensures.placed)), c.in-Moved.ensures.told.0),
 )
 

@@ -7,6 +7,9 @@ use Rattle.session_run.proofs.running.Running.add_links.Goals as goal
 pub loop-place-init : goal.loop-place-init
 loop-place-init c = record { at = c.requires.at; tells = c.requires.tells; linking = no_links (ran_by c.args.self.now) c.args.graph.now }
 
+pub add_link-requires-clause-named : goal.add_link-requires-clause-named
+add_link-requires-clause-named c = (can_put (ran_by c.args.self.now) c.args.graph.now c.args.links.now c.loop-place.place c.loop-place.graph c.at-link.result c.requires.fits c.loop-place.invariant.linking c.at-link.ensures).name
+
 pub add_link-requires-clause-user : goal.add_link-requires-clause-user
 add_link-requires-clause-user c = (can_put (ran_by c.args.self.now) c.args.graph.now c.args.links.now c.loop-place.place c.loop-place.graph c.at-link.result c.requires.fits c.loop-place.invariant.linking c.at-link.ensures).user
 

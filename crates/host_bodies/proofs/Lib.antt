@@ -1,0 +1,5 @@
+pub mod Cells
+pub mod Apart
+pub mod Comes
+pub mod Runs
+pub mod Ending

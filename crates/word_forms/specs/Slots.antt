@@ -1,0 +1,87 @@
+-- What kind of word stands in each place of a form, and how words of that kind are spelled.
+use Rattle.std.specs.Prelude.{ℕ, ◌&&◌, nat_lt, cond, List, [], codes}
+use Rattle.std.specs.List.{slice_index_or}
+use Rattle.std.specs.Str.{bytes_eq}
+use Rattle.graph_terms.specs.declared.why.Why.{Why}
+use Rattle.graph_terms.specs.declared.why.Why.TheVariants as why
+use Rattle.graph_words.specs.Words.{pieces}
+use Rattle.line_forms.specs.declared.form.Form.{Form}
+use Rattle.word_forms.specs.declared.slot.Slot.{Slot}
+use Rattle.word_forms.specs.declared.slot.Slot.TheVariants as slots
+use Rattle.line_forms.specs.Forms.{form_text, takes_many}
+
+-- of a word of a form that stands for a name, or for itself
+abbrev pub name_slot : List ℕ → Slot
+name_slot item =
+    cond (bytes_eq item (codes "NAME")) slots.Name
+    (cond (bytes_eq item (codes "SPACE")) slots.Space
+    (cond (bytes_eq item (codes "USER")) slots.User
+    (cond (bytes_eq item (codes "PHASE")) slots.Phase
+    (cond (bytes_eq item (codes "ACQUIRE")) slots.Acquire
+    (cond (bytes_eq item (codes "LOCK")) slots.Lock
+    (cond (bytes_eq item (codes "BARRIER")) slots.Barrier
+    (cond (bytes_eq item (codes "EVENT]")) slots.Event slots.Fixed)))))))
+
+-- what kind of word a word of a form stands for
+abbrev pub slot_of : List ℕ → Slot
+slot_of item =
+    cond (bytes_eq item (codes "COLUMN")) slots.Column
+    (cond (bytes_eq item (codes "FIELDS")) slots.Fields
+    (cond (bytes_eq item (codes "INTERVALS")) slots.Intervals
+    (cond (bytes_eq item (codes "COUNT")) slots.Count
+    (cond (bytes_eq item (codes "VALUE")) slots.Value
+    (cond (bytes_eq item (codes "WEIGHT")) slots.Weight (name_slot item))))))
+
+-- that of word k of a form, from 0: behind its verb a merge has events alone
+abbrev pub slot_at : Form → ℕ → Slot
+slot_at f k = cond (takes_many f && nat_lt 2 k) slots.Event (slot_of (slice_index_or (pieces 32 (form_text f)) k []))
+
+abbrev pub slot_word : Slot → List ℕ
+slot_word slots.Name = codes "NAME"
+slot_word slots.Space = codes "SPACE"
+slot_word slots.Fields = codes "FIELDS"
+slot_word slots.Intervals = codes "INTERVALS"
+slot_word slots.Count = codes "COUNT"
+slot_word slots.Value = codes "VALUE"
+slot_word slots.Weight = codes "WEIGHT"
+slot_word slots.Column = codes "COLUMN"
+slot_word slots.User = codes "USER"
+slot_word slots.Phase = codes "PHASE"
+slot_word slots.Acquire = codes "ACQUIRE"
+slot_word slots.Lock = codes "LOCK"
+slot_word slots.Barrier = codes "BARRIER"
+slot_word slots.Event = codes "EVENT"
+slot_word slots.Fixed = codes "a fixed word"
+
+-- what is told of a word of this kind that is misspelled
+abbrev pub name_note : Slot → List ℕ
+name_note slots.Name = codes "the name that the line gives"
+name_note slots.Fields = codes "one NAME or more, with , between two and no space"
+name_note slots.Column = codes "INSTANCE.FIELD, two NAMEs with one . between them"
+name_note _ = codes "a NAME"
+
+-- of one that is no number of its range
+abbrev pub number_note : Slot → List ℕ
+number_note slots.Intervals = codes "LOW..HIGH, or several with , between two and no space; LOW and HIGH are numbers from 0 to 4294967295, in digits, with no 0 in front"
+number_note slots.Count = codes "a number from 1 to 8192, in digits, with no 0 in front"
+number_note slots.Weight = codes "a number from 2 to 8192, in digits, with no 0 in front; an arrival that counts for one has no times"
+number_note slots.Value = codes "a number from 0 to 18446744073709551615, in digits, with no sign, no point and no 0 in front"
+number_note _ = []
+
+-- of one that names something else than its place takes
+abbrev pub kind_note : Slot → List ℕ
+kind_note slots.Space = codes "the NAME of a space: space NAME INTERVALS"
+kind_note slots.Column = codes "INSTANCE.FIELD, of an instance: inst NAME SPACE FIELDS"
+kind_note slots.User = codes "the NAME of a user event: NAME = user"
+kind_note slots.Phase = codes "the NAME of a phase: NAME = phase BARRIER"
+kind_note slots.Acquire = codes "the NAME of an acquire: NAME = acquire LOCK"
+kind_note slots.Lock = codes "the NAME of a reservation: lock NAME"
+kind_note slots.Barrier = codes "the NAME of a barrier: barrier NAME COUNT OP VALUE"
+kind_note slots.Event = codes "the NAME of an operation: NAME = .."
+kind_note _ = []
+
+abbrev pub note_of : Why → Slot → List ℕ
+note_of why.Name slot = name_note slot
+note_of why.Number slot = number_note slot
+note_of why.Kind slot = kind_note slot
+note_of _ slot = []
